@@ -1,0 +1,16 @@
+pub mod Over
+pub mod Bootstrap
+pub mod Laws
+pub mod Lcd
+pub mod Floor
+pub mod Linear
+pub mod Goals
+pub mod Stress
+pub mod Bounds
+pub mod Comparison
+pub mod MinMax
+pub mod ExtendedOrder
+pub mod Whole
+pub mod Stretch
+pub mod Lines
+pub mod Gauges

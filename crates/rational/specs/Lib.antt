@@ -1,0 +1,9 @@
+pub mod Gcd
+pub mod Ints
+pub mod Rational
+pub mod Ratio
+pub mod MinMax
+pub mod Extended
+pub mod Line
+pub mod Whole
+pub mod Gauge
