@@ -1,5 +1,5 @@
 -- The ceiling: that it is the least whole number that is at least the rational, what follows, and how it stands to the floor.
-use Rattle.std.specs.Prelude.{◌≡◌, ℕ, suc, ◌+◌, ◌*◌, ◌<◌, ◌≤◌, ℤ, pos, ◌+ℤ◌, neg_ℤ, ◌≤ℤ◌, ◌<ℤ◌}
+use Rattle.std.specs.Prelude.{◌≡◌, ℕ, suc, ℤ, pos, ◌+ℤ◌, neg_ℤ, ◌≤ℤ◌, ◌<ℤ◌}
 use Rattle.std.proofs.Common.{◌∙◌, sym, ap, arith, subst}
 use Rattle.std.proofs.lemmas.Int.{ints}
 use Rattle.std.specs.Int.{int_div_euclid}
@@ -8,7 +8,7 @@ use Rattle.rational.specs.Floor.{floor, ceil}
 use Rattle.rational.proofs.Over.{neg_over}
 use Rattle.rational.proofs.Integers.{int_add, int_neg, int_le_out}
 use Rattle.rational.proofs.Laws.{le_refl, le_trans, le_of_lt}
-use Rattle.rational.proofs.Floor.{floor_le, floor_gt, floor_most, floor_below, floor_unique, floor_frac, floor_int}
+use Rattle.rational.proofs.Floor.{floor_le, floor_gt, floor_most, floor_below, floor_unique, floor_frac}
 use Rattle.rational.proofs.Linear.{with2, with3}
 
 -- the ceiling is minus the floor of the negation

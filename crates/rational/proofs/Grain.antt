@@ -1,19 +1,16 @@
 -- What `omega` reads of a rational x: the floor of x (d + 1) as a difference of two naturals, `U d x - V d x`, and the grain `E d x`, which is 0 where that is exact.
-use Rattle.std.specs.Prelude.{◌≡◌, ℕ, zero, suc, ◌+◌, ◌*◌, ◌-◌, ◌/◌, ◌%◌, ◌<◌, ◌≤◌, min, ℤ, pos, negsuc, ◌+ℤ◌, ◌*ℤ◌, neg_ℤ, ◌≤ℤ◌, ◌<ℤ◌, ◌⊎◌}
+use Rattle.std.specs.Prelude.{◌≡◌, ℕ, zero, suc, ◌+◌, ◌*◌, ◌<◌, ◌≤◌, min, ℤ, pos, negsuc, ◌+ℤ◌, ◌*ℤ◌, neg_ℤ, ◌≤ℤ◌, ◌<ℤ◌}
 use Rattle.std.proofs.Common.{◌∙◌, sym, ap, ap₂, refl, arith, subst, inl, inr}
-use native.Mathlib.Nat.{div-add-mod', mod-lt, zero-lt-suc, le-mul_of_pos_right}
-use borrow.Author.Differences.{up, down, le_out, lt_out, neg_is}
+use borrow.Author.Differences.{up, down, le_out, neg_is}
 use Rattle.std.proofs.lemmas.Int.{ints}
-use Rattle.std.specs.Int.{int_div_euclid, int_rem_euclid}
-use Rattle.std.specs.Prelude.{unsigned_abs}
-use Rattle.rational.specs.Ints.{diffs, diff, diff_is, diff_same}
-use Rattle.rational.specs.Rational.{ℚ, frac, frac_self, frac-same, frac-same_out, ◌+ℚ◌, ◌-ℚ◌, neg_ℚ, ◌*ℚ◌, ◌≤ℚ◌, ◌<ℚ◌, int, le_frac, lt_frac}
-use Rattle.rational.proofs.Over.{le_over, lt_over, same_over, add_over, neg_over, mul_frac, same_le}
-use Rattle.rational.proofs.Integers.{mul_whole, int_le_out, int_lt_out, nat_nonneg}
+use Rattle.rational.specs.Ints.{diffs, diff_is, diff_same}
+use Rattle.rational.specs.Rational.{ℚ, frac, frac_self, frac-same, frac-same_out, ◌+ℚ◌, ◌-ℚ◌, neg_ℚ, ◌*ℚ◌, ◌≤ℚ◌, ◌<ℚ◌, int}
+use Rattle.rational.proofs.Over.{le_over, lt_over, add_over, neg_over}
+use Rattle.rational.proofs.Integers.{mul_whole, int_le_out, nat_nonneg}
 use Rattle.rational.specs.Floor.{floor}
 use Rattle.rational.proofs.Floor.{IsDivided, rest, whole_of, floor_le, floor_gt, floor_most, floor_below, floor_int, floor_mono}
-use Rattle.rational.proofs.Bootstrap.{rats, over1, over2, over3, over4}
-use Rattle.rational.proofs.Laws.{antisym, le_trans, lt_le_trans, le_lt_trans, le_of_lt, le_refl, mul_add, mul_neg, mul_le_mul, mul_lt_mul, le_or_lt, lt_irrefl, mul_comm, mul_assoc}
+use Rattle.rational.proofs.Bootstrap.{rats, over2, over3, over4}
+use Rattle.rational.proofs.Laws.{antisym, le_trans, lt_le_trans, le_of_lt, mul_add, mul_neg, mul_le_mul, mul_lt_mul, le_or_lt, lt_irrefl, mul_comm, mul_assoc}
 
 -- ---- the grain: 0 where x is an integer, and 1 elsewhere
 pub grain : ℚ → ℕ

@@ -1,7 +1,7 @@
 -- The lesser and the greater of two rationals, and the tests of the order where it does not hold.
-use Rattle.std.specs.Prelude.{◌≡◌, pos, Bool, true, false, ◌⊎◌}
+use Rattle.std.specs.Prelude.{◌≡◌, Bool, true, false, ◌⊎◌}
 use Rattle.std.proofs.Common.{arith, sym, refl, subst, inl, inr}
-use Rattle.rational.specs.Rational.{ℚ, ◌+ℚ◌, neg_ℚ, ◌≤ℚ◌, ◌<ℚ◌, int, le_q, lt_q}
+use Rattle.rational.specs.Rational.{ℚ, ◌+ℚ◌, neg_ℚ, ◌≤ℚ◌, ◌<ℚ◌, le_q, lt_q}
 use Rattle.rational.specs.MinMax.{min_q, max_q}
 use Rattle.rational.proofs.Linear.{with2, with3}
 use Rattle.rational.proofs.Over.{le_q_out, le_q_in, lt_q_in}

@@ -1,15 +1,13 @@
 -- A line on an open stretch: its infimum and supremum are the limits at the ends.
 use Rattle.std.specs.Prelude.{◌≡◌, pos}
-use Rattle.std.proofs.Common.{arith, sym, ap, ap₂, ◌∙◌, subst, inl, inr}
+use Rattle.std.proofs.Common.{arith, sym, ap, ◌∙◌, subst, inl, inr}
 use Rattle.rational.specs.Rational.{ℚ, ◌+ℚ◌, ◌-ℚ◌, ◌*ℚ◌, ◌/ℚ◌, ◌≤ℚ◌, ◌<ℚ◌, int}
-use Rattle.rational.proofs.Linear.{with2, with3, with4, with7}
-use Rattle.rational.proofs.Laws.{between, le_or_lt, le_of_lt, le_lt_trans, mul_le_mul, mul_comm, mul_sub, div_mul, antisym}
-use Rattle.rational.specs.Extended.{Ext, IsInfimum, IsSupremum}
+use Rattle.rational.proofs.Linear.{with2, with3}
+use Rattle.rational.proofs.Laws.{between, le_or_lt, le_of_lt, le_lt_trans, mul_le_mul, mul_comm, div_mul, antisym}
+use Rattle.rational.specs.Extended.{IsInfimum, IsSupremum}
 use Rattle.rational.specs.declared.Extended.TheVariants.{Fin}
-use Rattle.rational.specs.MinMax.{min_q, max_q}
-use Rattle.rational.proofs.ExtendedOrder.{same_le_ext}
-use Rattle.rational.proofs.MinMax.{max_q_left, max_q_right, max_q_ge_left, max_q_ge_right, max_q_lt, below_min_in, below_min_out}
-use Rattle.rational.proofs.Bounds.{same_infimum}
+use Rattle.rational.specs.MinMax.{max_q}
+use Rattle.rational.proofs.MinMax.{max_q_ge_left, max_q_ge_right, max_q_lt}
 use Rattle.rational.proofs.Whole.{not_zero, lt_of_mul, mul_lt_mul_right}
 
 -- a time strictly between two
