@@ -3,12 +3,11 @@ use Rattle.std.specs.Prelude.{◌≡◌, pos}
 use Rattle.std.proofs.Common.{arith, sym, ap, ◌∙◌, subst, inl, inr}
 use Rattle.rational.specs.Rational.{ℚ, ◌+ℚ◌, ◌-ℚ◌, ◌*ℚ◌, ◌/ℚ◌, ◌≤ℚ◌, ◌<ℚ◌, int}
 use Rattle.rational.proofs.Linear.{with2, with3}
-use Rattle.rational.proofs.Laws.{between, le_or_lt, le_of_lt, le_lt_trans, mul_le_mul, mul_comm, div_mul, antisym}
+use Rattle.rational.proofs.Laws.{not_zero, lt_of_mul, mul_lt_mul_right, between, le_or_lt, le_of_lt, le_lt_trans, mul_le_mul, mul_comm, div_mul, antisym}
 use Rattle.rational.specs.Extended.{IsInfimum, IsSupremum}
 use Rattle.rational.specs.declared.Extended.TheVariants.{Fin}
 use Rattle.rational.specs.MinMax.{max_q}
 use Rattle.rational.proofs.MinMax.{max_q_ge_left, max_q_ge_right, max_q_lt}
-use Rattle.rational.proofs.Whole.{not_zero, lt_of_mul, mul_lt_mul_right}
 
 -- a time strictly between two
 pub record Between (lo hi : ℚ) : Type 0 where
