@@ -10,7 +10,7 @@ use Rattle.rational.specs.Ratio.{neg-abs}
 use Rattle.rational.specs.Grid.{Whole, Within}
 use Rattle.rational.proofs.Over.{add_over, neg_over, mul_frac}
 use Rattle.rational.proofs.Integers.{mul_whole, nat_nonneg, nat_le_out}
-use Rattle.rational.proofs.Laws.{add_mul, sub_mul, mul_assoc, mul_comm as mul_comm_q, mul_neg, mul_add, mul_sub, mul_nonneg, mul_le_mul, mul_le_mul_right, div_mul, le_trans}
+use Rattle.rational.proofs.Laws.{add_mul, sub_mul, mul_assoc, mul_comm as mul_comm_q, mul_neg, neg_mul, mul_add, mul_sub, mul_nonneg, mul_le_mul, mul_le_mul_right, div_mul, le_trans}
 use Rattle.rational.proofs.Linear.{with1, with2, with3, with4}
 
 -- ---- on a grid
@@ -75,7 +75,7 @@ whole_add d a b v w = record { steps = v.steps +ℤ w.steps; is = steps_add d a 
 pub whole_neg : (d : ℕ) (a : ℚ) → Whole d a → Whole d (neg_ℚ a)
 whole_neg d a w = record {
   steps = neg_ℤ w.steps;
-  is = mul_comm_q (neg_ℚ a) (int (pos d)) ∙ mul_neg (int (pos d)) a ∙ ap neg_ℚ (mul_comm_q (int (pos d)) a ∙ w.is) ∙ neg_over w.steps 0;
+  is = neg_mul a (int (pos d)) ∙ ap neg_ℚ w.is ∙ neg_over w.steps 0;
 }
 
 pub whole_sub : (d : ℕ) (a b : ℚ) → Whole d a → Whole d b → Whole d (a -ℚ b)
@@ -195,7 +195,7 @@ steps_bound d v q w i =
     let some = nat_nonneg d in
     let high = subst (λ x. x ≤ℚ v *ℚ int (pos d)) w.is (mul_le_mul_right (int (pos d)) some i.high) in
     let low = subst (λ x. neg_ℚ v *ℚ int (pos d) ≤ℚ x) w.is (mul_le_mul_right (int (pos d)) some i.low) in
-    let e : neg_ℚ v *ℚ int (pos d) ≡ neg_ℚ (v *ℚ int (pos d)) = mul_comm_q (neg_ℚ v) (int (pos d)) ∙ mul_neg (int (pos d)) v ∙ ap neg_ℚ (mul_comm_q (int (pos d)) v) in
+    let e = neg_mul v (int (pos d)) in
     by_sign w.steps (v *ℚ int (pos d)) (subst (λ x. x ≤ℚ int w.steps) e low) high
   where
     by_sign : (z : ℤ) (m : ℚ) → neg_ℚ m ≤ℚ int z → int z ≤ℚ m → int (pos (nat_abs z)) ≤ℚ m

@@ -4,11 +4,12 @@ use Rattle.std.proofs.Common.{arith, sym, ap, ◌∙◌, subst, inl, inr}
 use Rattle.rational.specs.Rational.{ℚ, ◌+ℚ◌, ◌-ℚ◌, ◌*ℚ◌, ◌/ℚ◌, neg_ℚ, ◌≤ℚ◌, ◌<ℚ◌, int}
 use Rattle.rational.specs.MinMax.{min_q, max_q}
 use Rattle.rational.specs.Line.{line_at}
-use Rattle.rational.specs.Extended.{Ext, ◌<ₑ◌, IsInfimum, IsSupremum}
+use Rattle.rational.specs.Extended.{IsInfimum, IsSupremum}
 use Rattle.rational.specs.Stretch.{Between, After}
 use Rattle.rational.specs.declared.Extended.TheVariants.{Fin, Inf}
 use Rattle.rational.proofs.Linear.{with1, with2, with3, with4}
-use Rattle.rational.proofs.Laws.{not_zero, lt_of_mul, between, le_refl, le_or_lt, le_of_lt, le_lt_trans, lt_le_trans, mul_le_mul, mul_lt_mul, mul_comm, mul_neg, div_mul, antisym}
+use Rattle.rational.proofs.Laws.{not_zero, lt_of_mul, between, le_refl, le_or_lt, le_of_lt, le_lt_trans, lt_le_trans, mul_le_mul, mul_lt_mul, mul_comm, div_mul, antisym}
+use Rattle.rational.proofs.Lines.{line_rises, line_falls, rises_turned, turned_line}
 use Rattle.rational.proofs.MinMax.{min_q_left, min_q_is_right, max_q_is_left, max_q_right, max_q_ge_left, max_q_ge_right, max_q_lt, min_q_le_left, min_q_le_right, below_min_in}
 use Rattle.rational.proofs.Bounds.{unbounded, reflected_infimum, reflected_supremum, same_infimum, same_supremum}
 
@@ -55,9 +56,9 @@ rising_supremum lo hi a r h k = record {
         slope_cases r k
         (λ e. let (s, p, q) = between lo hi h in (record { at = s; above = p; below = q }, subst (λ x. v <ℚ x) (level_times r hi s e) l))
         (λ some.
-            let (w, e) = level r v some in
-            let (s, p) = late_enough lo w hi h (before_level r w hi some (subst (λ x. x <ℚ r *ℚ hi) (sym e) l)) in
-            (s, subst (λ x. x <ℚ r *ℚ s.at) e (mul_lt_mul r some p)))
+        let (w, e) = level r v some in
+        let (s, p) = late_enough lo w hi h (before_level r w hi some (subst (λ x. x <ℚ r *ℚ hi) (sym e) l)) in
+        (s, subst (λ x. x <ℚ r *ℚ s.at) e (mul_lt_mul r some p)))
 
 pub rising_infimum : (lo hi a r : ℚ) → lo <ℚ hi → int (pos 0) ≤ℚ r → IsInfimum {I = Between lo hi} (λ s. Fin (line_at a r s.at)) (Fin (line_at a r lo))
 rising_infimum lo hi a r h k = record {
@@ -73,20 +74,11 @@ rising_infimum lo hi a r h k = record {
         slope_cases r k
         (λ e. let (s, p, q) = between lo hi h in (record { at = s; above = p; below = q }, subst (λ x. x <ℚ v) (level_times r lo s e) l))
         (λ some.
-            let (w, e) = level r v some in
-            let (s, p) = early_enough lo w hi h (before_level r lo w some (subst (λ x. r *ℚ lo <ℚ x) (sym e) l)) in
-            (s, subst (λ x. r *ℚ s.at <ℚ x) e (mul_lt_mul r some p)))
+        let (w, e) = level r v some in
+        let (s, p) = early_enough lo w hi h (before_level r lo w some (subst (λ x. r *ℚ lo <ℚ x) (sym e) l)) in
+        (s, subst (λ x. r *ℚ s.at <ℚ x) e (mul_lt_mul r some p)))
 
 -- ---- a line that does not rise: the mirror
-rises_turned : (r : ℚ) → r ≤ℚ int (pos 0) → int (pos 0) ≤ℚ neg_ℚ r
-rises_turned r h = with1 r (λ c. omega (arith, c.le, c.lt, c.same))
-
--- a less a line that rises by minus r
-turned_line : (a r t : ℚ) → a -ℚ line_at (int (pos 0)) (neg_ℚ r) t ≡ line_at a r t
-turned_line a r t =
-    let e : neg_ℚ r *ℚ t ≡ neg_ℚ (r *ℚ t) = mul_comm (neg_ℚ r) t ∙ mul_neg t r ∙ ap neg_ℚ (mul_comm t r) in
-    antisym (with3 a (r *ℚ t) (neg_ℚ r *ℚ t) (λ c. omega (arith, c.le, c.lt, c.same)))
-
 pub falling_infimum : (lo hi a r : ℚ) → lo <ℚ hi → r ≤ℚ int (pos 0) → IsInfimum {I = Between lo hi} (λ s. Fin (line_at a r s.at)) (Fin (line_at a r hi))
 falling_infimum lo hi a r h k =
     let up = rising_supremum lo hi (int (pos 0)) (neg_ℚ r) h (rises_turned r k) in
@@ -98,18 +90,6 @@ falling_supremum lo hi a r h k =
     simp (turned_line a r) at (reflected_supremum {I = Between lo hi} (λ s. line_at (int (pos 0)) (neg_ℚ r) s.at) a (line_at (int (pos 0)) (neg_ℚ r) lo) down)
 
 -- ---- a line of any slope: the lesser and the greater limit
-line_rises : (a r s t : ℚ) → int (pos 0) ≤ℚ r → s ≤ℚ t → line_at a r s ≤ℚ line_at a r t
-line_rises a r s t h k = let m = mul_le_mul r h k in with3 a (r *ℚ s) (r *ℚ t) (λ c. omega (arith, c.le, c.lt, c.same))
-
-line_falls : (a r s t : ℚ) → r ≤ℚ int (pos 0) → s ≤ℚ t → line_at a r t ≤ℚ line_at a r s
-line_falls a r s t h k =
-    let m = line_rises (int (pos 0)) (neg_ℚ r) s t (rises_turned r h) k in
-    rw (← turned_line a r s, ← turned_line a r t)
-    (let x = line_at (int (pos 0)) (neg_ℚ r) s in let y = line_at (int (pos 0)) (neg_ℚ r) t in less_more a x y m)
-  where
-    less_more : (a x y : ℚ) → x ≤ℚ y → a -ℚ y ≤ℚ a -ℚ x
-    less_more a x y l = with3 a x y (λ c. omega (arith, c.le, c.lt, c.same))
-
 pub line_infimum : (lo hi a r : ℚ) → lo <ℚ hi
     → IsInfimum {I = Between lo hi} (λ s. Fin (line_at a r s.at)) (Fin (min_q (line_at a r lo) (line_at a r hi)))
 line_infimum lo hi a r h = elim (le_or_lt (int (pos 0)) r) [
