@@ -5,6 +5,7 @@ use Rattle.rational.specs.Rational.{ℚ, ◌+ℚ◌, ◌-ℚ◌, ◌<ℚ◌, int
 use Rattle.rational.proofs.Linear.{with1, with2, with3}
 use Rattle.rational.proofs.Laws.{between, antisym}
 use Rattle.rational.specs.Extended.{Ext, ◌≤ₑ◌, ◌<ₑ◌, ◌+ₑ◌, min_ext, max_ext, IsInfimum, IsSupremum}
+use Rattle.rational.specs.Families.{either, sums}
 use Rattle.rational.specs.declared.Extended.TheVariants.{Fin, Inf}
 use Rattle.rational.proofs.ExtendedOrder.{le_ext_refl, le_ext_trans, le_lt_ext, lt_le_ext, le_of_lt_ext, antisym_ext, by_upper, by_lower, lt_add_out, lt_add_in, gt_add_out, gt_add_in, add_le_ext, add_lt_lt_ext, le_inf, min_left, min_right, min_one, max_left, max_right, max_one}
 
@@ -44,10 +45,6 @@ same_infimum F G x down up h = record {
   near = λ y l. let (i, m) = h.near y l in let (j, k) = down i in (j, le_lt_ext (G j) (F i) (Fin y) k m);
 }
 
-abbrev pub either : {I J : Type 0} → (I → Ext) → (J → Ext) → I ⊎ J → Ext
-either F G (inl i) = F i
-either F G (inr j) = G j
-
 pub infimum_union : {I J : Type 0} (F : I → Ext) (G : J → Ext) (x y : Ext)
     → IsInfimum F x → IsInfimum G y → IsInfimum (either F G) (min_ext x y)
 infimum_union {I} {J} F G x y h k = record { below = under; near = close }
@@ -81,7 +78,7 @@ infimum_le F G x y h k up = greatest G y x k (λ j. let (i, l) = up j in le_ext_
 
 -- the infimum of the sums of a member of each is the sum of the infima
 pub infimum_sum : {I J : Type 0} (F : I → Ext) (G : J → Ext) (x y : Ext)
-    → IsInfimum F x → IsInfimum G y → IsInfimum {I = I × J} (λ p. F p.0 +ₑ G p.1) (x +ₑ y)
+    → IsInfimum F x → IsInfimum G y → IsInfimum (sums F G) (x +ₑ y)
 infimum_sum {I} {J} F G x y h k = record {
   below = λ p. add_le_ext x (F p.0) y (G p.1) (h.below p.0) (k.below p.1);
   near = λ q l. close x y h.near k.near q l;
@@ -189,7 +186,7 @@ supremum_le F G x y h k up = smallest F x y h (λ i. let (j, l) = up i in le_ext
 
 -- the supremum of the sums of a member of each is the sum of the suprema
 pub supremum_sum : {I J : Type 0} (F : I → Ext) (G : J → Ext) (x y : Ext)
-    → IsSupremum F x → IsSupremum G y → IsSupremum {I = I × J} (λ p. F p.0 +ₑ G p.1) (x +ₑ y)
+    → IsSupremum F x → IsSupremum G y → IsSupremum (sums F G) (x +ₑ y)
 supremum_sum {I} {J} F G x y h k = record {
   above = λ p. add_le_ext (F p.0) x (G p.1) y (h.above p.0) (k.above p.1);
   near = λ q l.

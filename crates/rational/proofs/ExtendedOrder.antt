@@ -1,6 +1,6 @@
 -- The order of the extended fractions, and their sums.
 use Rattle.rational.proofs.MinMax.{min_q_le_left, min_q_le_right, min_q_one, min_q_assoc, min_q_add, max_q_ge_left, max_q_ge_right, max_q_one, max_q_assoc, max_q_add}
-use Rattle.std.specs.Prelude.{◌≡◌, pos, ◌⊎◌}
+use Rattle.std.specs.Prelude.{◌≡◌, pos, ◌⊎◌, ◌↔◌}
 use Rattle.std.proofs.Common.{arith, sym, ap, ◌∙◌, refl, subst, inl, inr}
 use Rattle.rational.specs.Rational.{ℚ, ◌+ℚ◌, ◌-ℚ◌, neg_ℚ, int}
 use Rattle.rational.proofs.Linear.{with1, with2, with3, with4}
@@ -56,6 +56,13 @@ antisym_ext Inf Inf h k = refl
 pub lt_ext_irrefl : (x : Ext) → ¬ (x <ₑ x)
 lt_ext_irrefl (Fin x) h = lt_irrefl x h
 lt_ext_irrefl Inf h = h
+
+-- less is not at least
+pub lt_ext_not_le : (x y : Ext) → (x <ₑ y) ↔ ¬ (y ≤ₑ x)
+lt_ext_not_le x y = (
+  λ h l. lt_ext_irrefl x (lt_le_ext x y x h l),
+  λ h. elim (le_or_lt_ext y x) [ inl l ↦ absurd (h l) | inr l ↦ l ],
+)
 
 pub lt_ext_trans : (x y z : Ext) → x <ₑ y → y <ₑ z → x <ₑ z
 lt_ext_trans x y z h k = lt_le_ext x y z h (le_of_lt_ext y z k)

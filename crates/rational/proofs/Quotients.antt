@@ -4,7 +4,7 @@ use Rattle.std.proofs.Common.{arith, sym, ap, ◌∙◌, subst, inl, inr}
 use Rattle.std.proofs.lemmas.Int.{ints}
 use Rattle.rational.specs.Rational.{ℚ, ◌+ℚ◌, ◌-ℚ◌, ◌*ℚ◌, ◌/ℚ◌, inv_ℚ, neg_ℚ, ◌≤ℚ◌, ◌<ℚ◌, int, frac, frac-same}
 use Rattle.rational.proofs.Integers.{mul_whole, nat_lt}
-use Rattle.rational.proofs.Laws.{mul_comm, add_mul, sub_mul, mul_cancel, mul_le_mul_right, mul_lt_mul_right, div_mul, le_of_mul, lt_of_mul, le_or_lt, not_zero, antisym, one_mul, zero_mul}
+use Rattle.rational.proofs.Laws.{above, mul_comm, add_mul, sub_mul, mul_cancel, mul_le_mul_right, mul_lt_mul_right, div_mul, le_of_mul, lt_of_mul, le_or_lt, not_zero, antisym, one_mul, zero_mul}
 use Rattle.rational.proofs.Linear.{with1}
 
 -- z is x / y exactly where z y is x
@@ -78,3 +78,7 @@ div_nonneg x y h l = (le_div x y (int (pos 0)) h).1 (subst (λ v. v ≤ℚ x) (s
 
 pub div_pos : (x y : ℚ) → int (pos 0) <ℚ y → int (pos 0) <ℚ x → int (pos 0) <ℚ x /ℚ y
 div_pos x y h l = (lt_div x y (int (pos 0)) h).1 (subst (λ v. v <ℚ x) (sym (zero_mul y)) l)
+
+-- ---- some natural times a positive number is above each number
+pub times_above : (x e : ℚ) → int (pos 0) <ℚ e → (n : ℕ) × (x <ℚ int (pos n) *ℚ e)
+times_above x e h = let (n, l) = above (x /ℚ e) in (n, (div_lt x e (int (pos n)) h).0 l)
