@@ -19,9 +19,8 @@ pub use inputs::{FetchFault, Inputs, MOST_BYTES};
 pub use mem_inputs::MemInputs;
 pub use mem_sink::{MemSink, SINK_BYTES};
 pub use sink::{PutFault, Sink};
-use std::alloc::AllocError;
 pub use std_sink::StdSink;
 
-/// An allocation was refused. It is std's own error, so `?` hands it on from every call of std and
-/// from every crate here.
-pub type NoMemory = AllocError;
+/// An allocation was refused. This is std's own error under the name that reads well here, so `?`
+/// hands it on from every call of std and from every crate.
+pub use std::alloc::AllocError as NoMemory;
