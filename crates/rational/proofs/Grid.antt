@@ -3,14 +3,17 @@ use Rattle.std.specs.Prelude.{◌≡◌, ◌≢◌, ℕ, zero, suc, ◌*◌, ◌
 use Rattle.std.proofs.Common.{arith, sym, ap, ap₂, ◌∙◌, refl, subst}
 use Prim.Native.Nat.{◌∣◌}
 use Rattle.std.proofs.lemmas.Int.{ints}
-use native.Mathlib.Nat.{dvd-mul_left, dvd-mul_right, dvd-zero, le_of_dvd, mul-div_cancel', mul-le-mul_left, le_of_mul-le-mul_right, zero-lt-suc}
+use native.Mathlib.Nat.{dvd-mul_left, dvd-mul_right, dvd-zero, le_of_dvd, mul-div_cancel', mul-le-mul_left}
+use native.Mathlib.Nat.{le_of_mul-le-mul_right, zero-lt-suc}
 use Rattle.rational.specs.Gcd.{divides_other}
-use Rattle.rational.specs.Rational.{ℚ, den, ◌+ℚ◌, ◌-ℚ◌, ◌*ℚ◌, ◌/ℚ◌, neg_ℚ, ◌≤ℚ◌, int, frac, frac_self, frac-same, frac-same_out, both, abs-mul}
+use Rattle.rational.specs.Rational.{ℚ, den, ◌+ℚ◌, ◌-ℚ◌, ◌*ℚ◌, ◌/ℚ◌, neg_ℚ, ◌≤ℚ◌, int, frac, frac_self, frac-same}
+use Rattle.rational.specs.Rational.{frac-same_out, both, abs-mul}
 use Rattle.rational.specs.Ratio.{neg-abs}
 use Rattle.rational.specs.Grid.{Whole, Within}
 use Rattle.rational.proofs.Over.{add_over, neg_over, mul_frac}
 use Rattle.rational.proofs.Integers.{mul_whole, nat_nonneg, nat_le_out}
-use Rattle.rational.proofs.Laws.{add_mul, sub_mul, mul_assoc, mul_comm as mul_comm_q, mul_neg, neg_mul, mul_add, mul_sub, mul_nonneg, mul_le_mul, mul_le_mul_right, div_mul, le_trans}
+use Rattle.rational.proofs.Laws.{add_mul, sub_mul, mul_assoc, mul_comm as mul_comm_q, mul_neg, neg_mul, mul_add}
+use Rattle.rational.proofs.Laws.{mul_sub, mul_nonneg, mul_le_mul, mul_le_mul_right, div_mul, le_trans}
 use Rattle.rational.proofs.Linear.{with1, with2, with3, with4}
 
 -- ---- on a grid
@@ -101,7 +104,8 @@ whole_times d z a w = record {
 }
 
 -- ---- a quotient of two numbers on one grid: the grid falls out
-pub whole_ratio : (d : ℕ) (a b : ℚ) (v : Whole d a) (w : Whole d b) → b ≢ int (pos 0) → (a /ℚ b) *ℚ int w.steps ≡ int v.steps
+pub whole_ratio : (d : ℕ) (a b : ℚ) (v : Whole d a) (w : Whole d b) → b ≢ int (pos 0)
+    → (a /ℚ b) *ℚ int w.steps ≡ int v.steps
 whole_ratio d a b v w h =
     ap (λ x. (a /ℚ b) *ℚ x) (sym w.is) ∙ sym (mul_assoc (a /ℚ b) b (int (pos d))) ∙ ap (λ x. x *ℚ int (pos d)) (div_mul a b h) ∙ v.is
 
@@ -203,7 +207,8 @@ steps_bound d v q w i =
     by_sign (negsuc n) m l h = with1 m (λ c. omega (arith, c.le, c.lt, c.same))
 
 -- a whole number that bounds v d bounds the numerator
-pub num_within : (d : ℕ) (v q : ℚ) (n : ℕ) → 0 < d → Whole d q → Within v q → v *ℚ int (pos d) ≤ℚ int (pos n) → nat_abs q.num ≤ n
+pub num_within : (d : ℕ) (v q : ℚ) (n : ℕ) → 0 < d → Whole d q → Within v q → v *ℚ int (pos d) ≤ℚ int (pos n)
+    → nat_abs q.num ≤ n
 num_within d v q n some w i h =
     let l = num_bound d q some w in
     let s = nat_le_out (nat_abs w.steps) n (le_trans (steps_bound d v q w i) h) in

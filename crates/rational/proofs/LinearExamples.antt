@@ -31,7 +31,8 @@ convex w x y z h k p q =
     with5 z (w *ℚ x) (w *ℚ z) ((int (pos 1) -ℚ w) *ℚ y) ((int (pos 1) -ℚ w) *ℚ z) (λ c. omega (arith, c.le, c.lt, c.same))
 
 -- eight atoms, nine hypotheses
-eight_atoms : (a b c d e f g h : ℚ) → a ≤ℚ b +ℚ c → b ≤ℚ d → c ≤ℚ e -ℚ f → d ≡ g +ℚ h → e <ℚ a → g ≤ℚ int (pos 3) → h ≤ℚ int (pos 2) *ℚ f → f ≤ℚ g → int (pos 0) ≤ℚ f
+eight_atoms : (a b c d e f g h : ℚ) → a ≤ℚ b +ℚ c → b ≤ℚ d → c ≤ℚ e -ℚ f → d ≡ g +ℚ h → e <ℚ a → g ≤ℚ int (pos 3)
+    → h ≤ℚ int (pos 2) *ℚ f → f ≤ℚ g → int (pos 0) ≤ℚ f
     → a ≤ℚ int (pos 3) +ℚ e +ℚ f
 eight_atoms a b c d e f g h p1 p2 p3 p4 p5 p6 p7 p8 p9 = with8 a b c d e f g h (λ o. omega (arith, o.le, o.lt, o.same))
 
@@ -57,7 +58,8 @@ equation : (x y z w : ℚ) → x -ℚ (y -ℚ z) ≡ w → (x +ℚ z) -ℚ w ≡
 equation x y z w h = with4 x y z w (λ o. omega (arith, o.le, o.lt, o.same))
 
 -- literals multiply
-literals : (x y : ℚ) → int (pos 3) *ℚ x +ℚ int (pos 2) *ℚ y ≤ℚ int (pos 12) → int (pos 2) ≤ℚ y → x ≤ℚ int (pos 8) -ℚ x -ℚ x
+literals : (x y : ℚ) → int (pos 3) *ℚ x +ℚ int (pos 2) *ℚ y ≤ℚ int (pos 12) → int (pos 2) ≤ℚ y
+    → x ≤ℚ int (pos 8) -ℚ x -ℚ x
 literals x y h k = with2 x y (λ o. omega (arith, o.le, o.lt, o.same))
 
 -- a step from each hypothesis that is a function
@@ -65,6 +67,7 @@ applied : (f : ℚ → ℚ) (x y : ℚ) → ((e : ℚ) → f e ≤ℚ e +ℚ x) 
 applied f x y h = let k = h y in with3 (f y) x y (λ o. omega (arith, o.le, o.lt, o.same))
 
 -- more atoms, as a list
-ten_atoms : (a b c d e f g h i j : ℚ) → a ≤ℚ b → b ≤ℚ c → c ≤ℚ d → d ≤ℚ e → e ≤ℚ f → f ≤ℚ g → g ≤ℚ h → h ≤ℚ i → i <ℚ j → a +ℚ c <ℚ j +ℚ c
+ten_atoms : (a b c d e f g h i j : ℚ) → a ≤ℚ b → b ≤ℚ c → c ≤ℚ d → d ≤ℚ e → e ≤ℚ f → f ≤ℚ g → g ≤ℚ h → h ≤ℚ i → i <ℚ j
+    → a +ℚ c <ℚ j +ℚ c
 ten_atoms a b c d e f g h i j p1 p2 p3 p4 p5 p6 p7 p8 p9 =
     with_atoms (a ∷ b ∷ c ∷ d ∷ e ∷ f ∷ g ∷ h ∷ i ∷ j ∷ []) (λ o. omega (arith, o.le, o.lt, o.same))

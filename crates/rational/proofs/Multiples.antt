@@ -2,7 +2,8 @@
 use Rattle.std.specs.Prelude.{◌≡◌, ℕ, zero, suc, ◌*◌, ◌/◌, ◌<◌}
 use Rattle.std.proofs.Common.{arith, ◌∙◌, subst}
 use Prim.Native.Nat.{◌∣◌}
-use native.Mathlib.Nat.{dvd-zero, dvd-mul_left, mul-dvd-mul_left, dvd_of_mul-dvd-mul_left, mul_comm, mul_assoc, mul-pos, zero-lt-suc, mul-div_cancel', div-mul_cancel}
+use native.Mathlib.Nat.{dvd-zero, dvd-mul_left, mul-dvd-mul_left, dvd_of_mul-dvd-mul_left, mul_comm, mul_assoc}
+use native.Mathlib.Nat.{mul-pos, zero-lt-suc, mul-div_cancel', div-mul_cancel}
 use Rattle.std.specs.Int.{IsGcd}
 use Rattle.rational.specs.Gcd.{gcd, gcd_is, gcd_pos, divides_other, lowest_after, gcd_unique}
 use Rattle.rational.specs.Rational.{quotient_pos}

@@ -4,7 +4,8 @@ use Rattle.std.proofs.Common.{arith, sym, ap, ◌∙◌, subst, inl, inr}
 use Rattle.std.proofs.lemmas.Int.{ints}
 use Rattle.rational.specs.Rational.{ℚ, ◌+ℚ◌, ◌-ℚ◌, ◌*ℚ◌, ◌/ℚ◌, inv_ℚ, neg_ℚ, ◌≤ℚ◌, ◌<ℚ◌, int, frac, frac-same}
 use Rattle.rational.proofs.Integers.{mul_whole, nat_lt}
-use Rattle.rational.proofs.Laws.{above, mul_comm, add_mul, sub_mul, mul_cancel, mul_le_mul_right, mul_lt_mul_right, div_mul, le_of_mul, lt_of_mul, le_or_lt, not_zero, antisym, one_mul, zero_mul}
+use Rattle.rational.proofs.Laws.{above, mul_comm, add_mul, sub_mul, mul_cancel, mul_le_mul_right, mul_lt_mul_right}
+use Rattle.rational.proofs.Laws.{div_mul, le_of_mul, lt_of_mul, le_or_lt, not_zero, antisym, one_mul, zero_mul}
 use Rattle.rational.proofs.Linear.{with1}
 
 -- z is x / y exactly where z y is x

@@ -1,4 +1,5 @@
--- The laws of the rationals with infinity: a total order with a greatest number, a sum that keeps it, and the lesser and the greater of two. Textbook.
+-- The laws of the rationals with infinity: a total order with a greatest number, a sum that keeps it, and the lesser
+-- and the greater of two. Textbook.
 use Rattle.std.specs.Prelude.{◌≡◌, pos, ◌↔◌, ◌⊎◌}
 use Rattle.rational.specs.Rational.{int}
 use Rattle.rational.specs.Extended.{Ext, ◌≤ₑ◌, ◌<ₑ◌, ◌+ₑ◌, min_ext, max_ext}

@@ -1,4 +1,5 @@
--- Families of extended rationals, given by their members: made from others, and compared. The two comparisons are the order theorist's.
+-- Families of extended rationals, given by their members: made from others, and compared. The two comparisons are the
+-- order theorist's.
 use Rattle.std.specs.Prelude.{◌⊎◌}
 use Rattle.std.proofs.Common.{inl, inr}
 use Rattle.rational.specs.Rational.{ℚ}

@@ -1,9 +1,11 @@
--- The laws that make the rationals what they are, as in any textbook of algebra: an ordered field, dense and Archimedean, of quotients of integers.
+-- The laws that make the rationals what they are, as in any textbook of algebra: an ordered field, dense and
+-- Archimedean, of quotients of integers.
 use Rattle.std.specs.Prelude.{◌≡◌, ◌≢◌, ℕ, suc, ℤ, pos, ◌*ℤ◌, ◌≤ℤ◌, ◌<ℤ◌, nat_abs, ◌↔◌, ◌⊎◌}
 use Rattle.rational.specs.Gcd.{gcd}
 use Rattle.rational.specs.Rational.{ℚ, den, frac, int, ◌+ℚ◌, ◌-ℚ◌, ◌*ℚ◌, ◌/ℚ◌, neg_ℚ, inv_ℚ, ◌≤ℚ◌, ◌<ℚ◌}
 
--- sums and products commute and associate, 0 and 1 are neutral, products go over sums, and each number has an opposite and, save 0, an inverse
+-- sums and products commute and associate, 0 and 1 are neutral, products go over sums, and each number has an
+-- opposite and, save 0, an inverse
 pub record IsField : Type 0 where
   pub add_comm : (x y : ℚ) → x +ℚ y ≡ y +ℚ x
   pub add_assoc : (x y z : ℚ) → (x +ℚ y) +ℚ z ≡ x +ℚ (y +ℚ z)

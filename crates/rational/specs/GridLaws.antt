@@ -30,9 +30,12 @@ pub record PartsOnGrid (d : ℕ) (v q : ℚ) : Type 0 where
 
 -- where d and v d are at most 2 ^ 127 - 1, both parts are
 abbrev pub SmallOnGrid : Type 0
-SmallOnGrid = (d : ℕ) (v q : ℚ) → 0 < d → d ≤ 2 ^ 127 - 1 → v *ℚ int (pos d) ≤ℚ int (pos (2 ^ 127 - 1)) → Whole d q → Within v q → IsSmall q
+SmallOnGrid =
+    (d : ℕ) (v q : ℚ) → 0 < d → d ≤ 2 ^ 127 - 1 → v *ℚ int (pos d) ≤ℚ int (pos (2 ^ 127 - 1)) → Whole d q → Within v q
+    → IsSmall q
 
 -- where d and (v + w) d are, so is each number on the way to a sum over the least common denominator
 abbrev pub SumOnGrid : Type 0
-SumOnGrid = (d : ℕ) (v w a b : ℚ) → 0 < d → d ≤ 2 ^ 127 - 1 → (v +ℚ w) *ℚ int (pos d) ≤ℚ int (pos (2 ^ 127 - 1))
+SumOnGrid =
+    (d : ℕ) (v w a b : ℚ) → 0 < d → d ≤ 2 ^ 127 - 1 → (v +ℚ w) *ℚ int (pos d) ≤ℚ int (pos (2 ^ 127 - 1))
     → Whole d a → Whole d b → Within v a → Within w b → SumFits a b

@@ -1,8 +1,11 @@
-//! The laws of infima and suprema, for families over any types `I` and `J`. Each function is a theorem: its contract is the law, its body is empty.
+//! The laws of infima and suprema, for families over any types `I` and `J`. Each function is a
+//! theorem: its contract is the law, its body is empty.
 
-ghost use Rattle.std.specs.Prelude.{};
 ghost use Rattle.rational.specs.Rational.{ℚ, ◌<ℚ◌};
-ghost use Rattle.rational.specs.BoundLaws.{InfimumIsGreatest, SupremumIsLeast, InfimumOfDominated, SupremumOfDominated, InfimumOfShifted, SupremumOfShifted, InfimumOfUnion, SupremumOfUnion, InfimumOfSums, SupremumOfSums, BoundsReflect, LineOnStretch, LineWithoutEnd};
+ghost use Rattle.rational.specs.BoundLaws.{InfimumIsGreatest, SupremumIsLeast, InfimumOfDominated};
+ghost use Rattle.rational.specs.BoundLaws.{SupremumOfDominated, InfimumOfShifted, SupremumOfShifted, InfimumOfUnion};
+ghost use Rattle.rational.specs.BoundLaws.{SupremumOfUnion, InfimumOfSums, SupremumOfSums, BoundsReflect};
+ghost use Rattle.rational.specs.BoundLaws.{LineOnStretch, LineWithoutEnd};
 
 /// An infimum is the greatest lower bound, a supremum the least upper bound, and there is at most one of each.
 pub fn bounds_are_unique<I>()

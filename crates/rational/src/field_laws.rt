@@ -1,5 +1,6 @@
-//! The laws of the rationals as a field with an order, of the floor and the ceiling, and of the lesser and the greater of two.
-//! Each function is a theorem: its contract is the law, its body is empty.
+//! The laws of the rationals as a field with an order, of the floor and the ceiling, and of the
+//! lesser and the greater of two. Each function is a theorem: its contract is the law, its body is
+//! empty.
 
 ghost use Rattle.std.specs.Prelude.{ℕ, ℤ};
 ghost use Rattle.rational.specs.Rational.{ℚ};

@@ -1,4 +1,5 @@
-//! The laws of numbers on grids and within bounds. Each function is a theorem: its contract is the law, its body is empty.
+//! The laws of numbers on grids and within bounds. Each function is a theorem: its contract is the
+//! law, its body is empty.
 
 ghost use Rattle.std.specs.Prelude.{ℕ, ◌<◌};
 ghost use Rattle.rational.specs.Rational.{ℚ};

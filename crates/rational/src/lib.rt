@@ -1,5 +1,6 @@
-//! The exact numbers of the specification: rationals, rationals with infinity, their bounds, and where they stand. The numbers
-//! themselves are in `specs/`; the functions here are theorems about them, by their contracts.
+//! The exact numbers of the specification: rationals, rationals with infinity, their bounds, and
+//! where they stand. The numbers themselves are in `specs/`; the functions here are theorems about
+//! them, by their contracts.
 #![tactic(auto)]
 
 ghost use Rattle.std.specs.Prelude.{◌≡◌, ◌↔◌, true, MatchOption};

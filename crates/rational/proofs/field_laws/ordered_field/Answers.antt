@@ -1,5 +1,7 @@
 -- A field, and an order that its operations keep.
-use Rattle.rational.proofs.Laws.{add_comm, add_assoc, add_zero, add_neg, sub_add, mul_comm, mul_assoc, mul_one, mul_inv, mul_add, div_mul, zero_not_one, le_refl, le_trans, antisym, le_total, not_le_of_lt, lt_of_not_le, add_le_add, mul_nonneg}
+use Rattle.rational.proofs.Laws.{add_comm, add_assoc, add_zero, add_neg, sub_add, mul_comm, mul_assoc, mul_one}
+use Rattle.rational.proofs.Laws.{mul_inv, mul_add, div_mul, zero_not_one, le_refl, le_trans, antisym, le_total}
+use Rattle.rational.proofs.Laws.{not_le_of_lt, lt_of_not_le, add_le_add, mul_nonneg}
 use Rattle.rational.proofs.field_laws.ordered_field.Goals as goal
 
 pub returns-clause-field : goal.returns-clause-field

@@ -1,5 +1,6 @@
 -- Sums, products and quotients on grids and within bounds.
-use Rattle.rational.proofs.Grid.{whole_divides, whole_from_divides, whole_weaken, whole_add, whole_sub, whole_neg, whole_mul, whole_times, whole_div, within_add, within_sub, within_neg, within_mul}
+use Rattle.rational.proofs.Grid.{whole_divides, whole_from_divides, whole_weaken, whole_add, whole_sub, whole_neg}
+use Rattle.rational.proofs.Grid.{whole_mul, whole_times, whole_div, within_add, within_sub, within_neg, within_mul}
 use Rattle.rational.proofs.grid_laws.grids_and_bounds_close.Goals as goal
 
 pub returns-clause-grids : goal.returns-clause-grids
