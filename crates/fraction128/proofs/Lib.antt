@@ -9,3 +9,4 @@ pub mod Printed
 pub mod Rounded
 pub mod CommonMultiple
 pub mod Parsed
+pub mod OrderTests

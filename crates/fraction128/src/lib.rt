@@ -8,6 +8,8 @@ mod multiple;
 mod order;
 mod product;
 mod sum;
+#[cfg(test)]
+mod tests;
 mod text;
 
 pub use division::{gcd_of, least_common_multiple};
