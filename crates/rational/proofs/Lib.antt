@@ -7,9 +7,9 @@ pub mod Floor
 pub mod Grain
 pub mod Linear
 pub mod Ceiling
-pub mod Goals
-pub mod Stress
+pub mod LinearExamples
 pub mod Bounds
+pub mod Quotients
 pub mod Comparison
 pub mod MinMax
 pub mod ExtendedOrder

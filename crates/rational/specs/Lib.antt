@@ -10,3 +10,9 @@ pub mod Floor
 pub mod Whole
 pub mod Gauge
 pub mod Grid
+pub mod Families
+pub mod FieldLaws
+pub mod RoundingLaws
+pub mod ExtendedLaws
+pub mod BoundLaws
+pub mod GridLaws
