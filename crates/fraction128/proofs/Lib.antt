@@ -10,3 +10,4 @@ pub mod Rounded
 pub mod CommonMultiple
 pub mod Parsed
 pub mod OrderTests
+pub mod ReadBack

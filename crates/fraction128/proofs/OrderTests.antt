@@ -1,6 +1,6 @@
 -- What the answers of `==`, `<`, `<=`, `>`, `>=`, `min` and `max` of two fractions mean.
 use Rattle.std.specs.Prelude.{◌≡◌, ◌≢◌, Bool, true, false, cond}
-use Rattle.std.proofs.Common.{sym, ap, ◌∙◌, subst, refl, Ordering, Less, Equal, Greater, inl, inr}
+use Rattle.std.proofs.Common.{sym, ap, ◌∙◌, subst, refl, Ordering, Less, Equal, Greater}
 use mathlib.Core.Bool.{true≢false}
 use Rattle.std.specs.Ordering.{MatchOrdering, is_eq, is_lt, is_le, is_gt, is_ge, ord_max, ord_min}
 use Rattle.rational.specs.Rational.{ℚ, ◌≤ℚ◌, ◌<ℚ◌}
@@ -8,7 +8,7 @@ use Rattle.rational.specs.Ratio.{cmp_q}
 use Rattle.rational.specs.MinMax.{min_q, max_q}
 use Rattle.rational.proofs.Laws.{le_refl, le_of_lt}
 use Rattle.rational.proofs.Comparison.{cmp_ranks, cmp_self}
-use Rattle.rational.proofs.MinMax.{min_q_left, min_q_right, max_q_left, max_q_right, min_q_is_right, max_q_is_left}
+use Rattle.rational.proofs.MinMax.{min_q_left, min_q_right, max_q_left, max_q_right}
 use Rattle.fraction128.specs.Order.{same_q}
 
 -- the order of two, as one of three facts

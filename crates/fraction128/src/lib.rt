@@ -4,6 +4,7 @@
 mod division;
 mod fault;
 mod fraction;
+pub mod laws;
 mod multiple;
 mod order;
 mod product;
