@@ -1,6 +1,6 @@
 -- Whole numbers next to a fraction, from the numbers that it is made of.
 use lib.Signed.{lt_z}
-use Rattle.std.specs.Prelude.{◌≡◌, true, false, ℕ, zero, suc, ◌+◌, ◌*◌, ◌-◌, ◌/◌, ◌%◌, ◌<◌, ℤ, pos, negsuc, ◌+ℤ◌, ◌*ℤ◌, ◌≤ℤ◌, ◌<ℤ◌, unsigned_abs}
+use Rattle.std.specs.Prelude.{◌≡◌, true, false, ℕ, zero, suc, ◌+◌, ◌*◌, ◌-◌, ◌/◌, ◌%◌, ◌<◌, ℤ, pos, negsuc, ◌+ℤ◌, ◌*ℤ◌, ◌≤ℤ◌, ◌<ℤ◌}
 use Rattle.std.proofs.Common.{arith, sym, ap, ◌∙◌, subst, refl}
 use Rattle.std.proofs.lemmas.Int.{ints}
 use native.Mathlib.Nat.{div-add-mod', mod-lt}

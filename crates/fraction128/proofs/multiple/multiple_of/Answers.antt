@@ -1,4 +1,4 @@
-use Rattle.std.proofs.Common.{arith, ◌≡◌, ◌∙◌, ◌*◌, ◌<◌, ◌^◌, ◌/◌, ap, ap₂, sym, subst, pos, to_z, ℤ, ℕ}
+use Rattle.std.proofs.Common.{arith, ◌≡◌, ◌∙◌, ◌*◌, ◌/◌, ap, ap₂, sym, subst, pos, to_z, ℤ, ℕ}
 use Rattle.std.proofs.lemmas.Int.{to_z_pos}
 use mir.Syntax.{w128}
 use Rattle.rational.specs.Gcd.{gcd, gcd_pos}
