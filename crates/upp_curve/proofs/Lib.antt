@@ -18,3 +18,4 @@ pub mod BucketDeviations
 pub mod BucketConvolution
 pub mod Worked
 pub mod WorkedOperators
+pub mod WorkedRunning

@@ -5,4 +5,6 @@ mod curve;
 mod laws;
 
 pub use curve::{Curve, Tail};
-pub use laws::{bucket_deviations, deviations_are_unique, normal_form_is_unique};
+pub use laws::{
+    bucket_deviations, deviations_are_unique, normal_form_is_unique, worked_kinds, worked_operators,
+};
