@@ -1,12 +1,12 @@
 pub mod FiniteValues
 pub mod Repeats
-pub mod Reading
-pub mod Found
+pub mod PieceIn
+pub mod ByTail
 pub mod Steady
 pub mod Unique
 pub mod Rules
 pub mod Normal
-pub mod Equal
+pub mod OneForm
 pub mod Unrolled
 pub mod Below
 pub mod Crossing

@@ -3,8 +3,10 @@
 
 mod curve;
 mod laws;
+mod reading;
+mod same;
 
-pub use curve::{Curve, Tail};
+pub use curve::{Curve, Tail, equal};
 pub use laws::{
     bucket_deviations, deviations_are_unique, normal_form_is_unique, worked_kinds, worked_operators,
 };
