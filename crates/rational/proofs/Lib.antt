@@ -1,9 +1,12 @@
 pub mod Over
+pub mod Integers
 pub mod Bootstrap
 pub mod Laws
 pub mod Lcd
 pub mod Floor
+pub mod Grain
 pub mod Linear
+pub mod Ceiling
 pub mod Goals
 pub mod Stress
 pub mod Bounds
@@ -14,3 +17,6 @@ pub mod Whole
 pub mod Stretch
 pub mod Lines
 pub mod Gauges
+pub mod Multiples
+pub mod Grid
+pub mod Sizes

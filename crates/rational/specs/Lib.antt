@@ -5,5 +5,8 @@ pub mod Ratio
 pub mod MinMax
 pub mod Extended
 pub mod Line
+pub mod Stretch
+pub mod Floor
 pub mod Whole
 pub mod Gauge
+pub mod Grid
