@@ -1,11 +1,12 @@
 -- The value of a curve from its fields, by its tail; and that a bucket is normal.
 use Rattle.std.specs.Prelude.{◌≡◌, pos, List, Some, None, Result, Ok, Err, IfErr}
 use Rattle.std.proofs.Common.{arith, sym, ap, ap₂, ◌∙◌, refl, subst, inl, Ordering, Greater, true≢false, is_some}
-use Rattle.rational.specs.Rational.{ℚ, ◌-ℚ◌, ◌*ℚ◌, ◌≤ℚ◌, ◌<ℚ◌, int}
+use Rattle.rational.specs.Rational.{ℚ, ◌+ℚ◌, ◌-ℚ◌, ◌*ℚ◌, ◌≤ℚ◌, ◌<ℚ◌, int}
 use Rattle.rational.specs.Ratio.{cmp_q}
 use Rattle.rational.specs.Whole.{periods}
-use Rattle.rational.proofs.Laws.{le_refl}
-use Rattle.rational.proofs.Linear.{with3}
+use Rattle.rational.proofs.Whole.{periods_low}
+use Rattle.rational.proofs.Laws.{le_refl, le_of_lt}
+use Rattle.rational.proofs.Linear.{with3, with4}
 use Rattle.rational.proofs.Comparison.{cmp_greater, cmp_not_greater}
 use Rattle.rational.proofs.Over.{le_q_out}
 use Rattle.rational.specs.Extended.{Ext, ◌+ₑ◌}
@@ -18,6 +19,8 @@ use Rattle.upp_curve.specs.Curve.{SpecCurve, value_at, with_tail, repeated, cut}
 use Rattle.upp_curve.specs.Reading.{read}
 use Rattle.upp_curve.specs.Normal.{IsNormal, TailFits}
 use Rattle.upp_curve.specs.Kinds.{bucket}
+use Rattle.upp_curve.specs.Steps.{IsWideAt, IsWideValueAt}
+use Rattle.fraction128.specs.declared.fault.Wide.{Wide}
 use Rattle.rational.proofs.MinMax.{le_q_not}
 use Rattle.upp_curve.proofs.Repeats.{repeated_first}
 
@@ -41,6 +44,15 @@ repeated_early f ps rank period rise t r tail k fits e h =
     let l = cmp_not_greater t rank (λ k. h (e ∙ k)) in
     sym (repeated_first f rank period rise t some (with3 t rank period (λ c. omega (arith, c.le, c.lt, c.same))))
 
+-- the whole periods taken off a time past the rank leave one at the rank or later
+pub early_nonneg : (rank period t n back early : ℚ) → int (pos 0) ≤ℚ rank → int (pos 0) <ℚ period → rank <ℚ t
+    → n ≡ int (pos (periods rank period t)) → back ≡ n *ℚ period → early ≡ t -ℚ back → int (pos 0) ≤ℚ early
+early_nonneg rank period t n back early h some past p q r =
+    let low = periods_low rank period t some (le_of_lt past) in
+    let is : back ≡ int (pos (periods rank period t)) *ℚ period = q ∙ ap (λ m. m *ℚ period) p in
+    let low2 : rank +ℚ back ≤ℚ t = subst (λ z. rank +ℚ z ≤ℚ t) (sym is) low in
+    with4 rank back early t (λ c. omega (arith, c.le, c.lt, c.same))
+
 pub later_value : (f : ℚ → Ext) (rank period rise t n back early by : ℚ) (base : Ext)
     → n ≡ int (pos (periods rank period t)) → back ≡ n *ℚ period → early ≡ t -ℚ back → base ≡ f early → by ≡ n *ℚ rise
     → base +ₑ Fin by ≡ repeated f rank period rise t
@@ -59,12 +71,12 @@ bucket_normal b r = record {
   tail = some_is record { icept = b; slope = r };
 }
 
+-- a wide step of the pieces and the kind of tail that a match found is one of the curve
+pub wide_of : (c : SpecCurve) (ps : List Piece) (tail k : Tail) (t : ℚ) (w : Wide) → record { pieces = ps; tail = tail } ≡ c → tail ≡ k → IsWideAt ps k t w → IsWideValueAt c t w
+wide_of c ps tail k t w v e h = subst (λ s. IsWideValueAt s t w) v (subst (λ z. IsWideAt ps z t w) (sym e) h)
+
 pub not_later : (t r : ℚ) (o : Ordering) → o ≡ cmp_q t r → (o ≡ Greater → ⊥) → t ≤ℚ r
 not_later t r o e h = cmp_not_greater t r (λ k. h (e ∙ k))
 
 pub is_later : (t r : ℚ) (o : Ordering) → o ≡ cmp_q t r → o ≡ Greater → r <ℚ t
 is_later t r o e h = cmp_greater t r (sym e ∙ h)
-
-pub wide_map : {A E : Type 0} (r : Result A E) (P Q : Type 0) → (Q → P) → IfErr r (λ _. ¬ P) → IfErr r (λ _. ¬ Q)
-wide_map (Ok x) P Q f h = h
-wide_map (Err e) P Q f h = λ q. h (f q)

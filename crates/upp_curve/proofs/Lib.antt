@@ -1,3 +1,4 @@
+pub mod Refusals
 pub mod FiniteValues
 pub mod Repeats
 pub mod PieceIn

@@ -28,12 +28,15 @@ abbrev pub IsWideRise : Ext → ℚ → Wide → Type 0
 IsWideRise Inf c w = ⊥
 IsWideRise (Fin v) c w = IsWideSum v c w
 
--- past the rank of a periodic tail: t - rank, its quotient by the period with the whole part n, n times the period, t less
--- that, the value there, n times the rise, and the sum with that
+-- w is a step of the number of whole periods between the rank and t: t - rank, and its quotient by the period
+abbrev pub IsWidePeriods : ℚ → ℚ → ℚ → Wide → Type 0
+IsWidePeriods rank period t w = IsWideDifference t rank w ⊎ IsWideQuotient (t -ℚ rank) period w
+
+-- past the rank of a periodic tail: the number n of whole periods, n times the period, t less that, the value there, n times
+-- the rise, and the sum with that
 abbrev pub IsWidePast : List Piece → (rank period rise t n : ℚ) → Wide → Type 0
 IsWidePast ps rank period rise t n w =
-    IsWideDifference t rank w ⊎ IsWideQuotient (t -ℚ rank) period w
-    ⊎ IsWideProduct n period w ⊎ IsWideDifference t (n *ℚ period) w
+    IsWidePeriods rank period t w ⊎ IsWideProduct n period w ⊎ IsWideDifference t (n *ℚ period) w
     ⊎ IsWideRead ps (t -ℚ n *ℚ period) w
     ⊎ IsWideProduct n rise w ⊎ IsWideRise (read ps (t -ℚ n *ℚ period)) (n *ℚ rise) w
 

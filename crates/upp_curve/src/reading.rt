@@ -8,7 +8,7 @@ ghost use Rattle.affine_segment.specs.Values.{line_value};
 ghost use Rattle.upp_curve.specs.Reading.{piece_in, piece_value, read};
 ghost use Rattle.upp_curve.specs.Curve.{repeated};
 ghost use Rattle.upp_curve.specs.Normal.{StartsAtZero};
-ghost use Rattle.upp_curve.specs.Steps.{IsWideLine, IsWideRead, IsWideRise, IsWidePast};
+ghost use Rattle.upp_curve.specs.Steps.{IsWideLine, IsWideRead, IsWideRise, IsWidePeriods, IsWidePast};
 
 use affine_segment::{Line, Piece, value};
 use fraction128::{Ext, Frac, Wide};
@@ -88,6 +88,17 @@ fn whole_part(a: Frac) -> Frac
     }
 }
 
+// How many whole periods lie between the rank and t.
+fn periods(rank: Frac, period: Frac, t: Frac) -> Result<Frac, Wide>
+    requires { int (pos 0) <ℚ period }
+    ensures value { IfOk result (λ n. n ≡ int (pos (periods rank period t))) }
+    ensures wide { IfErr result (IsWidePeriods rank period t) }
+{
+    let past = Frac::sub(t, rank)?;
+    let ratio = Frac::div(past, period)?;
+    Ok(whole_part(ratio))
+}
+
 // The value past the rank of a periodic tail: that as many whole periods earlier, risen as many times.
 pub(crate) fn read_past(pieces: &[Piece], rank: Frac, period: Frac, rise: Frac, t: Frac) -> Result<Ext, Wide>
     requires starts { StartsAtZero pieces.now }
@@ -97,9 +108,7 @@ pub(crate) fn read_past(pieces: &[Piece], rank: Frac, period: Frac, rise: Frac, 
     ensures value { IfOk result (λ v. v ≡ repeated (read pieces.now) rank period rise t) }
     ensures wide { IfErr result (IsWidePast pieces.now rank period rise t (int (pos (periods rank period t)))) }
 {
-    let past = Frac::sub(t, rank)?;
-    let ratio = Frac::div(past, period)?;
-    let n = whole_part(ratio);
+    let n = periods(rank, period, t)?;
     let back = Frac::mul(n, period)?;
     let early = Frac::sub(t, back)?;
     let base = read(pieces, early)?;
