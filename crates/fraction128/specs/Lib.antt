@@ -3,3 +3,4 @@ pub mod Inside
 pub mod Order
 pub mod Fits
 pub mod Text
+pub mod Multiple
