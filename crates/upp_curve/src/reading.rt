@@ -3,7 +3,7 @@
 ghost use Rattle.std.specs.Prelude.{◌≡◌, pos, List, ◌∷◌, IfOk, IfErr};
 ghost use Rattle.rational.specs.Rational.{ℚ, int, ◌≤ℚ◌, ◌<ℚ◌, le_q};
 ghost use Rattle.rational.specs.Extended.{◌+ₑ◌};
-ghost use Rattle.rational.specs.Whole.{periods, whole_part};
+ghost use Rattle.rational.specs.Whole.{periods};
 ghost use Rattle.affine_segment.specs.Values.{line_value};
 ghost use Rattle.upp_curve.specs.Reading.{piece_in, piece_value, read};
 ghost use Rattle.upp_curve.specs.Curve.{repeated};
@@ -73,21 +73,6 @@ fn raised(v: Ext, by: Frac) -> Result<Ext, Wide>
     }
 }
 
-// The largest whole number at most a, and 0 below 0.
-fn whole_part(a: Frac) -> Frac
-    ensures { result ≡ int (pos (whole_part a)) }
-{
-    let (num, den) = a.parts();
-    if num <= 0 {
-        return Frac::zero();
-    }
-    let size = num.unsigned_abs() / den;
-    match Frac::new(size as i128, 1) {
-        Ok(n) => n,
-        Err(_) => Frac::zero(),
-    }
-}
-
 // How many whole periods lie between the rank and t.
 fn periods(rank: Frac, period: Frac, t: Frac) -> Result<Frac, Wide>
     requires { int (pos 0) <ℚ period }
@@ -96,7 +81,7 @@ fn periods(rank: Frac, period: Frac, t: Frac) -> Result<Frac, Wide>
 {
     let past = Frac::sub(t, rank)?;
     let ratio = Frac::div(past, period)?;
-    Ok(whole_part(ratio))
+    Ok(ratio.whole_part())
 }
 
 // The value past the rank of a periodic tail: that as many whole periods earlier, risen as many times.
