@@ -5,6 +5,8 @@ mod curve;
 mod laws;
 mod reading;
 mod same;
+#[cfg(test)]
+mod tests;
 
 pub use curve::{Curve, Tail, equal};
 pub use laws::{
