@@ -1,3 +1,4 @@
 pub mod FormLemmas
 pub mod SpellingLemmas
 pub mod ReplyLemmas
+pub mod BoundLemmas

@@ -1,15 +1,15 @@
 -- The bytes of the report on a server and its flow.
 use Rattle.std.specs.Prelude.{ℕ, ◌++◌, List, codes}
-use Rattle.std.specs.Fmt.{decimal}
-use Rattle.rational.specs.declared.Extended.{Extended}
+use Rattle.rational.specs.Extended.{Ext}
 use Rattle.rational.specs.declared.Extended.TheVariants.{Fin, Inf}
+use Rattle.fraction128.specs.Text.{text_of}
 use Rattle.netcalc_cli.specs.Form.{Form}
 use Rattle.netcalc_cli.specs.Bounds.{delay_of, backlog_of}
 
--- a bound as it is printed
-abbrev pub bound_text : Extended ℕ → List ℕ
+-- a bound as it is printed: a whole number, or a fraction in lowest terms, or that there is none
+abbrev pub bound_text : Ext → List ℕ
 bound_text Inf = codes "unbounded"
-bound_text (Fin n) = decimal n
+bound_text (Fin q) = text_of q
 
 unfoldable pub queue_line : Form → List ℕ
 queue_line f =

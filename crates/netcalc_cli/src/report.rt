@@ -5,6 +5,7 @@ ghost use Rattle.netcalc_cli.specs.View.{form_view, IsInRange};
 
 use crate::bounds::{backlog_of, delay_of};
 use crate::form::Form;
+use fraction128::Ext;
 use outside::NoMemory;
 use rational::Extended;
 use std::alloc::Global;
@@ -16,15 +17,12 @@ fn push_text(into: &mut Vec<u8>, text: &str) -> Result<(), NoMemory>
     Ok(())
 }
 
-fn push_bound(into: &mut Vec<u8>, bound: Extended<u64>) -> Result<(), NoMemory>
-    ensures { OnOk result (into.new.items ≡ into.old.items ++ bound_text bound) }
+fn push_bound(into: &mut Vec<u8>, bound: &Ext) -> Result<(), NoMemory>
+    ensures { OnOk result (into.new.items ≡ into.old.items ++ bound_text bound.now) }
 {
     match bound {
         Extended::Inf => push_text(into, "unbounded"),
-        Extended::Fin(number) => {
-            let text = format!(in *into.allocator(); "{number}")?;
-            push_text(into, text.as_str())
-        }
+        Extended::Fin(number) => number.print(into),
     }
 }
 
@@ -36,9 +34,9 @@ fn push_queue_line(into: &mut Vec<u8>, form: &Form) -> Result<(), NoMemory>
     push_text(into, "queue ")?;
     push_text(into, form.server.name)?;
     push_text(into, " 0 delay ")?;
-    push_bound(into, delay_of(form))?;
+    push_bound(into, &delay_of(form))?;
     push_text(into, " backlog ")?;
-    push_bound(into, backlog_of(form))?;
+    push_bound(into, &backlog_of(form))?;
     push_text(into, "\n")
 }
 
@@ -51,11 +49,11 @@ fn push_flow_line(into: &mut Vec<u8>, form: &Form) -> Result<(), NoMemory>
     push_text(into, "flow ")?;
     push_text(into, form.flow.name)?;
     push_text(into, " tfa ")?;
-    push_bound(into, delay)?;
+    push_bound(into, &delay)?;
     push_text(into, " sfa ")?;
-    push_bound(into, delay)?;
+    push_bound(into, &delay)?;
     push_text(into, " bound ")?;
-    push_bound(into, delay)?;
+    push_bound(into, &delay)?;
     push_text(into, "\n")
 }
 
