@@ -1,9 +1,9 @@
 -- Which replies the words and the inputs may bring, by their status.
-use Rattle.std.proofs.Common.{◌≡◌, ◌<◌, ℕ, List, length, Option, Some, None, IfSome, refl, lit<, rules}
+use Rattle.std.proofs.Common.{◌≡◌, ◌<◌, ℕ, List, length, Option, Some, None, IfSome, refl, lit<}
 use Rattle.std.proofs.Math.ListN.{replicate}
 use Rattle.std.proofs.lemmas.Bool.{lt-ltb}
 use Rattle.std.proofs.lemmas.List.{length-replicate}
-use Rattle.netcalc_cli.specs.Reply.{Reply, too_long, on_file, most_bytes, MayHold}
+use Rattle.netcalc_cli.specs.Reply.{too_long, on_file, most_bytes, MayHold}
 
 -- a list of any length
 of_length : (n : ℕ) → (bytes : List ℕ) × (length bytes ≡ n)

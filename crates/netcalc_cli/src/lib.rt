@@ -9,5 +9,6 @@ mod top_call;
 mod tree;
 mod words;
 
+pub use answer::Status;
 pub use form::each_form_is_read;
 pub use top_call::run;
