@@ -1,0 +1,17 @@
+pub mod Tests
+pub mod Levels
+pub mod Deviations
+pub mod Clips
+pub mod Sums
+pub mod Counts
+pub mod Heads
+pub mod States
+pub mod Cuts
+pub mod Orders
+pub mod Gone
+pub mod Stretches
+pub mod Service
+pub mod Waiting
+pub mod Delay
+pub mod Backlog
+pub mod Views

@@ -1,0 +1,13 @@
+//! Runs of packet networks: what a run records, which runs are lawful, and the laws that every lawful run keeps at
+//! each server, whatever the server's discipline.
+//!
+//! A law is the contract of a function that does nothing: its body is empty, and its `ensures` is proved.
+#![tactic(auto)]
+
+mod laws;
+mod steps;
+
+pub use laws::{
+    backlog_from_service, delay_from_service, packets_are_served, server_is_served, views_are_lawful,
+};
+pub use steps::{Run, Step};
