@@ -15,3 +15,10 @@ pub mod Waiting
 pub mod Delay
 pub mod Backlog
 pub mod Views
+pub mod Entries
+pub mod Arrivals
+pub mod FirstHop
+pub mod OneHop
+pub mod Parts
+pub mod FifoQueue
+pub mod OneFlow

@@ -42,7 +42,7 @@ server_is_served server end V β h k b t l = elim (le_or_lt (arrived all V t) (d
         record {
           earlier = le_of_lt is.begins;
           left = is.left;
-          kept_up = add_lower (arrived all V s) (worked all V s) (worked all V t) (β (t -ℚ s)) (with2 (arrived all V s) (worked all V s) (λ c. omega (arith, c.le, c.lt, c.same))) (k s t is.begins l is.busy);
+          kept_up = add_lower (arrived all V s) (worked all V s) (worked all V t) (worked all V t) (β (t -ℚ s)) (with2 (arrived all V s) (worked all V s) (λ c. omega (arith, c.le, c.lt, c.same))) (le_refl (worked all V t)) (k s t is.begins l is.busy);
         },
       )
 ]

@@ -4,16 +4,20 @@ use Rattle.std.specs.Prelude.{◌≡◌, ◌≢◌, ℕ, true, ◌≤◌, List, 
 use Rattle.rational.specs.Rational.{ℚ, int, ◌-ℚ◌, ◌≤ℚ◌, ◌<ℚ◌}
 use Rattle.rational.specs.Extended.{Ext, ◌≤ₑ◌, ◌+ₑ◌}
 use Rattle.rational.specs.declared.Extended.TheVariants.{Fin}
-use Rattle.run_laws.specs.Cards.{Class, all, ServerStep, Arrives, Works, Leaves, Visits}
+use Rattle.run_laws.specs.Cards.{Card, Class, all, ServerStep, Arrives, Works, Leaves, Visits}
 use Rattle.run_laws.specs.Counts.{arrived, arrived_in, worked}
+
+-- of each packet that arrives
+abbrev pub EachArrival : (Card → Type 0) → List ServerStep → Type 0
+EachArrival P [] = Unit {0}
+EachArrival P (Arrives c t ∷ xs) = P c × EachArrival P xs
+EachArrival P (Works c a b w ∷ xs) = EachArrival P xs
+EachArrival P (Leaves c t ∷ xs) = EachArrival P xs
+EachArrival P (Visits q t ∷ xs) = EachArrival P xs
 
 -- each packet of the class that arrives has at most so many bits
 abbrev pub KeepsSizes : Class → ℕ → List ServerStep → Type 0
-KeepsSizes C bits [] = Unit {0}
-KeepsSizes C bits (Arrives c t ∷ xs) = (C c ≡ true → c.bits ≤ bits) × KeepsSizes C bits xs
-KeepsSizes C bits (Works c a b w ∷ xs) = KeepsSizes C bits xs
-KeepsSizes C bits (Leaves c t ∷ xs) = KeepsSizes C bits xs
-KeepsSizes C bits (Visits q t ∷ xs) = KeepsSizes C bits xs
+KeepsSizes C bits V = EachArrival (λ c. C c ≡ true → c.bits ≤ bits) V
 
 -- in each closed window at most the curve's value at its length arrives
 abbrev pub KeepsArrivals : Class → (ℚ → Ext) → List ServerStep → Type 0
@@ -36,16 +40,9 @@ abbrev pub IsZeroAtStart : (ℚ → Ext) → Type 0
 IsZeroAtStart f = f (int (pos 0)) ≤ₑ Fin (int (pos 0))
 
 -- no packet arrives twice
-abbrev pub HasNot : ℕ → List ServerStep → Type 0
-HasNot packet [] = Unit {0}
-HasNot packet (Arrives c t ∷ xs) = (c.packet ≢ packet) × HasNot packet xs
-HasNot packet (Works c a b w ∷ xs) = HasNot packet xs
-HasNot packet (Leaves c t ∷ xs) = HasNot packet xs
-HasNot packet (Visits q t ∷ xs) = HasNot packet xs
-
 abbrev pub NoneTwice : List ServerStep → Type 0
 NoneTwice [] = Unit {0}
-NoneTwice (Arrives c t ∷ xs) = HasNot c.packet xs × NoneTwice xs
+NoneTwice (Arrives c t ∷ xs) = EachArrival (λ d. d.packet ≢ c.packet) xs × NoneTwice xs
 NoneTwice (Works c a b w ∷ xs) = NoneTwice xs
 NoneTwice (Leaves c t ∷ xs) = NoneTwice xs
 NoneTwice (Visits q t ∷ xs) = NoneTwice xs

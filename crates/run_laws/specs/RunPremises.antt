@@ -1,5 +1,5 @@
 -- What a run is taken to keep: its flows' sizes and arrival curves, and its servers' service curves.
-use Rattle.std.specs.Prelude.{◌≡◌, ◌<◌, ◌≤◌, ℕ, pos, true, ◌==◌, ◌&&◌, List, [], ◌∷◌, length}
+use Rattle.std.specs.Prelude.{◌≡◌, ◌<◌, ◌≤◌, ℕ, pos, Bool, true, ◌==◌, ◌&&◌, List, [], ◌∷◌, length}
 use Rattle.rational.specs.Rational.{ℚ, int, ◌+ℚ◌, ◌-ℚ◌, ◌≤ℚ◌}
 use Rattle.rational.specs.Extended.{Ext, ◌≤ₑ◌}
 use Rattle.rational.specs.declared.Extended.TheVariants.{Fin}
@@ -12,14 +12,17 @@ use Rattle.run_laws.specs.Premises.{KeepsService}
 use Rattle.run_laws.specs.Routes.{Routes, route_of}
 use Rattle.run_laws.specs.Views.{view}
 
--- the bits of a flow that enter in a closed window
+-- the bits of a flow that enter at times that pass a test, as those in a closed window
+abbrev pub enters : ℕ → (ℚ → Bool) → List Step → ℚ
+enters flow test [] = int (pos 0)
+enters flow test (Enter f p t b ∷ xs) = when ((f == flow) && test t) (whole b) +ℚ enters flow test xs
+enters flow test (Reach r p t ∷ xs) = enters flow test xs
+enters flow test (Work r p a b w ∷ xs) = enters flow test xs
+enters flow test (Leave r p t ∷ xs) = enters flow test xs
+enters flow test (Visit r q t ∷ xs) = enters flow test xs
+
 abbrev pub entered_in : ℕ → ℚ → ℚ → List Step → ℚ
-entered_in flow s t [] = int (pos 0)
-entered_in flow s t (Enter f p u b ∷ xs) = when ((f == flow) && within s t u) (whole b) +ℚ entered_in flow s t xs
-entered_in flow s t (Reach r p u ∷ xs) = entered_in flow s t xs
-entered_in flow s t (Work r p a b w ∷ xs) = entered_in flow s t xs
-entered_in flow s t (Leave r p u ∷ xs) = entered_in flow s t xs
-entered_in flow s t (Visit r q u ∷ xs) = entered_in flow s t xs
+entered_in flow s t xs = enters flow (within s t) xs
 
 -- each packet of the flow that enters has at most so many bits
 abbrev pub EnterSizes : ℕ → ℕ → List Step → Type 0

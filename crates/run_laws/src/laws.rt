@@ -1,8 +1,13 @@
-ghost use Rattle.run_laws.specs.Laws.{ServerIsServed, PacketsAreServed, DelayFromService, BacklogFromService, ViewsAreLawful};
+ghost use Rattle.run_laws.specs.Laws.{ServerIsServed, FifoQueueIsServed, PacketsAreServed, DelayFromService, BacklogFromService, ViewsAreLawful, OneFlowIsBounded};
 
 /// A server's curve serves the server as a whole.
 pub fn server_is_served()
     ensures { ServerIsServed }
+{}
+
+/// The curve of a first in, first out server serves its queue.
+pub fn fifo_queue_is_served()
+    ensures { FifoQueueIsServed }
 {}
 
 /// A curve that serves a class of packets serves, less one packet, its whole packets.
@@ -23,4 +28,9 @@ pub fn backlog_from_service()
 /// What each server sees of a lawful run is a lawful view.
 pub fn views_are_lawful()
     ensures { ViewsAreLawful }
+{}
+
+/// One flow over a first in, first out server: no delay and no backlog passes the two deviations.
+pub fn one_flow_is_bounded()
+    ensures { OneFlowIsBounded }
 {}
