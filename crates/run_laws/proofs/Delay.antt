@@ -12,16 +12,17 @@ use Rattle.run_laws.specs.Servers.{Server, ServerState, start}
 use Rattle.run_laws.specs.Next.{next, after}
 use Rattle.run_laws.specs.Allows.{AllAllowed, IsLawfulView}
 use Rattle.run_laws.specs.Counts.{total, arrives, upto, arrived, arrived_upto, arrived_in, worked, departed}
-use Rattle.run_laws.specs.Premises.{KeepsArrivals, IsRising}
+use Rattle.run_laws.specs.Premises.{KeepsArrivals}
+use Rattle.upp_curve.specs.Functions.{IsRising}
 use Rattle.run_laws.specs.Delays.{gone_at, kept, hop_delays, AreAtMost}
 use Rattle.run_laws.proofs.Deviations.{Within, within_deviation, deviation_nonneg}
 use Rattle.run_laws.proofs.Levels.{finite_below}
 use Rattle.rational.proofs.ExtendedOrder.{le_ext_trans}
-use Rattle.upp_curve.specs.Operators.{IsHorizontalDeviation}
+use Rattle.upp_curve.specs.Deviations.{IsHorizontalDeviation}
 use Rattle.run_laws.specs.Serves.{Serves}
 use Rattle.run_laws.proofs.Tests.{le_yes}
 use Rattle.run_laws.proofs.Sums.{size_nonneg, when_true, total-append, total_nonneg, each_all, when_nonneg}
-use Rattle.run_laws.proofs.Counts.{arrived_in_is, upto_arrived}
+use Rattle.run_laws.proofs.Counts.{arrived_in_is, upto_arrived, arrivals_nonneg}
 use Rattle.run_laws.proofs.Orders.{left_worked}
 use Rattle.run_laws.proofs.Waiting.{not_worked, allowed-append}
 
@@ -74,19 +75,13 @@ delay_core A L W α γ end u gone bits moved delay h = elim (le_or_lt (gone -ℚ
 ]
 
 -- ---- one packet
-pub arrives_nonneg : (C : Class) (p : ℚ → Bool) (x : ServerStep) → int (pos 0) ≤ℚ arrives C p x
-arrives_nonneg C p (Arrives c t) = when_nonneg _ (size c) (size_nonneg c)
-arrives_nonneg C p (Works c a b w) = le_refl (int (pos 0))
-arrives_nonneg C p (Leaves c t) = le_refl (int (pos 0))
-arrives_nonneg C p (Visits q t) = le_refl (int (pos 0))
-
 -- all that came up to the packet has come by its time
 upto_packet : (C : Class) (V front back : List ServerStep) (p : Card) (u : ℚ) → V ≡ front ++ Arrives p u ∷ back → C p ≡ true → total (arrives C (upto u)) front +ℚ size p ≤ℚ arrived_upto C V u
 upto_packet C V front back p u joined counted =
     let all : arrived_upto C V u ≡ total (arrives C (upto u)) front +ℚ (arrives C (upto u) (Arrives p u) +ℚ total (arrives C (upto u)) back) =
     ap (total (arrives C (upto u))) joined ∙ total-append (arrives C (upto u)) front (Arrives p u ∷ back) in
     let one = when_true _ (size p) (and_from (C p) (upto u u) counted (le_yes (le_refl u))) in
-    let rest = total_nonneg (arrives C (upto u)) back (each_all (λ x. int (pos 0) ≤ℚ arrives C (upto u) x) (arrives_nonneg C (upto u)) back) in
+    let rest = arrivals_nonneg C (upto u) back in
     with5 (arrived_upto C V u) (total (arrives C (upto u)) front) (arrives C (upto u) (Arrives p u)) (size p) (total (arrives C (upto u)) back) (λ c. omega (arith, c.le, c.lt, c.same))
 
 pub gone_most : (server : Server) (end : ℚ) (σ : ServerState) (V : List ServerStep) (n : ℕ) → AllAllowed server end σ V → gone_at end n V ≤ℚ end
@@ -141,6 +136,14 @@ packet_delay server end V front back C q p u α β delay lawful joined g counted
 pub kept_most : (b : Bool) (x : ℚ) (xs : List ℚ) (most : Ext) → (b ≡ true → Fin x ≤ₑ most) → AreAtMost most xs → AreAtMost most (kept b x xs)
 kept_most true x xs most f h = (f refl, h)
 kept_most false x xs most f h = h
+
+pub kept_first : (b : Bool) (x : ℚ) (xs : List ℚ) (most : Ext) → b ≡ true → AreAtMost most (kept b x xs) → Fin x ≤ₑ most
+kept_first true x xs most e h = h.0
+kept_first false x xs most e h = absurd (cc)
+
+pub kept_rest : (b : Bool) (x : ℚ) (xs : List ℚ) (most : Ext) → AreAtMost most (kept b x xs) → AreAtMost most xs
+kept_rest true x xs most h = h.1
+kept_rest false x xs most h = h
 
 each_delay : (server : Server) (end : ℚ) (V front back : List ServerStep) (C : Class) (q : ℕ) (α β : ℚ → Ext) (delay : ℚ) → IsLawfulView server end V → V ≡ front ++ back → IsOfQueue C q
     → Serves C β end V → KeepsArrivals C α V → int (pos 0) ≤ℚ delay → Within α β delay → AreAtMost (Fin delay) (hop_delays C end back)

@@ -22,3 +22,7 @@ pub mod OneHop
 pub mod Parts
 pub mod FifoQueue
 pub mod OneFlow
+pub mod Oldest
+pub mod Outputs
+pub mod Lag
+pub mod Shifted

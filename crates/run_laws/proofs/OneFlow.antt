@@ -5,11 +5,13 @@ use Rattle.std.proofs.lemmas.Bool.{cases_Bool, eqb-true, eq-eqb}
 use Rattle.rational.specs.Rational.{ℚ, ◌-ℚ◌}
 use Rattle.rational.specs.Extended.{Ext, ◌≤ₑ◌, ◌+ₑ◌}
 use Rattle.rational.specs.declared.Extended.TheVariants.{Fin}
-use Rattle.upp_curve.specs.Operators.{packetised, IsHorizontalDeviation, IsVerticalDeviation}
+use Rattle.upp_curve.specs.Deviations.{IsHorizontalDeviation, IsVerticalDeviation}
+use Rattle.upp_curve.specs.Pointwise.{packetised}
 use Rattle.run_laws.specs.Runs.{SpecRun}
 use Rattle.run_laws.specs.Cards.{Card, whole, of_queue, of_flow}
 use Rattle.run_laws.specs.Counts.{within}
-use Rattle.run_laws.specs.Premises.{EachArrival, KeepsArrivals, KeepsSizes, IsRising, IsZeroAtStart}
+use Rattle.run_laws.specs.Premises.{EachArrival, KeepsArrivals, KeepsSizes, IsZeroAtStart}
+use Rattle.upp_curve.specs.Functions.{IsRising}
 use Rattle.run_laws.specs.Routes.{Hop, Routes, server_at, link_at, route_of, queue_at, first_server, server_after}
 use Rattle.run_laws.specs.Views.{view}
 use Rattle.run_laws.specs.Lawful.{run_start, IsLawful}

@@ -15,7 +15,7 @@ use Rattle.run_laws.specs.FlowDelays.{delivered_at, delays_from}
 use Rattle.run_laws.specs.Routes.{Hop, Routes, route_of, link_at, queue_at, first_server, last_server}
 use Rattle.run_laws.specs.Views.{Entry, entry_of, hops_of, card_of, entered_after, server_of, seen, view_from}
 use Rattle.run_laws.specs.Lawful.{RunState, next_run, AllAllowedInRun, IsKnown}
-use Rattle.run_laws.proofs.Delay.{kept_most}
+use Rattle.run_laws.proofs.Delay.{kept_most, kept_first, kept_rest}
 use Rattle.run_laws.proofs.Entries.{entry_last}
 
 -- ---- where the packet leaves its server, it is delivered a link later
@@ -46,14 +46,6 @@ delivered_most net end s p entered (Leave r q t ∷ xs) h =
 later : (t gone delivered link : ℚ) (most : Ext) → delivered ≤ℚ gone +ℚ link → Fin (gone -ℚ t) ≤ₑ most → Fin (delivered -ℚ t) ≤ₑ (most +ₑ Fin link)
 later t gone delivered link Inf h k = tt
 later t gone delivered link (Fin most) h k = with5 t gone delivered link most (λ c. omega (arith, c.le, c.lt, c.same))
-
-kept_first : (b : Bool) (x : ℚ) (xs : List ℚ) (most : Ext) → b ≡ true → AreAtMost most (kept b x xs) → Fin x ≤ₑ most
-kept_first true x xs most e h = h.0
-kept_first false x xs most e h = absurd (cc)
-
-kept_rest : (b : Bool) (x : ℚ) (xs : List ℚ) (most : Ext) → AreAtMost most (kept b x xs) → AreAtMost most xs
-kept_rest true x xs most h = h.1
-kept_rest false x xs most h = h
 
 -- the rest of the steps
 view_rest : (net : Routes) (end : ℚ) (s : ℕ) (entered : List Entry) (x : Step) (xs : List Step) (C : Class) (most : Ext) → AreAtMost most (hop_delays C end (view_from net s entered (x ∷ xs))) → AreAtMost most (hop_delays C end (view_from net s (entered_after entered x) xs))

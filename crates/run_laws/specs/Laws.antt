@@ -4,13 +4,16 @@ use Rattle.std.specs.Prelude.{◌≡◌, ◌<◌, ℕ, pos, List, length}
 use Rattle.rational.specs.Rational.{ℚ, int, ◌-ℚ◌, ◌≤ℚ◌}
 use Rattle.rational.specs.Extended.{Ext, ◌≤ₑ◌, ◌+ₑ◌}
 use Rattle.rational.specs.declared.Extended.TheVariants.{Fin}
-use Rattle.upp_curve.specs.Operators.{packetised, shifted, IsDeconvolution, IsHorizontalDeviation, IsVerticalDeviation}
+use Rattle.upp_curve.specs.Convolution.{IsDeconvolution}
+use Rattle.upp_curve.specs.Deviations.{IsHorizontalDeviation, IsVerticalDeviation}
+use Rattle.upp_curve.specs.Pointwise.{packetised, shifted}
 use Rattle.run_laws.specs.Runs.{SpecRun}
-use Rattle.run_laws.specs.Cards.{Class, all, of_queue, of_flow, whole, IsOfQueue, ServerStep}
+use Rattle.run_laws.specs.Cards.{Class, all, of_queue, of_flow, whole, IsOfQueue, IsPart, ServerStep}
 use Rattle.run_laws.specs.Servers.{Fifo, Server}
 use Rattle.run_laws.specs.Allows.{IsLawfulView}
 use Rattle.run_laws.specs.Counts.{departed_in}
-use Rattle.run_laws.specs.Premises.{KeepsSizes, KeepsArrivals, KeepsService, IsRising, IsZeroAtStart, NoneTwice}
+use Rattle.run_laws.specs.Premises.{KeepsSizes, KeepsArrivals, KeepsService, IsZeroAtStart, NoneTwice}
+use Rattle.upp_curve.specs.Functions.{IsRising}
 use Rattle.run_laws.specs.Serves.{Serves, ServesPackets}
 use Rattle.run_laws.specs.Delays.{hop_delays, AreAtMost, backlog}
 use Rattle.run_laws.specs.Routes.{Routes, server_at, link_at}
@@ -51,6 +54,12 @@ abbrev pub OutputFromService : Type 0
 OutputFromService = (server : Server) (end : ℚ) (view : List ServerStep) (C : Class) (bits : ℕ) (α β : ℚ → Ext) (s t : ℚ) (most : Ext) →
     IsLawfulView server end view → KeepsSizes C bits view → KeepsArrivals C α view → Serves C β end view →
     s ≤ℚ t → IsDeconvolution α (packetised β (whole bits)) (t -ℚ s) most → Fin (departed_in C view s t) ≤ₑ most
+
+-- a part f of a queue, as one of its flows, leaves with its own curve, moved left by the horizontal deviation of the queue
+abbrev pub PartOutputFromService : Type 0
+PartOutputFromService = (server : Server) (end : ℚ) (view : List ServerStep) (Q f : Class) (queue : ℕ) (α β own : ℚ → Ext) (d : Ext) (s t : ℚ) →
+    IsLawfulView server end view → IsOfQueue Q queue → IsPart f Q → KeepsArrivals Q α view → KeepsArrivals f own view → Serves Q β end view →
+    IsRising β → IsHorizontalDeviation α β d → s ≤ℚ t → Fin (departed_in f view s t) ≤ₑ shifted own d (t -ℚ s)
 
 -- where no packet of a class of one queue stays longer than d, at most α, moved left by d, leaves in a closed window
 abbrev pub OutputFromDelay : Type 0

@@ -31,10 +31,6 @@ IsBusy V a b = (x : ℚ) → a <ℚ x → x <ℚ b → worked all V x <ℚ arriv
 abbrev pub KeepsService : (ℚ → Ext) → ℚ → List ServerStep → Type 0
 KeepsService β end V = (a b : ℚ) → a <ℚ b → b ≤ℚ end → IsBusy V a b → (Fin (worked all V a) +ₑ β (b -ℚ a)) ≤ₑ Fin (worked all V b)
 
--- a curve that does not fall
-abbrev pub IsRising : (ℚ → Ext) → Type 0
-IsRising f = (x y : ℚ) → int (pos 0) ≤ℚ x → x ≤ℚ y → f x ≤ₑ f y
-
 -- a curve that promises nothing at once
 abbrev pub IsZeroAtStart : (ℚ → Ext) → Type 0
 IsZeroAtStart f = f (int (pos 0)) ≤ₑ Fin (int (pos 0))

@@ -1,4 +1,4 @@
-ghost use Rattle.run_laws.specs.Laws.{ServerIsServed, FifoQueueIsServed, PacketsAreServed, DelayFromService, BacklogFromService, ViewsAreLawful, OneFlowIsBounded};
+ghost use Rattle.run_laws.specs.Laws.{ServerIsServed, FifoQueueIsServed, PacketsAreServed, DelayFromService, BacklogFromService, OutputFromService, PartOutputFromService, OutputFromDelay, ViewsAreLawful, OneFlowIsBounded};
 
 /// A server's curve serves the server as a whole.
 pub fn server_is_served()
@@ -23,6 +23,21 @@ pub fn delay_from_service()
 /// The backlog of a class is at most the vertical deviation of its curves, whole packets counted.
 pub fn backlog_from_service()
     ensures { BacklogFromService }
+{}
+
+/// What leaves in a closed window is at most the deconvolution of the curves, whole packets counted.
+pub fn output_from_service()
+    ensures { OutputFromService }
+{}
+
+/// A part of a queue leaves with its own curve, moved left by the horizontal deviation of the queue.
+pub fn part_output_from_service()
+    ensures { PartOutputFromService }
+{}
+
+/// Where no packet of a class of one queue stays longer than d, it leaves with its arrival curve, moved left by d.
+pub fn output_from_delay()
+    ensures { OutputFromDelay }
 {}
 
 /// What each server sees of a lawful run is a lawful view.
