@@ -99,7 +99,7 @@ head_passes net packet r (Enter f p t b) xs V k sizes h rest =
     let is : IsEntered net packet e = record { is_live = k.is_live; small = (sizes f k.is_live).0 refl } in
     let s = first_server (route_of net f).hops in (
       passing_entry net packet (r.entered ++ e ∷ []) p s (subst (IsEntered net packet) (sym last) is)
-      (subst (λ (y : Entry). PassesServer s (route_of net y.flow).hops) (sym last) (passes_first s (route_of net f).hops k.has_path)),
+          (subst (λ (y : Entry). PassesServer s (route_of net y.flow).hops) (sym last) (passes_first s (route_of net f).hops k.has_path)),
       rest,
     )
 head_passes net packet r (Reach s p t) xs V k sizes h rest =
@@ -120,6 +120,6 @@ all_pass net packet end r (x ∷ xs) s a sizes h =
           let here : server_of net x ≡ s = eqb-true (server_of net x) s e in
           let V = view_from net s (entered_after r.entered x) xs in
           rw e (subst (λ (k : ℕ). EachArrival (IsPassing net packet k) (seen net r.entered x ∷ V)) here
-            (head_passes net packet r x xs V a.0.known sizes h (subst (λ (k : ℕ). EachArrival (IsPassing net packet k) V) (sym here) rest)))
+          (head_passes net packet r x xs V a.0.known sizes h (subst (λ (k : ℕ). EachArrival (IsPassing net packet k) V) (sym here) rest)))
       | inr e ↦ rw e rest
     ]

@@ -94,4 +94,3 @@ passes_next a s (x ∷ hs) h = elim (cases_Bool (x.server == a)) [
   | inl e ↦ inr (passes_first s hs (rw e at h))
   | inr e ↦ inr (passes_next a s hs (rw e at h))
 ]
-

@@ -18,6 +18,10 @@ pub mod Views
 pub mod Entries
 pub mod Arrivals
 pub mod FirstHop
+pub mod Small
+pub mod SmallRuns
+pub mod OverALink
+pub mod OnePacket
 pub mod OneHop
 pub mod Parts
 pub mod FifoQueue

@@ -63,7 +63,7 @@ queue_keeps net run packet α β s i only lawful keeps a b l =
     let V = view net run s in
     let own = first_hop_keeps net run i s (α i) lawful (begins_there net s i only) (keeps.arrivals i only.is_live) in
     let same = same_arrivals (of_queue 0) (of_flow i) (within a b) V
-      (arrivals_map (IsIts packet i) (λ c. (c.queue == 0) ≡ (c.flow == i)) (λ c h. eq-eqb c.queue 0 h.its_queue ∙ sym (eq-eqb c.flow i h.its_flow)) V (all_its net run packet α β s i only lawful keeps)) in
+    (arrivals_map (IsIts packet i) (λ c. (c.queue == 0) ≡ (c.flow == i)) (λ c h. eq-eqb c.queue 0 h.its_queue ∙ sym (eq-eqb c.flow i h.its_flow)) V (all_its net run packet α β s i only lawful keeps)) in
     subst (λ (x : ℚ). Fin x ≤ₑ α i (b -ℚ a)) (sym same) (own a b l)
 
 pub one_flow_is_bounded : (net : Routes) (run : SpecRun) (s i : ℕ) (packet : ℕ → ℕ) (α β : ℕ → ℚ → Ext) (delay most : Ext) → IsOnlyFlow net s i → IsLawful net run → KeepsPremises net packet α β run → IsZeroAtStart (β s) → IsRising (β s)

@@ -14,3 +14,4 @@ pub mod FlowDelays
 pub mod RunPremises
 pub mod Bounds
 pub mod Laws
+pub mod Examples
