@@ -1,16 +1,16 @@
 -- The packets that arrive at a server of a lawful run: each is of a live flow that passes the server, and keeps its flow's size.
-use Rattle.std.specs.Prelude.{Option, Some, None, ◌≡◌, ◌<◌, ◌≤◌, ℕ, pos, ◌==◌, true, false, Bool, ◌&&◌, List, [], ◌∷◌, ◌++◌, length}
+use Rattle.std.specs.Prelude.{◌≡◌, ◌<◌, ◌≤◌, ℕ, pos, ◌==◌, true, false, Bool, List, [], ◌∷◌, ◌++◌, length}
 use Rattle.std.proofs.Common.{arith, sym, ap, ◌∙◌, refl, inl, inr, subst}
 use Rattle.std.proofs.lemmas.Bool.{cases_Bool, eqb-true, cases_eq}
 use Rattle.rational.specs.Rational.{ℚ, int, ◌+ℚ◌}
 use Rattle.run_laws.specs.declared.steps.Step.{Step}
 use Rattle.run_laws.specs.declared.steps.Step.TheVariants.{Enter, Reach, Work, Leave, Visit}
 use Rattle.run_laws.specs.Cards.{Card, Class, size, ServerStep, Arrives, Works, Leaves, Visits}
-use Rattle.run_laws.specs.Counts.{when, total, arrives}
+use Rattle.run_laws.specs.Counts.{total, arrives}
 use Rattle.run_laws.specs.Premises.{EachArrival}
 use Rattle.run_laws.specs.Routes.{Routes, route_of, queue_at, PassesServer, first_server}
 use Rattle.run_laws.specs.Views.{Entry, entry_of, hops_of, card_of, entered_after, server_of, seen, view_from}
-use Rattle.run_laws.specs.Lawful.{Due, RunState, next_run, AllAllowedInRun, IsKnown}
+use Rattle.run_laws.specs.Lawful.{RunState, next_run, AllAllowedInRun, IsKnown}
 use Rattle.run_laws.specs.RunPremises.{EnterSizes}
 use Rattle.run_laws.proofs.Sums.{each_all, total_none, when_false}
 use Rattle.run_laws.proofs.Entries.{entry_before, entry_last, one_more, EachDue, each_due_at, IsDueAfter, due_next, passes_first, passes_next}

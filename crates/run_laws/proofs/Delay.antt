@@ -20,8 +20,8 @@ use Rattle.run_laws.proofs.Levels.{finite_below}
 use Rattle.rational.proofs.ExtendedOrder.{le_ext_trans}
 use Rattle.upp_curve.specs.Deviations.{IsHorizontalDeviation}
 use Rattle.run_laws.specs.Serves.{Serves}
-use Rattle.run_laws.proofs.Tests.{le_yes}
-use Rattle.run_laws.proofs.Sums.{size_nonneg, when_true, total-append, total_nonneg, each_all, when_nonneg}
+use Rattle.rational.proofs.Over.{le_q_out}
+use Rattle.run_laws.proofs.Sums.{when_true, total-append}
 use Rattle.run_laws.proofs.Counts.{arrived_in_is, upto_arrived, arrivals_nonneg}
 use Rattle.run_laws.proofs.Orders.{left_worked}
 use Rattle.run_laws.proofs.Waiting.{not_worked, allowed-append}
@@ -80,7 +80,7 @@ upto_packet : (C : Class) (V front back : List ServerStep) (p : Card) (u : ℚ) 
 upto_packet C V front back p u joined counted =
     let all : arrived_upto C V u ≡ total (arrives C (upto u)) front +ℚ (arrives C (upto u) (Arrives p u) +ℚ total (arrives C (upto u)) back) =
     ap (total (arrives C (upto u))) joined ∙ total-append (arrives C (upto u)) front (Arrives p u ∷ back) in
-    let one = when_true _ (size p) (and_from (C p) (upto u u) counted (le_yes (le_refl u))) in
+    let one = when_true _ (size p) (and_from (C p) (upto u u) counted (le_q_out _ _ (le_refl u))) in
     let rest = arrivals_nonneg C (upto u) back in
     with5 (arrived_upto C V u) (total (arrives C (upto u)) front) (arrives C (upto u) (Arrives p u)) (size p) (total (arrives C (upto u)) back) (λ c. omega (arith, c.le, c.lt, c.same))
 

@@ -1,13 +1,13 @@
 -- Packets that have entered, and packets that are due at a server.
-use Rattle.std.specs.Prelude.{Option, Some, None, ◌≡◌, ◌<◌, ◌≤◌, ℕ, zero, suc, ◌==◌, Bool, true, false, ◌&&◌, List, [], ◌∷◌, ◌++◌, length, slice_index_or, Contains}
+use Rattle.std.specs.Prelude.{Option, Some, None, ◌≡◌, ◌<◌, ℕ, zero, suc, ◌==◌, List, [], ◌∷◌, ◌++◌, length, slice_index_or}
 use Rattle.std.proofs.Common.{arith, sym, ap, ◌∙◌, refl, inl, inr, subst}
-use Rattle.std.proofs.lemmas.Bool.{cases_Bool, eqb-true}
+use Rattle.std.proofs.lemmas.Bool.{cases_Bool, eq-eqb}
 use Rattle.rational.specs.Rational.{ℚ, ◌+ℚ◌}
 use Rattle.run_laws.specs.declared.steps.Step.{Step}
 use Rattle.run_laws.specs.declared.steps.Step.TheVariants.{Enter, Reach, Work, Leave, Visit}
-use Rattle.run_laws.specs.Routes.{Hop, Routes, route_of, link_at, PassesServer, first_of, server_after}
+use Rattle.run_laws.specs.Routes.{Hop, Routes, route_of, link_at, queue_at, PassesServer, first_of, server_after}
 use Rattle.run_laws.specs.Views.{Entry, entry_of, hops_of, entered_after}
-use Rattle.run_laws.specs.Lawful.{Due, RunState, same_due, without, sent, next_due, next_run, IsKnown}
+use Rattle.run_laws.specs.Lawful.{Due, RunState, same_due, without, sent, next_due, IsKnown}
 
 -- ---- the list of those that have entered
 pub entry_before : (entered : List Entry) (e : Entry) (p : ℕ) → p < length entered → entry_of (entered ++ e ∷ []) p ≡ entry_of entered p
@@ -94,3 +94,7 @@ passes_next a s (x ∷ hs) h = elim (cases_Bool (x.server == a)) [
   | inl e ↦ inr (passes_first s hs (rw e at h))
   | inr e ↦ inr (passes_next a s hs (rw e at h))
 ]
+
+-- the queue of a path of one hop
+pub queue_of_hop : (s q : ℕ) → queue_at s (record { server = s; queue = q } ∷ []) ≡ q
+queue_of_hop s q = rw (eq-eqb s s refl) refl

@@ -1,22 +1,22 @@
 -- At its first server a flow arrives as it enters.
-use Rattle.std.specs.Prelude.{Some, ◌≡◌, ◌≢◌, ◌<◌, ℕ, pos, ◌==◌, Bool, true, false, ◌&&◌, List, [], ◌∷◌, ◌++◌, length}
+use Rattle.std.specs.Prelude.{Some, ◌≡◌, ◌≢◌, ℕ, pos, ◌==◌, Bool, true, false, ◌&&◌, List, [], ◌∷◌}
 use Rattle.std.proofs.Common.{arith, sym, ap, ◌∙◌, refl, inl, inr, subst}
-use Rattle.std.proofs.lemmas.Bool.{cases_Bool, cases_eq, eqb-true, eq-eqb, ne_eqb, and_left}
+use Rattle.std.proofs.lemmas.Bool.{cases_Bool, cases_eq, eq-eqb, ne_eqb, and_left}
 use Rattle.rational.specs.Rational.{ℚ, int, ◌+ℚ◌, ◌-ℚ◌, ◌≤ℚ◌}
 use Rattle.rational.specs.Extended.{Ext, ◌≤ₑ◌}
 use Rattle.rational.specs.declared.Extended.TheVariants.{Fin}
-use Rattle.rational.proofs.Linear.{with1, with3}
+use Rattle.rational.proofs.Linear.{with1}
 use Rattle.run_laws.specs.declared.steps.Step.{Step}
 use Rattle.run_laws.specs.declared.steps.Step.TheVariants.{Enter, Reach, Work, Leave, Visit}
 use Rattle.run_laws.specs.Runs.{SpecRun}
-use Rattle.run_laws.specs.Cards.{whole, of_flow, ServerStep, Arrives, Works, Leaves, Visits}
+use Rattle.run_laws.specs.Cards.{whole, of_flow, ServerStep}
 use Rattle.run_laws.specs.Counts.{when, total, arrives, within}
 use Rattle.run_laws.specs.Premises.{KeepsArrivals}
 use Rattle.run_laws.specs.Routes.{Routes, route_of, first_server, server_after}
-use Rattle.run_laws.specs.Views.{Entry, entry_of, hops_of, entered_after, server_of, seen, view_from, view}
-use Rattle.run_laws.specs.Lawful.{Due, RunState, next_run, AllAllowedInRun, run_start, IsKnown, IsLawful}
+use Rattle.run_laws.specs.Views.{Entry, entry_of, entered_after, server_of, seen, view_from, view}
+use Rattle.run_laws.specs.Lawful.{RunState, next_run, AllAllowedInRun, run_start, IsKnown, IsLawful}
 use Rattle.run_laws.specs.RunPremises.{enters, entered_in}
-use Rattle.run_laws.proofs.Sums.{when_true, when_false}
+use Rattle.run_laws.proofs.Sums.{when_true, when_false, when_none}
 use Rattle.run_laws.proofs.Entries.{entry_last, EachDue, each_due_at, IsDueAfter, due_next}
 
 -- ---- what a step adds to a sum over the steps of a server
@@ -26,11 +26,6 @@ at_server f net s entered x xs = elim (cases_Bool (server_of net x == s)) [
   | inl e ↦ rw (e, when_true true (f (seen net entered x)) refl) refl
   | inr e ↦ rw (e, when_false false (f (seen net entered x)) refl) (with1 (total f (view_from net s (entered_after entered x) xs)) (λ c. omega (arith, c.le, c.lt, c.same)))
 ]
-
-pub when_none : (b : Bool) → when b (int (pos 0)) ≡ int (pos 0)
-unfolding when
-when_none true = refl
-when_none false = refl
 
 -- the path of flow i begins at server s, and does not come back to it
 pub record BeginsAt (net : Routes) (i s : ℕ) : Type 0 where

@@ -4,33 +4,26 @@ use Rattle.std.proofs.Common.{arith, sym, ap, ◌∙◌, refl, inl, inr, subst, 
 use Rattle.std.proofs.lemmas.Bool.{cases_Bool}
 use Rattle.rational.specs.Rational.{ℚ, int, ◌+ℚ◌, ◌-ℚ◌, ◌≤ℚ◌, ◌<ℚ◌}
 use Rattle.rational.specs.Extended.{Ext}
-use Rattle.rational.proofs.Laws.{le_refl, le_trans}
+use Rattle.rational.proofs.Laws.{le_trans}
 use Rattle.rational.proofs.Linear.{with1, with2, with3, with4, with5, with7, with8}
 use Rattle.run_laws.specs.Cards.{Card, size, Class, ServerStep, Arrives, Works, Leaves, Visits, time_of, IsOfQueue, IsPart}
 use Rattle.run_laws.specs.Servers.{Server, Under, ServerState, start}
 use Rattle.run_laws.specs.Next.{next, after}
 use Rattle.run_laws.specs.Allows.{AllAllowed, IsLawfulView, IsComplete}
-use Rattle.run_laws.specs.Counts.{total, arrives, leaves, works, before, upto, arrived, departed, departed_in, worked}
+use Rattle.run_laws.specs.Counts.{total, arrives, leaves, works, before, upto, arrived, departed, worked}
 use Rattle.run_laws.specs.Premises.{KeepsArrivals}
 use Rattle.run_laws.specs.Serves.{Serves}
-use Rattle.run_laws.proofs.Tests.{le_from, lt_yes}
-use Rattle.run_laws.proofs.Sums.{size_nonneg, each_map, total-append}
+use Rattle.rational.proofs.Over.{le_q_in, lt_q_out}
+use Rattle.run_laws.proofs.Sums.{each_map, total-append}
 use Rattle.run_laws.proofs.Counts.{left_le, arrived_rises, upto_before}
 use Rattle.run_laws.proofs.Heads.{sum_of}
 use Rattle.run_laws.proofs.States.{sound_next, sound_after, balance_after, work_after, done_by}
 use Rattle.run_laws.proofs.Cuts.{upto_edge, IsBefore, at_time}
 use Rattle.run_laws.proofs.Gone.{complete_leaves, first_left, left_nonneg, after-append}
-use Rattle.run_laws.proofs.Waiting.{of_class, bits_of, class-append, sum_class, size_pos, NotOver, done_below, allowed-append, all_upto, combine}
+use Rattle.run_laws.proofs.Waiting.{of_class, bits_of, class-append, sum_class, size_pos, NotOver, done_below, allowed-append, all_upto, combine, bits_nonneg}
 use Rattle.run_laws.proofs.Delay.{stay_at_most}
 use Rattle.run_laws.proofs.Deviations.{Within}
 use Rattle.run_laws.proofs.Oldest.{departures_of, arrivals_of, queue_order, left_part, oldest}
-
-bits_nonneg : (cs : List Card) → int (pos 0) ≤ℚ bits_of cs
-bits_nonneg [] = le_refl (int (pos 0))
-bits_nonneg (c ∷ cs) =
-    let h = size_nonneg c in
-    let k = bits_nonneg cs in
-    with2 (size c) (bits_of cs) (λ c. omega (arith, c.le, c.lt, c.same))
 
 -- a beginning of a list that is less than D and p is a beginning of D
 record Begins (gone inside D rest : List Card) (p : Card) : Type 0 where
@@ -74,7 +67,7 @@ over_left server end σ V C p t s (Some u) a e n k l m = λ o.
     let first = complete_leaves server end σ V u a e o.complete n in
     let counted : C u.card ≡ true = subst (λ (x : Card). C x ≡ true) (sym o.is_card) k in
     let over = o.over in
-    let left = first_left C (before s) u.card u.last.end V first counted (lt_yes (with3 u.last.end t s (λ c. omega (arith, c.le, c.lt, c.same)))) in
+    let left = first_left C (before s) u.card u.last.end V first counted (lt_q_out _ _ (with3 u.last.end t s (λ c. omega (arith, c.le, c.lt, c.same)))) in
     let same : size u.card ≡ size p = ap size o.is_card in
     with3 (size u.card) (size p) (total (leaves C (before s)) V) (λ c. omega (arith, c.le, c.lt, c.same))
 
@@ -85,7 +78,7 @@ not_worked_before server end V front back C q p u t s lawful joined g counted l 
     let d = server.discipline in
     let all = allowed-append server end (start d) front (Arrives p u ∷ back) (subst (AllAllowed server end (start d)) joined lawful.allowed) in
     let upto_u = all_upto server end (start d) front back (Arrives p u) (subst (AllAllowed server end (start d)) joined lawful.allowed) in
-    let upto_t = each_map (IsBefore (upto u)) (λ x. time_of x ≤ℚ t) (λ x e. le_trans (le_from (time_of x) u e) l) front upto_u in
+    let upto_t = each_map (IsBefore (upto u)) (λ x. time_of x ≤ℚ t) (λ x e. le_trans (le_q_in (time_of x) u e) l) front upto_u in
     let one = after d (start d) front in
     let sound_one = sound_after server end (start d) front all.0 tt in
     let two = next d one (Arrives p u) in

@@ -1,4 +1,3 @@
-pub mod Tests
 pub mod Levels
 pub mod Deviations
 pub mod Clips

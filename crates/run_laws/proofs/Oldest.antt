@@ -4,14 +4,15 @@ use Rattle.std.proofs.Common.{arith, sym, ap, ◌∙◌, refl, inl, inr, subst, 
 use Rattle.std.proofs.lemmas.Bool.{cases_Bool, both_ways}
 use Rattle.rational.specs.Rational.{ℚ, int, ◌+ℚ◌, ◌≤ℚ◌, ◌<ℚ◌}
 use Rattle.rational.proofs.Laws.{le_refl}
-use Rattle.rational.proofs.Linear.{with1, with3, with4, with5}
+use Rattle.rational.proofs.Linear.{with3, with4, with5}
 use Rattle.run_laws.specs.Cards.{Card, size, Class, ServerStep, Arrives, Works, Leaves, Visits, IsOfQueue, IsPart}
 use Rattle.run_laws.specs.Servers.{Server, Under, ServerState, done_at, start, without_head}
 use Rattle.run_laws.specs.Next.{next, after}
 use Rattle.run_laws.specs.Allows.{AllAllowed, IsLawfulView}
 use Rattle.run_laws.specs.Counts.{when, total, arrives, leaves, before, upto, arrived, arrived_upto, worked, departed}
-use Rattle.run_laws.proofs.Tests.{le_yes, lt_no, lt_from}
-use Rattle.run_laws.proofs.Sums.{size_nonneg, when_true, when_false, when_nonneg, when_le, Each, each_map, each_all, each-append, total-append, total_nonneg, total_none}
+use Rattle.rational.proofs.Over.{le_q_out, lt_q_in}
+use Rattle.rational.proofs.MinMax.{lt_q_not}
+use Rattle.run_laws.proofs.Sums.{size_nonneg, when_true, when_false, when_nonneg, when_le, Each, each_map, each_all, each-append, total-append, total_nonneg, total_none, add_nothing}
 use Rattle.run_laws.proofs.Counts.{arrived_le, before_upto, arrives_nonneg}
 use Rattle.run_laws.proofs.Heads.{sum_of}
 use Rattle.run_laws.proofs.States.{IsSound, IsSoundFor, sound_next, leaving, if_true, done_by, done_at_most}
@@ -64,9 +65,6 @@ part_no f Q c s e = elim (cases_Bool (f c)) [
   | inl k ↦ absurd (both_ways (Q c) e (s c k))
   | inr k ↦ k
 ]
-
-add_nothing : (x : ℚ) → int (pos 0) +ℚ x ≡ x
-add_nothing x = with1 x (λ c. omega (arith, c.le, c.lt, c.same))
 
 part_bits : (f Q : Class) (c : Card) (cs : List Card) (x : ℚ) → IsPart f Q → x ≡ bits_of (of_class f cs) → when (f c) (size c) +ℚ x ≡ bits_of (of_class f (if Q c then c ∷ cs else cs))
 part_bits f Q c cs x s h = elim (cases_Bool (f c)) [
@@ -183,7 +181,7 @@ came_before : (server : Server) (end : ℚ) (V front back : List ServerStep) (p 
 came_before server end V front back p u f lawful joined =
     let d = server.discipline in
     let all = allowed-append server end (start d) front (Arrives p u ∷ back) (subst (AllAllowed server end (start d)) joined lawful.allowed) in
-    let at_u = lt_no (le_refl u) in
+    let at_u = lt_q_not _ _ (le_refl u) in
     let later = all_after server end (next d (after d (start d) front) (Arrives p u)) back (before u) u (before_edge u) all.1.1 at_u in
     let none : total (arrives f (before u)) (Arrives p u ∷ back) ≡ int (pos 0) =
     total_none (arrives f (before u)) (Arrives p u ∷ back) (each_map (IsAfter (before u)) (λ x. arrives f (before u) x ≡ int (pos 0)) (no_arrives f (before u)) (Arrives p u ∷ back) (at_u, later)) in
@@ -195,7 +193,7 @@ came_with : (V front back : List ServerStep) (p : Card) (u : ℚ) (f : Class) �
 came_with V front back p u f joined =
     let both : arrived_upto f V u ≡ total (arrives f (upto u)) front +ℚ (arrives f (upto u) (Arrives p u) +ℚ total (arrives f (upto u)) back) =
     ap (total (arrives f (upto u))) joined ∙ total-append (arrives f (upto u)) front (Arrives p u ∷ back) in
-    let one : arrives f (upto u) (Arrives p u) ≡ when (f p) (size p) = if_true (f p) (upto u u) (size p) (le_yes (le_refl u)) in
+    let one : arrives f (upto u) (Arrives p u) ≡ when (f p) (size p) = if_true (f p) (upto u u) (size p) (le_q_out _ _ (le_refl u)) in
     let rest = total_nonneg (arrives f (upto u)) back (each_all (λ x. int (pos 0) ≤ℚ arrives f (upto u) x) (arrives_nonneg f (upto u)) back) in
     with5 (arrived_upto f V u) (total (arrives f (upto u)) front) (arrives f (upto u) (Arrives p u)) (when (f p) (size p)) (total (arrives f (upto u)) back) (λ c. omega (arith, c.le, c.lt, c.same))
 
@@ -230,7 +228,7 @@ with_oldest server end V Q q t lawful g a (p ∷ rest) e =
       is = record {
         joined = joined;
         counted = found.counted;
-        earlier = lt_from u t is_before;
+        earlier = lt_q_in u t is_before;
         some_bits = (allowed-append server end (start d) found.front (Arrives p u ∷ (found.back ++ a.at.back)) (subst (AllAllowed server end (start d)) joined lawful.allowed)).1.0.1.some_bits;
         left = left;
         came = λ f s. rw (left f s) (came_before server end V found.front (found.back ++ a.at.back) p u f lawful joined);

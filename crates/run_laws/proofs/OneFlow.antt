@@ -1,5 +1,6 @@
 -- One flow over a first in, first out server: the two deviations bound its delays and the backlog.
-use Rattle.std.specs.Prelude.{Option, Some, None, ◌≡◌, ◌≢◌, ◌<◌, ◌≤◌, ℕ, pos, ◌==◌, true, List, [], ◌∷◌, if◌then◌else◌}
+use Rattle.run_laws.proofs.Entries.{queue_of_hop}
+use Rattle.std.specs.Prelude.{Some, None, ◌≡◌, ◌≤◌, ℕ, ◌==◌, true, [], ◌∷◌}
 use Rattle.std.proofs.Common.{arith, sym, ap, ◌∙◌, refl, inl, inr, subst}
 use Rattle.std.proofs.lemmas.Bool.{cases_Bool, eqb-true, eq-eqb}
 use Rattle.rational.specs.Rational.{ℚ, ◌-ℚ◌}
@@ -10,16 +11,16 @@ use Rattle.upp_curve.specs.Pointwise.{packetised}
 use Rattle.run_laws.specs.Runs.{SpecRun}
 use Rattle.run_laws.specs.Cards.{Card, whole, of_queue, of_flow}
 use Rattle.run_laws.specs.Counts.{within}
-use Rattle.run_laws.specs.Premises.{EachArrival, KeepsArrivals, KeepsSizes, IsZeroAtStart}
+use Rattle.run_laws.specs.Premises.{EachArrival, KeepsArrivals, IsZeroAtStart}
 use Rattle.upp_curve.specs.Functions.{IsRising}
-use Rattle.run_laws.specs.Routes.{Hop, Routes, server_at, link_at, route_of, queue_at, first_server, server_after}
+use Rattle.run_laws.specs.Routes.{Routes, server_at, link_at, route_of, queue_at, first_server, server_after}
 use Rattle.run_laws.specs.Views.{view}
 use Rattle.run_laws.specs.Lawful.{run_start, IsLawful}
 use Rattle.run_laws.specs.RunPremises.{KeepsPremises}
 use Rattle.run_laws.specs.Bounds.{IsOnlyFlow, IsQueueBounded, IsFlowBounded}
-use Rattle.run_laws.proofs.Arrivals.{arrivals_map, same_arrivals, IsPassing, all_pass, KnowsPackets}
+use Rattle.run_laws.proofs.Arrivals.{arrivals_map, same_arrivals, IsPassing, all_pass}
 use Rattle.run_laws.proofs.FirstHop.{BeginsAt, first_hop_keeps}
-use Rattle.run_laws.proofs.OneHop.{IsOneHop, one_hop_delays}
+use Rattle.run_laws.proofs.OneHop.{one_hop_delays}
 use Rattle.run_laws.proofs.FifoQueue.{fifo_queue_is_served}
 use Rattle.run_laws.proofs.Views.{views_are_lawful}
 use Rattle.run_laws.proofs.Delay.{delay_from_service}
@@ -41,15 +42,12 @@ record IsIts (packet : ℕ → ℕ) (i : ℕ) (c : Card) : Type 0 where
   its_queue : c.queue ≡ 0
   small : c.bits ≤ packet i
 
-at_first : (s q : ℕ) → queue_at s (record { server = s; queue = q } ∷ []) ≡ q
-at_first s q = rw (eq-eqb s s refl) refl
-
 is_its : (net : Routes) (packet : ℕ → ℕ) (s i : ℕ) → IsOnlyFlow net s i → (c : Card) → IsPassing net packet s c → IsIts packet i c
 is_its net packet s i only c p =
     let e : c.flow ≡ i = only.alone c.flow p.is_live p.passes in
     record {
       its_flow = e;
-      its_queue = p.its_queue ∙ ap (λ (j : ℕ). queue_at s (route_of net j).hops) e ∙ ap (queue_at s) only.path ∙ at_first s 0;
+      its_queue = p.its_queue ∙ ap (λ (j : ℕ). queue_at s (route_of net j).hops) e ∙ ap (queue_at s) only.path ∙ queue_of_hop s 0;
       small = subst (λ (j : ℕ). c.bits ≤ packet j) e p.small;
     }
 

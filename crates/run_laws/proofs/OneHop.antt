@@ -1,7 +1,7 @@
 -- A packet of a flow of one hop: its delay is its delay there, and the link.
-use Rattle.std.specs.Prelude.{◌≡◌, ◌<◌, ℕ, pos, ◌==◌, Bool, true, false, ◌&&◌, List, [], ◌∷◌, ◌++◌, length}
+use Rattle.std.specs.Prelude.{◌≡◌, ℕ, pos, ◌==◌, true, List, [], ◌∷◌, ◌++◌, length}
 use Rattle.std.proofs.Common.{arith, sym, ap, ◌∙◌, refl, inl, inr, subst}
-use Rattle.std.proofs.lemmas.Bool.{cases_Bool, cases_eq, eqb-true, eqb-false, eq-eqb, and_left}
+use Rattle.std.proofs.lemmas.Bool.{cases_Bool, eqb-true, eq-eqb}
 use Rattle.rational.specs.Rational.{ℚ, int, ◌+ℚ◌, ◌-ℚ◌, ◌≤ℚ◌}
 use Rattle.rational.specs.Extended.{Ext, ◌≤ₑ◌, ◌+ₑ◌}
 use Rattle.rational.specs.declared.Extended.TheVariants.{Fin, Inf}
@@ -9,14 +9,14 @@ use Rattle.rational.proofs.Laws.{le_refl}
 use Rattle.rational.proofs.Linear.{with2, with5}
 use Rattle.run_laws.specs.declared.steps.Step.{Step}
 use Rattle.run_laws.specs.declared.steps.Step.TheVariants.{Enter, Reach, Work, Leave, Visit}
-use Rattle.run_laws.specs.Cards.{Card, Class, of_queue, ServerStep, Arrives, Works, Leaves, Visits}
+use Rattle.run_laws.specs.Cards.{Class, of_queue}
 use Rattle.run_laws.specs.Delays.{gone_at, kept, hop_delays, AreAtMost}
 use Rattle.run_laws.specs.FlowDelays.{delivered_at, delays_from}
 use Rattle.run_laws.specs.Routes.{Hop, Routes, route_of, link_at, queue_at, first_server, last_server}
-use Rattle.run_laws.specs.Views.{Entry, entry_of, hops_of, card_of, entered_after, server_of, seen, view_from}
-use Rattle.run_laws.specs.Lawful.{RunState, next_run, AllAllowedInRun, IsKnown}
+use Rattle.run_laws.specs.Views.{Entry, hops_of, card_of, entered_after, server_of, seen, view_from}
+use Rattle.run_laws.specs.Lawful.{RunState, next_run, AllAllowedInRun}
 use Rattle.run_laws.proofs.Delay.{kept_most, kept_first, kept_rest}
-use Rattle.run_laws.proofs.Entries.{entry_last}
+use Rattle.run_laws.proofs.Entries.{entry_last, queue_of_hop}
 
 -- ---- where the packet leaves its server, it is delivered a link later
 gone_other : (net : Routes) (end : ℚ) (s p : ℕ) (entered : List Entry) (x : Step) (xs : List Step) → gone_at end p (seen net entered x ∷ view_from net s (entered_after entered x) xs) ≡ gone_at end p (view_from net s (entered_after entered x) xs)
@@ -80,13 +80,10 @@ entering net end r i s q p b t xs most hop turn h =
     let its_queue : queue_at (first_server (route_of net i).hops) (hops_of net (r.entered ++ e ∷ []) p) ≡ q =
     ap (λ (y : Entry). queue_at (first_server (route_of net i).hops) (route_of net y.flow).hops) (entry_last r.entered e p turn)
     ∙ ap (λ (hs : List Hop). queue_at (first_server hs) hs) hop.path
-    ∙ at_first s q in
+    ∙ queue_of_hop s q in
     let own : of_queue q c ≡ true = eq-eqb _ q its_queue in
     let gone = kept_first (of_queue q c) (gone_at end p V -ℚ t) (hop_delays (of_queue q) end V) most own k in
     rw last (later t (gone_at end p V) (delivered_at net end s p xs) (link_at net s) most (delivered_most net end s p (r.entered ++ e ∷ []) xs hop.link_on) gone)
-  where
-    at_first : (s q : ℕ) → queue_at s (record { server = s; queue = q } ∷ []) ≡ q
-    at_first s q = rw (eq-eqb s s refl) refl
 
 pub one_hop_delays : (net : Routes) (end : ℚ) (r : RunState) (xs : List Step) (i s q : ℕ) (most : Ext) → IsOneHop net i s q → AllAllowedInRun net end r xs
     → AreAtMost most (hop_delays (of_queue q) end (view_from net s r.entered xs)) → AreAtMost (most +ₑ Fin (link_at net s)) (delays_from net i end xs)

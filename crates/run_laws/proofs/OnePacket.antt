@@ -1,26 +1,26 @@
 -- One flow of 12000 bits over one server of rate 100 and latency 10: the run keeps its curves, and the bound of 130 is met with equality.
-use Rattle.std.specs.Prelude.{◌≡◌, ◌<◌, ◌⊎◌, ℕ, zero, suc, pos, true, ◌==◌, ◌&&◌, List, [], ◌∷◌}
-use Rattle.std.proofs.Common.{arith, sym, ap, ◌∙◌, refl, subst, inl, inr}
-use Rattle.rational.specs.Rational.{ℚ, int, ◌+ℚ◌, ◌-ℚ◌, ◌*ℚ◌, ◌/ℚ◌, ◌≤ℚ◌, ◌<ℚ◌, lt_q}
+use Rattle.std.specs.Prelude.{◌≡◌, ◌<◌, ℕ, zero, suc, true, ◌==◌, ◌&&◌, List, [], ◌∷◌}
+use Rattle.std.proofs.Common.{arith, ap, ◌∙◌, refl, subst, inl, inr}
+use Rattle.rational.specs.Rational.{ℚ, ◌+ℚ◌, ◌-ℚ◌, ◌*ℚ◌, ◌/ℚ◌, ◌≤ℚ◌, ◌<ℚ◌, lt_q}
 use Rattle.rational.specs.MinMax.{max_q}
-use Rattle.rational.specs.Extended.{Ext, ◌≤ₑ◌, ◌+ₑ◌}
+use Rattle.rational.specs.Extended.{◌≤ₑ◌}
 use Rattle.rational.specs.declared.Extended.TheVariants.{Fin}
-use Rattle.rational.proofs.MinMax.{max_q_left, max_q_right}
-use Rattle.rational.proofs.Laws.{le_refl, le_of_lt, le_or_lt, between, mul_sub, mul_comm}
+use Rattle.rational.proofs.MinMax.{max_q_left, max_q_right, lt_q_not, le_q_not}
+use Rattle.rational.proofs.Laws.{le_refl, le_or_lt, between, mul_sub, mul_comm}
 use Rattle.rational.proofs.Linear.{with1, with2, with3, with4, with5}
 use Rattle.upp_curve.specs.Deviations.{IsHorizontalDeviation}
 use Rattle.upp_curve.proofs.KindValues.{bucket_is, service_is}
 use Rattle.upp_curve.proofs.BucketDeviations.{delay}
-use Rattle.run_laws.specs.Cards.{Card, whole, all, ServerStep, Arrives, Works, Leaves}
-use Rattle.run_laws.specs.Servers.{Span, clip}
+use Rattle.run_laws.specs.Cards.{whole, all, ServerStep}
+use Rattle.run_laws.specs.Servers.{clip}
 use Rattle.run_laws.specs.Counts.{when, within, arrived, worked}
 use Rattle.run_laws.specs.Premises.{KeepsService, IsBusy}
 use Rattle.run_laws.specs.Views.{view}
-use Rattle.run_laws.specs.RunPremises.{entered_in, KeepsPremises}
+use Rattle.run_laws.specs.RunPremises.{entered_in}
 use Rattle.run_laws.specs.Examples.{one_server, one_packet, its_arrivals, its_service, OnePacketReachesItsBound}
-use Rattle.run_laws.proofs.Tests.{lt_no, le_yes, le_no, quotient}
+use Rattle.rational.proofs.Over.{le_q_out}
 use Rattle.run_laws.proofs.Sums.{when_true, when_false, when_most}
-use Rattle.run_laws.proofs.Clips.{clip_early}
+use Rattle.run_laws.proofs.Clips.{clip_early, quotient}
 use Rattle.run_laws.proofs.Small.{le_t, lt_t}
 use Rattle.run_laws.proofs.SmallRuns.{one_packet_is_lawful}
 
@@ -32,12 +32,12 @@ steps = view one_server one_packet 0
 clip_line : (x : ℚ) → whole 10 <ℚ x → x ≤ℚ whole 130 → clip record { start = whole 10; end = whole 130; bits = whole 12000 } x ≡ whole 100 *ℚ (x -ℚ whole 10)
 unfolding clip
 clip_line x h k = elim (le_or_lt (whole 130) x) [
-  | inl l ↦ rw (le_no h, le_yes l) (with1 x (λ c. omega (arith, c.le, c.lt, c.same)))
+  | inl l ↦ rw (le_q_not _ _ h, le_q_out _ _ l) (with1 x (λ c. omega (arith, c.le, c.lt, c.same)))
   | inr l ↦
       let part = (x -ℚ whole 10) /ℚ (whole 130 -ℚ whole 10) in
       let e = quotient (x -ℚ whole 10) (whole 130 -ℚ whole 10) (with1 (whole 0) (λ c. omega (arith, c.le, c.lt, c.same))) in
       let f = mul_sub part (whole 130) (whole 10) in
-      rw (le_no h, le_no l) (line part x (e) f (mul_comm part (whole 130)) (mul_comm part (whole 10)))
+      rw (le_q_not _ _ h, le_q_not _ _ l) (line part x (e) f (mul_comm part (whole 130)) (mul_comm part (whole 10)))
 ]
   where
     line : (part x : ℚ) → part *ℚ (whole 130 -ℚ whole 10) ≡ x -ℚ whole 10 → part *ℚ (whole 130 -ℚ whole 10) ≡ part *ℚ whole 130 -ℚ part *ℚ whole 10 → part *ℚ whole 130 ≡ whole 130 *ℚ part → part *ℚ whole 10 ≡ whole 10 *ℚ part → whole 12000 *ℚ part ≡ whole 100 *ℚ (x -ℚ whole 10)
@@ -50,7 +50,7 @@ work_is x =
 
 nothing_before : (x : ℚ) → x ≤ℚ whole 0 → arrived all steps x ≡ whole 0
 nothing_before x h =
-    let e = when_false (true && lt_q (whole 0) x) (whole 12000) (lt_no h) in
+    let e = when_false (true && lt_q (whole 0) x) (whole 12000) (lt_q_not _ _ h) in
     with1 (when (true && lt_q (whole 0) x) (whole 12000)) (λ c. omega (arith, c.le, c.lt, c.same))
 
 from_0 : (a b : ℚ) → a <ℚ b → IsBusy steps a b → whole 0 ≤ℚ a

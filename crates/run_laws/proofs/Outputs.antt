@@ -17,28 +17,25 @@ use Rattle.run_laws.specs.Allows.{IsLawfulView, AllAllowed}
 use Rattle.run_laws.specs.Counts.{leaves, before, upto, within, arrived, arrived_upto, arrived_in, departed, departed_upto, departed_in}
 use Rattle.run_laws.specs.Premises.{KeepsArrivals, KeepsSizes}
 use Rattle.run_laws.specs.Serves.{Serves}
-use Rattle.run_laws.proofs.Tests.{le_no}
+use Rattle.rational.proofs.MinMax.{le_q_not}
 use Rattle.run_laws.proofs.Levels.{finite_below, minus_le}
-use Rattle.run_laws.proofs.Sums.{each_all, total_sum, Each, total_none}
+use Rattle.run_laws.proofs.Sums.{each_all, total_sum, Each, total_none, nothing}
 use Rattle.run_laws.proofs.Counts.{arrived_le, arrived_nonneg, before_upto, arrived_in_is, window_nonneg, window_term}
 use Rattle.run_laws.proofs.Cuts.{time_in_order, no_leaves}
 use Rattle.run_laws.proofs.Orders.{left_worked, left_upto_worked, worked_arrived}
 use Rattle.run_laws.proofs.Stretches.{none_at_first}
 use Rattle.run_laws.proofs.Service.{packets_are_served}
 
-nothing : int (pos 0) ≡ int (pos 0) +ℚ int (pos 0)
-nothing = with1 (int (pos 0)) (λ c. omega (arith, c.le, c.lt, c.same))
-
-window_step : (C : Class) (s t : ℚ) → s ≤ℚ t → (x : ServerStep) → leaves C (upto t) x ≡ leaves C (before s) x +ℚ leaves C (within s t) x
-window_step C s t h (Arrives c u) = nothing
-window_step C s t h (Works c a b w) = nothing
-window_step C s t h (Leaves c u) = window_term (C c) s t u (size c) h
-window_step C s t h (Visits q u) = nothing
+left_window_step : (C : Class) (s t : ℚ) → s ≤ℚ t → (x : ServerStep) → leaves C (upto t) x ≡ leaves C (before s) x +ℚ leaves C (within s t) x
+left_window_step C s t h (Arrives c u) = nothing
+left_window_step C s t h (Works c a b w) = nothing
+left_window_step C s t h (Leaves c u) = window_term (C c) s t u (size c) h
+left_window_step C s t h (Visits q u) = nothing
 
 pub departed_in_is : (C : Class) (V : List ServerStep) (s t : ℚ) → s ≤ℚ t → departed_upto C V t ≡ departed C V s +ℚ departed_in C V s t
 departed_in_is C V s t h =
     total_sum (leaves C (upto t)) (leaves C (before s)) (leaves C (within s t)) V
-    (each_all (λ x. leaves C (upto t) x ≡ leaves C (before s) x +ℚ leaves C (within s t) x) (window_step C s t h) V)
+    (each_all (λ x. leaves C (upto t) x ≡ leaves C (before s) x +ℚ leaves C (within s t) x) (left_window_step C s t h) V)
 
 pub left_came : (server : Server) (end : ℚ) (V : List ServerStep) (C : Class) (t : ℚ) → IsLawfulView server end V → departed_upto C V t ≤ℚ arrived_upto C V t
 left_came server end V C t h = le_trans (left_upto_worked server end V C t h) (le_trans (worked_arrived server end V C t h) (arrived_le C V (before t) (upto t) (before_upto t)))
@@ -73,7 +70,7 @@ none_after : (server : Server) (end : ℚ) (σ : ServerState) (V : List ServerSt
 none_after server end σ [] C s t l a = tt
 none_after server end σ (x ∷ V) C s t l a =
     let i = (time_in_order server end σ x a.0).in_run in
-    (no_leaves C (within s t) x (and_left (le_q s (time_of x)) (le_q (time_of x) t) (le_no (with3 s (time_of x) end (λ c. omega (arith, c.le, c.lt, c.same))))), none_after server end (next server.discipline σ x) V C s t l a.1)
+    (no_leaves C (within s t) x (and_left (le_q s (time_of x)) (le_q (time_of x) t) (le_q_not _ _ (with3 s (time_of x) end (λ c. omega (arith, c.le, c.lt, c.same))))), none_after server end (next server.discipline σ x) V C s t l a.1)
 
 pub nothing_leaves : (server : Server) (end : ℚ) (V : List ServerStep) (C : Class) (s t : ℚ) → IsLawfulView server end V → end <ℚ s → departed_in C V s t ≡ int (pos 0)
 nothing_leaves server end V C s t lawful l = total_none (leaves C (within s t)) V (none_after server end (start server.discipline) V C s t l lawful.allowed)
@@ -85,9 +82,9 @@ early_time end = elim (le_or_lt end (int (pos 0))) [
   | inr h ↦ (int (pos 0), le_of_lt h, le_refl (int (pos 0)))
 ]
 
-after_run : (server : Server) (end : ℚ) (V : List ServerStep) (C : Class) (bits : ℕ) (α β : ℚ → Ext) (s t : ℚ) (most : Ext) → IsLawfulView server end V → KeepsSizes C bits V → KeepsArrivals C α V → Serves C β end V
+past_run : (server : Server) (end : ℚ) (V : List ServerStep) (C : Class) (bits : ℕ) (α β : ℚ → Ext) (s t : ℚ) (most : Ext) → IsLawfulView server end V → KeepsSizes C bits V → KeepsArrivals C α V → Serves C β end V
     → s ≤ℚ t → end <ℚ s → IsDeconvolution α (packetised β (whole bits)) (t -ℚ s) most → Fin (departed_in C V s t) ≤ₑ most
-after_run server end V C bits α β s t most lawful sizes keeps serves h l is =
+past_run server end V C bits α β s t most lawful sizes keeps serves h l is =
     let P = packetised β (whole bits) in
     let (m, in_time, early) = early_time end in
     let (r, served) = packets_are_served server end V C β bits lawful sizes serves m in_time in
@@ -114,5 +111,5 @@ pub output_from_service : (server : Server) (end : ℚ) (V : List ServerStep) (C
     → s ≤ℚ t → IsDeconvolution α (packetised β (whole bits)) (t -ℚ s) most → Fin (departed_in C V s t) ≤ₑ most
 output_from_service server end V C bits α β s t most lawful sizes keeps serves h is = elim (le_or_lt s end) [
   | inl l ↦ in_run server end V C bits α β s t most lawful sizes keeps serves h l is
-  | inr l ↦ after_run server end V C bits α β s t most lawful sizes keeps serves h l is
+  | inr l ↦ past_run server end V C bits α β s t most lawful sizes keeps serves h l is
 ]

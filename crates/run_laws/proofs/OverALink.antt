@@ -1,19 +1,17 @@
 -- A packet on a link between two servers.
-use Rattle.std.specs.Prelude.{Option, Some, None, ◌≡◌, ◌<◌, ℕ, zero, suc, true, List, [], ◌∷◌, All}
-use Rattle.std.proofs.Common.{arith, ap, ◌∙◌, refl, inl, inr}
-use Rattle.rational.specs.Rational.{ℚ, ◌+ℚ◌, ◌-ℚ◌, ◌≤ℚ◌, ◌<ℚ◌, le_q}
+use Rattle.std.specs.Prelude.{None, ◌≡◌, zero, suc, [], ◌∷◌, All}
+use Rattle.std.proofs.Common.{arith, ap, refl, inl, inr}
+use Rattle.rational.specs.Rational.{ℚ, ◌+ℚ◌, ◌<ℚ◌}
 use Rattle.rational.proofs.Laws.{le_refl}
 use Rattle.rational.proofs.Linear.{with1}
-use Rattle.run_laws.specs.declared.steps.Step.{Step}
-use Rattle.run_laws.specs.declared.steps.Step.TheVariants.{Enter, Reach, Work, Leave, Visit}
-use Rattle.run_laws.specs.Cards.{Card, whole}
+use Rattle.run_laws.specs.Cards.{whole}
 use Rattle.run_laws.specs.Servers.{ServerState}
 use Rattle.run_laws.specs.Allows.{IsComplete}
 use Rattle.run_laws.specs.FlowDelays.{delays}
-use Rattle.run_laws.specs.Lawful.{Due, IsLawful, run_start, after_run, next_run, AllAllowedInRun}
+use Rattle.run_laws.specs.Lawful.{Due, IsLawful, run_start, after_run, AllAllowedInRun}
 use Rattle.run_laws.specs.Examples.{ends_at, two_servers, first_hop, both_hops, OverALink}
-use Rattle.run_laws.proofs.Tests.{le_yes}
-use Rattle.run_laws.proofs.Small.{le_t, lt_t, sum_t, in_time, enters, works, leaves}
+use Rattle.rational.proofs.Over.{le_q_out}
+use Rattle.run_laws.proofs.Small.{le_t, lt_t, sum_t, enters, works, leaves}
 
 first_allowed : AllAllowedInRun two_servers (whole 14) (run_start two_servers) first_hop
 first_allowed = (
@@ -86,7 +84,7 @@ over_both_hops = record {
     ),
   );
   none_complete = both_idle _ _ refl refl;
-  none_overdue = rw (le_yes (le_refl (whole 10 +ℚ whole 5))) none_left;
+  none_overdue = rw (le_q_out _ _ (le_refl (whole 10 +ℚ whole 5))) none_left;
 }
   where
     none_left : All (λ (d : Due). whole 30 <ℚ d.time) []

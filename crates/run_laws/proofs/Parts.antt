@@ -1,12 +1,12 @@
 -- The counts of a class are the sums of its parts'.
-use Rattle.std.specs.Prelude.{◌≡◌, pos, Bool, true, false, ◌&&◌, ◌||◌, List}
+use Rattle.std.specs.Prelude.{◌≡◌, Bool, true, false, ◌&&◌, ◌||◌, List}
 use Rattle.std.proofs.Common.{arith}
-use Rattle.rational.specs.Rational.{ℚ, int, ◌+ℚ◌}
+use Rattle.rational.specs.Rational.{ℚ, ◌+ℚ◌}
 use Rattle.rational.proofs.Linear.{with1}
 use Rattle.run_laws.specs.Cards.{size, Class, AreParts, ServerStep, Arrives, Works, Leaves, Visits}
 use Rattle.run_laws.specs.Servers.{clip}
 use Rattle.run_laws.specs.Counts.{when, arrives, leaves, works, before, arrived, worked, departed}
-use Rattle.run_laws.proofs.Sums.{each_all, total_sum}
+use Rattle.run_laws.proofs.Sums.{each_all, total_sum, nothing}
 
 -- ---- the counts of the parts add up
 part_when : (Q f g test : Bool) (x : ℚ) → Q ≡ (f || g) → (f && g) ≡ false → when (Q && test) x ≡ when (f && test) x +ℚ when (g && test) x
@@ -24,9 +24,6 @@ part_all Q true true x h k = absurd (cc)
 part_all Q true false x h k = rw h (with1 x (λ c. omega (arith, c.le, c.lt, c.same)))
 part_all Q false true x h k = rw h (with1 x (λ c. omega (arith, c.le, c.lt, c.same)))
 part_all Q false false x h k = rw h (with1 x (λ c. omega (arith, c.le, c.lt, c.same)))
-
-nothing : int (pos 0) ≡ int (pos 0) +ℚ int (pos 0)
-nothing = with1 (int (pos 0)) (λ c. omega (arith, c.le, c.lt, c.same))
 
 arrives_parts : (Q f g : Class) (p : ℚ → Bool) → AreParts Q f g → (x : ServerStep) → arrives Q p x ≡ arrives f p x +ℚ arrives g p x
 arrives_parts Q f g p a (Arrives c t) = part_when (Q c) (f c) (g c) (p t) (size c) (a.of_one c) (a.apart c)

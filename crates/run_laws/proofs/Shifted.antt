@@ -1,7 +1,7 @@
 -- What leaves in a closed window, by the delay.
-use Rattle.std.specs.Prelude.{Option, Some, None, ◌≡◌, ◌≢◌, ◌≤◌, ℕ, pos, ◌==◌, Bool, true, false, ◌&&◌, List, [], ◌∷◌, ◌++◌}
+use Rattle.std.specs.Prelude.{Option, Some, None, ◌≡◌, ◌≢◌, ℕ, pos, ◌==◌, Bool, true, false, ◌&&◌, List, [], ◌∷◌, ◌++◌}
 use Rattle.std.proofs.Common.{arith, sym, ap, ◌∙◌, refl, inl, inr, subst}
-use Rattle.std.proofs.lemmas.Bool.{cases_Bool, eqb-true, eq-eqb, ne_eqb, and_left, and_right, and_from, and_parts}
+use Rattle.std.proofs.lemmas.Bool.{cases_Bool, eq-eqb, ne_eqb, and_left, and_right, and_from, and_parts}
 use Rattle.rational.specs.Rational.{ℚ, int, ◌+ℚ◌, ◌-ℚ◌, ◌≤ℚ◌, ◌<ℚ◌}
 use Rattle.rational.specs.Extended.{Ext, ◌≤ₑ◌}
 use Rattle.rational.specs.declared.Extended.TheVariants.{Fin, Inf}
@@ -12,16 +12,16 @@ use Rattle.upp_curve.specs.Pointwise.{shifted}
 use Rattle.upp_curve.specs.Functions.{IsRising}
 use Rattle.upp_curve.specs.Deviations.{IsHorizontalDeviation}
 use Rattle.run_laws.specs.Cards.{Card, size, Class, IsOfQueue, IsPart, ServerStep, Arrives, Works, Leaves, Visits}
-use Rattle.run_laws.specs.Servers.{Server, ServerState, Under, done, start}
+use Rattle.run_laws.specs.Servers.{Server, ServerState, Under, start}
 use Rattle.run_laws.specs.Next.{next, after}
 use Rattle.run_laws.specs.Allows.{AllAllowed, IsLawfulView, MayLeave}
 use Rattle.run_laws.specs.Counts.{when, total, arrives, leaves, before, upto, arrived, arrived_upto, arrived_in, departed, departed_upto, departed_in}
 use Rattle.run_laws.specs.Premises.{EachArrival, KeepsArrivals, NoneTwice}
 use Rattle.run_laws.specs.Serves.{Serves}
-use Rattle.run_laws.specs.Delays.{gone_at, kept, hop_delays, AreAtMost}
-use Rattle.run_laws.proofs.Tests.{lt_yes}
-use Rattle.run_laws.proofs.Sums.{size_nonneg, when_true, when_false, when_most, when_le, when_rises, when_nonneg, total-append}
-use Rattle.run_laws.proofs.Counts.{arrived_le, arrived_rises, before_upto, arrived_in_is, upto_arrived, arrivals_nonneg, window_nonneg}
+use Rattle.run_laws.specs.Delays.{gone_at, hop_delays, AreAtMost}
+use Rattle.rational.proofs.Over.{lt_q_out}
+use Rattle.run_laws.proofs.Sums.{size_nonneg, when_true, when_false, when_most, when_rises, total-append}
+use Rattle.run_laws.proofs.Counts.{arrived_rises, arrived_in_is, upto_arrived, window_nonneg}
 use Rattle.run_laws.proofs.Heads.{sum_of}
 use Rattle.run_laws.proofs.States.{IsSound, IsSoundFor, sound_next, sound_after}
 use Rattle.run_laws.proofs.Orders.{at_before}
@@ -48,8 +48,8 @@ from_lag server end V C α d s t lawful keeps d_on lag h =
     (subst (λ (x : ℚ). Fin (arrived_in C V (s -ℚ d) t) ≤ₑ α x) span (keeps (s -ℚ d) t all))
 
 -- after the end nothing leaves, and no arrival curve is below 0
-after_run : (server : Server) (end : ℚ) (V : List ServerStep) (C : Class) (α : ℚ → Ext) (d s t : ℚ) → IsLawfulView server end V → KeepsArrivals C α V → int (pos 0) ≤ℚ d → end <ℚ s → s ≤ℚ t → Fin (departed_in C V s t) ≤ₑ α ((t -ℚ s) +ℚ d)
-after_run server end V C α d s t lawful keeps d_on l h =
+past_run : (server : Server) (end : ℚ) (V : List ServerStep) (C : Class) (α : ℚ → Ext) (d s t : ℚ) → IsLawfulView server end V → KeepsArrivals C α V → int (pos 0) ≤ℚ d → end <ℚ s → s ≤ℚ t → Fin (departed_in C V s t) ≤ₑ α ((t -ℚ s) +ℚ d)
+past_run server end V C α d s t lawful keeps d_on l h =
     let x = (t -ℚ s) +ℚ d in
     let on : int (pos 0) ≤ℚ x = with3 s t d (λ c. omega (arith, c.le, c.lt, c.same)) in
     let span : x -ℚ int (pos 0) ≡ x = with1 x (λ c. omega (arith, c.le, c.lt, c.same)) in
@@ -62,7 +62,7 @@ shifted_output : (server : Server) (end : ℚ) (V : List ServerStep) (C : Class)
     → (s ≤ℚ end → arrived C V (s -ℚ d) ≤ℚ departed C V s) → s ≤ℚ t → Fin (departed_in C V s t) ≤ₑ shifted α (Fin d) (t -ℚ s)
 shifted_output server end V C α d s t lawful keeps d_on lag h = elim (le_or_lt s end) [
   | inl l ↦ from_lag server end V C α d s t lawful keeps d_on (lag l) h
-  | inr l ↦ after_run server end V C α d s t lawful keeps d_on l h
+  | inr l ↦ past_run server end V C α d s t lawful keeps d_on l h
 ]
 
 -- ---- each flow of a queue: it leaves with its curve, moved by the queue's horizontal deviation
@@ -102,7 +102,7 @@ late_gone server end σ (Leaves c t ∷ V) n s a h l k =
       | inl e ↦ rw e (elim (le_or_lt s t) [
         | inl m ↦ m
         | inr m ↦
-            let one = when_true _ (size c) (and_from (c.packet == n) (before s t) e (lt_yes m)) in
+            let one = when_true _ (size c) (and_from (c.packet == n) (before s t) e (lt_q_out _ _ m)) in
             absurd (with3 term rest (size c) (λ c. omega (arith, c.le, c.lt, c.same)))
       ])
     ]
@@ -150,8 +150,8 @@ sum_part f K (c ∷ cs) part =
     with4 (when (f c) (size c)) (when (K c) (size c)) (sum_of f cs) (sum_of K cs) (λ c. omega (arith, c.le, c.lt, c.same))
 
 -- none of its number has left before s
-none_left : (server : Server) (end : ℚ) (V : List ServerStep) (C : Class) (s : ℚ) → IsLawfulView server end V → NoneTwice V → (o : Oldest V C s) → departed (of_packet o.p.packet) V s ≤ℚ int (pos 0)
-none_left server end V C s lawful twice o =
+none_of_it_left : (server : Server) (end : ℚ) (V : List ServerStep) (C : Class) (s : ℚ) → IsLawfulView server end V → NoneTwice V → (o : Oldest V C s) → departed (of_packet o.p.packet) V s ≤ℚ int (pos 0)
+none_of_it_left server end V C s lawful twice o =
     let K = of_packet o.p.packet in
     let f : Class = λ c. C c && (c.packet == o.p.packet) in
     let part : IsPart f C = λ c h. (and_parts (C c) (c.packet == o.p.packet) h).0 in
@@ -178,7 +178,7 @@ there_until : (server : Server) (end : ℚ) (V : List ServerStep) (C : Class) (s
 there_until server end V C s lawful twice l o =
     let d = server.discipline in
     let K = of_packet o.p.packet in
-    let none = none_left server end V C s lawful twice o in
+    let none = none_of_it_left server end V C s lawful twice o in
     let all = allowed-append server end (start d) o.front (Arrives o.p o.u ∷ o.back) (subst (AllAllowed server end (start d)) o.is.joined lawful.allowed) in
     let sound = sound_next server end (after d (start d) o.front) (Arrives o.p o.u) all.1.0 (sound_after server end (start d) o.front all.0 tt) in
     let parts : departed K V s ≡ total (leaves K (before s)) o.front +ℚ (int (pos 0) +ℚ total (leaves K (before s)) o.back) =

@@ -1,17 +1,17 @@
 -- Steps at whole times, allowed by computing.
-use Rattle.std.specs.Prelude.{Option, Some, None, ◌≡◌, ◌<◌, ℕ, suc, ◌+◌, leb, ltb, pos, Bool, true, ◌&&◌, ◌≤◌, List, [], ◌∷◌, ◌++◌, length}
-use Rattle.std.proofs.Common.{arith, refl}
+use Rattle.std.specs.Prelude.{Some, ◌≡◌, ◌<◌, ℕ, suc, ◌+◌, leb, ltb, true, ◌&&◌, ◌≤◌, [], ◌∷◌, ◌++◌, length}
+use Rattle.std.proofs.Common.{arith}
 use Rattle.std.proofs.lemmas.Bool.{leb-true, ltb-true, and_parts}
 use native.Mathlib.Nat.{mul-le-mul_right}
-use Rattle.rational.specs.Rational.{ℚ, int, ◌+ℚ◌, ◌-ℚ◌, ◌≤ℚ◌, ◌<ℚ◌}
+use Rattle.rational.specs.Rational.{◌+ℚ◌, ◌≤ℚ◌, ◌<ℚ◌}
 use Rattle.rational.proofs.Linear.{with2, with3}
-use Rattle.run_laws.specs.declared.steps.Step.TheVariants.{Enter, Reach, Work, Leave, Visit}
-use Rattle.run_laws.specs.Cards.{Card, whole, size, ServerStep, Arrives, Works, Leaves, Visits}
-use Rattle.run_laws.specs.Servers.{Server, Under, ServerState, done_so_far, queue_count}
+use Rattle.run_laws.specs.declared.steps.Step.TheVariants.{Enter, Work, Leave, Visit}
+use Rattle.run_laws.specs.Cards.{Card, whole}
+use Rattle.run_laws.specs.Servers.{Server, ServerState, done_so_far}
 use Rattle.run_laws.specs.Allows.{next_card, IsInTime, KeepsPace, MayArrive, MayWork, MayLeave, MayVisit}
 use Rattle.run_laws.specs.Routes.{Routes, server_at}
-use Rattle.run_laws.specs.Views.{server_of, seen, card_of}
-use Rattle.run_laws.specs.Lawful.{RunState, state_at, MayEnter, IsThere, IsKnown, AllowsInRun}
+use Rattle.run_laws.specs.Views.{server_of, card_of}
+use Rattle.run_laws.specs.Lawful.{RunState, state_at, MayEnter, IsThere, AllowsInRun}
 
 -- ---- whole numbers
 pub le_t : (m n : ℕ) → leb m n ≡ true → whole m ≤ℚ whole n

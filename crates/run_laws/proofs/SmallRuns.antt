@@ -1,16 +1,14 @@
 -- Small runs, lawful and not.
-use Rattle.std.specs.Prelude.{Option, Some, None, ◌≡◌, ◌<◌, ℕ, zero, suc, ◌+◌, true, List, [], ◌∷◌, All}
-use Rattle.std.proofs.Common.{arith, ap, refl, inl, inr}
-use Rattle.rational.specs.Rational.{ℚ, ◌+ℚ◌, ◌-ℚ◌, ◌≤ℚ◌, ◌<ℚ◌}
+use Rattle.std.specs.Prelude.{Option, Some, None, ◌≡◌, ℕ, zero, suc, [], ◌∷◌, All}
+use Rattle.std.proofs.Common.{arith, ap, refl, inl}
+use Rattle.rational.specs.Rational.{ℚ, ◌<ℚ◌}
 use Rattle.rational.proofs.Linear.{with1}
-use Rattle.run_laws.specs.declared.steps.Step.{Step}
-use Rattle.run_laws.specs.declared.steps.Step.TheVariants.{Enter, Reach, Work, Leave, Visit}
 use Rattle.run_laws.specs.Cards.{Card, whole}
 use Rattle.run_laws.specs.Servers.{Fifo, ServerState, start}
 use Rattle.run_laws.specs.Allows.{IsComplete}
-use Rattle.run_laws.specs.Lawful.{Due, IsLawful, run_start, after_run, AllAllowedInRun}
+use Rattle.run_laws.specs.Lawful.{Due, IsLawful}
 use Rattle.run_laws.specs.Examples.{one_server, one_packet, leaves_then_enters, enters_then_leaves, WorkPastTheBits, Overtaking, LeftComplete, BothOrders, two_priorities, higher_first, lower_first, Priorities, two_quanta, two_visits, one_visit, not_the_head, Quanta}
-use Rattle.run_laws.proofs.Small.{le_t, lt_t, sum_t, enters, works, leaves, visits}
+use Rattle.run_laws.proofs.Small.{sum_t, enters, works, leaves, visits}
 
 -- ---- one server
 -- at its end no packet is under way, and none is on a link

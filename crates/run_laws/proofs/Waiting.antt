@@ -12,7 +12,7 @@ use Rattle.run_laws.specs.Next.{next, after}
 use Rattle.run_laws.specs.Allows.{Allows, AllAllowed, IsLawfulView, IsComplete}
 use Rattle.run_laws.specs.Counts.{total, arrives, leaves, works, upto, worked}
 use Rattle.run_laws.specs.Delays.{gone_at}
-use Rattle.run_laws.proofs.Tests.{le_yes, le_from}
+use Rattle.rational.proofs.Over.{le_q_out, le_q_in}
 use Rattle.run_laws.proofs.Clips.{clip_strict, clip_late}
 use Rattle.run_laws.proofs.Sums.{size_nonneg, when_true, when_false, Each, each_map, total-append}
 use Rattle.run_laws.proofs.Heads.{same_some, sum_of}
@@ -143,7 +143,7 @@ waits_after server end σ (x ∷ V) C q p ahead test g a h e k w =
     }
 
 -- ---- the work on the one under way is not all of these
-bits_nonneg : (cs : List Card) → int (pos 0) ≤ℚ bits_of cs
+pub bits_nonneg : (cs : List Card) → int (pos 0) ≤ℚ bits_of cs
 bits_nonneg [] = le_refl (int (pos 0))
 bits_nonneg (c ∷ cs) =
     let h = size_nonneg c in
@@ -223,7 +223,7 @@ stays end n (Visits q u ∷ V) W t h k = let r = stays end n V W t h.1 k in reco
 stays end n (Leaves c u ∷ V) W t h k = elim (cases_Bool (c.packet == n)) [
   | inl e ↦
       let l : t <ℚ u = rw e at k in
-      let m = le_from u t h.0 in
+      let m = le_q_in u t h.0 in
       absurd (with2 t u (λ c. omega (arith, c.le, c.lt, c.same)))
   | inr e ↦
       let r = stays end n V W t h.1 (rw e at k) in
@@ -250,7 +250,7 @@ now_upto server end σ (y ∷ V) W x a = le_trans (time_in_order server end σ y
 
 pub all_upto : (server : Server) (end : ℚ) (σ : ServerState) (V W : List ServerStep) (x : ServerStep) → AllAllowed server end σ (V ++ x ∷ W) → Each (IsBefore (upto (time_of x))) V
 all_upto server end σ [] W x a = tt
-all_upto server end σ (y ∷ V) W x a = (le_yes (now_upto server end (next server.discipline σ y) V W x a.1), all_upto server end (next server.discipline σ y) V W x a.1)
+all_upto server end σ (y ∷ V) W x a = (le_q_out _ _ (now_upto server end (next server.discipline σ y) V W x a.1), all_upto server end (next server.discipline σ y) V W x a.1)
 
 -- the sums of the next law
 pub combine : (W W1 W2 D1 D3 L1 L2 LP S A1 Z1 Z2 s : ℚ) → W ≡ W1 +ℚ (int (pos 0) +ℚ W2) → D1 +ℚ L1 ≡ int (pos 0) +ℚ W1 → D3 +ℚ L2 ≡ D1 +ℚ W2 → L2 ≡ LP → S +ℚ L1 ≡ int (pos 0) +ℚ A1 → S ≡ Z1 → Z2 +ℚ LP ≡ Z1 → D3 <ℚ Z2 +ℚ s → W <ℚ A1 +ℚ s
@@ -266,7 +266,7 @@ not_worked server end V front back C q p u t lawful joined g counted l k =
     let d = server.discipline in
     let all = allowed-append server end (start d) front (Arrives p u ∷ back) (subst (AllAllowed server end (start d)) joined lawful.allowed) in
     let upto_u = all_upto server end (start d) front back (Arrives p u) (subst (AllAllowed server end (start d)) joined lawful.allowed) in
-    let upto_t = each_map (IsBefore (upto u)) (λ x. time_of x ≤ℚ t) (λ x e. le_trans (le_from (time_of x) u e) l) front upto_u in
+    let upto_t = each_map (IsBefore (upto u)) (λ x. time_of x ≤ℚ t) (λ x e. le_trans (le_q_in (time_of x) u e) l) front upto_u in
     let one = after d (start d) front in
     let sound_one = sound_after server end (start d) front all.0 tt in
     let two = next d one (Arrives p u) in

@@ -8,7 +8,7 @@ use Rattle.upp_curve.specs.Convolution.{IsDeconvolution}
 use Rattle.upp_curve.specs.Deviations.{IsHorizontalDeviation, IsVerticalDeviation}
 use Rattle.upp_curve.specs.Pointwise.{packetised, shifted}
 use Rattle.run_laws.specs.Runs.{SpecRun}
-use Rattle.run_laws.specs.Cards.{Class, all, of_queue, of_flow, whole, IsOfQueue, IsPart, ServerStep}
+use Rattle.run_laws.specs.Cards.{Class, all, of_queue, whole, IsOfQueue, IsPart, ServerStep}
 use Rattle.run_laws.specs.Servers.{Fifo, Server}
 use Rattle.run_laws.specs.Allows.{IsLawfulView}
 use Rattle.run_laws.specs.Counts.{departed_in}
