@@ -5,5 +5,14 @@ pub mod Ratio
 pub mod MinMax
 pub mod Extended
 pub mod Line
+pub mod Stretch
+pub mod Floor
 pub mod Whole
 pub mod Gauge
+pub mod Grid
+pub mod Families
+pub mod FieldLaws
+pub mod RoundingLaws
+pub mod ExtendedLaws
+pub mod BoundLaws
+pub mod GridLaws
