@@ -22,6 +22,7 @@ pub mod FirstHop
 pub mod Small
 pub mod SmallRuns
 pub mod OverALink
+pub mod Latency
 pub mod OnePacket
 pub mod OneHop
 pub mod Parts

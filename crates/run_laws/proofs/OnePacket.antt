@@ -15,6 +15,7 @@ use Rattle.run_laws.specs.Cards.{whole, all, ServerStep}
 use Rattle.run_laws.specs.Servers.{clip}
 use Rattle.run_laws.specs.Counts.{when, within, arrived, worked}
 use Rattle.run_laws.specs.Premises.{KeepsService, IsBusy}
+use Rattle.run_laws.specs.Routes.{route_of, PassesServer}
 use Rattle.run_laws.specs.Views.{view}
 use Rattle.run_laws.specs.RunPremises.{entered_in}
 use Rattle.run_laws.specs.Examples.{one_server, one_packet, its_arrivals, its_service, OnePacketReachesItsBound}
@@ -22,6 +23,7 @@ use Rattle.rational.proofs.Over.{le_q_out}
 use Rattle.run_laws.proofs.Sums.{when_true, when_false, when_most}
 use Rattle.run_laws.proofs.Clips.{clip_early, quotient}
 use Rattle.run_laws.proofs.Small.{le_t, lt_t}
+use Rattle.run_laws.proofs.Latency.{latency_is_zero_at_start, latency_rises}
 use Rattle.run_laws.proofs.SmallRuns.{one_packet_is_lawful}
 
 -- what the server sees
@@ -144,8 +146,15 @@ bound_is =
     ten_more : (q : ℚ) → q *ℚ whole 100 ≡ whole 12000 → q *ℚ whole 100 ≡ whole 100 *ℚ q → whole 10 +ℚ q ≡ whole 130
     ten_more q e f = with2 q (q *ℚ whole 100) (λ c. omega (arith, c.le, c.lt, c.same))
 
+only_flow : (j : ℕ) → (route_of one_server j).live ≡ true → PassesServer 0 (route_of one_server j).hops → j ≡ 0
+only_flow zero live passes = refl
+only_flow (suc j) live passes = absurd passes
+
 pub one_packet_reaches_its_bound : OnePacketReachesItsBound
 one_packet_reaches_its_bound = record {
+  is_alone = record { known = omega arith; is_fifo = refl; link_on = le_t 0 0 refl; is_live = refl; path = refl; alone = only_flow };
+  from_zero = latency_is_zero_at_start (whole 100) (whole 10) (le_t 0 100 refl) (le_t 0 10 refl);
+  rises = latency_rises (whole 100) (whole 10) (le_t 0 100 refl) (le_t 0 10 refl);
   is_lawful = one_packet_is_lawful;
   keeps = record {
     sizes = λ flow live. (λ e. omega arith, tt);

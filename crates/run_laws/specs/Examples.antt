@@ -4,6 +4,7 @@ use Rattle.rational.specs.Rational.{ℚ, ◌+ℚ◌}
 use Rattle.rational.specs.Extended.{Ext}
 use Rattle.rational.specs.declared.Extended.TheVariants.{Fin}
 use Rattle.upp_curve.specs.Curve.{value_at}
+use Rattle.upp_curve.specs.Functions.{IsRising}
 use Rattle.upp_curve.specs.Kinds.{bucket, rate_latency}
 use Rattle.upp_curve.specs.Deviations.{IsHorizontalDeviation}
 use Rattle.run_laws.specs.declared.steps.Step.{Step}
@@ -11,12 +12,14 @@ use Rattle.run_laws.specs.declared.steps.Step.TheVariants.{Enter, Reach, Work, L
 use Rattle.run_laws.specs.Runs.{SpecRun}
 use Rattle.run_laws.specs.Cards.{whole, of_queue}
 use Rattle.run_laws.specs.Servers.{Discipline, Fifo, Priority, Drr, Server}
+use Rattle.run_laws.specs.Premises.{IsZeroAtStart}
 use Rattle.run_laws.specs.Delays.{hop_delays}
 use Rattle.run_laws.specs.Routes.{Hop, Route, Routes}
 use Rattle.run_laws.specs.Views.{view}
 use Rattle.run_laws.specs.Lawful.{IsLawful}
 use Rattle.run_laws.specs.FlowDelays.{delays}
 use Rattle.run_laws.specs.RunPremises.{KeepsPremises}
+use Rattle.run_laws.specs.Bounds.{IsOnlyFlow}
 
 abbrev pub server : Discipline → Server
 server d = record { discipline = d; pace = None }
@@ -45,8 +48,11 @@ its_arrivals flow = value_at (bucket (whole 12000) (whole 10))
 abbrev pub its_service : ℕ → ℚ → Ext
 its_service s = value_at (rate_latency (whole 100) (whole 10))
 
--- the run is lawful and keeps its curves, and its delay is the horizontal deviation of the two, 130
+-- the run meets all that is asked of one flow over one server, and its delay is the horizontal deviation of its curves, 130
 pub record OnePacketReachesItsBound : Type 0 where
+  pub is_alone : IsOnlyFlow one_server 0 0
+  pub from_zero : IsZeroAtStart (its_service 0)
+  pub rises : IsRising (its_service 0)
   pub is_lawful : IsLawful one_server one_packet
   pub keeps : KeepsPremises one_server (λ flow. 12000) its_arrivals its_service one_packet
   pub its_delay : delays one_server one_packet 0 ≡ whole 130 ∷ []
