@@ -7,7 +7,8 @@ use Rattle.std.specs.Int.{w128}
 use Rattle.std.proofs.lemmas.Int.{to_z_pos}
 use Rattle.std.proofs.Math.Nat.{mul-le-mul_left}
 use Rattle.rational.specs.Rational.{ℚ, ◌+ℚ◌, ◌*ℚ◌, ◌/ℚ◌, ◌≤ℚ◌}
-use Rattle.rational.specs.Ratio.{IsSmall, SumFits, ratio, small_ratio}
+use Rattle.rational.specs.Ratio.{IsSmall, SumFits, ratio}
+use Rattle.rational.proofs.Parts.{small_ratio}
 use Rattle.rational.specs.Grid.{Whole, Within}
 use Rattle.rational.proofs.Grid.{whole_int, whole_add, whole_times, within_nonneg, within_add, within_mul}
 use Rattle.rational.proofs.Integers.{int_add, int_mul, nat_le, nat_lt, nat_nonneg}
