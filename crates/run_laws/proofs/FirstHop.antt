@@ -1,5 +1,5 @@
 -- At its first server a flow arrives as it enters.
-use Rattle.std.specs.Prelude.{Some, ◌≡◌, ◌≢◌, ℕ, pos, ◌==◌, Bool, true, false, ◌&&◌, List, [], ◌∷◌}
+use Rattle.std.specs.Prelude.{Some, ◌≡◌, ℕ, pos, ◌==◌, Bool, true, false, ◌&&◌, List, [], ◌∷◌}
 use Rattle.std.proofs.Common.{arith, sym, ap, ◌∙◌, refl, inl, inr, subst}
 use Rattle.std.proofs.lemmas.Bool.{cases_Bool, cases_eq, eq-eqb, ne_eqb, and_left}
 use Rattle.rational.specs.Rational.{ℚ, int, ◌+ℚ◌, ◌-ℚ◌, ◌≤ℚ◌}
@@ -15,6 +15,7 @@ use Rattle.run_laws.specs.Premises.{KeepsArrivals}
 use Rattle.run_laws.specs.Routes.{Routes, route_of, first_server, server_after}
 use Rattle.run_laws.specs.Views.{Entry, entry_of, entered_after, server_of, seen, view_from, view}
 use Rattle.run_laws.specs.Lawful.{RunState, next_run, AllAllowedInRun, run_start, IsKnown, IsLawful}
+use Rattle.run_laws.specs.Bounds.{BeginsAt}
 use Rattle.run_laws.specs.RunPremises.{enters, entered_in}
 use Rattle.run_laws.proofs.Sums.{when_true, when_false, when_none}
 use Rattle.run_laws.proofs.Entries.{entry_last, EachDue, each_due_at, IsDueAfter, due_next}
@@ -26,11 +27,6 @@ at_server f net s entered x xs = elim (cases_Bool (server_of net x == s)) [
   | inl e ↦ rw (e, when_true true (f (seen net entered x)) refl) refl
   | inr e ↦ rw (e, when_false false (f (seen net entered x)) refl) (with1 (total f (view_from net s (entered_after entered x) xs)) (λ c. omega (arith, c.le, c.lt, c.same)))
 ]
-
--- the path of flow i begins at server s, and does not come back to it
-pub record BeginsAt (net : Routes) (i s : ℕ) : Type 0 where
-  pub first : first_server (route_of net i).hops ≡ s
-  pub never_again : (a : ℕ) → server_after a (route_of net i).hops ≢ Some s
 
 abbrev pub enters_one : ℕ → (ℚ → Bool) → Step → ℚ
 enters_one i p (Enter f q t b) = when ((f == i) && p t) (whole b)

@@ -13,6 +13,7 @@ use Rattle.run_laws.specs.Cards.{Class, of_queue}
 use Rattle.run_laws.specs.Delays.{gone_at, kept, hop_delays, AreAtMost}
 use Rattle.run_laws.specs.FlowDelays.{delivered_at, delays_from}
 use Rattle.run_laws.specs.Routes.{Hop, Routes, route_of, link_at, queue_at, first_server, last_server}
+use Rattle.run_laws.specs.Bounds.{IsOneHop}
 use Rattle.run_laws.specs.Views.{Entry, hops_of, card_of, entered_after, server_of, seen, view_from}
 use Rattle.run_laws.specs.Lawful.{RunState, next_run, AllAllowedInRun}
 use Rattle.run_laws.proofs.Delay.{kept_most, kept_first, kept_rest}
@@ -60,11 +61,6 @@ view_rest net end s entered x xs C most h = elim (cases_Bool (server_of net x ==
     seen_rest (Work r p a b w) k = k
     seen_rest (Leave r p t) k = k
     seen_rest (Visit r q t) k = k
-
--- a path of one hop
-pub record IsOneHop (net : Routes) (i s q : ℕ) : Type 0 where
-  pub path : (route_of net i).hops ≡ record { server = s; queue = q } ∷ []
-  pub link_on : int (pos 0) ≤ℚ link_at net s
 
 entering : (net : Routes) (end : ℚ) (r : RunState) (i s q p b : ℕ) (t : ℚ) (xs : List Step) (most : Ext) → IsOneHop net i s q → p ≡ length r.entered
     → AreAtMost most (hop_delays (of_queue q) end (view_from net s r.entered (Enter i p t b ∷ xs)))

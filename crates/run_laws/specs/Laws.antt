@@ -1,6 +1,6 @@
 -- The laws of one server, of every discipline and over every lawful view; and what they say of a whole run.
 -- Curves are functions of time; an infinite bound says nothing. (Le Boudec and Thiran, chapter 1.)
-use Rattle.std.specs.Prelude.{◌≡◌, ◌<◌, ℕ, pos, List, length}
+use Rattle.std.specs.Prelude.{◌≡◌, ◌<◌, ◌≤◌, ℕ, pos, true, List, length}
 use Rattle.rational.specs.Rational.{ℚ, int, ◌-ℚ◌, ◌≤ℚ◌}
 use Rattle.rational.specs.Extended.{Ext, ◌≤ₑ◌, ◌+ₑ◌}
 use Rattle.rational.specs.declared.Extended.TheVariants.{Fin}
@@ -20,7 +20,8 @@ use Rattle.run_laws.specs.Routes.{Routes, server_at, link_at}
 use Rattle.run_laws.specs.Views.{view}
 use Rattle.run_laws.specs.Lawful.{IsLawful}
 use Rattle.run_laws.specs.RunPremises.{KeepsPremises}
-use Rattle.run_laws.specs.Bounds.{IsOnlyFlow, IsQueueBounded, IsFlowBounded}
+use Rattle.run_laws.specs.Totals.{is_in, total_curve}
+use Rattle.run_laws.specs.Bounds.{IsOneHop, IsEntrance, IsOnlyFlow, IsQueueBounded, IsFlowBounded}
 
 -- a server's curve serves the server as a whole
 abbrev pub ServerIsServed : Type 0
@@ -78,3 +79,12 @@ OneFlowIsBounded = (net : Routes) (run : SpecRun) (s i : ℕ) (packet : ℕ → 
     IsOnlyFlow net s i → IsLawful net run → KeepsPremises net packet α β run → IsZeroAtStart (β s) → IsRising (β s) →
     IsHorizontalDeviation (α i) (β s) delay → IsVerticalDeviation (α i) (packetised (β s) (whole (packet i))) most →
     IsQueueBounded net run s 0 delay most × IsFlowBounded net run i (delay +ₑ Fin (link_at net s))
+
+-- a first in, first out server at which several flows enter: the two deviations of the sum of their curves bound its queue, and
+-- each flow that ends there
+abbrev pub SeveralFlowsAreBounded : Type 0
+SeveralFlowsAreBounded = (net : Routes) (run : SpecRun) (s bits : ℕ) (packet : ℕ → ℕ) (α β : ℕ → ℚ → Ext) (delay most : Ext) →
+    IsEntrance net s → IsLawful net run → KeepsPremises net packet α β run → IsZeroAtStart (β s) → IsRising (β s) →
+    ((i : ℕ) → is_in net s 0 i ≡ true → packet i ≤ bits) →
+    IsHorizontalDeviation (total_curve net s 0 α) (β s) delay → IsVerticalDeviation (total_curve net s 0 α) (packetised (β s) (whole bits)) most →
+    IsQueueBounded net run s 0 delay most × ((i : ℕ) → IsOneHop net i s 0 → IsFlowBounded net run i (delay +ₑ Fin (link_at net s)))
