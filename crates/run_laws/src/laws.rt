@@ -50,8 +50,8 @@ pub fn one_flow_is_bounded()
     ensures { OneFlowIsBounded }
 {}
 
-/// Several flows that enter at a first in, first out server: no delay and no backlog passes the two deviations of the sum
-/// of their curves.
+/// Several flows that enter at a first in, first out server: no delay and no backlog passes the two deviations of the
+/// sum of their curves.
 pub fn several_flows_are_bounded()
     ensures { SeveralFlowsAreBounded }
 {}
