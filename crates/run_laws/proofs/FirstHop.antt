@@ -35,13 +35,15 @@ enters_one i p (Work s q a b w) = int (pos 0)
 enters_one i p (Leave s q t) = int (pos 0)
 enters_one i p (Visit s q t) = int (pos 0)
 
-enter_adds : (i f s t0 : ℕ) (first : ℕ) (p : Bool) (v : ℚ) → (f ≡ i → first ≡ s) → when (first == s) (when ((f == i) && p) v) ≡ when ((f == i) && p) v
+enter_adds : (i f s t0 : ℕ) (first : ℕ) (p : Bool) (v : ℚ) → (f ≡ i → first ≡ s)
+    → when (first == s) (when ((f == i) && p) v) ≡ when ((f == i) && p) v
 enter_adds i f s t0 first p v h = elim (cases_eq f i) [
   | inl e ↦ when_true (first == s) _ (eq-eqb first s (h e))
   | inr e ↦ let no = when_false ((f == i) && p) v (and_left (f == i) p (ne_eqb f i e)) in rw no (when_none (first == s))
 ]
 
-reach_adds : (net : Routes) (r : RunState) (i s r_s q : ℕ) (t : ℚ) (p : ℚ → Bool) → BeginsAt net i s → IsDueAfter net r.entered record { packet = q; server = r_s; time = t }
+reach_adds : (net : Routes) (r : RunState) (i s r_s q : ℕ) (t : ℚ) (p : ℚ → Bool) → BeginsAt net i s
+    → IsDueAfter net r.entered record { packet = q; server = r_s; time = t }
     → when (r_s == s) (when (((entry_of r.entered q).flow == i) && p t) (whole (entry_of r.entered q).bits)) ≡ int (pos 0)
 reach_adds net r i s r_s q t p begins due = elim (cases_eq r_s s) [
   | inr e ↦ when_false (r_s == s) _ (ne_eqb r_s s e)
@@ -51,7 +53,8 @@ reach_adds net r i s r_s q t p begins due = elim (cases_eq r_s s) [
   ]
 ]
 
-adds : (net : Routes) (r : RunState) (x : Step) (i s : ℕ) (p : ℚ → Bool) → BeginsAt net i s → IsKnown net r x → EachDue (IsDueAfter net r.entered) r.due
+adds : (net : Routes) (r : RunState) (x : Step) (i s : ℕ) (p : ℚ → Bool) → BeginsAt net i s → IsKnown net r x
+    → EachDue (IsDueAfter net r.entered) r.due
     → when (server_of net x == s) (arrives (of_flow i) p (seen net r.entered x)) ≡ enters_one i p x
 adds net r (Enter f q t b) i s p begins k h =
     let e : Entry = record { flow = f; bits = b } in
@@ -71,7 +74,8 @@ enters_more i p (Work s q a b w) xs = with1 (enters i p xs) (λ c. omega (arith,
 enters_more i p (Leave s q t) xs = with1 (enters i p xs) (λ c. omega (arith, c.le, c.lt, c.same))
 enters_more i p (Visit s q t) xs = with1 (enters i p xs) (λ c. omega (arith, c.le, c.lt, c.same))
 
-arrive_as_enter : (net : Routes) (end : ℚ) (r : RunState) (xs : List Step) (i s : ℕ) (p : ℚ → Bool) → BeginsAt net i s → AllAllowedInRun net end r xs → EachDue (IsDueAfter net r.entered) r.due
+arrive_as_enter : (net : Routes) (end : ℚ) (r : RunState) (xs : List Step) (i s : ℕ) (p : ℚ → Bool) → BeginsAt net i s
+    → AllAllowedInRun net end r xs → EachDue (IsDueAfter net r.entered) r.due
     → total (arrives (of_flow i) p) (view_from net s r.entered xs) ≡ enters i p xs
 arrive_as_enter net end r [] i s p begins a h = refl
 arrive_as_enter net end r (x ∷ xs) i s p begins a h =
@@ -83,6 +87,7 @@ arrive_as_enter net end r (x ∷ xs) i s p begins a h =
     ∙ sym (enters_more i p x xs)
 
 -- so it keeps there the curve with which it enters
-pub first_hop_keeps : (net : Routes) (run : SpecRun) (i s : ℕ) (α : ℚ → Ext) → IsLawful net run → BeginsAt net i s → ((a b : ℚ) → a ≤ℚ b → Fin (entered_in i a b run.steps) ≤ₑ α (b -ℚ a)) → KeepsArrivals (of_flow i) α (view net run s)
+pub first_hop_keeps : (net : Routes) (run : SpecRun) (i s : ℕ) (α : ℚ → Ext) → IsLawful net run → BeginsAt net i s
+    → ((a b : ℚ) → a ≤ℚ b → Fin (entered_in i a b run.steps) ≤ₑ α (b -ℚ a)) → KeepsArrivals (of_flow i) α (view net run s)
 first_hop_keeps net run i s α lawful begins keeps a b l =
     subst (λ (x : ℚ). Fin x ≤ₑ α (b -ℚ a)) (sym (arrive_as_enter net run.end (run_start net) run.steps i s (within a b) begins lawful.allowed tt)) (keeps a b l)

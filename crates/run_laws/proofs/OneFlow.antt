@@ -48,12 +48,14 @@ is_its net packet s i only c p =
       small = subst (λ (j : ℕ). c.bits ≤ packet j) e p.small;
     }
 
-all_its : (net : Routes) (run : SpecRun) (packet : ℕ → ℕ) (α β : ℕ → ℚ → Ext) (s i : ℕ) → IsOnlyFlow net s i → IsLawful net run → KeepsPremises net packet α β run → EachArrival (IsIts packet i) (view net run s)
+all_its : (net : Routes) (run : SpecRun) (packet : ℕ → ℕ) (α β : ℕ → ℚ → Ext) (s i : ℕ) → IsOnlyFlow net s i → IsLawful net run
+    → KeepsPremises net packet α β run → EachArrival (IsIts packet i) (view net run s)
 all_its net run packet α β s i only lawful keeps =
     arrivals_map (IsPassing net packet s) (IsIts packet i) (is_its net packet s i only) (view net run s)
     (passing net run packet α β s lawful keeps)
 
-queue_keeps : (net : Routes) (run : SpecRun) (packet : ℕ → ℕ) (α β : ℕ → ℚ → Ext) (s i : ℕ) → IsOnlyFlow net s i → IsLawful net run → KeepsPremises net packet α β run → KeepsArrivals (of_queue 0) (α i) (view net run s)
+queue_keeps : (net : Routes) (run : SpecRun) (packet : ℕ → ℕ) (α β : ℕ → ℚ → Ext) (s i : ℕ) → IsOnlyFlow net s i → IsLawful net run
+    → KeepsPremises net packet α β run → KeepsArrivals (of_queue 0) (α i) (view net run s)
 queue_keeps net run packet α β s i only lawful keeps a b l =
     let V = view net run s in
     let own = first_hop_keeps net run i s (α i) lawful (begins_there net s i only) (keeps.arrivals i only.is_live) in
@@ -61,8 +63,10 @@ queue_keeps net run packet α β s i only lawful keeps a b l =
     (arrivals_map (IsIts packet i) (λ c. (c.queue == 0) ≡ (c.flow == i)) (λ c h. eq-eqb c.queue 0 h.its_queue ∙ sym (eq-eqb c.flow i h.its_flow)) V (all_its net run packet α β s i only lawful keeps)) in
     subst (λ (x : ℚ). Fin x ≤ₑ α i (b -ℚ a)) (sym same) (own a b l)
 
-pub one_flow_is_bounded : (net : Routes) (run : SpecRun) (s i : ℕ) (packet : ℕ → ℕ) (α β : ℕ → ℚ → Ext) (delay most : Ext) → IsOnlyFlow net s i → IsLawful net run → KeepsPremises net packet α β run → IsZeroAtStart (β s) → IsRising (β s)
-    → IsHorizontalDeviation (α i) (β s) delay → IsVerticalDeviation (α i) (packetised (β s) (whole (packet i))) most → IsQueueBounded net run s 0 delay most × IsFlowBounded net run i (delay +ₑ Fin (link_at net s))
+pub one_flow_is_bounded : (net : Routes) (run : SpecRun) (s i : ℕ) (packet : ℕ → ℕ) (α β : ℕ → ℚ → Ext) (delay most : Ext)
+    → IsOnlyFlow net s i → IsLawful net run → KeepsPremises net packet α β run → IsZeroAtStart (β s) → IsRising (β s)
+    → IsHorizontalDeviation (α i) (β s) delay → IsVerticalDeviation (α i) (packetised (β s) (whole (packet i))) most
+    → IsQueueBounded net run s 0 delay most × IsFlowBounded net run i (delay +ₑ Fin (link_at net s))
 one_flow_is_bounded net run s i packet α β delay most only lawful keeps zero rises dh dv =
     let V = view net run s in
     let sizes = arrivals_map (IsIts packet i) (λ c. of_queue 0 c ≡ true → c.bits ≤ packet i) (λ c h _. h.small) V (all_its net run packet α β s i only lawful keeps) in

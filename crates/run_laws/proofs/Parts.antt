@@ -37,7 +37,8 @@ works_parts Q f g t a (Works c b e w) = part_all (Q c) (f c) (g c) (clip record 
 works_parts Q f g t a (Leaves c u) = nothing
 works_parts Q f g t a (Visits q u) = nothing
 
-pub arrivals_parts : (Q f g : Class) (p : ℚ → Bool) (V : List ServerStep) → AreParts Q f g → total (arrives Q p) V ≡ total (arrives f p) V +ℚ total (arrives g p) V
+pub arrivals_parts : (Q f g : Class) (p : ℚ → Bool) (V : List ServerStep) → AreParts Q f g
+    → total (arrives Q p) V ≡ total (arrives f p) V +ℚ total (arrives g p) V
 arrivals_parts Q f g p V a = total_sum (arrives Q p) (arrives f p) (arrives g p) V (each_all (λ x. arrives Q p x ≡ arrives f p x +ℚ arrives g p x) (arrives_parts Q f g p a) V)
 
 pub arrived_parts : (Q f g : Class) (V : List ServerStep) (t : ℚ) → AreParts Q f g → arrived Q V t ≡ arrived f V t +ℚ arrived g V t

@@ -23,11 +23,14 @@ use Rattle.run_laws.proofs.Delay.{delay_from_service}
 use Rattle.run_laws.proofs.Backlog.{backlog_from_service}
 
 -- the packets that arrive at a server of a run that keeps its premises
-pub passing : (net : Routes) (run : SpecRun) (packet : ℕ → ℕ) (α β : ℕ → ℚ → Ext) (s : ℕ) → IsLawful net run → KeepsPremises net packet α β run → EachArrival (IsPassing net packet s) (view net run s)
+pub passing : (net : Routes) (run : SpecRun) (packet : ℕ → ℕ) (α β : ℕ → ℚ → Ext) (s : ℕ) → IsLawful net run
+    → KeepsPremises net packet α β run → EachArrival (IsPassing net packet s) (view net run s)
 passing net run packet α β s lawful keeps = all_pass net packet run.end (run_start net) run.steps s lawful.allowed keeps.sizes record { entries = λ p h. absurd (omega arith); dues = tt }
 
-pub queue_is_bounded : (net : Routes) (run : SpecRun) (s bits : ℕ) (α β : ℚ → Ext) (delay most : Ext) → IsLawful net run → s < length net.servers → (server_at net s).discipline ≡ Fifo → KeepsService β run.end (view net run s) → IsZeroAtStart β → IsRising β
-    → KeepsArrivals (of_queue 0) α (view net run s) → KeepsSizes (of_queue 0) bits (view net run s) → IsHorizontalDeviation α β delay → IsVerticalDeviation α (packetised β (whole bits)) most → IsQueueBounded net run s 0 delay most
+pub queue_is_bounded : (net : Routes) (run : SpecRun) (s bits : ℕ) (α β : ℚ → Ext) (delay most : Ext) → IsLawful net run
+    → s < length net.servers → (server_at net s).discipline ≡ Fifo → KeepsService β run.end (view net run s) → IsZeroAtStart β → IsRising β
+    → KeepsArrivals (of_queue 0) α (view net run s) → KeepsSizes (of_queue 0) bits (view net run s) → IsHorizontalDeviation α β delay
+    → IsVerticalDeviation α (packetised β (whole bits)) most → IsQueueBounded net run s 0 delay most
 queue_is_bounded net run s bits α β delay most lawful known is_fifo service zero rises arrivals sizes dh dv =
     let server = server_at net s in
     let V = view net run s in

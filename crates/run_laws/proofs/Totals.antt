@@ -40,7 +40,8 @@ in_range (r ∷ flows) zero h = omega arith
 in_range (r ∷ flows) (suc i) h = let k = in_range flows i h in omega arith
 
 -- a packet that arrives in queue q is of a flow of that queue
-pub its_flow_is_in : (net : Routes) (packet : ℕ → ℕ) (s q : ℕ) (c : Card) → IsPassing net packet s c → c.queue ≡ q → is_in net s q c.flow ≡ true
+pub its_flow_is_in : (net : Routes) (packet : ℕ → ℕ) (s q : ℕ) (c : Card) → IsPassing net packet s c → c.queue ≡ q
+    → is_in net s q c.flow ≡ true
 its_flow_is_in net packet s q c p e =
     and_from (route_of net c.flow).live (is_on s q (route_of net c.flow).hops) p.is_live
     (subst (λ (k : ℕ). is_on s k (route_of net c.flow).hops ≡ true) (sym p.its_queue ∙ e) (on_its_queue s (route_of net c.flow).hops p.passes))
@@ -88,7 +89,8 @@ record FlowsKeep (net : Routes) (packet : ℕ → ℕ) (s q : ℕ) (α : ℕ →
   passing : EachArrival (IsPassing net packet s) V
   each : (i : ℕ) → is_in net s q i ≡ true → KeepsArrivals (of_flow i) (α i) V
 
-first_keep : (net : Routes) (packet : ℕ → ℕ) (s q n : ℕ) (α : ℕ → ℚ → Ext) (V : List ServerStep) → FlowsKeep net packet s q α V → KeepsArrivals (first_flows q n) (total_of net s q α n) V
+first_keep : (net : Routes) (packet : ℕ → ℕ) (s q n : ℕ) (α : ℕ → ℚ → Ext) (V : List ServerStep) → FlowsKeep net packet s q α V
+    → KeepsArrivals (first_flows q n) (total_of net s q α n) V
 first_keep net packet s q zero α V h a b l =
     let none = none_arrive (first_flows q zero) (within a b) V (arrivals_map (IsPassing net packet s) (λ c. first_flows q zero c ≡ false) (λ c p. and_right (c.queue == q) _ (le-ltb c.flow zero (omega arith))) V h.passing) in
     rw none (le_refl (int (pos 0)))
@@ -121,7 +123,9 @@ first_keep net packet s q (suc n) α V h a b l =
     ]
 
 -- so does the queue
-pub queue_keeps_total : (net : Routes) (packet : ℕ → ℕ) (s q : ℕ) (α : ℕ → ℚ → Ext) (V : List ServerStep) → EachArrival (IsPassing net packet s) V → ((i : ℕ) → is_in net s q i ≡ true → KeepsArrivals (of_flow i) (α i) V) → KeepsArrivals (of_queue q) (total_curve net s q α) V
+pub queue_keeps_total : (net : Routes) (packet : ℕ → ℕ) (s q : ℕ) (α : ℕ → ℚ → Ext) (V : List ServerStep)
+    → EachArrival (IsPassing net packet s) V → ((i : ℕ) → is_in net s q i ≡ true → KeepsArrivals (of_flow i) (α i) V)
+    → KeepsArrivals (of_queue q) (total_curve net s q α) V
 queue_keeps_total net packet s q α V passing each a b l =
     let all = first_keep net packet s q (length net.flows) α V record { passing = passing; each = each } a b l in
     let same = same_arrivals (of_queue q) (first_flows q (length net.flows)) (within a b) V
