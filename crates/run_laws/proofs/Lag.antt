@@ -118,7 +118,7 @@ not_worked_before server end V front back C q p u t s lawful joined g counted l 
     subst (λ (σ : ServerState). ¬ IsComplete σ.under) (ap (after d (start d)) joined ∙ after-append server (start d) front (Arrives p u ∷ back) ∙ ap (after d two) a.at.joined ∙ after-append server two P S) lawful.none_complete in
     let not_over : ahead ≡ [] → NotOver p t three.under =
     λ e.
-    let none : bits_of ahead ≡ int (pos 0) = ap bits_of e in
+    let none : bits_of ahead ≡ int (pos 0) = ap bits_of {x = ahead} e in
     over_left server end three S C p t s three.under a.at.back_allowed refl complete counted m
     (rest_small (bits_of (departures_of C P)) (total (leaves C (before s)) S) (bits_of D) (size p) (bits_of ahead) less parts none) in
     let below = done_below three.inside three.busy three.under C q p t ahead a.sound g all.1.0.1.some_bits not_over record { rest = arrivals_of C P; is = beginning.is } in
