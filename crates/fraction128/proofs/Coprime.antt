@@ -1,9 +1,10 @@
 -- Numbers that have no common divisor but 1.
-use Rattle.std.specs.Prelude.{◌≡◌, ℕ, zero, suc, ◌+◌, ◌*◌, ◌/◌, ◌-◌, ◌<◌, ◌≤◌, ℤ, pos, negsuc, ◌+ℤ◌, ◌*ℤ◌, neg_ℤ, unsigned_abs}
-use Rattle.std.proofs.Common.{arith, sym, ap, ◌∙◌, subst, refl}
+use Rattle.std.specs.Prelude.{◌≡◌, ℕ, zero, suc, ◌*◌}
+use Rattle.std.proofs.Common.{◌∙◌, subst}
 use Prim.Native.Nat.{◌∣◌}
-use native.Mathlib.Nat.{zero-lt-suc, one-dvd, dvd-one, dvd_trans, dvd-zero, dvd-mul_right, dvd-mul_left, div-mul_cancel, dvd_refl}
-use Rattle.rational.specs.Gcd.{gcd, gcd_is, gcd_unique, divides_other}
+use native.Mathlib.Nat.{zero-lt-suc, one-dvd, dvd_trans, dvd-zero, dvd-mul_right, dvd_refl}
+use Rattle.rational.specs.Gcd.{gcd}
+use Rattle.rational.specs.Euclid.{gcd_is, gcd_unique, divides_other}
 
 pub coprime_in : (a b : ℕ) → ((k : ℕ) → k ∣ a → k ∣ b → k ∣ 1) → gcd a b ≡ 1
 coprime_in a b f = gcd_unique a b 1 (one-dvd a, one-dvd b, f)

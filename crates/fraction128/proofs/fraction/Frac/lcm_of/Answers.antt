@@ -1,7 +1,6 @@
-use Rattle.std.proofs.Common.{arith, ◌≡◌, ◌∙◌, ◌<◌, ap, sym, refl, subst, SFits, to_z-of_z, unsigned_abs}
+use Rattle.std.proofs.Common.{arith, ◌≡◌, ◌∙◌, sym, refl, subst, SFits, to_z-of_z, unsigned_abs}
 use Rattle.std.proofs.lemmas.Int.{ints}
 use mir.Syntax.{w128}
-use Rattle.rational.specs.Rational.{ℚ, over}
 use Rattle.rational.specs.Ratio.{IsSmall}
 use Rattle.fraction128.specs.Multiple.{IsLeastMultiple}
 use Rattle.fraction128.proofs.Values.{num_fits}

@@ -1,7 +1,5 @@
-use Rattle.std.proofs.Common.{rules, arith, ◌≡◌, ap, ◌∙◌, refl, pos, to_z-of_z, SFits}
-use mir.Syntax.{w128}
-use Rattle.rational.specs.Ratio.{ratio, with_sign}
-use Rattle.fraction128.proofs.Made.{Made, made, small_in, small_out, lowest_in, same_value}
+use Rattle.std.proofs.Common.{rules, arith, refl, to_z-of_z}
+use Rattle.fraction128.proofs.Made.{made, small_in, small_out, lowest_in, same_value}
 use Rattle.fraction128.proofs.fraction.Frac.new.Goals as goal
 
 pub nonzero_div-size : goal.nonzero_div-size
