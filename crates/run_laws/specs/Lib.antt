@@ -1,0 +1,17 @@
+pub mod Runs
+pub mod Cards
+pub mod Servers
+pub mod Next
+pub mod Allows
+pub mod Counts
+pub mod Premises
+pub mod Serves
+pub mod Delays
+pub mod Routes
+pub mod Views
+pub mod Lawful
+pub mod FlowDelays
+pub mod RunPremises
+pub mod Bounds
+pub mod Laws
+pub mod Examples
