@@ -1,11 +1,11 @@
 -- The numbers of a form are so small that no step of the bounds' arithmetic is too wide: each number stands on the grid of the
 -- server's rate and within a whole number of known size.
-use Rattle.std.specs.Prelude.{◌≡◌, ◌≢◌, ℕ, ◌+◌, ◌*◌, ◌<◌, ◌≤◌, ◌^◌, ◌*ℤ◌, ◌+ℤ◌, pos, Result, Ok, Err, IsOk}
-use Rattle.std.proofs.Common.{arith, sym, refl, subst, ap, ◌∙◌, lit<, to_z}
+use Rattle.std.specs.Prelude.{◌≡◌, ◌≢◌, ℕ, ◌+◌, ◌*◌, ◌<◌, ◌≤◌, ◌^◌, pos, Result, Ok, Err, IsOk}
+use Rattle.std.proofs.Common.{arith, sym, refl, subst, lit<, to_z}
 use Rattle.std.specs.Int.{w128}
 use Rattle.std.proofs.lemmas.Int.{to_z_pos}
 use Rattle.std.proofs.Math.Nat.{mul-le-mul_left}
-use Rattle.rational.specs.Rational.{ℚ, int, ◌+ℚ◌, ◌*ℚ◌, ◌/ℚ◌, ◌≤ℚ◌}
+use Rattle.rational.specs.Rational.{ℚ, ◌+ℚ◌, ◌*ℚ◌, ◌/ℚ◌, ◌≤ℚ◌}
 use Rattle.rational.specs.Ratio.{IsSmall, SumFits, ratio, small_ratio}
 use Rattle.rational.specs.Grid.{Whole, Within}
 use Rattle.rational.proofs.Grid.{whole_int, whole_add, whole_times, within_nonneg, within_add, within_mul}
@@ -15,7 +15,7 @@ use Rattle.rational.proofs.Quotients.{div_le, div_nonneg}
 use Rattle.rational.proofs.Sizes.{largest_part, small_on_grid, sum_on_grid}
 use Rattle.fraction128.specs.declared.fault.FracFault.{FracFault}
 use Rattle.fraction128.specs.declared.fault.FracFault.TheVariants.{ZeroDen, TooBig}
-use Rattle.netcalc_cli.specs.Bounds.{whole}
+use Rattle.run_laws.specs.Cards.{whole}
 use Rattle.netcalc_cli.specs.Form.{largest}
 
 -- A number on the grid of 1 / d, and at most v in size.

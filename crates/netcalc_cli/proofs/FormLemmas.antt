@@ -1,12 +1,8 @@
 -- How the parts of a tree stand to the values that hold them.
-use Rattle.std.proofs.Common.{◌≡◌, ◌≢◌, ℕ, Bool, true, false, cond, option_and_then, List, [], ◌∷◌, length, Some, None, get_or, String, Global, refl, ap, arith, suc}
+use Rattle.std.proofs.Common.{◌≡◌, ◌≢◌, List, [], ◌∷◌, length, Some, None, get_or, String, Global, refl, ap, arith, suc}
 use Rattle.toml.specs.declared.value.Value.{Value}
 use Rattle.toml.specs.View.{view, items_view, members_view}
-use Rattle.std.specs.Str.{IsUtf8, is_utf8}
-use Rattle.std.proofs.lemmas.Str.{is_utf8-from_IsUtf8, IsUtf8-from_is_utf8}
-use Rattle.toml.specs.Data.{Members}
-use Rattle.toml.specs.Parse.{parse_document}
-use Rattle.netcalc_cli.specs.Form.{count, single, form_at, form_of}
+use Rattle.netcalc_cli.specs.Form.{count, single}
 
 pub count-members_view : (es : List (String Global × Value)) → count (members_view es) ≡ length es
 count-members_view [] = refl
