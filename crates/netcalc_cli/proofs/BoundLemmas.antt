@@ -1,4 +1,5 @@
--- The numbers of a form are so small that no step of the bounds' arithmetic is too wide: each number stands on the grid of the
+-- The numbers of a form are so small that no step of the bounds' arithmetic is too wide: each number stands on the
+-- grid of the
 -- server's rate and within a whole number of known size.
 use Rattle.std.specs.Prelude.{◌≡◌, ◌≢◌, ℕ, ◌+◌, ◌*◌, ◌<◌, ◌≤◌, ◌^◌, pos, Result, Ok, Err, IsOk}
 use Rattle.std.proofs.Common.{arith, sym, refl, subst, lit<, to_z}
@@ -58,12 +59,15 @@ sized_times d n v a x = record {
 }
 
 product_fits : (v d : ℕ) → v * d ≤ largest_part → whole v *ℚ whole d ≤ℚ whole largest_part
-product_fits v d fits = subst (λ x. x ≤ℚ whole largest_part) (sym (int_mul (pos v) (pos d))) (nat_le (v * d) largest_part fits)
+product_fits v d fits =
+    subst (λ x. x ≤ℚ whole largest_part) (sym (int_mul (pos v) (pos d))) (nat_le (v * d) largest_part fits)
 
 pub small_sized : (d v : ℕ) (q : ℚ) → 1 ≤ d → d ≤ largest_part → v * d ≤ largest_part → IsSized d v q → IsSmall q
-small_sized d v q some grid fits x = small_on_grid d (whole v) q (omega arith) grid (product_fits v d fits) x.grid x.size
+small_sized d v q some grid fits x =
+    small_on_grid d (whole v) q (omega arith) grid (product_fits v d fits) x.grid x.size
 
-pub sum_fits-sized : (d v w : ℕ) (a b : ℚ) → 1 ≤ d → d ≤ largest_part → (v + w) * d ≤ largest_part → IsSized d v a → IsSized d w b → SumFits a b
+pub sum_fits-sized : (d v w : ℕ) (a b : ℚ) → 1 ≤ d → d ≤ largest_part → (v + w) * d ≤ largest_part → IsSized d v a
+    → IsSized d w b → SumFits a b
 sum_fits-sized d v w a b some grid fits x y =
     let both = subst (λ s. s *ℚ whole d ≤ℚ whole largest_part) (sym (int_add (pos v) (pos w))) (product_fits (v + w) d fits) in
     sum_on_grid d (whole v) (whole w) a b (omega arith) grid both x.grid y.grid x.size y.size
@@ -101,7 +105,8 @@ time_fits n d t some grid late size =
     let h = times_largest (t + n) d (largest + largest) (omega arith) grid in
     sum_fits-sized d t n (whole t) (whole n /ℚ whole d) some (omega arith) (omega arith) (sized_whole d t) (sized_quotient d n some)
 
-sent_size : (r n d t : ℕ) → d ≤ largest → t ≤ largest → n ≤ largest → r ≤ largest → r * (t + n) * d ≤ (largest + largest) * largest * largest
+sent_size : (r n d t : ℕ) → d ≤ largest → t ≤ largest → n ≤ largest → r ≤ largest
+    → r * (t + n) * d ≤ (largest + largest) * largest * largest
 sent_size r n d t grid late size fast =
     let time = times_largest (t + n) r (largest + largest) (omega arith) fast in
     times_largest (r * (t + n)) d ((largest + largest) * largest) (omega (arith, time)) grid
@@ -112,7 +117,7 @@ sent_fits r n d t some grid late size fast =
     let h = sent_size r n d t grid late size fast in
     let time = sized_time n d t some in
     small_sized d (r * (t + n)) (whole r *ℚ (whole t +ℚ whole n /ℚ whole d)) some (omega arith) (omega arith)
-        (sized_times d r (t + n) (whole t +ℚ whole n /ℚ whole d) time)
+    (sized_times d r (t + n) (whole t +ℚ whole n /ℚ whole d) time)
 
 pub backlog_fits : (b r n d t : ℕ) → 1 ≤ d → d ≤ largest → t ≤ largest → n ≤ largest → r ≤ largest → b ≤ largest
     → SumFits (whole b) (whole r *ℚ (whole t +ℚ whole n /ℚ whole d))
@@ -121,4 +126,4 @@ backlog_fits b r n d t some grid late size fast burst =
     let own = times_largest b d largest burst grid in
     let time = sized_time n d t some in
     sum_fits-sized d b (r * (t + n)) (whole b) (whole r *ℚ (whole t +ℚ whole n /ℚ whole d)) some (omega arith) (omega (arith, sent, own))
-        (sized_whole d b) (sized_times d r (t + n) (whole t +ℚ whole n /ℚ whole d) time)
+    (sized_whole d b) (sized_times d r (t + n) (whole t +ℚ whole n /ℚ whole d) time)

@@ -15,9 +15,9 @@ pub record Reply : Type 0 where
 -- the words are not taken
 abbrev pub usage : Reply
 usage = record {
-    status = 2;
-    bytes = codes "netcalc: usage: netcalc analyse NET [--json], edit NET EDITS [--json], simulate NET TRACE, exercise N\n";
-  }
+  status = 2;
+  bytes = codes "netcalc: usage: netcalc analyse NET [--json], edit NET EDITS [--json], simulate NET TRACE, exercise N\n";
+}
 
 -- the file could not be read
 abbrev pub cannot_read : List ℕ → Reply

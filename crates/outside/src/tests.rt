@@ -49,7 +49,7 @@ fn files_in_memory_answer_and_fail_as_told(rt: HostRuntime) -> Result<(), Fail> 
 #[test]
 fn a_sink_in_memory_fails_as_told_and_at_its_room(rt: HostRuntime) -> Result<(), Fail> {
     let alloc = rt.alloc();
-    let mut out = MemSink::new(vec![in alloc; 1u32]?).expect(&rt, "room");
+    let mut out = MemSink::new(vec![in alloc; 1u32]?)?;
     let most = vec![in alloc; 120u8; SINK_BYTES - 2]?;
     for (bytes, answer, count) in [
         (b"ab".as_slice(), Ok(()), 2),

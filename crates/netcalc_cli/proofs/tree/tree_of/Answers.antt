@@ -14,8 +14,8 @@ returns-else-is_memory c =
     let bytes = c.args.bytes.now in
     let not_memory : IsMemory c.in-Err.fault → ⊥ = λ m. let told : c.is_memory.result ≡ true = c.is_memory.ensures.1 m in cc in
     let by : (b : Bool) → is_utf8 bytes ≡ b → ◌≡◌ {A = Option Members} None (cond b (parse_document bytes) None) =
-        λ b. elim b as (λ b. is_utf8 bytes ≡ b → ◌≡◌ {A = Option Members} None (cond b (parse_document bytes) None)) [
-          | true ↦ λ e. sym (c.in-Err.ensures.refused not_memory (IsUtf8-from_is_utf8 bytes e))
-          | false ↦ λ e. refl
-        ] in
+    λ b. elim b as (λ b. is_utf8 bytes ≡ b → ◌≡◌ {A = Option Members} None (cond b (parse_document bytes) None)) [
+      | true ↦ λ e. sym (c.in-Err.ensures.refused not_memory (IsUtf8-from_is_utf8 bytes e))
+      | false ↦ λ e. refl
+    ] in
     by (is_utf8 bytes) refl
