@@ -53,8 +53,8 @@ only_flow f = record {
 pub guaranteed : BoundsAreGuaranteed
 guaranteed f delay backlog has run is =
     let law = one_flow_is_bounded (routes_of f) run 0 0 (λ flow. f.flow.packet) (λ flow. arrival_of f) (λ server. service_of f) delay backlog
-        (only_flow f) is.lawful is.keeps
-        (service_starts (whole f.server.rate) (whole f.server.latency) (service_of f) (nat_nonneg f.server.latency) (service f))
-        (service_rises (whole f.server.rate) (whole f.server.latency) (service_of f) (nat_nonneg f.server.rate) (service f))
-        has.is_delay has.is_backlog in
+    (only_flow f) is.lawful is.keeps
+    (service_starts (whole f.server.rate) (whole f.server.latency) (service_of f) (nat_nonneg f.server.latency) (service f))
+    (service_rises (whole f.server.rate) (whole f.server.latency) (service_of f) (nat_nonneg f.server.rate) (service f))
+    has.is_delay has.is_backlog in
     (law.0, subst (λ (x : Ext). IsFlowBounded (routes_of f) run 0 x) (add_zero_ext delay) law.1)

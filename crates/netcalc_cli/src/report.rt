@@ -28,7 +28,12 @@ fn push_bound(into: &mut Vec<u8>, bound: &Ext) -> Result<(), NoMemory>
 }
 
 #[tactic(auto, unfolding(crate::specs::Report::queue_line))]
-fn push_queue_line(into: &mut Vec<u8>, form: &Form, delay: &Ext, backlog: &Ext) -> Result<(), NoMemory>
+fn push_queue_line(
+    into: &mut Vec<u8>,
+    form: &Form,
+    delay: &Ext,
+    backlog: &Ext,
+) -> Result<(), NoMemory>
     ensures { OnOk result (into.new.items ≡ into.old.items ++ queue_line (form_view form.now) delay.now backlog.now) }
 {
     push_text(into, "queue ")?;

@@ -23,4 +23,4 @@ returns c =
     ] in
     rw c.time_for.ensures
     (finite_delay form.flow.burst form.flow.rate form.server.rate form.server.latency c.requires.divides
-        (not_overloaded form.server.rate form.flow.rate c.is_overloaded.result c.is_overloaded.ensures c.if-is_overloaded.false) moves)
+    (not_overloaded form.server.rate form.flow.rate c.is_overloaded.result c.is_overloaded.ensures c.if-is_overloaded.false) moves)
