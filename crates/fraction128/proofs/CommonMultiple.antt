@@ -4,9 +4,12 @@ use Rattle.std.proofs.Common.{arith, sym, ap, ◌∙◌, subst, refl}
 use Rattle.std.proofs.lemmas.Int.{ints}
 use Prim.Native.Nat.{◌∣◌}
 use native.Mathlib.Nat.{zero-lt-suc, dvd_trans, div-mul_cancel, dvd-mul_left, mul-div_cancel', le_of_dvd}
-use Rattle.rational.specs.Gcd.{gcd, gcd_is, gcd_pos}
+use Rattle.rational.specs.Gcd.{gcd}
+use Rattle.rational.specs.Euclid.{gcd_is, gcd_pos}
 use Rattle.rational.specs.Gauge.{lcm}
-use Rattle.rational.specs.Rational.{ℚ, den, int, over, frac, frac_self, frac-same, frac-same_out, lt_frac, ◌*ℚ◌, ◌≤ℚ◌, ◌<ℚ◌}
+use Rattle.rational.specs.Rational.{ℚ, den, int, over, frac, ◌*ℚ◌, ◌≤ℚ◌, ◌<ℚ◌}
+use Rattle.rational.specs.Fractions.{frac_self, frac-same, frac-same_out}
+use Rattle.rational.proofs.Over.{lt_frac}
 use Rattle.rational.specs.Ratio.{ratio, IsSmall}
 use Rattle.rational.proofs.Integers.{mul_whole, nat_le}
 use Rattle.rational.proofs.Laws.{le_of_lt, lt_irrefl, mul_le_mul_right, mul_one, mul_zero, mul_comm as mul_comm_q}

@@ -3,7 +3,8 @@ use Rattle.std.specs.Prelude.{◌≡◌, ◌⊎◌, ℕ, zero, suc, ◌*◌}
 use Rattle.std.proofs.Common.{inl, inr, ◌∙◌, subst}
 use Prim.Native.Nat.{◌∣◌}
 use native.Mathlib.Nat.{zero-lt-suc, one-dvd, dvd_trans, dvd-zero, dvd-mul_right, dvd_refl}
-use Rattle.rational.specs.Gcd.{gcd, gcd_is, gcd_unique, divides_other}
+use Rattle.rational.specs.Gcd.{gcd}
+use Rattle.rational.specs.Euclid.{gcd_is, gcd_unique, divides_other}
 
 pub coprime_in : (a b : ℕ) → ((k : ℕ) → k ∣ a → k ∣ b → k ∣ 1) → gcd a b ≡ 1
 coprime_in a b f = gcd_unique a b 1 (one-dvd a, one-dvd b, f)

@@ -4,9 +4,11 @@ use Rattle.std.proofs.Common.{arith, ap, ◌∙◌, refl, SFits, to_z, of_z, to_
 use mir.Syntax.{w128}
 use Rattle.std.proofs.lemmas.Int.{ints}
 use native.Mathlib.Nat.{div-mul_cancel, div-le_self, zero-lt-suc}
-use Rattle.rational.specs.Gcd.{gcd, gcd_is, gcd_pos}
+use Rattle.rational.specs.Gcd.{gcd}
+use Rattle.rational.specs.Euclid.{gcd_is, gcd_pos}
 use Rattle.rational.specs.Rational.{den}
-use Rattle.rational.specs.Ratio.{ratio, with_sign, ratio_parts, reduced_ratio, reduced_lowest, IsSmall, sign_abs, abs_some}
+use Rattle.rational.specs.Ratio.{ratio, with_sign, IsSmall}
+use Rattle.rational.proofs.Parts.{ratio_parts, reduced_ratio, reduced_lowest, sign_abs, abs_some}
 use Rattle.fraction128.specs.Parts.{AreLowest}
 
 pub record Made (a b : ℤ) (s t g : ℕ) : Type 0 where

@@ -2,10 +2,13 @@
 use Rattle.std.specs.Prelude.{◌≡◌, ℕ, zero, suc, ◌*◌, ◌/◌, ◌<◌, ◌^◌, ℤ, pos, negsuc, neg_ℤ, ◌*ℤ◌, unsigned_abs}
 use Rattle.std.proofs.Common.{arith, sym, ap, ◌∙◌}
 use native.Mathlib.Nat.{div-mul_cancel, mul-pos, zero-lt-suc}
-use Rattle.rational.specs.Gcd.{gcd, gcd_is, lowest_after}
+use Rattle.rational.specs.Gcd.{gcd}
+use Rattle.rational.specs.Euclid.{gcd_is, lowest_after}
 use Rattle.rational.specs.Ints.{diffs, diff_is, diff_same, neg_mul_z}
-use Rattle.rational.specs.Rational.{◌*ℚ◌, frac-same, both}
-use Rattle.rational.specs.Ratio.{ratio, with_sign, sign_abs, IsSmall}
+use Rattle.rational.specs.Rational.{◌*ℚ◌, both}
+use Rattle.rational.specs.Fractions.{frac-same}
+use Rattle.rational.specs.Ratio.{ratio, with_sign, IsSmall}
+use Rattle.rational.proofs.Parts.{sign_abs}
 use Rattle.rational.proofs.Over.{mul_frac, both_is}
 use Rattle.fraction128.specs.Parts.{AreLowest}
 use Rattle.fraction128.proofs.Coprime.{coprime_turned, coprime_parts, coprime_mul, part_divides}

@@ -10,7 +10,8 @@ use Rattle.std.specs.List.{list_all, position, position_or_len}
 use Rattle.std.specs.Char.{is_ascii_digit, digit_value}
 use Rattle.std.specs.Str.Parse.{starts_with_minus, AllDigits, IsNumeral}
 use Rattle.rational.specs.Gauge.{cap}
-use Rattle.rational.specs.Rational.{ℚ, frac_self}
+use Rattle.rational.specs.Rational.{ℚ}
+use Rattle.rational.specs.Fractions.{frac_self}
 use Rattle.rational.specs.Ratio.{ratio, IsSmall}
 use Rattle.fraction128.specs.Text.{text_over, text_of, largest, is_numeral, is_slash, before_at, after_at, signed_value, number_from, parse_of}
 use Rattle.fraction128.proofs.Parsed.{number_ok}

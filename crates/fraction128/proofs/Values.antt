@@ -6,7 +6,8 @@ use Rattle.std.proofs.lemmas.Int.{fits_signed_from_abs}
 use mir.Syntax.{w128}
 use Rattle.rational.specs.Gcd.{gcd}
 use Rattle.rational.specs.Rational.{ℚ, den}
-use Rattle.rational.specs.Ratio.{ratio, lowest_parts, IsSmall}
+use Rattle.rational.specs.Ratio.{ratio, IsSmall}
+use Rattle.rational.proofs.Parts.{lowest_parts}
 use Rattle.fraction128.specs.Parts.{AreLowest}
 use Rattle.fraction128.proofs.Coprime.{gcd_one}
 

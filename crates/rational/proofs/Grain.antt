@@ -5,7 +5,8 @@ use Rattle.std.proofs.Common.{◌∙◌, sym, ap, ap₂, refl, arith, subst, inl
 use borrow.Author.Differences.{up, down, le_out, neg_is}
 use Rattle.std.proofs.lemmas.Int.{ints}
 use Rattle.rational.specs.Ints.{diffs, diff_is, diff_same}
-use Rattle.rational.specs.Rational.{ℚ, frac, frac_self, frac-same, frac-same_out, ◌+ℚ◌, ◌-ℚ◌, neg_ℚ, ◌*ℚ◌, ◌≤ℚ◌, ◌<ℚ◌}
+use Rattle.rational.specs.Rational.{ℚ, frac, ◌+ℚ◌, ◌-ℚ◌, neg_ℚ, ◌*ℚ◌, ◌≤ℚ◌, ◌<ℚ◌}
+use Rattle.rational.specs.Fractions.{frac_self, frac-same, frac-same_out}
 use Rattle.rational.specs.Rational.{int}
 use Rattle.rational.proofs.Over.{le_over, lt_over, add_over, neg_over}
 use Rattle.rational.proofs.Integers.{mul_whole, int_le_out, nat_nonneg}

@@ -5,10 +5,12 @@ use Prim.Native.Nat.{◌∣◌}
 use Rattle.std.proofs.lemmas.Int.{ints}
 use native.Mathlib.Nat.{dvd-mul_left, dvd-mul_right, dvd-zero, le_of_dvd, mul-div_cancel', mul-le-mul_left}
 use native.Mathlib.Nat.{le_of_mul-le-mul_right, zero-lt-suc}
-use Rattle.rational.specs.Gcd.{divides_other}
-use Rattle.rational.specs.Rational.{ℚ, den, ◌+ℚ◌, ◌-ℚ◌, ◌*ℚ◌, ◌/ℚ◌, neg_ℚ, ◌≤ℚ◌, int, frac, frac_self, frac-same}
-use Rattle.rational.specs.Rational.{frac-same_out, both, abs-mul}
-use Rattle.rational.specs.Ratio.{neg-abs}
+use Rattle.rational.specs.Euclid.{divides_other}
+use Rattle.rational.specs.Rational.{ℚ, den, ◌+ℚ◌, ◌-ℚ◌, ◌*ℚ◌, ◌/ℚ◌, neg_ℚ, ◌≤ℚ◌, int, frac}
+use Rattle.rational.specs.Fractions.{frac_self, frac-same}
+use Rattle.rational.specs.Fractions.{frac-same_out, abs-mul}
+use Rattle.rational.specs.Rational.{both}
+use Rattle.rational.proofs.Parts.{neg-abs}
 use Rattle.rational.specs.Grid.{Whole, Within}
 use Rattle.rational.proofs.Over.{add_over, neg_over, mul_frac}
 use Rattle.rational.proofs.Integers.{mul_whole, nat_nonneg, nat_le_out}

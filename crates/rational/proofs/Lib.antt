@@ -1,3 +1,4 @@
+pub mod Parts
 pub mod Over
 pub mod Integers
 pub mod Bootstrap

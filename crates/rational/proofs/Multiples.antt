@@ -5,8 +5,9 @@ use Prim.Native.Nat.{◌∣◌}
 use native.Mathlib.Nat.{dvd-zero, dvd-mul_left, mul-dvd-mul_left, dvd_of_mul-dvd-mul_left, mul_comm, mul_assoc}
 use native.Mathlib.Nat.{mul-pos, zero-lt-suc, mul-div_cancel', div-mul_cancel}
 use Rattle.std.specs.Int.{IsGcd}
-use Rattle.rational.specs.Gcd.{gcd, gcd_is, gcd_pos, divides_other, lowest_after, gcd_unique}
-use Rattle.rational.specs.Rational.{quotient_pos}
+use Rattle.rational.specs.Gcd.{gcd}
+use Rattle.rational.specs.Euclid.{gcd_is, gcd_pos, divides_other, lowest_after, gcd_unique}
+use Rattle.rational.specs.Lowest.{quotient_pos}
 use Rattle.rational.specs.Gauge.{lcm}
 
 -- how often the greatest common divisor goes into a number

@@ -6,8 +6,10 @@ use native.Mathlib.Nat.{le_of_dvd, mul-pos}
 use Rattle.rational.specs.Gcd.{gcd}
 use Rattle.rational.specs.Ints.{diffs, diff_is, diff_same}
 use Rattle.rational.proofs.Over.{mul_frac}
-use Rattle.rational.specs.Rational.{ℚ, den, ◌+ℚ◌, ◌*ℚ◌, ◌/ℚ◌, neg_ℚ, ◌≤ℚ◌, int, frac_self, frac-same, both}
-use Rattle.rational.specs.Ratio.{IsSmall, SumFits, abs_some}
+use Rattle.rational.specs.Rational.{ℚ, den, ◌+ℚ◌, ◌*ℚ◌, ◌/ℚ◌, neg_ℚ, ◌≤ℚ◌, int, both}
+use Rattle.rational.specs.Fractions.{frac_self, frac-same}
+use Rattle.rational.specs.Ratio.{IsSmall, SumFits}
+use Rattle.rational.proofs.Parts.{abs_some}
 use Rattle.rational.specs.Gauge.{lcm}
 use Rattle.rational.specs.Grid.{Whole, Within}
 use Rattle.rational.proofs.Integers.{nat_le, nat_nonneg, nat_le_out}

@@ -4,7 +4,8 @@ use Rattle.rational.specs.Rational.{ℚ, int, ◌-ℚ◌, ◌≤ℚ◌, ◌<ℚ�
 use Rattle.rational.specs.MinMax.{min_q, max_q}
 use Rattle.rational.specs.Line.{line_at}
 use Rattle.rational.specs.Stretch.{Between, After}
-use Rattle.rational.specs.Extended.{Ext, ◌≤ₑ◌, ◌+ₑ◌, min_ext, max_ext, IsInfimum, IsSupremum}
+use Rattle.rational.specs.Extended.{Ext, ◌≤ₑ◌, ◌+ₑ◌, min_ext, max_ext}
+use Rattle.rational.specs.Bounds.{IsInfimum, IsSupremum}
 use Rattle.rational.specs.Families.{either, raised, sums, Coinitial, Cofinal}
 use Rattle.rational.specs.declared.Extended.TheVariants.{Fin, Inf}
 

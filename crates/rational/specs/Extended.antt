@@ -1,5 +1,4 @@
--- The rationals with infinity above them all, and the bounds of a family of them. Textbook, but for the form of the
--- bounds, which is own choice: one clause serves finite and infinite bounds, and hands out the member that is close.
+-- The rationals with infinity above them all: order, sum, and the lesser and the greater of two. Textbook.
 use Rattle.rational.specs.Rational.{ℚ, ◌+ℚ◌, ◌-ℚ◌, ◌≤ℚ◌, ◌<ℚ◌}
 use Rattle.rational.specs.declared.Extended.{Extended}
 use Rattle.rational.specs.MinMax.{min_q, max_q}
@@ -33,17 +32,6 @@ Fin x +ₑ Fin y = Fin (x +ℚ y)
 abbrev pub ◌-ₑ◌ : Ext → ℚ → Ext
 Inf -ₑ y = Inf
 Fin x -ₑ y = Fin (x -ℚ y)
-
--- the infimum x of the members F: it is at most each, and each number above it is above some member
-pub record IsInfimum {I : Type 0} (F : I → Ext) (x : Ext) : Type 0 where
-  pub below : (i : I) → x ≤ₑ F i
-  pub near : (y : ℚ) → x <ₑ Fin y → (i : I) × (F i <ₑ Fin y)
-
--- the supremum x of the members F: it is at least each, and each number below it is below some member; so where it is
--- infinite some member is above any number
-pub record IsSupremum {I : Type 0} (F : I → Ext) (x : Ext) : Type 0 where
-  pub above : (i : I) → F i ≤ₑ x
-  pub near : (y : ℚ) → Fin y <ₑ x → (i : I) × (Fin y <ₑ F i)
 
 -- the lesser of two
 abbrev pub min_ext : Ext → Ext → Ext

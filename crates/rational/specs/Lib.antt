@@ -1,9 +1,13 @@
 pub mod Gcd
+pub mod Euclid
 pub mod Ints
+pub mod Lowest
 pub mod Rational
+pub mod Fractions
 pub mod Ratio
 pub mod MinMax
 pub mod Extended
+pub mod Bounds
 pub mod Line
 pub mod Stretch
 pub mod Floor

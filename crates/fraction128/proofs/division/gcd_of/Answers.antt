@@ -1,5 +1,6 @@
 use Rattle.std.proofs.Common.{sym, ◌∙◌, ap}
-use Rattle.rational.specs.Gcd.{gcd, gcd-mod, gcd-zero}
+use Rattle.rational.specs.Gcd.{gcd}
+use Rattle.rational.specs.Euclid.{gcd-mod, gcd-zero}
 use Rattle.fraction128.proofs.Coprime.{gcd_with_one, gcd_self}
 use Rattle.fraction128.proofs.division.gcd_of.Goals as goal
 

@@ -1,6 +1,7 @@
 use Rattle.std.proofs.Common.{rules, arith, ◌≤◌, ◌/◌, ◌<◌, ◌^◌, ◌+ℤ◌, ap, ◌∙◌, to_z-of_z, SFits, pos, unsigned_abs, refl}
 use mir.Syntax.{w128}
-use Rattle.rational.specs.Gcd.{gcd, gcd_pos}
+use Rattle.rational.specs.Gcd.{gcd}
+use Rattle.rational.specs.Euclid.{gcd_pos}
 use Rattle.rational.specs.Ratio.{ratio}
 use Rattle.fraction128.proofs.Values.{unfit_abs}
 use Rattle.fraction128.proofs.Added.{SumParts, sum_parts, sum_wide, sum_as_lowest}

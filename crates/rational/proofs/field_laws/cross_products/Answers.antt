@@ -1,5 +1,6 @@
 -- What two fractions are to each other, their cross products are.
-use Rattle.rational.specs.Rational.{frac-same, frac-same_out, le_frac, lt_frac}
+use Rattle.rational.specs.Fractions.{frac-same, frac-same_out}
+use Rattle.rational.proofs.Over.{le_frac, lt_frac}
 use Rattle.rational.proofs.field_laws.cross_products.Goals as goal
 
 pub returns : goal.returns

@@ -1,6 +1,6 @@
 -- A number is the quotient of its parts.
 use Rattle.std.proofs.Common.{◌∙◌}
-use Rattle.rational.specs.Rational.{frac_self}
+use Rattle.rational.specs.Fractions.{frac_self}
 use Rattle.rational.proofs.Quotients.{frac_is_div}
 use Rattle.rational.proofs.field_laws.lowest_terms.Goals as goal
 
