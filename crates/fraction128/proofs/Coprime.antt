@@ -1,6 +1,6 @@
 -- Numbers that have no common divisor but 1.
-use Rattle.std.specs.Prelude.{◌≡◌, ◌⊎◌, ℕ, zero, suc, ◌*◌}
-use Rattle.std.proofs.Common.{inl, inr, ◌∙◌, subst}
+use Rattle.std.specs.Prelude.{◌≡◌, ◌⊎◌, ℕ, zero, suc, ◌*◌, ◌<◌}
+use Rattle.std.proofs.Common.{arith, inl, inr, ◌∙◌, subst}
 use Prim.Native.Nat.{◌∣◌}
 use native.Mathlib.Nat.{zero-lt-suc, one-dvd, dvd_trans, dvd-zero, dvd-mul_right, dvd_refl}
 use Rattle.rational.specs.Gcd.{gcd}
@@ -41,5 +41,11 @@ pub coprime_mul : (n a b : ℕ) → gcd n a ≡ 1 → gcd n b ≡ 1 → gcd n (a
 coprime_mul n a b p q =
     coprime_in n (a * b) (λ k r s. coprime_out n b k q r (divides_rest a b k (coprime_turned k a (coprime_parts n a k a p r (dvd_refl a))) s))
 
+-- a factor of a number above 0 is above 0
+pub factor_some : (q g n : ℕ) → q * g ≡ n → 0 < n → 0 < q
+factor_some zero g n e h = absurd (omega arith)
+factor_some (suc q) g n e h = zero-lt-suc q
+
+-- a factor divides
 pub part_divides : (n q g : ℕ) → q * g ≡ n → q ∣ n
 part_divides n q g e = subst (λ m. q ∣ m) e (dvd-mul_right q g)
