@@ -44,9 +44,8 @@ only_flow : (f : Form) → IsOnlyFlow (routes_of f) 0 0
 only_flow f = record {
   known = lit< tt;
   is_fifo = refl;
-  link_on = le_refl zero_q;
   is_live = refl;
-  path = refl;
+  one_hop = record { path = refl; link_on = le_refl zero_q };
   alone = λ i live passes. only_live f i live;
 }
 
