@@ -1,10 +1,11 @@
--- The two deviations of a flow and a server whose numbers are whole: burst b and rate r of the flow, rate R and latency T of the
--- server, and the flow's longest packet l.
+-- The two deviations of a flow and a server whose numbers are whole: burst b and rate r of the flow, rate R and
+-- latency T of the server, and the flow's longest packet l.
 use Rattle.std.specs.Prelude.{◌≡◌, ℕ, ◌<◌, ◌≤◌, ◌⊎◌, ◌↔◌, Bool, false, IsTrue}
 use Rattle.std.proofs.Common.{arith, inl, inr}
-use Rattle.std.proofs.lemmas.Bool.{cases_order}
 use Rattle.std.proofs.Math.Nat.{eq-zero-or-pos}
-use Rattle.rational.specs.Rational.{◌+ℚ◌, ◌*ℚ◌, ◌/ℚ◌, ◌<ℚ◌}
+use Rattle.std.proofs.lemmas.Bool.{cases_order}
+use Rattle.rational.specs.Rational.{ℚ, ◌+ℚ◌, ◌*ℚ◌, ◌/ℚ◌, ◌<ℚ◌}
+use Rattle.rational.specs.Extended.{Ext}
 use Rattle.rational.specs.declared.Extended.TheVariants.{Fin, Inf}
 use Rattle.rational.proofs.Integers.{nat_le, nat_lt, nat_nonneg}
 use Rattle.upp_curve.specs.Curve.{value_at}
@@ -13,6 +14,13 @@ use Rattle.upp_curve.specs.Pointwise.{packetised}
 use Rattle.upp_curve.specs.Deviations.{IsHorizontalDeviation, IsVerticalDeviation}
 use Rattle.upp_curve.proofs.BucketDeviations.{delay, no_delay, unbounded_delay, backlog, unbounded_backlog}
 use Rattle.run_laws.specs.Cards.{whole}
+
+-- the two curves
+abbrev pub arrival : ℕ → ℕ → ℚ → Ext
+arrival b r = value_at (bucket (whole b) (whole r))
+
+abbrev pub service : ℕ → ℕ → ℚ → Ext
+service R T = value_at (rate_latency (whole R) (whole T))
 
 -- what a test says where it is false
 pub not_overloaded : (R r : ℕ) (test : Bool) → IsTrue test ↔ (R < r) → test ≡ false → r ≤ R
@@ -29,26 +37,32 @@ some_moves b r some = elim (eq-zero-or-pos b) [
   | inr h ↦ inl (nat_lt 0 b h)
 ]
 
+-- ---- the delay
 pub finite_delay : (b r R T : ℕ) → 1 ≤ R → r ≤ R → (b ≡ 0 → r ≡ 0 → ⊥)
-    → IsHorizontalDeviation (value_at (bucket (whole b) (whole r))) (value_at (rate_latency (whole R) (whole T))) (Fin (whole T +ℚ whole b /ℚ whole R))
+    → IsHorizontalDeviation (arrival b r) (service R T) (Fin (whole T +ℚ whole b /ℚ whole R))
 finite_delay b r R T some slow moves =
-    delay (whole b) (whole r) (whole R) (whole T) (nat_nonneg b) (nat_nonneg r) (nat_lt 0 R (omega arith)) (nat_nonneg T) (nat_le r R slow) (some_moves b r moves)
+    delay (whole b) (whole r) (whole R) (whole T) (nat_nonneg b) (nat_nonneg r) (nat_lt 0 R (omega arith)) (nat_nonneg T)
+    (nat_le r R slow) (some_moves b r moves)
 
 pub nothing_sent : (b r R T : ℕ) → 1 ≤ R → b ≡ 0 → r ≡ 0
-    → IsHorizontalDeviation (value_at (bucket (whole b) (whole r))) (value_at (rate_latency (whole R) (whole T))) (Fin (whole 0))
-nothing_sent b r R T some no_burst no_rate = rw (no_burst, no_rate) (no_delay (whole R) (whole T) (nat_lt 0 R (omega arith)) (nat_nonneg T))
+    → IsHorizontalDeviation (arrival b r) (service R T) (Fin (whole 0))
+nothing_sent b r R T some no_burst no_rate =
+    rw (no_burst, no_rate) (no_delay (whole R) (whole T) (nat_lt 0 R (omega arith)) (nat_nonneg T))
 
-pub infinite_delay : (b r R T : ℕ) → 1 ≤ R → R < r
-    → IsHorizontalDeviation (value_at (bucket (whole b) (whole r))) (value_at (rate_latency (whole R) (whole T))) Inf
+pub infinite_delay : (b r R T : ℕ) → 1 ≤ R → R < r → IsHorizontalDeviation (arrival b r) (service R T) Inf
 infinite_delay b r R T some fast =
-    unbounded_delay (whole b) (whole r) (whole R) (whole T) (nat_nonneg b) (nat_lt 0 R (omega arith)) (nat_nonneg T) (nat_lt R r fast)
+    unbounded_delay (whole b) (whole r) (whole R) (whole T) (nat_nonneg b) (nat_lt 0 R (omega arith)) (nat_nonneg T)
+    (nat_lt R r fast)
 
-pub finite_backlog : (b r R T l : ℕ) → 1 ≤ R → r ≤ R
-    → IsVerticalDeviation (value_at (bucket (whole b) (whole r))) (packetised (value_at (rate_latency (whole R) (whole T))) (whole l)) (Fin (whole b +ℚ whole r *ℚ (whole T +ℚ whole l /ℚ whole R)))
+-- ---- the backlog
+pub finite_backlog : (b r R T l : ℕ) → 1 ≤ R → r ≤ R → IsVerticalDeviation (arrival b r) (packetised (service R T) (whole l))
+    (Fin (whole b +ℚ whole r *ℚ (whole T +ℚ whole l /ℚ whole R)))
 finite_backlog b r R T l some slow =
-    backlog (whole b) (whole r) (whole R) (whole T) (whole l) (nat_nonneg b) (nat_nonneg r) (nat_lt 0 R (omega arith)) (nat_nonneg T) (nat_nonneg l) (nat_le r R slow)
+    backlog (whole b) (whole r) (whole R) (whole T) (whole l) (nat_nonneg b) (nat_nonneg r) (nat_lt 0 R (omega arith))
+    (nat_nonneg T) (nat_nonneg l) (nat_le r R slow)
 
 pub infinite_backlog : (b r R T l : ℕ) → 1 ≤ R → R < r
-    → IsVerticalDeviation (value_at (bucket (whole b) (whole r))) (packetised (value_at (rate_latency (whole R) (whole T))) (whole l)) Inf
+    → IsVerticalDeviation (arrival b r) (packetised (service R T) (whole l)) Inf
 infinite_backlog b r R T l some fast =
-    unbounded_backlog (whole b) (whole r) (whole R) (whole T) (whole l) (nat_nonneg b) (nat_lt 0 R (omega arith)) (nat_nonneg T) (nat_nonneg l) (nat_lt R r fast)
+    unbounded_backlog (whole b) (whole r) (whole R) (whole T) (whole l) (nat_nonneg b) (nat_lt 0 R (omega arith))
+    (nat_nonneg T) (nat_nonneg l) (nat_lt R r fast)

@@ -20,7 +20,8 @@ use Rattle.netcalc_cli.specs.Bounds.{IsBacklogBound}
 use Rattle.netcalc_cli.specs.Example.{one_flow_text, one_flow, OneFlowReachesItsBound}
 use Rattle.netcalc_cli.proofs.DeviationLemmas.{finite_backlog}
 
-sent : (q : ℚ) → q *ℚ whole 100 ≡ whole 12000 → q *ℚ whole 100 ≡ whole 100 *ℚ q → whole 12000 +ℚ whole 10 *ℚ (whole 10 +ℚ q) ≡ whole 13300
+sent : (q : ℚ) → q *ℚ whole 100 ≡ whole 12000 → q *ℚ whole 100 ≡ whole 100 *ℚ q
+    → whole 12000 +ℚ whole 10 *ℚ (whole 10 +ℚ q) ≡ whole 13300
 sent q e f = with2 q (q *ℚ whole 100) (λ c. omega (arith, c.le, c.lt, c.same))
 
 its_backlog : IsBacklogBound one_flow (Fin (whole 13300))

@@ -22,8 +22,9 @@ use Rattle.netcalc_cli.specs.Guarantee.{routes_of, BoundsAreGuaranteed}
 -- ---- a rate after a latency
 service_rises : (R T : ℚ) (g : ℚ → Ext) → zero_q ≤ℚ R → IsService R T g → IsRising g
 service_rises R T g some is s t on l =
-    rw (is.is s on, is.is t (le_trans on l))
-    (mul_le_mul R some (max_q_mono zero_q (s -ℚ T) zero_q (t -ℚ T) (le_refl zero_q) (with3 s t T (λ c. omega (arith, c.le, c.lt, c.same)))))
+    let less : s -ℚ T ≤ℚ t -ℚ T = with3 s t T (λ c. omega (arith, c.le, c.lt, c.same)) in
+    let most = max_q_mono zero_q (s -ℚ T) zero_q (t -ℚ T) (le_refl zero_q) less in
+    rw (is.is s on, is.is t (le_trans on l)) (mul_le_mul R some most)
 
 service_starts : (R T : ℚ) (g : ℚ → Ext) → zero_q ≤ℚ T → IsService R T g → IsZeroAtStart g
 service_starts R T g on is =
@@ -32,7 +33,9 @@ service_starts R T g on is =
     rw (is.is zero_q (le_refl zero_q), e) (with1 (R *ℚ zero_q) (λ c. omega (arith, c.le, c.lt, c.same)))
 
 service : (f : Form) → IsService (whole f.server.rate) (whole f.server.latency) (service_of f)
-service f = service_is (whole f.server.rate) (whole f.server.latency) (nat_nonneg f.server.rate) (nat_nonneg f.server.latency)
+service f =
+    let s = f.server in
+    service_is (whole s.rate) (whole s.latency) (nat_nonneg s.rate) (nat_nonneg s.latency)
 
 -- ---- the network of a form
 -- flow 0 is the one that is live
@@ -51,9 +54,9 @@ only_flow f = record {
 
 pub guaranteed : BoundsAreGuaranteed
 guaranteed f delay backlog has run is =
-    let law = one_flow_is_bounded (routes_of f) run 0 0 (λ flow. f.flow.packet) (λ flow. arrival_of f) (λ server. service_of f) delay backlog
-    (only_flow f) is.lawful is.keeps
-    (service_starts (whole f.server.rate) (whole f.server.latency) (service_of f) (nat_nonneg f.server.latency) (service f))
-    (service_rises (whole f.server.rate) (whole f.server.latency) (service_of f) (nat_nonneg f.server.rate) (service f))
-    has.is_delay has.is_backlog in
+    let s = f.server in
+    let starts = service_starts (whole s.rate) (whole s.latency) (service_of f) (nat_nonneg s.latency) (service f) in
+    let rises = service_rises (whole s.rate) (whole s.latency) (service_of f) (nat_nonneg s.rate) (service f) in
+    let law = one_flow_is_bounded (routes_of f) run 0 0 (λ flow. f.flow.packet) (λ flow. arrival_of f)
+    (λ server. service_of f) delay backlog (only_flow f) is.lawful is.keeps starts rises has.is_delay has.is_backlog in
     (law.0, subst (λ (x : Ext). IsFlowBounded (routes_of f) run 0 x) (add_zero_ext delay) law.1)

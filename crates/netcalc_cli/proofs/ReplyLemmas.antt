@@ -1,15 +1,14 @@
--- Which replies the words and the inputs may bring, by their status.
-use Rattle.std.proofs.Common.{◌≡◌, ◌<◌, ℕ, Bool, true, false, cond, ltb, List, length, Option, Some, None, IfSome, inl, inr, refl, lit<, sym, ap, subst, ◌∙◌}
+-- Which reply there is on a file.
+use Rattle.std.proofs.Common.{◌≡◌, ◌<◌, ℕ, List, length, Option, Some, None, IfSome, refl, lit<, sym, ap, ◌∙◌}
 use Rattle.std.proofs.Math.ListN.{replicate}
-use Rattle.std.proofs.lemmas.Bool.{lt-ltb, ltb-false}
+use Rattle.std.proofs.lemmas.Bool.{lt-ltb}
 use Rattle.std.proofs.lemmas.List.{length-replicate}
 use Rattle.rational.specs.Extended.{Ext}
 use Rattle.upp_curve.proofs.Unambiguous.{deviations_are_unique}
-use Rattle.netcalc_cli.specs.Form.{Form, form_of}
+use Rattle.netcalc_cli.specs.Form.{Form}
 use Rattle.netcalc_cli.specs.Bounds.{arrival_of, service_of, packet_service_of, BoundsAreUnique}
-use Rattle.netcalc_cli.specs.Guarantee.{Guarantees}
-use Rattle.netcalc_cli.specs.Reply.{Reply, report, IsReportOn, IsReplyOnForm, TooLong, Fits, found_in, IsReplyOn, RepliesAreUnique, most_bytes, MayHold, Reads, MayReplyOn, Gives}
-use Rattle.netcalc_cli.proofs.GuaranteeLemmas.{guaranteed}
+use Rattle.netcalc_cli.specs.Reply.{Reply, report, IsReportOn, TooLong, Fits, found_in, RepliesAreUnique}
+use Rattle.netcalc_cli.specs.Reply.{most_bytes, MayHold}
 
 -- a list of any length
 of_length : (n : ℕ) → (bytes : List ℕ) × (length bytes ≡ n)
@@ -40,35 +39,3 @@ pub replies_are_unique : RepliesAreUnique
 replies_are_unique file TooLong x y h k = h ∙ sym k
 replies_are_unique file (Fits None) x y h k = h ∙ sym k
 replies_are_unique file (Fits (Some form)) x y h k = same_report form x y h k
-
--- ---- a reply of status 0
--- in a file that fits, bytes that read as a form
-reads : (told : Option (List ℕ)) (bytes : List ℕ) (form : Form) → MayHold told bytes → ltb most_bytes (length bytes) ≡ false → form_of bytes ≡ Some form → Reads told form
-reads told bytes form held fits is = record { bytes = bytes; held = held; fits = ltb-false most_bytes (length bytes) fits; reads = is }
-
--- what is read and shown
-pub record IsShown (told : Option (List ℕ)) (reply : Reply) : Type 0 where
-  pub form : Form
-  pub reads : Reads told form
-  pub is_report : IsReportOn form reply
-
-shown_on-form : (told : Option (List ℕ)) (bytes : List ℕ) (reply : Reply) (form : Option Form) → MayHold told bytes → ltb most_bytes (length bytes) ≡ false → form_of bytes ≡ form → IsReplyOnForm form reply → reply.status ≡ 0 → IsShown told reply
-shown_on-form told bytes reply None held fits is same zero = absurd (cc)
-shown_on-form told bytes reply (Some form) held fits is report zero = record { form = form; reads = reads told bytes form held fits is; is_report = report }
-
-shown_in : (told : Option (List ℕ)) (file bytes : List ℕ) (reply : Reply) (longer : Bool) → MayHold told bytes → ltb most_bytes (length bytes) ≡ longer → IsReplyOn file (cond longer TooLong (Fits (form_of bytes))) reply → reply.status ≡ 0 → IsShown told reply
-shown_in told file bytes reply true held is same zero = absurd (cc)
-shown_in told file bytes reply false held is same zero = shown_on-form told bytes reply (form_of bytes) held is refl same zero
-
--- a reply of status 0 is the report on the form of a file
-pub shown : {I : Type 0} (faults : I → ℕ) (last_fault : I → List ℕ) (told : Option (List ℕ)) (file : List ℕ) (old new : I) (reply : Reply) →
-    MayReplyOn faults last_fault told file old new reply → reply.status ≡ 0 → IsShown told reply
-shown faults last_fault told file old new reply (inl failed) zero = let same = failed.1 in absurd (cc)
-shown faults last_fault told file old new reply (inr found) zero = shown_in told file found.0 reply (ltb most_bytes (length found.0)) found.1 refl found.2 zero
-
--- and its numbers are guaranteed
-pub guarantee_of : (told : Option (List ℕ)) (reply : Reply) (status : ℕ) (old new : Option (List ℕ)) → IsShown told reply → Gives status old new reply →
-    (form : Form) × (delay : Ext) × (backlog : Ext) × Reads told form × Guarantees form delay backlog × Gives status old new (report form delay backlog)
-guarantee_of told reply status old new s given =
-    let r = s.is_report in
-    (s.form, r.delay, r.backlog, s.reads, guaranteed s.form r.delay r.backlog r.bounds, subst (Gives status old new) r.is given)

@@ -1,5 +1,5 @@
--- What bounds the delay and the backlog of a flow through a server: how far the flow's arrival curve lies from the server's
--- service curve. (Le Boudec and Thiran, section 1.4; the packet by their packetisers.)
+-- What bounds the delay and the backlog of a flow through a server: how far the flow's arrival curve lies from the
+-- server's service curve. (Le Boudec and Thiran, section 1.4; the packet by their packetisers.)
 use Rattle.std.specs.Prelude.{◌≡◌}
 use Rattle.rational.specs.Rational.{ℚ}
 use Rattle.rational.specs.Extended.{Ext}

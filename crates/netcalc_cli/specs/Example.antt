@@ -1,5 +1,5 @@
--- The premises of the guarantee can be met, and its bound can be reached: by one packet through the server of the example
--- file `one_flow.toml`.
+-- The premises of the guarantee can be met, and its bound on the delay can be reached: by one packet through the server
+-- of the example file `one_flow.toml`.
 use Rattle.std.specs.Prelude.{◌≡◌, ℕ, List, [], ◌∷◌, ◌++◌, codes, Some}
 use Rattle.rational.specs.declared.Extended.TheVariants.{Fin}
 use Rattle.run_laws.specs.Cards.{whole, of_queue}
@@ -34,8 +34,8 @@ one_flow = record {
   flow = record { name = codes "f1"; packet = 12000; burst = 12000; rate = 10 };
 }
 
--- Its bounds are 130 and 13300. A packet of 12000 bits that enters at 0 and is worked on from 10 to 130 is a lawful run that
--- keeps the file's sizes and curves, and the packet's delay is 130.
+-- Its bounds are 130 and 13300. A packet of 12000 bits that enters at 0 and is worked on from 10 to 130 is a lawful run
+-- that keeps the file's sizes and curves, and the packet's delay is 130.
 pub record OneFlowReachesItsBound : Type 0 where
   pub is_read : form_of one_flow_text ≡ Some one_flow
   pub bounds : HasBounds one_flow (Fin (whole 130)) (Fin (whole 13300))

@@ -1,5 +1,6 @@
--- What the program answers: its exit status, and the bytes that it writes.
-use Rattle.std.specs.Prelude.{◌≡◌, ◌≤◌, ◌<◌, ◌⊎◌, ℕ, ◌++◌, List, length, codes, Option, Some, None, IfSome, nat_lt, if◌then◌else◌}
+-- What the program answers on words and files, and what it means that the answer is given.
+use Rattle.std.specs.Prelude.{◌≡◌, ◌≤◌, ◌<◌, ◌⊎◌, ℕ, ◌++◌, List, length, codes, nat_lt, if◌then◌else◌}
+use Rattle.std.specs.Prelude.{Option, Some, None, IfSome}
 use Rattle.rational.specs.Extended.{Ext}
 use Rattle.std.specs.Io.KnownBytes.{Appends}
 use Rattle.outside.specs.Faults.{Rose}
@@ -8,6 +9,7 @@ use Rattle.netcalc_cli.specs.Form.{Form, form_of}
 use Rattle.netcalc_cli.specs.Report.{report_of}
 use Rattle.netcalc_cli.specs.Bounds.{HasBounds}
 
+-- an exit status, and the bytes that are written
 pub record Reply : Type 0 where
   pub status : ℕ
   pub bytes : List ℕ
@@ -56,6 +58,7 @@ pub data Found : Type 0 where
   TooLong : Found
   Fits : (form : Option Form) → Found
 
+-- what is found in these bytes
 abbrev pub found_in : List ℕ → Found
 found_in bytes = if nat_lt most_bytes (length bytes) then TooLong else Fits (form_of bytes)
 
@@ -66,7 +69,8 @@ IsReplyOn file (Fits form) reply = IsReplyOnForm form reply
 
 -- there is one such reply: status and bytes are a function of the file's name and of what it holds
 abbrev pub RepliesAreUnique : Type 0
-RepliesAreUnique = (file : List ℕ) (found : Found) (x y : Reply) → IsReplyOn file found x → IsReplyOn file found y → x ≡ y
+RepliesAreUnique = (file : List ℕ) (found : Found) (x y : Reply) →
+    IsReplyOn file found x → IsReplyOn file found y → x ≡ y
 
 -- These are the bytes that are told, or any where none are told.
 abbrev pub MayHold : Option (List ℕ) → List ℕ → Type 0
@@ -93,18 +97,21 @@ pub record IsTooLong (told : Option (List ℕ)) : Type 0 where
   pub longer : most_bytes < length bytes
 
 -- The inputs failed in this call, and last at this file.
-pub record FailedAt {I : Type 0} (faults : I → ℕ) (last_fault : I → List ℕ) (file : List ℕ) (old new : I) : Type 0 where
+pub record FailedAt {I : Type 0} (faults : I → ℕ) (last_fault : I → List ℕ) (file : List ℕ) (old new : I)
+    : Type 0 where
   pub rose : Rose (faults old) (faults new)
   pub name : last_fault new ≡ file
 
 -- The inputs may bring this reply on a file: they failed at it, or it is the reply on what the file holds.
-abbrev pub MayReplyOn : {I : Type 0} → (I → ℕ) → (I → List ℕ) → Option (List ℕ) → List ℕ → I → I → Reply → Type 0
+abbrev pub MayReplyOn : {I : Type 0} → (I → ℕ) → (I → List ℕ) → Option (List ℕ) → List ℕ → I → I → Reply
+    → Type 0
 MayReplyOn faults last_fault told file old new reply =
     (FailedAt faults last_fault file old new × (reply ≡ cannot_read file))
     ⊎ ((bytes : List ℕ) × MayHold told bytes × IsReplyOn file (found_in bytes) reply)
 
 -- Words and inputs may bring this reply.
-abbrev pub MayReply : {I : Type 0} → (I → List ℕ → Option (List ℕ)) → (I → ℕ) → (I → List ℕ) → Option (List ℕ) → I → I → Reply → Type 0
+abbrev pub MayReply : {I : Type 0} → (I → List ℕ → Option (List ℕ)) → (I → ℕ) → (I → List ℕ) → Option (List ℕ)
+    → I → I → Reply → Type 0
 MayReply content faults last_fault None old new reply = reply ≡ usage
 MayReply content faults last_fault (Some file) old new reply =
     MayReplyOn faults last_fault (content old file) file old new reply
@@ -113,7 +120,15 @@ MayReply content faults last_fault (Some file) old new reply =
 abbrev pub Gives : ℕ → Option (List ℕ) → Option (List ℕ) → Reply → Type 0
 Gives status old new reply = (status ≡ reply.status) × Appends old new reply.bytes
 
+-- The file reads as this form, and the report on it was written, with these numbers, which are the form's bounds.
+pub record Reports (told : Option (List ℕ)) (form : Form) (delay backlog : Ext) (status : ℕ)
+    (old new : Option (List ℕ)) : Type 0 where
+  pub reads : Reads told form
+  pub bounds : HasBounds form delay backlog
+  pub given : Gives status old new (report form delay backlog)
+
 -- The sink failed in this call, and a front of the reply's bytes was written.
-pub record FailsToGive {K : Type 0} (faults : K → ℕ) (written : K → Option (List ℕ)) (old new : K) (reply : Reply) : Type 0 where
+pub record FailsToGive {K : Type 0} (faults : K → ℕ) (written : K → Option (List ℕ)) (old new : K) (reply : Reply)
+    : Type 0 where
   pub rose : Rose (faults old) (faults new)
   pub front : AppendsFront (written old) (written new) reply.bytes

@@ -13,13 +13,16 @@ bound_text (Fin q) = text_of q
 -- the queue's delay and backlog
 unfoldable pub queue_line : Form → Ext → Ext → List ℕ
 queue_line f delay backlog =
-    codes "queue " ++ f.server.name ++ codes " 0 delay " ++ bound_text delay ++ codes " backlog " ++ bound_text backlog ++ codes "\n"
+    codes "queue " ++ f.server.name ++ codes " 0 delay " ++ bound_text delay
+    ++ codes " backlog " ++ bound_text backlog ++ codes "\n"
 
--- the flow's delay from end to end, three times: by the total flow, by the flow apart, and the lesser of the two
+-- the flow's delay from end to end, three times: by total-flow analysis, by separate-flow analysis, and the lesser of
+-- the two, which are one where there is one server
 unfoldable pub flow_line : Form → Ext → List ℕ
 flow_line f delay =
     let text = bound_text delay in
-    codes "flow " ++ f.flow.name ++ codes " tfa " ++ text ++ codes " sfa " ++ text ++ codes " bound " ++ text ++ codes "\n"
+    codes "flow " ++ f.flow.name
+    ++ codes " tfa " ++ text ++ codes " sfa " ++ text ++ codes " bound " ++ text ++ codes "\n"
 
 -- a line on how many servers and flows there are, a line for the queue, a line for the flow
 unfoldable pub report_of : Form → Ext → Ext → List ℕ

@@ -47,7 +47,8 @@ fn sent_meanwhile(flow: &Flow, server: &Server) -> Frac
     requires latency { server.now.latency ≤ largest }
     requires packet { flow.now.packet ≤ largest }
     requires flow_rate { flow.now.rate ≤ largest }
-    ensures { result ≡ whole flow.now.rate *ℚ (whole server.now.latency +ℚ whole flow.now.packet /ℚ whole server.now.rate) }
+    ensures { result ≡ whole flow.now.rate
+        *ℚ (whole server.now.latency +ℚ whole flow.now.packet /ℚ whole server.now.rate) }
 {
     Frac::mul(whole(flow.rate), time_for(flow.packet, server)).unwrap()
 }

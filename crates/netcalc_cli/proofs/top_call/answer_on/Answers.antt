@@ -9,5 +9,7 @@ pub returns-in-Err-TooLong : goal.returns-in-Err-TooLong
 returns-in-Err-TooLong g c =
     let told = g.I.Inputs.content c.args.inputs.now c.args.file.now in
     let long = too_long-found told (c.in-Err-TooLong.ensures.too_long (ap Err c.in-Err-TooLong.field-0-is)) in
+    let file = c.args.file.now in
     IfOk-weaker c.too_long.result _ _
-    (λ answer same. inr (long.0, long.1, subst (λ found. IsReplyOn c.args.file.now found (reply_of answer)) (sym long.2) same)) c.too_long.ensures
+    (λ answer same. inr (long.0, long.1, subst (λ found. IsReplyOn file found (reply_of answer)) (sym long.2) same))
+    c.too_long.ensures

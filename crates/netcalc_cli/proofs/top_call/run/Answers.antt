@@ -1,14 +1,28 @@
-use Rattle.std.proofs.Common.{sym, ◌∙◌}
+use Rattle.std.proofs.Common.{sym, ◌∙◌, Option, List, ℕ}
+use Rattle.rational.specs.Extended.{Ext}
+use Rattle.netcalc_cli.specs.Form.{Form}
+use Rattle.netcalc_cli.specs.Reply.{Reports}
 use Rattle.netcalc_cli.specs.View.{reply_of}
-use Rattle.netcalc_cli.proofs.ReplyLemmas.{shown, guarantee_of}
+use Rattle.netcalc_cli.proofs.DoneLemmas.{shown, reported, guarantee_of}
 use Rattle.netcalc_cli.proofs.top_call.run.Goals as goal
 
-pub returns-in-Ok-clause-guarantee : goal.returns-in-Ok-clause-guarantee
-returns-in-Ok-clause-guarantee g c zero =
+pub returns-in-Ok-clause-done : goal.returns-in-Ok-clause-done
+returns-in-Ok-clause-done g c zero =
     let file = c.in-Some.taken.net.now in
     let told = g.I.Inputs.content c.args.inputs.now file in
     let given = c.give-in-Ok.ensures.given (λ four. cc) in
     let reply = reply_of c.in-Ok.answer in
-    let is = shown g.I.Inputs.faults g.I.Inputs.last_fault told file c.args.inputs.now c.answer_on.new.inputs reply c.in-Ok.ensures (sym given.0 ∙ zero) in
+    let old = g.K.Sink.written c.args.out.now in
+    let new = g.K.Sink.written c.give-in-Ok.new.out in
+    let is = shown g.I.Inputs.faults g.I.Inputs.last_fault told file c.args.inputs.now c.answer_on.new.inputs reply
+    c.in-Ok.ensures (sym given.0 ∙ zero) in
     rw (← c.in-Some.ensures)
-    (guarantee_of told reply c.give-in-Ok.result (g.K.Sink.written c.args.out.now) (g.K.Sink.written c.give-in-Ok.new.out) is (given.0, rw c.deref.ensures.value at given.1))
+    (reported told reply c.give-in-Ok.result old new is (given.0, rw c.deref.ensures.value at given.1))
+
+pub returns-in-Ok-clause-guarantee : goal.returns-in-Ok-clause-guarantee
+returns-in-Ok-clause-guarantee g c zero =
+    let done = returns-in-Ok-clause-done g c zero in
+    let told = g.I.Inputs.content c.args.inputs.now c.in-Some.taken.net.now in
+    let old = g.K.Sink.written c.args.out.now in
+    let new = g.K.Sink.written c.give-in-Ok.new.out in
+    rw (← c.in-Some.ensures) (guarantee_of told c.give-in-Ok.result old new (rw (← c.in-Some.ensures) at done))
