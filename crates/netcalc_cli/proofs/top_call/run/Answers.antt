@@ -1,4 +1,5 @@
-use Rattle.std.proofs.Common.{sym, ◌∙◌}
+use Rattle.std.proofs.Common.{refl, sym, ◌∙◌}
+use Rattle.netcalc_cli.specs.Reply.{usage}
 use Rattle.netcalc_cli.specs.View.{reply_of}
 use Rattle.netcalc_cli.proofs.ReplyLemmas.{shown, guarantee_of}
 use Rattle.netcalc_cli.proofs.top_call.run.Goals as goal
@@ -12,3 +13,13 @@ returns-in-Ok-clause-guarantee g c zero =
     let is = shown g.I.Inputs.faults g.I.Inputs.last_fault told file c.args.inputs.now c.answer_on.new.inputs reply c.in-Ok.ensures (sym given.0 ∙ zero) in
     rw (← c.in-Some.ensures)
     (guarantee_of told reply c.give-in-Ok.result (g.K.Sink.written c.args.out.now) (g.K.Sink.written c.give-in-Ok.new.out) is (given.0, rw c.deref.ensures.value at given.1))
+
+pub returns-in_default-clause-answers : goal.returns-in_default-clause-answers
+returns-in_default-clause-answers g c four five =
+    let given = c.give.ensures.given four in
+    (usage, rw (← c.in_default.ensures) refl, (given.0, rw c.as_bytes.ensures.value at given.1))
+
+pub returns-in-Ok-clause-answers : goal.returns-in-Ok-clause-answers
+returns-in-Ok-clause-answers g c four five =
+    let given = c.give-in-Ok.ensures.given four in
+    (reply_of c.in-Ok.answer, rw (← c.in-Some.ensures) c.in-Ok.ensures, (given.0, rw c.deref.ensures.value at given.1))
