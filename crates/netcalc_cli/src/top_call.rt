@@ -101,6 +101,11 @@ pub fn run<I: Inputs, K: Sink, L: Ledger>(
             × Gives result (K.written out.old) (K.written out.new) reply)
         ⊎ (result ≡ 3) ⊎ (result ≡ 4) ⊎ (result ≡ 5))) }
 
+    // Every answer but 4 and 5 is the status of a reply that words and inputs may bring, whose bytes are written.
+    ensures answers { result ≢ 4 → result ≢ 5 → (reply : Reply)
+        × MayReply I.content I.faults I.last_fault (net_word (texts words.now)) inputs.old inputs.new reply
+        × Gives result (K.written out.old) (K.written out.new) reply }
+
     ensures steps { steps.new ≡ steps.old }
 {
     let _ = steps;

@@ -1,7 +1,7 @@
-use Rattle.std.proofs.Common.{sym, ◌∙◌, Option, List, ℕ}
+use Rattle.std.proofs.Common.{refl, sym, ◌∙◌, Option, List, ℕ}
 use Rattle.rational.specs.Extended.{Ext}
 use Rattle.netcalc_cli.specs.Form.{Form}
-use Rattle.netcalc_cli.specs.Reply.{Reports}
+use Rattle.netcalc_cli.specs.Reply.{Reports, usage}
 use Rattle.netcalc_cli.specs.View.{reply_of}
 use Rattle.netcalc_cli.proofs.DoneLemmas.{shown, reported, guarantee_of}
 use Rattle.netcalc_cli.proofs.top_call.run.Goals as goal
@@ -26,3 +26,13 @@ returns-in-Ok-clause-guarantee g c zero =
     let old = g.K.Sink.written c.args.out.now in
     let new = g.K.Sink.written c.give-in-Ok.new.out in
     rw (← c.in-Some.ensures) (guarantee_of told c.give-in-Ok.result old new (rw (← c.in-Some.ensures) at done))
+
+pub returns-in_default-clause-answers : goal.returns-in_default-clause-answers
+returns-in_default-clause-answers g c four five =
+    let given = c.give.ensures.given four in
+    (usage, rw (← c.in_default.ensures) refl, (given.0, rw c.as_bytes.ensures.value at given.1))
+
+pub returns-in-Ok-clause-answers : goal.returns-in-Ok-clause-answers
+returns-in-Ok-clause-answers g c four five =
+    let given = c.give-in-Ok.ensures.given four in
+    (reply_of c.in-Ok.answer, rw (← c.in-Some.ensures) c.in-Ok.ensures, (given.0, rw c.deref.ensures.value at given.1))
