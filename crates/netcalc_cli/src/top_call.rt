@@ -37,9 +37,9 @@ fn answer_on<I: Inputs>(alloc: Global, file: &str, inputs: &mut I) -> Result<Ans
 /// Gives an answer: puts its text, and returns its status, or that the sink failed.
 fn give<K: Sink>(out: &mut K, status: Status, text: &[u8]) -> u8
     requires { code_of status ≢ 4 }
-    ensures given { let reply = record { status = code_of status; bytes = text.now } in
+    ensures given { let reply : Reply = record { status = code_of status; bytes = text.now } in
         result ≢ 4 → Gives result (K.written out.old) (K.written out.new) reply }
-    ensures failed { let reply = record { status = code_of status; bytes = text.now } in
+    ensures failed { let reply : Reply = record { status = code_of status; bytes = text.now } in
         result ≡ 4 → FailsToGive K.faults K.written out.old out.new reply }
 {
     match out.put(text) {
@@ -98,7 +98,7 @@ pub fn run<I: Inputs, K: Sink, L: Ledger>(
     // Where it is told what the file holds, 3, 4 and 5 are the only other answers than the one on that.
     ensures told { IfSome (net_word (texts words.now)) (λ file. IfSome (I.content inputs.old file) (λ bytes.
         ((reply : Reply) × IsReplyOn file (found_in bytes) reply
-            × Gives result (K.written out.old) (K.written out.new) reply)
+        × Gives result (K.written out.old) (K.written out.new) reply)
         ⊎ (result ≡ 3) ⊎ (result ≡ 4) ⊎ (result ≡ 5))) }
 
     ensures steps { steps.new ≡ steps.old }
