@@ -98,7 +98,7 @@ pub fn run<I: Inputs, K: Sink, L: Ledger>(
     // Where it is told what the file holds, 3, 4 and 5 are the only other answers than the one on that.
     ensures told { IfSome (net_word (texts words.now)) (λ file. IfSome (I.content inputs.old file) (λ bytes.
         ((reply : Reply) × IsReplyOn file (found_in bytes) reply
-            × Gives result (K.written out.old) (K.written out.new) reply)
+        × Gives result (K.written out.old) (K.written out.new) reply)
         ⊎ (result ≡ 3) ⊎ (result ≡ 4) ⊎ (result ≡ 5))) }
 
     // Every answer but 4 and 5 is the status of a reply that words and inputs may bring, whose bytes are written.
