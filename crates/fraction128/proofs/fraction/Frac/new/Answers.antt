@@ -1,4 +1,4 @@
-use Rattle.std.proofs.Common.{rules, arith, refl, ◌≡◌, ◌≤◌, ◌<◌, ◌^◌, ◌∙◌, ap, ap₂, ℤ, ℕ, pos, SFits, to_z-of_z}
+use Rattle.std.proofs.Common.{rules, arith, refl, ◌≡◌, ◌∙◌, ap, ap₂, ℤ, ℕ, pos, SFits, to_z-of_z}
 use mir.Syntax.{w128}
 use Rattle.rational.specs.Ratio.{ratio, with_sign}
 use Rattle.fraction128.proofs.Made.{made, small_in, small_out, lowest_in, same_value}
