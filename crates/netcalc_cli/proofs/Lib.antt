@@ -3,5 +3,6 @@ pub mod SpellingLemmas
 pub mod ReplyLemmas
 pub mod BoundLemmas
 pub mod DeviationLemmas
+pub mod CurveLemmas
 pub mod GuaranteeLemmas
 pub mod ExampleLemmas
