@@ -4,5 +4,6 @@ pub mod ReplyLemmas
 pub mod DoneLemmas
 pub mod BoundLemmas
 pub mod DeviationLemmas
+pub mod CurveLemmas
 pub mod GuaranteeLemmas
 pub mod ExampleLemmas

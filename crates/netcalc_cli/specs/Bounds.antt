@@ -1,10 +1,11 @@
 -- What bounds the delay and the backlog of a flow through a server: how far the flow's arrival curve lies from the
 -- server's service curve. (Le Boudec and Thiran, section 1.4; the packet by their packetisers.)
 use Rattle.std.specs.Prelude.{◌≡◌}
-use Rattle.rational.specs.Rational.{ℚ}
+use Rattle.rational.specs.Rational.{ℚ, ◌≤ℚ◌}
 use Rattle.rational.specs.Extended.{Ext}
 use Rattle.upp_curve.specs.Curve.{value_at}
-use Rattle.upp_curve.specs.Kinds.{bucket, rate_latency}
+use Rattle.upp_curve.specs.Functions.{zero_q}
+use Rattle.upp_curve.specs.Kinds.{bucket, rate_latency, bucket_value, rate_latency_value}
 use Rattle.upp_curve.specs.Pointwise.{packetised}
 use Rattle.upp_curve.specs.Deviations.{IsHorizontalDeviation, IsVerticalDeviation}
 use Rattle.run_laws.specs.Cards.{whole}
@@ -21,6 +22,12 @@ service_of f = value_at (rate_latency (whole f.server.rate) (whole f.server.late
 -- the same in whole packets: less the flow's longest packet
 abbrev pub packet_service_of : Form → ℚ → Ext
 packet_service_of f = packetised (service_of f) (whole f.flow.packet)
+
+-- at each time from 0 on arrival and service have these values
+abbrev pub CurvesHaveTheirValues : Type 0
+CurvesHaveTheirValues = (f : Form) (t : ℚ) → zero_q ≤ℚ t →
+    (arrival_of f t ≡ bucket_value (whole f.flow.burst) (whole f.flow.rate) t)
+    × (service_of f t ≡ rate_latency_value (whole f.server.rate) (whole f.server.latency) t)
 
 -- the horizontal deviation of arrival and service
 abbrev pub IsDelayBound : Form → Ext → Type 0

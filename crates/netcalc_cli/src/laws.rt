@@ -1,8 +1,13 @@
 //! Laws of the bounds. Each is the contract of a function that does nothing.
-ghost use Rattle.netcalc_cli.specs.Bounds.{BoundsAreUnique};
+ghost use Rattle.netcalc_cli.specs.Bounds.{BoundsAreUnique, CurvesHaveTheirValues};
 ghost use Rattle.netcalc_cli.specs.Guarantee.{BoundsAreGuaranteed};
 ghost use Rattle.netcalc_cli.specs.Example.{OneFlowReachesItsBound};
 ghost use Rattle.netcalc_cli.specs.Reply.{RepliesAreUnique};
+
+/// The curves of a form are burst + rate t, and rate max (0, t - latency).
+pub fn curves_have_their_values()
+    ensures { CurvesHaveTheirValues }
+{}
 
 /// A form has one bound on delay and one on backlog.
 pub fn bounds_are_unique()

@@ -13,6 +13,7 @@ mod words;
 pub use answer::Status;
 pub use form::each_form_is_read;
 pub use laws::{
-    bounds_are_guaranteed, bounds_are_unique, one_flow_reaches_its_bound, replies_are_unique,
+    bounds_are_guaranteed, bounds_are_unique, curves_have_their_values, one_flow_reaches_its_bound,
+    replies_are_unique,
 };
 pub use top_call::run;
