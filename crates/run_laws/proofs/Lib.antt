@@ -1,3 +1,4 @@
+pub mod Sizes
 pub mod Levels
 pub mod Deviations
 pub mod Clips
@@ -13,6 +14,7 @@ pub mod Service
 pub mod Waiting
 pub mod Delay
 pub mod Backlog
+pub mod Places
 pub mod Views
 pub mod Entries
 pub mod Arrivals

@@ -12,13 +12,14 @@ use Rattle.run_laws.specs.Allows.{AllAllowed, IsLawfulView}
 use Rattle.run_laws.specs.Counts.{when, total, arrives, leaves, before, upto, arrived, arrived_upto, worked, departed}
 use Rattle.rational.proofs.Over.{le_q_out, lt_q_in}
 use Rattle.rational.proofs.MinMax.{lt_q_not}
-use Rattle.run_laws.proofs.Sums.{size_nonneg, when_true, when_false, when_nonneg, when_le, Each, each_map, each_all, each-append, total-append, total_nonneg, total_none, add_nothing}
+use Rattle.run_laws.proofs.Sums.{when_true, when_false, when_nonneg, when_le, Each, each_map, each_all, each-append, total-append, total_nonneg, total_none, add_nothing}
 use Rattle.run_laws.proofs.Counts.{arrived_le, before_upto, arrives_nonneg}
 use Rattle.run_laws.proofs.Heads.{sum_of}
 use Rattle.run_laws.proofs.States.{IsSound, IsSoundFor, sound_next, leaving, if_true, done_by, done_at_most}
 use Rattle.run_laws.proofs.Cuts.{before_edge, all_after, IsBefore, IsAfter, no_arrives, AtTime}
 use Rattle.run_laws.proofs.Orders.{at_before}
 use Rattle.run_laws.proofs.Waiting.{of_class, bits_of, class-append, class_head, class_other, allowed-append, all_upto}
+use Rattle.run_laws.proofs.Sizes.{size_nonneg}
 
 -- ---- the packets of a class that arrive, and that leave, in order
 abbrev pub arrivals_of : Class → List ServerStep → List Card

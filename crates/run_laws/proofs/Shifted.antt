@@ -20,7 +20,7 @@ use Rattle.run_laws.specs.Premises.{EachArrival, KeepsArrivals, NoneTwice}
 use Rattle.run_laws.specs.Serves.{Serves}
 use Rattle.run_laws.specs.Delays.{gone_at, hop_delays, AreAtMost}
 use Rattle.rational.proofs.Over.{lt_q_out}
-use Rattle.run_laws.proofs.Sums.{size_nonneg, when_true, when_false, when_most, when_rises, total-append}
+use Rattle.run_laws.proofs.Sums.{when_true, when_false, when_most, when_rises, total-append}
 use Rattle.run_laws.proofs.Counts.{arrived_rises, arrived_in_is, upto_arrived, window_nonneg}
 use Rattle.run_laws.proofs.Heads.{sum_of}
 use Rattle.run_laws.proofs.States.{IsSound, IsSoundFor, sound_next, sound_after}
@@ -33,6 +33,7 @@ use Rattle.run_laws.proofs.Oldest.{Oldest, oldest}
 use Rattle.run_laws.proofs.Arrivals.{none_arrive, arrivals_map}
 use Rattle.run_laws.proofs.Outputs.{departed_in_is, left_came, nothing_leaves}
 use Rattle.run_laws.proofs.Lag.{lag_from_service}
+use Rattle.run_laws.proofs.Sizes.{size_nonneg}
 
 -- ---- what arrived d before s has left before s: then what leaves from s on arrived since
 from_lag : (server : Server) (end : ℚ) (V : List ServerStep) (C : Class) (α : ℚ → Ext) (d s t : ℚ) → IsLawfulView server end V → KeepsArrivals C α V → int (pos 0) ≤ℚ d

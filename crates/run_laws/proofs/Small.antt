@@ -1,10 +1,9 @@
 -- Steps at whole times, allowed by computing.
-use Rattle.std.specs.Prelude.{Some, ◌≡◌, ◌<◌, ℕ, suc, ◌+◌, leb, ltb, true, ◌&&◌, ◌≤◌, [], ◌∷◌, ◌++◌, length}
-use Rattle.std.proofs.Common.{arith}
+use Rattle.std.specs.Prelude.{Some, ◌≡◌, ◌<◌, ℕ, ◌+◌, leb, ltb, true, ◌&&◌, [], ◌∷◌, ◌++◌, length}
+use Rattle.std.proofs.Common.{sym, arith}
 use Rattle.std.proofs.lemmas.Bool.{leb-true, ltb-true, and_parts}
-use native.Mathlib.Nat.{mul-le-mul_right}
 use Rattle.rational.specs.Rational.{◌+ℚ◌, ◌≤ℚ◌, ◌<ℚ◌}
-use Rattle.rational.proofs.Linear.{with2, with3}
+use Rattle.rational.proofs.Linear.{with2}
 use Rattle.run_laws.specs.declared.steps.Step.TheVariants.{Enter, Work, Leave, Visit}
 use Rattle.run_laws.specs.Cards.{Card, whole}
 use Rattle.run_laws.specs.Servers.{Server, ServerState, done_so_far}
@@ -12,20 +11,17 @@ use Rattle.run_laws.specs.Allows.{next_card, IsInTime, KeepsPace, MayArrive, May
 use Rattle.run_laws.specs.Routes.{Routes, server_at}
 use Rattle.run_laws.specs.Views.{server_of, card_of}
 use Rattle.run_laws.specs.Lawful.{RunState, state_at, MayEnter, IsThere, AllowsInRun}
+use Rattle.run_laws.proofs.Sizes.{whole_le, whole_lt, whole_sum}
 
 -- ---- whole numbers
 pub le_t : (m n : ℕ) → leb m n ≡ true → whole m ≤ℚ whole n
-le_t m n h =
-    let l : m ≤ n = leb-true m n h in
-    with2 (whole m) (whole n) (λ c. omega (arith, c.le, c.lt, c.same, mul-le-mul_right (suc c.low) l))
+le_t m n h = whole_le m n (leb-true m n h)
 
 pub lt_t : (m n : ℕ) → ltb m n ≡ true → whole m <ℚ whole n
-lt_t m n h =
-    let l : suc m ≤ n = ltb-true m n h in
-    with2 (whole m) (whole n) (λ c. omega (arith, c.le, c.lt, c.same, mul-le-mul_right (suc c.low) l))
+lt_t m n h = whole_lt m n (ltb-true m n h)
 
 pub sum_t : (m n : ℕ) → whole m +ℚ whole n ≡ whole (m + n)
-sum_t m n = with3 (whole m) (whole n) (whole (m + n)) (λ c. omega (arith, c.le, c.lt, c.same))
+sum_t m n = sym (whole_sum m n)
 
 -- ---- at a server
 pub in_time : {σ : ServerState} (now u end : ℕ) → σ.now ≡ whole now → (leb now u && leb u end) ≡ true → IsInTime (whole end) σ (whole u)

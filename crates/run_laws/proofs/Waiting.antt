@@ -1,8 +1,7 @@
 -- While a packet of a class of one queue is at the server, the work on the class is below all that arrived up to it.
-use Rattle.std.specs.Prelude.{Option, Some, None, ◌≡◌, ◌≤◌, ℕ, suc, pos, ◌==◌, Bool, true, false, List, [], ◌∷◌, ◌++◌, if◌then◌else◌}
+use Rattle.std.specs.Prelude.{Option, Some, None, ◌≡◌, ◌≤◌, ℕ, pos, ◌==◌, Bool, true, false, List, [], ◌∷◌, ◌++◌, if◌then◌else◌}
 use Rattle.std.proofs.Common.{arith, sym, ap, ◌∙◌, refl, inl, inr, subst, append_assoc}
 use Rattle.std.proofs.lemmas.Bool.{cases_Bool, both_ways, eq-eqb, and_from, and_left}
-use native.Mathlib.Nat.{mul-le-mul_right}
 use Rattle.rational.specs.Rational.{ℚ, int, ◌+ℚ◌, ◌≤ℚ◌, ◌<ℚ◌}
 use Rattle.rational.proofs.Laws.{le_refl, le_trans, le_or_lt}
 use Rattle.rational.proofs.Linear.{with1, with2, with3, with4, with5, with7}
@@ -14,11 +13,12 @@ use Rattle.run_laws.specs.Counts.{total, arrives, leaves, works, upto, worked}
 use Rattle.run_laws.specs.Delays.{gone_at}
 use Rattle.rational.proofs.Over.{le_q_out, le_q_in}
 use Rattle.run_laws.proofs.Clips.{clip_strict, clip_late}
-use Rattle.run_laws.proofs.Sums.{size_nonneg, when_true, when_false, Each, each_map, total-append}
+use Rattle.run_laws.proofs.Sums.{when_true, when_false, Each, each_map, total-append}
 use Rattle.run_laws.proofs.Heads.{same_some, sum_of}
 use Rattle.run_laws.proofs.States.{IsSound, IsSoundFor, IsUnderWay, sound_next, sound_after, leaving, balance_after, work_after, done_by, done_at_most}
 use Rattle.run_laws.proofs.Cuts.{upto_edge, at_time, IsBefore, time_in_order}
 use Rattle.run_laws.proofs.Gone.{complete_leaves, first_gone, after-append}
+use Rattle.run_laws.proofs.Sizes.{size_nonneg, size_pos}
 
 -- ---- the cards of a class
 abbrev pub of_class : Class → List Card → List Card
@@ -149,9 +149,6 @@ bits_nonneg (c ∷ cs) =
     let h = size_nonneg c in
     let k = bits_nonneg cs in
     with2 (size c) (bits_of cs) (λ c. omega (arith, c.le, c.lt, c.same))
-
-pub size_pos : (c : Card) → 1 ≤ c.bits → int (pos 0) <ℚ size c
-size_pos c h = with1 (size c) (λ k. omega (arith, k.le, k.lt, k.same, mul-le-mul_right (suc k.low) h))
 
 -- it is worked off by t, and the packet
 pub record IsOver (p : Card) (t : ℚ) (u : Under) : Type 0 where

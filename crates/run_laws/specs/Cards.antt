@@ -1,5 +1,5 @@
 -- What one server sees: packets that arrive, work on them, packets that leave, and visits of its queues.
-use Rattle.std.specs.Prelude.{◌≡◌, ℕ, pos, Bool, true, false, ◌==◌, ◌||◌, ◌&&◌}
+use Rattle.std.specs.Prelude.{◌≡◌, ℕ, pos, Bool, true, false, ◌==◌, ltb, leb, ◌||◌, ◌&&◌}
 use Rattle.rational.specs.Rational.{ℚ, int}
 
 -- a packet at a server, with the queue that it joins there
@@ -38,6 +38,15 @@ all c = true
 
 abbrev pub of_queue : ℕ → Class
 of_queue q c = c.queue == q
+
+abbrev pub before_queue : ℕ → Class
+before_queue q c = ltb c.queue q
+
+abbrev pub upto_queue : ℕ → Class
+upto_queue q c = leb c.queue q
+
+abbrev pub after_queue : ℕ → Class
+after_queue q c = ltb q c.queue
 
 abbrev pub of_flow : ℕ → Class
 of_flow i c = c.flow == i
