@@ -23,7 +23,7 @@ use Rattle.run_laws.proofs.Sums.{when_true}
 use Rattle.run_laws.proofs.Counts.{arrived_rises, upto_arrived, arrived_le, arrived_in_is}
 use Rattle.run_laws.proofs.Parts.{arrived_parts, worked_parts}
 use Rattle.run_laws.proofs.Orders.{left_worked}
-use Rattle.run_laws.proofs.Waiting.{size_pos}
+use Rattle.run_laws.proofs.Sizes.{size_pos}
 use Rattle.run_laws.proofs.Oldest.{oldest, Oldest}
 use Rattle.fifo_residual.specs.Laws.{IsResidual}
 
