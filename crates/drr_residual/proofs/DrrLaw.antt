@@ -265,8 +265,8 @@ in_stretch server end V quanta l i p β t s lawful e r some service in_run is h 
       earlier = le_of_lt is.begins;
       left = is.left;
       kept_up = rw level (le_ext_trans (Fin (arrived own V s) +ₑ excess (scaled (share (Q i) F) (Fin b)) (Fin (owed (Q i) (l i) F Λ))) (Fin (arrived own V s) +ₑ Fin gained) (Fin (worked own V t))
-        (add_le_ext (Fin (arrived own V s)) (Fin (arrived own V s)) (excess (scaled (share (Q i) F) (Fin b)) (Fin (owed (Q i) (l i) F Λ))) (Fin gained) (le_ext_refl (Fin (arrived own V s))) bound)
-        (with3 (arrived own V s) (worked own V s) (worked own V t) (λ c. omega (arith, c.le, c.lt, c.same))));
+          (add_le_ext (Fin (arrived own V s)) (Fin (arrived own V s)) (excess (scaled (share (Q i) F) (Fin b)) (Fin (owed (Q i) (l i) F Λ))) (Fin gained) (le_ext_refl (Fin (arrived own V s))) bound)
+          (with3 (arrived own V s) (worked own V s) (worked own V t) (λ c. omega (arith, c.le, c.lt, c.same))));
     }
   where
     all_busy : (x : ℚ) → s <ℚ x → x <ℚ t → worked all V x <ℚ arrived all V x

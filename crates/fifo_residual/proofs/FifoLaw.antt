@@ -112,8 +112,8 @@ past_θ server end V Q f g β cross R θ t r lawful a keeps θ_on residual o lat
       earlier = is.earlier;
       left = left_f;
       kept_up = le_ext_trans (Fin (arrived f V r) +ₑ R (t -ℚ r)) (Fin (arrived f V r) +ₑ excess (Fin b) (cross (t -ℚ r -ℚ θ))) (Fin (worked f V t))
-        (add_le_ext (Fin (arrived f V r)) (Fin (arrived f V r)) (R (t -ℚ r)) (excess (Fin b) (cross (t -ℚ r -ℚ θ))) (le_ext_refl (Fin (arrived f V r))) below)
-        (left_over b (arrived_in g V r (t -ℚ θ)) (worked f V t) (arrived f V r) (cross (t -ℚ r -ℚ θ)) keep done_f flow);
+          (add_le_ext (Fin (arrived f V r)) (Fin (arrived f V r)) (R (t -ℚ r)) (excess (Fin b) (cross (t -ℚ r -ℚ θ))) (le_ext_refl (Fin (arrived f V r))) below)
+          (left_over b (arrived_in g V r (t -ℚ θ)) (worked f V t) (arrived f V r) (cross (t -ℚ r -ℚ θ)) keep done_f flow);
     }
   where
     summed : (AQ Af Ag WQ Wf Wg b other : ℚ) → AQ ≡ Af +ℚ Ag → WQ ≡ Wf +ℚ Wg → AQ +ℚ b ≤ℚ WQ → Wg ≤ℚ Ag +ℚ other → Af +ℚ b ≤ℚ Wf +ℚ other

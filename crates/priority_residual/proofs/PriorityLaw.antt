@@ -170,7 +170,7 @@ member b most lower (Fin h) on f =
     let g = f h refl in
     max_q_le (int (pos 0)) (max_q (int (pos 0)) (b -ℚ h) -ℚ whole lower) most on
     (minus_le_q (max_q (int (pos 0)) (b -ℚ h)) (whole lower) most
-      (max_q_le (int (pos 0)) (b -ℚ h) (most +ℚ whole lower) (with2 (whole lower) most (λ c. omega (arith, c.le, c.lt, c.same))) (with4 b h most (whole lower) (λ c. omega (arith, c.le, c.lt, c.same)))))
+    (max_q_le (int (pos 0)) (b -ℚ h) (most +ℚ whole lower) (with2 (whole lower) most (λ c. omega (arith, c.le, c.lt, c.same))) (with4 b h most (whole lower) (λ c. omega (arith, c.le, c.lt, c.same)))))
   where
     minus_le_q : (x l m : ℚ) → x ≤ℚ m +ℚ l → x -ℚ l ≤ℚ m
     minus_le_q x l m h = with3 x l m (λ c. omega (arith, c.le, c.lt, c.same))
@@ -254,7 +254,7 @@ later_member server end V n i bits β higher t s y lawful priority service keeps
     let on : int (pos 0) ≤ℚ worked own V t -ℚ arrived own V s = with3 (worked own V t) (worked own V s) (arrived own V s) (λ c. omega (arith, c.le, c.lt, c.same)) in
     let (b, level, served) = finite_below (worked all V s) (worked all V (s +ℚ y)) (β ((s +ℚ y) -ℚ s)) (at_work server end V i β t s (s +ℚ y) lawful service in_run is z_past z_upto) in
     let one = member b (worked own V t -ℚ arrived own V s) bits (higher ((s +ℚ y) -ℚ s)) on
-      (λ h e. enough (arrived own V s) b (worked own V (s +ℚ y)) (worked own V t) h (gained server end V n i bits β higher t s (s +ℚ y) b lawful priority keeps sizes is z_past z_upto served h e) z_rise) in
+    (λ h e. enough (arrived own V s) b (worked own V (s +ℚ y)) (worked own V t) h (gained server end V n i bits β higher t s (s +ℚ y) b lawful priority keeps sizes is z_past z_upto served h e) z_rise) in
     subst (λ (x : ℚ). priority_left β higher bits x ≤ₑ Fin (worked own V t -ℚ arrived own V s)) same (rw level one)
   where
     enough : (A b Wz Wt h : ℚ) → A +ℚ b ≤ℚ Wz +ℚ h +ℚ whole bits → Wz ≤ℚ Wt → b ≤ℚ Wt -ℚ A +ℚ h +ℚ whole bits
@@ -285,8 +285,8 @@ in_stretch server end V n i bits β higher R t s lawful priority service flat ke
       earlier = le_of_lt is.begins;
       left = gone_before server end V own s t lawful caught is.begins;
       kept_up = le_ext_trans (Fin (arrived own V s) +ₑ R (t -ℚ s)) (Fin (arrived own V s) +ₑ Fin (worked own V t -ℚ arrived own V s)) (Fin (worked own V t))
-        (add_le_ext (Fin (arrived own V s)) (Fin (arrived own V s)) (R (t -ℚ s)) (Fin (worked own V t -ℚ arrived own V s)) (le_ext_refl (Fin (arrived own V s))) bound)
-        (with2 (arrived own V s) (worked own V t) (λ c. omega (arith, c.le, c.lt, c.same)));
+          (add_le_ext (Fin (arrived own V s)) (Fin (arrived own V s)) (R (t -ℚ s)) (Fin (worked own V t -ℚ arrived own V s)) (le_ext_refl (Fin (arrived own V s))) bound)
+          (with2 (arrived own V s) (worked own V t) (λ c. omega (arith, c.le, c.lt, c.same)));
     }
   where
     part_caught : (A Ai Ah W Wi Wh : ℚ) → A ≡ Ai +ℚ Ah → W ≡ Wi +ℚ Wh → Wh ≤ℚ Ah → A ≤ℚ W → Ai ≤ℚ Wi
