@@ -1,12 +1,16 @@
+pub mod Parts
 pub mod Over
+pub mod Integers
 pub mod Bootstrap
 pub mod Laws
 pub mod Lcd
 pub mod Floor
+pub mod Grain
 pub mod Linear
-pub mod Goals
-pub mod Stress
+pub mod Ceiling
+pub mod LinearExamples
 pub mod Bounds
+pub mod Quotients
 pub mod Comparison
 pub mod MinMax
 pub mod ExtendedOrder
@@ -14,3 +18,6 @@ pub mod Whole
 pub mod Stretch
 pub mod Lines
 pub mod Gauges
+pub mod Multiples
+pub mod Grid
+pub mod Sizes

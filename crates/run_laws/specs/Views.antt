@@ -44,7 +44,8 @@ server_of net (Visit s q t) = s
 
 -- the step as its server sees it; a packet arrives where it enters and where it reaches a server
 abbrev pub seen : Routes → List Entry → Step → ServerStep
-seen net entered (Enter f p t b) = Arrives (card_of net (entered ++ record { flow = f; bits = b } ∷ []) p (first_server (route_of net f).hops)) t
+seen net entered (Enter f p t b) =
+    Arrives (card_of net (entered ++ record { flow = f; bits = b } ∷ []) p (first_server (route_of net f).hops)) t
 seen net entered (Reach s p t) = Arrives (card_of net entered p s) t
 seen net entered (Work s p a b w) = Works (card_of net entered p s) a b w
 seen net entered (Leave s p t) = Leaves (card_of net entered p s) t

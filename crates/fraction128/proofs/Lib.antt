@@ -1,0 +1,13 @@
+pub mod Coprime
+pub mod Values
+pub mod Made
+pub mod Compared
+pub mod Turned
+pub mod Multiplied
+pub mod Added
+pub mod Printed
+pub mod Rounded
+pub mod CommonMultiple
+pub mod Parsed
+pub mod OrderTests
+pub mod ReadBack

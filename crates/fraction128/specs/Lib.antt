@@ -1,0 +1,7 @@
+pub mod Parts
+pub mod Inside
+pub mod Order
+pub mod Fits
+pub mod Text
+pub mod Multiple
+pub mod Laws

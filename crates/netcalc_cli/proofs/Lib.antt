@@ -1,0 +1,4 @@
+pub mod FormLemmas
+pub mod SpellingLemmas
+pub mod ReplyLemmas
+pub mod BoundLemmas

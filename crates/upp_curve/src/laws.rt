@@ -1,0 +1,36 @@
+//! Laws of curves. Each is the contract of a function that does nothing.
+
+ghost use Rattle.upp_curve.specs.Normal.{NormalFormIsUnique};
+ghost use Rattle.upp_curve.specs.Deviations.{DeviationsAreUnique};
+ghost use Rattle.upp_curve.specs.BucketBounds.{BucketDeviations};
+ghost use Rattle.upp_curve.specs.WorkedRows.{StairRows, GateRows, BucketRows, RateLatencyRows, MinimumRows, RunningRows, ConvolutionRows};
+
+/// Two curves in normal form with one value at each time are one.
+pub fn normal_form_is_unique()
+    ensures { NormalFormIsUnique }
+{}
+
+/// Two functions have one horizontal and one vertical deviation.
+pub fn deviations_are_unique()
+    ensures { DeviationsAreUnique }
+{}
+
+/// The delay and the backlog of a token bucket at a rate after a latency, by their formulas.
+pub fn bucket_deviations()
+    ensures { BucketDeviations }
+{}
+
+/// Values of the kinds of curve that were worked out by hand.
+pub fn worked_kinds()
+    ensures stair { StairRows }
+    ensures gate { GateRows }
+    ensures bucket { BucketRows }
+    ensures rate_latency { RateLatencyRows }
+{}
+
+/// Answers of the operators that were worked out by hand.
+pub fn worked_operators()
+    ensures minimum { MinimumRows }
+    ensures running { RunningRows }
+    ensures convolution { ConvolutionRows }
+{}

@@ -1,0 +1,14 @@
+//! Curves: functions of time made of finitely many pieces and a tail, with their value at every fraction.
+#![tactic(auto)]
+
+mod curve;
+mod laws;
+mod reading;
+mod same;
+#[cfg(test)]
+mod tests;
+
+pub use curve::{Curve, Tail, equal};
+pub use laws::{
+    bucket_deviations, deviations_are_unique, normal_form_is_unique, worked_kinds, worked_operators,
+};
