@@ -29,7 +29,8 @@ on_deficits : (x : Option Card) (q : ℕ) (r : Round) → (visit_on x q r).defic
 on_deficits None q r = refl
 on_deficits (Some c) q r = refl
 
-left_deficits : (x : Option Card) (q i : ℕ) (r : Round) → (q ≡ i → (c : Card) × (x ≡ Some c)) → get_or (left_round x q r).deficits i 0 ≡ get_or r.deficits i 0
+left_deficits : (x : Option Card) (q i : ℕ) (r : Round) → (q ≡ i → (c : Card) × (x ≡ Some c))
+    → get_or (left_round x q r).deficits i 0 ≡ get_or r.deficits i 0
 left_deficits None q i r f = elim (cases_eq i q) [
   | inl e ↦ let k = f (sym e) in let m = k.1 in absurd (cc)
   | inr e ↦ set_other r.deficits q i 0 e
@@ -78,7 +79,8 @@ starts_of j d σ [] = 0
 starts_of j d σ (x ∷ xs) = start_of j σ.under x + starts_of j d (next d σ x) xs
 
 -- ---- what i was given: m turns
-own_worked : (quanta : List ℕ) (i : ℕ) (cards : List Card) (under : Option Under) (r : Round) (c : Card) (m g : ℕ) → i < length r.deficits → next_card under (Drr quanta) cards r ≡ Some c → m * get_or quanta i 0 ≤ g + get_or r.deficits i 0
+own_worked : (quanta : List ℕ) (i : ℕ) (cards : List Card) (under : Option Under) (r : Round) (c : Card) (m g : ℕ) → i < length r.deficits
+    → next_card under (Drr quanta) cards r ≡ Some c → m * get_or quanta i 0 ≤ g + get_or r.deficits i 0
     → m * get_or quanta i 0 ≤ g + started_of i under c + get_or (worked_round under c r).deficits i 0
 own_worked quanta i cards (Some u) r c m g l k h = omega arith
 own_worked quanta i cards None r c m g l k h =
@@ -96,7 +98,8 @@ own_worked quanta i cards None r c m g l k h =
           rw e (omega arith)
     ]
 
-own_visited : (quanta : List ℕ) (i q : ℕ) (x : Option Card) (r : Round) (m g : ℕ) → i < length r.deficits → m * get_or quanta i 0 ≤ g + get_or r.deficits i 0
+own_visited : (quanta : List ℕ) (i q : ℕ) (x : Option Card) (r : Round) (m g : ℕ) → i < length r.deficits
+    → m * get_or quanta i 0 ≤ g + get_or r.deficits i 0
     → (m + same_queue q i) * get_or quanta i 0 ≤ g + get_or (visited_round (get_or quanta q 0) x q r).deficits i 0
 own_visited quanta i q x r m g l h =
     let D = get_or r.deficits q 0 + get_or quanta q 0 in
@@ -127,13 +130,16 @@ pub record IsHere (i : ℕ) (σ : ServerState) : Type 0 where
   pub first : Card
   pub is : head_of i σ.inside ≡ Some first
 
-turn_next : (server : Server) (end : ℚ) (quanta : List ℕ) (l : ℕ → ℕ) (i j : ℕ) (σ : ServerState) (x : ServerStep) (m n G g : ℕ) → server.discipline ≡ Drr quanta → j ≢ i → Allows server end σ x → IsHere i σ
-    → IsAlong quanta l i j σ m n G g → IsTurn (λ q. get_or quanta q 0) l i j (next_inside σ.inside x) (next_visits quanta σ x) (m + visit_of i x) (n + visit_of j x) (G + start_of j σ.under x)
+turn_next : (server : Server) (end : ℚ) (quanta : List ℕ) (l : ℕ → ℕ) (i j : ℕ) (σ : ServerState) (x : ServerStep) (m n G g : ℕ)
+    → server.discipline ≡ Drr quanta → j ≢ i → Allows server end σ x → IsHere i σ
+    → IsAlong quanta l i j σ m n G g
+    → IsTurn (λ q. get_or quanta q 0) l i j (next_inside σ.inside x) (next_visits quanta σ x) (m + visit_of i x) (n + visit_of j x) (G + start_of j σ.under x)
 turn_next server end quanta l i j σ (Arrives c t) m n G g e d a here h =
     let k = turn_arrives (λ q. get_or quanta q 0) l i j σ.inside σ.under σ.round m n G c here.first (head_of c.queue σ.inside) d refl here.is h.round h.turn in
     plain (λ q. get_or quanta q 0) l i j (σ.inside ++ c ∷ []) (arrived_round (head_of c.queue σ.inside) c.queue σ.round) m n G k
   where
-    plain : (Q l : ℕ → ℕ) (i j : ℕ) (cards : List Card) (r : Round) (m n G : ℕ) → IsTurn Q l i j cards r m n G → IsTurn Q l i j cards r (m + 0) (n + 0) (G + 0)
+    plain : (Q l : ℕ → ℕ) (i j : ℕ) (cards : List Card) (r : Round) (m n G : ℕ) → IsTurn Q l i j cards r m n G
+        → IsTurn Q l i j cards r (m + 0) (n + 0) (G + 0)
     plain Q l i j cards r m n G k = rw (add_zero m, add_zero n, add_zero G) k
       where
         add_zero : (a : ℕ) → a + 0 ≡ a
@@ -143,7 +149,8 @@ turn_next server end quanta l i j σ (Works c b f w) m n G g e d a here h =
     let t = turn_works (λ q. get_or quanta q 0) l quanta i j σ.inside σ.under σ.round m n G c k h.turn in
     plain (λ q. get_or quanta q 0) l i j σ.inside (worked_round σ.under c σ.round) m n (G + started_of j σ.under c) t
   where
-    plain : (Q l : ℕ → ℕ) (i j : ℕ) (cards : List Card) (r : Round) (m n G : ℕ) → IsTurn Q l i j cards r m n G → IsTurn Q l i j cards r (m + 0) (n + 0) G
+    plain : (Q l : ℕ → ℕ) (i j : ℕ) (cards : List Card) (r : Round) (m n G : ℕ) → IsTurn Q l i j cards r m n G
+        → IsTurn Q l i j cards r (m + 0) (n + 0) G
     plain Q l i j cards r m n G k = rw (add_zero m, add_zero n) k
       where
         add_zero : (a : ℕ) → a + 0 ≡ a
@@ -155,7 +162,8 @@ turn_next server end quanta l i j σ (Leaves c t) m n G g e d a here h =
     (λ f. head_without j c.queue σ.inside f) left.visited left.is_first (h.round.lists i ∙ ap presence here.is) (λ f. subst (λ (q : ℕ). count_of q σ.round.active ≡ 1) f left.once) h.turn in
     plain (λ q. get_or quanta q 0) l i j (without_head c.queue σ.inside) (left_round (head_of c.queue (without_head c.queue σ.inside)) c.queue σ.round) m n G k
   where
-    plain : (Q l : ℕ → ℕ) (i j : ℕ) (cards : List Card) (r : Round) (m n G : ℕ) → IsTurn Q l i j cards r m n G → IsTurn Q l i j cards r (m + 0) (n + 0) (G + 0)
+    plain : (Q l : ℕ → ℕ) (i j : ℕ) (cards : List Card) (r : Round) (m n G : ℕ) → IsTurn Q l i j cards r m n G
+        → IsTurn Q l i j cards r (m + 0) (n + 0) (G + 0)
     plain Q l i j cards r m n G k = rw (add_zero m, add_zero n, add_zero G) k
       where
         add_zero : (a : ℕ) → a + 0 ≡ a
@@ -164,7 +172,8 @@ turn_next server end quanta l i j σ (Visits q t) m n G g e d a here h =
     let v : IsVisit σ q = subst (λ (y : Discipline). MayVisit y σ q) e a.1 in
     by_head (head_of q σ.inside) refl v
   where
-    by_head : (x : Option Card) → head_of q σ.inside ≡ x → IsVisit σ q → IsTurn (λ q. get_or quanta q 0) l i j σ.inside (visited_round (get_or quanta q 0) x q σ.round) (m + same_queue q i) (n + same_queue q j) (G + 0)
+    by_head : (x : Option Card) → head_of q σ.inside ≡ x → IsVisit σ q
+        → IsTurn (λ q. get_or quanta q 0) l i j σ.inside (visited_round (get_or quanta q 0) x q σ.round) (m + same_queue q i) (n + same_queue q j) (G + 0)
     by_head None f v =
         let k = h.round.lists q in
         let o = first_counts q σ.round.active v.is_first in
@@ -175,8 +184,10 @@ turn_next server end quanta l i j σ (Visits q t) m n G g e d a here h =
         let zero_more : G + 0 ≡ G = omega arith in
         rw zero_more k
 
-own_next : (server : Server) (end : ℚ) (quanta : List ℕ) (l : ℕ → ℕ) (i j : ℕ) (σ : ServerState) (x : ServerStep) (m n G g : ℕ) → server.discipline ≡ Drr quanta → i < length quanta → Allows server end σ x → IsHere i (next server.discipline σ x)
-    → IsAlong quanta l i j σ m n G g → (m + visit_of i x) * get_or quanta i 0 ≤ g + start_of i σ.under x + get_or (next_visits quanta σ x).deficits i 0
+own_next : (server : Server) (end : ℚ) (quanta : List ℕ) (l : ℕ → ℕ) (i j : ℕ) (σ : ServerState) (x : ServerStep) (m n G g : ℕ)
+    → server.discipline ≡ Drr quanta → i < length quanta → Allows server end σ x → IsHere i (next server.discipline σ x)
+    → IsAlong quanta l i j σ m n G g
+    → (m + visit_of i x) * get_or quanta i 0 ≤ g + start_of i σ.under x + get_or (next_visits quanta σ x).deficits i 0
 own_next server end quanta l i j σ (Arrives c t) m n G g e r a here h =
     let o = h.own in
     let d : get_or (arrived_round (head_of c.queue σ.inside) c.queue σ.round).deficits i 0 ≡ get_or σ.round.deficits i 0 = ap (λ (xs : List ℕ). get_or xs i 0) (arrived_deficits (head_of c.queue σ.inside) c.queue σ.round) in
@@ -196,10 +207,12 @@ own_next server end quanta l i j σ (Visits q t) m n G g e r a here h =
     rw zero_more o
 
 -- ---- along the steps
-pub along : (server : Server) (end : ℚ) (quanta : List ℕ) (l : ℕ → ℕ) (i j : ℕ) (σ : ServerState) (R : List ServerStep) (m n G g : ℕ) → server.discipline ≡ Drr quanta → j ≢ i → i < length quanta → AllAllowed server end σ R
+pub along : (server : Server) (end : ℚ) (quanta : List ℕ) (l : ℕ → ℕ) (i j : ℕ) (σ : ServerState) (R : List ServerStep) (m n G g : ℕ)
+    → server.discipline ≡ Drr quanta → j ≢ i → i < length quanta → AllAllowed server end σ R
     → ((front back : List ServerStep) → R ≡ front ++ back → IsHere i (after server.discipline σ front))
     → ((front back : List ServerStep) → R ≡ front ++ back → (q : ℕ) → AllSmall (of_queue q) (l q) (after server.discipline σ front).inside)
-    → IsAlong quanta l i j σ m n G g → IsAlong quanta l i j (after server.discipline σ R) (m + visits_of i R) (n + visits_of j R) (G + starts_of j server.discipline σ R) (g + starts_of i server.discipline σ R)
+    → IsAlong quanta l i j σ m n G g
+    → IsAlong quanta l i j (after server.discipline σ R) (m + visits_of i R) (n + visits_of j R) (G + starts_of j server.discipline σ R) (g + starts_of i server.discipline σ R)
 along server end quanta l i j σ [] m n G g e d r a here small h = rw (add_zero m, add_zero n, add_zero G, add_zero g) h
   where
     add_zero : (a : ℕ) → a + 0 ≡ a
@@ -233,7 +246,8 @@ unfolding when
 whole_if true n = refl
 whole_if false n = refl
 
-started_bits : (under : Option Under) (d : Discipline) (cards : List Card) (r : Round) (j : ℕ) (c : Card) → next_card under d cards r ≡ Some c → when (c.queue == j) (size c) ≡ under_bits (of_queue j) under +ℚ whole (started_of j under c)
+started_bits : (under : Option Under) (d : Discipline) (cards : List Card) (r : Round) (j : ℕ) (c : Card)
+    → next_card under d cards r ≡ Some c → when (c.queue == j) (size c) ≡ under_bits (of_queue j) under +ℚ whole (started_of j under c)
 started_bits None d cards r j c h =
     let k = whole_if (c.queue == j) c.bits in
     with2 (when (c.queue == j) (size c)) (whole (if c.queue == j then c.bits else 0)) (λ c. omega (arith, c.le, c.lt, c.same))
@@ -241,11 +255,14 @@ started_bits (Some u) d cards r j c h =
     let same : u.card ≡ c = same_some u.card c h in
     subst (λ (x : Card). when (x.queue == j) (size x) ≡ when (u.card.queue == j) (size u.card) +ℚ int (pos 0)) same (with1 (when (u.card.queue == j) (size u.card)) (λ c. omega (arith, c.le, c.lt, c.same)))
 
-left_bits : (under : Option Under) (j : ℕ) (c : Card) (t : ℚ) → MayLeave under c t → when (c.queue == j) (size c) ≡ under_bits (of_queue j) under
+left_bits : (under : Option Under) (j : ℕ) (c : Card) (t : ℚ) → MayLeave under c t
+    → when (c.queue == j) (size c) ≡ under_bits (of_queue j) under
 left_bits None j c t m = absurd m
 left_bits (Some u) j c t m = subst (λ (x : Card). when (x.queue == j) (size x) ≡ when (u.card.queue == j) (size u.card)) m.is_card refl
 
-moved_next : (server : Server) (end : ℚ) (σ : ServerState) (x : ServerStep) (j : ℕ) (p : ℚ → Bool) → Allows server end σ x → p (time_of x) ≡ true → under_bits (of_queue j) (next_under σ.under x) +ℚ leaves (of_queue j) p x ≡ under_bits (of_queue j) σ.under +ℚ whole (start_of j σ.under x)
+moved_next : (server : Server) (end : ℚ) (σ : ServerState) (x : ServerStep) (j : ℕ) (p : ℚ → Bool) → Allows server end σ x
+    → p (time_of x) ≡ true
+    → under_bits (of_queue j) (next_under σ.under x) +ℚ leaves (of_queue j) p x ≡ under_bits (of_queue j) σ.under +ℚ whole (start_of j σ.under x)
 moved_next server end σ (Arrives c t) j p a e = refl
 moved_next server end σ (Works c b f w) j p a e =
     let k = started_bits σ.under server.discipline σ.inside σ.round j c a.1.is_next in
@@ -255,7 +272,8 @@ moved_next server end σ (Leaves c t) j p a e =
     rw (if_true (c.queue == j) (p t) (size c) e) (with2 (when (c.queue == j) (size c)) (under_bits (of_queue j) σ.under) (λ c. omega (arith, c.le, c.lt, c.same)))
 moved_next server end σ (Visits q t) j p a e = refl
 
-pub moved : (server : Server) (end : ℚ) (σ : ServerState) (R : List ServerStep) (j : ℕ) (p : ℚ → Bool) → AllAllowed server end σ R → Each (IsBefore p) R
+pub moved : (server : Server) (end : ℚ) (σ : ServerState) (R : List ServerStep) (j : ℕ) (p : ℚ → Bool) → AllAllowed server end σ R
+    → Each (IsBefore p) R
     → under_bits (of_queue j) (after server.discipline σ R).under +ℚ total (leaves (of_queue j) p) R ≡ under_bits (of_queue j) σ.under +ℚ whole (starts_of j server.discipline σ R)
 moved server end σ [] j p a e = refl
 moved server end σ (x ∷ R) j p a e =

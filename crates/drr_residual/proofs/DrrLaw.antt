@@ -80,7 +80,8 @@ all_below n = record { of_one = λ c. one c.queue; apart = λ c. two c.queue }
     ]
 
 -- nothing arrives beyond the last queue
-none_beyond : (server : Server) (end : ℚ) (σ : ServerState) (V : List ServerStep) (n : ℕ) → queue_count server.discipline ≡ n → AllAllowed server end σ V → EachArrival (λ c. beyond n c ≡ false) V
+none_beyond : (server : Server) (end : ℚ) (σ : ServerState) (V : List ServerStep) (n : ℕ) → queue_count server.discipline ≡ n
+    → AllAllowed server end σ V → EachArrival (λ c. beyond n c ≡ false) V
 none_beyond server end σ [] n e a = tt
 none_beyond server end σ (Arrives c t ∷ V) n e a =
     (lt-leb n c.queue (subst (λ (k : ℕ). c.queue < k) e a.0.1.known_queue), none_beyond server end (next server.discipline σ (Arrives c t)) V n e a.1)
@@ -97,7 +98,8 @@ sum_to f (suc n) = sum_to f n + f n
 none_le : {x : ℚ} → x ≡ int (pos 0) → x ≤ℚ int (pos 0)
 none_le {x} e = rw e (le_refl (int (pos 0)))
 
-none_before : (server : Server) (end : ℚ) (V : List ServerStep) (t : ℚ) → IsLawfulView server end V → worked (before_queue zero) V t ≤ℚ int (pos 0)
+none_before : (server : Server) (end : ℚ) (V : List ServerStep) (t : ℚ) → IsLawfulView server end V
+    → worked (before_queue zero) V t ≤ℚ int (pos 0)
 none_before server end V t lawful = le_trans (worked_arrived server end V (before_queue zero) t lawful) (none_le (none_arrive (before_queue zero) (before t) V (nothing V)))
   where
     nothing : (V : List ServerStep) → EachArrival (λ c. before_queue zero c ≡ false) V
@@ -107,7 +109,8 @@ none_before server end V t lawful = le_trans (worked_arrived server end V (befor
     nothing (Leaves c u ∷ V) = nothing V
     nothing (Visits q u ∷ V) = nothing V
 
-gains : (server : Server) (end : ℚ) (V : List ServerStep) (Q l : ℕ → ℕ) (i p k : ℕ) (s t : ℚ) → IsLawfulView server end V → IsShared V Q l i s t p
+gains : (server : Server) (end : ℚ) (V : List ServerStep) (Q l : ℕ → ℕ) (i p k : ℕ) (s t : ℚ) → IsLawfulView server end V
+    → IsShared V Q l i s t p
     → worked (before_queue k) V t +ℚ when (ltb i k) (whole (l i + (p + 1) * Q i)) ≤ℚ worked (before_queue k) V s +ℚ when (ltb i k) (worked (of_queue i) V t -ℚ worked (of_queue i) V s) +ℚ whole (sum_to (λ j. l j + (p + 1) * Q j) k)
 gains server end V Q l i p zero s t lawful h =
     let no : ltb i zero ≡ false = le-ltb i zero (omega arith) in
@@ -135,12 +138,14 @@ gains server end V Q l i p (suc k) s t lawful h =
           rw same (other_case (worked (before_queue (suc k)) V t) (worked (before_queue (suc k)) V s) (worked (before_queue k) V t) (worked (before_queue k) V s) (worked (of_queue k) V t) (worked (of_queue k) V s) (whole (sum_to (λ j. l j + (p + 1) * Q j) k)) (whole (sum_to (λ j. l j + (p + 1) * Q j) (suc k))) (whole (l k + (p + 1) * Q k)) (when (ltb i k) (whole (l i + (p + 1) * Q i))) (when (ltb i k) (worked (of_queue i) V t -ℚ worked (of_queue i) V s)) parts_t parts_s sum bound rest)
     ]
   where
-    own_case : (N_t N_s B_t B_s K_t K_s I_t I_s S S2 X Y : ℚ) → N_t ≡ K_t +ℚ B_t → N_s ≡ K_s +ℚ B_s → S2 ≡ S +ℚ X → Y ≡ X → I_t ≡ K_t → I_s ≡ K_s → B_t +ℚ int (pos 0) ≤ℚ B_s +ℚ int (pos 0) +ℚ S → N_t +ℚ Y ≤ℚ N_s +ℚ (I_t -ℚ I_s) +ℚ S2
+    own_case : (N_t N_s B_t B_s K_t K_s I_t I_s S S2 X Y : ℚ) → N_t ≡ K_t +ℚ B_t → N_s ≡ K_s +ℚ B_s → S2 ≡ S +ℚ X → Y ≡ X → I_t ≡ K_t
+        → I_s ≡ K_s → B_t +ℚ int (pos 0) ≤ℚ B_s +ℚ int (pos 0) +ℚ S → N_t +ℚ Y ≤ℚ N_s +ℚ (I_t -ℚ I_s) +ℚ S2
     own_case N_t N_s B_t B_s K_t K_s I_t I_s S S2 X Y e1 e2 e3 e4 e5 e6 h =
         let one : N_t +ℚ X ≤ℚ N_s +ℚ (K_t -ℚ K_s) +ℚ (S +ℚ X) = with8 N_t N_s B_t B_s K_t K_s S X (λ c. omega (arith, c.le, c.lt, c.same)) in
         rw (e3, e4, e5, e6) one
 
-    other_case : (N_t N_s B_t B_s K_t K_s S S2 X Y Z : ℚ) → N_t ≡ K_t +ℚ B_t → N_s ≡ K_s +ℚ B_s → S2 ≡ S +ℚ X → K_t ≤ℚ K_s +ℚ X → B_t +ℚ Y ≤ℚ B_s +ℚ Z +ℚ S → N_t +ℚ Y ≤ℚ N_s +ℚ Z +ℚ S2
+    other_case : (N_t N_s B_t B_s K_t K_s S S2 X Y Z : ℚ) → N_t ≡ K_t +ℚ B_t → N_s ≡ K_s +ℚ B_s → S2 ≡ S +ℚ X → K_t ≤ℚ K_s +ℚ X
+        → B_t +ℚ Y ≤ℚ B_s +ℚ Z +ℚ S → N_t +ℚ Y ≤ℚ N_s +ℚ Z +ℚ S2
     other_case N_t N_s B_t B_s K_t K_s S S2 X Y Z e1 e2 e3 b h =
         let one : K_t +ℚ B_t +ℚ Y ≤ℚ K_s +ℚ B_s +ℚ Z +ℚ (S +ℚ X) = with8 K_t B_t Y K_s B_s Z S X (λ c. omega (arith, c.le, c.lt, c.same)) in
         rw (e1, e2, e3) one
@@ -182,7 +187,8 @@ share_bound q f L l P w b q_on q_f own all_b =
     let k_on : int (pos 0) ≤ℚ k = with2 f q (λ c. omega (arith, c.le, c.lt, c.same)) in
     share (q) f k L l P w b q_on k_on own all_b (mul_sub w f q)
   where
-    share : (q f k L l P w b : ℚ) → int (pos 0) ≤ℚ q → int (pos 0) ≤ℚ k → P *ℚ q ≤ℚ w +ℚ l → b ≤ℚ w +ℚ (L -ℚ l) +ℚ (P +ℚ int (pos 1)) *ℚ k → w *ℚ k ≡ w *ℚ f -ℚ w *ℚ q → q *ℚ b -ℚ q *ℚ (L -ℚ l) -ℚ k *ℚ (q +ℚ l) ≤ℚ w *ℚ f
+    share : (q f k L l P w b : ℚ) → int (pos 0) ≤ℚ q → int (pos 0) ≤ℚ k → P *ℚ q ≤ℚ w +ℚ l → b ≤ℚ w +ℚ (L -ℚ l) +ℚ (P +ℚ int (pos 1)) *ℚ k
+        → w *ℚ k ≡ w *ℚ f -ℚ w *ℚ q → q *ℚ b -ℚ q *ℚ (L -ℚ l) -ℚ k *ℚ (q +ℚ l) ≤ℚ w *ℚ f
     share q f k L l P w b q_on k_on own all_b e7 =
         let X = (P +ℚ int (pos 1)) *ℚ k in
         let m1 : q *ℚ b ≤ℚ q *ℚ (w +ℚ (L -ℚ l) +ℚ X) = mul_le_mul q q_on all_b in
@@ -209,7 +215,9 @@ share_bound q f L l P w b q_on q_f own all_b =
         step_three a b c y d e f g k1 k2 k3 k4 = with8 a b c y d e f g (λ c. omega (arith, c.le, c.lt, c.same))
 
 -- a share of at most w
-share_most : (Q l F Λ p : ℕ) (b w : ℚ) → 1 ≤ Q → Q ≤ F → int (pos 0) ≤ℚ w → whole (p * Q) ≤ℚ w +ℚ whole l → b ≤ℚ w +ℚ (whole Λ -ℚ whole l) +ℚ (whole p +ℚ int (pos 1)) *ℚ (whole F -ℚ whole Q) → excess (scaled (share Q F) (Fin b)) (Fin (owed Q l F Λ)) ≤ₑ Fin w
+share_most : (Q l F Λ p : ℕ) (b w : ℚ) → 1 ≤ Q → Q ≤ F → int (pos 0) ≤ℚ w → whole (p * Q) ≤ℚ w +ℚ whole l
+    → b ≤ℚ w +ℚ (whole Λ -ℚ whole l) +ℚ (whole p +ℚ int (pos 1)) *ℚ (whole F -ℚ whole Q)
+    → excess (scaled (share Q F) (Fin b)) (Fin (owed Q l F Λ)) ≤ₑ Fin w
 share_most Q l F Λ p b w some most on own all_b =
     let q_on = whole_nonneg Q in
     let q_f = whole_le Q F most in
@@ -230,7 +238,8 @@ share_most Q l F Λ p b w some most on own all_b =
     times d s o f qb n m wf e1 e2 e3 h = with7 (d *ℚ f) (s *ℚ f) (o *ℚ f) qb n m wf (λ c. omega (arith, c.le, c.lt, c.same))
 
 -- ---- the law
-in_stretch : (server : Server) (end : ℚ) (V : List ServerStep) (quanta : List ℕ) (l : ℕ → ℕ) (i p : ℕ) (β : ℚ → Ext) (t s : ℚ) → IsLawfulView server end V → server.discipline ≡ Drr quanta → i < length quanta → 1 ≤ get_or quanta i 0
+in_stretch : (server : Server) (end : ℚ) (V : List ServerStep) (quanta : List ℕ) (l : ℕ → ℕ) (i p : ℕ) (β : ℚ → Ext) (t s : ℚ)
+    → IsLawfulView server end V → server.discipline ≡ Drr quanta → i < length quanta → 1 ≤ get_or quanta i 0
     → KeepsService β end V → t ≤ℚ end → IsStretch (of_queue i) V t s → IsShared V (λ q. get_or quanta q 0) l i s t p
     → IsServed (of_queue i) (drr_left β (get_or quanta i 0) (l i) (sum_to (λ q. get_or quanta q 0) (length quanta)) (sum_to l (length quanta))) V t s
 in_stretch server end V quanta l i p β t s lawful e r some service in_run is h =
@@ -291,14 +300,16 @@ in_stretch server end V quanta l i p β t s lawful e r some service in_run is h 
     turned : (a p b : ℕ) → whole (a + (p + 1) * b) ≡ whole a +ℚ (whole p +ℚ int (pos 1)) *ℚ whole b
     turned a p b = whole_sum a ((p + 1) * b) ∙ ap (λ (y : ℚ). whole a +ℚ y) (whole_times (p + 1) b ∙ ap (λ (y : ℚ). y *ℚ whole b) (whole_sum p 1))
 
-    together : (At As Nt Ns Bt Bs b g S X Λ l PF PQ PFQ : ℚ) → As +ℚ b ≤ℚ At → At ≡ Nt +ℚ Bt → As ≡ Ns +ℚ Bs → Bt ≤ℚ int (pos 0) → int (pos 0) ≤ℚ Bs → Nt +ℚ X ≤ℚ Ns +ℚ g +ℚ S → S ≡ Λ +ℚ PF → X ≡ l +ℚ PQ → PFQ ≡ PF -ℚ PQ → b ≤ℚ g +ℚ (Λ -ℚ l) +ℚ PFQ
+    together : (At As Nt Ns Bt Bs b g S X Λ l PF PQ PFQ : ℚ) → As +ℚ b ≤ℚ At → At ≡ Nt +ℚ Bt → As ≡ Ns +ℚ Bs → Bt ≤ℚ int (pos 0)
+        → int (pos 0) ≤ℚ Bs → Nt +ℚ X ≤ℚ Ns +ℚ g +ℚ S → S ≡ Λ +ℚ PF → X ≡ l +ℚ PQ → PFQ ≡ PF -ℚ PQ → b ≤ℚ g +ℚ (Λ -ℚ l) +ℚ PFQ
     together At As Nt Ns Bt Bs b g S X Λ l PF PQ PFQ h1 e1 e2 h2 h3 h4 e3 e4 e5 =
         let one : Ns +ℚ b ≤ℚ Nt = with7 At As Nt Ns Bt Bs b (λ c. omega (arith, c.le, c.lt, c.same)) in
         let two : b +ℚ X ≤ℚ g +ℚ S = with6 Nt Ns b X g S (λ c. omega (arith, c.le, c.lt, c.same)) in
         let three : b +ℚ (l +ℚ PQ) ≤ℚ g +ℚ (Λ +ℚ PF) = rw (e3, e4) at two in
         with7 b l PQ g Λ PF PFQ (λ c. omega (arith, c.le, c.lt, c.same))
 
-in_sums : (server : Server) (end : ℚ) (V : List ServerStep) (quanta : List ℕ) (l : ℕ → ℕ) (i : ℕ) (β : ℚ → Ext) → IsLawfulView server end V → server.discipline ≡ Drr quanta → i < length quanta → 1 ≤ get_or quanta i 0
+in_sums : (server : Server) (end : ℚ) (V : List ServerStep) (quanta : List ℕ) (l : ℕ → ℕ) (i : ℕ) (β : ℚ → Ext) → IsLawfulView server end V
+    → server.discipline ≡ Drr quanta → i < length quanta → 1 ≤ get_or quanta i 0
     → ((q : ℕ) → KeepsSizes (of_queue q) (l q) V) → KeepsService β end V → IsZeroAtStart β
     → Serves (of_queue i) (drr_left β (get_or quanta i 0) (l i) (sum_to (λ q. get_or quanta q 0) (length quanta)) (sum_to l (length quanta))) end V
 in_sums server end V quanta l i β lawful e r some sizes service flat t in_run =
@@ -322,7 +333,8 @@ in_sums server end V quanta l i β lawful e r some sizes service flat t in_run =
         let l_on = whole_nonneg l in
         rw z (with1 (whole l) (λ c. omega (arith, c.le, c.lt, c.same)))
 
-    first_flat : (Q l F Λ : ℕ) (b : ℚ) → Q ≤ F → l ≤ Λ → b ≤ℚ int (pos 0) → b ≤ℚ int (pos 0) +ℚ (whole Λ -ℚ whole l) +ℚ (whole 0 +ℚ int (pos 1)) *ℚ (whole F -ℚ whole Q)
+    first_flat : (Q l F Λ : ℕ) (b : ℚ) → Q ≤ F → l ≤ Λ → b ≤ℚ int (pos 0)
+        → b ≤ℚ int (pos 0) +ℚ (whole Λ -ℚ whole l) +ℚ (whole 0 +ℚ int (pos 1)) *ℚ (whole F -ℚ whole Q)
     first_flat Q l F Λ b h k low =
         let a = whole_le Q F h in
         let d = whole_le l Λ k in
@@ -330,23 +342,29 @@ in_sums server end V quanta l i β lawful e r some sizes service flat t in_run =
         let times : (whole 0 +ℚ int (pos 1)) *ℚ (whole F -ℚ whole Q) ≡ whole F -ℚ whole Q = ap (λ (y : ℚ). y *ℚ (whole F -ℚ whole Q)) one ∙ mul_comm (int (pos 1)) (whole F -ℚ whole Q) ∙ mul_one (whole F -ℚ whole Q) in
         rw times (with5 b (whole Q) (whole F) (whole l) (whole Λ) (λ c. omega (arith, c.le, c.lt, c.same)))
 
-    by_start : (Q l F Λ : ℕ) → 1 ≤ Q → Q ≤ F → l ≤ Λ → (x : Ext) → x ≤ₑ Fin (int (pos 0)) → excess (scaled (share Q F) x) (Fin (owed Q l F Λ)) ≤ₑ Fin (int (pos 0))
+    by_start : (Q l F Λ : ℕ) → 1 ≤ Q → Q ≤ F → l ≤ Λ → (x : Ext) → x ≤ₑ Fin (int (pos 0))
+        → excess (scaled (share Q F) x) (Fin (owed Q l F Λ)) ≤ₑ Fin (int (pos 0))
     by_start Q l F Λ some h k Inf low = absurd low
     by_start Q l F Λ some h k (Fin b) low = share_most Q l F Λ 0 b (int (pos 0)) some h (le_refl (int (pos 0))) (nothing_owed Q l) (first_flat Q l F Λ b h k low)
 
 -- a curve that is that at each time
-same_service : (server : Server) (end : ℚ) (V : List ServerStep) (C : Class) (R k : ℚ → Ext) → ((t : ℚ) → int (pos 0) ≤ℚ t → R t ≡ k t) → Serves C k end V → Serves C R end V
+same_service : (server : Server) (end : ℚ) (V : List ServerStep) (C : Class) (R k : ℚ → Ext) → ((t : ℚ) → int (pos 0) ≤ℚ t → R t ≡ k t)
+    → Serves C k end V → Serves C R end V
 same_service server end V C R k same serves t l =
     let (s, is) = serves t l in
     let early = is.earlier in
     (s, record { earlier = early; left = is.left; kept_up = subst (λ (y : Ext). (Fin (arrived C V s) +ₑ y) ≤ₑ Fin (worked C V t)) (sym (same (t -ℚ s) (with2 s t (λ c. omega (arith, c.le, c.lt, c.same))))) is.kept_up })
 
-pub drr_serves : (server : Server) (end : ℚ) (V : List ServerStep) (quanta longest : List ℕ) (i : ℕ) (β R : ℚ → Ext) → IsLawfulView server end V → server.discipline ≡ Drr quanta → length longest ≡ length quanta → i < length quanta → 1 ≤ get_or quanta i 0
-    → ((q : ℕ) → KeepsSizes (of_queue q) (get_or longest q 0) V) → KeepsService β end V → IsZeroAtStart β → IsDrrService β quanta longest i R → Serves (of_queue i) R end V
+pub drr_serves : (server : Server) (end : ℚ) (V : List ServerStep) (quanta longest : List ℕ) (i : ℕ) (β R : ℚ → Ext)
+    → IsLawfulView server end V → server.discipline ≡ Drr quanta → length longest ≡ length quanta → i < length quanta
+    → 1 ≤ get_or quanta i 0
+    → ((q : ℕ) → KeepsSizes (of_queue q) (get_or longest q 0) V) → KeepsService β end V → IsZeroAtStart β
+    → IsDrrService β quanta longest i R → Serves (of_queue i) R end V
 drr_serves server end V quanta longest i β R lawful e long r some sizes service flat is =
     let l : ℕ → ℕ = λ q. get_or longest q 0 in
     let F : sum_to (λ q. get_or quanta q 0) (length quanta) ≡ sum quanta = sum_of_list quanta in
     let Λ : sum_to l (length quanta) ≡ sum longest = ap (sum_to l) (sym long) ∙ sum_of_list longest in
-    let same : (t : ℚ) → int (pos 0) ≤ℚ t → R t ≡ drr_left β (get_or quanta i 0) (l i) (sum_to (λ q. get_or quanta q 0) (length quanta)) (sum_to l (length quanta)) t =
+    let same : (t : ℚ) → int (pos 0) ≤ℚ t
+    → R t ≡ drr_left β (get_or quanta i 0) (l i) (sum_to (λ q. get_or quanta q 0) (length quanta)) (sum_to l (length quanta)) t =
     λ t on. is t on ∙ ap₂ (λ (f g : ℕ). drr_left β (get_or quanta i 0) (l i) f g t) (sym F) (sym Λ) in
     same_service server end V (of_queue i) R (drr_left β (get_or quanta i 0) (l i) (sum_to (λ q. get_or quanta q 0) (length quanta)) (sum_to l (length quanta))) same (in_sums server end V quanta l i β lawful e r some sizes service flat)

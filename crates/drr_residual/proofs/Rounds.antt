@@ -118,7 +118,8 @@ pub set_other : (xs : List ℕ) (i j v : ℕ) → j ≢ i → get_or (set xs i v
 set_other xs i j v h = get_or-set_other xs i j v 0 h
 
 -- ---- each step keeps it
-round_arrives : (Q l : ℕ → ℕ) (cards : List Card) (under : Option Under) (r : Round) (c : Card) (x : Option Card) → head_of c.queue cards ≡ x → IsRound Q l cards under r → IsRound Q l (cards ++ c ∷ []) under (arrived_round x c.queue r)
+round_arrives : (Q l : ℕ → ℕ) (cards : List Card) (under : Option Under) (r : Round) (c : Card) (x : Option Card)
+    → head_of c.queue cards ≡ x → IsRound Q l cards under r → IsRound Q l (cards ++ c ∷ []) under (arrived_round x c.queue r)
 round_arrives Q l cards under r c None e h = record {
   lists = λ j. elim (cases_eq c.queue j) [
     | inl f ↦
@@ -144,7 +145,8 @@ round_arrives Q l cards under r c None e h = record {
     none_before : (j : ℕ) (c : Card) (cards : List Card) → head_of j (cards ++ c ∷ []) ≡ None → head_of j cards ≡ None
     none_before j c cards k = by_head j c cards (head_of j cards) refl k
       where
-        by_head : (j : ℕ) (c : Card) (cards : List Card) (x : Option Card) → head_of j cards ≡ x → head_of j (cards ++ c ∷ []) ≡ None → head_of j cards ≡ None
+        by_head : (j : ℕ) (c : Card) (cards : List Card) (x : Option Card) → head_of j cards ≡ x → head_of j (cards ++ c ∷ []) ≡ None
+            → head_of j cards ≡ None
         by_head j c cards None m k = m
         by_head j c cards (Some d) m k = let p = head_push j d c cards m in absurd (cc)
 round_arrives Q l cards under r c (Some d) e h = record {
@@ -185,7 +187,8 @@ fitting_head (Some d) deficit c h = elim (cases_Bool (nat_le d.bits deficit)) [
   | inr e ↦ let k = rw e at h in absurd (cc)
 ]
 
-pub is_started : (r : Round) (v : Option ℕ) (cards : List Card) (c : Card) → r.visited ≡ v → visited_head v r.deficits cards ≡ Some c → IsStarted r cards c
+pub is_started : (r : Round) (v : Option ℕ) (cards : List Card) (c : Card) → r.visited ≡ v → visited_head v r.deficits cards ≡ Some c
+    → IsStarted r cards c
 is_started r None cards c e h = absurd (cc)
 is_started r (Some q) cards c e h =
     let k = fitting_head (head_of q cards) (get_or r.deficits q 0) c h in
@@ -196,7 +199,8 @@ is_started r (Some q) cards c e h =
       fitting = subst (λ (i : ℕ). c.bits ≤ get_or r.deficits i 0) (sym own) k.1;
     }
 
-round_works : (Q l : ℕ → ℕ) (quanta : List ℕ) (cards : List Card) (under after : Option Under) (r : Round) (c : Card) (u : Under) → after ≡ Some u → u.card ≡ c → next_card under (Drr quanta) cards r ≡ Some c → IsRound Q l cards under r
+round_works : (Q l : ℕ → ℕ) (quanta : List ℕ) (cards : List Card) (under after : Option Under) (r : Round) (c : Card) (u : Under)
+    → after ≡ Some u → u.card ≡ c → next_card under (Drr quanta) cards r ≡ Some c → IsRound Q l cards under r
     → IsRound Q l cards (Some u) (worked_round under c r)
 round_works Q l quanta cards None after r c u e f n h =
     let s = is_started r r.visited cards c refl n in
@@ -244,7 +248,8 @@ pub record HasLeft (Q l : ℕ → ℕ) (cards : List Card) (r : Round) (q : ℕ)
   pub closed : (j : ℕ) → j ≢ q → get_or r.deficits j 0 ≤ l j
   pub opened : get_or r.deficits q 0 ≤ l q + Q q
 
-present : (Q l : ℕ → ℕ) (cards : List Card) (r : Round) (q : ℕ) (c : Card) → head_of q cards ≡ Some c → HasLeft Q l cards r q → (j : ℕ) → count_of j r.active ≡ presence (head_of j cards)
+present : (Q l : ℕ → ℕ) (cards : List Card) (r : Round) (q : ℕ) (c : Card) → head_of q cards ≡ Some c → HasLeft Q l cards r q → (j : ℕ)
+    → count_of j r.active ≡ presence (head_of j cards)
 present Q l cards r q c e h j = elim (cases_eq j q) [
   | inl f ↦
       let o = h.once in
@@ -253,7 +258,8 @@ present Q l cards r q c e h j = elim (cases_eq j q) [
   | inr f ↦ h.lists j f
 ]
 
-none : (Q l : ℕ → ℕ) (cards : List Card) (r : Round) (q : ℕ) (c : Card) → head_of q cards ≡ Some c → HasLeft Q l cards r q → (j : ℕ) → head_of j cards ≡ None → get_or r.deficits j 0 ≡ 0
+none : (Q l : ℕ → ℕ) (cards : List Card) (r : Round) (q : ℕ) (c : Card) → head_of q cards ≡ Some c → HasLeft Q l cards r q → (j : ℕ)
+    → head_of j cards ≡ None → get_or r.deficits j 0 ≡ 0
 none Q l cards r q c e h j k = elim (cases_eq j q) [
   | inl f ↦
       let m : head_of q cards ≡ None = subst (λ (i : ℕ). head_of i cards ≡ None) f k in
@@ -261,7 +267,8 @@ none Q l cards r q c e h j k = elim (cases_eq j q) [
   | inr f ↦ h.empty j f k
 ]
 
-round_left : (Q l : ℕ → ℕ) (cards : List Card) (r : Round) (q : ℕ) (x : Option Card) → head_of q cards ≡ x → ((c : Card) → head_of q cards ≡ Some c → c.bits ≤ l q) → HasLeft Q l cards r q → IsRound Q l cards None (left_round x q r)
+round_left : (Q l : ℕ → ℕ) (cards : List Card) (r : Round) (q : ℕ) (x : Option Card) → head_of q cards ≡ x
+    → ((c : Card) → head_of q cards ≡ Some c → c.bits ≤ l q) → HasLeft Q l cards r q → IsRound Q l cards None (left_round x q r)
 round_left Q l cards r q None e small h = record {
   lists = λ j. elim (cases_eq j q) [
     | inl f ↦
@@ -317,7 +324,8 @@ round_left Q l cards r q (Some c) e small h = elim (cases_Bool (nat_le c.bits (g
 ]
 
 -- a packet under way leaves
-pub has_left : (Q l : ℕ → ℕ) (cards : List Card) (busy : ℚ) (under : Option Under) (r : Round) (c : Card) (t : ℚ) → IsSoundFor cards busy under → MayLeave under c t → IsRound Q l cards under r → HasLeft Q l (without_head c.queue cards) r c.queue
+pub has_left : (Q l : ℕ → ℕ) (cards : List Card) (busy : ℚ) (under : Option Under) (r : Round) (c : Card) (t : ℚ)
+    → IsSoundFor cards busy under → MayLeave under c t → IsRound Q l cards under r → HasLeft Q l (without_head c.queue cards) r c.queue
 has_left Q l cards busy None r c t s m h = absurd m
 has_left Q l cards busy (Some u) r c t s m h =
     let v : r.visited ≡ Some c.queue = h.of_visit ∙ ap (λ (y : Card). Some y.queue) m.is_card in
@@ -334,7 +342,9 @@ has_left Q l cards busy (Some u) r c t s m h =
     }
 
 -- a visit
-round_visits : (Q l : ℕ → ℕ) (cards : List Card) (r : Round) (q : ℕ) (x : Option Card) → head_of q cards ≡ x → ((c : Card) → head_of q cards ≡ Some c → c.bits ≤ l q) → r.visited ≡ None → IsFirst q r.active → IsRound Q l cards None r → IsRound Q l cards None (visited_round (Q q) x q r)
+round_visits : (Q l : ℕ → ℕ) (cards : List Card) (r : Round) (q : ℕ) (x : Option Card) → head_of q cards ≡ x
+    → ((c : Card) → head_of q cards ≡ Some c → c.bits ≤ l q) → r.visited ≡ None → IsFirst q r.active → IsRound Q l cards None r
+    → IsRound Q l cards None (visited_round (Q q) x q r)
 round_visits Q l cards r q None e small v f h =
     let k = h.lists q in
     let m = first_counts q r.active f in
@@ -384,9 +394,11 @@ round_visits Q l cards r q (Some c) e small v f h =
     ]
 
 -- ---- so each step keeps it
-pub round_next : (server : Server) (end : ℚ) (quanta : List ℕ) (l : ℕ → ℕ) (σ : ServerState) (x : ServerStep) → server.discipline ≡ Drr quanta → Allows server end σ x → IsSoundFor σ.inside σ.busy σ.under
+pub round_next : (server : Server) (end : ℚ) (quanta : List ℕ) (l : ℕ → ℕ) (σ : ServerState) (x : ServerStep)
+    → server.discipline ≡ Drr quanta → Allows server end σ x → IsSoundFor σ.inside σ.busy σ.under
     → ((q : ℕ) → AllSmall (of_queue q) (l q) (next_inside σ.inside x)) → ((q : ℕ) → AllSmall (of_queue q) (l q) σ.inside)
-    → IsRound (λ q. get_or quanta q 0) l σ.inside σ.under σ.round → IsRound (λ q. get_or quanta q 0) l (next_inside σ.inside x) (next_under σ.under x) (next_visits quanta σ x)
+    → IsRound (λ q. get_or quanta q 0) l σ.inside σ.under σ.round
+    → IsRound (λ q. get_or quanta q 0) l (next_inside σ.inside x) (next_under σ.under x) (next_visits quanta σ x)
 round_next server end quanta l σ (Arrives c t) e a s small small_now h = round_arrives (λ q. get_or quanta q 0) l σ.inside σ.under σ.round c (head_of c.queue σ.inside) refl h
 round_next server end quanta l σ (Works c b f w) e a s small small_now h =
     let n : next_card σ.under (Drr quanta) σ.inside σ.round ≡ Some c = subst (λ (d : Discipline). next_card σ.under d σ.inside σ.round ≡ Some c) e a.1.is_next in
@@ -396,7 +408,8 @@ round_next server end quanta l σ (Leaves c t) e a s small small_now h =
     round_left (λ q. get_or quanta q 0) l (without_head c.queue σ.inside) σ.round c.queue (head_of c.queue (without_head c.queue σ.inside)) refl
     (λ d k. head_small c.queue (without_head c.queue σ.inside) l d (small c.queue) k) left
   where
-    head_small : (q : ℕ) (cards : List Card) (l : ℕ → ℕ) (d : Card) → AllSmall (of_queue q) (l q) cards → head_of q cards ≡ Some d → d.bits ≤ l q
+    head_small : (q : ℕ) (cards : List Card) (l : ℕ → ℕ) (d : Card) → AllSmall (of_queue q) (l q) cards → head_of q cards ≡ Some d
+        → d.bits ≤ l q
     head_small q cards l d small k = small_head (of_queue q) (l q) q d cards small k (eq-eqb d.queue q (head_queue q d cards k))
 round_next server end quanta l σ (Visits q t) e a s small small_now h =
     let v : IsVisit σ q = subst (λ (d : Discipline). MayVisit d σ q) e a.1 in

@@ -40,7 +40,8 @@ pub record Window (server : Server) (end : ℚ) (V : List ServerStep) (s t : ℚ
   pub before_t : Each (IsBefore (before t)) R
   pub after_s : Each (IsAfter (upto s)) R
   pub gain : (C : Class) → worked C V t +ℚ done_by C s (after server.discipline (start server.discipline) P).under ≡ worked C V s +ℚ (done_by C t (after server.discipline (after server.discipline (start server.discipline) P) R).under +ℚ total (leaves C (before t)) R)
-  pub left_there : (C : Class) → sum_of C (after server.discipline (after server.discipline (start server.discipline) P) R).inside +ℚ departed C V t ≡ arrived C V t
+  pub left_there : (C : Class)
+      → sum_of C (after server.discipline (after server.discipline (start server.discipline) P) R).inside +ℚ departed C V t ≡ arrived C V t
 
 window : (server : Server) (end : ℚ) (V : List ServerStep) (s t : ℚ) → IsLawfulView server end V → s <ℚ t → Window server end V s t
 window server end V s t lawful l =
@@ -71,7 +72,8 @@ window server end V s t lawful l =
           (ap (total (leaves C (before t))) a.at.joined ∙ total-append (leaves C (before t)) P S) (ap (total (arrives C (before t))) a.at.joined ∙ total-append (arrives C (before t)) P S);
     }
   where
-    gained : (Wt Ws WP WS Dt Ds DR LP LV LR LS : ℚ) → Wt ≡ WP +ℚ WS → Dt +ℚ LP ≡ int (pos 0) +ℚ WP → Ds +ℚ LV ≡ int (pos 0) +ℚ Ws → LV ≡ LP → DR +ℚ LS ≡ Dt +ℚ WS → LS ≡ LR → Wt +ℚ Ds ≡ Ws +ℚ (DR +ℚ LR)
+    gained : (Wt Ws WP WS Dt Ds DR LP LV LR LS : ℚ) → Wt ≡ WP +ℚ WS → Dt +ℚ LP ≡ int (pos 0) +ℚ WP → Ds +ℚ LV ≡ int (pos 0) +ℚ Ws → LV ≡ LP
+        → DR +ℚ LS ≡ Dt +ℚ WS → LS ≡ LR → Wt +ℚ Ds ≡ Ws +ℚ (DR +ℚ LR)
     gained Wt Ws WP WS Dt Ds DR LP LV LR LS e1 e2 e3 e4 e5 e6 =
         let one : Wt ≡ LP +ℚ DR +ℚ LR = with8 Wt WP WS Dt DR LP LR LS (λ c. omega (arith, c.le, c.lt, c.same)) in
         with7 Wt Ws Ds DR LP LV LR (λ c. omega (arith, c.le, c.lt, c.same))
@@ -85,7 +87,8 @@ here_from i σ h =
     let s = somebody (of_queue i) σ.inside h in
     record { first = s.e; is = subst (λ (q : ℕ). head_of q σ.inside ≡ Some s.e) (eqb-true s.d.queue i s.counted) s.there }
 
-here_before : (server : Server) (end : ℚ) (V P front back : List ServerStep) (x : ServerStep) (i : ℕ) → IsLawfulView server end V → V ≡ P ++ (front ++ x ∷ back) → worked (of_queue i) V (time_of x) <ℚ arrived (of_queue i) V (time_of x)
+here_before : (server : Server) (end : ℚ) (V P front back : List ServerStep) (x : ServerStep) (i : ℕ) → IsLawfulView server end V
+    → V ≡ P ++ (front ++ x ∷ back) → worked (of_queue i) V (time_of x) <ℚ arrived (of_queue i) V (time_of x)
     → IsHere i (after server.discipline (after server.discipline (start server.discipline) P) front)
 here_before server end V P front back x i lawful joined busy =
     let d = server.discipline in
@@ -100,8 +103,10 @@ here_before server end V P front back x i lawful joined busy =
     let some = inside_some server end V D (x ∷ back) (of_queue i) a lawful place all.0 sooner (at_a, later) busy in
     here_from i (after d (after d (start d) P) front) (subst (λ (σ : ServerState). int (pos 0) <ℚ sum_of (of_queue i) σ.inside) (after-append server (start d) P front) some)
 
-here_all : (server : Server) (end : ℚ) (V : List ServerStep) (s t : ℚ) (i : ℕ) → IsLawfulView server end V → (w : Window server end V s t) → departed (of_queue i) V t <ℚ arrived (of_queue i) V t
-    → ((x : ℚ) → s <ℚ x → x <ℚ t → worked (of_queue i) V x <ℚ arrived (of_queue i) V x) → (front back : List ServerStep) → w.R ≡ front ++ back → IsHere i (after server.discipline (after server.discipline (start server.discipline) w.P) front)
+here_all : (server : Server) (end : ℚ) (V : List ServerStep) (s t : ℚ) (i : ℕ) → IsLawfulView server end V → (w : Window server end V s t)
+    → departed (of_queue i) V t <ℚ arrived (of_queue i) V t
+    → ((x : ℚ) → s <ℚ x → x <ℚ t → worked (of_queue i) V x <ℚ arrived (of_queue i) V x) → (front back : List ServerStep)
+    → w.R ≡ front ++ back → IsHere i (after server.discipline (after server.discipline (start server.discipline) w.P) front)
 here_all server end V s t i lawful w less busy front [] e =
     let same : w.R ≡ front = e ∙ append-nil front in
     let σ = after server.discipline (start server.discipline) w.P in
@@ -134,7 +139,9 @@ record RoundAt (quanta : List ℕ) (l : ℕ → ℕ) (σ : ServerState) : Type 0
   round : IsRound (λ q. get_or quanta q 0) l σ.inside σ.under σ.round
   long : length σ.round.deficits ≡ length quanta
 
-round_after : (server : Server) (end : ℚ) (quanta : List ℕ) (l : ℕ → ℕ) (σ : ServerState) (P W : List ServerStep) → server.discipline ≡ Drr quanta → AllAllowed server end σ P → IsSound σ → ((q : ℕ) → KeepsSizes (of_queue q) (l q) (P ++ W)) → ((q : ℕ) → AllSmall (of_queue q) (l q) σ.inside)
+round_after : (server : Server) (end : ℚ) (quanta : List ℕ) (l : ℕ → ℕ) (σ : ServerState) (P W : List ServerStep)
+    → server.discipline ≡ Drr quanta → AllAllowed server end σ P → IsSound σ → ((q : ℕ) → KeepsSizes (of_queue q) (l q) (P ++ W))
+    → ((q : ℕ) → AllSmall (of_queue q) (l q) σ.inside)
     → RoundAt quanta l σ → RoundAt quanta l (after server.discipline σ P)
 round_after server end quanta l σ [] W e a s sizes small h = h
 round_after server end quanta l σ (x ∷ P) W e a s sizes small h =
@@ -159,7 +166,8 @@ record Begin (Q l : ℕ → ℕ) (i j : ℕ) (σ : ServerState) : Type 0 where
   turn : IsTurn Q l i j σ.inside σ.round 0 n G
   bits : whole G ≡ under_bits (of_queue j) σ.under
 
-beginning : (Q l : ℕ → ℕ) (i j : ℕ) (cards : List Card) (under : Option Under) (r : Round) (busy : ℚ) (now : ℚ) → j ≢ i → IsRound Q l cards under r → Begin Q l i j record { now = now; busy = busy; inside = cards; under = under; round = r }
+beginning : (Q l : ℕ → ℕ) (i j : ℕ) (cards : List Card) (under : Option Under) (r : Round) (busy : ℚ) (now : ℚ) → j ≢ i
+    → IsRound Q l cards under r → Begin Q l i j record { now = now; busy = busy; inside = cards; under = under; round = r }
 beginning Q l i j cards under r busy now d h = by_visit r.visited refl
   where
     part : (under : Option Under) → (G : ℕ) × (whole G ≡ under_bits (of_queue j) under) × (G ≤ under_size under)
@@ -221,7 +229,9 @@ idle_of : (under : Option Under) (v : Option ℕ) (i : ℕ) → v ≢ Some i →
 idle_of None v i n k = refl
 idle_of (Some u) v i n k = when_false (u.card.queue == i) (size u.card) (ne_eqb u.card.queue i (λ e. n (k ∙ ap (λ (q : ℕ). Some q) e)))
 
-own_share : (Q l : ℕ → ℕ) (i : ℕ) (cards : List Card) (under : Option Under) (r : Round) (m g : ℕ) (v : Option ℕ) (gained : ℚ) → r.visited ≡ v → IsRound Q l cards under r → m * Q i ≤ g + get_or r.deficits i 0 → whole g ≤ℚ gained +ℚ under_bits (of_queue i) under → int (pos 0) ≤ℚ gained
+own_share : (Q l : ℕ → ℕ) (i : ℕ) (cards : List Card) (under : Option Under) (r : Round) (m g : ℕ) (v : Option ℕ) (gained : ℚ)
+    → r.visited ≡ v → IsRound Q l cards under r → m * Q i ≤ g + get_or r.deficits i 0 → whole g ≤ℚ gained +ℚ under_bits (of_queue i) under
+    → int (pos 0) ≤ℚ gained
     → whole (over_of i v m * Q i) ≤ℚ gained +ℚ whole (l i)
 own_share Q l i cards under r m g None gained e h own some on =
     let d = h.closed i (λ k. let w : None ≡ Some i = sym e ∙ k in absurd (cc)) in
@@ -244,7 +254,8 @@ own_share Q l i cards under r m g (Some k) gained e h own some on = elim (cases_
       rw one (less_one m own d u)
 ]
   where
-    less_one : (m : ℕ) → m * Q i ≤ g + get_or r.deficits i 0 → get_or r.deficits i 0 + under_size under ≤ l i + Q i → under_bits (of_queue i) under ≤ℚ whole (under_size under) → whole ((m - 1) * Q i) ≤ℚ gained +ℚ whole (l i)
+    less_one : (m : ℕ) → m * Q i ≤ g + get_or r.deficits i 0 → get_or r.deficits i 0 + under_size under ≤ l i + Q i
+        → under_bits (of_queue i) under ≤ℚ whole (under_size under) → whole ((m - 1) * Q i) ≤ℚ gained +ℚ whole (l i)
     less_one zero own d u =
         let z : (zero - 1) * Q i ≡ 0 = omega arith in
         let l_on = whole_nonneg (l i) in
@@ -256,7 +267,8 @@ own_share Q l i cards under r m g (Some k) gained e h own some on = elim (cases_
         let c = whole_sum (m * Q i) (under_size under) in
         rw z (with8 (whole (m * Q i)) (whole (under_size under)) (whole (m * Q i + under_size under)) (whole (g + l i)) (whole g) (whole (l i)) gained (under_bits (of_queue i) under) (λ c. omega (arith, c.le, c.lt, c.same)))
 
-few_turns : (Q l : ℕ → ℕ) (i j : ℕ) (cards : List Card) (r : Round) (m n G : ℕ) (v : Option ℕ) → r.visited ≡ v → IsTurn Q l i j cards r m n G → n ≤ over_of i v m + 1
+few_turns : (Q l : ℕ → ℕ) (i j : ℕ) (cards : List Card) (r : Round) (m n G : ℕ) (v : Option ℕ) → r.visited ≡ v
+    → IsTurn Q l i j cards r m n G → n ≤ over_of i v m + 1
 few_turns Q l i j cards r m n G None e t = t.most
 few_turns Q l i j cards r m n G (Some k) e t = elim (cases_eq k i) [
   | inr f ↦ let o = other_count k i f in let most = t.most in omega arith
@@ -266,8 +278,11 @@ few_turns Q l i j cards r m n G (Some k) e t = elim (cases_eq k i) [
       omega arith
 ]
 
-pub shared : (server : Server) (end : ℚ) (V : List ServerStep) (quanta : List ℕ) (l : ℕ → ℕ) (i : ℕ) (s t : ℚ) → IsLawfulView server end V → server.discipline ≡ Drr quanta → i < length quanta → ((q : ℕ) → KeepsSizes (of_queue q) (l q) V) → s <ℚ t
-    → departed (of_queue i) V t <ℚ arrived (of_queue i) V t → ((x : ℚ) → s <ℚ x → x <ℚ t → worked (of_queue i) V x <ℚ arrived (of_queue i) V x) → (p : ℕ) × IsShared V (λ q. get_or quanta q 0) l i s t p
+pub shared : (server : Server) (end : ℚ) (V : List ServerStep) (quanta : List ℕ) (l : ℕ → ℕ) (i : ℕ) (s t : ℚ) → IsLawfulView server end V
+    → server.discipline ≡ Drr quanta → i < length quanta → ((q : ℕ) → KeepsSizes (of_queue q) (l q) V) → s <ℚ t
+    → departed (of_queue i) V t <ℚ arrived (of_queue i) V t
+    → ((x : ℚ) → s <ℚ x → x <ℚ t → worked (of_queue i) V x <ℚ arrived (of_queue i) V x)
+    → (p : ℕ) × IsShared V (λ q. get_or quanta q 0) l i s t p
 shared server end V quanta l i s t lawful e r sizes later less busy =
     let D = server.discipline in
     let w = window server end V s t lawful later in
@@ -286,9 +301,11 @@ shared server end V quanta l i s t lawful e r sizes later less busy =
     let allowed_D = (allowed-append server end (start D) (P ++ front) (back ++ w.T) (subst (AllAllowed server end (start D)) place lawful.allowed)).0 in
     subst (λ (ρ : ServerState). AllSmall (of_queue q) (l q) ρ.inside) (after-append server (start D) P front)
     (small_after server end (start D) (P ++ front) (back ++ w.T) (of_queue q) (l q) allowed_D (subst (KeepsSizes (of_queue q) (l q)) place (sizes q)) tt) in
-    let run : (j : ℕ) → j ≢ i → (b : Begin (λ q. get_or quanta q 0) l i j σ) → IsAlong quanta l i j τ (0 + visits_of i R) (b.n + visits_of j R) (b.G + starts_of j D σ R) (0 + starts_of i D σ R) =
+    let run : (j : ℕ) → j ≢ i → (b : Begin (λ q. get_or quanta q 0) l i j σ)
+    → IsAlong quanta l i j τ (0 + visits_of i R) (b.n + visits_of j R) (b.G + starts_of j D σ R) (0 + starts_of i D σ R) =
     λ j d b. along server end quanta l i j σ R 0 b.n b.G 0 e d r w.allowed here small record { sound = w.sound; round = at_P.round; turn = b.turn; own = omega arith; long = at_P.long } in
-    let begin : (j : ℕ) → j ≢ i → Begin (λ q. get_or quanta q 0) l i j σ = λ j d. beginning (λ q. get_or quanta q 0) l i j σ.inside σ.under σ.round σ.busy σ.now d at_P.round in
+    let begin : (j : ℕ) → j ≢ i
+    → Begin (λ q. get_or quanta q 0) l i j σ = λ j d. beginning (λ q. get_or quanta q 0) l i j σ.inside σ.under σ.round σ.busy σ.now d at_P.round in
     let m = 0 + visits_of i R in
     let p = over_of i τ.round.visited m in
     let one = run (suc i) (λ k. absurd (omega arith)) (begin (suc i) (λ k. absurd (omega arith))) in
@@ -315,7 +332,8 @@ shared server end V quanta l i s t lawful e r sizes later less busy =
       },
     )
   where
-    own_gain : (Wt Ws Ds Dt L U U2 S : ℚ) → Wt +ℚ Ds ≡ Ws +ℚ (Dt +ℚ L) → U2 +ℚ L ≡ U +ℚ S → Ds ≤ℚ U → int (pos 0) ≤ℚ Dt → S ≤ℚ (Wt -ℚ Ws) +ℚ U2
+    own_gain : (Wt Ws Ds Dt L U U2 S : ℚ) → Wt +ℚ Ds ≡ Ws +ℚ (Dt +ℚ L) → U2 +ℚ L ≡ U +ℚ S → Ds ≤ℚ U → int (pos 0) ≤ℚ Dt
+        → S ≤ℚ (Wt -ℚ Ws) +ℚ U2
     own_gain Wt Ws Ds Dt L U U2 S e f h k = with8 Wt Ws Ds Dt L U U2 S (λ c. omega (arith, c.le, c.lt, c.same))
 
     zero_on : (n : ℕ) (x y : ℚ) → whole n ≤ℚ x +ℚ y → whole (0 + n) ≤ℚ x +ℚ y
@@ -327,7 +345,8 @@ shared server end V quanta l i s t lawful e r sizes later less busy =
     turn_bits : (G d L n K p : ℕ) → G + d ≤ L + n * K → n ≤ p → G ≤ L + p * K
     turn_bits G d L n K p h k = let m = mul-le-mul_right K k in omega arith
 
-    other_gain : (Wt Ws Ds Dt L U U2 S G GS B : ℚ) → Wt +ℚ Ds ≡ Ws +ℚ (Dt +ℚ L) → U2 +ℚ L ≡ U +ℚ S → int (pos 0) ≤ℚ Ds → Dt ≤ℚ U2 → G ≡ U → GS ≡ G +ℚ S → GS ≤ℚ B → Wt ≤ℚ Ws +ℚ B
+    other_gain : (Wt Ws Ds Dt L U U2 S G GS B : ℚ) → Wt +ℚ Ds ≡ Ws +ℚ (Dt +ℚ L) → U2 +ℚ L ≡ U +ℚ S → int (pos 0) ≤ℚ Ds → Dt ≤ℚ U2 → G ≡ U
+        → GS ≡ G +ℚ S → GS ≤ℚ B → Wt ≤ℚ Ws +ℚ B
     other_gain Wt Ws Ds Dt L U U2 S G GS B e f h k g1 g2 b =
         let one : Wt ≤ℚ Ws +ℚ (U +ℚ S) = with8 Wt Ws Ds Dt L U U2 S (λ c. omega (arith, c.le, c.lt, c.same)) in
         with7 Wt Ws U S G GS B (λ c. omega (arith, c.le, c.lt, c.same))

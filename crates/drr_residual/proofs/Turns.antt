@@ -123,7 +123,8 @@ abbrev pub started_of : ℕ → Option Under → Card → ℕ
 started_of j None c = if c.queue == j then c.bits else 0
 started_of j (Some u) c = 0
 
-pub turn_works : (Q l : ℕ → ℕ) (quanta : List ℕ) (i j : ℕ) (cards : List Card) (under : Option Under) (r : Round) (m n G : ℕ) (c : Card) → next_card under (Drr quanta) cards r ≡ Some c → IsTurn Q l i j cards r m n G
+pub turn_works : (Q l : ℕ → ℕ) (quanta : List ℕ) (i j : ℕ) (cards : List Card) (under : Option Under) (r : Round) (m n G : ℕ) (c : Card)
+    → next_card under (Drr quanta) cards r ≡ Some c → IsTurn Q l i j cards r m n G
     → IsTurn Q l i j cards (worked_round under c r) m n (G + started_of j under c)
 turn_works Q l quanta i j cards (Some u) r m n G c k t = record { most = t.most; in_own = t.in_own; late = t.late; bits = let b = t.bits in omega arith }
 turn_works Q l quanta i j cards None r m n G c k t =
@@ -148,7 +149,8 @@ turn_works Q l quanta i j cards None r m n G c k t =
     }
 
 -- a packet of q left; the list and the cards are those after it, but for q's turn
-late_other : (i j q : ℕ) (cards rest : List Card) (r s : Round) → q ≢ j → head_of j rest ≡ head_of j cards → r.visited ≢ Some j → ahead i j s.active ≡ ahead i j r.active → IsLate i j cards r → IsLate i j rest s
+late_other : (i j q : ℕ) (cards rest : List Card) (r s : Round) → q ≢ j → head_of j rest ≡ head_of j cards → r.visited ≢ Some j
+    → ahead i j s.active ≡ ahead i j r.active → IsLate i j cards r → IsLate i j rest s
 late_other i j q cards rest r s d same v a h = elim h [
   | inl w ↦ absurd (v w)
   | inr w ↦ elim w [
@@ -157,7 +159,9 @@ late_other i j q cards rest r s d same v a h = elim h [
   ]
 ]
 
-pub turn_left : (Q l : ℕ → ℕ) (i j : ℕ) (cards rest : List Card) (r : Round) (m n G q : ℕ) (x : Option Card) → j ≢ i → head_of q rest ≡ x → (q ≢ j → head_of j rest ≡ head_of j cards) → r.visited ≡ Some q → IsFirst q r.active → count_of i r.active ≡ 1 → (q ≡ j → count_of j r.active ≡ 1)
+pub turn_left : (Q l : ℕ → ℕ) (i j : ℕ) (cards rest : List Card) (r : Round) (m n G q : ℕ) (x : Option Card) → j ≢ i → head_of q rest ≡ x
+    → (q ≢ j → head_of j rest ≡ head_of j cards) → r.visited ≡ Some q → IsFirst q r.active → count_of i r.active ≡ 1
+    → (q ≡ j → count_of j r.active ≡ 1)
     → IsTurn Q l i j cards r m n G → IsTurn Q l i j rest (left_round x q r) m n G
 turn_left Q l i j cards rest r m n G q None d e same v f here once t =
     let b = t.bits in
@@ -203,7 +207,8 @@ turn_left Q l i j cards rest r m n G q (Some c) d e same v f here once t = elim 
 ]
 
 -- a visit of q
-not_late : (Q l : ℕ → ℕ) (i j : ℕ) (cards : List Card) (under : Option Under) (r : Round) → j ≢ i → r.visited ≡ None → IsFirst j r.active → IsRound Q l cards under r → IsLate i j cards r → ⊥
+not_late : (Q l : ℕ → ℕ) (i j : ℕ) (cards : List Card) (under : Option Under) (r : Round) → j ≢ i → r.visited ≡ None → IsFirst j r.active
+    → IsRound Q l cards under r → IsLate i j cards r → ⊥
 not_late Q l i j cards under r d v f h k = elim k [
   | inl w ↦ not_some j (sym v ∙ w)
   | inr w ↦ elim w [
@@ -222,7 +227,9 @@ bits_same K L n G x y z k h e = rw e (omega arith)
 bits_more : (K L n G x y z : ℕ) → G + y ≤ L + n * K → x ≤ y + K → z ≡ 1 → G + x ≤ L + (n + z) * K
 bits_more K L n G x y z k h e = rw e (omega arith)
 
-pub turn_visits : (Q l : ℕ → ℕ) (i j : ℕ) (cards : List Card) (under : Option Under) (r : Round) (m n G q : ℕ) (c e : Card) → j ≢ i → head_of q cards ≡ Some c → head_of i cards ≡ Some e → r.visited ≡ None → IsFirst q r.active → IsRound Q l cards under r → IsTurn Q l i j cards r m n G
+pub turn_visits : (Q l : ℕ → ℕ) (i j : ℕ) (cards : List Card) (under : Option Under) (r : Round) (m n G q : ℕ) (c e : Card) → j ≢ i
+    → head_of q cards ≡ Some c → head_of i cards ≡ Some e → r.visited ≡ None → IsFirst q r.active → IsRound Q l cards under r
+    → IsTurn Q l i j cards r m n G
     → IsTurn Q l i j cards (visited_round (Q q) (Some c) q r) (m + same_queue q i) (n + same_queue q j) G
 turn_visits Q l i j cards under r m n G q c e d f here v first h t =
     let D = get_or r.deficits q 0 + Q q in
@@ -289,7 +296,9 @@ turn_visits Q l i j cards under r m n G q c e d f here v first h t =
       ]
     ]
   where
-    both : (c : Card) (D : ℕ) → ((s : Round) → s.deficits ≡ set r.deficits q D → IsTurn Q l i j cards s (m + same_queue q i) (n + same_queue q j) G) → IsTurn Q l i j cards (visit_on (fits (Some c) D) q record { active = r.active; deficits = set r.deficits q D; visited = None }) (m + same_queue q i) (n + same_queue q j) G
+    both : (c : Card) (D : ℕ)
+        → ((s : Round) → s.deficits ≡ set r.deficits q D → IsTurn Q l i j cards s (m + same_queue q i) (n + same_queue q j) G)
+        → IsTurn Q l i j cards (visit_on (fits (Some c) D) q record { active = r.active; deficits = set r.deficits q D; visited = None }) (m + same_queue q i) (n + same_queue q j) G
     both c D f = elim (cases_Bool (nat_le c.bits D)) [
       | inl w ↦ rw w (f record { active = r.active; deficits = set r.deficits q D; visited = Some q } refl)
       | inr w ↦ rw w (f record { active = to_tail r.active; deficits = set r.deficits q D; visited = None } refl)

@@ -2,7 +2,6 @@
 use Rattle.std.specs.Prelude.{◌≡◌, ℕ, pos, Bool, true, false, ◌||◌, List}
 use Rattle.std.proofs.Common.{arith, ◌∙◌, refl, inl, inr, subst}
 use Rattle.rational.specs.Rational.{ℚ, int, ◌+ℚ◌, ◌-ℚ◌, ◌≤ℚ◌, ◌<ℚ◌}
-use Rattle.rational.specs.MinMax.{max_q}
 use Rattle.rational.specs.Extended.{Ext, ◌≤ₑ◌, ◌+ₑ◌}
 use Rattle.rational.specs.declared.Extended.TheVariants.{Fin, Inf}
 use Rattle.rational.proofs.Over.{le_q_out, le_q_in}
@@ -56,11 +55,13 @@ nothing_yet β cross R Inf x is on l = rw (is x on) (le_refl (int (pos 0)))
 nothing_yet β cross R (Fin θ) x is on l = subst (λ (y : Ext). R x ≤ₑ y) (early_left β cross θ x l) (at_most_left β cross R θ x is on)
 
 -- served since s, where the curve is nothing
-served_flat : (V : List ServerStep) (f : Class) (R : ℚ → Ext) (t s : ℚ) → s ≤ℚ t → arrived f V s ≤ℚ departed f V t → departed f V t ≤ℚ worked f V t → R (t -ℚ s) ≤ₑ Fin (int (pos 0)) → IsServed f R V t s
+served_flat : (V : List ServerStep) (f : Class) (R : ℚ → Ext) (t s : ℚ) → s ≤ℚ t → arrived f V s ≤ℚ departed f V t
+    → departed f V t ≤ℚ worked f V t → R (t -ℚ s) ≤ₑ Fin (int (pos 0)) → IsServed f R V t s
 served_flat V f R t s h l m e = record { earlier = h; left = l; kept_up = add_low (arrived f V s) (worked f V t) (R (t -ℚ s)) e (le_trans l m) }
 
 -- the counts' part of it: what is left for f
-left_over : (b other work_f came_f : ℚ) (y : Ext) → Fin other ≤ₑ y → came_f ≤ℚ work_f → came_f +ℚ b ≤ℚ work_f +ℚ other → (Fin came_f +ₑ excess (Fin b) y) ≤ₑ Fin work_f
+left_over : (b other work_f came_f : ℚ) (y : Ext) → Fin other ≤ₑ y → came_f ≤ℚ work_f → came_f +ℚ b ≤ℚ work_f +ℚ other
+    → (Fin came_f +ₑ excess (Fin b) y) ≤ₑ Fin work_f
 left_over b other work_f came_f Inf h k l = with2 came_f work_f (λ c. omega (arith, c.le, c.lt, c.same))
 left_over b other work_f came_f (Fin c) h k l = elim (le_or_lt (int (pos 0)) (b -ℚ c)) [
   | inl m ↦ rw (max_q_right (int (pos 0)) (b -ℚ c) m) (with5 b c other work_f came_f (λ c. omega (arith, c.le, c.lt, c.same)))
@@ -68,7 +69,8 @@ left_over b other work_f came_f (Fin c) h k l = elim (le_or_lt (int (pos 0)) (b 
 ]
 
 -- past θ after the oldest packet's arrival
-past_θ : (server : Server) (end : ℚ) (V : List ServerStep) (Q f g : Class) (β cross R : ℚ → Ext) (θ t r : ℚ) → IsLawfulView server end V → AreParts Q f g → KeepsArrivals g cross V
+past_θ : (server : Server) (end : ℚ) (V : List ServerStep) (Q f g : Class) (β cross R : ℚ → Ext) (θ t r : ℚ) → IsLawfulView server end V
+    → AreParts Q f g → KeepsArrivals g cross V
     → int (pos 0) ≤ℚ θ → IsResidual β cross (Fin θ) R → (o : Oldest V Q t) → θ <ℚ t -ℚ o.u → IsServed Q β V t r → IsServed f R V t r
 past_θ server end V Q f g β cross R θ t r lawful a keeps θ_on residual o late is =
     let p = o.p in
@@ -119,7 +121,8 @@ past_θ server end V Q f g β cross R θ t r lawful a keeps θ_on residual o lat
     summed : (AQ Af Ag WQ Wf Wg b other : ℚ) → AQ ≡ Af +ℚ Ag → WQ ≡ Wf +ℚ Wg → AQ +ℚ b ≤ℚ WQ → Wg ≤ℚ Ag +ℚ other → Af +ℚ b ≤ℚ Wf +ℚ other
     summed AQ Af Ag WQ Wf Wg b other e k h l = with8 AQ Af Ag WQ Wf Wg b other (λ c. omega (arith, c.le, c.lt, c.same))
 
-by_θ : (server : Server) (end : ℚ) (V : List ServerStep) (Q f g : Class) (β cross R : ℚ → Ext) (θ : Ext) (t r : ℚ) → IsLawfulView server end V → AreParts Q f g → KeepsArrivals g cross V
+by_θ : (server : Server) (end : ℚ) (V : List ServerStep) (Q f g : Class) (β cross R : ℚ → Ext) (θ : Ext) (t r : ℚ)
+    → IsLawfulView server end V → AreParts Q f g → KeepsArrivals g cross V
     → Fin (int (pos 0)) ≤ₑ θ → IsResidual β cross θ R → (o : Oldest V Q t) → IsServed Q β V t r → (s : ℚ) × IsServed f R V t s
 by_θ server end V Q f g β cross R θ t r lawful a keeps θ_on residual o is = by_case θ θ_on residual
   where
@@ -139,7 +142,8 @@ by_θ server end V Q f g β cross R θ t r lawful a keeps θ_on residual o is = 
       | inr l ↦ (r, past_θ server end V Q f g β cross R θ t r lawful a keeps on residual o l is)
     ]
 
-pub fifo_serves : (server : Server) (end : ℚ) (V : List ServerStep) (Q f g : Class) (q : ℕ) (β cross R : ℚ → Ext) (θ : Ext) → IsLawfulView server end V → IsOfQueue Q q → AreParts Q f g → KeepsArrivals g cross V → Serves Q β end V
+pub fifo_serves : (server : Server) (end : ℚ) (V : List ServerStep) (Q f g : Class) (q : ℕ) (β cross R : ℚ → Ext) (θ : Ext)
+    → IsLawfulView server end V → IsOfQueue Q q → AreParts Q f g → KeepsArrivals g cross V → Serves Q β end V
     → Fin (int (pos 0)) ≤ₑ θ → IsResidual β cross θ R → Serves f R end V
 fifo_serves server end V Q f g q β cross R θ lawful own a keeps serves θ_on residual t l = elim (oldest server end V Q q t lawful own) [
   | inl empty ↦

@@ -34,7 +34,8 @@ abbrev pub due_bits : List Entry → ℕ → ℕ → (ℚ → Bool) → List Due
 due_bits entered i b p [] = int (pos 0)
 due_bits entered i b p (d ∷ ds) = due_term entered i b p d +ℚ due_bits entered i b p ds
 
-due_stable : (net : Routes) (entered : List Entry) (e : Entry) (i b : ℕ) (p : ℚ → Bool) (ds : List Due) → EachDue (IsDueAfter net entered) ds → due_bits (entered ++ e ∷ []) i b p ds ≡ due_bits entered i b p ds
+due_stable : (net : Routes) (entered : List Entry) (e : Entry) (i b : ℕ) (p : ℚ → Bool) (ds : List Due)
+    → EachDue (IsDueAfter net entered) ds → due_bits (entered ++ e ∷ []) i b p ds ≡ due_bits entered i b p ds
 due_stable net entered e i b p [] h = refl
 due_stable net entered e i b p (d ∷ ds) h = rw (entry_before entered e d.packet h.0.has_entered, due_stable net entered e i b p ds h.1) refl
 
@@ -56,7 +57,8 @@ same_is d e h =
 is_same : (d : Due) → same_due d d ≡ true
 is_same d = and_from (d.packet == d.packet) _ (eq-eqb d.packet d.packet refl) (and_from (d.server == d.server) _ (eq-eqb d.server d.server refl) (and_from (le_q d.time d.time) (le_q d.time d.time) (le_q_out _ _ (le_refl d.time)) (le_q_out _ _ (le_refl d.time))))
 
-due_without : (entered : List Entry) (i b : ℕ) (p : ℚ → Bool) (ds : List Due) (d : Due) (k : ℕ) → k < length ds → slice_index_or ds k d ≡ d → due_bits entered i b p (without d ds) +ℚ due_term entered i b p d ≡ due_bits entered i b p ds
+due_without : (entered : List Entry) (i b : ℕ) (p : ℚ → Bool) (ds : List Due) (d : Due) (k : ℕ) → k < length ds → slice_index_or ds k d ≡ d
+    → due_bits entered i b p (without d ds) +ℚ due_term entered i b p d ≡ due_bits entered i b p ds
 due_without entered i b p [] d k l e = absurd (omega arith)
 due_without entered i b p (c ∷ ds) d zero l e =
     let f : same_due d c ≡ true = subst (λ (x : Due). same_due d x ≡ true) (sym e) (is_same d) in
@@ -70,7 +72,8 @@ due_without entered i b p (c ∷ ds) d (suc k) l e =
       | inr f ↦ rw f (with4 (due_term entered i b p c) (due_bits entered i b p (without d ds)) (due_term entered i b p d) (due_bits entered i b p ds) (λ c. omega (arith, c.le, c.lt, c.same)))
     ]
 
-due_push : (entered : List Entry) (i b : ℕ) (p : ℚ → Bool) (ds : List Due) (d : Due) → due_bits entered i b p (ds ++ d ∷ []) ≡ due_bits entered i b p ds +ℚ due_term entered i b p d
+due_push : (entered : List Entry) (i b : ℕ) (p : ℚ → Bool) (ds : List Due) (d : Due)
+    → due_bits entered i b p (ds ++ d ∷ []) ≡ due_bits entered i b p ds +ℚ due_term entered i b p d
 due_push entered i b p [] d = with1 (due_term entered i b p d) (λ c. omega (arith, c.le, c.lt, c.same))
 due_push entered i b p (c ∷ ds) d =
     let h = due_push entered i b p ds d in
@@ -87,7 +90,8 @@ when_when false false z v = refl
 abbrev pub moved_test : Routes → ℕ → (ℚ → Bool) → ℚ → Bool
 moved_test net a p u = p (u +ℚ link_at net a)
 
-enter_none : (net : Routes) (i b f q : ℕ) (t : ℚ) (bits : ℕ) (entered : List Entry) (p : ℚ → Bool) → first_server (route_of net i).hops ≢ b → q ≡ length entered
+enter_none : (net : Routes) (i b f q : ℕ) (t : ℚ) (bits : ℕ) (entered : List Entry) (p : ℚ → Bool) → first_server (route_of net i).hops ≢ b
+    → q ≡ length entered
     → when (first_server (route_of net f).hops == b) (arrives (of_flow i) p (seen net entered (Enter f q t bits))) ≡ int (pos 0)
 enter_none net i b f q t bits entered p n e =
     let own : entry_of (entered ++ record { flow = f; bits = bits } ∷ []) q ≡ record { flow = f; bits = bits } = entry_last entered record { flow = f; bits = bits } q e in
@@ -101,7 +105,8 @@ enter_none net i b f q t bits entered p n e =
           ap (when (first_server (route_of net f).hops == b)) (when_false _ _ (and_left _ (p t) other)) ∙ when_none (first_server (route_of net f).hops == b)
     ]
 
-leave_sent : (net : Routes) (i a b s q : ℕ) (t : ℚ) (entered : List Entry) (p : ℚ → Bool) (due : List Due) (y : Option ℕ) → IsLink net i a b → server_after s (hops_of net entered q) ≡ y
+leave_sent : (net : Routes) (i a b s q : ℕ) (t : ℚ) (entered : List Entry) (p : ℚ → Bool) (due : List Due) (y : Option ℕ)
+    → IsLink net i a b → server_after s (hops_of net entered q) ≡ y
     → when (s == a) (when (((entry_of entered q).flow == i) && p (t +ℚ link_at net a)) (whole (entry_of entered q).bits)) +ℚ due_bits entered i b p due ≡ due_bits entered i b p (sent y q (t +ℚ link_at net s) due)
 leave_sent net i a b s q t entered p due None k e = elim (cases_eq (entry_of entered q).flow i) [
   | inr f ↦
@@ -134,7 +139,8 @@ leave_sent net i a b s q t entered p due (Some r) k e =
     ] in
     with4 (when (s == a) (when (((entry_of entered q).flow == i) && p (t +ℚ link_at net a)) (whole (entry_of entered q).bits))) (due_bits entered i b p due) (due_term entered i b p d) (due_bits entered i b p (due ++ d ∷ [])) (λ c. omega (arith, c.le, c.lt, c.same))
 
-link_step : (net : Routes) (r : RunState) (x : Step) (i a b : ℕ) (p : ℚ → Bool) → IsLink net i a b → IsKnown net r x → EachDue (IsDueAfter net r.entered) r.due
+link_step : (net : Routes) (r : RunState) (x : Step) (i a b : ℕ) (p : ℚ → Bool) → IsLink net i a b → IsKnown net r x
+    → EachDue (IsDueAfter net r.entered) r.due
     → when (server_of net x == a) (leaves (of_flow i) (moved_test net a p) (seen net r.entered x)) +ℚ due_bits r.entered i b p r.due ≡ when (server_of net x == b) (arrives (of_flow i) p (seen net r.entered x)) +ℚ due_bits (entered_after r.entered x) i b p (next_due net r x)
 link_step net r (Enter f q t bits) i a b p k known have =
     let one = enter_none net i b f q t bits r.entered p k.not_first known.in_turn in
@@ -155,7 +161,8 @@ link_step net r (Leave s q t) i a b p k known have =
 link_step net r (Visit s q t) i a b p k known have = rw (when_none (s == a), when_none (s == b)) refl
 
 -- along a run: what left a, moved by the link, is what arrived at b and what is still due there
-pub link_counts : (net : Routes) (end : ℚ) (r : RunState) (xs : List Step) (i a b : ℕ) (p : ℚ → Bool) → IsLink net i a b → AllAllowedInRun net end r xs → EachDue (IsDueAfter net r.entered) r.due
+pub link_counts : (net : Routes) (end : ℚ) (r : RunState) (xs : List Step) (i a b : ℕ) (p : ℚ → Bool) → IsLink net i a b
+    → AllAllowedInRun net end r xs → EachDue (IsDueAfter net r.entered) r.due
     → total (leaves (of_flow i) (moved_test net a p)) (view_from net a r.entered xs) +ℚ due_bits r.entered i b p r.due ≡ total (arrives (of_flow i) p) (view_from net b r.entered xs) +ℚ due_bits (after_run net r xs).entered i b p (after_run net r xs).due
 link_counts net end r [] i a b p k h have = refl
 link_counts net end r (x ∷ xs) i a b p k h have =
@@ -171,7 +178,8 @@ link_counts net end r (x ∷ xs) i a b p k h have =
     summed la L D ab A D2 Z e f = with7 la L D ab A D2 Z (λ c. omega (arith, c.le, c.lt, c.same))
 
 -- ---- of a lawful run
-due_none : (entered : List Entry) (i b : ℕ) (end t : ℚ) (ds : List Due) → t ≤ℚ end → All (λ (d : Due). end <ℚ d.time) ds → due_bits entered i b (before t) ds ≡ int (pos 0)
+due_none : (entered : List Entry) (i b : ℕ) (end t : ℚ) (ds : List Due) → t ≤ℚ end → All (λ (d : Due). end <ℚ d.time) ds
+    → due_bits entered i b (before t) ds ≡ int (pos 0)
 due_none entered i b end t [] l h = refl
 due_none entered i b end t (d ∷ ds) l h =
     let late : end <ℚ d.time = h 0 d (omega arith) in
@@ -190,13 +198,15 @@ same_moved D t u = elim (le_or_lt (t -ℚ D) u) [
       lt_q_out _ _ k ∙ sym (lt_q_out _ _ h)
 ]
 
-leaves_moved : (net : Routes) (i a : ℕ) (t : ℚ) (x : ServerStep) → leaves (of_flow i) (moved_test net a (before t)) x ≡ leaves (of_flow i) (before (t -ℚ link_at net a)) x
+leaves_moved : (net : Routes) (i a : ℕ) (t : ℚ) (x : ServerStep)
+    → leaves (of_flow i) (moved_test net a (before t)) x ≡ leaves (of_flow i) (before (t -ℚ link_at net a)) x
 leaves_moved net i a t (Arrives c u) = refl
 leaves_moved net i a t (Works c d b w) = refl
 leaves_moved net i a t (Leaves c u) = ap (λ (k : Bool). when ((c.flow == i) && k) (size c)) (same_moved (link_at net a) t u)
 leaves_moved net i a t (Visits q u) = refl
 
-pub link_carries : (net : Routes) (run : SpecRun) (i a b : ℕ) (t : ℚ) → IsLawful net run → IsLink net i a b → t ≤ℚ run.end → arrived (of_flow i) (view net run b) t ≡ departed (of_flow i) (view net run a) (t -ℚ link_at net a)
+pub link_carries : (net : Routes) (run : SpecRun) (i a b : ℕ) (t : ℚ) → IsLawful net run → IsLink net i a b → t ≤ℚ run.end
+    → arrived (of_flow i) (view net run b) t ≡ departed (of_flow i) (view net run a) (t -ℚ link_at net a)
 link_carries net run i a b t lawful k l =
     let counts = link_counts net run.end (run_start net) run.steps i a b (before t) k lawful.allowed tt in
     let none = due_none (after_run net (run_start net) run.steps).entered i b run.end t (after_run net (run_start net) run.steps).due l lawful.none_overdue in
@@ -227,7 +237,8 @@ from_moved D s u = elim (le_or_lt (s -ℚ D) u) [
       le_q_not _ _ k ∙ sym (le_q_not _ _ h)
 ]
 
-leaves_window : (net : Routes) (i a : ℕ) (s t : ℚ) (x : ServerStep) → leaves (of_flow i) (moved_test net a (within s t)) x ≡ leaves (of_flow i) (within (s -ℚ link_at net a) (t -ℚ link_at net a)) x
+leaves_window : (net : Routes) (i a : ℕ) (s t : ℚ) (x : ServerStep)
+    → leaves (of_flow i) (moved_test net a (within s t)) x ≡ leaves (of_flow i) (within (s -ℚ link_at net a) (t -ℚ link_at net a)) x
 leaves_window net i a s t (Arrives c u) = refl
 leaves_window net i a s t (Works c d b w) = refl
 leaves_window net i a s t (Leaves c u) = rw (from_moved (link_at net a) s u, le_moved (link_at net a) t u) refl
@@ -240,7 +251,8 @@ due_nonneg entered i b p (d ∷ ds) =
     let rest = due_nonneg entered i b p ds in
     with2 (due_term entered i b p d) (due_bits entered i b p ds) (λ c. omega (arith, c.le, c.lt, c.same))
 
-pub link_window : (net : Routes) (run : SpecRun) (i a b : ℕ) (s t : ℚ) → IsLawful net run → IsLink net i a b → arrived_in (of_flow i) (view net run b) s t ≤ℚ departed_in (of_flow i) (view net run a) (s -ℚ link_at net a) (t -ℚ link_at net a)
+pub link_window : (net : Routes) (run : SpecRun) (i a b : ℕ) (s t : ℚ) → IsLawful net run → IsLink net i a b
+    → arrived_in (of_flow i) (view net run b) s t ≤ℚ departed_in (of_flow i) (view net run a) (s -ℚ link_at net a) (t -ℚ link_at net a)
 link_window net run i a b s t lawful k =
     let counts = link_counts net run.end (run_start net) run.steps i a b (within s t) k lawful.allowed tt in
     let rest = due_nonneg (after_run net (run_start net) run.steps).entered i b (within s t) (after_run net (run_start net) run.steps).due in
@@ -251,7 +263,9 @@ link_window net run i a b s t lawful k =
     summed L L2 A Z e f g = with4 L L2 A Z (λ c. omega (arith, c.le, c.lt, c.same))
 
 -- so a flow keeps at the next server the curve with which it leaves this one
-pub next_keeps : (net : Routes) (run : SpecRun) (i a b : ℕ) (out : ℚ → Ext) → IsLawful net run → IsLink net i a b → ((s t : ℚ) → s ≤ℚ t → Fin (departed_in (of_flow i) (view net run a) s t) ≤ₑ out (t -ℚ s)) → KeepsArrivals (of_flow i) out (view net run b)
+pub next_keeps : (net : Routes) (run : SpecRun) (i a b : ℕ) (out : ℚ → Ext) → IsLawful net run → IsLink net i a b
+    → ((s t : ℚ) → s ≤ℚ t → Fin (departed_in (of_flow i) (view net run a) s t) ≤ₑ out (t -ℚ s))
+    → KeepsArrivals (of_flow i) out (view net run b)
 next_keeps net run i a b out lawful k leaves_so s t l =
     let D = link_at net a in
     let less = link_window net run i a b s t lawful k in

@@ -37,11 +37,13 @@ use Rattle.run_laws.proofs.Places.{somebody, inside_some, under_bits, only_under
 use Rattle.priority_residual.specs.Laws.{priority_left, IsPriorityService}
 
 -- ---- the first non-empty queue
-first_lowest : (n q : ℕ) (cs : List Card) (c d e : Card) → first_head n q cs ≡ Some c → head_of d.queue cs ≡ Some e → q ≤ d.queue → c.queue ≤ d.queue
+first_lowest : (n q : ℕ) (cs : List Card) (c d e : Card) → first_head n q cs ≡ Some c → head_of d.queue cs ≡ Some e → q ≤ d.queue
+    → c.queue ≤ d.queue
 first_lowest zero q cs c d e h k l = absurd (cc)
 first_lowest (suc n) q cs c d e h k l = by_head (λ m o. first_lowest n (suc q) cs c d e m k o) (head_of q cs) refl
   where
-    by_head : (first_head n (suc q) cs ≡ Some c → suc q ≤ d.queue → c.queue ≤ d.queue) → (x : Option Card) → head_of q cs ≡ x → c.queue ≤ d.queue
+    by_head : (first_head n (suc q) cs ≡ Some c → suc q ≤ d.queue → c.queue ≤ d.queue) → (x : Option Card) → head_of q cs ≡ x
+        → c.queue ≤ d.queue
     by_head later (Some x) m =
         let same : Some x ≡ Some c = rw m at h in
         let own : c.queue ≡ q = head_queue q c cs (m ∙ same) in
@@ -56,14 +58,16 @@ first_lowest (suc n) q cs c d e h k l = by_head (λ m o. first_lowest n (suc q) 
         ]
 
 -- ---- a packet of the queues after i is not started where something of the others is there
-not_started : (n : ℕ) (cs : List Card) (r : Round) (c : Card) (i : ℕ) → pick (Priority n) cs r ≡ Some c → int (pos 0) <ℚ sum_of (upto_queue i) cs → after_queue i c ≡ false
+not_started : (n : ℕ) (cs : List Card) (r : Round) (c : Card) (i : ℕ) → pick (Priority n) cs r ≡ Some c
+    → int (pos 0) <ℚ sum_of (upto_queue i) cs → after_queue i c ≡ false
 not_started n cs r c i h k =
     let s = somebody (upto_queue i) cs k in
     let low = leb-true s.d.queue i s.counted in
     let first = first_lowest n 0 cs c s.d s.e h s.there (omega arith) in
     le-ltb i c.queue (omega arith)
 
-starts_none : (server : Server) (end : ℚ) (V P R T front back : List ServerStep) (n i : ℕ) (c : Card) (a b w s z : ℚ) → IsLawfulView server end V → server.discipline ≡ Priority n → V ≡ P ++ (R ++ T) → R ≡ front ++ Works c a b w ∷ back
+starts_none : (server : Server) (end : ℚ) (V P R T front back : List ServerStep) (n i : ℕ) (c : Card) (a b w s z : ℚ)
+    → IsLawfulView server end V → server.discipline ≡ Priority n → V ≡ P ++ (R ++ T) → R ≡ front ++ Works c a b w ∷ back
     → s <ℚ a → a <ℚ z → ((x : ℚ) → s <ℚ x → x <ℚ z → worked (upto_queue i) V x <ℚ arrived (upto_queue i) V x)
     → pick server.discipline (after server.discipline (after server.discipline (start server.discipline) P) front).inside (after server.discipline (after server.discipline (start server.discipline) P) front).round ≡ Some c → after_queue i c ≡ false
 starts_none server end V P R T front back n i c a b w s z lawful priority joined inner past early busy picked =
@@ -83,8 +87,10 @@ starts_none server end V P R T front back n i c a b w s z lawful priority joined
     let by_priority : pick (Priority n) σ.inside σ.round ≡ Some c = subst (λ (k : Discipline). pick k σ.inside σ.round ≡ Some c) priority picked in
     not_started n σ.inside σ.round c i by_priority there
 
-low_work : (server : Server) (end : ℚ) (V : List ServerStep) (n i bits : ℕ) (s z : ℚ) → IsLawfulView server end V → server.discipline ≡ Priority n → KeepsSizes (after_queue i) bits V → s <ℚ z
-    → ((x : ℚ) → s <ℚ x → x <ℚ z → worked (upto_queue i) V x <ℚ arrived (upto_queue i) V x) → worked (after_queue i) V z ≤ℚ worked (after_queue i) V s +ℚ int (pos bits)
+low_work : (server : Server) (end : ℚ) (V : List ServerStep) (n i bits : ℕ) (s z : ℚ) → IsLawfulView server end V
+    → server.discipline ≡ Priority n → KeepsSizes (after_queue i) bits V → s <ℚ z
+    → ((x : ℚ) → s <ℚ x → x <ℚ z → worked (upto_queue i) V x <ℚ arrived (upto_queue i) V x)
+    → worked (after_queue i) V z ≤ℚ worked (after_queue i) V s +ℚ int (pos bits)
 low_work server end V n i bits s z lawful priority sizes l busy =
     let d = server.discipline in
     let C = after_queue i in
@@ -109,7 +115,8 @@ low_work server end V n i bits s z lawful priority sizes l busy =
     summed (worked C V z) (worked C V s) (total (works C z) P) (total (works C z) S) (done_by C z σ.under) (done_by C s σ.under) (done_by C z (after d σ R).under) (total (leaves C (upto s)) P) (total (leaves C (upto s)) V) (total (leaves C (before z)) R) (total (leaves C (before z)) S) (under_bits C σ.under) (int (pos bits))
     whole work_P (a.work C) (a.left C) (b.work C) (b.left C) under small done_on
   where
-    summed : (Wz Ws WP WS Dz Ds DR LP LV LR LS U l : ℚ) → Wz ≡ WP +ℚ WS → Dz +ℚ LP ≡ int (pos 0) +ℚ WP → Ds +ℚ LV ≡ int (pos 0) +ℚ Ws → LV ≡ LP → DR +ℚ LS ≡ Dz +ℚ WS → LS ≡ LR → DR +ℚ LR ≤ℚ U → U ≤ℚ l → int (pos 0) ≤ℚ Ds → Wz ≤ℚ Ws +ℚ l
+    summed : (Wz Ws WP WS Dz Ds DR LP LV LR LS U l : ℚ) → Wz ≡ WP +ℚ WS → Dz +ℚ LP ≡ int (pos 0) +ℚ WP → Ds +ℚ LV ≡ int (pos 0) +ℚ Ws
+        → LV ≡ LP → DR +ℚ LS ≡ Dz +ℚ WS → LS ≡ LR → DR +ℚ LR ≤ℚ U → U ≤ℚ l → int (pos 0) ≤ℚ Ds → Wz ≤ℚ Ws +ℚ l
     summed Wz Ws WP WS Dz Ds DR LP LV LR LS U l e1 e2 e3 e4 e5 e6 h1 h2 h3 =
         let one : Dz +ℚ WS ≤ℚ l = with7 DR LS Dz WS LR U l (λ c. omega (arith, c.le, c.lt, c.same)) in
         let two : LP ≤ℚ Ws = with4 Ds LV Ws LP (λ c. omega (arith, c.le, c.lt, c.same)) in
@@ -161,7 +168,8 @@ upto_parts i = record { of_one = λ c. one c.queue; apart = λ c. two c.queue }
 
 -- ---- the law
 -- of a service that is finite
-member : (b most : ℚ) (lower : ℕ) (y : Ext) → int (pos 0) ≤ℚ most → ((h : ℚ) → y ≡ Fin h → b ≤ℚ most +ℚ h +ℚ whole lower) → excess (excess (Fin b) y) (Fin (whole lower)) ≤ₑ Fin most
+member : (b most : ℚ) (lower : ℕ) (y : Ext) → int (pos 0) ≤ℚ most → ((h : ℚ) → y ≡ Fin h → b ≤ℚ most +ℚ h +ℚ whole lower)
+    → excess (excess (Fin b) y) (Fin (whole lower)) ≤ₑ Fin most
 member b most lower Inf on f =
     let low = whole_nonneg lower in
     max_q_le (int (pos 0)) (int (pos 0) -ℚ whole lower) most on (with2 (whole lower) most (λ c. omega (arith, c.le, c.lt, c.same)))
@@ -176,8 +184,10 @@ member b most lower (Fin h) on f =
     minus_le_q x l m h = with3 x l m (λ c. omega (arith, c.le, c.lt, c.same))
 
 -- what the queue's work has gained by z
-gained : (server : Server) (end : ℚ) (V : List ServerStep) (n i bits : ℕ) (β higher : ℚ → Ext) (t s z b : ℚ) → IsLawfulView server end V → server.discipline ≡ Priority n → KeepsArrivals (before_queue i) higher V → KeepsSizes (after_queue i) bits V
-    → IsStretch (upto_queue i) V t s → s <ℚ z → z ≤ℚ t → worked all V s +ℚ b ≤ℚ worked all V z → (h : ℚ) → higher (z -ℚ s) ≡ Fin h → arrived (of_queue i) V s +ℚ b ≤ℚ worked (of_queue i) V z +ℚ h +ℚ whole bits
+gained : (server : Server) (end : ℚ) (V : List ServerStep) (n i bits : ℕ) (β higher : ℚ → Ext) (t s z b : ℚ) → IsLawfulView server end V
+    → server.discipline ≡ Priority n → KeepsArrivals (before_queue i) higher V → KeepsSizes (after_queue i) bits V
+    → IsStretch (upto_queue i) V t s → s <ℚ z → z ≤ℚ t → worked all V s +ℚ b ≤ℚ worked all V z → (h : ℚ) → higher (z -ℚ s) ≡ Fin h
+    → arrived (of_queue i) V s +ℚ b ≤ℚ worked (of_queue i) V z +ℚ h +ℚ whole bits
 gained server end V n i bits β higher t s z b lawful priority keeps sizes is l m served h e =
     let up_to = upto_queue i in
     let own = of_queue i in
@@ -185,7 +195,8 @@ gained server end V n i bits β higher t s z b lawful priority keeps sizes is l 
     let last = after_queue i in
     let up = all_parts i in
     let parts = upto_parts i in
-    let busy : (x : ℚ) → s <ℚ x → x <ℚ z → worked up_to V x <ℚ arrived up_to V x = λ x o p. is.busy x o (with3 x z t (λ c. omega (arith, c.le, c.lt, c.same))) in
+    let busy : (x : ℚ) → s <ℚ x → x <ℚ z
+    → worked up_to V x <ℚ arrived up_to V x = λ x o p. is.busy x o (with3 x z t (λ c. omega (arith, c.le, c.lt, c.same))) in
     let low = low_work server end V n i bits s z lawful priority sizes l busy in
     let came = arrived_in_is first V s z (le_of_lt l) in
     let high : arrived_in first V s z ≤ℚ h = through_eq (arrived_in first V s z) (higher (z -ℚ s)) h e (keeps s z (le_of_lt l)) in
@@ -201,7 +212,9 @@ gained server end V n i bits β higher t s z b lawful priority keeps sizes is l 
     through_eq : (x : ℚ) (y : Ext) (h : ℚ) → y ≡ Fin h → Fin x ≤ₑ y → x ≤ℚ h
     through_eq x y h e k = subst (λ (v : Ext). Fin x ≤ₑ v) e k
 
-    summed : (Us Uz Cs Cz Ls Lz Is Iz Hs Hz Ac Ai Ah Bh Bu N b h l : ℚ) → Us ≡ Cs +ℚ Ls → Uz ≡ Cz +ℚ Lz → Cs ≡ Is +ℚ Hs → Cz ≡ Iz +ℚ Hz → Ac ≡ Ai +ℚ Ah → Us +ℚ b ≤ℚ Uz → Lz ≤ℚ Ls +ℚ l → Bu ≡ Ah +ℚ N → N ≤ℚ h → Hz ≤ℚ Bh → Bh ≤ℚ Bu → Ac ≤ℚ Cs → Is ≤ℚ Ai → Hs ≤ℚ Ah → Ai +ℚ b ≤ℚ Iz +ℚ h +ℚ l
+    summed : (Us Uz Cs Cz Ls Lz Is Iz Hs Hz Ac Ai Ah Bh Bu N b h l : ℚ) → Us ≡ Cs +ℚ Ls → Uz ≡ Cz +ℚ Lz → Cs ≡ Is +ℚ Hs → Cz ≡ Iz +ℚ Hz
+        → Ac ≡ Ai +ℚ Ah → Us +ℚ b ≤ℚ Uz → Lz ≤ℚ Ls +ℚ l → Bu ≡ Ah +ℚ N → N ≤ℚ h → Hz ≤ℚ Bh → Bh ≤ℚ Bu → Ac ≤ℚ Cs → Is ≤ℚ Ai → Hs ≤ℚ Ah
+        → Ai +ℚ b ≤ℚ Iz +ℚ h +ℚ l
     summed Us Uz Cs Cz Ls Lz Is Iz Hs Hz Ac Ai Ah Bh Bu N b h l e1 e2 e3 e4 e5 h1 h2 e6 h3 h4 h5 h6 h7 h8 =
         let one : Cs +ℚ b ≤ℚ Cz +ℚ l = with8 Us Uz Cs Cz Ls Lz b l (λ c. omega (arith, c.le, c.lt, c.same)) in
         let two : Hz ≤ℚ Ah +ℚ h = with6 Hz Bh Bu Ah N h (λ c. omega (arith, c.le, c.lt, c.same)) in
@@ -210,7 +223,8 @@ gained server end V n i bits β higher t s z b lawful priority keeps sizes is l 
         with8 Ai Ah b Cz l Iz Hz h (λ c. omega (arith, c.le, c.lt, c.same))
 
 -- in a stretch of the queues up to i the server is busy, so it works by its curve
-at_work : (server : Server) (end : ℚ) (V : List ServerStep) (i : ℕ) (β : ℚ → Ext) (t s z : ℚ) → IsLawfulView server end V → KeepsService β end V → t ≤ℚ end → IsStretch (upto_queue i) V t s → s <ℚ z → z ≤ℚ t
+at_work : (server : Server) (end : ℚ) (V : List ServerStep) (i : ℕ) (β : ℚ → Ext) (t s z : ℚ) → IsLawfulView server end V
+    → KeepsService β end V → t ≤ℚ end → IsStretch (upto_queue i) V t s → s <ℚ z → z ≤ℚ t
     → (Fin (worked all V s) +ₑ β (z -ℚ s)) ≤ₑ Fin (worked all V z)
 at_work server end V i β t s z lawful service in_run is l m = service s z l (le_trans m in_run) all_busy
   where
@@ -223,14 +237,16 @@ at_work server end V i β t s z lawful service in_run is l m = service s z l (le
         with6 (worked all V x) (arrived all V x) (worked (upto_queue i) V x) (arrived (upto_queue i) V x) (worked (after_queue i) V x) (arrived (after_queue i) V x) (λ c. omega (arith, c.le, c.lt, c.same))
 
 -- no arrival curve is below 0
-higher_nonneg : (V : List ServerStep) (C : Class) (higher : ℚ → Ext) (h : ℚ) → KeepsArrivals C higher V → higher (int (pos 0)) ≡ Fin h → int (pos 0) ≤ℚ h
+higher_nonneg : (V : List ServerStep) (C : Class) (higher : ℚ → Ext) (h : ℚ) → KeepsArrivals C higher V → higher (int (pos 0)) ≡ Fin h
+    → int (pos 0) ≤ℚ h
 higher_nonneg V C higher h keeps e =
     let none : int (pos 0) -ℚ int (pos 0) ≡ int (pos 0) = with1 (int (pos 0)) (λ c. omega (arith, c.le, c.lt, c.same)) in
     let came = subst (λ (x : ℚ). Fin (arrived_in C V (int (pos 0)) (int (pos 0))) ≤ₑ higher x) none (keeps (int (pos 0)) (int (pos 0)) (le_refl (int (pos 0)))) in
     le_trans (window_nonneg C V (int (pos 0)) (int (pos 0))) (subst (λ (y : Ext). Fin (arrived_in C V (int (pos 0)) (int (pos 0))) ≤ₑ y) e came)
 
 -- at 0 the curve gives nothing
-first_member : (V : List ServerStep) (C : Class) (β higher : ℚ → Ext) (bits : ℕ) (most : ℚ) → IsZeroAtStart β → KeepsArrivals C higher V → int (pos 0) ≤ℚ most → priority_left β higher bits (int (pos 0)) ≤ₑ Fin most
+first_member : (V : List ServerStep) (C : Class) (β higher : ℚ → Ext) (bits : ℕ) (most : ℚ) → IsZeroAtStart β → KeepsArrivals C higher V
+    → int (pos 0) ≤ℚ most → priority_left β higher bits (int (pos 0)) ≤ₑ Fin most
 first_member V C β higher bits most flat keeps on = by_start (β (int (pos 0))) flat
   where
     by_start : (x : Ext) → x ≤ₑ Fin (int (pos 0)) → excess (excess x (higher (int (pos 0)))) (Fin (whole bits)) ≤ₑ Fin most
@@ -241,8 +257,11 @@ first_member V C β higher bits most flat keeps on = by_start (β (int (pos 0)))
         enough y y_on l_on = with4 b most y (whole bits) (λ c. omega (arith, c.le, c.lt, c.same))
 
 -- in a stretch that begins at s, later
-later_member : (server : Server) (end : ℚ) (V : List ServerStep) (n i bits : ℕ) (β higher : ℚ → Ext) (t s y : ℚ) → IsLawfulView server end V → server.discipline ≡ Priority n → KeepsService β end V → KeepsArrivals (before_queue i) higher V → KeepsSizes (after_queue i) bits V
-    → t ≤ℚ end → IsStretch (upto_queue i) V t s → arrived (of_queue i) V s ≤ℚ worked (of_queue i) V s → int (pos 0) <ℚ y → y ≤ℚ t -ℚ s → priority_left β higher bits y ≤ₑ Fin (worked (of_queue i) V t -ℚ arrived (of_queue i) V s)
+later_member : (server : Server) (end : ℚ) (V : List ServerStep) (n i bits : ℕ) (β higher : ℚ → Ext) (t s y : ℚ)
+    → IsLawfulView server end V → server.discipline ≡ Priority n → KeepsService β end V → KeepsArrivals (before_queue i) higher V
+    → KeepsSizes (after_queue i) bits V
+    → t ≤ℚ end → IsStretch (upto_queue i) V t s → arrived (of_queue i) V s ≤ℚ worked (of_queue i) V s → int (pos 0) <ℚ y → y ≤ℚ t -ℚ s
+    → priority_left β higher bits y ≤ₑ Fin (worked (of_queue i) V t -ℚ arrived (of_queue i) V s)
 later_member server end V n i bits β higher t s y lawful priority service keeps sizes in_run is caught l upto_y =
     let own : Class = of_queue i in
     let z_past : s <ℚ s +ℚ y = with2 s y (λ c. omega (arith, c.le, c.lt, c.same)) in
@@ -260,8 +279,10 @@ later_member server end V n i bits β higher t s y lawful priority service keeps
     enough : (A b Wz Wt h : ℚ) → A +ℚ b ≤ℚ Wz +ℚ h +ℚ whole bits → Wz ≤ℚ Wt → b ≤ℚ Wt -ℚ A +ℚ h +ℚ whole bits
     enough A b Wz Wt h e k = with6 A b Wz Wt h (whole bits) (λ c. omega (arith, c.le, c.lt, c.same))
 
-in_stretch : (server : Server) (end : ℚ) (V : List ServerStep) (n i bits : ℕ) (β higher R : ℚ → Ext) (t s : ℚ) → IsLawfulView server end V → server.discipline ≡ Priority n → KeepsService β end V → IsZeroAtStart β
-    → KeepsArrivals (before_queue i) higher V → KeepsSizes (after_queue i) bits V → IsPriorityService β higher bits R → t ≤ℚ end → IsStretch (upto_queue i) V t s → IsServed (of_queue i) R V t s
+in_stretch : (server : Server) (end : ℚ) (V : List ServerStep) (n i bits : ℕ) (β higher R : ℚ → Ext) (t s : ℚ) → IsLawfulView server end V
+    → server.discipline ≡ Priority n → KeepsService β end V → IsZeroAtStart β
+    → KeepsArrivals (before_queue i) higher V → KeepsSizes (after_queue i) bits V → IsPriorityService β higher bits R → t ≤ℚ end
+    → IsStretch (upto_queue i) V t s → IsServed (of_queue i) R V t s
 in_stretch server end V n i bits β higher R t s lawful priority service flat keeps sizes running in_run is =
     let own : Class = of_queue i in
     let sum_A = arrived_parts (upto_queue i) own (before_queue i) V s (upto_parts i) in
@@ -292,8 +313,10 @@ in_stretch server end V n i bits β higher R t s lawful priority service flat ke
     part_caught : (A Ai Ah W Wi Wh : ℚ) → A ≡ Ai +ℚ Ah → W ≡ Wi +ℚ Wh → Wh ≤ℚ Ah → A ≤ℚ W → Ai ≤ℚ Wi
     part_caught A Ai Ah W Wi Wh e f h k = with6 A Ai Ah W Wi Wh (λ c. omega (arith, c.le, c.lt, c.same))
 
-pub priority_serves : (server : Server) (end : ℚ) (V : List ServerStep) (n i bits : ℕ) (β higher R : ℚ → Ext) → IsLawfulView server end V → server.discipline ≡ Priority n → KeepsService β end V → IsZeroAtStart β
-    → KeepsArrivals (before_queue i) higher V → KeepsSizes (after_queue i) bits V → IsPriorityService β higher bits R → Serves (of_queue i) R end V
+pub priority_serves : (server : Server) (end : ℚ) (V : List ServerStep) (n i bits : ℕ) (β higher R : ℚ → Ext) → IsLawfulView server end V
+    → server.discipline ≡ Priority n → KeepsService β end V → IsZeroAtStart β
+    → KeepsArrivals (before_queue i) higher V → KeepsSizes (after_queue i) bits V → IsPriorityService β higher bits R
+    → Serves (of_queue i) R end V
 priority_serves server end V n i bits β higher R lawful priority service flat keeps sizes running t l =
     let own : Class = of_queue i in
     elim (le_or_lt (arrived own V t) (departed own V t)) [
