@@ -1,5 +1,6 @@
 //! Values worked out by hand.
 
+use crate::cut::is_before;
 use crate::{Line, cross, element_min, value};
 use fraction128::{Ext, Frac, Op, Wide};
 use rational::Extended;
@@ -60,16 +61,12 @@ fn crossings(rt: HostRuntime) {
 }
 
 // The slopes before and after the change, and where it is.
-fn lower(a: Line, b: Line, from: i128, to: Ext) -> Option<(Frac, Option<Frac>, Frac)> {
+fn lower(a: &Line, b: &Line, from: i128, to: Ext) -> Option<(Frac, Option<Frac>, Frac)> {
     let start = whole(from);
-    let some = match to {
-        Extended::Inf => true,
-        Extended::Fin(end) => start < end,
-    };
-    if !some {
+    if !is_before(start, &to) {
         return None;
     }
-    match element_min(&a, &b, start, to) {
+    match element_min(a, b, start, to) {
         Ok(cut) => Some((cut.low.slope, cut.at, cut.after.slope)),
         Err(_) => None,
     }
@@ -80,12 +77,15 @@ fn lower_lines(rt: HostRuntime) {
     let (a, b) = (line(5, 1), line(3, 2));
     let (one, two) = (whole(1), whole(2));
     let cut = Some((two, Some(two), one));
-    assert_eq!(rt; lower(a, b, 0, Extended::Inf), cut);
-    assert_eq!(rt; lower(b, a, 0, Extended::Fin(whole(3))), cut);
-    assert_eq!(rt; lower(a, b, 0, Extended::Fin(two)), Some((two, None, two)));
-    assert_eq!(rt; lower(a, b, 2, Extended::Inf), Some((one, None, one)));
+    assert_eq!(rt; lower(&a, &b, 0, Extended::Inf), cut);
+    assert_eq!(rt; lower(&b, &a, 0, Extended::Fin(whole(3))), cut);
     assert_eq!(rt;
-        lower(line(1, 2), line(0, 2), 0, Extended::Inf),
+        lower(&a, &b, 0, Extended::Fin(two)),
+        Some((two, None, two))
+    );
+    assert_eq!(rt; lower(&a, &b, 2, Extended::Inf), Some((one, None, one)));
+    assert_eq!(rt;
+        lower(&line(1, 2), &line(0, 2), 0, Extended::Inf),
         Some((two, None, two))
     );
 }

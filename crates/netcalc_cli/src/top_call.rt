@@ -1,8 +1,11 @@
 //! The top call.
 ghost use Rattle.std.specs.Prelude.{◌≡◌, ◌≢◌, ◌⊎◌, None, Some, IfOk, IfSome};
 ghost use Rattle.std.specs.Io.KnownBytes.{Appends};
+ghost use Rattle.rational.specs.Extended.{Ext};
 ghost use Rattle.netcalc_cli.specs.Form.{Form};
-ghost use Rattle.netcalc_cli.specs.Reply.{Reply, usage, cannot_read, too_long, unsupported, report, on_words, MayReplyOn, MayReply, Reads, ReadsNone, IsTooLong, FailedAt, Gives, FailsToGive};
+ghost use Rattle.netcalc_cli.specs.Bounds.{HasBounds};
+ghost use Rattle.netcalc_cli.specs.Guarantee.{Guarantees};
+ghost use Rattle.netcalc_cli.specs.Reply.{Reply, usage, cannot_read, too_long, unsupported, report, found_in, IsReplyOn, MayReplyOn, MayReply, Reads, ReadsNone, IsTooLong, FailedAt, Gives, FailsToGive};
 ghost use Rattle.netcalc_cli.specs.View.{code_of, reply_of};
 ghost use Rattle.netcalc_cli.specs.Words.{texts, net_word};
 
@@ -68,9 +71,15 @@ pub fn run<I: Inputs, K: Sink, L: Ledger>(
     ensures unsupported { result ≡ 10 → IfSome (net_word (texts words.now)) (λ file.
         ReadsNone (I.content inputs.old file) × Gives result (K.written out.old) (K.written out.new) unsupported) }
 
-    // 0 only where the file is of a form, and then the report on it is written.
-    ensures done { result ≡ 0 → IfSome (net_word (texts words.now)) (λ file. (form : Form)
-        × Reads (I.content inputs.old file) form × Gives result (K.written out.old) (K.written out.new) (report form)) }
+    // 0 only where the file is of a form, and then the report on it is written: its numbers are the form's bounds.
+    ensures done { result ≡ 0 → IfSome (net_word (texts words.now)) (λ file. (form : Form) × (delay : Ext) × (backlog : Ext)
+        × Reads (I.content inputs.old file) form × HasBounds form delay backlog
+        × Gives result (K.written out.old) (K.written out.new) (report form delay backlog)) }
+
+    // And no lawful run of the file's network that keeps the file's curves passes a number of the report.
+    ensures guarantee { result ≡ 0 → IfSome (net_word (texts words.now)) (λ file. (form : Form) × (delay : Ext) × (backlog : Ext)
+        × Reads (I.content inputs.old file) form × Guarantees form delay backlog
+        × Gives result (K.written out.old) (K.written out.new) (report form delay backlog)) }
 
     // 4 only where the sink failed in this call; a front of a reply's bytes is written.
     ensures write_fault { result ≡ 4 → (reply : Reply)
@@ -81,8 +90,9 @@ pub fn run<I: Inputs, K: Sink, L: Ledger>(
     ensures no_memory { result ≡ 5 → K.written out.new ≡ K.written out.old }
 
     // Where it is told what the file holds, 3, 4 and 5 are the only other answers than the one on that.
-    ensures told { IfSome (on_words (I.content inputs.old) (net_word (texts words.now))) (λ reply.
-        Gives result (K.written out.old) (K.written out.new) reply ⊎ (result ≡ 3) ⊎ (result ≡ 4) ⊎ (result ≡ 5)) }
+    ensures told { IfSome (net_word (texts words.now)) (λ file. IfSome (I.content inputs.old file) (λ bytes.
+        ((reply : Reply) × IsReplyOn file (found_in bytes) reply × Gives result (K.written out.old) (K.written out.new) reply)
+        ⊎ (result ≡ 3) ⊎ (result ≡ 4) ⊎ (result ≡ 5))) }
 
     ensures steps { steps.new ≡ steps.old }
 {

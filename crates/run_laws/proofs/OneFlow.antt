@@ -29,8 +29,8 @@ no_next a s q = elim (cases_Bool (s == a)) [ inl e ↦ rw e refl | inr e ↦ rw 
 
 begins_there : (net : Routes) (s i : ℕ) → IsOnlyFlow net s i → BeginsAt net i s
 begins_there net s i only = record {
-  first = ap first_server only.path;
-  never_again = λ a h. let e : None ≡ Some s = sym (no_next a s 0) ∙ sym (ap (server_after a) only.path) ∙ h in absurd (cc);
+  first = ap first_server only.one_hop.path;
+  never_again = λ a h. let e : None ≡ Some s = sym (no_next a s 0) ∙ sym (ap (server_after a) only.one_hop.path) ∙ h in absurd (cc);
 }
 
 -- a packet of the flow, in queue 0
@@ -44,7 +44,7 @@ is_its net packet s i only c p =
     let e : c.flow ≡ i = only.alone c.flow p.is_live p.passes in
     record {
       its_flow = e;
-      its_queue = p.its_queue ∙ ap (λ (j : ℕ). queue_at s (route_of net j).hops) e ∙ ap (queue_at s) only.path ∙ queue_of_hop s 0;
+      its_queue = p.its_queue ∙ ap (λ (j : ℕ). queue_at s (route_of net j).hops) e ∙ ap (queue_at s) only.one_hop.path ∙ queue_of_hop s 0;
       small = subst (λ (j : ℕ). c.bits ≤ packet j) e p.small;
     }
 
@@ -71,4 +71,4 @@ one_flow_is_bounded net run s i packet α β delay most only lawful keeps zero r
     let V = view net run s in
     let sizes = arrivals_map (IsIts packet i) (λ c. of_queue 0 c ≡ true → c.bits ≤ packet i) (λ c h _. h.small) V (all_its net run packet α β s i only lawful keeps) in
     let bounded = queue_is_bounded net run s (packet i) (α i) (β s) delay most lawful only.known only.is_fifo (keeps.service s only.known) zero rises (queue_keeps net run packet α β s i only lawful keeps) sizes dh dv in
-    (bounded, one_hop_delays net run.end (run_start net) run.steps i s 0 delay record { path = only.path; link_on = only.link_on } lawful.allowed bounded.delays)
+    (bounded, one_hop_delays net run.end (run_start net) run.steps i s 0 delay only.one_hop lawful.allowed bounded.delays)

@@ -159,7 +159,7 @@ only_flow (suc j) live passes = absurd passes
 
 pub one_packet_reaches_its_bound : OnePacketReachesItsBound
 one_packet_reaches_its_bound = record {
-  is_alone = record { known = omega arith; is_fifo = refl; link_on = le_t 0 0 refl; is_live = refl; path = refl; alone = only_flow };
+  is_alone = record { known = omega arith; is_fifo = refl; is_live = refl; one_hop = record { path = refl; link_on = le_t 0 0 refl }; alone = only_flow };
   from_zero = latency_is_zero_at_start (whole 100) (whole 10) (le_t 0 100 refl) (le_t 0 10 refl);
   rises = latency_rises (whole 100) (whole 10) (le_t 0 100 refl) (le_t 0 10 refl);
   is_lawful = one_packet_is_lawful;

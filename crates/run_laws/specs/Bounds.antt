@@ -41,7 +41,6 @@ pub record IsEntrance (net : Routes) (s : ℕ) : Type 0 where
 pub record IsOnlyFlow (net : Routes) (s i : ℕ) : Type 0 where
   pub known : s < length net.servers
   pub is_fifo : (server_at net s).discipline ≡ Fifo
-  pub link_on : int (pos 0) ≤ℚ link_at net s
   pub is_live : (route_of net i).live ≡ true
-  pub path : (route_of net i).hops ≡ record { server = s; queue = 0 } ∷ []
+  pub one_hop : IsOneHop net i s 0
   pub alone : (j : ℕ) → (route_of net j).live ≡ true → PassesServer s (route_of net j).hops → j ≡ i
