@@ -4,6 +4,7 @@ pub mod Repeats
 pub mod PieceIn
 pub mod ByTail
 pub mod Steady
+pub mod FirstStretch
 pub mod Unique
 pub mod Rules
 pub mod Normal
@@ -21,3 +22,10 @@ pub mod BucketConvolution
 pub mod Worked
 pub mod WorkedOperators
 pub mod WorkedRunning
+pub mod Rising
+pub mod RisingFrom
+pub mod RisingCurves
+pub mod Finite
+pub mod PieceLoops
+pub mod CurveShapes
+pub mod LineRising

@@ -5,6 +5,7 @@ mod curve;
 mod laws;
 mod reading;
 mod same;
+mod shape;
 #[cfg(test)]
 mod tests;
 
