@@ -1,4 +1,5 @@
 pub mod Over
+pub mod Integers
 pub mod Bootstrap
 pub mod Laws
 pub mod Lcd
@@ -14,3 +15,6 @@ pub mod Whole
 pub mod Stretch
 pub mod Lines
 pub mod Gauges
+pub mod Multiples
+pub mod Grid
+pub mod Sizes

@@ -7,3 +7,4 @@ pub mod Extended
 pub mod Line
 pub mod Whole
 pub mod Gauge
+pub mod Grid
