@@ -1,14 +1,12 @@
 -- The order of the extended fractions, and their sums.
-use Rattle.rational.proofs.MinMax.{min_q_left, min_q_right}
-use Rattle.std.specs.Prelude.{◌≡◌, pos, ◌⊎◌, Bool, true, false}
-use Rattle.std.proofs.Common.{arith, ap, refl, subst, inl, inr}
-use Rattle.rational.specs.Rational.{ℚ, ◌+ℚ◌, ◌-ℚ◌, ◌≤ℚ◌, ◌<ℚ◌, int, le_q, lt_q}
+use Rattle.rational.proofs.MinMax.{min_q_le_left, min_q_le_right, min_q_one, min_q_assoc, min_q_add, max_q_ge_left, max_q_ge_right, max_q_one, max_q_assoc, max_q_add}
+use Rattle.std.specs.Prelude.{◌≡◌, pos, ◌⊎◌}
+use Rattle.std.proofs.Common.{arith, sym, ap, ◌∙◌, refl, subst, inl, inr}
+use Rattle.rational.specs.Rational.{ℚ, ◌+ℚ◌, ◌-ℚ◌, neg_ℚ, int}
 use Rattle.rational.proofs.Linear.{with1, with2, with3, with4}
-use Rattle.rational.proofs.Over.{le_q_out, le_q_in, lt_q_in}
-use Rattle.rational.proofs.Laws.{antisym, le_refl, le_trans, le_or_lt, le_of_lt, between}
-use Rattle.rational.specs.Extended.{Ext, ◌≤ₑ◌, ◌<ₑ◌, ◌+ₑ◌, min_ext}
+use Rattle.rational.proofs.Laws.{antisym, le_refl, le_trans, le_or_lt, le_of_lt, lt_irrefl, between, add_comm, add_assoc}
+use Rattle.rational.specs.Extended.{Ext, ◌≤ₑ◌, ◌<ₑ◌, ◌+ₑ◌, ◌-ₑ◌, min_ext, max_ext}
 use Rattle.rational.specs.declared.Extended.TheVariants.{Fin, Inf}
-use Rattle.rational.specs.MinMax.{min_q, max_q}
 
 -- ---- the order
 pub le_ext_refl : (x : Ext) → x ≤ₑ x
@@ -17,6 +15,9 @@ le_ext_refl Inf = tt
 
 pub same_le_ext : {x y : Ext} → x ≡ y → x ≤ₑ y
 same_le_ext {x} {y} e = subst (λ z. x ≤ₑ z) e (le_ext_refl x)
+
+pub le_inf : (x : Ext) → x ≤ₑ Inf
+le_inf x = tt
 
 pub le_ext_trans : (x y z : Ext) → x ≤ₑ y → y ≤ₑ z → x ≤ₑ z
 le_ext_trans x y Inf h k = tt
@@ -52,6 +53,25 @@ antisym_ext (Fin x) Inf h k = absurd k
 antisym_ext Inf (Fin y) h k = absurd h
 antisym_ext Inf Inf h k = refl
 
+pub lt_ext_irrefl : (x : Ext) → ¬ (x <ₑ x)
+lt_ext_irrefl (Fin x) h = lt_irrefl x h
+lt_ext_irrefl Inf h = h
+
+pub lt_ext_trans : (x y z : Ext) → x <ₑ y → y <ₑ z → x <ₑ z
+lt_ext_trans x y z h k = lt_le_ext x y z h (le_of_lt_ext y z k)
+
+pub le_ext_total : (x y : Ext) → (x ≤ₑ y) ⊎ (y ≤ₑ x)
+le_ext_total x y = elim (le_or_lt_ext x y) [ inl h ↦ inl h | inr h ↦ inr (le_of_lt_ext y x h) ]
+
+-- finite numbers are equal where their fractions are
+pub fin_same : {x y : ℚ} → Fin x ≡ Fin y → x ≡ y
+fin_same {x} {y} e = antisym (same_le_ext e, same_le_ext (sym e))
+
+-- what is at most a fraction is one
+pub finite_below : (x : Ext) (y : ℚ) → x ≤ₑ Fin y → (q : ℚ) × (x ≡ Fin q)
+finite_below (Fin x) y h = (x, refl)
+finite_below Inf y h = absurd h
+
 -- at most each fraction above z: at most z
 pub by_upper : (x z : Ext) → ((y : ℚ) → z <ₑ Fin y → x ≤ₑ Fin y) → x ≤ₑ z
 by_upper x Inf f = tt
@@ -78,7 +98,30 @@ by_lower (Fin x) (Fin z) f = elim (le_or_lt z x) [
       absurd (with3 x z m (λ c. omega (arith, c.le, c.lt, c.same)))
 ]
 
--- ---- sums
+-- ---- sums: a commutative monoid with the order
+pub add_ext_comm : (x y : Ext) → x +ₑ y ≡ y +ₑ x
+add_ext_comm (Fin x) (Fin y) = ap Fin (add_comm x y)
+add_ext_comm (Fin x) Inf = refl
+add_ext_comm Inf (Fin y) = refl
+add_ext_comm Inf Inf = refl
+
+pub add_ext_assoc : (x y z : Ext) → (x +ₑ y) +ₑ z ≡ x +ₑ (y +ₑ z)
+add_ext_assoc Inf y z = refl
+add_ext_assoc (Fin x) Inf z = refl
+add_ext_assoc (Fin x) (Fin y) Inf = refl
+add_ext_assoc (Fin x) (Fin y) (Fin z) = ap Fin (add_assoc x y z)
+
+pub add_zero_ext : (x : Ext) → x +ₑ Fin (int (pos 0)) ≡ x
+add_zero_ext Inf = refl
+add_zero_ext (Fin x) = ap Fin (with1 x (λ c. omega (arith, c.le, c.lt, c.same)))
+
+pub zero_add_ext : (x : Ext) → Fin (int (pos 0)) +ₑ x ≡ x
+zero_add_ext x = add_ext_comm (Fin (int (pos 0))) x ∙ add_zero_ext x
+
+-- with two fractions
+pub add_assoc_ext : (x : Ext) (a b : ℚ) → (x +ₑ Fin a) +ₑ Fin b ≡ x +ₑ Fin (a +ℚ b)
+add_assoc_ext x a b = add_ext_assoc x (Fin a) (Fin b)
+
 pub add_le_ext : (x y z w : Ext) → x ≤ₑ y → z ≤ₑ w → x +ₑ z ≤ₑ y +ₑ w
 add_le_ext x Inf z w h k = tt
 add_le_ext x (Fin y) z Inf h k = tt
@@ -103,33 +146,145 @@ pub gt_add_in : (x : Ext) (c y : ℚ) → Fin (y -ℚ c) <ₑ x → Fin y <ₑ x
 gt_add_in Inf c y h = tt
 gt_add_in (Fin x) c y h = with3 x c y (λ c. omega (arith, c.le, c.lt, c.same))
 
-pub add_zero_ext : (x : Ext) → x +ₑ Fin (int (pos 0)) ≡ x
-add_zero_ext Inf = refl
-add_zero_ext (Fin x) = ap Fin (with1 x (λ c. omega (arith, c.le, c.lt, c.same)))
+-- a fraction cancels
+pub le_add_cancel_ext : (x y : Ext) (c : ℚ) → x +ₑ Fin c ≤ₑ y +ₑ Fin c → x ≤ₑ y
+le_add_cancel_ext x Inf c h = tt
+le_add_cancel_ext Inf (Fin y) c h = absurd h
+le_add_cancel_ext (Fin x) (Fin y) c h = with3 x y c (λ o. omega (arith, o.le, o.lt, o.same))
 
-pub add_assoc_ext : (x : Ext) (a b : ℚ) → (x +ₑ Fin a) +ₑ Fin b ≡ x +ₑ Fin (a +ℚ b)
-add_assoc_ext Inf a b = refl
-add_assoc_ext (Fin x) a b = ap Fin (with3 x a b (λ c. omega (arith, c.le, c.lt, c.same)))
+pub add_cancel_ext : (x y : Ext) (c : ℚ) → x +ₑ Fin c ≡ y +ₑ Fin c → x ≡ y
+add_cancel_ext x y c e =
+    antisym_ext x y (le_add_cancel_ext x y c (same_le_ext e)) (le_add_cancel_ext y x c (same_le_ext (sym e)))
+
+pub add_lt_ext : (x y : Ext) (c : ℚ) → x <ₑ y → x +ₑ Fin c <ₑ y +ₑ Fin c
+add_lt_ext Inf y c h = absurd h
+add_lt_ext (Fin x) Inf c h = tt
+add_lt_ext (Fin x) (Fin y) c h = with3 x y c (λ o. omega (arith, o.le, o.lt, o.same))
+
+-- a sum is finite where both terms are
+pub finite_sum : (x y : Ext) (q : ℚ) → x +ₑ y ≡ Fin q → (a : ℚ) × (b : ℚ) × (x ≡ Fin a) × (y ≡ Fin b)
+finite_sum (Fin x) (Fin y) q e = (x, y, refl, refl)
+finite_sum (Fin x) Inf q e = absurd (same_le_ext e)
+finite_sum Inf y q e = absurd (same_le_ext e)
+
+-- ---- less a fraction
+pub sub_is_add_ext : (x : Ext) (c : ℚ) → x -ₑ c ≡ x +ₑ Fin (neg_ℚ c)
+sub_is_add_ext Inf c = refl
+sub_is_add_ext (Fin x) c = ap Fin (with2 x c (λ o. omega (arith, o.le, o.lt, o.same)))
+
+pub sub_add_ext : (x : Ext) (c : ℚ) → (x -ₑ c) +ₑ Fin c ≡ x
+sub_add_ext Inf c = refl
+sub_add_ext (Fin x) c = ap Fin (with2 x c (λ o. omega (arith, o.le, o.lt, o.same)))
+
+pub add_sub_ext : (x : Ext) (c : ℚ) → (x +ₑ Fin c) -ₑ c ≡ x
+add_sub_ext Inf c = refl
+add_sub_ext (Fin x) c = ap Fin (with2 x c (λ o. omega (arith, o.le, o.lt, o.same)))
 
 -- ---- the lesser of two
 pub min_left : (x y : Ext) → min_ext x y ≤ₑ x
 min_left Inf y = tt
 min_left (Fin x) Inf = le_refl x
-min_left (Fin x) (Fin y) = elim (le_or_lt x y) [
-  | inl h ↦ rw (min_q_left x y h) (le_refl x)
-  | inr l ↦ rw (min_q_right x y l) (le_of_lt l)
-]
+min_left (Fin x) (Fin y) = min_q_le_left x y
 
 pub min_right : (x y : Ext) → min_ext x y ≤ₑ y
 min_right Inf y = le_ext_refl y
 min_right (Fin x) Inf = tt
-min_right (Fin x) (Fin y) = elim (le_or_lt x y) [
-  | inl h ↦ rw (min_q_left x y h) h
-  | inr l ↦ rw (min_q_right x y l) (le_refl y)
-]
+min_right (Fin x) (Fin y) = min_q_le_right x y
 
--- the lesser of two is one of them
+-- it is one of the two
 pub min_one : (x y : Ext) → (min_ext x y ≡ x) ⊎ (min_ext x y ≡ y)
 min_one Inf y = inr refl
 min_one (Fin x) Inf = inl refl
-min_one (Fin x) (Fin y) = elim (le_or_lt x y) [ inl h ↦ inl (ap Fin (min_q_left x y h)) | inr l ↦ inr (ap Fin (min_q_right x y l)) ]
+min_one (Fin x) (Fin y) = elim (min_q_one x y) [ inl e ↦ inl (ap Fin e) | inr e ↦ inr (ap Fin e) ]
+
+-- it is the greatest that is at most both
+pub min_greatest : (x y z : Ext) → z ≤ₑ x → z ≤ₑ y → z ≤ₑ min_ext x y
+min_greatest x y z h k = elim (min_one x y) [ inl e ↦ subst (λ v. z ≤ₑ v) (sym e) h | inr e ↦ subst (λ v. z ≤ₑ v) (sym e) k ]
+
+pub min_ext_comm : (x y : Ext) → min_ext x y ≡ min_ext y x
+min_ext_comm x y = antisym_ext _ _ (turned x y) (turned y x)
+  where
+    turned : (x y : Ext) → min_ext x y ≤ₑ min_ext y x
+    turned x y = min_greatest y x (min_ext x y) (min_right x y) (min_left x y)
+
+pub min_ext_assoc : (x y z : Ext) → min_ext (min_ext x y) z ≡ min_ext x (min_ext y z)
+min_ext_assoc Inf y z = refl
+min_ext_assoc (Fin x) Inf z = refl
+min_ext_assoc (Fin x) (Fin y) Inf = refl
+min_ext_assoc (Fin x) (Fin y) (Fin z) = ap Fin (min_q_assoc x y z)
+
+-- the lesser first
+pub min_ext_of_le : (x y : Ext) → x ≤ₑ y → min_ext x y ≡ x
+min_ext_of_le x y h = antisym_ext _ _ (min_left x y) (min_greatest x y x (le_ext_refl x) h)
+
+pub min_ext_mono : (x y z w : Ext) → x ≤ₑ z → y ≤ₑ w → min_ext x y ≤ₑ min_ext z w
+min_ext_mono x y z w h k =
+    min_greatest z w (min_ext x y) (le_ext_trans _ x z (min_left x y) h) (le_ext_trans _ y w (min_right x y) k)
+
+pub lt_min_ext : (x y z : Ext) → z <ₑ x → z <ₑ y → z <ₑ min_ext x y
+lt_min_ext x y z h k = elim (min_one x y) [ inl e ↦ subst (λ v. z <ₑ v) (sym e) h | inr e ↦ subst (λ v. z <ₑ v) (sym e) k ]
+
+-- a term comes out
+pub min_add_ext : (x y z : Ext) → min_ext x y +ₑ z ≡ min_ext (x +ₑ z) (y +ₑ z)
+min_add_ext Inf y z = refl
+min_add_ext (Fin x) y Inf = infinite x y
+  where
+    infinite : (x : ℚ) (y : Ext) → min_ext (Fin x) y +ₑ Inf ≡ min_ext Inf (y +ₑ Inf)
+    infinite x (Fin y) = refl
+    infinite x Inf = refl
+min_add_ext (Fin x) Inf (Fin z) = refl
+min_add_ext (Fin x) (Fin y) (Fin z) = ap Fin (min_q_add x y z)
+
+-- ---- the greater of two
+pub max_left : (x y : Ext) → x ≤ₑ max_ext x y
+max_left Inf y = tt
+max_left (Fin x) Inf = tt
+max_left (Fin x) (Fin y) = max_q_ge_left x y
+
+pub max_right : (x y : Ext) → y ≤ₑ max_ext x y
+max_right Inf y = le_inf y
+max_right (Fin x) Inf = tt
+max_right (Fin x) (Fin y) = max_q_ge_right x y
+
+-- it is one of the two
+pub max_one : (x y : Ext) → (max_ext x y ≡ x) ⊎ (max_ext x y ≡ y)
+max_one Inf y = inl refl
+max_one (Fin x) Inf = inr refl
+max_one (Fin x) (Fin y) = elim (max_q_one x y) [ inl e ↦ inl (ap Fin e) | inr e ↦ inr (ap Fin e) ]
+
+-- and the least that is at least both
+pub max_least : (x y z : Ext) → x ≤ₑ z → y ≤ₑ z → max_ext x y ≤ₑ z
+max_least x y z h k = elim (max_one x y) [ inl e ↦ subst (λ v. v ≤ₑ z) (sym e) h | inr e ↦ subst (λ v. v ≤ₑ z) (sym e) k ]
+
+pub max_ext_comm : (x y : Ext) → max_ext x y ≡ max_ext y x
+max_ext_comm x y = antisym_ext _ _ (turned x y) (turned y x)
+  where
+    turned : (x y : Ext) → max_ext x y ≤ₑ max_ext y x
+    turned x y = max_least x y (max_ext y x) (max_right y x) (max_left y x)
+
+pub max_ext_assoc : (x y z : Ext) → max_ext (max_ext x y) z ≡ max_ext x (max_ext y z)
+max_ext_assoc Inf y z = refl
+max_ext_assoc (Fin x) Inf z = refl
+max_ext_assoc (Fin x) (Fin y) Inf = refl
+max_ext_assoc (Fin x) (Fin y) (Fin z) = ap Fin (max_q_assoc x y z)
+
+-- the lesser first
+pub max_ext_of_le : (x y : Ext) → x ≤ₑ y → max_ext x y ≡ y
+max_ext_of_le x y h = antisym_ext _ _ (max_least x y y h (le_ext_refl y)) (max_right x y)
+
+pub max_ext_mono : (x y z w : Ext) → x ≤ₑ z → y ≤ₑ w → max_ext x y ≤ₑ max_ext z w
+max_ext_mono x y z w h k =
+    max_least x y (max_ext z w) (le_ext_trans x z _ h (max_left z w)) (le_ext_trans y w _ k (max_right z w))
+
+pub max_lt_ext : (x y z : Ext) → x <ₑ z → y <ₑ z → max_ext x y <ₑ z
+max_lt_ext x y z h k = elim (max_one x y) [ inl e ↦ subst (λ v. v <ₑ z) (sym e) h | inr e ↦ subst (λ v. v <ₑ z) (sym e) k ]
+
+pub max_add_ext : (x y z : Ext) → max_ext x y +ₑ z ≡ max_ext (x +ₑ z) (y +ₑ z)
+max_add_ext Inf y z = refl
+max_add_ext (Fin x) y Inf = infinite x y
+  where
+    infinite : (x : ℚ) (y : Ext) → max_ext (Fin x) y +ₑ Inf ≡ max_ext Inf (y +ₑ Inf)
+    infinite x (Fin y) = refl
+    infinite x Inf = refl
+max_add_ext (Fin x) Inf (Fin z) = refl
+max_add_ext (Fin x) (Fin y) (Fin z) = ap Fin (max_q_add x y z)

@@ -1,16 +1,16 @@
 -- Numbers on a grid and within a bound: sums, products and quotients of such numbers, and how large their parts are.
-use Rattle.std.specs.Prelude.{◌≡◌, ◌≢◌, ℕ, zero, suc, ◌+◌, ◌*◌, ◌/◌, ◌-◌, ◌<◌, ◌≤◌, ◌^◌, ℤ, pos, negsuc, ◌+ℤ◌, ◌*ℤ◌, neg_ℤ, nat_abs}
-use Rattle.std.proofs.Common.{arith, sym, ap, ap₂, ◌∙◌, refl, subst, inl, inr}
+use Rattle.std.specs.Prelude.{◌≡◌, ◌≢◌, ℕ, zero, suc, ◌*◌, ◌/◌, ◌<◌, ◌≤◌, ℤ, pos, negsuc, ◌+ℤ◌, ◌*ℤ◌, neg_ℤ, nat_abs}
+use Rattle.std.proofs.Common.{arith, sym, ap, ap₂, ◌∙◌, refl, subst}
 use Prim.Native.Nat.{◌∣◌}
 use Rattle.std.proofs.lemmas.Int.{ints}
-use native.Mathlib.Nat.{dvd-mul_left, dvd-mul_right, dvd-zero, le_of_dvd, mul-div_cancel', mul_comm, mul-le-mul_left, le_of_mul-le-mul_right, zero-lt-suc}
-use Rattle.rational.specs.Gcd.{gcd, divides_other}
-use Rattle.rational.specs.Rational.{ℚ, den, ◌+ℚ◌, ◌-ℚ◌, ◌*ℚ◌, ◌/ℚ◌, neg_ℚ, ◌≤ℚ◌, ◌<ℚ◌, int, frac, frac_self, frac-same, frac-same_out, both, abs-mul}
+use native.Mathlib.Nat.{dvd-mul_left, dvd-mul_right, dvd-zero, le_of_dvd, mul-div_cancel', mul-le-mul_left, le_of_mul-le-mul_right, zero-lt-suc}
+use Rattle.rational.specs.Gcd.{divides_other}
+use Rattle.rational.specs.Rational.{ℚ, den, ◌+ℚ◌, ◌-ℚ◌, ◌*ℚ◌, ◌/ℚ◌, neg_ℚ, ◌≤ℚ◌, int, frac, frac_self, frac-same, frac-same_out, both, abs-mul}
 use Rattle.rational.specs.Ratio.{neg-abs}
 use Rattle.rational.specs.Grid.{Whole, Within}
-use Rattle.rational.proofs.Over.{add_over, neg_over, mul_frac, le_over, lt_over, same_over}
+use Rattle.rational.proofs.Over.{add_over, neg_over, mul_frac}
 use Rattle.rational.proofs.Integers.{mul_whole, nat_nonneg, nat_le_out}
-use Rattle.rational.proofs.Laws.{add_mul, sub_mul, mul_assoc, mul_comm as mul_comm_q, mul_neg, mul_add, mul_sub, mul_nonneg, mul_le_mul, mul_le_mul_right, div_mul, le_refl, le_trans}
+use Rattle.rational.proofs.Laws.{add_mul, sub_mul, mul_assoc, mul_comm as mul_comm_q, mul_neg, mul_add, mul_sub, mul_nonneg, mul_le_mul, mul_le_mul_right, div_mul, le_trans}
 use Rattle.rational.proofs.Linear.{with1, with2, with3, with4}
 
 -- ---- on a grid

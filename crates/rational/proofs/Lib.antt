@@ -4,7 +4,9 @@ pub mod Bootstrap
 pub mod Laws
 pub mod Lcd
 pub mod Floor
+pub mod Grain
 pub mod Linear
+pub mod Ceiling
 pub mod Goals
 pub mod Stress
 pub mod Bounds

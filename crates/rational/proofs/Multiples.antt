@@ -1,8 +1,8 @@
 -- The least common multiple of two numbers.
-use Rattle.std.specs.Prelude.{◌≡◌, ℕ, zero, suc, ◌+◌, ◌*◌, ◌/◌, ◌<◌, ◌≤◌}
-use Rattle.std.proofs.Common.{arith, sym, ap, ◌∙◌, refl, subst}
+use Rattle.std.specs.Prelude.{◌≡◌, ℕ, zero, suc, ◌*◌, ◌/◌, ◌<◌}
+use Rattle.std.proofs.Common.{arith, ◌∙◌, subst}
 use Prim.Native.Nat.{◌∣◌}
-use native.Mathlib.Nat.{dvd-zero, dvd-mul_right, dvd-mul_left, mul-dvd-mul_left, dvd_of_mul-dvd-mul_left, dvd_trans, mul_comm, mul_assoc, mul-pos, zero-lt-suc, mul-div_cancel', div-mul_cancel, pos_of_dvd_of_pos, le_of_dvd}
+use native.Mathlib.Nat.{dvd-zero, dvd-mul_left, mul-dvd-mul_left, dvd_of_mul-dvd-mul_left, mul_comm, mul_assoc, mul-pos, zero-lt-suc, mul-div_cancel', div-mul_cancel}
 use Rattle.std.specs.Int.{IsGcd}
 use Rattle.rational.specs.Gcd.{gcd, gcd_is, gcd_pos, divides_other, lowest_after, gcd_unique}
 use Rattle.rational.specs.Gauge.{lcm}

@@ -1,22 +1,20 @@
 -- A number on a grid and within a bound has small parts, and so have sums, products and quotients of such numbers: both parts below 2 ^ 127.
-use Rattle.std.specs.Prelude.{◌≡◌, ◌≢◌, ℕ, zero, suc, ◌+◌, ◌*◌, ◌/◌, ◌-◌, ◌<◌, ◌≤◌, ◌^◌, ℤ, pos, negsuc, ◌+ℤ◌, ◌*ℤ◌, neg_ℤ, nat_abs}
-use Rattle.std.proofs.Common.{arith, sym, ap, ap₂, ◌∙◌, refl, subst}
-use Prim.Native.Nat.{◌∣◌}
-use Rattle.std.proofs.lemmas.Int.{ints}
+use Rattle.std.specs.Prelude.{◌≡◌, ◌≢◌, ℕ, suc, ◌*◌, ◌/◌, ◌<◌, ◌≤◌, ℤ, pos, ◌+ℤ◌, ◌*ℤ◌, nat_abs}
+use Rattle.std.proofs.Common.{arith, ap, ◌∙◌, refl, subst}
 use native.Mathlib.Nat.{le_of_dvd, mul-pos}
 use Rattle.rational.specs.Gcd.{gcd}
-use Rattle.rational.specs.Ints.{diffs, diff, diff_is, diff_same}
+use Rattle.rational.specs.Ints.{diffs, diff_is, diff_same}
 use Rattle.rational.proofs.Over.{mul_frac}
-use Rattle.rational.specs.Rational.{ℚ, den, ◌+ℚ◌, ◌-ℚ◌, ◌*ℚ◌, ◌/ℚ◌, neg_ℚ, ◌≤ℚ◌, ◌<ℚ◌, int, frac, frac_self, frac-same, both}
-use Rattle.rational.specs.Ratio.{IsSmall, PartsFit, SumFits, abs_some}
+use Rattle.rational.specs.Rational.{ℚ, den, ◌+ℚ◌, ◌*ℚ◌, ◌/ℚ◌, neg_ℚ, ◌≤ℚ◌, int, frac_self, frac-same, both}
+use Rattle.rational.specs.Ratio.{IsSmall, SumFits, abs_some}
 use Rattle.rational.specs.Gauge.{lcm}
 use Rattle.rational.specs.Grid.{Whole, Within}
-use Rattle.rational.proofs.Integers.{nat_le, nat_nonneg, nat_le_out, mul_whole}
-use Rattle.rational.proofs.Multiples.{lcm_left, lcm_right, lcm_least, lcm_pos, lcm_swap}
+use Rattle.rational.proofs.Integers.{nat_le, nat_nonneg, nat_le_out}
+use Rattle.rational.proofs.Multiples.{lcm_least, lcm_swap}
 use Rattle.rational.proofs.Gauges.{den_pos}
 use Rattle.rational.proofs.Laws.{le_trans, mul_le_mul, mul_le_mul_right, add_comm, num_some}
 use Rattle.rational.proofs.Linear.{with2}
-use Rattle.rational.proofs.Grid.{Quotient, whole_den, whole_divides, whole_weaken, steps_add, whole_neg, whole_mul, whole_div, within_some, within_add, within_neg, within_mul, den_bound, num_bound, num_within, steps_bound}
+use Rattle.rational.proofs.Grid.{whole_divides, steps_add, whole_neg, whole_mul, whole_div, within_some, within_add, within_neg, within_mul, den_bound, num_bound, num_within, steps_bound}
 
 -- the largest number of 127 bits
 abbrev pub largest_part : ℕ
@@ -53,6 +51,7 @@ quotient_on_grid d v w a b some h fits_v fits_w wa wb ia ib =
     let m = den_bound (nat_abs wb.steps) (a /ℚ b) some_r q.whole in
     let s = q.size in
     record { top = omega arith; bottom = omega arith }
+
 -- a sum: over the least common denominator, each numerator and their sum are steps on a grid that d refines
 pub sum_on_grid : (d : ℕ) (v w a b : ℚ) → 0 < d → d ≤ largest_part → (v +ℚ w) *ℚ int (pos d) ≤ℚ int (pos largest_part)
     → Whole d a → Whole d b → Within v a → Within w b → SumFits a b

@@ -1,15 +1,13 @@
 -- A line on an open stretch: its infimum and supremum are the limits at the ends.
 use Rattle.std.specs.Prelude.{◌≡◌, pos}
-use Rattle.std.proofs.Common.{arith, sym, ap, ap₂, ◌∙◌, subst, inl, inr}
+use Rattle.std.proofs.Common.{arith, sym, ap, ◌∙◌, subst, inl, inr}
 use Rattle.rational.specs.Rational.{ℚ, ◌+ℚ◌, ◌-ℚ◌, ◌*ℚ◌, ◌/ℚ◌, ◌≤ℚ◌, ◌<ℚ◌, int}
-use Rattle.rational.proofs.Linear.{with2, with3, with4, with7}
-use Rattle.rational.proofs.Laws.{between, le_or_lt, le_of_lt, le_lt_trans, mul_le_mul, mul_comm, mul_sub, div_mul, antisym}
-use Rattle.rational.specs.Extended.{Ext, IsInfimum, IsSupremum}
+use Rattle.rational.proofs.Linear.{with2, with3}
+use Rattle.rational.proofs.Laws.{between, le_or_lt, le_of_lt, le_lt_trans, mul_le_mul, mul_comm, div_mul, antisym}
+use Rattle.rational.specs.Extended.{IsInfimum, IsSupremum}
 use Rattle.rational.specs.declared.Extended.TheVariants.{Fin}
-use Rattle.rational.specs.MinMax.{min_q, max_q}
-use Rattle.rational.proofs.ExtendedOrder.{same_le_ext}
-use Rattle.rational.proofs.MinMax.{max_q_left, max_q_right, max_q_ge_left, max_q_ge_right, below_min_in, below_min_out}
-use Rattle.rational.proofs.Bounds.{same_infimum}
+use Rattle.rational.specs.MinMax.{max_q}
+use Rattle.rational.proofs.MinMax.{max_q_ge_left, max_q_ge_right, max_q_lt}
 use Rattle.rational.proofs.Whole.{not_zero, lt_of_mul, mul_lt_mul_right}
 
 -- a time strictly between two
@@ -17,12 +15,6 @@ pub record Between (lo hi : ℚ) : Type 0 where
   pub at : ℚ
   pub above : lo <ℚ at
   pub below : at <ℚ hi
-
-max_q_lt : (x y z : ℚ) → x <ℚ z → y <ℚ z → max_q x y <ℚ z
-max_q_lt x y z h k = elim (le_or_lt x y) [
-  | inl l ↦ subst (λ w. w <ℚ z) (sym (max_q_right x y l)) k
-  | inr l ↦ subst (λ w. w <ℚ z) (sym (max_q_left x y l)) h
-]
 
 -- a time past both lo and w, before hi
 late_enough : (lo w hi : ℚ) → lo <ℚ hi → w <ℚ hi → (s : Between lo hi) × (w <ℚ s.at)

@@ -5,6 +5,7 @@ pub mod Ratio
 pub mod MinMax
 pub mod Extended
 pub mod Line
+pub mod Floor
 pub mod Whole
 pub mod Gauge
 pub mod Grid
