@@ -1,0 +1,20 @@
+-- Finite values are no infinity, and are one where they are equal. (Both belong to rational.)
+use Rattle.std.specs.Prelude.{◌≡◌, Bool, true, false}
+use Rattle.std.proofs.Common.{ap, true≢false}
+use Rattle.rational.specs.Rational.{ℚ}
+use Rattle.rational.specs.Extended.{Ext}
+use Rattle.rational.specs.declared.Extended.TheVariants.{Fin, Inf}
+
+pub Fin_inj : {x y : ℚ} → Fin x ≡ Fin y → x ≡ y
+Fin_inj {x} {y} e = ap (value_or x) e
+  where
+    value_or : ℚ → Ext → ℚ
+    value_or d (Fin v) = v
+    value_or d Inf = d
+
+pub no_inf : {x : ℚ} → Fin x ≡ Inf → ⊥
+no_inf {x} e = true≢false (ap is_fin e)
+  where
+    is_fin : Ext → Bool
+    is_fin (Fin y) = true
+    is_fin Inf = false

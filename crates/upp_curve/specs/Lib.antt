@@ -1,0 +1,15 @@
+pub mod Reading
+pub mod Curve
+pub mod Steady
+pub mod Unrolled
+pub mod Normal
+pub mod Readable
+pub mod Functions
+pub mod Pointwise
+pub mod Running
+pub mod Convolution
+pub mod Deviations
+pub mod Kinds
+pub mod Service
+pub mod BucketBounds
+pub mod WorkedRows

@@ -1,0 +1,48 @@
+-- What is read of a curve by steps that always fit: its lines at the start and at the end of each piece, rank + period,
+-- the value there, and rise / period. (Own choice: with it a curve's rate and whether it rises are always known.)
+use Rattle.std.specs.Prelude.{List, [], ◌∷◌, Option, Some, None}
+use Rattle.rational.specs.Rational.{ℚ, ◌+ℚ◌, ◌*ℚ◌, ◌/ℚ◌}
+use Rattle.rational.specs.Ratio.{IsSmall, SumFits}
+use Rattle.rational.specs.Extended.{Ext}
+use Rattle.rational.specs.declared.Extended.TheVariants.{Fin, Inf}
+use Rattle.affine_segment.specs.declared.line.Line.{Line}
+use Rattle.affine_segment.specs.declared.line.Piece.{Piece}
+use Rattle.upp_curve.specs.declared.curve.Tail.{Tail}
+use Rattle.upp_curve.specs.declared.curve.Tail.TheVariants.{Periodic, Affine, Infinite}
+use Rattle.upp_curve.specs.Reading.{read}
+use Rattle.upp_curve.specs.Curve.{SpecCurve}
+
+-- the steps of the line's value at x fit
+pub record LineFits (x : ℚ) (l : Line) : Type 0 where
+  pub product : IsSmall (l.slope *ℚ x)
+  pub sum : SumFits l.icept (l.slope *ℚ x)
+
+abbrev pub LineFitsAt : ℚ → Option Line → Type 0
+LineFitsAt x None = Unit {0}
+LineFitsAt x (Some l) = LineFits x l
+
+-- each line is readable at its start and at its end: the next start, or of the last line `end` (None: it has no end)
+abbrev pub EachFits : Option ℚ → List Piece → Type 0
+EachFits end [] = Unit {0}
+EachFits None (p ∷ []) = LineFitsAt p.x p.line
+EachFits (Some e) (p ∷ []) = LineFitsAt p.x p.line × LineFitsAt e p.line
+EachFits end (p ∷ q ∷ ps) = LineFitsAt p.x p.line × LineFitsAt q.x p.line × EachFits end (q ∷ ps)
+
+abbrev pub SumFitsAt : Ext → ℚ → Type 0
+SumFitsAt (Fin v) c = SumFits v c
+SumFitsAt Inf c = Unit {0}
+
+-- of a periodic tail the end of its first period, the value there and its rate are readable too
+pub record PeriodFits (ps : List Piece) (rank period rise : ℚ) : Type 0 where
+  pub end : SumFits rank period
+  pub rate : IsSmall (rise /ℚ period)
+  pub next : SumFitsAt (read ps rank) rise
+  pub lines : EachFits (Some (rank +ℚ period)) ps
+
+abbrev pub TailReadable : List Piece → Tail → Type 0
+TailReadable ps (Periodic rank period rise) = PeriodFits ps rank period rise
+TailReadable ps (Affine rank) = EachFits None ps
+TailReadable ps (Infinite rank) = EachFits (Some rank) ps
+
+abbrev pub IsReadable : SpecCurve → Type 0
+IsReadable c = TailReadable c.pieces c.tail

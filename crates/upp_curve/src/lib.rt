@@ -1,0 +1,8 @@
+//! Curves: functions of time made of finitely many pieces and a tail, with their value at every fraction.
+#![tactic(auto)]
+
+mod curve;
+mod laws;
+
+pub use curve::{Curve, Tail};
+pub use laws::{bucket_deviations, deviations_are_unique, normal_form_is_unique};
