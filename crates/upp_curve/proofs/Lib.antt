@@ -18,3 +18,8 @@ pub mod BucketDeviations
 pub mod BucketConvolution
 pub mod Worked
 pub mod WorkedOperators
+pub mod Every
+pub mod CommonDen
+pub mod Stands
+pub mod Copies
+pub mod CurveStands

@@ -13,3 +13,9 @@ pub mod Kinds
 pub mod Service
 pub mod BucketBounds
 pub mod WorkedRows
+pub mod Periods
+pub mod Spans
+pub mod Limits
+pub mod Sized
+pub mod Windows
+pub mod Gauges

@@ -3,6 +3,8 @@
 
 mod curve;
 mod laws;
+mod op_kind;
 
 pub use curve::{Curve, Tail};
 pub use laws::{bucket_deviations, deviations_are_unique, normal_form_is_unique};
+pub use op_kind::{OpFault, OpKind, Window};
