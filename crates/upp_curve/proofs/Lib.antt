@@ -23,3 +23,4 @@ pub mod CommonDen
 pub mod Stands
 pub mod Copies
 pub mod CurveStands
+pub mod PieceCounts
