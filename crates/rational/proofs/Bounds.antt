@@ -2,10 +2,11 @@
 use Rattle.std.specs.Prelude.{◌≡◌, pos, ◌⊎◌}
 use Rattle.std.proofs.Common.{arith, sym, refl, subst, inl, inr}
 use Rattle.rational.specs.Rational.{ℚ, ◌+ℚ◌, ◌-ℚ◌, ◌<ℚ◌, int}
-use Rattle.rational.proofs.Linear.{with2}
-use Rattle.rational.specs.Extended.{Ext, ◌≤ₑ◌, ◌<ₑ◌, ◌+ₑ◌, min_ext, IsInfimum, IsSupremum}
+use Rattle.rational.proofs.Linear.{with1, with2, with3}
+use Rattle.rational.proofs.Laws.{between, antisym}
+use Rattle.rational.specs.Extended.{Ext, ◌≤ₑ◌, ◌<ₑ◌, ◌+ₑ◌, min_ext, max_ext, IsInfimum, IsSupremum}
 use Rattle.rational.specs.declared.Extended.TheVariants.{Fin, Inf}
-use Rattle.rational.proofs.ExtendedOrder.{le_ext_refl, le_ext_trans, le_lt_ext, lt_le_ext, le_of_lt_ext, antisym_ext, by_upper, by_lower, lt_add_out, lt_add_in, gt_add_out, gt_add_in, add_le_ext, min_left, min_right, min_one}
+use Rattle.rational.proofs.ExtendedOrder.{le_ext_refl, le_ext_trans, le_lt_ext, lt_le_ext, le_of_lt_ext, antisym_ext, by_upper, by_lower, lt_add_out, lt_add_in, gt_add_out, gt_add_in, add_le_ext, add_lt_lt_ext, le_inf, min_left, min_right, min_one, max_left, max_right, max_one}
 
 -- ---- infima
 -- at least each lower bound
@@ -74,6 +75,43 @@ by_margins F (Fin q) b f = record {
 pub margins : {I : Type 0} (F : I → Ext) (q e : ℚ) → IsInfimum F (Fin q) → int (pos 0) <ℚ e → (i : I) × (F i <ₑ Fin (q +ℚ e))
 margins F q e h l = h.near (q +ℚ e) (with2 q e (λ c. omega (arith, c.le, c.lt, c.same)))
 
+-- more members above it do not change it: each member of G is at least some member of F
+pub infimum_le : {I J : Type 0} (F : I → Ext) (G : J → Ext) (x y : Ext) → IsInfimum F x → IsInfimum G y → ((j : J) → (i : I) × (F i ≤ₑ G j)) → x ≤ₑ y
+infimum_le F G x y h k up = greatest G y x k (λ j. let (i, l) = up j in le_ext_trans x (F i) (G j) (h.below i) l)
+
+-- the infimum of the sums of a member of each is the sum of the infima
+pub infimum_sum : {I J : Type 0} (F : I → Ext) (G : J → Ext) (x y : Ext)
+    → IsInfimum F x → IsInfimum G y → IsInfimum {I = I × J} (λ p. F p.0 +ₑ G p.1) (x +ₑ y)
+infimum_sum {I} {J} F G x y h k = record {
+  below = λ p. add_le_ext x (F p.0) y (G p.1) (h.below p.0) (k.below p.1);
+  near = λ q l. close x y h.near k.near q l;
+}
+  where
+    close : (x y : Ext) → ((q : ℚ) → x <ₑ Fin q → (i : I) × (F i <ₑ Fin q)) → ((q : ℚ) → y <ₑ Fin q → (j : J) × (G j <ₑ Fin q))
+        → (q : ℚ) → x +ₑ y <ₑ Fin q → (p : I × J) × (F p.0 +ₑ G p.1 <ₑ Fin q)
+    close Inf y f g q l = absurd l
+    close (Fin a) Inf f g q l = absurd l
+    close (Fin a) (Fin b) f g q l =
+        let (m, p, r) = between a (q -ℚ b) (with3 a b q (λ c. omega (arith, c.le, c.lt, c.same))) in
+        let (i, u) = f m p in
+        let (j, v) = g (q -ℚ m) (with3 b q m (λ c. omega (arith, c.le, c.lt, c.same))) in
+        ((i, j), subst (λ z. F i +ₑ G j <ₑ Fin z) (antisym (with2 q m (λ c. omega (arith, c.le, c.lt, c.same)))) (add_lt_lt_ext (F i) (Fin m) (G j) (Fin (q -ℚ m)) u v))
+
+-- the infimum of the infima of families is that of all their members
+pub infimum_nested : {I : Type 0} {J : I → Type 0} (F : (i : I) → J i → Ext) (x : I → Ext) (y : Ext)
+    → ((i : I) → IsInfimum (F i) (x i)) → IsInfimum x y → IsInfimum {I = (i : I) × J i} (λ p. F p.0 p.1) y
+infimum_nested F x y each h = record {
+  below = λ p. le_ext_trans y (x p.0) (F p.0 p.1) (h.below p.0) ((each p.0).below p.1);
+  near = λ q l. let (i, u) = h.near q l in let (j, v) = (each i).near q u in ((i, j), v);
+}
+
+pub infimum_unnested : {I : Type 0} {J : I → Type 0} (F : (i : I) → J i → Ext) (x : I → Ext) (y : Ext)
+    → ((i : I) → IsInfimum (F i) (x i)) → IsInfimum {I = (i : I) × J i} (λ p. F p.0 p.1) y → IsInfimum x y
+infimum_unnested F x y each h = record {
+  below = λ i. greatest (F i) (x i) y (each i) (λ j. h.below (i, j));
+  near = λ q l. let (p, u) = h.near q l in (p.0, le_lt_ext (x p.0) (F p.0 p.1) (Fin q) ((each p.0).below p.1) u);
+}
+
 -- ---- suprema
 pub smallest : {I : Type 0} (F : I → Ext) (x y : Ext) → IsSupremum F x → ((i : I) → F i ≤ₑ y) → x ≤ₑ y
 smallest F x y h b = by_lower y x (λ q l. let (i, m) = h.near q l in le_ext_trans (Fin q) (F i) y (le_of_lt_ext (Fin q) (F i) m) (b i))
@@ -104,4 +142,101 @@ pub same_supremum : {I J : Type 0} (F : I → Ext) (G : J → Ext) (x : Ext)
 same_supremum F G x up down h = record {
   above = λ j. let (i, l) = down j in le_ext_trans (G j) (F i) x l (h.above i);
   near = λ y l. let (i, m) = h.near y l in let (j, k) = up i in (j, lt_le_ext (Fin y) (F i) (G j) m k);
+}
+
+pub supremum_union : {I J : Type 0} (F : I → Ext) (G : J → Ext) (x y : Ext)
+    → IsSupremum F x → IsSupremum G y → IsSupremum (either F G) (max_ext x y)
+supremum_union {I} {J} F G x y h k = record { above = over; near = close }
+  where
+    over : (i : I ⊎ J) → either F G i ≤ₑ max_ext x y
+    over (inl i) = le_ext_trans (F i) x (max_ext x y) (h.above i) (max_left x y)
+    over (inr j) = le_ext_trans (G j) y (max_ext x y) (k.above j) (max_right x y)
+
+    close : (q : ℚ) → Fin q <ₑ max_ext x y → (i : I ⊎ J) × (Fin q <ₑ either F G i)
+    close q l = elim (max_one x y) [
+      | inl e ↦ let (i, m) = h.near q (subst (λ z. Fin q <ₑ z) e l) in (inl i, m)
+      | inr e ↦ let (j, m) = k.near q (subst (λ z. Fin q <ₑ z) e l) in (inr j, m)
+    ]
+
+-- a family with an infinite member
+pub infinite_member : {I : Type 0} (F : I → Ext) (i : I) → F i ≡ Inf → IsSupremum F Inf
+infinite_member F i e = record { above = λ j. le_inf (F j); near = λ y l. (i, subst (λ z. Fin y <ₑ z) (sym e) tt) }
+
+-- a family without members has none
+pub supremum_some : {I : Type 0} (F : I → Ext) (x : Ext) → IsSupremum F x → I
+supremum_some F x h = let (y, l) = some_below x in (h.near y l).0
+  where
+    some_below : (x : Ext) → (y : ℚ) × (Fin y <ₑ x)
+    some_below Inf = (int (pos 0), tt)
+    some_below (Fin x) = (x -ℚ int (pos 1), with1 x (λ c. omega (arith, c.le, c.lt, c.same)))
+
+-- the usual form: a member above x - e for each positive e, and above each fraction where x is infinite
+pub supremum_by_margins : {I : Type 0} (F : I → Ext) (x : Ext) → ((i : I) → F i ≤ₑ x)
+    → ((q e : ℚ) → x ≡ Fin q → int (pos 0) <ℚ e → (i : I) × (Fin (q -ℚ e) <ₑ F i)) → (x ≡ Inf → (y : ℚ) → (i : I) × (Fin y <ₑ F i)) → IsSupremum F x
+supremum_by_margins F Inf b f g = record { above = b; near = λ y l. g refl y }
+supremum_by_margins F (Fin q) b f g = record {
+  above = b;
+  near = λ y l. let (i, m) = f q (q -ℚ y) refl (with2 q y (λ c. omega (arith, c.le, c.lt, c.same))) in
+      (i, subst (λ z. Fin z <ₑ F i) (with2 q y (λ c. omega (arith, c.le, c.lt, c.same))) m);
+}
+
+pub supremum_margins : {I : Type 0} (F : I → Ext) (q e : ℚ) → IsSupremum F (Fin q) → int (pos 0) <ℚ e → (i : I) × (Fin (q -ℚ e) <ₑ F i)
+supremum_margins F q e h l = h.near (q -ℚ e) (with2 q e (λ c. omega (arith, c.le, c.lt, c.same)))
+
+-- each member of F is at most some member of G
+pub supremum_le : {I J : Type 0} (F : I → Ext) (G : J → Ext) (x y : Ext) → IsSupremum F x → IsSupremum G y → ((i : I) → (j : J) × (F i ≤ₑ G j)) → x ≤ₑ y
+supremum_le F G x y h k up = smallest F x y h (λ i. let (j, l) = up i in le_ext_trans (F i) (G j) y l (k.above j))
+
+-- the supremum of the sums of a member of each is the sum of the suprema
+pub supremum_sum : {I J : Type 0} (F : I → Ext) (G : J → Ext) (x y : Ext)
+    → IsSupremum F x → IsSupremum G y → IsSupremum {I = I × J} (λ p. F p.0 +ₑ G p.1) (x +ₑ y)
+supremum_sum {I} {J} F G x y h k = record {
+  above = λ p. add_le_ext (F p.0) x (G p.1) y (h.above p.0) (k.above p.1);
+  near = λ q l.
+      let (m, u, v) = parted x y q l in
+      let (i, a) = h.near m u in
+      let (j, b) = k.near (q -ℚ m) v in
+      ((i, j), subst (λ z. Fin z <ₑ F i +ₑ G j) (antisym (with2 q m (λ c. omega (arith, c.le, c.lt, c.same)))) (add_lt_lt_ext (Fin m) (F i) (Fin (q -ℚ m)) (G j) a b));
+}
+  where
+    -- what is below a sum is the sum of what is below each
+    parted : (x y : Ext) (q : ℚ) → Fin q <ₑ x +ₑ y → (m : ℚ) × (Fin m <ₑ x) × (Fin (q -ℚ m) <ₑ y)
+    parted Inf Inf q l = (q, tt, tt)
+    parted Inf (Fin b) q l = ((q -ℚ b) +ℚ int (pos 1), tt, with2 q b (λ c. omega (arith, c.le, c.lt, c.same)))
+    parted (Fin a) Inf q l = (a -ℚ int (pos 1), with1 a (λ c. omega (arith, c.le, c.lt, c.same)), tt)
+    parted (Fin a) (Fin b) q l =
+        let (m, p, r) = between (q -ℚ b) a (with3 a b q (λ c. omega (arith, c.le, c.lt, c.same))) in
+        (m, r, with3 b q m (λ c. omega (arith, c.le, c.lt, c.same)))
+
+pub supremum_nested : {I : Type 0} {J : I → Type 0} (F : (i : I) → J i → Ext) (x : I → Ext) (y : Ext)
+    → ((i : I) → IsSupremum (F i) (x i)) → IsSupremum x y → IsSupremum {I = (i : I) × J i} (λ p. F p.0 p.1) y
+supremum_nested F x y each h = record {
+  above = λ p. le_ext_trans (F p.0 p.1) (x p.0) y ((each p.0).above p.1) (h.above p.0);
+  near = λ q l. let (i, u) = h.near q l in let (j, v) = (each i).near q u in ((i, j), v);
+}
+
+pub supremum_unnested : {I : Type 0} {J : I → Type 0} (F : (i : I) → J i → Ext) (x : I → Ext) (y : Ext)
+    → ((i : I) → IsSupremum (F i) (x i)) → IsSupremum {I = (i : I) × J i} (λ p. F p.0 p.1) y → IsSupremum x y
+supremum_unnested F x y each h = record {
+  above = λ i. smallest (F i) (x i) y (each i) (λ j. h.above (i, j));
+  near = λ q l. let (p, u) = h.near q l in (p.0, lt_le_ext (Fin q) (F p.0 p.1) (x p.0) u ((each p.0).above p.1));
+}
+
+-- ---- the mirror: what is below the members f is above the members c - f
+pub reflected_infimum : {I : Type 0} (f : I → ℚ) (c x : ℚ) → IsSupremum (λ i. Fin (f i)) (Fin x) → IsInfimum (λ i. Fin (c -ℚ f i)) (Fin (c -ℚ x))
+reflected_infimum f c x h = record {
+  below = λ i. let l = h.above i in let a = f i in with3 a c x (λ o. omega (arith, o.le, o.lt, o.same));
+  near = λ y l.
+      let (i, m) = h.near (c -ℚ y) (with3 c x y (λ o. omega (arith, o.le, o.lt, o.same))) in
+      let a = f i in
+      (i, with3 a c y (λ o. omega (arith, o.le, o.lt, o.same)));
+}
+
+pub reflected_supremum : {I : Type 0} (f : I → ℚ) (c x : ℚ) → IsInfimum (λ i. Fin (f i)) (Fin x) → IsSupremum (λ i. Fin (c -ℚ f i)) (Fin (c -ℚ x))
+reflected_supremum f c x h = record {
+  above = λ i. let l = h.below i in let a = f i in with3 a c x (λ o. omega (arith, o.le, o.lt, o.same));
+  near = λ y l.
+      let (i, m) = h.near (c -ℚ y) (with3 c x y (λ o. omega (arith, o.le, o.lt, o.same))) in
+      let a = f i in
+      (i, with3 a c y (λ o. omega (arith, o.le, o.lt, o.same)));
 }

@@ -161,6 +161,13 @@ add_lt_ext Inf y c h = absurd h
 add_lt_ext (Fin x) Inf c h = tt
 add_lt_ext (Fin x) (Fin y) c h = with3 x y c (λ o. omega (arith, o.le, o.lt, o.same))
 
+pub add_lt_lt_ext : (x y z w : Ext) → x <ₑ y → z <ₑ w → x +ₑ z <ₑ y +ₑ w
+add_lt_lt_ext Inf y z w h k = absurd h
+add_lt_lt_ext (Fin x) y Inf w h k = absurd k
+add_lt_lt_ext (Fin x) Inf (Fin z) w h k = tt
+add_lt_lt_ext (Fin x) (Fin y) (Fin z) Inf h k = tt
+add_lt_lt_ext (Fin x) (Fin y) (Fin z) (Fin w) h k = with4 x y z w (λ o. omega (arith, o.le, o.lt, o.same))
+
 -- a sum is finite where both terms are
 pub finite_sum : (x y : Ext) (q : ℚ) → x +ₑ y ≡ Fin q → (a : ℚ) × (b : ℚ) × (x ≡ Fin a) × (y ≡ Fin b)
 finite_sum (Fin x) (Fin y) q e = (x, y, refl, refl)

@@ -1,6 +1,6 @@
 -- The lesser and the greater of two rationals, and the tests of the order where it does not hold.
 use Rattle.std.specs.Prelude.{◌≡◌, Bool, true, false, ◌⊎◌}
-use Rattle.std.proofs.Common.{arith, sym, refl, subst, inl, inr}
+use Rattle.std.proofs.Common.{arith, sym, ◌∙◌, refl, subst, inl, inr}
 use Rattle.rational.specs.Rational.{ℚ, ◌+ℚ◌, neg_ℚ, ◌≤ℚ◌, ◌<ℚ◌, le_q, lt_q}
 use Rattle.rational.specs.MinMax.{min_q, max_q}
 use Rattle.rational.proofs.Linear.{with2, with3}
@@ -68,6 +68,10 @@ min_q_assoc x y z =
       min_q_ge _ _ _ (min_q_ge _ _ _ (min_q_le_left x (min_q y z)) (le_trans m (min_q_le_left y z))) (le_trans m (min_q_le_right y z)),
     )
 
+-- the second where it is at most the first
+pub min_q_is_right : (x y : ℚ) → y ≤ℚ x → min_q x y ≡ y
+min_q_is_right x y h = min_q_comm x y ∙ min_q_left y x h
+
 pub min_q_self : (x : ℚ) → min_q x x ≡ x
 min_q_self x = min_q_left x x (le_refl x)
 
@@ -112,6 +116,10 @@ max_q_assoc x y z =
       max_q_le _ _ _ (max_q_le _ _ _ (max_q_ge_left x (max_q y z)) (le_trans (max_q_ge_left y z) m)) (le_trans (max_q_ge_right y z) m),
       max_q_le _ _ _ (le_trans (max_q_ge_left x y) l) (max_q_le _ _ _ (le_trans (max_q_ge_right x y) l) (max_q_ge_right (max_q x y) z)),
     )
+
+-- the first where it is at least the second
+pub max_q_is_left : (x y : ℚ) → y ≤ℚ x → max_q x y ≡ x
+max_q_is_left x y h = max_q_comm x y ∙ max_q_right y x h
 
 pub max_q_self : (x : ℚ) → max_q x x ≡ x
 max_q_self x = max_q_right x x (le_refl x)

@@ -5,6 +5,7 @@ pub mod Ratio
 pub mod MinMax
 pub mod Extended
 pub mod Line
+pub mod Stretch
 pub mod Floor
 pub mod Whole
 pub mod Gauge

@@ -1,0 +1,53 @@
+-- A fraction's value and the numbers that it is made of.
+use Rattle.std.specs.Prelude.{◌≡◌, ◌≢◌, ℕ, zero, suc, ◌<◌, ◌^◌, ◌↔◌, ℤ, pos, negsuc, unsigned_abs, IsTrue, Bool, true, false}
+use Rattle.std.proofs.Common.{arith, sym, ap, ap₂, ◌∙◌, refl, SFits, to_z, of_z, to_z-of_z, ◌≤◌, inl, inr}
+use Rattle.std.proofs.lemmas.Bool.{cases_lt}
+use Rattle.std.proofs.lemmas.Int.{fits_signed_from_abs}
+use mir.Syntax.{w128}
+use Rattle.rational.specs.Gcd.{gcd}
+use Rattle.rational.specs.Rational.{ℚ, den}
+use Rattle.rational.specs.Ratio.{ratio, lowest_parts, IsSmall}
+use Rattle.fraction128.specs.Parts.{AreLowest}
+use Rattle.fraction128.proofs.Coprime.{gcd_one}
+
+-- a value's parts are the numbers that it is made of in lowest terms, of any size
+pub value_parts : (n : ℤ) (d : ℕ) (x : ℚ) → 0 < d → gcd (unsigned_abs n) d ≡ 1 → ratio n (pos d) ≡ x → (x.num ≡ n) × (den x ≡ d)
+value_parts n zero x some h e = absurd (omega arith)
+value_parts n (suc d) x some h e =
+    let parts = lowest_parts n d h in
+    (ap (λ y. y.num) (sym e) ∙ parts.0, ap (λ y. den y) (sym e) ∙ ap suc parts.1)
+
+pub parts_of : (n : ℤ) (d : ℕ) (x : ℚ) → AreLowest n d → ratio n (pos d) ≡ x → (x.num ≡ n) × (den x ≡ d)
+parts_of n d x h e = value_parts n d x h.some h.lowest e
+
+pub small_of : (n : ℤ) (d : ℕ) (x : ℚ) → AreLowest n d → ratio n (pos d) ≡ x → IsSmall x
+small_of n d x h e =
+    let parts = parts_of n d x h e in
+    record { top = rw parts.0 h.top; bottom = rw parts.1 h.bottom }
+
+pub whole_lowest : (n : ℤ) → unsigned_abs n < 2 ^ 127 → AreLowest n 1
+whole_lowest n h = record { some = omega arith; top = h; bottom = omega arith; lowest = gcd_one (unsigned_abs n) }
+
+-- one value, one pair of numbers
+pub same_fields : (n m : ℤ) (d e : ℕ) (x y : ℚ) → AreLowest n d → AreLowest m e → ratio n (pos d) ≡ x → ratio m (pos e) ≡ y → ((n ≡ m) × (d ≡ e)) ↔ (x ≡ y)
+same_fields n m d e x y h k p q =
+    let u = parts_of n d x h p in
+    let v = parts_of m e y k q in (
+      λ s. sym p ∙ ap₂ (λ (i : ℤ) (j : ℕ). ratio i (pos j)) s.0 s.1 ∙ q,
+      λ s. (sym u.0 ∙ ap (λ z. z.num) s ∙ v.0, sym u.1 ∙ ap (λ z. den z) s ∙ v.1),
+    )
+
+-- the numerator is one of the code's numbers
+pub num_fits : {n : ℤ} {d : ℕ} → AreLowest n d → SFits w128 n
+num_fits {n} h = fits_signed_from_abs w128 n h.top
+
+-- what is none of the code's signed numbers is too wide
+pub unfit_abs : (z : ℤ) → ¬ (SFits w128 z) → 2 ^ 127 ≤ unsigned_abs z
+unfit_abs z h = elim (cases_lt (unsigned_abs z) (2 ^ 127)) [
+  | inl l ↦ absurd (h (fits_signed_from_abs w128 z l))
+  | inr l ↦ l
+]
+
+-- a value from its numbers as the code stores them
+pub stored_value : {n : ℤ} {d : ℕ} {x : ℚ} → AreLowest n d → ratio n (pos d) ≡ x → ratio (to_z w128 (of_z w128 n)) (pos d) ≡ x
+stored_value {n} {d} h e = ap (λ z. ratio z (pos d)) (to_z-of_z (num_fits h)) ∙ e

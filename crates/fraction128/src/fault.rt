@@ -1,0 +1,31 @@
+//! Why a fraction could not be made, and which step of arithmetic was too wide.
+
+use crate::fraction::Frac;
+
+/// Why two numbers make no fraction.
+#[derive(Debug, Clone, Copy, PartialEq, Eq)]
+pub enum FracFault {
+    /// The denominator is 0.
+    ZeroDen,
+    /// In lowest terms the numerator or the denominator is above 2^127 - 1 in size.
+    TooBig,
+}
+
+/// The operators of checked arithmetic.
+#[derive(Debug, Clone, Copy, PartialEq, Eq)]
+pub enum Op {
+    Add,
+    Sub,
+    Mul,
+    Div,
+    /// The least common multiple.
+    Lcm,
+}
+
+/// A step of arithmetic whose numbers did not fit: the operator and both operands.
+#[derive(Debug, Clone, Copy, PartialEq, Eq)]
+pub struct Wide {
+    pub op: Op,
+    pub a: Frac,
+    pub b: Frac,
+}

@@ -1,0 +1,265 @@
+//! The exact fraction.
+
+ghost use Rattle.std.specs.Prelude.{refl, ◌≡◌, ◌≢◌, ◌↔◌, ◌<◌, ◌^◌, ℤ, pos, unsigned_abs, IsOk, IsErr, IfOk, IfErr, IsTrue, ◌++◌, OnOk, OnErr};
+ghost use Rattle.std.specs.Ordering.{MatchOrdering, is_eq, as_partial_cmp};
+ghost use Rattle.rational.specs.Rational.{ℚ, den, int, ◌+ℚ◌, ◌-ℚ◌, ◌*ℚ◌, ◌/ℚ◌, ◌≤ℚ◌, ◌<ℚ◌, neg_ℚ, inv_ℚ};
+ghost use Rattle.rational.specs.Ratio.{ratio, with_sign, IsSmall, SumFits, cmp_q};
+ghost use Rattle.fraction128.specs.Parts.{AreLowest};
+ghost use Rattle.fraction128.specs.Fits.{wide_step};
+ghost use Rattle.fraction128.specs.Text.{text_of};
+ghost use Rattle.fraction128.specs.declared.fault.Op.TheVariants.{Add, Sub, Mul, Div};
+
+use crate::division::gcd_of;
+use crate::fault::{FracFault, Op, Wide};
+use crate::order::compare_signed;
+use crate::product::product_of;
+use crate::sum::sum_of;
+use crate::text::print_parts;
+use rational::Extended;
+use std::alloc::AllocError;
+use std::cmp::Ordering;
+use std::marker::Model;
+
+/// The largest size of a numerator or denominator.
+pub(crate) const LARGEST: u128 = i128::MAX as u128;
+
+/// An exact fraction in lowest terms. The denominator is at least 1, and both numbers are at most
+/// 2^127 - 1 in size. Contracts see it as a rational number.
+#[derive(Debug, Clone, Copy)]
+pub struct Frac {
+    num: i128,
+    den: u128,
+}
+
+impl Model for Frac {
+    ghost use Rattle.rational.specs.Rational.{ℚ};
+    ghost use Rattle.rational.specs.Ratio.{ℚ_code};
+
+    ghost Value = { ℚ };
+
+    ghost coded = { ℚ_code };
+
+    ghost use Rattle.fraction128.specs.Inside.{IsLowest, value_of, fields_of, fields-value};
+
+    ghost view = { value_of };
+
+    ghost invariant = { IsLowest };
+
+    ghost inverse = { fields_of };
+
+    ghost inverse_ok = { fields-value };
+}
+
+/// A fraction, or infinity above all fractions.
+pub type Ext = Extended<Frac>;
+
+impl Frac {
+    /// The fraction num / den. Refused where den is 0, and where a number of the lowest terms is too big.
+    pub fn new(num: i128, den: i128) -> Result<Frac, FracFault>
+        ensures zero { (result ≡ Err FracFault.ZeroDen) ↔ (den ≡ pos 0) }
+        ensures big { (result ≡ Err FracFault.TooBig) ↔ ((den ≢ pos 0) × ¬ (IsSmall (ratio num den))) }
+        ensures value { IfOk result (λ f. f ≡ ratio num den) }
+    {
+        if den == 0 {
+            return Err(FracFault::ZeroDen);
+        }
+        let top = num.unsigned_abs();
+        let bottom = den.unsigned_abs();
+        let common = gcd_of(top, bottom);
+        let size = top / common;
+        let whole = bottom / common;
+        if size > LARGEST || whole > LARGEST {
+            return Err(FracFault::TooBig);
+        }
+        Ok(Frac {
+            num: with_sign(num, den, size),
+            den: whole,
+        })
+    }
+
+    /// The fraction of two numbers in lowest terms.
+    #[inline]
+    pub(crate) fn from_lowest(num: i128, den: u128) -> Frac
+        requires { AreLowest num den }
+        ensures { result ≡ ratio num (pos den) }
+    {
+        Frac { num, den }
+    }
+
+    /// Numerator and denominator in lowest terms.
+    #[inline]
+    pub fn parts(&self) -> (i128, u128)
+        ensures num { result.0 ≡ self.now.num }
+        ensures den { result.1 ≡ den self.now }
+        ensures small { IsSmall self.now }
+    {
+        (self.num, self.den)
+    }
+
+    /// Appends `p`, or `p/q` where q is above 1, in lowest terms. After an error the vector is as it was.
+    pub fn print(&self, into: &mut Vec<u8>) -> Result<(), AllocError>
+        ensures ok { OnOk result (into.new.items ≡ into.old.items ++ text_of self.now) }
+        ensures err { OnErr result (into.new.items ≡ into.old.items) }
+    {
+        print_parts(self.num, self.den, into)
+    }
+
+    pub fn zero() -> Frac
+        ensures { result ≡ int (pos 0) }
+    {
+        Frac { num: 0, den: 1 }
+    }
+
+    pub fn one() -> Frac
+        ensures { result ≡ int (pos 1) }
+    {
+        Frac { num: 1, den: 1 }
+    }
+
+    /// The exact sum. Refused only where a cross product over the least common denominator, their
+    /// sum or that denominator is above 2^127 - 1 in size.
+    pub fn add(a: Frac, b: Frac) -> Result<Frac, Wide>
+        ensures value { IfOk result (λ f. f ≡ a +ℚ b) }
+        ensures fits { SumFits a b → IsOk result }
+        ensures step { IfErr result (λ w. w ≡ wide_step Add a b) }
+    {
+        match sum_of(a.num, a.den, b.num, b.den) {
+            Some(f) => Ok(f),
+            None => Err(Wide { op: Op::Add, a, b }),
+        }
+    }
+
+    /// The exact difference. Refused as a sum is.
+    pub fn sub(a: Frac, b: Frac) -> Result<Frac, Wide>
+        ensures value { IfOk result (λ f. f ≡ a -ℚ b) }
+        ensures fits { SumFits a (neg_ℚ b) → IsOk result }
+        ensures step { IfErr result (λ w. w ≡ wide_step Sub a b) }
+    {
+        let turned = b.negated();
+        match sum_of(a.num, a.den, turned.num, turned.den) {
+            Some(f) => Ok(f),
+            None => Err(Wide { op: Op::Sub, a, b }),
+        }
+    }
+
+    /// The exact product. Refused exactly where its lowest terms do not fit.
+    pub fn mul(a: Frac, b: Frac) -> Result<Frac, Wide>
+        ensures value { IfOk result (λ f. f ≡ a *ℚ b) }
+        ensures fits { IsOk result ↔ IsSmall (a *ℚ b) }
+        ensures step { IfErr result (λ w. w ≡ wide_step Mul a b) }
+    {
+        match product_of(a.num, a.den, b.num, b.den) {
+            Some(f) => Ok(f),
+            None => Err(Wide { op: Op::Mul, a, b }),
+        }
+    }
+
+    /// The exact quotient. Refused exactly where its lowest terms do not fit.
+    pub fn div(a: Frac, b: Frac) -> Result<Frac, Wide>
+        requires { b ≢ int (pos 0) }
+        ensures value { IfOk result (λ f. f ≡ a /ℚ b) }
+        ensures fits { IsOk result ↔ IsSmall (a /ℚ b) }
+        ensures step { IfErr result (λ w. w ≡ wide_step Div a b) }
+    {
+        let turned = b.recip();
+        match product_of(a.num, a.den, turned.num, turned.den) {
+            Some(f) => Ok(f),
+            None => Err(Wide { op: Op::Div, a, b }),
+        }
+    }
+
+    /// The fraction below 0 as far as this is above.
+    #[inline]
+    pub fn negated(self) -> Frac
+        ensures { result ≡ neg_ℚ self }
+    {
+        Frac {
+            num: -self.num,
+            den: self.den,
+        }
+    }
+
+    /// One over this.
+    pub fn recip(self) -> Frac
+        requires { self ≢ int (pos 0) }
+        ensures { result ≡ inv_ℚ self }
+    {
+        Frac {
+            num: with_sign(self.num, 1, self.den),
+            den: self.num.unsigned_abs(),
+        }
+    }
+}
+
+/// The size with the sign of num / den.
+#[inline]
+pub(crate) fn with_sign(num: i128, den: i128, size: u128) -> i128
+    requires { size < 2 ^ 127 }
+    ensures { result ≡ with_sign num den size }
+{
+    if (num < 0) == (den < 0) {
+        size as i128
+    } else {
+        -(size as i128)
+    }
+}
+
+#[inline]
+fn are_same(a: i128, d: u128, b: i128, e: u128) -> bool
+    ensures { IsTrue result ↔ ((a ≡ b) × (d ≡ e)) }
+{
+    a == b && d == e
+}
+
+impl PartialEq for Frac {
+    ghost use Rattle.fraction128.specs.Order.{same_q, same_q_partial};
+
+    ghost eq = { same_q };
+
+    ghost laws = { same_q_partial };
+
+    fn eq(&self, other: &Frac) -> bool
+        ensures is { result ≡ same_q self.now other.now }
+        ensures same { IsTrue result ↔ (self.now ≡ other.now) }
+    {
+        are_same(self.num, self.den, other.num, other.den)
+    }
+}
+
+impl Eq for Frac {
+    ghost use Rattle.fraction128.specs.Order.{same_q_equivalence};
+
+    ghost laws = { same_q_equivalence };
+}
+
+impl PartialOrd for Frac {
+    ghost use Rattle.fraction128.specs.Order.{partial_cmp_q, partial_cmp_q_order};
+
+    ghost partial_cmp = { partial_cmp_q };
+
+    ghost laws = { partial_cmp_q_order };
+
+    fn partial_cmp(&self, other: &Frac) -> Option<Ordering> {
+        Some(self.cmp(other))
+    }
+}
+
+impl Ord for Frac {
+    ghost use Rattle.fraction128.specs.Order.{cmp_q_total};
+
+    ghost cmp = { cmp_q };
+
+    ghost total = { cmp_q_total };
+
+    ghost matches_partial_cmp = { λ x y. refl };
+
+    ghost matches_eq = { λ x y. refl };
+
+    /// The order of the two, by whole parts and reciprocals: nothing is multiplied.
+    fn cmp(&self, other: &Frac) -> Ordering
+        ensures is { result ≡ cmp_q self.now other.now }
+        ensures ranks { MatchOrdering result (self.now <ℚ other.now) (self.now ≡ other.now) (other.now <ℚ self.now) }
+    {
+        compare_signed(self.num, self.den, other.num, other.den)
+    }
+}

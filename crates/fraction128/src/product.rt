@@ -1,0 +1,54 @@
+//! Products of numbers and of fractions.
+
+ghost use Rattle.std.specs.Prelude.{◌≡◌, ◌<◌, ◌≤◌, ◌^◌, ◌*◌, ℤ, pos, ◌*ℤ◌, unsigned_abs, MatchOption};
+ghost use Rattle.rational.specs.Rational.{◌*ℚ◌};
+ghost use Rattle.rational.specs.Ratio.{ratio, IsSmall};
+ghost use Rattle.fraction128.specs.Parts.{AreLowest};
+
+use crate::division::{gcd_of, quotient};
+use crate::fraction::{Frac, LARGEST, with_sign};
+
+/// Two numbers below this have a product below 2^126.
+const SHORT: u128 = 1 << 63;
+
+/// The product, where it is at most 2^127 - 1.
+#[inline]
+pub(crate) fn product(a: u128, b: u128) -> Option<u128>
+    ensures { MatchOption result (2 ^ 127 ≤ a * b) (λ n. (n ≡ a * b) × (n < 2 ^ 127)) }
+{
+    if a < SHORT && b < SHORT {
+        return Some(a * b);
+    }
+    match a.checked_mul(b) {
+        Some(n) if n <= LARGEST => Some(n),
+        _ => None,
+    }
+}
+
+/// The product, where it is at least -2^127 and below 2^127.
+#[inline]
+pub(crate) fn signed_product(a: i128, b: u128) -> Option<i128>
+    requires { b < 2 ^ 127 }
+    ensures { MatchOption result (2 ^ 127 ≤ unsigned_abs (a *ℤ pos b)) (λ z. z ≡ a *ℤ pos b) }
+{
+    if a.unsigned_abs() < SHORT && b < SHORT {
+        return Some(a * b as i128);
+    }
+    a.checked_mul(b as i128)
+}
+
+/// (a / d) (b / e), of fractions in lowest terms. Each numerator is first divided by what it has in
+/// common with the other's denominator: then the products are in lowest terms.
+pub(crate) fn product_of(a: i128, d: u128, b: i128, e: u128) -> Option<Frac>
+    requires left { AreLowest a d }
+    requires right { AreLowest b e }
+    ensures { let exact = ratio a (pos d) *ℚ ratio b (pos e) in
+        MatchOption result (¬ (IsSmall exact)) (λ f. (f ≡ exact) × IsSmall exact) }
+{
+    let (left, right) = (a.unsigned_abs(), b.unsigned_abs());
+    let first = gcd_of(left, e);
+    let second = gcd_of(right, d);
+    let size = product(quotient(left, first), quotient(right, second))?;
+    let bottom = product(quotient(d, second), quotient(e, first))?;
+    Some(Frac::from_lowest(with_sign(a, b, size), bottom))
+}
