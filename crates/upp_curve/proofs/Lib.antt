@@ -24,3 +24,6 @@ pub mod Stands
 pub mod Copies
 pub mod CurveStands
 pub mod PieceCounts
+pub mod LongProducts
+pub mod LongCrosses
+pub mod Compared

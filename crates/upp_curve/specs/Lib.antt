@@ -19,3 +19,4 @@ pub mod Limits
 pub mod Sized
 pub mod Windows
 pub mod Gauges
+pub mod Long
