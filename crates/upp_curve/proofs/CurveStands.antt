@@ -23,16 +23,11 @@ use Rattle.upp_curve.specs.Limits.{Numbers, Sizes, sizes_of, curve_numbers, span
 use Rattle.upp_curve.specs.Sized.{IsValue, IsSlope, Stands, AreSizes, SpanStands, TailStands, CurveStands}
 use Rattle.upp_curve.proofs.Every.{every_flat_out, every_map_out, every_weaken}
 use Rattle.upp_curve.proofs.CommonDen.{common_den_pos, common_den_each, bound_pos}
-use Rattle.upp_curve.proofs.Copies.{whole_up_out, copies_out, copy_zero, copy_among}
+use Rattle.upp_curve.proofs.Copies.{copies_out, copy_zero, copy_among}
+use Rattle.upp_curve.proofs.Rounding.{whole_up_least}
 use Rattle.upp_curve.proofs.Stands.{sizes_stand, span_stands}
 
 -- ---- the sizes
-whole_up_least : (x : ℚ) → x ≤ℚ int (pos (whole_up x))
-whole_up_least x = elim (le_or_lt x (int (pos (whole_up x)))) [
-  | inl h ↦ h
-  | inr h ↦ let l = whole_up_out x (whole_up x) h in absurd (omega arith)
-]
-
 pub are_sizes : (end : ℚ) (n : Numbers) → AreSizes (sizes_of end n) end
 are_sizes end n =
     let z = sizes_of end n in

@@ -27,3 +27,4 @@ pub mod PieceCounts
 pub mod LongProducts
 pub mod LongCrosses
 pub mod Compared
+pub mod Rounding
