@@ -30,3 +30,7 @@ pub record IsLowerCut (a b : Line) (from : ℚ) (to : Ext) (cut : Cut) : Type 0 
   pub low : (cut.low ≡ a) ⊎ (cut.low ≡ b)
   pub after : (cut.after ≡ a) ⊎ (cut.after ≡ b)
   pub lower : CutsAt a b from to cut.low cut.at cut.after
+
+-- the same between any two times
+abbrev pub IsLowerThroughout : Line → Line → Cut → Type 0
+IsLowerThroughout a b cut = (from : ℚ) (to : Ext) → IsLowerCut a b from to cut

@@ -1,7 +1,16 @@
 //! The lower of two lines on an open interval.
 
-use crate::line::Line;
-use fraction128::Frac;
+ghost use Rattle.std.specs.Prelude.{◌≡◌, ◌↔◌, IfOk, IfErr, IsTrue};
+ghost use Rattle.rational.specs.Rational.{◌≤ℚ◌};
+ghost use Rattle.rational.specs.Extended.{◌<ₑ◌};
+ghost use Rattle.affine_segment.specs.Values.{line_at};
+ghost use Rattle.affine_segment.specs.Steps.{IsWideCross};
+ghost use Rattle.affine_segment.specs.Cuts.{IsLowerCut, IsLowerThroughout};
+
+use crate::line::{Line, cross};
+use fraction128::{Ext, Frac, Wide};
+use rational::Extended;
+use std::cmp::Ordering;
 
 /// The lower of two lines on an open interval: one of them up to a time, and the other after it.
 #[derive(Debug, Clone, Copy)]
@@ -12,4 +21,76 @@ pub struct Cut {
     pub at: Option<Frac>,
     /// The lower line at the end.
     pub after: Line,
+}
+
+/// The lower of two lines strictly between `from` and `to`. Refused only where a step of `cross` is.
+pub fn element_min(a: &Line, b: &Line, from: Frac, to: Ext) -> Result<Cut, Wide>
+    requires { Extended.Fin from <ₑ to }
+    ensures lower { IfOk result (IsLowerCut a.now b.now from to) }
+    ensures wide { IfErr result (IsWideCross a.now b.now) }
+{
+    match cross(a, b)? {
+        None => Ok(lower_parallel(*a, *b)),
+        Some(x) => match a.slope.cmp(&b.slope) {
+            Ordering::Less => Ok(lower_crossing(*b, *a, x, from, to)),
+            _ => Ok(lower_crossing(*a, *b, x, from, to)),
+        },
+    }
+}
+
+// One line throughout.
+fn uncut(line: Line) -> Cut
+    ensures { result ≡ record { low = line; at = None; after = line } }
+{
+    let after = line;
+    Cut {
+        low: line,
+        at: None,
+        after,
+    }
+}
+
+// The lower of two lines with one slope.
+fn lower_parallel(a: Line, b: Line) -> Cut
+    requires { a.slope ≡ b.slope }
+    ensures { IsLowerThroughout a b result }
+{
+    match a.icept.cmp(&b.icept) {
+        Ordering::Greater => uncut(b),
+        _ => uncut(a),
+    }
+}
+
+fn is_before(x: Frac, end: Ext) -> bool
+    ensures { IsTrue result ↔ (Extended.Fin x <ₑ end) }
+{
+    match end {
+        Extended::Inf => true,
+        Extended::Fin(e) => match x.cmp(&e) {
+            Ordering::Less => true,
+            _ => false,
+        },
+    }
+}
+
+// The lower of two lines that meet at x: the steeper before, and the other after.
+fn lower_crossing(steep: Line, shallow: Line, x: Frac, from: Frac, to: Ext) -> Cut
+    requires steep { shallow.slope ≤ℚ steep.slope }
+    requires meet { line_at steep x ≡ line_at shallow x }
+    ensures { IsLowerCut steep shallow from to result }
+{
+    match from.cmp(&x) {
+        Ordering::Less => {
+            if is_before(x, to) {
+                Cut {
+                    low: steep,
+                    at: Some(x),
+                    after: shallow,
+                }
+            } else {
+                uncut(steep)
+            }
+        }
+        _ => uncut(shallow),
+    }
 }

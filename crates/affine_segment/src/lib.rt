@@ -1,8 +1,9 @@
-//! Lines over fractions, their crossings, and the lower of two on an interval.
+//! Lines over fractions: their value at a time, where two of them meet, and the lower of two on an interval.
+//! Nothing here takes memory; a step that is too wide is named.
 #![tactic(auto)]
 
 mod cut;
 mod line;
 
-pub use cut::Cut;
-pub use line::{Line, Piece};
+pub use cut::{Cut, element_min};
+pub use line::{Line, Piece, cross, value};

@@ -1,21 +1,19 @@
 -- The vertical deviation of a bucket, b + r t, and a service R max (0, t - T) with one packet taken off.
-use Rattle.rational.proofs.MinMax.{max_q_ge_left, max_q_ge_right, max_q_le, max_q_left, max_q_right, le_q_not}
-use Rattle.std.specs.Prelude.{◌≡◌, pos, ◌⊎◌, cond}
-use Rattle.std.proofs.Common.{arith, sym, ap, ◌∙◌, refl, subst, inl, inr}
-use Rattle.rational.specs.Rational.{ℚ, ◌+ℚ◌, ◌-ℚ◌, ◌*ℚ◌, ◌/ℚ◌, ◌≤ℚ◌, ◌<ℚ◌, int, le_q}
+use Rattle.rational.proofs.MinMax.{max_q_ge_left, max_q_ge_right, max_q_right}
+use Rattle.std.specs.Prelude.{◌≡◌, pos}
+use Rattle.std.proofs.Common.{arith, sym, ap, ◌∙◌, subst, inl, inr}
+use Rattle.rational.specs.Rational.{ℚ, ◌+ℚ◌, ◌-ℚ◌, ◌*ℚ◌, ◌/ℚ◌, ◌≤ℚ◌, ◌<ℚ◌, int}
 use Rattle.rational.proofs.Linear.{with1, with2, with3, with4, with5, with6, with8}
-use Rattle.rational.proofs.Over.{le_q_out}
-use Rattle.rational.proofs.Laws.{mul_comm, mul_le_mul, mul_le_mul_right, mul_nonneg, mul_pos, mul_add, mul_sub, add_mul, sub_mul, mul_zero, div_mul, le_or_lt, le_of_lt, le_refl, half, half_is, half_pos}
+use Rattle.rational.proofs.Laws.{mul_comm, mul_le_mul, mul_le_mul_right, mul_nonneg, mul_add, mul_sub, div_mul, le_or_lt, le_of_lt, le_refl}
 use Rattle.rational.specs.Extended.{Ext, ◌≤ₑ◌, ◌<ₑ◌, ◌-ₑ◌}
 use Rattle.rational.specs.declared.Extended.TheVariants.{Fin, Inf}
 use Rattle.rational.specs.MinMax.{max_q}
-use Rattle.upp_curve.specs.Functions.{zero_q, Time, FiniteTime}
-use Rattle.upp_curve.specs.Pointwise.{excess}
-use Rattle.upp_curve.specs.Deviations.{IsVerticalDeviation, Lag, IsLag, IsHorizontalDeviation}
-use Rattle.rational.proofs.Bounds.{least_member, largest_member, unbounded}
-use Rattle.rational.proofs.Whole.{le_of_mul, lt_of_mul, not_zero}
+use Rattle.upp_curve.specs.Functions.{zero_q, FiniteTime}
+use Rattle.upp_curve.specs.Deviations.{IsVerticalDeviation}
+use Rattle.rational.proofs.Bounds.{largest_member, unbounded}
+use Rattle.rational.proofs.Whole.{not_zero}
 use Rattle.upp_curve.proofs.FiniteValues.{Fin_inj}
-use Rattle.upp_curve.proofs.KindValues.{IsBucket, IsService, IsPacketised, reach, burst_nonneg}
+use Rattle.upp_curve.proofs.KindValues.{IsBucket, IsPacketised, reach, burst_nonneg}
 
 -- when the packet is through: T + l / R
 abbrev pub turn : ℚ → ℚ → ℚ → ℚ

@@ -1,23 +1,17 @@
 -- The convolution of two buckets.
-use Rattle.std.specs.Prelude.{◌≡◌, ◌⊎◌}
-use Rattle.std.proofs.Common.{arith, sym, ap, ◌∙◌, refl, subst, inl, inr}
-use Rattle.rational.specs.Rational.{ℚ, ◌+ℚ◌, ◌-ℚ◌, ◌*ℚ◌, ◌/ℚ◌, ◌≤ℚ◌, ◌<ℚ◌, neg_ℚ}
-use Rattle.rational.proofs.Linear.{with1, with2, with3, with4, with5}
-use Rattle.rational.proofs.Over.{le_q_out}
-use Rattle.rational.proofs.Laws.{mul_comm, mul_zero, mul_add, mul_sub, mul_le_mul_right, le_or_lt, le_refl, antisym}
-use Rattle.rational.specs.declared.Extended.TheVariants.{Fin, Inf}
+use Rattle.std.specs.Prelude.{◌≡◌}
+use Rattle.std.proofs.Common.{arith, sym, ap, ◌∙◌, subst}
+use Rattle.rational.specs.Rational.{ℚ, ◌+ℚ◌, ◌*ℚ◌, ◌≤ℚ◌}
+use Rattle.rational.proofs.Linear.{with1, with4, with5}
+use Rattle.rational.proofs.Laws.{mul_zero, mul_add, mul_le_mul_right, le_refl}
+use Rattle.rational.specs.declared.Extended.TheVariants.{Fin}
 use Rattle.rational.specs.Extended.{◌≤ₑ◌, ◌+ₑ◌}
-use Rattle.rational.specs.MinMax.{max_q}
 use Rattle.upp_curve.specs.Curve.{value_at}
-use Rattle.upp_curve.specs.Reading.{read, piece_in, piece_value}
 use Rattle.upp_curve.specs.Functions.{zero_q}
-use Rattle.upp_curve.specs.Deviations.{IsHorizontalDeviation, IsVerticalDeviation}
-use Rattle.upp_curve.specs.Pointwise.{excess, packetised}
 use Rattle.upp_curve.specs.Convolution.{Split, IsConvolution}
-use Rattle.upp_curve.specs.Kinds.{piece, bucket, after_latency, rate_latency}
-use Rattle.rational.proofs.MinMax.{max_q_right, max_q_left, le_q_not}
+use Rattle.upp_curve.specs.Kinds.{bucket}
 use Rattle.rational.proofs.Bounds.{least_member}
-use Rattle.upp_curve.proofs.KindValues.{IsBucket, bucket_is}
+use Rattle.upp_curve.proofs.KindValues.{bucket_is}
 
 -- bursts add, and the lesser rate stays
 pub bucket_convolution : (b r c q t : ℚ) → r ≤ℚ q → zero_q ≤ℚ t

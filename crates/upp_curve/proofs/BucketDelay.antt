@@ -3,19 +3,17 @@ use Rattle.rational.proofs.MinMax.{max_q_ge_left, max_q_ge_right, max_q_le, max_
 use Rattle.std.specs.Prelude.{◌≡◌, pos, ◌⊎◌, cond}
 use Rattle.std.proofs.Common.{arith, sym, ap, ◌∙◌, refl, subst, inl, inr}
 use Rattle.rational.specs.Rational.{ℚ, ◌+ℚ◌, ◌-ℚ◌, ◌*ℚ◌, ◌/ℚ◌, ◌≤ℚ◌, ◌<ℚ◌, int, le_q}
-use Rattle.rational.proofs.Linear.{with1, with2, with3, with4, with5, with6, with8}
+use Rattle.rational.proofs.Linear.{with1, with2, with3, with4, with5, with6}
 use Rattle.rational.proofs.Over.{le_q_out}
-use Rattle.rational.proofs.Laws.{mul_comm, mul_le_mul, mul_le_mul_right, mul_nonneg, mul_pos, mul_add, mul_sub, add_mul, sub_mul, mul_zero, div_mul, le_or_lt, le_of_lt, le_refl, half, half_is, half_pos}
-use Rattle.rational.specs.Extended.{Ext, ◌≤ₑ◌, ◌<ₑ◌, ◌-ₑ◌}
+use Rattle.rational.proofs.Laws.{mul_comm, mul_le_mul_right, mul_nonneg, mul_pos, add_mul, mul_zero, div_mul, le_or_lt, le_of_lt, le_refl, half, half_is, half_pos}
+use Rattle.rational.specs.Extended.{Ext, ◌≤ₑ◌}
 use Rattle.rational.specs.declared.Extended.TheVariants.{Fin, Inf}
 use Rattle.rational.specs.MinMax.{max_q}
-use Rattle.upp_curve.specs.Functions.{zero_q, Time, FiniteTime}
-use Rattle.upp_curve.specs.Pointwise.{excess}
-use Rattle.upp_curve.specs.Deviations.{IsVerticalDeviation, Lag, IsLag, IsHorizontalDeviation}
-use Rattle.rational.proofs.Bounds.{least_member, largest_member, unbounded}
+use Rattle.upp_curve.specs.Functions.{zero_q, Time}
+use Rattle.upp_curve.specs.Deviations.{Lag, IsLag, IsHorizontalDeviation}
+use Rattle.rational.proofs.Bounds.{least_member, unbounded}
 use Rattle.rational.proofs.Whole.{le_of_mul, lt_of_mul, not_zero}
-use Rattle.upp_curve.proofs.FiniteValues.{Fin_inj}
-use Rattle.upp_curve.proofs.KindValues.{IsBucket, IsService, IsPacketised, reach, burst_nonneg}
+use Rattle.upp_curve.proofs.KindValues.{IsBucket, IsService, reach, burst_nonneg}
 
 -- what is above 0 and at most max(0, y) is at most y
 pub below_positive : (z y : ℚ) → zero_q <ℚ z → z ≤ℚ max_q zero_q y → z ≤ℚ y

@@ -1,24 +1,16 @@
 -- The deviations of a bucket and a rate after a latency, as curves.
-use Rattle.std.specs.Prelude.{◌≡◌, ◌⊎◌}
-use Rattle.std.proofs.Common.{arith, sym, ap, ◌∙◌, refl, subst, inl, inr}
-use Rattle.rational.specs.Rational.{ℚ, ◌+ℚ◌, ◌-ℚ◌, ◌*ℚ◌, ◌/ℚ◌, ◌≤ℚ◌, ◌<ℚ◌, neg_ℚ}
-use Rattle.rational.proofs.Linear.{with1, with2, with3, with4, with5}
-use Rattle.rational.proofs.Over.{le_q_out}
-use Rattle.rational.proofs.Laws.{le_of_lt, mul_comm, mul_zero, mul_add, mul_sub, mul_le_mul_right, le_or_lt, le_refl, antisym}
+use Rattle.std.specs.Prelude.{◌⊎◌}
+use Rattle.std.proofs.Common.{ap}
+use Rattle.rational.specs.Rational.{ℚ, ◌+ℚ◌, ◌*ℚ◌, ◌/ℚ◌, ◌≤ℚ◌, ◌<ℚ◌}
+use Rattle.rational.proofs.Laws.{le_of_lt}
 use Rattle.rational.specs.declared.Extended.TheVariants.{Fin, Inf}
-use Rattle.rational.specs.Extended.{◌≤ₑ◌, ◌+ₑ◌}
-use Rattle.rational.specs.MinMax.{max_q}
 use Rattle.upp_curve.specs.Curve.{value_at}
-use Rattle.upp_curve.specs.Reading.{read, piece_in, piece_value}
 use Rattle.upp_curve.specs.Functions.{zero_q}
 use Rattle.upp_curve.specs.Deviations.{IsHorizontalDeviation, IsVerticalDeviation}
 use Rattle.upp_curve.specs.Pointwise.{excess, packetised}
-use Rattle.upp_curve.specs.Convolution.{Split, IsConvolution}
-use Rattle.upp_curve.specs.Kinds.{piece, bucket, after_latency, rate_latency}
-use Rattle.rational.proofs.MinMax.{max_q_right, max_q_left, le_q_not}
-use Rattle.rational.proofs.Bounds.{least_member}
+use Rattle.upp_curve.specs.Kinds.{bucket, rate_latency}
 use Rattle.upp_curve.specs.BucketBounds.{BucketDeviations}
-use Rattle.upp_curve.proofs.KindValues.{IsBucket, IsService, IsPacketised, bucket_is, service_is}
+use Rattle.upp_curve.proofs.KindValues.{IsPacketised, bucket_is, service_is}
 use Rattle.upp_curve.proofs.BucketDelay.{horizontal_finite, horizontal_zero, horizontal_infinite}
 use Rattle.upp_curve.proofs.BucketBacklog.{vertical_finite, vertical_infinite}
 

@@ -1,22 +1,19 @@
 -- The values of the kinds of curve that are affine: a bucket, a rate after a latency, and that less one packet.
-use Rattle.rational.proofs.MinMax.{max_q_ge_left, max_q_ge_right, max_q_le, max_q_left, max_q_right, le_q_not}
-use Rattle.std.specs.Prelude.{◌≡◌, pos, ◌⊎◌, cond}
+use Rattle.rational.proofs.MinMax.{max_q_left, max_q_right, le_q_not}
+use Rattle.std.specs.Prelude.{◌≡◌}
 use Rattle.std.proofs.Common.{arith, sym, ap, ◌∙◌, refl, subst, inl, inr}
-use Rattle.rational.specs.Rational.{ℚ, ◌+ℚ◌, ◌-ℚ◌, ◌*ℚ◌, ◌/ℚ◌, ◌≤ℚ◌, ◌<ℚ◌, int, le_q, neg_ℚ}
-use Rattle.rational.proofs.Linear.{with1, with2, with3, with4, with5, with6, with8}
+use Rattle.rational.specs.Rational.{ℚ, ◌+ℚ◌, ◌-ℚ◌, ◌*ℚ◌, ◌/ℚ◌, ◌≤ℚ◌, ◌<ℚ◌, neg_ℚ}
+use Rattle.rational.proofs.Linear.{with1, with2, with3, with4}
 use Rattle.rational.proofs.Over.{le_q_out}
-use Rattle.rational.proofs.Laws.{mul_comm, mul_le_mul, mul_le_mul_right, mul_nonneg, mul_pos, mul_add, mul_sub, add_mul, sub_mul, mul_zero, div_mul, le_or_lt, le_of_lt, le_refl, half, half_is, half_pos, antisym}
-use Rattle.rational.specs.Extended.{Ext, ◌≤ₑ◌, ◌<ₑ◌, ◌-ₑ◌, ◌+ₑ◌}
-use Rattle.rational.specs.declared.Extended.TheVariants.{Fin, Inf}
+use Rattle.rational.proofs.Laws.{mul_comm, mul_sub, sub_mul, mul_zero, div_mul, le_or_lt, antisym}
+use Rattle.rational.specs.Extended.{Ext}
+use Rattle.rational.specs.declared.Extended.TheVariants.{Fin}
 use Rattle.rational.specs.MinMax.{max_q}
-use Rattle.upp_curve.specs.Functions.{zero_q, Time, FiniteTime}
-use Rattle.upp_curve.specs.Pointwise.{excess, packetised}
-use Rattle.upp_curve.specs.Deviations.{IsVerticalDeviation, Lag, IsLag, IsHorizontalDeviation}
-use Rattle.rational.proofs.Bounds.{least_member, largest_member, unbounded}
+use Rattle.upp_curve.specs.Functions.{zero_q}
+use Rattle.upp_curve.specs.Pointwise.{excess}
 use Rattle.rational.proofs.Whole.{le_of_mul, lt_of_mul, not_zero}
 use Rattle.upp_curve.specs.Curve.{value_at}
 use Rattle.upp_curve.specs.Reading.{read, piece_in, piece_value}
-use Rattle.upp_curve.specs.Convolution.{Split, IsConvolution}
 use Rattle.upp_curve.specs.Kinds.{piece, bucket, after_latency, rate_latency, bucket_value, rate_latency_value}
 
 -- ---- a bucket and a service
@@ -30,7 +27,7 @@ pub record IsPacketised (R T l : ℚ) (p : ℚ → Ext) : Type 0 where
   pub is : (t : ℚ) → zero_q ≤ℚ t → p t ≡ excess (rate_latency_value R T t) (Fin l)
 
 -- a piece whose value is its line's reads as its line from its start on
-on_line : (x v k r t : ℚ) → v ≡ k +ℚ r *ℚ x → x ≤ℚ t → piece_value (piece x v k r) t ≡ Fin (k +ℚ r *ℚ t)
+pub on_line : (x v k r t : ℚ) → v ≡ k +ℚ r *ℚ x → x ≤ℚ t → piece_value (piece x v k r) t ≡ Fin (k +ℚ r *ℚ t)
 unfolding piece_value
 on_line x v k r t e h = elim (le_or_lt t x) [
   | inl l ↦

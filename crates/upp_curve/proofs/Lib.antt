@@ -28,3 +28,4 @@ pub mod LongProducts
 pub mod LongCrosses
 pub mod Compared
 pub mod Rounding
+pub mod WorkedRunning

@@ -1,13 +1,12 @@
 -- Two lists of pieces without needless pieces, which read alike below a time, are one below it.
-use Rattle.rational.proofs.MinMax.{below_min_in, below_min_out, le_q_not, lt_q_not, min_q_left, min_q_right}
-use Rattle.std.specs.Prelude.{◌≡◌, pos, Bool, true, false, List, [], ◌∷◌, Option, Some, None}
-use Rattle.std.proofs.Common.{arith, sym, ap, ap₂, ◌∙◌, refl, subst, inl, inr, true≢false}
+use Rattle.rational.proofs.MinMax.{below_min_in, below_min_out, le_q_not, lt_q_not}
+use Rattle.std.specs.Prelude.{◌≡◌, pos, List, [], ◌∷◌, Option, Some, None}
+use Rattle.std.proofs.Common.{arith, sym, ap, ap₂, ◌∙◌, refl, subst, inl, inr}
 use Rattle.rational.specs.Rational.{ℚ, ◌+ℚ◌, ◌-ℚ◌, ◌*ℚ◌, ◌≤ℚ◌, ◌<ℚ◌, int}
 use Rattle.rational.proofs.Linear.{with2, with3, with4, with6}
 use Rattle.rational.proofs.Over.{le_q_out, lt_q_out}
-use Rattle.rational.proofs.Laws.{antisym, le_trans, le_lt_trans, lt_le_trans, le_or_lt, le_of_lt, le_refl, mul_sub, mul_cancel, between}
+use Rattle.rational.proofs.Laws.{antisym, le_trans, le_lt_trans, le_or_lt, le_of_lt, le_refl, mul_sub, mul_cancel, between}
 use Rattle.rational.specs.Extended.{Ext}
-use Rattle.rational.specs.declared.Extended.TheVariants.{Fin, Inf}
 use Rattle.affine_segment.specs.declared.line.Line.{Line}
 use Rattle.affine_segment.specs.declared.line.Piece.{Piece}
 use Rattle.rational.specs.MinMax.{min_q}

@@ -1,20 +1,18 @@
 -- Values worked out by hand, as checks of the definitions: each by computation.
-use Rattle.std.specs.Prelude.{◌≡◌, ℕ, pos, length}
+use Rattle.std.specs.Prelude.{◌≡◌, ℕ, pos}
 use Rattle.std.proofs.Common.{ap, refl}
 use Rattle.rational.specs.Gcd.{gcd, gcd_steps}
-use Rattle.rational.specs.Rational.{ℚ, ◌+ℚ◌, ◌-ℚ◌, ◌*ℚ◌, ◌/ℚ◌, neg_ℚ, inv_ℚ, int, frac, same_parts, le_q, lt_q}
+use Rattle.rational.specs.Rational.{◌+ℚ◌, ◌-ℚ◌, ◌*ℚ◌, ◌/ℚ◌, neg_ℚ, inv_ℚ, frac, same_parts, le_q, lt_q}
 use Rattle.rational.specs.MinMax.{min_q, max_q}
 use Rattle.rational.specs.Whole.{whole_part, periods}
 use Rattle.rational.specs.declared.Extended.TheVariants.{Fin}
 use Rattle.upp_curve.specs.Reading.{read, piece_in, piece_value}
-use Rattle.upp_curve.specs.Curve.{SpecCurve, value_at, repeated}
+use Rattle.upp_curve.specs.Curve.{value_at, repeated}
 use Rattle.upp_curve.specs.Unrolled.{count, unroll, copies, each_later, upto, from}
-use Rattle.upp_curve.specs.Pointwise.{IsMinimum, IsMaximum, IsSum, IsPositiveDifference}
-use Rattle.upp_curve.specs.Kinds.{stair, gate, bucket, rate_latency, stair_value, gate_value}
 use Rattle.upp_curve.specs.WorkedRows.{whole, StairRows, GateRows, BucketRows, RateLatencyRows, MinimumRows}
 
 -- what a proof by computation opens
-pub computing : ℕ
+unfoldable pub computing : ℕ
 unfolding value_at read piece_in piece_value repeated periods whole_part ◌+ℚ◌ ◌-ℚ◌ ◌*ℚ◌ ◌/ℚ◌ neg_ℚ inv_ℚ frac gcd gcd_steps le_q lt_q min_q max_q count unroll copies each_later upto from
 computing = 0
 
@@ -71,3 +69,20 @@ minimum_rows = record {
   less_3 = ap Fin (same_parts _ _ refl refl);
   none_1 = ap Fin (same_parts _ _ refl refl);
 }
+
+-- sums and products of whole numbers
+pub half_twice : whole 2 *ℚ frac (pos 1) 1 ≡ whole 1
+unfolding computing
+half_twice = same_parts _ _ refl refl
+
+pub latencies : whole 130 +ℚ whole 10 ≡ whole 140
+unfolding computing
+latencies = same_parts _ _ refl refl
+
+pub bursts : whole 12000 +ℚ whole 10 *ℚ whole 130 ≡ whole 13300
+unfolding computing
+bursts = same_parts _ _ refl refl
+
+pub both_bursts : whole 3 +ℚ whole 5 ≡ whole 8
+unfolding computing
+both_bursts = same_parts _ _ refl refl

@@ -1,18 +1,25 @@
--- Operators worked out for the affine kinds, as checks of the definitions.
-use Rattle.std.specs.Prelude.{◌≡◌, List, [], ◌∷◌}
-use Rattle.std.proofs.Common.{arith, sym, ap, ◌∙◌, subst, inl, inr}
-use Rattle.rational.specs.Rational.{ℚ, ◌+ℚ◌, ◌-ℚ◌, ◌*ℚ◌, ◌≤ℚ◌, ◌<ℚ◌}
-use Rattle.rational.proofs.Linear.{with1, with2, with3, with5, with8}
-use Rattle.rational.proofs.Laws.{le_refl, le_or_lt, le_of_lt, mul_add, mul_sub, mul_zero, mul_nonneg, mul_le_mul, mul_le_mul_right}
+-- Operators worked out for the kinds of curve that are affine, as checks of the definitions.
+use Rattle.std.specs.Prelude.{◌≡◌, ℕ, zero, suc, pos, List, [], ◌∷◌}
+use Rattle.std.proofs.Common.{arith, sym, ap, ◌∙◌, subst, inl, inr, refl}
+use Rattle.rational.specs.Rational.{ℚ, ◌+ℚ◌, ◌-ℚ◌, ◌*ℚ◌, ◌≤ℚ◌, ◌<ℚ◌, ◌/ℚ◌, int, same_parts}
+use Rattle.rational.proofs.Linear.{with1, with2, with3, with5, with8, with4}
+use Rattle.rational.proofs.Laws.{le_refl, le_or_lt, le_of_lt, mul_add, mul_sub, mul_zero, mul_nonneg, mul_le_mul, mul_le_mul_right, antisym, mul_comm, div_mul}
 use Rattle.rational.specs.Extended.{Ext, ◌≤ₑ◌, ◌+ₑ◌, ◌-ₑ◌}
 use Rattle.rational.specs.declared.Extended.TheVariants.{Fin, Inf}
 use Rattle.rational.specs.MinMax.{max_q}
 use Rattle.upp_curve.specs.Functions.{zero_q, UpTo, From, FiniteTime}
-use Rattle.upp_curve.specs.Convolution.{Parts, AllNonneg, sum_of, sum_at, IsDeconvolution, IsSubadditiveClosure}
+use Rattle.upp_curve.specs.Convolution.{Parts, AllNonneg, sum_of, sum_at, IsDeconvolution, IsSubadditiveClosure, Split, IsConvolution, IsSubadditive}
 use Rattle.upp_curve.specs.Running.{IsRunningSupremum, IsRunningInfimum}
-use Rattle.rational.proofs.MinMax.{max_q_right, max_q_ge_left, max_q_ge_right}
+use Rattle.rational.proofs.MinMax.{max_q_right, max_q_ge_left, max_q_ge_right, max_q_le}
 use Rattle.rational.proofs.Bounds.{least_member, largest_member}
-use Rattle.upp_curve.proofs.KindValues.{IsBucket, IsService}
+use Rattle.upp_curve.specs.WorkedRows.{whole, ConvolutionRows}
+use Rattle.upp_curve.specs.Kinds.{bucket, rate_latency, bucket_value, rate_latency_value}
+use Rattle.upp_curve.specs.Curve.{value_at}
+use Rattle.rational.proofs.Whole.{one_more_q, one_more_times, le_of_mul, not_zero, nat_nonneg}
+use Rattle.upp_curve.proofs.Rules.{enough}
+use Rattle.upp_curve.proofs.KindValues.{bucket_is, service_is, IsBucket, IsService}
+use Rattle.upp_curve.proofs.BucketConvolution.{bucket_convolution}
+use Rattle.upp_curve.proofs.Worked.{computing, latencies, bursts, both_bursts}
 use Rattle.upp_curve.proofs.FiniteValues.{Fin_inj}
 
 -- a function that does not fall is its own running supremum and infimum
@@ -98,3 +105,164 @@ bucket_closure b r t f hb start F =
         last (Fin v) x s e k =
             let w : r *ℚ t ≡ r *ℚ x +ℚ r *ℚ s = ap (λ z. r *ℚ z) (sym e) ∙ mul_add r x s in
             with5 b v (r *ℚ x) (r *ℚ s) (r *ℚ t) (λ c. omega (arith, c.le, c.lt, c.same))
+
+-- ---- two services in a row: the latencies add
+pub service_convolution : (R S T t : ℚ) (f g : ℚ → Ext) → zero_q ≤ℚ R → zero_q ≤ℚ S → zero_q ≤ℚ T → zero_q ≤ℚ t → IsService R S f → IsService R T g
+    → IsConvolution f g t (rate_latency_value R (S +ℚ T) t)
+service_convolution R S T t f g hR hS hT start F G = elim (le_or_lt t S) [
+  | inl l ↦
+      let a : max_q zero_q (t -ℚ S) ≡ zero_q = none t S l in
+      let b : max_q zero_q (zero_q -ℚ T) ≡ zero_q = none zero_q T hT in
+      let c : max_q zero_q (t -ℚ (S +ℚ T)) ≡ zero_q = none t (S +ℚ T) (with3 t S T (λ c. omega (arith, c.le, c.lt, c.same))) in
+      by_split t zero_q start (le_refl zero_q) (with1 t (λ c. omega (arith, c.le, c.lt, c.same))) (rw (a, b, c) (with1 zero_q (λ c. omega (arith, c.le, c.lt, c.same))))
+  | inr l ↦
+      let a : max_q zero_q (S -ℚ S) ≡ zero_q = none S S (le_refl S) in
+      let b : (t -ℚ S) -ℚ T ≡ t -ℚ (S +ℚ T) = with3 t S T (λ c. omega (arith, c.le, c.lt, c.same)) in
+      by_split S (t -ℚ S) hS (with2 t S (λ c. omega (arith, c.le, c.lt, c.same))) (with2 t S (λ c. omega (arith, c.le, c.lt, c.same)))
+      (rw (a, b) (with1 (max_q zero_q (t -ℚ (S +ℚ T))) (λ c. omega (arith, c.le, c.lt, c.same))))
+]
+  where
+    none : (s S : ℚ) → s ≤ℚ S → max_q zero_q (s -ℚ S) ≡ zero_q
+    none s S l = antisym (max_q_le zero_q (s -ℚ S) zero_q (le_refl zero_q) (with2 s S (λ c. omega (arith, c.le, c.lt, c.same))), max_q_ge_left zero_q (s -ℚ S))
+
+    value : (s u : ℚ) → zero_q ≤ℚ s → zero_q ≤ℚ u → f s +ₑ g u ≡ Fin (R *ℚ (max_q zero_q (s -ℚ S) +ℚ max_q zero_q (u -ℚ T)))
+    value s u p q = rw (F.is s p, G.is u q) (ap Fin (sym (mul_add R (max_q zero_q (s -ℚ S)) (max_q zero_q (u -ℚ T)))))
+
+    least : (s u : ℚ) → s +ℚ u ≡ t → max_q zero_q (t -ℚ (S +ℚ T)) ≤ℚ max_q zero_q (s -ℚ S) +ℚ max_q zero_q (u -ℚ T)
+    least s u e =
+        let a = max_q zero_q (s -ℚ S) in
+        let b = max_q zero_q (u -ℚ T) in
+        under a b (max_q_ge_left zero_q (s -ℚ S)) (max_q_ge_right zero_q (s -ℚ S)) (max_q_ge_left zero_q (u -ℚ T)) (max_q_ge_right zero_q (u -ℚ T))
+      where
+        under : (a b : ℚ) → zero_q ≤ℚ a → s -ℚ S ≤ℚ a → zero_q ≤ℚ b → u -ℚ T ≤ℚ b → max_q zero_q (t -ℚ (S +ℚ T)) ≤ℚ a +ℚ b
+        under a b a0 a1 b0 b1 =
+            max_q_le zero_q (t -ℚ (S +ℚ T)) (a +ℚ b) (with2 a b (λ c. omega (arith, c.le, c.lt, c.same)))
+            (with8 a b s u t S T zero_q (λ c. omega (arith, c.le, c.lt, c.same)))
+
+    by_split : (s u : ℚ) → zero_q ≤ℚ s → zero_q ≤ℚ u → s +ℚ u ≡ t → max_q zero_q (s -ℚ S) +ℚ max_q zero_q (u -ℚ T) ≡ max_q zero_q (t -ℚ (S +ℚ T))
+        → IsConvolution f g t (rate_latency_value R (S +ℚ T) t)
+    by_split s u p q e v =
+        let at : f s +ₑ g u ≡ rate_latency_value R (S +ℚ T) t = value s u p q ∙ ap (λ x. Fin (R *ℚ x)) v in
+        subst (λ z. IsConvolution f g t z) at
+        (least_member {I = Split t} (λ k. f k.first +ₑ g k.second) record { first = s; second = u; first_nonneg = p; second_nonneg = q; whole = e }
+        (λ k. rw (at, value k.first k.second k.first_nonneg k.second_nonneg) (mul_le_mul R hR (least k.first k.second k.whole))))
+
+-- ---- a service after a latency closes to nothing: in parts short enough nothing is done
+pub service_closure : (R T t : ℚ) (f : ℚ → Ext) → zero_q ≤ℚ R → zero_q <ℚ T → zero_q ≤ℚ t → IsService R T f → IsSubadditiveClosure f t (Fin zero_q)
+service_closure R T t f hR hT start F = let (n, far) = enough zero_q t T hT in by_parts n far
+  where
+    nothing : (s : ℚ) → zero_q ≤ℚ s → s ≤ℚ T → f s ≡ Fin zero_q
+    nothing s p l =
+        let e : max_q zero_q (s -ℚ T) ≡ zero_q =
+        antisym (max_q_le zero_q (s -ℚ T) zero_q (le_refl zero_q) (with2 s T (λ c. omega (arith, c.le, c.lt, c.same))), max_q_ge_left zero_q (s -ℚ T)) in
+        F.is s p ∙ ap Fin (ap (λ x. R *ℚ x) e ∙ mul_zero R)
+
+    some : (s : ℚ) → zero_q ≤ℚ s → Fin zero_q ≤ₑ f s
+    some s p = rw (F.is s p) (mul_nonneg hR (max_q_ge_left zero_q (s -ℚ T)))
+
+    all_some : (xs : List ℚ) → AllNonneg xs → Fin zero_q ≤ₑ sum_at f xs
+    all_some [] h = le_refl zero_q
+    all_some (x ∷ xs) h = both (f x) (sum_at f xs) (some x h.0) (all_some xs h.1)
+      where
+        both : (v w : Ext) → Fin zero_q ≤ₑ v → Fin zero_q ≤ₑ w → Fin zero_q ≤ₑ v +ₑ w
+        both Inf w h k = tt
+        both (Fin v) Inf h k = tt
+        both (Fin v) (Fin w) h k = with2 v w (λ c. omega (arith, c.le, c.lt, c.same))
+
+    again : ℕ → ℚ → List ℚ
+    again zero x = []
+    again (suc n) x = x ∷ again n x
+
+    again_nonneg : (n : ℕ) (x : ℚ) → zero_q ≤ℚ x → AllNonneg (again n x)
+    again_nonneg zero x h = tt
+    again_nonneg (suc n) x h = (h, again_nonneg n x h)
+
+    again_sum : (n : ℕ) (x : ℚ) → sum_of (again n x) ≡ int (pos n) *ℚ x
+    again_sum zero x = with1 x (λ c. omega (arith, c.le, c.lt, c.same))
+    again_sum (suc n) x =
+        let o = one_more_times n x in
+        ap (λ s. x +ℚ s) (again_sum n x) ∙ with3 x (int (pos n) *ℚ x) (int (pos (suc n)) *ℚ x) (λ c. omega (arith, c.le, c.lt, c.same))
+
+    again_nothing : (n : ℕ) (x : ℚ) → f x ≡ Fin zero_q → sum_at f (again n x) ≡ Fin zero_q
+    again_nothing zero x e = refl
+    again_nothing (suc n) x e = rw (e, again_nothing n x e) (ap Fin (with1 zero_q (λ c. omega (arith, c.le, c.lt, c.same))))
+
+    by_part : (n : ℕ) (x : ℚ) → zero_q ≤ℚ x → x ≤ℚ T → int (pos (suc n)) *ℚ x ≡ t → IsSubadditiveClosure f t (Fin zero_q)
+    by_part n x p l e =
+        let none = again_nothing (suc n) x (nothing x p l) in
+        subst (λ v. IsSubadditiveClosure f t v) none
+        (least_member {I = Parts t} (λ p. sum_at f (p.first ∷ p.others))
+        record { first = x; others = again n x; nonneg = again_nonneg (suc n) x p; whole = again_sum (suc n) x ∙ e }
+        (λ q. rw none (all_some (q.first ∷ q.others) q.nonneg)))
+
+    by_parts : (n : ℕ) → t ≤ℚ zero_q +ℚ int (pos n) *ℚ T → IsSubadditiveClosure f t (Fin zero_q)
+    by_parts n far =
+        let k = int (pos (suc n)) in
+        let m = one_more_q n in
+        let low = nat_nonneg n in
+        let k_pos : zero_q <ℚ k = with2 k (int (pos n)) (λ c. omega (arith, c.le, c.lt, c.same)) in
+        let x = t /ℚ k in
+        let e : x *ℚ k ≡ t = div_mul t k (not_zero k k_pos) in
+        let z : zero_q *ℚ k ≡ zero_q = mul_comm zero_q k ∙ mul_zero k in
+        let o = one_more_times n T in
+        let w = mul_comm T k in
+        let more : t ≤ℚ T *ℚ k = with5 t T (int (pos n) *ℚ T) (k *ℚ T) (T *ℚ k) (λ c. omega (arith, c.le, c.lt, c.same)) in
+        by_part n x (le_of_mul k zero_q x k_pos (rw (z, e) start)) (le_of_mul k x T k_pos (rw e more)) (mul_comm k x ∙ e)
+
+-- ---- a bucket is subadditive, and a service after a latency is not
+bucket_subadditive : (b r : ℚ) (f : ℚ → Ext) → zero_q ≤ℚ b → IsBucket b r f → IsSubadditive f
+bucket_subadditive b r f hb F s u p q =
+    let e = mul_add r s u in
+    rw (F.is (s +ℚ u) (with2 s u (λ c. omega (arith, c.le, c.lt, c.same))), F.is s p, F.is u q)
+    (with4 b (r *ℚ s) (r *ℚ u) (r *ℚ (s +ℚ u)) (λ c. omega (arith, c.le, c.lt, c.same)))
+
+two : value_at (rate_latency (whole 1) (whole 1)) (whole 1 +ℚ whole 1) ≡ Fin (whole 1)
+unfolding computing
+two = ap Fin (same_parts _ _ refl refl)
+
+one : value_at (rate_latency (whole 1) (whole 1)) (whole 1) ≡ Fin (whole 0)
+unfolding computing
+one = ap Fin (same_parts _ _ refl refl)
+
+pub convolution_rows : ConvolutionRows
+convolution_rows = record {
+  services = λ t h.
+      subst (λ v. IsConvolution (value_at (rate_latency (whole 100) (whole 130))) (value_at (rate_latency (whole 100) (whole 10))) t v)
+      (ap (λ T. rate_latency_value (whole 100) T t) latencies ∙ sym ((late 100 140).is t h))
+      (service_convolution (whole 100) (whole 130) (whole 10) t _ _ (nonneg 100) (nonneg 130) (nonneg 10) h (late 100 130) (late 100 10));
+  buckets = λ t h.
+      subst (λ v. IsConvolution (value_at (bucket (whole 3) (whole 2))) (value_at (bucket (whole 5) (whole 4))) t v)
+      (ap (λ b. bucket_value b (whole 2) t) both_bursts ∙ sym ((bucket_is (whole 8) (whole 2)).is t h))
+      (bucket_convolution (whole 3) (whole 2) (whole 5) (whole 4) t (with1 (whole 2) (λ c. omega (arith, c.le, c.lt, c.same))) h);
+  output = λ t h.
+      let x = mul_add (whole 10) t (whole 130) in
+      let y = bursts in
+      subst (λ v. IsDeconvolution (value_at (bucket (whole 12000) (whole 10))) (value_at (rate_latency (whole 100) (whole 130))) t v)
+      (ap Fin (shuffle (whole 12000) (whole 13300) (whole 10 *ℚ t) (whole 10 *ℚ whole 130) (whole 10 *ℚ (t +ℚ whole 130)) x y) ∙ sym ((bucket_is (whole 13300) (whole 10)).is t h))
+      (bucket_deconvolution (whole 12000) (whole 10) (whole 100) (whole 130) t _ _ (nonneg 10) (with1 (whole 100) (λ c. omega (arith, c.le, c.lt, c.same))) (nonneg 130)
+      (with1 (whole 10) (λ c. omega (arith, c.le, c.lt, c.same))) h (bucket_is (whole 12000) (whole 10)) (late 100 130));
+  closed = λ t h.
+      subst (λ v. IsSubadditiveClosure (value_at (bucket (whole 3) (whole 2))) t v) (sym ((bucket_is (whole 3) (whole 2)).is t h))
+      (bucket_closure (whole 3) (whole 2) t _ (nonneg 3) h (bucket_is (whole 3) (whole 2)));
+  closed_to_none = λ t h.
+      subst (λ v. IsSubadditiveClosure (value_at (rate_latency (whole 1) (whole 1))) t v)
+      (ap Fin (with1 t (λ c. omega (arith, c.le, c.lt, c.same))) ∙ sym ((bucket_is (whole 0) (whole 0)).is t h))
+      (service_closure (whole 1) (whole 1) t _ (nonneg 1) (with1 (whole 1) (λ c. omega (arith, c.le, c.lt, c.same))) h (late 1 1));
+  subadditive = bucket_subadditive (whole 3) (whole 2) _ (nonneg 3) (bucket_is (whole 3) (whole 2));
+  not_subadditive = λ all. at_two (all (whole 1) (whole 1) (nonneg 1) (nonneg 1));
+}
+  where
+    nonneg : (n : ℕ) → zero_q ≤ℚ whole n
+    nonneg n = nat_nonneg n
+
+    late : (R T : ℕ) → IsService (whole R) (whole T) (value_at (rate_latency (whole R) (whole T)))
+    late R T = service_is (whole R) (whole T) (nonneg R) (nonneg T)
+
+    shuffle : (b c x y z : ℚ) → z ≡ x +ℚ y → b +ℚ y ≡ c → b +ℚ z ≡ c +ℚ x
+    shuffle b c x y z e f = with5 b c x y z (λ c. omega (arith, c.le, c.lt, c.same))
+
+    at_two : ¬ (value_at (rate_latency (whole 1) (whole 1)) (whole 1 +ℚ whole 1)
+        ≤ₑ value_at (rate_latency (whole 1) (whole 1)) (whole 1) +ₑ value_at (rate_latency (whole 1) (whole 1)) (whole 1))
+    at_two h =
+        let k : whole 1 ≤ℚ whole 0 +ℚ whole 0 = rw (two, one) at h in
+        with1 (whole 1) (λ c. omega (arith, c.le, c.lt, c.same))

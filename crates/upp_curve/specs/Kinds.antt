@@ -1,6 +1,6 @@
 -- The four kinds of curve that a formula gives, each by its value at a time from 0 on and as a curve in normal form.
 -- (Le Boudec and Thiran: token bucket, stair and rate-latency functions. The gate is our own.)
-use Rattle.std.specs.Prelude.{pos, suc, [], ◌∷◌, Some, cond, ◌||◌, Bool}
+use Rattle.std.specs.Prelude.{pos, suc, [], ◌∷◌, Some, cond, ◌||◌}
 use Rattle.rational.specs.Rational.{ℚ, ◌+ℚ◌, ◌-ℚ◌, ◌*ℚ◌, ◌/ℚ◌, int, le_q, neg_ℚ}
 use Rattle.rational.specs.MinMax.{max_q}
 use Rattle.rational.specs.Whole.{whole_part}

@@ -1,7 +1,7 @@
 -- Values that were worked out by hand from the words of the definitions.
 use Rattle.std.specs.Prelude.{◌≡◌, ℕ, pos, [], ◌∷◌, length}
 use Rattle.rational.specs.Rational.{ℚ, ◌≤ℚ◌, int, frac}
-use Rattle.rational.specs.declared.Extended.TheVariants.{Fin, Inf}
+use Rattle.rational.specs.declared.Extended.TheVariants.{Fin}
 use Rattle.upp_curve.specs.declared.curve.Tail.TheVariants.{Affine}
 use Rattle.upp_curve.specs.Curve.{SpecCurve, value_at}
 use Rattle.upp_curve.specs.Unrolled.{count, unroll}

@@ -3,6 +3,7 @@
 ghost use Rattle.upp_curve.specs.Normal.{NormalFormIsUnique};
 ghost use Rattle.upp_curve.specs.Deviations.{DeviationsAreUnique};
 ghost use Rattle.upp_curve.specs.BucketBounds.{BucketDeviations};
+ghost use Rattle.upp_curve.specs.WorkedRows.{StairRows, GateRows, BucketRows, RateLatencyRows, MinimumRows, RunningRows, ConvolutionRows};
 
 /// Two curves in normal form with one value at each time are one.
 pub fn normal_form_is_unique()
@@ -17,4 +18,19 @@ pub fn deviations_are_unique()
 /// The delay and the backlog of a token bucket at a rate after a latency, by their formulas.
 pub fn bucket_deviations()
     ensures { BucketDeviations }
+{}
+
+/// Values of the kinds of curve that were worked out by hand.
+pub fn worked_kinds()
+    ensures stair { StairRows }
+    ensures gate { GateRows }
+    ensures bucket { BucketRows }
+    ensures rate_latency { RateLatencyRows }
+{}
+
+/// Answers of the operators that were worked out by hand.
+pub fn worked_operators()
+    ensures minimum { MinimumRows }
+    ensures running { RunningRows }
+    ensures convolution { ConvolutionRows }
 {}

@@ -9,6 +9,8 @@ mod op_kind;
 mod starts;
 
 pub use curve::{Curve, Tail};
-pub use laws::{bucket_deviations, deviations_are_unique, normal_form_is_unique};
+pub use laws::{
+    bucket_deviations, deviations_are_unique, normal_form_is_unique, worked_kinds, worked_operators,
+};
 pub use op_kind::{OpFault, OpKind, Window};
 pub use starts::{is_after, is_before};
