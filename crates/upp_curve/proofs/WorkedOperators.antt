@@ -15,7 +15,8 @@ use Rattle.rational.proofs.Bounds.{least_member, largest_member}
 use Rattle.upp_curve.specs.WorkedRows.{whole, ConvolutionRows}
 use Rattle.upp_curve.specs.Kinds.{bucket, rate_latency, bucket_value, rate_latency_value}
 use Rattle.upp_curve.specs.Curve.{value_at}
-use Rattle.rational.proofs.Whole.{one_more_q, one_more_times, le_of_mul, not_zero, nat_nonneg}
+use Rattle.rational.proofs.Integers.{nat_next}
+use Rattle.rational.proofs.Whole.{one_more_times, le_of_mul, not_zero, nat_nonneg}
 use Rattle.upp_curve.proofs.Rules.{enough}
 use Rattle.upp_curve.proofs.KindValues.{bucket_is, service_is, IsBucket, IsService}
 use Rattle.upp_curve.proofs.BucketConvolution.{bucket_convolution}
@@ -198,7 +199,7 @@ service_closure R T t f hR hT start F = let (n, far) = enough zero_q t T hT in b
     by_parts : (n : ℕ) → t ≤ℚ zero_q +ℚ int (pos n) *ℚ T → IsSubadditiveClosure f t (Fin zero_q)
     by_parts n far =
         let k = int (pos (suc n)) in
-        let m = one_more_q n in
+        let m = nat_next n in
         let low = nat_nonneg n in
         let k_pos : zero_q <ℚ k = with2 k (int (pos n)) (λ c. omega (arith, c.le, c.lt, c.same)) in
         let x = t /ℚ k in
