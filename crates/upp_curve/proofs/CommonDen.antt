@@ -84,7 +84,7 @@ up_least n d m h =
         le_or : (q m : ℕ) → (q ≤ m) ⊎ (suc m ≤ q)
         le_or q m = elim (cases_lt m q) [ inl h ↦ inr (omega arith) | inr h ↦ inl h ]
 
-within_parts : (n : ℕ) (a : ℤ) (d : ℕ) → nat_abs a ≤ n * suc d → Within (int (pos n)) (frac a d)
+pub within_parts : (n : ℕ) (a : ℤ) (d : ℕ) → nat_abs a ≤ n * suc d → Within (int (pos n)) (frac a d)
 within_parts n a d h = record {
   low = subst (λ v. v ≤ℚ frac a d) (sym (neg_over (pos n) 0)) ((le_frac (neg_ℤ (pos n)) 0 a d).1 (rw (neg_mul_z (pos n) (pos (suc d))) (low n a d h)));
   high = (le_frac a d (pos n) 0).1 (high n a d h);
@@ -98,7 +98,7 @@ within_parts n a d h = record {
     high n (pos a) d h = omega (arith, ints)
     high n (negsuc a) d h = omega (arith, ints)
 
-within_parts_out : (n : ℕ) (a : ℤ) (d : ℕ) → Within (int (pos n)) (frac a d) → nat_abs a ≤ n * suc d
+pub within_parts_out : (n : ℕ) (a : ℤ) (d : ℕ) → Within (int (pos n)) (frac a d) → nat_abs a ≤ n * suc d
 within_parts_out n a d w =
     by_sign a (rw (neg_mul_z (pos n) (pos (suc d))) at (le_frac (neg_ℤ (pos n)) 0 a d).0 (subst (λ v. v ≤ℚ frac a d) (neg_over (pos n) 0) w.low)) ((le_frac a d (pos n) 0).0 w.high)
   where

@@ -29,3 +29,4 @@ pub mod LongCrosses
 pub mod Compared
 pub mod Rounding
 pub mod WorkedRunning
+pub mod Gathering

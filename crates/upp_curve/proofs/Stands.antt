@@ -13,8 +13,8 @@ use Rattle.rational.proofs.Laws.{le_trans}
 use Rattle.affine_segment.specs.declared.line.Line.{Line}
 use Rattle.affine_segment.specs.Values.{line_value}
 use Rattle.upp_curve.specs.Spans.{Span}
-use Rattle.upp_curve.specs.Limits.{Numbers, Sizes, joined, twice, sizes_of, finite, value_before, span_values, line_slope, span_slopes}
-use Rattle.upp_curve.specs.Sized.{IsValue, IsSlope, Stands, AreSizes, ValueStands, LineStands, BeforeStands, SpanStands}
+use Rattle.upp_curve.specs.Limits.{Numbers, Sizes, joined, twice, sizes_of, finite, limit_before, span_values, line_slope, span_slopes}
+use Rattle.upp_curve.specs.Sized.{IsValue, IsSlope, Stands, AreSizes, ValueStands, LineStands, SpanStands}
 use Rattle.upp_curve.proofs.Every.{every_weaken, every_left, every_right, every_map_out, every_flat_out, every_both}
 use Rattle.upp_curve.proofs.CommonDen.{common_den_pos, common_den_each, bound_pos, bound_each}
 
@@ -53,10 +53,6 @@ finite_out : (z : Sizes) (x : Ext) → AllByRecursion (IsValue z) (finite x) →
 finite_out z Inf h = tt
 finite_out z (Fin v) h = h.0
 
-before_out : (z : Sizes) (l : Option Line) (next : Option ℚ) → AllByRecursion (IsValue z) (value_before l next) → BeforeStands z l next
-before_out z l None h = tt
-before_out z l (Some e) h = finite_out z (line_value l e) h
-
 slope_out : (z : Sizes) (l : Option Line) → AllByRecursion (IsSlope z) (line_slope l) → LineStands z l
 slope_out z None h = tt
 slope_out z (Some l) h = h.0
@@ -65,12 +61,12 @@ pub span_stands : (z : Sizes) (s : Span) → Whole z.dt s.piece.x → AllByRecur
 span_stands z s start values slopes =
     let at = finite s.piece.at in
     let after = finite (line_value s.piece.line s.piece.x) in
-    let before = value_before s.piece.line s.next in
+    let before = finite (limit_before s.piece.line s.next) in
     let first = every_left (IsValue z) (at ++ after) before values in
     record {
       start = start;
       at = finite_out z s.piece.at (every_left (IsValue z) at after first);
       after = finite_out z (line_value s.piece.line s.piece.x) (every_right (IsValue z) at after first);
-      before = before_out z s.piece.line s.next (every_right (IsValue z) (at ++ after) before values);
+      before = finite_out z (limit_before s.piece.line s.next) (every_right (IsValue z) (at ++ after) before values);
       slope = slope_out z s.piece.line slopes;
     }

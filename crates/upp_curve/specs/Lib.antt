@@ -20,3 +20,5 @@ pub mod Sized
 pub mod Windows
 pub mod Gauges
 pub mod Long
+pub mod ClosedForm
+pub mod Gathered

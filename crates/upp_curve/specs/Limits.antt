@@ -21,14 +21,15 @@ abbrev pub finite : Ext → List ℚ
 finite Inf = []
 finite (Fin v) = v ∷ []
 
--- the limit just before the next start, where there is one
-abbrev pub value_before : Option Line → Option ℚ → List ℚ
-value_before l None = []
-value_before l (Some e) = finite (line_value l e)
+-- the limit of a line just before the next start; infinity where there is none
+abbrev pub limit_before : Option Line → Option ℚ → Ext
+limit_before l None = Inf
+limit_before l (Some e) = line_value l e
 
 -- the finite values of a span: at its start, just after it, and just before the next start
 abbrev pub span_values : Span → List ℚ
-span_values s = finite s.piece.at ++ finite (line_value s.piece.line s.piece.x) ++ value_before s.piece.line s.next
+span_values s =
+    finite s.piece.at ++ finite (line_value s.piece.line s.piece.x) ++ finite (limit_before s.piece.line s.next)
 
 abbrev pub line_slope : Option Line → List ℚ
 line_slope None = []
@@ -46,6 +47,18 @@ pub record Numbers : Type 0 where
 
 abbrev pub no_numbers : Numbers
 no_numbers = record { times = []; values = []; slopes = [] }
+
+abbrev pub time_alone : ℚ → Numbers
+time_alone x = record { times = x ∷ []; values = []; slopes = [] }
+
+abbrev pub values_alone : List ℚ → Numbers
+values_alone vs = record { times = []; values = vs; slopes = [] }
+
+abbrev pub value_alone : ℚ → Numbers
+value_alone v = values_alone (v ∷ [])
+
+abbrev pub slope_alone : ℚ → Numbers
+slope_alone s = record { times = []; values = []; slopes = s ∷ [] }
 
 abbrev pub joined : Numbers → Numbers → Numbers
 joined a b = record { times = a.times ++ b.times; values = a.values ++ b.values; slopes = a.slopes ++ b.slopes }

@@ -13,7 +13,7 @@ use Rattle.upp_curve.specs.Curve.{SpecCurve}
 use Rattle.affine_segment.specs.Values.{line_value}
 use Rattle.upp_curve.specs.Steady.{rank_of}
 use Rattle.upp_curve.specs.Spans.{Span, spans}
-use Rattle.upp_curve.specs.Limits.{Sizes, Numbers}
+use Rattle.upp_curve.specs.Limits.{Sizes, Numbers, limit_before}
 
 -- a number that counts as a value
 pub record IsValue (z : Sizes) (v : ℚ) : Type 0 where
@@ -49,16 +49,12 @@ abbrev pub LineStands : Sizes → Option Line → Type 0
 LineStands z None = Unit {0}
 LineStands z (Some l) = IsSlope z l.slope
 
-abbrev pub BeforeStands : Sizes → Option Line → Option ℚ → Type 0
-BeforeStands z l None = Unit {0}
-BeforeStands z l (Some e) = ValueStands z (line_value l e)
-
 -- a piece with its end: the start, the values at it, just after it and just before the next start, and the slope
 pub record SpanStands (z : Sizes) (s : Span) : Type 0 where
   pub start : Whole z.dt s.piece.x
   pub at : ValueStands z s.piece.at
   pub after : ValueStands z (line_value s.piece.line s.piece.x)
-  pub before : BeforeStands z s.piece.line s.next
+  pub before : ValueStands z (limit_before s.piece.line s.next)
   pub slope : LineStands z s.piece.line
 
 pub record PeriodStands (z : Sizes) (period rise : ℚ) : Type 0 where

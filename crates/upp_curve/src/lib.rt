@@ -1,11 +1,12 @@
 //! Curves: functions of time made of finitely many pieces and a tail, with their value at every fraction.
 #![tactic(auto)]
 
-mod start_counts;
 mod curve;
+mod gathered;
 mod laws;
 mod long;
 mod op_kind;
+mod start_counts;
 mod starts;
 
 pub use curve::{Curve, Tail};

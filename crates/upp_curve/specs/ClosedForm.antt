@@ -1,0 +1,56 @@
+-- The numbers of a curve without unrolling: of each piece the first copy and the values of the last one that starts below `end`. With the rise
+-- they have the sizes of all copies.
+use Rattle.std.specs.Prelude.{ℕ, zero, suc, pos, cond, List, [], ◌∷◌, ◌++◌, map}
+use Rattle.rational.specs.Rational.{ℚ, ◌+ℚ◌, ◌*ℚ◌, int, lt_q}
+use Rattle.rational.specs.Extended.{Ext, ◌+ₑ◌}
+use Rattle.rational.specs.declared.Extended.TheVariants.{Fin, Inf}
+use Rattle.affine_segment.specs.Values.{line_value}
+use Rattle.upp_curve.specs.declared.curve.Tail.{Tail}
+use Rattle.upp_curve.specs.declared.curve.Tail.TheVariants.{Periodic, Affine, Infinite}
+use Rattle.upp_curve.specs.Curve.{SpecCurve}
+use Rattle.upp_curve.specs.Unrolled.{copies_below}
+use Rattle.upp_curve.specs.Spans.{Span, spans}
+use Rattle.upp_curve.specs.Limits.{Numbers, no_numbers, joined, finite, limit_before, span_slopes}
+
+-- the values of a span, risen by c
+abbrev pub risen_values : ℚ → Span → List ℚ
+risen_values c s =
+    finite (s.piece.at +ₑ Fin c) ++ finite (line_value s.piece.line s.piece.x +ₑ Fin c)
+    ++ finite (limit_before s.piece.line s.next +ₑ Fin c)
+
+abbrev pub span_numbers : Span → Numbers
+span_numbers s = record {
+  times = s.piece.x ∷ [];
+  values = finite s.piece.at ++ finite (line_value s.piece.line s.piece.x) ++ finite (limit_before s.piece.line s.next);
+  slopes = span_slopes s;
+}
+
+abbrev pub last_numbers : ℚ → Span → Numbers
+last_numbers c s = record { times = []; values = risen_values c s; slopes = [] }
+
+-- the numbers of the first of so many copies, and of the last where there are two or more
+abbrev pub copies_numbers : ℚ → Span → ℕ → Numbers
+copies_numbers rise s zero = no_numbers
+copies_numbers rise s (suc zero) = span_numbers s
+copies_numbers rise s (suc (suc n)) = joined (span_numbers s) (last_numbers (int (pos (suc n)) *ℚ rise) s)
+
+abbrev pub once_numbers : ℚ → Span → Numbers
+once_numbers end s = cond (lt_q s.piece.x end) (span_numbers s) no_numbers
+
+abbrev pub closed_span : Tail → ℚ → Span → Numbers
+closed_span (Periodic rank period rise) end s =
+    cond (lt_q s.piece.x rank) (once_numbers end s) (copies_numbers rise s (copies_below period end s.piece))
+closed_span (Affine rank) end s = once_numbers end s
+closed_span (Infinite rank) end s = once_numbers end s
+
+unfoldable pub closed_spans : Tail → ℚ → List Span → Numbers
+closed_spans tail end [] = no_numbers
+closed_spans tail end (s ∷ ss) = joined (closed_span tail end s) (closed_spans tail end ss)
+
+abbrev pub tail_numbers : Tail → Numbers
+tail_numbers (Periodic rank period rise) = record { times = rank ∷ period ∷ []; values = rise ∷ []; slopes = [] }
+tail_numbers (Affine rank) = record { times = rank ∷ []; values = []; slopes = [] }
+tail_numbers (Infinite rank) = record { times = rank ∷ []; values = []; slopes = [] }
+
+abbrev pub closed_numbers : ℚ → SpecCurve → Numbers
+closed_numbers end c = joined (tail_numbers c.tail) (closed_spans c.tail end (spans c.tail c.pieces))

@@ -1,0 +1,107 @@
+//! The sizes of the numbers of a call, gathered one by one.
+
+ghost use Rattle.std.specs.Prelude.{ℕ, ◌≡◌, ◌<◌, pos};
+ghost use Rattle.rational.specs.Rational.{ℚ, int, ◌*ℚ◌};
+ghost use Rattle.rational.specs.Gauge.{Kept, lcm, size_up};
+ghost use Rattle.upp_curve.specs.Limits.{Numbers, no_numbers, joined, time_alone, value_alone, slope_alone, values_alone, finite};
+ghost use Rattle.upp_curve.specs.Gathered.{Gathers};
+
+use crate::start_counts::size_up;
+use crate::starts::sizes;
+use fraction128::{Ext, Frac, gcd_of};
+use rational::Extended;
+
+/// The sizes of the numbers so far: the least common denominators of values, times and slopes, twice the largest slope and
+/// the largest value rounded up. Each is right up to the largest number and stays there.
+#[derive(Debug, Clone, Copy)]
+pub(crate) struct Gathered {
+    pub dv: u128,
+    pub dt: u128,
+    pub ds: u128,
+    pub steepness: u128,
+    pub largest: u128,
+}
+
+/// The least common multiple of a and what b stands for.
+fn common_multiple(a: u128, b: u128) -> u128
+    requires { 0 < a }
+    ensures { (n : ℕ) → Kept b n → Kept result (lcm a n) }
+{
+    if b == u128::MAX {
+        return b;
+    }
+    (a / gcd_of(a, b)).saturating_mul(b)
+}
+
+/// The least whole number that is at least twice the size of x.
+fn twice_size_up(x: Frac) -> u128
+    ensures { result ≡ size_up (int (pos 2) *ℚ x) }
+{
+    let (top, bottom) = sizes(x);
+    let double = top * 2;
+    if double % bottom == 0 {
+        double / bottom
+    } else {
+        double / bottom + 1
+    }
+}
+
+impl Gathered {
+    /// No number.
+    pub(crate) fn nothing() -> Gathered
+        ensures { Gathers result no_numbers }
+    {
+        Gathered {
+            dv: 1,
+            dt: 1,
+            ds: 1,
+            steepness: 1,
+            largest: 1,
+        }
+    }
+
+    /// A time more.
+    pub(crate) fn with_time(self, x: Frac) -> Gathered
+        ensures { (n : Numbers) → Gathers self n → Gathers result (joined n (time_alone x)) }
+    {
+        let (_, bottom) = sizes(x);
+        Gathered {
+            dt: common_multiple(bottom, self.dt),
+            ..self
+        }
+    }
+
+    /// A value more.
+    pub(crate) fn with_value(self, x: Frac) -> Gathered
+        ensures { (n : Numbers) → Gathers self n → Gathers result (joined n (value_alone x)) }
+    {
+        let (_, bottom) = sizes(x);
+        Gathered {
+            dv: common_multiple(bottom, self.dv),
+            largest: self.largest.max(size_up(x)),
+            ..self
+        }
+    }
+
+    /// A slope more.
+    pub(crate) fn with_slope(self, x: Frac) -> Gathered
+        ensures { (n : Numbers) → Gathers self n → Gathers result (joined n (slope_alone x)) }
+    {
+        let (_, bottom) = sizes(x);
+        Gathered {
+            ds: common_multiple(bottom, self.ds),
+            steepness: self.steepness.max(twice_size_up(x)),
+            ..self
+        }
+    }
+
+    /// A value more, where it is finite.
+    pub(crate) fn with_ext(self, v: Ext) -> Gathered
+        ensures { (n : Numbers) → Gathers self n → Gathers result (joined n (values_alone (finite v))) }
+    {
+        match v {
+            Extended::Fin(x) => self.with_value(x),
+            Extended::Inf => self,
+        }
+    }
+}
