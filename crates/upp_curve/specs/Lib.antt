@@ -22,3 +22,4 @@ pub mod Gauges
 pub mod Long
 pub mod ClosedForm
 pub mod Gathered
+pub mod Seen

@@ -6,6 +6,7 @@ mod gathered;
 mod laws;
 mod long;
 mod op_kind;
+mod seen;
 mod start_counts;
 mod starts;
 
