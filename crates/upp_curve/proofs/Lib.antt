@@ -29,4 +29,5 @@ pub mod LongCrosses
 pub mod Compared
 pub mod Rounding
 pub mod WorkedRunning
+pub mod JoinedNumbers
 pub mod Gathering

@@ -1,32 +1,30 @@
 -- The numbers of a curve without unrolling: of each piece the first copy and the values of the last one that starts below `end`. With the rise
 -- they have the sizes of all copies.
-use Rattle.std.specs.Prelude.{ℕ, zero, suc, pos, cond, List, [], ◌∷◌, ◌++◌, map}
-use Rattle.rational.specs.Rational.{ℚ, ◌+ℚ◌, ◌*ℚ◌, int, lt_q}
-use Rattle.rational.specs.Extended.{Ext, ◌+ₑ◌}
-use Rattle.rational.specs.declared.Extended.TheVariants.{Fin, Inf}
-use Rattle.affine_segment.specs.Values.{line_value}
+use Rattle.std.specs.Prelude.{ℕ, zero, suc, pos, cond, List, [], ◌∷◌, ◌++◌}
+use Rattle.rational.specs.Rational.{ℚ, ◌*ℚ◌, int, lt_q}
+use Rattle.affine_segment.specs.declared.line.Piece.{Piece}
+use Rattle.upp_curve.specs.declared.seen.Seen.{Seen}
 use Rattle.upp_curve.specs.declared.curve.Tail.{Tail}
 use Rattle.upp_curve.specs.declared.curve.Tail.TheVariants.{Periodic, Affine, Infinite}
 use Rattle.upp_curve.specs.Curve.{SpecCurve}
 use Rattle.upp_curve.specs.Unrolled.{copies_below}
 use Rattle.upp_curve.specs.Spans.{Span, spans}
-use Rattle.upp_curve.specs.Limits.{Numbers, no_numbers, joined, finite, limit_before, span_slopes}
+use Rattle.upp_curve.specs.Limits.{Numbers, no_numbers, joined, values_alone, finite, line_slope}
+use Rattle.upp_curve.specs.Seen.{seen_of, seen_risen}
 
--- the values of a span, risen by c
-abbrev pub risen_values : ℚ → Span → List ℚ
-risen_values c s =
-    finite (s.piece.at +ₑ Fin c) ++ finite (line_value s.piece.line s.piece.x +ₑ Fin c)
-    ++ finite (limit_before s.piece.line s.next +ₑ Fin c)
+abbrev pub seen_values : Seen → List ℚ
+seen_values s = finite s.at ++ finite s.after ++ finite s.before
+
+-- a start, the values of its piece and the slope after it
+abbrev pub piece_numbers : Piece → Seen → Numbers
+piece_numbers p s = record { times = p.x ∷ []; values = seen_values s; slopes = line_slope p.line }
 
 abbrev pub span_numbers : Span → Numbers
-span_numbers s = record {
-  times = s.piece.x ∷ [];
-  values = finite s.piece.at ++ finite (line_value s.piece.line s.piece.x) ++ finite (limit_before s.piece.line s.next);
-  slopes = span_slopes s;
-}
+span_numbers s = piece_numbers s.piece (seen_of s)
 
+-- the values of a copy that is c higher
 abbrev pub last_numbers : ℚ → Span → Numbers
-last_numbers c s = record { times = []; values = risen_values c s; slopes = [] }
+last_numbers c s = values_alone (seen_values (seen_risen (seen_of s) c))
 
 -- the numbers of the first of so many copies, and of the last where there are two or more
 abbrev pub copies_numbers : ℚ → Span → ℕ → Numbers

@@ -20,6 +20,6 @@ pub mod Sized
 pub mod Windows
 pub mod Gauges
 pub mod Long
-pub mod ClosedForm
 pub mod Gathered
 pub mod Seen
+pub mod ClosedForm

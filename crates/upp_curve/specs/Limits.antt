@@ -57,8 +57,11 @@ values_alone vs = record { times = []; values = vs; slopes = [] }
 abbrev pub value_alone : ℚ → Numbers
 value_alone v = values_alone (v ∷ [])
 
+abbrev pub slopes_alone : List ℚ → Numbers
+slopes_alone ss = record { times = []; values = []; slopes = ss }
+
 abbrev pub slope_alone : ℚ → Numbers
-slope_alone s = record { times = []; values = []; slopes = s ∷ [] }
+slope_alone s = slopes_alone (s ∷ [])
 
 abbrev pub joined : Numbers → Numbers → Numbers
 joined a b = record { times = a.times ++ b.times; values = a.values ++ b.values; slopes = a.slopes ++ b.slopes }

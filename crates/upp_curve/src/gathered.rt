@@ -3,11 +3,14 @@
 ghost use Rattle.std.specs.Prelude.{ℕ, ◌≡◌, ◌<◌, pos};
 ghost use Rattle.rational.specs.Rational.{ℚ, int, ◌*ℚ◌};
 ghost use Rattle.rational.specs.Gauge.{Kept, lcm, size_up};
-ghost use Rattle.upp_curve.specs.Limits.{Numbers, no_numbers, joined, time_alone, value_alone, slope_alone, values_alone, finite};
+ghost use Rattle.upp_curve.specs.Limits.{Numbers, no_numbers, joined, time_alone, value_alone, slope_alone, values_alone, slopes_alone, finite, line_slope};
+ghost use Rattle.upp_curve.specs.ClosedForm.{seen_values, piece_numbers};
 ghost use Rattle.upp_curve.specs.Gathered.{Gathers};
 
+use crate::seen::Seen;
 use crate::start_counts::size_up;
 use crate::starts::sizes;
+use affine_segment::{Line, Piece};
 use fraction128::{Ext, Frac, gcd_of};
 use rational::Extended;
 
@@ -103,5 +106,29 @@ impl Gathered {
             Extended::Fin(x) => self.with_value(x),
             Extended::Inf => self,
         }
+    }
+
+    /// The slope of a line more, where there is one.
+    fn with_line(self, line: Option<Line>) -> Gathered
+        ensures { (n : Numbers) → Gathers self n → Gathers result (joined n (slopes_alone (line_slope line))) }
+    {
+        match line {
+            Some(l) => self.with_slope(l.slope),
+            None => self,
+        }
+    }
+
+    /// The values of a piece more.
+    pub(crate) fn with_seen(self, s: Seen) -> Gathered
+        ensures { (n : Numbers) → Gathers self n → Gathers result (joined n (values_alone (seen_values s))) }
+    {
+        self.with_ext(s.at).with_ext(s.after).with_ext(s.before)
+    }
+
+    /// A piece more: its start, its values and its slope.
+    pub(crate) fn with_piece(self, piece: Piece, s: Seen) -> Gathered
+        ensures { (n : Numbers) → Gathers self n → Gathers result (joined n (piece_numbers piece s)) }
+    {
+        self.with_time(piece.x).with_seen(s).with_line(piece.line)
     }
 }
