@@ -26,10 +26,12 @@ joined_nothing a =
 pub joined_three : (n a b c : Numbers) → joined (joined (joined n a) b) c ≡ joined n (joined (joined a b) c)
 joined_three n a b c = ap (λ m. joined m c) (joined_assoc n a b) ∙ joined_assoc n (joined a b) c
 
--- a time, some values and some slopes
-pub joined_parts : (n : Numbers) (x : ℚ) (vs ss : List ℚ)
-    → joined (joined (joined n (time_alone x)) (values_alone vs)) (slopes_alone ss) ≡ joined n record { times = x ∷ []; values = vs; slopes = ss }
+-- a time, some slopes and three lists of values
+pub joined_span : (n : Numbers) (x : ℚ) (us vs ws ss : List ℚ)
+    → joined (joined (joined (joined (joined n (time_alone x)) (slopes_alone ss)) (values_alone us)) (values_alone vs)) (values_alone ws)
+    ≡ joined n record { times = x ∷ []; values = us ++ vs ++ ws; slopes = ss }
 unfolding make
-joined_parts n x vs ss =
-    joined_three n (time_alone x) (values_alone vs) (slopes_alone ss)
-    ∙ ap (λ ws. joined n (make (x ∷ []) ws ss)) (append-nil vs)
+joined_span n x us vs ws ss =
+    joined_three (joined (joined n (time_alone x)) (slopes_alone ss)) (values_alone us) (values_alone vs) (values_alone ws)
+    ∙ joined_three n (time_alone x) (slopes_alone ss) (values_alone (us ++ vs ++ ws))
+    ∙ ap (λ zs. joined n (make (x ∷ []) (us ++ vs ++ ws) zs)) (append-nil ss)

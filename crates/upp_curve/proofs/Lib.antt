@@ -31,3 +31,5 @@ pub mod Rounding
 pub mod WorkedRunning
 pub mod JoinedNumbers
 pub mod Gathering
+pub mod WholeNumbers
+pub mod SpanNumbers

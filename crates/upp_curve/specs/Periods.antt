@@ -2,7 +2,7 @@
 use Rattle.std.specs.Prelude.{ℕ, pos, nat_abs, Option, Some, None}
 use Rattle.rational.specs.Gcd.{gcd}
 use Rattle.rational.specs.Gauge.{lcm}
-use Rattle.rational.specs.Rational.{ℚ, den, ◌+ℚ◌, ◌*ℚ◌, int, over}
+use Rattle.rational.specs.Rational.{ℚ, den, ◌+ℚ◌, ◌*ℚ◌, ◌<ℚ◌, int, over}
 use Rattle.rational.specs.MinMax.{max_q}
 use Rattle.upp_curve.specs.declared.curve.Tail.{Tail}
 use Rattle.upp_curve.specs.declared.curve.Tail.TheVariants.{Periodic, Affine, Infinite}
@@ -48,3 +48,9 @@ periods_after t n d = t +ℚ int (pos n) *ℚ d
 -- from when on f and g, moved right by theta, both repeat
 abbrev pub moved_steady : SpecCurve → SpecCurve → ℚ → ℚ
 moved_steady f g theta = max_q (steady f) (steady g +ℚ theta)
+
+-- a period is above 0
+abbrev pub HasPeriod : Tail → Type 0
+HasPeriod (Periodic rank period rise) = int (pos 0) <ℚ period
+HasPeriod (Affine rank) = Unit {0}
+HasPeriod (Infinite rank) = Unit {0}

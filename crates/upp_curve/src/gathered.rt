@@ -1,13 +1,15 @@
 //! The sizes of the numbers of a call, gathered one by one.
 
-ghost use Rattle.std.specs.Prelude.{ℕ, ◌≡◌, ◌<◌, pos};
+ghost use Rattle.std.specs.Prelude.{ℕ, ◌≡◌, ◌<◌, pos, IfSome, IsSome};
 ghost use Rattle.rational.specs.Rational.{ℚ, int, ◌*ℚ◌};
 ghost use Rattle.rational.specs.Gauge.{Kept, lcm, size_up};
 ghost use Rattle.upp_curve.specs.Limits.{Numbers, no_numbers, joined, time_alone, value_alone, slope_alone, values_alone, slopes_alone, finite, line_slope};
-ghost use Rattle.upp_curve.specs.ClosedForm.{seen_values, piece_numbers};
+ghost use Rattle.upp_curve.specs.Spans.{Span};
+ghost use Rattle.upp_curve.specs.Seen.{seen_of, SpanFits, SeenRises};
+ghost use Rattle.upp_curve.specs.ClosedForm.{span_numbers, last_numbers};
 ghost use Rattle.upp_curve.specs.Gathered.{Gathers};
 
-use crate::seen::Seen;
+use crate::seen::{seen_risen, seen_values};
 use crate::start_counts::size_up;
 use crate::starts::sizes;
 use affine_segment::{Line, Piece};
@@ -118,17 +120,31 @@ impl Gathered {
         }
     }
 
-    /// The values of a piece more.
-    pub(crate) fn with_seen(self, s: Seen) -> Gathered
-        ensures { (n : Numbers) → Gathers self n → Gathers result (joined n (values_alone (seen_values s))) }
+    /// A piece more: its start, its values and its slope, where the steps to the values fit.
+    pub(crate) fn with_span(self, piece: &Piece, next: &Option<Frac>) -> Option<Gathered>
+        ensures value {
+            let span : Span = record { piece = piece.now; next = next.now } in
+            IfSome result (λ r. (n : Numbers) → Gathers self n → Gathers r (joined n (span_numbers span)))
+        }
+        ensures fits { let span : Span = record { piece = piece.now; next = next.now } in SpanFits span → IsSome result }
     {
-        self.with_ext(s.at).with_ext(s.after).with_ext(s.before)
+        let values = seen_values(piece, next)?;
+        let placed = self.with_time(piece.x).with_line(piece.line);
+        Some(placed.with_ext(values.at).with_ext(values.after).with_ext(values.before))
     }
 
-    /// A piece more: its start, its values and its slope.
-    pub(crate) fn with_piece(self, piece: Piece, s: Seen) -> Gathered
-        ensures { (n : Numbers) → Gathers self n → Gathers result (joined n (piece_numbers piece s)) }
+    /// The values of a piece more, n times the rise higher.
+    pub(crate) fn with_last(&self, piece: &Piece, next: &Option<Frac>, n: Frac, rise: Frac) -> Option<Gathered>
+        ensures value {
+            let span : Span = record { piece = piece.now; next = next.now } in
+            IfSome result (λ r. (m : Numbers) → Gathers self.now m → Gathers r (joined m (last_numbers (n *ℚ rise) span)))
+        }
+        ensures fits {
+            let span : Span = record { piece = piece.now; next = next.now } in
+            SpanFits span → SeenRises (seen_of span) n rise → IsSome result
+        }
     {
-        self.with_time(piece.x).with_seen(s).with_line(piece.line)
+        let values = seen_risen(piece, next, n, rise)?;
+        Some((*self).with_ext(values.at).with_ext(values.after).with_ext(values.before))
     }
 }

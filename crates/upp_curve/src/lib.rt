@@ -2,6 +2,7 @@
 #![tactic(auto)]
 
 mod curve;
+mod curve_numbers;
 mod gathered;
 mod laws;
 mod long;

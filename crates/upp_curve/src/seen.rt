@@ -36,20 +36,20 @@ fn line_value(line: Option<Line>, t: Frac) -> Option<Ext>
 }
 
 /// The limit of a line just before the next start.
-fn limit_before(line: Option<Line>, next: Option<Frac>) -> Option<Ext>
-    ensures value { IfSome result (λ v. v ≡ limit_before line next) }
-    ensures fits { NextFits line next → IsSome result }
+fn limit_before(line: Option<Line>, next: &Option<Frac>) -> Option<Ext>
+    ensures value { IfSome result (λ v. v ≡ limit_before line next.now) }
+    ensures fits { NextFits line next.now → IsSome result }
 {
     match next {
         None => Some(Extended::Inf),
-        Some(end) => line_value(line, end),
+        Some(end) => line_value(line, *end),
     }
 }
 
 /// The values of a piece up to the next start.
-pub(crate) fn seen_values(piece: Piece, next: Option<Frac>) -> Option<Seen>
-    ensures value { let span : Span = record { piece = piece; next = next } in IfSome result (λ s. s ≡ seen_of span) }
-    ensures fits { let span : Span = record { piece = piece; next = next } in SpanFits span → IsSome result }
+pub(crate) fn seen_values(piece: &Piece, next: &Option<Frac>) -> Option<Seen>
+    ensures value { let span : Span = record { piece = piece.now; next = next.now } in IfSome result (λ s. s ≡ seen_of span) }
+    ensures fits { let span : Span = record { piece = piece.now; next = next.now } in SpanFits span → IsSome result }
 {
     Some(Seen {
         at: piece.at,
@@ -73,16 +73,21 @@ fn risen(v: Ext, n: Frac, rise: Frac) -> Option<Ext>
     }
 }
 
-impl Seen {
-    /// The values, n times the rise higher.
-    pub(crate) fn risen(self, n: Frac, rise: Frac) -> Option<Seen>
-        ensures value { IfSome result (λ s. s ≡ seen_risen self (n *ℚ rise)) }
-        ensures fits { SeenRises self n rise → IsSome result }
-    {
-        Some(Seen {
-            at: risen(self.at, n, rise)?,
-            after: risen(self.after, n, rise)?,
-            before: risen(self.before, n, rise)?,
-        })
+/// The values of a piece, n times the rise higher.
+pub(crate) fn seen_risen(piece: &Piece, next: &Option<Frac>, n: Frac, rise: Frac) -> Option<Seen>
+    ensures value {
+        let span : Span = record { piece = piece.now; next = next.now } in
+        IfSome result (λ s. s ≡ seen_risen (seen_of span) (n *ℚ rise))
     }
+    ensures fits {
+        let span : Span = record { piece = piece.now; next = next.now } in
+        SpanFits span → SeenRises (seen_of span) n rise → IsSome result
+    }
+{
+    let values = seen_values(piece, next)?;
+    Some(Seen {
+        at: risen(values.at, n, rise)?,
+        after: risen(values.after, n, rise)?,
+        before: risen(values.before, n, rise)?,
+    })
 }
