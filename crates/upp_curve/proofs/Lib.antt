@@ -33,3 +33,4 @@ pub mod JoinedNumbers
 pub mod Gathering
 pub mod WholeNumbers
 pub mod SpanNumbers
+pub mod PieceLists

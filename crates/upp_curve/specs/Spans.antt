@@ -30,14 +30,15 @@ line_read (Infinite rank) p = cond (lt_q p.x rank) p.line None
 abbrev pub piece_read : Tail → Piece → Piece
 piece_read tail p = record { x = p.x; at = p.at; line = line_read tail p }
 
-abbrev pub next_start : List Piece → Tail → Option ℚ
-next_start [] tail = end_of tail
-next_start (q ∷ qs) tail = Some q.x
+-- where the first of some pieces starts, and `after` where there is none
+abbrev pub start_after : List Piece → Option ℚ → Option ℚ
+start_after [] after = after
+start_after (q ∷ qs) after = Some q.x
 
 -- each piece with the start of the next one
 unfoldable pub spans : Tail → List Piece → List Span
 spans tail [] = []
-spans tail (p ∷ ps) = record { piece = piece_read tail p; next = next_start ps tail } ∷ spans tail ps
+spans tail (p ∷ ps) = record { piece = piece_read tail p; next = start_after ps (end_of tail) } ∷ spans tail ps
 
 -- ---- copies
 abbrev pub next_later : ℚ → Option ℚ → Option ℚ

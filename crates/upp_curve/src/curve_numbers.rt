@@ -1,10 +1,10 @@
 //! The sizes of the numbers of a curve in a window, without unrolling it.
 
-ghost use Rattle.std.specs.Prelude.{ℕ, ◌≡◌, ◌<◌, ◌^◌, pos, IfSome, IsSome};
+ghost use Rattle.std.specs.Prelude.{ℕ, ◌≡◌, ◌<◌, ◌+◌, ◌^◌, pos, IfSome, IsSome, length, drop};
 ghost use Rattle.std.specs.List.{AllByRecursion};
 ghost use Rattle.rational.specs.Rational.{ℚ, int, ◌*ℚ◌, ◌≤ℚ◌, ◌<ℚ◌};
 ghost use Rattle.upp_curve.specs.Normal.{StartsAtZero};
-ghost use Rattle.upp_curve.specs.Spans.{Span, end_of, piece_read, spans};
+ghost use Rattle.upp_curve.specs.Spans.{Span, end_of, piece_read, start_after, spans};
 ghost use Rattle.upp_curve.specs.Limits.{Numbers, joined};
 ghost use Rattle.upp_curve.specs.Gathered.{Gathers};
 ghost use Rattle.upp_curve.specs.Seen.{seen_of, SpanFits, SeenRises, CopiesFit, Knows};
@@ -81,26 +81,75 @@ fn with_once(g: Gathered, piece: &Piece, next: &Option<Frac>, end: Frac) -> Opti
 }
 
 /// What of a piece starts before `end` more: itself, or from the rank of a periodic tail on its copies.
-fn with_below(g: Gathered, piece: &Piece, next: &Option<Frac>, tail: Tail, end: Frac) -> Option<Gathered>
+fn with_below(g: Gathered, piece: &Piece, next: &Option<Frac>, tail: &Tail, end: Frac) -> Option<Gathered>
     requires start { int (pos 0) ≤ℚ piece.now.x }
-    requires period { HasPeriod tail }
+    requires period { HasPeriod tail.now }
     ensures value {
         let span : Span = record { piece = piece.now; next = next.now } in
-        IfSome result (λ r. (n : Numbers) → Gathers g n → Gathers r (joined n (closed_span tail end span)))
+        IfSome result (λ r. (n : Numbers) → Gathers g n → Gathers r (joined n (closed_span tail.now end span)))
     }
-    ensures fits { let span : Span = record { piece = piece.now; next = next.now } in Knows tail end span → IsSome result }
+    ensures fits { let span : Span = record { piece = piece.now; next = next.now } in Knows tail.now end span → IsSome result }
 {
     match tail {
         Tail::Periodic { rank, period, rise } => {
-            if is_less(piece.x, rank) {
+            if is_less(piece.x, *rank) {
                 return with_once(g, piece, next, end);
             }
-            let copies = count_before(piece.x, period, end);
+            let copies = count_before(piece.x, *period, end);
             if copies == u128::MAX {
                 return None;
             }
-            with_copies(g, piece, next, copies, rise)
+            with_copies(g, piece, next, copies, *rise)
         }
         _ => with_once(g, piece, next, end),
     }
+}
+
+/// A piece without a line that is read at no time.
+fn piece_read(piece: &Piece, tail: &Tail) -> Piece
+    ensures { result ≡ piece_read tail.now piece.now }
+{
+    match tail {
+        Tail::Infinite { rank } => Piece {
+            x: piece.x,
+            at: piece.at,
+            line: if is_less(piece.x, *rank) { piece.line } else { None },
+        },
+        _ => *piece,
+    }
+}
+
+/// Where the piece after number i starts, or `after` at the last one.
+fn next_start(pieces: &[Piece], i: usize, after: &Option<Frac>) -> Option<Frac>
+    requires { i < length pieces.now }
+    ensures { result ≡ start_after (drop (i + 1) pieces.now) after.now }
+{
+    if i + 1 < pieces.len() {
+        Some(pieces[i + 1].x)
+    } else {
+        *after
+    }
+}
+
+/// The pieces of a curve more, as far as they and their copies start before `end`. `after` is where the next piece starts
+/// after the last.
+pub(crate) fn with_pieces(g: Gathered, pieces: &[Piece], tail: &Tail, after: &Option<Frac>, end: Frac) -> Option<Gathered>
+    requires starts { StartsAtZero pieces.now }
+    requires period { HasPeriod tail.now }
+    requires after { after.now ≡ end_of tail.now }
+    ensures value {
+        IfSome result (λ r. (n : Numbers) → Gathers g n → Gathers r (joined n (closed_spans tail.now end (spans tail.now pieces.now))))
+    }
+    ensures fits { AllByRecursion (Knows tail.now end) (spans tail.now pieces.now) → IsSome result }
+{
+    let mut found = g;
+    for i in 0..pieces.len() {
+        let next = next_start(pieces, i, after);
+        let piece = piece_read(&pieces[i], tail);
+        match with_below(found, &piece, &next, tail, end) {
+            Some(more) => found = more,
+            None => return None,
+        }
+    }
+    Some(found)
 }
