@@ -2,16 +2,16 @@
 use Rattle.std.specs.Prelude.{◌≡◌, ℕ, zero, suc, ◌+◌, ◌*◌, ◌/◌, ◌-◌, ◌%◌, ◌<◌, ◌≤◌, ◌^◌, min, max, ℤ, pos, negsuc, ◌*ℤ◌, neg_ℤ, nat_abs, List, [], ◌∷◌, ◌++◌, map}
 use Rattle.std.proofs.Common.{arith, sym, ap, ap₂, ◌∙◌, refl, subst, append-nil}
 use Rattle.std.proofs.Math.Nat.{le-max_left, le-max_right}
-use native.Mathlib.Nat.{div-add-mod', mod-lt, le_of_mul-le-mul_right, lt_of_mul-lt-mul_right, zero-lt-suc}
-use Rattle.rational.specs.Rational.{ℚ, den, int, ◌*ℚ◌, frac, frac_self}
+use Rattle.rational.specs.Ints.{mul_comm_z}
+use Rattle.rational.specs.Rational.{ℚ, den, int, ◌*ℚ◌, frac, frac_self, abs-mul}
 use Rattle.rational.specs.Gauge.{Kept, cap, lcm, common_den, common_den_from, bound_of, size_up}
-use Rattle.rational.specs.Grid.{Within}
 use Rattle.rational.proofs.Integers.{mul_whole}
 use Rattle.rational.proofs.Gauges.{kept_one, cap_times}
 use Rattle.upp_curve.specs.declared.gathered.Gathered.{Gathered}
 use Rattle.upp_curve.specs.Limits.{Numbers, no_numbers, joined, twice, time_alone, value_alone, slope_alone}
 use Rattle.upp_curve.specs.Gathered.{Gathers}
-use Rattle.upp_curve.proofs.CommonDen.{den_from_append, size_up_within, size_up_least, within_parts, within_parts_out, bound_pos}
+use Rattle.upp_curve.proofs.CommonDen.{den_from_append}
+use Rattle.upp_curve.proofs.Rounding.{size_exact, size_over}
 
 -- ---- lists with one number more
 den_one : (n : ℕ) (x : ℚ) → common_den_from n (x ∷ []) ≡ lcm (den x) n
@@ -31,7 +31,7 @@ twice_more [] x = refl
 twice_more (y ∷ ys) x = ap (λ zs. (int (pos 2) *ℚ y) ∷ zs) (twice_more ys x)
 
 -- ---- kept numbers
-kept_max : (a m s : ℕ) → Kept a m → s < 2 ^ 128 → Kept (max a s) (max m s)
+pub kept_max : (a m s : ℕ) → Kept a m → s < 2 ^ 128 → Kept (max a s) (max m s)
 unfolding cap
 kept_max a m s k h =
     let e = k.is in
@@ -39,59 +39,19 @@ kept_max a m s k h =
     record { is = omega arith; some = let l = le-max_left m s in omega arith }
 
 -- ---- twice a size
-abs_twice : (z : ℤ) → nat_abs (pos 2 *ℤ z) ≡ 2 * nat_abs z
-abs_twice (pos n) = refl
-abs_twice (negsuc n) = abs_neg (2 * suc n)
-  where
-    abs_neg : (n : ℕ) → nat_abs (neg_ℤ (pos n)) ≡ n
-    abs_neg zero = refl
-    abs_neg (suc n) = refl
+twice_frac : (x : ℚ) → int (pos 2) *ℚ x ≡ frac (x.num *ℤ pos 2) x.pre
+twice_frac x = ap (λ y. int (pos 2) *ℚ y) (frac_self x) ∙ mul_whole (pos 2) x.num x.pre ∙ ap (λ z. frac z x.pre) (mul_comm_z (pos 2) x.num)
 
-size_is : (a : ℤ) (d n : ℕ) → nat_abs a ≤ n * suc d → ((m : ℕ) → nat_abs a ≤ m * suc d → n ≤ m) → n ≡ size_up (frac a d)
-size_is a d n h least =
-    let up = size_up_least n (frac a d) (within_parts n a d h) in
-    let down = least (size_up (frac a d)) (within_parts_out (size_up (frac a d)) a d (size_up_within (frac a d))) in
-    omega arith
-
-twice_frac : (x : ℚ) → int (pos 2) *ℚ x ≡ frac (pos 2 *ℤ x.num) x.pre
-twice_frac x = ap (λ y. int (pos 2) *ℚ y) (frac_self x) ∙ mul_whole (pos 2) x.num x.pre
-
-exact_least : (t q d m : ℕ) → q * suc d ≡ t → t ≤ m * suc d → q ≤ m
-exact_least t q d m e h = let l : q * suc d ≤ m * suc d = omega arith in le_of_mul-le-mul_right l (zero-lt-suc d)
-
-over_least : (t q d m r : ℕ) → q * suc d + r ≡ t → 0 < r → t ≤ m * suc d → q + 1 ≤ m
-over_least t q d m r e some h =
-    let l : q * suc d < m * suc d = omega arith in
-    let k = lt_of_mul-lt-mul_right (suc d) l in
-    omega arith
+twice_size : (x : ℚ) (t : ℕ) → t ≡ nat_abs x.num → t * 2 ≡ nat_abs (x.num *ℤ pos 2)
+twice_size x t e = ap (λ n. n * 2) e ∙ sym (abs-mul x.num 2)
 
 -- 2 t / b is exact
 pub twice_exact : (x : ℚ) (t b : ℕ) → t ≡ nat_abs x.num → b ≡ den x → t * 2 % b ≡ 0 → t * 2 / b ≡ size_up (int (pos 2) *ℚ x)
-twice_exact x t b e f h =
-    let g : t * 2 % suc x.pre ≡ 0 = rw (← f) h in
-    let d = div-add-mod' (t * 2) (suc x.pre) in
-    let a = abs_twice x.num in
-    let q = t * 2 / suc x.pre in
-    rw (f, twice_frac x)
-    (size_is (pos 2 *ℤ x.num) x.pre q (omega (arith, d, a, g, e))
-    (λ m l. exact_least (t * 2) q x.pre m (omega (arith, d, g)) (omega (arith, a, e, l))))
+twice_exact x t b e f h = size_exact (x.num *ℤ pos 2) x.pre (t * 2) b (twice_size x t e) f h ∙ ap size_up (sym (twice_frac x))
 
 -- or not
 pub twice_over : (x : ℚ) (t b : ℕ) → t ≡ nat_abs x.num → b ≡ den x → (t * 2 % b ≡ 0 → ⊥) → t * 2 / b + 1 ≡ size_up (int (pos 2) *ℚ x)
-twice_over x t b e f h =
-    let g : t * 2 % suc x.pre ≡ 0 → ⊥ = rw (← f) h in
-    let d = div-add-mod' (t * 2) (suc x.pre) in
-    let l = mod-lt (t * 2) (zero-lt-suc x.pre) in
-    let a = abs_twice x.num in
-    let q = t * 2 / suc x.pre in
-    let some : 0 < t * 2 % suc x.pre = not_zero (t * 2 % suc x.pre) g in
-    rw (f, twice_frac x)
-    (size_is (pos 2 *ℤ x.num) x.pre (q + 1) (omega (arith, d, a, l, e))
-    (λ m k. over_least (t * 2) q x.pre m (t * 2 % suc x.pre) d some (omega (arith, a, e, k))))
-  where
-    not_zero : (n : ℕ) → (n ≡ 0 → ⊥) → 0 < n
-    not_zero zero h = absurd (h refl)
-    not_zero (suc n) h = zero-lt-suc n
+twice_over x t b e f h = size_over (x.num *ℤ pos 2) x.pre (t * 2) b (twice_size x t e) f h ∙ ap size_up (sym (twice_frac x))
 
 -- ---- the sizes with one number more
 pub gathers_nothing : Gathers record { dv = 1; dt = 1; ds = 1; steepness = 1; largest = 1 } no_numbers

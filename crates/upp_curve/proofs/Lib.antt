@@ -34,3 +34,4 @@ pub mod Gathering
 pub mod WholeNumbers
 pub mod SpanNumbers
 pub mod PieceLists
+pub mod GaugeProduct

@@ -8,7 +8,8 @@ ghost use Rattle.upp_curve.specs.Spans.{Span, end_of, piece_read, start_after, s
 ghost use Rattle.upp_curve.specs.Limits.{Numbers, joined};
 ghost use Rattle.upp_curve.specs.Gathered.{Gathers};
 ghost use Rattle.upp_curve.specs.Seen.{seen_of, SpanFits, SeenRises, CopiesFit, Knows};
-ghost use Rattle.upp_curve.specs.ClosedForm.{span_numbers, last_numbers, copies_numbers, once_numbers, closed_span, closed_spans, tail_numbers};
+ghost use Rattle.upp_curve.specs.ClosedForm.{span_numbers, last_numbers, copies_numbers, once_numbers, closed_span, closed_spans, tail_numbers, closed_numbers};
+ghost use Rattle.upp_curve.specs.Curve.{SpecCurve};
 ghost use Rattle.upp_curve.specs.Periods.{HasPeriod};
 
 use crate::curve::Tail;
@@ -30,16 +31,18 @@ fn whole(n: u128) -> Option<Frac>
 }
 
 /// The first copy of a piece and the values of copy `last` more.
-fn with_first_and_last(g: Gathered, piece: &Piece, next: &Option<Frac>, last: u128, rise: Frac) -> Option<Gathered>
-    ensures value {
-        let span : Span = record { piece = piece.now; next = next.now } in
+fn with_first_and_last(
+    g: Gathered,
+    piece: &Piece,
+    next: &Option<Frac>,
+    last: u128,
+    rise: Frac,
+) -> Option<Gathered>
+    ensures value { let span : Span = record { piece = piece.now; next = next.now } in
         IfSome result (λ r. (n : Numbers) → Gathers g n
-            → Gathers r (joined n (joined (span_numbers span) (last_numbers (int (pos last) *ℚ rise) span))))
-    }
-    ensures fits {
-        let span : Span = record { piece = piece.now; next = next.now } in
-        last < 2 ^ 127 → SpanFits span → SeenRises (seen_of span) (int (pos last)) rise → IsSome result
-    }
+        → Gathers r (joined n (joined (span_numbers span) (last_numbers (int (pos last) *ℚ rise) span)))) }
+    ensures fits { let span : Span = record { piece = piece.now; next = next.now } in
+        last < 2 ^ 127 → SpanFits span → SeenRises (seen_of span) (int (pos last)) rise → IsSome result }
 {
     let n = whole(last)?;
     match g.with_span(piece, next) {
@@ -49,11 +52,15 @@ fn with_first_and_last(g: Gathered, piece: &Piece, next: &Option<Frac>, last: u1
 }
 
 /// So many copies of a piece more: the first, and the values of the last.
-fn with_copies(g: Gathered, piece: &Piece, next: &Option<Frac>, copies: u128, rise: Frac) -> Option<Gathered>
-    ensures value {
-        let span : Span = record { piece = piece.now; next = next.now } in
-        IfSome result (λ r. (n : Numbers) → Gathers g n → Gathers r (joined n (copies_numbers rise span copies)))
-    }
+fn with_copies(
+    g: Gathered,
+    piece: &Piece,
+    next: &Option<Frac>,
+    copies: u128,
+    rise: Frac,
+) -> Option<Gathered>
+    ensures value { let span : Span = record { piece = piece.now; next = next.now } in
+        IfSome result (λ r. (n : Numbers) → Gathers g n → Gathers r (joined n (copies_numbers rise span copies))) }
     ensures fits { let span : Span = record { piece = piece.now; next = next.now } in CopiesFit span copies rise → IsSome result }
 {
     if copies == 0 {
@@ -67,10 +74,8 @@ fn with_copies(g: Gathered, piece: &Piece, next: &Option<Frac>, copies: u128, ri
 
 /// A piece more, where it starts before `end`.
 fn with_once(g: Gathered, piece: &Piece, next: &Option<Frac>, end: Frac) -> Option<Gathered>
-    ensures value {
-        let span : Span = record { piece = piece.now; next = next.now } in
-        IfSome result (λ r. (n : Numbers) → Gathers g n → Gathers r (joined n (once_numbers end span)))
-    }
+    ensures value { let span : Span = record { piece = piece.now; next = next.now } in
+        IfSome result (λ r. (n : Numbers) → Gathers g n → Gathers r (joined n (once_numbers end span))) }
     ensures fits { let span : Span = record { piece = piece.now; next = next.now } in (piece.now.x <ℚ end → SpanFits span) → IsSome result }
 {
     if is_less(piece.x, end) {
@@ -81,13 +86,17 @@ fn with_once(g: Gathered, piece: &Piece, next: &Option<Frac>, end: Frac) -> Opti
 }
 
 /// What of a piece starts before `end` more: itself, or from the rank of a periodic tail on its copies.
-fn with_below(g: Gathered, piece: &Piece, next: &Option<Frac>, tail: &Tail, end: Frac) -> Option<Gathered>
+fn with_below(
+    g: Gathered,
+    piece: &Piece,
+    next: &Option<Frac>,
+    tail: &Tail,
+    end: Frac,
+) -> Option<Gathered>
     requires start { int (pos 0) ≤ℚ piece.now.x }
     requires period { HasPeriod tail.now }
-    ensures value {
-        let span : Span = record { piece = piece.now; next = next.now } in
-        IfSome result (λ r. (n : Numbers) → Gathers g n → Gathers r (joined n (closed_span tail.now end span)))
-    }
+    ensures value { let span : Span = record { piece = piece.now; next = next.now } in
+        IfSome result (λ r. (n : Numbers) → Gathers g n → Gathers r (joined n (closed_span tail.now end span))) }
     ensures fits { let span : Span = record { piece = piece.now; next = next.now } in Knows tail.now end span → IsSome result }
 {
     match tail {
@@ -113,7 +122,11 @@ fn piece_read(piece: &Piece, tail: &Tail) -> Piece
         Tail::Infinite { rank } => Piece {
             x: piece.x,
             at: piece.at,
-            line: if is_less(piece.x, *rank) { piece.line } else { None },
+            line: if is_less(piece.x, *rank) {
+                piece.line
+            } else {
+                None
+            },
         },
         _ => *piece,
     }
@@ -133,13 +146,17 @@ fn next_start(pieces: &[Piece], i: usize, after: &Option<Frac>) -> Option<Frac>
 
 /// The pieces of a curve more, as far as they and their copies start before `end`. `after` is where the next piece starts
 /// after the last.
-pub(crate) fn with_pieces(g: Gathered, pieces: &[Piece], tail: &Tail, after: &Option<Frac>, end: Frac) -> Option<Gathered>
+pub(crate) fn with_pieces(
+    g: Gathered,
+    pieces: &[Piece],
+    tail: &Tail,
+    after: &Option<Frac>,
+    end: Frac,
+) -> Option<Gathered>
     requires starts { StartsAtZero pieces.now }
     requires period { HasPeriod tail.now }
     requires after { after.now ≡ end_of tail.now }
-    ensures value {
-        IfSome result (λ r. (n : Numbers) → Gathers g n → Gathers r (joined n (closed_spans tail.now end (spans tail.now pieces.now))))
-    }
+    ensures value { IfSome result (λ r. (n : Numbers) → Gathers g n → Gathers r (joined n (closed_spans tail.now end (spans tail.now pieces.now)))) }
     ensures fits { AllByRecursion (Knows tail.now end) (spans tail.now pieces.now) → IsSome result }
 {
     let mut found = g;
@@ -152,4 +169,37 @@ pub(crate) fn with_pieces(g: Gathered, pieces: &[Piece], tail: &Tail, after: &Op
         }
     }
     Some(found)
+}
+
+/// The rank, the period and the rise of a tail more.
+fn with_tail(g: Gathered, tail: &Tail) -> Gathered
+    ensures { (n : Numbers) → Gathers g n → Gathers result (joined n (tail_numbers tail.now)) }
+{
+    match tail {
+        Tail::Periodic { rank, period, rise } => g
+            .with_time(*rank)
+            .with_time(*period)
+            .with_value(*rise),
+        Tail::Affine { rank } => g.with_time(*rank),
+        Tail::Infinite { rank } => g.with_time(*rank),
+    }
+}
+
+/// A curve more, as far as its pieces and their copies start before `end`. `after` is where the next piece starts after the
+/// last.
+pub(crate) fn with_curve(
+    g: Gathered,
+    pieces: &[Piece],
+    tail: &Tail,
+    after: &Option<Frac>,
+    end: Frac,
+) -> Option<Gathered>
+    requires starts { StartsAtZero pieces.now }
+    requires period { HasPeriod tail.now }
+    requires after { after.now ≡ end_of tail.now }
+    ensures value { let c : SpecCurve = record { pieces = pieces.now; tail = tail.now } in
+        IfSome result (λ r. (n : Numbers) → Gathers g n → Gathers r (joined n (closed_numbers end c))) }
+    ensures fits { AllByRecursion (Knows tail.now end) (spans tail.now pieces.now) → IsSome result }
+{
+    with_pieces(with_tail(g, tail), pieces, tail, after, end)
 }

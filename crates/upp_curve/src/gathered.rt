@@ -122,29 +122,39 @@ impl Gathered {
 
     /// A piece more: its start, its values and its slope, where the steps to the values fit.
     pub(crate) fn with_span(self, piece: &Piece, next: &Option<Frac>) -> Option<Gathered>
-        ensures value {
-            let span : Span = record { piece = piece.now; next = next.now } in
-            IfSome result (λ r. (n : Numbers) → Gathers self n → Gathers r (joined n (span_numbers span)))
-        }
+        ensures value { let span : Span = record { piece = piece.now; next = next.now } in
+            IfSome result (λ r. (n : Numbers) → Gathers self n → Gathers r (joined n (span_numbers span))) }
         ensures fits { let span : Span = record { piece = piece.now; next = next.now } in SpanFits span → IsSome result }
     {
         let values = seen_values(piece, next)?;
         let placed = self.with_time(piece.x).with_line(piece.line);
-        Some(placed.with_ext(values.at).with_ext(values.after).with_ext(values.before))
+        Some(
+            placed
+                .with_ext(values.at)
+                .with_ext(values.after)
+                .with_ext(values.before),
+        )
     }
 
     /// The values of a piece more, n times the rise higher.
-    pub(crate) fn with_last(&self, piece: &Piece, next: &Option<Frac>, n: Frac, rise: Frac) -> Option<Gathered>
-        ensures value {
-            let span : Span = record { piece = piece.now; next = next.now } in
-            IfSome result (λ r. (m : Numbers) → Gathers self.now m → Gathers r (joined m (last_numbers (n *ℚ rise) span)))
-        }
-        ensures fits {
-            let span : Span = record { piece = piece.now; next = next.now } in
-            SpanFits span → SeenRises (seen_of span) n rise → IsSome result
-        }
+    pub(crate) fn with_last(
+        &self,
+        piece: &Piece,
+        next: &Option<Frac>,
+        n: Frac,
+        rise: Frac,
+    ) -> Option<Gathered>
+        ensures value { let span : Span = record { piece = piece.now; next = next.now } in
+            IfSome result (λ r. (m : Numbers) → Gathers self.now m → Gathers r (joined m (last_numbers (n *ℚ rise) span))) }
+        ensures fits { let span : Span = record { piece = piece.now; next = next.now } in
+            SpanFits span → SeenRises (seen_of span) n rise → IsSome result }
     {
         let values = seen_risen(piece, next, n, rise)?;
-        Some((*self).with_ext(values.at).with_ext(values.after).with_ext(values.before))
+        Some(
+            (*self)
+                .with_ext(values.at)
+                .with_ext(values.after)
+                .with_ext(values.before),
+        )
     }
 }

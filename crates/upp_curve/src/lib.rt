@@ -4,6 +4,7 @@
 mod curve;
 mod curve_numbers;
 mod gathered;
+mod gauges;
 mod laws;
 mod long;
 mod op_kind;

@@ -75,14 +75,10 @@ fn risen(v: Ext, n: Frac, rise: Frac) -> Option<Ext>
 
 /// The values of a piece, n times the rise higher.
 pub(crate) fn seen_risen(piece: &Piece, next: &Option<Frac>, n: Frac, rise: Frac) -> Option<Seen>
-    ensures value {
-        let span : Span = record { piece = piece.now; next = next.now } in
-        IfSome result (λ s. s ≡ seen_risen (seen_of span) (n *ℚ rise))
-    }
-    ensures fits {
-        let span : Span = record { piece = piece.now; next = next.now } in
-        SpanFits span → SeenRises (seen_of span) n rise → IsSome result
-    }
+    ensures value { let span : Span = record { piece = piece.now; next = next.now } in
+        IfSome result (λ s. s ≡ seen_risen (seen_of span) (n *ℚ rise)) }
+    ensures fits { let span : Span = record { piece = piece.now; next = next.now } in
+        SpanFits span → SeenRises (seen_of span) n rise → IsSome result }
 {
     let values = seen_values(piece, next)?;
     Some(Seen {
