@@ -35,3 +35,4 @@ pub mod WholeNumbers
 pub mod SpanNumbers
 pub mod PieceLists
 pub mod GaugeProduct
+pub mod ClosedForms
