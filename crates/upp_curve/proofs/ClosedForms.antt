@@ -65,7 +65,7 @@ slope_later d c (Some l) = refl
 pub record IsFilled (P : ℚ → Type 0) : Type 0 where
   pub between : (x c : ℚ) (n m : ℕ) → n ≤ m → P c → P x → P (x +ℚ int (pos m) *ℚ c) → P (x +ℚ int (pos n) *ℚ c)
 
-whole_filled : (d : ℕ) → IsFilled (Whole d)
+pub whole_filled : (d : ℕ) → IsFilled (Whole d)
 whole_filled d = record { between = λ x c n m h k l w. whole_add d x (int (pos n) *ℚ c) l (whole_times d (pos n) c k) }
 
 rising_between : (x y n m : ℚ) → int (pos 0) ≤ℚ n → n ≤ℚ m → (b : ℚ) → Within b x → Within b (x +ℚ m *ℚ y) → int (pos 0) ≤ℚ y → Within b (x +ℚ n *ℚ y)
@@ -99,7 +99,7 @@ falling_between x y n m h k b i j s =
       high = with8 x b (n *ℚ y) (m *ℚ y) (n *ℚ int (pos 0)) ((m -ℚ n) *ℚ y) ((m -ℚ n) *ℚ int (pos 0)) y (λ c. omega (arith, c.le, c.lt, c.same));
     }
 
-within_filled : (b : ℚ) → IsFilled (Within b)
+pub within_filled : (b : ℚ) → IsFilled (Within b)
 within_filled b = record { between = λ x c n m h k l w. by_sign x c n m h l w (le_or_lt (int (pos 0)) c) }
   where
     by_sign : (x c : ℚ) (n m : ℕ) → n ≤ m → Within b x → Within b (x +ℚ int (pos m) *ℚ c) → (int (pos 0) ≤ℚ c) ⊎ (c <ℚ int (pos 0)) → Within b (x +ℚ int (pos n) *ℚ c)

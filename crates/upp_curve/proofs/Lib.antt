@@ -36,3 +36,4 @@ pub mod SpanNumbers
 pub mod PieceLists
 pub mod GaugeProduct
 pub mod ClosedForms
+pub mod SameSizes
