@@ -32,7 +32,7 @@ use Rattle.upp_curve.proofs.CommonDen.{common_den_each, bound_each, bound_pos, s
 use Rattle.upp_curve.proofs.Copies.{copy_zero, every_copy, copy_among}
 
 -- ---- the values of a copy
-line_moved : (l : Option Line) (d c t : ℚ) → line_value (line_later d c l) (t +ℚ d) ≡ line_value l t +ₑ Fin c
+pub line_moved : (l : Option Line) (d c t : ℚ) → line_value (line_later d c l) (t +ℚ d) ≡ line_value l t +ₑ Fin c
 line_moved None d c t = refl
 line_moved (Some l) d c t =
     let s = l.slope in
@@ -40,7 +40,7 @@ line_moved (Some l) d c t =
     let e = mul_add s t d in
     ap Fin (with5 k c (s *ℚ d) (s *ℚ t) (s *ℚ (t +ℚ d)) (λ c. omega (arith, c.le, c.lt, c.same)))
 
-before_moved : (l : Option Line) (next : Option ℚ) (d c : ℚ) → limit_before (line_later d c l) (next_later d next) ≡ limit_before l next +ₑ Fin c
+pub before_moved : (l : Option Line) (next : Option ℚ) (d c : ℚ) → limit_before (line_later d c l) (next_later d next) ≡ limit_before l next +ₑ Fin c
 before_moved l None d c = refl
 before_moved l (Some e) d c = line_moved l d c e
 

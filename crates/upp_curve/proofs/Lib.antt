@@ -37,3 +37,4 @@ pub mod PieceLists
 pub mod GaugeProduct
 pub mod ClosedForms
 pub mod SameSizes
+pub mod NarrowSizes
