@@ -69,7 +69,7 @@ unrolled_stand z end c h =
     (every_flat_out (IsSlope z) span_slopes ss h.slopes)
 
 -- ---- the pieces themselves
-once_out : (P : Span → Type 0) (end : ℚ) (s : Span) → s.piece.x <ℚ end → AllByRecursion P (once_below end s) → P s
+pub once_out : (P : Span → Type 0) (end : ℚ) (s : Span) → s.piece.x <ℚ end → AllByRecursion P (once_below end s) → P s
 once_out P end s l h =
     let k : AllByRecursion P (s ∷ []) = subst (λ b. AllByRecursion P (cond b (s ∷ []) [])) (lt_q_out s.piece.x end l) h in k.0
 
@@ -83,7 +83,7 @@ first_below end d p some l =
         zero_product : (d : ℚ) → int (pos 0) *ℚ d ≡ int (pos 0)
         zero_product d = with1 d (λ c. omega (arith, c.le, c.lt, c.same))
 
-copies_first : (P : Span → Type 0) (end d c : ℚ) (s : Span) → int (pos 0) <ℚ d → s.piece.x <ℚ end
+pub copies_first : (P : Span → Type 0) (end d c : ℚ) (s : Span) → int (pos 0) <ℚ d → s.piece.x <ℚ end
     → AllByRecursion P (copies_of d c s (copies_below d end s.piece)) → P s
 copies_first P end d c s some l h =
     subst P (copy_zero d c s) (copy_among P d c s (copies_below d end s.piece) 0 (first_below end d s.piece some l) h)
@@ -112,7 +112,7 @@ below_all P end tail (p ∷ ps) h k = (k.0 h.0, below_all P end tail ps h.1 k.1)
 rank_stands : (z : Sizes) (end : ℚ) (c : SpecCurve) → Stands z (curve_numbers end c) → Whole z.dt (rank_of c.tail)
 rank_stands z end c h = h.times.0
 
-tail_stands : (z : Sizes) (end : ℚ) (ps : List Piece) (tail : Tail) → Stands z (curve_numbers end record { pieces = ps; tail = tail }) → TailStands z tail
+pub tail_stands : (z : Sizes) (end : ℚ) (ps : List Piece) (tail : Tail) → Stands z (curve_numbers end record { pieces = ps; tail = tail }) → TailStands z tail
 tail_stands z end ps (Periodic rank period rise) h = record { whole = h.times.1.0; value = h.values.0 }
 tail_stands z end ps (Affine rank) h = tt
 tail_stands z end ps (Infinite rank) h = tt

@@ -38,3 +38,4 @@ pub mod GaugeProduct
 pub mod ClosedForms
 pub mod SameSizes
 pub mod NarrowSizes
+pub mod KnownNumbers
