@@ -5,13 +5,16 @@ use Rattle.std.proofs.Common.{arith, sym, ap, ap₂, ◌∙◌, subst, refl, ◌
 use Rattle.std.proofs.lemmas.Bool.{cases_lt}
 use Rattle.std.proofs.lemmas.Int.{ints}
 use Prim.Native.Nat.{◌∣◌}
-use native.Mathlib.Nat.{div-mul_cancel, mul-pos, zero-lt-suc, mul_comm, mul_assoc, dvd_trans, dvd-mul_right, dvd-mul_left, dvd_refl, dvd-add, dvd-sub, div-le_self, mul-le-mul_left, mul-div_cancel}
-use Rattle.rational.specs.Gcd.{gcd, gcd_is, gcd_pos, lowest_after}
-use Rattle.rational.specs.Rational.{ℚ, ◌+ℚ◌, den, abs-neg}
-use Rattle.rational.specs.Ratio.{ratio, with_sign, sign_abs, PartsFit, SumFits, reduced_ratio}
+use native.Mathlib.Nat.{div-mul_cancel, mul-pos, zero-lt-suc, mul_assoc, dvd_trans, dvd-mul_left, dvd_refl, dvd-add, dvd-sub, div-le_self, mul-le-mul_left, mul-div_cancel}
+use Rattle.rational.specs.Gcd.{gcd}
+use Rattle.rational.specs.Euclid.{gcd_is, gcd_pos, lowest_after}
+use Rattle.rational.specs.Rational.{ℚ, ◌+ℚ◌}
+use Rattle.rational.specs.Lowest.{abs-neg}
+use Rattle.rational.specs.Ratio.{ratio, with_sign, PartsFit, SumFits}
+use Rattle.rational.proofs.Parts.{sign_abs, reduced_ratio}
 use Rattle.rational.proofs.Lcd.{lcd_ratio}
 use Rattle.fraction128.specs.Parts.{AreLowest}
-use Rattle.fraction128.proofs.Coprime.{gcd_comm, coprime_in, coprime_out, coprime_turned, coprime_parts, coprime_mul, divides_rest, part_divides}
+use Rattle.fraction128.proofs.Coprime.{coprime_in, coprime_out, coprime_turned, coprime_parts, coprime_mul, divides_rest, part_divides}
 use Rattle.fraction128.proofs.Values.{parts_of}
 
 -- a divisor of a sum and of one part divides the other

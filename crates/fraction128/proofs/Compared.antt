@@ -1,6 +1,6 @@
 -- Two fractions compare as their whole parts do, and where these are equal as what is left over them.
 use Rattle.std.specs.Prelude.{◌≡◌, ◌≢◌, ℕ, zero, suc, ◌+◌, ◌*◌, ◌/◌, ◌%◌, ◌<◌, ◌≤◌, ℤ, pos, negsuc, ◌≤ℤ◌, unsigned_abs}
-use Rattle.std.proofs.Common.{arith, sym, ap, ◌∙◌, subst, refl, nat_cmp, int_cmp, Less, Equal, Greater, Ordering}
+use Rattle.std.proofs.Common.{arith, sym, ap, ◌∙◌, subst, refl, nat_cmp, int_cmp, Less, Equal, Greater}
 use Rattle.std.specs.Prelude.{◌-◌, ◌<ℤ◌, ◌+ℤ◌, ◌*ℤ◌, ◌⊎◌}
 use Rattle.std.proofs.Common.{inl, inr}
 use Rattle.std.specs.Prelude.{◌-ℤ◌, false}
@@ -11,7 +11,7 @@ use Rattle.std.specs.Cmp.{both_ways, Equal-is}
 use Rattle.std.proofs.lemmas.Bool.{cases_lt}
 use Rattle.std.proofs.lemmas.Int.{ints, by_lt_z}
 use native.Mathlib.Nat.{div-add-mod, div-add-mod', mod-lt, mul-le-mul_right, mul-lt-mul_of_pos_right, mul-pos, zero-lt-suc, pos_of_ne-zero}
-use Rattle.rational.specs.Ints.{diffs, diff, diff_is, diff_same, le_scale_z, lt_scale_z}
+use Rattle.rational.specs.Ints.{diffs, diff_is, diff_same, le_scale_z, lt_scale_z}
 use Rattle.rational.specs.Rational.{ℚ}
 use Rattle.rational.specs.Ratio.{ratio, cmp_q}
 use Rattle.rational.proofs.Comparison.{cmp_equal, cmp_self}

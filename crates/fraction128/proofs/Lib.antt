@@ -6,3 +6,8 @@ pub mod Turned
 pub mod Multiplied
 pub mod Added
 pub mod Printed
+pub mod Rounded
+pub mod CommonMultiple
+pub mod Parsed
+pub mod OrderTests
+pub mod ReadBack

@@ -1,12 +1,14 @@
 -- What `Frac::new` computes from its two numbers: the sizes, their greatest common divisor and the quotients.
-use Rattle.std.specs.Prelude.{◌≡◌, ◌≢◌, ℕ, zero, suc, ◌+◌, ◌*◌, ◌/◌, ◌<◌, ◌≤◌, ◌^◌, ◌↔◌, ℤ, pos, negsuc, ◌≤ℤ◌, unsigned_abs}
-use Rattle.std.proofs.Common.{arith, sym, ap, ◌∙◌, subst, refl, SFits, to_z, of_z, to_z-of_z}
+use Rattle.std.specs.Prelude.{◌≡◌, ◌≢◌, ℕ, zero, suc, ◌*◌, ◌/◌, ◌<◌, ◌^◌, ℤ, pos, negsuc, unsigned_abs}
+use Rattle.std.proofs.Common.{arith, ap, ◌∙◌, refl, SFits, to_z, of_z, to_z-of_z}
 use mir.Syntax.{w128}
 use Rattle.std.proofs.lemmas.Int.{ints}
-use native.Mathlib.Nat.{div-mul_cancel, zero-lt-suc}
-use Rattle.rational.specs.Gcd.{gcd, gcd_is, gcd_pos, lowest_after}
-use Rattle.rational.specs.Rational.{ℚ, den}
-use Rattle.rational.specs.Ratio.{ratio, with_sign, ratio_parts, reduced_ratio, reduced_lowest, IsSmall, sign_abs, abs_some}
+use native.Mathlib.Nat.{div-mul_cancel, div-le_self, zero-lt-suc}
+use Rattle.rational.specs.Gcd.{gcd}
+use Rattle.rational.specs.Euclid.{gcd_is, gcd_pos}
+use Rattle.rational.specs.Rational.{den}
+use Rattle.rational.specs.Ratio.{ratio, with_sign, IsSmall}
+use Rattle.rational.proofs.Parts.{ratio_parts, reduced_ratio, reduced_lowest, sign_abs, abs_some}
 use Rattle.fraction128.specs.Parts.{AreLowest}
 
 pub record Made (a b : ℤ) (s t g : ℕ) : Type 0 where
@@ -65,3 +67,27 @@ lowest_in a b s t g z m p q e =
 pub same_value : (a b : ℤ) (s t g : ℕ) (z : ℤ) → Made a b s t g → z ≡ with_sign a b (s / g) → ratio z (pos (t / g)) ≡ ratio a b
 same_value a b s t g z m e =
     rw e (reduced_ratio a b (s / g) (t / g) g m.nonzero (quotient_top a b s t g m) (quotient_bottom a b s t g m))
+
+-- ---- a numerator over a denominator that is not 0
+one_sign : (t : ℤ) (m n : ℕ) → with_sign t (pos 1) n ≡ with_sign t (pos m) n
+one_sign (pos t) m n = refl
+one_sign (negsuc t) m n = refl
+
+over_made : (n : ℤ) (d s g : ℕ) → 0 < d → s ≡ unsigned_abs n → g ≡ gcd s d → Made n (pos d) s d g
+over_made n d s g some p q = record {
+  nonzero = λ e. omega (arith, ints, e, some);
+  top = p;
+  bottom = refl;
+  common = q ∙ ap (λ k. gcd k d) p;
+  some = rw q (gcd_pos s d some);
+}
+
+pub reduced_lowest_parts : (n : ℤ) (d s g : ℕ) (z : ℤ) → 0 < d → unsigned_abs n < 2 ^ 127 → d < 2 ^ 127 → s ≡ unsigned_abs n → g ≡ gcd s d → z ≡ with_sign n (pos 1) (s / g) → AreLowest z (d / g)
+reduced_lowest_parts n d s g z some top bottom p q e =
+    let m = over_made n d s g some p q in
+    let x = div-le_self s g in
+    let y = div-le_self d g in
+    lowest_in n (pos d) s d g z m (omega arith) (omega arith) (e ∙ one_sign n d (s / g))
+
+pub reduced_value : (n : ℤ) (d s g : ℕ) (z : ℤ) → 0 < d → s ≡ unsigned_abs n → g ≡ gcd s d → z ≡ with_sign n (pos 1) (s / g) → ratio z (pos (d / g)) ≡ ratio n (pos d)
+reduced_value n d s g z some p q e = same_value n (pos d) s d g z (over_made n d s g some p q) (e ∙ one_sign n d (s / g))

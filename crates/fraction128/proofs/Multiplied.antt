@@ -1,14 +1,17 @@
 -- The product of two fractions in lowest terms: each numerator is divided by what it has in common with the other's denominator.
-use Rattle.std.specs.Prelude.{◌≡◌, ◌≢◌, ℕ, zero, suc, ◌+◌, ◌*◌, ◌/◌, ◌<◌, ◌≤◌, ◌^◌, ℤ, pos, negsuc, neg_ℤ, ◌*ℤ◌, unsigned_abs}
-use Rattle.std.proofs.Common.{arith, sym, ap, ap₂, ◌∙◌, refl}
+use Rattle.std.specs.Prelude.{◌≡◌, ℕ, zero, suc, ◌*◌, ◌/◌, ◌<◌, ◌^◌, ℤ, pos, negsuc, neg_ℤ, ◌*ℤ◌, unsigned_abs}
+use Rattle.std.proofs.Common.{arith, sym, ap, ◌∙◌}
 use native.Mathlib.Nat.{div-mul_cancel, mul-pos, zero-lt-suc}
-use Rattle.rational.specs.Gcd.{gcd, gcd_is, lowest_after}
-use Rattle.rational.specs.Ints.{diffs, diff, diff_is, diff_same, neg_mul_z}
-use Rattle.rational.specs.Rational.{ℚ, ◌*ℚ◌, den, frac, frac-same, both}
-use Rattle.rational.specs.Ratio.{ratio, with_sign, sign_abs, IsSmall}
+use Rattle.rational.specs.Gcd.{gcd}
+use Rattle.rational.specs.Euclid.{gcd_is, lowest_after}
+use Rattle.rational.specs.Ints.{diffs, diff_is, diff_same, neg_mul_z}
+use Rattle.rational.specs.Rational.{◌*ℚ◌, both}
+use Rattle.rational.specs.Fractions.{frac-same}
+use Rattle.rational.specs.Ratio.{ratio, with_sign, IsSmall}
+use Rattle.rational.proofs.Parts.{sign_abs}
 use Rattle.rational.proofs.Over.{mul_frac, both_is}
 use Rattle.fraction128.specs.Parts.{AreLowest}
-use Rattle.fraction128.proofs.Coprime.{gcd_comm, coprime_turned, coprime_parts, coprime_mul, part_divides}
+use Rattle.fraction128.proofs.Coprime.{coprime_turned, coprime_parts, coprime_mul, part_divides}
 use Rattle.fraction128.proofs.Values.{value_parts}
 
 sign_mul : (a b : ℤ) (n k : ℕ) → n * k ≡ unsigned_abs a * unsigned_abs b → with_sign a b n *ℤ pos k ≡ a *ℤ b

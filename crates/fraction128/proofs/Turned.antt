@@ -1,10 +1,11 @@
 -- A fraction below 0 as far as another is above, and one over a fraction, from the numbers that it is made of.
-use Rattle.std.specs.Prelude.{◌≡◌, ◌≢◌, ℕ, zero, suc, ◌<◌, ◌^◌, ℤ, pos, negsuc, neg_ℤ, ◌-ℤ◌, unsigned_abs}
+use Rattle.std.specs.Prelude.{◌≡◌, ◌≢◌, ℕ, zero, suc, ◌<◌, ℤ, pos, negsuc, neg_ℤ, ◌-ℤ◌, unsigned_abs}
 use Rattle.std.proofs.Common.{arith, sym, ap, ap₂, ◌∙◌, refl}
 use Rattle.std.proofs.lemmas.Int.{ints}
-use Rattle.rational.specs.Gcd.{gcd}
-use Rattle.rational.specs.Rational.{ℚ, int, neg_ℚ, inv_ℚ, ◌+ℚ◌, ◌-ℚ◌, ◌*ℚ◌, ◌/ℚ◌, turned, den, frac-same}
-use Rattle.rational.specs.Ratio.{ratio, with_sign, abs_some, sign_abs}
+use Rattle.rational.specs.Rational.{ℚ, int, neg_ℚ, inv_ℚ, ◌+ℚ◌, ◌-ℚ◌, ◌*ℚ◌, ◌/ℚ◌, turned}
+use Rattle.rational.specs.Fractions.{frac-same}
+use Rattle.rational.specs.Ratio.{ratio, with_sign}
+use Rattle.rational.proofs.Parts.{abs_some, sign_abs}
 use Rattle.rational.proofs.Over.{neg_over}
 use Rattle.fraction128.specs.Parts.{AreLowest}
 use Rattle.fraction128.proofs.Coprime.{coprime_turned}

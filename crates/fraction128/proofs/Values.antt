@@ -1,12 +1,13 @@
 -- A fraction's value and the numbers that it is made of.
-use Rattle.std.specs.Prelude.{◌≡◌, ◌≢◌, ℕ, zero, suc, ◌<◌, ◌^◌, ◌↔◌, ℤ, pos, negsuc, unsigned_abs, IsTrue, Bool, true, false}
-use Rattle.std.proofs.Common.{arith, sym, ap, ap₂, ◌∙◌, refl, SFits, to_z, of_z, to_z-of_z, ◌≤◌, inl, inr}
+use Rattle.std.specs.Prelude.{◌≡◌, ℕ, zero, suc, ◌<◌, ◌^◌, ◌↔◌, ℤ, pos, unsigned_abs}
+use Rattle.std.proofs.Common.{arith, sym, ap, ap₂, ◌∙◌, SFits, to_z, of_z, to_z-of_z, ◌≤◌, inl, inr}
 use Rattle.std.proofs.lemmas.Bool.{cases_lt}
 use Rattle.std.proofs.lemmas.Int.{fits_signed_from_abs}
 use mir.Syntax.{w128}
 use Rattle.rational.specs.Gcd.{gcd}
 use Rattle.rational.specs.Rational.{ℚ, den}
-use Rattle.rational.specs.Ratio.{ratio, lowest_parts, IsSmall}
+use Rattle.rational.specs.Ratio.{ratio, IsSmall}
+use Rattle.rational.proofs.Parts.{lowest_parts}
 use Rattle.fraction128.specs.Parts.{AreLowest}
 use Rattle.fraction128.proofs.Coprime.{gcd_one}
 

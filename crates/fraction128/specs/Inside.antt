@@ -2,7 +2,8 @@
 use Rattle.std.specs.Prelude.{◌≡◌, ℕ, zero, suc, ℤ, pos}
 use Rattle.std.proofs.Common.{ap, ap₂, sym, ◌∙◌, arith, refl}
 use Rattle.rational.specs.Rational.{ℚ}
-use Rattle.rational.specs.Ratio.{ratio, lowest_parts}
+use Rattle.rational.specs.Ratio.{ratio}
+use Rattle.rational.proofs.Parts.{lowest_parts}
 use Rattle.fraction128.specs.Parts.{AreLowest}
 use Rattle.fraction128.specs.declared.fraction.Frac.TheInside.{Inside}
 

@@ -3,3 +3,5 @@ pub mod Inside
 pub mod Order
 pub mod Fits
 pub mod Text
+pub mod Multiple
+pub mod Laws

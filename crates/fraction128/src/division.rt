@@ -1,8 +1,9 @@
 //! Division and greatest common divisors of plain numbers. Numbers that fit 64 bits are divided
 //! as such, since a 128-bit division takes many times as long.
 
-ghost use Rattle.std.specs.Prelude.{◌≡◌, ◌<◌, ◌/◌, ◌%◌};
+ghost use Rattle.std.specs.Prelude.{◌≡◌, ◌<◌, ◌≤◌, ◌/◌, ◌%◌, ◌^◌, MatchOption};
 ghost use Rattle.rational.specs.Gcd.{gcd};
+ghost use Rattle.rational.specs.Gauge.{lcm};
 
 /// The largest number of 64 bits.
 const SHORT: u128 = u64::MAX as u128;
@@ -34,6 +35,12 @@ pub(crate) fn quotient(n: u128, by: u128) -> u128
 pub fn gcd_of(a: u128, b: u128) -> u128
     ensures { result ≡ gcd a b }
 {
+    if a == 1 || b == 1 {
+        return 1;
+    }
+    if a == b {
+        return a;
+    }
     let mut x = a;
     let mut y = b;
     while y > SHORT {
@@ -46,6 +53,14 @@ pub fn gcd_of(a: u128, b: u128) -> u128
     }
     let rest = divide(x, y).1;
     short_gcd(y as u64, rest as u64) as u128
+}
+
+/// The least common multiple; `None` where it is above 2^128 - 1.
+pub fn least_common_multiple(a: u128, b: u128) -> Option<u128>
+    requires { 0 < b }
+    ensures { MatchOption result (2 ^ 128 ≤ lcm a b) (λ m. m ≡ lcm a b) }
+{
+    quotient(a, gcd_of(a, b)).checked_mul(b)
 }
 
 fn short_gcd(a: u64, b: u64) -> u64

@@ -11,6 +11,17 @@ pub enum FracFault {
     TooBig,
 }
 
+/// Why a text is no fraction. The first of these, in this order, is answered.
+#[derive(Debug, Clone, Copy, PartialEq, Eq)]
+pub enum FracText {
+    /// It is not `p` or `p/q`, where p is digits after an optional minus sign, and q is digits.
+    Form,
+    /// A written number is above 2^127 - 1 in size.
+    Past,
+    /// The number after the slash is 0.
+    ZeroDen,
+}
+
 /// The operators of checked arithmetic.
 #[derive(Debug, Clone, Copy, PartialEq, Eq)]
 pub enum Op {

@@ -1,20 +1,25 @@
 //! The exact fraction.
 
-ghost use Rattle.std.specs.Prelude.{refl, ◌≡◌, ◌≢◌, ◌↔◌, ◌<◌, ◌^◌, ℤ, pos, unsigned_abs, IsOk, IsErr, IfOk, IfErr, IsTrue, ◌++◌, OnOk, OnErr};
+ghost use Rattle.std.specs.Prelude.{refl, ◌≡◌, ◌≢◌, ◌↔◌, ◌<◌, ◌≤◌, ◌^◌, ℤ, pos, unsigned_abs, IsOk, IsErr, IfOk, IfErr, IsTrue, ◌++◌, OnOk, OnErr};
 ghost use Rattle.std.specs.Ordering.{MatchOrdering, is_eq, as_partial_cmp};
 ghost use Rattle.rational.specs.Rational.{ℚ, den, int, ◌+ℚ◌, ◌-ℚ◌, ◌*ℚ◌, ◌/ℚ◌, ◌≤ℚ◌, ◌<ℚ◌, neg_ℚ, inv_ℚ};
 ghost use Rattle.rational.specs.Ratio.{ratio, with_sign, IsSmall, SumFits, cmp_q};
 ghost use Rattle.fraction128.specs.Parts.{AreLowest};
 ghost use Rattle.fraction128.specs.Fits.{wide_step};
-ghost use Rattle.fraction128.specs.Text.{text_of};
-ghost use Rattle.fraction128.specs.declared.fault.Op.TheVariants.{Add, Sub, Mul, Div};
+ghost use Rattle.fraction128.specs.Text.{text_of, parse_of};
+ghost use Rattle.fraction128.specs.Multiple.{common_multiple, IsLeastMultiple};
+ghost use Rattle.rational.specs.Floor.{floor, ceil};
+ghost use Rattle.rational.specs.Whole.{whole_part};
+ghost use Rattle.rational.specs.Gauge.{size_up};
+ghost use Rattle.fraction128.specs.declared.fault.Op.TheVariants.{Add, Sub, Mul, Div, Lcm};
 
-use crate::division::gcd_of;
-use crate::fault::{FracFault, Op, Wide};
-use crate::order::compare_signed;
+use crate::division::{divide, gcd_of, quotient};
+use crate::fault::{FracFault, FracText, Op, Wide};
+use crate::multiple::multiple_of;
+use crate::order::{compare_signed, whole_and_rest};
 use crate::product::product_of;
 use crate::sum::sum_of;
-use crate::text::print_parts;
+use crate::text::{parse_text, print_parts};
 use rational::Extended;
 use std::alloc::AllocError;
 use std::cmp::Ordering;
@@ -66,8 +71,8 @@ impl Frac {
         let top = num.unsigned_abs();
         let bottom = den.unsigned_abs();
         let common = gcd_of(top, bottom);
-        let size = top / common;
-        let whole = bottom / common;
+        let size = quotient(top, common);
+        let whole = quotient(bottom, common);
         if size > LARGEST || whole > LARGEST {
             return Err(FracFault::TooBig);
         }
@@ -75,6 +80,21 @@ impl Frac {
             num: with_sign(num, den, size),
             den: whole,
         })
+    }
+
+    /// num / den in lowest terms.
+    pub(crate) fn reduced(num: i128, den: u128) -> Frac
+        requires some { 0 < den }
+        requires top { unsigned_abs num < 2 ^ 127 }
+        requires bottom { den < 2 ^ 127 }
+        ensures { result ≡ ratio num (pos den) }
+    {
+        let size = num.unsigned_abs();
+        let common = gcd_of(size, den);
+        Frac {
+            num: with_sign(num, 1, quotient(size, common)),
+            den: quotient(den, common),
+        }
     }
 
     /// The fraction of two numbers in lowest terms.
@@ -86,14 +106,12 @@ impl Frac {
         Frac { num, den }
     }
 
-    /// Numerator and denominator in lowest terms.
-    #[inline]
-    pub fn parts(&self) -> (i128, u128)
-        ensures num { result.0 ≡ self.now.num }
-        ensures den { result.1 ≡ den self.now }
-        ensures small { IsSmall self.now }
+    /// The fraction that a text writes: `p` or `p/q`, where p is an optional minus
+    /// sign and digits, and q is digits. Leading zeros are read.
+    pub fn parse(text: &[u8]) -> Result<Frac, FracText>
+        ensures { result ≡ parse_of text.now }
     {
-        (self.num, self.den)
+        parse_text(text)
     }
 
     /// Appends `p`, or `p/q` where q is above 1, in lowest terms. After an error the vector is as it was.
@@ -104,16 +122,82 @@ impl Frac {
         print_parts(self.num, self.den, into)
     }
 
+    #[inline]
     pub fn zero() -> Frac
         ensures { result ≡ int (pos 0) }
     {
         Frac { num: 0, den: 1 }
     }
 
+    #[inline]
     pub fn one() -> Frac
         ensures { result ≡ int (pos 1) }
     {
         Frac { num: 1, den: 1 }
+    }
+
+    /// The whole number n.
+    #[inline]
+    pub fn from_whole(n: i128) -> Frac
+        requires { unsigned_abs n < 2 ^ 127 }
+        ensures { result ≡ int n }
+    {
+        Frac { num: n, den: 1 }
+    }
+
+    /// The numerator in lowest terms. It has the fraction's sign.
+    #[inline]
+    pub fn numerator(&self) -> i128
+        ensures value { result ≡ self.now.num }
+        ensures size { unsigned_abs result < 2 ^ 127 }
+    {
+        self.num
+    }
+
+    /// The denominator in lowest terms.
+    #[inline]
+    pub fn denominator(&self) -> u128
+        ensures value { result ≡ den self.now }
+        ensures some { 0 < result }
+        ensures size { result < 2 ^ 127 }
+    {
+        self.den
+    }
+
+    /// The largest whole number that is at most this.
+    #[inline]
+    pub fn floor(self) -> i128
+        ensures value { result ≡ floor self }
+        ensures size { unsigned_abs result < 2 ^ 127 }
+    {
+        whole_and_rest(self.num, self.den).0
+    }
+
+    /// The least whole number that is at least this.
+    #[inline]
+    pub fn ceil(self) -> i128
+        ensures value { result ≡ ceil self }
+        ensures size { unsigned_abs result < 2 ^ 127 }
+    {
+        -self.negated().floor()
+    }
+
+    /// The largest whole number that is at most this, and 0 below 0, as a fraction.
+    pub fn whole_part(self) -> Frac
+        ensures { result ≡ int (pos (whole_part self)) }
+    {
+        if self.num < 0 {
+            return Frac::zero();
+        }
+        Frac::from_whole(self.floor())
+    }
+
+    /// The least whole number that is at least the fraction's size.
+    pub fn size_up(self) -> u128
+        ensures { result ≡ size_up self }
+    {
+        let (whole, rest) = divide(self.num.unsigned_abs(), self.den);
+        if rest == 0 { whole } else { whole + 1 }
     }
 
     /// The exact sum. Refused only where a cross product over the least common denominator, their
@@ -168,6 +252,21 @@ impl Frac {
         }
     }
 
+    /// The least fraction above 0 that is a whole multiple of both. Refused exactly where it does not fit.
+    pub fn lcm_of(a: Frac, b: Frac) -> Result<Frac, Wide>
+        requires left { int (pos 0) <ℚ a }
+        requires right { int (pos 0) <ℚ b }
+        ensures value { IfOk result (λ f. f ≡ common_multiple a b) }
+        ensures least { IfOk result (IsLeastMultiple a b) }
+        ensures fits { IsOk result ↔ IsSmall (common_multiple a b) }
+        ensures step { IfErr result (λ w. w ≡ wide_step Lcm a b) }
+    {
+        match multiple_of(a.num.unsigned_abs(), a.den, b.num.unsigned_abs(), b.den) {
+            Some(f) => Ok(f),
+            None => Err(Wide { op: Op::Lcm, a, b }),
+        }
+    }
+
     /// The fraction below 0 as far as this is above.
     #[inline]
     pub fn negated(self) -> Frac
@@ -188,6 +287,22 @@ impl Frac {
             num: with_sign(self.num, 1, self.den),
             den: self.num.unsigned_abs(),
         }
+    }
+}
+
+impl From<i64> for Frac {
+    ghost from_gives = { λ n f. f ≡ int n };
+
+    fn from(n: i64) -> Frac {
+        Frac::from_whole(n as i128)
+    }
+}
+
+impl From<u64> for Frac {
+    ghost from_gives = { λ n f. f ≡ int (pos n) };
+
+    fn from(n: u64) -> Frac {
+        Frac::from_whole(n as i128)
     }
 }
 

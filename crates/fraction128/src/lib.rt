@@ -4,11 +4,15 @@
 mod division;
 mod fault;
 mod fraction;
+pub mod laws;
+mod multiple;
 mod order;
 mod product;
 mod sum;
+#[cfg(test)]
+mod tests;
 mod text;
 
-pub use division::gcd_of;
-pub use fault::{FracFault, Op, Wide};
+pub use division::{gcd_of, least_common_multiple};
+pub use fault::{FracFault, FracText, Op, Wide};
 pub use fraction::{Ext, Frac};

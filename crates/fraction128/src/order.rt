@@ -1,6 +1,6 @@
 //! The order of fractions, by whole parts and reciprocals: nothing is multiplied, so nothing is too wide.
 
-ghost use Rattle.std.specs.Prelude.{◌≡◌, ◌<◌, ◌*◌, pos, ◌*ℤ◌, unsigned_abs, ◌^◌};
+ghost use Rattle.std.specs.Prelude.{◌≡◌, ◌<◌, ◌≤◌, ◌*◌, pos, ◌*ℤ◌, unsigned_abs, ◌^◌};
 ghost use Rattle.std.specs.Ordering.{nat_cmp, int_cmp};
 ghost use Rattle.fraction128.specs.Parts.{IsWholeAndRest};
 
@@ -12,7 +12,8 @@ use std::cmp::Ordering;
 pub(crate) fn whole_and_rest(num: i128, den: u128) -> (i128, u128)
     requires some { 0 < den }
     requires top { unsigned_abs num < 2 ^ 127 }
-    ensures { IsWholeAndRest num den result.0 result.1 }
+    ensures parts { IsWholeAndRest num den result.0 result.1 }
+    ensures size { unsigned_abs result.0 ≤ unsigned_abs num }
 {
     if num >= 0 {
         let (whole, rest) = divide(num as u128, den);

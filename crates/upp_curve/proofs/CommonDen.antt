@@ -9,7 +9,9 @@ use Rattle.std.proofs.lemmas.Nat.Gcd.{dvd_refl}
 use Rattle.std.proofs.Math.Nat.{le-max_left, le-max_right, max-le}
 use native.Mathlib.Nat.{dvd_trans, dvd_antisymm, one-dvd, zero-lt-suc, div-add-mod', mod-lt, le_of_mul-le-mul_right, mul-le-mul_right}
 use Rattle.rational.specs.Ints.{neg_mul_z}
-use Rattle.rational.specs.Rational.{ℚ, den, neg_ℚ, ◌≤ℚ◌, int, frac, frac_self, le_frac}
+use Rattle.rational.specs.Rational.{ℚ, den, neg_ℚ, ◌≤ℚ◌, int, frac}
+use Rattle.rational.specs.Fractions.{frac_self}
+use Rattle.rational.proofs.Over.{le_frac}
 use Rattle.rational.specs.Gauge.{lcm, common_den, common_den_from, size_up, up_over, bound_of}
 use Rattle.rational.specs.Grid.{Whole, Within}
 use Rattle.rational.proofs.Over.{neg_over}

@@ -3,7 +3,8 @@ use Rattle.std.specs.Prelude.{◌≡◌, ℕ, zero, suc, ◌+◌, ◌*◌, ◌/�
 use Rattle.std.proofs.Common.{arith, sym, ap, ap₂, ◌∙◌, refl, subst, append-nil}
 use Rattle.std.proofs.Math.Nat.{le-max_left, le-max_right}
 use Rattle.rational.specs.Ints.{mul_comm_z}
-use Rattle.rational.specs.Rational.{ℚ, den, int, ◌*ℚ◌, frac, frac_self, abs-mul}
+use Rattle.rational.specs.Rational.{ℚ, den, int, ◌*ℚ◌, frac}
+use Rattle.rational.specs.Fractions.{frac_self, abs-mul}
 use Rattle.rational.specs.Gauge.{Kept, cap, lcm, common_den, common_den_from, bound_of, size_up}
 use Rattle.rational.proofs.Integers.{mul_whole}
 use Rattle.rational.proofs.Gauges.{kept_one, cap_times}

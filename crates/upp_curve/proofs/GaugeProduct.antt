@@ -3,7 +3,9 @@ use Rattle.std.specs.Prelude.{◌≡◌, ℕ, zero, suc, ◌+◌, ◌*◌, ◌-�
 use Rattle.std.proofs.Common.{arith, sym, ap, ap₂, ◌∙◌, refl, subst}
 use Rattle.std.proofs.lemmas.Int.{ints}
 use native.Mathlib.Nat.{le-mul_of_pos_right, mul_comm, mul_assoc, mul-le-mul_left, mul-le-mul_right, mul-pos}
-use Rattle.rational.specs.Rational.{ℚ, den, int, ◌*ℚ◌, ◌≤ℚ◌, frac, frac_self, le_frac, abs-mul}
+use Rattle.rational.specs.Rational.{ℚ, den, int, ◌*ℚ◌, ◌≤ℚ◌, frac}
+use Rattle.rational.specs.Fractions.{frac_self, abs-mul}
+use Rattle.rational.proofs.Over.{le_frac}
 use Rattle.rational.specs.Ints.{mul_comm_z}
 use Rattle.rational.specs.Gauge.{Kept, cap, common_den, bound_of}
 use Rattle.rational.specs.Grid.{Whole}

@@ -3,7 +3,9 @@ use Rattle.std.specs.Prelude.{◌≡◌, ◌≢◌, ℕ, zero, suc, ◌+◌, ◌
 use Rattle.std.proofs.Common.{arith, sym, ap, ap₂, ◌∙◌, refl, subst}
 use Rattle.std.proofs.lemmas.Int.{ints}
 use native.Mathlib.Nat.{mul-le-mul_left, mul-lt-mul_of_pos_right, zero-lt-suc}
-use Rattle.rational.specs.Rational.{ℚ, den, frac, frac_self, both, int, ◌+ℚ◌, ◌*ℚ◌, ◌≤ℚ◌, ◌<ℚ◌, lt_frac}
+use Rattle.rational.specs.Rational.{ℚ, den, frac, both, int, ◌+ℚ◌, ◌*ℚ◌, ◌≤ℚ◌, ◌<ℚ◌}
+use Rattle.rational.specs.Fractions.{frac_self}
+use Rattle.rational.proofs.Over.{lt_frac}
 use Rattle.rational.specs.Ratio.{IsSmall}
 use Rattle.rational.proofs.Integers.{mul_whole, nat_nonneg}
 use Rattle.rational.proofs.Linear.{with2}

@@ -4,7 +4,8 @@ use Rattle.std.proofs.Common.{arith, sym, ap, ◌∙◌, refl, subst, inl, inr}
 use Rattle.std.proofs.lemmas.Bool.{cases_lt, true≢false}
 use native.Mathlib.Nat.{div-add-mod', mod-lt, mul_comm, le_of_mul-le-mul_right, lt_of_mul-lt-mul_right, zero-lt-suc}
 use Rattle.rational.specs.Ints.{mul_comm_z}
-use Rattle.rational.specs.Rational.{ℚ, den, int, frac, frac_self, abs-mul, ◌+ℚ◌, ◌-ℚ◌, ◌*ℚ◌, ◌/ℚ◌, ◌≤ℚ◌, ◌<ℚ◌}
+use Rattle.rational.specs.Rational.{ℚ, den, int, frac, ◌+ℚ◌, ◌-ℚ◌, ◌*ℚ◌, ◌/ℚ◌, ◌≤ℚ◌, ◌<ℚ◌}
+use Rattle.rational.specs.Fractions.{frac_self, abs-mul}
 use Rattle.rational.specs.Gauge.{cap, size_up, up_over}
 use Rattle.rational.specs.Grid.{Within}
 use Rattle.rational.specs.declared.Extended.TheVariants.{Inf}

@@ -18,7 +18,7 @@ use Rattle.upp_curve.specs.Normal.{IsRaw, Each, TailFits}
 use Rattle.upp_curve.specs.Steady.{last_of, last_line, same_ext, later_unless, steady_in, steady, slope_times, rise_in, rise_over, IsWholePeriods, Repeats}
 use Rattle.rational.proofs.MinMax.{le_q_not}
 use Rattle.rational.proofs.Whole.{not_zero}
-use Rattle.upp_curve.proofs.Reading.{piece_in_go, piece_in_end}
+use Rattle.upp_curve.proofs.PieceIn.{piece_in_go, piece_in_end}
 use Rattle.upp_curve.proofs.Repeats.{repeated_rule, repeats_times}
 
 -- ---- the test of two values

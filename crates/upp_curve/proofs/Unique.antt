@@ -16,7 +16,7 @@ use Rattle.upp_curve.specs.Normal.{RisesFrom, NoneContinues}
 use Rattle.upp_curve.specs.Unrolled.{upto}
 use Rattle.rational.proofs.Whole.{not_zero}
 use Rattle.upp_curve.proofs.FiniteValues.{Fin_inj, no_inf}
-use Rattle.upp_curve.proofs.Reading.{piece_in_go, piece_in_stop, piece_in_end}
+use Rattle.upp_curve.proofs.PieceIn.{piece_in_go, piece_in_stop, piece_in_end}
 
 -- ---- two values fix a line
 -- two lines that meet at two times have one slope

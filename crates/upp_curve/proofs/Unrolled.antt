@@ -15,7 +15,7 @@ use Rattle.upp_curve.specs.Unrolled.{line_later, later, each_later, copies}
 use Rattle.upp_curve.specs.Curve.{repeated}
 use Rattle.upp_curve.specs.Normal.{Each}
 use Rattle.rational.proofs.MinMax.{le_q_not}
-use Rattle.upp_curve.proofs.Reading.{piece_in_go, piece_in_stop}
+use Rattle.upp_curve.proofs.PieceIn.{piece_in_go, piece_in_stop}
 use Rattle.upp_curve.proofs.Repeats.{repeated_first, repeated_next}
 use Rattle.rational.proofs.Whole.{one_more_times}
 

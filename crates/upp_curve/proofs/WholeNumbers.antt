@@ -4,7 +4,8 @@ use Rattle.std.specs.Result.{result_ok}
 use Rattle.std.proofs.Common.{arith, sym, ap, ◌∙◌, refl, subst}
 use Rattle.std.proofs.lemmas.Int.{ints}
 use Rattle.rational.specs.Rational.{ℚ}
-use Rattle.rational.specs.Ratio.{ratio, IsSmall, small_ratio}
+use Rattle.rational.specs.Ratio.{ratio, IsSmall}
+use Rattle.rational.proofs.Parts.{small_ratio}
 use Rattle.fraction128.specs.declared.fault.FracFault.{FracFault}
 use Rattle.fraction128.specs.declared.fault.FracFault.TheVariants.{ZeroDen, TooBig}
 

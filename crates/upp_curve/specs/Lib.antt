@@ -4,6 +4,8 @@ pub mod Steady
 pub mod Unrolled
 pub mod Normal
 pub mod Readable
+pub mod Curves
+pub mod Steps
 pub mod Functions
 pub mod Pointwise
 pub mod Running

@@ -1,10 +1,17 @@
-//! Curves, and what they do past their rank.
+//! Curves, and their value at a time.
 
-ghost use Rattle.upp_curve.specs.Curve.{SpecCurve};
-ghost use Rattle.upp_curve.specs.Normal.{IsNormal};
+ghost use Rattle.std.specs.Prelude.{◌≡◌, ◌↔◌, pos, IfOk, IfErr, IsTrue};
+ghost use Rattle.rational.specs.Rational.{int, ◌≤ℚ◌};
+ghost use Rattle.upp_curve.specs.Curve.{SpecCurve, value_at, HasSameValues};
+ghost use Rattle.upp_curve.specs.Curves.{IsCurve};
+ghost use Rattle.upp_curve.specs.Steps.{IsWideValueAt};
 
+use crate::reading::{read, read_past};
+use crate::same::{same_pieces, same_tail};
 use affine_segment::Piece;
-use fraction128::Frac;
+use fraction128::{Ext, Frac, Wide};
+use rational::Extended;
+use std::cmp::Ordering;
 use std::marker::Model;
 
 /// How a curve goes on past its rank.
@@ -26,7 +33,9 @@ pub enum Tail {
     },
 }
 
-/// A curve in normal form: curves with one value at each time are one.
+/// A function of time from 0 on, as pieces and a tail (Bouillard, Boyer and Le Corronc: an ultimately pseudo-periodic
+/// function). It is kept in normal form, so that curves with one value at each time are one, and readable, so that its
+/// rate and whether it rises are always known.
 #[derive(Drop)]
 pub struct Curve {
     pieces: Vec<Piece>,
@@ -35,11 +44,57 @@ pub struct Curve {
 
 impl Model for Curve {
     ghost use Rattle.upp_curve.specs.Curve.{SpecCurve};
-    ghost use Rattle.upp_curve.specs.Normal.{IsNormal};
+    ghost use Rattle.upp_curve.specs.Curves.{IsCurve};
 
     ghost Value = { SpecCurve };
 
     ghost view = { λ a. record { pieces = a.pieces.items; tail = a.tail } };
 
-    ghost invariant = { λ a. IsNormal record { pieces = a.pieces.items; tail = a.tail } };
+    ghost invariant = { λ a. IsCurve record { pieces = a.pieces.items; tail = a.tail } };
+}
+
+impl Curve {
+    /// The curve of pieces and a tail that are in normal form and readable.
+    pub fn from_normal(pieces: Vec<Piece>, tail: Tail) -> Curve
+        requires { IsCurve record { pieces = pieces.items; tail = tail } }
+        ensures { result ≡ record { pieces = pieces.items; tail = tail } }
+    {
+        Curve { pieces, tail }
+    }
+
+    /// The value at a time from 0 on, by binary search in the pieces. Refused only where a step does not fit: past the
+    /// rank of a periodic tail t - rank, its quotient by the period, the whole part n of that times the period, t less
+    /// that, the steps of the line there, n times the rise and the sum with that; else the steps of the line there.
+    pub fn value_at(&self, t: Frac) -> Result<Ext, Wide>
+        requires { int (pos 0) ≤ℚ t }
+        ensures value { IfOk result (λ v. v ≡ value_at self.now t) }
+        ensures wide { IfErr result (IsWideValueAt self.now t) }
+    {
+        match self.tail {
+            Tail::Affine { rank: _ } => read(&self.pieces, t),
+            Tail::Infinite { rank } => match t.cmp(&rank) {
+                Ordering::Greater => Ok(Extended::Inf),
+                _ => read(&self.pieces, t),
+            },
+            Tail::Periodic { rank, period, rise } => match t.cmp(&rank) {
+                Ordering::Greater => read_past(&self.pieces, rank, period, rise, t),
+                _ => read(&self.pieces, t),
+            },
+        }
+    }
+
+    // Whether the two are stored alike.
+    fn same_fields(&self, other: &Curve) -> bool
+        ensures fields { IsTrue result ↔ (self.now ≡ other.now) }
+        ensures kept { IsCurve self.now × IsCurve other.now }
+    {
+        same_tail(self.tail, other.tail) && same_pieces(&self.pieces, &other.pieces)
+    }
+}
+
+/// Whether two curves have one value at each time from 0 on. It compares what is stored and computes nothing.
+pub fn equal(f: &Curve, g: &Curve) -> bool
+    ensures { IsTrue result ↔ HasSameValues f.now g.now }
+{
+    f.same_fields(g)
 }

@@ -11,8 +11,12 @@ mod op_kind;
 mod seen;
 mod start_counts;
 mod starts;
+mod reading;
+mod same;
+#[cfg(test)]
+mod tests;
 
-pub use curve::{Curve, Tail};
+pub use curve::{Curve, Tail, equal};
 pub use laws::{
     bucket_deviations, deviations_are_unique, normal_form_is_unique, worked_kinds, worked_operators,
 };

@@ -19,7 +19,7 @@ returns-then-left-right c =
     let fg : SFits w128 g = search rules in
     let n : f ≢ g = λ h. c.if-left-right.true (ap (of_z w128) h) in
     (simp to_z-of_z at c.cmp-then-left-right.ensures)
-    ∙ int_whole_cmp c.args.a c.args.b f g _ _ _ _ (simp to_z-of_z at c.whole_and_rest-left.ensures) (simp to_z-of_z at c.whole_and_rest-right.ensures) n
+    ∙ int_whole_cmp c.args.a c.args.b f g _ _ _ _ (simp to_z-of_z at c.whole_and_rest-left.ensures.parts) (simp to_z-of_z at c.whole_and_rest-right.ensures.parts) n
 
 pub returns : goal.returns
 returns c =
@@ -31,4 +31,4 @@ returns c =
     let fg : SFits w128 g = search rules in
     let h : f ≡ g = sym (to_z-of_z ff) ∙ ap (to_z w128) c.if-left-right.false ∙ to_z-of_z fg in
     c.compare_rests.ensures
-    ∙ sym (rest_cmp c.args.a c.args.b f g _ _ _ _ (simp to_z-of_z at c.whole_and_rest-left.ensures) (simp to_z-of_z at c.whole_and_rest-right.ensures) h)
+    ∙ sym (rest_cmp c.args.a c.args.b f g _ _ _ _ (simp to_z-of_z at c.whole_and_rest-left.ensures.parts) (simp to_z-of_z at c.whole_and_rest-right.ensures.parts) h)

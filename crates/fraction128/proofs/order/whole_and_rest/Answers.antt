@@ -1,12 +1,12 @@
-use Rattle.std.proofs.Common.{rules, arith, ◌≡◌, ◌∙◌, ◌<◌, ◌^◌, ◌-◌, ◌-ℤ◌, ◌/◌, ◌%◌, ap, SFits, to_z, of_z, to_z-of_z, pos, negsuc, unsigned_abs}
-use Rattle.std.proofs.lemmas.Int.{to_z_pos, ints}
+use Rattle.std.proofs.Common.{rules, arith, ◌≡◌, ◌∙◌, ◌<◌, ◌^◌, ◌-◌, ◌-ℤ◌, ◌/◌, ◌%◌, ap, SFits, to_z, to_z-of_z, pos, negsuc, unsigned_abs}
+use Rattle.std.proofs.lemmas.Int.{to_z_pos}
 use mir.Syntax.{w128}
 use native.Mathlib.Nat.{div-le_self}
 use Rattle.fraction128.proofs.Compared.{whole_below_code}
 use Rattle.fraction128.proofs.order.whole_and_rest.Goals as goal
 
-pub returns : goal.returns
-returns c =
+pub returns-clause-parts : goal.returns-clause-parts
+returns-clause-parts c =
     let fa = c.ranges.num in
     let top : c.unsigned_abs.result ≡ unsigned_abs c.args.num = simp to_z-of_z at c.unsigned_abs.ensures.value in
     let k = c.divide-past.result.0 in

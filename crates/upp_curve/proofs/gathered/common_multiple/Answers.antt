@@ -1,7 +1,8 @@
-use Rattle.rational.specs.Gcd.{gcd_pos}
+use Rattle.rational.specs.Euclid.{gcd_pos}
 use Rattle.std.proofs.Common.{arith, ◌∙◌, sym, ◌<◌}
 use native.Mathlib.Nat.{pos_of_dvd_of_pos}
-use Rattle.rational.specs.Gcd.{gcd, gcd_is}
+use Rattle.rational.specs.Gcd.{gcd}
+use Rattle.rational.specs.Euclid.{gcd_is}
 use Rattle.rational.proofs.Gauges.{kept_lcm, kept_lcm_big}
 use Rattle.upp_curve.proofs.gathered.common_multiple.Goals as goal
 

@@ -1,4 +1,4 @@
-use Rattle.upp_curve.proofs.Equal.{normal_unique}
+use Rattle.upp_curve.proofs.OneForm.{normal_unique}
 use Rattle.upp_curve.proofs.laws.normal_form_is_unique.Goals as goal
 
 pub returns : goal.returns

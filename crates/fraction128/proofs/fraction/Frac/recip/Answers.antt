@@ -1,4 +1,4 @@
-use Rattle.std.proofs.Common.{rules, ◌≡◌, ◌∙◌, ap, ap₂, SFits, to_z-of_z, ℤ, ℕ, pos, unsigned_abs}
+use Rattle.std.proofs.Common.{rules, ◌≡◌, ◌∙◌, ap₂, SFits, to_z-of_z, ℤ, ℕ, pos, unsigned_abs}
 use mir.Syntax.{w128}
 use Rattle.rational.specs.Ratio.{ratio, with_sign}
 use Rattle.fraction128.proofs.Values.{num_fits}
