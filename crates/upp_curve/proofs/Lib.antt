@@ -33,7 +33,6 @@ pub mod Rounding
 pub mod WorkedRunning
 pub mod JoinedNumbers
 pub mod Gathering
-pub mod WholeNumbers
 pub mod SpanNumbers
 pub mod PieceLists
 pub mod GaugeProduct

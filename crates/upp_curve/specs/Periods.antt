@@ -1,17 +1,12 @@
 -- The periods of curves: a curve's own, and the common one of two. Own choice.
-use Rattle.std.specs.Prelude.{ℕ, pos, nat_abs, Option, Some, None}
-use Rattle.rational.specs.Gcd.{gcd}
-use Rattle.rational.specs.Gauge.{lcm}
-use Rattle.rational.specs.Rational.{ℚ, den, ◌+ℚ◌, ◌*ℚ◌, ◌<ℚ◌, int, over}
+use Rattle.std.specs.Prelude.{ℕ, pos, Option, Some, None}
+use Rattle.rational.specs.Rational.{ℚ, ◌+ℚ◌, ◌*ℚ◌, ◌<ℚ◌, int}
 use Rattle.rational.specs.MinMax.{max_q}
+use Rattle.fraction128.specs.Multiple.{common_multiple}
 use Rattle.upp_curve.specs.declared.curve.Tail.{Tail}
 use Rattle.upp_curve.specs.declared.curve.Tail.TheVariants.{Periodic, Affine, Infinite}
 use Rattle.upp_curve.specs.Curve.{SpecCurve}
 use Rattle.upp_curve.specs.Steady.{steady}
-
--- the least number that is a whole multiple of both
-unfoldable pub common_multiple : ℚ → ℚ → ℚ
-common_multiple a b = over (pos (lcm (nat_abs a.num) (nat_abs b.num))) (gcd (den a) (den b))
 
 abbrev pub period_of : Tail → Option ℚ
 period_of (Periodic rank period rise) = Some period

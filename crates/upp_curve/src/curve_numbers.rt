@@ -27,7 +27,7 @@ fn whole(n: u128) -> Option<Frac>
     if n > i128::MAX as u128 {
         return None;
     }
-    Frac::new(n as i128, 1).ok()
+    Some(Frac::from_whole(n as i128))
 }
 
 /// The first copy of a piece and the values of copy `last` more.

@@ -10,7 +10,6 @@ ghost use Rattle.upp_curve.specs.ClosedForm.{span_numbers, last_numbers};
 ghost use Rattle.upp_curve.specs.Gathered.{Gathers};
 
 use crate::seen::{seen_risen, seen_values};
-use crate::start_counts::size_up;
 use crate::starts::sizes;
 use affine_segment::{Line, Piece};
 use fraction128::{Ext, Frac, gcd_of};
@@ -83,7 +82,7 @@ impl Gathered {
         let (_, bottom) = sizes(x);
         Gathered {
             dv: common_multiple(bottom, self.dv),
-            largest: self.largest.max(size_up(x)),
+            largest: self.largest.max(x.size_up()),
             ..self
         }
     }

@@ -2,19 +2,11 @@
 
 ghost use Rattle.std.specs.Prelude.{ℕ, ◌≡◌, ◌<◌, pos, IfSome};
 ghost use Rattle.rational.specs.Rational.{ℚ, int, ◌-ℚ◌, ◌/ℚ◌, ◌≤ℚ◌, ◌<ℚ◌};
-ghost use Rattle.rational.specs.Gauge.{cap, size_up};
+ghost use Rattle.rational.specs.Gauge.{cap};
 ghost use Rattle.upp_curve.specs.Unrolled.{whole_up};
 
-use crate::starts::{is_before, is_less, sizes};
+use crate::starts::{is_before, is_less};
 use fraction128::Frac;
-
-/// The least whole number that is at least the size of x.
-pub(crate) fn size_up(x: Frac) -> u128
-    ensures { result ≡ size_up x }
-{
-    let (top, bottom) = sizes(x);
-    (top + (bottom - 1)) / bottom
-}
 
 /// The least whole number that is at least x, and 0 below 0.
 pub(crate) fn whole_up(x: Frac) -> u128
@@ -23,7 +15,7 @@ pub(crate) fn whole_up(x: Frac) -> u128
     if is_less(x, Frac::zero()) {
         0
     } else {
-        size_up(x)
+        x.size_up()
     }
 }
 

@@ -2,7 +2,6 @@
 
 ghost use Rattle.std.specs.Prelude.{ℕ, ◌≡◌, ◌↔◌, ◌<◌, ◌^◌, ◌+◌, ◌*◌, pos, nat_abs, IsTrue};
 ghost use Rattle.rational.specs.Rational.{ℚ, den, int, ◌+ℚ◌, ◌*ℚ◌, ◌≤ℚ◌, ◌<ℚ◌, lt_q};
-ghost use Rattle.rational.specs.Ratio.{IsSmall};
 ghost use Rattle.upp_curve.specs.Long.{long_value};
 
 use crate::long::Long;
@@ -49,10 +48,10 @@ pub(crate) fn is_less(a: Frac, b: Frac) -> bool
 pub(crate) fn sizes(x: Frac) -> (u128, u128)
     ensures top { result.0 ≡ nat_abs x.num }
     ensures bottom { result.1 ≡ den x }
-    ensures small { IsSmall x }
+    ensures top_size { result.0 < 2 ^ 127 }
+    ensures bottom_size { result.1 < 2 ^ 127 }
 {
-    let (num, den) = x.parts();
-    (num.unsigned_abs(), den)
+    (x.numerator().unsigned_abs(), x.denominator())
 }
 
 /// Whether x + n d is before `end`, for x and d of at least 0.
