@@ -40,3 +40,4 @@ pub mod ClosedForms
 pub mod SameSizes
 pub mod NarrowSizes
 pub mod KnownNumbers
+pub mod AtRank

@@ -25,3 +25,4 @@ pub mod Long
 pub mod Gathered
 pub mod Seen
 pub mod ClosedForm
+pub mod OwnWindow

@@ -5,6 +5,7 @@ use Rattle.rational.specs.Ratio.{IsSmall, SumFits}
 use Rattle.rational.specs.Extended.{Ext, ◌+ₑ◌}
 use Rattle.rational.specs.declared.Extended.TheVariants.{Fin, Inf}
 use Rattle.affine_segment.specs.declared.line.Line.{Line}
+use Rattle.affine_segment.specs.declared.line.Piece.{Piece}
 use Rattle.affine_segment.specs.Values.{line_value}
 use Rattle.upp_curve.specs.declared.curve.Tail.{Tail}
 use Rattle.upp_curve.specs.declared.curve.Tail.TheVariants.{Periodic, Affine, Infinite}
@@ -63,3 +64,7 @@ Knows (Periodic rank period rise) end s =
     × (rank ≤ℚ s.piece.x → CopiesFit s (copies_below period end s.piece) rise)
 Knows (Affine rank) end s = s.piece.x <ℚ end → SpanFits s
 Knows (Infinite rank) end s = s.piece.x <ℚ end → SpanFits s
+
+-- a line that starts at the rank is readable there
+abbrev pub RankLineFits : Piece → ℚ → Type 0
+RankLineFits p rank = rank ≤ℚ p.x → LineFitsAt rank p.line

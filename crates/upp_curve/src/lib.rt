@@ -8,11 +8,12 @@ mod gauges;
 mod laws;
 mod long;
 mod op_kind;
+mod own_window;
+mod reading;
+mod same;
 mod seen;
 mod start_counts;
 mod starts;
-mod reading;
-mod same;
 #[cfg(test)]
 mod tests;
 

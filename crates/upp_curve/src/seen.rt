@@ -22,7 +22,7 @@ pub(crate) struct Seen {
 }
 
 /// The value of a line at t.
-fn line_value(line: Option<Line>, t: Frac) -> Option<Ext>
+pub(crate) fn line_value(line: Option<Line>, t: Frac) -> Option<Ext>
     ensures value { IfSome result (λ v. v ≡ line_value line t) }
     ensures fits { LineFitsAt t line → IsSome result }
 {
