@@ -38,7 +38,7 @@ use Rattle.upp_curve.proofs.PieceLists.{starts_nonneg}
 
 -- ---- the lines
 -- at a start up to the window's end
-start_fits : (z : Sizes) (end : ℚ) (l : Option Line) (x : ℚ) → AreSizes z end → IsNarrow z (2 ^ 122) → Whole z.dt x → int (pos 0) ≤ℚ x → x ≤ℚ end → LineStands z l
+pub start_fits : (z : Sizes) (end : ℚ) (l : Option Line) (x : ℚ) → AreSizes z end → IsNarrow z (2 ^ 122) → Whole z.dt x → int (pos 0) ≤ℚ x → x ≤ℚ end → LineStands z l
     → ValueStands z (line_value l x) → LineFitsAt x l
 start_fits z end None x a n w some h s v = tt
 start_fits z end (Some l) x a n w some h s v =

@@ -41,3 +41,4 @@ pub mod SameSizes
 pub mod NarrowSizes
 pub mod KnownNumbers
 pub mod AtRank
+pub mod OwnGauge

@@ -1,5 +1,5 @@
 -- The end of a curve's own window by its last piece and its tail, and which steps to it have to fit.
-use Rattle.std.specs.Prelude.{pos, Bool}
+use Rattle.std.specs.Prelude.{◌≡◌, pos, Bool}
 use Rattle.rational.specs.Rational.{ℚ, ◌+ℚ◌, ◌≤ℚ◌, int}
 use Rattle.rational.specs.Ratio.{SumFits}
 use Rattle.rational.specs.declared.Extended.TheVariants.{Inf}
@@ -41,3 +41,9 @@ abbrev pub EndFits : Piece → Tail → Type 0
 EndFits p (Periodic rank period rise) = SumFits rank period
 EndFits p (Affine rank) = AffineFits p rank (later_unless (affine_keeps p rank) rank)
 EndFits p (Infinite rank) = RankFits rank (later_unless (infinite_keeps p rank) rank)
+
+-- `end` is the end of the first period of a periodic tail
+abbrev pub EndsAt : Tail → ℚ → Type 0
+EndsAt (Periodic rank period rise) end = end ≡ rank +ℚ period
+EndsAt (Affine rank) end = Unit {0}
+EndsAt (Infinite rank) end = Unit {0}

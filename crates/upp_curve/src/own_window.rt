@@ -7,10 +7,12 @@ ghost use Rattle.affine_segment.specs.Values.{line_value};
 ghost use Rattle.upp_curve.specs.Reading.{piece_value};
 ghost use Rattle.upp_curve.specs.Curve.{SpecCurve};
 ghost use Rattle.upp_curve.specs.Steady.{same_ext, later_unless};
-ghost use Rattle.upp_curve.specs.OwnWindow.{LastBy, end_from, EndFits};
+ghost use Rattle.upp_curve.specs.OwnWindow.{LastBy, end_from, EndFits, EndsAt};
+ghost use Rattle.upp_curve.specs.Periods.{HasPeriod};
+ghost use Rattle.upp_curve.specs.Spans.{end_of};
 ghost use Rattle.rational.specs.Ratio.{SumFits};
-ghost use Rattle.upp_curve.specs.Normal.{IsRaw};
-ghost use Rattle.upp_curve.specs.Limits.{own_end, own_gauge};
+ghost use Rattle.upp_curve.specs.Normal.{IsRaw, StartsAtZero};
+ghost use Rattle.upp_curve.specs.Limits.{own_gauge, gauge_of, sizes_of, curve_numbers};
 ghost use Rattle.upp_curve.specs.Seen.{RankLineFits};
 
 use crate::curve::Tail;
@@ -89,5 +91,50 @@ fn own_end(last: &Piece, tail: &Tail) -> Option<Frac>
             None => None,
         },
         Tail::Infinite { rank } => end_after(is_infinite_at(last, *rank), *rank),
+    }
+}
+
+/// The gauge of a curve with a window, in whatever form it is given; None where it is 2^128 or more. `after` is where the
+/// next piece starts after the last.
+pub(crate) fn gauge_with(
+    pieces: &[Piece],
+    tail: &Tail,
+    after: &Option<Frac>,
+    end: Frac,
+) -> Option<u128>
+    requires starts { StartsAtZero pieces.now }
+    requires period { HasPeriod tail.now }
+    requires after { after.now ≡ end_of tail.now }
+    ensures { let c : SpecCurve = record { pieces = pieces.now; tail = tail.now } in
+        let exact = gauge_of (sizes_of end (curve_numbers end c)) in
+        MatchOption result (2 ^ 128 ≤ exact) (λ g. g ≡ exact) }
+{
+    match with_curve(Gathered::nothing().with_time(end), pieces, tail, after, end) {
+        Some(found) => gauge_of(found, end),
+        None => None,
+    }
+}
+
+/// Where the next piece starts after the last, for a periodic tail whose first period ends at `end`.
+fn after_last(tail: &Tail, end: Frac) -> Option<Frac>
+    requires { EndsAt tail.now end }
+    ensures { result ≡ end_of tail.now }
+{
+    match tail {
+        Tail::Periodic { .. } => Some(end),
+        Tail::Affine { .. } => None,
+        Tail::Infinite { rank } => Some(*rank),
+    }
+}
+
+/// The gauge of a curve by itself, in whatever form it is given; None where it is 2^128 or more.
+pub(crate) fn own_gauge(pieces: &[Piece], tail: &Tail) -> Option<u128>
+    requires { let c : SpecCurve = record { pieces = pieces.now; tail = tail.now } in IsRaw c }
+    ensures { let c : SpecCurve = record { pieces = pieces.now; tail = tail.now } in
+        MatchOption result (2 ^ 128 ≤ own_gauge c) (λ g. g ≡ own_gauge c) }
+{
+    match own_end(&pieces[pieces.len() - 1], tail) {
+        Some(end) => gauge_with(pieces, tail, &after_last(tail, end), end),
+        None => None,
     }
 }
