@@ -42,3 +42,4 @@ pub mod NarrowSizes
 pub mod KnownNumbers
 pub mod AtRank
 pub mod OwnGauge
+pub mod CountSums

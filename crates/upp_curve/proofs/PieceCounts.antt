@@ -16,11 +16,8 @@ use Rattle.upp_curve.specs.declared.curve.Tail.TheVariants.{Periodic, Affine, In
 use Rattle.upp_curve.specs.Curve.{SpecCurve}
 use Rattle.upp_curve.specs.Unrolled.{later, each_later, copies, upto, from, unroll, copies_below, count}
 use Rattle.upp_curve.specs.Normal.{Each, RisesFrom, StartsAtZero, IsRaw, TailFits}
+use Rattle.upp_curve.specs.Spans.{once, number_below}
 use Rattle.upp_curve.proofs.Copies.{copies_in, copies_out}
-
--- 1 where p starts before x, else 0
-abbrev pub once : ℚ → Piece → ℕ
-once x p = cond (lt_q p.x x) 1 0
 
 -- ---- which of two tests holds
 pub below_is : {A : Type 0} (p : Piece) (x : ℚ) (a b : A) → p.x <ℚ x → cond (lt_q p.x x) a b ≡ a
@@ -309,3 +306,65 @@ count_is_length c x raw = by_tail c.pieces c.tail raw.starts raw.tail
         sym (upto_append x (upto rank ps) (copies (suc n) d c ls)
         (each_map (λ p. p.x <ℚ rank) _ (upto rank ps) (λ p l k. copies_start (suc n) rank x d c ls period.late (le_of_lt (le_lt_trans k l))) (upto_early rank ps))
         ∙ ap (λ m. length (upto x (upto rank ps)) + m) (copies_count (suc n) rank x d c ls h.some period enough))
+
+-- ---- the count, piece by piece
+none_early : (y x rank : ℚ) (ps : List Piece) → RisesFrom y ps → x ≤ℚ y → upto x (upto rank ps) ≡ []
+none_early y x rank [] r h = ap (upto x) (upto_empty rank) ∙ upto_empty x
+none_early y x rank (p ∷ ps) r h = elim (le_or_lt rank p.x) [
+  | inl l ↦ ap (upto x) (upto_none rank p ps l) ∙ upto_empty x
+  | inr l ↦ ap (upto x) (upto_some rank p ps l) ∙ upto_none x p (upto rank ps) (le_trans h (le_of_lt r.0))
+]
+
+late_sum : (rank d c x : ℚ) (ps : List Piece) → Each (λ p. rank ≤ℚ p.x) ps → sum_by (number_below (Periodic rank d c) x) ps ≡ sum_by (copies_below d x) ps
+late_sum rank d c x [] h = refl
+late_sum rank d c x (p ∷ ps) h =
+    let e : number_below (Periodic rank d c) x p ≡ copies_below d x p = not_below_is p rank (once x p) (copies_below d x p) h.0 in
+    let s = late_sum rank d c x ps h.1 in
+    omega (arith, e, s, sum_by-cons (number_below (Periodic rank d c) x) p ps, sum_by-cons (copies_below d x) p ps)
+
+split_count : (y rank d c x : ℚ) (ps : List Piece) → RisesFrom y ps
+    → length (upto x (upto rank ps)) + sum_by (copies_below d x) (from rank ps) ≡ sum_by (number_below (Periodic rank d c) x) ps
+split_count y rank d c x [] r =
+    let a = ap length (ap (upto x) (upto_empty rank) ∙ upto_empty x) in
+    let b = ap (sum_by (copies_below d x)) (from_empty rank) in
+    omega (arith, a, b)
+split_count y rank d c x (p ∷ ps) r = elim (le_or_lt rank p.x) [
+  | inl l ↦
+      let a = ap length (ap (upto x) (upto_none rank p ps l) ∙ upto_empty x) in
+      let b = ap (sum_by (copies_below d x)) (from_none rank p ps l) in
+      let s = late_sum rank d c x (p ∷ ps) (l, rising_late p.x rank ps l r.1) in
+      omega (arith, a, b, s)
+  | inr l ↦
+      let s = split_count p.x rank d c x ps r.1 in
+      let b = ap (sum_by (copies_below d x)) (from_some rank p ps l) in
+      let u = ap (λ zs. length (upto x zs)) (upto_some rank p ps l) in
+      let e : number_below (Periodic rank d c) x p ≡ once x p = below_is p rank (once x p) (copies_below d x p) l in
+      let k = sum_by-cons (number_below (Periodic rank d c) x) p ps in
+      elim (le_or_lt x p.x) [
+        | inl h ↦
+            let o : once x p ≡ 0 = not_below_is p x 1 0 h in
+            let n = ap length (upto_none x p (upto rank ps) h) in
+            let m = ap length (none_early p.x x rank ps r.1 h) in
+            omega (arith, s, b, u, e, k, o, n, m)
+        | inr h ↦
+            let o : once x p ≡ 1 = below_is p x 1 0 h in
+            let n = ap length (upto_some x p (upto rank ps) h) in
+            omega (arith, s, b, u, e, k, o, n)
+      ]
+]
+
+once_sum : (tail : Tail) (x : ℚ) (ps : List Piece) → ((p : Piece) → number_below tail x p ≡ once x p) → sum_by (once x) ps ≡ sum_by (number_below tail x) ps
+once_sum tail x [] f = refl
+once_sum tail x (p ∷ ps) f =
+    let e = f p in
+    let s = once_sum tail x ps f in
+    omega (arith, e, s, sum_by-cons (once x) p ps, sum_by-cons (number_below tail x) p ps)
+
+pub count_is_sum : (c : SpecCurve) (x : ℚ) → StartsAtZero c.pieces → count c x ≡ sum_by (number_below c.tail x) c.pieces
+unfolding count
+count_is_sum c x starts = by_tail c.pieces c.tail starts
+  where
+    by_tail : (ps : List Piece) (tail : Tail) → StartsAtZero ps → count record { pieces = ps; tail = tail } x ≡ sum_by (number_below tail x) ps
+    by_tail ps (Affine rank) s = let r = rising ps s in upto_counts r.0 x ps r.1 ∙ once_sum (Affine rank) x ps (λ p. refl)
+    by_tail ps (Infinite rank) s = let r = rising ps s in upto_counts r.0 x ps r.1 ∙ once_sum (Infinite rank) x ps (λ p. refl)
+    by_tail ps (Periodic rank d c) s = let r = rising ps s in split_count r.0 rank d c x ps r.1

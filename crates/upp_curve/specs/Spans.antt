@@ -71,3 +71,14 @@ span_below (Infinite rank) end s = once_below end s
 -- the unrolled pieces of a curve that start below `end`, each with its end, piece by piece
 unfoldable pub spans_below : SpecCurve → ℚ → List Span
 spans_below c end = flat_map (span_below c.tail end) (spans c.tail c.pieces)
+
+-- ---- how many start below a time
+-- 1 where p starts before `end`, else 0
+abbrev pub once : ℚ → Piece → ℕ
+once end p = cond (lt_q p.x end) 1 0
+
+-- how many of a piece and its copies start before `end`
+abbrev pub number_below : Tail → ℚ → Piece → ℕ
+number_below (Periodic rank period rise) end p = cond (lt_q p.x rank) (once end p) (copies_below period end p)
+number_below (Affine rank) end p = once end p
+number_below (Infinite rank) end p = once end p

@@ -1,6 +1,7 @@
 //! Curves: functions of time made of finitely many pieces and a tail, with their value at every fraction.
 #![tactic(auto)]
 
+mod counts;
 mod curve;
 mod curve_numbers;
 mod gathered;
