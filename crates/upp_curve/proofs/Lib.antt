@@ -4,6 +4,7 @@ pub mod Repeats
 pub mod PieceIn
 pub mod ByTail
 pub mod Steady
+pub mod FirstStretch
 pub mod Unique
 pub mod Rules
 pub mod Normal
@@ -43,3 +44,10 @@ pub mod KnownNumbers
 pub mod AtRank
 pub mod OwnGauge
 pub mod CountSums
+pub mod Rising
+pub mod RisingFrom
+pub mod RisingCurves
+pub mod Finite
+pub mod PieceLoops
+pub mod CurveShapes
+pub mod LineRising

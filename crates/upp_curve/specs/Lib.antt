@@ -6,6 +6,7 @@ pub mod Normal
 pub mod Readable
 pub mod Curves
 pub mod Steps
+pub mod Shapes
 pub mod Functions
 pub mod Pointwise
 pub mod Running

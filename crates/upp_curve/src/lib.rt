@@ -15,6 +15,7 @@ mod same;
 mod seen;
 mod start_counts;
 mod starts;
+mod shape;
 #[cfg(test)]
 mod tests;
 
