@@ -12,51 +12,67 @@ use Rattle.upp_curve.specs.declared.op_kind.OpKind.TheVariants.{Sum, Min, Max, P
 use Rattle.upp_curve.specs.Curve.{SpecCurve, value_at}
 use Rattle.upp_curve.specs.Steady.{rate}
 use Rattle.upp_curve.specs.Unrolled.{count}
-use Rattle.upp_curve.specs.Functions.{zero_q}
+use Rattle.upp_curve.specs.Functions.{zero_q, IsFinite, IsRising}
+use Rattle.upp_curve.specs.declared.op_kind.Tallied.{Tallied}
+use Rattle.upp_curve.specs.declared.op_kind.Tallied.TheVariants.{FirstAlone, FirstAndOne, SumOfBoth, ProductOfBoth}
+use Rattle.upp_curve.specs.declared.op_kind.Operands.{Operands}
+use Rattle.upp_curve.specs.declared.op_kind.Operands.TheVariants.{First, Both, FirstScaled}
 use Rattle.upp_curve.specs.Pointwise.{scaled}
 use Rattle.upp_curve.specs.Limits.{Numbers, no_numbers, joined, curve_numbers, sizes_of, gauge_of}
 use Rattle.upp_curve.specs.Windows.{window_at, IsLeastPeriods}
 
 -- ---- calls that look at no piece
-pub record InfiniteTime (f : ℚ → Ext) : Type 0 where
-  pub at : ℚ
-  pub nonneg : zero_q ≤ℚ at
-  pub is : f at ≡ Inf
-
 -- f has a value above every value of g
 pub record ValueAbove (f g : ℚ → Ext) : Type 0 where
   pub at : ℚ
   pub nonneg : zero_q ≤ℚ at
   pub above : (u : ℚ) → zero_q ≤ℚ u → g u <ₑ f at
 
--- the answer is known by the rates, or by what is infinite: a shift by infinity, a left-over after an infinite wait, a deconvolution of a faster curve,
--- a deviation of a curve that is infinite somewhere or faster, and the horizontal one of a curve that ends above another
+-- both rise, both have rate 0, and f ends above g
+pub record EndsAbove (f g : SpecCurve) : Type 0 where
+  pub rising : IsRising (value_at f) × IsRising (value_at g)
+  pub level : (rate f ≡ Fin zero_q) × (rate g ≡ Fin zero_q)
+  pub above : ValueAbove (value_at f) (value_at g)
+
+-- The answer is known by what is infinite or by the rates, and no piece is looked at: a shift by infinity, a left-over after an infinite
+-- wait, a deconvolution of a faster curve, a deviation of a curve that is infinite somewhere or faster, and the horizontal
+-- deviation of a curve that ends above another (its operands rise).
 abbrev pub IsKnownAtOnce : OpKind → SpecCurve → SpecCurve → Type 0
 IsKnownAtOnce (Shift Inf) f g = Unit {0}
 IsKnownAtOnce (FifoLeft Inf) f g = Unit {0}
 IsKnownAtOnce Deconvolve f g = rate g <ₑ rate f
-IsKnownAtOnce Horizontal f g =
-    InfiniteTime (value_at f) ⊎ ((rate g <ₑ rate f) ⊎ ((rate f ≡ Fin zero_q) × (rate g ≡ Fin zero_q) × ValueAbove (value_at f) (value_at g)))
-IsKnownAtOnce Vertical f g = InfiniteTime (value_at f) ⊎ (rate g <ₑ rate f)
+IsKnownAtOnce Horizontal f g = ¬ (IsFinite (value_at f)) ⊎ ((rate g <ₑ rate f) ⊎ EndsAbove f g)
+IsKnownAtOnce Vertical f g = ¬ (IsFinite (value_at f)) ⊎ (rate g <ₑ rate f)
 IsKnownAtOnce op f g = ⊥
 
 -- ---- the tally: how many pieces, or pairs of pieces, the call looks at
-abbrev pub tally_over : OpKind → SpecCurve → SpecCurve → ℚ → ℕ
-tally_over Sum f g end = count f end + count g end
-tally_over Min f g end = count f end + count g end
-tally_over Max f g end = count f end + count g end
-tally_over PosDiff f g end = count f end + count g end
-tally_over (PosMinus l) f g end = count f end + 1
-tally_over (Scale q) f g end = count f end
-tally_over (Shift x) f g end = count f end
-tally_over RunSup f g end = count f end
-tally_over RunInf f g end = count f end
-tally_over (FifoLeft theta) f g end = count f end + count g end
-tally_over Convolve f g end = count f end * count g end
-tally_over Deconvolve f g end = count f end * count g end
-tally_over Horizontal f g end = count f end + count g end
-tally_over Vertical f g end = count f end + count g end
-tally_over Itself f g end = count f end
+-- of which pieces the tally of a kind is made
+abbrev pub tallied : OpKind → Tallied
+tallied Sum = SumOfBoth
+tallied Min = SumOfBoth
+tallied Max = SumOfBoth
+tallied PosDiff = SumOfBoth
+tallied (PosMinus l) = FirstAndOne
+tallied (Scale q) = FirstAlone
+tallied (Shift x) = FirstAlone
+tallied RunSup = FirstAlone
+tallied RunInf = FirstAlone
+tallied (FifoLeft theta) = SumOfBoth
+tallied Convolve = ProductOfBoth
+tallied Deconvolve = ProductOfBoth
+tallied Horizontal = SumOfBoth
+tallied Vertical = SumOfBoth
+tallied Itself = FirstAlone
+
+-- the number, for m unrolled pieces of f and n of g; a constant is one piece
+abbrev pub tally_of : Tallied → ℕ → ℕ → ℕ
+tally_of FirstAlone m n = m
+tally_of FirstAndOne m n = m + 1
+tally_of SumOfBoth m n = m + n
+tally_of ProductOfBoth m n = m * n
+
+unfoldable pub tally_over : OpKind → SpecCurve → SpecCurve → ℚ → ℕ
+tally_over op f g end = tally_of (tallied op) (count f end) (count g end)
 
 -- ---- the gauge
 -- f, q times as high
@@ -89,26 +105,32 @@ kind_numbers (Shift x) = record { times = time_number x; values = []; slopes = [
 kind_numbers (FifoLeft theta) = record { times = time_number theta; values = []; slopes = [] }
 kind_numbers op = no_numbers
 
+-- whose pieces count in the gauge of a kind
+abbrev pub operands_of : OpKind → Operands
+operands_of Sum = Both
+operands_of Min = Both
+operands_of Max = Both
+operands_of PosDiff = Both
+operands_of (PosMinus l) = First
+operands_of (Scale q) = FirstScaled q
+operands_of (Shift x) = First
+operands_of RunSup = First
+operands_of RunInf = First
+operands_of (FifoLeft theta) = Both
+operands_of Convolve = Both
+operands_of Deconvolve = Both
+operands_of Horizontal = Both
+operands_of Vertical = Both
+operands_of Itself = First
+
 -- the numbers of the operands
-abbrev pub operand_numbers : OpKind → ℚ → SpecCurve → SpecCurve → Numbers
-operand_numbers Sum end f g = both_numbers end f g
-operand_numbers Min end f g = both_numbers end f g
-operand_numbers Max end f g = both_numbers end f g
-operand_numbers PosDiff end f g = both_numbers end f g
-operand_numbers (PosMinus l) end f g = curve_numbers end f
-operand_numbers (Scale q) end f g = both_numbers end f (scaled_curve q f)
-operand_numbers (Shift x) end f g = curve_numbers end f
-operand_numbers RunSup end f g = curve_numbers end f
-operand_numbers RunInf end f g = curve_numbers end f
-operand_numbers (FifoLeft theta) end f g = both_numbers end f g
-operand_numbers Convolve end f g = both_numbers end f g
-operand_numbers Deconvolve end f g = both_numbers end f g
-operand_numbers Horizontal end f g = both_numbers end f g
-operand_numbers Vertical end f g = both_numbers end f g
-operand_numbers Itself end f g = curve_numbers end f
+abbrev pub operand_numbers : Operands → ℚ → SpecCurve → SpecCurve → Numbers
+operand_numbers First end f g = curve_numbers end f
+operand_numbers Both end f g = both_numbers end f g
+operand_numbers (FirstScaled q) end f g = both_numbers end f (scaled_curve q f)
 
 abbrev pub numbers_over : OpKind → SpecCurve → SpecCurve → ℚ → Numbers
-numbers_over op f g end = joined (kind_numbers op) (operand_numbers op end f g)
+numbers_over op f g end = joined (kind_numbers op) (operand_numbers (operands_of op) end f g)
 
 unfoldable pub gauge_over : OpKind → SpecCurve → SpecCurve → ℚ → ℕ
 gauge_over op f g end = gauge_of (sizes_of end (numbers_over op f g end))

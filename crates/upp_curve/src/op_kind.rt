@@ -1,5 +1,8 @@
 //! The kinds of calls on curves, the window of times that such a call looks at, and why one is refused.
 
+ghost use Rattle.std.specs.Prelude.{◌≡◌};
+ghost use Rattle.upp_curve.specs.Gauges.{tallied, operands_of};
+
 use fraction128::{Ext, Frac};
 
 /// What a call computes of its operands f and g. A kind with one operand does not look at g.
@@ -49,4 +52,58 @@ pub enum OpFault {
     TooWide,
     /// An allocation was refused.
     NoMemory,
+}
+
+/// Of which unrolled pieces the tally of a kind is made.
+#[derive(Debug, Clone, Copy)]
+pub(crate) enum Tallied {
+    /// Those of f.
+    FirstAlone,
+    /// Those of f, and one.
+    FirstAndOne,
+    /// Those of f and those of g.
+    SumOfBoth,
+    /// The pairs of one of f and one of g.
+    ProductOfBoth,
+}
+
+/// Whose pieces count in the gauge of a kind.
+#[derive(Debug, Clone, Copy)]
+pub(crate) enum Operands {
+    /// Those of f.
+    First,
+    /// Those of f and of g.
+    Both,
+    /// Those of f and of f times this number.
+    FirstScaled(Frac),
+}
+
+impl OpKind {
+    /// Of which pieces the tally is made.
+    pub(crate) fn tallied(&self) -> Tallied
+        ensures { result ≡ tallied self.now }
+    {
+        match self {
+            OpKind::Sum | OpKind::Min | OpKind::Max | OpKind::PosDiff => Tallied::SumOfBoth,
+            OpKind::FifoLeft(_) | OpKind::Horizontal | OpKind::Vertical => Tallied::SumOfBoth,
+            OpKind::Convolve | OpKind::Deconvolve => Tallied::ProductOfBoth,
+            OpKind::PosMinus(_) => Tallied::FirstAndOne,
+            OpKind::Scale(_) | OpKind::Shift(_) => Tallied::FirstAlone,
+            OpKind::RunSup | OpKind::RunInf | OpKind::Itself => Tallied::FirstAlone,
+        }
+    }
+
+    /// Whose pieces count in the gauge.
+    pub(crate) fn operands(&self) -> Operands
+        ensures { result ≡ operands_of self.now }
+    {
+        match self {
+            OpKind::Sum | OpKind::Min | OpKind::Max | OpKind::PosDiff => Operands::Both,
+            OpKind::FifoLeft(_) | OpKind::Horizontal | OpKind::Vertical => Operands::Both,
+            OpKind::Convolve | OpKind::Deconvolve => Operands::Both,
+            OpKind::Scale(factor) => Operands::FirstScaled(*factor),
+            OpKind::PosMinus(_) | OpKind::Shift(_) => Operands::First,
+            OpKind::RunSup | OpKind::RunInf | OpKind::Itself => Operands::First,
+        }
+    }
 }
