@@ -6,6 +6,7 @@ mod curve;
 mod curve_numbers;
 mod gathered;
 mod gauges;
+mod known;
 mod laws;
 mod long;
 mod op_kind;
