@@ -16,3 +16,14 @@ pub mod Kinds
 pub mod Service
 pub mod BucketBounds
 pub mod WorkedRows
+pub mod Periods
+pub mod Spans
+pub mod Limits
+pub mod Sized
+pub mod Windows
+pub mod Gauges
+pub mod Long
+pub mod Gathered
+pub mod Seen
+pub mod ClosedForm
+pub mod OwnWindow

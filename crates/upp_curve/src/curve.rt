@@ -144,6 +144,24 @@ impl Curve {
         })
     }
 
+    /// The pieces.
+    #[inline]
+    pub(crate) fn pieces(&self) -> &[Piece]
+        ensures pieces { result.now ≡ self.now.pieces }
+        ensures kept { IsCurve self.now }
+    {
+        &self.pieces
+    }
+
+    /// The tail.
+    #[inline]
+    pub(crate) fn tail(&self) -> &Tail
+        ensures tail { result.now ≡ self.now.tail }
+        ensures kept { IsCurve self.now }
+    {
+        &self.tail
+    }
+
     // Whether the two are stored alike.
     fn same_fields(&self, other: &Curve) -> bool
         ensures fields { IsTrue result ↔ (self.now ≡ other.now) }

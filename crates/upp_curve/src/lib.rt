@@ -1,10 +1,21 @@
 //! Curves: functions of time made of finitely many pieces and a tail, with their value at every fraction.
 #![tactic(auto)]
 
+mod counts;
 mod curve;
+mod curve_numbers;
+mod gathered;
+mod gauges;
+mod known;
 mod laws;
+mod long;
+mod op_kind;
+mod own_window;
 mod reading;
 mod same;
+mod seen;
+mod start_counts;
+mod starts;
 mod shape;
 #[cfg(test)]
 mod tests;
@@ -13,3 +24,5 @@ pub use curve::{Curve, Tail, equal};
 pub use laws::{
     bucket_deviations, deviations_are_unique, normal_form_is_unique, worked_kinds, worked_operators,
 };
+pub use op_kind::{OpFault, OpKind, Window};
+pub use starts::{is_after, is_before};

@@ -7,7 +7,7 @@ use affine_segment::{Line, Piece};
 use fraction128::Ext;
 use rational::Extended;
 
-fn same_ext(a: Ext, b: Ext) -> bool
+pub(crate) fn same_ext(a: Ext, b: Ext) -> bool
     ensures { IsTrue result ↔ (a ≡ b) }
 {
     match a {
