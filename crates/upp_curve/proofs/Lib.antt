@@ -20,3 +20,11 @@ pub mod BucketConvolution
 pub mod Worked
 pub mod WorkedOperators
 pub mod WorkedRunning
+pub mod NormaliseLoops
+pub mod NormaliseLists
+pub mod NormaliseMerge
+pub mod NormaliseCuts
+pub mod NormalisePeriods
+pub mod NormaliseBreaks
+pub mod NormaliseShape
+pub mod NormaliseRank

@@ -36,7 +36,7 @@ starts_same k r l q s h e =
 make_line : ℚ → ℚ → Line
 make_line k r = record { icept = k; slope = r }
 
-lines_at_two : (l m : Option Line) (s t : ℚ) → s <ℚ t → line_value l s ≡ line_value m s → line_value l t ≡ line_value m t → l ≡ m
+pub lines_at_two : (l m : Option Line) (s t : ℚ) → s <ℚ t → line_value l s ≡ line_value m s → line_value l t ≡ line_value m t → l ≡ m
 lines_at_two None None s t h e f = refl
 lines_at_two None (Some m) s t h e f = absurd (no_inf (sym e))
 lines_at_two (Some l) None s t h e f = absurd (no_inf e)
@@ -75,19 +75,19 @@ start_before x X (p ∷ ps) h r = below_min_in X p.x x h r.0
 abbrev pub read_in : Piece → List Piece → ℚ → Ext
 read_in p ps t = piece_value (piece_in p ps t) t
 
-value_past : (p : Piece) (t : ℚ) → p.x <ℚ t → piece_value p t ≡ line_value p.line t
+pub value_past : (p : Piece) (t : ℚ) → p.x <ℚ t → piece_value p t ≡ line_value p.line t
 unfolding piece_value
 value_past p t h = rw (le_q_not t p.x h) refl
 
-value_at_start : (p : Piece) → piece_value p p.x ≡ p.at
+pub value_at_start : (p : Piece) → piece_value p p.x ≡ p.at
 unfolding piece_value
 value_at_start p = rw (le_q_out p.x p.x (le_refl p.x)) refl
 
-on_stretch : (p : Piece) (ps : List Piece) (X t : ℚ) → p.x <ℚ t → t <ℚ end_of X ps → read_in p ps t ≡ line_value p.line t
+pub on_stretch : (p : Piece) (ps : List Piece) (X t : ℚ) → p.x <ℚ t → t <ℚ end_of X ps → read_in p ps t ≡ line_value p.line t
 on_stretch p [] X t h k = ap (λ q. piece_value q t) (piece_in_end p t) ∙ value_past p t h
 on_stretch p (q ∷ qs) X t h k = ap (λ q. piece_value q t) (piece_in_stop p q qs t (below_min_out X q.x t k).1) ∙ value_past p t h
 
-at_start : (p : Piece) (ps : List Piece) → RisesFrom p.x ps → read_in p ps p.x ≡ p.at
+pub at_start : (p : Piece) (ps : List Piece) → RisesFrom p.x ps → read_in p ps p.x ≡ p.at
 at_start p [] r = ap (λ q. piece_value q p.x) (piece_in_end p p.x) ∙ value_at_start p
 at_start p (q ∷ qs) r = ap (λ q. piece_value q p.x) (piece_in_stop p q qs p.x r.0) ∙ value_at_start p
 

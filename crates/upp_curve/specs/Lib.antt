@@ -15,3 +15,4 @@ pub mod Kinds
 pub mod Service
 pub mod BucketBounds
 pub mod WorkedRows
+pub mod Normalising

@@ -2,9 +2,13 @@
 #![tactic(auto)]
 
 mod curve;
+mod cycle;
 mod laws;
+mod lowest_rank;
+mod merging;
 mod reading;
 mod same;
+mod two_periods;
 
 pub use curve::{Curve, Tail, equal};
 pub use laws::{
