@@ -28,3 +28,4 @@ pub mod NormalisePeriods
 pub mod NormaliseBreaks
 pub mod NormaliseShape
 pub mod NormaliseRank
+pub mod NormaliseCopies

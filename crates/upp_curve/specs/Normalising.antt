@@ -1,5 +1,5 @@
 -- What each step on the way to the normal form leaves of the pieces. Own choice.
-use Rattle.std.specs.Prelude.{◌≡◌, ℕ, pos, List, [], ◌∷◌, ◌++◌, ◌⊎◌, ◌-◌, cond, length, take, slice_index_or as get_or, Option, None, Some}
+use Rattle.std.specs.Prelude.{◌≡◌, ℕ, pos, List, [], ◌∷◌, ◌++◌, ◌⊎◌, ◌-◌, cond, length, take, drop, slice_index_or as get_or, Option, None, Some}
 use Rattle.rational.specs.Rational.{ℚ, ◌+ℚ◌, ◌≤ℚ◌, ◌<ℚ◌, int, le_q, lt_q}
 use Rattle.rational.specs.Extended.{Ext, ◌+ₑ◌}
 use Rattle.rational.specs.declared.Extended.TheVariants.{Fin}
@@ -110,3 +110,8 @@ Lowers ps new first period rise z None = (new ≡ ps) × ¬ (RepeatsIn (get_or p
 Lowers ps new first period rise z (Some x) =
     (x ≡ (get_or ps (first - 1) z).x) × RepeatsIn (get_or ps (first - 1) z) (get_or ps (length ps - 1) z) period rise
     × (new ≡ cut_last ps (get_or ps (length ps - 1) z).x ((get_or ps (first - 1) z).x +ℚ period))
+
+-- ---- the least period
+-- each piece from the k-th on is the one k before it, `by` later and `rise` higher
+abbrev pub GoesOn : List Piece → ℕ → ℚ → ℚ → Type 0
+GoesOn ps k by rise = drop k ps ≡ each_later by rise (take (length ps - k) ps)
