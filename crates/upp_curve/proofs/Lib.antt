@@ -29,3 +29,5 @@ pub mod NormaliseBreaks
 pub mod NormaliseShape
 pub mod NormaliseRank
 pub mod NormaliseCopies
+pub mod NormaliseShare
+pub mod NormaliseGoes

@@ -169,7 +169,7 @@ are_copies f k e u d c q qs some dk ck P R =
     ∙ sym (copies_some k e u q vs) ∙ ap (copies (suc k) e u) (sym (upto_some X q qs begin))
 
 -- ---- copies, by their numbers
-each_later_map : (d c : ℚ) (ps : List Piece) → each_later d c ps ≡ map (later d c) ps
+pub each_later_map : (d c : ℚ) (ps : List Piece) → each_later d c ps ≡ map (later d c) ps
 each_later_map d c [] = later_none d c
 each_later_map d c (p ∷ ps) = later_some d c p ps ∙ ap (λ zs. later d c p ∷ zs) (each_later_map d c ps)
 

@@ -64,11 +64,11 @@ abbrev pub end_of : ℚ → List Piece → ℚ
 end_of X [] = X
 end_of X (q ∷ qs) = min_q X q.x
 
-end_at_most : (X : ℚ) (qs : List Piece) (t : ℚ) → t <ℚ end_of X qs → t <ℚ X
+pub end_at_most : (X : ℚ) (qs : List Piece) (t : ℚ) → t <ℚ end_of X qs → t <ℚ X
 end_at_most X [] t h = h
 end_at_most X (q ∷ qs) t h = (below_min_out X q.x t h).0
 
-start_before : (x X : ℚ) (ps : List Piece) → x <ℚ X → RisesFrom x ps → x <ℚ end_of X ps
+pub start_before : (x X : ℚ) (ps : List Piece) → x <ℚ X → RisesFrom x ps → x <ℚ end_of X ps
 start_before x X [] h r = h
 start_before x X (p ∷ ps) h r = below_min_in X p.x x h r.0
 

@@ -1,9 +1,11 @@
 -- What each step on the way to the normal form leaves of the pieces. Own choice.
-use Rattle.std.specs.Prelude.{◌≡◌, ℕ, pos, List, [], ◌∷◌, ◌++◌, ◌⊎◌, ◌-◌, cond, length, take, drop, slice_index_or as get_or, Option, None, Some}
-use Rattle.rational.specs.Rational.{ℚ, ◌+ℚ◌, ◌≤ℚ◌, ◌<ℚ◌, int, le_q, lt_q}
+use Rattle.std.specs.Prelude.{◌≡◌, ℕ, pos, List, [], ◌∷◌, ◌++◌, ◌⊎◌, ◌-◌, ◌*◌, ◌≤◌, cond, length, take, drop, slice_index_or as get_or, Option, None, Some}
+use Rattle.rational.specs.Rational.{ℚ, ◌+ℚ◌, ◌/ℚ◌, ◌≤ℚ◌, ◌<ℚ◌, int, le_q, lt_q}
 use Rattle.rational.specs.Extended.{Ext, ◌+ₑ◌}
 use Rattle.rational.specs.declared.Extended.TheVariants.{Fin}
 use Rattle.affine_segment.specs.declared.line.Piece.{Piece}
+use Rattle.rational.specs.Grid.{Whole}
+use Rattle.upp_curve.specs.declared.cycle.Cycle.{Cycle}
 use Rattle.upp_curve.specs.declared.cycle.Shape.{Shape}
 use Rattle.upp_curve.specs.declared.cycle.Shape.TheVariants.{Line, Turns}
 use Rattle.upp_curve.specs.Reading.{read, piece_in, piece_value}
@@ -82,9 +84,13 @@ pub record Turned (ps : List Piece) (first : ℕ) (rank period rise : ℚ) (f : 
   pub first_is : first ≡ length (upto rank ps)
   pub same : (t : ℚ) → int (pos 0) ≤ℚ t → repeated (read ps) rank period rise t ≡ f t
 
+-- a curve with f's values whose period begins and ends at a break
+abbrev pub IsTurning : Cycle → (ℚ → Ext) → Type 0
+IsTurning c f = Turned c.pieces.items c.first c.rank c.period c.rise f
+
 abbrev pub IsShape : List Piece → ℚ → ℚ → ℚ → Shape → Type 0
 IsShape ps rank period rise (Line kept) = IsLine kept.items (repeated (read ps) rank period rise)
-IsShape ps rank period rise (Turns c) = Turned c.pieces.items c.first c.rank c.period c.rise (repeated (read ps) rank period rise)
+IsShape ps rank period rise (Turns c) = IsTurning c (repeated (read ps) rank period rise)
 
 -- ---- the least rank
 -- p's values, a period later and a rise higher, lie in the piece `last`
@@ -115,3 +121,39 @@ Lowers ps new first period rise z (Some x) =
 -- each piece from the k-th on is the one k before it, `by` later and `rise` higher
 abbrev pub GoesOn : List Piece → ℕ → ℚ → ℚ → Type 0
 GoesOn ps k by rise = drop k ps ≡ each_later by rise (take (length ps - k) ps)
+
+abbrev pub cycle_values : Cycle → ℚ → Ext
+cycle_values c = repeated (read c.pieces.items) c.rank c.period c.rise
+
+-- how many pieces there are in a period
+abbrev pub turn_count : Cycle → ℕ
+turn_count c = length (from c.rank c.pieces.items)
+
+-- each period of f from `from` on is a whole multiple of 1 / times, and its rise of 1 / values
+pub record OnGrids (times values : ℕ) (f : ℚ → Ext) (from : ℚ) : Type 0 where
+  pub period : (e u : ℚ) → int (pos 0) <ℚ e → Repeats f from e u → Whole times e
+  pub rise : (e u : ℚ) → int (pos 0) <ℚ e → Repeats f from e u → Whole values u
+
+-- d is c, and a period of c divided by `parts` is none
+pub record StaysWhole (c : Cycle) (parts : ℕ) (d : Cycle) : Type 0 where
+  pub period : d.period ≡ c.period
+  pub rise : d.rise ≡ c.rise
+  pub count : turn_count d ≡ turn_count c
+  pub none : ¬ (Repeats (cycle_values c) c.rank (c.period /ℚ int (pos parts)) (c.rise /ℚ int (pos parts)))
+
+-- d has c's period divided by `parts`
+pub record IsCut (c : Cycle) (parts : ℕ) (d : Cycle) : Type 0 where
+  pub period : d.period ≡ c.period /ℚ int (pos parts)
+  pub rise : d.rise ≡ c.rise /ℚ int (pos parts)
+  pub count : turn_count c ≡ parts * turn_count d
+
+pub record IsDivided (c : Cycle) (parts : ℕ) (d : Cycle) : Type 0 where
+  pub turned : IsTurning d (cycle_values c)
+  pub rank : d.rank ≡ c.rank
+  pub outcome : StaysWhole c parts d ⊎ IsCut c parts d
+
+-- a curve with c's values and rank, whose period divided by no whole number from 2 on is a period
+pub record IsLeast (c d : Cycle) : Type 0 where
+  pub turned : IsTurning d (cycle_values c)
+  pub rank : d.rank ≡ c.rank
+  pub least : (n : ℕ) → 2 ≤ n → ¬ (Repeats (cycle_values d) d.rank (d.period /ℚ int (pos n)) (d.rise /ℚ int (pos n)))

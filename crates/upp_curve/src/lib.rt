@@ -4,6 +4,7 @@
 mod curve;
 mod cycle;
 mod laws;
+mod least_period;
 mod lowest_rank;
 mod merging;
 mod reading;
