@@ -31,3 +31,5 @@ pub mod NormaliseRank
 pub mod NormaliseCopies
 pub mod NormaliseShare
 pub mod NormaliseGoes
+pub mod NormaliseDivided
+pub mod NormaliseLeast

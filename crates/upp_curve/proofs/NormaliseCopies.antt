@@ -57,7 +57,7 @@ no_copies : (e u : ℚ) (q : Piece) (qs : List Piece) → more_copies zero e u q
 unfolding copies
 no_copies e u q qs = ap (λ zs. qs ++ zs) (later_none e u) ∙ append-nil qs
 
-next_copies : (k : ℕ) (e u : ℚ) (q : Piece) (qs : List Piece) → more_copies (suc k) e u q qs ≡ qs ++ later e u q ∷ each_later e u (more_copies k e u q qs)
+pub next_copies : (k : ℕ) (e u : ℚ) (q : Piece) (qs : List Piece) → more_copies (suc k) e u q qs ≡ qs ++ later e u q ∷ each_later e u (more_copies k e u q qs)
 next_copies k e u q qs = ap (λ zs. qs ++ zs) (ap (each_later e u) (copies_some k e u q qs) ∙ later_some e u q (more_copies k e u q qs))
 
 pub copied : (k : ℕ) (e u : ℚ) (q : Piece) (qs : List Piece) → int (pos 0) <ℚ e → RisesFrom q.x qs → NoneContinues q qs → Each (λ z. z.x <ℚ q.x +ℚ e) qs
@@ -95,7 +95,7 @@ copied (suc k) e u q qs some rise none inside break =
     }
 
 -- ---- where a fraction of the period is a period, the pieces are copies
-read_is : (p : Piece) (ps : List Piece) (t : ℚ) → read (p ∷ ps) t ≡ piece_value (piece_in p ps t) t
+pub read_is : (p : Piece) (ps : List Piece) (t : ℚ) → read (p ∷ ps) t ≡ piece_value (piece_in p ps t) t
 unfolding read
 read_is p ps t = refl
 

@@ -44,7 +44,7 @@ pub each_mid : (P : Piece → Type 0) (es : List Piece) (p : Piece) (bs : List P
 each_mid P [] p bs h = h.0
 each_mid P (a ∷ es) p bs h = each_mid P es p bs h.1
 
-has_mid : (es : List Piece) (p : Piece) (bs : List Piece) → HasStart p.x (es ++ p ∷ bs)
+pub has_mid : (es : List Piece) (p : Piece) (bs : List Piece) → HasStart p.x (es ++ p ∷ bs)
 has_mid [] p bs = inl refl
 has_mid (a ∷ es) p bs = inr (has_mid es p bs)
 

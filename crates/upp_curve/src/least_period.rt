@@ -1,6 +1,6 @@
 //! The least period of a periodic curve, by the primes that divide the number of its pieces.
 
-ghost use Rattle.std.specs.Prelude.{◌≡◌, ◌↔◌, ◌*◌, ◌<◌, ◌≤◌, ◌^◌, pos, IfOk, IsTrue, MatchOption};
+ghost use Rattle.std.specs.Prelude.{◌≡◌, ◌↔◌, ◌<◌, ◌≤◌, ◌^◌, pos, drop, length, IfOk, IsTrue, MatchOption};
 ghost use Prim.Native.Nat.{◌∣◌};
 ghost use Rattle.rational.specs.Rational.{int, ◌/ℚ◌};
 ghost use Rattle.rational.specs.Grid.{Whole};
@@ -42,6 +42,14 @@ fn goes_on(pieces: &[Piece], k: usize, by: Frac, rise: Frac) -> Result<bool, Wid
     Ok(true)
 }
 
+// The pieces of one period.
+fn turn_of(pieces: &[Piece], first: usize) -> &[Piece]
+    requires { first ≤ length pieces.now }
+    ensures { result.now ≡ drop first pieces.now }
+{
+    &pieces[first..]
+}
+
 // The curve with its period divided by `parts`, where that is a period; else as it is.
 fn divided(cycle: Cycle, parts: usize, times: u128, values: u128) -> Result<Cycle, Wide>
     requires turning { IsTurning cycle (cycle_values cycle) }
@@ -60,8 +68,9 @@ fn divided(cycle: Cycle, parts: usize, times: u128, values: u128) -> Result<Cycl
     let Some(rise) = share(cycle.rise, parts, values) else {
         return Ok(cycle);
     };
-    let k = (cycle.pieces.len() - cycle.first) / parts;
-    if !goes_on(&cycle.pieces[cycle.first..], k, by, rise)? {
+    let turn = turn_of(&cycle.pieces, cycle.first);
+    let k = turn.len() / parts;
+    if !goes_on(turn, k, by, rise)? {
         return Ok(cycle);
     }
     let first = cycle.first;
@@ -87,7 +96,7 @@ pub(crate) fn least_period(cycle: Cycle, times: u128, values: u128) -> Result<Cy
     requires grids { OnGrids times values (cycle_values cycle) cycle.rank }
     ensures { IfOk result (λ d. IsLeast cycle d) }
 {
-    let mut rest = cycle.pieces.len() - cycle.first;
+    let mut rest = turn_of(&cycle.pieces, cycle.first).len();
     let mut found = cycle;
     let mut parts = 2;
     while parts <= rest {
