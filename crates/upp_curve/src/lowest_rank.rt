@@ -77,7 +77,8 @@ fn lowered(
 pub(crate) fn lowest_rank(cycle: Cycle) -> Result<Cycle, Wide>
     requires cycle { IsCycle cycle.pieces.items cycle.rank cycle.period }
     requires first { cycle.first ≡ length (upto cycle.rank cycle.pieces.items) }
-    ensures { IfOk result (λ d. IsLowest d.pieces.items d.rank d.period d.rise cycle.rank (repeated (read cycle.pieces.items) cycle.rank cycle.period cycle.rise)) }
+    ensures period { IfOk result (λ d. (d.period ≡ cycle.period) × (d.rise ≡ cycle.rise)) }
+    ensures lowest { IfOk result (λ d. IsLowest d.pieces.items d.rank d.period d.rise cycle.rank (repeated (read cycle.pieces.items) cycle.rank cycle.period cycle.rise)) }
 {
     let period = cycle.period;
     let rise = cycle.rise;

@@ -1,7 +1,7 @@
 //! Pieces moved in time and height, and neighbours that are one piece joined.
 
 ghost use Rattle.std.specs.Prelude.{◌≡◌, ◌↔◌, true, IfOk, List, ◌∷◌};
-ghost use Rattle.upp_curve.specs.Normal.{Continues, RisesFrom};
+ghost use Rattle.upp_curve.specs.Normal.{Continues, RisesFrom, StartsAtZero};
 ghost use Rattle.upp_curve.specs.Unrolled.{line_later, later};
 ghost use Rattle.upp_curve.specs.Normalising.{IsMerged};
 
@@ -78,8 +78,8 @@ pub(crate) fn continues(p: Piece, q: Piece) -> Result<bool, Wide>
     Ok(same_ext(q.at, reached))
 }
 
-/// The pieces with neighbours joined that are one piece: these read as before, and no piece goes on with the one before it.
-pub(crate) fn merged(alloc: Global, first: Piece, rest: &[Piece]) -> Result<Vec<Piece>, Unmade>
+// The pieces with neighbours joined that are one piece, from the first and those after it.
+fn merged_after(alloc: Global, first: Piece, rest: &[Piece]) -> Result<Vec<Piece>, Unmade>
     requires { RisesFrom first.x rest.now }
     ensures { IfOk result (λ v. (kept : List Piece) × (v.items ≡ first ∷ kept) × IsMerged first rest.now kept) }
 {
@@ -93,4 +93,12 @@ pub(crate) fn merged(alloc: Global, first: Piece, rest: &[Piece]) -> Result<Vec<
     }
     kept.push(open)?;
     Ok(kept)
+}
+
+/// The pieces with neighbours joined that are one piece: these read as before, and no piece goes on with the one before it.
+pub(crate) fn merged(alloc: Global, pieces: &[Piece]) -> Result<Vec<Piece>, Unmade>
+    requires { StartsAtZero pieces.now }
+    ensures { (p : Piece) (ps : List Piece) → pieces.now ≡ p ∷ ps → IfOk result (λ v. (kept : List Piece) × (v.items ≡ p ∷ kept) × IsMerged p ps kept) }
+{
+    merged_after(alloc, pieces[0], &pieces[1..])
 }

@@ -28,8 +28,8 @@ loop-first-preserved c =
     let step = subst (λ o. Lowers l.pieces.items c.lowered.new.pieces.items l.first a.period a.rise z o) c.in-Some.is (c.in_ok-start.ensures z) in
     lowers_more l.pieces.items c.lowered.new.pieces.items l.first l.rank a.period a.rise a.rank c.in-Some.start (repeated (read a.pieces.items) a.rank a.period a.rise) z l.invariant c.loop-first-test.true step
 
-pub returns : goal.returns
-returns c =
+pub returns-clause-lowest : goal.returns-clause-lowest
+returns-clause-lowest c =
     let a = c.args.cycle in
     let l = c.loop-first in
     let f = repeated (read a.pieces.items) a.rank a.period a.rise in

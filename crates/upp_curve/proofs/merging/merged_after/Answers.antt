@@ -1,8 +1,8 @@
 use Rattle.upp_curve.proofs.NormaliseLoops.{next_piece}
 use Rattle.std.proofs.Common.{ap, ◌∙◌, drop, ◌+◌, drop_of_length-le}
 use Rattle.upp_curve.proofs.NormaliseMerge.{merge_begins, merge_keeps_next, merge_skips_next, merge_is}
-use Rattle.upp_curve.proofs.merging.merged.Goals as goal
-use Rattle.upp_curve.proofs.merging.merged.Goals.{then-not-branch+in_ok-push, else-not-branch}
+use Rattle.upp_curve.proofs.merging.merged_after.Goals as goal
+use Rattle.upp_curve.proofs.merging.merged_after.Goals.{then-not-branch+in_ok-push, else-not-branch}
 
 pub loop-q-preserved : goal.loop-q-preserved
 loop-q-preserved c =
