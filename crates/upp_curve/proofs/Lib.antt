@@ -33,3 +33,4 @@ pub mod NormaliseShare
 pub mod NormaliseGoes
 pub mod NormaliseDivided
 pub mod NormaliseLeast
+pub mod NormaliseForm

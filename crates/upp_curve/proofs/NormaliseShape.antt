@@ -132,3 +132,9 @@ turns_at ps r d c x e y first kept T s end l until count k =
 -- a list cut to as many pieces as start before x
 pub taken_is : (x : ℚ) (ps seen kept : List Piece) (n : ℕ) → kept ≡ take n ps → n ≡ length (upto x seen) → seen ≡ ps → kept ≡ upto x ps
 taken_is x ps seen kept n k e s = k ∙ ap (λ m. take m ps) (e ∙ ap (λ zs. length (upto x zs)) s) ∙ take_upto x ps
+
+-- the first start past the rank is past it
+pub start_late : (ps : List Piece) (r x : ℚ) → Some x ≡ first_start (past r ps) → r ≤ℚ x
+start_late ps r x s =
+    let (q, qs, past_is, at) = start_some (past r ps) x (sym s) in
+    le_of_lt (subst (λ z. r <ℚ z) at (first_late r ps q qs past_is))

@@ -3,16 +3,21 @@ use Rattle.std.specs.Prelude.{◌≡◌, ℕ, pos, List, [], ◌∷◌, ◌++◌
 use Rattle.rational.specs.Rational.{ℚ, ◌+ℚ◌, ◌/ℚ◌, ◌≤ℚ◌, ◌<ℚ◌, int, le_q, lt_q}
 use Rattle.rational.specs.Extended.{Ext, ◌+ₑ◌}
 use Rattle.rational.specs.declared.Extended.TheVariants.{Fin}
+use Rattle.affine_segment.specs.declared.line.Line.{Line}
 use Rattle.affine_segment.specs.declared.line.Piece.{Piece}
+use Rattle.affine_segment.specs.Values.{line_value}
+use Rattle.upp_curve.specs.declared.curve.Tail.{Tail}
+use Rattle.upp_curve.specs.declared.curve.Tail.TheVariants.{Periodic, Affine, Infinite}
+use Rattle.upp_curve.specs.declared.normalise.RawCurve.{RawCurve}
 use Rattle.rational.specs.Grid.{Whole}
 use Rattle.upp_curve.specs.declared.cycle.Cycle.{Cycle}
 use Rattle.upp_curve.specs.declared.cycle.Shape.{Shape}
-use Rattle.upp_curve.specs.declared.cycle.Shape.TheVariants.{Line, Turns}
+use Rattle.upp_curve.specs.declared.cycle.Shape.TheVariants.{Straight, Turns}
 use Rattle.upp_curve.specs.Reading.{read, piece_in, piece_value}
-use Rattle.upp_curve.specs.Curve.{repeated}
+use Rattle.upp_curve.specs.Curve.{SpecCurve, repeated, value_at}
 use Rattle.upp_curve.specs.Steady.{Repeats, last_of}
 use Rattle.upp_curve.specs.Unrolled.{line_later, later, each_later, upto, from}
-use Rattle.upp_curve.specs.Normal.{StartsAtZero, RisesFrom, Each, HasStart, NoMerge, NoneContinues, Continues}
+use Rattle.upp_curve.specs.Normal.{StartsAtZero, RisesFrom, Each, HasStart, NoMerge, NoneContinues, Continues, IsNormal}
 
 -- rs is ps with some pieces taken out
 abbrev pub IsPart : List Piece → List Piece → Type 0
@@ -89,8 +94,8 @@ abbrev pub IsTurning : Cycle → (ℚ → Ext) → Type 0
 IsTurning c f = Turned c.pieces.items c.first c.rank c.period c.rise f
 
 abbrev pub IsShape : List Piece → ℚ → ℚ → ℚ → Shape → Type 0
-IsShape ps rank period rise (Line kept) = IsLine kept.items (repeated (read ps) rank period rise)
-IsShape ps rank period rise (Turns c) = IsTurning c (repeated (read ps) rank period rise)
+IsShape ps rank period rise (Straight kept) = IsLine kept.items (repeated (read ps) rank period rise)
+IsShape ps rank period rise (Turns c) = (rank ≤ℚ c.rank) × IsTurning c (repeated (read ps) rank period rise)
 
 -- ---- the least rank
 -- p's values, a period later and a rise higher, lie in the piece `last`
@@ -157,3 +162,25 @@ pub record IsLeast (c d : Cycle) : Type 0 where
   pub turned : IsTurning d (cycle_values c)
   pub rank : d.rank ≡ c.rank
   pub least : (n : ℕ) → 2 ≤ n → ¬ (Repeats (cycle_values d) d.rank (d.period /ℚ int (pos n)) (d.rise /ℚ int (pos n)))
+
+-- ---- the whole
+abbrev pub raw_curve : RawCurve → SpecCurve
+raw_curve r = record { pieces = r.pieces.items; tail = r.tail }
+
+-- a normal form with f's values
+pub record IsFormOf (c : SpecCurve) (f : ℚ → Ext) : Type 0 where
+  pub normal : IsNormal c
+  pub same : (t : ℚ) → int (pos 0) ≤ℚ t → value_at c t ≡ f t
+
+-- f is one line from `from` on; no line is infinity
+abbrev pub IsOneLine : (ℚ → Ext) → ℚ → Type 0
+IsOneLine f from = (l : Option Line) × ((t : ℚ) → from ≤ℚ t → f t ≡ line_value l t)
+
+abbrev pub OnGridsUnlessLine : ℕ → ℕ → (ℚ → Ext) → ℚ → Type 0
+OnGridsUnlessLine times values f from = ¬ (IsOneLine f from) → OnGrids times values f from
+
+-- each period of a periodic curve's tail and its rise are on the grids, unless the tail is one line
+abbrev pub TailOnGrids : ℕ → ℕ → Tail → (ℚ → Ext) → Type 0
+TailOnGrids times values (Periodic rank period rise) f = OnGridsUnlessLine times values f rank
+TailOnGrids times values (Affine rank) f = Unit {0}
+TailOnGrids times values (Infinite rank) f = Unit {0}

@@ -24,7 +24,7 @@ pub(crate) struct Cycle {
 #[derive(Drop)]
 pub(crate) enum Shape {
     /// Its pieces, the last of which goes on for ever.
-    Line(Vec<Piece>),
+    Straight(Vec<Piece>),
     /// A curve whose period begins and ends at a break.
     Turns(Cycle),
 }
@@ -41,14 +41,14 @@ pub(crate) fn shape_of(
 {
     let mut kept = pieces;
     let Some(start) = first_past(&kept, rank) else {
-        return Ok(Shape::Line(kept));
+        return Ok(Shape::Straight(kept));
     };
     let first = count_before(&kept, start);
     let end = Frac::add(rank, period)?;
     match start.cmp(&end) {
         Ordering::Greater => {
             kept.truncate(first);
-            return Ok(Shape::Line(kept));
+            return Ok(Shape::Straight(kept));
         }
         _ => {}
     }

@@ -7,6 +7,7 @@ mod laws;
 mod least_period;
 mod lowest_rank;
 mod merging;
+mod normalise;
 mod reading;
 mod same;
 mod two_periods;

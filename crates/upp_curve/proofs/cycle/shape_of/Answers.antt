@@ -2,7 +2,7 @@ use Rattle.std.proofs.Common.{◌∙◌, sym, ap, length}
 use Rattle.rational.proofs.Comparison.{cmp_greater, cmp_not_greater}
 use Rattle.upp_curve.specs.Unrolled.{upto}
 use Rattle.upp_curve.specs.Normalising.{past, first_start}
-use Rattle.upp_curve.proofs.NormaliseShape.{line_for_ever, line_before, turns_at, taken_is}
+use Rattle.upp_curve.proofs.NormaliseShape.{line_for_ever, line_before, turns_at, taken_is, start_late}
 use Rattle.upp_curve.proofs.cycle.shape_of.Goals as goal
 
 pub returns-in_default : goal.returns-in_default
@@ -24,8 +24,10 @@ returns c =
     let start = c.in-Some.start in
     let until = c.in_ok-until.until in
     let ps = c.args.pieces.items in
-    turns_at ps c.args.rank c.args.period c.args.rise start c.in_ok-end.end until c.count_before-first.result c.truncate-2.new.self.items c.requires
-    (sym c.in-Some.is ∙ c.first_past.ensures ∙ ap (λ ps. first_start (past c.args.rank ps)) c.deref.ensures.value)
-    c.in_ok-end.ensures.value (cmp_not_greater start c.in_ok-end.end (λ k. c.in_default-cmp.not-Greater (c.cmp.ensures.is ∙ k)))
-    c.in_ok-until.ensures.value (c.count_before-first.ensures ∙ ap (λ ps. length (upto start ps)) c.deref-2.ensures.value)
-    (taken_is until ps c.deref-3.result.now c.truncate-2.new.self.items c.count_before-count.result c.truncate-2.ensures.items c.count_before-count.ensures c.deref-3.ensures.value)
+    let s = sym c.in-Some.is ∙ c.first_past.ensures ∙ ap (λ ps. first_start (past c.args.rank ps)) c.deref.ensures.value in (
+      start_late ps c.args.rank start s,
+      turns_at ps c.args.rank c.args.period c.args.rise start c.in_ok-end.end until c.count_before-first.result c.truncate-2.new.self.items c.requires s
+      c.in_ok-end.ensures.value (cmp_not_greater start c.in_ok-end.end (λ k. c.in_default-cmp.not-Greater (c.cmp.ensures.is ∙ k)))
+      c.in_ok-until.ensures.value (c.count_before-first.ensures ∙ ap (λ ps. length (upto start ps)) c.deref-2.ensures.value)
+      (taken_is until ps c.deref-3.result.now c.truncate-2.new.self.items c.count_before-count.result c.truncate-2.ensures.items c.count_before-count.ensures c.deref-3.ensures.value),
+    )
