@@ -168,13 +168,18 @@ repeating_form c m ps low d u L W dm um =
     }
 
 -- ---- the grids of a curve's periods
-pub turning_grids : (times values : ℕ) (f : ℚ → Ext) (r d u : ℚ) (c : Cycle) → Repeats f r d u → int (pos 0) <ℚ d → r ≤ℚ c.rank → OnGridsUnlessLine times values f r → IsTurning c f → OnGrids times values (cycle_values c) c.rank
-turning_grids times values f r d u c F some low G T =
+pub turning_grids : (times values : ℕ) (f : ℚ → Ext) (r : ℚ) (c : Cycle) → Repeats f r c.period c.rise → r ≤ℚ c.rank → OnGridsUnlessLine times values f r c.period c.rise → IsTurning c f
+    → OnGrids times values (cycle_values c) c.rank c.period c.rise
+turning_grids times values f r c F low G T =
     let bent : ¬ (IsOneLine f r) = λ (l, is). turning_line c f T l (λ t h. T.same t (le_trans T.cycle.nonneg h) ∙ is t (le_trans low h)) in
     let on = G bent in
-    let up = λ (e v : ℚ) (h : int (pos 0) <ℚ e) (R : Repeats (cycle_values c) c.rank e v).
-      rule_extends f r d u c.rank e v F (transfer f (cycle_values c) c.rank e v T.cycle.nonneg (le_of_lt h) (λ t k. sym (T.same t k)) R) some (le_of_lt h) in
-    record { period = λ e v h R. on.period e v h (up e v h R); rise = λ e v h R. on.rise e v h (up e v h R) }
+    let some = T.cycle.some in
+    let up = λ (n : ℕ) (h : 1 ≤ n) (R : Repeats (cycle_values c) c.rank (c.period /ℚ int (pos n)) (c.rise /ℚ int (pos n))).
+      let e = c.period /ℚ int (pos n) in
+      let v = c.rise /ℚ int (pos n) in
+      let e_some = le_of_lt (share_some c.period n h some) in
+      rule_extends f r c.period c.rise c.rank e v F (transfer f (cycle_values c) c.rank e v T.cycle.nonneg e_some (λ t k. sym (T.same t k)) R) some e_some in
+    record { time = λ n h R. on.time n h (up n h R); value = λ n h R. on.value n h (up n h R) }
 
 -- ---- two periods of a given curve
 -- what repeats depends on the first period alone
@@ -272,12 +277,12 @@ pub zero_some : (ps : List Piece) → StartsAtZero ps → 0 < length ps
 zero_some [] h = absurd h
 zero_some (p ∷ ps) h = omega arith
 
-pub grids_through : (times values : ℕ) (f g : ℚ → Ext) (r : ℚ) → ((t : ℚ) → f t ≡ g t) → OnGridsUnlessLine times values g r → OnGridsUnlessLine times values f r
-grids_through times values f g r same G bent =
+pub grids_through : (times values : ℕ) (f g : ℚ → Ext) (r d u : ℚ) → ((t : ℚ) → f t ≡ g t) → OnGridsUnlessLine times values g r d u → OnGridsUnlessLine times values f r d u
+grids_through times values f g r d u same G bent =
     let on = G (λ (l, is). bent (l, λ t h. same t ∙ is t h)) in
     record {
-      period = λ e u h R. on.period e u h (same_rule g f r e u (λ t. sym (same t)) R);
-      rise = λ e u h R. on.rise e u h (same_rule g f r e u (λ t. sym (same t)) R);
+      time = λ n h R. on.time n h (same_rule g f r (d /ℚ int (pos n)) (u /ℚ int (pos n)) (λ t. sym (same t)) R);
+      value = λ n h R. on.value n h (same_rule g f r (d /ℚ int (pos n)) (u /ℚ int (pos n)) (λ t. sym (same t)) R);
     }
 
 -- two periods of a list that starts at 0

@@ -67,11 +67,11 @@ Shorter c n = Repeats (cycle_values c) c.rank (c.period /ℚ int (pos n)) (c.ris
 pub stays : (c : Cycle) (parts : ℕ) → IsTurning c (cycle_values c) → ¬ (Shorter c parts) → IsDivided c parts c
 stays c parts T n = record { turned = T; rank = refl; outcome = inl record { period = refl; rise = refl; count = refl; none = n } }
 
-pub no_share_of_time : (c : Cycle) (parts times values : ℕ) → IsTurning c (cycle_values c) → OnGrids times values (cycle_values c) c.rank → 0 < parts → ¬ (Whole times (c.period /ℚ int (pos parts))) → ¬ (Shorter c parts)
-no_share_of_time c parts times values T G h n R = n (G.period (c.period /ℚ int (pos parts)) (c.rise /ℚ int (pos parts)) (share_some c.period parts h T.cycle.some) R)
+pub no_share_of_time : (c : Cycle) (parts times values : ℕ) → IsTurning c (cycle_values c) → OnGrids times values (cycle_values c) c.rank c.period c.rise → 0 < parts → ¬ (Whole times (c.period /ℚ int (pos parts))) → ¬ (Shorter c parts)
+no_share_of_time c parts times values T G h n R = n (G.time parts h R)
 
-pub no_share_of_value : (c : Cycle) (parts times values : ℕ) → IsTurning c (cycle_values c) → OnGrids times values (cycle_values c) c.rank → 0 < parts → ¬ (Whole values (c.rise /ℚ int (pos parts))) → ¬ (Shorter c parts)
-no_share_of_value c parts times values T G h n R = n (G.rise (c.period /ℚ int (pos parts)) (c.rise /ℚ int (pos parts)) (share_some c.period parts h T.cycle.some) R)
+pub no_share_of_value : (c : Cycle) (parts times values : ℕ) → IsTurning c (cycle_values c) → OnGrids times values (cycle_values c) c.rank c.period c.rise → 0 < parts → ¬ (Whole values (c.rise /ℚ int (pos parts))) → ¬ (Shorter c parts)
+no_share_of_value c parts times values T G h n R = n (G.value parts h R)
 
 pub no_copies_left : (c : Cycle) (parts k : ℕ) (by rise : ℚ) → IsTurning c (cycle_values c) → 0 < parts → turn_count c ≡ parts * k → by ≡ c.period /ℚ int (pos parts) → rise ≡ c.rise /ℚ int (pos parts)
     → ¬ (GoesOn (from c.rank c.pieces.items) k by rise) → ¬ (Shorter c parts)
@@ -132,15 +132,40 @@ to_values d f r e u T k h R = subst (λ x. Repeats f x e u) k (transfer f (cycle
 from_values : (d : Cycle) (f : ℚ → Ext) (r e u : ℚ) → IsTurning d f → d.rank ≡ r → int (pos 0) ≤ℚ e → Repeats f r e u → Repeats (cycle_values d) d.rank e u
 from_values d f r e u T k h R = transfer (cycle_values d) f d.rank e u T.cycle.nonneg h T.same (subst (λ x. Repeats f x e u) (sym k) R)
 
-pub grids_kept : (c d : Cycle) (times values : ℕ) → OnGrids times values (cycle_values c) c.rank → IsTurning d (cycle_values c) → d.rank ≡ c.rank → OnGrids times values (cycle_values d) d.rank
-grids_kept c d times values G T k = record {
-  period = λ e u h R. G.period e u h (to_values d (cycle_values c) c.rank e u T k (le_of_lt h) R);
-  rise = λ e u h R. G.rise e u h (to_values d (cycle_values c) c.rank e u T k (le_of_lt h) R);
+abbrev pub OwnGrids : ℕ → ℕ → Cycle → Type 0
+OwnGrids times values c = OnGrids times values (cycle_values c) c.rank c.period c.rise
+
+-- a curve with c's values and its period, or that divided by `parts`, has its fractions on the grids where c has
+grids_kept : (times values : ℕ) (c d : Cycle) → OwnGrids times values c → IsTurning d (cycle_values c) → d.rank ≡ c.rank → d.period ≡ c.period → d.rise ≡ c.rise → OwnGrids times values d
+grids_kept times values c d G T k e u = record {
+  time = λ n h R. subst (λ x. Whole times (x /ℚ int (pos n))) (sym e) (G.time n h (back n h R));
+  value = λ n h R. subst (λ x. Whole values (x /ℚ int (pos n))) (sym u) (G.value n h (back n h R));
 }
+  where
+    back : (n : ℕ) → 1 ≤ n → Shorter d n → Shorter c n
+    back n h R =
+        subst (λ x. Repeats (cycle_values c) c.rank (x /ℚ int (pos n)) (c.rise /ℚ int (pos n))) e (subst (λ y. Repeats (cycle_values c) c.rank (d.period /ℚ int (pos n)) (y /ℚ int (pos n))) u
+        (to_values d (cycle_values c) c.rank (d.period /ℚ int (pos n)) (d.rise /ℚ int (pos n)) T k (le_of_lt (share_some d.period n h T.cycle.some)) R))
+
+grids_cut : (times values parts : ℕ) (c d : Cycle) → OwnGrids times values c → IsTurning d (cycle_values c) → d.rank ≡ c.rank → 0 < parts → d.period ≡ c.period /ℚ int (pos parts) → d.rise ≡ c.rise /ℚ int (pos parts)
+    → OwnGrids times values d
+grids_cut times values parts c d G T k some e u = record {
+  time = λ n h R. subst (Whole times) (sym (shares d.period c.period e n h)) (G.time (parts * n) (mul-pos some h) (back n h R));
+  value = λ n h R. subst (Whole values) (sym (shares d.rise c.rise u n h)) (G.value (parts * n) (mul-pos some h) (back n h R));
+}
+  where
+    shares : (x y : ℚ) → x ≡ y /ℚ int (pos parts) → (n : ℕ) → 1 ≤ n → x /ℚ int (pos n) ≡ y /ℚ int (pos (parts * n))
+    shares x y is n h = ap (λ z. z /ℚ int (pos n)) is ∙ share_twice y parts n some h
+
+    back : (n : ℕ) → 1 ≤ n → Shorter d n → Shorter c (parts * n)
+    back n h R =
+        subst (λ x. Repeats (cycle_values c) c.rank x (c.rise /ℚ int (pos (parts * n)))) (shares d.period c.period e n h) (subst (λ y. Repeats (cycle_values c) c.rank (d.period /ℚ int (pos n)) y) (shares d.rise c.rise u n h)
+        (to_values d (cycle_values c) c.rank (d.period /ℚ int (pos n)) (d.rise /ℚ int (pos n)) T k (le_of_lt (share_some d.period n h T.cycle.some)) R))
 
 -- ---- the search
 -- `found` has c's values; a whole number by which its period can be divided divides `rest`, which none from 2 to below `parts` does
-pub record Searching (c found : Cycle) (parts rest : ℕ) : Type 0 where
+pub record Searching (times values : ℕ) (c found : Cycle) (parts rest : ℕ) : Type 0 where
+  pub grids : OwnGrids times values found
   pub turned : IsTurning found (cycle_values c)
   pub rank : found.rank ≡ c.rank
   pub some : 2 ≤ parts
@@ -161,10 +186,11 @@ divides_turn c (suc m) T h R =
     divides_count c.pieces.items c.rank c.period c.rise (c.period /ℚ int (pos (suc m))) (c.rise /ℚ int (pos (suc m))) m T.cycle T.break (share_some c.period (suc m) h T.cycle.some)
     (share_back c.period (suc m) h) (share_back c.rise (suc m) h) R
 
-pub search_begins : (c : Cycle) (turn : List Piece) (rest : ℕ) → IsTurning c (cycle_values c) → turn ≡ from c.rank c.pieces.items → rest ≡ length turn → Searching c c 2 rest
-search_begins c turn rest T t l =
+pub search_begins : (times values : ℕ) (c : Cycle) (turn : List Piece) (rest : ℕ) → OwnGrids times values c → IsTurning c (cycle_values c) → turn ≡ from c.rank c.pieces.items → rest ≡ length turn → Searching times values c c 2 rest
+search_begins times values c turn rest G T t l =
     let n : turn_count c ≡ rest = sym (l ∙ ap length t) in
-    subst (Searching c c 2) n record {
+    subst (Searching times values c c 2) n record {
+      grids = G;
       turned = T;
       rank = refl;
       some = omega arith;
@@ -174,8 +200,9 @@ search_begins c turn rest T t l =
       only = λ n h R. divides_turn c n T h R;
     }
 
-pub search_goes_on : (c found : Cycle) (parts rest : ℕ) → Searching c found parts rest → (rest % parts ≡ 0 → ⊥) → Searching c found (parts + 1) rest
-search_goes_on c found parts rest S n = record {
+pub search_goes_on : (times values : ℕ) (c found : Cycle) (parts rest : ℕ) → Searching times values c found parts rest → (rest % parts ≡ 0 → ⊥) → Searching times values c found (parts + 1) rest
+search_goes_on times values c found parts rest S n = record {
+  grids = S.grids;
   turned = S.turned;
   rank = S.rank;
   some = let k = S.some in omega arith;
@@ -212,8 +239,8 @@ shorter_by f r d c parts n some h k R =
     subst (λ x. Repeats f r x (c /ℚ int (pos parts))) (share_times d parts j n h e)
     (subst (λ y. Repeats f r (int (pos j) *ℚ (d /ℚ int (pos n))) y) (share_times c parts j n h e) T)
 
-pub search_divides : (c found d : Cycle) (parts rest : ℕ) → Searching c found parts rest → rest % parts ≡ 0 → IsDivided found parts d → Searching c d parts (rest / parts)
-search_divides c found d parts rest S e D =
+pub search_divides : (times values : ℕ) (c found d : Cycle) (parts rest : ℕ) → Searching times values c found parts rest → rest % parts ≡ 0 → IsDivided found parts d → Searching times values c d parts (rest / parts)
+search_divides times values c found d parts rest S e D =
     let more = S.some in
     let h : parts ∣ rest = dvd_of_mod-eq-zero parts e in
     let next : parts * (rest / parts) ≡ rest = mul-div_cancel' parts h in
@@ -230,8 +257,9 @@ search_divides c found d parts rest S e D =
     some_left (suc m) p q = omega arith
 
     by_outcome : parts ∣ rest → parts * (rest / parts) ≡ rest → 0 < rest / parts → rest / parts ∣ rest → ((q : ℕ) → 2 ≤ q → q < parts → ¬ (q ∣ rest / parts)) → IsTurning d (cycle_values c) → d.rank ≡ c.rank
-        → StaysWhole found parts d ⊎ IsCut found parts d → Searching c d parts (rest / parts)
+        → StaysWhole found parts d ⊎ IsCut found parts d → Searching times values c d parts (rest / parts)
     by_outcome h next left back none T r (inl W) = record {
+      grids = grids_kept times values found d S.grids D.turned D.rank W.period W.rise;
       turned = T;
       rank = r;
       some = S.some;
@@ -250,6 +278,7 @@ search_divides c found d parts rest S e D =
     by_outcome h next left back none T r (inr W) =
         let some_p : 0 < parts = let m = S.some in omega arith in
         record {
+          grids = grids_cut times values parts found d S.grids D.turned D.rank some_p W.period W.rise;
           turned = T;
           rank = r;
           some = S.some;
@@ -263,8 +292,8 @@ search_divides c found d parts rest S e D =
             dvd_of_mul-dvd-mul_left n some_p (subst (λ z. parts * n ∣ z) (sym next) (S.only (parts * n) (mul-pos some_p some_n) R2));
         }
 
-pub search_ends : (c found : Cycle) (parts rest : ℕ) → Searching c found parts rest → rest < parts → IsLeast c found
-search_ends c found parts rest S h = record {
+pub search_ends : (times values : ℕ) (c found : Cycle) (parts rest : ℕ) → Searching times values c found parts rest → rest < parts → IsLeast c found
+search_ends times values c found parts rest S h = record {
   turned = S.turned;
   rank = S.rank;
   least = λ n a R.

@@ -95,7 +95,7 @@ IsTurning c f = Turned c.pieces.items c.first c.rank c.period c.rise f
 
 abbrev pub IsShape : List Piece → ℚ → ℚ → ℚ → Shape → Type 0
 IsShape ps rank period rise (Straight kept) = IsLine kept.items (repeated (read ps) rank period rise)
-IsShape ps rank period rise (Turns c) = (rank ≤ℚ c.rank) × IsTurning c (repeated (read ps) rank period rise)
+IsShape ps rank period rise (Turns c) = (rank ≤ℚ c.rank) × (c.period ≡ period) × (c.rise ≡ rise) × IsTurning c (repeated (read ps) rank period rise)
 
 -- ---- the least rank
 -- p's values, a period later and a rise higher, lie in the piece `last`
@@ -134,10 +134,11 @@ cycle_values c = repeated (read c.pieces.items) c.rank c.period c.rise
 abbrev pub turn_count : Cycle → ℕ
 turn_count c = length (from c.rank c.pieces.items)
 
--- each period of f from `from` on is a whole multiple of 1 / times, and its rise of 1 / values
-pub record OnGrids (times values : ℕ) (f : ℚ → Ext) (from : ℚ) : Type 0 where
-  pub period : (e u : ℚ) → int (pos 0) <ℚ e → Repeats f from e u → Whole times e
-  pub rise : (e u : ℚ) → int (pos 0) <ℚ e → Repeats f from e u → Whole values u
+-- where a whole fraction of the period, with that of the rise, is a period of f from `from` on, it is a whole multiple of 1 / times, and its rise of
+-- 1 / values
+pub record OnGrids (times values : ℕ) (f : ℚ → Ext) (from period rise : ℚ) : Type 0 where
+  pub time : (n : ℕ) → 1 ≤ n → Repeats f from (period /ℚ int (pos n)) (rise /ℚ int (pos n)) → Whole times (period /ℚ int (pos n))
+  pub value : (n : ℕ) → 1 ≤ n → Repeats f from (period /ℚ int (pos n)) (rise /ℚ int (pos n)) → Whole values (rise /ℚ int (pos n))
 
 -- d is c, and a period of c divided by `parts` is none
 pub record StaysWhole (c : Cycle) (parts : ℕ) (d : Cycle) : Type 0 where
@@ -176,11 +177,11 @@ pub record IsFormOf (c : SpecCurve) (f : ℚ → Ext) : Type 0 where
 abbrev pub IsOneLine : (ℚ → Ext) → ℚ → Type 0
 IsOneLine f from = (l : Option Line) × ((t : ℚ) → from ≤ℚ t → f t ≡ line_value l t)
 
-abbrev pub OnGridsUnlessLine : ℕ → ℕ → (ℚ → Ext) → ℚ → Type 0
-OnGridsUnlessLine times values f from = ¬ (IsOneLine f from) → OnGrids times values f from
+abbrev pub OnGridsUnlessLine : ℕ → ℕ → (ℚ → Ext) → ℚ → ℚ → ℚ → Type 0
+OnGridsUnlessLine times values f from period rise = ¬ (IsOneLine f from) → OnGrids times values f from period rise
 
--- each period of a periodic curve's tail and its rise are on the grids, unless the tail is one line
+-- the whole fractions of a periodic tail's period that are periods, and their rises, are on the grids, unless the tail is one line
 abbrev pub TailOnGrids : ℕ → ℕ → Tail → (ℚ → Ext) → Type 0
-TailOnGrids times values (Periodic rank period rise) f = OnGridsUnlessLine times values f rank
+TailOnGrids times values (Periodic rank period rise) f = OnGridsUnlessLine times values f rank period rise
 TailOnGrids times values (Affine rank) f = Unit {0}
 TailOnGrids times values (Infinite rank) f = Unit {0}

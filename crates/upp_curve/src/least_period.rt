@@ -59,7 +59,7 @@ fn divided(cycle: Cycle, parts: usize, times: u128, values: u128) -> Result<Cycl
     requires some_values { 0 < values }
     requires times { times < 2 ^ 127 }
     requires values { values < 2 ^ 127 }
-    requires grids { OnGrids times values (cycle_values cycle) cycle.rank }
+    requires grids { OnGrids times values (cycle_values cycle) cycle.rank cycle.period cycle.rise }
     ensures { IfOk result (λ d. IsDivided cycle parts d) }
 {
     let Some(by) = share(cycle.period, parts, times) else {
@@ -93,7 +93,7 @@ pub(crate) fn least_period(cycle: Cycle, times: u128, values: u128) -> Result<Cy
     requires some_values { 0 < values }
     requires times { times < 2 ^ 127 }
     requires values { values < 2 ^ 127 }
-    requires grids { OnGrids times values (cycle_values cycle) cycle.rank }
+    requires grids { OnGrids times values (cycle_values cycle) cycle.rank cycle.period cycle.rise }
     ensures { IfOk result (λ d. IsLeast cycle d) }
 {
     let mut rest = turn_of(&cycle.pieces, cycle.first).len();

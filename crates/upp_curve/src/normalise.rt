@@ -58,7 +58,7 @@ fn repeating(cycle: Cycle, times: u128, values: u128) -> Result<RawCurve, Wide>
     requires some_values { 0 < values }
     requires times { times < 2 ^ 127 }
     requires values { values < 2 ^ 127 }
-    requires grids { OnGrids times values (cycle_values cycle) cycle.rank }
+    requires grids { OnGrids times values (cycle_values cycle) cycle.rank cycle.period cycle.rise }
     ensures { IfOk result (λ r. IsFormOf (raw_curve r) (cycle_values cycle)) }
 {
     let found = lowest_rank(least_period(cycle, times, values)?)?;
@@ -86,7 +86,7 @@ fn of_two_periods(
     requires some_values { 0 < values }
     requires times { times < 2 ^ 127 }
     requires values { values < 2 ^ 127 }
-    requires grids { OnGridsUnlessLine times values (repeated (read pieces.items) rank period rise) rank }
+    requires grids { OnGridsUnlessLine times values (repeated (read pieces.items) rank period rise) rank period rise }
     ensures { IfOk result (λ r. IsFormOf (raw_curve r) (repeated (read pieces.items) rank period rise)) }
 {
     match shape_of(pieces, rank, period, rise)? {
@@ -111,7 +111,7 @@ fn of_periodic(
     requires some_values { 0 < values }
     requires times { times < 2 ^ 127 }
     requires values { values < 2 ^ 127 }
-    requires grids { OnGridsUnlessLine times values (repeated (read given.now) rank period rise) rank }
+    requires grids { OnGridsUnlessLine times values (repeated (read given.now) rank period rise) rank period rise }
     ensures { IfOk result (λ r. IsFormOf (raw_curve r) (repeated (read given.now) rank period rise)) }
 {
     let longer = two_periods(alloc, given, rank, period, rise)?;

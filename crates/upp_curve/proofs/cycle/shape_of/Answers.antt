@@ -1,4 +1,4 @@
-use Rattle.std.proofs.Common.{◌∙◌, sym, ap, length}
+use Rattle.std.proofs.Common.{◌∙◌, sym, ap, refl, length}
 use Rattle.rational.proofs.Comparison.{cmp_greater, cmp_not_greater}
 use Rattle.upp_curve.specs.Unrolled.{upto}
 use Rattle.upp_curve.specs.Normalising.{past, first_start}
@@ -26,6 +26,8 @@ returns c =
     let ps = c.args.pieces.items in
     let s = sym c.in-Some.is ∙ c.first_past.ensures ∙ ap (λ ps. first_start (past c.args.rank ps)) c.deref.ensures.value in (
       start_late ps c.args.rank start s,
+      refl,
+      refl,
       turns_at ps c.args.rank c.args.period c.args.rise start c.in_ok-end.end until c.count_before-first.result c.truncate-2.new.self.items c.requires s
       c.in_ok-end.ensures.value (cmp_not_greater start c.in_ok-end.end (λ k. c.in_default-cmp.not-Greater (c.cmp.ensures.is ∙ k)))
       c.in_ok-until.ensures.value (c.count_before-first.ensures ∙ ap (λ ps. length (upto start ps)) c.deref-2.ensures.value)

@@ -21,7 +21,7 @@ of_periodic-requires-clause-grids c =
     let raw = c.args.raw.now in
     let p = c.in-Periodic in
     let seen = c.deref-in-Periodic.result.now in
-    grids_through c.args.times c.args.values (repeated (read seen) p.rank p.period p.rise) (value_at (raw_curve raw)) p.rank
+    grids_through c.args.times c.args.values (repeated (read seen) p.rank p.period p.rise) (value_at (raw_curve raw)) p.rank p.period p.rise
     (λ t. ap (λ ps. repeated (read ps) p.rank p.period p.rise t) c.deref-in-Periodic.ensures.value ∙ value_of (raw_curve raw) raw.pieces.items raw.tail (Periodic p.rank p.period p.rise) t refl p.is)
     (subst (λ k. TailOnGrids c.args.times c.args.values k (value_at (raw_curve raw))) p.is c.requires.grids)
 

@@ -27,7 +27,7 @@ of_two_periods-requires-clause-grids c =
     let start = two_periods_start a.given.now c.deref.result.now a.rank a.period a.rise c.requires.starts c.requires.tail.nonneg c.requires.tail.some c.requires.tail.starts longer in
     let M = merged_list c.deref.result.now c.in_ok-pieces.pieces.items start c.in_ok-pieces.ensures in
     let T = two_periods_list a.given.now c.deref.result.now c.in_ok-pieces.pieces.items a.rank a.period a.rise c.requires.starts c.requires.tail.nonneg c.requires.tail.some c.requires.tail.starts longer M in
-    grids_through a.times a.values (repeated (read c.in_ok-pieces.pieces.items) a.rank a.period a.rise) (repeated (read a.given.now) a.rank a.period a.rise) a.rank T.same c.requires.grids
+    grids_through a.times a.values (repeated (read c.in_ok-pieces.pieces.items) a.rank a.period a.rise) (repeated (read a.given.now) a.rank a.period a.rise) a.rank a.period a.rise T.same c.requires.grids
 
 pub returns : goal.returns
 returns c =
