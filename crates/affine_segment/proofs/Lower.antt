@@ -1,9 +1,9 @@
 -- The lower of two lines before and after they meet.
 use Rattle.std.specs.Prelude.{◌≡◌, ◌⊎◌, Option, Some, None}
-use Rattle.std.proofs.Common.{arith, sym, ap, refl, subst, inl, inr, ◌∙◌}
+use Rattle.std.proofs.Common.{arith, sym, ap, refl, inl, inr, ◌∙◌}
 use Rattle.rational.specs.Rational.{ℚ, ◌+ℚ◌, ◌-ℚ◌, ◌*ℚ◌, ◌≤ℚ◌, ◌<ℚ◌}
 use Rattle.rational.specs.MinMax.{min_q}
-use Rattle.rational.specs.Extended.{Ext, ◌≤ₑ◌, ◌<ₑ◌}
+use Rattle.rational.specs.Extended.{Ext, ◌<ₑ◌}
 use Rattle.rational.specs.declared.Extended.TheVariants.{Fin, Inf}
 use Rattle.rational.proofs.Linear.{with2, with3, with4, with8}
 use Rattle.rational.proofs.Laws.{le_or_lt, le_of_lt, mul_sub, mul_le_mul_right, antisym}

@@ -2,7 +2,7 @@
 use Rattle.std.specs.Prelude.{◌≡◌, ◌≢◌, pos}
 use Rattle.std.proofs.Common.{arith, sym, ap, ap₂, ◌∙◌}
 use Rattle.rational.specs.Rational.{ℚ, ◌+ℚ◌, ◌-ℚ◌, ◌*ℚ◌, ◌/ℚ◌, int}
-use Rattle.rational.proofs.Linear.{with2, with5, with6}
+use Rattle.rational.proofs.Linear.{with2, with5}
 use Rattle.rational.proofs.Laws.{div_mul, mul_comm, mul_sub}
 use Rattle.affine_segment.specs.declared.line.Line.{Line}
 use Rattle.affine_segment.specs.Values.{line_at}

@@ -61,10 +61,11 @@ fn lower_parallel(a: Line, b: Line) -> Cut
     }
 }
 
-fn is_before(x: Frac, end: Ext) -> bool
-    ensures { IsTrue result ↔ (Extended.Fin x <ₑ end) }
+// Whether x is before the end.
+pub(crate) fn is_before(x: Frac, end: &Ext) -> bool
+    ensures { IsTrue result ↔ (Extended.Fin x <ₑ end.now) }
 {
-    match end {
+    match *end {
         Extended::Inf => true,
         Extended::Fin(e) => match x.cmp(&e) {
             Ordering::Less => true,
@@ -81,7 +82,7 @@ fn lower_crossing(steep: Line, shallow: Line, x: Frac, from: Frac, to: Ext) -> C
 {
     match from.cmp(&x) {
         Ordering::Less => {
-            if is_before(x, to) {
+            if is_before(x, &to) {
                 Cut {
                     low: steep,
                     at: Some(x),

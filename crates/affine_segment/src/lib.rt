@@ -4,6 +4,8 @@
 
 mod cut;
 mod line;
+#[cfg(test)]
+mod tests;
 
 pub use cut::{Cut, element_min};
 pub use line::{Line, Piece, cross, value};

@@ -9,3 +9,5 @@ pub mod Printed
 pub mod Rounded
 pub mod CommonMultiple
 pub mod Parsed
+pub mod OrderTests
+pub mod ReadBack

@@ -1,6 +1,6 @@
 -- Reading digits, and what a number text is read as.
-use Rattle.std.specs.Prelude.{◌≡◌, ℕ, zero, suc, ◌+◌, ◌*◌, ◌-◌, ◌<◌, ◌≤◌, ◌^◌, min, Bool, true, false, cond, not, ◌&&◌, ◌||◌, nat_lt, ◌==◌, List, [], ◌∷◌, length, take, ℤ, pos, neg_ℤ, Result, Ok, Err, ◌⊎◌}
-use Rattle.std.proofs.Common.{arith, sym, ap, ◌∙◌, subst, refl, inl, inr, get_or}
+use Rattle.std.specs.Prelude.{◌≡◌, ℕ, zero, suc, ◌+◌, ◌*◌, ◌-◌, ◌<◌, ◌≤◌, ◌^◌, min, Bool, true, false, cond, ◌&&◌, ◌||◌, nat_lt, ◌==◌, List, length, take, pos, Ok, Err, ◌⊎◌}
+use Rattle.std.proofs.Common.{arith, sym, ap, ◌∙◌, refl, inl, inr, get_or}
 use Rattle.std.proofs.lemmas.Bool.Decides.{nat_tests}
 use Rattle.std.proofs.lemmas.List.Folds.{list_all_more}
 use Rattle.std.proofs.lemmas.Int.Digits.{digits_value_more}
@@ -10,11 +10,10 @@ use Rattle.std.specs.Int.{IsInRange}
 use Rattle.std.specs.Char.{is_ascii_digit, digit_value}
 use Rattle.std.specs.Str.Parse.{digits_value, starts_with_minus}
 use Rattle.rational.specs.Gauge.{cap}
-use Rattle.rational.specs.Rational.{ℚ, over}
+use Rattle.rational.specs.Rational.{over}
 use Rattle.rational.specs.Ratio.{ratio}
 use Rattle.fraction128.specs.Text.{is_numeral, largest, number_from, parse_of, top_text, bottom_text, signed_value}
-use Rattle.fraction128.specs.declared.fault.FracText.{FracText}
-use Rattle.fraction128.specs.declared.fault.FracText.TheVariants.{Form, Past, ZeroDen}
+use Rattle.fraction128.specs.declared.fault.FracText.TheVariants.{Past, ZeroDen}
 
 -- ---- digits
 pub cap_zero : 0 ≡ cap 0

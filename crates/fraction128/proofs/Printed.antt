@@ -1,8 +1,8 @@
 -- A fraction's text from the numbers that it is made of.
-use Rattle.std.specs.Prelude.{◌≡◌, ℕ, suc, ◌-◌, ℤ, pos}
+use Rattle.std.specs.Prelude.{◌≡◌, ℕ, ◌-◌, ℤ, pos}
 use Rattle.std.proofs.Common.{arith, sym, ap₂, ◌∙◌, to_z, of_z, to_z-of_z}
 use mir.Syntax.{w128}
-use Rattle.rational.specs.Rational.{ℚ, den}
+use Rattle.rational.specs.Rational.{ℚ}
 use Rattle.rational.specs.Ratio.{ratio}
 use Rattle.fraction128.specs.Parts.{AreLowest}
 use Rattle.fraction128.specs.Text.{text_over, text_of}

@@ -1,11 +1,13 @@
 -- Whole numbers next to a fraction, from the numbers that it is made of.
 use lib.Signed.{lt_z}
-use Rattle.std.specs.Prelude.{◌≡◌, true, false, ℕ, zero, suc, ◌+◌, ◌*◌, ◌-◌, ◌/◌, ◌%◌, ◌<◌, ℤ, pos, negsuc, ◌+ℤ◌, ◌*ℤ◌, ◌≤ℤ◌, ◌<ℤ◌, unsigned_abs}
+use Rattle.std.specs.Prelude.{◌≡◌, true, false, ℕ, zero, suc, ◌+◌, ◌*◌, ◌-◌, ◌/◌, ◌%◌, ◌<◌, ℤ, pos, negsuc, ◌+ℤ◌, ◌*ℤ◌, ◌≤ℤ◌, ◌<ℤ◌}
 use Rattle.std.proofs.Common.{arith, sym, ap, ◌∙◌, subst, refl}
 use Rattle.std.proofs.lemmas.Int.{ints}
 use native.Mathlib.Nat.{div-add-mod', mod-lt}
 use Rattle.std.proofs.lemmas.Nat.{div-mul-add}
-use Rattle.rational.specs.Rational.{ℚ, ◌≤ℚ◌, ◌<ℚ◌, int, frac, le_frac, lt_frac, frac_self}
+use Rattle.rational.specs.Rational.{ℚ, ◌≤ℚ◌, ◌<ℚ◌, int, frac}
+use Rattle.rational.proofs.Over.{le_frac, lt_frac}
+use Rattle.rational.specs.Fractions.{frac_self}
 use Rattle.rational.specs.Ratio.{ratio}
 use Rattle.rational.specs.Floor.{floor}
 use Rattle.rational.specs.Whole.{whole_part, whole_over}

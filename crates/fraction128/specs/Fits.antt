@@ -1,6 +1,5 @@
 -- When the numbers of a step of arithmetic fit, and the step that did not.
 use Rattle.rational.specs.Rational.{ℚ}
-use Rattle.rational.specs.Ratio.{IsSmall, SumFits}
 use Rattle.fraction128.specs.declared.fault.Op.{Op}
 use Rattle.fraction128.specs.declared.fault.Wide.{Wide}
 

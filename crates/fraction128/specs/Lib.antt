@@ -4,3 +4,4 @@ pub mod Order
 pub mod Fits
 pub mod Text
 pub mod Multiple
+pub mod Laws

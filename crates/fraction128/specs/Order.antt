@@ -1,13 +1,14 @@
 -- The tests of equality and order of the rationals, and their laws.
 use Rattle.std.specs.Prelude.{◌≡◌, Bool, true, refl}
-use Rattle.std.proofs.Common.{sym, ap, ◌∙◌, subst}
+use Rattle.std.proofs.Common.{ap, subst}
 use Rattle.std.specs.declared.option.Option.{Option}
 use Rattle.std.specs.declared.option.Option.TheVariants.{Some}
 use Rattle.std.specs.declared.cmp.Ordering.{Ordering}
 use Rattle.std.specs.declared.cmp.Ordering.TheVariants.{Less, Equal, Greater}
-use Rattle.std.specs.Ordering.{is_eq, MatchOrdering, as_partial_cmp}
+use Rattle.std.specs.Ordering.{is_eq, MatchOrdering}
 use Rattle.std.specs.Cmp.{IsPartialEquivalence, IsEquivalence, IsPartialOrder, IsTotalOrder, Equal-is, both_ways, po, int_cmp_total, partial_equiv_from_equiv}
-use Rattle.rational.specs.Rational.{ℚ, ◌<ℚ◌, cross}
+use Rattle.rational.specs.Rational.{ℚ, ◌<ℚ◌}
+use Rattle.rational.specs.Fractions.{cross}
 use Rattle.rational.specs.Ratio.{cmp_q}
 use Rattle.rational.proofs.Laws.{lt_irrefl, lt_le_trans, le_of_lt}
 use Rattle.rational.proofs.Comparison.{cmp_ranks, cmp_less, cmp_equal, cmp_self}
@@ -16,6 +17,7 @@ use Rattle.rational.proofs.Comparison.{cmp_ranks, cmp_less, cmp_equal, cmp_self}
 abbrev pub same_q : ℚ → ℚ → Bool
 same_q x y = is_eq (cmp_q x y)
 
+-- any two are in order
 abbrev pub partial_cmp_q : ℚ → ℚ → Option Ordering
 partial_cmp_q x y = Some (cmp_q x y)
 

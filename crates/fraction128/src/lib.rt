@@ -4,10 +4,13 @@
 mod division;
 mod fault;
 mod fraction;
+pub mod laws;
 mod multiple;
 mod order;
 mod product;
 mod sum;
+#[cfg(test)]
+mod tests;
 mod text;
 
 pub use division::{gcd_of, least_common_multiple};

@@ -4,14 +4,20 @@ use Rattle.std.proofs.Common.{arith, sym, refl, subst, inl, inr}
 use Rattle.rational.specs.Rational.{ℚ, ◌+ℚ◌, ◌-ℚ◌, ◌<ℚ◌, int}
 use Rattle.rational.proofs.Linear.{with1, with2, with3}
 use Rattle.rational.proofs.Laws.{between, antisym}
-use Rattle.rational.specs.Extended.{Ext, ◌≤ₑ◌, ◌<ₑ◌, ◌+ₑ◌, min_ext, max_ext, IsInfimum, IsSupremum}
+use Rattle.rational.specs.Extended.{Ext, ◌≤ₑ◌, ◌<ₑ◌, ◌+ₑ◌, min_ext, max_ext}
+use Rattle.rational.specs.Bounds.{IsInfimum, IsSupremum}
+use Rattle.rational.specs.Families.{either, sums}
 use Rattle.rational.specs.declared.Extended.TheVariants.{Fin, Inf}
-use Rattle.rational.proofs.ExtendedOrder.{le_ext_refl, le_ext_trans, le_lt_ext, lt_le_ext, le_of_lt_ext, antisym_ext, by_upper, by_lower, lt_add_out, lt_add_in, gt_add_out, gt_add_in, add_le_ext, add_lt_lt_ext, le_inf, min_left, min_right, min_one, max_left, max_right, max_one}
+use Rattle.rational.proofs.ExtendedOrder.{le_ext_refl, le_ext_trans, le_lt_ext, lt_le_ext, le_of_lt_ext, antisym_ext}
+use Rattle.rational.proofs.ExtendedOrder.{by_upper, by_lower, lt_add_out, lt_add_in, gt_add_out, gt_add_in}
+use Rattle.rational.proofs.ExtendedOrder.{add_le_ext, add_lt_lt_ext, le_inf, min_left, min_right, min_one, max_left}
+use Rattle.rational.proofs.ExtendedOrder.{max_right, max_one}
 
 -- ---- infima
 -- at least each lower bound
 pub greatest : {I : Type 0} (F : I → Ext) (x y : Ext) → IsInfimum F x → ((i : I) → y ≤ₑ F i) → y ≤ₑ x
-greatest F x y h b = by_upper y x (λ q l. let (i, m) = h.near q l in le_ext_trans y (F i) (Fin q) (b i) (le_of_lt_ext (F i) (Fin q) m))
+greatest F x y h b =
+    by_upper y x (λ q l. let (i, m) = h.near q l in le_ext_trans y (F i) (Fin q) (b i) (le_of_lt_ext (F i) (Fin q) m))
 
 pub infimum_unique : {I : Type 0} (F : I → Ext) (x y : Ext) → IsInfimum F x → IsInfimum F y → x ≡ y
 infimum_unique F x y h k = antisym_ext x y (greatest F y x k h.below) (greatest F x y h k.below)
@@ -44,10 +50,6 @@ same_infimum F G x down up h = record {
   near = λ y l. let (i, m) = h.near y l in let (j, k) = down i in (j, le_lt_ext (G j) (F i) (Fin y) k m);
 }
 
-abbrev pub either : {I J : Type 0} → (I → Ext) → (J → Ext) → I ⊎ J → Ext
-either F G (inl i) = F i
-either F G (inr j) = G j
-
 pub infimum_union : {I J : Type 0} (F : I → Ext) (G : J → Ext) (x y : Ext)
     → IsInfimum F x → IsInfimum G y → IsInfimum (either F G) (min_ext x y)
 infimum_union {I} {J} F G x y h k = record { below = under; near = close }
@@ -72,22 +74,25 @@ by_margins F (Fin q) b f = record {
       (i, subst (λ z. F i <ₑ Fin z) (with2 q y (λ c. omega (arith, c.le, c.lt, c.same))) m);
 }
 
-pub margins : {I : Type 0} (F : I → Ext) (q e : ℚ) → IsInfimum F (Fin q) → int (pos 0) <ℚ e → (i : I) × (F i <ₑ Fin (q +ℚ e))
+pub margins : {I : Type 0} (F : I → Ext) (q e : ℚ) → IsInfimum F (Fin q) → int (pos 0) <ℚ e
+    → (i : I) × (F i <ₑ Fin (q +ℚ e))
 margins F q e h l = h.near (q +ℚ e) (with2 q e (λ c. omega (arith, c.le, c.lt, c.same)))
 
 -- more members above it do not change it: each member of G is at least some member of F
-pub infimum_le : {I J : Type 0} (F : I → Ext) (G : J → Ext) (x y : Ext) → IsInfimum F x → IsInfimum G y → ((j : J) → (i : I) × (F i ≤ₑ G j)) → x ≤ₑ y
+pub infimum_le : {I J : Type 0} (F : I → Ext) (G : J → Ext) (x y : Ext) → IsInfimum F x → IsInfimum G y
+    → ((j : J) → (i : I) × (F i ≤ₑ G j)) → x ≤ₑ y
 infimum_le F G x y h k up = greatest G y x k (λ j. let (i, l) = up j in le_ext_trans x (F i) (G j) (h.below i) l)
 
 -- the infimum of the sums of a member of each is the sum of the infima
 pub infimum_sum : {I J : Type 0} (F : I → Ext) (G : J → Ext) (x y : Ext)
-    → IsInfimum F x → IsInfimum G y → IsInfimum {I = I × J} (λ p. F p.0 +ₑ G p.1) (x +ₑ y)
+    → IsInfimum F x → IsInfimum G y → IsInfimum (sums F G) (x +ₑ y)
 infimum_sum {I} {J} F G x y h k = record {
   below = λ p. add_le_ext x (F p.0) y (G p.1) (h.below p.0) (k.below p.1);
   near = λ q l. close x y h.near k.near q l;
 }
   where
-    close : (x y : Ext) → ((q : ℚ) → x <ₑ Fin q → (i : I) × (F i <ₑ Fin q)) → ((q : ℚ) → y <ₑ Fin q → (j : J) × (G j <ₑ Fin q))
+    close : (x y : Ext) → ((q : ℚ) → x <ₑ Fin q → (i : I) × (F i <ₑ Fin q))
+        → ((q : ℚ) → y <ₑ Fin q → (j : J) × (G j <ₑ Fin q))
         → (q : ℚ) → x +ₑ y <ₑ Fin q → (p : I × J) × (F p.0 +ₑ G p.1 <ₑ Fin q)
     close Inf y f g q l = absurd l
     close (Fin a) Inf f g q l = absurd l
@@ -114,7 +119,8 @@ infimum_unnested F x y each h = record {
 
 -- ---- suprema
 pub smallest : {I : Type 0} (F : I → Ext) (x y : Ext) → IsSupremum F x → ((i : I) → F i ≤ₑ y) → x ≤ₑ y
-smallest F x y h b = by_lower y x (λ q l. let (i, m) = h.near q l in le_ext_trans (Fin q) (F i) y (le_of_lt_ext (Fin q) (F i) m) (b i))
+smallest F x y h b =
+    by_lower y x (λ q l. let (i, m) = h.near q l in le_ext_trans (Fin q) (F i) y (le_of_lt_ext (Fin q) (F i) m) (b i))
 
 pub supremum_unique : {I : Type 0} (F : I → Ext) (x y : Ext) → IsSupremum F x → IsSupremum F y → x ≡ y
 supremum_unique F x y h k = antisym_ext x y (smallest F x y h k.above) (smallest F y x k h.above)
@@ -180,16 +186,18 @@ supremum_by_margins F (Fin q) b f g = record {
       (i, subst (λ z. Fin z <ₑ F i) (with2 q y (λ c. omega (arith, c.le, c.lt, c.same))) m);
 }
 
-pub supremum_margins : {I : Type 0} (F : I → Ext) (q e : ℚ) → IsSupremum F (Fin q) → int (pos 0) <ℚ e → (i : I) × (Fin (q -ℚ e) <ₑ F i)
+pub supremum_margins : {I : Type 0} (F : I → Ext) (q e : ℚ) → IsSupremum F (Fin q) → int (pos 0) <ℚ e
+    → (i : I) × (Fin (q -ℚ e) <ₑ F i)
 supremum_margins F q e h l = h.near (q -ℚ e) (with2 q e (λ c. omega (arith, c.le, c.lt, c.same)))
 
 -- each member of F is at most some member of G
-pub supremum_le : {I J : Type 0} (F : I → Ext) (G : J → Ext) (x y : Ext) → IsSupremum F x → IsSupremum G y → ((i : I) → (j : J) × (F i ≤ₑ G j)) → x ≤ₑ y
+pub supremum_le : {I J : Type 0} (F : I → Ext) (G : J → Ext) (x y : Ext) → IsSupremum F x → IsSupremum G y
+    → ((i : I) → (j : J) × (F i ≤ₑ G j)) → x ≤ₑ y
 supremum_le F G x y h k up = smallest F x y h (λ i. let (j, l) = up i in le_ext_trans (F i) (G j) y l (k.above j))
 
 -- the supremum of the sums of a member of each is the sum of the suprema
 pub supremum_sum : {I J : Type 0} (F : I → Ext) (G : J → Ext) (x y : Ext)
-    → IsSupremum F x → IsSupremum G y → IsSupremum {I = I × J} (λ p. F p.0 +ₑ G p.1) (x +ₑ y)
+    → IsSupremum F x → IsSupremum G y → IsSupremum (sums F G) (x +ₑ y)
 supremum_sum {I} {J} F G x y h k = record {
   above = λ p. add_le_ext (F p.0) x (G p.1) y (h.above p.0) (k.above p.1);
   near = λ q l.
@@ -223,7 +231,8 @@ supremum_unnested F x y each h = record {
 }
 
 -- ---- the mirror: what is below the members f is above the members c - f
-pub reflected_infimum : {I : Type 0} (f : I → ℚ) (c x : ℚ) → IsSupremum (λ i. Fin (f i)) (Fin x) → IsInfimum (λ i. Fin (c -ℚ f i)) (Fin (c -ℚ x))
+pub reflected_infimum : {I : Type 0} (f : I → ℚ) (c x : ℚ) → IsSupremum (λ i. Fin (f i)) (Fin x)
+    → IsInfimum (λ i. Fin (c -ℚ f i)) (Fin (c -ℚ x))
 reflected_infimum f c x h = record {
   below = λ i. let l = h.above i in let a = f i in with3 a c x (λ o. omega (arith, o.le, o.lt, o.same));
   near = λ y l.
@@ -232,7 +241,8 @@ reflected_infimum f c x h = record {
       (i, with3 a c y (λ o. omega (arith, o.le, o.lt, o.same)));
 }
 
-pub reflected_supremum : {I : Type 0} (f : I → ℚ) (c x : ℚ) → IsInfimum (λ i. Fin (f i)) (Fin x) → IsSupremum (λ i. Fin (c -ℚ f i)) (Fin (c -ℚ x))
+pub reflected_supremum : {I : Type 0} (f : I → ℚ) (c x : ℚ) → IsInfimum (λ i. Fin (f i)) (Fin x)
+    → IsSupremum (λ i. Fin (c -ℚ f i)) (Fin (c -ℚ x))
 reflected_supremum f c x h = record {
   above = λ i. let l = h.below i in let a = f i in with3 a c x (λ o. omega (arith, o.le, o.lt, o.same));
   near = λ y l.

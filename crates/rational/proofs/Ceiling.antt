@@ -1,4 +1,5 @@
--- The ceiling: that it is the least whole number that is at least the rational, what follows, and how it stands to the floor.
+-- The ceiling: that it is the least whole number that is at least the rational, what follows, and how it stands to
+-- the floor.
 use Rattle.std.specs.Prelude.{◌≡◌, ℕ, suc, ℤ, pos, ◌+ℤ◌, neg_ℤ, ◌≤ℤ◌, ◌<ℤ◌}
 use Rattle.std.proofs.Common.{◌∙◌, sym, ap, arith, subst}
 use Rattle.std.proofs.lemmas.Int.{ints}

@@ -1,10 +1,12 @@
 -- The order of the extended fractions, and their sums.
-use Rattle.rational.proofs.MinMax.{min_q_le_left, min_q_le_right, min_q_one, min_q_assoc, min_q_add, max_q_ge_left, max_q_ge_right, max_q_one, max_q_assoc, max_q_add}
-use Rattle.std.specs.Prelude.{◌≡◌, pos, ◌⊎◌}
+use Rattle.rational.proofs.MinMax.{min_q_le_left, min_q_le_right, min_q_one, min_q_assoc, min_q_add, max_q_ge_left}
+use Rattle.rational.proofs.MinMax.{max_q_ge_right, max_q_one, max_q_assoc, max_q_add}
+use Rattle.std.specs.Prelude.{◌≡◌, pos, ◌⊎◌, ◌↔◌}
 use Rattle.std.proofs.Common.{arith, sym, ap, ◌∙◌, refl, subst, inl, inr}
 use Rattle.rational.specs.Rational.{ℚ, ◌+ℚ◌, ◌-ℚ◌, neg_ℚ, int}
 use Rattle.rational.proofs.Linear.{with1, with2, with3, with4}
-use Rattle.rational.proofs.Laws.{antisym, le_refl, le_trans, le_or_lt, le_of_lt, lt_irrefl, between, add_comm, add_assoc}
+use Rattle.rational.proofs.Laws.{antisym, le_refl, le_trans, le_or_lt, le_of_lt, lt_irrefl, between, add_comm}
+use Rattle.rational.proofs.Laws.{add_assoc}
 use Rattle.rational.specs.Extended.{Ext, ◌≤ₑ◌, ◌<ₑ◌, ◌+ₑ◌, ◌-ₑ◌, min_ext, max_ext}
 use Rattle.rational.specs.declared.Extended.TheVariants.{Fin, Inf}
 
@@ -56,6 +58,13 @@ antisym_ext Inf Inf h k = refl
 pub lt_ext_irrefl : (x : Ext) → ¬ (x <ₑ x)
 lt_ext_irrefl (Fin x) h = lt_irrefl x h
 lt_ext_irrefl Inf h = h
+
+-- less is not at least
+pub lt_ext_not_le : (x y : Ext) → (x <ₑ y) ↔ ¬ (y ≤ₑ x)
+lt_ext_not_le x y = (
+  λ h l. lt_ext_irrefl x (lt_le_ext x y x h l),
+  λ h. elim (le_or_lt_ext y x) [ inl l ↦ absurd (h l) | inr l ↦ l ],
+)
 
 pub lt_ext_trans : (x y z : Ext) → x <ₑ y → y <ₑ z → x <ₑ z
 lt_ext_trans x y z h k = lt_le_ext x y z h (le_of_lt_ext y z k)
@@ -206,7 +215,8 @@ min_one (Fin x) (Fin y) = elim (min_q_one x y) [ inl e ↦ inl (ap Fin e) | inr 
 
 -- it is the greatest that is at most both
 pub min_greatest : (x y z : Ext) → z ≤ₑ x → z ≤ₑ y → z ≤ₑ min_ext x y
-min_greatest x y z h k = elim (min_one x y) [ inl e ↦ subst (λ v. z ≤ₑ v) (sym e) h | inr e ↦ subst (λ v. z ≤ₑ v) (sym e) k ]
+min_greatest x y z h k =
+    elim (min_one x y) [ inl e ↦ subst (λ v. z ≤ₑ v) (sym e) h | inr e ↦ subst (λ v. z ≤ₑ v) (sym e) k ]
 
 pub min_ext_comm : (x y : Ext) → min_ext x y ≡ min_ext y x
 min_ext_comm x y = antisym_ext _ _ (turned x y) (turned y x)
@@ -229,7 +239,8 @@ min_ext_mono x y z w h k =
     min_greatest z w (min_ext x y) (le_ext_trans _ x z (min_left x y) h) (le_ext_trans _ y w (min_right x y) k)
 
 pub lt_min_ext : (x y z : Ext) → z <ₑ x → z <ₑ y → z <ₑ min_ext x y
-lt_min_ext x y z h k = elim (min_one x y) [ inl e ↦ subst (λ v. z <ₑ v) (sym e) h | inr e ↦ subst (λ v. z <ₑ v) (sym e) k ]
+lt_min_ext x y z h k =
+    elim (min_one x y) [ inl e ↦ subst (λ v. z <ₑ v) (sym e) h | inr e ↦ subst (λ v. z <ₑ v) (sym e) k ]
 
 -- a term comes out
 pub min_add_ext : (x y z : Ext) → min_ext x y +ₑ z ≡ min_ext (x +ₑ z) (y +ₑ z)
@@ -261,7 +272,8 @@ max_one (Fin x) (Fin y) = elim (max_q_one x y) [ inl e ↦ inl (ap Fin e) | inr 
 
 -- and the least that is at least both
 pub max_least : (x y z : Ext) → x ≤ₑ z → y ≤ₑ z → max_ext x y ≤ₑ z
-max_least x y z h k = elim (max_one x y) [ inl e ↦ subst (λ v. v ≤ₑ z) (sym e) h | inr e ↦ subst (λ v. v ≤ₑ z) (sym e) k ]
+max_least x y z h k =
+    elim (max_one x y) [ inl e ↦ subst (λ v. v ≤ₑ z) (sym e) h | inr e ↦ subst (λ v. v ≤ₑ z) (sym e) k ]
 
 pub max_ext_comm : (x y : Ext) → max_ext x y ≡ max_ext y x
 max_ext_comm x y = antisym_ext _ _ (turned x y) (turned y x)
@@ -284,7 +296,8 @@ max_ext_mono x y z w h k =
     max_least x y (max_ext z w) (le_ext_trans x z _ h (max_left z w)) (le_ext_trans y w _ k (max_right z w))
 
 pub max_lt_ext : (x y z : Ext) → x <ₑ z → y <ₑ z → max_ext x y <ₑ z
-max_lt_ext x y z h k = elim (max_one x y) [ inl e ↦ subst (λ v. v <ₑ z) (sym e) h | inr e ↦ subst (λ v. v <ₑ z) (sym e) k ]
+max_lt_ext x y z h k =
+    elim (max_one x y) [ inl e ↦ subst (λ v. v <ₑ z) (sym e) h | inr e ↦ subst (λ v. v <ₑ z) (sym e) k ]
 
 pub max_add_ext : (x y z : Ext) → max_ext x y +ₑ z ≡ max_ext (x +ₑ z) (y +ₑ z)
 max_add_ext Inf y z = refl

@@ -1,16 +1,21 @@
--- What `omega` reads of a rational x: the floor of x (d + 1) as a difference of two naturals, `U d x - V d x`, and the grain `E d x`, which is 0 where that is exact.
+-- What `omega` reads of a rational x: the floor of x (d + 1) as a difference of two naturals, `U d x - V d x`, and
+-- the grain `E d x`, which is 0 where that is exact.
 use Rattle.std.specs.Prelude.{◌≡◌, ℕ, zero, suc, ◌+◌, ◌*◌, ◌<◌, ◌≤◌, min, ℤ, pos, negsuc, ◌+ℤ◌, ◌*ℤ◌, neg_ℤ, ◌≤ℤ◌, ◌<ℤ◌}
 use Rattle.std.proofs.Common.{◌∙◌, sym, ap, ap₂, refl, arith, subst, inl, inr}
 use borrow.Author.Differences.{up, down, le_out, neg_is}
 use Rattle.std.proofs.lemmas.Int.{ints}
 use Rattle.rational.specs.Ints.{diffs, diff_is, diff_same}
-use Rattle.rational.specs.Rational.{ℚ, frac, frac_self, frac-same, frac-same_out, ◌+ℚ◌, ◌-ℚ◌, neg_ℚ, ◌*ℚ◌, ◌≤ℚ◌, ◌<ℚ◌, int}
+use Rattle.rational.specs.Rational.{ℚ, frac, ◌+ℚ◌, ◌-ℚ◌, neg_ℚ, ◌*ℚ◌, ◌≤ℚ◌, ◌<ℚ◌}
+use Rattle.rational.specs.Fractions.{frac_self, frac-same, frac-same_out}
+use Rattle.rational.specs.Rational.{int}
 use Rattle.rational.proofs.Over.{le_over, lt_over, add_over, neg_over}
 use Rattle.rational.proofs.Integers.{mul_whole, int_le_out, nat_nonneg}
 use Rattle.rational.specs.Floor.{floor}
-use Rattle.rational.proofs.Floor.{IsDivided, rest, whole_of, floor_le, floor_gt, floor_most, floor_below, floor_int, floor_mono}
+use Rattle.rational.proofs.Floor.{IsDivided, rest, whole_of, floor_le, floor_gt, floor_most, floor_below, floor_int}
+use Rattle.rational.proofs.Floor.{floor_mono}
 use Rattle.rational.proofs.Bootstrap.{rats, over2, over3, over4}
-use Rattle.rational.proofs.Laws.{antisym, le_trans, lt_le_trans, le_of_lt, mul_add, mul_neg, mul_le_mul, mul_lt_mul, le_or_lt, lt_irrefl, mul_comm, mul_assoc}
+use Rattle.rational.proofs.Laws.{antisym, le_trans, lt_le_trans, le_of_lt, mul_add, mul_neg, mul_le_mul, mul_lt_mul}
+use Rattle.rational.proofs.Laws.{le_or_lt, lt_irrefl, mul_comm, mul_assoc}
 
 -- ---- the grain: 0 where x is an integer, and 1 elsewhere
 pub grain : ℚ → ℕ
@@ -76,7 +81,8 @@ sum_exact x y h k =
     (ap grain e ∙ grain_int (floor x +ℤ floor y), ap floor e ∙ floor_int (floor x +ℤ floor y))
 
 -- the four facts that are read of a sum
-pub sum_all : (x y : ℚ) → ((floor x +ℤ floor y) ≤ℤ floor (x +ℚ y)) × (floor (x +ℚ y) ≤ℤ (floor x +ℤ floor y +ℤ pos (grain x + grain y))) × (grain (x +ℚ y) ≤ grain x + grain y)
+pub sum_all : (x y : ℚ)
+    → ((floor x +ℤ floor y) ≤ℤ floor (x +ℚ y)) × (floor (x +ℚ y) ≤ℤ (floor x +ℤ floor y +ℤ pos (grain x + grain y))) × (grain (x +ℚ y) ≤ grain x + grain y)
 sum_all x y =
     let low = floor_add_low x y in
     let high = floor_add_high x y in
@@ -103,7 +109,8 @@ neg_exact x h =
     let e : neg_ℚ x ≡ int (neg_ℤ (floor x)) = ap neg_ℚ (floor_exact x h) ∙ neg_over (floor x) 0 in
     (ap grain e ∙ grain_int _, ap floor e ∙ floor_int _)
 
-pub neg_all : (x : ℚ) → ((neg_ℤ (floor x)) ≤ℤ (floor (neg_ℚ x) +ℤ pos (grain x))) × (floor (neg_ℚ x) ≤ℤ neg_ℤ (floor x)) × (grain (neg_ℚ x) ≤ grain x)
+pub neg_all : (x : ℚ)
+    → ((neg_ℤ (floor x)) ≤ℤ (floor (neg_ℚ x) +ℤ pos (grain x))) × (floor (neg_ℚ x) ≤ℤ neg_ℤ (floor x)) × (grain (neg_ℚ x) ≤ grain x)
 neg_all x =
     let low = neg_low x in
     let high = neg_high x in
@@ -124,10 +131,12 @@ le_back x y h =
     (λ e. le_trans (le_of_lt (floor_gt x)) (le_trans ((le_over (floor x +ℤ pos 1) (floor y) 0).1 (omega (arith, ints))) (floor_le y)))
 
 pub lt_back : (x y : ℚ) → floor x <ℤ floor y → x <ℚ y
-lt_back x y h = lt_le_trans (floor_gt x) (le_trans ((le_over (floor x +ℤ pos 1) (floor y) 0).1 (omega (arith, ints))) (floor_le y))
+lt_back x y h =
+    lt_le_trans (floor_gt x) (le_trans ((le_over (floor x +ℤ pos 1) (floor y) 0).1 (omega (arith, ints))) (floor_le y))
 
 -- a natural times x
-times_exact : (n : ℕ) (x : ℚ) → grain x ≡ 0 → (grain (int (pos n) *ℚ x) ≡ 0) × (floor (int (pos n) *ℚ x) ≡ pos n *ℤ floor x)
+times_exact : (n : ℕ) (x : ℚ) → grain x ≡ 0
+    → (grain (int (pos n) *ℚ x) ≡ 0) × (floor (int (pos n) *ℚ x) ≡ pos n *ℤ floor x)
 times_exact n x h =
     let e : int (pos n) *ℚ x ≡ int (pos n *ℤ floor x) = ap (λ v. int (pos n) *ℚ v) (floor_exact x h) ∙ mul_whole (pos n) (floor x) 0 in
     (ap grain e ∙ grain_int _, ap floor e ∙ floor_int _)
@@ -139,7 +148,8 @@ times_high : (n : ℕ) (x : ℚ) → floor (int (pos n) *ℚ x) ≤ℤ (pos n *�
 times_high n x =
     int_le_out _ _ (le_trans (floor_le (int (pos n) *ℚ x)) (subst (λ v. int (pos n) *ℚ x ≤ℚ v) (mul_whole (pos n) (floor x +ℤ pos 1) 0) (mul_le_mul (int (pos n)) (nat_nonneg n) (le_of_lt (floor_gt x)))))
 
-pub times_all : (n : ℕ) (x : ℚ) → ((pos n *ℤ floor x) ≤ℤ floor (int (pos n) *ℚ x)) × (floor (int (pos n) *ℚ x) ≤ℤ (pos n *ℤ floor x +ℤ pos (n * grain x))) × (grain (int (pos n) *ℚ x) ≤ grain x)
+pub times_all : (n : ℕ) (x : ℚ)
+    → ((pos n *ℤ floor x) ≤ℤ floor (int (pos n) *ℚ x)) × (floor (int (pos n) *ℚ x) ≤ℤ (pos n *ℤ floor x +ℤ pos (n * grain x))) × (grain (int (pos n) *ℚ x) ≤ grain x)
 times_all n x =
     let low = times_low n x in
     let high = times_high n x in
@@ -170,10 +180,12 @@ unfolding scaled
 scaled_lt d x y h = mul_lt_mul (int (pos (suc d))) (some_int d) h
 
 unscaled_le : (d : ℕ) (x y : ℚ) → scaled d x ≤ℚ scaled d y → x ≤ℚ y
-unscaled_le d x y h = elim (le_or_lt x y) [ inl k ↦ k | inr k ↦ absurd (lt_irrefl _ (lt_le_trans (scaled_lt d y x k) h)) ]
+unscaled_le d x y h =
+    elim (le_or_lt x y) [ inl k ↦ k | inr k ↦ absurd (lt_irrefl _ (lt_le_trans (scaled_lt d y x k) h)) ]
 
 unscaled_lt : (d : ℕ) (x y : ℚ) → scaled d x <ℚ scaled d y → x <ℚ y
-unscaled_lt d x y h = elim (le_or_lt y x) [ inl k ↦ absurd (lt_irrefl _ (lt_le_trans h (scaled_le d y x k))) | inr k ↦ k ]
+unscaled_lt d x y h =
+    elim (le_or_lt y x) [ inl k ↦ absurd (lt_irrefl _ (lt_le_trans h (scaled_le d y x k))) | inr k ↦ k ]
 
 -- what `omega` reads: the two parts of the floor, one of which is 0, and the grain
 pub U : ℕ → ℚ → ℕ
@@ -213,19 +225,23 @@ lt_to d a b h = unscaled_lt d a b (lt_back _ _ (omega (arith, ints)))
 pub same_to : (d : ℕ) (a b : ℚ) → (U d a + V d b ≡ U d b + V d a) × (E d a + E d b ≡ 0) → a ≡ b
 same_to d a b h = antisym (le_to d a b (omega (arith, h)), le_to d b a (omega (arith, h)))
 
-pub sum_at : (d : ℕ) (a b : ℚ) → (V d (a +ℚ b) + U d a + U d b ≤ U d (a +ℚ b) + V d a + V d b) × (U d (a +ℚ b) + V d a + V d b ≤ V d (a +ℚ b) + U d a + U d b + E d a + E d b) × (E d (a +ℚ b) ≤ E d a + E d b)
+pub sum_at : (d : ℕ) (a b : ℚ)
+    → (V d (a +ℚ b) + U d a + U d b ≤ U d (a +ℚ b) + V d a + V d b) × (U d (a +ℚ b) + V d a + V d b ≤ V d (a +ℚ b) + U d a + U d b + E d a + E d b) × (E d (a +ℚ b) ≤ E d a + E d b)
 unfolding U V E scaled
 sum_at d a b = rw (mul_add (int (pos (suc d))) a b) (let s = sum_all (int (pos (suc d)) *ℚ a) (int (pos (suc d)) *ℚ b) in (omega (arith, ints, s.0), omega (arith, ints, s.1), s.2))
 
-pub neg_at : (d : ℕ) (a : ℚ) → (V d (neg_ℚ a) + V d a ≤ U d (neg_ℚ a) + U d a + E d a) × (U d (neg_ℚ a) + U d a ≤ V d (neg_ℚ a) + V d a) × (E d (neg_ℚ a) ≤ E d a)
+pub neg_at : (d : ℕ) (a : ℚ)
+    → (V d (neg_ℚ a) + V d a ≤ U d (neg_ℚ a) + U d a + E d a) × (U d (neg_ℚ a) + U d a ≤ V d (neg_ℚ a) + V d a) × (E d (neg_ℚ a) ≤ E d a)
 unfolding U V E scaled
 neg_at d a = rw (mul_neg (int (pos (suc d))) a) (let s = neg_all (int (pos (suc d)) *ℚ a) in (omega (arith, ints, s.0), omega (arith, ints, s.1), s.2))
 
-pub sub_at : (d : ℕ) (a b : ℚ) → (V d (a -ℚ b) + U d a + V d b ≤ U d (a -ℚ b) + V d a + U d b + E d b) × (U d (a -ℚ b) + V d a + U d b ≤ V d (a -ℚ b) + U d a + V d b + E d a + E d b) × (E d (a -ℚ b) ≤ E d a + E d b)
+pub sub_at : (d : ℕ) (a b : ℚ)
+    → (V d (a -ℚ b) + U d a + V d b ≤ U d (a -ℚ b) + V d a + U d b + E d b) × (U d (a -ℚ b) + V d a + U d b ≤ V d (a -ℚ b) + U d a + V d b + E d a + E d b) × (E d (a -ℚ b) ≤ E d a + E d b)
 unfolding ◌-ℚ◌
 sub_at d a b = let s = sum_at d a (neg_ℚ b) in let n = neg_at d b in (omega (arith, s, n), omega (arith, s, n), omega (arith, s, n))
 
-pub times_at : (d n : ℕ) (a : ℚ) → (V d (frac (pos n) 0 *ℚ a) + n * U d a ≤ U d (frac (pos n) 0 *ℚ a) + n * V d a) × (U d (frac (pos n) 0 *ℚ a) + n * V d a ≤ V d (frac (pos n) 0 *ℚ a) + n * U d a + n * E d a) × (E d (frac (pos n) 0 *ℚ a) ≤ E d a)
+pub times_at : (d n : ℕ) (a : ℚ)
+    → (V d (frac (pos n) 0 *ℚ a) + n * U d a ≤ U d (frac (pos n) 0 *ℚ a) + n * V d a) × (U d (frac (pos n) 0 *ℚ a) + n * V d a ≤ V d (frac (pos n) 0 *ℚ a) + n * U d a + n * E d a) × (E d (frac (pos n) 0 *ℚ a) ≤ E d a)
 unfolding U V E scaled
 times_at d n a =
     let D = int (pos (suc d)) in
@@ -243,7 +259,8 @@ whole_at d n =
     let f = ap floor e ∙ floor_int _ in
     (ap up f ∙ omega arith, ap down f, ap grain e ∙ grain_int _)
 
-pub minus_at : (d n : ℕ) → (U d (frac (negsuc n) 0) ≡ 0) × (V d (frac (negsuc n) 0) ≡ suc n * suc d) × (E d (frac (negsuc n) 0) ≡ 0)
+pub minus_at : (d n : ℕ)
+    → (U d (frac (negsuc n) 0) ≡ 0) × (V d (frac (negsuc n) 0) ≡ suc n * suc d) × (E d (frac (negsuc n) 0) ≡ 0)
 unfolding U V E
 minus_at d n =
     let e = whole_scaled (negsuc n) d in

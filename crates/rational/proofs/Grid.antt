@@ -3,14 +3,19 @@ use Rattle.std.specs.Prelude.{◌≡◌, ◌≢◌, ℕ, zero, suc, ◌*◌, ◌
 use Rattle.std.proofs.Common.{arith, sym, ap, ap₂, ◌∙◌, refl, subst}
 use Prim.Native.Nat.{◌∣◌}
 use Rattle.std.proofs.lemmas.Int.{ints}
-use native.Mathlib.Nat.{dvd-mul_left, dvd-mul_right, dvd-zero, le_of_dvd, mul-div_cancel', mul-le-mul_left, le_of_mul-le-mul_right, zero-lt-suc}
-use Rattle.rational.specs.Gcd.{divides_other}
-use Rattle.rational.specs.Rational.{ℚ, den, ◌+ℚ◌, ◌-ℚ◌, ◌*ℚ◌, ◌/ℚ◌, neg_ℚ, ◌≤ℚ◌, int, frac, frac_self, frac-same, frac-same_out, both, abs-mul}
-use Rattle.rational.specs.Ratio.{neg-abs}
+use native.Mathlib.Nat.{dvd-mul_left, dvd-mul_right, dvd-zero, le_of_dvd, mul-div_cancel', mul-le-mul_left}
+use native.Mathlib.Nat.{le_of_mul-le-mul_right, zero-lt-suc}
+use Rattle.rational.specs.Euclid.{divides_other}
+use Rattle.rational.specs.Rational.{ℚ, den, ◌+ℚ◌, ◌-ℚ◌, ◌*ℚ◌, ◌/ℚ◌, neg_ℚ, ◌≤ℚ◌, int, frac}
+use Rattle.rational.specs.Fractions.{frac_self, frac-same}
+use Rattle.rational.specs.Fractions.{frac-same_out, abs-mul}
+use Rattle.rational.specs.Rational.{both}
+use Rattle.rational.proofs.Parts.{neg-abs}
 use Rattle.rational.specs.Grid.{Whole, Within}
 use Rattle.rational.proofs.Over.{add_over, neg_over, mul_frac}
 use Rattle.rational.proofs.Integers.{mul_whole, nat_nonneg, nat_le_out}
-use Rattle.rational.proofs.Laws.{add_mul, sub_mul, mul_assoc, mul_comm as mul_comm_q, mul_neg, mul_add, mul_sub, mul_nonneg, mul_le_mul, mul_le_mul_right, div_mul, le_trans}
+use Rattle.rational.proofs.Laws.{add_mul, sub_mul, mul_assoc, mul_comm as mul_comm_q, mul_neg, neg_mul, mul_add}
+use Rattle.rational.proofs.Laws.{mul_sub, mul_nonneg, mul_le_mul, mul_le_mul_right, div_mul, le_trans}
 use Rattle.rational.proofs.Linear.{with1, with2, with3, with4}
 
 -- ---- on a grid
@@ -75,7 +80,7 @@ whole_add d a b v w = record { steps = v.steps +ℤ w.steps; is = steps_add d a 
 pub whole_neg : (d : ℕ) (a : ℚ) → Whole d a → Whole d (neg_ℚ a)
 whole_neg d a w = record {
   steps = neg_ℤ w.steps;
-  is = mul_comm_q (neg_ℚ a) (int (pos d)) ∙ mul_neg (int (pos d)) a ∙ ap neg_ℚ (mul_comm_q (int (pos d)) a ∙ w.is) ∙ neg_over w.steps 0;
+  is = neg_mul a (int (pos d)) ∙ ap neg_ℚ w.is ∙ neg_over w.steps 0;
 }
 
 pub whole_sub : (d : ℕ) (a b : ℚ) → Whole d a → Whole d b → Whole d (a -ℚ b)
@@ -101,7 +106,8 @@ whole_times d z a w = record {
 }
 
 -- ---- a quotient of two numbers on one grid: the grid falls out
-pub whole_ratio : (d : ℕ) (a b : ℚ) (v : Whole d a) (w : Whole d b) → b ≢ int (pos 0) → (a /ℚ b) *ℚ int w.steps ≡ int v.steps
+pub whole_ratio : (d : ℕ) (a b : ℚ) (v : Whole d a) (w : Whole d b) → b ≢ int (pos 0)
+    → (a /ℚ b) *ℚ int w.steps ≡ int v.steps
 whole_ratio d a b v w h =
     ap (λ x. (a /ℚ b) *ℚ x) (sym w.is) ∙ sym (mul_assoc (a /ℚ b) b (int (pos d))) ∙ ap (λ x. x *ℚ int (pos d)) (div_mul a b h) ∙ v.is
 
@@ -195,7 +201,7 @@ steps_bound d v q w i =
     let some = nat_nonneg d in
     let high = subst (λ x. x ≤ℚ v *ℚ int (pos d)) w.is (mul_le_mul_right (int (pos d)) some i.high) in
     let low = subst (λ x. neg_ℚ v *ℚ int (pos d) ≤ℚ x) w.is (mul_le_mul_right (int (pos d)) some i.low) in
-    let e : neg_ℚ v *ℚ int (pos d) ≡ neg_ℚ (v *ℚ int (pos d)) = mul_comm_q (neg_ℚ v) (int (pos d)) ∙ mul_neg (int (pos d)) v ∙ ap neg_ℚ (mul_comm_q (int (pos d)) v) in
+    let e = neg_mul v (int (pos d)) in
     by_sign w.steps (v *ℚ int (pos d)) (subst (λ x. x ≤ℚ int w.steps) e low) high
   where
     by_sign : (z : ℤ) (m : ℚ) → neg_ℚ m ≤ℚ int z → int z ≤ℚ m → int (pos (nat_abs z)) ≤ℚ m
@@ -203,7 +209,8 @@ steps_bound d v q w i =
     by_sign (negsuc n) m l h = with1 m (λ c. omega (arith, c.le, c.lt, c.same))
 
 -- a whole number that bounds v d bounds the numerator
-pub num_within : (d : ℕ) (v q : ℚ) (n : ℕ) → 0 < d → Whole d q → Within v q → v *ℚ int (pos d) ≤ℚ int (pos n) → nat_abs q.num ≤ n
+pub num_within : (d : ℕ) (v q : ℚ) (n : ℕ) → 0 < d → Whole d q → Within v q → v *ℚ int (pos d) ≤ℚ int (pos n)
+    → nat_abs q.num ≤ n
 num_within d v q n some w i h =
     let l = num_bound d q some w in
     let s = nat_le_out (nat_abs w.steps) n (le_trans (steps_bound d v q w i) h) in

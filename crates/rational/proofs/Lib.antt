@@ -1,3 +1,4 @@
+pub mod Parts
 pub mod Over
 pub mod Integers
 pub mod Bootstrap
@@ -7,9 +8,9 @@ pub mod Floor
 pub mod Grain
 pub mod Linear
 pub mod Ceiling
-pub mod Goals
-pub mod Stress
+pub mod LinearExamples
 pub mod Bounds
+pub mod Quotients
 pub mod Comparison
 pub mod MinMax
 pub mod ExtendedOrder

@@ -40,10 +40,12 @@ max_q_left x y h = rw (le_q_not x y h) refl
 
 -- ---- the lesser of two
 pub min_q_le_left : (x y : ℚ) → min_q x y ≤ℚ x
-min_q_le_left x y = elim (le_or_lt x y) [ inl h ↦ rw (min_q_left x y h) (le_refl x) | inr l ↦ rw (min_q_right x y l) (le_of_lt l) ]
+min_q_le_left x y =
+    elim (le_or_lt x y) [ inl h ↦ rw (min_q_left x y h) (le_refl x) | inr l ↦ rw (min_q_right x y l) (le_of_lt l) ]
 
 pub min_q_le_right : (x y : ℚ) → min_q x y ≤ℚ y
-min_q_le_right x y = elim (le_or_lt x y) [ inl h ↦ rw (min_q_left x y h) h | inr l ↦ rw (min_q_right x y l) (le_refl y) ]
+min_q_le_right x y =
+    elim (le_or_lt x y) [ inl h ↦ rw (min_q_left x y h) h | inr l ↦ rw (min_q_right x y l) (le_refl y) ]
 
 -- it is the greatest that is at most both
 pub min_q_ge : (x y z : ℚ) → z ≤ℚ x → z ≤ℚ y → z ≤ℚ min_q x y
@@ -92,7 +94,8 @@ pub max_q_ge_left : (x y : ℚ) → x ≤ℚ max_q x y
 max_q_ge_left x y = elim (le_or_lt x y) [ inl h ↦ rw (max_q_right x y h) h | inr l ↦ rw (max_q_left x y l) (le_refl x) ]
 
 pub max_q_ge_right : (x y : ℚ) → y ≤ℚ max_q x y
-max_q_ge_right x y = elim (le_or_lt x y) [ inl h ↦ rw (max_q_right x y h) (le_refl y) | inr l ↦ rw (max_q_left x y l) (le_of_lt l) ]
+max_q_ge_right x y =
+    elim (le_or_lt x y) [ inl h ↦ rw (max_q_right x y h) (le_refl y) | inr l ↦ rw (max_q_left x y l) (le_of_lt l) ]
 
 -- it is the least that is at least both
 pub max_q_le : (x y z : ℚ) → x ≤ℚ z → y ≤ℚ z → max_q x y ≤ℚ z

@@ -2,18 +2,18 @@
 use Rattle.std.specs.Prelude.{◌≡◌, ℕ, zero, suc, ◌*◌, ◌/◌, ◌<◌}
 use Rattle.std.proofs.Common.{arith, ◌∙◌, subst}
 use Prim.Native.Nat.{◌∣◌}
-use native.Mathlib.Nat.{dvd-zero, dvd-mul_left, mul-dvd-mul_left, dvd_of_mul-dvd-mul_left, mul_comm, mul_assoc, mul-pos, zero-lt-suc, mul-div_cancel', div-mul_cancel}
+use native.Mathlib.Nat.{dvd-zero, dvd-mul_left, mul-dvd-mul_left, dvd_of_mul-dvd-mul_left, mul_comm, mul_assoc}
+use native.Mathlib.Nat.{mul-pos, zero-lt-suc, mul-div_cancel', div-mul_cancel}
 use Rattle.std.specs.Int.{IsGcd}
-use Rattle.rational.specs.Gcd.{gcd, gcd_is, gcd_pos, divides_other, lowest_after, gcd_unique}
+use Rattle.rational.specs.Gcd.{gcd}
+use Rattle.rational.specs.Euclid.{gcd_is, gcd_pos, divides_other, lowest_after, gcd_unique}
+use Rattle.rational.specs.Lowest.{quotient_pos}
 use Rattle.rational.specs.Gauge.{lcm}
 
 -- how often the greatest common divisor goes into a number
 pub share_pos : (a b : ℕ) → 0 < a → 0 < a / gcd a b
-share_pos a b h = quotient_some (a / gcd a b) (gcd a b) a (div-mul_cancel (gcd a b) (gcd_is a b).0) h
-  where
-    quotient_some : (q g n : ℕ) → q * g ≡ n → 0 < n → 0 < q
-    quotient_some zero g n e h = absurd (omega arith)
-    quotient_some (suc q) g n e h = zero-lt-suc q
+share_pos (suc a) b h = quotient_pos a (gcd (suc a) b) (gcd_is (suc a) b).0
+share_pos zero b h = absurd (omega arith)
 
 pub lcm_pos : (a b : ℕ) → 0 < a → 0 < b → 0 < lcm a b
 lcm_pos a b h k = mul-pos (share_pos a b h) k

@@ -1,12 +1,15 @@
--- A number on a grid and within a bound has small parts, and so have sums, products and quotients of such numbers: both parts below 2 ^ 127.
+-- A number on a grid and within a bound has small parts, and so have sums, products and quotients of such numbers:
+-- both parts below 2 ^ 127.
 use Rattle.std.specs.Prelude.{◌≡◌, ◌≢◌, ℕ, suc, ◌*◌, ◌/◌, ◌<◌, ◌≤◌, ℤ, pos, ◌+ℤ◌, ◌*ℤ◌, nat_abs}
 use Rattle.std.proofs.Common.{arith, ap, ◌∙◌, refl, subst}
 use native.Mathlib.Nat.{le_of_dvd, mul-pos}
 use Rattle.rational.specs.Gcd.{gcd}
 use Rattle.rational.specs.Ints.{diffs, diff_is, diff_same}
 use Rattle.rational.proofs.Over.{mul_frac}
-use Rattle.rational.specs.Rational.{ℚ, den, ◌+ℚ◌, ◌*ℚ◌, ◌/ℚ◌, neg_ℚ, ◌≤ℚ◌, int, frac_self, frac-same, both}
-use Rattle.rational.specs.Ratio.{IsSmall, SumFits, abs_some}
+use Rattle.rational.specs.Rational.{ℚ, den, ◌+ℚ◌, ◌*ℚ◌, ◌/ℚ◌, neg_ℚ, ◌≤ℚ◌, int, both}
+use Rattle.rational.specs.Fractions.{frac_self, frac-same}
+use Rattle.rational.specs.Ratio.{IsSmall, SumFits}
+use Rattle.rational.proofs.Parts.{abs_some}
 use Rattle.rational.specs.Gauge.{lcm}
 use Rattle.rational.specs.Grid.{Whole, Within}
 use Rattle.rational.proofs.Integers.{nat_le, nat_nonneg, nat_le_out}
@@ -14,20 +17,23 @@ use Rattle.rational.proofs.Multiples.{lcm_least, lcm_swap}
 use Rattle.rational.proofs.Gauges.{den_pos}
 use Rattle.rational.proofs.Laws.{le_trans, mul_le_mul, mul_le_mul_right, add_comm, num_some}
 use Rattle.rational.proofs.Linear.{with2}
-use Rattle.rational.proofs.Grid.{whole_divides, steps_add, whole_neg, whole_mul, whole_div, within_some, within_add, within_neg, within_mul, den_bound, num_bound, num_within, steps_bound}
+use Rattle.rational.proofs.Grid.{whole_divides, steps_add, whole_neg, whole_mul, whole_div, within_some, within_add}
+use Rattle.rational.proofs.Grid.{within_neg, within_mul, den_bound, num_bound, num_within, steps_bound}
 
 -- the largest number of 127 bits
 abbrev pub largest_part : ℕ
 largest_part = 170141183460469231731687303715884105727
 
-pub small_on_grid : (d : ℕ) (v q : ℚ) → 0 < d → d ≤ largest_part → v *ℚ int (pos d) ≤ℚ int (pos largest_part) → Whole d q → Within v q → IsSmall q
+pub small_on_grid : (d : ℕ) (v q : ℚ) → 0 < d → d ≤ largest_part → v *ℚ int (pos d) ≤ℚ int (pos largest_part)
+    → Whole d q → Within v q → IsSmall q
 small_on_grid d v q some fits_d fits_v w i =
     let t = num_within d v q largest_part some w i fits_v in
     let b = den_bound d q some w in
     record { top = omega arith; bottom = omega arith }
 
 -- a product
-pub product_on_grid : (d e : ℕ) (v w a b : ℚ) → 0 < d → 0 < e → d * e ≤ largest_part → (v *ℚ w) *ℚ int (pos (d * e)) ≤ℚ int (pos largest_part)
+pub product_on_grid : (d e : ℕ) (v w a b : ℚ) → 0 < d → 0 < e → d * e ≤ largest_part
+    → (v *ℚ w) *ℚ int (pos (d * e)) ≤ℚ int (pos largest_part)
     → Whole d a → Whole e b → Within v a → Within w b → IsSmall (a *ℚ b)
 product_on_grid d e v w a b some_d some_e fits_d fits_v wa wb ia ib =
     small_on_grid (d * e) (v *ℚ w) (a *ℚ b) (mul-pos some_d some_e) fits_d fits_v (whole_mul d e a b wa wb) (within_mul v w a b ia ib)
@@ -40,7 +46,8 @@ steps_some d q some w h =
     omega arith
 
 -- a quotient of two numbers on one grid
-pub quotient_on_grid : (d : ℕ) (v w a b : ℚ) → 0 < d → b ≢ int (pos 0) → v *ℚ int (pos d) ≤ℚ int (pos largest_part) → w *ℚ int (pos d) ≤ℚ int (pos largest_part)
+pub quotient_on_grid : (d : ℕ) (v w a b : ℚ) → 0 < d → b ≢ int (pos 0) → v *ℚ int (pos d) ≤ℚ int (pos largest_part)
+    → w *ℚ int (pos d) ≤ℚ int (pos largest_part)
     → Whole d a → Whole d b → Within v a → Within w b → IsSmall (a /ℚ b)
 quotient_on_grid d v w a b some h fits_v fits_w wa wb ia ib =
     let q = whole_div d a b wa wb h in
@@ -87,6 +94,8 @@ sum_on_grid d v w a b some fits_d fits_v wa wb ia ib =
     less_of_sum d v w h k = mul_le_mul_right d h (with2 v w (λ c. omega (arith, c.le, c.lt, c.same)))
 
 -- a difference
-pub difference_on_grid : (d : ℕ) (v w a b : ℚ) → 0 < d → d ≤ largest_part → (v +ℚ w) *ℚ int (pos d) ≤ℚ int (pos largest_part)
+pub difference_on_grid : (d : ℕ) (v w a b : ℚ) → 0 < d → d ≤ largest_part
+    → (v +ℚ w) *ℚ int (pos d) ≤ℚ int (pos largest_part)
     → Whole d a → Whole d b → Within v a → Within w b → SumFits a (neg_ℚ b)
-difference_on_grid d v w a b some fits_d fits_v wa wb ia ib = sum_on_grid d v w a (neg_ℚ b) some fits_d fits_v wa (whole_neg d b wb) ia (within_neg w b ib)
+difference_on_grid d v w a b some fits_d fits_v wa wb ia ib =
+    sum_on_grid d v w a (neg_ℚ b) some fits_d fits_v wa (whole_neg d b wb) ia (within_neg w b ib)

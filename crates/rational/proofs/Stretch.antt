@@ -4,12 +4,15 @@ use Rattle.std.proofs.Common.{arith, sym, ap, ◌∙◌, subst, inl, inr}
 use Rattle.rational.specs.Rational.{ℚ, ◌+ℚ◌, ◌-ℚ◌, ◌*ℚ◌, ◌/ℚ◌, neg_ℚ, ◌≤ℚ◌, ◌<ℚ◌, int}
 use Rattle.rational.specs.MinMax.{min_q, max_q}
 use Rattle.rational.specs.Line.{line_at}
-use Rattle.rational.specs.Extended.{Ext, ◌<ₑ◌, IsInfimum, IsSupremum}
+use Rattle.rational.specs.Bounds.{IsInfimum, IsSupremum}
 use Rattle.rational.specs.Stretch.{Between, After}
 use Rattle.rational.specs.declared.Extended.TheVariants.{Fin, Inf}
 use Rattle.rational.proofs.Linear.{with1, with2, with3, with4}
-use Rattle.rational.proofs.Laws.{not_zero, lt_of_mul, between, le_refl, le_or_lt, le_of_lt, le_lt_trans, lt_le_trans, mul_le_mul, mul_lt_mul, mul_comm, mul_neg, div_mul, antisym}
-use Rattle.rational.proofs.MinMax.{min_q_left, min_q_is_right, max_q_is_left, max_q_right, max_q_ge_left, max_q_ge_right, max_q_lt, min_q_le_left, min_q_le_right, below_min_in}
+use Rattle.rational.proofs.Laws.{not_zero, lt_of_mul, between, le_refl, le_or_lt, le_of_lt, le_lt_trans, lt_le_trans}
+use Rattle.rational.proofs.Laws.{mul_le_mul, mul_lt_mul, mul_comm, div_mul, antisym}
+use Rattle.rational.proofs.Lines.{line_rises, line_falls, rises_turned, turned_line}
+use Rattle.rational.proofs.MinMax.{min_q_left, min_q_is_right, max_q_is_left, max_q_right, max_q_ge_left}
+use Rattle.rational.proofs.MinMax.{max_q_ge_right, max_q_lt, min_q_le_left, min_q_le_right, below_min_in}
 use Rattle.rational.proofs.Bounds.{unbounded, reflected_infimum, reflected_supremum, same_infimum, same_supremum}
 
 -- ---- times near an end
@@ -31,7 +34,8 @@ level r v h = (v /ℚ r, mul_comm r (v /ℚ r) ∙ div_mul v r (not_zero r h))
 
 -- before or past that time as r times it is less or more than v
 before_level : (r s w : ℚ) → int (pos 0) <ℚ r → r *ℚ s <ℚ r *ℚ w → s <ℚ w
-before_level r s w h l = lt_of_mul r s w h (subst (λ x. x <ℚ w *ℚ r) (mul_comm r s) (subst (λ x. r *ℚ s <ℚ x) (mul_comm r w) l))
+before_level r s w h l =
+    lt_of_mul r s w h (subst (λ x. x <ℚ w *ℚ r) (mul_comm r s) (subst (λ x. r *ℚ s <ℚ x) (mul_comm r w) l))
 
 -- a line that is not falling is level or rises
 slope_cases : {G : Type 0} (r : ℚ) → int (pos 0) ≤ℚ r → (r ≡ int (pos 0) → G) → (int (pos 0) <ℚ r → G) → G
@@ -41,7 +45,8 @@ level_times : (r s t : ℚ) → r ≡ int (pos 0) → r *ℚ s ≡ r *ℚ t
 level_times r s t e = ap (λ x. x *ℚ s) e ∙ with2 s t (λ c. omega (arith, c.le, c.lt, c.same)) ∙ ap (λ x. x *ℚ t) (sym e)
 
 -- ---- a line that does not fall
-pub rising_supremum : (lo hi a r : ℚ) → lo <ℚ hi → int (pos 0) ≤ℚ r → IsSupremum {I = Between lo hi} (λ s. Fin (line_at a r s.at)) (Fin (line_at a r hi))
+pub rising_supremum : (lo hi a r : ℚ) → lo <ℚ hi → int (pos 0) ≤ℚ r → IsSupremum {I =
+    Between lo hi} (λ s. Fin (line_at a r s.at)) (Fin (line_at a r hi))
 rising_supremum lo hi a r h k = record {
   above = λ s. let m = mul_le_mul r k (le_of_lt s.below) in let t = s.at in with3 a (r *ℚ t) (r *ℚ hi) (λ c. omega (arith, c.le, c.lt, c.same));
   near = λ y l.
@@ -55,11 +60,12 @@ rising_supremum lo hi a r h k = record {
         slope_cases r k
         (λ e. let (s, p, q) = between lo hi h in (record { at = s; above = p; below = q }, subst (λ x. v <ℚ x) (level_times r hi s e) l))
         (λ some.
-            let (w, e) = level r v some in
-            let (s, p) = late_enough lo w hi h (before_level r w hi some (subst (λ x. x <ℚ r *ℚ hi) (sym e) l)) in
-            (s, subst (λ x. x <ℚ r *ℚ s.at) e (mul_lt_mul r some p)))
+        let (w, e) = level r v some in
+        let (s, p) = late_enough lo w hi h (before_level r w hi some (subst (λ x. x <ℚ r *ℚ hi) (sym e) l)) in
+        (s, subst (λ x. x <ℚ r *ℚ s.at) e (mul_lt_mul r some p)))
 
-pub rising_infimum : (lo hi a r : ℚ) → lo <ℚ hi → int (pos 0) ≤ℚ r → IsInfimum {I = Between lo hi} (λ s. Fin (line_at a r s.at)) (Fin (line_at a r lo))
+pub rising_infimum : (lo hi a r : ℚ) → lo <ℚ hi → int (pos 0) ≤ℚ r → IsInfimum {I =
+    Between lo hi} (λ s. Fin (line_at a r s.at)) (Fin (line_at a r lo))
 rising_infimum lo hi a r h k = record {
   below = λ s. let m = mul_le_mul r k (le_of_lt s.above) in let t = s.at in with3 a (r *ℚ t) (r *ℚ lo) (λ c. omega (arith, c.le, c.lt, c.same));
   near = λ y l.
@@ -73,43 +79,24 @@ rising_infimum lo hi a r h k = record {
         slope_cases r k
         (λ e. let (s, p, q) = between lo hi h in (record { at = s; above = p; below = q }, subst (λ x. x <ℚ v) (level_times r lo s e) l))
         (λ some.
-            let (w, e) = level r v some in
-            let (s, p) = early_enough lo w hi h (before_level r lo w some (subst (λ x. r *ℚ lo <ℚ x) (sym e) l)) in
-            (s, subst (λ x. r *ℚ s.at <ℚ x) e (mul_lt_mul r some p)))
+        let (w, e) = level r v some in
+        let (s, p) = early_enough lo w hi h (before_level r lo w some (subst (λ x. r *ℚ lo <ℚ x) (sym e) l)) in
+        (s, subst (λ x. r *ℚ s.at <ℚ x) e (mul_lt_mul r some p)))
 
 -- ---- a line that does not rise: the mirror
-rises_turned : (r : ℚ) → r ≤ℚ int (pos 0) → int (pos 0) ≤ℚ neg_ℚ r
-rises_turned r h = with1 r (λ c. omega (arith, c.le, c.lt, c.same))
-
--- a less a line that rises by minus r
-turned_line : (a r t : ℚ) → a -ℚ line_at (int (pos 0)) (neg_ℚ r) t ≡ line_at a r t
-turned_line a r t =
-    let e : neg_ℚ r *ℚ t ≡ neg_ℚ (r *ℚ t) = mul_comm (neg_ℚ r) t ∙ mul_neg t r ∙ ap neg_ℚ (mul_comm t r) in
-    antisym (with3 a (r *ℚ t) (neg_ℚ r *ℚ t) (λ c. omega (arith, c.le, c.lt, c.same)))
-
-pub falling_infimum : (lo hi a r : ℚ) → lo <ℚ hi → r ≤ℚ int (pos 0) → IsInfimum {I = Between lo hi} (λ s. Fin (line_at a r s.at)) (Fin (line_at a r hi))
+pub falling_infimum : (lo hi a r : ℚ) → lo <ℚ hi → r ≤ℚ int (pos 0) → IsInfimum {I =
+    Between lo hi} (λ s. Fin (line_at a r s.at)) (Fin (line_at a r hi))
 falling_infimum lo hi a r h k =
     let up = rising_supremum lo hi (int (pos 0)) (neg_ℚ r) h (rises_turned r k) in
     simp (turned_line a r) at (reflected_infimum {I = Between lo hi} (λ s. line_at (int (pos 0)) (neg_ℚ r) s.at) a (line_at (int (pos 0)) (neg_ℚ r) hi) up)
 
-pub falling_supremum : (lo hi a r : ℚ) → lo <ℚ hi → r ≤ℚ int (pos 0) → IsSupremum {I = Between lo hi} (λ s. Fin (line_at a r s.at)) (Fin (line_at a r lo))
+pub falling_supremum : (lo hi a r : ℚ) → lo <ℚ hi → r ≤ℚ int (pos 0) → IsSupremum {I =
+    Between lo hi} (λ s. Fin (line_at a r s.at)) (Fin (line_at a r lo))
 falling_supremum lo hi a r h k =
     let down = rising_infimum lo hi (int (pos 0)) (neg_ℚ r) h (rises_turned r k) in
     simp (turned_line a r) at (reflected_supremum {I = Between lo hi} (λ s. line_at (int (pos 0)) (neg_ℚ r) s.at) a (line_at (int (pos 0)) (neg_ℚ r) lo) down)
 
 -- ---- a line of any slope: the lesser and the greater limit
-line_rises : (a r s t : ℚ) → int (pos 0) ≤ℚ r → s ≤ℚ t → line_at a r s ≤ℚ line_at a r t
-line_rises a r s t h k = let m = mul_le_mul r h k in with3 a (r *ℚ s) (r *ℚ t) (λ c. omega (arith, c.le, c.lt, c.same))
-
-line_falls : (a r s t : ℚ) → r ≤ℚ int (pos 0) → s ≤ℚ t → line_at a r t ≤ℚ line_at a r s
-line_falls a r s t h k =
-    let m = line_rises (int (pos 0)) (neg_ℚ r) s t (rises_turned r h) k in
-    rw (← turned_line a r s, ← turned_line a r t)
-    (let x = line_at (int (pos 0)) (neg_ℚ r) s in let y = line_at (int (pos 0)) (neg_ℚ r) t in less_more a x y m)
-  where
-    less_more : (a x y : ℚ) → x ≤ℚ y → a -ℚ y ≤ℚ a -ℚ x
-    less_more a x y l = with3 a x y (λ c. omega (arith, c.le, c.lt, c.same))
-
 pub line_infimum : (lo hi a r : ℚ) → lo <ℚ hi
     → IsInfimum {I = Between lo hi} (λ s. Fin (line_at a r s.at)) (Fin (min_q (line_at a r lo) (line_at a r hi)))
 line_infimum lo hi a r h = elim (le_or_lt (int (pos 0)) r) [
@@ -132,14 +119,16 @@ next lo = with1 lo (λ c. omega (arith, c.le, c.lt, c.same))
 soon : (lo : ℚ) (s : After lo) → (i : Between lo (lo +ℚ int (pos 1))) × (i.at ≤ℚ s.at)
 soon lo s = let (i, l) = early_enough lo s.at (lo +ℚ int (pos 1)) (next lo) s.above in (i, le_of_lt l)
 
-pub rising_after_infimum : (lo a r : ℚ) → int (pos 0) ≤ℚ r → IsInfimum {I = After lo} (λ s. Fin (line_at a r s.at)) (Fin (line_at a r lo))
+pub rising_after_infimum : (lo a r : ℚ) → int (pos 0) ≤ℚ r → IsInfimum {I =
+    After lo} (λ s. Fin (line_at a r s.at)) (Fin (line_at a r lo))
 rising_after_infimum lo a r h =
     same_infimum {I = Between lo (lo +ℚ int (pos 1))} {J = After lo} (λ s. Fin (line_at a r s.at)) (λ s. Fin (line_at a r s.at)) (Fin (line_at a r lo))
     (λ i. (record { at = i.at; above = i.above }, le_refl (line_at a r i.at)))
     (λ s. let (i, l) = soon lo s in (i, line_rises a r i.at s.at h l))
     (rising_infimum lo (lo +ℚ int (pos 1)) a r (next lo) h)
 
-pub falling_after_supremum : (lo a r : ℚ) → r ≤ℚ int (pos 0) → IsSupremum {I = After lo} (λ s. Fin (line_at a r s.at)) (Fin (line_at a r lo))
+pub falling_after_supremum : (lo a r : ℚ) → r ≤ℚ int (pos 0) → IsSupremum {I =
+    After lo} (λ s. Fin (line_at a r s.at)) (Fin (line_at a r lo))
 falling_after_supremum lo a r h =
     same_supremum {I = Between lo (lo +ℚ int (pos 1))} {J = After lo} (λ s. Fin (line_at a r s.at)) (λ s. Fin (line_at a r s.at)) (Fin (line_at a r lo))
     (λ i. (record { at = i.at; above = i.above }, le_refl (line_at a r i.at)))
@@ -147,7 +136,8 @@ falling_after_supremum lo a r h =
     (falling_supremum lo (lo +ℚ int (pos 1)) a r (next lo) h)
 
 -- a line that rises passes every number
-pub rising_after_supremum : (lo a r : ℚ) → int (pos 0) <ℚ r → IsSupremum {I = After lo} (λ s. Fin (line_at a r s.at)) Inf
+pub rising_after_supremum : (lo a r : ℚ) → int (pos 0) <ℚ r → IsSupremum {I =
+    After lo} (λ s. Fin (line_at a r s.at)) Inf
 rising_after_supremum lo a r h = unbounded {I = After lo} (λ s. Fin (line_at a r s.at)) (λ y. passing y)
   where
     passing : (y : ℚ) → (s : After lo) × (y <ℚ line_at a r s.at)

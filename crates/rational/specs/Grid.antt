@@ -1,5 +1,6 @@
--- Where a number stands and how large it is: on the grid of the whole multiples of 1 / d, and within a bound of 0. Own choice.
--- A number on a grid and within a bound has a numerator and a denominator of known size, with nothing said of how it was made.
+-- Where a number stands and how large it is: on the grid of the whole multiples of 1 / d, and within a bound of 0.
+-- Own choice. A number on a grid and within a bound has a numerator and a denominator of known size, with nothing
+-- said of how it was made.
 use Rattle.std.specs.Prelude.{◌≡◌, ℕ, ℤ, pos}
 use Rattle.rational.specs.Rational.{ℚ, ◌*ℚ◌, neg_ℚ, ◌≤ℚ◌, int}
 

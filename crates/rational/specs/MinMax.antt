@@ -1,4 +1,4 @@
--- The lesser and the greater of two rationals.
+-- The lesser and the greater of two rationals. Textbook.
 use Rattle.std.specs.Prelude.{cond}
 use Rattle.rational.specs.Rational.{ℚ, le_q}
 

@@ -1,5 +1,5 @@
 -- The value of a curve from its fields, by its tail; and that a bucket is normal.
-use Rattle.std.specs.Prelude.{◌≡◌, pos, List, Some, None, Result, Ok, Err, IfErr}
+use Rattle.std.specs.Prelude.{◌≡◌, pos, List, Some, None}
 use Rattle.std.proofs.Common.{arith, sym, ap, ap₂, ◌∙◌, refl, subst, inl, Ordering, Greater, true≢false, is_some}
 use Rattle.rational.specs.Rational.{ℚ, ◌+ℚ◌, ◌-ℚ◌, ◌*ℚ◌, ◌≤ℚ◌, ◌<ℚ◌, int}
 use Rattle.rational.specs.Ratio.{cmp_q}

@@ -13,6 +13,7 @@ pub mod Below
 pub mod Crossing
 pub mod Unambiguous
 pub mod KindValues
+pub mod ReadableKinds
 pub mod BucketDelay
 pub mod BucketBacklog
 pub mod BucketDeviations

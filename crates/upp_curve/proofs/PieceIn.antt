@@ -1,5 +1,5 @@
 -- How a piece is found and read.
-use Rattle.std.specs.Prelude.{◌≡◌, ◌≢◌, ℕ, zero, suc, ◌+◌, ◌-◌, ◌<◌, ◌≤◌, pos, Bool, true, false, List, [], ◌∷◌, length}
+use Rattle.std.specs.Prelude.{◌≡◌, ℕ, zero, suc, ◌-◌, ◌<◌, ◌≤◌, pos, Bool, true, false, List, [], ◌∷◌, length}
 use Rattle.std.proofs.Common.{arith, get_or, sym, ap, ◌∙◌, refl, subst, inl, inr, Ordering, Less, Equal, Greater, is_le, true≢false}
 use Rattle.rational.specs.Rational.{ℚ, ◌-ℚ◌, ◌≤ℚ◌, ◌<ℚ◌, int, le_q}
 use Rattle.rational.proofs.Linear.{with1}
@@ -11,7 +11,6 @@ use Rattle.rational.specs.Ratio.{cmp_q}
 use Rattle.rational.proofs.Comparison.{cmp_greater, cmp_not_greater, cmp_less, cmp_equal}
 use Rattle.rational.proofs.Over.{le_q_out, le_q_in}
 use Rattle.affine_segment.specs.declared.line.Piece.{Piece}
-use Rattle.rational.specs.declared.Extended.TheVariants.{Inf}
 use Rattle.upp_curve.specs.Reading.{piece_value, piece_in, read}
 use Rattle.affine_segment.specs.Values.{line_value}
 use Rattle.rational.proofs.MinMax.{le_q_not}

@@ -3,8 +3,11 @@ use Rattle.std.specs.Prelude.{◌≡◌, ℕ, zero, suc, ◌+◌, ◌*◌, ◌/�
 use Rattle.std.proofs.Common.{arith, sym, ap, ◌∙◌, refl, subst, inl, inr}
 use Rattle.std.proofs.lemmas.Int.{ints}
 use native.Mathlib.Nat.{div-add-mod', div-mul_cancel, le_of_dvd}
-use Rattle.rational.specs.Gcd.{gcd, gcd_steps, gcd_is}
-use Rattle.rational.specs.Rational.{ℚ, ◌+ℚ◌, ◌-ℚ◌, ◌*ℚ◌, ◌/ℚ◌, ◌≤ℚ◌, ◌<ℚ◌, int, frac, frac_self, frac-same, both, lt_frac}
+use Rattle.rational.specs.Gcd.{gcd, gcd_steps}
+use Rattle.rational.specs.Euclid.{gcd_is}
+use Rattle.rational.specs.Rational.{ℚ, ◌+ℚ◌, ◌-ℚ◌, ◌*ℚ◌, ◌/ℚ◌, ◌≤ℚ◌, ◌<ℚ◌, int, frac, both}
+use Rattle.rational.specs.Fractions.{frac_self, frac-same}
+use Rattle.rational.proofs.Over.{lt_frac}
 use Rattle.rational.proofs.Over.{mul_frac, both_is, add_over, lt_over}
 use Rattle.rational.proofs.Linear.{with1, with2, with3, with4}
 use Rattle.rational.proofs.Laws.{above, antisym, add_comm, add_mul, mul_assoc, mul_comm, mul_cancel, div_mul, le_or_lt, le_of_lt, num_nonneg, mul_nonneg}

@@ -1,7 +1,8 @@
 -- Operators worked out for the kinds of curve that are affine, as checks of the definitions.
 use Rattle.std.specs.Prelude.{◌≡◌, ℕ, zero, suc, pos, List, [], ◌∷◌}
 use Rattle.std.proofs.Common.{arith, sym, ap, ◌∙◌, subst, inl, inr, refl}
-use Rattle.rational.specs.Rational.{ℚ, ◌+ℚ◌, ◌-ℚ◌, ◌*ℚ◌, ◌≤ℚ◌, ◌<ℚ◌, ◌/ℚ◌, int, same_parts}
+use Rattle.rational.specs.Rational.{ℚ, ◌+ℚ◌, ◌-ℚ◌, ◌*ℚ◌, ◌≤ℚ◌, ◌<ℚ◌, ◌/ℚ◌, int}
+use Rattle.rational.specs.Fractions.{same_parts}
 use Rattle.rational.proofs.Linear.{with1, with2, with3, with5, with8, with4}
 use Rattle.rational.proofs.Laws.{le_refl, le_or_lt, le_of_lt, mul_add, mul_sub, mul_zero, mul_nonneg, mul_le_mul, mul_le_mul_right, antisym, mul_comm, div_mul}
 use Rattle.rational.specs.Extended.{Ext, ◌≤ₑ◌, ◌+ₑ◌, ◌-ₑ◌}

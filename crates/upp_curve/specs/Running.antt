@@ -2,7 +2,8 @@
 -- (Le Boudec and Thiran, chapter 3 and the residual service of a first in, first out queue, section 6.4.)
 use Rattle.std.specs.Prelude.{◌≡◌, cond}
 use Rattle.rational.specs.Rational.{ℚ, ◌-ℚ◌, le_q}
-use Rattle.rational.specs.Extended.{Ext, IsInfimum, IsSupremum}
+use Rattle.rational.specs.Extended.{Ext}
+use Rattle.rational.specs.Bounds.{IsInfimum, IsSupremum}
 use Rattle.rational.specs.declared.Extended.TheVariants.{Fin, Inf}
 use Rattle.upp_curve.specs.Functions.{zero_q, UpTo, From}
 use Rattle.upp_curve.specs.Pointwise.{excess}

@@ -24,9 +24,13 @@ pub enum Tail {
         rise: Frac,
     },
     /// It goes on with its last line.
-    Affine { rank: Frac },
+    Affine {
+        rank: Frac,
+    },
     /// It is infinite after the rank.
-    Infinite { rank: Frac },
+    Infinite {
+        rank: Frac,
+    },
 }
 
 /// A function of time from 0 on, as pieces and a tail (Bouillard, Boyer and Le Corronc: an ultimately pseudo-periodic

@@ -10,6 +10,8 @@ mod merging;
 mod normalise;
 mod reading;
 mod same;
+#[cfg(test)]
+mod tests;
 mod two_periods;
 
 pub use curve::{Curve, Tail, equal};

@@ -85,7 +85,13 @@ fn periods(rank: Frac, period: Frac, t: Frac) -> Result<Frac, Wide>
 }
 
 // The value past the rank of a periodic tail: that as many whole periods earlier, risen as many times.
-pub(crate) fn read_past(pieces: &[Piece], rank: Frac, period: Frac, rise: Frac, t: Frac) -> Result<Ext, Wide>
+pub(crate) fn read_past(
+    pieces: &[Piece],
+    rank: Frac,
+    period: Frac,
+    rise: Frac,
+    t: Frac,
+) -> Result<Ext, Wide>
     requires starts { StartsAtZero pieces.now }
     requires rank { int (pos 0) ≤ℚ rank }
     requires period { int (pos 0) <ℚ period }

@@ -1,4 +1,4 @@
-use Rattle.rational.specs.Gcd.{gcd_pos}
+use Rattle.rational.specs.Euclid.{gcd_pos}
 use Rattle.fraction128.proofs.division.least_common_multiple.Goals as goal
 
 pub quotient-requires : goal.quotient-requires

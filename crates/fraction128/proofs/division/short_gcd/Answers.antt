@@ -1,5 +1,6 @@
 use Rattle.std.proofs.Common.{sym, ◌∙◌, ap}
-use Rattle.rational.specs.Gcd.{gcd, gcd-mod, gcd-zero}
+use Rattle.rational.specs.Gcd.{gcd}
+use Rattle.rational.specs.Euclid.{gcd-mod, gcd-zero}
 use Rattle.fraction128.proofs.division.short_gcd.Goals as goal
 
 pub loop-y-preserved : goal.loop-y-preserved

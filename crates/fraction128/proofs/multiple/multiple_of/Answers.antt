@@ -1,7 +1,8 @@
-use Rattle.std.proofs.Common.{arith, ◌≡◌, ◌∙◌, ◌*◌, ◌<◌, ◌^◌, ◌/◌, ap, ap₂, sym, subst, pos, to_z, ℤ, ℕ}
+use Rattle.std.proofs.Common.{arith, ◌≡◌, ◌∙◌, ◌*◌, ◌/◌, ap, ap₂, sym, subst, pos, to_z, ℤ, ℕ}
 use Rattle.std.proofs.lemmas.Int.{to_z_pos}
 use mir.Syntax.{w128}
-use Rattle.rational.specs.Gcd.{gcd, gcd_pos}
+use Rattle.rational.specs.Gcd.{gcd}
+use Rattle.rational.specs.Euclid.{gcd_pos}
 use Rattle.rational.specs.Gauge.{lcm}
 use Rattle.rational.specs.Rational.{over}
 use Rattle.rational.specs.Ratio.{ratio}

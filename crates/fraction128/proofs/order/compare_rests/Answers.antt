@@ -1,4 +1,4 @@
-use Rattle.std.proofs.Common.{sym, ◌∙◌, ap, ap₂, pos_of_ne-zero, nat_cmp, ◌*◌, ◌/◌, ◌%◌, ◌≡◌, ◌≢◌, ℕ}
+use Rattle.std.proofs.Common.{sym, ◌∙◌, ap₂, pos_of_ne-zero, nat_cmp, ◌*◌, ◌/◌, ◌≡◌, ◌≢◌, ℕ}
 use native.Mathlib.Nat.{div-add-mod, mod-lt}
 use Rattle.fraction128.proofs.Compared.{cmp_whole, cmp_turned, cmp_none, cmp_same_q}
 use Rattle.fraction128.proofs.order.compare_rests.Goals as goal

@@ -1,5 +1,5 @@
-use Rattle.std.proofs.Common.{rules, arith, ◌≡◌, ◌∙◌, ◌<◌, ◌^◌, ◌-◌, ◌-ℤ◌, ◌/◌, ◌%◌, ap, SFits, to_z, of_z, to_z-of_z, pos, negsuc, unsigned_abs}
-use Rattle.std.proofs.lemmas.Int.{to_z_pos, ints}
+use Rattle.std.proofs.Common.{rules, arith, ◌≡◌, ◌∙◌, ◌<◌, ◌^◌, ◌-◌, ◌-ℤ◌, ◌/◌, ◌%◌, ap, SFits, to_z, to_z-of_z, pos, negsuc, unsigned_abs}
+use Rattle.std.proofs.lemmas.Int.{to_z_pos}
 use mir.Syntax.{w128}
 use native.Mathlib.Nat.{div-le_self}
 use Rattle.fraction128.proofs.Compared.{whole_below_code}

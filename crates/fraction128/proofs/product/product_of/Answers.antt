@@ -1,6 +1,6 @@
-use Rattle.std.proofs.Common.{rules, arith, ◌≡◌, ◌*◌, ◌/◌, ◌<◌, ◌^◌, ap, ◌∙◌, sym, subst, to_z-of_z, SFits, pos, unsigned_abs, refl}
+use Rattle.std.proofs.Common.{rules, arith, ◌≡◌, ◌/◌, ap, ◌∙◌, to_z-of_z, SFits, pos, refl}
 use mir.Syntax.{w128}
-use Rattle.rational.specs.Gcd.{gcd, gcd_pos}
+use Rattle.rational.specs.Euclid.{gcd_pos}
 use Rattle.rational.specs.Ratio.{ratio, with_sign}
 use Rattle.fraction128.proofs.Multiplied.{ProductParts, IsProduct, product_parts, product_small, small_product, product_as_lowest}
 use Rattle.fraction128.proofs.product.product_of.Goals as goal

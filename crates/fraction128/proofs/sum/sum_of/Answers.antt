@@ -1,10 +1,10 @@
-use Rattle.std.proofs.Common.{rules, arith, ◌≡◌, ◌≤◌, ◌*◌, ◌/◌, ◌<◌, ◌^◌, ◌+ℤ◌, ap, ◌∙◌, sym, to_z-of_z, SFits, pos, unsigned_abs, refl}
-use Rattle.std.proofs.lemmas.Int.{fits_signed_from_abs, ints}
+use Rattle.std.proofs.Common.{rules, arith, ◌≤◌, ◌/◌, ◌<◌, ◌^◌, ◌+ℤ◌, ap, ◌∙◌, to_z-of_z, SFits, pos, unsigned_abs, refl}
 use mir.Syntax.{w128}
-use Rattle.rational.specs.Gcd.{gcd, gcd_pos}
-use Rattle.rational.specs.Ratio.{ratio, with_sign}
+use Rattle.rational.specs.Gcd.{gcd}
+use Rattle.rational.specs.Euclid.{gcd_pos}
+use Rattle.rational.specs.Ratio.{ratio}
 use Rattle.fraction128.proofs.Values.{unfit_abs}
-use Rattle.fraction128.proofs.Added.{SumParts, IsSum, sum_parts, sum_wide, sum_as_lowest}
+use Rattle.fraction128.proofs.Added.{SumParts, sum_parts, sum_wide, sum_as_lowest}
 use Rattle.fraction128.proofs.sum.sum_of.Goals as goal
 
 pub quotient-share-requires : goal.quotient-share-requires

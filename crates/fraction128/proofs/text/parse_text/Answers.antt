@@ -1,4 +1,4 @@
-use Rattle.std.proofs.Common.{rules, arith, ◌≡◌, ◌<◌, ◌≤◌, ◌⊎◌, ◌∙◌, sym, ap, inl, inr, Ok, pos, SFits, to_z-of_z}
+use Rattle.std.proofs.Common.{rules, arith, ◌<◌, ◌⊎◌, ◌∙◌, sym, ap, inl, inr, Ok, pos, SFits, to_z-of_z}
 use mir.Syntax.{w128}
 use Rattle.rational.specs.Ratio.{ratio}
 use Rattle.fraction128.specs.Text.{largest}

@@ -1,4 +1,4 @@
-use Rattle.std.proofs.Common.{ap, ap₂, ◌∙◌, pos}
+use Rattle.std.proofs.Common.{ap, ◌∙◌, pos}
 use Rattle.rational.specs.Rational.{ℚ, int, ◌/ℚ◌}
 use Rattle.rational.specs.Whole.{periods, whole_part}
 use Rattle.rational.proofs.Whole.{not_zero}

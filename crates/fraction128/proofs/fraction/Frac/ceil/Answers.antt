@@ -1,4 +1,4 @@
-use Rattle.std.proofs.Common.{rules, arith, ◌≡◌, ◌<◌, ◌^◌, ◌∙◌, sym, ap, SFits, to_z, of_z, to_z-of_z, pos, ◌-ℤ◌, neg_ℤ, unsigned_abs}
+use Rattle.std.proofs.Common.{◌≡◌, ◌∙◌, ap, SFits, to_z, of_z, to_z-of_z, pos, ◌-ℤ◌, neg_ℤ}
 use Rattle.std.proofs.lemmas.Int.{fits_signed_from_abs}
 use mir.Syntax.{w128}
 use Rattle.rational.specs.Floor.{floor, ceil}

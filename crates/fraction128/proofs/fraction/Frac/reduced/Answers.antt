@@ -1,6 +1,6 @@
-use Rattle.std.proofs.Common.{rules, arith, ◌≡◌, ◌∙◌, ◌/◌, ◌<◌, ◌^◌, ap, ap₂, refl, SFits, to_z-of_z, pos, ℤ, ℕ, unsigned_abs}
+use Rattle.std.proofs.Common.{rules, ◌≡◌, ◌∙◌, ap, ap₂, SFits, to_z-of_z, pos, ℤ, ℕ, unsigned_abs}
 use mir.Syntax.{w128}
-use Rattle.rational.specs.Gcd.{gcd, gcd_pos}
+use Rattle.rational.specs.Euclid.{gcd_pos}
 use Rattle.rational.specs.Ratio.{ratio, with_sign}
 use Rattle.fraction128.proofs.Made.{reduced_lowest_parts, reduced_value}
 use Rattle.fraction128.proofs.fraction.Frac.reduced.Goals as goal

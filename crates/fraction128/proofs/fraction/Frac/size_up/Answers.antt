@@ -1,4 +1,4 @@
-use Rattle.std.proofs.Common.{◌≡◌, ◌∙◌, ap, ap₂, sym, SFits, to_z-of_z, unsigned_abs, ◌/◌, ◌%◌, ℕ}
+use Rattle.std.proofs.Common.{◌≡◌, ◌∙◌, ap, ap₂, sym, SFits, to_z-of_z, unsigned_abs}
 use mir.Syntax.{w128}
 use Rattle.rational.specs.Gauge.{up_over, size_up}
 use Rattle.fraction128.proofs.Values.{num_fits, parts_of}

@@ -1,4 +1,4 @@
-use Rattle.std.proofs.Common.{◌∙◌, sym, ap, SFits, to_z-of_z}
+use Rattle.std.proofs.Common.{SFits, to_z-of_z}
 use mir.Syntax.{w128}
 use Rattle.fraction128.proofs.Values.{num_fits, same_fields}
 use Rattle.fraction128.proofs.Compared.{same_test}

@@ -1,7 +1,7 @@
 use Rattle.std.specs.Prelude.{pos}
 use Rattle.std.proofs.Common.{◌≡◌, ◌∙◌, ap, subst, IfOk, inl, inr}
 use Rattle.upp_curve.specs.declared.curve.Tail.TheVariants.{Periodic, Affine, Infinite}
-use Rattle.rational.specs.Rational.{ℚ, int}
+use Rattle.rational.specs.Rational.{int}
 use Rattle.rational.specs.Whole.{periods}
 use Rattle.upp_curve.specs.Reading.{read}
 use Rattle.upp_curve.specs.Curve.{repeated}

@@ -1,0 +1,267 @@
+use super::*;
+use outside::{MemInputs, MemSink};
+use std::alloc::Global;
+use std::fs;
+use std::test::Fail;
+use std::time::{SystemTime, UNIX_EPOCH};
+
+const USAGE: &str =
+    "netcalc: usage: netcalc analyse NET [--json], edit NET EDITS [--json], simulate NET TRACE, exercise N\n";
+
+/// The words of a command line, which are separated by single spaces.
+fn words_in(alloc: Global, line: &str) -> Result<Vec<String>, Fail> {
+    let mut all = Vec::new(alloc);
+    for word in line.split(' ') {
+        all.push(String::from_str(alloc, word)?)?;
+    }
+    Ok(all)
+}
+
+/// What a call with these words does, where `n.toml` holds these bytes: the status, and what is written. So
+/// many first calls of the inputs and of the sink fail.
+fn ask(
+    alloc: Global,
+    line: &str,
+    bytes: &[u8],
+    input_fails: u32,
+    sink_fails: u32,
+) -> Result<(u8, Vec<u8>), Fail> {
+    let words = words_in(alloc, line)?;
+    let mut files = Vec::new(alloc);
+    files.push((
+        String::from_str(alloc, "n.toml")?,
+        Vec::from_slice(alloc, bytes)?,
+    ))?;
+    let mut inputs = MemInputs::new(files, (0..input_fails).collect(alloc)?);
+    let mut out = MemSink::new((0..sink_fails).collect(alloc)?)?;
+    let status = run_counted::<MemInputs, MemSink, Brand>(
+        Blank::new(1),
+        &words,
+        &mut inputs,
+        &mut out,
+    );
+    Ok((status, Vec::from_slice(alloc, out.bytes())?))
+}
+
+/// What a call on `n.toml` does, where it holds this text.
+fn ask_for(alloc: Global, text: &str) -> Result<(u8, Vec<u8>), Fail> {
+    ask(alloc, "netcalc analyse n.toml", text.as_bytes(), 0, 0)
+}
+
+/// A network file of one server and one flow.
+fn network(
+    alloc: Global,
+    rate: &str,
+    latency: &str,
+    packet: &str,
+    bucket: &str,
+) -> Result<String, Fail> {
+    let server = format!(in alloc;
+        "[[server]]\nname = \"s1\"\nrate = {rate}\nservice = {{ kind = \"latency\", latency = {latency} }}\n"
+    )?;
+    Ok(format!(in alloc;
+        "{server}[[flow]]\nname = \"f1\"\npacket = {packet}\narrival = {{ kind = \"bucket\", {bucket} }}\npath = [\"s1\"]\n"
+    )?)
+}
+
+#[test]
+fn one_server_and_one_flow_have_these_bounds(rt: HostRuntime) -> Result<(), Fail> {
+    let alloc = rt.alloc();
+    for (rate, latency, packet, bucket, delay, backlog) in [
+        (
+            "100",
+            "10",
+            "12000",
+            "burst = 12000, rate = 10",
+            "130",
+            "13300",
+        ),
+        (
+            "100",
+            "10",
+            "12000",
+            "burst = 12000, rate = 100",
+            "130",
+            "25000",
+        ),
+        (
+            "100",
+            "10",
+            "12000",
+            "burst = 12000, rate = 101",
+            "unbounded",
+            "unbounded",
+        ),
+        ("100", "10", "12000", "burst = 0, rate = 0", "0", "0"),
+        ("100", "10", "12000", "burst = 0, rate = 1", "10", "130"),
+        ("7", "3", "5", "burst = 9, rate = 2", "30/7", "115/7"),
+        (
+            "16777216",
+            "16777216",
+            "16777216",
+            "burst = 16777216, rate = 16777216",
+            "16777217",
+            "281475010265088",
+        ),
+        (
+            "16777213",
+            "16777216",
+            "16777215",
+            "burst = 16777211, rate = 16777212",
+            "281474943156219/16777213",
+            "4722365075494744883219/16777213",
+        ),
+    ] {
+        let text = network(alloc, rate, latency, packet, bucket)?;
+        let (status, bytes) = ask_for(alloc, text.as_str())?;
+        let flow = format!(in alloc; "flow f1 tfa {delay} sfa {delay} bound {delay}\n")?;
+        let want = format!(in alloc;
+            "servers 1 flows 1\nqueue s1 0 delay {delay} backlog {backlog}\n{flow}"
+        )?;
+        assert_eq!(rt; bytes.as_slice(), want.as_bytes(), "rate {rate} {bucket}");
+        assert_eq!(rt; status, 0, "rate {rate} {bucket}");
+    }
+    Ok(())
+}
+
+#[test]
+fn other_files_are_unsupported(rt: HostRuntime) -> Result<(), Fail> {
+    let alloc = rt.alloc();
+    let good = network(alloc, "100", "10", "12000", "burst = 12000, rate = 10")?;
+    for (old, new) in [
+        ("latency = 10", "latency = 1.5"),
+        ("latency = 10", "latency = -1"),
+        ("latency = 10", "latency = 16777217"),
+        ("rate = 100", "rate = 0"),
+        ("packet = 12000", "packet = 0"),
+        ("packet = 12000", "packet = \"12000\""),
+        ("packet = 12000\n", ""),
+        ("packet = 12000\n", "packet = 12000\ncolour = 1\n"),
+        ("[[server]]", "version = 1\n[[server]]"),
+        ("[[server]]", "[[server"),
+        ("kind = \"latency\"", "kind = \"gate\""),
+        ("kind = \"bucket\"", "kind = \"stair\""),
+        ("[\"s1\"]", "[\"s2\"]"),
+        ("[\"s1\"]", "[\"s1\", \"s1\"]"),
+        ("[\"s1\"]", "[]"),
+        ("name = \"f1\"", "name = \"f 1\""),
+        ("name = \"f1\"", "name = \"\""),
+        (
+            "name = \"f1\"",
+            "name = \"abcdefghijklmnopqrstuvwxyz0123456\"",
+        ),
+    ] {
+        let text = good.replace(alloc, old, new)?;
+        let (status, bytes) = ask_for(alloc, text.as_str())?;
+        assert_eq!(rt;
+            bytes.as_slice(),
+            b"netcalc: unsupported file\n".as_slice(),
+            "{new}"
+        );
+        assert_eq!(rt; status, 10, "{new}");
+    }
+    for bytes in [b"".as_slice(), b"\xff".as_slice(), b"\x00".as_slice()] {
+        let (status, _) = ask(alloc, "netcalc analyse n.toml", bytes, 0, 0)?;
+        assert_eq!(rt; status, 10);
+    }
+    Ok(())
+}
+
+#[test]
+fn words_files_and_sinks_are_refused(rt: HostRuntime) -> Result<(), Fail> {
+    let alloc = rt.alloc();
+    let good = network(alloc, "100", "10", "12000", "burst = 12000, rate = 10")?;
+    // A file of so many bytes of comment, or the good one; and how many calls of the inputs and of the sink fail.
+    for (line, bytes, input_fails, sink_fails, status, text) in [
+        ("", 0, 0, 0, 2, USAGE),
+        ("netcalc", 0, 0, 0, 2, USAGE),
+        ("netcalc analyse", 0, 0, 0, 2, USAGE),
+        ("netcalc analyse n.toml --json", 0, 0, 0, 2, USAGE),
+        ("netcalc analyze n.toml", 0, 0, 0, 2, USAGE),
+        ("netcalc analyse -n.toml", 0, 0, 0, 2, USAGE),
+        ("netcalc analyse ", 0, 0, 0, 2, USAGE),
+        ("netcalc --help", 0, 0, 0, 2, USAGE),
+        ("netcalc analyse", 0, 0, 1, 4, ""),
+        (
+            "netcalc analyse nope.toml",
+            0,
+            0,
+            0,
+            3,
+            "netcalc: cannot read nope.toml\n",
+        ),
+        (
+            "netcalc analyse n.toml",
+            0,
+            1,
+            0,
+            3,
+            "netcalc: cannot read n.toml\n",
+        ),
+        ("netcalc analyse n.toml", 0, 1, 1, 4, ""),
+        ("netcalc analyse n.toml", 0, 0, 1, 4, ""),
+        (
+            "netcalc analyse n.toml",
+            1_048_577,
+            0,
+            0,
+            1,
+            "netcalc: n.toml: too long\n",
+        ),
+        (
+            "netcalc analyse n.toml",
+            1_048_576,
+            0,
+            0,
+            10,
+            "netcalc: unsupported file\n",
+        ),
+    ] {
+        let comment = vec![in alloc; b'#'; bytes]?;
+        let file = if bytes == 0 {
+            good.as_bytes()
+        } else {
+            comment.as_slice()
+        };
+        let (got, written) = ask(alloc, line, file, input_fails, sink_fails)?;
+        assert_eq!(rt; written.as_slice(), text.as_bytes(), "{line}");
+        assert_eq!(rt; got, status, "{line}");
+    }
+    Ok(())
+}
+
+/// What a call does with a file of the machine.
+fn ask_for_file(rt: &HostRuntime, path: &str) -> Result<(u8, Vec<u8>), Fail> {
+    let alloc = rt.alloc();
+    let line = format!(in alloc; "netcalc analyse {path}")?;
+    let words = words_in(alloc, line.as_str())?;
+    let mut inputs = DirInputs::new(*rt);
+    let mut out = MemSink::new(Vec::new(alloc))?;
+    let status = run_counted::<DirInputs<HostRuntime>, MemSink, Brand>(
+        Blank::new(1),
+        &words,
+        &mut inputs,
+        &mut out,
+    );
+    Ok((status, Vec::from_slice(alloc, out.bytes())?))
+}
+
+#[test]
+fn a_file_of_the_machine_is_read(rt: HostRuntime) -> Result<(), Fail> {
+    let alloc = rt.alloc();
+    let now = SystemTime::now(&rt)?.duration_since(UNIX_EPOCH)?.as_nanos();
+    let path = format!(in alloc; "/tmp/netcalc-program-{now}.toml")?;
+    let text = network(alloc, "100", "10", "12000", "burst = 12000, rate = 10")?;
+    fs::write(&rt, path.as_str(), text.as_bytes())?;
+    let (status, bytes) = ask_for_file(&rt, path.as_str())?;
+    fs::remove_file(&rt, path.as_str())?;
+    let want =
+        "servers 1 flows 1\nqueue s1 0 delay 130 backlog 13300\nflow f1 tfa 130 sfa 130 bound 130\n";
+    assert_eq!(rt; bytes.as_slice(), want.as_bytes());
+    assert_eq!(rt; status, 0);
+    let (status, bytes) = ask_for_file(&rt, path.as_str())?;
+    let line = format!(in alloc; "netcalc: cannot read {path}\n")?;
+    assert_eq!(rt; bytes.as_slice(), line.as_bytes());
+    assert_eq!(rt; status, 3);
+    Ok(())
+}

@@ -1,0 +1,10 @@
+pub mod Words
+pub mod Tree
+pub mod Form
+pub mod Spelling
+pub mod View
+pub mod Bounds
+pub mod Guarantee
+pub mod Example
+pub mod Report
+pub mod Reply

@@ -1,0 +1,24 @@
+-- Counts of calls and of faults. They are kept in 64 bits and stay at the last number that fits.
+use Rattle.std.specs.Prelude.{◌≤◌, ◌+◌, ◌-◌, ◌^◌, ◌==◌, min, ℕ, Bool, List}
+use Rattle.std.specs.List.{list_any}
+
+-- one more, or the last number
+abbrev pub counted_up : ℕ → ℕ
+counted_up count = min (count + 1) (2 ^ 64 - 1)
+
+-- A count rose where it is more than before. At the last number it counts as risen.
+abbrev pub Rose : ℕ → ℕ → Type 0
+Rose before now = counted_up before ≤ now
+
+-- the call of this number, from 0, is one of those that fail
+abbrev pub fails_at : List ℕ → ℕ → Bool
+fails_at fail call = list_any (λ number. number == call) fail
+
+-- what is known of a source of files that tells nothing of them: how many fetches failed, and the name at the last
+pub record FetchFaults : Type 0 where
+  pub count : ℕ
+  pub name : List ℕ
+
+-- one fetch more has failed, at this name
+abbrev pub failed_at : FetchFaults → List ℕ → FetchFaults
+failed_at faults name = record { count = counted_up faults.count; name = name }

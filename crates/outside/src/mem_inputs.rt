@@ -1,0 +1,137 @@
+//! Files in memory, which fail at the calls that they are told.
+ghost use Rattle.std.specs.Prelude.{◌≡◌, ◌≤◌, ◌<◌, ◌==◌, ◌↔◌, ◌||◌, false, IsTrue, is_none, [], List, ℕ, Option, None, Some, option_map, length, IfSome, OnOk, OnErr, IsErrOf};
+ghost use Rattle.outside.specs.Faults.{Rose, fails_at, counted_up};
+ghost use Rattle.outside.specs.MemoryFiles.{MemoryFiles, held, files_of, fails_next, called, failed, after_fetch};
+
+use crate::failing::fails_at;
+use crate::inputs::{FetchFault, Inputs, MOST_BYTES};
+use crate::noted::Noted;
+use std::marker::Model;
+
+/// Files by their names, in memory.
+#[derive(Drop)]
+pub struct MemInputs {
+    files: Vec<(String, Vec<u8>)>,
+    fail: Vec<u32>,
+    calls: u64,
+    faults: u64,
+    last: Noted,
+}
+
+impl Model for MemInputs {
+    ghost Value = { MemoryFiles };
+
+    ghost view = { λ s. record { files = files_of s.files.items; fail = s.fail.items; calls = s.calls; faults = s.faults; last_fault = s.last.name } };
+}
+
+/// What the first file of this name holds.
+fn find_file<'a>(files: &'a [(String, Vec<u8>)], name: &str) -> Option<&'a [u8]>
+    ensures { option_map (λ bytes. bytes.now) result ≡ held (files_of files.now) name.now }
+{
+    for file in files {
+        if file.0.as_str() == name {
+            return Some(file.1.as_slice());
+        }
+    }
+    None
+}
+
+impl MemInputs {
+    /// Files of these names. Of two with one name the first counts. `fail` has the numbers of the
+    /// calls of `fetch` that fail, from 0.
+    pub fn new(files: Vec<(String, Vec<u8>)>, fail: Vec<u32>) -> MemInputs
+        ensures { result ≡ record { files = files_of files.items; fail = fail.items; calls = 0; faults = 0; last_fault = [] } }
+    {
+        MemInputs {
+            files,
+            fail,
+            calls: 0,
+            faults: 0,
+            last: Noted::new(),
+        }
+    }
+
+    /// Counts a call, and says whether it is one that fails.
+    fn next_call_fails(&mut self) -> bool
+        ensures answer { result ≡ fails_at self.old.fail self.old.calls }
+        ensures state { self.new ≡ called self.old }
+    {
+        let call = self.calls;
+        self.calls = call.saturating_add(1);
+        fails_at(&self.fail, call)
+    }
+
+    /// Counts a fault at this name.
+    fn refuse(&mut self, name: &str)
+        ensures state { self.new ≡ failed self.old name.now }
+        ensures count { self.old.faults ≤ self.new.faults }
+    {
+        self.faults = self.faults.saturating_add(1);
+        self.last.note(name.as_bytes());
+    }
+
+    /// What the first file of this name holds.
+    fn file(&self, name: &str) -> Option<&[u8]>
+        ensures { option_map (λ bytes. bytes.now) result ≡ held self.now.files name.now }
+    {
+        find_file(&self.files, name)
+    }
+}
+
+/// Copies the bytes of a file, if they are not too many.
+fn copy_file(bytes: &[u8], into: &mut Vec<u8>) -> Result<(), FetchFault>
+    requires { into.old.items ≡ [] }
+    ensures ok { OnOk result (into.new.items ≡ bytes.now) }
+    ensures fits { OnOk result (length bytes.now ≤ MOST_BYTES) }
+    ensures too_long { IsErrOf result FetchFault.TooLong ↔ (MOST_BYTES < length bytes.now) }
+    ensures failed { IsErrOf result FetchFault.Failed → ⊥ }
+    ensures err { OnErr result (into.new.items ≡ []) }
+{
+    if bytes.len() > MOST_BYTES {
+        return Err(FetchFault::TooLong);
+    }
+    match into.extend_from_slice(bytes) {
+        Ok(()) => Ok(()),
+        Err(_) => Err(FetchFault::NoMemory),
+    }
+}
+
+impl Inputs for MemInputs {
+    ghost content = { λ s name. held s.files name };
+
+    ghost faults = { λ s. s.faults };
+
+    ghost last_fault = { λ s. s.last_fault };
+
+    fn fetch(&mut self, name: &str, into: &mut Vec<u8>) -> Result<(), FetchFault>
+        ensures bytes { OnOk result (IfSome (held self.old.files name.now) (λ bytes. into.new.items ≡ bytes)) }
+        ensures fits { OnOk result (length into.new.items ≤ MOST_BYTES) }
+        ensures too_long { IsErrOf result FetchFault.TooLong → IfSome (held self.old.files name.now) (λ bytes. MOST_BYTES < length bytes) }
+        ensures failed { IsErrOf result FetchFault.Failed → Rose self.old.faults self.new.faults }
+        ensures failed_name { IsErrOf result FetchFault.Failed → self.new.last_fault ≡ name.now }
+        ensures count { self.old.faults ≤ self.new.faults }
+        ensures same { (other : List ℕ) → held self.new.files other ≡ held self.old.files other }
+        ensures err { OnErr result (into.new.items ≡ []) }
+
+        // It fails at the calls that it was told, and at a name that it lacks, and nowhere else.
+        ensures told { IsErrOf result FetchFault.Failed ↔ IsTrue (fails_next self.old name.now) }
+
+        // Where it does not fail, a file with too many bytes is too long, and no other.
+        ensures long { fails_next self.old name.now ≡ false → IfSome (held self.old.files name.now) (λ bytes. IsErrOf result FetchFault.TooLong ↔ (MOST_BYTES < length bytes)) }
+
+        ensures state { self.new ≡ after_fetch self.old name.now }
+    {
+        into.clear();
+        if self.next_call_fails() {
+            self.refuse(name);
+            return Err(FetchFault::Failed);
+        }
+        match self.file(name) {
+            Some(bytes) => copy_file(bytes, into),
+            None => {
+                self.refuse(name);
+                Err(FetchFault::Failed)
+            }
+        }
+    }
+}

@@ -1,0 +1,57 @@
+ghost use Rattle.run_laws.specs.Laws.{ServerIsServed, FifoQueueIsServed, PacketsAreServed, DelayFromService, BacklogFromService, OutputFromService, PartOutputFromService, OutputFromDelay, ViewsAreLawful, OneFlowIsBounded, SeveralFlowsAreBounded};
+
+/// A server's curve serves the server as a whole.
+pub fn server_is_served()
+    ensures { ServerIsServed }
+{}
+
+/// The curve of a first in, first out server serves its queue.
+pub fn fifo_queue_is_served()
+    ensures { FifoQueueIsServed }
+{}
+
+/// A curve that serves a class of packets serves, less one packet, its whole packets.
+pub fn packets_are_served()
+    ensures { PacketsAreServed }
+{}
+
+/// No packet of a class of one queue stays longer than the horizontal deviation of its curves.
+pub fn delay_from_service()
+    ensures { DelayFromService }
+{}
+
+/// The backlog of a class is at most the vertical deviation of its curves, whole packets counted.
+pub fn backlog_from_service()
+    ensures { BacklogFromService }
+{}
+
+/// What leaves in a closed window is at most the deconvolution of the curves, whole packets counted.
+pub fn output_from_service()
+    ensures { OutputFromService }
+{}
+
+/// A part of a queue leaves with its own curve, moved left by the horizontal deviation of the queue.
+pub fn part_output_from_service()
+    ensures { PartOutputFromService }
+{}
+
+/// Where no packet of a class of one queue stays longer than d, it leaves with its arrival curve, moved left by d.
+pub fn output_from_delay()
+    ensures { OutputFromDelay }
+{}
+
+/// What each server sees of a lawful run is a lawful view.
+pub fn views_are_lawful()
+    ensures { ViewsAreLawful }
+{}
+
+/// One flow over a first in, first out server: no delay and no backlog passes the two deviations.
+pub fn one_flow_is_bounded()
+    ensures { OneFlowIsBounded }
+{}
+
+/// Several flows that enter at a first in, first out server: no delay and no backlog passes the two deviations of the
+/// sum of their curves.
+pub fn several_flows_are_bounded()
+    ensures { SeveralFlowsAreBounded }
+{}
