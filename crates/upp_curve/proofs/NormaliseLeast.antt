@@ -5,7 +5,8 @@ use Rattle.std.proofs.lemmas.List.{length-append}
 use Rattle.std.proofs.lemmas.Bool.{cases_lt}
 use Prim.Native.Nat.{◌∣◌}
 use native.Mathlib.Nat.{dvd_trans, dvd_of_mul-dvd-mul_left, mul-div_cancel', le_of_dvd, dvd-mul_right, dvd-mul_left, dvd_of_mod-eq-zero, mod-eq-zero_of_dvd, dvd_refl, mul-pos}
-use Rattle.rational.specs.Gcd.{gcd, gcd_is, divides_other, gcd_pos}
+use Rattle.rational.specs.Gcd.{gcd}
+use Rattle.rational.specs.Euclid.{gcd_is, divides_other, gcd_pos}
 use Rattle.rational.specs.Rational.{ℚ, ◌+ℚ◌, ◌*ℚ◌, ◌/ℚ◌, ◌≤ℚ◌, ◌<ℚ◌, int}
 use Rattle.rational.specs.Grid.{Whole}
 use Rattle.rational.proofs.Integers.{nat_lt, nat_nonneg}

@@ -5,7 +5,8 @@ use Rattle.std.proofs.Common.{arith, sym, ap, ◌∙◌, refl, subst, true≢fal
 use Prim.Native.Nat.{◌∣◌}
 use native.Mathlib.Nat.{mod-eq-zero_of_dvd}
 use Rattle.std.proofs.lemmas.Int.{ints}
-use Rattle.rational.specs.Rational.{ℚ, ◌*ℚ◌, ◌/ℚ◌, ◌<ℚ◌, int, frac, frac_self, frac-same, frac_is, abs-mul, den, both}
+use Rattle.rational.specs.Rational.{ℚ, ◌*ℚ◌, ◌/ℚ◌, ◌<ℚ◌, int, frac, den, both}
+use Rattle.rational.specs.Fractions.{frac_self, frac-same, frac_is, abs-mul}
 use Rattle.rational.specs.Ints.{mul_assoc_z}
 use Rattle.rational.specs.Ratio.{IsSmall}
 use Rattle.rational.specs.Grid.{Whole}
