@@ -51,3 +51,17 @@ pub mod Finite
 pub mod PieceLoops
 pub mod CurveShapes
 pub mod LineRising
+pub mod NormaliseLoops
+pub mod NormaliseLists
+pub mod NormaliseMerge
+pub mod NormaliseCuts
+pub mod NormalisePeriods
+pub mod NormaliseBreaks
+pub mod NormaliseShape
+pub mod NormaliseRank
+pub mod NormaliseCopies
+pub mod NormaliseShare
+pub mod NormaliseGoes
+pub mod NormaliseDivided
+pub mod NormaliseLeast
+pub mod NormaliseForm

@@ -4,21 +4,27 @@
 mod counts;
 mod curve;
 mod curve_numbers;
+mod cycle;
 mod gathered;
 mod gauges;
 mod known;
 mod laws;
+mod least_period;
 mod long;
+mod lowest_rank;
+mod merging;
+mod normalise;
 mod op_kind;
 mod own_window;
 mod reading;
 mod same;
 mod seen;
+mod shape;
 mod start_counts;
 mod starts;
-mod shape;
 #[cfg(test)]
 mod tests;
+mod two_periods;
 
 pub use curve::{Curve, Tail, equal};
 pub use laws::{

@@ -42,7 +42,7 @@ pub(crate) fn piece_at(pieces: &[Piece], t: Frac) -> Piece
     pieces[count - 1]
 }
 
-fn piece_value(p: &Piece, t: Frac) -> Result<Ext, Wide>
+pub(crate) fn piece_value(p: &Piece, t: Frac) -> Result<Ext, Wide>
     ensures value { IfOk result (λ v. v ≡ piece_value p.now t) }
     ensures wide { IfErr result (IsWideLine p.now.line t) }
 {
