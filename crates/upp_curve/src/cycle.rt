@@ -3,12 +3,10 @@
 ghost use Rattle.std.specs.Prelude.{IfOk};
 ghost use Rattle.upp_curve.specs.Normalising.{IsTwoPeriods, IsShape};
 
-use std::cmp::Ordering;
-
-use fraction128::{Frac, Wide};
-
 use crate::two_periods::{count_before, first_past};
 use affine_segment::Piece;
+use fraction128::{Frac, Wide};
+use std::cmp::Ordering;
 
 /// A periodic curve none of whose pieces goes on with the one before it: `first` pieces start before the rank, and one at it.
 #[derive(Drop)]

@@ -6,12 +6,11 @@ ghost use Rattle.rational.specs.Rational.{int, ◌/ℚ◌};
 ghost use Rattle.rational.specs.Grid.{Whole};
 ghost use Rattle.upp_curve.specs.Normalising.{GoesOn, IsTurning, IsDivided, IsLeast, OnGrids, cycle_values, turn_count};
 
-use fraction128::{Frac, Wide};
-
 use crate::cycle::Cycle;
 use crate::merging::later;
 use crate::same::same_piece;
 use affine_segment::Piece;
+use fraction128::{Frac, Wide};
 
 // The share where it is a whole multiple of 1 / grid.
 fn share(whole: Frac, parts: usize, grid: u128) -> Option<Frac>

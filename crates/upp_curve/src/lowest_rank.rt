@@ -8,15 +8,13 @@ ghost use Rattle.upp_curve.specs.Curve.{repeated};
 ghost use Rattle.upp_curve.specs.Unrolled.{upto};
 ghost use Rattle.upp_curve.specs.Normalising.{IsCycle, IsLowest, Lowers, RepeatsIn, cut_last};
 
-use std::cmp::Ordering;
-
-use fraction128::{Frac, Wide};
-
 use crate::cycle::Cycle;
 use crate::merging::later;
 use crate::reading::piece_value;
 use crate::same::{same_ext, same_lines};
 use affine_segment::Piece;
+use fraction128::{Frac, Wide};
+use std::cmp::Ordering;
 
 // The time a period after the start of p, where p's values repeat in the piece `last`.
 fn repeats_in(p: &Piece, last: &Piece, period: Frac, rise: Frac) -> Result<Option<Frac>, Wide>

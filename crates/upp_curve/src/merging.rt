@@ -5,12 +5,11 @@ ghost use Rattle.upp_curve.specs.Normal.{Continues, RisesFrom, StartsAtZero};
 ghost use Rattle.upp_curve.specs.Unrolled.{line_later, later};
 ghost use Rattle.upp_curve.specs.Normalising.{IsMerged};
 
-use std::alloc::{AllocError, AllocFailed, Global};
-
-use fraction128::{Frac, Wide};
 use crate::reading::{line_value, raised};
 use crate::same::{same_ext, same_lines};
 use affine_segment::{Line, Piece};
+use fraction128::{Frac, Wide};
+use std::alloc::{AllocError, AllocFailed, Global};
 
 /// Why no normal form was made.
 #[derive(Debug, Drop)]

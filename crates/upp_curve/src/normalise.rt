@@ -6,10 +6,6 @@ ghost use Rattle.upp_curve.specs.Curve.{repeated, value_at};
 ghost use Rattle.upp_curve.specs.Normal.{StartsAtZero, NoMerge, FitsPeriod, IsRaw};
 ghost use Rattle.upp_curve.specs.Normalising.{IsTwoPeriods, IsTurning, IsFormOf, OnGrids, OnGridsUnlessLine, TailOnGrids, cycle_values, raw_curve};
 
-use std::alloc::Global;
-
-use fraction128::{Frac, Wide};
-
 use crate::curve::Tail;
 use crate::cycle::{Cycle, Shape, shape_of};
 use crate::least_period::least_period;
@@ -17,6 +13,8 @@ use crate::lowest_rank::lowest_rank;
 use crate::merging::{Unmade, merged};
 use crate::two_periods::{ended, two_periods};
 use affine_segment::Piece;
+use fraction128::{Frac, Wide};
+use std::alloc::Global;
 
 /// A curve in any form: its first piece starts at 0, starts rise, and the rank is 0 or more. Of a periodic tail the period is
 /// above 0 and all starts are below rank + period; of any other tail all starts are at most the rank.

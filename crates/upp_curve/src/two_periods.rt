@@ -6,14 +6,12 @@ ghost use Rattle.upp_curve.specs.Normal.{StartsAtZero};
 ghost use Rattle.upp_curve.specs.Unrolled.{upto};
 ghost use Rattle.upp_curve.specs.Normalising.{cut_at, second_copy, ended, past, first_start};
 
-use std::alloc::Global;
-use std::cmp::Ordering;
-
-use fraction128::{Frac, Wide};
-
 use crate::merging::{Unmade, later};
 use crate::reading::{piece_at, piece_value, read};
 use affine_segment::Piece;
+use fraction128::{Frac, Wide};
+use std::alloc::Global;
+use std::cmp::Ordering;
 
 // The piece that starts at t where the one that is read there is cut.
 fn cut_at(pieces: &[Piece], t: Frac) -> Result<Piece, Wide>

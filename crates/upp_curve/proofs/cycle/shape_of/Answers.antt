@@ -29,7 +29,7 @@ returns c =
       refl,
       refl,
       turns_at ps c.args.rank c.args.period c.args.rise start c.in_ok-end.end until c.count_before-first.result c.truncate-2.new.self.items c.requires s
-      c.in_ok-end.ensures.value (cmp_not_greater start c.in_ok-end.end (λ k. c.in_default-cmp.not-Greater (c.cmp.ensures.is ∙ k)))
-      c.in_ok-until.ensures.value (c.count_before-first.ensures ∙ ap (λ ps. length (upto start ps)) c.deref-2.ensures.value)
-      (taken_is until ps c.deref-3.result.now c.truncate-2.new.self.items c.count_before-count.result c.truncate-2.ensures.items c.count_before-count.ensures c.deref-3.ensures.value),
+          c.in_ok-end.ensures.value (cmp_not_greater start c.in_ok-end.end (λ k. c.in_default-cmp.not-Greater (c.cmp.ensures.is ∙ k)))
+          c.in_ok-until.ensures.value (c.count_before-first.ensures ∙ ap (λ ps. length (upto start ps)) c.deref-2.ensures.value)
+          (taken_is until ps c.deref-3.result.now c.truncate-2.new.self.items c.count_before-count.result c.truncate-2.ensures.items c.count_before-count.ensures c.deref-3.ensures.value),
     )
