@@ -16,7 +16,6 @@ pub mod Kinds
 pub mod Service
 pub mod BucketBounds
 pub mod WorkedRows
-<<<<<<< HEAD
 pub mod Periods
 pub mod Spans
 pub mod Limits
@@ -28,6 +27,4 @@ pub mod Gathered
 pub mod Seen
 pub mod ClosedForm
 pub mod OwnWindow
-=======
 pub mod Normalising
->>>>>>> 97af9cb13d6e674b8f804686d7d5e63cdfe12e0d
