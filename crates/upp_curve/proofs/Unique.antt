@@ -37,7 +37,7 @@ starts_same k r l q s h e =
 make_line : ℚ → ℚ → Line
 make_line k r = record { icept = k; slope = r }
 
-lines_at_two : (l m : Option Line) (s t : ℚ) → s <ℚ t → line_value l s ≡ line_value m s → line_value l t ≡ line_value m t → l ≡ m
+pub lines_at_two : (l m : Option Line) (s t : ℚ) → s <ℚ t → line_value l s ≡ line_value m s → line_value l t ≡ line_value m t → l ≡ m
 lines_at_two None None s t h e f = refl
 lines_at_two None (Some m) s t h e f = absurd (no_inf (sym e))
 lines_at_two (Some l) None s t h e f = absurd (no_inf e)
