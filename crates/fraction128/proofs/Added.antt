@@ -1,21 +1,21 @@
 -- The sum of two fractions in lowest terms over the least common denominator: what it still has in common with
 -- that denominator divides what the two denominators have in common.
-use Rattle.std.specs.Prelude.{◌≡◌, ℕ, zero, suc, ◌+◌, ◌*◌, ◌-◌, ◌/◌, ◌<◌, ◌≤◌, ◌^◌, ℤ, pos, negsuc, ◌+ℤ◌, ◌*ℤ◌, unsigned_abs}
+use Rattle.std.specs.Prelude.{◌≡◌, ℕ, suc, ◌+◌, ◌*◌, ◌-◌, ◌/◌, ◌<◌, ◌≤◌, ◌^◌, ℤ, pos, negsuc, ◌+ℤ◌, ◌*ℤ◌, unsigned_abs}
 use Rattle.std.proofs.Common.{arith, sym, ap, ap₂, ◌∙◌, subst, refl, ◌⊎◌, inl, inr}
 use Rattle.std.proofs.lemmas.Bool.{cases_lt}
 use Rattle.std.proofs.lemmas.Int.{ints}
 use Prim.Native.Nat.{◌∣◌}
-use native.Mathlib.Nat.{div-mul_cancel, mul-pos, zero-lt-suc, mul_assoc, dvd_trans, dvd-mul_left, dvd_refl, dvd-add, dvd-sub, div-le_self, mul-le-mul_left, mul-div_cancel}
+use native.Mathlib.Nat.{div-mul_cancel, mul-pos, mul_assoc, dvd_trans, dvd-mul_left, dvd_refl, dvd-add, dvd-sub, div-le_self, mul-le-mul_left, mul-div_cancel}
 use Rattle.rational.specs.Gcd.{gcd}
 use Rattle.rational.specs.Euclid.{gcd_is, gcd_pos, lowest_after}
 use Rattle.rational.specs.Rational.{ℚ, ◌+ℚ◌}
-use Rattle.rational.specs.Lowest.{abs-neg}
+use Rattle.rational.specs.Fractions.{abs-mul}
 use Rattle.rational.specs.Ratio.{ratio, with_sign, PartsFit, SumFits}
 use Rattle.rational.proofs.Parts.{sign_abs, reduced_ratio}
 use Rattle.rational.proofs.Lcd.{lcd_ratio}
 use Rattle.fraction128.specs.Parts.{AreLowest}
-use Rattle.fraction128.proofs.Coprime.{coprime_in, coprime_out, coprime_turned, coprime_parts, coprime_mul, divides_rest, part_divides}
-use Rattle.fraction128.proofs.Values.{parts_of}
+use Rattle.fraction128.proofs.Coprime.{coprime_in, coprime_out, coprime_turned, coprime_parts, coprime_mul, divides_rest, factor_some, part_divides}
+use Rattle.fraction128.proofs.Values.{parts_of, one_sign}
 
 -- a divisor of a sum and of one part divides the other
 other_part : (x y : ℤ) (k : ℕ) → k ∣ unsigned_abs (x +ℤ y) → k ∣ unsigned_abs y → k ∣ unsigned_abs x
@@ -41,32 +41,20 @@ other_part x y k p q =
     pick x t y (inr (inl e)) p q = rw e (dvd-sub k p q)
     pick x t y (inr (inr e)) p q = rw e (dvd-sub k q p)
 
-abs_mul : (b : ℤ) (k : ℕ) → unsigned_abs (b *ℤ pos k) ≡ unsigned_abs b * k
-abs_mul (pos n) k = refl
-abs_mul (negsuc n) k = abs-neg (suc n * k)
-
 -- a v + b u has nothing in common with u, where a has nothing in common with it and v neither
 cross_lowest : (a b : ℤ) (u v : ℕ) → gcd (unsigned_abs a) u ≡ 1 → gcd u v ≡ 1 → gcd (unsigned_abs (a *ℤ pos v +ℤ b *ℤ pos u)) u ≡ 1
 cross_lowest a b u v p q =
     coprime_in _ u (λ k r s.
-    let by_right : k ∣ unsigned_abs (b *ℤ pos u) = rw (abs_mul b u) (dvd_trans k s (dvd-mul_left u (unsigned_abs b))) in
-    let by_left : k ∣ unsigned_abs a * v = subst (λ n. k ∣ n) (abs_mul a v) (other_part (a *ℤ pos v) (b *ℤ pos u) k r by_right) in
+    let by_right : k ∣ unsigned_abs (b *ℤ pos u) = rw (abs-mul b u) (dvd_trans k s (dvd-mul_left u (unsigned_abs b))) in
+    let by_left : k ∣ unsigned_abs a * v = subst (λ n. k ∣ n) (abs-mul a v) (other_part (a *ℤ pos v) (b *ℤ pos u) k r by_right) in
     let by_v : k ∣ v = divides_rest (unsigned_abs a) v k (coprime_parts (unsigned_abs a) u (unsigned_abs a) k p (dvd_refl (unsigned_abs a)) s) by_left in
     coprime_out u v k q s by_v)
 
 sum_turned : (x y : ℤ) → x +ℤ y ≡ y +ℤ x
 sum_turned x y = omega (arith, ints)
 
-some_of : (q g n : ℕ) → q * g ≡ n → 0 < n → 0 < q
-some_of zero g n e h = absurd (omega arith)
-some_of (suc q) g n e h = zero-lt-suc q
-
 quotient_of : (q h n : ℕ) → 0 < h → q * h ≡ n → n / h ≡ q
 quotient_of q h n some e = rw (← e) (mul-div_cancel q some)
-
-one_sign : (t : ℤ) (m : ℕ) (n : ℕ) → 0 < m → with_sign t (pos 1) n ≡ with_sign t (pos m) n
-one_sign (pos t) m n some = refl
-one_sign (negsuc t) m n some = refl
 
 -- n and m are the size of the numerator t and the denominator of the sum in lowest terms
 pub record IsSum (a : ℤ) (d : ℕ) (b : ℤ) (e : ℕ) (t : ℤ) (n m : ℕ) : Type 0 where
@@ -85,14 +73,14 @@ sum_sizes a b d e u v g h t p q g_is u_is v_is t_is h_is =
     let ud : u * g ≡ d = rw (u_is, g_is) (div-mul_cancel _ (gcd_is d e).0) in
     let ve : v * g ≡ e = rw (v_is, g_is) (div-mul_cancel _ (gcd_is d e).1) in
     let uv : gcd u v ≡ 1 = rw (u_is, v_is, g_is) (lowest_after d e q.some) in
-    let some_u : 0 < u = some_of u g d ud p.some in
-    let some_v : 0 < v = some_of v g e ve q.some in
+    let some_u : 0 < u = factor_some u g d ud p.some in
+    let some_v : 0 < v = factor_some v g e ve q.some in
     let f = g / h in
     let fg : f * h ≡ g = rw h_is (div-mul_cancel _ (gcd_is s g).1) in
     let ns : s / h * h ≡ s = rw h_is (div-mul_cancel _ (gcd_is s g).0) in
     let back : v * f * h ≡ e = nested v f h g e fg ve in
     let eh : e / h ≡ v * f = quotient_of (v * f) h e some_h back in
-    let some_f : 0 < f = some_of f h g fg some_g in
+    let some_f : 0 < f = factor_some f h g fg some_g in
     let some : 0 < u * (e / h) = rw eh (mul-pos some_u (mul-pos some_v some_f)) in
     let to_u : gcd s u ≡ 1 = rw t_is (cross_lowest a b u v (coprime_parts (unsigned_abs a) d (unsigned_abs a) u p.lowest (dvd_refl (unsigned_abs a)) (part_divides d u g ud)) uv) in
     let t_turned : t ≡ b *ℤ pos u +ℤ a *ℤ pos v = t_is ∙ sum_turned (a *ℤ pos v) (b *ℤ pos u) in
@@ -107,7 +95,7 @@ sum_sizes a b d e u v g h t p q g_is u_is v_is t_is h_is =
     record {
       some = some;
       lowest = rw eh (coprime_mul n u (v * f) n_u (coprime_mul n v f n_v n_f));
-      value = ap (λ z. ratio z (pos (u * (e / h)))) (one_sign t (u * e) n whole)
+      value = ap (λ z. ratio z (pos (u * (e / h)))) (one_sign t (u * e) n)
           ∙ reduced_ratio t (pos (u * e)) n (u * (e / h)) h (λ z. omega (arith, ints, z, whole)) ns up
           ∙ ap (λ z. ratio z (pos (u * e))) t_is
           ∙ lcd_ratio a b u v g d e (u * e) (sym ud) (sym ve) refl p.some q.some whole;

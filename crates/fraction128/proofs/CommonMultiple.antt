@@ -17,7 +17,7 @@ use Rattle.rational.proofs.Multiples.{lcm_pos, lcm_left, lcm_right, lcm_least}
 use Rattle.fraction128.specs.Parts.{AreLowest}
 use Rattle.fraction128.specs.Multiple.{IsMultiple, IsLeastMultiple, common_multiple}
 use Rattle.fraction128.proofs.Coprime.{coprime_in, coprime_out, coprime_parts, coprime_turned, divides_rest, part_divides}
-use Rattle.fraction128.proofs.Values.{value_parts, parts_of}
+use Rattle.fraction128.proofs.Values.{value_parts, parts_of, num_above_q}
 
 -- the least common multiple of the numerators has nothing in common with the common divisor of the denominators
 pub multiple_lowest : (p q r s : ℕ) → gcd p q ≡ 1 → gcd r s ≡ 1 → gcd (lcm p r) (gcd q s) ≡ 1
@@ -108,12 +108,6 @@ multiple_law p q r s m g one_a one_b pm rm gq gs all_m all_g some =
     least_of x h w = at_least_one x (frac (pos m) g) w.times h (le_of_lt ((lt_frac (pos 0) 0 (pos m) g).1 (omega (arith, ints)))) w.is
 
 -- ---- the law of two values
-pub num_some : (n : ℤ) (d : ℕ) (x : ℚ) → AreLowest n d → ratio n (pos d) ≡ x → int (pos 0) <ℚ x → pos 0 <ℤ n
-num_some n d x h e l =
-    let parts = parts_of n d x h e in
-    let r = (lt_frac (pos 0) 0 x.num x.pre).0 (subst (λ y. int (pos 0) <ℚ y) (frac_self x) l) in
-    omega (arith, ints, r, parts.0)
-
 pub common_multiple_is : (a b : ℤ) (d e : ℕ) (x y : ℚ) (p r : ℕ) → AreLowest a d → AreLowest b e → ratio a (pos d) ≡ x → ratio b (pos e) ≡ y → p ≡ unsigned_abs a → r ≡ unsigned_abs b
     → over (pos (lcm p r)) (gcd d e) ≡ common_multiple x y
 unfolding common_multiple
@@ -134,14 +128,11 @@ numbers_least (pos p) (pos r) q s (suc g) one_a one_b h k e =
     multiple_law p q r s (lcm p r) g one_a one_b (lcm_left p r) (lcm_right p r) (subst (λ n. n ∣ suc q) (sym e) is.0) (subst (λ n. n ∣ suc s) (sym e) is.1)
     (λ n u v. lcm_least p r n some_p some_r u v) (λ d u v. subst (λ n. d ∣ n) (sym e) (is.2 d u v)) (lcm_pos p r some_p some_r)
 
-num_above : (x : ℚ) → int (pos 0) <ℚ x → pos 0 <ℤ x.num
-num_above x l = let r = (lt_frac (pos 0) 0 x.num x.pre).0 (subst (λ y. int (pos 0) <ℚ y) (frac_self x) l) in omega (arith, ints)
-
 pub common_multiple_least : (x y : ℚ) → int (pos 0) <ℚ x → int (pos 0) <ℚ y → IsLeastMultiple x y (common_multiple x y)
 unfolding common_multiple
 common_multiple_least x y h k =
     let m = over (pos (lcm (nat_abs x.num) (nat_abs y.num))) (gcd (den x) (den y)) in
-    let by_numbers = numbers_least x.num y.num x.pre y.pre _ x.lowest y.lowest (num_above x h) (num_above y k) refl in
+    let by_numbers = numbers_least x.num y.num x.pre y.pre _ x.lowest y.lowest (num_above_q x h) (num_above_q y k) refl in
     subst (λ v. IsLeastMultiple x v m) (sym (frac_self y)) (subst (λ v. IsLeastMultiple v (frac y.num y.pre) m) (sym (frac_self x)) by_numbers)
 
 pub multiple_as_lowest : (p q r s t g : ℕ) → AreLowest (pos p) q → AreLowest (pos r) s → t ≡ lcm p r → g ≡ gcd q s → t < 2 ^ 127 → AreLowest (pos t) g

@@ -1,11 +1,8 @@
 -- Two fractions compare as their whole parts do, and where these are equal as what is left over them.
-use Rattle.std.specs.Prelude.{◌≡◌, ◌≢◌, ℕ, zero, suc, ◌+◌, ◌*◌, ◌/◌, ◌%◌, ◌<◌, ◌≤◌, ℤ, pos, negsuc, ◌≤ℤ◌, unsigned_abs}
-use Rattle.std.proofs.Common.{arith, sym, ap, ◌∙◌, subst, refl, nat_cmp, int_cmp, Less, Equal, Greater}
-use Rattle.std.specs.Prelude.{◌-◌, ◌<ℤ◌, ◌+ℤ◌, ◌*ℤ◌, ◌⊎◌}
-use Rattle.std.proofs.Common.{inl, inr}
-use Rattle.std.specs.Prelude.{◌-ℤ◌, false}
+use Rattle.std.specs.Prelude.{◌≡◌, ◌≢◌, ◌⊎◌, ◌↔◌, Bool, true, false, IsTrue, ℕ, zero, suc, ◌+◌, ◌-◌, ◌*◌, ◌/◌, ◌%◌, ◌<◌, ◌≤◌}
+use Rattle.std.specs.Prelude.{ℤ, pos, negsuc, ◌+ℤ◌, ◌-ℤ◌, ◌*ℤ◌, ◌≤ℤ◌, ◌<ℤ◌, unsigned_abs}
+use Rattle.std.proofs.Common.{arith, sym, ap, ◌∙◌, subst, refl, inl, inr, nat_cmp, int_cmp, Less, Equal, Greater}
 use lib.Signed.{le_z}
-use Rattle.std.specs.Prelude.{◌↔◌, Bool, true, IsTrue}
 use Rattle.std.specs.Ordering.{is_eq}
 use Rattle.std.specs.Cmp.{both_ways, Equal-is}
 use Rattle.std.proofs.lemmas.Bool.{cases_lt}
@@ -14,6 +11,7 @@ use native.Mathlib.Nat.{div-add-mod, div-add-mod', mod-lt, mul-le-mul_right, mul
 use Rattle.rational.specs.Ints.{diffs, diff_is, diff_same, le_scale_z, lt_scale_z}
 use Rattle.rational.specs.Rational.{ℚ}
 use Rattle.rational.specs.Ratio.{ratio, cmp_q}
+use Rattle.rational.proofs.Floor.{one_more}
 use Rattle.rational.proofs.Comparison.{cmp_equal, cmp_self}
 use Rattle.fraction128.specs.Order.{same_q}
 use Rattle.fraction128.specs.Parts.{AreLowest, IsWholeAndRest}
@@ -93,9 +91,6 @@ scaled_turned b g d e s p = rw (p, diff_is g) (simp diffs (diff_same _ _ _ _ (om
 pub rest_cmp : (a b f g : ℤ) (d e r s : ℕ) → IsWholeAndRest a d f r → IsWholeAndRest b e g s → f ≡ g → int_cmp (a *ℤ pos e) (b *ℤ pos d) ≡ nat_cmp (r * e) (s * d)
 rest_cmp a b f g d e r s p q h =
     int_cmp_shift _ _ (f *ℤ pos (d * e)) (r * e) (s * d) (scaled a f d e r p.is) (scaled_turned b g d e s q.is ∙ ap (λ z. z *ℤ pos (d * e) +ℤ pos (s * d)) (sym h))
-
-one_more : (f : ℤ) (n : ℕ) → (f +ℤ pos 1) *ℤ pos n ≡ f *ℤ pos n +ℤ pos n
-one_more f n = rw (diff_is f) (simp diffs (diff_same _ _ _ _ (omega arith)))
 
 int_whole_less : (a b f g : ℤ) (d e r s : ℕ) → IsWholeAndRest a d f r → IsWholeAndRest b e g s → f <ℤ g → (a *ℤ pos e) <ℤ (b *ℤ pos d)
 int_whole_less a b f g d e r s p q h =

@@ -1,6 +1,6 @@
 -- Numbers that have no common divisor but 1.
-use Rattle.std.specs.Prelude.{◌≡◌, ℕ, zero, suc, ◌*◌}
-use Rattle.std.proofs.Common.{◌∙◌, subst}
+use Rattle.std.specs.Prelude.{◌≡◌, ◌⊎◌, ℕ, zero, suc, ◌*◌, ◌<◌}
+use Rattle.std.proofs.Common.{arith, inl, inr, ◌∙◌, subst}
 use Prim.Native.Nat.{◌∣◌}
 use native.Mathlib.Nat.{zero-lt-suc, one-dvd, dvd_trans, dvd-zero, dvd-mul_right, dvd_refl}
 use Rattle.rational.specs.Gcd.{gcd}
@@ -17,6 +17,10 @@ gcd_comm a b = gcd_unique a b (gcd b a) (let is = gcd_is b a in (is.1, is.0, λ 
 
 pub gcd_one : (a : ℕ) → gcd a 1 ≡ 1
 gcd_one a = coprime_in a 1 (λ k p q. q)
+
+pub gcd_with_one : (a b : ℕ) → (a ≡ 1) ⊎ ((a ≡ 1 → ⊥) × (b ≡ 1)) → gcd a b ≡ 1
+gcd_with_one a b (inl e) = rw e (gcd_comm 1 b ∙ gcd_one b)
+gcd_with_one a b (inr e) = rw e.1 (gcd_one a)
 
 pub gcd_self : (a : ℕ) → gcd a a ≡ a
 gcd_self a = gcd_unique a a a (dvd_refl a, dvd_refl a, λ d p q. p)
@@ -37,5 +41,11 @@ pub coprime_mul : (n a b : ℕ) → gcd n a ≡ 1 → gcd n b ≡ 1 → gcd n (a
 coprime_mul n a b p q =
     coprime_in n (a * b) (λ k r s. coprime_out n b k q r (divides_rest a b k (coprime_turned k a (coprime_parts n a k a p r (dvd_refl a))) s))
 
+-- a factor of a number above 0 is above 0
+pub factor_some : (q g n : ℕ) → q * g ≡ n → 0 < n → 0 < q
+factor_some zero g n e h = absurd (omega arith)
+factor_some (suc q) g n e h = zero-lt-suc q
+
+-- a factor divides
 pub part_divides : (n q g : ℕ) → q * g ≡ n → q ∣ n
 part_divides n q g e = subst (λ m. q ∣ m) e (dvd-mul_right q g)

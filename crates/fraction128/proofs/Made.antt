@@ -1,15 +1,17 @@
 -- What `Frac::new` computes from its two numbers: the sizes, their greatest common divisor and the quotients.
-use Rattle.std.specs.Prelude.{◌≡◌, ◌≢◌, ℕ, zero, suc, ◌*◌, ◌/◌, ◌<◌, ◌^◌, ℤ, pos, negsuc, unsigned_abs}
+use Rattle.std.specs.Prelude.{◌≡◌, ◌≢◌, ℕ, ◌*◌, ◌/◌, ◌<◌, ◌^◌, ℤ, pos, unsigned_abs}
 use Rattle.std.proofs.Common.{arith, ap, ◌∙◌, refl, SFits, to_z, of_z, to_z-of_z}
 use mir.Syntax.{w128}
 use Rattle.std.proofs.lemmas.Int.{ints}
-use native.Mathlib.Nat.{div-mul_cancel, div-le_self, zero-lt-suc}
+use native.Mathlib.Nat.{div-mul_cancel, div-le_self}
 use Rattle.rational.specs.Gcd.{gcd}
 use Rattle.rational.specs.Euclid.{gcd_is, gcd_pos}
 use Rattle.rational.specs.Rational.{den}
 use Rattle.rational.specs.Ratio.{ratio, with_sign, IsSmall}
 use Rattle.rational.proofs.Parts.{ratio_parts, reduced_ratio, reduced_lowest, sign_abs, abs_some}
 use Rattle.fraction128.specs.Parts.{AreLowest}
+use Rattle.fraction128.proofs.Coprime.{factor_some}
+use Rattle.fraction128.proofs.Values.{one_sign}
 
 pub record Made (a b : ℤ) (s t g : ℕ) : Type 0 where
   pub nonzero : b ≢ pos 0
@@ -51,11 +53,7 @@ small_out a b s t g m h =
 
 pub bottom_some : (a b : ℤ) (s t g : ℕ) → Made a b s t g → 0 < t / g
 bottom_some a b s t g m =
-    some_of (t / g) g (unsigned_abs b) (quotient_bottom a b s t g m) (abs_some b m.nonzero)
-  where
-    some_of : (q g n : ℕ) → q * g ≡ n → 0 < n → 0 < q
-    some_of zero g n e h = absurd (omega arith)
-    some_of (suc q) g n e h = zero-lt-suc q
+    factor_some (t / g) g (unsigned_abs b) (quotient_bottom a b s t g m) (abs_some b m.nonzero)
 
 pub lowest_in : (a b : ℤ) (s t g : ℕ) (z : ℤ) → Made a b s t g → s / g < 2 ^ 127 → t / g < 2 ^ 127 → z ≡ with_sign a b (s / g) → AreLowest z (t / g)
 lowest_in a b s t g z m p q e =
@@ -69,10 +67,6 @@ same_value a b s t g z m e =
     rw e (reduced_ratio a b (s / g) (t / g) g m.nonzero (quotient_top a b s t g m) (quotient_bottom a b s t g m))
 
 -- ---- a numerator over a denominator that is not 0
-one_sign : (t : ℤ) (m n : ℕ) → with_sign t (pos 1) n ≡ with_sign t (pos m) n
-one_sign (pos t) m n = refl
-one_sign (negsuc t) m n = refl
-
 over_made : (n : ℤ) (d s g : ℕ) → 0 < d → s ≡ unsigned_abs n → g ≡ gcd s d → Made n (pos d) s d g
 over_made n d s g some p q = record {
   nonzero = λ e. omega (arith, ints, e, some);

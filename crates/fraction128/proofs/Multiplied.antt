@@ -1,7 +1,7 @@
 -- The product of two fractions in lowest terms: each numerator is divided by what it has in common with the other's denominator.
 use Rattle.std.specs.Prelude.{◌≡◌, ℕ, zero, suc, ◌*◌, ◌/◌, ◌<◌, ◌^◌, ℤ, pos, negsuc, neg_ℤ, ◌*ℤ◌, unsigned_abs}
 use Rattle.std.proofs.Common.{arith, sym, ap, ◌∙◌}
-use native.Mathlib.Nat.{div-mul_cancel, mul-pos, zero-lt-suc}
+use native.Mathlib.Nat.{div-mul_cancel, mul-pos}
 use Rattle.rational.specs.Gcd.{gcd}
 use Rattle.rational.specs.Euclid.{gcd_is, lowest_after}
 use Rattle.rational.specs.Ints.{diffs, diff_is, diff_same, neg_mul_z}
@@ -11,7 +11,7 @@ use Rattle.rational.specs.Ratio.{ratio, with_sign, IsSmall}
 use Rattle.rational.proofs.Parts.{sign_abs}
 use Rattle.rational.proofs.Over.{mul_frac, both_is}
 use Rattle.fraction128.specs.Parts.{AreLowest}
-use Rattle.fraction128.proofs.Coprime.{coprime_turned, coprime_parts, coprime_mul, part_divides}
+use Rattle.fraction128.proofs.Coprime.{coprime_turned, coprime_parts, coprime_mul, factor_some, part_divides}
 use Rattle.fraction128.proofs.Values.{value_parts}
 
 sign_mul : (a b : ℤ) (n k : ℕ) → n * k ≡ unsigned_abs a * unsigned_abs b → with_sign a b n *ℤ pos k ≡ a *ℤ b
@@ -30,10 +30,6 @@ product_frac z a b (suc m) k zero e p q x y w = absurd (omega arith)
 product_frac z a b (suc m) k (suc d) zero p q x y w = absurd (omega arith)
 product_frac z a b (suc m) k (suc d) (suc e) p q x y w =
     frac-same _ _ _ _ (poly z (a *ℤ b) (suc m) k (suc (both d e)) p (both_is d e ∙ q)) ∙ sym (mul_frac a d b e)
-
-some_of : (q g n : ℕ) → q * g ≡ n → 0 < n → 0 < q
-some_of zero g n e h = absurd (omega arith)
-some_of (suc q) g n e h = zero-lt-suc q
 
 rearrange : (x g y h s t : ℕ) → x * g ≡ s → y * h ≡ t → x * y * (g * h) ≡ s * t
 rearrange x g y h s t p q = rw (← p, ← q) (omega arith)
@@ -79,7 +75,7 @@ product_sizes a b d e p q =
     let y : t / h * h ≡ t = div-mul_cancel _ (gcd_is t d).0 in
     let u : d / h * h ≡ d = div-mul_cancel _ (gcd_is t d).1 in
     let v : e / g * g ≡ e = div-mul_cancel _ (gcd_is s e).1 in
-    let some : 0 < d / h * (e / g) = mul-pos (some_of (d / h) h d u p.some) (some_of (e / g) g e v q.some) in
+    let some : 0 < d / h * (e / g) = mul-pos (factor_some (d / h) h d u p.some) (factor_some (e / g) g e v q.some) in
     record {
       some = some;
       lowest = product_lowest s t d e p.lowest q.lowest p.some q.some;

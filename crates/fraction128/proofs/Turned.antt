@@ -2,10 +2,9 @@
 use Rattle.std.specs.Prelude.{◌≡◌, ◌≢◌, ℕ, zero, suc, ◌<◌, ℤ, pos, negsuc, neg_ℤ, ◌-ℤ◌, unsigned_abs}
 use Rattle.std.proofs.Common.{arith, sym, ap, ap₂, ◌∙◌, refl}
 use Rattle.std.proofs.lemmas.Int.{ints}
-use Rattle.rational.specs.Rational.{ℚ, int, neg_ℚ, inv_ℚ, ◌+ℚ◌, ◌-ℚ◌, ◌*ℚ◌, ◌/ℚ◌, turned}
-use Rattle.rational.specs.Fractions.{frac-same}
+use Rattle.rational.specs.Rational.{ℚ, neg_ℚ, inv_ℚ, ◌+ℚ◌, ◌-ℚ◌, ◌*ℚ◌, ◌/ℚ◌, turned}
 use Rattle.rational.specs.Ratio.{ratio, with_sign}
-use Rattle.rational.proofs.Parts.{abs_some, sign_abs}
+use Rattle.rational.proofs.Parts.{abs_some, neg-abs, sign_abs}
 use Rattle.rational.proofs.Over.{neg_over}
 use Rattle.fraction128.specs.Parts.{AreLowest}
 use Rattle.fraction128.proofs.Coprime.{coprime_turned}
@@ -18,21 +17,8 @@ negated_value n (suc d) z x h p q = ap (λ k. ratio k (pos (suc d))) q ∙ sym (
 pub less_is : (n : ℤ) → pos 0 -ℤ n ≡ neg_ℤ n
 less_is n = omega (arith, ints)
 
-pub abs_neg : (n : ℤ) → unsigned_abs (neg_ℤ n) ≡ unsigned_abs n
-abs_neg (pos zero) = refl
-abs_neg (pos (suc n)) = refl
-abs_neg (negsuc n) = refl
-
 pub less_abs : (n : ℤ) (k : ℕ) → unsigned_abs n < k → unsigned_abs (pos 0 -ℤ n) < k
-less_abs n k h = rw (less_is n, abs_neg n) h
-
--- what is not 0 has a numerator that is not 0
-pub num_some : (n : ℤ) (d : ℕ) (x : ℚ) → 0 < d → ratio n (pos d) ≡ x → x ≢ int (pos 0) → n ≢ pos 0
-num_some n d x some e h p = h (sym e ∙ ap (λ z. ratio z (pos d)) p ∙ none d some)
-  where
-    none : (d : ℕ) → 0 < d → ratio (pos 0) (pos d) ≡ int (pos 0)
-    none zero h = absurd (omega arith)
-    none (suc d) h = frac-same (pos 0) d (pos 0) 0 (omega (arith, ints))
+less_abs n k h = rw (less_is n, neg-abs n) h
 
 -- the denominator with the numerator's sign, over the numerator's size
 pub turned_lowest : (n : ℤ) (d : ℕ) → AreLowest n d → n ≢ pos 0 → AreLowest (with_sign n (pos 1) d) (unsigned_abs n)

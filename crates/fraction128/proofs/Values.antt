@@ -1,12 +1,15 @@
 -- A fraction's value and the numbers that it is made of.
-use Rattle.std.specs.Prelude.{◌≡◌, ℕ, zero, suc, ◌<◌, ◌^◌, ◌↔◌, ℤ, pos, unsigned_abs}
-use Rattle.std.proofs.Common.{arith, sym, ap, ap₂, ◌∙◌, SFits, to_z, of_z, to_z-of_z, ◌≤◌, inl, inr}
+use Rattle.std.specs.Prelude.{◌≡◌, ◌≢◌, ℕ, zero, suc, ◌<◌, ◌^◌, ◌↔◌, ℤ, pos, negsuc, ◌<ℤ◌, unsigned_abs}
+use Rattle.std.proofs.Common.{arith, sym, ap, ap₂, ◌∙◌, refl, subst, SFits, to_z, of_z, to_z-of_z, ◌≤◌, inl, inr}
 use Rattle.std.proofs.lemmas.Bool.{cases_lt}
-use Rattle.std.proofs.lemmas.Int.{fits_signed_from_abs}
+use Rattle.std.proofs.lemmas.Int.{ints, fits_signed_from_abs}
 use mir.Syntax.{w128}
 use Rattle.rational.specs.Gcd.{gcd}
-use Rattle.rational.specs.Rational.{ℚ, den}
-use Rattle.rational.specs.Ratio.{ratio, IsSmall}
+use Rattle.rational.specs.Rational.{ℚ, den, int, ◌<ℚ◌}
+use Rattle.rational.specs.Fractions.{frac_self}
+use Rattle.rational.specs.Ratio.{ratio, with_sign, IsSmall}
+use Rattle.rational.proofs.Over.{lt_frac}
+use Rattle.rational.proofs.Laws.{num_some as num_some_q}
 use Rattle.rational.proofs.Parts.{lowest_parts}
 use Rattle.fraction128.specs.Parts.{AreLowest}
 use Rattle.fraction128.proofs.Coprime.{gcd_one}
@@ -37,6 +40,21 @@ same_fields n m d e x y h k p q =
       λ s. sym p ∙ ap₂ (λ (i : ℤ) (j : ℕ). ratio i (pos j)) s.0 s.1 ∙ q,
       λ s. (sym u.0 ∙ ap (λ z. z.num) s ∙ v.0, sym u.1 ∙ ap (λ z. den z) s ∙ v.1),
     )
+
+-- the sign of t over a denominator, which is above 0
+pub one_sign : (t : ℤ) (m n : ℕ) → with_sign t (pos 1) n ≡ with_sign t (pos m) n
+one_sign (pos t) m n = refl
+one_sign (negsuc t) m n = refl
+
+-- what is not 0 has a numerator that is not 0, and what is above 0 one above 0
+pub num_some : (n : ℤ) (d : ℕ) (x : ℚ) → AreLowest n d → ratio n (pos d) ≡ x → x ≢ int (pos 0) → n ≢ pos 0
+num_some n d x h e some p = num_some_q x some ((parts_of n d x h e).0 ∙ p)
+
+pub num_above_q : (x : ℚ) → int (pos 0) <ℚ x → pos 0 <ℤ x.num
+num_above_q x l = let r = (lt_frac (pos 0) 0 x.num x.pre).0 (subst (λ y. int (pos 0) <ℚ y) (frac_self x) l) in omega (arith, ints)
+
+pub num_above : (n : ℤ) (d : ℕ) (x : ℚ) → AreLowest n d → ratio n (pos d) ≡ x → int (pos 0) <ℚ x → pos 0 <ℤ n
+num_above n d x h e l = subst (λ z. pos 0 <ℤ z) (parts_of n d x h e).0 (num_above_q x l)
 
 -- the numerator is one of the code's numbers
 pub num_fits : {n : ℤ} {d : ℕ} → AreLowest n d → SFits w128 n

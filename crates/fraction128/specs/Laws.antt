@@ -1,9 +1,14 @@
 -- Laws of fractions of at most 127 bits. Own choice.
 use Rattle.std.specs.Prelude.{◌≡◌, ◌≢◌, ℕ, ◌*◌, ◌<◌, ◌≤◌, pos, Ok}
-use Rattle.rational.specs.Rational.{ℚ, int, ◌+ℚ◌, ◌*ℚ◌, ◌/ℚ◌, neg_ℚ, ◌≤ℚ◌}
+use Prim.Native.Nat.{◌∣◌}
+use Rattle.std.specs.Int.{IsGcd}
+use Rattle.rational.specs.Gcd.{gcd}
+use Rattle.rational.specs.Gauge.{lcm}
+use Rattle.rational.specs.Rational.{ℚ, int, ◌+ℚ◌, ◌*ℚ◌, ◌/ℚ◌, neg_ℚ, ◌≤ℚ◌, ◌<ℚ◌}
 use Rattle.rational.specs.Ratio.{IsSmall, SumFits}
 use Rattle.rational.specs.Grid.{Whole, Within}
 use Rattle.fraction128.specs.Text.{largest, text_of, parse_of}
+use Rattle.fraction128.specs.Multiple.{IsLeastMultiple, common_multiple}
 
 -- what is printed of a fraction is read as it
 abbrev pub ReadsBack : Type 0
@@ -37,3 +42,21 @@ QuotientOnGrid = (d : ℕ) (v w a b : ℚ) → OnGrid d v w a b → b ≢ int (p
 abbrev pub ProductOnGrid : Type 0
 ProductOnGrid = (d e : ℕ) (v w a b : ℚ) → 0 < d → 0 < e → Whole d a → Whole e b → Within v a → Within w b
     → d * e ≤ largest → FitsTimes (v *ℚ w) (d * e) → IsSmall (a *ℚ b)
+
+-- the greatest common divisor divides both numbers, and each number that divides both divides it
+abbrev pub DivisorIsGreatest : Type 0
+DivisorIsGreatest = (a b : ℕ) → IsGcd a b (gcd a b)
+
+-- m is a multiple of both numbers, and divides each number that is
+pub record IsLcm (a b m : ℕ) : Type 0 where
+  pub left : a ∣ m
+  pub right : b ∣ m
+  pub least : (n : ℕ) → a ∣ n → b ∣ n → m ∣ n
+
+-- the least common multiple of two numbers above 0 is that
+abbrev pub MultipleIsLeast : Type 0
+MultipleIsLeast = (a b : ℕ) → 0 < a → 0 < b → IsLcm a b (lcm a b)
+
+-- and that of two fractions above 0 is their least whole multiple
+abbrev pub FractionMultipleIsLeast : Type 0
+FractionMultipleIsLeast = (a b : ℚ) → int (pos 0) <ℚ a → int (pos 0) <ℚ b → IsLeastMultiple a b (common_multiple a b)

@@ -17,6 +17,7 @@ use Rattle.rational.proofs.Comparison.{cmp_ranks, cmp_less, cmp_equal, cmp_self}
 abbrev pub same_q : ℚ → ℚ → Bool
 same_q x y = is_eq (cmp_q x y)
 
+-- any two are in order
 abbrev pub partial_cmp_q : ℚ → ℚ → Option Ordering
 partial_cmp_q x y = Some (cmp_q x y)
 

@@ -9,7 +9,7 @@ use Rattle.fraction128.specs.declared.fault.FracText.{FracText}
 use Rattle.fraction128.specs.declared.fault.FracText.TheVariants.{Form, Past, ZeroDen}
 
 -- ---- printing
--- p, or p/q where q is above 1
+-- p, or p/q where q is above 1: for p / (pre + 1)
 abbrev pub text_over : ℤ → ℕ → List ℕ
 text_over p zero = signed_decimal p
 text_over p (suc k) = signed_decimal p ++ 47 ∷ decimal (suc (suc k))
@@ -27,6 +27,7 @@ largest = 2 ^ 127 - 1
 abbrev pub is_numeral : List ℕ → Bool
 is_numeral ds = nat_lt 0 (length ds) && list_all is_ascii_digit ds
 
+-- the byte `/`
 abbrev pub is_slash : ℕ → Bool
 is_slash b = b == 47
 
@@ -44,6 +45,7 @@ abbrev pub after_at : Option ℕ → List ℕ → List ℕ
 after_at None bytes = 49 ∷ []
 after_at (Some at) bytes = drop (at + 1) bytes
 
+-- the digits of the first number, and those of the second
 abbrev pub top_text : List ℕ → List ℕ
 top_text text = before_at (position is_slash (unsigned_text text)) (unsigned_text text)
 
@@ -54,7 +56,8 @@ bottom_text text = after_at (position is_slash (unsigned_text text)) (unsigned_t
 abbrev pub signed_value : Bool → ℕ → ℤ
 signed_value minus n = if minus then neg_ℤ (pos n) else pos n
 
--- what a sign and the digits of two numbers write: their form is looked at first, then how large the numbers are, then whether the second is 0
+-- what a sign and the digits of two numbers write. Their form is looked at first, then how large the numbers are,
+-- then whether the second is 0
 abbrev pub number_from : Bool → List ℕ → List ℕ → Result ℚ FracText
 number_from minus top bottom =
     let p = digits_value 10 top in

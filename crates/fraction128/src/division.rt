@@ -35,6 +35,12 @@ pub(crate) fn quotient(n: u128, by: u128) -> u128
 pub fn gcd_of(a: u128, b: u128) -> u128
     ensures { result ≡ gcd a b }
 {
+    if a == 1 || b == 1 {
+        return 1;
+    }
+    if a == b {
+        return a;
+    }
     let mut x = a;
     let mut y = b;
     while y > SHORT {

@@ -71,8 +71,8 @@ impl Frac {
         let top = num.unsigned_abs();
         let bottom = den.unsigned_abs();
         let common = gcd_of(top, bottom);
-        let size = top / common;
-        let whole = bottom / common;
+        let size = quotient(top, common);
+        let whole = quotient(bottom, common);
         if size > LARGEST || whole > LARGEST {
             return Err(FracFault::TooBig);
         }
@@ -287,6 +287,22 @@ impl Frac {
             num: with_sign(self.num, 1, self.den),
             den: self.num.unsigned_abs(),
         }
+    }
+}
+
+impl From<i64> for Frac {
+    ghost from_gives = { λ n f. f ≡ int n };
+
+    fn from(n: i64) -> Frac {
+        Frac::from_whole(n as i128)
+    }
+}
+
+impl From<u64> for Frac {
+    ghost from_gives = { λ n f. f ≡ int (pos n) };
+
+    fn from(n: u64) -> Frac {
+        Frac::from_whole(n as i128)
     }
 }
 

@@ -17,7 +17,7 @@ use Rattle.rational.proofs.Quotients.{div_le, div_nonneg}
 use Rattle.rational.proofs.Sizes.{largest_part, small_on_grid, sum_on_grid}
 use Rattle.fraction128.specs.declared.fault.FracFault.{FracFault}
 use Rattle.fraction128.specs.declared.fault.FracFault.TheVariants.{ZeroDen, TooBig}
-use Rattle.netcalc_cli.specs.Bounds.{whole}
+use Rattle.run_laws.specs.Cards.{whole}
 use Rattle.netcalc_cli.specs.Form.{largest}
 
 -- A number on the grid of 1 / d, and at most v in size.

@@ -1,4 +1,9 @@
 pub mod FormLemmas
 pub mod SpellingLemmas
 pub mod ReplyLemmas
+pub mod DoneLemmas
 pub mod BoundLemmas
+pub mod DeviationLemmas
+pub mod CurveLemmas
+pub mod GuaranteeLemmas
+pub mod ExampleLemmas

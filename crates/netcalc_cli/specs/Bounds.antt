@@ -1,25 +1,47 @@
--- The bounds on delay and backlog of one flow through one server, as numbers of the file. The flow sends at most b + r t bits
--- in each window of length t, in packets of at most l bits. The server does at least R max(0, t - T) bits of work in each
--- stretch of length t in which it is busy throughout.
-use Rattle.std.specs.Prelude.{ℕ, pos, ◌==◌, ◌&&◌, nat_lt, if◌then◌else◌}
-use Rattle.rational.specs.Rational.{ℚ, int, ◌+ℚ◌, ◌*ℚ◌, ◌/ℚ◌}
+-- What bounds the delay and the backlog of a flow through a server: how far the flow's arrival curve lies from the
+-- server's service curve. (Le Boudec and Thiran, section 1.4; the packet by their packetisers.)
+use Rattle.std.specs.Prelude.{◌≡◌}
+use Rattle.rational.specs.Rational.{ℚ, ◌≤ℚ◌}
 use Rattle.rational.specs.Extended.{Ext}
-use Rattle.rational.specs.declared.Extended.TheVariants.{Fin, Inf}
+use Rattle.upp_curve.specs.Curve.{value_at}
+use Rattle.upp_curve.specs.Functions.{zero_q}
+use Rattle.upp_curve.specs.Kinds.{bucket, rate_latency, bucket_value, rate_latency_value}
+use Rattle.upp_curve.specs.Pointwise.{packetised}
+use Rattle.upp_curve.specs.Deviations.{IsHorizontalDeviation, IsVerticalDeviation}
+use Rattle.run_laws.specs.Cards.{whole}
 use Rattle.netcalc_cli.specs.Form.{Form}
 
--- a whole number of the file as a rational
-abbrev pub whole : ℕ → ℚ
-whole n = int (pos n)
+-- the most bits that the flow sends in a closed window of length t: burst + rate t
+abbrev pub arrival_of : Form → ℚ → Ext
+arrival_of f = value_at (bucket (whole f.flow.burst) (whole f.flow.rate))
 
--- T + b / R. It is infinite where the flow is faster than the server, and 0 where the flow sends nothing.
-unfoldable pub delay_of : Form → Ext
-delay_of f =
-    if nat_lt f.server.rate f.flow.rate then Inf
-    else if f.flow.burst == 0 && f.flow.rate == 0 then Fin (whole 0)
-    else Fin (whole f.server.latency +ℚ whole f.flow.burst /ℚ whole f.server.rate)
+-- the least work of the server in a time of length t through which it always has some: rate max (0, t - latency)
+abbrev pub service_of : Form → ℚ → Ext
+service_of f = value_at (rate_latency (whole f.server.rate) (whole f.server.latency))
 
--- b + r (T + l / R). It is infinite where the flow is faster than the server.
-unfoldable pub backlog_of : Form → Ext
-backlog_of f =
-    if nat_lt f.server.rate f.flow.rate then Inf
-    else Fin (whole f.flow.burst +ℚ whole f.flow.rate *ℚ (whole f.server.latency +ℚ whole f.flow.packet /ℚ whole f.server.rate))
+-- the same in whole packets: less the flow's longest packet
+abbrev pub packet_service_of : Form → ℚ → Ext
+packet_service_of f = packetised (service_of f) (whole f.flow.packet)
+
+-- at each time from 0 on arrival and service have these values
+abbrev pub CurvesHaveTheirValues : Type 0
+CurvesHaveTheirValues = (f : Form) (t : ℚ) → zero_q ≤ℚ t →
+    (arrival_of f t ≡ bucket_value (whole f.flow.burst) (whole f.flow.rate) t)
+    × (service_of f t ≡ rate_latency_value (whole f.server.rate) (whole f.server.latency) t)
+
+-- the horizontal deviation of arrival and service
+abbrev pub IsDelayBound : Form → Ext → Type 0
+IsDelayBound f delay = IsHorizontalDeviation (arrival_of f) (service_of f) delay
+
+-- the vertical deviation of arrival and service in whole packets
+abbrev pub IsBacklogBound : Form → Ext → Type 0
+IsBacklogBound f backlog = IsVerticalDeviation (arrival_of f) (packet_service_of f) backlog
+
+-- a form's two bounds; each is infinite only where its deviation is
+pub record HasBounds (f : Form) (delay backlog : Ext) : Type 0 where
+  pub is_delay : IsDelayBound f delay
+  pub is_backlog : IsBacklogBound f backlog
+
+-- they are determined by the form
+abbrev pub BoundsAreUnique : Type 0
+BoundsAreUnique = (f : Form) (d e m n : Ext) → HasBounds f d m → HasBounds f e n → (d ≡ e) × (m ≡ n)

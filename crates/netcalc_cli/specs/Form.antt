@@ -1,10 +1,12 @@
--- The one form of file that is understood: one server of kind latency, and one flow of kind bucket through it. Each table
--- has exactly the keys that are looked up in it: as many keys as look-ups, and each of these is there.
-use Rattle.std.specs.Prelude.{◌==◌, ◌&&◌, ◌||◌, ℕ, ℤ, pos, negsuc, suc, Bool, false, List, length, codes, Option, Some, None, option_and_then, nat_le, if◌then◌else◌}
+-- The one form of file that is understood: one server of kind latency, and one flow of kind bucket through it. Each
+-- table has exactly the keys that are looked up in it: as many keys as look-ups, and each of these is there.
+use Rattle.std.specs.Prelude.{◌==◌, ◌&&◌, ◌||◌, ℕ, ℤ, pos, negsuc, suc, Bool, false, List, length, codes}
+use Rattle.std.specs.Prelude.{Option, Some, None, option_and_then, nat_le, if◌then◌else◌}
 use Rattle.std.specs.List.{list_all}
 use Rattle.std.specs.Option.{option_map_or}
 use Rattle.std.specs.Str.{bytes_eq}
-use Rattle.toml.specs.Data.{Data, Items, no_items, item, Members, no_members, member, get_member, as_str, as_integer, as_array, as_table}
+use Rattle.toml.specs.Data.{Data, Items, no_items, item, Members, no_members, member, get_member}
+use Rattle.toml.specs.Data.{as_str, as_integer, as_array, as_table}
 use Rattle.netcalc_cli.specs.Tree.{tree_of}
 
 infixl 10 ◌>>=◌

@@ -4,5 +4,7 @@ pub mod Form
 pub mod Spelling
 pub mod View
 pub mod Bounds
+pub mod Guarantee
+pub mod Example
 pub mod Report
 pub mod Reply

@@ -4,7 +4,8 @@ use Rattle.netcalc_cli.specs.declared.form.Server as code-server
 use Rattle.netcalc_cli.specs.declared.form.Flow as code-flow
 use Rattle.netcalc_cli.specs.declared.form.Form as code-form
 use Rattle.netcalc_cli.specs.declared.answer.Status.{Status}
-use Rattle.netcalc_cli.specs.declared.answer.Status.TheVariants.{Done, Malformed, Usage, ReadFault, WriteFault, NoMemory, Unsupported}
+use Rattle.netcalc_cli.specs.declared.answer.Status.TheVariants.{Done, Malformed, Usage, ReadFault}
+use Rattle.netcalc_cli.specs.declared.answer.Status.TheVariants.{WriteFault, NoMemory, Unsupported}
 use Rattle.netcalc_cli.specs.declared.answer.Answer as code-answer
 use Rattle.netcalc_cli.specs.Reply.{Reply}
 use Rattle.netcalc_cli.specs.Form.{Server, Flow, Form, largest}

@@ -1,7 +1,7 @@
 //! The answers: a status, and the text that is written with it.
 ghost use Rattle.std.specs.Prelude.{◌≡◌, None, Some, IfOk};
 ghost use Rattle.netcalc_cli.specs.Form.{form_of};
-ghost use Rattle.netcalc_cli.specs.Reply.{usage, cannot_read, too_long, unsupported, on_form};
+ghost use Rattle.netcalc_cli.specs.Reply.{cannot_read, too_long, unsupported, IsReplyOnForm};
 ghost use Rattle.netcalc_cli.specs.View.{code_of, reply_of};
 
 use crate::form::form_of;
@@ -77,7 +77,7 @@ pub fn too_long(alloc: Global, file: &str) -> Result<Answer, NoMemory>
 
 /// The answer on a file that is not of the form.
 fn unsupported(alloc: Global) -> Result<Answer, NoMemory>
-    ensures { IfOk result (λ r. reply_of r ≡ on_form None) }
+    ensures { IfOk result (λ r. reply_of r ≡ unsupported) }
 {
     let line = String::from_str(alloc, "netcalc: unsupported file\n")?;
     Ok(Answer {
@@ -88,7 +88,7 @@ fn unsupported(alloc: Global) -> Result<Answer, NoMemory>
 
 /// The answer on a file of these bytes, which are not too many.
 pub fn on_bytes(alloc: Global, bytes: &[u8]) -> Result<Answer, NoMemory>
-    ensures { IfOk result (λ r. reply_of r ≡ on_form (form_of bytes.now)) }
+    ensures { IfOk result (λ r. IsReplyOnForm (form_of bytes.now) (reply_of r)) }
 {
     let Some(root) = tree_of(alloc, bytes)? else {
         return unsupported(alloc);

@@ -1,9 +1,10 @@
 //! The bounds of a server and its flow. The numbers of a form are at most 2^24, so each denominator divides a number of
 //! at most 24 bits, each numerator has at most 74 bits, and no step is too wide: that is proved where each step is
 //! unwrapped.
-ghost use Rattle.std.specs.Prelude.{◌≡◌, ◌≤◌, nat_lt};
+ghost use Rattle.std.specs.Prelude.{◌≡◌, ◌≤◌, ◌<◌, ◌↔◌, IsTrue};
 ghost use Rattle.rational.specs.Rational.{◌+ℚ◌, ◌*ℚ◌, ◌/ℚ◌};
-ghost use Rattle.netcalc_cli.specs.Bounds.{whole, delay_of, backlog_of};
+ghost use Rattle.run_laws.specs.Cards.{whole};
+ghost use Rattle.netcalc_cli.specs.Bounds.{IsDelayBound, IsBacklogBound};
 ghost use Rattle.netcalc_cli.specs.Form.{largest};
 ghost use Rattle.netcalc_cli.specs.View.{form_view, IsInRange};
 
@@ -46,23 +47,23 @@ fn sent_meanwhile(flow: &Flow, server: &Server) -> Frac
     requires latency { server.now.latency ≤ largest }
     requires packet { flow.now.packet ≤ largest }
     requires flow_rate { flow.now.rate ≤ largest }
-    ensures { result ≡ whole flow.now.rate *ℚ (whole server.now.latency +ℚ whole flow.now.packet /ℚ whole server.now.rate) }
+    ensures { result ≡ whole flow.now.rate
+        *ℚ (whole server.now.latency +ℚ whole flow.now.packet /ℚ whole server.now.rate) }
 {
     Frac::mul(whole(flow.rate), time_for(flow.packet, server)).unwrap()
 }
 
 /// Whether the flow is faster than the server, so that no number bounds its delay or its backlog.
 fn is_overloaded(form: &Form) -> bool
-    ensures { result ≡ nat_lt form.now.server.rate form.now.flow.rate }
+    ensures { IsTrue result ↔ (form.now.server.rate < form.now.flow.rate) }
 {
     form.server.rate < form.flow.rate
 }
 
 /// The largest delay of a packet.
-#[tactic(auto, unfolding(crate::specs::Bounds::delay_of))]
 pub fn delay_of(form: &Form) -> Ext
     requires { IsInRange form.now }
-    ensures { result ≡ delay_of (form_view form.now) }
+    ensures { IsDelayBound (form_view form.now) result }
 {
     let (server, flow) = (&form.server, &form.flow);
     if is_overloaded(form) {
@@ -75,10 +76,9 @@ pub fn delay_of(form: &Form) -> Ext
 }
 
 /// The largest backlog of the queue.
-#[tactic(auto, unfolding(crate::specs::Bounds::backlog_of))]
 pub fn backlog_of(form: &Form) -> Ext
     requires { IsInRange form.now }
-    ensures { result ≡ backlog_of (form_view form.now) }
+    ensures { IsBacklogBound (form_view form.now) result }
 {
     let (server, flow) = (&form.server, &form.flow);
     if is_overloaded(form) {

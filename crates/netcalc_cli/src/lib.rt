@@ -4,6 +4,7 @@
 mod answer;
 mod bounds;
 mod form;
+mod laws;
 mod report;
 mod top_call;
 mod tree;
@@ -11,4 +12,8 @@ mod words;
 
 pub use answer::Status;
 pub use form::each_form_is_read;
+pub use laws::{
+    bounds_are_guaranteed, bounds_are_unique, curves_have_their_values, one_flow_reaches_its_bound,
+    replies_are_unique,
+};
 pub use top_call::run;

@@ -1,8 +1,12 @@
 //! The top call.
 ghost use Rattle.std.specs.Prelude.{◌≡◌, ◌≢◌, ◌⊎◌, None, Some, IfOk, IfSome};
 ghost use Rattle.std.specs.Io.KnownBytes.{Appends};
+ghost use Rattle.rational.specs.Extended.{Ext};
 ghost use Rattle.netcalc_cli.specs.Form.{Form};
-ghost use Rattle.netcalc_cli.specs.Reply.{Reply, usage, cannot_read, too_long, unsupported, report, on_words, MayReplyOn, MayReply, Reads, ReadsNone, IsTooLong, FailedAt, Gives, FailsToGive};
+ghost use Rattle.netcalc_cli.specs.Guarantee.{Guarantees};
+ghost use Rattle.netcalc_cli.specs.Reply.{Reply, usage, cannot_read, too_long, unsupported, found_in, IsReplyOn};
+ghost use Rattle.netcalc_cli.specs.Reply.{MayReplyOn, MayReply, ReadsNone, IsTooLong, FailedAt};
+ghost use Rattle.netcalc_cli.specs.Reply.{Gives, Reports, FailsToGive};
 ghost use Rattle.netcalc_cli.specs.View.{code_of, reply_of};
 ghost use Rattle.netcalc_cli.specs.Words.{texts, net_word};
 
@@ -18,7 +22,8 @@ const USAGE: &str =
 
 /// The answer on a file, which is fetched first.
 fn answer_on<I: Inputs>(alloc: Global, file: &str, inputs: &mut I) -> Result<Answer, NoMemory>
-    ensures { IfOk result (λ r. MayReplyOn I.faults I.last_fault (I.content inputs.old file.now) file.now inputs.old inputs.new (reply_of r)) }
+    ensures { IfOk result (λ r.
+        MayReplyOn I.faults I.last_fault (I.content inputs.old file.now) file.now inputs.old inputs.new (reply_of r)) }
 {
     let mut bytes = Vec::new(alloc);
     match inputs.fetch(file, &mut bytes) {
@@ -32,8 +37,10 @@ fn answer_on<I: Inputs>(alloc: Global, file: &str, inputs: &mut I) -> Result<Ans
 /// Gives an answer: puts its text, and returns its status, or that the sink failed.
 fn give<K: Sink>(out: &mut K, status: Status, text: &[u8]) -> u8
     requires { code_of status ≢ 4 }
-    ensures given { result ≢ 4 → Gives result (K.written out.old) (K.written out.new) (record { status = code_of status; bytes = text.now }) }
-    ensures failed { result ≡ 4 → FailsToGive K.faults K.written out.old out.new (record { status = code_of status; bytes = text.now }) }
+    ensures given { let reply : Reply = record { status = code_of status; bytes = text.now } in
+        result ≢ 4 → Gives result (K.written out.old) (K.written out.new) reply }
+    ensures failed { let reply : Reply = record { status = code_of status; bytes = text.now } in
+        result ≡ 4 → FailsToGive K.faults K.written out.old out.new reply }
 {
     match out.put(text) {
         Ok(()) => status.code(),
@@ -53,7 +60,8 @@ pub fn run<I: Inputs, K: Sink, L: Ledger>(
 ) -> u8
     // 2 exactly where the words are not taken; or 4, where the usage line is not written.
     ensures usage { result ≡ 2 → net_word (texts words.now) ≡ None }
-    ensures not_taken { net_word (texts words.now) ≡ None → Gives result (K.written out.old) (K.written out.new) usage ⊎ (result ≡ 4) }
+    ensures not_taken { net_word (texts words.now) ≡ None →
+        Gives result (K.written out.old) (K.written out.new) usage ⊎ (result ≡ 4) }
 
     // 3 only where the inputs failed in this call, and last at the file that the line names.
     ensures read_fault { result ≡ 3 → IfSome (net_word (texts words.now)) (λ file.
@@ -68,9 +76,16 @@ pub fn run<I: Inputs, K: Sink, L: Ledger>(
     ensures unsupported { result ≡ 10 → IfSome (net_word (texts words.now)) (λ file.
         ReadsNone (I.content inputs.old file) × Gives result (K.written out.old) (K.written out.new) unsupported) }
 
-    // 0 only where the file is of a form, and then the report on it is written.
-    ensures done { result ≡ 0 → IfSome (net_word (texts words.now)) (λ file. (form : Form)
-        × Reads (I.content inputs.old file) form × Gives result (K.written out.old) (K.written out.new) (report form)) }
+    // 0 only where the file is of a form, and then the report on it is written: its numbers are the form's bounds.
+    ensures done { result ≡ 0 → IfSome (net_word (texts words.now)) (λ file.
+        (form : Form) × (delay : Ext) × (backlog : Ext)
+        × Reports (I.content inputs.old file) form delay backlog result (K.written out.old) (K.written out.new)) }
+
+    // And no lawful run of the file's network that keeps the file's curves passes a number of the report.
+    ensures guarantee { result ≡ 0 → IfSome (net_word (texts words.now)) (λ file.
+        (form : Form) × (delay : Ext) × (backlog : Ext)
+        × Reports (I.content inputs.old file) form delay backlog result (K.written out.old) (K.written out.new)
+        × Guarantees form delay backlog) }
 
     // 4 only where the sink failed in this call; a front of a reply's bytes is written.
     ensures write_fault { result ≡ 4 → (reply : Reply)
@@ -81,8 +96,15 @@ pub fn run<I: Inputs, K: Sink, L: Ledger>(
     ensures no_memory { result ≡ 5 → K.written out.new ≡ K.written out.old }
 
     // Where it is told what the file holds, 3, 4 and 5 are the only other answers than the one on that.
-    ensures told { IfSome (on_words (I.content inputs.old) (net_word (texts words.now))) (λ reply.
-        Gives result (K.written out.old) (K.written out.new) reply ⊎ (result ≡ 3) ⊎ (result ≡ 4) ⊎ (result ≡ 5)) }
+    ensures told { IfSome (net_word (texts words.now)) (λ file. IfSome (I.content inputs.old file) (λ bytes.
+        ((reply : Reply) × IsReplyOn file (found_in bytes) reply
+        × Gives result (K.written out.old) (K.written out.new) reply)
+        ⊎ (result ≡ 3) ⊎ (result ≡ 4) ⊎ (result ≡ 5))) }
+
+    // Every answer but 4 and 5 is the status of a reply that words and inputs may bring, whose bytes are written.
+    ensures answers { result ≢ 4 → result ≢ 5 → (reply : Reply)
+        × MayReply I.content I.faults I.last_fault (net_word (texts words.now)) inputs.old inputs.new reply
+        × Gives result (K.written out.old) (K.written out.new) reply }
 
     ensures steps { steps.new ≡ steps.old }
 {

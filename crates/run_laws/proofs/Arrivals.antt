@@ -23,7 +23,8 @@ arrivals_map P Q f (Works c a b w ∷ V) h = arrivals_map P Q f V h
 arrivals_map P Q f (Leaves c t ∷ V) h = arrivals_map P Q f V h
 arrivals_map P Q f (Visits q t ∷ V) h = arrivals_map P Q f V h
 
-pub same_arrivals : (C D : Class) (p : ℚ → Bool) (V : List ServerStep) → EachArrival (λ c. C c ≡ D c) V → total (arrives C p) V ≡ total (arrives D p) V
+pub same_arrivals : (C D : Class) (p : ℚ → Bool) (V : List ServerStep) → EachArrival (λ c. C c ≡ D c) V
+    → total (arrives C p) V ≡ total (arrives D p) V
 same_arrivals C D p [] h = refl
 same_arrivals C D p (Arrives c t ∷ V) h = rw (h.0, same_arrivals C D p V h.1) refl
 same_arrivals C D p (Works c a b w ∷ V) h = ap (λ (x : ℚ). int (pos 0) +ℚ x) (same_arrivals C D p V h)
@@ -58,7 +59,8 @@ rest_sizes net packet (Work s p a b w) xs h = h
 rest_sizes net packet (Leave s p t) xs h = h
 rest_sizes net packet (Visit s q t) xs h = h
 
-entries_more : (net : Routes) (packet : ℕ → ℕ) (entered : List Entry) (e : Entry) → ((p : ℕ) → p < length entered → IsEntered net packet (entry_of entered p)) → IsEntered net packet e
+entries_more : (net : Routes) (packet : ℕ → ℕ) (entered : List Entry) (e : Entry)
+    → ((p : ℕ) → p < length entered → IsEntered net packet (entry_of entered p)) → IsEntered net packet e
     → (p : ℕ) → p < length (entered ++ e ∷ []) → IsEntered net packet (entry_of (entered ++ e ∷ []) p)
 entries_more net packet entered e h k p l =
     let m = one_more entered e in
@@ -69,7 +71,8 @@ entries_more net packet entered e h k p l =
           subst (IsEntered net packet) (sym (entry_before entered e p less)) (h p less)
     ]
 
-entries_next : (net : Routes) (packet : ℕ → ℕ) (r : RunState) (x : Step) (xs : List Step) → IsKnown net r x → AllSizes net packet (x ∷ xs) → KnowsPackets net packet r
+entries_next : (net : Routes) (packet : ℕ → ℕ) (r : RunState) (x : Step) (xs : List Step) → IsKnown net r x → AllSizes net packet (x ∷ xs)
+    → KnowsPackets net packet r
     → (p : ℕ) → p < length (entered_after r.entered x) → IsEntered net packet (entry_of (entered_after r.entered x) p)
 entries_next net packet r (Enter f p t b) xs k sizes h =
     entries_more net packet r.entered record { flow = f; bits = b } h.entries record { is_live = k.is_live; small = (sizes f k.is_live).0 refl }
@@ -78,7 +81,8 @@ entries_next net packet r (Work s p a b w) xs k sizes h = h.entries
 entries_next net packet r (Leave s p t) xs k sizes h = h.entries
 entries_next net packet r (Visit s q t) xs k sizes h = h.entries
 
-knows_next : (net : Routes) (packet : ℕ → ℕ) (r : RunState) (x : Step) (xs : List Step) → IsKnown net r x → AllSizes net packet (x ∷ xs) → KnowsPackets net packet r → KnowsPackets net packet (next_run net r x)
+knows_next : (net : Routes) (packet : ℕ → ℕ) (r : RunState) (x : Step) (xs : List Step) → IsKnown net r x → AllSizes net packet (x ∷ xs)
+    → KnowsPackets net packet r → KnowsPackets net packet (next_run net r x)
 knows_next net packet r x xs k sizes h = record { entries = entries_next net packet r x xs k sizes h; dues = due_next net r x k h.dues }
 
 -- ---- a packet that arrives at server s
@@ -88,11 +92,14 @@ pub record IsPassing (net : Routes) (packet : ℕ → ℕ) (s : ℕ) (c : Card) 
   pub its_queue : c.queue ≡ queue_at s (route_of net c.flow).hops
   pub small : c.bits ≤ packet c.flow
 
-passing_entry : (net : Routes) (packet : ℕ → ℕ) (entered : List Entry) (p s : ℕ) → IsEntered net packet (entry_of entered p) → PassesServer s (hops_of net entered p) → IsPassing net packet s (card_of net entered p s)
+passing_entry : (net : Routes) (packet : ℕ → ℕ) (entered : List Entry) (p s : ℕ) → IsEntered net packet (entry_of entered p)
+    → PassesServer s (hops_of net entered p) → IsPassing net packet s (card_of net entered p s)
 passing_entry net packet entered p s h k = record { is_live = h.is_live; passes = k; its_queue = refl; small = h.small }
 
-head_passes : (net : Routes) (packet : ℕ → ℕ) (r : RunState) (x : Step) (xs : List Step) (V : List ServerStep) → IsKnown net r x → AllSizes net packet (x ∷ xs) → KnowsPackets net packet r
-    → EachArrival (IsPassing net packet (server_of net x)) V → EachArrival (IsPassing net packet (server_of net x)) (seen net r.entered x ∷ V)
+head_passes : (net : Routes) (packet : ℕ → ℕ) (r : RunState) (x : Step) (xs : List Step) (V : List ServerStep) → IsKnown net r x
+    → AllSizes net packet (x ∷ xs) → KnowsPackets net packet r
+    → EachArrival (IsPassing net packet (server_of net x)) V
+    → EachArrival (IsPassing net packet (server_of net x)) (seen net r.entered x ∷ V)
 head_passes net packet r (Enter f p t b) xs V k sizes h rest =
     let e : Entry = record { flow = f; bits = b } in
     let last = entry_last r.entered e p k.in_turn in
@@ -110,7 +117,8 @@ head_passes net packet r (Work s p a b w) xs V k sizes h rest = rest
 head_passes net packet r (Leave s p t) xs V k sizes h rest = rest
 head_passes net packet r (Visit s q t) xs V k sizes h rest = rest
 
-pub all_pass : (net : Routes) (packet : ℕ → ℕ) (end : ℚ) (r : RunState) (xs : List Step) (s : ℕ) → AllAllowedInRun net end r xs → AllSizes net packet xs → KnowsPackets net packet r
+pub all_pass : (net : Routes) (packet : ℕ → ℕ) (end : ℚ) (r : RunState) (xs : List Step) (s : ℕ) → AllAllowedInRun net end r xs
+    → AllSizes net packet xs → KnowsPackets net packet r
     → EachArrival (IsPassing net packet s) (view_from net s r.entered xs)
 all_pass net packet end r [] s a sizes h = tt
 all_pass net packet end r (x ∷ xs) s a sizes h =

@@ -19,7 +19,8 @@ use Rattle.run_laws.proofs.Levels.{finite_below, minus_le}
 use Rattle.run_laws.proofs.Counts.{arrived_in_is}
 use Rattle.run_laws.proofs.Service.{packets_are_served}
 
-pub backlog_from_service : (server : Server) (end : ℚ) (V : List ServerStep) (C : Class) (bits : ℕ) (α β : ℚ → Ext) (most : Ext) → IsLawfulView server end V → KeepsSizes C bits V → KeepsArrivals C α V
+pub backlog_from_service : (server : Server) (end : ℚ) (V : List ServerStep) (C : Class) (bits : ℕ) (α β : ℚ → Ext) (most : Ext)
+    → IsLawfulView server end V → KeepsSizes C bits V → KeepsArrivals C α V
     → Serves C β end V → IsVerticalDeviation α (packetised β (whole bits)) most → (t : ℚ) → t ≤ℚ end → Fin (backlog C V t) ≤ₑ most
 backlog_from_service server end V C bits α β most lawful sizes keeps serves dev t l =
     let (s, is) = packets_are_served server end V C β bits lawful sizes serves t l in

@@ -63,7 +63,8 @@ too_late A L W α γ end u gone bits moved delay t s h above before_gone left up
           with4 bits (A s) (W t) g (λ c. omega (arith, c.le, c.lt, c.same))
     ]
 
-pub delay_core : (A L W : ℚ → ℚ) (α γ : ℚ → Ext) (end u gone bits moved delay : ℚ) → IsDelayed A L W α γ end u gone bits moved delay → gone -ℚ u ≤ℚ delay +ℚ moved
+pub delay_core : (A L W : ℚ → ℚ) (α γ : ℚ → Ext) (end u gone bits moved delay : ℚ) → IsDelayed A L W α γ end u gone bits moved delay
+    → gone -ℚ u ≤ℚ delay +ℚ moved
 delay_core A L W α γ end u gone bits moved delay h = elim (le_or_lt (gone -ℚ u) (delay +ℚ moved)) [
   | inl l ↦ l
   | inr l ↦
@@ -76,7 +77,8 @@ delay_core A L W α γ end u gone bits moved delay h = elim (le_or_lt (gone -ℚ
 
 -- ---- one packet
 -- all that came up to the packet has come by its time
-upto_packet : (C : Class) (V front back : List ServerStep) (p : Card) (u : ℚ) → V ≡ front ++ Arrives p u ∷ back → C p ≡ true → total (arrives C (upto u)) front +ℚ size p ≤ℚ arrived_upto C V u
+upto_packet : (C : Class) (V front back : List ServerStep) (p : Card) (u : ℚ) → V ≡ front ++ Arrives p u ∷ back → C p ≡ true
+    → total (arrives C (upto u)) front +ℚ size p ≤ℚ arrived_upto C V u
 upto_packet C V front back p u joined counted =
     let all : arrived_upto C V u ≡ total (arrives C (upto u)) front +ℚ (arrives C (upto u) (Arrives p u) +ℚ total (arrives C (upto u)) back) =
     ap (total (arrives C (upto u))) joined ∙ total-append (arrives C (upto u)) front (Arrives p u ∷ back) in
@@ -84,7 +86,8 @@ upto_packet C V front back p u joined counted =
     let rest = arrivals_nonneg C (upto u) back in
     with5 (arrived_upto C V u) (total (arrives C (upto u)) front) (arrives C (upto u) (Arrives p u)) (size p) (total (arrives C (upto u)) back) (λ c. omega (arith, c.le, c.lt, c.same))
 
-pub gone_most : (server : Server) (end : ℚ) (σ : ServerState) (V : List ServerStep) (n : ℕ) → AllAllowed server end σ V → gone_at end n V ≤ℚ end
+pub gone_most : (server : Server) (end : ℚ) (σ : ServerState) (V : List ServerStep) (n : ℕ) → AllAllowed server end σ V
+    → gone_at end n V ≤ℚ end
 gone_most server end σ [] n a = le_refl end
 gone_most server end σ (Arrives c t ∷ V) n a = gone_most server end (next server.discipline σ (Arrives c t)) V n a.1
 gone_most server end σ (Works c f b w ∷ V) n a = gone_most server end (next server.discipline σ (Works c f b w)) V n a.1
@@ -133,7 +136,8 @@ packet_delay server end V front back C q p u α β delay lawful joined g counted
     (gone_most server end (next d (after d (start d) front) (Arrives p u)) back p.packet all.1.1)
 
 -- ---- all packets
-pub kept_most : (b : Bool) (x : ℚ) (xs : List ℚ) (most : Ext) → (b ≡ true → Fin x ≤ₑ most) → AreAtMost most xs → AreAtMost most (kept b x xs)
+pub kept_most : (b : Bool) (x : ℚ) (xs : List ℚ) (most : Ext) → (b ≡ true → Fin x ≤ₑ most) → AreAtMost most xs
+    → AreAtMost most (kept b x xs)
 kept_most true x xs most f h = (f refl, h)
 kept_most false x xs most f h = h
 
@@ -145,7 +149,8 @@ pub kept_rest : (b : Bool) (x : ℚ) (xs : List ℚ) (most : Ext) → AreAtMost 
 kept_rest true x xs most h = h.1
 kept_rest false x xs most h = h
 
-each_delay : (server : Server) (end : ℚ) (V front back : List ServerStep) (C : Class) (q : ℕ) (α β : ℚ → Ext) (delay : ℚ) → IsLawfulView server end V → V ≡ front ++ back → IsOfQueue C q
+each_delay : (server : Server) (end : ℚ) (V front back : List ServerStep) (C : Class) (q : ℕ) (α β : ℚ → Ext) (delay : ℚ)
+    → IsLawfulView server end V → V ≡ front ++ back → IsOfQueue C q
     → Serves C β end V → KeepsArrivals C α V → int (pos 0) ≤ℚ delay → Within α β delay → AreAtMost (Fin delay) (hop_delays C end back)
 each_delay server end V front [] C q α β delay lawful joined g serves keeps on within = tt
 each_delay server end V front (Arrives c t ∷ back) C q α β delay lawful joined g serves keeps on within =
@@ -163,7 +168,8 @@ pub none_above_infinity : (xs : List ℚ) → AreAtMost Inf xs
 none_above_infinity [] = tt
 none_above_infinity (x ∷ xs) = (tt, none_above_infinity xs)
 
-pub delay_from_service : (server : Server) (end : ℚ) (V : List ServerStep) (C : Class) (q : ℕ) (α β : ℚ → Ext) (delay : Ext) → IsLawfulView server end V → IsOfQueue C q → KeepsArrivals C α V → Serves C β end V
+pub delay_from_service : (server : Server) (end : ℚ) (V : List ServerStep) (C : Class) (q : ℕ) (α β : ℚ → Ext) (delay : Ext)
+    → IsLawfulView server end V → IsOfQueue C q → KeepsArrivals C α V → Serves C β end V
     → IsRising β → IsHorizontalDeviation α β delay → AreAtMost delay (hop_delays C end V)
 delay_from_service server end V C q α β Inf lawful g keeps serves rises dev = none_above_infinity (hop_delays C end V)
 delay_from_service server end V C q α β (Fin delay) lawful g keeps serves rises dev =

@@ -13,7 +13,8 @@ use Rattle.upp_curve.specs.Functions.{Time, IsRising}
 abbrev pub Within : (ℚ → Ext) → (ℚ → Ext) → ℚ → Type 0
 Within α γ delay = (x d : ℚ) → int (pos 0) ≤ℚ x → delay <ℚ d → α x ≤ₑ γ (x +ℚ d)
 
-at_lag : (f g : ℚ → Ext) (x d h : ℚ) (lag : Ext) → IsRising g → int (pos 0) ≤ℚ x → IsLag f g x lag → lag ≤ₑ Fin h → h <ℚ d → f x ≤ₑ g (x +ℚ d)
+at_lag : (f g : ℚ → Ext) (x d h : ℚ) (lag : Ext) → IsRising g → int (pos 0) ≤ℚ x → IsLag f g x lag → lag ≤ₑ Fin h → h <ℚ d
+    → f x ≤ₑ g (x +ℚ d)
 at_lag f g x d h Inf rises on is less l = absurd less
 at_lag f g x d h (Fin y) rises on is less l =
     let (later, soon) = is.near d (with3 y h d (λ c. omega (arith, c.le, c.lt, c.same))) in

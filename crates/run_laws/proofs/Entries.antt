@@ -67,13 +67,15 @@ due_more net entered e d h =
       next = ap (λ (x : Entry). server_after h.left (route_of net x.flow).hops) (entry_before entered e d.packet k) ∙ h.next;
     }
 
-due_sent : (net : Routes) (entered : List Entry) (s p : ℕ) (t : ℚ) (ds : List Due) (next : Option ℕ) → p < length entered → server_after s (hops_of net entered p) ≡ next
+due_sent : (net : Routes) (entered : List Entry) (s p : ℕ) (t : ℚ) (ds : List Due) (next : Option ℕ) → p < length entered
+    → server_after s (hops_of net entered p) ≡ next
     → EachDue (IsDueAfter net entered) ds → EachDue (IsDueAfter net entered) (sent next p t ds)
 due_sent net entered s p t ds None l e h = h
 due_sent net entered s p t ds (Some r) l e h =
     each_due_push (IsDueAfter net entered) ds record { packet = p; server = r; time = t } h record { has_entered = l; left = s; next = e }
 
-pub due_next : (net : Routes) (r : RunState) (x : Step) → IsKnown net r x → EachDue (IsDueAfter net r.entered) r.due → EachDue (IsDueAfter net (entered_after r.entered x)) (next_due net r x)
+pub due_next : (net : Routes) (r : RunState) (x : Step) → IsKnown net r x → EachDue (IsDueAfter net r.entered) r.due
+    → EachDue (IsDueAfter net (entered_after r.entered x)) (next_due net r x)
 due_next net r (Enter f p t b) k h = each_due_map (IsDueAfter net r.entered) (IsDueAfter net (r.entered ++ record { flow = f; bits = b } ∷ [])) (due_more net r.entered record { flow = f; bits = b }) r.due h
 due_next net r (Reach s p t) k h = each_due_without (IsDueAfter net r.entered) r.due record { packet = p; server = s; time = t } h
 due_next net r (Work s p a b w) k h = h

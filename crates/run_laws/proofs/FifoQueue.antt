@@ -33,7 +33,8 @@ halves = record { of_one = λ c. one (c.queue == 0); apart = λ c. two (c.queue 
     two true = refl
     two false = refl
 
-pub only_queue : (server : Server) (end : ℚ) (σ : ServerState) (V : List ServerStep) → server.discipline ≡ Fifo → AllAllowed server end σ V → EachArrival (λ c. c.queue ≡ 0) V
+pub only_queue : (server : Server) (end : ℚ) (σ : ServerState) (V : List ServerStep) → server.discipline ≡ Fifo → AllAllowed server end σ V
+    → EachArrival (λ c. c.queue ≡ 0) V
 only_queue server end σ [] e a = tt
 only_queue server end σ (Arrives c t ∷ V) e a = (its_queue c e a.0.1.known_queue, only_queue server end (next server.discipline σ (Arrives c t)) V e a.1)
   where
@@ -44,7 +45,8 @@ only_queue server end σ (Leaves c t ∷ V) e a = only_queue server end (next se
 only_queue server end σ (Visits q t ∷ V) e a = only_queue server end (next server.discipline σ (Visits q t)) V e a.1
 
 -- what serves the server serves its queue
-queue_is_served : (server : Server) (end : ℚ) (V : List ServerStep) (β : ℚ → Ext) → server.discipline ≡ Fifo → IsLawfulView server end V → Serves all β end V → Serves (of_queue 0) β end V
+queue_is_served : (server : Server) (end : ℚ) (V : List ServerStep) (β : ℚ → Ext) → server.discipline ≡ Fifo → IsLawfulView server end V
+    → Serves all β end V → Serves (of_queue 0) β end V
 queue_is_served server end V β e lawful serves t l =
     let (s, is) = serves t l in
     let none = arrivals_map (λ c. c.queue ≡ 0) (λ c. elsewhere c ≡ false) (λ c h. ap not (eq-eqb c.queue 0 h)) V (only_queue server end (start server.discipline) V e lawful.allowed) in
@@ -67,5 +69,6 @@ queue_is_served server end V β e lawful serves t l =
       },
     )
 
-pub fifo_queue_is_served : (server : Server) (end : ℚ) (V : List ServerStep) (β : ℚ → Ext) → IsLawfulView server end V → server.discipline ≡ Fifo → KeepsService β end V → IsZeroAtStart β → Serves (of_queue 0) β end V
+pub fifo_queue_is_served : (server : Server) (end : ℚ) (V : List ServerStep) (β : ℚ → Ext) → IsLawfulView server end V
+    → server.discipline ≡ Fifo → KeepsService β end V → IsZeroAtStart β → Serves (of_queue 0) β end V
 fifo_queue_is_served server end V β lawful e service zero = queue_is_served server end V β e lawful (server_is_served server end V β lawful service zero)

@@ -32,12 +32,14 @@ record Begins (gone inside D rest : List Card) (p : Card) : Type 0 where
   is : inside ≡ ahead ++ p ∷ rest
   bits : bits_of D ≡ bits_of gone +ℚ bits_of ahead
 
-begins_more : (c d : Card) (gone inside D rest : List Card) (p : Card) → size c ≡ size d → Begins gone inside D rest p → Begins (c ∷ gone) inside (d ∷ D) rest p
+begins_more : (c d : Card) (gone inside D rest : List Card) (p : Card) → size c ≡ size d → Begins gone inside D rest p
+    → Begins (c ∷ gone) inside (d ∷ D) rest p
 begins_more c d gone inside D rest p same r =
     let e = r.bits in
     record { ahead = r.ahead; is = r.is; bits = with5 (size c) (size d) (bits_of gone) (bits_of D) (bits_of r.ahead) (λ c. omega (arith, c.le, c.lt, c.same)) }
 
-begins : (gone inside D rest : List Card) (p : Card) → gone ++ inside ≡ D ++ p ∷ rest → bits_of gone <ℚ bits_of D +ℚ size p → Begins gone inside D rest p
+begins : (gone inside D rest : List Card) (p : Card) → gone ++ inside ≡ D ++ p ∷ rest → bits_of gone <ℚ bits_of D +ℚ size p
+    → Begins gone inside D rest p
 begins [] inside D rest p h k = record { ahead = D; is = h; bits = with1 (bits_of D) (λ c. omega (arith, c.le, c.lt, c.same)) }
 begins (c ∷ gone) inside [] rest p h k =
     let same : c ≡ p = cc in
@@ -61,7 +63,8 @@ own_class C (Leaves c t ∷ V) = elim (cases_Bool (C c)) [
 ]
 own_class C (Visits q t ∷ V) = own_class C V
 
-over_left : (server : Server) (end : ℚ) (σ : ServerState) (V : List ServerStep) (C : Class) (p : Card) (t s : ℚ) (under : Option Under) → AllAllowed server end σ V → σ.under ≡ under → ¬ IsComplete (after server.discipline σ V).under → C p ≡ true → t <ℚ s
+over_left : (server : Server) (end : ℚ) (σ : ServerState) (V : List ServerStep) (C : Class) (p : Card) (t s : ℚ) (under : Option Under)
+    → AllAllowed server end σ V → σ.under ≡ under → ¬ IsComplete (after server.discipline σ V).under → C p ≡ true → t <ℚ s
     → total (leaves C (before s)) V <ℚ size p → NotOver p t under
 over_left server end σ V C p t s None a e n k l m = tt
 over_left server end σ V C p t s (Some u) a e n k l m = λ o.
@@ -73,7 +76,8 @@ over_left server end σ V C p t s (Some u) a e n k l m = λ o.
     with3 (size u.card) (size p) (total (leaves C (before s)) V) (λ c. omega (arith, c.le, c.lt, c.same))
 
 -- while less than p and what came before it has left, the work is below these
-not_worked_before : (server : Server) (end : ℚ) (V front back : List ServerStep) (C : Class) (q : ℕ) (p : Card) (u t s : ℚ) → IsLawfulView server end V → V ≡ front ++ Arrives p u ∷ back → IsOfQueue C q → C p ≡ true → u ≤ℚ t → t <ℚ s
+not_worked_before : (server : Server) (end : ℚ) (V front back : List ServerStep) (C : Class) (q : ℕ) (p : Card) (u t s : ℚ)
+    → IsLawfulView server end V → V ≡ front ++ Arrives p u ∷ back → IsOfQueue C q → C p ≡ true → u ≤ℚ t → t <ℚ s
     → departed C V s <ℚ total (arrives C (upto u)) front +ℚ size p → worked C V t <ℚ total (arrives C (upto u)) front +ℚ size p
 not_worked_before server end V front back C q p u t s lawful joined g counted l m few =
     let d = server.discipline in
@@ -114,7 +118,7 @@ not_worked_before server end V front back C q p u t s lawful joined g counted l 
     subst (λ (σ : ServerState). ¬ IsComplete σ.under) (ap (after d (start d)) joined ∙ after-append server (start d) front (Arrives p u ∷ back) ∙ ap (after d two) a.at.joined ∙ after-append server two P S) lawful.none_complete in
     let not_over : ahead ≡ [] → NotOver p t three.under =
     λ e.
-    let none : bits_of ahead ≡ int (pos 0) = ap bits_of e in
+    let none : bits_of ahead ≡ int (pos 0) = ap bits_of {x = ahead} e in
     over_left server end three S C p t s three.under a.at.back_allowed refl complete counted m
     (rest_small (bits_of (departures_of C P)) (total (leaves C (before s)) S) (bits_of D) (size p) (bits_of ahead) less parts none) in
     let below = done_below three.inside three.busy three.under C q p t ahead a.sound g all.1.0.1.some_bits not_over record { rest = arrivals_of C P; is = beginning.is } in
@@ -129,14 +133,17 @@ not_worked_before server end V front back C q p u t s lawful joined g counted l 
     rest_small : (G LS D z H : ℚ) → G +ℚ LS <ℚ D +ℚ z → D ≡ G +ℚ H → H ≡ int (pos 0) → LS <ℚ z
     rest_small G LS D z H h e k = with5 G LS D z H (λ c. omega (arith, c.le, c.lt, c.same))
 
-    fewer : (L LF LP LS LU LT G A z S D : ℚ) → L ≡ LF +ℚ (int (pos 0) +ℚ (LP +ℚ LS)) → LU ≤ℚ LF → LT ≤ℚ LP → LT ≡ G → L <ℚ A +ℚ z → S +ℚ LU ≡ int (pos 0) +ℚ A → S ≡ D → G +ℚ LS <ℚ D +ℚ z
+    fewer : (L LF LP LS LU LT G A z S D : ℚ) → L ≡ LF +ℚ (int (pos 0) +ℚ (LP +ℚ LS)) → LU ≤ℚ LF → LT ≤ℚ LP → LT ≡ G → L <ℚ A +ℚ z
+        → S +ℚ LU ≡ int (pos 0) +ℚ A → S ≡ D → G +ℚ LS <ℚ D +ℚ z
     fewer L LF LP LS LU LT G A z S D e1 h1 h2 e2 h3 e3 e4 =
         let one : LU +ℚ G +ℚ LS <ℚ A +ℚ z = with8 L LF LP LS LU LT G (A +ℚ z) (λ c. omega (arith, c.le, c.lt, c.same)) in
         with7 LU G LS A z S D (λ c. omega (arith, c.le, c.lt, c.same))
 
 -- ---- what arrived by the delay before s has left before s
-pub lag_from_service : (server : Server) (end : ℚ) (V : List ServerStep) (Q f : Class) (q : ℕ) (α β : ℚ → Ext) (delay : ℚ) → IsLawfulView server end V → IsOfQueue Q q → IsPart f Q
-    → Serves Q β end V → KeepsArrivals Q α V → int (pos 0) ≤ℚ delay → Within α β delay → (s : ℚ) → s ≤ℚ end → arrived f V (s -ℚ delay) ≤ℚ departed f V s
+pub lag_from_service : (server : Server) (end : ℚ) (V : List ServerStep) (Q f : Class) (q : ℕ) (α β : ℚ → Ext) (delay : ℚ)
+    → IsLawfulView server end V → IsOfQueue Q q → IsPart f Q
+    → Serves Q β end V → KeepsArrivals Q α V → int (pos 0) ≤ℚ delay → Within α β delay → (s : ℚ) → s ≤ℚ end
+    → arrived f V (s -ℚ delay) ≤ℚ departed f V s
 lag_from_service server end V Q f q α β delay lawful own part serves keeps on within s l = elim (oldest server end V Q q s lawful own) [
   | inl empty ↦
       let e = empty.all_left f part in

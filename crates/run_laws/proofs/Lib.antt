@@ -25,9 +25,12 @@ pub mod OverALink
 pub mod Latency
 pub mod OnePacket
 pub mod OneHop
+pub mod Totals
 pub mod Parts
 pub mod FifoQueue
+pub mod QueueBound
 pub mod OneFlow
+pub mod SeveralFlows
 pub mod Oldest
 pub mod Outputs
 pub mod Lag

@@ -37,7 +37,8 @@ departures_of C (Leaves c t ∷ V) = if C c then c ∷ departures_of C V else de
 departures_of C (Visits q t ∷ V) = departures_of C V
 
 -- ---- a class of one queue is first in, first out
-pub queue_order : (server : Server) (end : ℚ) (σ : ServerState) (V : List ServerStep) (Q : Class) (q : ℕ) → IsOfQueue Q q → AllAllowed server end σ V → IsSound σ
+pub queue_order : (server : Server) (end : ℚ) (σ : ServerState) (V : List ServerStep) (Q : Class) (q : ℕ) → IsOfQueue Q q
+    → AllAllowed server end σ V → IsSound σ
     → departures_of Q V ++ of_class Q (after server.discipline σ V).inside ≡ of_class Q σ.inside ++ arrivals_of Q V
 queue_order server end σ [] Q q g a h = sym (append-nil (of_class Q σ.inside))
 queue_order server end σ (Arrives c t ∷ V) Q q g a h =
@@ -67,7 +68,8 @@ part_no f Q c s e = elim (cases_Bool (f c)) [
   | inr k ↦ k
 ]
 
-part_bits : (f Q : Class) (c : Card) (cs : List Card) (x : ℚ) → IsPart f Q → x ≡ bits_of (of_class f cs) → when (f c) (size c) +ℚ x ≡ bits_of (of_class f (if Q c then c ∷ cs else cs))
+part_bits : (f Q : Class) (c : Card) (cs : List Card) (x : ℚ) → IsPart f Q → x ≡ bits_of (of_class f cs)
+    → when (f c) (size c) +ℚ x ≡ bits_of (of_class f (if Q c then c ∷ cs else cs))
 part_bits f Q c cs x s h = elim (cases_Bool (f c)) [
   | inl k ↦ rw (s c k, k, when_true true (size c) refl) (ap (λ (y : ℚ). size c +ℚ y) h)
   | inr k ↦ elim (cases_Bool (Q c)) [
@@ -76,14 +78,16 @@ part_bits f Q c cs x s h = elim (cases_Bool (f c)) [
   ]
 ]
 
-pub left_part : (f Q : Class) (p : ℚ → Bool) (V : List ServerStep) → IsPart f Q → Each (IsBefore p) V → total (leaves f p) V ≡ bits_of (of_class f (departures_of Q V))
+pub left_part : (f Q : Class) (p : ℚ → Bool) (V : List ServerStep) → IsPart f Q → Each (IsBefore p) V
+    → total (leaves f p) V ≡ bits_of (of_class f (departures_of Q V))
 left_part f Q p [] s h = refl
 left_part f Q p (Arrives c t ∷ V) s h = add_nothing (total (leaves f p) V) ∙ left_part f Q p V s h.1
 left_part f Q p (Works c a b w ∷ V) s h = add_nothing (total (leaves f p) V) ∙ left_part f Q p V s h.1
 left_part f Q p (Leaves c t ∷ V) s h = rw (if_true (f c) (p t) (size c) h.0) (part_bits f Q c (departures_of Q V) (total (leaves f p) V) s (left_part f Q p V s h.1))
 left_part f Q p (Visits q t ∷ V) s h = add_nothing (total (leaves f p) V) ∙ left_part f Q p V s h.1
 
-came_part : (f Q : Class) (p : ℚ → Bool) (V : List ServerStep) → IsPart f Q → Each (IsBefore p) V → total (arrives f p) V ≡ bits_of (of_class f (arrivals_of Q V))
+came_part : (f Q : Class) (p : ℚ → Bool) (V : List ServerStep) → IsPart f Q → Each (IsBefore p) V
+    → total (arrives f p) V ≡ bits_of (of_class f (arrivals_of Q V))
 came_part f Q p [] s h = refl
 came_part f Q p (Arrives c t ∷ V) s h = rw (if_true (f c) (p t) (size c) h.0) (part_bits f Q c (arrivals_of Q V) (total (arrives f p) V) s (came_part f Q p V s h.1))
 came_part f Q p (Works c a b w ∷ V) s h = add_nothing (total (arrives f p) V) ∙ came_part f Q p V s h.1
@@ -99,7 +103,8 @@ record Found (Q : Class) (V : List ServerStep) (D : List Card) (p : Card) : Type
   counted : Q p ≡ true
   same : arrivals_of Q front ≡ D
 
-further : (Q : Class) (V : List ServerStep) (x : ServerStep) (D E : List Card) (p : Card) → (found : Found Q V D p) → ((W : List ServerStep) → arrivals_of Q W ≡ D → arrivals_of Q (x ∷ W) ≡ E) → Found Q (x ∷ V) E p
+further : (Q : Class) (V : List ServerStep) (x : ServerStep) (D E : List Card) (p : Card) → (found : Found Q V D p)
+    → ((W : List ServerStep) → arrivals_of Q W ≡ D → arrivals_of Q (x ∷ W) ≡ E) → Found Q (x ∷ V) E p
 further Q V x D E p w f = record {
   u = w.u;
   front = x ∷ w.front;
@@ -143,7 +148,8 @@ pub record IsOldest (V : List ServerStep) (Q : Class) (t : ℚ) (p : Card) (u : 
   -- what left is what came before it, of each part of the queue
   pub left : (f : Class) → IsPart f Q → departed f V t ≡ total (arrives f (upto u)) front
   pub came : (f : Class) → IsPart f Q → arrived f V u ≤ℚ departed f V t
-  pub came_upto : (f : Class) → departed f V t ≡ total (arrives f (upto u)) front → departed f V t +ℚ when (f p) (size p) ≤ℚ arrived_upto f V u
+  pub came_upto : (f : Class) → departed f V t ≡ total (arrives f (upto u)) front
+      → departed f V t +ℚ when (f p) (size p) ≤ℚ arrived_upto f V u
   pub work : (f : Class) → IsPart f Q → worked f V t ≤ℚ departed f V t +ℚ when (f p) (size p)
 
 pub record Oldest (V : List ServerStep) (Q : Class) (t : ℚ) : Type 0 where
@@ -164,7 +170,8 @@ part_empty f Q (c ∷ cs) s h = elim (cases_Bool (Q c)) [
   | inr e ↦ rw (when_false (f c) (size c) (part_no f Q c s e)) (add_nothing (sum_of f cs) ∙ part_empty f Q cs s (rw e at h))
 ]
 
-first_done : (cards : List Card) (busy : ℚ) (under : Option Under) (f Q : Class) (q : ℕ) (t : ℚ) (p : Card) (rest : List Card) → IsSoundFor cards busy under → IsPart f Q → IsOfQueue Q q → of_class Q cards ≡ p ∷ rest
+first_done : (cards : List Card) (busy : ℚ) (under : Option Under) (f Q : Class) (q : ℕ) (t : ℚ) (p : Card) (rest : List Card)
+    → IsSoundFor cards busy under → IsPart f Q → IsOfQueue Q q → of_class Q cards ≡ p ∷ rest
     → done_by f t under ≤ℚ when (f p) (size p)
 first_done cards busy None f Q q t p rest h s g e = when_nonneg (f p) (size p) (size_nonneg p)
 first_done cards busy (Some w) f Q q t p rest h s g e = elim (cases_Bool (f w.card)) [
@@ -178,7 +185,8 @@ first_done cards busy (Some w) f Q q t p rest h s g e = elim (cases_Bool (f w.ca
 ]
 
 -- what came before u, of a list in which something arrives at u
-came_before : (server : Server) (end : ℚ) (V front back : List ServerStep) (p : Card) (u : ℚ) (f : Class) → IsLawfulView server end V → V ≡ front ++ Arrives p u ∷ back → arrived f V u ≤ℚ total (arrives f (upto u)) front
+came_before : (server : Server) (end : ℚ) (V front back : List ServerStep) (p : Card) (u : ℚ) (f : Class) → IsLawfulView server end V
+    → V ≡ front ++ Arrives p u ∷ back → arrived f V u ≤ℚ total (arrives f (upto u)) front
 came_before server end V front back p u f lawful joined =
     let d = server.discipline in
     let all = allowed-append server end (start d) front (Arrives p u ∷ back) (subst (AllAllowed server end (start d)) joined lawful.allowed) in
@@ -190,7 +198,8 @@ came_before server end V front back p u f lawful joined =
     let sooner = arrived_le f front (before u) (upto u) (before_upto u) in
     with4 (arrived f V u) (total (arrives f (before u)) front) (total (arrives f (before u)) (Arrives p u ∷ back)) (total (arrives f (upto u)) front) (λ c. omega (arith, c.le, c.lt, c.same))
 
-came_with : (V front back : List ServerStep) (p : Card) (u : ℚ) (f : Class) → V ≡ front ++ Arrives p u ∷ back → total (arrives f (upto u)) front +ℚ when (f p) (size p) ≤ℚ arrived_upto f V u
+came_with : (V front back : List ServerStep) (p : Card) (u : ℚ) (f : Class) → V ≡ front ++ Arrives p u ∷ back
+    → total (arrives f (upto u)) front +ℚ when (f p) (size p) ≤ℚ arrived_upto f V u
 came_with V front back p u f joined =
     let both : arrived_upto f V u ≡ total (arrives f (upto u)) front +ℚ (arrives f (upto u) (Arrives p u) +ℚ total (arrives f (upto u)) back) =
     ap (total (arrives f (upto u))) joined ∙ total-append (arrives f (upto u)) front (Arrives p u ∷ back) in
@@ -198,8 +207,10 @@ came_with V front back p u f joined =
     let rest = total_nonneg (arrives f (upto u)) back (each_all (λ x. int (pos 0) ≤ℚ arrives f (upto u) x) (arrives_nonneg f (upto u)) back) in
     with5 (arrived_upto f V u) (total (arrives f (upto u)) front) (arrives f (upto u) (Arrives p u)) (when (f p) (size p)) (total (arrives f (upto u)) back) (λ c. omega (arith, c.le, c.lt, c.same))
 
-with_oldest : (server : Server) (end : ℚ) (V : List ServerStep) (Q : Class) (q : ℕ) (t : ℚ) → IsLawfulView server end V → IsOfQueue Q q → (a : AtTime server end (start server.discipline) V (before t) t)
-    → (inside : List Card) → of_class Q (after server.discipline (start server.discipline) a.at.front).inside ≡ inside → IsEmpty V Q t ⊎ Oldest V Q t
+with_oldest : (server : Server) (end : ℚ) (V : List ServerStep) (Q : Class) (q : ℕ) (t : ℚ) → IsLawfulView server end V → IsOfQueue Q q
+    → (a : AtTime server end (start server.discipline) V (before t) t)
+    → (inside : List Card) → of_class Q (after server.discipline (start server.discipline) a.at.front).inside ≡ inside
+    → IsEmpty V Q t ⊎ Oldest V Q t
 with_oldest server end V Q q t lawful g a [] e = inl record {
   all_left = λ f s.
       let none = part_empty f Q (after server.discipline (start server.discipline) a.at.front).inside s e in
@@ -241,7 +252,8 @@ with_oldest server end V Q q t lawful g a (p ∷ rest) e =
       };
     }
 
-pub oldest : (server : Server) (end : ℚ) (V : List ServerStep) (Q : Class) (q : ℕ) (t : ℚ) → IsLawfulView server end V → IsOfQueue Q q → IsEmpty V Q t ⊎ Oldest V Q t
+pub oldest : (server : Server) (end : ℚ) (V : List ServerStep) (Q : Class) (q : ℕ) (t : ℚ) → IsLawfulView server end V → IsOfQueue Q q
+    → IsEmpty V Q t ⊎ Oldest V Q t
 oldest server end V Q q t lawful g =
     let a = at_before server end V t lawful in
     with_oldest server end V Q q t lawful g a _ refl

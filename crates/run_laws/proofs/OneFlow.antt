@@ -1,8 +1,8 @@
 -- One flow over a first in, first out server: the two deviations bound its delays and the backlog.
 use Rattle.run_laws.proofs.Entries.{queue_of_hop}
 use Rattle.std.specs.Prelude.{Some, None, ◌≡◌, ◌≤◌, ℕ, ◌==◌, true, [], ◌∷◌}
-use Rattle.std.proofs.Common.{arith, sym, ap, ◌∙◌, refl, inl, inr, subst}
-use Rattle.std.proofs.lemmas.Bool.{cases_Bool, eqb-true, eq-eqb}
+use Rattle.std.proofs.Common.{sym, ap, ◌∙◌, refl, inl, inr, subst}
+use Rattle.std.proofs.lemmas.Bool.{cases_Bool, eq-eqb}
 use Rattle.rational.specs.Rational.{ℚ, ◌-ℚ◌}
 use Rattle.rational.specs.Extended.{Ext, ◌≤ₑ◌, ◌+ₑ◌}
 use Rattle.rational.specs.declared.Extended.TheVariants.{Fin}
@@ -13,18 +13,15 @@ use Rattle.run_laws.specs.Cards.{Card, whole, of_queue, of_flow}
 use Rattle.run_laws.specs.Counts.{within}
 use Rattle.run_laws.specs.Premises.{EachArrival, KeepsArrivals, IsZeroAtStart}
 use Rattle.upp_curve.specs.Functions.{IsRising}
-use Rattle.run_laws.specs.Routes.{Routes, server_at, link_at, route_of, queue_at, first_server, server_after}
+use Rattle.run_laws.specs.Routes.{Routes, link_at, route_of, queue_at, first_server, server_after}
 use Rattle.run_laws.specs.Views.{view}
 use Rattle.run_laws.specs.Lawful.{run_start, IsLawful}
 use Rattle.run_laws.specs.RunPremises.{KeepsPremises}
-use Rattle.run_laws.specs.Bounds.{IsOnlyFlow, IsQueueBounded, IsFlowBounded}
-use Rattle.run_laws.proofs.Arrivals.{arrivals_map, same_arrivals, IsPassing, all_pass}
-use Rattle.run_laws.proofs.FirstHop.{BeginsAt, first_hop_keeps}
+use Rattle.run_laws.specs.Bounds.{BeginsAt, IsOnlyFlow, IsQueueBounded, IsFlowBounded}
+use Rattle.run_laws.proofs.Arrivals.{arrivals_map, same_arrivals, IsPassing}
+use Rattle.run_laws.proofs.FirstHop.{first_hop_keeps}
 use Rattle.run_laws.proofs.OneHop.{one_hop_delays}
-use Rattle.run_laws.proofs.FifoQueue.{fifo_queue_is_served}
-use Rattle.run_laws.proofs.Views.{views_are_lawful}
-use Rattle.run_laws.proofs.Delay.{delay_from_service}
-use Rattle.run_laws.proofs.Backlog.{backlog_from_service}
+use Rattle.run_laws.proofs.QueueBound.{passing, queue_is_bounded}
 
 -- a path of one hop has no server after another
 no_next : (a s q : ℕ) → server_after a (record { server = s; queue = q } ∷ []) ≡ None
@@ -32,8 +29,8 @@ no_next a s q = elim (cases_Bool (s == a)) [ inl e ↦ rw e refl | inr e ↦ rw 
 
 begins_there : (net : Routes) (s i : ℕ) → IsOnlyFlow net s i → BeginsAt net i s
 begins_there net s i only = record {
-  first = ap first_server only.path;
-  never_again = λ a h. let e : None ≡ Some s = sym (no_next a s 0) ∙ sym (ap (server_after a) only.path) ∙ h in absurd (cc);
+  first = ap first_server only.one_hop.path;
+  never_again = λ a h. let e : None ≡ Some s = sym (no_next a s 0) ∙ sym (ap (server_after a) only.one_hop.path) ∙ h in absurd (cc);
 }
 
 -- a packet of the flow, in queue 0
@@ -47,16 +44,18 @@ is_its net packet s i only c p =
     let e : c.flow ≡ i = only.alone c.flow p.is_live p.passes in
     record {
       its_flow = e;
-      its_queue = p.its_queue ∙ ap (λ (j : ℕ). queue_at s (route_of net j).hops) e ∙ ap (queue_at s) only.path ∙ queue_of_hop s 0;
+      its_queue = p.its_queue ∙ ap (λ (j : ℕ). queue_at s (route_of net j).hops) e ∙ ap (queue_at s) only.one_hop.path ∙ queue_of_hop s 0;
       small = subst (λ (j : ℕ). c.bits ≤ packet j) e p.small;
     }
 
-all_its : (net : Routes) (run : SpecRun) (packet : ℕ → ℕ) (α β : ℕ → ℚ → Ext) (s i : ℕ) → IsOnlyFlow net s i → IsLawful net run → KeepsPremises net packet α β run → EachArrival (IsIts packet i) (view net run s)
+all_its : (net : Routes) (run : SpecRun) (packet : ℕ → ℕ) (α β : ℕ → ℚ → Ext) (s i : ℕ) → IsOnlyFlow net s i → IsLawful net run
+    → KeepsPremises net packet α β run → EachArrival (IsIts packet i) (view net run s)
 all_its net run packet α β s i only lawful keeps =
     arrivals_map (IsPassing net packet s) (IsIts packet i) (is_its net packet s i only) (view net run s)
-    (all_pass net packet run.end (run_start net) run.steps s lawful.allowed keeps.sizes record { entries = λ p h. absurd (omega arith); dues = tt })
+    (passing net run packet α β s lawful keeps)
 
-queue_keeps : (net : Routes) (run : SpecRun) (packet : ℕ → ℕ) (α β : ℕ → ℚ → Ext) (s i : ℕ) → IsOnlyFlow net s i → IsLawful net run → KeepsPremises net packet α β run → KeepsArrivals (of_queue 0) (α i) (view net run s)
+queue_keeps : (net : Routes) (run : SpecRun) (packet : ℕ → ℕ) (α β : ℕ → ℚ → Ext) (s i : ℕ) → IsOnlyFlow net s i → IsLawful net run
+    → KeepsPremises net packet α β run → KeepsArrivals (of_queue 0) (α i) (view net run s)
 queue_keeps net run packet α β s i only lawful keeps a b l =
     let V = view net run s in
     let own = first_hop_keeps net run i s (α i) lawful (begins_there net s i only) (keeps.arrivals i only.is_live) in
@@ -64,19 +63,12 @@ queue_keeps net run packet α β s i only lawful keeps a b l =
     (arrivals_map (IsIts packet i) (λ c. (c.queue == 0) ≡ (c.flow == i)) (λ c h. eq-eqb c.queue 0 h.its_queue ∙ sym (eq-eqb c.flow i h.its_flow)) V (all_its net run packet α β s i only lawful keeps)) in
     subst (λ (x : ℚ). Fin x ≤ₑ α i (b -ℚ a)) (sym same) (own a b l)
 
-pub one_flow_is_bounded : (net : Routes) (run : SpecRun) (s i : ℕ) (packet : ℕ → ℕ) (α β : ℕ → ℚ → Ext) (delay most : Ext) → IsOnlyFlow net s i → IsLawful net run → KeepsPremises net packet α β run → IsZeroAtStart (β s) → IsRising (β s)
-    → IsHorizontalDeviation (α i) (β s) delay → IsVerticalDeviation (α i) (packetised (β s) (whole (packet i))) most → IsQueueBounded net run s 0 delay most × IsFlowBounded net run i (delay +ₑ Fin (link_at net s))
+pub one_flow_is_bounded : (net : Routes) (run : SpecRun) (s i : ℕ) (packet : ℕ → ℕ) (α β : ℕ → ℚ → Ext) (delay most : Ext)
+    → IsOnlyFlow net s i → IsLawful net run → KeepsPremises net packet α β run → IsZeroAtStart (β s) → IsRising (β s)
+    → IsHorizontalDeviation (α i) (β s) delay → IsVerticalDeviation (α i) (packetised (β s) (whole (packet i))) most
+    → IsQueueBounded net run s 0 delay most × IsFlowBounded net run i (delay +ₑ Fin (link_at net s))
 one_flow_is_bounded net run s i packet α β delay most only lawful keeps zero rises dh dv =
-    let server = server_at net s in
     let V = view net run s in
-    let view_lawful = views_are_lawful net run s lawful only.known in
-    let arrivals = queue_keeps net run packet α β s i only lawful keeps in
     let sizes = arrivals_map (IsIts packet i) (λ c. of_queue 0 c ≡ true → c.bits ≤ packet i) (λ c h _. h.small) V (all_its net run packet α β s i only lawful keeps) in
-    let serves = fifo_queue_is_served server run.end V (β s) view_lawful only.is_fifo (keeps.service s only.known) zero in
-    let hops = delay_from_service server run.end V (of_queue 0) 0 (α i) (β s) delay view_lawful (λ c h. eqb-true c.queue 0 h) arrivals serves rises dh in (
-      record {
-        delays = hops;
-        backlogs = backlog_from_service server run.end V (of_queue 0) (packet i) (α i) (β s) most view_lawful sizes arrivals serves dv;
-      },
-      one_hop_delays net run.end (run_start net) run.steps i s 0 delay record { path = only.path; link_on = only.link_on } lawful.allowed hops,
-    )
+    let bounded = queue_is_bounded net run s (packet i) (α i) (β s) delay most lawful only.known only.is_fifo (keeps.service s only.known) zero rises (queue_keeps net run packet α β s i only lawful keeps) sizes dh dv in
+    (bounded, one_hop_delays net run.end (run_start net) run.steps i s 0 delay only.one_hop lawful.allowed bounded.delays)

@@ -31,7 +31,8 @@ abbrev steps : List ServerStep
 steps = view one_server one_packet 0
 
 -- ---- its work
-clip_line : (x : ℚ) → whole 10 <ℚ x → x ≤ℚ whole 130 → clip record { start = whole 10; end = whole 130; bits = whole 12000 } x ≡ whole 100 *ℚ (x -ℚ whole 10)
+clip_line : (x : ℚ) → whole 10 <ℚ x → x ≤ℚ whole 130
+    → clip record { start = whole 10; end = whole 130; bits = whole 12000 } x ≡ whole 100 *ℚ (x -ℚ whole 10)
 unfolding clip
 clip_line x h k = elim (le_or_lt (whole 130) x) [
   | inl l ↦ rw (le_q_not _ _ h, le_q_out _ _ l) (with1 x (λ c. omega (arith, c.le, c.lt, c.same)))
@@ -42,7 +43,9 @@ clip_line x h k = elim (le_or_lt (whole 130) x) [
       rw (le_q_not _ _ h, le_q_not _ _ l) (line part x (e) f (mul_comm part (whole 130)) (mul_comm part (whole 10)))
 ]
   where
-    line : (part x : ℚ) → part *ℚ (whole 130 -ℚ whole 10) ≡ x -ℚ whole 10 → part *ℚ (whole 130 -ℚ whole 10) ≡ part *ℚ whole 130 -ℚ part *ℚ whole 10 → part *ℚ whole 130 ≡ whole 130 *ℚ part → part *ℚ whole 10 ≡ whole 10 *ℚ part → whole 12000 *ℚ part ≡ whole 100 *ℚ (x -ℚ whole 10)
+    line : (part x : ℚ) → part *ℚ (whole 130 -ℚ whole 10) ≡ x -ℚ whole 10
+        → part *ℚ (whole 130 -ℚ whole 10) ≡ part *ℚ whole 130 -ℚ part *ℚ whole 10 → part *ℚ whole 130 ≡ whole 130 *ℚ part
+        → part *ℚ whole 10 ≡ whole 10 *ℚ part → whole 12000 *ℚ part ≡ whole 100 *ℚ (x -ℚ whole 10)
     line part x e f g h = with5 part x (part *ℚ (whole 130 -ℚ whole 10)) (part *ℚ whole 130) (part *ℚ whole 10) (λ c. omega (arith, c.le, c.lt, c.same))
 
 work_is : (x : ℚ) → worked all steps x ≡ clip record { start = whole 10; end = whole 130; bits = whole 12000 } x
@@ -88,7 +91,8 @@ enough a b x y h k = elim (le_or_lt (whole 0) (b -ℚ a -ℚ whole 10)) [
   | inr l ↦ rw (max_q_left (whole 0) (b -ℚ a -ℚ whole 10) l) (with2 x y (λ c. omega (arith, c.le, c.lt, c.same)))
 ]
 
-window : (a b : ℚ) → a <ℚ b → b ≤ℚ whole 130 → IsBusy steps a b → worked all steps a +ℚ whole 100 *ℚ max_q (whole 0) (b -ℚ a -ℚ whole 10) ≤ℚ worked all steps b
+window : (a b : ℚ) → a <ℚ b → b ≤ℚ whole 130 → IsBusy steps a b
+    → worked all steps a +ℚ whole 100 *ℚ max_q (whole 0) (b -ℚ a -ℚ whole 10) ≤ℚ worked all steps b
 window a b l end busy =
     let on = from_0 a b l busy in
     let wa = work_is a in
@@ -110,13 +114,16 @@ window a b l end busy =
           both a b (worked all steps a) (worked all steps b) (wa ∙ ca) (wb ∙ cb) l
     ]
   where
-    early : (a b x y : ℚ) → x ≡ whole 0 → y ≡ whole 0 → whole 0 ≤ℚ a → b ≤ℚ whole 10 → x +ℚ whole 100 *ℚ max_q (whole 0) (b -ℚ a -ℚ whole 10) ≤ℚ y
+    early : (a b x y : ℚ) → x ≡ whole 0 → y ≡ whole 0 → whole 0 ≤ℚ a → b ≤ℚ whole 10
+        → x +ℚ whole 100 *ℚ max_q (whole 0) (b -ℚ a -ℚ whole 10) ≤ℚ y
     early a b x y e f h k = enough a b x y (with2 x y (λ c. omega (arith, c.le, c.lt, c.same))) (with4 a b x y (λ c. omega (arith, c.le, c.lt, c.same)))
 
-    late : (a b x y : ℚ) → x ≡ whole 0 → y ≡ whole 100 *ℚ (b -ℚ whole 10) → whole 0 ≤ℚ a → whole 10 <ℚ b → x +ℚ whole 100 *ℚ max_q (whole 0) (b -ℚ a -ℚ whole 10) ≤ℚ y
+    late : (a b x y : ℚ) → x ≡ whole 0 → y ≡ whole 100 *ℚ (b -ℚ whole 10) → whole 0 ≤ℚ a → whole 10 <ℚ b
+        → x +ℚ whole 100 *ℚ max_q (whole 0) (b -ℚ a -ℚ whole 10) ≤ℚ y
     late a b x y e f h k = enough a b x y (with3 b x y (λ c. omega (arith, c.le, c.lt, c.same))) (with4 a b x y (λ c. omega (arith, c.le, c.lt, c.same)))
 
-    both : (a b x y : ℚ) → x ≡ whole 100 *ℚ (a -ℚ whole 10) → y ≡ whole 100 *ℚ (b -ℚ whole 10) → a <ℚ b → x +ℚ whole 100 *ℚ max_q (whole 0) (b -ℚ a -ℚ whole 10) ≤ℚ y
+    both : (a b x y : ℚ) → x ≡ whole 100 *ℚ (a -ℚ whole 10) → y ≡ whole 100 *ℚ (b -ℚ whole 10) → a <ℚ b
+        → x +ℚ whole 100 *ℚ max_q (whole 0) (b -ℚ a -ℚ whole 10) ≤ℚ y
     both a b x y e f h = enough a b x y (with4 a b x y (λ c. omega (arith, c.le, c.lt, c.same))) (with4 a b x y (λ c. omega (arith, c.le, c.lt, c.same)))
 
 keeps_service : KeepsService (its_service 0) (whole 130) steps
@@ -152,7 +159,7 @@ only_flow (suc j) live passes = absurd passes
 
 pub one_packet_reaches_its_bound : OnePacketReachesItsBound
 one_packet_reaches_its_bound = record {
-  is_alone = record { known = omega arith; is_fifo = refl; link_on = le_t 0 0 refl; is_live = refl; path = refl; alone = only_flow };
+  is_alone = record { known = omega arith; is_fifo = refl; is_live = refl; one_hop = record { path = refl; link_on = le_t 0 0 refl }; alone = only_flow };
   from_zero = latency_is_zero_at_start (whole 100) (whole 10) (le_t 0 100 refl) (le_t 0 10 refl);
   rises = latency_rises (whole 100) (whole 10) (le_t 0 100 refl) (le_t 0 10 refl);
   is_lawful = one_packet_is_lawful;

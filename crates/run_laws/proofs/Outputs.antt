@@ -26,7 +26,8 @@ use Rattle.run_laws.proofs.Orders.{left_worked, left_upto_worked, worked_arrived
 use Rattle.run_laws.proofs.Stretches.{none_at_first}
 use Rattle.run_laws.proofs.Service.{packets_are_served}
 
-left_window_step : (C : Class) (s t : ℚ) → s ≤ℚ t → (x : ServerStep) → leaves C (upto t) x ≡ leaves C (before s) x +ℚ leaves C (within s t) x
+left_window_step : (C : Class) (s t : ℚ) → s ≤ℚ t → (x : ServerStep)
+    → leaves C (upto t) x ≡ leaves C (before s) x +ℚ leaves C (within s t) x
 left_window_step C s t h (Arrives c u) = nothing
 left_window_step C s t h (Works c a b w) = nothing
 left_window_step C s t h (Leaves c u) = window_term (C c) s t u (size c) h
@@ -37,20 +38,24 @@ departed_in_is C V s t h =
     total_sum (leaves C (upto t)) (leaves C (before s)) (leaves C (within s t)) V
     (each_all (λ x. leaves C (upto t) x ≡ leaves C (before s) x +ℚ leaves C (within s t) x) (left_window_step C s t h) V)
 
-pub left_came : (server : Server) (end : ℚ) (V : List ServerStep) (C : Class) (t : ℚ) → IsLawfulView server end V → departed_upto C V t ≤ℚ arrived_upto C V t
+pub left_came : (server : Server) (end : ℚ) (V : List ServerStep) (C : Class) (t : ℚ) → IsLawfulView server end V
+    → departed_upto C V t ≤ℚ arrived_upto C V t
 left_came server end V C t h = le_trans (left_upto_worked server end V C t h) (le_trans (worked_arrived server end V C t h) (arrived_le C V (before t) (upto t) (before_upto t)))
 
 -- ---- by the service
-spread : (out left gone came before_r window γ : ℚ) → gone ≡ left +ℚ out → came ≡ before_r +ℚ window → gone ≤ℚ came → before_r +ℚ γ ≤ℚ left → out ≤ℚ window -ℚ γ
+spread : (out left gone came before_r window γ : ℚ) → gone ≡ left +ℚ out → came ≡ before_r +ℚ window → gone ≤ℚ came → before_r +ℚ γ ≤ℚ left
+    → out ≤ℚ window -ℚ γ
 spread out left gone came before_r window γ e f h k = with7 out left gone came before_r window γ (λ c. omega (arith, c.le, c.lt, c.same))
 
 -- a member of the deconvolution, at a time at which the curve less one packet is γ
-member : (α P : ℚ → Ext) (x y γ came few : ℚ) (most : Ext) → int (pos 0) ≤ℚ y → P y ≡ Fin γ → Fin came ≤ₑ α (x +ℚ y) → few ≤ℚ came -ℚ γ → IsDeconvolution α P x most → Fin few ≤ₑ most
+member : (α P : ℚ → Ext) (x y γ came few : ℚ) (most : Ext) → int (pos 0) ≤ℚ y → P y ≡ Fin γ → Fin came ≤ₑ α (x +ℚ y) → few ≤ℚ came -ℚ γ
+    → IsDeconvolution α P x most → Fin few ≤ₑ most
 member α P x y γ came few most on e keep less is =
     le_ext_trans (Fin few) (Fin (came -ℚ γ)) most less
     (le_ext_trans (Fin (came -ℚ γ)) (α (x +ℚ y) -ₑ γ) most (minus_le came γ (α (x +ℚ y)) keep) (is.above record { at = y; nonneg = on; level = γ; is = e }))
 
-in_run : (server : Server) (end : ℚ) (V : List ServerStep) (C : Class) (bits : ℕ) (α β : ℚ → Ext) (s t : ℚ) (most : Ext) → IsLawfulView server end V → KeepsSizes C bits V → KeepsArrivals C α V → Serves C β end V
+in_run : (server : Server) (end : ℚ) (V : List ServerStep) (C : Class) (bits : ℕ) (α β : ℚ → Ext) (s t : ℚ) (most : Ext)
+    → IsLawfulView server end V → KeepsSizes C bits V → KeepsArrivals C α V → Serves C β end V
     → s ≤ℚ t → s ≤ℚ end → IsDeconvolution α (packetised β (whole bits)) (t -ℚ s) most → Fin (departed_in C V s t) ≤ₑ most
 in_run server end V C bits α β s t most lawful sizes keeps serves h l is =
     let P = packetised β (whole bits) in
@@ -66,13 +71,15 @@ in_run server end V C bits α β s t most lawful sizes keeps serves h l is =
     is
 
 -- ---- after the end nothing leaves
-none_after : (server : Server) (end : ℚ) (σ : ServerState) (V : List ServerStep) (C : Class) (s t : ℚ) → end <ℚ s → AllAllowed server end σ V → Each (λ x. leaves C (within s t) x ≡ int (pos 0)) V
+none_after : (server : Server) (end : ℚ) (σ : ServerState) (V : List ServerStep) (C : Class) (s t : ℚ) → end <ℚ s
+    → AllAllowed server end σ V → Each (λ x. leaves C (within s t) x ≡ int (pos 0)) V
 none_after server end σ [] C s t l a = tt
 none_after server end σ (x ∷ V) C s t l a =
     let i = (time_in_order server end σ x a.0).in_run in
     (no_leaves C (within s t) x (and_left (le_q s (time_of x)) (le_q (time_of x) t) (le_q_not _ _ (with3 s (time_of x) end (λ c. omega (arith, c.le, c.lt, c.same))))), none_after server end (next server.discipline σ x) V C s t l a.1)
 
-pub nothing_leaves : (server : Server) (end : ℚ) (V : List ServerStep) (C : Class) (s t : ℚ) → IsLawfulView server end V → end <ℚ s → departed_in C V s t ≡ int (pos 0)
+pub nothing_leaves : (server : Server) (end : ℚ) (V : List ServerStep) (C : Class) (s t : ℚ) → IsLawfulView server end V → end <ℚ s
+    → departed_in C V s t ≡ int (pos 0)
 nothing_leaves server end V C s t lawful l = total_none (leaves C (within s t)) V (none_after server end (start server.discipline) V C s t l lawful.allowed)
 
 -- a time in the run at which nothing has come yet
@@ -82,7 +89,8 @@ early_time end = elim (le_or_lt end (int (pos 0))) [
   | inr h ↦ (int (pos 0), le_of_lt h, le_refl (int (pos 0)))
 ]
 
-past_run : (server : Server) (end : ℚ) (V : List ServerStep) (C : Class) (bits : ℕ) (α β : ℚ → Ext) (s t : ℚ) (most : Ext) → IsLawfulView server end V → KeepsSizes C bits V → KeepsArrivals C α V → Serves C β end V
+past_run : (server : Server) (end : ℚ) (V : List ServerStep) (C : Class) (bits : ℕ) (α β : ℚ → Ext) (s t : ℚ) (most : Ext)
+    → IsLawfulView server end V → KeepsSizes C bits V → KeepsArrivals C α V → Serves C β end V
     → s ≤ℚ t → end <ℚ s → IsDeconvolution α (packetised β (whole bits)) (t -ℚ s) most → Fin (departed_in C V s t) ≤ₑ most
 past_run server end V C bits α β s t most lawful sizes keeps serves h l is =
     let P = packetised β (whole bits) in
@@ -107,7 +115,8 @@ past_run server end V C bits α β s t most lawful sizes keeps serves h l is =
     low_level : (A L B γ : ℚ) → int (pos 0) ≤ℚ A → A +ℚ γ ≤ℚ L → L ≤ℚ B → B ≡ int (pos 0) → γ ≤ℚ int (pos 0)
     low_level A L B γ h k l e = with4 A L B γ (λ c. omega (arith, c.le, c.lt, c.same))
 
-pub output_from_service : (server : Server) (end : ℚ) (V : List ServerStep) (C : Class) (bits : ℕ) (α β : ℚ → Ext) (s t : ℚ) (most : Ext) → IsLawfulView server end V → KeepsSizes C bits V → KeepsArrivals C α V → Serves C β end V
+pub output_from_service : (server : Server) (end : ℚ) (V : List ServerStep) (C : Class) (bits : ℕ) (α β : ℚ → Ext) (s t : ℚ) (most : Ext)
+    → IsLawfulView server end V → KeepsSizes C bits V → KeepsArrivals C α V → Serves C β end V
     → s ≤ℚ t → IsDeconvolution α (packetised β (whole bits)) (t -ℚ s) most → Fin (departed_in C V s t) ≤ₑ most
 output_from_service server end V C bits α β s t most lawful sizes keeps serves h is = elim (le_or_lt s end) [
   | inl l ↦ in_run server end V C bits α β s t most lawful sizes keeps serves h l is

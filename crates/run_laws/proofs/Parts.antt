@@ -5,7 +5,7 @@ use Rattle.rational.specs.Rational.{ℚ, ◌+ℚ◌}
 use Rattle.rational.proofs.Linear.{with1}
 use Rattle.run_laws.specs.Cards.{size, Class, AreParts, ServerStep, Arrives, Works, Leaves, Visits}
 use Rattle.run_laws.specs.Servers.{clip}
-use Rattle.run_laws.specs.Counts.{when, arrives, leaves, works, before, arrived, worked, departed}
+use Rattle.run_laws.specs.Counts.{when, total, arrives, leaves, works, before, arrived, worked, departed}
 use Rattle.run_laws.proofs.Sums.{each_all, total_sum, nothing}
 
 -- ---- the counts of the parts add up
@@ -37,8 +37,12 @@ works_parts Q f g t a (Works c b e w) = part_all (Q c) (f c) (g c) (clip record 
 works_parts Q f g t a (Leaves c u) = nothing
 works_parts Q f g t a (Visits q u) = nothing
 
+pub arrivals_parts : (Q f g : Class) (p : ℚ → Bool) (V : List ServerStep) → AreParts Q f g
+    → total (arrives Q p) V ≡ total (arrives f p) V +ℚ total (arrives g p) V
+arrivals_parts Q f g p V a = total_sum (arrives Q p) (arrives f p) (arrives g p) V (each_all (λ x. arrives Q p x ≡ arrives f p x +ℚ arrives g p x) (arrives_parts Q f g p a) V)
+
 pub arrived_parts : (Q f g : Class) (V : List ServerStep) (t : ℚ) → AreParts Q f g → arrived Q V t ≡ arrived f V t +ℚ arrived g V t
-arrived_parts Q f g V t a = total_sum (arrives Q (before t)) (arrives f (before t)) (arrives g (before t)) V (each_all (λ x. arrives Q (before t) x ≡ arrives f (before t) x +ℚ arrives g (before t) x) (arrives_parts Q f g (before t) a) V)
+arrived_parts Q f g V t a = arrivals_parts Q f g (before t) V a
 
 pub worked_parts : (Q f g : Class) (V : List ServerStep) (t : ℚ) → AreParts Q f g → worked Q V t ≡ worked f V t +ℚ worked g V t
 worked_parts Q f g V t a = total_sum (works Q t) (works f t) (works g t) V (each_all (λ x. works Q t x ≡ works f t x +ℚ works g t x) (works_parts Q f g t a) V)

@@ -45,7 +45,9 @@ somebody C (c ∷ cs) h = elim (cases_Bool (C c)) [
     ]
 
 -- ---- at a place of the list all through which something of the class is to be worked, something of it is there
-pub inside_some : (server : Server) (end : ℚ) (V done todo : List ServerStep) (C : Class) (v : ℚ) → IsLawfulView server end V → V ≡ done ++ todo → AllAllowed server end (start server.discipline) done → Each (IsBefore (upto v)) done → Each (IsAfter (before v)) todo
+pub inside_some : (server : Server) (end : ℚ) (V done todo : List ServerStep) (C : Class) (v : ℚ) → IsLawfulView server end V
+    → V ≡ done ++ todo → AllAllowed server end (start server.discipline) done → Each (IsBefore (upto v)) done
+    → Each (IsAfter (before v)) todo
     → worked C V v <ℚ arrived C V v → int (pos 0) <ℚ sum_of C (after server.discipline (start server.discipline) done).inside
 inside_some server end V done todo C v lawful joined allowed early late less =
     let balance = balance_after server end (start server.discipline) done C (upto v) allowed tt early in
@@ -58,7 +60,8 @@ inside_some server end V done todo C v lawful joined allowed early late less =
     summed (sum_of C (after server.discipline (start server.discipline) done).inside) (total (leaves C (upto v)) done) (total (arrives C (upto v)) done) (total (arrives C (before v)) done) (total (arrives C (before v)) todo) (arrived C V v) (total (leaves C (upto v)) V) (total (leaves C (upto v)) todo) (worked C V v)
     balance none came sooner left rest most less
   where
-    summed : (S L A B N T M R W : ℚ) → S +ℚ L ≡ int (pos 0) +ℚ A → N ≡ int (pos 0) → T ≡ B +ℚ N → B ≤ℚ A → M ≡ L +ℚ R → int (pos 0) ≤ℚ R → M ≤ℚ W → W <ℚ T → int (pos 0) <ℚ S
+    summed : (S L A B N T M R W : ℚ) → S +ℚ L ≡ int (pos 0) +ℚ A → N ≡ int (pos 0) → T ≡ B +ℚ N → B ≤ℚ A → M ≡ L +ℚ R → int (pos 0) ≤ℚ R
+        → M ≤ℚ W → W <ℚ T → int (pos 0) <ℚ S
     summed S L A B N T M R W e1 e2 e3 h1 e4 h2 h3 h4 =
         let one : T ≤ℚ S +ℚ L = with6 S L A B N T (λ c. omega (arith, c.le, c.lt, c.same)) in
         with6 S L T M R W (λ c. omega (arith, c.le, c.lt, c.same))
@@ -69,7 +72,8 @@ abbrev pub under_bits : Class → Option Under → ℚ
 under_bits C None = int (pos 0)
 under_bits C (Some u) = when (C u.card) (size u.card)
 
-pub done_under : (cards : List Card) (busy : ℚ) (under : Option Under) (C : Class) (t : ℚ) → IsSoundFor cards busy under → done_by C t under ≤ℚ under_bits C under
+pub done_under : (cards : List Card) (busy : ℚ) (under : Option Under) (C : Class) (t : ℚ) → IsSoundFor cards busy under
+    → done_by C t under ≤ℚ under_bits C under
 done_under cards busy None C t h = le_refl (int (pos 0))
 done_under cards busy (Some u) C t h = when_le (C u.card) _ (size u.card) (done_at_most cards busy u t h)
 
@@ -78,7 +82,8 @@ under_nonneg C None = le_refl (int (pos 0))
 under_nonneg C (Some u) = when_nonneg (C u.card) (size u.card) (size_nonneg u.card)
 
 -- a step of work starts nothing of the class
-work_under : (under : Option Under) (d : Discipline) (cards : List Card) (r : Round) (C : Class) (c : Card) → next_card under d cards r ≡ Some c → (pick d cards r ≡ Some c → C c ≡ false) → when (C c) (size c) ≤ℚ under_bits C under
+work_under : (under : Option Under) (d : Discipline) (cards : List Card) (r : Round) (C : Class) (c : Card)
+    → next_card under d cards r ≡ Some c → (pick d cards r ≡ Some c → C c ≡ false) → when (C c) (size c) ≤ℚ under_bits C under
 work_under None d cards r C c h f = rw (when_false (C c) (size c) (f h)) (le_refl (int (pos 0)))
 work_under (Some u) d cards r C c h f =
     let same : u.card ≡ c = same_some u.card c h in
@@ -89,7 +94,8 @@ leave_under None C c t m = absurd m
 leave_under (Some u) C c t m = subst (λ (x : Card). when (C x) (size x) ≤ℚ when (C u.card) (size u.card)) m.is_card (le_refl (when (C u.card) (size u.card)))
 
 -- among steps of a stretch, what is left and done of the class is of the packet under way at their beginning
-pub only_under : (server : Server) (end : ℚ) (σ : ServerState) (R : List ServerStep) (C : Class) (p : ℚ → Bool) (t : ℚ) → AllAllowed server end σ R → IsSound σ → Each (IsBefore p) R
+pub only_under : (server : Server) (end : ℚ) (σ : ServerState) (R : List ServerStep) (C : Class) (p : ℚ → Bool) (t : ℚ)
+    → AllAllowed server end σ R → IsSound σ → Each (IsBefore p) R
     → ((front back : List ServerStep) (c : Card) (a b w : ℚ) → R ≡ front ++ Works c a b w ∷ back → pick server.discipline (after server.discipline σ front).inside (after server.discipline σ front).round ≡ Some c → C c ≡ false)
     → done_by C t (after server.discipline σ R).under +ℚ total (leaves C p) R ≤ℚ under_bits C σ.under
 only_under server end σ [] C p t a h e f =
@@ -101,7 +107,8 @@ only_under server end σ (x ∷ R) C p t a h e f =
     let one = step_under server end σ x C p a.0 h e.0 (λ c u v w j. f [] R c u v w (ap (λ (y : ServerStep). y ∷ R) j)) in
     with5 (done_by C t (after d (next d σ x) R).under) (total (leaves C p) R) (leaves C p x) (under_bits C (next_under σ.under x)) (under_bits C σ.under) (λ c. omega (arith, c.le, c.lt, c.same))
   where
-    step_under : (server : Server) (end : ℚ) (σ : ServerState) (x : ServerStep) (C : Class) (p : ℚ → Bool) → Allows server end σ x → IsSound σ → p (time_of x) ≡ true
+    step_under : (server : Server) (end : ℚ) (σ : ServerState) (x : ServerStep) (C : Class) (p : ℚ → Bool) → Allows server end σ x
+        → IsSound σ → p (time_of x) ≡ true
         → ((c : Card) (a b w : ℚ) → x ≡ Works c a b w → pick server.discipline σ.inside σ.round ≡ Some c → C c ≡ false)
         → under_bits C (next_under σ.under x) +ℚ leaves C p x ≤ℚ under_bits C σ.under
     step_under server end σ (Arrives c u) C p a h e f = with1 (under_bits C σ.under) (λ c. omega (arith, c.le, c.lt, c.same))
@@ -113,7 +120,8 @@ only_under server end σ (x ∷ R) C p t a h e f =
         rw (if_true (C c) (p u) (size c) e) (with2 (when (C c) (size c)) (under_bits C σ.under) (λ c. omega (arith, c.le, c.lt, c.same)))
     step_under server end σ (Visits q u) C p a h e f = with1 (under_bits C σ.under) (λ c. omega (arith, c.le, c.lt, c.same))
 
-pub under_small : (cards : List Card) (busy : ℚ) (under : Option Under) (C : Class) (bits : ℕ) → IsSoundFor cards busy under → AllSmall C bits cards → under_bits C under ≤ℚ int (pos bits)
+pub under_small : (cards : List Card) (busy : ℚ) (under : Option Under) (C : Class) (bits : ℕ) → IsSoundFor cards busy under
+    → AllSmall C bits cards → under_bits C under ≤ℚ int (pos bits)
 under_small cards busy None C bits h k = whole_nonneg bits
 under_small cards busy (Some u) C bits h k = elim (cases_Bool (C u.card)) [
   | inl e ↦ rw (when_true (C u.card) (size u.card) e) (size_most u.card bits (small_head C bits u.card.queue u.card cards k h.is_head e))

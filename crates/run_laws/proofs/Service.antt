@@ -25,7 +25,8 @@ itself β t h =
     subst (λ (x : ℚ). β x ≤ₑ Fin (int (pos 0))) e h
 
 -- at a time at which nothing is there, since then; else since the stretch began in which something is
-pub server_is_served : (server : Server) (end : ℚ) (V : List ServerStep) (β : ℚ → Ext) → IsLawfulView server end V → KeepsService β end V → IsZeroAtStart β → Serves all β end V
+pub server_is_served : (server : Server) (end : ℚ) (V : List ServerStep) (β : ℚ → Ext) → IsLawfulView server end V → KeepsService β end V
+    → IsZeroAtStart β → Serves all β end V
 server_is_served server end V β h k b t l = elim (le_or_lt (arrived all V t) (departed all V t)) [
   | inl m ↦ (
     t,
@@ -54,7 +55,8 @@ less_a_packet a l w b bits left up near = elim (le_or_lt (int (pos 0)) (b -ℚ b
   | inr h ↦ rw (max_q_left (int (pos 0)) (b -ℚ bits) h) (with2 a l (λ c. omega (arith, c.le, c.lt, c.same)))
 ]
 
-pub packets_are_served : (server : Server) (end : ℚ) (V : List ServerStep) (C : Class) (β : ℚ → Ext) (bits : ℕ) → IsLawfulView server end V → KeepsSizes C bits V → Serves C β end V → ServesPackets C (packetised β (whole bits)) end V
+pub packets_are_served : (server : Server) (end : ℚ) (V : List ServerStep) (C : Class) (β : ℚ → Ext) (bits : ℕ) → IsLawfulView server end V
+    → KeepsSizes C bits V → Serves C β end V → ServesPackets C (packetised β (whole bits)) end V
 packets_are_served server end V C β bits h k f t l =
     let (s, is) = f t l in
     let (b, e, up) = finite_below (arrived C V s) (worked C V t) (β (t -ℚ s)) is.kept_up in (

@@ -36,7 +36,8 @@ use Rattle.run_laws.proofs.Lag.{lag_from_service}
 use Rattle.run_laws.proofs.Sizes.{size_nonneg}
 
 -- ---- what arrived d before s has left before s: then what leaves from s on arrived since
-from_lag : (server : Server) (end : ℚ) (V : List ServerStep) (C : Class) (α : ℚ → Ext) (d s t : ℚ) → IsLawfulView server end V → KeepsArrivals C α V → int (pos 0) ≤ℚ d
+from_lag : (server : Server) (end : ℚ) (V : List ServerStep) (C : Class) (α : ℚ → Ext) (d s t : ℚ) → IsLawfulView server end V
+    → KeepsArrivals C α V → int (pos 0) ≤ℚ d
     → arrived C V (s -ℚ d) ≤ℚ departed C V s → s ≤ℚ t → Fin (departed_in C V s t) ≤ₑ α ((t -ℚ s) +ℚ d)
 from_lag server end V C α d s t lawful keeps d_on lag h =
     let all : s -ℚ d ≤ℚ t = with3 s d t (λ c. omega (arith, c.le, c.lt, c.same)) in
@@ -49,7 +50,8 @@ from_lag server end V C α d s t lawful keeps d_on lag h =
     (subst (λ (x : ℚ). Fin (arrived_in C V (s -ℚ d) t) ≤ₑ α x) span (keeps (s -ℚ d) t all))
 
 -- after the end nothing leaves, and no arrival curve is below 0
-past_run : (server : Server) (end : ℚ) (V : List ServerStep) (C : Class) (α : ℚ → Ext) (d s t : ℚ) → IsLawfulView server end V → KeepsArrivals C α V → int (pos 0) ≤ℚ d → end <ℚ s → s ≤ℚ t → Fin (departed_in C V s t) ≤ₑ α ((t -ℚ s) +ℚ d)
+past_run : (server : Server) (end : ℚ) (V : List ServerStep) (C : Class) (α : ℚ → Ext) (d s t : ℚ) → IsLawfulView server end V
+    → KeepsArrivals C α V → int (pos 0) ≤ℚ d → end <ℚ s → s ≤ℚ t → Fin (departed_in C V s t) ≤ₑ α ((t -ℚ s) +ℚ d)
 past_run server end V C α d s t lawful keeps d_on l h =
     let x = (t -ℚ s) +ℚ d in
     let on : int (pos 0) ≤ℚ x = with3 s t d (λ c. omega (arith, c.le, c.lt, c.same)) in
@@ -59,7 +61,8 @@ past_run server end V C α d s t lawful keeps d_on l h =
     le_ext_trans (Fin (departed_in C V s t)) (Fin (arrived_in C V (int (pos 0)) x)) (α x) (with2 (departed_in C V s t) (arrived_in C V (int (pos 0)) x) (λ c. omega (arith, c.le, c.lt, c.same)))
     (subst (λ (y : ℚ). Fin (arrived_in C V (int (pos 0)) x) ≤ₑ α y) span (keeps (int (pos 0)) x on))
 
-shifted_output : (server : Server) (end : ℚ) (V : List ServerStep) (C : Class) (α : ℚ → Ext) (d s t : ℚ) → IsLawfulView server end V → KeepsArrivals C α V → int (pos 0) ≤ℚ d
+shifted_output : (server : Server) (end : ℚ) (V : List ServerStep) (C : Class) (α : ℚ → Ext) (d s t : ℚ) → IsLawfulView server end V
+    → KeepsArrivals C α V → int (pos 0) ≤ℚ d
     → (s ≤ℚ end → arrived C V (s -ℚ d) ≤ℚ departed C V s) → s ≤ℚ t → Fin (departed_in C V s t) ≤ₑ shifted α (Fin d) (t -ℚ s)
 shifted_output server end V C α d s t lawful keeps d_on lag h = elim (le_or_lt s end) [
   | inl l ↦ from_lag server end V C α d s t lawful keeps d_on (lag l) h
@@ -78,7 +81,8 @@ part_output_from_service server end V Q f q α β own (Fin d) s t lawful of_q pa
 abbrev of_packet : ℕ → Class
 of_packet n c = c.packet == n
 
-leaving_some : (cards : List Card) (busy : ℚ) (under : Option Under) (c : Card) (t : ℚ) → IsSoundFor cards busy under → MayLeave under c t → int (pos 0) <ℚ size c
+leaving_some : (cards : List Card) (busy : ℚ) (under : Option Under) (c : Card) (t : ℚ) → IsSoundFor cards busy under → MayLeave under c t
+    → int (pos 0) <ℚ size c
 leaving_some cards busy None c t h m = absurd m
 leaving_some cards busy (Some u) c t h m =
     let s = h.started in
@@ -86,7 +90,8 @@ leaving_some cards busy (Some u) c t h m =
     let e = m.worked_off in
     with3 u.before u.last.bits (size c) (λ c. omega (arith, c.le, c.lt, c.same))
 
-late_gone : (server : Server) (end : ℚ) (σ : ServerState) (V : List ServerStep) (n : ℕ) (s : ℚ) → AllAllowed server end σ V → IsSound σ → s ≤ℚ end → total (leaves (of_packet n) (before s)) V ≤ℚ int (pos 0) → s ≤ℚ gone_at end n V
+late_gone : (server : Server) (end : ℚ) (σ : ServerState) (V : List ServerStep) (n : ℕ) (s : ℚ) → AllAllowed server end σ V → IsSound σ
+    → s ≤ℚ end → total (leaves (of_packet n) (before s)) V ≤ℚ int (pos 0) → s ≤ℚ gone_at end n V
 late_gone server end σ [] n s a h l k = l
 late_gone server end σ (Arrives c t ∷ V) n s a h l k = late_gone server end (next server.discipline σ (Arrives c t)) V n s a.1 (sound_next server end σ (Arrives c t) a.0 h) l (with1 (total (leaves (of_packet n) (before s)) V) (λ c. omega (arith, c.le, c.lt, c.same)))
 late_gone server end σ (Works c b f w ∷ V) n s a h l k = late_gone server end (next server.discipline σ (Works c b f w)) V n s a.1 (sound_next server end σ (Works c b f w) a.0 h) l (with1 (total (leaves (of_packet n) (before s)) V) (λ c. omega (arith, c.le, c.lt, c.same)))
@@ -119,7 +124,8 @@ arrival_at P (Visits q t ∷ front) back p u h = arrival_at P front back p u h
 abbrev IsOther : Card → Card → Type 0
 IsOther p d = d.packet ≢ p.packet
 
-once : (front back : List ServerStep) (p : Card) (u : ℚ) → NoneTwice (front ++ Arrives p u ∷ back) → EachArrival (IsOther p) front × EachArrival (IsOther p) back
+once : (front back : List ServerStep) (p : Card) (u : ℚ) → NoneTwice (front ++ Arrives p u ∷ back)
+    → EachArrival (IsOther p) front × EachArrival (IsOther p) back
 once [] back p u h = (tt, h.0)
 once (Arrives c t ∷ front) back p u h =
     let k = once front back p u h.1 in
@@ -129,11 +135,13 @@ once (Works c a b w ∷ front) back p u h = once front back p u h
 once (Leaves c t ∷ front) back p u h = once front back p u h
 once (Visits q t ∷ front) back p u h = once front back p u h
 
-none_of : (p : Card) (test : ℚ → Bool) (V : List ServerStep) → EachArrival (IsOther p) V → total (arrives (of_packet p.packet) test) V ≡ int (pos 0)
+none_of : (p : Card) (test : ℚ → Bool) (V : List ServerStep) → EachArrival (IsOther p) V
+    → total (arrives (of_packet p.packet) test) V ≡ int (pos 0)
 none_of p test V h = none_arrive (of_packet p.packet) test V (arrivals_map (IsOther p) (λ d. of_packet p.packet d ≡ false) (λ d k. ne_eqb d.packet p.packet k) V h)
 
 -- ... so no more of its number arrives than itself
-only_itself : (front back : List ServerStep) (p : Card) (u : ℚ) (test : ℚ → Bool) → NoneTwice (front ++ Arrives p u ∷ back) → total (arrives (of_packet p.packet) test) (front ++ Arrives p u ∷ back) ≤ℚ size p
+only_itself : (front back : List ServerStep) (p : Card) (u : ℚ) (test : ℚ → Bool) → NoneTwice (front ++ Arrives p u ∷ back)
+    → total (arrives (of_packet p.packet) test) (front ++ Arrives p u ∷ back) ≤ℚ size p
 only_itself front back p u test h =
     let k = once front back p u h in
     let K = of_packet p.packet in
@@ -151,7 +159,8 @@ sum_part f K (c ∷ cs) part =
     with4 (when (f c) (size c)) (when (K c) (size c)) (sum_of f cs) (sum_of K cs) (λ c. omega (arith, c.le, c.lt, c.same))
 
 -- none of its number has left before s
-none_of_it_left : (server : Server) (end : ℚ) (V : List ServerStep) (C : Class) (s : ℚ) → IsLawfulView server end V → NoneTwice V → (o : Oldest V C s) → departed (of_packet o.p.packet) V s ≤ℚ int (pos 0)
+none_of_it_left : (server : Server) (end : ℚ) (V : List ServerStep) (C : Class) (s : ℚ) → IsLawfulView server end V → NoneTwice V
+    → (o : Oldest V C s) → departed (of_packet o.p.packet) V s ≤ℚ int (pos 0)
 none_of_it_left server end V C s lawful twice o =
     let K = of_packet o.p.packet in
     let f : Class = λ c. C c && (c.packet == o.p.packet) in
@@ -172,10 +181,12 @@ none_of_it_left server end V C s lawful twice o =
     at_least : (L w z A : ℚ) → L +ℚ w ≤ℚ A → w ≡ z → L +ℚ z ≤ℚ A
     at_least L w z A h e = with4 L w z A (λ c. omega (arith, c.le, c.lt, c.same))
 
-    enough : (If IK Lf LK Af AK Au z : ℚ) → If +ℚ Lf ≡ int (pos 0) +ℚ Af → IK +ℚ LK ≡ int (pos 0) +ℚ AK → If ≤ℚ IK → Lf ≡ int (pos 0) → Lf +ℚ z ≤ℚ Au → Au ≤ℚ Af → AK ≤ℚ z → LK ≤ℚ int (pos 0)
+    enough : (If IK Lf LK Af AK Au z : ℚ) → If +ℚ Lf ≡ int (pos 0) +ℚ Af → IK +ℚ LK ≡ int (pos 0) +ℚ AK → If ≤ℚ IK → Lf ≡ int (pos 0)
+        → Lf +ℚ z ≤ℚ Au → Au ≤ℚ Af → AK ≤ℚ z → LK ≤ℚ int (pos 0)
     enough If IK Lf LK Af AK Au z e1 e2 h e3 k l m = with8 If IK Lf LK Af AK Au z (λ c. omega (arith, c.le, c.lt, c.same))
 
-there_until : (server : Server) (end : ℚ) (V : List ServerStep) (C : Class) (s : ℚ) → IsLawfulView server end V → NoneTwice V → s ≤ℚ end → (o : Oldest V C s) → s ≤ℚ gone_at end o.p.packet o.back
+there_until : (server : Server) (end : ℚ) (V : List ServerStep) (C : Class) (s : ℚ) → IsLawfulView server end V → NoneTwice V → s ≤ℚ end
+    → (o : Oldest V C s) → s ≤ℚ gone_at end o.p.packet o.back
 there_until server end V C s lawful twice l o =
     let d = server.discipline in
     let K = of_packet o.p.packet in
@@ -189,7 +200,8 @@ there_until server end V C s lawful twice l o =
     (with3 (departed K V s) (total (leaves K (before s)) o.front) (total (leaves K (before s)) o.back) (λ c. omega (arith, c.le, c.lt, c.same)))
 
 -- ---- its delay is one of those
-delay_at : (C : Class) (end : ℚ) (front back : List ServerStep) (p : Card) (u : ℚ) (most : Ext) → C p ≡ true → AreAtMost most (hop_delays C end (front ++ Arrives p u ∷ back)) → Fin (gone_at end p.packet back -ℚ u) ≤ₑ most
+delay_at : (C : Class) (end : ℚ) (front back : List ServerStep) (p : Card) (u : ℚ) (most : Ext) → C p ≡ true
+    → AreAtMost most (hop_delays C end (front ++ Arrives p u ∷ back)) → Fin (gone_at end p.packet back -ℚ u) ≤ₑ most
 delay_at C end [] back p u most e h = kept_first (C p) (gone_at end p.packet back -ℚ u) (hop_delays C end back) most e h
 delay_at C end (Arrives c t ∷ front) back p u most e h = delay_at C end front back p u most e (kept_rest (C c) _ (hop_delays C end (front ++ Arrives p u ∷ back)) most h)
 delay_at C end (Works c a b w ∷ front) back p u most e h = delay_at C end front back p u most e h
@@ -197,7 +209,8 @@ delay_at C end (Leaves c t ∷ front) back p u most e h = delay_at C end front b
 delay_at C end (Visits q t ∷ front) back p u most e h = delay_at C end front back p u most e h
 
 -- what arrived d before s has left before s, where no packet stays longer than d
-lag_from_delays : (server : Server) (end : ℚ) (V : List ServerStep) (C : Class) (q : ℕ) (d s : ℚ) → IsLawfulView server end V → NoneTwice V → IsOfQueue C q → int (pos 0) ≤ℚ d → AreAtMost (Fin d) (hop_delays C end V) → s ≤ℚ end → arrived C V (s -ℚ d) ≤ℚ departed C V s
+lag_from_delays : (server : Server) (end : ℚ) (V : List ServerStep) (C : Class) (q : ℕ) (d s : ℚ) → IsLawfulView server end V → NoneTwice V
+    → IsOfQueue C q → int (pos 0) ≤ℚ d → AreAtMost (Fin d) (hop_delays C end V) → s ≤ℚ end → arrived C V (s -ℚ d) ≤ℚ departed C V s
 lag_from_delays server end V C q d s lawful twice of_q d_on most l = elim (oldest server end V C q s lawful of_q) [
   | inl empty ↦
       let e = empty.all_left C (λ _ h. h) in
@@ -209,7 +222,8 @@ lag_from_delays server end V C q d s lawful twice of_q d_on most l = elim (oldes
       le_trans (arrived_rises C V (s -ℚ d) o.u (with4 s d o.u (gone_at end o.p.packet o.back) (λ c. omega (arith, c.le, c.lt, c.same)))) (o.is.came C (λ _ h. h))
 ]
 
-pub output_from_delay : (server : Server) (end : ℚ) (V : List ServerStep) (C : Class) (q : ℕ) (α : ℚ → Ext) (d : Ext) (s t : ℚ) → IsLawfulView server end V → NoneTwice V → IsOfQueue C q → KeepsArrivals C α V
+pub output_from_delay : (server : Server) (end : ℚ) (V : List ServerStep) (C : Class) (q : ℕ) (α : ℚ → Ext) (d : Ext) (s t : ℚ)
+    → IsLawfulView server end V → NoneTwice V → IsOfQueue C q → KeepsArrivals C α V
     → Fin (int (pos 0)) ≤ₑ d → AreAtMost d (hop_delays C end V) → s ≤ℚ t → Fin (departed_in C V s t) ≤ₑ shifted α d (t -ℚ s)
 output_from_delay server end V C q α Inf s t lawful twice of_q keeps on most h = tt
 output_from_delay server end V C q α (Fin d) s t lawful twice of_q keeps on most h =

@@ -30,8 +30,11 @@ in_time {σ} now u end e h =
     record { in_order = rw e (le_t now u k.0); in_run = le_t u end k.1 }
 
 -- all of a packet is worked at once
-pub works_whole : {server : Server} {σ : ServerState} {c : Card} (busy a b w end : ℕ) → σ.busy ≡ whole busy → done_so_far σ.under ≡ whole 0 → KeepsPace server.pace (whole a) (whole b) (whole w)
-    → next_card σ.under server.discipline σ.inside σ.round ≡ Some c → (leb busy a && (ltb a b && (leb b end && (ltb 0 w && leb w c.bits)))) ≡ true → MayWork server (whole end) σ c (whole a) (whole b) (whole w)
+pub works_whole : {server : Server} {σ : ServerState} {c : Card} (busy a b w end : ℕ) → σ.busy ≡ whole busy → done_so_far σ.under ≡ whole 0
+    → KeepsPace server.pace (whole a) (whole b) (whole w)
+    → next_card σ.under server.discipline σ.inside σ.round ≡ Some c
+    → (leb busy a && (ltb a b && (leb b end && (ltb 0 w && leb w c.bits)))) ≡ true
+    → MayWork server (whole end) σ c (whole a) (whole b) (whole w)
 works_whole {server} {σ} {c} busy a b w end e none pace next h =
     let one = and_parts (leb busy a) _ h in
     let two = and_parts (ltb a b) _ one.1 in
@@ -48,18 +51,27 @@ works_whole {server} {σ} {c} busy a b w end e none pace next h =
     }
 
 -- ---- in a run
-pub enters : {net : Routes} {r : RunState} (f p b now u end : ℕ) → MayEnter net r f p → server_of net (Enter f p (whole u) b) < length net.servers → (state_at r (server_of net (Enter f p (whole u) b))).now ≡ whole now
-    → (leb now u && leb u end) ≡ true → MayArrive (server_at net (server_of net (Enter f p (whole u) b))).discipline (card_of net (r.entered ++ record { flow = f; bits = b } ∷ []) p (server_of net (Enter f p (whole u) b))) → AllowsInRun net (whole end) r (Enter f p (whole u) b)
+pub enters : {net : Routes} {r : RunState} (f p b now u end : ℕ) → MayEnter net r f p
+    → server_of net (Enter f p (whole u) b) < length net.servers → (state_at r (server_of net (Enter f p (whole u) b))).now ≡ whole now
+    → (leb now u && leb u end) ≡ true
+    → MayArrive (server_at net (server_of net (Enter f p (whole u) b))).discipline (card_of net (r.entered ++ record { flow = f; bits = b } ∷ []) p (server_of net (Enter f p (whole u) b))) → AllowsInRun net (whole end) r (Enter f p (whole u) b)
 enters f p b now u end may known e h arrive = record { known = may; known_server = known; at_server = (in_time now u end e h, arrive) }
 
-pub works : {net : Routes} {r : RunState} (s p busy now a b w end : ℕ) → IsThere net r s p → s < length net.servers → (state_at r s).now ≡ whole now → (state_at r s).busy ≡ whole busy → done_so_far (state_at r s).under ≡ whole 0
-    → KeepsPace (server_at net s).pace (whole a) (whole b) (whole w) → next_card (state_at r s).under (server_at net s).discipline (state_at r s).inside (state_at r s).round ≡ Some (card_of net r.entered p s)
-    → (leb now a && leb a end) ≡ true → (leb busy a && (ltb a b && (leb b end && (ltb 0 w && leb w (card_of net r.entered p s).bits)))) ≡ true → AllowsInRun net (whole end) r (Work s p (whole a) (whole b) (whole w))
+pub works : {net : Routes} {r : RunState} (s p busy now a b w end : ℕ) → IsThere net r s p → s < length net.servers
+    → (state_at r s).now ≡ whole now → (state_at r s).busy ≡ whole busy → done_so_far (state_at r s).under ≡ whole 0
+    → KeepsPace (server_at net s).pace (whole a) (whole b) (whole w)
+    → next_card (state_at r s).under (server_at net s).discipline (state_at r s).inside (state_at r s).round ≡ Some (card_of net r.entered p s)
+    → (leb now a && leb a end) ≡ true
+    → (leb busy a && (ltb a b && (leb b end && (ltb 0 w && leb w (card_of net r.entered p s).bits)))) ≡ true
+    → AllowsInRun net (whole end) r (Work s p (whole a) (whole b) (whole w))
 works s p busy now a b w end there known e f none pace next h k = record { known = there; known_server = known; at_server = (in_time now a end e h, works_whole busy a b w end f none pace next k) }
 
-pub leaves : {net : Routes} {r : RunState} (s p now u end : ℕ) → IsThere net r s p → s < length net.servers → (state_at r s).now ≡ whole now → (leb now u && leb u end) ≡ true → MayLeave (state_at r s).under (card_of net r.entered p s) (whole u)
+pub leaves : {net : Routes} {r : RunState} (s p now u end : ℕ) → IsThere net r s p → s < length net.servers
+    → (state_at r s).now ≡ whole now → (leb now u && leb u end) ≡ true → MayLeave (state_at r s).under (card_of net r.entered p s) (whole u)
     → AllowsInRun net (whole end) r (Leave s p (whole u))
 leaves s p now u end there known e h may = record { known = there; known_server = known; at_server = (in_time now u end e h, may) }
 
-pub visits : {net : Routes} {r : RunState} (s q now u end : ℕ) → s < length net.servers → (state_at r s).now ≡ whole now → (leb now u && leb u end) ≡ true → MayVisit (server_at net s).discipline (state_at r s) q → AllowsInRun net (whole end) r (Visit s q (whole u))
+pub visits : {net : Routes} {r : RunState} (s q now u end : ℕ) → s < length net.servers → (state_at r s).now ≡ whole now
+    → (leb now u && leb u end) ≡ true → MayVisit (server_at net s).discipline (state_at r s) q
+    → AllowsInRun net (whole end) r (Visit s q (whole u))
 visits s q now u end known e h may = record { known = tt; known_server = known; at_server = (in_time now u end e h, may) }

@@ -22,7 +22,8 @@ own_state net r x h = get_or-set_same r.servers (server_of net x) _ (start Fifo)
 other_state : (net : Routes) (r : RunState) (x : Step) (s : ℕ) → s ≢ server_of net x → state_at (next_run net r x) s ≡ state_at r s
 other_state net r x s h = get_or-set_other r.servers (server_of net x) s _ (start Fifo) h
 
-as_many : (net : Routes) (r : RunState) (x : Step) → length r.servers ≡ length net.servers → length (next_run net r x).servers ≡ length net.servers
+as_many : (net : Routes) (r : RunState) (x : Step) → length r.servers ≡ length net.servers
+    → length (next_run net r x).servers ≡ length net.servers
 as_many net r x h = length-set r.servers (server_of net x) _ ∙ h
 
 -- a step at server s, as the server sees it
@@ -30,7 +31,8 @@ record IsSeen (net : Routes) (end : ℚ) (r : RunState) (x : Step) (s : ℕ) : T
   allowed : Allows (server_at net s) end (state_at r s) (seen net r.entered x)
   state : state_at (next_run net r x) s ≡ next (server_at net s).discipline (state_at r s) (seen net r.entered x)
 
-is_seen : (net : Routes) (end : ℚ) (r : RunState) (x : Step) (s : ℕ) → AllowsInRun net end r x → length r.servers ≡ length net.servers → server_of net x ≡ s → IsSeen net end r x s
+is_seen : (net : Routes) (end : ℚ) (r : RunState) (x : Step) (s : ℕ) → AllowsInRun net end r x → length r.servers ≡ length net.servers
+    → server_of net x ≡ s → IsSeen net end r x s
 is_seen net end r x s a n e =
     subst (IsSeen net end r x) e record { allowed = a.at_server; state = own_state net r x (subst (λ (k : ℕ). server_of net x < k) (sym n) a.known_server) }
 
@@ -38,7 +40,8 @@ record Sees (net : Routes) (end : ℚ) (r : RunState) (xs : List Step) (s : ℕ)
   allowed : AllAllowed (server_at net s) end (state_at r s) (view_from net s r.entered xs)
   state : state_at (after_run net r xs) s ≡ after (server_at net s).discipline (state_at r s) (view_from net s r.entered xs)
 
-sees : (net : Routes) (end : ℚ) (r : RunState) (xs : List Step) (s : ℕ) → AllAllowedInRun net end r xs → length r.servers ≡ length net.servers → Sees net end r xs s
+sees : (net : Routes) (end : ℚ) (r : RunState) (xs : List Step) (s : ℕ) → AllAllowedInRun net end r xs
+    → length r.servers ≡ length net.servers → Sees net end r xs s
 sees net end r [] s a n = record { allowed = tt; state = refl }
 sees net end r (x ∷ xs) s a n =
     let k = sees net end (next_run net r x) xs s a.1 (as_many net r x n) in
@@ -57,14 +60,16 @@ sees net end r (x ∷ xs) s a n =
           }
     ]
 
-after_length : (net : Routes) (r : RunState) (xs : List Step) → length r.servers ≡ length net.servers → length (after_run net r xs).servers ≡ length net.servers
+after_length : (net : Routes) (r : RunState) (xs : List Step) → length r.servers ≡ length net.servers
+    → length (after_run net r xs).servers ≡ length net.servers
 after_length net r [] n = n
 after_length net r (x ∷ xs) n = after_length net (next_run net r x) xs (as_many net r x n)
 
 start_state : (net : Routes) (s : ℕ) → s < length net.servers → state_at (run_start net) s ≡ start (server_at net s).discipline
 start_state net s h = get_or-map (λ (x : Server). start x.discipline) net.servers s record { discipline = Fifo; pace = None } (start Fifo) h
 
-pub views_are_lawful : (net : Routes) (run : SpecRun) (s : ℕ) → IsLawful net run → s < length net.servers → IsLawfulView (server_at net s) run.end (view net run s)
+pub views_are_lawful : (net : Routes) (run : SpecRun) (s : ℕ) → IsLawful net run → s < length net.servers
+    → IsLawfulView (server_at net s) run.end (view net run s)
 views_are_lawful net run s h k =
     let d = (server_at net s).discipline in
     let n = length-map net.servers (λ (x : Server). start x.discipline) in

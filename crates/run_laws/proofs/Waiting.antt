@@ -46,7 +46,8 @@ sum_class C (c ∷ cs) = elim (cases_Bool (C c)) [
 ]
 
 -- the first packet of the class's queue, of the class
-pub class_head : (C : Class) (q : ℕ) (c : Card) (cs : List Card) → IsOfQueue C q → head_of q cs ≡ Some c → C c ≡ true → of_class C cs ≡ c ∷ of_class C (without_head q cs)
+pub class_head : (C : Class) (q : ℕ) (c : Card) (cs : List Card) → IsOfQueue C q → head_of q cs ≡ Some c → C c ≡ true
+    → of_class C cs ≡ c ∷ of_class C (without_head q cs)
 class_head C q c [] g h k = absurd (cc)
 class_head C q c (x ∷ cs) g h k = elim (cases_Bool (x.queue == q)) [
   | inl e ↦
@@ -58,7 +59,8 @@ class_head C q c (x ∷ cs) g h k = elim (cases_Bool (x.queue == q)) [
   ]
 ]
 
-pub class_other : (C : Class) (q : ℕ) (c : Card) (cs : List Card) → head_of q cs ≡ Some c → C c ≡ false → of_class C (without_head q cs) ≡ of_class C cs
+pub class_other : (C : Class) (q : ℕ) (c : Card) (cs : List Card) → head_of q cs ≡ Some c → C c ≡ false
+    → of_class C (without_head q cs) ≡ of_class C cs
 class_other C q c [] h k = absurd (cc)
 class_other C q c (x ∷ cs) h k = elim (cases_Bool (x.queue == q)) [
   | inl e ↦
@@ -91,7 +93,8 @@ none_left : (x : ℚ) → x +ℚ int (pos 0) ≡ x
 none_left x = with1 x (λ c. omega (arith, c.le, c.lt, c.same))
 
 -- c leaves from the front of these
-gone_first : (C : Class) (p c : Card) (q : ℕ) (cards ahead rest : List Card) → of_class C cards ≡ c ∷ of_class C (without_head q cards) → of_class C cards ≡ ahead ++ p ∷ rest → (c.packet == p.packet) ≡ false → Waits C p (without_head q cards) ahead (size c)
+gone_first : (C : Class) (p c : Card) (q : ℕ) (cards ahead rest : List Card) → of_class C cards ≡ c ∷ of_class C (without_head q cards)
+    → of_class C cards ≡ ahead ++ p ∷ rest → (c.packet == p.packet) ≡ false → Waits C p (without_head q cards) ahead (size c)
 gone_first C p c q cards [] rest f g k =
     let e : c ∷ of_class C (without_head q cards) ≡ p ∷ rest = sym f ∙ g in
     let same : c ≡ p = cc in
@@ -129,7 +132,8 @@ waits_next server end σ (Leaves c t) C q p ahead test g a h e k w =
 waits_next server end σ (Visits r t) C q p ahead test g a h e k w = record { now_ahead = ahead; waiting = w; balance = none_left (bits_of ahead) }
 
 waits_after : (server : Server) (end : ℚ) (σ : ServerState) (V : List ServerStep) (C : Class) (q : ℕ) (p : Card) (ahead : List Card) (test : ℚ → Bool) → IsOfQueue C q → AllAllowed server end σ V → IsSound σ → Each (IsBefore test) V
-    → Each (KeepsPacket p.packet) V → IsWaiting C p σ.inside ahead → Waits C p (after server.discipline σ V).inside ahead (total (leaves C test) V)
+    → Each (KeepsPacket p.packet) V → IsWaiting C p σ.inside ahead
+    → Waits C p (after server.discipline σ V).inside ahead (total (leaves C test) V)
 waits_after server end σ [] C q p ahead test g a h e k w = record { now_ahead = ahead; waiting = w; balance = none_left (bits_of ahead) }
 waits_after server end σ (x ∷ V) C q p ahead test g a h e k w =
     let one = waits_next server end σ x C q p ahead test g a.0 h e.0 k.0 w in
@@ -161,7 +165,8 @@ NotOver p t None = Unit {0}
 NotOver p t (Some u) = ¬ IsOver p t u
 
 -- the packet under way is the first of these
-first_below : (cards : List Card) (busy : ℚ) (u : Under) (p : Card) (t : ℚ) (ahead rest : List Card) → IsUnderWay cards busy u → 1 ≤ p.bits → (ahead ≡ [] → NotOver p t (Some u)) → (tail : List Card) → u.card ∷ tail ≡ ahead ++ p ∷ rest → done_at t u <ℚ bits_of ahead +ℚ size p
+first_below : (cards : List Card) (busy : ℚ) (u : Under) (p : Card) (t : ℚ) (ahead rest : List Card) → IsUnderWay cards busy u → 1 ≤ p.bits
+    → (ahead ≡ [] → NotOver p t (Some u)) → (tail : List Card) → u.card ∷ tail ≡ ahead ++ p ∷ rest → done_at t u <ℚ bits_of ahead +ℚ size p
 first_below cards busy u p t [] rest h some n tail e =
     let same : u.card ≡ p = cc in
     let most = done_at_most cards busy u t h in
@@ -190,7 +195,8 @@ first_below cards busy u p t (z ∷ ahead) rest h some n tail e =
     let others = bits_nonneg ahead in
     with5 (done_at t u) (size u.card) (size z) (size p) (bits_of ahead) (λ c. omega (arith, c.le, c.lt, c.same))
 
-pub done_below : (cards : List Card) (busy : ℚ) (under : Option Under) (C : Class) (q : ℕ) (p : Card) (t : ℚ) (ahead : List Card) → IsSoundFor cards busy under → IsOfQueue C q → 1 ≤ p.bits → (ahead ≡ [] → NotOver p t under) → IsWaiting C p cards ahead
+pub done_below : (cards : List Card) (busy : ℚ) (under : Option Under) (C : Class) (q : ℕ) (p : Card) (t : ℚ) (ahead : List Card)
+    → IsSoundFor cards busy under → IsOfQueue C q → 1 ≤ p.bits → (ahead ≡ [] → NotOver p t under) → IsWaiting C p cards ahead
     → done_by C t under <ℚ bits_of ahead +ℚ size p
 done_below cards busy None C q p t ahead h g some n w =
     let more = size_pos p some in
@@ -227,7 +233,9 @@ stays end n (Leaves c u ∷ V) W t h k = elim (cases_Bool (c.packet == n)) [
       record { kept = (e, r.kept); same = rw e r.same }
 ]
 
-not_over : (server : Server) (end : ℚ) (σ : ServerState) (V : List ServerStep) (p : Card) (t : ℚ) (under : Option Under) → AllAllowed server end σ V → σ.under ≡ under → ¬ IsComplete (after server.discipline σ V).under → t <ℚ gone_at end p.packet V → NotOver p t under
+not_over : (server : Server) (end : ℚ) (σ : ServerState) (V : List ServerStep) (p : Card) (t : ℚ) (under : Option Under)
+    → AllAllowed server end σ V → σ.under ≡ under → ¬ IsComplete (after server.discipline σ V).under → t <ℚ gone_at end p.packet V
+    → NotOver p t under
 not_over server end σ V p t None a e n k = tt
 not_over server end σ V p t (Some u) a e n k = λ o.
     let first = complete_leaves server end σ V u a e o.complete n in
@@ -237,27 +245,32 @@ not_over server end σ V p t (Some u) a e n k = λ o.
     with3 t u.last.end (gone_at end p.packet V) (λ c. omega (arith, c.le, c.lt, c.same))
 
 -- ---- lists of allowed steps
-pub allowed-append : (server : Server) (end : ℚ) (σ : ServerState) (V W : List ServerStep) → AllAllowed server end σ (V ++ W) → AllAllowed server end σ V × AllAllowed server end (after server.discipline σ V) W
+pub allowed-append : (server : Server) (end : ℚ) (σ : ServerState) (V W : List ServerStep) → AllAllowed server end σ (V ++ W)
+    → AllAllowed server end σ V × AllAllowed server end (after server.discipline σ V) W
 allowed-append server end σ [] W a = (tt, a)
 allowed-append server end σ (x ∷ V) W a = let k = allowed-append server end (next server.discipline σ x) V W a.1 in ((a.0, k.0), k.1)
 
-now_upto : (server : Server) (end : ℚ) (σ : ServerState) (V W : List ServerStep) (x : ServerStep) → AllAllowed server end σ (V ++ x ∷ W) → σ.now ≤ℚ time_of x
+now_upto : (server : Server) (end : ℚ) (σ : ServerState) (V W : List ServerStep) (x : ServerStep) → AllAllowed server end σ (V ++ x ∷ W)
+    → σ.now ≤ℚ time_of x
 now_upto server end σ [] W x a = (time_in_order server end σ x a.0).in_order
 now_upto server end σ (y ∷ V) W x a = le_trans (time_in_order server end σ y a.0).in_order (now_upto server end (next server.discipline σ y) V W x a.1)
 
-pub all_upto : (server : Server) (end : ℚ) (σ : ServerState) (V W : List ServerStep) (x : ServerStep) → AllAllowed server end σ (V ++ x ∷ W) → Each (IsBefore (upto (time_of x))) V
+pub all_upto : (server : Server) (end : ℚ) (σ : ServerState) (V W : List ServerStep) (x : ServerStep)
+    → AllAllowed server end σ (V ++ x ∷ W) → Each (IsBefore (upto (time_of x))) V
 all_upto server end σ [] W x a = tt
 all_upto server end σ (y ∷ V) W x a = (le_q_out _ _ (now_upto server end (next server.discipline σ y) V W x a.1), all_upto server end (next server.discipline σ y) V W x a.1)
 
 -- the sums of the next law
-pub combine : (W W1 W2 D1 D3 L1 L2 LP S A1 Z1 Z2 s : ℚ) → W ≡ W1 +ℚ (int (pos 0) +ℚ W2) → D1 +ℚ L1 ≡ int (pos 0) +ℚ W1 → D3 +ℚ L2 ≡ D1 +ℚ W2 → L2 ≡ LP → S +ℚ L1 ≡ int (pos 0) +ℚ A1 → S ≡ Z1 → Z2 +ℚ LP ≡ Z1 → D3 <ℚ Z2 +ℚ s → W <ℚ A1 +ℚ s
+pub combine : (W W1 W2 D1 D3 L1 L2 LP S A1 Z1 Z2 s : ℚ) → W ≡ W1 +ℚ (int (pos 0) +ℚ W2) → D1 +ℚ L1 ≡ int (pos 0) +ℚ W1
+    → D3 +ℚ L2 ≡ D1 +ℚ W2 → L2 ≡ LP → S +ℚ L1 ≡ int (pos 0) +ℚ A1 → S ≡ Z1 → Z2 +ℚ LP ≡ Z1 → D3 <ℚ Z2 +ℚ s → W <ℚ A1 +ℚ s
 combine W W1 W2 D1 D3 L1 L2 LP S A1 Z1 Z2 s e1 e2 e3 e4 e5 e6 e7 h =
     let work : W ≡ L1 +ℚ D3 +ℚ L2 = with7 W W1 W2 D1 D3 L1 L2 (λ c. omega (arith, c.le, c.lt, c.same)) in
     let all : A1 ≡ L1 +ℚ Z2 +ℚ L2 = with7 S L1 A1 Z1 Z2 L2 LP (λ c. omega (arith, c.le, c.lt, c.same)) in
     with7 W L1 D3 L2 A1 Z2 s (λ c. omega (arith, c.le, c.lt, c.same))
 
 -- ---- so the work on the class does not come up to it before it is gone
-pub not_worked : (server : Server) (end : ℚ) (V front back : List ServerStep) (C : Class) (q : ℕ) (p : Card) (u t : ℚ) → IsLawfulView server end V → V ≡ front ++ Arrives p u ∷ back → IsOfQueue C q → C p ≡ true → u ≤ℚ t → t <ℚ gone_at end p.packet back
+pub not_worked : (server : Server) (end : ℚ) (V front back : List ServerStep) (C : Class) (q : ℕ) (p : Card) (u t : ℚ)
+    → IsLawfulView server end V → V ≡ front ++ Arrives p u ∷ back → IsOfQueue C q → C p ≡ true → u ≤ℚ t → t <ℚ gone_at end p.packet back
     → worked C V t <ℚ total (arrives C (upto u)) front +ℚ size p
 not_worked server end V front back C q p u t lawful joined g counted l k =
     let d = server.discipline in

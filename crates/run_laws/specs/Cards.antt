@@ -9,6 +9,7 @@ pub record Card : Type 0 where
   pub queue : ℕ
   pub bits : ℕ
 
+-- one step, as its server sees it
 pub data ServerStep : Type 0 where
   Arrives : (card : Card) (time : ℚ) → ServerStep
   -- at an even pace from its start to its end
@@ -23,9 +24,11 @@ time_of (Works c a b w) = a
 time_of (Leaves c t) = t
 time_of (Visits q t) = t
 
+-- a number as a rational
 abbrev pub whole : ℕ → ℚ
 whole n = int (pos n)
 
+-- a packet's bits
 abbrev pub size : Card → ℚ
 size c = whole c.bits
 
@@ -33,9 +36,11 @@ size c = whole c.bits
 abbrev pub Class : Type 0
 Class = Card → Bool
 
+-- every packet
 abbrev pub all : Class
 all c = true
 
+-- those of queue q; of the queues before it, up to it, after it
 abbrev pub of_queue : ℕ → Class
 of_queue q c = c.queue == q
 
@@ -48,6 +53,7 @@ upto_queue q c = leb c.queue q
 abbrev pub after_queue : ℕ → Class
 after_queue q c = ltb q c.queue
 
+-- those of flow i
 abbrev pub of_flow : ℕ → Class
 of_flow i c = c.flow == i
 

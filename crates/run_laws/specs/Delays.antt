@@ -14,6 +14,7 @@ gone_at end packet (Works c a b w ∷ xs) = gone_at end packet xs
 gone_at end packet (Leaves c t ∷ xs) = if c.packet == packet then t else gone_at end packet xs
 gone_at end packet (Visits q t ∷ xs) = gone_at end packet xs
 
+-- x is put first where the test holds
 abbrev pub kept : Bool → ℚ → List ℚ → List ℚ
 kept true x xs = x ∷ xs
 kept false x xs = xs

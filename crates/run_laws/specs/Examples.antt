@@ -39,7 +39,9 @@ one_server = record { servers = server Fifo ∷ []; links = whole 0 ∷ []; flow
 
 -- a packet of 12000 bits at 0, worked from 10 to 130
 abbrev pub one_packet : SpecRun
-one_packet = ends_at 130 (Enter 0 0 (whole 0) 12000 ∷ Work 0 0 (whole 10) (whole 130) (whole 12000) ∷ Leave 0 0 (whole 130) ∷ [])
+one_packet =
+    ends_at 130
+    (Enter 0 0 (whole 0) 12000 ∷ Work 0 0 (whole 10) (whole 130) (whole 12000) ∷ Leave 0 0 (whole 130) ∷ [])
 
 -- a burst of 12000 bits and 10 per time; 100 per time after 10
 abbrev pub its_arrivals : ℕ → ℚ → Ext
@@ -48,7 +50,8 @@ its_arrivals flow = value_at (bucket (whole 12000) (whole 10))
 abbrev pub its_service : ℕ → ℚ → Ext
 its_service s = value_at (rate_latency (whole 100) (whole 10))
 
--- the run meets all that is asked of one flow over one server, and its delay is the horizontal deviation of its curves, 130
+-- the run meets all that is asked of one flow over one server, and its delay is the horizontal deviation of its
+-- curves, 130
 pub record OnePacketReachesItsBound : Type 0 where
   pub is_alone : IsOnlyFlow one_server 0 0
   pub from_zero : IsZeroAtStart (its_service 0)
@@ -62,40 +65,58 @@ pub record OnePacketReachesItsBound : Type 0 where
 -- ---- not lawful
 -- more work than the packet has bits
 abbrev pub WorkPastTheBits : Type 0
-WorkPastTheBits = ¬ IsLawful one_server (ends_at 1000 (Enter 0 0 (whole 0) 12000 ∷ Work 0 0 (whole 0) (whole 10) (whole 12001) ∷ []))
+WorkPastTheBits =
+    ¬ IsLawful one_server
+    (ends_at 1000 (Enter 0 0 (whole 0) 12000 ∷ Work 0 0 (whole 0) (whole 10) (whole 12001) ∷ []))
 
 -- the second packet of a queue is worked before the first
 abbrev pub Overtaking : Type 0
-Overtaking = ¬ IsLawful one_server (ends_at 1000 (Enter 0 0 (whole 0) 12000 ∷ Enter 0 1 (whole 0) 12000 ∷ Work 0 1 (whole 0) (whole 10) (whole 12000) ∷ Leave 0 1 (whole 10) ∷ []))
+Overtaking =
+    ¬ IsLawful one_server
+    (ends_at 1000
+    (Enter 0 0 (whole 0) 12000 ∷ Enter 0 1 (whole 0) 12000 ∷ Work 0 1 (whole 0) (whole 10) (whole 12000)
+    ∷ Leave 0 1 (whole 10) ∷ []))
 
 -- a packet is worked off and does not leave
 abbrev pub LeftComplete : Type 0
-LeftComplete = ¬ IsLawful one_server (ends_at 130 (Enter 0 0 (whole 0) 12000 ∷ Work 0 0 (whole 10) (whole 130) (whole 12000) ∷ []))
+LeftComplete =
+    ¬ IsLawful one_server
+    (ends_at 130 (Enter 0 0 (whole 0) 12000 ∷ Work 0 0 (whole 10) (whole 130) (whole 12000) ∷ []))
 
 -- ---- two steps of one time, in both orders: at 10 one packet leaves, and another enters
 abbrev pub second_packet : List Step
 second_packet = Work 0 1 (whole 10) (whole 20) (whole 12000) ∷ Leave 0 1 (whole 20) ∷ []
 
 abbrev pub leaves_then_enters : SpecRun
-leaves_then_enters = ends_at 20 (Enter 0 0 (whole 0) 12000 ∷ Work 0 0 (whole 0) (whole 10) (whole 12000) ∷ Leave 0 0 (whole 10) ∷ Enter 0 1 (whole 10) 12000 ∷ second_packet)
+leaves_then_enters =
+    ends_at 20
+    (Enter 0 0 (whole 0) 12000 ∷ Work 0 0 (whole 0) (whole 10) (whole 12000) ∷ Leave 0 0 (whole 10)
+    ∷ Enter 0 1 (whole 10) 12000 ∷ second_packet)
 
 abbrev pub enters_then_leaves : SpecRun
-enters_then_leaves = ends_at 20 (Enter 0 0 (whole 0) 12000 ∷ Work 0 0 (whole 0) (whole 10) (whole 12000) ∷ Enter 0 1 (whole 10) 12000 ∷ Leave 0 0 (whole 10) ∷ second_packet)
+enters_then_leaves =
+    ends_at 20
+    (Enter 0 0 (whole 0) 12000 ∷ Work 0 0 (whole 0) (whole 10) (whole 12000) ∷ Enter 0 1 (whole 10) 12000
+    ∷ Leave 0 0 (whole 10) ∷ second_packet)
 
 abbrev pub BothOrders : Type 0
 BothOrders = IsLawful one_server leaves_then_enters × IsLawful one_server enters_then_leaves
 
 -- ---- two servers with a link of 5 between them
 abbrev pub two_servers : Routes
-two_servers = record { servers = server Fifo ∷ server Fifo ∷ []; links = whole 5 ∷ whole 0 ∷ []; flows = over (hop 0 0 ∷ hop 1 0 ∷ []) ∷ [] }
+two_servers = record {
+  servers = server Fifo ∷ server Fifo ∷ [];
+  links = whole 5 ∷ whole 0 ∷ [];
+  flows = over (hop 0 0 ∷ hop 1 0 ∷ []) ∷ [];
+}
 
 abbrev pub first_hop : List Step
 first_hop = Enter 0 0 (whole 0) 12000 ∷ Work 0 0 (whole 0) (whole 10) (whole 12000) ∷ Leave 0 0 (whole 10) ∷ []
 
 abbrev pub both_hops : List Step
 both_hops =
-    Enter 0 0 (whole 0) 12000 ∷ Work 0 0 (whole 0) (whole 10) (whole 12000) ∷ Leave 0 0 (whole 10) ∷ Reach 1 0 (whole 10 +ℚ whole 5)
-    ∷ Work 1 0 (whole 20) (whole 30) (whole 12000) ∷ Leave 1 0 (whole 30) ∷ []
+    Enter 0 0 (whole 0) 12000 ∷ Work 0 0 (whole 0) (whole 10) (whole 12000) ∷ Leave 0 0 (whole 10)
+    ∷ Reach 1 0 (whole 10 +ℚ whole 5) ∷ Work 1 0 (whole 20) (whole 30) (whole 12000) ∷ Leave 1 0 (whole 30) ∷ []
 
 -- a run may end while the packet is on the link, but not when it should have come; over both its delay is 30
 pub record OverALink : Type 0 where
@@ -106,34 +127,50 @@ pub record OverALink : Type 0 where
 
 -- ---- a priority server with two queues: flow 0 in queue 1, flow 1 in queue 0
 abbrev pub two_priorities : Routes
-two_priorities = record { servers = server (Priority 2) ∷ []; links = whole 0 ∷ []; flows = over (hop 0 1 ∷ []) ∷ over (hop 0 0 ∷ []) ∷ [] }
+two_priorities = record {
+  servers = server (Priority 2) ∷ [];
+  links = whole 0 ∷ [];
+  flows = over (hop 0 1 ∷ []) ∷ over (hop 0 0 ∷ []) ∷ [];
+}
 
 -- both packets are there at 0, and the first queue's is worked first
 abbrev pub higher_first : SpecRun
 higher_first =
-    ends_at 16 (Enter 0 0 (whole 0) 8 ∷ Enter 1 1 (whole 0) 8 ∷ Work 0 1 (whole 0) (whole 8) (whole 8) ∷ Leave 0 1 (whole 8)
+    ends_at 16
+    (Enter 0 0 (whole 0) 8 ∷ Enter 1 1 (whole 0) 8 ∷ Work 0 1 (whole 0) (whole 8) (whole 8) ∷ Leave 0 1 (whole 8)
     ∷ Work 0 0 (whole 8) (whole 16) (whole 8) ∷ Leave 0 0 (whole 16) ∷ [])
 
 abbrev pub lower_first : SpecRun
-lower_first = ends_at 16 (Enter 0 0 (whole 0) 8 ∷ Enter 1 1 (whole 0) 8 ∷ Work 0 0 (whole 0) (whole 8) (whole 8) ∷ Leave 0 0 (whole 8) ∷ [])
+lower_first =
+    ends_at 16
+    (Enter 0 0 (whole 0) 8 ∷ Enter 1 1 (whole 0) 8 ∷ Work 0 0 (whole 0) (whole 8) (whole 8) ∷ Leave 0 0 (whole 8)
+    ∷ [])
 
 abbrev pub Priorities : Type 0
 Priorities = IsLawful two_priorities higher_first × ¬ IsLawful two_priorities lower_first
 
 -- ---- a deficit round robin server of quanta 10 and 10: flow 0 in queue 1, flow 1 in queue 0
 abbrev pub two_quanta : Routes
-two_quanta = record { servers = server (Drr (10 ∷ 10 ∷ [])) ∷ []; links = whole 0 ∷ []; flows = over (hop 0 1 ∷ []) ∷ over (hop 0 0 ∷ []) ∷ [] }
+two_quanta = record {
+  servers = server (Drr (10 ∷ 10 ∷ [])) ∷ [];
+  links = whole 0 ∷ [];
+  flows = over (hop 0 1 ∷ []) ∷ over (hop 0 0 ∷ []) ∷ [];
+}
 
 -- a packet of 6 leaves a deficit of 4, which a second of 6 does not fit: it goes in a second visit
 abbrev pub two_visits : SpecRun
 two_visits =
-    ends_at 12 (Enter 0 0 (whole 0) 6 ∷ Enter 0 1 (whole 0) 6 ∷ Visit 0 1 (whole 0) ∷ Work 0 0 (whole 0) (whole 6) (whole 6) ∷ Leave 0 0 (whole 6)
+    ends_at 12
+    (Enter 0 0 (whole 0) 6 ∷ Enter 0 1 (whole 0) 6 ∷ Visit 0 1 (whole 0) ∷ Work 0 0 (whole 0) (whole 6) (whole 6)
+    ∷ Leave 0 0 (whole 6)
     ∷ Visit 0 1 (whole 6) ∷ Work 0 1 (whole 6) (whole 12) (whole 6) ∷ Leave 0 1 (whole 12) ∷ [])
 
 -- the second packet goes in the first visit
 abbrev pub one_visit : SpecRun
 one_visit =
-    ends_at 12 (Enter 0 0 (whole 0) 6 ∷ Enter 0 1 (whole 0) 6 ∷ Visit 0 1 (whole 0) ∷ Work 0 0 (whole 0) (whole 6) (whole 6) ∷ Leave 0 0 (whole 6)
+    ends_at 12
+    (Enter 0 0 (whole 0) 6 ∷ Enter 0 1 (whole 0) 6 ∷ Visit 0 1 (whole 0) ∷ Work 0 0 (whole 0) (whole 6) (whole 6)
+    ∷ Leave 0 0 (whole 6)
     ∷ Work 0 1 (whole 6) (whole 12) (whole 6) ∷ Leave 0 1 (whole 12) ∷ [])
 
 -- queue 1 is the head of the list, and queue 0 is visited

@@ -13,9 +13,11 @@ delivered_at net end s p [] = end
 delivered_at net end s p (Enter f q t b ∷ xs) = delivered_at net end s p xs
 delivered_at net end s p (Reach r q t ∷ xs) = delivered_at net end s p xs
 delivered_at net end s p (Work r q a b w ∷ xs) = delivered_at net end s p xs
-delivered_at net end s p (Leave r q t ∷ xs) = if (r == s) && (q == p) then t +ℚ link_at net s else delivered_at net end s p xs
+delivered_at net end s p (Leave r q t ∷ xs) =
+    if (r == s) && (q == p) then t +ℚ link_at net s else delivered_at net end s p xs
 delivered_at net end s p (Visit r q t ∷ xs) = delivered_at net end s p xs
 
+-- of the packets that enter among these steps
 abbrev pub delays_from : Routes → ℕ → ℚ → List Step → List ℚ
 delays_from net flow end [] = []
 delays_from net flow end (Enter f p t b ∷ xs) =

@@ -23,6 +23,7 @@ pub record RunState : Type 0 where
   pub due : List Due
 
 -- ---- the state after a step
+-- one packet, one server, one time
 abbrev pub same_due : Due → Due → Bool
 same_due d e = (d.packet == e.packet) && ((d.server == e.server) && (le_q d.time e.time && le_q e.time d.time))
 
@@ -36,6 +37,7 @@ abbrev pub sent : Option ℕ → ℕ → ℚ → List Due → List Due
 sent None p t due = due
 sent (Some s) p t due = due ++ record { packet = p; server = s; time = t } ∷ []
 
+-- a packet that leaves is due a link later, and is due no more when it reaches the server
 abbrev pub next_due : Routes → RunState → Step → List Due
 next_due net r (Enter f p t b) = r.due
 next_due net r (Reach s p t) = without record { packet = p; server = s; time = t } r.due
@@ -43,9 +45,11 @@ next_due net r (Work s p a b w) = r.due
 next_due net r (Leave s p t) = sent (server_after s (hops_of net r.entered p)) p (t +ℚ link_at net s) r.due
 next_due net r (Visit s q t) = r.due
 
+-- the state of server s
 abbrev pub state_at : RunState → ℕ → ServerState
 state_at r s = get_or r.servers s (start Fifo)
 
+-- the state after a step: that of its server changes, and no other
 abbrev pub next_run : Routes → RunState → Step → RunState
 next_run net r x =
     let s = server_of net x in
@@ -55,9 +59,11 @@ next_run net r x =
       due = next_due net r x;
     }
 
+-- at first nothing has entered
 abbrev pub run_start : Routes → RunState
 run_start net = record { entered = []; servers = map (λ s. start s.discipline) net.servers; due = [] }
 
+-- the state after several steps
 abbrev pub after_run : Routes → RunState → List Step → RunState
 after_run net r [] = r
 after_run net r (x ∷ xs) = after_run net (next_run net r x) xs

@@ -1,6 +1,6 @@
 -- The laws of one server, of every discipline and over every lawful view; and what they say of a whole run.
 -- Curves are functions of time; an infinite bound says nothing. (Le Boudec and Thiran, chapter 1.)
-use Rattle.std.specs.Prelude.{◌≡◌, ◌<◌, ℕ, pos, List, length}
+use Rattle.std.specs.Prelude.{◌≡◌, ◌<◌, ◌≤◌, ℕ, pos, true, List, length}
 use Rattle.rational.specs.Rational.{ℚ, int, ◌-ℚ◌, ◌≤ℚ◌}
 use Rattle.rational.specs.Extended.{Ext, ◌≤ₑ◌, ◌+ₑ◌}
 use Rattle.rational.specs.declared.Extended.TheVariants.{Fin}
@@ -20,7 +20,8 @@ use Rattle.run_laws.specs.Routes.{Routes, server_at, link_at}
 use Rattle.run_laws.specs.Views.{view}
 use Rattle.run_laws.specs.Lawful.{IsLawful}
 use Rattle.run_laws.specs.RunPremises.{KeepsPremises}
-use Rattle.run_laws.specs.Bounds.{IsOnlyFlow, IsQueueBounded, IsFlowBounded}
+use Rattle.run_laws.specs.Totals.{is_in, total_curve}
+use Rattle.run_laws.specs.Bounds.{IsOneHop, IsEntrance, IsOnlyFlow, IsQueueBounded, IsFlowBounded}
 
 -- a server's curve serves the server as a whole
 abbrev pub ServerIsServed : Type 0
@@ -30,51 +31,74 @@ ServerIsServed = (server : Server) (end : ℚ) (view : List ServerStep) (β : �
 -- and the one queue of a first in, first out server
 abbrev pub FifoQueueIsServed : Type 0
 FifoQueueIsServed = (server : Server) (end : ℚ) (view : List ServerStep) (β : ℚ → Ext) →
-    IsLawfulView server end view → server.discipline ≡ Fifo → KeepsService β end view → IsZeroAtStart β → Serves (of_queue 0) β end view
+    IsLawfulView server end view → server.discipline ≡ Fifo → KeepsService β end view → IsZeroAtStart β →
+    Serves (of_queue 0) β end view
 
 -- a curve that serves a class serves, less one packet, its whole packets
 abbrev pub PacketsAreServed : Type 0
 PacketsAreServed = (server : Server) (end : ℚ) (view : List ServerStep) (C : Class) (β : ℚ → Ext) (bits : ℕ) →
-    IsLawfulView server end view → KeepsSizes C bits view → Serves C β end view → ServesPackets C (packetised β (whole bits)) end view
+    IsLawfulView server end view → KeepsSizes C bits view → Serves C β end view →
+    ServesPackets C (packetised β (whole bits)) end view
 
 -- no packet of a class of one queue stays longer than the horizontal deviation
 abbrev pub DelayFromService : Type 0
-DelayFromService = (server : Server) (end : ℚ) (view : List ServerStep) (C : Class) (queue : ℕ) (α β : ℚ → Ext) (delay : Ext) →
+DelayFromService = (server : Server) (end : ℚ) (view : List ServerStep) (C : Class) (queue : ℕ)
+    (α β : ℚ → Ext) (delay : Ext) →
     IsLawfulView server end view → IsOfQueue C queue → KeepsArrivals C α view → Serves C β end view →
     IsRising β → IsHorizontalDeviation α β delay → AreAtMost delay (hop_delays C end view)
 
 -- the backlog is at most the vertical deviation, less one packet
 abbrev pub BacklogFromService : Type 0
-BacklogFromService = (server : Server) (end : ℚ) (view : List ServerStep) (C : Class) (bits : ℕ) (α β : ℚ → Ext) (most : Ext) →
+BacklogFromService = (server : Server) (end : ℚ) (view : List ServerStep) (C : Class) (bits : ℕ)
+    (α β : ℚ → Ext) (most : Ext) →
     IsLawfulView server end view → KeepsSizes C bits view → KeepsArrivals C α view → Serves C β end view →
     IsVerticalDeviation α (packetised β (whole bits)) most → (t : ℚ) → t ≤ℚ end → Fin (backlog C view t) ≤ₑ most
 
 -- what leaves in a closed window is at most the deconvolution, less one packet
 abbrev pub OutputFromService : Type 0
-OutputFromService = (server : Server) (end : ℚ) (view : List ServerStep) (C : Class) (bits : ℕ) (α β : ℚ → Ext) (s t : ℚ) (most : Ext) →
+OutputFromService = (server : Server) (end : ℚ) (view : List ServerStep) (C : Class) (bits : ℕ)
+    (α β : ℚ → Ext) (s t : ℚ) (most : Ext) →
     IsLawfulView server end view → KeepsSizes C bits view → KeepsArrivals C α view → Serves C β end view →
     s ≤ℚ t → IsDeconvolution α (packetised β (whole bits)) (t -ℚ s) most → Fin (departed_in C view s t) ≤ₑ most
 
--- a part f of a queue, as one of its flows, leaves with its own curve, moved left by the horizontal deviation of the queue
+-- a part f of a queue, as one of its flows, leaves with its own curve, moved left by the queue's horizontal deviation
 abbrev pub PartOutputFromService : Type 0
-PartOutputFromService = (server : Server) (end : ℚ) (view : List ServerStep) (Q f : Class) (queue : ℕ) (α β own : ℚ → Ext) (d : Ext) (s t : ℚ) →
-    IsLawfulView server end view → IsOfQueue Q queue → IsPart f Q → KeepsArrivals Q α view → KeepsArrivals f own view → Serves Q β end view →
+PartOutputFromService = (server : Server) (end : ℚ) (view : List ServerStep) (Q f : Class) (queue : ℕ)
+    (α β own : ℚ → Ext) (d : Ext) (s t : ℚ) →
+    IsLawfulView server end view → IsOfQueue Q queue → IsPart f Q → KeepsArrivals Q α view → KeepsArrivals f own view →
+    Serves Q β end view →
     IsRising β → IsHorizontalDeviation α β d → s ≤ℚ t → Fin (departed_in f view s t) ≤ₑ shifted own d (t -ℚ s)
 
 -- where no packet of a class of one queue stays longer than d, at most α, moved left by d, leaves in a closed window
 abbrev pub OutputFromDelay : Type 0
-OutputFromDelay = (server : Server) (end : ℚ) (view : List ServerStep) (C : Class) (queue : ℕ) (α : ℚ → Ext) (d : Ext) (s t : ℚ) →
+OutputFromDelay = (server : Server) (end : ℚ) (view : List ServerStep) (C : Class) (queue : ℕ)
+    (α : ℚ → Ext) (d : Ext) (s t : ℚ) →
     IsLawfulView server end view → NoneTwice view → IsOfQueue C queue → KeepsArrivals C α view →
-    Fin (int (pos 0)) ≤ₑ d → AreAtMost d (hop_delays C end view) → s ≤ℚ t → Fin (departed_in C view s t) ≤ₑ shifted α d (t -ℚ s)
+    Fin (int (pos 0)) ≤ₑ d → AreAtMost d (hop_delays C end view) → s ≤ℚ t →
+    Fin (departed_in C view s t) ≤ₑ shifted α d (t -ℚ s)
 
 -- ---- of a run
 -- what each server sees of a lawful run is a lawful view
 abbrev pub ViewsAreLawful : Type 0
-ViewsAreLawful = (net : Routes) (run : SpecRun) (s : ℕ) → IsLawful net run → s < length net.servers → IsLawfulView (server_at net s) run.end (view net run s)
+ViewsAreLawful = (net : Routes) (run : SpecRun) (s : ℕ) → IsLawful net run → s < length net.servers →
+    IsLawfulView (server_at net s) run.end (view net run s)
 
--- a first in, first out server over which one flow passes, and nothing else: the two deviations bound its queue and the flow
+-- a first in, first out server over which one flow passes, and nothing else: the two deviations bound its queue and
+-- the flow
 abbrev pub OneFlowIsBounded : Type 0
 OneFlowIsBounded = (net : Routes) (run : SpecRun) (s i : ℕ) (packet : ℕ → ℕ) (α β : ℕ → ℚ → Ext) (delay most : Ext) →
     IsOnlyFlow net s i → IsLawful net run → KeepsPremises net packet α β run → IsZeroAtStart (β s) → IsRising (β s) →
     IsHorizontalDeviation (α i) (β s) delay → IsVerticalDeviation (α i) (packetised (β s) (whole (packet i))) most →
     IsQueueBounded net run s 0 delay most × IsFlowBounded net run i (delay +ₑ Fin (link_at net s))
+
+-- a first in, first out server at which several flows enter: the two deviations of the sum of their curves bound its
+-- queue, and each flow that ends there
+abbrev pub SeveralFlowsAreBounded : Type 0
+SeveralFlowsAreBounded = (net : Routes) (run : SpecRun) (s bits : ℕ) (packet : ℕ → ℕ) (α β : ℕ → ℚ → Ext)
+    (delay most : Ext) →
+    IsEntrance net s → IsLawful net run → KeepsPremises net packet α β run → IsZeroAtStart (β s) → IsRising (β s) →
+    ((i : ℕ) → is_in net s 0 i ≡ true → packet i ≤ bits) →
+    IsHorizontalDeviation (total_curve net s 0 α) (β s) delay →
+    IsVerticalDeviation (total_curve net s 0 α) (packetised (β s) (whole bits)) most →
+    IsQueueBounded net run s 0 delay most
+    × ((i : ℕ) → IsOneHop net i s 0 → IsFlowBounded net run i (delay +ₑ Fin (link_at net s)))

@@ -13,5 +13,6 @@ pub mod Lawful
 pub mod FlowDelays
 pub mod RunPremises
 pub mod Bounds
+pub mod Totals
 pub mod Laws
 pub mod Examples

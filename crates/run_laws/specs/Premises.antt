@@ -1,5 +1,6 @@
 -- What is asked of the packets and of the work at one server: sizes, an arrival curve, a service curve.
--- A curve is known by its values, and is asked for them at times from 0 on. (Le Boudec and Thiran; closed windows are this project's choice.)
+-- A curve is known by its values, and is asked for them at times from 0 on. (Le Boudec and Thiran; closed windows are
+-- our own choice.)
 use Rattle.std.specs.Prelude.{◌≡◌, ◌≢◌, ℕ, true, ◌≤◌, List, [], ◌∷◌, pos}
 use Rattle.rational.specs.Rational.{ℚ, int, ◌-ℚ◌, ◌≤ℚ◌, ◌<ℚ◌}
 use Rattle.rational.specs.Extended.{Ext, ◌≤ₑ◌, ◌+ₑ◌}
@@ -29,7 +30,8 @@ IsBusy V a b = (x : ℚ) → a <ℚ x → x <ℚ b → worked all V x <ℚ arriv
 
 -- in each window up to the end in which the server is busy, it works at least the curve's value at its length
 abbrev pub KeepsService : (ℚ → Ext) → ℚ → List ServerStep → Type 0
-KeepsService β end V = (a b : ℚ) → a <ℚ b → b ≤ℚ end → IsBusy V a b → (Fin (worked all V a) +ₑ β (b -ℚ a)) ≤ₑ Fin (worked all V b)
+KeepsService β end V = (a b : ℚ) → a <ℚ b → b ≤ℚ end → IsBusy V a b →
+    (Fin (worked all V a) +ₑ β (b -ℚ a)) ≤ₑ Fin (worked all V b)
 
 -- a curve that promises nothing at once
 abbrev pub IsZeroAtStart : (ℚ → Ext) → Type 0

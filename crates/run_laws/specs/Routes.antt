@@ -19,6 +19,7 @@ pub record Routes : Type 0 where
   pub links : List ℚ
   pub flows : List Route
 
+-- the server, link and flow of a number; what is beyond the last means nothing
 abbrev pub server_at : Routes → ℕ → Server
 server_at net s = get_or net.servers s record { discipline = Fifo; pace = None }
 
@@ -34,10 +35,12 @@ abbrev pub queue_at : ℕ → List Hop → ℕ
 queue_at s [] = 0
 queue_at s (h ∷ hs) = if h.server == s then h.queue else queue_at s hs
 
+-- the path has server s
 abbrev pub PassesServer : ℕ → List Hop → Type 0
 PassesServer s [] = ⊥
 PassesServer s (h ∷ hs) = (h.server ≡ s) ⊎ PassesServer s hs
 
+-- the first server of a path, if it has one
 abbrev pub first_of : List Hop → Option ℕ
 first_of [] = None
 first_of (h ∷ hs) = Some h.server

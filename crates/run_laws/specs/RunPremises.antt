@@ -36,5 +36,6 @@ EnterSizes flow bits (Visit r q u ∷ xs) = EnterSizes flow bits xs
 -- by each flow's longest packet and arrival curve, and each server's service curve
 pub record KeepsPremises (net : Routes) (packet : ℕ → ℕ) (α β : ℕ → ℚ → Ext) (run : SpecRun) : Type 0 where
   pub sizes : (flow : ℕ) → (route_of net flow).live ≡ true → EnterSizes flow (packet flow) run.steps
-  pub arrivals : (flow : ℕ) → (route_of net flow).live ≡ true → (s t : ℚ) → s ≤ℚ t → Fin (entered_in flow s t run.steps) ≤ₑ α flow (t -ℚ s)
+  pub arrivals : (flow : ℕ) → (route_of net flow).live ≡ true → (s t : ℚ) → s ≤ℚ t →
+      Fin (entered_in flow s t run.steps) ≤ₑ α flow (t -ℚ s)
   pub service : (server : ℕ) → server < length net.servers → KeepsService (β server) run.end (view net run server)

@@ -11,6 +11,7 @@ pub record Entry : Type 0 where
   pub flow : ℕ
   pub bits : ℕ
 
+-- packet p
 abbrev pub entry_of : List Entry → ℕ → Entry
 entry_of entered p = get_or entered p record { flow = 0; bits = 0 }
 
@@ -27,6 +28,7 @@ card_of net entered p s = record {
   bits = (entry_of entered p).bits;
 }
 
+-- the packets that have entered after a step
 abbrev pub entered_after : List Entry → Step → List Entry
 entered_after entered (Enter f p t b) = entered ++ record { flow = f; bits = b } ∷ []
 entered_after entered (Reach s p t) = entered
@@ -44,12 +46,14 @@ server_of net (Visit s q t) = s
 
 -- the step as its server sees it; a packet arrives where it enters and where it reaches a server
 abbrev pub seen : Routes → List Entry → Step → ServerStep
-seen net entered (Enter f p t b) = Arrives (card_of net (entered ++ record { flow = f; bits = b } ∷ []) p (first_server (route_of net f).hops)) t
+seen net entered (Enter f p t b) =
+    Arrives (card_of net (entered ++ record { flow = f; bits = b } ∷ []) p (first_server (route_of net f).hops)) t
 seen net entered (Reach s p t) = Arrives (card_of net entered p s) t
 seen net entered (Work s p a b w) = Works (card_of net entered p s) a b w
 seen net entered (Leave s p t) = Leaves (card_of net entered p s) t
 seen net entered (Visit s q t) = Visits q t
 
+-- the steps of server s among these
 abbrev pub view_from : Routes → ℕ → List Entry → List Step → List ServerStep
 view_from net s entered [] = []
 view_from net s entered (x ∷ xs) =

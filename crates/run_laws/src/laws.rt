@@ -1,4 +1,4 @@
-ghost use Rattle.run_laws.specs.Laws.{ServerIsServed, FifoQueueIsServed, PacketsAreServed, DelayFromService, BacklogFromService, OutputFromService, PartOutputFromService, OutputFromDelay, ViewsAreLawful, OneFlowIsBounded};
+ghost use Rattle.run_laws.specs.Laws.{ServerIsServed, FifoQueueIsServed, PacketsAreServed, DelayFromService, BacklogFromService, OutputFromService, PartOutputFromService, OutputFromDelay, ViewsAreLawful, OneFlowIsBounded, SeveralFlowsAreBounded};
 
 /// A server's curve serves the server as a whole.
 pub fn server_is_served()
@@ -48,4 +48,10 @@ pub fn views_are_lawful()
 /// One flow over a first in, first out server: no delay and no backlog passes the two deviations.
 pub fn one_flow_is_bounded()
     ensures { OneFlowIsBounded }
+{}
+
+/// Several flows that enter at a first in, first out server: no delay and no backlog passes the two deviations of the
+/// sum of their curves.
+pub fn several_flows_are_bounded()
+    ensures { SeveralFlowsAreBounded }
 {}

@@ -16,6 +16,6 @@ pub use examples::{
 pub use laws::{
     backlog_from_service, delay_from_service, fifo_queue_is_served, one_flow_is_bounded,
     output_from_delay, output_from_service, packets_are_served, part_output_from_service,
-    server_is_served, views_are_lawful,
+    server_is_served, several_flows_are_bounded, views_are_lawful,
 };
 pub use steps::{Run, Step};

@@ -3,22 +3,22 @@ use Rattle.std.proofs.lemmas.Int.{ints}
 use mir.Syntax.{w128}
 use Rattle.rational.specs.Ratio.{IsSmall}
 use Rattle.fraction128.specs.Multiple.{IsLeastMultiple}
-use Rattle.fraction128.proofs.Values.{num_fits}
-use Rattle.fraction128.proofs.CommonMultiple.{num_some, common_multiple_is, common_multiple_least}
+use Rattle.fraction128.proofs.Values.{num_fits, num_above}
+use Rattle.fraction128.proofs.CommonMultiple.{common_multiple_is, common_multiple_least}
 use Rattle.fraction128.proofs.fraction.Frac.lcm_of.Goals as goal
 
 pub multiple_of-requires-clause-left_some : goal.multiple_of-requires-clause-left_some
 multiple_of-requires-clause-left_some c =
     let fa : SFits w128 c.a.inside.num = num_fits c.a.invariant in
     let size : c.unsigned_abs.result ≡ unsigned_abs c.a.inside.num = simp to_z-of_z at c.unsigned_abs.ensures.value in
-    let some = num_some _ _ c.args.a c.a.invariant c.a.view_is c.requires.left in
+    let some = num_above _ _ c.args.a c.a.invariant c.a.view_is c.requires.left in
     omega (arith, ints, size, some)
 
 pub multiple_of-requires-clause-right_some : goal.multiple_of-requires-clause-right_some
 multiple_of-requires-clause-right_some c =
     let fb : SFits w128 c.b.inside.num = num_fits c.b.invariant in
     let size : c.unsigned_abs-2.result ≡ unsigned_abs c.b.inside.num = simp to_z-of_z at c.unsigned_abs-2.ensures.value in
-    let some = num_some _ _ c.args.b c.b.invariant c.b.view_is c.requires.right in
+    let some = num_above _ _ c.args.b c.b.invariant c.b.view_is c.requires.right in
     omega (arith, ints, size, some)
 
 pub returns-in-Some-clause-value : goal.returns-in-Some-clause-value
