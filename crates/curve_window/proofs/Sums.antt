@@ -1,0 +1,44 @@
+-- The pieces of a sum read as the sum.
+use Rattle.std.specs.Prelude.{◌≡◌, ◌+◌, ◌≤◌, pos, List, length, Option, Some, None}
+use Rattle.std.proofs.Common.{arith, ap, ap₂, ◌∙◌, refl, inl, inr, sym}
+use Rattle.rational.specs.Rational.{ℚ, ◌+ℚ◌, ◌*ℚ◌, ◌≤ℚ◌, int}
+use Rattle.rational.specs.Extended.{Ext, ◌+ₑ◌}
+use Rattle.rational.specs.declared.Extended.TheVariants.{Fin, Inf}
+use Rattle.rational.proofs.Linear.{with6}
+use Rattle.rational.proofs.Laws.{add_mul, le_or_lt}
+use Rattle.rational.proofs.Over.{le_q_out}
+use Rattle.rational.proofs.MinMax.{le_q_not}
+use Rattle.affine_segment.specs.declared.line.Line.{Line}
+use Rattle.affine_segment.specs.declared.line.Piece.{Piece}
+use Rattle.affine_segment.specs.Values.{line_value}
+use Rattle.upp_curve.specs.Reading.{read, piece_value}
+use Rattle.curve_window.specs.declared.stretch.Both.{Both}
+use Rattle.curve_window.specs.Stretches.{IsBothOf, IsOverlay, EachBoth}
+use Rattle.curve_window.specs.Pointwise.{mapped, sum_line, sum_piece, StretchSumFits, SumsFit, IsWindowSum}
+use Rattle.curve_window.proofs.Mapped.{pointwise, starts_mapped, length_mapped, each_map}
+
+sum_line_value : (a b : Option Line) (t : ℚ) → line_value (sum_line a b) t ≡ line_value a t +ₑ line_value b t
+sum_line_value None b t = refl
+sum_line_value (Some l) None t = refl
+sum_line_value (Some l) (Some m) t =
+    let e = add_mul l.slope m.slope t in
+    let a = l.icept in
+    let b = m.icept in
+    ap Fin (with6 a b (l.slope *ℚ t) (m.slope *ℚ t) ((l.slope +ℚ m.slope) *ℚ t) t (λ c. omega (arith, c.le, c.lt, c.same)))
+
+sum_value : (f g : List Piece) (b : Both) (t : ℚ) → IsBothOf f g b → piece_value (sum_piece b) t ≡ piece_value b.left t +ₑ piece_value b.right t
+unfolding piece_value
+sum_value f g b t h = elim (le_or_lt t b.left.x) [
+  | inl l ↦ rw (← h.together, le_q_out t b.left.x l) refl
+  | inr l ↦ rw (← h.together, le_q_not t b.left.x l) (sum_line_value b.left.line b.right.line t)
+]
+
+pub stretches_fit : (f g : List Piece) (bs : List Both) → SumsFit f g → IsOverlay f g bs → EachBoth StretchSumFits bs
+stretches_fit f g bs fit O = each_map (IsBothOf f g) StretchSumFits bs fit O.each
+
+pub sum_is : (f g : List Piece) (bs : List Both) (ps : List Piece) → IsOverlay f g bs → ps ≡ mapped sum_piece bs → IsWindowSum f g ps
+sum_is f g bs ps O e = rw e record {
+  starts = starts_mapped sum_piece bs (λ b. refl) O.starts;
+  reads = pointwise (λ x y z. z ≡ x +ₑ y) sum_piece f g bs O (λ b. refl) (sum_value f g);
+  count = let n = length_mapped sum_piece bs in let c = O.count in omega arith;
+}

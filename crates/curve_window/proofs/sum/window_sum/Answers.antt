@@ -1,0 +1,12 @@
+use Rattle.std.proofs.Common.{◌≡◌, ◌∙◌, ap, subst, sym}
+use Rattle.curve_window.specs.Pointwise.{mapped, sum_piece, IsWindowSum, StretchSumFits}
+use Rattle.curve_window.specs.Stretches.{EachBoth}
+use Rattle.curve_window.proofs.Results.{ok_map}
+use Rattle.curve_window.proofs.Sums.{stretches_fit, sum_is}
+use Rattle.curve_window.proofs.sum.window_sum.Goals as goal
+
+pub returns : goal.returns
+returns c =
+    let bs = c.in_ok-stretches.stretches.items in
+    ok_map c.sum_stretches.result (λ v. v.items ≡ mapped sum_piece c.deref.result.now) (λ v. IsWindowSum c.args.f.now c.args.g.now v.items)
+    (λ v e. sum_is c.args.f.now c.args.g.now bs v.items c.in_ok-stretches.ensures (e ∙ ap (mapped sum_piece) c.deref.ensures.value)) c.sum_stretches.ensures

@@ -1,0 +1,9 @@
+//! Windows of curves: pieces from 0 on, read up to an end. Two of them are read together, and added, subtracted, or the
+//! lower or upper of both is taken, at every time of the window.
+#![tactic(auto)]
+
+mod stretch;
+mod sum;
+
+pub use stretch::{Both, overlay};
+pub use sum::window_sum;

@@ -1,0 +1,90 @@
+//! The sum of two windows.
+
+ghost use Rattle.std.specs.Prelude.{◌≡◌, ◌+◌, ◌≤◌, pos, length, IfOk};
+ghost use Rattle.rational.specs.Rational.{ℚ, int, ◌≤ℚ◌, ◌+ℚ◌};
+ghost use Rattle.rational.specs.Ratio.{SumFits};
+ghost use Rattle.rational.specs.Extended.{◌+ₑ◌};
+ghost use Rattle.upp_curve.specs.Reading.{read};
+ghost use Rattle.upp_curve.specs.Normal.{StartsAtZero};
+ghost use Rattle.curve_window.specs.Stretches.{CutsFit, EachBoth};
+ghost use Rattle.curve_window.specs.Pointwise.{mapped, sum_line, sum_piece, ValueSumFits, LineSumFits, StretchSumFits, SumsFit, IsWindowSum};
+
+use crate::stretch::{Both, overlay};
+use affine_segment::{Line, Piece};
+use fraction128::{Ext, Frac};
+use rational::Extended;
+use std::alloc::{AllocError, Global};
+
+// A sum whose steps fit.
+fn fitting_sum(a: Frac, b: Frac) -> Frac
+    requires { SumFits a b }
+    ensures { result ≡ a +ℚ b }
+{
+    match Frac::add(a, b) {
+        Ok(sum) => sum,
+        Err(_) => a,
+    }
+}
+
+fn sum_values(a: Ext, b: Ext) -> Ext
+    requires { ValueSumFits a b }
+    ensures { result ≡ a +ₑ b }
+{
+    match a {
+        Extended::Inf => Extended::Inf,
+        Extended::Fin(x) => match b {
+            Extended::Inf => Extended::Inf,
+            Extended::Fin(y) => Extended::Fin(fitting_sum(x, y)),
+        },
+    }
+}
+
+fn sum_lines(a: Option<Line>, b: Option<Line>) -> Option<Line>
+    requires { LineSumFits a b }
+    ensures { result ≡ sum_line a b }
+{
+    match a {
+        None => None,
+        Some(l) => match b {
+            None => None,
+            Some(m) => Some(Line {
+                icept: fitting_sum(l.icept, m.icept),
+                slope: fitting_sum(l.slope, m.slope),
+            }),
+        },
+    }
+}
+
+fn sum_stretch(b: &Both) -> Piece
+    requires { StretchSumFits b.now }
+    ensures { result ≡ sum_piece b.now }
+{
+    Piece {
+        x: b.left.x,
+        at: sum_values(b.left.at, b.right.at),
+        line: sum_lines(b.left.line, b.right.line),
+    }
+}
+
+fn sum_stretches(alloc: Global, stretches: &[Both]) -> Result<Vec<Piece>, AllocError>
+    requires { EachBoth StretchSumFits stretches.now }
+    ensures { IfOk result (λ v. v.items ≡ mapped sum_piece stretches.now) }
+{
+    let mut pieces = Vec::new(alloc);
+    for b in stretches {
+        pieces.push(sum_stretch(b))?;
+    }
+    Ok(pieces)
+}
+
+/// The sum of two windows at each time from 0 on.
+pub fn window_sum(alloc: Global, f: &[Piece], g: &[Piece]) -> Result<Vec<Piece>, AllocError>
+    requires left { StartsAtZero f.now }
+    requires right { StartsAtZero g.now }
+    requires cuts { CutsFit f.now g.now }
+    requires sums { SumsFit f.now g.now }
+    ensures { IfOk result (λ v. IsWindowSum f.now g.now v.items) }
+{
+    let stretches = overlay(alloc, f, g)?;
+    sum_stretches(alloc, &stretches)
+}
