@@ -21,6 +21,8 @@ pub mod BucketDeviations
 pub mod BucketConvolution
 pub mod Worked
 pub mod WorkedOperators
+pub mod WorkedStairs
+pub mod WorkedShifts
 pub mod Every
 pub mod CommonDen
 pub mod Stands

@@ -16,6 +16,8 @@ pub mod Kinds
 pub mod Service
 pub mod BucketBounds
 pub mod WorkedRows
+pub mod WorkedStairs
+pub mod WorkedShifts
 pub mod Periods
 pub mod Spans
 pub mod Limits

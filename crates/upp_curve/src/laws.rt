@@ -4,6 +4,8 @@ ghost use Rattle.upp_curve.specs.Normal.{NormalFormIsUnique};
 ghost use Rattle.upp_curve.specs.Deviations.{DeviationsAreUnique};
 ghost use Rattle.upp_curve.specs.BucketBounds.{BucketDeviations};
 ghost use Rattle.upp_curve.specs.WorkedRows.{StairRows, GateRows, BucketRows, RateLatencyRows, MinimumRows, RunningRows, ConvolutionRows};
+ghost use Rattle.upp_curve.specs.WorkedStairs.{StairFormula, TwoStairs, StairLeaves};
+ghost use Rattle.upp_curve.specs.WorkedShifts.{ShiftRows, ScaleRows, MinusRows, DifferenceRows, LeftOverRows};
 
 /// Two curves in normal form with one value at each time are one.
 pub fn normal_form_is_unique()
@@ -33,4 +35,20 @@ pub fn worked_operators()
     ensures minimum { MinimumRows }
     ensures running { RunningRows }
     ensures convolution { ConvolutionRows }
+{}
+
+/// The value of a stair without jitter at each time, and its convolution and deconvolution worked out by hand.
+pub fn worked_stairs()
+    ensures formula { StairFormula }
+    ensures convolution { TwoStairs }
+    ensures deconvolution { StairLeaves }
+{}
+
+/// Shifts, multiples, differences and what first in, first out leaves, worked out by hand.
+pub fn worked_shifts()
+    ensures shift { ShiftRows }
+    ensures scale { ScaleRows }
+    ensures minus { MinusRows }
+    ensures difference { DifferenceRows }
+    ensures left_over { LeftOverRows }
 {}
