@@ -51,3 +51,4 @@ pub mod Finite
 pub mod PieceLoops
 pub mod CurveShapes
 pub mod LineRising
+pub mod LevelCurves

@@ -27,3 +27,4 @@ pub mod Gathered
 pub mod Seen
 pub mod ClosedForm
 pub mod OwnWindow
+pub mod Levels
