@@ -67,3 +67,4 @@ pub mod NormaliseGoes
 pub mod NormaliseDivided
 pub mod NormaliseLeast
 pub mod NormaliseForm
+pub mod LevelCurves

@@ -30,3 +30,4 @@ pub mod Seen
 pub mod ClosedForm
 pub mod OwnWindow
 pub mod Normalising
+pub mod Levels
