@@ -66,9 +66,13 @@ late x h =
     let past : zero_q ≤ℚ x -ℚ whole 70 = with1 x (λ c. omega (arith, c.le, c.lt, c.same)) in
     let served : zero_q ≤ℚ x -ℚ whole 10 = with1 x (λ c. omega (arith, c.le, c.lt, c.same)) in
     let some : zero_q ≤ℚ whole 100 *ℚ (x -ℚ whole 10) -ℚ (whole 6000 +ℚ whole 5 *ℚ (x -ℚ whole 70)) = with1 x (λ c. omega (arith, c.le, c.lt, c.same)) in
-    rw (le_q_not x (whole 70) h, (service_is (whole 100) (whole 10) (nat_nonneg 100) (nat_nonneg 10)).is x on,
-    (bucket_is (whole 6000) (whole 5)).is (x -ℚ whole 70) past, max_q_right zero_q (x -ℚ whole 10) served,
-    max_q_right zero_q (whole 100 *ℚ (x -ℚ whole 10) -ℚ (whole 6000 +ℚ whole 5 *ℚ (x -ℚ whole 70))) some)
+    rw (
+      le_q_not x (whole 70) h,
+      (service_is (whole 100) (whole 10) (nat_nonneg 100) (nat_nonneg 10)).is x on,
+      (bucket_is (whole 6000) (whole 5)).is (x -ℚ whole 70) past,
+      max_q_right zero_q (x -ℚ whole 10) served,
+      max_q_right zero_q (whole 100 *ℚ (x -ℚ whole 10) -ℚ (whole 6000 +ℚ whole 5 *ℚ (x -ℚ whole 70))) some,
+    )
     (ap Fin (with1 x (λ c. omega (arith, c.le, c.lt, c.same))))
 
 -- it never falls
