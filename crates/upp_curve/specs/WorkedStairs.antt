@@ -20,8 +20,8 @@ pub record TwoStairs : Type 0 where
   pub at_5 : IsConvolution (value_at (stair (whole 1) (whole 2) (whole 0))) (value_at (stair (whole 1) (whole 3) (whole 0))) (whole 5) (Fin (whole 3))
   pub at_8 : IsConvolution (value_at (stair (whole 1) (whole 2) (whole 0))) (value_at (stair (whole 1) (whole 3) (whole 0))) (whole 8) (Fin (whole 4))
 
--- packets of 4000 with period 1000 that leave a server of rate 100 and latency 256: up to the latency no time from 743
--- on reaches the step at 1000, so the supremum at 743 is that at the step, a unit of time past the latency
+-- packets of 4000 with period 1000 that leave a server of rate 100 and latency 256: from 744 on the step at 1000 lies
+-- at the latency, and from 743 on it lies a unit of time past it
 pub record StairLeaves : Type 0 where
   pub at_743 : IsDeconvolution (value_at (stair (whole 4000) (whole 1000) (whole 0))) (value_at (rate_latency (whole 100) (whole 256))) (whole 743) (Fin (whole 7900))
   pub at_744 : IsDeconvolution (value_at (stair (whole 4000) (whole 1000) (whole 0))) (value_at (rate_latency (whole 100) (whole 256))) (whole 744) (Fin (whole 8000))
