@@ -1,6 +1,6 @@
 -- A run that ends in the middle of work, and packets of flows on which none may enter.
-use Rattle.std.specs.Prelude.{◌≡◌, ℕ, zero, suc, Bool, true, false, Option, Some, None, [], ◌∷◌, All}
-use Rattle.std.proofs.Common.{arith, ap, refl, inl, sym, subst}
+use Rattle.std.specs.Prelude.{◌≡◌, ℕ, zero, suc, Bool, true, false, [], ◌∷◌, All}
+use Rattle.std.proofs.Common.{arith, ap, refl, inl}
 use Rattle.rational.specs.Rational.{ℚ}
 use Rattle.rational.proofs.Linear.{with1}
 use Rattle.run_laws.specs.Cards.{whole}

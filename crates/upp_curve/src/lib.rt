@@ -28,8 +28,8 @@ mod two_periods;
 
 pub use curve::{Curve, Tail, equal};
 pub use laws::{
-    bucket_deviations, deviations_are_unique, normal_form_is_unique, worked_kinds, worked_operators,
-    worked_shifts, worked_stairs,
+    bucket_deviations, deviations_are_unique, normal_form_is_unique, worked_kinds,
+    worked_operators, worked_shifts, worked_stairs,
 };
 pub use op_kind::{OpFault, OpKind, Window};
 pub use starts::{is_after, is_before};
