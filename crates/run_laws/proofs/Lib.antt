@@ -21,6 +21,7 @@ pub mod Arrivals
 pub mod FirstHop
 pub mod Small
 pub mod SmallRuns
+pub mod CutRuns
 pub mod OverALink
 pub mod Latency
 pub mod OnePacket

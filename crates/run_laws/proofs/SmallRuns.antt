@@ -16,7 +16,7 @@ all_idle : (s : ServerState) → s.under ≡ None → All (λ (x : ServerState).
 all_idle s e zero d h = rw e (λ k. k)
 all_idle s e (suc n) d h = absurd (omega arith)
 
-none_due : (end : ℚ) → All (λ (d : Due). end <ℚ d.time) []
+pub none_due : (end : ℚ) → All (λ (d : Due). end <ℚ d.time) []
 none_due end n d h = absurd (omega arith)
 
 pub one_packet_is_lawful : IsLawful one_server one_packet

@@ -1,5 +1,5 @@
 -- Small runs, lawful and not, and what is said of each.
-use Rattle.std.specs.Prelude.{None, ◌≡◌, ℕ, true, List, [], ◌∷◌}
+use Rattle.std.specs.Prelude.{None, ◌≡◌, ℕ, true, false, List, [], ◌∷◌}
 use Rattle.rational.specs.Rational.{ℚ, ◌+ℚ◌}
 use Rattle.rational.specs.Extended.{Ext}
 use Rattle.rational.specs.declared.Extended.TheVariants.{Fin}
@@ -62,7 +62,31 @@ pub record OnePacketReachesItsBound : Type 0 where
   pub its_hop_delay : hop_delays (of_queue 0) (whole 130) (view one_server one_packet 0) ≡ whole 130 ∷ []
   pub its_bound : IsHorizontalDeviation (its_arrivals 0) (its_service 0) (Fin (whole 130))
 
+-- ---- a run that ends in the middle of work: 6000 of 12000 bits are done from 10 to 70
+abbrev pub cut_in_work : SpecRun
+cut_in_work = ends_at 70 (Enter 0 0 (whole 0) 12000 ∷ Work 0 0 (whole 10) (whole 70) (whole 6000) ∷ [])
+
+-- the packet does not leave, and its delay is counted up to the end of the run
+pub record CutInWork : Type 0 where
+  pub is_lawful : IsLawful one_server cut_in_work
+  pub its_delay : delays one_server cut_in_work 0 ≡ whole 70 ∷ []
+
 -- ---- not lawful
+-- the network has flow 0 alone, and a packet enters on flow 1
+abbrev pub UnknownFlow : Type 0
+UnknownFlow = ¬ IsLawful one_server (ends_at 1000 (Enter 1 0 (whole 0) 12000 ∷ []))
+
+-- the network's one flow is not live, and a packet enters on it
+abbrev pub dead_flow : Routes
+dead_flow = record {
+  servers = server Fifo ∷ [];
+  links = whole 0 ∷ [];
+  flows = record { live = false; hops = hop 0 0 ∷ [] } ∷ [];
+}
+
+abbrev pub DeadFlow : Type 0
+DeadFlow = ¬ IsLawful dead_flow (ends_at 1000 (Enter 0 0 (whole 0) 12000 ∷ []))
+
 -- more work than the packet has bits
 abbrev pub WorkPastTheBits : Type 0
 WorkPastTheBits =

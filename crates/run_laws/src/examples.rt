@@ -1,4 +1,4 @@
-ghost use Rattle.run_laws.specs.Examples.{OnePacketReachesItsBound, WorkPastTheBits, Overtaking, LeftComplete, BothOrders, OverALink, Priorities, Quanta};
+ghost use Rattle.run_laws.specs.Examples.{OnePacketReachesItsBound, WorkPastTheBits, Overtaking, LeftComplete, BothOrders, OverALink, Priorities, Quanta, CutInWork, UnknownFlow, DeadFlow};
 
 /// A lawful run that keeps its curves and whose delay is the bound: the premises of the laws can be met.
 pub fn one_packet_reaches_its_bound()
@@ -38,4 +38,19 @@ pub fn the_first_queue_goes_first()
 /// Deficit round robin goes by visits, and visits go by the list.
 pub fn visits_go_by_the_list()
     ensures { Quanta }
+{}
+
+/// A run may end in the middle of the work on a packet, whose delay is then counted up to the end.
+pub fn a_run_may_be_cut_in_work()
+    ensures { CutInWork }
+{}
+
+/// A packet of a flow that the network does not have is not lawful.
+pub fn an_unknown_flow_is_refused()
+    ensures { UnknownFlow }
+{}
+
+/// A packet of a flow that is not live is not lawful.
+pub fn a_dead_flow_is_refused()
+    ensures { DeadFlow }
 {}

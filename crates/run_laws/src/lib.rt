@@ -9,7 +9,8 @@ mod laws;
 mod steps;
 
 pub use examples::{
-    a_link_is_passed_in_time, both_orders_are_lawful, left_complete_is_refused,
+    a_dead_flow_is_refused, a_link_is_passed_in_time, a_run_may_be_cut_in_work,
+    an_unknown_flow_is_refused, both_orders_are_lawful, left_complete_is_refused,
     one_packet_reaches_its_bound, overtaking_is_refused, the_first_queue_goes_first,
     visits_go_by_the_list, work_past_the_bits_is_refused,
 };

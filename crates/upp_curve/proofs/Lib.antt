@@ -34,6 +34,7 @@ pub mod LongCrosses
 pub mod Compared
 pub mod Rounding
 pub mod WorkedRunning
+pub mod WorkedJump
 pub mod JoinedNumbers
 pub mod Gathering
 pub mod SpanNumbers

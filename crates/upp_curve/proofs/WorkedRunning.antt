@@ -18,14 +18,14 @@ use Rattle.upp_curve.specs.WorkedRows.{whole, dip, RunningRows}
 use Rattle.upp_curve.proofs.KindValues.{on_line}
 use Rattle.upp_curve.proofs.Worked.{half_twice}
 
-dip_early : (t : ℚ) → zero_q ≤ℚ t → t <ℚ whole 1 → value_at dip t ≡ Fin (whole 3 *ℚ t)
+pub dip_early : (t : ℚ) → zero_q ≤ℚ t → t <ℚ whole 1 → value_at dip t ≡ Fin (whole 3 *ℚ t)
 unfolding value_at read piece_in
 dip_early t h l =
     rw (le_q_not (whole 1) t l)
     (on_line zero_q zero_q zero_q (whole 3) t (with1 zero_q (λ c. omega (arith, c.le, c.lt, c.same))) h
     ∙ ap Fin (with1 t (λ c. omega (arith, c.le, c.lt, c.same))))
 
-dip_late : (t : ℚ) → whole 1 ≤ℚ t → value_at dip t ≡ Fin t
+pub dip_late : (t : ℚ) → whole 1 ≤ℚ t → value_at dip t ≡ Fin t
 unfolding value_at read piece_in
 dip_late t h =
     rw (le_q_out (whole 1) t h)
@@ -55,7 +55,7 @@ least_late t h =
     rw (is, dip_late u (with2 t u (λ c. omega (arith, c.le, c.lt, c.same)))) p))
 
 -- a time before 1 at which 3 t is above y
-close : (y : ℚ) → y <ℚ whole 3 → (s : ℚ) × (zero_q ≤ℚ s) × (s <ℚ whole 1) × (y <ℚ whole 3 *ℚ s)
+pub close : (y : ℚ) → y <ℚ whole 3 → (s : ℚ) × (zero_q ≤ℚ s) × (s <ℚ whole 1) × (y <ℚ whole 3 *ℚ s)
 close y l = elim (le_or_lt zero_q y) [
   | inr k ↦ (zero_q, le_refl zero_q, with1 zero_q (λ c. omega (arith, c.le, c.lt, c.same)), with1 y (λ c. omega (arith, c.le, c.lt, c.same)))
   | inl k ↦

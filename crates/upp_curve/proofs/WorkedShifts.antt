@@ -1,14 +1,13 @@
 -- Shifts, multiples and differences of curves, worked out by hand.
-use Rattle.std.specs.Prelude.{◌≡◌, pos}
-use Rattle.std.proofs.Common.{arith, sym, ap, ◌∙◌, subst, inl, inr, refl}
+use Rattle.std.specs.Prelude.{◌≡◌}
+use Rattle.std.proofs.Common.{arith, ap, subst, inl, inr, refl}
 use Rattle.rational.specs.Rational.{ℚ, ◌+ℚ◌, ◌-ℚ◌, ◌*ℚ◌, ◌≤ℚ◌, ◌<ℚ◌}
 use Rattle.rational.specs.Fractions.{same_parts}
 use Rattle.rational.specs.Extended.{Ext, ◌≤ₑ◌}
-use Rattle.rational.specs.declared.Extended.TheVariants.{Fin, Inf}
-use Rattle.rational.specs.MinMax.{max_q}
-use Rattle.rational.proofs.Linear.{with1, with2, with3}
+use Rattle.rational.specs.declared.Extended.TheVariants.{Fin}
+use Rattle.rational.proofs.Linear.{with1, with2}
 use Rattle.rational.proofs.Laws.{le_or_lt, le_refl}
-use Rattle.rational.proofs.MinMax.{le_q_not, max_q_left, max_q_right, max_q_is_left}
+use Rattle.rational.proofs.MinMax.{le_q_not, max_q_right, max_q_is_left}
 use Rattle.rational.proofs.Over.{le_q_out}
 use Rattle.rational.proofs.Bounds.{least_member}
 use Rattle.rational.proofs.Integers.{nat_nonneg}

@@ -9,7 +9,7 @@ use Rattle.rational.specs.declared.Extended.TheVariants.{Fin}
 use Rattle.rational.specs.MinMax.{max_q}
 use Rattle.rational.specs.Whole.{whole_part, periods}
 use Rattle.rational.proofs.Linear.{with1, with2, with3, with4, with5, with6, with8}
-use Rattle.rational.proofs.Laws.{le_refl, le_or_lt, le_of_lt, mul_zero, mul_comm, mul_add, mul_one, zero_mul, one_mul, div_mul, frac_nonneg}
+use Rattle.rational.proofs.Laws.{le_refl, mul_zero, mul_comm, mul_add, mul_one, zero_mul, one_mul, div_mul, frac_nonneg}
 use Rattle.rational.proofs.MinMax.{le_q_not, max_q_ge_left, max_q_ge_right}
 use Rattle.rational.proofs.Over.{le_q_out}
 use Rattle.rational.proofs.Bounds.{least_member, largest_member}
@@ -19,7 +19,7 @@ use Rattle.upp_curve.specs.Functions.{zero_q, FiniteTime}
 use Rattle.upp_curve.specs.Convolution.{IsDeconvolution, Split, IsConvolution}
 use Rattle.upp_curve.specs.Reading.{read, piece_in}
 use Rattle.upp_curve.specs.Curve.{value_at, repeated}
-use Rattle.upp_curve.specs.Kinds.{stair, rate_latency, stair_value}
+use Rattle.upp_curve.specs.Kinds.{stair, rate_latency}
 use Rattle.upp_curve.specs.WorkedRows.{whole}
 use Rattle.upp_curve.specs.WorkedStairs.{StairFormula, TwoStairs, StairLeaves}
 use Rattle.upp_curve.proofs.FiniteValues.{Fin_inj}

@@ -4,7 +4,7 @@ ghost use Rattle.upp_curve.specs.Normal.{NormalFormIsUnique};
 ghost use Rattle.upp_curve.specs.Deviations.{DeviationsAreUnique};
 ghost use Rattle.upp_curve.specs.BucketBounds.{BucketDeviations};
 ghost use Rattle.upp_curve.specs.WorkedRows.{StairRows, GateRows, BucketRows, RateLatencyRows, MinimumRows, RunningRows, ConvolutionRows};
-ghost use Rattle.upp_curve.specs.WorkedStairs.{StairFormula, TwoStairs, StairLeaves};
+ghost use Rattle.upp_curve.specs.WorkedStairs.{StairFormula, TwoStairs, StairLeaves, JumpLeaves};
 ghost use Rattle.upp_curve.specs.WorkedShifts.{ShiftRows, ScaleRows, MinusRows, DifferenceRows, LeftOverRows};
 
 /// Two curves in normal form with one value at each time are one.
@@ -37,11 +37,13 @@ pub fn worked_operators()
     ensures convolution { ConvolutionRows }
 {}
 
-/// The value of a stair without jitter at each time, and its convolution and deconvolution worked out by hand.
+/// The value of a stair without jitter at each time, and its convolution and deconvolution worked out by hand; and a
+/// deconvolution whose supremum no time takes.
 pub fn worked_stairs()
     ensures formula { StairFormula }
     ensures convolution { TwoStairs }
     ensures deconvolution { StairLeaves }
+    ensures jump { JumpLeaves }
 {}
 
 /// Shifts, multiples, differences and what first in, first out leaves, worked out by hand.
