@@ -29,3 +29,7 @@ pub mod Finite
 pub mod PieceLoops
 pub mod CurveShapes
 pub mod LineRising
+pub mod StairValues
+pub mod GateValues
+pub mod KindForms
+pub mod KindsAre

@@ -15,4 +15,5 @@ pub mod Deviations
 pub mod Kinds
 pub mod Service
 pub mod BucketBounds
+pub mod KindLaws
 pub mod WorkedRows

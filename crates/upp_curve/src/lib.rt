@@ -2,6 +2,7 @@
 #![tactic(auto)]
 
 mod curve;
+mod kind_laws;
 mod laws;
 mod reading;
 mod same;
@@ -10,6 +11,7 @@ mod shape;
 mod tests;
 
 pub use curve::{Curve, Tail, equal};
+pub use kind_laws::kinds_are_curves;
 pub use laws::{
     bucket_deviations, deviations_are_unique, normal_form_is_unique, worked_kinds, worked_operators,
 };
