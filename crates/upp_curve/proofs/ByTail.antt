@@ -60,7 +60,7 @@ unfolding repeated
 later_value f rank period rise t n back early by base p q r s w =
     ap₂ (λ (x : Ext) (y : ℚ). x +ₑ Fin y) (s ∙ ap f (r ∙ ap (λ z. t -ℚ z) (q ∙ ap (λ m. m *ℚ period) p))) (w ∙ ap (λ m. m *ℚ rise) p)
 
-some_is : (l : Line) → ¬ (Some l ≡ None)
+pub some_is : (l : Line) → ¬ (Some l ≡ None)
 some_is l e = true≢false (ap is_some e)
 
 pub bucket_normal : (b r : ℚ) → IsNormal (bucket b r)

@@ -1,8 +1,7 @@
 -- What a curve's type keeps, by the kind of tail that a match found, and the answers on its shape.
-use Rattle.std.specs.Prelude.{◌≡◌, ◌↔◌, pos, Bool, IsTrue, List, [], ◌∷◌, Option, Some, None}
+use Rattle.std.specs.Prelude.{◌≡◌, ◌↔◌, Bool, IsTrue, List, [], ◌∷◌, Option, Some, None}
 use Rattle.std.proofs.Common.{sym, ap, ◌∙◌, refl, subst}
-use Rattle.rational.specs.Rational.{ℚ, ◌+ℚ◌, ◌/ℚ◌, ◌≤ℚ◌, ◌<ℚ◌, int}
-use Rattle.rational.specs.Ratio.{SumFits}
+use Rattle.rational.specs.Rational.{ℚ, ◌+ℚ◌}
 use Rattle.rational.specs.Extended.{Ext, ◌+ₑ◌}
 use Rattle.rational.specs.declared.Extended.TheVariants.{Fin}
 use Rattle.affine_segment.specs.declared.line.Piece.{Piece}
@@ -13,9 +12,9 @@ use Rattle.upp_curve.specs.Reading.{read}
 use Rattle.upp_curve.specs.Curve.{SpecCurve, value_at}
 use Rattle.upp_curve.specs.Curves.{IsCurve}
 use Rattle.upp_curve.specs.Functions.{IsFinite, IsRising}
-use Rattle.upp_curve.specs.Normal.{Each, HasStart, IsNormal, FitsPeriod}
-use Rattle.upp_curve.specs.Readable.{EachFits, LineFitsTo, PeriodFits, TailReadable}
-use Rattle.upp_curve.specs.Shapes.{IsFinitePiece, PiecesRise, end_time}
+use Rattle.upp_curve.specs.Normal.{Each}
+use Rattle.upp_curve.specs.Readable.{EachFits, TailReadable}
+use Rattle.upp_curve.specs.Shapes.{IsFinitePiece, PiecesRise}
 use Rattle.upp_curve.specs.Steady.{rate, rate_in}
 use Rattle.upp_curve.proofs.RisingCurves.{IsEnd, GoesOn, period_end, rises_by_tail, pieces_by_tail, finite_by_tail, finite_pieces_by_tail, infinite_is_not_finite}
 

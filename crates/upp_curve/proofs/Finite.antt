@@ -10,16 +10,15 @@ use Rattle.rational.proofs.MinMax.{le_q_not}
 use Rattle.rational.proofs.Over.{le_q_out}
 use Rattle.affine_segment.specs.declared.line.Line.{Line}
 use Rattle.affine_segment.specs.declared.line.Piece.{Piece}
-use Rattle.affine_segment.specs.Values.{line_at, line_value}
+use Rattle.affine_segment.specs.Values.{line_value}
 use Rattle.upp_curve.specs.declared.shape.End.{End}
 use Rattle.upp_curve.specs.Reading.{piece_in, piece_value}
 use Rattle.rational.specs.Whole.{periods}
 use Rattle.upp_curve.specs.Curve.{repeated}
 use Rattle.upp_curve.specs.Normal.{Each, RisesFrom}
 use Rattle.upp_curve.specs.Shapes.{IsNumber, IsLine, IsFinitePiece}
-use Rattle.upp_curve.proofs.FiniteValues.{no_inf}
 use Rattle.upp_curve.proofs.PieceIn.{piece_in_end, piece_in_go, piece_in_stop}
-use Rattle.upp_curve.proofs.FirstStretch.{read_in, value_past, value_at_start, at_start}
+use Rattle.upp_curve.proofs.FirstStretch.{read_in, value_past, at_start}
 use Rattle.upp_curve.proofs.RisingFrom.{IsBefore}
 
 -- ---- numbers

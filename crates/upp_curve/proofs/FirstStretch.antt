@@ -1,22 +1,17 @@
 -- How the first of some pieces is read: at its start, and up to the next start.
-use Rattle.rational.proofs.MinMax.{below_min_in, below_min_out, le_q_not, lt_q_not}
-use Rattle.std.specs.Prelude.{◌≡◌, pos, List, [], ◌∷◌, Option, Some, None}
-use Rattle.std.proofs.Common.{arith, sym, ap, ap₂, ◌∙◌, refl, subst, inl, inr}
-use Rattle.rational.specs.Rational.{ℚ, ◌+ℚ◌, ◌-ℚ◌, ◌*ℚ◌, ◌≤ℚ◌, ◌<ℚ◌, int}
-use Rattle.rational.proofs.Linear.{with2, with3, with4, with6}
-use Rattle.rational.proofs.Over.{le_q_out, lt_q_out}
-use Rattle.rational.proofs.Laws.{antisym, le_trans, le_lt_trans, le_or_lt, le_of_lt, le_refl, mul_sub, mul_cancel, between}
+use Rattle.rational.proofs.MinMax.{below_min_in, below_min_out, le_q_not}
+use Rattle.std.specs.Prelude.{◌≡◌, List, [], ◌∷◌}
+use Rattle.std.proofs.Common.{ap, ◌∙◌, refl}
+use Rattle.rational.specs.Rational.{ℚ, ◌<ℚ◌}
+use Rattle.rational.proofs.Over.{le_q_out}
+use Rattle.rational.proofs.Laws.{le_refl}
 use Rattle.rational.specs.Extended.{Ext}
-use Rattle.affine_segment.specs.declared.line.Line.{Line}
 use Rattle.affine_segment.specs.declared.line.Piece.{Piece}
 use Rattle.rational.specs.MinMax.{min_q}
 use Rattle.upp_curve.specs.Reading.{piece_in, piece_value}
 use Rattle.affine_segment.specs.Values.{line_value}
-use Rattle.upp_curve.specs.Normal.{RisesFrom, NoneContinues}
-use Rattle.upp_curve.specs.Unrolled.{upto}
-use Rattle.rational.proofs.Whole.{not_zero}
-use Rattle.upp_curve.proofs.FiniteValues.{Fin_inj, no_inf}
-use Rattle.upp_curve.proofs.PieceIn.{piece_in_go, piece_in_stop, piece_in_end}
+use Rattle.upp_curve.specs.Normal.{RisesFrom}
+use Rattle.upp_curve.proofs.PieceIn.{piece_in_stop, piece_in_end}
 
 abbrev pub end_of : ℚ → List Piece → ℚ
 end_of X [] = X

@@ -69,3 +69,7 @@ pub mod NormaliseDivided
 pub mod NormaliseLeast
 pub mod NormaliseForm
 pub mod LevelCurves
+pub mod StairValues
+pub mod GateValues
+pub mod KindForms
+pub mod KindsAre

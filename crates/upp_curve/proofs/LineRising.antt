@@ -1,7 +1,7 @@
 -- Whether a piece with a line rises, by the three tests of it.
-use Rattle.std.specs.Prelude.{◌≡◌, ◌↔◌, pos, Option, Some, None}
+use Rattle.std.specs.Prelude.{◌≡◌, ◌↔◌, Option, Some}
 use Rattle.std.proofs.Common.{sym, subst}
-use Rattle.rational.specs.Rational.{ℚ, ◌≤ℚ◌, ◌<ℚ◌, int}
+use Rattle.rational.specs.Rational.{ℚ, ◌≤ℚ◌, ◌<ℚ◌}
 use Rattle.rational.specs.Extended.{◌≤ₑ◌}
 use Rattle.rational.specs.declared.Extended.TheVariants.{Fin}
 use Rattle.rational.proofs.Laws.{lt_irrefl, lt_le_trans}

@@ -1,18 +1,17 @@
 -- Whether a curve rises, and whether it is finite, from its pieces and its tail.
 use Rattle.std.specs.Prelude.{◌≡◌, pos, List, [], ◌∷◌, Option, Some, None}
-use Rattle.std.proofs.Common.{arith, sym, ap, ap₂, ◌∙◌, refl, subst, inl, inr}
+use Rattle.std.proofs.Common.{arith, sym, ap, ◌∙◌, refl, subst, inl, inr}
 use Rattle.rational.specs.Rational.{ℚ, ◌+ℚ◌, ◌≤ℚ◌, ◌<ℚ◌, int}
-use Rattle.rational.specs.Extended.{Ext, ◌≤ₑ◌, ◌+ₑ◌}
-use Rattle.rational.specs.declared.Extended.TheVariants.{Fin, Inf}
-use Rattle.rational.proofs.Linear.{with1, with2, with3}
-use Rattle.rational.proofs.Laws.{le_refl, le_of_lt, le_or_lt, le_trans, le_lt_trans, lt_irrefl}
-use Rattle.rational.proofs.Whole.{periods_small}
+use Rattle.rational.specs.Extended.{Ext, ◌+ₑ◌}
+use Rattle.rational.specs.declared.Extended.TheVariants.{Fin}
+use Rattle.rational.proofs.Linear.{with1, with2}
+use Rattle.rational.proofs.Laws.{le_refl, le_of_lt, le_trans, le_lt_trans}
 use Rattle.affine_segment.specs.declared.line.Piece.{Piece}
 use Rattle.upp_curve.specs.declared.curve.Tail.{Tail}
 use Rattle.upp_curve.specs.declared.curve.Tail.TheVariants.{Periodic, Affine, Infinite}
 use Rattle.upp_curve.specs.declared.shape.End.{End}
 use Rattle.upp_curve.specs.Reading.{piece_value, piece_in, read}
-use Rattle.upp_curve.specs.Curve.{SpecCurve, value_at, repeated}
+use Rattle.upp_curve.specs.Curve.{value_at, repeated}
 use Rattle.upp_curve.specs.Functions.{IsRising, IsFinite}
 use Rattle.upp_curve.specs.Normal.{Each, HasStart, RisesFrom, StartsAtZero, IsNormal, FitsPeriod}
 use Rattle.upp_curve.specs.Shapes.{IsNumber, IsFinitePiece, PiecesRise}

@@ -1,11 +1,11 @@
 -- Where a function rises, each of the pieces that it is read from rises to the next.
 use Rattle.std.specs.Prelude.{◌≡◌, pos, List, [], ◌∷◌, Option, Some, None}
-use Rattle.std.proofs.Common.{arith, sym, ap, ◌∙◌, refl, subst}
+use Rattle.std.proofs.Common.{arith, ap, ◌∙◌, subst}
 use Rattle.rational.specs.Rational.{ℚ, ◌+ℚ◌, ◌-ℚ◌, ◌*ℚ◌, ◌≤ℚ◌, ◌<ℚ◌, int}
 use Rattle.rational.specs.Extended.{Ext, ◌≤ₑ◌}
-use Rattle.rational.specs.declared.Extended.TheVariants.{Fin, Inf}
+use Rattle.rational.specs.declared.Extended.TheVariants.{Fin}
 use Rattle.rational.specs.Stretch.{Between}
-use Rattle.rational.proofs.Linear.{with2, with3, with6}
+use Rattle.rational.proofs.Linear.{with2, with3}
 use Rattle.rational.proofs.Laws.{le_refl, le_of_lt, le_trans, between, mul_sub, mul_comm, mul_zero}
 use Rattle.rational.proofs.Whole.{le_of_mul}
 use Rattle.rational.proofs.Bounds.{greatest, smallest}
@@ -17,7 +17,7 @@ use Rattle.upp_curve.specs.declared.shape.End.{End}
 use Rattle.upp_curve.specs.Reading.{piece_value}
 use Rattle.upp_curve.specs.Functions.{zero_q}
 use Rattle.upp_curve.specs.Normal.{Each, RisesFrom}
-use Rattle.upp_curve.specs.Shapes.{LineRises, EndsBelow, PieceRises, PiecesRise, end_before}
+use Rattle.upp_curve.specs.Shapes.{LineRises, PieceRises, PiecesRise}
 use Rattle.upp_curve.proofs.PieceIn.{piece_in_end, piece_in_go, piece_in_stop}
 use Rattle.upp_curve.proofs.FirstStretch.{read_in, value_past, at_start}
 

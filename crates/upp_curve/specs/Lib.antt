@@ -15,6 +15,7 @@ pub mod Deviations
 pub mod Kinds
 pub mod Service
 pub mod BucketBounds
+pub mod KindLaws
 pub mod WorkedRows
 pub mod WorkedStairs
 pub mod WorkedShifts

@@ -1,5 +1,5 @@
 -- The running bounds of a function, and what first in, first out leaves of a service.
--- (Le Boudec and Thiran, chapter 3 and the residual service of a first in, first out queue, section 6.4.)
+-- (Le Boudec and Thiran, chapter 3 and the residual service of a first in, first out queue, chapter 6.)
 use Rattle.std.specs.Prelude.{◌≡◌, cond}
 use Rattle.rational.specs.Rational.{ℚ, ◌-ℚ◌, le_q}
 use Rattle.rational.specs.Extended.{Ext}

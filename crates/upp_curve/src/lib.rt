@@ -7,6 +7,7 @@ mod curve_numbers;
 mod cycle;
 mod gathered;
 mod gauges;
+mod kind_laws;
 mod known;
 mod laws;
 mod least_period;
@@ -27,6 +28,7 @@ mod tests;
 mod two_periods;
 
 pub use curve::{Curve, Tail, equal};
+pub use kind_laws::kinds_are_curves;
 pub use laws::{
     bucket_deviations, deviations_are_unique, normal_form_is_unique, worked_kinds,
     worked_operators, worked_shifts, worked_stairs,

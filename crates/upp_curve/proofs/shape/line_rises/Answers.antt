@@ -1,7 +1,7 @@
-use Rattle.std.proofs.Common.{sym, true≢false, ◌∙◌, subst}
+use Rattle.std.proofs.Common.{sym, true≢false, subst}
 use Rattle.rational.specs.Rational.{◌≤ℚ◌}
 use Rattle.affine_segment.proofs.Compared.{is_less, not_less}
-use Rattle.upp_curve.proofs.LineRising.{rises_by_tests, falls, starts_low}
+use Rattle.upp_curve.proofs.LineRising.{rises_by_tests, falls}
 use Rattle.upp_curve.proofs.shape.line_rises.Goals as goal
 
 pub returns-in-Less : goal.returns-in-Less

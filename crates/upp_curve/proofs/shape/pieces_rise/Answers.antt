@@ -1,4 +1,4 @@
-use Rattle.std.proofs.Common.{refl, true≢false, sym, ◌∙◌}
+use Rattle.std.proofs.Common.{true≢false, sym, ◌∙◌}
 use Rattle.upp_curve.proofs.PieceLoops.{rising_start, rising_fits, rising_on, rising_off, rising_last_fits, rising_end}
 use Rattle.upp_curve.proofs.shape.pieces_rise.Goals as goal
 
