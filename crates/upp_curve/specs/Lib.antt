@@ -16,3 +16,5 @@ pub mod Service
 pub mod BucketBounds
 pub mod WorkedRows
 pub mod Normalising
+pub mod Fitting
+pub mod Room

@@ -3,11 +3,11 @@
 
 mod curve;
 mod cycle;
+mod fitting;
 mod laws;
 mod least_period;
 mod lowest_rank;
 mod merging;
-mod normalise;
 mod reading;
 mod same;
 #[cfg(test)]
