@@ -35,3 +35,5 @@ pub mod NormaliseGoes
 pub mod NormaliseDivided
 pub mod NormaliseLeast
 pub mod NormaliseForm
+pub mod NormaliseRoom
+pub mod NormaliseRoomy

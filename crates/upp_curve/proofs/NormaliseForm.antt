@@ -137,8 +137,8 @@ turning_line c f T l is =
     let R = subst (λ x. Repeats (cycle_values c) x c.period c.rise) (sym K.at) (repeated_rule (read ps) c.rank c.period c.rise T.cycle.some) in
     not_one_line (cycle_values c) c.period c.rise K.first K.rest T.cycle.some P R l (λ t h. is t (subst (λ x. x ≤ℚ t) K.at h))
 
-pub repeating_form : (c m : Cycle) (ps : List Piece) (low d u : ℚ) → IsLeast c m → IsLowest ps low d u m.rank (cycle_values m) → d ≡ m.period → u ≡ m.rise → IsFormOf (periodic ps low d u) (cycle_values c)
-repeating_form c m ps low d u L W dm um =
+pub repeating_form : (times values : ℕ) (c m : Cycle) (ps : List Piece) (low d u : ℚ) → IsLeast times values c m → IsLowest m.pieces.items ps low d u m.rank (cycle_values m) → d ≡ m.period → u ≡ m.rise → IsFormOf (periodic ps low d u) (cycle_values c)
+repeating_form times values c m ps low d u L W dm um =
     let g = value_at (periodic ps low d u) in
     let T = own_turning m (cycle_values c) L.turned in
     let C = W.cycle in

@@ -1,5 +1,5 @@
 -- Room for the numbers of a normal form: the grids that they stand on, and their sizes. With it no step of the normal form is too wide. Own choice.
-use Rattle.std.specs.Prelude.{ℕ, ◌+◌, ◌*◌, ◌<◌, ◌≤◌, pos, List, Option, Some, None}
+use Rattle.std.specs.Prelude.{◌≡◌, ℕ, ◌+◌, ◌*◌, ◌<◌, ◌≤◌, pos, List, Option, Some, None}
 use Prim.Native.Nat.{◌∣◌}
 use Rattle.rational.specs.Rational.{ℚ, ◌+ℚ◌, ◌*ℚ◌, ◌≤ℚ◌, ◌<ℚ◌, int}
 use Rattle.rational.specs.Grid.{Whole, Within}
@@ -7,6 +7,8 @@ use Rattle.rational.specs.Extended.{Ext}
 use Rattle.rational.specs.declared.Extended.TheVariants.{Fin, Inf}
 use Rattle.affine_segment.specs.declared.line.Line.{Line}
 use Rattle.affine_segment.specs.declared.line.Piece.{Piece}
+use Rattle.upp_curve.specs.declared.curve.Tail.{Tail}
+use Rattle.upp_curve.specs.declared.curve.Tail.TheVariants.{Periodic, Affine, Infinite}
 use Rattle.upp_curve.specs.Normal.{Each}
 
 -- the largest number of 127 bits
@@ -70,10 +72,36 @@ pub record PieceHasRoom (m : Room) (n : ℕ) (p : Piece) : Type 0 where
   pub at : ValueHasRoom m n time.grid p.at
   pub line : LineHasRoom m n p.line
 
--- the tail of a periodic curve: its period ends three times within the end of times
-pub record TailHasRoom (m : Room) (rank period rise : ℚ) : Type 0 where
-  pub rank : Whole m.times rank
-  pub period : Whole m.times period
-  pub rise : Whole (m.base * m.slopes) rise
+-- a move by a time on the tail's grid and a rise
+pub record IsMove (m : Room) (by rise : ℚ) : Type 0 where
+  pub time : Whole m.times by
+  pub low : int (pos 0) ≤ℚ by
+  pub height : Whole (m.base * m.slopes) rise
   pub within : Within (many m 1) rise
+
+-- ---- curves
+-- pieces that start up to the end of times
+pub record PiecesHaveRoom (m : Room) (n : ℕ) (ps : List Piece) : Type 0 where
+  pub is : IsRoom m
+  pub each : Each (PieceHasRoom m n) ps
+  pub early : Each (λ p. p.x ≤ℚ m.end) ps
+
+-- a curve that is infinite past its rank
+pub record EndHasRoom (m : Room) (ps : List Piece) (rank : ℚ) : Type 0 where
+  pub pieces : PiecesHaveRoom m 1 ps
+  pub time : TimeHasRoom m rank
+  pub early : rank ≤ℚ m.end
+
+-- a periodic curve: three periods past the rank end up to the end of times
+pub record TurnHasRoom (m : Room) (ps : List Piece) (rank period rise : ℚ) : Type 0 where
+  pub is : IsRoom m
+  pub each : Each (PieceHasRoom m 1) ps
+  pub time : TimeHasRoom m rank
+  pub move : IsMove m period rise
   pub ends : rank +ℚ period +ℚ period +ℚ period ≤ℚ m.end
+
+-- a curve in any form, whose fractions of the period are on the grids of 1 / times and 1 / values
+abbrev pub TailHasRoom : ℕ → ℕ → List Piece → Tail → Type 0
+TailHasRoom times values ps (Periodic rank period rise) = (m : Room) × (m.times ≡ times) × (m.base * m.slopes ≡ values) × TurnHasRoom m ps rank period rise
+TailHasRoom times values ps (Affine rank) = (m : Room) × PiecesHaveRoom m 1 ps
+TailHasRoom times values ps (Infinite rank) = (m : Room) × EndHasRoom m ps rank
