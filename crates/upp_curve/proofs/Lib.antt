@@ -37,3 +37,4 @@ pub mod NormaliseLeast
 pub mod NormaliseForm
 pub mod NormaliseRoom
 pub mod NormaliseRoomy
+pub mod NormaliseWhole

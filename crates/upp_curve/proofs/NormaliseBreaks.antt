@@ -148,11 +148,11 @@ ends_in_break f p ps r d c q B some zero start F rise is C =
     let before : w.x <ℚ X = last_in (λ z. z.x <ℚ X) p (upto X ps) begin (upto_before X ps) in
     let room : z -ℚ d <ℚ x = with3 z x d (λ c. omega (arith, c.le, c.lt, c.same)) in
     let here = λ (t : ℚ) (a : r ≤ℚ t) (b : B.last.x <ℚ t) (e : t <ℚ x).
-      let e2 : t <ℚ X = with3 t x d (λ c. omega (arith, c.le, c.lt, c.same)) in
-      sym (is t (le_trans zero a) e2) ∙ B.reads t b e in
+    let e2 : t <ℚ X = with3 t x d (λ c. omega (arith, c.le, c.lt, c.same)) in
+    sym (is t (le_trans zero a) e2) ∙ B.reads t b e in
     let there = λ (t : ℚ) (a : r ≤ℚ t) (b : z -ℚ d <ℚ t) (e : t <ℚ x).
-      let t2 : z <ℚ t +ℚ d = with3 z t d (λ c. omega (arith, c.le, c.lt, c.same)) in
-      let e2 : t +ℚ d <ℚ X = with3 t x d (λ c. omega (arith, c.le, c.lt, c.same)) in
-      let from : int (pos 0) ≤ℚ t +ℚ d = with3 r t d (λ c. omega (arith, c.le, c.lt, c.same)) in
-      sym (is (t +ℚ d) from e2) ∙ reads_last p ps X (t +ℚ d) rise begin t2 e2 in
+    let t2 : z <ℚ t +ℚ d = with3 z t d (λ c. omega (arith, c.le, c.lt, c.same)) in
+    let e2 : t +ℚ d <ℚ X = with3 t x d (λ c. omega (arith, c.le, c.lt, c.same)) in
+    let from : int (pos 0) ≤ℚ t +ℚ d = with3 r t d (λ c. omega (arith, c.le, c.lt, c.same)) in
+    sym (is (t +ℚ d) from e2) ∙ reads_last p ps X (t +ℚ d) rise begin t2 e2 in
     B.differs (continues_line d c w B.last q (lines_apart f B.last.line w.line B.last.x (z -ℚ d) r x d c (le_lt_trans B.early late) room late F here there) C)

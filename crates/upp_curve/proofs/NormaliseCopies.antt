@@ -89,9 +89,9 @@ copied (suc k) e u q qs some rise none inside break =
       rises = subst (RisesFrom q.x) shape (rises_append q.x qs (later e u q) (each_later e u more) rise (with2 x e (λ c. omega (arith, c.le, c.lt, c.same))) inside (rises_moved e u q.x more K.rises));
       none = subst (NoneContinues q) shape (none_append q qs (later e u q) (each_later e u more) none break (none_moved e u q more K.none));
       inside =
-        subst (Each (λ z. z.x <ℚ x +ℚ next)) shape
-        (each_append (λ z. z.x <ℚ x +ℚ next) qs (later e u q ∷ each_later e u more) (each_map (λ z. z.x <ℚ x +ℚ e) (λ z. z.x <ℚ x +ℚ next) (λ z h. let y = z.x in with3 y (x +ℚ e) (x +ℚ next) (λ c. omega (arith, c.le, c.lt, c.same))) qs inside)
-        (far, subst (λ y. Each (λ z. z.x <ℚ y) (each_later e u more)) end (each_moved (x +ℚ n) e u more K.inside)));
+          subst (Each (λ z. z.x <ℚ x +ℚ next)) shape
+          (each_append (λ z. z.x <ℚ x +ℚ next) qs (later e u q ∷ each_later e u more) (each_map (λ z. z.x <ℚ x +ℚ e) (λ z. z.x <ℚ x +ℚ next) (λ z h. let y = z.x in with3 y (x +ℚ e) (x +ℚ next) (λ c. omega (arith, c.le, c.lt, c.same))) qs inside)
+          (far, subst (λ y. Each (λ z. z.x <ℚ y) (each_later e u more)) end (each_moved (x +ℚ n) e u more K.inside)));
     }
 
 -- ---- where a fraction of the period is a period, the pieces are copies
@@ -127,11 +127,11 @@ part_break f k e u d c q qs some dk ck P R C =
     let back : y -ℚ s <ℚ X = with5 y x d e s (λ c. omega (arith, c.le, c.lt, c.same)) in
     let K = repeats_times f x e u k (le_of_lt some) R in
     let here = λ (t : ℚ) (a : x ≤ℚ t) (b : w2.x <ℚ t) (h : t <ℚ X).
-      sym (P.reads t a (with5 t x d e s (λ c. omega (arith, c.le, c.lt, c.same)))) ∙ reads_last q qs X t P.rises begin b h in
+    sym (P.reads t a (with5 t x d e s (λ c. omega (arith, c.le, c.lt, c.same)))) ∙ reads_last q qs X t P.rises begin b h in
     let there = λ (t : ℚ) (a : x ≤ℚ t) (b : y -ℚ s <ℚ t) (h : t <ℚ X).
-      let late : y <ℚ t +ℚ s = with3 y t s (λ c. omega (arith, c.le, c.lt, c.same)) in
-      sym (P.reads (t +ℚ s) (with3 x t s (λ c. omega (arith, c.le, c.lt, c.same))) (with5 t x d e s (λ c. omega (arith, c.le, c.lt, c.same))))
-      ∙ read_past (q ∷ qs) y (t +ℚ s) (last_is_last q qs P.rises) late in
+    let late : y <ℚ t +ℚ s = with3 y t s (λ c. omega (arith, c.le, c.lt, c.same)) in
+    sym (P.reads (t +ℚ s) (with3 x t s (λ c. omega (arith, c.le, c.lt, c.same))) (with5 t x d e s (λ c. omega (arith, c.le, c.lt, c.same))))
+    ∙ read_past (q ∷ qs) y (t +ℚ s) (last_is_last q qs P.rises) late in
     let line : w.line ≡ line_later s v w2.line = lines_apart f w2.line w.line w2.x (y -ℚ s) x X s v w2_in back begin K here there in
     let D : Continues (later s v w2) (later s v (later e u q)) = continues_moved s v w2 (later e u q) C in
     let same : later s v (later e u q) ≡ later d c q = later_twice e s u v q ∙ ap₂ (λ (a b : ℚ). later a b q) (sym ds) (sym cs) in
@@ -153,15 +153,15 @@ are_copies f k e u d c q qs some dk ck P R =
     let inside = upto_before X qs in
     let K : Copied k e u q vs = copied k e u q vs some rise (none_upto X q qs P.none) inside (part_break f k e u d c q qs some dk ck P R) in
     let part = λ (t : ℚ) (a : x ≤ℚ t) (b : t <ℚ X).
-      ap (λ zs. read zs t) (sym (upto_some X q qs begin)) ∙ read_upto X q qs t b begin ∙ P.reads t a (with5 t x d e s (λ c. omega (arith, c.le, c.lt, c.same))) in
+    ap (λ zs. read zs t) (sym (upto_some X q qs begin)) ∙ read_upto X q qs t b begin ∙ P.reads t a (with5 t x d e s (λ c. omega (arith, c.le, c.lt, c.same))) in
     let whole = agree_from (repeated (read (q ∷ vs)) x e u) f x e u some (repeated_rule (read (q ∷ vs)) x e u some) R (λ t a b. repeated_first (read (q ∷ vs)) x e u t some b ∙ part t a b) in
     let A : Reads f (x +ℚ d) q qs = record { rises = P.rises; none = P.none; is = λ t a b. sym (read_is q qs t) ∙ P.reads t a b } in
     let B : Reads f (x +ℚ d) q more = record {
       rises = K.rises;
       none = K.none;
       is = λ t a b.
-        sym (read_is q more t) ∙ ap (λ zs. read zs t) (sym (copies_some k e u q vs))
-        ∙ copies_read k q vs e u t some inside a (subst (λ z. t <ℚ x +ℚ z) dk b) ∙ whole t a;
+          sym (read_is q more t) ∙ ap (λ zs. read zs t) (sym (copies_some k e u q vs))
+          ∙ copies_read k q vs e u t some inside a (subst (λ z. t <ℚ x +ℚ z) dk b) ∙ whole t a;
     } in
     let ends : x <ℚ x +ℚ d = with4 x d e s (λ c. omega (arith, c.le, c.lt, c.same)) in
     let all : Each (λ z. z.x <ℚ x +ℚ d) more = subst (λ y. Each (λ z. z.x <ℚ x +ℚ y) more) (sym dk) K.inside in
@@ -206,7 +206,7 @@ copies_end (suc n) e u ps =
     let (last, is) = copies_end n e u ps in (
       each_later e u last,
       copies_next (suc n) e u ps ∙ ap (λ zs. ps ++ each_later e u zs) is ∙ ap (λ zs. ps ++ zs) (moved-append e u (copies n e u ps) last)
-      ∙ sym (append_assoc ps (each_later e u (copies n e u ps)) (each_later e u last)) ∙ ap (λ zs. zs ++ each_later e u last) (sym (copies_next n e u ps)),
+          ∙ sym (append_assoc ps (each_later e u (copies n e u ps)) (each_later e u last)) ∙ ap (λ zs. zs ++ each_later e u last) (sym (copies_next n e u ps)),
     )
 
 pub copies_go_on : (n : ℕ) (e u : ℚ) (ps : List Piece) → GoesOn (copies (suc n) e u ps) (length ps) e u
@@ -241,6 +241,6 @@ from_go_on (suc (suc n)) k e u ps len G =
     let n_k : k + n * k ≡ m = omega arith in
     let left : length rest - k ≡ n * k = omega (arith, len2) in
     let inner : GoesOn rest k e u =
-        ap (λ i. drop k (take i ps)) (sym n_k) ∙ drop-take k (n * k) ps ∙ ap (take (n * k)) back ∙ take-moved (n * k) e u rest ∙ ap (λ i. each_later e u (take i rest)) (sym left) in
+    ap (λ i. drop k (take i ps)) (sym n_k) ∙ drop-take k (n * k) ps ∙ ap (take (n * k)) back ∙ take-moved (n * k) e u rest ∙ ap (λ i. each_later e u (take i rest)) (sym left) in
     let shape : ps ≡ take k ps ++ each_later e u rest = sym (take-append-drop k ps) ∙ ap (λ zs. take k ps ++ zs) back in
     shape ∙ ap (λ zs. take k ps ++ each_later e u zs) (from_go_on (suc n) k e u rest len2 inner ∙ ap (copies (suc n) e u) (take-take k m ps less)) ∙ sym (copies_next (suc n) e u (take k ps))

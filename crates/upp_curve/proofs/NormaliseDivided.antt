@@ -65,8 +65,8 @@ period_is ps r d c C E K =
       inside = subst (λ x. Each (λ z. z.x <ℚ x +ℚ d) K.rest) (sym K.at) inside.1;
       break = E K.first K.rest K.from_is;
       reads = λ t h l.
-        let early : Each (λ z. z.x ≤ℚ t) K.before = each_map (λ z. z.x <ℚ r) (λ z. z.x ≤ℚ t) (λ z m. le_trans (le_of_lt m) (subst (λ x. x ≤ℚ t) K.at h)) K.before K.early in
-        sym (ap (λ zs. read zs t) K.whole ∙ read_from_cut K.before K.first K.rest t early h) ∙ sym (repeated_first (read ps) r d c t C.some (subst (λ x. t <ℚ x +ℚ d) K.at l));
+          let early : Each (λ z. z.x ≤ℚ t) K.before = each_map (λ z. z.x <ℚ r) (λ z. z.x ≤ℚ t) (λ z m. le_trans (le_of_lt m) (subst (λ x. x ≤ℚ t) K.at h)) K.before K.early in
+          sym (ap (λ zs. read zs t) K.whole ∙ read_from_cut K.before K.first K.rest t early h) ∙ sym (repeated_first (read ps) r d c t C.some (subst (λ x. t <ℚ x +ℚ d) K.at l));
     }
 
 -- such a tail is not one line
@@ -89,14 +89,14 @@ not_one_line f d c q qs some P F l is =
     let y_in : y <ℚ X = last_in (λ z. z.x <ℚ X) q qs begin P.inside in
     let low : x ≤ℚ y = (last_is_last q qs P.rises).0 in
     let last : w.line ≡ l = lines_same w.line l y X y_in (λ t a b.
-      let h : x ≤ℚ t = le_trans low (le_of_lt a) in
-      sym (read_past (q ∷ qs) y t (last_is_last q qs P.rises) a) ∙ P.reads t h b ∙ is t h) in
+    let h : x ≤ℚ t = le_trans low (le_of_lt a) in
+    sym (read_past (q ∷ qs) y t (last_is_last q qs P.rises) a) ∙ P.reads t h b ∙ is t h) in
     let first : q.line ≡ l = lines_same q.line l x (end_of X qs) (start_before x X qs begin P.rises) (λ t a b.
-      let k : t <ℚ X = end_at_most X qs t b in
-      sym (on_stretch q qs X t a b) ∙ sym (read_is q qs t) ∙ P.reads t (le_of_lt a) k ∙ is t (le_of_lt a)) in
+    let k : t <ℚ X = end_at_most X qs t b in
+    sym (on_stretch q qs X t a b) ∙ sym (read_is q qs t) ∙ P.reads t (le_of_lt a) k ∙ is t (le_of_lt a)) in
     let at : q.at +ₑ Fin c ≡ line_value w.line X =
-        ap (λ v. v +ₑ Fin c) (sym (at_start q qs P.rises) ∙ sym (read_is q qs x) ∙ P.reads x (le_refl x) begin) ∙ sym (F.rule x (le_refl x))
-        ∙ is X (le_of_lt begin) ∙ ap (λ z. line_value z X) (sym last) in
+    ap (λ v. v +ₑ Fin c) (sym (at_start q qs P.rises) ∙ sym (read_is q qs x) ∙ P.reads x (le_refl x) begin) ∙ sym (F.rule x (le_refl x))
+    ∙ is X (le_of_lt begin) ∙ ap (λ z. line_value z X) (sym last) in
     P.break (at, ap (line_later d c) first ∙ line_moved l f x d c F some is ∙ sym last)
 
 -- ---- a fraction that is a period
@@ -150,12 +150,12 @@ divided_parts es q qs vs m first d c e u C early some dk ck are count =
     let f = repeated (read (es ++ q ∷ qs)) x d c in
     let g = repeated (read (es ++ q ∷ vs)) x e u in
     let G : Repeats g x d c =
-        subst (λ z. Repeats g x z c) (sym dk) (subst (λ z. Repeats g x (int (pos (suc (suc m))) *ℚ e) z) (sym ck)
-        (repeats_times g x e u (suc (suc m)) (le_of_lt some) (repeated_rule (read (es ++ q ∷ vs)) x e u some))) in
+    subst (λ z. Repeats g x z c) (sym dk) (subst (λ z. Repeats g x (int (pos (suc (suc m))) *ℚ e) z) (sym ck)
+    (repeats_times g x e u (suc (suc m)) (le_of_lt some) (repeated_rule (read (es ++ q ∷ vs)) x e u some))) in
     let all : upto (x +ℚ d) (es ++ copies (suc (suc m)) e u (q ∷ vs)) ≡ es ++ q ∷ qs = ap (λ zs. upto (x +ℚ d) (es ++ zs)) (sym are) ∙ upto_all (x +ℚ d) (es ++ q ∷ qs) C.inside in
     let first_period = λ (t : ℚ) (h : int (pos 0) ≤ℚ t) (l : t <ℚ x +ℚ d).
-      sym (ap (λ zs. read zs t) (sym all) ∙ parts_read es q vs (suc m) e u (x +ℚ d) t zero3 some early inside3 h l (subst (λ y. t <ℚ y) end l))
-      ∙ sym (repeated_first (read (es ++ q ∷ qs)) x d c t C.some l) in
+    sym (ap (λ zs. read zs t) (sym all) ∙ parts_read es q vs (suc m) e u (x +ℚ d) t zero3 some early inside3 h l (subst (λ y. t <ℚ y) end l))
+    ∙ sym (repeated_first (read (es ++ q ∷ qs)) x d c t C.some l) in
     record {
       cycle = record {
         starts = zero3;
@@ -166,10 +166,10 @@ divided_parts es q qs vs m first d c e u C early some dk ck are count =
         inside = inside3;
       };
       break = λ p rest is.
-        let e2 : p ∷ rest ≡ q ∷ vs = sym is ∙ from_mid x es q vs early (le_refl x) in
-        let B = none_between q vs s more (none_right es q (vs ++ s ∷ more) none2) in
-        λ C2. B (subst (λ z. Continues z (later e u q)) (ap₂ last_of (heads_same p q rest vs e2) (tails_same p q rest vs e2))
-        (subst (λ z. Continues (last_of p rest) (later e u z)) (heads_same p q rest vs e2) C2));
+          let e2 : p ∷ rest ≡ q ∷ vs = sym is ∙ from_mid x es q vs early (le_refl x) in
+          let B = none_between q vs s more (none_right es q (vs ++ s ∷ more) none2) in
+          λ C2. B (subst (λ z. Continues z (later e u q)) (ap₂ last_of (heads_same p q rest vs e2) (tails_same p q rest vs e2))
+          (subst (λ z. Continues (last_of p rest) (later e u z)) (heads_same p q rest vs e2) C2));
       first_is = count ∙ ap length (sym (upto_mid x es q vs early (le_refl x)));
       same = agree g f x d c C.some G (repeated_rule (read (es ++ q ∷ qs)) x d c C.some) first_period C.nonneg;
     }
@@ -202,8 +202,8 @@ cut_turned ps r d c e u m k first C E some dk ck len G count = by_count k len (f
         let shape : take (first + suc j) ps ≡ es ++ q ∷ vs = ap₂ (λ (n : ℕ) (zs : List Piece). take (n + suc j) zs) count2 K.whole ∙ take-append-add es (q ∷ qs) (suc j) in
         let size : length vs ≡ j = length-take-le j qs (omega (arith, len, ap length K.from_is, fits qs (ap length (sym K.from_is) ∙ len))) in (
           subst (λ new. Turned new first r e u (repeated (read ps) r d c)) (sym shape)
-          (subst (λ zs. Turned (es ++ q ∷ vs) first r e u (repeated (read zs) r d c)) (sym K.whole)
-          (subst (λ x. Turned (es ++ q ∷ vs) first x e u (repeated (read (es ++ q ∷ qs)) x d c)) K.at D)),
+              (subst (λ zs. Turned (es ++ q ∷ vs) first r e u (repeated (read zs) r d c)) (sym K.whole)
+              (subst (λ x. Turned (es ++ q ∷ vs) first x e u (repeated (read (es ++ q ∷ qs)) x d c)) K.at D)),
           ap (λ zs. length (from r zs)) shape ∙ ap length (from_mid r es q vs K.early (subst (λ x. r ≤ℚ x) (sym K.at) (le_refl r))) ∙ ap suc size,
         )
       where

@@ -67,13 +67,13 @@ last_line_is : (es : List Piece) (q : Piece) → last_line (es ++ q ∷ []) ≡ 
 last_line_is [] q = refl
 last_line_is (e ∷ es) q = ap (λ z. z.line) (last_append e es q [])
 
-record Ends (ps : List Piece) (last : Piece) : Type 0 where
-  early : Each (λ z. z.x ≤ℚ last.x) ps
-  has : HasStart last.x ps
-  line : last_line ps ≡ last.line
-  nonneg : int (pos 0) ≤ℚ last.x
+pub record Ends (ps : List Piece) (last : Piece) : Type 0 where
+  pub early : Each (λ z. z.x ≤ℚ last.x) ps
+  pub has : HasStart last.x ps
+  pub line : last_line ps ≡ last.line
+  pub nonneg : int (pos 0) ≤ℚ last.x
 
-ends_at : (ps : List Piece) (last : Piece) → StartsAtZero ps → Last ps last → Ends ps last
+pub ends_at : (ps : List Piece) (last : Piece) → StartsAtZero ps → Last ps last → Ends ps last
 ends_at ps last zero L =
     let early2 = each_append (λ z. z.x ≤ℚ last.x) L.before (last ∷ []) (each_map (λ z. z.x <ℚ last.x) (λ z. z.x ≤ℚ last.x) (λ z h. le_of_lt h) L.before L.early) (le_refl last.x, tt) in
     subst (λ zs. Ends zs last) (sym L.whole) record {
@@ -144,8 +144,8 @@ repeating_form times values c m ps low d u L W dm um =
     let C = W.cycle in
     -- what g repeats from its rank m repeats from its own
     let down = λ (e v : ℚ) (h : int (pos 0) ≤ℚ e) (R : Repeats g low e v).
-      repeats_after (cycle_values m) low m.rank e v W.lower
-      (transfer (cycle_values m) g low e v C.nonneg h (λ t k. sym (periodic_is ps low d u t ∙ W.same t k)) R) in
+    repeats_after (cycle_values m) low m.rank e v W.lower
+    (transfer (cycle_values m) g low e v C.nonneg h (λ t k. sym (periodic_is ps low d u t ∙ W.same t k)) R) in
     record {
       normal = record {
         raw = record { starts = C.starts; tail = record { nonneg = C.nonneg; some = C.some; starts = C.inside } };
@@ -153,15 +153,15 @@ repeating_form times values c m ps low d u L W dm um =
         no_merge = C.none;
         tail = record {
           least_period = λ n a R.
-            let some_n : 0 < n = omega arith in
-            let R2 = down (d /ℚ int (pos n)) (u /ℚ int (pos n)) (le_of_lt (share_some d n some_n C.some)) R in
-            L.least n a (subst (λ x. Repeats (cycle_values m) m.rank (x /ℚ int (pos n)) (m.rise /ℚ int (pos n))) dm (subst (λ y. Repeats (cycle_values m) m.rank (d /ℚ int (pos n)) (y /ℚ int (pos n))) um R2));
+              let some_n : 0 < n = omega arith in
+              let R2 = down (d /ℚ int (pos n)) (u /ℚ int (pos n)) (le_of_lt (share_some d n some_n C.some)) R in
+              L.least n a (subst (λ x. Repeats (cycle_values m) m.rank (x /ℚ int (pos n)) (m.rise /ℚ int (pos n))) dm (subst (λ y. Repeats (cycle_values m) m.rank (d /ℚ int (pos n)) (y /ℚ int (pos n))) um R2));
           least_rank =
-            each_map (λ p. p.x <ℚ low → ¬ (Repeats (repeated (read ps) low d u) p.x d u)) (λ p. p.x <ℚ low → ¬ (Repeats g p.x d u))
-            (λ p h l R. h l (same_rule (repeated (read ps) low d u) g p.x d u (λ t. sym (periodic_is ps low d u t)) R)) ps W.least;
+              each_map (λ p. p.x <ℚ low → ¬ (Repeats (repeated (read ps) low d u) p.x d u)) (λ p. p.x <ℚ low → ¬ (Repeats g p.x d u))
+              (λ p h l R. h l (same_rule (repeated (read ps) low d u) g p.x d u (λ t. sym (periodic_is ps low d u t)) R)) ps W.least;
           not_one_line = λ l is.
-            turning_line m (cycle_values m) T l (λ t h.
-            sym (W.same t (le_trans T.cycle.nonneg h)) ∙ sym (periodic_is ps low d u t) ∙ is t (le_trans W.lower h));
+              turning_line m (cycle_values m) T l (λ t h.
+              sym (W.same t (le_trans T.cycle.nonneg h)) ∙ sym (periodic_is ps low d u t) ∙ is t (le_trans W.lower h));
         };
       };
       same = λ t h. periodic_is ps low d u t ∙ W.same t h ∙ L.turned.same t h;
@@ -175,10 +175,10 @@ turning_grids times values f r c F low G T =
     let on = G bent in
     let some = T.cycle.some in
     let up = λ (n : ℕ) (h : 1 ≤ n) (R : Repeats (cycle_values c) c.rank (c.period /ℚ int (pos n)) (c.rise /ℚ int (pos n))).
-      let e = c.period /ℚ int (pos n) in
-      let v = c.rise /ℚ int (pos n) in
-      let e_some = le_of_lt (share_some c.period n h some) in
-      rule_extends f r c.period c.rise c.rank e v F (transfer f (cycle_values c) c.rank e v T.cycle.nonneg e_some (λ t k. sym (T.same t k)) R) some e_some in
+    let e = c.period /ℚ int (pos n) in
+    let v = c.rise /ℚ int (pos n) in
+    let e_some = le_of_lt (share_some c.period n h some) in
+    rule_extends f r c.period c.rise c.rank e v F (transfer f (cycle_values c) c.rank e v T.cycle.nonneg e_some (λ t k. sym (T.same t k)) R) some e_some in
     record { time = λ n h R. on.time n h (up n h R); value = λ n h R. on.value n h (up n h R) }
 
 -- ---- two periods of a given curve

@@ -100,9 +100,9 @@ is_cut c d (suc (suc m)) k T h len G is_pieces is_first is_rank is_period is_ris
     record {
       front = subst (λ zs. IsFront zs c.pieces.items) (sym is_pieces) (front_take (c.first + k) c.pieces.items);
       turned =
-        subst (λ r. Turned d.pieces.items d.first r e u (cycle_values c)) (sym is_rank)
-        (subst (λ i. Turned d.pieces.items i c.rank e u (cycle_values c)) (sym is_first)
-        (subst (λ zs. Turned zs c.first c.rank e u (cycle_values c)) (sym is_pieces) D.0));
+          subst (λ r. Turned d.pieces.items d.first r e u (cycle_values c)) (sym is_rank)
+          (subst (λ i. Turned d.pieces.items i c.rank e u (cycle_values c)) (sym is_first)
+          (subst (λ zs. Turned zs c.first c.rank e u (cycle_values c)) (sym is_pieces) D.0));
       rank = is_rank;
       outcome = inr record {
         period = is_period;
@@ -309,13 +309,13 @@ search_divides times values c found d parts rest S e D =
       share = subst (λ m. rest / parts ∣ m) (sym W.count) (dvd_trans (rest / parts) back S.share);
       none = none;
       only = λ n a R.
-        let some_n : 0 < n = omega arith in
-        let R2 = subst (λ x. Repeats (cycle_values c) c.rank (x /ℚ int (pos n)) (found.rise /ℚ int (pos n))) W.period (subst (λ y. Repeats (cycle_values c) c.rank (d.period /ℚ int (pos n)) (y /ℚ int (pos n))) W.rise R) in
-        let apart = λ (k : parts ∣ n).
+          let some_n : 0 < n = omega arith in
+          let R2 = subst (λ x. Repeats (cycle_values c) c.rank (x /ℚ int (pos n)) (found.rise /ℚ int (pos n))) W.period (subst (λ y. Repeats (cycle_values c) c.rank (d.period /ℚ int (pos n)) (y /ℚ int (pos n))) W.rise R) in
+          let apart = λ (k : parts ∣ n).
           W.none (from_values found (cycle_values c) c.rank (found.period /ℚ int (pos parts)) (found.rise /ℚ int (pos parts)) S.turned S.rank
           (le_of_lt (share_some found.period parts (let m = S.some in omega arith) S.turned.cycle.some))
           (shorter_by (cycle_values c) c.rank found.period found.rise parts n S.turned.cycle.some some_n k R2)) in
-        divides_other parts n (rest / parts) left (coprime parts rest n S.some h some_n S.none apart) (subst (λ z. n ∣ z) (sym next) (S.only n a R2));
+          divides_other parts n (rest / parts) left (coprime parts rest n S.some h some_n S.none apart) (subst (λ z. n ∣ z) (sym next) (S.only n a R2));
     }
     by_outcome h next left back none T r (inr W) =
         let some_p : 0 < parts = let m = S.some in omega arith in
@@ -324,8 +324,8 @@ search_divides times values c found d parts rest S e D =
           fits = fits_cut times values parts found d S.fits D.front some_p W.period W.rise;
           front = front_trans d.pieces.items found.pieces.items c.pieces.items D.front S.front;
           divided =
-            let (m, some, p, r) = S.divided in
-            (m * parts, mul-pos some some_p, W.period ∙ ap (λ z. z /ℚ int (pos parts)) p ∙ share_twice c.period m parts some some_p, W.rise ∙ ap (λ z. z /ℚ int (pos parts)) r ∙ share_twice c.rise m parts some some_p);
+              let (m, some, p, r) = S.divided in
+              (m * parts, mul-pos some some_p, W.period ∙ ap (λ z. z /ℚ int (pos parts)) p ∙ share_twice c.period m parts some some_p, W.rise ∙ ap (λ z. z /ℚ int (pos parts)) r ∙ share_twice c.rise m parts some some_p);
           turned = T;
           rank = r;
           some = S.some;
@@ -333,20 +333,20 @@ search_divides times values c found d parts rest S e D =
           share = dvd_of_mul-dvd-mul_left (rest / parts) some_p (subst (λ z. z ∣ parts * turn_count d) (sym next) (subst (λ z. rest ∣ z) W.count S.share));
           none = none;
           only = λ n a R.
-            let some_n : 0 < n = omega arith in
-            let R2 = subst (λ x. Repeats (cycle_values c) c.rank x (found.rise /ℚ int (pos (parts * n)))) (ap (λ z. z /ℚ int (pos n)) W.period ∙ share_twice found.period parts n some_p some_n)
-                (subst (λ y. Repeats (cycle_values c) c.rank (d.period /ℚ int (pos n)) y) (ap (λ z. z /ℚ int (pos n)) W.rise ∙ share_twice found.rise parts n some_p some_n) R) in
-            dvd_of_mul-dvd-mul_left n some_p (subst (λ z. parts * n ∣ z) (sym next) (S.only (parts * n) (mul-pos some_p some_n) R2));
+              let some_n : 0 < n = omega arith in
+              let R2 = subst (λ x. Repeats (cycle_values c) c.rank x (found.rise /ℚ int (pos (parts * n)))) (ap (λ z. z /ℚ int (pos n)) W.period ∙ share_twice found.period parts n some_p some_n)
+              (subst (λ y. Repeats (cycle_values c) c.rank (d.period /ℚ int (pos n)) y) (ap (λ z. z /ℚ int (pos n)) W.rise ∙ share_twice found.rise parts n some_p some_n) R) in
+              dvd_of_mul-dvd-mul_left n some_p (subst (λ z. parts * n ∣ z) (sym next) (S.only (parts * n) (mul-pos some_p some_n) R2));
         }
 
 pub search_ends : (times values : ℕ) (c found : Cycle) (parts rest : ℕ) → Searching times values c found parts rest → rest < parts → IsLeast times values c found
 search_ends times values c found parts rest S h = record {
   front = S.front;
   share =
-    let (n, some, p, r) = S.divided in
-    let own = subst (λ x. Repeats (cycle_values found) found.rank x (found.rise /ℚ int (pos 1))) (sym (whole_share found.period)) (subst (λ y. Repeats (cycle_values found) found.rank found.period y) (sym (whole_share found.rise))
-        (repeated_rule (read found.pieces.items) found.rank found.period found.rise S.turned.cycle.some)) in
-    (n, some, p, r, subst (Whole times) (whole_share found.period) (S.grids.time 1 (omega arith) own), subst (Whole values) (whole_share found.rise) (S.grids.value 1 (omega arith) own));
+      let (n, some, p, r) = S.divided in
+      let own = subst (λ x. Repeats (cycle_values found) found.rank x (found.rise /ℚ int (pos 1))) (sym (whole_share found.period)) (subst (λ y. Repeats (cycle_values found) found.rank found.period y) (sym (whole_share found.rise))
+      (repeated_rule (read found.pieces.items) found.rank found.period found.rise S.turned.cycle.some)) in
+      (n, some, p, r, subst (Whole times) (whole_share found.period) (S.grids.time 1 (omega arith) own), subst (Whole values) (whole_share found.rise) (S.grids.value 1 (omega arith) own));
   turned = S.turned;
   rank = S.rank;
   least = λ n a R.

@@ -87,11 +87,11 @@ before_parts rank es p bs zero low late is =
       low = low;
       nonneg = nonneg_mid es zero early;
       between =
-        each_append (λ z. z.x <ℚ rank → z.x ≤ℚ p.x) es (p ∷ bs) (each_map (λ z. z.x <ℚ p.x) (λ z. z.x <ℚ rank → z.x ≤ℚ p.x) (λ z h l. le_of_lt h) es early)
-        ((λ l. le_refl p.x), each_map (λ z. rank ≤ℚ z.x) (λ z. z.x <ℚ rank → z.x ≤ℚ p.x) (λ z h l. absurd (lt_irrefl rank (le_lt_trans h l))) bs late);
+          each_append (λ z. z.x <ℚ rank → z.x ≤ℚ p.x) es (p ∷ bs) (each_map (λ z. z.x <ℚ p.x) (λ z. z.x <ℚ rank → z.x ≤ℚ p.x) (λ z h l. le_of_lt h) es early)
+          ((λ l. le_refl p.x), each_map (λ z. rank ≤ℚ z.x) (λ z. z.x <ℚ rank → z.x ≤ℚ p.x) (λ z h l. absurd (lt_irrefl rank (le_lt_trans h l))) bs late);
       reads = λ t h l.
-        read_from_cut es p bs t (each_map (λ z. z.x <ℚ p.x) (λ z. z.x ≤ℚ t) (λ z m. le_trans (le_of_lt m) h) es early) h
-        ∙ read_stays p bs t (each_map (λ z. rank ≤ℚ z.x) (λ z. t <ℚ z.x) (λ z m. lt_le_trans l m) bs late);
+          read_from_cut es p bs t (each_map (λ z. z.x <ℚ p.x) (λ z. z.x ≤ℚ t) (λ z m. le_trans (le_of_lt m) h) es early) h
+          ∙ read_stays p bs t (each_map (λ z. rank ≤ℚ z.x) (λ z. t <ℚ z.x) (λ z m. lt_le_trans l m) bs late);
       has = has_mid es p bs;
       count = ap length is ∙ length_more es p ∙ ap suc (ap length (sym (upto_mid p.x es p bs early (le_refl p.x))));
     }
@@ -167,7 +167,7 @@ last_is ps z zero n some =
       whole = split;
       early = early;
       reads = λ t h.
-        ap (λ zs. read zs t) split ∙ read_from_cut (take i ps) last [] t (each_map (λ z. z.x <ℚ last.x) (λ z. z.x ≤ℚ t) (λ z m. le_trans (le_of_lt m) h) (take i ps) early) h ∙ read_one last t;
+          ap (λ zs. read zs t) split ∙ read_from_cut (take i ps) last [] t (each_map (λ z. z.x <ℚ last.x) (λ z. z.x ≤ℚ t) (λ z m. le_trans (le_of_lt m) h) (take i ps) early) h ∙ read_one last t;
       break = λ h. subst (λ zs. LastBreak zs last) (sym split) (last_break (take i ps) last zero2 n2 early h);
     }
 
@@ -177,7 +177,7 @@ unfolding cut_last
 cut_last_is ps last end L h = elim (le_or_lt end last.x) [
   | inr l ↦
       let all : Each (λ z. z.x <ℚ end) ps =
-          subst (Each (λ z. z.x <ℚ end)) (sym L.whole) (each_append (λ z. z.x <ℚ end) L.before (last ∷ []) (each_map (λ z. z.x <ℚ last.x) (λ z. z.x <ℚ end) (λ z m. lt_le_trans m h) L.before L.early) (l, tt)) in
+      subst (Each (λ z. z.x <ℚ end)) (sym L.whole) (each_append (λ z. z.x <ℚ end) L.before (last ∷ []) (each_map (λ z. z.x <ℚ last.x) (λ z. z.x <ℚ end) (λ z m. lt_le_trans m h) L.before L.early) (l, tt)) in
       ap (λ b. cond b ps (take (length ps - 1) ps)) (lt_q_out last.x end l) ∙ sym (upto_all end ps all)
   | inl l ↦
       let n : length L.before ≡ length ps - 1 = omega (arith, ap length L.whole, length-append L.before (last ∷ [])) in
@@ -231,8 +231,8 @@ repeats_in_last ps r d c p last some B L room R =
       early = early;
       line = line;
       at =
-        sym (L.reads (x +ℚ d) early) ∙ sym (repeated_first (read ps) r d c (x +ℚ d) some high) ∙ R.rule x (le_refl x)
-        ∙ ap (λ v. v +ₑ Fin c) (repeated_first (read ps) r d c x some here ∙ B.reads x (le_refl x) low ∙ value_at_start p);
+          sym (L.reads (x +ℚ d) early) ∙ sym (repeated_first (read ps) r d c (x +ℚ d) some high) ∙ R.rule x (le_refl x)
+          ∙ ap (λ v. v +ₑ Fin c) (repeated_first (read ps) r d c x some here ∙ B.reads x (le_refl x) low ∙ value_at_start p);
     }
   where
     on_line : (t : ℚ) → p.x ≤ℚ t → p.x <ℚ t → t <ℚ r → repeated (read ps) r d c t ≡ line_value p.line t
@@ -261,15 +261,15 @@ repeats_in_last ps r d c p last some B L room R =
         let inside : high <ℚ r = with3 y r d (λ c. omega (arith, c.le, c.lt, c.same)) in
         let back : high +ℚ d ≡ y = with2 y d (λ c. omega (arith, c.le, c.lt, c.same)) in
         let before : w.line ≡ line_later d c p.line =
-            lines_apart (repeated (read ps) r d c) p.line w.line p.x (v -ℚ d) p.x high d c a b a R (λ t h m k. on_line t h m (with3 t high r (λ c. omega (arith, c.le, c.lt, c.same)))) (λ t h m k.
-            let late : v <ℚ t +ℚ d = with3 v t d (λ c. omega (arith, c.le, c.lt, c.same)) in
-            let soon : t +ℚ d <ℚ y = with3 t y d (λ c. omega (arith, c.le, c.lt, c.same)) in
-            let end : t +ℚ d <ℚ r +ℚ d = with4 t y r d (λ c. omega (arith, c.le, c.lt, c.same)) in
-            repeated_first (read ps) r d c (t +ℚ d) some end ∙ K.reads (t +ℚ d) late soon) in
+        lines_apart (repeated (read ps) r d c) p.line w.line p.x (v -ℚ d) p.x high d c a b a R (λ t h m k. on_line t h m (with3 t high r (λ c. omega (arith, c.le, c.lt, c.same)))) (λ t h m k.
+        let late : v <ℚ t +ℚ d = with3 v t d (λ c. omega (arith, c.le, c.lt, c.same)) in
+        let soon : t +ℚ d <ℚ y = with3 t y d (λ c. omega (arith, c.le, c.lt, c.same)) in
+        let end : t +ℚ d <ℚ r +ℚ d = with4 t y r d (λ c. omega (arith, c.le, c.lt, c.same)) in
+        repeated_first (read ps) r d c (t +ℚ d) some end ∙ K.reads (t +ℚ d) late soon) in
         let at : last.at ≡ line_value w.line y =
-            sym (value_at_start last) ∙ sym (L.reads y (le_refl y)) ∙ sym (repeated_first (read ps) r d c y some room) ∙ ap (repeated (read ps) r d c) (sym back)
-            ∙ R.rule high (le_of_lt a) ∙ ap (λ v. v +ₑ Fin c) (on_line high (le_of_lt a) a inside) ∙ sym (shifted_value p d c high)
-            ∙ ap₂ line_value (sym before) back in
+        sym (value_at_start last) ∙ sym (L.reads y (le_refl y)) ∙ sym (repeated_first (read ps) r d c y some room) ∙ ap (repeated (read ps) r d c) (sym back)
+        ∙ R.rule high (le_of_lt a) ∙ ap (λ v. v +ₑ Fin c) (on_line high (le_of_lt a) a inside) ∙ sym (shifted_value p d c high)
+        ∙ ap₂ line_value (sym before) back in
         K.differs (at, line ∙ sym before)
 
     in_time : (last.x ≤ℚ p.x +ℚ d) ⊎ (p.x +ℚ d <ℚ last.x) → last.x ≤ℚ p.x +ℚ d
@@ -308,8 +308,8 @@ lowered_is ps new r d c p last C B L I e =
       };
       count = B.count ∙ ap suc (ap length (sym (upto_upto x end ps (le_of_lt after))));
       same = agree (repeated (read (upto end ps)) x d c) f x d c some (repeated_rule (read (upto end ps)) x d c some) R
-        (λ t h m. repeated_first (read (upto end ps)) x d c t some m ∙ plain_upto ps end t C.starts h m
-        ∙ sym (repeated_first (read ps) r d c t some (with4 t x r d (λ c. omega (arith, c.le, c.lt, c.same))))) nonneg;
+          (λ t h m. repeated_first (read (upto end ps)) x d c t some m ∙ plain_upto ps end t C.starts h m
+          ∙ sym (repeated_first (read ps) r d c t some (with4 t x r d (λ c. omega (arith, c.le, c.lt, c.same))))) nonneg;
     }
 
 -- ---- the loop
@@ -379,7 +379,7 @@ lowers_no_more given ps first low d c rank f z K some new step =
     let L : Last ps last = last_is ps z C.starts C.none (some_pieces low ps C.has) in
     let room = last_inside ps last (low +ℚ d) L C.inside in
     let none = each_map (λ z. z.x <ℚ low → z.x ≤ℚ p.x) (λ z. z.x <ℚ low → ¬ (Repeats (repeated (read ps) low d c) z.x d c))
-        (λ z h l R. step.1 (repeats_in_last ps low d c p last C.some B L room (repeats_after (repeated (read ps) low d c) z.x p.x d c (h l) R))) ps B.between in
+    (λ z h l R. step.1 (repeats_in_last ps low d c p last C.some B L room (repeats_after (repeated (read ps) low d c) z.x p.x d c (h l) R))) ps B.between in
     subst (λ zs. IsLowest given zs low d c rank f) (sym step.0) (lowest_is given ps first low d c rank f K none)
 
 -- ---- the test, from what the code computes

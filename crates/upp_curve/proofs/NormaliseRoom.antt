@@ -192,7 +192,7 @@ at_moved m n grid rise Inf V w i = tt
 at_moved m n grid rise (Fin v) V w i = record {
   whole = whole_add (grid * m.slopes) v rise V.whole w;
   within = within_weaken (many m (n + 1)) (many m (n + 2)) (v +ℚ rise) (many_le m (n + 1) (n + 2) (omega arith))
-    (subst (λ y. Within y (v +ℚ rise)) (many_sum m n 1) (within_add (many m n) (many m 1) v rise V.within i));
+      (subst (λ y. Within y (v +ℚ rise)) (many_sum m n 1) (within_add (many m n) (many m 1) v rise V.within i));
 }
 
 line_moved_room : (m : Room) (n : ℕ) (by rise : ℚ) (l : Option Line) → IsRoom m → LineHasRoom m n l → IsMove m by rise → by ≤ℚ m.end → LineHasRoom m (n + 2) (line_later by rise l)
@@ -244,5 +244,5 @@ rate_fits m x period rise R T M some e =
     let some_k : 0 < k = mul-pos R.some_base R.some_slopes in
     let finer_k : k ≤ fine m x T = le_of_dvd (fine_some m x T R) (mul-dvd-mul_right m.base T.base m.slopes) in
     let top_k : many m 1 *ℚ int (pos k) ≤ℚ int (pos top) =
-        le_trans (mul_le_mul (many m 1) (many_some m 1) (nat_le k (fine m x T) finer_k)) (many_top m x T 1 (omega arith)) in
+    le_trans (mul_le_mul (many m 1) (many_some m 1) (nat_le k (fine m x T) finer_k)) (many_top m x T 1 (omega arith)) in
     quotient_on_grid k (many m 1) m.end rise period some_k (not_zero period some) top_k R.rate M.height on M.within (within_nonneg m.end period (le_of_lt some) e)

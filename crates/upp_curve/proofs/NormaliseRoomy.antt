@@ -21,7 +21,7 @@ use Rattle.upp_curve.specs.Normal.{Each, RisesFrom, StartsAtZero, HasStart}
 use Rattle.upp_curve.specs.Readable.{LineFits, LineFitsAt, SumFitsAt, EachFits, PeriodFits}
 use Rattle.upp_curve.specs.Fitting.{LaterFits, ReadFits}
 use Rattle.upp_curve.specs.Normalising.{IsCycle, IsFront, IsLeast, IsLowest, SharesFit, StepsFit, MoveReads, cut_at, past, second_copy, cycle_values}
-use Rattle.upp_curve.specs.Room.{Room, IsRoom, TimeHasRoom, many, ValueHasRoom, LineHasRoom, PieceHasRoom, IsMove, PiecesHaveRoom, TurnHasRoom}
+use Rattle.upp_curve.specs.Room.{Room, IsRoom, TimeHasRoom, many, ValueHasRoom, LineHasRoom, PieceHasRoom, IsMove, PiecesHaveRoom, TurnHasRoom, CycleHasRoom, TwoHaveRoom}
 use Rattle.upp_curve.proofs.Unique.{value_past, value_at_start}
 use Rattle.upp_curve.proofs.Normal.{each_at}
 use Rattle.upp_curve.proofs.PieceIn.{piece_in_go, piece_in_stop, piece_in_end}
@@ -48,7 +48,7 @@ each_in P p (q ∷ qs) t h k = elim (le_or_lt q.x t) [
 ]
 
 -- where it starts
-found_early : (p : Piece) (ps : List Piece) (t : ℚ) → p.x ≤ℚ t → (piece_in p ps t).x ≤ℚ t
+pub found_early : (p : Piece) (ps : List Piece) (t : ℚ) → p.x ≤ℚ t → (piece_in p ps t).x ≤ℚ t
 found_early p [] t h = subst (λ q. q.x ≤ℚ t) (sym (piece_in_end p t)) h
 found_early p (q ∷ qs) t h = elim (le_or_lt q.x t) [
   | inl l ↦ subst (λ z. z.x ≤ℚ t) (sym (piece_in_go p q qs t l)) (found_early q qs t l)
@@ -61,7 +61,7 @@ read_fits m n [] t R h E T e = tt
 read_fits m n (p ∷ ps) t R h E T e = let P = each_in (PieceHasRoom m n) p ps t E.0 E.1 in line_fits m n t (piece_in p ps t).line R h P.line T e
 
 -- a piece cut at a time has room there
-cut_piece : (m : Room) (n : ℕ) (q : Piece) (t : ℚ) (l : Option Line) → PieceHasRoom m n q → TimeHasRoom m t → t ≤ℚ m.end → q.x ≤ℚ t → LineHasRoom m (n + 1) l → PieceHasRoom m (n + 1) record { x = t; at = piece_value q t; line = l }
+pub cut_piece : (m : Room) (n : ℕ) (q : Piece) (t : ℚ) (l : Option Line) → PieceHasRoom m n q → TimeHasRoom m t → t ≤ℚ m.end → q.x ≤ℚ t → LineHasRoom m (n + 1) l → PieceHasRoom m (n + 1) record { x = t; at = piece_value q t; line = l }
 cut_piece m n q t l P T e early L = elim (le_or_lt t q.x) [
   | inl k ↦
       let same : q.x ≡ t = antisym (early, k) in
@@ -123,8 +123,8 @@ pub record CopyFits (m : Room) (p : Piece) (ps : List Piece) (r d c : ℚ) : Typ
   pub copies : Each (λ q. r <ℚ q.x → LaterFits d c q) (p ∷ ps)
   pub room : Each (PieceHasRoom m 4) (p ∷ (ps ++ second_copy p ps r d c))
 
-pub copy_fits : (m : Room) (p : Piece) (ps : List Piece) (r d c : ℚ) → TurnHasRoom m (p ∷ ps) r d c → p.x ≤ℚ r → int (pos 0) <ℚ d → Each (λ z. z.x <ℚ r +ℚ d) (p ∷ ps) → CopyFits m p ps r d c
-copy_fits m p ps r d c T low some inside =
+pub copy_fits : (m : Room) (times values : ℕ) (p : Piece) (ps : List Piece) (r d c : ℚ) → TurnHasRoom m times values (p ∷ ps) r d c → p.x ≤ℚ r → int (pos 0) <ℚ d → Each (λ z. z.x <ℚ r +ℚ d) (p ∷ ps) → CopyFits m p ps r d c
+copy_fits m times values p ps r d c T low some inside =
     let R = T.is in
     let end = m.end in
     let ends = T.ends in
@@ -141,19 +141,11 @@ copy_fits m p ps r d c T low some inside =
       cut = later_fits m 2 d c (cut_at p ps r) R (omega arith) C T.move next;
       copies = each_map (λ z. PieceHasRoom m 1 z × (z.x <ℚ r +ℚ d)) (λ q. r <ℚ q.x → LaterFits d c q) (λ q k l. later_fits m 1 d c q R (omega arith) k.0 T.move (room_for q k.1)) (p ∷ ps) both;
       room =
-        each_append (PieceHasRoom m 4) (p ∷ ps) (second_copy p ps r d c) (weaken_each m 1 4 (p ∷ ps) (omega arith) T.each)
-        (subst (Each (PieceHasRoom m 4)) (sym second) (later_room m 2 d c (cut_at p ps r) R C T.move next, copies));
+          each_append (PieceHasRoom m 4) (p ∷ ps) (second_copy p ps r d c) (weaken_each m 1 4 (p ∷ ps) (omega arith) T.each)
+          (subst (Each (PieceHasRoom m 4)) (sym second) (later_room m 2 d c (cut_at p ps r) R C T.move next, copies));
     }
 
 -- ---- a period between breaks
-pub record CycleHasRoom (m : Room) (times values : ℕ) (ps : List Piece) (rank period rise : ℚ) : Type 0 where
-  pub is : IsRoom m
-  pub times_is : m.times ≡ times
-  pub values_is : m.base * m.slopes ≡ values
-  pub each : Each (PieceHasRoom m 4) ps
-  pub move : IsMove m period rise
-  pub ends : rank +ℚ period +ℚ period ≤ℚ m.end
-
 -- a share is no larger
 share_within : (v x : ℚ) (n : ℕ) → 1 ≤ n → Within v x → Within v (x /ℚ int (pos n))
 share_within v x n h W =
@@ -254,9 +246,9 @@ period_readable m times values given ps rank low d c K F C h =
     let X = cut_of ps low d C in
     let first = each_right_first X.before X.first X.rest (subst (Each (PieceHasRoom m 4)) X.whole E) in
     let at_rank : read ps low ≡ X.first.at =
-        ap (λ zs. read zs low) X.whole
-        ∙ read_from_cut X.before X.first X.rest low (each_map (λ z. z.x <ℚ low) (λ z. z.x ≤ℚ low) (λ z l. le_of_lt l) X.before X.early) (subst (λ x. x ≤ℚ low) (sym X.at) (le_refl low))
-        ∙ read_first X.first X.rest low low (subst (λ x. RisesFrom x X.rest) X.at X.rises) (le_refl low) ∙ ap (piece_value X.first) (sym X.at) ∙ value_at_start X.first in
+    ap (λ zs. read zs low) X.whole
+    ∙ read_from_cut X.before X.first X.rest low (each_map (λ z. z.x <ℚ low) (λ z. z.x ≤ℚ low) (λ z l. le_of_lt l) X.before X.early) (subst (λ x. x ≤ℚ low) (sym X.at) (le_refl low))
+    ∙ read_first X.first X.rest low low (subst (λ x. RisesFrom x X.rest) X.at X.rises) (le_refl low) ∙ ap (piece_value X.first) (sym X.at) ∙ value_at_start X.first in
     record {
       end = start_fits m low d R T K.move.time (le_of_lt some) room;
       rate = rate_fits m low d c R T K.move some period_in;

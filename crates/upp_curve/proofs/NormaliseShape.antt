@@ -31,7 +31,7 @@ line_for_ever ps r d c T e =
       starts = T.starts;
       none = T.none;
       reads = one_line_reads f ps r d c (r +ℚ d +ℚ d) some (repeated_rule (read ps) r d c some) (with2 r d (λ c. omega (arith, c.le, c.lt, c.same)))
-        (none_past r ps (start_none (past r ps) (sym e))) T.nonneg (λ t h l. T.again t l);
+          (none_past r ps (start_none (past r ps) (sym e))) T.nonneg (λ t h l. T.again t l);
     }
 
 -- the first break past the rank is past rank + period
@@ -52,7 +52,7 @@ line_before ps r d c x e kept T s end l k =
         let zero = T.nonneg in
         let early = subst (λ z. Each (λ p. p.x ≤ℚ r) (upto z ps)) at (upto_early r _ ps q qs from_low past_is) in
         let L = one_line_reads f (upto x ps) r d c x some (repeated_rule (read ps) r d c some) room early zero
-            (λ t h m. plain_upto ps x t T.starts h m ∙ T.again t (with4 t x (r +ℚ d) d (λ c. omega (arith, c.le, c.lt, c.same)))) in
+        (λ t h m. plain_upto ps x t T.starts h m ∙ T.again t (with4 t x (r +ℚ d) d (λ c. omega (arith, c.le, c.lt, c.same)))) in
         let first : int (pos 0) <ℚ x = with3 r d x (λ c. omega (arith, c.le, c.lt, c.same)) in
         subst (λ zs. IsLine zs f) (sym k) record { starts = zero_upto x ps first T.starts; none = no_merge_upto x ps T.none; reads = L }
 
@@ -91,7 +91,7 @@ break_end (b ∷ bs) r d c q qs T e room p rest is =
     sym is ∙ from_upto x X (b ∷ bs) (le_of_lt after) ∙ ap (upto X) (from_is_past r _ (b ∷ bs) q qs (rises (b ∷ bs) T.starts) e) ∙ upto_some X q qs after in
     let same : p ≡ q = heads_same p q rest (upto X qs) first in
     let E = ends_in_break (repeated (read (b ∷ bs)) r d c) b bs r d c q B some zero start (repeated_rule (read (b ∷ bs)) r d c some) T.starts.1
-        (λ t h l. T.again t (with4 t x r d (λ c. omega (arith, c.le, c.lt, c.same)))) in
+    (λ t h l. T.again t (with4 t x r d (λ c. omega (arith, c.le, c.lt, c.same)))) in
     λ C. E (subst (λ z. Continues z (later d c q)) (sym last) (subst (λ z. Continues (last_of p rest) (later d c z)) same C))
 
 pub turns_at : (ps : List Piece) (r d c x e y : ℚ) (first : ℕ) (kept : List Piece) → IsTwoPeriods ps r d c → Some x ≡ first_start (past r ps) → e ≡ r +ℚ d → x ≤ℚ e → y ≡ x +ℚ d
@@ -126,7 +126,7 @@ turns_at ps r d c x e y first kept T s end l until count k =
           break = B;
           first_is = count ∙ ap length (sym (upto_upto x X ps (le_of_lt after)));
           same = agree (repeated (read (upto X ps)) x d c) f x d c some (repeated_rule (read (upto X ps)) x d c some) rule
-            (λ t h m. repeated_first (read (upto X ps)) x d c t some m ∙ plain_upto ps X t T.starts h m ∙ T.again t (with4 t x r d (λ c. omega (arith, c.le, c.lt, c.same)))) nonneg;
+              (λ t h m. repeated_first (read (upto X ps)) x d c t some m ∙ plain_upto ps X t T.starts h m ∙ T.again t (with4 t x r d (λ c. omega (arith, c.le, c.lt, c.same)))) nonneg;
         }
 
 -- a list cut to as many pieces as start before x

@@ -35,9 +35,9 @@ share_frac : (x : ℚ) (m : ℕ) → x /ℚ int (pos (suc m)) ≡ frac x.num (bo
 share_frac x m =
     let n = int (pos (suc m)) in
     let whole : frac x.num (both x.pre m) *ℚ n ≡ x =
-        mul_frac x.num (both x.pre m) (pos (suc m)) 0
-        ∙ frac-same (x.num *ℤ pos (suc m)) (both (both x.pre m) 0) x.num x.pre (cross x.num x.pre m)
-        ∙ sym (frac_self x) in
+    mul_frac x.num (both x.pre m) (pos (suc m)) 0
+    ∙ frac-same (x.num *ℤ pos (suc m)) (both (both x.pre m) 0) x.num x.pre (cross x.num x.pre m)
+    ∙ sym (frac_self x) in
     mul_cancel (x /ℚ n) (frac x.num (both x.pre m)) n (parts_some (suc m) (omega arith)) (div_mul x n (parts_some (suc m) (omega arith)) ∙ sym whole)
   where
     cross : (z : ℤ) (d m : ℕ) → (z *ℤ pos (suc m)) *ℤ pos (suc d) ≡ z *ℤ pos (suc (both (both d m) 0))

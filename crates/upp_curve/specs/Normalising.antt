@@ -9,6 +9,7 @@ use Rattle.affine_segment.specs.Values.{line_value}
 use Rattle.upp_curve.specs.declared.curve.Tail.{Tail}
 use Rattle.upp_curve.specs.declared.curve.Tail.TheVariants.{Periodic, Affine, Infinite}
 use Rattle.rational.specs.Grid.{Whole}
+use Rattle.upp_curve.specs.declared.normalise.RawCurve.{RawCurve}
 use Rattle.upp_curve.specs.declared.cycle.Cycle.{Cycle}
 use Rattle.upp_curve.specs.declared.cycle.Shape.{Shape}
 use Rattle.upp_curve.specs.declared.cycle.Shape.TheVariants.{Straight, Turns}
@@ -200,6 +201,13 @@ pub record IsLeast (times values : ℕ) (c d : Cycle) : Type 0 where
 pub record IsFormOf (c : SpecCurve) (f : ℚ → Ext) : Type 0 where
   pub normal : IsNormal c
   pub same : (t : ℚ) → int (pos 0) ≤ℚ t → value_at c t ≡ f t
+
+-- c has f's values
+abbrev pub HasValues : SpecCurve → (ℚ → Ext) → Type 0
+HasValues c f = (t : ℚ) → int (pos 0) ≤ℚ t → value_at c t ≡ f t
+
+abbrev pub raw_curve : RawCurve → SpecCurve
+raw_curve r = record { pieces = r.pieces.items; tail = r.tail }
 
 -- f is one line from `from` on; no line is infinity
 abbrev pub IsOneLine : (ℚ → Ext) → ℚ → Type 0

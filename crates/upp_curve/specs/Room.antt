@@ -93,15 +93,36 @@ pub record EndHasRoom (m : Room) (ps : List Piece) (rank : ℚ) : Type 0 where
   pub early : rank ≤ℚ m.end
 
 -- a periodic curve: three periods past the rank end up to the end of times
-pub record TurnHasRoom (m : Room) (ps : List Piece) (rank period rise : ℚ) : Type 0 where
+pub record TurnHasRoom (m : Room) (times values : ℕ) (ps : List Piece) (rank period rise : ℚ) : Type 0 where
   pub is : IsRoom m
+  pub times_is : m.times ≡ times
+  pub values_is : m.base * m.slopes ≡ values
   pub each : Each (PieceHasRoom m 1) ps
   pub time : TimeHasRoom m rank
   pub move : IsMove m period rise
   pub ends : rank +ℚ period +ℚ period +ℚ period ≤ℚ m.end
 
+-- pieces of a periodic curve below rank + 2 period
+pub record TwoHaveRoom (m : Room) (times values : ℕ) (ps : List Piece) (rank period rise : ℚ) : Type 0 where
+  pub is : IsRoom m
+  pub times_is : m.times ≡ times
+  pub values_is : m.base * m.slopes ≡ values
+  pub each : Each (PieceHasRoom m 4) ps
+  pub time : TimeHasRoom m rank
+  pub move : IsMove m period rise
+  pub ends : rank +ℚ period +ℚ period +ℚ period ≤ℚ m.end
+
+-- a curve whose period begins at the start of one of its pieces
+pub record CycleHasRoom (m : Room) (times values : ℕ) (ps : List Piece) (rank period rise : ℚ) : Type 0 where
+  pub is : IsRoom m
+  pub times_is : m.times ≡ times
+  pub values_is : m.base * m.slopes ≡ values
+  pub each : Each (PieceHasRoom m 4) ps
+  pub move : IsMove m period rise
+  pub ends : rank +ℚ period +ℚ period ≤ℚ m.end
+
 -- a curve in any form, whose fractions of the period are on the grids of 1 / times and 1 / values
 abbrev pub TailHasRoom : ℕ → ℕ → List Piece → Tail → Type 0
-TailHasRoom times values ps (Periodic rank period rise) = (m : Room) × (m.times ≡ times) × (m.base * m.slopes ≡ values) × TurnHasRoom m ps rank period rise
+TailHasRoom times values ps (Periodic rank period rise) = (m : Room) × TurnHasRoom m times values ps rank period rise
 TailHasRoom times values ps (Affine rank) = (m : Room) × PiecesHaveRoom m 1 ps
 TailHasRoom times values ps (Infinite rank) = (m : Room) × EndHasRoom m ps rank

@@ -5,13 +5,11 @@ ghost use Rattle.rational.specs.Ratio.{SumFits};
 ghost use Rattle.upp_curve.specs.Normal.{Each};
 ghost use Rattle.upp_curve.specs.Normalising.{IsTwoPeriods, IsShape};
 
-use std::cmp::Ordering;
-
-use fraction128::Frac;
-
 use crate::fitting::sum;
 use crate::two_periods::{count_before, first_past};
 use affine_segment::Piece;
+use fraction128::Frac;
+use std::cmp::Ordering;
 
 /// A periodic curve none of whose pieces goes on with the one before it: `first` pieces start before the rank, and one at it.
 #[derive(Drop)]
@@ -33,12 +31,7 @@ pub(crate) enum Shape {
 }
 
 /// The shape of a periodic curve whose pieces are given below rank + 2 period.
-pub(crate) fn shape_of(
-    pieces: Vec<Piece>,
-    rank: Frac,
-    period: Frac,
-    rise: Frac,
-) -> Shape
+pub(crate) fn shape_of(pieces: Vec<Piece>, rank: Frac, period: Frac, rise: Frac) -> Shape
     requires two { IsTwoPeriods pieces.items rank period rise }
     requires end { SumFits rank period }
     requires until { Each (λ p. p.x ≤ℚ rank +ℚ period → SumFits p.x period) pieces.items }

@@ -11,11 +11,10 @@ ghost use Rattle.upp_curve.specs.Readable.{LineFitsAt, SumFitsAt};
 ghost use Rattle.upp_curve.specs.Unrolled.{line_later, later};
 ghost use Rattle.upp_curve.specs.Fitting.{LaterFits, LineLaterFits, ReadFits};
 
-use fraction128::{Ext, Frac};
-use rational::Extended;
-
 use crate::reading;
 use affine_segment::{Line, Piece};
+use fraction128::{Ext, Frac};
+use rational::Extended;
 
 /// a + b.
 pub(crate) fn sum(a: Frac, b: Frac) -> Frac

@@ -8,12 +8,11 @@ ghost use Rattle.upp_curve.specs.Normal.{Each};
 ghost use Rattle.upp_curve.specs.Fitting.{LaterFits};
 ghost use Rattle.upp_curve.specs.Normalising.{GoesOn, IsTurning, IsDivided, IsLeast, OnGrids, SharesFit, cycle_values, turn_count};
 
-use fraction128::Frac;
-
 use crate::cycle::Cycle;
 use crate::fitting::later;
 use crate::same::same_piece;
 use affine_segment::Piece;
+use fraction128::Frac;
 
 // The share where it is a whole multiple of 1 / grid.
 fn share(whole: Frac, parts: usize, grid: u128) -> Option<Frac>

@@ -8,6 +8,7 @@ mod laws;
 mod least_period;
 mod lowest_rank;
 mod merging;
+mod normalise;
 mod reading;
 mod same;
 #[cfg(test)]
@@ -18,3 +19,4 @@ pub use curve::{Curve, Tail, equal};
 pub use laws::{
     bucket_deviations, deviations_are_unique, normal_form_is_unique, worked_kinds, worked_operators,
 };
+pub use normalise::{RawCurve, normalise_on};

@@ -10,14 +10,12 @@ ghost use Rattle.upp_curve.specs.Readable.{LineFitsAt};
 ghost use Rattle.upp_curve.specs.Fitting.{LaterFits};
 ghost use Rattle.upp_curve.specs.Normalising.{IsCycle, IsLowest, Lowers, RepeatsIn, StepFits, StepsFit, cut_last};
 
-use std::cmp::Ordering;
-
-use fraction128::Frac;
-
 use crate::cycle::Cycle;
 use crate::fitting::{later, piece_value};
 use crate::same::{same_ext, same_lines};
 use affine_segment::Piece;
+use fraction128::Frac;
+use std::cmp::Ordering;
 
 // The time a period after the start of p, where p's values repeat in the piece `last`.
 fn repeats_in(p: &Piece, last: &Piece, period: Frac, rise: Frac) -> Option<Frac>
@@ -55,12 +53,7 @@ fn cut_off(pieces: &mut Vec<Piece>, start: Frac, end: Frac)
 }
 
 // The start before the rank, where the rule holds from it: then the pieces end a period after it.
-fn lowered(
-    pieces: &mut Vec<Piece>,
-    first: usize,
-    period: Frac,
-    rise: Frac,
-) -> Option<Frac>
+fn lowered(pieces: &mut Vec<Piece>, first: usize, period: Frac, rise: Frac) -> Option<Frac>
     requires some { 0 < first }
     requires inside { first ≤ length pieces.old.items }
     requires fits { (z : Piece) → StepFits pieces.old.items first period rise z }

@@ -5,11 +5,10 @@ ghost use Rattle.upp_curve.specs.Normal.{Continues, Each, RisesFrom, StartsAtZer
 ghost use Rattle.upp_curve.specs.Readable.{LineFitsAt};
 ghost use Rattle.upp_curve.specs.Normalising.{IsMerged};
 
-use std::alloc::{AllocError, Global};
-
 use crate::fitting::line_value;
 use crate::same::{same_ext, same_lines};
 use affine_segment::Piece;
+use std::alloc::{AllocError, Global};
 
 // Whether q goes on with p's line, so that the two are one piece.
 fn continues(p: &Piece, q: &Piece) -> bool

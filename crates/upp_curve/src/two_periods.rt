@@ -8,14 +8,12 @@ ghost use Rattle.upp_curve.specs.Normal.{Each};
 ghost use Rattle.upp_curve.specs.Fitting.{LaterFits, ReadFits};
 ghost use Rattle.upp_curve.specs.Normalising.{cut_at, second_copy, ended, past, first_start};
 
-use std::alloc::{AllocError, Global};
-use std::cmp::Ordering;
-
-use fraction128::Frac;
-
 use crate::fitting::{later, piece_value, read};
 use crate::reading::piece_at;
 use affine_segment::Piece;
+use fraction128::Frac;
+use std::alloc::{AllocError, Global};
+use std::cmp::Ordering;
 
 // The piece that starts at t where the one that is read there is cut.
 fn cut_at(pieces: &[Piece], t: Frac) -> Piece

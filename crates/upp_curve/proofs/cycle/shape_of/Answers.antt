@@ -13,7 +13,7 @@ pub returns-in_default : goal.returns-in_default
 returns-in_default c = (
   front_self c.args.pieces.items,
   line_for_ever c.args.pieces.items c.args.rank c.args.period c.args.rise c.requires.two
-    (sym c.in_default.is ∙ c.first_past.ensures ∙ ap (λ ps. first_start (past c.args.rank ps)) c.deref.ensures.value),
+      (sym c.in_default.is ∙ c.first_past.ensures ∙ ap (λ ps. first_start (past c.args.rank ps)) c.deref.ensures.value),
 )
 
 pub returns-in-Greater : goal.returns-in-Greater
@@ -24,8 +24,8 @@ returns-in-Greater c =
     let kept = taken_is start ps c.deref-2.result.now c.truncate.new.self.items c.count_before-first.result c.truncate.ensures.items c.count_before-first.ensures c.deref-2.ensures.value in (
       subst (λ zs. IsFront zs ps) (sym kept) (front_upto start ps),
       line_before ps c.args.rank c.args.period c.args.rise start end c.truncate.new.self.items c.requires.two
-    (sym c.in-Some.is ∙ c.first_past.ensures ∙ ap (λ ps. first_start (past c.args.rank ps)) c.deref.ensures.value)
-    c.sum-end.ensures (cmp_greater start end (sym c.cmp.ensures.is ∙ c.in-Greater.is)) kept,
+          (sym c.in-Some.is ∙ c.first_past.ensures ∙ ap (λ ps. first_start (past c.args.rank ps)) c.deref.ensures.value)
+          c.sum-end.ensures (cmp_greater start end (sym c.cmp.ensures.is ∙ c.in-Greater.is)) kept,
     )
 
 pub sum-until-requires : goal.sum-until-requires
@@ -50,6 +50,6 @@ returns c =
       refl,
       refl,
       turns_at ps c.args.rank c.args.period c.args.rise start end until c.count_before-first.result c.truncate-2.new.self.items c.requires.two s
-      c.sum-end.ensures early
-      c.sum-until.ensures (c.count_before-first.ensures ∙ ap (λ ps. length (upto start ps)) c.deref-2.ensures.value) kept,
+          c.sum-end.ensures early
+          c.sum-until.ensures (c.count_before-first.ensures ∙ ap (λ ps. length (upto start ps)) c.deref-2.ensures.value) kept,
     )

@@ -12,7 +12,7 @@ returns-then-not-same_piece c =
     let early : c.args.k ≤ i = omega (arith, c.loop-i.auto) in (
       λ e. absurd (true≢false (sym e)),
       λ G. sym c.if-not-same_piece.true ∙ c.same_piece.ensures.1 (moved_is ps c.args.k c.args.by c.args.rise i c.later-moved.result c.index-pieces-i.result c.index-pieces-i-in-loop-i.result
-      early c.loop-i-test.true c.later-moved.ensures c.index-pieces-i.is c.index-pieces-i-in-loop-i.is G),
+          early c.loop-i-test.true c.later-moved.ensures c.index-pieces-i.is c.index-pieces-i-in-loop-i.is G),
     )
 
 pub loop-i-preserved : goal.loop-i-preserved

@@ -25,12 +25,12 @@ returns-in_default c =
     let by = c.from_whole.ensures ∙ ap int p in
     let top : nat_abs c.args.whole.num < 2 ^ 127 = subst (λ z. nat_abs z < 2 ^ 127) c.numerator.ensures.value c.numerator.ensures.size in
     elim c.in_default.branch [
-  | in_default-via-in-Ok+else-grid-denominator-eq0 w ↦
-      not_on_grid (c.args.whole /ℚ int (pos c.args.parts)) w.in-Ok.s c.args.grid w.denominator.result _ (w.in-Ok.ensures.value ∙ ap (λ n. c.args.whole /ℚ n) by) w.denominator.ensures.value refl w.if-grid-denominator-eq0.false
-  | in_default-via-in_default w ↦ λ W.
+      | in_default-via-in-Ok+else-grid-denominator-eq0 w ↦
+          not_on_grid (c.args.whole /ℚ int (pos c.args.parts)) w.in-Ok.s c.args.grid w.denominator.result _ (w.in-Ok.ensures.value ∙ ap (λ n. c.args.whole /ℚ n) by) w.denominator.ensures.value refl w.if-grid-denominator-eq0.false
+      | in_default-via-in_default w ↦ λ W.
           not_ok c.div.result w.in_default.field-0 w.in_default.is
           (c.div.ensures.fits.1 (subst (λ n. IsSmall (c.args.whole /ℚ n)) (sym by) (share_small c.args.whole c.args.parts c.args.grid c.requires.parts c.requires.some c.requires.grid top W)))
-]
+    ]
 
 pub returns-in-Ok : goal.returns-in-Ok
 returns-in-Ok c =
