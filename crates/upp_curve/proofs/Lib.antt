@@ -73,3 +73,6 @@ pub mod StairValues
 pub mod GateValues
 pub mod KindForms
 pub mod KindsAre
+pub mod NormaliseRoom
+pub mod NormaliseRoomy
+pub mod NormaliseWhole

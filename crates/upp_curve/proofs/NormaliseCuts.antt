@@ -1,18 +1,18 @@
 -- A list of pieces cut at a time: the parts, and where the first piece past a time stands.
-use Rattle.std.specs.Prelude.{◌≡◌, pos, List, [], ◌∷◌, ◌++◌, length, Option, None, Some}
-use Rattle.std.proofs.Common.{sym, ap, ◌∙◌, refl, subst, inl, inr, take, drop}
-use Rattle.std.proofs.lemmas.List.{take_at, drop_at}
+use Rattle.std.specs.Prelude.{◌≡◌, ℕ, pos, List, [], ◌∷◌, ◌++◌, length, Option, None, Some}
+use Rattle.std.proofs.Common.{sym, ap, ◌∙◌, refl, subst, inl, inr, take, drop, append-nil, append_assoc}
+use Rattle.std.proofs.lemmas.List.{take_at, drop_at, take-append-drop}
 use Rattle.rational.specs.Rational.{ℚ, ◌≤ℚ◌, ◌<ℚ◌, int}
 use Rattle.rational.proofs.Laws.{le_or_lt, le_of_lt, le_refl, le_trans, lt_le_trans, le_lt_trans}
 use Rattle.affine_segment.specs.declared.line.Piece.{Piece}
 use Rattle.upp_curve.specs.Unrolled.{upto, from}
 use Rattle.upp_curve.specs.Normal.{RisesFrom, StartsAtZero, Each, HasStart, NoMerge}
 use Rattle.upp_curve.specs.Steady.{last_of}
-use Rattle.upp_curve.specs.Normalising.{past, first_start}
+use Rattle.upp_curve.specs.Normalising.{past, first_start, IsFront}
 use Rattle.upp_curve.proofs.Unique.{upto_none, upto_some, upto_end}
 use Rattle.upp_curve.proofs.Below.{from_past, from_before}
 use Rattle.upp_curve.proofs.NormaliseLoops.{past_go, past_stop, past_none}
-use Rattle.upp_curve.proofs.NormaliseLists.{past_all, rises_upto, none_upto, heads_same, nil_not_cons}
+use Rattle.upp_curve.proofs.NormaliseLists.{each_left, past_all, rises_upto, none_upto, heads_same, nil_not_cons}
 
 pub from_end : (x : ℚ) → from x [] ≡ []
 unfolding from
@@ -135,3 +135,26 @@ no_merge_upto x (p ∷ ps) n = elim (le_or_lt x p.x) [
 pub last_append : (p : Piece) (ps : List Piece) (q : Piece) (qs : List Piece) → last_of p (ps ++ q ∷ qs) ≡ last_of q qs
 last_append p [] q qs = refl
 last_append p (r ∷ rs) q qs = last_append r rs q qs
+
+-- ---- fronts of a list
+pub front_self : (ps : List Piece) → IsFront ps ps
+front_self ps = record { more = []; is = sym (append-nil ps) }
+
+pub front_take : (n : ℕ) (ps : List Piece) → IsFront (take n ps) ps
+front_take n ps = record { more = drop n ps; is = sym (take-append-drop n ps) }
+
+pub front_upto : (x : ℚ) (ps : List Piece) → IsFront (upto x ps) ps
+front_upto x ps = record { more = from x ps; is = sym (split_is x ps) }
+
+pub front_trans : (es ps qs : List Piece) → IsFront es ps → IsFront ps qs → IsFront es qs
+front_trans es ps qs A B = record { more = A.more ++ B.more; is = B.is ∙ ap (λ zs. zs ++ B.more) A.is ∙ append_assoc es A.more B.more }
+
+pub each_front : (P : Piece → Type 0) (es ps : List Piece) → IsFront es ps → Each P ps → Each P es
+each_front P es ps F h = each_left P es F.more (subst (Each P) F.is h)
+
+pub each_right : (P : Piece → Type 0) (es bs : List Piece) → Each P (es ++ bs) → Each P bs
+each_right P [] bs h = h
+each_right P (a ∷ es) bs h = each_right P es bs h.1
+
+pub each_from : (P : Piece → Type 0) (x : ℚ) (ps : List Piece) → Each P ps → Each P (from x ps)
+each_from P x ps h = each_right P (upto x ps) (from x ps) (subst (Each P) (sym (split_is x ps)) h)

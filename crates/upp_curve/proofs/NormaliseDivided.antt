@@ -27,15 +27,12 @@ use Rattle.upp_curve.proofs.Normal.{rises, upto_all}
 use Rattle.upp_curve.proofs.Unrolled.{copies_some, line_value_later}
 use Rattle.upp_curve.proofs.Below.{Cut, cut_at_start, read_from_cut, from_past, from_before, parts_read}
 use Rattle.upp_curve.proofs.NormaliseLists.{each_map, each_append, each_left, rises_left, none_left, none_between, last_is_last, last_in, heads_same, tails_same}
+use Rattle.upp_curve.proofs.NormaliseCuts.{each_right}
 use Rattle.upp_curve.proofs.NormalisePeriods.{agree}
 use Rattle.upp_curve.proofs.NormaliseRank.{rises_split, has_mid, upto_mid}
 use Rattle.upp_curve.proofs.NormaliseCopies.{Period, are_copies, more_copies, next_copies, copies_go_on, from_go_on, length-copies, read_is}
 
 -- ---- the right part of a list, and its front
-each_right : (P : Piece → Type 0) (es bs : List Piece) → Each P (es ++ bs) → Each P bs
-each_right P [] bs h = h
-each_right P (a ∷ es) bs h = each_right P es bs h.1
-
 none_after : (p : Piece) (es : List Piece) (q : Piece) (bs : List Piece) → NoneContinues p (es ++ q ∷ bs) → NoneContinues q bs
 none_after p [] q bs n = n.1
 none_after p (a ∷ es) q bs n = none_after a es q bs n.1

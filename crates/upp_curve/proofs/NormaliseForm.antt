@@ -68,13 +68,13 @@ last_line_is : (es : List Piece) (q : Piece) → last_line (es ++ q ∷ []) ≡ 
 last_line_is [] q = refl
 last_line_is (e ∷ es) q = ap (λ z. z.line) (last_append e es q [])
 
-record Ends (ps : List Piece) (last : Piece) : Type 0 where
-  early : Each (λ z. z.x ≤ℚ last.x) ps
-  has : HasStart last.x ps
-  line : last_line ps ≡ last.line
-  nonneg : int (pos 0) ≤ℚ last.x
+pub record Ends (ps : List Piece) (last : Piece) : Type 0 where
+  pub early : Each (λ z. z.x ≤ℚ last.x) ps
+  pub has : HasStart last.x ps
+  pub line : last_line ps ≡ last.line
+  pub nonneg : int (pos 0) ≤ℚ last.x
 
-ends_at : (ps : List Piece) (last : Piece) → StartsAtZero ps → Last ps last → Ends ps last
+pub ends_at : (ps : List Piece) (last : Piece) → StartsAtZero ps → Last ps last → Ends ps last
 ends_at ps last zero L =
     let early2 = each_append (λ z. z.x ≤ℚ last.x) L.before (last ∷ []) (each_map (λ z. z.x <ℚ last.x) (λ z. z.x ≤ℚ last.x) (λ z h. le_of_lt h) L.before L.early) (le_refl last.x, tt) in
     subst (λ zs. Ends zs last) (sym L.whole) record {
@@ -138,8 +138,8 @@ turning_line c f T l is =
     let R = subst (λ x. Repeats (cycle_values c) x c.period c.rise) (sym K.at) (repeated_rule (read ps) c.rank c.period c.rise T.cycle.some) in
     not_one_line (cycle_values c) c.period c.rise K.first K.rest T.cycle.some P R l (λ t h. is t (subst (λ x. x ≤ℚ t) K.at h))
 
-pub repeating_form : (c m : Cycle) (ps : List Piece) (low d u : ℚ) → IsLeast c m → IsLowest ps low d u m.rank (cycle_values m) → d ≡ m.period → u ≡ m.rise → IsFormOf (periodic ps low d u) (cycle_values c)
-repeating_form c m ps low d u L W dm um =
+pub repeating_form : (times values : ℕ) (c m : Cycle) (ps : List Piece) (low d u : ℚ) → IsLeast times values c m → IsLowest m.pieces.items ps low d u m.rank (cycle_values m) → d ≡ m.period → u ≡ m.rise → IsFormOf (periodic ps low d u) (cycle_values c)
+repeating_form times values c m ps low d u L W dm um =
     let g = value_at (periodic ps low d u) in
     let T = own_turning m (cycle_values c) L.turned in
     let C = W.cycle in

@@ -10,7 +10,7 @@ use Rattle.rational.specs.Euclid.{gcd_is, divides_other, gcd_pos}
 use Rattle.rational.specs.Rational.{ℚ, ◌+ℚ◌, ◌*ℚ◌, ◌/ℚ◌, ◌≤ℚ◌, ◌<ℚ◌, int}
 use Rattle.rational.specs.Grid.{Whole}
 use Rattle.rational.proofs.Integers.{nat_lt, nat_nonneg}
-use Rattle.rational.proofs.Laws.{le_of_lt, mul_comm, mul_assoc, mul_cancel, div_mul, mul_nonneg}
+use Rattle.rational.proofs.Laws.{le_of_lt, mul_comm, mul_assoc, mul_cancel, div_mul, mul_nonneg, mul_one}
 use Rattle.rational.proofs.Linear.{with1, with2}
 use Rattle.rational.proofs.Whole.{lt_of_mul, not_zero}
 use Rattle.rational.specs.Extended.{Ext}
@@ -20,11 +20,13 @@ use Rattle.upp_curve.specs.Curve.{repeated}
 use Rattle.upp_curve.specs.Steady.{Repeats}
 use Rattle.upp_curve.specs.Unrolled.{upto, from}
 use Rattle.upp_curve.specs.declared.cycle.Cycle.{Cycle}
-use Rattle.upp_curve.specs.Normalising.{IsCycle, EndsInBreak, Turned, GoesOn, IsTurning, cycle_values, turn_count, OnGrids, StaysWhole, IsCut, IsDivided, IsLeast}
-use Rattle.upp_curve.proofs.Repeats.{repeats_times}
+use Rattle.upp_curve.specs.Normalising.{IsCycle, EndsInBreak, Turned, GoesOn, IsTurning, cycle_values, turn_count, OnGrids, StaysWhole, IsCut, IsDivided, IsLeast, IsFront, SharesFit}
+use Rattle.upp_curve.specs.Normal.{Each}
+use Rattle.upp_curve.specs.Fitting.{LaterFits}
+use Rattle.upp_curve.proofs.Repeats.{repeats_times, repeated_rule}
 use Rattle.upp_curve.proofs.Rules.{int_mul}
 use Rattle.upp_curve.proofs.Normal.{transfer}
-use Rattle.upp_curve.proofs.NormaliseCuts.{split_is, drop_upto}
+use Rattle.upp_curve.proofs.NormaliseCuts.{split_is, drop_upto, front_self, front_take, front_trans, each_front, each_from}
 use Rattle.upp_curve.proofs.NormaliseShare.{parts_some}
 use Rattle.upp_curve.proofs.NormaliseDivided.{cut_of, divides_count, goes_on_if, cut_turned}
 
@@ -66,7 +68,7 @@ abbrev pub Shorter : Cycle → ℕ → Type 0
 Shorter c n = Repeats (cycle_values c) c.rank (c.period /ℚ int (pos n)) (c.rise /ℚ int (pos n))
 
 pub stays : (c : Cycle) (parts : ℕ) → IsTurning c (cycle_values c) → ¬ (Shorter c parts) → IsDivided c parts c
-stays c parts T n = record { turned = T; rank = refl; outcome = inl record { period = refl; rise = refl; count = refl; none = n } }
+stays c parts T n = record { front = front_self c.pieces.items; turned = T; rank = refl; outcome = inl record { period = refl; rise = refl; count = refl; none = n } }
 
 pub no_share_of_time : (c : Cycle) (parts times values : ℕ) → IsTurning c (cycle_values c) → OnGrids times values (cycle_values c) c.rank c.period c.rise → 0 < parts → ¬ (Whole times (c.period /ℚ int (pos parts))) → ¬ (Shorter c parts)
 no_share_of_time c parts times values T G h n R = n (G.time parts h R)
@@ -96,6 +98,7 @@ is_cut c d (suc (suc m)) k T h len G is_pieces is_first is_rank is_period is_ris
     let ck : c.rise ≡ int (pos n) *ℚ u = share_back c.rise n some ∙ ap (λ x. int (pos n) *ℚ x) (sym is_rise) in
     let D = cut_turned c.pieces.items c.rank c.period c.rise e u m k c.first T.cycle T.break pos_e dk ck len G T.first_is in
     record {
+      front = subst (λ zs. IsFront zs c.pieces.items) (sym is_pieces) (front_take (c.first + k) c.pieces.items);
       turned =
           subst (λ r. Turned d.pieces.items d.first r e u (cycle_values c)) (sym is_rank)
           (subst (λ i. Turned d.pieces.items i c.rank e u (cycle_values c)) (sym is_first)
@@ -163,10 +166,39 @@ grids_cut times values parts c d G T k some e u = record {
         subst (λ x. Repeats (cycle_values c) c.rank x (c.rise /ℚ int (pos (parts * n)))) (shares d.period c.period e n h) (subst (λ y. Repeats (cycle_values c) c.rank (d.period /ℚ int (pos n)) y) (shares d.rise c.rise u n h)
         (to_values d (cycle_values c) c.rank (d.period /ℚ int (pos n)) (d.rise /ℚ int (pos n)) T k (le_of_lt (share_some d.period n h T.cycle.some)) R))
 
+whole_share : (x : ℚ) → x /ℚ int (pos 1) ≡ x
+whole_share x = mul_cancel (x /ℚ int (pos 1)) x (int (pos 1)) (parts_some 1 (omega arith)) (div_mul x (int (pos 1)) (parts_some 1 (omega arith)) ∙ sym (mul_one x))
+
+fits_kept : (times values : ℕ) (c d : Cycle) → SharesFit times values c.pieces.items c.period c.rise → IsFront d.pieces.items c.pieces.items → d.period ≡ c.period → d.rise ≡ c.rise
+    → SharesFit times values d.pieces.items d.period d.rise
+fits_kept times values c d S F e u =
+    subst (λ x. SharesFit times values d.pieces.items x d.rise) (sym e) (subst (λ y. SharesFit times values d.pieces.items c.period y) (sym u)
+    (λ n h a b. each_front (LaterFits (c.period /ℚ int (pos n)) (c.rise /ℚ int (pos n))) d.pieces.items c.pieces.items F (S n h a b)))
+
+fits_cut : (times values parts : ℕ) (c d : Cycle) → SharesFit times values c.pieces.items c.period c.rise → IsFront d.pieces.items c.pieces.items → 0 < parts → d.period ≡ c.period /ℚ int (pos parts)
+    → d.rise ≡ c.rise /ℚ int (pos parts) → SharesFit times values d.pieces.items d.period d.rise
+fits_cut times values parts c d S F some e u = λ n h a b.
+    let p = ap (λ z. z /ℚ int (pos n)) e ∙ share_twice c.period parts n some h in
+    let r = ap (λ z. z /ℚ int (pos n)) u ∙ share_twice c.rise parts n some h in
+    subst (λ x. Each (LaterFits x (d.rise /ℚ int (pos n))) d.pieces.items) (sym p) (subst (λ y. Each (LaterFits (c.period /ℚ int (pos (parts * n))) y) d.pieces.items) (sym r)
+    (each_front (LaterFits (c.period /ℚ int (pos (parts * n))) (c.rise /ℚ int (pos (parts * n)))) d.pieces.items c.pieces.items F
+    (S (parts * n) (mul-pos some h) (subst (Whole times) p a) (subst (Whole values) r b))))
+
+-- the pieces of a period, moved by a fraction that is on the grids, fit
+pub turn_fits : (times values parts : ℕ) (c : Cycle) (turn : List Piece) (by rise : ℚ) → SharesFit times values c.pieces.items c.period c.rise → 0 < parts → turn ≡ from c.rank c.pieces.items
+    → (by ≡ c.period /ℚ int (pos parts)) × Whole times by → (rise ≡ c.rise /ℚ int (pos parts)) × Whole values rise → Each (LaterFits by rise) turn
+turn_fits times values parts c turn by rise S some t b r =
+    subst (Each (LaterFits by rise)) (sym t) (each_from (LaterFits by rise) c.rank c.pieces.items
+    (subst (λ x. Each (LaterFits x rise) c.pieces.items) (sym b.0) (subst (λ y. Each (LaterFits (c.period /ℚ int (pos parts)) y) c.pieces.items) (sym r.0)
+    (S parts some (subst (Whole times) b.0 b.1) (subst (Whole values) r.0 r.1)))))
+
 -- ---- the search
 -- `found` has c's values; a whole number by which its period can be divided divides `rest`, which none from 2 to below `parts` does
 pub record Searching (times values : ℕ) (c found : Cycle) (parts rest : ℕ) : Type 0 where
   pub grids : OwnGrids times values found
+  pub fits : SharesFit times values found.pieces.items found.period found.rise
+  pub front : IsFront found.pieces.items c.pieces.items
+  pub divided : (n : ℕ) × (1 ≤ n) × (found.period ≡ c.period /ℚ int (pos n)) × (found.rise ≡ c.rise /ℚ int (pos n))
   pub turned : IsTurning found (cycle_values c)
   pub rank : found.rank ≡ c.rank
   pub some : 2 ≤ parts
@@ -187,11 +219,14 @@ divides_turn c (suc m) T h R =
     divides_count c.pieces.items c.rank c.period c.rise (c.period /ℚ int (pos (suc m))) (c.rise /ℚ int (pos (suc m))) m T.cycle T.break (share_some c.period (suc m) h T.cycle.some)
     (share_back c.period (suc m) h) (share_back c.rise (suc m) h) R
 
-pub search_begins : (times values : ℕ) (c : Cycle) (turn : List Piece) (rest : ℕ) → OwnGrids times values c → IsTurning c (cycle_values c) → turn ≡ from c.rank c.pieces.items → rest ≡ length turn → Searching times values c c 2 rest
-search_begins times values c turn rest G T t l =
+pub search_begins : (times values : ℕ) (c : Cycle) (turn : List Piece) (rest : ℕ) → OwnGrids times values c → SharesFit times values c.pieces.items c.period c.rise → IsTurning c (cycle_values c) → turn ≡ from c.rank c.pieces.items → rest ≡ length turn → Searching times values c c 2 rest
+search_begins times values c turn rest G S T t l =
     let n : turn_count c ≡ rest = sym (l ∙ ap length t) in
     subst (Searching times values c c 2) n record {
       grids = G;
+      fits = S;
+      front = front_self c.pieces.items;
+      divided = (1, omega arith, sym (whole_share c.period), sym (whole_share c.rise));
       turned = T;
       rank = refl;
       some = omega arith;
@@ -204,6 +239,9 @@ search_begins times values c turn rest G T t l =
 pub search_goes_on : (times values : ℕ) (c found : Cycle) (parts rest : ℕ) → Searching times values c found parts rest → (rest % parts ≡ 0 → ⊥) → Searching times values c found (parts + 1) rest
 search_goes_on times values c found parts rest S n = record {
   grids = S.grids;
+  fits = S.fits;
+  front = S.front;
+  divided = S.divided;
   turned = S.turned;
   rank = S.rank;
   some = let k = S.some in omega arith;
@@ -261,6 +299,9 @@ search_divides times values c found d parts rest S e D =
         → StaysWhole found parts d ⊎ IsCut found parts d → Searching times values c d parts (rest / parts)
     by_outcome h next left back none T r (inl W) = record {
       grids = grids_kept times values found d S.grids D.turned D.rank W.period W.rise;
+      fits = fits_kept times values found d S.fits D.front W.period W.rise;
+      front = front_trans d.pieces.items found.pieces.items c.pieces.items D.front S.front;
+      divided = let (m, some, p, r) = S.divided in (m, some, W.period ∙ p, W.rise ∙ r);
       turned = T;
       rank = r;
       some = S.some;
@@ -280,6 +321,11 @@ search_divides times values c found d parts rest S e D =
         let some_p : 0 < parts = let m = S.some in omega arith in
         record {
           grids = grids_cut times values parts found d S.grids D.turned D.rank some_p W.period W.rise;
+          fits = fits_cut times values parts found d S.fits D.front some_p W.period W.rise;
+          front = front_trans d.pieces.items found.pieces.items c.pieces.items D.front S.front;
+          divided =
+              let (m, some, p, r) = S.divided in
+              (m * parts, mul-pos some some_p, W.period ∙ ap (λ z. z /ℚ int (pos parts)) p ∙ share_twice c.period m parts some some_p, W.rise ∙ ap (λ z. z /ℚ int (pos parts)) r ∙ share_twice c.rise m parts some some_p);
           turned = T;
           rank = r;
           some = S.some;
@@ -293,8 +339,14 @@ search_divides times values c found d parts rest S e D =
               dvd_of_mul-dvd-mul_left n some_p (subst (λ z. parts * n ∣ z) (sym next) (S.only (parts * n) (mul-pos some_p some_n) R2));
         }
 
-pub search_ends : (times values : ℕ) (c found : Cycle) (parts rest : ℕ) → Searching times values c found parts rest → rest < parts → IsLeast c found
+pub search_ends : (times values : ℕ) (c found : Cycle) (parts rest : ℕ) → Searching times values c found parts rest → rest < parts → IsLeast times values c found
 search_ends times values c found parts rest S h = record {
+  front = S.front;
+  share =
+      let (n, some, p, r) = S.divided in
+      let own = subst (λ x. Repeats (cycle_values found) found.rank x (found.rise /ℚ int (pos 1))) (sym (whole_share found.period)) (subst (λ y. Repeats (cycle_values found) found.rank found.period y) (sym (whole_share found.rise))
+      (repeated_rule (read found.pieces.items) found.rank found.period found.rise S.turned.cycle.some)) in
+      (n, some, p, r, subst (Whole times) (whole_share found.period) (S.grids.time 1 (omega arith) own), subst (Whole values) (whole_share found.rise) (S.grids.value 1 (omega arith) own));
   turned = S.turned;
   rank = S.rank;
   least = λ n a R.

@@ -10,13 +10,14 @@ use Rattle.rational.proofs.Linear.{with1, with2, with3, with4}
 use Rattle.rational.specs.Extended.{Ext, ◌+ₑ◌}
 use Rattle.rational.specs.declared.Extended.TheVariants.{Fin}
 use Rattle.affine_segment.specs.declared.line.Piece.{Piece}
+use Rattle.upp_curve.specs.Readable.{LineFitsAt}
 use Rattle.upp_curve.specs.Reading.{read, piece_value}
 use Rattle.affine_segment.specs.Values.{line_value}
 use Rattle.upp_curve.specs.Unrolled.{line_later, later, upto, from}
 use Rattle.upp_curve.specs.Curve.{repeated}
 use Rattle.upp_curve.specs.Normal.{RisesFrom, StartsAtZero, Each, HasStart, NoMerge, Continues}
 use Rattle.upp_curve.specs.Steady.{Repeats, last_of}
-use Rattle.upp_curve.specs.Normalising.{IsCycle, IsLowest, RepeatsIn, cut_last, Lowers}
+use Rattle.upp_curve.specs.Normalising.{IsCycle, IsFront, IsLowest, RepeatsIn, cut_last, Lowers, MoveReads, StepFits, StepsFit}
 use Rattle.upp_curve.proofs.Unrolled.{line_value_later, read_before}
 use Rattle.upp_curve.proofs.Unique.{upto_none, upto_some}
 use Rattle.upp_curve.proofs.FirstStretch.{value_past, value_at_start}
@@ -25,7 +26,7 @@ use Rattle.upp_curve.proofs.Below.{read_from_cut, from_past, from_before, plain_
 use Rattle.upp_curve.proofs.Normal.{rises, start_in_upto, upto_all}
 use Rattle.upp_curve.proofs.Repeats.{repeated_first, repeated_rule}
 use Rattle.upp_curve.proofs.NormaliseLists.{each_map, each_append, upto_before, rises_left, last_is_last, last_in, none_between}
-use Rattle.upp_curve.proofs.NormaliseCuts.{from_end, split_is, take_upto, drop_upto, zero_upto, no_merge_upto, upto_upto}
+use Rattle.upp_curve.proofs.NormaliseCuts.{from_end, split_is, take_upto, drop_upto, zero_upto, no_merge_upto, upto_upto, front_self, front_upto, front_trans, each_front}
 use Rattle.upp_curve.proofs.NormaliseMerge.{read_stop, read_one}
 use Rattle.upp_curve.proofs.NormalisePeriods.{agree, repeats_after}
 use Rattle.upp_curve.proofs.NormaliseBreaks.{lines_apart}
@@ -314,14 +315,15 @@ lowered_is ps new r d c p last C B L I e =
 
 -- ---- the loop
 -- what it keeps, of a curve with f's values whose rank was `rank`
-pub record LowersOn (ps : List Piece) (first : ℕ) (low d c rank : ℚ) (f : ℚ → Ext) : Type 0 where
+pub record LowersOn (given ps : List Piece) (first : ℕ) (low d c rank : ℚ) (f : ℚ → Ext) : Type 0 where
+  pub front : IsFront ps given
   pub cycle : IsCycle ps low d
   pub first_is : first ≡ length (upto low ps)
   pub lower : low ≤ℚ rank
   pub same : (t : ℚ) → int (pos 0) ≤ℚ t → repeated (read ps) low d c t ≡ f t
 
-pub lowers_begins : (ps : List Piece) (first : ℕ) (rank d c : ℚ) → IsCycle ps rank d → first ≡ length (upto rank ps) → LowersOn ps first rank d c rank (repeated (read ps) rank d c)
-lowers_begins ps first rank d c C e = record { cycle = C; first_is = e; lower = le_refl rank; same = λ t h. refl }
+pub lowers_begins : (ps : List Piece) (first : ℕ) (rank d c : ℚ) → IsCycle ps rank d → first ≡ length (upto rank ps) → LowersOn ps ps first rank d c rank (repeated (read ps) rank d c)
+lowers_begins ps first rank d c C e = record { front = front_self ps; cycle = C; first_is = e; lower = le_refl rank; same = λ t h. refl }
 
 some_pieces : (x : ℚ) (ps : List Piece) → HasStart x ps → 0 < length ps
 some_pieces x [] h = absurd h
@@ -331,10 +333,10 @@ last_inside : (ps : List Piece) (last : Piece) (x : ℚ) → Last ps last → Ea
 last_inside ps last x L h = each_mid (λ z. z.x <ℚ x) L.before last [] (subst (Each (λ z. z.x <ℚ x)) L.whole h)
 
 -- one step down
-pub lowers_more : (ps new : List Piece) (first : ℕ) (low d c rank x : ℚ) (f : ℚ → Ext) (z : Piece) → LowersOn ps first low d c rank f → 0 < first
+pub lowers_more : (given ps new : List Piece) (first : ℕ) (low d c rank x : ℚ) (f : ℚ → Ext) (z : Piece) → LowersOn given ps first low d c rank f → 0 < first
     → Lowers ps new first d c z (Some x)
-    → LowersOn new (first - 1) x d c rank f
-lowers_more ps new first low d c rank x f z K some step =
+    → LowersOn given new (first - 1) x d c rank f
+lowers_more given ps new first low d c rank x f z K some step =
     let p = get_or ps (first - 1) z in
     let last = get_or ps (length ps - 1) z in
     let C = K.cycle in
@@ -342,7 +344,8 @@ lowers_more ps new first low d c rank x f z K some step =
     let L : Last ps last = last_is ps z C.starts C.none (some_pieces low ps C.has) in
     let new_is : new ≡ upto (p.x +ℚ d) ps = step.2 ∙ cut_last_is ps last (p.x +ℚ d) L step.1.early in
     let W = lowered_is ps new low d c p last C B L step.1 new_is in
-    subst (λ y. LowersOn new (first - 1) y d c rank f) (sym step.0) record {
+    subst (λ y. LowersOn given new (first - 1) y d c rank f) (sym step.0) record {
+      front = front_trans new ps given (subst (λ zs. IsFront zs ps) (sym new_is) (front_upto (p.x +ℚ d) ps)) K.front;
       cycle = W.cycle;
       first_is = omega (arith, K.first_is, W.count);
       lower = le_trans (le_of_lt B.low) K.lower;
@@ -352,12 +355,12 @@ lowers_more ps new first low d c rank x f z K some step =
 abbrev pub NoneLower : List Piece → ℚ → ℚ → ℚ → Type 0
 NoneLower ps low d c = Each (λ p. p.x <ℚ low → ¬ (Repeats (repeated (read ps) low d c) p.x d c)) ps
 
-pub lowest_is : (ps : List Piece) (first : ℕ) (low d c rank : ℚ) (f : ℚ → Ext) → LowersOn ps first low d c rank f → NoneLower ps low d c → IsLowest ps low d c rank f
-lowest_is ps first low d c rank f K n = record { cycle = K.cycle; lower = K.lower; same = K.same; least = n }
+pub lowest_is : (given ps : List Piece) (first : ℕ) (low d c rank : ℚ) (f : ℚ → Ext) → LowersOn given ps first low d c rank f → NoneLower ps low d c → IsLowest given ps low d c rank f
+lowest_is given ps first low d c rank f K n = record { front = K.front; cycle = K.cycle; lower = K.lower; same = K.same; least = n }
 
 -- no start before the rank is left
-pub lowers_to_zero : (ps : List Piece) (first : ℕ) (low d c rank : ℚ) (f : ℚ → Ext) → LowersOn ps first low d c rank f → first ≡ 0 → NoneLower ps low d c
-lowers_to_zero ps first low d c rank f K e =
+pub lowers_to_zero : (given ps : List Piece) (first : ℕ) (low d c rank : ℚ) (f : ℚ → Ext) → LowersOn given ps first low d c rank f → first ≡ 0 → NoneLower ps low d c
+lowers_to_zero given ps first low d c rank f K e =
     let none : from low ps ≡ ps = none_before (upto low ps) (omega (arith, e, K.first_is)) (split_is low ps) in
     each_map (λ z. low ≤ℚ z.x) (λ z. z.x <ℚ low → ¬ (Repeats (repeated (read ps) low d c) z.x d c)) (λ z h l R. lt_irrefl low (le_lt_trans h l)) ps
     (subst (Each (λ z. low ≤ℚ z.x)) none (from_late low _ ps (rises ps K.cycle.starts)))
@@ -367,9 +370,9 @@ lowers_to_zero ps first low d c rank f K e =
     none_before (b ∷ bs) e w = absurd (omega arith)
 
 -- the rule does not hold from the start before the rank, so from none before it
-pub lowers_no_more : (ps : List Piece) (first : ℕ) (low d c rank : ℚ) (f : ℚ → Ext) (z : Piece) → LowersOn ps first low d c rank f → 0 < first
-    → (new : List Piece) → Lowers ps new first d c z None → IsLowest new low d c rank f
-lowers_no_more ps first low d c rank f z K some new step =
+pub lowers_no_more : (given ps : List Piece) (first : ℕ) (low d c rank : ℚ) (f : ℚ → Ext) (z : Piece) → LowersOn given ps first low d c rank f → 0 < first
+    → (new : List Piece) → Lowers ps new first d c z None → IsLowest given new low d c rank f
+lowers_no_more given ps first low d c rank f z K some new step =
     let p = get_or ps (first - 1) z in
     let last = get_or ps (length ps - 1) z in
     let C = K.cycle in
@@ -378,7 +381,7 @@ lowers_no_more ps first low d c rank f z K some new step =
     let room = last_inside ps last (low +ℚ d) L C.inside in
     let none = each_map (λ z. z.x <ℚ low → z.x ≤ℚ p.x) (λ z. z.x <ℚ low → ¬ (Repeats (repeated (read ps) low d c) z.x d c))
     (λ z h l R. step.1 (repeats_in_last ps low d c p last C.some B L room (repeats_after (repeated (read ps) low d c) z.x p.x d c (h l) R))) ps B.between in
-    subst (λ zs. IsLowest zs low d c rank f) (sym step.0) (lowest_is ps first low d c rank f K none)
+    subst (λ zs. IsLowest given zs low d c rank f) (sym step.0) (lowest_is given ps first low d c rank f K none)
 
 -- ---- the test, from what the code computes
 pub in_last : (p last moved : Piece) (d c : ℚ) (reached : Ext) → moved ≡ later d c p → last.x ≤ℚ moved.x → last.line ≡ moved.line → reached ≡ piece_value last moved.x → reached ≡ moved.at
@@ -394,3 +397,17 @@ in_last p last moved d c reached e early line value at = (
 
 pub late_not_in : (p last moved : Piece) (d c : ℚ) → moved ≡ later d c p → moved.x <ℚ last.x → ¬ (RepeatsIn p last d c)
 late_not_in p last moved d c e late I = lt_irrefl moved.x (lt_le_trans late (subst (λ z. last.x ≤ℚ z.x) (sym e) I.early))
+
+each_index : (P : Piece → Type 0) (ps : List Piece) (i : ℕ) (z : Piece) → i < length ps → Each P ps → P (get_or ps i z)
+each_index P ps i z h e = each_mid P (take i ps) (get_or ps i z) (drop (suc i) ps) (subst (Each P) (index_split ps i z h) e)
+
+-- a step down fits where each piece before the first rank, moved by a period, does
+pub step_fits : (given ps : List Piece) (first : ℕ) (low d c rank : ℚ) (f : ℚ → Ext) (z : Piece) → LowersOn given ps first low d c rank f → 0 < first → StepsFit given rank d c → StepFits ps first d c z
+step_fits given ps first low d c rank f z K some S =
+    let p = get_or ps (first - 1) z in
+    let C = K.cycle in
+    let B : Before ps low p = before_is ps low first z C.starts K.first_is some in
+    let len : length (upto low ps) + length (from low ps) ≡ length ps = sym (length-append (upto low ps) (from low ps)) ∙ ap length (split_is low ps) in
+    let inside : first - 1 < length ps = omega (arith, len, K.first_is) in
+    let M = each_index (λ p. p.x <ℚ rank → MoveReads d c p) ps (first - 1) z inside (each_front (λ p. p.x <ℚ rank → MoveReads d c p) ps given K.front S) (lt_le_trans B.low K.lower) in
+    (M.moved, λ e. subst (LineFitsAt (p.x +ℚ d)) (sym e) M.reached)

@@ -138,3 +138,8 @@ pub start_late : (ps : List Piece) (r x : ℚ) → Some x ≡ first_start (past 
 start_late ps r x s =
     let (q, qs, past_is, at) = start_some (past r ps) x (sym s) in
     le_of_lt (subst (λ z. r <ℚ z) at (first_late r ps q qs past_is))
+
+pub start_has : (ps : List Piece) (r x : ℚ) → Some x ≡ first_start (past r ps) → HasStart x ps
+start_has ps r x s =
+    let (q, qs, past_is, at) = start_some (past r ps) x (sym s) in
+    subst (λ z. HasStart z ps) at (past_has r ps q qs past_is)

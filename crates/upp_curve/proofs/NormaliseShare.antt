@@ -3,14 +3,14 @@ use Rattle.std.specs.Prelude.{◌≡◌, ℕ, zero, suc, ◌+◌, ◌*◌, ◌<�
 use Rattle.std.specs.Result.{is_ok}
 use Rattle.std.proofs.Common.{arith, sym, ap, ◌∙◌, refl, subst, true≢false}
 use Prim.Native.Nat.{◌∣◌}
-use native.Mathlib.Nat.{mod-eq-zero_of_dvd}
+use native.Mathlib.Nat.{mod-eq-zero_of_dvd, dvd_of_mod-eq-zero}
 use Rattle.std.proofs.lemmas.Int.{ints}
 use Rattle.rational.specs.Rational.{ℚ, ◌*ℚ◌, ◌/ℚ◌, ◌<ℚ◌, int, frac, den, both}
 use Rattle.rational.specs.Fractions.{frac_self, frac-same, frac_is, abs-mul}
 use Rattle.rational.specs.Ints.{mul_assoc_z}
 use Rattle.rational.specs.Ratio.{IsSmall}
 use Rattle.rational.specs.Grid.{Whole}
-use Rattle.rational.proofs.Grid.{den_bound, whole_divides}
+use Rattle.rational.proofs.Grid.{den_bound, whole_divides, whole_int, whole_from_divides}
 use Rattle.rational.proofs.Integers.{nat_lt}
 use Rattle.rational.proofs.Laws.{mul_cancel, div_mul, mul_comm}
 use Rattle.rational.proofs.Linear.{with1}
@@ -70,3 +70,9 @@ not_on_grid q s g d r same bottom rest n W =
 -- a refusal is no value
 pub not_ok : {A E : Type 0} (r : Result A E) (e : E) → r ≡ Err e → IsOk r → ⊥
 not_ok r e is h = true≢false (sym h ∙ ap is_ok is)
+
+pub zero_on_grid : (x : ℚ) (g : ℕ) → x.num ≡ pos 0 → Whole g x
+zero_on_grid x g e = subst (Whole g) (sym (zero_of x e)) (whole_int g (pos 0))
+
+pub on_grid : (q s : ℚ) (g d : ℕ) → s ≡ q → d ≡ den s → g % d ≡ 0 → (s ≡ q) × Whole g s
+on_grid q s g d same bottom rest = (same, whole_from_divides g s (dvd_of_mod-eq-zero (den s) (ap (λ m. g % m) (sym bottom) ∙ rest)))

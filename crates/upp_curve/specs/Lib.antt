@@ -32,3 +32,5 @@ pub mod ClosedForm
 pub mod OwnWindow
 pub mod Normalising
 pub mod Levels
+pub mod Fitting
+pub mod Room

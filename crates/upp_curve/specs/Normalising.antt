@@ -8,11 +8,13 @@ use Rattle.affine_segment.specs.declared.line.Piece.{Piece}
 use Rattle.affine_segment.specs.Values.{line_value}
 use Rattle.upp_curve.specs.declared.curve.Tail.{Tail}
 use Rattle.upp_curve.specs.declared.curve.Tail.TheVariants.{Periodic, Affine, Infinite}
-use Rattle.upp_curve.specs.declared.normalise.RawCurve.{RawCurve}
 use Rattle.rational.specs.Grid.{Whole}
+use Rattle.upp_curve.specs.declared.normalise.RawCurve.{RawCurve}
 use Rattle.upp_curve.specs.declared.cycle.Cycle.{Cycle}
 use Rattle.upp_curve.specs.declared.cycle.Shape.{Shape}
 use Rattle.upp_curve.specs.declared.cycle.Shape.TheVariants.{Straight, Turns}
+use Rattle.upp_curve.specs.Readable.{LineFitsAt}
+use Rattle.upp_curve.specs.Fitting.{LaterFits}
 use Rattle.upp_curve.specs.Reading.{read, piece_in, piece_value}
 use Rattle.upp_curve.specs.Curve.{SpecCurve, repeated, value_at}
 use Rattle.upp_curve.specs.Steady.{Repeats, last_of}
@@ -30,6 +32,11 @@ pub record IsMerged (p : Piece) (ps rest : List Piece) : Type 0 where
   pub none : NoneContinues p rest
   pub part : IsPart rest ps
   pub reads : (t : ℚ) → read (p ∷ rest) t ≡ read (p ∷ ps) t
+
+-- ps begins with the pieces of front
+pub record IsFront (front ps : List Piece) : Type 0 where
+  pub more : List Piece
+  pub is : ps ≡ front ++ more
 
 -- ---- a second period
 -- the piece that starts at t where the one that is read there, of p and those after it, is cut
@@ -94,8 +101,9 @@ abbrev pub IsTurning : Cycle → (ℚ → Ext) → Type 0
 IsTurning c f = Turned c.pieces.items c.first c.rank c.period c.rise f
 
 abbrev pub IsShape : List Piece → ℚ → ℚ → ℚ → Shape → Type 0
-IsShape ps rank period rise (Straight kept) = IsLine kept.items (repeated (read ps) rank period rise)
-IsShape ps rank period rise (Turns c) = (rank ≤ℚ c.rank) × (c.period ≡ period) × (c.rise ≡ rise) × IsTurning c (repeated (read ps) rank period rise)
+IsShape ps rank period rise (Straight kept) = IsFront kept.items ps × IsLine kept.items (repeated (read ps) rank period rise)
+IsShape ps rank period rise (Turns c) =
+    IsFront c.pieces.items ps × (rank ≤ℚ c.rank) × (c.rank ≤ℚ rank +ℚ period) × (c.period ≡ period) × (c.rise ≡ rise) × IsTurning c (repeated (read ps) rank period rise)
 
 -- ---- the least rank
 -- p's values, a period later and a rise higher, lie in the piece `last`
@@ -104,12 +112,28 @@ pub record RepeatsIn (p last : Piece) (period rise : ℚ) : Type 0 where
   pub line : last.line ≡ line_later period rise p.line
   pub at : piece_value last (p.x +ℚ period) ≡ p.at +ₑ Fin rise
 
--- a curve with f's values whose rule holds from no start before its rank, which is at most `rank`
-pub record IsLowest (ps : List Piece) (low period rise rank : ℚ) (f : ℚ → Ext) : Type 0 where
+-- a curve with f's values whose rule holds from no start before its rank, which is at most `rank`, and whose pieces are given ones from the first on
+pub record IsLowest (given ps : List Piece) (low period rise rank : ℚ) (f : ℚ → Ext) : Type 0 where
+  pub front : IsFront ps given
   pub cycle : IsCycle ps low period
   pub lower : low ≤ℚ rank
   pub same : (t : ℚ) → int (pos 0) ≤ℚ t → repeated (read ps) low period rise t ≡ f t
   pub least : Each (λ p. p.x <ℚ low → ¬ (Repeats (repeated (read ps) low period rise) p.x period rise)) ps
+
+-- p moved by a period and a rise, and its value there, fit
+pub record MoveReads (period rise : ℚ) (p : Piece) : Type 0 where
+  pub moved : LaterFits period rise p
+  pub reached : LineFitsAt (p.x +ℚ period) (line_later period rise p.line)
+
+-- one step down fits (z stands for a piece past the end)
+abbrev pub StepFits : List Piece → ℕ → ℚ → ℚ → Piece → Type 0
+StepFits ps first period rise z =
+    LaterFits period rise (get_or ps (first - 1) z)
+    × ((get_or ps (length ps - 1) z).line ≡ line_later period rise (get_or ps (first - 1) z).line → LineFitsAt ((get_or ps (first - 1) z).x +ℚ period) (get_or ps (length ps - 1) z).line)
+
+-- each piece before the rank, moved by a period, and its value there, fit
+abbrev pub StepsFit : List Piece → ℚ → ℚ → ℚ → Type 0
+StepsFit ps rank period rise = Each (λ p. p.x <ℚ rank → MoveReads period rise p) ps
 
 -- the pieces without the last, where its start x is not before `end`
 unfoldable pub cut_last : List Piece → ℚ → ℚ → List Piece
@@ -140,6 +164,11 @@ pub record OnGrids (times values : ℕ) (f : ℚ → Ext) (from period rise : �
   pub time : (n : ℕ) → 1 ≤ n → Repeats f from (period /ℚ int (pos n)) (rise /ℚ int (pos n)) → Whole times (period /ℚ int (pos n))
   pub value : (n : ℕ) → 1 ≤ n → Repeats f from (period /ℚ int (pos n)) (rise /ℚ int (pos n)) → Whole values (rise /ℚ int (pos n))
 
+-- each piece moved by a whole fraction of the period and of the rise fits, where both are on the grids
+abbrev pub SharesFit : ℕ → ℕ → List Piece → ℚ → ℚ → Type 0
+SharesFit times values ps period rise =
+    (n : ℕ) → 1 ≤ n → Whole times (period /ℚ int (pos n)) → Whole values (rise /ℚ int (pos n)) → Each (LaterFits (period /ℚ int (pos n)) (rise /ℚ int (pos n))) ps
+
 -- d is c, and a period of c divided by `parts` is none
 pub record StaysWhole (c : Cycle) (parts : ℕ) (d : Cycle) : Type 0 where
   pub period : d.period ≡ c.period
@@ -154,24 +183,31 @@ pub record IsCut (c : Cycle) (parts : ℕ) (d : Cycle) : Type 0 where
   pub count : turn_count c ≡ parts * turn_count d
 
 pub record IsDivided (c : Cycle) (parts : ℕ) (d : Cycle) : Type 0 where
+  pub front : IsFront d.pieces.items c.pieces.items
   pub turned : IsTurning d (cycle_values c)
   pub rank : d.rank ≡ c.rank
   pub outcome : StaysWhole c parts d ⊎ IsCut c parts d
 
 -- a curve with c's values and rank, whose period divided by no whole number from 2 on is a period
-pub record IsLeast (c d : Cycle) : Type 0 where
+pub record IsLeast (times values : ℕ) (c d : Cycle) : Type 0 where
+  pub front : IsFront d.pieces.items c.pieces.items
+  pub share : (n : ℕ) × (1 ≤ n) × (d.period ≡ c.period /ℚ int (pos n)) × (d.rise ≡ c.rise /ℚ int (pos n)) × Whole times d.period × Whole values d.rise
   pub turned : IsTurning d (cycle_values c)
   pub rank : d.rank ≡ c.rank
   pub least : (n : ℕ) → 2 ≤ n → ¬ (Repeats (cycle_values d) d.rank (d.period /ℚ int (pos n)) (d.rise /ℚ int (pos n)))
 
 -- ---- the whole
-abbrev pub raw_curve : RawCurve → SpecCurve
-raw_curve r = record { pieces = r.pieces.items; tail = r.tail }
-
 -- a normal form with f's values
 pub record IsFormOf (c : SpecCurve) (f : ℚ → Ext) : Type 0 where
   pub normal : IsNormal c
   pub same : (t : ℚ) → int (pos 0) ≤ℚ t → value_at c t ≡ f t
+
+-- c has f's values
+abbrev pub HasValues : SpecCurve → (ℚ → Ext) → Type 0
+HasValues c f = (t : ℚ) → int (pos 0) ≤ℚ t → value_at c t ≡ f t
+
+abbrev pub raw_curve : RawCurve → SpecCurve
+raw_curve r = record { pieces = r.pieces.items; tail = r.tail }
 
 -- f is one line from `from` on; no line is infinity
 abbrev pub IsOneLine : (ℚ → Ext) → ℚ → Type 0

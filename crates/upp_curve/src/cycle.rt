@@ -1,11 +1,14 @@
 //! Where a periodic curve's tail has its breaks.
 
-ghost use Rattle.std.specs.Prelude.{IfOk};
+ghost use Rattle.rational.specs.Rational.{◌+ℚ◌, ◌≤ℚ◌};
+ghost use Rattle.rational.specs.Ratio.{SumFits};
+ghost use Rattle.upp_curve.specs.Normal.{Each};
 ghost use Rattle.upp_curve.specs.Normalising.{IsTwoPeriods, IsShape};
 
+use crate::fitting::sum;
 use crate::two_periods::{count_before, first_past};
 use affine_segment::Piece;
-use fraction128::{Frac, Wide};
+use fraction128::Frac;
 use std::cmp::Ordering;
 
 /// A periodic curve none of whose pieces goes on with the one before it: `first` pieces start before the rank, and one at it.
@@ -28,36 +31,33 @@ pub(crate) enum Shape {
 }
 
 /// The shape of a periodic curve whose pieces are given below rank + 2 period.
-pub(crate) fn shape_of(
-    pieces: Vec<Piece>,
-    rank: Frac,
-    period: Frac,
-    rise: Frac,
-) -> Result<Shape, Wide>
-    requires { IsTwoPeriods pieces.items rank period rise }
-    ensures { IfOk result (λ s. IsShape pieces.items rank period rise s) }
+pub(crate) fn shape_of(pieces: Vec<Piece>, rank: Frac, period: Frac, rise: Frac) -> Shape
+    requires two { IsTwoPeriods pieces.items rank period rise }
+    requires end { SumFits rank period }
+    requires until { Each (λ p. p.x ≤ℚ rank +ℚ period → SumFits p.x period) pieces.items }
+    ensures { IsShape pieces.items rank period rise result }
 {
     let mut kept = pieces;
     let Some(start) = first_past(&kept, rank) else {
-        return Ok(Shape::Straight(kept));
+        return Shape::Straight(kept);
     };
     let first = count_before(&kept, start);
-    let end = Frac::add(rank, period)?;
+    let end = sum(rank, period);
     match start.cmp(&end) {
         Ordering::Greater => {
             kept.truncate(first);
-            return Ok(Shape::Straight(kept));
+            return Shape::Straight(kept);
         }
         _ => {}
     }
-    let until = Frac::add(start, period)?;
+    let until = sum(start, period);
     let count = count_before(&kept, until);
     kept.truncate(count);
-    Ok(Shape::Turns(Cycle {
+    Shape::Turns(Cycle {
         pieces: kept,
         first,
         rank: start,
         period,
         rise,
-    }))
+    })
 }

@@ -1,23 +1,25 @@
 //! The least period of a periodic curve, by the primes that divide the number of its pieces.
 
-ghost use Rattle.std.specs.Prelude.{◌≡◌, ◌↔◌, ◌<◌, ◌≤◌, ◌^◌, pos, drop, length, IfOk, IsTrue, MatchOption};
+ghost use Rattle.std.specs.Prelude.{◌≡◌, ◌↔◌, ◌<◌, ◌≤◌, ◌^◌, pos, drop, length, IsTrue, MatchOption};
 ghost use Prim.Native.Nat.{◌∣◌};
 ghost use Rattle.rational.specs.Rational.{int, ◌/ℚ◌};
 ghost use Rattle.rational.specs.Grid.{Whole};
-ghost use Rattle.upp_curve.specs.Normalising.{GoesOn, IsTurning, IsDivided, IsLeast, OnGrids, cycle_values, turn_count};
+ghost use Rattle.upp_curve.specs.Normal.{Each};
+ghost use Rattle.upp_curve.specs.Fitting.{LaterFits};
+ghost use Rattle.upp_curve.specs.Normalising.{GoesOn, IsTurning, IsDivided, IsLeast, OnGrids, SharesFit, cycle_values, turn_count};
 
 use crate::cycle::Cycle;
-use crate::merging::later;
+use crate::fitting::later;
 use crate::same::same_piece;
 use affine_segment::Piece;
-use fraction128::{Frac, Wide};
+use fraction128::Frac;
 
 // The share where it is a whole multiple of 1 / grid.
 fn share(whole: Frac, parts: usize, grid: u128) -> Option<Frac>
     requires parts { 0 < parts }
     requires some { 0 < grid }
     requires grid { grid < 2 ^ 127 }
-    ensures { MatchOption result (¬ (Whole grid (whole /ℚ int (pos parts)))) (λ s. s ≡ whole /ℚ int (pos parts)) }
+    ensures { MatchOption result (¬ (Whole grid (whole /ℚ int (pos parts)))) (λ s. (s ≡ whole /ℚ int (pos parts)) × Whole grid s) }
 {
     if whole.numerator() == 0 {
         return Some(whole);
@@ -29,16 +31,17 @@ fn share(whole: Frac, parts: usize, grid: u128) -> Option<Frac>
 }
 
 // Whether each piece from the k-th on is the one k before it, `by` later and `rise` higher.
-fn goes_on(pieces: &[Piece], k: usize, by: Frac, rise: Frac) -> Result<bool, Wide>
-    ensures { IfOk result (λ b. IsTrue b ↔ GoesOn pieces.now k by rise) }
+fn goes_on(pieces: &[Piece], k: usize, by: Frac, rise: Frac) -> bool
+    requires { Each (LaterFits by rise) pieces.now }
+    ensures { IsTrue result ↔ GoesOn pieces.now k by rise }
 {
     for i in k..pieces.len() {
-        let moved = later(by, rise, pieces[i - k])?;
+        let moved = later(by, rise, &pieces[i - k]);
         if !same_piece(moved, pieces[i]) {
-            return Ok(false);
+            return false;
         }
     }
-    Ok(true)
+    true
 }
 
 // The pieces of one period.
@@ -50,7 +53,7 @@ fn turn_of(pieces: &[Piece], first: usize) -> &[Piece]
 }
 
 // The curve with its period divided by `parts`, where that is a period; else as it is.
-fn divided(cycle: Cycle, parts: usize, times: u128, values: u128) -> Result<Cycle, Wide>
+fn divided(cycle: Cycle, parts: usize, times: u128, values: u128) -> Cycle
     requires turning { IsTurning cycle (cycle_values cycle) }
     requires parts { 2 ≤ parts }
     requires share { parts ∣ turn_count cycle }
@@ -59,41 +62,43 @@ fn divided(cycle: Cycle, parts: usize, times: u128, values: u128) -> Result<Cycl
     requires times { times < 2 ^ 127 }
     requires values { values < 2 ^ 127 }
     requires grids { OnGrids times values (cycle_values cycle) cycle.rank cycle.period cycle.rise }
-    ensures { IfOk result (λ d. IsDivided cycle parts d) }
+    requires fits { SharesFit times values cycle.pieces.items cycle.period cycle.rise }
+    ensures { IsDivided cycle parts result }
 {
     let Some(by) = share(cycle.period, parts, times) else {
-        return Ok(cycle);
+        return cycle;
     };
     let Some(rise) = share(cycle.rise, parts, values) else {
-        return Ok(cycle);
+        return cycle;
     };
     let turn = turn_of(&cycle.pieces, cycle.first);
     let k = turn.len() / parts;
-    if !goes_on(turn, k, by, rise)? {
-        return Ok(cycle);
+    if !goes_on(turn, k, by, rise) {
+        return cycle;
     }
     let first = cycle.first;
     let rank = cycle.rank;
     let mut pieces = cycle.pieces;
     pieces.truncate(first + k);
-    Ok(Cycle {
+    Cycle {
         pieces,
         first,
         rank,
         period: by,
         rise,
-    })
+    }
 }
 
 /// The curve with its least period. Each period and its rise is a whole multiple of 1 / times and of 1 / values.
-pub(crate) fn least_period(cycle: Cycle, times: u128, values: u128) -> Result<Cycle, Wide>
+pub(crate) fn least_period(cycle: Cycle, times: u128, values: u128) -> Cycle
     requires turning { IsTurning cycle (cycle_values cycle) }
     requires some_times { 0 < times }
     requires some_values { 0 < values }
     requires times { times < 2 ^ 127 }
     requires values { values < 2 ^ 127 }
     requires grids { OnGrids times values (cycle_values cycle) cycle.rank cycle.period cycle.rise }
-    ensures { IfOk result (λ d. IsLeast cycle d) }
+    requires fits { SharesFit times values cycle.pieces.items cycle.period cycle.rise }
+    ensures { IsLeast times values cycle result }
 {
     let mut rest = turn_of(&cycle.pieces, cycle.first).len();
     let mut found = cycle;
@@ -103,8 +108,8 @@ pub(crate) fn least_period(cycle: Cycle, times: u128, values: u128) -> Result<Cy
             parts += 1;
         } else {
             rest /= parts;
-            found = divided(found, parts, times, values)?;
+            found = divided(found, parts, times, values);
         }
     }
-    Ok(found)
+    found
 }

@@ -5,6 +5,7 @@ mod counts;
 mod curve;
 mod curve_numbers;
 mod cycle;
+mod fitting;
 mod gathered;
 mod gauges;
 mod kind_laws;
@@ -35,3 +36,4 @@ pub use laws::{
 };
 pub use op_kind::{OpFault, OpKind, Window};
 pub use starts::{is_after, is_before};
+pub use normalise::{RawCurve, normalise_on};

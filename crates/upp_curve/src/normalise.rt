@@ -2,19 +2,21 @@
 
 ghost use Rattle.std.specs.Prelude.{◌<◌, ◌^◌, IfOk};
 ghost use Rattle.upp_curve.specs.Reading.{read};
-ghost use Rattle.upp_curve.specs.Curve.{repeated, value_at};
+ghost use Rattle.upp_curve.specs.Curve.{repeated, value_at, HasSameValues};
 ghost use Rattle.upp_curve.specs.Normal.{StartsAtZero, NoMerge, FitsPeriod, IsRaw};
-ghost use Rattle.upp_curve.specs.Normalising.{IsTwoPeriods, IsTurning, IsFormOf, OnGrids, OnGridsUnlessLine, TailOnGrids, cycle_values, raw_curve};
+ghost use Rattle.upp_curve.specs.Readable.{EachFits};
+ghost use Rattle.upp_curve.specs.Normalising.{HasValues, IsTwoPeriods, IsTurning, OnGrids, OnGridsUnlessLine, TailOnGrids, cycle_values, raw_curve};
+ghost use Rattle.upp_curve.specs.Room.{Room, PiecesHaveRoom, TwoHaveRoom, CycleHasRoom, TurnHasRoom, TailHasRoom};
 
-use crate::curve::Tail;
+use crate::curve::{Curve, Tail};
 use crate::cycle::{Cycle, Shape, shape_of};
 use crate::least_period::least_period;
 use crate::lowest_rank::lowest_rank;
-use crate::merging::{Unmade, merged};
+use crate::merging::merged;
 use crate::two_periods::{ended, two_periods};
 use affine_segment::Piece;
-use fraction128::{Frac, Wide};
-use std::alloc::Global;
+use fraction128::Frac;
+use std::alloc::{AllocError, Global};
 
 /// A curve in any form: its first piece starts at 0, starts rise, and the rank is 0 or more. Of a periodic tail the period is
 /// above 0 and all starts are below rank + period; of any other tail all starts are at most the rank.
@@ -27,50 +29,51 @@ pub struct RawCurve {
 }
 
 // Pieces that go on with their last line.
-fn unending(pieces: Vec<Piece>) -> RawCurve
+fn unending(pieces: Vec<Piece>) -> Curve
     requires starts { StartsAtZero pieces.items }
     requires none { NoMerge pieces.items }
-    ensures { IsFormOf (raw_curve result) (read pieces.items) }
+    requires fits { EachFits None pieces.items }
+    ensures { HasValues result (read pieces.items) }
 {
     let last = pieces[pieces.len() - 1];
     let tail = match last.line {
         None => Tail::Infinite { rank: last.x },
         Some(_) => Tail::Affine { rank: last.x },
     };
-    RawCurve { pieces, tail }
+    Curve::from_normal(pieces, tail)
 }
 
-// The normal form of pieces that go on with their last line.
-fn of_pieces(alloc: Global, pieces: &[Piece]) -> Result<RawCurve, Unmade>
-    requires { StartsAtZero pieces.now }
-    ensures { IfOk result (λ r. IsFormOf (raw_curve r) (read pieces.now)) }
+// The curve of pieces that go on with their last line.
+fn of_pieces(alloc: Global, pieces: &[Piece]) -> Result<Curve, AllocError>
+    requires starts { StartsAtZero pieces.now }
+    requires room { (m : Room) × PiecesHaveRoom m 4 pieces.now }
+    ensures { IfOk result (λ r. HasValues r (read pieces.now)) }
 {
     let kept = merged(alloc, pieces)?;
     Ok(unending(kept))
 }
 
 // A period between breaks, made the least, from the least rank on.
-fn repeating(cycle: Cycle, times: u128, values: u128) -> Result<RawCurve, Wide>
+fn repeating(cycle: Cycle, times: u128, values: u128) -> Curve
     requires turning { IsTurning cycle (cycle_values cycle) }
     requires some_times { 0 < times }
     requires some_values { 0 < values }
     requires times { times < 2 ^ 127 }
     requires values { values < 2 ^ 127 }
     requires grids { OnGrids times values (cycle_values cycle) cycle.rank cycle.period cycle.rise }
-    ensures { IfOk result (λ r. IsFormOf (raw_curve r) (cycle_values cycle)) }
+    requires room { (m : Room) × CycleHasRoom m times values cycle.pieces.items cycle.rank cycle.period cycle.rise }
+    ensures { HasValues result (cycle_values cycle) }
 {
-    let found = lowest_rank(least_period(cycle, times, values)?)?;
-    Ok(RawCurve {
-        pieces: found.pieces,
-        tail: Tail::Periodic {
-            rank: found.rank,
-            period: found.period,
-            rise: found.rise,
-        },
-    })
+    let found = lowest_rank(least_period(cycle, times, values));
+    let tail = Tail::Periodic {
+        rank: found.rank,
+        period: found.period,
+        rise: found.rise,
+    };
+    Curve::from_normal(found.pieces, tail)
 }
 
-// The normal form of a periodic curve whose pieces are given below rank + 2 period.
+// The periodic curve whose pieces are given below rank + 2 period.
 fn of_two_periods(
     pieces: Vec<Piece>,
     rank: Frac,
@@ -78,22 +81,23 @@ fn of_two_periods(
     rise: Frac,
     times: u128,
     values: u128,
-) -> Result<RawCurve, Wide>
+) -> Curve
     requires two { IsTwoPeriods pieces.items rank period rise }
     requires some_times { 0 < times }
     requires some_values { 0 < values }
     requires times { times < 2 ^ 127 }
     requires values { values < 2 ^ 127 }
     requires grids { OnGridsUnlessLine times values (repeated (read pieces.items) rank period rise) rank period rise }
-    ensures { IfOk result (λ r. IsFormOf (raw_curve r) (repeated (read pieces.items) rank period rise)) }
+    requires room { (m : Room) × TwoHaveRoom m times values pieces.items rank period rise }
+    ensures { HasValues result (repeated (read pieces.items) rank period rise) }
 {
-    match shape_of(pieces, rank, period, rise)? {
-        Shape::Straight(kept) => Ok(unending(kept)),
+    match shape_of(pieces, rank, period, rise) {
+        Shape::Straight(kept) => unending(kept),
         Shape::Turns(cycle) => repeating(cycle, times, values),
     }
 }
 
-// The normal form of a periodic curve.
+// The periodic curve of pieces in any form.
 fn of_periodic(
     alloc: Global,
     given: &[Piece],
@@ -102,7 +106,7 @@ fn of_periodic(
     rise: Frac,
     times: u128,
     values: u128,
-) -> Result<RawCurve, Unmade>
+) -> Result<Curve, AllocError>
     requires starts { StartsAtZero given.now }
     requires tail { FitsPeriod given.now rank period }
     requires some_times { 0 < times }
@@ -110,29 +114,30 @@ fn of_periodic(
     requires times { times < 2 ^ 127 }
     requires values { values < 2 ^ 127 }
     requires grids { OnGridsUnlessLine times values (repeated (read given.now) rank period rise) rank period rise }
-    ensures { IfOk result (λ r. IsFormOf (raw_curve r) (repeated (read given.now) rank period rise)) }
+    requires room { (m : Room) × TurnHasRoom m times values given.now rank period rise }
+    ensures { IfOk result (λ r. HasValues r (repeated (read given.now) rank period rise)) }
 {
     let longer = two_periods(alloc, given, rank, period, rise)?;
     let pieces = merged(alloc, &longer)?;
-    let form = of_two_periods(pieces, rank, period, rise, times, values)?;
-    Ok(form)
+    Ok(of_two_periods(pieces, rank, period, rise, times, values))
 }
 
 /// The normal form of a curve each of whose periods, unless its tail is one line, is a whole multiple of 1 / times, and its
 /// rise of 1 / values.
-pub fn normal_form(
+pub fn normalise_on(
     alloc: Global,
     raw: &RawCurve,
     times: u128,
     values: u128,
-) -> Result<RawCurve, Unmade>
+) -> Result<Curve, AllocError>
     requires raw { IsRaw (raw_curve raw.now) }
     requires some_times { 0 < times }
     requires some_values { 0 < values }
     requires times { times < 2 ^ 127 }
     requires values { values < 2 ^ 127 }
     requires grids { TailOnGrids times values raw.now.tail (value_at (raw_curve raw.now)) }
-    ensures { IfOk result (λ r. IsFormOf (raw_curve r) (value_at (raw_curve raw.now))) }
+    requires room { TailHasRoom times values raw.now.pieces.items raw.now.tail }
+    ensures { IfOk result (λ r. HasSameValues r (raw_curve raw.now)) }
 {
     match raw.tail {
         Tail::Affine { rank: _ } => of_pieces(alloc, &raw.pieces),

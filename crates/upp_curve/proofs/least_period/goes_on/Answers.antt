@@ -11,8 +11,8 @@ returns-then-not-same_piece c =
     let i = c.loop-i.i in
     let early : c.args.k ≤ i = omega (arith, c.loop-i.auto) in (
       λ e. absurd (true≢false (sym e)),
-      λ G. sym c.if-not-same_piece.true ∙ c.same_piece.ensures.1 (moved_is ps c.args.k c.args.by c.args.rise i c.in_ok-moved.moved c.index-pieces-i.result c.index-pieces-i-in-loop-i.result
-          early c.loop-i-test.true c.in_ok-moved.ensures c.index-pieces-i.is c.index-pieces-i-in-loop-i.is G),
+      λ G. sym c.if-not-same_piece.true ∙ c.same_piece.ensures.1 (moved_is ps c.args.k c.args.by c.args.rise i c.later-moved.result c.index-pieces-i.result c.index-pieces-i-in-loop-i.result
+          early c.loop-i-test.true c.later-moved.ensures c.index-pieces-i.is c.index-pieces-i-in-loop-i.is G),
     )
 
 pub loop-i-preserved : goal.loop-i-preserved
@@ -21,8 +21,8 @@ loop-i-preserved c =
     let i = c.loop-i.i in
     let early : c.args.k ≤ i = omega (arith, c.loop-i.auto) in
     let same = c.same_piece.ensures.0 c.if-not-same_piece.false in
-    goes_on_more ps c.args.k c.args.by c.args.rise i c.in_ok-moved.moved c.index-pieces-i.result c.index-pieces-i-in-loop-i.result
-    early c.loop-i-test.true c.in_ok-moved.ensures c.index-pieces-i.is c.index-pieces-i-in-loop-i.is same c.loop-i.invariant
+    goes_on_more ps c.args.k c.args.by c.args.rise i c.later-moved.result c.index-pieces-i.result c.index-pieces-i-in-loop-i.result
+    early c.loop-i-test.true c.later-moved.ensures c.index-pieces-i.is c.index-pieces-i-in-loop-i.is same c.loop-i.invariant
 
 pub returns : goal.returns
 returns c =

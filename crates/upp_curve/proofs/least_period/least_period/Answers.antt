@@ -14,28 +14,31 @@ pub loop-parts-init : goal.loop-parts-init
 loop-parts-init c =
     let a = c.args.cycle in
     let seen = c.turn_of-rest.result.now in
-    search_begins c.args.times c.args.values a seen (length seen) c.requires.grids c.requires.turning (turn_is a (cycle_values a) c.deref.result.now seen c.requires.turning c.deref.ensures.value c.turn_of-rest.ensures) refl
+    search_begins c.args.times c.args.values a seen (length seen) c.requires.grids c.requires.fits c.requires.turning (turn_is a (cycle_values a) c.deref.result.now seen c.requires.turning c.deref.ensures.value c.turn_of-rest.ensures) refl
 
 pub loop-parts-preserved-then-rest-parts-ne0 : goal.loop-parts-preserved-then-rest-parts-ne0
 loop-parts-preserved-then-rest-parts-ne0 c =
     let l = c.loop-parts in
     search_goes_on c.args.times c.args.values c.args.cycle l.found l.parts l.rest l.invariant c.if-rest-parts-ne0.true
 
-pub divided-requires-clause-share : goal.divided-requires-clause-share
-divided-requires-clause-share c =
+pub divided-found-requires-clause-share : goal.divided-found-requires-clause-share
+divided-found-requires-clause-share c =
     let l = c.loop-parts in
     dvd_trans l.parts (dvd_of_mod-eq-zero l.parts c.if-rest-parts-ne0.false) l.invariant.share
 
-pub divided-requires-clause-grids : goal.divided-requires-clause-grids
-divided-requires-clause-grids c = c.loop-parts.invariant.grids
+pub divided-found-requires-clause-grids : goal.divided-found-requires-clause-grids
+divided-found-requires-clause-grids c = c.loop-parts.invariant.grids
 
 pub loop-parts-preserved : goal.loop-parts-preserved
 loop-parts-preserved c =
     let l = c.loop-parts in
-    search_divides c.args.times c.args.values c.args.cycle l.found c.in_ok-found.found l.parts l.rest l.invariant c.if-rest-parts-ne0.false c.in_ok-found.ensures
+    search_divides c.args.times c.args.values c.args.cycle l.found c.divided-found.result l.parts l.rest l.invariant c.if-rest-parts-ne0.false c.divided-found.ensures
 
 pub returns : goal.returns
 returns c =
     let l = c.loop-parts in
     let far : l.rest < l.parts = omega (arith, c.loop-parts-test.false) in
     search_ends c.args.times c.args.values c.args.cycle l.found l.parts l.rest l.invariant far
+
+pub divided-found-requires-clause-fits : goal.divided-found-requires-clause-fits
+divided-found-requires-clause-fits c = c.loop-parts.invariant.fits

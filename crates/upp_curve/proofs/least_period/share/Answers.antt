@@ -4,14 +4,15 @@ use mir.Val.{to_z}
 use mir.Syntax.{w128}
 use Rattle.rational.specs.Rational.{int, ◌/ℚ◌}
 use Rattle.rational.specs.Ratio.{IsSmall}
-use Rattle.upp_curve.proofs.NormaliseShare.{parts_some, zero_share, share_small, not_on_grid, not_ok}
+use Rattle.upp_curve.proofs.NormaliseShare.{parts_some, zero_share, share_small, not_on_grid, not_ok, zero_on_grid, on_grid}
 use Rattle.upp_curve.proofs.least_period.share.Goals as goal
 use Rattle.upp_curve.proofs.least_period.share.Goals.{in_default-via-in-Ok+else-grid-denominator-eq0, in_default-via-in_default}
 
 pub returns-then-numerator-eq0 : goal.returns-then-numerator-eq0
 returns-then-numerator-eq0 c =
     let zero : c.numerator.result ≡ pos 0 = omega (arith, ints, c.if-numerator-eq0.true, c.numerator.ensures.size) in
-    zero_share c.args.whole c.args.parts c.requires.parts (sym c.numerator.ensures.value ∙ zero)
+    let none = sym c.numerator.ensures.value ∙ zero in
+    (zero_share c.args.whole c.args.parts c.requires.parts none, zero_on_grid c.args.whole c.args.grid none)
 
 pub div-requires : goal.div-requires
 div-requires c =
@@ -30,3 +31,9 @@ returns-in_default c =
           not_ok c.div.result w.in_default.field-0 w.in_default.is
           (c.div.ensures.fits.1 (subst (λ n. IsSmall (c.args.whole /ℚ n)) (sym by) (share_small c.args.whole c.args.parts c.args.grid c.requires.parts c.requires.some c.requires.grid top W)))
     ]
+
+pub returns-in-Ok : goal.returns-in-Ok
+returns-in-Ok c =
+    let p : to_z w128 c.args.parts ≡ pos c.args.parts = omega (arith, ints) in
+    on_grid (c.args.whole /ℚ int (pos c.args.parts)) c.in-Ok.s c.args.grid c.denominator.result
+    (c.in-Ok.ensures.value ∙ ap (λ n. c.args.whole /ℚ n) (c.from_whole.ensures ∙ ap int p)) c.denominator.ensures.value c.if-grid-denominator-eq0.true

@@ -2,20 +2,20 @@ use Rattle.upp_curve.proofs.NormaliseLoops.{next_piece}
 use Rattle.std.proofs.Common.{ap, ◌∙◌, drop, ◌+◌, drop_of_length-le}
 use Rattle.upp_curve.proofs.NormaliseMerge.{merge_begins, merge_keeps_next, merge_skips_next, merge_is}
 use Rattle.upp_curve.proofs.merging.merged_after.Goals as goal
-use Rattle.upp_curve.proofs.merging.merged_after.Goals.{then-not-branch+in_ok-push, else-not-branch}
+use Rattle.upp_curve.proofs.merging.merged_after.Goals.{then-not-continues+in_ok-push, else-not-continues}
 
 pub loop-q-preserved : goal.loop-q-preserved
 loop-q-preserved c =
     let l = c.loop-q in
     let q = c.q-item.result in
     let left = next_piece q c.args.rest.now l.q-index c.loop-q-test.true c.q-item.is in
-    elim c.if-not-branch.branch [
-      | then-not-branch+in_ok-push w ↦
-          merge_keeps_next c.args.first c.args.rest.now l.kept.items l.open q _ (drop (l.q-index + 1) c.args.rest.now) c.in_ok-continues.field-0 c.if-not-branch.kept.items c.if-not-branch.open
-          left w.if-not-branch.true c.in_ok-continues.ensures.1 (ap (λ v. v.items) w.kept-is ∙ w.in_ok-push.ensures.items) w.open-is l.invariant
-      | else-not-branch w ↦
-          merge_skips_next c.args.first c.args.rest.now l.kept.items l.open q _ (drop (l.q-index + 1) c.args.rest.now) c.in_ok-continues.field-0 c.if-not-branch.kept.items c.if-not-branch.open
-          left w.if-not-branch.false c.in_ok-continues.ensures.0 (ap (λ v. v.items) w.kept-is) w.open-is l.invariant
+    elim c.if-not-continues.branch [
+      | then-not-continues+in_ok-push w ↦
+          merge_keeps_next c.args.first c.args.rest.now l.kept.items l.open q _ (drop (l.q-index + 1) c.args.rest.now) c.continues.result c.if-not-continues.kept.items c.if-not-continues.open
+          left w.if-not-continues.true c.continues.ensures.1 (ap (λ v. v.items) w.kept-is ∙ w.in_ok-push.ensures.items) w.open-is l.invariant
+      | else-not-continues w ↦
+          merge_skips_next c.args.first c.args.rest.now l.kept.items l.open q _ (drop (l.q-index + 1) c.args.rest.now) c.continues.result c.if-not-continues.kept.items c.if-not-continues.open
+          left w.if-not-continues.false c.continues.ensures.0 (ap (λ v. v.items) w.kept-is) w.open-is l.invariant
     ]
 
 pub returns : goal.returns

@@ -23,4 +23,4 @@ returns c =
           upto_stops c.args.rank w.p-item.result _ (drop (c.loop-p.p-index + 1) ps) c.loop-p.kept.items (upto c.args.rank ps) w.cmp.result
           (next_piece w.p-item.result ps c.loop-p.p-index w.loop-p-test.true w.p-item.is) w.cmp.ensures.is w.in_default.not-Less c.loop-p.invariant
     ] in
-    c.in_ok-push.ensures.items ∙ ap₂ (λ (zs : List Piece) (v : Ext). zs ++ record { x = c.args.rank; at = v; line = None } ∷ []) done c.in_ok-at.ensures.value
+    c.in_ok-push.ensures.items ∙ ap₂ (λ (zs : List Piece) (v : Ext). zs ++ record { x = c.args.rank; at = v; line = None } ∷ []) done c.read-at.ensures

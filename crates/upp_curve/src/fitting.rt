@@ -1,0 +1,107 @@
+//! Steps of arithmetic that are known to fit.
+
+ghost use Rattle.std.specs.Prelude.{◌≡◌, List, ◌∷◌, pos};
+ghost use Rattle.rational.specs.Rational.{int, ◌+ℚ◌, ◌-ℚ◌, ◌*ℚ◌, ◌≤ℚ◌, neg_ℚ};
+ghost use Rattle.rational.specs.Ratio.{IsSmall, SumFits};
+ghost use Rattle.rational.specs.Extended.{◌+ₑ◌};
+ghost use Rattle.affine_segment.specs.Values.{line_value};
+ghost use Rattle.upp_curve.specs.Reading.{read, piece_value};
+ghost use Rattle.upp_curve.specs.Normal.{StartsAtZero};
+ghost use Rattle.upp_curve.specs.Readable.{LineFitsAt, SumFitsAt};
+ghost use Rattle.upp_curve.specs.Unrolled.{line_later, later};
+ghost use Rattle.upp_curve.specs.Fitting.{LaterFits, LineLaterFits, ReadFits};
+
+use crate::reading;
+use affine_segment::{Line, Piece};
+use fraction128::{Ext, Frac};
+use rational::Extended;
+
+/// a + b.
+pub(crate) fn sum(a: Frac, b: Frac) -> Frac
+    requires { SumFits a b }
+    ensures { result ≡ a +ℚ b }
+{
+    Frac::add(a, b).unwrap()
+}
+
+// a - b.
+fn difference(a: Frac, b: Frac) -> Frac
+    requires { SumFits a (neg_ℚ b) }
+    ensures { result ≡ a -ℚ b }
+{
+    Frac::sub(a, b).unwrap()
+}
+
+// a b.
+fn product(a: Frac, b: Frac) -> Frac
+    requires { IsSmall (a *ℚ b) }
+    ensures { result ≡ a *ℚ b }
+{
+    Frac::mul(a, b).unwrap()
+}
+
+// A value, risen.
+fn raised(v: Ext, by: Frac) -> Ext
+    requires { SumFitsAt v by }
+    ensures { result ≡ v +ₑ Extended.Fin by }
+{
+    match v {
+        Extended::Inf => Extended::Inf,
+        Extended::Fin(x) => Extended::Fin(sum(x, by)),
+    }
+}
+
+/// The value at t of a line that may be missing.
+pub(crate) fn line_value(line: Option<Line>, t: Frac) -> Ext
+    requires { LineFitsAt t line }
+    ensures { result ≡ line_value line t }
+{
+    reading::line_value(line, t).unwrap()
+}
+
+/// The value of a piece at t.
+pub(crate) fn piece_value(p: &Piece, t: Frac) -> Ext
+    requires { LineFitsAt t p.now.line }
+    ensures { result ≡ piece_value p.now t }
+{
+    reading::piece_value(p, t).unwrap()
+}
+
+/// The value of pieces at t.
+pub(crate) fn read(pieces: &[Piece], t: Frac) -> Ext
+    requires starts { StartsAtZero pieces.now }
+    requires time { int (pos 0) ≤ℚ t }
+    requires fits { ReadFits pieces.now t }
+    ensures { result ≡ read pieces.now t }
+{
+    reading::read(pieces, t).unwrap()
+}
+
+// The line, `by` later and `rise` higher.
+fn line_later(by: Frac, rise: Frac, line: Option<Line>) -> Option<Line>
+    requires { LineLaterFits by rise line }
+    ensures { result ≡ line_later by rise line }
+{
+    match line {
+        None => None,
+        Some(l) => {
+            let risen = sum(l.icept, rise);
+            let back = product(l.slope, by);
+            Some(Line {
+                icept: difference(risen, back),
+                slope: l.slope,
+            })
+        }
+    }
+}
+
+/// The piece, `by` later and `rise` higher.
+pub(crate) fn later(by: Frac, rise: Frac, p: &Piece) -> Piece
+    requires { LaterFits by rise p.now }
+    ensures { result ≡ later by rise p.now }
+{
+    let x = sum(p.x, by);
+    let at = raised(p.at, rise);
+    let line = line_later(by, rise, p.line);
+    Piece { x, at, line }
+}
