@@ -92,10 +92,10 @@ lines_fit m n ps h R =
 pub ends_fit : (m : Room) (n : ℕ) (end : Option ℚ) (ps : List Piece) → n ≤ 7 → IsRoom m → Each (PieceHasRoom m n) ps → Each (λ p. p.x ≤ℚ m.end) ps
     → ((e : ℚ) → end ≡ Some e → TimeHasRoom m e × (e ≤ℚ m.end)) → EachFits end ps
 ends_fit m n end [] h R E X L = tt
-ends_fit m n None (p ∷ []) h R E X L = line_fits m n p.x p.line R h E.0.line E.0.time X.0
+ends_fit m n None (p ∷ []) h R E X L = (line_fits m n p.x p.line R h E.0.line E.0.time X.0, tt, tt)
 ends_fit m n (Some e) (p ∷ []) h R E X L =
     let T = L e refl in
-    (line_fits m n p.x p.line R h E.0.line E.0.time X.0, line_fits m n e p.line R h E.0.line T.0 T.1)
+    (line_fits m n p.x p.line R h E.0.line E.0.time X.0, line_fits m n e p.line R h E.0.line T.0 T.1, tt)
 ends_fit m n None (p ∷ q ∷ ps) h R E X L =
     (line_fits m n p.x p.line R h E.0.line E.0.time X.0, line_fits m n q.x p.line R h E.0.line E.1.0.time X.1.0, ends_fit m n None (q ∷ ps) h R E.1 X.1 L)
 ends_fit m n (Some e) (p ∷ q ∷ ps) h R E X L =
@@ -104,7 +104,7 @@ ends_fit m n (Some e) (p ∷ q ∷ ps) h R E X L =
 -- a last line that is none is readable wherever it ends
 pub ends_nowhere : (e : ℚ) (ps : List Piece) → last_line ps ≡ None → EachFits None ps → EachFits (Some e) ps
 ends_nowhere e [] n F = tt
-ends_nowhere e (p ∷ []) n F = (F, subst (LineFitsAt e) (sym n) tt)
+ends_nowhere e (p ∷ []) n F = (F.0, subst (LineFitsAt e) (sym n) tt, tt)
 ends_nowhere e (p ∷ q ∷ ps) n F = (F.0, F.1, ends_nowhere e (q ∷ ps) n F.2)
 
 -- ---- two periods
