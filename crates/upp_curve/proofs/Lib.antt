@@ -52,3 +52,6 @@ pub mod PieceLoops
 pub mod CurveShapes
 pub mod LineRising
 pub mod LevelCurves
+pub mod ScaledCurves
+pub mod Operands
+pub mod Tallies

@@ -28,3 +28,4 @@ pub mod Seen
 pub mod ClosedForm
 pub mod OwnWindow
 pub mod Levels
+pub mod ClosedOperands

@@ -8,11 +8,14 @@ mod gathered;
 mod gauges;
 mod known;
 mod laws;
+mod limits;
 mod long;
 mod op_kind;
+mod operand_numbers;
 mod own_window;
 mod reading;
 mod same;
+mod scaled_numbers;
 mod seen;
 mod start_counts;
 mod starts;
@@ -24,5 +27,6 @@ pub use curve::{Curve, Tail, equal};
 pub use laws::{
     bucket_deviations, deviations_are_unique, normal_form_is_unique, worked_kinds, worked_operators,
 };
+pub use limits::{gauge, tally};
 pub use op_kind::{OpFault, OpKind, Window};
 pub use starts::{is_after, is_before};
