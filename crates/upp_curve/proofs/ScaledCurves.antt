@@ -61,9 +61,9 @@ scaled_spans q tail [] = spans_none (scaled_tail q tail) ∙ sym (ap (map (scale
 scaled_spans q tail (p ∷ ps) =
     spans_some (scaled_tail q tail) (scaled_piece q p) (map (scaled_piece q) ps)
     ∙ ap₂ (λ (s : Span) (r : List Span). s ∷ r)
-      (ap₂ (λ (l : Option Line) (e : Option ℚ). make p.x (scaled q p.at) l e) (read_scaled q tail p)
-        (ap (start_after (map (scaled_piece q) ps)) (end_scaled q tail) ∙ after_scaled q ps (end_of tail)))
-      (scaled_spans q tail ps)
+    (ap₂ (λ (l : Option Line) (e : Option ℚ). make p.x (scaled q p.at) l e) (read_scaled q tail p)
+    (ap (start_after (map (scaled_piece q) ps)) (end_scaled q tail) ∙ after_scaled q ps (end_of tail)))
+    (scaled_spans q tail ps)
     ∙ sym (ap (map (scaled_span q)) (spans_some tail p ps))
 
 line_same : (q : ℚ) (tail : Tail) (p : Piece) → line_read (scaled_tail q tail) p ≡ line_read tail p
@@ -78,8 +78,8 @@ same_spans q tail [] = spans_none (scaled_tail q tail) ∙ sym (spans_none tail)
 same_spans q tail (p ∷ ps) =
     spans_some (scaled_tail q tail) p ps
     ∙ ap₂ (λ (s : Span) (r : List Span). s ∷ r)
-      (ap₂ (λ (l : Option Line) (e : Option ℚ). make p.x p.at l e) (line_same q tail p) (ap (start_after ps) (end_scaled q tail)))
-      (same_spans q tail ps)
+    (ap₂ (λ (l : Option Line) (e : Option ℚ). make p.x p.at l e) (line_same q tail p) (ap (start_after ps) (end_scaled q tail)))
+    (same_spans q tail ps)
     ∙ sym (spans_some tail p ps)
 
 -- ---- its numbers
@@ -88,7 +88,7 @@ pub scaled_closed : (q end : ℚ) (ps : List Piece) (tail times : Tail) → time
 scaled_closed q end ps tail times e =
     ap (λ t. joined (tail_numbers t) (closed_spans t end (map (scaled_span q) (spans t ps)))) e
     ∙ ap (λ ss. joined (tail_numbers (scaled_tail q tail)) (closed_spans (scaled_tail q tail) end ss))
-      (ap (map (scaled_span q)) (same_spans q tail ps) ∙ sym (scaled_spans q tail ps))
+    (ap (map (scaled_span q)) (same_spans q tail ps) ∙ sym (scaled_spans q tail ps))
 
 -- a piece that starts at `end` or later has none below it
 pub late_span : (tail : Tail) (end : ℚ) (s : Span) → HasPeriod tail → end ≤ℚ s.piece.x → closed_span tail end s ≡ no_numbers
@@ -118,7 +118,7 @@ pub scaled_done : (q : ℚ) (tail : Tail) (end : ℚ) (m whole : Numbers) (ps : 
     → joined m (closed_spans tail end (map (scaled_span q) (spans tail (drop i ps)))) ≡ whole → m ≡ whole
 scaled_done q tail end m whole ps i l h =
     sym (ap (λ xs. joined m (closed_spans tail end (map (scaled_span q) xs))) (ap (spans tail) (drop_of_length-le ps l) ∙ spans_none tail)
-      ∙ ap (joined m) (closed_none tail end) ∙ joined_nothing m) ∙ h
+    ∙ ap (joined m) (closed_none tail end) ∙ joined_nothing m) ∙ h
 
 -- ---- the steps to it
 value_scales : (z : Sizes) (end q : ℚ) (v : Ext) → AreSizes z end → IsNarrow z (2 ^ 122) → ValueStands z (scaled q v) → ValueScales q v

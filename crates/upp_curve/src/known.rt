@@ -120,11 +120,7 @@ fn ends_above(f: &Curve, g: &Curve) -> bool
 fn is_past(f: &Curve, g: &Curve) -> bool
     ensures { IsTrue result ↔ (¬ (IsFinite (value_at f.now)) ⊎ (rate g.now <ₑ rate f.now)) }
 {
-    if f.is_finite() {
-        is_faster(f, g)
-    } else {
-        true
-    }
+    if f.is_finite() { is_faster(f, g) } else { true }
 }
 
 /// Whether f is infinite somewhere, or the faster one, or ends above g.

@@ -17,9 +17,9 @@ mod reading;
 mod same;
 mod scaled_numbers;
 mod seen;
+mod shape;
 mod start_counts;
 mod starts;
-mod shape;
 #[cfg(test)]
 mod tests;
 
