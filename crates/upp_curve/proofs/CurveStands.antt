@@ -15,7 +15,7 @@ use Rattle.upp_curve.specs.declared.curve.Tail.{Tail}
 use Rattle.upp_curve.specs.declared.curve.Tail.TheVariants.{Periodic, Affine, Infinite}
 use Rattle.upp_curve.specs.Curve.{SpecCurve}
 use Rattle.upp_curve.specs.Steady.{rank_of, steady, steady_in, later_unless}
-use Rattle.upp_curve.specs.Periods.{own_period}
+use Rattle.upp_curve.specs.Periods.{HasPeriod, own_period}
 use Rattle.upp_curve.specs.Unrolled.{copies_below, whole_up}
 use Rattle.upp_curve.specs.Normal.{Each, IsRaw, TailFits, FitsPeriod, FitsRank}
 use Rattle.upp_curve.specs.Spans.{Span, spans, copies_of, copy_of, once_below, span_below, spans_below}
@@ -88,20 +88,25 @@ pub copies_first : (P : Span → Type 0) (end d c : ℚ) (s : Span) → int (pos
 copies_first P end d c s some l h =
     subst P (copy_zero d c s) (copy_among P d c s (copies_below d end s.piece) 0 (first_below end d s.piece some l) h)
 
-itself_out : (P : Span → Type 0) (end : ℚ) (ps : List Piece) (tail : Tail) (s : Span) → TailFits ps tail → s.piece.x <ℚ end → AllByRecursion P (span_below tail end s) → P s
-itself_out P end ps (Affine rank) s raw l h = once_out P end s l h
-itself_out P end ps (Infinite rank) s raw l h = once_out P end s l h
-itself_out P end ps (Periodic rank period rise) s raw l h = elim (le_or_lt rank s.piece.x) [
-  | inl k ↦ copies_first P end period rise s raw.some l (subst (λ b. AllByRecursion P (cond b (once_below end s) (copies_of period rise s (copies_below period end s.piece)))) (lt_q_not s.piece.x rank k) h)
+itself_out : (P : Span → Type 0) (end : ℚ) (tail : Tail) (s : Span) → HasPeriod tail → s.piece.x <ℚ end → AllByRecursion P (span_below tail end s) → P s
+itself_out P end (Affine rank) s some l h = once_out P end s l h
+itself_out P end (Infinite rank) s some l h = once_out P end s l h
+itself_out P end (Periodic rank period rise) s some l h = elim (le_or_lt rank s.piece.x) [
+  | inl k ↦ copies_first P end period rise s some l (subst (λ b. AllByRecursion P (cond b (once_below end s) (copies_of period rise s (copies_below period end s.piece)))) (lt_q_not s.piece.x rank k) h)
   | inr k ↦ once_out P end s l (subst (λ b. AllByRecursion P (cond b (once_below end s) (copies_of period rise s (copies_below period end s.piece)))) (lt_q_out s.piece.x rank k) h)
 ]
 
 -- each piece that starts below the window's end stands
-pub each_stands : (P : Span → Type 0) (end : ℚ) (c : SpecCurve) → IsRaw c → AllByRecursion P (spans_below c end)
+pub each_stands : (P : Span → Type 0) (end : ℚ) (c : SpecCurve) → HasPeriod c.tail → AllByRecursion P (spans_below c end)
     → AllByRecursion (λ s. s.piece.x <ℚ end → P s) (spans c.tail c.pieces)
 unfolding spans_below
-each_stands P end c raw h =
-    every_weaken (λ s k l. itself_out P end c.pieces c.tail s raw.tail l k) (spans c.tail c.pieces) (every_flat_out P (span_below c.tail end) (spans c.tail c.pieces) h)
+each_stands P end c some h =
+    every_weaken (λ s k l. itself_out P end c.tail s some l k) (spans c.tail c.pieces) (every_flat_out P (span_below c.tail end) (spans c.tail c.pieces) h)
+
+pub has_period : (ps : List Piece) (tail : Tail) → TailFits ps tail → HasPeriod tail
+has_period ps (Periodic rank period rise) h = h.some
+has_period ps (Affine rank) h = tt
+has_period ps (Infinite rank) h = tt
 
 below_all : (P : Span → Type 0) (end : ℚ) (tail : Tail) (ps : List Piece) → Each (λ p. p.x <ℚ end) ps → AllByRecursion (λ s. s.piece.x <ℚ end → P s) (spans tail ps)
     → AllByRecursion P (spans tail ps)
@@ -122,7 +127,7 @@ pub curve_stands : (z : Sizes) (end : ℚ) (c : SpecCurve) → IsRaw c → Each 
 curve_stands z end c raw starts h = record {
   rank = rank_stands z end c h;
   tail = tail_stands z end c.pieces c.tail h;
-  spans = below_all (SpanStands z) end c.tail c.pieces starts (each_stands (SpanStands z) end c raw (unrolled_stand z end c h));
+  spans = below_all (SpanStands z) end c.tail c.pieces starts (each_stands (SpanStands z) end c (has_period c.pieces c.tail raw.tail) (unrolled_stand z end c h));
 }
 
 -- ---- a curve by itself

@@ -45,6 +45,12 @@ time_part_of V S dv dt ds s a c =
     let l = whole_part_of V S dv dt ds s c in
     omega (arith, h, k, l)
 
+pub slope_part_of : (V S dv dt ds : ℕ) → 0 < V → 0 < dv → 0 < dt → 0 < ds → S * ds ≤ V * S * dv * dt * ds * ds
+slope_part_of V S dv dt ds v a b c =
+    let h : S * ds ≤ S * ds * V = more (S * ds) V v in
+    let r = grown (S * ds) (V * S * ds * dv * dt) ds (grown (S * ds) (V * S * ds * dv) dt (grown (S * ds) (V * S * ds) dv (omega (arith, h)) a) b) c in
+    omega (arith, r)
+
 -- ---- what makes a gauge too large
 pub steep_gauge : (z : Sizes) (end : ℚ) → AreSizes z end → 2 ^ 128 - 1 ≤ z.steepness → 2 ^ 128 ≤ gauge_of z
 unfolding gauge_of

@@ -177,7 +177,7 @@ span_known z end (Affine rank) s a n some t h all = λ k. span_fits z end s a n 
 span_known z end (Infinite rank) s a n some t h all = λ k. span_fits z end s a n h (le_of_lt k) (once_out (SpanStands z) end s k all)
 
 -- ---- a curve
-nonneg_spans : (tail : Tail) (ps : List Piece) → AllByRecursion (λ p. int (pos 0) ≤ℚ p.x) ps → AllByRecursion (λ s. int (pos 0) ≤ℚ s.piece.x) (spans tail ps)
+pub nonneg_spans : (tail : Tail) (ps : List Piece) → AllByRecursion (λ p. int (pos 0) ≤ℚ p.x) ps → AllByRecursion (λ s. int (pos 0) ≤ℚ s.piece.x) (spans tail ps)
 unfolding spans
 nonneg_spans tail [] h = tt
 nonneg_spans tail (p ∷ ps) h = (h.0, nonneg_spans tail ps h.1)

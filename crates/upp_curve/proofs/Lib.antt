@@ -76,3 +76,6 @@ pub mod KindsAre
 pub mod NormaliseRoom
 pub mod NormaliseRoomy
 pub mod NormaliseWhole
+pub mod ScaledCurves
+pub mod Operands
+pub mod Tallies

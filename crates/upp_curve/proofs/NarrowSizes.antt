@@ -13,23 +13,25 @@ use Rattle.rational.proofs.Grid.{whole_weaken, whole_add, whole_sub, whole_mul, 
 use Rattle.rational.proofs.Sizes.{largest_part, small_on_grid, sum_on_grid, difference_on_grid}
 use Rattle.upp_curve.specs.Limits.{Sizes, gauge_of}
 use Rattle.upp_curve.specs.Sized.{IsValue, IsSlope, AreSizes}
-use Rattle.upp_curve.proofs.GaugeProduct.{whole_part_of, time_part_of}
+use Rattle.upp_curve.proofs.GaugeProduct.{whole_part_of, time_part_of, slope_part_of}
 
 -- the grid on which every sum of values, and of slopes times starts, stands
 abbrev pub grid_of : Sizes → ℕ
 grid_of z = z.dv * z.dt * z.ds
 
--- the largest value times the grid is at most b
+-- the largest value times the grid is at most b, and the steepness times the grid of slopes
 pub record IsNarrow (z : Sizes) (b : ℕ) : Type 0 where
   pub grid : z.largest * grid_of z ≤ b
   pub times : z.largest * z.dt ≤ b
+  pub slopes : z.steepness * z.ds ≤ b
 
 narrow_from : (z : Sizes) (end : ℚ) (b : ℕ) → AreSizes z end → gauge_of z < 64 * b → IsNarrow z b
 unfolding gauge_of
 narrow_from z end b a h =
     let l = whole_part_of z.largest z.steepness z.dv z.dt z.ds a.steepness a.ds in
     let t = time_part_of z.largest z.steepness z.dv z.dt z.ds a.steepness a.dv a.ds in
-    record { grid = omega (arith, l, h); times = omega (arith, t, h) }
+    let s = slope_part_of z.largest z.steepness z.dv z.dt z.ds a.largest a.dv a.dt a.ds in
+    record { grid = omega (arith, l, h); times = omega (arith, t, h); slopes = omega (arith, s, h) }
 
 -- below 2 ^ 128, and below 2 ^ 120
 pub narrow_gauge : (z : Sizes) (end : ℚ) → AreSizes z end → gauge_of z < 2 ^ 128 → IsNarrow z (2 ^ 122)
@@ -141,3 +143,13 @@ line_parts z end k s x a h w some l v =
       run_whole = wy;
       run_within = subst (λ m. Within m y) (sym (one_time V)) iy;
     }
+
+-- a slope
+pub small_slope : (z : Sizes) (end s : ℚ) → AreSizes z end → IsNarrow z (2 ^ 122) → IsSlope z s → IsSmall s
+small_slope z end s a n h =
+    let S = int (pos z.steepness) in
+    let l = n.slopes in
+    let one : 1 * z.ds ≤ z.steepness * z.ds = mul-le-mul_right z.ds a.steepness in
+    small_on_grid z.ds S s a.ds (omega (arith, l, one))
+    (subst (λ x. x ≤ℚ int (pos largest_part)) (sym (mul_whole (pos z.steepness) (pos z.ds) 0)) (nat_le (z.steepness * z.ds) largest_part (omega (arith, l))))
+    h.whole (half_bound S s (nat_nonneg z.steepness) h.within)

@@ -174,11 +174,6 @@ unknown_large end c starts some h =
     let n = curve_numbers end c in
     large (gauge_of (sizes_of end n)) (2 ^ 128) (λ l. h (curve_known (sizes_of end n) end c (are_sizes end n) l starts some (sizes_stand end n)))
 
-pub has_period : (ps : List Piece) (tail : Tail) → TailFits ps tail → HasPeriod tail
-has_period ps (Periodic rank period rise) h = h.some
-has_period ps (Affine rank) h = tt
-has_period ps (Infinite rank) h = tt
-
 -- ---- by the piece at the last place
 pub last_place : (ps : List Piece) (tail : Tail) (last : Piece) → IsRaw record { pieces = ps; tail = tail } → last ≡ get_or ps (length ps - 1) last → LastBy last tail
 last_place [] tail last raw e = absurd raw.starts

@@ -34,7 +34,7 @@ pub spans_some : (tail : Tail) (p : Piece) (ps : List Piece) → spans tail (p �
 unfolding spans
 spans_some tail p ps = refl
 
-spans_none : (tail : Tail) → spans tail [] ≡ []
+pub spans_none : (tail : Tail) → spans tail [] ≡ []
 unfolding spans
 spans_none tail = refl
 
@@ -63,11 +63,11 @@ span_at Q tail ps i s rest h e =
     let k : AllByRecursion Q (s ∷ rest) = subst (AllByRecursion Q) e (every_drop Q tail ps i h) in k.0
 
 -- ---- what is gathered, and the rest
-closed_some : (tail : Tail) (end : ℚ) (s : Span) (ss : List Span) → closed_spans tail end (s ∷ ss) ≡ joined (closed_span tail end s) (closed_spans tail end ss)
+pub closed_some : (tail : Tail) (end : ℚ) (s : Span) (ss : List Span) → closed_spans tail end (s ∷ ss) ≡ joined (closed_span tail end s) (closed_spans tail end ss)
 unfolding closed_spans
 closed_some tail end s ss = refl
 
-closed_none : (tail : Tail) (end : ℚ) → closed_spans tail end [] ≡ no_numbers
+pub closed_none : (tail : Tail) (end : ℚ) → closed_spans tail end [] ≡ no_numbers
 unfolding closed_spans
 closed_none tail end = refl
 

@@ -34,3 +34,4 @@ pub mod Normalising
 pub mod Levels
 pub mod Fitting
 pub mod Room
+pub mod ClosedOperands

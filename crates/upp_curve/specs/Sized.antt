@@ -1,6 +1,6 @@
 -- Where the numbers of a call stand and how large they are, by its five sizes: times on the grid of dt; values on the grid of dv within the
 -- largest; slopes on the grid of ds, twice their size within the steepness. Own choice.
-use Rattle.std.specs.Prelude.{ℕ, ◌<◌, ◌≤◌, pos, Option, Some, None}
+use Rattle.std.specs.Prelude.{ℕ, ◌<◌, ◌≤◌, ◌^◌, pos, Option, Some, None}
 use Rattle.std.specs.List.{AllByRecursion}
 use Rattle.rational.specs.Rational.{ℚ, ◌*ℚ◌, ◌≤ℚ◌, int}
 use Rattle.rational.specs.Extended.{Ext}
@@ -13,7 +13,7 @@ use Rattle.upp_curve.specs.Curve.{SpecCurve}
 use Rattle.affine_segment.specs.Values.{line_value}
 use Rattle.upp_curve.specs.Steady.{rank_of}
 use Rattle.upp_curve.specs.Spans.{Span, spans}
-use Rattle.upp_curve.specs.Limits.{Sizes, Numbers, limit_before}
+use Rattle.upp_curve.specs.Limits.{Sizes, Numbers, limit_before, gauge_of}
 
 -- a number that counts as a value
 pub record IsValue (z : Sizes) (v : ℚ) : Type 0 where
@@ -71,3 +71,9 @@ pub record CurveStands (z : Sizes) (c : SpecCurve) : Type 0 where
   pub rank : Whole z.dt (rank_of c.tail)
   pub tail : TailStands z c.tail
   pub spans : AllByRecursion (SpanStands z) (spans c.tail c.pieces)
+
+-- sizes of a gauge below 2 ^ 128 hold these numbers of a window that ends at `end`
+pub record HeldBy (z : Sizes) (end : ℚ) (n : Numbers) : Type 0 where
+  pub sizes : AreSizes z end
+  pub gauge : gauge_of z < 2 ^ 128
+  pub stands : Stands z n

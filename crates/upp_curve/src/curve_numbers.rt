@@ -86,7 +86,7 @@ fn with_once(g: Gathered, piece: &Piece, next: &Option<Frac>, end: Frac) -> Opti
 }
 
 /// What of a piece starts before `end` more: itself, or from the rank of a periodic tail on its copies.
-fn with_below(
+pub(crate) fn with_below(
     g: Gathered,
     piece: &Piece,
     next: &Option<Frac>,
@@ -115,7 +115,7 @@ fn with_below(
 }
 
 /// A piece without a line that is read at no time.
-fn piece_read(piece: &Piece, tail: &Tail) -> Piece
+pub(crate) fn piece_read(piece: &Piece, tail: &Tail) -> Piece
     ensures { result ≡ piece_read tail.now piece.now }
 {
     match tail {
@@ -133,7 +133,7 @@ fn piece_read(piece: &Piece, tail: &Tail) -> Piece
 }
 
 /// Where the piece after number i starts, or `after` at the last one.
-fn next_start(pieces: &[Piece], i: usize, after: &Option<Frac>) -> Option<Frac>
+pub(crate) fn next_start(pieces: &[Piece], i: usize, after: &Option<Frac>) -> Option<Frac>
     requires { i < length pieces.now }
     ensures { result ≡ start_after (drop (i + 1) pieces.now) after.now }
 {
@@ -172,7 +172,7 @@ pub(crate) fn with_pieces(
 }
 
 /// The rank, the period and the rise of a tail more.
-fn with_tail(g: Gathered, tail: &Tail) -> Gathered
+pub(crate) fn with_tail(g: Gathered, tail: &Tail) -> Gathered
     ensures { (n : Numbers) → Gathers g n → Gathers result (joined n (tail_numbers tail.now)) }
 {
     match tail {

@@ -12,14 +12,17 @@ mod kind_laws;
 mod known;
 mod laws;
 mod least_period;
+mod limits;
 mod long;
 mod lowest_rank;
 mod merging;
 mod normalise;
 mod op_kind;
+mod operand_numbers;
 mod own_window;
 mod reading;
 mod same;
+mod scaled_numbers;
 mod seen;
 mod shape;
 mod start_counts;
@@ -35,5 +38,6 @@ pub use laws::{
     worked_operators, worked_shifts, worked_stairs,
 };
 pub use normalise::{RawCurve, normalise_on};
+pub use limits::{gauge, tally};
 pub use op_kind::{OpFault, OpKind, Window};
 pub use starts::{is_after, is_before};

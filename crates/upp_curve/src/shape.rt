@@ -139,7 +139,7 @@ pub(crate) fn rise_to(pieces: &[Piece], end: Option<End>) -> bool
 }
 
 // A sum whose steps fit.
-fn readable_sum(a: Frac, b: Frac) -> Frac
+pub(crate) fn readable_sum(a: Frac, b: Frac) -> Frac
     requires { SumFits a b }
     ensures { result ≡ a +ℚ b }
 {
