@@ -37,7 +37,7 @@ pub use laws::{
     bucket_deviations, deviations_are_unique, normal_form_is_unique, worked_kinds,
     worked_operators, worked_shifts, worked_stairs,
 };
-pub use normalise::{RawCurve, normalise_on};
 pub use limits::{gauge, tally};
+pub use normalise::{RawCurve, normalise_on};
 pub use op_kind::{OpFault, OpKind, Window};
 pub use starts::{is_after, is_before};
