@@ -9,6 +9,8 @@ use Rattle.rational.specs.Euclid.{divides_other}
 use Rattle.rational.specs.Rational.{ℚ, den, ◌+ℚ◌, ◌-ℚ◌, ◌*ℚ◌, ◌/ℚ◌, neg_ℚ, ◌≤ℚ◌, int, frac}
 use Rattle.rational.specs.Fractions.{frac_self, frac-same}
 use Rattle.rational.specs.Fractions.{frac-same_out, abs-mul}
+use Rattle.rational.specs.Floor.{floor}
+use Rattle.rational.proofs.Floor.{floor_le, floor_near}
 use Rattle.rational.specs.Rational.{both}
 use Rattle.rational.proofs.Parts.{neg-abs}
 use Rattle.rational.specs.Grid.{Whole, Within}
@@ -215,3 +217,14 @@ num_within d v q n some w i h =
     let l = num_bound d q some w in
     let s = nat_le_out (nat_abs w.steps) n (le_trans (steps_bound d v q w i) h) in
     omega (arith, ints)
+
+-- rounding down goes at most 1 further
+pub within_floor : (v q : ℚ) → Within v q → Within (v +ℚ int (pos 1)) (int (floor q))
+within_floor v q w =
+    let f = int (floor q) in
+    let under = floor_le q in
+    let near = floor_near q in
+    record {
+      low = with3 v q f (λ c. omega (arith, c.le, c.lt, c.same));
+      high = with3 v q f (λ c. omega (arith, c.le, c.lt, c.same));
+    }

@@ -3,6 +3,7 @@ use Rattle.std.specs.Prelude.{◌≢◌, ℕ, ◌*◌, ◌^◌, ◌-◌, ◌<◌
 use Prim.Native.Nat.{◌∣◌}
 use Rattle.rational.specs.Rational.{ℚ, den, int, neg_ℚ, ◌+ℚ◌, ◌-ℚ◌, ◌*ℚ◌, ◌/ℚ◌, ◌≤ℚ◌}
 use Rattle.rational.specs.Ratio.{IsSmall, SumFits}
+use Rattle.rational.specs.Floor.{floor}
 use Rattle.rational.specs.Grid.{Whole, Within}
 
 -- a number stands on the grid of d exactly where its denominator divides d; sums, products and multiples stay on grids
@@ -16,12 +17,13 @@ pub record GridsClose : Type 0 where
   pub times : (d : ℕ) (z : ℤ) (a : ℚ) → Whole d a → Whole d (int z *ℚ a)
   pub div : (d : ℕ) (a b : ℚ) → (w : Whole d b) → Whole d a → b ≢ int (pos 0) → Whole (nat_abs w.steps) (a /ℚ b)
 
--- sums, products and negations stay within bounds
+-- sums, products and negations stay within bounds, and a floor within a bound that is larger by 1
 pub record BoundsClose : Type 0 where
   pub add : (v w a b : ℚ) → Within v a → Within w b → Within (v +ℚ w) (a +ℚ b)
   pub sub : (v w a b : ℚ) → Within v a → Within w b → Within (v +ℚ w) (a -ℚ b)
   pub neg : (v a : ℚ) → Within v a → Within v (neg_ℚ a)
   pub mul : (v w a b : ℚ) → Within v a → Within w b → Within (v *ℚ w) (a *ℚ b)
+  pub floor_of : (v a : ℚ) → Within v a → Within (v +ℚ int (pos 1)) (int (floor a))
 
 -- on the grid of d the denominator is at most d; within v besides, the numerator is at most v d
 pub record PartsOnGrid (d : ℕ) (v q : ℚ) : Type 0 where

@@ -37,11 +37,11 @@ unfolding read
 read_upto X p ps t h l = ap (λ zs. read zs t) (upto_some X p ps l) ∙ ap (λ z. piece_value z t) (piece_in_upto X p ps t h)
 
 -- ---- the pieces before the rank and from it
-from_past : (x : ℚ) (p : Piece) (ps : List Piece) → x ≤ℚ p.x → from x (p ∷ ps) ≡ p ∷ ps
+pub from_past : (x : ℚ) (p : Piece) (ps : List Piece) → x ≤ℚ p.x → from x (p ∷ ps) ≡ p ∷ ps
 unfolding from
 from_past x p ps h = ap (λ b. cond b (from x ps) (p ∷ ps)) (lt_q_not p.x x h)
 
-from_before : (x : ℚ) (p : Piece) (ps : List Piece) → p.x <ℚ x → from x (p ∷ ps) ≡ from x ps
+pub from_before : (x : ℚ) (p : Piece) (ps : List Piece) → p.x <ℚ x → from x (p ∷ ps) ≡ from x ps
 unfolding from
 from_before x p ps h = ap (λ b. cond b (from x ps) (p ∷ ps)) (lt_q_out p.x x h)
 
@@ -90,7 +90,7 @@ cut_at_start y x (p ∷ ps) r (inr h) =
     past y x (p ∷ ps) r (inl e) = subst (λ z. y <ℚ z) e r.0
     past y x (p ∷ ps) r (inr h) = let l = past p.x x ps r.1 h in let k = r.0 in with3 y x p.x (λ c. omega (arith, c.le, c.lt, c.same))
 
-each_le : (ps : List Piece) (s t : ℚ) → s ≤ℚ t → Each (λ z. z.x <ℚ s) ps → Each (λ z. z.x ≤ℚ t) ps
+pub each_le : (ps : List Piece) (s t : ℚ) → s ≤ℚ t → Each (λ z. z.x <ℚ s) ps → Each (λ z. z.x ≤ℚ t) ps
 each_le [] s t l h = tt
 each_le (p ∷ ps) s t l h = (le_trans (le_of_lt h.0) l, each_le ps s t l h.1)
 
@@ -102,7 +102,7 @@ repeated_same f g r d c t some h same =
     let n = int (pos (periods r d t)) *ℚ d in
     ap (λ v. v +ₑ Fin (int (pos (periods r d t)) *ℚ c)) (same (t -ℚ n) (with3 r t n (λ c. omega (arith, c.le, c.lt, c.same))))
 
-read_from_cut : (bs : List Piece) (p : Piece) (rest : List Piece) (t : ℚ) → Each (λ z. z.x ≤ℚ t) bs → p.x ≤ℚ t → read (bs ++ p ∷ rest) t ≡ read (p ∷ rest) t
+pub read_from_cut : (bs : List Piece) (p : Piece) (rest : List Piece) (t : ℚ) → Each (λ z. z.x ≤ℚ t) bs → p.x ≤ℚ t → read (bs ++ p ∷ rest) t ≡ read (p ∷ rest) t
 read_from_cut [] p rest t h k = refl
 read_from_cut (b ∷ bs) p rest t h k = read_past_list b bs p rest t h.1 k
 
@@ -112,17 +112,17 @@ read_upto_list : (bs : List Piece) (p : Piece) (rest more : List Piece) (X t : �
 read_upto_list [] p rest more X t at0 h l = read_upto X p more t l (subst (λ z. z <ℚ X) (sym at0.0) (le_lt_trans h l))
 read_upto_list (b ∷ bs) p rest more X t at0 h l = read_upto X b (bs ++ p ∷ more) t l (subst (λ z. z <ℚ X) (sym at0.0) (le_lt_trans h l))
 
-early_same : (bs : List Piece) (p : Piece) (rest more : List Piece) (t : ℚ) → StartsAtZero (bs ++ p ∷ rest) → int (pos 0) ≤ℚ t → t <ℚ p.x
+pub early_same : (bs : List Piece) (p : Piece) (rest more : List Piece) (t : ℚ) → StartsAtZero (bs ++ p ∷ rest) → int (pos 0) ≤ℚ t → t <ℚ p.x
     → read (bs ++ p ∷ more) t ≡ read (bs ++ p ∷ rest) t
 early_same [] p rest more t at0 h l = let e = at0.0 in let x = p.x in absurd (with2 t x (λ c. omega (arith, c.le, c.lt, c.same)))
 early_same (b ∷ bs) p rest more t at0 h l = read_before b bs p more t l ∙ sym (read_before b bs p rest t l)
 
-each_rest : (bs : List Piece) (p : Piece) (rest : List Piece) (x : ℚ) → Each (λ z. z.x <ℚ x) (bs ++ p ∷ rest) → Each (λ z. z.x <ℚ x) rest
+pub each_rest : (bs : List Piece) (p : Piece) (rest : List Piece) (x : ℚ) → Each (λ z. z.x <ℚ x) (bs ++ p ∷ rest) → Each (λ z. z.x <ℚ x) rest
 each_rest [] p rest x h = h.1
 each_rest (b ∷ bs) p rest x h = each_rest bs p rest x h.1
 
 -- pieces before the rank, then k + 1 copies of those from the rank on
-parts_read : (bs : List Piece) (p : Piece) (rest : List Piece) (k : ℕ) (d c X t : ℚ) → StartsAtZero (bs ++ p ∷ rest) → int (pos 0) <ℚ d
+pub parts_read : (bs : List Piece) (p : Piece) (rest : List Piece) (k : ℕ) (d c X t : ℚ) → StartsAtZero (bs ++ p ∷ rest) → int (pos 0) <ℚ d
     → Each (λ z. z.x <ℚ p.x) bs → Each (λ z. z.x <ℚ p.x +ℚ d) (bs ++ p ∷ rest) → int (pos 0) ≤ℚ t → t <ℚ X → t <ℚ p.x +ℚ int (pos (suc k)) *ℚ d
     → read (upto X (bs ++ copies (suc k) d c (p ∷ rest))) t ≡ repeated (read (bs ++ p ∷ rest)) p.x d c t
 parts_read bs p rest k d c X t at0 some early starts start below high =
@@ -157,7 +157,7 @@ periodic_unrolled ps r d c X t at0 has some starts start below =
     low [] h = absurd h
     low (p ∷ ps) h = (subst (λ z. int (pos 0) -ℚ int (pos 1) <ℚ z) (sym h.0) (with1 (int (pos 0)) (λ c. omega (arith, c.le, c.lt, c.same))), h.1)
 
-plain_upto : (ps : List Piece) (X t : ℚ) → StartsAtZero ps → int (pos 0) ≤ℚ t → t <ℚ X → read (upto X ps) t ≡ read ps t
+pub plain_upto : (ps : List Piece) (X t : ℚ) → StartsAtZero ps → int (pos 0) ≤ℚ t → t <ℚ X → read (upto X ps) t ≡ read ps t
 plain_upto [] X t at0 h l = absurd at0
 plain_upto (p ∷ ps) X t at0 h l = read_upto X p ps t l (subst (λ z. z <ℚ X) (sym at0.0) (le_lt_trans h l))
 

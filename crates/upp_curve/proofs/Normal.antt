@@ -35,12 +35,12 @@ pub upto_all : (X : ℚ) (ps : List Piece) → Each (λ p. p.x <ℚ X) ps → up
 upto_all X [] h = upto_end X
 upto_all X (p ∷ ps) h = upto_some X p ps h.0 ∙ ap (λ zs. p ∷ zs) (upto_all X ps h.1)
 
-past_start : (y x : ℚ) (ps : List Piece) → RisesFrom y ps → HasStart x ps → y <ℚ x
+pub past_start : (y x : ℚ) (ps : List Piece) → RisesFrom y ps → HasStart x ps → y <ℚ x
 past_start y x [] r h = absurd h
 past_start y x (p ∷ ps) r (inl e) = subst (λ z. y <ℚ z) e r.0
 past_start y x (p ∷ ps) r (inr h) = let l = past_start p.x x ps r.1 h in let k = r.0 in with3 y x p.x (λ c. omega (arith, c.le, c.lt, c.same))
 
-start_in_upto : (y x X : ℚ) (ps : List Piece) → RisesFrom y ps → HasStart x ps → x <ℚ X → HasStart x (upto X ps)
+pub start_in_upto : (y x X : ℚ) (ps : List Piece) → RisesFrom y ps → HasStart x ps → x <ℚ X → HasStart x (upto X ps)
 start_in_upto y x X [] r h l = absurd h
 start_in_upto y x X (p ∷ ps) r (inl e) l = subst (HasStart x) (sym (upto_some X p ps (subst (λ z. z <ℚ X) (sym e) l))) (inl e)
 start_in_upto y x X (p ∷ ps) r (inr h) l =
@@ -64,7 +64,7 @@ each_at P x [] h k = absurd k
 each_at P x (p ∷ ps) h (inl e) = subst P e h.0
 each_at P x (p ∷ ps) h (inr k) = each_at P x ps h.1 k
 
-rises : (ps : List Piece) → StartsAtZero ps → RisesFrom (int (pos 0) -ℚ int (pos 1)) ps
+pub rises : (ps : List Piece) → StartsAtZero ps → RisesFrom (int (pos 0) -ℚ int (pos 1)) ps
 rises [] h = absurd h
 rises (p ∷ ps) h = (subst (λ z. int (pos 0) -ℚ int (pos 1) <ℚ z) (sym h.0) (with1 (int (pos 0)) (λ c. omega (arith, c.le, c.lt, c.same))), h.1)
 
@@ -84,7 +84,7 @@ rank_not_before ps qs r d c s p q X f zero same inside start d_pos p_pos D P lea
       absurd (each_at (λ x. x <ℚ s → ¬ (Repeats f x p q)) r qs least there l (rule_extends f r d c s p q D P d_pos (le_of_lt p_pos)))
 ]
 
-transfer : (f g : ℚ → Ext) (s p q : ℚ) → int (pos 0) ≤ℚ s → int (pos 0) ≤ℚ p → ((t : ℚ) → int (pos 0) ≤ℚ t → f t ≡ g t) → Repeats g s p q → Repeats f s p q
+pub transfer : (f g : ℚ → Ext) (s p q : ℚ) → int (pos 0) ≤ℚ s → int (pos 0) ≤ℚ p → ((t : ℚ) → int (pos 0) ≤ℚ t → f t ≡ g t) → Repeats g s p q → Repeats f s p q
 transfer f g s p q s_some p_some same P = record {
   rule = λ t h.
       let start = le_trans s_some h in

@@ -43,12 +43,12 @@ infinite_value ps r t starts none = elim (le_or_lt t r) [
   | inr l ↦ rw (le_q_not t r l) (sym (read_past ps r t starts l ∙ ap (λ z. line_value z t) none))
 ]
 
-infinite_past : (ps : List Piece) (r t : ℚ) → r <ℚ t → value_at (infinite ps r) t ≡ Inf
+pub infinite_past : (ps : List Piece) (r t : ℚ) → r <ℚ t → value_at (infinite ps r) t ≡ Inf
 unfolding value_at
 infinite_past ps r t l = cut_past (read ps) r t l
 
 -- ---- a tail that is one line is not periodic
-rise_is : (l : Line) (f : ℚ → Ext) (t p q : ℚ) → f t ≡ line_value (Some l) t → f (t +ℚ p) ≡ line_value (Some l) (t +ℚ p) → f (t +ℚ p) ≡ f t +ₑ Fin q → q ≡ l.slope *ℚ p
+pub rise_is : (l : Line) (f : ℚ → Ext) (t p q : ℚ) → f t ≡ line_value (Some l) t → f (t +ℚ p) ≡ line_value (Some l) (t +ℚ p) → f (t +ℚ p) ≡ f t +ₑ Fin q → q ≡ l.slope *ℚ p
 rise_is l f t p q a b e =
     let v = l.icept +ℚ l.slope *ℚ t in
     let k : Fin (v +ℚ q) ≡ Fin (v +ℚ l.slope *ℚ p) = ap (λ z. z +ₑ Fin q) (sym a) ∙ sym e ∙ b ∙ line_rule (Some l) t p in
@@ -105,7 +105,7 @@ infinite_not_periodic ps qs r s p q A B same =
     unlike_periodic None (value_at (periodic qs s p q)) r s p q B.raw.tail.some (periodic_rule qs s p q B.raw.tail.some)
     (λ t l h. sym (same t (le_trans B.raw.tail.nonneg h)) ∙ infinite_past ps r t l) B.tail.not_one_line
 
-none_of : (l : Option Line) (t : ℚ) → line_value l t ≡ Inf → l ≡ None
+pub none_of : (l : Option Line) (t : ℚ) → line_value l t ≡ Inf → l ≡ None
 none_of None t e = refl
 none_of (Some l) t e = absurd (no_inf e)
 

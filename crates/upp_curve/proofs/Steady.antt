@@ -45,7 +45,7 @@ each_later_than : (ps : List Piece) (s t : ℚ) → s ≤ℚ t → Each (λ q. q
 each_later_than [] s t l h = tt
 each_later_than (p ∷ ps) s t l h = (le_trans h.0 l, each_later_than ps s t l h.1)
 
-last_start : (p : Piece) (ps : List Piece) (s : ℚ) → p.x ≤ℚ s → Each (λ q. q.x ≤ℚ s) ps → (last_of p ps).x ≤ℚ s
+pub last_start : (p : Piece) (ps : List Piece) (s : ℚ) → p.x ≤ℚ s → Each (λ q. q.x ≤ℚ s) ps → (last_of p ps).x ≤ℚ s
 last_start p [] s h k = h
 last_start p (q ∷ qs) s h k = last_start q qs s k.0 k.1
 

@@ -43,7 +43,7 @@ piece_in_later p (q ∷ qs) d c t =
     let e : le_q (x +ℚ d) t ≡ le_q x (t -ℚ d) = le_q_same (x +ℚ d) t x (t -ℚ d) (λ h. with3 x d t (λ c. omega (arith, c.le, c.lt, c.same))) (λ h. with3 x d t (λ c. omega (arith, c.le, c.lt, c.same))) in
     ap₂ (λ (b : Bool) (z : Piece). cond b z (later d c p)) e (piece_in_later q qs d c t) ∙ cond_map (later d c) (le_q x (t -ℚ d)) (piece_in q qs (t -ℚ d)) p
 
-line_value_later : (l : Option Line) (d c t : ℚ) → line_value (line_later d c l) t ≡ line_value l (t -ℚ d) +ₑ Fin c
+pub line_value_later : (l : Option Line) (d c t : ℚ) → line_value (line_later d c l) t ≡ line_value l (t -ℚ d) +ₑ Fin c
 line_value_later None d c t = refl
 line_value_later (Some l) d c t =
     let e = mul_sub l.slope t d in
@@ -51,7 +51,7 @@ line_value_later (Some l) d c t =
     let s = l.slope in
     ap Fin (with6 k c (s *ℚ d) (s *ℚ t) (s *ℚ (t -ℚ d)) d (λ c. omega (arith, c.le, c.lt, c.same)))
 
-piece_value_later : (p : Piece) (d c t : ℚ) → piece_value (later d c p) t ≡ piece_value p (t -ℚ d) +ₑ Fin c
+pub piece_value_later : (p : Piece) (d c t : ℚ) → piece_value (later d c p) t ≡ piece_value p (t -ℚ d) +ₑ Fin c
 unfolding piece_value
 piece_value_later p d c t =
     let x = p.x in

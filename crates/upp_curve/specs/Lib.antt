@@ -6,6 +6,7 @@ pub mod Normal
 pub mod Readable
 pub mod Curves
 pub mod Steps
+pub mod Shapes
 pub mod Functions
 pub mod Pointwise
 pub mod Running
@@ -15,3 +16,15 @@ pub mod Kinds
 pub mod Service
 pub mod BucketBounds
 pub mod WorkedRows
+pub mod Periods
+pub mod Spans
+pub mod Limits
+pub mod Sized
+pub mod Windows
+pub mod Gauges
+pub mod Long
+pub mod Gathered
+pub mod Seen
+pub mod ClosedForm
+pub mod OwnWindow
+pub mod Normalising

@@ -1,14 +1,34 @@
 //! Curves: functions of time made of finitely many pieces and a tail, with their value at every fraction.
 #![tactic(auto)]
 
+mod counts;
 mod curve;
+mod curve_numbers;
+mod cycle;
+mod gathered;
+mod gauges;
+mod known;
 mod laws;
+mod least_period;
+mod long;
+mod lowest_rank;
+mod merging;
+mod normalise;
+mod op_kind;
+mod own_window;
 mod reading;
 mod same;
+mod seen;
+mod shape;
+mod start_counts;
+mod starts;
 #[cfg(test)]
 mod tests;
+mod two_periods;
 
 pub use curve::{Curve, Tail, equal};
 pub use laws::{
     bucket_deviations, deviations_are_unique, normal_form_is_unique, worked_kinds, worked_operators,
 };
+pub use op_kind::{OpFault, OpKind, Window};
+pub use starts::{is_after, is_before};

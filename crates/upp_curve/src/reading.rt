@@ -33,7 +33,7 @@ fn starts_by(p: &Piece, t: Frac) -> bool
 }
 
 // The last piece that starts at t or before.
-fn piece_at(pieces: &[Piece], t: Frac) -> Piece
+pub(crate) fn piece_at(pieces: &[Piece], t: Frac) -> Piece
     requires starts { StartsAtZero pieces.now }
     requires time { int (pos 0) ≤ℚ t }
     ensures { (p : Piece) (ps : List Piece) → pieces.now ≡ p ∷ ps → result ≡ piece_in p ps t }
@@ -42,7 +42,7 @@ fn piece_at(pieces: &[Piece], t: Frac) -> Piece
     pieces[count - 1]
 }
 
-fn piece_value(p: &Piece, t: Frac) -> Result<Ext, Wide>
+pub(crate) fn piece_value(p: &Piece, t: Frac) -> Result<Ext, Wide>
     ensures value { IfOk result (λ v. v ≡ piece_value p.now t) }
     ensures wide { IfErr result (IsWideLine p.now.line t) }
 {
@@ -63,7 +63,7 @@ pub(crate) fn read(pieces: &[Piece], t: Frac) -> Result<Ext, Wide>
 }
 
 // A value, risen.
-fn raised(v: Ext, by: Frac) -> Result<Ext, Wide>
+pub(crate) fn raised(v: Ext, by: Frac) -> Result<Ext, Wide>
     ensures value { IfOk result (λ r. r ≡ v +ₑ Extended.Fin by) }
     ensures wide { IfErr result (IsWideRise v by) }
 {

@@ -7,7 +7,7 @@ use affine_segment::{Line, Piece};
 use fraction128::Ext;
 use rational::Extended;
 
-fn same_ext(a: Ext, b: Ext) -> bool
+pub(crate) fn same_ext(a: Ext, b: Ext) -> bool
     ensures { IsTrue result ↔ (a ≡ b) }
 {
     match a {
@@ -28,7 +28,7 @@ fn same_line(a: Line, b: Line) -> bool
     a.icept == b.icept && a.slope == b.slope
 }
 
-fn same_lines(a: Option<Line>, b: Option<Line>) -> bool
+pub(crate) fn same_lines(a: Option<Line>, b: Option<Line>) -> bool
     ensures { IsTrue result ↔ (a ≡ b) }
 {
     match (a, b) {
@@ -38,7 +38,7 @@ fn same_lines(a: Option<Line>, b: Option<Line>) -> bool
     }
 }
 
-fn same_piece(a: Piece, b: Piece) -> bool
+pub(crate) fn same_piece(a: Piece, b: Piece) -> bool
     ensures { IsTrue result ↔ (a ≡ b) }
 {
     a.x == b.x && same_ext(a.at, b.at) && same_lines(a.line, b.line)

@@ -1,0 +1,5 @@
+pub mod Rounds
+pub mod Turns
+pub mod Along
+pub mod Shares
+pub mod DrrLaw

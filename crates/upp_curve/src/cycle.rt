@@ -1,0 +1,63 @@
+//! Where a periodic curve's tail has its breaks.
+
+ghost use Rattle.std.specs.Prelude.{IfOk};
+ghost use Rattle.upp_curve.specs.Normalising.{IsTwoPeriods, IsShape};
+
+use crate::two_periods::{count_before, first_past};
+use affine_segment::Piece;
+use fraction128::{Frac, Wide};
+use std::cmp::Ordering;
+
+/// A periodic curve none of whose pieces goes on with the one before it: `first` pieces start before the rank, and one at it.
+#[derive(Drop)]
+pub(crate) struct Cycle {
+    pub pieces: Vec<Piece>,
+    pub first: usize,
+    pub rank: Frac,
+    pub period: Frac,
+    pub rise: Frac,
+}
+
+/// What a periodic curve is found to be.
+#[derive(Drop)]
+pub(crate) enum Shape {
+    /// Its pieces, the last of which goes on for ever.
+    Straight(Vec<Piece>),
+    /// A curve whose period begins and ends at a break.
+    Turns(Cycle),
+}
+
+/// The shape of a periodic curve whose pieces are given below rank + 2 period.
+pub(crate) fn shape_of(
+    pieces: Vec<Piece>,
+    rank: Frac,
+    period: Frac,
+    rise: Frac,
+) -> Result<Shape, Wide>
+    requires { IsTwoPeriods pieces.items rank period rise }
+    ensures { IfOk result (λ s. IsShape pieces.items rank period rise s) }
+{
+    let mut kept = pieces;
+    let Some(start) = first_past(&kept, rank) else {
+        return Ok(Shape::Straight(kept));
+    };
+    let first = count_before(&kept, start);
+    let end = Frac::add(rank, period)?;
+    match start.cmp(&end) {
+        Ordering::Greater => {
+            kept.truncate(first);
+            return Ok(Shape::Straight(kept));
+        }
+        _ => {}
+    }
+    let until = Frac::add(start, period)?;
+    let count = count_before(&kept, until);
+    kept.truncate(count);
+    Ok(Shape::Turns(Cycle {
+        pieces: kept,
+        first,
+        rank: start,
+        period,
+        rise,
+    }))
+}

@@ -1,0 +1,110 @@
+//! The least period of a periodic curve, by the primes that divide the number of its pieces.
+
+ghost use Rattle.std.specs.Prelude.{◌≡◌, ◌↔◌, ◌<◌, ◌≤◌, ◌^◌, pos, drop, length, IfOk, IsTrue, MatchOption};
+ghost use Prim.Native.Nat.{◌∣◌};
+ghost use Rattle.rational.specs.Rational.{int, ◌/ℚ◌};
+ghost use Rattle.rational.specs.Grid.{Whole};
+ghost use Rattle.upp_curve.specs.Normalising.{GoesOn, IsTurning, IsDivided, IsLeast, OnGrids, cycle_values, turn_count};
+
+use crate::cycle::Cycle;
+use crate::merging::later;
+use crate::same::same_piece;
+use affine_segment::Piece;
+use fraction128::{Frac, Wide};
+
+// The share where it is a whole multiple of 1 / grid.
+fn share(whole: Frac, parts: usize, grid: u128) -> Option<Frac>
+    requires parts { 0 < parts }
+    requires some { 0 < grid }
+    requires grid { grid < 2 ^ 127 }
+    ensures { MatchOption result (¬ (Whole grid (whole /ℚ int (pos parts)))) (λ s. s ≡ whole /ℚ int (pos parts)) }
+{
+    if whole.numerator() == 0 {
+        return Some(whole);
+    }
+    match Frac::div(whole, Frac::from_whole(parts as i128)) {
+        Ok(s) if grid % s.denominator() == 0 => Some(s),
+        _ => None,
+    }
+}
+
+// Whether each piece from the k-th on is the one k before it, `by` later and `rise` higher.
+fn goes_on(pieces: &[Piece], k: usize, by: Frac, rise: Frac) -> Result<bool, Wide>
+    ensures { IfOk result (λ b. IsTrue b ↔ GoesOn pieces.now k by rise) }
+{
+    for i in k..pieces.len() {
+        let moved = later(by, rise, pieces[i - k])?;
+        if !same_piece(moved, pieces[i]) {
+            return Ok(false);
+        }
+    }
+    Ok(true)
+}
+
+// The pieces of one period.
+fn turn_of(pieces: &[Piece], first: usize) -> &[Piece]
+    requires { first ≤ length pieces.now }
+    ensures { result.now ≡ drop first pieces.now }
+{
+    &pieces[first..]
+}
+
+// The curve with its period divided by `parts`, where that is a period; else as it is.
+fn divided(cycle: Cycle, parts: usize, times: u128, values: u128) -> Result<Cycle, Wide>
+    requires turning { IsTurning cycle (cycle_values cycle) }
+    requires parts { 2 ≤ parts }
+    requires share { parts ∣ turn_count cycle }
+    requires some_times { 0 < times }
+    requires some_values { 0 < values }
+    requires times { times < 2 ^ 127 }
+    requires values { values < 2 ^ 127 }
+    requires grids { OnGrids times values (cycle_values cycle) cycle.rank cycle.period cycle.rise }
+    ensures { IfOk result (λ d. IsDivided cycle parts d) }
+{
+    let Some(by) = share(cycle.period, parts, times) else {
+        return Ok(cycle);
+    };
+    let Some(rise) = share(cycle.rise, parts, values) else {
+        return Ok(cycle);
+    };
+    let turn = turn_of(&cycle.pieces, cycle.first);
+    let k = turn.len() / parts;
+    if !goes_on(turn, k, by, rise)? {
+        return Ok(cycle);
+    }
+    let first = cycle.first;
+    let rank = cycle.rank;
+    let mut pieces = cycle.pieces;
+    pieces.truncate(first + k);
+    Ok(Cycle {
+        pieces,
+        first,
+        rank,
+        period: by,
+        rise,
+    })
+}
+
+/// The curve with its least period. Each period and its rise is a whole multiple of 1 / times and of 1 / values.
+pub(crate) fn least_period(cycle: Cycle, times: u128, values: u128) -> Result<Cycle, Wide>
+    requires turning { IsTurning cycle (cycle_values cycle) }
+    requires some_times { 0 < times }
+    requires some_values { 0 < values }
+    requires times { times < 2 ^ 127 }
+    requires values { values < 2 ^ 127 }
+    requires grids { OnGrids times values (cycle_values cycle) cycle.rank cycle.period cycle.rise }
+    ensures { IfOk result (λ d. IsLeast cycle d) }
+{
+    let mut rest = turn_of(&cycle.pieces, cycle.first).len();
+    let mut found = cycle;
+    let mut parts = 2;
+    while parts <= rest {
+        if rest % parts != 0 {
+            parts += 1;
+        } else {
+            rest /= parts;
+            found = divided(found, parts, times, values)?;
+        }
+    }
+    Ok(found)
+}
