@@ -2,6 +2,7 @@ pub mod FormLemmas
 pub mod SpellingLemmas
 pub mod ReplyLemmas
 pub mod DoneLemmas
+pub mod TextLemmas
 pub mod BoundLemmas
 pub mod DeviationLemmas
 pub mod CurveLemmas

@@ -1,5 +1,6 @@
 -- The bytes of the report on a server and its flow.
-use Rattle.std.specs.Prelude.{ℕ, ◌++◌, List, codes}
+use Rattle.std.specs.Prelude.{◌≡◌, ℕ, ◌++◌, List, codes}
+use Rattle.rational.specs.Ratio.{IsSmall}
 use Rattle.rational.specs.Extended.{Ext}
 use Rattle.rational.specs.declared.Extended.TheVariants.{Fin, Inf}
 use Rattle.fraction128.specs.Text.{text_of}
@@ -9,6 +10,15 @@ use Rattle.netcalc_cli.specs.Form.{Form}
 abbrev pub bound_text : Ext → List ℕ
 bound_text Inf = codes "unbounded"
 bound_text (Fin q) = text_of q
+
+-- infinity, or a number that a fraction of the code can be
+abbrev pub IsPrintable : Ext → Type 0
+IsPrintable Inf = Unit {0}
+IsPrintable (Fin q) = IsSmall q
+
+-- the text of a bound tells the bound: so only infinity is printed as `unbounded`
+abbrev pub TextsTellBounds : Type 0
+TextsTellBounds = (x y : Ext) → IsPrintable x → IsPrintable y → bound_text x ≡ bound_text y → x ≡ y
 
 -- the queue's delay and backlog
 unfoldable pub queue_line : Form → Ext → Ext → List ℕ

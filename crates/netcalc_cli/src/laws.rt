@@ -2,6 +2,7 @@
 ghost use Rattle.netcalc_cli.specs.Bounds.{BoundsAreUnique, CurvesHaveTheirValues};
 ghost use Rattle.netcalc_cli.specs.Guarantee.{BoundsAreGuaranteed};
 ghost use Rattle.netcalc_cli.specs.Example.{OneFlowReachesItsBound};
+ghost use Rattle.netcalc_cli.specs.Report.{TextsTellBounds};
 ghost use Rattle.netcalc_cli.specs.Reply.{RepliesAreUnique};
 
 /// The curves of a form are burst + rate t, and rate max (0, t - latency).
@@ -17,6 +18,11 @@ pub fn bounds_are_unique()
 /// No lawful run of a form's network that keeps the form's curves passes the form's bounds.
 pub fn bounds_are_guaranteed()
     ensures { BoundsAreGuaranteed }
+{}
+
+/// The text of a bound tells the bound, and only infinity is printed as `unbounded`.
+pub fn texts_tell_bounds()
+    ensures { TextsTellBounds }
 {}
 
 /// Status and bytes are one function of a file's name and of what it holds.

@@ -14,6 +14,6 @@ pub use answer::Status;
 pub use form::each_form_is_read;
 pub use laws::{
     bounds_are_guaranteed, bounds_are_unique, curves_have_their_values, one_flow_reaches_its_bound,
-    replies_are_unique,
+    replies_are_unique, texts_tell_bounds,
 };
 pub use top_call::run;

@@ -1,7 +1,5 @@
-use Rattle.std.proofs.Common.{refl, sym, ◌∙◌, Option, List, ℕ}
-use Rattle.rational.specs.Extended.{Ext}
-use Rattle.netcalc_cli.specs.Form.{Form}
-use Rattle.netcalc_cli.specs.Reply.{Reports, usage}
+use Rattle.std.proofs.Common.{refl, sym, ◌∙◌}
+use Rattle.netcalc_cli.specs.Reply.{usage}
 use Rattle.netcalc_cli.specs.View.{reply_of}
 use Rattle.netcalc_cli.proofs.DoneLemmas.{shown, reported, guarantee_of}
 use Rattle.netcalc_cli.proofs.top_call.run.Goals as goal
