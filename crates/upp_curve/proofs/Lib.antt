@@ -38,3 +38,4 @@ pub mod NormaliseForm
 pub mod NormaliseRoom
 pub mod NormaliseRoomy
 pub mod NormaliseWhole
+pub mod NormaliseGrids
