@@ -18,7 +18,8 @@ use Rattle.upp_curve.proofs.Steady.{line_rule, read_past}
 use Rattle.upp_curve.proofs.OneForm.{rise_is}
 use Rattle.upp_curve.proofs.Rules.{add_cancel_ext}
 use Rattle.upp_curve.proofs.Unrolled.{line_value_later}
-use Rattle.upp_curve.proofs.Unique.{lines_same, upto_some, value_past}
+use Rattle.upp_curve.proofs.Unique.{lines_same, upto_some}
+use Rattle.upp_curve.proofs.FirstStretch.{value_past}
 use Rattle.upp_curve.proofs.Below.{read_upto}
 use Rattle.upp_curve.proofs.NormaliseLoops.{past_go, past_none}
 use Rattle.upp_curve.proofs.NormaliseLists.{past_all, last_is_last, last_in, rises_upto, upto_before, continues_back, heads_same, nil_not_cons}

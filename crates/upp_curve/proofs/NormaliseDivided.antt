@@ -21,7 +21,8 @@ use Rattle.upp_curve.specs.Normal.{RisesFrom, StartsAtZero, Each, HasStart, NoMe
 use Rattle.upp_curve.specs.Normalising.{IsCycle, EndsInBreak, Turned, GoesOn}
 use Rattle.upp_curve.proofs.Repeats.{repeated_first, repeated_rule, repeats_times}
 use Rattle.upp_curve.proofs.Steady.{read_past}
-use Rattle.upp_curve.proofs.Unique.{lines_same, on_stretch, at_start, end_of, start_before, end_at_most}
+use Rattle.upp_curve.proofs.Unique.{lines_same}
+use Rattle.upp_curve.proofs.FirstStretch.{on_stretch, at_start, end_of, start_before, end_at_most}
 use Rattle.upp_curve.proofs.Normal.{rises, upto_all}
 use Rattle.upp_curve.proofs.Unrolled.{copies_some, line_value_later}
 use Rattle.upp_curve.proofs.Below.{Cut, cut_at_start, read_from_cut, from_past, from_before, parts_read}

@@ -23,7 +23,8 @@ use Rattle.upp_curve.specs.Unrolled.{upto}
 use Rattle.upp_curve.specs.Normal.{RisesFrom, StartsAtZero, Each, HasStart, NoMerge, NoneContinues, IsRaw, IsNormal}
 use Rattle.upp_curve.specs.Normalising.{IsPart, IsMerged, IsTwoPeriods, IsCycle, IsTurning, IsLowest, IsLeast, IsLine, IsFormOf, IsOneLine, OnGrids, OnGridsUnlessLine, TailOnGrids, cycle_values, second_copy, ended}
 use Rattle.upp_curve.proofs.Steady.{cut_past}
-use Rattle.upp_curve.proofs.Unique.{value_at_start, value_past, upto_none, upto_some}
+use Rattle.upp_curve.proofs.Unique.{upto_none, upto_some}
+use Rattle.upp_curve.proofs.FirstStretch.{value_at_start, value_past}
 use Rattle.upp_curve.proofs.Normal.{transfer, rises, periodic}
 use Rattle.upp_curve.proofs.OneForm.{affine, infinite, affine_value, infinite_value}
 use Rattle.upp_curve.proofs.Rules.{rule_extends}

@@ -19,7 +19,8 @@ use Rattle.upp_curve.specs.Steady.{Repeats, last_line}
 use Rattle.upp_curve.specs.Unrolled.{line_later, later, each_later, copies, upto}
 use Rattle.upp_curve.specs.Normal.{Each, RisesFrom, StartsAtZero, FitsPeriod, Continues}
 use Rattle.upp_curve.specs.Normalising.{IsMerged, IsTwoPeriods, IsLine, IsOneLine, Turned, OnGrids, OnGridsUnlessLine, cut_at, past, first_start, second_copy}
-use Rattle.upp_curve.proofs.Unique.{value_past, value_at_start, upto_some}
+use Rattle.upp_curve.proofs.Unique.{upto_some}
+use Rattle.upp_curve.proofs.FirstStretch.{value_past, value_at_start}
 use Rattle.upp_curve.proofs.Steady.{read_past}
 use Rattle.upp_curve.proofs.Below.{Cut}
 use Rattle.upp_curve.proofs.Unrolled.{copies_some}

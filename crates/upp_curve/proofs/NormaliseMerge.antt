@@ -9,7 +9,7 @@ use Rattle.affine_segment.specs.Values.{line_value}
 use Rattle.upp_curve.specs.Normal.{RisesFrom, NoneContinues, Continues}
 use Rattle.upp_curve.specs.Normalising.{IsPart, IsMerged}
 use Rattle.upp_curve.proofs.PieceIn.{piece_in_go, piece_in_stop, piece_in_end}
-use Rattle.upp_curve.proofs.Unique.{value_past, value_at_start}
+use Rattle.upp_curve.proofs.FirstStretch.{value_past, value_at_start}
 use Rattle.upp_curve.proofs.NormaliseLists.{rises_down}
 
 -- ---- reading, one piece at a time

@@ -18,7 +18,7 @@ use Rattle.upp_curve.specs.Steady.{Repeats}
 use Rattle.upp_curve.specs.Normalising.{cut_at, past, second_copy}
 use Rattle.upp_curve.proofs.PieceIn.{piece_in_go, piece_in_stop, piece_in_end}
 use Rattle.upp_curve.proofs.Repeats.{repeats_times, repeated_first, repeated_next}
-use Rattle.upp_curve.proofs.Unique.{value_past, value_at_start}
+use Rattle.upp_curve.proofs.FirstStretch.{value_past, value_at_start}
 use Rattle.upp_curve.proofs.Unrolled.{read_later, read_before, read_past_list}
 use Rattle.upp_curve.proofs.NormaliseLoops.{past_go, past_stop, past_none, later_some}
 use Rattle.upp_curve.proofs.NormaliseLists.{each_map, each_append, each_past, each_moved, rises_append, rises_past, rises_moved, past_all}

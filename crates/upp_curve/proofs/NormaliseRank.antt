@@ -19,7 +19,8 @@ use Rattle.upp_curve.specs.Normal.{RisesFrom, StartsAtZero, Each, HasStart, NoMe
 use Rattle.upp_curve.specs.Steady.{Repeats, last_of}
 use Rattle.upp_curve.specs.Normalising.{IsCycle, IsFront, IsLowest, RepeatsIn, cut_last, Lowers, MoveReads, StepFits, StepsFit}
 use Rattle.upp_curve.proofs.Unrolled.{line_value_later, read_before}
-use Rattle.upp_curve.proofs.Unique.{upto_none, upto_some, value_past, value_at_start}
+use Rattle.upp_curve.proofs.Unique.{upto_none, upto_some}
+use Rattle.upp_curve.proofs.FirstStretch.{value_past, value_at_start}
 use Rattle.upp_curve.proofs.Steady.{read_past}
 use Rattle.upp_curve.proofs.Below.{read_from_cut, from_past, from_before, plain_upto}
 use Rattle.upp_curve.proofs.Normal.{rises, start_in_upto, upto_all}

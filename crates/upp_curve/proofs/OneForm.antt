@@ -43,7 +43,7 @@ infinite_value ps r t starts none = elim (le_or_lt t r) [
   | inr l ↦ rw (le_q_not t r l) (sym (read_past ps r t starts l ∙ ap (λ z. line_value z t) none))
 ]
 
-infinite_past : (ps : List Piece) (r t : ℚ) → r <ℚ t → value_at (infinite ps r) t ≡ Inf
+pub infinite_past : (ps : List Piece) (r t : ℚ) → r <ℚ t → value_at (infinite ps r) t ≡ Inf
 unfolding value_at
 infinite_past ps r t l = cut_past (read ps) r t l
 

@@ -64,4 +64,4 @@ at_zero k r h =
     record { product = rw z zero_small; sum = rw z (sum_with_zero k h) }
 
 pub bucket_curve : (b r : ℚ) → IsSmall b → IsCurve (bucket b r)
-bucket_curve b r h = record { normal = bucket_normal b r; readable = at_zero b r h }
+bucket_curve b r h = record { normal = bucket_normal b r; readable = (at_zero b r h, tt, tt) }

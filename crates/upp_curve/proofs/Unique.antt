@@ -15,6 +15,7 @@ use Rattle.affine_segment.specs.Values.{line_value}
 use Rattle.upp_curve.specs.Normal.{RisesFrom, NoneContinues}
 use Rattle.upp_curve.specs.Unrolled.{upto}
 use Rattle.rational.proofs.Whole.{not_zero}
+use Rattle.upp_curve.proofs.FirstStretch.{end_of, end_at_most, start_before, read_in, value_past, value_at_start, on_stretch, at_start}
 use Rattle.upp_curve.proofs.FiniteValues.{Fin_inj, no_inf}
 use Rattle.upp_curve.proofs.PieceIn.{piece_in_go, piece_in_stop, piece_in_end}
 
@@ -58,38 +59,6 @@ pieces_are : (p q : Piece) → p.x ≡ q.x → p.at ≡ q.at → p.line ≡ q.li
 pieces_are p q e f g =
     let make : ℚ → Ext → Option Line → Piece = λ x v l. record { x = x; at = v; line = l } in
     ap (λ x. make x p.at p.line) e ∙ ap₂ (λ (v : Ext) (l : Option Line). make q.x v l) f g
-
--- ---- the stretch of the first piece
-abbrev pub end_of : ℚ → List Piece → ℚ
-end_of X [] = X
-end_of X (q ∷ qs) = min_q X q.x
-
-pub end_at_most : (X : ℚ) (qs : List Piece) (t : ℚ) → t <ℚ end_of X qs → t <ℚ X
-end_at_most X [] t h = h
-end_at_most X (q ∷ qs) t h = (below_min_out X q.x t h).0
-
-pub start_before : (x X : ℚ) (ps : List Piece) → x <ℚ X → RisesFrom x ps → x <ℚ end_of X ps
-start_before x X [] h r = h
-start_before x X (p ∷ ps) h r = below_min_in X p.x x h r.0
-
-abbrev pub read_in : Piece → List Piece → ℚ → Ext
-read_in p ps t = piece_value (piece_in p ps t) t
-
-pub value_past : (p : Piece) (t : ℚ) → p.x <ℚ t → piece_value p t ≡ line_value p.line t
-unfolding piece_value
-value_past p t h = rw (le_q_not t p.x h) refl
-
-pub value_at_start : (p : Piece) → piece_value p p.x ≡ p.at
-unfolding piece_value
-value_at_start p = rw (le_q_out p.x p.x (le_refl p.x)) refl
-
-pub on_stretch : (p : Piece) (ps : List Piece) (X t : ℚ) → p.x <ℚ t → t <ℚ end_of X ps → read_in p ps t ≡ line_value p.line t
-on_stretch p [] X t h k = ap (λ q. piece_value q t) (piece_in_end p t) ∙ value_past p t h
-on_stretch p (q ∷ qs) X t h k = ap (λ q. piece_value q t) (piece_in_stop p q qs t (below_min_out X q.x t k).1) ∙ value_past p t h
-
-pub at_start : (p : Piece) (ps : List Piece) → RisesFrom p.x ps → read_in p ps p.x ≡ p.at
-at_start p [] r = ap (λ q. piece_value q p.x) (piece_in_end p p.x) ∙ value_at_start p
-at_start p (q ∷ qs) r = ap (λ q. piece_value q p.x) (piece_in_stop p q qs p.x r.0) ∙ value_at_start p
 
 -- ---- a list that reads as f up to X
 pub record Reads (f : ℚ → Ext) (X : ℚ) (p : Piece) (ps : List Piece) : Type 0 where

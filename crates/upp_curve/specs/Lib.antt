@@ -6,6 +6,7 @@ pub mod Normal
 pub mod Readable
 pub mod Curves
 pub mod Steps
+pub mod Shapes
 pub mod Functions
 pub mod Pointwise
 pub mod Running
@@ -18,3 +19,16 @@ pub mod WorkedRows
 pub mod Normalising
 pub mod Fitting
 pub mod Room
+pub mod Periods
+pub mod Spans
+pub mod Limits
+pub mod Sized
+pub mod Windows
+pub mod Gauges
+pub mod Long
+pub mod Gathered
+pub mod Seen
+pub mod ClosedForm
+pub mod OwnWindow
+pub mod Levels
+pub mod ClosedOperands

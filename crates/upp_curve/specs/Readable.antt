@@ -21,12 +21,19 @@ abbrev pub LineFitsAt : ℚ → Option Line → Type 0
 LineFitsAt x None = Unit {0}
 LineFitsAt x (Some l) = LineFits x l
 
+-- where the first of some pieces starts, and `end` where there is none
+abbrev pub start_after : List Piece → Option ℚ → Option ℚ
+start_after [] end = end
+start_after (q ∷ qs) end = Some q.x
+
+abbrev pub LineFitsTo : Option ℚ → Option Line → Type 0
+LineFitsTo None l = Unit {0}
+LineFitsTo (Some e) l = LineFitsAt e l
+
 -- each line is readable at its start and at its end: the next start, or of the last line `end` (None: it has no end)
 abbrev pub EachFits : Option ℚ → List Piece → Type 0
 EachFits end [] = Unit {0}
-EachFits None (p ∷ []) = LineFitsAt p.x p.line
-EachFits (Some e) (p ∷ []) = LineFitsAt p.x p.line × LineFitsAt e p.line
-EachFits end (p ∷ q ∷ ps) = LineFitsAt p.x p.line × LineFitsAt q.x p.line × EachFits end (q ∷ ps)
+EachFits end (p ∷ ps) = LineFitsAt p.x p.line × LineFitsTo (start_after ps end) p.line × EachFits end ps
 
 abbrev pub SumFitsAt : Ext → ℚ → Type 0
 SumFitsAt (Fin v) c = SumFits v c

@@ -1,16 +1,20 @@
 //! Curves, and their value at a time.
 
-ghost use Rattle.std.specs.Prelude.{◌≡◌, ◌↔◌, pos, IfOk, IfErr, IsTrue};
+ghost use Rattle.std.specs.Prelude.{◌≡◌, ◌↔◌, pos, length, IsOk, IfOk, IfErr, IsTrue};
 ghost use Rattle.rational.specs.Rational.{int, ◌≤ℚ◌};
 ghost use Rattle.upp_curve.specs.Curve.{SpecCurve, value_at, HasSameValues};
 ghost use Rattle.upp_curve.specs.Curves.{IsCurve};
+ghost use Rattle.upp_curve.specs.Functions.{IsFinite, IsRising};
+ghost use Rattle.upp_curve.specs.Steady.{rate};
 ghost use Rattle.upp_curve.specs.Steps.{IsWideValueAt};
 
 use crate::reading::{read, read_past};
 use crate::same::{same_pieces, same_tail};
+use crate::shape::{are_finite, last_slope, period_end, rise_to};
 use affine_segment::Piece;
 use fraction128::{Ext, Frac, Wide};
 use rational::Extended;
+use std::alloc::AllocError;
 use std::cmp::Ordering;
 use std::marker::Model;
 
@@ -81,6 +85,81 @@ impl Curve {
                 _ => read(&self.pieces, t),
             },
         }
+    }
+
+    /// The long-run rate: rise over period, the slope of an affine tail, and infinity of an infinite one. It is never
+    /// refused, since a curve is readable.
+    pub fn rate(&self) -> Result<Ext, Wide>
+        ensures value { IfOk result (λ r. r ≡ rate self.now) }
+        ensures fits { IsOk result }
+    {
+        match self.tail {
+            Tail::Periodic {
+                rank: _,
+                period,
+                rise,
+            } => Ok(Extended::Fin(Frac::div(rise, period)?)),
+            Tail::Affine { rank: _ } => Ok(last_slope(&self.pieces)),
+            Tail::Infinite { rank: _ } => Ok(Extended::Inf),
+        }
+    }
+
+    /// How many pieces the curve is kept as.
+    pub fn piece_count(&self) -> u64
+        ensures { result ≡ length self.now.pieces }
+    {
+        self.pieces.len() as u64
+    }
+
+    /// Whether the value at each time from 0 on is a number.
+    pub fn is_finite(&self) -> bool
+        ensures { IsTrue result ↔ IsFinite (value_at self.now) }
+    {
+        match self.tail {
+            Tail::Infinite { rank: _ } => false,
+            _ => are_finite(&self.pieces),
+        }
+    }
+
+    /// Whether the value never falls.
+    pub fn is_rising(&self) -> bool
+        ensures { IsTrue result ↔ IsRising (value_at self.now) }
+    {
+        match self.tail {
+            Tail::Periodic { rank, period, rise } => {
+                let end = period_end(&self.pieces, rank, period, rise);
+                rise_to(&self.pieces, Some(end))
+            }
+            _ => rise_to(&self.pieces, None),
+        }
+    }
+
+    /// The same curve again.
+    pub fn copy(&self) -> Result<Curve, AllocError>
+        ensures { IfOk result (λ c. c ≡ self.now) }
+    {
+        Ok(Curve {
+            pieces: self.pieces.clone()?,
+            tail: self.tail,
+        })
+    }
+
+    /// The pieces.
+    #[inline]
+    pub(crate) fn pieces(&self) -> &[Piece]
+        ensures pieces { result.now ≡ self.now.pieces }
+        ensures kept { IsCurve self.now }
+    {
+        &self.pieces
+    }
+
+    /// The tail.
+    #[inline]
+    pub(crate) fn tail(&self) -> &Tail
+        ensures tail { result.now ≡ self.now.tail }
+        ensures kept { IsCurve self.now }
+    {
+        &self.tail
     }
 
     // Whether the two are stored alike.

@@ -1,16 +1,31 @@
 //! Curves: functions of time made of finitely many pieces and a tail, with their value at every fraction.
 #![tactic(auto)]
 
+mod counts;
 mod curve;
+mod curve_numbers;
 mod cycle;
 mod fitting;
+mod gathered;
+mod gauges;
+mod known;
 mod laws;
 mod least_period;
+mod limits;
+mod long;
 mod lowest_rank;
 mod merging;
 mod normalise;
+mod op_kind;
+mod operand_numbers;
+mod own_window;
 mod reading;
 mod same;
+mod scaled_numbers;
+mod seen;
+mod shape;
+mod start_counts;
+mod starts;
 #[cfg(test)]
 mod tests;
 mod two_periods;
@@ -19,4 +34,7 @@ pub use curve::{Curve, Tail, equal};
 pub use laws::{
     bucket_deviations, deviations_are_unique, normal_form_is_unique, worked_kinds, worked_operators,
 };
+pub use limits::{gauge, tally};
 pub use normalise::{RawCurve, normalise_on};
+pub use op_kind::{OpFault, OpKind, Window};
+pub use starts::{is_after, is_before};

@@ -45,6 +45,24 @@ fn value(c: &Curve, t: Frac) -> Result<Option<Frac>, Wide> {
 }
 
 #[test]
+fn shapes_of_buckets(rt: HostRuntime) -> Result<(), Fail> {
+    for (rate, rises) in [(2, true), (0, true), (-1, false)] {
+        let c = bucket(rt.alloc(), whole(3), whole(rate))?;
+        assert!(rt; c.is_rising() == rises, "at {rate}");
+        assert!(rt; c.is_finite(), "at {rate}");
+        assert_eq!(rt; c.piece_count(), 1);
+        let slope = match c.rate() {
+            Ok(Extended::Fin(slope)) => Some(slope),
+            _ => None,
+        };
+        assert_eq!(rt; slope, Some(whole(rate)));
+        let again = c.copy()?;
+        assert!(rt; equal(&c, &again), "at {rate}");
+    }
+    Ok(())
+}
+
+#[test]
 fn values_of_buckets(rt: HostRuntime) -> Result<(), Fail> {
     let c = bucket(rt.alloc(), whole(3), whole(2))?;
     assert_eq!(rt; value(&c, whole(0)), Ok(Some(whole(3))));

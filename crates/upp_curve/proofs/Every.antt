@@ -1,0 +1,41 @@
+-- What holds of each element of a list, by recursion on the list.
+use Rattle.std.specs.Prelude.{List, [], ◌∷◌, ◌++◌, map}
+use Rattle.std.specs.List.{AllByRecursion, flat_map}
+
+pub every_weaken : {A : Type 0} {P Q : A → Type 0} → ((x : A) → P x → Q x) → (xs : List A) → AllByRecursion P xs → AllByRecursion Q xs
+every_weaken f [] h = tt
+every_weaken f (x ∷ xs) h = (f x h.0, every_weaken f xs h.1)
+
+pub every_append : {A : Type 0} (P : A → Type 0) (xs ys : List A) → AllByRecursion P xs → AllByRecursion P ys → AllByRecursion P (xs ++ ys)
+every_append P [] ys h k = k
+every_append P (x ∷ xs) ys h k = (h.0, every_append P xs ys h.1 k)
+
+pub every_left : {A : Type 0} (P : A → Type 0) (xs ys : List A) → AllByRecursion P (xs ++ ys) → AllByRecursion P xs
+every_left P [] ys h = tt
+every_left P (x ∷ xs) ys h = (h.0, every_left P xs ys h.1)
+
+pub every_right : {A : Type 0} (P : A → Type 0) (xs ys : List A) → AllByRecursion P (xs ++ ys) → AllByRecursion P ys
+every_right P [] ys h = h
+every_right P (x ∷ xs) ys h = every_right P xs ys h.1
+
+pub every_map : {A B : Type 0} (P : B → Type 0) (f : A → B) (xs : List A) → AllByRecursion (λ x. P (f x)) xs → AllByRecursion P (map f xs)
+every_map P f [] h = tt
+every_map P f (x ∷ xs) h = (h.0, every_map P f xs h.1)
+
+pub every_map_out : {A B : Type 0} (P : B → Type 0) (f : A → B) (xs : List A) → AllByRecursion P (map f xs) → AllByRecursion (λ x. P (f x)) xs
+every_map_out P f [] h = tt
+every_map_out P f (x ∷ xs) h = (h.0, every_map_out P f xs h.1)
+
+pub every_flat : {A B : Type 0} (P : B → Type 0) (f : A → List B) (xs : List A)
+    → AllByRecursion (λ x. AllByRecursion P (f x)) xs → AllByRecursion P (flat_map f xs)
+every_flat P f [] h = tt
+every_flat P f (x ∷ xs) h = every_append P (f x) (flat_map f xs) h.0 (every_flat P f xs h.1)
+
+pub every_flat_out : {A B : Type 0} (P : B → Type 0) (f : A → List B) (xs : List A)
+    → AllByRecursion P (flat_map f xs) → AllByRecursion (λ x. AllByRecursion P (f x)) xs
+every_flat_out P f [] h = tt
+every_flat_out P f (x ∷ xs) h = (every_left P (f x) (flat_map f xs) h, every_flat_out P f xs (every_right P (f x) (flat_map f xs) h))
+
+pub every_both : {A : Type 0} (P Q : A → Type 0) (xs : List A) → AllByRecursion P xs → AllByRecursion Q xs → AllByRecursion (λ x. P x × Q x) xs
+every_both P Q [] h k = tt
+every_both P Q (x ∷ xs) h k = ((h.0, k.0), every_both P Q xs h.1 k.1)
