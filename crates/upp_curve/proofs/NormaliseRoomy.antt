@@ -58,7 +58,7 @@ found_early p (q ∷ qs) t h = elim (le_or_lt q.x t) [
 -- ---- what is read at a time with room
 pub read_fits : (m : Room) (n : ℕ) (ps : List Piece) (t : ℚ) → IsRoom m → n ≤ 7 → Each (PieceHasRoom m n) ps → TimeHasRoom m t → t ≤ℚ m.end → ReadFits ps t
 read_fits m n [] t R h E T e = tt
-read_fits m n (p ∷ ps) t R h E T e = let P = each_in (PieceHasRoom m n) p ps t E.0 E.1 in line_fits m n t (piece_in p ps t).line R h P.line T e
+read_fits m n (p ∷ ps) t R h E T e = let P = each_in (PieceHasRoom m n) p ps t E.0 E.1 in λ l. line_fits m n t (piece_in p ps t).line R h P.line T e
 
 -- a piece cut at a time has room there
 pub cut_piece : (m : Room) (n : ℕ) (q : Piece) (t : ℚ) (l : Option Line) → PieceHasRoom m n q → TimeHasRoom m t → t ≤ℚ m.end → q.x ≤ℚ t → LineHasRoom m (n + 1) l → PieceHasRoom m (n + 1) record { x = t; at = piece_value q t; line = l }
