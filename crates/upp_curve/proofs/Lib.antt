@@ -73,3 +73,4 @@ pub mod LevelCurves
 pub mod ScaledCurves
 pub mod Operands
 pub mod Tallies
+pub mod NormaliseOwn
