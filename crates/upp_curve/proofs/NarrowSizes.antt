@@ -81,7 +81,7 @@ small_sum z end k j p q a n h wp wq ip iq =
 value_divides : (z : Sizes) → z.dv ∣ grid_of z
 value_divides z = subst (λ n. z.dv ∣ n) (sym (mul_assoc z.dv z.dt z.ds)) (dvd-mul_right z.dv (z.dt * z.ds))
 
-slope_time_divides : (z : Sizes) → z.ds * z.dt ∣ grid_of z
+pub slope_time_divides : (z : Sizes) → z.ds * z.dt ∣ grid_of z
 slope_time_divides z = subst (λ n. z.ds * z.dt ∣ n) (regroup z.dv z.dt z.ds) (dvd-mul_left (z.ds * z.dt) z.dv)
   where
     regroup : (v t s : ℕ) → v * (s * t) ≡ v * t * s

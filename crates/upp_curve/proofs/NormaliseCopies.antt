@@ -186,7 +186,7 @@ copies_next : (n : ℕ) (e u : ℚ) (ps : List Piece) → copies (suc n) e u ps 
 unfolding copies
 copies_next n e u ps = refl
 
-copies_zero : (e u : ℚ) (ps : List Piece) → copies zero e u ps ≡ []
+pub copies_zero : (e u : ℚ) (ps : List Piece) → copies zero e u ps ≡ []
 unfolding copies
 copies_zero e u ps = refl
 

@@ -51,7 +51,7 @@ pub record MergedList (ps items : List Piece) : Type 0 where
   pub reads : (t : ℚ) → read items t ≡ read ps t
   pub inside : (x : ℚ) → Each (λ z. z.x <ℚ x) ps → Each (λ z. z.x <ℚ x) items
 
-merged_cons : (p : Piece) (ps kept items : List Piece) → p.x ≡ int (pos 0) → items ≡ p ∷ kept → IsMerged p ps kept → MergedList (p ∷ ps) items
+pub merged_cons : (p : Piece) (ps kept items : List Piece) → p.x ≡ int (pos 0) → items ≡ p ∷ kept → IsMerged p ps kept → MergedList (p ∷ ps) items
 merged_cons p ps kept items zero e M = subst (MergedList (p ∷ ps)) (sym e) record {
   starts = (zero, M.rises);
   none = M.none;

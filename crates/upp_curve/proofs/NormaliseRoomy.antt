@@ -18,7 +18,7 @@ use Rattle.upp_curve.specs.Reading.{read, piece_in, piece_value}
 use Rattle.upp_curve.specs.Steady.{last_line}
 use Rattle.upp_curve.specs.Unrolled.{line_later, later, each_later}
 use Rattle.upp_curve.specs.Normal.{Each, RisesFrom, StartsAtZero, HasStart}
-use Rattle.upp_curve.specs.Readable.{LineFits, LineFitsAt, SumFitsAt, EachFits, PeriodFits}
+use Rattle.upp_curve.specs.Readable.{LineFits, LineFitsAt, LineFitsTo, SumFitsAt, EachFits, PeriodFits, start_after}
 use Rattle.upp_curve.specs.Fitting.{LaterFits, ReadFits}
 use Rattle.upp_curve.specs.Normalising.{IsCycle, IsFront, IsLeast, IsLowest, SharesFit, StepsFit, MoveReads, cut_at, past, second_copy, cycle_values}
 use Rattle.upp_curve.specs.Room.{Room, IsRoom, TimeHasRoom, many, ValueHasRoom, LineHasRoom, PieceHasRoom, IsMove, PiecesHaveRoom, TurnHasRoom, CycleHasRoom, TwoHaveRoom}
@@ -58,7 +58,7 @@ found_early p (q ∷ qs) t h = elim (le_or_lt q.x t) [
 -- ---- what is read at a time with room
 pub read_fits : (m : Room) (n : ℕ) (ps : List Piece) (t : ℚ) → IsRoom m → n ≤ 7 → Each (PieceHasRoom m n) ps → TimeHasRoom m t → t ≤ℚ m.end → ReadFits ps t
 read_fits m n [] t R h E T e = tt
-read_fits m n (p ∷ ps) t R h E T e = let P = each_in (PieceHasRoom m n) p ps t E.0 E.1 in line_fits m n t (piece_in p ps t).line R h P.line T e
+read_fits m n (p ∷ ps) t R h E T e = let P = each_in (PieceHasRoom m n) p ps t E.0 E.1 in λ l. line_fits m n t (piece_in p ps t).line R h P.line T e
 
 -- a piece cut at a time has room there
 pub cut_piece : (m : Room) (n : ℕ) (q : Piece) (t : ℚ) (l : Option Line) → PieceHasRoom m n q → TimeHasRoom m t → t ≤ℚ m.end → q.x ≤ℚ t → LineHasRoom m (n + 1) l → PieceHasRoom m (n + 1) record { x = t; at = piece_value q t; line = l }
@@ -92,14 +92,15 @@ lines_fit m n ps h R =
 pub ends_fit : (m : Room) (n : ℕ) (end : Option ℚ) (ps : List Piece) → n ≤ 7 → IsRoom m → Each (PieceHasRoom m n) ps → Each (λ p. p.x ≤ℚ m.end) ps
     → ((e : ℚ) → end ≡ Some e → TimeHasRoom m e × (e ≤ℚ m.end)) → EachFits end ps
 ends_fit m n end [] h R E X L = tt
-ends_fit m n None (p ∷ []) h R E X L = (line_fits m n p.x p.line R h E.0.line E.0.time X.0, tt, tt)
-ends_fit m n (Some e) (p ∷ []) h R E X L =
-    let T = L e refl in
-    (line_fits m n p.x p.line R h E.0.line E.0.time X.0, line_fits m n e p.line R h E.0.line T.0 T.1, tt)
-ends_fit m n None (p ∷ q ∷ ps) h R E X L =
-    (line_fits m n p.x p.line R h E.0.line E.0.time X.0, line_fits m n q.x p.line R h E.0.line E.1.0.time X.1.0, ends_fit m n None (q ∷ ps) h R E.1 X.1 L)
-ends_fit m n (Some e) (p ∷ q ∷ ps) h R E X L =
-    (line_fits m n p.x p.line R h E.0.line E.0.time X.0, line_fits m n q.x p.line R h E.0.line E.1.0.time X.1.0, ends_fit m n (Some e) (q ∷ ps) h R E.1 X.1 L)
+ends_fit m n end (p ∷ ps) h R E X L = (line_fits m n p.x p.line R h E.0.line E.0.time X.0, to_next ps E.1 X.1, ends_fit m n end ps h R E.1 X.1 L)
+  where
+    to_end : (o : Option ℚ) → end ≡ o → LineFitsTo o p.line
+    to_end None k = tt
+    to_end (Some e) k = let T = L e k in line_fits m n e p.line R h E.0.line T.0 T.1
+
+    to_next : (qs : List Piece) → Each (PieceHasRoom m n) qs → Each (λ q. q.x ≤ℚ m.end) qs → LineFitsTo (start_after qs end) p.line
+    to_next [] F Y = to_end end refl
+    to_next (q ∷ qs) F Y = line_fits m n q.x p.line R h E.0.line F.0.time Y.0
 
 -- a last line that is none is readable wherever it ends
 pub ends_nowhere : (e : ℚ) (ps : List Piece) → last_line ps ≡ None → EachFits None ps → EachFits (Some e) ps

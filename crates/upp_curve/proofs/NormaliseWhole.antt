@@ -3,11 +3,15 @@ use Rattle.std.specs.Prelude.{◌≡◌, ℕ, ◌+◌, ◌*◌, ◌<◌, ◌≤�
 use Rattle.std.proofs.Common.{arith, sym, ap, ◌∙◌, refl, subst, inl, inr}
 use Rattle.rational.specs.Rational.{ℚ, ◌+ℚ◌, ◌≤ℚ◌, ◌<ℚ◌, int}
 use Rattle.rational.specs.Ratio.{SumFits}
-use Rattle.rational.proofs.Laws.{le_of_lt, le_refl, le_trans}
+use Rattle.rational.proofs.Laws.{le_of_lt, le_refl, le_trans, le_or_lt, antisym}
 use Rattle.rational.proofs.Linear.{with3, with4}
 use Rattle.affine_segment.specs.declared.line.Line.{Line}
 use Rattle.affine_segment.specs.declared.line.Piece.{Piece}
 use Rattle.upp_curve.specs.declared.curve.Tail.{Tail}
+use Rattle.upp_curve.specs.declared.curve.Tail.TheVariants.{Infinite}
+use Rattle.upp_curve.specs.Spans.{piece_read}
+use Rattle.rational.proofs.Over.{lt_q_out}
+use Rattle.upp_curve.proofs.FirstStretch.{value_at_start}
 use Rattle.upp_curve.specs.declared.cycle.Cycle.{Cycle}
 use Rattle.upp_curve.specs.Reading.{read, piece_in, piece_value}
 use Rattle.upp_curve.specs.Curve.{SpecCurve}
@@ -20,13 +24,13 @@ use Rattle.upp_curve.specs.Normalising.{IsMerged, IsFront, IsTwoPeriods, IsLeast
 use Rattle.upp_curve.specs.Room.{Room, IsRoom, TimeHasRoom, PieceHasRoom, PiecesHaveRoom, EndHasRoom, TurnHasRoom, TwoHaveRoom, CycleHasRoom}
 use Rattle.upp_curve.proofs.OneForm.{affine, infinite}
 use Rattle.upp_curve.proofs.Normal.{periodic}
-use Rattle.upp_curve.proofs.NormaliseLists.{each_map, each_append, each_upto}
+use Rattle.upp_curve.proofs.NormaliseLists.{each_map, each_append, each_upto, upto_before}
 use Rattle.upp_curve.proofs.NormaliseCuts.{each_front}
 use Rattle.upp_curve.proofs.NormalisePeriods.{two_periods_are}
 use Rattle.upp_curve.proofs.NormaliseRank.{Last}
 use Rattle.upp_curve.proofs.NormaliseForm.{each_part, ends_at, infinite_form, affine_form, repeating_form}
-use Rattle.upp_curve.proofs.NormaliseRoom.{start_fits, piece_weaken}
-use Rattle.upp_curve.proofs.NormaliseRoomy.{CopyFits, copy_fits, read_fits, lines_fit, ends_fit, ends_nowhere, weaken_each, each_in, cut_piece, found_early, least_room, period_readable}
+use Rattle.upp_curve.proofs.NormaliseRoom.{start_fits, piece_weaken, line_fits}
+use Rattle.upp_curve.proofs.NormaliseRoomy.{CopyFits, copy_fits, read_fits, lines_fit, ends_fit, ends_nowhere, weaken_each, each_in, cut_piece, found_early, each_and, least_room, period_readable}
 
 abbrev pub curve_of : List Piece → Tail → SpecCurve
 curve_of ps k = record { pieces = ps; tail = k }
@@ -163,24 +167,51 @@ both_room m times values given longer items r d c T R zero M = record {
 }
 
 -- ---- an infinite tail
+before_read : (r : ℚ) (p : Piece) → p.x <ℚ r → piece_read (Infinite r) p ≡ p
+before_read r p l = rw (lt_q_out p.x r l) refl
+
+each_before : (m : Room) (ps : List Piece) (r : ℚ) → Each (λ p. PieceHasRoom m 1 (piece_read (Infinite r) p)) ps → Each (PieceHasRoom m 1) (upto r ps)
+each_before m ps r E =
+    each_map (λ p. PieceHasRoom m 1 (piece_read (Infinite r) p) × (p.x <ℚ r)) (PieceHasRoom m 1) (λ p k. subst (PieceHasRoom m 1) (before_read r p k.1) k.0) (upto r ps)
+    (each_and (λ p. PieceHasRoom m 1 (piece_read (Infinite r) p)) (λ p. p.x <ℚ r) (upto r ps) (each_upto (λ p. PieceHasRoom m 1 (piece_read (Infinite r) p)) r ps E) (upto_before r ps))
+
+value_seen : (r : ℚ) (q : Piece) → q.x ≤ℚ r → piece_value (piece_read (Infinite r) q) r ≡ piece_value q r
+value_seen r q early = elim (le_or_lt r q.x) [
+  | inr l ↦ ap (λ z. piece_value z r) (before_read r q l)
+  | inl l ↦
+      let z = piece_read (Infinite r) q in
+      let same : q.x ≡ r = antisym (early, l) in
+      ap (piece_value z) (sym same) ∙ value_at_start z ∙ sym (value_at_start q) ∙ ap (piece_value q) same
+]
+
 pub ended_room : (m : Room) (ps : List Piece) (r : ℚ) → EndHasRoom m ps r → StartsAtZero ps → int (pos 0) ≤ℚ r → PiecesHaveRoom m 4 (ended ps r)
-unfolding read piece_value
-ended_room m [] r E zero h = absurd zero
-ended_room m (p ∷ ps) r E zero h =
-    let R = E.pieces in
+unfolding read
+ended_room m [] r E starts h = absurd starts
+ended_room m (p ∷ ps) r E starts h =
     let q = piece_in p ps r in
-    let low : p.x ≤ℚ r = subst (λ x. x ≤ℚ r) (sym zero.0) h in
-    let last = cut_piece m 1 q r None (each_in (PieceHasRoom m 1) p ps r R.each.0 R.each.1) E.time E.early (found_early p ps r low) tt in
+    let low : p.x ≤ℚ r = subst (λ x. x ≤ℚ r) (sym starts.0) h in
+    let early = found_early p ps r low in
+    let seen = piece_read (Infinite r) q in
+    let cut = cut_piece m 1 seen r None (each_in (λ p. PieceHasRoom m 1 (piece_read (Infinite r) p)) p ps r E.each.0 E.each.1) E.time E.early early tt in
+    let last = subst (λ v. PieceHasRoom m (1 + 1) record { x = r; at = v; line = None }) (value_seen r q early) cut in
     let z : Piece = record { x = r; at = read (p ∷ ps) r; line = None } in
+    let all = p ∷ ps in
     record {
-      is = R.is;
-      each = each_append (PieceHasRoom m 4) (upto r (p ∷ ps)) (z ∷ []) (weaken_each m 1 4 (upto r (p ∷ ps)) (omega arith) (each_upto (PieceHasRoom m 1) r (p ∷ ps) R.each))
-          (piece_weaken m (1 + 1) 4 z (omega arith) last, tt);
-      early = each_append (λ z. z.x ≤ℚ m.end) (upto r (p ∷ ps)) (z ∷ []) (each_upto (λ z. z.x ≤ℚ m.end) r (p ∷ ps) R.early) (E.early, tt);
+      is = E.is;
+      each = each_append (PieceHasRoom m 4) (upto r all) (z ∷ []) (weaken_each m 1 4 (upto r all) (omega arith) (each_before m all r E.each)) (piece_weaken m (1 + 1) 4 z (omega arith) last, tt);
+      early = each_append (λ z. z.x ≤ℚ m.end) (upto r all) (z ∷ []) (each_map (λ z. z.x <ℚ r) (λ z. z.x ≤ℚ m.end) (λ z l. le_trans (le_of_lt l) E.early) (upto r all) (upto_before r all)) (E.early, tt);
     }
 
+pub end_read : (m : Room) (ps seen : List Piece) (r : ℚ) → seen ≡ ps → EndHasRoom m ps r → ReadFits seen r
+end_read m ps seen r e E = subst (λ zs. ReadFits zs r) (sym e) (fits ps E.each)
+  where
+    fits : (ps : List Piece) → Each (λ p. PieceHasRoom m 1 (piece_read (Infinite r) p)) ps → ReadFits ps r
+    fits [] F = tt
+    fits (p ∷ ps) F = λ l.
+      let q = piece_in p ps r in
+      let P = subst (PieceHasRoom m 1) (before_read r q l) (each_in (λ p. PieceHasRoom m 1 (piece_read (Infinite r) p)) p ps r F.0 F.1) in
+      line_fits m 1 r q.line E.is (omega arith) P.line E.time E.early
+
+-- ---- any other
 pub more_room : (m : Room) (ps : List Piece) → PiecesHaveRoom m 1 ps → PiecesHaveRoom m 4 ps
 more_room m ps R = record { is = R.is; each = weaken_each m 1 4 ps (omega arith) R.each; early = R.early }
-
-pub end_read : (m : Room) (ps seen : List Piece) (r : ℚ) → seen ≡ ps → EndHasRoom m ps r → ReadFits seen r
-end_read m ps seen r e E = subst (λ zs. ReadFits zs r) (sym e) (read_fits m 1 ps r E.pieces.is (omega arith) E.pieces.each E.time E.early)

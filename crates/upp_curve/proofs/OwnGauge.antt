@@ -75,7 +75,7 @@ last_nonneg P p [] h = h.0
 last_nonneg P p (q ∷ qs) h = last_nonneg P q qs h.1
 
 -- ---- sums of times up to the window's end
-end_within : (z : Sizes) (end : ℚ) → AreSizes z end → int (pos 0) ≤ℚ end → end ≤ℚ int (pos z.largest)
+pub end_within : (z : Sizes) (end : ℚ) → AreSizes z end → int (pos 0) ≤ℚ end → end ≤ℚ int (pos z.largest)
 end_within z end a h =
     let S = int (pos z.steepness) in
     let e1 : end ≤ℚ S *ℚ end = subst (λ y. y ≤ℚ S *ℚ end) (mul_comm (int (pos 1)) end ∙ mul_one end) (mul_le_mul_right end h (nat_le 1 z.steepness a.steepness)) in

@@ -1,6 +1,6 @@
 -- Steps that fit: a piece moved in time and height, and what is read of pieces. Own choice.
 use Rattle.std.specs.Prelude.{List, [], ◌∷◌, Option, Some, None}
-use Rattle.rational.specs.Rational.{ℚ, ◌+ℚ◌, ◌*ℚ◌, neg_ℚ}
+use Rattle.rational.specs.Rational.{ℚ, ◌+ℚ◌, ◌*ℚ◌, ◌<ℚ◌, neg_ℚ}
 use Rattle.rational.specs.Ratio.{IsSmall, SumFits}
 use Rattle.affine_segment.specs.declared.line.Line.{Line}
 use Rattle.affine_segment.specs.declared.line.Piece.{Piece}
@@ -26,4 +26,4 @@ pub record LaterFits (by rise : ℚ) (p : Piece) : Type 0 where
 -- the value that is read at t
 abbrev pub ReadFits : List Piece → ℚ → Type 0
 ReadFits [] t = Unit {0}
-ReadFits (p ∷ ps) t = LineFitsAt t (piece_in p ps t).line
+ReadFits (p ∷ ps) t = (piece_in p ps t).x <ℚ t → LineFitsAt t (piece_in p ps t).line

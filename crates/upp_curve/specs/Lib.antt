@@ -19,6 +19,9 @@ pub mod KindLaws
 pub mod WorkedRows
 pub mod WorkedStairs
 pub mod WorkedShifts
+pub mod Normalising
+pub mod Fitting
+pub mod Room
 pub mod Periods
 pub mod Spans
 pub mod Limits
@@ -30,8 +33,5 @@ pub mod Gathered
 pub mod Seen
 pub mod ClosedForm
 pub mod OwnWindow
-pub mod Normalising
 pub mod Levels
-pub mod Fitting
-pub mod Room
 pub mod ClosedOperands

@@ -10,6 +10,7 @@ use Rattle.affine_segment.specs.declared.line.Piece.{Piece}
 use Rattle.upp_curve.specs.declared.curve.Tail.{Tail}
 use Rattle.upp_curve.specs.declared.curve.Tail.TheVariants.{Periodic, Affine, Infinite}
 use Rattle.upp_curve.specs.Normal.{Each}
+use Rattle.upp_curve.specs.Spans.{piece_read}
 
 -- the largest number of 127 bits
 abbrev pub top : ℕ
@@ -86,9 +87,10 @@ pub record PiecesHaveRoom (m : Room) (n : ℕ) (ps : List Piece) : Type 0 where
   pub each : Each (PieceHasRoom m n) ps
   pub early : Each (λ p. p.x ≤ℚ m.end) ps
 
--- a curve that is infinite past its rank
+-- a curve that is infinite past its rank; a line that starts there is read at no time
 pub record EndHasRoom (m : Room) (ps : List Piece) (rank : ℚ) : Type 0 where
-  pub pieces : PiecesHaveRoom m 1 ps
+  pub is : IsRoom m
+  pub each : Each (λ p. PieceHasRoom m 1 (piece_read (Infinite rank) p)) ps
   pub time : TimeHasRoom m rank
   pub early : rank ≤ℚ m.end
 

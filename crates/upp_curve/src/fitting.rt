@@ -1,7 +1,7 @@
 //! Steps of arithmetic that are known to fit.
 
 ghost use Rattle.std.specs.Prelude.{◌≡◌, List, ◌∷◌, pos};
-ghost use Rattle.rational.specs.Rational.{int, ◌+ℚ◌, ◌-ℚ◌, ◌*ℚ◌, ◌≤ℚ◌, neg_ℚ};
+ghost use Rattle.rational.specs.Rational.{int, ◌+ℚ◌, ◌-ℚ◌, ◌*ℚ◌, ◌≤ℚ◌, ◌<ℚ◌, neg_ℚ};
 ghost use Rattle.rational.specs.Ratio.{IsSmall, SumFits};
 ghost use Rattle.rational.specs.Extended.{◌+ₑ◌};
 ghost use Rattle.affine_segment.specs.Values.{line_value};
@@ -12,9 +12,11 @@ ghost use Rattle.upp_curve.specs.Unrolled.{line_later, later};
 ghost use Rattle.upp_curve.specs.Fitting.{LaterFits, LineLaterFits, ReadFits};
 
 use crate::reading;
+use crate::reading::piece_at;
 use affine_segment::{Line, Piece};
 use fraction128::{Ext, Frac};
 use rational::Extended;
+use std::cmp::Ordering;
 
 /// a + b.
 pub(crate) fn sum(a: Frac, b: Frac) -> Frac
@@ -61,10 +63,13 @@ pub(crate) fn line_value(line: Option<Line>, t: Frac) -> Ext
 
 /// The value of a piece at t.
 pub(crate) fn piece_value(p: &Piece, t: Frac) -> Ext
-    requires { LineFitsAt t p.now.line }
+    requires { p.now.x <ℚ t → LineFitsAt t p.now.line }
     ensures { result ≡ piece_value p.now t }
 {
-    reading::piece_value(p, t).unwrap()
+    match t.cmp(&p.x) {
+        Ordering::Greater => line_value(p.line, t),
+        _ => p.at,
+    }
 }
 
 /// The value of pieces at t.
@@ -74,7 +79,7 @@ pub(crate) fn read(pieces: &[Piece], t: Frac) -> Ext
     requires fits { ReadFits pieces.now t }
     ensures { result ≡ read pieces.now t }
 {
-    reading::read(pieces, t).unwrap()
+    piece_value(&piece_at(pieces, t), t)
 }
 
 // The line, `by` later and `rise` higher.
