@@ -156,10 +156,11 @@ merge_of p (q ∷ qs) rise = elim (continues_or p q) [
 -- ---- one line
 line_case : (kept : List Piece) (g : ℚ → Ext) (r d c : ℚ) → int (pos 0) ≤ℚ r → int (pos 0) <ℚ d → Repeats g r d c → IsLine kept g → Each (λ p. p.x ≤ℚ r) kept → IsOneLine g r
 line_case kept g r d c nonneg some R L early =
-    let X = r +ℚ d +ℚ d in
-    (last_line kept,
+    let X = r +ℚ d +ℚ d in (
+      last_line kept,
       one_line (last_line kept) g r d c X some R (with2 r d (λ c. omega (arith, c.le, c.lt, c.same)))
-    (λ t a b. sym (L.reads t (le_trans nonneg (le_of_lt a))) ∙ read_past kept r t early a))
+          (λ t a b. sym (L.reads t (le_trans nonneg (le_of_lt a))) ∙ read_past kept r t early a),
+    )
 
 -- ---- a fraction of a period between breaks
 abbrev IsNothing : Piece → Type 0
@@ -268,7 +269,7 @@ turn_on T S D ks first (suc (suc k)) x d c g h K E wd wc some_n R =
       | inl w ↦ (found.0, w)
       | inr N ↦
           absurd (nothing_line f d c q W.rest some P (subst (λ z. Repeats f z d c) (sym W.at) (repeated_rule (read ks) x d c some))
-            (subst (Each IsNothing) (sym whole) (nothing_copies n e u q (upto (y +ℚ e) W.rest) N)))
+          (subst (Each IsNothing) (sym whole) (nothing_copies n e u q (upto (y +ℚ e) W.rest) N)))
     ]
 
 -- ---- the tail of a raw curve

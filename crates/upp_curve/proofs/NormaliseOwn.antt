@@ -206,34 +206,40 @@ tail_room : (z : Sizes) (w : ℚ) (ps : List Piece) (tail : Tail) → Given z w 
 tail_room z w ps (Periodic rank period rise) G F E on S spans_stand inside =
     let r = E.0 in
     let some = G.some in
-    let nonneg = F.nonneg in
-    (room_of z w, record {
-      is = room_is z w G;
-      times_is = refl;
-      values_is = refl;
-      each = each_room z w (Periodic rank period rise) ps G spans_stand inside;
-      time = time_room z w rank G on F.nonneg;
-      move = record {
-        time = S.whole;
-        low = le_of_lt F.some;
-        height = value_whole z rise S.value;
-        within = within_weaken (int (pos z.largest)) (many (room_of z w) 1) rise (largest_many z w) S.value.within;
-      };
-      ends = with3 rank period w (λ c. omega (arith, c.le, c.lt, c.same));
-    })
-tail_room z w ps (Affine rank) G F E on S spans_stand inside =
-    (room_of z w, record {
-      is = room_is z w G;
-      each = each_room z w (Affine rank) ps G spans_stand inside;
-      early = each_map (λ p. (int (pos 0) ≤ℚ p.x) × (p.x ≤ℚ w)) (λ p. p.x ≤ℚ int (pos 3) *ℚ w) (λ p h. far w p.x G.some h.1) ps inside;
-    })
-tail_room z w ps (Infinite rank) G F E on S spans_stand inside =
-    (room_of z w, record {
-      is = room_is z w G;
-      each = each_room z w (Infinite rank) ps G spans_stand inside;
-      time = time_room z w rank G on F.nonneg;
-      early = far w rank G.some E;
-    })
+    let nonneg = F.nonneg in (
+      room_of z w,
+      record {
+        is = room_is z w G;
+        times_is = refl;
+        values_is = refl;
+        each = each_room z w (Periodic rank period rise) ps G spans_stand inside;
+        time = time_room z w rank G on F.nonneg;
+        move = record {
+          time = S.whole;
+          low = le_of_lt F.some;
+          height = value_whole z rise S.value;
+          within = within_weaken (int (pos z.largest)) (many (room_of z w) 1) rise (largest_many z w) S.value.within;
+        };
+        ends = with3 rank period w (λ c. omega (arith, c.le, c.lt, c.same));
+      },
+    )
+tail_room z w ps (Affine rank) G F E on S spans_stand inside = (
+  room_of z w,
+  record {
+    is = room_is z w G;
+    each = each_room z w (Affine rank) ps G spans_stand inside;
+    early = each_map (λ p. (int (pos 0) ≤ℚ p.x) × (p.x ≤ℚ w)) (λ p. p.x ≤ℚ int (pos 3) *ℚ w) (λ p h. far w p.x G.some h.1) ps inside;
+  },
+)
+tail_room z w ps (Infinite rank) G F E on S spans_stand inside = (
+  room_of z w,
+  record {
+    is = room_is z w G;
+    each = each_room z w (Infinite rank) ps G spans_stand inside;
+    time = time_room z w rank G on F.nonneg;
+    early = far w rank G.some E;
+  },
+)
 
 tail_grids : (z : Sizes) (w : ℚ) (ps : List Piece) (tail : Tail) → Given z w → StartsAtZero ps → TailFits ps tail → Whole z.dt (rank_of tail) → TailStands z tail
     → AllByRecursion (SpanStands z) (spans tail ps) → Each (λ p. (int (pos 0) ≤ℚ p.x) × (p.x ≤ℚ w)) ps → TailOnGrids z.dt (grid_of z) tail (value_at record { pieces = ps; tail = tail })

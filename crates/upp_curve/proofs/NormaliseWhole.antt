@@ -208,9 +208,9 @@ end_read m ps seen r e E = subst (λ zs. ReadFits zs r) (sym e) (fits ps E.each)
     fits : (ps : List Piece) → Each (λ p. PieceHasRoom m 1 (piece_read (Infinite r) p)) ps → ReadFits ps r
     fits [] F = tt
     fits (p ∷ ps) F = λ l.
-      let q = piece_in p ps r in
-      let P = subst (PieceHasRoom m 1) (before_read r q l) (each_in (λ p. PieceHasRoom m 1 (piece_read (Infinite r) p)) p ps r F.0 F.1) in
-      line_fits m 1 r q.line E.is (omega arith) P.line E.time E.early
+        let q = piece_in p ps r in
+        let P = subst (PieceHasRoom m 1) (before_read r q l) (each_in (λ p. PieceHasRoom m 1 (piece_read (Infinite r) p)) p ps r F.0 F.1) in
+        line_fits m 1 r q.line E.is (omega arith) P.line E.time E.early
 
 -- ---- any other
 pub more_room : (m : Room) (ps : List Piece) → PiecesHaveRoom m 1 ps → PiecesHaveRoom m 4 ps
