@@ -102,3 +102,8 @@ gathered_largest g end n r m h e i l f =
     let s = cap_below g.steepness (bound_of (twice n.slopes)) h.steepness e in
     let j : r ≡ whole_up (int (pos (bound_of (twice n.slopes))) *ℚ end) = subst (λ k. r ≡ whole_up (int (pos k) *ℚ end)) s i in
     rw f (subst (λ k. Kept (max g.largest r) (max (bound_of n.values) k)) j (kept_max g.largest (bound_of n.values) r h.largest l))
+
+-- what is kept of a number that is small enough is the number
+pub kept_small : (b n : ℕ) → Kept b n → n ≤ 2 ^ 122 → b ≡ n
+unfolding cap
+kept_small b n k h = let i = k.is in omega (arith, i, h)

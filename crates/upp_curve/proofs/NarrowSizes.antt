@@ -153,3 +153,12 @@ small_slope z end s a n h =
     small_on_grid z.ds S s a.ds (omega (arith, l, one))
     (subst (λ x. x ≤ℚ int (pos largest_part)) (sym (mul_whole (pos z.steepness) (pos z.ds) 0)) (nat_le (z.steepness * z.ds) largest_part (omega (arith, l))))
     h.whole (half_bound S s (nat_nonneg z.steepness) h.within)
+
+-- the grids themselves
+pub grids_narrow : (z : Sizes) (end : ℚ) (b : ℕ) → AreSizes z end → IsNarrow z b → (z.dt ≤ b) × (grid_of z ≤ b)
+grids_narrow z end b a n =
+    let t = n.times in
+    let g = n.grid in
+    let one : 1 * z.dt ≤ z.largest * z.dt = mul-le-mul_right z.dt a.largest in
+    let all : 1 * grid_of z ≤ z.largest * grid_of z = mul-le-mul_right (grid_of z) a.largest in
+    (omega (arith, t, one), omega (arith, g, all))

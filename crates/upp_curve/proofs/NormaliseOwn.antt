@@ -24,12 +24,14 @@ use Rattle.upp_curve.specs.Periods.{own_period}
 use Rattle.upp_curve.specs.Normal.{Each, StartsAtZero, IsRaw, TailFits}
 use Rattle.upp_curve.specs.Spans.{Span, spans, piece_read, start_after, end_of}
 use Rattle.upp_curve.specs.Limits.{Sizes, own_end, own_sizes, own_gauge}
+use Rattle.upp_curve.specs.declared.own_window.OwnNumbers.{OwnNumbers}
+use Rattle.upp_curve.specs.OwnWindow.{AreNumbers}
 use Rattle.upp_curve.specs.Sized.{IsValue, IsSlope, AreSizes, ValueStands, LineStands, SpanStands, TailStands, CurveStands}
 use Rattle.upp_curve.specs.Normalising.{TailOnGrids}
 use Rattle.upp_curve.specs.Room.{top, Room, IsRoom, TimeHasRoom, many, ValueHasRoom, LineHasRoom, PieceHasRoom, IsMove, PiecesHaveRoom, EndHasRoom, TurnHasRoom, TailHasRoom}
 use Rattle.upp_curve.proofs.Rules.{int_mul}
 use Rattle.upp_curve.proofs.ByTail.{value_of}
-use Rattle.upp_curve.proofs.NarrowSizes.{grid_of, IsNarrow, narrow_limit, grid_pos, value_whole, run_within, line_parts, slope_time_divides}
+use Rattle.upp_curve.proofs.NarrowSizes.{grid_of, grids_narrow, IsNarrow, narrow_limit, grid_pos, value_whole, run_within, line_parts, slope_time_divides}
 use Rattle.upp_curve.proofs.PieceLists.{starts_nonneg}
 use Rattle.upp_curve.proofs.OwnGauge.{end_within}
 use Rattle.upp_curve.proofs.CurveStands.{own_are_sizes, own_stands, starts_below_own_end}
@@ -271,30 +273,46 @@ inside_own : (c : SpecCurve) → IsRaw c → Each (λ p. (int (pos 0) ≤ℚ p.x
 inside_own c raw = nonneg c.pieces (own_end c) (low_starts c.pieces (starts_nonneg c.pieces raw.starts)) (starts_below_own_end c raw)
 
 -- the numbers of a curve whose own gauge is below 2 ^ 120 have room
-pub own_room : (c : SpecCurve) → IsRaw c → own_gauge c < 2 ^ 120 → TailHasRoom (own_sizes c).dt (grid_of (own_sizes c)) c.pieces c.tail
+own_room : (c : SpecCurve) → IsRaw c → own_gauge c < 2 ^ 120 → TailHasRoom (own_sizes c).dt (grid_of (own_sizes c)) c.pieces c.tail
 own_room c raw small =
     let S = own_stands c raw in
     tail_room (own_sizes c) (own_end c) c.pieces c.tail (given c raw small) raw.tail (ends_by c.pieces c.tail raw.tail).0 S.rank S.tail S.spans (inside_own c raw)
 
-pub own_grids : (c : SpecCurve) → IsRaw c → own_gauge c < 2 ^ 120 → TailOnGrids (own_sizes c).dt (grid_of (own_sizes c)) c.tail (value_at c)
+own_grids : (c : SpecCurve) → IsRaw c → own_gauge c < 2 ^ 120 → TailOnGrids (own_sizes c).dt (grid_of (own_sizes c)) c.tail (value_at c)
 own_grids c raw small =
     let S = own_stands c raw in
     tail_grids (own_sizes c) (own_end c) c.pieces c.tail (given c raw small) raw.starts raw.tail S.rank S.tail S.spans (inside_own c raw)
 
--- and its grids are none too fine
-pub record OwnGrids (c : SpecCurve) : Type 0 where
-  pub some_times : 0 < (own_sizes c).dt
-  pub times : (own_sizes c).dt < 2 ^ 127
-  pub some_values : 0 < grid_of (own_sizes c)
-  pub values : grid_of (own_sizes c) < 2 ^ 127
+-- what the code has found of its numbers
+pub record Found (c : SpecCurve) (times values : ℕ) : Type 0 where
+  pub some_times : 0 < times
+  pub times_fit : times < 2 ^ 127
+  pub some_values : 0 < values
+  pub values_fit : values < 2 ^ 127
+  pub grids : TailOnGrids times values c.tail (value_at c)
+  pub room : TailHasRoom times values c.pieces c.tail
 
-pub own_grids_are : (c : SpecCurve) → own_gauge c < 2 ^ 120 → OwnGrids c
-own_grids_are c small =
+found_of : (c : SpecCurve) (times values : ℕ) → IsRaw c → own_gauge c < 2 ^ 120 → times ≡ (own_sizes c).dt → values ≡ grid_of (own_sizes c) → Found c times values
+found_of c times values raw small t v =
     let z = own_sizes c in
     let a = own_are_sizes c in
-    let n = narrow_limit z (own_end c) a small in
-    let t = n.times in
-    let g = n.grid in
-    let one : 1 * z.dt ≤ z.largest * z.dt = mul-le-mul_right z.dt a.largest in
-    let all : 1 * grid_of z ≤ z.largest * grid_of z = mul-le-mul_right (grid_of z) a.largest in
-    record { some_times = a.dt; times = omega (arith, t, one); some_values = grid_pos z (own_end c) a; values = omega (arith, g, all) }
+    let n = grids_narrow z (own_end c) (2 ^ 114) a (narrow_limit z (own_end c) a small) in
+    let n0 = n.0 in
+    let n1 = n.1 in
+    let at : Found c z.dt (grid_of z) = record {
+      some_times = a.dt;
+      times_fit = omega (arith, n0);
+      some_values = grid_pos z (own_end c) a;
+      values_fit = omega (arith, n1);
+      grids = own_grids c raw small;
+      room = own_room c raw small;
+    } in
+    subst (λ x. Found c x values) (sym t) (subst (Found c z.dt) (sym v) at)
+
+pub own_found : (ps seen : List Piece) (tail : Tail) (o : OwnNumbers) → IsRaw record { pieces = ps; tail = tail } → seen ≡ ps
+    → AreNumbers (own_end record { pieces = seen; tail = tail }) (own_sizes record { pieces = seen; tail = tail }) o → o.gauge < 2 ^ 120
+    → Found record { pieces = ps; tail = tail } o.times o.values
+own_found ps seen tail o raw e A small =
+    let c : SpecCurve = record { pieces = ps; tail = tail } in
+    let B = subst (λ zs. AreNumbers (own_end record { pieces = zs; tail = tail }) (own_sizes record { pieces = zs; tail = tail }) o) e A in
+    found_of c o.times o.values raw (subst (λ k. k < 2 ^ 120) B.gauge small) B.times B.values

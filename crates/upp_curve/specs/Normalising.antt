@@ -9,7 +9,7 @@ use Rattle.affine_segment.specs.Values.{line_value}
 use Rattle.upp_curve.specs.declared.curve.Tail.{Tail}
 use Rattle.upp_curve.specs.declared.curve.Tail.TheVariants.{Periodic, Affine, Infinite}
 use Rattle.rational.specs.Grid.{Whole}
-use Rattle.upp_curve.specs.declared.normalise.RawCurve.{RawCurve}
+use Rattle.upp_curve.specs.declared.raw_curve.RawCurve.{RawCurve}
 use Rattle.upp_curve.specs.declared.cycle.Cycle.{Cycle}
 use Rattle.upp_curve.specs.declared.cycle.Shape.{Shape}
 use Rattle.upp_curve.specs.declared.cycle.Shape.TheVariants.{Straight, Turns}

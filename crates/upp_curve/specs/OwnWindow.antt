@@ -1,5 +1,5 @@
 -- The end of a curve's own window by its last piece and its tail, and which steps to it have to fit.
-use Rattle.std.specs.Prelude.{◌≡◌, pos, Bool}
+use Rattle.std.specs.Prelude.{◌≡◌, ◌*◌, pos, Bool}
 use Rattle.rational.specs.Rational.{ℚ, ◌+ℚ◌, ◌≤ℚ◌, int}
 use Rattle.rational.specs.Ratio.{SumFits}
 use Rattle.rational.specs.declared.Extended.TheVariants.{Inf}
@@ -10,6 +10,8 @@ use Rattle.upp_curve.specs.declared.curve.Tail.TheVariants.{Periodic, Affine, In
 use Rattle.upp_curve.specs.Reading.{piece_value}
 use Rattle.upp_curve.specs.Steady.{same_ext, later_unless}
 use Rattle.upp_curve.specs.Seen.{RankLineFits}
+use Rattle.upp_curve.specs.Limits.{Sizes, gauge_of}
+use Rattle.upp_curve.specs.declared.own_window.OwnNumbers.{OwnNumbers}
 
 -- the last piece starts at the rank of an affine or infinite tail or before
 abbrev pub LastBy : Piece → Tail → Type 0
@@ -47,3 +49,10 @@ abbrev pub EndsAt : Tail → ℚ → Type 0
 EndsAt (Periodic rank period rise) end = end ≡ rank +ℚ period
 EndsAt (Affine rank) end = Unit {0}
 EndsAt (Infinite rank) end = Unit {0}
+
+-- the end of a window, and the gauge and the grids of its sizes: times on that of dt, values and products of slopes with times on that of dv dt ds
+pub record AreNumbers (until : ℚ) (z : Sizes) (o : OwnNumbers) : Type 0 where
+  pub end : o.end ≡ until
+  pub gauge : o.gauge ≡ gauge_of z
+  pub times : o.times ≡ z.dt
+  pub values : o.values ≡ z.dv * z.dt * z.ds

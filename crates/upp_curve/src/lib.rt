@@ -16,10 +16,10 @@ mod limits;
 mod long;
 mod lowest_rank;
 mod merging;
-mod normalise;
 mod op_kind;
 mod operand_numbers;
 mod own_window;
+mod raw_curve;
 mod reading;
 mod same;
 mod scaled_numbers;
@@ -38,6 +38,6 @@ pub use laws::{
     worked_operators, worked_shifts, worked_stairs,
 };
 pub use limits::{gauge, tally};
-pub use normalise::{RawCurve, normalise_on};
 pub use op_kind::{OpFault, OpKind, Window};
+pub use raw_curve::{RawCurve, normalise};
 pub use starts::{is_after, is_before};

@@ -7,12 +7,13 @@ ghost use Rattle.affine_segment.specs.Values.{line_value};
 ghost use Rattle.upp_curve.specs.Reading.{piece_value};
 ghost use Rattle.upp_curve.specs.Curve.{SpecCurve};
 ghost use Rattle.upp_curve.specs.Steady.{same_ext, later_unless};
-ghost use Rattle.upp_curve.specs.OwnWindow.{LastBy, end_from, EndFits, EndsAt};
+ghost use Rattle.upp_curve.specs.OwnWindow.{LastBy, end_from, EndFits, EndsAt, AreNumbers};
 ghost use Rattle.upp_curve.specs.Periods.{HasPeriod};
 ghost use Rattle.upp_curve.specs.Spans.{end_of};
 ghost use Rattle.rational.specs.Ratio.{SumFits};
 ghost use Rattle.upp_curve.specs.Normal.{IsRaw, StartsAtZero};
-ghost use Rattle.upp_curve.specs.Limits.{own_gauge, gauge_of, sizes_of, curve_numbers};
+ghost use Rattle.upp_curve.specs.Gathered.{Gathers};
+ghost use Rattle.upp_curve.specs.Limits.{Numbers, joined, time_alone, own_end, own_gauge, own_sizes, gauge_of, sizes_of, curve_numbers};
 ghost use Rattle.upp_curve.specs.Seen.{RankLineFits};
 
 use crate::curve::Tail;
@@ -94,23 +95,49 @@ fn own_end(last: &Piece, tail: &Tail) -> Option<Frac>
     }
 }
 
-/// The gauge of a curve with a window, in whatever form it is given; None where it is 2^128 or more. `after` is where the
-/// next piece starts after the last.
-pub(crate) fn gauge_with(
+/// The numbers that limit a call on a curve by itself: the end of its window, its gauge, and the grids of its times and of its
+/// values.
+#[derive(Debug, Clone, Copy)]
+pub(crate) struct OwnNumbers {
+    pub end: Frac,
+    pub gauge: u128,
+    pub times: u128,
+    pub values: u128,
+}
+
+// The numbers of what was gathered, the window's end first; None where the gauge is 2^128 or more.
+fn numbers_of(g: Gathered, end: Frac) -> Option<OwnNumbers>
+    ensures { (n : Numbers) → Gathers g (joined (time_alone end) n)
+        → MatchOption result (2 ^ 128 ≤ gauge_of (sizes_of end n)) (AreNumbers end (sizes_of end n)) }
+{
+    match gauge_of(g, end) {
+        Some(gauge) => Some(OwnNumbers {
+            end,
+            gauge,
+            times: g.dt,
+            values: g.dv.saturating_mul(g.dt).saturating_mul(g.ds),
+        }),
+        None => None,
+    }
+}
+
+// The numbers of a curve with a window, in whatever form it is given; None where the gauge is 2^128 or more. `after` is where
+// the next piece starts after the last.
+fn numbers_with(
     pieces: &[Piece],
     tail: &Tail,
     after: &Option<Frac>,
     end: Frac,
-) -> Option<u128>
+) -> Option<OwnNumbers>
     requires starts { StartsAtZero pieces.now }
     requires period { HasPeriod tail.now }
     requires after { after.now ≡ end_of tail.now }
     ensures { let c : SpecCurve = record { pieces = pieces.now; tail = tail.now } in
-        let exact = gauge_of (sizes_of end (curve_numbers end c)) in
-        MatchOption result (2 ^ 128 ≤ exact) (λ g. g ≡ exact) }
+        let exact = sizes_of end (curve_numbers end c) in
+        MatchOption result (2 ^ 128 ≤ gauge_of exact) (AreNumbers end exact) }
 {
     match with_curve(Gathered::nothing().with_time(end), pieces, tail, after, end) {
-        Some(found) => gauge_of(found, end),
+        Some(found) => numbers_of(found, end),
         None => None,
     }
 }
@@ -127,14 +154,14 @@ fn after_last(tail: &Tail, end: Frac) -> Option<Frac>
     }
 }
 
-/// The gauge of a curve by itself, in whatever form it is given; None where it is 2^128 or more.
-pub(crate) fn own_gauge(pieces: &[Piece], tail: &Tail) -> Option<u128>
+/// The numbers of a curve by itself, in whatever form it is given; None where its gauge is 2^128 or more.
+pub(crate) fn own_numbers(pieces: &[Piece], tail: &Tail) -> Option<OwnNumbers>
     requires { let c : SpecCurve = record { pieces = pieces.now; tail = tail.now } in IsRaw c }
     ensures { let c : SpecCurve = record { pieces = pieces.now; tail = tail.now } in
-        MatchOption result (2 ^ 128 ≤ own_gauge c) (λ g. g ≡ own_gauge c) }
+        MatchOption result (2 ^ 128 ≤ own_gauge c) (AreNumbers (own_end c) (own_sizes c)) }
 {
     match own_end(&pieces[pieces.len() - 1], tail) {
-        Some(end) => gauge_with(pieces, tail, &after_last(tail, end), end),
+        Some(end) => numbers_with(pieces, tail, &after_last(tail, end), end),
         None => None,
     }
 }

@@ -9,7 +9,7 @@ use Rattle.upp_curve.proofs.ByTail.{value_of}
 use Rattle.upp_curve.proofs.NormaliseForm.{ok_map, grids_through, ended_starts, ended_reads}
 use Rattle.upp_curve.proofs.NormaliseRoomy.{read_fits}
 use Rattle.upp_curve.proofs.NormaliseWhole.{more_room, ended_room, end_read}
-use Rattle.upp_curve.proofs.normalise.normalise_on.Goals as goal
+use Rattle.upp_curve.proofs.raw_curve.normalise_on.Goals as goal
 
 pub of_pieces-requires-clause-room : goal.of_pieces-requires-clause-room
 of_pieces-requires-clause-room c =

@@ -3,7 +3,7 @@ use Rattle.upp_curve.specs.Normalising.{HasValues, cycle_values}
 use Rattle.upp_curve.proofs.NormaliseForm.{repeating_form}
 use Rattle.upp_curve.proofs.NormaliseRoomy.{shares_fit, steps_fit, least_room}
 use Rattle.upp_curve.proofs.NormaliseWhole.{repeating_curve}
-use Rattle.upp_curve.proofs.normalise.repeating.Goals as goal
+use Rattle.upp_curve.proofs.raw_curve.repeating.Goals as goal
 
 pub least_period-requires-clause-fits : goal.least_period-requires-clause-fits
 least_period-requires-clause-fits c =

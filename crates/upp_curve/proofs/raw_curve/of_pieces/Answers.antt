@@ -2,7 +2,7 @@ use Rattle.std.proofs.Common.{arith, ◌∙◌}
 use Rattle.upp_curve.proofs.NormaliseForm.{merged_list}
 use Rattle.upp_curve.proofs.NormaliseRoomy.{lines_fit}
 use Rattle.upp_curve.proofs.NormaliseWhole.{merged_room, pieces_readable}
-use Rattle.upp_curve.proofs.normalise.of_pieces.Goals as goal
+use Rattle.upp_curve.proofs.raw_curve.of_pieces.Goals as goal
 
 pub merged-requires-clause-fits : goal.merged-requires-clause-fits
 merged-requires-clause-fits c = lines_fit c.requires.room.0 4 c.args.pieces.now (omega arith) c.requires.room.1

@@ -2,18 +2,19 @@ use Rattle.std.proofs.Common.{subst, sym, ◌≡◌, ◌≤◌, ◌^◌}
 use Rattle.std.proofs.lemmas.Bool.{true≢false}
 use Rattle.std.specs.Option.{MatchOption}
 use Rattle.upp_curve.specs.Curve.{SpecCurve}
-use Rattle.upp_curve.specs.Limits.{no_numbers, time_alone, curve_numbers}
+use Rattle.upp_curve.specs.Limits.{no_numbers, time_alone, curve_numbers, gauge_of}
+use Rattle.upp_curve.specs.OwnWindow.{AreNumbers}
 use Rattle.upp_curve.specs.ClosedForm.{closed_numbers}
-use Rattle.upp_curve.proofs.SameSizes.{same_gauge, equals_curve}
+use Rattle.upp_curve.proofs.SameSizes.{same_sizes, equals_curve}
 use Rattle.upp_curve.proofs.OwnGauge.{unknown_large}
-use Rattle.upp_curve.proofs.own_window.gauge_with.Goals as goal
+use Rattle.upp_curve.proofs.own_window.numbers_with.Goals as goal
 
 pub returns-in-Some : goal.returns-in-Some
 returns-in-Some c =
     let end = c.args.end in
     let k : SpecCurve = record { pieces = c.args.pieces.now; tail = c.args.tail.now } in
-    subst (λ n. MatchOption c.gauge_of.result (2 ^ 128 ≤ n) (λ g. g ≡ n)) (same_gauge end (closed_numbers end k) (curve_numbers end k) (equals_curve end k))
-    (c.gauge_of.ensures (closed_numbers end k) (c.in-Some.ensures.value (time_alone end) (c.with_time.ensures no_numbers c.nothing.ensures)))
+    subst (λ z. MatchOption c.numbers_of.result (2 ^ 128 ≤ gauge_of z) (AreNumbers end z)) (same_sizes end (closed_numbers end k) (curve_numbers end k) (equals_curve end k))
+    (c.numbers_of.ensures (closed_numbers end k) (c.in-Some.ensures.value (time_alone end) (c.with_time.ensures no_numbers c.nothing.ensures)))
 
 pub returns-in-None : goal.returns-in-None
 returns-in-None c =

@@ -4,8 +4,8 @@ use Rattle.upp_curve.specs.Curves.{IsCurve}
 use Rattle.upp_curve.specs.Normalising.{HasValues}
 use Rattle.upp_curve.proofs.NormaliseForm.{infinite_form, affine_form, last_read, zero_some}
 use Rattle.upp_curve.proofs.NormaliseWhole.{curve_of, infinite_curve, affine_curve}
-use Rattle.upp_curve.proofs.normalise.unending.Goals as goal
-use Rattle.upp_curve.proofs.normalise.unending.Goals.{in-None, in-Some}
+use Rattle.upp_curve.proofs.raw_curve.unending.Goals as goal
+use Rattle.upp_curve.proofs.raw_curve.unending.Goals.{in-None, in-Some}
 
 pub from_normal-requires : goal.from_normal-requires
 from_normal-requires c =

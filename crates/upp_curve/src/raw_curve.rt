@@ -1,18 +1,22 @@
 //! The normal form of any curve.
 
-ghost use Rattle.std.specs.Prelude.{◌<◌, ◌^◌, IfOk};
+ghost use Rattle.std.specs.Prelude.{◌≡◌, ◌<◌, ◌≤◌, ◌^◌, IfOk, IfErr, Err};
 ghost use Rattle.upp_curve.specs.Reading.{read};
 ghost use Rattle.upp_curve.specs.Curve.{repeated, value_at, HasSameValues};
 ghost use Rattle.upp_curve.specs.Normal.{StartsAtZero, NoMerge, FitsPeriod, IsRaw};
 ghost use Rattle.upp_curve.specs.Readable.{EachFits};
+ghost use Rattle.upp_curve.specs.Limits.{own_gauge, own_tally};
 ghost use Rattle.upp_curve.specs.Normalising.{HasValues, IsTwoPeriods, IsTurning, OnGrids, OnGridsUnlessLine, TailOnGrids, cycle_values, raw_curve};
 ghost use Rattle.upp_curve.specs.Room.{Room, PiecesHaveRoom, TwoHaveRoom, CycleHasRoom, TurnHasRoom, TailHasRoom};
 
+use crate::counts::count_below;
 use crate::curve::{Curve, Tail};
 use crate::cycle::{Cycle, Shape, shape_of};
 use crate::least_period::least_period;
 use crate::lowest_rank::lowest_rank;
 use crate::merging::merged;
+use crate::op_kind::OpFault;
+use crate::own_window::own_numbers;
 use crate::two_periods::{ended, two_periods};
 use affine_segment::Piece;
 use fraction128::Frac;
@@ -124,7 +128,7 @@ fn of_periodic(
 
 /// The normal form of a curve each of whose periods, unless its tail is one line, is a whole multiple of 1 / times, and its
 /// rise of 1 / values.
-pub fn normalise_on(
+pub(crate) fn normalise_on(
     alloc: Global,
     raw: &RawCurve,
     times: u128,
@@ -148,5 +152,30 @@ pub fn normalise_on(
         Tail::Periodic { rank, period, rise } => {
             of_periodic(alloc, &raw.pieces, rank, period, rise, times, values)
         }
+    }
+}
+
+/// The normal form of a curve in any form: the one curve that has its values. Refused with TooWide exactly where the curve's
+/// gauge, by itself as it is given, is 2^120 or more, and with TooMany exactly where that is not so and its tally is above 2^20.
+pub fn normalise(raw: RawCurve) -> Result<Curve, OpFault>
+    requires { IsRaw (raw_curve raw) }
+    ensures kept { IfOk result (λ c. HasSameValues c (raw_curve raw)) }
+    ensures wide { 2 ^ 120 ≤ own_gauge (raw_curve raw) → result ≡ Err OpFault.TooWide }
+    ensures many { own_gauge (raw_curve raw) < 2 ^ 120 → 2 ^ 20 < own_tally (raw_curve raw) → result ≡ Err OpFault.TooMany }
+    ensures inside { own_gauge (raw_curve raw) < 2 ^ 120 → own_tally (raw_curve raw) ≤ 2 ^ 20 → IfErr result (λ e. e ≡ OpFault.NoMemory) }
+{
+    let Some(own) = own_numbers(&raw.pieces, &raw.tail) else {
+        return Err(OpFault::TooWide);
+    };
+    if own.gauge >= 1 << 120 {
+        return Err(OpFault::TooWide);
+    }
+    if count_below(&raw.pieces, &raw.tail, own.end) > 1 << 20 {
+        return Err(OpFault::TooMany);
+    }
+    let alloc = *raw.pieces.allocator();
+    match normalise_on(alloc, &raw, own.times, own.values) {
+        Ok(c) => Ok(c),
+        Err(_) => Err(OpFault::NoMemory),
     }
 }

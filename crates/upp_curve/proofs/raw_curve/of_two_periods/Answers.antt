@@ -6,7 +6,7 @@ use Rattle.upp_curve.specs.Normalising.{IsShape, OnGridsUnlessLine}
 use Rattle.upp_curve.proofs.Repeats.{repeated_rule}
 use Rattle.upp_curve.proofs.NormaliseForm.{turning_grids}
 use Rattle.upp_curve.proofs.NormaliseWhole.{two_end, two_until, two_room, turn_room, pieces_readable}
-use Rattle.upp_curve.proofs.normalise.of_two_periods.Goals as goal
+use Rattle.upp_curve.proofs.raw_curve.of_two_periods.Goals as goal
 
 pub shape_of-requires-clause-end : goal.shape_of-requires-clause-end
 shape_of-requires-clause-end c =

@@ -6,7 +6,7 @@ use Rattle.upp_curve.specs.Normalising.{second_copy}
 use Rattle.upp_curve.proofs.NormaliseForm.{merged_list, grids_through, two_periods_list, two_periods_start}
 use Rattle.upp_curve.proofs.NormaliseRoomy.{lines_fit}
 use Rattle.upp_curve.proofs.NormaliseWhole.{rank_read, copy_of, copies_of, longer_room, both_room}
-use Rattle.upp_curve.proofs.normalise.of_periodic.Goals as goal
+use Rattle.upp_curve.proofs.raw_curve.of_periodic.Goals as goal
 
 pub two_periods-requires-clause-read : goal.two_periods-requires-clause-read
 two_periods-requires-clause-read c =
