@@ -27,12 +27,12 @@ use Rattle.upp_curve.specs.Unrolled.{copies_below, line_later}
 use Rattle.upp_curve.specs.Periods.{HasPeriod}
 use Rattle.upp_curve.specs.Spans.{Span, next_later, copy_of, copies_of, once_below, span_below, spans, spans_below}
 use Rattle.upp_curve.specs.Limits.{Sizes, Numbers, limit_before, gauge_of, curve_numbers}
-use Rattle.upp_curve.specs.Sized.{IsValue, IsSlope, AreSizes, Stands, ValueStands, LineStands, SpanStands, TailStands}
+use Rattle.upp_curve.specs.Sized.{grid_of, times_largest, IsValue, IsSlope, AreSizes, Stands, ValueStands, LineStands, SpanStands, TailStands}
 use Rattle.upp_curve.specs.Seen.{seen_of, NextFits, SpanFits, ValueRises, SeenRises, CopiesFit, Knows}
 use Rattle.upp_curve.proofs.Every.{every_weaken, every_flat_out, every_both}
 use Rattle.upp_curve.proofs.Copies.{copies_in, copy_zero, copy_among}
 use Rattle.upp_curve.proofs.ClosedForms.{line_moved, before_moved}
-use Rattle.upp_curve.proofs.NarrowSizes.{grid_of, IsNarrow, times_largest, LineParts, line_parts, small_number, small_sum, value_whole, value_within, narrow_gauge}
+use Rattle.upp_curve.proofs.NarrowSizes.{IsNarrow, LineParts, line_parts, small_number, small_sum, value_whole, value_within, narrow_gauge}
 use Rattle.upp_curve.proofs.CurveStands.{unrolled_stand, tail_stands, once_out, copies_first}
 use Rattle.upp_curve.proofs.PieceLists.{starts_nonneg}
 

@@ -12,12 +12,8 @@ use Rattle.rational.proofs.Integers.{mul_whole, int_add, nat_le, nat_nonneg}
 use Rattle.rational.proofs.Grid.{whole_weaken, whole_add, whole_sub, whole_mul, within_sub, within_mul, within_nonneg, within_weaken}
 use Rattle.rational.proofs.Sizes.{largest_part, small_on_grid, sum_on_grid, difference_on_grid}
 use Rattle.upp_curve.specs.Limits.{Sizes, gauge_of}
-use Rattle.upp_curve.specs.Sized.{IsValue, IsSlope, AreSizes}
+use Rattle.upp_curve.specs.Sized.{IsValue, IsSlope, AreSizes, grid_of, times_largest}
 use Rattle.upp_curve.proofs.GaugeProduct.{whole_part_of, time_part_of, slope_part_of}
-
--- the grid on which every sum of values, and of slopes times starts, stands
-abbrev pub grid_of : Sizes → ℕ
-grid_of z = z.dv * z.dt * z.ds
 
 -- the largest value times the grid is at most b, and the steepness times the grid of slopes
 pub record IsNarrow (z : Sizes) (b : ℕ) : Type 0 where
@@ -41,9 +37,6 @@ pub narrow_limit : (z : Sizes) (end : ℚ) → AreSizes z end → gauge_of z < 2
 narrow_limit z end a h = narrow_from z end (2 ^ 114) a (omega (arith, h))
 
 -- ---- numbers on the common grid, within so many times the largest value
-abbrev pub times_largest : ℕ → Sizes → ℚ
-times_largest k z = int (pos k) *ℚ int (pos z.largest)
-
 pub grid_pos : (z : Sizes) (end : ℚ) → AreSizes z end → 0 < grid_of z
 grid_pos z end a = mul-pos (mul-pos a.dv a.dt) a.ds
 

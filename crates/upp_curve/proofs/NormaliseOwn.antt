@@ -26,12 +26,12 @@ use Rattle.upp_curve.specs.Spans.{Span, spans, piece_read, start_after, end_of}
 use Rattle.upp_curve.specs.Limits.{Sizes, own_end, own_sizes, own_gauge}
 use Rattle.upp_curve.specs.declared.own_window.OwnNumbers.{OwnNumbers}
 use Rattle.upp_curve.specs.OwnWindow.{AreNumbers}
-use Rattle.upp_curve.specs.Sized.{IsValue, IsSlope, AreSizes, ValueStands, LineStands, SpanStands, TailStands, CurveStands}
+use Rattle.upp_curve.specs.Sized.{grid_of, IsValue, IsSlope, AreSizes, ValueStands, LineStands, SpanStands, TailStands, CurveStands}
 use Rattle.upp_curve.specs.Normalising.{TailOnGrids}
 use Rattle.upp_curve.specs.Room.{top, Room, IsRoom, TimeHasRoom, many, ValueHasRoom, LineHasRoom, PieceHasRoom, IsMove, PiecesHaveRoom, EndHasRoom, TurnHasRoom, TailHasRoom}
 use Rattle.upp_curve.proofs.Rules.{int_mul}
 use Rattle.upp_curve.proofs.ByTail.{value_of}
-use Rattle.upp_curve.proofs.NarrowSizes.{grid_of, grids_narrow, IsNarrow, narrow_limit, grid_pos, value_whole, run_within, line_parts, slope_time_divides}
+use Rattle.upp_curve.proofs.NarrowSizes.{grids_narrow, IsNarrow, narrow_limit, grid_pos, value_whole, run_within, line_parts, slope_time_divides}
 use Rattle.upp_curve.proofs.PieceLists.{starts_nonneg}
 use Rattle.upp_curve.proofs.OwnGauge.{end_within}
 use Rattle.upp_curve.proofs.CurveStands.{own_are_sizes, own_stands, starts_below_own_end}

@@ -35,3 +35,5 @@ pub mod ClosedForm
 pub mod OwnWindow
 pub mod Levels
 pub mod ClosedOperands
+pub mod Operand
+pub mod Outcome

@@ -1,6 +1,6 @@
 -- Where the numbers of a call stand and how large they are, by its five sizes: times on the grid of dt; values on the grid of dv within the
 -- largest; slopes on the grid of ds, twice their size within the steepness. Own choice.
-use Rattle.std.specs.Prelude.{ℕ, ◌<◌, ◌≤◌, ◌^◌, pos, Option, Some, None}
+use Rattle.std.specs.Prelude.{ℕ, ◌*◌, ◌<◌, ◌≤◌, ◌^◌, pos, Option, Some, None}
 use Rattle.std.specs.List.{AllByRecursion}
 use Rattle.rational.specs.Rational.{ℚ, ◌*ℚ◌, ◌≤ℚ◌, int}
 use Rattle.rational.specs.Extended.{Ext}
@@ -40,6 +40,14 @@ pub record AreSizes (z : Sizes) (end : ℚ) : Type 0 where
   pub largest : 1 ≤ z.largest
   pub window : Whole z.dt end
   pub reach : int (pos z.steepness) *ℚ end ≤ℚ int (pos z.largest)
+
+-- the grid on which every sum of values, and of slopes times starts, stands
+abbrev pub grid_of : Sizes → ℕ
+grid_of z = z.dv * z.dt * z.ds
+
+-- k times the largest value
+abbrev pub times_largest : ℕ → Sizes → ℚ
+times_largest k z = int (pos k) *ℚ int (pos z.largest)
 
 abbrev pub ValueStands : Sizes → Ext → Type 0
 ValueStands z Inf = Unit {0}

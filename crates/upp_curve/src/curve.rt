@@ -146,7 +146,7 @@ impl Curve {
 
     /// The pieces.
     #[inline]
-    pub(crate) fn pieces(&self) -> &[Piece]
+    pub fn pieces(&self) -> &[Piece]
         ensures pieces { result.now ≡ self.now.pieces }
         ensures kept { IsCurve self.now }
     {
@@ -155,7 +155,7 @@ impl Curve {
 
     /// The tail.
     #[inline]
-    pub(crate) fn tail(&self) -> &Tail
+    pub fn tail(&self) -> &Tail
         ensures tail { result.now ≡ self.now.tail }
         ensures kept { IsCurve self.now }
     {

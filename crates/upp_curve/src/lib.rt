@@ -39,5 +39,5 @@ pub use laws::{
 };
 pub use limits::{gauge, tally};
 pub use op_kind::{OpFault, OpKind, Window};
-pub use raw_curve::{RawCurve, normalise};
+pub use raw_curve::{RawCurve, normalise, normalise_on};
 pub use starts::{is_after, is_before};

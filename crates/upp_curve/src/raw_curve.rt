@@ -128,7 +128,7 @@ fn of_periodic(
 
 /// The normal form of a curve each of whose periods, unless its tail is one line, is a whole multiple of 1 / times, and its
 /// rise of 1 / values.
-pub(crate) fn normalise_on(
+pub fn normalise_on(
     alloc: Global,
     raw: &RawCurve,
     times: u128,
