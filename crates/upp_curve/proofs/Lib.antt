@@ -81,3 +81,5 @@ pub mod ScaledCurves
 pub mod Operands
 pub mod Tallies
 pub mod NormaliseOwn
+pub mod StretchPieces
+pub mod StretchTurns

@@ -37,3 +37,5 @@ pub mod Levels
 pub mod ClosedOperands
 pub mod Operand
 pub mod Outcome
+pub mod Ahead
+pub mod Copied
