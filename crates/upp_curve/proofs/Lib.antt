@@ -83,3 +83,4 @@ pub mod Tallies
 pub mod NormaliseOwn
 pub mod StretchPieces
 pub mod StretchTurns
+pub mod AnswerRoom
