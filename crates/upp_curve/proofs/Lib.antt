@@ -84,3 +84,5 @@ pub mod NormaliseOwn
 pub mod StretchPieces
 pub mod StretchTurns
 pub mod AnswerRoom
+pub mod StretchSizes
+pub mod StretchValues

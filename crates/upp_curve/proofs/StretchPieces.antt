@@ -1,7 +1,7 @@
 -- The piece at a time and where the next one starts: up to there it stays the piece.
 use Rattle.std.specs.Prelude.{◌≡◌, ℕ, zero, suc, ◌+◌, ◌<◌, ◌≤◌, Bool, true, false, cond, pos, List, [], ◌∷◌, length, drop, Option, Some, None, ◌⊎◌}
 use Rattle.std.specs.List.{AllByRecursion}
-use Rattle.std.proofs.Common.{arith, sym, ap, ◌∙◌, refl, subst, inl, inr, get_or}
+use Rattle.std.proofs.Common.{arith, sym, ap, ◌∙◌, refl, subst, inl, inr, get_or, drop_of_length-le}
 use Rattle.rational.specs.Rational.{ℚ, ◌+ℚ◌, ◌-ℚ◌, ◌*ℚ◌, ◌≤ℚ◌, ◌<ℚ◌, int, le_q}
 use Rattle.rational.specs.Extended.{Ext}
 use Rattle.rational.specs.declared.Extended.TheVariants.{Fin, Inf}
@@ -39,14 +39,14 @@ pub next_none : (t : ℚ) (after : Option ℚ) → next_in [] t after ≡ after
 unfolding next_in
 next_none t after = refl
 
+none_left : (n : ℕ) → drop {A = Piece} n [] ≡ []
+none_left zero = refl
+none_left (suc n) = refl
+
 -- as a search finds it: the first n pieces start at t or before, the others after it
 pub next_found : (ps : List Piece) (t : ℚ) (n : ℕ) (after : Option ℚ) → IsPointAt t ps n → start_after (drop n ps) after ≡ next_in ps t after
 unfolding next_in
 next_found [] t n after point = ap (λ xs. start_after xs after) (none_left n)
-  where
-    none_left : (n : ℕ) → drop n [] ≡ []
-    none_left zero = refl
-    none_left (suc n) = refl
 next_found (p ∷ ps) t zero after point = sym (ap (λ b. cond b (next_in ps t after) (Some p.x)) (point.1 0 p (omega arith) (omega arith)))
 next_found (p ∷ ps) t (suc n) after point =
     next_found ps t n after (λ k d l m. point.0 (suc k) d (omega arith) (omega arith), λ k d l m. point.1 (suc k) d (omega arith) (omega arith))
@@ -82,7 +82,8 @@ found_early p (q ∷ qs) t h = elim (le_or_lt q.x t) [
   | inr l ↦ subst (λ r. r.x ≤ℚ t) (sym (piece_in_stop p q qs t l)) h
 ]
 
-found_late : (p : Piece) (ps : List Piece) (t : ℚ) → RisesFrom p.x ps → p.x ≤ℚ (piece_in p ps t).x
+-- and no piece starts before the first
+pub found_late : (p : Piece) (ps : List Piece) (t : ℚ) → RisesFrom p.x ps → p.x ≤ℚ (piece_in p ps t).x
 found_late p [] t r = subst (λ q. p.x ≤ℚ q.x) (sym (piece_in_end p t)) (le_refl p.x)
 found_late p (q ∷ qs) t r = elim (le_or_lt q.x t) [
   | inl l ↦ subst (λ z. p.x ≤ℚ z.x) (sym (piece_in_go p q qs t l)) (le_trans (le_of_lt r.0) (found_late q qs t r.1))

@@ -1,8 +1,8 @@
 -- A time past the rank of a periodic tail, as one of the first period: the value there and how it goes on.
 use Rattle.std.specs.Prelude.{◌≡◌, ℕ, zero, suc, ◌+◌, ◌<◌, ◌≤◌, cond, pos, List, [], ◌∷◌, Option, Some, None, ◌⊎◌}
 use Rattle.std.proofs.Common.{arith, sym, ap, ap₂, ◌∙◌, refl, subst, inl, inr}
-use Rattle.rational.specs.Rational.{ℚ, ◌+ℚ◌, ◌-ℚ◌, ◌*ℚ◌, ◌≤ℚ◌, ◌<ℚ◌, int, le_q}
-use Rattle.rational.specs.Whole.{periods}
+use Rattle.rational.specs.Rational.{ℚ, ◌+ℚ◌, ◌-ℚ◌, ◌*ℚ◌, ◌/ℚ◌, ◌≤ℚ◌, ◌<ℚ◌, int, le_q}
+use Rattle.rational.specs.Whole.{periods, whole_part}
 use Rattle.rational.specs.Extended.{Ext, ◌+ₑ◌}
 use Rattle.rational.specs.declared.Extended.TheVariants.{Fin, Inf}
 use Rattle.rational.proofs.Linear.{with1, with2, with3, with4}
@@ -79,3 +79,8 @@ same_turn rank period t u some h k = elim (le_or_lt rank t) [
 pub repeated_at : (f : ℚ → Ext) (rank period rise u : ℚ) (n : ℕ) → periods rank period u ≡ n → repeated f rank period rise u ≡ f (u -ℚ int (pos n) *ℚ period) +ₑ Fin (int (pos n) *ℚ rise)
 unfolding repeated
 repeated_at f rank period rise u n e = ap (λ m. f (u -ℚ int (pos m) *ℚ period) +ₑ Fin (int (pos m) *ℚ rise)) e
+
+-- as it is reckoned
+pub count_is : (rank period t past ratio n : ℚ) → past ≡ t -ℚ rank → ratio ≡ past /ℚ period → n ≡ int (pos (whole_part ratio)) → n ≡ int (pos (periods rank period t))
+unfolding periods
+count_is rank period t past ratio n e f g = g ∙ ap (λ x. int (pos (whole_part x))) (f ∙ ap (λ (x : ℚ). x /ℚ period) e)

@@ -90,14 +90,14 @@ fn risen(v: Ext, n: Frac, rise: Frac) -> Ext
     }
 }
 
-/// A line, `by` later and n times the rise higher.
-fn line_risen(line: Option<Line>, by: Frac, n: Frac, rise: Frac) -> Option<Line>
-    requires { LineRises line by n rise }
-    ensures { result ≡ line_later by (n *ℚ rise) line }
+/// The line of a piece, `by` later and n times the rise higher.
+fn line_risen(piece: &Piece, by: Frac, n: Frac, rise: Frac) -> Option<Line>
+    requires { LineRises piece.now.line by n rise }
+    ensures { result ≡ line_later by (n *ℚ rise) piece.now.line }
 {
-    match line {
+    match piece.line {
         None => None,
-        Some(_) => line_later(by, product(n, rise), line),
+        Some(_) => line_later(by, product(n, rise), piece.line),
     }
 }
 
@@ -138,16 +138,23 @@ fn moved(next: Option<Frac>, by: Frac) -> Option<Frac>
 }
 
 /// The value at t of a piece that starts, in its first period, at `early` or before, by the line it has in the period of t.
-fn copied_value(piece: &Piece, line: Option<Line>, turn: &Turn, rise: Frac, t: Frac) -> Ext
-    requires rises { ValueRises piece.now.at turn.now.n rise }
-    requires fits { LineFitsAt t line }
-    ensures past { piece.now.x <ℚ turn.now.early → result ≡ line_value line t }
-    ensures start { turn.now.early ≤ℚ piece.now.x → result ≡ piece.now.at +ₑ Extended.Fin (turn.now.n *ℚ rise) }
+fn copied_value(
+    piece: &Piece,
+    line: &Option<Line>,
+    early: Frac,
+    n: Frac,
+    rise: Frac,
+    t: Frac,
+) -> Ext
+    requires rises { ValueRises piece.now.at n rise }
+    requires fits { LineFitsAt t line.now }
+    ensures past { piece.now.x <ℚ early → result ≡ line_value line.now t }
+    ensures start { early ≤ℚ piece.now.x → result ≡ piece.now.at +ₑ Extended.Fin (n *ℚ rise) }
 {
-    if is_less(piece.x, turn.early) {
-        line_value(line, t)
+    if is_less(piece.x, early) {
+        line_value(*line, t)
     } else {
-        risen(piece.at, turn.n, rise)
+        risen(piece.at, n, rise)
     }
 }
 
@@ -160,17 +167,17 @@ fn repeating_stretch(c: &Curve, rank: Frac, period: Frac, rise: Frac, t: Frac) -
     ensures times { (d : ℕ) → TimesStand d c.now → AtNext (Whole d) result.next }
     ensures sizes { (z : Sizes) (end : ℚ) → HasWindow z end c.now → IsTimeIn z end t → OperandLineAt z result.line × GridValue z result.at }
 {
-    let turn = turn_of(c, rank, period, rise, t);
-    let pieces = c.pieces();
-    let piece = piece_at(pieces, turn.early);
+    let Turn { n, by, early } = turn_of(c, rank, period, rise, t);
     let end = sum(rank, period);
-    let next = next_start(pieces, turn.early, Some(end));
-    let line = line_risen(piece.line, turn.by, turn.n, rise);
-    let at = copied_value(&piece, line, &turn, rise, t);
+    let pieces = c.pieces();
+    let piece = piece_at(pieces, early);
+    let next = next_start(pieces, early, Some(end));
+    let line = line_risen(&piece, by, n, rise);
+    let at = copied_value(&piece, &line, early, n, rise, t);
     Stretch {
         at,
         line,
-        next: moved(next, turn.by),
+        next: moved(next, by),
     }
 }
 
