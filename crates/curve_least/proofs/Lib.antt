@@ -1,0 +1,3 @@
+pub mod GapParts
+pub mod GapWalk
+pub mod GapSizes

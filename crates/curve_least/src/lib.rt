@@ -1,2 +1,6 @@
-//! How a curve goes on from a time, and from which number of periods on the slower of two curves is nowhere above the faster.
+//! From which number of periods on the slower of two curves is nowhere above the faster, without unrolling either.
 #![tactic(auto)]
+
+mod gaps;
+
+pub use gaps::{Gap, window_gap};
