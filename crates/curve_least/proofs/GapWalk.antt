@@ -21,14 +21,17 @@ use Rattle.upp_curve.specs.Normal.{Each}
 use Rattle.upp_curve.specs.Steady.{rank_of}
 use Rattle.upp_curve.specs.Periods.{period_of}
 use Rattle.upp_curve.specs.Limits.{Sizes, stored_period}
-use Rattle.upp_curve.specs.Ahead.{IsBeforeNext, AtNext, TimesStand, HasWindow, IsTimeIn}
+use Rattle.upp_curve.specs.declared.ahead.Stretch.{Stretch}
+use Rattle.upp_curve.specs.Operand.{OperandLineAt}
+use Rattle.upp_curve.specs.Ahead.{IsBeforeNext, AtNext, TimesStand, HasWindow, IsTimeIn, GridValue}
 use Rattle.upp_curve.proofs.Every.{every_left, every_right, every_map_out}
 use Rattle.upp_curve.proofs.CommonDen.{common_den_each, common_den_pos}
 use Rattle.upp_curve.proofs.StretchSizes.{times_stand}
 use Rattle.curve_least.specs.declared.gaps.Gap.{Gap}
 use Rattle.curve_least.specs.declared.gaps.Gap.TheVariants.{NoTime}
 use Rattle.curve_least.specs.Gaps.{InWindow, IsGap}
-use Rattle.curve_least.specs.GapSteps.{larger, IsUntil, earlier_of}
+use Rattle.curve_least.specs.GapSteps.{larger, IsUntil, earlier_of, GapStands, StretchSizes}
+use Rattle.curve_least.proofs.GapSizes.{larger_stands}
 use Rattle.curve_least.proofs.GapParts.{window_more, window_none}
 
 -- ---- one grid for all times on the way
@@ -120,6 +123,7 @@ pub record GapWalk (f g : SpecCurve) (from end t : ℚ) (gap : Gap) : Type 0 whe
   pub before : t ≤ℚ end
   pub grid : (d : ℕ) → TimesStand d f → TimesStand d g → Whole d from → Whole d end → Whole d t
   pub gap_is : IsGap (InWindow from t) (value_at f) (value_at g) gap
+  pub sizes : (z : Sizes) → HasWindow z end f → HasWindow z end g → IsTimeIn z end from → GapStands z gap
 
 pub walk_time : (z : Sizes) (f g : SpecCurve) (from end t : ℚ) (gap : Gap) → HasWindow z end f → HasWindow z end g → IsTimeIn z end from → GapWalk f g from end t gap → t <ℚ end
     → IsTimeIn z end t
@@ -182,14 +186,16 @@ next_whole d end a b h k l = earlier_whole d (earlier_of end a) b (earlier_whole
 -- ---- one step
 pub walk_step : (f g : SpecCurve) (from end t next : ℚ) (a b : Option ℚ) (gap more : Gap) → GapWalk f g from end t gap → t <ℚ end → IsBeforeNext t a → IsBeforeNext t b
     → ((d : ℕ) → TimesStand d f → AtNext (Whole d) a) → ((d : ℕ) → TimesStand d g → AtNext (Whole d) b) → next ≡ next_time end a b
-    → IsGap (InWindow t next) (value_at f) (value_at g) more → GapWalk f g from end next (larger gap more)
-walk_step f g from end t next a b gap more inv h k l A B e stretch =
+    → IsGap (InWindow t next) (value_at f) (value_at g) more → ((z : Sizes) → HasWindow z end f → HasWindow z end g → IsTimeIn z end from → GapStands z more)
+    → GapWalk f g from end next (larger gap more)
+walk_step f g from end t next a b gap more inv h k l A B e stretch stands =
     let N : NextTime t end next a b = subst (λ n. NextTime t end n a b) (sym e) (next_is t end a b h k l) in
     record {
       start = le_trans inv.start (le_of_lt N.past);
       before = N.high;
       grid = λ d F G s w. subst (Whole d) (sym e) (next_whole d end a b w (A d F) (B d G));
       gap_is = window_more from t next (value_at f) (value_at g) gap more inv.start N.past inv.gap_is stretch;
+      sizes = λ z V W T. larger_stands z gap more (inv.sizes z V W T) (stands z V W T);
     }
 
 pub walk_fewer : (f g : SpecCurve) (from end t next : ℚ) (gap more : Gap) → GapWalk f g from end t gap → GapWalk f g from end next more → t <ℚ next → steps_left f g from end next < steps_left f g from end t
@@ -204,6 +210,7 @@ walk_start f g from end h = record {
   before = le_of_lt h;
   grid = λ d F G s w. s;
   gap_is = window_none from (value_at f) (value_at g);
+  sizes = λ z V W T. tt;
 }
 
 pub next_stands : (z : Sizes) (f g : SpecCurve) (end t next : ℚ) (a b : Option ℚ) → HasWindow z end f → HasWindow z end g → t <ℚ end → IsBeforeNext t a → IsBeforeNext t b
@@ -223,3 +230,22 @@ next_found end a b first next e f = f ∙ ap (λ t. earlier_of t b) e
 
 pub next_past : (end t next : ℚ) (a b : Option ℚ) → t <ℚ end → IsBeforeNext t a → IsBeforeNext t b → next ≡ next_time end a b → NextTime t end next a b
 next_past end t next a b h k l e = subst (λ n. NextTime t end n a b) (sym e) (next_is t end a b h k l)
+
+-- what the gap of the stretch needs
+pub stretch_sizes : (z : Sizes) (f g : SpecCurve) (from end t next : ℚ) (gap : Gap) (slow fast : Stretch) → HasWindow z end f → HasWindow z end g → IsTimeIn z end from → GapWalk f g from end t gap → t <ℚ end
+    → IsBeforeNext t slow.next → IsBeforeNext t fast.next → ((d : ℕ) → TimesStand d f → AtNext (Whole d) slow.next) → ((d : ℕ) → TimesStand d g → AtNext (Whole d) fast.next)
+    → (IsTimeIn z end t → OperandLineAt z slow.line × GridValue z slow.at) → (IsTimeIn z end t → OperandLineAt z fast.line × GridValue z fast.at) → next ≡ next_time end slow.next fast.next
+    → StretchSizes z end slow fast t next
+stretch_sizes z f g from end t next gap slow fast V W time inv h k l A B F G e =
+    let here = walk_time z f g from end t gap V W time inv h in
+    let first = F here in
+    let second = G here in
+    let N = next_stands z f g end t next slow.next fast.next V W h k l A B e in
+    record {
+      limited = V.limited;
+      first = record { at = first.1; line = first.0 };
+      second = record { at = second.1; line = second.0 };
+      time = here;
+      whole = N.whole;
+      high = N.high;
+    }

@@ -3,12 +3,14 @@ use Rattle.std.specs.Prelude.{Option, Some, None}
 use Rattle.rational.specs.Rational.{ℚ, ◌-ℚ◌, ◌≤ℚ◌, neg_ℚ}
 use Rattle.rational.specs.MinMax.{max_q, min_q}
 use Rattle.rational.specs.Ratio.{SumFits}
+use Rattle.rational.specs.Grid.{Whole, Within}
 use Rattle.rational.specs.Extended.{Ext}
 use Rattle.rational.specs.declared.Extended.TheVariants.{Fin, Inf}
 use Rattle.upp_curve.specs.declared.ahead.Stretch.{Stretch}
 use Rattle.upp_curve.specs.Limits.{Sizes}
-use Rattle.upp_curve.specs.Operand.{OperandLineAt}
-use Rattle.upp_curve.specs.Ahead.{GridValue}
+use Rattle.upp_curve.specs.Sized.{grid_of, times_largest}
+use Rattle.upp_curve.specs.Operand.{AreLimited, OperandLineAt}
+use Rattle.upp_curve.specs.Ahead.{IsTimeIn, GridValue}
 use Rattle.curve_least.specs.declared.gaps.Gap.{Gap}
 use Rattle.curve_least.specs.declared.gaps.Gap.TheVariants.{NoTime, Never, Is}
 
@@ -46,3 +48,22 @@ pub record StretchStands (z : Sizes) (s : Stretch) : Type 0 where
 abbrev pub earlier_of : ℚ → Option ℚ → ℚ
 earlier_of t None = t
 earlier_of t (Some e) = min_q t e
+
+-- what a gap of values of two operands is: on the grid of sums, within six times the largest value
+pub record IsGapValue (z : Sizes) (q : ℚ) : Type 0 where
+  pub whole : Whole (grid_of z) q
+  pub within : Within (times_largest 6 z) q
+
+abbrev pub GapStands : Sizes → Gap → Type 0
+GapStands z NoTime = Unit {0}
+GapStands z Never = Unit {0}
+GapStands z (Is q) = IsGapValue z q
+
+-- what is needed of both stretches from t on, up to `end`
+pub record StretchSizes (z : Sizes) (last : ℚ) (f g : Stretch) (t end : ℚ) : Type 0 where
+  pub limited : AreLimited z last
+  pub first : StretchStands z f
+  pub second : StretchStands z g
+  pub time : IsTimeIn z last t
+  pub whole : Whole z.dt end
+  pub high : end ≤ℚ last

@@ -3,17 +3,17 @@
 ghost use Rattle.std.specs.Prelude.{◌≡◌, ◌↔◌, IsTrue, pos};
 ghost use Rattle.rational.specs.Rational.{ℚ, int, ◌+ℚ◌, ◌-ℚ◌, ◌≤ℚ◌, ◌<ℚ◌, neg_ℚ};
 ghost use Rattle.rational.specs.Ratio.{SumFits};
-ghost use Rattle.rational.specs.Grid.{Whole};
 ghost use Rattle.rational.specs.MinMax.{max_q, min_q};
 ghost use Rattle.rational.specs.Extended.{Ext};
 ghost use Rattle.affine_segment.specs.Values.{line_value};
 ghost use Rattle.upp_curve.specs.Curve.{value_at};
 ghost use Rattle.upp_curve.specs.Readable.{LineFitsAt};
 ghost use Rattle.upp_curve.specs.Limits.{Sizes};
-ghost use Rattle.upp_curve.specs.Operand.{AreLimited};
 ghost use Rattle.upp_curve.specs.Ahead.{GoesOn, HasWindow, IsTimeIn};
 ghost use Rattle.curve_least.specs.Gaps.{InWindow, IsGap};
-ghost use Rattle.curve_least.specs.GapSteps.{gap_of, larger, DifferenceFits, IsUntil, StretchStands, earlier_of};
+ghost use Rattle.curve_least.specs.GapSteps.{
+    gap_of, larger, DifferenceFits, IsUntil, StretchSizes, GapStands, earlier_of,
+};
 
 use affine_segment::{Line, value};
 use fraction128::{Ext, Frac};
@@ -43,7 +43,7 @@ pub(crate) fn is_less(a: Frac, b: Frac) -> bool
 }
 
 /// a - b.
-fn difference(a: Frac, b: Frac) -> Frac
+pub(crate) fn difference(a: Frac, b: Frac) -> Frac
     requires { SumFits a (neg_ℚ b) }
     ensures { result ≡ a -ℚ b }
 {
@@ -99,10 +99,10 @@ fn larger(a: Gap, b: Gap) -> Gap
 
 /// The gap from t up to `end`, where neither goes on otherwise before that.
 fn stretch_gap(f: &Stretch, g: &Stretch, t: Frac, end: Frac) -> Gap
-    requires sizes { (z : Sizes) × (last : ℚ) × AreLimited z last × StretchStands z f.now × StretchStands z g.now × IsTimeIn z last t
-        × Whole z.dt end × (end ≤ℚ last) }
+    requires sizes { (z : Sizes) × (last : ℚ) × StretchSizes z last f.now g.now t end }
     requires some { t <ℚ end }
-    ensures { (slow fast : ℚ → Ext) → GoesOn slow t f.now → GoesOn fast t g.now → IsUntil end f.now.next → IsUntil end g.now.next
+    ensures sizes { (z : Sizes) (last : ℚ) → StretchSizes z last f.now g.now t end → GapStands z result }
+    ensures gap { (slow fast : ℚ → Ext) → GoesOn slow t f.now → GoesOn fast t g.now → IsUntil end f.now.next → IsUntil end g.now.next
         → IsGap (InWindow t end) slow fast result }
 {
     let start = gap_of(f.at, g.at);
@@ -125,7 +125,8 @@ fn earlier(t: Frac, next: &Option<Frac>) -> Frac
 /// are those of a gauge below 2^120 over both curves' numbers; `from` stands on its grid, from 0 on and before `end`.
 pub fn window_gap(f: &Curve, g: &Curve, from: Frac, end: Frac) -> Gap
     requires { (z : Sizes) × HasWindow z end f.now × HasWindow z end g.now × IsTimeIn z end from }
-    ensures { IsGap (InWindow from end) (value_at f.now) (value_at g.now) result }
+    ensures gap { IsGap (InWindow from end) (value_at f.now) (value_at g.now) result }
+    ensures sizes { (z : Sizes) → HasWindow z end f.now → HasWindow z end g.now → IsTimeIn z end from → GapStands z result }
 {
     let mut gap = Gap::NoTime;
     let mut t = from;

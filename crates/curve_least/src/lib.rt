@@ -2,5 +2,7 @@
 #![tactic(auto)]
 
 mod gaps;
+mod least;
 
 pub use gaps::{Gap, window_gap};
+pub use least::least_below;

@@ -51,11 +51,11 @@ pub record CopiesStand (z : Sizes) (s : Span) (period rise : ℚ) (n : ℕ) : Ty
   pub first : SpanStands z s
   pub present : SpanStands z (copy_of period rise s n)
 
-each_below : (z : Sizes) (end : ℚ) (c : SpecCurve) → Stands z (curve_numbers end c) → AllByRecursion (λ s. AllByRecursion (SpanStands z) (span_below c.tail end s)) (spans c.tail c.pieces)
+pub each_below : (z : Sizes) (end : ℚ) (c : SpecCurve) → Stands z (curve_numbers end c) → AllByRecursion (λ s. AllByRecursion (SpanStands z) (span_below c.tail end s)) (spans c.tail c.pieces)
 unfolding spans_below
 each_below z end c h = every_flat_out (SpanStands z) (span_below c.tail end) (spans c.tail c.pieces) (unrolled_stand z end c h)
 
-copies_of_span : (z : Sizes) (end rank period rise t early : ℚ) (s : Span) (n : ℕ) → int (pos 0) <ℚ period → early ≡ t -ℚ int (pos n) *ℚ period → int (pos 0) ≤ℚ int (pos n) *ℚ period
+pub copies_of_span : (z : Sizes) (end rank period rise t early : ℚ) (s : Span) (n : ℕ) → int (pos 0) <ℚ period → early ≡ t -ℚ int (pos n) *ℚ period → int (pos 0) ≤ℚ int (pos n) *ℚ period
     → s.piece.x ≤ℚ early → t <ℚ end → (n ≡ 0) ⊎ (rank ≤ℚ s.piece.x) → AllByRecursion (SpanStands z) (span_below (Periodic rank period rise) end s) → CopiesStand z s period rise n
 copies_of_span z end rank period rise t early s n some e by early_start before past all = elim (le_or_lt rank s.piece.x) [
   | inl k ↦
