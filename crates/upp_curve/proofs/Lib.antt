@@ -82,3 +82,5 @@ pub mod Operands
 pub mod Tallies
 pub mod NormaliseOwn
 pub mod UnrolledPieces
+pub mod UnrollLoops
+pub mod UnrollSteps
