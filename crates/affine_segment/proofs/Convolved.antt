@@ -5,7 +5,7 @@ use Rattle.rational.specs.Rational.{ℚ, ◌+ℚ◌, ◌-ℚ◌, ◌≤ℚ◌, �
 use Rattle.rational.specs.Extended.{Ext, ◌<ₑ◌, ◌+ₑ◌}
 use Rattle.rational.specs.declared.Extended.TheVariants.{Fin, Inf}
 use Rattle.rational.specs.Bounds.{IsInfimum}
-use Rattle.rational.proofs.Linear.{with2, with3, with4, with5}
+use Rattle.rational.proofs.Linear.{with2, with3, with4}
 use Rattle.rational.proofs.Laws.{add_comm, le_of_lt, lt_cases}
 use Rattle.rational.proofs.ExtendedOrder.{same_le_ext}
 use Rattle.rational.proofs.Bounds.{same_infimum}
@@ -15,7 +15,7 @@ use Rattle.affine_segment.specs.declared.element.Element.TheVariants.{Point, Ope
 use Rattle.affine_segment.specs.declared.element.Joined.{Joined}
 use Rattle.affine_segment.specs.Values.{line_at}
 use Rattle.affine_segment.specs.Cuts.{IsWithin}
-use Rattle.affine_segment.specs.Elements.{Covers, level, PairSplit, pair_sum, joined_value, Bends, IsConvolved}
+use Rattle.affine_segment.specs.Elements.{level, PairSplit, pair_sum, joined_value, Bends, IsConvolved}
 use Rattle.affine_segment.specs.Segments.{IsThrough}
 use Rattle.affine_segment.proofs.ElementValues.{read_joined, read_alone}
 use Rattle.affine_segment.proofs.Splits.{one_value, hi_of, split_past, split_before, segment_infimum, hi_short, hi_full, moved_line, parallel_sum}
@@ -30,8 +30,8 @@ points_convolved x v y u z w e f = record {
   value = λ t.
       read_alone (pair_sum (Point x v) (Point y u) t) (Point z w) t
       (λ h.
-        subst (λ q. IsInfimum (pair_sum (Point x v) (Point y u) t) (Fin q)) (sym f)
-        (one_value (pair_sum (Point x v) (Point y u) t) (v +ℚ u) record { first = x; second = y; first_in = refl; second_in = refl; whole = sym (h ∙ e) } (λ s. refl)))
+      subst (λ q. IsInfimum (pair_sum (Point x v) (Point y u) t) (Fin q)) (sym f)
+      (one_value (pair_sum (Point x v) (Point y u) t) (v +ℚ u) record { first = x; second = y; first_in = refl; second_in = refl; whole = sym (h ∙ e) } (λ s. refl)))
       (λ s. sym s.whole ∙ ap₂ (λ (p q : ℚ). p +ℚ q) s.first_in s.second_in ∙ sym e);
   start = e;
   adjoined = tt;
@@ -64,10 +64,10 @@ moved_here x v from to line n proper through = record {
   value = λ t.
       read_alone (pair_sum (Point x v) (Open from to line) t) (Open (x +ℚ from) (Fin x +ₑ to) n) t
       (λ w.
-        subst (λ q. IsInfimum (pair_sum (Point x v) (Open from to line) t) (Fin q)) (risen t)
-        (one_value (pair_sum (Point x v) (Open from to line) t) (v +ℚ line_at line (t -ℚ x))
-        record { first = x; second = t -ℚ x; first_in = refl; second_in = within_moved x from to t w; whole = with2 x t (λ c. omega (arith, c.le, c.lt, c.same)) }
-        (λ s. ap (λ q. Fin (v +ℚ line_at line q)) (rest t s.first s.second s.first_in s.whole))))
+      subst (λ q. IsInfimum (pair_sum (Point x v) (Open from to line) t) (Fin q)) (risen t)
+      (one_value (pair_sum (Point x v) (Open from to line) t) (v +ℚ line_at line (t -ℚ x))
+      record { first = x; second = t -ℚ x; first_in = refl; second_in = within_moved x from to t w; whole = with2 x t (λ c. omega (arith, c.le, c.lt, c.same)) }
+      (λ s. ap (λ q. Fin (v +ℚ line_at line q)) (rest t s.first s.second s.first_in s.whole))))
       (λ s. moved_within x from to t s.second s.second_in (ap (λ q. q +ℚ s.second) (sym s.first_in) ∙ s.whole));
   start = refl;
   adjoined = moved_proper x from to proper;
@@ -116,9 +116,9 @@ straight_convolved f to l g end m n at until p q same e u through =
       value = λ t.
           read_alone (pair_sum (Open f to l) (Open g end m) t) (Open (f +ℚ g) (to +ₑ end) n) t
           (λ w.
-            subst (λ q. IsInfimum (pair_sum (Open f to l) (Open g end m) t) (Fin q))
-            (parallel_sum l m t (hi_of g to t) (t -ℚ g) same ∙ at_start l m n f g t (t -ℚ g) refl through.slope (ap (line_at n) (sym e) ∙ through.value))
-            (segment_infimum f to l g end m t p q (same_le l.slope m.slope same) w.past w.before))
+          subst (λ q. IsInfimum (pair_sum (Open f to l) (Open g end m) t) (Fin q))
+          (parallel_sum l m t (hi_of g to t) (t -ℚ g) same ∙ at_start l m n f g t (t -ℚ g) refl through.slope (ap (line_at n) (sym e) ∙ through.value))
+          (segment_infimum f to l g end m t p q (same_le l.slope m.slope same) w.past w.before))
           (λ s. record { past = split_past f to l g end m t s; before = split_before f to l g end m t s });
       start = refl;
       adjoined = ends_proper f to g end p q;
@@ -145,9 +145,9 @@ endless_convolved f l g end m n at q less e through =
       value = λ t.
           read_alone (pair_sum (Open f Inf l) (Open g end m) t) (Open (f +ℚ g) Inf n) t
           (λ w.
-            subst (λ q. IsInfimum (pair_sum (Open f Inf l) (Open g end m) t) (Fin q))
-            (at_start l m n f g t (hi_of g Inf t) (hi_short g Inf t tt) through.slope (ap (line_at n) (sym e) ∙ through.value))
-            (segment_infimum f Inf l g end m t tt q (le_of_lt less) w.past tt))
+          subst (λ q. IsInfimum (pair_sum (Open f Inf l) (Open g end m) t) (Fin q))
+          (at_start l m n f g t (hi_of g Inf t) (hi_short g Inf t tt) through.slope (ap (line_at n) (sym e) ∙ through.value))
+          (segment_infimum f Inf l g end m t tt q (le_of_lt less) w.past tt))
           (λ s. record { past = split_past f Inf l g end m t s; before = tt });
       start = refl;
       adjoined = tt;
@@ -182,16 +182,16 @@ bent_here : (f e : ℚ) (l : Line) (g : ℚ) (end : Ext) (m n k : Line)
     → f <ℚ e → Fin g <ₑ end → l.slope <ℚ m.slope
     → IsThrough l.slope (f +ℚ g) (line_at l f +ℚ line_at m g) n → IsThrough m.slope (e +ℚ g) (line_at l e +ℚ line_at m g) k
     → IsConvolved (Open f (Fin e) l) (Open g end m) record {
-        first = Open (f +ℚ g) (Fin (e +ℚ g)) n;
-        join = Some (Point (e +ℚ g) (line_at l e +ℚ line_at m g));
-        second = Some (Open (e +ℚ g) (Fin e +ₑ end) k);
-      }
+      first = Open (f +ℚ g) (Fin (e +ℚ g)) n;
+      join = Some (Point (e +ℚ g) (line_at l e +ℚ line_at m g));
+      second = Some (Open (e +ℚ g) (Fin e +ₑ end) k);
+    }
 bent_here f e l g end m n k p q less start turn = record {
   value = λ t.
       read_joined (pair_sum a b t) record { first = Open (f +ℚ g) (Fin (e +ℚ g)) n; join = Some (Point (e +ℚ g) (line_at l e +ℚ line_at m g)); second = Some (Open (e +ℚ g) (Fin e +ₑ end) k) } t
       (λ w. reach t (line_at n t) w.past (before_turn e g t end q (le_of_lt w.before)) (at_start l m n f g t (hi_of g (Fin e) t) (hi_short g (Fin e) t (short t w.before)) start.slope start.value))
       (λ h. reach t (line_at l e +ℚ line_at m g) (past_turn t (same_le h)) (before_turn e g t end q (le_same h))
-        (at_end l m k e g t (hi_of g (Fin e) t) (hi_full g e t (same_le h)) turn.slope turn.value ∙ ap (line_at k) h ∙ turn.value))
+      (at_end l m k e g t (hi_of g (Fin e) t) (hi_full g e t (same_le h)) turn.slope turn.value ∙ ap (line_at k) h ∙ turn.value))
       (λ w. reach t (line_at k t) (past_turn t (le_of_lt w.past)) w.before (at_end l m k e g t (hi_of g (Fin e) t) (hi_full g e t (le_of_lt w.past)) turn.slope turn.value))
       (λ s. some t (split_past f (Fin e) l g end m t s) (split_before f (Fin e) l g end m t s));
   start = refl;

@@ -5,3 +5,4 @@ pub mod ElementValues
 pub mod Splits
 pub mod Convolved
 pub mod Through
+pub mod ElementReading

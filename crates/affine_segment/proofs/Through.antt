@@ -3,8 +3,6 @@ use Rattle.std.specs.Prelude.{◌≡◌}
 use Rattle.std.proofs.Common.{arith, refl}
 use Rattle.rational.specs.Rational.{ℚ, ◌+ℚ◌, ◌-ℚ◌, ◌*ℚ◌}
 use Rattle.rational.proofs.Linear.{with4}
-use Rattle.affine_segment.specs.declared.line.Line.{Line}
-use Rattle.affine_segment.specs.Values.{line_at}
 use Rattle.affine_segment.specs.Segments.{IsThrough}
 
 -- it starts at 0 as far below as it rises

@@ -1,11 +1,10 @@
 -- Elements of a curve: a point, or a line strictly between two times. What they are at a time, and what two of them make.
 -- (Bouillard, Boyer and Le Corronc: elementary functions and their convolution.)
 use Rattle.std.specs.Prelude.{◌≡◌, ◌↔◌, ◌⊎◌, Bool, true, cond, ◌&&◌, Option, Some, None, IsSome}
-use Rattle.rational.specs.Rational.{ℚ, ◌+ℚ◌, ◌≤ℚ◌, ◌<ℚ◌, le_q, lt_q}
+use Rattle.rational.specs.Rational.{ℚ, ◌+ℚ◌, ◌<ℚ◌, le_q, lt_q}
 use Rattle.rational.specs.Extended.{Ext, ◌<ₑ◌, min_ext}
 use Rattle.rational.specs.declared.Extended.TheVariants.{Fin, Inf}
 use Rattle.rational.specs.Bounds.{IsInfimum}
-use Rattle.affine_segment.specs.declared.line.Line.{Line}
 use Rattle.affine_segment.specs.declared.element.Element.{Element}
 use Rattle.affine_segment.specs.declared.element.Element.TheVariants.{Point, Open}
 use Rattle.affine_segment.specs.declared.element.Joined.{Joined}

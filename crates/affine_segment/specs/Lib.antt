@@ -4,3 +4,4 @@ pub mod Cuts
 pub mod Elements
 pub mod Segments
 pub mod WideConvolution
+pub mod ElementLaws

@@ -24,8 +24,10 @@ struct Segment {
 
 /// The convolution of two elements: at each time the infimum, over the splits of that time into a time of the one and
 /// a time of the other, of the sum of the two values; infinity where there is no such split. A segment starts before
-/// its end. Of two segments the one of smaller slope comes first. Refused only where a step that is listed in
-/// `IsWideConvolution` is.
+/// its end. Of two segments the one of smaller slope comes first. Refused only where one of these steps is: the sum of a
+/// start or end of the one and a start or end of the other; a step of the value of an operand's line at its own start or
+/// end; the sum of two such values, or values of points; for a line of the answer the product of its slope and its start,
+/// and the difference of the value just after its start and that product.
 pub fn element_conv(a: &Element, b: &Element) -> Result<Joined, Wide>
     requires left { IsProper a.now }
     requires right { IsProper b.now }
@@ -163,33 +165,33 @@ fn bent(low: &Segment, high: &Segment) -> Result<Joined, Wide>
     ensures wide { IfErr result (IsWideBent low.now high.now) }
 {
     let start = corner_at(&low.line, low.from, &high.line, high.from, low.line.slope)?;
-    let end = match low.to {
-        Extended::Inf => {
-            return Ok(alone(Element::Open {
-                from: start.at,
-                to: Extended::Inf,
-                line: start.line,
-            }));
-        }
-        Extended::Fin(end) => end,
+    let Extended::Fin(end) = low.to else {
+        return Ok(alone(Element::Open {
+            from: start.at,
+            to: Extended::Inf,
+            line: start.line,
+        }));
     };
     let turn = corner_at(&low.line, end, &high.line, high.from, high.line.slope)?;
     let to = later_end(end, &high.to)?;
+    let first = Element::Open {
+        from: start.at,
+        to: Extended::Fin(turn.at),
+        line: start.line,
+    };
+    let join = Element::Point {
+        x: turn.at,
+        v: turn.v,
+    };
+    let second = Element::Open {
+        from: turn.at,
+        to,
+        line: turn.line,
+    };
     Ok(Joined {
-        first: Element::Open {
-            from: start.at,
-            to: Extended::Fin(turn.at),
-            line: start.line,
-        },
-        join: Some(Element::Point {
-            x: turn.at,
-            v: turn.v,
-        }),
-        second: Some(Element::Open {
-            from: turn.at,
-            to,
-            line: turn.line,
-        }),
+        first,
+        join: Some(join),
+        second: Some(second),
     })
 }
 

@@ -7,16 +7,9 @@ use fraction128::{Ext, Frac};
 #[derive(Debug, Clone, Copy)]
 pub enum Element {
     /// The value `v` at the time `x`, and none at any other.
-    Point {
-        x: Frac,
-        v: Frac,
-    },
+    Point { x: Frac, v: Frac },
     /// The line strictly between `from` and `to`, and no value elsewhere.
-    Open {
-        from: Frac,
-        to: Ext,
-        line: Line,
-    },
+    Open { from: Frac, to: Ext, line: Line },
 }
 
 /// What two elements make: one part, or two with a point between them.

@@ -6,6 +6,9 @@
 mod convolution;
 mod cut;
 mod element;
+pub mod element_laws;
+#[cfg(test)]
+mod element_tests;
 mod line;
 #[cfg(test)]
 mod tests;

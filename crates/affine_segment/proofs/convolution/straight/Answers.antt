@@ -1,4 +1,4 @@
-use Rattle.std.proofs.Common.{sym, subst, inl, inr, ◌∙◌}
+use Rattle.std.proofs.Common.{sym, subst, inl, ◌∙◌}
 use Rattle.std.proofs.lemmas.Result.{err_from_is_err_and}
 use Rattle.affine_segment.specs.Segments.{open_of}
 use Rattle.affine_segment.specs.Elements.{IsConvolved}
