@@ -7,5 +7,4 @@ ghost use Rattle.affine_segment.specs.ElementLaws.{ElementsAreRead, JoinedAreRea
 pub fn elements_are_read()
     ensures elements { ElementsAreRead }
     ensures joined { JoinedAreRead }
-{
-}
+{}

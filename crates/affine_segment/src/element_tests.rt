@@ -48,62 +48,63 @@ fn is_proper(e: &Element) -> bool
     }
 }
 
-// What they make; nothing where one of them has no times.
-fn made(a: &Element, b: &Element) -> Option<Result<Joined, Wide>> {
+// What they make; a point at -1 where one of them has no times, or a step is too wide.
+fn parts(a: &Element, b: &Element) -> Joined {
     if is_proper(a) && is_proper(b) {
-        Some(element_conv(a, b))
+        match element_conv(a, b) {
+            Ok(joined) => return joined,
+            Err(_) => {}
+        }
+    }
+    Joined {
+        first: point(-1, 0),
+        join: None,
+        second: None,
+    }
+}
+
+// The step that is too wide.
+fn refusal(a: &Element, b: &Element) -> Option<Wide> {
+    if is_proper(a) && is_proper(b) {
+        match element_conv(a, b) {
+            Ok(_) => None,
+            Err(wide) => Some(wide),
+        }
     } else {
         None
     }
 }
 
-fn parts(a: &Element, b: &Element) -> Option<Joined> {
-    match made(a, b) {
-        Some(Ok(joined)) => Some(joined),
-        _ => None,
-    }
-}
-
-fn refusal(a: &Element, b: &Element) -> Option<Wide> {
-    match made(a, b) {
-        Some(Err(wide)) => Some(wide),
-        _ => None,
-    }
-}
-
 // Of a point the time and the value.
-fn seen_point(e: Option<Element>) -> Option<(Frac, Frac)> {
-    match e {
-        Some(Element::Point { x, v }) => Some((x, v)),
-        _ => None,
+fn seen_point(e: &Element) -> Option<(Frac, Frac)> {
+    match *e {
+        Element::Point { x, v } => Some((x, v)),
+        Element::Open {
+            from: _,
+            to: _,
+            line: _,
+        } => None,
     }
 }
 
 // Of a segment the ends, the value at 0 and the slope.
-fn seen_open(e: Option<Element>) -> Option<(Frac, Option<Frac>, Frac, Frac)> {
-    match e {
-        Some(Element::Open { from, to, line }) => Some((from, to.finite(), line.icept, line.slope)),
-        _ => None,
+fn seen_open(e: &Element) -> Option<(Frac, Option<Frac>, Frac, Frac)> {
+    match *e {
+        Element::Point { x: _, v: _ } => None,
+        Element::Open { from, to, line } => Some((from, to.finite(), line.icept, line.slope)),
     }
 }
 
-fn first(j: Option<Joined>) -> Option<Element> {
-    match j {
-        Some(joined) => Some(joined.first),
+fn join_point(j: &Joined) -> Option<(Frac, Frac)> {
+    match &j.join {
+        Some(e) => seen_point(e),
         None => None,
     }
 }
 
-fn join(j: Option<Joined>) -> Option<Element> {
-    match j {
-        Some(joined) => joined.join,
-        None => None,
-    }
-}
-
-fn second(j: Option<Joined>) -> Option<Element> {
-    match j {
-        Some(joined) => joined.second,
+fn second_open(j: &Joined) -> Option<(Frac, Option<Frac>, Frac, Frac)> {
+    match &j.second {
+        Some(e) => seen_open(e),
         None => None,
     }
 }
@@ -111,9 +112,9 @@ fn second(j: Option<Joined>) -> Option<Element> {
 #[test]
 fn points_add(rt: HostRuntime) {
     let j = parts(&point(1, 2), &point(3, 4));
-    assert_eq!(rt; seen_point(first(j)), Some((whole(4), whole(6))));
-    assert!(rt; join(j).is_none());
-    assert!(rt; second(j).is_none());
+    assert_eq!(rt; seen_point(&j.first), Some((whole(4), whole(6))));
+    assert!(rt; j.join.is_none());
+    assert!(rt; j.second.is_none());
 }
 
 #[test]
@@ -122,13 +123,14 @@ fn a_point_moves_a_segment(rt: HostRuntime) {
     let s = open(0, Some(5), 3, 2);
     let p = point(1, 2);
     let j = parts(&p, &s);
-    assert_eq!(rt; seen_open(first(j)), moved);
-    assert_eq!(rt; seen_open(first(parts(&s, &p))), moved);
-    assert!(rt; join(j).is_none());
-    assert!(rt; second(j).is_none());
+    assert_eq!(rt; seen_open(&j.first), moved);
+    assert!(rt; j.join.is_none());
+    assert!(rt; j.second.is_none());
+    let k = parts(&s, &p);
+    assert_eq!(rt; seen_open(&k.first), moved);
 }
 
-// 5 at the start of both; the falling one gives up 3 by its end at 4, and the other then rises by 6 up to 6.
+// 5 just after both starts; the falling one gives up 3 until its end at 4, and the other then rises by 6 until 6.
 #[test]
 fn the_smaller_slope_comes_first(rt: HostRuntime) {
     let rising = open(0, Some(2), 1, 3);
@@ -136,28 +138,23 @@ fn the_smaller_slope_comes_first(rt: HostRuntime) {
     let j = parts(&rising, &falling);
     let before = Some((whole(1), Some(whole(4)), whole(6), whole(-1)));
     let after = Some((whole(4), Some(whole(6)), whole(-10), whole(3)));
-    assert_eq!(rt; seen_open(first(j)), before);
-    assert_eq!(rt; seen_point(join(j)), Some((whole(4), whole(2))));
-    assert_eq!(rt; seen_open(second(j)), after);
+    assert_eq!(rt; seen_open(&j.first), before);
+    assert_eq!(rt; join_point(&j), Some((whole(4), whole(2))));
+    assert_eq!(rt; second_open(&j), after);
     let k = parts(&falling, &rising);
-    assert_eq!(rt; seen_open(first(k)), before);
-    assert_eq!(rt; seen_open(second(k)), after);
+    assert_eq!(rt; seen_open(&k.first), before);
+    assert_eq!(rt; second_open(&k), after);
 }
 
 #[test]
 fn one_slope_or_no_end_makes_one_part(rt: HostRuntime) {
-    let same = parts(&open(0, Some(2), 1, 1), &open(1, None, 2, 1));
-    assert_eq!(rt;
-        seen_open(first(same)),
-        Some((whole(1), None, whole(3), whole(1)))
-    );
-    assert!(rt; join(same).is_none());
-    let endless = parts(&open(1, Some(2), 0, 3), &open(0, None, 1, 1));
-    assert_eq!(rt;
-        seen_open(first(endless)),
-        Some((whole(1), None, whole(3), whole(1)))
-    );
-    assert!(rt; second(endless).is_none());
+    let endless = Some((whole(1), None, whole(3), whole(1)));
+    let j = parts(&open(0, Some(2), 1, 1), &open(1, None, 2, 1));
+    assert_eq!(rt; seen_open(&j.first), endless);
+    assert!(rt; j.join.is_none());
+    let k = parts(&open(1, Some(2), 0, 3), &open(0, None, 1, 1));
+    assert_eq!(rt; seen_open(&k.first), endless);
+    assert!(rt; k.second.is_none());
 }
 
 #[test]
