@@ -8,3 +8,4 @@ pub mod Results
 pub mod OperandWindows
 pub mod LinesLie
 pub mod MadeLoop
+pub mod MadeReads

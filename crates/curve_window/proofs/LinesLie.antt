@@ -7,7 +7,7 @@ use Rattle.rational.proofs.Lines.{past_crossing, line_moved}
 use Rattle.rational.proofs.Linear.{with2, with3, with4, with5}
 use Rattle.affine_segment.specs.declared.line.Line.{Line}
 use Rattle.affine_segment.specs.Values.{line_at}
-use Rattle.curve_window.specs.Lies.{IsOrdered, MeetsAt}
+use Rattle.curve_window.specs.Lies.{IsOrdered, MeetsAt, CrossesAt}
 
 -- before two lines meet the shallower is the upper
 before_meeting : (k l r q t u : ℚ) → k +ℚ r *ℚ t ≡ l +ℚ q *ℚ t → r ≤ℚ q → u ≤ℚ t → l +ℚ q *ℚ u ≤ℚ k +ℚ r *ℚ u
@@ -37,3 +37,13 @@ parallel_lines l m t e h =
     let j = m.icept in
     let p = m.slope *ℚ t in
     subst (λ s. i +ℚ s *ℚ t ≤ℚ j +ℚ m.slope *ℚ t) (sym e) (with3 i j p (λ c. omega (arith, c.le, c.lt, c.same)))
+
+pub before_crossing : (rises : Bool) (l m : Option Line) (x t : ℚ) → CrossesAt rises l m x → t ≤ℚ x → IsOrdered rises l m t
+before_crossing rises None m x t C h = absurd C
+before_crossing rises (Some l) None x t C h = absurd C
+before_crossing rises (Some l) (Some m) x t C h = before_turn rises l m x t C h
+
+pub after_crossing : (rises : Bool) (l m : Option Line) (x t : ℚ) → CrossesAt rises l m x → x ≤ℚ t → IsOrdered (not rises) l m t
+after_crossing rises None m x t C h = absurd C
+after_crossing rises (Some l) None x t C h = absurd C
+after_crossing rises (Some l) (Some m) x t C h = after_turn rises l m x t C h
