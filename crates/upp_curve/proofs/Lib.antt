@@ -84,4 +84,8 @@ pub mod NormaliseOwn
 pub mod UnrolledPieces
 pub mod UnrollLoops
 pub mod UnrollSteps
+pub mod StretchPieces
+pub mod StretchTurns
 pub mod AnswerRoom
+pub mod StretchSizes
+pub mod StretchValues

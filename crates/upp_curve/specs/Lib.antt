@@ -38,3 +38,5 @@ pub mod ClosedOperands
 pub mod Operand
 pub mod Outcome
 pub mod Unrolling
+pub mod Ahead
+pub mod Copied

@@ -1,6 +1,7 @@
 //! Curves: functions of time made of finitely many pieces and a tail, with their value at every fraction.
 #![tactic(auto)]
 
+mod ahead;
 mod counts;
 mod curve;
 mod curve_numbers;
@@ -32,6 +33,7 @@ mod tests;
 mod two_periods;
 mod unrolling;
 
+pub use ahead::{Stretch, stretch_at};
 pub use curve::{Curve, Tail, equal};
 pub use kind_laws::kinds_are_curves;
 pub use laws::{
