@@ -1,0 +1,25 @@
+//! On which side of 0 a number lies.
+
+ghost use Rattle.std.specs.Prelude.{◌↔◌, IsTrue};
+ghost use Rattle.rational.specs.Rational.{◌<ℚ◌};
+ghost use Rattle.upp_curve.specs.Functions.{zero_q};
+
+use fraction128::Frac;
+use std::cmp::Ordering;
+
+/// Whether it is below 0.
+pub(crate) fn is_negative(x: Frac) -> bool
+    ensures { IsTrue result ↔ (x <ℚ zero_q) }
+{
+    match x.cmp(&Frac::zero()) {
+        Ordering::Less => true,
+        _ => false,
+    }
+}
+
+/// Whether it is above 0.
+pub(crate) fn is_positive(x: Frac) -> bool
+    ensures { IsTrue result ↔ (zero_q <ℚ x) }
+{
+    is_negative(x.negated())
+}
