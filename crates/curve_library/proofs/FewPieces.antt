@@ -56,7 +56,7 @@ each_copy : (P c x : ℚ) (ps : List Piece) → zero_q <ℚ P → Each (λ p. ze
 each_copy P c x [] some h e = tt
 each_copy P c x (p ∷ ps) some h e = (copy_most P c x p some h.0 e, each_copy P c x ps some h.1 e)
 
-end_is : (ps : List Piece) (P c : ℚ) → own_end record { pieces = ps; tail = Periodic zero_q P c } ≡ zero_q +ℚ P
+pub end_is : (ps : List Piece) (P c : ℚ) → own_end record { pieces = ps; tail = Periodic zero_q P c } ≡ zero_q +ℚ P
 unfolding own_end steady own_period
 end_is ps P c = refl
 

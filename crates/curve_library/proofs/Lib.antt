@@ -3,3 +3,4 @@ pub mod Answering
 pub mod FewPieces
 pub mod OwnParts
 pub mod LateParts
+pub mod GateParts

@@ -1,6 +1,6 @@
 -- When a call that builds a curve answers what. Own choice.
 use Rattle.std.specs.Prelude.{◌≡◌, ◌⊎◌, Result, Ok, Err, MatchResult}
-use Rattle.rational.specs.Rational.{ℚ, ◌<ℚ◌}
+use Rattle.rational.specs.Rational.{ℚ, ◌≤ℚ◌, ◌<ℚ◌}
 use Rattle.upp_curve.specs.Curve.{SpecCurve}
 use Rattle.upp_curve.specs.Functions.{zero_q}
 use Rattle.upp_curve.specs.declared.own_limits.OverLimit.{OverLimit}
@@ -22,6 +22,10 @@ KeepsOwnLimits c (Err NoMemory) = IsWithinOwn c
 -- ---- refusals of what was given
 abbrev pub OneNegative : ℚ → ℚ → Type 0
 OneNegative x y = (x <ℚ zero_q) ⊎ (y <ℚ zero_q)
+
+-- a cycle without length, or a slot that is 0 or longer than its cycle
+abbrev pub NoSlot : ℚ → ℚ → Type 0
+NoSlot cycle slot = (cycle ≤ℚ zero_q) ⊎ ((slot ≡ zero_q) ⊎ (cycle <ℚ slot))
 
 -- neither cause is there
 pub record Passes (negative zero_period : Type 0) : Type 0 where

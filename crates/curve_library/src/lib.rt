@@ -5,10 +5,12 @@
 mod buckets;
 mod fault;
 mod formed;
+mod gates;
 mod latencies;
 mod signs;
 
 pub use buckets::bucket;
 pub use fault::CurveFault;
+pub use gates::gate;
 pub use latencies::rate_latency;
 pub use upp_curve::OverLimit;

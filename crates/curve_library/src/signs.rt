@@ -1,4 +1,4 @@
-//! On which side of 0 a number lies.
+//! The order of two numbers, and on which side of 0 one lies.
 
 ghost use Rattle.std.specs.Prelude.{◌↔◌, IsTrue};
 ghost use Rattle.rational.specs.Rational.{◌<ℚ◌};
@@ -11,10 +11,7 @@ use std::cmp::Ordering;
 pub(crate) fn is_negative(x: Frac) -> bool
     ensures { IsTrue result ↔ (x <ℚ zero_q) }
 {
-    match x.cmp(&Frac::zero()) {
-        Ordering::Less => true,
-        _ => false,
-    }
+    is_less(x, Frac::zero())
 }
 
 /// Whether it is above 0.
@@ -22,4 +19,14 @@ pub(crate) fn is_positive(x: Frac) -> bool
     ensures { IsTrue result ↔ (zero_q <ℚ x) }
 {
     is_negative(x.negated())
+}
+
+/// Whether a is less than b.
+pub(crate) fn is_less(a: Frac, b: Frac) -> bool
+    ensures { IsTrue result ↔ (a <ℚ b) }
+{
+    match a.cmp(&b) {
+        Ordering::Less => true,
+        _ => false,
+    }
 }
