@@ -40,3 +40,4 @@ pub mod Outcome
 pub mod Unrolling
 pub mod Ahead
 pub mod Copied
+pub mod OwnLimits

@@ -19,6 +19,7 @@ mod lowest_rank;
 mod merging;
 mod op_kind;
 mod operand_numbers;
+mod own_limits;
 mod own_window;
 mod raw_curve;
 mod reading;
@@ -42,5 +43,6 @@ pub use laws::{
 };
 pub use limits::{gauge, tally};
 pub use op_kind::{OpFault, OpKind, Window};
+pub use own_limits::{OverLimit, over_own_limit};
 pub use raw_curve::{RawCurve, normalise, normalise_on};
 pub use starts::{is_after, is_before};

@@ -1,0 +1,6 @@
+pub mod SignTests
+pub mod Answering
+pub mod FewPieces
+pub mod OwnParts
+pub mod LateParts
+pub mod GateParts
