@@ -84,3 +84,4 @@ pub mod NormaliseOwn
 pub mod UnrolledPieces
 pub mod UnrollLoops
 pub mod UnrollSteps
+pub mod GaugeRises
