@@ -89,3 +89,4 @@ pub mod StretchTurns
 pub mod AnswerRoom
 pub mod StretchSizes
 pub mod StretchValues
+pub mod GaugeRises
