@@ -13,6 +13,7 @@ use Rattle.rational.specs.declared.Extended.TheVariants.{Fin, Inf}
 use Rattle.affine_segment.specs.declared.line.Line.{Line}
 use Rattle.affine_segment.specs.declared.line.Piece.{Piece}
 use Rattle.affine_segment.specs.Values.{line_value}
+pub use Rattle.upp_curve.specs.Bends.{ValueOn, LineOn}
 use Rattle.upp_curve.specs.Reading.{read, piece_in, piece_value}
 use Rattle.upp_curve.specs.Curve.{repeated}
 use Rattle.upp_curve.specs.Steady.{Repeats, last_line}
@@ -40,14 +41,6 @@ use Rattle.upp_curve.proofs.NormaliseForm.{each_part, merged_cons, TwoPeriodsOf,
 use Rattle.upp_curve.proofs.NormaliseRoomy.{each_in, found_early}
 
 -- ---- numbers on the grids
-abbrev pub ValueOn : ℕ → Ext → Type 0
-ValueOn D Inf = Unit {0}
-ValueOn D (Fin v) = Whole D v
-
-abbrev pub LineOn : ℕ → ℕ → Option Line → Type 0
-LineOn S D None = Unit {0}
-LineOn S D (Some l) = Whole D l.icept × Whole S l.slope
-
 -- starts on 1 / T, slopes on 1 / S, values on 1 / D
 pub record PieceOn (T S D : ℕ) (p : Piece) : Type 0 where
   pub start : Whole T p.x
