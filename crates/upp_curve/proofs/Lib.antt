@@ -90,3 +90,4 @@ pub mod AnswerRoom
 pub mod StretchSizes
 pub mod StretchValues
 pub mod GaugeRises
+pub mod Bends

@@ -41,3 +41,4 @@ pub mod Unrolling
 pub mod Ahead
 pub mod Copied
 pub mod OwnLimits
+pub mod Bends
