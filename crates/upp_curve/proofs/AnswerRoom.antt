@@ -4,13 +4,18 @@ use Rattle.std.specs.Prelude.{◌≡◌, ◌≢◌, ℕ, ◌+◌, ◌*◌, ◌<�
 use Rattle.std.proofs.Common.{arith, sym, ap, ap₂, ◌∙◌, refl, subst, inl, inr}
 use Prim.Native.Nat.{◌∣◌}
 use native.Mathlib.Nat.{dvd-mul_left, dvd-mul_right, dvd_refl, dvd_trans, mul-pos, mul-dvd-mul_right, mul-le-mul_right, mul-le-mul_left, le-mul_of_pos_right, mul_comm as mul_comm_n, mul_assoc as mul_assoc_n}
-use Rattle.rational.specs.Rational.{ℚ, neg_ℚ, ◌+ℚ◌, ◌-ℚ◌, ◌*ℚ◌, ◌/ℚ◌, ◌≤ℚ◌, ◌<ℚ◌, int}
+use Rattle.rational.specs.Gcd.{gcd, gcd_steps}
+use Rattle.rational.specs.Rational.{ℚ, neg_ℚ, ◌+ℚ◌, ◌-ℚ◌, ◌*ℚ◌, ◌/ℚ◌, ◌≤ℚ◌, ◌<ℚ◌, int, inv_ℚ, frac}
 use Rattle.rational.specs.Ratio.{IsSmall, SumFits}
 use Rattle.rational.specs.Grid.{Whole, Within}
-use Rattle.rational.proofs.Grid.{whole_weaken, whole_int, whole_add, whole_sub, whole_mul, whole_neg, within_weaken, within_add, within_sub, within_neg, within_mul, within_nonneg, within_some}
+use Rattle.rational.proofs.Grid.{whole_weaken, whole_int, whole_add, whole_sub, whole_mul, whole_neg, within_weaken, within_add, within_sub, within_neg, within_mul, within_nonneg, within_some, whole_div, steps_bound, num_bound}
 use Rattle.rational.proofs.Sizes.{small_on_grid, sum_on_grid, quotient_on_grid}
-use Rattle.rational.proofs.Integers.{nat_le, nat_nonneg, int_add, int_mul}
-use Rattle.rational.proofs.Laws.{le_refl, le_trans, le_of_lt, mul_le_mul, mul_le_mul_right, mul_assoc, mul_comm, mul_one, add_mul}
+use Rattle.rational.proofs.Integers.{nat_le, nat_le_out, nat_nonneg, int_add, int_mul}
+use Rattle.rational.proofs.Quotients.{div_unique}
+use Rattle.std.proofs.lemmas.Int.{ints}
+use Rattle.fraction128.specs.declared.fault.Wide.{Wide}
+use Rattle.affine_segment.specs.Steps.{IsWideCross}
+use Rattle.rational.proofs.Laws.{le_refl, le_trans, le_of_lt, mul_le_mul, mul_le_mul_right, mul_assoc, mul_comm, mul_one, mul_zero, add_mul, sub_mul, num_some}
 use Rattle.rational.proofs.Linear.{with1, with2, with3, with4}
 use Rattle.rational.specs.Extended.{Ext}
 use Rattle.rational.specs.declared.Extended.TheVariants.{Fin, Inf}
@@ -23,6 +28,8 @@ use Rattle.upp_curve.specs.Sized.{grid_of, times_largest, IsValue, IsSlope, AreS
 use Rattle.upp_curve.specs.Operand.{AreLimited, OperandLine, OperandLineAt, OperandPiece, answer_room}
 use Rattle.upp_curve.specs.Room.{top, Room, IsRoom, TimeHasRoom, many, ValueInRoom, ValueHasRoom, LineInRoom, LineHasRoom, PieceHasRoom}
 use Rattle.upp_curve.proofs.OwnGauge.{end_within}
+use Rattle.upp_curve.proofs.NormaliseRoom.{line_fits}
+use Rattle.upp_curve.proofs.NormaliseGrids.{q_same_or}
 use Rattle.upp_curve.proofs.NarrowSizes.{IsNarrow, narrow_limit, narrow_gauge, grid_pos, value_whole, value_within, run_whole, run_within, small_number, small_sum, slope_time_divides}
 
 -- ---- the products that a gauge below 2 ^ 120 bounds
@@ -209,3 +216,210 @@ pub operand_has_room : (z : Sizes) (end : ℚ) (p : Piece) → AreLimited z end 
 operand_has_room z end p A P =
     let T = room_at_start z end p.x A P.start P.nonneg in
     record { time = T; at = value_stands_room z end T.grid p.at T.base P.at; line = operand_line_room z end p.line A P.line }
+
+-- ---- what is read of lines fits
+far : (end x : ℚ) → int (pos 0) ≤ℚ end → x ≤ℚ end → x ≤ℚ int (pos 3) *ℚ end
+far end x some h = with2 end x (λ c. omega (arith, c.le, c.lt, c.same))
+
+-- the value of a line with room, at a time with room
+pub line_fits_in : (z : Sizes) (end x : ℚ) (l : Option Line) → AreLimited z end → LineHasRoom (answer_room z end) 1 l → TimeHasRoom (answer_room z end) x → x ≤ℚ end → LineFitsAt x l
+line_fits_in z end x l A L T early = line_fits (answer_room z end) 1 x l (answer_is_room z end A) (omega arith) L T (far end x A.some early)
+
+-- that of an operand's line, at a time on the grid of times
+pub operand_line_fits : (z : Sizes) (end x : ℚ) (l : Option Line) → AreLimited z end → OperandLineAt z l → Whole z.dt x → int (pos 0) ≤ℚ x → x ≤ℚ end → LineFitsAt x l
+operand_line_fits z end x l A L on low early = line_fits_in z end x l A (operand_line_room z end l A L) (room_at_start z end x A on low) early
+
+-- a value of an operand's line: on the grid of sums, within three times the largest value
+pub record OperandValue (z : Sizes) (v : ℚ) : Type 0 where
+  pub whole : Whole (grid_of z) v
+  pub within : Within (times_largest 3 z) v
+
+abbrev pub OperandValueAt : Sizes → Ext → Type 0
+OperandValueAt z Inf = Unit {0}
+OperandValueAt z (Fin v) = OperandValue z v
+
+more_largest : (z : Sizes) (k j : ℕ) → k ≤ j → times_largest k z ≤ℚ times_largest j z
+more_largest z k j h = mul_le_mul_right (int (pos z.largest)) (nat_nonneg z.largest) (nat_le k j h)
+
+pub stands_operand_value : (z : Sizes) (v : Ext) → ValueStands z v → OperandValueAt z v
+stands_operand_value z Inf h = tt
+stands_operand_value z (Fin v) h = record { whole = value_whole z v h; within = within_weaken (times_largest 1 z) (times_largest 3 z) v (more_largest z 1 3 (omega arith)) (value_within z v h) }
+
+pub operand_line_value : (z : Sizes) (end x : ℚ) (l : Option Line) → AreLimited z end → OperandLineAt z l → Whole z.dt x → int (pos 0) ≤ℚ x → x ≤ℚ end → OperandValueAt z (line_value l x)
+operand_line_value z end x None A L on low early = tt
+operand_line_value z end x (Some l) A L on low early = record {
+  whole = whole_add (grid_of z) l.icept (l.slope *ℚ x) L.icept (run_whole z l.slope x L.slope on);
+  within =
+      subst (λ m. Within m (line_at l x)) (many_more z 2 1)
+      (within_add (times_largest 2 z) (times_largest 1 z) l.icept (l.slope *ℚ x) L.within (steep_run z end l.slope x A (operand_line z l L).steep low early));
+}
+
+-- two values of operands
+pub values_fit : (z : Sizes) (end v w : ℚ) → AreLimited z end → OperandValue z v → OperandValue z w → SumFits v w × SumFits v (neg_ℚ w)
+values_fit z end v w A V W =
+    let N = wide_narrow z end A in (
+      small_sum z end 3 3 v w A.sizes N (omega arith) V.whole W.whole V.within W.within,
+      small_sum z end 3 3 v (neg_ℚ w) A.sizes N (omega arith) V.whole (whole_neg (grid_of z) w W.whole) V.within (within_neg (times_largest 3 z) w W.within),
+    )
+
+-- they are on the grid of any time
+pub operand_value_room : (z : Sizes) (end : ℚ) (grid : ℕ) (v : Ext) → z.dv * z.dt ∣ grid → OperandValueAt z v → ValueHasRoom (answer_room z end) 1 grid v
+operand_value_room z end grid Inf base h = tt
+operand_value_room z end grid (Fin v) base h = value_in_room z end 3 grid v (omega arith) (whole_weaken (grid_of z) (grid * z.ds) v (mul-dvd-mul_right (z.dv * z.dt) base z.ds) h.whole) h.within
+
+-- ---- two lines of operands
+slopes_fit : (z : Sizes) (end s r : ℚ) → AreLimited z end → Whole z.ds s → Whole z.ds r → Within (int (pos z.steepness)) s → Within (int (pos z.steepness)) r → SumFits s r
+slopes_fit z end s r A ws wr is ir =
+    let S = z.steepness in
+    let n = (limited_narrow z end A).slopes in
+    let some = A.sizes.steepness in
+    let one : 1 * z.ds ≤ S * z.ds = mul-le-mul_right z.ds some in
+    let e : (int (pos S) +ℚ int (pos S)) *ℚ int (pos z.ds) ≡ int (pos ((S + S) * z.ds)) = ap (λ y. y *ℚ int (pos z.ds)) (int_add (pos S) (pos S)) ∙ int_mul (pos (S + S)) (pos z.ds) in
+    sum_on_grid z.ds (int (pos S)) (int (pos S)) s r A.sizes.ds (omega (arith, n, one)) (subst (λ y. y ≤ℚ int (pos top)) (sym e) (nat_le ((S + S) * z.ds) top (omega (arith, n)))) ws wr is ir
+
+icepts_fit : (z : Sizes) (end p q : ℚ) → AreLimited z end → Whole (grid_of z) p → Whole (grid_of z) q → Within (times_largest 2 z) p → Within (times_largest 2 z) q → SumFits p q
+icepts_fit z end p q A wp wq ip iq = small_sum z end 2 2 p q A.sizes (wide_narrow z end A) (omega arith) wp wq ip iq
+
+pub record LinesFit (l m : Line) : Type 0 where
+  pub icepts : SumFits l.icept m.icept
+  pub slopes : SumFits l.slope m.slope
+  pub apart : SumFits l.icept (neg_ℚ m.icept)
+  pub closing : SumFits l.slope (neg_ℚ m.slope)
+
+pub operand_lines_fit : (z : Sizes) (end : ℚ) (l m : Line) → AreLimited z end → OperandLine z l → OperandLine z m → LinesFit l m
+operand_lines_fit z end l m A L M =
+    let S = int (pos z.steepness) in
+    let P = operand_line z l L in
+    let Q = operand_line z m M in
+    record {
+      icepts = icepts_fit z end l.icept m.icept A L.icept M.icept L.within M.within;
+      slopes = slopes_fit z end l.slope m.slope A P.slope Q.slope P.steep Q.steep;
+      apart = icepts_fit z end l.icept (neg_ℚ m.icept) A L.icept (whole_neg (grid_of z) m.icept M.icept) L.within (within_neg (times_largest 2 z) m.icept M.within);
+      closing = slopes_fit z end l.slope (neg_ℚ m.slope) A P.slope (whole_neg z.ds m.slope Q.slope) P.steep (within_neg S m.slope Q.steep);
+    }
+
+-- twice each slope is within the steepness: so are their sum and their difference
+halves_sum : (v s r : ℚ) → Within v (int (pos 2) *ℚ s) → Within v (int (pos 2) *ℚ r) → Within v (s +ℚ r)
+halves_sum v s r h k =
+    let a = h.low in
+    let b = h.high in
+    let p = k.low in
+    let q = k.high in
+    record { low = with3 v s r (λ c. omega (arith, c.le, c.lt, c.same)); high = with3 v s r (λ c. omega (arith, c.le, c.lt, c.same)) }
+
+halves_apart : (v s r : ℚ) → Within v (int (pos 2) *ℚ s) → Within v (int (pos 2) *ℚ r) → Within v (s -ℚ r)
+halves_apart v s r h k =
+    let a = h.low in
+    let b = h.high in
+    let p = k.low in
+    let q = k.high in
+    record { low = with3 v s r (λ c. omega (arith, c.le, c.lt, c.same)); high = with3 v s r (λ c. omega (arith, c.le, c.lt, c.same)) }
+
+pub sum_of_lines : (z : Sizes) (l m : Line) → OperandLine z l → OperandLine z m → AnswerLine z 4 record { icept = l.icept +ℚ m.icept; slope = l.slope +ℚ m.slope }
+sum_of_lines z l m L M = record {
+  icept = whole_add (grid_of z) l.icept m.icept L.icept M.icept;
+  within = subst (λ v. Within v (l.icept +ℚ m.icept)) (many_more z 2 2) (within_add (times_largest 2 z) (times_largest 2 z) l.icept m.icept L.within M.within);
+  slope = whole_add z.ds l.slope m.slope L.slope.whole M.slope.whole;
+  steep = halves_sum (int (pos z.steepness)) l.slope m.slope L.slope.within M.slope.within;
+}
+
+pub difference_of_lines : (z : Sizes) (l m : Line) → OperandLine z l → OperandLine z m → AnswerLine z 4 record { icept = l.icept -ℚ m.icept; slope = l.slope -ℚ m.slope }
+difference_of_lines z l m L M = record {
+  icept = whole_sub (grid_of z) l.icept m.icept L.icept M.icept;
+  within = subst (λ v. Within v (l.icept -ℚ m.icept)) (many_more z 2 2) (within_sub (times_largest 2 z) (times_largest 2 z) l.icept m.icept L.within M.within);
+  slope = whole_sub z.ds l.slope m.slope L.slope.whole M.slope.whole;
+  steep = halves_apart (int (pos z.steepness)) l.slope m.slope L.slope.within M.slope.within;
+}
+
+-- ---- where two lines meet
+-- a time on the grid of the q steps that the slopes are apart
+pub record IsCrossing (z : Sizes) (t : ℚ) : Type 0 where
+  pub apart : ℕ
+  pub some : 1 ≤ apart
+  pub few : apart ≤ z.steepness * z.ds
+  pub whole : Whole (z.dv * z.dt * apart) t
+
+whole_times_out : (n q : ℕ) (x : ℚ) → Whole q (x *ℚ int (pos n)) → Whole (n * q) x
+whole_times_out n q x w = record { steps = w.steps; is = ap (λ y. x *ℚ y) (sym (int_mul (pos n) (pos q))) ∙ sym (mul_assoc x (int (pos n)) (int (pos q))) ∙ w.is }
+
+whole_times_in : (n q : ℕ) (x : ℚ) → Whole (n * q) x → Whole q (x *ℚ int (pos n))
+whole_times_in n q x w = record { steps = w.steps; is = mul_assoc x (int (pos n)) (int (pos q)) ∙ ap (λ y. x *ℚ y) (int_mul (pos n) (pos q)) ∙ w.is }
+
+quotient_times : (up down t n : ℚ) → down ≢ int (pos 0) → t *ℚ down ≡ up → (up *ℚ n) /ℚ down ≡ t *ℚ n
+quotient_times up down t n some e = div_unique (up *ℚ n) down (t *ℚ n) some (mul_assoc t n down ∙ ap (λ y. t *ℚ y) (mul_comm n down) ∙ sym (mul_assoc t down n) ∙ ap (λ y. y *ℚ n) e)
+
+-- from the times at which the steps of the slopes' difference are 0
+steps_not_none : (d : ℕ) (x : ℚ) (w : Whole d x) → 0 < d → x ≢ int (pos 0) → 1 ≤ nat_abs w.steps
+steps_not_none d x w some h = let b = num_bound d x some w in let n = num_not_none x h in omega (arith, b, n)
+  where
+    num_not_none : (x : ℚ) → x ≢ int (pos 0) → 1 ≤ nat_abs x.num
+    num_not_none x h = let n = num_some x h in size x.num n
+      where
+        size : (a : ℤ) → a ≢ pos 0 → 1 ≤ nat_abs a
+        size a h = omega (arith, ints)
+
+crossing_from : (z : Sizes) (end up down t : ℚ) → AreLimited z end → Whole (grid_of z) up → Whole z.ds down → Within (int (pos z.steepness)) down → down ≢ int (pos 0) → t *ℚ down ≡ up → IsCrossing z t
+crossing_from z end up down t A wu wd id some e =
+    let n = z.dv * z.dt in
+    let Q = whole_div z.ds (up *ℚ int (pos n)) down (whole_times_in n z.ds up wu) wd some in
+    let bound = steps_bound z.ds (int (pos z.steepness)) down wd id in
+    record {
+      apart = nat_abs wd.steps;
+      some = steps_not_none z.ds down wd A.sizes.ds some;
+      few = nat_le_out (nat_abs wd.steps) (z.steepness * z.ds) (subst (λ y. int (pos (nat_abs wd.steps)) ≤ℚ y) (int_mul (pos z.steepness) (pos z.ds)) bound);
+      whole = whole_times_out n (nat_abs wd.steps) t (subst (Whole (nat_abs wd.steps)) (quotient_times up down t (int (pos n)) some e) Q.whole);
+    }
+
+slopes_apart : (s r : ℚ) → s ≢ r → s -ℚ r ≢ int (pos 0)
+slopes_apart s r h e = h (with2 s r (λ c. omega (arith, c.le, c.lt, c.same)))
+
+meet_times : (l m : Line) (t : ℚ) → line_at l t ≡ line_at m t → t *ℚ (l.slope -ℚ m.slope) ≡ m.icept -ℚ l.icept
+meet_times l m t e =
+    let p = l.slope *ℚ t in
+    let q = m.slope *ℚ t in
+    let i = l.icept in
+    let j = m.icept in
+    mul_comm t (l.slope -ℚ m.slope) ∙ sub_mul l.slope m.slope t ∙ with4 p q i j (λ c. omega (arith, c.le, c.lt, c.same))
+
+pub crossing_of_lines : (z : Sizes) (end : ℚ) (l m : Line) (t : ℚ) → AreLimited z end → OperandLine z l → OperandLine z m → l.slope ≢ m.slope → line_at l t ≡ line_at m t → IsCrossing z t
+crossing_of_lines z end l m t A L M h e =
+    crossing_from z end (m.icept -ℚ l.icept) (l.slope -ℚ m.slope) t A (whole_sub (grid_of z) m.icept l.icept M.icept L.icept)
+    (whole_sub z.ds l.slope m.slope L.slope.whole M.slope.whole) (halves_apart (int (pos z.steepness)) l.slope m.slope L.slope.within M.slope.within)
+    (slopes_apart l.slope m.slope h) (meet_times l m t e)
+
+pub crossing_room : (z : Sizes) (end x : ℚ) → AreLimited z end → IsCrossing z x → int (pos 0) ≤ℚ x → TimeHasRoom (answer_room z end) x
+crossing_room z end x A C low = room_at_crossing z end C.apart x A C.some C.few C.whole low
+
+-- no step on the way there is too wide
+nothing_over : (up down : ℚ) → down ≡ int (pos 0) → up /ℚ down ≡ int (pos 0)
+unfolding ◌/ℚ◌ inv_ℚ frac gcd gcd_steps
+nothing_over up down e = ap (λ d. up /ℚ d) e ∙ mul_zero up
+
+pub crossing_small : (z : Sizes) (end : ℚ) (l m : Line) → AreLimited z end → OperandLine z l → OperandLine z m → IsSmall ((m.icept -ℚ l.icept) /ℚ (l.slope -ℚ m.slope))
+crossing_small z end l m A L M = elim (q_same_or (l.slope -ℚ m.slope) (int (pos 0))) [
+  | inl e ↦
+      subst IsSmall (sym (nothing_over (m.icept -ℚ l.icept) (l.slope -ℚ m.slope) e))
+      (small_number z end 1 (int (pos 0)) A.sizes (wide_narrow z end A) (omega arith) (whole_int (grid_of z) (pos 0)) (within_nonneg (times_largest 1 z) (int (pos 0)) (le_refl (int (pos 0))) (some_largest z)))
+  | inr h ↦
+      let t = tight z end A in
+      let s = t.sums in
+      let p = t.steep in
+      let d = grid_of z in
+      let up = m.icept -ℚ l.icept in
+      let down = l.slope -ℚ m.slope in
+      let wide : times_largest 4 z *ℚ int (pos d) ≤ℚ int (pos top) =
+      subst (λ y. y ≤ℚ int (pos top)) (sym (ap (λ y. y *ℚ int (pos d)) (int_mul (pos 4) (pos z.largest)) ∙ int_mul (pos (4 * z.largest)) (pos d))) (nat_le (4 * z.largest * d) top (omega (arith, s))) in
+      let steep : int (pos z.steepness) *ℚ int (pos d) ≤ℚ int (pos top) = subst (λ y. y ≤ℚ int (pos top)) (sym (int_mul (pos z.steepness) (pos d))) (nat_le (z.steepness * d) top (omega (arith, p))) in
+      let on : Whole d down = whole_weaken z.ds d down (dvd-mul_left z.ds (z.dv * z.dt)) (whole_sub z.ds l.slope m.slope L.slope.whole M.slope.whole) in
+      quotient_on_grid d (times_largest 4 z) (int (pos z.steepness)) up down (grid_pos z end A.sizes) h wide steep (whole_sub d m.icept l.icept M.icept L.icept) on
+      (subst (λ v. Within v up) (many_more z 2 2) (within_sub (times_largest 2 z) (times_largest 2 z) m.icept l.icept M.within L.within))
+      (halves_apart (int (pos z.steepness)) l.slope m.slope L.slope.within M.slope.within)
+]
+  where
+    some_largest : (z : Sizes) → int (pos 0) ≤ℚ times_largest 1 z
+    some_largest z = subst (λ y. int (pos 0) ≤ℚ y) (sym (int_mul (pos 1) (pos z.largest))) (nat_nonneg (1 * z.largest))
+
+pub crossing_not_wide : (z : Sizes) (end : ℚ) (l m : Line) (w : Wide) → AreLimited z end → OperandLine z l → OperandLine z m → ¬ (IsWideCross l m w)
+crossing_not_wide z end l m w A L M (inl a) = a.1 (operand_lines_fit z end m l A M L).apart
+crossing_not_wide z end l m w A L M (inr (inl b)) = b.1 (operand_lines_fit z end l m A L M).closing
+crossing_not_wide z end l m w A L M (inr (inr c)) = c.1 (crossing_small z end l m A L M)
