@@ -5,3 +5,4 @@ pub mod Mapped
 pub mod Sums
 pub mod MapLoop
 pub mod Results
+pub mod OperandWindows
