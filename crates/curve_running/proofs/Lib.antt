@@ -1,0 +1,4 @@
+pub mod Levels
+pub mod Suprema
+pub mod Infima
+pub mod Building
