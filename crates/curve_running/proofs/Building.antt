@@ -6,9 +6,8 @@ use Rattle.rational.specs.Extended.{Ext}
 use Rattle.rational.proofs.Laws.{antisym, le_refl, le_of_lt, le_or_lt, le_trans, lt_irrefl, lt_le_trans, le_lt_trans, lt_trans}
 use Rattle.affine_segment.specs.declared.line.Piece.{Piece}
 use Rattle.affine_segment.specs.Values.{line_value}
-use Rattle.upp_curve.specs.Reading.{read, piece_value}
+use Rattle.upp_curve.specs.Reading.{read, piece_in, piece_value}
 use Rattle.upp_curve.specs.Normal.{Each, RisesFrom, StartsAtZero}
-use Rattle.upp_curve.proofs.Copies.{read_before}
 use Rattle.upp_curve.proofs.PieceIn.{piece_in_end, piece_in_go, piece_in_stop}
 use Rattle.upp_curve.proofs.FirstStretch.{value_past, value_at_start}
 use Rattle.curve_window.proofs.Surgery.{BeforeNext, read_middle}
@@ -34,9 +33,20 @@ starts_more [] q r h l = (h.0, (l, tt))
 starts_more (p ∷ ps) q r h l = (h.0, rises_more p.x ps q r h.1 l)
 
 -- before its start an appended piece is not read
+found_early : (p : Piece) (ps : List Piece) (q : Piece) (t : ℚ) → t <ℚ q.x → piece_in p (ps ++ q ∷ []) t ≡ piece_in p ps t
+found_early p [] q t l = piece_in_stop p q [] t l ∙ sym (piece_in_end p t)
+found_early p (r ∷ rs) q t l = elim (le_or_lt r.x t) [
+  | inl h ↦ piece_in_go p r (rs ++ q ∷ []) t h ∙ found_early r rs q t l ∙ sym (piece_in_go p r rs t h)
+  | inr h ↦ piece_in_stop p r (rs ++ q ∷ []) t h ∙ sym (piece_in_stop p r rs t h)
+]
+
+read_before : (p : Piece) (ps : List Piece) (q : Piece) (t : ℚ) → t <ℚ q.x → read (p ∷ (ps ++ q ∷ [])) t ≡ read (p ∷ ps) t
+unfolding read
+read_before p ps q t l = ap (λ z. piece_value z t) (found_early p ps q t l)
+
 read_early : (out : List Piece) (q : Piece) (t : ℚ) → StartsAtZero (out ++ q ∷ []) → int (pos 0) ≤ℚ t → t <ℚ q.x → read (out ++ q ∷ []) t ≡ read out t
 read_early [] q t h low l = absurd (lt_irrefl t (lt_le_trans (subst (λ z. t <ℚ z) h.0 l) low))
-read_early (p ∷ ps) q t h low l = read_before p ps q [] t l
+read_early (p ∷ ps) q t h low l = read_before p ps q t l
 
 pub built_more : (P : ℚ → Ext → Type 0) (b c : ℚ) (out : List Piece) (q : Piece) → Built P b out → q.x ≡ b → b <ℚ c → P b q.at
     → ((t : ℚ) → b <ℚ t → t <ℚ c → P t (line_value q.line t)) → Built P c (out ++ q ∷ [])
@@ -101,6 +111,18 @@ front_value P a b q e at on t l early = elim (le_or_lt t a) [
   | inr m ↦ subst (P t) (sym (value_past q t (subst (λ z. z <ℚ t) (sym e) m))) (on t m early)
 ]
 
+first_only : (q : Piece) (t : ℚ) → read (q ∷ []) t ≡ piece_value q t
+unfolding read
+first_only q t = ap (λ z. piece_value z t) (piece_in_end q t)
+
+first_on : (q r : Piece) (rs : List Piece) (t : ℚ) → t <ℚ r.x → read (q ∷ r ∷ rs) t ≡ piece_value q t
+unfolding read
+first_on q r rs t h = ap (λ z. piece_value z t) (piece_in_stop q r rs t h)
+
+second_on : (q r : Piece) (rs : List Piece) (t : ℚ) → r.x ≤ℚ t → read (q ∷ r ∷ rs) t ≡ read (r ∷ rs) t
+unfolding read
+second_on q r rs t h = ap (λ z. piece_value z t) (piece_in_go q r rs t h)
+
 pub back_more : (P : ℚ → Ext → Type 0) (a b end : ℚ) (q : Piece) (out : List Piece) → BuiltBack P b end out → q.x ≡ a → a <ℚ b → b ≤ℚ end → P a q.at
     → ((t : ℚ) → a <ℚ t → t <ℚ b → P t (line_value q.line t)) → BuiltBack P a end (q ∷ out)
 back_more P a b end q [] B e some most at on = record {
@@ -110,10 +132,6 @@ back_more P a b end q [] B e some most at on = record {
   holds = λ t l early.
   subst (P t) (sym (first_only q t)) (front_value P a b q e at on t l (subst (λ z. t <ℚ z) (sym B) early));
 }
-  where
-    first_only : (q : Piece) (t : ℚ) → read (q ∷ []) t ≡ piece_value q t
-    unfolding read
-    first_only q t = ap (λ z. piece_value z t) (piece_in_end q t)
 back_more P a b end q (r ∷ rs) B e some most at on =
     let less : q.x <ℚ r.x = subst (λ z. z <ℚ r.x) (sym e) (subst (λ z. a <ℚ z) (sym B.first) some) in
     record {
@@ -121,15 +139,7 @@ back_more P a b end q (r ∷ rs) B e some most at on =
       rises = (less, B.rises);
       before = (subst (λ z. z <ℚ end) (sym e) (lt_le_trans some most), B.before);
       holds = λ t l early. elim (le_or_lt b t) [
-        | inl m ↦ subst (P t) (sym (second_on t (subst (λ z. z ≤ℚ t) (sym B.first) m))) (B.holds t m early)
-        | inr m ↦ subst (P t) (sym (first_on t (subst (λ z. t <ℚ z) (sym B.first) m))) (front_value P a b q e at on t l m)
+        | inl m ↦ subst (P t) (sym (second_on q r rs t (subst (λ z. z ≤ℚ t) (sym B.first) m))) (B.holds t m early)
+        | inr m ↦ subst (P t) (sym (first_on q r rs t (subst (λ z. t <ℚ z) (sym B.first) m))) (front_value P a b q e at on t l m)
       ];
     }
-  where
-    second_on : (t : ℚ) → r.x ≤ℚ t → read (q ∷ r ∷ rs) t ≡ read (r ∷ rs) t
-    unfolding read
-    second_on t h = ap (λ z. piece_value z t) (piece_in_go q r rs t h)
-
-    first_on : (t : ℚ) → t <ℚ r.x → read (q ∷ r ∷ rs) t ≡ piece_value q t
-    unfolding read
-    first_on t h = ap (λ z. piece_value z t) (piece_in_stop q r rs t h)

@@ -80,8 +80,6 @@ pub late_value : (f : ℚ → Ext) (w end x e level v : ℚ) (l : Line) → IsLi
     → IsLate f w end x (min_q v (sunk level l e x))
 late_value f w end x e level v l on most some h k = record { below = under; near = close }
   where
-    low = min_q v (sunk level l e x)
-
     under : (i : Until x end ⊎ Unit {0}) → Fin (min_q v (sunk level l e x)) ≤ₑ with_limit f w x end i
     under (inl s) = elim (le_or_lt e s.at) [
       | inl m ↦

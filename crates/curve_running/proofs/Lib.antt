@@ -1,4 +1,9 @@
 pub mod Levels
+pub mod Bending
 pub mod Suprema
 pub mod Infima
 pub mod Building
+pub mod Middle
+pub mod Meetings
+pub mod Makings
+pub mod SupremumLoop

@@ -11,7 +11,7 @@ use Rattle.fraction128.specs.declared.fault.Wide.{Wide}
 use Rattle.affine_segment.specs.Values.{line_at, line_value}
 use Rattle.affine_segment.specs.Steps.{IsWideCross}
 use Rattle.upp_curve.specs.Reading.{read}
-use Rattle.upp_curve.specs.Normal.{Each, StartsAtZero}
+use Rattle.upp_curve.specs.Normal.{Each, HasStart, StartsAtZero}
 use Rattle.upp_curve.specs.Readable.{EachFits}
 use Rattle.upp_curve.specs.Shapes.{IsFinitePiece}
 use Rattle.curve_running.specs.declared.stretch.Stretch.{Stretch}
@@ -61,6 +61,7 @@ pub record IsStretch (ps : List Piece) (end : ℚ) (i : ℕ) (s : Stretch) : Typ
   pub on : (t : ℚ) → s.from <ℚ t → t <ℚ s.to → read ps t ≡ Fin (line_at s.line t)
   pub right : s.right ≡ line_at s.line s.from
   pub left : s.left ≡ line_at s.line s.to
+  pub start : HasStart s.from ps
   pub line : HasLine s.line ps
   pub at_level : IsLevel end ps s.at
   pub right_level : IsLevel end ps s.right

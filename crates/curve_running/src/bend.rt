@@ -38,7 +38,8 @@ fn meeting(level: Frac, line: &Line) -> Frac
 {
     match cross(line, &level_line(level)) {
         Ok(Some(t)) => t,
-        _ => level,
+        Ok(None) => level,
+        Err(_) => level,
     }
 }
 

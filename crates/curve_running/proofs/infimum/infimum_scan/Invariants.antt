@@ -1,0 +1,4 @@
+use Rattle.curve_running.proofs.infimum.infimum_scan.Given as goal
+
+abbrev pub invariant-loop-i : goal.invariant-loop-i
+invariant-loop-i l = ?
