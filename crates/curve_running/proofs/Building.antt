@@ -130,7 +130,7 @@ back_more P a b end q [] B e some most at on = record {
   rises = tt;
   before = (subst (λ z. z <ℚ end) (sym e) (lt_le_trans some most), tt);
   holds = λ t l early.
-  subst (P t) (sym (first_only q t)) (front_value P a b q e at on t l (subst (λ z. t <ℚ z) (sym B) early));
+      subst (P t) (sym (first_only q t)) (front_value P a b q e at on t l (subst (λ z. t <ℚ z) (sym B) early));
 }
 back_more P a b end q (r ∷ rs) B e some most at on =
     let less : q.x <ℚ r.x = subst (λ z. z <ℚ r.x) (sym e) (subst (λ z. a <ℚ z) (sym B.first) some) in

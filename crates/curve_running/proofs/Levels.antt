@@ -98,8 +98,8 @@ sup_turn v l x to m r low high e =
       first = sup_flat v l x m r at;
       at = ap Fin (sym (top_first v (line_at l x) (line_at l m) (le_of_lt low) at));
       second = λ t p q.
-      let above : v ≤ℚ line_at l t = subst (λ z. z ≤ℚ line_at l t) e (up l m t rises (le_of_lt p)) in
-      ap Fin (sym (top_third v (line_at l x) (line_at l t) above (le_trans (le_of_lt low) above)));
+          let above : v ≤ℚ line_at l t = subst (λ z. z ≤ℚ line_at l t) e (up l m t rises (le_of_lt p)) in
+          ap Fin (sym (top_third v (line_at l x) (line_at l t) above (le_trans (le_of_lt low) above)));
     }
 
 -- ---- from a time on
@@ -128,10 +128,10 @@ inf_turn v l x to m r low high e =
       past = past;
       early = early;
       first = λ t p q.
-      let below : line_at l t ≤ℚ v = subst (λ z. line_at l t ≤ℚ z) e (up l t m rises (le_of_lt q)) in
-      ap Fin (sym (bottom_second v (line_at l t) (line_at l to) below (le_trans below (le_of_lt high))));
+          let below : line_at l t ≤ℚ v = subst (λ z. line_at l t ≤ℚ z) e (up l t m rises (le_of_lt q)) in
+          ap Fin (sym (bottom_second v (line_at l t) (line_at l to) below (le_trans below (le_of_lt high))));
       at = ap Fin (sym (bottom_first v (line_at l m) (line_at l to) at (le_of_lt high)));
       second = λ t p q.
-      let above : v ≤ℚ line_at l t = le_trans at (up l m t rises (le_of_lt p)) in
-      ap Fin (flat_at v t ∙ sym (bottom_first v (line_at l t) (line_at l to) above (le_of_lt high)));
+          let above : v ≤ℚ line_at l t = le_trans at (up l m t rises (le_of_lt p)) in
+          ap Fin (flat_at v t ∙ sym (bottom_first v (line_at l t) (line_at l to) above (le_of_lt high)));
     }

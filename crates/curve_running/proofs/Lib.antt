@@ -7,3 +7,4 @@ pub mod Middle
 pub mod Meetings
 pub mod Makings
 pub mod SupremumLoop
+pub mod InfimumLoop

@@ -119,8 +119,8 @@ stretch_is ps i p end v to right left l W h e at line is r q = record {
   most = subst (λ z. z ≤ℚ end) (sym to_is) (next_most end bs_after (each_after (λ z. z.x <ℚ end) a.before p a.after early));
   at = subst (λ z. read z p.x ≡ Fin v) a.whole (read_middle a.before p a.after p.x starts (le_refl p.x) (before_own p a.after rises) ∙ value_at_start p ∙ at);
   on = λ t past before.
-  subst (λ z. read z t ≡ Fin (line_at l t)) a.whole
-  (read_middle a.before p a.after t starts (le_of_lt past) (before_next end t a.after (subst (λ z. t <ℚ z) to_is before)) ∙ value_past p t past ∙ ap (λ z. line_value z t) line);
+      subst (λ z. read z t ≡ Fin (line_at l t)) a.whole
+      (read_middle a.before p a.after t starts (le_of_lt past) (before_next end t a.after (subst (λ z. t <ℚ z) to_is before)) ∙ value_past p t past ∙ ap (λ z. line_value z t) line);
   right = r;
   left = q;
   start = subst (HasStart p.x) a.whole (has_start a.before p a.after);

@@ -65,8 +65,8 @@ bent_built ps out s top l None some B at on f =
 bent_built ps out s top l (Some q) some B at on f =
     let p : Piece = record { x = s.from; at = Fin top; line = Some l } in
     let first : Built (R ps) q.x (out ++ p ∷ []) =
-        built_more (R ps) s.from q.x out p B refl f.past at
-        (λ t past early. subst (R ps t) (sym (f.first t past early)) (on t past (lt_trans early f.early))) in
+    built_more (R ps) s.from q.x out p B refl f.past at
+    (λ t past early. subst (R ps t) (sym (f.first t past early)) (on t past (lt_trans early f.early))) in
     subst (Built (R ps) s.to) (one_more out p (q ∷ []))
     (built_more (R ps) q.x s.to (out ++ p ∷ []) q first refl f.early (subst (R ps q.x) (sym f.at) (on q.x f.past f.early))
     (λ t past early. subst (R ps t) (sym (f.second t past early)) (on t (lt_trans f.past past) early)))
@@ -76,9 +76,9 @@ pub supremum_step : (ps : List Piece) (end : ℚ) (i : ℕ) (level : ℚ) (out m
     → more ≡ out ++ bent s.from top b.line b.turn → high ≡ max_q s.right s.left → next ≡ max_q top high → SupremumLoop ps end (i + 1) next more
 supremum_step ps end i level out more s top high next b L S t f m e h n =
     let at : IsUpTo (read ps) s.from top =
-        subst (IsUpTo (read ps) s.from) (sym t) (upto_value (read ps) s.from level s.at S.nonneg S.at (subst (λ z. IsEarly (read ps) z level) (sym S.from) L.highest)) in
+    subst (IsUpTo (read ps) s.from) (sym t) (upto_value (read ps) s.from level s.at S.nonneg S.at (subst (λ z. IsEarly (read ps) z level) (sym S.from) L.highest)) in
     let on : (u : ℚ) → s.from <ℚ u → u <ℚ s.to → IsUpTo (read ps) u (risen top s.line s.from u) =
-        λ u past early. upto_line (read ps) s.from s.to u top s.line S.nonneg S.on past early at in
+    λ u past early. upto_line (read ps) s.from s.to u top s.line S.nonneg S.on past early at in
     let next_is : next ≡ risen top s.line s.from s.to = n ∙ ap (max_q top) (h ∙ ap₂ max_q S.right S.left) in
     let top_known : IsLevel end ps top = subst (IsLevel end ps) (sym t) (greater_level end ps level s.at L.known S.at_level) in
     let high_known : IsLevel end ps high = subst (IsLevel end ps) (sym h) (greater_level end ps s.right s.left S.right_level S.left_level) in
@@ -88,7 +88,7 @@ supremum_step ps end i level out more s top high next b L S t f m e h n =
       highest = subst (λ z. IsEarly (read ps) z next) S.to (subst (IsEarly (read ps) s.to) (sym next_is) (early_line (read ps) s.from s.to top s.line S.nonneg S.on S.some at));
       known = subst (IsLevel end ps) (sym n) (greater_level end ps top high top_known high_known);
       built = subst (λ z. Built (R ps) z more) S.to
-      (subst (Built (R ps) s.to) (sym e) (bent_built ps out s top b.line b.turn S.some (subst (λ z. Built (R ps) z out) (sym S.from) L.built) at on f));
+          (subst (Built (R ps) s.to) (sym e) (bent_built ps out s top b.line b.turn S.some (subst (λ z. Built (R ps) z out) (sym S.from) L.built) at on f));
       count = subst (λ z. length z ≤ 2 * (i + 1)) (sym e) (omega (arith, length-append out (bent s.from top b.line b.turn)));
       made = subst (Each (IsMade end ps)) (sym e) (each_join (IsMade end ps) out (bent s.from top b.line b.turn) L.made (bent_made ps end i top top s b S top_known top_known m));
     }
