@@ -8,3 +8,4 @@ pub mod Meetings
 pub mod Makings
 pub mod SupremumLoop
 pub mod InfimumLoop
+pub mod LevelSizes

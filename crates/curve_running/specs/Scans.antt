@@ -48,7 +48,7 @@ MeetingFits v l = (w : Wide) → ¬ (IsWideCross l (flat v) w)
 -- the steps of a scan fit
 pub record ScanFits (end : ℚ) (ps : List Piece) : Type 0 where
   pub lines : EachFits (Some end) ps
-  pub meetings : (l : Line) (v : ℚ) → HasLine l ps → IsLevel end ps v → MeetingFits v l
+  pub meetings : (l : Line) (v : ℚ) → HasLine l ps → IsLevel end ps v → int (pos 0) <ℚ l.slope → MeetingFits v l
 
 -- a piece with its end and the limits of its line at both
 pub record IsStretch (ps : List Piece) (end : ℚ) (i : ℕ) (s : Stretch) : Type 0 where

@@ -90,7 +90,7 @@ pub(crate) fn highest(level: Frac, s: &Stretch) -> Bend
     requires some { s.now.from <ℚ s.now.to }
     requires right { s.now.right ≡ line_at s.now.line s.now.from }
     requires left { s.now.left ≡ line_at s.now.line s.now.to }
-    requires fits { MeetingFits level s.now.line }
+    requires fits { int (pos 0) <ℚ s.now.line.slope → MeetingFits level s.now.line }
     ensures follows { Follows (risen level s.now.line s.now.from) s.now.from s.now.to result.line result.turn }
     ensures made { IsMadeOf level s.now result }
 {
@@ -127,7 +127,7 @@ pub(crate) fn lowest(level: Frac, s: &Stretch) -> Bend
     requires some { s.now.from <ℚ s.now.to }
     requires right { s.now.right ≡ line_at s.now.line s.now.from }
     requires left { s.now.left ≡ line_at s.now.line s.now.to }
-    requires fits { MeetingFits level s.now.line }
+    requires fits { int (pos 0) <ℚ s.now.line.slope → MeetingFits level s.now.line }
     ensures follows { Follows (sunk level s.now.line s.now.to) s.now.from s.now.to result.line result.turn }
     ensures made { IsMadeOf level s.now result }
 {
