@@ -9,3 +9,4 @@ pub mod Makings
 pub mod SupremumLoop
 pub mod InfimumLoop
 pub mod LevelSizes
+pub mod Shifts
