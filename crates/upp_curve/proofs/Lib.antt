@@ -91,3 +91,5 @@ pub mod StretchSizes
 pub mod StretchValues
 pub mod GaugeRises
 pub mod Bends
+pub mod AnswerRoom
+pub mod UnrolledPieces
