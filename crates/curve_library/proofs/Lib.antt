@@ -4,3 +4,5 @@ pub mod FewPieces
 pub mod OwnParts
 pub mod LateParts
 pub mod GateParts
+pub mod Doubling
+pub mod SharesAre

@@ -7,6 +7,7 @@ mod fault;
 mod formed;
 mod gates;
 mod latencies;
+mod shares;
 mod signs;
 
 pub use buckets::bucket;
