@@ -6,3 +6,4 @@ pub mod LateParts
 pub mod GateParts
 pub mod Doubling
 pub mod SharesAre
+pub mod StairParts

@@ -4,23 +4,21 @@ use Rattle.std.proofs.Common.{arith, sym, ap, ap₂, ◌∙◌, refl, subst}
 use Rattle.std.proofs.lemmas.Int.{ints}
 use Prim.Native.Nat.{◌∣◌}
 use Rattle.std.proofs.Math.Nat.{div-mul_cancel, div-add-mod, mod-lt}
-use native.Mathlib.Nat.{zero-lt-suc}
-use Rattle.rational.specs.Rational.{ℚ, den, frac, int, ◌+ℚ◌, ◌-ℚ◌, ◌*ℚ◌, ◌/ℚ◌, ◌≤ℚ◌, ◌<ℚ◌}
+use Rattle.rational.specs.Rational.{ℚ, den, int, ◌+ℚ◌, ◌-ℚ◌, ◌*ℚ◌, ◌/ℚ◌, ◌≤ℚ◌, ◌<ℚ◌}
 use Rattle.rational.specs.Fractions.{frac_self}
 use Rattle.rational.specs.Ratio.{ratio, IsSmall}
 use Rattle.rational.proofs.Parts.{small_ratio}
 use Rattle.rational.specs.Gauge.{lcm}
 use Rattle.rational.specs.Whole.{whole_part}
-use Rattle.rational.proofs.Linear.{with2, with3}
-use Rattle.rational.proofs.Laws.{num_nonneg, mul_pos, mul_assoc, mul_comm, div_mul, not_zero, mul_cancel, le_of_mul, lt_of_mul, le_of_lt, sub_mul, add_mul, le_refl}
-use Rattle.rational.proofs.Integers.{int_mul, int_add, nat_le, nat_lt, nat_lt_out, nat_nonneg}
+use Rattle.rational.proofs.Linear.{with3}
+use Rattle.rational.proofs.Laws.{num_nonneg, mul_pos, mul_assoc, div_mul, not_zero, mul_cancel, le_of_mul, lt_of_mul, le_of_lt, sub_mul, add_mul}
+use Rattle.rational.proofs.Integers.{int_mul, int_add, nat_le, nat_lt, nat_lt_out}
 use Rattle.rational.proofs.Quotients.{frac_is_div}
 use Rattle.rational.proofs.Multiples.{lcm_left, lcm_right, lcm_pos}
 use Rattle.rational.proofs.Gauges.{den_pos}
 use Rattle.upp_curve.specs.Functions.{zero_q}
 use Rattle.upp_curve.proofs.StairValues.{whole_ratio}
 use Rattle.curve_library.specs.Shares.{IsQuotient, SharesFit, AreShares}
-use Rattle.curve_library.specs.declared.shares.Share.{Share}
 
 nat_some : (n : ℕ) → 0 < n → zero_q <ℚ int (pos n)
 nat_some n h = nat_lt 0 n h
@@ -82,7 +80,7 @@ count_is J P g A B n r some G e l =
     whole_ratio P J n some
     (le_of_mul u m J (nat_some g G.grid) (subst (λ x. x ≤ℚ J *ℚ u) (sym p) (subst (λ x. y ≤ℚ x) (sym G.time) low)))
     (lt_of_mul u J (m +ℚ P) (nat_some g G.grid)
-        (subst (λ x. x <ℚ (m +ℚ P) *ℚ u) (sym G.time) (subst (λ x. int (pos A) <ℚ x) (sym (add_mul m P u ∙ ap (λ x. x +ℚ P *ℚ u) p ∙ ap (λ x. y +ℚ x) G.period)) high)))
+    (subst (λ x. x <ℚ (m +ℚ P) *ℚ u) (sym G.time) (subst (λ x. int (pos A) <ℚ x) (sym (add_mul m P u ∙ ap (λ x. x +ℚ P *ℚ u) p ∙ ap (λ x. y +ℚ x) G.period)) high)))
 
 pub rest_is : (J P x : ℚ) (g A B n r : ℕ) → OnOneGrid J P g A B → n * B + r ≡ A → x *ℚ int (pos g) ≡ int (pos r) → x ≡ J -ℚ int (pos n) *ℚ P
 rest_is J P x g A B n r G e k =

@@ -1,5 +1,5 @@
 -- A time as a whole number of periods and a rest.
-use Rattle.std.specs.Prelude.{◌≡◌, ℕ, suc, ◌+◌, ◌*◌, ◌/◌, ◌<◌, ◌^◌, pos, nat_abs}
+use Rattle.std.specs.Prelude.{◌≡◌, ℕ, ◌+◌, ◌*◌, ◌/◌, ◌<◌, ◌^◌, pos, nat_abs}
 use Rattle.rational.specs.Rational.{ℚ, den, int, ◌-ℚ◌, ◌*ℚ◌, ◌/ℚ◌}
 use Rattle.rational.specs.Gauge.{lcm}
 use Rattle.rational.specs.Whole.{whole_part}

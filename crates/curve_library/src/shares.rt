@@ -8,7 +8,7 @@ ghost use Rattle.curve_library.specs.Shares.{IsQuotient, SharesFit, AreShares};
 use fraction128::{Frac, least_common_multiple};
 
 /// 2^127.
-const PAST_LARGEST: u128 = 1 << 127;
+pub(crate) const PAST_LARGEST: u128 = 1 << 127;
 
 /// How many whole periods lie in a time, and the rest, which is shorter than a period.
 #[derive(Debug, Clone, Copy)]

@@ -1,4 +1,4 @@
-use Rattle.std.proofs.Common.{arith, ◌≤◌, ◌<◌, ◌*◌, ◌/◌, ◌+◌, ◌^◌, ◌≡◌, ap, ◌∙◌}
+use Rattle.std.proofs.Common.{arith, ◌*◌, ◌/◌, ◌+◌, ◌^◌, ◌≡◌, ap, ◌∙◌}
 use Rattle.curve_library.proofs.Doubling.{joined_is, far_quotient}
 use Rattle.curve_library.proofs.shares.product_quotient.Goals as goal
 

@@ -1,7 +1,6 @@
-use Rattle.std.proofs.Common.{arith, ap, ap₂, sym, ◌∙◌, ◌≡◌, ◌<◌, ◌≤◌, ◌^◌, ◌*◌, ◌/◌, ℕ, subst, None}
-use Rattle.std.specs.Prelude.{nat_abs}
+use Rattle.std.proofs.Common.{arith, ap₂, sym, ◌∙◌, ◌≡◌, ◌≤◌, ◌^◌, ◌*◌, ◌/◌, ℕ, subst}
 use Rattle.rational.specs.Gauge.{lcm}
-use Rattle.rational.specs.Rational.{ℚ, den}
+use Rattle.rational.specs.Rational.{den}
 use Rattle.std.specs.Option.{MatchOption}
 use Rattle.curve_library.specs.Shares.{IsQuotient, SharesFit, AreShares}
 use Rattle.curve_library.proofs.SharesAre.{step_some, count_far, shares_are}
@@ -21,8 +20,8 @@ returns-in_err-count c =
     let g : c.in_ok-grid.grid ≡ lcm (den J) (den P) = c.in_ok-grid.ensures ∙ ap₂ (λ (a b : ℕ). lcm a b) c.denominator.ensures.value c.denominator-2.ensures.value in
     subst (λ r. MatchOption r (SharesFit J P → ⊥) (AreShares J P)) (sym c.from_residual-in_err-count.ensures)
     (count_far J P c.in_ok-grid.grid c.in_ok-step.step c.requires.time c.requires.period g c.in_ok-step.ensures.0
-        (subst (λ (x : ℕ). 2 ^ 127 ≤ x * (c.in_ok-grid.grid / den J) / c.in_ok-step.step) c.top_size.ensures.is
-            (subst (λ (x : ℕ). 2 ^ 127 ≤ c.top_size.result * (c.in_ok-grid.grid / x) / c.in_ok-step.step) c.denominator-3.ensures.value c.in_err-count.ensures)))
+    (subst (λ (x : ℕ). 2 ^ 127 ≤ x * (c.in_ok-grid.grid / den J) / c.in_ok-step.step) c.top_size.ensures.is
+    (subst (λ (x : ℕ). 2 ^ 127 ≤ c.top_size.result * (c.in_ok-grid.grid / x) / c.in_ok-step.step) c.denominator-3.ensures.value c.in_err-count.ensures)))
 
 pub returns : goal.returns
 returns c =
