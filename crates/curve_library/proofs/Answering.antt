@@ -1,8 +1,8 @@
 -- From what each answer says to which answer comes when.
-use Rattle.std.specs.Prelude.{◌≡◌, ◌≢◌, ℕ, ◌<◌, ◌≤◌, ◌^◌, Result, Ok, Err, IfOk, MatchResult}
+use Rattle.std.specs.Prelude.{◌≡◌, ◌≢◌, ◌≤◌, ◌^◌, Result, Ok, Err, IfOk}
 use Rattle.std.proofs.Common.{arith, sym, ap, refl, subst}
 use Rattle.upp_curve.specs.Curve.{SpecCurve}
-use Rattle.upp_curve.specs.Limits.{own_gauge, own_tally}
+use Rattle.upp_curve.specs.Limits.{own_tally}
 use Rattle.upp_curve.specs.declared.own_limits.OverLimit.{OverLimit}
 use Rattle.upp_curve.specs.declared.own_limits.OverLimit.TheVariants.{TooMany, TooWide}
 use Rattle.upp_curve.specs.OwnLimits.{IsOver, IsWithinOwn}

@@ -1,6 +1,6 @@
 -- A curve whose rank is 0, or whose tail has every period, has as many unrolled pieces in its own window as it has pieces, or fewer.
 use Rattle.std.specs.Prelude.{◌≡◌, ℕ, ◌+◌, ◌≤◌, pos, List, [], ◌∷◌, length, sum_by, cond, Bool, true, false}
-use Rattle.std.proofs.Common.{arith, sym, ap, ◌∙◌, refl, subst}
+use Rattle.std.proofs.Common.{arith, sym, refl, subst}
 use Rattle.std.proofs.lemmas.List.Sums.{sum_by-cons}
 use Rattle.rational.specs.Rational.{ℚ, ◌+ℚ◌, ◌-ℚ◌, ◌*ℚ◌, ◌/ℚ◌, ◌≤ℚ◌, ◌<ℚ◌, int, lt_q}
 use Rattle.rational.proofs.Linear.{with2}
@@ -8,8 +8,7 @@ use Rattle.rational.proofs.Laws.{one_mul}
 use Rattle.rational.proofs.Quotients.{div_le}
 use Rattle.rational.proofs.MinMax.{lt_q_not}
 use Rattle.affine_segment.specs.declared.line.Piece.{Piece}
-use Rattle.upp_curve.specs.declared.curve.Tail.{Tail}
-use Rattle.upp_curve.specs.declared.curve.Tail.TheVariants.{Periodic, Affine, Infinite}
+use Rattle.upp_curve.specs.declared.curve.Tail.TheVariants.{Periodic, Affine}
 use Rattle.upp_curve.specs.Curve.{SpecCurve}
 use Rattle.upp_curve.specs.Functions.{zero_q}
 use Rattle.upp_curve.specs.Steady.{steady}

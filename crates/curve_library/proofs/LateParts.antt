@@ -1,18 +1,16 @@
 -- A rate after a latency: what its gauge says of their product, and that it has few pieces.
-use Rattle.std.specs.Prelude.{◌≡◌, ℕ, ◌<◌, ◌≤◌, ◌^◌, pos, [], ◌∷◌, Some}
-use Rattle.std.proofs.Common.{arith, sym, ap, ◌∙◌, refl, subst, inl, inr}
-use Rattle.rational.specs.Rational.{ℚ, ◌*ℚ◌, ◌≤ℚ◌, ◌<ℚ◌, int, neg_ℚ}
+use Rattle.std.specs.Prelude.{◌≡◌, ◌≤◌, ◌^◌, [], ◌∷◌}
+use Rattle.std.proofs.Common.{arith, refl, subst, inl, inr}
+use Rattle.rational.specs.Rational.{ℚ, ◌*ℚ◌, ◌≤ℚ◌, ◌<ℚ◌, neg_ℚ}
 use Rattle.rational.specs.Ratio.{IsSmall}
 use Rattle.rational.proofs.Laws.{le_of_lt, le_or_lt}
 use Rattle.rational.proofs.MinMax.{le_q_not}
 use Rattle.rational.proofs.Over.{le_q_out}
-use Rattle.upp_curve.specs.declared.curve.Tail.TheVariants.{Affine}
-use Rattle.upp_curve.specs.Curve.{SpecCurve}
 use Rattle.upp_curve.specs.Functions.{zero_q}
 use Rattle.upp_curve.specs.Kinds.{flat, piece, bucket, after_latency, rate_latency}
 use Rattle.upp_curve.specs.Spans.{spans}
-use Rattle.upp_curve.specs.Limits.{own_gauge, own_sizes, own_tally, own_end}
-use Rattle.upp_curve.specs.Sized.{SpanStands, IsSlope}
+use Rattle.upp_curve.specs.Limits.{own_gauge, own_sizes, own_tally}
+use Rattle.upp_curve.specs.Sized.{IsSlope}
 use Rattle.rational.specs.Grid.{Whole}
 use Rattle.upp_curve.proofs.CurveStands.{starts_below_own_end}
 use Rattle.upp_curve.proofs.ByTail.{bucket_normal}

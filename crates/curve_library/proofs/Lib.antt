@@ -4,3 +4,6 @@ pub mod FewPieces
 pub mod OwnParts
 pub mod LateParts
 pub mod GateParts
+pub mod Doubling
+pub mod SharesAre
+pub mod StairParts

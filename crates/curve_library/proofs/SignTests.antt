@@ -1,10 +1,9 @@
 -- What the tests of a sign say.
-use Rattle.std.specs.Prelude.{◌≡◌, pos, Bool, true, false, IsTrue, ◌↔◌, ◌⊎◌}
-use Rattle.std.proofs.Common.{arith, sym, ◌∙◌, refl, inl, inr}
-use Rattle.std.proofs.lemmas.Bool.{true≢false}
-use Rattle.rational.specs.Rational.{ℚ, ◌≤ℚ◌, ◌<ℚ◌, int, neg_ℚ}
+use Rattle.std.specs.Prelude.{◌≡◌, Bool, true, false, IsTrue, ◌↔◌}
+use Rattle.std.proofs.Common.{arith, inl, inr}
+use Rattle.rational.specs.Rational.{ℚ, ◌≤ℚ◌, ◌<ℚ◌, neg_ℚ}
 use Rattle.rational.proofs.Linear.{with2}
-use Rattle.rational.proofs.Laws.{le_or_lt, lt_irrefl, lt_le_trans, not_le_of_lt}
+use Rattle.rational.proofs.Laws.{lt_irrefl, lt_le_trans}
 use Rattle.upp_curve.specs.Functions.{zero_q}
 use Rattle.upp_curve.proofs.Compared.{not_less_out}
 use Rattle.curve_library.specs.Causes.{OneNegative}

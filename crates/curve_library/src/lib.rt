@@ -7,10 +7,13 @@ mod fault;
 mod formed;
 mod gates;
 mod latencies;
+mod shares;
 mod signs;
+mod stairs;
 
 pub use buckets::bucket;
 pub use fault::CurveFault;
 pub use gates::gate;
 pub use latencies::rate_latency;
+pub use stairs::stair;
 pub use upp_curve::OverLimit;

@@ -1,5 +1,5 @@
 use Rattle.std.specs.Prelude.{◌≡◌}
-use Rattle.rational.specs.Rational.{ℚ, ◌≤ℚ◌, ◌<ℚ◌}
+use Rattle.rational.specs.Rational.{ℚ, ◌≤ℚ◌}
 use Rattle.rational.proofs.Laws.{le_of_not_lt}
 use Rattle.upp_curve.specs.Curve.{value_at}
 use Rattle.upp_curve.specs.Functions.{zero_q}
