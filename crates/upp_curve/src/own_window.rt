@@ -105,8 +105,8 @@ pub(crate) struct OwnNumbers {
     pub values: u128,
 }
 
-// The numbers of what was gathered, the window's end first; None where the gauge is 2^128 or more.
-fn numbers_of(g: Gathered, end: Frac) -> Option<OwnNumbers>
+/// The numbers of what was gathered, the window's end first; None where the gauge is 2^128 or more.
+pub(crate) fn numbers_of(g: Gathered, end: Frac) -> Option<OwnNumbers>
     ensures { (n : Numbers) → Gathers g (joined (time_alone end) n)
         → MatchOption result (2 ^ 128 ≤ gauge_of (sizes_of end n)) (AreNumbers end (sizes_of end n)) }
 {
