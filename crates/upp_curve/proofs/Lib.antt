@@ -82,3 +82,4 @@ pub mod Operands
 pub mod Tallies
 pub mod NormaliseOwn
 pub mod CallSizes
+pub mod SteadyStart

@@ -28,6 +28,7 @@ mod seen;
 mod shape;
 mod start_counts;
 mod starts;
+mod steadiness;
 #[cfg(test)]
 mod tests;
 mod two_periods;
@@ -43,3 +44,4 @@ pub use limits::{gauge, tally, tally_over};
 pub use op_kind::{OpFault, OpKind, Window};
 pub use raw_curve::{RawCurve, normalise, normalise_on};
 pub use starts::{is_after, is_before};
+pub use steadiness::steady_time;
