@@ -1,0 +1,3 @@
+pub mod CurveTimes
+pub mod CallTimes
+pub mod CallFits

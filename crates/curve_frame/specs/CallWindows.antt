@@ -2,23 +2,23 @@
 -- they are. Own choice.
 use Rattle.std.specs.Prelude.{◌≡◌, ℕ, ◌+◌}
 use Rattle.rational.specs.Rational.{ℚ, ◌+ℚ◌, ◌≤ℚ◌}
-use Rattle.rational.specs.Ratio.{IsSmall, SumFits}
+use Rattle.rational.specs.Ratio.{SumFits}
 use Rattle.rational.specs.declared.Extended.TheVariants.{Fin, Inf}
 use Rattle.upp_curve.specs.declared.op_kind.OpKind.{OpKind}
 use Rattle.upp_curve.specs.declared.op_kind.OpKind.TheVariants.{Sum, Min, Max, PosDiff, PosMinus, Scale, Shift, RunSup, RunInf, FifoLeft, Convolve, Deconvolve, Horizontal, Vertical, Itself}
-use Rattle.upp_curve.specs.declared.op_kind.Operands.{Operands}
-use Rattle.upp_curve.specs.declared.op_kind.Operands.TheVariants.{First, Both, FirstScaled}
 use Rattle.upp_curve.specs.Curve.{SpecCurve}
+use Rattle.upp_curve.specs.Curves.{IsCurve}
 use Rattle.upp_curve.specs.Functions.{zero_q}
-use Rattle.upp_curve.specs.Gauges.{operands_of}
 use Rattle.upp_curve.specs.Steady.{steady}
 use Rattle.upp_curve.specs.Periods.{common_period, own_period, period_of, period_or, both_steady, moved_steady}
 use Rattle.upp_curve.specs.Windows.{window_at}
-use Rattle.curve_frame.specs.declared.call_window.CallWindow.{CallWindow}
+use Rattle.curve_frame.specs.declared.windows.CallWindow.{CallWindow}
 use Rattle.curve_frame.specs.Times.{OneLaterFits, BothSteadyFit, MovedFits, AheadFits}
 
--- a shift and a wait go forward
+-- a shift and a wait are by a finite time from 0 on
 abbrev pub IsForward : OpKind → Type 0
+IsForward (Shift Inf) = ⊥
+IsForward (FifoLeft Inf) = ⊥
 IsForward (Shift (Fin x)) = zero_q ≤ℚ x
 IsForward (FifoLeft (Fin x)) = zero_q ≤ℚ x
 IsForward op = Unit {0}
@@ -62,14 +62,25 @@ number_of Horizontal k m = k + 1 + (m + 1)
 number_of Vertical k m = 1
 number_of Itself k m = 1
 
--- the common period of the operands: f alone, or both
-abbrev pub period_for : Operands → SpecCurve → SpecCurve → ℚ
-period_for First f g = own_period f
-period_for Both f g = common_period f g
-period_for (FirstScaled q) f g = own_period f
-
+-- the common period of the operands: that of f alone, or of both
 abbrev pub period_in : OpKind → SpecCurve → SpecCurve → ℚ
-period_in op f g = period_for (operands_of op) f g
+period_in (PosMinus l) f g = own_period f
+period_in (Scale q) f g = own_period f
+period_in (Shift x) f g = own_period f
+period_in RunSup f g = own_period f
+period_in RunInf f g = own_period f
+period_in Itself f g = own_period f
+period_in op f g = common_period f g
+
+-- the second operand is a curve, where the call has one
+abbrev pub SecondIsCurve : OpKind → SpecCurve → Type 0
+SecondIsCurve (PosMinus l) g = Unit {0}
+SecondIsCurve (Scale q) g = Unit {0}
+SecondIsCurve (Shift x) g = Unit {0}
+SecondIsCurve RunSup g = Unit {0}
+SecondIsCurve RunInf g = Unit {0}
+SecondIsCurve Itself g = Unit {0}
+SecondIsCurve op g = IsCurve g
 
 -- ---- steps that fit
 abbrev pub StartFits : OpKind → SpecCurve → SpecCurve → Type 0

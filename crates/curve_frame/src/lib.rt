@@ -2,13 +2,9 @@
 //! answer.
 #![tactic(auto)]
 
-mod call_window;
-
-
 mod times;
-
-pub use call_window::{CallWindow, call_window, window_end};
-
+mod windows;
 
 pub use times::{common_period, own_period};
 pub use upp_curve::steady_time;
+pub use windows::{CallWindow, call_window, window_end};

@@ -1,9 +1,11 @@
 //! Times of a call: common periods, the later of two, and whole periods after a time.
 
-ghost use Rattle.std.specs.Prelude.{◌≡◌, ◌<◌, ◌^◌, ◌↔◌, pos, IfSome, IsSome};
-ghost use Rattle.rational.specs.Rational.{int, ◌+ℚ◌};
+ghost use Rattle.std.specs.Prelude.{◌≡◌, ◌<◌, ◌^◌, pos, IfSome, IsSome};
+ghost use Rattle.rational.specs.Rational.{int, ◌+ℚ◌, ◌<ℚ◌};
 ghost use Rattle.rational.specs.MinMax.{max_q};
 ghost use Rattle.rational.specs.Ratio.{IsSmall, SumFits};
+ghost use Rattle.fraction128.specs.Multiple.{common_multiple};
+ghost use Rattle.upp_curve.specs.Curves.{IsCurve};
 ghost use Rattle.upp_curve.specs.Steady.{steady};
 ghost use Rattle.upp_curve.specs.Periods.{common_period, own_period, both_steady, moved_steady, periods_after, period_of, period_or};
 ghost use Rattle.curve_frame.specs.Times.{OneLaterFits, BothSteadyFit, MovedFits, PeriodsFit, AheadFits};
@@ -14,7 +16,9 @@ use upp_curve::{Curve, Tail, steady_time};
 
 /// The period of a curve; none where it has every period.
 fn period_of(c: &Curve) -> Option<Frac>
-    ensures { result ≡ period_of c.now.tail }
+    ensures value { result ≡ period_of c.now.tail }
+    ensures above { IfSome result (λ d. int (pos 0) <ℚ d) }
+    ensures kept { IsCurve c.now }
 {
     match c.tail() {
         Tail::Periodic { period, .. } => Some(*period),
@@ -25,7 +29,8 @@ fn period_of(c: &Curve) -> Option<Frac>
 
 /// The period of a curve, and 1 where it has every period.
 pub fn own_period(c: &Curve) -> Frac
-    ensures { result ≡ own_period c.now }
+    ensures value { result ≡ own_period c.now }
+    ensures kept { IsCurve c.now }
 {
     match period_of(c) {
         Some(period) => period,
@@ -33,17 +38,28 @@ pub fn own_period(c: &Curve) -> Frac
     }
 }
 
+/// The least number that is a whole multiple of both.
+fn least_multiple(a: Frac, b: Frac) -> Option<Frac>
+    requires left { int (pos 0) <ℚ a }
+    requires right { int (pos 0) <ℚ b }
+    ensures value { IfSome result (λ d. d ≡ common_multiple a b) }
+    ensures fits { IsSmall (common_multiple a b) → IsSome result }
+{
+    Frac::lcm_of(a, b).ok()
+}
+
 /// The least common multiple of two periods; the other's where one curve has every period, and 1 where both have. None
 /// exactly where it is no `Frac`.
 pub fn common_period(f: &Curve, g: &Curve) -> Option<Frac>
     ensures value { IfSome result (λ d. d ≡ common_period f.now g.now) }
     ensures fits { IsSmall (common_period f.now g.now) → IsSome result }
+    ensures kept { IsCurve f.now × IsCurve g.now }
 {
     match period_of(f) {
         None => Some(own_period(g)),
         Some(first) => match period_of(g) {
             None => Some(first),
-            Some(second) => Frac::lcm_of(first, second).ok(),
+            Some(second) => least_multiple(first, second),
         },
     }
 }
@@ -54,7 +70,8 @@ fn later_of(a: Frac, b: Frac) -> Frac
 {
     match a.cmp(&b) {
         Ordering::Greater => a,
-        _ => b,
+        Ordering::Equal => b,
+        Ordering::Less => b,
     }
 }
 

@@ -2,11 +2,15 @@
 
 ghost use Rattle.std.specs.Prelude.{◌≡◌, ◌<◌, ◌≤◌, ◌^◌, IfSome, IsSome, MatchOption};
 ghost use Rattle.rational.specs.Ratio.{IsSmall};
+ghost use Rattle.upp_curve.specs.Curves.{IsCurve};
 ghost use Rattle.upp_curve.specs.Gauges.{gauge_at};
 ghost use Rattle.upp_curve.specs.Windows.{window_at};
-ghost use Rattle.curve_frame.specs.CallWindows.{IsForward, start_of, number_of, period_in, StartFits, IsWindow};
+ghost use Rattle.curve_frame.specs.CallWindows.{IsForward, start_of, number_of, period_in, SecondIsCurve, StartFits, IsWindow};
 
-use crate::times::{ahead, both_steady, common_period, moved_steady, own_period, periods_after, steady_by, steady_sum};
+use crate::times::{
+    ahead, both_steady, common_period, moved_steady, own_period, periods_after, steady_by,
+    steady_sum,
+};
 use fraction128::Frac;
 use rational::Extended;
 use upp_curve::{Curve, OpKind, steady_time};
@@ -50,7 +54,9 @@ fn number(op: &OpKind, k: u128, m: u128) -> u128
         OpKind::Vertical | OpKind::Itself | OpKind::Shift(Extended::Fin(_)) => 1,
         OpKind::Min | OpKind::Max | OpKind::PosDiff | OpKind::PosMinus(_) => k.saturating_add(1),
         OpKind::Shift(Extended::Inf) | OpKind::FifoLeft(Extended::Inf) => 0,
-        OpKind::RunSup | OpKind::Convolve | OpKind::FifoLeft(Extended::Fin(_)) => k.saturating_add(2),
+        OpKind::RunSup | OpKind::Convolve | OpKind::FifoLeft(Extended::Fin(_)) => k.saturating_add(
+            2,
+        ),
         OpKind::RunInf => 2,
         OpKind::Horizontal => k.saturating_add(1).saturating_add(m.saturating_add(1)),
     }
@@ -60,6 +66,7 @@ fn number(op: &OpKind, k: u128, m: u128) -> u128
 fn period(op: &OpKind, f: &Curve, g: &Curve) -> Option<Frac>
     ensures value { IfSome result (λ d. d ≡ period_in op.now f.now g.now) }
     ensures fits { IsSmall (period_in op.now f.now g.now) → IsSome result }
+    ensures kept { IsCurve f.now × SecondIsCurve op.now g.now }
 {
     match op {
         OpKind::Sum | OpKind::Min | OpKind::Max | OpKind::PosDiff => common_period(f, g),
@@ -74,10 +81,11 @@ fn period(op: &OpKind, f: &Curve, g: &Curve) -> Option<Frac>
 /// gauge is 2^128 or more.
 pub fn call_window(op: &OpKind, f: &Curve, g: &Curve, k: u128, m: u128) -> Option<CallWindow>
     requires { IsForward op.now }
-    ensures { MatchOption result (2 ^ 128 ≤ gauge_at op.now f.now g.now k m) (IsWindow op.now f.now g.now k m) }
+    ensures value { IfSome result (IsWindow op.now f.now g.now k m) }
+    ensures fits { gauge_at op.now f.now g.now k m < 2 ^ 128 → IsSome result }
 {
-    let start = start(op, f, g)?;
     let period = period(op, f, g)?;
+    let start = start(op, f, g)?;
     let end = periods_after(start, number(op, k, m), period)?;
     Some(CallWindow { start, period, end })
 }
