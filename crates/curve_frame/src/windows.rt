@@ -83,6 +83,7 @@ pub fn call_window(op: &OpKind, f: &Curve, g: &Curve, k: u128, m: u128) -> Optio
     requires { IsForward op.now }
     ensures value { IfSome result (IsWindow op.now f.now g.now k m) }
     ensures fits { gauge_at op.now f.now g.now k m < 2 ^ 128 → IsSome result }
+    ensures kept { IsCurve f.now × SecondIsCurve op.now g.now }
 {
     let period = period(op, f, g)?;
     let start = start(op, f, g)?;
