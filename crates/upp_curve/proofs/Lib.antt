@@ -83,3 +83,6 @@ pub mod Tallies
 pub mod NormaliseOwn
 pub mod CallSizes
 pub mod SteadyStart
+pub mod UnrolledPieces
+pub mod UnrollLoops
+pub mod UnrollSteps

@@ -32,6 +32,7 @@ mod steadiness;
 #[cfg(test)]
 mod tests;
 mod two_periods;
+mod unrolling;
 
 pub use call_sizes::{CallNumbers, call_numbers};
 pub use curve::{Curve, Tail, equal};
