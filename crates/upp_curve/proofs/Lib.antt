@@ -86,3 +86,4 @@ pub mod SteadyStart
 pub mod UnrolledPieces
 pub mod UnrollLoops
 pub mod UnrollSteps
+pub mod AnswerRoom

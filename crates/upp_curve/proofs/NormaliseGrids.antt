@@ -101,7 +101,7 @@ longer_on T S D p ps r d c h E wr wd wc early =
     each_append (PieceOn T S D) (p ∷ ps) (second_copy p ps r d c) E (each_later_on T S D d c (cut_at p ps r ∷ past r ps) h (cut, pasts) wd wc)
 
 -- ---- the merge
-q_same_or : (x y : ℚ) → (x ≡ y) ⊎ ¬ (x ≡ y)
+pub q_same_or : (x y : ℚ) → (x ≡ y) ⊎ ¬ (x ≡ y)
 q_same_or x y = elim (le_or_lt x y) [
   | inr k ↦ inr (λ e. lt_irrefl y (subst (λ z. y <ℚ z) e k))
   | inl k ↦ elim (le_or_lt y x) [
