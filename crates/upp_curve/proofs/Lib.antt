@@ -91,11 +91,5 @@ pub mod StretchSizes
 pub mod StretchValues
 pub mod GaugeRises
 pub mod Bends
-pub mod AnswerRoom
-pub mod UnrolledPieces
 pub mod CallSizes
 pub mod SteadyStart
-pub mod UnrolledPieces
-pub mod UnrollLoops
-pub mod UnrollSteps
-pub mod AnswerRoom
