@@ -85,3 +85,4 @@ pub mod UnrolledPieces
 pub mod UnrollLoops
 pub mod UnrollSteps
 pub mod GaugeRises
+pub mod GivenCurves

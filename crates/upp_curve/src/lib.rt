@@ -8,6 +8,7 @@ mod cycle;
 mod fitting;
 mod gathered;
 mod gauges;
+mod given;
 mod kind_laws;
 mod known;
 mod laws;
