@@ -93,3 +93,4 @@ pub mod GaugeRises
 pub mod Bends
 pub mod CallSizes
 pub mod SteadyStart
+pub mod GivenCurves

@@ -10,6 +10,7 @@ mod cycle;
 mod fitting;
 mod gathered;
 mod gauges;
+mod given;
 mod kind_laws;
 mod known;
 mod laws;
@@ -18,6 +19,8 @@ mod limits;
 mod long;
 mod lowest_rank;
 mod merging;
+#[cfg(test)]
+mod normal_tests;
 mod op_kind;
 mod operand_numbers;
 mod own_limits;
