@@ -3,3 +3,5 @@ pub mod CallTimes
 pub mod CallFits
 pub mod Limited
 pub mod FrameFacts
+pub mod Answering
+pub mod CurveRises
