@@ -5,3 +5,4 @@ pub mod Limited
 pub mod FrameFacts
 pub mod Answering
 pub mod CurveRises
+pub mod FirstGate
