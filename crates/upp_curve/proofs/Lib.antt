@@ -87,3 +87,5 @@ pub mod UnrolledPieces
 pub mod UnrollLoops
 pub mod UnrollSteps
 pub mod AnswerRoom
+pub mod GaugeRises
+pub mod GivenCurves

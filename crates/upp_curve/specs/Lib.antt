@@ -39,3 +39,4 @@ pub mod Operand
 pub mod Outcome
 pub mod CallNumbers
 pub mod Unrolling
+pub mod Given

@@ -9,6 +9,7 @@ mod cycle;
 mod fitting;
 mod gathered;
 mod gauges;
+mod given;
 mod kind_laws;
 mod known;
 mod laws;
