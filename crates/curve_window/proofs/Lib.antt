@@ -9,3 +9,6 @@ pub mod OperandWindows
 pub mod LinesLie
 pub mod MadeLoop
 pub mod MadeReads
+pub mod MadeStands
+pub mod MadeWindows
+pub mod TailGrids

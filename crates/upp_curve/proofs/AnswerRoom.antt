@@ -238,7 +238,7 @@ abbrev pub OperandValueAt : Sizes → Ext → Type 0
 OperandValueAt z Inf = Unit {0}
 OperandValueAt z (Fin v) = OperandValue z v
 
-more_largest : (z : Sizes) (k j : ℕ) → k ≤ j → times_largest k z ≤ℚ times_largest j z
+pub more_largest : (z : Sizes) (k j : ℕ) → k ≤ j → times_largest k z ≤ℚ times_largest j z
 more_largest z k j h = mul_le_mul_right (int (pos z.largest)) (nat_nonneg z.largest) (nat_le k j h)
 
 pub stands_operand_value : (z : Sizes) (v : Ext) → ValueStands z v → OperandValueAt z v

@@ -89,3 +89,4 @@ pub mod UnrollSteps
 pub mod AnswerRoom
 pub mod GaugeRises
 pub mod GivenCurves
+pub mod Bends

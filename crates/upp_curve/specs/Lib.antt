@@ -40,3 +40,4 @@ pub mod Outcome
 pub mod CallNumbers
 pub mod Unrolling
 pub mod Given
+pub mod Bends
