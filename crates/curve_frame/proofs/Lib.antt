@@ -6,3 +6,4 @@ pub mod FrameFacts
 pub mod Answering
 pub mod CurveRises
 pub mod FirstGate
+pub mod Operands
