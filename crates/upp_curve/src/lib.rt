@@ -45,5 +45,6 @@ pub use laws::{
 pub use limits::{gauge, tally, tally_over};
 pub use op_kind::{OpFault, OpKind, Window};
 pub use raw_curve::{RawCurve, normalise, normalise_on};
+pub use scaled_numbers::{scaled_piece, scaled_tail};
 pub use starts::{is_after, is_before};
 pub use steadiness::steady_time;
