@@ -11,3 +11,4 @@ pub mod MadeLoop
 pub mod MadeReads
 pub mod MadeStands
 pub mod MadeWindows
+pub mod TailGrids

@@ -94,3 +94,4 @@ pub mod Bends
 pub mod CallSizes
 pub mod SteadyStart
 pub mod GivenCurves
+pub mod Bends
