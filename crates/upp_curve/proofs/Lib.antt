@@ -81,5 +81,12 @@ pub mod ScaledCurves
 pub mod Operands
 pub mod Tallies
 pub mod NormaliseOwn
+pub mod CallSizes
+pub mod SteadyStart
+pub mod UnrolledPieces
+pub mod UnrollLoops
+pub mod UnrollSteps
 pub mod AnswerRoom
+pub mod GaugeRises
+pub mod GivenCurves
 pub mod Bends

@@ -37,4 +37,7 @@ pub mod Levels
 pub mod ClosedOperands
 pub mod Operand
 pub mod Outcome
+pub mod CallNumbers
+pub mod Unrolling
+pub mod Given
 pub mod Bends
