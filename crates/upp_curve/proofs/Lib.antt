@@ -90,3 +90,8 @@ pub mod AnswerRoom
 pub mod GaugeRises
 pub mod GivenCurves
 pub mod Bends
+pub mod StretchPieces
+pub mod StretchTurns
+pub mod AnswerRoom
+pub mod StretchSizes
+pub mod StretchValues

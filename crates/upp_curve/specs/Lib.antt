@@ -41,3 +41,5 @@ pub mod CallNumbers
 pub mod Unrolling
 pub mod Given
 pub mod Bends
+pub mod Ahead
+pub mod Copied

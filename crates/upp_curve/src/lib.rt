@@ -2,6 +2,7 @@
 #![tactic(auto)]
 
 mod call_sizes;
+mod ahead;
 mod counts;
 mod curve;
 mod curve_numbers;
@@ -36,6 +37,7 @@ mod two_periods;
 mod unrolling;
 
 pub use call_sizes::{CallNumbers, call_numbers};
+pub use ahead::{Stretch, stretch_at};
 pub use curve::{Curve, Tail, equal};
 pub use kind_laws::kinds_are_curves;
 pub use laws::{
