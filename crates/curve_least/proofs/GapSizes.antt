@@ -17,7 +17,7 @@ use Rattle.upp_curve.specs.Ahead.{GridValue}
 use Rattle.upp_curve.proofs.AnswerRoom.{OperandValueAt, operand_line_fits, operand_line_value, values_fit, value_difference_stands}
 use Rattle.curve_least.specs.declared.gaps.Gap.{Gap}
 use Rattle.curve_least.specs.declared.gaps.Gap.TheVariants.{NoTime, Never, Is}
-use Rattle.curve_least.specs.GapSteps.{gap_of, larger, DifferenceFits, StretchStands, earlier_of, IsGapValue, GapStands, StretchSizes}
+use Rattle.curve_least.specs.GapSteps.{gap_of, larger, DifferenceFits, StretchStands, IsGapValue, GapStands, StretchSizes}
 
 -- ---- tests
 pub greater_left : (a b : ℚ) → b <ℚ a → a ≡ max_q a b

@@ -1,17 +1,17 @@
 -- The least number of periods, from the gap over one period and from what the faster curve gains in one.
-use Rattle.std.specs.Prelude.{◌≡◌, ◌≢◌, ℕ, zero, suc, ◌+◌, ◌<◌, ◌≤◌, pos, ◌⊎◌, ◌↔◌}
-use Rattle.std.proofs.Common.{arith, sym, ap, ap₂, ◌∙◌, refl, subst, inl, inr}
+use Rattle.std.specs.Prelude.{◌≡◌, ℕ, pos, ◌⊎◌}
+use Rattle.std.proofs.Common.{arith, sym, ◌∙◌, refl, subst, inl, inr}
 use Rattle.rational.specs.Rational.{ℚ, ◌+ℚ◌, ◌-ℚ◌, ◌*ℚ◌, ◌/ℚ◌, ◌≤ℚ◌, ◌<ℚ◌, int, neg_ℚ}
 use Rattle.rational.specs.Ratio.{IsSmall, SumFits}
 use Rattle.rational.specs.Grid.{Whole, Within}
 use Rattle.rational.specs.Gauge.{size_up}
 use Rattle.rational.specs.Extended.{Ext, ◌≤ₑ◌, ◌<ₑ◌, ◌+ₑ◌}
 use Rattle.rational.specs.declared.Extended.TheVariants.{Fin, Inf}
-use Rattle.rational.proofs.Linear.{with1, with2, with3, with4}
-use Rattle.rational.proofs.Laws.{le_refl, le_trans, le_of_lt, lt_le_trans, not_zero, mul_lt_mul_right}
+use Rattle.rational.proofs.Linear.{with1, with2}
+use Rattle.rational.proofs.Laws.{le_trans, le_of_lt, not_zero, mul_lt_mul_right}
 use Rattle.rational.proofs.Quotients.{div_le, div_nonneg}
 use Rattle.rational.proofs.Grid.{whole_sub, whole_neg, within_nonneg, within_neg, within_sub}
-use Rattle.rational.proofs.ExtendedOrder.{same_le_ext, finite_below, finite_sum, lt_ext_irrefl}
+use Rattle.rational.proofs.ExtendedOrder.{same_le_ext, finite_below, finite_sum}
 use Rattle.upp_curve.specs.Curve.{SpecCurve, value_at}
 use Rattle.upp_curve.specs.Curves.{IsCurve}
 use Rattle.upp_curve.specs.Steady.{Repeats, steady, rise_over, rate}
@@ -25,7 +25,7 @@ use Rattle.upp_curve.proofs.CommonDen.{size_up_within, size_up_least}
 use Rattle.upp_curve.proofs.NarrowSizes.{small_number, small_sum}
 use Rattle.upp_curve.proofs.Steady.{steady_rule}
 use Rattle.upp_curve.proofs.StretchSizes.{narrow, times_fit, small_quotient}
-use Rattle.curve_least.specs.Gaps.{InWindow, IsWithin, IsMore, IsEndless, IsLargest}
+use Rattle.curve_least.specs.Gaps.{InWindow, IsWithin, IsEndless, IsLargest}
 use Rattle.curve_least.specs.GapSteps.{IsGapValue}
 use Rattle.curve_least.specs.Compared.{RepeatsIn, AreCompared}
 use Rattle.curve_least.proofs.Shifts.{below_in, below_out, largest_bounds, none_bounds, endless_bounds, same_least, least_zero}
@@ -53,7 +53,7 @@ finite_less : (x y : Ext) → x <ₑ y → (v : ℚ) × (x ≡ Fin v)
 finite_less Inf y h = absurd h
 finite_less (Fin v) y h = (v, refl)
 
-ext_cases : (x : Ext) → (x ≡ Inf) ⊎ ((v : ℚ) × (x ≡ Fin v))
+pub ext_cases : (x : Ext) → (x ≡ Inf) ⊎ ((v : ℚ) × (x ≡ Fin v))
 ext_cases Inf = inl refl
 ext_cases (Fin v) = inr (v, refl)
 
@@ -82,17 +82,17 @@ pub record Lead (z : Sizes) (slow fast : SpecCurve) (d : ℚ) : Type 0 where
   pub second : RiseStands z (rise_over fast d)
   pub some : int (pos 0) <ℚ rise_over fast d -ℚ rise_over slow d
 
-gains : (slow fast : SpecCurve) (d : ℚ) (t v : ℚ) → IsCurve fast → int (pos 0) <ℚ d → rate slow <ₑ rate fast → steady fast ≤ℚ t → value_at fast t ≡ Fin v
+pub gains : (slow fast : SpecCurve) (d : ℚ) (t v : ℚ) → IsCurve fast → int (pos 0) <ℚ d → rate slow <ₑ rate fast → steady fast ≤ℚ t → value_at fast t ≡ Fin v
     → int (pos 0) <ℚ rise_over fast d -ℚ rise_over slow d
 gains slow fast d t v curve some faster late finite =
     let (r, e) = finite_less (rate slow) (rate fast) faster in
     elim (ext_cases (rate fast)) [
       | inl k ↦ absurd (same_le_ext (sym (infinite_value fast t curve k late) ∙ finite))
       | inr (s, k) ↦
-        let less : r <ℚ s = subst (λ x. Fin r <ₑ x) k (subst (λ x. x <ₑ rate fast) e faster) in
-        let gain : r *ℚ d <ℚ s *ℚ d = mul_lt_mul_right d some less in
-        subst (λ y. int (pos 0) <ℚ y -ℚ rise_over slow d) (rate_rise fast d s k)
-        (subst (λ y. int (pos 0) <ℚ s *ℚ d -ℚ y) (rate_rise slow d r e) (let x = r *ℚ d in let y = s *ℚ d in with2 x y (λ c. omega (arith, c.le, c.lt, c.same))))
+          let less : r <ℚ s = subst (λ x. Fin r <ₑ x) k (subst (λ x. x <ₑ rate fast) e faster) in
+          let gain : r *ℚ d <ℚ s *ℚ d = mul_lt_mul_right d some less in
+          subst (λ y. int (pos 0) <ℚ y -ℚ rise_over slow d) (rate_rise fast d s k)
+          (subst (λ y. int (pos 0) <ℚ s *ℚ d -ℚ y) (rate_rise slow d r e) (let x = r *ℚ d in let y = s *ℚ d in with2 x y (λ c. omega (arith, c.le, c.lt, c.same))))
     ]
 
 pub lead_is : (z : Sizes) (from d : ℚ) (slow fast : SpecCurve) (q : ℚ) → rate slow <ₑ rate fast → AreCompared z from d slow fast → IsCurve slow → IsCurve fast

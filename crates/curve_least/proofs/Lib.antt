@@ -5,3 +5,5 @@ pub mod Shifts
 pub mod Rises
 pub mod RiseSizes
 pub mod LeastNumber
+pub mod EverAfter
+pub mod EitherOrder

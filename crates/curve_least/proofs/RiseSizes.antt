@@ -1,15 +1,14 @@
 -- The rise over a period of a curve that is finite somewhere in the window: on the grid of sums, within three times the largest value.
-use Rattle.std.specs.Prelude.{◌≡◌, ◌≢◌, ℕ, zero, suc, ◌+◌, ◌<◌, ◌≤◌, pos, Bool, true, false, cond, List, [], ◌∷◌, Option, Some, None, ◌⊎◌}
+use Rattle.std.specs.Prelude.{◌≡◌, ℕ, suc, pos, cond, List, [], ◌∷◌, Option, Some, None, ◌⊎◌}
 use Rattle.std.specs.List.{AllByRecursion}
-use Rattle.std.proofs.Common.{arith, sym, ap, ap₂, ◌∙◌, refl, subst, inl, inr}
-use Rattle.rational.specs.Rational.{ℚ, ◌+ℚ◌, ◌-ℚ◌, ◌*ℚ◌, ◌/ℚ◌, ◌≤ℚ◌, ◌<ℚ◌, int, neg_ℚ}
-use Rattle.rational.specs.Ratio.{IsSmall, SumFits}
+use Rattle.std.proofs.Common.{arith, sym, ap, ◌∙◌, refl, subst, inl, inr}
+use Rattle.rational.specs.Rational.{ℚ, ◌+ℚ◌, ◌-ℚ◌, ◌*ℚ◌, ◌/ℚ◌, ◌≤ℚ◌, ◌<ℚ◌, int}
 use Rattle.rational.specs.Grid.{Whole, Within}
 use Rattle.rational.specs.Whole.{periods}
-use Rattle.rational.specs.Extended.{Ext, ◌+ₑ◌}
-use Rattle.rational.specs.declared.Extended.TheVariants.{Fin, Inf}
-use Rattle.rational.proofs.Linear.{with1, with2, with3, with4, with5, with6}
-use Rattle.rational.proofs.Laws.{le_or_lt, le_refl, le_trans, le_of_lt, lt_le_trans, le_lt_trans, mul_comm, mul_one, mul_nonneg, not_zero}
+use Rattle.rational.specs.Extended.{◌+ₑ◌}
+use Rattle.rational.specs.declared.Extended.TheVariants.{Fin}
+use Rattle.rational.proofs.Linear.{with1, with2, with3, with6}
+use Rattle.rational.proofs.Laws.{le_or_lt, le_refl, le_trans, le_of_lt, mul_comm, mul_one, mul_nonneg, not_zero}
 use Rattle.rational.proofs.Quotients.{mul_div}
 use Rattle.rational.proofs.Integers.{nat_nonneg}
 use Rattle.rational.proofs.Whole.{one_more_times, periods_low}
@@ -24,19 +23,18 @@ use Rattle.upp_curve.specs.declared.curve.Tail.{Tail}
 use Rattle.upp_curve.specs.declared.curve.Tail.TheVariants.{Periodic, Affine, Infinite}
 use Rattle.upp_curve.specs.Reading.{piece_in, piece_value, read}
 use Rattle.upp_curve.specs.Curve.{SpecCurve, value_at}
-use Rattle.upp_curve.specs.Curves.{IsCurve}
-use Rattle.upp_curve.specs.Normal.{Each, HasStart, RisesFrom, StartsAtZero, FitsPeriod, TailFits}
+use Rattle.upp_curve.specs.Normal.{Each, HasStart, StartsAtZero, FitsPeriod}
 use Rattle.upp_curve.specs.Steady.{rank_of, last_of, last_line, slope_times, rise_in, rise_over, IsWholePeriods}
-use Rattle.upp_curve.specs.Spans.{Span, copy_of, span_below, spans}
+use Rattle.upp_curve.specs.Spans.{Span, span_below, spans}
 use Rattle.upp_curve.specs.Limits.{Sizes}
-use Rattle.upp_curve.specs.Sized.{IsValue, IsSlope, AreSizes, ValueStands, LineStands, SpanStands, PeriodStands, TailStands, CurveStands, grid_of, times_largest}
+use Rattle.upp_curve.specs.Sized.{IsValue, IsSlope, ValueStands, LineStands, SpanStands, PeriodStands, TailStands, CurveStands, grid_of, times_largest}
 use Rattle.upp_curve.specs.Operand.{AreLimited}
 use Rattle.upp_curve.specs.Ahead.{HasWindow}
 use Rattle.upp_curve.proofs.ClosedForms.{line_moved}
 use Rattle.upp_curve.proofs.CurveStands.{curve_stands, tail_stands}
 use Rattle.upp_curve.proofs.NarrowSizes.{value_whole, value_within, run_whole, run_within}
-use Rattle.upp_curve.proofs.StretchPieces.{span_in, found_from, found_late}
-use Rattle.upp_curve.proofs.StretchTurns.{Turned, turned, repeated_at}
+use Rattle.upp_curve.proofs.StretchPieces.{span_in, found_from}
+use Rattle.upp_curve.proofs.StretchTurns.{repeated_at}
 use Rattle.upp_curve.proofs.StretchSizes.{CopiesStand, copies_of_span, each_below, some_period, starts_over, RiseParts, rise_parts}
 use Rattle.upp_curve.proofs.StretchValues.{value_periodic, with_pieces}
 use Rattle.upp_curve.proofs.Finite.{each_in}
@@ -138,8 +136,8 @@ present_copies z from d c rank period rise t m p ps window e f whole early past 
     let from_rank : rank ≤ℚ q.x = found_from p ps rank sooner starts.1 has low in
     let before : q.x <ℚ rank +ℚ period = each_in (λ r. r.x <ℚ rank +ℚ period) p ps sooner (subst (Each (λ r. r.x <ℚ rank +ℚ period)) f fits.starts) in
     let below : AllByRecursion (λ s. AllByRecursion (SpanStands z) (span_below tail (from +ℚ d) s)) (spans tail (p ∷ ps)) =
-        subst (λ k. AllByRecursion (λ s. AllByRecursion (SpanStands z) (span_below k (from +ℚ d) s)) (spans k (p ∷ ps))) e
-        (subst (λ qs. AllByRecursion (λ s. AllByRecursion (SpanStands z) (span_below c.tail (from +ℚ d) s)) (spans c.tail qs)) f (each_below z (from +ℚ d) c window.stands)) in
+    subst (λ k. AllByRecursion (λ s. AllByRecursion (SpanStands z) (span_below k (from +ℚ d) s)) (spans k (p ∷ ps))) e
+    (subst (λ qs. AllByRecursion (λ s. AllByRecursion (SpanStands z) (span_below c.tail (from +ℚ d) s)) (spans c.tail qs)) f (each_below z (from +ℚ d) c window.stands)) in
     let (next, all) = span_in (λ s. AllByRecursion (SpanStands z) (span_below tail (from +ℚ d) s)) tail p ps sooner below in
     let y = int (pos m) *ℚ period in
     let x = q.x in
@@ -166,7 +164,7 @@ periodic_stands z from d c rank period rise t v m window e whole early h finite 
     with_pieces {G = RiseStands z (int (pos (suc m)) *ℚ rise)} c.pieces window.curve.normal.raw.starts (λ p ps f.
     let (next, copies) = present_copies z from d c rank period rise t m p ps window e f whole early (le_trans early h) in
     let now : value_at c t ≡ piece_value (piece_in p ps sooner) sooner +ₑ Fin (int (pos n) *ℚ rise) =
-        value_periodic c rank period rise t e ∙ repeated_at (read c.pieces) rank period rise t n refl ∙ ap (λ qs. read qs sooner +ₑ Fin (int (pos n) *ℚ rise)) f in
+    value_periodic c rank period rise t e ∙ repeated_at (read c.pieces) rank period rise t n refl ∙ ap (λ qs. read qs sooner +ₑ Fin (int (pos n) *ℚ rise)) f in
     let parts = finite_sum (piece_value (piece_in p ps sooner) sooner) (Fin (int (pos n) *ℚ rise)) v (sym now ∙ finite) in
     one_more_rise z m rise (up_to_last z record { piece = piece_in p ps sooner; next = next } period rise m (finite_piece (piece_in p ps sooner) sooner parts.0 parts.2) copies) tail.value)
 

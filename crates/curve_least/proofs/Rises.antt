@@ -1,46 +1,28 @@
 -- By how much a curve rises over a period: its rate times the period, and a number of known size where the curve is finite somewhere.
-use Rattle.std.specs.Prelude.{◌≡◌, ◌≢◌, ℕ, zero, suc, ◌+◌, ◌<◌, ◌≤◌, pos, Bool, true, false, cond, List, [], ◌∷◌, Option, Some, None, ◌⊎◌}
-use Rattle.std.specs.List.{AllByRecursion}
-use Rattle.std.proofs.Common.{arith, sym, ap, ap₂, ◌∙◌, refl, subst, inl, inr}
-use Rattle.rational.specs.Rational.{ℚ, ◌+ℚ◌, ◌-ℚ◌, ◌*ℚ◌, ◌/ℚ◌, ◌≤ℚ◌, ◌<ℚ◌, int, inv_ℚ, neg_ℚ}
-use Rattle.rational.specs.Ratio.{IsSmall, SumFits}
-use Rattle.rational.specs.Grid.{Whole, Within}
-use Rattle.rational.specs.Whole.{periods}
-use Rattle.rational.specs.Extended.{Ext, ◌≤ₑ◌, ◌<ₑ◌, ◌+ₑ◌}
+use Rattle.std.specs.Prelude.{◌≡◌, ◌≢◌, ℕ, zero, suc, pos, Bool, true, false, cond, List, Option, Some, None}
+use Rattle.std.proofs.Common.{arith, sym, ap, ◌∙◌, refl, subst, inl, inr}
+use Rattle.rational.specs.Rational.{ℚ, ◌+ℚ◌, ◌*ℚ◌, ◌/ℚ◌, ◌≤ℚ◌, ◌<ℚ◌, int, inv_ℚ}
 use Rattle.rational.specs.declared.Extended.TheVariants.{Fin, Inf}
-use Rattle.rational.proofs.Linear.{with1, with2, with3, with4, with5}
-use Rattle.rational.proofs.Laws.{le_or_lt, le_refl, le_trans, le_of_lt, lt_le_trans, le_lt_trans, antisym, mul_assoc, mul_comm, mul_one, mul_pos, mul_nonneg, not_zero}
-use Rattle.rational.proofs.Quotients.{mul_div}
+use Rattle.rational.proofs.Linear.{with1, with2, with3, with5}
+use Rattle.rational.proofs.Laws.{le_or_lt, le_refl, le_trans, le_of_lt, antisym, mul_assoc, mul_comm, mul_nonneg}
 use Rattle.rational.proofs.Integers.{nat_nonneg}
 use Rattle.rational.proofs.Whole.{one_more_times}
-use Rattle.rational.proofs.Grid.{whole_int, whole_add, whole_sub, within_nonneg, within_add, within_weaken}
-use Rattle.rational.proofs.ExtendedOrder.{fin_same, same_le_ext, finite_sum}
+use Rattle.rational.proofs.ExtendedOrder.{fin_same, same_le_ext}
 use Rattle.rational.proofs.Over.{le_q_out}
-use Rattle.rational.proofs.MinMax.{le_q_not}
 use Rattle.affine_segment.specs.declared.line.Line.{Line}
 use Rattle.affine_segment.specs.declared.line.Piece.{Piece}
-use Rattle.affine_segment.specs.Values.{line_at, line_value}
 use Rattle.upp_curve.specs.declared.curve.Tail.{Tail}
 use Rattle.upp_curve.specs.declared.curve.Tail.TheVariants.{Periodic, Affine, Infinite}
-use Rattle.upp_curve.specs.Reading.{piece_in, piece_value, read}
+use Rattle.upp_curve.specs.Reading.{read}
 use Rattle.upp_curve.specs.Curve.{SpecCurve, value_at, with_tail, cut}
 use Rattle.upp_curve.specs.Curves.{IsCurve}
-use Rattle.upp_curve.specs.Normal.{Each, HasStart, RisesFrom, StartsAtZero, FitsPeriod, FitsRank, TailFits, TailNormal}
-use Rattle.upp_curve.specs.Steady.{Repeats, rank_of, last_of, last_line, same_ext, later_unless, steady_in, steady, slope_times, rise_in, rise_over, IsWholePeriods, slope_of, rate_in, rate}
-use Rattle.upp_curve.specs.Spans.{Span, copy_of, span_below, spans}
-use Rattle.upp_curve.specs.Limits.{Sizes, curve_numbers}
-use Rattle.upp_curve.specs.Sized.{IsValue, IsSlope, ValueStands, LineStands, SpanStands, PeriodStands, CurveStands, grid_of, times_largest}
+use Rattle.upp_curve.specs.Normal.{TailFits, TailNormal}
+use Rattle.upp_curve.specs.Steady.{rank_of, last_line, same_ext, later_unless, steady_in, steady, slope_times, rise_in, rise_over, IsWholePeriods, slope_of, rate_in, rate}
+use Rattle.upp_curve.specs.Limits.{Sizes}
 use Rattle.upp_curve.specs.Operand.{AreLimited}
-use Rattle.upp_curve.specs.Ahead.{IsOverBy, HasWindow, IsTimeIn}
-use Rattle.upp_curve.proofs.ClosedForms.{line_moved}
-use Rattle.upp_curve.proofs.CurveStands.{curve_stands}
-use Rattle.upp_curve.proofs.NarrowSizes.{value_whole, value_within, run_whole, run_within, small_number}
+use Rattle.upp_curve.specs.Ahead.{IsOverBy, HasWindow}
 use Rattle.upp_curve.proofs.Steady.{same_out, cut_past}
-use Rattle.upp_curve.proofs.StretchPieces.{span_in, found_from}
-use Rattle.upp_curve.proofs.StretchTurns.{Turned, turned, repeated_at}
-use Rattle.upp_curve.proofs.StretchSizes.{CopiesStand, copies_of_span, each_below, TailTimes, tail_times, some_period, starts_over, narrow, RiseParts, rise_parts}
-use Rattle.upp_curve.proofs.StretchValues.{value_periodic, with_pieces}
-use Rattle.curve_least.specs.Compared.{RepeatsIn, AreCompared}
+use Rattle.curve_least.specs.Compared.{RepeatsIn}
 
 -- ---- the rate
 over_period : (rise period d : ℚ) → (rise /ℚ period) *ℚ d ≡ rise *ℚ (d /ℚ period)

@@ -1,17 +1,17 @@
 -- A number of periods later: one function is nowhere above another exactly where it is nowhere more above it than the other has gained.
-use Rattle.std.specs.Prelude.{◌≡◌, ℕ, zero, suc, ◌+◌, ◌<◌, pos, ◌↔◌, ◌⊎◌}
-use Rattle.std.proofs.Common.{arith, sym, ap, ◌∙◌, refl, subst, inl, inr}
+use Rattle.std.specs.Prelude.{◌≡◌, ℕ, pos, ◌↔◌}
+use Rattle.std.proofs.Common.{arith, sym, subst, inl, inr}
 use Rattle.rational.specs.Rational.{ℚ, ◌+ℚ◌, ◌-ℚ◌, ◌*ℚ◌, ◌≤ℚ◌, ◌<ℚ◌, int}
-use Rattle.rational.specs.Extended.{Ext, ◌≤ₑ◌, ◌<ₑ◌, ◌+ₑ◌}
+use Rattle.rational.specs.Extended.{Ext, ◌≤ₑ◌, ◌+ₑ◌}
 use Rattle.rational.specs.declared.Extended.TheVariants.{Fin, Inf}
-use Rattle.rational.proofs.Linear.{with1, with2, with3, with4, with5}
-use Rattle.rational.proofs.Laws.{le_or_lt, le_trans, mul_sub, sub_add}
+use Rattle.rational.proofs.Linear.{with3, with4}
+use Rattle.rational.proofs.Laws.{le_or_lt, mul_sub, sub_add}
 use Rattle.rational.proofs.ExtendedOrder.{le_ext_trans, le_ext_refl, add_le_ext, lt_ext_not_le}
 use Rattle.upp_curve.specs.Steady.{Repeats}
 use Rattle.upp_curve.specs.Periods.{periods_after}
 use Rattle.upp_curve.specs.Windows.{IsBelowFor, IsLeast}
 use Rattle.upp_curve.proofs.Repeats.{repeats_times}
-use Rattle.curve_least.specs.Gaps.{InWindow, IsWithin, IsMore, IsEndless, IsLargest}
+use Rattle.curve_least.specs.Gaps.{InWindow, IsWithin, IsEndless, IsLargest}
 
 -- ---- both sides risen
 shift_in : (x y : Ext) (p q : ℚ) → x ≤ₑ y +ₑ Fin (q -ℚ p) → x +ₑ Fin p ≤ₑ y +ₑ Fin q
@@ -25,7 +25,7 @@ shift_out Inf (Fin y) p q h = absurd h
 shift_out (Fin x) (Fin y) p q h = with4 x y p q (λ c. omega (arith, c.le, c.lt, c.same))
 
 -- ---- k periods later
-later_value : (f : ℚ → Ext) (from d a t : ℚ) (k : ℕ) → int (pos 0) ≤ℚ d → Repeats f from d a → from ≤ℚ t → f (t +ℚ int (pos k) *ℚ d) ≡ f t +ₑ Fin (int (pos k) *ℚ a)
+pub later_value : (f : ℚ → Ext) (from d a t : ℚ) (k : ℕ) → int (pos 0) ≤ℚ d → Repeats f from d a → from ≤ℚ t → f (t +ℚ int (pos k) *ℚ d) ≡ f t +ₑ Fin (int (pos k) *ℚ a)
 later_value f from d a t k some R h = (repeats_times f from d a k some R).rule t h
 
 pub below_in : (f g : ℚ → Ext) (from d a b : ℚ) (k : ℕ) → int (pos 0) ≤ℚ d → Repeats f from d a → Repeats g from d b
@@ -49,7 +49,7 @@ below_out f g from d a b k some F G below u i =
     let high = i.before in
     let there : f (u +ℚ y) ≤ₑ g (u +ℚ y) = below (u +ℚ y) (with3 from u y (λ c. omega (arith, c.le, c.lt, c.same))) (with4 from u y d (λ c. omega (arith, c.le, c.lt, c.same))) in
     let here : f u +ₑ Fin (int (pos k) *ℚ a) ≤ₑ g u +ₑ Fin (int (pos k) *ℚ b) =
-        subst (λ v. v ≤ₑ g u +ₑ Fin (int (pos k) *ℚ b)) (later_value f from d a u k some F low) (subst (λ v. f (u +ℚ y) ≤ₑ v) (later_value g from d b u k some G low) there) in
+    subst (λ v. v ≤ₑ g u +ₑ Fin (int (pos k) *ℚ b)) (later_value f from d a u k some F low) (subst (λ v. f (u +ℚ y) ≤ₑ v) (later_value g from d b u k some G low) there) in
     subst (λ v. f u ≤ₑ g u +ₑ Fin v) (sym (mul_sub (int (pos k)) b a)) (shift_out (f u) (g u) (int (pos k) *ℚ a) (int (pos k) *ℚ b) here)
 
 -- ---- what a gap bounds

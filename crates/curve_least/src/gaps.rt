@@ -12,7 +12,13 @@ ghost use Rattle.upp_curve.specs.Limits.{Sizes};
 ghost use Rattle.upp_curve.specs.Ahead.{GoesOn, HasWindow, IsTimeIn};
 ghost use Rattle.curve_least.specs.Gaps.{InWindow, IsGap};
 ghost use Rattle.curve_least.specs.GapSteps.{
-    gap_of, larger, DifferenceFits, IsUntil, StretchSizes, GapStands, earlier_of,
+  gap_of,
+  larger,
+  DifferenceFits,
+  IsUntil,
+  StretchSizes,
+  GapStands,
+  earlier_of,
 };
 
 use affine_segment::{Line, value};

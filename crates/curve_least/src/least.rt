@@ -1,6 +1,6 @@
 //! From which number of periods on the slower of two curves is nowhere above the faster.
 
-ghost use Rattle.std.specs.Prelude.{ℕ, ◌≡◌, ◌≢◌, pos, MatchOption};
+ghost use Rattle.std.specs.Prelude.{ℕ, ◌≡◌, ◌≢◌, ◌↔◌, IsTrue, pos, MatchOption};
 ghost use Rattle.rational.specs.Rational.{ℚ, int, ◌+ℚ◌, ◌-ℚ◌, ◌*ℚ◌, ◌/ℚ◌, ◌≤ℚ◌, ◌<ℚ◌, neg_ℚ};
 ghost use Rattle.rational.specs.Ratio.{IsSmall, SumFits};
 ghost use Rattle.rational.specs.Extended.{◌<ₑ◌};
@@ -93,4 +93,37 @@ pub fn least_below(slow: &Curve, fast: &Curve, from: Frac, period: Frac) -> Opti
         Gap::Never => None,
         Gap::Is(gap) => Some(least_over(slow, fast, gap, from, period)),
     }
+}
+
+/// Whether f is the slower one.
+fn is_slower(f: &Curve, g: &Curve) -> bool
+    ensures { IsTrue result ↔ (rate f.now <ₑ rate g.now) }
+{
+    match rate_of(f) {
+        Extended::Inf => false,
+        Extended::Fin(x) => match rate_of(g) {
+            Extended::Inf => true,
+            Extended::Fin(y) => is_less(x, y),
+        },
+    }
+}
+
+/// The least number k of periods after which, for a period, the slower of two curves is nowhere above the faster; none where there
+/// is no such number, and 0 for curves of one rate. Where `from` is the time from which on both repeat and `period` their common
+/// period, it is the number of periods that their minimum needs, and their maximum and positive difference. Both repeat from `from`
+/// on with the period, and their numbers below from + period have the sizes z of a gauge below 2^120. No memory is taken and nothing
+/// is unrolled.
+pub fn least_periods(f: &Curve, g: &Curve, from: Frac, period: Frac) -> Option<u128>
+    requires { (z : Sizes) × AreCompared z from period f.now g.now }
+    ensures { MatchOption result
+        ((k : ℕ) → ¬ (IsSlowerBelow (value_at f.now) (value_at g.now) (rate f.now) (rate g.now) (periods_after from k period) period))
+        (IsLeast (λ k. IsSlowerBelow (value_at f.now) (value_at g.now) (rate f.now) (rate g.now) (periods_after from k period) period)) }
+{
+    if is_slower(f, g) {
+        return least_below(f, g, from, period);
+    }
+    if is_slower(g, f) {
+        return least_below(g, f, from, period);
+    }
+    Some(0)
 }

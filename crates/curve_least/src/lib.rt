@@ -2,7 +2,9 @@
 #![tactic(auto)]
 
 mod gaps;
+mod laws;
 mod least;
 
 pub use gaps::{Gap, window_gap};
-pub use least::least_below;
+pub use laws::below_ever_after;
+pub use least::{least_below, least_periods};

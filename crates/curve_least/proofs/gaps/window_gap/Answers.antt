@@ -21,10 +21,12 @@ stretch_gap-requires-clause-sizes c =
     let w = c.requires in
     let slow = c.stretch_at-slow.ensures in
     let fast = c.stretch_at-fast.ensures in
-    let e = next_found c.args.end c.stretch_at-slow.result.next c.stretch_at-fast.result.next c.earlier.result c.earlier-next.result c.earlier.ensures c.earlier-next.ensures in
-    (w.0, c.args.end,
-    stretch_sizes w.0 c.args.f.now c.args.g.now c.args.from c.args.end c.loop-end.t c.earlier-next.result c.loop-end.gap c.stretch_at-slow.result c.stretch_at-fast.result w.1 w.2 w.3 c.loop-end.invariant
-    (c.loop-end-test.ensures.0 refl) slow.goes.next fast.goes.next slow.times fast.times (slow.sizes w.0 c.args.end w.1) (fast.sizes w.0 c.args.end w.2) e)
+    let e = next_found c.args.end c.stretch_at-slow.result.next c.stretch_at-fast.result.next c.earlier.result c.earlier-next.result c.earlier.ensures c.earlier-next.ensures in (
+      w.0,
+      c.args.end,
+      stretch_sizes w.0 c.args.f.now c.args.g.now c.args.from c.args.end c.loop-end.t c.earlier-next.result c.loop-end.gap c.stretch_at-slow.result c.stretch_at-fast.result w.1 w.2 w.3 c.loop-end.invariant
+          (c.loop-end-test.ensures.0 refl) slow.goes.next fast.goes.next slow.times fast.times (slow.sizes w.0 c.args.end w.1) (fast.sizes w.0 c.args.end w.2) e,
+    )
 
 pub stretch_gap-requires-clause-some : goal.stretch_gap-requires-clause-some
 stretch_gap-requires-clause-some c =

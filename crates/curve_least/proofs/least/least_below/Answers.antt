@@ -1,5 +1,4 @@
-use Rattle.std.proofs.Common.{pos, sym, subst, ap, ◌∙◌}
-use Rattle.rational.specs.Rational.{ℚ, ◌+ℚ◌}
+use Rattle.std.proofs.Common.{sym, subst}
 use Rattle.upp_curve.specs.Curve.{value_at}
 use Rattle.upp_curve.specs.Ahead.{HasWindow, IsTimeIn}
 use Rattle.curve_least.specs.declared.gaps.Gap.TheVariants.{NoTime, Never, Is}
