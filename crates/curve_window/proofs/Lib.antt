@@ -12,3 +12,4 @@ pub mod MadeReads
 pub mod MadeStands
 pub mod MadeWindows
 pub mod TailGrids
+pub mod Worked
