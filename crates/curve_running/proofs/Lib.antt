@@ -10,3 +10,4 @@ pub mod SupremumLoop
 pub mod InfimumLoop
 pub mod LevelSizes
 pub mod Shifts
+pub mod Highest

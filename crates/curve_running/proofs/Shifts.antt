@@ -15,7 +15,7 @@ use Rattle.upp_curve.specs.Functions.{zero_q, UpTo, From}
 use Rattle.upp_curve.specs.Running.{IsRunningSupremum, IsRunningInfimum}
 use Rattle.upp_curve.proofs.Rules.{enough}
 use Rattle.upp_curve.proofs.Repeats.{repeats_times}
-use Rattle.curve_running.specs.Scans.{Until, IsInfimumUntil}
+use Rattle.curve_running.specs.Scans.{Until, IsInfimumUntil, IsSupremumIn}
 
 raised : (v : Ext) (c : ℚ) → zero_q ≤ℚ c → v ≤ₑ v +ₑ Fin c
 raised Inf c h = tt
@@ -28,10 +28,6 @@ back_rule f r d c s F h =
     sym (ap f same) ∙ F.rule (s -ℚ d) (with3 r d s (λ k. omega (arith, k.le, k.lt, k.same)))
 
 -- ---- the supremum
--- v is the supremum of f over the times from `from` on before `to`
-abbrev pub IsSupremumIn : (ℚ → Ext) → ℚ → ℚ → Ext → Type 0
-IsSupremumIn f from to v = IsSupremum {I = Until from to} (λ s. f s.at) v
-
 -- a later member of what comes before t, one period on
 record Later (f : ℚ → Ext) (t d c y : ℚ) : Type 0 where
   at : ℚ

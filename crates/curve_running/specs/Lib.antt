@@ -1,3 +1,4 @@
 pub mod Scans
 pub mod Bends
 pub mod Made
+pub mod Between

@@ -2,6 +2,7 @@
 #![tactic(auto)]
 
 mod bend;
+mod between;
 mod infimum;
 mod stretch;
 mod supremum;
