@@ -1,10 +1,10 @@
 -- Windows of operands: where their pieces stand, the steps that cut and add them fit.
-use Rattle.std.specs.Prelude.{◌≡◌, ◌<◌, ◌≤◌, ◌+◌, pos, List, [], ◌∷◌, Option, Some, None, ◌⊎◌}
+use Rattle.std.specs.Prelude.{◌≡◌, ℕ, ◌*◌, ◌<◌, ◌≤◌, ◌+◌, pos, List, [], ◌∷◌, Option, Some, None, ◌⊎◌}
 use Rattle.std.proofs.Common.{arith, sym, ap, ◌∙◌, refl, subst, inl, inr}
-use Rattle.rational.specs.Rational.{ℚ, ◌≤ℚ◌, ◌<ℚ◌, int}
+use Rattle.rational.specs.Rational.{ℚ, ◌+ℚ◌, ◌≤ℚ◌, ◌<ℚ◌, int}
 use Rattle.rational.specs.Grid.{Whole}
 use Rattle.rational.proofs.Laws.{le_or_lt, le_of_lt, antisym}
-use Rattle.rational.specs.Extended.{Ext}
+use Rattle.rational.specs.Extended.{Ext, ◌+ₑ◌}
 use Rattle.rational.specs.declared.Extended.TheVariants.{Fin, Inf}
 use Rattle.affine_segment.specs.declared.line.Line.{Line}
 use Rattle.affine_segment.specs.declared.line.Piece.{Piece}
@@ -12,15 +12,19 @@ use Rattle.affine_segment.specs.Values.{line_value}
 use Rattle.upp_curve.specs.Reading.{read, piece_in, piece_value}
 use Rattle.upp_curve.specs.Normal.{Each, HasStart, StartsAtZero}
 use Rattle.upp_curve.specs.Limits.{Sizes}
+use Rattle.upp_curve.specs.Sized.{grid_of}
+use Rattle.upp_curve.proofs.NormaliseGrids.{ValueOn, LineOn, PieceOn}
 use Rattle.upp_curve.specs.Readable.{LineFitsAt}
-use Rattle.upp_curve.specs.Operand.{AreLimited, OperandLine, OperandLineAt, OperandPiece, OperandPieces}
+use Rattle.upp_curve.specs.Operand.{answer_room, AreLimited, OperandLine, OperandLineAt, OperandPiece, OperandPieces}
 use Rattle.upp_curve.proofs.FirstStretch.{value_past, value_at_start}
 use Rattle.upp_curve.proofs.NormaliseLists.{each_map}
 use Rattle.upp_curve.proofs.NormaliseRoomy.{each_in, found_early}
-use Rattle.upp_curve.proofs.AnswerRoom.{OperandValue, OperandValueAt, stands_operand_value, operand_line_value, operand_line_fits, values_fit, operand_lines_fit}
+use Rattle.upp_curve.proofs.AnswerRoom.{OperandValue, OperandValueAt, stands_operand_value, operand_line_value, operand_line_fits, values_fit, operand_lines_fit, sum_of_lines, line_in_room, room_at_start, value_sum_stands, answer_value_room}
+use Rattle.upp_curve.specs.Room.{ValueHasRoom, LineHasRoom, PieceHasRoom}
+use Prim.Native.Nat.{◌∣◌}
 use Rattle.curve_window.specs.declared.stretch.Both.{Both}
 use Rattle.curve_window.specs.Stretches.{line_in, IsPieceOf, IsBothOf, CutsFit}
-use Rattle.curve_window.specs.Pointwise.{ValueSumFits, LineSumFits, StretchSumFits, SumsFit}
+use Rattle.curve_window.specs.Pointwise.{sum_line, ValueSumFits, LineSumFits, StretchSumFits, SumsFit, IsSumPiece}
 
 -- a time at which some operand's piece may start
 pub record StartTime (z : Sizes) (end x : ℚ) : Type 0 where
@@ -100,3 +104,48 @@ pub sums_fit : (z : Sizes) (end : ℚ) (f g : List Piece) → AreLimited z end �
 sums_fit z end f g A F G b B =
     let O = operand_both z end f g b A F G B in
     record { value = value_sum z end b.left.at b.right.at A O.left O.right; line = line_sum z end b.left.line b.right.line A O.left_line O.right_line }
+
+-- ---- the pieces of a sum have room
+value_sum_room : (z : Sizes) (end : ℚ) (grid : ℕ) (v w : Ext) → z.dv * z.dt ∣ grid → OperandValueAt z v → OperandValueAt z w → ValueHasRoom (answer_room z end) 1 grid (v +ₑ w)
+value_sum_room z end grid Inf w base V W = tt
+value_sum_room z end grid (Fin v) Inf base V W = tt
+value_sum_room z end grid (Fin v) (Fin w) base V W = answer_value_room z end 6 grid (v +ℚ w) (omega arith) base (value_sum_stands z v w V W)
+
+line_sum_room : (z : Sizes) (end : ℚ) (l m : Option Line) → AreLimited z end → OperandLineAt z l → OperandLineAt z m → LineHasRoom (answer_room z end) 1 (sum_line l m)
+line_sum_room z end None m A L M = tt
+line_sum_room z end (Some l) None A L M = tt
+line_sum_room z end (Some l) (Some m) A L M = line_in_room z end 4 _ A (omega arith) (sum_of_lines z l m L M)
+
+value_sum_on : (z : Sizes) (v w : Ext) → OperandValueAt z v → OperandValueAt z w → ValueOn (grid_of z) (v +ₑ w)
+value_sum_on z Inf w V W = tt
+value_sum_on z (Fin v) Inf V W = tt
+value_sum_on z (Fin v) (Fin w) V W = (value_sum_stands z v w V W).whole
+
+line_sum_on : (z : Sizes) (l m : Option Line) → OperandLineAt z l → OperandLineAt z m → LineOn z.ds (grid_of z) (sum_line l m)
+line_sum_on z None m L M = tt
+line_sum_on z (Some l) None L M = tt
+line_sum_on z (Some l) (Some m) L M = let S = sum_of_lines z l m L M in (S.icept, S.slope)
+
+-- a piece of an answer that starts where one of an operand may: it has room, and stands on the grids
+pub record StartsWithRoom (z : Sizes) (end : ℚ) (p : Piece) : Type 0 where
+  pub room : PieceHasRoom (answer_room z end) 1 p
+  pub time : StartTime z end p.x
+  pub on : PieceOn z.dt z.ds (grid_of z) p
+
+pub sum_room : (z : Sizes) (end : ℚ) (f g : List Piece) (p : Piece) → AreLimited z end → OperandPieces z end f → OperandPieces z end g → IsSumPiece f g p → StartsWithRoom z end p
+sum_room z end f g p A F G P =
+    let time = both_time z end p.x f g F G P.start in
+    let T = room_at_start z end p.x A time.whole time.nonneg in
+    record {
+      room = record {
+        time = T;
+        at = subst (ValueHasRoom (answer_room z end) 1 T.grid) (sym P.at) (value_sum_room z end T.grid (read f p.x) (read g p.x) T.base (operand_read z end p.x f A F time) (operand_read z end p.x g A G time));
+        line = subst (LineHasRoom (answer_room z end) 1) (sym P.line) (line_sum_room z end (line_in f p.x) (line_in g p.x) A (operand_line_in z end p.x f F) (operand_line_in z end p.x g G));
+      };
+      time = time;
+      on = record {
+        start = time.whole;
+        at = subst (ValueOn (grid_of z)) (sym P.at) (value_sum_on z (read f p.x) (read g p.x) (operand_read z end p.x f A F time) (operand_read z end p.x g A G time));
+        line = subst (LineOn z.ds (grid_of z)) (sym P.line) (line_sum_on z (line_in f p.x) (line_in g p.x) (operand_line_in z end p.x f F) (operand_line_in z end p.x g G));
+      };
+    }

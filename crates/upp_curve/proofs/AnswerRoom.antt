@@ -262,6 +262,26 @@ values_fit z end v w A V W =
       small_sum z end 3 3 v (neg_ℚ w) A.sizes N (omega arith) V.whole (whole_neg (grid_of z) w W.whole) V.within (within_neg (times_largest 3 z) w W.within),
     )
 
+-- a value of an answer: on the grid of sums, within k times the largest value
+pub record AnswerValue (z : Sizes) (k : ℕ) (v : ℚ) : Type 0 where
+  pub whole : Whole (grid_of z) v
+  pub within : Within (times_largest k z) v
+
+pub value_sum_stands : (z : Sizes) (v w : ℚ) → OperandValue z v → OperandValue z w → AnswerValue z 6 (v +ℚ w)
+value_sum_stands z v w V W = record {
+  whole = whole_add (grid_of z) v w V.whole W.whole;
+  within = subst (λ m. Within m (v +ℚ w)) (many_more z 3 3) (within_add (times_largest 3 z) (times_largest 3 z) v w V.within W.within);
+}
+
+pub value_difference_stands : (z : Sizes) (v w : ℚ) → OperandValue z v → OperandValue z w → AnswerValue z 6 (v -ℚ w)
+value_difference_stands z v w V W = record {
+  whole = whole_sub (grid_of z) v w V.whole W.whole;
+  within = subst (λ m. Within m (v -ℚ w)) (many_more z 3 3) (within_sub (times_largest 3 z) (times_largest 3 z) v w V.within W.within);
+}
+
+pub answer_value_room : (z : Sizes) (end : ℚ) (k grid : ℕ) (v : ℚ) → k ≤ 8 → z.dv * z.dt ∣ grid → AnswerValue z k v → ValueInRoom (answer_room z end) 1 grid v
+answer_value_room z end k grid v h base V = value_in_room z end k grid v h (whole_weaken (grid_of z) (grid * z.ds) v (mul-dvd-mul_right (z.dv * z.dt) base z.ds) V.whole) V.within
+
 -- they are on the grid of any time
 pub operand_value_room : (z : Sizes) (end : ℚ) (grid : ℕ) (v : Ext) → z.dv * z.dt ∣ grid → OperandValueAt z v → ValueHasRoom (answer_room z end) 1 grid v
 operand_value_room z end grid Inf base h = tt
