@@ -83,3 +83,6 @@ pub mod Tallies
 pub mod NormaliseOwn
 pub mod AnswerRoom
 pub mod UnrolledPieces
+pub mod UnrollLoops
+pub mod UnrollSteps
+pub mod GaugeRises

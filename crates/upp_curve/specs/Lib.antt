@@ -37,3 +37,4 @@ pub mod Levels
 pub mod ClosedOperands
 pub mod Operand
 pub mod Outcome
+pub mod Unrolling

@@ -26,16 +26,16 @@ pub(crate) fn sum(a: Frac, b: Frac) -> Frac
     Frac::add(a, b).unwrap()
 }
 
-// a - b.
-fn difference(a: Frac, b: Frac) -> Frac
+/// a - b.
+pub(crate) fn difference(a: Frac, b: Frac) -> Frac
     requires { SumFits a (neg_ℚ b) }
     ensures { result ≡ a -ℚ b }
 {
     Frac::sub(a, b).unwrap()
 }
 
-// a b.
-fn product(a: Frac, b: Frac) -> Frac
+/// a b.
+pub(crate) fn product(a: Frac, b: Frac) -> Frac
     requires { IsSmall (a *ℚ b) }
     ensures { result ≡ a *ℚ b }
 {

@@ -30,6 +30,7 @@ mod starts;
 #[cfg(test)]
 mod tests;
 mod two_periods;
+mod unrolling;
 
 pub use curve::{Curve, Tail, equal};
 pub use kind_laws::kinds_are_curves;
