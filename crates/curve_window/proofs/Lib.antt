@@ -6,3 +6,6 @@ pub mod Sums
 pub mod MapLoop
 pub mod Results
 pub mod OperandWindows
+pub mod LinesLie
+pub mod MadeLoop
+pub mod MadeReads

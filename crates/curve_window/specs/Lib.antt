@@ -1,3 +1,5 @@
 pub mod Stretches
 pub mod Walk
 pub mod Pointwise
+pub mod Lies
+pub mod Made

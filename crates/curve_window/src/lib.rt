@@ -2,6 +2,8 @@
 //! lower or upper of both is taken, at every time of the window.
 #![tactic(auto)]
 
+mod lie;
+mod made;
 mod stretch;
 mod sum;
 

@@ -81,8 +81,10 @@ pub mod ScaledCurves
 pub mod Operands
 pub mod Tallies
 pub mod NormaliseOwn
-pub mod AnswerRoom
+pub mod CallSizes
+pub mod SteadyStart
 pub mod UnrolledPieces
 pub mod UnrollLoops
 pub mod UnrollSteps
 pub mod GaugeRises
+pub mod AnswerRoom

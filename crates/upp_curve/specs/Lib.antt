@@ -37,4 +37,5 @@ pub mod Levels
 pub mod ClosedOperands
 pub mod Operand
 pub mod Outcome
+pub mod CallNumbers
 pub mod Unrolling
