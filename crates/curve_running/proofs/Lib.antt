@@ -11,3 +11,5 @@ pub mod InfimumLoop
 pub mod LevelSizes
 pub mod Shifts
 pub mod Highest
+pub mod Covers
+pub mod SupremumCalls

@@ -2,3 +2,4 @@ pub mod Scans
 pub mod Bends
 pub mod Made
 pub mod Between
+pub mod Periods

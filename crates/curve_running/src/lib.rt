@@ -4,8 +4,10 @@
 mod bend;
 mod between;
 mod infimum;
+mod periods;
 mod stretch;
 mod supremum;
 
 pub use infimum::infimum_scan;
+pub use periods::supremum_periods;
 pub use supremum::supremum_scan;
