@@ -1,3 +1,7 @@
 pub mod Values
 pub mod Steps
 pub mod Cuts
+pub mod Elements
+pub mod Segments
+pub mod WideConvolution
+pub mod ElementLaws

@@ -9,3 +9,5 @@ pub mod OperandWindows
 pub mod LinesLie
 pub mod MadeLoop
 pub mod MadeReads
+pub mod MadeStands
+pub mod MadeWindows

@@ -3,3 +3,4 @@ pub mod Walk
 pub mod Pointwise
 pub mod Lies
 pub mod Made
+pub mod Operands

@@ -23,6 +23,12 @@ made_value Lower v w = min_ext v w
 made_value Upper v w = max_ext v w
 made_value Excess v w = excess v w
 
+-- whether its slope rises (true) or falls (false) where the two lines change places
+abbrev pub made_rises : Made → Bool
+made_rises Lower = false
+made_rises Upper = true
+made_rises Excess = true
+
 abbrev pub zero_line : Line
 zero_line = record { icept = int (pos 0); slope = int (pos 0) }
 

@@ -36,6 +36,7 @@ use Rattle.upp_curve.proofs.NormaliseLists.{each_append, each_map, each_upto, ri
 use Rattle.upp_curve.proofs.NormaliseLoops.{later_none, later_some}
 use Rattle.upp_curve.proofs.NormaliseRank.{from_late}
 use Rattle.upp_curve.proofs.PieceLists.{starts_nonneg}
+use Rattle.upp_curve.proofs.Unique.{upto_none}
 use Rattle.upp_curve.proofs.Unrolled.{copies_some}
 
 -- ---- two facts of each piece
@@ -95,6 +96,22 @@ starts_by_tail ps (Infinite rank) end some n = zero_upto end ps some n.raw.start
 pub unroll_starts : (c : SpecCurve) (end : ℚ) → int (pos 0) <ℚ end → IsNormal c → StartsAtZero (unroll c end)
 unfolding unroll
 unroll_starts c end some n = starts_by_tail c.pieces c.tail end some n
+
+none_before : (end : ℚ) (ps : List Piece) → StartsAtZero ps → end ≤ℚ int (pos 0) → upto end ps ≡ []
+none_before end [] h l = absurd h
+none_before end (p ∷ ps) h l = upto_none end p ps (subst (λ x. end ≤ℚ x) (sym h.0) l)
+
+none_by_tail : (ps : List Piece) (tail : Tail) (end : ℚ) → end ≤ℚ int (pos 0) → IsNormal record { pieces = ps; tail = tail } → unrolled ps tail end ≡ []
+none_by_tail ps (Periodic rank d c) end l n =
+    none_before end (upto rank ps ++ copies (suc (periods rank d end)) d c (from rank ps))
+    (periodic_starts ps rank d c (periods rank d end) n.raw.starts n.rank_is_start n.raw.tail.some n.raw.tail.starts) l
+none_by_tail ps (Affine rank) end l n = none_before end ps n.raw.starts l
+none_by_tail ps (Infinite rank) end l n = none_before end ps n.raw.starts l
+
+-- none starts before 0
+pub unroll_none : (c : SpecCurve) (end : ℚ) → end ≤ℚ int (pos 0) → IsNormal c → unroll c end ≡ []
+unfolding unroll
+unroll_none c end l n = none_by_tail c.pieces c.tail end l n
 
 before_by_tail : (ps : List Piece) (tail : Tail) (end : ℚ) → Each (λ p. p.x <ℚ end) (unrolled ps tail end)
 before_by_tail ps (Periodic rank d c) end = upto_before end _

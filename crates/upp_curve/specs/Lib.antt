@@ -39,3 +39,7 @@ pub mod Operand
 pub mod Outcome
 pub mod CallNumbers
 pub mod Unrolling
+pub mod Ahead
+pub mod Copied
+pub mod OwnLimits
+pub mod Bends

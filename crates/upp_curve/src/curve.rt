@@ -164,7 +164,9 @@ impl Curve {
 
     /// The allocator of the pieces.
     #[inline]
-    pub(crate) fn allocator(&self) -> Global {
+    pub(crate) fn allocator(&self) -> Global
+        ensures { IsCurve self.now }
+    {
         *self.pieces.allocator()
     }
 

@@ -83,7 +83,7 @@ pub(crate) fn read(pieces: &[Piece], t: Frac) -> Ext
 }
 
 // The line, `by` later and `rise` higher.
-fn line_later(by: Frac, rise: Frac, line: Option<Line>) -> Option<Line>
+pub(crate) fn line_later(by: Frac, rise: Frac, line: Option<Line>) -> Option<Line>
     requires { LineLaterFits by rise line }
     ensures { result ≡ line_later by rise line }
 {

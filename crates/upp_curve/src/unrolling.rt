@@ -1,15 +1,18 @@
 //! The pieces of a curve that start before a time, its periods written out.
 
-ghost use Rattle.std.specs.Prelude.{◌≡◌, ◌<◌, ◌^◌, ◌++◌, pos, OnOk, IfOk};
+ghost use Rattle.std.specs.Prelude.{◌≡◌, ◌<◌, ◌≤◌, ◌^◌, ◌++◌, [], pos, OnOk, IfOk, IfErr, Err};
 ghost use Rattle.rational.specs.Rational.{ℚ, int, ◌*ℚ◌, ◌≤ℚ◌, ◌<ℚ◌};
 ghost use Rattle.upp_curve.specs.declared.curve.Tail.TheVariants.{Periodic};
 ghost use Rattle.upp_curve.specs.Normal.{StartsAtZero, FitsPeriod};
 ghost use Rattle.upp_curve.specs.Unrolled.{each_later, from, unroll, unrolled, upto};
+ghost use Rattle.upp_curve.specs.Gauges.{gauge_over, tally_over};
 ghost use Rattle.upp_curve.specs.Unrolling.{IsOperandTo, TurnFits, TurnsFit};
 
 use crate::curve::{Curve, Tail};
 use crate::fitting::{difference, later, product};
 use crate::least_period::turn_of;
+use crate::limits::{gauge, tally};
+use crate::op_kind::{OpFault, OpKind};
 use crate::start_counts;
 use crate::starts::is_less;
 use crate::two_periods::count_before;
@@ -91,6 +94,37 @@ impl Curve {
                 with_copies(alloc, self.pieces(), rank, period, rise, end)
             }
             _ => Vec::from_slice(alloc, before(self.pieces(), end)),
+        }
+    }
+
+    /// The pieces that start before h, its periods written out; none where h is 0 or less. Refused with TooWide exactly where the
+    /// gauge of the curve for a window that ends at h is 2^120 or more, and with TooMany exactly where that is not so and more than
+    /// 2^20 pieces start before h.
+    pub fn pieces_to(&self, h: Frac) -> Result<Vec<Piece>, OpFault>
+        ensures pieces { IfOk result (λ v. v.items ≡ unroll self.now h) }
+        ensures none { h ≤ℚ int (pos 0) → IfOk result (λ v. v.items ≡ []) }
+        ensures wide { 2 ^ 120 ≤ gauge_over OpKind.Itself self.now self.now h → result ≡ Err OpFault.TooWide }
+        ensures many { gauge_over OpKind.Itself self.now self.now h < 2 ^ 120 → 2 ^ 20 < tally_over OpKind.Itself self.now self.now h
+            → result ≡ Err OpFault.TooMany }
+        ensures inside { gauge_over OpKind.Itself self.now self.now h < 2 ^ 120 → tally_over OpKind.Itself self.now self.now h ≤ 2 ^ 20
+            → IfErr result (λ e. e ≡ OpFault.NoMemory) }
+    {
+        let Some(size) = gauge(OpKind::Itself, self, self, Some(h)) else {
+            return Err(OpFault::TooWide);
+        };
+        if size >= 1 << 120 {
+            return Err(OpFault::TooWide);
+        }
+        if tally(OpKind::Itself, self, self, Some(h)) > 1 << 20 {
+            return Err(OpFault::TooMany);
+        }
+        let alloc = self.allocator();
+        if is_less(h, Frac::zero()) {
+            return Ok(Vec::new(alloc));
+        }
+        match self.unrolled(h) {
+            Ok(pieces) => Ok(pieces),
+            Err(_) => Err(OpFault::NoMemory),
         }
     }
 }
