@@ -1,5 +1,3 @@
 pub mod Times
 pub mod CallWindows
 pub mod Frames
-pub mod Rises
-pub mod Answering

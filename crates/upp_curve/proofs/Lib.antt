@@ -84,8 +84,6 @@ pub mod NormaliseOwn
 pub mod UnrolledPieces
 pub mod UnrollLoops
 pub mod UnrollSteps
-pub mod GaugeRises
-pub mod AnswerRoom
 pub mod StretchPieces
 pub mod StretchTurns
 pub mod AnswerRoom
