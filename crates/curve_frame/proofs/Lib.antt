@@ -3,3 +3,6 @@ pub mod CallTimes
 pub mod CallFits
 pub mod Limited
 pub mod FrameFacts
+pub mod Answering
+pub mod CurveRises
+pub mod FirstGate
