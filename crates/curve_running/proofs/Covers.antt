@@ -62,24 +62,27 @@ cover_is early once rise gap number k rises more g n e = record { enough = up; l
     ]
 
 -- ---- what it says of a function that repeats
+-- enough falls take a level below 0
+fallen : (level c : ℚ) (n : ℕ) → level +ℚ int (pos 1) ≤ℚ zero_q +ℚ int (pos n) *ℚ (zero_q -ℚ c) → zero_q ≤ℚ level +ℚ int (pos n) *ℚ c → ⊥
+fallen level c n h k =
+    let turned = mul_sub (int (pos n)) zero_q c in
+    let none = mul_zero (int (pos n)) in
+    apart level (int (pos n) *ℚ c) (int (pos n) *ℚ zero_q) (int (pos n) *ℚ (zero_q -ℚ c)) turned none h k
+  where
+    apart : (level p q s : ℚ) → s ≡ q -ℚ p → q ≡ zero_q → level +ℚ int (pos 1) ≤ℚ zero_q +ℚ s → zero_q ≤ℚ level +ℚ p → ⊥
+    apart level p q s e z h k = lt_irrefl level (with4 level p q s (λ c. omega (arith, c.le, c.lt, c.same)))
+
 -- a function that repeats and is nowhere below 0 does not fall over a period
 pub no_fall : (f : ℚ → Ext) (r d c level : ℚ) → zero_q ≤ℚ r → zero_q <ℚ d → Repeats f r d c → f r ≡ Fin level → ((t : ℚ) → zero_q ≤ℚ t → Fin zero_q ≤ₑ f t) → zero_q ≤ℚ c
-no_fall f r d c level low some F e nonneg = elim (le_or_lt zero_q c) [
-  | inl h ↦ h
-  | inr h ↦
-      let fall = zero_q -ℚ c in
-      let (n, l) = enough (zero_q) (level +ℚ int (pos 1)) fall (with1 c (λ q. omega (arith, q.le, q.lt, q.same))) in
-      let far = int (pos n) *ℚ d in
-      let up : zero_q ≤ℚ far = subst (λ x. x ≤ℚ far) (zero_mul d) (mul_le_mul_right d (le_of_lt some) (nat_nonneg n)) in
-      let there : f (r +ℚ far) ≡ Fin (level +ℚ int (pos n) *ℚ c) = (repeats_times f r d c n (le_of_lt some) F).rule r (le_refl r) ∙ ap (λ v. v +ₑ Fin (int (pos n) *ℚ c)) e in
-      let above : zero_q ≤ℚ level +ℚ int (pos n) *ℚ c = subst (λ v. Fin zero_q ≤ₑ v) there (nonneg (r +ℚ far) (with2 r far (λ q. omega (arith, q.le, q.lt, q.same)))) in
-      let turned = mul_sub (int (pos n)) zero_q c in
-      let none = mul_zero (int (pos n)) in
-      let p = int (pos n) *ℚ c in
-      let q = int (pos n) *ℚ zero_q in
-      let s = int (pos n) *ℚ fall in
-      absurd (lt_irrefl zero_q (with4 level p q s (λ k. omega (arith, k.le, k.lt, k.same))))
-]
+no_fall f r d c level low some F e nonneg = elim (le_or_lt zero_q c) [ inl h ↦ h | inr h ↦ absurd (falls h) ]
+  where
+    falls : c <ℚ zero_q → ⊥
+    falls h =
+        let (n, l) = enough zero_q (level +ℚ int (pos 1)) (zero_q -ℚ c) (with1 c (λ q. omega (arith, q.le, q.lt, q.same))) in
+        let far = int (pos n) *ℚ d in
+        let up : zero_q ≤ℚ far = subst (λ x. x ≤ℚ far) (zero_mul d) (mul_le_mul_right d (le_of_lt some) (nat_nonneg n)) in
+        let there : f (r +ℚ far) ≡ Fin (level +ℚ int (pos n) *ℚ c) = (repeats_times f r d c n (le_of_lt some) F).rule r (le_refl r) ∙ ap (λ v. v +ₑ Fin (int (pos n) *ℚ c)) e in
+        fallen level c n l (subst (λ v. Fin zero_q ≤ₑ v) there (nonneg (r +ℚ far) (with2 r far (λ q. omega (arith, q.le, q.lt, q.same)))))
 
 -- n periods on the supremum of a period is n rises higher
 later_supremum : (f : ℚ → Ext) (start d c once : ℚ) (k : ℕ) → zero_q <ℚ d → Repeats f start d c → IsSupremumIn f start (start +ℚ d) (Fin once)
@@ -136,3 +139,6 @@ least_from_zero f h = record {
   meets = inr (λ b under s low early. absurd (lt_irrefl s (lt_le_trans early (le_trans h low))));
   least = λ i l m. absurd (omega arith);
 }
+
+pub later_end : (s d : ℚ) → zero_q <ℚ d → s <ℚ s +ℚ d
+later_end s d h = with2 s d (λ c. omega (arith, c.le, c.lt, c.same))

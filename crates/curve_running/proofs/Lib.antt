@@ -13,3 +13,5 @@ pub mod Shifts
 pub mod Highest
 pub mod Covers
 pub mod SupremumCalls
+pub mod RunFacts
+pub mod SupremumRuns

@@ -11,7 +11,7 @@ use Rattle.rational.specs.Bounds.{IsSupremum}
 use Rattle.rational.specs.declared.Extended.TheVariants.{Fin, Inf}
 use Rattle.rational.proofs.Grid.{whole_int, whole_sub, within_weaken, within_sub, within_nonneg, whole_add}
 use Rattle.rational.proofs.Integers.{int_add, int_mul, nat_le, nat_nonneg}
-use Rattle.rational.proofs.Laws.{le_refl, le_of_lt, le_trans, lt_le_trans, le_lt_trans, mul_le_mul, mul_le_mul_right, not_zero, add_mul}
+use Rattle.rational.proofs.Laws.{antisym, le_refl, le_of_lt, le_trans, lt_le_trans, le_lt_trans, mul_le_mul, mul_le_mul_right, not_zero, add_mul}
 use Rattle.rational.proofs.Linear.{with1, with2, with3}
 use Rattle.rational.proofs.Sizes.{quotient_on_grid}
 use Rattle.rational.proofs.Bounds.{same_supremum}
@@ -30,7 +30,9 @@ use Rattle.upp_curve.specs.Readable.{LineFits}
 use Rattle.upp_curve.specs.Shapes.{IsFinitePiece}
 use Rattle.upp_curve.specs.Spans.{spans}
 use Rattle.upp_curve.specs.Steady.{Repeats, steady, rise_over, IsWholePeriods}
+use Rattle.upp_curve.specs.declared.op_kind.OpKind.TheVariants.{RunSup}
 use Rattle.upp_curve.specs.Periods.{own_period}
+use Rattle.upp_curve.specs.Windows.{IsLeast, Meets}
 use Rattle.upp_curve.specs.Limits.{Sizes, own_end}
 use Rattle.upp_curve.specs.Sized.{grid_of, times_largest, AreSizes, SpanStands, ValueStands, LineStands, CurveStands}
 use Rattle.upp_curve.specs.Operand.{AreLimited, OperandLine, OperandLineAt, OperandPiece, OperandPieces}
@@ -45,9 +47,9 @@ use Rattle.upp_curve.proofs.AnswerRoom.{tight, OperandValue, operand_line_fits, 
 use Rattle.curve_frame.proofs.CurveRises.{IsRise, rise_is, own_whole}
 use Rattle.curve_running.specs.Scans.{HasLine, IsWindow, ScanFits, IsSupremumIn, Until}
 use Rattle.curve_running.specs.Between.{FitsAtBoth, IsLevelBetween}
-use Rattle.curve_running.specs.Periods.{CoverFits, IsFirstPeriod, IsCovering, IsSupremumCall}
+use Rattle.curve_running.specs.Periods.{CoverFits, IsFirstPeriod, IsCovering, IsSupremumCall, IsCoveredAfter}
 use Rattle.curve_running.proofs.LevelSizes.{EachOperand, level_value, line_operand, scan_fits}
-use Rattle.curve_running.proofs.Covers.{no_fall}
+use Rattle.curve_running.proofs.Covers.{no_fall, least_by_cover, covered_by_cover, least_flat, least_from_zero}
 
 -- sizes hold a shorter window
 pub limited_less : (z : Sizes) (end e : ℚ) → AreLimited z end → Whole z.dt e → zero_q ≤ℚ e → e ≤ℚ end → AreLimited z e
@@ -270,3 +272,27 @@ covering_of_curve f start period rise ps k C e V = record {
 
     reads : (t : ℚ) → zero_q ≤ℚ t → t <ℚ start +ℚ period → value_at f t ≡ read ps t
     reads t low h = (first_facts f start period rise C).reads t low h ∙ sym (ap (λ q. read q t) e)
+
+-- ---- the number
+pub record FoundNumber (f : SpecCurve) (start period rise : ℚ) (k : ℕ) : Type 0 where
+  pub least : IsLeast (Meets RunSup f f) k
+  pub covered : IsCoveredAfter f start period rise k
+
+pub found_number : (f : SpecCurve) (start period rise : ℚ) (ps : List Piece) (k : ℕ) → IsSupremumCall f start period rise → ps ≡ f.pieces → zero_q <ℚ rise → IsCovering (read ps) start period rise k
+    → FoundNumber f start period rise k
+found_number f start period rise ps k C e rises V =
+    let W = covering_of_curve f start period rise ps k C e V in
+    let F = first_facts f start period rise C in
+    record {
+      least = least_by_cover f start period rise k C.start_is C.period_is C.rise_is C.some rises F.repeats W;
+      covered = covered_by_cover f start period rise k C.some F.repeats W;
+    }
+
+pub flat_number : (f : SpecCurve) (start period rise : ℚ) → IsSupremumCall f start period rise → rise ≤ℚ zero_q → FoundNumber f start period rise 0
+flat_number f start period rise C low =
+    let F = first_facts f start period rise C in
+    let flat : rise ≡ zero_q = antisym (low, F.rise_low) in
+    record { least = least_flat f (sym (C.rise_is ∙ ap (rise_over f) C.period_is) ∙ flat); covered = inl flat }
+
+pub early_number : (f : SpecCurve) (start period rise : ℚ) → IsSupremumCall f start period rise → start ≤ℚ zero_q → FoundNumber f start period rise 0
+early_number f start period rise C low = record { least = least_from_zero f (subst (λ s. s ≤ℚ zero_q) C.start_is low); covered = inr (inl low) }

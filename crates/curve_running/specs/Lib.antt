@@ -3,3 +3,4 @@ pub mod Bends
 pub mod Made
 pub mod Between
 pub mod Periods
+pub mod Runs
