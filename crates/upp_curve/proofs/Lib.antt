@@ -81,3 +81,6 @@ pub mod ScaledCurves
 pub mod Operands
 pub mod Tallies
 pub mod NormaliseOwn
+pub mod JoinLoops
+pub mod Gentle
+pub mod Joins

@@ -38,3 +38,4 @@ pub mod ClosedOperands
 pub mod Operand
 pub mod Outcome
 pub mod OwnLimits
+pub mod Continuity

@@ -8,6 +8,7 @@ mod cycle;
 mod fitting;
 mod gathered;
 mod gauges;
+mod jumps;
 mod kind_laws;
 mod known;
 mod laws;
@@ -33,6 +34,7 @@ mod tests;
 mod two_periods;
 
 pub use curve::{Curve, Tail, equal};
+pub use jumps::is_continuous;
 pub use kind_laws::kinds_are_curves;
 pub use laws::{
     bucket_deviations, deviations_are_unique, normal_form_is_unique, worked_kinds,
