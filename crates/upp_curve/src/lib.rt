@@ -11,6 +11,7 @@ mod fitting;
 mod gathered;
 mod gauges;
 mod given;
+mod jumps;
 mod kind_laws;
 mod known;
 mod laws;
@@ -42,6 +43,7 @@ mod unrolling;
 pub use ahead::{Stretch, stretch_at};
 pub use call_sizes::{CallNumbers, call_numbers};
 pub use curve::{Curve, Tail, equal};
+pub use jumps::is_continuous;
 pub use kind_laws::kinds_are_curves;
 pub use laws::{
     bucket_deviations, deviations_are_unique, normal_form_is_unique, worked_kinds,
