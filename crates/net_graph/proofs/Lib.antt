@@ -1,0 +1,10 @@
+pub mod Members
+pub mod OneOrders
+pub mod Forward
+pub mod Returns
+pub mod Chains
+pub mod Rings
+pub mod ListSets
+pub mod PathSteps
+pub mod LoopBacks
+pub mod Losses

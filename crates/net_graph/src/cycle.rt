@@ -1,0 +1,80 @@
+//! A cycle among servers that all wait.
+
+ghost use Rattle.std.specs.Prelude.{◌≡◌, ◌<◌, ◌-◌, length, Some, IfOk, slice_get};
+ghost use Rattle.net_model.specs.Walks.{IsRing};
+ghost use Rattle.net_graph.specs.Waits.{lists_of};
+ghost use Rattle.net_graph.specs.Loops.{FindsPlace, IsAwaited, IsFromLeast, IsLeastPlace, IsLoopBack, IsTrap};
+
+use std::alloc::{AllocError, Global};
+
+fn place_in(servers: &[u32], server: u32) -> Option<usize>
+    ensures { FindsPlace servers.now server result }
+{
+    servers.iter().position(|s| *s == server)
+}
+
+fn last_of(list: &[u32]) -> u32
+    requires { 0 < length list.now }
+    ensures { slice_get list.now (length list.now - 1) ≡ Some result }
+{
+    list[list.len() - 1]
+}
+
+// From a server to one that it waits for, until one comes again: the servers from that one on.
+fn loop_back(
+    alloc: Global,
+    before: &[Vec<u32>],
+    start: u32,
+) -> Result<Vec<u32>, AllocError>
+    requires { IsTrap (lists_of before.now) start }
+    ensures { IfOk result (λ v. IsLoopBack (lists_of before.now) v.items) }
+{
+    let mut seen = Vec::new(alloc);
+    let mut at = start;
+    loop {
+        if let Some(place) = place_in(&seen, at) {
+            return Vec::from_slice(alloc, &seen[place..]);
+        }
+        seen.push(at)?;
+        at = last_of(&before[at as usize]);
+    }
+}
+
+fn place_of_least(servers: &[u32]) -> usize
+    requires { 0 < length servers.now }
+    ensures { IsLeastPlace servers.now result }
+{
+    let mut least = 0;
+    for place in 1..servers.len() {
+        if servers[place] < servers[least] {
+            least = place;
+        }
+    }
+    least
+}
+
+// The other way round, from the least server on.
+fn from_least(alloc: Global, servers: &[u32]) -> Result<Vec<u32>, AllocError>
+    requires { 0 < length servers.now }
+    ensures { IfOk result (λ v. IsFromLeast servers.now v.items) }
+{
+    let least = place_of_least(servers);
+    let mut walk = Vec::with_capacity(alloc, servers.len() + 1)?;
+    walk.extend_from_slice(&servers[least..])?;
+    walk.extend_from_slice(&servers[..least + 1])?;
+    walk.reverse();
+    Ok(walk)
+}
+
+// A cycle among servers each of which waits for another one of them.
+pub(crate) fn cycle_from(
+    alloc: Global,
+    before: &[Vec<u32>],
+    start: u32,
+) -> Result<Vec<u32>, AllocError>
+    requires { IsTrap (lists_of before.now) start }
+    ensures { IfOk result (λ v. IsRing (IsAwaited (lists_of before.now)) v.items) }
+{
+    let servers = loop_back(alloc, before, start)?;
+    from_least(alloc, &servers)
+}

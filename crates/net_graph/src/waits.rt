@@ -1,0 +1,52 @@
+//! For each server the servers that some flow passes right before it.
+
+ghost use Rattle.std.specs.Prelude.{◌≡◌, ◌<◌, ◌-◌, length, All, Contains, IsSome, Some, IfOk, OnOk, IfSome, IfNone, slice_get, slice_index_or};
+ghost use Rattle.net_model.specs.Walks.{IsNext};
+ghost use Rattle.net_graph.specs.Waits.{lists_of, list_at, AreBelow, AddsSteps, AllLosePlaced, AreBusy, IsFirstIdle, IsWaiting, LosesPlaced, IsFree};
+
+use net_model::Network;
+use std::alloc::{AllocError, Global};
+
+// At the end of each step of a path, where it came from.
+pub(crate) fn add_path(before: &mut Vec<Vec<u32>>, path: &[u32]) -> Result<(), AllocError>
+    requires { All (λ s. s < length before.old.items) path.now }
+    ensures { OnOk result (AddsSteps (lists_of before.old.items) (lists_of before.new.items) path.now) }
+{
+    for hop in 1..path.len() {
+        let from = path[hop - 1];
+        let to = path[hop] as usize;
+        before[to].push(from)?;
+    }
+    Ok(())
+}
+
+// Takes placed servers off the end of a list, and says whether one is left.
+fn still_waits(list: &mut Vec<u32>, is_placed: &[bool]) -> bool
+    requires { All (λ s. s < length is_placed.now) list.old.items }
+    ensures lost { LosesPlaced is_placed.now list.old.items list.new.items }
+    ensures waits { IsWaiting is_placed.now list.new.items result }
+{
+    while let Some(last) = list.last().copied() {
+        if !is_placed[last as usize] {
+            return true;
+        }
+        let _ = list.pop();
+    }
+    false
+}
+
+// The first server that is not placed and waits for none.
+pub(crate) fn first_idle(before: &mut Vec<Vec<u32>>, is_placed: &[bool]) -> Option<usize>
+    requires length { length is_placed.now ≡ length before.old.items }
+    requires below { AreBelow (length is_placed.now) (lists_of before.old.items) }
+    ensures lost { AllLosePlaced is_placed.now (lists_of before.old.items) (lists_of before.new.items) }
+    ensures idle { IfSome result (IsFirstIdle is_placed.now (lists_of before.new.items)) }
+    ensures busy { IfNone result (AreBusy is_placed.now (lists_of before.new.items) (length is_placed.now)) }
+{
+    for server in 0..is_placed.len() {
+        if !is_placed[server] && !still_waits(&mut before[server], is_placed) {
+            return Some(server);
+        }
+    }
+    None
+}
