@@ -1,5 +1,5 @@
 -- Chains: taken apart, put together, turned round, and begun elsewhere.
-use Rattle.std.proofs.Common.{◌≡◌, ℕ, suc, List, [], ◌∷◌, ◌++◌, reverse, get_or, refl, sym, ◌∙◌, ap, subst, append_assoc}
+use Rattle.std.proofs.Common.{ℕ, List, [], ◌∷◌, ◌++◌, reverse, get_or, sym, subst, append_assoc}
 use Rattle.std.proofs.lemmas.List.{append-nil, reverse-append}
 use Rattle.net_model.specs.Walks.{Chain}
 

@@ -1,18 +1,16 @@
 -- In an order each server stands once, and after those that some flow passes right before it.
-use Rattle.std.proofs.Common.{◌≡◌, ◌≢◌, ℕ, suc, ◌<◌, ◌≤◌, ◌+◌, List, [], ◌∷◌, ◌++◌, length, get_or, take, refl, sym, ◌∙◌, ap, subst, arith, ◌⊎◌, inl, inr, Bool, true, false, nat_eq, eqb-true}
+use Rattle.std.proofs.Common.{◌≡◌, ℕ, ◌<◌, ◌≤◌, ◌+◌, List, [], ◌∷◌, ◌++◌, length, get_or, take, refl, ◌∙◌, subst, arith, inl, inr, Bool, true, false, nat_eq, eqb-true}
 use Rattle.std.specs.Prelude.{Contains, All}
 use Rattle.std.specs.List.{IsDistinct, list_any}
-use Rattle.std.proofs.lemmas.List.{length-take-le, get_or_default}
+use Rattle.std.proofs.lemmas.List.{get_or_default}
 use Rattle.std.proofs.lemmas.Map.Keys.{IsDistinct-from_apart, IsDistinct-push}
 use Rattle.std.proofs.lemmas.Map.Steps.{length-le_from_distinct_below}
 use Rattle.std.proofs.lemmas.Cmp.{nat_eq_equiv}
 use Rattle.std.proofs.lemmas.List.{length-append}
-use Rattle.upp_curve.specs.Windows.{IsLeast}
 use Rattle.net_model.specs.Networks.{Net}
-use Rattle.net_model.specs.Walks.{IsNext}
 use Rattle.net_model.specs.Orders.{IsReady, IsOrder}
-use Rattle.net_graph.specs.OrderLaws.{IsArrangement, OrderHasEachServer, OrderGoesForward}
-use Rattle.net_graph.proofs.Members.{Stands, at_place, place_of, is_member, no_member, member, pushed, before_place}
+use Rattle.net_graph.specs.OrderLaws.{OrderHasEachServer, OrderGoesForward}
+use Rattle.net_graph.proofs.Members.{Stands, place_of, is_member, no_member, member, pushed, before_place}
 
 -- the server at a place was ready there
 pub ready_at : (net : Net) (xs : List ℕ) (k : ℕ) → IsOrder net xs → k < length xs → IsReady net (take k xs) (get_or xs k 0)
@@ -31,7 +29,7 @@ apart net xs o i j d before h = differ (nat_eq (get_or xs i d) (get_or xs j d)) 
     differ true e =
         let within : i < length xs = omega arith in
         let same : get_or xs i 0 ≡ get_or xs j 0 =
-            get_or_default xs i 0 d within ∙ eqb-true _ _ e ∙ get_or_default xs j d 0 h in
+        get_or_default xs i 0 d within ∙ eqb-true _ _ e ∙ get_or_default xs j d 0 h in
         let early : j ≤ length xs = omega arith in
         absurd ((ready_at net xs j o h).free (before_place xs i j (get_or xs j 0) before early same))
 

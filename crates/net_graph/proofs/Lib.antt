@@ -8,3 +8,5 @@ pub mod ListSets
 pub mod PathSteps
 pub mod LoopBacks
 pub mod Losses
+pub mod Turns
+pub mod FlowSteps

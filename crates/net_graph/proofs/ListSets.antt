@@ -1,9 +1,8 @@
 -- Lists of lists: one of them is changed.
-use Rattle.std.proofs.Common.{◌≡◌, ◌≢◌, ℕ, suc, ◌<◌, ◌≤◌, ◌+◌, ◌-◌, List, [], ◌∷◌, ◌++◌, length, get_or, set, take, refl, sym, ◌∙◌, ap, subst, arith, ◌⊎◌, inl, inr, Bool, get_or-set_same, get_or-set_other}
-use Rattle.std.specs.Prelude.{Contains}
+use Rattle.std.proofs.Common.{◌≡◌, ◌≢◌, ℕ, ◌<◌, List, [], length, get_or, set, sym, ◌∙◌, ap, subst, inl, inr, get_or-set_same, get_or-set_other}
 use Rattle.std.specs.declared.vec.Vec.{Vec}
 use Rattle.std.proofs.lemmas.Bool.{cases_eq}
-use Rattle.std.proofs.lemmas.List.{map-set, get_or-map, length-set, length-map}
+use Rattle.std.proofs.lemmas.List.{map-set, get_or-map}
 use Rattle.net_graph.specs.Waits.{lists_of, list_at}
 
 pub lists_set : {Z : Type 0} (vs : List (Vec ℕ Z)) (i : ℕ) (w : Vec ℕ Z) → lists_of (set vs i w) ≡ set (lists_of vs) i w.items
@@ -24,8 +23,8 @@ pub each_after_set : (P : ℕ → List ℕ → Type 0) (lists : List (List ℕ))
 each_after_set P lists i xs h new others j =
     let Q : List ℕ → Type 0 = λ l. P j l in
     elim (cases_eq j i) [
-      inl e ↦ let S : ℕ → Type 0 = λ k. P k (list_at (set lists i xs) k) in
-              let R : List ℕ → Type 0 = λ l. P i l in
-              subst S (sym e) (subst R (sym (set_at lists i xs h)) new)
-    | inr e ↦ subst Q (sym (set_elsewhere lists i j xs e)) (others j e)
+      | inl e ↦ let S : ℕ → Type 0 = λ k. P k (list_at (set lists i xs) k) in
+          let R : List ℕ → Type 0 = λ l. P i l in
+          subst S (sym e) (subst R (sym (set_at lists i xs h)) new)
+      | inr e ↦ subst Q (sym (set_elsewhere lists i j xs e)) (others j e)
     ]

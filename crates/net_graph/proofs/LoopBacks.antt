@@ -1,16 +1,16 @@
 -- A walk backwards among servers each of which waits for another one of them.
-use Rattle.std.proofs.Common.{◌≡◌, ℕ, zero, suc, ◌<◌, ◌≤◌, ◌+◌, ◌-◌, List, [], ◌∷◌, ◌++◌, length, get_or, take, drop, refl, sym, ◌∙◌, ap, subst, arith, ◌⊎◌, inl, inr, Bool, true, false, Option, Some, None, nat_eq, append_assoc, length-append, length-drop, take-append-drop}
+use Rattle.std.proofs.Common.{◌≡◌, ℕ, zero, suc, ◌<◌, ◌+◌, ◌-◌, List, [], ◌∷◌, ◌++◌, length, get_or, take, drop, sym, ◌∙◌, ap, subst, arith, inl, inr, Bool, true, Some, nat_eq, append_assoc, length-append, length-drop, take-append-drop}
 use Rattle.std.specs.Prelude.{All, Contains, slice_get}
 use Rattle.std.specs.List.{IsDistinct, list_any}
 use Rattle.std.proofs.lemmas.List.{drop_more, get_or_default}
 use Rattle.std.proofs.lemmas.Cmp.{nat_eq_equiv}
-use Rattle.std.proofs.lemmas.Option.{slice_get_within, get_or_from_slice_get}
+use Rattle.std.proofs.lemmas.Option.{slice_get_within}
 use Rattle.std.proofs.lemmas.Map.Keys.{IsDistinct-push, IsDistinct-tail}
 use Rattle.std.proofs.lemmas.Map.Steps.{length-le_from_distinct_below}
 use Rattle.net_model.specs.Walks.{Chain, IsRing}
 use Rattle.net_graph.specs.Waits.{list_at}
 use Rattle.net_graph.specs.Loops.{IsAwaited, WaitsFor, LastIsInside, IsTrap, IsLoopBack, IsFromLeast}
-use Rattle.net_graph.proofs.Members.{Stands, at_place, place_of, is_member, no_member, pushed, last_member, all_contains}
+use Rattle.net_graph.proofs.Members.{is_member, no_member, pushed, last_member, all_contains}
 use Rattle.net_graph.proofs.Chains.{joined, rest_of}
 use Rattle.net_graph.proofs.Rings.{ring_at}
 
@@ -46,8 +46,8 @@ has_last lists seen at w =
 inside_of : (lists : List (List ℕ)) (seen : List ℕ) (at : ℕ) → (w : Walked lists seen at) → (q : ℕ) → Contains (seen ++ at ∷ []) q → w.inside q ≡ true
 inside_of lists seen at w q c =
     elim (pushed seen at q c) [
-      inl m ↦ all_contains (λ s. w.inside s ≡ true) seen q w.passed m
-    | inr e ↦ ap w.inside e ∙ w.here
+      | inl m ↦ all_contains (λ s. w.inside s ≡ true) seen q w.passed m
+      | inr e ↦ ap w.inside e ∙ w.here
     ]
 
 pub goes_on : (lists : List (List ℕ)) (seen : List ℕ) (at next : ℕ) → Walked lists seen at → ¬ (Contains seen at)
@@ -70,7 +70,7 @@ goes_on lists seen at next w new is =
 pub leaves_room : (lists : List (List ℕ)) (seen : List ℕ) (at : ℕ) → Walked lists seen at → ¬ (Contains seen at) → length seen < length lists
 leaves_room lists seen at w new =
     let below : (q : ℕ) → list_any (nat_eq q) (seen ++ at ∷ []) ≡ true → q < length lists =
-        λ q m. (w.lasts q (inside_of lists seen at w q (is_member (seen ++ at ∷ []) q m))).listed in
+    λ q m. (w.lasts q (inside_of lists seen at w q (is_member (seen ++ at ∷ []) q m))).listed in
     let few = length-le_from_distinct_below (seen ++ at ∷ []) (length lists) (IsDistinct-push nat_eq_equiv seen at w.once (no_member seen at new)) below in
     let count = length-append seen (at ∷ []) in
     omega (arith, few, count)
@@ -88,8 +88,8 @@ comes_back lists seen at place w within is =
     let P : List ℕ → Type 0 = λ zs. Chain (WaitsFor lists) zs in
     let Q : List ℕ → Type 0 = λ zs. Chain (WaitsFor lists) (zs ++ get_or zs 0 0 ∷ []) in
     let whole : seen ++ at ∷ [] ≡ take place seen ++ at ∷ (rest ++ at ∷ []) =
-        ap (λ zs. zs ++ at ∷ []) (sym (take-append-drop place seen) ∙ ap (λ zs. take place seen ++ zs) shape)
-        ∙ append_assoc (take place seen) (at ∷ rest) (at ∷ []) in
+    ap (λ zs. zs ++ at ∷ []) (sym (take-append-drop place seen) ∙ ap (λ zs. take place seen ++ zs) shape)
+    ∙ append_assoc (take place seen) (at ∷ rest) (at ∷ []) in
     record {
       some = let count = length-drop place seen in omega (arith, within, count);
       waits = subst Q (sym shape) (rest_of (WaitsFor lists) (take place seen) at (rest ++ at ∷ []) (subst P whole w.waits));

@@ -1,19 +1,14 @@
 -- Lists lose placed servers at their end, and which servers then wait for a free one.
-use Rattle.std.proofs.Common.{◌≡◌, ◌≢◌, ℕ, zero, suc, ◌<◌, ◌≤◌, ◌+◌, ◌-◌, List, [], ◌∷◌, ◌++◌, length, get_or, set, take, refl, sym, ◌∙◌, ap, subst, arith, ◌⊎◌, inl, inr, Bool, true, false, Option, Some, None}
+use Rattle.std.proofs.Common.{◌≡◌, ℕ, ◌<◌, ◌+◌, ◌-◌, List, [], ◌∷◌, ◌++◌, length, get_or, set, refl, sym, ◌∙◌, ap, subst, arith, ◌⊎◌, inl, inr, Bool, true, false, Option, Some, None}
 use Rattle.std.specs.Prelude.{Contains, slice_get}
 use Rattle.std.specs.Option.{option_to_list}
 use Rattle.std.specs.declared.vec.Vec.{Vec}
 use Rattle.std.proofs.lemmas.Bool.{cases_eq, cases_lt}
-use Rattle.std.proofs.lemmas.List.{append-nil, length-append, length-set, length-map, get_or_at, get_or_default}
+use Rattle.std.proofs.lemmas.List.{append-nil, length-append, length-set, length-map, get_or_at, get_or_default, get_or_past}
 use Rattle.std.proofs.lemmas.Option.{get_or_from_slice_get}
 use Rattle.net_graph.specs.Waits.{lists_of, list_at, LosesPlaced, AllLosePlaced, AreBusy, IsPlaced, IsFree, EndsFree, IsFirstIdle}
 use Rattle.net_graph.proofs.Members.{kept_left, pushed}
 use Rattle.net_graph.proofs.ListSets.{lists_set, list_of, set_at, each_after_set}
-
-get_or_past : (placed : List Bool) (s : ℕ) (d : Bool) → length placed ≤ s → get_or placed s d ≡ d
-get_or_past [] s d h = refl
-get_or_past (p ∷ ps) zero d h = absurd (omega (arith, h))
-get_or_past (p ∷ ps) (suc s) d h = get_or_past ps s d (omega (arith, h))
 
 -- a test that says placed or free
 pub free_of : (placed : List Bool) (s : ℕ) → s < length placed → get_or placed s false ≡ false → IsFree placed s
@@ -22,8 +17,8 @@ free_of placed s h is = get_or_default placed s true false h ∙ is
 pub not_both : (placed : List Bool) (s : ℕ) → IsPlaced placed s → ¬ (IsFree placed s)
 not_both placed s p f =
     elim (cases_lt s (length placed)) [
-      inl h ↦ let e : true ≡ false = sym p ∙ get_or_default placed s false true h ∙ f in cc
-    | inr h ↦ let e : false ≡ true = sym (get_or_past placed s false h) ∙ p in cc
+      | inl h ↦ let e : true ≡ false = sym p ∙ get_or_default placed s false true h ∙ f in cc
+      | inr h ↦ let e : false ≡ true = sym (get_or_past placed s false h) ∙ p in cc
     ]
 
 -- ---- one list
@@ -85,7 +80,7 @@ set_busy placed now i w h busy new =
     let P : List (List ℕ) → Type 0 = λ ls. AreBusy placed ls (i + 1) in
     subst P (sym (lists_set now i w))
     (λ s below. each_after_set (λ j l. j < i + 1 → IsFree placed j → EndsFree placed l) (lists_of now) i w.items listed
-        (λ m f. new) (λ j e m f. busy j (omega arith) f) s below)
+    (λ m f. new) (λ j e m f. busy j (omega arith) f) s below)
 
 pub set_idle : {Z : Type 0} (placed : List Bool) (now : List (Vec ℕ Z)) (i : ℕ) (w : Vec ℕ Z) → i < length now → AreBusy placed (lists_of now) i
     → IsFree placed i → w.items ≡ [] → IsFirstIdle placed (lists_of (set now i w)) i
@@ -104,6 +99,6 @@ set_idle placed now i w h busy free none =
 pub placed_is_busy : (placed : List Bool) (lists : List (List ℕ)) (i : ℕ) → AreBusy placed lists i → IsPlaced placed i → AreBusy placed lists (i + 1)
 placed_is_busy placed lists i busy p s below free =
     elim (cases_eq s i) [
-      inl e ↦ let P : ℕ → Type 0 = λ k. IsFree placed k in absurd (not_both placed i p (subst P e free))
-    | inr e ↦ busy s (omega arith) free
+      | inl e ↦ let P : ℕ → Type 0 = λ k. IsFree placed k in absurd (not_both placed i p (subst P e free))
+      | inr e ↦ busy s (omega arith) free
     ]

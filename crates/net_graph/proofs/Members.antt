@@ -1,12 +1,11 @@
 -- Elements of a list of numbers, and their places.
-use Rattle.std.proofs.Common.{◌≡◌, ◌≢◌, ℕ, ◌<◌, ◌≤◌, ◌+◌, ◌-◌, List, [], ◌∷◌, ◌++◌, length, get_or, take, refl, sym, ◌∙◌, ap, arith, Bool, true, false, ◌⊎◌, inl, inr, nat_eq, get_or-take, length-append}
+use Rattle.std.proofs.Common.{◌≡◌, ℕ, ◌<◌, ◌≤◌, ◌-◌, List, [], ◌∷◌, ◌++◌, length, get_or, take, refl, sym, ◌∙◌, arith, Bool, true, false, ◌⊎◌, inl, inr, nat_eq, get_or-take, length-append}
 use Rattle.std.specs.Prelude.{Contains, All, Some, slice_get}
 use Rattle.std.proofs.Common.{subst}
 use Rattle.std.proofs.lemmas.Option.{slice_get_within, get_or_from_slice_get}
-use Rattle.std.specs.List.{list_any, IsDistinct}
-use Rattle.std.proofs.lemmas.List.{get_or_default, length-take-le, get_or_at, get_or_append_left, get_or-append_right}
+use Rattle.std.specs.List.{list_any}
+use Rattle.std.proofs.lemmas.List.{get_or_default, length-take-le, get_or_at, get_or_append_left}
 use Rattle.std.proofs.lemmas.Bool.{cases_lt}
-use Rattle.std.proofs.lemmas.Map.Keys.{apart_from_distinct, IsDistinct-push}
 use Rattle.std.proofs.lemmas.Map.Views.{Contains-from_any, list_any-from_Contains}
 use Rattle.std.proofs.lemmas.Cmp.{nat_eq_equiv}
 use Rattle.std.proofs.Common.{eqb-true}
@@ -45,26 +44,24 @@ member xs x = cases (list_any (nat_eq x) xs) refl
     cases false h = inr (none_of xs x h)
 
 -- ---- lists that grow
-pub kept_left : (xs ys : List ℕ) (x : ℕ) → Contains xs x → Contains (xs ++ ys) x
+pub kept_left : {X : Type 0} (xs ys : List X) (x : X) → Contains xs x → Contains (xs ++ ys) x
 kept_left xs ys x c =
-    let s = place_of xs x c in
-    let within : s.place < length (xs ++ ys) = rw length-append (omega (arith, s.within)) in
-    at_place (xs ++ ys) s.place x within (get_or_append_left xs ys 0 s.place s.within ∙ s.is)
+    let count = length-append xs ys in
+    (c.0, omega (arith, c.1, count), get_or_append_left xs ys x c.0 c.1 ∙ c.2)
 
-pub kept_last : (xs : List ℕ) (x : ℕ) → Contains (xs ++ x ∷ []) x
+pub kept_last : {X : Type 0} (xs : List X) (x : X) → Contains (xs ++ x ∷ []) x
 kept_last xs x =
-    let within : length xs < length (xs ++ x ∷ []) = rw length-append (omega arith) in
-    at_place (xs ++ x ∷ []) (length xs) x within (get_or_at xs x [] 0 (length xs) refl)
+    let count = length-append xs (x ∷ []) in
+    (length xs, omega (arith, count), get_or_at xs x [] x (length xs) refl)
 
-pub pushed : (xs : List ℕ) (x y : ℕ) → Contains (xs ++ x ∷ []) y → Contains xs y ⊎ (y ≡ x)
+pub pushed : {X : Type 0} (xs : List X) (x y : X) → Contains (xs ++ x ∷ []) y → Contains xs y ⊎ (y ≡ x)
 pushed xs x y c =
-    let s = place_of (xs ++ x ∷ []) y c in
-    elim (cases_lt s.place (length xs)) [
-      inl l ↦ inl (at_place xs s.place y l (sym (get_or_append_left xs (x ∷ []) 0 s.place l) ∙ s.is))
-    | inr l ↦
-        let most : s.place < length xs + 1 = rw (← length-append xs (x ∷ [])) s.within in
-        let last : length xs ≡ s.place = omega arith in
-        inr (sym s.is ∙ get_or_at xs x [] 0 s.place last)
+    elim (cases_lt c.0 (length xs)) [
+      | inl l ↦ inl (c.0, l, sym (get_or_append_left xs (x ∷ []) y c.0 l) ∙ c.2)
+      | inr l ↦
+          let count = length-append xs (x ∷ []) in
+          let last : length xs ≡ c.0 = omega (arith, l, c.1, count) in
+          inr (sym c.2 ∙ get_or_at xs x [] y c.0 last)
     ]
 
 -- an element before a place, by its own place

@@ -1,5 +1,5 @@
 -- A network has one order at most.
-use Rattle.std.proofs.Common.{◌≡◌, ℕ, suc, zero, ◌<◌, ◌≤◌, ◌+◌, List, [], ◌∷◌, ◌++◌, length, get_or, take, refl, sym, ◌∙◌, ap, subst, arith, ◌⊎◌, inl, inr, add-one}
+use Rattle.std.proofs.Common.{◌≡◌, ℕ, suc, zero, ◌<◌, ◌≤◌, ◌+◌, List, [], ◌∷◌, ◌++◌, length, get_or, take, refl, sym, ◌∙◌, ap, subst, arith, add-one}
 use Rattle.std.proofs.lemmas.List.{take_all, take_more}
 use Rattle.upp_curve.specs.Windows.{IsLeast}
 use Rattle.net_model.specs.Networks.{Net}
@@ -21,9 +21,9 @@ same_front net xs ys a b (suc n) h =
     let front = same_front net xs ys a b n before in
     let P : List ℕ → Type 0 = λ zs. IsLeast (IsReady net zs) (get_or ys n 0) in
     let same : get_or xs n 0 ≡ get_or ys n 0 =
-        one_least (IsReady net (take n xs)) (get_or xs n 0) (get_or ys n 0) (a.each n of_xs) (subst P (sym front) (b.each n of_ys)) in
+    one_least (IsReady net (take n xs)) (get_or xs n 0) (get_or ys n 0) (a.each n of_xs) (subst P (sym front) (b.each n of_ys)) in
     let step : take (n + 1) xs ≡ take (n + 1) ys =
-        take_more xs n 0 of_xs ∙ ap (λ zs. zs ++ get_or xs n 0 ∷ []) front ∙ ap (λ z. take n ys ++ z ∷ []) same ∙ sym (take_more ys n 0 of_ys) in
+    take_more xs n 0 of_xs ∙ ap (λ zs. zs ++ get_or xs n 0 ∷ []) front ∙ ap (λ z. take n ys ++ z ∷ []) same ∙ sym (take_more ys n 0 of_ys) in
     rw (← add-one) step
 
 pub one_order : OneOrder

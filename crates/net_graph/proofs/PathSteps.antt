@@ -1,8 +1,8 @@
 -- The steps of a path, one hop after the other.
-use Rattle.std.proofs.Common.{◌≡◌, ◌≢◌, ℕ, suc, ◌<◌, ◌≤◌, ◌+◌, ◌-◌, List, [], ◌∷◌, ◌++◌, length, get_or, set, take, refl, sym, ◌∙◌, ap, subst, arith, ◌⊎◌, inl, inr, get_or-take}
+use Rattle.std.proofs.Common.{◌≡◌, ℕ, suc, ◌<◌, ◌≤◌, ◌+◌, ◌-◌, List, [], ◌∷◌, ◌++◌, length, get_or, set, take, sym, ◌∙◌, ap, subst, arith, ◌⊎◌, inl, inr, get_or-take}
 use Rattle.std.specs.Prelude.{Contains}
 use Rattle.std.specs.declared.vec.Vec.{Vec}
-use Rattle.std.proofs.lemmas.Bool.{cases_eq, cases_lt}
+use Rattle.std.proofs.lemmas.Bool.{cases_lt}
 use Rattle.std.proofs.lemmas.List.{length-set, length-take-le, length-map}
 use Rattle.net_model.specs.Walks.{IsStep}
 use Rattle.net_graph.specs.Waits.{lists_of, list_at, AddsSteps}
@@ -43,16 +43,16 @@ step_cases path h a b some within s =
     let from : get_or path s.hop 0 ≡ a = sym (get_or-take (h + 1) path s.hop 0 (omega (arith, s.on_path))) ∙ s.from in
     let to : get_or path (suc s.hop) 0 ≡ b = sym (get_or-take (h + 1) path (suc s.hop) 0 (omega (arith, s.on_path))) ∙ s.to in
     elim (cases_lt (suc s.hop) h) [
-      inl early ↦ inl record {
+      | inl early ↦ inl record {
         hop = s.hop;
         on_path = omega arith;
         from = get_or-take h path s.hop 0 (omega arith) ∙ from;
         to = get_or-take h path (suc s.hop) 0 early ∙ to;
       }
-    | inr late ↦
-        let last : s.hop ≡ h - 1 = omega (arith, s.on_path) in
-        let next : suc s.hop ≡ h = omega (arith, s.on_path) in
-        inr (sym from ∙ ap (λ k. get_or path k 0) last, sym to ∙ ap (λ k. get_or path k 0) next)
+      | inr late ↦
+          let last : s.hop ≡ h - 1 = omega (arith, s.on_path) in
+          let next : suc s.hop ≡ h = omega (arith, s.on_path) in
+          inr (sym from ∙ ap (λ k. get_or path k 0) last, sym to ∙ ap (λ k. get_or path k 0) next)
     ]
 
 more_steps : (old now : List (List ℕ)) (path : List ℕ) (h : ℕ) → 1 ≤ h → h < length path → get_or path h 0 < length now
@@ -89,7 +89,7 @@ more_steps old now path h some within listed so_far = record {
     placed a b e f =
         let P : ℕ → Type 0 = λ x. Contains (list_at (set now to new) b) x in
         subst P (sym e) (each_after_set (λ j l. j ≡ to → Contains l from) now to new listed
-            (λ g. kept_last (list_at now to) from) (λ j g k. absurd (g k)) b f)
+        (λ g. kept_last (list_at now to) from) (λ j g k. absurd (g k)) b f)
 
 -- the same of stored lists
 pub stored_steps : {Z : Type 0} (old : List (List ℕ)) (now : List (Vec ℕ Z)) (v w : Vec ℕ Z) (path : List ℕ) (h : ℕ) → 1 ≤ h
@@ -101,5 +101,5 @@ stored_steps old now v w path h some within listed is pushes so_far =
     let to = get_or path h 0 in
     let has : length (lists_of now) ≡ length now = length-map now (λ x. x.items) in
     let same : set (lists_of now) to (list_at (lists_of now) to ++ get_or path (h - 1) 0 ∷ []) ≡ lists_of (set now to w) =
-        ap (λ l. set (lists_of now) to (l ++ get_or path (h - 1) 0 ∷ [])) (list_of now to v listed is) ∙ ap (λ l. set (lists_of now) to l) (sym pushes) ∙ sym (lists_set now to w) in
+    ap (λ l. set (lists_of now) to (l ++ get_or path (h - 1) 0 ∷ [])) (list_of now to v listed is) ∙ ap (λ l. set (lists_of now) to l) (sym pushes) ∙ sym (lists_set now to w) in
     subst P same (more_steps old (lists_of now) path h some within (omega (arith, has, listed)) so_far)

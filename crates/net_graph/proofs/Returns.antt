@@ -1,13 +1,12 @@
 -- A network with an order has no closed walk.
-use Rattle.std.proofs.Common.{◌≡◌, ℕ, suc, zero, ◌<◌, ◌≤◌, List, [], ◌∷◌, ◌++◌, length, get_or, refl, sym, ◌∙◌, ap, subst, arith, ◌⊎◌, inl, inr}
-use Rattle.std.specs.Prelude.{Contains}
+use Rattle.std.proofs.Common.{◌≡◌, ℕ, suc, zero, ◌<◌, List, [], ◌∷◌, ◌++◌, length, get_or, subst, arith}
 use Rattle.std.proofs.lemmas.Option.{slice_get_within}
 use Rattle.net_model.specs.Networks.{Net}
 use Rattle.net_model.specs.Accepted.{IsAccepted}
-use Rattle.net_model.specs.Walks.{IsNext, Chain, IsClosed, IsRing, IsFeedForward}
+use Rattle.net_model.specs.Walks.{IsNext, Chain, IsFeedForward}
 use Rattle.net_model.specs.Orders.{IsOrder}
 use Rattle.net_graph.specs.OrderLaws.{OrderOrCycle}
-use Rattle.net_graph.proofs.Members.{Stands, place_of, of_front}
+use Rattle.net_graph.proofs.Members.{place_of, of_front}
 use Rattle.net_graph.proofs.Forward.{goes_forward, has_each_server}
 
 -- paths go over servers of the network

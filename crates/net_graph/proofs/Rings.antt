@@ -1,5 +1,5 @@
 -- A loop that was walked backwards, turned round and begun at its least server.
-use Rattle.std.proofs.Common.{◌≡◌, ℕ, zero, suc, ◌<◌, ◌≤◌, ◌+◌, List, [], ◌∷◌, ◌++◌, length, get_or, take, drop, reverse, refl, sym, ◌∙◌, ap, subst, arith, nat_eq, append_assoc}
+use Rattle.std.proofs.Common.{◌≡◌, ℕ, suc, ◌<◌, ◌≤◌, ◌+◌, List, [], ◌∷◌, ◌++◌, length, get_or, take, drop, reverse, sym, ◌∙◌, ap, subst, arith, nat_eq, append_assoc}
 use Rattle.std.specs.Prelude.{All, IsPermutation}
 use Rattle.std.specs.List.{IsDistinct}
 use Rattle.std.proofs.lemmas.List.{reverse-append, drop_more, take_more, take-append-drop}
@@ -43,6 +43,6 @@ ring_at R c k h steps once least =
     let S : List ℕ → Type 0 = λ ws. All (λ s. m ≤ s) ws in
     let T : List ℕ → Type 0 = λ ws. IsRing R (reverse ws) in
     let shape : m ∷ ((drop (k + 1) c ++ take k c) ++ m ∷ []) ≡ drop k c ++ take (k + 1) c =
-        ap (λ ws. m ∷ ws) (append_assoc (drop (k + 1) c) (take k c) (m ∷ [])) ∙ ap (λ ws. ws ++ (take k c ++ m ∷ [])) (sym (drop_more c k 0 h))
-        ∙ ap (λ ws. drop k c ++ ws) (sym (take_more c k 0 h)) in
+    ap (λ ws. m ∷ ws) (append_assoc (drop (k + 1) c) (take k c) (m ∷ [])) ∙ ap (λ ws. ws ++ (take k c ++ m ∷ [])) (sym (drop_more c k 0 h))
+    ∙ ap (λ ws. drop k c ++ ws) (sym (take_more c k 0 h)) in
     subst T shape (ring_from R (take k c) m (drop (k + 1) c) (subst P whole steps) (subst Q whole once) (subst S whole least))

@@ -1,7 +1,8 @@
 -- Which servers a server waits for, as lists, one for each server. (Own choice.)
-use Rattle.std.specs.Prelude.{◌≡◌, ℕ, ◌<◌, ◌-◌, ◌⊎◌, List, [], length, map, take, Contains, Bool, true, false, Some, slice_get, slice_index_or, MatchBool}
+use Rattle.std.specs.Prelude.{◌≡◌, ℕ, ◌<◌, ◌-◌, ◌⊎◌, List, [], length, map, Contains, Bool, true, false, Option, Some, slice_get, slice_index_or, MatchBool}
 use Rattle.std.specs.declared.vec.Vec.{Vec}
-use Rattle.net_model.specs.Walks.{IsStep}
+use Rattle.net_model.specs.Networks.{NetFlow}
+use Rattle.net_model.specs.Walks.{IsStep, IsNextOn}
 
 abbrev pub lists_of : {X Z : Type 0} → List (Vec X Z) → List (List X)
 lists_of = map (λ v. v.items)
@@ -57,3 +58,10 @@ pub record IsFirstIdle (placed : List Bool) (lists : List (List ℕ)) (server : 
   pub free : IsFree placed server
   pub idle : list_at lists server ≡ []
   pub first : AreBusy placed lists server
+
+-- ---- all of it
+-- so many lists, which have for each server those that some of the flows pass right before it
+pub record AreBefore (flows : List (Option NetFlow)) (n : ℕ) (lists : List (List ℕ)) : Type 0 where
+  pub count : length lists ≡ n
+  pub only : (a b : ℕ) → Contains (list_at lists b) a → IsNextOn flows a b
+  pub all : (a b : ℕ) → IsNextOn flows a b → Contains (list_at lists b) a

@@ -1,8 +1,8 @@
 //! A cycle among servers that all wait.
 
-ghost use Rattle.std.specs.Prelude.{◌≡◌, ◌<◌, ◌-◌, length, Some, IfOk, slice_get};
+ghost use Rattle.std.specs.Prelude.{◌≡◌, ℕ, ◌<◌, ◌≤◌, ◌-◌, length, Some, IfOk, MatchOption, slice_get};
 ghost use Rattle.net_model.specs.Walks.{IsRing};
-ghost use Rattle.net_graph.specs.Waits.{lists_of};
+ghost use Rattle.net_graph.specs.Waits.{lists_of, AreBusy, IsFree, IsPlaced};
 ghost use Rattle.net_graph.specs.Loops.{FindsPlace, IsAwaited, IsFromLeast, IsLeastPlace, IsLoopBack, IsTrap};
 
 use std::alloc::{AllocError, Global};
@@ -21,11 +21,7 @@ fn last_of(list: &[u32]) -> u32
 }
 
 // From a server to one that it waits for, until one comes again: the servers from that one on.
-fn loop_back(
-    alloc: Global,
-    before: &[Vec<u32>],
-    start: u32,
-) -> Result<Vec<u32>, AllocError>
+fn loop_back(alloc: Global, before: &[Vec<u32>], start: u32) -> Result<Vec<u32>, AllocError>
     requires { IsTrap (lists_of before.now) start }
     ensures { IfOk result (λ v. IsLoopBack (lists_of before.now) v.items) }
 {
@@ -67,14 +63,34 @@ fn from_least(alloc: Global, servers: &[u32]) -> Result<Vec<u32>, AllocError>
 }
 
 // A cycle among servers each of which waits for another one of them.
-pub(crate) fn cycle_from(
-    alloc: Global,
-    before: &[Vec<u32>],
-    start: u32,
-) -> Result<Vec<u32>, AllocError>
+fn cycle_from(alloc: Global, before: &[Vec<u32>], start: u32) -> Result<Vec<u32>, AllocError>
     requires { IsTrap (lists_of before.now) start }
     ensures { IfOk result (λ v. IsRing (IsAwaited (lists_of before.now)) v.items) }
 {
     let servers = loop_back(alloc, before, start)?;
     from_least(alloc, &servers)
+}
+
+fn first_free(is_placed: &[bool]) -> Option<usize>
+    ensures { MatchOption result ((s : ℕ) → ¬ (IsFree is_placed.now s)) (λ s. IsFree is_placed.now s) }
+{
+    is_placed.iter().position(|placed| !*placed)
+}
+
+// A cycle among servers that are not placed, where each of them waits for one of them.
+pub(crate) fn cycle_of(
+    alloc: Global,
+    before: &[Vec<u32>],
+    is_placed: &[bool],
+) -> Result<Vec<u32>, AllocError>
+    requires length { length before.now ≡ length is_placed.now }
+    requires few { length is_placed.now ≤ 64 }
+    requires busy { AreBusy is_placed.now (lists_of before.now) (length is_placed.now) }
+    requires some { ¬ ((s : ℕ) → s < length is_placed.now → IsPlaced is_placed.now s) }
+    ensures { IfOk result (λ v. IsRing (IsAwaited (lists_of before.now)) v.items) }
+{
+    match first_free(is_placed) {
+        Some(start) => cycle_from(alloc, before, start as u32),
+        None => unreachable!(),
+    }
 }

@@ -5,8 +5,8 @@
 
 mod cycle;
 mod laws;
-mod order;
+mod placing;
 mod waits;
 
 pub use laws::{one_order, order_goes_forward, order_has_each_server, order_or_cycle};
-pub use order::GraphFault;
+pub use placing::{GraphFault, order};

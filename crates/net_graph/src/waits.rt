@@ -1,11 +1,22 @@
 //! For each server the servers that some flow passes right before it.
 
-ghost use Rattle.std.specs.Prelude.{◌≡◌, ◌<◌, ◌-◌, length, All, Contains, IsSome, Some, IfOk, OnOk, IfSome, IfNone, slice_get, slice_index_or};
+ghost use Rattle.std.specs.Prelude.{◌≡◌, [], replicate, ◌<◌, ◌-◌, length, All, Contains, IsSome, Some, IfOk, OnOk, IfSome, IfNone, slice_get, slice_index_or};
 ghost use Rattle.net_model.specs.Walks.{IsNext};
-ghost use Rattle.net_graph.specs.Waits.{lists_of, list_at, AreBelow, AddsSteps, AllLosePlaced, AreBusy, IsFirstIdle, IsWaiting, LosesPlaced, IsFree};
+ghost use Rattle.net_graph.specs.Waits.{lists_of, list_at, AreBelow, AreBefore, AddsSteps, AllLosePlaced, AreBusy, IsFirstIdle, IsWaiting, LosesPlaced, IsFree};
 
 use net_model::Network;
 use std::alloc::{AllocError, Global};
+
+// So many empty lists.
+fn empty_lists(alloc: Global, count: usize) -> Result<Vec<Vec<u32>>, AllocError>
+    ensures { IfOk result (λ v. lists_of v.items ≡ replicate count []) }
+{
+    let mut lists = Vec::with_capacity(alloc, count)?;
+    for _server in 0..count {
+        lists.push(Vec::new(alloc))?;
+    }
+    Ok(lists)
+}
 
 // At the end of each step of a path, where it came from.
 pub(crate) fn add_path(before: &mut Vec<Vec<u32>>, path: &[u32]) -> Result<(), AllocError>
@@ -49,4 +60,17 @@ pub(crate) fn first_idle(before: &mut Vec<Vec<u32>>, is_placed: &[bool]) -> Opti
         }
     }
     None
+}
+
+// For each server those that some live flow passes right before it.
+pub(crate) fn servers_before(alloc: Global, net: &Network) -> Result<Vec<Vec<u32>>, AllocError>
+    ensures { IfOk result (λ v. AreBefore net.now.flows (length net.now.servers) (lists_of v.items)) }
+{
+    let mut before = empty_lists(alloc, net.servers().len())?;
+    for flow in net.flows() {
+        if let Some(f) = flow {
+            add_path(&mut before, &f.path)?;
+        }
+    }
+    Ok(before)
 }

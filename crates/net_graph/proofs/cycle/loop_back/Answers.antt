@@ -1,8 +1,8 @@
-use Rattle.std.proofs.Common.{◌≡◌, ◌<◌, ◌-◌, ℕ, length, get_or, List, [], ◌∷◌, ◌++◌, arith, subst, sym, ◌∙◌, ap, Some, take, drop}
+use Rattle.std.proofs.Common.{◌≡◌, ◌<◌, ◌-◌, ℕ, length, get_or, List, [], ◌∷◌, arith, subst, sym, ◌∙◌, ap, Some, drop}
 use Rattle.std.specs.Prelude.{slice_get, Contains}
 use Rattle.std.proofs.lemmas.List.{length-map, length-append, take_rest}
 use Rattle.std.proofs.lemmas.Result.{IfOk-weaker}
-use Rattle.net_graph.specs.Waits.{lists_of, list_at}
+use Rattle.net_graph.specs.Waits.{lists_of}
 use Rattle.net_graph.specs.Loops.{IsLoopBack}
 use Rattle.net_graph.proofs.ListSets.{list_of}
 use Rattle.net_graph.proofs.LoopBacks.{Walked, no_server_yet, is_listed, has_last, goes_on, leaves_room, comes_back}

@@ -1,4 +1,4 @@
-use Rattle.std.proofs.Common.{◌-◌, vec_len, length}
+use Rattle.std.proofs.Common.{◌-◌, length}
 use Rattle.net_graph.specs.Waits.{lists_of}
 use Rattle.net_graph.proofs.LoopBacks.{Walked}
 use Rattle.net_graph.proofs.cycle.loop_back.Given as goal

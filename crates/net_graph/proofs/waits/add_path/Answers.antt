@@ -1,4 +1,4 @@
-use Rattle.std.proofs.Common.{◌<◌, ℕ, length, get_or, arith}
+use Rattle.std.proofs.Common.{◌<◌, length, get_or, arith}
 use Rattle.std.proofs.lemmas.List.{length-map}
 use Rattle.net_graph.proofs.PathSteps.{stored_steps}
 use Rattle.net_graph.proofs.waits.add_path.Goals as goal

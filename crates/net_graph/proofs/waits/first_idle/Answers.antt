@@ -1,8 +1,8 @@
-use Rattle.std.proofs.Common.{◌≡◌, ◌<◌, ℕ, List, length, get_or, arith, subst, sym, ap, Bool}
+use Rattle.std.proofs.Common.{◌≡◌, ◌<◌, ℕ, List, length, get_or, arith, subst, sym, Bool}
 use Rattle.std.specs.Prelude.{Contains}
 use Rattle.std.specs.declared.vec.Vec.{Vec}
 use Rattle.std.proofs.lemmas.List.{length-map, get_or_default}
-use Rattle.net_graph.specs.Waits.{lists_of, list_at, AllLosePlaced, AreBusy}
+use Rattle.net_graph.specs.Waits.{lists_of, AllLosePlaced}
 use Rattle.net_graph.proofs.ListSets.{list_of}
 use Rattle.net_graph.proofs.Losses.{free_of, set_loses, set_busy, set_idle, placed_is_busy}
 use Rattle.net_graph.proofs.waits.first_idle.Goals as goal
@@ -41,12 +41,12 @@ pub loop-server-preserved : goal.loop-server-preserved
 loop-server-preserved c =
     let here = listed c.args.is_placed.now c.args.before.now.items c.loop-server.before.items c.loop-server.server c.requires.length c.loop-server.invariant.lost c.loop-server-test.true in
     elim c.else-not-is_placed-server.branch [
-      else-not-is_placed-server-via-then-not-is_placed-server+else-not-still_waits w ↦ rw w.before-is record {
+      | else-not-is_placed-server-via-then-not-is_placed-server+else-not-still_waits w ↦ rw w.before-is record {
         lost = set_loses c.args.is_placed.now _ c.loop-server.before.items c.loop-server.server w.index_mut.result.now w.still_waits.new.list here w.index_mut.ensures.value
             c.loop-server.invariant.lost w.still_waits.ensures.lost;
         busy = set_busy c.args.is_placed.now c.loop-server.before.items c.loop-server.server w.still_waits.new.list here c.loop-server.invariant.busy w.if-not-still_waits.ensures.waits;
       }
-    | else-not-is_placed-server-via-else-not-is_placed-server w ↦ rw w.before-is record {
+      | else-not-is_placed-server-via-else-not-is_placed-server w ↦ rw w.before-is record {
         lost = c.loop-server.invariant.lost;
         busy = placed_is_busy c.args.is_placed.now (lists_of c.loop-server.before.items) c.loop-server.server c.loop-server.invariant.busy w.if-not-is_placed-server.false;
       }

@@ -1,4 +1,4 @@
-use Rattle.std.proofs.Common.{◌≡◌, ◌<◌, ◌-◌, ℕ, length, get_or, List, sym, ◌∙◌, ap, Some}
+use Rattle.std.proofs.Common.{◌≡◌, ◌<◌, ◌-◌, ℕ, length, List, sym, ◌∙◌, ap, Some}
 use Rattle.std.specs.Prelude.{slice_get}
 use Rattle.net_graph.proofs.Members.{all_contains, last_member}
 use Rattle.net_graph.proofs.Losses.{free_of, loses_last}
@@ -19,7 +19,7 @@ pub returns-then-not-is_placed-last-clause-waits :
 returns-then-not-is_placed-last-clause-waits c =
     let is = found c.loop-last.list.items c.deref.result.now c.in-Some.last c.deref.ensures.value (sym c.last.ensures.value ∙ sym c.copied.ensures ∙ c.in-Some.is) in
     let within = all_contains (λ s. s < length c.args.is_placed.now) c.args.list.now.items c.in-Some.last c.requires
-        (c.loop-last.invariant.only c.in-Some.last (last_member c.loop-last.list.items c.in-Some.last is)) in
+    (c.loop-last.invariant.only c.in-Some.last (last_member c.loop-last.list.items c.in-Some.last is)) in
     record { last = c.in-Some.last; is = is; free = free_of c.args.is_placed.now c.in-Some.last within c.if-not-is_placed-last.true }
 
 pub loop-last-preserved : goal.loop-last-preserved
