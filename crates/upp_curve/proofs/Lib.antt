@@ -81,3 +81,4 @@ pub mod ScaledCurves
 pub mod Operands
 pub mod Tallies
 pub mod NormaliseOwn
+pub mod UnrolledPieces
