@@ -6,7 +6,8 @@ ghost use Rattle.rational.specs.Extended.{◌<ₑ◌, ◌+ₑ◌};
 ghost use Rattle.affine_segment.specs.Values.{line_at};
 ghost use Rattle.affine_segment.specs.Elements.{IsProper, IsConvolved};
 ghost use Rattle.affine_segment.specs.Segments.{open_of, IsProperSegment, IsThrough, IsCorner};
-ghost use Rattle.affine_segment.specs.WideConvolution.{IsWideConvolution, IsWideThrough, IsWideEnd, IsWideEnds, IsWideCorner, IsWideMoved, IsWideStraight, IsWideBent};
+ghost use Rattle.affine_segment.specs.WideConvolution.{IsWideConvolution, IsWideThrough, IsWideEnd, IsWideEnds};
+ghost use Rattle.affine_segment.specs.WideConvolution.{IsWideCorner, IsWideMoved, IsWideStraight, IsWideBent};
 
 use crate::element::{Element, Joined};
 use crate::line::{Line, value};
@@ -24,10 +25,10 @@ struct Segment {
 
 /// The convolution of two elements: at each time the infimum, over the splits of that time into a time of the one and
 /// a time of the other, of the sum of the two values; infinity where there is no such split. A segment starts before
-/// its end. Of two segments the one of smaller slope comes first. Refused only where one of these steps is: the sum of a
-/// start or end of the one and a start or end of the other; a step of the value of an operand's line at its own start or
-/// end; the sum of two such values, or values of points; for a line of the answer the product of its slope and its start,
-/// and the difference of the value just after its start and that product.
+/// its end. Of two segments the one of smaller slope comes first. Refused only where one of these steps is: the sum of
+/// a start or end of the one and a start or end of the other; a step of the value of an operand's line at its own
+/// start or end; the sum of two such values, or values of points; for a line of the answer the product of its slope
+/// and its start, and the difference of the value just after its start and that product.
 pub fn element_conv(a: &Element, b: &Element) -> Result<Joined, Wide>
     requires left { IsProper a.now }
     requires right { IsProper b.now }

@@ -1,0 +1,4 @@
+pub mod Members
+pub mod Cover
+pub mod Envelopes
+pub mod Windows

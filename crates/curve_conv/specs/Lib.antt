@@ -1,0 +1,3 @@
+pub mod PieceElements
+pub mod Envelopes
+pub mod ConvolutionLaws
