@@ -1,0 +1,5 @@
+pub mod CurveTimes
+pub mod CallTimes
+pub mod CallFits
+pub mod Limited
+pub mod FrameFacts

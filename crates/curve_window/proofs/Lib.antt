@@ -5,3 +5,9 @@ pub mod Mapped
 pub mod Sums
 pub mod MapLoop
 pub mod Results
+pub mod OperandWindows
+pub mod LinesLie
+pub mod MadeLoop
+pub mod MadeReads
+pub mod MadeStands
+pub mod MadeWindows

@@ -1,5 +1,5 @@
 -- The pieces of a sum read as the sum.
-use Rattle.std.specs.Prelude.{◌≡◌, ◌+◌, ◌≤◌, pos, List, length, Option, Some, None}
+use Rattle.std.specs.Prelude.{◌≡◌, ◌+◌, ◌≤◌, pos, List, [], ◌∷◌, length, Option, Some, None}
 use Rattle.std.proofs.Common.{arith, ap, ap₂, ◌∙◌, refl, inl, inr, sym}
 use Rattle.rational.specs.Rational.{ℚ, ◌+ℚ◌, ◌*ℚ◌, ◌≤ℚ◌, int}
 use Rattle.rational.specs.Extended.{Ext, ◌+ₑ◌}
@@ -12,9 +12,10 @@ use Rattle.affine_segment.specs.declared.line.Line.{Line}
 use Rattle.affine_segment.specs.declared.line.Piece.{Piece}
 use Rattle.affine_segment.specs.Values.{line_value}
 use Rattle.upp_curve.specs.Reading.{read, piece_value}
+use Rattle.upp_curve.specs.Normal.{Each}
 use Rattle.curve_window.specs.declared.stretch.Both.{Both}
-use Rattle.curve_window.specs.Stretches.{IsBothOf, IsOverlay, EachBoth}
-use Rattle.curve_window.specs.Pointwise.{mapped, sum_line, sum_piece, StretchSumFits, SumsFit, IsWindowSum}
+use Rattle.curve_window.specs.Stretches.{IsBothOf, IsOverlay, EachBoth, line_in}
+use Rattle.curve_window.specs.Pointwise.{mapped, sum_line, sum_piece, StretchSumFits, SumsFit, IsSumPiece, IsWindowSum}
 use Rattle.curve_window.proofs.Mapped.{pointwise, starts_mapped, length_mapped, each_map}
 
 sum_line_value : (a b : Option Line) (t : ℚ) → line_value (sum_line a b) t ≡ line_value a t +ₑ line_value b t
@@ -36,9 +37,22 @@ sum_value f g b t h = elim (le_or_lt t b.left.x) [
 pub stretches_fit : (f g : List Piece) (bs : List Both) → SumsFit f g → IsOverlay f g bs → EachBoth StretchSumFits bs
 stretches_fit f g bs fit O = each_map (IsBothOf f g) StretchSumFits bs fit O.each
 
+-- each piece
+sum_piece_of : (f g : List Piece) (b : Both) → IsBothOf f g b → IsSumPiece f g (sum_piece b)
+sum_piece_of f g b B = record {
+  start = B.start;
+  at = ap₂ (λ v w. v +ₑ w) B.left.at (B.right.at ∙ ap (read g) (sym B.together));
+  line = ap₂ sum_line B.left.line (B.right.line ∙ ap (line_in g) (sym B.together));
+}
+
+sum_pieces_of : (f g : List Piece) (bs : List Both) → EachBoth (IsBothOf f g) bs → Each (IsSumPiece f g) (mapped sum_piece bs)
+sum_pieces_of f g [] h = tt
+sum_pieces_of f g (b ∷ bs) h = (sum_piece_of f g b h.0, sum_pieces_of f g bs h.1)
+
 pub sum_is : (f g : List Piece) (bs : List Both) (ps : List Piece) → IsOverlay f g bs → ps ≡ mapped sum_piece bs → IsWindowSum f g ps
 sum_is f g bs ps O e = rw e record {
   starts = starts_mapped sum_piece bs (λ b. refl) O.starts;
   reads = pointwise (λ x y z. z ≡ x +ₑ y) sum_piece f g bs O (λ b. refl) (sum_value f g);
+  each = sum_pieces_of f g bs O.each;
   count = let n = length_mapped sum_piece bs in let c = O.count in omega arith;
 }

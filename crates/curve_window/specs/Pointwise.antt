@@ -1,5 +1,5 @@
 -- Pieces made of stretches, one of each: of a sum, and of a difference.
-use Rattle.std.specs.Prelude.{◌≡◌, ◌+◌, ◌≤◌, pos, length, List, [], ◌∷◌, Option, Some, None}
+use Rattle.std.specs.Prelude.{◌≡◌, ◌+◌, ◌≤◌, pos, length, List, [], ◌∷◌, Option, Some, None, ◌⊎◌}
 use Rattle.rational.specs.Rational.{ℚ, ◌+ℚ◌, ◌≤ℚ◌, int}
 use Rattle.rational.specs.Ratio.{SumFits}
 use Rattle.rational.specs.Extended.{Ext, ◌+ₑ◌}
@@ -7,9 +7,9 @@ use Rattle.rational.specs.declared.Extended.TheVariants.{Fin, Inf}
 use Rattle.affine_segment.specs.declared.line.Line.{Line}
 use Rattle.affine_segment.specs.declared.line.Piece.{Piece}
 use Rattle.upp_curve.specs.Reading.{read}
-use Rattle.upp_curve.specs.Normal.{StartsAtZero}
+use Rattle.upp_curve.specs.Normal.{Each, HasStart, StartsAtZero}
 use Rattle.curve_window.specs.declared.stretch.Both.{Both}
-use Rattle.curve_window.specs.Stretches.{IsBothOf}
+use Rattle.curve_window.specs.Stretches.{IsBothOf, line_in}
 
 -- one piece of each stretch
 abbrev pub mapped : (Both → Piece) → List Both → List Piece
@@ -44,8 +44,15 @@ pub record StretchSumFits (b : Both) : Type 0 where
 abbrev pub SumsFit : List Piece → List Piece → Type 0
 SumsFit f g = (b : Both) → IsBothOf f g b → StretchSumFits b
 
+-- a piece of the sum: it starts where a piece of f or of g does, with the sums of their values and of their lines there
+pub record IsSumPiece (f g : List Piece) (p : Piece) : Type 0 where
+  pub start : HasStart p.x f ⊎ HasStart p.x g
+  pub at : p.at ≡ read f p.x +ₑ read g p.x
+  pub line : p.line ≡ sum_line (line_in f p.x) (line_in g p.x)
+
 -- pieces from 0 on that read as the sum, no more than both have
 pub record IsWindowSum (f g ps : List Piece) : Type 0 where
   pub starts : StartsAtZero ps
   pub reads : (t : ℚ) → int (pos 0) ≤ℚ t → read ps t ≡ read f t +ₑ read g t
+  pub each : Each (IsSumPiece f g) ps
   pub count : length ps ≤ length f + length g

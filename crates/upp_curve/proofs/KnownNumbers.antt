@@ -89,7 +89,7 @@ risen_is v y = with2 v y (λ c. omega (arith, c.le, c.lt, c.same))
 two_ones : (v : ℚ) → int (pos 1) *ℚ v +ℚ int (pos 1) *ℚ v ≡ int (pos 2) *ℚ v
 two_ones v = with1 v (λ c. omega (arith, c.le, c.lt, c.same))
 
-value_rises : (z : Sizes) (end : ℚ) (v : Ext) (n rise : ℚ) → AreSizes z end → IsNarrow z (2 ^ 122) → ValueStands z v → ValueStands z (v +ₑ Fin (n *ℚ rise)) → ValueRises v n rise
+pub value_rises : (z : Sizes) (end : ℚ) (v : Ext) (n rise : ℚ) → AreSizes z end → IsNarrow z (2 ^ 122) → ValueStands z v → ValueStands z (v +ₑ Fin (n *ℚ rise)) → ValueRises v n rise
 value_rises z end Inf n rise a b h k = tt
 value_rises z end (Fin v) n rise a b h k =
     let y = n *ℚ rise in

@@ -82,3 +82,14 @@ pub mod Operands
 pub mod Tallies
 pub mod NormaliseOwn
 pub mod UnrolledPieces
+pub mod UnrollLoops
+pub mod UnrollSteps
+pub mod StretchPieces
+pub mod StretchTurns
+pub mod AnswerRoom
+pub mod StretchSizes
+pub mod StretchValues
+pub mod GaugeRises
+pub mod Bends
+pub mod CallSizes
+pub mod SteadyStart

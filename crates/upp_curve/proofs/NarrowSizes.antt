@@ -40,7 +40,7 @@ narrow_limit z end a h = narrow_from z end (2 ^ 114) a (omega (arith, h))
 pub grid_pos : (z : Sizes) (end : ℚ) → AreSizes z end → 0 < grid_of z
 grid_pos z end a = mul-pos (mul-pos a.dv a.dt) a.ds
 
-scaled_fits : (k v d m : ℕ) → k * (v * d) ≤ m → (int (pos k) *ℚ int (pos v)) *ℚ int (pos d) ≤ℚ int (pos m)
+pub scaled_fits : (k v d m : ℕ) → k * (v * d) ≤ m → (int (pos k) *ℚ int (pos v)) *ℚ int (pos d) ≤ℚ int (pos m)
 scaled_fits k v d m h =
     let e : (int (pos k) *ℚ int (pos v)) *ℚ int (pos d) ≡ int (pos (k * v * d)) = ap (λ x. x *ℚ int (pos d)) (mul_whole (pos k) (pos v) 0) ∙ mul_whole (pos (k * v)) (pos d) 0 in
     subst (λ x. x ≤ℚ int (pos m)) (sym e) (nat_le (k * v * d) m (omega (arith, h)))

@@ -36,6 +36,7 @@ use Rattle.upp_curve.proofs.NormaliseLists.{each_append, each_map, each_upto, ri
 use Rattle.upp_curve.proofs.NormaliseLoops.{later_none, later_some}
 use Rattle.upp_curve.proofs.NormaliseRank.{from_late}
 use Rattle.upp_curve.proofs.PieceLists.{starts_nonneg}
+use Rattle.upp_curve.proofs.Unique.{upto_none}
 use Rattle.upp_curve.proofs.Unrolled.{copies_some}
 
 -- ---- two facts of each piece
@@ -96,6 +97,22 @@ pub unroll_starts : (c : SpecCurve) (end : ℚ) → int (pos 0) <ℚ end → IsN
 unfolding unroll
 unroll_starts c end some n = starts_by_tail c.pieces c.tail end some n
 
+none_before : (end : ℚ) (ps : List Piece) → StartsAtZero ps → end ≤ℚ int (pos 0) → upto end ps ≡ []
+none_before end [] h l = absurd h
+none_before end (p ∷ ps) h l = upto_none end p ps (subst (λ x. end ≤ℚ x) (sym h.0) l)
+
+none_by_tail : (ps : List Piece) (tail : Tail) (end : ℚ) → end ≤ℚ int (pos 0) → IsNormal record { pieces = ps; tail = tail } → unrolled ps tail end ≡ []
+none_by_tail ps (Periodic rank d c) end l n =
+    none_before end (upto rank ps ++ copies (suc (periods rank d end)) d c (from rank ps))
+    (periodic_starts ps rank d c (periods rank d end) n.raw.starts n.rank_is_start n.raw.tail.some n.raw.tail.starts) l
+none_by_tail ps (Affine rank) end l n = none_before end ps n.raw.starts l
+none_by_tail ps (Infinite rank) end l n = none_before end ps n.raw.starts l
+
+-- none starts before 0
+pub unroll_none : (c : SpecCurve) (end : ℚ) → end ≤ℚ int (pos 0) → IsNormal c → unroll c end ≡ []
+unfolding unroll
+unroll_none c end l n = none_by_tail c.pieces c.tail end l n
+
 before_by_tail : (ps : List Piece) (tail : Tail) (end : ℚ) → Each (λ p. p.x <ℚ end) (unrolled ps tail end)
 before_by_tail ps (Periodic rank d c) end = upto_before end _
 before_by_tail ps (Affine rank) end = upto_before end _
@@ -116,9 +133,9 @@ each_below : (P : Piece → Type 0) (end : ℚ) (ps : List Piece) → Each (λ p
 each_below P end ps h = each_with (λ p. p.x <ℚ end → P p) (λ p. p.x <ℚ end) P (λ p f l. f l) (upto end ps) (each_upto (λ p. p.x <ℚ end → P p) end ps h) (upto_before end ps)
 
 -- what of a periodic curve's piece starts below the end
-record IsGiven (P : Piece → Type 0) (rank d c end : ℚ) (p : Piece) : Type 0 where
-  once : p.x <ℚ rank → p.x <ℚ end → P p
-  again : rank ≤ℚ p.x → (n : ℕ) → p.x +ℚ int (pos n) *ℚ d <ℚ end → P (later (int (pos n) *ℚ d) (int (pos n) *ℚ c) p)
+pub record IsGiven (P : Piece → Type 0) (rank d c end : ℚ) (p : Piece) : Type 0 where
+  pub once : p.x <ℚ rank → p.x <ℚ end → P p
+  pub again : rank ≤ℚ p.x → (n : ℕ) → p.x +ℚ int (pos n) *ℚ d <ℚ end → P (later (int (pos n) *ℚ d) (int (pos n) *ℚ c) p)
 
 given : (P : Piece → Type 0) (rank d c end : ℚ) (s : Span) → int (pos 0) <ℚ d → AllByRecursion (λ s. P s.piece) (span_below (Periodic rank d c) end s)
     → IsGiven P rank d c end s.piece
@@ -151,7 +168,8 @@ each_copy Q d c ps (suc n) m f =
     (each_map (λ p. Q (later (int (pos (suc m)) *ℚ d) (int (pos (suc m)) *ℚ c) p)) (λ p. R (later d c p)) (λ p h. subst Q (later_more m d c p) h) (copies n d c ps)
     (each_copy Q d c ps n (suc m) f)))
 
-no_later : (d c : ℚ) (p : Piece) → later (int (pos 0) *ℚ d) (int (pos 0) *ℚ c) p ≡ p
+-- no period later it is the piece itself
+pub no_later : (d c : ℚ) (p : Piece) → later (int (pos 0) *ℚ d) (int (pos 0) *ℚ c) p ≡ p
 no_later d c p =
     let s : Span = record { piece = p; next = None } in
     ap (λ (s : Span). s.piece) (copy_zero d c s)
@@ -196,12 +214,21 @@ all_read rank [] s h e = tt
 all_read rank (p ∷ ps) s h e = read_whole rank p ps s.1 h e
 
 -- ---- what holds of the spans below the end holds of the unrolled pieces
+pub each_given : (P : Piece → Type 0) (ps : List Piece) (rank d c end : ℚ) → int (pos 0) <ℚ d
+    → AllByRecursion (λ s. AllByRecursion (λ s. P s.piece) (span_below (Periodic rank d c) end s)) (spans (Periodic rank d c) ps) → Each (IsGiven P rank d c end) ps
+each_given P ps rank d c end some h =
+    each_of_spans (IsGiven P rank d c end) (Periodic rank d c) ps
+    (every_weaken {P = λ s. AllByRecursion (λ s. P s.piece) (span_below (Periodic rank d c) end s)} {Q = λ s. IsGiven P rank d c end s.piece}
+    (λ s g. given P rank d c end s some g) (spans (Periodic rank d c) ps) h)
+
+pub each_span_out : (P : Piece → Type 0) (c : SpecCurve) (end : ℚ) → AllByRecursion (λ s. P s.piece) (spans_below c end)
+    → AllByRecursion (λ s. AllByRecursion (λ s. P s.piece) (span_below c.tail end s)) (spans c.tail c.pieces)
+unfolding spans_below
+each_span_out P c end h = every_flat_out (λ s. P s.piece) (span_below c.tail end) (spans c.tail c.pieces) h
+
 each_by_tail : (P : Piece → Type 0) (ps : List Piece) (tail : Tail) (end : ℚ) → IsNormal record { pieces = ps; tail = tail }
     → AllByRecursion (λ s. AllByRecursion (λ s. P s.piece) (span_below tail end s)) (spans tail ps) → Each P (unrolled ps tail end)
-each_by_tail P ps (Periodic rank d c) end n h =
-    let k = every_weaken {P = λ s. AllByRecursion (λ s. P s.piece) (span_below (Periodic rank d c) end s)} {Q = λ s. IsGiven P rank d c end s.piece}
-    (λ s g. given P rank d c end s n.raw.tail.some g) (spans (Periodic rank d c) ps) h in
-    periodic_each P ps rank d c end n.raw.starts (each_of_spans (IsGiven P rank d c end) (Periodic rank d c) ps k)
+each_by_tail P ps (Periodic rank d c) end n h = periodic_each P ps rank d c end n.raw.starts (each_given P ps rank d c end n.raw.tail.some h)
 each_by_tail P ps (Affine rank) end n h =
     let k = every_weaken {P = λ s. AllByRecursion (λ s. P s.piece) (once_below end s)} {Q = λ s. s.piece.x <ℚ end → P s.piece}
     (λ s g l. once_out (λ s. P s.piece) end s l g) (spans (Affine rank) ps) h in
@@ -215,17 +242,17 @@ each_by_tail P ps (Infinite rank) end n h =
     (each_of_spans F (Infinite rank) ps k) (all_read rank ps n.raw.starts n.raw.tail.starts n.tail))
 
 pub unroll_each : (P : Piece → Type 0) (c : SpecCurve) (end : ℚ) → IsNormal c → AllByRecursion (λ s. P s.piece) (spans_below c end) → Each P (unroll c end)
-unfolding unroll spans_below
-unroll_each P c end n h = each_by_tail P c.pieces c.tail end n (every_flat_out (λ s. P s.piece) (span_below c.tail end) (spans c.tail c.pieces) h)
+unfolding unroll
+unroll_each P c end n h = each_by_tail P c.pieces c.tail end n (each_span_out P c end h)
 
 -- ---- where the pieces of an operand stand
-record PieceStands (z : Sizes) (p : Piece) : Type 0 where
-  start : Whole z.dt p.x
-  at : ValueStands z p.at
-  after : ValueStands z (line_value p.line p.x)
-  slope : LineStands z p.line
+pub record PieceStands (z : Sizes) (p : Piece) : Type 0 where
+  pub start : Whole z.dt p.x
+  pub at : ValueStands z p.at
+  pub after : ValueStands z (line_value p.line p.x)
+  pub slope : LineStands z p.line
 
-operand_line : (z : Sizes) (end : ℚ) (l : Option Line) (x : ℚ) → AreSizes z end → Whole z.dt x → int (pos 0) ≤ℚ x → x ≤ℚ end → ValueStands z (line_value l x) → LineStands z l
+pub operand_line : (z : Sizes) (end : ℚ) (l : Option Line) (x : ℚ) → AreSizes z end → Whole z.dt x → int (pos 0) ≤ℚ x → x ≤ℚ end → ValueStands z (line_value l x) → LineStands z l
     → OperandLineAt z l
 operand_line z end None x a w low high v s = tt
 operand_line z end (Some l) x a w low high v s =
@@ -241,18 +268,22 @@ operand_piece z end p a s low high = record {
   line = operand_line z end p.line p.x a s.start low (le_of_lt high) s.after s.slope;
 }
 
-each_nonneg : (ps : List Piece) → AllByRecursion (λ p. int (pos 0) ≤ℚ p.x) ps → Each (λ p. int (pos 0) ≤ℚ p.x) ps
+pub each_nonneg : (ps : List Piece) → AllByRecursion (λ p. int (pos 0) ≤ℚ p.x) ps → Each (λ p. int (pos 0) ≤ℚ p.x) ps
 each_nonneg [] h = tt
 each_nonneg (p ∷ ps) h = (h.0, each_nonneg ps h.1)
+
+-- the pieces of the spans below the end stand
+pub pieces_stand : (z : Sizes) (end : ℚ) (c : SpecCurve) → Stands z (curve_numbers end c) → AllByRecursion (λ s. PieceStands z s.piece) (spans_below c end)
+pieces_stand z end c h =
+    every_weaken {P = SpanStands z} {Q = λ s. PieceStands z s.piece} (λ s h. record { start = h.start; at = h.at; after = h.after; slope = h.slope }) (spans_below c end)
+    (unrolled_stand z end c h)
 
 -- the unrolled pieces of an operand below the end of the window
 pub operand_pieces : (z : Sizes) (end : ℚ) (c : SpecCurve) → IsCurve c → AreLimited z end → int (pos 0) <ℚ end → Stands z (curve_numbers end c) → OperandPieces z end (unroll c end)
 operand_pieces z end c is limited some stands =
     let ps = unroll c end in
     let starts = unroll_starts c end some is.normal in
-    let each : Each (PieceStands z) ps = unroll_each (PieceStands z) c end is.normal
-    (every_weaken {P = SpanStands z} {Q = λ s. PieceStands z s.piece} (λ s h. record { start = h.start; at = h.at; after = h.after; slope = h.slope }) (spans_below c end)
-    (unrolled_stand z end c stands)) in
+    let each : Each (PieceStands z) ps = unroll_each (PieceStands z) c end is.normal (pieces_stand z end c stands) in
     let low : Each (λ p. int (pos 0) ≤ℚ p.x) ps = each_nonneg ps (starts_nonneg ps starts) in
     record {
       starts = starts;

@@ -26,16 +26,16 @@ pub(crate) fn sum(a: Frac, b: Frac) -> Frac
     Frac::add(a, b).unwrap()
 }
 
-// a - b.
-fn difference(a: Frac, b: Frac) -> Frac
+/// a - b.
+pub(crate) fn difference(a: Frac, b: Frac) -> Frac
     requires { SumFits a (neg_ℚ b) }
     ensures { result ≡ a -ℚ b }
 {
     Frac::sub(a, b).unwrap()
 }
 
-// a b.
-fn product(a: Frac, b: Frac) -> Frac
+/// a b.
+pub(crate) fn product(a: Frac, b: Frac) -> Frac
     requires { IsSmall (a *ℚ b) }
     ensures { result ≡ a *ℚ b }
 {
@@ -83,7 +83,7 @@ pub(crate) fn read(pieces: &[Piece], t: Frac) -> Ext
 }
 
 // The line, `by` later and `rise` higher.
-fn line_later(by: Frac, rise: Frac, line: Option<Line>) -> Option<Line>
+pub(crate) fn line_later(by: Frac, rise: Frac, line: Option<Line>) -> Option<Line>
     requires { LineLaterFits by rise line }
     ensures { result ≡ line_later by rise line }
 {

@@ -1,6 +1,8 @@
 //! Curves: functions of time made of finitely many pieces and a tail, with their value at every fraction.
 #![tactic(auto)]
 
+mod ahead;
+mod call_sizes;
 mod counts;
 mod curve;
 mod curve_numbers;
@@ -18,6 +20,7 @@ mod lowest_rank;
 mod merging;
 mod op_kind;
 mod operand_numbers;
+mod own_limits;
 mod own_window;
 mod raw_curve;
 mod reading;
@@ -27,17 +30,23 @@ mod seen;
 mod shape;
 mod start_counts;
 mod starts;
+mod steadiness;
 #[cfg(test)]
 mod tests;
 mod two_periods;
+mod unrolling;
 
+pub use ahead::{Stretch, stretch_at};
+pub use call_sizes::{CallNumbers, call_numbers};
 pub use curve::{Curve, Tail, equal};
 pub use kind_laws::kinds_are_curves;
 pub use laws::{
     bucket_deviations, deviations_are_unique, normal_form_is_unique, worked_kinds,
     worked_operators, worked_shifts, worked_stairs,
 };
-pub use limits::{gauge, tally};
+pub use limits::{gauge, tally, tally_over};
 pub use op_kind::{OpFault, OpKind, Window};
+pub use own_limits::{OverLimit, over_own_limit};
 pub use raw_curve::{RawCurve, normalise, normalise_on};
 pub use starts::{is_after, is_before};
+pub use steadiness::steady_time;

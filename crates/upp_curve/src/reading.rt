@@ -26,7 +26,7 @@ pub(crate) fn line_value(line: Option<Line>, t: Frac) -> Result<Ext, Wide>
     }
 }
 
-fn starts_by(p: &Piece, t: Frac) -> bool
+pub(crate) fn starts_by(p: &Piece, t: Frac) -> bool
     ensures { result ≡ le_q p.now.x t }
 {
     p.x <= t

@@ -1,0 +1,12 @@
+pub mod Levels
+pub mod Bending
+pub mod Suprema
+pub mod Infima
+pub mod Building
+pub mod Middle
+pub mod Meetings
+pub mod Makings
+pub mod SupremumLoop
+pub mod InfimumLoop
+pub mod LevelSizes
+pub mod Shifts
