@@ -5,3 +5,4 @@ pub mod Elements
 pub mod Segments
 pub mod WideConvolution
 pub mod ElementLaws
+pub mod MadeParts

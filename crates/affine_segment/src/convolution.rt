@@ -6,6 +6,7 @@ ghost use Rattle.rational.specs.Extended.{◌<ₑ◌, ◌+ₑ◌};
 ghost use Rattle.affine_segment.specs.Values.{line_at};
 ghost use Rattle.affine_segment.specs.Elements.{IsProper, IsConvolved};
 ghost use Rattle.affine_segment.specs.Segments.{open_of, IsProperSegment, IsThrough, IsCorner};
+ghost use Rattle.affine_segment.specs.MadeParts.{AreParts, MovedPart, OnePart, BentParts};
 ghost use Rattle.affine_segment.specs.WideConvolution.{IsWideConvolution, IsWideThrough, IsWideEnd, IsWideEnds};
 ghost use Rattle.affine_segment.specs.WideConvolution.{IsWideCorner, IsWideMoved, IsWideStraight, IsWideBent};
 
@@ -33,6 +34,7 @@ pub fn element_conv(a: &Element, b: &Element) -> Result<Joined, Wide>
     requires left { IsProper a.now }
     requires right { IsProper b.now }
     ensures convolved { IfOk result (IsConvolved a.now b.now) }
+    ensures parts { IfOk result (AreParts a.now b.now) }
     ensures wide { IfErr result (IsWideConvolution a.now b.now) }
 {
     match *a {
@@ -64,6 +66,7 @@ fn alone(first: Element) -> Joined
 // Two points.
 fn points(x: Frac, v: Frac, y: Frac, u: Frac) -> Result<Joined, Wide>
     ensures convolved { IfOk result (IsConvolved (Element.Point x v) (Element.Point y u)) }
+    ensures parts { IfOk result (AreParts (Element.Point x v) (Element.Point y u)) }
     ensures wide { IfErr result (IsWideConvolution (Element.Point x v) (Element.Point y u)) }
 {
     let at = Frac::add(x, y)?;
@@ -130,6 +133,7 @@ fn corner_at(a: &Line, x: Frac, b: &Line, y: Frac, slope: Frac) -> Result<Corner
 fn moved(x: Frac, v: Frac, s: &Segment) -> Result<Joined, Wide>
     requires { IsProperSegment s.now }
     ensures convolved { IfOk result (IsConvolved (Element.Point x v) (open_of s.now)) }
+    ensures parts { IfOk result (MovedPart x v s.now.from s.now.to s.now.line) }
     ensures wide { IfErr result (IsWideMoved x v s.now.from s.now.to s.now.line) }
 {
     let from = Frac::add(x, s.from)?;
@@ -146,6 +150,7 @@ fn straight(a: &Segment, b: &Segment) -> Result<Joined, Wide>
     requires right { IsProperSegment b.now }
     requires parallel { a.now.line.slope ≡ b.now.line.slope }
     ensures convolved { IfOk result (IsConvolved (open_of a.now) (open_of b.now)) }
+    ensures parts { IfOk result (OnePart a.now b.now (a.now.to +ₑ b.now.to)) }
     ensures wide { IfErr result (IsWideStraight a.now b.now) }
 {
     let start = corner_at(&a.line, a.from, &b.line, b.from, a.line.slope)?;
@@ -163,6 +168,7 @@ fn bent(low: &Segment, high: &Segment) -> Result<Joined, Wide>
     requires right { IsProperSegment high.now }
     requires slopes { low.now.line.slope <ℚ high.now.line.slope }
     ensures convolved { IfOk result (IsConvolved (open_of low.now) (open_of high.now)) }
+    ensures parts { IfOk result (BentParts low.now low.now.to high.now) }
     ensures wide { IfErr result (IsWideBent low.now high.now) }
 {
     let start = corner_at(&low.line, low.from, &high.line, high.from, low.line.slope)?;
@@ -201,6 +207,7 @@ fn segments(a: &Segment, b: &Segment) -> Result<Joined, Wide>
     requires left { IsProperSegment a.now }
     requires right { IsProperSegment b.now }
     ensures convolved { IfOk result (IsConvolved (open_of a.now) (open_of b.now)) }
+    ensures parts { IfOk result (AreParts (open_of a.now) (open_of b.now)) }
     ensures wide { IfErr result (IsWideConvolution (open_of a.now) (open_of b.now)) }
 {
     match a.line.slope.cmp(&b.line.slope) {

@@ -7,6 +7,8 @@ use Rattle.affine_segment.specs.declared.element.Element.TheVariants.{Open}
 use Rattle.affine_segment.specs.Segments.{open_of}
 use Rattle.affine_segment.specs.Elements.{IsConvolved}
 use Rattle.affine_segment.proofs.Convolved.{endless_convolved, bent_convolved, one_part}
+use Rattle.affine_segment.specs.MadeParts.{BentParts}
+use Rattle.affine_segment.proofs.Made.{one_part_made, two_parts_made}
 use Rattle.affine_segment.proofs.convolution.bent.Goals as goal
 
 pub returns-in_err-start-clause-wide : goal.returns-in_err-start-clause-wide
@@ -47,3 +49,17 @@ returns-clause-convolved c =
     rw c.in-Fin.is
     (bent_convolved low.from c.in-Fin.end low.line high.from high.to high.line start.line turn.line start.at turn.at turn.v c.in_ok-to.to left c.requires.right c.requires.slopes
     corner.at next.at next.v c.in_ok-to.ensures.sum record { slope = corner.line.slope; value = corner.line.value ∙ corner.v } next.line)
+
+pub returns-in_default-clause-parts : goal.returns-in_default-clause-parts
+returns-in_default-clause-parts c =
+    let low = c.args.low.now in
+    let high = c.args.high.now in
+    subst (λ z. BentParts low z high c.alone.result) (sym (endless low.to c.in_default.not-Fin))
+    (one_part_made low high c.in_ok-start.start Inf Inf c.alone.result c.in_ok-start.ensures.corner refl c.alone.ensures)
+
+pub returns-clause-parts : goal.returns-clause-parts
+returns-clause-parts c =
+    let low = c.args.low.now in
+    let high = c.args.high.now in
+    rw c.in-Fin.is
+    (two_parts_made low c.in-Fin.end high c.in_ok-start.start c.in_ok-turn.turn c.in_ok-to.to c.in_ok-start.ensures.corner c.in_ok-turn.ensures.corner c.in_ok-to.ensures.sum)
