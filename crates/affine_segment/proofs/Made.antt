@@ -7,10 +7,10 @@ use Rattle.rational.specs.declared.Extended.TheVariants.{Fin}
 use Rattle.affine_segment.specs.declared.line.Line.{Line}
 use Rattle.affine_segment.specs.declared.element.Element.TheVariants.{Point, Open}
 use Rattle.affine_segment.specs.declared.element.Joined.{Joined}
-use Rattle.affine_segment.specs.declared.convolution.Segment.{Segment}
 use Rattle.affine_segment.specs.declared.convolution.Corner.{Corner}
 use Rattle.affine_segment.specs.Values.{line_at}
-use Rattle.affine_segment.specs.Segments.{IsThrough, IsCorner}
+use Rattle.affine_segment.specs.Segments.{Segment, IsThrough}
+use Rattle.affine_segment.specs.Corners.{IsCorner}
 use Rattle.affine_segment.specs.MadeParts.{alone_part, IsFrom, MovedPart, OnePart, TwoParts}
 
 through_at : (r x y v w : ℚ) (n : Line) → x ≡ y → v ≡ w → IsThrough r x v n → IsThrough r y w n

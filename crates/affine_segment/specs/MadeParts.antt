@@ -7,9 +7,8 @@ use Rattle.affine_segment.specs.declared.line.Line.{Line}
 use Rattle.affine_segment.specs.declared.element.Element.{Element}
 use Rattle.affine_segment.specs.declared.element.Element.TheVariants.{Point, Open}
 use Rattle.affine_segment.specs.declared.element.Joined.{Joined}
-use Rattle.affine_segment.specs.declared.convolution.Segment.{Segment}
 use Rattle.affine_segment.specs.Values.{line_at}
-use Rattle.affine_segment.specs.Segments.{IsThrough}
+use Rattle.affine_segment.specs.Segments.{Segment, IsThrough}
 
 -- one part
 abbrev pub alone_part : Element → Joined

@@ -2,3 +2,4 @@ pub mod Members
 pub mod Cover
 pub mod Envelopes
 pub mod Windows
+pub mod ElementSizes

@@ -2,3 +2,6 @@
 #![tactic(auto)]
 
 pub mod laws;
+mod pair;
+
+pub use pair::joined;
