@@ -178,32 +178,35 @@ before_turn : (e g t : ℚ) (end : Ext) → Fin g <ₑ end → t ≤ℚ e +ℚ g
 before_turn e g t Inf h k = tt
 before_turn e g t (Fin d) h k = with4 e g t d (λ c. omega (arith, c.le, c.lt, c.same))
 
+-- the parts that they make
+abbrev bent_parts : ℚ → ℚ → Line → ℚ → Ext → Line → Line → Line → Joined
+bent_parts f e l g end m n k = record {
+  first = Open (f +ℚ g) (Fin (e +ℚ g)) n;
+  join = Some (Point (e +ℚ g) (line_at l e +ℚ line_at m g));
+  second = Some (Open (e +ℚ g) (Fin e +ₑ end) k);
+}
+
 bent_here : (f e : ℚ) (l : Line) (g : ℚ) (end : Ext) (m n k : Line)
     → f <ℚ e → Fin g <ₑ end → l.slope <ℚ m.slope
     → IsThrough l.slope (f +ℚ g) (line_at l f +ℚ line_at m g) n → IsThrough m.slope (e +ℚ g) (line_at l e +ℚ line_at m g) k
-    → IsConvolved (Open f (Fin e) l) (Open g end m) record {
-      first = Open (f +ℚ g) (Fin (e +ℚ g)) n;
-      join = Some (Point (e +ℚ g) (line_at l e +ℚ line_at m g));
-      second = Some (Open (e +ℚ g) (Fin e +ₑ end) k);
-    }
+    → IsConvolved (Open f (Fin e) l) (Open g end m) (bent_parts f e l g end m n k)
 bent_here f e l g end m n k p q less start turn = record {
   value = λ t.
-      read_joined (pair_sum a b t) record { first = Open (f +ℚ g) (Fin (e +ℚ g)) n; join = Some (Point (e +ℚ g) (line_at l e +ℚ line_at m g)); second = Some (Open (e +ℚ g) (Fin e +ₑ end) k) } t
-      (λ w. reach t (line_at n t) w.past (before_turn e g t end q (le_of_lt w.before)) (at_start l m n f g t (hi_of g (Fin e) t) (hi_short g (Fin e) t (short t w.before)) start.slope start.value))
-      (λ h. reach t (line_at l e +ℚ line_at m g) (past_turn t (same_le h)) (before_turn e g t end q (le_same h))
-      (at_end l m k e g t (hi_of g (Fin e) t) (hi_full g e t (same_le h)) turn.slope turn.value ∙ ap (line_at k) h ∙ turn.value))
-      (λ w. reach t (line_at k t) (past_turn t (le_of_lt w.past)) w.before (at_end l m k e g t (hi_of g (Fin e) t) (hi_full g e t (le_of_lt w.past)) turn.slope turn.value))
+      read_joined (pair_sum (Open f (Fin e) l) (Open g end m) t) (bent_parts f e l g end m n k) t
+      (λ w. reach t (line_at n t) w.past (before_turn e g t end q (le_of_lt w.before)) (at_first t (short t w.before)))
+      (λ h. reach t (line_at l e +ℚ line_at m g) (past_turn t (same_le h)) (before_turn e g t end q (le_same h)) (at_second t (same_le h) ∙ ap (line_at k) h ∙ turn.value))
+      (λ w. reach t (line_at k t) (past_turn t (le_of_lt w.past)) w.before (at_second t (le_of_lt w.past)))
       (λ s. some t (split_past f (Fin e) l g end m t s) (split_before f (Fin e) l g end m t s));
   start = refl;
   adjoined = (refl, refl, with3 f e g (λ c. omega (arith, c.le, c.lt, c.same)), turn_proper e g end q);
   bend = (λ h. inl (less, tt), λ h. refl);
 }
   where
-    a : Element
-    a = Open f (Fin e) l
+    at_first : (t : ℚ) → t -ℚ g <ℚ e → line_at l (hi_of g (Fin e) t) +ℚ line_at m (t -ℚ hi_of g (Fin e) t) ≡ line_at n t
+    at_first t h = at_start l m n f g t (hi_of g (Fin e) t) (hi_short g (Fin e) t h) start.slope start.value
 
-    b : Element
-    b = Open g end m
+    at_second : (t : ℚ) → e +ℚ g ≤ℚ t → line_at l (hi_of g (Fin e) t) +ℚ line_at m (t -ℚ hi_of g (Fin e) t) ≡ line_at k t
+    at_second t h = at_end l m k e g t (hi_of g (Fin e) t) (hi_full g e t h) turn.slope turn.value
 
     short : (t : ℚ) → t <ℚ e +ℚ g → t -ℚ g <ℚ e
     short t h = with3 t e g (λ c. omega (arith, c.le, c.lt, c.same))

@@ -103,11 +103,13 @@ some_part j t h =
     let x = element_value j.first t in
     let y = part_value j.join t in
     let z = part_value j.second t in
+    let whole = min_ext x (min_ext y z) in
+    let rest = min_right x (min_ext y z) in
     elim h [
-      | inl k ↦ not_infinite (joined_value j t) x (level j.first t) (min_left x (min_ext y z)) (value_in j.first t k)
+      | inl k ↦ not_infinite whole x (level j.first t) (min_left x (min_ext y z)) (value_in j.first t k)
       | inr k ↦ elim k [
-        | inl m ↦ let (q, e) = part_in t j.join m in not_infinite (joined_value j t) y q (le_ext_trans (joined_value j t) (min_ext y z) y (min_right x (min_ext y z)) (min_left y z)) e
-        | inr m ↦ let (q, e) = part_in t j.second m in not_infinite (joined_value j t) z q (le_ext_trans (joined_value j t) (min_ext y z) z (min_right x (min_ext y z)) (min_right y z)) e
+        | inl m ↦ let (q, e) = part_in t j.join m in not_infinite whole y q (le_ext_trans whole (min_ext y z) y rest (min_left y z)) e
+        | inr m ↦ let (q, e) = part_in t j.second m in not_infinite whole z q (le_ext_trans whole (min_ext y z) z rest (min_right y z)) e
       ]
     ]
 
@@ -115,7 +117,10 @@ some_part j t h =
 pub read_joined : {I : Type 0} (F : I → Ext) (j : Joined) (t : ℚ) → Reads F t j.first → PartReads F t j.join → PartReads F t j.second
     → ((i : I) → Covers j.first t ⊎ (PartCovers t j.join ⊎ PartCovers t j.second)) → IsInfimum F (joined_value j t)
 read_joined F j t h k m some =
-    elim (lesser F (element_value j.first t) (min_ext (part_value j.join t) (part_value j.second t)) (of_element F t j.first h) (lesser F (part_value j.join t) (part_value j.second t) (of_part F t j.join k) (of_part F t j.second m))) [
+    let y = part_value j.join t in
+    let z = part_value j.second t in
+    let rest = lesser F y z (of_part F t j.join k) (of_part F t j.second m) in
+    elim (lesser F (element_value j.first t) (min_ext y z) (of_element F t j.first h) rest) [
       | inl e ↦ subst (λ z. IsInfimum F z) (sym e) (all_infinite F (λ i. absurd (some_part j t (some i) e)))
       | inr g ↦ g
     ]

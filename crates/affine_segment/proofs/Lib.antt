@@ -6,3 +6,4 @@ pub mod Splits
 pub mod Convolved
 pub mod Through
 pub mod ElementReading
+pub mod Made

@@ -3,5 +3,7 @@ pub mod Steps
 pub mod Cuts
 pub mod Elements
 pub mod Segments
+pub mod Corners
 pub mod WideConvolution
 pub mod ElementLaws
+pub mod MadeParts

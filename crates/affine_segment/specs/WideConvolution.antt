@@ -7,8 +7,8 @@ use Rattle.fraction128.specs.declared.fault.Wide.{Wide}
 use Rattle.affine_segment.specs.declared.line.Line.{Line}
 use Rattle.affine_segment.specs.declared.element.Element.{Element}
 use Rattle.affine_segment.specs.declared.element.Element.TheVariants.{Point, Open}
-use Rattle.affine_segment.specs.declared.convolution.Segment.{Segment}
 use Rattle.affine_segment.specs.Values.{line_at}
+use Rattle.affine_segment.specs.Segments.{Segment}
 use Rattle.affine_segment.specs.Steps.{IsWideSum, IsWideDifference, IsWideProduct, IsWideValue}
 
 -- ---- parts

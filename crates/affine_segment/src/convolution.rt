@@ -5,8 +5,11 @@ ghost use Rattle.rational.specs.Rational.{◌+ℚ◌, ◌≤ℚ◌, ◌<ℚ◌};
 ghost use Rattle.rational.specs.Extended.{◌<ₑ◌, ◌+ₑ◌};
 ghost use Rattle.affine_segment.specs.Values.{line_at};
 ghost use Rattle.affine_segment.specs.Elements.{IsProper, IsConvolved};
-ghost use Rattle.affine_segment.specs.Segments.{open_of, IsProperSegment, IsThrough, IsCorner};
-ghost use Rattle.affine_segment.specs.WideConvolution.{IsWideConvolution, IsWideThrough, IsWideEnd, IsWideEnds, IsWideCorner, IsWideMoved, IsWideStraight, IsWideBent};
+ghost use Rattle.affine_segment.specs.Segments.{open_of, IsProperSegment, IsThrough};
+ghost use Rattle.affine_segment.specs.Corners.{segment_of, IsCorner};
+ghost use Rattle.affine_segment.specs.MadeParts.{AreParts, MovedPart, OnePart, BentParts};
+ghost use Rattle.affine_segment.specs.WideConvolution.{IsWideConvolution, IsWideThrough, IsWideEnd, IsWideEnds};
+ghost use Rattle.affine_segment.specs.WideConvolution.{IsWideCorner, IsWideMoved, IsWideStraight, IsWideBent};
 
 use crate::element::{Element, Joined};
 use crate::line::{Line, value};
@@ -16,7 +19,7 @@ use std::cmp::Ordering;
 
 // A line strictly between two times.
 #[derive(Debug, Clone, Copy)]
-struct Segment {
+struct Stretch {
     from: Frac,
     to: Ext,
     line: Line,
@@ -24,26 +27,27 @@ struct Segment {
 
 /// The convolution of two elements: at each time the infimum, over the splits of that time into a time of the one and
 /// a time of the other, of the sum of the two values; infinity where there is no such split. A segment starts before
-/// its end. Of two segments the one of smaller slope comes first. Refused only where one of these steps is: the sum of a
-/// start or end of the one and a start or end of the other; a step of the value of an operand's line at its own start or
-/// end; the sum of two such values, or values of points; for a line of the answer the product of its slope and its start,
-/// and the difference of the value just after its start and that product.
+/// its end. Of two segments the one of smaller slope comes first. Refused only where one of these steps is: the sum of
+/// a start or end of the one and a start or end of the other; a step of the value of an operand's line at its own
+/// start or end; the sum of two such values, or values of points; for a line of the answer the product of its slope
+/// and its start, and the difference of the value just after its start and that product.
 pub fn element_conv(a: &Element, b: &Element) -> Result<Joined, Wide>
     requires left { IsProper a.now }
     requires right { IsProper b.now }
     ensures convolved { IfOk result (IsConvolved a.now b.now) }
+    ensures parts { IfOk result (AreParts a.now b.now) }
     ensures wide { IfErr result (IsWideConvolution a.now b.now) }
 {
     match *a {
         Element::Point { x, v } => match *b {
             Element::Point { x: y, v: u } => points(x, v, y, u),
-            Element::Open { from, to, line } => moved(x, v, &Segment { from, to, line }),
+            Element::Open { from, to, line } => moved(x, v, &Stretch { from, to, line }),
         },
         Element::Open { from, to, line } => {
-            let left = Segment { from, to, line };
+            let left = Stretch { from, to, line };
             match *b {
                 Element::Point { x, v } => moved(x, v, &left),
-                Element::Open { from, to, line } => segments(&left, &Segment { from, to, line }),
+                Element::Open { from, to, line } => segments(&left, &Stretch { from, to, line }),
             }
         }
     }
@@ -63,6 +67,7 @@ fn alone(first: Element) -> Joined
 // Two points.
 fn points(x: Frac, v: Frac, y: Frac, u: Frac) -> Result<Joined, Wide>
     ensures convolved { IfOk result (IsConvolved (Element.Point x v) (Element.Point y u)) }
+    ensures parts { IfOk result (AreParts (Element.Point x v) (Element.Point y u)) }
     ensures wide { IfErr result (IsWideConvolution (Element.Point x v) (Element.Point y u)) }
 {
     let at = Frac::add(x, y)?;
@@ -126,9 +131,10 @@ fn corner_at(a: &Line, x: Frac, b: &Line, y: Frac, slope: Frac) -> Result<Corner
 }
 
 // A segment moved by the point.
-fn moved(x: Frac, v: Frac, s: &Segment) -> Result<Joined, Wide>
-    requires { IsProperSegment s.now }
-    ensures convolved { IfOk result (IsConvolved (Element.Point x v) (open_of s.now)) }
+fn moved(x: Frac, v: Frac, s: &Stretch) -> Result<Joined, Wide>
+    requires { IsProperSegment (segment_of s.now) }
+    ensures convolved { IfOk result (IsConvolved (Element.Point x v) (open_of (segment_of s.now))) }
+    ensures parts { IfOk result (MovedPart x v s.now.from s.now.to s.now.line) }
     ensures wide { IfErr result (IsWideMoved x v s.now.from s.now.to s.now.line) }
 {
     let from = Frac::add(x, s.from)?;
@@ -140,12 +146,13 @@ fn moved(x: Frac, v: Frac, s: &Segment) -> Result<Joined, Wide>
 }
 
 // Two segments of one slope.
-fn straight(a: &Segment, b: &Segment) -> Result<Joined, Wide>
-    requires left { IsProperSegment a.now }
-    requires right { IsProperSegment b.now }
+fn straight(a: &Stretch, b: &Stretch) -> Result<Joined, Wide>
+    requires left { IsProperSegment (segment_of a.now) }
+    requires right { IsProperSegment (segment_of b.now) }
     requires parallel { a.now.line.slope ≡ b.now.line.slope }
-    ensures convolved { IfOk result (IsConvolved (open_of a.now) (open_of b.now)) }
-    ensures wide { IfErr result (IsWideStraight a.now b.now) }
+    ensures convolved { IfOk result (IsConvolved (open_of (segment_of a.now)) (open_of (segment_of b.now))) }
+    ensures parts { IfOk result (OnePart (segment_of a.now) (segment_of b.now) (a.now.to +ₑ b.now.to)) }
+    ensures wide { IfErr result (IsWideStraight (segment_of a.now) (segment_of b.now)) }
 {
     let start = corner_at(&a.line, a.from, &b.line, b.from, a.line.slope)?;
     let to = end_sum(&a.to, &b.to)?;
@@ -157,12 +164,13 @@ fn straight(a: &Segment, b: &Segment) -> Result<Joined, Wide>
 }
 
 // Two segments of different slopes: the one of smaller slope, and at its end the other.
-fn bent(low: &Segment, high: &Segment) -> Result<Joined, Wide>
-    requires left { IsProperSegment low.now }
-    requires right { IsProperSegment high.now }
+fn bent(low: &Stretch, high: &Stretch) -> Result<Joined, Wide>
+    requires left { IsProperSegment (segment_of low.now) }
+    requires right { IsProperSegment (segment_of high.now) }
     requires slopes { low.now.line.slope <ℚ high.now.line.slope }
-    ensures convolved { IfOk result (IsConvolved (open_of low.now) (open_of high.now)) }
-    ensures wide { IfErr result (IsWideBent low.now high.now) }
+    ensures convolved { IfOk result (IsConvolved (open_of (segment_of low.now)) (open_of (segment_of high.now))) }
+    ensures parts { IfOk result (BentParts (segment_of low.now) low.now.to (segment_of high.now)) }
+    ensures wide { IfErr result (IsWideBent (segment_of low.now) (segment_of high.now)) }
 {
     let start = corner_at(&low.line, low.from, &high.line, high.from, low.line.slope)?;
     let Extended::Fin(end) = low.to else {
@@ -196,11 +204,12 @@ fn bent(low: &Segment, high: &Segment) -> Result<Joined, Wide>
 }
 
 // Two segments, in either order of their slopes.
-fn segments(a: &Segment, b: &Segment) -> Result<Joined, Wide>
-    requires left { IsProperSegment a.now }
-    requires right { IsProperSegment b.now }
-    ensures convolved { IfOk result (IsConvolved (open_of a.now) (open_of b.now)) }
-    ensures wide { IfErr result (IsWideConvolution (open_of a.now) (open_of b.now)) }
+fn segments(a: &Stretch, b: &Stretch) -> Result<Joined, Wide>
+    requires left { IsProperSegment (segment_of a.now) }
+    requires right { IsProperSegment (segment_of b.now) }
+    ensures convolved { IfOk result (IsConvolved (open_of (segment_of a.now)) (open_of (segment_of b.now))) }
+    ensures parts { IfOk result (AreParts (open_of (segment_of a.now)) (open_of (segment_of b.now))) }
+    ensures wide { IfErr result (IsWideConvolution (open_of (segment_of a.now)) (open_of (segment_of b.now))) }
 {
     match a.line.slope.cmp(&b.line.slope) {
         Ordering::Less => bent(a, b),

@@ -1,5 +1,5 @@
-//! Lines over fractions: their value at a time, where two of them meet, and the lower of two on an interval. Elements of
-//! curves, which are points and open segments, and their convolution.
+//! Lines over fractions: their value at a time, where two of them meet, and the lower of two on an interval. Elements
+//! of curves, which are points and open segments, and their convolution.
 //! Nothing here takes memory; a step that is too wide is named.
 #![tactic(auto)]
 
