@@ -94,7 +94,6 @@ pub mod Bends
 pub mod CallSizes
 pub mod SteadyStart
 pub mod GivenCurves
-pub mod Bends
 pub mod JoinLoops
 pub mod Gentle
 pub mod Joins

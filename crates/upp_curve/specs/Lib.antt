@@ -44,5 +44,4 @@ pub mod Copied
 pub mod OwnLimits
 pub mod Bends
 pub mod Given
-pub mod Bends
 pub mod Continuity
