@@ -1,3 +1,9 @@
 pub mod Values
 pub mod Steps
 pub mod Cuts
+pub mod Elements
+pub mod Segments
+pub mod Corners
+pub mod WideConvolution
+pub mod ElementLaws
+pub mod MadeParts

@@ -1,11 +1,19 @@
-//! Lines over fractions: their value at a time, where two of them meet, and the lower of two on an interval.
+//! Lines over fractions: their value at a time, where two of them meet, and the lower of two on an interval. Elements
+//! of curves, which are points and open segments, and their convolution.
 //! Nothing here takes memory; a step that is too wide is named.
 #![tactic(auto)]
 
+mod convolution;
 mod cut;
+mod element;
+pub mod element_laws;
+#[cfg(test)]
+mod element_tests;
 mod line;
 #[cfg(test)]
 mod tests;
 
+pub use convolution::element_conv;
 pub use cut::{Cut, element_min};
+pub use element::{Element, Joined};
 pub use line::{Line, Piece, cross, value};

@@ -6,3 +6,10 @@ pub mod Sums
 pub mod MapLoop
 pub mod Results
 pub mod OperandWindows
+pub mod LinesLie
+pub mod MadeLoop
+pub mod MadeReads
+pub mod MadeStands
+pub mod MadeWindows
+pub mod TailGrids
+pub mod Worked

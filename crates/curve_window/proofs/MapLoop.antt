@@ -17,7 +17,7 @@ map_start P m bs h = record { holds = subst (EachBoth P) (sym none) h; same = ap
     none : drop 0 bs ≡ bs
     none = refl
 
-next_both : (b : Both) (bs : List Both) (j : ℕ) → j < length bs → b ≡ get_or bs j b → drop j bs ≡ b ∷ drop (j + 1) bs
+pub next_both : (b : Both) (bs : List Both) (j : ℕ) → j < length bs → b ≡ get_or bs j b → drop j bs ≡ b ∷ drop (j + 1) bs
 next_both b bs j h e =
     let k : suc j ≡ j + 1 = omega arith in
     drop-cons bs j b h ∙ ap₂ (λ (c : Both) (n : ℕ). c ∷ drop n bs) (sym e) k

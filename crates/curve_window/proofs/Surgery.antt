@@ -43,6 +43,13 @@ read_is : (p : Piece) (ps : List Piece) (t : ℚ) → read (p ∷ ps) t ≡ piec
 unfolding read
 read_is p ps t = refl
 
+-- the first piece, before the next one, and from there on
+pub read_first : (p : Piece) (rest : List Piece) (t : ℚ) → BeforeNext t rest → read (p ∷ rest) t ≡ piece_value p t
+read_first p rest t h = read_is p rest t ∙ ap (λ z. piece_value z t) (mid_first p rest t h)
+
+pub read_skip : (p q : Piece) (rest : List Piece) (t : ℚ) → q.x ≤ℚ t → read (p ∷ q ∷ rest) t ≡ read (q ∷ rest) t
+read_skip p q rest t h = read_is p (q ∷ rest) t ∙ ap (λ z. piece_value z t) (piece_in_go p q rest t h) ∙ sym (read_is q rest t)
+
 pub read_middle : (bs : List Piece) (p : Piece) (rest : List Piece) (t : ℚ) → StartsAtZero (bs ++ p ∷ rest) → p.x ≤ℚ t → BeforeNext t rest
     → read (bs ++ p ∷ rest) t ≡ piece_value p t
 read_middle [] p rest t s h k = read_is p rest t ∙ ap (λ z. piece_value z t) (mid_first p rest t k)

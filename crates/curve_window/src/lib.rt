@@ -2,8 +2,14 @@
 //! lower or upper of both is taken, at every time of the window.
 #![tactic(auto)]
 
+mod compared;
+mod lie;
+mod made;
 mod stretch;
 mod sum;
+#[cfg(test)]
+mod tests;
 
+pub use compared::{window_excess, window_max, window_min};
 pub use stretch::{Both, overlay};
 pub use sum::window_sum;

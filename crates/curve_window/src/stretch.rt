@@ -7,7 +7,7 @@ ghost use Rattle.upp_curve.specs.Readable.{LineFitsAt};
 ghost use Rattle.curve_window.specs.Walk.{NextFits, IsStep};
 ghost use Rattle.curve_window.specs.Stretches.{cut_at, IsOverlay, CutsFit};
 
-use affine_segment::{Piece, value};
+use affine_segment::{Line, Piece, value};
 use fraction128::{Ext, Frac};
 use rational::Extended;
 use std::alloc::{AllocError, Global};
@@ -21,27 +21,27 @@ pub struct Both {
 }
 
 // The value of a line that may be missing, where its steps fit.
-fn readable_line(p: &Piece, x: Frac) -> Ext
-    requires { LineFitsAt x p.now.line }
-    ensures { result ≡ line_value p.now.line x }
+fn readable_line(line: Option<Line>, x: Frac) -> Ext
+    requires { LineFitsAt x line }
+    ensures { result ≡ line_value line x }
 {
-    match p.line {
+    match line {
         None => Extended::Inf,
-        Some(line) => match value(&line, x) {
+        Some(l) => match value(&l, x) {
             Ok(v) => Extended::Fin(v),
             Err(_) => Extended::Inf,
         },
     }
 }
 
-// A piece from x on.
-fn cut(p: &Piece, x: Frac) -> Piece
+/// A piece from x on.
+pub(crate) fn cut(p: &Piece, x: Frac) -> Piece
     requires { LineFitsAt x p.now.line }
     ensures { result ≡ cut_at p.now x }
 {
     Piece {
         x,
-        at: readable_line(p, x),
+        at: readable_line(p.line, x),
         line: p.line,
     }
 }

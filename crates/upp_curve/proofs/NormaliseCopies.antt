@@ -179,10 +179,10 @@ length-moved d c ps = ap length (each_later_map d c ps) ∙ length-map ps (later
 take-moved : (n : ℕ) (d c : ℚ) (ps : List Piece) → take n (each_later d c ps) ≡ each_later d c (take n ps)
 take-moved n d c ps = ap (take n) (each_later_map d c ps) ∙ take-map (later d c) n ps ∙ sym (each_later_map d c (take n ps))
 
-moved-append : (d c : ℚ) (ps qs : List Piece) → each_later d c (ps ++ qs) ≡ each_later d c ps ++ each_later d c qs
+pub moved-append : (d c : ℚ) (ps qs : List Piece) → each_later d c (ps ++ qs) ≡ each_later d c ps ++ each_later d c qs
 moved-append d c ps qs = each_later_map d c (ps ++ qs) ∙ map-append (later d c) ps qs ∙ sym (ap₂ (λ (xs ys : List Piece). xs ++ ys) (each_later_map d c ps) (each_later_map d c qs))
 
-copies_next : (n : ℕ) (e u : ℚ) (ps : List Piece) → copies (suc n) e u ps ≡ ps ++ each_later e u (copies n e u ps)
+pub copies_next : (n : ℕ) (e u : ℚ) (ps : List Piece) → copies (suc n) e u ps ≡ ps ++ each_later e u (copies n e u ps)
 unfolding copies
 copies_next n e u ps = refl
 

@@ -13,6 +13,7 @@ use Rattle.rational.specs.declared.Extended.TheVariants.{Fin, Inf}
 use Rattle.affine_segment.specs.declared.line.Line.{Line}
 use Rattle.affine_segment.specs.declared.line.Piece.{Piece}
 use Rattle.affine_segment.specs.Values.{line_value}
+pub use Rattle.upp_curve.specs.Bends.{ValueOn, LineOn}
 use Rattle.upp_curve.specs.Reading.{read, piece_in, piece_value}
 use Rattle.upp_curve.specs.Curve.{repeated}
 use Rattle.upp_curve.specs.Steady.{Repeats, last_line}
@@ -40,14 +41,6 @@ use Rattle.upp_curve.proofs.NormaliseForm.{each_part, merged_cons, TwoPeriodsOf,
 use Rattle.upp_curve.proofs.NormaliseRoomy.{each_in, found_early}
 
 -- ---- numbers on the grids
-abbrev pub ValueOn : ℕ → Ext → Type 0
-ValueOn D Inf = Unit {0}
-ValueOn D (Fin v) = Whole D v
-
-abbrev pub LineOn : ℕ → ℕ → Option Line → Type 0
-LineOn S D None = Unit {0}
-LineOn S D (Some l) = Whole D l.icept × Whole S l.slope
-
 -- starts on 1 / T, slopes on 1 / S, values on 1 / D
 pub record PieceOn (T S D : ℕ) (p : Piece) : Type 0 where
   pub start : Whole T p.x
@@ -57,11 +50,11 @@ pub record PieceOn (T S D : ℕ) (p : Piece) : Type 0 where
 slope_time : (T S D : ℕ) (s t : ℚ) → T * S ∣ D → Whole S s → Whole T t → Whole D (s *ℚ t)
 slope_time T S D s t h a b = whole_weaken (T * S) D (s *ℚ t) h (subst (λ n. Whole n (s *ℚ t)) (mul_comm S T) (whole_mul S T s t a b))
 
-at_later : (D : ℕ) (v : Ext) (u : ℚ) → ValueOn D v → Whole D u → ValueOn D (v +ₑ Fin u)
+pub at_later : (D : ℕ) (v : Ext) (u : ℚ) → ValueOn D v → Whole D u → ValueOn D (v +ₑ Fin u)
 at_later D Inf u h w = tt
 at_later D (Fin v) u h w = whole_add D v u h w
 
-line_later_on : (T S D : ℕ) (e u : ℚ) (l : Option Line) → T * S ∣ D → LineOn S D l → Whole T e → Whole D u → LineOn S D (line_later e u l)
+pub line_later_on : (T S D : ℕ) (e u : ℚ) (l : Option Line) → T * S ∣ D → LineOn S D l → Whole T e → Whole D u → LineOn S D (line_later e u l)
 line_later_on T S D e u None h L a b = tt
 line_later_on T S D e u (Some l) h L a b = (whole_sub D (l.icept +ℚ u) (l.slope *ℚ e) (whole_add D l.icept u L.0 b) (slope_time T S D l.slope e h L.1 a), L.1)
 
@@ -137,7 +130,7 @@ line_same_or (Some l) (Some m) = elim (q_same_or l.icept m.icept) [
   ]
 ]
 
-continues_or : (p q : Piece) → Continues p q ⊎ ¬ (Continues p q)
+pub continues_or : (p q : Piece) → Continues p q ⊎ ¬ (Continues p q)
 continues_or p q = elim (ext_same_or q.at (line_value p.line q.x)) [
   | inr n ↦ inr (λ C. n C.0)
   | inl a ↦ elim (line_same_or q.line p.line) [
@@ -154,7 +147,7 @@ merge_of p (q ∷ qs) rise = elim (continues_or p q) [
 ]
 
 -- ---- one line
-line_case : (kept : List Piece) (g : ℚ → Ext) (r d c : ℚ) → int (pos 0) ≤ℚ r → int (pos 0) <ℚ d → Repeats g r d c → IsLine kept g → Each (λ p. p.x ≤ℚ r) kept → IsOneLine g r
+pub line_case : (kept : List Piece) (g : ℚ → Ext) (r d c : ℚ) → int (pos 0) ≤ℚ r → int (pos 0) <ℚ d → Repeats g r d c → IsLine kept g → Each (λ p. p.x ≤ℚ r) kept → IsOneLine g r
 line_case kept g r d c nonneg some R L early =
     let X = r +ℚ d +ℚ d in (
       last_line kept,
@@ -163,7 +156,7 @@ line_case kept g r d c nonneg some R L early =
     )
 
 -- ---- a fraction of a period between breaks
-abbrev IsNothing : Piece → Type 0
+abbrev pub IsNothing : Piece → Type 0
 IsNothing p = (p.at ≡ Inf) × (p.line ≡ None)
 
 nothing_value : (p : Piece) (t : ℚ) → IsNothing p → p.x ≤ℚ t → piece_value p t ≡ Inf
@@ -179,24 +172,24 @@ each_nothing_later : (e u : ℚ) (ps : List Piece) → Each IsNothing ps → Eac
 each_nothing_later e u [] E = subst (Each IsNothing) (sym (later_none e u)) tt
 each_nothing_later e u (p ∷ ps) E = subst (Each IsNothing) (sym (later_some e u p ps)) (nothing_later e u p E.0, each_nothing_later e u ps E.1)
 
-nothing_copies : (k : ℕ) (e u : ℚ) (p : Piece) (ps : List Piece) → Each IsNothing (p ∷ ps) → Each IsNothing (copies k e u (p ∷ ps))
+pub nothing_copies : (k : ℕ) (e u : ℚ) (p : Piece) (ps : List Piece) → Each IsNothing (p ∷ ps) → Each IsNothing (copies k e u (p ∷ ps))
 nothing_copies zero e u p ps E = subst (Each IsNothing) (sym (copies_zero e u (p ∷ ps))) tt
 nothing_copies (suc k) e u p ps E =
     subst (Each IsNothing) (sym (copies_some k e u p ps)) (each_append IsNothing (p ∷ ps) (each_later e u (copies k e u (p ∷ ps))) E
     (each_nothing_later e u (copies k e u (p ∷ ps)) (nothing_copies k e u p ps E)))
 
 -- a curve of nothing is one line
-nothing_line : (f : ℚ → Ext) (d c : ℚ) (q : Piece) (qs : List Piece) → int (pos 0) <ℚ d → Period f d c q qs → Repeats f q.x d c → ¬ (Each IsNothing (q ∷ qs))
+pub nothing_line : (f : ℚ → Ext) (d c : ℚ) (q : Piece) (qs : List Piece) → int (pos 0) <ℚ d → Period f d c q qs → Repeats f q.x d c → ¬ (Each IsNothing (q ∷ qs))
 nothing_line f d c q qs some P R E =
     not_one_line f d c q qs some P R None
     (agree_from f (λ t. Inf) q.x d c some R record { rule = λ t h. refl } (λ t a b.
     sym (P.reads t a b) ∙ read_is q qs t ∙ nothing_value (piece_in q qs t) t (each_in IsNothing q qs t E.0 E.1) (found_early q qs t a)))
 
 -- of a copied piece that is there too: the move stands on the grid, and so does the rise, unless there is nothing
-rise_by_value : (D : ℕ) (v u : ℚ) → Whole D v → Whole D (v +ℚ u) → Whole D u
+pub rise_by_value : (D : ℕ) (v u : ℚ) → Whole D v → Whole D (v +ℚ u) → Whole D u
 rise_by_value D v u a b = subst (Whole D) (with2 v u (λ c. omega (arith, c.le, c.lt, c.same))) (whole_sub D (v +ℚ u) v b a)
 
-rise_by_line : (T S D : ℕ) (e u : ℚ) (l : Line) → T * S ∣ D → Whole T e → LineOn S D (Some l) → LineOn S D (line_later e u (Some l)) → Whole D u
+pub rise_by_line : (T S D : ℕ) (e u : ℚ) (l : Line) → T * S ∣ D → Whole T e → LineOn S D (Some l) → LineOn S D (line_later e u (Some l)) → Whole D u
 rise_by_line T S D e u l h a L M =
     let back = l.slope *ℚ e in
     let w : Whole D back = slope_time T S D l.slope e h L.1 a in
@@ -240,7 +233,7 @@ copied_on T S D k e u p ps h E =
     let a : Whole T e = subst (Whole T) (with2 x e (λ c. omega (arith, c.le, c.lt, c.same))) (whole_sub T (p.x +ℚ e) p.x moved.0.start first.0.start) in
     (a, rise_of_each T S D e u (p ∷ ps) h a first moved)
 
-share_one : (x : ℚ) → x /ℚ int (pos 1) ≡ x
+pub share_one : (x : ℚ) → x /ℚ int (pos 1) ≡ x
 share_one x = let y = x /ℚ int (pos 1) in sym (share_back x 1 (omega arith) ∙ mul_comm_q (int (pos 1)) y ∙ mul_one y)
 
 -- a fraction of the period from a break is on the grids

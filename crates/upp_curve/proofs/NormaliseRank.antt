@@ -398,7 +398,7 @@ in_last p last moved d c reached e early line value at = (
 pub late_not_in : (p last moved : Piece) (d c : ℚ) → moved ≡ later d c p → moved.x <ℚ last.x → ¬ (RepeatsIn p last d c)
 late_not_in p last moved d c e late I = lt_irrefl moved.x (lt_le_trans late (subst (λ z. last.x ≤ℚ z.x) (sym e) I.early))
 
-each_index : (P : Piece → Type 0) (ps : List Piece) (i : ℕ) (z : Piece) → i < length ps → Each P ps → P (get_or ps i z)
+pub each_index : (P : Piece → Type 0) (ps : List Piece) (i : ℕ) (z : Piece) → i < length ps → Each P ps → P (get_or ps i z)
 each_index P ps i z h e = each_mid P (take i ps) (get_or ps i z) (drop (suc i) ps) (subst (Each P) (index_split ps i z h) e)
 
 -- a step down fits where each piece before the first rank, moved by a period, does

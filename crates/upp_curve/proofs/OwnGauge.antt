@@ -84,7 +84,7 @@ end_within z end a h =
 double : (v : ℚ) → v +ℚ v ≡ int (pos 2) *ℚ v
 double v = with1 v (λ c. omega (arith, c.le, c.lt, c.same))
 
-twice_fits : (v d : ℕ) → v * d ≤ 2 ^ 122 → (int (pos v) +ℚ int (pos v)) *ℚ int (pos d) ≤ℚ int (pos largest_part)
+pub twice_fits : (v d : ℕ) → v * d ≤ 2 ^ 122 → (int (pos v) +ℚ int (pos v)) *ℚ int (pos d) ≤ℚ int (pos largest_part)
 twice_fits v d h =
     let e : (int (pos v) +ℚ int (pos v)) *ℚ int (pos d) ≡ int (pos ((v + v) * d)) = ap (λ x. x *ℚ int (pos d)) (int_add (pos v) (pos v)) ∙ mul_whole (pos (v + v)) (pos d) 0 in
     subst (λ x. x ≤ℚ int (pos largest_part)) (sym e) (nat_le ((v + v) * d) largest_part (omega (arith, h)))

@@ -37,5 +37,11 @@ pub mod Levels
 pub mod ClosedOperands
 pub mod Operand
 pub mod Outcome
+pub mod CallNumbers
+pub mod Unrolling
 pub mod Ahead
 pub mod Copied
+pub mod OwnLimits
+pub mod Bends
+pub mod Given
+pub mod Continuity

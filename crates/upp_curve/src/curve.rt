@@ -14,7 +14,7 @@ use crate::shape::{are_finite, last_slope, period_end, rise_to};
 use affine_segment::Piece;
 use fraction128::{Ext, Frac, Wide};
 use rational::Extended;
-use std::alloc::AllocError;
+use std::alloc::{AllocError, Global};
 use std::cmp::Ordering;
 use std::marker::Model;
 
@@ -160,6 +160,14 @@ impl Curve {
         ensures kept { IsCurve self.now }
     {
         &self.tail
+    }
+
+    /// The allocator of the pieces.
+    #[inline]
+    pub(crate) fn allocator(&self) -> Global
+        ensures { IsCurve self.now }
+    {
+        *self.pieces.allocator()
     }
 
     // Whether the two are stored alike.

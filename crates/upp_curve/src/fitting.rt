@@ -26,7 +26,7 @@ pub(crate) fn sum(a: Frac, b: Frac) -> Frac
     Frac::add(a, b).unwrap()
 }
 
-// a - b.
+/// a - b.
 pub(crate) fn difference(a: Frac, b: Frac) -> Frac
     requires { SumFits a (neg_ℚ b) }
     ensures { result ≡ a -ℚ b }
@@ -34,7 +34,7 @@ pub(crate) fn difference(a: Frac, b: Frac) -> Frac
     Frac::sub(a, b).unwrap()
 }
 
-// a b.
+/// a b.
 pub(crate) fn product(a: Frac, b: Frac) -> Frac
     requires { IsSmall (a *ℚ b) }
     ensures { result ≡ a *ℚ b }

@@ -44,8 +44,8 @@ fn goes_on(pieces: &[Piece], k: usize, by: Frac, rise: Frac) -> bool
     true
 }
 
-// The pieces of one period.
-fn turn_of(pieces: &[Piece], first: usize) -> &[Piece]
+/// The pieces after the first so many.
+pub(crate) fn turn_of(pieces: &[Piece], first: usize) -> &[Piece]
     requires { first ≤ length pieces.now }
     ensures { result.now ≡ drop first pieces.now }
 {

@@ -2,6 +2,7 @@
 #![tactic(auto)]
 
 mod ahead;
+mod call_sizes;
 mod counts;
 mod curve;
 mod curve_numbers;
@@ -9,6 +10,8 @@ mod cycle;
 mod fitting;
 mod gathered;
 mod gauges;
+mod given;
+mod jumps;
 mod kind_laws;
 mod known;
 mod laws;
@@ -17,8 +20,11 @@ mod limits;
 mod long;
 mod lowest_rank;
 mod merging;
+#[cfg(test)]
+mod normal_tests;
 mod op_kind;
 mod operand_numbers;
+mod own_limits;
 mod own_window;
 mod raw_curve;
 mod reading;
@@ -28,18 +34,25 @@ mod seen;
 mod shape;
 mod start_counts;
 mod starts;
+mod steadiness;
 #[cfg(test)]
 mod tests;
 mod two_periods;
+mod unrolling;
 
 pub use ahead::{Stretch, stretch_at};
+pub use call_sizes::{CallNumbers, call_numbers};
 pub use curve::{Curve, Tail, equal};
+pub use jumps::is_continuous;
 pub use kind_laws::kinds_are_curves;
 pub use laws::{
     bucket_deviations, deviations_are_unique, normal_form_is_unique, worked_kinds,
     worked_operators, worked_shifts, worked_stairs,
 };
-pub use limits::{gauge, tally};
+pub use limits::{gauge, tally, tally_over};
 pub use op_kind::{OpFault, OpKind, Window};
+pub use own_limits::{OverLimit, over_own_limit};
 pub use raw_curve::{RawCurve, normalise, normalise_on};
+pub use scaled_numbers::{scaled_piece, scaled_tail};
 pub use starts::{is_after, is_before};
+pub use steadiness::steady_time;

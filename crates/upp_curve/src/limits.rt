@@ -3,19 +3,14 @@
 ghost use Rattle.std.specs.Prelude.{ℕ, ◌≡◌, ◌-◌, ◌^◌, ◌≤◌, min, Option, Some, None, MatchOption};
 ghost use Rattle.rational.specs.Rational.{ℚ};
 ghost use Rattle.upp_curve.specs.Unrolled.{count};
-ghost use Rattle.upp_curve.specs.Limits.{Numbers, joined};
-ghost use Rattle.upp_curve.specs.Gathered.{Gathers};
-ghost use Rattle.upp_curve.specs.Gauges.{IsKnownAtOnce, tally_over, gauge_over, kind_numbers};
+ghost use Rattle.upp_curve.specs.Gauges.{IsKnownAtOnce, tally_over, gauge_over};
 
+use crate::call_sizes::call_numbers;
 use crate::counts::count_below;
 use crate::curve::Curve;
-use crate::gathered::Gathered;
-use crate::gauges::gauge_of;
 use crate::known::is_known_at_once;
 use crate::op_kind::{OpKind, Tallied, Window};
-use crate::operand_numbers::with_operands;
 use fraction128::Frac;
-use rational::Extended;
 
 /// How many unrolled pieces of a curve start before `end`, up to the largest u64.
 fn count_of(c: &Curve, end: Frac) -> u64
@@ -24,8 +19,9 @@ fn count_of(c: &Curve, end: Frac) -> u64
     count_below(c.pieces(), c.tail(), end)
 }
 
-/// The tally over a window's end, up to the largest u64.
-fn tally_over(op: &OpKind, f: &Curve, g: &Curve, end: Frac) -> u64
+/// How many pieces, or pairs of pieces, a call looks at below a window's end, up to the largest u64, also where the answer is
+/// known at once. No memory is taken and nothing is unrolled.
+pub fn tally_over(op: &OpKind, f: &Curve, g: &Curve, end: Frac) -> u64
     ensures { result ≡ min (tally_over op.now f.now g.now end) (2 ^ 64 - 1) }
 {
     match op.tallied() {
@@ -53,25 +49,12 @@ pub fn tally(op: OpKind, f: &Curve, g: &Curve, window: Window) -> u64
     }
 }
 
-/// The numbers that belong to the kind itself more.
-fn with_kind(found: Gathered, op: &OpKind) -> Gathered
-    ensures { (n : Numbers) → Gathers found n → Gathers result (joined n (kind_numbers op.now)) }
-{
-    match op {
-        OpKind::PosMinus(value) => found.with_value(*value),
-        OpKind::Shift(Extended::Fin(time)) => found.with_time(*time),
-        OpKind::FifoLeft(Extended::Fin(time)) => found.with_time(*time),
-        _ => found,
-    }
-}
-
 /// The gauge over a window's end. None where it is 2^128 or more.
 fn gauge_over(op: &OpKind, f: &Curve, g: &Curve, end: Frac) -> Option<u128>
     ensures { MatchOption result (2 ^ 128 ≤ gauge_over op.now f.now g.now end) (λ k. k ≡ gauge_over op.now f.now g.now end) }
 {
-    let own = with_kind(Gathered::nothing().with_time(end), op);
-    match with_operands(own, op.operands(), f, g, end) {
-        Some(found) => gauge_of(found, end),
+    match call_numbers(op, f, g, end) {
+        Some(numbers) => Some(numbers.gauge),
         None => None,
     }
 }

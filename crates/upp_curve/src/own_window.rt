@@ -28,7 +28,7 @@ use fraction128::{Ext, Frac};
 use rational::Extended;
 
 /// Whether the value at the rank, of a last piece that starts at it or before, is that of the piece's line.
-fn keeps_line(last: &Piece, rank: Frac) -> Option<bool>
+pub(crate) fn keeps_line(last: &Piece, rank: Frac) -> Option<bool>
     requires { last.now.x ≤ℚ rank }
     ensures value { IfSome result (λ b. b ≡ same_ext (piece_value last.now rank) (line_value last.now.line rank)) }
     ensures fits { RankLineFits last.now rank → IsSome result }
@@ -43,7 +43,7 @@ fn keeps_line(last: &Piece, rank: Frac) -> Option<bool>
 }
 
 /// Whether the value at the rank, of a last piece that starts at it or before, is infinite.
-fn is_infinite_at(last: &Piece, rank: Frac) -> bool
+pub(crate) fn is_infinite_at(last: &Piece, rank: Frac) -> bool
     requires { last.now.x ≤ℚ rank }
     ensures { result ≡ same_ext (piece_value last.now rank) Inf }
 {
@@ -60,7 +60,7 @@ fn is_infinite_at(last: &Piece, rank: Frac) -> bool
 }
 
 /// The rank, or one later unless `keeps`.
-fn later_unless(keeps: bool, rank: Frac) -> Option<Frac>
+pub(crate) fn later_unless(keeps: bool, rank: Frac) -> Option<Frac>
     ensures value { IfSome result (λ t. t ≡ later_unless keeps rank) }
     ensures fits { SumFits rank (int (pos 1)) → IsSome result }
 {
@@ -105,8 +105,8 @@ pub(crate) struct OwnNumbers {
     pub values: u128,
 }
 
-// The numbers of what was gathered, the window's end first; None where the gauge is 2^128 or more.
-fn numbers_of(g: Gathered, end: Frac) -> Option<OwnNumbers>
+/// The numbers of what was gathered, the window's end first; None where the gauge is 2^128 or more.
+pub(crate) fn numbers_of(g: Gathered, end: Frac) -> Option<OwnNumbers>
     ensures { (n : Numbers) → Gathers g (joined (time_alone end) n)
         → MatchOption result (2 ^ 128 ≤ gauge_of (sizes_of end n)) (AreNumbers end (sizes_of end n)) }
 {

@@ -1,0 +1,5 @@
+pub mod Members
+pub mod Cover
+pub mod Envelopes
+pub mod Windows
+pub mod ElementSizes

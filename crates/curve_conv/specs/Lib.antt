@@ -1,0 +1,4 @@
+pub mod PieceElements
+pub mod Envelopes
+pub mod ConvolutionLaws
+pub mod ElementRoom

@@ -1,0 +1,22 @@
+//! What makes a convolution of curves out of those of elements: theorems, by their contracts.
+
+ghost use Rattle.curve_conv.specs.ConvolutionLaws.{PiecesAreCovered, EnvelopeRules};
+ghost use Rattle.curve_conv.specs.ConvolutionLaws.{PairsConvolveWindows, PairsConvolveCurves};
+
+/// The elements of pieces: each reads as the pieces at its times, and a time with a finite value is a time of exactly
+/// one of them.
+pub fn pieces_are_covered()
+    ensures { PiecesAreCovered }
+{}
+
+/// How the least of the pairs of two lists comes from those of parts of the lists, and of one pair.
+pub fn envelopes_join()
+    ensures { EnvelopeRules }
+{}
+
+/// Before the end of two windows, the least of all pairs of their elements is their convolution; and so for curves,
+/// with the pieces that start before that end.
+pub fn pairs_convolve()
+    ensures windows { PairsConvolveWindows }
+    ensures curves { PairsConvolveCurves }
+{}

@@ -1,0 +1,6 @@
+//! Operators on curves whose answer at a time is made of the operands' values at one time: sums, multiples and shifts.
+#![tactic(auto)]
+
+mod sums;
+
+pub use sums::sum;

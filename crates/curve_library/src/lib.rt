@@ -1,0 +1,19 @@
+//! The curves that a network's file names: a token bucket, a stair of packets, a rate after a latency, a gate, and pieces
+//! that are listed one by one.
+#![tactic(auto)]
+
+mod buckets;
+mod fault;
+mod formed;
+mod gates;
+mod latencies;
+mod shares;
+mod signs;
+mod stairs;
+
+pub use buckets::bucket;
+pub use fault::CurveFault;
+pub use gates::gate;
+pub use latencies::rate_latency;
+pub use stairs::stair;
+pub use upp_curve::OverLimit;

@@ -1,0 +1,17 @@
+pub mod Levels
+pub mod Bending
+pub mod Suprema
+pub mod Infima
+pub mod Building
+pub mod Middle
+pub mod Meetings
+pub mod Makings
+pub mod SupremumLoop
+pub mod InfimumLoop
+pub mod LevelSizes
+pub mod Shifts
+pub mod Highest
+pub mod Covers
+pub mod SupremumCalls
+pub mod RunFacts
+pub mod SupremumRuns

@@ -1,0 +1,110 @@
+//! One finite piece of a window, with its end.
+
+ghost use Rattle.std.specs.Prelude.{◌≡◌, ◌<◌, length, drop, Some};
+ghost use Rattle.rational.specs.MinMax.{min_q, max_q};
+ghost use Rattle.rational.specs.declared.Extended.TheVariants.{Fin};
+ghost use Rattle.affine_segment.specs.Values.{line_at};
+ghost use Rattle.upp_curve.specs.Readable.{LineFits};
+ghost use Rattle.upp_curve.specs.Shapes.{IsNumber, IsLine};
+ghost use Rattle.curve_running.specs.Scans.{start_or, IsWindow, ScanFits, IsStretch};
+
+use affine_segment::{Line, Piece, value};
+use fraction128::{Ext, Frac};
+use rational::Extended;
+use std::cmp::Ordering;
+
+/// A piece with a number at its start and a line after it, the time at which it ends, and the limits of the line: the right
+/// one at its start, the left one at its end.
+#[derive(Debug, Clone, Copy)]
+pub(crate) struct Stretch {
+    pub(crate) from: Frac,
+    pub(crate) at: Frac,
+    pub(crate) line: Line,
+    pub(crate) to: Frac,
+    pub(crate) right: Frac,
+    pub(crate) left: Frac,
+}
+
+/// The greater of two.
+pub(crate) fn greater(a: Frac, b: Frac) -> Frac
+    ensures { result ≡ max_q a b }
+{
+    match a.cmp(&b) {
+        Ordering::Greater => a,
+        _ => b,
+    }
+}
+
+/// The lesser of two.
+pub(crate) fn lesser(a: Frac, b: Frac) -> Frac
+    ensures { result ≡ min_q a b }
+{
+    match a.cmp(&b) {
+        Ordering::Greater => b,
+        _ => a,
+    }
+}
+
+/// The value of a line, where its steps fit.
+pub(crate) fn fitting_value(line: &Line, t: Frac) -> Frac
+    requires { LineFits t line.now }
+    ensures { result ≡ line_at line.now t }
+{
+    match value(line, t) {
+        Ok(v) => v,
+        Err(_) => t,
+    }
+}
+
+fn number_of(v: &Ext) -> Frac
+    requires { IsNumber v.now }
+    ensures { v.now ≡ Fin result }
+{
+    match *v {
+        Extended::Fin(x) => x,
+        Extended::Inf => Frac::zero(),
+    }
+}
+
+fn line_of(p: &Piece) -> Line
+    requires { IsLine p.now.line }
+    ensures { p.now.line ≡ Some result }
+{
+    match p.line {
+        Some(line) => line,
+        None => Line {
+            icept: p.x,
+            slope: p.x,
+        },
+    }
+}
+
+// Where the i-th piece starts, and `end` where there is none.
+fn start_of(ps: &[Piece], i: usize, end: Frac) -> Frac
+    ensures { result ≡ start_or end (drop i ps.now) }
+{
+    match ps.get(i) {
+        Some(p) => p.x,
+        None => end,
+    }
+}
+
+/// The i-th piece of a window that ends at `end`.
+pub(crate) fn stretch_at(ps: &[Piece], i: usize, end: Frac) -> Stretch
+    requires index { i < length ps.now }
+    requires window { IsWindow end ps.now }
+    requires fits { ScanFits end ps.now }
+    ensures { IsStretch ps.now end i result }
+{
+    let p = ps[i];
+    let to = start_of(ps, i + 1, end);
+    let line = line_of(&p);
+    Stretch {
+        from: p.x,
+        at: number_of(&p.at),
+        line,
+        to,
+        right: fitting_value(&line, p.x),
+        left: fitting_value(&line, to),
+    }
+}

@@ -1,0 +1,212 @@
+//! What is made of two windows at each time: the lower, the upper, and what the first has above the second.
+
+ghost use Rattle.std.specs.Prelude.{◌≡◌, ◌+◌, ◌<◌, pos, length, drop, IfOk};
+ghost use Rattle.rational.specs.Rational.{◌-ℚ◌, ◌≤ℚ◌, ◌<ℚ◌, neg_ℚ, int};
+ghost use Rattle.rational.specs.Ratio.{SumFits};
+ghost use Rattle.rational.specs.MinMax.{min_q, max_q};
+ghost use Rattle.rational.specs.Extended.{min_ext, max_ext};
+ghost use Rattle.upp_curve.specs.Pointwise.{excess};
+ghost use Rattle.curve_window.specs.Stretches.{EachBoth};
+ghost use Rattle.curve_window.specs.Made.{made_value, made_line, line_apart, zero_line, first_piece, next_start, IsParts, AreMade, ValueApartFits, LineApartFits, StretchMadeFits};
+
+use crate::lie::lie_of;
+use crate::stretch::{Both, cut};
+use affine_segment::{Line, Piece};
+use fraction128::{Ext, Frac};
+use rational::Extended;
+use std::alloc::{AllocError, Global};
+use std::cmp::Ordering;
+
+/// What is made of two windows.
+#[derive(Debug, Clone, Copy)]
+pub(crate) enum Made {
+    /// The lower of the two.
+    Lower,
+    /// The upper of the two.
+    Upper,
+    /// What the first has above the second; 0 where it has nothing, or the second is infinite.
+    Excess,
+}
+
+// The pieces of a stretch: its beginning, and what follows where its lines change places.
+#[derive(Debug, Clone, Copy)]
+struct Parts {
+    first: Piece,
+    turn: Option<Piece>,
+}
+
+fn lesser(x: Frac, y: Frac) -> Frac
+    ensures { result ≡ min_q x y }
+{
+    match x.cmp(&y) {
+        Ordering::Greater => y,
+        _ => x,
+    }
+}
+
+fn greater(x: Frac, y: Frac) -> Frac
+    ensures { result ≡ max_q x y }
+{
+    match x.cmp(&y) {
+        Ordering::Greater => x,
+        _ => y,
+    }
+}
+
+// a - b.
+fn difference(a: Frac, b: Frac) -> Frac
+    requires { SumFits a (neg_ℚ b) }
+    ensures { result ≡ a -ℚ b }
+{
+    Frac::sub(a, b).unwrap()
+}
+
+fn lower_value(a: Ext, b: Ext) -> Ext
+    ensures { result ≡ min_ext a b }
+{
+    match a {
+        Extended::Inf => b,
+        Extended::Fin(x) => match b {
+            Extended::Inf => a,
+            Extended::Fin(y) => Extended::Fin(lesser(x, y)),
+        },
+    }
+}
+
+fn upper_value(a: Ext, b: Ext) -> Ext
+    ensures { result ≡ max_ext a b }
+{
+    match a {
+        Extended::Inf => Extended::Inf,
+        Extended::Fin(x) => match b {
+            Extended::Inf => Extended::Inf,
+            Extended::Fin(y) => Extended::Fin(greater(x, y)),
+        },
+    }
+}
+
+fn excess_value(a: Ext, b: Ext) -> Ext
+    requires { ValueApartFits a b }
+    ensures { result ≡ excess a b }
+{
+    match b {
+        Extended::Inf => Extended::Fin(Frac::zero()),
+        Extended::Fin(y) => match a {
+            Extended::Inf => Extended::Inf,
+            Extended::Fin(x) => Extended::Fin(greater(Frac::zero(), difference(x, y))),
+        },
+    }
+}
+
+fn made_values(made: Made, a: Ext, b: Ext) -> Ext
+    requires { ValueApartFits a b }
+    ensures { result ≡ made_value made a b }
+{
+    match made {
+        Made::Lower => lower_value(a, b),
+        Made::Upper => upper_value(a, b),
+        Made::Excess => excess_value(a, b),
+    }
+}
+
+fn lines_apart(a: Option<Line>, b: Option<Line>) -> Option<Line>
+    requires { LineApartFits a b }
+    ensures { result ≡ line_apart a b }
+{
+    match b {
+        None => Some(Line {
+            icept: Frac::zero(),
+            slope: Frac::zero(),
+        }),
+        Some(m) => match a {
+            None => None,
+            Some(l) => Some(Line {
+                icept: difference(l.icept, m.icept),
+                slope: difference(l.slope, m.slope),
+            }),
+        },
+    }
+}
+
+fn excess_line(below: bool, a: Option<Line>, b: Option<Line>) -> Option<Line>
+    requires { LineApartFits a b }
+    ensures { result ≡ made_line Made.Excess below a b }
+{
+    if below {
+        return lines_apart(None, None);
+    }
+    lines_apart(a, b)
+}
+
+fn made_lines(made: Made, below: bool, a: Option<Line>, b: Option<Line>) -> Option<Line>
+    requires { LineApartFits a b }
+    ensures { result ≡ made_line made below a b }
+{
+    match made {
+        Made::Lower => { if below { a } else { b } }
+        Made::Upper => { if below { b } else { a } }
+        Made::Excess => excess_line(below, a, b),
+    }
+}
+
+fn first_of(made: Made, below: bool, b: &Both) -> Piece
+    requires value { ValueApartFits b.now.left.at b.now.right.at }
+    requires line { LineApartFits b.now.left.line b.now.right.line }
+    ensures { result ≡ first_piece made below b.now }
+{
+    Piece {
+        x: b.left.x,
+        at: made_values(made, b.left.at, b.right.at),
+        line: made_lines(made, below, b.left.line, b.right.line),
+    }
+}
+
+// The pieces of a stretch.
+fn parts_up_to(made: Made, b: &Both, to: Frac, end: Frac) -> Parts
+    requires fits { StretchMadeFits end b.now }
+    requires early { to ≤ℚ end }
+    ensures { IsParts made b.now to result }
+{
+    let lie = lie_of(b, to);
+    let first = first_of(made, lie.below, b);
+    match lie.turn {
+        None => Parts { first, turn: None },
+        Some(x) => Parts {
+            first,
+            turn: Some(cut(&first_of(made, !lie.below, b), x)),
+        },
+    }
+}
+
+// Where the stretch after the i-th starts, and `end` where there is none.
+fn start_after(stretches: &[Both], i: usize, end: Frac) -> Frac
+    requires { i < length stretches.now }
+    ensures { result ≡ next_start (drop (i + 1) stretches.now) end }
+{
+    match stretches.get(i + 1) {
+        None => end,
+        Some(next) => next.left.x,
+    }
+}
+
+/// What is made of two windows' stretches up to `end`, two pieces of each at most.
+pub(crate) fn made_of(
+    alloc: Global,
+    made: Made,
+    stretches: &[Both],
+    end: Frac,
+) -> Result<Vec<Piece>, AllocError>
+    requires fits { EachBoth (StretchMadeFits end) stretches.now }
+    requires early { EachBoth (λ b. b.left.x <ℚ end) stretches.now }
+    ensures { IfOk result (λ v. AreMade made stretches.now end v.items) }
+{
+    let mut pieces = Vec::new(alloc);
+    for (i, b) in stretches.iter().enumerate() {
+        let parts = parts_up_to(made, b, start_after(stretches, i, end), end);
+        pieces.push(parts.first)?;
+        if let Some(turn) = parts.turn {
+            pieces.push(turn)?;
+        }
+    }
+    Ok(pieces)
+}

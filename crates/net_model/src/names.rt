@@ -1,0 +1,43 @@
+//! Servers and flows by their names.
+
+ghost use Rattle.std.specs.Prelude.{◌≡◌, ◌↔◌, ℕ, ◌≤◌, length, MatchOption, IsTrue, Some};
+ghost use Rattle.std.specs.Option.{option_map};
+ghost use Rattle.net_model.specs.Names.{FindsServer, FindsFlow, HasName};
+ghost use Rattle.net_model.specs.Views.{flow_of, flows_of, servers_of};
+
+use crate::flow::Flow;
+use crate::server::Server;
+
+pub(crate) fn place_of_server(servers: &[Server], name: &str) -> Option<u32>
+    requires { length servers.now ≤ 64 }
+    ensures { FindsServer (servers_of servers.now) name.now result }
+{
+    for (i, server) in servers.iter().enumerate() {
+        if server.name.as_str() == name {
+            return Some(i as u32);
+        }
+    }
+    None
+}
+
+// Whether a place has a live flow with a name.
+fn has_name(flow: &Option<Flow>, name: &str) -> bool
+    ensures { IsTrue result ↔ HasName (option_map flow_of flow.now) name.now }
+{
+    match flow {
+        None => false,
+        Some(f) => f.name.as_str() == name,
+    }
+}
+
+pub(crate) fn place_of_flow(flows: &[Option<Flow>], name: &str) -> Option<u32>
+    requires { length flows.now ≤ 256 }
+    ensures { FindsFlow (flows_of flows.now) name.now result }
+{
+    for (i, flow) in flows.iter().enumerate() {
+        if has_name(flow, name) {
+            return Some(i as u32);
+        }
+    }
+    None
+}

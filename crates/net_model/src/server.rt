@@ -1,0 +1,78 @@
+//! Servers.
+
+use fraction128::Frac;
+use std::alloc::AllocError;
+use upp_curve::Curve;
+
+/// How the service curve of a server is given, besides its rate.
+#[derive(Debug, Clone, Copy)]
+pub enum ServiceKind {
+    /// The rate after a latency.
+    Latency(Frac),
+    /// The rate in the last `slot` of each `cycle`.
+    Gate { cycle: Frac, slot: Frac },
+    /// By its pieces.
+    Listed,
+}
+
+/// How a server with none under way chooses the packet that it works on next.
+#[derive(Debug, Drop)]
+pub enum Discipline {
+    /// The one that came first.
+    Fifo,
+    /// The first of the first queue that has one.
+    Priority { queues: u32 },
+    /// Deficit round robin: each queue's quantum, in bits.
+    Drr { quanta: Vec<u64> },
+}
+
+/// A server.
+#[derive(Drop)]
+pub struct Server {
+    pub name: String,
+    /// Bits in a unit of time.
+    pub rate: Frac,
+    pub kind: ServiceKind,
+    /// How many bits it serves at least in a time through which it always has work.
+    pub service: Curve,
+    /// How long a packet that leaves it is on the way.
+    pub link: Frac,
+    pub discipline: Discipline,
+}
+
+impl Discipline {
+    ghost use Rattle.std.specs.Prelude.{◌≡◌, IfOk};
+    ghost use Rattle.net_model.specs.Views.{discipline_of};
+
+    /// The same discipline again.
+    pub fn copy(&self) -> Result<Discipline, AllocError>
+        ensures { IfOk result (λ d. discipline_of d ≡ discipline_of self.now) }
+    {
+        match self {
+            Discipline::Fifo => Ok(Discipline::Fifo),
+            Discipline::Priority { queues } => Ok(Discipline::Priority { queues: *queues }),
+            Discipline::Drr { quanta } => Ok(Discipline::Drr {
+                quanta: quanta.clone()?,
+            }),
+        }
+    }
+}
+
+impl Server {
+    ghost use Rattle.std.specs.Prelude.{◌≡◌, IfOk};
+    ghost use Rattle.net_model.specs.Views.{server_of};
+
+    /// The same server again.
+    pub fn copy(&self) -> Result<Server, AllocError>
+        ensures { IfOk result (λ s. server_of s ≡ server_of self.now) }
+    {
+        Ok(Server {
+            name: self.name.clone()?,
+            rate: self.rate,
+            kind: self.kind,
+            service: self.service.copy()?,
+            link: self.link,
+            discipline: self.discipline.copy()?,
+        })
+    }
+}

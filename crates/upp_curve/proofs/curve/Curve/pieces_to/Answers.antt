@@ -1,0 +1,28 @@
+use Rattle.std.proofs.Common.{arith, ◌≡◌, ◌<◌, ◌^◌, ◌∙◌, pos, refl, subst, sym}
+use Rattle.rational.specs.Rational.{◌<ℚ◌, ◌≤ℚ◌, int}
+use Rattle.rational.proofs.Laws.{le_of_lt}
+use Rattle.upp_curve.specs.declared.op_kind.OpKind.TheVariants.{Itself}
+use Rattle.upp_curve.specs.Gauges.{gauge_over}
+use Rattle.upp_curve.proofs.Compared.{not_less_out}
+use Rattle.upp_curve.proofs.GaugeRises.{first_operand}
+use Rattle.upp_curve.proofs.UnrolledPieces.{unroll_none}
+use Rattle.upp_curve.proofs.curve.Curve.pieces_to.Goals as goal
+
+pub returns-then-is_less-clause-pieces : goal.returns-then-is_less-clause-pieces
+returns-then-is_less-clause-pieces c =
+    let f = c.args.self.now in
+    let h = c.args.h in
+    let early : h <ℚ int (pos 0) = subst (λ x. h <ℚ x) c.zero.ensures (c.is_less.ensures.less.0 c.if-is_less.true) in
+    c.new.ensures.items ∙ sym (unroll_none f h (le_of_lt early) c.allocator-alloc.ensures.normal)
+
+pub unrolled-requires : goal.unrolled-requires
+unrolled-requires c =
+    let f = c.args.self.now in
+    let h = c.args.h in
+    let late : int (pos 0) ≤ℚ h = subst (λ x. x ≤ℚ h) c.zero.ensures (not_less_out c.is_less.result h c.zero.result c.is_less.ensures.less c.if-is_less.false) in
+    let size : c.in-Some.size ≡ gauge_over Itself f f h = c.in-Some.ensures.exact h (λ k. k) refl in
+    let small : gauge_over Itself f f h < 2 ^ 120 = omega arith in
+    first_operand Itself f f h late small
+
+pub returns-in-Ok-clause-none : goal.returns-in-Ok-clause-none
+returns-in-Ok-clause-none c = λ low. c.in-Ok.ensures ∙ unroll_none c.args.self.now c.args.h low c.allocator-alloc.ensures.normal

@@ -1,0 +1,26 @@
+use Rattle.std.proofs.Common.{◌≡◌, ◌∙◌, sym, subst, ap}
+use Rattle.std.specs.Option.{IfSome}
+use Rattle.upp_curve.specs.Steady.{later_unless}
+use Rattle.upp_curve.proofs.SteadyStart.{IsLast, periodic_steady, affine_steady, infinite_steady, affine_line}
+use Rattle.upp_curve.proofs.steadiness.steady_time.Goals as goal
+
+pub returns-in-Periodic-clause-value : goal.returns-in-Periodic-clause-value
+returns-in-Periodic-clause-value c =
+    periodic_steady c.args.c.now c.in-Periodic.rank c.in-Periodic.period c.in-Periodic.rise (sym c.tail.ensures.tail ∙ c.in-Periodic.is)
+
+pub returns-in-Some-clause-value : goal.returns-in-Some-clause-value
+returns-in-Some-clause-value c =
+    let last : IsLast c.args.c.now c.pieces-pieces.result.now c.index-pieces-pieces.result = record { pieces = c.pieces-pieces.ensures.pieces; place = c.index-pieces-pieces.is } in
+    let e = affine_steady c.args.c.now c.pieces-pieces.result.now c.index-pieces-pieces.result c.in-Affine.rank c.tail.ensures.kept last (sym c.tail.ensures.tail ∙ c.in-Affine.is) in
+    subst (λ s. IfSome c.later_unless.result (λ t. t ≡ s)) (ap (λ b. later_unless b c.in-Affine.rank) c.in-Some.ensures.value ∙ e) c.later_unless.ensures.value
+
+pub returns-in-None-clause-fits : goal.returns-in-None-clause-fits
+returns-in-None-clause-fits c = λ s.
+    let last : IsLast c.args.c.now c.pieces-pieces.result.now c.index-pieces-pieces.result = record { pieces = c.pieces-pieces.ensures.pieces; place = c.index-pieces-pieces.is } in
+    c.in-None.ensures.fits (affine_line c.args.c.now c.pieces-pieces.result.now c.index-pieces-pieces.result c.in-Affine.rank c.tail.ensures.kept last (sym c.tail.ensures.tail ∙ c.in-Affine.is))
+
+pub returns-in-Infinite-clause-value : goal.returns-in-Infinite-clause-value
+returns-in-Infinite-clause-value c =
+    let last : IsLast c.args.c.now c.pieces-pieces.result.now c.index-pieces-pieces.result = record { pieces = c.pieces-pieces.ensures.pieces; place = c.index-pieces-pieces.is } in
+    let e = infinite_steady c.args.c.now c.pieces-pieces.result.now c.index-pieces-pieces.result c.in-Infinite.rank c.tail.ensures.kept last (sym c.tail.ensures.tail ∙ c.in-Infinite.is) in
+    subst (λ s. IfSome c.later_unless-in-Infinite.result (λ t. t ≡ s)) (ap (λ b. later_unless b c.in-Infinite.rank) c.is_infinite_at.ensures ∙ e) c.later_unless-in-Infinite.ensures.value

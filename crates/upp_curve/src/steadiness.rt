@@ -1,0 +1,28 @@
+//! From when on a curve repeats.
+
+ghost use Rattle.std.specs.Prelude.{◌≡◌, pos, IfSome, IsSome};
+ghost use Rattle.rational.specs.Rational.{int};
+ghost use Rattle.rational.specs.Ratio.{SumFits};
+ghost use Rattle.upp_curve.specs.Steady.{rank_of, steady};
+
+use crate::curve::{Curve, Tail};
+use crate::own_window::{is_infinite_at, keeps_line, later_unless};
+use fraction128::Frac;
+
+/// From when on a curve repeats with each of its periods: its rank; 1 later where the value at the rank of an affine tail is
+/// not its line's, or that of an infinite tail is finite. None only where rank + 1 does not fit.
+pub fn steady_time(c: &Curve) -> Option<Frac>
+    ensures value { IfSome result (λ t. t ≡ steady c.now) }
+    ensures fits { SumFits (rank_of c.now.tail) (int (pos 1)) → IsSome result }
+{
+    let pieces = c.pieces();
+    let last = &pieces[pieces.len() - 1];
+    match c.tail() {
+        Tail::Periodic { rank, .. } => Some(*rank),
+        Tail::Affine { rank } => match keeps_line(last, *rank) {
+            Some(keeps) => later_unless(keeps, *rank),
+            None => None,
+        },
+        Tail::Infinite { rank } => later_unless(is_infinite_at(last, *rank), *rank),
+    }
+}
