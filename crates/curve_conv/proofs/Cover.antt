@@ -22,11 +22,11 @@ use Rattle.curve_conv.specs.ConvolutionLaws.{ElementsCover}
 use Rattle.curve_conv.proofs.Members.{among_left, among_right, among_cases}
 
 -- ---- one piece
-abbrev head : ℚ → Ext → Option Line → Ext → List Element
+abbrev pub head : ℚ → Ext → Option Line → Ext → List Element
 head x at line next = point_of x at ++ segment_of x next line
 
 -- its elements are the point at its start and the segment after it
-head_cases : (x : ℚ) (at : Ext) (line : Option Line) (next : Ext) (e : Element) → Among e (head x at line next)
+pub head_cases : (x : ℚ) (at : Ext) (line : Option Line) (next : Ext) (e : Element) → Among e (head x at line next)
     → ((v : ℚ) × (at ≡ Fin v) × (e ≡ Point x v)) ⊎ ((l : Line) × (line ≡ Some l) × (e ≡ Open x next l))
 head_cases x Inf None next e h = absurd h
 head_cases x Inf (Some l) next e (inl p) = inr (l, refl, p)

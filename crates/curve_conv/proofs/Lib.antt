@@ -3,3 +3,4 @@ pub mod Cover
 pub mod Envelopes
 pub mod Windows
 pub mod ElementSizes
+pub mod OperandElements

@@ -2,3 +2,4 @@ pub mod PieceElements
 pub mod Envelopes
 pub mod ConvolutionLaws
 pub mod ElementRoom
+pub mod RoomLaws
