@@ -4,3 +4,4 @@ pub mod Envelopes
 pub mod Windows
 pub mod ElementSizes
 pub mod OperandElements
+pub mod JoinedReads

@@ -3,3 +3,4 @@ pub mod Envelopes
 pub mod ConvolutionLaws
 pub mod ElementRoom
 pub mod RoomLaws
+pub mod JoinedWindows

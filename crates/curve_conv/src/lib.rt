@@ -4,6 +4,10 @@
 mod cutting;
 pub mod laws;
 mod pair;
+#[cfg(test)]
+mod tests;
+mod window;
 
 pub use cutting::cut;
 pub use pair::joined;
+pub use window::joined_window;
