@@ -22,11 +22,11 @@ use Rattle.curve_conv.specs.ConvolutionLaws.{ElementsCover}
 use Rattle.curve_conv.proofs.Members.{among_left, among_right, among_cases}
 
 -- ---- one piece
-abbrev head : ℚ → Ext → Option Line → Ext → List Element
+abbrev pub head : ℚ → Ext → Option Line → Ext → List Element
 head x at line next = point_of x at ++ segment_of x next line
 
 -- its elements are the point at its start and the segment after it
-head_cases : (x : ℚ) (at : Ext) (line : Option Line) (next : Ext) (e : Element) → Among e (head x at line next)
+pub head_cases : (x : ℚ) (at : Ext) (line : Option Line) (next : Ext) (e : Element) → Among e (head x at line next)
     → ((v : ℚ) × (at ≡ Fin v) × (e ≡ Point x v)) ⊎ ((l : Line) × (line ≡ Some l) × (e ≡ Open x next l))
 head_cases x Inf None next e h = absurd h
 head_cases x Inf (Some l) next e (inl p) = inr (l, refl, p)
@@ -48,11 +48,11 @@ head_line x at line l next e = subst (λ z. Among (Open x next l) (head x at z n
     go (Fin v) = inr (inl refl)
 
 -- read at its start, and after it
-value_here : (p : Piece) (t : ℚ) → t ≤ℚ p.x → piece_value p t ≡ p.at
+pub value_here : (p : Piece) (t : ℚ) → t ≤ℚ p.x → piece_value p t ≡ p.at
 unfolding piece_value
 value_here p t h = ap (λ b. cond b p.at (line_value p.line t)) (le_q_out t p.x h)
 
-value_past : (p : Piece) (t : ℚ) → p.x <ℚ t → piece_value p t ≡ line_value p.line t
+pub value_past : (p : Piece) (t : ℚ) → p.x <ℚ t → piece_value p t ≡ line_value p.line t
 unfolding piece_value
 value_past p t h = ap (λ b. cond b p.at (line_value p.line t)) (le_q_not t p.x h)
 
@@ -132,15 +132,15 @@ head_proper p next e room h = elim (head_cases p.x p.at p.line next e h) [
 ]
 
 -- ---- pieces
-read_one : (p : Piece) (t : ℚ) → read (p ∷ []) t ≡ piece_value p t
+pub read_one : (p : Piece) (t : ℚ) → read (p ∷ []) t ≡ piece_value p t
 unfolding read
 read_one p t = ap (λ q. piece_value q t) (piece_in_end p t)
 
-read_stop : (p q : Piece) (qs : List Piece) (t : ℚ) → t <ℚ q.x → read (p ∷ q ∷ qs) t ≡ piece_value p t
+pub read_stop : (p q : Piece) (qs : List Piece) (t : ℚ) → t <ℚ q.x → read (p ∷ q ∷ qs) t ≡ piece_value p t
 unfolding read
 read_stop p q qs t h = ap (λ z. piece_value z t) (piece_in_stop p q qs t h)
 
-read_go : (p q : Piece) (qs : List Piece) (t : ℚ) → q.x ≤ℚ t → read (p ∷ q ∷ qs) t ≡ read (q ∷ qs) t
+pub read_go : (p q : Piece) (qs : List Piece) (t : ℚ) → q.x ≤ℚ t → read (p ∷ q ∷ qs) t ≡ read (q ∷ qs) t
 unfolding read
 read_go p q qs t h = ap (λ z. piece_value z t) (piece_in_go p q qs t h)
 

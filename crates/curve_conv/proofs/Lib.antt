@@ -3,3 +3,5 @@ pub mod Cover
 pub mod Envelopes
 pub mod Windows
 pub mod ElementSizes
+pub mod OperandElements
+pub mod JoinedReads

@@ -2,3 +2,5 @@ pub mod PieceElements
 pub mod Envelopes
 pub mod ConvolutionLaws
 pub mod ElementRoom
+pub mod RoomLaws
+pub mod JoinedWindows

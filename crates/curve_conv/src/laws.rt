@@ -2,6 +2,7 @@
 
 ghost use Rattle.curve_conv.specs.ConvolutionLaws.{PiecesAreCovered, EnvelopeRules};
 ghost use Rattle.curve_conv.specs.ConvolutionLaws.{PairsConvolveWindows, PairsConvolveCurves};
+ghost use Rattle.curve_conv.specs.RoomLaws.{ElementsStand, JoinedStand};
 
 /// The elements of pieces: each reads as the pieces at its times, and a time with a finite value is a time of exactly
 /// one of them.
@@ -19,4 +20,11 @@ pub fn envelopes_join()
 pub fn pairs_convolve()
     ensures windows { PairsConvolveWindows }
     ensures curves { PairsConvolveCurves }
+{}
+
+/// The elements of an operand's pieces stand on the grids of its call and within its sizes, and so does what two of them
+/// make.
+pub fn elements_have_room()
+    ensures elements { ElementsStand }
+    ensures joined { JoinedStand }
 {}
