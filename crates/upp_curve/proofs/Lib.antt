@@ -92,6 +92,5 @@ pub mod GivenCurves
 pub mod Bends
 pub mod StretchPieces
 pub mod StretchTurns
-pub mod AnswerRoom
 pub mod StretchSizes
 pub mod StretchValues
