@@ -155,8 +155,8 @@ repeating_form times values c m ps low d u L W dm um =
         tail = record {
           least_period = λ n a R.
               let some_n : 0 < n = omega arith in
-              let R2 = down (d /ℚ int (pos n)) (u /ℚ int (pos n)) (le_of_lt (share_some d n some_n C.some)) R in
-              L.least n a (subst (λ x. Repeats (cycle_values m) m.rank (x /ℚ int (pos n)) (m.rise /ℚ int (pos n))) dm (subst (λ y. Repeats (cycle_values m) m.rank (d /ℚ int (pos n)) (y /ℚ int (pos n))) um R2));
+              let repeats_shorter = down (d /ℚ int (pos n)) (u /ℚ int (pos n)) (le_of_lt (share_some d n some_n C.some)) R in
+              L.least n a (subst (λ x. Repeats (cycle_values m) m.rank (x /ℚ int (pos n)) (m.rise /ℚ int (pos n))) dm (subst (λ y. Repeats (cycle_values m) m.rank (d /ℚ int (pos n)) (y /ℚ int (pos n))) um repeats_shorter));
           least_rank =
               each_map (λ p. p.x <ℚ low → ¬ (Repeats (repeated (read ps) low d u) p.x d u)) (λ p. p.x <ℚ low → ¬ (Repeats g p.x d u))
               (λ p h l R. h l (same_rule (repeated (read ps) low d u) g p.x d u (λ t. sym (periodic_is ps low d u t)) R)) ps W.least;

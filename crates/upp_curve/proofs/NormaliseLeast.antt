@@ -310,12 +310,12 @@ search_divides times values c found d parts rest S e D =
       none = none;
       only = λ n a R.
           let some_n : 0 < n = omega arith in
-          let R2 = subst (λ x. Repeats (cycle_values c) c.rank (x /ℚ int (pos n)) (found.rise /ℚ int (pos n))) W.period (subst (λ y. Repeats (cycle_values c) c.rank (d.period /ℚ int (pos n)) (y /ℚ int (pos n))) W.rise R) in
+          let repeats_shorter = subst (λ x. Repeats (cycle_values c) c.rank (x /ℚ int (pos n)) (found.rise /ℚ int (pos n))) W.period (subst (λ y. Repeats (cycle_values c) c.rank (d.period /ℚ int (pos n)) (y /ℚ int (pos n))) W.rise R) in
           let apart = λ (k : parts ∣ n).
           W.none (from_values found (cycle_values c) c.rank (found.period /ℚ int (pos parts)) (found.rise /ℚ int (pos parts)) S.turned S.rank
           (le_of_lt (share_some found.period parts (let m = S.some in omega arith) S.turned.cycle.some))
-          (shorter_by (cycle_values c) c.rank found.period found.rise parts n S.turned.cycle.some some_n k R2)) in
-          divides_other parts n (rest / parts) left (coprime parts rest n S.some h some_n S.none apart) (subst (λ z. n ∣ z) (sym next) (S.only n a R2));
+          (shorter_by (cycle_values c) c.rank found.period found.rise parts n S.turned.cycle.some some_n k repeats_shorter)) in
+          divides_other parts n (rest / parts) left (coprime parts rest n S.some h some_n S.none apart) (subst (λ z. n ∣ z) (sym next) (S.only n a repeats_shorter));
     }
     by_outcome h next left back none T r (inr W) =
         let some_p : 0 < parts = let m = S.some in omega arith in
@@ -334,9 +334,9 @@ search_divides times values c found d parts rest S e D =
           none = none;
           only = λ n a R.
               let some_n : 0 < n = omega arith in
-              let R2 = subst (λ x. Repeats (cycle_values c) c.rank x (found.rise /ℚ int (pos (parts * n)))) (ap (λ z. z /ℚ int (pos n)) W.period ∙ share_twice found.period parts n some_p some_n)
+              let repeats_shorter = subst (λ x. Repeats (cycle_values c) c.rank x (found.rise /ℚ int (pos (parts * n)))) (ap (λ z. z /ℚ int (pos n)) W.period ∙ share_twice found.period parts n some_p some_n)
               (subst (λ y. Repeats (cycle_values c) c.rank (d.period /ℚ int (pos n)) y) (ap (λ z. z /ℚ int (pos n)) W.rise ∙ share_twice found.rise parts n some_p some_n) R) in
-              dvd_of_mul-dvd-mul_left n some_p (subst (λ z. parts * n ∣ z) (sym next) (S.only (parts * n) (mul-pos some_p some_n) R2));
+              dvd_of_mul-dvd-mul_left n some_p (subst (λ z. parts * n ∣ z) (sym next) (S.only (parts * n) (mul-pos some_p some_n) repeats_shorter));
         }
 
 pub search_ends : (times values : ℕ) (c found : Cycle) (parts rest : ℕ) → Searching times values c found parts rest → rest < parts → IsLeast times values c found
@@ -351,8 +351,8 @@ search_ends times values c found parts rest S h = record {
   rank = S.rank;
   least = λ n a R.
       let some_n : 0 < n = omega arith in
-      let R2 = to_values found (cycle_values c) c.rank (found.period /ℚ int (pos n)) (found.rise /ℚ int (pos n)) S.turned S.rank (le_of_lt (share_some found.period n some_n S.turned.cycle.some)) R in
-      let k = S.only n some_n R2 in
+      let repeats_shorter = to_values found (cycle_values c) c.rank (found.period /ℚ int (pos n)) (found.rise /ℚ int (pos n)) S.turned S.rank (le_of_lt (share_some found.period n some_n S.turned.cycle.some)) R in
+      let k = S.only n some_n repeats_shorter in
       let most : n ≤ rest = le_of_dvd S.left k in
       S.none n a (omega arith) k;
 }

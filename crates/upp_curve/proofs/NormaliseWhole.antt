@@ -70,10 +70,10 @@ pub repeating_curve : (m : Room) (times values : ℕ) (c k : Cycle) (ps : List P
     → IsLeast times values c k → IsLowest k.pieces.items ps low d u k.rank (cycle_values k) → d ≡ k.period → u ≡ k.rise → IsCurve (periodic ps low d u)
 repeating_curve m times values c k ps low d u K some L W dk uk =
     let R = least_room m times values c k K some L in
-    let R2 = subst (λ x. CycleHasRoom m times values k.pieces.items k.rank x u) (sym dk) (subst (λ y. CycleHasRoom m times values k.pieces.items k.rank k.period y) (sym uk) R) in
+    let room_there = subst (λ x. CycleHasRoom m times values k.pieces.items k.rank x u) (sym dk) (subst (λ y. CycleHasRoom m times values k.pieces.items k.rank k.period y) (sym uk) R) in
     record {
       normal = (repeating_form times values c k ps low d u L W dk uk).normal;
-      readable = period_readable m times values k.pieces.items ps k.rank low d u R2 W.front W.cycle W.lower;
+      readable = period_readable m times values k.pieces.items ps k.rank low d u room_there W.front W.cycle W.lower;
     }
 
 -- ---- two periods

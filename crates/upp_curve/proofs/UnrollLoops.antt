@@ -12,6 +12,7 @@ use Rattle.rational.proofs.Whole.{one_more_times, periods_high}
 use Rattle.affine_segment.specs.declared.line.Piece.{Piece}
 use Rattle.upp_curve.specs.Normal.{Each}
 use Rattle.upp_curve.specs.Unrolled.{copies, each_later, from, later, upto, whole_up}
+use Rattle.upp_curve.proofs.Normal.{upto_all}
 use Rattle.upp_curve.proofs.NormaliseCopies.{copies_next, copies_zero, later_twice, moved-append}
 use Rattle.upp_curve.proofs.NormaliseLists.{each_append, each_map, each_moved, upto_before}
 use Rattle.upp_curve.proofs.NormaliseLoops.{later_none, later_some}
@@ -20,10 +21,6 @@ use Rattle.upp_curve.proofs.Unique.{upto_end, upto_none, upto_some}
 use Rattle.upp_curve.proofs.UnrolledPieces.{no_later}
 
 -- ---- what starts before a time, of two lists one after another
-pub upto_all : (x : ℚ) (ps : List Piece) → Each (λ p. p.x <ℚ x) ps → upto x ps ≡ ps
-upto_all x [] h = upto_end x
-upto_all x (p ∷ ps) h = upto_some x p ps h.0 ∙ ap (λ zs. p ∷ zs) (upto_all x ps h.1)
-
 pub upto_joined : (x : ℚ) (ps qs : List Piece) → Each (λ p. p.x <ℚ x) ps → upto x (ps ++ qs) ≡ ps ++ upto x qs
 upto_joined x [] qs h = refl
 upto_joined x (p ∷ ps) qs h = upto_some x p (ps ++ qs) h.0 ∙ ap (λ zs. p ∷ zs) (upto_joined x ps qs h.1)
