@@ -1,9 +1,9 @@
 -- A period of the pieces is made of copies exactly where a fraction of it is a period.
-use Rattle.std.specs.Prelude.{◌≡◌, ℕ, zero, suc, ◌+◌, ◌-◌, ◌*◌, ◌<◌, ◌≤◌, pos, List, [], ◌∷◌, ◌++◌, length, map}
-use Rattle.std.proofs.Common.{arith, sym, ap, ap₂, ◌∙◌, refl, subst, inl, inr, take, drop, append_assoc, append-nil}
+use Rattle.std.specs.Prelude.{◌≡◌, ℕ, zero, suc, ◌+◌, ◌-◌, ◌*◌, ◌≤◌, pos, List, [], ◌∷◌, ◌++◌, length, map}
+use Rattle.std.proofs.Common.{arith, sym, ap, ap₂, ◌∙◌, refl, subst, take, drop, append_assoc, append-nil}
 use Rattle.std.proofs.lemmas.List.{take-append-drop, take_at, drop_at, length-append, length-take-le, take-take, drop-take, take_all, take-map, length-map, map-append}
 use Rattle.rational.specs.Rational.{ℚ, ◌+ℚ◌, ◌-ℚ◌, ◌*ℚ◌, ◌≤ℚ◌, ◌<ℚ◌, int}
-use Rattle.rational.proofs.Laws.{le_or_lt, le_of_lt, le_refl, le_trans, lt_le_trans, le_lt_trans, add_assoc, add_comm, mul_nonneg}
+use Rattle.rational.proofs.Laws.{le_of_lt, add_assoc, add_comm, mul_nonneg}
 use Rattle.rational.proofs.Linear.{with1, with2, with3, with4, with5}
 use Rattle.rational.proofs.Whole.{one_more_times, nat_nonneg}
 use Rattle.rational.proofs.ExtendedOrder.{add_assoc_ext}

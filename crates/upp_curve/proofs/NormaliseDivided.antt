@@ -1,13 +1,13 @@
 -- A curve's period divided: the pieces that are left, where the fraction is a period; and that there is none where they do not go on.
-use Rattle.std.specs.Prelude.{◌≡◌, ℕ, zero, suc, ◌+◌, ◌-◌, ◌*◌, ◌<◌, ◌≤◌, pos, List, [], ◌∷◌, ◌++◌, length, Option, None, Some}
-use Rattle.std.proofs.Common.{arith, sym, ap, ap₂, ◌∙◌, refl, subst, take, drop, append_assoc}
-use Rattle.std.proofs.lemmas.List.{take-append-drop, length-take-le, length-append}
+use Rattle.std.specs.Prelude.{◌≡◌, ℕ, zero, suc, ◌+◌, ◌*◌, ◌≤◌, pos, List, [], ◌∷◌, ◌++◌, length, Option}
+use Rattle.std.proofs.Common.{arith, sym, ap, ap₂, ◌∙◌, subst, take, append_assoc}
+use Rattle.std.proofs.lemmas.List.{length-take-le}
 use Rattle.std.proofs.Math.Seq.{take-append-add}
 use Prim.Native.Nat.{◌∣◌}
 use native.Mathlib.Nat.{dvd-mul_right, eq_of_mul-eq-mul_right, mul_comm}
 use Rattle.rational.specs.Rational.{ℚ, ◌+ℚ◌, ◌-ℚ◌, ◌*ℚ◌, ◌≤ℚ◌, ◌<ℚ◌, int}
-use Rattle.rational.proofs.Laws.{le_or_lt, le_of_lt, le_refl, le_trans, lt_le_trans, le_lt_trans, mul_nonneg}
-use Rattle.rational.proofs.Linear.{with1, with2, with3, with4, with5}
+use Rattle.rational.proofs.Laws.{le_of_lt, le_refl, le_trans}
+use Rattle.rational.proofs.Linear.{with2, with3}
 use Rattle.rational.specs.Extended.{Ext, ◌+ₑ◌}
 use Rattle.rational.specs.declared.Extended.TheVariants.{Fin}
 use Rattle.affine_segment.specs.declared.line.Line.{Line}
@@ -17,7 +17,7 @@ use Rattle.upp_curve.specs.Reading.{read}
 use Rattle.upp_curve.specs.Curve.{repeated}
 use Rattle.upp_curve.specs.Steady.{Repeats, last_of}
 use Rattle.upp_curve.specs.Unrolled.{line_later, later, each_later, copies, upto, from}
-use Rattle.upp_curve.specs.Normal.{RisesFrom, StartsAtZero, Each, HasStart, NoMerge, Continues, NoneContinues}
+use Rattle.upp_curve.specs.Normal.{RisesFrom, StartsAtZero, Each, NoMerge, Continues, NoneContinues}
 use Rattle.upp_curve.specs.Normalising.{IsCycle, EndsInBreak, Turned, GoesOn}
 use Rattle.upp_curve.proofs.Repeats.{repeated_first, repeated_rule, repeats_times}
 use Rattle.upp_curve.proofs.Steady.{read_past}
@@ -26,7 +26,7 @@ use Rattle.upp_curve.proofs.FirstStretch.{on_stretch, at_start, end_of, start_be
 use Rattle.upp_curve.proofs.Normal.{rises, upto_all}
 use Rattle.upp_curve.proofs.Unrolled.{copies_some, line_value_later}
 use Rattle.upp_curve.proofs.Below.{Cut, cut_at_start, read_from_cut, from_past, from_before, parts_read}
-use Rattle.upp_curve.proofs.NormaliseLists.{each_map, each_append, each_left, rises_left, none_left, none_between, last_is_last, last_in, heads_same, tails_same}
+use Rattle.upp_curve.proofs.NormaliseLists.{each_map, each_append, rises_left, none_left, none_between, last_is_last, last_in, heads_same, tails_same}
 use Rattle.upp_curve.proofs.NormaliseCuts.{each_right}
 use Rattle.upp_curve.proofs.NormalisePeriods.{agree}
 use Rattle.upp_curve.proofs.NormaliseRank.{rises_split, has_mid, upto_mid}

@@ -1,26 +1,25 @@
 -- The search for the least period: what a division answers, and what the loop keeps.
-use Rattle.std.specs.Prelude.{◌≡◌, ℕ, zero, suc, ◌+◌, ◌-◌, ◌*◌, ◌/◌, ◌%◌, ◌<◌, ◌≤◌, pos, List, ◌∷◌, length, ◌⊎◌}
+use Rattle.std.specs.Prelude.{◌≡◌, ℕ, zero, suc, ◌+◌, ◌*◌, ◌/◌, ◌%◌, ◌<◌, ◌≤◌, pos, List, ◌∷◌, length, ◌⊎◌}
 use Rattle.std.proofs.Common.{arith, sym, ap, ap₂, ◌∙◌, refl, subst, inl, inr, take, drop}
 use Rattle.std.proofs.lemmas.List.{length-append}
 use Rattle.std.proofs.lemmas.Bool.{cases_lt}
 use Prim.Native.Nat.{◌∣◌}
-use native.Mathlib.Nat.{dvd_trans, dvd_of_mul-dvd-mul_left, mul-div_cancel', le_of_dvd, dvd-mul_right, dvd-mul_left, dvd_of_mod-eq-zero, mod-eq-zero_of_dvd, dvd_refl, mul-pos}
+use native.Mathlib.Nat.{dvd_trans, dvd_of_mul-dvd-mul_left, mul-div_cancel', le_of_dvd, dvd-mul_left, dvd_of_mod-eq-zero, mod-eq-zero_of_dvd, dvd_refl, mul-pos}
 use Rattle.rational.specs.Gcd.{gcd}
 use Rattle.rational.specs.Euclid.{gcd_is, divides_other, gcd_pos}
-use Rattle.rational.specs.Rational.{ℚ, ◌+ℚ◌, ◌*ℚ◌, ◌/ℚ◌, ◌≤ℚ◌, ◌<ℚ◌, int}
+use Rattle.rational.specs.Rational.{ℚ, ◌*ℚ◌, ◌/ℚ◌, ◌≤ℚ◌, ◌<ℚ◌, int}
 use Rattle.rational.specs.Grid.{Whole}
-use Rattle.rational.proofs.Integers.{nat_lt, nat_nonneg}
-use Rattle.rational.proofs.Laws.{le_of_lt, mul_comm, mul_assoc, mul_cancel, div_mul, mul_nonneg, mul_one}
-use Rattle.rational.proofs.Linear.{with1, with2}
-use Rattle.rational.proofs.Whole.{lt_of_mul, not_zero}
+use Rattle.rational.proofs.Integers.{nat_lt}
+use Rattle.rational.proofs.Laws.{le_of_lt, mul_comm, mul_assoc, mul_cancel, div_mul, mul_one}
+use Rattle.rational.proofs.Linear.{with1}
+use Rattle.rational.proofs.Whole.{lt_of_mul}
 use Rattle.rational.specs.Extended.{Ext}
 use Rattle.affine_segment.specs.declared.line.Piece.{Piece}
 use Rattle.upp_curve.specs.Reading.{read}
-use Rattle.upp_curve.specs.Curve.{repeated}
 use Rattle.upp_curve.specs.Steady.{Repeats}
 use Rattle.upp_curve.specs.Unrolled.{upto, from}
 use Rattle.upp_curve.specs.declared.cycle.Cycle.{Cycle}
-use Rattle.upp_curve.specs.Normalising.{IsCycle, EndsInBreak, Turned, GoesOn, IsTurning, cycle_values, turn_count, OnGrids, StaysWhole, IsCut, IsDivided, IsLeast, IsFront, SharesFit}
+use Rattle.upp_curve.specs.Normalising.{IsCycle, Turned, GoesOn, IsTurning, cycle_values, turn_count, OnGrids, StaysWhole, IsCut, IsDivided, IsLeast, IsFront, SharesFit}
 use Rattle.upp_curve.specs.Normal.{Each}
 use Rattle.upp_curve.specs.Fitting.{LaterFits}
 use Rattle.upp_curve.proofs.Repeats.{repeats_times, repeated_rule}

@@ -1,5 +1,5 @@
 -- Lists of copies, made one after another: what is kept so far, and when there is nothing more before the end.
-use Rattle.std.specs.Prelude.{◌≡◌, ℕ, zero, suc, ◌+◌, ◌-◌, ◌<◌, ◌≤◌, ◌^◌, pos, List, [], ◌∷◌, ◌++◌}
+use Rattle.std.specs.Prelude.{◌≡◌, ℕ, zero, suc, ◌+◌, ◌-◌, ◌<◌, ◌^◌, pos, List, [], ◌∷◌, ◌++◌}
 use Rattle.std.proofs.Common.{arith, sym, ap, ap₂, ◌∙◌, refl, subst, inl, inr, append-nil, append_assoc}
 use Rattle.std.proofs.lemmas.Bool.{cases_lt}
 use Rattle.rational.specs.Rational.{ℚ, ◌+ℚ◌, ◌-ℚ◌, ◌*ℚ◌, ◌/ℚ◌, ◌≤ℚ◌, ◌<ℚ◌, int}
@@ -11,10 +11,10 @@ use Rattle.rational.proofs.Linear.{with3, with4, with5}
 use Rattle.rational.proofs.Whole.{one_more_times, periods_high}
 use Rattle.affine_segment.specs.declared.line.Piece.{Piece}
 use Rattle.upp_curve.specs.Normal.{Each}
-use Rattle.upp_curve.specs.Unrolled.{copies, each_later, from, later, upto, whole_up}
+use Rattle.upp_curve.specs.Unrolled.{copies, each_later, later, upto, whole_up}
 use Rattle.upp_curve.proofs.Normal.{upto_all}
 use Rattle.upp_curve.proofs.NormaliseCopies.{copies_next, copies_zero, later_twice, moved-append}
-use Rattle.upp_curve.proofs.NormaliseLists.{each_append, each_map, each_moved, upto_before}
+use Rattle.upp_curve.proofs.NormaliseLists.{each_append, each_map, each_moved}
 use Rattle.upp_curve.proofs.NormaliseLoops.{later_none, later_some}
 use Rattle.upp_curve.proofs.Rounding.{before_count}
 use Rattle.upp_curve.proofs.Unique.{upto_end, upto_none, upto_some}
