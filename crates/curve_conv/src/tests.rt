@@ -1,7 +1,7 @@
 //! Pieces cut into elements, and what two elements make as pieces, worked out by hand.
 
-use crate::cut;
-use affine_segment::{Element, Line, Piece};
+use crate::{cut, joined_window};
+use affine_segment::{Element, Joined, Line, Piece};
 use fraction128::Frac;
 use rational::Extended;
 use std::test::Fail;
@@ -63,5 +63,27 @@ fn pieces_are_cut(rt: HostRuntime) -> Result<(), Fail> {
         Some((whole(0), Some(whole(2)), whole(1)))
     );
     assert_eq!(rt; seen_open(&elements[2]), Some((whole(2), None, whole(0))));
+    Ok(())
+}
+
+// The line 3 + 2 t from 1 on, by itself: infinity at 0, and the line from 1 on.
+#[test]
+fn a_late_segment_comes_after_infinity(rt: HostRuntime) -> Result<(), Fail> {
+    let j = Joined {
+        first: Element::Open {
+            from: Frac::one(),
+            to: Extended::Inf,
+            line: line(3, 2),
+        },
+        join: None,
+        second: None,
+    };
+    let pieces = joined_window(rt.alloc(), &j)?;
+    assert_eq!(rt; pieces.len(), 2);
+    assert_eq!(rt; pieces[0].x, Frac::zero());
+    assert!(rt; pieces[0].line.is_none());
+    assert_eq!(rt; pieces[1].x, Frac::one());
+    assert!(rt; pieces[1].at.is_infinite());
+    assert!(rt; pieces[1].line.is_some());
     Ok(())
 }
