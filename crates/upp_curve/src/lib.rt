@@ -18,6 +18,8 @@ mod limits;
 mod long;
 mod lowest_rank;
 mod merging;
+#[cfg(test)]
+mod normal_tests;
 mod op_kind;
 mod operand_numbers;
 mod own_window;
