@@ -26,11 +26,7 @@ use Rattle.upp_curve.specs.Spans.{Span, spans, piece_read, start_after, end_of}
 use Rattle.upp_curve.specs.Limits.{Sizes, curve_numbers, own_end, own_sizes, own_gauge}
 use Rattle.upp_curve.specs.declared.own_window.OwnNumbers.{OwnNumbers}
 use Rattle.upp_curve.specs.OwnWindow.{AreNumbers}
-<<<<<<< HEAD
 use Rattle.upp_curve.specs.Sized.{grid_of, IsValue, IsSlope, AreSizes, ValueStands, LineStands, SpanStands, TailStands, CurveStands, Stands}
-=======
-use Rattle.upp_curve.specs.Sized.{grid_of, AreSizes, ValueStands, LineStands, SpanStands, TailStands, Stands}
->>>>>>> 22a87ef46356fba1cf5781bfdb8402db6f4b7dc8
 use Rattle.upp_curve.specs.Operand.{AreLimited}
 use Rattle.upp_curve.specs.Normalising.{TailOnGrids}
 use Rattle.upp_curve.specs.Room.{top, Room, IsRoom, TimeHasRoom, many, ValueHasRoom, LineHasRoom, PieceHasRoom, IsMove, PiecesHaveRoom, EndHasRoom, TurnHasRoom, TailHasRoom}
