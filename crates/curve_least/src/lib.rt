@@ -4,6 +4,8 @@
 mod gaps;
 mod laws;
 mod least;
+#[cfg(test)]
+mod tests;
 
 pub use gaps::{Gap, window_gap};
 pub use laws::below_ever_after;
