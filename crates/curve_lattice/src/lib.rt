@@ -1,0 +1,8 @@
+//! The minimum, the maximum and the positive difference of two curves.
+#![tactic(auto)]
+
+mod extremes;
+mod gate;
+mod lattice;
+
+pub use extremes::{max, min, pos_diff};
