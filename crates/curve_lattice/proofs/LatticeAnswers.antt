@@ -211,8 +211,8 @@ lattice_values of f g r ls rs ps from rise c F finite el er M ef R same =
     let ever = subst (IsSlowerBelowFrom f g) (sym from_at) (ever_after f g r.start r.period k L.above left right F.enough) in
     answer_relation (λ t v. v ≡ made_of of (value_at f t) (value_at g t)) c (read ps) from r.period rise same (le_trans L.nonneg late) L.above
     (λ t some early.
-      let before : t <ℚ r.end = subst (λ y. t <ℚ y) ends early in
-      M.reads t some before
-      ∙ ap₂ (made_of of) (ap (λ us. read us t) el ∙ unroll_reads f r.end t L.first.normal some before) (ap (λ us. read us t) er ∙ unroll_reads g r.end t L.second.normal some before))
+    let before : t <ℚ r.end = subst (λ y. t <ℚ y) ends early in
+    M.reads t some before
+    ∙ ap₂ (made_of of) (ap (λ us. read us t) el ∙ unroll_reads f r.end t L.first.normal some before) (ap (λ us. read us t) er ∙ unroll_reads g r.end t L.second.normal some before))
     (λ t v h e.
-      ap (λ u. u +ₑ Fin rise) e ∙ moves of f g t r.period rise (le_trans L.nonneg (le_trans late h)) finite (both_move f g r.start r.period r.end from t k z L ever late h) R)
+    ap (λ u. u +ₑ Fin rise) e ∙ moves of f g t r.period rise (le_trans L.nonneg (le_trans late h)) finite (both_move f g r.start r.period r.end from t k z L ever late h) R)

@@ -195,5 +195,5 @@ first_compared of f g w F G W =
     let L = lattice_call of f g 0 F G W.gauge in (
       z,
       compared f g w.start w.period w.end z
-      (at_times f g (both_steady f g) (common_period f g) (window_at (kind_of of) f g 0 0) w.start w.period w.end 0 z L (kind_start of f g w.start W.window.start) (kind_period of f g w.period W.window.period) W.window.end),
+          (at_times f g (both_steady f g) (common_period f g) (window_at (kind_of of) f g 0 0) w.start w.period w.end 0 z L (kind_start of f g w.start W.window.start) (kind_period of f g w.period W.window.period) W.window.end),
     )

@@ -126,7 +126,13 @@ fn tail_rise(of: Lattice, f: &Curve, g: &Curve, period: Frac) -> Frac
     }
 }
 
-fn window_of(alloc: Global, of: Lattice, f: &[Piece], g: &[Piece], end: Frac) -> Result<Vec<Piece>, AllocError>
+fn window_of(
+    alloc: Global,
+    of: Lattice,
+    f: &[Piece],
+    g: &[Piece],
+    end: Frac,
+) -> Result<Vec<Piece>, AllocError>
     requires { HaveSizes end f.now g.now }
     ensures { IfOk result (λ v. IsMadeOf (made_of of) (rises_of of) f.now g.now end v.items) }
 {
@@ -138,7 +144,13 @@ fn window_of(alloc: Global, of: Lattice, f: &[Piece], g: &[Piece], end: Frac) ->
 }
 
 /// What is made of two curves in a call within both limits, where the number of periods is enough.
-pub(crate) fn made_within(alloc: Global, of: Lattice, f: &Curve, g: &Curve, frame: &Frame) -> Result<Curve, AllocError>
+pub(crate) fn made_within(
+    alloc: Global,
+    of: Lattice,
+    f: &Curve,
+    g: &Curve,
+    frame: &Frame,
+) -> Result<Curve, AllocError>
     requires call { IsLatticeFrame f.now g.now frame.now }
     requires finite { FiniteFor of (value_at f.now) }
     ensures { IfOk result (λ c. (t : ℚ) → int (pos 0) ≤ℚ t → value_at c t ≡ made_of of (value_at f.now t) (value_at g.now t)) }

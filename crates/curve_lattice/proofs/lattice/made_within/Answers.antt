@@ -30,6 +30,6 @@ pub returns : goal.returns
 returns c =
     ok_map c.answer.result _ _
     (λ a h.
-      lattice_values c.args.of c.args.f.now c.args.g.now c.args.frame.now c.deref.result.now c.deref-2.result.now c.in_ok-pieces.pieces.items c.difference-from.result c.tail_rise-rise.result a c.requires.call c.requires.finite
-      (c.deref.ensures.value ∙ c.in_ok-left.ensures) (c.deref-2.ensures.value ∙ c.in_ok-right.ensures) c.in_ok-pieces.ensures c.difference-from.ensures c.tail_rise-rise.ensures h)
+    lattice_values c.args.of c.args.f.now c.args.g.now c.args.frame.now c.deref.result.now c.deref-2.result.now c.in_ok-pieces.pieces.items c.difference-from.result c.tail_rise-rise.result a c.requires.call c.requires.finite
+    (c.deref.ensures.value ∙ c.in_ok-left.ensures) (c.deref-2.ensures.value ∙ c.in_ok-right.ensures) c.in_ok-pieces.ensures c.difference-from.ensures c.tail_rise-rise.ensures h)
     c.answer.ensures
