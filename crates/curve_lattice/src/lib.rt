@@ -4,5 +4,7 @@
 mod extremes;
 mod gate;
 mod lattice;
+#[cfg(test)]
+mod tests;
 
 pub use extremes::{max, min, pos_diff};
