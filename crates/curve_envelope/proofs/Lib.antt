@@ -1,3 +1,4 @@
 pub mod SumCall
 pub mod ScaledValues
 pub mod ScaleCall
+pub mod LeftWindow
