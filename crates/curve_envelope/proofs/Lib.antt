@@ -2,3 +2,4 @@ pub mod SumCall
 pub mod ScaledValues
 pub mod ScaleCall
 pub mod LeftWindow
+pub mod ShiftCall
