@@ -1,3 +1,5 @@
 pub mod SumCall
 pub mod ScaledValues
 pub mod ScaleCall
+pub mod LeftWindow
+pub mod ShiftCall

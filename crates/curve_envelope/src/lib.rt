@@ -2,7 +2,10 @@
 #![tactic(auto)]
 
 mod scaling;
+mod shifts;
 mod sums;
+#[cfg(test)]
+mod tests;
 
 pub use scaling::scale;
 pub use sums::sum;
