@@ -3,3 +3,7 @@ pub mod CallTimes
 pub mod CallFits
 pub mod Limited
 pub mod FrameFacts
+pub mod Answering
+pub mod CurveRises
+pub mod FirstGate
+pub mod Operands

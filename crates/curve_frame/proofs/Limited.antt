@@ -12,7 +12,8 @@ use Rattle.upp_curve.specs.Curve.{SpecCurve}
 use Rattle.upp_curve.specs.Windows.{window_at, Meets, Reaches, IsLeast, IsLeastPeriods}
 use Rattle.upp_curve.specs.Gauges.{IsKnownAtOnce, gauge_over, gauge_at, tally_at, tally_over, IsTooWide, IsTooMany}
 use Rattle.upp_curve.specs.Outcome.{IsWithin, IsCauseOf}
-use Rattle.curve_frame.specs.Frames.{IsRefusedAt, IsWideOver}
+use Rattle.curve_frame.specs.declared.frame.Frame.{Frame}
+use Rattle.curve_frame.specs.Frames.{IsFrame, IsRefusedAt, IsWideOver}
 
 -- ---- over a window's end that is the call's
 pub refused_at : (op : OpKind) (f g : SpecCurve) (k m : ℕ) (end : ℚ) (e : OpFault) → end ≡ window_at op f g k m → IsWideOver op f g end e → IsRefusedAt op f g k m e
@@ -115,3 +116,7 @@ fifo_left_least theta f g k h = record { first = h; second = least_nothing }
 
 pub convolve_least : (f g : SpecCurve) (k : ℕ) → IsLeast (Meets Convolve f g) k → IsLeastPeriods Convolve f g k 0
 convolve_least f g k h = record { first = h; second = least_nothing }
+
+-- ---- a call with a frame is within both limits
+pub frame_within : (op : OpKind) (f g : SpecCurve) (k m : ℕ) (r : Frame) → IsLeastPeriods op f g k m → IsFrame op f g k m r → IsWithin op f g
+frame_within op f g k m r h frame = within_at_least op f g k m h frame.gauge frame.tally

@@ -1,3 +1,5 @@
 pub mod Times
 pub mod CallWindows
 pub mod Frames
+pub mod Rises
+pub mod Answering

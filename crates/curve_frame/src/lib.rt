@@ -2,11 +2,15 @@
 //! answer.
 #![tactic(auto)]
 
+mod answers;
 mod frame;
+mod rises;
 mod times;
 mod windows;
 
+pub use answers::{answer, infinite_answer};
 pub use frame::{Frame, within, within_both};
+pub use rises::rise_over;
 pub use times::{common_period, own_period};
 pub use upp_curve::steady_time;
 pub use windows::{CallWindow, call_window, window_end};

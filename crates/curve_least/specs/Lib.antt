@@ -1,0 +1,4 @@
+pub mod Gaps
+pub mod GapSteps
+pub mod Compared
+pub mod Ever

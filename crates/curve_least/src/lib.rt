@@ -1,2 +1,10 @@
-//! How a curve goes on from a time, and from which number of periods on the slower of two curves is nowhere above the faster.
+//! From which number of periods on the slower of two curves is nowhere above the faster, without unrolling either.
 #![tactic(auto)]
+
+mod gaps;
+mod laws;
+mod least;
+
+pub use gaps::{Gap, window_gap};
+pub use laws::below_ever_after;
+pub use least::{least_below, least_periods};

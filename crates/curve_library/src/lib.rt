@@ -7,13 +7,19 @@ mod fault;
 mod formed;
 mod gates;
 mod latencies;
+mod listing;
 mod shares;
 mod signs;
 mod stairs;
+#[cfg(test)]
+mod tests;
+mod texts;
 
 pub use buckets::bucket;
 pub use fault::CurveFault;
 pub use gates::gate;
 pub use latencies::rate_latency;
+pub use listing::listed;
 pub use stairs::stair;
+pub use texts::{PieceText, TailText, UseAs};
 pub use upp_curve::OverLimit;

@@ -1,5 +1,5 @@
 -- The scan for the infimum: what holds after each piece, from the last one on.
-use Rattle.std.specs.Prelude.{◌≡◌, ℕ, ◌+◌, ◌-◌, ◌*◌, ◌<◌, ◌≤◌, pos, List, [], ◌∷◌, ◌++◌, length, drop, Option, Some, None, reverse}
+use Rattle.std.specs.Prelude.{◌≡◌, ℕ, false, ◌+◌, ◌-◌, ◌*◌, ◌<◌, ◌≤◌, pos, List, [], ◌∷◌, ◌++◌, length, drop, Option, Some, None, reverse}
 use Rattle.std.proofs.Common.{arith, length-append, drop_of_length-le, sym, ap, ap₂, ◌∙◌, refl, subst, inl, inr}
 use Rattle.std.proofs.lemmas.List.{reverse-append, length-reverse}
 use Rattle.rational.specs.Rational.{ℚ, ◌≤ℚ◌, ◌<ℚ◌, int}
@@ -16,11 +16,11 @@ use Rattle.curve_running.specs.declared.stretch.Stretch.{Stretch}
 use Rattle.curve_running.specs.declared.bend.Bend.{Bend}
 use Rattle.curve_running.specs.Scans.{start_or, IsWindow, IsLevel, IsStretch, IsInfimumUntil}
 use Rattle.curve_running.specs.Bends.{sunk, Follows, bent, bent_back}
-use Rattle.curve_running.specs.Made.{IsMadeOf, IsMade, IsScan, IsInfimumScan}
+use Rattle.curve_running.specs.Made.{IsMadeOf, IsMade, TurnsAfter, IsScan, IsInfimumScan}
 use Rattle.curve_running.proofs.Suprema.{IsLineOn}
 use Rattle.curve_running.proofs.Infima.{IsLate, late_start, late_line, late_value, late_end}
 use Rattle.curve_running.proofs.Building.{BuiltBack, back_more}
-use Rattle.curve_running.proofs.Makings.{lesser_level, bent_made, each_join}
+use Rattle.curve_running.proofs.Makings.{lesser_level, bent_made, bent_turns, each_join, turns_join}
 use Rattle.curve_running.proofs.SupremumLoop.{first_start}
 
 -- w is the limit at the end of the last line
@@ -43,6 +43,7 @@ pub record InfimumLoop (ps : List Piece) (end : ℚ) (i : ℕ) (level : ℚ) (ou
   pub built : BuiltBack (R ps end) (start_or end (drop i ps)) end (reverse out)
   pub count : length out + 2 * i ≤ 2 * length ps
   pub made : Each (IsMade end ps) (reverse out)
+  pub turns : TurnsAfter false ps None (reverse out)
 
 pub infimum_start : (ps : List Piece) (end : ℚ) (i : ℕ) (s : Stretch) → i + 1 ≡ length ps → IsStretch ps end i s → InfimumLoop ps end (length ps) s.left []
 infimum_start ps end i s n S =
@@ -62,6 +63,7 @@ infimum_start ps end i s n S =
       built = none;
       count = omega arith;
       made = tt;
+      turns = tt;
     }
 
 -- the least of the values from t on is the infimum there
@@ -91,7 +93,7 @@ back_short x v l None = omega arith
 back_short x v l (Some q) = omega arith
 
 pub infimum_step : (ps : List Piece) (end : ℚ) (i : ℕ) (level : ℚ) (out more : List Piece) (s : Stretch) (both deep next : ℚ) (b : Bend)
-    → InfimumLoop ps end (i + 1) level out → IsStretch ps end i s → Follows (sunk level s.line s.to) s.from s.to b.line b.turn → IsMadeOf level s b
+    → InfimumLoop ps end (i + 1) level out → IsStretch ps end i s → Follows (sunk level s.line s.to) s.from s.to b.line b.turn → IsMadeOf false level s b
     → both ≡ min_q s.right s.left → deep ≡ min_q level both → next ≡ min_q s.at deep → more ≡ out ++ bent_back s.from next b.line b.turn → InfimumLoop ps end i next more
 infimum_step ps end i level out more s both deep next b L S f m h d n e =
     let w = L.limit in
@@ -119,23 +121,24 @@ infimum_step ps end i level out more s both deep next b L S f m h d n e =
           (subst (BuiltBack (R ps end) s.from end) (sym turned)
           (bent_built ps (reverse out) end s next level b.line b.turn S.some S.most (subst (λ z. BuiltBack (R ps end) z end (reverse out)) (sym S.to) L.built) at on f));
       count = subst (λ z. length z + 2 * i ≤ 2 * length ps) (sym e) (omega (arith, length-append out (bent_back s.from next b.line b.turn)));
-      made = subst (Each (IsMade end ps)) (sym turned) (each_join (IsMade end ps) (bent s.from next b.line b.turn) (reverse out) (bent_made ps end i level next s b S L.known next_known m) L.made);
+      made = subst (Each (IsMade end ps)) (sym turned) (each_join (IsMade end ps) (bent s.from next b.line b.turn) (reverse out) (bent_made false ps end i level next s b S L.known next_known m) L.made);
+      turns = subst (TurnsAfter false ps None) (sym turned) (turns_join false ps None (bent s.from next b.line b.turn) (reverse out) (bent_turns false ps end i level next s b S m) L.turns);
     }
 
 pub infimum_end : (ps : List Piece) (end level : ℚ) (out qs : List Piece) → IsWindow end ps → int (pos 0) <ℚ end → InfimumLoop ps end 0 level out → qs ≡ reverse out → IsInfimumScan ps end qs
 infimum_end ps end level out qs W some L e =
-    subst (IsInfimumScan ps end) (sym e) (of (reverse out) (subst (λ z. BuiltBack (R ps end) z end (reverse out)) (first_start end ps W.starts) L.built) L.made shorter)
+    subst (IsInfimumScan ps end) (sym e) (of (reverse out) (subst (λ z. BuiltBack (R ps end) z end (reverse out)) (first_start end ps W.starts) L.built) L.made L.turns shorter)
   where
     shorter : length (reverse out) ≤ 2 * length ps
     shorter = let c = L.count in omega (arith, length-reverse out)
 
-    of : (rs : List Piece) → BuiltBack (R ps end) (int (pos 0)) end rs → Each (IsMade end ps) rs → length rs ≤ 2 * length ps → IsInfimumScan ps end rs
-    of [] B m c = absurd (lt_irrefl end (subst (λ z. z <ℚ end) B some))
-    of (r ∷ rs) B m c = record { scan = record { starts = (B.first, B.rises); before = B.before; count = c; made = m }; reads = B.holds }
+    of : (rs : List Piece) → BuiltBack (R ps end) (int (pos 0)) end rs → Each (IsMade end ps) rs → TurnsAfter false ps None rs → length rs ≤ 2 * length ps → IsInfimumScan ps end rs
+    of [] B m u c = absurd (lt_irrefl end (subst (λ z. z <ℚ end) B some))
+    of (r ∷ rs) B m u c = record { scan = record { starts = (B.first, B.rises); before = B.before; count = c; made = m; turns = u }; reads = B.holds }
 
 -- the same for the number of pieces that were left before
 pub infimum_next : (ps : List Piece) (end : ℚ) (n : ℕ) (level : ℚ) (out more : List Piece) (s : Stretch) (both deep next : ℚ) (b : Bend)
-    → 0 < n → InfimumLoop ps end n level out → IsStretch ps end (n - 1) s → Follows (sunk level s.line s.to) s.from s.to b.line b.turn → IsMadeOf level s b
+    → 0 < n → InfimumLoop ps end n level out → IsStretch ps end (n - 1) s → Follows (sunk level s.line s.to) s.from s.to b.line b.turn → IsMadeOf false level s b
     → both ≡ min_q s.right s.left → deep ≡ min_q level both → next ≡ min_q s.at deep → more ≡ out ++ bent_back s.from next b.line b.turn → InfimumLoop ps end (n - 1) next more
 infimum_next ps end n level out more s both deep next b some L S f m h d k e =
     let back : n ≡ n - 1 + 1 = omega arith in

@@ -1,5 +1,5 @@
 -- By the sizes of a call: the steps of a scan of an operand's pieces fit, and each piece that comes out has room.
-use Rattle.std.specs.Prelude.{◌≡◌, ◌≢◌, ℕ, ◌+◌, ◌*◌, ◌<◌, ◌≤◌, ◌^◌, pos, List, [], ◌∷◌, Option, Some, None, ◌⊎◌}
+use Rattle.std.specs.Prelude.{◌≡◌, ◌≢◌, ℕ, Bool, ◌+◌, ◌*◌, ◌<◌, ◌≤◌, ◌^◌, pos, List, [], ◌∷◌, Option, Some, None, ◌⊎◌}
 use Rattle.std.proofs.Common.{arith, sym, ap, ◌∙◌, refl, subst, inl, inr}
 use native.Mathlib.Nat.{dvd-mul_left}
 use Rattle.rational.specs.Rational.{ℚ, ◌+ℚ◌, ◌-ℚ◌, ◌*ℚ◌, ◌/ℚ◌, neg_ℚ, ◌≤ℚ◌, ◌<ℚ◌, int}
@@ -17,6 +17,7 @@ use Rattle.affine_segment.specs.declared.line.Line.{Line}
 use Rattle.affine_segment.specs.declared.line.Piece.{Piece}
 use Rattle.affine_segment.specs.Values.{line_at, line_value}
 use Rattle.affine_segment.specs.Steps.{IsWideCross}
+use Rattle.upp_curve.specs.Bends.{LineOn, NumbersOn, SlopeTurns, BendAfter, OnlyBend}
 use Rattle.upp_curve.specs.Normal.{Each, HasStart, StartsAtZero, RisesFrom}
 use Rattle.upp_curve.specs.Readable.{EachFits, LineFitsTo, start_after}
 use Rattle.upp_curve.specs.Limits.{Sizes}
@@ -26,7 +27,7 @@ use Rattle.upp_curve.specs.Room.{top, LineHasRoom, PieceHasRoom, TimeHasRoom}
 use Rattle.upp_curve.proofs.NarrowSizes.{grid_pos}
 use Rattle.upp_curve.proofs.AnswerRoom.{tight, AnswerLine, line_in_room, operand_line_room, operand_line_fits, OperandValue, OperandValueAt, stands_operand_value, operand_line_value, values_fit, operand_value_room, operand_lines_fit, halves_apart, IsCrossing, crossing_from, crossing_room, room_at_start}
 use Rattle.curve_running.specs.Scans.{start_or, flat, IsLevel, HasLine, MeetingFits, ScanFits}
-use Rattle.curve_running.specs.Made.{IsMeeting, IsMade, IsScan}
+use Rattle.curve_running.specs.Made.{IsMeeting, IsMade, TurnsAfter, IsScan}
 
 -- ---- an operand's line against a level
 zero_slope : (z : Sizes) (end : ℚ) → AreSizes z end → IsSlope z (int (pos 0))
@@ -201,5 +202,35 @@ each_room : (z : Sizes) (end : ℚ) (ps qs : List Piece) → AreLimited z end �
 each_room z end ps [] A O low m = tt
 each_room z end ps (q ∷ qs) A O low m = (made_room z end ps q A O low.0 m.0, each_room z end ps qs A O low.1 m.1)
 
-pub scan_room : (z : Sizes) (end : ℚ) (ps qs : List Piece) → AreLimited z end → OperandPieces z end ps → IsScan ps end qs → Each (PieceHasRoom (answer_room z end) 1) qs
-scan_room z end ps qs A O s = each_room z end ps qs A O.each (all_low qs s.starts) s.made
+pub scan_room : (rises : Bool) (z : Sizes) (end : ℚ) (ps qs : List Piece) → AreLimited z end → OperandPieces z end ps → IsScan rises ps end qs → Each (PieceHasRoom (answer_room z end) 1) qs
+scan_room rises z end ps qs A O s = each_room z end ps qs A O.each (all_low qs s.starts) s.made
+
+some_none : {l : Line} → Some l ≡ None → ⊥
+some_none e = cc
+
+-- ---- each start is on the grid of times, or all turns go one way
+made_on : (z : Sizes) (end : ℚ) (ps : List Piece) (line : Option Line) → AreLimited z end → EachOperand z end ps
+    → (((l : Line) × (line ≡ Some l) × HasLine l ps) ⊎ ((v : ℚ) × (line ≡ Some (flat v)) × IsLevel end ps v)) → LineOn z.ds (grid_of z) line
+made_on z end ps line A O (inl (l, e, k)) = let L = line_operand z end ps l O k in subst (LineOn z.ds (grid_of z)) (sym e) (L.icept, L.slope.whole)
+made_on z end ps line A O (inr (v, e, k)) = subst (LineOn z.ds (grid_of z)) (sym e) ((level_value z end ps v A O k).whole, whole_int z.ds (pos 0))
+
+some_line : (end : ℚ) (ps : List Piece) (line : Option Line) → (((l : Line) × (line ≡ Some l) × HasLine l ps) ⊎ ((v : ℚ) × (line ≡ Some (flat v)) × IsLevel end ps v)) → line ≡ None → ⊥
+some_line end ps line (inl (l, e, k)) n = some_none (sym e ∙ n)
+some_line end ps line (inr (v, e, k)) n = some_none (sym e ∙ n)
+
+numbers_on : (z : Sizes) (end : ℚ) (ps : List Piece) (q : Piece) → AreLimited z end → EachOperand z end ps → IsMade end ps q → NumbersOn z.ds (grid_of z) q
+numbers_on z end ps q A O m = record { line = made_on z end ps q.line A O m.line; at = λ n. absurd (some_line end ps q.line m.line n) }
+
+bend_after : (rises : Bool) (z : Sizes) (end : ℚ) (ps : List Piece) (p : Piece) (qs : List Piece) → AreLimited z end → EachOperand z end ps → Each (IsMade end ps) qs → TurnsAfter rises ps p.line qs
+    → BendAfter rises z.dt z.ds (grid_of z) p qs
+bend_after rises z end ps p [] A O m t = tt
+bend_after rises z end ps p (q ∷ qs) A O m t = (turn t.0, numbers_on z end ps q A O m.0, bend_after rises z end ps q qs A O m.1 t.1)
+  where
+    turn : (HasStart q.x ps ⊎ SlopeTurns rises p.line q.line) → Whole z.dt q.x ⊎ SlopeTurns rises p.line q.line
+    turn (inl h) = inl (start_operand z end ps q.x O h)
+    turn (inr h) = inr h
+
+pub only_bend : (rises : Bool) (z : Sizes) (end : ℚ) (ps qs : List Piece) → AreLimited z end → EachOperand z end ps → Each (IsMade end ps) qs → TurnsAfter rises ps None qs
+    → OnlyBend rises z.dt z.ds (grid_of z) qs
+only_bend rises z end ps [] A O m t = tt
+only_bend rises z end ps (q ∷ qs) A O m t = (numbers_on z end ps q A O m.0, bend_after rises z end ps q qs A O m.1 t.1)

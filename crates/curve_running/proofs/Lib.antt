@@ -10,3 +10,8 @@ pub mod SupremumLoop
 pub mod InfimumLoop
 pub mod LevelSizes
 pub mod Shifts
+pub mod Highest
+pub mod Covers
+pub mod SupremumCalls
+pub mod RunFacts
+pub mod SupremumRuns

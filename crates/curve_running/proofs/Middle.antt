@@ -109,9 +109,9 @@ left_fits ps i p l end to F h e k is =
     subst (λ z. LineFitsAt z (Some l)) (sym to_is) (subst (LineFitsAt (start_or end a.after)) k (line_to end a.after p.line (fits_at ps i p end F a).left))
 
 pub stretch_is : (ps : List Piece) (i : ℕ) (p : Piece) (end v to right left : ℚ) (l : Line) → IsWindow end ps → i < length ps → p ≡ get_or ps i p → p.at ≡ Fin v → p.line ≡ Some l
-    → to ≡ start_or end (drop (i + 1) ps) → right ≡ line_at l p.x → left ≡ line_at l to
+    → to ≡ start_or end (drop (i + 1) ps) → right ≡ line_at l p.x → left ≡ line_at l to → LineFits p.x l → LineFits to l
     → IsStretch ps end i record { from = p.x; at = v; line = l; to = to; right = right; left = left }
-stretch_is ps i p end v to right left l W h e at line is r q = record {
+stretch_is ps i p end v to right left l W h e at line is r q m n = record {
   from = ap (start_or end) a.here;
   to = is;
   some = subst (λ z. p.x <ℚ z) (sym to_is) (next_later p.x end bs_after soon rises);
@@ -123,6 +123,8 @@ stretch_is ps i p end v to right left l W h e at line is r q = record {
       (read_middle a.before p a.after t starts (le_of_lt past) (before_next end t a.after (subst (λ z. t <ℚ z) to_is before)) ∙ value_past p t past ∙ ap (λ z. line_value z t) line);
   right = r;
   left = q;
+  right_fits = m;
+  left_fits = n;
   start = subst (HasStart p.x) a.whole (has_start a.before p a.after);
   line = subst (HasLine l) a.whole (has_line l a.before p a.after line);
   at_level = subst (λ z. IsLevel end z v) a.whole (level_at end a.before p a.after v at);

@@ -15,7 +15,7 @@ use Rattle.upp_curve.specs.Functions.{zero_q, UpTo, From}
 use Rattle.upp_curve.specs.Running.{IsRunningSupremum, IsRunningInfimum}
 use Rattle.upp_curve.proofs.Rules.{enough}
 use Rattle.upp_curve.proofs.Repeats.{repeats_times}
-use Rattle.curve_running.specs.Scans.{Until, IsInfimumUntil}
+use Rattle.curve_running.specs.Scans.{Until, IsInfimumUntil, IsSupremumIn}
 
 raised : (v : Ext) (c : ℚ) → zero_q ≤ℚ c → v ≤ₑ v +ₑ Fin c
 raised Inf c h = tt
@@ -28,10 +28,6 @@ back_rule f r d c s F h =
     sym (ap f same) ∙ F.rule (s -ℚ d) (with3 r d s (λ k. omega (arith, k.le, k.lt, k.same)))
 
 -- ---- the supremum
--- v is the supremum of f over the times from `from` on before `to`
-abbrev pub IsSupremumIn : (ℚ → Ext) → ℚ → ℚ → Ext → Type 0
-IsSupremumIn f from to v = IsSupremum {I = Until from to} (λ s. f s.at) v
-
 -- a later member of what comes before t, one period on
 record Later (f : ℚ → Ext) (t d c y : ℚ) : Type 0 where
   at : ℚ
@@ -80,6 +76,17 @@ supremum_repeats f r d c from t w v low some rise F h past W covered k = record 
               let (u, n) = W.near (y -ℚ c) (lt_le_ext (Fin (y -ℚ c)) (f s.at) w m (covered s.at s.nonneg g)) in
               take y (later_by f r d c t y u.at low some F (le_trans h u.least) (le_trans (le_of_lt u.early) past) n)
         ]
+
+-- where nothing comes before r it repeats from the end of the first period on
+pub supremum_from_start : (f : ℚ → Ext) (r d c t : ℚ) (v : Ext) → zero_q ≤ℚ r → r ≤ℚ zero_q → zero_q ≤ℚ d → zero_q ≤ℚ c → Repeats f r d c → r +ℚ d ≤ℚ t → IsRunningSupremum f t v
+    → IsRunningSupremum f (t +ℚ d) (v +ₑ Fin c)
+supremum_from_start f r d c t v low none some rise F late k = record {
+  above = shift_above f r d c t v low rise F late k;
+  near = λ y l.
+  let (s, m) = k.near (y -ℚ c) (gt_add_out v c y l) in
+  let b = later_by f r d c t y s.at low some F (le_trans none s.nonneg) s.most m in
+  (record { at = b.at; nonneg = b.nonneg; most = b.most }, b.more);
+}
 
 -- where it does not rise over a period it is constant from the end of the first one on
 pub supremum_constant : (f : ℚ → Ext) (r d c t : ℚ) (v : Ext) → zero_q ≤ℚ r → zero_q ≤ℚ d → c ≡ zero_q → Repeats f r d c → r +ℚ d ≤ℚ t → IsRunningSupremum f t v

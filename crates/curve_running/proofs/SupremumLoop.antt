@@ -1,5 +1,5 @@
 -- The scan for the supremum: what holds after each piece.
-use Rattle.std.specs.Prelude.{◌≡◌, ℕ, ◌+◌, ◌*◌, ◌<◌, ◌≤◌, pos, List, [], ◌∷◌, ◌++◌, length, drop, Option, Some, None}
+use Rattle.std.specs.Prelude.{◌≡◌, ℕ, true, ◌+◌, ◌*◌, ◌<◌, ◌≤◌, pos, List, [], ◌∷◌, ◌++◌, length, drop, Option, Some, None}
 use Rattle.std.proofs.Common.{arith, length-append, drop_of_length-le, sym, ap, ap₂, ◌∙◌, refl, subst, inl, inr}
 use Rattle.rational.specs.Rational.{ℚ, ◌≤ℚ◌, ◌<ℚ◌, int}
 use Rattle.rational.specs.MinMax.{max_q}
@@ -17,10 +17,10 @@ use Rattle.curve_running.specs.declared.stretch.Stretch.{Stretch}
 use Rattle.curve_running.specs.declared.bend.Bend.{Bend}
 use Rattle.curve_running.specs.Scans.{start_or, IsWindow, IsLevel, IsStretch}
 use Rattle.curve_running.specs.Bends.{risen, Follows, bent}
-use Rattle.curve_running.specs.Made.{IsMadeOf, IsMade, IsScan, IsSupremumScan}
+use Rattle.curve_running.specs.Made.{IsMadeOf, IsMade, TurnsAfter, IsScan, IsSupremumScan}
 use Rattle.curve_running.proofs.Suprema.{IsEarly, IsUpTo, IsLineOn, early_start, upto_value, upto_line, early_line}
 use Rattle.curve_running.proofs.Building.{Built, built_none, built_more, built_whole}
-use Rattle.curve_running.proofs.Makings.{greater_level, bent_made, each_join}
+use Rattle.curve_running.proofs.Makings.{greater_level, bent_made, bent_turns, each_join, turns_join}
 
 -- the pieces before the i-th are scanned: `level` is the supremum before its start
 pub record SupremumLoop (ps : List Piece) (end : ℚ) (i : ℕ) (level : ℚ) (out : List Piece) : Type 0 where
@@ -29,6 +29,7 @@ pub record SupremumLoop (ps : List Piece) (end : ℚ) (i : ℕ) (level : ℚ) (o
   pub built : Built (IsRunningSupremum (read ps)) (start_or end (drop i ps)) out
   pub count : length out ≤ 2 * i
   pub made : Each (IsMade end ps) out
+  pub turns : TurnsAfter true ps None out
 
 pub first_start : (end : ℚ) (ps : List Piece) → StartsAtZero ps → start_or end ps ≡ int (pos 0)
 first_start end [] h = absurd h
@@ -47,6 +48,7 @@ supremum_start ps end s W S =
       built = built_none (IsRunningSupremum (read ps)) (start_or end (drop 0 ps)) zero;
       count = omega arith;
       made = tt;
+      turns = tt;
     }
 
 bent_short : (x v : ℚ) (l : Line) (turn : Option Piece) → length (bent x v l turn) ≤ 2
@@ -72,7 +74,7 @@ bent_built ps out s top l (Some q) some B at on f =
     (λ t past early. subst (R ps t) (sym (f.second t past early)) (on t (lt_trans f.past past) early)))
 
 pub supremum_step : (ps : List Piece) (end : ℚ) (i : ℕ) (level : ℚ) (out more : List Piece) (s : Stretch) (top high next : ℚ) (b : Bend)
-    → SupremumLoop ps end i level out → IsStretch ps end i s → top ≡ max_q level s.at → Follows (risen top s.line s.from) s.from s.to b.line b.turn → IsMadeOf top s b
+    → SupremumLoop ps end i level out → IsStretch ps end i s → top ≡ max_q level s.at → Follows (risen top s.line s.from) s.from s.to b.line b.turn → IsMadeOf true top s b
     → more ≡ out ++ bent s.from top b.line b.turn → high ≡ max_q s.right s.left → next ≡ max_q top high → SupremumLoop ps end (i + 1) next more
 supremum_step ps end i level out more s top high next b L S t f m e h n =
     let at : IsUpTo (read ps) s.from top =
@@ -90,7 +92,8 @@ supremum_step ps end i level out more s top high next b L S t f m e h n =
       built = subst (λ z. Built (R ps) z more) S.to
           (subst (Built (R ps) s.to) (sym e) (bent_built ps out s top b.line b.turn S.some (subst (λ z. Built (R ps) z out) (sym S.from) L.built) at on f));
       count = subst (λ z. length z ≤ 2 * (i + 1)) (sym e) (omega (arith, length-append out (bent s.from top b.line b.turn)));
-      made = subst (Each (IsMade end ps)) (sym e) (each_join (IsMade end ps) out (bent s.from top b.line b.turn) L.made (bent_made ps end i top top s b S top_known top_known m));
+      made = subst (Each (IsMade end ps)) (sym e) (each_join (IsMade end ps) out (bent s.from top b.line b.turn) L.made (bent_made true ps end i top top s b S top_known top_known m));
+      turns = subst (TurnsAfter true ps None) (sym e) (turns_join true ps None out (bent s.from top b.line b.turn) L.turns (bent_turns true ps end i top top s b S m));
     }
 
 pub window_end : (end : ℚ) (ps : List Piece) → IsWindow end ps → int (pos 0) <ℚ end
@@ -107,6 +110,6 @@ supremum_end ps end i level out W L done most =
     let whole = built_whole (R ps) end out record { x = end; at = Fin end; line = None } (window_end end ps W) refl B in
     let c = L.count in
     record {
-      scan = record { starts = whole.starts; before = whole.before; count = omega arith; made = L.made };
+      scan = record { starts = whole.starts; before = whole.before; count = omega arith; made = L.made; turns = L.turns };
       reads = B.holds;
     }

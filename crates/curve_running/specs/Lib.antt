@@ -1,3 +1,6 @@
 pub mod Scans
 pub mod Bends
 pub mod Made
+pub mod Between
+pub mod Periods
+pub mod Runs

@@ -1,10 +1,11 @@
 -- What the pieces of a scan are made of: levels, lines of the scanned pieces, and the times at which the two meet. Own choice.
-use Rattle.std.specs.Prelude.{◌≡◌, ◌*◌, ◌≤◌, List, length, Option, Some, None, IfSome, ◌⊎◌, pos}
+use Rattle.std.specs.Prelude.{◌≡◌, ◌*◌, ◌≤◌, Bool, true, false, List, [], ◌∷◌, length, Option, Some, None, IfSome, ◌⊎◌, pos}
 use Rattle.rational.specs.Rational.{ℚ, ◌≤ℚ◌, ◌<ℚ◌, int}
 use Rattle.rational.specs.declared.Extended.TheVariants.{Fin}
 use Rattle.affine_segment.specs.declared.line.Line.{Line}
 use Rattle.affine_segment.specs.declared.line.Piece.{Piece}
 use Rattle.affine_segment.specs.Values.{line_at}
+use Rattle.upp_curve.specs.Bends.{SlopeTurns}
 use Rattle.upp_curve.specs.Reading.{read}
 use Rattle.upp_curve.specs.Normal.{Each, HasStart, StartsAtZero}
 use Rattle.upp_curve.specs.Running.{IsRunningSupremum}
@@ -27,9 +28,11 @@ pub record IsTurn (level : ℚ) (s : Stretch) (q : Piece) : Type 0 where
   pub at : q.at ≡ Fin level
   pub line : (q.line ≡ Some s.line) ⊎ (q.line ≡ Some (flat level))
 
-pub record IsMadeOf (level : ℚ) (s : Stretch) (b : Bend) : Type 0 where
+-- of a bend whose slope rises where it turns (true), or falls there (false)
+pub record IsMadeOf (rises : Bool) (level : ℚ) (s : Stretch) (b : Bend) : Type 0 where
   pub line : (b.line ≡ s.line) ⊎ ((v : ℚ) × (b.line ≡ flat v) × IsOneOf level s v)
   pub turn : IfSome b.turn (IsTurn level s)
+  pub turns : IfSome b.turn (λ q. SlopeTurns rises (Some b.line) q.line)
 
 -- ---- pieces of an answer
 pub record IsMade (end : ℚ) (ps : List Piece) (q : Piece) : Type 0 where
@@ -37,19 +40,25 @@ pub record IsMade (end : ℚ) (ps : List Piece) (q : Piece) : Type 0 where
   pub line : ((l : Line) × (q.line ≡ Some l) × HasLine l ps) ⊎ ((v : ℚ) × (q.line ≡ Some (flat v)) × IsLevel end ps v)
   pub start : HasStart q.x ps ⊎ ((v : ℚ) × (l : Line) × IsLevel end ps v × HasLine l ps × IsMeeting v l q.x)
 
--- pieces from 0 on and before `end`, at most twice as many as ps has, each made of levels and lines of ps
-pub record IsScan (ps : List Piece) (end : ℚ) (qs : List Piece) : Type 0 where
+-- after the line `last` each start is that of a piece of ps, or the slope rises there (true), or falls there (false)
+abbrev pub TurnsAfter : Bool → List Piece → Option Line → List Piece → Type 0
+TurnsAfter rises ps last [] = Unit {0}
+TurnsAfter rises ps last (q ∷ qs) = (HasStart q.x ps ⊎ SlopeTurns rises last q.line) × TurnsAfter rises ps q.line qs
+
+-- pieces from 0 on and before `end`, at most twice as many as ps has, each made of levels and lines of ps; all turns go one way
+pub record IsScan (rises : Bool) (ps : List Piece) (end : ℚ) (qs : List Piece) : Type 0 where
   pub starts : StartsAtZero qs
   pub before : Each (λ q. q.x <ℚ end) qs
   pub count : length qs ≤ 2 * length ps
   pub made : Each (IsMade end ps) qs
+  pub turns : TurnsAfter rises ps None qs
 
 -- at each time before `end` they read as the supremum of ps over the times up to it
 pub record IsSupremumScan (ps : List Piece) (end : ℚ) (qs : List Piece) : Type 0 where
-  pub scan : IsScan ps end qs
+  pub scan : IsScan true ps end qs
   pub reads : (t : ℚ) → int (pos 0) ≤ℚ t → t <ℚ end → IsRunningSupremum (read ps) t (read qs t)
 
 -- at each time before `end` they read as the infimum of ps over the times from it on that are before `end`
 pub record IsInfimumScan (ps : List Piece) (end : ℚ) (qs : List Piece) : Type 0 where
-  pub scan : IsScan ps end qs
+  pub scan : IsScan false ps end qs
   pub reads : (t : ℚ) → int (pos 0) ≤ℚ t → t <ℚ end → IsInfimumUntil (read ps) end t (read qs t)

@@ -3,7 +3,7 @@
 use Rattle.std.specs.Prelude.{◌≡◌, ℕ, ◌+◌, ◌*◌, ◌≤◌, List, [], ◌∷◌, length, drop, Option, Some, None, ◌⊎◌, pos}
 use Rattle.rational.specs.Rational.{ℚ, ◌≤ℚ◌, ◌<ℚ◌, int}
 use Rattle.rational.specs.Extended.{Ext}
-use Rattle.rational.specs.Bounds.{IsInfimum}
+use Rattle.rational.specs.Bounds.{IsInfimum, IsSupremum}
 use Rattle.rational.specs.declared.Extended.TheVariants.{Fin}
 use Rattle.affine_segment.specs.declared.line.Line.{Line}
 use Rattle.affine_segment.specs.declared.line.Piece.{Piece}
@@ -12,7 +12,7 @@ use Rattle.affine_segment.specs.Values.{line_at, line_value}
 use Rattle.affine_segment.specs.Steps.{IsWideCross}
 use Rattle.upp_curve.specs.Reading.{read}
 use Rattle.upp_curve.specs.Normal.{Each, HasStart, StartsAtZero}
-use Rattle.upp_curve.specs.Readable.{EachFits}
+use Rattle.upp_curve.specs.Readable.{EachFits, LineFits}
 use Rattle.upp_curve.specs.Shapes.{IsFinitePiece}
 use Rattle.curve_running.specs.declared.stretch.Stretch.{Stretch}
 
@@ -61,6 +61,8 @@ pub record IsStretch (ps : List Piece) (end : ℚ) (i : ℕ) (s : Stretch) : Typ
   pub on : (t : ℚ) → s.from <ℚ t → t <ℚ s.to → read ps t ≡ Fin (line_at s.line t)
   pub right : s.right ≡ line_at s.line s.from
   pub left : s.left ≡ line_at s.line s.to
+  pub right_fits : LineFits s.from s.line
+  pub left_fits : LineFits s.to s.line
   pub start : HasStart s.from ps
   pub line : HasLine s.line ps
   pub at_level : IsLevel end ps s.at
@@ -76,3 +78,7 @@ pub record Until (t end : ℚ) : Type 0 where
 -- v is the infimum of f over the times from t on that are before `end`
 abbrev pub IsInfimumUntil : (ℚ → Ext) → ℚ → ℚ → Ext → Type 0
 IsInfimumUntil f end t v = IsInfimum {I = Until t end} (λ s. f s.at) v
+
+-- v is the supremum of f over the times from `from` on that are before `to`
+abbrev pub IsSupremumIn : (ℚ → Ext) → ℚ → ℚ → Ext → Type 0
+IsSupremumIn f from to v = IsSupremum {I = Until from to} (λ s. f s.at) v

@@ -1,6 +1,6 @@
 //! The greatest and the least of a level and of a line, on one stretch.
 
-ghost use Rattle.std.specs.Prelude.{◌≡◌, pos, ◌++◌, IfOk};
+ghost use Rattle.std.specs.Prelude.{◌≡◌, pos, ◌++◌, true, false, IfOk};
 ghost use Rattle.rational.specs.Rational.{◌<ℚ◌, int};
 ghost use Rattle.affine_segment.specs.Values.{line_at};
 ghost use Rattle.curve_running.specs.Scans.{flat, MeetingFits};
@@ -71,7 +71,7 @@ fn highest_rising(level: Frac, s: &Stretch) -> Bend
     requires rises { int (pos 0) <ℚ s.now.line.slope }
     requires fits { MeetingFits level s.now.line }
     ensures follows { Follows (risen level s.now.line s.now.from) s.now.from s.now.to result.line result.turn }
-    ensures made { IsMadeOf level s.now result }
+    ensures made { IsMadeOf true level s.now result }
 {
     match level.cmp(&s.right) {
         Ordering::Greater => match level.cmp(&s.left) {
@@ -92,7 +92,7 @@ pub(crate) fn highest(level: Frac, s: &Stretch) -> Bend
     requires left { s.now.left ≡ line_at s.now.line s.now.to }
     requires fits { int (pos 0) <ℚ s.now.line.slope → MeetingFits level s.now.line }
     ensures follows { Follows (risen level s.now.line s.now.from) s.now.from s.now.to result.line result.turn }
-    ensures made { IsMadeOf level s.now result }
+    ensures made { IsMadeOf true level s.now result }
 {
     match s.line.slope.cmp(&Frac::zero()) {
         Ordering::Greater => highest_rising(level, s),
@@ -108,7 +108,7 @@ fn lowest_rising(level: Frac, s: &Stretch) -> Bend
     requires rises { int (pos 0) <ℚ s.now.line.slope }
     requires fits { MeetingFits level s.now.line }
     ensures follows { Follows (sunk level s.now.line s.now.to) s.now.from s.now.to result.line result.turn }
-    ensures made { IsMadeOf level s.now result }
+    ensures made { IsMadeOf false level s.now result }
 {
     match level.cmp(&s.right) {
         Ordering::Greater => match level.cmp(&s.left) {
@@ -129,7 +129,7 @@ pub(crate) fn lowest(level: Frac, s: &Stretch) -> Bend
     requires left { s.now.left ≡ line_at s.now.line s.now.to }
     requires fits { int (pos 0) <ℚ s.now.line.slope → MeetingFits level s.now.line }
     ensures follows { Follows (sunk level s.now.line s.now.to) s.now.from s.now.to result.line result.turn }
-    ensures made { IsMadeOf level s.now result }
+    ensures made { IsMadeOf false level s.now result }
 {
     match s.line.slope.cmp(&Frac::zero()) {
         Ordering::Greater => lowest_rising(level, s),

@@ -45,8 +45,8 @@ pub(crate) fn lesser(a: Frac, b: Frac) -> Frac
     }
 }
 
-// The value of a line, where its steps fit.
-fn fitting_value(line: &Line, t: Frac) -> Frac
+/// The value of a line, where its steps fit.
+pub(crate) fn fitting_value(line: &Line, t: Frac) -> Frac
     requires { LineFits t line.now }
     ensures { result ≡ line_at line.now t }
 {

@@ -11,3 +11,5 @@ pub mod MadeLoop
 pub mod MadeReads
 pub mod MadeStands
 pub mod MadeWindows
+pub mod TailGrids
+pub mod Worked

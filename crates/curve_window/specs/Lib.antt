@@ -4,3 +4,4 @@ pub mod Pointwise
 pub mod Lies
 pub mod Made
 pub mod Operands
+pub mod Worked

@@ -7,6 +7,8 @@ mod lie;
 mod made;
 mod stretch;
 mod sum;
+#[cfg(test)]
+mod tests;
 
 pub use compared::{window_excess, window_max, window_min};
 pub use stretch::{Both, overlay};

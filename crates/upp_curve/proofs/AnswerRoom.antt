@@ -34,18 +34,18 @@ use Rattle.upp_curve.proofs.NarrowSizes.{IsNarrow, narrow_limit, narrow_gauge, g
 
 -- ---- the products that a gauge below 2 ^ 120 bounds
 -- the largest value over the finest grid of values, that of the crossing of two lines, and the steepness over the grid of sums
-record IsTight (z : Sizes) : Type 0 where
-  crossing : z.largest * (z.dv * z.dt * (z.steepness * z.ds) * z.ds) < 2 ^ 114
-  sums : z.largest * grid_of z < 2 ^ 114
-  steep : z.steepness * grid_of z < 2 ^ 114
+pub record IsTight (z : Sizes) : Type 0 where
+  pub crossing : z.largest * (z.dv * z.dt * (z.steepness * z.ds) * z.ds) < 2 ^ 114
+  pub sums : z.largest * grid_of z < 2 ^ 114
+  pub steep : z.steepness * grid_of z < 2 ^ 114
 
 limited_narrow : (z : Sizes) (end : ℚ) → AreLimited z end → IsNarrow z (2 ^ 114)
 limited_narrow z end A = narrow_limit z end A.sizes A.gauge
 
-wide_narrow : (z : Sizes) (end : ℚ) → AreLimited z end → IsNarrow z (2 ^ 122)
+pub wide_narrow : (z : Sizes) (end : ℚ) → AreLimited z end → IsNarrow z (2 ^ 122)
 wide_narrow z end A = narrow_gauge z end A.sizes (let g = A.gauge in omega (arith, g))
 
-tight : (z : Sizes) (end : ℚ) → AreLimited z end → IsTight z
+pub tight : (z : Sizes) (end : ℚ) → AreLimited z end → IsTight z
 unfolding gauge_of
 tight z end A =
     let g = A.gauge in
@@ -327,7 +327,7 @@ halves_sum v s r h k =
     let q = k.high in
     record { low = with3 v s r (λ c. omega (arith, c.le, c.lt, c.same)); high = with3 v s r (λ c. omega (arith, c.le, c.lt, c.same)) }
 
-halves_apart : (v s r : ℚ) → Within v (int (pos 2) *ℚ s) → Within v (int (pos 2) *ℚ r) → Within v (s -ℚ r)
+pub halves_apart : (v s r : ℚ) → Within v (int (pos 2) *ℚ s) → Within v (int (pos 2) *ℚ r) → Within v (s -ℚ r)
 halves_apart v s r h k =
     let a = h.low in
     let b = h.high in
@@ -378,7 +378,7 @@ steps_not_none d x w some h = let b = num_bound d x some w in let n = num_not_no
         size : (a : ℤ) → a ≢ pos 0 → 1 ≤ nat_abs a
         size a h = omega (arith, ints)
 
-crossing_from : (z : Sizes) (end up down t : ℚ) → AreLimited z end → Whole (grid_of z) up → Whole z.ds down → Within (int (pos z.steepness)) down → down ≢ int (pos 0) → t *ℚ down ≡ up → IsCrossing z t
+pub crossing_from : (z : Sizes) (end up down t : ℚ) → AreLimited z end → Whole (grid_of z) up → Whole z.ds down → Within (int (pos z.steepness)) down → down ≢ int (pos 0) → t *ℚ down ≡ up → IsCrossing z t
 crossing_from z end up down t A wu wd id some e =
     let n = z.dv * z.dt in
     let Q = whole_div z.ds (up *ℚ int (pos n)) down (whole_times_in n z.ds up wu) wd some in

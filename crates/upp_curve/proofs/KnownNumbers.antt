@@ -123,7 +123,7 @@ one_step n d some pos_n w =
     subst (λ y. int (pos 1) ≤ℚ y) (sym w.is) (int_le (pos 1) w.steps (omega (arith, ints, l)))
 
 -- m periods before the window's end: m is at most the largest value times dt
-few_periods : (z : Sizes) (end d : ℚ) (m : ℕ) → AreSizes z end → int (pos 0) <ℚ d → Whole z.dt d → int (pos m) *ℚ d ≤ℚ end → m ≤ z.largest * z.dt
+pub few_periods : (z : Sizes) (end d : ℚ) (m : ℕ) → AreSizes z end → int (pos 0) <ℚ d → Whole z.dt d → int (pos m) *ℚ d ≤ℚ end → m ≤ z.largest * z.dt
 few_periods z end d m a some w h =
     let M = int (pos m) in
     let T = int (pos z.dt) in

@@ -86,10 +86,13 @@ pub mod UnrollLoops
 pub mod UnrollSteps
 pub mod StretchPieces
 pub mod StretchTurns
-pub mod AnswerRoom
 pub mod StretchSizes
 pub mod StretchValues
 pub mod GaugeRises
 pub mod Bends
 pub mod CallSizes
 pub mod SteadyStart
+pub mod GivenCurves
+pub mod JoinLoops
+pub mod Gentle
+pub mod Joins

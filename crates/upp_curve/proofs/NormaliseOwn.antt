@@ -23,10 +23,11 @@ use Rattle.upp_curve.specs.Steady.{steady, later_unless, rank_of}
 use Rattle.upp_curve.specs.Periods.{own_period}
 use Rattle.upp_curve.specs.Normal.{Each, StartsAtZero, IsRaw, TailFits}
 use Rattle.upp_curve.specs.Spans.{Span, spans, piece_read, start_after, end_of}
-use Rattle.upp_curve.specs.Limits.{Sizes, own_end, own_sizes, own_gauge}
+use Rattle.upp_curve.specs.Limits.{Sizes, curve_numbers, own_end, own_sizes, own_gauge}
 use Rattle.upp_curve.specs.declared.own_window.OwnNumbers.{OwnNumbers}
 use Rattle.upp_curve.specs.OwnWindow.{AreNumbers}
-use Rattle.upp_curve.specs.Sized.{grid_of, IsValue, IsSlope, AreSizes, ValueStands, LineStands, SpanStands, TailStands, CurveStands}
+use Rattle.upp_curve.specs.Sized.{grid_of, IsValue, IsSlope, AreSizes, ValueStands, LineStands, SpanStands, TailStands, CurveStands, Stands}
+use Rattle.upp_curve.specs.Operand.{AreLimited}
 use Rattle.upp_curve.specs.Normalising.{TailOnGrids}
 use Rattle.upp_curve.specs.Room.{top, Room, IsRoom, TimeHasRoom, many, ValueHasRoom, LineHasRoom, PieceHasRoom, IsMove, PiecesHaveRoom, EndHasRoom, TurnHasRoom, TailHasRoom}
 use Rattle.upp_curve.proofs.Rules.{int_mul}
@@ -34,7 +35,7 @@ use Rattle.upp_curve.proofs.ByTail.{value_of}
 use Rattle.upp_curve.proofs.NarrowSizes.{grids_narrow, IsNarrow, narrow_limit, grid_pos, value_whole, run_within, line_parts, slope_time_divides}
 use Rattle.upp_curve.proofs.PieceLists.{starts_nonneg}
 use Rattle.upp_curve.proofs.OwnGauge.{end_within}
-use Rattle.upp_curve.proofs.CurveStands.{own_are_sizes, own_stands, starts_below_own_end}
+use Rattle.upp_curve.proofs.CurveStands.{curve_stands, own_are_sizes, own_stands, starts_below_own_end}
 use Rattle.upp_curve.proofs.NormaliseLists.{each_map}
 use Rattle.upp_curve.proofs.NormaliseForm.{grids_through}
 use Rattle.upp_curve.proofs.NormaliseGrids.{ValueOn, LineOn, PieceOn, raw_on}
@@ -177,7 +178,7 @@ later_least true rank = le_refl rank
 later_least false rank = with1 rank (λ c. omega (arith, c.le, c.lt, c.same))
 
 -- what ends at w: the first period, or the rank
-abbrev EndsBy : Tail → ℚ → Type 0
+abbrev pub EndsBy : Tail → ℚ → Type 0
 EndsBy (Periodic rank period rise) w = (rank +ℚ period ≤ℚ w) × (int (pos 0) <ℚ period)
 EndsBy (Affine rank) w = rank ≤ℚ w
 EndsBy (Infinite rank) w = rank ≤ℚ w
@@ -316,3 +317,23 @@ own_found ps seen tail o raw e A small =
     let c : SpecCurve = record { pieces = ps; tail = tail } in
     let B = subst (λ zs. AreNumbers (own_end record { pieces = zs; tail = tail }) (own_sizes record { pieces = zs; tail = tail }) o) e A in
     found_of c o.times o.values raw (subst (λ k. k < 2 ^ 120) B.gauge small) B.times B.values
+
+-- a curve in any form in a call's window has room by the call's sizes, where its first period or its rank ends in it
+pub limited_found : (z : Sizes) (end : ℚ) (c : SpecCurve) → AreLimited z end → IsRaw c → Each (λ p. p.x <ℚ end) c.pieces → EndsBy c.tail end → Stands z (curve_numbers end c)
+    → Found c z.dt (grid_of z)
+limited_found z end c a raw before ends h =
+    let narrow = narrow_limit z end a.sizes a.gauge in
+    let G : Given z end = record { sizes = a.sizes; narrow = narrow; some = a.some } in
+    let S = curve_stands z end c raw before h in
+    let inside = nonneg c.pieces end (low_starts c.pieces (starts_nonneg c.pieces raw.starts)) before in
+    let n = grids_narrow z end (2 ^ 114) a.sizes narrow in
+    let n0 = n.0 in
+    let n1 = n.1 in
+    record {
+      some_times = a.sizes.dt;
+      times_fit = omega (arith, n0);
+      some_values = grid_pos z end a.sizes;
+      values_fit = omega (arith, n1);
+      grids = tail_grids z end c.pieces c.tail G raw.starts raw.tail S.rank S.tail S.spans inside;
+      room = tail_room z end c.pieces c.tail G raw.tail ends S.rank S.tail S.spans inside;
+    }

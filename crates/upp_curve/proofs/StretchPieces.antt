@@ -1,29 +1,25 @@
 -- The piece at a time and where the next one starts: up to there it stays the piece.
-use Rattle.std.specs.Prelude.{◌≡◌, ℕ, zero, suc, ◌+◌, ◌<◌, ◌≤◌, Bool, true, false, cond, pos, List, [], ◌∷◌, length, drop, Option, Some, None, ◌⊎◌}
+use Rattle.std.specs.Prelude.{◌≡◌, ℕ, zero, suc, ◌<◌, ◌≤◌, cond, pos, List, [], ◌∷◌, length, drop, Option, Some, None}
 use Rattle.std.specs.List.{AllByRecursion}
 use Rattle.std.proofs.Common.{arith, sym, ap, ◌∙◌, refl, subst, inl, inr, get_or, drop_of_length-le}
-use Rattle.rational.specs.Rational.{ℚ, ◌+ℚ◌, ◌-ℚ◌, ◌*ℚ◌, ◌≤ℚ◌, ◌<ℚ◌, int, le_q}
-use Rattle.rational.specs.Extended.{Ext}
-use Rattle.rational.specs.declared.Extended.TheVariants.{Fin, Inf}
-use Rattle.rational.proofs.Linear.{with1, with2, with3}
-use Rattle.rational.proofs.Laws.{le_or_lt, le_refl, le_trans, le_of_lt, lt_le_trans, le_lt_trans, lt_trans, not_le_of_lt}
+use Rattle.rational.specs.Rational.{ℚ, ◌≤ℚ◌, ◌<ℚ◌, int}
+use Rattle.rational.specs.declared.Extended.TheVariants.{Inf}
+use Rattle.rational.proofs.Laws.{le_or_lt, le_refl, le_trans, le_of_lt, lt_le_trans, le_lt_trans, not_le_of_lt}
 use Rattle.rational.proofs.Over.{le_q_out}
 use Rattle.rational.proofs.MinMax.{le_q_not}
-use Rattle.affine_segment.specs.declared.line.Line.{Line}
 use Rattle.affine_segment.specs.declared.line.Piece.{Piece}
 use Rattle.affine_segment.specs.Values.{line_value}
 use Rattle.upp_curve.specs.declared.curve.Tail.{Tail}
-use Rattle.upp_curve.specs.declared.curve.Tail.TheVariants.{Periodic, Affine, Infinite}
 use Rattle.upp_curve.specs.Reading.{piece_in, piece_value, read}
 use Rattle.upp_curve.specs.Curve.{cut}
 use Rattle.upp_curve.specs.Normal.{Each, HasStart, RisesFrom, StartsAtZero, FitsRank}
-use Rattle.upp_curve.specs.Steady.{last_of, last_line}
-use Rattle.upp_curve.specs.Spans.{Span, spans, end_of, piece_read, line_read, start_after}
+use Rattle.upp_curve.specs.Steady.{last_line}
+use Rattle.upp_curve.specs.Spans.{Span, spans, end_of, piece_read, start_after}
 use Rattle.upp_curve.specs.Ahead.{IsBeforeNext, AtNext, next_in, line_in}
-use Rattle.upp_curve.proofs.PieceIn.{piece_in_stop, piece_in_go, piece_in_end, starts_by, IsPointAt}
+use Rattle.upp_curve.proofs.PieceIn.{piece_in_stop, piece_in_go, piece_in_end, IsPointAt}
 use Rattle.upp_curve.proofs.FirstStretch.{value_past}
 use Rattle.upp_curve.proofs.Normal.{past_start}
-use Rattle.upp_curve.proofs.Steady.{read_past, cut_past}
+use Rattle.upp_curve.proofs.Steady.{read_past}
 use Rattle.upp_curve.proofs.PieceLoops.{next_piece}
 
 -- ---- where the next piece starts

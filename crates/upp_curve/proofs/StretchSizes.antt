@@ -1,7 +1,7 @@
 -- How a periodic curve goes on from a time of a window: every step there fits.
-use Rattle.std.specs.Prelude.{◌≡◌, ◌≢◌, ℕ, zero, suc, ◌+◌, ◌*◌, ◌<◌, ◌≤◌, ◌^◌, cond, pos, List, [], ◌∷◌, Option, Some, None, ◌⊎◌}
+use Rattle.std.specs.Prelude.{◌≡◌, ◌≢◌, ℕ, ◌*◌, ◌≤◌, ◌^◌, cond, pos, List, [], ◌∷◌, Option, Some, None, ◌⊎◌}
 use Rattle.std.specs.List.{AllByRecursion}
-use Rattle.std.proofs.Common.{arith, sym, ap, ap₂, ◌∙◌, refl, subst, inl, inr}
+use Rattle.std.proofs.Common.{arith, sym, ap, ◌∙◌, subst, inl, inr}
 use native.Mathlib.Nat.{dvd-mul_left, mul-le-mul_right}
 use Rattle.rational.specs.Rational.{ℚ, ◌+ℚ◌, ◌-ℚ◌, ◌*ℚ◌, ◌/ℚ◌, ◌≤ℚ◌, ◌<ℚ◌, int, neg_ℚ}
 use Rattle.rational.specs.Ratio.{IsSmall, SumFits}
@@ -10,11 +10,11 @@ use Rattle.rational.specs.Whole.{periods}
 use Rattle.rational.specs.Extended.{Ext, ◌+ₑ◌}
 use Rattle.rational.specs.declared.Extended.TheVariants.{Fin, Inf}
 use Rattle.rational.proofs.Linear.{with1, with2, with3, with4}
-use Rattle.rational.proofs.Laws.{le_or_lt, le_refl, le_trans, le_of_lt, lt_le_trans, le_lt_trans, not_le_of_lt, not_zero, mul_comm, mul_one, mul_le_mul_right}
-use Rattle.rational.proofs.Integers.{nat_nonneg, nat_le, mul_whole}
+use Rattle.rational.proofs.Laws.{le_or_lt, le_trans, le_of_lt, lt_le_trans, le_lt_trans, not_le_of_lt, not_zero, mul_comm, mul_one, mul_le_mul_right}
+use Rattle.rational.proofs.Integers.{nat_le}
 use Rattle.rational.proofs.Over.{lt_q_out}
 use Rattle.rational.proofs.MinMax.{lt_q_not}
-use Rattle.rational.proofs.Grid.{whole_add, whole_sub, whole_times, whole_weaken, whole_both, whole_neg, within_nonneg, within_sub, within_neg, within_add, within_weaken}
+use Rattle.rational.proofs.Grid.{whole_add, whole_sub, whole_times, whole_weaken, whole_both, whole_neg, within_nonneg, within_sub, within_neg, within_add}
 use Rattle.rational.proofs.Sizes.{largest_part, quotient_on_grid}
 use Rattle.affine_segment.specs.declared.line.Line.{Line}
 use Rattle.affine_segment.specs.declared.line.Piece.{Piece}
@@ -26,21 +26,20 @@ use Rattle.upp_curve.specs.Curves.{IsCurve}
 use Rattle.upp_curve.specs.Reading.{piece_in}
 use Rattle.upp_curve.specs.Steady.{rank_of}
 use Rattle.upp_curve.specs.Periods.{period_of}
-use Rattle.upp_curve.specs.Normal.{Each, HasStart, RisesFrom, StartsAtZero, FitsPeriod, TailFits}
+use Rattle.upp_curve.specs.Normal.{Each, HasStart, StartsAtZero, FitsPeriod, TailFits}
 use Rattle.upp_curve.specs.Readable.{LineFitsAt}
-use Rattle.upp_curve.specs.Fitting.{MoveFits}
 use Rattle.upp_curve.specs.Unrolled.{copies_below, line_later}
 use Rattle.upp_curve.specs.Spans.{Span, copy_of, copies_of, once_below, span_below, spans, spans_below}
-use Rattle.upp_curve.specs.Limits.{Sizes, gauge_of, curve_numbers}
-use Rattle.upp_curve.specs.Sized.{IsValue, IsSlope, AreSizes, Stands, ValueStands, LineStands, SpanStands, TailStands, CurveStands, PeriodStands, grid_of, times_largest}
+use Rattle.upp_curve.specs.Limits.{Sizes, curve_numbers}
+use Rattle.upp_curve.specs.Sized.{IsValue, IsSlope, Stands, ValueStands, LineStands, SpanStands, TailStands, CurveStands, PeriodStands, grid_of, times_largest}
 use Rattle.upp_curve.specs.Seen.{ValueRises}
-use Rattle.upp_curve.specs.Operand.{AreLimited, OperandLine, OperandLineAt}
-use Rattle.upp_curve.specs.Ahead.{IsOverBy, IsBeforeNext, AtNext, TimesStand, HasWindow, IsTimeIn, IsGridValue, GridValue}
-use Rattle.upp_curve.specs.Copied.{RiseSteps, LineRises, NextMoves}
+use Rattle.upp_curve.specs.Operand.{AreLimited, OperandLineAt}
+use Rattle.upp_curve.specs.Ahead.{IsOverBy, AtNext, TimesStand, HasWindow, IsTimeIn, GridValue}
+use Rattle.upp_curve.specs.Copied.{LineRises}
 use Rattle.upp_curve.proofs.Every.{every_flat_out}
 use Rattle.upp_curve.proofs.Copies.{copies_out, copy_zero, copy_among}
 use Rattle.upp_curve.proofs.ClosedForms.{line_moved}
-use Rattle.upp_curve.proofs.NarrowSizes.{IsNarrow, narrow_gauge, scaled_fits, grid_pos, grids_narrow, line_parts, small_number, small_sum, value_whole, value_within, run_whole, run_within}
+use Rattle.upp_curve.proofs.NarrowSizes.{IsNarrow, narrow_gauge, scaled_fits, grid_pos, line_parts, small_number, small_sum, value_whole, value_within, run_whole, run_within}
 use Rattle.upp_curve.proofs.AnswerRoom.{OperandValueAt, operand_line_fits, operand_line_value, stands_operand_value}
 use Rattle.upp_curve.proofs.CurveStands.{unrolled_stand, curve_stands, tail_stands, once_out, copies_first}
 use Rattle.upp_curve.proofs.KnownNumbers.{value_rises}
@@ -52,24 +51,24 @@ pub record CopiesStand (z : Sizes) (s : Span) (period rise : ℚ) (n : ℕ) : Ty
   pub first : SpanStands z s
   pub present : SpanStands z (copy_of period rise s n)
 
-each_below : (z : Sizes) (end : ℚ) (c : SpecCurve) → Stands z (curve_numbers end c) → AllByRecursion (λ s. AllByRecursion (SpanStands z) (span_below c.tail end s)) (spans c.tail c.pieces)
+pub each_below : (z : Sizes) (end : ℚ) (c : SpecCurve) → Stands z (curve_numbers end c) → AllByRecursion (λ s. AllByRecursion (SpanStands z) (span_below c.tail end s)) (spans c.tail c.pieces)
 unfolding spans_below
 each_below z end c h = every_flat_out (SpanStands z) (span_below c.tail end) (spans c.tail c.pieces) (unrolled_stand z end c h)
 
-copies_of_span : (z : Sizes) (end rank period rise t early : ℚ) (s : Span) (n : ℕ) → int (pos 0) <ℚ period → early ≡ t -ℚ int (pos n) *ℚ period → int (pos 0) ≤ℚ int (pos n) *ℚ period
+pub copies_of_span : (z : Sizes) (end rank period rise t early : ℚ) (s : Span) (n : ℕ) → int (pos 0) <ℚ period → early ≡ t -ℚ int (pos n) *ℚ period → int (pos 0) ≤ℚ int (pos n) *ℚ period
     → s.piece.x ≤ℚ early → t <ℚ end → (n ≡ 0) ⊎ (rank ≤ℚ s.piece.x) → AllByRecursion (SpanStands z) (span_below (Periodic rank period rise) end s) → CopiesStand z s period rise n
 copies_of_span z end rank period rise t early s n some e by early_start before past all = elim (le_or_lt rank s.piece.x) [
   | inl k ↦
-    let copies : AllByRecursion (SpanStands z) (copies_of period rise s (copies_below period end s.piece)) =
-        subst (λ b. AllByRecursion (SpanStands z) (cond b (once_below end s) (copies_of period rise s (copies_below period end s.piece)))) (lt_q_not s.piece.x rank k) all in
-    record {
-      first = copies_first (SpanStands z) end period rise s some starts copies;
-      present = copy_among (SpanStands z) period rise s (copies_below period end s.piece) n (copies_out period end s.piece n some moved) copies;
-    }
+      let copies : AllByRecursion (SpanStands z) (copies_of period rise s (copies_below period end s.piece)) =
+      subst (λ b. AllByRecursion (SpanStands z) (cond b (once_below end s) (copies_of period rise s (copies_below period end s.piece)))) (lt_q_not s.piece.x rank k) all in
+      record {
+        first = copies_first (SpanStands z) end period rise s some starts copies;
+        present = copy_among (SpanStands z) period rise s (copies_below period end s.piece) n (copies_out period end s.piece n some moved) copies;
+      }
   | inr k ↦
-    let first : SpanStands z s =
-        once_out (SpanStands z) end s starts (subst (λ b. AllByRecursion (SpanStands z) (cond b (once_below end s) (copies_of period rise s (copies_below period end s.piece)))) (lt_q_out s.piece.x rank k) all) in
-    record { first = first; present = elim past [ inl i ↦ subst (SpanStands z) (sym (ap (copy_of period rise s) i ∙ copy_zero period rise s)) first | inr i ↦ absurd (not_le_of_lt k i) ] }
+      let first : SpanStands z s =
+      once_out (SpanStands z) end s starts (subst (λ b. AllByRecursion (SpanStands z) (cond b (once_below end s) (copies_of period rise s (copies_below period end s.piece)))) (lt_q_out s.piece.x rank k) all) in
+      record { first = first; present = elim past [ inl i ↦ subst (SpanStands z) (sym (ap (copy_of period rise s) i ∙ copy_zero period rise s)) first | inr i ↦ absurd (not_le_of_lt k i) ] }
 ]
   where
     starts : s.piece.x <ℚ end
@@ -91,8 +90,8 @@ copies_stand z end c rank period rise t p ps curve window time e f n count early
     let low : int (pos 0) ≤ℚ early = subst (λ y. int (pos 0) ≤ℚ y) (sym back) turn.low in
     let first : p.x ≤ℚ early = subst (λ x. x ≤ℚ early) (sym starts.0) low in
     let below : AllByRecursion (λ s. AllByRecursion (SpanStands z) (span_below tail end s)) (spans tail (p ∷ ps)) =
-        subst (λ k. AllByRecursion (λ s. AllByRecursion (SpanStands z) (span_below k end s)) (spans k (p ∷ ps))) e
-        (subst (λ qs. AllByRecursion (λ s. AllByRecursion (SpanStands z) (span_below c.tail end s)) (spans c.tail qs)) f (each_below z end c window.stands)) in
+    subst (λ k. AllByRecursion (λ s. AllByRecursion (SpanStands z) (span_below k end s)) (spans k (p ∷ ps))) e
+    (subst (λ qs. AllByRecursion (λ s. AllByRecursion (SpanStands z) (span_below c.tail end s)) (spans c.tail qs)) f (each_below z end c window.stands)) in
     let (next, all) = span_in (λ s. AllByRecursion (SpanStands z) (span_below tail end s)) tail p ps early below in
     let past : (n ≡ 0) ⊎ (rank ≤ℚ (piece_in p ps early).x) = elim turn.past [
       | inl i ↦ inl i

@@ -1,17 +1,15 @@
 -- A time past the rank of a periodic tail, as one of the first period: the value there and how it goes on.
-use Rattle.std.specs.Prelude.{◌≡◌, ℕ, zero, suc, ◌+◌, ◌<◌, ◌≤◌, cond, pos, List, [], ◌∷◌, Option, Some, None, ◌⊎◌}
-use Rattle.std.proofs.Common.{arith, sym, ap, ap₂, ◌∙◌, refl, subst, inl, inr}
-use Rattle.rational.specs.Rational.{ℚ, ◌+ℚ◌, ◌-ℚ◌, ◌*ℚ◌, ◌/ℚ◌, ◌≤ℚ◌, ◌<ℚ◌, int, le_q}
+use Rattle.std.specs.Prelude.{◌≡◌, ℕ, pos, ◌⊎◌}
+use Rattle.std.proofs.Common.{arith, sym, ap, ◌∙◌, refl, subst, inl, inr}
+use Rattle.rational.specs.Rational.{ℚ, ◌+ℚ◌, ◌-ℚ◌, ◌*ℚ◌, ◌/ℚ◌, ◌≤ℚ◌, ◌<ℚ◌, int}
 use Rattle.rational.specs.Whole.{periods, whole_part}
 use Rattle.rational.specs.Extended.{Ext, ◌+ₑ◌}
-use Rattle.rational.specs.declared.Extended.TheVariants.{Fin, Inf}
+use Rattle.rational.specs.declared.Extended.TheVariants.{Fin}
 use Rattle.rational.proofs.Linear.{with1, with2, with3, with4}
-use Rattle.rational.proofs.Laws.{le_or_lt, le_refl, le_trans, le_of_lt, lt_le_trans, le_lt_trans, mul_nonneg}
+use Rattle.rational.proofs.Laws.{le_or_lt, le_trans, le_of_lt, mul_nonneg}
 use Rattle.rational.proofs.Whole.{periods_small, periods_low, periods_high, periods_unique}
 use Rattle.rational.proofs.Integers.{nat_nonneg}
-use Rattle.upp_curve.specs.declared.ahead.Turn.{Turn}
 use Rattle.upp_curve.specs.Curve.{repeated}
-use Rattle.upp_curve.specs.Copied.{IsTurn}
 
 zero_times : (d : ℚ) → int (pos 0) *ℚ d ≡ int (pos 0)
 zero_times d = with1 d (λ c. omega (arith, c.le, c.lt, c.same))
@@ -63,9 +61,9 @@ pub same_turn : (rank period t u : ℚ) → int (pos 0) <ℚ period → t ≤ℚ
     → periods rank period u ≡ periods rank period t
 same_turn rank period t u some h k = elim (le_or_lt rank t) [
   | inl l ↦
-    let y = int (pos (periods rank period t)) *ℚ period in
-    let low = periods_low rank period t some l in
-    periods_unique rank period u (periods rank period t) some (le_trans low h) (with4 rank period y u (λ c. omega (arith, c.le, c.lt, c.same)))
+      let y = int (pos (periods rank period t)) *ℚ period in
+      let low = periods_low rank period t some l in
+      periods_unique rank period u (periods rank period t) some (le_trans low h) (with4 rank period y u (λ c. omega (arith, c.le, c.lt, c.same)))
   | inr l ↦ small (periods rank period t) (periods_small rank period t some (with3 rank period t (λ c. omega (arith, c.le, c.lt, c.same)))) k
 ]
   where

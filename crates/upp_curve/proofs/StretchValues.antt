@@ -1,15 +1,14 @@
 -- How a curve goes on from a time: the piece there, or its present copy, up to the next start.
-use Rattle.std.specs.Prelude.{◌≡◌, ℕ, zero, suc, ◌+◌, ◌<◌, ◌≤◌, cond, pos, List, [], ◌∷◌, Option, Some, None, ◌⊎◌}
+use Rattle.std.specs.Prelude.{◌≡◌, ℕ, cond, pos, List, [], ◌∷◌, Option, Some, None}
 use Rattle.std.specs.List.{AllByRecursion}
-use Rattle.std.proofs.Common.{arith, sym, ap, ap₂, ◌∙◌, refl, subst, inl, inr}
-use Rattle.rational.specs.Rational.{ℚ, ◌+ℚ◌, ◌-ℚ◌, ◌*ℚ◌, ◌/ℚ◌, ◌≤ℚ◌, ◌<ℚ◌, int, le_q, neg_ℚ}
-use Rattle.rational.specs.Ratio.{IsSmall, SumFits}
-use Rattle.rational.specs.Grid.{Whole, Within}
+use Rattle.std.proofs.Common.{arith, sym, ap, ◌∙◌, refl, subst, inl, inr}
+use Rattle.rational.specs.Rational.{ℚ, ◌+ℚ◌, ◌-ℚ◌, ◌*ℚ◌, ◌≤ℚ◌, ◌<ℚ◌, int}
+use Rattle.rational.specs.Grid.{Whole}
 use Rattle.rational.specs.Whole.{periods}
 use Rattle.rational.specs.Extended.{Ext, ◌+ₑ◌}
-use Rattle.rational.specs.declared.Extended.TheVariants.{Fin, Inf}
-use Rattle.rational.proofs.Linear.{with1, with2, with3, with4}
-use Rattle.rational.proofs.Laws.{le_or_lt, le_refl, le_trans, le_of_lt, lt_le_trans, le_lt_trans, not_le_of_lt}
+use Rattle.rational.specs.declared.Extended.TheVariants.{Fin}
+use Rattle.rational.proofs.Linear.{with3, with4}
+use Rattle.rational.proofs.Laws.{le_or_lt, le_refl, le_trans, le_of_lt, le_lt_trans}
 use Rattle.rational.proofs.Over.{le_q_out, lt_q_out}
 use Rattle.rational.proofs.MinMax.{le_q_not, lt_q_not}
 use Rattle.rational.proofs.Grid.{whole_add, whole_times}
@@ -23,13 +22,12 @@ use Rattle.upp_curve.specs.declared.curve.Tail.TheVariants.{Periodic, Affine, In
 use Rattle.upp_curve.specs.Curve.{SpecCurve, value_at, with_tail, repeated}
 use Rattle.upp_curve.specs.Curves.{IsCurve}
 use Rattle.upp_curve.specs.Reading.{piece_in, piece_value, read}
-use Rattle.upp_curve.specs.Normal.{Each, RisesFrom, StartsAtZero, FitsPeriod, FitsRank, TailFits, TailNormal}
-use Rattle.upp_curve.specs.Readable.{LineFitsAt}
+use Rattle.upp_curve.specs.Normal.{Each, RisesFrom, StartsAtZero, FitsPeriod, TailFits, TailNormal}
 use Rattle.upp_curve.specs.Fitting.{ReadFits}
 use Rattle.upp_curve.specs.Unrolled.{line_later}
-use Rattle.upp_curve.specs.Steady.{rank_of, last_line}
+use Rattle.upp_curve.specs.Steady.{rank_of}
 use Rattle.upp_curve.specs.Periods.{period_of}
-use Rattle.upp_curve.specs.Spans.{Span, next_later, piece_read, spans}
+use Rattle.upp_curve.specs.Spans.{next_later, piece_read, spans}
 use Rattle.upp_curve.specs.Limits.{Sizes}
 use Rattle.upp_curve.specs.Operand.{AreLimited, OperandLineAt}
 use Rattle.upp_curve.specs.Ahead.{IsBeforeNext, GoesOn, AtNext, next_in, line_in, TimesStand, HasWindow, IsTimeIn, GridValue}
@@ -40,7 +38,7 @@ use Rattle.upp_curve.proofs.AnswerRoom.{operand_line_fits, operand_line_value, s
 use Rattle.upp_curve.proofs.CurveStands.{each_stands, has_period, unrolled_stand}
 use Rattle.upp_curve.proofs.StretchPieces.{next_go, next_stop, next_none, next_past, next_all, found_early, found_late, span_in, line_at_rank, reads_on, cut_plain}
 use Rattle.upp_curve.proofs.StretchTurns.{Turned, turned, same_turn, repeated_at}
-use Rattle.upp_curve.proofs.StretchSizes.{CopiesStand, copies_stand, TailTimes, tail_times, some_period, times_fit, times_stand, span_line, grid_value, CopySteps, copy_steps}
+use Rattle.upp_curve.proofs.StretchSizes.{copies_stand, tail_times, some_period, times_fit, times_stand, span_line, grid_value, CopySteps, copy_steps}
 
 -- ---- a turn, by the number of its periods
 abbrev pub turn_at : ℚ → ℚ → ℕ → Turn
@@ -141,7 +139,7 @@ value_then c rank period rise t u p ps next fits starts some e f N l k =
     let end : u <ℚ rank +ℚ period +ℚ by = (let s = rank +ℚ period in with4 u by time s (λ c. omega (arith, c.le, c.lt, c.same))) in
     let same : periods rank period u ≡ n = same_turn rank period t u fits.some (le_of_lt l) end in
     let reads : read c.pieces (u -ℚ by) ≡ line_value (line_in c.pieces early) (u -ℚ by) =
-        reads_on c.pieces early (u -ℚ by) (Some (rank +ℚ period)) starts low later (subst (IsBeforeNext (u -ℚ by)) (sym N.found) sooner) in
+    reads_on c.pieces early (u -ℚ by) (Some (rank +ℚ period)) starts low later (subst (IsBeforeNext (u -ℚ by)) (sym N.found) sooner) in
     value_periodic c rank period rise u e ∙ repeated_at (read c.pieces) rank period rise u n same
     ∙ ap (λ v. v +ₑ Fin y) (reads ∙ ap (λ qs. line_value (line_in qs early) (u -ℚ by)) f)
     ∙ sym (line_value_later (piece_in p ps early).line by y u)
@@ -181,9 +179,9 @@ repeated_by z end c rank period rise t p ps next curve window time e f found =
       steps = copy_steps z end period rise t record { piece = q; next = after } n A time T.period T.some q_low turn.by now copies;
       moves = subst (NextMoves by) (sym N.is) (times_fit z end N.time by A (N.grid z.dt (times_stand z end c curve window).starts (whole_add z.dt rank period T.rank T.period)) (whole_times z.dt (pos n) period T.period) next_low (le_trans N.high T.over) turn.by (le_trans turn.at_most (le_of_lt time.before))).0;
       goes = λ at past start. record {
-          at = value_now c rank period rise t p ps at e f past start;
-          line = λ u l k. value_then c rank period rise t u p ps next fits starts time.nonneg e f N l k;
-          next = subst (λ m. IsBeforeNext t (next_later by m)) (sym N.is) (let m = N.time in let l = N.past in with3 t by m (λ c. omega (arith, c.le, c.lt, c.same)));
+        at = value_now c rank period rise t p ps at e f past start;
+        line = λ u l k. value_then c rank period rise t u p ps next fits starts time.nonneg e f N l k;
+        next = subst (λ m. IsBeforeNext t (next_later by m)) (sym N.is) (let m = N.time in let l = N.past in with3 t by m (λ c. omega (arith, c.le, c.lt, c.same)));
       };
       times = λ d S. subst (λ m. AtNext (Whole d) (next_later by m)) (sym N.is)
           (whole_add d N.time by (N.grid d S.starts (whole_add d rank period (subst (λ k. Whole d (rank_of k)) e S.rank) (period_on d c rank period rise e S))) (whole_times d (pos n) period (period_on d c rank period rise e S)));
@@ -273,8 +271,8 @@ piece_stands z end c t p ps curve window time plain f =
     let raw = curve.normal.raw in
     let starts : StartsAtZero (p ∷ ps) = subst StartsAtZero f raw.starts in
     let all : AllByRecursion (λ s. s.piece.x <ℚ end → SpanStands z s) (spans c.tail (p ∷ ps)) =
-        subst (λ qs. AllByRecursion (λ s. s.piece.x <ℚ end → SpanStands z s) (spans c.tail qs)) f
-        (each_stands (SpanStands z) end c (has_period c.pieces c.tail raw.tail) (unrolled_stand z end c window.stands)) in
+    subst (λ qs. AllByRecursion (λ s. s.piece.x <ℚ end → SpanStands z s) (spans c.tail qs)) f
+    (each_stands (SpanStands z) end c (has_period c.pieces c.tail raw.tail) (unrolled_stand z end c window.stands)) in
     let (next, stands) = span_in (λ s. s.piece.x <ℚ end → SpanStands z s) c.tail p ps t all in
     let first : p.x ≤ℚ t = subst (λ x. x ≤ℚ t) (sym starts.0) time.nonneg in
     let same = plain_line c.tail p ps t (value_at c) plain starts.1 (subst (λ qs. TailFits qs c.tail) f raw.tail) (subst (λ qs. TailNormal qs c.tail (value_at c)) f curve.normal.tail) in

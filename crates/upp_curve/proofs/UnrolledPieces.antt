@@ -124,7 +124,7 @@ unfolding unroll
 unroll_before c end = before_by_tail c.pieces c.tail end
 
 -- ---- each is the piece of a span
-each_of_spans : (F : Piece → Type 0) (tail : Tail) (ps : List Piece) → AllByRecursion (λ s. F s.piece) (spans tail ps) → Each (λ p. F (piece_read tail p)) ps
+pub each_of_spans : (F : Piece → Type 0) (tail : Tail) (ps : List Piece) → AllByRecursion (λ s. F s.piece) (spans tail ps) → Each (λ p. F (piece_read tail p)) ps
 unfolding spans
 each_of_spans F tail [] h = tt
 each_of_spans F tail (p ∷ ps) h = (h.0, each_of_spans F tail ps h.1)
@@ -209,7 +209,7 @@ read_whole rank p [] r h e = elim (le_or_lt rank p.x) [
 ]
 read_whole rank p (q ∷ qs) r h e = (read_before_rank rank p (lt_le_trans r.0 h.1.0), read_whole rank q qs r.1 h.1 e)
 
-all_read : (rank : ℚ) (ps : List Piece) → StartsAtZero ps → Each (λ z. z.x ≤ℚ rank) ps → last_line ps ≡ None → Each (λ z. piece_read (Infinite rank) z ≡ z) ps
+pub all_read : (rank : ℚ) (ps : List Piece) → StartsAtZero ps → Each (λ z. z.x ≤ℚ rank) ps → last_line ps ≡ None → Each (λ z. piece_read (Infinite rank) z ≡ z) ps
 all_read rank [] s h e = tt
 all_read rank (p ∷ ps) s h e = read_whole rank p ps s.1 h e
 

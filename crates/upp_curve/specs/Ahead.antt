@@ -11,6 +11,7 @@ use Rattle.upp_curve.specs.declared.ahead.Stretch.{Stretch}
 use Rattle.upp_curve.specs.declared.curve.Tail.{Tail}
 use Rattle.upp_curve.specs.declared.curve.Tail.TheVariants.{Periodic, Affine, Infinite}
 use Rattle.upp_curve.specs.Curve.{SpecCurve}
+use Rattle.upp_curve.specs.Curves.{IsCurve}
 use Rattle.upp_curve.specs.Reading.{piece_in}
 use Rattle.upp_curve.specs.Normal.{Each}
 use Rattle.upp_curve.specs.Steady.{rank_of}
@@ -59,8 +60,9 @@ IsOverBy end (Periodic rank period rise) = rank +ℚ period ≤ℚ end
 IsOverBy end (Affine rank) = rank <ℚ end
 IsOverBy end (Infinite rank) = rank <ℚ end
 
--- a curve's numbers up to `end` have the sizes z
+-- a curve whose numbers up to `end` have the sizes z
 pub record HasWindow (z : Sizes) (end : ℚ) (c : SpecCurve) : Type 0 where
+  pub curve : IsCurve c
   pub limited : AreLimited z end
   pub stands : Stands z (curve_numbers end c)
   pub over : IsOverBy end c.tail

@@ -43,3 +43,5 @@ pub mod Ahead
 pub mod Copied
 pub mod OwnLimits
 pub mod Bends
+pub mod Given
+pub mod Continuity

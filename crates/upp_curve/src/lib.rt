@@ -10,6 +10,8 @@ mod cycle;
 mod fitting;
 mod gathered;
 mod gauges;
+mod given;
+mod jumps;
 mod kind_laws;
 mod known;
 mod laws;
@@ -18,6 +20,8 @@ mod limits;
 mod long;
 mod lowest_rank;
 mod merging;
+#[cfg(test)]
+mod normal_tests;
 mod op_kind;
 mod operand_numbers;
 mod own_limits;
@@ -39,6 +43,7 @@ mod unrolling;
 pub use ahead::{Stretch, stretch_at};
 pub use call_sizes::{CallNumbers, call_numbers};
 pub use curve::{Curve, Tail, equal};
+pub use jumps::is_continuous;
 pub use kind_laws::kinds_are_curves;
 pub use laws::{
     bucket_deviations, deviations_are_unique, normal_form_is_unique, worked_kinds,
@@ -48,5 +53,6 @@ pub use limits::{gauge, tally, tally_over};
 pub use op_kind::{OpFault, OpKind, Window};
 pub use own_limits::{OverLimit, over_own_limit};
 pub use raw_curve::{RawCurve, normalise, normalise_on};
+pub use scaled_numbers::{scaled_piece, scaled_tail};
 pub use starts::{is_after, is_before};
 pub use steadiness::steady_time;

@@ -62,8 +62,8 @@ fn scaled_after(line: Option<Line>, factor: Frac) -> Option<Option<Line>>
     }
 }
 
-/// A piece times a factor.
-fn scaled_piece(piece: &Piece, factor: Frac) -> Option<Piece>
+/// A piece times a factor. None only where a product does not fit.
+pub fn scaled_piece(piece: &Piece, factor: Frac) -> Option<Piece>
     ensures value { IfSome result (λ r. r ≡ scaled_piece factor piece.now) }
     ensures fits { PieceScales factor piece.now → IsSome result }
 {
@@ -76,8 +76,8 @@ fn scaled_piece(piece: &Piece, factor: Frac) -> Option<Piece>
     })
 }
 
-/// A tail times a factor.
-fn scaled_tail(tail: &Tail, factor: Frac) -> Option<Tail>
+/// A tail times a factor. None only where the product does not fit.
+pub fn scaled_tail(tail: &Tail, factor: Frac) -> Option<Tail>
     ensures value { IfSome result (λ r. r ≡ scaled_tail factor tail.now) }
     ensures fits { TailScales factor tail.now → IsSome result }
 {

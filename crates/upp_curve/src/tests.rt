@@ -11,7 +11,7 @@ use std::alloc::{AllocError, Global};
 use std::cmp::Ordering;
 use std::test::Fail;
 
-fn whole(n: i128) -> Frac {
+pub(crate) fn whole(n: i128) -> Frac {
     match Frac::new(n, 1) {
         Ok(f) => f,
         Err(_) => Frac::zero(),

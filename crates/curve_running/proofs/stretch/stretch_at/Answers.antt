@@ -10,5 +10,8 @@ fitting_value-requires-2 c =
 
 pub returns : goal.returns
 returns c =
-    stretch_is c.args.ps.now c.args.i c.index-ps-i.result c.args.end c.number_of.result c.start_of-to.result c.fitting_value.result c.fitting_value-2.result c.line_of-line.result c.requires.window c.requires.index
+    let p = c.index-ps-i.result in
+    stretch_is c.args.ps.now c.args.i p c.args.end c.number_of.result c.start_of-to.result c.fitting_value.result c.fitting_value-2.result c.line_of-line.result c.requires.window c.requires.index
     c.index-ps-i.is c.number_of.ensures c.line_of-line.ensures c.start_of-to.ensures c.fitting_value.ensures c.fitting_value-2.ensures
+    (right_fits c.args.ps.now c.args.i p c.line_of-line.result c.args.end c.requires.fits c.requires.index c.index-ps-i.is c.line_of-line.ensures)
+    (left_fits c.args.ps.now c.args.i p c.line_of-line.result c.args.end c.start_of-to.result c.requires.fits c.requires.index c.index-ps-i.is c.line_of-line.ensures c.start_of-to.ensures)

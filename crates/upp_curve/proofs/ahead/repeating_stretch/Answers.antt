@@ -1,17 +1,8 @@
-use Rattle.std.proofs.Common.{◌≡◌, Option, Some, subst, sym, ap, ◌∙◌, refl}
-use Rattle.rational.specs.Rational.{ℚ, ◌+ℚ◌, ◌*ℚ◌, int, ◌≤ℚ◌}
+use Rattle.std.proofs.Common.{Some, subst, sym, ap, ◌∙◌}
+use Rattle.rational.specs.Rational.{◌+ℚ◌}
 use Rattle.rational.specs.Grid.{Whole}
-use Rattle.affine_segment.specs.declared.line.Line.{Line}
-use Rattle.rational.specs.Extended.{◌+ₑ◌}
-use Rattle.rational.specs.declared.Extended.TheVariants.{Fin}
-use Rattle.affine_segment.specs.Values.{line_value}
-use Rattle.upp_curve.specs.declared.ahead.Stretch.{Stretch}
-use Rattle.upp_curve.specs.Curve.{value_at}
 use Rattle.upp_curve.specs.Readable.{LineFitsAt}
-use Rattle.upp_curve.specs.Spans.{next_later}
-use Rattle.upp_curve.specs.Unrolled.{line_later}
-use Rattle.upp_curve.specs.Operand.{OperandLineAt}
-use Rattle.upp_curve.specs.Ahead.{GoesOn, AtNext, GridValue, next_in}
+use Rattle.upp_curve.specs.Ahead.{AtNext, next_in}
 use Rattle.upp_curve.proofs.StretchValues.{repeated_here, repeated_goes, repeated_sizes, early_low}
 use Rattle.upp_curve.proofs.ahead.repeating_stretch.Goals as goal
 
@@ -25,8 +16,8 @@ line_risen-line-requires c =
     let w = c.requires.window in
     let same = ap (λ qs. next_in qs c.turn_of-n.result.early (Some (c.args.rank +ℚ c.args.period))) c.pieces-pieces.ensures.pieces in
     let found = repeated_here w.0 w.1 c.args.c.now c.args.rank c.args.period c.args.rise c.args.t c.turn_of-n.result c.piece_at-piece.result c.next_start-next.result c.requires.curve w.2 w.3 c.requires.tail c.turn_of-n.ensures
-        (λ p ps f. c.piece_at-piece.ensures p ps (c.pieces-pieces.ensures.pieces ∙ f))
-        (c.next_start-next.ensures ∙ ap (λ x. next_in c.pieces-pieces.result.now c.turn_of-n.result.early (Some x)) c.sum-end.ensures ∙ same) in
+    (λ p ps f. c.piece_at-piece.ensures p ps (c.pieces-pieces.ensures.pieces ∙ f))
+    (c.next_start-next.ensures ∙ ap (λ x. next_in c.pieces-pieces.result.now c.turn_of-n.result.early (Some x)) c.sum-end.ensures ∙ same) in
     found.steps.line
 
 pub copied_value-at-requires-clause-rises : goal.copied_value-at-requires-clause-rises
@@ -34,8 +25,8 @@ copied_value-at-requires-clause-rises c =
     let w = c.requires.window in
     let same = ap (λ qs. next_in qs c.turn_of-n.result.early (Some (c.args.rank +ℚ c.args.period))) c.pieces-pieces.ensures.pieces in
     let found = repeated_here w.0 w.1 c.args.c.now c.args.rank c.args.period c.args.rise c.args.t c.turn_of-n.result c.piece_at-piece.result c.next_start-next.result c.requires.curve w.2 w.3 c.requires.tail c.turn_of-n.ensures
-        (λ p ps f. c.piece_at-piece.ensures p ps (c.pieces-pieces.ensures.pieces ∙ f))
-        (c.next_start-next.ensures ∙ ap (λ x. next_in c.pieces-pieces.result.now c.turn_of-n.result.early (Some x)) c.sum-end.ensures ∙ same) in
+    (λ p ps f. c.piece_at-piece.ensures p ps (c.pieces-pieces.ensures.pieces ∙ f))
+    (c.next_start-next.ensures ∙ ap (λ x. next_in c.pieces-pieces.result.now c.turn_of-n.result.early (Some x)) c.sum-end.ensures ∙ same) in
     found.steps.rises
 
 pub copied_value-at-requires-clause-fits : goal.copied_value-at-requires-clause-fits
@@ -43,8 +34,8 @@ copied_value-at-requires-clause-fits c =
     let w = c.requires.window in
     let same = ap (λ qs. next_in qs c.turn_of-n.result.early (Some (c.args.rank +ℚ c.args.period))) c.pieces-pieces.ensures.pieces in
     let found = repeated_here w.0 w.1 c.args.c.now c.args.rank c.args.period c.args.rise c.args.t c.turn_of-n.result c.piece_at-piece.result c.next_start-next.result c.requires.curve w.2 w.3 c.requires.tail c.turn_of-n.ensures
-        (λ p ps f. c.piece_at-piece.ensures p ps (c.pieces-pieces.ensures.pieces ∙ f))
-        (c.next_start-next.ensures ∙ ap (λ x. next_in c.pieces-pieces.result.now c.turn_of-n.result.early (Some x)) c.sum-end.ensures ∙ same) in
+    (λ p ps f. c.piece_at-piece.ensures p ps (c.pieces-pieces.ensures.pieces ∙ f))
+    (c.next_start-next.ensures ∙ ap (λ x. next_in c.pieces-pieces.result.now c.turn_of-n.result.early (Some x)) c.sum-end.ensures ∙ same) in
     subst (λ l. LineFitsAt c.args.t l) (sym c.line_risen-line.ensures) found.steps.fits
 
 pub moved-requires : goal.moved-requires
@@ -52,8 +43,8 @@ moved-requires c =
     let w = c.requires.window in
     let same = ap (λ qs. next_in qs c.turn_of-n.result.early (Some (c.args.rank +ℚ c.args.period))) c.pieces-pieces.ensures.pieces in
     let found = repeated_here w.0 w.1 c.args.c.now c.args.rank c.args.period c.args.rise c.args.t c.turn_of-n.result c.piece_at-piece.result c.next_start-next.result c.requires.curve w.2 w.3 c.requires.tail c.turn_of-n.ensures
-        (λ p ps f. c.piece_at-piece.ensures p ps (c.pieces-pieces.ensures.pieces ∙ f))
-        (c.next_start-next.ensures ∙ ap (λ x. next_in c.pieces-pieces.result.now c.turn_of-n.result.early (Some x)) c.sum-end.ensures ∙ same) in
+    (λ p ps f. c.piece_at-piece.ensures p ps (c.pieces-pieces.ensures.pieces ∙ f))
+    (c.next_start-next.ensures ∙ ap (λ x. next_in c.pieces-pieces.result.now c.turn_of-n.result.early (Some x)) c.sum-end.ensures ∙ same) in
     found.moves
 
 pub returns-clause-goes : goal.returns-clause-goes
@@ -61,8 +52,8 @@ returns-clause-goes c =
     let w = c.requires.window in
     let same = ap (λ qs. next_in qs c.turn_of-n.result.early (Some (c.args.rank +ℚ c.args.period))) c.pieces-pieces.ensures.pieces in
     let found = repeated_here w.0 w.1 c.args.c.now c.args.rank c.args.period c.args.rise c.args.t c.turn_of-n.result c.piece_at-piece.result c.next_start-next.result c.requires.curve w.2 w.3 c.requires.tail c.turn_of-n.ensures
-        (λ p ps f. c.piece_at-piece.ensures p ps (c.pieces-pieces.ensures.pieces ∙ f))
-        (c.next_start-next.ensures ∙ ap (λ x. next_in c.pieces-pieces.result.now c.turn_of-n.result.early (Some x)) c.sum-end.ensures ∙ same) in
+    (λ p ps f. c.piece_at-piece.ensures p ps (c.pieces-pieces.ensures.pieces ∙ f))
+    (c.next_start-next.ensures ∙ ap (λ x. next_in c.pieces-pieces.result.now c.turn_of-n.result.early (Some x)) c.sum-end.ensures ∙ same) in
     repeated_goes w.0 w.1 c.args.c.now c.args.rank c.args.period c.args.rise c.args.t c.turn_of-n.result c.piece_at-piece.result c.next_start-next.result c.copied_value-at.result c.line_risen-line.result c.moved.result found
     c.line_risen-line.ensures c.moved.ensures c.copied_value-at.ensures.past c.copied_value-at.ensures.start
 
@@ -71,15 +62,15 @@ returns-clause-times c = λ d S.
     let w = c.requires.window in
     let same = ap (λ qs. next_in qs c.turn_of-n.result.early (Some (c.args.rank +ℚ c.args.period))) c.pieces-pieces.ensures.pieces in
     let found = repeated_here w.0 w.1 c.args.c.now c.args.rank c.args.period c.args.rise c.args.t c.turn_of-n.result c.piece_at-piece.result c.next_start-next.result c.requires.curve w.2 w.3 c.requires.tail c.turn_of-n.ensures
-        (λ p ps f. c.piece_at-piece.ensures p ps (c.pieces-pieces.ensures.pieces ∙ f))
-        (c.next_start-next.ensures ∙ ap (λ x. next_in c.pieces-pieces.result.now c.turn_of-n.result.early (Some x)) c.sum-end.ensures ∙ same) in
+    (λ p ps f. c.piece_at-piece.ensures p ps (c.pieces-pieces.ensures.pieces ∙ f))
+    (c.next_start-next.ensures ∙ ap (λ x. next_in c.pieces-pieces.result.now c.turn_of-n.result.early (Some x)) c.sum-end.ensures ∙ same) in
     subst (AtNext (Whole d)) (sym c.moved.ensures) (found.times d S)
 
 pub returns-clause-sizes : goal.returns-clause-sizes
 returns-clause-sizes c = λ z end window time.
     let same = ap (λ qs. next_in qs c.turn_of-n.result.early (Some (c.args.rank +ℚ c.args.period))) c.pieces-pieces.ensures.pieces in
     let found = repeated_here z end c.args.c.now c.args.rank c.args.period c.args.rise c.args.t c.turn_of-n.result c.piece_at-piece.result c.next_start-next.result c.requires.curve window time c.requires.tail c.turn_of-n.ensures
-        (λ p ps f. c.piece_at-piece.ensures p ps (c.pieces-pieces.ensures.pieces ∙ f))
-        (c.next_start-next.ensures ∙ ap (λ x. next_in c.pieces-pieces.result.now c.turn_of-n.result.early (Some x)) c.sum-end.ensures ∙ same) in
+    (λ p ps f. c.piece_at-piece.ensures p ps (c.pieces-pieces.ensures.pieces ∙ f))
+    (c.next_start-next.ensures ∙ ap (λ x. next_in c.pieces-pieces.result.now c.turn_of-n.result.early (Some x)) c.sum-end.ensures ∙ same) in
     repeated_sizes z end c.args.c.now c.args.rank c.args.period c.args.rise c.args.t c.turn_of-n.result c.piece_at-piece.result c.next_start-next.result c.copied_value-at.result c.line_risen-line.result found
     c.line_risen-line.ensures c.copied_value-at.ensures.past c.copied_value-at.ensures.start

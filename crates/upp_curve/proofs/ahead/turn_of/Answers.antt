@@ -1,5 +1,5 @@
-use Rattle.std.proofs.Common.{◌≡◌, pos, subst, sym, ap, ◌∙◌, refl}
-use Rattle.rational.specs.Rational.{ℚ, int, ◌-ℚ◌, ◌*ℚ◌, ◌/ℚ◌, neg_ℚ}
+use Rattle.std.proofs.Common.{subst, sym, ap, ◌∙◌, refl}
+use Rattle.rational.specs.Rational.{◌*ℚ◌, ◌/ℚ◌, neg_ℚ}
 use Rattle.rational.specs.Ratio.{IsSmall, SumFits}
 use Rattle.rational.specs.Whole.{periods}
 use Rattle.rational.proofs.Laws.{not_zero}

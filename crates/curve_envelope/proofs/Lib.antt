@@ -1,0 +1,3 @@
+pub mod SumCall
+pub mod ScaledValues
+pub mod ScaleCall

@@ -1,0 +1,65 @@
+//! The sum of two curves.
+
+ghost use Rattle.std.specs.Prelude.{◌≡◌, ◌+◌, pos, IfOk};
+ghost use Rattle.rational.specs.Rational.{ℚ, int, ◌+ℚ◌, ◌≤ℚ◌};
+ghost use Rattle.rational.specs.Ratio.{SumFits};
+ghost use Rattle.upp_curve.specs.Curve.{value_at};
+ghost use Rattle.upp_curve.specs.Pointwise.{IsSum};
+ghost use Rattle.upp_curve.specs.Outcome.{KeepsLimits};
+ghost use Rattle.curve_frame.specs.Frames.{IsFrame};
+
+use curve_frame::{Frame, answer, rise_over, within};
+use curve_window::window_sum;
+use fraction128::Frac;
+use std::alloc::{AllocError, Global};
+use std::sync::ledger::Ledger;
+use steps::Steps;
+use upp_curve::{Curve, OpFault, OpKind};
+
+// A sum whose steps fit.
+fn fitting_sum(a: Frac, b: Frac) -> Frac
+    requires { SumFits a b }
+    ensures { result ≡ a +ℚ b }
+{
+    match Frac::add(a, b) {
+        Ok(sum) => sum,
+        Err(_) => a,
+    }
+}
+
+// The sum of two curves whose call is within both limits.
+fn sum_within(alloc: Global, f: &Curve, g: &Curve, frame: &Frame) -> Result<Curve, AllocError>
+    requires { IsFrame OpKind.Sum f.now g.now 0 0 frame.now }
+    ensures { IfOk result (λ c. (t : ℚ) → int (pos 0) ≤ℚ t → IsSum (value_at f.now) (value_at g.now) t (value_at c t)) }
+{
+    let left = f.unrolled(frame.end)?;
+    let right = g.unrolled(frame.end)?;
+    let pieces = window_sum(alloc, &left, &right)?;
+    let first = rise_over(f, frame.period);
+    let second = rise_over(g, frame.period);
+    let rise = fitting_sum(first, second);
+    answer(
+        alloc,
+        pieces,
+        frame.start,
+        frame.period,
+        rise,
+        frame.times,
+        frame.values,
+    )
+}
+
+/// The sum of two curves at each time from 0 on, infinite where one is (Le Boudec and Thiran, chapter 3). One step is counted.
+/// Refused with TooWide or TooMany exactly where the call's gauge or tally is over that limit, else only for want of memory.
+pub fn sum<L: Ledger>(alloc: Global, f: &Curve, g: &Curve, steps: &mut Steps<L>) -> Result<Curve, OpFault>
+    ensures count { steps.new ≡ steps.old + 1 }
+    ensures value { IfOk result (λ c. (t : ℚ) → int (pos 0) ≤ℚ t → IsSum (value_at f.now) (value_at g.now) t (value_at c t)) }
+    ensures limits { KeepsLimits OpKind.Sum f.now g.now result }
+{
+    steps.tick();
+    let frame = within(&OpKind::Sum, f, g, 0)?;
+    match sum_within(alloc, f, g, &frame) {
+        Ok(c) => Ok(c),
+        Err(_) => Err(OpFault::NoMemory),
+    }
+}

@@ -1,0 +1,147 @@
+//! By how much one curve is above another over a window.
+
+ghost use Rattle.std.specs.Prelude.{◌≡◌, ◌↔◌, IsTrue, pos};
+ghost use Rattle.rational.specs.Rational.{ℚ, int, ◌+ℚ◌, ◌-ℚ◌, ◌≤ℚ◌, ◌<ℚ◌, neg_ℚ};
+ghost use Rattle.rational.specs.Ratio.{SumFits};
+ghost use Rattle.rational.specs.MinMax.{max_q, min_q};
+ghost use Rattle.rational.specs.Extended.{Ext};
+ghost use Rattle.affine_segment.specs.Values.{line_value};
+ghost use Rattle.upp_curve.specs.Curve.{value_at};
+ghost use Rattle.upp_curve.specs.Readable.{LineFitsAt};
+ghost use Rattle.upp_curve.specs.Limits.{Sizes};
+ghost use Rattle.upp_curve.specs.Ahead.{GoesOn, HasWindow, IsTimeIn};
+ghost use Rattle.curve_least.specs.Gaps.{InWindow, IsGap};
+ghost use Rattle.curve_least.specs.GapSteps.{
+  gap_of,
+  larger,
+  DifferenceFits,
+  IsUntil,
+  StretchSizes,
+  GapStands,
+  earlier_of,
+};
+
+use affine_segment::{Line, value};
+use fraction128::{Ext, Frac};
+use rational::Extended;
+use std::cmp::Ordering;
+use upp_curve::{Curve, Stretch, stretch_at};
+
+/// By how much one function is above another over some times, where the other is finite.
+#[derive(Debug, Clone, Copy)]
+pub enum Gap {
+    /// The other is finite at none of the times.
+    NoTime,
+    /// At some time the one is infinite and the other is not.
+    Never,
+    /// The least number that the one is nowhere more than above the other.
+    Is(Frac),
+}
+
+/// Whether a is less than b.
+pub(crate) fn is_less(a: Frac, b: Frac) -> bool
+    ensures { IsTrue result ↔ (a <ℚ b) }
+{
+    match a.cmp(&b) {
+        Ordering::Less => true,
+        _ => false,
+    }
+}
+
+/// a - b.
+pub(crate) fn difference(a: Frac, b: Frac) -> Frac
+    requires { SumFits a (neg_ℚ b) }
+    ensures { result ≡ a -ℚ b }
+{
+    Frac::sub(a, b).unwrap()
+}
+
+/// The value at t of a line that may be missing.
+fn line_value(line: &Option<Line>, t: Frac) -> Ext
+    requires { LineFitsAt t line.now }
+    ensures { result ≡ line_value line.now t }
+{
+    match line {
+        None => Extended::Inf,
+        Some(l) => Extended::Fin(value(l, t).unwrap()),
+    }
+}
+
+/// By how much a is above b.
+fn gap_of(a: Ext, b: Ext) -> Gap
+    requires { DifferenceFits a b }
+    ensures { result ≡ gap_of a b }
+{
+    match b {
+        Extended::Inf => Gap::NoTime,
+        Extended::Fin(y) => match a {
+            Extended::Inf => Gap::Never,
+            Extended::Fin(x) => Gap::Is(difference(x, y)),
+        },
+    }
+}
+
+/// The larger of two numbers.
+fn greater(a: Frac, b: Frac) -> Frac
+    ensures { result ≡ max_q a b }
+{
+    if is_less(b, a) { a } else { b }
+}
+
+/// The larger of two gaps.
+fn larger(a: Gap, b: Gap) -> Gap
+    ensures { result ≡ larger a b }
+{
+    match a {
+        Gap::NoTime => b,
+        Gap::Never => Gap::Never,
+        Gap::Is(x) => match b {
+            Gap::NoTime => Gap::Is(x),
+            Gap::Never => Gap::Never,
+            Gap::Is(y) => Gap::Is(greater(x, y)),
+        },
+    }
+}
+
+/// The gap from t up to `end`, where neither goes on otherwise before that.
+fn stretch_gap(f: &Stretch, g: &Stretch, t: Frac, end: Frac) -> Gap
+    requires sizes { (z : Sizes) × (last : ℚ) × StretchSizes z last f.now g.now t end }
+    requires some { t <ℚ end }
+    ensures sizes { (z : Sizes) (last : ℚ) → StretchSizes z last f.now g.now t end → GapStands z result }
+    ensures gap { (slow fast : ℚ → Ext) → GoesOn slow t f.now → GoesOn fast t g.now → IsUntil end f.now.next → IsUntil end g.now.next
+        → IsGap (InWindow t end) slow fast result }
+{
+    let start = gap_of(f.at, g.at);
+    let after = gap_of(line_value(&f.line, t), line_value(&g.line, t));
+    let before = gap_of(line_value(&f.line, end), line_value(&g.line, end));
+    larger(start, larger(after, before))
+}
+
+/// The earlier of a time and another that may be missing.
+fn earlier(t: Frac, next: &Option<Frac>) -> Frac
+    ensures { result ≡ earlier_of t next.now }
+{
+    match next {
+        None => t,
+        Some(e) => { if is_less(*e, t) { *e } else { t } }
+    }
+}
+
+/// By how much f is above g over [from, end), where g is finite: nothing is unrolled and no memory is taken. The window's sizes z
+/// are those of a gauge below 2^120 over both curves' numbers; `from` stands on its grid, from 0 on and before `end`.
+pub fn window_gap(f: &Curve, g: &Curve, from: Frac, end: Frac) -> Gap
+    requires { (z : Sizes) × HasWindow z end f.now × HasWindow z end g.now × IsTimeIn z end from }
+    ensures gap { IsGap (InWindow from end) (value_at f.now) (value_at g.now) result }
+    ensures sizes { (z : Sizes) → HasWindow z end f.now → HasWindow z end g.now → IsTimeIn z end from → GapStands z result }
+{
+    let mut gap = Gap::NoTime;
+    let mut t = from;
+    while is_less(t, end) {
+        let slow = stretch_at(f, t);
+        let fast = stretch_at(g, t);
+        let next = earlier(earlier(end, &slow.next), &fast.next);
+        gap = larger(gap, stretch_gap(&slow, &fast, t, next));
+        t = next;
+    }
+    gap
+}

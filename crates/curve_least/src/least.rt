@@ -1,0 +1,129 @@
+//! From which number of periods on the slower of two curves is nowhere above the faster.
+
+ghost use Rattle.std.specs.Prelude.{ℕ, ◌≡◌, ◌≢◌, ◌↔◌, IsTrue, pos, MatchOption};
+ghost use Rattle.rational.specs.Rational.{ℚ, int, ◌+ℚ◌, ◌-ℚ◌, ◌*ℚ◌, ◌/ℚ◌, ◌≤ℚ◌, ◌<ℚ◌, neg_ℚ};
+ghost use Rattle.rational.specs.Ratio.{IsSmall, SumFits};
+ghost use Rattle.rational.specs.Extended.{◌<ₑ◌};
+ghost use Rattle.upp_curve.specs.Curve.{value_at};
+ghost use Rattle.upp_curve.specs.Steady.{rate, rise_over};
+ghost use Rattle.upp_curve.specs.Periods.{periods_after};
+ghost use Rattle.upp_curve.specs.Limits.{Sizes};
+ghost use Rattle.upp_curve.specs.Windows.{IsBelowFor, IsSlowerBelow, IsLeast};
+ghost use Rattle.curve_least.specs.Gaps.{InWindow, IsLargest};
+ghost use Rattle.curve_least.specs.GapSteps.{IsGapValue};
+ghost use Rattle.curve_least.specs.Compared.{AreCompared};
+
+use crate::gaps::{Gap, difference, is_less, window_gap};
+use fraction128::{Ext, Frac};
+use rational::Extended;
+use upp_curve::Curve;
+
+/// a + b.
+fn sum(a: Frac, b: Frac) -> Frac
+    requires { SumFits a b }
+    ensures { result ≡ a +ℚ b }
+{
+    Frac::add(a, b).unwrap()
+}
+
+/// a b.
+fn product(a: Frac, b: Frac) -> Frac
+    requires { IsSmall (a *ℚ b) }
+    ensures { result ≡ a *ℚ b }
+{
+    Frac::mul(a, b).unwrap()
+}
+
+/// a / b.
+fn quotient(a: Frac, b: Frac) -> Frac
+    requires some { b ≢ int (pos 0) }
+    requires fits { IsSmall (a /ℚ b) }
+    ensures { result ≡ a /ℚ b }
+{
+    Frac::div(a, b).unwrap()
+}
+
+/// The long-run rate.
+fn rate_of(c: &Curve) -> Ext
+    ensures { result ≡ rate c.now }
+{
+    match c.rate() {
+        Ok(rate) => rate,
+        Err(_) => Extended::Inf,
+    }
+}
+
+/// By how much a curve rises over d.
+fn rise_of(c: &Curve, d: Frac) -> Frac
+    requires { IsSmall (rise_over c.now d) }
+    ensures { result ≡ rise_over c.now d }
+{
+    match rate_of(c) {
+        Extended::Inf => Frac::zero(),
+        Extended::Fin(rate) => product(rate, d),
+    }
+}
+
+/// The least number k with gap at most k times as much as `fast` rises more than `slow` over a period.
+fn least_over(slow: &Curve, fast: &Curve, gap: Frac, from: Frac, period: Frac) -> u128
+    requires slower { rate slow.now <ₑ rate fast.now }
+    requires window { (z : Sizes) × AreCompared z from period slow.now fast.now × IsGapValue z gap }
+    requires gap { IsLargest (InWindow from (from +ℚ period)) (value_at slow.now) (value_at fast.now) gap }
+    ensures { IsLeast (λ k. gap ≤ℚ int (pos k) *ℚ (rise_over fast.now period -ℚ rise_over slow.now period)) result }
+{
+    if !is_less(Frac::zero(), gap) {
+        return 0;
+    }
+    let lead = difference(rise_of(fast, period), rise_of(slow, period));
+    quotient(gap, lead).size_up()
+}
+
+/// The least number k of periods after which, for a period, the slower curve is nowhere above the faster one; none where there is no
+/// such number. Both repeat from `from` on with the period, and their numbers below from + period have the sizes z of a gauge below
+/// 2^120. No memory is taken and nothing is unrolled.
+pub fn least_below(slow: &Curve, fast: &Curve, from: Frac, period: Frac) -> Option<u128>
+    requires slower { rate slow.now <ₑ rate fast.now }
+    requires window { (z : Sizes) × AreCompared z from period slow.now fast.now }
+    ensures { MatchOption result ((k : ℕ) → ¬ (IsBelowFor (value_at slow.now) (value_at fast.now) (periods_after from k period) period))
+        (IsLeast (λ k. IsBelowFor (value_at slow.now) (value_at fast.now) (periods_after from k period) period)) }
+{
+    let end = sum(from, period);
+    match window_gap(slow, fast, from, end) {
+        Gap::NoTime => Some(0),
+        Gap::Never => None,
+        Gap::Is(gap) => Some(least_over(slow, fast, gap, from, period)),
+    }
+}
+
+/// Whether f is the slower one.
+fn is_slower(f: &Curve, g: &Curve) -> bool
+    ensures { IsTrue result ↔ (rate f.now <ₑ rate g.now) }
+{
+    match rate_of(f) {
+        Extended::Inf => false,
+        Extended::Fin(x) => match rate_of(g) {
+            Extended::Inf => true,
+            Extended::Fin(y) => is_less(x, y),
+        },
+    }
+}
+
+/// The least number k of periods after which, for a period, the slower of two curves is nowhere above the faster; none where there
+/// is no such number, and 0 for curves of one rate. Where `from` is the time from which on both repeat and `period` their common
+/// period, it is the number of periods that their minimum needs, and their maximum and positive difference. Both repeat from `from`
+/// on with the period, and their numbers below from + period have the sizes z of a gauge below 2^120. No memory is taken and nothing
+/// is unrolled.
+pub fn least_periods(f: &Curve, g: &Curve, from: Frac, period: Frac) -> Option<u128>
+    requires { (z : Sizes) × AreCompared z from period f.now g.now }
+    ensures { MatchOption result
+        ((k : ℕ) → ¬ (IsSlowerBelow (value_at f.now) (value_at g.now) (rate f.now) (rate g.now) (periods_after from k period) period))
+        (IsLeast (λ k. IsSlowerBelow (value_at f.now) (value_at g.now) (rate f.now) (rate g.now) (periods_after from k period) period)) }
+{
+    if is_slower(f, g) {
+        return least_below(f, g, from, period);
+    }
+    if is_slower(g, f) {
+        return least_below(g, f, from, period);
+    }
+    Some(0)
+}

@@ -1,0 +1,57 @@
+-- Windows whose pieces repeat from a time on: the periods stand on the grids of the call.
+use Rattle.std.specs.Prelude.{◌≡◌, ℕ, ◌*◌, Bool, pos, List, [], ◌∷◌, length}
+use Rattle.std.proofs.Common.{arith, sym, ap, ◌∙◌, refl, subst}
+use Prim.Native.Nat.{◌∣◌}
+use native.Mathlib.Nat.{mul_comm}
+use Rattle.rational.specs.Rational.{ℚ, ◌+ℚ◌, ◌≤ℚ◌, ◌<ℚ◌, int}
+use Rattle.rational.specs.Grid.{Whole}
+use Rattle.rational.specs.Extended.{Ext}
+use Rattle.affine_segment.specs.declared.line.Piece.{Piece}
+use Rattle.upp_curve.specs.Reading.{read}
+use Rattle.upp_curve.specs.Curve.{repeated}
+use Rattle.upp_curve.specs.Normal.{Each, StartsAtZero, FitsPeriod}
+use Rattle.upp_curve.specs.Normalising.{OnGridsUnlessLine}
+use Rattle.upp_curve.specs.Limits.{Sizes}
+use Rattle.upp_curve.specs.Sized.{grid_of}
+use Rattle.upp_curve.specs.Room.{PieceHasRoom}
+use Rattle.upp_curve.specs.Operand.{answer_room}
+use Rattle.upp_curve.proofs.NarrowSizes.{slope_time_divides}
+use Rattle.upp_curve.proofs.NormaliseGrids.{PieceOn, raw_on}
+use Rattle.upp_curve.proofs.NormaliseLists.{each_map}
+use Rattle.upp_curve.proofs.Bends.{bends_on}
+use Rattle.curve_window.specs.Pointwise.{IsSumPiece, IsWindowSum}
+use Rattle.curve_window.specs.Operands.{AreOperands, IsMadeOf}
+use Rattle.curve_window.proofs.OperandWindows.{StartsWithRoom, sum_room}
+
+-- a tail from `from` on whose first period ends with the window
+pub record TailOf (z : Sizes) (end from period rise : ℚ) : Type 0 where
+  pub nonneg : int (pos 0) ≤ℚ from
+  pub some : int (pos 0) <ℚ period
+  pub ends : from +ℚ period ≡ end
+  pub time : Whole z.dt from
+  pub whole : Whole z.dt period
+  pub value : Whole (grid_of z) rise
+
+grids_nest : (z : Sizes) → z.dt * z.ds ∣ grid_of z
+grids_nest z = subst (λ n. n ∣ grid_of z) (mul_comm z.ds z.dt) (slope_time_divides z)
+
+fits_period : (z : Sizes) (end from period rise : ℚ) (ps : List Piece) → TailOf z end from period rise → Each (λ p. p.x <ℚ end) ps → FitsPeriod ps from period
+fits_period z end from period rise ps T E = record { nonneg = T.nonneg; some = T.some; starts = subst (λ y. Each (λ p. p.x <ℚ y) ps) (sym T.ends) E }
+
+-- of the lower, the upper or the excess
+pub made_on_grids : (z : Sizes) (made : Ext → Ext → Ext) (rises : Bool) (f g ps : List Piece) (end from period rise : ℚ) → AreOperands z end f g → IsMadeOf made rises f g end ps
+    → TailOf z end from period rise → OnGridsUnlessLine z.dt (grid_of z) (repeated (read ps) from period rise) from period rise
+made_on_grids z made rises f g ps end from period rise A M T =
+    bends_on rises z.dt z.ds (grid_of z) ps from period rise (grids_nest z) M.starts (fits_period z end from period rise ps T M.early) (M.bends z A) T.time T.whole T.value
+
+-- of the sum
+pub sums_have_room : (z : Sizes) (f g ps : List Piece) (end : ℚ) → AreOperands z end f g → IsWindowSum f g ps → Each (StartsWithRoom z end) ps
+sums_have_room z f g ps end A S = each_map (IsSumPiece f g) (StartsWithRoom z end) (λ p P. sum_room z end f g p A.limited A.left A.right P) ps S.each
+
+pub sum_on_grids : (z : Sizes) (f g ps : List Piece) (end from period rise : ℚ) → AreOperands z end f g → IsWindowSum f g ps → TailOf z end from period rise
+    → OnGridsUnlessLine z.dt (grid_of z) (repeated (read ps) from period rise) from period rise
+sum_on_grids z f g ps end from period rise A S T =
+    let R = sums_have_room z f g ps end A S in
+    raw_on z.dt z.ds (grid_of z) ps from period rise (grids_nest z) S.starts
+    (fits_period z end from period rise ps T (each_map (StartsWithRoom z end) (λ p. p.x <ℚ end) (λ p P. P.time.before) ps R))
+    (each_map (StartsWithRoom z end) (PieceOn z.dt z.ds (grid_of z)) (λ p P. P.on) ps R) T.time T.whole T.value

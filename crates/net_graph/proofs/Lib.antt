@@ -1,0 +1,12 @@
+pub mod Members
+pub mod OneOrders
+pub mod Forward
+pub mod Returns
+pub mod Chains
+pub mod Rings
+pub mod ListSets
+pub mod PathSteps
+pub mod LoopBacks
+pub mod Losses
+pub mod Turns
+pub mod FlowSteps
