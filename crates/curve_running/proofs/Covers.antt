@@ -104,7 +104,7 @@ not_covered f start d c k i some F C l covered =
     let S = later_supremum f start d c C.once i some F C.within in
     let b = C.once +ℚ int (pos i) *ℚ c in
     let bound : C.early ≤ℚ b =
-        smallest {I = Until zero_q start} (λ u. f u.at) (Fin C.early) (Fin b) C.before (λ u. covered b (λ t low early. S.above record { at = t; least = low; early = early }) u.at u.least u.early) in
+    smallest {I = Until zero_q start} (λ u. f u.at) (Fin C.early) (Fin b) C.before (λ u. covered b (λ t low early. S.above record { at = t; least = low; early = early }) u.at u.least u.early) in
     lt_irrefl b (lt_le_trans (C.cover.least i l) bound)
 
 -- ---- the least number of a curve

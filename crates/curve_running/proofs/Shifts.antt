@@ -83,9 +83,9 @@ pub supremum_from_start : (f : ℚ → Ext) (r d c t : ℚ) (v : Ext) → zero_q
 supremum_from_start f r d c t v low none some rise F late k = record {
   above = shift_above f r d c t v low rise F late k;
   near = λ y l.
-  let (s, m) = k.near (y -ℚ c) (gt_add_out v c y l) in
-  let b = later_by f r d c t y s.at low some F (le_trans none s.nonneg) s.most m in
-  (record { at = b.at; nonneg = b.nonneg; most = b.most }, b.more);
+      let (s, m) = k.near (y -ℚ c) (gt_add_out v c y l) in
+      let b = later_by f r d c t y s.at low some F (le_trans none s.nonneg) s.most m in
+      (record { at = b.at; nonneg = b.nonneg; most = b.most }, b.more);
 }
 
 -- where it does not rise over a period it is constant from the end of the first one on
@@ -94,13 +94,13 @@ pub supremum_constant : (f : ℚ → Ext) (r d c t : ℚ) (v : Ext) → zero_q �
 supremum_constant f r d c t v low some flat F late k = record {
   above = shift_above f r d c t v low (subst (λ z. zero_q ≤ℚ z) (sym flat) (le_refl zero_q)) F late k;
   near = λ y l.
-  let same : v +ₑ Fin c ≡ v = ap (λ z. v +ₑ Fin z) flat ∙ add_zero_ext v in
-  let (s, m) = k.near y (subst (λ z. Fin y <ₑ z) same l) in
-  let u = s.at in
-  let most = s.most in (
-    record { at = u; nonneg = s.nonneg; most = with3 u t d (λ q. omega (arith, q.le, q.lt, q.same)) },
-    m,
-  );
+      let same : v +ₑ Fin c ≡ v = ap (λ z. v +ₑ Fin z) flat ∙ add_zero_ext v in
+      let (s, m) = k.near y (subst (λ z. Fin y <ₑ z) same l) in
+      let u = s.at in
+      let most = s.most in (
+        record { at = u; nonneg = s.nonneg; most = with3 u t d (λ q. omega (arith, q.le, q.lt, q.same)) },
+        m,
+      );
 }
 
 -- n periods on the supremum of a period is n rises higher

@@ -210,7 +210,7 @@ cover_fits : (z : Sizes) (end v w rise : ℚ) → AreLimited z end → OperandVa
 cover_fits z end v w rise A V W whole within rises = record {
   gap = (values_fit z end v w A V W).1;
   number = quotient_on_grid (grid_of z) (times_largest 6 z) (times_largest 3 z) (v -ℚ w) rise (grid_pos z end A.sizes) (not_zero rise rises) (room 6 (omega arith)) (room 3 (omega arith))
-  (whole_sub (grid_of z) v w V.whole W.whole) whole (subst (λ m. Within m (v -ℚ w)) (added z 3 3) (within_sub (times_largest 3 z) (times_largest 3 z) v w V.within W.within)) within;
+      (whole_sub (grid_of z) v w V.whole W.whole) whole (subst (λ m. Within m (v -ℚ w)) (added z 3 3) (within_sub (times_largest 3 z) (times_largest 3 z) v w V.within W.within)) within;
 }
   where
     room : (k : ℕ) → k ≤ 6 → times_largest k z *ℚ int (pos (grid_of z)) ≤ℚ int (pos top)
@@ -243,10 +243,10 @@ first_period f start period rise ps C e rises first = subst (λ q. IsFirstPeriod
       nonneg = λ t low h. subst (λ v. Fin zero_q ≤ₑ v) (F.reads t low h) (C.nonneg t low);
       sum = C.sum;
       cover = λ v w h k.
-      cover_fits z (start +ℚ period) v w rise F.limited
-      (between_value z (start +ℚ period) zero_q start f.pieces v F.limited F.operands.each (whole_int z.dt (pos 0)) (le_refl zero_q) F.limited.some F.start_whole (le_of_lt first) soon h)
-      (between_value z (start +ℚ period) start (start +ℚ period) f.pieces w F.limited F.operands.each F.start_whole (le_of_lt first) soon F.limited.sizes.window F.limited.some (le_refl (start +ℚ period)) k)
-      F.rise_whole F.rise_within rises;
+          cover_fits z (start +ℚ period) v w rise F.limited
+          (between_value z (start +ℚ period) zero_q start f.pieces v F.limited F.operands.each (whole_int z.dt (pos 0)) (le_refl zero_q) F.limited.some F.start_whole (le_of_lt first) soon h)
+          (between_value z (start +ℚ period) start (start +ℚ period) f.pieces w F.limited F.operands.each F.start_whole (le_of_lt first) soon F.limited.sizes.window F.limited.some (le_refl (start +ℚ period)) k)
+          F.rise_whole F.rise_within rises;
     }
 
 -- ---- what is read of the pieces holds of the curve

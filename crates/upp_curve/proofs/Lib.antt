@@ -96,3 +96,4 @@ pub mod GivenCurves
 pub mod JoinLoops
 pub mod Gentle
 pub mod Joins
+pub mod AnswerRoom
