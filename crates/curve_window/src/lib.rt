@@ -4,12 +4,14 @@
 
 mod compared;
 mod lie;
+mod lower;
 mod made;
 mod stretch;
 mod sum;
 #[cfg(test)]
 mod tests;
 
+pub use lower::window_lower;
 pub use compared::{window_excess, window_max, window_min};
 pub use stretch::{Both, overlay};
 pub use sum::window_sum;

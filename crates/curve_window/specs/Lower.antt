@@ -1,0 +1,45 @@
+-- The lower of two windows of any pieces, where the steps of each stretch fit. Own choice.
+use Rattle.std.specs.Prelude.{◌≡◌, ◌+◌, ◌*◌, ◌≤◌, ◌⊎◌, Bool, pos, List, length}
+use Rattle.rational.specs.Rational.{ℚ, ◌≤ℚ◌, ◌<ℚ◌, int}
+use Rattle.rational.specs.Extended.{Ext, min_ext}
+use Rattle.affine_segment.specs.declared.line.Piece.{Piece}
+use Rattle.affine_segment.specs.Values.{line_value}
+use Rattle.upp_curve.specs.Reading.{read}
+use Rattle.upp_curve.specs.Normal.{Each, StartsAtZero}
+use Rattle.curve_window.specs.declared.stretch.Both.{Both}
+use Rattle.curve_window.specs.Stretches.{IsBothOf}
+use Rattle.curve_window.specs.Lies.{CrossesAt}
+use Rattle.curve_window.specs.Made.{StretchMadeFits}
+
+-- each stretch of both windows starts before the end, and its steps fit
+abbrev pub LowerFits : ℚ → List Piece → List Piece → Type 0
+LowerFits end f g = (b : Both) → IsBothOf f g b → (b.left.x <ℚ end) × StretchMadeFits end b
+
+-- ---- a piece of the lower
+-- it begins a stretch
+pub record BeginsStretch (b : Both) (p : Piece) : Type 0 where
+  pub start : p.x ≡ b.left.x
+  pub at : p.at ≡ min_ext b.left.at b.right.at
+
+-- it begins where the lines of a stretch change places
+pub record TurnsStretch (end : ℚ) (b : Both) (p : Piece) : Type 0 where
+  pub rises : Bool
+  pub crosses : CrossesAt rises b.left.line b.right.line p.x
+  pub past : b.left.x <ℚ p.x
+  pub before : p.x <ℚ end
+  pub at : p.at ≡ line_value p.line p.x
+
+-- and goes on with one of the two lines
+pub record IsLowerPiece (f g : List Piece) (end : ℚ) (p : Piece) : Type 0 where
+  pub both : Both
+  pub of : IsBothOf f g both
+  pub place : BeginsStretch both p ⊎ TurnsStretch end both p
+  pub line : (p.line ≡ both.left.line) ⊎ (p.line ≡ both.right.line)
+
+-- before `end` the pieces ps, from 0 on, read as the lesser of the readings of f and g
+pub record IsLowerOf (f g : List Piece) (end : ℚ) (ps : List Piece) : Type 0 where
+  pub starts : StartsAtZero ps
+  pub reads : (t : ℚ) → int (pos 0) ≤ℚ t → t <ℚ end → read ps t ≡ min_ext (read f t) (read g t)
+  pub early : Each (λ p. p.x <ℚ end) ps
+  pub each : Each (IsLowerPiece f g end) ps
+  pub count : length ps ≤ 2 * (length f + length g)
