@@ -64,7 +64,12 @@ fn scale_within(alloc: Global, f: &Curve, factor: Frac, frame: &Frame) -> Result
 
 /// A curve times a number at each time from 0 on; infinity stays infinity. One step is counted. Refused with TooWide or
 /// TooMany exactly where the call's gauge or tally is over that limit, else only for want of memory.
-pub fn scale<L: Ledger>(alloc: Global, f: &Curve, factor: Frac, steps: &mut Steps<L>) -> Result<Curve, OpFault>
+pub fn scale<L: Ledger>(
+    alloc: Global,
+    f: &Curve,
+    factor: Frac,
+    steps: &mut Steps<L>,
+) -> Result<Curve, OpFault>
     ensures count { steps.new ≡ steps.old + 1 }
     ensures value { IfOk result (λ c. (t : ℚ) → int (pos 0) ≤ℚ t → IsScaled (value_at f.now) factor t (value_at c t)) }
     ensures limits { KeepsLimits (OpKind.Scale factor) f.now f.now result }
