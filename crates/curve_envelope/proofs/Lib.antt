@@ -3,3 +3,4 @@ pub mod ScaledValues
 pub mod ScaleCall
 pub mod LeftWindow
 pub mod ShiftCall
+pub mod Nowhere

@@ -155,12 +155,11 @@ left_rooms : (x : ℚ) (f : SpecCurve) (r : Frame) (z : Sizes) (p : Piece) (ps :
 left_rooms x f r z p ps h P =
     let A = h.facts.limited in
     let early = le_of_lt h.before in
-    let time : StartTime z r.end x = record { whole = h.by; nonneg = h.low; before = h.before } in
-    (
+    let time : StartTime z r.end x = record { whole = h.by; nonneg = h.low; before = h.before } in (
       left_room z r.end x (cut_at p ps x) A h.by h.low early h.by (le_refl x) h.before
-      (subst (OperandValueAt z) (read_is p ps x) (operand_read z r.end x (p ∷ ps) A P time)) (operand_line_in z r.end x (p ∷ ps) P),
+          (subst (OperandValueAt z) (read_is p ps x) (operand_read z r.end x (p ∷ ps) A P time)) (operand_line_in z r.end x (p ∷ ps) P),
       each_moved (λ q. OperandPiece z r.end q × (x <ℚ q.x)) (LeftRoom z r.end (r.end -ℚ x)) x (past x ps)
-      (λ q k. left_room z r.end x q A h.by h.low early k.0.start (le_of_lt k.1) k.0.before (stands_operand_value z q.at k.0.at) k.0.line) (each_past (OperandPiece z r.end) x ps P.each.1)
+          (λ q k. left_room z r.end x q A h.by h.low early k.0.start (le_of_lt k.1) k.0.before (stands_operand_value z q.at k.0.at) k.0.line) (each_past (OperandPiece z r.end) x ps P.each.1),
     )
 
 -- ---- the answer
@@ -241,6 +240,6 @@ shift_values x f r z ls ws from rise c h e m ef er same =
     answer_relation (IsShift (value_at f) (Fin x)) c (read ws) from r.period rise same (subst (λ y. int (pos 0) ≤ℚ y) (sym at) (steady_nonneg f h.is)) p.above
     (λ t low early. shift_reads x f r z ls ws t h e (window_pieces x f r z ls h e) m low (subst (λ y. t <ℚ y +ℚ r.period) at early))
     (λ t v late k.
-      let l : steady f ≤ℚ t = subst (λ y. y ≤ℚ t) at late in
-      let s = steady f in
-      ap₂ (λ (w : Ext) (y : ℚ). w +ₑ Fin y) k er ∙ sym (rule.rule (t +ℚ x) (with3 s t x (λ c. omega (arith, c.le, c.lt, c.same)))) ∙ ap (value_at f) (again t r.period x))
+    let l : steady f ≤ℚ t = subst (λ y. y ≤ℚ t) at late in
+    let s = steady f in
+    ap₂ (λ (w : Ext) (y : ℚ). w +ₑ Fin y) k er ∙ sym (rule.rule (t +ℚ x) (with3 s t x (λ c. omega (arith, c.le, c.lt, c.same)))) ∙ ap (value_at f) (again t r.period x))

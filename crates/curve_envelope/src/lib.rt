@@ -8,4 +8,5 @@ mod sums;
 mod tests;
 
 pub use scaling::scale;
+pub use shifts::shift;
 pub use sums::sum;

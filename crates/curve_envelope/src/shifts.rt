@@ -127,3 +127,75 @@ fn left_window(alloc: Global, pieces: &[Piece], x: Frac) -> Result<Vec<Piece>, A
     }
     Ok(found)
 }
+
+// A curve as it is x later, where its call is within both limits.
+fn shift_within(alloc: Global, f: &Curve, x: Frac, frame: &Frame) -> Result<Curve, AllocError>
+    requires time { int (pos 0) ≤ℚ x }
+    requires frame { IsFrame (OpKind.Shift (Fin x)) f.now f.now 0 0 frame.now }
+    ensures { IfOk result (λ c. (t : ℚ) → int (pos 0) ≤ℚ t → IsShift (value_at f.now) (Fin x) t (value_at c t)) }
+{
+    let window = f.unrolled(frame.end)?;
+    let pieces = left_window(alloc, &window, x)?;
+    let from = difference(frame.start, x);
+    let rise = rise_over(f, frame.period);
+    answer(
+        alloc,
+        pieces,
+        from,
+        frame.period,
+        rise,
+        frame.times,
+        frame.values,
+    )
+}
+
+// The curve that is infinite everywhere.
+fn infinite_curve(alloc: Global) -> Result<Curve, AllocError>
+    ensures { IfOk result (λ c. (t : ℚ) → int (pos 0) ≤ℚ t → value_at c t ≡ Inf) }
+{
+    let nowhere = Piece {
+        x: Frac::zero(),
+        at: Extended::Inf,
+        line: None,
+    };
+    let mut pieces = Vec::new(alloc);
+    pieces.push(nowhere)?;
+    Ok(Curve::from_normal(pieces, Tail::Infinite { rank: Frac::zero() }))
+}
+
+// A curve as it is a finite time later.
+fn shift_by(alloc: Global, f: &Curve, x: Frac) -> Result<Curve, OpFault>
+    requires { int (pos 0) ≤ℚ x }
+    ensures value { IfOk result (λ c. (t : ℚ) → int (pos 0) ≤ℚ t → IsShift (value_at f.now) (Fin x) t (value_at c t)) }
+    ensures limits { KeepsLimits (OpKind.Shift (Fin x)) f.now f.now result }
+{
+    let frame = within(&OpKind::Shift(Extended::Fin(x)), f, f, 0)?;
+    match shift_within(alloc, f, x, &frame) {
+        Ok(c) => Ok(c),
+        Err(_) => Err(OpFault::NoMemory),
+    }
+}
+
+/// A curve as it is `by` later, at each time from 0 on; infinity everywhere where `by` is infinite (Le Boudec and Thiran,
+/// chapter 3). One step is counted. Refused with TooWide or TooMany exactly where the call's gauge or tally is over that limit,
+/// else only for want of memory.
+pub fn shift<L: Ledger>(
+    alloc: Global,
+    f: &Curve,
+    by: Ext,
+    steps: &mut Steps<L>,
+) -> Result<Curve, OpFault>
+    requires { IsAhead by }
+    ensures count { steps.new ≡ steps.old + 1 }
+    ensures value { IfOk result (λ c. (t : ℚ) → int (pos 0) ≤ℚ t → IsShift (value_at f.now) by t (value_at c t)) }
+    ensures limits { KeepsLimits (OpKind.Shift by) f.now f.now result }
+{
+    steps.tick();
+    match by {
+        Extended::Inf => match infinite_curve(alloc) {
+            Ok(c) => Ok(c),
+            Err(_) => Err(OpFault::NoMemory),
+        },
+        Extended::Fin(x) => shift_by(alloc, f, x),
+    }
+}

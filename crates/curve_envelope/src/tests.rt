@@ -2,7 +2,7 @@
 
 ghost use Rattle.std.specs.Prelude.{◌≡◌, ◌<◌};
 
-use crate::{scale, sum};
+use crate::{scale, shift, sum};
 use affine_segment::{Line, Piece};
 use fraction128::Frac;
 use rational::Extended;
@@ -42,7 +42,11 @@ fn curve(alloc: Global, first: Piece, second: Piece) -> Result<Curve, OpFault> {
         pieces,
         tail: Tail::Affine { rank },
     };
-    if raw.is_raw() { normalise(raw) } else { Err(OpFault::TooWide) }
+    if raw.is_raw() {
+        normalise(raw)
+    } else {
+        Err(OpFault::TooWide)
+    }
 }
 
 // The value at a time from 0 on; nothing where it is infinite.
@@ -56,12 +60,8 @@ fn value(c: &Curve, t: Frac) -> Option<Frac> {
     }
 }
 
-// The sum of 1 with a spike of 7 at 2 and of 1 + t, and three times the first, at t.
-fn answers<L: Ledger>(
-    alloc: Global,
-    blank: Blank,
-    t: Frac,
-) -> Result<(Option<Frac>, Option<Frac>), OpFault>
+// The sum of 1 with a spike of 7 at 2 and of 1 + t, three times the first, and the first a time 1 later, at t.
+fn answers<L: Ledger>(alloc: Global, blank: Blank, t: Frac) -> Result<[Option<Frac>; 3], OpFault>
     requires name { blank.name ≡ L.name }
     requires parts { blank.parts ≡ L.parts }
     requires one { 0 < blank.parts }
@@ -71,15 +71,17 @@ fn answers<L: Ledger>(
     let g = curve(alloc, point(0, 1, 1, 1), point(5, 6, 1, 1))?;
     let total = sum(alloc, &f, &g, &mut steps)?;
     let triple = scale(alloc, &f, whole(3), &mut steps)?;
-    Ok((value(&total, t), value(&triple, t)))
+    let later = shift(alloc, &f, Extended::Fin(Frac::one()), &mut steps)?;
+    Ok([value(&total, t), value(&triple, t), value(&later, t)])
 }
 
 #[test]
-fn sums_and_multiples_keep_a_spike(rt: HostRuntime) -> Result<(), Fail> {
-    for (t, total, triple) in [(0, 2, 3), (1, 3, 3), (2, 10, 21), (3, 5, 3)] {
-        let (a, b) = answers::<Brand>(rt.alloc(), Blank::new(1), whole(t))?;
+fn sums_multiples_and_shifts_keep_a_spike(rt: HostRuntime) -> Result<(), Fail> {
+    for (t, total, triple, later) in [(0, 2, 3, 1), (1, 3, 3, 7), (2, 10, 21, 1), (3, 5, 3, 1)] {
+        let [a, b, c] = answers::<Brand>(rt.alloc(), Blank::new(1), whole(t))?;
         assert!(rt; a == Some(whole(total)), "the sum at {t}");
         assert!(rt; b == Some(whole(triple)), "the multiple at {t}");
+        assert!(rt; c == Some(whole(later)), "the shift at {t}");
     }
     Ok(())
 }
