@@ -18,3 +18,4 @@ pub mod SupremumRuns
 pub mod Fronts
 pub mod InfimumRuns
 pub mod FirstWindows
+pub mod Dips

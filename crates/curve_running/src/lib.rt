@@ -9,6 +9,8 @@ mod periods;
 mod stretch;
 mod supremum;
 mod supremum_curve;
+#[cfg(test)]
+mod tests;
 
 pub use infimum::infimum_scan;
 pub use infimum_curve::run_inf;
