@@ -1,5 +1,5 @@
 -- The pieces of the lower of two windows, from the stretches of both.
-use Rattle.std.specs.Prelude.{◌≡◌, ◌+◌, ◌*◌, ◌≤◌, pos, Bool, true, false, not, List, [], ◌∷◌, length, Option, Some, None}
+use Rattle.std.specs.Prelude.{◌≡◌, ◌⊎◌, ◌+◌, ◌*◌, ◌≤◌, pos, Bool, true, false, not, List, [], ◌∷◌, length, Option, Some, None}
 use Rattle.std.proofs.Common.{arith, sym, ap, ap₂, ◌∙◌, refl, subst, inl, inr}
 use Rattle.rational.specs.Rational.{ℚ, ◌≤ℚ◌, ◌<ℚ◌, int}
 use Rattle.rational.specs.Extended.{Ext, min_ext}
@@ -9,12 +9,14 @@ use Rattle.affine_segment.specs.declared.line.Piece.{Piece}
 use Rattle.affine_segment.specs.Values.{line_value}
 use Rattle.upp_curve.specs.Reading.{read}
 use Rattle.upp_curve.specs.Normal.{Each}
+use Rattle.upp_curve.specs.Readable.{LineFitsAt}
 use Rattle.curve_window.specs.declared.stretch.Both.{Both}
-use Rattle.curve_window.specs.declared.made.Made.TheVariants.{Lower}
+use Rattle.curve_window.specs.declared.made.Made.{Made}
+use Rattle.curve_window.specs.declared.made.Made.TheVariants.{Lower, Upper, Excess}
 use Rattle.curve_window.specs.Stretches.{lefts, rights, EachBoth, StartTogether, IsBothOf, IsOverlay}
 use Rattle.curve_window.specs.Lies.{CrossesAt, LiesBy}
 use Rattle.curve_window.specs.Made.{made_line, made_value, first_piece, turn_piece, parts_by, listed, next_start, AreMade, StretchMadeFits}
-use Rattle.curve_window.specs.Lower.{LowerFits, BeginsStretch, TurnsStretch, IsLowerPiece, IsLowerOf}
+use Rattle.curve_window.specs.Lower.{LinesFitAt, LowerStepsFit, LowerFits, BeginsStretch, TurnsStretch, IsLowerPiece, IsLowerOf}
 use Rattle.curve_window.proofs.Mapped.{each_map}
 use Rattle.curve_window.proofs.MadeReads.{made_reads, made_starts, made_length}
 
@@ -24,13 +26,30 @@ record EarlyBoth (f g : List Piece) (end : ℚ) (b : Both) : Type 0 where
   early : b.left.x <ℚ end
 
 early_boths : (f g : List Piece) (end : ℚ) (bs : List Both) → LowerFits end f g → IsOverlay f g bs → EachBoth (EarlyBoth f g end) bs
-early_boths f g end bs h O = each_map (IsBothOf f g) (EarlyBoth f g end) bs (λ b B. record { of = B; early = (h b B).0 }) O.each
+early_boths f g end bs h O = each_map (IsBothOf f g) (EarlyBoth f g end) bs (λ b B. record { of = B; early = (h b B).early }) O.each
+
+-- what the steps of the lower ask for is what those of any of the three ask for
+lines_fit : (x : ℚ) (l m : Option Line) (k : Made) (below : Bool) → LinesFitAt x l m → LineFitsAt x (made_line k below l m)
+lines_fit x l m Lower true h = h.left
+lines_fit x l m Lower false h = h.right
+lines_fit x l m Upper true h = h.right
+lines_fit x l m Upper false h = h.left
+lines_fit x l m Excess true h = h.zero
+lines_fit x l m Excess false h = h.apart
+
+all_fit : (end : ℚ) (b : Both) → LowerStepsFit end b → StretchMadeFits end b
+all_fit end b h = record {
+  value = h.value;
+  line = h.line;
+  cross = h.cross;
+  turn = λ k rises below x C past before. lines_fit x b.left.line b.right.line k below (h.turn rises x C past before);
+}
 
 pub lower_fits : (f g : List Piece) (end : ℚ) (bs : List Both) → LowerFits end f g → IsOverlay f g bs → EachBoth (StretchMadeFits end) bs
-lower_fits f g end bs h O = each_map (IsBothOf f g) (StretchMadeFits end) bs (λ b B. (h b B).1) O.each
+lower_fits f g end bs h O = each_map (IsBothOf f g) (StretchMadeFits end) bs (λ b B. all_fit end b (h b B)) O.each
 
 pub lower_early : (f g : List Piece) (end : ℚ) (bs : List Both) → LowerFits end f g → IsOverlay f g bs → EachBoth (λ b. b.left.x <ℚ end) bs
-lower_early f g end bs h O = each_map (IsBothOf f g) (λ b. b.left.x <ℚ end) bs (λ b B. (h b B).0) O.each
+lower_early f g end bs h O = each_map (IsBothOf f g) (λ b. b.left.x <ℚ end) bs (λ b B. (h b B).early) O.each
 
 -- ---- a property of each piece
 record PartsHold (P : Piece → Type 0) (f g : List Piece) (end : ℚ) : Type 0 where

@@ -1,19 +1,39 @@
 -- The lower of two windows of any pieces, where the steps of each stretch fit. Own choice.
-use Rattle.std.specs.Prelude.{◌≡◌, ◌+◌, ◌*◌, ◌≤◌, ◌⊎◌, Bool, pos, List, length}
+use Rattle.std.specs.Prelude.{◌≡◌, ◌+◌, ◌*◌, ◌≤◌, ◌⊎◌, Bool, pos, List, length, Option, Some}
 use Rattle.rational.specs.Rational.{ℚ, ◌≤ℚ◌, ◌<ℚ◌, int}
 use Rattle.rational.specs.Extended.{Ext, min_ext}
+use Rattle.affine_segment.specs.declared.line.Line.{Line}
 use Rattle.affine_segment.specs.declared.line.Piece.{Piece}
 use Rattle.affine_segment.specs.Values.{line_value}
 use Rattle.upp_curve.specs.Reading.{read}
 use Rattle.upp_curve.specs.Normal.{Each, StartsAtZero}
+use Rattle.upp_curve.specs.Readable.{LineFitsAt}
 use Rattle.curve_window.specs.declared.stretch.Both.{Both}
 use Rattle.curve_window.specs.Stretches.{IsBothOf}
-use Rattle.curve_window.specs.Lies.{CrossesAt}
-use Rattle.curve_window.specs.Made.{StretchMadeFits}
+use Rattle.curve_window.specs.Lies.{CrossesAt, CrossFits}
+use Rattle.curve_window.specs.Made.{zero_line, line_apart, ValueApartFits, LineApartFits}
 
--- each stretch of both windows starts before the end, and its steps fit
+-- ---- steps that fit
+-- those of the values at x of two lines, of the first less the second, and of the line of 0
+pub record LinesFitAt (x : ℚ) (l m : Option Line) : Type 0 where
+  pub left : LineFitsAt x l
+  pub right : LineFitsAt x m
+  pub apart : LineFitsAt x (line_apart l m)
+  pub zero : LineFitsAt x (Some zero_line)
+
+-- a stretch starts before the end; the differences of its values and of its lines fit, the time at which these meet, and
+-- their values there
+pub record LowerStepsFit (end : ℚ) (b : Both) : Type 0 where
+  pub early : b.left.x <ℚ end
+  pub value : ValueApartFits b.left.at b.right.at
+  pub line : LineApartFits b.left.line b.right.line
+  pub cross : CrossFits b.left.line b.right.line
+  pub turn : (rises : Bool) (x : ℚ) → CrossesAt rises b.left.line b.right.line x → b.left.x <ℚ x → x <ℚ end
+      → LinesFitAt x b.left.line b.right.line
+
+-- so for each stretch of both windows
 abbrev pub LowerFits : ℚ → List Piece → List Piece → Type 0
-LowerFits end f g = (b : Both) → IsBothOf f g b → (b.left.x <ℚ end) × StretchMadeFits end b
+LowerFits end f g = (b : Both) → IsBothOf f g b → LowerStepsFit end b
 
 -- ---- a piece of the lower
 -- it begins a stretch

@@ -11,7 +11,7 @@ mod sum;
 #[cfg(test)]
 mod tests;
 
-pub use lower::window_lower;
 pub use compared::{window_excess, window_max, window_min};
+pub use lower::window_lower;
 pub use stretch::{Both, overlay};
 pub use sum::window_sum;
