@@ -1,29 +1,28 @@
 -- What is made of two curves in a call within both limits: its pieces have room, and it repeats from the time on from which the slower curve is nowhere above.
-use Rattle.std.specs.Prelude.{◌≡◌, ℕ, ◌+◌, ◌*◌, ◌<◌, ◌≤◌, pos, Bool, List, ◌⊎◌}
+use Rattle.std.specs.Prelude.{◌≡◌, ℕ, ◌*◌, ◌≤◌, pos, List, ◌⊎◌}
 use Rattle.std.proofs.Common.{arith, sym, ap, ap₂, ◌∙◌, refl, subst, inl, inr}
-use Rattle.rational.specs.Rational.{ℚ, ◌+ℚ◌, ◌-ℚ◌, ◌*ℚ◌, ◌≤ℚ◌, ◌<ℚ◌, int}
+use Rattle.rational.specs.Rational.{ℚ, ◌+ℚ◌, ◌-ℚ◌, ◌≤ℚ◌, ◌<ℚ◌, int}
 use Rattle.rational.specs.Grid.{Whole, Within}
 use Rattle.rational.specs.Extended.{Ext, ◌≤ₑ◌, ◌<ₑ◌, ◌+ₑ◌}
 use Rattle.rational.specs.declared.Extended.TheVariants.{Fin, Inf}
 use Rattle.rational.proofs.Grid.{whole_int, whole_sub, within_sub, within_nonneg, within_weaken}
-use Rattle.rational.proofs.Linear.{with1, with2, with3, with4}
+use Rattle.rational.proofs.Linear.{with1, with3}
 use Rattle.rational.proofs.Laws.{le_refl, le_trans, le_of_lt, mul_le_mul_right}
 use Rattle.rational.proofs.Integers.{nat_le, nat_nonneg, int_mul}
 use Rattle.affine_segment.specs.declared.line.Piece.{Piece}
 use Rattle.upp_curve.specs.Reading.{read}
 use Rattle.upp_curve.specs.Curve.{SpecCurve, repeated, value_at}
-use Rattle.upp_curve.specs.Functions.{IsFinite}
 use Rattle.upp_curve.specs.Pointwise.{excess}
 use Rattle.upp_curve.specs.Normal.{Each}
 use Rattle.upp_curve.specs.Normalising.{HasValues}
 use Rattle.upp_curve.specs.Unrolled.{unroll}
-use Rattle.upp_curve.specs.Steady.{steady, rate, rise_over, Repeats}
+use Rattle.upp_curve.specs.Steady.{rate, rise_over}
 use Rattle.upp_curve.specs.Periods.{periods_after}
 use Rattle.upp_curve.specs.Limits.{Sizes}
 use Rattle.upp_curve.specs.Sized.{grid_of, times_largest}
 use Rattle.upp_curve.proofs.Steady.{steady_rule}
 use Rattle.upp_curve.proofs.Below.{unroll_reads}
-use Rattle.curve_window.specs.Operands.{AreOperands, IsMadeOf}
+use Rattle.curve_window.specs.Operands.{IsMadeOf}
 use Rattle.curve_window.proofs.TailGrids.{TailOf, made_on_grids}
 use Rattle.curve_frame.specs.declared.frame.Frame.{Frame}
 use Rattle.curve_frame.specs.Answering.{IsAnswer}

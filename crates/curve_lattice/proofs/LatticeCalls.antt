@@ -1,20 +1,19 @@
 -- The sizes and the times of a call on two curves that both repeat from its start on.
-use Rattle.std.specs.Prelude.{◌≡◌, ℕ, suc, ◌+◌, ◌*◌, ◌<◌, ◌≤◌, ◌^◌, pos, List}
-use Rattle.std.proofs.Common.{arith, sym, ap, ap₂, ◌∙◌, refl, subst}
+use Rattle.std.specs.Prelude.{◌≡◌, ℕ, suc, ◌+◌, ◌<◌, ◌^◌, pos, List}
+use Rattle.std.proofs.Common.{arith, sym, ap, ◌∙◌, refl, subst}
 use Rattle.rational.specs.Rational.{ℚ, neg_ℚ, ◌+ℚ◌, ◌-ℚ◌, ◌*ℚ◌, ◌≤ℚ◌, ◌<ℚ◌, int}
 use Rattle.rational.specs.Ratio.{SumFits}
-use Rattle.rational.specs.MinMax.{max_q}
-use Rattle.rational.specs.Grid.{Whole, Within}
+use Rattle.rational.specs.Grid.{Whole}
 use Rattle.rational.proofs.Grid.{whole_neg, whole_sub, within_neg}
-use Rattle.rational.proofs.Linear.{with1, with2, with3, with4}
-use Rattle.rational.proofs.Laws.{le_refl, le_trans, le_of_lt, lt_le_trans, one_mul, mul_nonneg, mul_le_mul}
+use Rattle.rational.proofs.Linear.{with2, with3, with4}
+use Rattle.rational.proofs.Laws.{le_refl, le_trans, le_of_lt, one_mul, mul_nonneg}
 use Rattle.rational.proofs.Integers.{nat_nonneg}
 use Rattle.rational.proofs.Whole.{one_more_times}
 use Rattle.rational.proofs.MinMax.{max_q_ge_left, max_q_ge_right}
 use Rattle.affine_segment.specs.declared.line.Piece.{Piece}
 use Rattle.upp_curve.specs.declared.op_kind.OpKind.{OpKind}
 use Rattle.upp_curve.specs.declared.op_kind.OpKind.TheVariants.{Min, Max, PosDiff}
-use Rattle.upp_curve.specs.Curve.{SpecCurve, value_at}
+use Rattle.upp_curve.specs.Curve.{SpecCurve}
 use Rattle.upp_curve.specs.Curves.{IsCurve}
 use Rattle.upp_curve.specs.Steady.{steady, rise_over, IsWholePeriods}
 use Rattle.upp_curve.specs.Periods.{common_period, both_steady, periods_after}
@@ -23,11 +22,11 @@ use Rattle.upp_curve.specs.Limits.{Sizes, sizes_of, curve_numbers}
 use Rattle.upp_curve.specs.Gauges.{numbers_over, gauge_over, gauge_at}
 use Rattle.upp_curve.specs.Sized.{Stands, grid_of, times_largest}
 use Rattle.upp_curve.specs.Unrolled.{unroll}
-use Rattle.upp_curve.specs.Operand.{AreLimited, OperandPieces}
+use Rattle.upp_curve.specs.Operand.{AreLimited}
 use Rattle.upp_curve.proofs.NarrowSizes.{IsNarrow, narrow_gauge, small_sum}
 use Rattle.upp_curve.proofs.CurveStands.{are_sizes}
 use Rattle.upp_curve.proofs.Stands.{sizes_stand}
-use Rattle.curve_window.specs.Operands.{AreOperands, HaveSizes}
+use Rattle.curve_window.specs.Operands.{AreOperands}
 use Rattle.curve_frame.specs.declared.windows.CallWindow.{CallWindow}
 use Rattle.curve_frame.specs.CallWindows.{IsForward, SecondIsCurve, start_of, number_of, period_in}
 use Rattle.curve_frame.specs.Frames.{sizes_at}
@@ -36,7 +35,7 @@ use Rattle.curve_frame.proofs.CallTimes.{first_stands, second_stands, IsCall, st
 use Rattle.curve_frame.proofs.CallFits.{call_early}
 use Rattle.curve_frame.proofs.CurveRises.{IsRise, rise_is, common_first, common_second}
 use Rattle.curve_frame.proofs.Operands.{unrolled_pieces}
-use Rattle.curve_least.specs.Compared.{AreCompared, RepeatsIn}
+use Rattle.curve_least.specs.Compared.{AreCompared}
 use Rattle.curve_lattice.specs.declared.lattice.Lattice.{Lattice}
 use Rattle.curve_lattice.specs.declared.lattice.Lattice.TheVariants.{Lower, Upper, Excess}
 use Rattle.curve_lattice.specs.Lattice.{kind_of}

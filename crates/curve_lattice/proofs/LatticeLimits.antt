@@ -1,9 +1,8 @@
 -- Which limits the call is over, from the least number of periods; and the frame of one that is over neither.
-use Rattle.std.specs.Prelude.{◌≡◌, ℕ, ◌+◌, ◌<◌, ◌≤◌, ◌^◌, Option, Some, None, MatchOption, Result, Ok, Err}
-use Rattle.std.proofs.Common.{arith, sym, ap, ◌∙◌, refl, subst}
+use Rattle.std.specs.Prelude.{◌≡◌, ℕ, Option, Some, None, MatchOption}
+use Rattle.std.proofs.Common.{sym, ◌∙◌, subst}
 use Rattle.rational.specs.Rational.{ℚ}
 use Rattle.upp_curve.specs.declared.op_kind.OpKind.{OpKind}
-use Rattle.upp_curve.specs.declared.op_kind.OpKind.TheVariants.{Min, Max, PosDiff}
 use Rattle.upp_curve.specs.declared.op_kind.OpFault.{OpFault}
 use Rattle.upp_curve.specs.declared.op_kind.OpFault.TheVariants.{TooMany, TooWide, NoMemory}
 use Rattle.upp_curve.specs.Curve.{SpecCurve, value_at}
@@ -25,7 +24,7 @@ use Rattle.curve_lattice.specs.Lattice.{kind_of}
 use Rattle.curve_frame.specs.declared.windows.CallWindow.{CallWindow}
 use Rattle.upp_curve.specs.Limits.{Sizes}
 use Rattle.curve_least.specs.Compared.{AreCompared}
-use Rattle.curve_lattice.specs.LatticeCall.{LatticeCall, IsFirstWindow, IsLatticeFrame, IsWideAtFirst}
+use Rattle.curve_lattice.specs.LatticeCall.{IsFirstWindow, IsLatticeFrame, IsWideAtFirst}
 use Rattle.curve_lattice.proofs.LatticeCalls.{lattice_call, at_times, kind_start, kind_period, first_compared}
 
 pub forward_kind : (of : Lattice) → IsForward (kind_of of)

@@ -1,7 +1,7 @@
 -- The lower, the upper and the excess of two values, where both rise: by how much it rises, from which of the two is above before and after.
 use Rattle.std.specs.Prelude.{◌≡◌, pos, ◌⊎◌}
 use Rattle.std.proofs.Common.{arith, sym, ap, ap₂, ◌∙◌, refl, subst, inl, inr}
-use Rattle.rational.specs.Rational.{ℚ, ◌+ℚ◌, ◌-ℚ◌, ◌≤ℚ◌, ◌<ℚ◌, int}
+use Rattle.rational.specs.Rational.{ℚ, ◌+ℚ◌, ◌-ℚ◌, ◌≤ℚ◌, int}
 use Rattle.rational.specs.MinMax.{max_q}
 use Rattle.rational.specs.Extended.{Ext, ◌≤ₑ◌, ◌<ₑ◌, ◌+ₑ◌, min_ext, max_ext}
 use Rattle.rational.specs.declared.Extended.TheVariants.{Fin, Inf}

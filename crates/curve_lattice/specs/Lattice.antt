@@ -1,14 +1,14 @@
 -- The minimum, the maximum and the positive difference of two curves: which kind of call each is, what it makes of two values, and by how much it rises
 -- over a common period. (Bouillard, Boyer and Le Corronc: from some time on the slower of two curves is below the faster.)
-use Rattle.std.specs.Prelude.{◌≡◌, ℕ, Bool, true, false, pos, suc}
-use Rattle.rational.specs.Rational.{ℚ, ◌+ℚ◌, ◌-ℚ◌, ◌≤ℚ◌, ◌<ℚ◌, int}
+use Rattle.std.specs.Prelude.{◌≡◌, Bool, true, false, pos}
+use Rattle.rational.specs.Rational.{ℚ, ◌-ℚ◌, int}
 use Rattle.rational.specs.Extended.{Ext, ◌<ₑ◌, min_ext, max_ext}
 use Rattle.upp_curve.specs.declared.op_kind.OpKind.{OpKind}
 use Rattle.upp_curve.specs.declared.op_kind.OpKind.TheVariants.{Min, Max, PosDiff}
-use Rattle.upp_curve.specs.Curve.{SpecCurve, value_at}
+use Rattle.upp_curve.specs.Curve.{SpecCurve}
 use Rattle.upp_curve.specs.Functions.{IsFinite}
 use Rattle.upp_curve.specs.Pointwise.{excess}
-use Rattle.upp_curve.specs.Steady.{rate, rise_over}
+use Rattle.upp_curve.specs.Steady.{rate}
 use Rattle.curve_lattice.specs.declared.lattice.Lattice.{Lattice}
 use Rattle.curve_lattice.specs.declared.lattice.Lattice.TheVariants.{Lower, Upper, Excess}
 
