@@ -1,14 +1,13 @@
 -- The worked curve of 3 t before 1 and t from 1 on is a curve in any form, finite and nowhere below 0.
-use Rattle.std.specs.Prelude.{◌≡◌, pos, List, [], ◌∷◌}
-use Rattle.std.proofs.Common.{arith, sym, ap, ap₂, ◌∙◌, refl, subst, inl, inr}
-use Rattle.rational.specs.Rational.{ℚ, ◌*ℚ◌, ◌≤ℚ◌, ◌<ℚ◌, int}
+use Rattle.std.specs.Prelude.{◌≡◌, List}
+use Rattle.std.proofs.Common.{arith, sym, ap₂, ◌∙◌, refl, subst, inl, inr}
+use Rattle.rational.specs.Rational.{ℚ, ◌*ℚ◌}
 use Rattle.rational.specs.Extended.{◌≤ₑ◌}
 use Rattle.rational.specs.declared.Extended.TheVariants.{Fin}
 use Rattle.rational.proofs.Integers.{nat_le, nat_lt, nat_nonneg}
 use Rattle.rational.proofs.Laws.{le_or_lt, le_refl}
 use Rattle.rational.proofs.Linear.{with1}
 use Rattle.affine_segment.specs.declared.line.Piece.{Piece}
-use Rattle.upp_curve.specs.declared.curve.Tail.{Tail}
 use Rattle.upp_curve.specs.declared.curve.Tail.TheVariants.{Affine}
 use Rattle.upp_curve.specs.Curve.{SpecCurve, value_at, HasSameValues}
 use Rattle.upp_curve.specs.Functions.{zero_q, IsFinite, IsNonnegative}

@@ -1,5 +1,5 @@
 -- The first of some pieces, up to a time: a list that is cut there keeps what holds of its pieces, and its readings before that time.
-use Rattle.std.specs.Prelude.{◌≡◌, ℕ, suc, Bool, ◌+◌, ◌<◌, ◌≤◌, pos, List, [], ◌∷◌, ◌++◌, length, drop, take}
+use Rattle.std.specs.Prelude.{◌≡◌, ℕ, suc, Bool, ◌+◌, ◌<◌, ◌≤◌, pos, List, [], ◌∷◌, ◌++◌, length, drop}
 use Rattle.std.proofs.Common.{arith, get_or, drop-cons, drop_of_length-le, sym, ap, ap₂, ◌∙◌, refl, subst, inl, inr}
 use Rattle.rational.specs.Rational.{ℚ, ◌≤ℚ◌, ◌<ℚ◌, int}
 use Rattle.rational.proofs.Laws.{le_or_lt, lt_irrefl, lt_le_trans, le_lt_trans}
@@ -41,7 +41,8 @@ head_of p q ps qs e = cc
 none_of : (p : Piece) (ps : List Piece) → [] ≡ p ∷ ps → ⊥
 none_of p ps e = cc
 
-pub front_stop : (ps : List Piece) (end : ℚ) (i : ℕ) (front : List Piece) (p : Piece) → FrontLoop ps end i front → i < length ps → p ≡ get_or ps i p → end ≤ℚ p.x → IsFrontBefore ps end front
+pub front_stop : (ps : List Piece) (end : ℚ) (i : ℕ) (front : List Piece) (p : Piece) → FrontLoop ps end i front → i < length ps → p ≡ get_or ps i p → end ≤ℚ p.x
+    → IsFrontBefore ps end front
 front_stop ps end i front p L h e late = record {
   before = L.before;
   rest = drop i ps;

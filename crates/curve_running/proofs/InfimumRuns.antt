@@ -1,14 +1,13 @@
 -- The running infimum of a curve: from its scan in the window to every time.
-use Rattle.std.specs.Prelude.{◌≡◌, ℕ, false, ◌+◌, ◌*◌, ◌<◌, ◌≤◌, ◌^◌, pos, List, None}
-use Rattle.std.proofs.Common.{arith, sym, ap, ◌∙◌, refl, subst, inl, inr}
-use Rattle.rational.specs.Rational.{ℚ, ◌+ℚ◌, ◌-ℚ◌, ◌*ℚ◌, ◌≤ℚ◌, ◌<ℚ◌, int}
+use Rattle.std.specs.Prelude.{◌≡◌, false, pos, List, None}
+use Rattle.std.proofs.Common.{arith, sym, ap, ◌∙◌, subst}
+use Rattle.rational.specs.Rational.{ℚ, ◌+ℚ◌, ◌*ℚ◌, ◌≤ℚ◌, ◌<ℚ◌, int}
 use Rattle.rational.specs.Grid.{Whole, Within}
 use Rattle.rational.specs.Extended.{Ext}
-use Rattle.rational.specs.declared.Extended.TheVariants.{Fin, Inf}
 use Rattle.rational.proofs.Grid.{within_weaken}
 use Rattle.rational.proofs.Integers.{nat_le, nat_nonneg}
-use Rattle.rational.proofs.Laws.{le_refl, le_of_lt, le_trans, lt_le_trans, le_lt_trans, mul_le_mul_right}
-use Rattle.rational.proofs.Linear.{with2, with3}
+use Rattle.rational.proofs.Laws.{le_of_lt, le_trans, lt_le_trans, mul_le_mul_right}
+use Rattle.rational.proofs.Linear.{with2}
 use Rattle.rational.proofs.Bounds.{same_infimum}
 use Rattle.rational.proofs.ExtendedOrder.{same_le_ext}
 use Rattle.affine_segment.specs.declared.line.Piece.{Piece}
@@ -20,7 +19,7 @@ use Rattle.upp_curve.specs.Normal.{Each, StartsAtZero}
 use Rattle.upp_curve.specs.Normalising.{HasValues}
 use Rattle.upp_curve.specs.Room.{PieceHasRoom}
 use Rattle.upp_curve.specs.Running.{IsRunningInfimum}
-use Rattle.upp_curve.specs.Steady.{Repeats, steady, rise_over}
+use Rattle.upp_curve.specs.Steady.{Repeats, rise_over}
 use Rattle.upp_curve.specs.Periods.{own_period, periods_after}
 use Rattle.upp_curve.specs.Limits.{Sizes}
 use Rattle.upp_curve.specs.Sized.{grid_of, times_largest}
@@ -55,7 +54,8 @@ first_some f r h =
     let d = r.period in
     with2 s d (λ c. omega (arith, c.le, c.lt, c.same))
 
-pub inf_answer : (f : SpecCurve) (r : Frame) (to rise : ℚ) (ps qs front : List Piece) → IsFrame RunInf f f 0 0 r → to ≡ r.start +ℚ r.period → rise ≡ rise_over f r.period → ps ≡ unroll f r.end
+pub inf_answer : (f : SpecCurve) (r : Frame) (to rise : ℚ) (ps qs front : List Piece) → IsFrame RunInf f f 0 0 r → to ≡ r.start +ℚ r.period → rise ≡ rise_over f r.period
+    → ps ≡ unroll f r.end
     → IsInfimumScan ps r.end qs → IsFrontBefore qs to front → IsAnswer front r.start r.period rise r.times r.values
 inf_answer f r to rise ps qs front h e g u S K = record {
   sizes = z;
@@ -75,7 +75,8 @@ inf_answer f r to rise ps qs front h e g u S K = record {
   rise_within = subst (Within (times_largest 8 z)) (sym g) (within_weaken (times_largest 3 z) (times_largest 8 z) (rise_over f r.period) more R.within);
   grids = bends_on false z.dt z.ds (grid_of z) front r.start r.period rise (grids_nested z) starts record { nonneg = F.low; some = F.some; starts = before }
       (kept_bends false z.dt z.ds (grid_of z) qs to front K
-      (only_bend false z r.end (unroll f r.end) qs F.limited O.each (subst (λ p. Each (IsMade r.end p) qs) u S.scan.made) (subst (λ p. TurnsAfter false p None qs) u S.scan.turns)))
+      (only_bend false z r.end (unroll f r.end) qs F.limited O.each (subst (λ p. Each (IsMade r.end p) qs) u S.scan.made)
+      (subst (λ p. TurnsAfter false p None qs) u S.scan.turns)))
       F.start_whole F.period_whole rise_whole;
 }
   where
@@ -109,9 +110,11 @@ inf_answer f r to rise ps qs front h e g u S K = record {
 -- ---- the value
 same_until : (f g : ℚ → Ext) (end t : ℚ) (v : Ext) → ((s : ℚ) → t ≤ℚ s → s <ℚ end → f s ≡ g s) → IsInfimumUntil g end t v → IsInfimumUntil f end t v
 same_until f g end t v same h =
-    same_infimum {I = Until t end} {J = Until t end} (λ s. g s.at) (λ s. f s.at) v (λ s. (s, same_le_ext (same s.at s.least s.early))) (λ s. (s, same_le_ext (sym (same s.at s.least s.early)))) h
+    same_infimum {I = Until t end} {J = Until t end} (λ s. g s.at) (λ s. f s.at) v (λ s. (s, same_le_ext (same s.at s.least s.early)))
+    (λ s. (s, same_le_ext (sym (same s.at s.least s.early)))) h
 
-pub inf_value : (f : SpecCurve) (r : Frame) (to rise : ℚ) (ps qs front : List Piece) (c : SpecCurve) → IsFinite (value_at f) → IsNonnegative (value_at f) → IsFrame RunInf f f 0 0 r
+pub inf_value : (f : SpecCurve) (r : Frame) (to rise : ℚ) (ps qs front : List Piece) (c : SpecCurve) → IsFinite (value_at f) → IsNonnegative (value_at f)
+    → IsFrame RunInf f f 0 0 r
     → to ≡ r.start +ℚ r.period → rise ≡ rise_over f r.period → ps ≡ unroll f r.end → IsInfimumScan ps r.end qs → IsFrontBefore qs to front
     → HasValues c (repeated (read front) r.start r.period rise) → RunsFrom f c
 inf_value f r to rise ps qs front c finite nonneg h e g u S K V =

@@ -1,15 +1,13 @@
 -- What the limits of a call for a running bound give: sizes that hold the curve's numbers, its pieces in the window, and how it repeats.
-use Rattle.std.specs.Prelude.{◌≡◌, ℕ, ◌+◌, ◌<◌, ◌≤◌, ◌^◌, pos, List, [], ◌∷◌, Option, Some}
-use Rattle.std.proofs.Common.{arith, sym, ap, ◌∙◌, refl, subst, inl, inr}
-use Rattle.rational.specs.Rational.{ℚ, ◌+ℚ◌, ◌-ℚ◌, ◌*ℚ◌, neg_ℚ, ◌≤ℚ◌, ◌<ℚ◌, int}
+use Rattle.std.specs.Prelude.{◌≡◌, ℕ, ◌<◌, ◌^◌, List, [], ◌∷◌, Some}
+use Rattle.std.proofs.Common.{arith, sym, ◌∙◌, refl, subst}
+use Rattle.rational.specs.Rational.{ℚ, ◌+ℚ◌, neg_ℚ, ◌≤ℚ◌, ◌<ℚ◌}
 use Rattle.rational.specs.Ratio.{SumFits}
-use Rattle.rational.specs.Grid.{Whole, Within}
-use Rattle.rational.specs.Extended.{Ext, ◌≤ₑ◌}
-use Rattle.rational.specs.declared.Extended.TheVariants.{Fin, Inf}
+use Rattle.rational.specs.Grid.{Whole}
+use Rattle.rational.specs.declared.Extended.TheVariants.{Inf}
 use Rattle.rational.proofs.Grid.{whole_neg, within_neg}
-use Rattle.rational.proofs.Laws.{le_refl, le_of_lt, le_trans, lt_le_trans, le_lt_trans}
-use Rattle.rational.proofs.Linear.{with2, with3}
-use Rattle.rational.proofs.ExtendedOrder.{same_le_ext}
+use Rattle.rational.proofs.Laws.{le_refl, le_of_lt, le_trans}
+use Rattle.rational.proofs.Linear.{with3}
 use Rattle.affine_segment.specs.declared.line.Piece.{Piece}
 use Rattle.upp_curve.specs.declared.op_kind.OpKind.TheVariants.{RunSup, RunInf}
 use Rattle.upp_curve.specs.Reading.{read, piece_in, piece_value}
@@ -29,7 +27,7 @@ use Rattle.upp_curve.specs.Unrolling.{IsOperandTo}
 use Rattle.upp_curve.specs.Windows.{window_at}
 use Rattle.upp_curve.proofs.AnswerRoom.{wide_narrow}
 use Rattle.upp_curve.proofs.Below.{unroll_reads}
-use Rattle.upp_curve.proofs.Finite.{ListFinite, pieces_finite, number_of}
+use Rattle.upp_curve.proofs.Finite.{pieces_finite, number_of}
 use Rattle.upp_curve.proofs.GaugeRises.{limited_over}
 use Rattle.upp_curve.proofs.NarrowSizes.{small_sum}
 use Rattle.upp_curve.proofs.Stands.{sizes_stand}
@@ -94,7 +92,8 @@ inf_facts f r h =
     }
 
 -- the same without any period, where only the gauge is known
-pub window_facts : (f : SpecCurve) (w : CallWindow) → IsCurve f → IsCallWindow RunSup f f 0 0 w → gauge_at RunSup f f 0 0 < 2 ^ 120 → RunFacts f w.start w.period w.end (sizes_at RunSup f f 0 0)
+pub window_facts : (f : SpecCurve) (w : CallWindow) → IsCurve f → IsCallWindow RunSup f f 0 0 w → gauge_at RunSup f f 0 0 < 2 ^ 120
+    → RunFacts f w.start w.period w.end (sizes_at RunSup f f 0 0)
 window_facts f w is h gauge =
     subst (λ e. RunFacts f w.start w.period e z) (sym h.end)
     (subst (λ s. RunFacts f s w.period end z) (sym h.start) (subst (λ p. RunFacts f (steady f) p end z) (sym h.period) here))
@@ -141,7 +140,8 @@ sum_fits f start period end z F =
     let c = F.both in
     let S = F.limited.sizes in
     small_sum z end 1 1 start period S (wide_narrow z end F.limited) (omega arith) (time_whole z start F.start_whole) (time_whole z period F.period_whole)
-    (time_within z end start S a (with3 start period end (λ q. omega (arith, q.le, q.lt, q.same)))) (time_within z end period S (le_of_lt b) (with3 start period end (λ q. omega (arith, q.le, q.lt, q.same))))
+    (time_within z end start S a (with3 start period end (λ q. omega (arith, q.le, q.lt, q.same))))
+    (time_within z end period S (le_of_lt b) (with3 start period end (λ q. omega (arith, q.le, q.lt, q.same))))
 
 pub difference_fits : (f : SpecCurve) (start period end : ℚ) (z : Sizes) → RunFacts f start period end z → SumFits end (neg_ℚ period)
 difference_fits f start period end z F =
@@ -149,8 +149,10 @@ difference_fits f start period end z F =
     let b = F.some in
     let c = F.both in
     let S = F.limited.sizes in
-    small_sum z end 1 1 end (neg_ℚ period) S (wide_narrow z end F.limited) (omega arith) (time_whole z end S.window) (whole_neg (grid_of z) period (time_whole z period F.period_whole))
-    (time_within z end end S F.limited.some (le_refl end)) (within_neg (times_largest 1 z) period (time_within z end period S (le_of_lt b) (with3 start period end (λ q. omega (arith, q.le, q.lt, q.same)))))
+    small_sum z end 1 1 end (neg_ℚ period) S (wide_narrow z end F.limited) (omega arith) (time_whole z end S.window)
+    (whole_neg (grid_of z) period (time_whole z period F.period_whole))
+    (time_within z end end S F.limited.some (le_refl end)) (within_neg (times_largest 1 z) period
+    (time_within z end period S (le_of_lt b) (with3 start period end (λ q. omega (arith, q.le, q.lt, q.same)))))
 
 -- ---- the pieces in the window
 pub operand_to : (f : SpecCurve) (start period end : ℚ) (z : Sizes) → RunFacts f start period end z → IsOperandTo end f
@@ -196,14 +198,17 @@ run_rise f start period end z F =
 
 pub run_repeats : (f : SpecCurve) (start period end : ℚ) (z : Sizes) → RunFacts f start period end z → Repeats (value_at f) start period (rise_over f period)
 run_repeats f start period end z F =
-    subst (λ s. Repeats (value_at f) s period (rise_over f period)) (sym F.start_is) (steady_rule f period F.curve.normal.raw (whole_periods f start period end z F) (le_of_lt F.some))
+    subst (λ s. Repeats (value_at f) s period (rise_over f period)) (sym F.start_is)
+    (steady_rule f period F.curve.normal.raw (whole_periods f start period end z F) (le_of_lt F.some))
 
-pub run_low : (f : SpecCurve) (start period end : ℚ) (z : Sizes) → RunFacts f start period end z → IsFinite (value_at f) → IsNonnegative (value_at f) → zero_q ≤ℚ rise_over f period
+pub run_low : (f : SpecCurve) (start period end : ℚ) (z : Sizes) → RunFacts f start period end z → IsFinite (value_at f) → IsNonnegative (value_at f)
+    → zero_q ≤ℚ rise_over f period
 run_low f start period end z F finite nonneg =
     let (level, e) = finite start F.low in
     no_fall (value_at f) start period (rise_over f period) level F.low F.some (run_repeats f start period end z F) e nonneg
 
-pub run_call : (f : SpecCurve) (start period rise end : ℚ) (z : Sizes) → RunFacts f start period end z → IsFinite (value_at f) → IsNonnegative (value_at f) → rise ≡ rise_over f period
+pub run_call : (f : SpecCurve) (start period rise end : ℚ) (z : Sizes) → RunFacts f start period end z → IsFinite (value_at f) → IsNonnegative (value_at f)
+    → rise ≡ rise_over f period
     → IsSupremumCall f start period rise
 run_call f start period rise end z F finite nonneg e = record {
   curve = F.curve;

@@ -1,16 +1,15 @@
 -- The running supremum of a curve: from its scan in the window to every time.
-use Rattle.std.specs.Prelude.{◌≡◌, ℕ, suc, true, ◌+◌, ◌*◌, ◌<◌, ◌≤◌, ◌^◌, pos, List, ◌⊎◌, Result, Ok, Err, IfOk, IfErr, IfSome, Option, Some, None}
-use Rattle.std.proofs.Common.{arith, sym, ap, ◌∙◌, refl, subst, inl, inr}
-use native.Mathlib.Nat.{dvd-mul_right, mul_assoc}
+use Rattle.std.specs.Prelude.{◌≡◌, ℕ, suc, true, ◌+◌, ◌*◌, pos, List, None}
+use Rattle.std.proofs.Common.{arith, sym, ap, ◌∙◌, subst, inl, inr}
+use native.Mathlib.Nat.{dvd-mul_right}
 use Prim.Native.Nat.{◌∣◌}
 use Rattle.rational.specs.Rational.{ℚ, ◌+ℚ◌, ◌-ℚ◌, ◌*ℚ◌, ◌≤ℚ◌, ◌<ℚ◌, int}
 use Rattle.rational.specs.Grid.{Whole, Within}
-use Rattle.rational.specs.Extended.{Ext, ◌≤ₑ◌, ◌+ₑ◌}
-use Rattle.rational.specs.Bounds.{IsSupremum}
-use Rattle.rational.specs.declared.Extended.TheVariants.{Fin, Inf}
+use Rattle.rational.specs.Extended.{Ext, ◌+ₑ◌}
+use Rattle.rational.specs.declared.Extended.TheVariants.{Fin}
 use Rattle.rational.proofs.Grid.{whole_sub, within_weaken}
 use Rattle.rational.proofs.Integers.{nat_le, nat_nonneg}
-use Rattle.rational.proofs.Laws.{le_refl, le_of_lt, le_trans, lt_le_trans, le_lt_trans, mul_le_mul_right, zero_mul}
+use Rattle.rational.proofs.Laws.{le_refl, le_of_lt, le_trans, le_lt_trans, mul_le_mul_right, zero_mul}
 use Rattle.rational.proofs.Linear.{with2, with3, with4, with5}
 use Rattle.rational.proofs.Whole.{one_more_times}
 use Rattle.rational.proofs.Bounds.{same_supremum}
@@ -20,7 +19,7 @@ use Rattle.upp_curve.specs.declared.op_kind.OpKind.TheVariants.{RunSup}
 use Rattle.upp_curve.specs.Reading.{read}
 use Rattle.upp_curve.specs.Curve.{SpecCurve, value_at, repeated}
 use Rattle.upp_curve.specs.Functions.{zero_q, UpTo, IsFinite, IsNonnegative}
-use Rattle.upp_curve.specs.Normal.{Each, FitsPeriod}
+use Rattle.upp_curve.specs.Normal.{Each}
 use Rattle.upp_curve.specs.Normalising.{HasValues}
 use Rattle.upp_curve.specs.Running.{IsRunningSupremum}
 use Rattle.upp_curve.specs.Steady.{Repeats, steady, rise_over}
@@ -117,7 +116,8 @@ sup_answer f k r from rise ps qs h e g u S = record {
   rise_whole = rise_whole;
   rise_within = subst (Within (times_largest 8 z)) (sym g) (within_weaken (times_largest 3 z) (times_largest 8 z) (rise_over f r.period) more R.within);
   grids = bends_on true z.dt z.ds (grid_of z) qs from r.period rise (grids_nested z) S.scan.starts record { nonneg = A.low; some = F.some; starts = before }
-      (only_bend true z r.end (unroll f r.end) qs F.limited O.each (subst (λ p. Each (IsMade r.end p) qs) u S.scan.made) (subst (λ p. TurnsAfter true p None qs) u S.scan.turns)) from_whole F.period_whole rise_whole;
+      (only_bend true z r.end (unroll f r.end) qs F.limited O.each (subst (λ p. Each (IsMade r.end p) qs) u S.scan.made)
+      (subst (λ p. TurnsAfter true p None qs) u S.scan.turns)) from_whole F.period_whole rise_whole;
 }
   where
     z : Sizes
@@ -153,7 +153,8 @@ sup_answer f k r from rise ps qs h e g u S = record {
 -- ---- the value
 same_up_to : (f g : ℚ → Ext) (t : ℚ) (v : Ext) → ((s : ℚ) → zero_q ≤ℚ s → s ≤ℚ t → f s ≡ g s) → IsRunningSupremum g t v → IsRunningSupremum f t v
 same_up_to f g t v same h =
-    same_supremum {I = UpTo t} {J = UpTo t} (λ s. g s.at) (λ s. f s.at) v (λ s. (s, same_le_ext (sym (same s.at s.nonneg s.most)))) (λ s. (s, same_le_ext (same s.at s.nonneg s.most))) h
+    same_supremum {I = UpTo t} {J = UpTo t} (λ s. g s.at) (λ s. f s.at) v (λ s. (s, same_le_ext (sym (same s.at s.nonneg s.most))))
+    (λ s. (s, same_le_ext (same s.at s.nonneg s.most))) h
 
 shifts : (f : SpecCurve) (start d c : ℚ) (k : ℕ) (t : ℚ) (v : Ext) → zero_q ≤ℚ start → zero_q <ℚ d → zero_q ≤ℚ c → Repeats (value_at f) start d c → IsCoveredAfter f start d c k
     → start +ℚ d ≤ℚ t → periods_after start k d +ℚ d ≤ℚ t → IsRunningSupremum (value_at f) t v → IsRunningSupremum (value_at f) (t +ℚ d) (v +ₑ Fin c)
@@ -162,8 +163,10 @@ shifts f start d c k t v low some rise F (inr (inl none)) first late h = supremu
 shifts f start d c k t v low some rise F (inr (inr (w, W, covered))) first late h =
     supremum_repeats (value_at f) start d c (periods_after start k d) t w v low (le_of_lt some) rise F (later_start start d k some) late W covered h
 
-pub sup_value : (f : SpecCurve) (k : ℕ) (r : Frame) (from rise : ℚ) (ps qs : List Piece) (c : SpecCurve) → IsFinite (value_at f) → IsNonnegative (value_at f) → IsNumberOf f k → IsFrame RunSup f f k 0 r
-    → from ≡ r.end -ℚ r.period → rise ≡ rise_over f r.period → ps ≡ unroll f r.end → IsSupremumScan ps r.end qs → HasValues c (repeated (read qs) from r.period rise) → RunsUpTo f c
+pub sup_value : (f : SpecCurve) (k : ℕ) (r : Frame) (from rise : ℚ) (ps qs : List Piece) (c : SpecCurve) → IsFinite (value_at f) → IsNonnegative (value_at f)
+    → IsNumberOf f k → IsFrame RunSup f f k 0 r
+    → from ≡ r.end -ℚ r.period → rise ≡ rise_over f r.period → ps ≡ unroll f r.end → IsSupremumScan ps r.end qs → HasValues c (repeated (read qs) from r.period rise)
+    → RunsUpTo f c
 sup_value f k r from rise ps qs c finite nonneg N h e g u S V =
     answer_relation (λ t v. IsRunningSupremum (value_at f) t v) c (read qs) from r.period rise V A.low F.some
     (λ t low early. same_up_to (value_at f) (read ps) t (read qs t) (λ s l m. sym (reads s l (le_lt_trans m (before t early)))) (S.reads t low (before t early)))

@@ -1,8 +1,6 @@
 //! The running infimum of a curve.
 
 ghost use Rattle.std.specs.Prelude.{◌≡◌, ◌+◌, IfOk};
-ghost use Rattle.rational.specs.Rational.{◌+ℚ◌};
-ghost use Rattle.rational.specs.Ratio.{SumFits};
 ghost use Rattle.upp_curve.specs.declared.op_kind.OpKind.TheVariants.{RunInf};
 ghost use Rattle.upp_curve.specs.Curve.{value_at};
 ghost use Rattle.upp_curve.specs.Functions.{IsFinite, IsNonnegative};
@@ -11,6 +9,7 @@ ghost use Rattle.curve_frame.specs.Frames.{IsFrame};
 ghost use Rattle.curve_running.specs.Runs.{RunsFrom, IsFrontBefore};
 
 use crate::infimum::infimum_scan;
+use crate::periods::fitting_sum;
 use affine_segment::Piece;
 use curve_frame::{Frame, answer, rise_over, within};
 use fraction128::Frac;
@@ -19,17 +18,6 @@ use std::cmp::Ordering;
 use std::sync::ledger::Ledger;
 use steps::Steps;
 use upp_curve::{Curve, OpFault, OpKind};
-
-// A sum whose steps fit.
-fn fitting_sum(a: Frac, b: Frac) -> Frac
-    requires { SumFits a b }
-    ensures { result ≡ a +ℚ b }
-{
-    match Frac::add(a, b) {
-        Ok(sum) => sum,
-        Err(_) => a,
-    }
-}
 
 // The pieces up to the first that starts at `end` or later.
 fn front_before(alloc: Global, pieces: &[Piece], end: Frac) -> Result<Vec<Piece>, AllocError>
@@ -83,9 +71,9 @@ fn infimum_of(alloc: Global, f: &Curve) -> Result<Curve, OpFault>
     }
 }
 
-/// The infimum of a curve over all times from each time on, for a curve that is finite and nowhere below 0 (Le Boudec and
-/// Thiran, chapter 3). A limit that the curve does not take counts. One step is counted. Refused with TooWide or TooMany exactly
-/// where the call's gauge or tally is over that limit, else only for want of memory.
+/// The infimum of a curve over all times from each time on, for a curve that is finite and nowhere below 0 (Le
+/// Boudec and Thiran, chapter 3). A limit that the curve does not take counts. One step is counted. Refused with
+/// TooWide or TooMany exactly where the call's gauge or tally is over that limit, else only for want of memory.
 pub fn run_inf<L: Ledger>(alloc: Global, f: &Curve, steps: &mut Steps<L>) -> Result<Curve, OpFault>
     requires finite { IsFinite (value_at f.now) }
     requires nonneg { IsNonnegative (value_at f.now) }

@@ -44,7 +44,8 @@ rise_over-rise-requires c =
 
 pub answer-requires : goal.answer-requires
 answer-requires c =
-    inf_answer c.args.f.now c.args.frame.now c.fitting_sum.result c.rise_over-rise.result c.deref.result.now c.in_ok-scanned.scanned.items c.in_ok-front.front.items c.requires.frame
+    inf_answer c.args.f.now c.args.frame.now c.fitting_sum.result c.rise_over-rise.result c.deref.result.now c.in_ok-scanned.scanned.items c.in_ok-front.front.items
+    c.requires.frame
     c.fitting_sum.ensures c.rise_over-rise.ensures (c.deref.ensures.value ∙ c.in_ok-pieces.ensures) c.in_ok-scanned.ensures
     (subst (λ q. IsFrontBefore q c.fitting_sum.result c.in_ok-front.front.items) c.deref-2.ensures.value c.in_ok-front.ensures)
 
@@ -57,5 +58,7 @@ returns c =
     let rise = c.rise_over-rise.result in
     ok_map c.answer.result (λ a. HasValues a (repeated (read front) r.start r.period rise)) (RunsFrom f)
     (λ a v.
-    inf_value f r to rise c.deref.result.now c.in_ok-scanned.scanned.items front a c.requires.finite c.requires.nonneg c.requires.frame c.fitting_sum.ensures c.rise_over-rise.ensures
-    (c.deref.ensures.value ∙ c.in_ok-pieces.ensures) c.in_ok-scanned.ensures (subst (λ q. IsFrontBefore q to front) c.deref-2.ensures.value c.in_ok-front.ensures) v) c.answer.ensures
+    inf_value f r to rise c.deref.result.now c.in_ok-scanned.scanned.items front a c.requires.finite c.requires.nonneg c.requires.frame c.fitting_sum.ensures
+    c.rise_over-rise.ensures
+    (c.deref.ensures.value ∙ c.in_ok-pieces.ensures) c.in_ok-scanned.ensures (subst (λ q. IsFrontBefore q to front) c.deref-2.ensures.value c.in_ok-front.ensures) v)
+    c.answer.ensures

@@ -1,5 +1,5 @@
 use Rattle.std.proofs.Common.{sym, subst}
-use Rattle.rational.specs.Rational.{◌≤ℚ◌, ◌<ℚ◌, ◌+ℚ◌, ℚ}
+use Rattle.rational.specs.Rational.{◌≤ℚ◌, ◌<ℚ◌}
 use Rattle.rational.specs.declared.Extended.TheVariants.{Fin}
 use Rattle.rational.proofs.Laws.{le_refl, le_of_lt}
 use Rattle.upp_curve.specs.Functions.{zero_q}
@@ -31,7 +31,8 @@ cover-requires-clause-fits c =
     let ps = c.args.ps.now in
     let s = c.args.start in
     c.requires.cover early once
-    (subst (λ e. IsLevelBetween e zero_q s ps early) c.fitting_sum-reach.ensures (subst (λ z. IsLevelBetween c.fitting_sum-reach.result z s ps early) c.zero.ensures c.supremum_between-early.ensures.level))
+    (subst (λ e. IsLevelBetween e zero_q s ps early) c.fitting_sum-reach.ensures
+    (subst (λ z. IsLevelBetween c.fitting_sum-reach.result z s ps early) c.zero.ensures c.supremum_between-early.ensures.level))
     (subst (λ e. IsLevelBetween e s e ps once) c.fitting_sum-reach.ensures c.supremum_between-once.ensures.level)
 
 pub returns : goal.returns
@@ -39,6 +40,7 @@ returns c = record {
   early = c.supremum_between-early.result;
   once = c.supremum_between-once.result;
   before = subst (λ z. IsSupremumIn (read c.args.ps.now) z c.args.start (Fin c.supremum_between-early.result)) c.zero.ensures c.supremum_between-early.ensures.supremum;
-  within = subst (λ e. IsSupremumIn (read c.args.ps.now) c.args.start e (Fin c.supremum_between-once.result)) c.fitting_sum-reach.ensures c.supremum_between-once.ensures.supremum;
+  within = subst (λ e. IsSupremumIn (read c.args.ps.now) c.args.start e (Fin c.supremum_between-once.result)) c.fitting_sum-reach.ensures
+      c.supremum_between-once.ensures.supremum;
   cover = c.cover.ensures;
 }

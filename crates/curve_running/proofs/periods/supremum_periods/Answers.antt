@@ -1,4 +1,4 @@
-use Rattle.std.proofs.Common.{sym, subst}
+use Rattle.std.proofs.Common.{subst}
 use Rattle.rational.specs.Rational.{◌≤ℚ◌, ◌<ℚ◌}
 use Rattle.affine_segment.proofs.Compared.{is_less, not_less}
 use Rattle.curve_running.proofs.SupremumCalls.{first_period, found_number, flat_number, early_number}

@@ -57,5 +57,6 @@ returns c =
     let rise = c.rise_over-rise.result in
     ok_map c.answer.result (λ a. HasValues a (repeated (read qs) from r.period rise)) (RunsUpTo f)
     (λ a v.
-    sup_value f c.args.k r from rise c.deref.result.now qs a c.requires.finite c.requires.nonneg c.requires.number c.requires.frame c.fitting_difference-from.ensures c.rise_over-rise.ensures
+    sup_value f c.args.k r from rise c.deref.result.now qs a c.requires.finite c.requires.nonneg c.requires.number c.requires.frame c.fitting_difference-from.ensures
+    c.rise_over-rise.ensures
     (c.deref.ensures.value ∙ c.in_ok-pieces.ensures) c.in_ok-scanned.ensures v) c.answer.ensures
