@@ -1,5 +1,5 @@
-//! The curves that a network's file names: a token bucket, a stair of packets, a rate after a latency, a gate, and pieces
-//! that are listed one by one.
+//! The curves that a network's file names: a token bucket, a stair of packets, a rate after a latency, a gate, and
+//! pieces that are listed one by one.
 #![tactic(auto)]
 
 mod buckets;

@@ -5,7 +5,9 @@ ghost use Rattle.std.specs.List.{AllByRecursion};
 ghost use Rattle.upp_curve.specs.Curve.{SpecCurve, value_at};
 ghost use Rattle.upp_curve.specs.Functions.{zero_q, IsRising};
 ghost use Rattle.upp_curve.specs.Normal.{IsRaw, StartsAtZero};
-ghost use Rattle.curve_library.specs.Listed.{text_line, text_pieces, text_tail, last_start, listed_curve, TextFits, IsPiecesFault, IsWellFormed, HasShape, KeepsMade, KeepsShape, KeepsBoth, KeepsListed, ListsFirst};
+ghost use Rattle.curve_library.specs.Listed.{text_line, text_pieces, text_tail, last_start, listed_curve};
+ghost use Rattle.curve_library.specs.Listed.{TextFits, IsPiecesFault, IsWellFormed, KeepsMade, KeepsShape};
+ghost use Rattle.curve_library.specs.Listed.{KeepsBoth, KeepsListed, ListsFirst};
 ghost use Rattle.curve_library.specs.declared.texts.UseAs.TheVariants.{Service};
 
 use crate::fault::CurveFault;
@@ -197,13 +199,14 @@ fn tested_list(
     well_formed(alloc, texts, tail, use_as)
 }
 
-/// The curve of listed pieces: at each start its value, after it the line from the value just after it, up to the next
-/// start; without a tail the last line goes on for ever. Refused with Negative exactly where a start, a value, the rank or the
-/// rise is below 0; past that with ZeroPeriod where the period is not above 0; past that with NotRising where there is no
-/// piece, the first does not start at 0, starts do not rise or one is not below rank + period; past that with TooWide or
-/// TooMany where the curve as it is listed is over that limit by itself; past that with NotRising where it falls somewhere,
-/// and for a service curve with NotContinuous where it jumps, and NotZeroAtStart where it is not 0 at 0. The pieces are
-/// copied before the limits are looked at, so that want of memory may come in place of what follows.
+/// The curve of listed pieces: at each start its value, after it the line from the value just after it, up to the
+/// next start; without a tail the last line goes on for ever. Refused with Negative exactly where a start, a value,
+/// the rank or the rise is below 0; past that with ZeroPeriod where the period is not above 0; past that with
+/// NotRising where there is no piece, the first does not start at 0, starts do not rise or one is not below rank +
+/// period; past that with TooWide or TooMany where the curve as it is listed is over that limit by itself; past
+/// that with NotRising where it falls somewhere, and for a service curve with NotContinuous where it jumps, and
+/// NotZeroAtStart where it is not 0 at 0. The pieces are copied before the limits are looked at, so that want of
+/// memory may come in place of what follows.
 pub fn listed(
     alloc: Global,
     pieces: &[PieceText],

@@ -1,4 +1,5 @@
-//! Values worked out by hand, which refusal comes first, and curves whose own numbers fit though a step to them does not.
+//! Values worked out by hand, which refusal comes first, and curves whose own numbers fit though a step to them
+//! does not.
 
 use crate::signs::is_negative;
 use crate::{
