@@ -5,7 +5,6 @@ use Rattle.rational.specs.Rational.{ℚ, ◌≤ℚ◌, ◌<ℚ◌, int}
 use Rattle.rational.specs.Extended.{Ext, ◌<ₑ◌}
 use Rattle.rational.specs.declared.Extended.TheVariants.{Fin, Inf}
 use Rattle.rational.proofs.Laws.{le_or_lt, le_of_lt, le_refl, le_trans, lt_irrefl, le_lt_trans, antisym}
-use Rattle.rational.proofs.MinMax.{le_q_not}
 use Rattle.rational.proofs.Over.{le_q_out}
 use Rattle.rational.proofs.ExtendedOrder.{fin_same, lt_ext_trans}
 use Rattle.affine_segment.specs.declared.line.Line.{Line}
@@ -16,6 +15,7 @@ use Rattle.affine_segment.specs.Values.{line_value}
 use Rattle.affine_segment.specs.Elements.{IsProper, Covers, level}
 use Rattle.upp_curve.specs.Reading.{piece_value, read}
 use Rattle.upp_curve.specs.Normal.{RisesFrom, StartsAtZero}
+use Rattle.upp_curve.proofs.FirstStretch.{value_past}
 use Rattle.upp_curve.proofs.PieceIn.{piece_in_stop, piece_in_go, piece_in_end}
 use Rattle.curve_conv.specs.PieceElements.{point_of, segment_of, elements_of, StartBefore, Among, ElementAt}
 use Rattle.curve_conv.specs.ConvolutionLaws.{ElementsCover}
@@ -47,14 +47,10 @@ head_line x at line l next e = subst (λ z. Among (Open x next l) (head x at z n
     go Inf = inl refl
     go (Fin v) = inr (inl refl)
 
--- read at its start, and after it
+-- read at its start
 pub value_here : (p : Piece) (t : ℚ) → t ≤ℚ p.x → piece_value p t ≡ p.at
 unfolding piece_value
 value_here p t h = ap (λ b. cond b p.at (line_value p.line t)) (le_q_out t p.x h)
-
-pub value_past : (p : Piece) (t : ℚ) → p.x <ℚ t → piece_value p t ≡ line_value p.line t
-unfolding piece_value
-value_past p t h = ap (λ b. cond b p.at (line_value p.line t)) (le_q_not t p.x h)
 
 -- where an element is, and what is read there
 record Found (e : Element) (x t : ℚ) (next : Ext) (value : Ext) : Type 0 where

@@ -36,7 +36,7 @@ many_more : (z : Sizes) (k j : ℕ) → times_largest k z +ℚ times_largest j z
 many_more z k j = sym (add_mul (int (pos k)) (int (pos j)) (int (pos z.largest))) ∙ ap (λ x. x *ℚ int (pos z.largest)) (int_add (pos k) (pos j))
 
 -- sums on the grid of sums
-sum_within : (z : Sizes) (k j : ℕ) (p q : ℚ) → Within (times_largest k z) p → Within (times_largest j z) q → Within (times_largest (k + j) z) (p +ℚ q)
+pub sum_within : (z : Sizes) (k j : ℕ) (p q : ℚ) → Within (times_largest k z) p → Within (times_largest j z) q → Within (times_largest (k + j) z) (p +ℚ q)
 sum_within z k j p q h g = subst (λ m. Within m (p +ℚ q)) (many_more z k j) (within_add (times_largest k z) (times_largest j z) p q h g)
 
 gap_within : (z : Sizes) (k j : ℕ) (p q : ℚ) → Within (times_largest k z) p → Within (times_largest j z) q → Within (times_largest (k + j) z) (p -ℚ q)

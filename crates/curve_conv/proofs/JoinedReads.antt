@@ -18,8 +18,9 @@ use Rattle.affine_segment.specs.Elements.{start_of, joined_value, AreAdjoined}
 use Rattle.affine_segment.proofs.ElementReading.{joined_read}
 use Rattle.upp_curve.specs.Reading.{piece_value, read}
 use Rattle.upp_curve.specs.Normal.{RisesFrom, StartsAtZero}
+use Rattle.upp_curve.proofs.FirstStretch.{value_past}
 use Rattle.curve_conv.specs.JoinedWindows.{nothing_at, after_end, part_pieces, joined_list, lead_of, window_of, IsWindowOf}
-use Rattle.curve_conv.proofs.Cover.{value_here, value_past, read_one, read_stop, read_go}
+use Rattle.curve_conv.proofs.Cover.{value_here, read_one, read_stop, read_go}
 
 -- ---- pieces that end
 nothing_read : (x t : ℚ) → piece_value (nothing_at x) t ≡ Inf

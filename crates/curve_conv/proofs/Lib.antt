@@ -5,3 +5,4 @@ pub mod Windows
 pub mod ElementSizes
 pub mod OperandElements
 pub mod JoinedReads
+pub mod SumSteps

@@ -4,3 +4,5 @@ pub mod ConvolutionLaws
 pub mod ElementRoom
 pub mod RoomLaws
 pub mod JoinedWindows
+pub mod SumWindows
+pub mod WindowLaws

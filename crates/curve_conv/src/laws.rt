@@ -2,6 +2,7 @@
 
 ghost use Rattle.curve_conv.specs.ConvolutionLaws.{PiecesAreCovered, EnvelopeRules};
 ghost use Rattle.curve_conv.specs.ConvolutionLaws.{PairsConvolveWindows, PairsConvolveCurves};
+ghost use Rattle.curve_conv.specs.WindowLaws.{SumCutsFit};
 ghost use Rattle.curve_conv.specs.RoomLaws.{ElementsStand, JoinedStand};
 
 /// The elements of pieces: each reads as the pieces at its times, and a time with a finite value is a time of exactly
@@ -27,4 +28,9 @@ pub fn pairs_convolve()
 pub fn elements_have_room()
     ensures elements { ElementsStand }
     ensures joined { JoinedStand }
+{}
+
+/// No step that cuts two windows of what elements make is too wide.
+pub fn sum_windows_are_cut()
+    ensures { SumCutsFit }
 {}
