@@ -12,7 +12,7 @@ use Rattle.upp_curve.specs.Functions.{zero_q, IsFinite, IsRising}
 use Rattle.upp_curve.specs.Curve.{value_at}
 use Rattle.upp_curve.specs.Kinds.{rate_latency, bucket}
 use Rattle.upp_curve.proofs.KindValues.{service_is, bucket_is}
-use Rattle.net_model.specs.Continuous.{AreWithin, IsContinuous}
+use Rattle.upp_curve.specs.Continuity.{AreNear, IsContinuous}
 use Rattle.net_model.specs.CurveKinds.{KindsMayStand}
 
 -- f is v, which rises by at most `rate` in a unit of time
@@ -35,7 +35,7 @@ pace_rising f rate p s t h k =
 
 -- two values whose distance is at most d are within a margin that d takes no longer than
 close : (f : ℚ → Ext) (rate : ℚ) → (p : HasPace f rate) → (s t d margin : ℚ) → zero_q ≤ℚ s → s ≤ℚ t → t ≤ℚ s +ℚ d → rate *ℚ d ≤ℚ margin
-    → zero_q ≤ℚ margin → AreWithin margin (f s) (f t)
+    → zero_q ≤ℚ margin → AreNear (f s) (f t) margin
 close f rate p s t d margin h before near fits small =
     let late : zero_q ≤ℚ t = with3 s t zero_q (λ c. omega (arith, c.le, c.lt, c.same)) in
     let low = p.rises s t h before in
@@ -45,9 +45,9 @@ close f rate p s t d margin h before near fits small =
     let up : p.value t ≤ℚ p.value s +ℚ margin =
     with5 (p.value t) (p.value s) margin (rate *ℚ d) (rate *ℚ (t -ℚ s)) (λ c. omega (arith, c.le, c.lt, c.same)) in
     let down : p.value s ≤ℚ p.value t +ℚ margin = with3 (p.value t) (p.value s) margin (λ c. omega (arith, c.le, c.lt, c.same)) in
-    let P : Ext → Type 0 = λ x. AreWithin margin x (f t) in
-    let Q : Ext → Type 0 = λ y. AreWithin margin (Fin (p.value s)) y in
-    subst P (sym (p.is s h)) (subst Q (sym (p.is t late)) (down, up))
+    let P : Ext → Type 0 = λ x. AreNear x (f t) margin in
+    let Q : Ext → Type 0 = λ y. AreNear (Fin (p.value s)) y margin in
+    subst P (sym (p.is s h)) (subst Q (sym (p.is t late)) record { first = down; second = up })
 
 pub pace_continuous : (f : ℚ → Ext) (rate : ℚ) → HasPace f rate → IsContinuous f
 pace_continuous f rate p t margin late positive =
@@ -61,15 +61,17 @@ pace_continuous f rate p t margin late positive =
     let once = one_mul d in
     let fits : rate *ℚ d ≤ℚ margin =
     with6 (rate *ℚ d) margin d (d *ℚ over) (over *ℚ d) (int (pos 1) *ℚ d) (λ c. omega (arith, c.le, c.lt, c.same)) in
-    record {
-      distance = d;
-      positive = far;
-      near = λ s h near before.
-          elim (le_or_lt s t) [
-            | inl l ↦ close f rate p s t d margin h l before fits (le_of_lt positive)
-            | inr l ↦ let w = close f rate p t s d margin late (le_of_lt l) near fits (le_of_lt positive) in (w.1, w.0)
-          ];
-    }
+    (
+      d,
+      record {
+        some = far;
+        near = λ s h near before.
+            elim (le_or_lt s t) [
+              | inl l ↦ close f rate p s t d margin h l before fits (le_of_lt positive)
+              | inr l ↦ let w = close f rate p t s d margin late (le_of_lt l) near fits (le_of_lt positive) in record { first = w.second; second = w.first }
+            ];
+      },
+    )
 
 -- ---- kinds
 service_pace : (rate latency : ℚ) → zero_q ≤ℚ rate → zero_q ≤ℚ latency → HasPace (value_at (rate_latency rate latency)) rate
