@@ -1,11 +1,11 @@
 -- A function that never falls and rises no faster than some rate has no jump.
-use Rattle.std.proofs.Common.{◌≡◌, pos, subst, sym, ◌∙◌, arith, inl, inr, ap}
+use Rattle.std.proofs.Common.{◌≡◌, pos, subst, sym, arith, inl, inr}
 use Rattle.rational.specs.Rational.{ℚ, int, ◌+ℚ◌, ◌-ℚ◌, ◌*ℚ◌, ◌/ℚ◌, ◌≤ℚ◌, ◌<ℚ◌}
 use Rattle.rational.specs.MinMax.{max_q}
 use Rattle.rational.specs.Extended.{Ext, ◌≤ₑ◌}
 use Rattle.rational.specs.declared.Extended.TheVariants.{Fin}
-use Rattle.rational.proofs.Laws.{le_or_lt, le_of_lt, le_refl, mul_le_mul, mul_zero, mul_comm, div_mul, not_zero, mul_sub, mul_add, add_mul, one_mul}
-use Rattle.rational.proofs.MinMax.{max_q_mono, max_q_ge_left, max_q_ge_right, max_q_le, max_q_is_left}
+use Rattle.rational.proofs.Laws.{le_or_lt, le_of_lt, le_refl, mul_le_mul, mul_comm, div_mul, not_zero, mul_sub, mul_add, add_mul, one_mul}
+use Rattle.rational.proofs.MinMax.{max_q_mono, max_q_ge_left, max_q_ge_right, max_q_le}
 use Rattle.rational.proofs.Quotients.{div_pos}
 use Rattle.rational.proofs.Linear.{with3, with4, with5, with6}
 use Rattle.upp_curve.specs.Functions.{zero_q, IsFinite, IsRising}
@@ -13,7 +13,6 @@ use Rattle.upp_curve.specs.Curve.{value_at}
 use Rattle.upp_curve.specs.Kinds.{rate_latency, bucket}
 use Rattle.upp_curve.proofs.KindValues.{service_is, bucket_is}
 use Rattle.upp_curve.specs.Continuity.{AreNear, IsContinuous}
-use Rattle.net_model.specs.CurveKinds.{KindsMayStand}
 
 -- f is v, which rises by at most `rate` in a unit of time
 pub record HasPace (f : ℚ → Ext) (rate : ℚ) : Type 0 where
@@ -74,7 +73,7 @@ pace_continuous f rate p t margin late positive =
     )
 
 -- ---- kinds
-service_pace : (rate latency : ℚ) → zero_q ≤ℚ rate → zero_q ≤ℚ latency → HasPace (value_at (rate_latency rate latency)) rate
+pub service_pace : (rate latency : ℚ) → zero_q ≤ℚ rate → zero_q ≤ℚ latency → HasPace (value_at (rate_latency rate latency)) rate
 service_pace rate latency h k = record {
   nonneg = h;
   value = λ t. rate *ℚ max_q zero_q (t -ℚ latency);
@@ -92,7 +91,7 @@ service_pace rate latency h k = record {
       subst P (mul_add rate (max_q zero_q (s -ℚ latency)) (t -ℚ s)) (mul_le_mul rate h grown);
 }
 
-bucket_pace : (burst rate : ℚ) → zero_q ≤ℚ rate → HasPace (value_at (bucket burst rate)) rate
+pub bucket_pace : (burst rate : ℚ) → zero_q ≤ℚ rate → HasPace (value_at (bucket burst rate)) rate
 bucket_pace burst rate h = record {
   nonneg = h;
   value = λ t. burst +ℚ rate *ℚ t;
@@ -101,29 +100,4 @@ bucket_pace burst rate h = record {
   bounded = λ s t early before.
       let parts = mul_sub rate t s in
       with4 burst (rate *ℚ s) (rate *ℚ t) (rate *ℚ (t -ℚ s)) (λ c. omega (arith, c.le, c.lt, c.same));
-}
-
-pub kinds_may_stand : KindsMayStand
-kinds_may_stand = record {
-  rate_latency = λ rate latency h k.
-      let p = service_pace rate latency h k in
-      let early : zero_q -ℚ latency ≤ℚ zero_q = with3 latency zero_q zero_q (λ c. omega (arith, c.le, c.lt, c.same)) in
-      let none = ap (λ x. rate *ℚ x) (max_q_is_left zero_q (zero_q -ℚ latency) early) ∙ mul_zero rate in
-      record {
-        finite = pace_finite (value_at (rate_latency rate latency)) rate p;
-        rising = pace_rising (value_at (rate_latency rate latency)) rate p;
-        continuous = pace_continuous (value_at (rate_latency rate latency)) rate p;
-        at_zero = (service_is rate latency h k).is zero_q (le_refl zero_q) ∙ ap Fin none;
-      };
-  bucket = λ burst rate h k.
-      let p = bucket_pace burst rate k in
-      record {
-        finite = pace_finite (value_at (bucket burst rate)) rate p;
-        rising = pace_rising (value_at (bucket burst rate)) rate p;
-        nonnegative = λ t late.
-            let P : Ext → Type 0 = λ x. Fin zero_q ≤ₑ x in
-            let risen = mul_le_mul rate k late in
-            let zero = mul_zero rate in
-            subst P (sym ((bucket_is burst rate).is t late)) (with4 burst (rate *ℚ t) (rate *ℚ zero_q) zero_q (λ c. omega (arith, c.le, c.lt, c.same)));
-      };
 }
