@@ -34,14 +34,11 @@ fn point(x: i128, at: i128, icept: i128, slope: i128) -> Piece {
 
 // Two pieces, and then the line of the second.
 fn curve(alloc: Global, first: Piece, second: Piece) -> Result<Curve, OpFault> {
+    let tail = Tail::Affine { rank: second.x };
     let Ok(pieces) = Vec::from_slice(alloc, &[first, second]) else {
         return Err(OpFault::NoMemory);
     };
-    let rank = second.x;
-    let raw = RawCurve {
-        pieces,
-        tail: Tail::Affine { rank },
-    };
+    let raw = RawCurve { pieces, tail };
     if raw.is_raw() {
         normalise(raw)
     } else {

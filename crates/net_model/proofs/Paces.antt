@@ -59,8 +59,7 @@ pace_continuous f rate p t margin late positive =
     let turned = mul_comm d over in
     let once = one_mul d in
     let fits : rate *ℚ d ≤ℚ margin =
-    with6 (rate *ℚ d) margin d (d *ℚ over) (over *ℚ d) (int (pos 1) *ℚ d) (λ c. omega (arith, c.le, c.lt, c.same)) in
-    (
+    with6 (rate *ℚ d) margin d (d *ℚ over) (over *ℚ d) (int (pos 1) *ℚ d) (λ c. omega (arith, c.le, c.lt, c.same)) in (
       d,
       record {
         some = far;
