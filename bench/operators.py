@@ -3,7 +3,8 @@
 
 Usage: python3 bench/operators.py [largest number of pieces, default 100000]
 
-Each curve is a stair of uneven steps that repeats after so many pieces. The time of a call is divided by
+Each curve is a stair of uneven steps that repeats after so many pieces; the two have different rates, so
+that the minimum has to find from when on one is below the other. The time of a call is divided by
 the number of pieces that it looks at; the last column says how many times as long a piece takes as in the
 smallest call, so that a cost that grows faster than the pieces would show.
 
@@ -44,7 +45,7 @@ fn step(x: u32, height: u32) -> Piece {
 }
 
 // Steps at 0, 1, 2 .., of uneven height, once a period.
-fn stair(alloc: Global, count: u32, seed: u32) -> Result<Curve, OpFault> {
+fn stair(alloc: Global, count: u32, seed: u32, rise: u32) -> Result<Curve, OpFault> {
     let mut pieces = Vec::new(alloc);
     let mut height: u32 = 0;
     let mut state = seed;
@@ -61,7 +62,7 @@ fn stair(alloc: Global, count: u32, seed: u32) -> Result<Curve, OpFault> {
         tail: Tail::Periodic {
             rank: Frac::zero(),
             period,
-            rise: period,
+            rise: Frac::from_whole(rise as i128),
         },
     };
     if raw.is_raw() { normalise(raw) } else { Err(OpFault::TooWide) }
@@ -73,8 +74,8 @@ fn timed<L: Ledger>(rt: &HostRuntime, blank: Blank, count: u32) -> io::Result<Op
     requires one { 0 < blank.parts }
 {
     let mut steps = Steps::<L>::new(blank);
-    let Ok(f) = stair(rt.alloc(), count, 1) else { return Ok(None); };
-    let Ok(g) = stair(rt.alloc(), count, 2) else { return Ok(None); };
+    let Ok(f) = stair(rt.alloc(), count, 1, count) else { return Ok(None); };
+    let Ok(g) = stair(rt.alloc(), count, 2, count / 2) else { return Ok(None); };
     let looked_at = f.piece_count().wrapping_add(g.piece_count());
     let start = Instant::now(rt)?;
     let total = sum(rt.alloc(), &f, &g, &mut steps);
