@@ -1,1 +1,2 @@
 pub mod WholeGap
+pub mod Infinite

@@ -1,5 +1,5 @@
-use Rattle.std.proofs.Common.{pos, sym, subst, ap, ◌∙◌}
-use Rattle.rational.specs.Rational.{ℚ, int, ◌+ℚ◌}
+use Rattle.std.proofs.Common.{pos, sym, subst}
+use Rattle.rational.specs.Rational.{int, ◌+ℚ◌}
 use Rattle.upp_curve.specs.Curve.{value_at}
 use Rattle.upp_curve.specs.Ahead.{HasWindow, IsTimeIn}
 use Rattle.curve_least.specs.declared.gaps.Gap.TheVariants.{NoTime, Never, Is}
