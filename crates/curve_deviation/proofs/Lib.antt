@@ -1,2 +1,3 @@
 pub mod WholeGap
 pub mod Infinite
+pub mod AtOnce
