@@ -5,7 +5,6 @@ use Rattle.rational.specs.Rational.{ℚ, ◌≤ℚ◌, ◌<ℚ◌, int}
 use Rattle.rational.specs.Extended.{Ext, ◌<ₑ◌}
 use Rattle.rational.specs.declared.Extended.TheVariants.{Fin, Inf}
 use Rattle.rational.proofs.Laws.{le_or_lt, le_of_lt, le_refl, le_trans, lt_irrefl, le_lt_trans, antisym}
-use Rattle.rational.proofs.MinMax.{le_q_not}
 use Rattle.rational.proofs.Over.{le_q_out}
 use Rattle.rational.proofs.ExtendedOrder.{fin_same, lt_ext_trans}
 use Rattle.affine_segment.specs.declared.line.Line.{Line}
@@ -16,17 +15,18 @@ use Rattle.affine_segment.specs.Values.{line_value}
 use Rattle.affine_segment.specs.Elements.{IsProper, Covers, level}
 use Rattle.upp_curve.specs.Reading.{piece_value, read}
 use Rattle.upp_curve.specs.Normal.{RisesFrom, StartsAtZero}
+use Rattle.upp_curve.proofs.FirstStretch.{value_past}
 use Rattle.upp_curve.proofs.PieceIn.{piece_in_stop, piece_in_go, piece_in_end}
 use Rattle.curve_conv.specs.PieceElements.{point_of, segment_of, elements_of, StartBefore, Among, ElementAt}
 use Rattle.curve_conv.specs.ConvolutionLaws.{ElementsCover}
 use Rattle.curve_conv.proofs.Members.{among_left, among_right, among_cases}
 
 -- ---- one piece
-abbrev head : ℚ → Ext → Option Line → Ext → List Element
+abbrev pub head : ℚ → Ext → Option Line → Ext → List Element
 head x at line next = point_of x at ++ segment_of x next line
 
 -- its elements are the point at its start and the segment after it
-head_cases : (x : ℚ) (at : Ext) (line : Option Line) (next : Ext) (e : Element) → Among e (head x at line next)
+pub head_cases : (x : ℚ) (at : Ext) (line : Option Line) (next : Ext) (e : Element) → Among e (head x at line next)
     → ((v : ℚ) × (at ≡ Fin v) × (e ≡ Point x v)) ⊎ ((l : Line) × (line ≡ Some l) × (e ≡ Open x next l))
 head_cases x Inf None next e h = absurd h
 head_cases x Inf (Some l) next e (inl p) = inr (l, refl, p)
@@ -47,14 +47,10 @@ head_line x at line l next e = subst (λ z. Among (Open x next l) (head x at z n
     go Inf = inl refl
     go (Fin v) = inr (inl refl)
 
--- read at its start, and after it
-value_here : (p : Piece) (t : ℚ) → t ≤ℚ p.x → piece_value p t ≡ p.at
+-- read at its start
+pub value_here : (p : Piece) (t : ℚ) → t ≤ℚ p.x → piece_value p t ≡ p.at
 unfolding piece_value
 value_here p t h = ap (λ b. cond b p.at (line_value p.line t)) (le_q_out t p.x h)
-
-value_past : (p : Piece) (t : ℚ) → p.x <ℚ t → piece_value p t ≡ line_value p.line t
-unfolding piece_value
-value_past p t h = ap (λ b. cond b p.at (line_value p.line t)) (le_q_not t p.x h)
 
 -- where an element is, and what is read there
 record Found (e : Element) (x t : ℚ) (next : Ext) (value : Ext) : Type 0 where
@@ -132,15 +128,15 @@ head_proper p next e room h = elim (head_cases p.x p.at p.line next e h) [
 ]
 
 -- ---- pieces
-read_one : (p : Piece) (t : ℚ) → read (p ∷ []) t ≡ piece_value p t
+pub read_one : (p : Piece) (t : ℚ) → read (p ∷ []) t ≡ piece_value p t
 unfolding read
 read_one p t = ap (λ q. piece_value q t) (piece_in_end p t)
 
-read_stop : (p q : Piece) (qs : List Piece) (t : ℚ) → t <ℚ q.x → read (p ∷ q ∷ qs) t ≡ piece_value p t
+pub read_stop : (p q : Piece) (qs : List Piece) (t : ℚ) → t <ℚ q.x → read (p ∷ q ∷ qs) t ≡ piece_value p t
 unfolding read
 read_stop p q qs t h = ap (λ z. piece_value z t) (piece_in_stop p q qs t h)
 
-read_go : (p q : Piece) (qs : List Piece) (t : ℚ) → q.x ≤ℚ t → read (p ∷ q ∷ qs) t ≡ read (q ∷ qs) t
+pub read_go : (p q : Piece) (qs : List Piece) (t : ℚ) → q.x ≤ℚ t → read (p ∷ q ∷ qs) t ≡ read (q ∷ qs) t
 unfolding read
 read_go p q qs t h = ap (λ z. piece_value z t) (piece_in_go p q qs t h)
 

@@ -1,8 +1,8 @@
 -- No step of the convolution of two elements of operands is too wide, and what they make stands on the call's grids.
-use Rattle.std.specs.Prelude.{◌≡◌, ◌⊎◌, ℕ, ◌+◌, ◌*◌, ◌≤◌, ◌<◌, ◌^◌, pos, List, [], ◌∷◌, ◌++◌, Some, None}
-use Rattle.std.proofs.Common.{arith, sym, ap, ap₂, ◌∙◌, refl, subst, inl, inr}
-use Rattle.rational.specs.Rational.{ℚ, ◌+ℚ◌, ◌-ℚ◌, ◌*ℚ◌, neg_ℚ, ◌≤ℚ◌, ◌<ℚ◌, int}
-use Rattle.rational.specs.Ratio.{IsSmall, SumFits}
+use Rattle.std.specs.Prelude.{◌≡◌, ℕ, ◌+◌, ◌*◌, ◌≤◌, ◌^◌, pos, [], ◌∷◌, Some}
+use Rattle.std.proofs.Common.{arith, mul-le-mul_right, sym, ap, ◌∙◌, subst, inl, inr}
+use Rattle.rational.specs.Rational.{ℚ, ◌+ℚ◌, ◌-ℚ◌, ◌*ℚ◌, neg_ℚ, ◌≤ℚ◌, int}
+use Rattle.rational.specs.Ratio.{SumFits}
 use Rattle.rational.specs.Extended.{Ext, ◌+ₑ◌}
 use Rattle.rational.specs.declared.Extended.TheVariants.{Fin, Inf}
 use Rattle.rational.specs.Grid.{Whole, Within}
@@ -22,11 +22,11 @@ use Rattle.affine_segment.specs.Steps.{IsWideSum, IsWideValue}
 use Rattle.affine_segment.specs.MadeParts.{alone_part, IsFrom, MovedPart, OnePart, TwoParts, BentParts, AreParts}
 use Rattle.affine_segment.specs.WideConvolution.{IsWideThrough, IsWideEnd, IsWideEnds, IsWideCorner, IsWideMoved, IsWideStraight, IsWideSecond, IsWideBent, IsWideConvolution}
 use Rattle.upp_curve.specs.Limits.{Sizes}
-use Rattle.upp_curve.specs.Sized.{IsSlope, IsValue, AreSizes, grid_of, times_largest}
+use Rattle.upp_curve.specs.Sized.{IsSlope, IsValue, grid_of, times_largest}
 use Rattle.upp_curve.specs.Operand.{AreLimited, OperandLine}
 use Rattle.upp_curve.proofs.AnswerRoom.{OperandValue, operand_line_value, stands_operand_value, values_fit, value_sum_stands, more_largest}
 use Rattle.upp_curve.proofs.NarrowSizes.{IsNarrow, narrow_gauge, small_number, small_sum, run_whole, run_within, value_whole, value_within}
-use Rattle.curve_conv.specs.ElementRoom.{WindowTime, WindowEnd, OperandPoint, OperandSegment, OperandElement, SumTime, SumEnd, SumValue, SumLine, SumPoint, SumSegment, SumElement, SumPart, SumJoined}
+use Rattle.curve_conv.specs.ElementRoom.{WindowTime, WindowEnd, OperandPoint, OperandSegment, OperandElement, SumTime, SumEnd, SumValue, SumLine, SumElement, SumJoined}
 
 -- ---- the sizes
 narrow : (z : Sizes) (end : ℚ) → AreLimited z end → IsNarrow z (2 ^ 122)
@@ -36,7 +36,7 @@ many_more : (z : Sizes) (k j : ℕ) → times_largest k z +ℚ times_largest j z
 many_more z k j = sym (add_mul (int (pos k)) (int (pos j)) (int (pos z.largest))) ∙ ap (λ x. x *ℚ int (pos z.largest)) (int_add (pos k) (pos j))
 
 -- sums on the grid of sums
-sum_within : (z : Sizes) (k j : ℕ) (p q : ℚ) → Within (times_largest k z) p → Within (times_largest j z) q → Within (times_largest (k + j) z) (p +ℚ q)
+pub sum_within : (z : Sizes) (k j : ℕ) (p q : ℚ) → Within (times_largest k z) p → Within (times_largest j z) q → Within (times_largest (k + j) z) (p +ℚ q)
 sum_within z k j p q h g = subst (λ m. Within m (p +ℚ q)) (many_more z k j) (within_add (times_largest k z) (times_largest j z) p q h g)
 
 gap_within : (z : Sizes) (k j : ℕ) (p q : ℚ) → Within (times_largest k z) p → Within (times_largest j z) q → Within (times_largest (k + j) z) (p -ℚ q)
@@ -212,6 +212,9 @@ apart_rise z end s r x A h k X = (
             let n = b.high in
             record { low = with3 m p q (λ c. omega (arith, c.le, c.lt, c.same)); high = with3 m p q (λ c. omega (arith, c.le, c.lt, c.same)) }
 
+    twice : (s x : ℚ) → (int (pos 2) *ℚ s) *ℚ x ≡ s *ℚ x +ℚ s *ℚ x
+    twice s x = mul_assoc (int (pos 2)) s x ∙ (let q = s *ℚ x in with1 q (λ c. omega (arith, c.le, c.lt, c.same)))
+
     -- twice the rise is within the largest value
     half_rise : (z : Sizes) (end s x : ℚ) → AreLimited z end → IsSlope z s → WindowTime z end x → Within (times_largest 1 z) (s *ℚ x +ℚ s *ℚ x)
     half_rise z end s x A h X =
@@ -220,9 +223,6 @@ apart_rise z end s r x A h k X = (
         subst (λ q. Within (times_largest 1 z) q) (twice s x)
         (subst (λ m. Within m ((int (pos 2) *ℚ s) *ℚ x)) (one_largest z)
         (within_weaken (S *ℚ x) (int (pos z.largest)) ((int (pos 2) *ℚ s) *ℚ x) most (within_mul S x (int (pos 2) *ℚ s) x h.within (within_nonneg x x X.nonneg (le_refl x)))))
-
-    twice : (s x : ℚ) → (int (pos 2) *ℚ s) *ℚ x ≡ s *ℚ x +ℚ s *ℚ x
-    twice s x = mul_assoc (int (pos 2)) s x ∙ (let q = s *ℚ x in with1 q (λ c. omega (arith, c.le, c.lt, c.same)))
 
 -- the line from where one line is at x and another at y, of the slope of the first or of the second
 from_first : (z : Sizes) (end : ℚ) (a : Line) (x : ℚ) (b : Line) (y : ℚ) (n : Line) → AreLimited z end → OperandLine z a → OperandLine z b → WindowTime z end x → WindowTime z end y
@@ -236,13 +236,13 @@ from_first z end a x b y n A L M X Y h =
       within = subst (Within (times_largest 5 z)) (sym e) (sum_within z 4 1 (a.icept +ℚ b.icept) (b.slope *ℚ y -ℚ a.slope *ℚ y) (sum_within z 2 2 a.icept b.icept L.within M.within) r.1);
     }
   where
+    plain : (i nxy j ax ay k by : ℚ) → nxy ≡ ax +ℚ ay → i +ℚ nxy ≡ (j +ℚ ax) +ℚ (k +ℚ by) → i ≡ (j +ℚ k) +ℚ (by -ℚ ay)
+    plain i nxy j ax ay k by g v = with_atoms (i ∷ nxy ∷ j ∷ ax ∷ ay ∷ k ∷ by ∷ []) (λ o. omega (arith, o.le, o.lt, o.same))
+
     icept_is : (a : Line) (x : ℚ) (b : Line) (y : ℚ) (n : Line) → IsFrom a x b y a.slope n → n.icept ≡ (a.icept +ℚ b.icept) +ℚ (b.slope *ℚ y -ℚ a.slope *ℚ y)
     icept_is a x b y n h =
         let g : n.slope *ℚ (x +ℚ y) ≡ a.slope *ℚ x +ℚ a.slope *ℚ y = ap (λ r. r *ℚ (x +ℚ y)) h.slope ∙ mul_add a.slope x y in
         plain n.icept (n.slope *ℚ (x +ℚ y)) a.icept (a.slope *ℚ x) (a.slope *ℚ y) b.icept (b.slope *ℚ y) g h.value
-
-    plain : (i nxy j ax ay k by : ℚ) → nxy ≡ ax +ℚ ay → i +ℚ nxy ≡ (j +ℚ ax) +ℚ (k +ℚ by) → i ≡ (j +ℚ k) +ℚ (by -ℚ ay)
-    plain i nxy j ax ay k by g v = with_atoms (i ∷ nxy ∷ j ∷ ax ∷ ay ∷ k ∷ by ∷ []) (λ o. omega (arith, o.le, o.lt, o.same))
 
 from_second : (z : Sizes) (end : ℚ) (a : Line) (x : ℚ) (b : Line) (y : ℚ) (n : Line) → AreLimited z end → OperandLine z a → OperandLine z b → WindowTime z end x → WindowTime z end y
     → IsFrom a x b y b.slope n → SumLine z n
@@ -261,13 +261,13 @@ from_point z end x v from l n A P L F h =
       within = subst (Within (times_largest 5 z)) (sym e) (gap_within z 4 1 (v +ℚ l.icept) (l.slope *ℚ x) (sum_within z 2 2 v l.icept vi L.within) (rise_within z end l.slope x A L.slope P.time));
     }
   where
+    plain : (i nxf j lx lf : ℚ) → nxf ≡ lx +ℚ lf → i +ℚ nxf ≡ v +ℚ (j +ℚ lf) → i ≡ (v +ℚ j) -ℚ lx
+    plain i nxf j lx lf g e = with_atoms (i ∷ nxf ∷ j ∷ lx ∷ lf ∷ v ∷ []) (λ o. omega (arith, o.le, o.lt, o.same))
+
     icept_is : IsThrough l.slope (x +ℚ from) (v +ℚ line_at l from) n → n.icept ≡ (v +ℚ l.icept) -ℚ l.slope *ℚ x
     icept_is h =
         let g : n.slope *ℚ (x +ℚ from) ≡ l.slope *ℚ x +ℚ l.slope *ℚ from = ap (λ r. r *ℚ (x +ℚ from)) h.slope ∙ mul_add l.slope x from in
         plain n.icept (n.slope *ℚ (x +ℚ from)) l.icept (l.slope *ℚ x) (l.slope *ℚ from) g h.value
-
-    plain : (i nxf j lx lf : ℚ) → nxf ≡ lx +ℚ lf → i +ℚ nxf ≡ v +ℚ (j +ℚ lf) → i ≡ (v +ℚ j) -ℚ lx
-    plain i nxf j lx lf g e = with_atoms (i ∷ nxf ∷ j ∷ lx ∷ lf ∷ v ∷ []) (λ o. omega (arith, o.le, o.lt, o.same))
 
 -- ---- parts
 alone_stands : (z : Sizes) (end : ℚ) (e : Element) (j : Joined) → j ≡ alone_part e → SumElement z end e → SumJoined z end j

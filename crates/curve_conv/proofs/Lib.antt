@@ -3,3 +3,6 @@ pub mod Cover
 pub mod Envelopes
 pub mod Windows
 pub mod ElementSizes
+pub mod OperandElements
+pub mod JoinedReads
+pub mod SumSteps

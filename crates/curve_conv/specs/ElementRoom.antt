@@ -1,6 +1,6 @@
 -- Where the elements of an operand's window stand, and where what two of them make stands. Own choice.
-use Rattle.std.specs.Prelude.{pos, ◌≡◌, Option, Some, None}
-use Rattle.rational.specs.Rational.{ℚ, ◌+ℚ◌, ◌≤ℚ◌, ◌<ℚ◌, int}
+use Rattle.std.specs.Prelude.{pos, Option, Some, None}
+use Rattle.rational.specs.Rational.{ℚ, ◌+ℚ◌, ◌≤ℚ◌, int}
 use Rattle.rational.specs.Extended.{Ext}
 use Rattle.rational.specs.declared.Extended.TheVariants.{Fin, Inf}
 use Rattle.rational.specs.Grid.{Whole, Within}
@@ -27,10 +27,10 @@ pub record OperandPoint (z : Sizes) (end x v : ℚ) : Type 0 where
   pub time : WindowTime z end x
   pub value : IsValue z v
 
-pub record OperandSegment (z : Sizes) (end from : ℚ) (to : Ext) (line : Line) : Type 0 where
+pub record OperandSegment (z : Sizes) (end from : ℚ) (to : Ext) (l : Line) : Type 0 where
   pub start : WindowTime z end from
   pub until : WindowEnd z end to
-  pub line : OperandLine z line
+  pub line : OperandLine z l
 
 abbrev pub OperandElement : Sizes → ℚ → Element → Type 0
 OperandElement z end (Point x v) = OperandPoint z end x v
@@ -62,10 +62,10 @@ pub record SumPoint (z : Sizes) (end x v : ℚ) : Type 0 where
   pub time : SumTime z end x
   pub value : SumValue z v
 
-pub record SumSegment (z : Sizes) (end from : ℚ) (to : Ext) (line : Line) : Type 0 where
+pub record SumSegment (z : Sizes) (end from : ℚ) (to : Ext) (l : Line) : Type 0 where
   pub start : SumTime z end from
   pub until : SumEnd z end to
-  pub line : SumLine z line
+  pub line : SumLine z l
 
 abbrev pub SumElement : Sizes → ℚ → Element → Type 0
 SumElement z end (Point x v) = SumPoint z end x v

@@ -2,6 +2,8 @@
 
 ghost use Rattle.curve_conv.specs.ConvolutionLaws.{PiecesAreCovered, EnvelopeRules};
 ghost use Rattle.curve_conv.specs.ConvolutionLaws.{PairsConvolveWindows, PairsConvolveCurves};
+ghost use Rattle.curve_conv.specs.WindowLaws.{SumCutsFit};
+ghost use Rattle.curve_conv.specs.RoomLaws.{ElementsStand, JoinedStand};
 
 /// The elements of pieces: each reads as the pieces at its times, and a time with a finite value is a time of exactly
 /// one of them.
@@ -19,4 +21,16 @@ pub fn envelopes_join()
 pub fn pairs_convolve()
     ensures windows { PairsConvolveWindows }
     ensures curves { PairsConvolveCurves }
+{}
+
+/// The elements of an operand's pieces stand on the grids of its call and within its sizes, and so does what two of them
+/// make.
+pub fn elements_have_room()
+    ensures elements { ElementsStand }
+    ensures joined { JoinedStand }
+{}
+
+/// No step that cuts two windows of what elements make is too wide.
+pub fn sum_windows_are_cut()
+    ensures { SumCutsFit }
 {}

@@ -1,1 +1,6 @@
 pub mod SumCall
+pub mod ScaledValues
+pub mod ScaleCall
+pub mod LeftWindow
+pub mod ShiftCall
+pub mod Nowhere

@@ -168,9 +168,9 @@ sum_values f g r z ls rs ps rise c h el er sum e same =
     let right = steady_rule g r.period h.second.normal.raw h.right_whole (le_of_lt p.above) in
     answer_relation (IsSum (value_at f) (value_at g)) c (read ps) r.start r.period rise same h.facts.start.nonneg p.above
     (λ t some early.
-      let before : t <ℚ r.end = subst (λ x. t <ℚ x) (sym h.ends) early in
-      sum.reads t some
-      ∙ ap₂ (λ (v w : Ext). v +ₑ w) (ap (λ us. read us t) el ∙ unroll_reads f r.end t h.first.normal some before) (ap (λ us. read us t) er ∙ unroll_reads g r.end t h.second.normal some before))
+    let before : t <ℚ r.end = subst (λ x. t <ℚ x) (sym h.ends) early in
+    sum.reads t some
+    ∙ ap₂ (λ (v w : Ext). v +ₑ w) (ap (λ us. read us t) el ∙ unroll_reads f r.end t h.first.normal some before) (ap (λ us. read us t) er ∙ unroll_reads g r.end t h.second.normal some before))
     (λ t v late k.
-      ap (λ x. v +ₑ Fin x) e ∙ moved (value_at f t) (value_at g t) (rise_over f r.period) (rise_over g r.period) v k
-      ∙ sym (ap₂ (λ (a b : Ext). a +ₑ b) (left.rule t (le_trans h.left_steady late)) (right.rule t (le_trans h.right_steady late))))
+    ap (λ x. v +ₑ Fin x) e ∙ moved (value_at f t) (value_at g t) (rise_over f r.period) (rise_over g r.period) v k
+    ∙ sym (ap₂ (λ (a b : Ext). a +ₑ b) (left.rule t (le_trans h.left_steady late)) (right.rule t (le_trans h.right_steady late))))

@@ -1,6 +1,15 @@
-//! Operators on curves whose answer at a time is made of the operands' values at one time: sums, multiples and shifts.
+//! Operators on curves whose answer at a time is made of the operands' values at one time, or at all times on one side of it.
+//! Sums, multiples and shifts are made here; the others are handed on.
 #![tactic(auto)]
 
+mod scaling;
+mod shifts;
 mod sums;
+#[cfg(test)]
+mod tests;
 
+pub use curve_lattice::{max, min, pos_diff};
+pub use curve_running::{run_inf, run_sup};
+pub use scaling::scale;
+pub use shifts::shift;
 pub use sums::sum;

@@ -11,12 +11,12 @@ use Rattle.curve_library.specs.declared.fault.CurveFault.TheVariants.{Negative, 
 use Rattle.curve_library.specs.Causes.{KeepsOwnLimits, Passes, KeepsCauses, AnswersFirst}
 
 -- no curve is over a limit and within both
-over_within : (c : SpecCurve) (limit : OverLimit) → IsOver c limit → IsWithinOwn c → ⊥
+pub over_within : (c : SpecCurve) (limit : OverLimit) → IsOver c limit → IsWithinOwn c → ⊥
 over_within c TooWide h w = let n = w.narrow in omega (arith, h, n)
 over_within c TooMany h w = let f = w.few in let m = h.1 in omega (arith, f, m)
 
 -- nor over two
-one_limit : (c : SpecCurve) (a b : OverLimit) → IsOver c a → IsOver c b → a ≡ b
+pub one_limit : (c : SpecCurve) (a b : OverLimit) → IsOver c a → IsOver c b → a ≡ b
 one_limit c TooWide TooWide h k = refl
 one_limit c TooMany TooMany h k = refl
 one_limit c TooWide TooMany h k = let n = k.0 in absurd (omega (arith, h, n))

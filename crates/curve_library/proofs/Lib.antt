@@ -7,3 +7,5 @@ pub mod GateParts
 pub mod Doubling
 pub mod SharesAre
 pub mod StairParts
+pub mod TextLoops
+pub mod ListedParts

@@ -1,6 +1,6 @@
 -- What the tests of a sign say.
-use Rattle.std.specs.Prelude.{◌≡◌, Bool, true, false, IsTrue, ◌↔◌}
-use Rattle.std.proofs.Common.{arith, inl, inr}
+use Rattle.std.specs.Prelude.{◌≡◌, Bool, true, false, not, IsTrue, ◌↔◌}
+use Rattle.std.proofs.Common.{arith, sym, refl, true≢false, inl, inr}
 use Rattle.rational.specs.Rational.{ℚ, ◌≤ℚ◌, ◌<ℚ◌, neg_ℚ}
 use Rattle.rational.proofs.Linear.{with2}
 use Rattle.rational.proofs.Laws.{lt_irrefl, lt_le_trans}
@@ -29,3 +29,8 @@ not_below x y h l = lt_irrefl y (lt_le_trans l h)
 
 pub positive_out : (b : Bool) (x : ℚ) → (IsTrue b ↔ (zero_q <ℚ x)) → b ≡ true → zero_q <ℚ x
 positive_out b x h e = h.0 e
+
+-- a test turned round
+pub nonneg_test : (b : Bool) (x : ℚ) → (IsTrue b ↔ (x <ℚ zero_q)) → (IsTrue (not b) ↔ (zero_q ≤ℚ x))
+nonneg_test true x h = (λ e. absurd (true≢false (sym e)), λ l. absurd (lt_irrefl x (lt_le_trans (h.0 refl) l)))
+nonneg_test false x h = (λ e. nonneg_out false x h refl, λ l. refl)

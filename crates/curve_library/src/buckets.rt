@@ -27,8 +27,8 @@ fn any_bucket(alloc: Global, burst: Frac, rate: Frac) -> Result<Curve, CurveFaul
     }
 }
 
-/// A token bucket: burst + rate t at each time t from 0 on. Refused with Negative exactly where the burst or the rate is
-/// below 0; else only for want of memory, however wide the numbers are.
+/// A token bucket: burst + rate t at each time t from 0 on. Refused with Negative exactly where the burst or the
+/// rate is below 0; else only for want of memory, however wide the numbers are.
 pub fn bucket(alloc: Global, burst: Frac, rate: Frac) -> Result<Curve, CurveFault>
     ensures made { IfOk result (λ c. c ≡ bucket burst rate) }
     ensures value { IfOk result (λ c. (t : ℚ) → zero_q ≤ℚ t → value_at c t ≡ bucket_value burst rate t) }

@@ -109,10 +109,10 @@ fn tested_gate(alloc: Global, rate: Frac, cycle: Frac, slot: Frac) -> Result<Cur
     nonneg_gate(alloc, rate, cycle, slot)
 }
 
-/// A rate while a gate is open, for one slot at the end of each cycle:
-/// rate max (floor (t / cycle) slot, t - ceil (t / cycle) (cycle - slot)) at each time t from 0 on. Refused with Negative
-/// exactly where the rate or the slot is below 0; past that with ZeroPeriod exactly where the cycle is not above 0, the slot
-/// is 0, or the slot is above the cycle; past that with TooWide exactly where the curve's own gauge is 2^120 or more.
+/// A rate while a gate is open, for one slot at the end of each cycle: rate max (floor (t / cycle) slot, t - ceil
+/// (t / cycle) (cycle - slot)) at each time t from 0 on. Refused with Negative exactly where the rate or the slot
+/// is below 0; past that with ZeroPeriod exactly where the cycle is not above 0, the slot is 0, or the slot is
+/// above the cycle; past that with TooWide exactly where the curve's own gauge is 2^120 or more.
 pub fn gate(alloc: Global, rate: Frac, cycle: Frac, slot: Frac) -> Result<Curve, CurveFault>
     ensures causes { KeepsCauses (OneNegative rate slot) (NoSlot cycle slot) (gate rate cycle slot) result }
     ensures first { AnswersFirst (OneNegative rate slot) (NoSlot cycle slot) (gate rate cycle slot) result }

@@ -62,8 +62,9 @@ fn tested_rate_latency(alloc: Global, rate: Frac, latency: Frac) -> Result<Curve
     nonneg_rate_latency(alloc, rate, latency)
 }
 
-/// A rate after a latency: rate max (0, t - latency) at each time t from 0 on. Refused with Negative exactly where the rate
-/// or the latency is below 0, and with TooWide exactly where that is not so and the curve's own gauge is 2^120 or more.
+/// A rate after a latency: rate max (0, t - latency) at each time t from 0 on. Refused with Negative exactly where
+/// the rate or the latency is below 0, and with TooWide exactly where that is not so and the curve's own gauge is
+/// 2^120 or more.
 pub fn rate_latency(alloc: Global, rate: Frac, latency: Frac) -> Result<Curve, CurveFault>
     ensures causes { KeepsCauses (OneNegative rate latency) ⊥ (rate_latency rate latency) result }
     ensures first { AnswersFirst (OneNegative rate latency) ⊥ (rate_latency rate latency) result }

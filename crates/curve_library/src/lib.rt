@@ -1,5 +1,5 @@
-//! The curves that a network's file names: a token bucket, a stair of packets, a rate after a latency, a gate, and pieces
-//! that are listed one by one.
+//! The curves that a network's file names: a token bucket, a stair of packets, a rate after a latency, a gate, and
+//! pieces that are listed one by one.
 #![tactic(auto)]
 
 mod buckets;
@@ -7,13 +7,19 @@ mod fault;
 mod formed;
 mod gates;
 mod latencies;
+mod listing;
 mod shares;
 mod signs;
 mod stairs;
+#[cfg(test)]
+mod tests;
+mod texts;
 
 pub use buckets::bucket;
 pub use fault::CurveFault;
 pub use gates::gate;
 pub use latencies::rate_latency;
+pub use listing::listed;
 pub use stairs::stair;
+pub use texts::{PieceText, TailText, UseAs};
 pub use upp_curve::OverLimit;

@@ -1,4 +1,5 @@
-//! A time as a whole number of periods and what is left of it, exactly, also where the quotient of the two does not fit.
+//! A time as a whole number of periods and what is left of it, exactly, also where the quotient of the two does not
+//! fit.
 
 ghost use Rattle.std.specs.Prelude.{◌≡◌, ◌+◌, ◌*◌, ◌/◌, ◌-◌, ◌<◌, ◌≤◌, ◌^◌, pos, nat_abs, MatchOption};
 ghost use Rattle.rational.specs.Rational.{int, den, ◌*ℚ◌, ◌≤ℚ◌, ◌<ℚ◌};
@@ -70,8 +71,8 @@ fn product_quotient(n: u128, m: u128, by: u128) -> Option<(u128, u128)>
     }
 }
 
-/// How many whole periods lie in a time from 0 on, and the rest. None exactly where their common grid, the period on it, or
-/// the count is past 2^127 - 1.
+/// How many whole periods lie in a time from 0 on, and the rest. None exactly where their common grid, the period
+/// on it, or the count is past 2^127 - 1.
 pub(crate) fn whole_periods(time: Frac, period: Frac) -> Option<Share>
     requires time { zero_q ≤ℚ time }
     requires period { zero_q <ℚ period }

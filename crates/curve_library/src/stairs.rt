@@ -32,7 +32,8 @@ fn packets(packet: u32, early: u128) -> Option<Frac>
 
 /// The second step: one packet more, where a period is over that began so much before 0.
 fn second_step(period: Frac, late: Frac, first: Frac, rise: Frac) -> Option<Piece>
-    ensures { MatchOption result (¬ (SecondFits period late first rise)) (λ p. p ≡ flat (period -ℚ late) (first +ℚ rise)) }
+    ensures { MatchOption result (¬ (SecondFits period late first rise))
+        (λ p. p ≡ flat (period -ℚ late) (first +ℚ rise)) }
 {
     let Ok(start) = Frac::sub(period, late) else {
         return None;
@@ -66,8 +67,8 @@ fn formed_steps(
     }
 }
 
-// A stair of packets above 0. Where the jitter is no whole number of periods and a rest that fit, or the first step does
-// not fit, the gauge is past its limit.
+// A stair of packets above 0. Where the jitter is no whole number of periods and a rest that fit, or the first step
+// does not fit, the gauge is past its limit.
 fn stair_steps(alloc: Global, packet: u32, period: Frac, jitter: Frac) -> Result<Curve, CurveFault>
     requires packet { 0 < packet }
     requires period { zero_q <ℚ period }
@@ -99,13 +100,15 @@ fn tested_stair(alloc: Global, packet: u32, period: Frac, jitter: Frac) -> Resul
     stair_steps(alloc, packet, period, jitter)
 }
 
-/// One packet each period, each up to the jitter early: packet (floor ((t + jitter) / period) + 1) at each time t from 0 on.
-/// Refused with Negative exactly where the jitter is below 0, past that with ZeroPeriod exactly where the period is not
-/// above 0, and past that with TooWide exactly where the curve's own gauge is 2^120 or more, however wide the jitter is.
+/// One packet each period, each up to the jitter early: packet (floor ((t + jitter) / period) + 1) at each time t
+/// from 0 on. Refused with Negative exactly where the jitter is below 0, past that with ZeroPeriod exactly where
+/// the period is not above 0, and past that with TooWide exactly where the curve's own gauge is 2^120 or more,
+/// however wide the jitter is.
 pub fn stair(alloc: Global, packet: u32, period: Frac, jitter: Frac) -> Result<Curve, CurveFault>
     ensures causes { KeepsCauses (jitter <ℚ zero_q) (period ≤ℚ zero_q) (stair (int (pos packet)) period jitter) result }
     ensures first { AnswersFirst (jitter <ℚ zero_q) (period ≤ℚ zero_q) (stair (int (pos packet)) period jitter) result }
-    ensures value { IfOk result (λ c. (t : ℚ) → zero_q ≤ℚ t → value_at c t ≡ stair_value (int (pos packet)) period jitter t) }
+    ensures value { IfOk result (λ c. (t : ℚ) → zero_q ≤ℚ t
+        → value_at c t ≡ stair_value (int (pos packet)) period jitter t) }
     ensures few { result ≢ Err (CurveFault.Op TooMany) }
 {
     tested_stair(alloc, packet, period, jitter)

@@ -1,18 +1,17 @@
 -- The cases of a bend: what follows the start of a stretch, and what it is made of.
-use Rattle.std.specs.Prelude.{◌≡◌, pos, Bool, true, false, Option, Some, None, IfSome, ◌⊎◌}
-use Rattle.std.proofs.Common.{arith, sym, ap, ◌∙◌, refl, subst, inl, inr}
+use Rattle.std.specs.Prelude.{◌≡◌, pos, Bool, true, false, Some, None}
+use Rattle.std.proofs.Common.{sym, ap, ◌∙◌, refl, subst, inl, inr}
 use Rattle.rational.specs.Rational.{ℚ, ◌≤ℚ◌, ◌<ℚ◌, int}
 use Rattle.rational.specs.MinMax.{min_q, max_q}
 use Rattle.rational.specs.declared.Extended.TheVariants.{Fin}
 use Rattle.rational.proofs.MinMax.{max_q_one, min_q_one}
 use Rattle.affine_segment.specs.declared.line.Line.{Line}
-use Rattle.affine_segment.specs.declared.line.Piece.{Piece}
 use Rattle.affine_segment.specs.Values.{line_at}
 use Rattle.curve_running.specs.declared.stretch.Stretch.{Stretch}
 use Rattle.curve_running.specs.declared.bend.Bend.{Bend}
 use Rattle.curve_running.specs.Scans.{flat}
 use Rattle.curve_running.specs.Bends.{risen, sunk, IsOn, Follows}
-use Rattle.curve_running.specs.Made.{IsMeeting, IsOneOf, IsTurn, IsMadeOf}
+use Rattle.curve_running.specs.Made.{IsMeeting, IsOneOf, IsMadeOf}
 use Rattle.curve_running.proofs.Levels.{sup_line, sup_flat, sup_falls, sup_turn, inf_line, inf_flat, inf_falls, inf_turn}
 
 -- a bend of the greatest

@@ -1,16 +1,16 @@
 -- Pieces appended one by one, or put in front one by one, that keep a property of each reading.
 use Rattle.std.specs.Prelude.{◌≡◌, pos, List, [], ◌∷◌, ◌++◌}
-use Rattle.std.proofs.Common.{arith, sym, ap, ◌∙◌, refl, subst, inl, inr}
+use Rattle.std.proofs.Common.{sym, ap, ◌∙◌, subst, inl, inr}
 use Rattle.rational.specs.Rational.{ℚ, ◌≤ℚ◌, ◌<ℚ◌, int}
 use Rattle.rational.specs.Extended.{Ext}
-use Rattle.rational.proofs.Laws.{antisym, le_refl, le_of_lt, le_or_lt, le_trans, lt_irrefl, lt_le_trans, le_lt_trans, lt_trans}
+use Rattle.rational.proofs.Laws.{antisym, le_or_lt, lt_irrefl, lt_le_trans, lt_trans}
 use Rattle.affine_segment.specs.declared.line.Piece.{Piece}
 use Rattle.affine_segment.specs.Values.{line_value}
 use Rattle.upp_curve.specs.Reading.{read, piece_in, piece_value}
 use Rattle.upp_curve.specs.Normal.{Each, RisesFrom, StartsAtZero}
 use Rattle.upp_curve.proofs.PieceIn.{piece_in_end, piece_in_go, piece_in_stop}
 use Rattle.upp_curve.proofs.FirstStretch.{value_past, value_at_start}
-use Rattle.curve_window.proofs.Surgery.{BeforeNext, read_middle}
+use Rattle.curve_window.proofs.Surgery.{read_middle}
 
 -- ---- appended
 -- up to b each reading has the property, and a piece that starts at b comes next

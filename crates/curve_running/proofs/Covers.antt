@@ -1,16 +1,15 @@
 -- The least number of periods after which one period covers all that came before.
-use Rattle.std.specs.Prelude.{◌≡◌, ◌≢◌, ℕ, suc, ◌<◌, ◌≤◌, pos, ◌⊎◌}
-use Rattle.std.proofs.Common.{arith, sym, ap, ◌∙◌, refl, subst, inl, inr}
+use Rattle.std.specs.Prelude.{◌≡◌, ℕ, ◌<◌, pos}
+use Rattle.std.proofs.Common.{arith, sym, ap, ◌∙◌, subst, inl, inr}
 use Rattle.rational.specs.Rational.{ℚ, ◌+ℚ◌, ◌-ℚ◌, ◌*ℚ◌, ◌/ℚ◌, ◌≤ℚ◌, ◌<ℚ◌, int}
 use Rattle.rational.specs.Gauge.{size_up}
-use Rattle.rational.specs.Extended.{Ext, ◌≤ₑ◌, ◌<ₑ◌, ◌+ₑ◌}
-use Rattle.rational.specs.Bounds.{IsSupremum}
-use Rattle.rational.specs.declared.Extended.TheVariants.{Fin, Inf}
+use Rattle.rational.specs.Extended.{Ext, ◌≤ₑ◌, ◌+ₑ◌}
+use Rattle.rational.specs.declared.Extended.TheVariants.{Fin}
 use Rattle.rational.proofs.Grid.{within_nonneg}
 use Rattle.rational.proofs.Linear.{with1, with2, with3, with4}
-use Rattle.rational.proofs.Laws.{le_refl, le_of_lt, le_or_lt, le_trans, lt_irrefl, lt_le_trans, le_lt_trans, mul_le_mul_right, mul_lt_mul_right, mul_sub, mul_zero, div_mul, not_zero, lt_of_mul, zero_mul}
+use Rattle.rational.proofs.Laws.{le_refl, le_of_lt, le_or_lt, le_trans, lt_irrefl, lt_le_trans, mul_le_mul_right, mul_lt_mul_right, mul_sub, mul_zero, div_mul, not_zero, lt_of_mul, zero_mul}
 use Rattle.rational.proofs.Integers.{nat_nonneg}
-use Rattle.rational.proofs.ExtendedOrder.{le_ext_trans, same_le_ext}
+use Rattle.rational.proofs.ExtendedOrder.{le_ext_trans}
 use Rattle.rational.proofs.Bounds.{smallest}
 use Rattle.upp_curve.specs.declared.op_kind.OpKind.TheVariants.{RunSup}
 use Rattle.upp_curve.specs.Curve.{SpecCurve, value_at}
@@ -32,14 +31,16 @@ no_cover early once rise h = record {
   least = λ i l. absurd (omega arith);
 }
 
-pub cover_is : (early once rise gap number : ℚ) (k : ℕ) → zero_q <ℚ rise → once <ℚ early → gap ≡ early -ℚ once → number ≡ gap /ℚ rise → k ≡ size_up number → IsCover early once rise k
+pub cover_is : (early once rise gap number : ℚ) (k : ℕ) → zero_q <ℚ rise → once <ℚ early → gap ≡ early -ℚ once → number ≡ gap /ℚ rise → k ≡ size_up number
+    → IsCover early once rise k
 cover_is early once rise gap number k rises more g n e = record { enough = up; least = down }
   where
     product : number *ℚ rise ≡ early -ℚ once
     product = ap (λ x. x *ℚ rise) n ∙ div_mul gap rise (not_zero rise rises) ∙ g
 
     some : zero_q ≤ℚ number
-    some = le_of_lt (lt_of_mul rise zero_q number rises (subst (λ x. x <ℚ number *ℚ rise) (sym (zero_mul rise)) (subst (λ x. zero_q <ℚ x) (sym product) (with2 early once (λ c. omega (arith, c.le, c.lt, c.same))))))
+    some = le_of_lt (lt_of_mul rise zero_q number rises (subst (λ x. x <ℚ number *ℚ rise) (sym (zero_mul rise))
+        (subst (λ x. zero_q <ℚ x) (sym product) (with2 early once (λ c. omega (arith, c.le, c.lt, c.same))))))
 
     up : early ≤ℚ once +ℚ int (pos k) *ℚ rise
     up =
@@ -94,24 +95,29 @@ covered_in f start d c k some F C b under s low early =
     let high = once_at in
     le_ext_trans (f s) (Fin C.early) (Fin b) (C.before.above record { at = s; least = low; early = early })
     (le_ext_trans (Fin C.early) (Fin (C.once +ℚ int (pos k) *ℚ c)) (Fin b) C.cover.enough
-    (smallest {I = Until (periods_after start k d) (periods_after start k d +ℚ d)} (λ u. f u.at) (Fin (C.once +ℚ int (pos k) *ℚ c)) (Fin b) high (λ u. under u.at u.least u.early)))
+    (smallest {I = Until (periods_after start k d) (periods_after start k d +ℚ d)} (λ u. f u.at) (Fin (C.once +ℚ int (pos k) *ℚ c)) (Fin b) high
+    (λ u. under u.at u.least u.early)))
   where
     once_at : IsSupremumIn f (periods_after start k d) (periods_after start k d +ℚ d) (Fin (C.once +ℚ int (pos k) *ℚ c))
     once_at = later_supremum f start d c C.once k some F C.within
 
-pub not_covered : (f : ℚ → Ext) (start d c : ℚ) (k i : ℕ) → zero_q <ℚ d → Repeats f start d c → IsCovering f start d c k → i < k → IsCovered f (periods_after start i d) d start → ⊥
+pub not_covered : (f : ℚ → Ext) (start d c : ℚ) (k i : ℕ) → zero_q <ℚ d → Repeats f start d c → IsCovering f start d c k → i < k
+    → IsCovered f (periods_after start i d) d start → ⊥
 not_covered f start d c k i some F C l covered =
     let S = later_supremum f start d c C.once i some F C.within in
     let b = C.once +ℚ int (pos i) *ℚ c in
     let bound : C.early ≤ℚ b =
-        smallest {I = Until zero_q start} (λ u. f u.at) (Fin C.early) (Fin b) C.before (λ u. covered b (λ t low early. S.above record { at = t; least = low; early = early }) u.at u.least u.early) in
+    smallest {I = Until zero_q start} (λ u. f u.at) (Fin C.early) (Fin b) C.before
+    (λ u. covered b (λ t low early. S.above record { at = t; least = low; early = early }) u.at u.least u.early) in
     lt_irrefl b (lt_le_trans (C.cover.least i l) bound)
 
 -- ---- the least number of a curve
-pub least_by_cover : (f : SpecCurve) (start d c : ℚ) (k : ℕ) → start ≡ steady f → d ≡ own_period f → c ≡ rise_over f d → zero_q <ℚ d → zero_q <ℚ c → Repeats (value_at f) start d c
+pub least_by_cover : (f : SpecCurve) (start d c : ℚ) (k : ℕ) → start ≡ steady f → d ≡ own_period f → c ≡ rise_over f d → zero_q <ℚ d → zero_q <ℚ c
+    → Repeats (value_at f) start d c
     → IsCovering (value_at f) start d c k → IsLeast (Meets RunSup f f) k
 least_by_cover f start d c k s p r some rises F C = record {
-  meets = inr (subst (λ z. IsCovered (value_at f) (periods_after z k (own_period f)) (own_period f) z) s (subst (λ z. IsCovered (value_at f) (periods_after start k z) z start) p (covered_in (value_at f) start d c k some F C)));
+  meets = inr (subst (λ z. IsCovered (value_at f) (periods_after z k (own_period f)) (own_period f) z) s
+      (subst (λ z. IsCovered (value_at f) (periods_after start k z) z start) p (covered_in (value_at f) start d c k some F C)));
   least = λ i l m. none i l m;
 }
   where
@@ -119,7 +125,8 @@ least_by_cover f start d c k s p r some rises F C = record {
     none i l (inl e) = lt_irrefl zero_q (subst (λ z. zero_q <ℚ z) (r ∙ ap (rise_over f) p ∙ e) rises)
     none i l (inr h) =
         not_covered (value_at f) start d c k i some F C l
-        (subst (λ z. IsCovered (value_at f) (periods_after start i z) z start) (sym p) (subst (λ z. IsCovered (value_at f) (periods_after z i (own_period f)) (own_period f) z) (sym s) h))
+        (subst (λ z. IsCovered (value_at f) (periods_after start i z) z start) (sym p)
+        (subst (λ z. IsCovered (value_at f) (periods_after z i (own_period f)) (own_period f) z) (sym s) h))
 
 pub covered_by_cover : (f : SpecCurve) (start d c : ℚ) (k : ℕ) → zero_q <ℚ d → Repeats (value_at f) start d c → IsCovering (value_at f) start d c k → IsCoveredAfter f start d c k
 covered_by_cover f start d c k some F C =

@@ -1,11 +1,11 @@
 -- The supremum between two times, piece by piece.
-use Rattle.std.specs.Prelude.{◌≡◌, ℕ, ◌+◌, ◌<◌, ◌≤◌, pos, List, [], ◌∷◌, length, drop, ◌⊎◌}
-use Rattle.std.proofs.Common.{arith, drop_of_length-le, sym, ap, ap₂, ◌∙◌, refl, subst, inl, inr}
+use Rattle.std.specs.Prelude.{◌≡◌, ℕ, ◌+◌, ◌≤◌, pos, List, length, drop, ◌⊎◌}
+use Rattle.std.proofs.Common.{drop_of_length-le, sym, ap, ap₂, ◌∙◌, refl, subst, inl, inr}
 use Rattle.rational.specs.Rational.{ℚ, ◌≤ℚ◌, ◌<ℚ◌, int}
 use Rattle.rational.specs.MinMax.{min_q, max_q}
 use Rattle.rational.specs.Extended.{Ext, ◌≤ₑ◌, ◌<ₑ◌}
 use Rattle.rational.specs.declared.Extended.TheVariants.{Fin}
-use Rattle.rational.proofs.Laws.{antisym, le_refl, le_of_lt, le_or_lt, le_trans, lt_irrefl, lt_le_trans, le_lt_trans, not_le_of_lt}
+use Rattle.rational.proofs.Laws.{antisym, le_refl, le_of_lt, le_or_lt, le_trans, lt_irrefl, lt_le_trans, le_lt_trans}
 use Rattle.rational.proofs.ExtendedOrder.{le_ext_trans, same_le_ext, lt_le_ext}
 use Rattle.rational.proofs.MinMax.{max_q_one, max_q_ge_left, max_q_ge_right, max_q_le, min_q_one, min_q_le_left, min_q_le_right, below_min_in}
 use Rattle.rational.proofs.Stretch.{line_supremum}
@@ -13,10 +13,9 @@ use Rattle.affine_segment.specs.declared.line.Line.{Line}
 use Rattle.affine_segment.specs.declared.line.Piece.{Piece}
 use Rattle.affine_segment.specs.Values.{line_at}
 use Rattle.upp_curve.specs.Reading.{read}
-use Rattle.upp_curve.specs.Normal.{StartsAtZero}
 use Rattle.upp_curve.specs.Readable.{LineFits}
 use Rattle.curve_running.specs.declared.stretch.Stretch.{Stretch}
-use Rattle.curve_running.specs.Scans.{start_or, Until, IsStretch, IsWindow, IsLevel, HasLine, IsSupremumIn}
+use Rattle.curve_running.specs.Scans.{start_or, Until, IsStretch, IsWindow, IsLevel, IsSupremumIn}
 use Rattle.curve_running.specs.Between.{FitsAtBoth, IsLevelBetween, Above, IsHighestIn}
 use Rattle.curve_running.proofs.Levels.{line_top}
 use Rattle.curve_running.proofs.Suprema.{IsLineOn}
@@ -112,7 +111,8 @@ high_level from to ps end i s S = elim (min_q_one s.to to) [
   | inr e ↦ inr (inr (s.line, S.line, inr (ap (line_at s.line) e)))
 ]
 
-pub greater_between : (end from to : ℚ) (ps : List Piece) (v w : ℚ) → IsLevelBetween end from to ps v → IsLevelBetween end from to ps w → IsLevelBetween end from to ps (max_q v w)
+pub greater_between : (end from to : ℚ) (ps : List Piece) (v w : ℚ) → IsLevelBetween end from to ps v → IsLevelBetween end from to ps w
+    → IsLevelBetween end from to ps (max_q v w)
 greater_between end from to ps v w h k = elim (max_q_one v w) [
   | inl e ↦ subst (IsLevelBetween end from to ps) (sym e) h
   | inr e ↦ subst (IsLevelBetween end from to ps) (sym e) k
@@ -137,7 +137,8 @@ rises_on ps end i s S = le_of_lt (subst (λ z. z <ℚ start_or end (drop (i + 1)
 part_by : (ps : List Piece) (end : ℚ) (i : ℕ) (from to h k : ℚ) → k ≡ h → Part ps end i from to h → Part ps end i from to k
 part_by ps end i from to h k e p = subst (Part ps end i from to) (sym e) p
 
-pub inside_is : (ps : List Piece) (end : ℚ) (i : ℕ) (s : Stretch) (from to low high first last h : ℚ) → IsStretch ps end i s → low ≡ max_q s.from from → high ≡ min_q s.to to → low <ℚ high
+pub inside_is : (ps : List Piece) (end : ℚ) (i : ℕ) (s : Stretch) (from to low high first last h : ℚ) → IsStretch ps end i s → low ≡ max_q s.from from
+    → high ≡ min_q s.to to → low <ℚ high
     → s.from <ℚ from → first ≡ line_at s.line low → last ≡ line_at s.line high → h ≡ max_q first last → Part ps end i from to h
 inside_is ps end i s from to low high first last h S a b some late p q e =
     let some' = subst (λ z. z <ℚ min_q s.to to) a (subst (λ z. low <ℚ z) b some) in
@@ -149,7 +150,8 @@ inside_is ps end i s from to low high first last h S a b some late p q e =
       rises = rises_on ps end i s S;
     }
 
-pub start_is : (ps : List Piece) (end : ℚ) (i : ℕ) (s : Stretch) (from to low high first last line h : ℚ) → IsStretch ps end i s → low ≡ max_q s.from from → high ≡ min_q s.to to → low <ℚ high
+pub start_is : (ps : List Piece) (end : ℚ) (i : ℕ) (s : Stretch) (from to low high first last line h : ℚ) → IsStretch ps end i s → low ≡ max_q s.from from
+    → high ≡ min_q s.to to → low <ℚ high
     → from ≤ℚ s.from → first ≡ line_at s.line low → last ≡ line_at s.line high → line ≡ max_q first last → h ≡ max_q s.at line → Part ps end i from to h
 start_is ps end i s from to low high first last line h S a b some early p q e k =
     let some' = subst (λ z. z <ℚ min_q s.to to) a (subst (λ z. low <ℚ z) b some) in
@@ -161,11 +163,17 @@ start_is ps end i s from to low high first last line h S a b some early p q e k 
       rises = rises_on ps end i s S;
     }
 
-pub none_is : (ps : List Piece) (end : ℚ) (i : ℕ) (s : Stretch) (from to low high h : ℚ) → IsStretch ps end i s → low ≡ max_q s.from from → high ≡ min_q s.to to → high ≤ℚ low → h ≡ int (pos 0)
+pub none_is : (ps : List Piece) (end : ℚ) (i : ℕ) (s : Stretch) (from to low high h : ℚ) → IsStretch ps end i s → low ≡ max_q s.from from → high ≡ min_q s.to to
+    → high ≤ℚ low → h ≡ int (pos 0)
     → Part ps end i from to h
 none_is ps end i s from to low high h S a b none e =
     let none' = subst (λ z. min_q s.to to ≤ℚ z) a (subst (λ z. z ≤ℚ low) b none) in
-    part_by ps end i from to (int (pos 0)) h e record { highest = moved ps end i s from to (int (pos 0)) S (part_none (read ps) s.from s.to from to none'); level = inl refl; rises = rises_on ps end i s S }
+    part_by ps end i from to (int (pos 0)) h e record {
+      highest = moved ps end i s from to (int (pos 0)) S (part_none (read ps) s.from s.to from to none');
+      level = inl
+          refl;
+      rises = rises_on ps end i s S;
+    }
 
 -- ---- all pieces before the i-th
 pub record Seen (f : ℚ → Ext) (b from to y : ℚ) : Type 0 where
@@ -191,7 +199,8 @@ between_start ps end from to level W low e =
       later = subst (λ z. int (pos 0) ≤ℚ z) (sym zero) (le_refl (int (pos 0)));
     }
 
-pub between_step : (ps : List Piece) (end : ℚ) (i : ℕ) (from to level h next : ℚ) → BetweenLoop ps end i from to level → start_or end (drop i ps) ≤ℚ start_or end (drop (i + 1) ps)
+pub between_step : (ps : List Piece) (end : ℚ) (i : ℕ) (from to level h next : ℚ) → BetweenLoop ps end i from to level
+    → start_or end (drop i ps) ≤ℚ start_or end (drop (i + 1) ps)
     → IsPart ps end i from to h → IsLevelBetween end from to ps h → next ≡ max_q level h → BetweenLoop ps end (i + 1) from to next
 between_step ps end i from to level h next L rises P k e = record {
   above = λ t soon least early. subst (λ z. read ps t ≤ₑ Fin z) (sym e) (over t soon least early);

@@ -1,14 +1,14 @@
 -- The infimum over the times from a time on that are before an end, taken further back: along a line, and by a value. A number counts as one more
 -- value: the limit at the end, which no time there takes.
-use Rattle.std.specs.Prelude.{◌≡◌, pos, ◌⊎◌}
-use Rattle.std.proofs.Common.{arith, sym, ap, ◌∙◌, refl, subst, inl, inr}
-use Rattle.rational.specs.Rational.{ℚ, ◌≤ℚ◌, ◌<ℚ◌, int}
+use Rattle.std.specs.Prelude.{◌≡◌, ◌⊎◌}
+use Rattle.std.proofs.Common.{sym, ap, ◌∙◌, subst, inl, inr}
+use Rattle.rational.specs.Rational.{ℚ, ◌≤ℚ◌, ◌<ℚ◌}
 use Rattle.rational.specs.MinMax.{min_q, max_q}
 use Rattle.rational.specs.Extended.{Ext, ◌≤ₑ◌, ◌<ₑ◌}
 use Rattle.rational.specs.Bounds.{IsInfimum}
 use Rattle.rational.specs.Stretch.{Between}
 use Rattle.rational.specs.declared.Extended.TheVariants.{Fin}
-use Rattle.rational.proofs.Laws.{antisym, le_refl, le_of_lt, le_or_lt, le_trans, lt_irrefl, lt_le_trans, le_lt_trans, lt_cases}
+use Rattle.rational.proofs.Laws.{antisym, le_refl, le_of_lt, le_or_lt, le_trans, lt_irrefl, lt_le_trans, le_lt_trans}
 use Rattle.rational.proofs.ExtendedOrder.{le_ext_trans, same_le_ext}
 use Rattle.rational.proofs.MinMax.{min_q_one, min_q_le_left, min_q_le_right, max_q_ge_left, max_q_ge_right, max_q_lt}
 use Rattle.rational.proofs.Stretch.{line_infimum}
@@ -84,7 +84,8 @@ late_value f w end x e level v l on most some h k = record { below = under; near
     under (inl s) = elim (le_or_lt e s.at) [
       | inl m ↦
           le_ext_trans (Fin (min_q v (sunk level l e x))) (Fin (sunk level l e x)) (f s.at) (min_q_le_right v (sunk level l e x))
-          (le_ext_trans (Fin (sunk level l e x)) (Fin level) (f s.at) (min_q_le_left level (min_q (line_at l x) (line_at l e))) (k.below (inl record { at = s.at; least = m; early = s.early })))
+          (le_ext_trans (Fin (sunk level l e x)) (Fin level) (f s.at) (min_q_le_left level (min_q (line_at l x) (line_at l e)))
+          (k.below (inl record { at = s.at; least = m; early = s.early })))
       | inr m ↦ elim (le_or_lt s.at x) [
         | inl q ↦
             le_ext_trans (Fin (min_q v (sunk level l e x))) (Fin v) (f s.at) (min_q_le_left v (sunk level l e x)) (same_le_ext (sym h ∙ ap f (antisym (s.least, q))))

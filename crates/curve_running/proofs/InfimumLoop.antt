@@ -1,6 +1,6 @@
 -- The scan for the infimum: what holds after each piece, from the last one on.
 use Rattle.std.specs.Prelude.{◌≡◌, ℕ, false, ◌+◌, ◌-◌, ◌*◌, ◌<◌, ◌≤◌, pos, List, [], ◌∷◌, ◌++◌, length, drop, Option, Some, None, reverse}
-use Rattle.std.proofs.Common.{arith, length-append, drop_of_length-le, sym, ap, ap₂, ◌∙◌, refl, subst, inl, inr}
+use Rattle.std.proofs.Common.{arith, length-append, drop_of_length-le, sym, ap, ap₂, ◌∙◌, refl, subst}
 use Rattle.std.proofs.lemmas.List.{reverse-append, length-reverse}
 use Rattle.rational.specs.Rational.{ℚ, ◌≤ℚ◌, ◌<ℚ◌, int}
 use Rattle.rational.specs.MinMax.{min_q}
@@ -9,14 +9,14 @@ use Rattle.rational.specs.declared.Extended.TheVariants.{Fin}
 use Rattle.rational.proofs.Laws.{lt_irrefl, lt_le_trans, lt_trans, le_of_lt, le_trans}
 use Rattle.affine_segment.specs.declared.line.Line.{Line}
 use Rattle.affine_segment.specs.declared.line.Piece.{Piece}
-use Rattle.affine_segment.specs.Values.{line_at, line_value}
+use Rattle.affine_segment.specs.Values.{line_at}
 use Rattle.upp_curve.specs.Reading.{read}
-use Rattle.upp_curve.specs.Normal.{Each, RisesFrom, StartsAtZero}
+use Rattle.upp_curve.specs.Normal.{Each}
 use Rattle.curve_running.specs.declared.stretch.Stretch.{Stretch}
 use Rattle.curve_running.specs.declared.bend.Bend.{Bend}
 use Rattle.curve_running.specs.Scans.{start_or, IsWindow, IsLevel, IsStretch, IsInfimumUntil}
 use Rattle.curve_running.specs.Bends.{sunk, Follows, bent, bent_back}
-use Rattle.curve_running.specs.Made.{IsMadeOf, IsMade, TurnsAfter, IsScan, IsInfimumScan}
+use Rattle.curve_running.specs.Made.{IsMadeOf, IsMade, TurnsAfter, IsInfimumScan}
 use Rattle.curve_running.proofs.Suprema.{IsLineOn}
 use Rattle.curve_running.proofs.Infima.{IsLate, late_start, late_line, late_value, late_end}
 use Rattle.curve_running.proofs.Building.{BuiltBack, back_more}
@@ -104,7 +104,8 @@ infimum_step ps end i level out more s both deep next b L S f m h d n e =
     subst (IsLate (read ps) w end s.from) (sym next_is) (late_value (read ps) w end s.from s.to level s.at s.line S.on S.most S.some S.at later) in
     let at : R ps end s.from (Fin next) = from_late ps end w s.from next L.ends (lt_le_trans S.some S.most) least in
     let on : (t : ℚ) → s.from <ℚ t → t <ℚ s.to → R ps end t (Fin (sunk level s.line s.to t)) =
-    λ t past early. from_late ps end w t (sunk level s.line s.to t) L.ends (lt_le_trans early S.most) (late_line (read ps) w end s.from s.to t level s.line S.on S.most past early later) in
+    λ t past early. from_late ps end w t (sunk level s.line s.to t) L.ends (lt_le_trans early S.most)
+    (late_line (read ps) w end s.from s.to t level s.line S.on S.most past early later) in
     let turned : reverse more ≡ bent s.from next b.line b.turn ++ reverse out =
     ap reverse e ∙ reverse-append out (bent_back s.from next b.line b.turn) ∙ ap (λ z. z ++ reverse out) (turned_back s.from next b.line b.turn) in
     let both_known : IsLevel end ps both = subst (IsLevel end ps) (sym h) (lesser_level end ps s.right s.left S.right_level S.left_level) in
@@ -121,18 +122,22 @@ infimum_step ps end i level out more s both deep next b L S f m h d n e =
           (subst (BuiltBack (R ps end) s.from end) (sym turned)
           (bent_built ps (reverse out) end s next level b.line b.turn S.some S.most (subst (λ z. BuiltBack (R ps end) z end (reverse out)) (sym S.to) L.built) at on f));
       count = subst (λ z. length z + 2 * i ≤ 2 * length ps) (sym e) (omega (arith, length-append out (bent_back s.from next b.line b.turn)));
-      made = subst (Each (IsMade end ps)) (sym turned) (each_join (IsMade end ps) (bent s.from next b.line b.turn) (reverse out) (bent_made false ps end i level next s b S L.known next_known m) L.made);
-      turns = subst (TurnsAfter false ps None) (sym turned) (turns_join false ps None (bent s.from next b.line b.turn) (reverse out) (bent_turns false ps end i level next s b S m) L.turns);
+      made = subst (Each (IsMade end ps)) (sym turned) (each_join (IsMade end ps) (bent s.from next b.line b.turn) (reverse out)
+          (bent_made false ps end i level next s b S L.known next_known m) L.made);
+      turns = subst (TurnsAfter false ps None) (sym turned) (turns_join false ps None (bent s.from next b.line b.turn) (reverse out)
+          (bent_turns false ps end i level next s b S m) L.turns);
     }
 
-pub infimum_end : (ps : List Piece) (end level : ℚ) (out qs : List Piece) → IsWindow end ps → int (pos 0) <ℚ end → InfimumLoop ps end 0 level out → qs ≡ reverse out → IsInfimumScan ps end qs
+pub infimum_end : (ps : List Piece) (end level : ℚ) (out qs : List Piece) → IsWindow end ps → int (pos 0) <ℚ end → InfimumLoop ps end 0 level out → qs ≡ reverse out
+    → IsInfimumScan ps end qs
 infimum_end ps end level out qs W some L e =
     subst (IsInfimumScan ps end) (sym e) (of (reverse out) (subst (λ z. BuiltBack (R ps end) z end (reverse out)) (first_start end ps W.starts) L.built) L.made L.turns shorter)
   where
     shorter : length (reverse out) ≤ 2 * length ps
     shorter = let c = L.count in omega (arith, length-reverse out)
 
-    of : (rs : List Piece) → BuiltBack (R ps end) (int (pos 0)) end rs → Each (IsMade end ps) rs → TurnsAfter false ps None rs → length rs ≤ 2 * length ps → IsInfimumScan ps end rs
+    of : (rs : List Piece) → BuiltBack (R ps end) (int (pos 0)) end rs → Each (IsMade end ps) rs → TurnsAfter false ps None rs → length rs ≤ 2 * length ps
+        → IsInfimumScan ps end rs
     of [] B m u c = absurd (lt_irrefl end (subst (λ z. z <ℚ end) B some))
     of (r ∷ rs) B m u c = record { scan = record { starts = (B.first, B.rises); before = B.before; count = c; made = m; turns = u }; reads = B.holds }
 

@@ -1,22 +1,20 @@
 -- By the sizes of a call: the steps of a scan of an operand's pieces fit, and each piece that comes out has room.
-use Rattle.std.specs.Prelude.{◌≡◌, ◌≢◌, ℕ, Bool, ◌+◌, ◌*◌, ◌<◌, ◌≤◌, ◌^◌, pos, List, [], ◌∷◌, Option, Some, None, ◌⊎◌}
-use Rattle.std.proofs.Common.{arith, sym, ap, ◌∙◌, refl, subst, inl, inr}
+use Rattle.std.specs.Prelude.{◌≡◌, ◌≢◌, ℕ, Bool, ◌+◌, ◌*◌, ◌≤◌, pos, List, [], ◌∷◌, Option, Some, None, ◌⊎◌}
+use Rattle.std.proofs.Common.{arith, sym, ap, ◌∙◌, subst, inl, inr}
 use native.Mathlib.Nat.{dvd-mul_left}
-use Rattle.rational.specs.Rational.{ℚ, ◌+ℚ◌, ◌-ℚ◌, ◌*ℚ◌, ◌/ℚ◌, neg_ℚ, ◌≤ℚ◌, ◌<ℚ◌, int}
-use Rattle.rational.specs.Ratio.{IsSmall, SumFits}
+use Rattle.rational.specs.Rational.{ℚ, ◌+ℚ◌, ◌-ℚ◌, ◌*ℚ◌, ◌/ℚ◌, ◌≤ℚ◌, ◌<ℚ◌, int}
+use Rattle.rational.specs.Ratio.{IsSmall}
 use Rattle.rational.specs.Grid.{Whole, Within}
 use Rattle.rational.specs.Extended.{Ext}
-use Rattle.rational.specs.declared.Extended.TheVariants.{Fin, Inf}
+use Rattle.rational.specs.declared.Extended.TheVariants.{Fin}
 use Rattle.rational.proofs.Grid.{whole_weaken, whole_int, whole_sub, within_weaken, within_sub, within_nonneg}
 use Rattle.rational.proofs.Integers.{int_add, int_mul, nat_le, nat_nonneg}
 use Rattle.rational.proofs.Laws.{le_refl, le_of_lt, lt_irrefl, mul_comm, mul_le_mul_right, add_mul}
-use Rattle.rational.proofs.Linear.{with1, with2, with3, with4}
+use Rattle.rational.proofs.Linear.{with1, with2, with3}
 use Rattle.rational.proofs.Sizes.{quotient_on_grid}
-use Rattle.fraction128.specs.declared.fault.Wide.{Wide}
 use Rattle.affine_segment.specs.declared.line.Line.{Line}
 use Rattle.affine_segment.specs.declared.line.Piece.{Piece}
 use Rattle.affine_segment.specs.Values.{line_at, line_value}
-use Rattle.affine_segment.specs.Steps.{IsWideCross}
 use Rattle.upp_curve.specs.Bends.{LineOn, NumbersOn, SlopeTurns, BendAfter, OnlyBend}
 use Rattle.upp_curve.specs.Normal.{Each, HasStart, StartsAtZero, RisesFrom}
 use Rattle.upp_curve.specs.Readable.{EachFits, LineFitsTo, start_after}
@@ -43,13 +41,14 @@ zero_line : (z : Sizes) (end : ℚ) → AreSizes z end → OperandLine z (flat (
 zero_line z end S = record {
   slope = zero_slope z end S;
   icept = whole_int (grid_of z) (pos 0);
-  within = within_nonneg (times_largest 2 z) (int (pos 0)) (le_refl (int (pos 0))) (subst (λ y. int (pos 0) ≤ℚ y) (sym (int_mul (pos 2) (pos z.largest))) (nat_nonneg (2 * z.largest)));
+  within = within_nonneg (times_largest 2 z) (int (pos 0)) (le_refl (int (pos 0)))
+      (subst (λ y. int (pos 0) ≤ℚ y) (sym (int_mul (pos 2) (pos z.largest))) (nat_nonneg (2 * z.largest)));
 }
 
 more : (z : Sizes) (k j : ℕ) → k ≤ j → times_largest k z ≤ℚ times_largest j z
 more z k j h = mul_le_mul_right (int (pos z.largest)) (nat_nonneg z.largest) (nat_le k j h)
 
-added : (z : Sizes) (k j : ℕ) → times_largest k z +ℚ times_largest j z ≡ times_largest (k + j) z
+pub added : (z : Sizes) (k j : ℕ) → times_largest k z +ℚ times_largest j z ≡ times_largest (k + j) z
 added z k j = sym (add_mul (int (pos k)) (int (pos j)) (int (pos z.largest))) ∙ ap (λ x. x *ℚ int (pos z.largest)) (int_add (pos k) (pos j))
 
 icept_value : (z : Sizes) (l : Line) → OperandLine z l → OperandValue z l.icept
@@ -79,9 +78,12 @@ level_small z end up down A h a =
     let p = t.steep in
     let d = grid_of z in
     let wide : times_largest 5 z *ℚ int (pos d) ≤ℚ int (pos top) =
-    subst (λ y. y ≤ℚ int (pos top)) (sym (ap (λ y. y *ℚ int (pos d)) (int_mul (pos 5) (pos z.largest)) ∙ int_mul (pos (5 * z.largest)) (pos d))) (nat_le (5 * z.largest * d) top (omega (arith, s))) in
-    let steep : int (pos z.steepness) *ℚ int (pos d) ≤ℚ int (pos top) = subst (λ y. y ≤ℚ int (pos top)) (sym (int_mul (pos z.steepness) (pos d))) (nat_le (z.steepness * d) top (omega (arith, p))) in
-    quotient_on_grid d (times_largest 5 z) (int (pos z.steepness)) up down (grid_pos z end A.sizes) h wide steep a.up_whole (whole_weaken z.ds d down (dvd-mul_left z.ds (z.dv * z.dt)) a.down_whole)
+    subst (λ y. y ≤ℚ int (pos top)) (sym (ap (λ y. y *ℚ int (pos d)) (int_mul (pos 5) (pos z.largest)) ∙ int_mul (pos (5 * z.largest)) (pos d)))
+    (nat_le (5 * z.largest * d) top (omega (arith, s))) in
+    let steep : int (pos z.steepness) *ℚ int (pos d) ≤ℚ int (pos top) = subst (λ y. y ≤ℚ int (pos top)) (sym (int_mul (pos z.steepness) (pos d)))
+    (nat_le (z.steepness * d) top (omega (arith, p))) in
+    quotient_on_grid d (times_largest 5 z) (int (pos z.steepness)) up down (grid_pos z end A.sizes) h wide steep a.up_whole
+    (whole_weaken z.ds d down (dvd-mul_left z.ds (z.dv * z.dt)) a.down_whole)
     a.up_within a.down_within
 
 not_flat : (s : ℚ) → int (pos 0) <ℚ s → s -ℚ int (pos 0) ≢ int (pos 0)
@@ -121,7 +123,8 @@ EachOperand z end ps = Each (OperandPiece z end) ps
 value_of : (z : Sizes) (x : Ext) (v : ℚ) → x ≡ Fin v → OperandValueAt z x → OperandValue z v
 value_of z x v e h = subst (OperandValueAt z) e h
 
-next_stands : (z : Sizes) (end : ℚ) (ps : List Piece) → AreLimited z end → EachOperand z end ps → Whole z.dt (start_or end ps) × (int (pos 0) ≤ℚ start_or end ps) × (start_or end ps ≤ℚ end)
+next_stands : (z : Sizes) (end : ℚ) (ps : List Piece) → AreLimited z end → EachOperand z end ps
+    → Whole z.dt (start_or end ps) × (int (pos 0) ≤ℚ start_or end ps) × (start_or end ps ≤ℚ end)
 next_stands z end [] A h = (A.sizes.window, A.some, le_refl end)
 next_stands z end (q ∷ qs) A h = let Q = h.0 in (Q.start, Q.nonneg, le_of_lt Q.before)
 
@@ -175,7 +178,8 @@ made_time z end ps x A O low (inl h) = room_at_start z end x A (start_operand z 
 made_time z end ps x A O low (inr (v, l, k, has, m)) =
     crossing_room z end x A (level_crossing z end v l x A (line_operand z end ps l O has) (level_value z end ps v A O k) m) low
 
-pub made_room : (z : Sizes) (end : ℚ) (ps : List Piece) (q : Piece) → AreLimited z end → EachOperand z end ps → int (pos 0) ≤ℚ q.x → IsMade end ps q → PieceHasRoom (answer_room z end) 1 q
+pub made_room : (z : Sizes) (end : ℚ) (ps : List Piece) (q : Piece) → AreLimited z end → EachOperand z end ps → int (pos 0) ≤ℚ q.x → IsMade end ps q
+    → PieceHasRoom (answer_room z end) 1 q
 made_room z end ps q A O low m =
     let T = made_time z end ps q.x A O low m.start in
     let (v, e, k) = m.at in
@@ -198,11 +202,13 @@ all_low [] h = absurd h
 all_low (q ∷ qs) h =
     let low : int (pos 0) ≤ℚ q.x = subst (λ x. int (pos 0) ≤ℚ x) (sym h.0) (le_refl (int (pos 0))) in (low, starts_low q.x qs low h.1)
 
-each_room : (z : Sizes) (end : ℚ) (ps qs : List Piece) → AreLimited z end → EachOperand z end ps → Each (λ q. int (pos 0) ≤ℚ q.x) qs → Each (IsMade end ps) qs → Each (PieceHasRoom (answer_room z end) 1) qs
+each_room : (z : Sizes) (end : ℚ) (ps qs : List Piece) → AreLimited z end → EachOperand z end ps → Each (λ q. int (pos 0) ≤ℚ q.x) qs → Each (IsMade end ps) qs
+    → Each (PieceHasRoom (answer_room z end) 1) qs
 each_room z end ps [] A O low m = tt
 each_room z end ps (q ∷ qs) A O low m = (made_room z end ps q A O low.0 m.0, each_room z end ps qs A O low.1 m.1)
 
-pub scan_room : (rises : Bool) (z : Sizes) (end : ℚ) (ps qs : List Piece) → AreLimited z end → OperandPieces z end ps → IsScan rises ps end qs → Each (PieceHasRoom (answer_room z end) 1) qs
+pub scan_room : (rises : Bool) (z : Sizes) (end : ℚ) (ps qs : List Piece) → AreLimited z end → OperandPieces z end ps → IsScan rises ps end qs
+    → Each (PieceHasRoom (answer_room z end) 1) qs
 scan_room rises z end ps qs A O s = each_room z end ps qs A O.each (all_low qs s.starts) s.made
 
 some_none : {l : Line} → Some l ≡ None → ⊥
@@ -214,14 +220,16 @@ made_on : (z : Sizes) (end : ℚ) (ps : List Piece) (line : Option Line) → Are
 made_on z end ps line A O (inl (l, e, k)) = let L = line_operand z end ps l O k in subst (LineOn z.ds (grid_of z)) (sym e) (L.icept, L.slope.whole)
 made_on z end ps line A O (inr (v, e, k)) = subst (LineOn z.ds (grid_of z)) (sym e) ((level_value z end ps v A O k).whole, whole_int z.ds (pos 0))
 
-some_line : (end : ℚ) (ps : List Piece) (line : Option Line) → (((l : Line) × (line ≡ Some l) × HasLine l ps) ⊎ ((v : ℚ) × (line ≡ Some (flat v)) × IsLevel end ps v)) → line ≡ None → ⊥
+some_line : (end : ℚ) (ps : List Piece) (line : Option Line) → (((l : Line) × (line ≡ Some l) × HasLine l ps) ⊎ ((v : ℚ) × (line ≡ Some (flat v)) × IsLevel end ps v))
+    → line ≡ None → ⊥
 some_line end ps line (inl (l, e, k)) n = some_none (sym e ∙ n)
 some_line end ps line (inr (v, e, k)) n = some_none (sym e ∙ n)
 
 numbers_on : (z : Sizes) (end : ℚ) (ps : List Piece) (q : Piece) → AreLimited z end → EachOperand z end ps → IsMade end ps q → NumbersOn z.ds (grid_of z) q
 numbers_on z end ps q A O m = record { line = made_on z end ps q.line A O m.line; at = λ n. absurd (some_line end ps q.line m.line n) }
 
-bend_after : (rises : Bool) (z : Sizes) (end : ℚ) (ps : List Piece) (p : Piece) (qs : List Piece) → AreLimited z end → EachOperand z end ps → Each (IsMade end ps) qs → TurnsAfter rises ps p.line qs
+bend_after : (rises : Bool) (z : Sizes) (end : ℚ) (ps : List Piece) (p : Piece) (qs : List Piece) → AreLimited z end → EachOperand z end ps → Each (IsMade end ps) qs
+    → TurnsAfter rises ps p.line qs
     → BendAfter rises z.dt z.ds (grid_of z) p qs
 bend_after rises z end ps p [] A O m t = tt
 bend_after rises z end ps p (q ∷ qs) A O m t = (turn t.0, numbers_on z end ps q A O m.0, bend_after rises z end ps q qs A O m.1 t.1)

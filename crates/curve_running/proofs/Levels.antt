@@ -1,15 +1,14 @@
 -- A line against a level on one stretch: which of the two is the greater, or the lesser, of all up to a time, or from it on.
-use Rattle.std.specs.Prelude.{◌≡◌, pos, Option, Some, None, ◌⊎◌}
-use Rattle.std.proofs.Common.{arith, sym, ap, ◌∙◌, refl, subst, inl, inr}
-use Rattle.rational.specs.Rational.{ℚ, ◌+ℚ◌, ◌*ℚ◌, ◌≤ℚ◌, ◌<ℚ◌, int}
+use Rattle.std.specs.Prelude.{◌≡◌, pos, Some}
+use Rattle.std.proofs.Common.{arith, sym, ap, ◌∙◌, subst, inl, inr}
+use Rattle.rational.specs.Rational.{ℚ, ◌≤ℚ◌, ◌<ℚ◌, int}
 use Rattle.rational.specs.MinMax.{min_q, max_q}
 use Rattle.rational.specs.declared.Extended.TheVariants.{Fin}
-use Rattle.rational.proofs.Linear.{with1, with2, with3}
-use Rattle.rational.proofs.Laws.{antisym, le_refl, le_of_lt, le_or_lt, le_trans, lt_irrefl, lt_le_trans, le_lt_trans, zero_mul}
+use Rattle.rational.proofs.Linear.{with1}
+use Rattle.rational.proofs.Laws.{antisym, le_refl, le_of_lt, le_or_lt, le_trans, lt_irrefl, lt_le_trans, zero_mul}
 use Rattle.rational.proofs.Lines.{line_rises, line_falls}
 use Rattle.rational.proofs.MinMax.{max_q_le, max_q_ge_left, max_q_ge_right, min_q_ge, min_q_le_left, min_q_le_right}
 use Rattle.affine_segment.specs.declared.line.Line.{Line}
-use Rattle.affine_segment.specs.declared.line.Piece.{Piece}
 use Rattle.affine_segment.specs.Values.{line_at}
 use Rattle.curve_running.specs.Scans.{flat}
 use Rattle.curve_running.specs.Bends.{risen, sunk, IsOn, TakesOver}

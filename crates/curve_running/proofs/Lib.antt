@@ -15,3 +15,7 @@ pub mod Covers
 pub mod SupremumCalls
 pub mod RunFacts
 pub mod SupremumRuns
+pub mod Fronts
+pub mod InfimumRuns
+pub mod FirstWindows
+pub mod Dips

@@ -1,6 +1,6 @@
 -- That the pieces of a bend are made of levels and lines of the scanned pieces.
 use Rattle.std.specs.Prelude.{◌≡◌, ℕ, Bool, List, [], ◌∷◌, ◌++◌, Option, Some, None, IfSome, ◌⊎◌}
-use Rattle.std.proofs.Common.{sym, ap, ◌∙◌, refl, subst, inl, inr}
+use Rattle.std.proofs.Common.{sym, ap, refl, subst, inl, inr}
 use Rattle.rational.specs.Rational.{ℚ}
 use Rattle.rational.specs.MinMax.{min_q, max_q}
 use Rattle.rational.specs.declared.Extended.TheVariants.{Fin}
@@ -13,7 +13,7 @@ use Rattle.curve_running.specs.declared.stretch.Stretch.{Stretch}
 use Rattle.curve_running.specs.declared.bend.Bend.{Bend}
 use Rattle.curve_running.specs.Scans.{flat, IsLevel, HasLine, IsStretch}
 use Rattle.curve_running.specs.Bends.{bent}
-use Rattle.curve_running.specs.Made.{IsMeeting, IsOneOf, IsTurn, IsMadeOf, IsMade, TurnsAfter}
+use Rattle.curve_running.specs.Made.{IsOneOf, IsTurn, IsMadeOf, IsMade, TurnsAfter}
 
 -- the greater and the lesser of two levels are levels
 pub greater_level : (end : ℚ) (ps : List Piece) (v w : ℚ) → IsLevel end ps v → IsLevel end ps w → IsLevel end ps (max_q v w)
@@ -28,7 +28,8 @@ lesser_level end ps v w h k = elim (min_q_one v w) [
   | inr e ↦ subst (IsLevel end ps) (sym e) k
 ]
 
-one_of : (ps : List Piece) (end : ℚ) (level : ℚ) (s : Stretch) (v : ℚ) → IsLevel end ps level → IsLevel end ps s.right → IsLevel end ps s.left → IsOneOf level s v → IsLevel end ps v
+one_of : (ps : List Piece) (end : ℚ) (level : ℚ) (s : Stretch) (v : ℚ) → IsLevel end ps level → IsLevel end ps s.right → IsLevel end ps s.left → IsOneOf level s v
+    → IsLevel end ps v
 one_of ps end level s v h r l (inl e) = subst (IsLevel end ps) (sym e) h
 one_of ps end level s v h r l (inr (inl e)) = subst (IsLevel end ps) (sym e) r
 one_of ps end level s v h r l (inr (inr e)) = subst (IsLevel end ps) (sym e) l
@@ -42,7 +43,8 @@ first_line ps end i level s l S h (inl e) = inl (s.line, ap Some e, S.line)
 first_line ps end i level s l S h (inr (v, e, k)) = inr (v, ap Some e, one_of ps end level s v h S.right_level S.left_level k)
 
 -- the first piece of a stretch, of the value v
-pub first_made : (rises : Bool) (ps : List Piece) (end : ℚ) (i : ℕ) (level v : ℚ) (s : Stretch) (b : Bend) → IsStretch ps end i s → IsLevel end ps level → IsLevel end ps v → IsMadeOf rises level s b
+pub first_made : (rises : Bool) (ps : List Piece) (end : ℚ) (i : ℕ) (level v : ℚ) (s : Stretch) (b : Bend) → IsStretch ps end i s → IsLevel end ps level
+    → IsLevel end ps v → IsMadeOf rises level s b
     → IsMade end ps record { x = s.from; at = Fin v; line = Some b.line }
 first_made rises ps end i level v s b S h k m = record { at = (v, refl, k); line = first_line ps end i level s b.line S h m.line; start = inl S.start }
 
@@ -63,7 +65,8 @@ pub each_join : (P : Piece → Type 0) (xs ys : List Piece) → Each P xs → Ea
 each_join P [] ys h k = k
 each_join P (x ∷ xs) ys h k = (h.0, each_join P xs ys h.1 k)
 
-pub bent_made : (rises : Bool) (ps : List Piece) (end : ℚ) (i : ℕ) (level v : ℚ) (s : Stretch) (b : Bend) → IsStretch ps end i s → IsLevel end ps level → IsLevel end ps v → IsMadeOf rises level s b
+pub bent_made : (rises : Bool) (ps : List Piece) (end : ℚ) (i : ℕ) (level v : ℚ) (s : Stretch) (b : Bend) → IsStretch ps end i s → IsLevel end ps level → IsLevel end ps v
+    → IsMadeOf rises level s b
     → Each (IsMade end ps) (bent s.from v b.line b.turn)
 bent_made rises ps end i level v s b S h k m = parts b.turn m.turn
   where
@@ -72,7 +75,8 @@ bent_made rises ps end i level v s b S h k m = parts b.turn m.turn
     parts (Some q) t = (first_made rises ps end i level v s b S h k m, (turn_made ps end i level s q S h t, tt))
 
 -- ---- turns
-bent_turn : (rises : Bool) (ps : List Piece) (x v : ℚ) (l : Line) (turn : Option Piece) → HasStart x ps → IfSome turn (λ q. SlopeTurns rises (Some l) q.line) → TurnsAfter rises ps None (bent x v l turn)
+bent_turn : (rises : Bool) (ps : List Piece) (x v : ℚ) (l : Line) (turn : Option Piece) → HasStart x ps → IfSome turn (λ q. SlopeTurns rises (Some l) q.line)
+    → TurnsAfter rises ps None (bent x v l turn)
 bent_turn rises ps x v l None h k = (inl h, tt)
 bent_turn rises ps x v l (Some q) h k = (inl h, (inr k, tt))
 
@@ -89,6 +93,7 @@ turns_any rises ps last (q ∷ qs) h = (first h.0, h.1)
     first (inl k) = inl k
     first (inr k) = absurd k
 
-pub turns_join : (rises : Bool) (ps : List Piece) (last : Option Line) (xs ys : List Piece) → TurnsAfter rises ps last xs → TurnsAfter rises ps None ys → TurnsAfter rises ps last (xs ++ ys)
+pub turns_join : (rises : Bool) (ps : List Piece) (last : Option Line) (xs ys : List Piece) → TurnsAfter rises ps last xs → TurnsAfter rises ps None ys
+    → TurnsAfter rises ps last (xs ++ ys)
 turns_join rises ps last [] ys h k = turns_any rises ps last ys k
 turns_join rises ps last (x ∷ xs) ys h k = (h.0, turns_join rises ps x.line xs ys h.1 k)

@@ -1,6 +1,6 @@
 -- What the meeting of a line that rises with a level line gives.
 use Rattle.std.specs.Prelude.{◌≡◌, ◌↔◌, pos, Option, Some, None, Result, Ok, Err, IfOk, IfErr, IfSome}
-use Rattle.std.proofs.Common.{sym, ap, ◌∙◌, refl, subst}
+use Rattle.std.proofs.Common.{ap, ◌∙◌, subst}
 use Rattle.rational.specs.Rational.{ℚ, ◌<ℚ◌, int}
 use Rattle.rational.proofs.Laws.{lt_irrefl}
 use Rattle.fraction128.specs.declared.fault.Wide.{Wide}

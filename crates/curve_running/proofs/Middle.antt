@@ -1,8 +1,7 @@
 -- One piece in the middle of a window: how it is read, where it ends, and that its steps fit.
-use Rattle.std.specs.Prelude.{◌≡◌, ℕ, suc, ◌+◌, ◌<◌, pos, List, [], ◌∷◌, ◌++◌, length, take, drop, Option, Some, None, ◌⊎◌}
-use Rattle.std.proofs.Common.{arith, get_or, drop-cons, take-append-drop, sym, ap, ap₂, ◌∙◌, refl, subst, inl, inr}
-use Rattle.rational.specs.Rational.{ℚ, ◌≤ℚ◌, ◌<ℚ◌, int}
-use Rattle.rational.specs.Extended.{Ext}
+use Rattle.std.specs.Prelude.{◌≡◌, ℕ, suc, ◌+◌, ◌<◌, List, [], ◌∷◌, ◌++◌, length, take, drop, Option, Some}
+use Rattle.std.proofs.Common.{arith, get_or, drop-cons, take-append-drop, sym, ap, ◌∙◌, refl, subst, inl, inr}
+use Rattle.rational.specs.Rational.{ℚ, ◌≤ℚ◌, ◌<ℚ◌}
 use Rattle.rational.specs.declared.Extended.TheVariants.{Fin}
 use Rattle.rational.proofs.Laws.{le_refl, le_of_lt}
 use Rattle.affine_segment.specs.declared.line.Line.{Line}
@@ -14,7 +13,6 @@ use Rattle.upp_curve.specs.Readable.{EachFits, LineFitsAt, LineFits, LineFitsTo,
 use Rattle.upp_curve.specs.Shapes.{IsFinitePiece}
 use Rattle.upp_curve.proofs.FirstStretch.{value_past, value_at_start}
 use Rattle.curve_window.proofs.Surgery.{BeforeNext, read_middle, rest_rises, start_nonneg, before_own}
-use Rattle.curve_running.specs.declared.stretch.Stretch.{Stretch}
 use Rattle.curve_running.specs.Scans.{start_or, IsWindow, ScanFits, IsLevel, HasLine, IsStretch}
 
 -- the list falls into what comes before the i-th piece, that piece, and what comes after it
@@ -120,7 +118,8 @@ stretch_is ps i p end v to right left l W h e at line is r q m n = record {
   at = subst (λ z. read z p.x ≡ Fin v) a.whole (read_middle a.before p a.after p.x starts (le_refl p.x) (before_own p a.after rises) ∙ value_at_start p ∙ at);
   on = λ t past before.
       subst (λ z. read z t ≡ Fin (line_at l t)) a.whole
-      (read_middle a.before p a.after t starts (le_of_lt past) (before_next end t a.after (subst (λ z. t <ℚ z) to_is before)) ∙ value_past p t past ∙ ap (λ z. line_value z t) line);
+      (read_middle a.before p a.after t starts (le_of_lt past) (before_next end t a.after (subst (λ z. t <ℚ z) to_is before)) ∙ value_past p t past ∙ ap
+      (λ z. line_value z t) line);
   right = r;
   left = q;
   right_fits = m;
@@ -129,7 +128,8 @@ stretch_is ps i p end v to right left l W h e at line is r q m n = record {
   line = subst (HasLine l) a.whole (has_line l a.before p a.after line);
   at_level = subst (λ z. IsLevel end z v) a.whole (level_at end a.before p a.after v at);
   right_level = subst (λ z. IsLevel end z right) a.whole (level_right end a.before p a.after right (ap (λ z. line_value z p.x) line ∙ ap Fin (sym r)));
-  left_level = subst (λ z. IsLevel end z left) a.whole (level_left end a.before p a.after left (ap (λ z. line_value z (start_or end a.after)) line ∙ ap Fin (ap (line_at l) (sym to_is) ∙ sym q)));
+  left_level = subst (λ z. IsLevel end z left) a.whole (level_left end a.before p a.after left
+      (ap (λ z. line_value z (start_or end a.after)) line ∙ ap Fin (ap (line_at l) (sym to_is) ∙ sym q)));
 }
   where
     a : Parts ps i p

@@ -1,15 +1,14 @@
 -- How the running bounds of a function repeat that repeats itself, and what lies past the second period.
-use Rattle.std.specs.Prelude.{◌≡◌, ℕ, zero, suc, ◌<◌, pos, ◌⊎◌}
-use Rattle.std.proofs.Common.{arith, sym, ap, ◌∙◌, refl, subst, inl, inr}
-use Rattle.rational.specs.Rational.{ℚ, ◌+ℚ◌, ◌-ℚ◌, ◌*ℚ◌, ◌/ℚ◌, ◌≤ℚ◌, ◌<ℚ◌, int}
+use Rattle.std.specs.Prelude.{◌≡◌, ℕ, zero, suc, pos}
+use Rattle.std.proofs.Common.{arith, sym, ap, ◌∙◌, subst, inl, inr}
+use Rattle.rational.specs.Rational.{ℚ, ◌+ℚ◌, ◌-ℚ◌, ◌*ℚ◌, ◌≤ℚ◌, ◌<ℚ◌, int}
 use Rattle.rational.specs.Extended.{Ext, ◌≤ₑ◌, ◌<ₑ◌, ◌+ₑ◌}
-use Rattle.rational.specs.Bounds.{IsInfimum, IsSupremum}
 use Rattle.rational.specs.declared.Extended.TheVariants.{Fin, Inf}
-use Rattle.rational.proofs.Linear.{with1, with2, with3, with4, with5}
-use Rattle.rational.proofs.Laws.{le_refl, le_of_lt, le_or_lt, le_trans, lt_le_trans, le_lt_trans, lt_irrefl, add_mul, one_mul}
-use Rattle.rational.proofs.Integers.{nat_next, nat_nonneg}
+use Rattle.rational.proofs.Linear.{with1, with2, with3, with4}
+use Rattle.rational.proofs.Laws.{le_refl, le_of_lt, le_or_lt, le_trans, add_mul, one_mul}
+use Rattle.rational.proofs.Integers.{nat_next}
 use Rattle.rational.proofs.ExtendedOrder.{le_ext_refl, le_ext_trans, lt_le_ext, same_le_ext, add_le_ext, add_zero_ext, gt_add_in, gt_add_out}
-use Rattle.rational.proofs.Bounds.{infimum_shift, same_infimum, supremum_shift, smallest}
+use Rattle.rational.proofs.Bounds.{infimum_shift, same_infimum, supremum_shift}
 use Rattle.upp_curve.specs.Steady.{Repeats}
 use Rattle.upp_curve.specs.Functions.{zero_q, UpTo, From}
 use Rattle.upp_curve.specs.Running.{IsRunningSupremum, IsRunningInfimum}
@@ -43,14 +42,16 @@ later_by f r d c t y s low some F h most m = record {
   more = subst (λ z. Fin y <ₑ z) (sym (F.rule s h)) (gt_add_in (f s) c y m);
 }
 
-shift_above : (f : ℚ → Ext) (r d c t : ℚ) (v : Ext) → zero_q ≤ℚ r → zero_q ≤ℚ c → Repeats f r d c → r +ℚ d ≤ℚ t → IsRunningSupremum f t v → (s : UpTo (t +ℚ d)) → f s.at ≤ₑ v +ₑ Fin c
+shift_above : (f : ℚ → Ext) (r d c t : ℚ) (v : Ext) → zero_q ≤ℚ r → zero_q ≤ℚ c → Repeats f r d c → r +ℚ d ≤ℚ t → IsRunningSupremum f t v → (s : UpTo (t +ℚ d))
+    → f s.at ≤ₑ v +ₑ Fin c
 shift_above f r d c t v low rise F h k s =
     let u = s.at in
     let most = s.most in
     elim (le_or_lt (r +ℚ d) u) [
       | inl l ↦
           let b : UpTo t = record { at = u -ℚ d; nonneg = with3 r d u (λ q. omega (arith, q.le, q.lt, q.same)); most = with3 u d t (λ q. omega (arith, q.le, q.lt, q.same)) } in
-          le_ext_trans (f u) (f (u -ℚ d) +ₑ Fin c) (v +ₑ Fin c) (same_le_ext (back_rule f r d c u F l)) (add_le_ext (f (u -ℚ d)) v (Fin c) (Fin c) (k.above b) (le_ext_refl (Fin c)))
+          le_ext_trans (f u) (f (u -ℚ d) +ₑ Fin c) (v +ₑ Fin c) (same_le_ext (back_rule f r d c u F l))
+          (add_le_ext (f (u -ℚ d)) v (Fin c) (Fin c) (k.above b) (le_ext_refl (Fin c)))
       | inr l ↦
           let b : UpTo t = record { at = u; nonneg = s.nonneg; most = le_trans (le_of_lt l) h } in
           le_ext_trans (f u) v (v +ₑ Fin c) (k.above b) (raised v c rise)
@@ -83,9 +84,9 @@ pub supremum_from_start : (f : ℚ → Ext) (r d c t : ℚ) (v : Ext) → zero_q
 supremum_from_start f r d c t v low none some rise F late k = record {
   above = shift_above f r d c t v low rise F late k;
   near = λ y l.
-  let (s, m) = k.near (y -ℚ c) (gt_add_out v c y l) in
-  let b = later_by f r d c t y s.at low some F (le_trans none s.nonneg) s.most m in
-  (record { at = b.at; nonneg = b.nonneg; most = b.most }, b.more);
+      let (s, m) = k.near (y -ℚ c) (gt_add_out v c y l) in
+      let b = later_by f r d c t y s.at low some F (le_trans none s.nonneg) s.most m in
+      (record { at = b.at; nonneg = b.nonneg; most = b.most }, b.more);
 }
 
 -- where it does not rise over a period it is constant from the end of the first one on
@@ -94,13 +95,13 @@ pub supremum_constant : (f : ℚ → Ext) (r d c t : ℚ) (v : Ext) → zero_q �
 supremum_constant f r d c t v low some flat F late k = record {
   above = shift_above f r d c t v low (subst (λ z. zero_q ≤ℚ z) (sym flat) (le_refl zero_q)) F late k;
   near = λ y l.
-  let same : v +ₑ Fin c ≡ v = ap (λ z. v +ₑ Fin z) flat ∙ add_zero_ext v in
-  let (s, m) = k.near y (subst (λ z. Fin y <ₑ z) same l) in
-  let u = s.at in
-  let most = s.most in (
-    record { at = u; nonneg = s.nonneg; most = with3 u t d (λ q. omega (arith, q.le, q.lt, q.same)) },
-    m,
-  );
+      let same : v +ₑ Fin c ≡ v = ap (λ z. v +ₑ Fin z) flat ∙ add_zero_ext v in
+      let (s, m) = k.near y (subst (λ z. Fin y <ₑ z) same l) in
+      let u = s.at in
+      let most = s.most in (
+        record { at = u; nonneg = s.nonneg; most = with3 u t d (λ q. omega (arith, q.le, q.lt, q.same)) },
+        m,
+      );
 }
 
 -- n periods on the supremum of a period is n rises higher
@@ -165,11 +166,18 @@ brought_back f r d c rise F (suc n) x h l = elim (le_or_lt (r +ℚ int (pos 2) *
       let step : int (pos (suc n)) *ℚ d ≡ nd +ℚ d = ap (λ z. z *ℚ d) (nat_next n) ∙ add_mul (int (pos n)) (int (pos 1)) d ∙ ap (λ z. nd +ℚ z) (one_mul d) in
       let l' : x <ℚ r +ℚ int (pos 2) *ℚ d +ℚ (nd +ℚ d) = subst (λ z. x <ℚ r +ℚ int (pos 2) *ℚ d +ℚ z) step l in
       let b = brought_back f r d c rise F n y (with3 r d x (λ q. omega (arith, q.le, q.lt, q.same))) (with4 r d x nd (λ q. omega (arith, q.le, q.lt, q.same))) in
-      record { at = b.at; low = b.low; high = b.high; less = le_ext_trans (f b.at) (f y) (f x) b.less (le_ext_trans (f y) (f y +ₑ Fin c) (f x) (raised (f y) c rise) (same_le_ext (sym (back_rule f r d c x F h)))) }
+      record {
+        at = b.at;
+        low = b.low;
+        high = b.high;
+        less = le_ext_trans (f b.at) (f y) (f x) b.less
+            (le_ext_trans (f y) (f y +ₑ Fin c) (f x) (raised (f y) c rise) (same_le_ext (sym (back_rule f r d c x F h))));
+      }
 ]
 
 -- so the times before the end of the second period are enough
-pub infimum_until : (f : ℚ → Ext) (r d c t : ℚ) (v : Ext) → int (pos 0) <ℚ d → zero_q ≤ℚ c → Repeats f r d c → t ≤ℚ r +ℚ d → IsInfimumUntil f (r +ℚ int (pos 2) *ℚ d) t v → IsRunningInfimum f t v
+pub infimum_until : (f : ℚ → Ext) (r d c t : ℚ) (v : Ext) → int (pos 0) <ℚ d → zero_q ≤ℚ c → Repeats f r d c → t ≤ℚ r +ℚ d → IsInfimumUntil f (r +ℚ int (pos 2) *ℚ d) t v
+    → IsRunningInfimum f t v
 infimum_until f r d c t v some rise F early k =
     same_infimum {I = Until t (r +ℚ int (pos 2) *ℚ d)} {J = From t} (λ s. f s.at) (λ s. f s.at) v
     (λ s. (record { at = s.at; least = s.least }, le_ext_refl (f s.at)))

@@ -1,13 +1,13 @@
 -- The supremum over the times up to a time, taken further: by a value, and along a line.
-use Rattle.std.specs.Prelude.{◌≡◌, pos, ◌⊎◌}
-use Rattle.std.proofs.Common.{arith, sym, ap, ◌∙◌, refl, subst, inl, inr}
-use Rattle.rational.specs.Rational.{ℚ, ◌≤ℚ◌, ◌<ℚ◌, int}
+use Rattle.std.specs.Prelude.{◌≡◌, ◌⊎◌}
+use Rattle.std.proofs.Common.{sym, ap, ◌∙◌, subst, inl, inr}
+use Rattle.rational.specs.Rational.{ℚ, ◌≤ℚ◌, ◌<ℚ◌}
 use Rattle.rational.specs.MinMax.{max_q}
 use Rattle.rational.specs.Extended.{Ext, ◌≤ₑ◌, ◌<ₑ◌}
 use Rattle.rational.specs.Bounds.{IsSupremum}
 use Rattle.rational.specs.Stretch.{Between}
 use Rattle.rational.specs.declared.Extended.TheVariants.{Fin}
-use Rattle.rational.proofs.Laws.{antisym, le_refl, le_of_lt, le_or_lt, le_trans, lt_irrefl, lt_le_trans, le_lt_trans, lt_cases}
+use Rattle.rational.proofs.Laws.{antisym, le_refl, le_of_lt, le_or_lt, le_trans, lt_irrefl, lt_le_trans, le_lt_trans}
 use Rattle.rational.proofs.ExtendedOrder.{le_ext_trans, same_le_ext}
 use Rattle.rational.proofs.MinMax.{max_q_one, max_q_ge_left, max_q_ge_right}
 use Rattle.rational.proofs.Stretch.{line_supremum}

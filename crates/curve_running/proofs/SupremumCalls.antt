@@ -1,18 +1,16 @@
 -- The pieces of a finite curve up to the end of its first period, by the sizes of a call: how they are read, and that the steps over them fit.
-use Rattle.std.specs.Prelude.{◌≡◌, ◌≢◌, ℕ, ◌+◌, ◌*◌, ◌<◌, ◌≤◌, ◌^◌, pos, List, [], ◌∷◌, Option, Some, None, ◌⊎◌}
+use Rattle.std.specs.Prelude.{◌≡◌, ℕ, ◌*◌, ◌≤◌, pos, List, [], ◌∷◌, Option, Some, None}
 use Rattle.std.proofs.Common.{arith, sym, ap, ◌∙◌, refl, subst, inl, inr}
 use Rattle.std.specs.List.{AllByRecursion}
 use native.Mathlib.Nat.{mul-le-mul_right}
-use Rattle.rational.specs.Rational.{ℚ, ◌+ℚ◌, ◌-ℚ◌, ◌*ℚ◌, ◌/ℚ◌, neg_ℚ, ◌≤ℚ◌, ◌<ℚ◌, int}
-use Rattle.rational.specs.Ratio.{IsSmall, SumFits}
+use Rattle.rational.specs.Rational.{ℚ, ◌+ℚ◌, ◌-ℚ◌, ◌*ℚ◌, ◌≤ℚ◌, ◌<ℚ◌, int}
 use Rattle.rational.specs.Grid.{Whole, Within}
 use Rattle.rational.specs.Extended.{Ext, ◌≤ₑ◌}
-use Rattle.rational.specs.Bounds.{IsSupremum}
-use Rattle.rational.specs.declared.Extended.TheVariants.{Fin, Inf}
-use Rattle.rational.proofs.Grid.{whole_int, whole_sub, within_weaken, within_sub, within_nonneg, whole_add}
-use Rattle.rational.proofs.Integers.{int_add, int_mul, nat_le, nat_nonneg}
-use Rattle.rational.proofs.Laws.{antisym, le_refl, le_of_lt, le_trans, lt_le_trans, le_lt_trans, mul_le_mul, mul_le_mul_right, not_zero, add_mul}
-use Rattle.rational.proofs.Linear.{with1, with2, with3}
+use Rattle.rational.specs.declared.Extended.TheVariants.{Fin}
+use Rattle.rational.proofs.Grid.{whole_int, whole_sub, within_sub, within_nonneg, whole_add}
+use Rattle.rational.proofs.Integers.{int_mul, nat_le, nat_nonneg}
+use Rattle.rational.proofs.Laws.{antisym, le_refl, le_of_lt, le_trans, lt_le_trans, mul_le_mul, not_zero}
+use Rattle.rational.proofs.Linear.{with2}
 use Rattle.rational.proofs.Sizes.{quotient_on_grid}
 use Rattle.rational.proofs.Bounds.{same_supremum}
 use Rattle.rational.proofs.ExtendedOrder.{same_le_ext}
@@ -23,19 +21,16 @@ use Rattle.upp_curve.specs.declared.curve.Tail.{Tail}
 use Rattle.upp_curve.specs.declared.curve.Tail.TheVariants.{Periodic, Affine, Infinite}
 use Rattle.upp_curve.specs.Reading.{read}
 use Rattle.upp_curve.specs.Curve.{SpecCurve, value_at}
-use Rattle.upp_curve.specs.Curves.{IsCurve}
-use Rattle.upp_curve.specs.Functions.{zero_q, IsFinite, IsNonnegative}
-use Rattle.upp_curve.specs.Normal.{Each, IsNormal, StartsAtZero}
-use Rattle.upp_curve.specs.Readable.{LineFits}
-use Rattle.upp_curve.specs.Shapes.{IsFinitePiece}
+use Rattle.upp_curve.specs.Functions.{zero_q, IsFinite}
+use Rattle.upp_curve.specs.Normal.{Each, IsNormal}
 use Rattle.upp_curve.specs.Spans.{spans}
 use Rattle.upp_curve.specs.Steady.{Repeats, steady, rise_over, IsWholePeriods}
 use Rattle.upp_curve.specs.declared.op_kind.OpKind.TheVariants.{RunSup}
 use Rattle.upp_curve.specs.Periods.{own_period}
 use Rattle.upp_curve.specs.Windows.{IsLeast, Meets}
 use Rattle.upp_curve.specs.Limits.{Sizes, own_end}
-use Rattle.upp_curve.specs.Sized.{grid_of, times_largest, AreSizes, SpanStands, ValueStands, LineStands, CurveStands}
-use Rattle.upp_curve.specs.Operand.{AreLimited, OperandLine, OperandLineAt, OperandPiece, OperandPieces}
+use Rattle.upp_curve.specs.Sized.{grid_of, times_largest, AreSizes, SpanStands, ValueStands, LineStands}
+use Rattle.upp_curve.specs.Operand.{AreLimited, OperandLine, OperandLineAt, OperandPieces}
 use Rattle.upp_curve.specs.Room.{top}
 use Rattle.upp_curve.proofs.CurveStands.{curve_stands, starts_below_own_end}
 use Rattle.upp_curve.proofs.NarrowSizes.{grid_pos, line_parts}
@@ -45,10 +40,10 @@ use Rattle.upp_curve.proofs.RisingCurves.{GoesOn, finite_pieces_by_tail, infinit
 use Rattle.upp_curve.proofs.Steady.{steady_rule}
 use Rattle.upp_curve.proofs.AnswerRoom.{tight, OperandValue, operand_line_fits, operand_line_value, values_fit}
 use Rattle.curve_frame.proofs.CurveRises.{IsRise, rise_is, own_whole}
-use Rattle.curve_running.specs.Scans.{HasLine, IsWindow, ScanFits, IsSupremumIn, Until}
+use Rattle.curve_running.specs.Scans.{IsWindow, IsSupremumIn, Until}
 use Rattle.curve_running.specs.Between.{FitsAtBoth, IsLevelBetween}
 use Rattle.curve_running.specs.Periods.{CoverFits, IsFirstPeriod, IsCovering, IsSupremumCall, IsCoveredAfter}
-use Rattle.curve_running.proofs.LevelSizes.{EachOperand, level_value, line_operand, scan_fits}
+use Rattle.curve_running.proofs.LevelSizes.{EachOperand, added, level_value, line_operand, scan_fits}
 use Rattle.curve_running.proofs.Covers.{no_fall, least_by_cover, covered_by_cover, least_flat, least_from_zero}
 
 -- sizes hold a shorter window
@@ -73,7 +68,8 @@ finite_goes_on ps (Periodic r d c) N F = tt
 finite_goes_on ps (Affine r) N F = tt
 finite_goes_on ps (Infinite r) N F = infinite_is_not_finite ps r N F
 
-first_by_tail : (ps : List Piece) (tail : Tail) → IsNormal record { pieces = ps; tail = tail } → GoesOn tail → (t : ℚ) → zero_q ≤ℚ t → t <ℚ own_end record { pieces = ps; tail = tail }
+first_by_tail : (ps : List Piece) (tail : Tail) → IsNormal record { pieces = ps; tail = tail } → GoesOn tail → (t : ℚ) → zero_q ≤ℚ t
+    → t <ℚ own_end record { pieces = ps; tail = tail }
     → value_at record { pieces = ps; tail = tail } t ≡ read ps t
 unfolding value_at own_end steady own_period
 first_by_tail ps (Periodic r d c) N on t low h = repeated_first (read ps) r d c t N.raw.tail.some h
@@ -101,7 +97,8 @@ line_by : (z : Sizes) (end x : ℚ) (l : Option Line) → AreSizes z end → Who
 line_by z end x None S w low early v s = tt
 line_by z end x (Some l) S w low early v s = let P = line_parts z end l.icept l.slope x S s w low early v in record { slope = s; icept = P.icept_whole; within = P.icept_within }
 
-each_operand : (z : Sizes) (end : ℚ) (ps : List Piece) → AreSizes z end → Each (PieceStands z) ps → AllByRecursion (λ p. zero_q ≤ℚ p.x) ps → Each (λ p. p.x <ℚ end) ps → EachOperand z end ps
+each_operand : (z : Sizes) (end : ℚ) (ps : List Piece) → AreSizes z end → Each (PieceStands z) ps → AllByRecursion (λ p. zero_q ≤ℚ p.x) ps → Each (λ p. p.x <ℚ end) ps
+    → EachOperand z end ps
 each_operand z end [] S h low before = tt
 each_operand z end (p ∷ ps) S h low before =
     let P = h.0 in (
@@ -186,7 +183,8 @@ first_facts f start period rise C = record {
     falls (level, e) = no_fall (value_at f) start period rise level C.low C.some repeats e C.nonneg
 
 -- ---- the steps fit
-both_fit : (z : Sizes) (end from to : ℚ) (ps : List Piece) → AreLimited z end → EachOperand z end ps → Whole z.dt from → zero_q ≤ℚ from → from ≤ℚ end → Whole z.dt to → zero_q ≤ℚ to → to ≤ℚ end
+both_fit : (z : Sizes) (end from to : ℚ) (ps : List Piece) → AreLimited z end → EachOperand z end ps → Whole z.dt from → zero_q ≤ℚ from → from ≤ℚ end → Whole z.dt to
+    → zero_q ≤ℚ to → to ≤ℚ end
     → FitsAtBoth from to ps
 both_fit z end from to ps A O w low early v soon late l has =
     let L = line_operand z end ps l O has in (operand_line_fits z end from (Some l) A L w low early, operand_line_fits z end to (Some l) A L v soon late)
@@ -194,32 +192,39 @@ both_fit z end from to ps A O w low early v soon late l has =
 line_level : (z : Sizes) (end x v : ℚ) (l : Line) → AreLimited z end → OperandLine z l → Whole z.dt x → zero_q ≤ℚ x → x ≤ℚ end → v ≡ line_at l x → OperandValue z v
 line_level z end x v l A L w low early e = subst (OperandValue z) (sym e) (operand_line_value z end x (Some l) A L w low early)
 
-between_value : (z : Sizes) (end from to : ℚ) (ps : List Piece) (v : ℚ) → AreLimited z end → EachOperand z end ps → Whole z.dt from → zero_q ≤ℚ from → from ≤ℚ end → Whole z.dt to → zero_q ≤ℚ to
+between_value : (z : Sizes) (end from to : ℚ) (ps : List Piece) (v : ℚ) → AreLimited z end → EachOperand z end ps → Whole z.dt from → zero_q ≤ℚ from → from ≤ℚ end
+    → Whole z.dt to → zero_q ≤ℚ to
     → to ≤ℚ end → IsLevelBetween end from to ps v → OperandValue z v
 between_value z end from to ps v A O w low early x soon late (inl e) =
     subst (OperandValue z) (sym e)
-    record { whole = whole_int (grid_of z) (pos 0); within = within_nonneg (times_largest 3 z) zero_q (le_refl zero_q) (subst (λ y. zero_q ≤ℚ y) (sym (int_mul (pos 3) (pos z.largest))) (nat_nonneg (3 * z.largest))) }
+    record {
+      whole = whole_int (grid_of z) (pos 0);
+      within = within_nonneg (times_largest 3 z) zero_q (le_refl zero_q)
+          (subst (λ y. zero_q ≤ℚ y) (sym (int_mul (pos 3) (pos z.largest))) (nat_nonneg (3 * z.largest)));
+    }
 between_value z end from to ps v A O w low early x soon late (inr (inl k)) = level_value z end ps v A O k
 between_value z end from to ps v A O w low early x soon late (inr (inr (l, has, inl e))) = line_level z end from v l A (line_operand z end ps l O has) w low early e
 between_value z end from to ps v A O w low early x soon late (inr (inr (l, has, inr e))) = line_level z end to v l A (line_operand z end ps l O has) x soon late e
 
-added : (z : Sizes) (k j : ℕ) → times_largest k z +ℚ times_largest j z ≡ times_largest (k + j) z
-added z k j = sym (add_mul (int (pos k)) (int (pos j)) (int (pos z.largest))) ∙ ap (λ x. x *ℚ int (pos z.largest)) (int_add (pos k) (pos j))
-
-cover_fits : (z : Sizes) (end v w rise : ℚ) → AreLimited z end → OperandValue z v → OperandValue z w → Whole (grid_of z) rise → Within (times_largest 3 z) rise → zero_q <ℚ rise → CoverFits v w rise
+cover_fits : (z : Sizes) (end v w rise : ℚ) → AreLimited z end → OperandValue z v → OperandValue z w → Whole (grid_of z) rise → Within (times_largest 3 z) rise
+    → zero_q <ℚ rise → CoverFits v w rise
 cover_fits z end v w rise A V W whole within rises = record {
   gap = (values_fit z end v w A V W).1;
-  number = quotient_on_grid (grid_of z) (times_largest 6 z) (times_largest 3 z) (v -ℚ w) rise (grid_pos z end A.sizes) (not_zero rise rises) (room 6 (omega arith)) (room 3 (omega arith))
-  (whole_sub (grid_of z) v w V.whole W.whole) whole (subst (λ m. Within m (v -ℚ w)) (added z 3 3) (within_sub (times_largest 3 z) (times_largest 3 z) v w V.within W.within)) within;
+  number = quotient_on_grid (grid_of z) (times_largest 6 z) (times_largest 3 z) (v -ℚ w) rise (grid_pos z end A.sizes) (not_zero rise rises) (room 6 (omega arith))
+      (room 3 (omega arith))
+      (whole_sub (grid_of z) v w V.whole W.whole) whole (subst (λ m. Within m (v -ℚ w)) (added z 3 3)
+      (within_sub (times_largest 3 z) (times_largest 3 z) v w V.within W.within)) within;
 }
   where
     room : (k : ℕ) → k ≤ 6 → times_largest k z *ℚ int (pos (grid_of z)) ≤ℚ int (pos top)
     room k h =
         let s = (tight z end A).sums in
         let m : k * (z.largest * grid_of z) ≤ 6 * (z.largest * grid_of z) = mul-le-mul_right (z.largest * grid_of z) h in
-        subst (λ y. y ≤ℚ int (pos top)) (sym (ap (λ y. y *ℚ int (pos (grid_of z))) (int_mul (pos k) (pos z.largest)) ∙ int_mul (pos (k * z.largest)) (pos (grid_of z)))) (nat_le (k * z.largest * grid_of z) top (omega (arith, s, m)))
+        subst (λ y. y ≤ℚ int (pos top)) (sym (ap (λ y. y *ℚ int (pos (grid_of z))) (int_mul (pos k) (pos z.largest)) ∙ int_mul (pos (k * z.largest)) (pos (grid_of z))))
+        (nat_le (k * z.largest * grid_of z) top (omega (arith, s, m)))
 
-pub first_period : (f : SpecCurve) (start period rise : ℚ) (ps : List Piece) → IsSupremumCall f start period rise → ps ≡ f.pieces → zero_q <ℚ rise → zero_q <ℚ start → IsFirstPeriod ps start period rise
+pub first_period : (f : SpecCurve) (start period rise : ℚ) (ps : List Piece) → IsSupremumCall f start period rise → ps ≡ f.pieces → zero_q <ℚ rise → zero_q <ℚ start
+    → IsFirstPeriod ps start period rise
 first_period f start period rise ps C e rises first = subst (λ q. IsFirstPeriod q start period rise) (sym e) here
   where
     F : FirstFacts f start period rise
@@ -235,18 +240,22 @@ first_period f start period rise ps C e rises first = subst (λ q. IsFirstPeriod
     here = record {
       window = F.window;
       fits = scan_fits z (start +ℚ period) f.pieces F.limited F.operands;
-      before = both_fit z (start +ℚ period) zero_q start f.pieces F.limited F.operands.each (whole_int z.dt (pos 0)) (le_refl zero_q) F.limited.some F.start_whole (le_of_lt first) soon;
-      within = both_fit z (start +ℚ period) start (start +ℚ period) f.pieces F.limited F.operands.each F.start_whole (le_of_lt first) soon F.limited.sizes.window F.limited.some (le_refl (start +ℚ period));
+      before = both_fit z (start +ℚ period) zero_q start f.pieces F.limited F.operands.each (whole_int z.dt (pos 0)) (le_refl zero_q) F.limited.some F.start_whole
+          (le_of_lt first) soon;
+      within = both_fit z (start +ℚ period) start (start +ℚ period) f.pieces F.limited F.operands.each F.start_whole (le_of_lt first) soon F.limited.sizes.window
+          F.limited.some (le_refl (start +ℚ period));
       first = first;
       some = C.some;
       rises = rises;
       nonneg = λ t low h. subst (λ v. Fin zero_q ≤ₑ v) (F.reads t low h) (C.nonneg t low);
       sum = C.sum;
       cover = λ v w h k.
-      cover_fits z (start +ℚ period) v w rise F.limited
-      (between_value z (start +ℚ period) zero_q start f.pieces v F.limited F.operands.each (whole_int z.dt (pos 0)) (le_refl zero_q) F.limited.some F.start_whole (le_of_lt first) soon h)
-      (between_value z (start +ℚ period) start (start +ℚ period) f.pieces w F.limited F.operands.each F.start_whole (le_of_lt first) soon F.limited.sizes.window F.limited.some (le_refl (start +ℚ period)) k)
-      F.rise_whole F.rise_within rises;
+          cover_fits z (start +ℚ period) v w rise F.limited
+          (between_value z (start +ℚ period) zero_q start f.pieces v F.limited F.operands.each (whole_int z.dt (pos 0)) (le_refl zero_q) F.limited.some F.start_whole
+          (le_of_lt first) soon h)
+          (between_value z (start +ℚ period) start (start +ℚ period) f.pieces w F.limited F.operands.each F.start_whole (le_of_lt first) soon F.limited.sizes.window
+          F.limited.some (le_refl (start +ℚ period)) k)
+          F.rise_whole F.rise_within rises;
     }
 
 -- ---- what is read of the pieces holds of the curve
@@ -257,7 +266,8 @@ same_in f g from to v same h =
     (λ s. (s, same_le_ext (same s.at s.least s.early)))
     h
 
-pub covering_of_curve : (f : SpecCurve) (start period rise : ℚ) (ps : List Piece) (k : ℕ) → IsSupremumCall f start period rise → ps ≡ f.pieces → IsCovering (read ps) start period rise k
+pub covering_of_curve : (f : SpecCurve) (start period rise : ℚ) (ps : List Piece) (k : ℕ) → IsSupremumCall f start period rise → ps ≡ f.pieces
+    → IsCovering (read ps) start period rise k
     → IsCovering (value_at f) start period rise k
 covering_of_curve f start period rise ps k C e V = record {
   early = V.early;
@@ -278,7 +288,8 @@ pub record FoundNumber (f : SpecCurve) (start period rise : ℚ) (k : ℕ) : Typ
   pub least : IsLeast (Meets RunSup f f) k
   pub covered : IsCoveredAfter f start period rise k
 
-pub found_number : (f : SpecCurve) (start period rise : ℚ) (ps : List Piece) (k : ℕ) → IsSupremumCall f start period rise → ps ≡ f.pieces → zero_q <ℚ rise → IsCovering (read ps) start period rise k
+pub found_number : (f : SpecCurve) (start period rise : ℚ) (ps : List Piece) (k : ℕ) → IsSupremumCall f start period rise → ps ≡ f.pieces → zero_q <ℚ rise
+    → IsCovering (read ps) start period rise k
     → FoundNumber f start period rise k
 found_number f start period rise ps k C e rises V =
     let W = covering_of_curve f start period rise ps k C e V in

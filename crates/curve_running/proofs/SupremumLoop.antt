@@ -1,14 +1,13 @@
 -- The scan for the supremum: what holds after each piece.
 use Rattle.std.specs.Prelude.{◌≡◌, ℕ, true, ◌+◌, ◌*◌, ◌<◌, ◌≤◌, pos, List, [], ◌∷◌, ◌++◌, length, drop, Option, Some, None}
-use Rattle.std.proofs.Common.{arith, length-append, drop_of_length-le, sym, ap, ap₂, ◌∙◌, refl, subst, inl, inr}
-use Rattle.rational.specs.Rational.{ℚ, ◌≤ℚ◌, ◌<ℚ◌, int}
+use Rattle.std.proofs.Common.{arith, length-append, drop_of_length-le, sym, ap, ap₂, ◌∙◌, refl, subst}
+use Rattle.rational.specs.Rational.{ℚ, ◌<ℚ◌, int}
 use Rattle.rational.specs.MinMax.{max_q}
 use Rattle.rational.specs.Extended.{Ext}
 use Rattle.rational.specs.declared.Extended.TheVariants.{Fin}
-use Rattle.rational.proofs.Laws.{le_lt_trans, lt_trans}
+use Rattle.rational.proofs.Laws.{lt_trans}
 use Rattle.affine_segment.specs.declared.line.Line.{Line}
 use Rattle.affine_segment.specs.declared.line.Piece.{Piece}
-use Rattle.affine_segment.specs.Values.{line_value}
 use Rattle.upp_curve.specs.Reading.{read}
 use Rattle.upp_curve.specs.Normal.{Each, StartsAtZero}
 use Rattle.upp_curve.specs.Running.{IsRunningSupremum}
@@ -17,8 +16,8 @@ use Rattle.curve_running.specs.declared.stretch.Stretch.{Stretch}
 use Rattle.curve_running.specs.declared.bend.Bend.{Bend}
 use Rattle.curve_running.specs.Scans.{start_or, IsWindow, IsLevel, IsStretch}
 use Rattle.curve_running.specs.Bends.{risen, Follows, bent}
-use Rattle.curve_running.specs.Made.{IsMadeOf, IsMade, TurnsAfter, IsScan, IsSupremumScan}
-use Rattle.curve_running.proofs.Suprema.{IsEarly, IsUpTo, IsLineOn, early_start, upto_value, upto_line, early_line}
+use Rattle.curve_running.specs.Made.{IsMadeOf, IsMade, TurnsAfter, IsSupremumScan}
+use Rattle.curve_running.proofs.Suprema.{IsEarly, IsUpTo, early_start, upto_value, upto_line, early_line}
 use Rattle.curve_running.proofs.Building.{Built, built_none, built_more, built_whole}
 use Rattle.curve_running.proofs.Makings.{greater_level, bent_made, bent_turns, each_join, turns_join}
 
@@ -92,7 +91,8 @@ supremum_step ps end i level out more s top high next b L S t f m e h n =
       built = subst (λ z. Built (R ps) z more) S.to
           (subst (Built (R ps) s.to) (sym e) (bent_built ps out s top b.line b.turn S.some (subst (λ z. Built (R ps) z out) (sym S.from) L.built) at on f));
       count = subst (λ z. length z ≤ 2 * (i + 1)) (sym e) (omega (arith, length-append out (bent s.from top b.line b.turn)));
-      made = subst (Each (IsMade end ps)) (sym e) (each_join (IsMade end ps) out (bent s.from top b.line b.turn) L.made (bent_made true ps end i top top s b S top_known top_known m));
+      made = subst (Each (IsMade end ps)) (sym e) (each_join (IsMade end ps) out (bent s.from top b.line b.turn) L.made
+          (bent_made true ps end i top top s b S top_known top_known m));
       turns = subst (TurnsAfter true ps None) (sym e) (turns_join true ps None out (bent s.from top b.line b.turn) L.turns (bent_turns true ps end i top top s b S m));
     }
 
@@ -103,7 +103,8 @@ window_end end ps W = positive ps W.starts W.before
     positive [] h k = absurd h
     positive (p ∷ ps) h k = subst (λ z. z <ℚ end) h.0 k.0
 
-pub supremum_end : (ps : List Piece) (end : ℚ) (i : ℕ) (level : ℚ) (out : List Piece) → IsWindow end ps → SupremumLoop ps end i level out → length ps ≤ i → i ≤ length ps → IsSupremumScan ps end out
+pub supremum_end : (ps : List Piece) (end : ℚ) (i : ℕ) (level : ℚ) (out : List Piece) → IsWindow end ps → SupremumLoop ps end i level out → length ps ≤ i → i ≤ length ps
+    → IsSupremumScan ps end out
 supremum_end ps end i level out W L done most =
     let last : start_or end (drop i ps) ≡ end = ap (start_or end) (drop_of_length-le ps done) in
     let B : Built (R ps) end out = subst (λ z. Built (R ps) z out) last L.built in

@@ -1,6 +1,6 @@
 -- Finite pieces scanned one by one, up to an end: the stretches between their starts, the levels that are compared on the way,
 -- and the bounds that come out. Own choice.
-use Rattle.std.specs.Prelude.{◌≡◌, ℕ, ◌+◌, ◌*◌, ◌≤◌, List, [], ◌∷◌, length, drop, Option, Some, None, ◌⊎◌, pos}
+use Rattle.std.specs.Prelude.{◌≡◌, ℕ, ◌+◌, List, [], ◌∷◌, drop, Some, ◌⊎◌, pos}
 use Rattle.rational.specs.Rational.{ℚ, ◌≤ℚ◌, ◌<ℚ◌, int}
 use Rattle.rational.specs.Extended.{Ext}
 use Rattle.rational.specs.Bounds.{IsInfimum, IsSupremum}

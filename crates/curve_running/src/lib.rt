@@ -4,12 +4,16 @@
 mod bend;
 mod between;
 mod infimum;
+mod infimum_curve;
 mod periods;
-mod run_sup;
 mod stretch;
 mod supremum;
+mod supremum_curve;
+#[cfg(test)]
+mod tests;
 
 pub use infimum::infimum_scan;
+pub use infimum_curve::run_inf;
 pub use periods::supremum_periods;
-pub use run_sup::run_sup;
 pub use supremum::supremum_scan;
+pub use supremum_curve::run_sup;

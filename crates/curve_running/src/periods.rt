@@ -32,8 +32,8 @@ fn cover(early: Frac, once: Frac, rise: Frac) -> u128
     }
 }
 
-// A sum whose steps fit.
-fn fitting_sum(a: Frac, b: Frac) -> Frac
+/// A sum whose steps fit.
+pub(crate) fn fitting_sum(a: Frac, b: Frac) -> Frac
     requires { SumFits a b }
     ensures { result ≡ a +ℚ b }
 {
@@ -54,9 +54,9 @@ fn covering(ps: &[Piece], start: Frac, period: Frac, rise: Frac) -> u128
     cover(early, once, rise)
 }
 
-/// The least number k of periods such that the k-th period after `start` has as great a supremum as all that comes before
-/// `start`, from when on the curve itself repeats; 0 where the curve does not rise over a period. The curve is finite and nowhere
-/// below 0. No memory is taken and no period is written out.
+/// The least number k of periods such that the k-th period after `start` has as great a supremum as all that comes
+/// before `start`, from when on the curve itself repeats; 0 where the curve does not rise over a period. The curve
+/// is finite and nowhere below 0. No memory is taken and no period is written out.
 pub fn supremum_periods(f: &Curve, start: Frac, period: Frac, rise: Frac) -> u128
     requires { IsSupremumCall f.now start period rise }
     ensures least { IsLeast (Meets RunSup f.now f.now) result }

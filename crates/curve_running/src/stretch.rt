@@ -13,8 +13,8 @@ use fraction128::{Ext, Frac};
 use rational::Extended;
 use std::cmp::Ordering;
 
-/// A piece with a number at its start and a line after it, the time at which it ends, and the limits of the line: the right
-/// one at its start, the left one at its end.
+/// A piece with a number at its start and a line after it, the time at which it ends, and the limits of the line:
+/// the right one at its start, the left one at its end.
 #[derive(Debug, Clone, Copy)]
 pub(crate) struct Stretch {
     pub(crate) from: Frac,

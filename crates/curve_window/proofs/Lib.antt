@@ -13,3 +13,4 @@ pub mod MadeStands
 pub mod MadeWindows
 pub mod TailGrids
 pub mod Worked
+pub mod LowerWindows

@@ -5,3 +5,4 @@ pub mod Lies
 pub mod Made
 pub mod Operands
 pub mod Worked
+pub mod Lower

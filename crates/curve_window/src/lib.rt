@@ -4,6 +4,7 @@
 
 mod compared;
 mod lie;
+mod lower;
 mod made;
 mod stretch;
 mod sum;
@@ -11,5 +12,6 @@ mod sum;
 mod tests;
 
 pub use compared::{window_excess, window_max, window_min};
+pub use lower::window_lower;
 pub use stretch::{Both, overlay};
 pub use sum::window_sum;

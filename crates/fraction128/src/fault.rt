@@ -25,9 +25,13 @@ pub enum FracText {
 /// The operators of checked arithmetic.
 #[derive(Debug, Clone, Copy, PartialEq, Eq)]
 pub enum Op {
+    /// The sum.
     Add,
+    /// The difference, the first less the second.
     Sub,
+    /// The product.
     Mul,
+    /// The quotient, the first by the second.
     Div,
     /// The least common multiple.
     Lcm,

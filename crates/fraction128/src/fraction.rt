@@ -122,6 +122,7 @@ impl Frac {
         print_parts(self.num, self.den, into)
     }
 
+    /// 0.
     #[inline]
     pub fn zero() -> Frac
         ensures { result ≡ int (pos 0) }
@@ -129,6 +130,7 @@ impl Frac {
         Frac { num: 0, den: 1 }
     }
 
+    /// 1.
     #[inline]
     pub fn one() -> Frac
         ensures { result ≡ int (pos 1) }

@@ -1,2 +1,4 @@
 pub mod Placed
 pub mod Named
+pub mod Paces
+pub mod PlainNets

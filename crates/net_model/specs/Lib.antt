@@ -5,3 +5,5 @@ pub mod Continuous
 pub mod Accepted
 pub mod Walks
 pub mod Orders
+pub mod CurveKinds
+pub mod Plain

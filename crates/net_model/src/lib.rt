@@ -4,11 +4,17 @@
 mod copies;
 mod fault;
 mod flow;
+mod laws;
 mod names;
 mod network;
+mod plain;
 mod server;
+#[cfg(test)]
+mod tests;
 
 pub use fault::{CurveRefusal, NetFault, NetKind};
 pub use flow::Flow;
+pub use laws::kinds_may_stand;
 pub use network::Network;
+pub use plain::plain_network;
 pub use server::{Discipline, Server, ServiceKind};

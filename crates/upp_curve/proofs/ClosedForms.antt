@@ -1,18 +1,14 @@
 -- The first and the last copy of each piece, with the rise, have the sizes of all copies.
-use Rattle.std.specs.Prelude.{◌≡◌, ℕ, zero, suc, ◌+◌, ◌<◌, ◌≤◌, pos, Bool, true, false, cond, List, [], ◌∷◌, ◌++◌, Option, Some, None, map, max, ◌⊎◌}
+use Rattle.std.specs.Prelude.{◌≡◌, ℕ, zero, suc, ◌≤◌, pos, Bool, true, false, cond, List, [], ◌∷◌, ◌++◌, Option, Some, None, map, ◌⊎◌}
 use Rattle.std.specs.List.{AllByRecursion, flat_map}
-use Rattle.std.proofs.Common.{arith, sym, ap, ap₂, ◌∙◌, refl, subst, inl, inr}
-use Rattle.std.proofs.lemmas.Bool.{cases_lt}
+use Rattle.std.proofs.Common.{arith, sym, ap, ◌∙◌, refl, subst, inl, inr}
 use Rattle.rational.specs.Rational.{ℚ, ◌+ℚ◌, ◌-ℚ◌, ◌*ℚ◌, ◌≤ℚ◌, ◌<ℚ◌, int, lt_q}
 use Rattle.rational.specs.Grid.{Whole, Within}
-use Rattle.rational.specs.Gauge.{common_den, bound_of}
 use Rattle.rational.specs.Extended.{Ext, ◌+ₑ◌}
 use Rattle.rational.specs.declared.Extended.TheVariants.{Fin, Inf}
 use Rattle.rational.proofs.Linear.{with1, with2, with5, with8}
 use Rattle.rational.proofs.Laws.{le_or_lt, mul_add, mul_le_mul, mul_le_mul_right, mul_zero, sub_mul, le_of_lt}
 use Rattle.rational.proofs.Integers.{nat_le, nat_nonneg}
-use Rattle.rational.proofs.Over.{lt_q_out}
-use Rattle.rational.proofs.MinMax.{lt_q_not}
 use Rattle.rational.proofs.Grid.{whole_add, whole_times}
 use Rattle.affine_segment.specs.declared.line.Line.{Line}
 use Rattle.affine_segment.specs.Values.{line_value}
@@ -22,13 +18,11 @@ use Rattle.upp_curve.specs.declared.seen.Seen.{Seen}
 use Rattle.upp_curve.specs.Curve.{SpecCurve}
 use Rattle.upp_curve.specs.Steady.{rank_of}
 use Rattle.upp_curve.specs.Unrolled.{line_later, copies_below}
-use Rattle.upp_curve.specs.Periods.{HasPeriod}
-use Rattle.upp_curve.specs.Spans.{Span, span_later, next_later, copy_of, copies_of, once_below, span_below, spans, spans_below}
-use Rattle.upp_curve.specs.Limits.{Numbers, no_numbers, joined, stored_period, stored_rise, finite, limit_before, span_values, span_slopes, line_slope, twice, curve_numbers, sizes_of}
+use Rattle.upp_curve.specs.Spans.{Span, next_later, copy_of, copies_of, once_below, span_below, spans, spans_below}
+use Rattle.upp_curve.specs.Limits.{Numbers, no_numbers, joined, stored_period, stored_rise, finite, limit_before, span_values, span_slopes, line_slope, curve_numbers}
 use Rattle.upp_curve.specs.Seen.{seen_of, seen_risen}
 use Rattle.upp_curve.specs.ClosedForm.{seen_values, span_numbers, last_numbers, copies_numbers, once_numbers, closed_span, closed_spans, tail_numbers, closed_numbers}
 use Rattle.upp_curve.proofs.Every.{every_append, every_left, every_right, every_map, every_map_out, every_flat, every_flat_out, every_weaken}
-use Rattle.upp_curve.proofs.CommonDen.{common_den_each, bound_each, bound_pos, same_common_den, same_bound}
 use Rattle.upp_curve.proofs.Copies.{copy_zero, every_copy, copy_among}
 
 -- ---- the values of a copy

@@ -1,15 +1,15 @@
 -- The least common denominator of some numbers, and the least whole number that bounds their sizes.
-use Rattle.std.specs.Prelude.{◌≡◌, ℕ, zero, suc, ◌+◌, ◌*◌, ◌/◌, ◌-◌, ◌%◌, ◌<◌, ◌≤◌, max, ℤ, pos, negsuc, nat_abs, List, [], ◌∷◌, ◌++◌, neg_ℤ, ◌*ℤ◌, ◌≤ℤ◌, ◌⊎◌}
-use Rattle.std.proofs.Common.{arith, sym, ap, ◌∙◌, refl, subst, inl, inr}
+use Rattle.std.specs.Prelude.{◌≡◌, ℕ, suc, ◌+◌, ◌*◌, ◌-◌, ◌<◌, ◌≤◌, ℤ, pos, negsuc, nat_abs, List, [], ◌∷◌, ◌++◌, neg_ℤ, ◌*ℤ◌, ◌≤ℤ◌, ◌⊎◌}
+use Rattle.std.proofs.Common.{arith, sym, refl, subst, inl, inr}
 use Prim.Native.Nat.{◌∣◌}
 use Rattle.std.specs.List.{AllByRecursion}
 use Rattle.std.proofs.lemmas.Int.{ints}
 use Rattle.std.proofs.lemmas.Bool.{cases_lt}
 use Rattle.std.proofs.lemmas.Nat.Gcd.{dvd_refl}
 use Rattle.std.proofs.Math.Nat.{le-max_left, le-max_right, max-le}
-use native.Mathlib.Nat.{dvd_trans, dvd_antisymm, one-dvd, zero-lt-suc, div-add-mod', mod-lt, le_of_mul-le-mul_right, mul-le-mul_right}
+use native.Mathlib.Nat.{dvd_trans, dvd_antisymm, one-dvd, zero-lt-suc, div-add-mod', mod-lt, mul-le-mul_right}
 use Rattle.rational.specs.Ints.{neg_mul_z}
-use Rattle.rational.specs.Rational.{ℚ, den, neg_ℚ, ◌≤ℚ◌, int, frac}
+use Rattle.rational.specs.Rational.{ℚ, den, ◌≤ℚ◌, int, frac}
 use Rattle.rational.specs.Fractions.{frac_self}
 use Rattle.rational.proofs.Over.{le_frac}
 use Rattle.rational.specs.Gauge.{lcm, common_den, common_den_from, size_up, up_over, bound_of}

@@ -1,24 +1,21 @@
 -- Which copies of a piece start below a time, and what the copies of a span are.
-use Rattle.std.specs.Prelude.{◌≡◌, ℕ, zero, suc, ◌+◌, ◌<◌, ◌≤◌, pos, Bool, true, false, cond, List, [], ◌∷◌, ◌++◌, Option, Some, None}
-use Rattle.std.proofs.Common.{arith, sym, ap, ap₂, ◌∙◌, refl, subst, inl, inr}
-use Rattle.std.specs.List.{AllByRecursion, flat_map}
-use Rattle.rational.specs.Rational.{ℚ, ◌+ℚ◌, ◌-ℚ◌, ◌*ℚ◌, ◌/ℚ◌, ◌≤ℚ◌, ◌<ℚ◌, int, le_q, lt_q}
+use Rattle.std.specs.Prelude.{◌≡◌, ℕ, zero, suc, ◌<◌, ◌≤◌, pos, cond, Option, Some, None}
+use Rattle.std.proofs.Common.{arith, ap, ◌∙◌, refl, subst, inl, inr}
+use Rattle.std.specs.List.{AllByRecursion}
+use Rattle.rational.specs.Rational.{ℚ, ◌+ℚ◌, ◌-ℚ◌, ◌*ℚ◌, ◌/ℚ◌, ◌≤ℚ◌, ◌<ℚ◌, int}
 use Rattle.rational.specs.Extended.{Ext, ◌+ₑ◌}
 use Rattle.rational.specs.declared.Extended.TheVariants.{Fin, Inf}
 use Rattle.rational.specs.Whole.{whole_part}
-use Rattle.rational.proofs.Linear.{with1, with2, with3, with4, with5}
-use Rattle.rational.proofs.Laws.{le_or_lt, le_of_lt, le_trans, lt_le_trans, le_lt_trans, lt_irrefl, mul_comm, mul_zero, div_mul}
-use Rattle.rational.proofs.Integers.{nat_lt, nat_lt_out, nat_nonneg}
-use Rattle.rational.proofs.Over.{le_q_out, lt_q_out}
-use Rattle.rational.proofs.MinMax.{le_q_not, lt_q_not}
+use Rattle.rational.proofs.Linear.{with1, with2, with3, with4}
+use Rattle.rational.proofs.Laws.{le_or_lt, le_of_lt, lt_le_trans, le_lt_trans, mul_comm, mul_zero, div_mul}
+use Rattle.rational.proofs.Integers.{nat_lt, nat_lt_out}
+use Rattle.rational.proofs.Over.{le_q_out}
+use Rattle.rational.proofs.MinMax.{le_q_not}
 use Rattle.rational.proofs.Whole.{mul_lt_mul_right, lt_of_mul, not_zero, whole_le, whole_gt, whole_small}
 use Rattle.affine_segment.specs.declared.line.Line.{Line}
 use Rattle.affine_segment.specs.declared.line.Piece.{Piece}
-use Rattle.affine_segment.specs.Values.{line_value}
-use Rattle.upp_curve.specs.declared.curve.Tail.{Tail}
-use Rattle.upp_curve.specs.declared.curve.Tail.TheVariants.{Periodic, Affine, Infinite}
-use Rattle.upp_curve.specs.Unrolled.{later, line_later, whole_up, copies_below}
-use Rattle.upp_curve.specs.Spans.{Span, span_later, next_later, copy_of, copies_of, once_below, span_below}
+use Rattle.upp_curve.specs.Unrolled.{line_later, whole_up, copies_below}
+use Rattle.upp_curve.specs.Spans.{Span, next_later, copy_of, copies_of}
 use Rattle.std.proofs.lemmas.Bool.{cases_lt}
 
 -- ---- the least whole number at least x

@@ -1,12 +1,12 @@
 -- A curve whose numbers count in a call: its rank, period and rise and each of its pieces stand where the call's sizes say.
-use Rattle.std.specs.Prelude.{◌≡◌, ℕ, zero, suc, ◌+◌, ◌*◌, ◌<◌, ◌≤◌, max, pos, Bool, true, false, cond, List, [], ◌∷◌, ◌++◌, Option, Some, None, map}
-use Rattle.std.proofs.Common.{arith, sym, ap, ◌∙◌, refl, subst, inl, inr}
+use Rattle.std.specs.Prelude.{◌≡◌, ◌<◌, pos, Bool, true, false, cond, List, [], ◌∷◌, map}
+use Rattle.std.proofs.Common.{arith, sym, subst, inl, inr}
 use Rattle.std.specs.List.{AllByRecursion, flat_map}
 use Rattle.std.proofs.Math.Nat.{le-max_right}
-use Rattle.rational.specs.Rational.{ℚ, ◌+ℚ◌, ◌-ℚ◌, ◌*ℚ◌, ◌≤ℚ◌, ◌<ℚ◌, int, lt_q}
+use Rattle.rational.specs.Rational.{ℚ, ◌+ℚ◌, ◌*ℚ◌, ◌≤ℚ◌, ◌<ℚ◌, int}
 use Rattle.rational.specs.Grid.{Whole}
-use Rattle.rational.proofs.Linear.{with1, with2, with3, with4}
-use Rattle.rational.proofs.Laws.{le_or_lt, le_trans, lt_le_trans, le_lt_trans}
+use Rattle.rational.proofs.Linear.{with1, with2}
+use Rattle.rational.proofs.Laws.{le_or_lt, le_trans, le_lt_trans}
 use Rattle.rational.proofs.Integers.{nat_le}
 use Rattle.rational.proofs.Over.{lt_q_out}
 use Rattle.rational.proofs.MinMax.{lt_q_not}
@@ -17,8 +17,8 @@ use Rattle.upp_curve.specs.Curve.{SpecCurve}
 use Rattle.upp_curve.specs.Steady.{rank_of, steady, steady_in, later_unless}
 use Rattle.upp_curve.specs.Periods.{HasPeriod, own_period}
 use Rattle.upp_curve.specs.Unrolled.{copies_below, whole_up}
-use Rattle.upp_curve.specs.Normal.{Each, IsRaw, TailFits, FitsPeriod, FitsRank}
-use Rattle.upp_curve.specs.Spans.{Span, spans, copies_of, copy_of, once_below, span_below, spans_below}
+use Rattle.upp_curve.specs.Normal.{Each, IsRaw, TailFits}
+use Rattle.upp_curve.specs.Spans.{Span, spans, copies_of, once_below, span_below, spans_below}
 use Rattle.upp_curve.specs.Limits.{Numbers, Sizes, sizes_of, curve_numbers, span_values, span_slopes, own_end, own_sizes}
 use Rattle.upp_curve.specs.Sized.{IsValue, IsSlope, Stands, AreSizes, SpanStands, TailStands, CurveStands}
 use Rattle.upp_curve.proofs.Every.{every_flat_out, every_map_out, every_weaken}

@@ -1,13 +1,13 @@
 -- One number more: how the sizes that are kept follow those of the numbers.
-use Rattle.std.specs.Prelude.{◌≡◌, ℕ, zero, suc, ◌+◌, ◌*◌, ◌/◌, ◌-◌, ◌%◌, ◌<◌, ◌≤◌, ◌^◌, min, max, ℤ, pos, negsuc, ◌*ℤ◌, neg_ℤ, nat_abs, List, [], ◌∷◌, ◌++◌, map}
-use Rattle.std.proofs.Common.{arith, sym, ap, ap₂, ◌∙◌, refl, subst, append-nil}
-use Rattle.std.proofs.Math.Nat.{le-max_left, le-max_right}
+use Rattle.std.specs.Prelude.{◌≡◌, ℕ, ◌+◌, ◌*◌, ◌/◌, ◌%◌, ◌<◌, ◌^◌, max, pos, ◌*ℤ◌, nat_abs, List, [], ◌∷◌, ◌++◌}
+use Rattle.std.proofs.Common.{arith, sym, ap, ◌∙◌, refl, subst, append-nil}
+use Rattle.std.proofs.Math.Nat.{le-max_left}
 use Rattle.rational.specs.Ints.{mul_comm_z}
 use Rattle.rational.specs.Rational.{ℚ, den, int, ◌*ℚ◌, frac}
 use Rattle.rational.specs.Fractions.{frac_self, abs-mul}
 use Rattle.rational.specs.Gauge.{Kept, cap, lcm, common_den, common_den_from, bound_of, size_up}
 use Rattle.rational.proofs.Integers.{mul_whole}
-use Rattle.rational.proofs.Gauges.{kept_one, cap_times}
+use Rattle.rational.proofs.Gauges.{kept_one}
 use Rattle.upp_curve.specs.declared.gathered.Gathered.{Gathered}
 use Rattle.upp_curve.specs.Limits.{Numbers, no_numbers, joined, twice, time_alone, value_alone, slope_alone}
 use Rattle.upp_curve.specs.Gathered.{Gathers}

@@ -1,14 +1,13 @@
 -- The product of a gauge is at least each of its parts.
-use Rattle.std.specs.Prelude.{◌≡◌, ℕ, zero, suc, ◌+◌, ◌*◌, ◌-◌, ◌<◌, ◌≤◌, ◌^◌, min, max, ℤ, pos, ◌*ℤ◌, ◌≤ℤ◌, negsuc, nat_abs, List, [], ◌∷◌}
-use Rattle.std.proofs.Common.{arith, sym, ap, ap₂, ◌∙◌, refl, subst}
+use Rattle.std.specs.Prelude.{◌≡◌, ℕ, suc, ◌*◌, ◌-◌, ◌<◌, ◌≤◌, ◌^◌, max, ℤ, pos, ◌*ℤ◌, ◌≤ℤ◌, negsuc, nat_abs}
+use Rattle.std.proofs.Common.{arith, ap, ◌∙◌, subst}
 use Rattle.std.proofs.lemmas.Int.{ints}
-use native.Mathlib.Nat.{le-mul_of_pos_right, mul_comm, mul_assoc, mul-le-mul_left, mul-le-mul_right, mul-pos}
+use native.Mathlib.Nat.{le-mul_of_pos_right, mul-le-mul_left}
 use Rattle.rational.specs.Rational.{ℚ, den, int, ◌*ℚ◌, ◌≤ℚ◌, frac}
-use Rattle.rational.specs.Fractions.{frac_self, abs-mul}
+use Rattle.rational.specs.Fractions.{frac_self}
 use Rattle.rational.proofs.Over.{le_frac}
 use Rattle.rational.specs.Ints.{mul_comm_z}
-use Rattle.rational.specs.Gauge.{Kept, cap, common_den, bound_of}
-use Rattle.rational.specs.Grid.{Whole}
+use Rattle.rational.specs.Gauge.{Kept, cap, bound_of}
 use Rattle.rational.proofs.Integers.{mul_whole}
 use Rattle.rational.proofs.Laws.{num_nonneg}
 use Rattle.rational.proofs.Grid.{den_bound}

@@ -1,23 +1,21 @@
 -- The gauge of a call never falls as its window grows; where it is small, times of the window's grid are small, and the operands stand.
-use Rattle.std.specs.Prelude.{◌≡◌, ℕ, ◌+◌, ◌*◌, ◌<◌, ◌≤◌, ◌^◌, max, pos, Bool, cond, List, [], ◌∷◌, ◌++◌, map}
-use Rattle.std.proofs.Common.{arith, sym, ap, ◌∙◌, refl, subst, inl, inr}
+use Rattle.std.specs.Prelude.{◌≡◌, ℕ, ◌*◌, ◌<◌, ◌≤◌, ◌^◌, pos, Bool, cond, [], ◌∷◌, map}
+use Rattle.std.proofs.Common.{arith, sym, subst, inl, inr}
 use Rattle.std.specs.List.{AllByRecursion, flat_map}
 use Rattle.std.proofs.Math.Nat.{max-le}
-use Prim.Native.Nat.{◌∣◌}
 use native.Mathlib.Nat.{le_of_dvd, mul-le-mul}
-use Rattle.rational.specs.Rational.{ℚ, ◌+ℚ◌, ◌*ℚ◌, ◌≤ℚ◌, ◌<ℚ◌, int, lt_q}
+use Rattle.rational.specs.Rational.{ℚ, ◌*ℚ◌, ◌≤ℚ◌, ◌<ℚ◌, int}
 use Rattle.rational.specs.Ratio.{IsSmall}
 use Rattle.rational.specs.Grid.{Whole, Within}
 use Rattle.rational.specs.Gauge.{bound_of, common_den}
 use Rattle.rational.proofs.Grid.{whole_weaken}
 use Rattle.rational.proofs.Integers.{nat_le, nat_nonneg}
-use Rattle.rational.proofs.Laws.{le_or_lt, le_of_lt, le_refl, le_trans, lt_le_trans, mul_le_mul, mul_le_mul_right, mul_zero}
+use Rattle.rational.proofs.Laws.{le_or_lt, le_of_lt, le_trans, lt_le_trans, mul_le_mul, mul_le_mul_right, mul_zero}
 use Rattle.rational.proofs.MinMax.{lt_q_not}
 use Rattle.rational.proofs.Over.{lt_q_out}
 use Rattle.upp_curve.specs.declared.curve.Tail.{Tail}
 use Rattle.upp_curve.specs.declared.curve.Tail.TheVariants.{Periodic, Affine, Infinite}
 use Rattle.upp_curve.specs.declared.op_kind.OpKind.{OpKind}
-use Rattle.upp_curve.specs.declared.op_kind.OpKind.TheVariants.{Itself}
 use Rattle.upp_curve.specs.declared.op_kind.Operands.{Operands}
 use Rattle.upp_curve.specs.declared.op_kind.Operands.TheVariants.{First, Both, FirstScaled}
 use Rattle.upp_curve.specs.Curve.{SpecCurve}
@@ -28,10 +26,9 @@ use Rattle.upp_curve.specs.Operand.{AreLimited}
 use Rattle.upp_curve.specs.Periods.{HasPeriod}
 use Rattle.upp_curve.specs.Sized.{AreSizes, IsSlope, IsValue, Stands}
 use Rattle.upp_curve.specs.Spans.{Span, copies_of, once_below, span_below, spans, spans_below}
-use Rattle.upp_curve.specs.Steady.{rank_of}
-use Rattle.upp_curve.specs.Unrolled.{copies_below, whole_up}
+use Rattle.upp_curve.specs.Unrolled.{copies_below}
 use Rattle.upp_curve.specs.Unrolling.{IsOperandTo}
-use Rattle.upp_curve.proofs.CommonDen.{bound_least, bound_pos, common_den_each, common_den_least}
+use Rattle.upp_curve.proofs.CommonDen.{bound_least, common_den_each, common_den_least}
 use Rattle.upp_curve.proofs.Copies.{copies_in, copies_out, copy_among, every_copy}
 use Rattle.upp_curve.proofs.CurveStands.{are_sizes, has_period, once_out}
 use Rattle.upp_curve.proofs.Every.{every_append, every_flat, every_flat_out, every_left, every_map, every_map_out, every_right, every_weaken}

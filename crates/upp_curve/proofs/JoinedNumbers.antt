@@ -1,6 +1,6 @@
 -- Lists of numbers joined one after another.
 use Rattle.std.specs.Prelude.{◌≡◌, List, [], ◌∷◌, ◌++◌}
-use Rattle.std.proofs.Common.{sym, ap, ◌∙◌, refl, append_assoc, append-nil}
+use Rattle.std.proofs.Common.{ap, ◌∙◌, append_assoc, append-nil}
 use Rattle.rational.specs.Rational.{ℚ}
 use Rattle.upp_curve.specs.Limits.{Numbers, no_numbers, joined, time_alone, values_alone, slopes_alone}
 

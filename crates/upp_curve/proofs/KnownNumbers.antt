@@ -1,20 +1,18 @@
 -- Where the gauge is below 2 ^ 128 every step to the numbers of a curve fits.
-use Rattle.std.specs.Prelude.{◌≡◌, ℕ, zero, suc, ◌+◌, ◌*◌, ◌-◌, ◌<◌, ◌≤◌, ◌^◌, ℤ, pos, negsuc, Bool, cond, List, [], ◌∷◌, Option, Some, None, ◌⊎◌}
-use Rattle.std.specs.List.{AllByRecursion, flat_map}
-use Rattle.std.proofs.Common.{arith, sym, ap, ap₂, ◌∙◌, refl, subst, inl, inr}
-use Rattle.std.proofs.lemmas.Bool.{cases_lt}
+use Rattle.std.specs.Prelude.{◌≡◌, ℕ, zero, suc, ◌*◌, ◌-◌, ◌<◌, ◌≤◌, ◌^◌, pos, cond, List, [], ◌∷◌, Option, Some, None}
+use Rattle.std.specs.List.{AllByRecursion}
+use Rattle.std.proofs.Common.{arith, sym, ◌∙◌, refl, subst}
 use Rattle.std.proofs.lemmas.Int.{ints}
-use Rattle.rational.specs.Rational.{ℚ, ◌+ℚ◌, ◌-ℚ◌, ◌*ℚ◌, ◌≤ℚ◌, ◌<ℚ◌, int, lt_q}
-use Rattle.rational.specs.Ratio.{IsSmall, SumFits}
+use Rattle.rational.specs.Rational.{ℚ, ◌+ℚ◌, ◌-ℚ◌, ◌*ℚ◌, ◌≤ℚ◌, ◌<ℚ◌, int}
 use Rattle.rational.specs.Grid.{Whole, Within}
 use Rattle.rational.specs.Extended.{Ext, ◌+ₑ◌}
 use Rattle.rational.specs.declared.Extended.TheVariants.{Fin, Inf}
-use Rattle.rational.proofs.Linear.{with1, with2, with3, with4}
-use Rattle.rational.proofs.Laws.{le_or_lt, le_refl, le_trans, le_of_lt, lt_le_trans, le_lt_trans, mul_le_mul, mul_le_mul_right, mul_assoc, mul_comm, mul_one, mul_pos, mul_nonneg}
+use Rattle.rational.proofs.Linear.{with1, with2, with3}
+use Rattle.rational.proofs.Laws.{le_trans, le_of_lt, mul_le_mul, mul_le_mul_right, mul_assoc, mul_comm, mul_one, mul_pos, mul_nonneg}
 use Rattle.rational.proofs.Integers.{int_le, int_lt_out, nat_le, nat_le_out, nat_nonneg, nat_lt, mul_whole}
 use Rattle.rational.proofs.Over.{lt_q_out}
 use Rattle.rational.proofs.MinMax.{lt_q_not}
-use Rattle.rational.proofs.Grid.{whole_sub, within_sub, within_nonneg}
+use Rattle.rational.proofs.Grid.{whole_sub, within_sub}
 use Rattle.affine_segment.specs.declared.line.Line.{Line}
 use Rattle.affine_segment.specs.declared.line.Piece.{Piece}
 use Rattle.affine_segment.specs.Values.{line_value}
@@ -23,17 +21,17 @@ use Rattle.upp_curve.specs.declared.curve.Tail.TheVariants.{Periodic, Affine, In
 use Rattle.upp_curve.specs.Curve.{SpecCurve}
 use Rattle.upp_curve.specs.Readable.{LineFitsAt}
 use Rattle.upp_curve.specs.Normal.{StartsAtZero}
-use Rattle.upp_curve.specs.Unrolled.{copies_below, line_later}
+use Rattle.upp_curve.specs.Unrolled.{copies_below}
 use Rattle.upp_curve.specs.Periods.{HasPeriod}
-use Rattle.upp_curve.specs.Spans.{Span, next_later, copy_of, copies_of, once_below, span_below, spans, spans_below}
-use Rattle.upp_curve.specs.Limits.{Sizes, Numbers, limit_before, gauge_of, curve_numbers}
-use Rattle.upp_curve.specs.Sized.{grid_of, times_largest, IsValue, IsSlope, AreSizes, Stands, ValueStands, LineStands, SpanStands, TailStands}
+use Rattle.upp_curve.specs.Spans.{Span, copy_of, copies_of, once_below, span_below, spans, spans_below}
+use Rattle.upp_curve.specs.Limits.{Sizes, limit_before, gauge_of, curve_numbers}
+use Rattle.upp_curve.specs.Sized.{grid_of, times_largest, IsValue, AreSizes, Stands, ValueStands, LineStands, SpanStands, TailStands}
 use Rattle.upp_curve.specs.Seen.{seen_of, NextFits, SpanFits, ValueRises, SeenRises, CopiesFit, Knows}
 use Rattle.upp_curve.proofs.Every.{every_weaken, every_flat_out, every_both}
 use Rattle.upp_curve.proofs.Copies.{copies_in, copy_zero, copy_among}
 use Rattle.upp_curve.proofs.ClosedForms.{line_moved, before_moved}
 use Rattle.upp_curve.proofs.NarrowSizes.{IsNarrow, LineParts, line_parts, small_number, small_sum, value_whole, value_within, narrow_gauge}
-use Rattle.upp_curve.proofs.CurveStands.{unrolled_stand, tail_stands, once_out, copies_first}
+use Rattle.upp_curve.proofs.CurveStands.{unrolled_stand, tail_stands, once_out}
 use Rattle.upp_curve.proofs.PieceLists.{starts_nonneg}
 
 -- ---- the lines

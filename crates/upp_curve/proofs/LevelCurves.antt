@@ -1,11 +1,11 @@
 -- A curve of rate 0 that rises ends at one value; and when one curve ends above another.
-use Rattle.std.specs.Prelude.{◌≡◌, ◌≢◌, ℕ, zero, suc, pos, List, [], ◌∷◌, Option, Some, None, ◌⊎◌, ◌≤◌, ◌↔◌}
-use Rattle.std.proofs.Common.{arith, sym, ap, ap₂, ◌∙◌, refl, subst, inl, inr}
+use Rattle.std.specs.Prelude.{◌≡◌, ℕ, suc, pos, List, Option, Some, None, ◌↔◌}
+use Rattle.std.proofs.Common.{arith, sym, ap, ◌∙◌, refl, subst}
 use Rattle.rational.specs.Rational.{ℚ, ◌+ℚ◌, ◌*ℚ◌, ◌/ℚ◌, ◌≤ℚ◌, ◌<ℚ◌, int}
 use Rattle.rational.specs.Extended.{Ext, ◌≤ₑ◌, ◌<ₑ◌, ◌+ₑ◌}
 use Rattle.rational.specs.declared.Extended.TheVariants.{Fin, Inf}
-use Rattle.rational.proofs.Linear.{with1, with2, with3, with4}
-use Rattle.rational.proofs.Laws.{le_or_lt, le_refl, le_trans, le_of_lt, le_lt_trans, lt_le_trans, lt_irrefl, antisym, mul_comm, mul_zero, mul_one, div_mul}
+use Rattle.rational.proofs.Linear.{with2, with4}
+use Rattle.rational.proofs.Laws.{le_refl, le_trans, le_of_lt, le_lt_trans, lt_le_trans, antisym, mul_comm, mul_zero, div_mul}
 use Rattle.rational.specs.MinMax.{max_q}
 use Rattle.rational.proofs.MinMax.{max_q_ge_left, max_q_ge_right}
 use Rattle.rational.proofs.Whole.{not_zero, periods_high, one_more_times}
@@ -16,9 +16,9 @@ use Rattle.affine_segment.specs.Values.{line_value}
 use Rattle.upp_curve.specs.declared.curve.Tail.{Tail}
 use Rattle.upp_curve.specs.declared.curve.Tail.TheVariants.{Periodic, Affine, Infinite}
 use Rattle.upp_curve.specs.Reading.{read}
-use Rattle.upp_curve.specs.Curve.{SpecCurve, value_at, repeated}
+use Rattle.upp_curve.specs.Curve.{SpecCurve, value_at}
 use Rattle.upp_curve.specs.Steady.{last_line, rate, slope_of, Repeats}
-use Rattle.upp_curve.specs.Normal.{Each, IsNormal, IsRaw}
+use Rattle.upp_curve.specs.Normal.{Each}
 use Rattle.upp_curve.specs.Curves.{IsCurve}
 use Rattle.upp_curve.specs.Functions.{zero_q, IsRising}
 use Rattle.upp_curve.specs.Levels.{icept_of, level_of, IsLevelAbove}

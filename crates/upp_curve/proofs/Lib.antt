@@ -86,7 +86,6 @@ pub mod UnrollLoops
 pub mod UnrollSteps
 pub mod StretchPieces
 pub mod StretchTurns
-pub mod AnswerRoom
 pub mod StretchSizes
 pub mod StretchValues
 pub mod GaugeRises
@@ -97,3 +96,4 @@ pub mod GivenCurves
 pub mod JoinLoops
 pub mod Gentle
 pub mod Joins
+pub mod AnswerRoom

@@ -1,12 +1,11 @@
 -- The cross products of two times fit a `Long`, and compare as the times do.
-use Rattle.std.specs.Prelude.{◌≡◌, ◌≢◌, ℕ, zero, suc, ◌+◌, ◌*◌, ◌-◌, ◌^◌, ◌<◌, ◌≤◌, ◌↔◌, ℤ, pos, negsuc, ◌+ℤ◌, ◌*ℤ◌, ◌≤ℤ◌, ◌<ℤ◌, nat_abs, Bool, true, false, IsTrue}
+use Rattle.std.specs.Prelude.{◌≡◌, ℕ, suc, ◌+◌, ◌*◌, ◌^◌, ◌<◌, ◌≤◌, ◌↔◌, ℤ, pos, negsuc, ◌≤ℤ◌, ◌<ℤ◌, nat_abs}
 use Rattle.std.proofs.Common.{arith, sym, ap, ap₂, ◌∙◌, refl, subst}
 use Rattle.std.proofs.lemmas.Int.{ints}
-use native.Mathlib.Nat.{mul-le-mul_left, mul-lt-mul_of_pos_right, zero-lt-suc}
+use native.Mathlib.Nat.{mul-le-mul_left, mul-lt-mul_of_pos_right}
 use Rattle.rational.specs.Rational.{ℚ, den, frac, both, int, ◌+ℚ◌, ◌*ℚ◌, ◌≤ℚ◌, ◌<ℚ◌}
 use Rattle.rational.specs.Fractions.{frac_self}
 use Rattle.rational.proofs.Over.{lt_frac}
-use Rattle.rational.specs.Ratio.{IsSmall}
 use Rattle.rational.proofs.Integers.{mul_whole, nat_nonneg}
 use Rattle.rational.proofs.Linear.{with2}
 use Rattle.rational.proofs.Over.{add_frac, both_is}

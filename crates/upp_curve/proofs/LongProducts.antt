@@ -1,6 +1,6 @@
 -- A product by halves of 64 bits, and by digits of 128 bits.
-use Rattle.std.specs.Prelude.{◌≡◌, ℕ, ◌+◌, ◌*◌, ◌^◌, ◌<◌}
-use Rattle.std.proofs.Common.{arith, sym, ap, ap₂, ◌∙◌, refl}
+use Rattle.std.specs.Prelude.{◌≡◌, ℕ, ◌+◌, ◌*◌, ◌^◌}
+use Rattle.std.proofs.Common.{arith, ap}
 
 -- the four products of halves, each with what the one before carries
 halves_poly : (B a0 a1 m0 m1 c0 c1 p0 p1 q0 q1 r0 r1 s0 s1 : ℕ)

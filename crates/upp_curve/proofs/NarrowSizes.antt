@@ -1,16 +1,16 @@
 -- Where a gauge is small enough, numbers on the common grid of a call and within some times its largest value have small parts.
-use Rattle.std.specs.Prelude.{◌≡◌, ℕ, zero, suc, ◌+◌, ◌*◌, ◌<◌, ◌≤◌, ◌^◌, pos, Option, Some, None}
-use Rattle.std.proofs.Common.{arith, sym, ap, ap₂, ◌∙◌, refl, subst, inl, inr}
+use Rattle.std.specs.Prelude.{◌≡◌, ℕ, ◌+◌, ◌*◌, ◌<◌, ◌≤◌, ◌^◌, pos}
+use Rattle.std.proofs.Common.{arith, sym, ap, ◌∙◌, refl, subst}
 use Prim.Native.Nat.{◌∣◌}
 use native.Mathlib.Nat.{dvd-mul_left, dvd-mul_right, mul-pos, mul-le-mul_right, mul_assoc}
-use Rattle.rational.specs.Rational.{ℚ, neg_ℚ, ◌+ℚ◌, ◌-ℚ◌, ◌*ℚ◌, ◌≤ℚ◌, ◌<ℚ◌, int}
+use Rattle.rational.specs.Rational.{ℚ, ◌+ℚ◌, ◌-ℚ◌, ◌*ℚ◌, ◌≤ℚ◌, int}
 use Rattle.rational.specs.Ratio.{IsSmall, SumFits}
 use Rattle.rational.specs.Grid.{Whole, Within}
-use Rattle.rational.proofs.Linear.{with1, with2, with3, with4}
+use Rattle.rational.proofs.Linear.{with1, with2, with3}
 use Rattle.rational.proofs.Laws.{le_trans, le_refl, mul_le_mul, add_mul, mul_one, mul_assoc as mul_assoc_q, mul_comm as mul_comm_q}
 use Rattle.rational.proofs.Integers.{mul_whole, int_add, nat_le, nat_nonneg}
-use Rattle.rational.proofs.Grid.{whole_weaken, whole_add, whole_sub, whole_mul, within_sub, within_mul, within_nonneg, within_weaken}
-use Rattle.rational.proofs.Sizes.{largest_part, small_on_grid, sum_on_grid, difference_on_grid}
+use Rattle.rational.proofs.Grid.{whole_weaken, whole_sub, whole_mul, within_sub, within_mul, within_nonneg, within_weaken}
+use Rattle.rational.proofs.Sizes.{largest_part, small_on_grid, sum_on_grid}
 use Rattle.upp_curve.specs.Limits.{Sizes, gauge_of}
 use Rattle.upp_curve.specs.Sized.{IsValue, IsSlope, AreSizes, grid_of, times_largest}
 use Rattle.upp_curve.proofs.GaugeProduct.{whole_part_of, time_part_of, slope_part_of}

@@ -1,9 +1,9 @@
 -- A tail without a break in a period is one line; and where there is one, a period from it ends in a break.
 use Rattle.std.specs.Prelude.{◌≡◌, pos, List, [], ◌∷◌, ◌⊎◌, Option, Some, None}
-use Rattle.std.proofs.Common.{arith, sym, ap, ◌∙◌, refl, subst, inl, inr, length}
+use Rattle.std.proofs.Common.{arith, sym, ap, ◌∙◌, refl, subst, inl, inr}
 use Rattle.rational.specs.Rational.{ℚ, ◌+ℚ◌, ◌-ℚ◌, ◌*ℚ◌, ◌≤ℚ◌, ◌<ℚ◌, int}
-use Rattle.rational.proofs.Laws.{antisym, between, le_or_lt, le_of_lt, le_refl, le_trans, lt_le_trans, le_lt_trans}
-use Rattle.rational.proofs.Linear.{with1, with2, with3, with4}
+use Rattle.rational.proofs.Laws.{antisym, between, le_or_lt, le_of_lt, le_refl, le_trans, le_lt_trans}
+use Rattle.rational.proofs.Linear.{with2, with3, with4}
 use Rattle.rational.specs.Extended.{Ext, ◌+ₑ◌}
 use Rattle.rational.specs.declared.Extended.TheVariants.{Fin}
 use Rattle.affine_segment.specs.declared.line.Line.{Line}
@@ -23,7 +23,7 @@ use Rattle.upp_curve.proofs.FirstStretch.{value_past}
 use Rattle.upp_curve.proofs.Below.{read_upto}
 use Rattle.upp_curve.proofs.NormaliseLoops.{past_go, past_none}
 use Rattle.upp_curve.proofs.NormaliseLists.{past_all, last_is_last, last_in, rises_upto, upto_before, continues_back, heads_same, nil_not_cons}
-use Rattle.upp_curve.proofs.NormaliseMerge.{read_stop, read_go, read_first}
+use Rattle.upp_curve.proofs.NormaliseMerge.{read_stop, read_go}
 use Rattle.upp_curve.proofs.NormalisePeriods.{agree_from}
 
 -- ---- one line

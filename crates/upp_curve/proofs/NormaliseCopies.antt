@@ -1,9 +1,9 @@
 -- A period of the pieces is made of copies exactly where a fraction of it is a period.
-use Rattle.std.specs.Prelude.{◌≡◌, ℕ, zero, suc, ◌+◌, ◌-◌, ◌*◌, ◌<◌, ◌≤◌, pos, List, [], ◌∷◌, ◌++◌, length, map}
-use Rattle.std.proofs.Common.{arith, sym, ap, ap₂, ◌∙◌, refl, subst, inl, inr, take, drop, append_assoc, append-nil}
+use Rattle.std.specs.Prelude.{◌≡◌, ℕ, zero, suc, ◌+◌, ◌-◌, ◌*◌, ◌≤◌, pos, List, [], ◌∷◌, ◌++◌, length, map}
+use Rattle.std.proofs.Common.{arith, sym, ap, ap₂, ◌∙◌, refl, subst, take, drop, append_assoc, append-nil}
 use Rattle.std.proofs.lemmas.List.{take-append-drop, take_at, drop_at, length-append, length-take-le, take-take, drop-take, take_all, take-map, length-map, map-append}
 use Rattle.rational.specs.Rational.{ℚ, ◌+ℚ◌, ◌-ℚ◌, ◌*ℚ◌, ◌≤ℚ◌, ◌<ℚ◌, int}
-use Rattle.rational.proofs.Laws.{le_or_lt, le_of_lt, le_refl, le_trans, lt_le_trans, le_lt_trans, add_assoc, add_comm, mul_nonneg}
+use Rattle.rational.proofs.Laws.{le_of_lt, add_assoc, add_comm, mul_nonneg}
 use Rattle.rational.proofs.Linear.{with1, with2, with3, with4, with5}
 use Rattle.rational.proofs.Whole.{one_more_times, nat_nonneg}
 use Rattle.rational.proofs.ExtendedOrder.{add_assoc_ext}
@@ -78,7 +78,7 @@ copied (suc k) e u q qs some rise none inside break =
     let x = q.x in
     let n = int (pos (suc k)) *ℚ e in
     let o = one_more_times (suc k) e in
-    let o2 = one_more_times k e in
+    let one_before = one_more_times k e in
     let m = int (pos k) *ℚ e in
     let m_some : int (pos 0) ≤ℚ m = mul_nonneg (nat_nonneg k) (le_of_lt some) in
     let next = int (pos (suc (suc k))) *ℚ e in
@@ -119,24 +119,24 @@ part_break f k e u d c q qs some dk ck P R C =
     let cs : c ≡ u +ℚ v = ck ∙ one_more_times k u ∙ add_comm v u in
     let s_some : int (pos 0) ≤ℚ s = mul_nonneg (nat_nonneg k) (le_of_lt some) in
     let begin : x <ℚ X = with2 x e (λ c. omega (arith, c.le, c.lt, c.same)) in
-    let w2 = last_of q (upto X qs) in
+    let early_last = last_of q (upto X qs) in
     let w = last_of q qs in
     let y = w.x in
-    let w2_in : w2.x <ℚ X = last_in (λ z. z.x <ℚ X) q (upto X qs) begin (upto_before X qs) in
+    let early_last_in : early_last.x <ℚ X = last_in (λ z. z.x <ℚ X) q (upto X qs) begin (upto_before X qs) in
     let w_in : y <ℚ x +ℚ d = last_in (λ z. z.x <ℚ x +ℚ d) q qs (with4 x d e s (λ c. omega (arith, c.le, c.lt, c.same))) P.inside in
     let back : y -ℚ s <ℚ X = with5 y x d e s (λ c. omega (arith, c.le, c.lt, c.same)) in
     let K = repeats_times f x e u k (le_of_lt some) R in
-    let here = λ (t : ℚ) (a : x ≤ℚ t) (b : w2.x <ℚ t) (h : t <ℚ X).
+    let here = λ (t : ℚ) (a : x ≤ℚ t) (b : early_last.x <ℚ t) (h : t <ℚ X).
     sym (P.reads t a (with5 t x d e s (λ c. omega (arith, c.le, c.lt, c.same)))) ∙ reads_last q qs X t P.rises begin b h in
     let there = λ (t : ℚ) (a : x ≤ℚ t) (b : y -ℚ s <ℚ t) (h : t <ℚ X).
     let late : y <ℚ t +ℚ s = with3 y t s (λ c. omega (arith, c.le, c.lt, c.same)) in
     sym (P.reads (t +ℚ s) (with3 x t s (λ c. omega (arith, c.le, c.lt, c.same))) (with5 t x d e s (λ c. omega (arith, c.le, c.lt, c.same))))
     ∙ read_past (q ∷ qs) y (t +ℚ s) (last_is_last q qs P.rises) late in
-    let line : w.line ≡ line_later s v w2.line = lines_apart f w2.line w.line w2.x (y -ℚ s) x X s v w2_in back begin K here there in
-    let D : Continues (later s v w2) (later s v (later e u q)) = continues_moved s v w2 (later e u q) C in
+    let line : w.line ≡ line_later s v early_last.line = lines_apart f early_last.line w.line early_last.x (y -ℚ s) x X s v early_last_in back begin K here there in
+    let D : Continues (later s v early_last) (later s v (later e u q)) = continues_moved s v early_last (later e u q) C in
     let same : later s v (later e u q) ≡ later d c q = later_twice e s u v q ∙ ap₂ (λ (a b : ℚ). later a b q) (sym ds) (sym cs) in
-    let D2 : Continues (later s v w2) (later d c q) = subst (λ z. Continues (later s v w2) z) same D in
-    P.break (subst (λ l. ((later d c q).at ≡ line_value l (later d c q).x) × ((later d c q).line ≡ l)) (sym line) D2)
+    let continues_there : Continues (later s v early_last) (later d c q) = subst (λ z. Continues (later s v early_last) z) same D in
+    P.break (subst (λ l. ((later d c q).at ≡ line_value l (later d c q).x) × ((later d c q).line ≡ l)) (sym line) continues_there)
 
 pub are_copies : (f : ℚ → Ext) (k : ℕ) (e u d c : ℚ) (q : Piece) (qs : List Piece) → int (pos 0) <ℚ e → d ≡ int (pos (suc k)) *ℚ e → c ≡ int (pos (suc k)) *ℚ u → Period f d c q qs → Repeats f q.x e u
     → q ∷ qs ≡ copies (suc k) e u (upto (q.x +ℚ e) (q ∷ qs))
@@ -236,11 +236,11 @@ from_go_on (suc (suc n)) k e u ps len G =
     let size : length ps - k ≡ m = omega (arith, len) in
     let front : m ≤ length ps = omega (arith, len) in
     let less : k ≤ m = omega arith in
-    let len2 : length rest ≡ m = length-take-le m ps front in
+    let rest_length : length rest ≡ m = length-take-le m ps front in
     let back : drop k ps ≡ each_later e u rest = G ∙ ap (λ i. each_later e u (take i ps)) size in
     let n_k : k + n * k ≡ m = omega arith in
-    let left : length rest - k ≡ n * k = omega (arith, len2) in
+    let left : length rest - k ≡ n * k = omega (arith, rest_length) in
     let inner : GoesOn rest k e u =
     ap (λ i. drop k (take i ps)) (sym n_k) ∙ drop-take k (n * k) ps ∙ ap (take (n * k)) back ∙ take-moved (n * k) e u rest ∙ ap (λ i. each_later e u (take i rest)) (sym left) in
     let shape : ps ≡ take k ps ++ each_later e u rest = sym (take-append-drop k ps) ∙ ap (λ zs. take k ps ++ zs) back in
-    shape ∙ ap (λ zs. take k ps ++ each_later e u zs) (from_go_on (suc n) k e u rest len2 inner ∙ ap (copies (suc n) e u) (take-take k m ps less)) ∙ sym (copies_next (suc n) e u (take k ps))
+    shape ∙ ap (λ zs. take k ps ++ each_later e u zs) (from_go_on (suc n) k e u rest rest_length inner ∙ ap (copies (suc n) e u) (take-take k m ps less)) ∙ sym (copies_next (suc n) e u (take k ps))

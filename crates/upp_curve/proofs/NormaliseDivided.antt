@@ -1,13 +1,13 @@
 -- A curve's period divided: the pieces that are left, where the fraction is a period; and that there is none where they do not go on.
-use Rattle.std.specs.Prelude.{◌≡◌, ℕ, zero, suc, ◌+◌, ◌-◌, ◌*◌, ◌<◌, ◌≤◌, pos, List, [], ◌∷◌, ◌++◌, length, Option, None, Some}
-use Rattle.std.proofs.Common.{arith, sym, ap, ap₂, ◌∙◌, refl, subst, take, drop, append_assoc}
-use Rattle.std.proofs.lemmas.List.{take-append-drop, length-take-le, length-append}
+use Rattle.std.specs.Prelude.{◌≡◌, ℕ, zero, suc, ◌+◌, ◌*◌, ◌≤◌, pos, List, [], ◌∷◌, ◌++◌, length, Option}
+use Rattle.std.proofs.Common.{arith, sym, ap, ap₂, ◌∙◌, subst, take, append_assoc}
+use Rattle.std.proofs.lemmas.List.{length-take-le}
 use Rattle.std.proofs.Math.Seq.{take-append-add}
 use Prim.Native.Nat.{◌∣◌}
 use native.Mathlib.Nat.{dvd-mul_right, eq_of_mul-eq-mul_right, mul_comm}
 use Rattle.rational.specs.Rational.{ℚ, ◌+ℚ◌, ◌-ℚ◌, ◌*ℚ◌, ◌≤ℚ◌, ◌<ℚ◌, int}
-use Rattle.rational.proofs.Laws.{le_or_lt, le_of_lt, le_refl, le_trans, lt_le_trans, le_lt_trans, mul_nonneg}
-use Rattle.rational.proofs.Linear.{with1, with2, with3, with4, with5}
+use Rattle.rational.proofs.Laws.{le_of_lt, le_refl, le_trans}
+use Rattle.rational.proofs.Linear.{with2, with3}
 use Rattle.rational.specs.Extended.{Ext, ◌+ₑ◌}
 use Rattle.rational.specs.declared.Extended.TheVariants.{Fin}
 use Rattle.affine_segment.specs.declared.line.Line.{Line}
@@ -17,7 +17,7 @@ use Rattle.upp_curve.specs.Reading.{read}
 use Rattle.upp_curve.specs.Curve.{repeated}
 use Rattle.upp_curve.specs.Steady.{Repeats, last_of}
 use Rattle.upp_curve.specs.Unrolled.{line_later, later, each_later, copies, upto, from}
-use Rattle.upp_curve.specs.Normal.{RisesFrom, StartsAtZero, Each, HasStart, NoMerge, Continues, NoneContinues}
+use Rattle.upp_curve.specs.Normal.{RisesFrom, StartsAtZero, Each, NoMerge, Continues, NoneContinues}
 use Rattle.upp_curve.specs.Normalising.{IsCycle, EndsInBreak, Turned, GoesOn}
 use Rattle.upp_curve.proofs.Repeats.{repeated_first, repeated_rule, repeats_times}
 use Rattle.upp_curve.proofs.Steady.{read_past}
@@ -26,7 +26,7 @@ use Rattle.upp_curve.proofs.FirstStretch.{on_stretch, at_start, end_of, start_be
 use Rattle.upp_curve.proofs.Normal.{rises, upto_all}
 use Rattle.upp_curve.proofs.Unrolled.{copies_some, line_value_later}
 use Rattle.upp_curve.proofs.Below.{Cut, cut_at_start, read_from_cut, from_past, from_before, parts_read}
-use Rattle.upp_curve.proofs.NormaliseLists.{each_map, each_append, each_left, rises_left, none_left, none_between, last_is_last, last_in, heads_same, tails_same}
+use Rattle.upp_curve.proofs.NormaliseLists.{each_map, each_append, rises_left, none_left, none_between, last_is_last, last_in, heads_same, tails_same}
 use Rattle.upp_curve.proofs.NormaliseCuts.{each_right}
 use Rattle.upp_curve.proofs.NormalisePeriods.{agree}
 use Rattle.upp_curve.proofs.NormaliseRank.{rises_split, has_mid, upto_mid}
@@ -107,9 +107,9 @@ pub copies_count : (ps : List Piece) (r d c e u : ℚ) (k : ℕ) → IsCycle ps 
 copies_count ps r d c e u k C E some dk ck R =
     let K = cut_of ps r d C in
     let P = period_is ps r d c C E K in
-    let R2 : Repeats (repeated (read ps) r d c) K.first.x e u = subst (λ x. Repeats (repeated (read ps) r d c) x e u) (sym K.at) R in
+    let repeats_there : Repeats (repeated (read ps) r d c) K.first.x e u = subst (λ x. Repeats (repeated (read ps) r d c) x e u) (sym K.at) R in
     let ws = upto (K.first.x +ℚ e) (K.first ∷ K.rest) in
-    let are = are_copies (repeated (read ps) r d c) k e u d c K.first K.rest some dk ck P R2 in
+    let are = are_copies (repeated (read ps) r d c) k e u d c K.first K.rest some dk ck P repeats_there in
     (ws, K.from_is ∙ are, ap length (K.from_is ∙ are) ∙ length-copies (suc k) e u ws)
 
 pub divides_count : (ps : List Piece) (r d c e u : ℚ) (k : ℕ) → IsCycle ps r d → EndsInBreak ps r d c → int (pos 0) <ℚ e → d ≡ int (pos (suc k)) *ℚ e → c ≡ int (pos (suc k)) *ℚ u
@@ -169,8 +169,8 @@ divided_parts es q qs vs m first d c e u C early some dk ck are count =
       break = λ p rest is.
           let e2 : p ∷ rest ≡ q ∷ vs = sym is ∙ from_mid x es q vs early (le_refl x) in
           let B = none_between q vs s more (none_right es q (vs ++ s ∷ more) none2) in
-          λ C2. B (subst (λ z. Continues z (later e u q)) (ap₂ last_of (heads_same p q rest vs e2) (tails_same p q rest vs e2))
-          (subst (λ z. Continues (last_of p rest) (later e u z)) (heads_same p q rest vs e2) C2));
+          λ continues_there. B (subst (λ z. Continues z (later e u q)) (ap₂ last_of (heads_same p q rest vs e2) (tails_same p q rest vs e2))
+          (subst (λ z. Continues (last_of p rest) (later e u z)) (heads_same p q rest vs e2) continues_there));
       first_is = count ∙ ap length (sym (upto_mid x es q vs early (le_refl x)));
       same = agree g f x d c C.some G (repeated_rule (read (es ++ q ∷ qs)) x d c C.some) first_period C.nonneg;
     }
@@ -196,10 +196,10 @@ cut_turned ps r d c e u m k first C E some dk ck len G count = by_count k len (f
         let es = K.before in
         let vs = take j qs in
         let early : Each (λ z. z.x <ℚ q.x) es = subst (λ x. Each (λ z. z.x <ℚ x) es) (sym K.at) K.early in
-        let C2 : IsCycle (es ++ q ∷ qs) q.x d = subst (λ zs. IsCycle zs q.x d) K.whole (subst (λ x. IsCycle ps x d) (sym K.at) C) in
+        let cycle_there : IsCycle (es ++ q ∷ qs) q.x d = subst (λ zs. IsCycle zs q.x d) K.whole (subst (λ x. IsCycle ps x d) (sym K.at) C) in
         let are2 : q ∷ qs ≡ copies (suc (suc m)) e u (q ∷ vs) = sym K.from_is ∙ are ∙ ap (λ zs. copies (suc (suc m)) e u (take (suc j) zs)) K.from_is in
         let count2 : first ≡ length es = count ∙ ap length K.upto_is in
-        let D = divided_parts es q qs vs m first d c e u C2 early some dk ck are2 count2 in
+        let D = divided_parts es q qs vs m first d c e u cycle_there early some dk ck are2 count2 in
         let shape : take (first + suc j) ps ≡ es ++ q ∷ vs = ap₂ (λ (n : ℕ) (zs : List Piece). take (n + suc j) zs) count2 K.whole ∙ take-append-add es (q ∷ qs) (suc j) in
         let size : length vs ≡ j = length-take-le j qs (omega (arith, len, ap length K.from_is, fits qs (ap length (sym K.from_is) ∙ len))) in (
           subst (λ new. Turned new first r e u (repeated (read ps) r d c)) (sym shape)

@@ -1,40 +1,37 @@
 -- The normal form from what its steps leave.
-use Rattle.std.specs.Prelude.{◌≡◌, ◌≢◌, ℕ, ◌+◌, ◌-◌, ◌*◌, ◌<◌, ◌≤◌, pos, List, [], ◌∷◌, ◌++◌, ◌⊎◌, length, Option, None, Some, Result, Ok, Err, IfOk}
-use Rattle.std.proofs.Common.{arith, sym, ap, ap₂, ◌∙◌, refl, subst, inl, inr, get_or, append_assoc}
+use Rattle.std.specs.Prelude.{◌≡◌, ℕ, ◌-◌, ◌<◌, ◌≤◌, pos, List, [], ◌∷◌, ◌++◌, ◌⊎◌, length, Option, None, Some, Result, Ok, Err, IfOk}
+use Rattle.std.proofs.Common.{arith, sym, ap, ◌∙◌, refl, subst, inl, inr, get_or}
 use Rattle.rational.specs.Rational.{ℚ, ◌+ℚ◌, ◌-ℚ◌, ◌*ℚ◌, ◌/ℚ◌, ◌≤ℚ◌, ◌<ℚ◌, int}
-use Rattle.rational.specs.Grid.{Whole}
 use Rattle.rational.specs.Whole.{periods}
-use Rattle.rational.proofs.Laws.{le_or_lt, le_of_lt, le_refl, le_trans, lt_le_trans, le_lt_trans, antisym, lt_irrefl}
-use Rattle.rational.proofs.Linear.{with1, with2, with3, with4, with5}
+use Rattle.rational.proofs.Laws.{le_or_lt, le_of_lt, le_refl, le_trans, le_lt_trans, antisym}
+use Rattle.rational.proofs.Linear.{with3, with4}
 use Rattle.rational.proofs.Over.{le_q_out}
 use Rattle.rational.proofs.Whole.{periods_high}
 use Rattle.rational.specs.Extended.{Ext, ◌+ₑ◌}
-use Rattle.rational.specs.declared.Extended.TheVariants.{Fin, Inf}
+use Rattle.rational.specs.declared.Extended.TheVariants.{Fin}
 use Rattle.affine_segment.specs.declared.line.Line.{Line}
 use Rattle.affine_segment.specs.declared.line.Piece.{Piece}
 use Rattle.affine_segment.specs.Values.{line_value}
-use Rattle.upp_curve.specs.declared.curve.Tail.{Tail}
-use Rattle.upp_curve.specs.declared.curve.Tail.TheVariants.{Periodic, Affine, Infinite}
 use Rattle.upp_curve.specs.declared.cycle.Cycle.{Cycle}
 use Rattle.upp_curve.specs.Reading.{read, piece_value}
 use Rattle.upp_curve.specs.Curve.{SpecCurve, repeated, cut, value_at}
-use Rattle.upp_curve.specs.Steady.{Repeats, last_of, last_line}
+use Rattle.upp_curve.specs.Steady.{Repeats, last_line}
 use Rattle.upp_curve.specs.Unrolled.{upto}
-use Rattle.upp_curve.specs.Normal.{RisesFrom, StartsAtZero, Each, HasStart, NoMerge, NoneContinues, IsRaw, IsNormal}
-use Rattle.upp_curve.specs.Normalising.{IsPart, IsMerged, IsTwoPeriods, IsCycle, IsTurning, IsLowest, IsLeast, IsLine, IsFormOf, IsOneLine, OnGrids, OnGridsUnlessLine, TailOnGrids, cycle_values, second_copy, ended}
+use Rattle.upp_curve.specs.Normal.{StartsAtZero, Each, HasStart, NoMerge}
+use Rattle.upp_curve.specs.Normalising.{IsPart, IsMerged, IsTwoPeriods, IsTurning, IsLowest, IsLeast, IsFormOf, IsOneLine, OnGrids, OnGridsUnlessLine, cycle_values, second_copy, ended}
 use Rattle.upp_curve.proofs.Steady.{cut_past}
 use Rattle.upp_curve.proofs.Unique.{upto_none, upto_some}
 use Rattle.upp_curve.proofs.FirstStretch.{value_at_start, value_past}
-use Rattle.upp_curve.proofs.Normal.{transfer, rises, periodic}
+use Rattle.upp_curve.proofs.Normal.{transfer, periodic}
 use Rattle.upp_curve.proofs.OneForm.{affine, infinite, affine_value, infinite_value}
 use Rattle.upp_curve.proofs.Rules.{rule_extends}
 use Rattle.upp_curve.proofs.Repeats.{repeated_first, repeated_rule}
 use Rattle.upp_curve.proofs.Unrolled.{read_before}
 use Rattle.upp_curve.proofs.Below.{read_from_cut, plain_upto}
-use Rattle.upp_curve.proofs.NormaliseLists.{each_map, each_append, each_upto, upto_before, rises_upto, rises_append}
+use Rattle.upp_curve.proofs.NormaliseLists.{each_map, each_append, upto_before, rises_upto, rises_append}
 use Rattle.upp_curve.proofs.NormaliseCuts.{last_append}
 use Rattle.upp_curve.proofs.NormaliseMerge.{read_one}
-use Rattle.upp_curve.proofs.NormalisePeriods.{TwoPeriods, two_periods_are, repeats_after}
+use Rattle.upp_curve.proofs.NormalisePeriods.{two_periods_are, repeats_after}
 use Rattle.upp_curve.proofs.NormaliseRank.{Last, last_is, has_mid}
 use Rattle.upp_curve.proofs.NormaliseDivided.{cut_of, period_is, not_one_line}
 use Rattle.upp_curve.proofs.NormaliseLeast.{own_turning, share_some}
@@ -155,8 +152,8 @@ repeating_form times values c m ps low d u L W dm um =
         tail = record {
           least_period = λ n a R.
               let some_n : 0 < n = omega arith in
-              let R2 = down (d /ℚ int (pos n)) (u /ℚ int (pos n)) (le_of_lt (share_some d n some_n C.some)) R in
-              L.least n a (subst (λ x. Repeats (cycle_values m) m.rank (x /ℚ int (pos n)) (m.rise /ℚ int (pos n))) dm (subst (λ y. Repeats (cycle_values m) m.rank (d /ℚ int (pos n)) (y /ℚ int (pos n))) um R2));
+              let repeats_shorter = down (d /ℚ int (pos n)) (u /ℚ int (pos n)) (le_of_lt (share_some d n some_n C.some)) R in
+              L.least n a (subst (λ x. Repeats (cycle_values m) m.rank (x /ℚ int (pos n)) (m.rise /ℚ int (pos n))) dm (subst (λ y. Repeats (cycle_values m) m.rank (d /ℚ int (pos n)) (y /ℚ int (pos n))) um repeats_shorter));
           least_rank =
               each_map (λ p. p.x <ℚ low → ¬ (Repeats (repeated (read ps) low d u) p.x d u)) (λ p. p.x <ℚ low → ¬ (Repeats g p.x d u))
               (λ p h l R. h l (same_rule (repeated (read ps) low d u) g p.x d u (λ t. sym (periodic_is ps low d u t)) R)) ps W.least;

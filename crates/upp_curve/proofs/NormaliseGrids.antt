@@ -1,13 +1,13 @@
 -- The whole fractions of a raw curve's period that are periods stand on the grids of its numbers, unless its tail is one line.
-use Rattle.std.specs.Prelude.{◌≡◌, ℕ, zero, suc, ◌+◌, ◌*◌, ◌<◌, ◌≤◌, pos, List, [], ◌∷◌, ◌++◌, Option, Some, None, ◌⊎◌, length}
+use Rattle.std.specs.Prelude.{◌≡◌, ℕ, zero, suc, ◌*◌, ◌≤◌, pos, List, [], ◌∷◌, ◌++◌, Option, Some, None, ◌⊎◌, length}
 use Rattle.std.proofs.Common.{arith, sym, ap, ◌∙◌, refl, subst, inl, inr}
 use Prim.Native.Nat.{◌∣◌}
 use native.Mathlib.Nat.{mul_comm}
 use Rattle.rational.specs.Rational.{ℚ, ◌+ℚ◌, ◌-ℚ◌, ◌*ℚ◌, ◌/ℚ◌, ◌≤ℚ◌, ◌<ℚ◌, int}
 use Rattle.rational.specs.Grid.{Whole}
 use Rattle.rational.proofs.Grid.{whole_weaken, whole_add, whole_sub, whole_mul}
-use Rattle.rational.proofs.Laws.{le_or_lt, le_of_lt, le_refl, le_trans, antisym, lt_irrefl, mul_one, mul_comm as mul_comm_q}
-use Rattle.rational.proofs.Linear.{with1, with2, with3, with4}
+use Rattle.rational.proofs.Laws.{le_or_lt, le_of_lt, le_trans, antisym, lt_irrefl, mul_one, mul_comm as mul_comm_q}
+use Rattle.rational.proofs.Linear.{with2, with3}
 use Rattle.rational.specs.Extended.{Ext, ◌+ₑ◌}
 use Rattle.rational.specs.declared.Extended.TheVariants.{Fin, Inf}
 use Rattle.affine_segment.specs.declared.line.Line.{Line}
@@ -23,7 +23,6 @@ use Rattle.upp_curve.specs.Normalising.{IsMerged, IsTwoPeriods, IsLine, IsOneLin
 use Rattle.upp_curve.proofs.Unique.{upto_some}
 use Rattle.upp_curve.proofs.FirstStretch.{value_past, value_at_start}
 use Rattle.upp_curve.proofs.Steady.{read_past}
-use Rattle.upp_curve.proofs.Below.{Cut}
 use Rattle.upp_curve.proofs.Unrolled.{copies_some}
 use Rattle.upp_curve.proofs.Repeats.{repeated_rule}
 use Rattle.upp_curve.proofs.Normal.{transfer, rises}
@@ -37,7 +36,7 @@ use Rattle.upp_curve.proofs.NormaliseShape.{line_for_ever, line_before, turns_at
 use Rattle.upp_curve.proofs.NormaliseCopies.{copies_zero, Period, are_copies, read_is}
 use Rattle.upp_curve.proofs.NormaliseDivided.{cut_of, period_is, not_one_line}
 use Rattle.upp_curve.proofs.NormaliseLeast.{share_back, share_some}
-use Rattle.upp_curve.proofs.NormaliseForm.{each_part, merged_cons, TwoPeriodsOf, two_periods_of, grids_through}
+use Rattle.upp_curve.proofs.NormaliseForm.{each_part, merged_cons, two_periods_of, grids_through}
 use Rattle.upp_curve.proofs.NormaliseRoomy.{each_in, found_early}
 
 -- ---- numbers on the grids

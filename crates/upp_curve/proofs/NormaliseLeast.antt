@@ -1,26 +1,25 @@
 -- The search for the least period: what a division answers, and what the loop keeps.
-use Rattle.std.specs.Prelude.{◌≡◌, ℕ, zero, suc, ◌+◌, ◌-◌, ◌*◌, ◌/◌, ◌%◌, ◌<◌, ◌≤◌, pos, List, ◌∷◌, length, ◌⊎◌}
+use Rattle.std.specs.Prelude.{◌≡◌, ℕ, zero, suc, ◌+◌, ◌*◌, ◌/◌, ◌%◌, ◌<◌, ◌≤◌, pos, List, ◌∷◌, length, ◌⊎◌}
 use Rattle.std.proofs.Common.{arith, sym, ap, ap₂, ◌∙◌, refl, subst, inl, inr, take, drop}
 use Rattle.std.proofs.lemmas.List.{length-append}
 use Rattle.std.proofs.lemmas.Bool.{cases_lt}
 use Prim.Native.Nat.{◌∣◌}
-use native.Mathlib.Nat.{dvd_trans, dvd_of_mul-dvd-mul_left, mul-div_cancel', le_of_dvd, dvd-mul_right, dvd-mul_left, dvd_of_mod-eq-zero, mod-eq-zero_of_dvd, dvd_refl, mul-pos}
+use native.Mathlib.Nat.{dvd_trans, dvd_of_mul-dvd-mul_left, mul-div_cancel', le_of_dvd, dvd-mul_left, dvd_of_mod-eq-zero, mod-eq-zero_of_dvd, dvd_refl, mul-pos}
 use Rattle.rational.specs.Gcd.{gcd}
 use Rattle.rational.specs.Euclid.{gcd_is, divides_other, gcd_pos}
-use Rattle.rational.specs.Rational.{ℚ, ◌+ℚ◌, ◌*ℚ◌, ◌/ℚ◌, ◌≤ℚ◌, ◌<ℚ◌, int}
+use Rattle.rational.specs.Rational.{ℚ, ◌*ℚ◌, ◌/ℚ◌, ◌≤ℚ◌, ◌<ℚ◌, int}
 use Rattle.rational.specs.Grid.{Whole}
-use Rattle.rational.proofs.Integers.{nat_lt, nat_nonneg}
-use Rattle.rational.proofs.Laws.{le_of_lt, mul_comm, mul_assoc, mul_cancel, div_mul, mul_nonneg, mul_one}
-use Rattle.rational.proofs.Linear.{with1, with2}
-use Rattle.rational.proofs.Whole.{lt_of_mul, not_zero}
+use Rattle.rational.proofs.Integers.{nat_lt}
+use Rattle.rational.proofs.Laws.{le_of_lt, mul_comm, mul_assoc, mul_cancel, div_mul, mul_one}
+use Rattle.rational.proofs.Linear.{with1}
+use Rattle.rational.proofs.Whole.{lt_of_mul}
 use Rattle.rational.specs.Extended.{Ext}
 use Rattle.affine_segment.specs.declared.line.Piece.{Piece}
 use Rattle.upp_curve.specs.Reading.{read}
-use Rattle.upp_curve.specs.Curve.{repeated}
 use Rattle.upp_curve.specs.Steady.{Repeats}
 use Rattle.upp_curve.specs.Unrolled.{upto, from}
 use Rattle.upp_curve.specs.declared.cycle.Cycle.{Cycle}
-use Rattle.upp_curve.specs.Normalising.{IsCycle, EndsInBreak, Turned, GoesOn, IsTurning, cycle_values, turn_count, OnGrids, StaysWhole, IsCut, IsDivided, IsLeast, IsFront, SharesFit}
+use Rattle.upp_curve.specs.Normalising.{IsCycle, Turned, GoesOn, IsTurning, cycle_values, turn_count, OnGrids, StaysWhole, IsCut, IsDivided, IsLeast, IsFront, SharesFit}
 use Rattle.upp_curve.specs.Normal.{Each}
 use Rattle.upp_curve.specs.Fitting.{LaterFits}
 use Rattle.upp_curve.proofs.Repeats.{repeats_times, repeated_rule}
@@ -310,12 +309,12 @@ search_divides times values c found d parts rest S e D =
       none = none;
       only = λ n a R.
           let some_n : 0 < n = omega arith in
-          let R2 = subst (λ x. Repeats (cycle_values c) c.rank (x /ℚ int (pos n)) (found.rise /ℚ int (pos n))) W.period (subst (λ y. Repeats (cycle_values c) c.rank (d.period /ℚ int (pos n)) (y /ℚ int (pos n))) W.rise R) in
+          let repeats_shorter = subst (λ x. Repeats (cycle_values c) c.rank (x /ℚ int (pos n)) (found.rise /ℚ int (pos n))) W.period (subst (λ y. Repeats (cycle_values c) c.rank (d.period /ℚ int (pos n)) (y /ℚ int (pos n))) W.rise R) in
           let apart = λ (k : parts ∣ n).
           W.none (from_values found (cycle_values c) c.rank (found.period /ℚ int (pos parts)) (found.rise /ℚ int (pos parts)) S.turned S.rank
           (le_of_lt (share_some found.period parts (let m = S.some in omega arith) S.turned.cycle.some))
-          (shorter_by (cycle_values c) c.rank found.period found.rise parts n S.turned.cycle.some some_n k R2)) in
-          divides_other parts n (rest / parts) left (coprime parts rest n S.some h some_n S.none apart) (subst (λ z. n ∣ z) (sym next) (S.only n a R2));
+          (shorter_by (cycle_values c) c.rank found.period found.rise parts n S.turned.cycle.some some_n k repeats_shorter)) in
+          divides_other parts n (rest / parts) left (coprime parts rest n S.some h some_n S.none apart) (subst (λ z. n ∣ z) (sym next) (S.only n a repeats_shorter));
     }
     by_outcome h next left back none T r (inr W) =
         let some_p : 0 < parts = let m = S.some in omega arith in
@@ -334,9 +333,9 @@ search_divides times values c found d parts rest S e D =
           none = none;
           only = λ n a R.
               let some_n : 0 < n = omega arith in
-              let R2 = subst (λ x. Repeats (cycle_values c) c.rank x (found.rise /ℚ int (pos (parts * n)))) (ap (λ z. z /ℚ int (pos n)) W.period ∙ share_twice found.period parts n some_p some_n)
+              let repeats_shorter = subst (λ x. Repeats (cycle_values c) c.rank x (found.rise /ℚ int (pos (parts * n)))) (ap (λ z. z /ℚ int (pos n)) W.period ∙ share_twice found.period parts n some_p some_n)
               (subst (λ y. Repeats (cycle_values c) c.rank (d.period /ℚ int (pos n)) y) (ap (λ z. z /ℚ int (pos n)) W.rise ∙ share_twice found.rise parts n some_p some_n) R) in
-              dvd_of_mul-dvd-mul_left n some_p (subst (λ z. parts * n ∣ z) (sym next) (S.only (parts * n) (mul-pos some_p some_n) R2));
+              dvd_of_mul-dvd-mul_left n some_p (subst (λ z. parts * n ∣ z) (sym next) (S.only (parts * n) (mul-pos some_p some_n) repeats_shorter));
         }
 
 pub search_ends : (times values : ℕ) (c found : Cycle) (parts rest : ℕ) → Searching times values c found parts rest → rest < parts → IsLeast times values c found
@@ -351,8 +350,8 @@ search_ends times values c found parts rest S h = record {
   rank = S.rank;
   least = λ n a R.
       let some_n : 0 < n = omega arith in
-      let R2 = to_values found (cycle_values c) c.rank (found.period /ℚ int (pos n)) (found.rise /ℚ int (pos n)) S.turned S.rank (le_of_lt (share_some found.period n some_n S.turned.cycle.some)) R in
-      let k = S.only n some_n R2 in
+      let repeats_shorter = to_values found (cycle_values c) c.rank (found.period /ℚ int (pos n)) (found.rise /ℚ int (pos n)) S.turned S.rank (le_of_lt (share_some found.period n some_n S.turned.cycle.some)) R in
+      let k = S.only n some_n repeats_shorter in
       let most : n ≤ rest = le_of_dvd S.left k in
       S.none n a (omega arith) k;
 }

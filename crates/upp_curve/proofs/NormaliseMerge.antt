@@ -4,10 +4,10 @@ use Rattle.std.proofs.Common.{sym, ap, ◌∙◌, refl, subst, inl, inr, append_
 use Rattle.rational.specs.Rational.{ℚ, ◌≤ℚ◌, ◌<ℚ◌}
 use Rattle.rational.proofs.Laws.{antisym, lt_le_trans, le_lt_trans, le_or_lt, le_of_lt}
 use Rattle.affine_segment.specs.declared.line.Piece.{Piece}
-use Rattle.upp_curve.specs.Reading.{read, piece_in, piece_value}
+use Rattle.upp_curve.specs.Reading.{read, piece_value}
 use Rattle.affine_segment.specs.Values.{line_value}
-use Rattle.upp_curve.specs.Normal.{RisesFrom, NoneContinues, Continues}
-use Rattle.upp_curve.specs.Normalising.{IsPart, IsMerged}
+use Rattle.upp_curve.specs.Normal.{RisesFrom, Continues}
+use Rattle.upp_curve.specs.Normalising.{IsMerged}
 use Rattle.upp_curve.proofs.PieceIn.{piece_in_go, piece_in_stop, piece_in_end}
 use Rattle.upp_curve.proofs.FirstStretch.{value_past, value_at_start}
 use Rattle.upp_curve.proofs.NormaliseLists.{rises_down}

@@ -1,17 +1,16 @@
 -- Functions with one rule agree where they agree in one period; and a second period's pieces read as the repeated function.
 use Rattle.std.specs.Prelude.{◌≡◌, ℕ, pos, List, [], ◌∷◌, ◌++◌, ◌⊎◌}
-use Rattle.std.proofs.Common.{arith, sym, ap, ◌∙◌, refl, subst, inl, inr}
+use Rattle.std.proofs.Common.{arith, sym, ap, ◌∙◌, subst, inl, inr}
 use Rattle.rational.specs.Rational.{ℚ, ◌+ℚ◌, ◌-ℚ◌, ◌*ℚ◌, ◌≤ℚ◌, ◌<ℚ◌, int}
 use Rattle.rational.specs.Whole.{periods}
-use Rattle.rational.proofs.Laws.{antisym, le_or_lt, le_of_lt, le_refl, le_trans, lt_le_trans, le_lt_trans}
-use Rattle.rational.proofs.Linear.{with1, with2, with3, with4}
+use Rattle.rational.proofs.Laws.{antisym, le_or_lt, le_of_lt, le_refl, le_trans, le_lt_trans}
+use Rattle.rational.proofs.Linear.{with2, with3, with4}
 use Rattle.rational.proofs.Whole.{periods_low, periods_high}
 use Rattle.rational.specs.Extended.{Ext, ◌+ₑ◌}
 use Rattle.rational.specs.declared.Extended.TheVariants.{Fin}
 use Rattle.affine_segment.specs.declared.line.Piece.{Piece}
 use Rattle.upp_curve.specs.Reading.{read, piece_in, piece_value}
 use Rattle.upp_curve.specs.Curve.{repeated}
-use Rattle.affine_segment.specs.Values.{line_value}
 use Rattle.upp_curve.specs.Unrolled.{each_later, later}
 use Rattle.upp_curve.specs.Normal.{RisesFrom, Each}
 use Rattle.upp_curve.specs.Steady.{Repeats}
@@ -20,9 +19,9 @@ use Rattle.upp_curve.proofs.PieceIn.{piece_in_go, piece_in_stop, piece_in_end}
 use Rattle.upp_curve.proofs.Repeats.{repeats_times, repeated_first, repeated_next}
 use Rattle.upp_curve.proofs.FirstStretch.{value_past, value_at_start}
 use Rattle.upp_curve.proofs.Unrolled.{read_later, read_before, read_past_list}
-use Rattle.upp_curve.proofs.NormaliseLoops.{past_go, past_stop, past_none, later_some}
+use Rattle.upp_curve.proofs.NormaliseLoops.{past_go, past_none, later_some}
 use Rattle.upp_curve.proofs.NormaliseLists.{each_map, each_append, each_past, each_moved, rises_append, rises_past, rises_moved, past_all}
-use Rattle.upp_curve.proofs.NormaliseMerge.{read_first, read_stop, read_go, read_one}
+use Rattle.upp_curve.proofs.NormaliseMerge.{read_stop, read_go, read_one}
 
 -- ---- one rule
 pub agree_from : (f g : ℚ → Ext) (r d c : ℚ) → int (pos 0) <ℚ d → Repeats f r d c → Repeats g r d c → ((t : ℚ) → r ≤ℚ t → t <ℚ r +ℚ d → f t ≡ g t)

@@ -6,7 +6,7 @@ use Rattle.rational.specs.Rational.{ℚ, ◌+ℚ◌, ◌-ℚ◌, ◌≤ℚ◌, �
 use Rattle.rational.proofs.MinMax.{lt_q_not}
 use Rattle.rational.proofs.Over.{lt_q_out}
 use Rattle.rational.proofs.Laws.{antisym, le_or_lt, le_of_lt, le_refl, le_trans, lt_le_trans, le_lt_trans, lt_irrefl}
-use Rattle.rational.proofs.Linear.{with1, with2, with3, with4}
+use Rattle.rational.proofs.Linear.{with2, with3, with4}
 use Rattle.rational.specs.Extended.{Ext, ◌+ₑ◌}
 use Rattle.rational.specs.declared.Extended.TheVariants.{Fin}
 use Rattle.affine_segment.specs.declared.line.Piece.{Piece}

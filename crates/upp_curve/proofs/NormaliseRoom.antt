@@ -1,8 +1,7 @@
 -- Numbers that have room: the steps of a move and of a value fit, and moved pieces have room.
-use Rattle.std.specs.Prelude.{◌≡◌, ℕ, suc, ◌+◌, ◌*◌, ◌<◌, ◌≤◌, pos, List, [], ◌∷◌, Option, Some, None, ◌⊎◌}
-use Rattle.std.proofs.Common.{arith, sym, ap, ◌∙◌, refl, subst, inl, inr}
-use Prim.Native.Nat.{◌∣◌}
-use native.Mathlib.Nat.{dvd_trans, mul-dvd-mul_right, mul-le-mul_right, mul-le-mul_left, mul_comm, mul-pos, dvd-mul_right, dvd-mul_left, le_of_dvd}
+use Rattle.std.specs.Prelude.{◌≡◌, ℕ, ◌+◌, ◌*◌, ◌<◌, ◌≤◌, pos, Option, Some, None}
+use Rattle.std.proofs.Common.{arith, sym, ap, ◌∙◌, subst, inl, inr}
+use native.Mathlib.Nat.{dvd_trans, mul-dvd-mul_right, mul-le-mul_right, mul_comm, mul-pos, dvd-mul_right, le_of_dvd}
 use Rattle.rational.specs.Rational.{ℚ, ◌+ℚ◌, ◌-ℚ◌, ◌*ℚ◌, ◌/ℚ◌, ◌≤ℚ◌, ◌<ℚ◌, neg_ℚ, int}
 use Rattle.rational.specs.Ratio.{IsSmall, SumFits}
 use Rattle.rational.specs.Grid.{Whole, Within}
@@ -10,18 +9,18 @@ use Rattle.rational.proofs.Grid.{whole_weaken, whole_add, whole_neg, whole_sub, 
 use Rattle.rational.proofs.Sizes.{small_on_grid, sum_on_grid, quotient_on_grid}
 use Rattle.rational.proofs.Integers.{nat_le, nat_nonneg}
 use Rattle.upp_curve.proofs.Rules.{int_add, int_mul}
-use Rattle.rational.proofs.Laws.{le_or_lt, le_of_lt, le_refl, le_trans, lt_le_trans, le_lt_trans, mul_le_mul, mul_le_mul_right, mul_nonneg, neg_mul}
+use Rattle.rational.proofs.Laws.{le_or_lt, le_of_lt, le_refl, le_trans, mul_le_mul, mul_le_mul_right, mul_nonneg, neg_mul}
 use Rattle.rational.proofs.Whole.{not_zero}
-use Rattle.rational.proofs.Linear.{with1, with2, with3, with4}
+use Rattle.rational.proofs.Linear.{with1, with2, with3}
 use Rattle.rational.specs.Extended.{Ext, ◌+ₑ◌}
 use Rattle.rational.specs.declared.Extended.TheVariants.{Fin, Inf}
 use Rattle.affine_segment.specs.declared.line.Line.{Line}
 use Rattle.affine_segment.specs.declared.line.Piece.{Piece}
 use Rattle.affine_segment.specs.Values.{line_value}
 use Rattle.upp_curve.specs.Unrolled.{line_later, later}
-use Rattle.upp_curve.specs.Readable.{LineFits, LineFitsAt, SumFitsAt}
-use Rattle.upp_curve.specs.Fitting.{MoveFits, LineLaterFits, LaterFits}
-use Rattle.upp_curve.specs.Room.{top, Room, IsRoom, TimeHasRoom, many, ValueInRoom, ValueHasRoom, LineInRoom, LineHasRoom, PieceHasRoom, IsMove}
+use Rattle.upp_curve.specs.Readable.{LineFitsAt, SumFitsAt}
+use Rattle.upp_curve.specs.Fitting.{LineLaterFits, LaterFits}
+use Rattle.upp_curve.specs.Room.{top, Room, IsRoom, TimeHasRoom, many, ValueHasRoom, LineHasRoom, PieceHasRoom, IsMove}
 
 -- ---- the grid of a time's values
 abbrev pub fine : (m : Room) (x : ℚ) → TimeHasRoom m x → ℕ

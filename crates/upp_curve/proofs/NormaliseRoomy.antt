@@ -1,33 +1,29 @@
 -- Room for a whole curve: what each step of the normal form asks for, and that its answer is readable.
-use Rattle.std.specs.Prelude.{◌≡◌, ℕ, suc, ◌+◌, ◌*◌, ◌<◌, ◌≤◌, pos, List, [], ◌∷◌, ◌++◌, Option, Some, None, ◌⊎◌}
+use Rattle.std.specs.Prelude.{◌≡◌, ℕ, ◌+◌, ◌*◌, ◌≤◌, pos, List, [], ◌∷◌, ◌++◌, Option, Some, None}
 use Rattle.std.proofs.Common.{arith, sym, ap, ◌∙◌, refl, subst, inl, inr}
 use Rattle.rational.specs.Rational.{ℚ, ◌+ℚ◌, ◌*ℚ◌, ◌/ℚ◌, ◌≤ℚ◌, ◌<ℚ◌, neg_ℚ, int}
-use Rattle.rational.specs.Ratio.{IsSmall, SumFits}
 use Rattle.rational.specs.Grid.{Whole, Within}
-use Rattle.rational.proofs.Laws.{le_or_lt, le_of_lt, le_refl, le_trans, lt_le_trans, le_lt_trans, antisym, mul_le_mul, mul_le_mul_right, mul_nonneg, mul_one, mul_comm, mul_neg}
+use Rattle.rational.proofs.Laws.{le_or_lt, le_of_lt, le_refl, le_trans, antisym, mul_le_mul_right, mul_one, mul_comm, mul_neg}
 use Rattle.rational.proofs.Linear.{with1, with2, with3, with4, with5}
-use Rattle.rational.proofs.Integers.{nat_le, nat_lt, nat_nonneg}
+use Rattle.rational.proofs.Integers.{nat_le}
 use Rattle.rational.proofs.Grid.{within_some}
-use Rattle.rational.specs.Extended.{Ext}
-use Rattle.rational.specs.declared.Extended.TheVariants.{Fin, Inf}
 use Rattle.affine_segment.specs.declared.line.Line.{Line}
 use Rattle.affine_segment.specs.declared.line.Piece.{Piece}
-use Rattle.affine_segment.specs.Values.{line_value}
 use Rattle.upp_curve.specs.declared.cycle.Cycle.{Cycle}
 use Rattle.upp_curve.specs.Reading.{read, piece_in, piece_value}
 use Rattle.upp_curve.specs.Steady.{last_line}
-use Rattle.upp_curve.specs.Unrolled.{line_later, later, each_later}
-use Rattle.upp_curve.specs.Normal.{Each, RisesFrom, StartsAtZero, HasStart}
-use Rattle.upp_curve.specs.Readable.{LineFits, LineFitsAt, LineFitsTo, SumFitsAt, EachFits, PeriodFits, start_after}
+use Rattle.upp_curve.specs.Unrolled.{line_later, each_later}
+use Rattle.upp_curve.specs.Normal.{Each, RisesFrom}
+use Rattle.upp_curve.specs.Readable.{LineFitsAt, LineFitsTo, SumFitsAt, EachFits, PeriodFits, start_after}
 use Rattle.upp_curve.specs.Fitting.{LaterFits, ReadFits}
-use Rattle.upp_curve.specs.Normalising.{IsCycle, IsFront, IsLeast, IsLowest, SharesFit, StepsFit, MoveReads, cut_at, past, second_copy, cycle_values}
-use Rattle.upp_curve.specs.Room.{Room, IsRoom, TimeHasRoom, many, ValueHasRoom, LineHasRoom, PieceHasRoom, IsMove, PiecesHaveRoom, TurnHasRoom, CycleHasRoom, TwoHaveRoom}
+use Rattle.upp_curve.specs.Normalising.{IsCycle, IsFront, IsLeast, SharesFit, StepsFit, MoveReads, cut_at, past, second_copy}
+use Rattle.upp_curve.specs.Room.{Room, IsRoom, TimeHasRoom, many, ValueHasRoom, LineHasRoom, PieceHasRoom, IsMove, PiecesHaveRoom, TurnHasRoom, CycleHasRoom}
 use Rattle.upp_curve.proofs.FirstStretch.{value_past, value_at_start}
 use Rattle.upp_curve.proofs.Normal.{each_at}
 use Rattle.upp_curve.proofs.PieceIn.{piece_in_go, piece_in_stop, piece_in_end}
-use Rattle.upp_curve.proofs.Below.{Cut, read_from_cut}
+use Rattle.upp_curve.proofs.Below.{read_from_cut}
 use Rattle.upp_curve.proofs.NormaliseLoops.{later_none, later_some}
-use Rattle.upp_curve.proofs.NormaliseLists.{each_map, each_append, each_past, past_all}
+use Rattle.upp_curve.proofs.NormaliseLists.{each_map, each_append, each_past}
 use Rattle.upp_curve.proofs.NormaliseCuts.{each_front}
 use Rattle.upp_curve.proofs.NormaliseLeast.{share_some, share_back}
 use Rattle.upp_curve.proofs.NormaliseDivided.{cut_of}

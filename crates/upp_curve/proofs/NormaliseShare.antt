@@ -1,18 +1,17 @@
 -- A share of a number: its size, and that it stands on a grid.
-use Rattle.std.specs.Prelude.{◌≡◌, ℕ, zero, suc, ◌+◌, ◌*◌, ◌<◌, ◌≤◌, ◌^◌, ◌%◌, ℤ, pos, ◌*ℤ◌, nat_abs, Result, Err, IsOk}
+use Rattle.std.specs.Prelude.{◌≡◌, ℕ, zero, suc, ◌*◌, ◌<◌, ◌≤◌, ◌^◌, ◌%◌, ℤ, pos, ◌*ℤ◌, nat_abs, Result, Err, IsOk}
 use Rattle.std.specs.Result.{is_ok}
-use Rattle.std.proofs.Common.{arith, sym, ap, ◌∙◌, refl, subst, true≢false}
+use Rattle.std.proofs.Common.{arith, sym, ap, ◌∙◌, subst, true≢false}
 use Prim.Native.Nat.{◌∣◌}
 use native.Mathlib.Nat.{mod-eq-zero_of_dvd, dvd_of_mod-eq-zero}
-use Rattle.std.proofs.lemmas.Int.{ints}
-use Rattle.rational.specs.Rational.{ℚ, ◌*ℚ◌, ◌/ℚ◌, ◌<ℚ◌, int, frac, den, both}
+use Rattle.rational.specs.Rational.{ℚ, ◌*ℚ◌, ◌/ℚ◌, int, frac, den, both}
 use Rattle.rational.specs.Fractions.{frac_self, frac-same, frac_is, abs-mul}
 use Rattle.rational.specs.Ints.{mul_assoc_z}
 use Rattle.rational.specs.Ratio.{IsSmall}
 use Rattle.rational.specs.Grid.{Whole}
 use Rattle.rational.proofs.Grid.{den_bound, whole_divides, whole_int, whole_from_divides}
 use Rattle.rational.proofs.Integers.{nat_lt}
-use Rattle.rational.proofs.Laws.{mul_cancel, div_mul, mul_comm}
+use Rattle.rational.proofs.Laws.{mul_cancel, div_mul}
 use Rattle.rational.proofs.Linear.{with1}
 use Rattle.rational.proofs.Over.{mul_frac}
 use Rattle.rational.proofs.Whole.{not_zero}

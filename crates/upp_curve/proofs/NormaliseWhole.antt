@@ -1,9 +1,9 @@
 -- Each step of the normal form from the one before it: its numbers fit, and what it leaves is a curve.
-use Rattle.std.specs.Prelude.{◌≡◌, ℕ, ◌+◌, ◌*◌, ◌<◌, ◌≤◌, pos, List, [], ◌∷◌, ◌++◌, Option, Some, None, ◌⊎◌}
+use Rattle.std.specs.Prelude.{◌≡◌, ℕ, ◌+◌, pos, List, [], ◌∷◌, ◌++◌, Some, None}
 use Rattle.std.proofs.Common.{arith, sym, ap, ◌∙◌, refl, subst, inl, inr}
 use Rattle.rational.specs.Rational.{ℚ, ◌+ℚ◌, ◌≤ℚ◌, ◌<ℚ◌, int}
 use Rattle.rational.specs.Ratio.{SumFits}
-use Rattle.rational.proofs.Laws.{le_of_lt, le_refl, le_trans, le_or_lt, antisym}
+use Rattle.rational.proofs.Laws.{le_of_lt, le_trans, le_or_lt, antisym}
 use Rattle.rational.proofs.Linear.{with3, with4}
 use Rattle.affine_segment.specs.declared.line.Line.{Line}
 use Rattle.affine_segment.specs.declared.line.Piece.{Piece}
@@ -17,11 +17,11 @@ use Rattle.upp_curve.specs.Reading.{read, piece_in, piece_value}
 use Rattle.upp_curve.specs.Curve.{SpecCurve}
 use Rattle.upp_curve.specs.Curves.{IsCurve}
 use Rattle.upp_curve.specs.Unrolled.{upto}
-use Rattle.upp_curve.specs.Normal.{Each, RisesFrom, StartsAtZero, NoMerge, FitsPeriod}
-use Rattle.upp_curve.specs.Readable.{LineFitsAt, EachFits}
+use Rattle.upp_curve.specs.Normal.{Each, StartsAtZero, NoMerge, FitsPeriod}
+use Rattle.upp_curve.specs.Readable.{EachFits}
 use Rattle.upp_curve.specs.Fitting.{LaterFits, ReadFits}
-use Rattle.upp_curve.specs.Normalising.{IsMerged, IsFront, IsTwoPeriods, IsLeast, IsLowest, cut_at, second_copy, cycle_values, ended}
-use Rattle.upp_curve.specs.Room.{Room, IsRoom, TimeHasRoom, PieceHasRoom, PiecesHaveRoom, EndHasRoom, TurnHasRoom, TwoHaveRoom, CycleHasRoom}
+use Rattle.upp_curve.specs.Normalising.{IsMerged, IsFront, IsTwoPeriods, IsLeast, IsLowest, second_copy, cycle_values, ended}
+use Rattle.upp_curve.specs.Room.{Room, PieceHasRoom, PiecesHaveRoom, EndHasRoom, TurnHasRoom, TwoHaveRoom, CycleHasRoom}
 use Rattle.upp_curve.proofs.OneForm.{affine, infinite}
 use Rattle.upp_curve.proofs.Normal.{periodic}
 use Rattle.upp_curve.proofs.NormaliseLists.{each_map, each_append, each_upto, upto_before}
@@ -30,7 +30,7 @@ use Rattle.upp_curve.proofs.NormalisePeriods.{two_periods_are}
 use Rattle.upp_curve.proofs.NormaliseRank.{Last}
 use Rattle.upp_curve.proofs.NormaliseForm.{each_part, ends_at, infinite_form, affine_form, repeating_form}
 use Rattle.upp_curve.proofs.NormaliseRoom.{start_fits, piece_weaken, line_fits}
-use Rattle.upp_curve.proofs.NormaliseRoomy.{CopyFits, copy_fits, read_fits, lines_fit, ends_fit, ends_nowhere, weaken_each, each_in, cut_piece, found_early, each_and, least_room, period_readable}
+use Rattle.upp_curve.proofs.NormaliseRoomy.{CopyFits, copy_fits, read_fits, ends_fit, ends_nowhere, weaken_each, each_in, cut_piece, found_early, each_and, least_room, period_readable}
 
 abbrev pub curve_of : List Piece → Tail → SpecCurve
 curve_of ps k = record { pieces = ps; tail = k }
@@ -70,10 +70,10 @@ pub repeating_curve : (m : Room) (times values : ℕ) (c k : Cycle) (ps : List P
     → IsLeast times values c k → IsLowest k.pieces.items ps low d u k.rank (cycle_values k) → d ≡ k.period → u ≡ k.rise → IsCurve (periodic ps low d u)
 repeating_curve m times values c k ps low d u K some L W dk uk =
     let R = least_room m times values c k K some L in
-    let R2 = subst (λ x. CycleHasRoom m times values k.pieces.items k.rank x u) (sym dk) (subst (λ y. CycleHasRoom m times values k.pieces.items k.rank k.period y) (sym uk) R) in
+    let room_there = subst (λ x. CycleHasRoom m times values k.pieces.items k.rank x u) (sym dk) (subst (λ y. CycleHasRoom m times values k.pieces.items k.rank k.period y) (sym uk) R) in
     record {
       normal = (repeating_form times values c k ps low d u L W dk uk).normal;
-      readable = period_readable m times values k.pieces.items ps k.rank low d u R2 W.front W.cycle W.lower;
+      readable = period_readable m times values k.pieces.items ps k.rank low d u room_there W.front W.cycle W.lower;
     }
 
 -- ---- two periods

@@ -1,10 +1,10 @@
 -- The numbers of a call's operands: those made without unrolling have the same sizes, and below a gauge of 2 ^ 128 they are known.
-use Rattle.std.specs.Prelude.{◌≡◌, ℕ, ◌<◌, ◌≤◌, ◌^◌, List}
-use Rattle.std.proofs.Common.{sym, ap, ◌∙◌, refl, subst}
+use Rattle.std.specs.Prelude.{◌≡◌, ◌<◌, ◌≤◌, ◌^◌, List}
+use Rattle.std.proofs.Common.{subst}
 use Rattle.rational.specs.Rational.{ℚ}
 use Rattle.rational.specs.Ratio.{SumFits}
 use Rattle.upp_curve.specs.declared.curve.Tail.{Tail}
-use Rattle.upp_curve.specs.declared.curve.Tail.TheVariants.{Periodic, Affine, Infinite}
+use Rattle.upp_curve.specs.declared.curve.Tail.TheVariants.{Periodic}
 use Rattle.affine_segment.specs.declared.line.Piece.{Piece}
 use Rattle.upp_curve.specs.Curve.{SpecCurve}
 use Rattle.upp_curve.specs.Curves.{IsCurve}
@@ -12,7 +12,6 @@ use Rattle.upp_curve.specs.Readable.{TailReadable}
 use Rattle.upp_curve.specs.declared.op_kind.OpKind.{OpKind}
 use Rattle.upp_curve.specs.declared.op_kind.Operands.{Operands}
 use Rattle.upp_curve.specs.declared.op_kind.Operands.TheVariants.{First, Both, FirstScaled}
-use Rattle.upp_curve.specs.Normal.{StartsAtZero}
 use Rattle.upp_curve.specs.Periods.{HasPeriod}
 use Rattle.upp_curve.specs.Limits.{Numbers, Sizes, joined, curve_numbers, sizes_of, gauge_of}
 use Rattle.upp_curve.specs.Sized.{HeldBy}

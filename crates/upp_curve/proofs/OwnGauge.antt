@@ -1,12 +1,11 @@
 -- A curve by itself: its last piece gives the end of its window, and below a gauge of 2 ^ 128 the steps to that fit.
-use Rattle.std.specs.Prelude.{◌≡◌, ℕ, zero, suc, ◌+◌, ◌-◌, ◌*◌, ◌<◌, ◌≤◌, ◌^◌, pos, Bool, true, false, List, [], ◌∷◌, length, Option, Some, None, ◌⊎◌}
+use Rattle.std.specs.Prelude.{◌≡◌, ℕ, suc, ◌+◌, ◌-◌, ◌*◌, ◌<◌, ◌≤◌, ◌^◌, pos, Bool, true, false, List, [], ◌∷◌, length, Option, None}
 use Rattle.std.specs.List.{AllByRecursion}
-use Rattle.std.proofs.Common.{arith, sym, ap, ap₂, ◌∙◌, refl, subst, inl, inr, get_or}
+use Rattle.std.proofs.Common.{arith, sym, ap, ◌∙◌, refl, subst, inl, inr, get_or}
 use Rattle.std.proofs.lemmas.Bool.{cases_lt}
-use Rattle.rational.specs.Rational.{ℚ, ◌+ℚ◌, ◌*ℚ◌, ◌≤ℚ◌, ◌<ℚ◌, int}
+use Rattle.rational.specs.Rational.{ℚ, ◌+ℚ◌, ◌*ℚ◌, ◌≤ℚ◌, int}
 use Rattle.rational.specs.Ratio.{SumFits}
-use Rattle.rational.specs.Grid.{Whole, Within}
-use Rattle.rational.specs.Extended.{Ext}
+use Rattle.rational.specs.Grid.{Whole}
 use Rattle.rational.specs.declared.Extended.TheVariants.{Inf}
 use Rattle.rational.proofs.Linear.{with1, with2, with3}
 use Rattle.rational.proofs.Laws.{le_refl, le_trans, le_of_lt, antisym, mul_comm, mul_one, mul_le_mul_right}
@@ -14,24 +13,23 @@ use native.Mathlib.Nat.{mul-le-mul_right}
 use Rattle.rational.proofs.Integers.{nat_le, nat_nonneg, int_add, mul_whole}
 use Rattle.rational.proofs.Grid.{whole_int, whole_add, within_nonneg}
 use Rattle.rational.proofs.Sizes.{largest_part, sum_on_grid}
-use Rattle.affine_segment.specs.declared.line.Line.{Line}
 use Rattle.affine_segment.specs.declared.line.Piece.{Piece}
 use Rattle.affine_segment.specs.Values.{line_value}
 use Rattle.upp_curve.specs.declared.curve.Tail.{Tail}
 use Rattle.upp_curve.specs.declared.curve.Tail.TheVariants.{Periodic, Affine, Infinite}
 use Rattle.upp_curve.specs.Reading.{read, piece_value}
 use Rattle.upp_curve.specs.Curve.{SpecCurve}
-use Rattle.upp_curve.specs.Steady.{last_of, last_line, same_ext, later_unless, steady, steady_in}
+use Rattle.upp_curve.specs.Steady.{last_of, same_ext, later_unless, steady}
 use Rattle.upp_curve.specs.Readable.{LineFitsAt}
 use Rattle.upp_curve.specs.Normal.{Each, IsRaw, StartsAtZero, TailFits}
 use Rattle.upp_curve.specs.Periods.{HasPeriod, own_period}
 use Rattle.upp_curve.specs.Spans.{Span, piece_read, end_of, spans}
-use Rattle.upp_curve.specs.Limits.{Sizes, Numbers, sizes_of, curve_numbers, gauge_of, own_end, own_sizes, own_gauge}
-use Rattle.upp_curve.specs.Sized.{AreSizes, SpanStands, CurveStands, TailStands}
+use Rattle.upp_curve.specs.Limits.{Sizes, sizes_of, curve_numbers, gauge_of, own_end, own_sizes, own_gauge}
+use Rattle.upp_curve.specs.Sized.{AreSizes, SpanStands}
 use Rattle.upp_curve.specs.Seen.{RankLineFits, Knows}
-use Rattle.upp_curve.specs.OwnWindow.{LastBy, end_from, affine_keeps, infinite_keeps, RankFits, AffineFits, EndFits, EndsAt}
+use Rattle.upp_curve.specs.OwnWindow.{LastBy, end_from, affine_keeps, infinite_keeps, RankFits, EndFits, EndsAt}
 use Rattle.upp_curve.proofs.Steady.{last_found}
-use Rattle.upp_curve.proofs.PieceLists.{spans_some, starts_nonneg}
+use Rattle.upp_curve.proofs.PieceLists.{starts_nonneg}
 use Rattle.upp_curve.proofs.Stands.{sizes_stand}
 use Rattle.upp_curve.proofs.CurveStands.{are_sizes, own_are_sizes, own_stands}
 use Rattle.upp_curve.proofs.NarrowSizes.{IsNarrow, narrow_gauge}

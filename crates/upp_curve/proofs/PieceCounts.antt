@@ -1,12 +1,12 @@
 -- The number of unrolled pieces is the length of the unrolled list, and the sum over the pieces of the numbers of their copies.
-use Rattle.std.specs.Prelude.{◌≡◌, ℕ, zero, suc, ◌+◌, ◌<◌, ◌≤◌, pos, Bool, true, false, cond, List, [], ◌∷◌, ◌++◌, length, sum_by}
+use Rattle.std.specs.Prelude.{◌≡◌, ℕ, zero, suc, ◌+◌, ◌<◌, pos, cond, List, [], ◌∷◌, ◌++◌, length, sum_by}
 use Rattle.std.proofs.Common.{arith, sym, ap, ap₂, ◌∙◌, refl, subst, inl, inr}
 use Rattle.std.proofs.lemmas.Bool.{cases_lt}
 use Rattle.std.proofs.lemmas.List.Sums.{sum_by-cons}
 use Rattle.rational.specs.Rational.{ℚ, ◌+ℚ◌, ◌-ℚ◌, ◌*ℚ◌, ◌≤ℚ◌, ◌<ℚ◌, int, lt_q}
 use Rattle.rational.specs.Whole.{periods}
 use Rattle.rational.proofs.Linear.{with1, with2, with3, with4, with5}
-use Rattle.rational.proofs.Laws.{le_or_lt, le_of_lt, le_trans, lt_le_trans, le_lt_trans, lt_irrefl}
+use Rattle.rational.proofs.Laws.{le_or_lt, le_of_lt, le_trans, le_lt_trans, lt_irrefl}
 use Rattle.rational.proofs.Over.{lt_q_out}
 use Rattle.rational.proofs.MinMax.{lt_q_not}
 use Rattle.rational.proofs.Whole.{one_more_times, periods_high}

@@ -1,15 +1,14 @@
 -- The pieces of a curve one by one, by their place.
-use Rattle.std.specs.Prelude.{◌≡◌, ℕ, zero, suc, ◌+◌, ◌<◌, ◌≤◌, pos, List, [], ◌∷◌, length, drop, Option, Some, None}
+use Rattle.std.specs.Prelude.{◌≡◌, ℕ, zero, suc, ◌+◌, ◌<◌, ◌≤◌, pos, List, [], ◌∷◌, length, drop, Option}
 use Rattle.std.proofs.Common.{arith, sym, ap, ap₂, ◌∙◌, refl, subst, get_or, drop-cons, drop_of_length-le}
 use Rattle.std.specs.List.{AllByRecursion}
-use Rattle.rational.specs.Rational.{ℚ, ◌≤ℚ◌, ◌<ℚ◌, int}
+use Rattle.rational.specs.Rational.{ℚ, ◌≤ℚ◌, int}
 use Rattle.rational.proofs.Laws.{le_refl, le_of_lt, le_trans}
 use Rattle.affine_segment.specs.declared.line.Piece.{Piece}
 use Rattle.upp_curve.specs.declared.curve.Tail.{Tail}
 use Rattle.upp_curve.specs.Normal.{RisesFrom, StartsAtZero}
 use Rattle.upp_curve.specs.Spans.{Span, piece_read, start_after, end_of, spans}
 use Rattle.upp_curve.specs.Limits.{Numbers, no_numbers, joined}
-use Rattle.upp_curve.specs.Gathered.{Gathers}
 use Rattle.upp_curve.specs.ClosedForm.{closed_span, closed_spans}
 use Rattle.upp_curve.proofs.JoinedNumbers.{joined_assoc, joined_nothing}
 

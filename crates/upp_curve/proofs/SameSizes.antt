@@ -1,7 +1,7 @@
 -- Numbers of which the same holds have the same sizes; so the sizes can be made of the first and the last copies.
-use Rattle.std.specs.Prelude.{◌≡◌, ℕ, ◌+◌, ◌*◌, ◌≤◌, pos, List, [], ◌∷◌, map, max}
+use Rattle.std.specs.Prelude.{◌≡◌, ℕ, ◌≤◌, pos, List, [], ◌∷◌, max}
 use Rattle.std.specs.List.{AllByRecursion}
-use Rattle.std.proofs.Common.{arith, sym, ap, ap₂, ◌∙◌, refl, subst}
+use Rattle.std.proofs.Common.{arith, ap, ap₂, ◌∙◌}
 use Rattle.rational.specs.Rational.{ℚ, ◌*ℚ◌, int}
 use Rattle.rational.specs.Grid.{Whole, Within}
 use Rattle.rational.specs.Gauge.{common_den, bound_of}
@@ -10,7 +10,7 @@ use Rattle.upp_curve.specs.Unrolled.{whole_up}
 use Rattle.upp_curve.specs.Limits.{Numbers, Sizes, joined, twice, curve_numbers, sizes_of, gauge_of}
 use Rattle.upp_curve.specs.ClosedForm.{closed_numbers}
 use Rattle.upp_curve.proofs.Every.{every_map, every_map_out}
-use Rattle.upp_curve.proofs.CommonDen.{common_den_each, bound_each, bound_pos, same_common_den, same_bound}
+use Rattle.upp_curve.proofs.CommonDen.{common_den_each, bound_each, same_common_den, same_bound}
 use Rattle.upp_curve.proofs.ClosedForms.{IsGrid, IsFilled, Holds, whole_grid, whole_filled, within_filled, holds_joined, holds_left, holds_right, closed_to_all, all_to_closed}
 
 pub record Equals (a b : Numbers) : Type 1 where

@@ -1,5 +1,5 @@
 -- A curve times a factor: its spans, and that below a gauge of 2 ^ 128 every step to them fits.
-use Rattle.std.specs.Prelude.{◌≡◌, ℕ, ◌+◌, ◌*◌, ◌<◌, ◌≤◌, ◌^◌, pos, Bool, true, false, cond, List, [], ◌∷◌, map, length, drop, Option, Some, None}
+use Rattle.std.specs.Prelude.{◌≡◌, ℕ, ◌<◌, ◌≤◌, ◌^◌, pos, Bool, true, false, cond, List, [], ◌∷◌, map, length, drop, Option, Some, None}
 use Rattle.std.specs.List.{AllByRecursion}
 use Rattle.std.proofs.Common.{arith, sym, ap, ap₂, ◌∙◌, refl, subst, drop_of_length-le}
 use Rattle.rational.specs.Rational.{ℚ, ◌*ℚ◌, ◌≤ℚ◌, ◌<ℚ◌, int, lt_q}
@@ -16,18 +16,17 @@ use Rattle.upp_curve.specs.declared.curve.Tail.TheVariants.{Periodic, Affine, In
 use Rattle.upp_curve.specs.Curve.{SpecCurve}
 use Rattle.upp_curve.specs.Normal.{StartsAtZero, RisesFrom}
 use Rattle.upp_curve.specs.Pointwise.{scaled}
-use Rattle.upp_curve.specs.Unrolled.{copies_below}
 use Rattle.upp_curve.specs.Periods.{HasPeriod}
-use Rattle.upp_curve.specs.Spans.{Span, end_of, line_read, piece_read, start_after, spans, once_below, span_below}
+use Rattle.upp_curve.specs.Spans.{Span, end_of, line_read, start_after, spans}
 use Rattle.upp_curve.specs.Limits.{Numbers, Sizes, no_numbers, joined, curve_numbers, gauge_of}
 use Rattle.upp_curve.specs.Sized.{AreSizes, Stands, ValueStands, LineStands, SpanStands, TailStands}
 use Rattle.upp_curve.specs.Seen.{Knows}
-use Rattle.upp_curve.specs.ClosedForm.{span_numbers, once_numbers, copies_numbers, closed_span, closed_spans, closed_numbers, tail_numbers}
+use Rattle.upp_curve.specs.ClosedForm.{span_numbers, copies_numbers, closed_span, closed_spans, closed_numbers, tail_numbers}
 use Rattle.upp_curve.specs.Gauges.{scaled_line, scaled_piece, scaled_tail, scaled_curve}
 use Rattle.upp_curve.specs.ClosedOperands.{ValueScales, LineScales, PieceScales, TailScales, scaled_span, KnowsTimes, KnowsScaled}
 use Rattle.upp_curve.proofs.Every.{every_weaken, every_map_out, every_both}
 use Rattle.upp_curve.proofs.PieceCounts.{no_copies}
-use Rattle.upp_curve.proofs.PieceLists.{spans_some, spans_none, starts_nonneg, closed_some, closed_none, one_more}
+use Rattle.upp_curve.proofs.PieceLists.{spans_some, spans_none, starts_nonneg, closed_none, one_more}
 use Rattle.upp_curve.proofs.JoinedNumbers.{joined_nothing}
 use Rattle.upp_curve.proofs.CurveStands.{unrolled_stand, each_stands, tail_stands}
 use Rattle.upp_curve.proofs.NarrowSizes.{IsNarrow, narrow_gauge, small_number, small_slope, value_whole, value_within, line_parts}

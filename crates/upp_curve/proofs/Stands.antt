@@ -1,22 +1,19 @@
 -- The numbers of a call stand on the grids and within the bounds of its sizes.
-use Rattle.std.specs.Prelude.{◌≡◌, ℕ, zero, suc, ◌+◌, ◌*◌, ◌<◌, ◌≤◌, max, pos, Bool, true, false, cond, List, [], ◌∷◌, ◌++◌, Option, Some, None, map, ◌⊎◌}
-use Rattle.std.proofs.Common.{arith, sym, ap, ◌∙◌, refl, subst, inl, inr}
-use Rattle.std.specs.List.{AllByRecursion, flat_map}
-use Rattle.std.proofs.Math.Nat.{le-max_left, le-max_right}
-use Rattle.rational.specs.Rational.{ℚ, ◌+ℚ◌, ◌*ℚ◌, ◌≤ℚ◌, ◌<ℚ◌, int, le_q, lt_q}
+use Rattle.std.specs.Prelude.{ℕ, ◌≤◌, pos, ◌∷◌, ◌++◌, Option, Some, None}
+use Rattle.std.proofs.Common.{arith}
+use Rattle.std.specs.List.{AllByRecursion}
+use Rattle.std.proofs.Math.Nat.{le-max_left}
+use Rattle.rational.specs.Rational.{ℚ, ◌*ℚ◌, int}
 use Rattle.rational.specs.Extended.{Ext}
 use Rattle.rational.specs.declared.Extended.TheVariants.{Fin, Inf}
 use Rattle.rational.specs.Grid.{Whole, Within}
-use Rattle.rational.specs.Gauge.{common_den, bound_of}
-use Rattle.rational.proofs.Integers.{nat_le}
-use Rattle.rational.proofs.Laws.{le_trans}
 use Rattle.affine_segment.specs.declared.line.Line.{Line}
 use Rattle.affine_segment.specs.Values.{line_value}
 use Rattle.upp_curve.specs.Spans.{Span}
 use Rattle.upp_curve.specs.Limits.{Numbers, Sizes, joined, twice, sizes_of, finite, limit_before, span_values, line_slope, span_slopes}
-use Rattle.upp_curve.specs.Sized.{IsValue, IsSlope, Stands, AreSizes, ValueStands, LineStands, SpanStands}
-use Rattle.upp_curve.proofs.Every.{every_weaken, every_left, every_right, every_map_out, every_flat_out, every_both}
-use Rattle.upp_curve.proofs.CommonDen.{common_den_pos, common_den_each, bound_pos, bound_each}
+use Rattle.upp_curve.specs.Sized.{IsValue, IsSlope, Stands, ValueStands, LineStands, SpanStands}
+use Rattle.upp_curve.proofs.Every.{every_weaken, every_left, every_right, every_map_out, every_both}
+use Rattle.upp_curve.proofs.CommonDen.{common_den_each, bound_each}
 
 -- ---- the numbers
 pub sizes_stand : (end : ℚ) (n : Numbers) → Stands (sizes_of end n) n

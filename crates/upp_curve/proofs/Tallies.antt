@@ -1,8 +1,8 @@
 -- The tally of two counts that stay at the largest u64.
-use Rattle.std.specs.Prelude.{◌≡◌, ℕ, zero, suc, ◌+◌, ◌*◌, ◌-◌, ◌<◌, ◌≤◌, ◌^◌, min, ◌⊎◌}
-use Rattle.std.proofs.Common.{arith, sym, ap, ap₂, ◌∙◌, refl, subst, inl, inr}
+use Rattle.std.specs.Prelude.{◌≡◌, ℕ, zero, suc, ◌+◌, ◌*◌, ◌-◌, ◌<◌, ◌≤◌, ◌^◌, min}
+use Rattle.std.proofs.Common.{arith, sym, ap, ap₂, ◌∙◌, inl, inr}
 use Rattle.std.proofs.lemmas.Bool.{cases_lt}
-use native.Mathlib.Nat.{mul-le-mul_left, mul-le-mul_right}
+use native.Mathlib.Nat.{mul-le-mul_left}
 use Rattle.rational.specs.Rational.{ℚ}
 use Rattle.upp_curve.specs.declared.op_kind.OpKind.{OpKind}
 use Rattle.upp_curve.specs.declared.op_kind.Tallied.{Tallied}

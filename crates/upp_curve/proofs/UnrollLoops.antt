@@ -1,5 +1,5 @@
 -- Lists of copies, made one after another: what is kept so far, and when there is nothing more before the end.
-use Rattle.std.specs.Prelude.{◌≡◌, ℕ, zero, suc, ◌+◌, ◌-◌, ◌<◌, ◌≤◌, ◌^◌, pos, List, [], ◌∷◌, ◌++◌}
+use Rattle.std.specs.Prelude.{◌≡◌, ℕ, zero, suc, ◌+◌, ◌-◌, ◌<◌, ◌^◌, pos, List, [], ◌∷◌, ◌++◌}
 use Rattle.std.proofs.Common.{arith, sym, ap, ap₂, ◌∙◌, refl, subst, inl, inr, append-nil, append_assoc}
 use Rattle.std.proofs.lemmas.Bool.{cases_lt}
 use Rattle.rational.specs.Rational.{ℚ, ◌+ℚ◌, ◌-ℚ◌, ◌*ℚ◌, ◌/ℚ◌, ◌≤ℚ◌, ◌<ℚ◌, int}
@@ -11,19 +11,16 @@ use Rattle.rational.proofs.Linear.{with3, with4, with5}
 use Rattle.rational.proofs.Whole.{one_more_times, periods_high}
 use Rattle.affine_segment.specs.declared.line.Piece.{Piece}
 use Rattle.upp_curve.specs.Normal.{Each}
-use Rattle.upp_curve.specs.Unrolled.{copies, each_later, from, later, upto, whole_up}
+use Rattle.upp_curve.specs.Unrolled.{copies, each_later, later, upto, whole_up}
+use Rattle.upp_curve.proofs.Normal.{upto_all}
 use Rattle.upp_curve.proofs.NormaliseCopies.{copies_next, copies_zero, later_twice, moved-append}
-use Rattle.upp_curve.proofs.NormaliseLists.{each_append, each_map, each_moved, upto_before}
+use Rattle.upp_curve.proofs.NormaliseLists.{each_append, each_map, each_moved}
 use Rattle.upp_curve.proofs.NormaliseLoops.{later_none, later_some}
 use Rattle.upp_curve.proofs.Rounding.{before_count}
 use Rattle.upp_curve.proofs.Unique.{upto_end, upto_none, upto_some}
 use Rattle.upp_curve.proofs.UnrolledPieces.{no_later}
 
 -- ---- what starts before a time, of two lists one after another
-pub upto_all : (x : ℚ) (ps : List Piece) → Each (λ p. p.x <ℚ x) ps → upto x ps ≡ ps
-upto_all x [] h = upto_end x
-upto_all x (p ∷ ps) h = upto_some x p ps h.0 ∙ ap (λ zs. p ∷ zs) (upto_all x ps h.1)
-
 pub upto_joined : (x : ℚ) (ps qs : List Piece) → Each (λ p. p.x <ℚ x) ps → upto x (ps ++ qs) ≡ ps ++ upto x qs
 upto_joined x [] qs h = refl
 upto_joined x (p ∷ ps) qs h = upto_some x p (ps ++ qs) h.0 ∙ ap (λ zs. p ∷ zs) (upto_joined x ps qs h.1)

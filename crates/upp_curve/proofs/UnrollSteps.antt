@@ -1,17 +1,17 @@
 -- Where the sizes of a call hold a curve's numbers, each step of writing out its periods fits.
-use Rattle.std.specs.Prelude.{◌≡◌, ℕ, zero, suc, ◌+◌, ◌*◌, ◌<◌, ◌≤◌, ◌^◌, ℤ, pos, ◌≤ℤ◌, ◌<ℤ◌, Bool, true, false, cond, List, [], ◌∷◌, ◌++◌, Option, Some, None, ◌⊎◌}
+use Rattle.std.specs.Prelude.{◌≡◌, ℕ, zero, suc, ◌*◌, ◌<◌, ◌≤◌, ◌^◌, ℤ, pos, ◌≤ℤ◌, ◌<ℤ◌, Bool, true, false, cond, List, [], ◌∷◌, Option, Some, None, ◌⊎◌}
 use Rattle.std.proofs.Common.{arith, sym, ap, ap₂, ◌∙◌, refl, subst, inl, inr}
 use Rattle.std.proofs.lemmas.Int.{ints}
 use Prim.Native.Nat.{◌∣◌}
 use native.Mathlib.Nat.{dvd-mul_left, dvd_trans}
 use Rattle.rational.specs.Rational.{ℚ, ◌+ℚ◌, ◌-ℚ◌, ◌*ℚ◌, ◌≤ℚ◌, ◌<ℚ◌, int, neg_ℚ, le_q}
-use Rattle.rational.specs.Ratio.{IsSmall, SumFits}
+use Rattle.rational.specs.Ratio.{IsSmall}
 use Rattle.rational.specs.Grid.{Whole, Within}
 use Rattle.rational.specs.Whole.{periods}
 use Rattle.rational.proofs.Grid.{whole_add, whole_neg, whole_times, whole_weaken, within_add, within_neg, within_nonneg, within_weaken}
 use Rattle.rational.proofs.Integers.{int_le, int_lt_out, mul_whole, nat_le_out, nat_lt, nat_nonneg}
 use Rattle.rational.proofs.Laws.{le_of_lt, le_refl, le_trans, mul_assoc, mul_le_mul, mul_le_mul_right, mul_nonneg, mul_one, mul_pos, zero_mul}
-use Rattle.rational.proofs.Linear.{with1, with2, with3, with4, with5}
+use Rattle.rational.proofs.Linear.{with1, with2, with3, with5}
 use Rattle.rational.proofs.Whole.{one_more_times, periods_low}
 use Rattle.rational.specs.Extended.{Ext, ◌+ₑ◌}
 use Rattle.rational.specs.declared.Extended.TheVariants.{Fin, Inf}
@@ -22,13 +22,13 @@ use Rattle.upp_curve.specs.declared.curve.Tail.{Tail}
 use Rattle.upp_curve.specs.declared.curve.Tail.TheVariants.{Periodic, Affine, Infinite}
 use Rattle.upp_curve.specs.Curve.{SpecCurve, repeated, value_at}
 use Rattle.upp_curve.specs.Curves.{IsCurve}
-use Rattle.upp_curve.specs.Fitting.{LaterFits, LineLaterFits, MoveFits}
+use Rattle.upp_curve.specs.Fitting.{LaterFits, LineLaterFits}
 use Rattle.upp_curve.specs.Limits.{Sizes}
 use Rattle.upp_curve.specs.Normal.{Each, HasStart, IsNormal, StartsAtZero}
 use Rattle.upp_curve.specs.Readable.{SumFitsAt}
 use Rattle.upp_curve.specs.Reading.{piece_in, piece_value, read}
-use Rattle.upp_curve.specs.Sized.{AreSizes, IsSlope, IsValue, LineStands, PeriodStands, ValueStands, grid_of, times_largest}
-use Rattle.upp_curve.specs.Unrolled.{from, later, line_later, unroll, unrolled, upto}
+use Rattle.upp_curve.specs.Sized.{AreSizes, IsValue, LineStands, PeriodStands, ValueStands, grid_of, times_largest}
+use Rattle.upp_curve.specs.Unrolled.{from, later, unroll, unrolled, upto}
 use Rattle.upp_curve.specs.Unrolling.{IsOperandTo, TurnFits, TurnsFit}
 use Rattle.upp_curve.proofs.Below.{cut_at_start, each_le, read_from_cut}
 use Rattle.upp_curve.proofs.CurveStands.{tail_stands}

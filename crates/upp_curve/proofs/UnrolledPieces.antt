@@ -1,12 +1,12 @@
 -- The unrolled pieces of a curve start at 0 and rise, and each of them is the piece of one of the spans below the end.
-use Rattle.std.specs.Prelude.{◌≡◌, ℕ, zero, suc, pos, Bool, true, false, cond, List, [], ◌∷◌, ◌++◌, Option, Some, None}
-use Rattle.std.proofs.Common.{arith, sym, ap, ap₂, ◌∙◌, refl, subst, inl, inr}
+use Rattle.std.specs.Prelude.{◌≡◌, ℕ, zero, suc, pos, Bool, cond, List, [], ◌∷◌, ◌++◌, Option, Some, None}
+use Rattle.std.proofs.Common.{arith, sym, ap, ap₂, ◌∙◌, subst, inl, inr}
 use Rattle.std.specs.List.{AllByRecursion}
-use Rattle.rational.specs.Rational.{ℚ, ◌+ℚ◌, ◌-ℚ◌, ◌*ℚ◌, ◌≤ℚ◌, ◌<ℚ◌, int, lt_q}
-use Rattle.rational.specs.Grid.{Whole, Within}
+use Rattle.rational.specs.Rational.{ℚ, ◌+ℚ◌, ◌-ℚ◌, ◌*ℚ◌, ◌≤ℚ◌, ◌<ℚ◌, int}
+use Rattle.rational.specs.Grid.{Whole}
 use Rattle.rational.specs.Whole.{periods}
-use Rattle.rational.proofs.Laws.{le_or_lt, le_of_lt, le_refl, le_trans, lt_le_trans, add_comm}
-use Rattle.rational.proofs.Linear.{with2, with3}
+use Rattle.rational.proofs.Laws.{le_or_lt, le_of_lt, lt_le_trans, add_comm}
+use Rattle.rational.proofs.Linear.{with2}
 use Rattle.rational.proofs.MinMax.{lt_q_not}
 use Rattle.rational.proofs.Over.{lt_q_out}
 use Rattle.rational.proofs.Whole.{one_more_times}
@@ -19,12 +19,12 @@ use Rattle.upp_curve.specs.Curve.{SpecCurve}
 use Rattle.upp_curve.specs.Curves.{IsCurve}
 use Rattle.upp_curve.specs.Limits.{Sizes, curve_numbers}
 use Rattle.upp_curve.specs.Normal.{Each, HasStart, IsNormal, RisesFrom, StartsAtZero}
-use Rattle.upp_curve.specs.Operand.{AreLimited, OperandLine, OperandLineAt, OperandPiece, OperandPieces}
-use Rattle.upp_curve.specs.Sized.{AreSizes, IsSlope, LineStands, SpanStands, Stands, ValueStands}
+use Rattle.upp_curve.specs.Operand.{AreLimited, OperandLineAt, OperandPiece, OperandPieces}
+use Rattle.upp_curve.specs.Sized.{AreSizes, LineStands, SpanStands, Stands, ValueStands}
 use Rattle.upp_curve.specs.Spans.{Span, copies_of, once_below, piece_read, span_below, spans, spans_below}
 use Rattle.upp_curve.specs.Steady.{last_line, last_of}
 use Rattle.upp_curve.specs.Unrolled.{copies, copies_below, each_later, from, later, unroll, unrolled, upto}
-use Rattle.upp_curve.proofs.Below.{Cut, cut_at_start}
+use Rattle.upp_curve.proofs.Below.{cut_at_start}
 use Rattle.upp_curve.proofs.Copies.{copies_out, copy_among, copy_zero}
 use Rattle.upp_curve.proofs.CurveStands.{once_out, unrolled_stand}
 use Rattle.upp_curve.proofs.Every.{every_flat_out, every_weaken}

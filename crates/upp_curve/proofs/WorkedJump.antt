@@ -2,14 +2,14 @@
 use Rattle.std.specs.Prelude.{◌≡◌}
 use Rattle.std.proofs.Common.{arith, sym, ap, ◌∙◌, inl, inr}
 use Rattle.rational.specs.Rational.{ℚ, ◌+ℚ◌, ◌-ℚ◌, ◌*ℚ◌, ◌≤ℚ◌, ◌<ℚ◌}
-use Rattle.rational.specs.Extended.{Ext, ◌≤ₑ◌, ◌<ₑ◌, ◌-ₑ◌}
+use Rattle.rational.specs.Extended.{◌≤ₑ◌, ◌<ₑ◌, ◌-ₑ◌}
 use Rattle.rational.specs.declared.Extended.TheVariants.{Fin}
 use Rattle.rational.specs.MinMax.{max_q}
 use Rattle.rational.proofs.Linear.{with1, with2}
 use Rattle.rational.proofs.Laws.{le_or_lt, mul_zero}
 use Rattle.rational.proofs.MinMax.{max_q_is_left, max_q_ge_left, max_q_ge_right}
 use Rattle.rational.proofs.Integers.{nat_nonneg}
-use Rattle.upp_curve.specs.Functions.{zero_q, FiniteTime}
+use Rattle.upp_curve.specs.Functions.{zero_q}
 use Rattle.upp_curve.specs.Curve.{value_at}
 use Rattle.upp_curve.specs.Kinds.{rate_latency}
 use Rattle.upp_curve.specs.WorkedRows.{whole, dip}

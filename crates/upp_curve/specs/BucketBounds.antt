@@ -1,5 +1,5 @@
 -- The two deviations of a token bucket and a rate after a latency, by their formulas: what a server with that service curve
--- promises a flow with that arrival curve. (Le Boudec and Thiran, section 1.4; the packet by their packetisers.)
+-- promises a flow with that arrival curve. (Le Boudec and Thiran, chapter 1; the packet by their packetisers.)
 use Rattle.std.specs.Prelude.{◌≡◌, ◌⊎◌}
 use Rattle.rational.specs.Rational.{ℚ, ◌+ℚ◌, ◌*ℚ◌, ◌/ℚ◌, ◌≤ℚ◌, ◌<ℚ◌}
 use Rattle.rational.specs.declared.Extended.TheVariants.{Fin, Inf}

@@ -1,5 +1,5 @@
 -- The numbers of a call's operands without unrolling, and that each of them is known. Own choice.
-use Rattle.std.specs.Prelude.{List, map, Option, Some, None}
+use Rattle.std.specs.Prelude.{Option, Some, None}
 use Rattle.std.specs.List.{AllByRecursion}
 use Rattle.rational.specs.Rational.{ℚ, ◌*ℚ◌, ◌<ℚ◌}
 use Rattle.rational.specs.Ratio.{IsSmall}

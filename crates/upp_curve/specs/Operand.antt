@@ -1,5 +1,5 @@
 -- Where the pieces of an operand stand that start in a call's window, and the room that the call's sizes give to its answer. Own choice.
-use Rattle.std.specs.Prelude.{ℕ, ◌+◌, ◌*◌, ◌≤◌, ◌<◌, ◌^◌, pos, List, Option, Some, None}
+use Rattle.std.specs.Prelude.{◌*◌, ◌<◌, ◌^◌, pos, List, Option, Some, None}
 use Rattle.rational.specs.Rational.{ℚ, ◌*ℚ◌, ◌≤ℚ◌, ◌<ℚ◌, int}
 use Rattle.rational.specs.Grid.{Whole, Within}
 use Rattle.affine_segment.specs.declared.line.Line.{Line}

@@ -1,5 +1,5 @@
 -- The values of a piece that count, and which steps have to fit so that they are known.
-use Rattle.std.specs.Prelude.{ℕ, zero, suc, ◌+◌, ◌-◌, ◌≤◌, ◌<◌, ◌^◌, pos, Option, Some, None}
+use Rattle.std.specs.Prelude.{ℕ, ◌-◌, ◌≤◌, ◌<◌, ◌^◌, pos, Option, Some, None}
 use Rattle.rational.specs.Rational.{ℚ, ◌*ℚ◌, ◌≤ℚ◌, ◌<ℚ◌, int}
 use Rattle.rational.specs.Ratio.{IsSmall, SumFits}
 use Rattle.rational.specs.Extended.{Ext, ◌+ₑ◌}

@@ -72,6 +72,6 @@ returns c =
     let f = c.args.f.now in let g = c.args.g.now in let r = c.args.frame.now in
     ok_map c.answer.result _ _
     (λ a h. sum_values f g r (sizes_at Sum f g 0 0) c.deref.result.now c.deref-2.result.now c.in_ok-pieces.pieces.items c.fitting_sum-rise.result a (sum_call f g r c.requires)
-      (c.deref.ensures.value ∙ c.in_ok-left.ensures) (c.deref-2.ensures.value ∙ c.in_ok-right.ensures) c.in_ok-pieces.ensures
-      (c.fitting_sum-rise.ensures ∙ ap₂ (λ (x y : ℚ). x +ℚ y) c.rise_over-first.ensures c.rise_over-second.ensures) h)
+    (c.deref.ensures.value ∙ c.in_ok-left.ensures) (c.deref-2.ensures.value ∙ c.in_ok-right.ensures) c.in_ok-pieces.ensures
+    (c.fitting_sum-rise.ensures ∙ ap₂ (λ (x y : ℚ). x +ℚ y) c.rise_over-first.ensures c.rise_over-second.ensures) h)
     c.answer.ensures

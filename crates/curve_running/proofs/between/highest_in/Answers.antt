@@ -16,34 +16,44 @@ fitting_value-last-requires c =
 
 pub returns-in-Greater-clause-highest : goal.returns-in-Greater-clause-highest
 returns-in-Greater-clause-highest c =
-    (inside_is c.args.ps.now c.args.end c.args.i c.stretch_at-s.result c.args.from c.args.to c.greater-low.result c.lesser-high.result c.fitting_value-first.result c.fitting_value-last.result c.greater.result
-    c.stretch_at-s.ensures c.greater-low.ensures c.lesser-high.ensures (is_less c.cmp.result c.cmp.ensures.ranks c.in-Less.is) (is_greater c.cmp-in-Less.result c.cmp-in-Less.ensures.ranks c.in-Greater.is)
+    (inside_is c.args.ps.now c.args.end c.args.i c.stretch_at-s.result c.args.from c.args.to c.greater-low.result c.lesser-high.result c.fitting_value-first.result
+    c.fitting_value-last.result c.greater.result
+    c.stretch_at-s.ensures c.greater-low.ensures c.lesser-high.ensures (is_less c.cmp.result c.cmp.ensures.ranks c.in-Less.is)
+    (is_greater c.cmp-in-Less.result c.cmp-in-Less.ensures.ranks c.in-Greater.is)
     c.fitting_value-first.ensures c.fitting_value-last.ensures c.greater.ensures).highest
 
 pub returns-in-Greater-clause-level : goal.returns-in-Greater-clause-level
 returns-in-Greater-clause-level c =
-    (inside_is c.args.ps.now c.args.end c.args.i c.stretch_at-s.result c.args.from c.args.to c.greater-low.result c.lesser-high.result c.fitting_value-first.result c.fitting_value-last.result c.greater.result
-    c.stretch_at-s.ensures c.greater-low.ensures c.lesser-high.ensures (is_less c.cmp.result c.cmp.ensures.ranks c.in-Less.is) (is_greater c.cmp-in-Less.result c.cmp-in-Less.ensures.ranks c.in-Greater.is)
+    (inside_is c.args.ps.now c.args.end c.args.i c.stretch_at-s.result c.args.from c.args.to c.greater-low.result c.lesser-high.result c.fitting_value-first.result
+    c.fitting_value-last.result c.greater.result
+    c.stretch_at-s.ensures c.greater-low.ensures c.lesser-high.ensures (is_less c.cmp.result c.cmp.ensures.ranks c.in-Less.is)
+    (is_greater c.cmp-in-Less.result c.cmp-in-Less.ensures.ranks c.in-Greater.is)
     c.fitting_value-first.ensures c.fitting_value-last.ensures c.greater.ensures).level
 
 pub returns-in-Greater-clause-rises : goal.returns-in-Greater-clause-rises
 returns-in-Greater-clause-rises c =
-    (inside_is c.args.ps.now c.args.end c.args.i c.stretch_at-s.result c.args.from c.args.to c.greater-low.result c.lesser-high.result c.fitting_value-first.result c.fitting_value-last.result c.greater.result
-    c.stretch_at-s.ensures c.greater-low.ensures c.lesser-high.ensures (is_less c.cmp.result c.cmp.ensures.ranks c.in-Less.is) (is_greater c.cmp-in-Less.result c.cmp-in-Less.ensures.ranks c.in-Greater.is)
+    (inside_is c.args.ps.now c.args.end c.args.i c.stretch_at-s.result c.args.from c.args.to c.greater-low.result c.lesser-high.result c.fitting_value-first.result
+    c.fitting_value-last.result c.greater.result
+    c.stretch_at-s.ensures c.greater-low.ensures c.lesser-high.ensures (is_less c.cmp.result c.cmp.ensures.ranks c.in-Less.is)
+    (is_greater c.cmp-in-Less.result c.cmp-in-Less.ensures.ranks c.in-Greater.is)
     c.fitting_value-first.ensures c.fitting_value-last.ensures c.greater.ensures).rises
 
 pub returns-in_default-cmp : goal.returns-in_default-cmp
 returns-in_default-cmp c =
     let p =
-        start_is c.args.ps.now c.args.end c.args.i c.stretch_at-s.result c.args.from c.args.to c.greater-low.result c.lesser-high.result c.fitting_value-first.result c.fitting_value-last.result
-        c.greater-in_default-cmp.result c.greater-in_default-cmp-2.result c.stretch_at-s.ensures c.greater-low.ensures c.lesser-high.ensures (is_less c.cmp.result c.cmp.ensures.ranks c.in-Less.is)
-        (not_greater c.cmp-in-Less.result c.cmp-in-Less.ensures.ranks c.in_default-cmp.not-Greater) c.fitting_value-first.ensures c.fitting_value-last.ensures c.greater-in_default-cmp.ensures
-        c.greater-in_default-cmp-2.ensures in
+    start_is c.args.ps.now c.args.end c.args.i c.stretch_at-s.result c.args.from c.args.to c.greater-low.result c.lesser-high.result c.fitting_value-first.result
+    c.fitting_value-last.result
+    c.greater-in_default-cmp.result c.greater-in_default-cmp-2.result c.stretch_at-s.ensures c.greater-low.ensures c.lesser-high.ensures
+    (is_less c.cmp.result c.cmp.ensures.ranks c.in-Less.is)
+    (not_greater c.cmp-in-Less.result c.cmp-in-Less.ensures.ranks c.in_default-cmp.not-Greater) c.fitting_value-first.ensures c.fitting_value-last.ensures
+    c.greater-in_default-cmp.ensures
+    c.greater-in_default-cmp-2.ensures in
     record { highest = p.highest; level = p.level; rises = p.rises }
 
 pub returns-in_default : goal.returns-in_default
 returns-in_default c =
     let p =
-        none_is c.args.ps.now c.args.end c.args.i c.stretch_at-s.result c.args.from c.args.to c.greater-low.result c.lesser-high.result c.zero.result c.stretch_at-s.ensures c.greater-low.ensures
-        c.lesser-high.ensures (not_less c.cmp.result c.cmp.ensures.ranks c.in_default.not-Less) c.zero.ensures in
+    none_is c.args.ps.now c.args.end c.args.i c.stretch_at-s.result c.args.from c.args.to c.greater-low.result c.lesser-high.result c.zero.result c.stretch_at-s.ensures
+    c.greater-low.ensures
+    c.lesser-high.ensures (not_less c.cmp.result c.cmp.ensures.ranks c.in_default.not-Less) c.zero.ensures in
     record { highest = p.highest; level = p.level; rises = p.rises }

@@ -11,4 +11,5 @@ loop-i-preserved c =
 
 pub returns-clause-supremum : goal.returns-clause-supremum
 returns-clause-supremum c =
-    between_end c.args.ps.now c.args.end c.loop-i.i c.args.from c.args.to c.loop-i.level c.loop-i.invariant c.loop-i-test.false c.requires.first c.requires.some c.requires.last c.requires.nonneg
+    between_end c.args.ps.now c.args.end c.loop-i.i c.args.from c.args.to c.loop-i.level c.loop-i.invariant c.loop-i-test.false c.requires.first c.requires.some
+    c.requires.last c.requires.nonneg

@@ -14,8 +14,10 @@ lowest-bend-requires-clause-fits c = c.requires.fits.meetings c.stretch_at-s.res
 
 pub loop-i-preserved : goal.loop-i-preserved
 loop-i-preserved c =
-    infimum_next c.args.ps.now c.args.end c.loop-i.i c.loop-i.level c.loop-i.out.items c.push_back.new.out.items c.stretch_at-s.result c.lesser.result c.lesser-in-loop-i.result c.lesser-level.result
-    c.lowest-bend.result c.loop-i-test.true c.loop-i.invariant c.stretch_at-s.ensures c.lowest-bend.ensures.follows c.lowest-bend.ensures.made c.lesser.ensures c.lesser-in-loop-i.ensures
+    infimum_next c.args.ps.now c.args.end c.loop-i.i c.loop-i.level c.loop-i.out.items c.push_back.new.out.items c.stretch_at-s.result c.lesser.result
+    c.lesser-in-loop-i.result c.lesser-level.result
+    c.lowest-bend.result c.loop-i-test.true c.loop-i.invariant c.stretch_at-s.ensures c.lowest-bend.ensures.follows c.lowest-bend.ensures.made c.lesser.ensures
+    c.lesser-in-loop-i.ensures
     c.lesser-level.ensures c.in_ok-push_back.ensures
 
 pub returns : goal.returns

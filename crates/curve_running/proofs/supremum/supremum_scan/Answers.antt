@@ -1,7 +1,7 @@
 use Rattle.std.proofs.Common.{sym, subst}
 use Rattle.curve_running.specs.Scans.{IsLevel}
 use Rattle.curve_running.proofs.Makings.{greater_level}
-use Rattle.curve_running.proofs.SupremumLoop.{some_pieces, supremum_start, supremum_step, supremum_end}
+use Rattle.curve_running.proofs.SupremumLoop.{supremum_start, supremum_step, supremum_end}
 use Rattle.curve_running.proofs.supremum.supremum_scan.Goals as goal
 
 pub loop-i-init : goal.loop-i-init
@@ -15,8 +15,10 @@ highest-bend-requires-clause-fits c =
 
 pub loop-i-preserved : goal.loop-i-preserved
 loop-i-preserved c =
-    supremum_step c.args.ps.now c.args.end c.loop-i.i c.loop-i.level c.loop-i.out.items c.push_bent.new.out.items c.stretch_at-s.result c.greater-top.result c.greater.result c.greater-level.result
-    c.highest-bend.result c.loop-i.invariant c.stretch_at-s.ensures c.greater-top.ensures c.highest-bend.ensures.follows c.highest-bend.ensures.made c.in_ok-push_bent.ensures c.greater.ensures
+    supremum_step c.args.ps.now c.args.end c.loop-i.i c.loop-i.level c.loop-i.out.items c.push_bent.new.out.items c.stretch_at-s.result c.greater-top.result
+    c.greater.result c.greater-level.result
+    c.highest-bend.result c.loop-i.invariant c.stretch_at-s.ensures c.greater-top.ensures c.highest-bend.ensures.follows c.highest-bend.ensures.made
+    c.in_ok-push_bent.ensures c.greater.ensures
     c.greater-level.ensures
 
 pub returns : goal.returns

@@ -1,6 +1,6 @@
 use Rattle.std.proofs.Common.{subst}
 use Rattle.upp_curve.specs.Spans.{spans}
-use Rattle.upp_curve.specs.Limits.{Numbers, joined}
+use Rattle.upp_curve.specs.Limits.{joined}
 use Rattle.upp_curve.specs.ClosedForm.{tail_numbers, closed_spans}
 use Rattle.upp_curve.specs.Gathered.{Gathers}
 use Rattle.upp_curve.proofs.JoinedNumbers.{joined_assoc}

@@ -1,7 +1,7 @@
 use Rattle.std.proofs.Common.{subst}
 use Rattle.rational.specs.Rational.{◌*ℚ◌}
 use Rattle.upp_curve.specs.Spans.{Span}
-use Rattle.upp_curve.specs.Limits.{Numbers, joined}
+use Rattle.upp_curve.specs.Limits.{joined}
 use Rattle.upp_curve.specs.ClosedForm.{span_numbers, last_numbers}
 use Rattle.upp_curve.specs.Gathered.{Gathers}
 use Rattle.upp_curve.proofs.JoinedNumbers.{joined_assoc}

@@ -1,7 +1,7 @@
-use Rattle.std.proofs.Common.{◌≡◌, subst, sym, ◌∙◌, ◌+◌, drop, refl}
+use Rattle.std.proofs.Common.{subst, sym, ◌+◌, drop}
 use Rattle.rational.specs.Rational.{◌≤ℚ◌, int}
 use Rattle.std.proofs.Common.{pos}
-use Rattle.upp_curve.specs.Spans.{Span, spans, piece_read}
+use Rattle.upp_curve.specs.Spans.{Span, spans}
 use Rattle.upp_curve.specs.Seen.{Knows}
 use Rattle.upp_curve.specs.Limits.{joined}
 use Rattle.upp_curve.specs.Gathered.{Gathers}

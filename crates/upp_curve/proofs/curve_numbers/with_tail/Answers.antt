@@ -1,5 +1,5 @@
 use Rattle.std.proofs.Common.{subst, sym}
-use Rattle.upp_curve.specs.Limits.{Numbers, joined, time_alone, value_alone}
+use Rattle.upp_curve.specs.Limits.{joined, time_alone, value_alone}
 use Rattle.upp_curve.specs.ClosedForm.{tail_numbers}
 use Rattle.upp_curve.specs.Gathered.{Gathers}
 use Rattle.upp_curve.proofs.JoinedNumbers.{joined_three}

@@ -1,5 +1,4 @@
-use Rattle.rational.specs.Euclid.{gcd_pos}
-use Rattle.std.proofs.Common.{arith, ◌∙◌, sym, ◌<◌}
+use Rattle.std.proofs.Common.{arith, ◌<◌}
 use native.Mathlib.Nat.{pos_of_dvd_of_pos}
 use Rattle.rational.specs.Gcd.{gcd}
 use Rattle.rational.specs.Euclid.{gcd_is}

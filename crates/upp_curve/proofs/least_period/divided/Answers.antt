@@ -1,5 +1,5 @@
-use Rattle.std.proofs.Common.{arith, ap, sym, refl, subst, ◌∙◌, ◌≡◌, ℕ, ◌+◌, ◌*◌, ◌/◌, ◌<◌, ◌≤◌, length, take, true≢false}
-use Rattle.upp_curve.specs.Normalising.{GoesOn, cycle_values, turn_count}
+use Rattle.std.proofs.Common.{arith, sym, refl, subst, ◌∙◌, ◌/◌, ◌<◌, ◌≤◌, length, true≢false}
+use Rattle.upp_curve.specs.Normalising.{GoesOn, cycle_values}
 use Rattle.upp_curve.proofs.NormaliseLeast.{stays, no_share_of_time, no_share_of_value, no_copies_left, is_cut, first_inside, turn_is, turn_share, turn_fits}
 use Rattle.upp_curve.proofs.least_period.divided.Goals as goal
 

@@ -1,7 +1,6 @@
-use Rattle.std.proofs.Common.{arith, ap, sym, subst, ◌∙◌, ◌≡◌, ◌+◌, ◌-◌, ◌<◌, ◌≤◌, pos, true≢false, length, get_or, refl}
+use Rattle.std.proofs.Common.{arith, sym, ◌∙◌, ◌+◌, ◌<◌, ◌≤◌, pos, true≢false, length, refl}
 use Rattle.rational.specs.Rational.{int}
 use Rattle.upp_curve.specs.Kinds.{piece}
-use Rattle.upp_curve.specs.Unrolled.{later}
 use Rattle.upp_curve.proofs.NormaliseGoes.{goes_on_all, goes_on_more, moved_is}
 use Rattle.upp_curve.proofs.least_period.goes_on.Goals as goal
 

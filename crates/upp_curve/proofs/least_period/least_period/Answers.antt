@@ -1,6 +1,6 @@
-use Rattle.std.proofs.Common.{arith, sym, refl, subst, ◌≡◌, ◌+◌, ◌<◌, ◌≤◌, ◌%◌, length}
+use Rattle.std.proofs.Common.{arith, sym, refl, subst, ◌<◌, ◌≤◌, length}
 use native.Mathlib.Nat.{dvd_trans, dvd_of_mod-eq-zero}
-use Rattle.upp_curve.specs.Normalising.{cycle_values, turn_count}
+use Rattle.upp_curve.specs.Normalising.{cycle_values}
 use Rattle.upp_curve.proofs.NormaliseLeast.{first_inside, turn_is, search_begins, search_goes_on, search_divides, search_ends}
 use Rattle.upp_curve.proofs.least_period.least_period.Goals as goal
 

@@ -1,4 +1,4 @@
-use Rattle.std.proofs.Common.{arith, ap, sym, subst, refl, ◌∙◌, ◌≡◌, ℤ, pos, nat_abs, ◌^◌, ◌<◌, IsOk}
+use Rattle.std.proofs.Common.{arith, ap, sym, subst, refl, ◌∙◌, ◌≡◌, pos, nat_abs, ◌^◌, ◌<◌}
 use Rattle.std.proofs.lemmas.Int.{ints}
 use mir.Val.{to_z}
 use mir.Syntax.{w128}

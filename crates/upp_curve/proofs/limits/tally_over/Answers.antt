@@ -1,4 +1,4 @@
-use Rattle.std.proofs.Common.{◌≡◌, ◌∙◌, sym}
+use Rattle.std.proofs.Common.{◌∙◌, sym}
 use Rattle.upp_curve.specs.Unrolled.{count}
 use Rattle.upp_curve.proofs.Tallies.{tally_is, one_more_stays, sum_stays, times_stays}
 use Rattle.upp_curve.proofs.limits.tally_over.Goals as goal

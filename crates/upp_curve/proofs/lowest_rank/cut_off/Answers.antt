@@ -1,5 +1,4 @@
 use Rattle.std.proofs.Common.{arith, ◌≡◌, ◌∙◌, ◌-◌, ap, sym, cond, take, length}
-use Rattle.rational.specs.Rational.{lt_q}
 use Rattle.rational.proofs.Over.{lt_q_out}
 use Rattle.rational.proofs.MinMax.{lt_q_not}
 use Rattle.rational.proofs.Comparison.{cmp_less}

@@ -1,4 +1,4 @@
-use Rattle.std.proofs.Common.{arith, ◌≡◌, ℕ, ◌+◌, ◌≤◌, length, ap, sym, subst, pos}
+use Rattle.std.proofs.Common.{arith, ◌≡◌, length, ap, sym, subst, pos}
 use Rattle.std.proofs.lemmas.List.{length-append}
 use Rattle.rational.specs.Rational.{int}
 use Rattle.upp_curve.specs.Reading.{read}

@@ -1,5 +1,4 @@
 use Rattle.upp_curve.proofs.Operands.{held_known}
-use Rattle.std.proofs.Common.{subst, sym}
 use Rattle.upp_curve.proofs.operand_numbers.with_one.Goals as goal
 
 pub returns-clause-fits : goal.returns-clause-fits

@@ -1,4 +1,4 @@
-use Rattle.std.proofs.Common.{◌≡◌, subst, sym}
+use Rattle.std.proofs.Common.{subst, sym}
 use Rattle.upp_curve.specs.Limits.{joined, curve_numbers}
 use Rattle.upp_curve.specs.Sized.{HeldBy}
 use Rattle.upp_curve.specs.Gathered.{Gathers}

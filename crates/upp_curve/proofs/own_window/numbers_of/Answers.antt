@@ -1,7 +1,7 @@
 use Rattle.std.proofs.Common.{arith, refl, subst, ◌*◌, ◌<◌, ◌^◌}
 use Rattle.rational.specs.Gauge.{Kept}
 use Rattle.rational.proofs.Gauges.{kept_times}
-use Rattle.upp_curve.specs.Limits.{sizes_of, gauge_of}
+use Rattle.upp_curve.specs.Limits.{sizes_of}
 use Rattle.upp_curve.proofs.CurveStands.{are_sizes}
 use Rattle.upp_curve.proofs.NarrowSizes.{narrow_gauge, grids_narrow}
 use Rattle.upp_curve.proofs.GaugeProduct.{kept_small}

@@ -1,4 +1,4 @@
-use Rattle.std.proofs.Common.{subst, sym, ◌≡◌, ◌≤◌, ◌^◌}
+use Rattle.std.proofs.Common.{subst, sym, ◌≤◌, ◌^◌}
 use Rattle.std.proofs.lemmas.Bool.{true≢false}
 use Rattle.std.specs.Option.{MatchOption}
 use Rattle.upp_curve.specs.Curve.{SpecCurve}

@@ -1,13 +1,12 @@
-use Rattle.std.proofs.Common.{ap, sym, subst, refl, ◌∙◌, ◌≡◌}
+use Rattle.std.proofs.Common.{ap, sym, subst, refl, ◌∙◌}
 use Rattle.upp_curve.specs.declared.curve.Tail.TheVariants.{Periodic, Affine, Infinite}
 use Rattle.upp_curve.specs.Reading.{read}
-use Rattle.upp_curve.specs.Curve.{repeated, cut, value_at, HasSameValues}
+use Rattle.upp_curve.specs.Curve.{repeated, value_at, HasSameValues}
 use Rattle.upp_curve.specs.Normal.{StartsAtZero, TailFits}
 use Rattle.upp_curve.specs.Normalising.{raw_curve, HasValues, TailOnGrids, ended}
 use Rattle.upp_curve.specs.Room.{PiecesHaveRoom, TailHasRoom, TurnHasRoom}
 use Rattle.upp_curve.proofs.ByTail.{value_of}
 use Rattle.upp_curve.proofs.NormaliseForm.{ok_map, grids_through, ended_starts, ended_reads}
-use Rattle.upp_curve.proofs.NormaliseRoomy.{read_fits}
 use Rattle.upp_curve.proofs.NormaliseWhole.{more_room, ended_room, end_read}
 use Rattle.upp_curve.proofs.raw_curve.normalise_on.Goals as goal
 

@@ -1,10 +1,9 @@
-use Rattle.std.proofs.Common.{◌≡◌, subst, sym, ap, ◌∙◌}
+use Rattle.std.proofs.Common.{subst, ap, ◌∙◌}
 use Rattle.std.specs.Prelude.{map}
-use Rattle.std.specs.List.{AllByRecursion}
 use Rattle.upp_curve.specs.Spans.{spans}
-use Rattle.upp_curve.specs.Limits.{Numbers, joined}
+use Rattle.upp_curve.specs.Limits.{joined}
 use Rattle.upp_curve.specs.ClosedForm.{tail_numbers, closed_spans}
-use Rattle.upp_curve.specs.ClosedOperands.{scaled_span, KnowsTimes}
+use Rattle.upp_curve.specs.ClosedOperands.{scaled_span}
 use Rattle.upp_curve.specs.Gathered.{Gathers}
 use Rattle.upp_curve.proofs.JoinedNumbers.{joined_assoc}
 use Rattle.upp_curve.proofs.SpanNumbers.{if_some_map}

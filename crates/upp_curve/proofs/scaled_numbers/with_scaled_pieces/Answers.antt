@@ -1,4 +1,4 @@
-use Rattle.std.proofs.Common.{◌≡◌, subst, sym, ◌+◌, drop, pos}
+use Rattle.std.proofs.Common.{subst, sym, ◌+◌, drop, pos}
 use Rattle.rational.specs.Rational.{◌≤ℚ◌, int}
 use Rattle.upp_curve.specs.Spans.{Span, spans}
 use Rattle.upp_curve.specs.Limits.{joined}

@@ -1,4 +1,4 @@
-use Rattle.std.proofs.Common.{arith, ◌≡◌, ◌<◌, ◌≤◌, ◌-◌, ◌^◌}
+use Rattle.std.proofs.Common.{arith, ◌≡◌}
 use Rattle.rational.specs.Rational.{◌-ℚ◌, ◌/ℚ◌}
 use Rattle.upp_curve.specs.Unrolled.{whole_up}
 use Rattle.upp_curve.proofs.Rounding.{cap_kept}

@@ -1,8 +1,8 @@
-use Rattle.std.proofs.Common.{arith, ◌≡◌, ◌<◌, ◌≤◌, ◌+◌, ◌/◌, ◌-◌, ◌^◌, ap, ◌∙◌}
+use Rattle.std.proofs.Common.{arith}
 use Rattle.rational.specs.Rational.{◌-ℚ◌, ◌/ℚ◌}
 use Rattle.rational.proofs.Laws.{le_of_lt}
 use Rattle.upp_curve.specs.Unrolled.{whole_up}
-use Rattle.upp_curve.proofs.Rounding.{before_count, cap_reached, cap_kept, told_below, told_from}
+use Rattle.upp_curve.proofs.Rounding.{cap_reached, cap_kept, told_below, told_from}
 use Rattle.upp_curve.proofs.start_counts.searched_count.Goals as goal
 
 pub is_before-requires-clause-step : goal.is_before-requires-clause-step

@@ -1,4 +1,4 @@
-use Rattle.std.proofs.Common.{◌≡◌, ◌+◌, ◌*◌, subst, refl, ap, ap₂, ◌∙◌, sym}
+use Rattle.std.proofs.Common.{subst, ◌∙◌}
 use Rattle.rational.specs.Rational.{◌<ℚ◌, ◌≤ℚ◌}
 use Rattle.upp_curve.specs.Long.{long_value}
 use Rattle.upp_curve.proofs.Compared.{not_less_out, iff_some, iff_trans}

@@ -1,4 +1,4 @@
-use Rattle.std.proofs.Common.{◌+◌, ◌∙◌, ap, sym, drop, drop_of_length-le}
+use Rattle.std.proofs.Common.{◌+◌, ap, sym, drop, drop_of_length-le}
 use Rattle.upp_curve.specs.Normalising.{past, first_start}
 use Rattle.upp_curve.proofs.NormaliseLoops.{next_piece, past_skips, past_found, past_ends}
 use Rattle.upp_curve.proofs.two_periods.first_past.Goals as goal

@@ -1,4 +1,4 @@
-use Rattle.std.proofs.Common.{arith, ◌≡◌, ◌+◌, ◌++◌, ◌∙◌, ap, length, drop, drop_of_length-le, subst, sym, pos}
+use Rattle.std.proofs.Common.{arith, ◌≡◌, ◌+◌, ◌++◌, ◌∙◌, ap, drop, drop_of_length-le, subst, sym, pos}
 use Rattle.std.proofs.lemmas.Int.{ints}
 use mir.Val.{to_z}
 use mir.Syntax.{w128}

@@ -1,7 +1,5 @@
-use Rattle.std.proofs.Common.{subst, ap}
-use Rattle.rational.specs.Rational.{◌*ℚ◌}
-use Rattle.upp_curve.specs.Limits.{Numbers, joined, values_alone, finite}
-use Rattle.upp_curve.specs.Seen.{seen_of, seen_risen}
+use Rattle.std.proofs.Common.{subst}
+use Rattle.upp_curve.specs.Limits.{joined, values_alone, finite}
 use Rattle.upp_curve.specs.ClosedForm.{seen_values}
 use Rattle.upp_curve.specs.Gathered.{Gathers}
 use Rattle.upp_curve.proofs.JoinedNumbers.{joined_three}

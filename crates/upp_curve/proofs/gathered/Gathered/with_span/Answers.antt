@@ -1,5 +1,5 @@
 use Rattle.std.proofs.Common.{subst}
-use Rattle.upp_curve.specs.Limits.{Numbers, joined, time_alone, values_alone, slopes_alone, line_slope, finite}
+use Rattle.upp_curve.specs.Limits.{joined, time_alone, values_alone, slopes_alone, line_slope, finite}
 use Rattle.upp_curve.specs.ClosedForm.{piece_numbers}
 use Rattle.upp_curve.specs.Gathered.{Gathers}
 use Rattle.upp_curve.proofs.JoinedNumbers.{joined_span}

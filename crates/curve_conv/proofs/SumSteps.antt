@@ -1,0 +1,89 @@
+-- Windows of what elements make: no step of the lower of two of them is too wide, and it is one again.
+use Rattle.std.specs.Prelude.{◌≡◌, pos, List, [], ◌∷◌, Option, Some, None}
+use Rattle.std.proofs.Common.{arith, sym, ap, ◌∙◌, subst, inl, inr}
+use Rattle.rational.specs.Rational.{ℚ, ◌*ℚ◌, ◌≤ℚ◌, int}
+use Rattle.rational.specs.Grid.{Within}
+use Rattle.rational.proofs.Integers.{nat_nonneg}
+use Rattle.rational.proofs.Laws.{le_or_lt, le_of_lt, antisym}
+use Rattle.rational.proofs.Linear.{with2}
+use Rattle.affine_segment.specs.declared.line.Line.{Line}
+use Rattle.affine_segment.specs.declared.line.Piece.{Piece}
+use Rattle.affine_segment.specs.Values.{line_value}
+use Rattle.upp_curve.specs.Reading.{read, piece_in, piece_value}
+use Rattle.upp_curve.specs.Normal.{Each, HasStart}
+use Rattle.upp_curve.specs.Limits.{Sizes}
+use Rattle.upp_curve.specs.Operand.{AreLimited, answer_room}
+use Rattle.upp_curve.specs.Readable.{LineFitsAt}
+use Rattle.upp_curve.specs.Room.{TimeHasRoom, LineHasRoom}
+use Rattle.upp_curve.proofs.FirstStretch.{value_past, value_at_start}
+use Rattle.upp_curve.proofs.NormaliseLists.{each_map}
+use Rattle.upp_curve.proofs.NormaliseRoomy.{each_in, found_early}
+use Rattle.upp_curve.proofs.AnswerRoom.{AnswerLine, room_at_start, crossing_room, line_in_room, line_fits_in, line_value_in, steep_run}
+use Rattle.curve_window.specs.Stretches.{line_in, CutsFit}
+use Rattle.curve_conv.specs.ElementRoom.{SumLine}
+use Rattle.curve_conv.specs.SumWindows.{SumStart, SumValueAt, SumLineAt, SumPiece, SumWindow}
+use Rattle.curve_conv.proofs.ElementSizes.{sum_within}
+
+-- ---- times and lines have room
+time_room : (z : Sizes) (end x : ℚ) → AreLimited z end → SumStart z end x → TimeHasRoom (answer_room z end) x
+time_room z end x A s = elim s.place [ inl w ↦ room_at_start z end x A w s.nonneg | inr k ↦ crossing_room z end x A k s.nonneg ]
+
+half : (v y : ℚ) → int (pos 0) ≤ℚ v → Within v (int (pos 2) *ℚ y) → Within v y
+half v y h w =
+    let l = w.low in
+    let u = w.high in
+    record { low = with2 v y (λ c. omega (arith, c.le, c.lt, c.same)); high = with2 v y (λ c. omega (arith, c.le, c.lt, c.same)) }
+
+sum_answer : (z : Sizes) (l : Line) → SumLine z l → AnswerLine z 5 l
+sum_answer z l L = record {
+  icept = L.icept;
+  within = L.within;
+  slope = L.slope.whole;
+  steep = half (int (pos z.steepness)) l.slope (nat_nonneg z.steepness) L.slope.within;
+}
+
+line_room : (z : Sizes) (end : ℚ) (l : Option Line) → AreLimited z end → SumLineAt z l → LineHasRoom (answer_room z end) 1 l
+line_room z end None A L = tt
+line_room z end (Some l) A L = line_in_room z end 5 l A (omega arith) (sum_answer z l L)
+
+line_fits_at : (z : Sizes) (end x : ℚ) (l : Option Line) → AreLimited z end → SumLineAt z l → SumStart z end x → LineFitsAt x l
+line_fits_at z end x l A L s = line_fits_in z end x l A (line_room z end l A L) (time_room z end x A s) (le_of_lt s.before)
+
+-- ---- readings
+line_value_on : (z : Sizes) (end x : ℚ) (l : Option Line) → AreLimited z end → SumLineAt z l → SumStart z end x → SumValueAt z x (line_value l x)
+line_value_on z end x None A L s = tt
+line_value_on z end x (Some l) A L s = record {
+  whole = λ grid base on. (line_value_in z end 5 grid l x A (omega arith) (sum_answer z l L) base on s.nonneg (le_of_lt s.before)).whole;
+  within = sum_within z 5 1 l.icept (l.slope *ℚ x) L.within (steep_run z end l.slope x A (sum_answer z l L).steep s.nonneg (le_of_lt s.before));
+}
+
+start_in : (z : Sizes) (end x : ℚ) (ps : List Piece) → Each (SumPiece z end) ps → HasStart x ps → SumStart z end x
+start_in z end x [] E h = absurd h
+start_in z end x (p ∷ ps) E (inl e) = subst (SumStart z end) e E.0.start
+start_in z end x (p ∷ ps) E (inr h) = start_in z end x ps E.1 h
+
+sum_line_in : (z : Sizes) (end x : ℚ) (ps : List Piece) → SumWindow z end ps → SumLineAt z (line_in ps x)
+sum_line_in z end x [] P = tt
+sum_line_in z end x (p ∷ ps) P = each_in (λ q. SumLineAt z q.line) p ps x P.each.0.line (each_map (SumPiece z end) (λ q. SumLineAt z q.line) (λ q h. h.line) ps P.each.1)
+
+sum_read : (z : Sizes) (end x : ℚ) (ps : List Piece) → AreLimited z end → SumWindow z end ps → SumStart z end x → SumValueAt z x (read ps x)
+unfolding read
+sum_read z end x [] A P T = tt
+sum_read z end x (p ∷ ps) A P T =
+    let q = piece_in p ps x in
+    let Q = each_in (SumPiece z end) p ps x P.each.0 P.each.1 in
+    let low : p.x ≤ℚ x = subst (λ y. y ≤ℚ x) (sym P.starts.0) T.nonneg in
+    let early = found_early p ps x low in
+    elim (le_or_lt x q.x) [
+      | inl k ↦
+          let same : q.x ≡ x = antisym (early, k) in
+          subst (SumValueAt z x) (sym (value_at_start q) ∙ ap (piece_value q) same) (subst (λ y. SumValueAt z y q.at) same Q.at)
+      | inr k ↦ subst (SumValueAt z x) (sym (value_past q x k)) (line_value_on z end x q.line A Q.line T)
+    ]
+
+-- ---- the cuts
+pub sum_cuts_fit : (z : Sizes) (end : ℚ) (f g : List Piece) → AreLimited z end → SumWindow z end f → SumWindow z end g → CutsFit f g
+sum_cuts_fit z end f g A F G = record {
+  left = λ x h. line_fits_at z end x (line_in f x) A (sum_line_in z end x f F) (start_in z end x g G.each h);
+  right = λ x h. line_fits_at z end x (line_in g x) A (sum_line_in z end x g G) (start_in z end x f F.each h);
+}

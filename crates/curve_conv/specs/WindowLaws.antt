@@ -1,0 +1,12 @@
+-- The lower of two windows of what elements make. Own choice.
+use Rattle.std.specs.Prelude.{List}
+use Rattle.rational.specs.Rational.{ℚ}
+use Rattle.affine_segment.specs.declared.line.Piece.{Piece}
+use Rattle.upp_curve.specs.Limits.{Sizes}
+use Rattle.upp_curve.specs.Operand.{AreLimited}
+use Rattle.curve_window.specs.Stretches.{CutsFit}
+use Rattle.curve_conv.specs.SumWindows.{SumWindow}
+
+-- no step that cuts two of them is too wide
+abbrev pub SumCutsFit : Type 0
+SumCutsFit = (z : Sizes) (end : ℚ) (f g : List Piece) → AreLimited z end → SumWindow z end f → SumWindow z end g → CutsFit f g

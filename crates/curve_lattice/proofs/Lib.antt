@@ -1,0 +1,4 @@
+pub mod TailMoves
+pub mod LatticeCalls
+pub mod LatticeLimits
+pub mod LatticeAnswers

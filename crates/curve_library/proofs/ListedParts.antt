@@ -1,0 +1,302 @@
+-- A listed curve: its form, its numbers, and its answers.
+use Rattle.std.specs.Prelude.{◌≡◌, ◌≢◌, ◌⊎◌, ℕ, ◌<◌, ◌≤◌, ◌^◌, ◌*◌, pos, List, [], ◌∷◌, length, Option, Some, None, Result, Ok, Err}
+use Rattle.std.specs.List.{AllByRecursion}
+use Rattle.std.proofs.Common.{arith, get_or, sym, ap, ◌∙◌, refl, subst, inl, inr}
+use Rattle.rational.specs.Rational.{ℚ, ◌+ℚ◌, ◌-ℚ◌, ◌*ℚ◌, ◌≤ℚ◌, ◌<ℚ◌, int, neg_ℚ}
+use Rattle.rational.specs.Ratio.{IsSmall, SumFits}
+use Rattle.rational.specs.Grid.{Whole, Within}
+use Rattle.rational.specs.Extended.{Ext, ◌≤ₑ◌, ◌+ₑ◌}
+use Rattle.rational.specs.declared.Extended.TheVariants.{Fin}
+use Rattle.rational.proofs.Grid.{whole_neg, within_neg}
+use Rattle.rational.proofs.Linear.{with2}
+use Rattle.rational.proofs.Laws.{le_refl, le_of_lt, le_trans, one_mul}
+use Rattle.affine_segment.specs.declared.line.Line.{Line}
+use Rattle.affine_segment.specs.declared.line.Piece.{Piece}
+use Rattle.affine_segment.specs.Values.{line_value}
+use Rattle.upp_curve.specs.declared.curve.Tail.{Tail}
+use Rattle.upp_curve.specs.declared.curve.Tail.TheVariants.{Periodic, Affine, Infinite}
+use Rattle.upp_curve.specs.declared.own_limits.OverLimit.{OverLimit}
+use Rattle.upp_curve.specs.declared.own_limits.OverLimit.TheVariants.{TooMany, TooWide}
+use Rattle.upp_curve.specs.Reading.{read}
+use Rattle.upp_curve.specs.Curve.{SpecCurve, value_at, HasSameValues}
+use Rattle.upp_curve.specs.Continuity.{AreNear, IsNearAround, IsContinuous}
+use Rattle.upp_curve.specs.Functions.{zero_q, IsRising}
+use Rattle.upp_curve.specs.Normal.{Each, IsRaw, IsNormal, RisesFrom, StartsAtZero}
+use Rattle.upp_curve.specs.Limits.{own_gauge, own_sizes, own_end}
+use Rattle.upp_curve.specs.OwnLimits.{IsOver, IsWithinOwn}
+use Rattle.upp_curve.specs.Sized.{SpanStands, ValueStands, LineStands, IsValue}
+use Rattle.upp_curve.specs.Spans.{spans, line_read}
+use Rattle.upp_curve.proofs.CurveStands.{starts_below_own_end}
+use Rattle.upp_curve.proofs.FirstStretch.{read_in, at_start}
+use Rattle.upp_curve.proofs.NarrowSizes.{small_sum, value_whole, value_within, run_whole, run_within}
+use Rattle.upp_curve.proofs.OneForm.{affine_value, infinite_value}
+use Rattle.upp_curve.proofs.Repeats.{repeated_first}
+use Rattle.curve_library.specs.declared.texts.PieceText.{PieceText}
+use Rattle.curve_library.specs.declared.texts.TailText.{TailText}
+use Rattle.curve_library.specs.declared.texts.UseAs.{UseAs}
+use Rattle.curve_library.specs.declared.texts.UseAs.TheVariants.{Arrival, Service}
+use Rattle.curve_library.specs.declared.fault.CurveFault.{CurveFault}
+use Rattle.curve_library.specs.declared.fault.CurveFault.TheVariants.{Negative, ZeroPeriod, NotRising, NotContinuous, NotZeroAtStart, Op, NoMemory}
+use Rattle.curve_library.specs.Listed.{text_line, text_piece, text_pieces, text_tail, last_from, last_start, listed_curve, IsNonnegText, IsNonnegTail, HasLength, StartsBelow, AreNonneg, AreInOrder, IsWellFormed, HasShape, IsServiceShape, Jumps, StartsAboveZero, KeepsShape, KeepsMade, KeepsBoth, KeepsListed, ListsFirst, TextFits, IsPiecesFault}
+use Rattle.curve_library.proofs.Answering.{over_within, one_limit}
+use Rattle.curve_library.proofs.OwnParts.{Held, held, too_wide, run_small}
+
+-- ---- a well-formed list is a curve in some form
+last_most : (p : PieceText) (ps : List PieceText) → RisesFrom p.x (text_pieces ps) → (p.x ≤ℚ last_from p ps) × Each (λ q. q.x ≤ℚ last_from p ps) (text_pieces ps)
+last_most p [] h = (le_refl p.x, tt)
+last_most p (q ∷ qs) h =
+    let rest = last_most q qs h.1 in
+    (le_trans (le_of_lt h.0) rest.0, (rest.0, rest.1))
+
+each_below : (x : ℚ) (ps : List PieceText) → AllByRecursion (λ p. p.x <ℚ x) ps → Each (λ q. q.x <ℚ x) (text_pieces ps)
+each_below x [] h = tt
+each_below x (p ∷ ps) h = (h.0, each_below x ps h.1)
+
+pub raw_of : (ps : List PieceText) (tail : Option TailText) → IsWellFormed ps tail → IsRaw (listed_curve ps tail)
+raw_of ps (Some t) w = record {
+  starts = w.order.starts;
+  tail = record { nonneg = w.nonneg.ending.0; some = w.length; starts = each_below (t.rank +ℚ t.period) ps w.order.below };
+}
+raw_of [] None w = absurd w.order.starts
+raw_of (p ∷ ps) None w =
+    let m = last_most p ps w.order.starts.1 in
+    record {
+      starts = w.order.starts;
+      tail = record { nonneg = le_trans w.nonneg.pieces.0.start m.0; starts = (m.0, m.1) };
+    }
+
+-- ---- its numbers fit where its gauge is below the limit
+put_back : (a y : ℚ) → (a -ℚ y) +ℚ y ≡ a
+put_back a y = with2 a y (λ c. omega (arith, c.le, c.lt, c.same))
+
+one_fits : (k : SpecCurve) (p : PieceText) → Held k → Whole (own_sizes k).dt p.x → LineStands (own_sizes k) (Some (text_line p)) → ValueStands (own_sizes k) (line_value (Some (text_line p)) p.x)
+    → zero_q ≤ℚ p.x → p.x ≤ℚ own_end k → TextFits p
+one_fits k p H start slope after low early =
+    let z = own_sizes k in
+    let run = p.slope *ℚ p.x in
+    let V = int (pos z.largest) in
+    let value : IsValue z p.after = subst (λ v. IsValue z v) (put_back p.after run) after in
+    let near : Within (int (pos 1) *ℚ V) run = subst (λ m. Within m run) (sym (one_mul V)) (run_within z (own_end k) p.slope p.x H.sizes slope low early) in
+    record {
+      run = run_small k p.slope p.x H slope start low early;
+      icept = small_sum z (own_end k) 1 1 p.after (neg_ℚ run) H.sizes H.narrow (omega arith) (value_whole z p.after value)
+          (whole_neg (z.dv * z.dt * z.ds) run (run_whole z p.slope p.x slope start)) (value_within z p.after value) (within_neg (int (pos 1) *ℚ V) run near);
+    }
+
+all_fit : (k : SpecCurve) (tail : Tail) (ps : List PieceText) → Held k → ((q : Piece) → line_read tail q ≡ q.line) → AllByRecursion (SpanStands (own_sizes k)) (spans tail (text_pieces ps))
+    → Each (λ q. q.x <ℚ own_end k) (text_pieces ps) → AllByRecursion IsNonnegText ps → AllByRecursion TextFits ps
+unfolding spans
+all_fit k tail [] H reads stands early low = tt
+all_fit k tail (p ∷ ps) H reads stands early low =
+    let e = reads (text_piece p) in (
+      one_fits k p H stands.0.start (subst (LineStands (own_sizes k)) e stands.0.slope) (subst (λ l. ValueStands (own_sizes k) (line_value l p.x)) e stands.0.after) low.0.start (le_of_lt early.0),
+      all_fit k tail ps H reads stands.1 early.1 low.1,
+    )
+
+reads_line : (ps : List PieceText) (tail : Option TailText) (q : Piece) → line_read (text_tail ps tail) q ≡ q.line
+reads_line ps None q = refl
+reads_line ps (Some t) q = refl
+
+texts_fit : (ps : List PieceText) (tail : Option TailText) → IsWellFormed ps tail → own_gauge (listed_curve ps tail) < 2 ^ 120 → AllByRecursion TextFits ps
+texts_fit ps tail w small =
+    let k = listed_curve ps tail in
+    let raw = raw_of ps tail w in
+    let H = held k raw small in
+    all_fit k (text_tail ps tail) ps H (reads_line ps tail) H.stands.spans (starts_below_own_end k raw) w.nonneg.pieces
+
+pub pieces_fault : (ps : List PieceText) (tail : Option TailText) (u : UseAs) (e : CurveFault) → IsWellFormed ps tail → IsPiecesFault ps e → KeepsBoth u (listed_curve ps tail) (Err e)
+pieces_fault ps tail u Negative w h = absurd h
+pieces_fault ps tail u ZeroPeriod w h = absurd h
+pieces_fault ps tail u NotRising w h = absurd h
+pieces_fault ps tail u NotContinuous w h = absurd h
+pieces_fault ps tail u NotZeroAtStart w h = absurd h
+pieces_fault ps tail u (Op TooMany) w h = absurd h
+pieces_fault ps tail u (Op TooWide) w h = too_wide (listed_curve ps tail) (AllByRecursion TextFits ps) (texts_fit ps tail w) h
+pieces_fault ps tail u NoMemory w h = tt
+
+-- ---- the value at 0
+read_is : (p : Piece) (ps : List Piece) (t : ℚ) → read (p ∷ ps) t ≡ read_in p ps t
+unfolding read
+read_is p ps t = refl
+
+read_first : (q : Piece) (qs : List Piece) → q.x ≡ zero_q → RisesFrom q.x qs → read (q ∷ qs) zero_q ≡ q.at
+read_first q qs e r = read_is q qs zero_q ∙ ap (read_in q qs) (sym e) ∙ at_start q qs r
+
+value_zero : (q : Piece) (qs : List Piece) (tail : Tail) → IsNormal record { pieces = q ∷ qs; tail = tail } → value_at record { pieces = q ∷ qs; tail = tail } zero_q ≡ q.at
+unfolding value_at
+value_zero q qs (Periodic r d c) N =
+    let low = N.raw.tail.nonneg in
+    let some = N.raw.tail.some in
+    repeated_first (read (q ∷ qs)) r d c zero_q N.raw.tail.some (with2 r d (λ c. omega (arith, c.le, c.lt, c.same))) ∙ read_first q qs N.raw.starts.0 N.raw.starts.1
+value_zero q qs (Affine r) N = read_first q qs N.raw.starts.0 N.raw.starts.1
+value_zero q qs (Infinite r) N = infinite_value (q ∷ qs) r zero_q N.raw.tail.starts N.tail ∙ read_first q qs N.raw.starts.0 N.raw.starts.1
+
+start_value : (ps : List Piece) (tail : Tail) (p : Piece) → IsNormal record { pieces = ps; tail = tail } → 1 ≤ length ps → p ≡ get_or ps 0 p → value_at record { pieces = ps; tail = tail } zero_q ≡ p.at
+start_value [] tail p N h e = absurd (omega (arith, h))
+start_value (q ∷ qs) tail p N h e = value_zero q qs tail N ∙ ap (λ z. z.at) (sym e)
+
+pub starts_with : (c : SpecCurve) (ps : List Piece) (p : Piece) → IsNormal c → ps ≡ c.pieces → 1 ≤ length ps → p ≡ get_or ps 0 p → value_at c zero_q ≡ p.at
+starts_with c ps p N e h f = start_value c.pieces c.tail p N (subst (λ z. 1 ≤ length z) e h) (f ∙ ap (λ z. get_or z 0 p) e)
+
+-- ---- shapes of functions that are one
+rising_same : (f g : ℚ → Ext) → ((t : ℚ) → zero_q ≤ℚ t → f t ≡ g t) → IsRising f → IsRising g
+rising_same f g same rise s t low up = subst (λ v. v ≤ₑ g t) (same s low) (subst (λ v. f s ≤ₑ v) (same t (le_trans low up)) (rise s t low up))
+
+smooth_same : (f g : ℚ → Ext) → ((t : ℚ) → zero_q ≤ℚ t → f t ≡ g t) → IsContinuous f → IsContinuous g
+smooth_same f g same smooth t e low some =
+    let (d, N) = smooth t e low some in (
+      d,
+      record {
+        some = N.some;
+        near = λ s start late early. subst (λ v. AreNear v (g t) e) (same s start) (subst (λ v. AreNear (f s) v e) (same t low) (N.near s start late early));
+      },
+    )
+
+shape_same : (u : UseAs) (f g : ℚ → Ext) → ((t : ℚ) → zero_q ≤ℚ t → f t ≡ g t) → HasShape u f → HasShape u g
+shape_same Arrival f g same h = rising_same f g same h
+shape_same Service f g same h = record {
+  rises = rising_same f g same h.rises;
+  smooth = smooth_same f g same h.smooth;
+  start = sym (same zero_q (le_refl zero_q)) ∙ h.start;
+}
+
+-- the limits, and then the shape
+pub both_of : (u : UseAs) (k c : SpecCurve) (r : Result SpecCurve CurveFault) → HasSameValues k c → IsWithinOwn c → KeepsShape u k r → KeepsBoth u c r
+both_of u k c (Ok made) same w h = (subst (λ z. HasSameValues z c) (sym h.0) same, w, shape_same u (value_at k) (value_at c) same h.1)
+both_of u k c (Err Negative) same w h = absurd h
+both_of u k c (Err ZeroPeriod) same w h = absurd h
+both_of u k c (Err NotRising) same w h = (w, λ rise. h (rising_same (value_at c) (value_at k) (λ t l. sym (same t l)) rise))
+both_of u k c (Err NotContinuous) same w h = (
+  w,
+  record {
+    service = h.service;
+    rises = rising_same (value_at k) (value_at c) same h.rises;
+    jumps = λ smooth. h.jumps (smooth_same (value_at c) (value_at k) (λ t l. sym (same t l)) smooth);
+  },
+)
+both_of u k c (Err NotZeroAtStart) same w h = (
+  w,
+  record {
+    service = h.service;
+    rises = rising_same (value_at k) (value_at c) same h.rises;
+    smooth = smooth_same (value_at k) (value_at c) same h.smooth;
+    start = λ e. h.start (same zero_q (le_refl zero_q) ∙ e);
+  },
+)
+both_of u k c (Err (Op limit)) same w h = absurd h
+both_of u k c (Err NoMemory) same w h = absurd h
+
+-- ---- the call
+pub listed_of : (ps : List PieceText) (tail : Option TailText) (u : UseAs) (r : Result SpecCurve CurveFault) → IsWellFormed ps tail → KeepsBoth u (listed_curve ps tail) r → KeepsListed ps tail u r
+listed_of ps tail u (Ok made) w h = (w, h)
+listed_of ps tail u (Err Negative) w h = absurd h
+listed_of ps tail u (Err ZeroPeriod) w h = absurd h
+listed_of ps tail u (Err NotRising) w h = inr (w, h)
+listed_of ps tail u (Err NotContinuous) w h = (w, h)
+listed_of ps tail u (Err NotZeroAtStart) w h = (w, h)
+listed_of ps tail u (Err (Op limit)) w h = (w, h)
+listed_of ps tail u (Err NoMemory) w h = w
+
+shape_rises : (u : UseAs) (f : ℚ → Ext) → HasShape u f → IsRising f
+shape_rises Arrival f h = h
+shape_rises Service f h = h.rises
+
+shape_jumps : (u : UseAs) (f : ℚ → Ext) → HasShape u f → Jumps u f → ⊥
+shape_jumps Arrival f h j = let e = j.service in cc
+shape_jumps Service f h j = j.jumps h.smooth
+
+shape_lifted : (u : UseAs) (f : ℚ → Ext) → HasShape u f → StartsAboveZero u f → ⊥
+shape_lifted Arrival f h s = let e = s.service in cc
+shape_lifted Service f h s = s.start h.start
+
+pub lists_first : (ps : List PieceText) (tail : Option TailText) (u : UseAs) (r : Result SpecCurve CurveFault) → KeepsListed ps tail u r → ListsFirst ps tail u r
+lists_first ps tail u (Ok made) h = let c = listed_curve ps tail in record {
+  below = λ n. absurd (n h.0.nonneg);
+  empty = λ a n. absurd (n h.0.length);
+  order = λ a l n. absurd (n h.0.order);
+  over = λ limit w o. absurd (over_within c limit o h.1.1);
+  falls = λ w i n. absurd (n (shape_rises u (value_at c) h.1.2));
+  jumps = λ w i j. absurd (shape_jumps u (value_at c) h.1.2 j);
+  lifted = λ w i s. absurd (shape_lifted u (value_at c) h.1.2 s);
+  within = λ w i s. h.1.0;
+}
+lists_first ps tail u (Err Negative) h = record {
+  below = λ n. refl;
+  empty = λ a n. absurd (h a);
+  order = λ a l n. absurd (h a);
+  over = λ limit w o. absurd (h w.nonneg);
+  falls = λ w i n. absurd (h w.nonneg);
+  jumps = λ w i j. absurd (h w.nonneg);
+  lifted = λ w i s. absurd (h w.nonneg);
+  within = λ w i s. absurd (h w.nonneg);
+}
+lists_first ps tail u (Err ZeroPeriod) h = record {
+  below = λ n. absurd (n h.0);
+  empty = λ a n. refl;
+  order = λ a l n. absurd (h.1 l);
+  over = λ limit w o. absurd (h.1 w.length);
+  falls = λ w i n. absurd (h.1 w.length);
+  jumps = λ w i j. absurd (h.1 w.length);
+  lifted = λ w i s. absurd (h.1 w.length);
+  within = λ w i s. absurd (h.1 w.length);
+}
+lists_first ps tail u (Err NotRising) (inl h) = record {
+  below = λ n. absurd (n h.0);
+  empty = λ a n. absurd (n h.1);
+  order = λ a l n. refl;
+  over = λ limit w o. absurd (h.2 w.order);
+  falls = λ w i n. inl refl;
+  jumps = λ w i j. absurd (h.2 w.order);
+  lifted = λ w i s. absurd (h.2 w.order);
+  within = λ w i s. absurd (h.2 w.order);
+}
+lists_first ps tail u (Err NotRising) (inr h) = let c = listed_curve ps tail in record {
+  below = λ n. absurd (n h.0.nonneg);
+  empty = λ a n. absurd (n h.0.length);
+  order = λ a l n. refl;
+  over = λ limit w o. absurd (over_within c limit o h.1.0);
+  falls = λ w i n. inl refl;
+  jumps = λ w i j. absurd (h.1.1 j.rises);
+  lifted = λ w i s. absurd (h.1.1 s.rises);
+  within = λ w i s. absurd (h.1.1 (shape_rises u (value_at c) s));
+}
+lists_first ps tail u (Err NotContinuous) h = let c = listed_curve ps tail in record {
+  below = λ n. absurd (n h.0.nonneg);
+  empty = λ a n. absurd (n h.0.length);
+  order = λ a l n. absurd (n h.0.order);
+  over = λ limit w o. absurd (over_within c limit o h.1.0);
+  falls = λ w i n. absurd (n h.1.1.rises);
+  jumps = λ w i j. inl refl;
+  lifted = λ w i s. absurd (h.1.1.jumps s.smooth);
+  within = λ w i s. absurd (shape_jumps u (value_at c) s h.1.1);
+}
+lists_first ps tail u (Err NotZeroAtStart) h = let c = listed_curve ps tail in record {
+  below = λ n. absurd (n h.0.nonneg);
+  empty = λ a n. absurd (n h.0.length);
+  order = λ a l n. absurd (n h.0.order);
+  over = λ limit w o. absurd (over_within c limit o h.1.0);
+  falls = λ w i n. absurd (n h.1.1.rises);
+  jumps = λ w i j. absurd (j.jumps h.1.1.smooth);
+  lifted = λ w i s. inl refl;
+  within = λ w i s. absurd (shape_lifted u (value_at c) s h.1.1);
+}
+lists_first ps tail u (Err (Op limit)) h = let c = listed_curve ps tail in record {
+  below = λ n. absurd (n h.0.nonneg);
+  empty = λ a n. absurd (n h.0.length);
+  order = λ a l n. absurd (n h.0.order);
+  over = λ other w o. inl (ap (λ l. let e : Result SpecCurve CurveFault = Err (Op l) in e) (one_limit c limit other h.1 o));
+  falls = λ w i n. absurd (over_within c limit h.1 i);
+  jumps = λ w i j. absurd (over_within c limit h.1 i);
+  lifted = λ w i s. absurd (over_within c limit h.1 i);
+  within = λ w i s. absurd (over_within c limit h.1 i);
+}
+lists_first ps tail u (Err NoMemory) h = record {
+  below = λ n. absurd (n h.nonneg);
+  empty = λ a n. absurd (n h.length);
+  order = λ a l n. absurd (n h.order);
+  over = λ limit w o. inr refl;
+  falls = λ w i n. inr refl;
+  jumps = λ w i j. inr refl;
+  lifted = λ w i s. inr refl;
+  within = λ w i s. refl;
+}

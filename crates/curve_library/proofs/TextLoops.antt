@@ -1,0 +1,94 @@
+-- Loops over listed pieces: what is left of a list after some steps.
+use Rattle.std.specs.Prelude.{◌≡◌, ◌↔◌, ℕ, zero, suc, ◌+◌, ◌-◌, ◌<◌, ◌≤◌, List, [], ◌∷◌, ◌++◌, length, slice_get, Option, Some, None}
+use Rattle.std.specs.List.{AllByRecursion}
+use Rattle.std.proofs.Common.{arith, get_or, drop, drop-cons, drop_of_length-le, append-nil, append_assoc, sym, ap, ap₂, ◌∙◌, refl, subst}
+use Rattle.rational.specs.Rational.{ℚ, ◌<ℚ◌}
+use Rattle.affine_segment.specs.declared.line.Piece.{Piece}
+use Rattle.upp_curve.specs.Normal.{RisesFrom}
+use Rattle.curve_library.specs.declared.texts.PieceText.{PieceText}
+use Rattle.curve_library.specs.Listed.{text_piece, text_pieces, TextFits, last_from, last_start}
+
+next_item : {A : Type 0} (x : A) (xs : List A) (j : ℕ) → j < length xs → x ≡ get_or xs j x → drop j xs ≡ x ∷ drop (j + 1) xs
+next_item {A} x xs j h e =
+    let k : suc j ≡ j + 1 = omega arith in
+    drop-cons xs j x h ∙ ap₂ (λ (y : A) (n : ℕ). y ∷ drop n xs) (sym e) k
+
+-- ---- a test of each
+pub all_on : {A : Type 0} (P : A → Type 0) (xs : List A) (j : ℕ) (x : A) → (AllByRecursion P xs ↔ AllByRecursion P (drop j xs)) → j < length xs → x ≡ get_or xs j x → P x
+    → (AllByRecursion P xs ↔ AllByRecursion P (drop (j + 1) xs))
+all_on P xs j x inv h e holds =
+    let shape = next_item x xs j h e in
+    (λ all. (subst (AllByRecursion P) shape (inv.0 all)).1, λ rest. inv.1 (subst (AllByRecursion P) (sym shape) (holds, rest)))
+
+pub all_off : {A : Type 0} (P : A → Type 0) (xs : List A) (j : ℕ) (x : A) → (AllByRecursion P xs ↔ AllByRecursion P (drop j xs)) → j < length xs → x ≡ get_or xs j x → ¬ (P x) → ¬ (AllByRecursion P xs)
+all_off P xs j x inv h e fails all = fails (subst (AllByRecursion P) (next_item x xs j h e) (inv.0 all)).0
+
+pub all_end : {A : Type 0} (P : A → Type 0) (xs : List A) (j : ℕ) → (AllByRecursion P xs ↔ AllByRecursion P (drop j xs)) → length xs ≤ j → AllByRecursion P xs
+all_end P xs j inv h = inv.1 (subst (AllByRecursion P) (sym (drop_of_length-le xs h)) tt)
+
+-- ---- starts that rise
+pub rise_on : (first last : ℚ) (ps : List PieceText) (j : ℕ) (p : PieceText) → (RisesFrom first (text_pieces ps) ↔ RisesFrom last (text_pieces (drop j ps))) → j < length ps → p ≡ get_or ps j p
+    → last <ℚ p.x → (RisesFrom first (text_pieces ps) ↔ RisesFrom p.x (text_pieces (drop (j + 1) ps)))
+rise_on first last ps j p inv h e holds =
+    let shape = next_item p ps j h e in
+    (λ all. (subst (λ z. RisesFrom last (text_pieces z)) shape (inv.0 all)).1, λ rest. inv.1 (subst (λ z. RisesFrom last (text_pieces z)) (sym shape) (holds, rest)))
+
+pub rise_off : (first last : ℚ) (ps : List PieceText) (j : ℕ) (p : PieceText) → (RisesFrom first (text_pieces ps) ↔ RisesFrom last (text_pieces (drop j ps))) → j < length ps → p ≡ get_or ps j p
+    → ¬ (last <ℚ p.x) → ¬ (RisesFrom first (text_pieces ps))
+rise_off first last ps j p inv h e fails all = fails (subst (λ z. RisesFrom last (text_pieces z)) (next_item p ps j h e) (inv.0 all)).0
+
+pub rise_end : (first last : ℚ) (ps : List PieceText) (j : ℕ) → (RisesFrom first (text_pieces ps) ↔ RisesFrom last (text_pieces (drop j ps))) → length ps ≤ j → RisesFrom first (text_pieces ps)
+rise_end first last ps j inv h = inv.1 (subst (λ z. RisesFrom last (text_pieces z)) (sym (drop_of_length-le ps h)) tt)
+
+-- ---- the pieces
+pub record TextLoop (ps left : List PieceText) (out : List Piece) : Type 0 where
+  pub fits : AllByRecursion TextFits ps → AllByRecursion TextFits left
+  pub same : out ++ text_pieces left ≡ text_pieces ps
+
+pub text_start : (ps : List PieceText) → TextLoop ps (drop 0 ps) []
+text_start ps = record { fits = λ h. subst (AllByRecursion TextFits) (sym none) h; same = ap text_pieces none }
+  where
+    none : drop 0 ps ≡ ps
+    none = refl
+
+pub text_fits : (ps : List PieceText) (out : List Piece) (j : ℕ) (p : PieceText) → TextLoop ps (drop j ps) out → j < length ps → p ≡ get_or ps j p → ¬ (TextFits p) → ¬ (AllByRecursion TextFits ps)
+text_fits ps out j p L h e fails all = fails (subst (AllByRecursion TextFits) (next_item p ps j h e) (L.fits all)).0
+
+pub text_step : (ps : List PieceText) (out : List Piece) (j : ℕ) (p : PieceText) (q : Piece) → TextLoop ps (drop j ps) out → j < length ps → p ≡ get_or ps j p → q ≡ text_piece p
+    → TextLoop ps (drop (j + 1) ps) (out ++ q ∷ [])
+text_step ps out j p q L h e is =
+    let shape = next_item p ps j h e in
+    record {
+      fits = λ all. (subst (AllByRecursion TextFits) shape (L.fits all)).1;
+      same = append_assoc out (q ∷ []) (text_pieces (drop (j + 1) ps)) ∙ ap (λ z. out ++ (z ∷ text_pieces (drop (j + 1) ps))) is ∙ ap (λ z. out ++ text_pieces z) (sym shape) ∙ L.same;
+    }
+
+pub text_end : (ps : List PieceText) (out : List Piece) (j : ℕ) → TextLoop ps (drop j ps) out → length ps ≤ j → out ≡ text_pieces ps
+text_end ps out j L h = sym (append-nil out) ∙ ap (λ z. out ++ text_pieces z) (sym (drop_of_length-le ps h)) ∙ L.same
+
+-- ---- the last start
+last_got : (p : PieceText) (ps : List PieceText) (n : ℕ) (q : PieceText) → n ≡ length ps → slice_get (p ∷ ps) n ≡ Some q → last_from p ps ≡ q.x
+last_got p [] zero q e h = some_is p q h
+  where
+    some_is : (p q : PieceText) → Some p ≡ Some q → p.x ≡ q.x
+    some_is p q h = ap (λ o. or_else p o) h
+      where
+        or_else : PieceText → Option PieceText → ℚ
+        or_else p None = p.x
+        or_else p (Some r) = r.x
+last_got p [] (suc n) q e h = absurd (omega arith)
+last_got p (r ∷ rs) zero q e h = absurd (omega arith)
+last_got p (r ∷ rs) (suc n) q e h = last_got r rs n q (omega arith) h
+
+pub last_is : (ps : List PieceText) (q : PieceText) → slice_get ps (length ps - 1) ≡ Some q → q.x ≡ last_start ps
+last_is [] q h = absurd (none_some h)
+  where
+    none_some : None ≡ Some q → ⊥
+    none_some e = subst (λ o. IsNone o) e tt
+      where
+        IsNone : Option PieceText → Type 0
+        IsNone None = Unit {0}
+        IsNone (Some r) = ⊥
+last_is (p ∷ ps) q h =
+    let n : length (p ∷ ps) - 1 ≡ length ps = omega arith in
+    sym (last_got p ps (length ps) q refl (subst (λ k. slice_get (p ∷ ps) k ≡ Some q) n h))

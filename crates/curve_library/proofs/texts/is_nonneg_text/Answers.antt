@@ -1,0 +1,18 @@
+use Rattle.std.proofs.Common.{true≢false, sym}
+use Rattle.upp_curve.specs.Functions.{zero_q}
+use Rattle.curve_library.proofs.SignTests.{not_below, nonneg_out, nonneg_test}
+use Rattle.curve_library.proofs.texts.is_nonneg_text.Goals as goal
+
+pub returns-then-is_negative : goal.returns-then-is_negative
+returns-then-is_negative c = (λ h. absurd (true≢false (sym h)), λ h. absurd (not_below zero_q c.args.p.now.x h.start (c.is_negative.ensures.0 c.if-is_negative.true)))
+
+pub returns-then-is_negative-2 : goal.returns-then-is_negative-2
+returns-then-is_negative-2 c = (λ h. absurd (true≢false (sym h)), λ h. absurd (not_below zero_q c.args.p.now.at h.value (c.is_negative-2.ensures.0 c.if-is_negative-2.true)))
+
+pub returns : goal.returns
+returns c =
+    let p = c.args.p.now in
+    let after = nonneg_test c.is_negative-3.result p.after c.is_negative-3.ensures in
+    let x = nonneg_out c.is_negative.result p.x c.is_negative.ensures c.if-is_negative.false in
+    let at = nonneg_out c.is_negative-2.result p.at c.is_negative-2.ensures c.if-is_negative-2.false in
+    (λ h. record { start = x; value = at; limit = after.0 h }, λ h. after.1 h.limit)

@@ -1,0 +1,62 @@
+use Rattle.std.proofs.Common.{◌∙◌, sym, subst}
+use Rattle.upp_curve.specs.declared.op_kind.OpKind.TheVariants.{RunSup}
+use Rattle.upp_curve.specs.Reading.{read}
+use Rattle.upp_curve.specs.Curve.{repeated}
+use Rattle.upp_curve.specs.Normalising.{HasValues}
+use Rattle.curve_frame.specs.Frames.{sizes_at}
+use Rattle.curve_window.proofs.Results.{ok_map}
+use Rattle.curve_running.specs.Scans.{IsWindow, ScanFits}
+use Rattle.curve_running.specs.Runs.{RunsUpTo}
+use Rattle.curve_running.proofs.RunFacts.{sup_facts, operand_to, run_window, run_fits, run_rise, difference_fits}
+use Rattle.curve_running.proofs.SupremumRuns.{sup_answer, sup_value}
+use Rattle.curve_running.proofs.supremum_curve.supremum_within.Goals as goal
+
+pub unrolled-requires : goal.unrolled-requires
+unrolled-requires c =
+    let f = c.args.f.now in
+    let r = c.args.frame.now in
+    operand_to f r.start r.period r.end (sizes_at RunSup f f c.args.k 0) (sup_facts f c.args.k r c.requires.frame)
+
+pub supremum_scan-requires-clause-window : goal.supremum_scan-requires-clause-window
+supremum_scan-requires-clause-window c =
+    let f = c.args.f.now in
+    let r = c.args.frame.now in
+    subst (IsWindow r.end) (sym (c.deref.ensures.value ∙ c.in_ok-pieces.ensures))
+    (run_window f r.start r.period r.end (sizes_at RunSup f f c.args.k 0) (sup_facts f c.args.k r c.requires.frame) c.requires.finite)
+
+pub supremum_scan-requires-clause-fits : goal.supremum_scan-requires-clause-fits
+supremum_scan-requires-clause-fits c =
+    let f = c.args.f.now in
+    let r = c.args.frame.now in
+    subst (ScanFits r.end) (sym (c.deref.ensures.value ∙ c.in_ok-pieces.ensures))
+    (run_fits f r.start r.period r.end (sizes_at RunSup f f c.args.k 0) (sup_facts f c.args.k r c.requires.frame))
+
+pub rise_over-rise-requires : goal.rise_over-rise-requires
+rise_over-rise-requires c =
+    let f = c.args.f.now in
+    let r = c.args.frame.now in
+    (run_rise f r.start r.period r.end (sizes_at RunSup f f c.args.k 0) (sup_facts f c.args.k r c.requires.frame)).fits
+
+pub fitting_difference-from-requires : goal.fitting_difference-from-requires
+fitting_difference-from-requires c =
+    let f = c.args.f.now in
+    let r = c.args.frame.now in
+    difference_fits f r.start r.period r.end (sizes_at RunSup f f c.args.k 0) (sup_facts f c.args.k r c.requires.frame)
+
+pub answer-requires : goal.answer-requires
+answer-requires c =
+    sup_answer c.args.f.now c.args.k c.args.frame.now c.fitting_difference-from.result c.rise_over-rise.result c.deref.result.now c.in_ok-scanned.scanned.items c.requires.frame
+    c.fitting_difference-from.ensures c.rise_over-rise.ensures (c.deref.ensures.value ∙ c.in_ok-pieces.ensures) c.in_ok-scanned.ensures
+
+pub returns : goal.returns
+returns c =
+    let f = c.args.f.now in
+    let r = c.args.frame.now in
+    let qs = c.in_ok-scanned.scanned.items in
+    let from = c.fitting_difference-from.result in
+    let rise = c.rise_over-rise.result in
+    ok_map c.answer.result (λ a. HasValues a (repeated (read qs) from r.period rise)) (RunsUpTo f)
+    (λ a v.
+    sup_value f c.args.k r from rise c.deref.result.now qs a c.requires.finite c.requires.nonneg c.requires.number c.requires.frame c.fitting_difference-from.ensures
+    c.rise_over-rise.ensures
+    (c.deref.ensures.value ∙ c.in_ok-pieces.ensures) c.in_ok-scanned.ensures v) c.answer.ensures

@@ -1,0 +1,14 @@
+use Rattle.curve_window.proofs.Results.{ok_map}
+use Rattle.upp_curve.specs.Curve.{HasSameValues}
+use Rattle.upp_curve.specs.declared.curve.Tail.TheVariants.{Affine}
+use Rattle.upp_curve.specs.WorkedRows.{dip}
+use Rattle.curve_running.proofs.Dips.{raw_by, same_by}
+use Rattle.curve_running.proofs.tests.dip_curve.Goals as goal
+
+pub normalise-requires : goal.normalise-requires
+normalise-requires c = raw_by c.args.pieces.items c.one.result c.requires c.one.ensures
+
+pub returns : goal.returns
+returns c =
+    ok_map c.normalise.result (λ r. HasSameValues r record { pieces = c.args.pieces.items; tail = Affine c.one.result }) (λ r. HasSameValues r dip)
+    (λ r h. same_by r c.args.pieces.items c.one.result c.requires c.one.ensures h) c.normalise.ensures.kept

@@ -1,0 +1,120 @@
+//! The running supremum of a curve.
+
+ghost use Rattle.std.specs.Prelude.{◌≡◌, ◌+◌, ◌≤◌, ◌^◌, IfOk, MatchOption};
+ghost use Rattle.rational.specs.Rational.{◌-ℚ◌, neg_ℚ};
+ghost use Rattle.rational.specs.Ratio.{SumFits};
+ghost use Rattle.upp_curve.specs.declared.op_kind.OpKind.TheVariants.{RunSup};
+ghost use Rattle.upp_curve.specs.Curve.{value_at};
+ghost use Rattle.upp_curve.specs.Curves.{IsCurve};
+ghost use Rattle.upp_curve.specs.Functions.{IsFinite, IsNonnegative};
+ghost use Rattle.upp_curve.specs.Gauges.{gauge_at};
+ghost use Rattle.upp_curve.specs.Outcome.{KeepsLimits};
+ghost use Rattle.curve_frame.specs.Frames.{IsFrame};
+ghost use Rattle.curve_running.specs.Runs.{RunsUpTo, IsNumberOf, IsFirstWindow};
+
+use crate::periods::supremum_periods;
+use crate::supremum::supremum_scan;
+use curve_frame::{CallWindow, Frame, answer, call_window, rise_over, within};
+use fraction128::Frac;
+use std::alloc::{AllocError, Global};
+use std::sync::ledger::Ledger;
+use steps::Steps;
+use upp_curve::{Curve, OpFault, OpKind};
+
+// A difference whose steps fit.
+fn fitting_difference(a: Frac, b: Frac) -> Frac
+    requires { SumFits a (neg_ℚ b) }
+    ensures { result ≡ a -ℚ b }
+{
+    match Frac::sub(a, b) {
+        Ok(difference) => difference,
+        Err(_) => a,
+    }
+}
+
+// The window without any period, where the call's gauge there is below 2^120.
+fn first_window(f: &Curve) -> Option<CallWindow>
+    ensures window { MatchOption result (2 ^ 120 ≤ gauge_at RunSup f.now f.now 0 0) (IsFirstWindow f.now) }
+    ensures kept { IsCurve f.now }
+{
+    let window = call_window(&OpKind::RunSup, f, f, 0, 0);
+    match within(&OpKind::RunSup, f, f, 0) {
+        Ok(_) => window,
+        Err(OpFault::TooMany) => window,
+        Err(OpFault::TooWide) => None,
+        Err(OpFault::NoMemory) => None,
+    }
+}
+
+// The least number of periods of the call; none where already the window without any period is too wide.
+fn least_number(f: &Curve) -> Option<u128>
+    requires finite { IsFinite (value_at f.now) }
+    requires nonneg { IsNonnegative (value_at f.now) }
+    ensures number { MatchOption result (2 ^ 120 ≤ gauge_at RunSup f.now f.now 0 0) (IsNumberOf f.now) }
+    ensures kept { IsCurve f.now }
+{
+    match first_window(f) {
+        None => None,
+        Some(window) => {
+            let rise = rise_over(f, window.period);
+            Some(supremum_periods(f, window.start, window.period, rise))
+        }
+    }
+}
+
+// The running supremum of a curve whose call is within both limits.
+fn supremum_within(alloc: Global, f: &Curve, k: u128, frame: &Frame) -> Result<Curve, AllocError>
+    requires finite { IsFinite (value_at f.now) }
+    requires nonneg { IsNonnegative (value_at f.now) }
+    requires number { IsNumberOf f.now k }
+    requires frame { IsFrame RunSup f.now f.now k 0 frame.now }
+    ensures { IfOk result (RunsUpTo f.now) }
+{
+    let pieces = f.unrolled(frame.end)?;
+    let scanned = supremum_scan(alloc, &pieces, frame.end)?;
+    let rise = rise_over(f, frame.period);
+    let from = fitting_difference(frame.end, frame.period);
+    answer(
+        alloc,
+        scanned,
+        from,
+        frame.period,
+        rise,
+        frame.times,
+        frame.values,
+    )
+}
+
+// The running supremum of a curve, with its least number of periods.
+fn supremum_after(alloc: Global, f: &Curve, k: u128) -> Result<Curve, OpFault>
+    requires finite { IsFinite (value_at f.now) }
+    requires nonneg { IsNonnegative (value_at f.now) }
+    requires number { IsNumberOf f.now k }
+    ensures value { IfOk result (RunsUpTo f.now) }
+    ensures limits { KeepsLimits RunSup f.now f.now result }
+{
+    match within(&OpKind::RunSup, f, f, k) {
+        Err(fault) => Err(fault),
+        Ok(frame) => match supremum_within(alloc, f, k, &frame) {
+            Ok(c) => Ok(c),
+            Err(_) => Err(OpFault::NoMemory),
+        },
+    }
+}
+
+/// The supremum of a curve over the times from 0 to each time, for a curve that is finite and nowhere below 0 (Le
+/// Boudec and Thiran, chapter 3). A limit that the curve does not take counts. One step is counted. Refused with
+/// TooWide or TooMany exactly where the call's gauge or tally is over that limit, else only for want of memory.
+pub fn run_sup<L: Ledger>(alloc: Global, f: &Curve, steps: &mut Steps<L>) -> Result<Curve, OpFault>
+    requires finite { IsFinite (value_at f.now) }
+    requires nonneg { IsNonnegative (value_at f.now) }
+    ensures count { steps.new ≡ steps.old + 1 }
+    ensures value { IfOk result (RunsUpTo f.now) }
+    ensures limits { KeepsLimits RunSup f.now f.now result }
+{
+    steps.tick();
+    match least_number(f) {
+        None => Err(OpFault::TooWide),
+        Some(k) => supremum_after(alloc, f, k),
+    }
+}
