@@ -1,6 +1,6 @@
 //! How far one curve lies above another: the vertical deviation, without unrolling either.
 #![tactic(auto)]
 
-mod vertical;
+mod verticals;
 
-pub use vertical::vertical_within;
+pub use verticals::{vertical, vertical_within};

@@ -6,7 +6,7 @@ use Rattle.curve_least.specs.declared.gaps.Gap.TheVariants.{NoTime, Never, Is}
 use Rattle.curve_least.specs.Gaps.{InWindow, IsGap}
 use Rattle.curve_least.proofs.LeastNumber.{end_fits}
 use Rattle.curve_deviation.proofs.WholeGap.{vertical_is, some_time, never_endless, whole_window}
-use Rattle.curve_deviation.proofs.vertical.vertical_within.Goals as goal
+use Rattle.curve_deviation.proofs.verticals.vertical_within.Goals as goal
 
 pub sum-end-requires : goal.sum-end-requires
 sum-end-requires c = let w = c.requires.window in end_fits w.0 c.args.from c.args.period c.args.f.now c.args.g.now w.1.first.curve w.1
