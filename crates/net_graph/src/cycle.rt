@@ -1,6 +1,6 @@
 //! A cycle among servers that all wait.
 
-ghost use Rattle.std.specs.Prelude.{◌≡◌, ℕ, ◌<◌, ◌≤◌, ◌-◌, length, Some, IfOk, MatchOption, slice_get};
+ghost use Rattle.std.specs.Prelude.{◌≡◌, ℕ, ◌<◌, ◌≤◌, ◌-◌, length, IfOk, MatchOption, slice_get};
 ghost use Rattle.net_model.specs.Walks.{IsRing};
 ghost use Rattle.net_graph.specs.Waits.{lists_of, AreBusy, IsFree, IsPlaced};
 ghost use Rattle.net_graph.specs.Loops.{FindsPlace, IsAwaited, IsFromLeast, IsLeastPlace, IsLoopBack, IsTrap};

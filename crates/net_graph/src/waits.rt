@@ -1,8 +1,8 @@
 //! For each server the servers that some flow passes right before it.
 
-ghost use Rattle.std.specs.Prelude.{◌≡◌, [], replicate, ◌<◌, ◌-◌, length, All, Contains, IsSome, Some, IfOk, OnOk, IfSome, IfNone, slice_get, slice_index_or};
-ghost use Rattle.net_model.specs.Walks.{IsNext};
-ghost use Rattle.net_graph.specs.Waits.{lists_of, list_at, AreBelow, AreBefore, AddsSteps, AllLosePlaced, AreBusy, IsFirstIdle, IsWaiting, LosesPlaced, IsFree};
+ghost use Rattle.std.specs.Prelude.{◌≡◌, [], replicate, ◌<◌, length, All, IfOk, OnOk, IfSome, IfNone};
+ghost use Rattle.net_graph.specs.Waits.{lists_of, AreBelow, AreBefore, AddsSteps, AllLosePlaced, AreBusy};
+ghost use Rattle.net_graph.specs.Waits.{IsFirstIdle, IsWaiting, LosesPlaced};
 
 use net_model::Network;
 use std::alloc::{AllocError, Global};

@@ -1,4 +1,6 @@
 pub mod Placed
 pub mod Named
 pub mod Paces
+pub mod GatePaces
+pub mod KindsStand
 pub mod PlainNets

@@ -1,19 +1,18 @@
 -- A function that never falls and rises no faster than some rate has no jump.
-use Rattle.std.proofs.Common.{◌≡◌, pos, subst, sym, ◌∙◌, arith, inl, inr, ap}
+use Rattle.std.proofs.Common.{◌≡◌, pos, subst, sym, arith, inl, inr}
 use Rattle.rational.specs.Rational.{ℚ, int, ◌+ℚ◌, ◌-ℚ◌, ◌*ℚ◌, ◌/ℚ◌, ◌≤ℚ◌, ◌<ℚ◌}
 use Rattle.rational.specs.MinMax.{max_q}
 use Rattle.rational.specs.Extended.{Ext, ◌≤ₑ◌}
 use Rattle.rational.specs.declared.Extended.TheVariants.{Fin}
-use Rattle.rational.proofs.Laws.{le_or_lt, le_of_lt, le_refl, mul_le_mul, mul_zero, mul_comm, div_mul, not_zero, mul_sub, mul_add, add_mul, one_mul}
-use Rattle.rational.proofs.MinMax.{max_q_mono, max_q_ge_left, max_q_ge_right, max_q_le, max_q_is_left}
+use Rattle.rational.proofs.Laws.{le_or_lt, le_of_lt, le_refl, mul_le_mul, mul_comm, div_mul, not_zero, mul_sub, mul_add, add_mul, one_mul}
+use Rattle.rational.proofs.MinMax.{max_q_mono, max_q_ge_left, max_q_ge_right, max_q_le}
 use Rattle.rational.proofs.Quotients.{div_pos}
 use Rattle.rational.proofs.Linear.{with3, with4, with5, with6}
 use Rattle.upp_curve.specs.Functions.{zero_q, IsFinite, IsRising}
 use Rattle.upp_curve.specs.Curve.{value_at}
 use Rattle.upp_curve.specs.Kinds.{rate_latency, bucket}
 use Rattle.upp_curve.proofs.KindValues.{service_is, bucket_is}
-use Rattle.net_model.specs.Continuous.{AreWithin, IsContinuous}
-use Rattle.net_model.specs.CurveKinds.{KindsMayStand}
+use Rattle.upp_curve.specs.Continuity.{AreNear, IsContinuous}
 
 -- f is v, which rises by at most `rate` in a unit of time
 pub record HasPace (f : ℚ → Ext) (rate : ℚ) : Type 0 where
@@ -35,7 +34,7 @@ pace_rising f rate p s t h k =
 
 -- two values whose distance is at most d are within a margin that d takes no longer than
 close : (f : ℚ → Ext) (rate : ℚ) → (p : HasPace f rate) → (s t d margin : ℚ) → zero_q ≤ℚ s → s ≤ℚ t → t ≤ℚ s +ℚ d → rate *ℚ d ≤ℚ margin
-    → zero_q ≤ℚ margin → AreWithin margin (f s) (f t)
+    → zero_q ≤ℚ margin → AreNear (f s) (f t) margin
 close f rate p s t d margin h before near fits small =
     let late : zero_q ≤ℚ t = with3 s t zero_q (λ c. omega (arith, c.le, c.lt, c.same)) in
     let low = p.rises s t h before in
@@ -45,9 +44,9 @@ close f rate p s t d margin h before near fits small =
     let up : p.value t ≤ℚ p.value s +ℚ margin =
     with5 (p.value t) (p.value s) margin (rate *ℚ d) (rate *ℚ (t -ℚ s)) (λ c. omega (arith, c.le, c.lt, c.same)) in
     let down : p.value s ≤ℚ p.value t +ℚ margin = with3 (p.value t) (p.value s) margin (λ c. omega (arith, c.le, c.lt, c.same)) in
-    let P : Ext → Type 0 = λ x. AreWithin margin x (f t) in
-    let Q : Ext → Type 0 = λ y. AreWithin margin (Fin (p.value s)) y in
-    subst P (sym (p.is s h)) (subst Q (sym (p.is t late)) (down, up))
+    let P : Ext → Type 0 = λ x. AreNear x (f t) margin in
+    let Q : Ext → Type 0 = λ y. AreNear (Fin (p.value s)) y margin in
+    subst P (sym (p.is s h)) (subst Q (sym (p.is t late)) record { first = down; second = up })
 
 pub pace_continuous : (f : ℚ → Ext) (rate : ℚ) → HasPace f rate → IsContinuous f
 pace_continuous f rate p t margin late positive =
@@ -61,18 +60,20 @@ pace_continuous f rate p t margin late positive =
     let once = one_mul d in
     let fits : rate *ℚ d ≤ℚ margin =
     with6 (rate *ℚ d) margin d (d *ℚ over) (over *ℚ d) (int (pos 1) *ℚ d) (λ c. omega (arith, c.le, c.lt, c.same)) in
-    record {
-      distance = d;
-      positive = far;
-      near = λ s h near before.
-          elim (le_or_lt s t) [
-            | inl l ↦ close f rate p s t d margin h l before fits (le_of_lt positive)
-            | inr l ↦ let w = close f rate p t s d margin late (le_of_lt l) near fits (le_of_lt positive) in (w.1, w.0)
-          ];
-    }
+    (
+      d,
+      record {
+        some = far;
+        near = λ s h near before.
+            elim (le_or_lt s t) [
+              | inl l ↦ close f rate p s t d margin h l before fits (le_of_lt positive)
+              | inr l ↦ let w = close f rate p t s d margin late (le_of_lt l) near fits (le_of_lt positive) in record { first = w.second; second = w.first }
+            ];
+      },
+    )
 
 -- ---- kinds
-service_pace : (rate latency : ℚ) → zero_q ≤ℚ rate → zero_q ≤ℚ latency → HasPace (value_at (rate_latency rate latency)) rate
+pub service_pace : (rate latency : ℚ) → zero_q ≤ℚ rate → zero_q ≤ℚ latency → HasPace (value_at (rate_latency rate latency)) rate
 service_pace rate latency h k = record {
   nonneg = h;
   value = λ t. rate *ℚ max_q zero_q (t -ℚ latency);
@@ -90,7 +91,7 @@ service_pace rate latency h k = record {
       subst P (mul_add rate (max_q zero_q (s -ℚ latency)) (t -ℚ s)) (mul_le_mul rate h grown);
 }
 
-bucket_pace : (burst rate : ℚ) → zero_q ≤ℚ rate → HasPace (value_at (bucket burst rate)) rate
+pub bucket_pace : (burst rate : ℚ) → zero_q ≤ℚ rate → HasPace (value_at (bucket burst rate)) rate
 bucket_pace burst rate h = record {
   nonneg = h;
   value = λ t. burst +ℚ rate *ℚ t;
@@ -99,29 +100,4 @@ bucket_pace burst rate h = record {
   bounded = λ s t early before.
       let parts = mul_sub rate t s in
       with4 burst (rate *ℚ s) (rate *ℚ t) (rate *ℚ (t -ℚ s)) (λ c. omega (arith, c.le, c.lt, c.same));
-}
-
-pub kinds_may_stand : KindsMayStand
-kinds_may_stand = record {
-  rate_latency = λ rate latency h k.
-      let p = service_pace rate latency h k in
-      let early : zero_q -ℚ latency ≤ℚ zero_q = with3 latency zero_q zero_q (λ c. omega (arith, c.le, c.lt, c.same)) in
-      let none = ap (λ x. rate *ℚ x) (max_q_is_left zero_q (zero_q -ℚ latency) early) ∙ mul_zero rate in
-      record {
-        finite = pace_finite (value_at (rate_latency rate latency)) rate p;
-        rising = pace_rising (value_at (rate_latency rate latency)) rate p;
-        continuous = pace_continuous (value_at (rate_latency rate latency)) rate p;
-        at_zero = (service_is rate latency h k).is zero_q (le_refl zero_q) ∙ ap Fin none;
-      };
-  bucket = λ burst rate h k.
-      let p = bucket_pace burst rate k in
-      record {
-        finite = pace_finite (value_at (bucket burst rate)) rate p;
-        rising = pace_rising (value_at (bucket burst rate)) rate p;
-        nonnegative = λ t late.
-            let P : Ext → Type 0 = λ x. Fin zero_q ≤ₑ x in
-            let risen = mul_le_mul rate k late in
-            let zero = mul_zero rate in
-            subst P (sym ((bucket_is burst rate).is t late)) (with4 burst (rate *ℚ t) (rate *ℚ zero_q) zero_q (λ c. omega (arith, c.le, c.lt, c.same)));
-      };
 }

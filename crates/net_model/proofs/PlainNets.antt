@@ -23,7 +23,7 @@ use Rattle.net_model.specs.Networks.{NetServer, NetFlow}
 use Rattle.net_model.specs.Names.{IsName, is_name_byte, DifferInName}
 use Rattle.net_model.specs.Accepted.{IsServer, IsFlow, IsHop, IsAccepted}
 use Rattle.net_model.specs.Plain.{one_q, letter, plain_server, plain_flow, plain_place, plain_servers, plain_flows, plain_net, contents, all_differ, is_plain_path, is_plain}
-use Rattle.net_model.proofs.Paces.{kinds_may_stand}
+use Rattle.net_model.proofs.KindsStand.{kinds_may_stand}
 
 -- ---- servers
 pub servers_count : (n : ℕ) → length (plain_servers n) ≡ n

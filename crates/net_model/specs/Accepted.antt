@@ -10,7 +10,7 @@ use Rattle.net_model.specs.declared.server.ServiceKind.{ServiceKind}
 use Rattle.net_model.specs.declared.server.ServiceKind.TheVariants.{Latency, Gate, Listed}
 use Rattle.net_model.specs.Networks.{Net, NetServer, NetFlow}
 use Rattle.net_model.specs.Names.{IsName, HaveOwnNames}
-use Rattle.net_model.specs.Continuous.{IsContinuous}
+use Rattle.upp_curve.specs.Continuity.{IsContinuous}
 
 -- packets and quanta have 1 to 2^24 bits
 abbrev pub IsLength : ℕ → Type 0

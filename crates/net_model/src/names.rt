@@ -1,6 +1,6 @@
 //! Servers and flows by their names.
 
-ghost use Rattle.std.specs.Prelude.{◌≡◌, ◌↔◌, ℕ, ◌≤◌, length, MatchOption, IsTrue, Some};
+ghost use Rattle.std.specs.Prelude.{◌↔◌, ◌≤◌, length, IsTrue};
 ghost use Rattle.std.specs.Option.{option_map};
 ghost use Rattle.net_model.specs.Names.{FindsServer, FindsFlow, HasName};
 ghost use Rattle.net_model.specs.Views.{flow_of, flows_of, servers_of};

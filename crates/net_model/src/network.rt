@@ -30,7 +30,7 @@ impl Model for Network {
 }
 
 impl Network {
-    ghost use Rattle.std.specs.Prelude.{◌≡◌, ℕ, IfOk, MatchOption};
+    ghost use Rattle.std.specs.Prelude.{◌≡◌, IfOk};
     ghost use Rattle.net_model.specs.Accepted.{IsAccepted};
     ghost use Rattle.net_model.specs.Names.{FindsServer, FindsFlow};
     ghost use Rattle.net_model.specs.Views.{net_of, flows_of, servers_of};

@@ -1,12 +1,13 @@
 //! Plain networks, for examples.
 
-ghost use Rattle.std.specs.Prelude.{◌≡◌, ℕ, ◌<◌, ◌≤◌, pos, List, map, replicate, length, IsTrue, IfOk};
+ghost use Rattle.std.specs.Prelude.{◌≡◌, ◌<◌, ◌≤◌, pos, length, IsTrue, IfOk};
 ghost use Rattle.std.specs.String.{string_bytes};
 ghost use Rattle.rational.specs.Rational.{int};
 ghost use Rattle.rational.specs.Ratio.{IsSmall};
 ghost use Rattle.upp_curve.specs.Kinds.{bucket};
 ghost use Rattle.net_model.specs.Views.{server_of, flow_of, servers_of, flows_of};
-ghost use Rattle.net_model.specs.Plain.{letter, plain_server, plain_flow, plain_servers, plain_flows, plain_net, is_plain, contents};
+ghost use Rattle.net_model.specs.Plain.{letter, plain_server, plain_flow, plain_servers, plain_flows};
+ghost use Rattle.net_model.specs.Plain.{plain_net, is_plain, contents};
 
 use crate::flow::Flow;
 use crate::network::Network;

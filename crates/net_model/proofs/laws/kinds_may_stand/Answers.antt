@@ -1,5 +1,5 @@
-use Rattle.net_model.proofs.Paces as paces
+use Rattle.net_model.proofs.KindsStand as kinds
 use Rattle.net_model.proofs.laws.kinds_may_stand.Goals as goal
 
 pub returns : goal.returns
-returns c = paces.kinds_may_stand
+returns c = kinds.kinds_may_stand
