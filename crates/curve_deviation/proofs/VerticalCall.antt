@@ -7,6 +7,8 @@ use Rattle.rational.specs.declared.Extended.TheVariants.{Inf}
 use Rattle.rational.proofs.MinMax.{max_q_ge_left, max_q_ge_right}
 use Rattle.rational.proofs.Laws.{le_trans}
 use Rattle.upp_curve.specs.declared.op_kind.OpKind.TheVariants.{Vertical}
+use Rattle.upp_curve.specs.declared.op_kind.OpFault.{OpFault}
+use Rattle.upp_curve.specs.declared.op_kind.OpFault.TheVariants.{NoMemory}
 use Rattle.upp_curve.specs.Curve.{SpecCurve, value_at}
 use Rattle.upp_curve.specs.Curves.{IsCurve}
 use Rattle.upp_curve.specs.Functions.{IsFinite}
@@ -21,7 +23,7 @@ use Rattle.upp_curve.specs.Outcome.{IsWithin}
 use Rattle.upp_curve.specs.Deviations.{IsVerticalDeviation}
 use Rattle.upp_curve.proofs.Stands.{sizes_stand, stands_left, stands_right}
 use Rattle.curve_frame.specs.declared.frame.Frame.{Frame}
-use Rattle.curve_frame.specs.Frames.{IsFrame, sizes_at}
+use Rattle.curve_frame.specs.Frames.{IsFrame, IsRefusedAt, sizes_at}
 use Rattle.curve_frame.proofs.CallTimes.{first_stands, second_stands}
 use Rattle.curve_frame.proofs.CurveTimes.{both_on}
 use Rattle.curve_frame.proofs.CurveRises.{common_first, common_second}
@@ -69,3 +71,14 @@ faster_at_once f g F G faster first second =
     let f_by : RepeatsBy from (common_period f g) f = record { curve = F; steady_by = max_q_ge_left (steady f) (steady g); periods = common_first f g F G } in
     let g_by : RepeatsBy from (common_period f g) g = record { curve = G; steady_by = max_q_ge_right (steady f) (steady g); periods = common_second f g F G } in
     faster_deviation f g from (common_period f g) period.above (le_trans (repeat_low f F) (max_q_ge_left (steady f) (steady g))) f_by g_by faster first second
+
+-- ---- neither early answer
+pub not_known : (f g : SpecCurve) → IsFinite (value_at f) → ¬ (rate g <ₑ rate f) → ¬ (IsKnownAtOnce Vertical f g)
+not_known f g finite slow k = elim k [
+  | inl not ↦ not finite
+  | inr faster ↦ slow faster
+]
+
+-- want of memory is no refusal
+pub not_memory : (f g : SpecCurve) (e : OpFault) → IsRefusedAt Vertical f g 0 0 e → ¬ (e ≡ NoMemory)
+not_memory f g e h same = subst (IsRefusedAt Vertical f g 0 0) same h

@@ -1,6 +1,6 @@
 //! The vertical deviation of two curves.
 
-ghost use Rattle.std.specs.Prelude.{◌≡◌, ◌↔◌, ◌+◌, IfOk, IsTrue};
+ghost use Rattle.std.specs.Prelude.{◌≡◌, ◌↔◌, ◌+◌, IfOk, IfErr, IsTrue};
 ghost use Rattle.rational.specs.Rational.{◌+ℚ◌};
 ghost use Rattle.rational.specs.Ratio.{SumFits};
 ghost use Rattle.rational.specs.Extended.{◌<ₑ◌};
@@ -68,23 +68,30 @@ fn is_number(f: &Curve) -> bool
     f.is_finite()
 }
 
+/// Whether the first curve is the faster one.
+fn is_faster(f: &Curve, g: &Curve) -> bool
+    ensures faster { IsTrue result ↔ (rate g.now <ₑ rate f.now) }
+    ensures kept { IsCurve g.now }
+{
+    let _kept = g.tail();
+    is_slower(g, f)
+}
+
 /// The vertical deviation of two curves, the second finite: the supremum of f less g over all times from 0 on; infinity where f is
-/// infinite somewhere or the faster one. It is not cut at 0. One step is counted. Refused with TooWide or TooMany exactly where the
-/// call's gauge or tally is over that limit, and never for want of memory, since none is taken.
+/// infinite somewhere or the faster one (Le Boudec and Thiran, chapter 3). It is not cut at 0. One step is counted. Refused with
+/// TooWide or TooMany exactly where the call's gauge or tally is over that limit, and never for want of memory, since none is taken.
 pub fn vertical<L: Ledger>(f: &Curve, g: &Curve, steps: &mut Steps<L>) -> Result<Ext, OpFault>
     requires { IsFinite (value_at g.now) }
     ensures count { steps.new ≡ steps.old + 1 }
     ensures value { IfOk result (IsVerticalDeviation (value_at f.now) (value_at g.now)) }
     ensures limits { KeepsLimits OpKind.Vertical f.now g.now result }
+    ensures memory { IfErr result (λ e. ¬ (e ≡ OpFault.NoMemory)) }
 {
     steps.tick();
     if !is_number(f) {
         return Ok(Extended::Inf);
     }
-    if !is_number(g) {
-        return Ok(Extended::Inf);
-    }
-    if is_slower(g, f) {
+    if is_faster(f, g) {
         return Ok(Extended::Inf);
     }
     let frame = within(&OpKind::Vertical, f, g, 0)?;
