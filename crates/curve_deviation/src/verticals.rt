@@ -30,9 +30,10 @@ fn sum(a: Frac, b: Frac) -> Frac
     Frac::add(a, b).unwrap()
 }
 
-/// The vertical deviation of two finite curves, the first no faster than the second: the supremum of their difference over all times
-/// from 0 on, read off the times below from + period alone. Both repeat from `from` on with the period, and their numbers below from +
-/// period have the sizes z of a gauge below 2^120. No memory is taken and nothing is unrolled.
+/// The vertical deviation of two finite curves, the first no faster than the second: the supremum of their difference
+/// over all times from 0 on, read off the times below from + period alone. Both repeat from `from` on with the period,
+/// and their numbers below from + period have the sizes z of a gauge below 2^120. No memory is taken and nothing is
+/// unrolled.
 pub fn vertical_within(f: &Curve, g: &Curve, from: Frac, period: Frac) -> Ext
     requires window { (z : Sizes) × AreCompared z from period f.now g.now }
     requires first { IsFinite (value_at f.now) }
@@ -77,9 +78,10 @@ fn is_faster(f: &Curve, g: &Curve) -> bool
     is_slower(g, f)
 }
 
-/// The vertical deviation of two curves, the second finite: the supremum of f less g over all times from 0 on; infinity where f is
-/// infinite somewhere or the faster one (Le Boudec and Thiran, chapter 3). It is not cut at 0. One step is counted. Refused with
-/// TooWide or TooMany exactly where the call's gauge or tally is over that limit, and never for want of memory, since none is taken.
+/// The vertical deviation of two curves, the second finite: the supremum of f less g over all times from 0 on; infinity
+/// where f is infinite somewhere or the faster one (Le Boudec and Thiran, chapter 3). It is not cut at 0. One step is
+/// counted. Refused with TooWide or TooMany exactly where the call's gauge or tally is over that limit, and never for
+/// want of memory, since none is taken.
 pub fn vertical<L: Ledger>(f: &Curve, g: &Curve, steps: &mut Steps<L>) -> Result<Ext, OpFault>
     requires { IsFinite (value_at g.now) }
     ensures count { steps.new ≡ steps.old + 1 }
