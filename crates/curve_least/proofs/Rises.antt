@@ -127,3 +127,7 @@ has_window z from d c curve A some R = record {
 
 pub from_low : (z : Sizes) (from d : ℚ) (c : SpecCurve) → IsCurve c → RepeatsIn z from d c → int (pos 0) ≤ℚ from
 from_low z from d c curve R = le_trans (rank_low c.pieces c.tail curve.normal.raw.tail) (le_trans (rank_early c) R.steady_by)
+
+-- a curve begins to repeat at 0 or later
+pub repeat_low : (c : SpecCurve) → IsCurve c → int (pos 0) ≤ℚ steady c
+repeat_low c curve = le_trans (rank_low c.pieces c.tail curve.normal.raw.tail) (rank_early c)

@@ -95,8 +95,8 @@ pub fn least_below(slow: &Curve, fast: &Curve, from: Frac, period: Frac) -> Opti
     }
 }
 
-/// Whether f is the slower one.
-fn is_slower(f: &Curve, g: &Curve) -> bool
+/// Whether f is the slower one: the long-run rate of f is less than that of g.
+pub fn is_slower(f: &Curve, g: &Curve) -> bool
     ensures { IsTrue result ↔ (rate f.now <ₑ rate g.now) }
 {
     match rate_of(f) {

@@ -9,4 +9,4 @@ mod tests;
 
 pub use gaps::{Gap, window_gap};
 pub use laws::below_ever_after;
-pub use least::{least_below, least_periods};
+pub use least::{is_slower, least_below, least_periods};

@@ -1,0 +1,4 @@
+pub mod WholeGap
+pub mod Infinite
+pub mod AtOnce
+pub mod VerticalCall

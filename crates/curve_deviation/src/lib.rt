@@ -1,0 +1,6 @@
+//! How far one curve lies above another: the vertical deviation, without unrolling either.
+#![tactic(auto)]
+
+mod verticals;
+
+pub use verticals::{vertical, vertical_within};
