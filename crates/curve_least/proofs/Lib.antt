@@ -7,3 +7,4 @@ pub mod RiseSizes
 pub mod LeastNumber
 pub mod EverAfter
 pub mod EitherOrder
+pub mod Levels

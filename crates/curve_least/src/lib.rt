@@ -4,7 +4,9 @@
 mod gaps;
 mod laws;
 mod least;
+mod sides;
 
-pub use gaps::{Gap, window_gap};
+pub use gaps::{Gap, side_gap, window_gap};
 pub use laws::below_ever_after;
-pub use least::{least_below, least_periods};
+pub use least::{least_below, least_periods, side_periods};
+pub use sides::Side;
