@@ -15,7 +15,7 @@ ghost use Rattle.curve_frame.specs.Frames.{IsFrame};
 ghost use Rattle.curve_least.specs.Compared.{AreCompared};
 
 use curve_frame::{Frame, within};
-use curve_least::{Gap, is_slower, window_gap};
+use curve_least::{Gap, Side, is_slower, window_gap};
 use fraction128::{Ext, Frac};
 use rational::Extended;
 use std::sync::ledger::Ledger;
@@ -75,7 +75,7 @@ fn is_faster(f: &Curve, g: &Curve) -> bool
     ensures kept { IsCurve g.now }
 {
     let _kept = g.tail();
-    is_slower(g, f)
+    is_slower(&Side::of(g), &Side::of(f))
 }
 
 /// The vertical deviation of two curves, the second finite: the supremum of f less g over all times from 0 on; infinity

@@ -8,3 +8,4 @@ pub mod LeastNumber
 pub mod EverAfter
 pub mod EitherOrder
 pub mod KnownGauge
+pub mod Levels

@@ -21,11 +21,12 @@ ghost use Rattle.curve_least.specs.GapSteps.{
   earlier_of,
 };
 
+use crate::sides::Side;
 use affine_segment::{Line, value};
 use fraction128::{Ext, Frac};
 use rational::Extended;
 use std::cmp::Ordering;
-use upp_curve::{Curve, Stretch, stretch_at};
+use upp_curve::{Curve, Stretch};
 
 /// By how much one function is above another over some times, where the other is finite.
 #[derive(Debug, Clone, Copy)]
@@ -127,9 +128,8 @@ fn earlier(t: Frac, next: &Option<Frac>) -> Frac
     }
 }
 
-/// By how much f is above g over [from, end), where g is finite: nothing is unrolled and no memory is taken. The window's sizes z
-/// are those of a gauge below 2^120 over both curves' numbers; `from` stands on its grid, from 0 on and before `end`.
-pub fn window_gap(f: &Curve, g: &Curve, from: Frac, end: Frac) -> Gap
+/// By how much f is above g over [from, end), where g is finite, as `window_gap` of curves.
+pub fn side_gap(f: &Side, g: &Side, from: Frac, end: Frac) -> Gap
     requires { (z : Sizes) × HasWindow z end f.now × HasWindow z end g.now × IsTimeIn z end from }
     ensures gap { IsGap (InWindow from end) (value_at f.now) (value_at g.now) result }
     ensures sizes { (z : Sizes) → HasWindow z end f.now → HasWindow z end g.now → IsTimeIn z end from → GapStands z result }
@@ -137,11 +137,21 @@ pub fn window_gap(f: &Curve, g: &Curve, from: Frac, end: Frac) -> Gap
     let mut gap = Gap::NoTime;
     let mut t = from;
     while is_less(t, end) {
-        let slow = stretch_at(f, t);
-        let fast = stretch_at(g, t);
+        let slow = f.stretch(t);
+        let fast = g.stretch(t);
         let next = earlier(earlier(end, &slow.next), &fast.next);
         gap = larger(gap, stretch_gap(&slow, &fast, t, next));
         t = next;
     }
     gap
+}
+
+/// By how much f is above g over [from, end), where g is finite: nothing is unrolled and no memory is taken. The window's sizes z
+/// are those of a gauge below 2^120 over both curves' numbers; `from` stands on its grid, from 0 on and before `end`.
+pub fn window_gap(f: &Curve, g: &Curve, from: Frac, end: Frac) -> Gap
+    requires { (z : Sizes) × HasWindow z end f.now × HasWindow z end g.now × IsTimeIn z end from }
+    ensures gap { IsGap (InWindow from end) (value_at f.now) (value_at g.now) result }
+    ensures sizes { (z : Sizes) → HasWindow z end f.now → HasWindow z end g.now → IsTimeIn z end from → GapStands z result }
+{
+    side_gap(&Side::of(f), &Side::of(g), from, end)
 }

@@ -13,8 +13,9 @@ ghost use Rattle.curve_least.specs.Gaps.{InWindow, IsLargest};
 ghost use Rattle.curve_least.specs.GapSteps.{IsGapValue};
 ghost use Rattle.curve_least.specs.Compared.{AreCompared};
 
-use crate::gaps::{Gap, difference, is_less, window_gap};
-use fraction128::{Ext, Frac};
+use crate::gaps::{Gap, difference, is_less, side_gap};
+use crate::sides::Side;
+use fraction128::Frac;
 use rational::Extended;
 use upp_curve::Curve;
 
@@ -43,29 +44,19 @@ fn quotient(a: Frac, b: Frac) -> Frac
     Frac::div(a, b).unwrap()
 }
 
-/// The long-run rate.
-fn rate_of(c: &Curve) -> Ext
-    ensures { result ≡ rate c.now }
-{
-    match c.rate() {
-        Ok(rate) => rate,
-        Err(_) => Extended::Inf,
-    }
-}
-
 /// By how much a curve rises over d.
-fn rise_of(c: &Curve, d: Frac) -> Frac
+fn rise_of(c: &Side, d: Frac) -> Frac
     requires { IsSmall (rise_over c.now d) }
     ensures { result ≡ rise_over c.now d }
 {
-    match rate_of(c) {
+    match c.rate() {
         Extended::Inf => Frac::zero(),
         Extended::Fin(rate) => product(rate, d),
     }
 }
 
 /// The least number k with gap at most k times as much as `fast` rises more than `slow` over a period.
-fn least_over(slow: &Curve, fast: &Curve, gap: Frac, from: Frac, period: Frac) -> u128
+fn least_over(slow: &Side, fast: &Side, gap: Frac, from: Frac, period: Frac) -> u128
     requires slower { rate slow.now <ₑ rate fast.now }
     requires window { (z : Sizes) × AreCompared z from period slow.now fast.now × IsGapValue z gap }
     requires gap { IsLargest (InWindow from (from +ℚ period)) (value_at slow.now) (value_at fast.now) gap }
@@ -81,14 +72,14 @@ fn least_over(slow: &Curve, fast: &Curve, gap: Frac, from: Frac, period: Frac) -
 /// The least number k of periods after which, for a period, the slower curve is nowhere above the faster one; none where there is no
 /// such number. Both repeat from `from` on with the period, and their numbers below from + period have the sizes z of a gauge below
 /// 2^120. No memory is taken and nothing is unrolled.
-pub fn least_below(slow: &Curve, fast: &Curve, from: Frac, period: Frac) -> Option<u128>
+pub fn least_below(slow: &Side, fast: &Side, from: Frac, period: Frac) -> Option<u128>
     requires slower { rate slow.now <ₑ rate fast.now }
     requires window { (z : Sizes) × AreCompared z from period slow.now fast.now }
     ensures { MatchOption result ((k : ℕ) → ¬ (IsBelowFor (value_at slow.now) (value_at fast.now) (periods_after from k period) period))
         (IsLeast (λ k. IsBelowFor (value_at slow.now) (value_at fast.now) (periods_after from k period) period)) }
 {
     let end = sum(from, period);
-    match window_gap(slow, fast, from, end) {
+    match side_gap(slow, fast, from, end) {
         Gap::NoTime => Some(0),
         Gap::Never => None,
         Gap::Is(gap) => Some(least_over(slow, fast, gap, from, period)),
@@ -96,16 +87,32 @@ pub fn least_below(slow: &Curve, fast: &Curve, from: Frac, period: Frac) -> Opti
 }
 
 /// Whether f is the slower one: the long-run rate of f is less than that of g.
-pub fn is_slower(f: &Curve, g: &Curve) -> bool
+pub fn is_slower(f: &Side, g: &Side) -> bool
     ensures { IsTrue result ↔ (rate f.now <ₑ rate g.now) }
 {
-    match rate_of(f) {
+    match f.rate() {
         Extended::Inf => false,
-        Extended::Fin(x) => match rate_of(g) {
+        Extended::Fin(x) => match g.rate() {
             Extended::Inf => true,
             Extended::Fin(y) => is_less(x, y),
         },
     }
+}
+
+/// As `least_periods` of curves, of which either may be a level.
+pub fn side_periods(f: &Side, g: &Side, from: Frac, period: Frac) -> Option<u128>
+    requires { (z : Sizes) × AreCompared z from period f.now g.now }
+    ensures { MatchOption result
+        ((k : ℕ) → ¬ (IsSlowerBelow (value_at f.now) (value_at g.now) (rate f.now) (rate g.now) (periods_after from k period) period))
+        (IsLeast (λ k. IsSlowerBelow (value_at f.now) (value_at g.now) (rate f.now) (rate g.now) (periods_after from k period) period)) }
+{
+    if is_slower(f, g) {
+        return least_below(f, g, from, period);
+    }
+    if is_slower(g, f) {
+        return least_below(g, f, from, period);
+    }
+    Some(0)
 }
 
 /// The least number k of periods after which, for a period, the slower of two curves is nowhere above the faster; none where there
@@ -119,11 +126,5 @@ pub fn least_periods(f: &Curve, g: &Curve, from: Frac, period: Frac) -> Option<u
         ((k : ℕ) → ¬ (IsSlowerBelow (value_at f.now) (value_at g.now) (rate f.now) (rate g.now) (periods_after from k period) period))
         (IsLeast (λ k. IsSlowerBelow (value_at f.now) (value_at g.now) (rate f.now) (rate g.now) (periods_after from k period) period)) }
 {
-    if is_slower(f, g) {
-        return least_below(f, g, from, period);
-    }
-    if is_slower(g, f) {
-        return least_below(g, f, from, period);
-    }
-    Some(0)
+    side_periods(&Side::of(f), &Side::of(g), from, period)
 }

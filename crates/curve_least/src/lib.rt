@@ -4,9 +4,11 @@
 mod gaps;
 mod laws;
 mod least;
+mod sides;
 #[cfg(test)]
 mod tests;
 
-pub use gaps::{Gap, window_gap};
+pub use gaps::{Gap, side_gap, window_gap};
 pub use laws::below_ever_after;
-pub use least::{is_slower, least_below, least_periods};
+pub use least::{is_slower, least_below, least_periods, side_periods};
+pub use sides::Side;

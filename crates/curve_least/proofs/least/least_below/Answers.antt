@@ -9,8 +9,8 @@ use Rattle.curve_least.proofs.least.least_below.Goals as goal
 pub sum-end-requires : goal.sum-end-requires
 sum-end-requires c = let w = c.requires.window in end_fits w.0 c.args.from c.args.period c.args.slow.now c.args.fast.now w.1.first.curve w.1
 
-pub window_gap-requires : goal.window_gap-requires
-window_gap-requires c =
+pub side_gap-requires : goal.side_gap-requires
+side_gap-requires c =
     let w = c.requires.window in
     let (V, W, T) = compared_window w.0 c.args.from c.args.period c.args.slow.now c.args.fast.now w.1.first.curve w.1.second.curve w.1 in
     let e = sym c.sum-end.ensures in

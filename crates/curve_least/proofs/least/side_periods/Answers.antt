@@ -1,6 +1,6 @@
 use Rattle.std.proofs.Common.{refl}
 use Rattle.curve_least.proofs.EitherOrder.{of_first, of_second}
-use Rattle.curve_least.proofs.least.least_periods.Goals as goal
+use Rattle.curve_least.proofs.least.side_periods.Goals as goal
 
 pub returns-then-is_slower : goal.returns-then-is_slower
 returns-then-is_slower c = of_first c.args.f.now c.args.g.now c.args.from c.args.period c.least_below.result (c.if-is_slower.ensures.0 refl) c.least_below.ensures
