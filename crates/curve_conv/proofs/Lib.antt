@@ -6,3 +6,4 @@ pub mod ElementSizes
 pub mod OperandElements
 pub mod JoinedReads
 pub mod SumSteps
+pub mod SumLower
