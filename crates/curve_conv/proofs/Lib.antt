@@ -7,3 +7,6 @@ pub mod OperandElements
 pub mod JoinedReads
 pub mod SumSteps
 pub mod SumLower
+pub mod PairWindows
+pub mod EnvelopeHalves
+pub mod WindowConvolution
