@@ -1,8 +1,7 @@
 -- The least of all pairs from that of two halves of a list.
 use Rattle.std.specs.Prelude.{◌≡◌, pos, List, [], ◌∷◌, ◌++◌, Result, Ok, Err, IfOk, Vec}
-use Rattle.std.proofs.Common.{arith, sym, ap, ◌∙◌, refl, subst, inl, inr, length, get_or, ◌≤◌, Global}
-use Rattle.rational.specs.Rational.{ℚ, ◌≤ℚ◌, ◌<ℚ◌, int}
-use Rattle.rational.specs.Extended.{Ext}
+use Rattle.std.proofs.Common.{arith, sym, ap, ◌∙◌, refl, subst, inl, length, get_or, ◌≤◌, Global}
+use Rattle.rational.specs.Rational.{ℚ, int}
 use Rattle.rational.specs.declared.Extended.TheVariants.{Inf}
 use Rattle.rational.proofs.Grid.{whole_int}
 use Rattle.rational.proofs.Laws.{le_refl}
@@ -14,7 +13,6 @@ use Rattle.curve_window.specs.Lower.{LowerFits, IsLowerOf}
 use Rattle.curve_conv.specs.PieceElements.{Among}
 use Rattle.curve_conv.specs.Envelopes.{IsEnvelope}
 use Rattle.curve_conv.specs.JoinedWindows.{nothing_at}
-use Rattle.curve_conv.specs.SumWindows.{SumWindow}
 use Rattle.curve_conv.specs.EnvelopeWindows.{EnvelopeRoom, IsEnvelopeWindow}
 use Rattle.curve_conv.proofs.Cover.{read_one}
 use Rattle.curve_conv.proofs.Members.{among_left, among_right}

@@ -1,8 +1,7 @@
 -- What two elements of operands make, as pieces that start before an end.
-use Rattle.std.specs.Prelude.{◌≡◌, ℕ, ◌*◌, pos, Bool, true, false, cond, List, [], ◌∷◌, ◌++◌, Option, Some, None}
-use Prim.Native.Nat.{◌∣◌}
+use Rattle.std.specs.Prelude.{◌*◌, pos, Bool, true, false, cond, List, [], ◌∷◌, ◌++◌, Option, Some, None}
 use native.Mathlib.Nat.{mul-dvd-mul_right}
-use Rattle.std.proofs.Common.{arith, sym, ap, ◌∙◌, refl, subst, inl, inr}
+use Rattle.std.proofs.Common.{arith, sym, ◌∙◌, refl, subst, inl}
 use Rattle.rational.specs.Rational.{ℚ, ◌+ℚ◌, ◌≤ℚ◌, ◌<ℚ◌, int, le_q}
 use Rattle.rational.specs.Extended.{Ext}
 use Rattle.rational.specs.declared.Extended.TheVariants.{Fin, Inf}
@@ -16,7 +15,6 @@ use Rattle.affine_segment.specs.declared.element.Element.TheVariants.{Point, Ope
 use Rattle.affine_segment.specs.declared.element.Joined.{Joined}
 use Rattle.affine_segment.specs.Elements.{start_of, IsConvolved}
 use Rattle.affine_segment.specs.MadeParts.{AreParts}
-use Rattle.upp_curve.specs.Reading.{read}
 use Rattle.upp_curve.specs.Normal.{Each}
 use Rattle.upp_curve.specs.Limits.{Sizes}
 use Rattle.upp_curve.specs.Unrolled.{upto}
@@ -24,9 +22,9 @@ use Rattle.upp_curve.proofs.Below.{plain_upto}
 use Rattle.upp_curve.proofs.NormaliseCuts.{zero_upto}
 use Rattle.upp_curve.proofs.NormaliseLists.{each_upto, upto_before}
 use Rattle.upp_curve.proofs.UnrolledPieces.{each_with}
-use Rattle.curve_conv.specs.ElementRoom.{OperandElement, SumTime, SumEnd, SumValue, SumLine, SumElement, SumPart, SumJoined, HaveRoom}
+use Rattle.curve_conv.specs.ElementRoom.{OperandElement, SumTime, SumEnd, SumValue, SumElement, SumPart, SumJoined, HaveRoom}
 use Rattle.curve_conv.specs.JoinedWindows.{nothing_at, after_end, part_pieces, first_pieces, turn_pieces, joined_list, lead_of, window_of, IsWindowOf}
-use Rattle.curve_conv.specs.SumWindows.{SumValueOn, SumValueAt, SumLineAt, SumPiece, SumWindow}
+use Rattle.curve_conv.specs.SumWindows.{SumValueOn, SumValueAt, SumLineAt, SumPiece}
 use Rattle.curve_conv.specs.Envelopes.{IsEnvelope}
 use Rattle.curve_conv.specs.EnvelopeWindows.{EnvelopeRoom, IsEnvelopeWindow}
 use Rattle.curve_conv.proofs.ElementSizes.{parts_stand}

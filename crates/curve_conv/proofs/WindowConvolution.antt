@@ -1,7 +1,7 @@
 -- The least of all pairs of elements of two operands' windows is their convolution.
-use Rattle.std.specs.Prelude.{◌≡◌, pos, List, [], ◌∷◌, Result, Ok, Err, IfOk, Vec}
+use Rattle.std.specs.Prelude.{◌≡◌, List, [], ◌∷◌, Result, Ok, Err, IfOk, Vec}
 use Rattle.std.proofs.Common.{sym, subst, Global}
-use Rattle.rational.specs.Rational.{ℚ, int}
+use Rattle.rational.specs.Rational.{ℚ}
 use Rattle.rational.specs.declared.Extended.TheVariants.{Inf}
 use Rattle.affine_segment.specs.declared.line.Piece.{Piece}
 use Rattle.affine_segment.specs.declared.element.Element.{Element}

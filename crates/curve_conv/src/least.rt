@@ -52,12 +52,7 @@ fn early(pieces: Vec<Piece>, end: Frac) -> Vec<Piece>
 }
 
 // What two elements make, as pieces that start before `end`.
-fn pair_window(
-    alloc: Global,
-    a: &Element,
-    b: &Element,
-    end: Frac,
-) -> Result<Vec<Piece>, AllocError>
+fn pair_window(alloc: Global, a: &Element, b: &Element, end: Frac) -> Result<Vec<Piece>, AllocError>
     requires { EnvelopeRoom end (a.now ∷ []) (b.now ∷ []) }
     ensures { IfOk result (λ v. IsEnvelopeWindow end (a.now ∷ []) (b.now ∷ []) v.items) }
 {

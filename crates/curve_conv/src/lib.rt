@@ -3,8 +3,8 @@
 
 mod convolved;
 mod cutting;
-mod least;
 pub mod laws;
+mod least;
 mod pair;
 #[cfg(test)]
 mod tests;

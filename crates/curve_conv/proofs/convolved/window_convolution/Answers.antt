@@ -1,4 +1,4 @@
-use Rattle.std.proofs.Common.{sym, ◌∙◌}
+use Rattle.std.proofs.Common.{◌∙◌}
 use Rattle.curve_conv.proofs.WindowConvolution.{elements_room, ok_convolves}
 use Rattle.curve_conv.proofs.convolved.window_convolution.Goals as goal
 

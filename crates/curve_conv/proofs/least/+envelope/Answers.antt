@@ -1,9 +1,8 @@
 use Rattle.std.proofs.Common.{arith, ℕ, ◌++◌, take, drop, ap₂, sym, ◌∙◌, subst, List, ◌≡◌}
 use Rattle.std.proofs.lemmas.List.{take-append-drop}
 use Rattle.affine_segment.specs.declared.element.Element.{Element}
-use Rattle.curve_window.specs.Lower.{IsLowerOf}
 use Rattle.curve_conv.specs.EnvelopeWindows.{IsEnvelopeWindow}
-use Rattle.curve_conv.proofs.EnvelopeHalves.{none_left, none_right, empty_is, single_is, left_front, left_back, right_front, right_back, left_ready, right_ready, left_halves, right_halves, ok_lower, ok_nothing}
+use Rattle.curve_conv.proofs.EnvelopeHalves.{none_left, none_right, empty_is, left_front, left_back, right_front, right_back, left_ready, right_ready, left_halves, right_halves, ok_lower, ok_nothing}
 use Rattle.curve_conv.proofs.least.+envelope.Goals as goal
 
 -- the two parts make the whole
