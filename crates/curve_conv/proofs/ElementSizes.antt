@@ -32,14 +32,14 @@ use Rattle.curve_conv.specs.ElementRoom.{WindowTime, WindowEnd, OperandPoint, Op
 narrow : (z : Sizes) (end : ℚ) → AreLimited z end → IsNarrow z (2 ^ 122)
 narrow z end A = narrow_gauge z end A.sizes (let g = A.gauge in omega (arith, g))
 
-many_more : (z : Sizes) (k j : ℕ) → times_largest k z +ℚ times_largest j z ≡ times_largest (k + j) z
+pub many_more : (z : Sizes) (k j : ℕ) → times_largest k z +ℚ times_largest j z ≡ times_largest (k + j) z
 many_more z k j = sym (add_mul (int (pos k)) (int (pos j)) (int (pos z.largest))) ∙ ap (λ x. x *ℚ int (pos z.largest)) (int_add (pos k) (pos j))
 
 -- sums on the grid of sums
 pub sum_within : (z : Sizes) (k j : ℕ) (p q : ℚ) → Within (times_largest k z) p → Within (times_largest j z) q → Within (times_largest (k + j) z) (p +ℚ q)
 sum_within z k j p q h g = subst (λ m. Within m (p +ℚ q)) (many_more z k j) (within_add (times_largest k z) (times_largest j z) p q h g)
 
-gap_within : (z : Sizes) (k j : ℕ) (p q : ℚ) → Within (times_largest k z) p → Within (times_largest j z) q → Within (times_largest (k + j) z) (p -ℚ q)
+pub gap_within : (z : Sizes) (k j : ℕ) (p q : ℚ) → Within (times_largest k z) p → Within (times_largest j z) q → Within (times_largest (k + j) z) (p -ℚ q)
 gap_within z k j p q h g = subst (λ m. Within m (p -ℚ q)) (many_more z k j) (within_sub (times_largest k z) (times_largest j z) p q h g)
 
 one_largest : (z : Sizes) → int (pos z.largest) ≡ times_largest 1 z

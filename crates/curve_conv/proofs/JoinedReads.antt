@@ -23,7 +23,7 @@ use Rattle.curve_conv.specs.JoinedWindows.{nothing_at, after_end, part_pieces, j
 use Rattle.curve_conv.proofs.Cover.{value_here, read_one, read_stop, read_go}
 
 -- ---- pieces that end
-nothing_read : (x t : ℚ) → piece_value (nothing_at x) t ≡ Inf
+pub nothing_read : (x t : ℚ) → piece_value (nothing_at x) t ≡ Inf
 nothing_read x t = elim (le_or_lt t x) [ inl h ↦ value_here (nothing_at x) t h | inr h ↦ value_past (nothing_at x) t h ]
 
 -- before its end a piece is read, and infinity from there on

@@ -6,3 +6,7 @@ pub mod ElementSizes
 pub mod OperandElements
 pub mod JoinedReads
 pub mod SumSteps
+pub mod SumLower
+pub mod PairWindows
+pub mod EnvelopeHalves
+pub mod WindowConvolution

@@ -25,16 +25,16 @@ use Rattle.curve_conv.specs.SumWindows.{SumStart, SumValueAt, SumLineAt, SumPiec
 use Rattle.curve_conv.proofs.ElementSizes.{sum_within}
 
 -- ---- times and lines have room
-time_room : (z : Sizes) (end x : ℚ) → AreLimited z end → SumStart z end x → TimeHasRoom (answer_room z end) x
+pub time_room : (z : Sizes) (end x : ℚ) → AreLimited z end → SumStart z end x → TimeHasRoom (answer_room z end) x
 time_room z end x A s = elim s.place [ inl w ↦ room_at_start z end x A w s.nonneg | inr k ↦ crossing_room z end x A k s.nonneg ]
 
-half : (v y : ℚ) → int (pos 0) ≤ℚ v → Within v (int (pos 2) *ℚ y) → Within v y
+pub half : (v y : ℚ) → int (pos 0) ≤ℚ v → Within v (int (pos 2) *ℚ y) → Within v y
 half v y h w =
     let l = w.low in
     let u = w.high in
     record { low = with2 v y (λ c. omega (arith, c.le, c.lt, c.same)); high = with2 v y (λ c. omega (arith, c.le, c.lt, c.same)) }
 
-sum_answer : (z : Sizes) (l : Line) → SumLine z l → AnswerLine z 5 l
+pub sum_answer : (z : Sizes) (l : Line) → SumLine z l → AnswerLine z 5 l
 sum_answer z l L = record {
   icept = L.icept;
   within = L.within;
@@ -42,31 +42,31 @@ sum_answer z l L = record {
   steep = half (int (pos z.steepness)) l.slope (nat_nonneg z.steepness) L.slope.within;
 }
 
-line_room : (z : Sizes) (end : ℚ) (l : Option Line) → AreLimited z end → SumLineAt z l → LineHasRoom (answer_room z end) 1 l
+pub line_room : (z : Sizes) (end : ℚ) (l : Option Line) → AreLimited z end → SumLineAt z l → LineHasRoom (answer_room z end) 1 l
 line_room z end None A L = tt
 line_room z end (Some l) A L = line_in_room z end 5 l A (omega arith) (sum_answer z l L)
 
-line_fits_at : (z : Sizes) (end x : ℚ) (l : Option Line) → AreLimited z end → SumLineAt z l → SumStart z end x → LineFitsAt x l
+pub line_fits_at : (z : Sizes) (end x : ℚ) (l : Option Line) → AreLimited z end → SumLineAt z l → SumStart z end x → LineFitsAt x l
 line_fits_at z end x l A L s = line_fits_in z end x l A (line_room z end l A L) (time_room z end x A s) (le_of_lt s.before)
 
 -- ---- readings
-line_value_on : (z : Sizes) (end x : ℚ) (l : Option Line) → AreLimited z end → SumLineAt z l → SumStart z end x → SumValueAt z x (line_value l x)
+pub line_value_on : (z : Sizes) (end x : ℚ) (l : Option Line) → AreLimited z end → SumLineAt z l → SumStart z end x → SumValueAt z x (line_value l x)
 line_value_on z end x None A L s = tt
 line_value_on z end x (Some l) A L s = record {
   whole = λ grid base on. (line_value_in z end 5 grid l x A (omega arith) (sum_answer z l L) base on s.nonneg (le_of_lt s.before)).whole;
   within = sum_within z 5 1 l.icept (l.slope *ℚ x) L.within (steep_run z end l.slope x A (sum_answer z l L).steep s.nonneg (le_of_lt s.before));
 }
 
-start_in : (z : Sizes) (end x : ℚ) (ps : List Piece) → Each (SumPiece z end) ps → HasStart x ps → SumStart z end x
+pub start_in : (z : Sizes) (end x : ℚ) (ps : List Piece) → Each (SumPiece z end) ps → HasStart x ps → SumStart z end x
 start_in z end x [] E h = absurd h
 start_in z end x (p ∷ ps) E (inl e) = subst (SumStart z end) e E.0.start
 start_in z end x (p ∷ ps) E (inr h) = start_in z end x ps E.1 h
 
-sum_line_in : (z : Sizes) (end x : ℚ) (ps : List Piece) → SumWindow z end ps → SumLineAt z (line_in ps x)
+pub sum_line_in : (z : Sizes) (end x : ℚ) (ps : List Piece) → SumWindow z end ps → SumLineAt z (line_in ps x)
 sum_line_in z end x [] P = tt
 sum_line_in z end x (p ∷ ps) P = each_in (λ q. SumLineAt z q.line) p ps x P.each.0.line (each_map (SumPiece z end) (λ q. SumLineAt z q.line) (λ q h. h.line) ps P.each.1)
 
-sum_read : (z : Sizes) (end x : ℚ) (ps : List Piece) → AreLimited z end → SumWindow z end ps → SumStart z end x → SumValueAt z x (read ps x)
+pub sum_read : (z : Sizes) (end x : ℚ) (ps : List Piece) → AreLimited z end → SumWindow z end ps → SumStart z end x → SumValueAt z x (read ps x)
 unfolding read
 sum_read z end x [] A P T = tt
 sum_read z end x (p ∷ ps) A P T =

@@ -6,3 +6,5 @@ pub mod RoomLaws
 pub mod JoinedWindows
 pub mod SumWindows
 pub mod WindowLaws
+pub mod EnvelopeWindows
+pub mod ConvolutionWindows

@@ -2,7 +2,7 @@
 
 ghost use Rattle.curve_conv.specs.ConvolutionLaws.{PiecesAreCovered, EnvelopeRules};
 ghost use Rattle.curve_conv.specs.ConvolutionLaws.{PairsConvolveWindows, PairsConvolveCurves};
-ghost use Rattle.curve_conv.specs.WindowLaws.{SumCutsFit};
+ghost use Rattle.curve_conv.specs.WindowLaws.{SumCutsFit, SumLowerFits, SumLowerIsOne};
 ghost use Rattle.curve_conv.specs.RoomLaws.{ElementsStand, JoinedStand};
 
 /// The elements of pieces: each reads as the pieces at its times, and a time with a finite value is a time of exactly
@@ -30,7 +30,9 @@ pub fn elements_have_room()
     ensures joined { JoinedStand }
 {}
 
-/// No step that cuts two windows of what elements make is too wide.
-pub fn sum_windows_are_cut()
-    ensures { SumCutsFit }
+/// Of two windows of what elements make no step of the cuts or of the lower is too wide, and the lower is one again.
+pub fn sum_windows_have_a_lower()
+    ensures cuts { SumCutsFit }
+    ensures steps { SumLowerFits }
+    ensures lower { SumLowerIsOne }
 {}
