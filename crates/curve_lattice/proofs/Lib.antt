@@ -2,3 +2,4 @@ pub mod TailMoves
 pub mod LatticeCalls
 pub mod LatticeLimits
 pub mod LatticeAnswers
+pub mod LatticeLevels

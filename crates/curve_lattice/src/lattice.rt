@@ -47,7 +47,7 @@ fn kind_of(of: Lattice) -> OpKind
 }
 
 /// a - b.
-fn difference(a: Frac, b: Frac) -> Frac
+pub(crate) fn difference(a: Frac, b: Frac) -> Frac
     requires { SumFits a (neg_ℚ b) }
     ensures { result ≡ a -ℚ b }
 {
@@ -55,7 +55,7 @@ fn difference(a: Frac, b: Frac) -> Frac
 }
 
 /// The long-run rate.
-fn rate_of(c: &Curve) -> Ext
+pub(crate) fn rate_of(c: &Curve) -> Ext
     ensures { result ≡ rate c.now }
 {
     match c.rate() {
@@ -64,7 +64,7 @@ fn rate_of(c: &Curve) -> Ext
     }
 }
 
-fn is_less(a: Frac, b: Frac) -> bool
+pub(crate) fn is_less(a: Frac, b: Frac) -> bool
     ensures { IsTrue result ↔ (a <ℚ b) }
 {
     match a.cmp(&b) {
