@@ -8,7 +8,7 @@ mod sums;
 #[cfg(test)]
 mod tests;
 
-pub use curve_lattice::{max, min, pos_diff};
+pub use curve_lattice::{max, min, pos_diff, pos_minus};
 pub use curve_running::{run_inf, run_sup};
 pub use scaling::scale;
 pub use shifts::shift;

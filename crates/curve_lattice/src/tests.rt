@@ -2,7 +2,7 @@
 
 ghost use Rattle.std.specs.Prelude.{◌≡◌, ◌<◌};
 
-use crate::{max, min, pos_diff};
+use crate::{max, min, pos_diff, pos_minus};
 use affine_segment::{Line, Piece};
 use fraction128::Frac;
 use rational::Extended;
@@ -119,6 +119,41 @@ fn buckets(rt: HostRuntime) -> Result<(), Fail> {
         assert!(rt; a == Some(whole(low)), "the minimum at {t}");
         assert!(rt; b == Some(whole(high)), "the maximum at {t}");
         assert!(rt; c == Some(whole(over)), "the difference at {t}");
+    }
+    Ok(())
+}
+
+// What f has above l, for a finite f.
+fn above_level<L: Ledger>(
+    alloc: Global,
+    f: &Curve,
+    l: Frac,
+    steps: &mut Steps<L>,
+) -> Result<Curve, OpFault> {
+    if f.is_finite() {
+        pos_minus(alloc, f, l, steps)
+    } else {
+        Err(OpFault::TooMany)
+    }
+}
+
+// What 3 + 2 t has above 7, at t.
+fn of_level<L: Ledger>(alloc: Global, blank: Blank, t: Frac) -> Result<Option<Frac>, OpFault>
+    requires name { blank.name ≡ L.name }
+    requires parts { blank.parts ≡ L.parts }
+    requires one { 0 < blank.parts }
+{
+    let mut steps = Steps::<L>::new(blank);
+    let f = straight(alloc, whole(3), whole(2))?;
+    let above = above_level(alloc, &f, whole(7), &mut steps)?;
+    Ok(value(&above, t))
+}
+
+#[test]
+fn a_level_is_taken_off(rt: HostRuntime) -> Result<(), Fail> {
+    for (t, over) in [(0, 0), (2, 0), (3, 2), (9, 14)] {
+        let found = of_level::<Brand>(rt.alloc(), Blank::new(1), whole(t))?;
+        assert!(rt; found == Some(whole(over)), "at {t}");
     }
     Ok(())
 }
