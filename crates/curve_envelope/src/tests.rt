@@ -2,7 +2,7 @@
 
 ghost use Rattle.std.specs.Prelude.{◌≡◌, ◌<◌};
 
-use crate::{scale, shift, sum};
+use crate::{max, min, scale, shift, sum};
 use affine_segment::{Line, Piece};
 use fraction128::Frac;
 use rational::Extended;
@@ -79,6 +79,98 @@ fn sums_multiples_and_shifts_keep_a_spike(rt: HostRuntime) -> Result<(), Fail> {
         assert!(rt; a == Some(whole(total)), "the sum at {t}");
         assert!(rt; b == Some(whole(triple)), "the multiple at {t}");
         assert!(rt; c == Some(whole(later)), "the shift at {t}");
+    }
+    Ok(())
+}
+
+// One step once a period, after a value of its own at the start.
+fn steps_of(alloc: Global, at: i128, period: Frac) -> Result<Curve, OpFault> {
+    let tail = Tail::Periodic {
+        rank: Frac::zero(),
+        period,
+        rise: Frac::one(),
+    };
+    let Ok(pieces) = Vec::from_slice(alloc, &[point(0, at, 1, 0)]) else {
+        return Err(OpFault::NoMemory);
+    };
+    let raw = RawCurve { pieces, tail };
+    if raw.is_raw() {
+        normalise(raw)
+    } else {
+        Err(OpFault::TooWide)
+    }
+}
+
+// The sum, the lesser and the greater of 1 + floor (t / 2) and 1 + floor (t / 3), which is 4 more at whole multiples of 3.
+fn of_steps<L: Ledger>(alloc: Global, blank: Blank, t: Frac) -> Result<[Option<Frac>; 3], OpFault>
+    requires name { blank.name ≡ L.name }
+    requires parts { blank.parts ≡ L.parts }
+    requires one { 0 < blank.parts }
+{
+    let mut steps = Steps::<L>::new(blank);
+    let f = steps_of(alloc, 1, whole(2))?;
+    let g = steps_of(alloc, 5, whole(3))?;
+    let total = sum(alloc, &f, &g, &mut steps)?;
+    let lower = min(alloc, &f, &g, &mut steps)?;
+    let upper = max(alloc, &f, &g, &mut steps)?;
+    Ok([value(&total, t), value(&lower, t), value(&upper, t)])
+}
+
+#[test]
+fn periods_of_two_and_three(rt: HostRuntime) -> Result<(), Fail> {
+    for (t, total, low, high) in [
+        (0, 6, 1, 5),
+        (6, 11, 4, 7),
+        (7, 7, 3, 4),
+        (30, 31, 15, 16),
+        (31, 27, 11, 16),
+    ] {
+        let [a, b, c] = of_steps::<Brand>(rt.alloc(), Blank::new(1), whole(t))?;
+        assert!(rt; a == Some(whole(total)), "the sum at {t}");
+        assert!(rt; b == Some(whole(low)), "the minimum at {t}");
+        assert!(rt; c == Some(whole(high)), "the maximum at {t}");
+    }
+    Ok(())
+}
+
+fn thousandths(n: i128) -> Frac {
+    match Frac::new(n, 1000) {
+        Ok(f) => f,
+        Err(_) => Frac::zero(),
+    }
+}
+
+// Whether the sum of steps of two periods is refused for too many pieces.
+fn is_too_many<L: Ledger>(
+    alloc: Global,
+    blank: Blank,
+    first: Frac,
+    second: Frac,
+) -> Result<bool, OpFault>
+    requires name { blank.name ≡ L.name }
+    requires parts { blank.parts ≡ L.parts }
+    requires one { 0 < blank.parts }
+{
+    let mut steps = Steps::<L>::new(blank);
+    let f = steps_of(alloc, 1, first)?;
+    let g = steps_of(alloc, 1, second)?;
+    match sum(alloc, &f, &g, &mut steps) {
+        Err(OpFault::TooMany) => Ok(true),
+        _ => Ok(false),
+    }
+}
+
+// The common period of 1000 and 1000001/1000 is 1000001000.
+#[test]
+fn periods_with_nothing_in_common_are_too_many(rt: HostRuntime) -> Result<(), Fail> {
+    for (second, refused) in [(1000001, true), (1000500, false)] {
+        let found = is_too_many::<Brand>(
+            rt.alloc(),
+            Blank::new(1),
+            whole(1000),
+            thousandths(second),
+        )?;
+        assert!(rt; found == refused, "at {second}");
     }
     Ok(())
 }
