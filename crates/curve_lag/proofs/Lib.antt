@@ -1,0 +1,3 @@
+pub mod CellLag
+pub mod CellSizes
+pub mod EarlyParts
