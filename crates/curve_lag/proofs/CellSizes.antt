@@ -1,13 +1,12 @@
 -- The steps to the lag of a cell fit.
-use Rattle.std.specs.Prelude.{◌≡◌, ◌≢◌, ◌*◌, ◌<◌, ◌^◌, pos, Some, ◌↔◌, IsTrue}
-use Prim.Native.Nat.{◌∣◌}
+use Rattle.std.specs.Prelude.{◌≡◌, ◌*◌, pos, Some, ◌↔◌, IsTrue}
 use native.Mathlib.Nat.{dvd-mul_left}
 use Rattle.std.proofs.Common.{arith, sym, ap, ap₂, ◌∙◌, subst, true≢false, false}
-use Rattle.rational.specs.Rational.{ℚ, ◌+ℚ◌, ◌-ℚ◌, ◌*ℚ◌, ◌/ℚ◌, ◌≤ℚ◌, ◌<ℚ◌, int, neg_ℚ}
+use Rattle.rational.specs.Rational.{ℚ, ◌-ℚ◌, ◌*ℚ◌, ◌/ℚ◌, ◌≤ℚ◌, ◌<ℚ◌, int, neg_ℚ}
 use Rattle.rational.specs.Ratio.{IsSmall, SumFits}
-use Rattle.rational.specs.Grid.{Whole, Within}
+use Rattle.rational.specs.Grid.{Within}
 use Rattle.rational.proofs.Sizes.{largest_part, quotient_on_grid}
-use Rattle.rational.proofs.Grid.{whole_weaken, whole_sub, within_weaken}
+use Rattle.rational.proofs.Grid.{whole_weaken}
 use Rattle.rational.proofs.Integers.{nat_le, nat_nonneg, int_mul}
 use Rattle.rational.proofs.Linear.{with2}
 use Rattle.rational.proofs.Laws.{div_mul, not_zero, le_of_not_lt}
@@ -20,8 +19,7 @@ use Rattle.upp_curve.specs.Operand.{AreLimited, OperandLine}
 use Rattle.upp_curve.proofs.AnswerRoom.{OperandValue, operand_line_fits, operand_line_value, values_fit, value_difference_stands, tight}
 use Rattle.upp_curve.proofs.NarrowSizes.{grid_pos}
 use Rattle.upp_curve.proofs.StretchSizes.{times_fit}
-use Rattle.curve_lag.specs.declared.cells.Cell.{Cell}
-use Rattle.curve_lag.specs.Cells.{CellSizes, IsTimeTo}
+use Rattle.curve_lag.specs.Cells.{IsTimeTo}
 
 -- ---- values and their differences
 pub value_fits : (z : Sizes) (last t : ℚ) (l : Line) → AreLimited z last → OperandLine z l → IsTimeTo z last t → LineFits t l

@@ -1,7 +1,7 @@
 -- A curve up to the end of a window, as its kept pieces or as its stretches say: the values, and their sizes.
 use Rattle.std.specs.Prelude.{◌≡◌, ℕ, cond, pos, List, [], ◌∷◌, Option, Some, None}
 use Rattle.std.specs.List.{AllByRecursion}
-use Rattle.std.proofs.Common.{arith, sym, ap, ◌∙◌, refl, subst, inl, inr}
+use Rattle.std.proofs.Common.{sym, ap, ◌∙◌, refl, subst, inl, inr}
 use Rattle.rational.specs.Rational.{ℚ, ◌+ℚ◌, ◌≤ℚ◌, ◌<ℚ◌, int}
 use Rattle.rational.specs.MinMax.{min_q}
 use Rattle.rational.specs.Grid.{Whole}
@@ -9,7 +9,6 @@ use Rattle.rational.specs.Extended.{Ext}
 use Rattle.rational.proofs.Laws.{le_refl, le_trans, le_of_lt, le_or_lt, lt_le_trans, le_lt_trans}
 use Rattle.rational.proofs.MinMax.{min_q_left, min_q_right, min_q_le_left, min_q_le_right, below_min_in, le_q_not}
 use Rattle.rational.proofs.Over.{le_q_out}
-use Rattle.affine_segment.specs.declared.line.Line.{Line}
 use Rattle.affine_segment.specs.declared.line.Piece.{Piece}
 use Rattle.affine_segment.specs.Values.{line_value}
 use Rattle.upp_curve.specs.declared.curve.Tail.{Tail}
@@ -24,11 +23,10 @@ use Rattle.upp_curve.specs.Fitting.{ReadFits}
 use Rattle.upp_curve.specs.Readable.{LineFitsAt, TailReadable}
 use Rattle.rational.specs.Ratio.{SumFits}
 use Rattle.upp_curve.specs.Limits.{Sizes}
-use Rattle.upp_curve.specs.Spans.{Span, spans, piece_read}
+use Rattle.upp_curve.specs.Spans.{spans, piece_read}
 use Rattle.upp_curve.specs.Sized.{SpanStands}
 use Rattle.upp_curve.specs.Operand.{AreLimited, OperandLineAt}
 use Rattle.upp_curve.specs.Ahead.{IsBeforeNext, GoesOn, AtNext, TimesStand, HasWindow, IsOverBy, IsTimeIn, GridValue, next_in, line_in}
-use Rattle.upp_curve.proofs.PieceIn.{read_found}
 use Rattle.upp_curve.proofs.PieceLists.{spans_some}
 use Rattle.upp_curve.proofs.Repeats.{repeated_first}
 use Rattle.upp_curve.proofs.RisingCurves.{infinite_is_not_finite}
@@ -200,3 +198,37 @@ late_stands z end t c s p S over time times sizes at line until =
 -- ---- the first period's end is readable
 pub end_fits : (c : SpecCurve) (tail : Tail) (rank period rise : ℚ) → IsCurve c → tail ≡ c.tail → tail ≡ Periodic rank period rise → SumFits rank period
 end_fits c tail rank period rise curve e f = (subst (TailReadable c.pieces) (sym e ∙ f) curve.readable).end
+
+pub early_tail : (c : SpecCurve) (tail : Tail) (rank period rise end first : ℚ) → tail ≡ c.tail → tail ≡ Periodic rank period rise → first ≡ rank +ℚ period → end ≤ℚ first → IsEarlyBy end c.tail
+early_tail c tail rank period rise end first e f g h =
+    let found : IsEarlyBy end (Periodic rank period rise) = subst (λ x. end ≤ℚ x) g h in
+    subst (IsEarlyBy end) (sym f ∙ e) found
+
+pub over_tail : (c : SpecCurve) (tail : Tail) (rank period rise end first : ℚ) → tail ≡ c.tail → tail ≡ Periodic rank period rise → first ≡ rank +ℚ period → first <ℚ end → IsOverBy end c.tail
+over_tail c tail rank period rise end first e f g h =
+    let found : IsOverBy end (Periodic rank period rise) = le_of_lt (subst (λ x. x <ℚ end) g h) in
+    subst (IsOverBy end) (sym f ∙ e) found
+
+pub other_tail : (c : SpecCurve) (tail : Tail) (end : ℚ) → tail ≡ c.tail → ((rank period rise : ℚ) → tail ≡ Periodic rank period rise → ⊥) → IsEarlyBy end c.tail
+other_tail c tail end e none = subst (IsEarlyBy end) e (by_tail tail none)
+  where
+    by_tail : (k : Tail) → ((rank period rise : ℚ) → k ≡ Periodic rank period rise → ⊥) → IsEarlyBy end k
+    by_tail (Periodic rank period rise) h = absurd (h rank period rise refl)
+    by_tail (Affine rank) h = tt
+    by_tail (Infinite rank) h = tt
+
+-- ---- the piece as it is found
+pub value_by : (p : Piece) (t : ℚ) → t ≤ℚ p.x → p.at ≡ piece_value p t
+unfolding piece_value
+value_by p t h = ap (λ b. cond b p.at (line_value p.line t)) (sym (le_q_out t p.x h))
+
+pub fits_found : (ps : List Piece) (t : ℚ) (found : Piece) → StartsAtZero ps → ReadFits ps t → ((p : Piece) (qs : List Piece) → ps ≡ p ∷ qs → found ≡ piece_in p qs t) → found.x <ℚ t → LineFitsAt t found.line
+fits_found [] t found starts fits is = absurd starts
+fits_found (p ∷ ps) t found starts fits is = subst (λ q. q.x <ℚ t → LineFitsAt t q.line) (sym (is p ps refl)) fits
+
+pub line_found : (ps : List Piece) (t : ℚ) (found : Piece) → StartsAtZero ps → ((p : Piece) (qs : List Piece) → ps ≡ p ∷ qs → found ≡ piece_in p qs t) → found.line ≡ line_in ps t
+line_found [] t found starts is = absurd starts
+line_found (p ∷ ps) t found starts is = ap (λ q. q.line) (is p ps refl)
+
+pub as_until : (qs ps : List Piece) (t end until : ℚ) → qs ≡ ps → until ≡ until_of end (next_in qs t None) → until ≡ until_of end (next_in ps t None)
+as_until qs ps t end until e f = f ∙ ap (λ rs. until_of end (next_in rs t None)) e

@@ -134,14 +134,20 @@ fn is_early(c: &Curve, end: Frac) -> bool
     ensures kept { IsCurve c.now }
 {
     match *c.tail() {
-        Tail::Periodic { rank, period, .. } => !is_less(sum(rank, period), end),
+        Tail::Periodic { rank, period, .. } => {
+            if is_less(sum(rank, period), end) {
+                false
+            } else {
+                true
+            }
+        }
         _ => true,
     }
 }
 
 /// How a curve goes on from a time of a window, by what is kept of it.
 fn early_part(c: &Curve, t: Frac, end: Frac) -> Part
-    requires { (z : Sizes) × IsSeen z end c.now × IsTimeIn z end t }
+    requires seen { (z : Sizes) × IsSeen z end c.now × IsTimeIn z end t }
     requires early { IsEarlyBy end c.now.tail }
     ensures goes { GoesTo (value_at c.now) t end result }
     ensures stands { (z : Sizes) → IsSeen z end c.now → IsTimeIn z end t → PartStands z result }
@@ -151,7 +157,7 @@ fn early_part(c: &Curve, t: Frac, end: Frac) -> Part
 
 /// How a curve goes on from a time of a window past its first period.
 fn late_part(c: &Curve, t: Frac, end: Frac) -> Part
-    requires { (z : Sizes) × IsSeen z end c.now × IsTimeIn z end t }
+    requires seen { (z : Sizes) × IsSeen z end c.now × IsTimeIn z end t }
     requires late { IsOverBy end c.now.tail }
     ensures goes { GoesTo (value_at c.now) t end result }
     ensures stands { (z : Sizes) → IsSeen z end c.now → IsTimeIn z end t → PartStands z result }
