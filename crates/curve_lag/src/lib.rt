@@ -3,6 +3,8 @@
 
 mod cells;
 mod parts;
+mod walks;
 
 pub use cells::{Cell, cell_lag};
 pub use parts::{Part, part_at};
+pub use walks::longest_lag;
