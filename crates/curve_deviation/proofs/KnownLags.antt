@@ -70,13 +70,19 @@ gaining f g from d a b x some low F G gain e second y =
       first = from +ℚ y_run;
       second = s +ℚ y_run;
       behind = record {
-        first = with2 from y_run (λ c. omega (arith, c.le, c.lt, c.same));
-        second = with3 from P y_run (λ c. omega (arith, c.le, c.lt, c.same));
+        first = sum_low from y_run low more;
+        second = sum_low s y_run (le_trans low low_s) more;
         below = subst (λ v. v <ₑ f (from +ℚ y_run)) (sym g_is) (subst (λ v. Fin (w +ℚ N *ℚ b) <ₑ v) (sym f_is) (past_each x w a b N over));
       };
-      more = with4 from P y_run y (λ c. omega (arith, c.le, c.lt, c.same));
+      more = apart from P y_run y past;
     }
   where
+    sum_low : (a b : ℚ) → int (pos 0) ≤ℚ a → int (pos 0) ≤ℚ b → int (pos 0) ≤ℚ a +ℚ b
+    sum_low a b h k = with2 a b (λ c. omega (arith, c.le, c.lt, c.same))
+
+    apart : (a p r y : ℚ) → y <ℚ p → y <ℚ ((a +ℚ p) +ℚ r) -ℚ (a +ℚ r)
+    apart a p r y h = with4 a p r y (λ c. omega (arith, c.le, c.lt, c.same))
+
     past_each : (x w a b n : ℚ) → w -ℚ x <ℚ n *ℚ (a -ℚ b) → w +ℚ n *ℚ b <ℚ x +ℚ n *ℚ a
     past_each x w a b n h = let e = mul_sub n a b in let p = n *ℚ a in let q = n *ℚ b in let r = n *ℚ (a -ℚ b) in sums x w p q r e h
       where

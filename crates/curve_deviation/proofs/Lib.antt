@@ -8,3 +8,5 @@ pub mod KnownLags
 pub mod LateLags
 pub mod WindowTimes
 pub mod Searching
+pub mod PeriodsFound
+pub mod HorizontalCall

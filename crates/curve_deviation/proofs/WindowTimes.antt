@@ -16,7 +16,7 @@ use Rattle.upp_curve.specs.Functions.{IsFinite}
 use Rattle.upp_curve.specs.Steady.{steady}
 use Rattle.upp_curve.specs.Periods.{common_period, periods_after}
 use Rattle.upp_curve.specs.Windows.{window_at}
-use Rattle.upp_curve.specs.Limits.{Sizes, sizes_of, curve_numbers}
+use Rattle.upp_curve.specs.Limits.{Sizes, sizes_of, gauge_of, curve_numbers}
 use Rattle.upp_curve.specs.Sized.{Stands}
 use Rattle.upp_curve.specs.Operand.{AreLimited}
 use Rattle.upp_curve.specs.Ahead.{IsTimeIn}
@@ -79,7 +79,7 @@ unfolding window_at
 window_is f g k m = less_once (periods_after (settled f g k) m (common_period f g)) (periods_after (settled f g k) (suc m) (common_period f g)) (common_period f g) (run_on (settled f g k) (common_period f g) m)
 
 -- where f begins to repeat, k periods later, and a period after that
-settled_is : (f g : SpecCurve) (k : ℕ) → settled f g k ≡ periods_after (steady f) k (common_period f g) +ℚ common_period f g
+pub settled_is : (f g : SpecCurve) (k : ℕ) → settled f g k ≡ periods_after (steady f) k (common_period f g) +ℚ common_period f g
 settled_is f g k = run_on (steady f) (common_period f g) k
 
 -- the times of a window that ends at `end`, with a period and with two taken off
@@ -146,7 +146,7 @@ pub twice_is : (z : Sizes) (f g : SpecCurve) (k : ℕ) (end d : ℚ) → d ≡ c
 twice_is z f g k end d e W = ap (λ x. end -ℚ d -ℚ x) e ∙ less_once (periods_after (steady f) k (common_period f g)) (end -ℚ d) (common_period f g) (once_is z f g k end d W ∙ settled_is f g k)
 
 -- ---- few periods
-pub few_within : (f g : SpecCurve) (k m : ℕ) → IsCurve f → IsCurve g → IsFinite (value_at f) → IsFinite (value_at g) → gauge_at Horizontal f g k m < 2 ^ 120 → (k < 2 ^ 114) × (m < 2 ^ 114)
+pub few_within : (f g : SpecCurve) (k m : ℕ) → IsCurve f → IsCurve g → IsFinite (value_at f) → IsFinite (value_at g) → gauge_at Horizontal f g k m < 2 ^ 120 → (k ≤ 2 ^ 114) × (m ≤ 2 ^ 114)
 few_within f g k m F G first second small =
     let z = sizes_at Horizontal f g k m in
     let H = window_at Horizontal f g k m in
@@ -156,7 +156,7 @@ few_within f g k m F G first second small =
     let some = common_above f g F G in
     let low = steady_nonneg f F in
     let A = W.seen.first.limited.sizes in
-    let narrow = (narrow_limit z H A small).times in
+    let narrow = (narrow_limit z H A W.seen.first.limited.gauge).times in
     let is = W.is in
     let K = int (pos k) *ℚ d in
     let M = int (pos m) *ℚ d in
@@ -173,3 +173,8 @@ few_within f g k m F G first second small =
 
     early_m : (T K M S H d : ℚ) → int (pos 0) ≤ℚ T → int (pos 0) <ℚ d → int (pos 0) ≤ℚ K → S ≡ (T +ℚ K) +ℚ d → H -ℚ d ≡ S +ℚ M → M ≤ℚ H
     early_m T K M S H d a b m e f = with6 T K M S H d (λ c. omega (arith, c.le, c.lt, c.same))
+
+-- ---- the gauge as it is found
+pub gauge_found : (f g : SpecCurve) (k m n : ℕ) (end : ℚ) → end ≡ window_at Horizontal f g k m → n ≡ gauge_of (sizes_of end (numbers_over Horizontal f g end)) → n ≡ gauge_at Horizontal f g k m
+unfolding gauge_over
+gauge_found f g k m n end e h = h ∙ ap (λ x. gauge_of (sizes_of x (numbers_over Horizontal f g x))) e

@@ -9,7 +9,10 @@ use Rattle.upp_curve.specs.Curves.{IsCurve}
 use Rattle.upp_curve.specs.Functions.{IsFinite, IsRising}
 use Rattle.upp_curve.specs.Steady.{steady}
 use Rattle.upp_curve.specs.Periods.{common_period, periods_after}
+use Rattle.upp_curve.specs.Windows.{IsLeastPeriods, Reaches, Meets as KindMeets}
 use Rattle.upp_curve.specs.Gauges.{gauge_at}
+use Rattle.curve_deviation.specs.declared.horizontals.Periods.{Periods}
+use Rattle.curve_deviation.specs.declared.horizontals.Turn.{Turn}
 use Rattle.curve_frame.specs.declared.windows.CallWindow.{CallWindow}
 use Rattle.curve_frame.specs.CallWindows.{IsWindow}
 use Rattle.curve_deviation.specs.declared.search.Stage.{Stage}
@@ -55,3 +58,24 @@ pub record IsBefore (P : Type 0) (gauge : ℕ) : Type 0 where
 -- met, or over the limit
 abbrev pub IsPast : Type 0 → ℕ → Type 0
 IsPast P gauge = P ⊎ (2 ^ 120 ≤ gauge)
+
+-- ---- the two numbers
+-- the call is too wide with the least numbers of periods, if there are any
+abbrev pub IsWideCall : SpecCurve → SpecCurve → Type 0
+IsWideCall f g = (k m : ℕ) → IsLeastPeriods Horizontal f g k m → 2 ^ 120 ≤ gauge_at Horizontal f g k m
+
+-- no smaller number is enough, and this one is, or with it the call is too wide already
+pub record IsFirst (f g : SpecCurve) (j : ℕ) : Type 0 where
+  pub below : (i : ℕ) → i < j → ¬ (KindMeets Horizontal f g i)
+  pub past : IsPast (KindMeets Horizontal f g j) (gauge_at Horizontal f g j 0)
+
+pub record AreFound (f g : SpecCurve) (p : Periods) : Type 0 where
+  pub first : IsFirst f g p.first
+  pub below : (i : ℕ) → i < p.second → ¬ (Reaches Horizontal f g p.first i)
+  pub past : IsPast (Reaches Horizontal f g p.first p.second) (gauge_at Horizontal f g p.first p.second)
+  pub until : p.until ≡ settled f g p.first
+
+-- the time when the first has settled, and its value then
+pub record IsTurn (f g : SpecCurve) (first : ℕ) (t : Turn) : Type 0 where
+  pub time : t.time ≡ settled f g first
+  pub level : value_at f t.time ≡ Fin t.level

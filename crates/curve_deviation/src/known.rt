@@ -4,7 +4,7 @@ ghost use Rattle.std.specs.Prelude.{◌≡◌, ◌↔◌, pos, IsTrue};
 ghost use Rattle.rational.specs.Rational.{int, ◌<ℚ◌};
 ghost use Rattle.upp_curve.specs.Curve.{value_at};
 ghost use Rattle.upp_curve.specs.Curves.{IsCurve};
-ghost use Rattle.upp_curve.specs.Functions.{IsRising};
+ghost use Rattle.upp_curve.specs.Functions.{IsFinite, IsRising};
 ghost use Rattle.upp_curve.specs.Steady.{rate, last_line};
 ghost use Rattle.upp_curve.specs.Levels.{icept_of, level_of, IsLevelAbove};
 ghost use Rattle.upp_curve.specs.Gauges.{EndsAbove, IsKnownAtOnce};
@@ -105,6 +105,7 @@ fn ends_above(f: &Curve, g: &Curve) -> bool
 pub(crate) fn is_known(f: &Curve, g: &Curve) -> bool
     requires { IsRising (value_at f.now) × IsRising (value_at g.now) }
     ensures known { IsTrue result ↔ IsKnownAtOnce OpKind.Horizontal f.now g.now }
+    ensures finite { ¬ (IsTrue result) → IsFinite (value_at f.now) }
     ensures kept { IsCurve f.now × IsCurve g.now }
 {
     let _first = f.tail();

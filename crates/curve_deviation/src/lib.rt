@@ -2,7 +2,7 @@
 //! unrolling either curve.
 #![tactic(auto)]
 
-
+mod horizontals;
 mod known;
 mod search;
 #[cfg(test)]
@@ -10,4 +10,5 @@ mod tests;
 mod verticals;
 
 
+pub use horizontals::horizontal;
 pub use verticals::{vertical, vertical_within};
