@@ -42,7 +42,7 @@ sizes_to f g end = sizes_of end (numbers_over Horizontal f g end)
 pub record IsReady (z : Sizes) (f g : SpecCurve) (until end : ℚ) : Type 0 where
   pub first : IsSeen z end f
   pub second : IsSeen z end g
-  pub until : IsTimeIn z end until
+  pub time : IsTimeIn z end until
   pub at : ℚ
   pub low : int (pos 0) ≤ℚ at
   pub before : at <ℚ end
@@ -63,7 +63,7 @@ ready_at f g p F G both least W =
     record {
       first = W.seen.first;
       second = W.seen.second;
-      until = record { whole = whole_add z.dt (steady f) (int (pos (suc p.first)) *ℚ d) W.seen.start (whole_times z.dt (pos (suc p.first)) d W.seen.period.whole); nonneg = low; before = le_lt_trans more early };
+      time = record { whole = whole_add z.dt (steady f) (int (pos (suc p.first)) *ℚ d) W.seen.start (whole_times z.dt (pos (suc p.first)) d W.seen.period.whole); nonneg = low; before = le_lt_trans more early };
       at = u;
       low = le_trans low more;
       before = early;

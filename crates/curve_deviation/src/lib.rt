@@ -9,6 +9,5 @@ mod search;
 mod tests;
 mod verticals;
 
-
 pub use horizontals::horizontal;
 pub use verticals::{vertical, vertical_within};

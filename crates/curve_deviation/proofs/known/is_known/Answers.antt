@@ -13,3 +13,6 @@ returns-clause-known c = (
     | inr (inr e) ↦ c.ends_above.ensures.1 e
   ],
 )
+
+pub returns-clause-finite : goal.returns-clause-finite
+returns-clause-finite c = λ h. c.is_number.ensures.finite.0 c.if-not-is_number.false
