@@ -3,19 +3,19 @@ use Rattle.std.specs.Prelude.{◌≡◌, pos, List, [], ◌∷◌, Option, Some,
 use Rattle.std.proofs.Common.{arith, sym, ap, ◌∙◌, refl, subst, inl, inr}
 use Rattle.rational.specs.Rational.{ℚ, ◌+ℚ◌, ◌-ℚ◌, ◌*ℚ◌, ◌/ℚ◌, ◌≤ℚ◌, ◌<ℚ◌, int}
 use Rattle.rational.specs.Extended.{Ext, ◌≤ₑ◌, ◌<ₑ◌, ◌+ₑ◌}
-use Rattle.rational.specs.declared.Extended.TheVariants.{Fin, Inf}
+use Rattle.rational.specs.declared.Extended.TheVariants.{Fin}
 use Rattle.rational.specs.MinMax.{max_q}
-use Rattle.rational.proofs.Linear.{with1, with2, with3, with4}
+use Rattle.rational.proofs.Linear.{with1, with3, with4}
 use Rattle.rational.proofs.Laws.{le_refl, le_trans, le_of_lt, le_or_lt, lt_le_trans, le_lt_trans, lt_trans, lt_irrefl, antisym, between, mul_comm, div_mul, not_zero, mul_nonneg, mul_le_mul, mul_zero}
 use Rattle.rational.proofs.Lines.{line_moved}
 use Rattle.rational.proofs.Integers.{nat_nonneg}
 use Rattle.rational.proofs.Quotients.{times_above}
 use Rattle.rational.proofs.MinMax.{max_q_ge_left, max_q_ge_right}
-use Rattle.rational.proofs.ExtendedOrder.{le_ext_trans, le_lt_ext, lt_le_ext, le_or_lt_ext, lt_ext_irrefl}
+use Rattle.rational.proofs.ExtendedOrder.{le_ext_trans, le_lt_ext, le_or_lt_ext}
 use Rattle.affine_segment.specs.declared.line.Line.{Line}
 use Rattle.affine_segment.specs.declared.line.Piece.{Piece}
 use Rattle.affine_segment.specs.Values.{line_at, line_value}
-use Rattle.upp_curve.specs.Reading.{read, piece_value, piece_in}
+use Rattle.upp_curve.specs.Reading.{read, piece_value}
 use Rattle.upp_curve.specs.Normal.{RisesFrom, StartsAtZero}
 use Rattle.upp_curve.specs.Curve.{SpecCurve, value_at}
 use Rattle.upp_curve.specs.Curves.{IsCurve}
@@ -62,28 +62,33 @@ level_time l t v some =
 
 on_line : (g : ℚ → Ext) (l : Line) (v t e : ℚ) → RisesOn g l t e → g t <ₑ Fin v → v ≤ℚ line_at l e → (x : ℚ) × IsReached g v t x
 on_line g l v t e R low high = elim (le_or_lt v (line_at l t)) [
-  | inl h ↦ (t, record {
-    low = le_refl t;
-    before = λ u a b. absurd (lt_irrefl t (le_lt_trans a b));
-    near = λ y k.
-        let (u, a, b, d) = before_both t e y R.some k in
-        (u, le_of_lt a, d, subst (λ w. Fin v ≤ₑ w) (sym (R.inside u a b)) (le_trans h (rises l t u R.slope (le_of_lt a))));
-  })
+  | inl h ↦ (
+    t,
+    record {
+      low = le_refl t;
+      before = λ u a b. absurd (lt_irrefl t (le_lt_trans a b));
+      near = λ y k.
+          let (u, a, b, d) = before_both t e y R.some k in
+          (u, le_of_lt a, d, subst (λ w. Fin v ≤ₑ w) (sym (R.inside u a b)) (le_trans h (rises l t u R.slope (le_of_lt a))));
+    },
+  )
   | inr h ↦
       let some : int (pos 0) <ℚ l.slope = gets_higher l t e R.slope (lt_le_trans h high) in
       let (x, is) = level_time l t v some in
-      let past : t <ℚ x = later l t x R.slope (subst (λ w. line_at l t <ℚ w) (sym is) h) in
-      (x, record {
-        low = le_of_lt past;
-        before = λ u a b. elim (le_or_lt u t) [
-          | inl m ↦ subst (λ w. g w <ₑ Fin v) (antisym (a, m)) low
-          | inr m ↦ subst (λ w. w <ₑ Fin v) (sym (R.inside u m (inner x u some is b))) (subst (λ w. line_at l u <ℚ w) is (rises_more l u x some b))
-        ];
-        near = λ y k. elim (le_or_lt e x) [
-          | inl m ↦ (e, le_of_lt R.some, le_lt_trans m k, le_ext_trans (Fin v) (Fin (line_at l e)) (g e) high R.end)
-          | inr m ↦ (x, le_of_lt past, k, subst (λ w. Fin v ≤ₑ w) (sym (R.inside x past m)) (subst (λ w. v ≤ℚ w) (sym is) (le_refl v)))
-        ];
-      })
+      let past : t <ℚ x = later l t x R.slope (subst (λ w. line_at l t <ℚ w) (sym is) h) in (
+        x,
+        record {
+          low = le_of_lt past;
+          before = λ u a b. elim (le_or_lt u t) [
+            | inl m ↦ subst (λ w. g w <ₑ Fin v) (antisym (a, m)) low
+            | inr m ↦ subst (λ w. w <ₑ Fin v) (sym (R.inside u m (inner x u some is b))) (subst (λ w. line_at l u <ℚ w) is (rises_more l u x some b))
+          ];
+          near = λ y k. elim (le_or_lt e x) [
+            | inl m ↦ (e, le_of_lt R.some, le_lt_trans m k, le_ext_trans (Fin v) (Fin (line_at l e)) (g e) high R.end)
+            | inr m ↦ (x, le_of_lt past, k, subst (λ w. Fin v ≤ₑ w) (sym (R.inside x past m)) (subst (λ w. v ≤ℚ w) (sym is) (le_refl v)))
+          ];
+        },
+      )
 ]
   where
     -- before the line has the value, the stretch goes on

@@ -1,8 +1,8 @@
 -- A call for the horizontal deviation within its limits: what its window gives, and that the longest lag in it is the deviation.
-use Rattle.std.specs.Prelude.{◌≡◌, ℕ, suc, ◌<◌, ◌^◌, pos, ◌⊎◌}
-use Rattle.std.proofs.Common.{arith, sym, ap, ◌∙◌, refl, subst, inl, inr}
-use Rattle.rational.specs.Rational.{ℚ, ◌+ℚ◌, ◌-ℚ◌, ◌*ℚ◌, ◌≤ℚ◌, ◌<ℚ◌, int}
-use Rattle.rational.specs.Extended.{Ext, ◌≤ₑ◌, ◌<ₑ◌}
+use Rattle.std.specs.Prelude.{◌≡◌, suc, pos}
+use Rattle.std.proofs.Common.{arith, sym, ◌∙◌, subst, inl, inr}
+use Rattle.rational.specs.Rational.{ℚ, ◌*ℚ◌, ◌≤ℚ◌, ◌<ℚ◌, int}
+use Rattle.rational.specs.Extended.{◌≤ₑ◌, ◌<ₑ◌}
 use Rattle.rational.specs.declared.Extended.TheVariants.{Fin, Inf}
 use Rattle.rational.proofs.Linear.{with2}
 use Rattle.rational.proofs.Laws.{le_refl, le_trans, le_of_lt, le_lt_trans, mul_le_mul_right, le_of_not_lt}
@@ -10,7 +10,7 @@ use Rattle.rational.proofs.ExtendedOrder.{same_le_ext}
 use Rattle.upp_curve.specs.declared.op_kind.OpKind.TheVariants.{Horizontal}
 use Rattle.upp_curve.specs.Curve.{SpecCurve, value_at}
 use Rattle.upp_curve.specs.Curves.{IsCurve}
-use Rattle.upp_curve.specs.Functions.{IsFinite, IsRising}
+use Rattle.upp_curve.specs.Functions.{IsFinite}
 use Rattle.upp_curve.specs.Steady.{steady, rise_over, rate}
 use Rattle.upp_curve.specs.Periods.{common_period, periods_after}
 use Rattle.upp_curve.specs.Windows.{window_at, IsLeastPeriods}

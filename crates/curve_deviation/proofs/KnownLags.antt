@@ -1,15 +1,14 @@
 -- When the horizontal deviation is infinite whatever the sizes are.
-use Rattle.std.specs.Prelude.{◌≡◌, ℕ, pos, ◌⊎◌}
-use Rattle.std.proofs.Common.{arith, sym, ap, ◌∙◌, refl, subst, inl, inr}
+use Rattle.std.specs.Prelude.{◌≡◌, pos}
+use Rattle.std.proofs.Common.{arith, sym, ap, ◌∙◌, subst, inl, inr}
 use Rattle.rational.specs.Rational.{ℚ, ◌+ℚ◌, ◌-ℚ◌, ◌*ℚ◌, ◌≤ℚ◌, ◌<ℚ◌, int}
-use Rattle.rational.specs.Extended.{Ext, ◌≤ₑ◌, ◌<ₑ◌, ◌+ₑ◌}
+use Rattle.rational.specs.Extended.{Ext, ◌<ₑ◌, ◌+ₑ◌}
 use Rattle.rational.specs.declared.Extended.TheVariants.{Fin, Inf}
-use Rattle.rational.proofs.Linear.{with1, with2, with3, with4, with6}
+use Rattle.rational.proofs.Linear.{with2, with4, with6}
 use Rattle.rational.proofs.Laws.{le_refl, le_trans, le_of_lt, mul_nonneg, mul_sub}
 use Rattle.rational.proofs.Integers.{nat_nonneg}
 use Rattle.rational.proofs.Quotients.{times_above}
 use Rattle.rational.proofs.MinMax.{max_q_ge_left, max_q_ge_right}
-use Rattle.rational.proofs.ExtendedOrder.{lt_ext_irrefl}
 use Rattle.upp_curve.specs.declared.op_kind.OpKind.TheVariants.{Horizontal}
 use Rattle.upp_curve.specs.Curve.{SpecCurve, value_at}
 use Rattle.upp_curve.specs.Curves.{IsCurve}
@@ -28,7 +27,7 @@ use Rattle.curve_frame.proofs.CurveRises.{common_first, common_second}
 use Rattle.curve_least.specs.Ever.{RepeatsBy}
 use Rattle.curve_least.proofs.Shifts.{later_value}
 use Rattle.curve_least.proofs.LeastNumber.{gains, ext_cases}
-use Rattle.curve_lag.specs.Lags.{IsBehindAt, LagsBy}
+use Rattle.curve_lag.specs.Lags.{LagsBy}
 use Rattle.curve_deviation.proofs.AtOnce.{infinite_somewhere, repeats_by}
 use Rattle.curve_deviation.proofs.FirstReach.{reached_or}
 use Rattle.curve_deviation.proofs.Lagging.{ReachesOr, endless_is, never_reached}

@@ -1,12 +1,12 @@
 -- The horizontal deviation by pairs of times: the second curve is still below at the later one.
 use Rattle.std.specs.Prelude.{◌≡◌, pos, ◌⊎◌}
-use Rattle.std.proofs.Common.{arith, sym, ap, ◌∙◌, refl, subst, inl, inr}
+use Rattle.std.proofs.Common.{arith, sym, subst, inl, inr}
 use Rattle.rational.specs.Rational.{ℚ, ◌+ℚ◌, ◌-ℚ◌, ◌≤ℚ◌, ◌<ℚ◌, int}
 use Rattle.rational.specs.Extended.{Ext, ◌≤ₑ◌, ◌<ₑ◌}
 use Rattle.rational.specs.declared.Extended.TheVariants.{Fin, Inf}
 use Rattle.rational.specs.MinMax.{max_q}
-use Rattle.rational.proofs.Linear.{with1, with2, with3, with4}
-use Rattle.rational.proofs.Laws.{le_refl, le_trans, le_of_lt, le_or_lt, lt_le_trans, le_lt_trans, lt_irrefl, between}
+use Rattle.rational.proofs.Linear.{with1, with2, with3}
+use Rattle.rational.proofs.Laws.{le_refl, le_trans, le_of_lt, le_or_lt, lt_le_trans, lt_irrefl, between}
 use Rattle.rational.proofs.Bounds.{greatest, unbounded}
 use Rattle.rational.proofs.MinMax.{max_q_ge_left, max_q_ge_right}
 use Rattle.rational.proofs.ExtendedOrder.{le_ext_trans, le_lt_ext, lt_le_ext, le_or_lt_ext, lt_ext_irrefl}
@@ -55,9 +55,12 @@ ReachesOr g = (v t : ℚ) → int (pos 0) ≤ℚ t → ((x : ℚ) × IsReached g
 
 pub lag_at : (f g : ℚ → Ext) → IsFinite g → ReachesOr g → (t : Time) → (x : Ext) × IsLag f g t.at x
 lag_at f g finite either t = elim (ext_cases (f t.at)) [
-  | inl e ↦ (Inf, never_lag f g t.at (λ u h.
-      let (w, k) = finite u (le_trans t.nonneg h) in
-      subst (λ y. g u <ₑ y) (sym e) (subst (λ y. y <ₑ Inf) (sym k) tt)))
+  | inl e ↦ (
+    Inf,
+    never_lag f g t.at (λ u h.
+        let (w, k) = finite u (le_trans t.nonneg h) in
+        subst (λ y. g u <ₑ y) (sym e) (subst (λ y. y <ₑ Inf) (sym k) tt)),
+  )
   | inr (v, e) ↦ elim (either v t.at t.nonneg) [
     | inl (x, R) ↦ (Fin (x -ℚ t.at), reached_lag f g v t.at x e R)
     | inr low ↦ (Inf, never_lag f g t.at (λ u h. subst (λ y. g u <ₑ y) (sym e) (low u h)))
@@ -131,9 +134,9 @@ endless_is f g finite up either far = record {
   lag = λ t. (lag_at f g finite either t).0;
   is_lag = λ t. (lag_at f g finite either t).1;
   is = unbounded {I = Time} (λ t. (lag_at f g finite either t).0) (λ y.
-  let b = far y in
-  let t : Time = record { at = b.first; nonneg = b.behind.first } in
-  (t, lt_le_ext (Fin y) (Fin (b.second -ℚ b.first)) (lag_at f g finite either t).0 b.more (lag_least f g b.first b.second (lag_at f g finite either t).0 up (lag_at f g finite either t).1 b.behind)));
+      let b = far y in
+      let t : Time = record { at = b.first; nonneg = b.behind.first } in
+      (t, lt_le_ext (Fin y) (Fin (b.second -ℚ b.first)) (lag_at f g finite either t).0 b.more (lag_least f g b.first b.second (lag_at f g finite either t).0 up (lag_at f g finite either t).1 b.behind)));
 }
 
 -- ---- where it is infinite

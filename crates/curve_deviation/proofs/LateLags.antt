@@ -1,23 +1,20 @@
 -- No lag behind a time from which on both curves repeat is longer than those behind the times before it.
-use Rattle.std.specs.Prelude.{◌≡◌, ℕ, suc, pos, ◌⊎◌}
-use Rattle.std.proofs.Common.{arith, sym, ap, ◌∙◌, refl, subst, inl, inr}
+use Rattle.std.specs.Prelude.{◌≡◌, ℕ, pos}
+use Rattle.std.proofs.Common.{arith, sym, ap, ◌∙◌, subst, inl, inr}
 use Rattle.rational.specs.Rational.{ℚ, ◌+ℚ◌, ◌-ℚ◌, ◌*ℚ◌, ◌≤ℚ◌, ◌<ℚ◌, int}
 use Rattle.rational.specs.Whole.{periods}
-use Rattle.rational.specs.Extended.{Ext, ◌≤ₑ◌, ◌<ₑ◌, ◌+ₑ◌}
-use Rattle.rational.specs.declared.Extended.TheVariants.{Fin, Inf}
-use Rattle.rational.proofs.Linear.{with1, with2, with3, with4}
-use Rattle.rational.proofs.Laws.{le_refl, le_trans, le_of_lt, le_or_lt, lt_le_trans, le_lt_trans, mul_nonneg, mul_le_mul, sub_add}
+use Rattle.rational.specs.Extended.{Ext, ◌<ₑ◌, ◌+ₑ◌}
+use Rattle.rational.specs.declared.Extended.TheVariants.{Fin}
+use Rattle.rational.proofs.Linear.{with2, with3, with4}
+use Rattle.rational.proofs.Laws.{le_trans, le_of_lt, le_or_lt, mul_le_mul, sub_add}
 use Rattle.rational.proofs.Integers.{nat_nonneg}
-use Rattle.rational.proofs.Whole.{periods_low, periods_high, one_more_times}
-use Rattle.rational.proofs.ExtendedOrder.{le_ext_trans, le_lt_ext, lt_le_ext}
-use Rattle.upp_curve.specs.Curve.{SpecCurve, value_at}
-use Rattle.upp_curve.specs.Curves.{IsCurve}
+use Rattle.rational.proofs.Whole.{periods_low, periods_high}
+use Rattle.rational.proofs.ExtendedOrder.{le_lt_ext, lt_le_ext}
 use Rattle.upp_curve.specs.Functions.{IsFinite, IsRising}
-use Rattle.upp_curve.specs.Steady.{Repeats, steady, rise_over}
-use Rattle.upp_curve.specs.Periods.{common_period, periods_after}
+use Rattle.upp_curve.specs.Steady.{Repeats, steady}
 use Rattle.upp_curve.specs.Windows.{IsConstantFrom}
 use Rattle.curve_least.proofs.Shifts.{later_value}
-use Rattle.curve_lag.specs.Lags.{IsBehindAt, LagsBy, IsLongestLag}
+use Rattle.curve_lag.specs.Lags.{IsBehindAt, IsLongestLag}
 use Rattle.curve_deviation.proofs.Lagging.{Always}
 
 -- ---- f is constant
@@ -73,7 +70,7 @@ rising_late f g from steady d a b left q some low start F G less first second up
             second = x_some;
             below = elim (le_or_lt steady x) [
               | inl m ↦ earlier_behind f g from steady d a b t x n some F G less first second t_some x_some (le_trans past t_low) m
-              (subst (λ v. g v <ₑ f (t +ℚ y)) (sym (sub_add u y)) (subst (λ v. g u <ₑ f v) (sym (sub_add s y)) p.below))
+                  (subst (λ v. g v <ₑ f (t +ℚ y)) (sym (sub_add u y)) (subst (λ v. g u <ₑ f v) (sym (sub_add s y)) p.below))
               | inr m ↦ lt_le_ext (g x) (f left) (f t) (le_lt_ext (g x) (g steady) (f left) (rising x steady x_some (le_of_lt m)) above) (up left t (le_trans low past) t_low)
             ];
           }

@@ -1,15 +1,15 @@
 -- The numbers of periods that are found: they are the least ones, or the call is too wide.
-use Rattle.std.specs.Prelude.{◌≡◌, ◌≢◌, ℕ, suc, ◌<◌, ◌≤◌, ◌^◌, pos, List, [], ◌∷◌, Option, Some, None, IsSome, MatchOption, ◌⊎◌}
+use Rattle.std.specs.Prelude.{◌≡◌, ◌≢◌, ℕ, suc, ◌<◌, ◌≤◌, ◌^◌, pos, List, [], ◌∷◌, Option, Some, None}
 use Rattle.std.proofs.Common.{arith, sym, ap, ◌∙◌, refl, subst, inl, inr}
 use Rattle.std.proofs.lemmas.Bool.{cases_lt}
 use Rattle.rational.specs.Rational.{ℚ, ◌+ℚ◌, ◌-ℚ◌, ◌*ℚ◌, ◌≤ℚ◌, ◌<ℚ◌, int}
 use Rattle.rational.specs.Extended.{Ext, ◌≤ₑ◌, ◌<ₑ◌, ◌+ₑ◌}
 use Rattle.rational.specs.declared.Extended.TheVariants.{Fin, Inf}
 use Rattle.rational.proofs.Linear.{with1, with2, with3}
-use Rattle.rational.proofs.Laws.{le_refl, le_trans, le_of_lt, le_or_lt, lt_le_trans, le_lt_trans, lt_irrefl, mul_zero, mul_le_mul_right, le_of_not_lt, not_zero}
-use Rattle.rational.proofs.Integers.{nat_nonneg, nat_le}
+use Rattle.rational.proofs.Laws.{le_refl, le_trans, le_of_lt, le_or_lt, lt_le_trans, lt_irrefl, mul_zero, mul_le_mul_right, not_zero}
+use Rattle.rational.proofs.Integers.{nat_le}
 use Rattle.rational.proofs.Quotients.{times_above, mul_zero_cases}
-use Rattle.rational.proofs.ExtendedOrder.{le_ext_trans, le_lt_ext, lt_le_ext, lt_ext_irrefl, antisym_ext, fin_same, same_le_ext}
+use Rattle.rational.proofs.ExtendedOrder.{le_ext_trans, lt_le_ext, lt_ext_irrefl, antisym_ext, fin_same, same_le_ext}
 use Rattle.fraction128.specs.declared.fault.Wide.{Wide}
 use Rattle.affine_segment.specs.declared.line.Line.{Line}
 use Rattle.affine_segment.specs.declared.line.Piece.{Piece}
@@ -19,17 +19,15 @@ use Rattle.upp_curve.specs.declared.op_kind.OpKind.TheVariants.{Horizontal}
 use Rattle.upp_curve.specs.declared.op_kind.OpFault.{OpFault}
 use Rattle.upp_curve.specs.declared.op_kind.OpFault.TheVariants.{TooMany, TooWide, NoMemory}
 use Rattle.upp_curve.specs.Steps.{IsWideLine, IsWideRead, IsWideAt, IsWideValueAt}
-use Rattle.upp_curve.specs.Readable.{LineFits, LineFitsAt}
+use Rattle.upp_curve.specs.Readable.{LineFitsAt}
 use Rattle.upp_curve.specs.Reading.{piece_in}
-use Rattle.upp_curve.specs.Normal.{StartsAtZero}
 use Rattle.upp_curve.specs.Curve.{SpecCurve, value_at}
 use Rattle.upp_curve.specs.Curves.{IsCurve}
 use Rattle.upp_curve.specs.Functions.{IsFinite, IsRising}
-use Rattle.upp_curve.specs.Steady.{Repeats, steady, steady_in, rise_over, rate}
+use Rattle.upp_curve.specs.Steady.{steady, steady_in, rise_over, rate}
 use Rattle.upp_curve.specs.Periods.{common_period, periods_after}
-use Rattle.upp_curve.specs.Windows.{window_at, IsConstantFrom, IsLeast, IsLeastPeriods, Reaches, Meets}
+use Rattle.upp_curve.specs.Windows.{window_at, IsConstantFrom, IsLeastPeriods, Reaches, Meets}
 use Rattle.upp_curve.specs.Limits.{Sizes}
-use Rattle.upp_curve.specs.Operand.{OperandLineAt}
 use Rattle.upp_curve.specs.Ahead.{IsTimeIn, line_in}
 use Rattle.upp_curve.specs.Gauges.{IsKnownAtOnce, gauge_at, IsTooWide}
 use Rattle.upp_curve.specs.Outcome.{IsWithin, IsCauseOf}
@@ -47,10 +45,9 @@ use Rattle.upp_curve.proofs.StretchSizes.{narrow}
 use Rattle.curve_lag.specs.Parts.{IsSeen}
 use Rattle.curve_lag.proofs.EarlyParts.{IsEndless, endless, early_here}
 use Rattle.curve_deviation.specs.declared.horizontals.Periods.{Periods}
-use Rattle.curve_deviation.specs.declared.horizontals.Turn.{Turn}
-use Rattle.curve_deviation.specs.Stages.{AreFinite, HasLeft, HasReached, settled, IsPast, IsWideCall, IsFirst, AreFound, IsTurn}
+use Rattle.curve_deviation.specs.Stages.{AreFinite, HasLeft, HasReached, settled, IsPast, IsWideCall, IsFirst, AreFound}
 use Rattle.curve_deviation.proofs.KnownLags.{common_above, first_repeats}
-use Rattle.curve_deviation.proofs.WindowTimes.{WindowTimes, times_at, periods_low}
+use Rattle.curve_deviation.proofs.WindowTimes.{times_at, periods_low}
 
 -- ---- a curve of rate 0 is constant from when it repeats
 pub level_constant : (f g : SpecCurve) → IsCurve f → IsCurve g → IsFinite (value_at f) → IsRising (value_at f) → rate f ≡ Fin (int (pos 0)) → IsConstantFrom (value_at f) (steady f)

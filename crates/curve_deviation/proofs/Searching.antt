@@ -1,19 +1,17 @@
 -- What is looked for stays met once it is met; the search by doubling and halving.
-use Rattle.std.specs.Prelude.{◌≡◌, ℕ, suc, ◌+◌, ◌-◌, ◌*◌, ◌<◌, ◌≤◌, ◌^◌, ◌/◌, pos, ◌⊎◌}
-use Rattle.std.proofs.Common.{arith, sym, ap, ◌∙◌, subst, inl, inr}
-use Rattle.rational.specs.Rational.{ℚ, ◌+ℚ◌, ◌-ℚ◌, ◌*ℚ◌, ◌≤ℚ◌, ◌<ℚ◌, int}
-use Rattle.rational.specs.Extended.{Ext, ◌≤ₑ◌, ◌<ₑ◌}
-use Rattle.rational.specs.declared.Extended.TheVariants.{Fin, Inf}
+use Rattle.std.specs.Prelude.{◌≡◌, ℕ, suc, ◌+◌, ◌-◌, ◌*◌, ◌<◌, ◌≤◌, ◌^◌, ◌/◌, pos}
+use Rattle.std.proofs.Common.{arith, sym, ap, ◌∙◌, subst}
+use Rattle.rational.specs.Rational.{ℚ, ◌-ℚ◌, ◌*ℚ◌, ◌≤ℚ◌, ◌<ℚ◌, int}
+use Rattle.rational.specs.Extended.{◌≤ₑ◌, ◌<ₑ◌}
+use Rattle.rational.specs.declared.Extended.TheVariants.{Fin}
 use Rattle.rational.proofs.Linear.{with3}
 use Rattle.rational.proofs.Laws.{le_trans, le_of_lt, lt_le_trans, lt_irrefl, mul_le_mul_right}
 use Rattle.rational.proofs.Integers.{nat_le}
 use Rattle.rational.proofs.ExtendedOrder.{le_ext_trans, lt_le_ext}
-use Rattle.upp_curve.specs.declared.op_kind.OpKind.TheVariants.{Horizontal}
 use Rattle.upp_curve.specs.Curve.{SpecCurve, value_at}
 use Rattle.upp_curve.specs.Curves.{IsCurve}
 use Rattle.upp_curve.specs.Steady.{steady}
 use Rattle.upp_curve.specs.Periods.{common_period, periods_after}
-use Rattle.upp_curve.specs.Gauges.{gauge_at}
 use Rattle.curve_frame.proofs.CurveTimes.{steady_nonneg}
 use Rattle.curve_deviation.specs.declared.search.Stage.{Stage}
 use Rattle.curve_deviation.specs.declared.search.Stage.TheVariants.{First, Second}

@@ -1,14 +1,14 @@
 -- The window of a horizontal deviation below the limit: the sizes of both curves in it, and the times at which they are read.
-use Rattle.std.specs.Prelude.{◌≡◌, ℕ, zero, suc, ◌<◌, ◌≤◌, ◌^◌, pos}
+use Rattle.std.specs.Prelude.{◌≡◌, ℕ, suc, ◌<◌, ◌≤◌, ◌^◌, pos}
 use Rattle.std.proofs.Common.{arith, sym, ap, ◌∙◌, subst}
 use Rattle.rational.specs.Rational.{ℚ, ◌+ℚ◌, ◌-ℚ◌, ◌*ℚ◌, ◌≤ℚ◌, ◌<ℚ◌, int, neg_ℚ}
 use Rattle.rational.specs.Ratio.{SumFits}
 use Rattle.rational.specs.Grid.{Whole}
-use Rattle.rational.proofs.Linear.{with1, with2, with3, with4, with6}
+use Rattle.rational.proofs.Linear.{with2, with3, with4, with6}
 use Rattle.rational.proofs.Laws.{le_refl, le_trans, le_of_lt, mul_nonneg}
 use Rattle.rational.proofs.Integers.{nat_nonneg}
 use Rattle.rational.proofs.Whole.{one_more_times}
-use Rattle.rational.proofs.Grid.{whole_sub, whole_add}
+use Rattle.rational.proofs.Grid.{whole_sub}
 use Rattle.upp_curve.specs.declared.op_kind.OpKind.TheVariants.{Horizontal}
 use Rattle.upp_curve.specs.Curve.{SpecCurve, value_at}
 use Rattle.upp_curve.specs.Curves.{IsCurve}

@@ -23,14 +23,9 @@ use upp_curve::{Curve, OpKind, call_numbers};
 #[derive(Debug, Clone, Copy)]
 pub(crate) enum Stage {
     /// After how many periods the first curve is above the level.
-    First {
-        level: Frac,
-    },
+    First { level: Frac },
     /// After how many periods more than `first` the second is at the level or above it.
-    Second {
-        first: u128,
-        level: Frac,
-    },
+    Second { first: u128, level: Frac },
 }
 
 /// The window with k and m periods, where its gauge is below 2^120.
@@ -77,7 +72,11 @@ fn is_first_before(f: &Curve, g: &Curve, level: Frac, k: u128) -> bool
         None => false,
         Some(window) => {
             let time = difference(difference(window.end, window.period), window.period);
-            if is_less(level, value_in(f, time, window.end)) { false } else { true }
+            if is_less(level, value_in(f, time, window.end)) {
+                false
+            } else {
+                true
+            }
         }
     }
 }
@@ -92,7 +91,11 @@ fn is_second_before(f: &Curve, g: &Curve, first: u128, level: Frac, k: u128) -> 
         None => false,
         Some(window) => {
             let time = difference(window.end, window.period);
-            if is_less(value_in(g, time, window.end), level) { true } else { false }
+            if is_less(value_in(g, time, window.end), level) {
+                true
+            } else {
+                false
+            }
         }
     }
 }

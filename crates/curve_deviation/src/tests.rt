@@ -114,12 +114,7 @@ fn flows_at_a_server(rt: HostRuntime) -> Result<(), Fail> {
     Ok(())
 }
 
-fn repeating(
-    alloc: Global,
-    pieces: &[Piece],
-    period: i128,
-    rise: i128,
-) -> Result<Curve, OpFault> {
+fn repeating(alloc: Global, pieces: &[Piece], period: i128, rise: i128) -> Result<Curve, OpFault> {
     let Ok(pieces) = Vec::from_slice(alloc, pieces) else {
         return Err(OpFault::NoMemory);
     };
@@ -211,7 +206,10 @@ fn of_gate<L: Ledger>(alloc: Global, blank: Blank) -> Result<Ext, OpFault>
 #[test]
 fn lags_behind_a_gate(rt: HostRuntime) -> Result<(), Fail> {
     let found = of_gate::<Brand>(rt.alloc(), Blank::new(1))?;
-    assert!(rt; agrees(found, Some(990)), "a packet just after the gate has closed");
+    assert!(rt;
+        agrees(found, Some(990)),
+        "a packet just after the gate has closed"
+    );
     Ok(())
 }
 

@@ -1,4 +1,4 @@
-use Rattle.std.proofs.Common.{◌⊎◌, inl, inr, sym, ◌∙◌, true≢false, refl}
+use Rattle.std.proofs.Common.{inl, inr, sym, ◌∙◌, true≢false, refl}
 use Rattle.curve_deviation.proofs.known.is_known.Goals as goal
 
 pub returns-then-is_faster-clause-finite : goal.returns-then-is_faster-clause-finite

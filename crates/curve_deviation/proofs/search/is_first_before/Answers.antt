@@ -1,4 +1,4 @@
-use Rattle.std.proofs.Common.{refl, sym, subst, ap, ◌∙◌, true≢false, inl}
+use Rattle.std.proofs.Common.{refl, sym, subst, ap, ◌∙◌, inl}
 use Rattle.rational.specs.Rational.{◌-ℚ◌, neg_ℚ}
 use Rattle.rational.specs.Ratio.{SumFits}
 use Rattle.upp_curve.specs.Ahead.{IsTimeIn}

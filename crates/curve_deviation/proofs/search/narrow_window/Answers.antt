@@ -1,4 +1,4 @@
-use Rattle.std.proofs.Common.{arith, subst, sym, ◌≤◌, ◌<◌, ◌^◌}
+use Rattle.std.proofs.Common.{subst, ◌≤◌, ◌<◌, ◌^◌}
 use Rattle.curve_deviation.proofs.WindowTimes.{gauge_found}
 use Rattle.curve_deviation.proofs.search.narrow_window.Goals as goal
 
