@@ -1,6 +1,6 @@
 //! A curve by itself: the end of its window, and its gauge, in whatever form it is given.
 
-ghost use Rattle.std.specs.Prelude.{◌≡◌, ◌^◌, ◌≤◌, pos, IfSome, IsSome, MatchOption};
+ghost use Rattle.std.specs.Prelude.{◌≡◌, ◌^◌, ◌≤◌, pos, false, IfNone, IfSome, IsSome, MatchOption};
 ghost use Rattle.rational.specs.Rational.{ℚ, int, ◌+ℚ◌, ◌≤ℚ◌};
 ghost use Rattle.rational.specs.declared.Extended.TheVariants.{Inf};
 ghost use Rattle.affine_segment.specs.Values.{line_value};
@@ -59,10 +59,11 @@ pub(crate) fn is_infinite_at(last: &Piece, rank: Frac) -> bool
     }
 }
 
-/// The rank, or one later unless `keeps`.
+/// The rank, or one later unless `keeps`. None exactly where that is one later and does not fit.
 pub(crate) fn later_unless(keeps: bool, rank: Frac) -> Option<Frac>
     ensures value { IfSome result (λ t. t ≡ later_unless keeps rank) }
     ensures fits { SumFits rank (int (pos 1)) → IsSome result }
+    ensures none { IfNone result ((keeps ≡ false) × ¬ (SumFits rank (int (pos 1)))) }
 {
     if keeps {
         return Some(rank);
