@@ -97,3 +97,4 @@ pub mod JoinLoops
 pub mod Gentle
 pub mod Joins
 pub mod AnswerRoom
+pub mod UnrolledCounts
