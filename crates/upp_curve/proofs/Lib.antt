@@ -98,3 +98,4 @@ pub mod Gentle
 pub mod Joins
 pub mod AnswerRoom
 pub mod UnrolledCounts
+pub mod SamePieces

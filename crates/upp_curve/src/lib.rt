@@ -46,8 +46,8 @@ pub use curve::{Curve, Tail, equal};
 pub use jumps::is_continuous;
 pub use kind_laws::kinds_are_curves;
 pub use laws::{
-    bucket_deviations, deviations_are_unique, normal_form_is_unique, worked_kinds,
-    worked_operators, worked_shifts, worked_stairs,
+    bucket_deviations, deviations_are_unique, normal_form_is_unique, unrolled_pieces_are_counted,
+    worked_kinds, worked_operators, worked_shifts, worked_stairs,
 };
 pub use limits::{gauge, tally, tally_over};
 pub use op_kind::{OpFault, OpKind, Window};
