@@ -8,6 +8,8 @@ use Rattle.upp_curve.specs.declared.curve.Tail.{Tail}
 use Rattle.upp_curve.specs.declared.curve.Tail.TheVariants.{Periodic, Affine, Infinite}
 use Rattle.upp_curve.specs.Curve.{SpecCurve}
 use Rattle.upp_curve.specs.Unrolled.{later, copies_below}
+-- where the first of some pieces starts, and another time where there is none
+pub use Rattle.upp_curve.specs.Readable.{start_after}
 
 -- a piece, and where the next one starts: nowhere after a last piece that goes on for ever
 pub record Span : Type 0 where
@@ -29,11 +31,6 @@ line_read (Infinite rank) p = cond (lt_q p.x rank) p.line None
 
 abbrev pub piece_read : Tail → Piece → Piece
 piece_read tail p = record { x = p.x; at = p.at; line = line_read tail p }
-
--- where the first of some pieces starts, and `after` where there is none
-abbrev pub start_after : List Piece → Option ℚ → Option ℚ
-start_after [] after = after
-start_after (q ∷ qs) after = Some q.x
 
 -- each piece with the start of the next one
 unfoldable pub spans : Tail → List Piece → List Span

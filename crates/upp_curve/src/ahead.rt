@@ -137,7 +137,8 @@ fn moved(next: Option<Frac>, by: Frac) -> Option<Frac>
     }
 }
 
-/// The value at t of a piece that starts, in its first period, at `early` or before, by the line it has in the period of t.
+/// The value at t of a piece that starts, in its first period, at `early` or before, by the line it has in the period
+/// of t.
 fn copied_value(
     piece: &Piece,
     line: &Option<Line>,
@@ -165,7 +166,8 @@ fn repeating_stretch(c: &Curve, rank: Frac, period: Frac, rise: Frac, t: Frac) -
     requires window { (z : Sizes) × (end : ℚ) × HasWindow z end c.now × IsTimeIn z end t }
     ensures goes { GoesOn (value_at c.now) t result }
     ensures times { (d : ℕ) → TimesStand d c.now → AtNext (Whole d) result.next }
-    ensures sizes { (z : Sizes) (end : ℚ) → HasWindow z end c.now → IsTimeIn z end t → OperandLineAt z result.line × GridValue z result.at }
+    ensures sizes { (z : Sizes) (end : ℚ) → HasWindow z end c.now → IsTimeIn z end t
+        → OperandLineAt z result.line × GridValue z result.at }
 {
     let Turn { n, by, early } = turn_of(c, rank, period, rise, t);
     let end = sum(rank, period);
@@ -181,15 +183,16 @@ fn repeating_stretch(c: &Curve, rank: Frac, period: Frac, rise: Frac, t: Frac) -
     }
 }
 
-/// How a curve goes on from a time of a window: the value there, the line that follows, and until when. By binary search in the
-/// pieces that are kept; nothing is unrolled, and no memory is taken. The window's sizes z are those of a gauge below 2^120, its
-/// end is past what is kept of the curve, and t stands on its grid, from 0 on and before its end. The next time stands on each
-/// grid on which the curve's rank, period and starts do.
+/// How a curve goes on from a time of a window: the value there, the line that follows, and until when. By binary
+/// search in the pieces that are kept; nothing is unrolled, and no memory is taken. The window's sizes z are those of a
+/// gauge below 2^120, its end is past what is kept of the curve, and t stands on its grid, from 0 on and before its
+/// end. The next time stands on each grid on which the curve's rank, period and starts do.
 pub fn stretch_at(c: &Curve, t: Frac) -> Stretch
     requires { (z : Sizes) × (end : ℚ) × HasWindow z end c.now × IsTimeIn z end t }
     ensures goes { GoesOn (value_at c.now) t result }
     ensures times { (d : ℕ) → TimesStand d c.now → AtNext (Whole d) result.next }
-    ensures sizes { (z : Sizes) (end : ℚ) → HasWindow z end c.now → IsTimeIn z end t → OperandLineAt z result.line × GridValue z result.at }
+    ensures sizes { (z : Sizes) (end : ℚ) → HasWindow z end c.now → IsTimeIn z end t
+        → OperandLineAt z result.line × GridValue z result.at }
 {
     match *c.tail() {
         Tail::Periodic { rank, period, rise } => repeating_stretch(c, rank, period, rise, t),

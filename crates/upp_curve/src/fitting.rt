@@ -1,4 +1,4 @@
-//! Steps of arithmetic that are known to fit.
+//! Steps of arithmetic that are known to fit, so that none is refused.
 
 ghost use Rattle.std.specs.Prelude.{◌≡◌, List, ◌∷◌, pos};
 ghost use Rattle.rational.specs.Rational.{int, ◌+ℚ◌, ◌-ℚ◌, ◌*ℚ◌, ◌≤ℚ◌, ◌<ℚ◌, neg_ℚ};
@@ -42,8 +42,8 @@ pub(crate) fn product(a: Frac, b: Frac) -> Frac
     Frac::mul(a, b).unwrap()
 }
 
-// A value, risen.
-fn raised(v: Ext, by: Frac) -> Ext
+/// A value, risen.
+pub(crate) fn raised(v: Ext, by: Frac) -> Ext
     requires { SumFitsAt v by }
     ensures { result ≡ v +ₑ Extended.Fin by }
 {

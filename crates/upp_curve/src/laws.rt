@@ -4,7 +4,8 @@ ghost use Rattle.upp_curve.specs.Normal.{NormalFormIsUnique};
 ghost use Rattle.upp_curve.specs.PieceLaws.{PiecesAreCounted, SpansAreUnrolled};
 ghost use Rattle.upp_curve.specs.Deviations.{DeviationsAreUnique};
 ghost use Rattle.upp_curve.specs.BucketBounds.{BucketDeviations};
-ghost use Rattle.upp_curve.specs.WorkedRows.{StairRows, GateRows, BucketRows, RateLatencyRows, MinimumRows, RunningRows, ConvolutionRows};
+ghost use Rattle.upp_curve.specs.WorkedRows.{StairRows, GateRows, BucketRows, RateLatencyRows, MinimumRows};
+ghost use Rattle.upp_curve.specs.WorkedRows.{RunningRows, ConvolutionRows};
 ghost use Rattle.upp_curve.specs.WorkedStairs.{StairFormula, TwoStairs, StairLeaves, JumpLeaves};
 ghost use Rattle.upp_curve.specs.WorkedShifts.{ShiftRows, ScaleRows, MinusRows, DifferenceRows, LeftOverRows};
 

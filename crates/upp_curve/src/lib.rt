@@ -54,5 +54,5 @@ pub use op_kind::{OpFault, OpKind, Window};
 pub use own_limits::{OverLimit, over_own_limit};
 pub use raw_curve::{RawCurve, normalise, normalise_on};
 pub use scaled_numbers::{scaled_piece, scaled_tail};
-pub use starts::{is_after, is_before};
+pub use starts::{is_after, is_before, is_less};
 pub use steadiness::steady_time;

@@ -13,7 +13,8 @@ ghost use Rattle.upp_curve.specs.Spans.{end_of};
 ghost use Rattle.rational.specs.Ratio.{SumFits};
 ghost use Rattle.upp_curve.specs.Normal.{IsRaw, StartsAtZero};
 ghost use Rattle.upp_curve.specs.Gathered.{Gathers};
-ghost use Rattle.upp_curve.specs.Limits.{Numbers, joined, time_alone, own_end, own_gauge, own_sizes, gauge_of, sizes_of, curve_numbers};
+ghost use Rattle.upp_curve.specs.Limits.{Numbers, joined, time_alone, own_end, own_gauge, own_sizes, gauge_of};
+ghost use Rattle.upp_curve.specs.Limits.{sizes_of, curve_numbers};
 ghost use Rattle.upp_curve.specs.Seen.{RankLineFits};
 
 use crate::curve::Tail;
@@ -96,8 +97,8 @@ fn own_end(last: &Piece, tail: &Tail) -> Option<Frac>
     }
 }
 
-/// The numbers that limit a call on a curve by itself: the end of its window, its gauge, and the grids of its times and of its
-/// values.
+/// The numbers that limit a call on a curve by itself: the end of its window, its gauge, and the grids of its times and
+/// of its values.
 #[derive(Debug, Clone, Copy)]
 pub(crate) struct OwnNumbers {
     pub end: Frac,
@@ -122,8 +123,8 @@ pub(crate) fn numbers_of(g: Gathered, end: Frac) -> Option<OwnNumbers>
     }
 }
 
-// The numbers of a curve with a window, in whatever form it is given; None where the gauge is 2^128 or more. `after` is where
-// the next piece starts after the last.
+// The numbers of a curve with a window, in whatever form it is given; None where the gauge is 2^128 or more. `after` is
+// where the next piece starts after the last.
 fn numbers_with(
     pieces: &[Piece],
     tail: &Tail,
