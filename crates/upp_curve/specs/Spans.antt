@@ -1,4 +1,4 @@
--- A curve's pieces with their ends, and the copies of them that start below a time.
+-- A curve's pieces with their ends, and the copies of them that start below a time. Own choice.
 use Rattle.std.specs.Prelude.{ℕ, zero, suc, pos, cond, List, [], ◌∷◌, Option, Some, None}
 use Rattle.std.specs.List.{flat_map}
 use Rattle.rational.specs.Rational.{ℚ, ◌+ℚ◌, ◌*ℚ◌, int, lt_q}
@@ -16,8 +16,8 @@ pub record Span : Type 0 where
   pub piece : Piece
   pub next : Option ℚ
 
--- where the next piece starts after the last of the list: the first copy at rank + period; nothing after an affine tail; at the rank of an infinite
--- tail its values end
+-- where the next piece starts after the last of the list: the first copy at rank + period; nothing after an affine
+-- tail; at the rank of an infinite tail its values end
 abbrev pub end_of : Tail → Option ℚ
 end_of (Periodic rank period rise) = Some (rank +ℚ period)
 end_of (Affine rank) = None
