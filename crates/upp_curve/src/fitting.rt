@@ -18,16 +18,16 @@ use fraction128::{Ext, Frac};
 use rational::Extended;
 use std::cmp::Ordering;
 
-/// a + b.
-pub(crate) fn sum(a: Frac, b: Frac) -> Frac
+/// a + b, where it fits.
+pub fn sum(a: Frac, b: Frac) -> Frac
     requires { SumFits a b }
     ensures { result ≡ a +ℚ b }
 {
     Frac::add(a, b).unwrap()
 }
 
-/// a - b.
-pub(crate) fn difference(a: Frac, b: Frac) -> Frac
+/// a - b, where it fits.
+pub fn difference(a: Frac, b: Frac) -> Frac
     requires { SumFits a (neg_ℚ b) }
     ensures { result ≡ a -ℚ b }
 {

@@ -33,9 +33,9 @@ pub fn tally_over(op: &OpKind, f: &Curve, g: &Curve, end: Frac) -> u64
 }
 
 /// How many pieces, or pairs of pieces, a call looks at within a window; the largest u64 where it is more. 0 where the
-/// answer is known at once, and without a window. No memory is taken and nothing is unrolled. For a horizontal deviation
-/// it is that of the operator for curves that rise, which the operator asks for: where one falls somewhere, an answer
-/// that is known only because f ends above g at rates of 0 counts as not known at once.
+/// answer is known at once, and without a window. No memory is taken and nothing is unrolled. For a horizontal
+/// deviation it is that of the operator for curves that rise, which the operator asks for: where one falls somewhere,
+/// an answer that is known only because f ends above g at rates of 0 counts as not known at once.
 pub fn tally(op: OpKind, f: &Curve, g: &Curve, window: Window) -> u64
     ensures known { IsKnownAtOnce op f.now g.now → result ≡ 0 }
     ensures none { window ≡ None → result ≡ 0 }
