@@ -21,7 +21,7 @@ pub record AreBucketAndService (b r R T : ℚ) : Type 0 where
 pub record BucketDelay (burst rate service latency : ℚ) : Type 0 where
   pub finite : rate ≤ℚ service → (zero_q <ℚ burst) ⊎ (zero_q <ℚ rate) →
       IsHorizontalDeviation (value_at (bucket burst rate)) (value_at (rate_latency service latency))
-          (Fin (latency +ℚ burst /ℚ service))
+      (Fin (latency +ℚ burst /ℚ service))
   pub nothing : burst ≡ zero_q → rate ≡ zero_q →
       IsHorizontalDeviation (value_at (bucket burst rate)) (value_at (rate_latency service latency)) (Fin zero_q)
   pub unbounded : service <ℚ rate →
@@ -32,10 +32,10 @@ pub record BucketDelay (burst rate service latency : ℚ) : Type 0 where
 pub record BucketBacklog (burst rate service latency packet : ℚ) : Type 0 where
   pub finite : rate ≤ℚ service →
       IsVerticalDeviation (value_at (bucket burst rate)) (packetised (value_at (rate_latency service latency)) packet)
-          (Fin (burst +ℚ rate *ℚ (latency +ℚ packet /ℚ service)))
+      (Fin (burst +ℚ rate *ℚ (latency +ℚ packet /ℚ service)))
   pub unbounded : service <ℚ rate →
       IsVerticalDeviation (value_at (bucket burst rate)) (packetised (value_at (rate_latency service latency)) packet)
-          Inf
+      Inf
 
 abbrev pub BucketDeviations : Type 0
 BucketDeviations = (burst rate service latency packet : ℚ) → AreBucketAndService burst rate service latency

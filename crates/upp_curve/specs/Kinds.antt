@@ -30,7 +30,7 @@ rate_latency_value rate latency t = Fin (rate *ℚ max_q zero_q (t -ℚ latency)
 abbrev pub gate_value : ℚ → ℚ → ℚ → ℚ → Ext
 gate_value rate cycle slot t =
     Fin (rate *ℚ max_q (int (pos (whole_part (t /ℚ cycle))) *ℚ slot)
-        (t -ℚ int (pos (whole_up (t /ℚ cycle))) *ℚ (cycle -ℚ slot)))
+    (t -ℚ int (pos (whole_up (t /ℚ cycle))) *ℚ (cycle -ℚ slot)))
 
 -- ---- curves
 -- a piece at x with a value and a line

@@ -107,7 +107,7 @@ IsShape ps rank period rise (Straight kept) = IsFront kept.items ps
     × IsLine kept.items (repeated (read ps) rank period rise)
 IsShape ps rank period rise (Turns c) =
     IsFront c.pieces.items ps × (rank ≤ℚ c.rank) × (c.rank ≤ℚ rank +ℚ period) × (c.period ≡ period) × (c.rise ≡ rise)
-        × IsTurning c (repeated (read ps) rank period rise)
+    × IsTurning c (repeated (read ps) rank period rise)
 
 -- ---- the least rank
 -- p's values, a period later and a rise higher, lie in the piece `last`
@@ -135,7 +135,7 @@ abbrev pub StepFits : List Piece → ℕ → ℚ → ℚ → Piece → Type 0
 StepFits ps first period rise z =
     LaterFits period rise (get_or ps (first - 1) z)
     × ((get_or ps (length ps - 1) z).line ≡ line_later period rise (get_or ps (first - 1) z).line
-        → LineFitsAt ((get_or ps (first - 1) z).x +ℚ period) (get_or ps (length ps - 1) z).line)
+    → LineFitsAt ((get_or ps (first - 1) z).x +ℚ period) (get_or ps (length ps - 1) z).line)
 
 -- each piece before the rank, moved by a period, and its value there, fit
 abbrev pub StepsFit : List Piece → ℚ → ℚ → ℚ → Type 0
@@ -178,7 +178,7 @@ pub record OnGrids (times values : ℕ) (f : ℚ → Ext) (from period rise : �
 abbrev pub SharesFit : ℕ → ℕ → List Piece → ℚ → ℚ → Type 0
 SharesFit times values ps period rise =
     (n : ℕ) → 1 ≤ n → Whole times (period /ℚ int (pos n)) → Whole values (rise /ℚ int (pos n))
-        → Each (LaterFits (period /ℚ int (pos n)) (rise /ℚ int (pos n))) ps
+    → Each (LaterFits (period /ℚ int (pos n)) (rise /ℚ int (pos n))) ps
 
 -- d is c, and a period of c divided by `parts` is none
 pub record StaysWhole (c : Cycle) (parts : ℕ) (d : Cycle) : Type 0 where

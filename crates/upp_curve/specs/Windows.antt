@@ -80,7 +80,7 @@ Meets Max f g k = IsSlowerBelow (value_at f) (value_at g) (rate f) (rate g)
     (periods_after (both_steady f g) k (common_period f g)) (common_period f g)
 Meets PosDiff f g k =
     IsSlowerBelow (value_at f) (value_at g) (rate f) (rate g) (periods_after (both_steady f g) k (common_period f g))
-        (common_period f g)
+    (common_period f g)
 Meets (PosMinus l) f g k = IsSlowerBelow (value_at f) (λ t. Fin l) (rate f) (Fin zero_q)
     (periods_after (steady f) k (own_period f)) (own_period f)
 Meets (Scale q) f g k = Unit {0}
@@ -91,13 +91,13 @@ Meets RunInf f g k = Unit {0}
 Meets (FifoLeft Inf) f g k = Unit {0}
 Meets (FifoLeft (Fin theta)) f g k =
     IsSlowerBelow (value_at f) (λ t. value_at g (t -ℚ theta)) (rate f) (rate g)
-        (periods_after (moved_steady f g theta) k (common_period f g)) (common_period f g)
+    (periods_after (moved_steady f g theta) k (common_period f g)) (common_period f g)
 Meets Convolve f g k = IsSlowerLateLeast f g (periods_after (steady f +ℚ steady g) (suc k) (common_period f g))
     (common_period f g)
 Meets Deconvolve f g k = Unit {0}
 Meets Horizontal f g k =
     IsConstantFrom (value_at f) (steady f)
-        ⊎ (value_at g (steady g) <ₑ value_at f (periods_after (steady f) k (common_period f g)))
+    ⊎ (value_at g (steady g) <ₑ value_at f (periods_after (steady f) k (common_period f g)))
 Meets Vertical f g k = Unit {0}
 Meets Itself f g k = Unit {0}
 

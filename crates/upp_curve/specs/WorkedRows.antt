@@ -87,13 +87,13 @@ pub record RunningRows : Type 0 where
 pub record ConvolutionRows : Type 0 where
   pub services : (t : ℚ) → zero_q ≤ℚ t →
       IsConvolution (value_at (rate_latency (whole 100) (whole 130))) (value_at (rate_latency (whole 100) (whole 10)))
-          t (value_at (rate_latency (whole 100) (whole 140)) t)
+      t (value_at (rate_latency (whole 100) (whole 140)) t)
   pub buckets : (t : ℚ) → zero_q ≤ℚ t →
       IsConvolution (value_at (bucket (whole 3) (whole 2))) (value_at (bucket (whole 5) (whole 4))) t
-          (value_at (bucket (whole 8) (whole 2)) t)
+      (value_at (bucket (whole 8) (whole 2)) t)
   pub output : (t : ℚ) → zero_q ≤ℚ t →
       IsDeconvolution (value_at (bucket (whole 12000) (whole 10))) (value_at (rate_latency (whole 100) (whole 130))) t
-          (value_at (bucket (whole 13300) (whole 10)) t)
+      (value_at (bucket (whole 13300) (whole 10)) t)
   pub closed : (t : ℚ) → zero_q ≤ℚ t
       → IsSubadditiveClosure (value_at (bucket (whole 3) (whole 2))) t (value_at (bucket (whole 3) (whole 2)) t)
   pub closed_to_none : (t : ℚ) → zero_q ≤ℚ t

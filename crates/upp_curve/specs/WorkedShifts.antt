@@ -48,7 +48,7 @@ pub record DifferenceRows : Type 0 where
 pub record LeftOverRows : Type 0 where
   pub left : (t : ℚ) → zero_q ≤ℚ t →
       IsFifoLeftover (value_at (rate_latency (whole 100) (whole 10))) (value_at (bucket (whole 6000) (whole 5)))
-          (Fin (whole 70)) t (value_at (rate_latency (whole 95) (whole 70)) t)
+      (Fin (whole 70)) t (value_at (rate_latency (whole 95) (whole 70)) t)
   pub at_70 : value_at (rate_latency (whole 95) (whole 70)) (whole 70) ≡ Fin (whole 0)
   pub at_80 : value_at (rate_latency (whole 95) (whole 70)) (whole 80) ≡ Fin (whole 950)
   pub endless : IsFifoLeftover (value_at (rate_latency (whole 100) (whole 10)))

@@ -147,7 +147,7 @@ impl Gathered {
     ) -> Option<Gathered>
         ensures value { let span : Span = record { piece = piece.now; next = next.now } in
             IfSome result (λ r. (m : Numbers) → Gathers self.now m
-                → Gathers r (joined m (last_numbers (n *ℚ rise) span))) }
+            → Gathers r (joined m (last_numbers (n *ℚ rise) span))) }
         ensures fits { let span : Span = record { piece = piece.now; next = next.now } in
             SpanFits span → SeenRises (seen_of span) n rise → IsSome result }
     {

@@ -109,7 +109,7 @@ fn with_scaled_below(
     requires period { HasPeriod tail.now }
     ensures value { let span : Span = record { piece = piece.now; next = next.now } in
         IfSome result (λ r. (n : Numbers) → Gathers g n
-            → Gathers r (joined n (closed_span tail.now end (scaled_span factor span)))) }
+        → Gathers r (joined n (closed_span tail.now end (scaled_span factor span)))) }
     ensures fits { let span : Span = record { piece = piece.now; next = next.now } in
         KnowsTimes factor tail.now end span → IsSome result }
 {
@@ -165,7 +165,7 @@ pub(crate) fn with_scaled(
     requires after { after.now ≡ end_of tail.now }
     ensures value { let c : SpecCurve = record { pieces = pieces.now; tail = tail.now } in
         IfSome result (λ r. (n : Numbers) → Gathers g n
-            → Gathers r (joined n (closed_numbers end (scaled_curve factor c)))) }
+        → Gathers r (joined n (closed_numbers end (scaled_curve factor c)))) }
     ensures fits { let c : SpecCurve = record { pieces = pieces.now; tail = tail.now } in
         KnowsScaled factor end c → IsSome result }
 {
