@@ -1,13 +1,12 @@
 //! How a curve goes on from a time, without unrolling it.
 
-ghost use Rattle.std.specs.Prelude.{ℕ, ◌≡◌, ◌≢◌, pos, None};
-ghost use Rattle.rational.specs.Rational.{ℚ, int, ◌+ℚ◌, ◌-ℚ◌, ◌*ℚ◌, ◌/ℚ◌, ◌≤ℚ◌, ◌<ℚ◌, neg_ℚ};
-ghost use Rattle.rational.specs.Ratio.{IsSmall, SumFits};
+ghost use Rattle.std.specs.Prelude.{ℕ, ◌≡◌, pos, None};
+ghost use Rattle.rational.specs.Rational.{ℚ, int, ◌*ℚ◌, ◌≤ℚ◌, ◌<ℚ◌};
 ghost use Rattle.rational.specs.Grid.{Whole};
 ghost use Rattle.rational.specs.Whole.{periods};
 ghost use Rattle.rational.specs.Extended.{◌+ₑ◌};
 ghost use Rattle.affine_segment.specs.Values.{line_value};
-ghost use Rattle.upp_curve.specs.Reading.{read, piece_in};
+ghost use Rattle.upp_curve.specs.Reading.{read};
 ghost use Rattle.upp_curve.specs.Curve.{value_at};
 ghost use Rattle.upp_curve.specs.Curves.{IsCurve};
 ghost use Rattle.upp_curve.specs.Normal.{StartsAtZero};
@@ -22,7 +21,7 @@ ghost use Rattle.upp_curve.specs.Readable.{LineFitsAt};
 ghost use Rattle.upp_curve.specs.Copied.{LineRises, IsTurn, NextMoves};
 
 use crate::curve::{Curve, Tail};
-use crate::fitting::{difference, line_later, line_value, piece_value, product, sum};
+use crate::fitting::{difference, line_later, line_value, piece_value, product, quotient, sum};
 use crate::reading::{piece_at, starts_by};
 use crate::starts::is_less;
 use affine_segment::{Line, Piece};
@@ -68,15 +67,6 @@ fn plain_stretch(pieces: &[Piece], t: Frac) -> Stretch
         line: piece.line,
         next,
     }
-}
-
-/// a / b.
-fn quotient(a: Frac, b: Frac) -> Frac
-    requires some { b ≢ int (pos 0) }
-    requires fits { IsSmall (a /ℚ b) }
-    ensures { result ≡ a /ℚ b }
-{
-    Frac::div(a, b).unwrap()
 }
 
 /// A value, n times the rise higher.

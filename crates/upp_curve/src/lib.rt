@@ -43,7 +43,7 @@ mod unrolling;
 pub use ahead::{Stretch, stretch_at};
 pub use call_sizes::{CallNumbers, call_numbers};
 pub use curve::{Curve, Tail, equal};
-pub use fitting::{difference, sum};
+pub use fitting::{difference, product, quotient, sum};
 pub use jumps::is_continuous;
 pub use kind_laws::kinds_are_curves;
 pub use laws::{

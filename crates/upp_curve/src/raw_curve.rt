@@ -178,8 +178,5 @@ pub fn normalise(raw: RawCurve) -> Result<Curve, OpFault>
         return Err(OpFault::TooMany);
     }
     let alloc = *raw.pieces.allocator();
-    match normalise_on(alloc, &raw, own.times, own.values) {
-        Ok(c) => Ok(c),
-        Err(_) => Err(OpFault::NoMemory),
-    }
+    Ok(normalise_on(alloc, &raw, own.times, own.values)?)
 }

@@ -4,16 +4,15 @@ ghost use Rattle.std.specs.Prelude.{◌≡◌, ◌↔◌, pos, ◌∷◌, IsTrue
 ghost use Rattle.rational.specs.Rational.{int, ◌+ℚ◌, ◌≤ℚ◌};
 ghost use Rattle.rational.specs.Ratio.{SumFits};
 ghost use Rattle.rational.specs.Extended.{◌≤ₑ◌, ◌+ₑ◌};
-ghost use Rattle.affine_segment.specs.Values.{line_at};
 ghost use Rattle.upp_curve.specs.Reading.{read};
 ghost use Rattle.upp_curve.specs.Normal.{Each, HasStart, StartsAtZero};
 ghost use Rattle.upp_curve.specs.Readable.{LineFits, LineFitsAt, LineFitsTo, EachFits, SumFitsAt};
 ghost use Rattle.upp_curve.specs.Steady.{slope_of, last_line};
-ghost use Rattle.upp_curve.specs.Shapes.{IsNumber, IsFinitePiece, EndsBelow, PieceRises, PiecesRise, end_time};
+ghost use Rattle.upp_curve.specs.Shapes.{IsFinitePiece, EndsBelow, PieceRises, PiecesRise, end_time};
 
-use crate::fitting::{raised, sum};
+use crate::fitting::{raised, readable_value, sum};
 use crate::reading::piece_at;
-use affine_segment::{Line, Piece, value};
+use affine_segment::{Line, Piece};
 use fraction128::{Ext, Frac};
 use rational::Extended;
 use std::cmp::Ordering;
@@ -44,14 +43,6 @@ pub(crate) fn are_finite(pieces: &[Piece]) -> bool
         }
     }
     true
-}
-
-// The value of a line whose steps fit.
-pub(crate) fn readable_value(line: &Line, t: Frac) -> Frac
-    requires { LineFits t line.now }
-    ensures { result ≡ line_at line.now t }
-{
-    value(line, t).unwrap()
 }
 
 fn at_most(a: Ext, b: Ext) -> bool

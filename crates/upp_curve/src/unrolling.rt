@@ -1,7 +1,7 @@
 //! The pieces of a curve that start before a time, its periods written out.
 
 ghost use Rattle.std.specs.Prelude.{◌≡◌, ◌<◌, ◌≤◌, ◌^◌, ◌++◌, [], length, pos, OnOk, IfOk, IfErr, Err};
-ghost use Rattle.rational.specs.Rational.{ℚ, int, ◌*ℚ◌, ◌≤ℚ◌, ◌<ℚ◌};
+ghost use Rattle.rational.specs.Rational.{ℚ, int, ◌*ℚ◌, ◌≤ℚ◌};
 ghost use Rattle.upp_curve.specs.declared.curve.Tail.TheVariants.{Periodic};
 ghost use Rattle.upp_curve.specs.Normal.{StartsAtZero, FitsPeriod};
 ghost use Rattle.upp_curve.specs.Unrolled.{each_later, from, unroll, unrolled, upto};
@@ -128,9 +128,6 @@ impl Curve {
         if is_less(h, Frac::zero()) {
             return Ok(Vec::new(alloc));
         }
-        match self.unrolled(h) {
-            Ok(pieces) => Ok(pieces),
-            Err(_) => Err(OpFault::NoMemory),
-        }
+        Ok(self.unrolled(h)?)
     }
 }

@@ -25,8 +25,8 @@ unrolled-requires c =
     let small : gauge_over Itself f f h < 2 ^ 120 = omega arith in
     first_operand Itself f f h late small
 
-pub returns-in-Ok-clause-none : goal.returns-in-Ok-clause-none
-returns-in-Ok-clause-none c = λ low. c.in-Ok.ensures ∙ unroll_none c.args.self.now c.args.h low c.allocator-alloc.ensures.normal
+pub returns-clause-none : goal.returns-clause-none
+returns-clause-none c = λ low. c.in_ok-unrolled.ensures ∙ unroll_none c.args.self.now c.args.h low c.allocator-alloc.ensures.normal
 
 pub returns-then-is_less-clause-number : goal.returns-then-is_less-clause-number
 returns-then-is_less-clause-number c =
@@ -36,6 +36,6 @@ returns-then-is_less-clause-number c =
     let normal = c.allocator-alloc.ensures.normal in
     number_of f h c.new.result.items normal (c.new.ensures.items ∙ sym (unroll_none f h (le_of_lt early) normal))
 
-pub returns-in-Ok-clause-number : goal.returns-in-Ok-clause-number
-returns-in-Ok-clause-number c =
-    number_of c.args.self.now c.args.h c.in-Ok.pieces.items c.allocator-alloc.ensures.normal c.in-Ok.ensures
+pub returns-clause-number : goal.returns-clause-number
+returns-clause-number c =
+    number_of c.args.self.now c.args.h c.in_ok-unrolled.value.items c.allocator-alloc.ensures.normal c.in_ok-unrolled.ensures
