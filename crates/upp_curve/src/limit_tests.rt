@@ -61,8 +61,8 @@ fn stair(rt: &impl Abort, alloc: Global) -> Result<Curve, OpFault> {
 }
 
 // Below 3 the pieces of `teeth` start at 0 and 3/2. The times 3, 0 and 3/2 have the denominator 2. The values 1/2 and
-// 17/14 at starts, 1 and 12/7 after them, 3 and 26/7 before the next ones, and the rise 5/7 have the denominator 14. The
-// slope 4/3 has the denominator 3, and twice its size is at most 3. No value is above 3 times 3. So the gauge is
+// 17/14 at starts, 1 and 12/7 after them, 3 and 26/7 before the next ones, and the rise 5/7 have the denominator 14.
+// The slope 4/3 has the denominator 3, and twice its size is at most 3. No value is above 3 times 3. So the gauge is
 // 64 * 9 * 3 * 14 * 2 * 3 * 3.
 #[test]
 fn gauge_of_teeth(rt: HostRuntime) -> Result<(), Fail> {
