@@ -18,7 +18,7 @@ use Rattle.upp_curve.specs.declared.curve.Tail.{Tail}
 use Rattle.upp_curve.specs.declared.curve.Tail.TheVariants.{Periodic, Affine, Infinite}
 use Rattle.upp_curve.specs.Curve.{SpecCurve}
 use Rattle.upp_curve.specs.Normal.{Each, IsNormal, RisesFrom}
-use Rattle.upp_curve.specs.PieceLaws.{HaveSamePieces, PiecesAreCounted, SpansAreUnrolled}
+use Rattle.upp_curve.specs.PieceLaws.{PiecesAreCounted, SpansAreUnrolled}
 use Rattle.upp_curve.specs.Spans.{Span, copies_of, end_of, number_below, once, once_below, piece_read, span_below, spans, spans_below, start_after}
 use Rattle.upp_curve.specs.Unrolled.{copies, copies_below, each_later, from, later, unroll, unrolled, upto}
 use Rattle.upp_curve.proofs.Copies.{copies_in, every_copy}

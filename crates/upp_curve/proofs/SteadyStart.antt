@@ -1,7 +1,7 @@
 -- From when on a curve repeats, by the last of its pieces.
 use Rattle.std.specs.Prelude.{◌≡◌, ◌-◌, pos, Bool, false, true, List, [], ◌∷◌, length, Option, Some, None, IfNone}
 use Rattle.std.proofs.Common.{sym, ap, ◌∙◌, refl, subst, get_or}
-use Rattle.rational.specs.Rational.{ℚ, ◌+ℚ◌, ◌≤ℚ◌, int}
+use Rattle.rational.specs.Rational.{ℚ, ◌+ℚ◌, int}
 use Rattle.rational.specs.Ratio.{SumFits}
 use Rattle.rational.proofs.Laws.{add_cancel, antisym}
 use Rattle.affine_segment.specs.declared.line.Piece.{Piece}
@@ -11,12 +11,12 @@ use Rattle.upp_curve.specs.Curve.{SpecCurve}
 use Rattle.upp_curve.specs.Curves.{IsCurve}
 use Rattle.upp_curve.specs.Normal.{IsRaw}
 use Rattle.upp_curve.specs.Periods.{own_period}
-use Rattle.upp_curve.specs.Readable.{EachFits, LineFitsAt, IsReadable}
+use Rattle.upp_curve.specs.Readable.{EachFits, LineFitsAt}
 use Rattle.upp_curve.specs.Seen.{RankLineFits}
 use Rattle.upp_curve.specs.Steady.{last_of, later_unless, rank_of, steady}
 use Rattle.upp_curve.specs.Limits.{own_end}
-use Rattle.upp_curve.specs.OwnWindow.{LastBy, affine_keeps, infinite_keeps}
-use Rattle.upp_curve.proofs.OwnGauge.{last_is, last_by, last_place, end_place}
+use Rattle.upp_curve.specs.OwnWindow.{affine_keeps, infinite_keeps}
+use Rattle.upp_curve.proofs.OwnGauge.{last_is, last_place, end_place}
 
 -- the last of a curve's pieces
 pub record IsLast (c : SpecCurve) (ps : List Piece) (last : Piece) : Type 0 where

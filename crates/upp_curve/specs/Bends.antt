@@ -1,7 +1,7 @@
 -- Pieces of which each start is on the grid of times, or a bend: all bends turn one way. So crossings of lines may be
 -- starts, and yet no period that is shorter than all distances of the grid is hidden. Own choice.
 use Rattle.std.specs.Prelude.{◌≡◌, ℕ, Bool, true, false, List, [], ◌∷◌, Option, Some, None, ◌⊎◌}
-use Rattle.rational.specs.Rational.{ℚ, ◌<ℚ◌}
+use Rattle.rational.specs.Rational.{◌<ℚ◌}
 use Rattle.rational.specs.Grid.{Whole}
 use Rattle.rational.specs.Extended.{Ext}
 use Rattle.rational.specs.declared.Extended.TheVariants.{Fin, Inf}

@@ -38,4 +38,4 @@ returns-then-is_less-clause-number c =
 
 pub returns-clause-number : goal.returns-clause-number
 returns-clause-number c =
-    number_of c.args.self.now c.args.h c.in_ok-unrolled.value.items c.allocator-alloc.ensures.normal c.in_ok-unrolled.ensures
+    number_of c.args.self.now c.args.h c.in_ok-unrolled.field-0.items c.allocator-alloc.ensures.normal c.in_ok-unrolled.ensures
