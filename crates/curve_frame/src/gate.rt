@@ -3,14 +3,15 @@
 ghost use Rattle.std.specs.Prelude.{IfOk, IfErr};
 ghost use Rattle.upp_curve.specs.Curves.{IsCurve};
 ghost use Rattle.curve_frame.specs.CallWindows.{IsForward, SecondIsCurve};
-ghost use Rattle.curve_lattice.specs.LatticeCall.{IsFirstWindow, IsWideAtFirst};
+ghost use Rattle.curve_frame.specs.FirstWindows.{IsFirstWindow, IsWideAtFirst};
 
-use curve_frame::{CallWindow, call_window, within};
+use crate::frame::within;
+use crate::windows::{CallWindow, call_window};
 use upp_curve::{Curve, OpFault, OpKind};
 
 /// The window of a call with no period. Refused with TooWide exactly where its gauge is 2^120 or more, however many pieces
-/// there are.
-pub(crate) fn first_window(op: &OpKind, f: &Curve, g: &Curve) -> Result<CallWindow, OpFault>
+/// there are. No memory is taken.
+pub fn first_window(op: &OpKind, f: &Curve, g: &Curve) -> Result<CallWindow, OpFault>
     requires { IsForward op.now }
     ensures window { IfOk result (IsFirstWindow op.now f.now g.now) }
     ensures refused { IfErr result (IsWideAtFirst op.now f.now g.now) }
