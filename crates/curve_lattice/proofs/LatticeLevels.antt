@@ -52,8 +52,7 @@ use Rattle.curve_least.proofs.Rises.{rate_rise}
 use Rattle.curve_least.proofs.Shifts.{same_least}
 use Rattle.curve_lattice.specs.declared.lattice.Lattice.TheVariants.{Excess}
 use Rattle.curve_lattice.specs.Lattice.{RisesBy, IsTailRise}
-use Rattle.curve_frame.specs.FirstWindows.{IsFirstWindow, IsWideAtFirst}
-use Rattle.curve_lattice.specs.LatticeCall.{LatticeCall, IsLatticeFrame}
+use Rattle.curve_lattice.specs.LatticeCall.{LatticeCall, IsLatticeFrame, IsFirstWindow, IsWideAtFirst}
 use Rattle.curve_lattice.proofs.LatticeCalls.{call_from, at_times, compared}
 
 -- ---- a level is steady from 0 on, and has one span

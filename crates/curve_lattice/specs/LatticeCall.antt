@@ -43,3 +43,14 @@ pub record IsLatticeFrame (f g : SpecCurve) (r : Frame) : Type 0 where
   pub times : r.times ≡ sizes.dt
   pub values : r.values ≡ grid_of sizes
   pub enough : IsSlowerBelow (value_at f) (value_at g) (rate f) (rate g) (periods_after r.start number r.period) r.period
+
+-- the window of a call with no period, whose gauge is within the limit
+pub record IsFirstWindow (op : OpKind) (f g : SpecCurve) (w : CallWindow) : Type 0 where
+  pub window : IsWindow op f g 0 0 w
+  pub gauge : gauge_at op f g 0 0 < 2 ^ 120
+
+-- the only refusal is for the gauge with no period
+abbrev pub IsWideAtFirst : OpKind → SpecCurve → SpecCurve → OpFault → Type 0
+IsWideAtFirst op f g TooMany = ⊥
+IsWideAtFirst op f g TooWide = 2 ^ 120 ≤ gauge_at op f g 0 0
+IsWideAtFirst op f g NoMemory = ⊥

@@ -12,16 +12,18 @@ ghost use Rattle.curve_frame.specs.Rises.{CurveRiseFits};
 ghost use Rattle.curve_lattice.specs.Lattice.{kind_of, made_of, rises_of, FiniteFor, RisesBy, IsTailRise};
 ghost use Rattle.curve_lattice.specs.LatticeCall.{IsLatticeFrame};
 
+use crate::gate::first_window;
 use affine_segment::Piece;
-use curve_frame::{Frame, answer, first_window, rise_over, within};
+use curve_frame::{Frame, answer, rise_over, within};
 use curve_least::least_periods;
 use curve_window::{window_excess, window_max, window_min};
 use fraction128::{Ext, Frac};
 use rational::Extended;
 use std::alloc::{AllocError, Global};
+use std::cmp::Ordering;
 use std::sync::ledger::Ledger;
 use steps::Steps;
-use upp_curve::{Curve, OpFault, OpKind, difference};
+use upp_curve::{Curve, OpFault, OpKind};
 
 /// What is made of two curves.
 #[derive(Debug, Clone, Copy)]
@@ -41,6 +43,46 @@ fn kind_of(of: Lattice) -> OpKind
         Lattice::Lower => OpKind::Min,
         Lattice::Upper => OpKind::Max,
         Lattice::Excess => OpKind::PosDiff,
+    }
+}
+
+/// a - b.
+pub(crate) fn difference(a: Frac, b: Frac) -> Frac
+    requires { SumFits a (neg_ℚ b) }
+    ensures { result ≡ a -ℚ b }
+{
+    Frac::sub(a, b).unwrap()
+}
+
+/// The long-run rate.
+pub(crate) fn rate_of(c: &Curve) -> Ext
+    ensures { result ≡ rate c.now }
+{
+    match c.rate() {
+        Ok(rate) => rate,
+        Err(_) => Extended::Inf,
+    }
+}
+
+pub(crate) fn is_less(a: Frac, b: Frac) -> bool
+    ensures { IsTrue result ↔ (a <ℚ b) }
+{
+    match a.cmp(&b) {
+        Ordering::Less => true,
+        _ => false,
+    }
+}
+
+/// Whether f is the slower one.
+fn is_slower(f: &Curve, g: &Curve) -> bool
+    ensures { IsTrue result ↔ (rate f.now <ₑ rate g.now) }
+{
+    match rate_of(f) {
+        Extended::Inf => false,
+        Extended::Fin(x) => match rate_of(g) {
+            Extended::Inf => true,
+            Extended::Fin(y) => is_less(x, y),
+        },
     }
 }
 

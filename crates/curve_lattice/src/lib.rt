@@ -2,6 +2,7 @@
 #![tactic(auto)]
 
 mod extremes;
+mod gate;
 mod lattice;
 mod levels;
 #[cfg(test)]
