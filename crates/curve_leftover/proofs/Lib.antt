@@ -9,3 +9,5 @@ pub mod LowestCalls
 pub mod LowestReads
 pub mod LeftCalls
 pub mod LeftAnswers
+pub mod ValueIn
+pub mod BehindWalk
