@@ -88,11 +88,11 @@ time_fits z f g theta from end t most C W h =
     (times_fit z end t theta C.first.limited T.whole C.theta_whole T.nonneg (le_of_lt h) C.theta_low (with4 theta from t end (λ c. omega (arith, c.le, c.lt, c.same)))).1
 
 -- ---- the values there
-pub record FoundAt (f g : SpecCurve) (theta t : ℚ) (ahead served : Stretch) (u v : ℚ) : Type 0 where
-  pub ahead : GoesOn (value_at f) t ahead
-  pub served : GoesOn (value_at g) (t -ℚ theta) served
-  pub first : ahead.at ≡ Fin u
-  pub second : served.at ≡ Fin v
+pub record FoundAt (f g : SpecCurve) (theta t : ℚ) (a b : Stretch) (u v : ℚ) : Type 0 where
+  pub ahead : GoesOn (value_at f) t a
+  pub served : GoesOn (value_at g) (t -ℚ theta) b
+  pub first : a.at ≡ Fin u
+  pub second : b.at ≡ Fin v
 
 pub beta_number : (f : SpecCurve) (g : ℚ → Ext) (theta t : ℚ) (s : Stretch) → IsServed (value_at f) g theta → zero_q ≤ℚ t → GoesOn (value_at f) t s → IsNumber s.at
 beta_number f g theta t s S low G = let (v, e) = S.finite t low in number_of s.at v (G.at ∙ e)
