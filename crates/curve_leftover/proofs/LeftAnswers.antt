@@ -32,6 +32,7 @@ use Rattle.upp_curve.proofs.NormaliseLists.{each_map}
 use Rattle.upp_curve.proofs.StretchSizes.{times_fit}
 use Rattle.curve_frame.specs.declared.frame.Frame.{Frame}
 use Rattle.curve_frame.specs.Answering.{IsAnswer}
+use Rattle.curve_frame.specs.Rises.{CurveRiseFits}
 use Rattle.curve_frame.proofs.Answering.{answer_relation}
 use Rattle.curve_window.specs.declared.stretch.Both.{Both}
 use Rattle.curve_window.specs.Pointwise.{mapped}
@@ -217,3 +218,8 @@ window_made f g theta end ls rs ps bs l r O e = record {
   overlay = subst (λ x. IsOverlay x (moved_right theta end (unroll g end)) bs) l (subst (λ x. IsOverlay ls x bs) r O);
   pieces = e;
 }
+
+pub rise_steps : (f g : SpecCurve) (theta : ℚ) (r : Frame) → IsLeftFrame f g theta r → CurveRiseFits f r.period × CurveRiseFits g r.period
+rise_steps f g theta r F =
+    let L = F.call in
+    ((left_rise f g theta r.start r.period r.end F.number F.sizes L).fits, (right_rise f g theta r.start r.period r.end F.number F.sizes L).fits)

@@ -11,3 +11,6 @@ pub mod LeftCalls
 pub mod LeftAnswers
 pub mod ValueIn
 pub mod BehindWalk
+pub mod LeastBehind
+pub mod LeftLimits
+pub mod Nothing

@@ -1,0 +1,3 @@
+//! Values worked out by hand.
+
+ghost use Rattle.std.specs.Prelude.{◌≡◌, ◌<◌};
