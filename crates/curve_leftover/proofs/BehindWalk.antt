@@ -2,19 +2,18 @@
 -- the next, the service has caught up.
 use Rattle.std.specs.Prelude.{◌≡◌, ℕ, ◌*◌, ◌<◌, pos, Option, Some, None, ◌⊎◌}
 use Rattle.std.proofs.Common.{arith, sym, ap, ◌∙◌, refl, subst, inl, inr}
-use Rattle.rational.specs.Rational.{ℚ, ◌+ℚ◌, ◌-ℚ◌, ◌*ℚ◌, ◌≤ℚ◌, ◌<ℚ◌, neg_ℚ, int}
+use Rattle.rational.specs.Rational.{ℚ, ◌-ℚ◌, ◌≤ℚ◌, ◌<ℚ◌, neg_ℚ, int}
 use Rattle.rational.specs.MinMax.{max_q}
 use Rattle.rational.specs.Ratio.{SumFits}
 use Rattle.rational.specs.Grid.{Whole, Within}
 use Rattle.rational.specs.Extended.{Ext, ◌≤ₑ◌, ◌<ₑ◌, ◌+ₑ◌}
 use Rattle.rational.specs.declared.Extended.TheVariants.{Fin, Inf}
-use Rattle.rational.proofs.Linear.{with1, with2, with3, with4}
+use Rattle.rational.proofs.Linear.{with2, with3, with4}
 use Rattle.rational.proofs.Laws.{le_or_lt, le_refl, le_of_lt, le_trans, lt_irrefl, lt_le_trans, le_lt_trans, antisym, le_of_not_lt}
 use Rattle.rational.proofs.MinMax.{max_q_one, max_q_ge_left, max_q_ge_right}
 use Rattle.rational.proofs.Grid.{whole_int, whole_sub, within_nonneg, within_sub}
 use Rattle.rational.proofs.Integers.{nat_nonneg, int_mul}
-use Rattle.rational.proofs.ExtendedOrder.{le_ext_refl, le_ext_trans, same_le_ext, add_le_ext}
-use Rattle.affine_segment.specs.Values.{line_value}
+use Rattle.rational.proofs.ExtendedOrder.{le_ext_refl, le_ext_trans, add_le_ext}
 use Rattle.upp_curve.specs.declared.ahead.Stretch.{Stretch}
 use Rattle.upp_curve.specs.Curve.{SpecCurve, value_at}
 use Rattle.upp_curve.specs.Functions.{zero_q}
@@ -22,15 +21,15 @@ use Rattle.upp_curve.specs.Shapes.{IsNumber}
 use Rattle.upp_curve.specs.Limits.{Sizes}
 use Rattle.upp_curve.specs.Sized.{grid_of, times_largest}
 use Rattle.upp_curve.specs.Operand.{AreLimited}
-use Rattle.upp_curve.specs.Ahead.{GoesOn, AtNext, IsBeforeNext, TimesStand, HasWindow, IsTimeIn, IsGridValue, GridValue}
+use Rattle.upp_curve.specs.Ahead.{GoesOn, AtNext, IsBeforeNext, TimesStand, IsTimeIn, IsGridValue, GridValue}
 use Rattle.upp_curve.proofs.AnswerRoom.{values_fit}
 use Rattle.upp_curve.proofs.Finite.{number_of}
 use Rattle.upp_curve.proofs.StretchSizes.{times_fit}
 use Rattle.curve_running.proofs.LevelSizes.{added}
 use Rattle.curve_least.specs.declared.gaps.Gap.{Gap}
-use Rattle.curve_least.specs.declared.gaps.Gap.TheVariants.{NoTime, Never, Is}
-use Rattle.curve_least.specs.Gaps.{InWindow, IsWithin, IsLargest, IsGap}
-use Rattle.curve_least.specs.GapSteps.{larger, IsUntil, earlier_of, GapStands, IsGapValue}
+use Rattle.curve_least.specs.declared.gaps.Gap.TheVariants.{NoTime, Is}
+use Rattle.curve_least.specs.Gaps.{InWindow, IsWithin, IsGap}
+use Rattle.curve_least.specs.GapSteps.{larger, IsUntil, earlier_of, IsGapValue}
 use Rattle.curve_least.proofs.GapWalk.{GapWalk, NextTime, next_time, steps_left, walk_time, walk_start, walk_step, walk_fewer, next_found, next_past}
 use Rattle.curve_leftover.specs.Behind.{moved, IsServed, IsBehindCall, IsBehindAt, IsMostBehind, IsMost}
 use Rattle.curve_leftover.proofs.Served.{caught_up, other_finite}
@@ -194,9 +193,9 @@ self_gap : (f : ℚ → Ext) (t next : ℚ) (u : ℚ) → t <ℚ next → f t �
 self_gap f t next u past e = record {
   above = λ s i. raised (f s) zero_q (le_refl zero_q);
   near = λ y h. record {
-      at = t;
-      among = record { start = le_refl t; before = past };
-      more = subst (λ x. x +ₑ Fin y <ₑ x) (sym e) (with2 u y (λ c. omega (arith, c.le, c.lt, c.same)));
+    at = t;
+    among = record { start = le_refl t; before = past };
+    more = subst (λ x. x +ₑ Fin y <ₑ x) (sym e) (with2 u y (λ c. omega (arith, c.le, c.lt, c.same)));
   };
 }
 

@@ -1,18 +1,16 @@
 -- The least number of periods after which the one that is served is nowhere above the service, from how far it is above at its worst and
 -- how much the service gains in a period.
-use Rattle.std.specs.Prelude.{◌≡◌, ℕ, ◌+◌, pos, ◌⊎◌}
-use Rattle.std.proofs.Common.{arith, sym, ap, ◌∙◌, refl, subst, inl, inr}
+use Rattle.std.specs.Prelude.{◌≡◌, ℕ, pos, ◌⊎◌}
+use Rattle.std.proofs.Common.{arith, sym, ◌∙◌, subst, inl, inr}
 use Rattle.rational.specs.Rational.{ℚ, ◌+ℚ◌, ◌-ℚ◌, ◌*ℚ◌, ◌/ℚ◌, ◌≤ℚ◌, ◌<ℚ◌, neg_ℚ, int}
 use Rattle.rational.specs.Ratio.{IsSmall, SumFits}
 use Rattle.rational.specs.Gauge.{size_up}
-use Rattle.rational.specs.Grid.{Whole}
 use Rattle.rational.specs.Extended.{Ext, ◌≤ₑ◌, ◌<ₑ◌, ◌+ₑ◌}
 use Rattle.rational.specs.declared.Extended.TheVariants.{Fin, Inf}
-use Rattle.rational.proofs.Linear.{with1, with2, with3, with4, with5, with6}
-use Rattle.rational.proofs.Laws.{le_or_lt, le_refl, le_trans, le_of_lt, lt_irrefl, lt_le_trans, le_lt_trans, antisym, mul_nonneg}
+use Rattle.rational.proofs.Linear.{with1, with2, with3, with4, with5}
+use Rattle.rational.proofs.Laws.{le_or_lt, le_trans, le_of_lt, lt_irrefl, mul_nonneg}
 use Rattle.rational.proofs.Integers.{nat_nonneg}
-use Rattle.rational.proofs.ExtendedOrder.{add_le_ext, le_ext_refl, le_ext_trans, fin_same}
-use Rattle.upp_curve.specs.declared.op_kind.OpKind.{OpKind}
+use Rattle.rational.proofs.ExtendedOrder.{add_le_ext, le_ext_refl, le_ext_trans}
 use Rattle.upp_curve.specs.declared.op_kind.OpKind.TheVariants.{FifoLeft}
 use Rattle.upp_curve.specs.Curve.{SpecCurve, value_at}
 use Rattle.upp_curve.specs.Functions.{zero_q}
@@ -30,12 +28,11 @@ use Rattle.curve_least.specs.Compared.{RepeatsIn}
 use Rattle.curve_least.specs.Gaps.{InWindow, IsWithin}
 use Rattle.curve_least.specs.GapSteps.{IsGapValue}
 use Rattle.curve_least.proofs.LeastNumber.{number_fits, number_least}
-use Rattle.curve_least.proofs.RiseSizes.{RiseStands}
 use Rattle.curve_least.proofs.Rises.{has_window}
 use Rattle.curve_least.proofs.Shifts.{below_in, below_out, same_least, least_zero}
-use Rattle.curve_leftover.specs.Behind.{moved, IsServed, IsBehindCall, IsBehindAt, IsMostBehind, IsMost}
+use Rattle.curve_leftover.specs.Behind.{moved, IsBehindCall, IsBehindAt, IsMostBehind, IsMost}
 use Rattle.curve_leftover.specs.LeftCall.{LeftCall, IsLeftGate}
-use Rattle.curve_leftover.proofs.LeftCalls.{left_call, at_times, LeftTimes, left_times, start_early, left_rise, right_rise, left_moves, moved_moves, rises_less, not_slower, slower_or_same, lead_some}
+use Rattle.curve_leftover.proofs.LeftCalls.{left_call, at_times, LeftTimes, left_times, left_rise, right_rise, left_moves, moved_moves, rises_less, not_slower, slower_or_same, lead_some}
 use Rattle.curve_leftover.proofs.Served.{theta_nonneg}
 use Rattle.curve_leftover.proofs.SumSizes.{sums_fit}
 

@@ -1,14 +1,13 @@
 -- What is left, in a call within both limits: the steps to it fit, and its pieces are those of an answer.
-use Rattle.std.specs.Prelude.{◌≡◌, ℕ, pos, List}
-use Rattle.std.proofs.Common.{arith, sym, ap, ◌∙◌, refl, subst, inl, inr}
-use Rattle.rational.specs.Rational.{ℚ, neg_ℚ, ◌+ℚ◌, ◌-ℚ◌, ◌*ℚ◌, ◌≤ℚ◌, ◌<ℚ◌, int}
-use Rattle.rational.specs.MinMax.{max_q}
+use Rattle.std.specs.Prelude.{◌≡◌, pos, List}
+use Rattle.std.proofs.Common.{arith, sym, ap, ◌∙◌, subst, inl, inr}
+use Rattle.rational.specs.Rational.{ℚ, neg_ℚ, ◌+ℚ◌, ◌-ℚ◌, ◌≤ℚ◌, ◌<ℚ◌, int}
 use Rattle.rational.specs.Ratio.{SumFits}
 use Rattle.rational.specs.Grid.{Whole, Within}
-use Rattle.rational.specs.Extended.{Ext, ◌≤ₑ◌, ◌+ₑ◌}
+use Rattle.rational.specs.Extended.{Ext, ◌≤ₑ◌}
 use Rattle.rational.specs.declared.Extended.TheVariants.{Fin, Inf}
 use Rattle.rational.proofs.Grid.{whole_add, whole_sub, within_sub}
-use Rattle.rational.proofs.Linear.{with1, with2, with3}
+use Rattle.rational.proofs.Linear.{with2, with3}
 use Rattle.rational.proofs.Laws.{le_or_lt, le_refl, le_trans, le_of_lt}
 use Rattle.rational.proofs.MinMax.{max_q_ge_left}
 use Rattle.affine_segment.specs.declared.line.Piece.{Piece}
@@ -20,9 +19,7 @@ use Rattle.upp_curve.specs.Pointwise.{excess}
 use Rattle.upp_curve.specs.Reading.{read}
 use Rattle.upp_curve.specs.Running.{left_after, IsRunningInfimum, IsFifoLeftover}
 use Rattle.upp_curve.specs.Steady.{Repeats, rise_over}
-use Rattle.upp_curve.specs.Limits.{Sizes}
 use Rattle.upp_curve.specs.Sized.{grid_of, times_largest}
-use Rattle.upp_curve.specs.Shapes.{IsNumber}
 use Rattle.upp_curve.specs.Unrolled.{unroll}
 use Rattle.upp_curve.specs.Unrolling.{IsOperandTo}
 use Rattle.upp_curve.specs.Operand.{OperandPieces}
@@ -40,11 +37,11 @@ use Rattle.curve_window.specs.Stretches.{IsOverlay}
 use Rattle.curve_running.proofs.LevelSizes.{added}
 use Rattle.curve_running.proofs.Shifts.{infimum_repeats}
 use Rattle.curve_leftover.specs.Behind.{IsServed}
-use Rattle.curve_leftover.specs.LeftCall.{LeftCall, IsLeftFrame, IsLeftWindow}
+use Rattle.curve_leftover.specs.LeftCall.{IsLeftFrame, IsLeftWindow}
 use Rattle.curve_leftover.specs.Lowest.{SumValue, SumPiece, IsLowestCall, IsLowest}
 use Rattle.curve_leftover.specs.Moved.{moved_right}
 use Rattle.curve_leftover.specs.Parts.{left_piece}
-use Rattle.curve_leftover.proofs.LeftCalls.{LeftTimes, left_times, theta_before, from_past, period_early, end_some, left_pieces, left_rise, right_rise, rise_sum, rises_less, left_repeats, left_of}
+use Rattle.curve_leftover.proofs.LeftCalls.{LeftTimes, left_times, theta_before, from_past, period_early, left_pieces, left_rise, right_rise, rise_sum, rises_less, left_repeats, left_of}
 use Rattle.curve_leftover.proofs.LeftReads.{left_reads, left_up_to, left_past}
 use Rattle.curve_leftover.proofs.LeftStands.{IsFiniteIn, LeftStands, lefts_stand, last_value}
 use Rattle.curve_leftover.proofs.LowestReads.{LowestOf, lowest_runs, lowest_answer}

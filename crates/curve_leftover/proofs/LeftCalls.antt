@@ -1,20 +1,16 @@
 -- The sizes and the times of a call for what is left, and how what is left repeats.
-use Rattle.std.specs.Prelude.{◌≡◌, ℕ, suc, ◌+◌, ◌<◌, ◌≤◌, ◌^◌, pos, List, ◌⊎◌}
-use Rattle.std.proofs.Common.{arith, sym, ap, ap₂, ◌∙◌, refl, subst, inl, inr}
-use Rattle.rational.specs.Rational.{ℚ, neg_ℚ, ◌+ℚ◌, ◌-ℚ◌, ◌*ℚ◌, ◌≤ℚ◌, ◌<ℚ◌, int}
-use Rattle.rational.specs.Ratio.{SumFits}
-use Rattle.rational.specs.Grid.{Whole, Within}
+use Rattle.std.specs.Prelude.{◌≡◌, ℕ, suc, ◌+◌, ◌<◌, ◌^◌, pos, ◌⊎◌}
+use Rattle.std.proofs.Common.{arith, sym, ap, ◌∙◌, refl, subst, inl, inr}
+use Rattle.rational.specs.Rational.{ℚ, ◌+ℚ◌, ◌-ℚ◌, ◌*ℚ◌, ◌≤ℚ◌, ◌<ℚ◌, int}
 use Rattle.rational.specs.Whole.{periods}
 use Rattle.rational.specs.Extended.{Ext, ◌≤ₑ◌, ◌<ₑ◌, ◌+ₑ◌}
 use Rattle.rational.specs.declared.Extended.TheVariants.{Fin, Inf}
-use Rattle.rational.proofs.Grid.{whole_add, whole_sub, within_sub}
-use Rattle.rational.proofs.Linear.{with1, with2, with3, with4, with5, with6}
-use Rattle.rational.proofs.Laws.{le_or_lt, le_refl, le_trans, le_of_lt, lt_irrefl, lt_le_trans, le_lt_trans, mul_nonneg, mul_le_mul, sub_add}
+use Rattle.rational.proofs.Linear.{with2, with3, with4, with5}
+use Rattle.rational.proofs.Laws.{le_trans, le_of_lt, lt_irrefl, lt_le_trans, le_lt_trans, mul_nonneg, mul_le_mul, sub_add}
 use Rattle.rational.proofs.Integers.{nat_nonneg}
 use Rattle.rational.proofs.Whole.{one_more_times, periods_low, periods_high}
 use Rattle.rational.proofs.MinMax.{max_q_ge_left, max_q_ge_right}
-use Rattle.rational.proofs.ExtendedOrder.{add_le_ext, le_ext_trans, same_le_ext}
-use Rattle.affine_segment.specs.declared.line.Piece.{Piece}
+use Rattle.rational.proofs.ExtendedOrder.{add_le_ext}
 use Rattle.upp_curve.specs.declared.op_kind.OpKind.{OpKind}
 use Rattle.upp_curve.specs.declared.op_kind.OpKind.TheVariants.{FifoLeft}
 use Rattle.upp_curve.specs.Curve.{SpecCurve, value_at}
@@ -25,17 +21,15 @@ use Rattle.upp_curve.specs.Periods.{common_period, moved_steady, periods_after}
 use Rattle.upp_curve.specs.Pointwise.{excess}
 use Rattle.upp_curve.specs.Running.{left_after}
 use Rattle.upp_curve.specs.Windows.{window_at, IsBelowFor}
-use Rattle.upp_curve.specs.Limits.{Sizes, sizes_of, curve_numbers}
+use Rattle.upp_curve.specs.Limits.{Sizes, sizes_of}
 use Rattle.upp_curve.specs.Gauges.{numbers_over, gauge_over, gauge_at}
-use Rattle.upp_curve.specs.Sized.{Stands, grid_of, times_largest}
 use Rattle.upp_curve.specs.Unrolled.{unroll}
-use Rattle.upp_curve.specs.Operand.{AreLimited, OperandPieces}
+use Rattle.upp_curve.specs.Operand.{OperandPieces}
 use Rattle.upp_curve.proofs.Below.{unroll_reads}
 use Rattle.upp_curve.proofs.CurveStands.{are_sizes}
 use Rattle.upp_curve.proofs.Repeats.{repeats_times}
 use Rattle.upp_curve.proofs.Stands.{sizes_stand}
 use Rattle.upp_curve.proofs.Steady.{steady_rule}
-use Rattle.upp_curve.proofs.StretchSizes.{times_fit}
 use Rattle.upp_curve.proofs.UnrolledPieces.{operand_pieces, unroll_starts}
 use Rattle.curve_frame.specs.Frames.{sizes_at}
 use Rattle.curve_frame.proofs.CallTimes.{first_stands, second_stands, IsCall, start_on, period_on, window_is}
@@ -49,9 +43,9 @@ use Rattle.curve_leftover.specs.Behind.{moved, IsServed}
 use Rattle.curve_leftover.specs.LeftCall.{LeftCall}
 use Rattle.curve_leftover.specs.Lowest.{SumValue}
 use Rattle.curve_leftover.specs.Moved.{moved_right}
-use Rattle.curve_leftover.proofs.LeftReads.{IsLeftOf, left_up_to, left_past}
+use Rattle.curve_leftover.proofs.LeftReads.{IsLeftOf, left_past}
 use Rattle.curve_leftover.proofs.MovedReads.{moved_past, moved_up_to}
-use Rattle.curve_leftover.proofs.Served.{no_faster, other_finite, theta_nonneg}
+use Rattle.curve_leftover.proofs.Served.{no_faster, other_finite}
 
 -- ---- from a kind of call
 pub left_call : (f g : SpecCurve) (theta : ℚ) (k : ℕ) → IsCurve f → IsCurve g → zero_q ≤ℚ theta → gauge_at (FifoLeft (Fin theta)) f g k 0 < 2 ^ 120

@@ -1,5 +1,5 @@
 -- Which limits a call for what is left is over; and the frame of one that is over neither.
-use Rattle.std.specs.Prelude.{◌≡◌, ℕ}
+use Rattle.std.specs.Prelude.{ℕ}
 use Rattle.rational.specs.Rational.{ℚ}
 use Rattle.rational.specs.declared.Extended.TheVariants.{Fin, Inf}
 use Rattle.upp_curve.specs.declared.op_kind.OpKind.{OpKind}

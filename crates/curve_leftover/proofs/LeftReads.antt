@@ -3,11 +3,11 @@
 use Rattle.std.specs.Prelude.{◌≡◌, pos, cond, List, [], ◌∷◌, Option, Some, None}
 use Rattle.std.proofs.Common.{arith, sym, ap, ap₂, ◌∙◌, refl, subst, inl, inr}
 use Rattle.rational.specs.Rational.{ℚ, ◌+ℚ◌, ◌-ℚ◌, ◌*ℚ◌, ◌≤ℚ◌, ◌<ℚ◌, int}
-use Rattle.rational.specs.MinMax.{min_q, max_q}
+use Rattle.rational.specs.MinMax.{min_q}
 use Rattle.rational.specs.Extended.{Ext, ◌≤ₑ◌}
 use Rattle.rational.specs.declared.Extended.TheVariants.{Fin, Inf}
-use Rattle.rational.proofs.Linear.{with1, with2, with3, with4, with5}
-use Rattle.rational.proofs.Laws.{le_or_lt, le_refl, le_of_lt, le_trans, le_lt_trans, lt_le_trans, antisym, zero_mul, add_zero, sub_mul}
+use Rattle.rational.proofs.Linear.{with1, with2, with5}
+use Rattle.rational.proofs.Laws.{le_or_lt, le_refl, le_of_lt, le_trans, lt_le_trans, antisym, zero_mul, add_zero, sub_mul}
 use Rattle.rational.proofs.MinMax.{le_q_not, min_q_le_left, min_q_le_right, below_min_in, max_q_right}
 use Rattle.rational.proofs.Over.{le_q_out}
 use Rattle.rational.proofs.ExtendedOrder.{same_le_ext, fin_same}
@@ -15,9 +15,8 @@ use Rattle.affine_segment.specs.declared.line.Line.{Line}
 use Rattle.affine_segment.specs.declared.line.Piece.{Piece}
 use Rattle.affine_segment.specs.Values.{line_at, line_value}
 use Rattle.upp_curve.specs.Functions.{zero_q}
-use Rattle.upp_curve.specs.Normal.{RisesFrom, StartsAtZero}
 use Rattle.upp_curve.specs.Pointwise.{excess}
-use Rattle.upp_curve.specs.Reading.{read, piece_in, piece_value}
+use Rattle.upp_curve.specs.Reading.{read, piece_value}
 use Rattle.upp_curve.specs.Running.{left_after}
 use Rattle.upp_curve.proofs.FirstStretch.{value_past, value_at_start}
 use Rattle.curve_window.specs.declared.stretch.Both.{Both}

@@ -1,9 +1,8 @@
 -- The pieces of what is left are finite, and their numbers are sums of the operands' numbers.
-use Rattle.std.specs.Prelude.{◌≡◌, ℕ, ◌*◌, pos, List, [], ◌∷◌, Option, Some, None, ◌⊎◌}
+use Rattle.std.specs.Prelude.{◌≡◌, ℕ, ◌*◌, pos, List, [], ◌∷◌, Option, Some, None}
 use Rattle.std.proofs.Common.{arith, sym, ap, ◌∙◌, refl, subst, inl, inr}
 use Rattle.rational.specs.Rational.{ℚ, ◌-ℚ◌, ◌≤ℚ◌, ◌<ℚ◌, int}
 use Rattle.rational.specs.MinMax.{max_q}
-use Rattle.rational.specs.Grid.{Whole, Within}
 use Rattle.rational.specs.Extended.{Ext}
 use Rattle.rational.specs.declared.Extended.TheVariants.{Fin, Inf}
 use Rattle.rational.proofs.Grid.{whole_int, within_nonneg}
@@ -12,17 +11,17 @@ use Rattle.rational.proofs.Laws.{le_refl, le_of_lt}
 use Rattle.rational.proofs.MinMax.{max_q_one}
 use Rattle.affine_segment.specs.declared.line.Line.{Line}
 use Rattle.affine_segment.specs.declared.line.Piece.{Piece}
-use Rattle.affine_segment.specs.Values.{line_at, line_value}
+use Rattle.affine_segment.specs.Values.{line_value}
 use Rattle.upp_curve.specs.Functions.{zero_q}
 use Rattle.upp_curve.specs.Normal.{Each, StartsAtZero}
 use Rattle.upp_curve.specs.Pointwise.{excess}
 use Rattle.upp_curve.specs.Reading.{read, piece_in, piece_value}
 use Rattle.upp_curve.specs.Shapes.{IsFinitePiece, IsNumber, IsLine}
-use Rattle.upp_curve.specs.Steady.{last_line, last_of}
+use Rattle.upp_curve.specs.Steady.{last_line}
 use Rattle.upp_curve.specs.Limits.{Sizes}
 use Rattle.upp_curve.specs.Sized.{grid_of, times_largest}
-use Rattle.upp_curve.specs.Operand.{AreLimited, OperandLine, OperandLineAt, OperandPiece, OperandPieces}
-use Rattle.upp_curve.proofs.AnswerRoom.{AnswerLine, AnswerValue, OperandValue, OperandValueAt, difference_of_lines, value_difference_stands, values_fit, operand_lines_fit}
+use Rattle.upp_curve.specs.Operand.{AreLimited, OperandLineAt, OperandPiece, OperandPieces}
+use Rattle.upp_curve.proofs.AnswerRoom.{OperandValueAt, difference_of_lines, value_difference_stands, values_fit, operand_lines_fit}
 use Rattle.upp_curve.proofs.Finite.{pieces_finite, each_in}
 use Rattle.upp_curve.proofs.NormaliseLists.{last_in}
 use Rattle.curve_window.specs.declared.stretch.Both.{Both}
@@ -30,10 +29,10 @@ use Rattle.curve_window.specs.Stretches.{EachBoth, IsBothOf, IsOverlay, line_in}
 use Rattle.curve_window.specs.Pointwise.{mapped}
 use Rattle.curve_window.specs.Made.{line_apart, zero_line, ValueApartFits, LineApartFits}
 use Rattle.curve_window.proofs.Mapped.{each_map, starts_mapped}
-use Rattle.curve_window.proofs.OperandWindows.{OperandBoth, operand_both}
+use Rattle.curve_window.proofs.OperandWindows.{operand_both}
 use Rattle.curve_leftover.specs.Lowest.{SumValue, SumLine, SumPiece}
 use Rattle.curve_leftover.specs.Parts.{left_piece, StretchLeftFits}
-use Rattle.curve_leftover.proofs.SumSizes.{sum_weaken, IsNear, near_of, value_near}
+use Rattle.curve_leftover.proofs.SumSizes.{sum_weaken, near_of, value_near}
 
 -- ---- one stretch
 some_times : (z : Sizes) (k : ℕ) → int (pos 0) ≤ℚ times_largest k z

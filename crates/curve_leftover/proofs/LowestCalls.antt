@@ -1,39 +1,37 @@
 -- The scans that find the lowest of some pieces: their steps fit, and the level that ends the second is one of the sums.
-use Rattle.std.specs.Prelude.{◌≡◌, ℕ, ◌+◌, pos, false, List, [], ◌∷◌, ◌++◌, Option, Some, None, ◌⊎◌}
+use Rattle.std.specs.Prelude.{◌≡◌, List, [], ◌∷◌, ◌++◌, Option, Some, None, ◌⊎◌}
 use Rattle.std.proofs.Common.{arith, sym, ap, ◌∙◌, refl, subst, inl, inr}
-use Rattle.rational.specs.Rational.{ℚ, ◌+ℚ◌, ◌*ℚ◌, ◌≤ℚ◌, ◌<ℚ◌, int}
+use Rattle.rational.specs.Rational.{ℚ, ◌+ℚ◌, ◌≤ℚ◌, ◌<ℚ◌}
 use Rattle.rational.specs.MinMax.{min_q}
 use Rattle.rational.specs.Ratio.{SumFits}
-use Rattle.rational.specs.Grid.{Whole, Within}
-use Rattle.rational.specs.Extended.{Ext, ◌≤ₑ◌, ◌<ₑ◌}
-use Rattle.rational.specs.declared.Extended.TheVariants.{Fin, Inf}
-use Rattle.rational.proofs.Grid.{whole_int, whole_add, within_nonneg, within_add}
-use Rattle.rational.proofs.Integers.{nat_nonneg}
-use Rattle.rational.proofs.Linear.{with1, with2, with3}
-use Rattle.rational.proofs.Laws.{le_or_lt, le_refl, le_of_lt, le_trans, lt_le_trans, lt_irrefl}
+use Rattle.rational.specs.Extended.{◌≤ₑ◌}
+use Rattle.rational.specs.declared.Extended.TheVariants.{Fin}
+use Rattle.rational.proofs.Grid.{whole_add, within_nonneg}
+use Rattle.rational.proofs.Linear.{with2}
+use Rattle.rational.proofs.Laws.{le_or_lt, le_refl, le_of_lt, le_trans, lt_le_trans}
 use Rattle.rational.proofs.Over.{le_q_out}
-use Rattle.rational.proofs.MinMax.{min_q_one, min_q_le_left, min_q_le_right, min_q_ge}
-use Rattle.rational.proofs.ExtendedOrder.{finite_below, le_lt_ext, lt_ext_not_le, same_le_ext}
+use Rattle.rational.proofs.MinMax.{min_q_one, min_q_le_right}
+use Rattle.rational.proofs.ExtendedOrder.{lt_ext_not_le}
 use Rattle.affine_segment.specs.declared.line.Line.{Line}
 use Rattle.affine_segment.specs.declared.line.Piece.{Piece}
-use Rattle.affine_segment.specs.Values.{line_at, line_value}
+use Rattle.affine_segment.specs.Values.{line_value}
 use Rattle.upp_curve.specs.Functions.{zero_q}
-use Rattle.upp_curve.specs.Normal.{Each, HasStart, StartsAtZero, RisesFrom}
+use Rattle.upp_curve.specs.Normal.{Each, StartsAtZero}
 use Rattle.upp_curve.specs.Reading.{read, piece_in, piece_value}
 use Rattle.upp_curve.specs.Readable.{LineFitsAt}
 use Rattle.upp_curve.specs.Shapes.{IsFinitePiece, IsNumber, IsLine}
-use Rattle.upp_curve.specs.Steady.{last_line, last_of}
+use Rattle.upp_curve.specs.Steady.{last_line}
 use Rattle.upp_curve.specs.Limits.{Sizes}
 use Rattle.upp_curve.specs.Sized.{grid_of, times_largest}
 use Rattle.upp_curve.specs.Operand.{AreLimited}
-use Rattle.upp_curve.proofs.Finite.{each_in, number_of}
+use Rattle.upp_curve.proofs.Finite.{each_in}
 use Rattle.upp_curve.proofs.FirstStretch.{value_past}
 use Rattle.upp_curve.proofs.NormaliseLists.{each_append, each_map, last_in, rises_append}
-use Rattle.curve_running.specs.Scans.{Until, IsWindow, ScanFits, IsInfimumUntil, IsLevel, HasLine, flat}
+use Rattle.curve_running.specs.Scans.{IsWindow, ScanFits, IsInfimumUntil, IsLevel, HasLine, flat}
 use Rattle.curve_running.specs.Made.{IsMade, IsInfimumScan}
 use Rattle.curve_running.specs.Runs.{IsFrontBefore}
-use Rattle.curve_leftover.specs.Lowest.{SumValue, SumLine, SumPiece, level_piece, IsLowestCall, IsLowest}
-use Rattle.curve_leftover.proofs.SumSizes.{EachSum, IsNear, near_of, more, sum_weaken, sums_fit, flat_line, line_near, value_near, level_value, made_sum, scan_fits, scan_lines}
+use Rattle.curve_leftover.specs.Lowest.{SumValue, SumPiece, level_piece, IsLowestCall, IsLowest}
+use Rattle.curve_leftover.proofs.SumSizes.{EachSum, IsNear, near_of, sum_weaken, sums_fit, flat_line, line_near, value_near, level_value, made_sum, scan_fits, scan_lines}
 
 -- ---- finite pieces
 sum_finite : (z : Sizes) (end : ℚ) (p : Piece) → SumPiece z end p → IsFinitePiece p
@@ -130,8 +128,7 @@ last_fits z ps from end far rise C = by_list ps C.starts C.each
     by_list : (ps : List Piece) → StartsAtZero ps → EachSum z end ps → LineFitsAt end (last_line ps) × IsNumber (line_value (last_line ps) end)
     by_list [] s h = absurd s
     by_list (p ∷ ps) s h =
-        let P = last_in (SumPiece z end) p ps h.0 h.1 in
-        (
+        let P = last_in (SumPiece z end) p ps h.0 h.1 in (
           subst (LineFitsAt end) (sym P.line) (line_near z end end 6 P.on C.limited (omega arith) P.line_stands (near_of z end end C.limited.sizes.window C.limited.some (le_refl end))),
           subst (λ l. IsNumber (line_value l end)) (sym P.line) tt,
         )

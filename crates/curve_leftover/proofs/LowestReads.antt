@@ -3,15 +3,15 @@ use Rattle.std.specs.Prelude.{◌≡◌, ℕ, false, pos, List, [], ◌∷◌, �
 use Rattle.std.proofs.Common.{arith, sym, ap, ◌∙◌, refl, subst, inl, inr}
 use Rattle.rational.specs.Rational.{ℚ, ◌+ℚ◌, ◌-ℚ◌, ◌*ℚ◌, ◌≤ℚ◌, ◌<ℚ◌, int}
 use Rattle.rational.specs.MinMax.{min_q, max_q}
-use Rattle.rational.specs.Grid.{Whole, Within}
+use Rattle.rational.specs.Grid.{Whole}
 use Rattle.rational.specs.Whole.{periods}
 use Rattle.rational.specs.Extended.{Ext, ◌≤ₑ◌, ◌<ₑ◌, ◌+ₑ◌}
 use Rattle.rational.specs.declared.Extended.TheVariants.{Fin, Inf}
 use Rattle.rational.proofs.Bounds.{same_infimum}
 use Rattle.rational.proofs.Grid.{within_weaken}
 use Rattle.rational.proofs.Integers.{nat_nonneg}
-use Rattle.rational.proofs.Linear.{with1, with2, with3, with4}
-use Rattle.rational.proofs.Laws.{le_or_lt, le_refl, le_of_lt, le_trans, le_lt_trans, lt_le_trans, mul_nonneg, sub_add, zero_mul, add_zero}
+use Rattle.rational.proofs.Linear.{with2, with3, with4}
+use Rattle.rational.proofs.Laws.{le_or_lt, le_refl, le_of_lt, le_trans, le_lt_trans, mul_nonneg, sub_add, zero_mul, add_zero}
 use Rattle.rational.proofs.MinMax.{min_q_one, min_q_le_left, min_q_le_right, max_q_lt, max_q_ge_left, max_q_ge_right}
 use Rattle.rational.proofs.Over.{le_q_out}
 use Rattle.rational.proofs.Stretch.{line_infimum}
@@ -38,12 +38,10 @@ use Rattle.upp_curve.proofs.Steady.{read_past}
 use Rattle.upp_curve.proofs.Unrolled.{read_before, read_past_list}
 use Rattle.curve_frame.specs.Answering.{IsAnswer}
 use Rattle.curve_running.specs.Scans.{Until, IsInfimumUntil}
-use Rattle.curve_running.specs.Made.{IsInfimumScan}
-use Rattle.curve_running.specs.Runs.{IsFrontBefore}
 use Rattle.curve_running.proofs.Fronts.{kept_each, kept_starts, kept_reads, kept_bends}
 use Rattle.curve_running.proofs.Shifts.{infimum_repeats}
 use Rattle.curve_running.proofs.SupremumRuns.{grids_nested}
-use Rattle.curve_leftover.specs.Lowest.{SumValue, level_piece, IsLowestCall, IsLowest}
+use Rattle.curve_leftover.specs.Lowest.{level_piece, IsLowestCall, IsLowest}
 use Rattle.curve_leftover.proofs.SumSizes.{IsNear, EachSum, more, scan_room, only_bend}
 use Rattle.curve_leftover.proofs.LowestCalls.{call_far, all_sums}
 

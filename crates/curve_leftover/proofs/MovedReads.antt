@@ -1,11 +1,10 @@
 -- Pieces moved right by theta read as they did theta earlier, past theta; up to theta they are infinite.
-use Rattle.std.specs.Prelude.{◌≡◌, pos, cond, List, [], ◌∷◌, ◌++◌, map, Option, Some, None}
-use Rattle.std.proofs.Common.{arith, sym, ap, ap₂, ◌∙◌, refl, subst, inl, inr}
-use Rattle.rational.specs.Rational.{ℚ, ◌+ℚ◌, ◌-ℚ◌, ◌*ℚ◌, ◌≤ℚ◌, ◌<ℚ◌, int}
-use Rattle.rational.specs.Extended.{Ext}
+use Rattle.std.specs.Prelude.{◌≡◌, cond, List, [], ◌∷◌, ◌++◌, map, Option, Some, None}
+use Rattle.std.proofs.Common.{arith, sym, ap, ◌∙◌, refl, subst, inl, inr}
+use Rattle.rational.specs.Rational.{ℚ, ◌+ℚ◌, ◌-ℚ◌, ◌*ℚ◌, ◌≤ℚ◌, ◌<ℚ◌}
 use Rattle.rational.specs.declared.Extended.TheVariants.{Fin, Inf}
-use Rattle.rational.proofs.Linear.{with1, with2, with3, with4}
-use Rattle.rational.proofs.Laws.{le_or_lt, le_refl, le_of_lt, le_trans, lt_irrefl, le_lt_trans, antisym, mul_sub}
+use Rattle.rational.proofs.Linear.{with2, with3, with4}
+use Rattle.rational.proofs.Laws.{le_or_lt, le_refl, le_of_lt, le_trans, le_lt_trans, antisym, mul_sub}
 use Rattle.rational.proofs.MinMax.{le_q_not, lt_q_not}
 use Rattle.rational.proofs.Over.{le_q_out, lt_q_out}
 use Rattle.affine_segment.specs.declared.line.Line.{Line}
@@ -95,7 +94,6 @@ body theta end p ps = moved_piece theta p ∷ upto end (map (moved_piece theta) 
 -- the first starts at theta
 first_at : (theta : ℚ) (p : Piece) → p.x ≡ zero_q → p.x +ℚ theta ≡ theta
 first_at theta p e = let x = p.x in with2 x theta (λ c. omega (arith, c.le, c.lt, c.same))
-
 
 with_body : (theta end : ℚ) (p : Piece) (ps : List Piece) → p.x ≡ zero_q → theta <ℚ end → moved_right theta end (p ∷ ps) ≡ silence theta ++ body theta end p ps
 unfolding body

@@ -1,23 +1,22 @@
 -- The pieces of an operand moved right are those of an operand too; the steps to them fit.
-use Rattle.std.specs.Prelude.{◌≡◌, ◌+◌, pos, cond, Bool, true, false, List, [], ◌∷◌, ◌++◌, map, Option, Some, None}
-use Rattle.std.proofs.Common.{arith, sym, ap, ◌∙◌, refl, subst, inl, inr}
-use Rattle.rational.specs.Rational.{ℚ, ◌+ℚ◌, ◌-ℚ◌, ◌*ℚ◌, ◌≤ℚ◌, ◌<ℚ◌, int, neg_ℚ, lt_q}
-use Rattle.rational.specs.Ratio.{IsSmall}
+use Rattle.std.specs.Prelude.{◌≡◌, pos, cond, Bool, true, false, List, [], ◌∷◌, map, Option, Some, None}
+use Rattle.std.proofs.Common.{arith, sym, ap, ◌∙◌, subst}
+use Rattle.rational.specs.Rational.{ℚ, ◌+ℚ◌, ◌*ℚ◌, ◌≤ℚ◌, ◌<ℚ◌, int, neg_ℚ, lt_q}
 use Rattle.rational.specs.Grid.{Whole, Within}
 use Rattle.rational.specs.Extended.{Ext}
-use Rattle.rational.specs.declared.Extended.TheVariants.{Fin, Inf}
+use Rattle.rational.specs.declared.Extended.TheVariants.{Inf}
 use Rattle.rational.proofs.Grid.{whole_add, whole_int, whole_neg, within_neg}
-use Rattle.rational.proofs.Linear.{with1, with2, with3}
-use Rattle.rational.proofs.Laws.{le_refl, le_of_lt, le_trans, mul_comm, mul_one}
+use Rattle.rational.proofs.Linear.{with2}
+use Rattle.rational.proofs.Laws.{le_refl, le_of_lt, mul_comm, mul_one}
 use Rattle.affine_segment.specs.declared.line.Line.{Line}
 use Rattle.affine_segment.specs.declared.line.Piece.{Piece}
 use Rattle.affine_segment.specs.Values.{line_value}
 use Rattle.upp_curve.specs.Curve.{SpecCurve}
 use Rattle.upp_curve.specs.Curves.{IsCurve}
 use Rattle.upp_curve.specs.Functions.{zero_q}
-use Rattle.upp_curve.specs.Normal.{Each, StartsAtZero}
+use Rattle.upp_curve.specs.Normal.{Each}
 use Rattle.upp_curve.specs.Limits.{Sizes, curve_numbers}
-use Rattle.upp_curve.specs.Sized.{Stands, ValueStands, LineStands, IsSlope, grid_of, times_largest}
+use Rattle.upp_curve.specs.Sized.{Stands, ValueStands, LineStands, grid_of, times_largest}
 use Rattle.upp_curve.specs.Operand.{AreLimited, OperandLineAt, OperandPiece, OperandPieces}
 use Rattle.upp_curve.specs.Unrolled.{unroll, upto}
 use Rattle.upp_curve.proofs.AnswerRoom.{wide_narrow}

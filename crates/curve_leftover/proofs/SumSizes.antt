@@ -9,7 +9,7 @@ use Rattle.rational.specs.Extended.{Ext}
 use Rattle.rational.specs.declared.Extended.TheVariants.{Fin}
 use Rattle.rational.proofs.Grid.{whole_weaken, whole_int, whole_add, whole_sub, whole_neg, whole_mul, within_weaken, within_add, within_sub, within_neg, within_mul, within_nonneg}
 use Rattle.rational.proofs.Integers.{int_add, int_mul, nat_le, nat_nonneg}
-use Rattle.rational.proofs.Laws.{le_refl, le_of_lt, le_trans, lt_irrefl, mul_comm, mul_assoc, mul_le_mul, mul_le_mul_right}
+use Rattle.rational.proofs.Laws.{le_refl, le_trans, lt_irrefl, mul_comm, mul_assoc, mul_le_mul, mul_le_mul_right}
 use Rattle.rational.proofs.Linear.{with1, with2, with3}
 use Rattle.rational.proofs.Sizes.{quotient_on_grid, sum_on_grid}
 use Rattle.affine_segment.specs.declared.line.Line.{Line}
@@ -25,7 +25,7 @@ use Rattle.upp_curve.specs.Operand.{AreLimited, answer_room}
 use Rattle.upp_curve.specs.Room.{top, LineInRoom, LineHasRoom, PieceHasRoom, TimeHasRoom, ValueHasRoom}
 use Rattle.upp_curve.proofs.NarrowSizes.{grid_pos, small_sum, slope_time_divides}
 use Rattle.upp_curve.proofs.NormaliseRoom.{line_fits}
-use Rattle.upp_curve.proofs.AnswerRoom.{tight, wide_narrow, answer_is_room, AnswerLine, AnswerValue, line_in_room, answer_value_room, IsCrossing, crossing_from, crossing_room, room_at_start}
+use Rattle.upp_curve.proofs.AnswerRoom.{tight, wide_narrow, answer_is_room, AnswerLine, line_in_room, answer_value_room, IsCrossing, crossing_from, crossing_room, room_at_start}
 use Rattle.curve_running.specs.Scans.{start_or, flat, IsLevel, HasLine, MeetingFits, ScanFits}
 use Rattle.curve_running.specs.Made.{IsMeeting, IsMade, TurnsAfter, IsScan}
 use Rattle.curve_running.proofs.LevelSizes.{added, all_low}

@@ -1,6 +1,6 @@
 -- The value of pieces at a time, by the piece that is found there.
 use Rattle.std.specs.Prelude.{◌≡◌, List, [], ◌∷◌}
-use Rattle.std.proofs.Common.{sym, ap, ◌∙◌, refl, subst}
+use Rattle.std.proofs.Common.{sym, ◌∙◌, refl, subst}
 use Rattle.rational.specs.Rational.{ℚ}
 use Rattle.rational.specs.Extended.{Ext}
 use Rattle.affine_segment.specs.declared.line.Piece.{Piece}

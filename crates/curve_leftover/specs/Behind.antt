@@ -1,6 +1,6 @@
 -- By how much a cross arrival curve, served theta later, is above a service at its worst. Own choice.
 use Rattle.std.specs.Prelude.{◌≡◌, ◌⊎◌}
-use Rattle.rational.specs.Rational.{ℚ, ◌-ℚ◌, ◌≤ℚ◌, ◌<ℚ◌}
+use Rattle.rational.specs.Rational.{ℚ, ◌-ℚ◌, ◌≤ℚ◌}
 use Rattle.rational.specs.Grid.{Whole}
 use Rattle.rational.specs.Extended.{Ext, ◌+ₑ◌}
 use Rattle.rational.specs.declared.Extended.TheVariants.{Fin}

@@ -1,7 +1,6 @@
-use Rattle.std.proofs.Common.{◌≡◌, ◌∙◌, refl, sym, ap₂, subst, true≢false}
-use Rattle.rational.specs.Rational.{ℚ, ◌-ℚ◌, neg_ℚ}
+use Rattle.std.proofs.Common.{◌∙◌, refl, sym, ap₂, subst, true≢false}
+use Rattle.rational.specs.Rational.{◌-ℚ◌}
 use Rattle.rational.specs.MinMax.{max_q}
-use Rattle.rational.specs.Ratio.{SumFits}
 use Rattle.upp_curve.specs.Curve.{value_at}
 use Rattle.upp_curve.specs.Ahead.{GoesOn, IsTimeIn}
 use Rattle.curve_leftover.proofs.BehindWalk.{BehindWalk, FoundAt, beta_time, cross_time, time_fits, beta_number, cross_number, values_apart, next_past_it, behind_start, behind_step, behind_fewer, behind_end}
@@ -22,8 +21,7 @@ difference-requires c =
 
 pub stretch_at-served-requires : goal.stretch_at-served-requires
 stretch_at-served-requires c =
-    let w = c.requires in
-    (
+    let w = c.requires in (
       w.0,
       c.args.end,
       w.1.second,

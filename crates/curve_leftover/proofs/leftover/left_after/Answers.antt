@@ -1,4 +1,3 @@
-use Rattle.std.proofs.Common.{◌≡◌}
 use Rattle.std.proofs.lemmas.Result.{err_from_is_err_and}
 use Rattle.upp_curve.specs.Curve.{value_at}
 use Rattle.curve_leftover.proofs.LeftLimits.{left_wide, left_refused, left_is_within, left_frame}

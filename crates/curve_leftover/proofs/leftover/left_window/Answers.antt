@@ -1,15 +1,14 @@
 use Rattle.std.proofs.Common.{◌≡◌, sym, ap, ◌∙◌, subst}
-use Rattle.affine_segment.specs.declared.line.Piece.{Piece}
 use Rattle.upp_curve.specs.Normal.{Each, StartsAtZero}
 use Rattle.upp_curve.specs.Operand.{OperandPieces}
 use Rattle.curve_window.proofs.OperandWindows.{cuts_fit}
-use Rattle.curve_window.specs.Stretches.{EachBoth, IsOverlay, CutsFit}
+use Rattle.curve_window.specs.Stretches.{EachBoth}
 use Rattle.curve_window.specs.Pointwise.{mapped}
 use Rattle.curve_window.proofs.Results.{ok_map}
 use Rattle.curve_leftover.specs.Moved.{moved_right, PieceMoves}
 use Rattle.curve_leftover.specs.Parts.{left_piece, StretchLeftFits}
 use Rattle.curve_leftover.specs.LeftCall.{IsLeftWindow}
-use Rattle.curve_leftover.proofs.LeftAnswers.{times_of, left_to, left_operand, right_operand, window_made}
+use Rattle.curve_leftover.proofs.LeftAnswers.{times_of, left_operand, right_operand, window_made}
 use Rattle.curve_leftover.proofs.LeftCalls.{theta_before}
 use Rattle.curve_leftover.proofs.LeftStands.{lefts_fit}
 use Rattle.curve_leftover.proofs.MovedStands.{pieces_move}

@@ -1,4 +1,4 @@
-use Rattle.std.proofs.Common.{◌≡◌, pos, sym, subst, ap₂, ◌∙◌}
+use Rattle.std.proofs.Common.{pos, sym, subst, ap₂, ◌∙◌}
 use Rattle.rational.specs.Rational.{ℚ, ◌-ℚ◌, ◌≤ℚ◌, neg_ℚ, int}
 use Rattle.rational.specs.Ratio.{SumFits}
 use Rattle.rational.specs.declared.Extended.TheVariants.{Fin}

@@ -1,4 +1,3 @@
-use Rattle.std.proofs.Common.{pos}
 use Rattle.curve_leftover.proofs.Nothing.{nothing_is, nothing_curve, nothing_value, zero_small}
 use Rattle.curve_leftover.proofs.leftover.nothing.Goals as goal
 

@@ -1,8 +1,7 @@
-use Rattle.std.proofs.Common.{◌≡◌, ◌++◌, ◌∷◌, [], List, ◌∙◌, ap, ap₂, sym, subst}
-use Rattle.rational.specs.Rational.{ℚ, ◌+ℚ◌}
+use Rattle.std.proofs.Common.{◌≡◌, ◌∙◌, sym, subst}
+use Rattle.rational.specs.Rational.{◌+ℚ◌}
 use Rattle.rational.specs.MinMax.{min_q}
 use Rattle.rational.specs.declared.Extended.TheVariants.{Fin}
-use Rattle.affine_segment.specs.declared.line.Piece.{Piece}
 use Rattle.affine_segment.specs.Values.{line_value}
 use Rattle.upp_curve.specs.Normal.{Each}
 use Rattle.upp_curve.specs.Readable.{LineFitsAt}
@@ -13,8 +12,8 @@ use Rattle.curve_window.proofs.Results.{ok_map}
 use Rattle.curve_running.specs.Scans.{IsWindow, ScanFits}
 use Rattle.curve_running.specs.Made.{IsInfimumScan}
 use Rattle.curve_running.specs.Runs.{IsFrontBefore}
-use Rattle.curve_leftover.specs.Lowest.{level_piece, IsLowest}
-use Rattle.curve_leftover.proofs.LowestCalls.{first_window, first_fits, first_lines, first_number, later_fits, last_fits, level_stands, second_window, second_fits, lowest_is, all_is}
+use Rattle.curve_leftover.specs.Lowest.{IsLowest}
+use Rattle.curve_leftover.proofs.LowestCalls.{first_fits, first_lines, first_number, later_fits, last_fits, level_stands, second_window, second_fits, lowest_is, all_is}
 use Rattle.curve_leftover.proofs.lowest.lowest_pieces.Goals as goal
 
 pub infimum_scan-requires-clause-fits : goal.infimum_scan-requires-clause-fits

@@ -1,6 +1,4 @@
-use Rattle.std.proofs.Common.{◌≡◌, ◌∙◌, sym, subst}
-use Rattle.upp_curve.specs.Readable.{LineFitsAt}
-use Rattle.upp_curve.specs.Shapes.{IsNumber}
+use Rattle.std.proofs.Common.{◌∙◌}
 use Rattle.curve_leftover.proofs.ValueIn.{found_fits, found_number, found_value}
 use Rattle.curve_leftover.proofs.lowest.value_in.Goals as goal
 

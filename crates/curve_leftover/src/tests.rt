@@ -1,3 +1,0 @@
-//! Values worked out by hand.
-
-ghost use Rattle.std.specs.Prelude.{◌≡◌, ◌<◌};
