@@ -1,0 +1,5 @@
+//! Theorems on the parts of a convolution, by their contracts.
+
+/// Nothing yet.
+pub fn nothing()
+{}
