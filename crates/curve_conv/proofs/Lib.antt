@@ -12,3 +12,4 @@ pub mod PairWindows
 pub mod EnvelopeHalves
 pub mod WindowConvolution
 pub mod ArchBends
+pub mod SumRoom
