@@ -39,7 +39,7 @@ record LatePiece (z : Sizes) (p : Piece) : Type 0 where
   at : SumValueAt z p.x p.at
   line : SumLineAt z p.line
 
-sum_value_on : (z : Sizes) (x v : ℚ) → SumValue z v → SumValueOn z x v
+pub sum_value_on : (z : Sizes) (x v : ℚ) → SumValue z v → SumValueOn z x v
 sum_value_on z x v V = record {
   whole = λ grid base on. whole_weaken (z.dv * z.dt * z.ds) (grid * z.ds) v (mul-dvd-mul_right (z.dv * z.dt) base z.ds) V.whole;
   within = V.within;

@@ -60,7 +60,7 @@ sum_both z end f g b A F G B =
     }
 
 -- ---- differences
-values_apart : (z : Sizes) (end x : ℚ) (v w : Ext) → AreLimited z end → SumStart z end x → SumValueAt z x v → SumValueAt z x w → ValueApartFits v w
+pub values_apart : (z : Sizes) (end x : ℚ) (v w : Ext) → AreLimited z end → SumStart z end x → SumValueAt z x v → SumValueAt z x w → ValueApartFits v w
 values_apart z end x Inf w A s V W = tt
 values_apart z end x (Fin v) Inf A s V W = tt
 values_apart z end x (Fin v) (Fin w) A s V W =
@@ -90,7 +90,7 @@ icepts_apart_fit : (z : Sizes) (end : ℚ) (l m : Line) → AreLimited z end →
 icepts_apart_fit z end l m A L M =
     small_sum z end 5 5 l.icept (neg_ℚ m.icept) A.sizes (wide_narrow z end A) (omega arith) L.icept (whole_neg (grid_of z) m.icept M.icept) L.within (within_neg (times_largest 5 z) m.icept M.within)
 
-lines_apart : (z : Sizes) (end : ℚ) (l m : Option Line) → AreLimited z end → SumLineAt z l → SumLineAt z m → LineApartFits l m
+pub lines_apart : (z : Sizes) (end : ℚ) (l m : Option Line) → AreLimited z end → SumLineAt z l → SumLineAt z m → LineApartFits l m
 lines_apart z end None m A L M = tt
 lines_apart z end (Some l) None A L M = tt
 lines_apart z end (Some l) (Some m) A L M = (icepts_apart_fit z end l m A L M, slopes_apart_fit z end l.slope m.slope A L.slope M.slope)
@@ -129,7 +129,7 @@ crossing_not_wide z end l m w A L M (inl a) = a.1 (icepts_apart_fit z end m l A 
 crossing_not_wide z end l m w A L M (inr (inl b)) = b.1 (slopes_apart_fit z end l.slope m.slope A L.slope M.slope)
 crossing_not_wide z end l m w A L M (inr (inr c)) = c.1 (crossing_small z end l m A L M)
 
-cross_fits : (z : Sizes) (end : ℚ) (l m : Option Line) → AreLimited z end → SumLineAt z l → SumLineAt z m → CrossFits l m
+pub cross_fits : (z : Sizes) (end : ℚ) (l m : Option Line) → AreLimited z end → SumLineAt z l → SumLineAt z m → CrossFits l m
 cross_fits z end None m A L M = tt
 cross_fits z end (Some l) None A L M = tt
 cross_fits z end (Some l) (Some m) A L M = λ w. crossing_not_wide z end l m w A L M
@@ -150,7 +150,7 @@ meet_times l m t e =
     let j = m.icept in
     mul_comm t (l.slope -ℚ m.slope) ∙ sub_mul l.slope m.slope t ∙ with4 p q i j (λ c. omega (arith, c.le, c.lt, c.same))
 
-is_crossing : (z : Sizes) (end x : ℚ) (rises : Bool) (l m : Option Line) → AreLimited z end → SumLineAt z l → SumLineAt z m → CrossesAt rises l m x → IsCrossing z x
+pub is_crossing : (z : Sizes) (end x : ℚ) (rises : Bool) (l m : Option Line) → AreLimited z end → SumLineAt z l → SumLineAt z m → CrossesAt rises l m x → IsCrossing z x
 is_crossing z end x rises None m A L M C = absurd C
 is_crossing z end x rises (Some l) None A L M C = absurd C
 is_crossing z end x rises (Some l) (Some m) A L M C =
@@ -226,7 +226,7 @@ sum_lower_fits z end f g A F G b of =
     }
 
 -- ---- the lower is such a window
-lesser_stands : (z : Sizes) (x : ℚ) (v w : Ext) → SumValueAt z x v → SumValueAt z x w → SumValueAt z x (min_ext v w)
+pub lesser_stands : (z : Sizes) (x : ℚ) (v w : Ext) → SumValueAt z x v → SumValueAt z x w → SumValueAt z x (min_ext v w)
 lesser_stands z x Inf w V W = W
 lesser_stands z x (Fin v) Inf V W = V
 lesser_stands z x (Fin v) (Fin w) V W = elim (min_q_one v w) [

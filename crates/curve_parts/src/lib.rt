@@ -2,4 +2,5 @@
 //! the convolution is that of the parts that rise the least.
 #![tactic(auto)]
 
-mod laws;
+mod elements;
+mod lower;
