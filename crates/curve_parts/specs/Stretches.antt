@@ -8,13 +8,14 @@ use Rattle.rational.specs.Bounds.{IsInfimum}
 use Rattle.affine_segment.specs.declared.line.Line.{Line}
 use Rattle.affine_segment.specs.declared.element.Element.{Element}
 use Rattle.affine_segment.specs.declared.element.Element.TheVariants.{Point, Open}
-use Rattle.affine_segment.specs.Elements.{Covers, level, PairSplit, pair_sum}
+use Rattle.affine_segment.specs.Elements.{IsProper, Covers, level, PairSplit, pair_sum}
 use Rattle.affine_segment.specs.Values.{line_at, line_value}
 use Rattle.upp_curve.specs.declared.ahead.Stretch.{Stretch}
 use Rattle.upp_curve.specs.Limits.{Sizes}
 use Rattle.upp_curve.specs.Operand.{AreLimited}
 use Rattle.upp_curve.specs.Ahead.{GoesOn, IsBeforeNext, AtNext}
 use Rattle.upp_curve.proofs.AnswerRoom.{IsCrossing}
+use Rattle.curve_conv.specs.ElementRoom.{OperandElement}
 use Rattle.curve_conv.specs.SumWindows.{SumStart, SumValueAt, SumLineAt}
 use Rattle.curve_parts.specs.declared.lower.Under.{Under}
 
@@ -115,3 +116,12 @@ part_row_sum (Some a) g Q t s = row_sum a g Q t s
 pub record IsSpan (low : ℚ) (next : Option ℚ) (u : ℚ) : Type 0 where
   pub late : low ≤ℚ u
   pub before : IsBeforeNext u next
+
+-- ---- elements that may be missing
+abbrev pub IsProperPart : Option Element → Type 0
+IsProperPart None = Unit {0}
+IsProperPart (Some e) = IsProper e
+
+abbrev pub OperandPart : Sizes → ℚ → Option Element → Type 0
+OperandPart z end None = Unit {0}
+OperandPart z end (Some e) = OperandElement z end e
