@@ -6,7 +6,7 @@ use Rattle.rational.specs.Rational.{ℚ, ◌+ℚ◌, ◌≤ℚ◌, ◌<ℚ◌, i
 use Rattle.rational.specs.Extended.{Ext}
 use Rattle.rational.specs.declared.Extended.TheVariants.{Fin, Inf}
 use Rattle.rational.specs.Grid.{Whole}
-use Rattle.rational.proofs.Grid.{whole_int, whole_weaken}
+use Rattle.rational.proofs.Grid.{whole_int, whole_weaken, within_weaken}
 use Rattle.rational.proofs.Laws.{le_refl}
 use Rattle.rational.proofs.Linear.{with2}
 use Rattle.affine_segment.specs.declared.line.Piece.{Piece}
@@ -18,6 +18,8 @@ use Rattle.affine_segment.specs.MadeParts.{AreParts}
 use Rattle.upp_curve.specs.Normal.{Each}
 use Rattle.upp_curve.specs.Reading.{read}
 use Rattle.upp_curve.specs.Limits.{Sizes}
+use Rattle.upp_curve.specs.Sized.{times_largest}
+use Rattle.upp_curve.proofs.AnswerRoom.{more_largest}
 use Rattle.upp_curve.specs.Unrolled.{upto}
 use Rattle.upp_curve.proofs.Below.{plain_upto}
 use Rattle.upp_curve.proofs.NormaliseCuts.{zero_upto}
@@ -42,7 +44,7 @@ record LatePiece (z : Sizes) (p : Piece) : Type 0 where
 pub sum_value_on : (z : Sizes) (x v : ℚ) → SumValue z v → SumValueOn z x v
 sum_value_on z x v V = record {
   whole = λ grid base on. whole_weaken (z.dv * z.dt * z.ds) (grid * z.ds) v (mul-dvd-mul_right (z.dv * z.dt) base z.ds) V.whole;
-  within = V.within;
+  within = within_weaken (times_largest 6 z) (times_largest 7 z) v (more_largest z 6 7 (omega arith)) V.within;
 }
 
 nothing_stands : (z : Sizes) (end x : ℚ) → SumTime z end x → LatePiece z (nothing_at x)

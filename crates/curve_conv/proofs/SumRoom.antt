@@ -17,7 +17,7 @@ use Rattle.curve_conv.proofs.SumSteps.{time_room, line_room}
 
 value_room : (z : Sizes) (end x : ℚ) (v : Ext) (T : TimeHasRoom (answer_room z end) x) → SumValueAt z x v → ValueHasRoom (answer_room z end) 1 T.grid v
 value_room z end x Inf T V = tt
-value_room z end x (Fin v) T V = value_in_room z end 6 T.grid v (omega arith) (V.whole T.grid T.base T.whole) V.within
+value_room z end x (Fin v) T V = value_in_room z end 7 T.grid v (omega arith) (V.whole T.grid T.base T.whole) V.within
 
 piece_room : (z : Sizes) (end : ℚ) (p : Piece) → AreLimited z end → SumPiece z end p → PieceHasRoom (answer_room z end) 1 p
 piece_room z end p A P =

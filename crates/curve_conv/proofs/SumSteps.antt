@@ -34,7 +34,7 @@ half v y h w =
     let u = w.high in
     record { low = with2 v y (λ c. omega (arith, c.le, c.lt, c.same)); high = with2 v y (λ c. omega (arith, c.le, c.lt, c.same)) }
 
-pub sum_answer : (z : Sizes) (l : Line) → SumLine z l → AnswerLine z 5 l
+pub sum_answer : (z : Sizes) (l : Line) → SumLine z l → AnswerLine z 6 l
 sum_answer z l L = record {
   icept = L.icept;
   within = L.within;
@@ -44,7 +44,7 @@ sum_answer z l L = record {
 
 pub line_room : (z : Sizes) (end : ℚ) (l : Option Line) → AreLimited z end → SumLineAt z l → LineHasRoom (answer_room z end) 1 l
 line_room z end None A L = tt
-line_room z end (Some l) A L = line_in_room z end 5 l A (omega arith) (sum_answer z l L)
+line_room z end (Some l) A L = line_in_room z end 6 l A (omega arith) (sum_answer z l L)
 
 pub line_fits_at : (z : Sizes) (end x : ℚ) (l : Option Line) → AreLimited z end → SumLineAt z l → SumStart z end x → LineFitsAt x l
 line_fits_at z end x l A L s = line_fits_in z end x l A (line_room z end l A L) (time_room z end x A s) (le_of_lt s.before)
@@ -53,8 +53,8 @@ line_fits_at z end x l A L s = line_fits_in z end x l A (line_room z end l A L) 
 pub line_value_on : (z : Sizes) (end x : ℚ) (l : Option Line) → AreLimited z end → SumLineAt z l → SumStart z end x → SumValueAt z x (line_value l x)
 line_value_on z end x None A L s = tt
 line_value_on z end x (Some l) A L s = record {
-  whole = λ grid base on. (line_value_in z end 5 grid l x A (omega arith) (sum_answer z l L) base on s.nonneg (le_of_lt s.before)).whole;
-  within = sum_within z 5 1 l.icept (l.slope *ℚ x) L.within (steep_run z end l.slope x A (sum_answer z l L).steep s.nonneg (le_of_lt s.before));
+  whole = λ grid base on. (line_value_in z end 6 grid l x A (omega arith) (sum_answer z l L) base on s.nonneg (le_of_lt s.before)).whole;
+  within = sum_within z 6 1 l.icept (l.slope *ℚ x) L.within (steep_run z end l.slope x A (sum_answer z l L).steep s.nonneg (le_of_lt s.before));
 }
 
 pub start_in : (z : Sizes) (end x : ℚ) (ps : List Piece) → Each (SumPiece z end) ps → HasStart x ps → SumStart z end x
