@@ -4,3 +4,4 @@
 
 mod elements;
 mod lower;
+mod rows;
