@@ -61,7 +61,7 @@ pub early_at : (P : ℚ → Type 0) (at : Option ℚ) (limit : ℚ) (next : Opti
 early_at P at limit None E h = tt
 early_at P at limit (Some x) E h = subst (AtNext P) E.0 h
 
-earlier : (y u : ℚ) (next : Option ℚ) → u <ℚ y → IsBeforeNext y next → IsBeforeNext u next
+pub earlier : (y u : ℚ) (next : Option ℚ) → u <ℚ y → IsBeforeNext y next → IsBeforeNext u next
 earlier y u None h k = tt
 earlier y u (Some x) h k = lt_trans h k
 

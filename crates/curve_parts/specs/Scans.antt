@@ -42,3 +42,9 @@ is_time (Some x) = true
 abbrev pub time_or : Option ℚ → ℚ → ℚ
 time_or None y = y
 time_or (Some x) y = x
+
+-- up to `room`, and before another time that may be missing
+pub record IsLimit (room : ℚ) (until : Option ℚ) (limit : ℚ) : Type 0 where
+  pub most : limit ≤ℚ room
+  pub before : (s : ℚ) → s <ℚ limit → IsBeforeNext s until
+  pub least : (s : ℚ) → s <ℚ room → IsBeforeNext s until → s <ℚ limit

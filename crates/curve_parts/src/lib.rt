@@ -4,4 +4,5 @@
 
 mod elements;
 mod lower;
+mod parts;
 mod rows;
