@@ -24,7 +24,7 @@ use Rattle.upp_curve.specs.Limits.{Sizes}
 use Rattle.upp_curve.specs.Sized.{IsSlope, grid_of, times_largest}
 use Rattle.upp_curve.specs.Operand.{AreLimited, answer_room}
 use Rattle.upp_curve.specs.Readable.{LineFitsAt}
-use Rattle.upp_curve.specs.Room.{top, many, LineInRoom}
+use Rattle.upp_curve.specs.Room.{top, many, LineInRoom, TimeHasRoom}
 use Rattle.upp_curve.proofs.NormaliseGrids.{q_same_or}
 use Rattle.upp_curve.proofs.NormaliseLists.{each_map}
 use Rattle.upp_curve.proofs.NormaliseRoom.{line_fits}
@@ -60,11 +60,10 @@ sum_both z end f g b A F G B =
     }
 
 -- ---- differences
-pub values_apart : (z : Sizes) (end x : ℚ) (v w : Ext) → AreLimited z end → SumStart z end x → SumValueAt z x v → SumValueAt z x w → ValueApartFits v w
-values_apart z end x Inf w A s V W = tt
-values_apart z end x (Fin v) Inf A s V W = tt
-values_apart z end x (Fin v) (Fin w) A s V W =
-    let T = time_room z end x A s in
+pub room_apart : (z : Sizes) (end x : ℚ) (v w : Ext) → AreLimited z end → TimeHasRoom (answer_room z end) x → SumValueAt z x v → SumValueAt z x w → ValueApartFits v w
+room_apart z end x Inf w A T V W = tt
+room_apart z end x (Fin v) Inf A T V W = tt
+room_apart z end x (Fin v) (Fin w) A T V W =
     let n = T.grid * z.ds in
     let m = times_largest 7 z in
     let some : 1 * n ≤ z.largest * n = mul-le-mul_right n A.sizes.largest in
@@ -74,6 +73,9 @@ values_apart z end x (Fin v) (Fin w) A s V W =
     sum_on_grid n m m v (neg_ℚ w) (mul-pos T.some A.sizes.ds) (omega (arith, some, size))
     (subst (λ q. q ≤ℚ int (pos top)) (sym e) (nat_le (14 * z.largest * n) top (omega (arith, size))))
     (V.whole T.grid T.base T.whole) (whole_neg n w (W.whole T.grid T.base T.whole)) V.within (within_neg m w W.within)
+
+pub values_apart : (z : Sizes) (end x : ℚ) (v w : Ext) → AreLimited z end → SumStart z end x → SumValueAt z x v → SumValueAt z x w → ValueApartFits v w
+values_apart z end x v w A s V W = room_apart z end x v w A (time_room z end x A s) V W
 
 slopes_apart_fit : (z : Sizes) (end s r : ℚ) → AreLimited z end → IsSlope z s → IsSlope z r → SumFits s (neg_ℚ r)
 slopes_apart_fit z end s r A h k =

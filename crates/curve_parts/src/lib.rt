@@ -3,6 +3,7 @@
 #![tactic(auto)]
 
 mod elements;
+mod gaps;
 mod lower;
 mod parts;
 mod rows;
