@@ -5,5 +5,9 @@
 mod elements;
 mod gaps;
 mod lower;
+mod number;
+mod order;
 mod parts;
 mod rows;
+
+pub use order::{is_slower_curve, late_periods};
