@@ -1,6 +1,6 @@
 -- The convolution of two curves in a call within both limits: its pieces have room, and it repeats from the last period of its window on.
-use Rattle.std.specs.Prelude.{◌≡◌, ℕ, suc, ◌+◌, ◌≤◌, pos, List, ◌⊎◌}
-use Rattle.std.proofs.Common.{arith, sym, ap, ap₂, ◌∙◌, refl, subst, inl, inr}
+use Rattle.std.specs.Prelude.{◌≡◌, ℕ, suc, ◌+◌, pos, List, ◌⊎◌}
+use Rattle.std.proofs.Common.{arith, sym, ap, ◌∙◌, subst, inl, inr}
 use Rattle.rational.specs.Rational.{ℚ, ◌+ℚ◌, ◌-ℚ◌, ◌*ℚ◌, ◌≤ℚ◌, ◌<ℚ◌, int}
 use Rattle.rational.specs.Grid.{Whole, Within}
 use Rattle.rational.specs.Extended.{Ext, ◌<ₑ◌}
@@ -28,8 +28,7 @@ use Rattle.curve_frame.specs.declared.frame.Frame.{Frame}
 use Rattle.curve_frame.specs.Answering.{IsAnswer}
 use Rattle.curve_frame.proofs.CurveRises.{IsRise}
 use Rattle.curve_lattice.specs.Lattice.{RisesBy}
-use Rattle.curve_lattice.specs.LatticeCall.{LatticeCall}
-use Rattle.curve_lattice.proofs.LatticeCalls.{operands, from_is, from_late, from_whole, left_rise, right_rise, some_end, one_period}
+use Rattle.curve_lattice.proofs.LatticeCalls.{operands, from_is, from_late, from_whole, left_rise, right_rise, some_end}
 use Rattle.curve_lattice.proofs.TailMoves.{rates_compared, not_both, not_same}
 use Rattle.curve_conv.specs.ConvolutionWindows.{OperandWindows, IsConvolutionWindow}
 use Rattle.curve_conv.specs.SumWindows.{SumPiece}

@@ -1,13 +1,12 @@
 -- The sizes and the times of a call of the convolution, and which limits it is over.
-use Rattle.std.specs.Prelude.{◌≡◌, ℕ, suc, ◌+◌, ◌<◌, ◌^◌, pos, Option, Some, None, MatchOption}
-use Rattle.std.proofs.Common.{arith, sym, ap, ◌∙◌, refl, subst}
+use Rattle.std.specs.Prelude.{◌≡◌, ℕ, suc, ◌+◌, ◌<◌, ◌^◌, pos}
+use Rattle.std.proofs.Common.{arith, sym, ap, ◌∙◌, subst}
 use Rattle.rational.specs.Rational.{ℚ, neg_ℚ, ◌+ℚ◌, ◌-ℚ◌, ◌*ℚ◌, ◌≤ℚ◌, ◌<ℚ◌, int}
 use Rattle.rational.specs.Ratio.{SumFits}
 use Rattle.rational.specs.Grid.{Whole}
 use Rattle.rational.proofs.Linear.{with2, with3, with4, with5}
-use Rattle.rational.proofs.Laws.{le_refl, le_trans, le_of_lt, one_mul}
+use Rattle.rational.proofs.Laws.{le_trans, one_mul}
 use Rattle.rational.proofs.Whole.{one_more_times}
-use Rattle.upp_curve.specs.declared.op_kind.OpKind.{OpKind}
 use Rattle.upp_curve.specs.declared.op_kind.OpKind.TheVariants.{Convolve}
 use Rattle.upp_curve.specs.declared.op_kind.OpFault.{OpFault}
 use Rattle.upp_curve.specs.declared.op_kind.OpFault.TheVariants.{TooMany, TooWide, NoMemory}
@@ -15,7 +14,7 @@ use Rattle.upp_curve.specs.Curve.{SpecCurve}
 use Rattle.upp_curve.specs.Curves.{IsCurve}
 use Rattle.upp_curve.specs.Steady.{steady, IsWholePeriods}
 use Rattle.upp_curve.specs.Periods.{common_period, periods_after}
-use Rattle.upp_curve.specs.Windows.{window_at, Meets, IsLeast, IsLeastPeriods, IsSlowerLateLeast}
+use Rattle.upp_curve.specs.Windows.{window_at, Meets, IsLeastPeriods, IsSlowerLateLeast}
 use Rattle.upp_curve.specs.Limits.{Sizes, sizes_of, curve_numbers}
 use Rattle.upp_curve.specs.Gauges.{numbers_over, gauge_over, gauge_at, IsTooWide, IsKnownAtOnce}
 use Rattle.upp_curve.specs.Outcome.{IsWithin, IsCauseOf}
@@ -33,12 +32,11 @@ use Rattle.curve_frame.proofs.CurveRises.{common_first, common_second}
 use Rattle.curve_frame.proofs.CurveTimes.{steady_nonneg}
 use Rattle.curve_frame.proofs.FirstGate.{first_gate}
 use Rattle.curve_frame.proofs.Limited.{refused_cause, frame_within, convolve_least}
-use Rattle.curve_least.specs.Compared.{RepeatsIn}
 use Rattle.curve_least.proofs.Rises.{has_window}
 use Rattle.curve_least.proofs.Shifts.{same_least}
 use Rattle.curve_lattice.specs.LatticeCall.{LatticeCall, IsFirstWindow, IsWideAtFirst}
 use Rattle.curve_lattice.proofs.LatticeCalls.{at_times, from_is, from_fits}
-use Rattle.curve_parts.specs.Scans.{sizes_in, IsScan}
+use Rattle.curve_parts.specs.Scans.{sizes_in}
 use Rattle.curve_parts.specs.Late.{IsSlowerLate, IsSlowerAfter, IsSlowerNumber, IsPartsCall}
 use Rattle.curve_convolution.specs.ConvolveCall.{IsConvolveFrame}
 

@@ -1,6 +1,6 @@
 -- A call of the convolution within both limits. Own choice.
 use Rattle.std.specs.Prelude.{◌≡◌, ℕ, ◌+◌}
-use Rattle.rational.specs.Rational.{ℚ, ◌+ℚ◌, ◌-ℚ◌}
+use Rattle.rational.specs.Rational.{◌+ℚ◌, ◌-ℚ◌}
 use Rattle.upp_curve.specs.Curve.{SpecCurve}
 use Rattle.upp_curve.specs.Limits.{Sizes}
 use Rattle.upp_curve.specs.Sized.{grid_of}

@@ -44,12 +44,7 @@ fn slower_rise(f: &Curve, g: &Curve, period: Frac) -> Frac
 }
 
 // The convolution of two curves in a call within both limits, where the number of periods is enough.
-fn convolved_within(
-    alloc: Global,
-    f: &Curve,
-    g: &Curve,
-    frame: &Frame,
-) -> Result<Curve, AllocError>
+fn convolved_within(alloc: Global, f: &Curve, g: &Curve, frame: &Frame) -> Result<Curve, AllocError>
     requires { IsConvolveFrame f.now g.now frame.now }
     ensures { IfOk result (λ c. (t : ℚ) → int (pos 0) ≤ℚ t → IsConvolution (value_at f.now) (value_at g.now) t (value_at c t)) }
 {

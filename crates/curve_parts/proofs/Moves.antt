@@ -111,9 +111,9 @@ late_up : (f g : ℚ → Ext) (first second d slow t : ℚ) → AreRising f g fi
 unfolding first_earlier second_earlier
 late_up f g first second d slow t R late j = elim (le_or_lt (first +ℚ d) s) [
   | inl h ↦ (
-      record { split = first_earlier t d j.split (with3 first s d (λ c. omega (arith, c.le, c.lt, c.same))); inside = with3 first s d (λ c. omega (arith, c.le, c.lt, c.same)) },
-      same_le_ext (sym (left_risen (f (s -ℚ d)) (g u) slow) ∙ ap (λ v. v +ₑ g u) (repeats_back f first d slow s R.left h)),
-    )
+    record { split = first_earlier t d j.split (with3 first s d (λ c. omega (arith, c.le, c.lt, c.same))); inside = with3 first s d (λ c. omega (arith, c.le, c.lt, c.same)) },
+    same_le_ext (sym (left_risen (f (s -ℚ d)) (g u) slow) ∙ ap (λ v. v +ₑ g u) (repeats_back f first d slow s R.left h)),
+  )
   | inr h ↦
       let far : second +ℚ d ≤ℚ u = with6 first second d s u t (λ c. omega (arith, c.le, c.lt, c.same)) in (
         record { split = second_earlier t d j.split (with3 second u d (λ c. omega (arith, c.le, c.lt, c.same))); inside = j.inside },
@@ -204,9 +204,9 @@ alike_up f g first second d rise t low high F G late j =
     let whole = j.whole in
     elim (le_or_lt (first +ℚ d) s) [
       | inl h ↦ (
-          first_earlier t d j (with3 first s d (λ c. omega (arith, c.le, c.lt, c.same))),
-          same_le_ext (sym (left_risen (f (s -ℚ d)) (g u) rise) ∙ ap (λ v. v +ₑ g u) (repeats_back f first d rise s F h)),
-        )
+        first_earlier t d j (with3 first s d (λ c. omega (arith, c.le, c.lt, c.same))),
+        same_le_ext (sym (left_risen (f (s -ℚ d)) (g u) rise) ∙ ap (λ v. v +ₑ g u) (repeats_back f first d rise s F h)),
+      )
       | inr h ↦
           let far : second +ℚ d ≤ℚ u = with6 first second d s u t (λ c. omega (arith, c.le, c.lt, c.same)) in (
             second_earlier t d j (with3 second u d (λ c. omega (arith, c.le, c.lt, c.same))),
@@ -234,9 +234,9 @@ late_least_moves f g first second d slow t R late L b below s early after =
     let far : second +ℚ d ≤ℚ u = with6 first second d x u t (λ c. omega (arith, c.le, c.lt, c.same)) in
     let back = second_earlier t d s (with3 second u d (λ c. omega (arith, c.le, c.lt, c.same))) in
     let bound = L (b -ℚ slow)
-        (λ i k. lower (b) slow (f i.first +ₑ g i.second)
-            (le_ext_trans (Fin b) _ _ (below (first_later t d R.some i) (later_first i k)) (le_sum i k)))
-        back early (with3 second u d (λ c. omega (arith, c.le, c.lt, c.same))) in
+    (λ i k. lower (b) slow (f i.first +ₑ g i.second)
+    (le_ext_trans (Fin b) _ _ (below (first_later t d R.some i) (later_first i k)) (le_sum i k)))
+    back early (with3 second u d (λ c. omega (arith, c.le, c.lt, c.same))) in
     le_ext_trans (Fin b) ((f x +ₑ g (u -ℚ d)) +ₑ Fin slow) (f x +ₑ g u) (raise b slow (f x +ₑ g (u -ℚ d)) bound)
     (le_ext_trans _ (f x +ₑ (g (u -ℚ d) +ₑ Fin slow)) _ (same_le_ext (sym (right_risen (f x) (g (u -ℚ d)) slow)))
     (add_le_ext (f x) (f x) (g (u -ℚ d) +ₑ Fin slow) (g u) (le_ext_refl (f x)) (rising_back g second d slow u R.right far)))

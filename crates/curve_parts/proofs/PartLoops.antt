@@ -259,7 +259,7 @@ pub walk_step : (z : Sizes) (f g : SpecCurve) (from : ℚ) (until : Option ℚ) 
     → WindowTime z end from → WindowTime z end low → room ≡ end -ℚ low → IsLimit room until limit → PartWalk z f g from until low limit end t least true x → GoesOn (value_at f) x here
     → IsEarly here.next limit next → CellFacts z end limit x until here next
     → IsAhead (λ u. PartRow (point_at x here.at) (λ v. low ≤ℚ v) u ⊎ PartRow (open_at x (or_else next until) here.line) (λ v. low ≤ℚ v) u)
-        (λ u. either (part_row_sum (point_at x here.at) (value_at g) (λ v. low ≤ℚ v) u) (part_row_sum (open_at x (or_else next until) here.line) (value_at g) (λ v. low ≤ℚ v) u)) end t cell
+    (λ u. either (part_row_sum (point_at x here.at) (value_at g) (λ v. low ≤ℚ v) u) (part_row_sum (open_at x (or_else next until) here.line) (value_at g) (λ v. low ≤ℚ v) u)) end t cell
     → ((p q : ℚ → Ext) → GoesOn p t least → GoesOn q t cell → GoesOn (λ u. min_ext (p u) (q u)) t lesser) → ((u : ℚ) → IsBeforeNext u lesser.next → IsBeforeNext u least.next × IsBeforeNext u cell.next)
     → SumStretch z t lesser → more ≡ is_time next → y ≡ time_or next x → PartWalk z f g from until low limit end t lesser more y
 unfolding cell_sum

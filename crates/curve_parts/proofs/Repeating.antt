@@ -52,11 +52,11 @@ slower_repeats f g first second d slow from c h some R late L V same W t nonneg 
     (answer_relation (LateValue f g first from) c h from d slow same (low R.first_low R.second_low R.some) some
     (λ u n m. record { whole = W u n m; late = λ k. found u k m (W u n m) })
     (λ u v k P. let moved = late_moves f g first second d slow u v R (le_trans late k) (P.late k) in
-        let far = after some k in
-        record {
-          whole = late_only f g first second (u +ℚ d) (v +ₑ Fin slow) (le_trans sum_late (le_trans k far)) (ever (u +ℚ d) (le_trans k far)) moved;
-          late = λ m. moved;
-        })
+    let far = after some k in
+    record {
+      whole = late_only f g first second (u +ℚ d) (v +ₑ Fin slow) (le_trans sum_late (le_trans k far)) (ever (u +ℚ d) (le_trans k far)) moved;
+      late = λ m. moved;
+    })
     t nonneg).whole
   where
     sum_late : first +ℚ second ≤ℚ from

@@ -55,7 +55,13 @@ fn part_row(s: &Scan, o: &Option<Element>, low: Frac, t: Frac) -> Stretch
 }
 
 // What a point and a line that may be missing make with it.
-fn cell_part(s: &Scan, point: &Option<Element>, after: &Option<Element>, low: Frac, t: Frac) -> Stretch
+fn cell_part(
+    s: &Scan,
+    point: &Option<Element>,
+    after: &Option<Element>,
+    low: Frac,
+    t: Frac,
+) -> Stretch
     requires scan { IsScan s.now.first.now s.now.second.now s.now.end }
     requires point { OperandPart (sizes_in s.now.first.now s.now.second.now s.now.end) s.now.end point.now × IsProperPart point.now }
     requires after { OperandPart (sizes_in s.now.first.now s.now.second.now s.now.end) s.now.end after.now × IsProperPart after.now }

@@ -13,8 +13,9 @@ difference-from-requires g c = first_fits c.args.f.now c.args.g.now c.in_ok-firs
 pub late_periods-requires : goal.late_periods-requires
 late_periods-requires g c = parts_call c.args.f.now c.args.g.now c.in_ok-first.first c.difference-from.result c.first_window.ensures.kept c.in_ok-first.ensures.window c.difference-from.ensures
 
-pub returns-in_else-clause-limits : goal.returns-in_else-clause-limits
-returns-in_else-clause-limits g c = ?
+pub returns-in_default-clause-limits : goal.returns-in_default-clause-limits
+returns-in_default-clause-limits g c =
+    none_wide c.args.f.now c.args.g.now c.in_ok-first.first c.difference-from.result c.first_window.ensures.kept c.in_ok-first.ensures.window c.difference-from.ensures (λ k. c.in_default.ensures k)
 
 pub returns-in_err-frame-clause-limits : goal.returns-in_err-frame-clause-limits
 returns-in_err-frame-clause-limits g c =

@@ -13,9 +13,13 @@ lower-rest-requires c =
 
 pub lower-requires : goal.lower-requires
 lower-requires c =
-    let w = c.requires.room in
-    (w.0, w.1, w.2, c.element_stretch-first.ensures.sizes w.0 w.1 w.2 w.3.first,
-    c.lower-rest.ensures.sizes w.0 w.1 w.2 (c.part_stretch-join.ensures.sizes w.0 w.1 w.2 w.3.join) (c.part_stretch-second.ensures.sizes w.0 w.1 w.2 w.3.second))
+    let w = c.requires.room in (
+      w.0,
+      w.1,
+      w.2,
+      c.element_stretch-first.ensures.sizes w.0 w.1 w.2 w.3.first,
+      c.lower-rest.ensures.sizes w.0 w.1 w.2 (c.part_stretch-join.ensures.sizes w.0 w.1 w.2 w.3.join) (c.part_stretch-second.ensures.sizes w.0 w.1 w.2 w.3.second),
+    )
 
 pub returns-clause-goes : goal.returns-clause-goes
 returns-clause-goes c =

@@ -25,9 +25,13 @@ pub stretch_at-here-requires : goal.stretch_at-here-requires
 stretch_at-here-requires c =
     let s = c.args.s.now in
     let z = sizes_in s.first.now s.second.now s.end in
-    let W = subst (λ b. PartWalk z s.first.now s.second.now c.args.from c.args.until.now c.args.low c.limit_of-limit.result s.end c.args.t c.cells.least b c.cells.x) c.cells-test.true c.cells.invariant in
-    (z, s.end, c.requires.scan.first, walk_time z s.first.now s.second.now c.args.from c.args.until.now c.args.low c.difference-room.result c.limit_of-limit.result s.end c.args.t c.cells.least c.cells.x
-    c.requires.from c.requires.low c.difference-room.ensures c.limit_of-limit.ensures W)
+    let W = subst (λ b. PartWalk z s.first.now s.second.now c.args.from c.args.until.now c.args.low c.limit_of-limit.result s.end c.args.t c.cells.least b c.cells.x) c.cells-test.true c.cells.invariant in (
+      z,
+      s.end,
+      c.requires.scan.first,
+      walk_time z s.first.now s.second.now c.args.from c.args.until.now c.args.low c.difference-room.result c.limit_of-limit.result s.end c.args.t c.cells.least c.cells.x
+          c.requires.from c.requires.low c.difference-room.ensures c.limit_of-limit.ensures W,
+    )
 
 pub cell_part-cell-requires-clause-point : goal.cell_part-cell-requires-clause-point
 cell_part-cell-requires-clause-point c =

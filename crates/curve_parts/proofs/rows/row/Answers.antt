@@ -27,9 +27,13 @@ pub stretch_at-here-requires : goal.stretch_at-here-requires
 stretch_at-here-requires c =
     let s = c.args.s.now in
     let z = sizes_in s.first.now s.second.now s.end in
-    let W = subst (λ b. RowWalk z s.second.now c.args.a.now c.args.low c.difference-room.result s.end c.args.t c.cells.least b c.cells.y) c.cells-test.true c.cells.invariant in
-    (z, s.end, c.requires.scan.second, walk_time z s.second.now c.args.a.now c.args.low c.difference-room.result s.end c.args.t c.cells.least c.cells.y c.requires.element c.requires.low
-    (c.difference-room.ensures ∙ ap (λ x. s.end -ℚ x) c.start_of.ensures) W)
+    let W = subst (λ b. RowWalk z s.second.now c.args.a.now c.args.low c.difference-room.result s.end c.args.t c.cells.least b c.cells.y) c.cells-test.true c.cells.invariant in (
+      z,
+      s.end,
+      c.requires.scan.second,
+      walk_time z s.second.now c.args.a.now c.args.low c.difference-room.result s.end c.args.t c.cells.least c.cells.y c.requires.element c.requires.low
+          (c.difference-room.ensures ∙ ap (λ x. s.end -ℚ x) c.start_of.ensures) W,
+    )
 
 pub cell_row-cell-requires-clause-room : goal.cell_row-cell-requires-clause-room
 cell_row-cell-requires-clause-room c =
