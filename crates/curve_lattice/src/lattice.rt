@@ -14,10 +14,9 @@ ghost use Rattle.curve_lattice.specs.LatticeCall.{IsLatticeFrame};
 
 use affine_segment::Piece;
 use curve_frame::{Frame, answer, first_window, rise_over, within};
-use curve_least::least_periods;
+use curve_least::{Side, least_periods};
 use curve_window::{window_excess, window_max, window_min};
-use fraction128::{Ext, Frac};
-use rational::Extended;
+use fraction128::Frac;
 use std::alloc::{AllocError, Global};
 use std::sync::ledger::Ledger;
 use steps::Steps;
@@ -42,6 +41,13 @@ fn kind_of(of: Lattice) -> OpKind
         Lattice::Upper => OpKind::Max,
         Lattice::Excess => OpKind::PosDiff,
     }
+}
+
+// Whether f is the slower one.
+fn is_slower(f: &Curve, g: &Curve) -> bool
+    ensures { IsTrue result ↔ (rate f.now <ₑ rate g.now) }
+{
+    curve_least::is_slower(&Side::of(f), &Side::of(g))
 }
 
 // By how much the slower of two curves rises, or the faster.
@@ -149,8 +155,5 @@ pub(crate) fn made_of_curves<L: Ledger>(
         return Err(OpFault::TooWide);
     };
     let frame = within(&kind, f, g, periods)?;
-    match made_within(alloc, of, f, g, &frame) {
-        Ok(c) => Ok(c),
-        Err(_) => Err(OpFault::NoMemory),
-    }
+    Ok(made_within(alloc, of, f, g, &frame)?)
 }

@@ -46,10 +46,7 @@ fn level_pieces(alloc: Global, l: Frac) -> Result<Vec<Piece>, AllocError>
 fn is_gaining(f: &Curve) -> bool
     ensures { IsTrue result ↔ (Fin (int (pos 0)) <ₑ rate f.now) }
 {
-    match rate_of(f) {
-        Extended::Inf => true,
-        Extended::Fin(x) => is_less(Frac::zero(), x),
-    }
+    is_slower(&Side::level(Frac::zero()), &Side::of(f))
 }
 
 // By how much a curve rises over a period, where it gains.
@@ -107,8 +104,5 @@ pub fn pos_minus<L: Ledger>(
         return Err(OpFault::TooWide);
     };
     let frame = within(&kind, f, f, periods)?;
-    match minus_within(alloc, f, l, &frame) {
-        Ok(c) => Ok(c),
-        Err(_) => Err(OpFault::NoMemory),
-    }
+    Ok(minus_within(alloc, f, l, &frame)?)
 }

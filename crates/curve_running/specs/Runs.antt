@@ -28,11 +28,6 @@ pub record IsNumberOf (f : SpecCurve) (k : ℕ) : Type 0 where
   pub least : IsLeast (Meets RunSup f f) k
   pub covered : IsCoveredAfter f (steady f) (own_period f) (rise_over f (own_period f)) k
 
--- the window without any period, where the gauge is below 2 ^ 120
-pub record IsFirstWindow (f : SpecCurve) (w : CallWindow) : Type 0 where
-  pub window : IsWindow RunSup f f 0 0 w
-  pub gauge : gauge_at RunSup f f 0 0 < 2 ^ 120
-
 -- front is the first of ps, all before `end`; what is left starts at `end` or later
 pub record IsFrontBefore (ps : List Piece) (end : ℚ) (front : List Piece) : Type 0 where
   pub before : Each (λ p. p.x <ℚ end) front
