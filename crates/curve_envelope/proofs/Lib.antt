@@ -4,4 +4,3 @@ pub mod ScaleCall
 pub mod LeftWindow
 pub mod ShiftCall
 pub mod Nowhere
-mod NotBelow

@@ -23,7 +23,11 @@ fn fitting_piece(piece: &Piece, factor: Frac) -> Piece
     requires { PieceScales factor piece.now }
     ensures { result ≡ scaled_piece factor piece.now }
 {
-    scaled_piece(piece, factor).unwrap()
+    match scaled_piece(piece, factor) {
+        Some(found) => found,
+        // never, since the products fit
+        None => *piece,
+    }
 }
 
 // A tail times a number, where the product fits.

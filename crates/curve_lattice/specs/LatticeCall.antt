@@ -1,22 +1,16 @@
 -- A call on two curves that both repeat from a start on, whose window ends some periods later. Own choice.
-use Rattle.std.specs.Prelude.{◌≡◌, ℕ, ◌+◌, ◌<◌, ◌≤◌, ◌^◌, pos}
+use Rattle.std.specs.Prelude.{◌≡◌, ℕ, ◌+◌, pos}
 use Rattle.rational.specs.Rational.{ℚ, ◌≤ℚ◌, ◌<ℚ◌, int}
 use Rattle.rational.specs.Grid.{Whole}
-use Rattle.upp_curve.specs.declared.op_kind.OpKind.{OpKind}
-use Rattle.upp_curve.specs.declared.op_kind.OpFault.{OpFault}
-use Rattle.upp_curve.specs.declared.op_kind.OpFault.TheVariants.{TooMany, TooWide, NoMemory}
 use Rattle.upp_curve.specs.Curve.{SpecCurve, value_at}
 use Rattle.upp_curve.specs.Curves.{IsCurve}
 use Rattle.upp_curve.specs.Steady.{steady, rate, IsWholePeriods}
 use Rattle.upp_curve.specs.Periods.{periods_after}
 use Rattle.upp_curve.specs.Windows.{IsSlowerBelow}
 use Rattle.upp_curve.specs.Limits.{Sizes, curve_numbers}
-use Rattle.upp_curve.specs.Gauges.{gauge_at}
 use Rattle.upp_curve.specs.Sized.{Stands, grid_of}
 use Rattle.upp_curve.specs.Operand.{AreLimited}
 use Rattle.curve_frame.specs.declared.frame.Frame.{Frame}
-use Rattle.curve_frame.specs.declared.windows.CallWindow.{CallWindow}
-use Rattle.curve_frame.specs.CallWindows.{IsWindow}
 
 -- both repeat from `start` on with the period, and their numbers up to `end`, k + 1 periods later, have the sizes z
 pub record LatticeCall (f g : SpecCurve) (start period end : ℚ) (k : ℕ) (z : Sizes) : Type 0 where

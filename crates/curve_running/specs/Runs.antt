@@ -1,18 +1,15 @@
 -- The running bounds of a curve as curves, and the number of periods that the supremum needs. Own choice.
-use Rattle.std.specs.Prelude.{◌≡◌, ℕ, ◌<◌, ◌^◌, List, ◌∷◌, ◌++◌}
+use Rattle.std.specs.Prelude.{◌≡◌, ℕ, List, ◌∷◌, ◌++◌}
 use Rattle.rational.specs.Rational.{ℚ, ◌≤ℚ◌, ◌<ℚ◌}
 use Rattle.affine_segment.specs.declared.line.Piece.{Piece}
 use Rattle.upp_curve.specs.declared.op_kind.OpKind.TheVariants.{RunSup}
 use Rattle.upp_curve.specs.Curve.{SpecCurve, value_at}
 use Rattle.upp_curve.specs.Functions.{zero_q}
-use Rattle.upp_curve.specs.Gauges.{gauge_at}
 use Rattle.upp_curve.specs.Normal.{Each}
 use Rattle.upp_curve.specs.Periods.{own_period}
 use Rattle.upp_curve.specs.Running.{IsRunningSupremum, IsRunningInfimum}
 use Rattle.upp_curve.specs.Steady.{steady, rise_over}
 use Rattle.upp_curve.specs.Windows.{IsLeast, Meets}
-use Rattle.curve_frame.specs.declared.windows.CallWindow.{CallWindow}
-use Rattle.curve_frame.specs.CallWindows.{IsWindow}
 use Rattle.curve_running.specs.Periods.{IsCoveredAfter}
 
 -- c is the running supremum of f at each time from 0 on

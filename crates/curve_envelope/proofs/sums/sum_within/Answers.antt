@@ -1,4 +1,4 @@
-use Rattle.std.proofs.Common.{◌≡◌, ◌∙◌, sym, ap, ap₂, subst}
+use Rattle.std.proofs.Common.{◌∙◌, sym, ap₂, subst}
 use Rattle.rational.specs.Rational.{ℚ, ◌+ℚ◌}
 use Rattle.rational.specs.Ratio.{SumFits}
 use Rattle.upp_curve.specs.Steady.{rise_over}
@@ -7,7 +7,7 @@ use Rattle.upp_curve.proofs.NormaliseForm.{ok_map}
 use Rattle.curve_window.proofs.OperandWindows.{cuts_fit, sums_fit}
 use Rattle.curve_frame.specs.Frames.{sizes_at}
 use Rattle.curve_frame.proofs.Operands.{operand_to}
-use Rattle.curve_envelope.proofs.SumCall.{SumCall, sum_call, left_pieces, right_pieces, rises_fit, sum_answer, sum_values}
+use Rattle.curve_envelope.proofs.SumCall.{sum_call, left_pieces, right_pieces, rises_fit, sum_answer, sum_values}
 use Rattle.curve_envelope.proofs.sums.sum_within.Goals as goal
 
 pub unrolled-requires : goal.unrolled-requires
