@@ -14,3 +14,4 @@ pub mod BehindWalk
 pub mod LeastBehind
 pub mod LeftLimits
 pub mod Nothing
+pub mod TestWaits
