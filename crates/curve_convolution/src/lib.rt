@@ -3,5 +3,7 @@
 
 mod gate;
 mod operator;
+#[cfg(test)]
+mod tests;
 
 pub use operator::convolve;
