@@ -1,5 +1,5 @@
 -- What an operator's contract says of its answer makes it the answer of a call of its kind.
-use Rattle.std.specs.Prelude.{Result, Ok, Err, IfOk}
+use Rattle.std.specs.Prelude.{◌≡◌, Result, Ok, Err, IfOk}
 use Rattle.rational.specs.Rational.{ℚ, ◌≤ℚ◌}
 use Rattle.upp_curve.specs.declared.op_kind.OpKind.{OpKind}
 use Rattle.upp_curve.specs.declared.op_kind.OpFault.{OpFault}
@@ -17,7 +17,13 @@ pub applied : (op : OpKind) (f g : SpecCurve) (r : Result SpecCurve OpFault)
 applied op f g (Ok c) value limits kept = record { within = limits; made = record { curve = kept; answers = value } }
 applied op f g (Err fault) value limits kept = limits
 
--- the same of an answer on its own
-pub applied_ok : (op : OpKind) (f g c : SpecCurve) → ((t : ℚ) → zero_q ≤ℚ t → IsAnswer op (value_at f) (value_at g) t (value_at c t))
-    → KeepsLimits op f g (Ok c) → IsCurve c → Applies op f g (Ok c)
-applied_ok op f g c value limits kept = applied op f g (Ok c) value limits kept
+-- the same of an answer that `seen` hands on
+pub applied_seen : (op : OpKind) (f g : SpecCurve) (r s : Result SpecCurve OpFault) → s ≡ r
+    → IfOk r (λ c. (t : ℚ) → zero_q ≤ℚ t → IsAnswer op (value_at f) (value_at g) t (value_at c t))
+    → KeepsLimits op f g r → IfOk s IsCurve → Applies op f g s
+applied_seen op f g r s same value limits kept = rw same (applied op f g r value limits (rw same at kept))
+
+-- what holds anyway holds where there is an answer
+pub if_ok : {A E : Type 0} {P : Type 0} (r : Result A E) → P → IfOk r (λ _. P)
+if_ok (Ok x) h = h
+if_ok (Err e) h = tt

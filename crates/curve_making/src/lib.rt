@@ -4,6 +4,8 @@
 
 mod kept;
 mod laws;
+#[cfg(test)]
+mod tests;
 
 pub use kept::seen;
 pub use laws::{Making, answers_are_determined, calls_in_turn};
