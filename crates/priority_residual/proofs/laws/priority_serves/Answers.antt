@@ -1,4 +1,4 @@
-use Rattle.priority_residual.proofs.priority_serves.Goals as goal
+use Rattle.priority_residual.proofs.laws.priority_serves.Goals as goal
 use Rattle.priority_residual.proofs.PriorityLaw
 
 pub returns : goal.returns

@@ -1,4 +1,4 @@
-use Rattle.drr_residual.proofs.drr_serves.Goals as goal
+use Rattle.drr_residual.proofs.laws.drr_serves.Goals as goal
 use Rattle.drr_residual.proofs.DrrLaw
 
 pub returns : goal.returns
