@@ -1,7 +1,6 @@
 //! The convolution of two curves.
 #![tactic(auto)]
 
-mod gate;
 mod operator;
 #[cfg(test)]
 mod tests;

@@ -120,12 +120,7 @@ fn repeats(c: &Curve) -> Option<(Frac, Frac, Frac)> {
     }
 }
 
-fn convolved<L: Ledger>(
-    alloc: Global,
-    blank: Blank,
-    f: &Curve,
-    g: &Curve,
-) -> Result<Curve, OpFault>
+fn convolved<L: Ledger>(alloc: Global, blank: Blank, f: &Curve, g: &Curve) -> Result<Curve, OpFault>
     requires name { blank.name ≡ L.name }
     requires parts { blank.parts ≡ L.parts }
     requires one { 0 < blank.parts }
@@ -210,7 +205,10 @@ fn the_slower_takes_over_late(rt: HostRuntime) -> Result<(), Fail> {
     let d = convolved::<Brand>(rt.alloc(), Blank::new(1), &g, &f)?;
     for (t, v) in [(0, 0), (1, 0), (5, 4), (11, 10), (20, 10)] {
         assert!(rt; value(&c, whole(t)) == Some(whole(v)), "at {t}");
-        assert!(rt; value(&d, whole(t)) == Some(whole(v)), "the other way round at {t}");
+        assert!(rt;
+            value(&d, whole(t)) == Some(whole(v)),
+            "the other way round at {t}"
+        );
     }
     Ok(())
 }

@@ -8,5 +8,4 @@ mod levels;
 mod tests;
 
 pub use extremes::{max, min, pos_diff};
-pub use gate::first_window;
 pub use levels::pos_minus;
