@@ -65,12 +65,11 @@ fn repeating(
     curve(alloc, &list, tail)
 }
 
-// 0 up to the latency, and then the rate.
-fn late(alloc: Global, rate: i128, latency: i128) -> Result<Curve, OpFault> {
-    let zero = Extended::Fin(Frac::zero());
+// 0 up to the latency, and then the line.
+fn late(alloc: Global, latency: i128, icept: i128, slope: i128) -> Result<Curve, OpFault> {
     let list = [
-        piece(0, zero, Some((0, 0))),
-        piece(latency, zero, Some((-(rate * latency), rate))),
+        piece(0, Extended::Fin(Frac::zero()), Some((0, 0))),
+        piece(latency, Extended::Fin(Frac::zero()), Some((icept, slope))),
     ];
     curve(
         alloc,
@@ -145,9 +144,9 @@ fn stairs(rt: HostRuntime) -> Result<(), Fail> {
 // Rate-latency curves of one rate: the latencies add up.
 #[test]
 fn latencies(rt: HostRuntime) -> Result<(), Fail> {
-    let f = late(rt.alloc(), 100, 130)?;
-    let g = late(rt.alloc(), 100, 10)?;
-    let sum = late(rt.alloc(), 100, 140)?;
+    let f = late(rt.alloc(), 130, -13000, 100)?;
+    let g = late(rt.alloc(), 10, -1000, 100)?;
+    let sum = late(rt.alloc(), 140, -14000, 100)?;
     let c = convolved::<Brand>(rt.alloc(), Blank::new(1), &f, &g)?;
     assert!(rt; equal(&c, &sum));
     Ok(())
