@@ -23,7 +23,7 @@ use Rattle.curve_window.specs.Stretches.{IsOverlay}
 use Rattle.curve_window.specs.Pointwise.{mapped}
 use Rattle.curve_frame.specs.declared.frame.Frame.{Frame}
 use Rattle.curve_frame.specs.declared.windows.CallWindow.{CallWindow}
-use Rattle.curve_lattice.specs.LatticeCall.{IsFirstWindow}
+use Rattle.curve_frame.specs.FirstWindows.{IsFirstWindow}
 use Rattle.curve_leftover.specs.Behind.{moved, IsServed}
 use Rattle.curve_leftover.specs.Moved.{moved_right}
 use Rattle.curve_leftover.specs.Parts.{left_piece}

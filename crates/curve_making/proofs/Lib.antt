@@ -1,0 +1,4 @@
+pub mod Again
+pub mod Applied
+pub mod InTurn
+pub mod SameAnswers
