@@ -1,3 +1,4 @@
+pub mod Basics
 pub mod MovedLoop
 pub mod Served
 pub mod SumSizes
