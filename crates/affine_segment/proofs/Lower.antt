@@ -1,5 +1,5 @@
 -- The lower of two lines before and after they meet.
-use Rattle.std.specs.Prelude.{◌≡◌, ◌⊎◌, Option, Some, None}
+use Rattle.std.specs.Prelude.{◌≡◌, ◌≢◌, ◌⊎◌, Option, Some, None, IfSome}
 use Rattle.std.proofs.Common.{arith, sym, ap, refl, inl, inr, ◌∙◌}
 use Rattle.rational.specs.Rational.{ℚ, ◌+ℚ◌, ◌-ℚ◌, ◌*ℚ◌, ◌≤ℚ◌, ◌<ℚ◌}
 use Rattle.rational.specs.MinMax.{min_q}
@@ -11,7 +11,7 @@ use Rattle.rational.proofs.MinMax.{min_q_left, min_q_right}
 use Rattle.affine_segment.specs.declared.line.Line.{Line}
 use Rattle.affine_segment.specs.declared.cut.Cut.{Cut}
 use Rattle.affine_segment.specs.Values.{line_at}
-use Rattle.affine_segment.specs.Cuts.{IsWithin, IsLowerAt, CutsAt, IsLowerCut, IsLowerThroughout}
+use Rattle.affine_segment.specs.Cuts.{IsWithin, IsLowerAt, CutsAt, CrossAt, IsLowerCut, IsLowerThroughout}
 
 -- ---- the lesser of two values
 left_low : (x y : ℚ) → x ≤ℚ y → x ≡ min_q x y
@@ -47,11 +47,11 @@ make_cut l m = record { low = l; at = None; after = m }
 -- one line throughout
 pub left_cut : (a b : Line) (from : ℚ) (to : Ext) → ((t : ℚ) → IsWithin from to t → line_at a t ≤ℚ line_at b t)
     → IsLowerCut a b from to record { low = a; at = None; after = a }
-left_cut a b from to h = record { low = inl refl; after = inl refl; lower = (refl, λ t w. left_low (line_at a t) (line_at b t) (h t w)) }
+left_cut a b from to h = record { low = inl refl; after = inl refl; lower = (refl, λ t w. left_low (line_at a t) (line_at b t) (h t w)); turns = tt }
 
 pub right_cut : (a b : Line) (from : ℚ) (to : Ext) → ((t : ℚ) → IsWithin from to t → line_at b t ≤ℚ line_at a t)
     → IsLowerCut a b from to record { low = b; at = None; after = b }
-right_cut a b from to h = record { low = inr refl; after = inr refl; lower = (refl, λ t w. right_low (line_at a t) (line_at b t) (h t w)) }
+right_cut a b from to h = record { low = inr refl; after = inr refl; lower = (refl, λ t w. right_low (line_at a t) (line_at b t) (h t w)); turns = tt }
 
 -- of two lines with one slope the one that is lower at 0
 parallel : (k r l q t : ℚ) → r ≡ q → k ≤ℚ l → k +ℚ r *ℚ t ≤ℚ l +ℚ q *ℚ t
@@ -66,9 +66,10 @@ pub parallel_right : (a b : Line) → a.slope ≡ b.slope → b.icept ≤ℚ a.i
 parallel_right a b e h from to = right_cut a b from to (λ t w. parallel b.icept b.slope a.icept a.slope t (sym e) h)
 
 -- the steeper up to where they meet, and the other from there on
-pub crossing_cut : (a b : Line) (x from : ℚ) (to : Ext) → b.slope ≤ℚ a.slope → line_at a x ≡ line_at b x → from <ℚ x → Fin x <ₑ to
+pub crossing_cut : (a b : Line) (x from : ℚ) (to : Ext) → b.slope ≤ℚ a.slope → a.slope ≢ b.slope
+    → line_at a x ≡ line_at b x → from <ℚ x → Fin x <ₑ to
     → IsLowerCut a b from to record { low = a; at = Some x; after = b }
-crossing_cut a b x from to h e past early = record {
+crossing_cut a b x from to h apart e past early = record {
   low = inl refl;
   after = inr refl;
   lower = (
@@ -76,6 +77,7 @@ crossing_cut a b x from to h e past early = record {
     λ t w l. left_low (line_at a t) (line_at b t) (before a.icept a.slope b.icept b.slope x t h e l),
     λ t w l. right_low (line_at a t) (line_at b t) (after a.icept a.slope b.icept b.slope x t h e l),
   );
+  turns = (apart, e);
 }
 
 -- they meet at `from` or before
@@ -102,7 +104,7 @@ min_turned x y = elim (le_or_lt x y) [
 ]
 
 pub turned : (a b : Line) (from : ℚ) (to : Ext) (cut : Cut) → IsLowerCut a b from to cut → IsLowerCut b a from to cut
-turned a b from to cut c = record { low = other c.low; after = other c.after; lower = by cut.at c.lower }
+turned a b from to cut c = record { low = other c.low; after = other c.after; lower = by cut.at c.lower; turns = crossed cut.at c.turns }
   where
     other : {l : Line} → (l ≡ a) ⊎ (l ≡ b) → (l ≡ b) ⊎ (l ≡ a)
     other (inl e) = inr e
@@ -114,3 +116,7 @@ turned a b from to cut c = record { low = other c.low; after = other c.after; lo
     by : (at : Option ℚ) → CutsAt a b from to cut.low at cut.after → CutsAt b a from to cut.low at cut.after
     by None h = (h.0, λ t w. at_time cut.low t (h.1 t w))
     by (Some x) h = (h.0, λ t w l. at_time cut.low t (h.1 t w l), λ t w l. at_time cut.after t (h.2 t w l))
+
+    crossed : (at : Option ℚ) → IfSome at (CrossAt a b) → IfSome at (CrossAt b a)
+    crossed None h = tt
+    crossed (Some x) h = (λ e. h.0 (sym e), sym h.1)

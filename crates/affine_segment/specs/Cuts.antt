@@ -1,5 +1,6 @@
--- The lower of two lines on an open interval.
-use Rattle.std.specs.Prelude.{◌≡◌, ◌⊎◌, Option, Some, None}
+-- The lower of two lines on an open interval. (Bouillard, Boyer and Le Corronc: the minimum of elementary functions;
+-- its form, two lines and the time of the change, is an own choice.)
+use Rattle.std.specs.Prelude.{◌≡◌, ◌≢◌, ◌⊎◌, Option, Some, None, IfSome}
 use Rattle.rational.specs.Rational.{ℚ, ◌≤ℚ◌, ◌<ℚ◌}
 use Rattle.rational.specs.Extended.{Ext, ◌<ₑ◌}
 use Rattle.rational.specs.declared.Extended.TheVariants.{Fin}
@@ -25,11 +26,17 @@ CutsAt a b from to low (Some x) after =
     × ((t : ℚ) → IsWithin from to t → t ≤ℚ x → IsLowerAt a b low t)
     × ((t : ℚ) → IsWithin from to t → x ≤ℚ t → IsLowerAt a b after t)
 
--- the lower of the lines a and b between `from` and `to`: each part is one of the two, and it changes at most once
+-- two lines of different slopes meet at x
+abbrev pub CrossAt : Line → Line → ℚ → Type 0
+CrossAt a b x = (a.slope ≢ b.slope) × (line_at a x ≡ line_at b x)
+
+-- the lower of the lines a and b between `from` and `to`: each part is one of the two, and it changes at most once, and
+-- only where they cross
 pub record IsLowerCut (a b : Line) (from : ℚ) (to : Ext) (cut : Cut) : Type 0 where
   pub low : (cut.low ≡ a) ⊎ (cut.low ≡ b)
   pub after : (cut.after ≡ a) ⊎ (cut.after ≡ b)
   pub lower : CutsAt a b from to cut.low cut.at cut.after
+  pub turns : IfSome cut.at (CrossAt a b)
 
 -- the same between any two times
 abbrev pub IsLowerThroughout : Line → Line → Cut → Type 0

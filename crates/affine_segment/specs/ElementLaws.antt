@@ -1,4 +1,5 @@
--- How elements and the parts of an answer are read.
+-- How elements and the parts of an answer are read. (Bouillard, Boyer and Le Corronc: an elementary function is
+-- infinite outside its times.)
 use Rattle.std.specs.Prelude.{◌≡◌, Option, Some, None}
 use Rattle.rational.specs.Rational.{ℚ}
 use Rattle.rational.specs.declared.Extended.TheVariants.{Fin, Inf}

@@ -1,4 +1,5 @@
--- Elements of a curve: a point, or a line strictly between two times. What they are at a time, and what two of them make.
+-- Elements of a curve: a point, or a line strictly between two times. What they are at a time, and what two of them
+-- make.
 -- (Bouillard, Boyer and Le Corronc: elementary functions and their convolution.)
 use Rattle.std.specs.Prelude.{◌≡◌, ◌↔◌, ◌⊎◌, Bool, true, cond, ◌&&◌, Option, Some, None, IsSome}
 use Rattle.rational.specs.Rational.{ℚ, ◌+ℚ◌, ◌<ℚ◌, le_q, lt_q}

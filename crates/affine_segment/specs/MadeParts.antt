@@ -1,4 +1,5 @@
--- What two elements make, part by part: where each part starts and ends, its slope, and its value at its start. Own choice.
+-- What two elements make, part by part: where each part starts and ends, its slope, and its value at its start.
+-- Own choice.
 use Rattle.std.specs.Prelude.{◌≡◌, ◌⊎◌, Some, None}
 use Rattle.rational.specs.Rational.{ℚ, ◌+ℚ◌, ◌<ℚ◌}
 use Rattle.rational.specs.Extended.{Ext, ◌+ₑ◌}

@@ -1,4 +1,4 @@
--- Which step of arithmetic was too wide: each names the step, and says that its numbers do not fit.
+-- Which step of arithmetic was too wide: each names the step, and says that its numbers do not fit. Own choice.
 use Rattle.std.specs.Prelude.{◌≡◌, ◌⊎◌}
 use Rattle.rational.specs.Rational.{ℚ, ◌-ℚ◌, ◌*ℚ◌, ◌/ℚ◌, neg_ℚ}
 use Rattle.rational.specs.Ratio.{IsSmall, SumFits}
@@ -24,8 +24,8 @@ IsWideQuotient x y w = (w ≡ wide_step Div x y) × ¬ (IsSmall (x /ℚ y))
 abbrev pub IsWideValue : Line → ℚ → Wide → Type 0
 IsWideValue l t w = IsWideProduct l.slope t w ⊎ IsWideSum l.icept (l.slope *ℚ t) w
 
--- ---- the steps of the time at which two lines meet: the difference of their values at 0, that of their slopes, and the
--- quotient of the two
+-- ---- the steps of the time at which two lines meet: the difference of their values at 0, that of their slopes, and
+-- the quotient of the two
 abbrev pub IsWideCross : Line → Line → Wide → Type 0
 IsWideCross a b w =
     IsWideDifference b.icept a.icept w ⊎ IsWideDifference a.slope b.slope w

@@ -1,4 +1,4 @@
--- What a line is at a time.
+-- What a line is at a time. (Bouillard, Boyer and Le Corronc: the affine parts of a piecewise linear function.)
 use Rattle.std.specs.Prelude.{Option, Some, None}
 use Rattle.rational.specs.Rational.{ℚ, ◌+ℚ◌, ◌*ℚ◌}
 use Rattle.rational.specs.Extended.{Ext}

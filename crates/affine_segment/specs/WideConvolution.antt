@@ -1,4 +1,4 @@
--- Which step of the convolution of two elements was too wide.
+-- Which step of the convolution of two elements was too wide. Own choice.
 use Rattle.std.specs.Prelude.{◌≡◌, ◌⊎◌}
 use Rattle.rational.specs.Rational.{ℚ, ◌+ℚ◌, ◌*ℚ◌, ◌<ℚ◌}
 use Rattle.rational.specs.Extended.{Ext}
@@ -26,16 +26,16 @@ abbrev pub IsWideEnds : Ext → Ext → Wide → Type 0
 IsWideEnds Inf e w = ⊥
 IsWideEnds (Fin x) e w = IsWideEnd x e w
 
--- a line of slope r from where one line is at x and the other at y: the sum of the times, the steps of both values, their
--- sum, and the steps of the line
+-- a line of slope r from where one line is at x and the other at y: the sum of the times, the steps of both values,
+-- their sum, and the steps of the line
 abbrev pub IsWideCorner : Line → ℚ → Line → ℚ → ℚ → Wide → Type 0
 IsWideCorner a x b y r w =
     IsWideSum x y w ⊎ IsWideValue a x w ⊎ IsWideValue b y w ⊎ IsWideSum (line_at a x) (line_at b y) w
     ⊎ IsWideThrough r (x +ℚ y) (line_at a x +ℚ line_at b y) w
 
 -- ---- two elements
--- a segment moved by the point (x, v): the sums of the times, the steps of the value at its start, the sum of that with v,
--- and the steps of the line
+-- a segment moved by the point (x, v): the sums of the times, the steps of the value at its start, the sum of that with
+-- v, and the steps of the line
 abbrev pub IsWideMoved : ℚ → ℚ → ℚ → Ext → Line → Wide → Type 0
 IsWideMoved x v from to line w =
     IsWideSum x from w ⊎ IsWideEnd x to w ⊎ IsWideValue line from w ⊎ IsWideSum v (line_at line from) w

@@ -1,6 +1,6 @@
 //! The lower of two lines on an open interval.
 
-ghost use Rattle.std.specs.Prelude.{◌≡◌, ◌↔◌, IfOk, IfErr, IsTrue};
+ghost use Rattle.std.specs.Prelude.{◌≡◌, ◌≢◌, ◌↔◌, IfOk, IfErr, IsOk, IsTrue};
 ghost use Rattle.rational.specs.Rational.{◌≤ℚ◌};
 ghost use Rattle.rational.specs.Extended.{◌<ₑ◌};
 ghost use Rattle.affine_segment.specs.Values.{line_at};
@@ -23,10 +23,12 @@ pub struct Cut {
     pub after: Line,
 }
 
-/// The lower of two lines strictly between `from` and `to`. Refused only where a step of `cross` is.
+/// The lower of two lines strictly between `from` and `to`. A change is marked only where lines of different slopes
+/// meet. Refused only where a step of `cross` is, and so never for lines of one slope.
 pub fn element_min(a: &Line, b: &Line, from: Frac, to: Ext) -> Result<Cut, Wide>
     requires { Extended.Fin from <ₑ to }
     ensures lower { IfOk result (IsLowerCut a.now b.now from to) }
+    ensures parallel { a.now.slope ≡ b.now.slope → IsOk result }
     ensures wide { IfErr result (IsWideCross a.now b.now) }
 {
     match cross(a, b)? {
@@ -77,6 +79,7 @@ pub(crate) fn is_before(x: Frac, end: &Ext) -> bool
 // The lower of two lines that meet at x: the steeper before, and the other after.
 fn lower_crossing(steep: Line, shallow: Line, x: Frac, from: Frac, to: Ext) -> Cut
     requires steep { shallow.slope ≤ℚ steep.slope }
+    requires apart { steep.slope ≢ shallow.slope }
     requires meet { line_at steep x ≡ line_at shallow x }
     ensures { IsLowerCut steep shallow from to result }
 {

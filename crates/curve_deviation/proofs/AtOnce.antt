@@ -77,7 +77,7 @@ not_finite_deviation f g curve not finite =
     let found = infinite_somewhere f curve not in
     infinite_deviation (value_at f) (value_at g) found.at found.nonneg found.top finite
 
-repeats_by : (from d : ℚ) (c : SpecCurve) → int (pos 0) <ℚ d → RepeatsBy from d c → Repeats (value_at c) from d (rise_over c d)
+pub repeats_by : (from d : ℚ) (c : SpecCurve) → int (pos 0) <ℚ d → RepeatsBy from d c → Repeats (value_at c) from d (rise_over c d)
 repeats_by from d c some R = record { rule = λ t h. (steady_rule c d R.curve.normal.raw R.periods (le_of_lt some)).rule t (le_trans R.steady_by h) }
 
 pub faster_deviation : (f g : SpecCurve) (from d : ℚ) → int (pos 0) <ℚ d → int (pos 0) ≤ℚ from → RepeatsBy from d f → RepeatsBy from d g → rate g <ₑ rate f

@@ -2,7 +2,6 @@
 #![tactic(auto)]
 
 mod extremes;
-mod gate;
 mod lattice;
 mod levels;
 #[cfg(test)]

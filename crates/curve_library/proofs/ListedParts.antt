@@ -1,16 +1,14 @@
 -- A listed curve: its form, its numbers, and its answers.
-use Rattle.std.specs.Prelude.{◌≡◌, ◌≢◌, ◌⊎◌, ℕ, ◌<◌, ◌≤◌, ◌^◌, ◌*◌, pos, List, [], ◌∷◌, length, Option, Some, None, Result, Ok, Err}
+use Rattle.std.specs.Prelude.{◌≡◌, ◌<◌, ◌≤◌, ◌^◌, ◌*◌, pos, List, [], ◌∷◌, length, Option, Some, None, Result, Ok, Err}
 use Rattle.std.specs.List.{AllByRecursion}
 use Rattle.std.proofs.Common.{arith, get_or, sym, ap, ◌∙◌, refl, subst, inl, inr}
 use Rattle.rational.specs.Rational.{ℚ, ◌+ℚ◌, ◌-ℚ◌, ◌*ℚ◌, ◌≤ℚ◌, ◌<ℚ◌, int, neg_ℚ}
-use Rattle.rational.specs.Ratio.{IsSmall, SumFits}
+use Rattle.rational.specs.Ratio.{IsSmall}
 use Rattle.rational.specs.Grid.{Whole, Within}
-use Rattle.rational.specs.Extended.{Ext, ◌≤ₑ◌, ◌+ₑ◌}
-use Rattle.rational.specs.declared.Extended.TheVariants.{Fin}
-use Rattle.rational.proofs.Grid.{whole_neg, within_neg}
-use Rattle.rational.proofs.Linear.{with2}
+use Rattle.rational.specs.Extended.{Ext, ◌≤ₑ◌}
+use Rattle.rational.proofs.Grid.{whole_neg, within_neg, whole_add, within_add}
+use Rattle.rational.proofs.Linear.{with1, with2}
 use Rattle.rational.proofs.Laws.{le_refl, le_of_lt, le_trans, one_mul}
-use Rattle.affine_segment.specs.declared.line.Line.{Line}
 use Rattle.affine_segment.specs.declared.line.Piece.{Piece}
 use Rattle.affine_segment.specs.Values.{line_value}
 use Rattle.upp_curve.specs.declared.curve.Tail.{Tail}
@@ -19,17 +17,17 @@ use Rattle.upp_curve.specs.declared.own_limits.OverLimit.{OverLimit}
 use Rattle.upp_curve.specs.declared.own_limits.OverLimit.TheVariants.{TooMany, TooWide}
 use Rattle.upp_curve.specs.Reading.{read}
 use Rattle.upp_curve.specs.Curve.{SpecCurve, value_at, HasSameValues}
-use Rattle.upp_curve.specs.Continuity.{AreNear, IsNearAround, IsContinuous}
+use Rattle.upp_curve.specs.Continuity.{AreNear, IsContinuous}
 use Rattle.upp_curve.specs.Functions.{zero_q, IsRising}
-use Rattle.upp_curve.specs.Normal.{Each, IsRaw, IsNormal, RisesFrom, StartsAtZero}
+use Rattle.upp_curve.specs.Normal.{Each, IsRaw, IsNormal, RisesFrom}
 use Rattle.upp_curve.specs.Limits.{own_gauge, own_sizes, own_end}
 use Rattle.upp_curve.specs.OwnLimits.{IsOver, IsWithinOwn}
 use Rattle.upp_curve.specs.Sized.{SpanStands, ValueStands, LineStands, IsValue}
 use Rattle.upp_curve.specs.Spans.{spans, line_read}
 use Rattle.upp_curve.proofs.CurveStands.{starts_below_own_end}
 use Rattle.upp_curve.proofs.FirstStretch.{read_in, at_start}
-use Rattle.upp_curve.proofs.NarrowSizes.{small_sum, value_whole, value_within, run_whole, run_within}
-use Rattle.upp_curve.proofs.OneForm.{affine_value, infinite_value}
+use Rattle.upp_curve.proofs.NarrowSizes.{small_number, small_sum, value_whole, value_within, run_whole, run_within}
+use Rattle.upp_curve.proofs.OneForm.{infinite_value}
 use Rattle.upp_curve.proofs.Repeats.{repeated_first}
 use Rattle.curve_library.specs.declared.texts.PieceText.{PieceText}
 use Rattle.curve_library.specs.declared.texts.TailText.{TailText}
@@ -37,7 +35,7 @@ use Rattle.curve_library.specs.declared.texts.UseAs.{UseAs}
 use Rattle.curve_library.specs.declared.texts.UseAs.TheVariants.{Arrival, Service}
 use Rattle.curve_library.specs.declared.fault.CurveFault.{CurveFault}
 use Rattle.curve_library.specs.declared.fault.CurveFault.TheVariants.{Negative, ZeroPeriod, NotRising, NotContinuous, NotZeroAtStart, Op, NoMemory}
-use Rattle.curve_library.specs.Listed.{text_line, text_piece, text_pieces, text_tail, last_from, last_start, listed_curve, IsNonnegText, IsNonnegTail, HasLength, StartsBelow, AreNonneg, AreInOrder, IsWellFormed, HasShape, IsServiceShape, Jumps, StartsAboveZero, KeepsShape, KeepsMade, KeepsBoth, KeepsListed, ListsFirst, TextFits, IsPiecesFault}
+use Rattle.curve_library.specs.Listed.{text_line, text_piece, text_pieces, text_tail, last_from, listed_curve, LineFits, IsNonnegText, IsWellFormed, HasShape, Jumps, StartsAboveZero, KeepsShape, KeepsBoth, KeepsListed, ListsFirst, TextFits, IsPiecesFault}
 use Rattle.curve_library.proofs.Answering.{over_within, one_limit}
 use Rattle.curve_library.proofs.OwnParts.{Held, held, too_wide, run_small}
 
@@ -69,40 +67,65 @@ raw_of (p ∷ ps) None w =
 put_back : (a y : ℚ) → (a -ℚ y) +ℚ y ≡ a
 put_back a y = with2 a y (λ c. omega (arith, c.le, c.lt, c.same))
 
+-- the steps to a line fit, and the line
+record BothFit (p : PieceText) : Type 0 where
+  steps : TextFits p
+  line : LineFits p
+
+two_of : (V : ℚ) → int (pos 1) *ℚ V +ℚ int (pos 1) *ℚ V ≡ int (pos 2) *ℚ V
+two_of V = with1 V (λ c. omega (arith, c.le, c.lt, c.same))
+
 one_fits : (k : SpecCurve) (p : PieceText) → Held k → Whole (own_sizes k).dt p.x → LineStands (own_sizes k) (Some (text_line p)) → ValueStands (own_sizes k) (line_value (Some (text_line p)) p.x)
-    → zero_q ≤ℚ p.x → p.x ≤ℚ own_end k → TextFits p
+    → zero_q ≤ℚ p.x → p.x ≤ℚ own_end k → BothFit p
+unfolding ◌-ℚ◌
 one_fits k p H start slope after low early =
     let z = own_sizes k in
     let run = p.slope *ℚ p.x in
     let V = int (pos z.largest) in
+    let g = z.dv * z.dt * z.ds in
     let value : IsValue z p.after = subst (λ v. IsValue z v) (put_back p.after run) after in
     let near : Within (int (pos 1) *ℚ V) run = subst (λ m. Within m run) (sym (one_mul V)) (run_within z (own_end k) p.slope p.x H.sizes slope low early) in
+    let whole = whole_neg g run (run_whole z p.slope p.x slope start) in
+    let back = within_neg (int (pos 1) *ℚ V) run near in
+    let small = run_small k p.slope p.x H slope start low early in
+    let icept : IsSmall (p.after -ℚ run) =
+    small_number z (own_end k) 2 (p.after -ℚ run) H.sizes H.narrow (omega arith) (whole_add g p.after (neg_ℚ run) (value_whole z p.after value) whole)
+    (subst (λ m. Within m (p.after -ℚ run)) (two_of V)
+    (within_add (int (pos 1) *ℚ V) (int (pos 1) *ℚ V) p.after (neg_ℚ run) (value_within z p.after value) back)) in
     record {
-      run = run_small k p.slope p.x H slope start low early;
-      icept = small_sum z (own_end k) 1 1 p.after (neg_ℚ run) H.sizes H.narrow (omega arith) (value_whole z p.after value)
-          (whole_neg (z.dv * z.dt * z.ds) run (run_whole z p.slope p.x slope start)) (value_within z p.after value) (within_neg (int (pos 1) *ℚ V) run near);
+      steps = record { run = small; icept = small_sum z (own_end k) 1 1 p.after (neg_ℚ run) H.sizes H.narrow (omega arith) (value_whole z p.after value) whole (value_within z p.after value) back };
+      line = record { run = small; icept = icept };
     }
 
+-- all of them
+record AllFit (ps : List PieceText) : Type 0 where
+  steps : AllByRecursion TextFits ps
+  lines : AllByRecursion LineFits ps
+
 all_fit : (k : SpecCurve) (tail : Tail) (ps : List PieceText) → Held k → ((q : Piece) → line_read tail q ≡ q.line) → AllByRecursion (SpanStands (own_sizes k)) (spans tail (text_pieces ps))
-    → Each (λ q. q.x <ℚ own_end k) (text_pieces ps) → AllByRecursion IsNonnegText ps → AllByRecursion TextFits ps
+    → Each (λ q. q.x <ℚ own_end k) (text_pieces ps) → AllByRecursion IsNonnegText ps → AllFit ps
 unfolding spans
-all_fit k tail [] H reads stands early low = tt
+all_fit k tail [] H reads stands early low = record { steps = tt; lines = tt }
 all_fit k tail (p ∷ ps) H reads stands early low =
-    let e = reads (text_piece p) in (
-      one_fits k p H stands.0.start (subst (LineStands (own_sizes k)) e stands.0.slope) (subst (λ l. ValueStands (own_sizes k) (line_value l p.x)) e stands.0.after) low.0.start (le_of_lt early.0),
-      all_fit k tail ps H reads stands.1 early.1 low.1,
-    )
+    let e = reads (text_piece p) in
+    let one = one_fits k p H stands.0.start (subst (LineStands (own_sizes k)) e stands.0.slope) (subst (λ l. ValueStands (own_sizes k) (line_value l p.x)) e stands.0.after) low.0.start (le_of_lt early.0) in
+    let rest = all_fit k tail ps H reads stands.1 early.1 low.1 in
+    record { steps = (one.steps, rest.steps); lines = (one.line, rest.lines) }
 
 reads_line : (ps : List PieceText) (tail : Option TailText) (q : Piece) → line_read (text_tail ps tail) q ≡ q.line
 reads_line ps None q = refl
 reads_line ps (Some t) q = refl
 
-texts_fit : (ps : List PieceText) (tail : Option TailText) → IsWellFormed ps tail → own_gauge (listed_curve ps tail) < 2 ^ 120 → AllByRecursion TextFits ps
+texts_fit : (ps : List PieceText) (tail : Option TailText) → IsWellFormed ps tail → own_gauge (listed_curve ps tail) < 2 ^ 120 → AllFit ps
 texts_fit ps tail w small =
     let k = listed_curve ps tail in
     let raw = raw_of ps tail w in
     let H = held k raw small in
     all_fit k (text_tail ps tail) ps H (reads_line ps tail) H.stands.spans (starts_below_own_end k raw) w.nonneg.pieces
+
+-- where a step to a line does not fit, the curve is too wide
+pub lines_wide : (ps : List PieceText) (tail : Option TailText) → IsWellFormed ps tail → ¬ (AllByRecursion TextFits ps) → 2 ^ 120 ≤ own_gauge (listed_curve ps tail)
+lines_wide ps tail w h = too_wide (listed_curve ps tail) (AllByRecursion TextFits ps) (λ small. (texts_fit ps tail w small).steps) h
 
 pub pieces_fault : (ps : List PieceText) (tail : Option TailText) (u : UseAs) (e : CurveFault) → IsWellFormed ps tail → IsPiecesFault ps e → KeepsBoth u (listed_curve ps tail) (Err e)
 pieces_fault ps tail u Negative w h = absurd h
@@ -111,7 +134,7 @@ pieces_fault ps tail u NotRising w h = absurd h
 pieces_fault ps tail u NotContinuous w h = absurd h
 pieces_fault ps tail u NotZeroAtStart w h = absurd h
 pieces_fault ps tail u (Op TooMany) w h = absurd h
-pieces_fault ps tail u (Op TooWide) w h = too_wide (listed_curve ps tail) (AllByRecursion TextFits ps) (texts_fit ps tail w) h
+pieces_fault ps tail u (Op TooWide) w h = lines_wide ps tail w h
 pieces_fault ps tail u NoMemory w h = tt
 
 -- ---- the value at 0
@@ -187,15 +210,16 @@ both_of u k c (Err (Op limit)) same w h = absurd h
 both_of u k c (Err NoMemory) same w h = absurd h
 
 -- ---- the call
-pub listed_of : (ps : List PieceText) (tail : Option TailText) (u : UseAs) (r : Result SpecCurve CurveFault) → IsWellFormed ps tail → KeepsBoth u (listed_curve ps tail) r → KeepsListed ps tail u r
-listed_of ps tail u (Ok made) w h = (w, h)
-listed_of ps tail u (Err Negative) w h = absurd h
-listed_of ps tail u (Err ZeroPeriod) w h = absurd h
-listed_of ps tail u (Err NotRising) w h = inr (w, h)
-listed_of ps tail u (Err NotContinuous) w h = (w, h)
-listed_of ps tail u (Err NotZeroAtStart) w h = (w, h)
-listed_of ps tail u (Err (Op limit)) w h = (w, h)
-listed_of ps tail u (Err NoMemory) w h = w
+pub listed_of : (ps : List PieceText) (tail : Option TailText) (u : UseAs) (r : Result SpecCurve CurveFault) → IsWellFormed ps tail → KeepsBoth u (listed_curve ps tail) r
+    → (r ≡ Err NoMemory → AllByRecursion LineFits ps) → KeepsListed ps tail u r
+listed_of ps tail u (Ok made) w h m = (w, h)
+listed_of ps tail u (Err Negative) w h m = absurd h
+listed_of ps tail u (Err ZeroPeriod) w h m = absurd h
+listed_of ps tail u (Err NotRising) w h m = inr (w, h)
+listed_of ps tail u (Err NotContinuous) w h m = (w, h)
+listed_of ps tail u (Err NotZeroAtStart) w h m = (w, h)
+listed_of ps tail u (Err (Op limit)) w h m = (w, h)
+listed_of ps tail u (Err NoMemory) w h m = (w, m refl)
 
 shape_rises : (u : UseAs) (f : ℚ → Ext) → HasShape u f → IsRising f
 shape_rises Arrival f h = h
@@ -209,11 +233,21 @@ shape_lifted : (u : UseAs) (f : ℚ → Ext) → HasShape u f → StartsAboveZer
 shape_lifted Arrival f h s = let e = s.service in cc
 shape_lifted Service f h s = s.start h.start
 
+within_fit : (ps : List PieceText) (tail : Option TailText) → IsWellFormed ps tail → IsWithinOwn (listed_curve ps tail) → AllByRecursion LineFits ps
+within_fit ps tail w h = (texts_fit ps tail w h.narrow).lines
+
+-- a line that does not fit is over the gauge's limit
+wide_first : (ps : List PieceText) (tail : Option TailText) (limit : OverLimit) → IsWellFormed ps tail → IsOver (listed_curve ps tail) limit → ¬ (AllByRecursion LineFits ps)
+    → ◌≡◌ {A = Result SpecCurve CurveFault} (Err (Op limit)) (Err (Op TooWide))
+wide_first ps tail TooWide w h n = refl
+wide_first ps tail TooMany w h n = absurd (n (texts_fit ps tail w h.0).lines)
+
 pub lists_first : (ps : List PieceText) (tail : Option TailText) (u : UseAs) (r : Result SpecCurve CurveFault) → KeepsListed ps tail u r → ListsFirst ps tail u r
 lists_first ps tail u (Ok made) h = let c = listed_curve ps tail in record {
   below = λ n. absurd (n h.0.nonneg);
   empty = λ a n. absurd (n h.0.length);
   order = λ a l n. absurd (n h.0.order);
+  wide = λ w n. absurd (n (within_fit ps tail w h.1.1));
   over = λ limit w o. absurd (over_within c limit o h.1.1);
   falls = λ w i n. absurd (n (shape_rises u (value_at c) h.1.2));
   jumps = λ w i j. absurd (shape_jumps u (value_at c) h.1.2 j);
@@ -224,6 +258,7 @@ lists_first ps tail u (Err Negative) h = record {
   below = λ n. refl;
   empty = λ a n. absurd (h a);
   order = λ a l n. absurd (h a);
+  wide = λ w n. absurd (h w.nonneg);
   over = λ limit w o. absurd (h w.nonneg);
   falls = λ w i n. absurd (h w.nonneg);
   jumps = λ w i j. absurd (h w.nonneg);
@@ -234,6 +269,7 @@ lists_first ps tail u (Err ZeroPeriod) h = record {
   below = λ n. absurd (n h.0);
   empty = λ a n. refl;
   order = λ a l n. absurd (h.1 l);
+  wide = λ w n. absurd (h.1 w.length);
   over = λ limit w o. absurd (h.1 w.length);
   falls = λ w i n. absurd (h.1 w.length);
   jumps = λ w i j. absurd (h.1 w.length);
@@ -244,6 +280,7 @@ lists_first ps tail u (Err NotRising) (inl h) = record {
   below = λ n. absurd (n h.0);
   empty = λ a n. absurd (n h.1);
   order = λ a l n. refl;
+  wide = λ w n. absurd (h.2 w.order);
   over = λ limit w o. absurd (h.2 w.order);
   falls = λ w i n. inl refl;
   jumps = λ w i j. absurd (h.2 w.order);
@@ -254,6 +291,7 @@ lists_first ps tail u (Err NotRising) (inr h) = let c = listed_curve ps tail in 
   below = λ n. absurd (n h.0.nonneg);
   empty = λ a n. absurd (n h.0.length);
   order = λ a l n. refl;
+  wide = λ w n. absurd (n (within_fit ps tail w h.1.0));
   over = λ limit w o. absurd (over_within c limit o h.1.0);
   falls = λ w i n. inl refl;
   jumps = λ w i j. absurd (h.1.1 j.rises);
@@ -264,6 +302,7 @@ lists_first ps tail u (Err NotContinuous) h = let c = listed_curve ps tail in re
   below = λ n. absurd (n h.0.nonneg);
   empty = λ a n. absurd (n h.0.length);
   order = λ a l n. absurd (n h.0.order);
+  wide = λ w n. absurd (n (within_fit ps tail w h.1.0));
   over = λ limit w o. absurd (over_within c limit o h.1.0);
   falls = λ w i n. absurd (n h.1.1.rises);
   jumps = λ w i j. inl refl;
@@ -274,6 +313,7 @@ lists_first ps tail u (Err NotZeroAtStart) h = let c = listed_curve ps tail in r
   below = λ n. absurd (n h.0.nonneg);
   empty = λ a n. absurd (n h.0.length);
   order = λ a l n. absurd (n h.0.order);
+  wide = λ w n. absurd (n (within_fit ps tail w h.1.0));
   over = λ limit w o. absurd (over_within c limit o h.1.0);
   falls = λ w i n. absurd (n h.1.1.rises);
   jumps = λ w i j. absurd (j.jumps h.1.1.smooth);
@@ -284,6 +324,7 @@ lists_first ps tail u (Err (Op limit)) h = let c = listed_curve ps tail in recor
   below = λ n. absurd (n h.0.nonneg);
   empty = λ a n. absurd (n h.0.length);
   order = λ a l n. absurd (n h.0.order);
+  wide = λ w n. wide_first ps tail limit w h.1 n;
   over = λ other w o. inl (ap (λ l. let e : Result SpecCurve CurveFault = Err (Op l) in e) (one_limit c limit other h.1 o));
   falls = λ w i n. absurd (over_within c limit h.1 i);
   jumps = λ w i j. absurd (over_within c limit h.1 i);
@@ -291,9 +332,10 @@ lists_first ps tail u (Err (Op limit)) h = let c = listed_curve ps tail in recor
   within = λ w i s. absurd (over_within c limit h.1 i);
 }
 lists_first ps tail u (Err NoMemory) h = record {
-  below = λ n. absurd (n h.nonneg);
-  empty = λ a n. absurd (n h.length);
-  order = λ a l n. absurd (n h.order);
+  below = λ n. absurd (n h.0.nonneg);
+  empty = λ a n. absurd (n h.0.length);
+  order = λ a l n. absurd (n h.0.order);
+  wide = λ w n. absurd (n h.1);
   over = λ limit w o. inr refl;
   falls = λ w i n. inr refl;
   jumps = λ w i j. inr refl;

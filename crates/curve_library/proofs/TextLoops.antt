@@ -6,7 +6,7 @@ use Rattle.rational.specs.Rational.{ℚ, ◌<ℚ◌}
 use Rattle.affine_segment.specs.declared.line.Piece.{Piece}
 use Rattle.upp_curve.specs.Normal.{RisesFrom}
 use Rattle.curve_library.specs.declared.texts.PieceText.{PieceText}
-use Rattle.curve_library.specs.Listed.{text_piece, text_pieces, TextFits, last_from, last_start}
+use Rattle.curve_library.specs.Listed.{text_piece, text_pieces, TextFits, LineFits, last_from, last_start}
 
 next_item : {A : Type 0} (x : A) (xs : List A) (j : ℕ) → j < length xs → x ≡ get_or xs j x → drop j xs ≡ x ∷ drop (j + 1) xs
 next_item {A} x xs j h e =
@@ -65,6 +65,26 @@ text_step ps out j p q L h e is =
 
 pub text_end : (ps : List PieceText) (out : List Piece) (j : ℕ) → TextLoop ps (drop j ps) out → length ps ≤ j → out ≡ text_pieces ps
 text_end ps out j L h = sym (append-nil out) ∙ ap (λ z. out ++ text_pieces z) (sym (drop_of_length-le ps h)) ∙ L.same
+
+-- ---- their lines
+-- each line that is passed fits
+pub record LinesLoop (ps left : List PieceText) : Type 0 where
+  pub fits : AllByRecursion TextFits ps → AllByRecursion TextFits left
+  pub lines : AllByRecursion LineFits left → AllByRecursion LineFits ps
+
+pub lines_off : (ps : List PieceText) (j : ℕ) (p : PieceText) → LinesLoop ps (drop j ps) → j < length ps → p ≡ get_or ps j p → ¬ (TextFits p) → ¬ (AllByRecursion TextFits ps)
+lines_off ps j p L h e fails all = fails (subst (AllByRecursion TextFits) (next_item p ps j h e) (L.fits all)).0
+
+pub lines_on : (ps : List PieceText) (j : ℕ) (p : PieceText) → LinesLoop ps (drop j ps) → j < length ps → p ≡ get_or ps j p → LineFits p → LinesLoop ps (drop (j + 1) ps)
+lines_on ps j p L h e line =
+    let shape = next_item p ps j h e in
+    record {
+      fits = λ all. (subst (AllByRecursion TextFits) shape (L.fits all)).1;
+      lines = λ rest. L.lines (subst (AllByRecursion LineFits) (sym shape) (line, rest));
+    }
+
+pub lines_end : (ps : List PieceText) (j : ℕ) → LinesLoop ps (drop j ps) → length ps ≤ j → AllByRecursion LineFits ps
+lines_end ps j L h = L.lines (subst (AllByRecursion LineFits) (sym (drop_of_length-le ps h)) tt)
 
 -- ---- the last start
 last_got : (p : PieceText) (ps : List PieceText) (n : ℕ) (q : PieceText) → n ≡ length ps → slice_get (p ∷ ps) n ≡ Some q → last_from p ps ≡ q.x

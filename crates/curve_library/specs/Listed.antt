@@ -143,8 +143,14 @@ KeepsBoth u c (Err NotZeroAtStart) = IsWithinOwn c × StartsAboveZero u (value_a
 KeepsBoth u c (Err (Op limit)) = IsOver c limit
 KeepsBoth u c (Err NoMemory) = Unit {0}
 
+-- ---- the lines
+-- a line fits: the slope times the start, and the line's value at 0
+pub record LineFits (p : PieceText) : Type 0 where
+  pub run : IsSmall (p.slope *ℚ p.x)
+  pub icept : IsSmall (p.after -ℚ p.slope *ℚ p.x)
+
 -- ---- the call
--- what each answer says; want of memory says only that nothing before the limits is wrong
+-- what each answer says; want of memory says that nothing before the limits is wrong and each line fits
 abbrev pub KeepsListed : List PieceText → Option TailText → UseAs → Result SpecCurve CurveFault → Type 0
 KeepsListed ps tail u (Ok made) = IsWellFormed ps tail × KeepsBoth u (listed_curve ps tail) (Ok made)
 KeepsListed ps tail u (Err Negative) = ¬ (AreNonneg ps tail)
@@ -154,7 +160,7 @@ KeepsListed ps tail u (Err NotRising) =
 KeepsListed ps tail u (Err NotContinuous) = IsWellFormed ps tail × KeepsBoth u (listed_curve ps tail) (Err NotContinuous)
 KeepsListed ps tail u (Err NotZeroAtStart) = IsWellFormed ps tail × KeepsBoth u (listed_curve ps tail) (Err NotZeroAtStart)
 KeepsListed ps tail u (Err (Op limit)) = IsWellFormed ps tail × IsOver (listed_curve ps tail) limit
-KeepsListed ps tail u (Err NoMemory) = IsWellFormed ps tail
+KeepsListed ps tail u (Err NoMemory) = IsWellFormed ps tail × AllByRecursion LineFits ps
 
 -- this answer, or want of memory
 abbrev pub AnswersOrWants : Result SpecCurve CurveFault → CurveFault → Type 0
@@ -165,6 +171,7 @@ pub record ListsFirst (ps : List PieceText) (tail : Option TailText) (u : UseAs)
   pub below : ¬ (AreNonneg ps tail) → answer ≡ Err Negative
   pub empty : AreNonneg ps tail → ¬ (HasLength tail) → answer ≡ Err ZeroPeriod
   pub order : AreNonneg ps tail → HasLength tail → ¬ (AreInOrder ps tail) → answer ≡ Err NotRising
+  pub wide : IsWellFormed ps tail → ¬ (AllByRecursion LineFits ps) → answer ≡ Err (Op TooWide)
   pub over : (limit : OverLimit) → IsWellFormed ps tail → IsOver (listed_curve ps tail) limit → AnswersOrWants answer (Op limit)
   pub falls : IsWellFormed ps tail → IsWithinOwn (listed_curve ps tail) → ¬ (IsRising (value_at (listed_curve ps tail))) → AnswersOrWants answer NotRising
   pub jumps : IsWellFormed ps tail → IsWithinOwn (listed_curve ps tail) → Jumps u (value_at (listed_curve ps tail)) → AnswersOrWants answer NotContinuous

@@ -1,12 +1,13 @@
 //! A curve that is listed piece by piece.
 
-ghost use Rattle.std.specs.Prelude.{◌≡◌, ◌↔◌, IfOk, IfErr, IfSome, IsSome, IsTrue};
+ghost use Rattle.std.specs.Prelude.{◌≡◌, ◌↔◌, IfOk, IfErr, IfSome, IsSome, IsTrue, false, Err};
 ghost use Rattle.std.specs.List.{AllByRecursion};
+ghost use Rattle.rational.specs.Ratio.{IsSmall};
 ghost use Rattle.upp_curve.specs.Curve.{SpecCurve, value_at};
 ghost use Rattle.upp_curve.specs.Functions.{zero_q, IsRising};
 ghost use Rattle.upp_curve.specs.Normal.{IsRaw, StartsAtZero};
 ghost use Rattle.curve_library.specs.Listed.{text_line, text_pieces, text_tail, last_start, listed_curve};
-ghost use Rattle.curve_library.specs.Listed.{TextFits, IsPiecesFault, IsWellFormed, KeepsMade, KeepsShape};
+ghost use Rattle.curve_library.specs.Listed.{TextFits, LineFits, IsPiecesFault, IsWellFormed, KeepsMade, KeepsShape};
 ghost use Rattle.curve_library.specs.Listed.{KeepsBoth, KeepsListed, ListsFirst};
 ghost use Rattle.curve_library.specs.declared.texts.UseAs.TheVariants.{Service};
 
@@ -20,9 +21,19 @@ use rational::Extended;
 use std::alloc::Global;
 use upp_curve::{Curve, OpFault, OverLimit, RawCurve, Tail, is_continuous, normalise};
 
+// A fraction, of which it is kept that its parts fit.
+fn kept(x: Frac) -> Frac
+    ensures same { result ≡ x }
+    ensures small { IsSmall x }
+{
+    let _parts = (x.numerator(), x.denominator());
+    x
+}
+
 // The line of a piece; None where a step to it does not fit.
 fn line_of(p: &PieceText) -> Option<Line>
     ensures value { IfSome result (λ l. l ≡ text_line p.now) }
+    ensures line { IfSome result (λ l. LineFits p.now) }
     ensures fits { TextFits p.now → IsSome result }
 {
     let Ok(run) = Frac::mul(p.slope, p.x) else {
@@ -30,11 +41,24 @@ fn line_of(p: &PieceText) -> Option<Line>
     };
     match Frac::sub(p.after, run) {
         Ok(icept) => Some(Line {
-            icept,
+            icept: kept(icept),
             slope: p.slope,
         }),
         Err(_) => None,
     }
+}
+
+// Whether each step to the lines fits. Nothing is kept, and no memory taken.
+fn lines_fit(texts: &[PieceText]) -> bool
+    ensures fits { IsTrue result → AllByRecursion LineFits texts.now }
+    ensures wide { result ≡ false → ¬ (AllByRecursion TextFits texts.now) }
+{
+    for p in texts {
+        if line_of(p).is_none() {
+            return false;
+        }
+    }
+    true
 }
 
 // The pieces. Where a step does not fit, the gauge is past its limit.
@@ -164,8 +188,12 @@ fn well_formed(
     use_as: UseAs,
 ) -> Result<Curve, CurveFault>
     requires { IsWellFormed texts.now tail.now }
-    ensures { KeepsBoth use_as (listed_curve texts.now tail.now) result }
+    ensures limits { KeepsBoth use_as (listed_curve texts.now tail.now) result }
+    ensures memory { result ≡ Err CurveFault.NoMemory → AllByRecursion LineFits texts.now }
 {
+    if !lines_fit(texts) {
+        return Err(CurveFault::Op(OverLimit::TooWide));
+    }
     match pieces_of(alloc, texts) {
         Ok(pieces) => limited_and_shaped(pieces, tail_of(texts, tail), use_as),
         Err(e) => Err(e),
@@ -205,8 +233,9 @@ fn tested_list(
 /// NotRising where there is no piece, the first does not start at 0, starts do not rise or one is not below rank +
 /// period; past that with TooWide or TooMany where the curve as it is listed is over that limit by itself; past
 /// that with NotRising where it falls somewhere, and for a service curve with NotContinuous where it jumps, and
-/// NotZeroAtStart where it is not 0 at 0. The pieces are copied before the limits are looked at, so that want of
-/// memory may come in place of what follows.
+/// NotZeroAtStart where it is not 0 at 0. A line through the value just after a start whose value at 0, or whose slope
+/// times the start, does not fit is too wide before any memory is taken. Then the pieces are copied, before the other
+/// limits are looked at: want of memory may come in place of what follows, and only where each line fits.
 pub fn listed(
     alloc: Global,
     pieces: &[PieceText],

@@ -1,21 +1,21 @@
 -- The sizes of a call give room to its answer: to starts on the grid of times and to crossings of two lines, to values and lines of up to eight times the
 -- largest value, and to each piece of an operand; and what is read of operands' lines fits.
-use Rattle.std.specs.Prelude.{◌≡◌, ◌≢◌, ℕ, ◌+◌, ◌*◌, ◌<◌, ◌≤◌, ◌^◌, ℤ, pos, nat_abs, Option, Some, None, ◌⊎◌}
-use Rattle.std.proofs.Common.{arith, sym, ap, ap₂, ◌∙◌, refl, subst, inl, inr}
+use Rattle.std.specs.Prelude.{◌≡◌, ◌≢◌, ℕ, ◌+◌, ◌*◌, ◌<◌, ◌≤◌, ◌^◌, ℤ, pos, nat_abs, Option, Some, None}
+use Rattle.std.proofs.Common.{arith, sym, ap, ◌∙◌, refl, subst, inl, inr}
 use Prim.Native.Nat.{◌∣◌}
-use native.Mathlib.Nat.{dvd-mul_left, dvd-mul_right, dvd_refl, dvd_trans, mul-pos, mul-dvd-mul_right, mul-le-mul_right, mul-le-mul_left, le-mul_of_pos_right, mul_comm as mul_comm_n, mul_assoc as mul_assoc_n}
+use native.Mathlib.Nat.{dvd-mul_left, dvd-mul_right, dvd_refl, mul-pos, mul-dvd-mul_right, mul-le-mul_right, mul-le-mul_left, mul_comm as mul_comm_n}
 use Rattle.rational.specs.Gcd.{gcd, gcd_steps}
-use Rattle.rational.specs.Rational.{ℚ, neg_ℚ, ◌+ℚ◌, ◌-ℚ◌, ◌*ℚ◌, ◌/ℚ◌, ◌≤ℚ◌, ◌<ℚ◌, int, inv_ℚ, frac}
+use Rattle.rational.specs.Rational.{ℚ, neg_ℚ, ◌+ℚ◌, ◌-ℚ◌, ◌*ℚ◌, ◌/ℚ◌, ◌≤ℚ◌, int, inv_ℚ, frac}
 use Rattle.rational.specs.Ratio.{IsSmall, SumFits}
 use Rattle.rational.specs.Grid.{Whole, Within}
-use Rattle.rational.proofs.Grid.{whole_weaken, whole_int, whole_add, whole_sub, whole_mul, whole_neg, within_weaken, within_add, within_sub, within_neg, within_mul, within_nonneg, within_some, whole_div, steps_bound, num_bound}
-use Rattle.rational.proofs.Sizes.{small_on_grid, sum_on_grid, quotient_on_grid}
+use Rattle.rational.proofs.Grid.{whole_weaken, whole_int, whole_add, whole_sub, whole_mul, whole_neg, within_weaken, within_add, within_sub, within_neg, within_mul, within_nonneg, whole_div, steps_bound, num_bound}
+use Rattle.rational.proofs.Sizes.{sum_on_grid, quotient_on_grid}
 use Rattle.rational.proofs.Integers.{nat_le, nat_le_out, nat_nonneg, int_add, int_mul}
 use Rattle.rational.proofs.Quotients.{div_unique}
 use Rattle.std.proofs.lemmas.Int.{ints}
 use Rattle.fraction128.specs.declared.fault.Wide.{Wide}
 use Rattle.affine_segment.specs.Steps.{IsWideCross}
-use Rattle.rational.proofs.Laws.{le_refl, le_trans, le_of_lt, mul_le_mul, mul_le_mul_right, mul_assoc, mul_comm, mul_one, mul_zero, add_mul, sub_mul, num_some}
+use Rattle.rational.proofs.Laws.{le_refl, le_trans, mul_le_mul, mul_le_mul_right, mul_assoc, mul_comm, mul_one, mul_zero, add_mul, sub_mul, num_some}
 use Rattle.rational.proofs.Linear.{with1, with2, with3, with4}
 use Rattle.rational.specs.Extended.{Ext}
 use Rattle.rational.specs.declared.Extended.TheVariants.{Fin, Inf}
@@ -23,14 +23,14 @@ use Rattle.affine_segment.specs.declared.line.Line.{Line}
 use Rattle.affine_segment.specs.declared.line.Piece.{Piece}
 use Rattle.affine_segment.specs.Values.{line_at, line_value}
 use Rattle.upp_curve.specs.Limits.{Sizes, gauge_of}
-use Rattle.upp_curve.specs.Readable.{LineFits, LineFitsAt}
-use Rattle.upp_curve.specs.Sized.{grid_of, times_largest, IsValue, IsSlope, AreSizes, ValueStands}
+use Rattle.upp_curve.specs.Readable.{LineFitsAt}
+use Rattle.upp_curve.specs.Sized.{grid_of, times_largest, ValueStands}
 use Rattle.upp_curve.specs.Operand.{AreLimited, OperandLine, OperandLineAt, OperandPiece, answer_room}
-use Rattle.upp_curve.specs.Room.{top, Room, IsRoom, TimeHasRoom, many, ValueInRoom, ValueHasRoom, LineInRoom, LineHasRoom, PieceHasRoom}
+use Rattle.upp_curve.specs.Room.{top, IsRoom, TimeHasRoom, many, ValueInRoom, ValueHasRoom, LineInRoom, LineHasRoom, PieceHasRoom}
 use Rattle.upp_curve.proofs.OwnGauge.{end_within}
 use Rattle.upp_curve.proofs.NormaliseRoom.{line_fits}
 use Rattle.upp_curve.proofs.NormaliseGrids.{q_same_or}
-use Rattle.upp_curve.proofs.NarrowSizes.{IsNarrow, narrow_limit, narrow_gauge, grid_pos, value_whole, value_within, run_whole, run_within, small_number, small_sum, slope_time_divides}
+use Rattle.upp_curve.proofs.NarrowSizes.{IsNarrow, narrow_limit, narrow_gauge, grid_pos, value_whole, value_within, run_whole, small_number, small_sum}
 
 -- ---- the products that a gauge below 2 ^ 120 bounds
 -- the largest value over the finest grid of values, that of the crossing of two lines, and the steepness over the grid of sums

@@ -6,9 +6,9 @@ use Prim.Native.Nat.{◌∣◌}
 use Rattle.rational.specs.Rational.{ℚ, ◌+ℚ◌, ◌-ℚ◌, ◌*ℚ◌, ◌/ℚ◌, ◌≤ℚ◌, ◌<ℚ◌, int}
 use Rattle.rational.specs.Grid.{Whole}
 use Rattle.rational.proofs.Grid.{whole_add, whole_sub}
-use Rattle.rational.proofs.Laws.{not_zero, add_assoc, le_or_lt, le_of_lt, le_refl, le_trans, antisym, lt_trans, lt_irrefl, mul_comm, add_mul}
+use Rattle.rational.proofs.Laws.{not_zero, add_assoc, le_or_lt, le_of_lt, antisym, lt_trans, lt_irrefl, mul_comm, add_mul}
 use Rattle.rational.proofs.Integers.{int_add, nat_lt}
-use Rattle.rational.proofs.Linear.{with1, with2, with3, with4}
+use Rattle.rational.proofs.Linear.{with1, with2, with3}
 use Rattle.rational.proofs.Quotients.{div_unique}
 use Rattle.rational.proofs.ExtendedOrder.{add_assoc_ext}
 use Rattle.rational.specs.Extended.{Ext, ◌+ₑ◌}
@@ -18,14 +18,14 @@ use Rattle.affine_segment.specs.declared.line.Piece.{Piece}
 use Rattle.affine_segment.specs.Values.{line_value}
 use Rattle.upp_curve.specs.Reading.{read, piece_in, piece_value}
 use Rattle.upp_curve.specs.Curve.{repeated}
-use Rattle.upp_curve.specs.Steady.{Repeats, last_of}
+use Rattle.upp_curve.specs.Steady.{Repeats}
 use Rattle.upp_curve.specs.Unrolled.{line_later, later, each_later, copies, upto}
-use Rattle.upp_curve.specs.Normal.{Each, RisesFrom, StartsAtZero, FitsPeriod, Continues}
-use Rattle.upp_curve.specs.Normalising.{IsMerged, IsTwoPeriods, IsOneLine, Turned, OnGrids, OnGridsUnlessLine, cut_at, past, first_start, second_copy}
+use Rattle.upp_curve.specs.Normal.{Each, RisesFrom, StartsAtZero, FitsPeriod}
+use Rattle.upp_curve.specs.Normalising.{IsMerged, IsTwoPeriods, IsOneLine, Turned, OnGridsUnlessLine, cut_at, past, first_start, second_copy}
 use Rattle.upp_curve.specs.Bends.{ValueOn, LineOn, NumbersOn, SlopeTurns, BendAfter, OnlyBend}
 use Rattle.upp_curve.proofs.Unique.{upto_some, upto_none, upto_end}
 use Rattle.upp_curve.proofs.FirstStretch.{value_past, value_at_start}
-use Rattle.upp_curve.proofs.PieceIn.{piece_in_go, piece_in_stop, piece_in_end}
+use Rattle.upp_curve.proofs.PieceIn.{piece_in_go, piece_in_stop}
 use Rattle.upp_curve.proofs.Unrolled.{copies_some}
 use Rattle.upp_curve.proofs.Repeats.{repeated_rule, repeated_first}
 use Rattle.upp_curve.proofs.Normal.{transfer, rises as starts_rise}

@@ -1,11 +1,11 @@
 -- The sizes of a call, made without unrolling its operands.
 use Rattle.std.specs.Prelude.{◌≡◌}
-use Rattle.std.proofs.Common.{◌∙◌, subst, sym}
+use Rattle.std.proofs.Common.{subst}
 use Rattle.rational.specs.Rational.{ℚ}
 use Rattle.upp_curve.specs.Curve.{SpecCurve}
 use Rattle.upp_curve.specs.declared.op_kind.OpKind.{OpKind}
 use Rattle.upp_curve.specs.declared.op_kind.Operands.{Operands}
-use Rattle.upp_curve.specs.Limits.{joined, no_numbers, time_alone, sizes_of}
+use Rattle.upp_curve.specs.Limits.{joined, time_alone, sizes_of}
 use Rattle.upp_curve.specs.Gathered.{Gathers}
 use Rattle.upp_curve.specs.declared.gathered.Gathered.{Gathered}
 use Rattle.upp_curve.specs.Gauges.{kind_numbers, operands_of, numbers_over}

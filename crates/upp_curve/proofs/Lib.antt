@@ -97,3 +97,5 @@ pub mod JoinLoops
 pub mod Gentle
 pub mod Joins
 pub mod AnswerRoom
+pub mod UnrolledCounts
+pub mod SamePieces

@@ -1,15 +1,15 @@
 -- Room for a curve by itself, in whatever form it is given, where its gauge is below 2 ^ 120.
-use Rattle.std.specs.Prelude.{◌≡◌, ℕ, ◌+◌, ◌*◌, ◌<◌, ◌≤◌, ◌^◌, pos, Bool, true, false, List, [], ◌∷◌, Option, Some, None}
+use Rattle.std.specs.Prelude.{◌≡◌, ℕ, ◌*◌, ◌<◌, ◌≤◌, ◌^◌, pos, Bool, true, false, List, [], ◌∷◌, Option, Some, None}
 use Rattle.std.specs.List.{AllByRecursion}
 use Rattle.std.proofs.Common.{arith, sym, ap, ◌∙◌, refl, subst}
 use Prim.Native.Nat.{◌∣◌}
-use native.Mathlib.Nat.{dvd-mul_left, dvd_refl, mul-pos, mul-le-mul_right, mul-le-mul_left, le-mul_of_pos_right}
+use native.Mathlib.Nat.{dvd-mul_left, dvd_refl, mul-pos, mul-le-mul_left, le-mul_of_pos_right}
 use Rattle.rational.specs.Rational.{ℚ, ◌+ℚ◌, ◌*ℚ◌, ◌≤ℚ◌, ◌<ℚ◌, int}
 use Rattle.rational.specs.Grid.{Whole, Within}
 use Rattle.rational.proofs.Grid.{whole_weaken, within_weaken}
 use Rattle.rational.proofs.Integers.{nat_le, nat_nonneg}
 use Rattle.rational.proofs.Laws.{le_refl, le_trans, le_of_lt, mul_le_mul, mul_le_mul_right, mul_assoc, mul_comm}
-use Rattle.rational.proofs.Linear.{with1, with2, with3, with4}
+use Rattle.rational.proofs.Linear.{with1, with2, with3}
 use Rattle.rational.specs.Extended.{Ext}
 use Rattle.rational.specs.declared.Extended.TheVariants.{Fin, Inf}
 use Rattle.affine_segment.specs.declared.line.Line.{Line}
@@ -26,10 +26,10 @@ use Rattle.upp_curve.specs.Spans.{Span, spans, piece_read, start_after, end_of}
 use Rattle.upp_curve.specs.Limits.{Sizes, curve_numbers, own_end, own_sizes, own_gauge}
 use Rattle.upp_curve.specs.declared.own_window.OwnNumbers.{OwnNumbers}
 use Rattle.upp_curve.specs.OwnWindow.{AreNumbers}
-use Rattle.upp_curve.specs.Sized.{grid_of, IsValue, IsSlope, AreSizes, ValueStands, LineStands, SpanStands, TailStands, CurveStands, Stands}
+use Rattle.upp_curve.specs.Sized.{grid_of, AreSizes, ValueStands, LineStands, SpanStands, TailStands, Stands}
 use Rattle.upp_curve.specs.Operand.{AreLimited}
 use Rattle.upp_curve.specs.Normalising.{TailOnGrids}
-use Rattle.upp_curve.specs.Room.{top, Room, IsRoom, TimeHasRoom, many, ValueHasRoom, LineHasRoom, PieceHasRoom, IsMove, PiecesHaveRoom, EndHasRoom, TurnHasRoom, TailHasRoom}
+use Rattle.upp_curve.specs.Room.{top, Room, IsRoom, TimeHasRoom, many, ValueHasRoom, LineHasRoom, PieceHasRoom, TailHasRoom}
 use Rattle.upp_curve.proofs.Rules.{int_mul}
 use Rattle.upp_curve.proofs.ByTail.{value_of}
 use Rattle.upp_curve.proofs.NarrowSizes.{grids_narrow, IsNarrow, narrow_limit, grid_pos, value_whole, run_within, line_parts, slope_time_divides}
@@ -39,7 +39,6 @@ use Rattle.upp_curve.proofs.CurveStands.{curve_stands, own_are_sizes, own_stands
 use Rattle.upp_curve.proofs.NormaliseLists.{each_map}
 use Rattle.upp_curve.proofs.NormaliseForm.{grids_through}
 use Rattle.upp_curve.proofs.NormaliseGrids.{ValueOn, LineOn, PieceOn, raw_on}
-use Rattle.upp_curve.proofs.NormaliseRoomy.{each_and}
 
 -- ---- the room that the sizes give: times up to three times the window's end, values up to three times the largest
 abbrev room_of : Sizes → ℚ → Room

@@ -38,11 +38,11 @@ upto_empty : (x : ℚ) → upto x [] ≡ []
 unfolding upto
 upto_empty x = refl
 
-from_some : (x : ℚ) (p : Piece) (ps : List Piece) → p.x <ℚ x → from x (p ∷ ps) ≡ from x ps
+pub from_some : (x : ℚ) (p : Piece) (ps : List Piece) → p.x <ℚ x → from x (p ∷ ps) ≡ from x ps
 unfolding from
 from_some x p ps h = below_is p x (from x ps) (p ∷ ps) h
 
-from_none : (x : ℚ) (p : Piece) (ps : List Piece) → x ≤ℚ p.x → from x (p ∷ ps) ≡ p ∷ ps
+pub from_none : (x : ℚ) (p : Piece) (ps : List Piece) → x ≤ℚ p.x → from x (p ∷ ps) ≡ p ∷ ps
 unfolding from
 from_none x p ps h = not_below_is p x (from x ps) (p ∷ ps) h
 

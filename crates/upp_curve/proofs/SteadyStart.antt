@@ -1,7 +1,8 @@
 -- From when on a curve repeats, by the last of its pieces.
-use Rattle.std.specs.Prelude.{◌≡◌, ◌-◌, pos, List, [], ◌∷◌, length, Option, Some, None}
+use Rattle.std.specs.Prelude.{◌≡◌, ◌-◌, pos, Bool, false, true, List, [], ◌∷◌, length, Option, Some, None, IfNone}
 use Rattle.std.proofs.Common.{sym, ap, ◌∙◌, refl, subst, get_or}
-use Rattle.rational.specs.Rational.{ℚ, ◌≤ℚ◌, int}
+use Rattle.rational.specs.Rational.{ℚ, ◌+ℚ◌, int}
+use Rattle.rational.specs.Ratio.{SumFits}
 use Rattle.rational.proofs.Laws.{add_cancel, antisym}
 use Rattle.affine_segment.specs.declared.line.Piece.{Piece}
 use Rattle.upp_curve.specs.declared.curve.Tail.{Tail}
@@ -10,12 +11,12 @@ use Rattle.upp_curve.specs.Curve.{SpecCurve}
 use Rattle.upp_curve.specs.Curves.{IsCurve}
 use Rattle.upp_curve.specs.Normal.{IsRaw}
 use Rattle.upp_curve.specs.Periods.{own_period}
-use Rattle.upp_curve.specs.Readable.{EachFits, LineFitsAt, IsReadable}
+use Rattle.upp_curve.specs.Readable.{EachFits, LineFitsAt}
 use Rattle.upp_curve.specs.Seen.{RankLineFits}
-use Rattle.upp_curve.specs.Steady.{last_of, later_unless, steady}
+use Rattle.upp_curve.specs.Steady.{last_of, later_unless, rank_of, steady}
 use Rattle.upp_curve.specs.Limits.{own_end}
-use Rattle.upp_curve.specs.OwnWindow.{LastBy, affine_keeps, infinite_keeps}
-use Rattle.upp_curve.proofs.OwnGauge.{last_is, last_by, last_place, end_place}
+use Rattle.upp_curve.specs.OwnWindow.{affine_keeps, infinite_keeps}
+use Rattle.upp_curve.proofs.OwnGauge.{last_is, last_place, end_place}
 
 -- the last of a curve's pieces
 pub record IsLast (c : SpecCurve) (ps : List Piece) (last : Piece) : Type 0 where
@@ -71,3 +72,15 @@ affine_line c ps last rank is h e =
     let P : Tail → Type 0 = λ tail. IsCurve record { pieces = c.pieces; tail = tail } in
     let place : last ≡ get_or c.pieces (length c.pieces - 1) last = subst (λ xs. last ≡ get_or xs (length xs - 1) last) h.pieces h.place in
     line_at c.pieces rank last (subst P e is) place
+
+-- where the time is one after the rank and does not fit, said of the curve
+pub steady_none : (r : Option ℚ) (c : SpecCurve) (keeps : Bool) (rank : ℚ) → rank_of c.tail ≡ rank → later_unless keeps rank ≡ steady c
+    → IfNone r ((keeps ≡ false) × ¬ (SumFits rank (int (pos 1))))
+    → IfNone r ((steady c ≡ rank_of c.tail +ℚ int (pos 1)) × ¬ (SumFits (rank_of c.tail) (int (pos 1))))
+steady_none (Some t) c keeps rank e s h = tt
+steady_none None c keeps rank e s h =
+    (sym s ∙ ap (λ b. later_unless b rank) h.0 ∙ ap (λ x. x +ℚ int (pos 1)) (sym e), λ f. h.1 (subst (λ x. SumFits x (int (pos 1))) e f))
+
+-- no answer is none
+pub not_answered : false ≡ true → ⊥
+not_answered e = cc

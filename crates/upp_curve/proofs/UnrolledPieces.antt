@@ -73,7 +73,7 @@ rest_of : (bs : List Piece) (p : Piece) (rest : List Piece) (x : ℚ) → Each (
 rest_of [] p rest x h = h.1
 rest_of (b ∷ bs) p rest x h = rest_of bs p rest x h.1
 
-periodic_starts : (ps : List Piece) (rank d c : ℚ) (k : ℕ) → StartsAtZero ps → HasStart rank ps → int (pos 0) <ℚ d → Each (λ z. z.x <ℚ rank +ℚ d) ps
+pub periodic_starts : (ps : List Piece) (rank d c : ℚ) (k : ℕ) → StartsAtZero ps → HasStart rank ps → int (pos 0) <ℚ d → Each (λ z. z.x <ℚ rank +ℚ d) ps
     → StartsAtZero (upto rank ps ++ copies (suc k) d c (from rank ps))
 periodic_starts ps rank d c k at0 has some starts =
     let cut = cut_at_start (int (pos 0) -ℚ int (pos 1)) rank ps (rises ps at0) has in

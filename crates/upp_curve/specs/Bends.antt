@@ -1,7 +1,7 @@
--- Pieces of which each start is on the grid of times, or a bend: all bends turn one way. So crossings of lines may be starts, and yet no period that is
--- shorter than all distances of the grid is hidden. Own choice.
+-- Pieces of which each start is on the grid of times, or a bend: all bends turn one way. So crossings of lines may be
+-- starts, and yet no period that is shorter than all distances of the grid is hidden. Own choice.
 use Rattle.std.specs.Prelude.{◌≡◌, ℕ, Bool, true, false, List, [], ◌∷◌, Option, Some, None, ◌⊎◌}
-use Rattle.rational.specs.Rational.{ℚ, ◌<ℚ◌}
+use Rattle.rational.specs.Rational.{◌<ℚ◌}
 use Rattle.rational.specs.Grid.{Whole}
 use Rattle.rational.specs.Extended.{Ext}
 use Rattle.rational.specs.declared.Extended.TheVariants.{Fin, Inf}
@@ -33,7 +33,8 @@ SlopeTurns false (Some l) (Some m) = m.slope <ℚ l.slope
 -- after p, each start is on 1 / T, or the slope rises there (true), or falls there (false)
 abbrev pub BendAfter : Bool → (T S D : ℕ) → Piece → List Piece → Type 0
 BendAfter rises T S D p [] = Unit {0}
-BendAfter rises T S D p (q ∷ qs) = (Whole T q.x ⊎ SlopeTurns rises p.line q.line) × NumbersOn S D q × BendAfter rises T S D q qs
+BendAfter rises T S D p (q ∷ qs) = (Whole T q.x ⊎ SlopeTurns rises p.line q.line) × NumbersOn S D q
+    × BendAfter rises T S D q qs
 
 abbrev pub OnlyBend : Bool → (T S D : ℕ) → List Piece → Type 0
 OnlyBend rises T S D [] = Unit {0}

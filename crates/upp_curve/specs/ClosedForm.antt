@@ -1,5 +1,5 @@
--- The numbers of a curve without unrolling: of each piece the first copy and the values of the last one that starts below `end`. With the rise
--- they have the sizes of all copies.
+-- The numbers of a curve without unrolling: of each piece the first copy and the values of the last one that starts
+-- below `end`. With the rise they have the sizes of all copies. Own choice.
 use Rattle.std.specs.Prelude.{ℕ, zero, suc, pos, cond, List, [], ◌∷◌, ◌++◌}
 use Rattle.rational.specs.Rational.{ℚ, ◌*ℚ◌, int, lt_q}
 use Rattle.affine_segment.specs.declared.line.Piece.{Piece}

@@ -1,5 +1,5 @@
--- Convolution, deconvolution and subadditive closure. (Le Boudec and Thiran, chapter 3. The closure leaves out their term
--- for no part at all, since the value at 0 of an arrival curve is a burst here: our own choice.)
+-- Convolution, deconvolution and subadditive closure. (Le Boudec and Thiran, chapter 3. The closure leaves out their
+-- term for no part at all, since the value at 0 of an arrival curve is a burst here: our own choice.)
 use Rattle.std.specs.Prelude.{◌≡◌, List, [], ◌∷◌}
 use Rattle.rational.specs.Rational.{ℚ, ◌+ℚ◌, ◌≤ℚ◌}
 use Rattle.rational.specs.Extended.{Ext, ◌≤ₑ◌, ◌+ₑ◌, ◌-ₑ◌}

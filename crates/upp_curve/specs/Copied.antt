@@ -1,4 +1,5 @@
--- A time past the rank of a periodic tail as one of the first period, and the steps that a line makes to the period of the time. Own choice.
+-- A time past the rank of a periodic tail as one of the first period, and the steps that a line makes to the period of
+-- the time. Own choice.
 use Rattle.std.specs.Prelude.{◌≡◌, pos, Option, Some, None}
 use Rattle.rational.specs.Rational.{ℚ, ◌-ℚ◌, ◌*ℚ◌, int}
 use Rattle.rational.specs.Ratio.{IsSmall, SumFits}

@@ -1,4 +1,4 @@
--- What the type of a curve keeps.
+-- What the type of a curve keeps. Own choice.
 use Rattle.upp_curve.specs.Curve.{SpecCurve}
 use Rattle.upp_curve.specs.Normal.{IsNormal}
 use Rattle.upp_curve.specs.Readable.{IsReadable}

@@ -1,4 +1,5 @@
--- Functions of time that may be infinite, the times from 0 on, and the words for their shapes.
+-- Functions of time that may be infinite, the times from 0 on, and the words for their shapes. (Le Boudec and Thiran:
+-- wide-sense increasing functions; here a function may also fall.)
 use Rattle.std.specs.Prelude.{◌≡◌, pos}
 use Rattle.rational.specs.Rational.{ℚ, ◌≤ℚ◌, int}
 use Rattle.rational.specs.Extended.{Ext, ◌≤ₑ◌}

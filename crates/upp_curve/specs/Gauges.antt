@@ -8,7 +8,9 @@ use Rattle.affine_segment.specs.declared.line.Piece.{Piece}
 use Rattle.upp_curve.specs.declared.curve.Tail.{Tail}
 use Rattle.upp_curve.specs.declared.curve.Tail.TheVariants.{Periodic, Affine, Infinite}
 use Rattle.upp_curve.specs.declared.op_kind.OpKind.{OpKind}
-use Rattle.upp_curve.specs.declared.op_kind.OpKind.TheVariants.{Sum, Min, Max, PosDiff, PosMinus, Scale, Shift, RunSup, RunInf, FifoLeft, Convolve, Deconvolve, Horizontal, Vertical, Itself}
+use Rattle.upp_curve.specs.declared.op_kind.OpKind.TheVariants.{Sum, Min, Max, PosDiff, PosMinus, Scale, Shift, RunSup}
+use Rattle.upp_curve.specs.declared.op_kind.OpKind.TheVariants.{RunInf, FifoLeft, Convolve, Deconvolve, Horizontal}
+use Rattle.upp_curve.specs.declared.op_kind.OpKind.TheVariants.{Vertical, Itself}
 use Rattle.upp_curve.specs.Curve.{SpecCurve, value_at}
 use Rattle.upp_curve.specs.Steady.{rate}
 use Rattle.upp_curve.specs.Unrolled.{count}
@@ -34,9 +36,10 @@ pub record EndsAbove (f g : SpecCurve) : Type 0 where
   pub level : (rate f ≡ Fin zero_q) × (rate g ≡ Fin zero_q)
   pub above : ValueAbove (value_at f) (value_at g)
 
--- The answer is known by what is infinite or by the rates, and no piece is looked at: a shift by infinity, a left-over after an infinite
--- wait, a deconvolution of a faster curve, a deviation of a curve that is infinite somewhere or faster, and the horizontal
--- deviation of a curve that ends above another (its operands rise).
+-- The answer is known by what is infinite or by the rates, and no piece is looked at: a shift by infinity, a left-over
+-- after an infinite wait, a deconvolution of a faster curve, a deviation of a curve that is infinite somewhere or
+-- faster, and the horizontal deviation of a curve that ends above another. The last is looked for in curves that rise
+-- alone, as the operands of a horizontal deviation do.
 abbrev pub IsKnownAtOnce : OpKind → SpecCurve → SpecCurve → Type 0
 IsKnownAtOnce (Shift Inf) f g = Unit {0}
 IsKnownAtOnce (FifoLeft Inf) f g = Unit {0}

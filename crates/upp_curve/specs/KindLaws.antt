@@ -1,10 +1,11 @@
--- The curve of each kind has the kind's values and is in normal form.
+-- The curve of each kind has the kind's values and is in normal form. Own choice.
 use Rattle.std.specs.Prelude.{◌≡◌}
 use Rattle.rational.specs.Rational.{ℚ, ◌≤ℚ◌, ◌<ℚ◌}
 use Rattle.upp_curve.specs.Curve.{value_at}
 use Rattle.upp_curve.specs.Normal.{IsNormal}
 use Rattle.upp_curve.specs.Functions.{zero_q}
-use Rattle.upp_curve.specs.Kinds.{bucket_value, stair_value, rate_latency_value, gate_value, bucket, stair, rate_latency, gate}
+use Rattle.upp_curve.specs.Kinds.{bucket_value, stair_value, rate_latency_value, gate_value, bucket, stair}
+use Rattle.upp_curve.specs.Kinds.{rate_latency, gate}
 
 -- from 0 on the curve has the values of the formula
 pub record KindsHaveTheirValues : Type 0 where
@@ -18,6 +19,7 @@ pub record KindsHaveTheirValues : Type 0 where
 
 pub record KindsAreNormal : Type 0 where
   pub bucket : (burst rate : ℚ) → IsNormal (bucket burst rate)
-  pub stair : (packet period jitter : ℚ) → zero_q ≤ℚ packet → zero_q <ℚ period → zero_q ≤ℚ jitter → IsNormal (stair packet period jitter)
+  pub stair : (packet period jitter : ℚ) → zero_q ≤ℚ packet → zero_q <ℚ period → zero_q ≤ℚ jitter
+      → IsNormal (stair packet period jitter)
   pub rate_latency : (rate latency : ℚ) → zero_q ≤ℚ rate → zero_q ≤ℚ latency → IsNormal (rate_latency rate latency)
   pub gate : (rate cycle slot : ℚ) → zero_q ≤ℚ rate → zero_q <ℚ slot → slot ≤ℚ cycle → IsNormal (gate rate cycle slot)

@@ -29,7 +29,8 @@ rate_latency_value rate latency t = Fin (rate *ℚ max_q zero_q (t -ℚ latency)
 -- rate max (floor (t / cycle) slot, t - ceil (t / cycle) (cycle - slot))
 abbrev pub gate_value : ℚ → ℚ → ℚ → ℚ → Ext
 gate_value rate cycle slot t =
-    Fin (rate *ℚ max_q (int (pos (whole_part (t /ℚ cycle))) *ℚ slot) (t -ℚ int (pos (whole_up (t /ℚ cycle))) *ℚ (cycle -ℚ slot)))
+    Fin (rate *ℚ max_q (int (pos (whole_part (t /ℚ cycle))) *ℚ slot)
+    (t -ℚ int (pos (whole_up (t /ℚ cycle))) *ℚ (cycle -ℚ slot)))
 
 -- ---- curves
 -- a piece at x with a value and a line
@@ -51,12 +52,15 @@ after_latency rate latency = record {
 }
 
 abbrev pub rate_latency : ℚ → ℚ → SpecCurve
-rate_latency rate latency = cond (le_q latency zero_q || le_q rate zero_q) (bucket zero_q rate) (after_latency rate latency)
+rate_latency rate latency = cond (le_q latency zero_q || le_q rate zero_q) (bucket zero_q rate)
+    (after_latency rate latency)
 
--- a stair with steps of one packet above 0: one piece, or two where a packet may come early by no whole number of periods
+-- a stair with steps of one packet above 0: one piece, or two where a packet may come early by no whole number of
+-- periods
 abbrev pub steps : ℚ → ℚ → ℚ → ℚ → SpecCurve
 steps packet period first late = record {
-  pieces = cond (le_q late zero_q) (flat zero_q first ∷ []) (flat zero_q first ∷ flat (period -ℚ late) (first +ℚ packet) ∷ []);
+  pieces = cond (le_q late zero_q) (flat zero_q first ∷ [])
+      (flat zero_q first ∷ flat (period -ℚ late) (first +ℚ packet) ∷ []);
   tail = Periodic zero_q period packet;
 }
 

@@ -1,4 +1,4 @@
--- The value at which a curve of rate 0 that rises ends.
+-- The value at which a curve of rate 0 that rises ends. Own choice.
 use Rattle.std.specs.Prelude.{List, Option, Some, None}
 use Rattle.rational.specs.Rational.{ℚ, ◌<ℚ◌}
 use Rattle.affine_segment.specs.declared.line.Line.{Line}

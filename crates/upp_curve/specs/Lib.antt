@@ -45,3 +45,4 @@ pub mod OwnLimits
 pub mod Bends
 pub mod Given
 pub mod Continuity
+pub mod PieceLaws

@@ -1,5 +1,5 @@
--- The numbers that set the limits: how many pieces a call looks at, and its gauge, which bounds the size of every number on its way.
--- All are of curves whose pieces have any size, and of a window's end H. Own choice.
+-- The numbers that set the limits: how many pieces a call looks at, and its gauge, which bounds the size of every
+-- number on its way. All are of curves whose pieces have any size, and of a window's end H. Own choice.
 use Rattle.std.specs.Prelude.{ℕ, ◌*◌, max, pos, List, [], ◌∷◌, ◌++◌, Option, Some, None, map}
 use Rattle.std.specs.List.{flat_map}
 use Rattle.rational.specs.Rational.{ℚ, ◌+ℚ◌, ◌*ℚ◌, int}
@@ -85,8 +85,9 @@ curve_numbers end c = record {
 }
 
 -- ---- the five sizes and the gauge
--- dv, dt, ds: the least common denominators of values, of times with the window's end, and of slopes; steepness: the least whole number that is at least 1
--- and at least twice the size of each slope; largest: the least that is at least 1, at least the size of each value, and at least steepness times the end
+-- dv, dt, ds: the least common denominators of values, of times with the window's end, and of slopes; steepness: the
+-- least whole number that is at least 1 and at least twice the size of each slope; largest: the least that is at least
+-- 1, at least the size of each value, and at least steepness times the end
 pub record Sizes : Type 0 where
   pub dv : ℕ
   pub dt : ℕ
@@ -109,7 +110,8 @@ sizes_of end n = record {
 unfoldable pub gauge_of : Sizes → ℕ
 gauge_of z = 64 * (z.largest * z.steepness * z.dv * z.dt * z.ds * z.ds)
 
--- of one curve by itself, in whatever form it is given: its window ends one period (1 where it has every period) after it begins to repeat
+-- of one curve by itself, in whatever form it is given: its window ends one period (1 where it has every period) after
+-- it begins to repeat
 unfoldable pub own_end : SpecCurve → ℚ
 own_end c = steady c +ℚ own_period c
 

@@ -1,4 +1,4 @@
--- The number that a `Long` stands for.
+-- The number that a `Long` stands for. Own choice.
 use Rattle.std.specs.Prelude.{ℕ, ◌+◌, ◌*◌, ◌^◌}
 use Rattle.upp_curve.specs.declared.long.Long.{Long}
 

@@ -1,5 +1,6 @@
 -- What each step on the way to the normal form leaves of the pieces. Own choice.
-use Rattle.std.specs.Prelude.{◌≡◌, ℕ, pos, List, [], ◌∷◌, ◌++◌, ◌⊎◌, ◌-◌, ◌*◌, ◌≤◌, cond, length, take, drop, slice_index_or as get_or, Option, None, Some}
+use Rattle.std.specs.Prelude.{◌≡◌, ℕ, pos, List, [], ◌∷◌, ◌++◌, ◌⊎◌, ◌-◌, ◌*◌, ◌≤◌, cond, length, take, drop}
+use Rattle.std.specs.Prelude.{slice_index_or as get_or, Option, None, Some}
 use Rattle.rational.specs.Rational.{ℚ, ◌+ℚ◌, ◌/ℚ◌, ◌≤ℚ◌, ◌<ℚ◌, int, le_q, lt_q}
 use Rattle.rational.specs.Extended.{Ext, ◌+ₑ◌}
 use Rattle.rational.specs.declared.Extended.TheVariants.{Fin}
@@ -81,7 +82,8 @@ pub record IsCycle (ps : List Piece) (rank period : ℚ) : Type 0 where
 
 -- the next period's first piece does not go on with the last of these
 abbrev pub EndsInBreak : List Piece → ℚ → ℚ → ℚ → Type 0
-EndsInBreak ps rank period rise = (p : Piece) (qs : List Piece) → from rank ps ≡ p ∷ qs → ¬ (Continues (last_of p qs) (later period rise p))
+EndsInBreak ps rank period rise = (p : Piece) (qs : List Piece) → from rank ps ≡ p ∷ qs
+    → ¬ (Continues (last_of p qs) (later period rise p))
 
 -- the pieces alone read as the curve
 pub record IsLine (ps : List Piece) (f : ℚ → Ext) : Type 0 where
@@ -101,9 +103,11 @@ abbrev pub IsTurning : Cycle → (ℚ → Ext) → Type 0
 IsTurning c f = Turned c.pieces.items c.first c.rank c.period c.rise f
 
 abbrev pub IsShape : List Piece → ℚ → ℚ → ℚ → Shape → Type 0
-IsShape ps rank period rise (Straight kept) = IsFront kept.items ps × IsLine kept.items (repeated (read ps) rank period rise)
+IsShape ps rank period rise (Straight kept) = IsFront kept.items ps
+    × IsLine kept.items (repeated (read ps) rank period rise)
 IsShape ps rank period rise (Turns c) =
-    IsFront c.pieces.items ps × (rank ≤ℚ c.rank) × (c.rank ≤ℚ rank +ℚ period) × (c.period ≡ period) × (c.rise ≡ rise) × IsTurning c (repeated (read ps) rank period rise)
+    IsFront c.pieces.items ps × (rank ≤ℚ c.rank) × (c.rank ≤ℚ rank +ℚ period) × (c.period ≡ period) × (c.rise ≡ rise)
+    × IsTurning c (repeated (read ps) rank period rise)
 
 -- ---- the least rank
 -- p's values, a period later and a rise higher, lie in the piece `last`
@@ -112,7 +116,8 @@ pub record RepeatsIn (p last : Piece) (period rise : ℚ) : Type 0 where
   pub line : last.line ≡ line_later period rise p.line
   pub at : piece_value last (p.x +ℚ period) ≡ p.at +ₑ Fin rise
 
--- a curve with f's values whose rule holds from no start before its rank, which is at most `rank`, and whose pieces are given ones from the first on
+-- a curve with f's values whose rule holds from no start before its rank, which is at most `rank`, and whose pieces are
+-- given ones from the first on
 pub record IsLowest (given ps : List Piece) (low period rise rank : ℚ) (f : ℚ → Ext) : Type 0 where
   pub front : IsFront ps given
   pub cycle : IsCycle ps low period
@@ -129,7 +134,8 @@ pub record MoveReads (period rise : ℚ) (p : Piece) : Type 0 where
 abbrev pub StepFits : List Piece → ℕ → ℚ → ℚ → Piece → Type 0
 StepFits ps first period rise z =
     LaterFits period rise (get_or ps (first - 1) z)
-    × ((get_or ps (length ps - 1) z).line ≡ line_later period rise (get_or ps (first - 1) z).line → LineFitsAt ((get_or ps (first - 1) z).x +ℚ period) (get_or ps (length ps - 1) z).line)
+    × ((get_or ps (length ps - 1) z).line ≡ line_later period rise (get_or ps (first - 1) z).line
+    → LineFitsAt ((get_or ps (first - 1) z).x +ℚ period) (get_or ps (length ps - 1) z).line)
 
 -- each piece before the rank, moved by a period, and its value there, fit
 abbrev pub StepsFit : List Piece → ℚ → ℚ → ℚ → Type 0
@@ -139,9 +145,11 @@ StepsFit ps rank period rise = Each (λ p. p.x <ℚ rank → MoveReads period ri
 unfoldable pub cut_last : List Piece → ℚ → ℚ → List Piece
 cut_last ps x end = cond (lt_q x end) ps (take (length ps - 1) ps)
 
--- what one step down says of the pieces ps of which `first` start before the rank: from the start that it gives the rule holds (z stands for a piece past the end)
+-- what one step down says of the pieces ps of which `first` start before the rank: from the start that it gives the
+-- rule holds (z stands for a piece past the end)
 abbrev pub Lowers : List Piece → List Piece → ℕ → ℚ → ℚ → Piece → Option ℚ → Type 0
-Lowers ps new first period rise z None = (new ≡ ps) × ¬ (RepeatsIn (get_or ps (first - 1) z) (get_or ps (length ps - 1) z) period rise)
+Lowers ps new first period rise z None = (new ≡ ps)
+    × ¬ (RepeatsIn (get_or ps (first - 1) z) (get_or ps (length ps - 1) z) period rise)
 Lowers ps new first period rise z (Some x) =
     (x ≡ (get_or ps (first - 1) z).x) × RepeatsIn (get_or ps (first - 1) z) (get_or ps (length ps - 1) z) period rise
     × (new ≡ cut_last ps (get_or ps (length ps - 1) z).x ((get_or ps (first - 1) z).x +ℚ period))
@@ -158,16 +166,19 @@ cycle_values c = repeated (read c.pieces.items) c.rank c.period c.rise
 abbrev pub turn_count : Cycle → ℕ
 turn_count c = length (from c.rank c.pieces.items)
 
--- where a whole fraction of the period, with that of the rise, is a period of f from `from` on, it is a whole multiple of 1 / times, and its rise of
--- 1 / values
+-- where a whole fraction of the period, with that of the rise, is a period of f from `from` on, it is a whole multiple
+-- of 1 / times, and its rise of 1 / values
 pub record OnGrids (times values : ℕ) (f : ℚ → Ext) (from period rise : ℚ) : Type 0 where
-  pub time : (n : ℕ) → 1 ≤ n → Repeats f from (period /ℚ int (pos n)) (rise /ℚ int (pos n)) → Whole times (period /ℚ int (pos n))
-  pub value : (n : ℕ) → 1 ≤ n → Repeats f from (period /ℚ int (pos n)) (rise /ℚ int (pos n)) → Whole values (rise /ℚ int (pos n))
+  pub time : (n : ℕ) → 1 ≤ n → Repeats f from (period /ℚ int (pos n)) (rise /ℚ int (pos n))
+      → Whole times (period /ℚ int (pos n))
+  pub value : (n : ℕ) → 1 ≤ n → Repeats f from (period /ℚ int (pos n)) (rise /ℚ int (pos n))
+      → Whole values (rise /ℚ int (pos n))
 
 -- each piece moved by a whole fraction of the period and of the rise fits, where both are on the grids
 abbrev pub SharesFit : ℕ → ℕ → List Piece → ℚ → ℚ → Type 0
 SharesFit times values ps period rise =
-    (n : ℕ) → 1 ≤ n → Whole times (period /ℚ int (pos n)) → Whole values (rise /ℚ int (pos n)) → Each (LaterFits (period /ℚ int (pos n)) (rise /ℚ int (pos n))) ps
+    (n : ℕ) → 1 ≤ n → Whole times (period /ℚ int (pos n)) → Whole values (rise /ℚ int (pos n))
+    → Each (LaterFits (period /ℚ int (pos n)) (rise /ℚ int (pos n))) ps
 
 -- d is c, and a period of c divided by `parts` is none
 pub record StaysWhole (c : Cycle) (parts : ℕ) (d : Cycle) : Type 0 where
@@ -191,7 +202,8 @@ pub record IsDivided (c : Cycle) (parts : ℕ) (d : Cycle) : Type 0 where
 -- a curve with c's values and rank, whose period divided by no whole number from 2 on is a period
 pub record IsLeast (times values : ℕ) (c d : Cycle) : Type 0 where
   pub front : IsFront d.pieces.items c.pieces.items
-  pub share : (n : ℕ) × (1 ≤ n) × (d.period ≡ c.period /ℚ int (pos n)) × (d.rise ≡ c.rise /ℚ int (pos n)) × Whole times d.period × Whole values d.rise
+  pub share : (n : ℕ) × (1 ≤ n) × (d.period ≡ c.period /ℚ int (pos n)) × (d.rise ≡ c.rise /ℚ int (pos n))
+      × Whole times d.period × Whole values d.rise
   pub turned : IsTurning d (cycle_values c)
   pub rank : d.rank ≡ c.rank
   pub least : (n : ℕ) → 2 ≤ n → ¬ (Repeats (cycle_values d) d.rank (d.period /ℚ int (pos n)) (d.rise /ℚ int (pos n)))
@@ -216,7 +228,8 @@ IsOneLine f from = (l : Option Line) × ((t : ℚ) → from ≤ℚ t → f t ≡
 abbrev pub OnGridsUnlessLine : ℕ → ℕ → (ℚ → Ext) → ℚ → ℚ → ℚ → Type 0
 OnGridsUnlessLine times values f from period rise = ¬ (IsOneLine f from) → OnGrids times values f from period rise
 
--- the whole fractions of a periodic tail's period that are periods, and their rises, are on the grids, unless the tail is one line
+-- the whole fractions of a periodic tail's period that are periods, and their rises, are on the grids, unless the tail
+-- is one line
 abbrev pub TailOnGrids : ℕ → ℕ → Tail → (ℚ → Ext) → Type 0
 TailOnGrids times values (Periodic rank period rise) f = OnGridsUnlessLine times values f rank period rise
 TailOnGrids times values (Affine rank) f = Unit {0}

@@ -1,4 +1,5 @@
--- Where the pieces of an operand stand that start in a call's window, and the room that the call's sizes give to its answer. Own choice.
+-- Where the pieces of an operand stand that start in a call's window, and the room that the call's sizes give to its
+-- answer. Own choice.
 use Rattle.std.specs.Prelude.{◌*◌, ◌<◌, ◌^◌, pos, List, Option, Some, None}
 use Rattle.rational.specs.Rational.{ℚ, ◌*ℚ◌, ◌≤ℚ◌, ◌<ℚ◌, int}
 use Rattle.rational.specs.Grid.{Whole, Within}
@@ -40,4 +41,10 @@ pub record OperandPieces (z : Sizes) (end : ℚ) (ps : List Piece) : Type 0 wher
 
 -- room for an answer: values up to eight times the largest, times up to three times the window's end
 abbrev pub answer_room : Sizes → ℚ → Room
-answer_room z end = record { times = z.dt; base = z.dv * z.dt; slopes = z.ds; largest = 8 * z.largest; end = int (pos 3) *ℚ end }
+answer_room z end = record {
+  times = z.dt;
+  base = z.dv * z.dt;
+  slopes = z.ds;
+  largest = 8 * z.largest;
+  end = int (pos 3) *ℚ end;
+}

@@ -1,4 +1,4 @@
--- The end of a curve's own window by its last piece and its tail, and which steps to it have to fit.
+-- The end of a curve's own window by its last piece and its tail, and which steps to it have to fit. Own choice.
 use Rattle.std.specs.Prelude.{◌≡◌, ◌*◌, pos, Bool}
 use Rattle.rational.specs.Rational.{ℚ, ◌+ℚ◌, ◌≤ℚ◌, int}
 use Rattle.rational.specs.Ratio.{SumFits}
@@ -50,7 +50,8 @@ EndsAt (Periodic rank period rise) end = end ≡ rank +ℚ period
 EndsAt (Affine rank) end = Unit {0}
 EndsAt (Infinite rank) end = Unit {0}
 
--- the end of a window, and the gauge and the grids of its sizes: times on that of dt, values and products of slopes with times on that of dv dt ds
+-- the end of a window, and the gauge and the grids of its sizes: times on that of dt, values and products of slopes
+-- with times on that of dv dt ds
 pub record AreNumbers (until : ℚ) (z : Sizes) (o : OwnNumbers) : Type 0 where
   pub end : o.end ≡ until
   pub gauge : o.gauge ≡ gauge_of z

@@ -19,7 +19,8 @@ common_of None (Some q) = q
 common_of (Some p) None = p
 common_of (Some p) (Some q) = common_multiple p q
 
--- the least common multiple of the two periods; the other's period where one curve has every period, and 1 where both have
+-- the least common multiple of the two periods; the other's period where one curve has every period, and 1 where both
+-- have
 unfoldable pub common_period : SpecCurve → SpecCurve → ℚ
 common_period f g = common_of (period_of f.tail) (period_of g.tail)
 

@@ -1,4 +1,5 @@
--- Room for the numbers of a normal form: the grids that they stand on, and their sizes. With it no step of the normal form is too wide. Own choice.
+-- Room for the numbers of a normal form: the grids that they stand on, and their sizes. With it no step of the normal
+-- form is too wide. Own choice.
 use Rattle.std.specs.Prelude.{◌≡◌, ℕ, ◌*◌, ◌<◌, ◌≤◌, pos, List, Option, Some, None}
 use Prim.Native.Nat.{◌∣◌}
 use Rattle.rational.specs.Rational.{ℚ, ◌+ℚ◌, ◌*ℚ◌, ◌≤ℚ◌, int}
@@ -16,8 +17,8 @@ use Rattle.upp_curve.specs.Spans.{piece_read}
 abbrev pub top : ℕ
 top = 170141183460469231731687303715884105727
 
--- times: the grid of the tail's rank and period; base: the least grid of a start; slopes: that of the slopes; values are on the grid of base slopes;
--- largest: at least 1, and what bounds values; end: what bounds times
+-- times: the grid of the tail's rank and period; base: the least grid of a start; slopes: that of the slopes; values
+-- are on the grid of base slopes; largest: at least 1, and what bounds values; end: what bounds times
 pub record Room : Type 0 where
   pub times : ℕ
   pub base : ℕ

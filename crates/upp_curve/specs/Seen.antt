@@ -1,4 +1,4 @@
--- The values of a piece that count, and which steps have to fit so that they are known.
+-- The values of a piece that count, and which steps have to fit so that they are known. Own choice.
 use Rattle.std.specs.Prelude.{ℕ, ◌-◌, ◌≤◌, ◌<◌, ◌^◌, pos, Option, Some, None}
 use Rattle.rational.specs.Rational.{ℚ, ◌*ℚ◌, ◌≤ℚ◌, ◌<ℚ◌, int}
 use Rattle.rational.specs.Ratio.{IsSmall, SumFits}

@@ -1,4 +1,5 @@
--- The service curve of a server. (Own choice of three forms: a rate after a latency, a gate, and a curve that is listed.)
+-- The service curve of a server. (Own choice of three forms: a rate after a latency, a gate, and a curve that is
+-- listed.)
 use Rattle.rational.specs.Rational.{ℚ}
 use Rattle.rational.specs.Extended.{Ext}
 use Rattle.upp_curve.specs.Curve.{SpecCurve, value_at}

@@ -1,4 +1,4 @@
--- When pieces are finite and when they rise, by what is read of each.
+-- When pieces are finite and when they rise, by what is read of each. Own choice.
 use Rattle.std.specs.Prelude.{List, [], ◌∷◌, Option, Some, None}
 use Rattle.rational.specs.Rational.{ℚ, ◌≤ℚ◌}
 use Rattle.rational.specs.Extended.{Ext, ◌≤ₑ◌}

@@ -1,5 +1,5 @@
--- Where the numbers of a call stand and how large they are, by its five sizes: times on the grid of dt; values on the grid of dv within the
--- largest; slopes on the grid of ds, twice their size within the steepness. Own choice.
+-- Where the numbers of a call stand and how large they are, by its five sizes: times on the grid of dt; values on the
+-- grid of dv within the largest; slopes on the grid of ds, twice their size within the steepness. Own choice.
 use Rattle.std.specs.Prelude.{ℕ, ◌*◌, ◌<◌, ◌≤◌, ◌^◌, pos, Option, Some, None}
 use Rattle.std.specs.List.{AllByRecursion}
 use Rattle.rational.specs.Rational.{ℚ, ◌*ℚ◌, ◌≤ℚ◌, int}
@@ -31,7 +31,8 @@ pub record Stands (z : Sizes) (n : Numbers) : Type 0 where
   pub values : AllByRecursion (IsValue z) n.values
   pub slopes : AllByRecursion (IsSlope z) n.slopes
 
--- the sizes themselves, for a window that ends at `end`: no grid is empty, the steepness is at least 1, and steepness times the end is at most the largest
+-- the sizes themselves, for a window that ends at `end`: no grid is empty, the steepness is at least 1, and steepness
+-- times the end is at most the largest
 pub record AreSizes (z : Sizes) (end : ℚ) : Type 0 where
   pub dv : 0 < z.dv
   pub dt : 0 < z.dt

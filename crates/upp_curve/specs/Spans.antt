@@ -1,4 +1,4 @@
--- A curve's pieces with their ends, and the copies of them that start below a time.
+-- A curve's pieces with their ends, and the copies of them that start below a time. Own choice.
 use Rattle.std.specs.Prelude.{ℕ, zero, suc, pos, cond, List, [], ◌∷◌, Option, Some, None}
 use Rattle.std.specs.List.{flat_map}
 use Rattle.rational.specs.Rational.{ℚ, ◌+ℚ◌, ◌*ℚ◌, int, lt_q}
@@ -8,14 +8,16 @@ use Rattle.upp_curve.specs.declared.curve.Tail.{Tail}
 use Rattle.upp_curve.specs.declared.curve.Tail.TheVariants.{Periodic, Affine, Infinite}
 use Rattle.upp_curve.specs.Curve.{SpecCurve}
 use Rattle.upp_curve.specs.Unrolled.{later, copies_below}
+-- where the first of some pieces starts, and another time where there is none
+pub use Rattle.upp_curve.specs.Readable.{start_after}
 
 -- a piece, and where the next one starts: nowhere after a last piece that goes on for ever
 pub record Span : Type 0 where
   pub piece : Piece
   pub next : Option ℚ
 
--- where the next piece starts after the last of the list: the first copy at rank + period; nothing after an affine tail; at the rank of an infinite
--- tail its values end
+-- where the next piece starts after the last of the list: the first copy at rank + period; nothing after an affine
+-- tail; at the rank of an infinite tail its values end
 abbrev pub end_of : Tail → Option ℚ
 end_of (Periodic rank period rise) = Some (rank +ℚ period)
 end_of (Affine rank) = None
@@ -29,11 +31,6 @@ line_read (Infinite rank) p = cond (lt_q p.x rank) p.line None
 
 abbrev pub piece_read : Tail → Piece → Piece
 piece_read tail p = record { x = p.x; at = p.at; line = line_read tail p }
-
--- where the first of some pieces starts, and `after` where there is none
-abbrev pub start_after : List Piece → Option ℚ → Option ℚ
-start_after [] after = after
-start_after (q ∷ qs) after = Some q.x
 
 -- each piece with the start of the next one
 unfoldable pub spans : Tail → List Piece → List Span

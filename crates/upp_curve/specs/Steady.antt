@@ -1,4 +1,5 @@
--- From when on a curve repeats, and by how much it rises.
+-- From when on a curve repeats, and by how much it rises. (Bouillard, Boyer and Le Corronc: the rank, the period and
+-- the increment of a pseudo-periodic function; the time one after the rank of other tails is our own choice.)
 use Rattle.std.specs.Prelude.{◌≡◌, ℕ, pos, Bool, true, false, ◌&&◌, List, [], ◌∷◌, Option, Some, None}
 use Rattle.rational.specs.Rational.{ℚ, ◌+ℚ◌, ◌*ℚ◌, ◌/ℚ◌, ◌≤ℚ◌, int, le_q}
 use Rattle.rational.specs.Extended.{Ext, ◌+ₑ◌}
@@ -43,7 +44,8 @@ abbrev pub later_unless : Bool → ℚ → ℚ
 later_unless true rank = rank
 later_unless false rank = rank +ℚ int (pos 1)
 
--- the rank, or 1 later where the value at the rank of an affine tail is not its line's, or that of an infinite tail is finite
+-- the rank, or 1 later where the value at the rank of an affine tail is not its line's, or that of an infinite tail is
+-- finite
 abbrev pub steady_in : List Piece → Tail → ℚ
 steady_in ps (Periodic rank period rise) = rank
 steady_in ps (Affine rank) = later_unless (same_ext (read ps rank) (line_value (last_line ps) rank)) rank

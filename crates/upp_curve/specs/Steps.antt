@@ -1,4 +1,4 @@
--- Which step of a curve's value was too wide.
+-- Which step of a curve's value was too wide. Own choice.
 use Rattle.std.specs.Prelude.{pos, List, [], ◌∷◌, Option, Some, None, ◌⊎◌}
 use Rattle.rational.specs.Rational.{ℚ, ◌-ℚ◌, ◌*ℚ◌, ◌≤ℚ◌, ◌<ℚ◌, int}
 use Rattle.rational.specs.Whole.{periods}
@@ -32,8 +32,8 @@ IsWideRise (Fin v) c w = IsWideSum v c w
 abbrev pub IsWidePeriods : ℚ → ℚ → ℚ → Wide → Type 0
 IsWidePeriods rank period t w = IsWideDifference t rank w ⊎ IsWideQuotient (t -ℚ rank) period w
 
--- past the rank of a periodic tail: the number n of whole periods, n times the period, t less that, the value there, n times
--- the rise, and the sum with that
+-- past the rank of a periodic tail: the number n of whole periods, n times the period, t less that, the value there, n
+-- times the rise, and the sum with that
 abbrev pub IsWidePast : List Piece → (rank period rise t n : ℚ) → Wide → Type 0
 IsWidePast ps rank period rise t n w =
     IsWidePeriods rank period t w ⊎ IsWideProduct n period w ⊎ IsWideDifference t (n *ℚ period) w

@@ -1,4 +1,4 @@
--- The pieces of a curve that start before a time, its periods written out, and their number.
+-- The pieces of a curve that start before a time, its periods written out, and their number. Own choice.
 use Rattle.std.specs.Prelude.{ℕ, zero, suc, ◌+◌, pos, cond, List, [], ◌∷◌, ◌++◌, length, Option, Some, None, sum_by}
 use Rattle.rational.specs.Rational.{ℚ, ◌+ℚ◌, ◌-ℚ◌, ◌*ℚ◌, ◌/ℚ◌, int, le_q, lt_q}
 use Rattle.rational.specs.Whole.{whole_part, periods}

@@ -11,18 +11,20 @@ use Rattle.upp_curve.specs.Limits.{Sizes, curve_numbers}
 use Rattle.upp_curve.specs.Sized.{Stands}
 use Rattle.upp_curve.specs.Operand.{AreLimited}
 
--- the n-th copies of the pieces of a period, those that start before `end`: n times the period and the rise, what is left to
--- the end, and each copy's own steps
+-- the n-th copies of the pieces of a period, those that start before `end`: n times the period and the rise, what is
+-- left to the end, and each copy's own steps
 pub record TurnFits (n : ℕ) (period rise end : ℚ) (turn : List Piece) : Type 0 where
   pub number : n < 2 ^ 127
   pub by : IsSmall (int (pos n) *ℚ period)
   pub height : IsSmall (int (pos n) *ℚ rise)
   pub left : SumFits end (neg_ℚ (int (pos n) *ℚ period))
-  pub copies : Each (λ p. p.x <ℚ end -ℚ int (pos n) *ℚ period → LaterFits (int (pos n) *ℚ period) (int (pos n) *ℚ rise) p) turn
+  pub copies : Each
+      (λ p. p.x <ℚ end -ℚ int (pos n) *ℚ period → LaterFits (int (pos n) *ℚ period) (int (pos n) *ℚ rise) p) turn
 
 -- each copy of the pieces from the rank on that begins before `end`
 abbrev pub TurnsFit : List Piece → ℚ → ℚ → ℚ → ℚ → Type 0
-TurnsFit ps rank period rise end = (n : ℕ) → rank +ℚ int (pos n) *ℚ period <ℚ end → TurnFits n period rise end (from rank ps)
+TurnsFit ps rank period rise end = (n : ℕ) → rank +ℚ int (pos n) *ℚ period <ℚ end
+    → TurnFits n period rise end (from rank ps)
 
 -- some sizes of a gauge below 2 ^ 120, for a window that ends at `end`, hold the numbers of the curve in it
 pub record IsOperandTo (end : ℚ) (c : SpecCurve) : Type 0 where

@@ -1,13 +1,17 @@
--- How far each kind of call looks: the end of its window, for the number of periods after which its answer repeats. Own choice.
+-- How far each kind of call looks: the end of its window, for the number of periods after which its answer repeats. Own
+-- choice.
 use Rattle.std.specs.Prelude.{◌≡◌, ℕ, suc, ◌+◌, ◌<◌, ◌⊎◌}
 use Rattle.rational.specs.Rational.{ℚ, ◌+ℚ◌, ◌-ℚ◌, ◌≤ℚ◌, ◌<ℚ◌}
 use Rattle.rational.specs.Extended.{Ext, ◌≤ₑ◌, ◌<ₑ◌, ◌+ₑ◌}
 use Rattle.rational.specs.declared.Extended.TheVariants.{Fin, Inf}
 use Rattle.upp_curve.specs.declared.op_kind.OpKind.{OpKind}
-use Rattle.upp_curve.specs.declared.op_kind.OpKind.TheVariants.{Sum, Min, Max, PosDiff, PosMinus, Scale, Shift, RunSup, RunInf, FifoLeft, Convolve, Deconvolve, Horizontal, Vertical, Itself}
+use Rattle.upp_curve.specs.declared.op_kind.OpKind.TheVariants.{Sum, Min, Max, PosDiff, PosMinus, Scale, Shift, RunSup}
+use Rattle.upp_curve.specs.declared.op_kind.OpKind.TheVariants.{RunInf, FifoLeft, Convolve, Deconvolve, Horizontal}
+use Rattle.upp_curve.specs.declared.op_kind.OpKind.TheVariants.{Vertical, Itself}
 use Rattle.upp_curve.specs.Curve.{SpecCurve, value_at}
 use Rattle.upp_curve.specs.Steady.{steady, rise_over, rate}
-use Rattle.upp_curve.specs.Periods.{period_of, common_period, own_period, period_or, both_steady, moved_steady, periods_after}
+use Rattle.upp_curve.specs.Periods.{period_of, common_period, own_period, period_or, both_steady, moved_steady}
+use Rattle.upp_curve.specs.Periods.{periods_after}
 use Rattle.upp_curve.specs.Functions.{zero_q}
 use Rattle.upp_curve.specs.Convolution.{Split}
 
@@ -29,7 +33,8 @@ window_at (FifoLeft (Fin theta)) f g k m = periods_after (moved_steady f g theta
 window_at Convolve f g k m = periods_after (steady f +ℚ steady g) (k + 2) (common_period f g)
 window_at Deconvolve f g k m =
     steady f +ℚ period_or (common_period f g) (period_of f.tail) +ℚ both_steady f g +ℚ common_period f g
-window_at Horizontal f g k m = periods_after (periods_after (steady f) (suc k) (common_period f g)) (suc m) (common_period f g)
+window_at Horizontal f g k m = periods_after (periods_after (steady f) (suc k) (common_period f g)) (suc m)
+    (common_period f g)
 window_at Vertical f g k m = both_steady f g +ℚ common_period f g
 window_at Itself f g k m = steady f +ℚ own_period f
 
@@ -48,8 +53,8 @@ abbrev pub IsCovered : (ℚ → Ext) → ℚ → ℚ → ℚ → Type 0
 IsCovered f from d end =
     (b : ℚ) → ((t : ℚ) → from ≤ℚ t → t <ℚ from +ℚ d → f t ≤ₑ Fin b) → (s : ℚ) → zero_q ≤ℚ s → s <ℚ end → f s ≤ₑ Fin b
 
--- at t, the sums of `slow` past its steady time with `fast` have no greater infimum than those of `slow` before it with `fast` past its own:
--- what is at most each of the first sums is at most each of the second
+-- at t, the sums of `slow` past its steady time with `fast` have no greater infimum than those of `slow` before it with
+-- `fast` past its own: what is at most each of the first sums is at most each of the second
 abbrev pub IsLateLeast : (ℚ → Ext) → (ℚ → Ext) → ℚ → ℚ → ℚ → Type 0
 IsLateLeast slow fast steady_slow steady_fast t =
     (b : ℚ) → ((s : Split t) → steady_slow ≤ℚ s.first → Fin b ≤ₑ slow s.first +ₑ fast s.second)
@@ -69,22 +74,30 @@ IsConstantFrom f from = (t : ℚ) → from ≤ℚ t → f t ≡ f from
 -- k periods are enough; a kind that needs none asks nothing
 abbrev pub Meets : OpKind → SpecCurve → SpecCurve → ℕ → Type 0
 Meets Sum f g k = Unit {0}
-Meets Min f g k = IsSlowerBelow (value_at f) (value_at g) (rate f) (rate g) (periods_after (both_steady f g) k (common_period f g)) (common_period f g)
-Meets Max f g k = IsSlowerBelow (value_at f) (value_at g) (rate f) (rate g) (periods_after (both_steady f g) k (common_period f g)) (common_period f g)
+Meets Min f g k = IsSlowerBelow (value_at f) (value_at g) (rate f) (rate g)
+    (periods_after (both_steady f g) k (common_period f g)) (common_period f g)
+Meets Max f g k = IsSlowerBelow (value_at f) (value_at g) (rate f) (rate g)
+    (periods_after (both_steady f g) k (common_period f g)) (common_period f g)
 Meets PosDiff f g k =
-    IsSlowerBelow (value_at f) (value_at g) (rate f) (rate g) (periods_after (both_steady f g) k (common_period f g)) (common_period f g)
-Meets (PosMinus l) f g k = IsSlowerBelow (value_at f) (λ t. Fin l) (rate f) (Fin zero_q) (periods_after (steady f) k (own_period f)) (own_period f)
+    IsSlowerBelow (value_at f) (value_at g) (rate f) (rate g) (periods_after (both_steady f g) k (common_period f g))
+    (common_period f g)
+Meets (PosMinus l) f g k = IsSlowerBelow (value_at f) (λ t. Fin l) (rate f) (Fin zero_q)
+    (periods_after (steady f) k (own_period f)) (own_period f)
 Meets (Scale q) f g k = Unit {0}
 Meets (Shift x) f g k = Unit {0}
-Meets RunSup f g k = (rise_over f (own_period f) ≡ zero_q) ⊎ IsCovered (value_at f) (periods_after (steady f) k (own_period f)) (own_period f) (steady f)
+Meets RunSup f g k = (rise_over f (own_period f) ≡ zero_q)
+    ⊎ IsCovered (value_at f) (periods_after (steady f) k (own_period f)) (own_period f) (steady f)
 Meets RunInf f g k = Unit {0}
 Meets (FifoLeft Inf) f g k = Unit {0}
 Meets (FifoLeft (Fin theta)) f g k =
-    IsSlowerBelow (value_at f) (λ t. value_at g (t -ℚ theta)) (rate f) (rate g) (periods_after (moved_steady f g theta) k (common_period f g)) (common_period f g)
-Meets Convolve f g k = IsSlowerLateLeast f g (periods_after (steady f +ℚ steady g) (suc k) (common_period f g)) (common_period f g)
+    IsSlowerBelow (value_at f) (λ t. value_at g (t -ℚ theta)) (rate f) (rate g)
+    (periods_after (moved_steady f g theta) k (common_period f g)) (common_period f g)
+Meets Convolve f g k = IsSlowerLateLeast f g (periods_after (steady f +ℚ steady g) (suc k) (common_period f g))
+    (common_period f g)
 Meets Deconvolve f g k = Unit {0}
 Meets Horizontal f g k =
-    IsConstantFrom (value_at f) (steady f) ⊎ (value_at g (steady g) <ₑ value_at f (periods_after (steady f) k (common_period f g)))
+    IsConstantFrom (value_at f) (steady f)
+    ⊎ (value_at g (steady g) <ₑ value_at f (periods_after (steady f) k (common_period f g)))
 Meets Vertical f g k = Unit {0}
 Meets Itself f g k = Unit {0}
 

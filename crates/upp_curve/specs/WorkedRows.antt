@@ -1,4 +1,4 @@
--- Values that were worked out by hand from the words of the definitions.
+-- Values that were worked out by hand from the words of the definitions. Own choice of examples.
 use Rattle.std.specs.Prelude.{◌≡◌, ℕ, pos, [], ◌∷◌, length}
 use Rattle.rational.specs.Rational.{ℚ, ◌≤ℚ◌, int, frac}
 use Rattle.rational.specs.declared.Extended.TheVariants.{Fin}
@@ -54,12 +54,18 @@ pub record RateLatencyRows : Type 0 where
 
 -- 3 + 2 t and 5 + t
 pub record MinimumRows : Type 0 where
-  pub min_2 : IsMinimum (value_at (bucket (whole 3) (whole 2))) (value_at (bucket (whole 5) (whole 1))) (whole 2) (Fin (whole 7))
-  pub min_3 : IsMinimum (value_at (bucket (whole 3) (whole 2))) (value_at (bucket (whole 5) (whole 1))) (whole 3) (Fin (whole 8))
-  pub max_1 : IsMaximum (value_at (bucket (whole 3) (whole 2))) (value_at (bucket (whole 5) (whole 1))) (whole 1) (Fin (whole 6))
-  pub sum_1 : IsSum (value_at (bucket (whole 3) (whole 2))) (value_at (bucket (whole 5) (whole 1))) (whole 1) (Fin (whole 11))
-  pub less_3 : IsPositiveDifference (value_at (bucket (whole 3) (whole 2))) (value_at (bucket (whole 5) (whole 1))) (whole 3) (Fin (whole 1))
-  pub none_1 : IsPositiveDifference (value_at (bucket (whole 3) (whole 2))) (value_at (bucket (whole 5) (whole 1))) (whole 1) (Fin (whole 0))
+  pub min_2 : IsMinimum (value_at (bucket (whole 3) (whole 2))) (value_at (bucket (whole 5) (whole 1))) (whole 2)
+      (Fin (whole 7))
+  pub min_3 : IsMinimum (value_at (bucket (whole 3) (whole 2))) (value_at (bucket (whole 5) (whole 1))) (whole 3)
+      (Fin (whole 8))
+  pub max_1 : IsMaximum (value_at (bucket (whole 3) (whole 2))) (value_at (bucket (whole 5) (whole 1))) (whole 1)
+      (Fin (whole 6))
+  pub sum_1 : IsSum (value_at (bucket (whole 3) (whole 2))) (value_at (bucket (whole 5) (whole 1))) (whole 1)
+      (Fin (whole 11))
+  pub less_3 : IsPositiveDifference (value_at (bucket (whole 3) (whole 2))) (value_at (bucket (whole 5) (whole 1)))
+      (whole 3) (Fin (whole 1))
+  pub none_1 : IsPositiveDifference (value_at (bucket (whole 3) (whole 2))) (value_at (bucket (whole 5) (whole 1)))
+      (whole 1) (Fin (whole 0))
 
 -- ---- 3 t before 1, and t from 1 on
 abbrev pub dip : SpecCurve
@@ -80,12 +86,17 @@ pub record RunningRows : Type 0 where
 -- at each time: two services in a row, what leaves a service, two buckets, the closure of a bucket and of a service
 pub record ConvolutionRows : Type 0 where
   pub services : (t : ℚ) → zero_q ≤ℚ t →
-      IsConvolution (value_at (rate_latency (whole 100) (whole 130))) (value_at (rate_latency (whole 100) (whole 10))) t (value_at (rate_latency (whole 100) (whole 140)) t)
+      IsConvolution (value_at (rate_latency (whole 100) (whole 130))) (value_at (rate_latency (whole 100) (whole 10)))
+      t (value_at (rate_latency (whole 100) (whole 140)) t)
   pub buckets : (t : ℚ) → zero_q ≤ℚ t →
-      IsConvolution (value_at (bucket (whole 3) (whole 2))) (value_at (bucket (whole 5) (whole 4))) t (value_at (bucket (whole 8) (whole 2)) t)
+      IsConvolution (value_at (bucket (whole 3) (whole 2))) (value_at (bucket (whole 5) (whole 4))) t
+      (value_at (bucket (whole 8) (whole 2)) t)
   pub output : (t : ℚ) → zero_q ≤ℚ t →
-      IsDeconvolution (value_at (bucket (whole 12000) (whole 10))) (value_at (rate_latency (whole 100) (whole 130))) t (value_at (bucket (whole 13300) (whole 10)) t)
-  pub closed : (t : ℚ) → zero_q ≤ℚ t → IsSubadditiveClosure (value_at (bucket (whole 3) (whole 2))) t (value_at (bucket (whole 3) (whole 2)) t)
-  pub closed_to_none : (t : ℚ) → zero_q ≤ℚ t → IsSubadditiveClosure (value_at (rate_latency (whole 1) (whole 1))) t (value_at (bucket (whole 0) (whole 0)) t)
+      IsDeconvolution (value_at (bucket (whole 12000) (whole 10))) (value_at (rate_latency (whole 100) (whole 130))) t
+      (value_at (bucket (whole 13300) (whole 10)) t)
+  pub closed : (t : ℚ) → zero_q ≤ℚ t
+      → IsSubadditiveClosure (value_at (bucket (whole 3) (whole 2))) t (value_at (bucket (whole 3) (whole 2)) t)
+  pub closed_to_none : (t : ℚ) → zero_q ≤ℚ t
+      → IsSubadditiveClosure (value_at (rate_latency (whole 1) (whole 1))) t (value_at (bucket (whole 0) (whole 0)) t)
   pub subadditive : IsSubadditive (value_at (bucket (whole 3) (whole 2)))
   pub not_subadditive : ¬ (IsSubadditive (value_at (rate_latency (whole 1) (whole 1))))

@@ -1,13 +1,12 @@
 //! How a curve goes on from a time, without unrolling it.
 
-ghost use Rattle.std.specs.Prelude.{ℕ, ◌≡◌, ◌≢◌, pos, None};
-ghost use Rattle.rational.specs.Rational.{ℚ, int, ◌+ℚ◌, ◌-ℚ◌, ◌*ℚ◌, ◌/ℚ◌, ◌≤ℚ◌, ◌<ℚ◌, neg_ℚ};
-ghost use Rattle.rational.specs.Ratio.{IsSmall, SumFits};
+ghost use Rattle.std.specs.Prelude.{ℕ, ◌≡◌, pos, None};
+ghost use Rattle.rational.specs.Rational.{ℚ, int, ◌*ℚ◌, ◌≤ℚ◌, ◌<ℚ◌};
 ghost use Rattle.rational.specs.Grid.{Whole};
 ghost use Rattle.rational.specs.Whole.{periods};
 ghost use Rattle.rational.specs.Extended.{◌+ₑ◌};
 ghost use Rattle.affine_segment.specs.Values.{line_value};
-ghost use Rattle.upp_curve.specs.Reading.{read, piece_in};
+ghost use Rattle.upp_curve.specs.Reading.{read};
 ghost use Rattle.upp_curve.specs.Curve.{value_at};
 ghost use Rattle.upp_curve.specs.Curves.{IsCurve};
 ghost use Rattle.upp_curve.specs.Normal.{StartsAtZero};
@@ -22,7 +21,7 @@ ghost use Rattle.upp_curve.specs.Readable.{LineFitsAt};
 ghost use Rattle.upp_curve.specs.Copied.{LineRises, IsTurn, NextMoves};
 
 use crate::curve::{Curve, Tail};
-use crate::fitting::{difference, line_later, line_value, piece_value, product, sum};
+use crate::fitting::{difference, line_later, line_value, piece_value, product, quotient, sum};
 use crate::reading::{piece_at, starts_by};
 use crate::starts::is_less;
 use affine_segment::{Line, Piece};
@@ -68,15 +67,6 @@ fn plain_stretch(pieces: &[Piece], t: Frac) -> Stretch
         line: piece.line,
         next,
     }
-}
-
-/// a / b.
-fn quotient(a: Frac, b: Frac) -> Frac
-    requires some { b ≢ int (pos 0) }
-    requires fits { IsSmall (a /ℚ b) }
-    ensures { result ≡ a /ℚ b }
-{
-    Frac::div(a, b).unwrap()
 }
 
 /// A value, n times the rise higher.
@@ -137,7 +127,8 @@ fn moved(next: Option<Frac>, by: Frac) -> Option<Frac>
     }
 }
 
-/// The value at t of a piece that starts, in its first period, at `early` or before, by the line it has in the period of t.
+/// The value at t of a piece that starts, in its first period, at `early` or before, by the line it has in the period
+/// of t.
 fn copied_value(
     piece: &Piece,
     line: &Option<Line>,
@@ -165,7 +156,8 @@ fn repeating_stretch(c: &Curve, rank: Frac, period: Frac, rise: Frac, t: Frac) -
     requires window { (z : Sizes) × (end : ℚ) × HasWindow z end c.now × IsTimeIn z end t }
     ensures goes { GoesOn (value_at c.now) t result }
     ensures times { (d : ℕ) → TimesStand d c.now → AtNext (Whole d) result.next }
-    ensures sizes { (z : Sizes) (end : ℚ) → HasWindow z end c.now → IsTimeIn z end t → OperandLineAt z result.line × GridValue z result.at }
+    ensures sizes { (z : Sizes) (end : ℚ) → HasWindow z end c.now → IsTimeIn z end t
+        → OperandLineAt z result.line × GridValue z result.at }
 {
     let Turn { n, by, early } = turn_of(c, rank, period, rise, t);
     let end = sum(rank, period);
@@ -181,15 +173,16 @@ fn repeating_stretch(c: &Curve, rank: Frac, period: Frac, rise: Frac, t: Frac) -
     }
 }
 
-/// How a curve goes on from a time of a window: the value there, the line that follows, and until when. By binary search in the
-/// pieces that are kept; nothing is unrolled, and no memory is taken. The window's sizes z are those of a gauge below 2^120, its
-/// end is past what is kept of the curve, and t stands on its grid, from 0 on and before its end. The next time stands on each
-/// grid on which the curve's rank, period and starts do.
+/// How a curve goes on from a time of a window: the value there, the line that follows, and until when. By binary
+/// search in the pieces that are kept; nothing is unrolled, and no memory is taken. The window's sizes z are those of a
+/// gauge below 2^120, its end is past what is kept of the curve, and t stands on its grid, from 0 on and before its
+/// end. The next time stands on each grid on which the curve's rank, period and starts do.
 pub fn stretch_at(c: &Curve, t: Frac) -> Stretch
     requires { (z : Sizes) × (end : ℚ) × HasWindow z end c.now × IsTimeIn z end t }
     ensures goes { GoesOn (value_at c.now) t result }
     ensures times { (d : ℕ) → TimesStand d c.now → AtNext (Whole d) result.next }
-    ensures sizes { (z : Sizes) (end : ℚ) → HasWindow z end c.now → IsTimeIn z end t → OperandLineAt z result.line × GridValue z result.at }
+    ensures sizes { (z : Sizes) (end : ℚ) → HasWindow z end c.now → IsTimeIn z end t
+        → OperandLineAt z result.line × GridValue z result.at }
 {
     match *c.tail() {
         Tail::Periodic { rank, period, rise } => repeating_stretch(c, rank, period, rise, t),

@@ -37,8 +37,8 @@ fn with_kind(found: Gathered, op: &OpKind) -> Gathered
     }
 }
 
-/// The gauge and the grids of a call over the end of its window. None exactly where the gauge is 2^128 or more. No memory is
-/// taken and nothing is unrolled.
+/// The gauge and the grids of a call over the end of its window. None exactly where the gauge is 2^128 or more. No
+/// memory is taken and nothing is unrolled.
 pub fn call_numbers(op: &OpKind, f: &Curve, g: &Curve, end: Frac) -> Option<CallNumbers>
     ensures { MatchOption result (2 ^ 128 ≤ gauge_over op.now f.now g.now end)
         (AreCallNumbers (sizes_of end (numbers_over op.now f.now g.now end))) }

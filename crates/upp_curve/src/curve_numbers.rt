@@ -8,7 +8,8 @@ ghost use Rattle.upp_curve.specs.Spans.{Span, end_of, piece_read, start_after, s
 ghost use Rattle.upp_curve.specs.Limits.{Numbers, joined};
 ghost use Rattle.upp_curve.specs.Gathered.{Gathers};
 ghost use Rattle.upp_curve.specs.Seen.{seen_of, SpanFits, SeenRises, CopiesFit, Knows};
-ghost use Rattle.upp_curve.specs.ClosedForm.{span_numbers, last_numbers, copies_numbers, once_numbers, closed_span, closed_spans, tail_numbers, closed_numbers};
+ghost use Rattle.upp_curve.specs.ClosedForm.{span_numbers, last_numbers, copies_numbers, once_numbers, closed_span};
+ghost use Rattle.upp_curve.specs.ClosedForm.{closed_spans, tail_numbers, closed_numbers};
 ghost use Rattle.upp_curve.specs.Curve.{SpecCurve};
 ghost use Rattle.upp_curve.specs.Periods.{HasPeriod};
 
@@ -61,7 +62,8 @@ fn with_copies(
 ) -> Option<Gathered>
     ensures value { let span : Span = record { piece = piece.now; next = next.now } in
         IfSome result (λ r. (n : Numbers) → Gathers g n → Gathers r (joined n (copies_numbers rise span copies))) }
-    ensures fits { let span : Span = record { piece = piece.now; next = next.now } in CopiesFit span copies rise → IsSome result }
+    ensures fits { let span : Span = record { piece = piece.now; next = next.now } in
+        CopiesFit span copies rise → IsSome result }
 {
     if copies == 0 {
         Some(g)
@@ -76,7 +78,8 @@ fn with_copies(
 fn with_once(g: Gathered, piece: &Piece, next: &Option<Frac>, end: Frac) -> Option<Gathered>
     ensures value { let span : Span = record { piece = piece.now; next = next.now } in
         IfSome result (λ r. (n : Numbers) → Gathers g n → Gathers r (joined n (once_numbers end span))) }
-    ensures fits { let span : Span = record { piece = piece.now; next = next.now } in (piece.now.x <ℚ end → SpanFits span) → IsSome result }
+    ensures fits { let span : Span = record { piece = piece.now; next = next.now } in
+        (piece.now.x <ℚ end → SpanFits span) → IsSome result }
 {
     if is_less(piece.x, end) {
         g.with_span(piece, next)
@@ -97,7 +100,8 @@ pub(crate) fn with_below(
     requires period { HasPeriod tail.now }
     ensures value { let span : Span = record { piece = piece.now; next = next.now } in
         IfSome result (λ r. (n : Numbers) → Gathers g n → Gathers r (joined n (closed_span tail.now end span))) }
-    ensures fits { let span : Span = record { piece = piece.now; next = next.now } in Knows tail.now end span → IsSome result }
+    ensures fits { let span : Span = record { piece = piece.now; next = next.now } in
+        Knows tail.now end span → IsSome result }
 {
     match tail {
         Tail::Periodic { rank, period, rise } => {
@@ -144,8 +148,8 @@ pub(crate) fn next_start(pieces: &[Piece], i: usize, after: &Option<Frac>) -> Op
     }
 }
 
-/// The pieces of a curve more, as far as they and their copies start before `end`. `after` is where the next piece starts
-/// after the last.
+/// The pieces of a curve more, as far as they and their copies start before `end`. `after` is where the next piece
+/// starts after the last.
 pub(crate) fn with_pieces(
     g: Gathered,
     pieces: &[Piece],
@@ -156,7 +160,8 @@ pub(crate) fn with_pieces(
     requires starts { StartsAtZero pieces.now }
     requires period { HasPeriod tail.now }
     requires after { after.now ≡ end_of tail.now }
-    ensures value { IfSome result (λ r. (n : Numbers) → Gathers g n → Gathers r (joined n (closed_spans tail.now end (spans tail.now pieces.now)))) }
+    ensures value { IfSome result (λ r. (n : Numbers) → Gathers g n
+        → Gathers r (joined n (closed_spans tail.now end (spans tail.now pieces.now)))) }
     ensures fits { AllByRecursion (Knows tail.now end) (spans tail.now pieces.now) → IsSome result }
 {
     let mut found = g;
@@ -185,8 +190,8 @@ pub(crate) fn with_tail(g: Gathered, tail: &Tail) -> Gathered
     }
 }
 
-/// A curve more, as far as its pieces and their copies start before `end`. `after` is where the next piece starts after the
-/// last.
+/// A curve more, as far as its pieces and their copies start before `end`. `after` is where the next piece starts after
+/// the last.
 pub(crate) fn with_curve(
     g: Gathered,
     pieces: &[Piece],

@@ -11,7 +11,8 @@ use affine_segment::Piece;
 use fraction128::Frac;
 use std::cmp::Ordering;
 
-/// A periodic curve none of whose pieces goes on with the one before it: `first` pieces start before the rank, and one at it.
+/// A periodic curve none of whose pieces goes on with the one before it: `first` pieces start before the rank, and one
+/// at it.
 #[derive(Drop)]
 pub(crate) struct Cycle {
     pub pieces: Vec<Piece>,

@@ -1,49 +1,66 @@
-//! Steps of arithmetic that are known to fit.
+//! Steps of arithmetic that are known to fit, so that none is refused.
 
-ghost use Rattle.std.specs.Prelude.{◌≡◌, List, ◌∷◌, pos};
-ghost use Rattle.rational.specs.Rational.{int, ◌+ℚ◌, ◌-ℚ◌, ◌*ℚ◌, ◌≤ℚ◌, ◌<ℚ◌, neg_ℚ};
+ghost use Rattle.std.specs.Prelude.{◌≡◌, ◌≢◌, pos};
+ghost use Rattle.rational.specs.Rational.{int, ◌+ℚ◌, ◌-ℚ◌, ◌*ℚ◌, ◌/ℚ◌, ◌≤ℚ◌, ◌<ℚ◌, neg_ℚ};
 ghost use Rattle.rational.specs.Ratio.{IsSmall, SumFits};
 ghost use Rattle.rational.specs.Extended.{◌+ₑ◌};
-ghost use Rattle.affine_segment.specs.Values.{line_value};
+ghost use Rattle.affine_segment.specs.Values.{line_at, line_value};
 ghost use Rattle.upp_curve.specs.Reading.{read, piece_value};
 ghost use Rattle.upp_curve.specs.Normal.{StartsAtZero};
-ghost use Rattle.upp_curve.specs.Readable.{LineFitsAt, SumFitsAt};
+ghost use Rattle.upp_curve.specs.Readable.{LineFits, LineFitsAt, SumFitsAt};
 ghost use Rattle.upp_curve.specs.Unrolled.{line_later, later};
 ghost use Rattle.upp_curve.specs.Fitting.{LaterFits, LineLaterFits, ReadFits};
 
 use crate::reading;
 use crate::reading::piece_at;
-use affine_segment::{Line, Piece};
+use affine_segment::{Line, Piece, value};
 use fraction128::{Ext, Frac};
 use rational::Extended;
 use std::cmp::Ordering;
 
-/// a + b.
-pub(crate) fn sum(a: Frac, b: Frac) -> Frac
+/// a + b, where it fits.
+pub fn sum(a: Frac, b: Frac) -> Frac
     requires { SumFits a b }
     ensures { result ≡ a +ℚ b }
 {
     Frac::add(a, b).unwrap()
 }
 
-/// a - b.
-pub(crate) fn difference(a: Frac, b: Frac) -> Frac
+/// a - b, where it fits.
+pub fn difference(a: Frac, b: Frac) -> Frac
     requires { SumFits a (neg_ℚ b) }
     ensures { result ≡ a -ℚ b }
 {
     Frac::sub(a, b).unwrap()
 }
 
-/// a b.
-pub(crate) fn product(a: Frac, b: Frac) -> Frac
+/// a b, where it fits.
+pub fn product(a: Frac, b: Frac) -> Frac
     requires { IsSmall (a *ℚ b) }
     ensures { result ≡ a *ℚ b }
 {
     Frac::mul(a, b).unwrap()
 }
 
-// A value, risen.
-fn raised(v: Ext, by: Frac) -> Ext
+/// a / b, where b is not 0 and it fits.
+pub fn quotient(a: Frac, b: Frac) -> Frac
+    requires some { b ≢ int (pos 0) }
+    requires fits { IsSmall (a /ℚ b) }
+    ensures { result ≡ a /ℚ b }
+{
+    Frac::div(a, b).unwrap()
+}
+
+/// The value at t of a line whose steps there fit.
+pub(crate) fn readable_value(line: &Line, t: Frac) -> Frac
+    requires { LineFits t line.now }
+    ensures { result ≡ line_at line.now t }
+{
+    value(line, t).unwrap()
+}
+
+/// A value, risen.
+pub(crate) fn raised(v: Ext, by: Frac) -> Ext
     requires { SumFitsAt v by }
     ensures { result ≡ v +ₑ Extended.Fin by }
 {

@@ -3,7 +3,8 @@
 ghost use Rattle.std.specs.Prelude.{ℕ, ◌≡◌, ◌<◌, pos, IfSome, IsSome};
 ghost use Rattle.rational.specs.Rational.{ℚ, int, ◌*ℚ◌};
 ghost use Rattle.rational.specs.Gauge.{Kept, lcm, size_up};
-ghost use Rattle.upp_curve.specs.Limits.{Numbers, no_numbers, joined, time_alone, value_alone, slope_alone, values_alone, slopes_alone, finite, line_slope};
+ghost use Rattle.upp_curve.specs.Limits.{Numbers, no_numbers, joined, time_alone, value_alone, slope_alone};
+ghost use Rattle.upp_curve.specs.Limits.{values_alone, slopes_alone, finite, line_slope};
 ghost use Rattle.upp_curve.specs.Spans.{Span};
 ghost use Rattle.upp_curve.specs.Seen.{seen_of, SpanFits, SeenRises};
 ghost use Rattle.upp_curve.specs.ClosedForm.{span_numbers, last_numbers};
@@ -15,8 +16,8 @@ use affine_segment::{Line, Piece};
 use fraction128::{Ext, Frac, gcd_of};
 use rational::Extended;
 
-/// The sizes of the numbers so far: the least common denominators of values, times and slopes, twice the largest slope and
-/// the largest value rounded up. Each is right up to the largest number and stays there.
+/// The sizes of the numbers so far: the least common denominators of values, times and slopes, twice the largest slope
+/// and the largest value rounded up. Each is right up to the largest number and stays there.
 #[derive(Debug, Clone, Copy)]
 pub(crate) struct Gathered {
     pub dv: u128,
@@ -123,7 +124,8 @@ impl Gathered {
     pub(crate) fn with_span(self, piece: &Piece, next: &Option<Frac>) -> Option<Gathered>
         ensures value { let span : Span = record { piece = piece.now; next = next.now } in
             IfSome result (λ r. (n : Numbers) → Gathers self n → Gathers r (joined n (span_numbers span))) }
-        ensures fits { let span : Span = record { piece = piece.now; next = next.now } in SpanFits span → IsSome result }
+        ensures fits { let span : Span = record { piece = piece.now; next = next.now } in
+            SpanFits span → IsSome result }
     {
         let values = seen_values(piece, next)?;
         let placed = self.with_time(piece.x).with_line(piece.line);
@@ -144,7 +146,8 @@ impl Gathered {
         rise: Frac,
     ) -> Option<Gathered>
         ensures value { let span : Span = record { piece = piece.now; next = next.now } in
-            IfSome result (λ r. (m : Numbers) → Gathers self.now m → Gathers r (joined m (last_numbers (n *ℚ rise) span))) }
+            IfSome result (λ r. (m : Numbers) → Gathers self.now m
+            → Gathers r (joined m (last_numbers (n *ℚ rise) span))) }
         ensures fits { let span : Span = record { piece = piece.now; next = next.now } in
             SpanFits span → SeenRises (seen_of span) n rise → IsSome result }
     {

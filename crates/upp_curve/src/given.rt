@@ -78,7 +78,8 @@ fn tail_fits(pieces: &[Piece], tail: &Tail) -> bool
 }
 
 impl RawCurve {
-    /// Whether it is a curve, as `normalise` needs it: the first piece starts at 0, starts rise and the tail goes with them.
+    /// Whether it is a curve, as `normalise` needs it: the first piece starts at 0, starts rise and the tail goes with
+    /// them.
     pub fn is_raw(&self) -> bool
         ensures { IsTrue result ↔ IsRaw (raw_curve self.now) }
     {

@@ -9,7 +9,8 @@ ghost use Rattle.upp_curve.specs.Shapes.{end_time};
 ghost use Rattle.upp_curve.specs.Continuity.{IsContinuous, PieceJoins, PiecesJoin};
 
 use crate::curve::{Curve, Tail};
-use crate::shape::{End, period_end, readable_value};
+use crate::fitting::readable_value;
+use crate::shape::{End, period_end};
 use affine_segment::{Line, Piece};
 use fraction128::{Ext, Frac};
 use rational::Extended;

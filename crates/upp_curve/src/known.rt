@@ -21,10 +21,7 @@ use rational::Extended;
 fn rate_of(c: &Curve) -> Ext
     ensures { result ≡ rate c.now }
 {
-    match c.rate() {
-        Ok(rate) => rate,
-        Err(_) => Extended::Inf,
-    }
+    c.rate().unwrap()
 }
 
 /// Whether a is less than b.

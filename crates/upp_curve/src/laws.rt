@@ -1,15 +1,24 @@
 //! Laws of curves. Each is the contract of a function that does nothing.
 
 ghost use Rattle.upp_curve.specs.Normal.{NormalFormIsUnique};
+ghost use Rattle.upp_curve.specs.PieceLaws.{PiecesAreCounted, SpansAreUnrolled};
 ghost use Rattle.upp_curve.specs.Deviations.{DeviationsAreUnique};
 ghost use Rattle.upp_curve.specs.BucketBounds.{BucketDeviations};
-ghost use Rattle.upp_curve.specs.WorkedRows.{StairRows, GateRows, BucketRows, RateLatencyRows, MinimumRows, RunningRows, ConvolutionRows};
+ghost use Rattle.upp_curve.specs.WorkedRows.{StairRows, GateRows, BucketRows, RateLatencyRows, MinimumRows};
+ghost use Rattle.upp_curve.specs.WorkedRows.{RunningRows, ConvolutionRows};
 ghost use Rattle.upp_curve.specs.WorkedStairs.{StairFormula, TwoStairs, StairLeaves, JumpLeaves};
 ghost use Rattle.upp_curve.specs.WorkedShifts.{ShiftRows, ScaleRows, MinusRows, DifferenceRows, LeftOverRows};
 
 /// Two curves in normal form with one value at each time are one.
 pub fn normal_form_is_unique()
     ensures { NormalFormIsUnique }
+{}
+
+/// The number of unrolled pieces that start before a time, as a tally counts it without unrolling, is the length of the
+/// list of them; and the pieces whose numbers a gauge looks at are the same pieces.
+pub fn unrolled_pieces_are_counted()
+    ensures count { PiecesAreCounted }
+    ensures spans { SpansAreUnrolled }
 {}
 
 /// Two functions have one horizontal and one vertical deviation.

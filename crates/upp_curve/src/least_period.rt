@@ -6,7 +6,8 @@ ghost use Rattle.rational.specs.Rational.{int, ◌/ℚ◌};
 ghost use Rattle.rational.specs.Grid.{Whole};
 ghost use Rattle.upp_curve.specs.Normal.{Each};
 ghost use Rattle.upp_curve.specs.Fitting.{LaterFits};
-ghost use Rattle.upp_curve.specs.Normalising.{GoesOn, IsTurning, IsDivided, IsLeast, OnGrids, SharesFit, cycle_values, turn_count};
+ghost use Rattle.upp_curve.specs.Normalising.{GoesOn, IsTurning, IsDivided, IsLeast, OnGrids, SharesFit, cycle_values};
+ghost use Rattle.upp_curve.specs.Normalising.{turn_count};
 
 use crate::cycle::Cycle;
 use crate::fitting::later;
@@ -19,7 +20,8 @@ fn share(whole: Frac, parts: usize, grid: u128) -> Option<Frac>
     requires parts { 0 < parts }
     requires some { 0 < grid }
     requires grid { grid < 2 ^ 127 }
-    ensures { MatchOption result (¬ (Whole grid (whole /ℚ int (pos parts)))) (λ s. (s ≡ whole /ℚ int (pos parts)) × Whole grid s) }
+    ensures { MatchOption result (¬ (Whole grid (whole /ℚ int (pos parts))))
+        (λ s. (s ≡ whole /ℚ int (pos parts)) × Whole grid s) }
 {
     if whole.numerator() == 0 {
         return Some(whole);

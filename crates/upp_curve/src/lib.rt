@@ -16,6 +16,8 @@ mod kind_laws;
 mod known;
 mod laws;
 mod least_period;
+#[cfg(test)]
+mod limit_tests;
 mod limits;
 mod long;
 mod lowest_rank;
@@ -43,16 +45,17 @@ mod unrolling;
 pub use ahead::{Stretch, stretch_at};
 pub use call_sizes::{CallNumbers, call_numbers};
 pub use curve::{Curve, Tail, equal};
+pub use fitting::{difference, product, quotient, sum};
 pub use jumps::is_continuous;
 pub use kind_laws::kinds_are_curves;
 pub use laws::{
-    bucket_deviations, deviations_are_unique, normal_form_is_unique, worked_kinds,
-    worked_operators, worked_shifts, worked_stairs,
+    bucket_deviations, deviations_are_unique, normal_form_is_unique, unrolled_pieces_are_counted,
+    worked_kinds, worked_operators, worked_shifts, worked_stairs,
 };
 pub use limits::{gauge, tally, tally_over};
 pub use op_kind::{OpFault, OpKind, Window};
 pub use own_limits::{OverLimit, over_own_limit};
 pub use raw_curve::{RawCurve, normalise, normalise_on};
 pub use scaled_numbers::{scaled_piece, scaled_tail};
-pub use starts::{is_after, is_before};
+pub use starts::{is_after, is_before, is_less};
 pub use steadiness::steady_time;

@@ -19,8 +19,8 @@ fn count_of(c: &Curve, end: Frac) -> u64
     count_below(c.pieces(), c.tail(), end)
 }
 
-/// How many pieces, or pairs of pieces, a call looks at below a window's end, up to the largest u64, also where the answer is
-/// known at once. No memory is taken and nothing is unrolled.
+/// How many pieces, or pairs of pieces, a call looks at below a window's end, up to the largest u64, also where the
+/// answer is known at once. No memory is taken and nothing is unrolled.
 pub fn tally_over(op: &OpKind, f: &Curve, g: &Curve, end: Frac) -> u64
     ensures { result ≡ min (tally_over op.now f.now g.now end) (2 ^ 64 - 1) }
 {
@@ -32,8 +32,10 @@ pub fn tally_over(op: &OpKind, f: &Curve, g: &Curve, end: Frac) -> u64
     }
 }
 
-/// How many pieces, or pairs of pieces, a call looks at within a window; the largest u64 where it is more. 0 where the answer is
-/// known at once, and without a window. No memory is taken and nothing is unrolled.
+/// How many pieces, or pairs of pieces, a call looks at within a window; the largest u64 where it is more. 0 where the
+/// answer is known at once, and without a window. No memory is taken and nothing is unrolled. For a horizontal
+/// deviation it is that of the operator for curves that rise, which the operator asks for: where one falls somewhere,
+/// an answer that is known only because f ends above g at rates of 0 counts as not known at once.
 pub fn tally(op: OpKind, f: &Curve, g: &Curve, window: Window) -> u64
     ensures known { IsKnownAtOnce op f.now g.now → result ≡ 0 }
     ensures none { window ≡ None → result ≡ 0 }
@@ -51,7 +53,8 @@ pub fn tally(op: OpKind, f: &Curve, g: &Curve, window: Window) -> u64
 
 /// The gauge over a window's end. None where it is 2^128 or more.
 fn gauge_over(op: &OpKind, f: &Curve, g: &Curve, end: Frac) -> Option<u128>
-    ensures { MatchOption result (2 ^ 128 ≤ gauge_over op.now f.now g.now end) (λ k. k ≡ gauge_over op.now f.now g.now end) }
+    ensures { MatchOption result (2 ^ 128 ≤ gauge_over op.now f.now g.now end)
+        (λ k. k ≡ gauge_over op.now f.now g.now end) }
 {
     match call_numbers(op, f, g, end) {
         Some(numbers) => Some(numbers.gauge),
@@ -59,8 +62,9 @@ fn gauge_over(op: &OpKind, f: &Curve, g: &Curve, end: Frac) -> Option<u128>
     }
 }
 
-/// The gauge of a call within a window: no number on the way to its answer has a numerator or a denominator of many more
-/// digits. None where it is 2^128 or more; also without a window. 0 where the answer is known at once. No memory is taken.
+/// The gauge of a call within a window: no number on the way to its answer has a numerator or a denominator of many
+/// more digits. None where it is 2^128 or more; also without a window. 0 where the answer is known at once. No memory
+/// is taken. For a horizontal deviation it is that of the operator for curves that rise, as `tally` says.
 pub fn gauge(op: OpKind, f: &Curve, g: &Curve, window: Window) -> Option<u128>
     ensures known { IsKnownAtOnce op f.now g.now → result ≡ Some 0 }
     ensures none { ¬ (IsKnownAtOnce op f.now g.now) → window ≡ None → result ≡ None }

@@ -103,7 +103,8 @@ impl Long {
 
     /// The sum, where that is below 2^512.
     pub(crate) fn plus(self, other: Long) -> Long
-        ensures { long_value self + long_value other < 2 ^ 512 → long_value result ≡ long_value self + long_value other }
+        ensures { long_value self + long_value other < 2 ^ 512
+            → long_value result ≡ long_value self + long_value other }
     {
         let (ones, over) = sum_step(self.ones, other.ones, 0);
         let (twos, over) = sum_step(self.twos, other.twos, over);

@@ -20,8 +20,10 @@ use std::cmp::Ordering;
 // The time a period after the start of p, where p's values repeat in the piece `last`.
 fn repeats_in(p: &Piece, last: &Piece, period: Frac, rise: Frac) -> Option<Frac>
     requires moved { LaterFits period rise p.now }
-    requires reached { last.now.line ≡ line_later period rise p.now.line → LineFitsAt (p.now.x +ℚ period) last.now.line }
-    ensures { MatchOption result (¬ (RepeatsIn p.now last.now period rise)) (λ end. RepeatsIn p.now last.now period rise × (end ≡ p.now.x +ℚ period)) }
+    requires reached { last.now.line ≡ line_later period rise p.now.line
+        → LineFitsAt (p.now.x +ℚ period) last.now.line }
+    ensures { MatchOption result (¬ (RepeatsIn p.now last.now period rise))
+        (λ end. RepeatsIn p.now last.now period rise × (end ≡ p.now.x +ℚ period)) }
 {
     let moved = later(period, rise, p);
     match last.x.cmp(&moved.x) {
@@ -76,7 +78,8 @@ pub(crate) fn lowest_rank(cycle: Cycle) -> Cycle
     requires first { cycle.first ≡ length (upto cycle.rank cycle.pieces.items) }
     requires fits { StepsFit cycle.pieces.items cycle.rank cycle.period cycle.rise }
     ensures period { (result.period ≡ cycle.period) × (result.rise ≡ cycle.rise) }
-    ensures lowest { IsLowest cycle.pieces.items result.pieces.items result.rank result.period result.rise cycle.rank (repeated (read cycle.pieces.items) cycle.rank cycle.period cycle.rise) }
+    ensures lowest { IsLowest cycle.pieces.items result.pieces.items result.rank result.period result.rise cycle.rank
+        (repeated (read cycle.pieces.items) cycle.rank cycle.period cycle.rise) }
 {
     let period = cycle.period;
     let rise = cycle.rise;

@@ -36,11 +36,13 @@ fn merged_after(alloc: Global, first: Piece, rest: &[Piece]) -> Result<Vec<Piece
     Ok(kept)
 }
 
-/// The pieces with neighbours joined that are one piece: these read as before, and no piece goes on with the one before it.
+/// The pieces with neighbours joined that are one piece: these read as before, and no piece goes on with the one before
+/// it.
 pub(crate) fn merged(alloc: Global, pieces: &[Piece]) -> Result<Vec<Piece>, AllocError>
     requires starts { StartsAtZero pieces.now }
     requires fits { Each (λ q. LineFitsAt q.x q.line) pieces.now }
-    ensures { (p : Piece) (ps : List Piece) → pieces.now ≡ p ∷ ps → IfOk result (λ v. (kept : List Piece) × (v.items ≡ p ∷ kept) × IsMerged p ps kept) }
+    ensures { (p : Piece) (ps : List Piece) → pieces.now ≡ p ∷ ps
+        → IfOk result (λ v. (kept : List Piece) × (v.items ≡ p ∷ kept) × IsMerged p ps kept) }
 {
     merged_after(alloc, pieces[0], &pieces[1..])
 }

@@ -4,6 +4,7 @@ ghost use Rattle.std.specs.Prelude.{◌≡◌};
 ghost use Rattle.upp_curve.specs.Gauges.{tallied, operands_of};
 
 use fraction128::{Ext, Frac};
+use std::alloc::AllocError;
 
 /// What a call computes of its operands f and g. A kind with one operand does not look at g.
 #[derive(Debug, Clone, Copy)]
@@ -52,6 +53,17 @@ pub enum OpFault {
     TooWide,
     /// An allocation was refused.
     NoMemory,
+}
+
+impl From<AllocError> for OpFault {
+    ghost use Rattle.std.specs.Prelude.{◌≡◌};
+    ghost use Rattle.upp_curve.specs.declared.op_kind.OpFault.TheVariants.{NoMemory};
+
+    ghost from_gives = { λ _ e. e ≡ NoMemory };
+
+    fn from(_e: AllocError) -> OpFault {
+        OpFault::NoMemory
+    }
 }
 
 /// Of which unrolled pieces the tally of a kind is made.

@@ -11,10 +11,10 @@ ghost use Rattle.upp_curve.specs.ClosedOperands.{closed_operands};
 
 use crate::curve::{Curve, Tail};
 use crate::curve_numbers::with_curve;
+use crate::fitting::sum;
 use crate::gathered::Gathered;
 use crate::op_kind::Operands;
 use crate::scaled_numbers::with_scaled;
-use crate::shape::readable_sum;
 use fraction128::Frac;
 
 /// Where the next piece starts after the last one: a period after the rank, or at the rank of an infinite tail.
@@ -22,7 +22,7 @@ fn after_last(c: &Curve) -> Option<Frac>
     ensures { result ≡ end_of c.now.tail }
 {
     match c.tail() {
-        Tail::Periodic { rank, period, .. } => Some(readable_sum(*rank, *period)),
+        Tail::Periodic { rank, period, .. } => Some(sum(*rank, *period)),
         Tail::Affine { .. } => None,
         Tail::Infinite { rank } => Some(*rank),
     }
@@ -38,7 +38,8 @@ fn with_one(g: Gathered, c: &Curve, end: Frac) -> Option<Gathered>
 
 /// The numbers of a curve times a factor more.
 fn with_factor(g: Gathered, factor: Frac, c: &Curve, end: Frac) -> Option<Gathered>
-    ensures value { IfSome result (λ r. (n : Numbers) → Gathers g n → Gathers r (joined n (closed_numbers end (scaled_curve factor c.now)))) }
+    ensures value { IfSome result (λ r. (n : Numbers) → Gathers g n
+        → Gathers r (joined n (closed_numbers end (scaled_curve factor c.now)))) }
     ensures fits { (z : Sizes) → HeldBy z end (curve_numbers end (scaled_curve factor c.now)) → IsSome result }
 {
     with_scaled(g, factor, c.pieces(), c.tail(), &after_last(c), end)
@@ -52,7 +53,8 @@ pub(crate) fn with_operands(
     other: &Curve,
     end: Frac,
 ) -> Option<Gathered>
-    ensures value { IfSome result (λ r. (n : Numbers) → Gathers g n → Gathers r (joined n (closed_operands operands end f.now other.now))) }
+    ensures value { IfSome result (λ r. (n : Numbers) → Gathers g n
+        → Gathers r (joined n (closed_operands operands end f.now other.now))) }
     ensures fits { (z : Sizes) → HeldBy z end (operand_numbers operands end f.now other.now) → IsSome result }
 {
     match operands {

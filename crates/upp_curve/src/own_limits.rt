@@ -19,7 +19,8 @@ pub enum OverLimit {
     TooWide,
 }
 
-/// The limit that a curve by itself, in whatever form it is given, is over; None where it is over neither. No memory is taken.
+/// The limit that a curve by itself, in whatever form it is given, is over; None where it is over neither. No memory is
+/// taken.
 pub fn over_own_limit(pieces: &[Piece], tail: &Tail) -> Option<OverLimit>
     requires { let c : SpecCurve = record { pieces = pieces.now; tail = tail.now } in IsRaw c }
     ensures { let c : SpecCurve = record { pieces = pieces.now; tail = tail.now } in

@@ -1,6 +1,6 @@
 //! A curve by itself: the end of its window, and its gauge, in whatever form it is given.
 
-ghost use Rattle.std.specs.Prelude.{◌≡◌, ◌^◌, ◌≤◌, pos, IfSome, IsSome, MatchOption};
+ghost use Rattle.std.specs.Prelude.{◌≡◌, ◌^◌, ◌≤◌, pos, false, IfNone, IfSome, IsSome, MatchOption};
 ghost use Rattle.rational.specs.Rational.{ℚ, int, ◌+ℚ◌, ◌≤ℚ◌};
 ghost use Rattle.rational.specs.declared.Extended.TheVariants.{Inf};
 ghost use Rattle.affine_segment.specs.Values.{line_value};
@@ -13,7 +13,8 @@ ghost use Rattle.upp_curve.specs.Spans.{end_of};
 ghost use Rattle.rational.specs.Ratio.{SumFits};
 ghost use Rattle.upp_curve.specs.Normal.{IsRaw, StartsAtZero};
 ghost use Rattle.upp_curve.specs.Gathered.{Gathers};
-ghost use Rattle.upp_curve.specs.Limits.{Numbers, joined, time_alone, own_end, own_gauge, own_sizes, gauge_of, sizes_of, curve_numbers};
+ghost use Rattle.upp_curve.specs.Limits.{Numbers, joined, time_alone, own_end, own_gauge, own_sizes, gauge_of};
+ghost use Rattle.upp_curve.specs.Limits.{sizes_of, curve_numbers};
 ghost use Rattle.upp_curve.specs.Seen.{RankLineFits};
 
 use crate::curve::Tail;
@@ -59,10 +60,11 @@ pub(crate) fn is_infinite_at(last: &Piece, rank: Frac) -> bool
     }
 }
 
-/// The rank, or one later unless `keeps`.
+/// The rank, or one later unless `keeps`. None exactly where that is one later and does not fit.
 pub(crate) fn later_unless(keeps: bool, rank: Frac) -> Option<Frac>
     ensures value { IfSome result (λ t. t ≡ later_unless keeps rank) }
     ensures fits { SumFits rank (int (pos 1)) → IsSome result }
+    ensures none { IfNone result ((keeps ≡ false) × ¬ (SumFits rank (int (pos 1)))) }
 {
     if keeps {
         return Some(rank);
@@ -95,8 +97,8 @@ fn own_end(last: &Piece, tail: &Tail) -> Option<Frac>
     }
 }
 
-/// The numbers that limit a call on a curve by itself: the end of its window, its gauge, and the grids of its times and of its
-/// values.
+/// The numbers that limit a call on a curve by itself: the end of its window, its gauge, and the grids of its times and
+/// of its values.
 #[derive(Debug, Clone, Copy)]
 pub(crate) struct OwnNumbers {
     pub end: Frac,
@@ -121,8 +123,8 @@ pub(crate) fn numbers_of(g: Gathered, end: Frac) -> Option<OwnNumbers>
     }
 }
 
-// The numbers of a curve with a window, in whatever form it is given; None where the gauge is 2^128 or more. `after` is where
-// the next piece starts after the last.
+// The numbers of a curve with a window, in whatever form it is given; None where the gauge is 2^128 or more. `after` is
+// where the next piece starts after the last.
 fn numbers_with(
     pieces: &[Piece],
     tail: &Tail,

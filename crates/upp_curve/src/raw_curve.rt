@@ -6,7 +6,8 @@ ghost use Rattle.upp_curve.specs.Curve.{repeated, value_at, HasSameValues};
 ghost use Rattle.upp_curve.specs.Normal.{StartsAtZero, NoMerge, FitsPeriod, IsRaw};
 ghost use Rattle.upp_curve.specs.Readable.{EachFits};
 ghost use Rattle.upp_curve.specs.Limits.{own_gauge, own_tally};
-ghost use Rattle.upp_curve.specs.Normalising.{HasValues, IsTwoPeriods, IsTurning, OnGrids, OnGridsUnlessLine, TailOnGrids, cycle_values, raw_curve};
+ghost use Rattle.upp_curve.specs.Normalising.{HasValues, IsTwoPeriods, IsTurning, OnGrids, OnGridsUnlessLine};
+ghost use Rattle.upp_curve.specs.Normalising.{TailOnGrids, cycle_values, raw_curve};
 ghost use Rattle.upp_curve.specs.Room.{Room, PiecesHaveRoom, TwoHaveRoom, CycleHasRoom, TurnHasRoom, TailHasRoom};
 
 use crate::counts::count_below;
@@ -22,8 +23,8 @@ use affine_segment::Piece;
 use fraction128::Frac;
 use std::alloc::{AllocError, Global};
 
-/// A curve in any form: its first piece starts at 0, starts rise, and the rank is 0 or more. Of a periodic tail the period is
-/// above 0 and all starts are below rank + period; of any other tail all starts are at most the rank.
+/// A curve in any form: its first piece starts at 0, starts rise, and the rank is 0 or more. Of a periodic tail the
+/// period is above 0 and all starts are below rank + period; of any other tail all starts are at most the rank.
 #[derive(Drop)]
 pub struct RawCurve {
     /// The pieces in the order of their starts.
@@ -126,8 +127,8 @@ fn of_periodic(
     Ok(of_two_periods(pieces, rank, period, rise, times, values))
 }
 
-/// The normal form of a curve each of whose periods, unless its tail is one line, is a whole multiple of 1 / times, and its
-/// rise of 1 / values.
+/// The normal form of a curve each of whose periods, unless its tail is one line, is a whole multiple of 1 / times, and
+/// its rise of 1 / values.
 pub fn normalise_on(
     alloc: Global,
     raw: &RawCurve,
@@ -155,14 +156,17 @@ pub fn normalise_on(
     }
 }
 
-/// The normal form of a curve in any form: the one curve that has its values. Refused with TooWide exactly where the curve's
-/// gauge, by itself as it is given, is 2^120 or more, and with TooMany exactly where that is not so and its tally is above 2^20.
+/// The normal form of a curve in any form: the one curve that has its values. Refused with TooWide exactly where the
+/// curve's gauge, by itself as it is given, is 2^120 or more, and with TooMany exactly where that is not so and its
+/// tally is above 2^20.
 pub fn normalise(raw: RawCurve) -> Result<Curve, OpFault>
     requires { IsRaw (raw_curve raw) }
     ensures kept { IfOk result (λ c. HasSameValues c (raw_curve raw)) }
     ensures wide { 2 ^ 120 ≤ own_gauge (raw_curve raw) → result ≡ Err OpFault.TooWide }
-    ensures many { own_gauge (raw_curve raw) < 2 ^ 120 → 2 ^ 20 < own_tally (raw_curve raw) → result ≡ Err OpFault.TooMany }
-    ensures inside { own_gauge (raw_curve raw) < 2 ^ 120 → own_tally (raw_curve raw) ≤ 2 ^ 20 → IfErr result (λ e. e ≡ OpFault.NoMemory) }
+    ensures many { own_gauge (raw_curve raw) < 2 ^ 120 → 2 ^ 20 < own_tally (raw_curve raw)
+        → result ≡ Err OpFault.TooMany }
+    ensures inside { own_gauge (raw_curve raw) < 2 ^ 120 → own_tally (raw_curve raw) ≤ 2 ^ 20
+        → IfErr result (λ e. e ≡ OpFault.NoMemory) }
 {
     let Some(own) = own_numbers(&raw.pieces, &raw.tail) else {
         return Err(OpFault::TooWide);
@@ -174,8 +178,5 @@ pub fn normalise(raw: RawCurve) -> Result<Curve, OpFault>
         return Err(OpFault::TooMany);
     }
     let alloc = *raw.pieces.allocator();
-    match normalise_on(alloc, &raw, own.times, own.values) {
-        Ok(c) => Ok(c),
-        Err(_) => Err(OpFault::NoMemory),
-    }
+    Ok(normalise_on(alloc, &raw, own.times, own.values)?)
 }

@@ -14,7 +14,8 @@ ghost use Rattle.upp_curve.specs.Gathered.{Gathers};
 ghost use Rattle.upp_curve.specs.Seen.{Knows};
 ghost use Rattle.upp_curve.specs.ClosedForm.{closed_span, closed_spans, closed_numbers};
 ghost use Rattle.upp_curve.specs.Gauges.{scaled_line, scaled_piece, scaled_tail, scaled_curve};
-ghost use Rattle.upp_curve.specs.ClosedOperands.{ValueScales, LineScales, PieceScales, TailScales, scaled_span, KnowsTimes, KnowsScaled};
+ghost use Rattle.upp_curve.specs.ClosedOperands.{ValueScales, LineScales, PieceScales, TailScales, scaled_span};
+ghost use Rattle.upp_curve.specs.ClosedOperands.{KnowsTimes, KnowsScaled};
 
 use crate::curve::Tail;
 use crate::curve_numbers::{next_start, piece_read, with_below, with_tail};
@@ -107,8 +108,10 @@ fn with_scaled_below(
     requires start { int (pos 0) ≤ℚ piece.now.x }
     requires period { HasPeriod tail.now }
     ensures value { let span : Span = record { piece = piece.now; next = next.now } in
-        IfSome result (λ r. (n : Numbers) → Gathers g n → Gathers r (joined n (closed_span tail.now end (scaled_span factor span)))) }
-    ensures fits { let span : Span = record { piece = piece.now; next = next.now } in KnowsTimes factor tail.now end span → IsSome result }
+        IfSome result (λ r. (n : Numbers) → Gathers g n
+        → Gathers r (joined n (closed_span tail.now end (scaled_span factor span)))) }
+    ensures fits { let span : Span = record { piece = piece.now; next = next.now } in
+        KnowsTimes factor tail.now end span → IsSome result }
 {
     if !is_less(piece.x, end) {
         return Some(g);
@@ -147,8 +150,8 @@ fn with_scaled_pieces(
     Some(found)
 }
 
-/// A curve times a factor more, as far as its pieces and their copies start before `end`. `after` is where the next piece
-/// starts after the last.
+/// A curve times a factor more, as far as its pieces and their copies start before `end`. `after` is where the next
+/// piece starts after the last.
 pub(crate) fn with_scaled(
     g: Gathered,
     factor: Frac,
@@ -161,8 +164,10 @@ pub(crate) fn with_scaled(
     requires period { HasPeriod tail.now }
     requires after { after.now ≡ end_of tail.now }
     ensures value { let c : SpecCurve = record { pieces = pieces.now; tail = tail.now } in
-        IfSome result (λ r. (n : Numbers) → Gathers g n → Gathers r (joined n (closed_numbers end (scaled_curve factor c)))) }
-    ensures fits { let c : SpecCurve = record { pieces = pieces.now; tail = tail.now } in KnowsScaled factor end c → IsSome result }
+        IfSome result (λ r. (n : Numbers) → Gathers g n
+        → Gathers r (joined n (closed_numbers end (scaled_curve factor c)))) }
+    ensures fits { let c : SpecCurve = record { pieces = pieces.now; tail = tail.now } in
+        KnowsScaled factor end c → IsSome result }
 {
     match scaled_tail(tail, factor) {
         Some(times) => with_scaled_pieces(with_tail(g, &times), factor, pieces, &times, after, end),

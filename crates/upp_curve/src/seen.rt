@@ -48,7 +48,8 @@ fn limit_before(line: Option<Line>, next: &Option<Frac>) -> Option<Ext>
 
 /// The values of a piece up to the next start.
 pub(crate) fn seen_values(piece: &Piece, next: &Option<Frac>) -> Option<Seen>
-    ensures value { let span : Span = record { piece = piece.now; next = next.now } in IfSome result (λ s. s ≡ seen_of span) }
+    ensures value { let span : Span = record { piece = piece.now; next = next.now } in
+        IfSome result (λ s. s ≡ seen_of span) }
     ensures fits { let span : Span = record { piece = piece.now; next = next.now } in SpanFits span → IsSome result }
 {
     Some(Seen {

@@ -4,15 +4,15 @@ ghost use Rattle.std.specs.Prelude.{◌≡◌, ◌↔◌, pos, ◌∷◌, IsTrue
 ghost use Rattle.rational.specs.Rational.{int, ◌+ℚ◌, ◌≤ℚ◌};
 ghost use Rattle.rational.specs.Ratio.{SumFits};
 ghost use Rattle.rational.specs.Extended.{◌≤ₑ◌, ◌+ₑ◌};
-ghost use Rattle.affine_segment.specs.Values.{line_at};
 ghost use Rattle.upp_curve.specs.Reading.{read};
 ghost use Rattle.upp_curve.specs.Normal.{Each, HasStart, StartsAtZero};
 ghost use Rattle.upp_curve.specs.Readable.{LineFits, LineFitsAt, LineFitsTo, EachFits, SumFitsAt};
 ghost use Rattle.upp_curve.specs.Steady.{slope_of, last_line};
-ghost use Rattle.upp_curve.specs.Shapes.{IsNumber, IsFinitePiece, EndsBelow, PieceRises, PiecesRise, end_time};
+ghost use Rattle.upp_curve.specs.Shapes.{IsFinitePiece, EndsBelow, PieceRises, PiecesRise, end_time};
 
-use crate::reading::{piece_at, raised};
-use affine_segment::{Line, Piece, value};
+use crate::fitting::{raised, readable_value, sum};
+use crate::reading::piece_at;
+use affine_segment::{Line, Piece};
 use fraction128::{Ext, Frac};
 use rational::Extended;
 use std::cmp::Ordering;
@@ -43,17 +43,6 @@ pub(crate) fn are_finite(pieces: &[Piece]) -> bool
         }
     }
     true
-}
-
-// The value of a line whose steps fit.
-pub(crate) fn readable_value(line: &Line, t: Frac) -> Frac
-    requires { LineFits t line.now }
-    ensures { result ≡ line_at line.now t }
-{
-    match value(line, t) {
-        Ok(v) => v,
-        Err(_) => t,
-    }
 }
 
 fn at_most(a: Ext, b: Ext) -> bool
@@ -138,28 +127,6 @@ pub(crate) fn rise_to(pieces: &[Piece], end: Option<End>) -> bool
     }
 }
 
-// A sum whose steps fit.
-pub(crate) fn readable_sum(a: Frac, b: Frac) -> Frac
-    requires { SumFits a b }
-    ensures { result ≡ a +ℚ b }
-{
-    match Frac::add(a, b) {
-        Ok(sum) => sum,
-        Err(_) => a,
-    }
-}
-
-// A value risen by a step that fits.
-fn readable_rise(v: Ext, by: Frac) -> Ext
-    requires { SumFitsAt v by }
-    ensures { result ≡ v +ₑ Extended.Fin by }
-{
-    match raised(v, by) {
-        Ok(sum) => sum,
-        Err(_) => Extended::Inf,
-    }
-}
-
 // The end of the first period of a periodic tail: the value there is that at the rank, risen.
 pub(crate) fn period_end(pieces: &[Piece], rank: Frac, period: Frac, rise: Frac) -> End
     requires starts { StartsAtZero pieces.now }
@@ -172,8 +139,8 @@ pub(crate) fn period_end(pieces: &[Piece], rank: Frac, period: Frac, rise: Frac)
 {
     let first = piece_at(pieces, rank).at;
     End {
-        x: readable_sum(rank, period),
-        at: readable_rise(first, rise),
+        x: sum(rank, period),
+        at: raised(first, rise),
     }
 }
 

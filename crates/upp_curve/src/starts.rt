@@ -33,7 +33,7 @@ fn cross_end(u: u128, b: u128, q: u128) -> Long
 
 /// Whether a is less than b.
 #[inline]
-pub(crate) fn is_less(a: Frac, b: Frac) -> bool
+pub fn is_less(a: Frac, b: Frac) -> bool
     ensures test { result ≡ lt_q a b }
     ensures less { IsTrue result ↔ (a <ℚ b) }
 {

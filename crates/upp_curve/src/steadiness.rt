@@ -1,7 +1,7 @@
 //! From when on a curve repeats.
 
-ghost use Rattle.std.specs.Prelude.{◌≡◌, pos, IfSome, IsSome};
-ghost use Rattle.rational.specs.Rational.{int};
+ghost use Rattle.std.specs.Prelude.{◌≡◌, pos, IfNone, IfSome, IsSome};
+ghost use Rattle.rational.specs.Rational.{◌+ℚ◌, int};
 ghost use Rattle.rational.specs.Ratio.{SumFits};
 ghost use Rattle.upp_curve.specs.Steady.{rank_of, steady};
 
@@ -9,11 +9,14 @@ use crate::curve::{Curve, Tail};
 use crate::own_window::{is_infinite_at, keeps_line, later_unless};
 use fraction128::Frac;
 
-/// From when on a curve repeats with each of its periods: its rank; 1 later where the value at the rank of an affine tail is
-/// not its line's, or that of an infinite tail is finite. None only where rank + 1 does not fit.
+/// From when on a curve repeats with each of its periods: its rank; 1 later where the value at the rank of an affine
+/// tail is not its line's, or that of an infinite tail is finite. None exactly where that is rank + 1 and does not fit;
+/// so never for a periodic tail.
 pub fn steady_time(c: &Curve) -> Option<Frac>
     ensures value { IfSome result (λ t. t ≡ steady c.now) }
     ensures fits { SumFits (rank_of c.now.tail) (int (pos 1)) → IsSome result }
+    ensures none { IfNone result ((steady c.now ≡ rank_of c.now.tail +ℚ int (pos 1))
+        × ¬ (SumFits (rank_of c.now.tail) (int (pos 1)))) }
 {
     let pieces = c.pieces();
     let last = &pieces[pieces.len() - 1];

@@ -31,7 +31,8 @@ fn cut_at(pieces: &[Piece], t: Frac) -> Piece
     }
 }
 
-/// The pieces of a periodic curve below rank + 2 period: those given, and a second copy of what is read from the rank on.
+/// The pieces of a periodic curve below rank + 2 period: those given, and a second copy of what is read from the rank
+/// on.
 pub(crate) fn two_periods(
     alloc: Global,
     given: &[Piece],
@@ -44,7 +45,8 @@ pub(crate) fn two_periods(
     requires read { ReadFits given.now rank }
     requires cut { (p : Piece) (ps : List Piece) → given.now ≡ p ∷ ps → LaterFits period rise (cut_at p ps rank) }
     requires copies { Each (λ p. rank <ℚ p.x → LaterFits period rise p) given.now }
-    ensures { (p : Piece) (ps : List Piece) → given.now ≡ p ∷ ps → IfOk result (λ v. v.items ≡ p ∷ (ps ++ second_copy p ps rank period rise)) }
+    ensures { (p : Piece) (ps : List Piece) → given.now ≡ p ∷ ps
+        → IfOk result (λ v. v.items ≡ p ∷ (ps ++ second_copy p ps rank period rise)) }
 {
     let cut = cut_at(given, rank);
     let mut pieces = Vec::from_slice(alloc, given)?;

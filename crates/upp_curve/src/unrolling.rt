@@ -1,7 +1,7 @@
 //! The pieces of a curve that start before a time, its periods written out.
 
-ghost use Rattle.std.specs.Prelude.{◌≡◌, ◌<◌, ◌≤◌, ◌^◌, ◌++◌, [], pos, OnOk, IfOk, IfErr, Err};
-ghost use Rattle.rational.specs.Rational.{ℚ, int, ◌*ℚ◌, ◌≤ℚ◌, ◌<ℚ◌};
+ghost use Rattle.std.specs.Prelude.{◌≡◌, ◌<◌, ◌≤◌, ◌^◌, ◌++◌, [], length, pos, OnOk, IfOk, IfErr, Err};
+ghost use Rattle.rational.specs.Rational.{ℚ, int, ◌*ℚ◌, ◌≤ℚ◌};
 ghost use Rattle.upp_curve.specs.declared.curve.Tail.TheVariants.{Periodic};
 ghost use Rattle.upp_curve.specs.Normal.{StartsAtZero, FitsPeriod};
 ghost use Rattle.upp_curve.specs.Unrolled.{each_later, from, unroll, unrolled, upto};
@@ -44,7 +44,8 @@ fn push_copies(
     end: Frac,
 ) -> Result<(), AllocError>
     requires { TurnFits n period rise end turn.now }
-    ensures { OnOk result (kept.new.items ≡ kept.old.items ++ upto end (each_later (int (pos n) *ℚ period) (int (pos n) *ℚ rise) turn.now)) }
+    ensures { OnOk result (kept.new.items ≡ kept.old.items
+        ++ upto end (each_later (int (pos n) *ℚ period) (int (pos n) *ℚ rise) turn.now)) }
 {
     let times = Frac::from_whole(n as i128);
     let by = product(times, period);
@@ -82,8 +83,9 @@ fn with_copies(
 }
 
 impl Curve {
-    /// The pieces that start before `end`, in the order of their starts, with the periods of a periodic tail written out: each
-    /// copy is made from its piece by one move. It needs numbers of a gauge below 2^120 for a window that ends there.
+    /// The pieces that start before `end`, in the order of their starts, with the periods of a periodic tail written
+    /// out: each copy is made from its piece by one move. It needs numbers of a gauge below 2^120 for a window that
+    /// ends there.
     pub fn unrolled(&self, end: Frac) -> Result<Vec<Piece>, AllocError>
         requires { IsOperandTo end self.now }
         ensures { IfOk result (λ v. v.items ≡ unroll self.now end) }
@@ -97,16 +99,20 @@ impl Curve {
         }
     }
 
-    /// The pieces that start before h, its periods written out; none where h is 0 or less. Refused with TooWide exactly where the
-    /// gauge of the curve for a window that ends at h is 2^120 or more, and with TooMany exactly where that is not so and more than
-    /// 2^20 pieces start before h.
+    /// The pieces that start before h, its periods written out; none where h is 0 or less. They are as many as the
+    /// tally of the curve by itself counts below h. Refused with TooWide exactly where the gauge of the curve for a
+    /// window that ends at h is 2^120 or more, and with TooMany exactly where that is not so and more than 2^20 pieces
+    /// start before h.
     pub fn pieces_to(&self, h: Frac) -> Result<Vec<Piece>, OpFault>
         ensures pieces { IfOk result (λ v. v.items ≡ unroll self.now h) }
+        ensures number { IfOk result (λ v. length v.items ≡ tally_over OpKind.Itself self.now self.now h) }
         ensures none { h ≤ℚ int (pos 0) → IfOk result (λ v. v.items ≡ []) }
         ensures wide { 2 ^ 120 ≤ gauge_over OpKind.Itself self.now self.now h → result ≡ Err OpFault.TooWide }
-        ensures many { gauge_over OpKind.Itself self.now self.now h < 2 ^ 120 → 2 ^ 20 < tally_over OpKind.Itself self.now self.now h
+        ensures many { gauge_over OpKind.Itself self.now self.now h < 2 ^ 120
+            → 2 ^ 20 < tally_over OpKind.Itself self.now self.now h
             → result ≡ Err OpFault.TooMany }
-        ensures inside { gauge_over OpKind.Itself self.now self.now h < 2 ^ 120 → tally_over OpKind.Itself self.now self.now h ≤ 2 ^ 20
+        ensures inside { gauge_over OpKind.Itself self.now self.now h < 2 ^ 120
+            → tally_over OpKind.Itself self.now self.now h ≤ 2 ^ 20
             → IfErr result (λ e. e ≡ OpFault.NoMemory) }
     {
         let Some(size) = gauge(OpKind::Itself, self, self, Some(h)) else {
@@ -122,9 +128,6 @@ impl Curve {
         if is_less(h, Frac::zero()) {
             return Ok(Vec::new(alloc));
         }
-        match self.unrolled(h) {
-            Ok(pieces) => Ok(pieces),
-            Err(_) => Err(OpFault::NoMemory),
-        }
+        Ok(self.unrolled(h)?)
     }
 }

@@ -1,5 +1,5 @@
 use Rattle.std.specs.Prelude.{◌≡◌, IfSome}
-use Rattle.std.proofs.Common.{subst}
+use Rattle.std.proofs.Common.{subst, arith}
 use Rattle.rational.proofs.Laws.{le_of_lt}
 use Rattle.affine_segment.specs.Values.{line_at}
 use Rattle.affine_segment.proofs.Compared.{is_less, not_less}
@@ -11,6 +11,7 @@ lower_crossing-requires-clause-steep c = le_of_lt (is_less c.cmp.result c.cmp.en
 
 pub lower_crossing-requires-in_default : goal.lower_crossing-requires-in_default
 lower_crossing-requires-in_default c = record {
+  apart = λ e. let n = c.in_ok-cross.ensures.parallel.1 e in let s = c.in-Some.is in grind (arith, n, s);
   steep = not_less c.cmp.result c.cmp.ensures.ranks c.in_default.not-Less;
   meet = subst (λ o. IfSome o (λ t. line_at c.args.a.now t ≡ line_at c.args.b.now t)) c.in-Some.is c.in_ok-cross.ensures.meet;
 }

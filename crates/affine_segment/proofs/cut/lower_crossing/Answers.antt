@@ -5,7 +5,7 @@ use Rattle.affine_segment.proofs.cut.lower_crossing.Goals as goal
 
 pub returns-then-is_before : goal.returns-then-is_before
 returns-then-is_before c =
-    crossing_cut c.args.steep c.args.shallow c.args.x c.args.from c.args.to c.requires.steep c.requires.meet
+    crossing_cut c.args.steep c.args.shallow c.args.x c.args.from c.args.to c.requires.steep c.requires.apart c.requires.meet
     (is_less c.cmp.result c.cmp.ensures.ranks c.in-Less.is) (c.is_before.ensures.0 c.if-is_before.true)
 
 pub returns-else-is_before : goal.returns-else-is_before

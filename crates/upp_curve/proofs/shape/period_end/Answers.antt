@@ -5,10 +5,10 @@ use Rattle.upp_curve.specs.Readable.{SumFitsAt}
 use Rattle.upp_curve.proofs.RisingCurves.{read_at_start}
 use Rattle.upp_curve.proofs.shape.period_end.Goals as goal
 
-pub readable_rise-requires : goal.readable_rise-requires
-readable_rise-requires c =
+pub raised-requires : goal.raised-requires
+raised-requires c =
     subst (λ v. SumFitsAt v c.args.rise) (sym (read_at_start c.args.pieces.now c.piece_at-first.result c.args.rank c.requires.starts c.requires.start c.piece_at-first.ensures)) c.requires.next
 
 pub returns-clause-at : goal.returns-clause-at
 returns-clause-at c =
-    c.readable_rise.ensures ∙ ap (λ v. v +ₑ Fin c.args.rise) (read_at_start c.args.pieces.now c.piece_at-first.result c.args.rank c.requires.starts c.requires.start c.piece_at-first.ensures)
+    c.raised.ensures ∙ ap (λ v. v +ₑ Fin c.args.rise) (read_at_start c.args.pieces.now c.piece_at-first.result c.args.rank c.requires.starts c.requires.start c.piece_at-first.ensures)

@@ -1,7 +1,7 @@
 use Rattle.std.proofs.Common.{◌≡◌, ◌∙◌, sym, subst, ap}
 use Rattle.std.specs.Option.{IfSome}
-use Rattle.upp_curve.specs.Steady.{later_unless}
-use Rattle.upp_curve.proofs.SteadyStart.{IsLast, periodic_steady, affine_steady, infinite_steady, affine_line}
+use Rattle.upp_curve.specs.Steady.{later_unless, rank_of}
+use Rattle.upp_curve.proofs.SteadyStart.{IsLast, periodic_steady, affine_steady, infinite_steady, affine_line, steady_none, not_answered}
 use Rattle.upp_curve.proofs.steadiness.steady_time.Goals as goal
 
 pub returns-in-Periodic-clause-value : goal.returns-in-Periodic-clause-value
@@ -24,3 +24,24 @@ returns-in-Infinite-clause-value c =
     let last : IsLast c.args.c.now c.pieces-pieces.result.now c.index-pieces-pieces.result = record { pieces = c.pieces-pieces.ensures.pieces; place = c.index-pieces-pieces.is } in
     let e = infinite_steady c.args.c.now c.pieces-pieces.result.now c.index-pieces-pieces.result c.in-Infinite.rank c.tail.ensures.kept last (sym c.tail.ensures.tail ∙ c.in-Infinite.is) in
     subst (λ s. IfSome c.later_unless-in-Infinite.result (λ t. t ≡ s)) (ap (λ b. later_unless b c.in-Infinite.rank) c.is_infinite_at.ensures ∙ e) c.later_unless-in-Infinite.ensures.value
+
+pub returns-in-Some-clause-none : goal.returns-in-Some-clause-none
+returns-in-Some-clause-none c =
+    let last : IsLast c.args.c.now c.pieces-pieces.result.now c.index-pieces-pieces.result = record { pieces = c.pieces-pieces.ensures.pieces; place = c.index-pieces-pieces.is } in
+    let tail = sym c.tail.ensures.tail ∙ c.in-Affine.is in
+    let e = affine_steady c.args.c.now c.pieces-pieces.result.now c.index-pieces-pieces.result c.in-Affine.rank c.tail.ensures.kept last tail in
+    steady_none c.later_unless.result c.args.c.now c.in-Some.keeps c.in-Affine.rank (ap rank_of tail)
+    (ap (λ b. later_unless b c.in-Affine.rank) c.in-Some.ensures.value ∙ e) c.later_unless.ensures.none
+
+pub returns-in-None-clause-none : goal.returns-in-None-clause-none
+returns-in-None-clause-none c =
+    let last : IsLast c.args.c.now c.pieces-pieces.result.now c.index-pieces-pieces.result = record { pieces = c.pieces-pieces.ensures.pieces; place = c.index-pieces-pieces.is } in
+    absurd (not_answered (c.in-None.ensures.fits (affine_line c.args.c.now c.pieces-pieces.result.now c.index-pieces-pieces.result c.in-Affine.rank c.tail.ensures.kept last (sym c.tail.ensures.tail ∙ c.in-Affine.is))))
+
+pub returns-in-Infinite-clause-none : goal.returns-in-Infinite-clause-none
+returns-in-Infinite-clause-none c =
+    let last : IsLast c.args.c.now c.pieces-pieces.result.now c.index-pieces-pieces.result = record { pieces = c.pieces-pieces.ensures.pieces; place = c.index-pieces-pieces.is } in
+    let tail = sym c.tail.ensures.tail ∙ c.in-Infinite.is in
+    let e = infinite_steady c.args.c.now c.pieces-pieces.result.now c.index-pieces-pieces.result c.in-Infinite.rank c.tail.ensures.kept last tail in
+    steady_none c.later_unless-in-Infinite.result c.args.c.now c.is_infinite_at.result c.in-Infinite.rank (ap rank_of tail)
+    (ap (λ b. later_unless b c.in-Infinite.rank) c.is_infinite_at.ensures ∙ e) c.later_unless-in-Infinite.ensures.none

@@ -6,6 +6,7 @@ use Rattle.upp_curve.specs.Gauges.{gauge_over}
 use Rattle.upp_curve.proofs.Compared.{not_less_out}
 use Rattle.upp_curve.proofs.GaugeRises.{first_operand}
 use Rattle.upp_curve.proofs.UnrolledPieces.{unroll_none}
+use Rattle.upp_curve.proofs.UnrolledCounts.{number_of}
 use Rattle.upp_curve.proofs.curve.Curve.pieces_to.Goals as goal
 
 pub returns-then-is_less-clause-pieces : goal.returns-then-is_less-clause-pieces
@@ -24,5 +25,17 @@ unrolled-requires c =
     let small : gauge_over Itself f f h < 2 ^ 120 = omega arith in
     first_operand Itself f f h late small
 
-pub returns-in-Ok-clause-none : goal.returns-in-Ok-clause-none
-returns-in-Ok-clause-none c = λ low. c.in-Ok.ensures ∙ unroll_none c.args.self.now c.args.h low c.allocator-alloc.ensures.normal
+pub returns-clause-none : goal.returns-clause-none
+returns-clause-none c = λ low. c.in_ok-unrolled.ensures ∙ unroll_none c.args.self.now c.args.h low c.allocator-alloc.ensures.normal
+
+pub returns-then-is_less-clause-number : goal.returns-then-is_less-clause-number
+returns-then-is_less-clause-number c =
+    let f = c.args.self.now in
+    let h = c.args.h in
+    let early : h <ℚ int (pos 0) = subst (λ x. h <ℚ x) c.zero.ensures (c.is_less.ensures.less.0 c.if-is_less.true) in
+    let normal = c.allocator-alloc.ensures.normal in
+    number_of f h c.new.result.items normal (c.new.ensures.items ∙ sym (unroll_none f h (le_of_lt early) normal))
+
+pub returns-clause-number : goal.returns-clause-number
+returns-clause-number c =
+    number_of c.args.self.now c.args.h c.in_ok-unrolled.field-0.items c.allocator-alloc.ensures.normal c.in_ok-unrolled.ensures
