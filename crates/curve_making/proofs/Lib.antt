@@ -1,4 +1,3 @@
-pub mod Again
 pub mod Applied
 pub mod InTurn
 pub mod SameAnswers

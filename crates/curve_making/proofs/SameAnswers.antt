@@ -10,7 +10,8 @@ use Rattle.upp_curve.specs.Curve.{SpecCurve, value_at}
 use Rattle.upp_curve.proofs.OneForm.{normal_unique}
 use Rattle.curve_making.specs.Answers.{IsAnswer, IsMadeBy}
 
-pub answer_unique : (op : OpKind) (f g : ℚ → Ext) (t : ℚ) (v w : Ext) → IsAnswer op f g t v → IsAnswer op f g t w → v ≡ w
+pub answer_unique : (op : OpKind) (f g : ℚ → Ext) (t : ℚ) (v w : Ext) → IsAnswer op f g t v → IsAnswer op f g t w → v
+    ≡ w
 answer_unique Sum f g t v w h k = h ∙ sym k
 answer_unique Min f g t v w h k = h ∙ sym k
 answer_unique Max f g t v w h k = h ∙ sym k

@@ -1,5 +1,6 @@
--- What each kind of call makes of its operands, value by value; and what it is that a curve is made by a call. (The kinds are those of Le Boudec and
--- Thiran, chapter 3, and of the residual services; one word for all of them is own choice.)
+-- What each kind of call makes of its operands, value by value; and what it is that a curve is made by a call. (The
+-- kinds are those of Le Boudec and Thiran, chapter 3, and of the residual services; one word for all of them is own
+-- choice.)
 use Rattle.rational.specs.Rational.{ℚ, ◌≤ℚ◌}
 use Rattle.rational.specs.Extended.{Ext}
 use Rattle.upp_curve.specs.declared.op_kind.OpKind.{OpKind}

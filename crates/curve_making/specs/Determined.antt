@@ -16,8 +16,8 @@ IsDetermined {A} P = (r s : Result A OpFault) → P r → P s → r ≢ Err NoMe
 abbrev pub AreDetermined : (SpecCurve → Result SpecCurve OpFault → Type 0) → Type 0
 AreDetermined Q = (c : SpecCurve) → IsDetermined (Q c)
 
--- one call makes at most one curve, and what it answers is determined: a curve, too many and too wide exclude each other; want of memory too excludes
--- the two limits
+-- one call makes at most one curve, and what it answers is determined: a curve, too many and too wide exclude each
+-- other; want of memory too excludes the two limits
 pub record AppliesIsDetermined : Type 0 where
   pub curve : (op : OpKind) (f g h k : SpecCurve) → IsMadeBy op f g h → IsMadeBy op f g k → h ≡ k
   pub limits : (op : OpKind) (f g : SpecCurve) → IsCauseOf op f g TooMany → IsCauseOf op f g TooWide → ⊥

@@ -1,5 +1,5 @@
-//! How calls on curves follow one another: what one call answers, what a call and then another answers, and that such answers are
-//! determined. There is no arithmetic here.
+//! How calls on curves follow one another: what one call answers, what a call and then another answers, and that such
+//! answers are determined. There is no arithmetic here.
 #![tactic(auto)]
 
 mod kept;

@@ -1,8 +1,6 @@
 //! The trait of calls can be met.
 
-ghost use Rattle.std.specs.Prelude.{◌≡◌, MatchResult};
-ghost use Rattle.upp_curve.specs.declared.op_kind.OpFault.TheVariants.{NoMemory};
-ghost use Rattle.curve_making.proofs.Again.{again_determined};
+ghost use Rattle.curve_making.specs.Again.{IsAgain, again_determined};
 
 use crate::{Making, calls_in_turn, seen};
 use affine_segment::{Line, Piece};
@@ -17,7 +15,7 @@ use upp_curve::{Curve, OpFault, RawCurve, Tail, equal, normalise};
 struct Again {}
 
 impl Making for Again {
-    ghost answers = { λ c r. MatchResult r (λ d. d ≡ c) (λ fault. fault ≡ NoMemory) };
+    ghost answers = { IsAgain };
 
     ghost determined = { again_determined };
 

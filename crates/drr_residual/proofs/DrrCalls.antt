@@ -24,9 +24,11 @@ scaled_finite q f c finite made t p =
 
 -- the two calls by the numbers that the code has
 pub made : (β d : SpecCurve) (quanta longest : List ℕ) (i : ℕ) (q l : ℚ) (r : Result SpecCurve OpFault)
-    → q ≡ share_in quanta i → l ≡ owed_in quanta longest i → AppliesTo (Scale q) β (Ok d) → AppliesTo (PosMinus l) d r → MakesDrr β quanta longest i r
+    → q ≡ share_in quanta i → l ≡ owed_in quanta longest i → AppliesTo (Scale q) β (Ok d) → AppliesTo (PosMinus l) d
+    r → MakesDrr β quanta longest i r
 made β d quanta longest i q l r e f first second =
-    goes_on d (subst (λ (x : ℚ). AppliesTo (Scale x) β (Ok d)) e first) (subst (λ (x : ℚ). AppliesTo (PosMinus x) d r) f second)
+    goes_on d (subst (λ (x : ℚ). AppliesTo (Scale x) β (Ok d)) e first) (subst (λ (x : ℚ). AppliesTo (PosMinus x) d
+    r) f second)
 
 pub service_is : (β c : SpecCurve) (quanta longest : List ℕ) (i : ℕ) → MakesDrr β quanta longest i (Ok c)
     → IsDrrService (value_at β) quanta longest i (value_at c)
@@ -34,7 +36,8 @@ service_is β c quanta longest i (goes_on d first second) t p =
     second.made.answers t p ∙ ap (λ (v : Ext). excess v (Fin (owed_in quanta longest i))) (first.made.answers t p)
 service_is β c quanta longest i (stops fault a b) t p = absurd (let e : Ok c ≡ Err fault = b in cc)
 
-pub ok_service : (β : SpecCurve) (quanta longest : List ℕ) (i : ℕ) (r : Result SpecCurve OpFault) → MakesDrr β quanta longest i r
+pub ok_service : (β : SpecCurve) (quanta longest : List ℕ) (i : ℕ) (r : Result SpecCurve OpFault) → MakesDrr β quanta
+    longest i r
     → IfOk r (λ c. IsDrrService (value_at β) quanta longest i (value_at c))
 ok_service β quanta longest i (Ok c) made = service_is β c quanta longest i made
 ok_service β quanta longest i (Err fault) made = tt

@@ -14,11 +14,12 @@ use std::sync::ledger::Ledger;
 use steps::Steps;
 use upp_curve::{Curve, OpFault};
 
-/// The service of one queue of a deficit round robin server whose curve is `beta`: with the queue's quantum Q, the sum F of the
-/// quanta, the queue's longest packet l and the sum L of all queues' longest packets, at each time the greater of 0 and
-/// (Q beta - Q (L - l) - (F - Q) (Q + l)) / F (Bouillard, Boyer and Le Corronc). All are bits. Two operators, `scale` and then
-/// `pos_minus`, one step each; a refusal is that of the first that is over its limit, with TooWide or TooMany, or want of memory.
-/// beta is finite; there are 1 to 8 quanta of 1 to 2^24 bits, as many longest packets, and the queue is one of them.
+/// The service of one queue of a deficit round robin server whose curve is `beta`: with the queue's quantum Q, the
+/// sum F of the quanta, the queue's longest packet l and the sum L of all queues' longest packets, at each time the
+/// greater of 0 and (Q beta - Q (L - l) - (F - Q) (Q + l)) / F (Bouillard, Boyer and Le Corronc). All are bits. Two
+/// operators, `scale` and then `pos_minus`, one step each; a refusal is that of the first that is over its limit,
+/// with TooWide or TooMany, or want of memory. beta is finite; there are 1 to 8 quanta of 1 to 2^24 bits, as many
+/// longest packets, and the queue is one of them.
 pub fn drr_service<L: Ledger>(
     alloc: Global,
     beta: &Curve,

@@ -42,8 +42,8 @@ fn longest_sum(longest: &[u32]) -> u64
     total
 }
 
-// What is owed, times the sum of the quanta: while a queue has its turn p times, each other queue may have it p + 1 times, and may have saved up to a
-// packet of its own.
+// What is owed, times the sum of the quanta: while a queue has its turn p times, each other queue may have it p + 1
+// times, and may have saved up to a packet of its own.
 fn owed_bits(own: u64, packet: u64, all: u64, packets: u64) -> u64
     requires quantum { own ≤ all }
     requires quanta { all ≤ 2 ^ 27 }

@@ -25,7 +25,8 @@ same_service C f g end view same serves t l =
       s,
       record {
         earlier = is.earlier;
-        kept_up = subst (λ (v : Ext). (Fin (arrived C view s) +ₑ v) ≤ₑ Fin (departed C view t)) (sym (same (t -ℚ s) (span_nonneg s t is.earlier))) is.kept_up;
+        kept_up = subst (λ (v : Ext). (Fin (arrived C view s) +ₑ v) ≤ₑ Fin (departed C view t)) (sym (same (t -ℚ s)
+            (span_nonneg s t is.earlier))) is.kept_up;
       },
     )
 

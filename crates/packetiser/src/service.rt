@@ -16,9 +16,9 @@ use std::sync::ledger::Ledger;
 use steps::Steps;
 use upp_curve::{Curve, OpFault};
 
-/// The service of whole packets by a server whose curve is `beta`: at each time the greater of 0 and beta less `l`, the bits of
-/// the longest packet (Le Boudec and Thiran, packetisers). beta is finite. One operator, one step; it is refused with TooWide or
-/// TooMany exactly where the operator is over that limit, else only for want of memory.
+/// The service of whole packets by a server whose curve is `beta`: at each time the greater of 0 and beta less `l`,
+/// the bits of the longest packet (Le Boudec and Thiran, packetisers). beta is finite. One operator, one step; it is
+/// refused with TooWide or TooMany exactly where the operator is over that limit, else only for want of memory.
 pub fn packetised<L: Ledger>(
     alloc: Global,
     beta: &Curve,

@@ -1,5 +1,6 @@
--- The three calls that make the service of a priority queue: what the service has above the higher queues' curve, that less one packet of the lower
--- queues, and its running supremum. (Le Boudec and Thiran, non-preemptive priority; the order of the calls is own choice.)
+-- The three calls that make the service of a priority queue: what the service has above the higher queues' curve,
+-- that less one packet of the lower queues, and its running supremum. (Le Boudec and Thiran, non-preemptive priority;
+-- the order of the calls is own choice.)
 use Rattle.std.specs.Prelude.{◌≡◌, ℕ, List, Result, Ok}
 use Rattle.rational.specs.Rational.{ℚ}
 use Rattle.upp_curve.specs.declared.op_kind.OpKind.TheVariants.{PosDiff, PosMinus, RunSup}
@@ -25,10 +26,13 @@ MakesPriority β higher lower r = Then (LeavesPriority β higher lower) (Applies
 abbrev pub PriorityIsDetermined : Type 0
 PriorityIsDetermined = (β higher : SpecCurve) (lower : ℕ) → IsDetermined (MakesPriority β higher lower)
 
--- the curve c that the calls make of the server's curve, the higher queues' curve and the lower queues' longest packet serves the queue
+-- the curve c that the calls make of the server's curve, the higher queues' curve and the lower queues' longest
+-- packet serves the queue
 abbrev pub PriorityCurveServes : Type 0
-PriorityCurveServes = (server : Server) (end : ℚ) (view : List ServerStep) (queues i lower : ℕ) (β higher c : SpecCurve) →
+PriorityCurveServes = (server : Server) (end : ℚ) (view : List ServerStep)
+    (queues i lower : ℕ) (β higher c : SpecCurve) →
     MakesPriority β higher lower (Ok c) →
-    IsLawfulView server end view → server.discipline ≡ Priority queues → KeepsService (value_at β) end view → IsZeroAtStart (value_at β) →
+    IsLawfulView server end view → server.discipline ≡ Priority queues → KeepsService (value_at β) end view →
+    IsZeroAtStart (value_at β) →
     KeepsArrivals (before_queue i) (value_at higher) view → KeepsSizes (after_queue i) lower view →
     Serves (of_queue i) (value_at c) end view

@@ -21,7 +21,8 @@ fn whole(bits: u32) -> Frac
     Frac::from_whole(i128::from(bits))
 }
 
-// What the service has above the higher queues' curve, less one packet of the lower queues. Its first curve is let go here.
+// What the service has above the higher queues' curve, less one packet of the lower queues. Its first curve is let go
+// here.
 fn priority_left<L: Ledger>(
     alloc: Global,
     beta: &Curve,
@@ -39,10 +40,10 @@ fn priority_left<L: Ledger>(
     seen(pos_minus(alloc, &above, whole(lower), steps))
 }
 
-/// The service of one queue of a priority server whose curve is `beta`: the running supremum of what beta has above `higher`, the
-/// curve of the queues before it, and above one packet of the queues after it, which has at most `lower` bits (Le Boudec and
-/// Thiran, non-preemptive priority). Three operators in that order, one step each; a refusal is that of the first that is over
-/// its limit, with TooWide or TooMany, or want of memory. beta is finite.
+/// The service of one queue of a priority server whose curve is `beta`: the running supremum of what beta has above
+/// `higher`, the curve of the queues before it, and above one packet of the queues after it, which has at most
+/// `lower` bits (Le Boudec and Thiran, non-preemptive priority). Three operators in that order, one step each; a
+/// refusal is that of the first that is over its limit, with TooWide or TooMany, or want of memory. beta is finite.
 pub fn priority_service<L: Ledger>(
     alloc: Global,
     beta: &Curve,

@@ -9,7 +9,8 @@ pub unwrap-requires : goal.unwrap-requires
 unwrap-requires c =
     let a : to_z w128 c.args.n ≡ pos c.args.n = omega (arith, ints) in
     let b : to_z w128 c.args.d ≡ pos c.args.d = omega (arith, ints) in
-    new_ok c.new.result (to_z w128 c.args.n) (to_z w128 c.args.d) c.args.n c.args.d a b c.requires (omega arith) (omega arith)
+    new_ok c.new.result (to_z w128 c.args.n) (to_z w128 c.args.d) c.args.n c.args.d a b c.requires (omega arith)
+    (omega arith)
     c.new.ensures.zero c.new.ensures.big
 
 pub returns : goal.returns

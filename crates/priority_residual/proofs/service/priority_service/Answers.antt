@@ -22,17 +22,23 @@ run_sup-requires-clause-nonneg g c =
 pub returns-clause-answer : goal.returns-clause-answer
 returns-clause-answer g c =
     goes_on c.in_ok-left.left c.in_ok-left.ensures.answer
-    (applied_seen RunSup c.in_ok-left.left c.in_ok-left.left c.run_sup.result c.seen.result c.seen.ensures.same c.run_sup.ensures.value
+    (applied_seen RunSup c.in_ok-left.left c.in_ok-left.left c.run_sup.result c.seen.result c.seen.ensures.same
+    c.run_sup.ensures.value
     c.run_sup.ensures.limits c.seen.ensures.kept)
 
 pub returns-clause-value : goal.returns-clause-value
 returns-clause-value g c =
     ok_service c.args.beta.now c.args.higher.now c.args.lower c.seen.result
     (goes_on c.in_ok-left.left c.in_ok-left.ensures.answer
-    (applied_seen RunSup c.in_ok-left.left c.in_ok-left.left c.run_sup.result c.seen.result c.seen.ensures.same c.run_sup.ensures.value
+    (applied_seen RunSup c.in_ok-left.left c.in_ok-left.left c.run_sup.result c.seen.result c.seen.ensures.same
+    c.run_sup.ensures.value
     c.run_sup.ensures.limits c.seen.ensures.kept))
 
 pub returns-clause-all : goal.returns-clause-all
 returns-clause-all g c =
-    let steps : c.run_sup.new.steps ≡ c.args.steps.now + 3 = omega (arith, c.in_ok-left.ensures.all, c.run_sup.ensures.count) in
+    let steps : c.run_sup.new.steps ≡ c.args.steps.now + 3 = omega (
+      arith,
+      c.in_ok-left.ensures.all,
+      c.run_sup.ensures.count,
+    ) in
     if_ok c.seen.result steps
