@@ -7,7 +7,7 @@ ghost use Rattle.drr_residual.specs.Calls.{AreQueues, share_in, owed_in};
 
 use fraction128::Frac;
 
-/// What a queue gets of each bit of service, and how many bits of that it is owed before.
+/// What a queue gets of each bit of service, and how many bits are taken from that first.
 #[derive(Debug, Clone, Copy)]
 pub(crate) struct Turn {
     pub share: Frac,
@@ -56,7 +56,7 @@ fn owed_bits(own: u64, packet: u64, all: u64, packets: u64) -> u64
     saved + turns
 }
 
-/// The share of a queue and what it is owed. Nothing is too big for a fraction.
+/// The share of a queue, and what is owed to the others before it. Nothing is too big for a fraction.
 pub(crate) fn turn_of(quanta: &[u64], longest: &[u32], queue: usize) -> Turn
     requires queues { AreQueues quanta.now longest.now }
     requires queue { queue < length quanta.now }
