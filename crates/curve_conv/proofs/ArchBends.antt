@@ -1,5 +1,5 @@
 -- Pieces that bend only downwards between the times of a grid: where they repeat, the periods stand on that grid.
-use Rattle.std.specs.Prelude.{◌≡◌, ℕ, suc, ◌<◌, ◌*◌, pos, true, false, List, [], ◌∷◌, Option, Some, None, ◌⊎◌}
+use Rattle.std.specs.Prelude.{◌≡◌, ℕ, suc, ◌<◌, ◌*◌, pos, false, List, [], ◌∷◌, Option, Some, None, ◌⊎◌}
 use Rattle.std.proofs.Common.{arith, sym, ap, ap₂, ◌∙◌, refl, subst, inl, inr}
 use Rattle.std.proofs.lemmas.Int.{ints}
 use Prim.Native.Nat.{◌∣◌}
@@ -7,12 +7,11 @@ use native.Mathlib.Nat.{mul_comm as nat_comm}
 use Rattle.rational.specs.Rational.{ℚ, ◌+ℚ◌, ◌-ℚ◌, ◌*ℚ◌, ◌/ℚ◌, ◌≤ℚ◌, ◌<ℚ◌, int}
 use Rattle.rational.specs.Grid.{Whole}
 use Rattle.rational.specs.Whole.{whole_part}
-use Rattle.rational.specs.MinMax.{min_q, max_q}
 use Rattle.rational.specs.Extended.{Ext, ◌≤ₑ◌, ◌+ₑ◌}
 use Rattle.rational.specs.declared.Extended.TheVariants.{Fin, Inf}
-use Rattle.rational.proofs.Linear.{with1, with2, with3, with4, with5, with6, with7}
-use Rattle.rational.proofs.Laws.{le_or_lt, lt_cases, le_refl, le_trans, le_of_lt, lt_le_trans, le_lt_trans, antisym, between, half, half_is, half_pos, mul_add, mul_sub, div_mul, mul_nonneg, mul_le_mul, mul_lt_mul_right, le_of_mul, lt_of_mul, not_zero}
-use Rattle.rational.proofs.Integers.{nat_nonneg, nat_lt, nat_next, int_lt_out}
+use Rattle.rational.proofs.Linear.{with1, with2, with3, with4, with5, with7}
+use Rattle.rational.proofs.Laws.{le_or_lt, lt_cases, le_refl, le_trans, le_of_lt, between, half, half_is, half_pos, mul_add, mul_sub, div_mul, mul_nonneg, mul_lt_mul_right, le_of_mul, lt_of_mul, not_zero}
+use Rattle.rational.proofs.Integers.{nat_nonneg, nat_lt, int_lt_out}
 use Rattle.rational.proofs.Whole.{whole_le, whole_gt}
 use Rattle.affine_segment.specs.declared.line.Line.{Line}
 use Rattle.affine_segment.specs.declared.line.Piece.{Piece}

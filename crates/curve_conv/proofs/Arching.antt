@@ -1,11 +1,11 @@
 -- What two elements make bends only downwards between the times of a grid on which they start and end, and so does the lesser of two such functions.
-use Rattle.std.specs.Prelude.{◌≡◌, ℕ, pos, Option, Some, None, ◌⊎◌}
-use Rattle.std.proofs.Common.{arith, sym, ap, ap₂, ◌∙◌, refl, subst, inl, inr}
+use Rattle.std.specs.Prelude.{◌≡◌, ℕ, pos, Option, Some, None}
+use Rattle.std.proofs.Common.{arith, sym, ap, ap₂, ◌∙◌, subst, inl, inr}
 use Rattle.rational.specs.Rational.{ℚ, ◌+ℚ◌, ◌-ℚ◌, ◌*ℚ◌, ◌≤ℚ◌, ◌<ℚ◌, int}
 use Rattle.rational.specs.Grid.{Whole}
 use Rattle.rational.specs.Extended.{Ext, ◌≤ₑ◌, ◌<ₑ◌, ◌+ₑ◌, min_ext}
 use Rattle.rational.specs.declared.Extended.TheVariants.{Fin, Inf}
-use Rattle.rational.proofs.Linear.{with2, with3, with4, with5}
+use Rattle.rational.proofs.Linear.{with3, with5}
 use Rattle.rational.proofs.Laws.{le_or_lt, le_trans, le_of_lt, lt_le_trans, le_lt_trans, mul_add, mul_sub}
 use Rattle.rational.proofs.ExtendedOrder.{same_le_ext, le_ext_trans, le_inf, add_le_ext, min_left, min_right, min_one}
 use Rattle.affine_segment.specs.declared.line.Line.{Line}
@@ -13,10 +13,10 @@ use Rattle.affine_segment.specs.declared.element.Element.{Element}
 use Rattle.affine_segment.specs.declared.element.Element.TheVariants.{Point, Open}
 use Rattle.affine_segment.specs.declared.element.Joined.{Joined}
 use Rattle.affine_segment.specs.Values.{line_at}
-use Rattle.affine_segment.specs.Elements.{Covers, level, element_value, part_value, joined_value}
+use Rattle.affine_segment.specs.Elements.{Covers, element_value, part_value, joined_value}
 use Rattle.affine_segment.proofs.ElementValues.{value_in, value_cases}
 use Rattle.upp_curve.specs.Limits.{Sizes}
-use Rattle.curve_conv.specs.ElementRoom.{SumTime, SumEnd, SumElement, SumPart, SumJoined}
+use Rattle.curve_conv.specs.ElementRoom.{SumEnd, SumElement, SumPart, SumJoined}
 use Rattle.curve_conv.specs.Arches.{IsBare, IsAround, Arches}
 
 -- ---- functions

@@ -25,8 +25,8 @@ use Rattle.upp_curve.specs.Limits.{Sizes}
 use Rattle.upp_curve.specs.Sized.{IsSlope, grid_of, times_largest}
 use Rattle.upp_curve.specs.Ahead.{IsGridValue}
 use Rattle.upp_curve.specs.Operand.{AreLimited, OperandLine}
-use Rattle.upp_curve.proofs.AnswerRoom.{OperandValue, operand_line_value, stands_operand_value, values_fit, value_sum_stands, more_largest}
-use Rattle.upp_curve.proofs.NarrowSizes.{IsNarrow, narrow_gauge, small_number, small_sum, run_whole, run_within, value_whole, value_within}
+use Rattle.upp_curve.proofs.AnswerRoom.{OperandValue, operand_line_value, values_fit, value_sum_stands, more_largest}
+use Rattle.upp_curve.proofs.NarrowSizes.{IsNarrow, narrow_gauge, small_number, small_sum, run_whole, run_within}
 use Rattle.curve_conv.specs.ElementRoom.{WindowTime, WindowEnd, OperandPoint, OperandSegment, OperandElement, SumTime, SumEnd, SumValue, SumLine, SumElement, SumJoined}
 
 -- ---- the sizes

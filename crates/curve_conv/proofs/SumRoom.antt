@@ -1,6 +1,5 @@
 -- The pieces of a window of sums have the room of its call's answer.
-use Rattle.std.specs.Prelude.{◌*◌, pos, List}
-use Prim.Native.Nat.{◌∣◌}
+use Rattle.std.specs.Prelude.{List}
 use Rattle.std.proofs.Common.{arith}
 use Rattle.rational.specs.Rational.{ℚ}
 use Rattle.rational.specs.Extended.{Ext}

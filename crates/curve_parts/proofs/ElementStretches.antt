@@ -1,23 +1,21 @@
 -- How an element, infinite at other times, goes on from a time.
-use Rattle.std.specs.Prelude.{◌≡◌, ◌⊎◌, Option, Some, None}
-use Rattle.std.proofs.Common.{sym, ap, ◌∙◌, refl, subst, inl, inr}
-use Rattle.rational.specs.Rational.{ℚ, ◌≤ℚ◌, ◌<ℚ◌}
+use Rattle.std.specs.Prelude.{◌≡◌, Some, None}
+use Rattle.std.proofs.Common.{sym, ap, ◌∙◌, subst, inl, inr}
+use Rattle.rational.specs.Rational.{ℚ, ◌<ℚ◌}
 use Rattle.rational.specs.Extended.{Ext, ◌<ₑ◌}
 use Rattle.rational.specs.declared.Extended.TheVariants.{Fin, Inf}
-use Rattle.rational.proofs.Laws.{le_refl, le_of_lt, lt_trans, lt_irrefl, lt_le_trans}
-use Rattle.rational.proofs.ExtendedOrder.{lt_ext_trans, lt_le_ext}
+use Rattle.rational.proofs.Laws.{lt_trans, lt_irrefl}
+use Rattle.rational.proofs.ExtendedOrder.{lt_ext_trans}
 use Rattle.affine_segment.specs.declared.line.Line.{Line}
 use Rattle.affine_segment.specs.declared.element.Element.{Element}
 use Rattle.affine_segment.specs.declared.element.Element.TheVariants.{Point, Open}
-use Rattle.affine_segment.specs.declared.element.Joined.{Joined}
-use Rattle.affine_segment.specs.Values.{line_at, line_value}
-use Rattle.affine_segment.specs.Elements.{IsProper, Covers, level, element_value, part_value, joined_value, AreAdjoined}
+use Rattle.affine_segment.specs.Values.{line_at}
+use Rattle.affine_segment.specs.Elements.{Covers, element_value}
 use Rattle.affine_segment.proofs.ElementValues.{value_in, value_cases}
-use Rattle.upp_curve.specs.declared.ahead.Stretch.{Stretch}
 use Rattle.upp_curve.specs.Limits.{Sizes}
 use Rattle.upp_curve.specs.Ahead.{GoesOn, IsBeforeNext, AtNext}
 use Rattle.upp_curve.specs.Readable.{LineFits}
-use Rattle.curve_conv.specs.ElementRoom.{SumTime, SumEnd, SumPoint, SumSegment, SumElement, SumPart, SumJoined}
+use Rattle.curve_conv.specs.ElementRoom.{SumEnd, SumPoint, SumSegment}
 use Rattle.curve_conv.specs.SumWindows.{SumValueAt}
 use Rattle.curve_conv.proofs.PairWindows.{sum_value_on}
 use Rattle.curve_conv.proofs.SumSteps.{line_fits_at, line_value_on}

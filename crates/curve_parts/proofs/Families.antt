@@ -1,9 +1,9 @@
 -- Families of sums, as their infima go on from a time: of two together, and of others with the same finite sums.
-use Rattle.std.specs.Prelude.{◌≡◌, ◌⊎◌, Option, None}
+use Rattle.std.specs.Prelude.{◌⊎◌, None}
 use Rattle.std.proofs.Common.{refl}
 use Rattle.rational.specs.Rational.{ℚ, ◌≤ℚ◌, ◌<ℚ◌}
 use Rattle.rational.specs.Extended.{Ext, min_ext}
-use Rattle.rational.specs.declared.Extended.TheVariants.{Fin, Inf}
+use Rattle.rational.specs.declared.Extended.TheVariants.{Inf}
 use Rattle.rational.specs.Families.{either}
 use Rattle.rational.proofs.Bounds.{infimum_union, all_infinite}
 use Rattle.upp_curve.specs.declared.ahead.Stretch.{Stretch}

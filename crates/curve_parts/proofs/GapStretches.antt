@@ -1,18 +1,15 @@
 -- The gap of two sums on one stretch: its steps fit, and it stands.
-use Rattle.std.specs.Prelude.{◌≡◌, ◌⊎◌, ℕ, ◌*◌, ◌<◌, ◌≤◌, pos, Option, Some, None}
-use Rattle.std.proofs.Common.{arith, sym, ap, ap₂, ◌∙◌, refl, subst, inl, inr}
-use Rattle.rational.specs.Rational.{ℚ, ◌-ℚ◌, ◌≤ℚ◌, ◌<ℚ◌, int}
-use Rattle.rational.specs.MinMax.{max_q}
-use Rattle.rational.specs.Grid.{Whole, Within}
+use Rattle.std.specs.Prelude.{◌≡◌, ◌*◌}
+use Rattle.std.proofs.Common.{arith, sym, subst, inl, inr}
+use Rattle.rational.specs.Rational.{ℚ}
 use Rattle.rational.specs.Extended.{Ext}
 use Rattle.rational.specs.declared.Extended.TheVariants.{Fin, Inf}
-use Rattle.rational.proofs.Grid.{whole_sub, within_sub}
-use Rattle.rational.proofs.Laws.{le_of_lt, le_trans}
+use Rattle.rational.proofs.Grid.{whole_sub}
+use Rattle.rational.proofs.Laws.{le_of_lt}
 use Rattle.rational.proofs.MinMax.{max_q_one}
 use Rattle.affine_segment.specs.Values.{line_value}
 use Rattle.upp_curve.specs.declared.ahead.Stretch.{Stretch}
 use Rattle.upp_curve.specs.Limits.{Sizes}
-use Rattle.upp_curve.specs.Sized.{times_largest}
 use Rattle.upp_curve.specs.Operand.{AreLimited, answer_room}
 use Rattle.upp_curve.specs.Room.{TimeHasRoom}
 use Rattle.upp_curve.specs.Readable.{LineFitsAt}
@@ -22,9 +19,9 @@ use Rattle.curve_least.specs.declared.gaps.Gap.TheVariants.{NoTime, Never, Is}
 use Rattle.curve_least.specs.GapSteps.{gap_of, larger, DifferenceFits}
 use Rattle.curve_conv.specs.SumWindows.{SumValueAt}
 use Rattle.curve_conv.proofs.ElementSizes.{gap_within}
-use Rattle.curve_conv.proofs.SumSteps.{time_room, place_room, line_fits_to, line_value_to}
+use Rattle.curve_conv.proofs.SumSteps.{place_room, line_fits_to, line_value_to}
 use Rattle.curve_conv.proofs.SumLower.{room_apart}
-use Rattle.curve_parts.specs.Stretches.{SumPlace, SumStretch, SumTimeIn}
+use Rattle.curve_parts.specs.Stretches.{SumStretch, SumTimeIn}
 use Rattle.curve_parts.specs.PartGaps.{IsPartGap, PartGapStands, SumTimeTo}
 
 apart_differ : (x y : Ext) → ValueApartFits x y → DifferenceFits x y

@@ -1,10 +1,9 @@
 -- The gap of two parts of a convolution, stretch by stretch.
-use Rattle.std.specs.Prelude.{◌≡◌, ◌⊎◌, ℕ, ◌<◌, pos, Option, Some, None}
-use Rattle.std.proofs.Common.{arith, sym, ap, ◌∙◌, refl, subst, inl, inr}
-use Rattle.rational.specs.Rational.{ℚ, ◌+ℚ◌, ◌≤ℚ◌, ◌<ℚ◌, int}
+use Rattle.std.specs.Prelude.{◌≡◌, ◌<◌, pos, Option, Some, None}
+use Rattle.std.proofs.Common.{sym, ◌∙◌, refl, subst, inl, inr}
+use Rattle.rational.specs.Rational.{ℚ, ◌≤ℚ◌, ◌<ℚ◌, int}
 use Rattle.rational.specs.Extended.{Ext, ◌≤ₑ◌, ◌<ₑ◌, ◌+ₑ◌}
-use Rattle.rational.specs.declared.Extended.TheVariants.{Fin, Inf}
-use Rattle.rational.specs.MinMax.{min_q}
+use Rattle.rational.specs.declared.Extended.TheVariants.{Fin}
 use Rattle.rational.proofs.Bounds.{infimum_unique, same_infimum}
 use Rattle.rational.proofs.ExtendedOrder.{same_le_ext}
 use Rattle.rational.proofs.Laws.{le_refl, le_trans, le_of_lt, le_or_lt, lt_le_trans, le_lt_trans, antisym, le_of_not_lt, lt_irrefl}
@@ -19,11 +18,11 @@ use Rattle.curve_least.specs.declared.gaps.Gap.TheVariants.{NoTime, Never, Is}
 use Rattle.curve_least.specs.Gaps.{InWindow, IsGap}
 use Rattle.curve_least.specs.GapSteps.{larger, IsUntil, earlier_of}
 use Rattle.curve_least.proofs.GapParts.{window_more, window_none}
-use Rattle.curve_least.proofs.GapWalk.{NextTime, next_time, next_is, next_found}
+use Rattle.curve_least.proofs.GapWalk.{NextTime, next_is, next_found}
 use Rattle.curve_parts.specs.Parts.{PartSplit, part_sum, IsPart, FirstLate, FirstEarly}
 use Rattle.curve_parts.specs.PartGaps.{PartGapStands, SumTimeTo, ArePartValues, HavePartValues}
 use Rattle.curve_parts.specs.Scans.{InPart}
-use Rattle.curve_parts.specs.Stretches.{SumPlace, SumStretch, SumTimeIn, IsAhead}
+use Rattle.curve_parts.specs.Stretches.{SumPlace, IsAhead}
 use Rattle.curve_parts.proofs.GapStretches.{larger_stands}
 use Rattle.curve_parts.proofs.GridSteps.{steps_to, fewer_steps}
 use Rattle.curve_parts.proofs.WalkGrid.{walk_grid, grid_some, place_on}

@@ -1,28 +1,26 @@
 -- The least number of periods after which the convolution of two curves is the part in which the slower one repeats.
-use Rattle.std.specs.Prelude.{◌≡◌, ◌≢◌, ℕ, ◌*◌, ◌≤◌, pos, Option, Some, None, MatchOption}
+use Rattle.std.specs.Prelude.{◌≡◌, ℕ, ◌*◌, ◌≤◌, pos}
 use Prim.Native.Nat.{◌∣◌}
 use native.Mathlib.Nat.{mul-pos, mul-dvd-mul_right}
-use Rattle.std.proofs.Common.{arith, sym, ap, ◌∙◌, refl, subst, inl, inr, mul-le-mul_right}
+use Rattle.std.proofs.Common.{arith, sym, ap, ◌∙◌, refl, subst, mul-le-mul_right}
 use Rattle.rational.specs.Rational.{ℚ, ◌+ℚ◌, ◌-ℚ◌, ◌*ℚ◌, ◌/ℚ◌, ◌≤ℚ◌, ◌<ℚ◌, int, neg_ℚ}
 use Rattle.rational.specs.Ratio.{IsSmall, SumFits}
-use Rattle.rational.specs.Gauge.{size_up}
 use Rattle.rational.specs.Grid.{Whole, Within}
-use Rattle.rational.specs.Extended.{Ext, ◌≤ₑ◌, ◌<ₑ◌, ◌+ₑ◌}
+use Rattle.rational.specs.Extended.{Ext, ◌<ₑ◌, ◌+ₑ◌}
 use Rattle.rational.specs.declared.Extended.TheVariants.{Fin, Inf}
-use Rattle.rational.proofs.Linear.{with1, with2, with3, with4, with5}
-use Rattle.rational.proofs.Laws.{le_refl, le_trans, le_of_lt, not_zero}
-use Rattle.rational.proofs.Grid.{whole_neg, whole_sub, whole_add, whole_weaken, within_neg, within_weaken}
+use Rattle.rational.proofs.Linear.{with1, with3, with4, with5}
+use Rattle.rational.proofs.Laws.{le_refl, le_of_lt, not_zero}
+use Rattle.rational.proofs.Grid.{whole_neg, whole_sub, whole_add, whole_weaken, within_neg}
 use Rattle.rational.proofs.Integers.{nat_le, int_mul}
 use Rattle.rational.proofs.Sizes.{quotient_on_grid}
 use Rattle.rational.proofs.ExtendedOrder.{finite_sum}
 use Rattle.upp_curve.specs.Curve.{SpecCurve, value_at}
-use Rattle.upp_curve.specs.Curves.{IsCurve}
 use Rattle.upp_curve.specs.Limits.{Sizes}
 use Rattle.upp_curve.specs.Sized.{grid_of, times_largest}
 use Rattle.upp_curve.specs.Operand.{AreLimited}
 use Rattle.upp_curve.specs.Room.{top}
 use Rattle.upp_curve.specs.Periods.{periods_after}
-use Rattle.upp_curve.specs.Steady.{Repeats, steady, rate, rise_over}
+use Rattle.upp_curve.specs.Steady.{steady, rise_over}
 use Rattle.upp_curve.specs.Windows.{IsLeast}
 use Rattle.upp_curve.proofs.NarrowSizes.{small_sum}
 use Rattle.upp_curve.proofs.StretchSizes.{narrow}
@@ -30,16 +28,16 @@ use Rattle.upp_curve.proofs.Steady.{steady_rule}
 use Rattle.curve_frame.proofs.CurveRises.{IsRise, rise_is}
 use Rattle.curve_frame.proofs.CurveTimes.{steady_nonneg, steady_whole}
 use Rattle.curve_least.specs.Gaps.{InWindow, IsWithin, IsEndless, IsLargest}
-use Rattle.curve_least.proofs.LeastNumber.{gains, number_zero, number_least}
+use Rattle.curve_least.proofs.LeastNumber.{gains}
 use Rattle.curve_least.proofs.Shifts.{largest_bounds, none_bounds, endless_bounds, same_least, least_zero}
 use Rattle.curve_conv.specs.ElementRoom.{WindowTime}
 use Rattle.curve_conv.proofs.ElementSizes.{gap_within}
-use Rattle.curve_parts.specs.Parts.{PartSplit, part_sum, IsPart, FirstLate, FirstEarly}
+use Rattle.curve_parts.specs.Parts.{part_sum, IsPart, FirstLate, FirstEarly}
 use Rattle.curve_parts.specs.PartGaps.{IsPartGap, ArePartValues, HavePartValues}
-use Rattle.curve_parts.specs.Scans.{sizes_in, IsScan}
+use Rattle.curve_parts.specs.Scans.{sizes_in}
 use Rattle.curve_parts.specs.Late.{IsLateIn, IsLateAfter, IsLateNumber, IsLateCall}
 use Rattle.curve_parts.proofs.Repeating.{are_rising}
-use Rattle.curve_parts.proofs.LateShifts.{AreParts, after_in, after_out, late_later, Back, back, late_value, soon_value, values_are}
+use Rattle.curve_parts.proofs.LateShifts.{AreParts, after_in, after_out, late_later, back, late_value, soon_value, values_are}
 
 -- ---- times and rises
 pub record LateTimes (slow fast : SpecCurve) (from d end : ℚ) : Type 0 where

@@ -1,21 +1,20 @@
 -- Parts of a convolution some periods later, and the number of periods from the gap of both parts over one.
-use Rattle.std.specs.Prelude.{◌≡◌, ◌⊎◌, ◌↔◌, ℕ, suc, zero, ◌+◌, pos}
-use Rattle.std.proofs.Common.{arith, sym, ap, ap₂, ◌∙◌, refl, subst, inl, inr}
+use Rattle.std.specs.Prelude.{◌≡◌, ◌⊎◌, ℕ, suc, zero, pos}
+use Rattle.std.proofs.Common.{arith, sym, ap, ◌∙◌, subst, inl, inr}
 use Rattle.rational.specs.Rational.{ℚ, ◌+ℚ◌, ◌-ℚ◌, ◌*ℚ◌, ◌≤ℚ◌, ◌<ℚ◌, int}
-use Rattle.rational.specs.Extended.{Ext, ◌≤ₑ◌, ◌<ₑ◌, ◌+ₑ◌}
+use Rattle.rational.specs.Extended.{Ext, ◌≤ₑ◌, ◌+ₑ◌}
 use Rattle.rational.specs.declared.Extended.TheVariants.{Fin, Inf}
-use Rattle.rational.proofs.Linear.{with1, with2, with3, with4, with5}
-use Rattle.rational.proofs.Laws.{le_refl, le_trans, le_of_lt, le_or_lt, lt_irrefl, le_lt_trans, mul_nonneg, mul_sub, sub_add, zero_mul, add_zero}
+use Rattle.rational.proofs.Linear.{with1, with2, with3, with4}
+use Rattle.rational.proofs.Laws.{le_refl, le_trans, le_or_lt, lt_irrefl, le_lt_trans, mul_nonneg, mul_sub, sub_add, zero_mul}
 use Rattle.rational.proofs.Integers.{nat_nonneg}
 use Rattle.rational.proofs.Whole.{one_more_times}
-use Rattle.rational.proofs.ExtendedOrder.{same_le_ext, le_inf, le_ext_trans, add_assoc_ext, add_zero_ext}
+use Rattle.rational.proofs.ExtendedOrder.{le_inf, le_ext_trans, add_assoc_ext, add_zero_ext}
 use Rattle.rational.proofs.Bounds.{greatest}
-use Rattle.upp_curve.specs.Convolution.{Split}
 use Rattle.upp_curve.specs.Periods.{periods_after}
 use Rattle.upp_curve.specs.Steady.{Repeats}
 use Rattle.upp_curve.specs.Windows.{IsLateLeast}
 use Rattle.curve_least.specs.Gaps.{InWindow, IsWithin}
-use Rattle.curve_parts.specs.Parts.{PartSplit, part_sum, IsPart, FirstLate, FirstEarly}
+use Rattle.curve_parts.specs.Parts.{part_sum, IsPart, FirstLate, FirstEarly}
 use Rattle.curve_parts.specs.PartGaps.{ArePartValues, HavePartValues}
 use Rattle.curve_parts.proofs.Moves.{AreRising, late_moves, early_moves}
 

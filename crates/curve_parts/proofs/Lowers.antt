@@ -1,8 +1,7 @@
 -- The lower of two lines just after a time, and of two functions of which each is known from a time on.
-use Rattle.std.specs.Prelude.{◌≡◌, ◌≢◌, ◌⊎◌, true, false, Option, Some, None}
-use Rattle.std.proofs.Common.{arith, sym, ap, ap₂, ◌∙◌, refl, subst, inl, inr}
-use Rattle.rational.specs.Rational.{ℚ, ◌≤ℚ◌, ◌<ℚ◌}
-use Rattle.rational.specs.Grid.{Whole}
+use Rattle.std.specs.Prelude.{◌≡◌, ◌≢◌, true, false, Option, Some, None}
+use Rattle.std.proofs.Common.{sym, ap, ap₂, ◌∙◌, refl, subst, inl, inr}
+use Rattle.rational.specs.Rational.{ℚ, ◌<ℚ◌}
 use Rattle.rational.specs.Extended.{Ext, ◌≤ₑ◌, min_ext}
 use Rattle.rational.specs.declared.Extended.TheVariants.{Fin, Inf}
 use Rattle.rational.proofs.Laws.{le_of_lt, le_trans, le_of_not_lt, lt_irrefl, lt_trans, lt_le_trans, lt_cases}
@@ -13,13 +12,12 @@ use Rattle.upp_curve.specs.declared.ahead.Stretch.{Stretch}
 use Rattle.upp_curve.specs.Limits.{Sizes}
 use Rattle.upp_curve.specs.Operand.{AreLimited}
 use Rattle.upp_curve.specs.Ahead.{GoesOn, IsBeforeNext, AtNext}
-use Rattle.upp_curve.proofs.AnswerRoom.{IsCrossing}
-use Rattle.curve_window.specs.Lies.{CrossFits, CrossesAt, MeetsAt as MeetSo}
+use Rattle.curve_window.specs.Lies.{CrossFits}
 use Rattle.curve_window.proofs.LinesLie.{before_turn, after_turn, parallel_lines}
 use Rattle.curve_conv.specs.SumWindows.{SumLineAt, SumValueAt}
 use Rattle.curve_conv.proofs.SumLower.{cross_fits, is_crossing, lesser_stands}
 use Rattle.curve_parts.specs.declared.lower.Under.{Under}
-use Rattle.curve_parts.specs.Stretches.{SumPlace, SumStretch, SumTimeIn, Meets, MeetsAt, IsUnder, IsEarliest}
+use Rattle.curve_parts.specs.Stretches.{SumPlace, SumStretch, SumTimeIn, MeetsAt, IsUnder, IsEarliest}
 
 -- ---- two lines
 lower_left : (x y : Ext) → x ≤ₑ y → x ≡ min_ext x y

@@ -1,26 +1,25 @@
 -- The number of periods of a convolution for either order of the rates.
-use Rattle.std.specs.Prelude.{◌≡◌, ◌⊎◌, ℕ, pos, Option, Some, None, MatchOption}
-use Rattle.std.proofs.Common.{arith, sym, ap, ◌∙◌, refl, subst, inl, inr}
+use Rattle.std.specs.Prelude.{◌≡◌, ℕ, pos, Option, Some, None, MatchOption}
+use Rattle.std.proofs.Common.{arith, ◌∙◌, subst}
 use Rattle.rational.specs.Rational.{ℚ, ◌+ℚ◌, ◌≤ℚ◌, ◌<ℚ◌, int}
 use Rattle.rational.specs.Grid.{Whole}
 use Rattle.rational.specs.Extended.{Ext, ◌<ₑ◌}
 use Rattle.rational.proofs.ExtendedOrder.{lt_ext_trans, lt_ext_irrefl}
-use Rattle.rational.proofs.Linear.{with2, with3, with4, with5}
+use Rattle.rational.proofs.Linear.{with3, with5}
 use Rattle.upp_curve.specs.Curve.{SpecCurve}
 use Rattle.upp_curve.specs.declared.op_kind.OpKind.TheVariants.{Convolve}
 use Rattle.upp_curve.specs.Gauges.{numbers_over, kind_numbers}
 use Rattle.upp_curve.proofs.ClosedForms.{holds_joined, holds_left, holds_right}
-use Rattle.upp_curve.specs.Limits.{Sizes, Numbers, joined, curve_numbers}
+use Rattle.upp_curve.specs.Limits.{Numbers, joined, curve_numbers}
 use Rattle.upp_curve.specs.Steady.{steady, rate}
 use Rattle.upp_curve.specs.Ahead.{HasWindow}
-use Rattle.upp_curve.specs.Windows.{IsLeast}
 use Rattle.upp_curve.proofs.SameSizes.{Equals, same_sizes, equals_self, equals_joined}
 use Rattle.upp_curve.proofs.StretchSizes.{narrow}
 use Rattle.curve_frame.specs.Times.{OneLaterFits}
 use Rattle.curve_frame.proofs.CurveTimes.{one_later, steady_nonneg}
 use Rattle.curve_least.proofs.Shifts.{same_least, least_zero}
 use Rattle.curve_parts.specs.Scans.{sizes_in, IsScan}
-use Rattle.curve_parts.specs.Late.{IsLateAfter, IsLateNumber, IsLateCall, IsSlowerLate, IsSlowerAfter, IsSlowerNumber, IsPartsCall}
+use Rattle.curve_parts.specs.Late.{IsLateAfter, IsLateNumber, IsLateCall, IsSlowerAfter, IsSlowerNumber, IsPartsCall}
 
 -- ---- the sizes of both orders are one
 swapped : (a b c : Numbers) → Equals (joined a (joined b c)) (joined a (joined c b))

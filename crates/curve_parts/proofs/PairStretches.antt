@@ -1,7 +1,7 @@
 -- What two elements make, as it goes on from a time.
-use Rattle.std.specs.Prelude.{◌≡◌, Option, Some, None}
-use Rattle.std.proofs.Common.{sym, refl, subst, inl, inr}
-use Rattle.rational.specs.Rational.{ℚ, ◌≤ℚ◌, ◌<ℚ◌}
+use Rattle.std.specs.Prelude.{Option, Some, None}
+use Rattle.std.proofs.Common.{sym, refl, subst}
+use Rattle.rational.specs.Rational.{ℚ}
 use Rattle.rational.specs.Extended.{Ext, ◌<ₑ◌}
 use Rattle.rational.specs.declared.Extended.TheVariants.{Fin, Inf}
 use Rattle.rational.proofs.Bounds.{all_infinite}
@@ -12,8 +12,7 @@ use Rattle.affine_segment.specs.Elements.{IsProper, PairSplit, pair_sum, joined_
 use Rattle.upp_curve.specs.declared.ahead.Stretch.{Stretch}
 use Rattle.upp_curve.specs.Ahead.{GoesOn}
 use Rattle.upp_curve.specs.Limits.{Sizes}
-use Rattle.curve_conv.specs.ElementRoom.{OperandElement, SumPart, SumJoined}
-use Rattle.curve_parts.specs.Stretches.{SumStretch, SumTimeIn, IsAhead, PartPair, part_pair_sum, IsProperPart}
+use Rattle.curve_parts.specs.Stretches.{SumStretch, IsAhead, IsProperPart}
 
 -- parts one after another are proper
 pub first_proper : (first : Element) (join second : Option Element) → AreAdjoined first join second → IsProper first

@@ -1,19 +1,17 @@
 -- What two curves make of the splits of which the first side is in some span, piece by piece.
 use Rattle.std.specs.Prelude.{◌≡◌, ◌⊎◌, ◌↔◌, ℕ, ◌<◌, pos, Bool, true, false, IsTrue, Option, Some, None}
-use Rattle.std.proofs.Common.{arith, sym, ap, ap₂, ◌∙◌, refl, subst, inl, inr, true≢false}
+use Rattle.std.proofs.Common.{arith, sym, ap, ◌∙◌, refl, subst, inl, inr, true≢false}
 use Rattle.rational.specs.Rational.{ℚ, ◌+ℚ◌, ◌-ℚ◌, ◌≤ℚ◌, ◌<ℚ◌, int, neg_ℚ}
 use Rattle.rational.specs.Ratio.{SumFits}
 use Rattle.rational.specs.Grid.{Whole}
-use Rattle.rational.specs.Extended.{Ext, ◌≤ₑ◌, ◌<ₑ◌, ◌+ₑ◌, min_ext}
+use Rattle.rational.specs.Extended.{Ext, ◌≤ₑ◌, ◌+ₑ◌, min_ext}
 use Rattle.rational.specs.declared.Extended.TheVariants.{Fin, Inf}
 use Rattle.rational.specs.Families.{either}
-use Rattle.rational.proofs.Linear.{with2, with3, with4, with5}
+use Rattle.rational.proofs.Linear.{with4, with5}
 use Rattle.rational.proofs.Laws.{le_refl, le_trans, le_of_lt, le_lt_trans, lt_le_trans, lt_trans, lt_cases, lt_irrefl, le_of_not_lt}
 use Rattle.rational.proofs.ExtendedOrder.{same_le_ext}
 use Rattle.affine_segment.specs.declared.line.Line.{Line}
-use Rattle.affine_segment.specs.declared.element.Element.{Element}
-use Rattle.affine_segment.specs.declared.element.Element.TheVariants.{Point, Open}
-use Rattle.affine_segment.specs.Values.{line_at, line_value}
+use Rattle.affine_segment.specs.Values.{line_value}
 use Rattle.upp_curve.specs.declared.ahead.Stretch.{Stretch}
 use Rattle.upp_curve.specs.Curve.{SpecCurve, value_at}
 use Rattle.upp_curve.specs.Limits.{Sizes}
@@ -24,7 +22,7 @@ use Rattle.upp_curve.proofs.StretchSizes.{times_stand, times_fit}
 use Rattle.curve_conv.specs.ElementRoom.{WindowTime, WindowEnd}
 use Rattle.curve_conv.proofs.Members.{Matched}
 use Rattle.curve_parts.specs.Parts.{PartSplit, part_sum}
-use Rattle.curve_parts.specs.Stretches.{SumStretch, IsAhead, IsSpan, until_time, point_at, open_at, PartRow, part_row_sum, RowSplit, row_sum, IsProperPart, OperandPart}
+use Rattle.curve_parts.specs.Stretches.{SumStretch, IsAhead, until_time, point_at, open_at, PartRow, part_row_sum, IsProperPart, OperandPart}
 use Rattle.curve_parts.specs.Scans.{IsEarly, IsLimit, InPart, or_else, is_time, time_or}
 use Rattle.curve_parts.proofs.Families.{both_ahead, same_ahead, empty_ahead}
 use Rattle.curve_parts.proofs.GridSteps.{steps_while, while_done, while_fewer}

@@ -1,11 +1,11 @@
 -- The convolution of two curves from the time on at which the part of the slower one has the least sums.
 use Rattle.std.specs.Prelude.{◌≡◌, pos, ◌⊎◌}
-use Rattle.std.proofs.Common.{arith, sym, ap, ◌∙◌, refl, subst, inl, inr}
-use Rattle.rational.specs.Rational.{ℚ, ◌+ℚ◌, ◌-ℚ◌, ◌*ℚ◌, ◌≤ℚ◌, ◌<ℚ◌, int}
+use Rattle.std.proofs.Common.{arith, sym, ◌∙◌, refl, subst, inl, inr}
+use Rattle.rational.specs.Rational.{ℚ, ◌+ℚ◌, ◌*ℚ◌, ◌≤ℚ◌, ◌<ℚ◌, int}
 use Rattle.rational.specs.Extended.{Ext, ◌≤ₑ◌, ◌<ₑ◌, ◌+ₑ◌}
 use Rattle.rational.specs.declared.Extended.TheVariants.{Fin, Inf}
 use Rattle.rational.proofs.Linear.{with2, with3, with4}
-use Rattle.rational.proofs.Laws.{le_refl, le_trans, le_of_lt, mul_lt_mul_right}
+use Rattle.rational.proofs.Laws.{le_trans, le_of_lt, mul_lt_mul_right}
 use Rattle.rational.proofs.ExtendedOrder.{same_le_ext, le_ext_refl, le_inf, add_le_ext, add_ext_comm, lt_ext_irrefl, lt_ext_trans}
 use Rattle.rational.proofs.Bounds.{infimum_unique, same_infimum}
 use Rattle.upp_curve.specs.Curve.{SpecCurve, repeated, value_at}
@@ -19,8 +19,8 @@ use Rattle.curve_frame.proofs.Answering.{answer_relation}
 use Rattle.curve_frame.proofs.CurveTimes.{steady_nonneg}
 use Rattle.curve_least.proofs.LeastNumber.{ext_cases}
 use Rattle.curve_least.proofs.Rises.{rate_rise, rate_none, infinite_value}
-use Rattle.curve_parts.specs.Parts.{PartSplit, part_sum, IsPart, FirstLate}
-use Rattle.curve_parts.specs.Late.{IsLateIn, IsSlowerLate}
+use Rattle.curve_parts.specs.Parts.{IsPart, FirstLate}
+use Rattle.curve_parts.specs.Late.{IsSlowerLate}
 use Rattle.curve_parts.proofs.Moves.{AreRising, late_moves, late_ever, late_only, alike_moves}
 
 -- ---- functions

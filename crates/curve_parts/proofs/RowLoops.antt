@@ -7,14 +7,14 @@ use Rattle.rational.specs.Grid.{Whole}
 use Rattle.rational.specs.Extended.{Ext, ◌≤ₑ◌, ◌<ₑ◌, ◌+ₑ◌, min_ext}
 use Rattle.rational.specs.declared.Extended.TheVariants.{Fin, Inf}
 use Rattle.rational.specs.Families.{either}
-use Rattle.rational.proofs.Linear.{with2, with3, with4, with5}
+use Rattle.rational.proofs.Linear.{with2, with5}
 use Rattle.rational.proofs.Laws.{le_refl, le_trans, le_of_lt, le_lt_trans, lt_le_trans, lt_trans, lt_cases, lt_irrefl}
-use Rattle.rational.proofs.ExtendedOrder.{same_le_ext, finite_sum}
+use Rattle.rational.proofs.ExtendedOrder.{same_le_ext}
 use Rattle.affine_segment.specs.declared.line.Line.{Line}
 use Rattle.affine_segment.specs.declared.element.Element.{Element}
 use Rattle.affine_segment.specs.declared.element.Element.TheVariants.{Point, Open}
-use Rattle.affine_segment.specs.Values.{line_at, line_value}
-use Rattle.affine_segment.specs.Elements.{Covers, level, start_of, PairSplit, pair_sum}
+use Rattle.affine_segment.specs.Values.{line_value}
+use Rattle.affine_segment.specs.Elements.{Covers, level, start_of}
 use Rattle.upp_curve.specs.declared.ahead.Stretch.{Stretch}
 use Rattle.upp_curve.specs.Curve.{SpecCurve, value_at}
 use Rattle.upp_curve.specs.Limits.{Sizes}

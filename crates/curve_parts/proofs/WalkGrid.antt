@@ -1,15 +1,14 @@
 -- One grid for all times at which sums of a call may go on otherwise.
-use Rattle.std.specs.Prelude.{◌≡◌, ◌⊎◌, ℕ, suc, zero, ◌*◌, ◌<◌, ◌≤◌, ◌+◌}
+use Rattle.std.specs.Prelude.{◌≡◌, ℕ, suc, zero, ◌*◌, ◌<◌, ◌≤◌}
 use Prim.Native.Nat.{◌∣◌}
 use native.Mathlib.Nat.{dvd-mul_left, dvd-mul_right, mul-pos, mul-dvd-mul_left}
-use Rattle.std.proofs.Common.{arith, subst, sym, refl, ◌∙◌, inl, inr}
+use Rattle.std.proofs.Common.{arith, subst, sym, inl, inr}
 use Rattle.std.proofs.lemmas.Bool.{cases_lt}
 use Rattle.std.proofs.lemmas.Nat.Gcd.{dvd_trans}
 use Rattle.rational.specs.Rational.{ℚ}
 use Rattle.rational.specs.Grid.{Whole}
 use Rattle.rational.proofs.Grid.{whole_weaken}
 use Rattle.upp_curve.specs.Limits.{Sizes}
-use Rattle.upp_curve.proofs.AnswerRoom.{IsCrossing}
 use Rattle.curve_parts.specs.Stretches.{SumPlace}
 
 -- the product of all numbers from 1 to n

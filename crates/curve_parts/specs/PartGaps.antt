@@ -1,7 +1,7 @@
 -- By how much one part of a convolution is above another over some times. Own choice.
 use Rattle.std.specs.Prelude.{ℕ, ◌*◌, ◌<◌, ◌≤◌, pos}
 use Prim.Native.Nat.{◌∣◌}
-use Rattle.rational.specs.Rational.{ℚ, ◌≤ℚ◌, ◌<ℚ◌, int}
+use Rattle.rational.specs.Rational.{ℚ, ◌≤ℚ◌, int}
 use Rattle.rational.specs.Grid.{Whole, Within}
 use Rattle.rational.specs.Extended.{Ext}
 use Rattle.upp_curve.specs.Limits.{Sizes}

@@ -1,4 +1,4 @@
-use Rattle.std.proofs.Common.{sym, subst}
+use Rattle.std.proofs.Common.{subst}
 use Rattle.curve_conv.specs.ElementRoom.{SumElement}
 use Rattle.curve_parts.proofs.ElementStretches.{segment_fits}
 use Rattle.curve_parts.proofs.elements.element_stretch.Goals as goal

@@ -1,4 +1,4 @@
-use Rattle.std.specs.Prelude.{Some, None}
+use Rattle.std.specs.Prelude.{None}
 use Rattle.std.proofs.Common.{sym, subst}
 use Rattle.curve_parts.specs.Stretches.{IsAhead, PartPair, part_pair_sum, OperandPart}
 use Rattle.curve_parts.proofs.PairStretches.{none_ahead}

@@ -1,4 +1,4 @@
-use Rattle.std.proofs.Common.{sym, subst}
+use Rattle.std.proofs.Common.{subst}
 use Rattle.curve_conv.specs.ElementRoom.{SumPart}
 use Rattle.curve_parts.proofs.elements.part_stretch.Goals as goal
 

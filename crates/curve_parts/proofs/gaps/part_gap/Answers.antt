@@ -1,17 +1,16 @@
-use Rattle.std.specs.Prelude.{◌≡◌, ◌<◌, pos, Some, None}
+use Rattle.std.specs.Prelude.{pos, Some, None}
 use Rattle.std.proofs.Common.{refl, sym, subst, inl, true≢false}
-use Rattle.rational.specs.Rational.{ℚ, int}
+use Rattle.rational.specs.Rational.{int}
 use Rattle.rational.proofs.Laws.{le_refl}
 use Rattle.rational.proofs.Grid.{whole_int}
 use Rattle.upp_curve.specs.Curve.{value_at}
 use Rattle.curve_conv.specs.ElementRoom.{WindowTime}
 use Rattle.curve_least.specs.Gaps.{InWindow, IsGap}
-use Rattle.curve_least.specs.GapSteps.{larger}
 use Rattle.curve_parts.specs.Parts.{PartSplit, part_sum}
-use Rattle.curve_parts.specs.PartGaps.{ArePartValues, HavePartValues}
+use Rattle.curve_parts.specs.PartGaps.{ArePartValues}
 use Rattle.curve_parts.specs.Scans.{sizes_in, InPart}
 use Rattle.curve_parts.specs.Stretches.{SumTimeIn, IsAhead}
-use Rattle.curve_parts.proofs.GapWalks.{PartGapWalk, NextPlace, walk_start, time_in, next_place, next_to, walk_step, walk_fewer, walk_end}
+use Rattle.curve_parts.proofs.GapWalks.{PartGapWalk, walk_start, time_in, next_place, next_to, walk_step, walk_fewer, walk_end}
 use Rattle.curve_parts.proofs.gaps.part_gap.Goals as goal
 
 pub times-init : goal.times-init

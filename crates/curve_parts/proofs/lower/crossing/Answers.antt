@@ -1,5 +1,5 @@
 use Rattle.std.specs.Prelude.{Some}
-use Rattle.std.proofs.Common.{refl, sym, true≢false}
+use Rattle.std.proofs.Common.{sym, true≢false}
 use Rattle.curve_parts.proofs.Lowers.{steeper, under_turned}
 use Rattle.curve_parts.proofs.lower.crossing.Goals as goal
 

@@ -1,6 +1,4 @@
-use Rattle.std.specs.Prelude.{Some}
-use Rattle.std.proofs.Common.{refl, sym, subst, ap, true≢false}
-use Rattle.curve_parts.specs.Stretches.{IsEarliest}
+use Rattle.std.proofs.Common.{refl, sym, true≢false}
 use Rattle.curve_parts.proofs.Lowers.{earliest_first, earliest_second}
 use Rattle.curve_parts.proofs.lower.earliest.Goals as goal
 

@@ -1,6 +1,6 @@
 use Rattle.std.specs.Prelude.{◌≡◌, pos}
-use Rattle.std.proofs.Common.{sym, subst, ap, ◌∙◌}
-use Rattle.rational.specs.Rational.{ℚ, ◌-ℚ◌, ◌/ℚ◌, ◌≤ℚ◌, ◌<ℚ◌, ◌*ℚ◌, int}
+use Rattle.std.proofs.Common.{sym, subst}
+use Rattle.rational.specs.Rational.{ℚ, ◌/ℚ◌, ◌≤ℚ◌, ◌<ℚ◌, ◌*ℚ◌, int}
 use Rattle.rational.specs.Ratio.{IsSmall}
 use Rattle.upp_curve.specs.Curve.{SpecCurve, value_at}
 use Rattle.rational.specs.Extended.{Ext}

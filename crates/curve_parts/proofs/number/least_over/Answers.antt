@@ -1,5 +1,5 @@
 use Rattle.std.proofs.Common.{pos, sym, subst, ap, ◌∙◌, refl, true≢false}
-use Rattle.rational.specs.Rational.{ℚ, ◌*ℚ◌, ◌/ℚ◌, ◌≤ℚ◌, ◌<ℚ◌, int}
+use Rattle.rational.specs.Rational.{◌*ℚ◌, ◌≤ℚ◌, ◌<ℚ◌, int}
 use Rattle.rational.specs.Gauge.{size_up}
 use Rattle.rational.proofs.Laws.{le_of_not_lt, not_zero}
 use Rattle.upp_curve.specs.Windows.{IsLeast}

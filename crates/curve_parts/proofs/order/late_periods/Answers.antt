@@ -1,6 +1,4 @@
-use Rattle.std.proofs.Common.{refl, sym, subst, true≢false}
-use Rattle.rational.specs.Extended.{◌<ₑ◌}
-use Rattle.upp_curve.specs.Steady.{rate}
+use Rattle.std.proofs.Common.{refl, sym, true≢false}
 use Rattle.curve_parts.proofs.Orders.{first_call, second_call, begins_fit, of_first, of_second, of_equal}
 use Rattle.curve_parts.proofs.order.late_periods.Goals as goal
 

@@ -1,7 +1,7 @@
 use Rattle.rational.specs.Rational.{◌≤ℚ◌}
 use Rattle.upp_curve.specs.Curve.{value_at}
 use Rattle.curve_parts.specs.Scans.{sizes_in}
-use Rattle.curve_parts.specs.Stretches.{PartRow, part_row_sum, SumTimeIn}
+use Rattle.curve_parts.specs.Stretches.{PartRow, part_row_sum}
 use Rattle.curve_parts.proofs.Families.{both_ahead}
 use Rattle.curve_parts.proofs.parts.cell_part.Goals as goal
 

@@ -1,13 +1,13 @@
-use Rattle.std.specs.Prelude.{◌≡◌, ◌<◌, true, false}
+use Rattle.std.specs.Prelude.{◌<◌}
 use Rattle.std.proofs.Common.{sym, subst, ap, ◌∙◌, ◌⊎◌}
 use Rattle.rational.specs.Rational.{◌≤ℚ◌}
 use Rattle.rational.specs.Families.{either}
 use Rattle.upp_curve.specs.Curve.{value_at}
-use Rattle.curve_parts.specs.Stretches.{SumStretch, SumTimeIn, IsAhead, PartRow, part_row_sum, IsProperPart, OperandPart, point_at, open_at}
+use Rattle.curve_parts.specs.Stretches.{SumTimeIn, IsAhead, PartRow, part_row_sum, IsProperPart, OperandPart, open_at}
 use Rattle.curve_parts.specs.Scans.{sizes_in, or_else}
 use Rattle.curve_parts.proofs.GridSteps.{steps_while}
 use Rattle.curve_parts.proofs.RowLoops.{point_proper}
-use Rattle.curve_parts.proofs.PartLoops.{PartWalk, CellFacts, low_fits, walk_start, walk_time, part_facts, walk_step, walk_fewer}
+use Rattle.curve_parts.proofs.PartLoops.{PartWalk, low_fits, walk_start, walk_time, part_facts, walk_step, walk_fewer}
 use Rattle.curve_parts.proofs.parts.part.Goals as goal
 
 pub difference-room-requires : goal.difference-room-requires

@@ -1,10 +1,9 @@
-use Rattle.std.specs.Prelude.{Some, None}
+use Rattle.std.specs.Prelude.{None}
 use Rattle.std.proofs.Common.{sym, subst}
 use Rattle.rational.specs.Rational.{◌≤ℚ◌}
 use Rattle.upp_curve.specs.Curve.{value_at}
-use Rattle.curve_parts.specs.Scans.{sizes_in}
-use Rattle.curve_parts.specs.Stretches.{IsAhead, PartRow, part_row_sum, OperandPart, IsProperPart, SumStretch}
-use Rattle.curve_parts.proofs.PairStretches.{none_ahead, none_stands}
+use Rattle.curve_parts.specs.Stretches.{IsAhead, PartRow, part_row_sum}
+use Rattle.curve_parts.proofs.PairStretches.{none_ahead}
 use Rattle.curve_parts.proofs.parts.part_row.Goals as goal
 
 pub returns-in-None-clause-ahead : goal.returns-in-None-clause-ahead

@@ -1,14 +1,11 @@
-use Rattle.std.specs.Prelude.{◌≡◌, ◌<◌, true, false}
+use Rattle.std.specs.Prelude.{◌<◌}
 use Rattle.std.proofs.Common.{sym, subst, ap, ◌∙◌, ◌⊎◌}
 use Rattle.rational.specs.Rational.{◌-ℚ◌}
 use Rattle.rational.specs.Families.{either}
-use Rattle.rational.specs.Extended.{Ext}
-use Rattle.upp_curve.specs.Curve.{SpecCurve, value_at}
-use Rattle.curve_conv.specs.ElementRoom.{OperandElement}
-use Rattle.curve_parts.specs.Stretches.{SumStretch, SumTimeIn, IsAhead, PartPair, part_pair_sum, IsProperPart, OperandPart, point_at, open_at}
-use Rattle.curve_parts.specs.Scans.{sizes_in, IsEarly}
+use Rattle.curve_parts.specs.Stretches.{SumTimeIn, IsAhead, PartPair, part_pair_sum, IsProperPart, OperandPart, open_at}
+use Rattle.curve_parts.specs.Scans.{sizes_in}
 use Rattle.curve_parts.proofs.GridSteps.{steps_while}
-use Rattle.curve_parts.proofs.RowLoops.{RowWalk, CellFacts, room_fits, walk_start, walk_time, row_facts, point_proper, walk_step, walk_fewer, walk_end}
+use Rattle.curve_parts.proofs.RowLoops.{RowWalk, room_fits, walk_start, walk_time, row_facts, point_proper, walk_step, walk_fewer, walk_end}
 use Rattle.curve_parts.proofs.rows.row.Goals as goal
 
 pub difference-room-requires : goal.difference-room-requires

@@ -1,4 +1,3 @@
-use Rattle.upp_curve.specs.Limits.{Sizes}
 use Rattle.curve_parts.specs.Scans.{sizes_in}
 use Rattle.curve_parts.proofs.RowLoops.{RowWalk}
 use Rattle.curve_parts.proofs.GridSteps.{steps_while}
