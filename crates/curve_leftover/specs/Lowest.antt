@@ -64,8 +64,8 @@ pub record IsLowestCall (z : Sizes) (ps : List Piece) (from end far rise : ℚ) 
   pub far_late : end <ℚ far
   pub far_near : far ≤ℚ int (pos 2) *ℚ end
 
--- `low` is the infimum from `from` on, and a rise higher it is that from `end` on; the scan is that of the pieces and of
--- a level from `end` up to `far`: `low` a rise higher, or the limit at `end` where that is less
+-- `low` is the infimum from `from` on, and a rise higher it is that from `end` on; the scan is that of the pieces and
+-- of a level from `end` up to `far`: `low` a rise higher, or the limit at `end` where that is less
 pub record IsLowest (ps : List Piece) (from end far rise : ℚ) (qs : List Piece) : Type 0 where
   pub low : ℚ
   pub first : IsInfimumUntil (read ps) end from (Fin low)

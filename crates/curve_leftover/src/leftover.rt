@@ -110,8 +110,8 @@ fn nothing(alloc: Global) -> Result<Curve, AllocError>
 
 /// What first in, first out leaves of the service beta beside the cross traffic `cross`, at each time from 0 on: the
 /// infimum, over the times from then on, of 0 up to theta, and past theta of what beta has above cross as it was theta
-/// earlier, or of 0 where it has nothing; 0 everywhere where theta is infinite (Le Boudec and Thiran, chapter 6). beta is
-/// finite, never falls and is nowhere below 0, and theta is the horizontal deviation of cross and beta. One step is
+/// earlier, or of 0 where it has nothing; 0 everywhere where theta is infinite (Le Boudec and Thiran, chapter 6). beta
+/// is finite, never falls and is nowhere below 0, and theta is the horizontal deviation of cross and beta. One step is
 /// counted. Refused with TooWide or TooMany exactly where the call's gauge or tally is over that limit, else only for
 /// want of memory; after an infinite theta there is no limit.
 pub fn fifo_left<L: Ledger>(

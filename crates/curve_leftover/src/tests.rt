@@ -1,4 +1,4 @@
-//! Values worked out by hand, of a server of rate 100 and latency 10 beside a flow of burst 6000: it is served 70 later.
+//! Values worked out by hand, of a server of rate 100 and latency 10 beside a flow of burst 6000: its wait is 70.
 
 ghost use Rattle.std.specs.Prelude.{◌≡◌, ◌<◌, pos, IfOk};
 ghost use Rattle.rational.specs.Rational.{ℚ, int, ◌≤ℚ◌};
@@ -26,7 +26,8 @@ fn whole(n: i128) -> Frac {
 }
 
 fn service(alloc: Global) -> Result<Curve, OpFault>
-    ensures { IfOk result (λ c. (t : ℚ) → int (pos 0) ≤ℚ t → value_at c t ≡ rate_latency_value (int (pos 100)) (int (pos 10)) t) }
+    ensures { IfOk result (λ c. (t : ℚ) → int (pos 0) ≤ℚ t
+        → value_at c t ≡ rate_latency_value (int (pos 100)) (int (pos 10)) t) }
 {
     match rate_latency(alloc, Frac::from_whole(100), Frac::from_whole(10)) {
         Ok(c) => Ok(c),
@@ -51,7 +52,8 @@ fn left<L: Ledger>(
     theta: Ext,
     blank: Blank,
 ) -> Result<Curve, OpFault>
-    requires service { (t : ℚ) → int (pos 0) ≤ℚ t → value_at beta.now t ≡ rate_latency_value (int (pos 100)) (int (pos 10)) t }
+    requires service { (t : ℚ) → int (pos 0) ≤ℚ t
+        → value_at beta.now t ≡ rate_latency_value (int (pos 100)) (int (pos 10)) t }
     requires deviation { IsHorizontalDeviation (value_at cross.now) (value_at beta.now) theta }
     requires name { blank.name ≡ L.name }
     requires parts { blank.parts ≡ L.parts }
