@@ -1,2 +1,5 @@
 pub mod Links
 pub mod Paths
+pub mod Fifo
+pub mod Journeys
+pub mod Ends

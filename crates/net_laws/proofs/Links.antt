@@ -43,7 +43,7 @@ due_stable net entered e i b p (d ∷ ds) h = rw (entry_before entered e d.packe
 make_due : ℕ → ℕ → ℚ → Due
 make_due p s t = record { packet = p; server = s; time = t }
 
-same_is : (d e : Due) → same_due d e ≡ true → e ≡ d
+pub same_is : (d e : Due) → same_due d e ≡ true → e ≡ d
 unfolding make_due
 same_is d e h =
     let a = and_parts (d.packet == e.packet) _ h in

@@ -4,7 +4,7 @@
 #![tactic(auto)]
 
 ghost use Rattle.net_laws.specs.Laws.{LinkCarries, NextKeeps};
-ghost use Rattle.net_laws.specs.PathLaws.{PathIsServed};
+ghost use Rattle.net_laws.specs.PathLaws.{PathIsServed, DelayFromPathService, DelayFromHops};
 
 /// What arrives of a flow at a server is what left the server before, the link's time ago.
 pub fn link_carries()
@@ -19,4 +19,14 @@ pub fn next_keeps()
 /// A path serves its flow by what each hop serves it: in whole packets where the path goes on.
 pub fn path_is_served()
     ensures { PathIsServed }
+{}
+
+/// No packet takes longer than the horizontal deviation of its flow's curve and the path's service, and the links.
+pub fn delay_from_path_service()
+    ensures { DelayFromPathService }
+{}
+
+/// No packet takes longer than its flow's delays at each hop, and the links.
+pub fn delay_from_hops()
+    ensures { DelayFromHops }
 {}
