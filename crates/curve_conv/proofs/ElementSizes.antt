@@ -22,7 +22,8 @@ use Rattle.affine_segment.specs.Steps.{IsWideSum, IsWideValue}
 use Rattle.affine_segment.specs.MadeParts.{alone_part, IsFrom, MovedPart, OnePart, TwoParts, BentParts, AreParts}
 use Rattle.affine_segment.specs.WideConvolution.{IsWideThrough, IsWideEnd, IsWideEnds, IsWideCorner, IsWideMoved, IsWideStraight, IsWideSecond, IsWideBent, IsWideConvolution}
 use Rattle.upp_curve.specs.Limits.{Sizes}
-use Rattle.upp_curve.specs.Sized.{IsSlope, IsValue, grid_of, times_largest}
+use Rattle.upp_curve.specs.Sized.{IsSlope, grid_of, times_largest}
+use Rattle.upp_curve.specs.Ahead.{IsGridValue}
 use Rattle.upp_curve.specs.Operand.{AreLimited, OperandLine}
 use Rattle.upp_curve.proofs.AnswerRoom.{OperandValue, operand_line_value, stands_operand_value, values_fit, value_sum_stands, more_largest}
 use Rattle.upp_curve.proofs.NarrowSizes.{IsNarrow, narrow_gauge, small_number, small_sum, run_whole, run_within, value_whole, value_within}
@@ -56,8 +57,8 @@ rise_within z end s x A h t = subst (λ m. Within m (s *ℚ x)) (one_largest z) 
 line_value_stands : (z : Sizes) (end : ℚ) (l : Line) (x : ℚ) → AreLimited z end → OperandLine z l → WindowTime z end x → OperandValue z (line_at l x)
 line_value_stands z end l x A L t = operand_line_value z end x (Some l) A L t.whole t.nonneg t.early
 
-point_value : (z : Sizes) (v : ℚ) → IsValue z v → OperandValue z v
-point_value z v h = stands_operand_value z (Fin v) h
+point_value : (z : Sizes) (v : ℚ) → IsGridValue z v → OperandValue z v
+point_value z v h = record { whole = h.whole; within = h.within }
 
 value_not_wide : (z : Sizes) (end : ℚ) (l : Line) (x : ℚ) (w : Wide) → AreLimited z end → OperandLine z l → WindowTime z end x → ¬ (IsWideValue l x w)
 value_not_wide z end l x w A L t (inl h) =
@@ -233,7 +234,9 @@ from_first z end a x b y n A L M X Y h =
     record {
       slope = subst (IsSlope z) (sym h.slope) L.slope;
       icept = subst (Whole (grid_of z)) (sym e) (whole_add (grid_of z) (a.icept +ℚ b.icept) (b.slope *ℚ y -ℚ a.slope *ℚ y) (whole_add (grid_of z) a.icept b.icept L.icept M.icept) r.0);
-      within = subst (Within (times_largest 5 z)) (sym e) (sum_within z 4 1 (a.icept +ℚ b.icept) (b.slope *ℚ y -ℚ a.slope *ℚ y) (sum_within z 2 2 a.icept b.icept L.within M.within) r.1);
+      within = subst (Within (times_largest 6 z)) (sym e)
+          (within_weaken (times_largest 5 z) (times_largest 6 z) ((a.icept +ℚ b.icept) +ℚ (b.slope *ℚ y -ℚ a.slope *ℚ y)) (more_largest z 5 6 (omega arith))
+          (sum_within z 4 1 (a.icept +ℚ b.icept) (b.slope *ℚ y -ℚ a.slope *ℚ y) (sum_within z 2 2 a.icept b.icept L.within M.within) r.1));
     }
   where
     plain : (i nxy j ax ay k by : ℚ) → nxy ≡ ax +ℚ ay → i +ℚ nxy ≡ (j +ℚ ax) +ℚ (k +ℚ by) → i ≡ (j +ℚ k) +ℚ (by -ℚ ay)
@@ -254,11 +257,10 @@ from_point : (z : Sizes) (end x v from : ℚ) (l n : Line) → AreLimited z end 
     → IsThrough l.slope (x +ℚ from) (v +ℚ line_at l from) n → SumLine z n
 from_point z end x v from l n A P L F h =
     let e = icept_is h in
-    let vi = within_weaken (times_largest 1 z) (times_largest 2 z) v (more_largest z 1 2 (omega arith)) (value_within z v P.value) in
     record {
       slope = subst (IsSlope z) (sym h.slope) L.slope;
-      icept = subst (Whole (grid_of z)) (sym e) (whole_sub (grid_of z) (v +ℚ l.icept) (l.slope *ℚ x) (whole_add (grid_of z) v l.icept (value_whole z v P.value) L.icept) (rise_whole z end l.slope x L.slope P.time));
-      within = subst (Within (times_largest 5 z)) (sym e) (gap_within z 4 1 (v +ℚ l.icept) (l.slope *ℚ x) (sum_within z 2 2 v l.icept vi L.within) (rise_within z end l.slope x A L.slope P.time));
+      icept = subst (Whole (grid_of z)) (sym e) (whole_sub (grid_of z) (v +ℚ l.icept) (l.slope *ℚ x) (whole_add (grid_of z) v l.icept P.value.whole L.icept) (rise_whole z end l.slope x L.slope P.time));
+      within = subst (Within (times_largest 6 z)) (sym e) (gap_within z 5 1 (v +ℚ l.icept) (l.slope *ℚ x) (sum_within z 3 2 v l.icept P.value.within L.within) (rise_within z end l.slope x A L.slope P.time));
     }
   where
     plain : (i nxf j lx lf : ℚ) → nxf ≡ lx +ℚ lf → i +ℚ nxf ≡ v +ℚ (j +ℚ lf) → i ≡ (v +ℚ j) -ℚ lx

@@ -2,6 +2,7 @@
 use Rattle.std.specs.Prelude.{◌≡◌, pos, List, [], ◌∷◌, ◌++◌, Result, Ok, Err, IfOk, Vec}
 use Rattle.std.proofs.Common.{arith, sym, ap, ◌∙◌, refl, subst, inl, length, get_or, ◌≤◌, Global}
 use Rattle.rational.specs.Rational.{ℚ, int}
+use Rattle.rational.specs.Extended.{min_ext}
 use Rattle.rational.specs.declared.Extended.TheVariants.{Inf}
 use Rattle.rational.proofs.Grid.{whole_int}
 use Rattle.rational.proofs.Laws.{le_refl}
@@ -18,6 +19,7 @@ use Rattle.curve_conv.proofs.Cover.{read_one}
 use Rattle.curve_conv.proofs.Members.{among_left, among_right}
 use Rattle.curve_conv.proofs.Envelopes.{envelope_rules}
 use Rattle.curve_conv.proofs.JoinedReads.{nothing_read}
+use Rattle.curve_conv.proofs.Arching.{same_arches, lesser_arches, nothing_arches}
 use Rattle.curve_conv.proofs.SumSteps.{sum_cuts_fit}
 use Rattle.curve_conv.proofs.SumLower.{sum_lower_fits, sum_lower}
 
@@ -30,6 +32,7 @@ nothing_is end xs ys h = record {
     starts = (refl, tt);
     each = (record { start = record { place = inl (whole_int r.sizes.dt (pos 0)); nonneg = le_refl (int (pos 0)); before = r.some }; at = tt; line = tt }, tt);
   };
+  arches = λ r. same_arches r.sizes.dt end (λ t. Inf) (read (nothing_at (int (pos 0)) ∷ [])) (λ t low high. read_one (nothing_at (int (pos 0))) t ∙ nothing_read (int (pos 0)) t) (nothing_arches r.sizes.dt end);
 }
 
 pub none_left : (end : ℚ) (xs ys : List Element) → xs ≡ [] → IsEnvelopeWindow end xs ys (nothing_at (int (pos 0)) ∷ [])
@@ -124,6 +127,9 @@ left_halves end xs front back ys f g ps e F G L = record {
       (subst (IsEnvelope (front ++ back) ys t) (sym (L.reads t low high))
       (envelope_rules.left front back ys t (read f t) (read g t) (F.reads t low high) (G.reads t low high)));
   stands = λ r. sum_lower r.sizes end f g ps r.limited (F.stands (left_front end xs front back ys e r)) (G.stands (left_back end xs front back ys e r)) L;
+  arches = λ r.
+      same_arches r.sizes.dt end (λ t. min_ext (read f t) (read g t)) (read ps) L.reads
+      (lesser_arches r.sizes.dt end (read f) (read g) (F.arches (left_front end xs front back ys e r)) (G.arches (left_back end xs front back ys e r)));
 }
 
 pub right_halves : (end : ℚ) (xs ys front back : List Element) (f g ps : List Piece) → front ++ back ≡ ys
@@ -136,6 +142,9 @@ right_halves end xs ys front back f g ps e F G L = record {
       (subst (IsEnvelope xs (front ++ back) t) (sym (L.reads t low high))
       (envelope_rules.right xs front back t (read f t) (read g t) (F.reads t low high) (G.reads t low high)));
   stands = λ r. sum_lower r.sizes end f g ps r.limited (F.stands (right_front end xs ys front back e r)) (G.stands (right_back end xs ys front back e r)) L;
+  arches = λ r.
+      same_arches r.sizes.dt end (λ t. min_ext (read f t) (read g t)) (read ps) L.reads
+      (lesser_arches r.sizes.dt end (read f) (read g) (F.arches (right_front end xs ys front back e r)) (G.arches (right_back end xs ys front back e r)));
 }
 
 pub ok_lower : {E : Type 0} (r : Result (Vec Piece Global) E) (f g : List Piece) (end : ℚ) (xs ys : List Element)

@@ -7,6 +7,9 @@ pub mod OperandElements
 pub mod JoinedReads
 pub mod SumSteps
 pub mod SumLower
+pub mod Arching
 pub mod PairWindows
 pub mod EnvelopeHalves
 pub mod WindowConvolution
+pub mod ArchBends
+pub mod SumRoom

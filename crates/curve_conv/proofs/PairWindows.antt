@@ -6,17 +6,20 @@ use Rattle.rational.specs.Rational.{ℚ, ◌+ℚ◌, ◌≤ℚ◌, ◌<ℚ◌, i
 use Rattle.rational.specs.Extended.{Ext}
 use Rattle.rational.specs.declared.Extended.TheVariants.{Fin, Inf}
 use Rattle.rational.specs.Grid.{Whole}
-use Rattle.rational.proofs.Grid.{whole_int, whole_weaken}
+use Rattle.rational.proofs.Grid.{whole_int, whole_weaken, within_weaken}
 use Rattle.rational.proofs.Laws.{le_refl}
 use Rattle.rational.proofs.Linear.{with2}
 use Rattle.affine_segment.specs.declared.line.Piece.{Piece}
 use Rattle.affine_segment.specs.declared.element.Element.{Element}
 use Rattle.affine_segment.specs.declared.element.Element.TheVariants.{Point, Open}
 use Rattle.affine_segment.specs.declared.element.Joined.{Joined}
-use Rattle.affine_segment.specs.Elements.{start_of, IsConvolved}
+use Rattle.affine_segment.specs.Elements.{start_of, joined_value, IsConvolved}
 use Rattle.affine_segment.specs.MadeParts.{AreParts}
 use Rattle.upp_curve.specs.Normal.{Each}
+use Rattle.upp_curve.specs.Reading.{read}
 use Rattle.upp_curve.specs.Limits.{Sizes}
+use Rattle.upp_curve.specs.Sized.{times_largest}
+use Rattle.upp_curve.proofs.AnswerRoom.{more_largest}
 use Rattle.upp_curve.specs.Unrolled.{upto}
 use Rattle.upp_curve.proofs.Below.{plain_upto}
 use Rattle.upp_curve.proofs.NormaliseCuts.{zero_upto}
@@ -29,6 +32,7 @@ use Rattle.curve_conv.specs.Envelopes.{IsEnvelope}
 use Rattle.curve_conv.specs.EnvelopeWindows.{EnvelopeRoom, IsEnvelopeWindow}
 use Rattle.curve_conv.proofs.ElementSizes.{parts_stand}
 use Rattle.curve_conv.proofs.Envelopes.{envelope_rules}
+use Rattle.curve_conv.proofs.Arching.{same_arches, joined_arches}
 
 -- ---- pieces that may start past the end
 record LatePiece (z : Sizes) (p : Piece) : Type 0 where
@@ -37,10 +41,10 @@ record LatePiece (z : Sizes) (p : Piece) : Type 0 where
   at : SumValueAt z p.x p.at
   line : SumLineAt z p.line
 
-sum_value_on : (z : Sizes) (x v : ℚ) → SumValue z v → SumValueOn z x v
+pub sum_value_on : (z : Sizes) (x v : ℚ) → SumValue z v → SumValueOn z x v
 sum_value_on z x v V = record {
   whole = λ grid base on. whole_weaken (z.dv * z.dt * z.ds) (grid * z.ds) v (mul-dvd-mul_right (z.dv * z.dt) base z.ds) V.whole;
-  within = V.within;
+  within = within_weaken (times_largest 6 z) (times_largest 7 z) v (more_largest z 6 7 (omega arith)) V.within;
 }
 
 nothing_stands : (z : Sizes) (end x : ℚ) → SumTime z end x → LatePiece z (nothing_at x)
@@ -102,6 +106,9 @@ pair_is end a b j ps some C P W = record {
         each = each_with (LatePiece r.sizes) (λ p. p.x <ℚ end) (SumPiece r.sizes end) (λ p L e. early_piece r.sizes end p L e) (upto end ps)
             (each_upto (LatePiece r.sizes) end ps (subst (Each (LatePiece r.sizes)) (sym W.pieces) (window_stands r.sizes end j J))) (upto_before end ps);
       };
+  arches = λ r.
+      let J = parts_stand r.sizes end a b j r.limited (r.left a (inl refl)) (r.right b (inl refl)) P in
+      same_arches r.sizes.dt end (joined_value j) (read (upto end ps)) (λ t low high. plain_upto ps end t W.starts low high ∙ W.reads t low) (joined_arches r.sizes end end j J);
 }
 
 -- the first part starts at 0 or later

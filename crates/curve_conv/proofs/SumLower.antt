@@ -24,7 +24,7 @@ use Rattle.upp_curve.specs.Limits.{Sizes}
 use Rattle.upp_curve.specs.Sized.{IsSlope, grid_of, times_largest}
 use Rattle.upp_curve.specs.Operand.{AreLimited, answer_room}
 use Rattle.upp_curve.specs.Readable.{LineFitsAt}
-use Rattle.upp_curve.specs.Room.{top, many, LineInRoom}
+use Rattle.upp_curve.specs.Room.{top, many, LineInRoom, TimeHasRoom}
 use Rattle.upp_curve.proofs.NormaliseGrids.{q_same_or}
 use Rattle.upp_curve.proofs.NormaliseLists.{each_map}
 use Rattle.upp_curve.proofs.NormaliseRoom.{line_fits}
@@ -60,20 +60,22 @@ sum_both z end f g b A F G B =
     }
 
 -- ---- differences
-values_apart : (z : Sizes) (end x : ℚ) (v w : Ext) → AreLimited z end → SumStart z end x → SumValueAt z x v → SumValueAt z x w → ValueApartFits v w
-values_apart z end x Inf w A s V W = tt
-values_apart z end x (Fin v) Inf A s V W = tt
-values_apart z end x (Fin v) (Fin w) A s V W =
-    let T = time_room z end x A s in
+pub room_apart : (z : Sizes) (end x : ℚ) (v w : Ext) → AreLimited z end → TimeHasRoom (answer_room z end) x → SumValueAt z x v → SumValueAt z x w → ValueApartFits v w
+room_apart z end x Inf w A T V W = tt
+room_apart z end x (Fin v) Inf A T V W = tt
+room_apart z end x (Fin v) (Fin w) A T V W =
     let n = T.grid * z.ds in
-    let m = times_largest 6 z in
+    let m = times_largest 7 z in
     let some : 1 * n ≤ z.largest * n = mul-le-mul_right n A.sizes.largest in
     let size = T.value_size in
-    let e : (m +ℚ m) *ℚ int (pos n) ≡ int (pos (12 * z.largest * n)) =
-    ap (λ q. q *ℚ int (pos n)) (many_more z 6 6 ∙ int_mul (pos 12) (pos z.largest)) ∙ int_mul (pos (12 * z.largest)) (pos n) in
+    let e : (m +ℚ m) *ℚ int (pos n) ≡ int (pos (14 * z.largest * n)) =
+    ap (λ q. q *ℚ int (pos n)) (many_more z 7 7 ∙ int_mul (pos 14) (pos z.largest)) ∙ int_mul (pos (14 * z.largest)) (pos n) in
     sum_on_grid n m m v (neg_ℚ w) (mul-pos T.some A.sizes.ds) (omega (arith, some, size))
-    (subst (λ q. q ≤ℚ int (pos top)) (sym e) (nat_le (12 * z.largest * n) top (omega (arith, size))))
+    (subst (λ q. q ≤ℚ int (pos top)) (sym e) (nat_le (14 * z.largest * n) top (omega (arith, size))))
     (V.whole T.grid T.base T.whole) (whole_neg n w (W.whole T.grid T.base T.whole)) V.within (within_neg m w W.within)
+
+pub values_apart : (z : Sizes) (end x : ℚ) (v w : Ext) → AreLimited z end → SumStart z end x → SumValueAt z x v → SumValueAt z x w → ValueApartFits v w
+values_apart z end x v w A s V W = room_apart z end x v w A (time_room z end x A s) V W
 
 slopes_apart_fit : (z : Sizes) (end s r : ℚ) → AreLimited z end → IsSlope z s → IsSlope z r → SumFits s (neg_ℚ r)
 slopes_apart_fit z end s r A h k =
@@ -88,9 +90,9 @@ slopes_apart_fit z end s r A h k =
 
 icepts_apart_fit : (z : Sizes) (end : ℚ) (l m : Line) → AreLimited z end → SumLine z l → SumLine z m → SumFits l.icept (neg_ℚ m.icept)
 icepts_apart_fit z end l m A L M =
-    small_sum z end 5 5 l.icept (neg_ℚ m.icept) A.sizes (wide_narrow z end A) (omega arith) L.icept (whole_neg (grid_of z) m.icept M.icept) L.within (within_neg (times_largest 5 z) m.icept M.within)
+    small_sum z end 6 6 l.icept (neg_ℚ m.icept) A.sizes (wide_narrow z end A) (omega arith) L.icept (whole_neg (grid_of z) m.icept M.icept) L.within (within_neg (times_largest 6 z) m.icept M.within)
 
-lines_apart : (z : Sizes) (end : ℚ) (l m : Option Line) → AreLimited z end → SumLineAt z l → SumLineAt z m → LineApartFits l m
+pub lines_apart : (z : Sizes) (end : ℚ) (l m : Option Line) → AreLimited z end → SumLineAt z l → SumLineAt z m → LineApartFits l m
 lines_apart z end None m A L M = tt
 lines_apart z end (Some l) None A L M = tt
 lines_apart z end (Some l) (Some m) A L M = (icepts_apart_fit z end l m A L M, slopes_apart_fit z end l.slope m.slope A L.slope M.slope)
@@ -100,8 +102,8 @@ nothing_over : (up down : ℚ) → down ≡ int (pos 0) → up /ℚ down ≡ int
 unfolding ◌/ℚ◌ inv_ℚ frac gcd gcd_steps
 nothing_over up down e = ap (λ d. up /ℚ d) e ∙ mul_zero up
 
-icepts_within : (z : Sizes) (l m : Line) → SumLine z l → SumLine z m → Within (times_largest 10 z) (m.icept -ℚ l.icept)
-icepts_within z l m L M = gap_within z 5 5 m.icept l.icept M.within L.within
+icepts_within : (z : Sizes) (l m : Line) → SumLine z l → SumLine z m → Within (times_largest 12 z) (m.icept -ℚ l.icept)
+icepts_within z l m L M = gap_within z 6 6 m.icept l.icept M.within L.within
 
 crossing_small : (z : Sizes) (end : ℚ) (l m : Line) → AreLimited z end → SumLine z l → SumLine z m → IsSmall ((m.icept -ℚ l.icept) /ℚ (l.slope -ℚ m.slope))
 crossing_small z end l m A L M = elim (q_same_or (l.slope -ℚ m.slope) (int (pos 0))) [
@@ -113,11 +115,11 @@ crossing_small z end l m A L M = elim (q_same_or (l.slope -ℚ m.slope) (int (po
       let s = t.sums in
       let p = t.steep in
       let d = grid_of z in
-      let wide : times_largest 10 z *ℚ int (pos d) ≤ℚ int (pos top) =
-      subst (λ y. y ≤ℚ int (pos top)) (sym (ap (λ y. y *ℚ int (pos d)) (int_mul (pos 10) (pos z.largest)) ∙ int_mul (pos (10 * z.largest)) (pos d))) (nat_le (10 * z.largest * d) top (omega (arith, s))) in
+      let wide : times_largest 12 z *ℚ int (pos d) ≤ℚ int (pos top) =
+      subst (λ y. y ≤ℚ int (pos top)) (sym (ap (λ y. y *ℚ int (pos d)) (int_mul (pos 12) (pos z.largest)) ∙ int_mul (pos (12 * z.largest)) (pos d))) (nat_le (12 * z.largest * d) top (omega (arith, s))) in
       let steep : int (pos z.steepness) *ℚ int (pos d) ≤ℚ int (pos top) = subst (λ y. y ≤ℚ int (pos top)) (sym (int_mul (pos z.steepness) (pos d))) (nat_le (z.steepness * d) top (omega (arith, p))) in
       let on : Whole d (l.slope -ℚ m.slope) = whole_weaken z.ds d (l.slope -ℚ m.slope) (dvd-mul_left z.ds (z.dv * z.dt)) (whole_sub z.ds l.slope m.slope L.slope.whole M.slope.whole) in
-      quotient_on_grid d (times_largest 10 z) (int (pos z.steepness)) (m.icept -ℚ l.icept) (l.slope -ℚ m.slope) (grid_pos z end A.sizes) h wide steep
+      quotient_on_grid d (times_largest 12 z) (int (pos z.steepness)) (m.icept -ℚ l.icept) (l.slope -ℚ m.slope) (grid_pos z end A.sizes) h wide steep
       (whole_sub d m.icept l.icept M.icept L.icept) on (icepts_within z l m L M) (halves_apart (int (pos z.steepness)) l.slope m.slope L.slope.within M.slope.within)
 ]
   where
@@ -129,7 +131,7 @@ crossing_not_wide z end l m w A L M (inl a) = a.1 (icepts_apart_fit z end m l A 
 crossing_not_wide z end l m w A L M (inr (inl b)) = b.1 (slopes_apart_fit z end l.slope m.slope A L.slope M.slope)
 crossing_not_wide z end l m w A L M (inr (inr c)) = c.1 (crossing_small z end l m A L M)
 
-cross_fits : (z : Sizes) (end : ℚ) (l m : Option Line) → AreLimited z end → SumLineAt z l → SumLineAt z m → CrossFits l m
+pub cross_fits : (z : Sizes) (end : ℚ) (l m : Option Line) → AreLimited z end → SumLineAt z l → SumLineAt z m → CrossFits l m
 cross_fits z end None m A L M = tt
 cross_fits z end (Some l) None A L M = tt
 cross_fits z end (Some l) (Some m) A L M = λ w. crossing_not_wide z end l m w A L M
@@ -150,7 +152,7 @@ meet_times l m t e =
     let j = m.icept in
     mul_comm t (l.slope -ℚ m.slope) ∙ sub_mul l.slope m.slope t ∙ with4 p q i j (λ c. omega (arith, c.le, c.lt, c.same))
 
-is_crossing : (z : Sizes) (end x : ℚ) (rises : Bool) (l m : Option Line) → AreLimited z end → SumLineAt z l → SumLineAt z m → CrossesAt rises l m x → IsCrossing z x
+pub is_crossing : (z : Sizes) (end x : ℚ) (rises : Bool) (l m : Option Line) → AreLimited z end → SumLineAt z l → SumLineAt z m → CrossesAt rises l m x → IsCrossing z x
 is_crossing z end x rises None m A L M C = absurd C
 is_crossing z end x rises (Some l) None A L M C = absurd C
 is_crossing z end x rises (Some l) (Some m) A L M C =
@@ -170,7 +172,7 @@ zero_is : (z : Sizes) → SumLine z zero_line
 zero_is z = record {
   slope = record { whole = whole_int z.ds (pos 0); within = still (int (pos z.steepness)) (nat_nonneg z.steepness) };
   icept = whole_int (grid_of z) (pos 0);
-  within = within_nonneg (times_largest 5 z) (int (pos 0)) (le_refl (int (pos 0))) (subst (λ y. int (pos 0) ≤ℚ y) (sym (int_mul (pos 5) (pos z.largest))) (nat_nonneg (5 * z.largest)));
+  within = within_nonneg (times_largest 6 z) (int (pos 0)) (le_refl (int (pos 0))) (subst (λ y. int (pos 0) ≤ℚ y) (sym (int_mul (pos 6) (pos z.largest))) (nat_nonneg (6 * z.largest)));
 }
   where
     still : (v : ℚ) → int (pos 0) ≤ℚ v → Within v (int (pos 2) *ℚ int (pos 0))
@@ -181,7 +183,7 @@ apart_in_room : (z : Sizes) (end : ℚ) (l m : Line) → AreLimited z end → Su
 apart_in_room z end l m A L M =
     let whole = whole_sub z.ds l.slope m.slope L.slope.whole M.slope.whole in
     let level : Line = record { icept = int (pos 0); slope = l.slope -ℚ m.slope } in
-    let stands : AnswerLine z 5 level = record {
+    let stands : AnswerLine z 6 level = record {
       icept = (zero_is z).icept;
       within = (zero_is z).within;
       slope = whole;
@@ -189,13 +191,13 @@ apart_in_room z end l m A L M =
     } in
     record {
       icept = whole_sub (grid_of z) l.icept m.icept L.icept M.icept;
-      within = within_weaken (times_largest 10 z) (many (answer_room z end) 2) (l.icept -ℚ m.icept) (ten z) (gap_within z 5 5 l.icept m.icept L.within M.within);
+      within = within_weaken (times_largest 12 z) (many (answer_room z end) 2) (l.icept -ℚ m.icept) (ten z) (gap_within z 6 6 l.icept m.icept L.within M.within);
       slope = whole;
-      rise = (line_in_room z end 5 level A (omega arith) stands).rise;
+      rise = (line_in_room z end 6 level A (omega arith) stands).rise;
     }
   where
-    ten : (z : Sizes) → times_largest 10 z ≤ℚ int (pos (2 * (8 * z.largest)))
-    ten z = subst (λ y. y ≤ℚ int (pos (2 * (8 * z.largest)))) (sym (int_mul (pos 10) (pos z.largest))) (nat_le (10 * z.largest) (2 * (8 * z.largest)) (omega arith))
+    ten : (z : Sizes) → times_largest 12 z ≤ℚ int (pos (2 * (8 * z.largest)))
+    ten z = subst (λ y. y ≤ℚ int (pos (2 * (8 * z.largest)))) (sym (int_mul (pos 12) (pos z.largest))) (nat_le (12 * z.largest) (2 * (8 * z.largest)) (omega arith))
 
 apart_fits : (z : Sizes) (end x : ℚ) (l m : Option Line) → AreLimited z end → SumLineAt z l → SumLineAt z m → SumStart z end x → LineFitsAt x (line_apart l m)
 apart_fits z end x l None A L M s = line_fits_at z end x (Some zero_line) A (zero_is z) s
@@ -226,7 +228,7 @@ sum_lower_fits z end f g A F G b of =
     }
 
 -- ---- the lower is such a window
-lesser_stands : (z : Sizes) (x : ℚ) (v w : Ext) → SumValueAt z x v → SumValueAt z x w → SumValueAt z x (min_ext v w)
+pub lesser_stands : (z : Sizes) (x : ℚ) (v w : Ext) → SumValueAt z x v → SumValueAt z x w → SumValueAt z x (min_ext v w)
 lesser_stands z x Inf w V W = W
 lesser_stands z x (Fin v) Inf V W = V
 lesser_stands z x (Fin v) (Fin w) V W = elim (min_q_one v w) [

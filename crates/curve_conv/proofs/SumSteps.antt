@@ -1,8 +1,8 @@
 -- Windows of what elements make: no step of the lower of two of them is too wide, and it is one again.
-use Rattle.std.specs.Prelude.{◌≡◌, pos, List, [], ◌∷◌, Option, Some, None}
+use Rattle.std.specs.Prelude.{◌≡◌, ◌⊎◌, pos, List, [], ◌∷◌, Option, Some, None}
 use Rattle.std.proofs.Common.{arith, sym, ap, ◌∙◌, subst, inl, inr}
 use Rattle.rational.specs.Rational.{ℚ, ◌*ℚ◌, ◌≤ℚ◌, int}
-use Rattle.rational.specs.Grid.{Within}
+use Rattle.rational.specs.Grid.{Whole, Within}
 use Rattle.rational.proofs.Integers.{nat_nonneg}
 use Rattle.rational.proofs.Laws.{le_or_lt, le_of_lt, antisym}
 use Rattle.rational.proofs.Linear.{with2}
@@ -18,7 +18,7 @@ use Rattle.upp_curve.specs.Room.{TimeHasRoom, LineHasRoom}
 use Rattle.upp_curve.proofs.FirstStretch.{value_past, value_at_start}
 use Rattle.upp_curve.proofs.NormaliseLists.{each_map}
 use Rattle.upp_curve.proofs.NormaliseRoomy.{each_in, found_early}
-use Rattle.upp_curve.proofs.AnswerRoom.{AnswerLine, room_at_start, crossing_room, line_in_room, line_fits_in, line_value_in, steep_run}
+use Rattle.upp_curve.proofs.AnswerRoom.{AnswerLine, IsCrossing, room_at_start, crossing_room, line_in_room, line_fits_in, line_value_in, steep_run}
 use Rattle.curve_window.specs.Stretches.{line_in, CutsFit}
 use Rattle.curve_conv.specs.ElementRoom.{SumLine}
 use Rattle.curve_conv.specs.SumWindows.{SumStart, SumValueAt, SumLineAt, SumPiece, SumWindow}
@@ -34,7 +34,7 @@ half v y h w =
     let u = w.high in
     record { low = with2 v y (λ c. omega (arith, c.le, c.lt, c.same)); high = with2 v y (λ c. omega (arith, c.le, c.lt, c.same)) }
 
-pub sum_answer : (z : Sizes) (l : Line) → SumLine z l → AnswerLine z 5 l
+pub sum_answer : (z : Sizes) (l : Line) → SumLine z l → AnswerLine z 6 l
 sum_answer z l L = record {
   icept = L.icept;
   within = L.within;
@@ -44,17 +44,31 @@ sum_answer z l L = record {
 
 pub line_room : (z : Sizes) (end : ℚ) (l : Option Line) → AreLimited z end → SumLineAt z l → LineHasRoom (answer_room z end) 1 l
 line_room z end None A L = tt
-line_room z end (Some l) A L = line_in_room z end 5 l A (omega arith) (sum_answer z l L)
+line_room z end (Some l) A L = line_in_room z end 6 l A (omega arith) (sum_answer z l L)
 
 pub line_fits_at : (z : Sizes) (end x : ℚ) (l : Option Line) → AreLimited z end → SumLineAt z l → SumStart z end x → LineFitsAt x l
 line_fits_at z end x l A L s = line_fits_in z end x l A (line_room z end l A L) (time_room z end x A s) (le_of_lt s.before)
 
 -- ---- readings
+-- up to the end of the window
+pub place_room : (z : Sizes) (end x : ℚ) → AreLimited z end → Whole z.dt x ⊎ IsCrossing z x → int (pos 0) ≤ℚ x → TimeHasRoom (answer_room z end) x
+place_room z end x A p low = elim p [ inl w ↦ room_at_start z end x A w low | inr k ↦ crossing_room z end x A k low ]
+
+pub line_fits_to : (z : Sizes) (end x : ℚ) (l : Option Line) → AreLimited z end → SumLineAt z l → Whole z.dt x ⊎ IsCrossing z x → int (pos 0) ≤ℚ x → x ≤ℚ end → LineFitsAt x l
+line_fits_to z end x l A L p low high = line_fits_in z end x l A (line_room z end l A L) (place_room z end x A p low) high
+
+pub line_value_to : (z : Sizes) (end x : ℚ) (l : Option Line) → AreLimited z end → SumLineAt z l → int (pos 0) ≤ℚ x → x ≤ℚ end → SumValueAt z x (line_value l x)
+line_value_to z end x None A L low high = tt
+line_value_to z end x (Some l) A L low high = record {
+  whole = λ grid base on. (line_value_in z end 6 grid l x A (omega arith) (sum_answer z l L) base on low high).whole;
+  within = sum_within z 6 1 l.icept (l.slope *ℚ x) L.within (steep_run z end l.slope x A (sum_answer z l L).steep low high);
+}
+
 pub line_value_on : (z : Sizes) (end x : ℚ) (l : Option Line) → AreLimited z end → SumLineAt z l → SumStart z end x → SumValueAt z x (line_value l x)
 line_value_on z end x None A L s = tt
 line_value_on z end x (Some l) A L s = record {
-  whole = λ grid base on. (line_value_in z end 5 grid l x A (omega arith) (sum_answer z l L) base on s.nonneg (le_of_lt s.before)).whole;
-  within = sum_within z 5 1 l.icept (l.slope *ℚ x) L.within (steep_run z end l.slope x A (sum_answer z l L).steep s.nonneg (le_of_lt s.before));
+  whole = λ grid base on. (line_value_in z end 6 grid l x A (omega arith) (sum_answer z l L) base on s.nonneg (le_of_lt s.before)).whole;
+  within = sum_within z 6 1 l.icept (l.slope *ℚ x) L.within (steep_run z end l.slope x A (sum_answer z l L).steep s.nonneg (le_of_lt s.before));
 }
 
 pub start_in : (z : Sizes) (end x : ℚ) (ps : List Piece) → Each (SumPiece z end) ps → HasStart x ps → SumStart z end x

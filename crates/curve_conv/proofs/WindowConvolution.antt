@@ -39,6 +39,7 @@ envelope_convolves end f g ps o E = record {
   starts = E.starts;
   reads = λ t low high. (windows_convolve f g Inf t (read ps t) o.left.starts o.right.starts (endless f) (endless g) tt).0 (E.reads t low high);
   stands = λ r. E.stands (room_of end f g r);
+  arches = λ r. E.arches (room_of end f g r);
 }
 
 pub ok_convolves : {E : Type 0} (r : Result (Vec Piece Global) E) (end : ℚ) (f g : List Piece) (xs ys : List Element) → xs ≡ elements_of f Inf → ys ≡ elements_of g Inf → OperandWindows end f g

@@ -88,7 +88,7 @@ windows_convolve f g end t v hf hg bf bg early =
 
 -- ---- curves
 -- functions that agree before `until` have one convolution there
-agreeing : (f g p q : ℚ → Ext) (until t : ℚ) (v : Ext) → ((s : ℚ) → int (pos 0) ≤ℚ s → s <ℚ until → f s ≡ p s) → ((s : ℚ) → int (pos 0) ≤ℚ s → s <ℚ until → g s ≡ q s)
+pub agreeing : (f g p q : ℚ → Ext) (until t : ℚ) (v : Ext) → ((s : ℚ) → int (pos 0) ≤ℚ s → s <ℚ until → f s ≡ p s) → ((s : ℚ) → int (pos 0) ≤ℚ s → s <ℚ until → g s ≡ q s)
     → t <ℚ until → IsConvolution f g t v → IsConvolution p q t v
 agreeing f g p q until t v h k early c =
     same_infimum {I = Split t} {J = Split t} (λ s. f s.first +ₑ g s.second) (λ s. p s.first +ₑ q s.second) v

@@ -8,6 +8,7 @@ use Rattle.upp_curve.specs.Normal.{StartsAtZero}
 use Rattle.upp_curve.specs.Operand.{AreLimited, OperandPieces}
 use Rattle.upp_curve.specs.Reading.{read}
 use Rattle.curve_conv.specs.SumWindows.{SumWindow}
+use Rattle.curve_conv.specs.Arches.{Arches}
 
 -- the unrolled pieces of two operands of one call, below the end of its window, which is after 0
 pub record OperandWindows (end : ℚ) (f g : List Piece) : Type 0 where
@@ -17,8 +18,10 @@ pub record OperandWindows (end : ℚ) (f g : List Piece) : Type 0 where
   pub left : OperandPieces sizes end f
   pub right : OperandPieces sizes end g
 
--- pieces from 0 on that read, before the end, as the convolution; and they stand where what elements make stands
+-- pieces from 0 on that read, before the end, as the convolution; they stand where what elements make stands, and bend
+-- only downwards between the times of the grid
 pub record IsConvolutionWindow (f g : List Piece) (end : ℚ) (ps : List Piece) : Type 0 where
   pub starts : StartsAtZero ps
   pub reads : (t : ℚ) → int (pos 0) ≤ℚ t → t <ℚ end → IsConvolution (read f) (read g) t (read ps t)
   pub stands : (r : OperandWindows end f g) → SumWindow r.sizes end ps
+  pub arches : (r : OperandWindows end f g) → Arches r.sizes.dt end (read ps)

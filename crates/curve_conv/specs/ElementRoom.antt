@@ -9,7 +9,8 @@ use Rattle.affine_segment.specs.declared.element.Element.{Element}
 use Rattle.affine_segment.specs.declared.element.Element.TheVariants.{Point, Open}
 use Rattle.affine_segment.specs.declared.element.Joined.{Joined}
 use Rattle.upp_curve.specs.Limits.{Sizes}
-use Rattle.upp_curve.specs.Sized.{IsSlope, IsValue, grid_of, times_largest}
+use Rattle.upp_curve.specs.Sized.{IsSlope, grid_of, times_largest}
+use Rattle.upp_curve.specs.Ahead.{IsGridValue}
 use Rattle.upp_curve.specs.Operand.{AreLimited, OperandLine}
 
 -- ---- of an operand
@@ -25,7 +26,7 @@ WindowEnd z end (Fin t) = WindowTime z end t
 
 pub record OperandPoint (z : Sizes) (end x v : ℚ) : Type 0 where
   pub time : WindowTime z end x
-  pub value : IsValue z v
+  pub value : IsGridValue z v
 
 pub record OperandSegment (z : Sizes) (end from : ℚ) (to : Ext) (l : Line) : Type 0 where
   pub start : WindowTime z end from
@@ -52,11 +53,11 @@ pub record SumValue (z : Sizes) (v : ℚ) : Type 0 where
   pub whole : Whole (grid_of z) v
   pub within : Within (times_largest 6 z) v
 
--- a line of an operand's slope, its value at 0 on the grid of sums within five times the largest value
+-- a line of an operand's slope, its value at 0 on the grid of sums within six times the largest value
 pub record SumLine (z : Sizes) (l : Line) : Type 0 where
   pub slope : IsSlope z l.slope
   pub icept : Whole (grid_of z) l.icept
-  pub within : Within (times_largest 5 z) l.icept
+  pub within : Within (times_largest 6 z) l.icept
 
 pub record SumPoint (z : Sizes) (end x v : ℚ) : Type 0 where
   pub time : SumTime z end x

@@ -12,6 +12,7 @@ use Rattle.curve_conv.specs.PieceElements.{Among}
 use Rattle.curve_conv.specs.ElementRoom.{OperandElement}
 use Rattle.curve_conv.specs.Envelopes.{IsEnvelope}
 use Rattle.curve_conv.specs.SumWindows.{SumWindow}
+use Rattle.curve_conv.specs.Arches.{Arches}
 
 -- segments start before their ends, and all elements stand within one call's sizes, for a window that ends after 0
 pub record EnvelopeRoom (end : ℚ) (xs ys : List Element) : Type 0 where
@@ -23,8 +24,10 @@ pub record EnvelopeRoom (end : ℚ) (xs ys : List Element) : Type 0 where
   pub left : (e : Element) → Among e xs → OperandElement sizes end e
   pub right : (e : Element) → Among e ys → OperandElement sizes end e
 
--- pieces from 0 on that read, before the end, as the least of all pairs; and they stand where what elements make stands
+-- pieces from 0 on that read, before the end, as the least of all pairs; they stand where what elements make stands, and bend only
+-- downwards between the times of the grid
 pub record IsEnvelopeWindow (end : ℚ) (xs ys : List Element) (ps : List Piece) : Type 0 where
   pub starts : StartsAtZero ps
   pub reads : (t : ℚ) → int (pos 0) ≤ℚ t → t <ℚ end → IsEnvelope xs ys t (read ps t)
   pub stands : (r : EnvelopeRoom end xs ys) → SumWindow r.sizes end ps
+  pub arches : (r : EnvelopeRoom end xs ys) → Arches r.sizes.dt end (read ps)

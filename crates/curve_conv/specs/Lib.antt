@@ -6,5 +6,6 @@ pub mod RoomLaws
 pub mod JoinedWindows
 pub mod SumWindows
 pub mod WindowLaws
+pub mod Arches
 pub mod EnvelopeWindows
 pub mod ConvolutionWindows

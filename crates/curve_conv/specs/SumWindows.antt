@@ -19,10 +19,10 @@ pub record SumStart (z : Sizes) (end x : ℚ) : Type 0 where
   pub nonneg : int (pos 0) ≤ℚ x
   pub before : x <ℚ end
 
--- a value at the time x: on the grid of any grid of that time, within six times the largest
+-- a value at the time x: on the grid of any grid of that time, within seven times the largest
 pub record SumValueOn (z : Sizes) (x v : ℚ) : Type 0 where
   pub whole : (grid : ℕ) → z.dv * z.dt ∣ grid → Whole grid x → Whole (grid * z.ds) v
-  pub within : Within (times_largest 6 z) v
+  pub within : Within (times_largest 7 z) v
 
 abbrev pub SumValueAt : Sizes → ℚ → Ext → Type 0
 SumValueAt z x Inf = Unit {0}

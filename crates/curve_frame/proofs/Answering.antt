@@ -1,19 +1,17 @@
 -- Pieces of an answer meet what the normal form asks of a curve in any form; and what holds in its window and shifts with it holds of the answer.
-use Rattle.std.specs.Prelude.{◌≡◌, ℕ, ◌+◌, ◌*◌, ◌<◌, ◌≤◌, ◌^◌, pos, List, [], ◌∷◌}
-use Rattle.std.proofs.Common.{arith, sym, ap, ◌∙◌, refl, subst}
-use Rattle.rational.specs.Rational.{ℚ, ◌+ℚ◌, ◌*ℚ◌, ◌≤ℚ◌, ◌<ℚ◌, int}
-use Rattle.rational.specs.Grid.{Whole, Within}
+use Rattle.std.specs.Prelude.{◌≡◌, ℕ, ◌<◌, ◌^◌, pos, List}
+use Rattle.std.proofs.Common.{arith, sym, subst}
+use Rattle.rational.specs.Rational.{ℚ, ◌+ℚ◌, ◌≤ℚ◌, ◌<ℚ◌, int}
 use Rattle.rational.specs.Extended.{Ext, ◌+ₑ◌}
 use Rattle.rational.specs.declared.Extended.TheVariants.{Fin, Inf}
 use Rattle.rational.proofs.Linear.{with3}
-use Rattle.rational.proofs.Laws.{le_of_lt, le_trans}
+use Rattle.rational.proofs.Laws.{le_of_lt}
 use Rattle.rational.proofs.Grid.{within_weaken}
 use Rattle.affine_segment.specs.declared.line.Piece.{Piece}
 use Rattle.upp_curve.specs.declared.curve.Tail.TheVariants.{Periodic, Infinite}
 use Rattle.upp_curve.specs.Reading.{read}
 use Rattle.upp_curve.specs.Curve.{SpecCurve, repeated, cut, value_at}
-use Rattle.upp_curve.specs.Normal.{IsRaw}
-use Rattle.upp_curve.specs.Normalising.{HasValues, OnGridsUnlessLine, TailOnGrids}
+use Rattle.upp_curve.specs.Normalising.{HasValues, OnGridsUnlessLine}
 use Rattle.upp_curve.specs.Room.{TailHasRoom, TurnHasRoom}
 use Rattle.upp_curve.specs.Limits.{Sizes}
 use Rattle.upp_curve.specs.Sized.{grid_of}

@@ -1,6 +1,6 @@
 -- Below a gauge of 2 ^ 128 the steps to the end of a call's window fit.
-use Rattle.std.specs.Prelude.{◌≡◌, ℕ, ◌+◌, ◌<◌, ◌≤◌, ◌^◌, pos, ◌⊎◌}
-use Rattle.std.proofs.Common.{arith, sym, ap, ◌∙◌, refl, subst, inl, inr}
+use Rattle.std.specs.Prelude.{◌≡◌, ℕ, ◌<◌, ◌≤◌, ◌^◌, pos}
+use Rattle.std.proofs.Common.{arith, sym, ap, ◌∙◌, subst, inl, inr}
 use Rattle.std.proofs.lemmas.Bool.{cases_lt}
 use Rattle.rational.specs.Rational.{ℚ, ◌+ℚ◌, ◌*ℚ◌, ◌≤ℚ◌, ◌<ℚ◌, int}
 use Rattle.rational.specs.Ratio.{IsSmall}
@@ -21,11 +21,10 @@ use Rattle.upp_curve.specs.Gauges.{numbers_over, gauge_over, gauge_at}
 use Rattle.upp_curve.proofs.CurveStands.{are_sizes}
 use Rattle.upp_curve.proofs.Stands.{sizes_stand}
 use Rattle.upp_curve.proofs.NarrowSizes.{narrow_gauge}
-use Rattle.curve_frame.specs.declared.windows.CallWindow.{CallWindow}
 use Rattle.curve_frame.specs.Times.{PeriodsFit}
-use Rattle.curve_frame.specs.CallWindows.{IsForward, SecondIsCurve, start_of, number_of, period_in, StartFits, IsWindow}
-use Rattle.curve_frame.proofs.CurveTimes.{IsPeriod, small_time, periods_fit}
-use Rattle.curve_frame.proofs.CallTimes.{IsCall, IsStart, IsNarrowCall, window_is, period_on, start_on, start_fits}
+use Rattle.curve_frame.specs.CallWindows.{IsForward, SecondIsCurve, start_of, number_of, period_in, StartFits}
+use Rattle.curve_frame.proofs.CurveTimes.{small_time, periods_fit}
+use Rattle.curve_frame.proofs.CallTimes.{IsCall, IsNarrowCall, window_is, period_on, start_on, start_fits}
 
 pub number_some : (op : OpKind) (k m : ℕ) → IsForward op → 1 ≤ number_of op k m
 number_some Sum k m h = omega arith

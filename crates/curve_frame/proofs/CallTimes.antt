@@ -1,14 +1,14 @@
 -- The times of a call in its window: its start and its period stand on the grid of times, and the steps to them and to the window's end fit.
-use Rattle.std.specs.Prelude.{◌≡◌, ℕ, suc, ◌+◌, ◌<◌, ◌^◌, pos}
-use Rattle.std.proofs.Common.{arith, sym, ap, ◌∙◌, refl, subst}
-use Rattle.rational.specs.Rational.{ℚ, ◌+ℚ◌, ◌*ℚ◌, ◌≤ℚ◌, ◌<ℚ◌, int}
+use Rattle.std.specs.Prelude.{◌≡◌, ℕ, suc, ◌+◌, ◌^◌, pos}
+use Rattle.std.proofs.Common.{arith, sym, ap, ◌∙◌, refl}
+use Rattle.rational.specs.Rational.{ℚ, ◌+ℚ◌, ◌*ℚ◌, ◌≤ℚ◌, int}
 use Rattle.rational.specs.MinMax.{max_q}
-use Rattle.rational.specs.Ratio.{IsSmall, SumFits}
+use Rattle.rational.specs.Ratio.{SumFits}
 use Rattle.rational.specs.Grid.{Whole}
 use Rattle.rational.specs.declared.Extended.TheVariants.{Fin, Inf}
-use Rattle.rational.proofs.Linear.{with2, with3, with4, with5, with6}
-use Rattle.rational.proofs.Laws.{le_refl, le_trans, le_of_lt, mul_nonneg, mul_le_mul_right, one_mul, zero_mul, add_zero, add_assoc, add_mul}
-use Rattle.rational.proofs.Integers.{nat_le, nat_nonneg, int_add}
+use Rattle.rational.proofs.Linear.{with2, with3}
+use Rattle.rational.proofs.Laws.{le_refl, le_trans, le_of_lt, one_mul, zero_mul, add_zero, add_assoc, add_mul}
+use Rattle.rational.proofs.Integers.{int_add}
 use Rattle.rational.proofs.MinMax.{max_q_ge_left, max_q_ge_right}
 use Rattle.rational.proofs.Grid.{whole_int, whole_add}
 use Rattle.upp_curve.specs.declared.op_kind.OpKind.{OpKind}
@@ -17,17 +17,16 @@ use Rattle.upp_curve.specs.Curve.{SpecCurve}
 use Rattle.upp_curve.specs.Curves.{IsCurve}
 use Rattle.upp_curve.specs.Functions.{zero_q}
 use Rattle.upp_curve.specs.Steady.{steady}
-use Rattle.upp_curve.specs.Periods.{common_period, own_period, period_of, period_or, both_steady, moved_steady, periods_after}
+use Rattle.upp_curve.specs.Periods.{common_period, own_period, period_of, period_or, both_steady, periods_after}
 use Rattle.upp_curve.specs.Windows.{window_at}
-use Rattle.upp_curve.specs.Limits.{Sizes, Numbers, joined, curve_numbers, sizes_of, gauge_of}
-use Rattle.upp_curve.specs.Gauges.{scaled_curve, both_numbers, kind_numbers, numbers_over, gauge_over, gauge_at}
-use Rattle.upp_curve.specs.Sized.{AreSizes, Stands, HeldBy}
-use Rattle.upp_curve.proofs.CurveStands.{are_sizes}
-use Rattle.upp_curve.proofs.Stands.{sizes_stand, stands_left, stands_right}
-use Rattle.upp_curve.proofs.NarrowSizes.{IsNarrow, narrow_gauge}
-use Rattle.curve_frame.specs.Times.{PeriodsFit, OneLaterFits, BothSteadyFit}
+use Rattle.upp_curve.specs.Limits.{Sizes, joined, curve_numbers}
+use Rattle.upp_curve.specs.Gauges.{scaled_curve, both_numbers, kind_numbers, numbers_over}
+use Rattle.upp_curve.specs.Sized.{AreSizes, Stands}
+use Rattle.upp_curve.proofs.Stands.{stands_left, stands_right}
+use Rattle.upp_curve.proofs.NarrowSizes.{IsNarrow}
+use Rattle.curve_frame.specs.Times.{OneLaterFits, BothSteadyFit}
 use Rattle.curve_frame.specs.CallWindows.{IsForward, SecondIsCurve, start_of, number_of, period_in, StartFits}
-use Rattle.curve_frame.proofs.CurveTimes.{IsPeriod, sum_fits, time_within, small_time, periods_fit, steady_nonneg, steady_whole, one_later, one_period, own_on, both_on, own_or_on, max_whole, both_fit}
+use Rattle.curve_frame.proofs.CurveTimes.{IsPeriod, sum_fits, time_within, small_time, steady_nonneg, steady_whole, one_later, own_on, both_on, own_or_on, max_whole, both_fit}
 
 -- ---- the window's end as whole periods after the start
 one_more : (t d : ℚ) → t +ℚ d ≡ periods_after t 1 d

@@ -1,8 +1,8 @@
 -- The rise of a curve over a whole number of its periods in a call's window: the steps to it fit, and it stands on the grid of sums, within three
 -- times the largest value.
-use Rattle.std.specs.Prelude.{◌≡◌, ℕ, zero, suc, ◌+◌, ◌*◌, ◌<◌, ◌≤◌, ◌^◌, pos, Bool, true, false, cond, List, [], ◌∷◌, Option, Some, None, ◌⊎◌}
+use Rattle.std.specs.Prelude.{◌≡◌, ℕ, zero, suc, ◌<◌, ◌^◌, pos, Bool, true, false, cond, List, [], ◌∷◌, Option, Some, None, ◌⊎◌}
 use Rattle.std.specs.List.{AllByRecursion}
-use Rattle.std.proofs.Common.{arith, sym, ap, ap₂, ◌∙◌, refl, subst, inl, inr}
+use Rattle.std.proofs.Common.{arith, sym, ap, ◌∙◌, refl, subst, inl, inr}
 use Rattle.rational.specs.Rational.{ℚ, ◌+ℚ◌, ◌-ℚ◌, ◌*ℚ◌, ◌/ℚ◌, ◌≤ℚ◌, ◌<ℚ◌, int, le_q}
 use Rattle.rational.specs.Ratio.{IsSmall}
 use Rattle.rational.specs.Grid.{Whole, Within}
@@ -24,7 +24,7 @@ use Rattle.upp_curve.specs.declared.curve.Tail.TheVariants.{Periodic, Affine, In
 use Rattle.upp_curve.specs.Reading.{read, piece_in, piece_value}
 use Rattle.upp_curve.specs.Curve.{SpecCurve, repeated, value_at}
 use Rattle.upp_curve.specs.Curves.{IsCurve}
-use Rattle.upp_curve.specs.Normal.{Each, HasStart, RisesFrom, StartsAtZero, IsNormal}
+use Rattle.upp_curve.specs.Normal.{Each, HasStart, RisesFrom, StartsAtZero}
 use Rattle.upp_curve.specs.Steady.{rank_of, last_of, slope_times, rise_over, IsWholePeriods, steady}
 use Rattle.upp_curve.specs.Periods.{HasPeriod, period_of, common_of, common_period, own_period}
 use Rattle.upp_curve.specs.Spans.{Span, spans, span_below, spans_below, copies_of, once_below}

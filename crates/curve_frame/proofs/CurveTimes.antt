@@ -1,20 +1,19 @@
 -- The times of a curve in a call's window: from when on it repeats, its period and the common one of two stand on the grid of times, and steps
 -- with times up to the window's end fit.
-use Rattle.std.specs.Prelude.{◌≡◌, ℕ, zero, suc, ◌+◌, ◌*◌, ◌<◌, ◌≤◌, ◌^◌, ℤ, pos, ◌<ℤ◌, Bool, true, false, List, Option, Some, None, ◌⊎◌}
-use Rattle.std.proofs.Common.{arith, sym, ap, ◌∙◌, refl, subst, inl, inr}
+use Rattle.std.specs.Prelude.{◌≡◌, ℕ, ◌*◌, ◌<◌, ◌≤◌, ◌^◌, pos, ◌<ℤ◌, Bool, true, false, List, Option, Some, None}
+use Rattle.std.proofs.Common.{arith, sym, subst, inl, inr}
 use Rattle.std.proofs.lemmas.Int.{ints}
 use native.Mathlib.Nat.{mul-le-mul_right}
-use Rattle.rational.specs.Rational.{ℚ, ◌+ℚ◌, ◌*ℚ◌, ◌≤ℚ◌, ◌<ℚ◌, int}
+use Rattle.rational.specs.Rational.{ℚ, ◌*ℚ◌, ◌≤ℚ◌, ◌<ℚ◌, int}
 use Rattle.rational.specs.MinMax.{max_q}
 use Rattle.rational.specs.Ratio.{IsSmall, SumFits}
 use Rattle.rational.specs.Grid.{Whole, Within}
-use Rattle.rational.proofs.Linear.{with1, with2, with3}
-use Rattle.rational.proofs.Laws.{le_refl, le_trans, lt_le_trans, le_of_lt, mul_le_mul, mul_le_mul_right, mul_nonneg, mul_pos, mul_one, mul_assoc, le_or_lt}
+use Rattle.rational.proofs.Linear.{with1, with3}
+use Rattle.rational.proofs.Laws.{le_refl, le_trans, le_of_lt, mul_le_mul, mul_le_mul_right, mul_nonneg, mul_pos, mul_one, mul_assoc}
 use Rattle.rational.proofs.Integers.{nat_le, nat_le_out, nat_lt, nat_nonneg, int_le, int_lt_out, mul_whole}
 use Rattle.rational.proofs.MinMax.{max_q_one}
 use Rattle.rational.proofs.Grid.{whole_int, whole_add, whole_times, within_nonneg}
 use Rattle.rational.proofs.Sizes.{largest_part, small_on_grid, sum_on_grid}
-use Rattle.fraction128.specs.Multiple.{IsMultiple, IsLeastMultiple, common_multiple}
 use Rattle.fraction128.proofs.CommonMultiple.{common_multiple_least}
 use Rattle.affine_segment.specs.declared.line.Piece.{Piece}
 use Rattle.upp_curve.specs.declared.curve.Tail.{Tail}
@@ -23,7 +22,7 @@ use Rattle.upp_curve.specs.Curve.{SpecCurve}
 use Rattle.upp_curve.specs.Curves.{IsCurve}
 use Rattle.upp_curve.specs.Normal.{TailFits}
 use Rattle.upp_curve.specs.Steady.{rank_of, later_unless, steady}
-use Rattle.upp_curve.specs.Periods.{HasPeriod, period_of, period_or, common_of, common_period, own_period, both_steady, periods_after}
+use Rattle.upp_curve.specs.Periods.{HasPeriod, period_of, period_or, common_of, common_period, own_period, periods_after}
 use Rattle.upp_curve.specs.Limits.{Sizes, curve_numbers}
 use Rattle.upp_curve.specs.Sized.{AreSizes, Stands, TailStands}
 use Rattle.upp_curve.proofs.Operands.{curve_period}

@@ -1,7 +1,7 @@
 -- More periods give no smaller gauge; so a call whose gauge is over the limit with none of them is too wide.
-use Rattle.std.specs.Prelude.{◌≡◌, ℕ, ◌+◌, ◌≤◌, ◌^◌, pos}
+use Rattle.std.specs.Prelude.{ℕ, ◌≤◌, ◌^◌, pos}
 use Rattle.std.proofs.Common.{arith, sym, subst}
-use Rattle.rational.specs.Rational.{ℚ, ◌+ℚ◌, ◌*ℚ◌, ◌≤ℚ◌, ◌<ℚ◌, int}
+use Rattle.rational.specs.Rational.{ℚ, ◌*ℚ◌, ◌≤ℚ◌, int}
 use Rattle.rational.specs.declared.Extended.TheVariants.{Fin, Inf}
 use Rattle.rational.proofs.Linear.{with3}
 use Rattle.rational.proofs.Laws.{le_of_lt, mul_le_mul_right}
@@ -12,7 +12,7 @@ use Rattle.upp_curve.specs.Curve.{SpecCurve}
 use Rattle.upp_curve.specs.Curves.{IsCurve}
 use Rattle.upp_curve.specs.Periods.{periods_after}
 use Rattle.upp_curve.specs.Windows.{window_at, IsLeastPeriods}
-use Rattle.upp_curve.specs.Limits.{Sizes, sizes_of}
+use Rattle.upp_curve.specs.Limits.{sizes_of}
 use Rattle.upp_curve.specs.Gauges.{IsKnownAtOnce, numbers_over, gauge_at, IsTooWide}
 use Rattle.upp_curve.proofs.Operands.{curve_period}
 use Rattle.upp_curve.proofs.Stands.{sizes_stand}

@@ -1,19 +1,18 @@
 -- What a frame of a call gives: sizes of its window that hold the operands' numbers, and where its start and its period stand.
-use Rattle.std.specs.Prelude.{◌≡◌, ℕ, ◌<◌, ◌^◌, pos}
-use Rattle.std.proofs.Common.{arith, sym, ap, ◌∙◌, refl, subst}
-use Rattle.rational.specs.Rational.{ℚ, ◌≤ℚ◌, int}
+use Rattle.std.specs.Prelude.{◌≡◌, ℕ}
+use Rattle.std.proofs.Common.{sym, subst}
 use Rattle.rational.proofs.Laws.{le_trans}
 use Rattle.upp_curve.specs.declared.op_kind.OpKind.{OpKind}
 use Rattle.upp_curve.specs.Curve.{SpecCurve}
 use Rattle.upp_curve.specs.Windows.{window_at}
-use Rattle.upp_curve.specs.Limits.{Sizes, sizes_of}
-use Rattle.upp_curve.specs.Gauges.{numbers_over, gauge_over, gauge_at}
+use Rattle.upp_curve.specs.Limits.{Sizes}
+use Rattle.upp_curve.specs.Gauges.{numbers_over, gauge_over}
 use Rattle.upp_curve.specs.Sized.{Stands, grid_of}
 use Rattle.upp_curve.specs.Operand.{AreLimited}
 use Rattle.upp_curve.proofs.CurveStands.{are_sizes}
 use Rattle.upp_curve.proofs.Stands.{sizes_stand}
 use Rattle.curve_frame.specs.declared.frame.Frame.{Frame}
-use Rattle.curve_frame.specs.CallWindows.{IsForward, SecondIsCurve, start_of, period_in}
+use Rattle.curve_frame.specs.CallWindows.{IsForward, start_of}
 use Rattle.curve_frame.specs.Frames.{IsFrame, sizes_at}
 use Rattle.curve_frame.proofs.CurveTimes.{IsPeriod}
 use Rattle.curve_frame.proofs.CallTimes.{IsCall, IsStart, period_on, start_on}

@@ -8,13 +8,12 @@ use Rattle.upp_curve.specs.declared.call_sizes.CallNumbers.{CallNumbers}
 use Rattle.upp_curve.specs.Curve.{SpecCurve}
 use Rattle.upp_curve.specs.Curves.{IsCurve}
 use Rattle.upp_curve.specs.Windows.{window_at}
-use Rattle.upp_curve.specs.Limits.{Sizes, sizes_of, gauge_of}
+use Rattle.upp_curve.specs.Limits.{Sizes, sizes_of}
 use Rattle.upp_curve.specs.Gauges.{numbers_over, gauge_over, gauge_at, tally_at}
-use Rattle.upp_curve.specs.Sized.{Stands, grid_of}
-use Rattle.upp_curve.specs.Operand.{AreLimited}
+use Rattle.upp_curve.specs.Sized.{grid_of}
 use Rattle.upp_curve.specs.CallNumbers.{AreCallNumbers}
 use Rattle.curve_frame.specs.declared.frame.Frame.{Frame}
-use Rattle.curve_frame.specs.CallWindows.{IsForward, SecondIsCurve, start_of, period_in}
+use Rattle.curve_frame.specs.CallWindows.{SecondIsCurve, start_of, period_in}
 
 -- the sizes of a call with k and m periods
 abbrev pub sizes_at : OpKind → SpecCurve → SpecCurve → ℕ → ℕ → Sizes

@@ -8,30 +8,7 @@ ghost use Rattle.curve_frame.specs.Rises.{CurveRiseFits, SlopeTimesFits};
 
 use affine_segment::Piece;
 use fraction128::Frac;
-use upp_curve::{Curve, Tail};
-
-// a b.
-fn product(a: Frac, b: Frac) -> Frac
-    requires { IsSmall (a *ℚ b) }
-    ensures { result ≡ a *ℚ b }
-{
-    match Frac::mul(a, b) {
-        Ok(product) => product,
-        Err(_) => a,
-    }
-}
-
-// a / b.
-fn quotient(a: Frac, b: Frac) -> Frac
-    requires some { b ≢ int (pos 0) }
-    requires fits { IsSmall (a /ℚ b) }
-    ensures { result ≡ a /ℚ b }
-{
-    match Frac::div(a, b) {
-        Ok(quotient) => quotient,
-        Err(_) => a,
-    }
-}
+use upp_curve::{Curve, Tail, product, quotient};
 
 // By how much the last line rises over d.
 fn last_rise(pieces: &[Piece], d: Frac) -> Frac

@@ -10,7 +10,7 @@ use upp_curve::{Curve, OpFault, OpKind};
 
 /// The window of a call with no period. Refused with TooWide exactly where its gauge is 2^120 or more, however many pieces
 /// there are.
-pub(crate) fn first_window(op: &OpKind, f: &Curve, g: &Curve) -> Result<CallWindow, OpFault>
+pub fn first_window(op: &OpKind, f: &Curve, g: &Curve) -> Result<CallWindow, OpFault>
     requires { IsForward op.now }
     ensures window { IfOk result (IsFirstWindow op.now f.now g.now) }
     ensures refused { IfErr result (IsWideAtFirst op.now f.now g.now) }

@@ -9,4 +9,5 @@ mod levels;
 mod tests;
 
 pub use extremes::{max, min, pos_diff};
+pub use gate::first_window;
 pub use levels::pos_minus;

@@ -25,8 +25,7 @@ use crate::sides::Side;
 use affine_segment::{Line, value};
 use fraction128::{Ext, Frac};
 use rational::Extended;
-use std::cmp::Ordering;
-use upp_curve::{Curve, Stretch};
+use upp_curve::{Curve, Stretch, difference, is_less};
 
 /// By how much one function is above another over some times, where the other is finite.
 #[derive(Debug, Clone, Copy)]
@@ -37,24 +36,6 @@ pub enum Gap {
     Never,
     /// The least number that the one is nowhere more than above the other.
     Is(Frac),
-}
-
-/// Whether a is less than b.
-pub(crate) fn is_less(a: Frac, b: Frac) -> bool
-    ensures { IsTrue result ↔ (a <ℚ b) }
-{
-    match a.cmp(&b) {
-        Ordering::Less => true,
-        _ => false,
-    }
-}
-
-/// a - b.
-pub(crate) fn difference(a: Frac, b: Frac) -> Frac
-    requires { SumFits a (neg_ℚ b) }
-    ensures { result ≡ a -ℚ b }
-{
-    Frac::sub(a, b).unwrap()
 }
 
 /// The value at t of a line that may be missing.

@@ -13,36 +13,11 @@ ghost use Rattle.curve_least.specs.Gaps.{InWindow, IsLargest};
 ghost use Rattle.curve_least.specs.GapSteps.{IsGapValue};
 ghost use Rattle.curve_least.specs.Compared.{AreCompared};
 
-use crate::gaps::{Gap, difference, is_less, side_gap};
+use crate::gaps::{Gap, side_gap};
 use crate::sides::Side;
 use fraction128::Frac;
 use rational::Extended;
-use upp_curve::Curve;
-
-/// a + b.
-fn sum(a: Frac, b: Frac) -> Frac
-    requires { SumFits a b }
-    ensures { result ≡ a +ℚ b }
-{
-    Frac::add(a, b).unwrap()
-}
-
-/// a b.
-fn product(a: Frac, b: Frac) -> Frac
-    requires { IsSmall (a *ℚ b) }
-    ensures { result ≡ a *ℚ b }
-{
-    Frac::mul(a, b).unwrap()
-}
-
-/// a / b.
-fn quotient(a: Frac, b: Frac) -> Frac
-    requires some { b ≢ int (pos 0) }
-    requires fits { IsSmall (a /ℚ b) }
-    ensures { result ≡ a /ℚ b }
-{
-    Frac::div(a, b).unwrap()
-}
+use upp_curve::{Curve, difference, is_less, product, quotient, sum};
 
 /// By how much a curve rises over d.
 fn rise_of(c: &Side, d: Frac) -> Frac

@@ -83,10 +83,7 @@ impl<'a> Side<'a> {
     {
         match self.shown {
             Shown::Level(_) => Extended::Fin(Frac::zero()),
-            Shown::Curve(c) => match c.rate() {
-                Ok(rate) => rate,
-                Err(_) => Extended::Inf,
-            },
+            Shown::Curve(c) => c.rate().unwrap(),
         }
     }
 }

@@ -19,8 +19,8 @@ use std::sync::ledger::Ledger;
 use steps::Steps;
 use upp_curve::{Curve, OpFault, OpKind};
 
-// The pieces up to the first that starts at `end` or later.
-fn front_before(alloc: Global, pieces: &[Piece], end: Frac) -> Result<Vec<Piece>, AllocError>
+/// The pieces up to the first that starts at `end` or later.
+pub fn front_before(alloc: Global, pieces: &[Piece], end: Frac) -> Result<Vec<Piece>, AllocError>
     ensures { IfOk result (λ v. IsFrontBefore pieces.now end v.items) }
 {
     let mut front = Vec::new(alloc);

@@ -13,7 +13,7 @@ mod supremum_curve;
 mod tests;
 
 pub use infimum::infimum_scan;
-pub use infimum_curve::run_inf;
+pub use infimum_curve::{front_before, run_inf};
 pub use periods::supremum_periods;
 pub use supremum::supremum_scan;
 pub use supremum_curve::run_sup;

@@ -1,10 +1,10 @@
 -- Two lines on an open stretch: which is nowhere above the other, before and after they meet.
 use Rattle.std.specs.Prelude.{◌≡◌, Bool, true, false, not, pos, Option, Some, None}
-use Rattle.std.proofs.Common.{arith, sym, ap, ◌∙◌, refl, subst}
-use Rattle.rational.specs.Rational.{ℚ, ◌+ℚ◌, ◌-ℚ◌, ◌*ℚ◌, ◌≤ℚ◌, ◌<ℚ◌, int}
-use Rattle.rational.proofs.Laws.{le_of_lt, le_trans, le_refl, lt_irrefl, mul_le_mul_right}
+use Rattle.std.proofs.Common.{arith, sym, ap, ◌∙◌, subst}
+use Rattle.rational.specs.Rational.{ℚ, ◌+ℚ◌, ◌-ℚ◌, ◌*ℚ◌, ◌≤ℚ◌, int}
+use Rattle.rational.proofs.Laws.{le_of_lt, mul_le_mul_right}
 use Rattle.rational.proofs.Lines.{past_crossing, line_moved}
-use Rattle.rational.proofs.Linear.{with2, with3, with4, with5}
+use Rattle.rational.proofs.Linear.{with2, with3, with4}
 use Rattle.affine_segment.specs.declared.line.Line.{Line}
 use Rattle.affine_segment.specs.Values.{line_at}
 use Rattle.curve_window.specs.Lies.{IsOrdered, MeetsAt, CrossesAt}

@@ -1,22 +1,21 @@
 -- The pieces of the lower of two windows, from the stretches of both.
-use Rattle.std.specs.Prelude.{◌≡◌, ◌⊎◌, ◌+◌, ◌*◌, ◌≤◌, pos, Bool, true, false, not, List, [], ◌∷◌, length, Option, Some, None}
+use Rattle.std.specs.Prelude.{◌≡◌, ◌⊎◌, pos, Bool, true, false, not, List, [], ◌∷◌, Option, Some, None}
 use Rattle.std.proofs.Common.{arith, sym, ap, ap₂, ◌∙◌, refl, subst, inl, inr}
 use Rattle.rational.specs.Rational.{ℚ, ◌≤ℚ◌, ◌<ℚ◌, int}
-use Rattle.rational.specs.Extended.{Ext, min_ext}
+use Rattle.rational.specs.Extended.{min_ext}
 use Rattle.rational.proofs.Laws.{le_refl, le_of_lt, lt_le_trans}
 use Rattle.affine_segment.specs.declared.line.Line.{Line}
 use Rattle.affine_segment.specs.declared.line.Piece.{Piece}
-use Rattle.affine_segment.specs.Values.{line_value}
 use Rattle.upp_curve.specs.Reading.{read}
 use Rattle.upp_curve.specs.Normal.{Each}
 use Rattle.upp_curve.specs.Readable.{LineFitsAt}
 use Rattle.curve_window.specs.declared.stretch.Both.{Both}
 use Rattle.curve_window.specs.declared.made.Made.{Made}
 use Rattle.curve_window.specs.declared.made.Made.TheVariants.{Lower, Upper, Excess}
-use Rattle.curve_window.specs.Stretches.{lefts, rights, EachBoth, StartTogether, IsBothOf, IsOverlay}
+use Rattle.curve_window.specs.Stretches.{EachBoth, StartTogether, IsBothOf, IsOverlay}
 use Rattle.curve_window.specs.Lies.{CrossesAt, LiesBy}
-use Rattle.curve_window.specs.Made.{made_line, made_value, first_piece, turn_piece, parts_by, listed, next_start, AreMade, StretchMadeFits}
-use Rattle.curve_window.specs.Lower.{LinesFitAt, LowerStepsFit, LowerFits, BeginsStretch, TurnsStretch, IsLowerPiece, IsLowerOf}
+use Rattle.curve_window.specs.Made.{made_line, first_piece, turn_piece, parts_by, listed, next_start, AreMade, StretchMadeFits}
+use Rattle.curve_window.specs.Lower.{LinesFitAt, LowerStepsFit, LowerFits, IsLowerPiece, IsLowerOf}
 use Rattle.curve_window.proofs.Mapped.{each_map}
 use Rattle.curve_window.proofs.MadeReads.{made_reads, made_starts, made_length}
 

@@ -1,9 +1,8 @@
 -- The loop that makes the pieces of each stretch, and the step that fits where two lines change places.
-use Rattle.std.specs.Prelude.{◌≡◌, ℕ, zero, suc, ◌+◌, ◌<◌, ◌≤◌, Bool, not, List, [], ◌∷◌, ◌++◌, length, Option, Some, None}
-use Rattle.std.proofs.Common.{arith, get_or, drop, drop_of_length-le, append-nil, append_assoc, sym, ap, ap₂, ◌∙◌, refl, subst}
+use Rattle.std.specs.Prelude.{◌≡◌, ℕ, ◌+◌, ◌<◌, ◌≤◌, not, List, [], ◌∷◌, ◌++◌, length, Option, Some, None}
+use Rattle.std.proofs.Common.{get_or, drop, drop_of_length-le, append-nil, append_assoc, sym, ap, ◌∙◌, refl, subst}
 use Rattle.rational.specs.Rational.{ℚ, ◌≤ℚ◌, ◌<ℚ◌}
 use Rattle.rational.proofs.Laws.{lt_le_trans, le_refl, le_of_lt}
-use Rattle.affine_segment.specs.declared.line.Line.{Line}
 use Rattle.affine_segment.specs.declared.line.Piece.{Piece}
 use Rattle.upp_curve.specs.Readable.{LineFitsAt}
 use Rattle.curve_window.specs.declared.stretch.Both.{Both}
@@ -12,7 +11,7 @@ use Rattle.curve_window.specs.declared.made.Made.{Made}
 use Rattle.curve_window.specs.declared.made.Parts.{Parts}
 use Rattle.curve_window.specs.Stretches.{EachBoth}
 use Rattle.curve_window.specs.Lies.{LiesBy, IsLie, IsTurn}
-use Rattle.curve_window.specs.Made.{made_line, first_piece, IsParts, turn_listed, listed, next_start, AreMade, StretchMadeFits}
+use Rattle.curve_window.specs.Made.{first_piece, IsParts, turn_listed, listed, next_start, AreMade, StretchMadeFits}
 use Rattle.curve_window.proofs.MapLoop.{next_both}
 
 -- ---- where two lines change places the value fits

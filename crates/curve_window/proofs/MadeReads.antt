@@ -1,29 +1,28 @@
 -- The pieces that are made of each stretch of two windows read as what is made of their values.
-use Rattle.std.specs.Prelude.{◌≡◌, ◌⊎◌, ℕ, ◌+◌, ◌*◌, ◌≤◌, Bool, true, false, not, pos, List, [], ◌∷◌, length, Option, Some, None}
+use Rattle.std.specs.Prelude.{◌≡◌, ◌⊎◌, ◌+◌, ◌*◌, ◌≤◌, Bool, true, false, not, pos, List, [], ◌∷◌, length, Option, Some, None}
 use Rattle.std.proofs.Common.{arith, sym, ap, ap₂, ◌∙◌, refl, subst, inl, inr}
 use Rattle.rational.specs.Rational.{ℚ, ◌+ℚ◌, ◌-ℚ◌, ◌*ℚ◌, ◌≤ℚ◌, ◌<ℚ◌, int}
 use Rattle.rational.specs.MinMax.{max_q}
-use Rattle.rational.specs.Extended.{Ext, ◌≤ₑ◌, min_ext, max_ext}
-use Rattle.rational.specs.declared.Extended.TheVariants.{Fin, Inf}
-use Rattle.rational.proofs.Laws.{le_or_lt, le_of_lt, le_refl, le_trans, lt_le_trans, le_lt_trans, lt_trans, antisym, sub_mul, zero_mul}
-use Rattle.rational.proofs.Linear.{with1, with2, with3, with4}
+use Rattle.rational.specs.Extended.{Ext, ◌≤ₑ◌}
+use Rattle.rational.specs.declared.Extended.TheVariants.{Fin}
+use Rattle.rational.proofs.Laws.{le_or_lt, le_of_lt, le_refl, le_trans, lt_le_trans, antisym, sub_mul, zero_mul}
+use Rattle.rational.proofs.Linear.{with1, with2, with4}
 use Rattle.rational.proofs.MinMax.{max_q_is_left, max_q_right}
 use Rattle.rational.proofs.ExtendedOrder.{min_ext_of_le, min_ext_comm, max_ext_of_le, max_ext_comm}
 use Rattle.affine_segment.specs.declared.line.Line.{Line}
 use Rattle.affine_segment.specs.declared.line.Piece.{Piece}
 use Rattle.affine_segment.specs.Values.{line_at, line_value}
 use Rattle.upp_curve.specs.Reading.{read, piece_value}
-use Rattle.upp_curve.specs.Normal.{Each, RisesFrom, StartsAtZero}
+use Rattle.upp_curve.specs.Normal.{RisesFrom, StartsAtZero}
 use Rattle.upp_curve.specs.Pointwise.{excess}
 use Rattle.upp_curve.proofs.FirstStretch.{value_past, value_at_start}
 use Rattle.curve_window.specs.declared.stretch.Both.{Both}
-use Rattle.curve_window.specs.declared.lie.Lie.{Lie}
 use Rattle.curve_window.specs.declared.made.Made.{Made}
 use Rattle.curve_window.specs.declared.made.Made.TheVariants.{Lower, Upper, Excess}
 use Rattle.curve_window.specs.declared.made.Parts.{Parts}
 use Rattle.curve_window.specs.Stretches.{lefts, rights, EachBoth, StartTogether}
-use Rattle.curve_window.specs.Lies.{IsOrdered, LiesBy, IsTurn, CrossesAt}
-use Rattle.curve_window.specs.Made.{made_value, made_line, zero_line, line_apart, first_piece, turn_piece, parts_by, parts_of, IsParts, turn_listed, listed, next_start, AreMade}
+use Rattle.curve_window.specs.Lies.{IsOrdered, LiesBy}
+use Rattle.curve_window.specs.Made.{made_value, made_line, zero_line, line_apart, first_piece, turn_piece, parts_by, parts_of, IsParts, turn_listed, listed, AreMade}
 use Rattle.curve_window.proofs.Surgery.{BeforeNext, read_first, read_skip}
 use Rattle.curve_window.proofs.LinesLie.{before_crossing, after_crossing}
 

@@ -1,38 +1,34 @@
 -- What is made of two operands' windows fits, and has room; its starts are on the grid of times, or bends.
-use Rattle.std.specs.Prelude.{◌≡◌, ◌≢◌, ℕ, ◌*◌, ◌+◌, ◌<◌, ◌≤◌, Bool, true, false, not, pos, List, [], ◌∷◌, Option, Some, None, ◌⊎◌}
-use Rattle.std.proofs.Common.{arith, sym, ap, ◌∙◌, refl, subst, inl, inr}
+use Rattle.std.specs.Prelude.{◌≡◌, ◌≢◌, ℕ, ◌*◌, Bool, true, false, not, pos, List, [], ◌∷◌, Option, Some, None, ◌⊎◌}
+use Rattle.std.proofs.Common.{arith, sym, ap, ◌∙◌, subst, inl, inr}
 use Prim.Native.Nat.{◌∣◌}
-use Rattle.rational.specs.Rational.{ℚ, ◌+ℚ◌, ◌-ℚ◌, ◌*ℚ◌, ◌≤ℚ◌, ◌<ℚ◌, int}
-use Rattle.rational.specs.Grid.{Whole, Within}
+use Rattle.rational.specs.Rational.{ℚ, ◌-ℚ◌, ◌≤ℚ◌, ◌<ℚ◌, int}
 use Rattle.rational.specs.MinMax.{min_q, max_q}
 use Rattle.rational.specs.Extended.{Ext}
 use Rattle.rational.specs.declared.Extended.TheVariants.{Fin, Inf}
 use Rattle.rational.proofs.Grid.{whole_int, within_nonneg, within_weaken}
 use Rattle.rational.proofs.Integers.{nat_nonneg, int_mul}
-use Rattle.rational.proofs.Laws.{le_refl, le_of_lt, le_trans, lt_trans, lt_le_trans, lt_irrefl, mul_le_mul_right}
+use Rattle.rational.proofs.Laws.{le_refl, le_of_lt, le_trans, lt_le_trans, lt_irrefl}
 use Rattle.rational.proofs.MinMax.{min_q_one, max_q_one}
-use Rattle.rational.proofs.Linear.{with1, with2}
+use Rattle.rational.proofs.Linear.{with2}
 use Rattle.affine_segment.specs.declared.line.Line.{Line}
 use Rattle.affine_segment.specs.declared.line.Piece.{Piece}
 use Rattle.affine_segment.specs.Values.{line_at, line_value}
-use Rattle.upp_curve.specs.Pointwise.{excess}
 use Rattle.upp_curve.specs.Limits.{Sizes}
 use Rattle.upp_curve.specs.Sized.{grid_of, times_largest}
 use Rattle.upp_curve.specs.Normal.{Each}
-use Rattle.upp_curve.specs.Readable.{LineFitsAt}
 use Rattle.upp_curve.specs.Room.{TimeHasRoom, ValueHasRoom, LineHasRoom, PieceHasRoom}
-use Rattle.upp_curve.specs.Operand.{AreLimited, OperandLine, OperandLineAt, OperandPieces, answer_room}
+use Rattle.upp_curve.specs.Operand.{AreLimited, OperandLineAt, answer_room}
 use Rattle.upp_curve.specs.Bends.{ValueOn, LineOn, NumbersOn, SlopeTurns, BendAfter, OnlyBend}
 use Rattle.upp_curve.proofs.AnswerRoom.{OperandValue, OperandValueAt, AnswerValue, AnswerLine, IsCrossing, values_fit, operand_lines_fit, crossing_not_wide, crossing_of_lines, crossing_room, line_fits_in, line_in_room, line_value_in, operand_line}
 use Rattle.upp_curve.proofs.AnswerRoom.{difference_of_lines, value_difference_stands, answer_value_room, room_at_start, more_largest}
 use Rattle.curve_window.specs.declared.stretch.Both.{Both}
 use Rattle.curve_window.specs.declared.made.Made.{Made}
 use Rattle.curve_window.specs.declared.made.Made.TheVariants.{Lower, Upper, Excess}
-use Rattle.curve_window.specs.declared.made.Parts.{Parts}
 use Rattle.curve_window.specs.Stretches.{EachBoth}
-use Rattle.curve_window.specs.Lies.{CrossFits, MeetsAt, CrossesAt, LiesBy, IsTurn}
-use Rattle.curve_window.specs.Made.{made_value, made_line, made_rises, zero_line, line_apart, first_piece, turn_piece, parts_by, IsParts, listed, next_start, AreMade, ValueApartFits, LineApartFits, StretchMadeFits}
-use Rattle.curve_window.proofs.OperandWindows.{StartTime, OperandBoth}
+use Rattle.curve_window.specs.Lies.{CrossFits, MeetsAt, CrossesAt, LiesBy}
+use Rattle.curve_window.specs.Made.{made_value, made_line, made_rises, zero_line, line_apart, first_piece, turn_piece, parts_by, listed, next_start, AreMade, ValueApartFits, LineApartFits, StretchMadeFits}
+use Rattle.curve_window.proofs.OperandWindows.{OperandBoth}
 
 -- ---- the numbers of what is made
 abbrev pub AnswerValueAt : Sizes → ℕ → Ext → Type 0

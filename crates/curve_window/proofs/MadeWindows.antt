@@ -1,13 +1,13 @@
 -- What is made of two operands' windows, from the stretches of both.
-use Rattle.std.specs.Prelude.{◌≡◌, ◌+◌, ◌*◌, ◌≤◌, pos, List, [], ◌∷◌, length}
-use Rattle.std.proofs.Common.{arith, sym, ap, ap₂, ◌∙◌, refl, subst}
+use Rattle.std.specs.Prelude.{◌≡◌, pos, List, [], ◌∷◌}
+use Rattle.std.proofs.Common.{arith, sym, ap₂, ◌∙◌, subst}
 use Rattle.rational.specs.Rational.{ℚ, ◌≤ℚ◌, ◌<ℚ◌, int}
 use Rattle.affine_segment.specs.declared.line.Piece.{Piece}
 use Rattle.upp_curve.specs.Reading.{read}
 use Rattle.upp_curve.specs.Limits.{Sizes}
 use Rattle.curve_window.specs.declared.stretch.Both.{Both}
 use Rattle.curve_window.specs.declared.made.Made.{Made}
-use Rattle.curve_window.specs.Stretches.{lefts, rights, EachBoth, StartTogether, IsBothOf, IsOverlay, CutsFit}
+use Rattle.curve_window.specs.Stretches.{EachBoth, StartTogether, IsBothOf, IsOverlay, CutsFit}
 use Rattle.curve_window.specs.Made.{made_value, made_rises, AreMade, StretchMadeFits}
 use Rattle.curve_window.specs.Operands.{AreOperands, HaveSizes, IsMadeOf}
 use Rattle.curve_window.proofs.Mapped.{each_map}

@@ -1,5 +1,5 @@
 -- A loop that makes one piece of each stretch.
-use Rattle.std.specs.Prelude.{◌≡◌, ℕ, zero, suc, ◌+◌, ◌<◌, ◌≤◌, List, [], ◌∷◌, ◌++◌, length}
+use Rattle.std.specs.Prelude.{◌≡◌, ℕ, suc, ◌+◌, ◌<◌, ◌≤◌, List, [], ◌∷◌, ◌++◌, length}
 use Rattle.std.proofs.Common.{arith, get_or, drop, drop-cons, drop_of_length-le, append-nil, sym, ap, ap₂, ◌∙◌, refl, subst}
 use Rattle.affine_segment.specs.declared.line.Piece.{Piece}
 use Rattle.curve_window.specs.declared.stretch.Both.{Both}

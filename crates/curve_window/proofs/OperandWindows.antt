@@ -1,6 +1,6 @@
 -- Windows of operands: where their pieces stand, the steps that cut and add them fit.
-use Rattle.std.specs.Prelude.{◌≡◌, ℕ, ◌*◌, ◌<◌, ◌≤◌, ◌+◌, pos, List, [], ◌∷◌, Option, Some, None, ◌⊎◌}
-use Rattle.std.proofs.Common.{arith, sym, ap, ◌∙◌, refl, subst, inl, inr}
+use Rattle.std.specs.Prelude.{◌≡◌, ℕ, ◌*◌, pos, List, [], ◌∷◌, Option, Some, None, ◌⊎◌}
+use Rattle.std.proofs.Common.{arith, sym, ap, ◌∙◌, subst, inl, inr}
 use Rattle.rational.specs.Rational.{ℚ, ◌+ℚ◌, ◌≤ℚ◌, ◌<ℚ◌, int}
 use Rattle.rational.specs.Grid.{Whole}
 use Rattle.rational.proofs.Laws.{le_or_lt, le_of_lt, antisym}
@@ -8,23 +8,21 @@ use Rattle.rational.specs.Extended.{Ext, ◌+ₑ◌}
 use Rattle.rational.specs.declared.Extended.TheVariants.{Fin, Inf}
 use Rattle.affine_segment.specs.declared.line.Line.{Line}
 use Rattle.affine_segment.specs.declared.line.Piece.{Piece}
-use Rattle.affine_segment.specs.Values.{line_value}
 use Rattle.upp_curve.specs.Reading.{read, piece_in, piece_value}
-use Rattle.upp_curve.specs.Normal.{Each, HasStart, StartsAtZero}
+use Rattle.upp_curve.specs.Normal.{Each, HasStart}
 use Rattle.upp_curve.specs.Limits.{Sizes}
 use Rattle.upp_curve.specs.Sized.{grid_of}
 use Rattle.upp_curve.proofs.NormaliseGrids.{ValueOn, LineOn, PieceOn}
-use Rattle.upp_curve.specs.Readable.{LineFitsAt}
-use Rattle.upp_curve.specs.Operand.{answer_room, AreLimited, OperandLine, OperandLineAt, OperandPiece, OperandPieces}
+use Rattle.upp_curve.specs.Operand.{answer_room, AreLimited, OperandLineAt, OperandPiece, OperandPieces}
 use Rattle.upp_curve.proofs.FirstStretch.{value_past, value_at_start}
 use Rattle.upp_curve.proofs.NormaliseLists.{each_map}
 use Rattle.upp_curve.proofs.NormaliseRoomy.{each_in, found_early}
-use Rattle.upp_curve.proofs.AnswerRoom.{OperandValue, OperandValueAt, stands_operand_value, operand_line_value, operand_line_fits, values_fit, operand_lines_fit, sum_of_lines, line_in_room, room_at_start, value_sum_stands, answer_value_room}
+use Rattle.upp_curve.proofs.AnswerRoom.{OperandValueAt, stands_operand_value, operand_line_value, operand_line_fits, values_fit, operand_lines_fit, sum_of_lines, line_in_room, room_at_start, value_sum_stands, answer_value_room}
 use Rattle.upp_curve.specs.Room.{ValueHasRoom, LineHasRoom, PieceHasRoom}
 use Prim.Native.Nat.{◌∣◌}
 use Rattle.curve_window.specs.declared.stretch.Both.{Both}
-use Rattle.curve_window.specs.Stretches.{line_in, IsPieceOf, IsBothOf, CutsFit}
-use Rattle.curve_window.specs.Pointwise.{sum_line, ValueSumFits, LineSumFits, StretchSumFits, SumsFit, IsSumPiece}
+use Rattle.curve_window.specs.Stretches.{line_in, IsBothOf, CutsFit}
+use Rattle.curve_window.specs.Pointwise.{sum_line, ValueSumFits, LineSumFits, SumsFit, IsSumPiece}
 
 -- a time at which some operand's piece may start
 pub record StartTime (z : Sizes) (end x : ℚ) : Type 0 where

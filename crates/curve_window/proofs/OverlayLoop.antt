@@ -1,7 +1,7 @@
 -- The loop that cuts two windows at each start of either.
-use Rattle.std.specs.Prelude.{◌≡◌, ℕ, zero, suc, ◌+◌, ◌-◌, ◌<◌, ◌≤◌, pos, List, [], ◌∷◌, ◌++◌, length, slice_get, Option, Some, None, IfSome, ◌⊎◌}
-use Rattle.std.proofs.Common.{arith, get_or, drop, sym, ap, ap₂, ◌∙◌, refl, subst, inl, inr}
-use Rattle.rational.specs.Rational.{ℚ, ◌≤ℚ◌, ◌<ℚ◌, int}
+use Rattle.std.specs.Prelude.{◌≡◌, ℕ, zero, suc, ◌+◌, ◌-◌, ◌<◌, ◌≤◌, List, [], ◌∷◌, ◌++◌, length, slice_get, Option, Some, None, ◌⊎◌}
+use Rattle.std.proofs.Common.{arith, get_or, drop, sym, ap, ◌∙◌, refl, subst, inl, inr}
+use Rattle.rational.specs.Rational.{ℚ, ◌<ℚ◌}
 use Rattle.rational.proofs.Laws.{le_of_lt, le_trans}
 use Rattle.affine_segment.specs.declared.line.Piece.{Piece}
 use Rattle.upp_curve.specs.Normal.{HasStart, RisesFrom, StartsAtZero}
@@ -9,7 +9,7 @@ use Rattle.upp_curve.specs.Readable.{LineFitsAt}
 use Rattle.upp_curve.specs.Reading.{read}
 use Rattle.curve_window.specs.declared.stretch.Both.{Both}
 use Rattle.curve_window.specs.declared.stretch.Walk.{Walk}
-use Rattle.curve_window.specs.Stretches.{cut_at, lefts, rights, line_in, EachBoth, IsBothOf, IsOverlay, CutsFit}
+use Rattle.curve_window.specs.Stretches.{cut_at, lefts, rights, EachBoth, IsBothOf, IsOverlay, CutsFit}
 use Rattle.curve_window.specs.Walk.{IsBeforeAt, TakesLeft, TakesRight, TakesBoth, IsStep, NextFits}
 use Rattle.curve_window.proofs.Surgery.{BeforeNext, rest_rises, start_nonneg}
 use Rattle.curve_window.proofs.Walks.{WalkOf, walk_start, walk_take, walk_cut, walk_piece, walk_line}

@@ -1,6 +1,6 @@
 -- Windows whose pieces repeat from a time on: the periods stand on the grids of the call.
-use Rattle.std.specs.Prelude.{◌≡◌, ℕ, ◌*◌, Bool, pos, List, [], ◌∷◌, length}
-use Rattle.std.proofs.Common.{arith, sym, ap, ◌∙◌, refl, subst}
+use Rattle.std.specs.Prelude.{◌≡◌, ◌*◌, Bool, pos, List}
+use Rattle.std.proofs.Common.{sym, subst}
 use Prim.Native.Nat.{◌∣◌}
 use native.Mathlib.Nat.{mul_comm}
 use Rattle.rational.specs.Rational.{ℚ, ◌+ℚ◌, ◌≤ℚ◌, ◌<ℚ◌, int}
@@ -9,12 +9,10 @@ use Rattle.rational.specs.Extended.{Ext}
 use Rattle.affine_segment.specs.declared.line.Piece.{Piece}
 use Rattle.upp_curve.specs.Reading.{read}
 use Rattle.upp_curve.specs.Curve.{repeated}
-use Rattle.upp_curve.specs.Normal.{Each, StartsAtZero, FitsPeriod}
+use Rattle.upp_curve.specs.Normal.{Each, FitsPeriod}
 use Rattle.upp_curve.specs.Normalising.{OnGridsUnlessLine}
 use Rattle.upp_curve.specs.Limits.{Sizes}
 use Rattle.upp_curve.specs.Sized.{grid_of}
-use Rattle.upp_curve.specs.Room.{PieceHasRoom}
-use Rattle.upp_curve.specs.Operand.{answer_room}
 use Rattle.upp_curve.proofs.NarrowSizes.{slope_time_divides}
 use Rattle.upp_curve.proofs.NormaliseGrids.{PieceOn, raw_on}
 use Rattle.upp_curve.proofs.NormaliseLists.{each_map}

@@ -1,15 +1,14 @@
 -- The windows of the tests have sizes.
-use Rattle.std.specs.Prelude.{◌≡◌, ℕ, ◌*◌, ◌<◌, ◌≤◌, ◌^◌, pos, List, [], ◌∷◌, Some}
+use Rattle.std.specs.Prelude.{◌≡◌, ℕ, ◌*◌, ◌≤◌, pos, List, [], ◌∷◌, Some}
 use Rattle.std.proofs.Common.{arith, sym, refl, subst}
 use Rattle.rational.specs.Rational.{ℚ, ◌*ℚ◌, ◌≤ℚ◌, int}
-use Rattle.rational.specs.Grid.{Whole, Within}
+use Rattle.rational.specs.Grid.{Within}
 use Rattle.rational.specs.declared.Extended.TheVariants.{Fin}
 use Rattle.rational.proofs.Grid.{whole_int, within_nonneg}
 use Rattle.rational.proofs.Integers.{int_mul, nat_le, nat_lt, nat_nonneg}
 use Rattle.rational.proofs.Laws.{le_refl}
 use Rattle.affine_segment.specs.declared.line.Piece.{Piece}
 use Rattle.upp_curve.specs.Limits.{Sizes, gauge_of}
-use Rattle.upp_curve.specs.Sized.{AreSizes}
 use Rattle.upp_curve.specs.Operand.{AreLimited, OperandPieces}
 use Rattle.curve_window.specs.Stretches.{CutsFit}
 use Rattle.curve_window.specs.Pointwise.{SumsFit}

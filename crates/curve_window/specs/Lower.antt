@@ -1,7 +1,7 @@
 -- The lower of two windows of any pieces, where the steps of each stretch fit. Own choice.
 use Rattle.std.specs.Prelude.{◌≡◌, ◌+◌, ◌*◌, ◌≤◌, ◌⊎◌, Bool, pos, List, length, Option, Some}
 use Rattle.rational.specs.Rational.{ℚ, ◌≤ℚ◌, ◌<ℚ◌, int}
-use Rattle.rational.specs.Extended.{Ext, min_ext}
+use Rattle.rational.specs.Extended.{min_ext}
 use Rattle.affine_segment.specs.declared.line.Line.{Line}
 use Rattle.affine_segment.specs.declared.line.Piece.{Piece}
 use Rattle.affine_segment.specs.Values.{line_value}

@@ -1,7 +1,7 @@
 -- What is made of two windows at one time: the lower, the upper, or what the first has above the second; and pieces of it, of each stretch on which
 -- both go on with one line. (Le Boudec and Thiran, chapter 3; the pieces are our own choice.)
-use Rattle.std.specs.Prelude.{◌≡◌, ◌+◌, ◌*◌, ◌≤◌, ℕ, Bool, true, false, pos, not, length, List, [], ◌∷◌, ◌++◌, Option, Some, None}
-use Rattle.rational.specs.Rational.{ℚ, ◌-ℚ◌, ◌≤ℚ◌, ◌<ℚ◌, neg_ℚ, int}
+use Rattle.std.specs.Prelude.{◌≡◌, Bool, true, false, pos, not, List, [], ◌∷◌, Option, Some, None}
+use Rattle.rational.specs.Rational.{ℚ, ◌-ℚ◌, ◌<ℚ◌, neg_ℚ, int}
 use Rattle.rational.specs.Ratio.{SumFits}
 use Rattle.rational.specs.Extended.{Ext, min_ext, max_ext}
 use Rattle.rational.specs.declared.Extended.TheVariants.{Fin, Inf}

@@ -1,5 +1,5 @@
 -- One step of the walk over two windows: which of the next pieces comes first.
-use Rattle.std.specs.Prelude.{◌≡◌, ℕ, ◌+◌, List, ◌⊎◌, Some, IfSome, length, slice_get}
+use Rattle.std.specs.Prelude.{◌≡◌, ℕ, ◌+◌, List, ◌⊎◌, Some, IfSome, slice_get}
 use Rattle.rational.specs.Rational.{ℚ, ◌<ℚ◌}
 use Rattle.affine_segment.specs.declared.line.Piece.{Piece}
 use Rattle.upp_curve.specs.Readable.{LineFitsAt}

@@ -55,13 +55,12 @@ fn lie_of_lines(a: &Line, b: &Line, from: Frac, to: Frac) -> Lie
     requires { CrossFits (Some a.now) (Some b.now) }
     ensures { IsLie (Some a.now) (Some b.now) from to result }
 {
-    match cross(a, b) {
-        Ok(Some(x)) => match a.slope.cmp(&b.slope) {
+    match cross(a, b).unwrap() {
+        Some(x) => match a.slope.cmp(&b.slope) {
             Ordering::Less => meeting_lie(false, x, from, to),
             _ => meeting_lie(true, x, from, to),
         },
-        Ok(None) => parallel_lie(a, b, from, to),
-        Err(_) => throughout(true),
+        None => parallel_lie(a, b, from, to),
     }
 }
 

@@ -16,6 +16,7 @@ use fraction128::{Ext, Frac};
 use rational::Extended;
 use std::alloc::{AllocError, Global};
 use std::cmp::Ordering;
+use upp_curve::difference;
 
 /// What is made of two windows.
 #[derive(Debug, Clone, Copy)]
@@ -51,14 +52,6 @@ fn greater(x: Frac, y: Frac) -> Frac
         Ordering::Greater => x,
         _ => y,
     }
-}
-
-// a - b.
-fn difference(a: Frac, b: Frac) -> Frac
-    requires { SumFits a (neg_ℚ b) }
-    ensures { result ≡ a -ℚ b }
-{
-    Frac::sub(a, b).unwrap()
 }
 
 fn lower_value(a: Ext, b: Ext) -> Ext

@@ -27,10 +27,7 @@ fn readable_line(line: Option<Line>, x: Frac) -> Ext
 {
     match line {
         None => Extended::Inf,
-        Some(l) => match value(&l, x) {
-            Ok(v) => Extended::Fin(v),
-            Err(_) => Extended::Inf,
-        },
+        Some(l) => Extended::Fin(value(&l, x).unwrap()),
     }
 }
 

@@ -11,20 +11,10 @@ ghost use Rattle.curve_window.specs.Pointwise.{mapped, sum_line, sum_piece, Valu
 
 use crate::stretch::{Both, overlay};
 use affine_segment::{Line, Piece};
-use fraction128::{Ext, Frac};
+use fraction128::Ext;
 use rational::Extended;
 use std::alloc::{AllocError, Global};
-
-// A sum whose steps fit.
-fn fitting_sum(a: Frac, b: Frac) -> Frac
-    requires { SumFits a b }
-    ensures { result ≡ a +ℚ b }
-{
-    match Frac::add(a, b) {
-        Ok(sum) => sum,
-        Err(_) => a,
-    }
-}
+use upp_curve::sum;
 
 fn sum_values(a: Ext, b: Ext) -> Ext
     requires { ValueSumFits a b }
@@ -34,7 +24,7 @@ fn sum_values(a: Ext, b: Ext) -> Ext
         Extended::Inf => Extended::Inf,
         Extended::Fin(x) => match b {
             Extended::Inf => Extended::Inf,
-            Extended::Fin(y) => Extended::Fin(fitting_sum(x, y)),
+            Extended::Fin(y) => Extended::Fin(sum(x, y)),
         },
     }
 }
@@ -48,8 +38,8 @@ fn sum_lines(a: Option<Line>, b: Option<Line>) -> Option<Line>
         Some(l) => match b {
             None => None,
             Some(m) => Some(Line {
-                icept: fitting_sum(l.icept, m.icept),
-                slope: fitting_sum(l.slope, m.slope),
+                icept: sum(l.icept, m.icept),
+                slope: sum(l.slope, m.slope),
             }),
         },
     }

@@ -174,8 +174,11 @@ link_counts net end r (x ∷ xs) i a b p k h have =
     rw (at_a, at_b) (summed (when (server_of net x == a) (leaves (of_flow i) (moved_test net a p) (seen net r.entered x))) (total (leaves (of_flow i) (moved_test net a p)) (view_from net a (entered_after r.entered x) xs)) (due_bits r.entered i b p r.due)
     (when (server_of net x == b) (arrives (of_flow i) p (seen net r.entered x))) (total (arrives (of_flow i) p) (view_from net b (entered_after r.entered x) xs)) (due_bits (entered_after r.entered x) i b p (next_due net r x)) (due_bits (after_run net s xs).entered i b p (after_run net s xs).due) one rest)
   where
-    summed : (la L D ab A D2 Z : ℚ) → la +ℚ D ≡ ab +ℚ D2 → L +ℚ D2 ≡ A +ℚ Z → la +ℚ L +ℚ D ≡ ab +ℚ A +ℚ Z
-    summed la L D ab A D2 Z e f = with7 la L D ab A D2 Z (λ c. omega (arith, c.le, c.lt, c.same))
+    summed : (left left_later due arrived arrived_later due_later due_end : ℚ) → left +ℚ due ≡ arrived +ℚ due_later
+        → left_later +ℚ due_later ≡ arrived_later +ℚ due_end
+        → left +ℚ left_later +ℚ due ≡ arrived +ℚ arrived_later +ℚ due_end
+    summed left left_later due arrived arrived_later due_later due_end e f =
+        with7 left left_later due arrived arrived_later due_later due_end (λ c. omega (arith, c.le, c.lt, c.same))
 
 -- ---- of a lawful run
 due_none : (entered : List Entry) (i b : ℕ) (end t : ℚ) (ds : List Due) → t ≤ℚ end → All (λ (d : Due). end <ℚ d.time) ds
@@ -213,8 +216,8 @@ link_carries net run i a b t lawful k l =
     let same = total_same (leaves (of_flow i) (moved_test net a (before t))) (leaves (of_flow i) (before (t -ℚ link_at net a))) (view net run a) (each_all (λ x. leaves (of_flow i) (moved_test net a (before t)) x ≡ leaves (of_flow i) (before (t -ℚ link_at net a)) x) (leaves_moved net i a t) (view net run a)) in
     summed (total (leaves (of_flow i) (moved_test net a (before t))) (view net run a)) (departed (of_flow i) (view net run a) (t -ℚ link_at net a)) (arrived (of_flow i) (view net run b) t) (due_bits (after_run net (run_start net) run.steps).entered i b (before t) (after_run net (run_start net) run.steps).due) counts none same
   where
-    summed : (L L2 A Z : ℚ) → L +ℚ int (pos 0) ≡ A +ℚ Z → Z ≡ int (pos 0) → L ≡ L2 → A ≡ L2
-    summed L L2 A Z e f g = with4 L L2 A Z (λ c. omega (arith, c.le, c.lt, c.same))
+    summed : (moved left came due : ℚ) → moved +ℚ int (pos 0) ≡ came +ℚ due → due ≡ int (pos 0) → moved ≡ left → came ≡ left
+    summed moved left came due e f g = with4 moved left came due (λ c. omega (arith, c.le, c.lt, c.same))
 
 -- ---- windows: what arrives in one is at most what left the server before in that window, moved back
 le_moved : (D t u : ℚ) → le_q (u +ℚ D) t ≡ le_q u (t -ℚ D)
@@ -259,8 +262,8 @@ link_window net run i a b s t lawful k =
     let same = total_same (leaves (of_flow i) (moved_test net a (within s t))) (leaves (of_flow i) (within (s -ℚ link_at net a) (t -ℚ link_at net a))) (view net run a) (each_all (λ x. leaves (of_flow i) (moved_test net a (within s t)) x ≡ leaves (of_flow i) (within (s -ℚ link_at net a) (t -ℚ link_at net a)) x) (leaves_window net i a s t) (view net run a)) in
     summed (total (leaves (of_flow i) (moved_test net a (within s t))) (view net run a)) (departed_in (of_flow i) (view net run a) (s -ℚ link_at net a) (t -ℚ link_at net a)) (arrived_in (of_flow i) (view net run b) s t) (due_bits (after_run net (run_start net) run.steps).entered i b (within s t) (after_run net (run_start net) run.steps).due) counts rest same
   where
-    summed : (L L2 A Z : ℚ) → L +ℚ int (pos 0) ≡ A +ℚ Z → int (pos 0) ≤ℚ Z → L ≡ L2 → A ≤ℚ L2
-    summed L L2 A Z e f g = with4 L L2 A Z (λ c. omega (arith, c.le, c.lt, c.same))
+    summed : (moved left came due : ℚ) → moved +ℚ int (pos 0) ≡ came +ℚ due → int (pos 0) ≤ℚ due → moved ≡ left → came ≤ℚ left
+    summed moved left came due e f g = with4 moved left came due (λ c. omega (arith, c.le, c.lt, c.same))
 
 -- so a flow keeps at the next server the curve with which it leaves this one
 pub next_keeps : (net : Routes) (run : SpecRun) (i a b : ℕ) (out : ℚ → Ext) → IsLawful net run → IsLink net i a b

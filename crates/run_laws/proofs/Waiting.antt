@@ -261,12 +261,14 @@ all_upto server end σ [] W x a = tt
 all_upto server end σ (y ∷ V) W x a = (le_q_out _ _ (now_upto server end (next server.discipline σ y) V W x a.1), all_upto server end (next server.discipline σ y) V W x a.1)
 
 -- the sums of the next law
-pub combine : (W W1 W2 D1 D3 L1 L2 LP S A1 Z1 Z2 s : ℚ) → W ≡ W1 +ℚ (int (pos 0) +ℚ W2) → D1 +ℚ L1 ≡ int (pos 0) +ℚ W1
-    → D3 +ℚ L2 ≡ D1 +ℚ W2 → L2 ≡ LP → S +ℚ L1 ≡ int (pos 0) +ℚ A1 → S ≡ Z1 → Z2 +ℚ LP ≡ Z1 → D3 <ℚ Z2 +ℚ s → W <ℚ A1 +ℚ s
-combine W W1 W2 D1 D3 L1 L2 LP S A1 Z1 Z2 s e1 e2 e3 e4 e5 e6 e7 h =
-    let work : W ≡ L1 +ℚ D3 +ℚ L2 = with7 W W1 W2 D1 D3 L1 L2 (λ c. omega (arith, c.le, c.lt, c.same)) in
-    let all : A1 ≡ L1 +ℚ Z2 +ℚ L2 = with7 S L1 A1 Z1 Z2 L2 LP (λ c. omega (arith, c.le, c.lt, c.same)) in
-    with7 W L1 D3 L2 A1 Z2 s (λ c. omega (arith, c.le, c.lt, c.same))
+pub combine : (work first_work later_work first_done later_done first_left later_left left here came ahead still_ahead own : ℚ)
+    → work ≡ first_work +ℚ (int (pos 0) +ℚ later_work) → first_done +ℚ first_left ≡ int (pos 0) +ℚ first_work
+    → later_done +ℚ later_left ≡ first_done +ℚ later_work → later_left ≡ left → here +ℚ first_left ≡ int (pos 0) +ℚ came
+    → here ≡ ahead → still_ahead +ℚ left ≡ ahead → later_done <ℚ still_ahead +ℚ own → work <ℚ came +ℚ own
+combine work first_work later_work first_done later_done first_left later_left left here came ahead still_ahead own e1 e2 e3 e4 e5 e6 e7 h =
+    let works : work ≡ first_left +ℚ later_done +ℚ later_left = with7 work first_work later_work first_done later_done first_left later_left (λ c. omega (arith, c.le, c.lt, c.same)) in
+    let comes : came ≡ first_left +ℚ still_ahead +ℚ later_left = with7 here first_left came ahead still_ahead later_left left (λ c. omega (arith, c.le, c.lt, c.same)) in
+    with7 work first_left later_done later_left came still_ahead own (λ c. omega (arith, c.le, c.lt, c.same))
 
 -- ---- so the work on the class does not come up to it before it is gone
 pub not_worked : (server : Server) (end : ℚ) (V front back : List ServerStep) (C : Class) (q : ℕ) (p : Card) (u t : ℚ)

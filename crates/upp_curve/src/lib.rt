@@ -16,6 +16,8 @@ mod kind_laws;
 mod known;
 mod laws;
 mod least_period;
+#[cfg(test)]
+mod limit_tests;
 mod limits;
 mod long;
 mod lowest_rank;

@@ -1,4 +1,4 @@
-use Rattle.std.proofs.Common.{arith, subst, ◌≤◌, ◌<◌, ◌^◌}
+use Rattle.std.proofs.Common.{subst, ◌≤◌, ◌<◌, ◌^◌}
 use Rattle.upp_curve.specs.Gauges.{gauge_over}
 use Rattle.curve_frame.proofs.frame.narrow_numbers.Goals as goal
 

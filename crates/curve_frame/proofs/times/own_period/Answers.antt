@@ -1,4 +1,4 @@
-use Rattle.std.proofs.Common.{◌≡◌, ◌∙◌, ap, sym}
+use Rattle.std.proofs.Common.{◌∙◌, ap, sym}
 use Rattle.std.specs.Prelude.{None}
 use Rattle.upp_curve.specs.Periods.{own_period, common_of}
 use Rattle.curve_frame.proofs.times.own_period.Goals as goal

@@ -1,4 +1,4 @@
-use Rattle.std.proofs.Common.{arith, sym, ◌<◌, ◌≤◌, ◌^◌}
+use Rattle.std.proofs.Common.{arith, sym, ◌≤◌, ◌^◌}
 use Rattle.std.proofs.lemmas.Bool.{true≢false}
 use Rattle.upp_curve.proofs.OwnGauge.{large}
 use Rattle.upp_curve.specs.Gauges.{gauge_at}

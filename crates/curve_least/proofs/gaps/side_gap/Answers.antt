@@ -9,12 +9,12 @@ loop-end-init c = walk_start c.args.f.now c.args.g.now c.args.from c.args.end c.
 pub stretch-slow-requires : goal.stretch-slow-requires
 stretch-slow-requires c =
     let w = c.requires in
-    (w.0, c.args.end, w.1, walk_time w.0 c.args.f.now c.args.g.now c.args.from c.args.end c.loop-end.t c.loop-end.gap w.1 w.2 w.3 c.loop-end.invariant (c.loop-end-test.ensures.0 refl))
+    (w.0, c.args.end, w.1, walk_time w.0 c.args.f.now c.args.g.now c.args.from c.args.end c.loop-end.t c.loop-end.gap w.1 w.2 w.3 c.loop-end.invariant (c.loop-end-test.ensures.less.0 refl))
 
 pub stretch-fast-requires : goal.stretch-fast-requires
 stretch-fast-requires c =
     let w = c.requires in
-    (w.0, c.args.end, w.2, walk_time w.0 c.args.f.now c.args.g.now c.args.from c.args.end c.loop-end.t c.loop-end.gap w.1 w.2 w.3 c.loop-end.invariant (c.loop-end-test.ensures.0 refl))
+    (w.0, c.args.end, w.2, walk_time w.0 c.args.f.now c.args.g.now c.args.from c.args.end c.loop-end.t c.loop-end.gap w.1 w.2 w.3 c.loop-end.invariant (c.loop-end-test.ensures.less.0 refl))
 
 pub stretch_gap-requires-clause-sizes : goal.stretch_gap-requires-clause-sizes
 stretch_gap-requires-clause-sizes c =
@@ -25,12 +25,12 @@ stretch_gap-requires-clause-sizes c =
       w.0,
       c.args.end,
       stretch_sizes w.0 c.args.f.now c.args.g.now c.args.from c.args.end c.loop-end.t c.earlier-next.result c.loop-end.gap c.stretch-slow.result c.stretch-fast.result w.1 w.2 w.3 c.loop-end.invariant
-          (c.loop-end-test.ensures.0 refl) slow.goes.next fast.goes.next slow.times fast.times (slow.sizes w.0 c.args.end w.1) (fast.sizes w.0 c.args.end w.2) e,
+          (c.loop-end-test.ensures.less.0 refl) slow.goes.next fast.goes.next slow.times fast.times (slow.sizes w.0 c.args.end w.1) (fast.sizes w.0 c.args.end w.2) e,
     )
 
 pub stretch_gap-requires-clause-some : goal.stretch_gap-requires-clause-some
 stretch_gap-requires-clause-some c =
-    let h = c.loop-end-test.ensures.0 refl in
+    let h = c.loop-end-test.ensures.less.0 refl in
     let slow = c.stretch-slow.ensures in
     let fast = c.stretch-fast.ensures in
     let e = next_found c.args.end c.stretch-slow.result.next c.stretch-fast.result.next c.earlier.result c.earlier-next.result c.earlier.ensures c.earlier-next.ensures in
@@ -39,7 +39,7 @@ stretch_gap-requires-clause-some c =
 
 pub loop-end-preserved : goal.loop-end-preserved
 loop-end-preserved c =
-    let h = c.loop-end-test.ensures.0 refl in
+    let h = c.loop-end-test.ensures.less.0 refl in
     let slow = c.stretch-slow.ensures in
     let fast = c.stretch-fast.ensures in
     let e = next_found c.args.end c.stretch-slow.result.next c.stretch-fast.result.next c.earlier.result c.earlier-next.result c.earlier.ensures c.earlier-next.ensures in
@@ -53,7 +53,7 @@ loop-end-preserved c =
 
 pub loop-end-smaller : goal.loop-end-smaller
 loop-end-smaller c =
-    let h = c.loop-end-test.ensures.0 refl in
+    let h = c.loop-end-test.ensures.less.0 refl in
     let slow = c.stretch-slow.ensures in
     let fast = c.stretch-fast.ensures in
     let e = next_found c.args.end c.stretch-slow.result.next c.stretch-fast.result.next c.earlier.result c.earlier-next.result c.earlier.ensures c.earlier-next.ensures in
@@ -64,4 +64,4 @@ pub returns-clause-sizes : goal.returns-clause-sizes
 returns-clause-sizes c = c.loop-end.invariant.sizes
 
 pub returns-clause-gap : goal.returns-clause-gap
-returns-clause-gap c = walk_end c.args.f.now c.args.g.now c.args.from c.args.end c.loop-end.t c.loop-end.gap c.loop-end.invariant (λ h. true≢false (sym (c.loop-end-test.ensures.1 h)))
+returns-clause-gap c = walk_end c.args.f.now c.args.g.now c.args.from c.args.end c.loop-end.t c.loop-end.gap c.loop-end.invariant (λ h. true≢false (sym (c.loop-end-test.ensures.less.1 h)))

@@ -11,7 +11,7 @@ use Rattle.curve_least.proofs.least.least_over.Goals as goal
 pub returns-then-not-is_less : goal.returns-then-not-is_less
 returns-then-not-is_less c =
     number_zero c.args.gap (rise_over c.args.fast.now c.args.period -ℚ rise_over c.args.slow.now c.args.period)
-    (le_of_not_lt (λ h. true≢false (sym (c.if-not-is_less.ensures.1 (subst (λ y. y <ℚ c.args.gap) (sym c.zero.ensures) h)))))
+    (le_of_not_lt (λ h. true≢false (sym (c.if-not-is_less.ensures.less.1 (subst (λ y. y <ℚ c.args.gap) (sym c.zero.ensures) h)))))
 
 pub rise_of-requires : goal.rise_of-requires
 rise_of-requires c =
@@ -54,6 +54,6 @@ returns c =
     let L = lead_is w.0 c.args.from c.args.period c.args.slow.now c.args.fast.now c.args.gap c.requires.slower w.1 w.1.first.curve w.1.second.curve c.requires.gap in
     let lead = rise_over c.args.fast.now c.args.period -ℚ rise_over c.args.slow.now c.args.period in
     let e = c.difference-lead.ensures ∙ ap₂ (λ (x y : ℚ). x -ℚ y) c.rise_of.ensures c.rise_of-2.ensures in
-    let some = subst (λ y. y <ℚ c.args.gap) c.zero.ensures (c.if-not-is_less.ensures.0 refl) in
+    let some = subst (λ y. y <ℚ c.args.gap) c.zero.ensures (c.if-not-is_less.ensures.less.0 refl) in
     subst (IsLeast (λ k. c.args.gap ≤ℚ int (pos k) *ℚ lead)) (sym (c.size_up.ensures ∙ ap size_up (c.quotient.ensures ∙ ap (λ (y : ℚ). c.args.gap /ℚ y) e)))
     (number_least c.args.gap lead some L.some)

@@ -16,6 +16,6 @@ least_periods-requires c =
       min_sizes c.args.f.now c.args.g.now (start +ℚ c.args.period),
       known_compared c.args.f.now c.args.g.now start c.args.period _ first.2 second.2
           (subst (λ t. gauge_over Min c.args.f.now c.args.g.now t < 2 ^ 120) c.in-Ok-add.ensures.value small) c.in-Ok.ensures.value
-          (subst (λ y. y ≤ℚ start) c.zero.ensures (le_of_not_lt (λ h. true≢false (sym (c.if-is_less.ensures.1 h)))))
-          (subst (λ y. y <ℚ c.args.period) c.zero-2.ensures (c.is_less-2.ensures.0 c.if-not-is_less.false)) (first.0, first.1) (second.0, second.1),
+          (subst (λ y. y ≤ℚ start) c.zero.ensures (le_of_not_lt (λ h. true≢false (sym (c.if-is_less.ensures.less.1 h)))))
+          (subst (λ y. y <ℚ c.args.period) c.zero-2.ensures (c.is_less-2.ensures.less.0 c.if-not-is_less.false)) (first.0, first.1) (second.0, second.1),
     )

@@ -1,4 +1,6 @@
+use Rattle.affine_segment.specs.Steps.{IsWideCross}
+use Rattle.curve_window.proofs.Results.{ok_of_none}
 use Rattle.curve_window.proofs.lie.lie_of_lines.Goals as goal
 
-pub returns-in-Err : goal.returns-in-Err
-returns-in-Err c = absurd (c.requires c.in-Err.field-0 c.in-Err.ensures.wide)
+pub unwrap-requires : goal.unwrap-requires
+unwrap-requires c = ok_of_none c.cross.result (IsWideCross c.args.a.now c.args.b.now) c.cross.ensures.wide c.requires

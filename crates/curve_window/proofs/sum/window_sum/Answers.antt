@@ -1,8 +1,7 @@
-use Rattle.std.proofs.Common.{◌≡◌, ◌∙◌, ap, subst, sym}
-use Rattle.curve_window.specs.Pointwise.{mapped, sum_piece, IsWindowSum, StretchSumFits}
-use Rattle.curve_window.specs.Stretches.{EachBoth}
+use Rattle.std.proofs.Common.{◌≡◌, ◌∙◌, ap}
+use Rattle.curve_window.specs.Pointwise.{mapped, sum_piece, IsWindowSum}
 use Rattle.curve_window.proofs.Results.{ok_map}
-use Rattle.curve_window.proofs.Sums.{stretches_fit, sum_is}
+use Rattle.curve_window.proofs.Sums.{sum_is}
 use Rattle.curve_window.proofs.sum.window_sum.Goals as goal
 
 pub returns : goal.returns

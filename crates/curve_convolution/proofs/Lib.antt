@@ -1,0 +1,2 @@
+pub mod ConvolveCalls
+pub mod ConvolveAnswers

@@ -1,0 +1,7 @@
+//! The convolution of two curves.
+#![tactic(auto)]
+
+mod gate;
+mod operator;
+
+pub use operator::convolve;

@@ -1,0 +1,93 @@
+//! The convolution of two curves.
+
+ghost use Rattle.std.specs.Prelude.{◌≡◌, ◌+◌, pos, IfOk};
+ghost use Rattle.rational.specs.Rational.{ℚ, int, ◌-ℚ◌, ◌≤ℚ◌, neg_ℚ};
+ghost use Rattle.rational.specs.Ratio.{SumFits};
+ghost use Rattle.rational.specs.Extended.{◌<ₑ◌};
+ghost use Rattle.upp_curve.specs.Curve.{value_at};
+ghost use Rattle.upp_curve.specs.Convolution.{IsConvolution};
+ghost use Rattle.upp_curve.specs.Steady.{rate, rise_over};
+ghost use Rattle.upp_curve.specs.Outcome.{KeepsLimits};
+ghost use Rattle.upp_curve.specs.declared.op_kind.OpKind.TheVariants.{Convolve};
+ghost use Rattle.curve_frame.specs.Rises.{CurveRiseFits};
+ghost use Rattle.curve_lattice.specs.Lattice.{RisesBy};
+ghost use Rattle.curve_convolution.specs.ConvolveCall.{IsConvolveFrame};
+
+use crate::gate::first_window;
+use curve_conv::window_convolution;
+use curve_frame::{Frame, answer, rise_over, within};
+use curve_parts::{is_slower_curve, late_periods};
+use fraction128::Frac;
+use std::alloc::{AllocError, Global};
+use std::sync::ledger::Ledger;
+use steps::Steps;
+use upp_curve::{Curve, OpFault, OpKind};
+
+// a - b.
+fn difference(a: Frac, b: Frac) -> Frac
+    requires { SumFits a (neg_ℚ b) }
+    ensures { result ≡ a -ℚ b }
+{
+    Frac::sub(a, b).unwrap()
+}
+
+// By how much the slower of two curves rises over a period.
+fn slower_rise(f: &Curve, g: &Curve, period: Frac) -> Frac
+    requires first { CurveRiseFits f.now period }
+    requires second { CurveRiseFits g.now period }
+    ensures { RisesBy (rate g.now <ₑ rate f.now) (rise_over g.now period) (rise_over f.now period) result }
+{
+    if is_slower_curve(g, f) {
+        return rise_over(g, period);
+    }
+    rise_over(f, period)
+}
+
+// The convolution of two curves in a call within both limits, where the number of periods is enough.
+fn convolved_within(alloc: Global, f: &Curve, g: &Curve, frame: &Frame) -> Result<Curve, AllocError>
+    requires { IsConvolveFrame f.now g.now frame.now }
+    ensures { IfOk result (λ c. (t : ℚ) → int (pos 0) ≤ℚ t → IsConvolution (value_at f.now) (value_at g.now) t (value_at c t)) }
+{
+    let left = f.unrolled(frame.end)?;
+    let right = g.unrolled(frame.end)?;
+    let pieces = window_convolution(alloc, &left, &right, frame.end)?;
+    let rise = slower_rise(f, g, frame.period);
+    let from = difference(frame.end, frame.period);
+    answer(
+        alloc,
+        pieces,
+        from,
+        frame.period,
+        rise,
+        frame.times,
+        frame.values,
+    )
+}
+
+/// At each time t from 0 on the infimum of f(s) + g(u) over all s and u from 0 on whose sum is t (Le Boudec and Thiran, chapter 3). The
+/// curves may be infinite anywhere. One step is counted. Refused with TooWide or TooMany exactly where the call's gauge or tally is over
+/// that limit, or no number of periods is enough for the slower curve's part to have the least sums (TooWide); else only for want of
+/// memory.
+pub fn convolve<L: Ledger>(
+    alloc: Global,
+    f: &Curve,
+    g: &Curve,
+    steps: &mut Steps<L>,
+) -> Result<Curve, OpFault>
+    ensures count { steps.new ≡ steps.old + 1 }
+    ensures value { IfOk result (λ c. (t : ℚ) → int (pos 0) ≤ℚ t → IsConvolution (value_at f.now) (value_at g.now) t (value_at c t)) }
+    ensures limits { KeepsLimits Convolve f.now g.now result }
+{
+    steps.tick();
+    let kind = OpKind::Convolve;
+    let first = first_window(&kind, f, g)?;
+    let from = difference(first.end, first.period);
+    let Some(periods) = late_periods(f, g, from, first.period, first.end) else {
+        return Err(OpFault::TooWide);
+    };
+    let frame = within(&kind, f, g, periods)?;
+    match convolved_within(alloc, f, g, &frame) {
+        Ok(c) => Ok(c),
+        Err(_) => Err(OpFault::NoMemory),
+    }
+}

@@ -1,0 +1,16 @@
+pub mod MovedLoop
+pub mod Served
+pub mod SumSizes
+pub mod MovedReads
+pub mod MovedStands
+pub mod LeftReads
+pub mod LeftStands
+pub mod LowestCalls
+pub mod LowestReads
+pub mod LeftCalls
+pub mod LeftAnswers
+pub mod ValueIn
+pub mod BehindWalk
+pub mod LeastBehind
+pub mod LeftLimits
+pub mod Nothing

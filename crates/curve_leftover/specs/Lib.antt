@@ -1,0 +1,5 @@
+pub mod Moved
+pub mod Parts
+pub mod Lowest
+pub mod Behind
+pub mod LeftCall

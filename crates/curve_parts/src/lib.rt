@@ -1,0 +1,13 @@
+//! The parts of a convolution of two curves, before and from the time on from which they repeat, and from which number of periods on
+//! the convolution is that of the parts that rise the least.
+#![tactic(auto)]
+
+mod elements;
+mod gaps;
+mod lower;
+mod number;
+mod order;
+mod parts;
+mod rows;
+
+pub use order::{is_slower_curve, late_periods};

@@ -1,0 +1,10 @@
+pub mod Decided
+pub mod RawShapes
+pub mod ListedTests
+pub mod Told
+pub mod Each
+pub mod QuantaKept
+pub mod CurveMade
+pub mod Named
+pub mod HopParts
+pub mod Fitting

@@ -1,0 +1,14 @@
+pub mod Faults
+pub mod Values
+pub mod Keys
+pub mod Texts
+pub mod CurveTexts
+pub mod Views
+pub mod Made
+pub mod Refusals
+pub mod Hops
+pub mod HopViews
+pub mod Tables
+pub mod Drafts
+pub mod DraftViews
+pub mod Kept

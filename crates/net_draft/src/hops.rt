@@ -1,0 +1,216 @@
+//! Entries of paths.
+
+ghost use Rattle.std.specs.Prelude.{◌≡◌, ◌≢◌, ◌-◌, ◌^◌, ◌<◌, ◌≤◌, min, false, true, [], map, codes, length};
+ghost use Rattle.std.specs.Prelude.{IfOk, All, AllPairs, MatchOption, Some, slice_get, nat_eq};
+ghost use Rattle.std.specs.List.{list_any, position};
+ghost use Rattle.std.specs.Str.Parse.{digits_value};
+ghost use Rattle.rational.specs.Gauge.{cap};
+ghost use Rattle.fraction128.specs.Text.{is_numeral};
+ghost use Rattle.run_laws.specs.Servers.{queue_count};
+ghost use Rattle.toml.specs.View.{view, table_view};
+ghost use Rattle.net_model.specs.Views.{discipline_of};
+ghost use Rattle.net_draft.specs.Faults.{Gives, seen};
+ghost use Rattle.net_draft.specs.Hops.{is_colon, hop_parts, hop_text, hop_in, named_from};
+ghost use Rattle.net_draft.specs.HopViews.{hop_view};
+ghost use Rattle.net_draft.specs.Tables.{each, hop_at, path_of};
+ghost use Rattle.net_draft.specs.Texts.{IsHopOf};
+ghost use Rattle.net_draft.specs.Views.{server_text};
+
+use crate::fault::DraftFault;
+use crate::hop::Hop;
+use crate::keys::required_list;
+use crate::limits::MOST_HOPS;
+use crate::names::is_name;
+use crate::places::{fault_at, nth, under};
+use crate::server_draft::ServerDraft;
+use crate::values::text_in;
+use net_model::{Discipline, NetKind};
+use std::alloc::Global;
+use toml::{Table, Value};
+
+/// A path entry as it is written. A number of a queue above 2^32 - 1 is 2^32 - 1.
+#[derive(Clone, Copy)]
+pub(crate) struct WrittenHop<'a> {
+    name: &'a [u8],
+    queue: u32,
+}
+
+fn find_colon(bytes: &[u8]) -> Option<usize>
+    ensures { result ≡ position is_colon bytes.now }
+{
+    bytes.iter().position(|b| *b == b':')
+}
+
+/// The number that digits write, or 2^128 - 1 where it is above that; none where something else is there, or nothing.
+fn read_digits(digits: &[u8]) -> Option<u128>
+    ensures { MatchOption result (is_numeral digits.now ≡ false)
+        (λ n. (is_numeral digits.now ≡ true) × (n ≡ cap (digits_value 10 digits.now))) }
+{
+    if digits.is_empty() {
+        return None;
+    }
+    let mut n: u128 = 0;
+    for b in digits {
+        if !b.is_ascii_digit() {
+            return None;
+        }
+        n = n.saturating_mul(10).saturating_add((*b - b'0') as u128);
+    }
+    Some(n)
+}
+
+#[tactic(auto, unfolding(rational::specs::Gauge::cap))]
+fn queue_number(n: u128) -> u32
+    ensures { result ≡ min n (2 ^ 32 - 1) }
+{
+    if n < u32::MAX as u128 {
+        n as u32
+    } else {
+        u32::MAX
+    }
+}
+
+fn hop_of_parts<'a>(name: &'a [u8], digits: &[u8]) -> Result<WrittenHop<'a>, NetKind>
+    ensures { seen hop_view result ≡ hop_parts name.now digits.now }
+{
+    if !is_name(name) {
+        return Err(NetKind::M5);
+    }
+    match read_digits(digits) {
+        Some(n) => Ok(WrittenHop {
+            name,
+            queue: queue_number(n),
+        }),
+        None => Err(NetKind::M5),
+    }
+}
+
+fn written_hop(text: &[u8]) -> Result<WrittenHop<'_>, NetKind>
+    ensures { seen hop_view result ≡ hop_text text.now }
+{
+    match find_colon(text) {
+        Some(at) => hop_of_parts(&text[..at], &text[at + 1..]),
+        None => hop_of_parts(text, b"0"),
+    }
+}
+
+/// The first server of a name, and its number.
+fn server_named<'a>(
+    servers: &'a [ServerDraft],
+    name: &[u8],
+) -> Result<(usize, &'a ServerDraft), NetKind>
+    ensures value { seen (λ f. (f.0, server_text f.1.now)) result ≡ named_from 0 name.now (map server_text servers.now) }
+    ensures within { IfOk result (λ f. f.0 < length servers.now) }
+    ensures stands { IfOk result (λ f. slice_get (map server_text servers.now) f.0 ≡ Some (server_text f.1.now)) }
+{
+    for (number, server) in servers.iter().enumerate() {
+        if server.name.as_bytes() == name {
+            return Ok((number, server));
+        }
+    }
+    Err(NetKind::M8)
+}
+
+fn queue_count(discipline: &Discipline) -> usize
+    ensures { result ≡ queue_count (discipline_of discipline.now) }
+{
+    match discipline {
+        Discipline::Fifo => 1,
+        Discipline::Priority { queues } => *queues as usize,
+        Discipline::Drr { quanta } => quanta.len(),
+    }
+}
+
+fn passes_server(hops: &[Hop], server: usize) -> bool
+    ensures { result ≡ list_any (λ h. nat_eq h.server server) hops.now }
+{
+    for hop in hops {
+        if hop.server as usize == server {
+            return true;
+        }
+    }
+    false
+}
+
+#[tactic(auto, unfolding(crate::specs::Hops::hop_in))]
+fn hop_in(servers: &[ServerDraft], before: &[Hop], value: &Value) -> Result<Hop, NetKind>
+    requires { length servers.now ≤ 64 }
+    ensures value { result ≡ hop_in (map server_text servers.now) before.now (view value.now) }
+    ensures range { IfOk result (IsHopOf (map server_text servers.now)) }
+    ensures fresh { IfOk result (λ h. All (λ b. b.server ≢ h.server) before.now) }
+{
+    let text = text_in(value)?;
+    let written = written_hop(text.as_bytes())?;
+    let (number, server) = server_named(servers, written.name)?;
+    if written.queue as usize >= queue_count(&server.discipline) {
+        return Err(NetKind::M6);
+    }
+    if passes_server(before, number) {
+        return Err(NetKind::M10);
+    }
+    Ok(Hop {
+        server: number as u32,
+        queue: written.queue,
+    })
+}
+
+fn hop_at(
+    alloc: Global,
+    servers: &[ServerDraft],
+    before: &[Hop],
+    place: &str,
+    value: &Value,
+) -> Result<Hop, DraftFault>
+    requires { length servers.now ≤ 64 }
+    ensures value { Gives (λ h. h) result (hop_at (map server_text servers.now) before.now place.now (view value.now)) }
+    ensures range { IfOk result (IsHopOf (map server_text servers.now)) }
+    ensures fresh { IfOk result (λ h. All (λ b. b.server ≢ h.server) before.now) }
+{
+    match hop_in(servers, before, value) {
+        Ok(hop) => Ok(hop),
+        Err(kind) => Err(fault_at(alloc, kind, place)),
+    }
+}
+
+fn each_hop(
+    alloc: Global,
+    servers: &[ServerDraft],
+    place: &str,
+    entries: &[Value],
+) -> Result<Vec<Hop>, DraftFault>
+    requires { length servers.now ≤ 64 }
+    ensures value { Gives (λ v. v.items) result
+        (each (hop_at (map server_text servers.now)) place.now [] (map view entries.now)) }
+    ensures count { IfOk result (λ v. length v.items ≡ length entries.now) }
+    ensures range { IfOk result (λ v. All (IsHopOf (map server_text servers.now)) v.items) }
+    ensures once { IfOk result (λ v. AllPairs (λ a b. a.server ≢ b.server) v.items) }
+{
+    let mut hops = Vec::new(alloc);
+    for entry in entries {
+        let here = nth(alloc, place, hops.len())?;
+        let hop = hop_at(alloc, servers, &hops, here.as_str(), entry)?;
+        hops.push(hop)?;
+    }
+    Ok(hops)
+}
+
+/// The path of the flow whose table stands at a place.
+#[tactic(auto, unfolding(crate::specs::Tables::path_of))]
+pub(crate) fn path_of(
+    alloc: Global,
+    servers: &[ServerDraft],
+    table: &Table,
+    place: &str,
+) -> Result<Vec<Hop>, DraftFault>
+    requires { length servers.now ≤ 64 }
+    ensures value { Gives (λ v. v.items) result
+        (path_of (map server_text servers.now) place.now (table_view table.now)) }
+    ensures some { IfOk result (λ v. 1 ≤ length v.items) }
+    ensures few { IfOk result (λ v. length v.items ≤ 16) }
+    ensures range { IfOk result (λ v. All (IsHopOf (map server_text servers.now)) v.items) }
+    ensures once { IfOk result (λ v. AllPairs (λ a b. a.server ≢ b.server) v.items) }
+{
+    let entries = required_list(alloc, table, place, "path", 1, MOST_HOPS)?;
+    let here = under(alloc, place, "path")?;
+    each_hop(alloc, servers, here.as_str(), entries)
+}

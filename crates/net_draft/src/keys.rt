@@ -1,0 +1,256 @@
+//! What stands at the keys of a table, with the faults' places.
+
+ghost use Rattle.std.specs.Prelude.{◌≡◌, ◌≤◌, [], pos, codes, false, length, map, IfOk, option_map};
+ghost use Rattle.std.specs.List.{list_any};
+ghost use Rattle.std.specs.Str.{bytes_eq};
+ghost use Rattle.rational.specs.Rational.{int, ◌≤ℚ◌, ◌<ℚ◌};
+ghost use Rattle.toml.specs.View.{view, table_view};
+ghost use Rattle.toml.specs.Data.{get_member};
+ghost use Rattle.net_draft.specs.Faults.{Gives, placed};
+ghost use Rattle.net_draft.specs.Values.{at_key, required, optional, text_in, truth_in, table_in, number_in, positive_in};
+ghost use Rattle.net_draft.specs.Values.{nonnegative_in, whole_in, list_in};
+ghost use Rattle.net_draft.specs.Keys.{only, texts_of};
+
+use crate::fault::DraftFault;
+use crate::places::{fault_at, fault_under};
+use crate::values::{
+    list_in, nonnegative_in, number_in, positive_in, table_in, text_in, truth_in, whole_in,
+};
+use fraction128::Frac;
+use net_model::NetKind;
+use std::alloc::Global;
+use toml::{Table, Value};
+
+/// The value at a key.
+pub(crate) fn field<'a>(table: &'a Table, key: &str) -> Option<&'a Value>
+    ensures { option_map (λ v. view v.now) result ≡ get_member key.now (table_view table.now) }
+{
+    table.get(key)
+}
+
+fn is_known(key: &str, known: &[&str]) -> bool
+    ensures { result ≡ list_any (bytes_eq key.now) (texts_of known.now) }
+{
+    for word in known {
+        if key == *word {
+            return true;
+        }
+    }
+    false
+}
+
+/// Nothing where all keys of a table are known, else a fault at the least that is not.
+pub(crate) fn only(
+    alloc: Global,
+    table: &Table,
+    place: &str,
+    known: &[&str],
+) -> Result<(), DraftFault>
+    ensures { Gives (λ _. tt) result (only (texts_of known.now) place.now (table_view table.now)) }
+{
+    for (key, _value) in table.iter() {
+        if !is_known(key.as_str(), known) {
+            return Err(fault_under(alloc, NetKind::M3, place, key.as_str()));
+        }
+    }
+    Ok(())
+}
+
+/// The table at a place.
+pub(crate) fn table_at<'a>(
+    alloc: Global,
+    place: &str,
+    value: &'a Value,
+) -> Result<&'a Table, DraftFault>
+    ensures { Gives (λ t. table_view t.now) result (placed place.now (table_in (view value.now))) }
+{
+    match table_in(value) {
+        Ok(table) => Ok(table),
+        Err(kind) => Err(fault_at(alloc, kind, place)),
+    }
+}
+
+pub(crate) fn required_text<'a>(
+    alloc: Global,
+    table: &'a Table,
+    place: &str,
+    key: &str,
+) -> Result<&'a str, DraftFault>
+    ensures { Gives (λ s. s.now) result (at_key key.now (required text_in) place.now (table_view table.now)) }
+{
+    match field(table, key) {
+        None => Err(fault_under(alloc, NetKind::M2, place, key)),
+        Some(value) => match text_in(value) {
+            Ok(text) => Ok(text),
+            Err(kind) => Err(fault_under(alloc, kind, place, key)),
+        },
+    }
+}
+
+pub(crate) fn required_number(
+    alloc: Global,
+    table: &Table,
+    place: &str,
+    key: &str,
+) -> Result<Frac, DraftFault>
+    ensures { Gives (λ x. x) result (at_key key.now (required number_in) place.now (table_view table.now)) }
+{
+    match field(table, key) {
+        None => Err(fault_under(alloc, NetKind::M2, place, key)),
+        Some(value) => match number_in(value) {
+            Ok(number) => Ok(number),
+            Err(kind) => Err(fault_under(alloc, kind, place, key)),
+        },
+    }
+}
+
+pub(crate) fn number_or(
+    alloc: Global,
+    table: &Table,
+    place: &str,
+    key: &str,
+    default: Frac,
+) -> Result<Frac, DraftFault>
+    ensures { Gives (λ x. x) result (at_key key.now (optional number_in default) place.now (table_view table.now)) }
+{
+    match field(table, key) {
+        None => Ok(default),
+        Some(value) => match number_in(value) {
+            Ok(number) => Ok(number),
+            Err(kind) => Err(fault_under(alloc, kind, place, key)),
+        },
+    }
+}
+
+pub(crate) fn positive_number(
+    alloc: Global,
+    table: &Table,
+    place: &str,
+    key: &str,
+) -> Result<Frac, DraftFault>
+    ensures value { Gives (λ x. x) result (at_key key.now (required positive_in) place.now (table_view table.now)) }
+    ensures range { IfOk result (λ x. int (pos 0) <ℚ x) }
+{
+    match field(table, key) {
+        None => Err(fault_under(alloc, NetKind::M2, place, key)),
+        Some(value) => match positive_in(value) {
+            Ok(number) => Ok(number),
+            Err(kind) => Err(fault_under(alloc, kind, place, key)),
+        },
+    }
+}
+
+/// A number that is not below 0; 0 where there is none.
+pub(crate) fn nonnegative_number(
+    alloc: Global,
+    table: &Table,
+    place: &str,
+    key: &str,
+) -> Result<Frac, DraftFault>
+    ensures value { Gives (λ x. x) result
+        (at_key key.now (optional nonnegative_in (int (pos 0))) place.now (table_view table.now)) }
+    ensures range { IfOk result (λ x. int (pos 0) ≤ℚ x) }
+{
+    match field(table, key) {
+        None => Ok(Frac::zero()),
+        Some(value) => match nonnegative_in(value) {
+            Ok(number) => Ok(number),
+            Err(kind) => Err(fault_under(alloc, kind, place, key)),
+        },
+    }
+}
+
+pub(crate) fn required_whole(
+    alloc: Global,
+    table: &Table,
+    place: &str,
+    key: &str,
+    least: u32,
+    most: u32,
+) -> Result<u32, DraftFault>
+    ensures value { Gives (λ n. n) result
+        (at_key key.now (required (whole_in least most)) place.now (table_view table.now)) }
+    ensures range { IfOk result (λ n. (least ≤ n) × (n ≤ most)) }
+{
+    match field(table, key) {
+        None => Err(fault_under(alloc, NetKind::M2, place, key)),
+        Some(value) => match whole_in(value, least, most) {
+            Ok(whole) => Ok(whole),
+            Err(kind) => Err(fault_under(alloc, kind, place, key)),
+        },
+    }
+}
+
+/// The version: 1, also where there is none.
+pub(crate) fn version(alloc: Global, table: &Table) -> Result<u32, DraftFault>
+    ensures value { Gives (λ n. n) result
+        (at_key (codes "version") (optional (whole_in 1 1) 1) [] (table_view table.now)) }
+    ensures range { IfOk result (λ n. n ≡ 1) }
+{
+    match field(table, "version") {
+        None => Ok(1),
+        Some(value) => match whole_in(value, 1, 1) {
+            Ok(whole) => Ok(whole),
+            Err(kind) => Err(fault_under(alloc, kind, "", "version")),
+        },
+    }
+}
+
+/// A truth; false where there is none.
+pub(crate) fn is_true(
+    alloc: Global,
+    table: &Table,
+    place: &str,
+    key: &str,
+) -> Result<bool, DraftFault>
+    ensures { Gives (λ b. b) result (at_key key.now (optional truth_in false) place.now (table_view table.now)) }
+{
+    match field(table, key) {
+        None => Ok(false),
+        Some(value) => match truth_in(value) {
+            Ok(truth) => Ok(truth),
+            Err(kind) => Err(fault_under(alloc, kind, place, key)),
+        },
+    }
+}
+
+pub(crate) fn required_list<'a>(
+    alloc: Global,
+    table: &'a Table,
+    place: &str,
+    key: &str,
+    least: usize,
+    most: usize,
+) -> Result<&'a [Value], DraftFault>
+    ensures value { Gives (λ vs. map view vs.now) result
+        (at_key key.now (required (list_in least most)) place.now (table_view table.now)) }
+    ensures range { IfOk result (λ vs. (least ≤ length vs.now) × (length vs.now ≤ most)) }
+{
+    match field(table, key) {
+        None => Err(fault_under(alloc, NetKind::M2, place, key)),
+        Some(value) => match list_in(value, least, most) {
+            Ok(entries) => Ok(entries),
+            Err(kind) => Err(fault_under(alloc, kind, place, key)),
+        },
+    }
+}
+
+/// The entries of an array at a key of the root; none where there is no such key.
+pub(crate) fn list_or_none<'a>(
+    alloc: Global,
+    table: &'a Table,
+    key: &str,
+    most: usize,
+) -> Result<&'a [Value], DraftFault>
+    ensures value { Gives (λ vs. map view vs.now) result
+        (at_key key.now (optional (list_in 0 most) []) [] (table_view table.now)) }
+    ensures range { IfOk result (λ vs. length vs.now ≤ most) }
+{
+    match field(table, key) {
+        None => Ok(&[]),
+        Some(value) => match list_in(value, 0, most) {
+            Ok(entries) => Ok(entries),
+            Err(kind) => Err(fault_under(alloc, kind, "", key)),
+        },
+    }
+}
