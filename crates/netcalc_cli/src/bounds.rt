@@ -1,5 +1,5 @@
 //! The bounds of a server and its flow: the two deviations of their curves, by the operators of the curves. The numbers
-//! of a form are so small that no call is over a limit: that is proved at each answer that cannot come.
+//! of a form are so small that no call is over a limit: that is proved at each refusal.
 ghost use Rattle.std.specs.Prelude.{◌≡◌, ◌+◌, ◌≤◌, IfOk};
 ghost use Rattle.rational.specs.Rational.{ℚ, ◌≤ℚ◌};
 ghost use Rattle.run_laws.specs.Cards.{whole};
@@ -14,8 +14,7 @@ ghost use Rattle.netcalc_cli.specs.Counts.{IsUpToThree};
 ghost use Rattle.netcalc_cli.specs.View.{form_view, IsInRange};
 
 use crate::form::Form;
-use crate::stub::horizontal;
-use curve_deviation::vertical;
+use curve_deviation::{horizontal, vertical};
 use curve_lattice::pos_minus;
 use curve_library::{CurveFault, bucket, rate_latency};
 use fraction128::{Ext, Frac};
@@ -39,14 +38,29 @@ fn whole(n: u32) -> Frac
     Frac::from_whole(n as i128)
 }
 
+/// A curve of a form is refused for want of memory alone.
+fn no_curve(fault: CurveFault) -> NoMemory
+    requires { fault ≡ CurveFault.NoMemory }
+{
+    let _ = fault;
+    NoMemory
+}
+
+/// So is a call on such curves.
+fn no_answer(fault: OpFault) -> NoMemory
+    requires { fault ≡ OpFault.NoMemory }
+{
+    let _ = fault;
+    NoMemory
+}
+
 /// The most bits that the flow sends in windows of each length.
 fn arrival_of(alloc: Global, form: &Form) -> Result<Curve, NoMemory>
     ensures { IfOk result (λ c. c ≡ arrival form.now.flow.burst form.now.flow.rate) }
 {
     match bucket(alloc, whole(form.flow.burst), whole(form.flow.rate)) {
         Ok(curve) => Ok(curve),
-        Err(CurveFault::NoMemory) => Err(NoMemory),
-        Err(_) => unreachable!(),
+        Err(fault) => Err(no_curve(fault)),
     }
 }
 
@@ -57,8 +71,7 @@ fn service_of(alloc: Global, form: &Form) -> Result<Curve, NoMemory>
 {
     match rate_latency(alloc, whole(form.server.rate), whole(form.server.latency)) {
         Ok(curve) => Ok(curve),
-        Err(CurveFault::NoMemory) => Err(NoMemory),
-        Err(_) => unreachable!(),
+        Err(fault) => Err(no_curve(fault)),
     }
 }
 
@@ -81,8 +94,7 @@ fn packet_service_of<L: Ledger>(
             let _kept = curve.tail();
             Ok(curve)
         }
-        Err(OpFault::NoMemory) => Err(NoMemory),
-        Err(_) => unreachable!(),
+        Err(fault) => Err(no_answer(fault)),
     }
 }
 

@@ -6,7 +6,6 @@ mod bounds;
 mod form;
 mod laws;
 mod report;
-mod stub;
 mod top_call;
 mod tree;
 mod words;
