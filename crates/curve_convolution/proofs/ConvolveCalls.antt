@@ -34,7 +34,8 @@ use Rattle.curve_frame.proofs.FirstGate.{first_gate}
 use Rattle.curve_frame.proofs.Limited.{refused_cause, frame_within, convolve_least}
 use Rattle.curve_least.proofs.Rises.{has_window}
 use Rattle.curve_least.proofs.Shifts.{same_least}
-use Rattle.curve_lattice.specs.LatticeCall.{LatticeCall, IsFirstWindow, IsWideAtFirst}
+use Rattle.curve_lattice.specs.LatticeCall.{LatticeCall}
+use Rattle.curve_frame.specs.FirstWindows.{IsFirstWindow, IsWideAtFirst}
 use Rattle.curve_lattice.proofs.LatticeCalls.{at_times, from_is, from_fits}
 use Rattle.curve_parts.specs.Scans.{sizes_in}
 use Rattle.curve_parts.specs.Late.{IsSlowerLate, IsSlowerAfter, IsSlowerNumber, IsPartsCall}

@@ -13,9 +13,8 @@ ghost use Rattle.curve_frame.specs.Rises.{CurveRiseFits};
 ghost use Rattle.curve_lattice.specs.Lattice.{RisesBy};
 ghost use Rattle.curve_convolution.specs.ConvolveCall.{IsConvolveFrame};
 
-use crate::gate::first_window;
 use curve_conv::window_convolution;
-use curve_frame::{Frame, answer, rise_over, within};
+use curve_frame::{Frame, answer, first_window, rise_over, within};
 use curve_parts::{is_slower_curve, late_periods};
 use fraction128::Frac;
 use std::alloc::{AllocError, Global};

@@ -1,9 +1,9 @@
 -- When the vertical deviation is infinite whatever the sizes are: the first curve is infinite somewhere, or the faster one.
-use Rattle.std.specs.Prelude.{◌≡◌, pos, List, [], ◌∷◌, Option, Some, None, ◌⊎◌}
-use Rattle.std.proofs.Common.{arith, sym, ap, ◌∙◌, subst, inl, inr}
-use Rattle.rational.specs.Rational.{ℚ, ◌+ℚ◌, ◌-ℚ◌, ◌≤ℚ◌, ◌<ℚ◌, int}
+use Rattle.std.specs.Prelude.{◌≡◌, pos, List, [], ◌∷◌, Option, Some, None}
+use Rattle.std.proofs.Common.{arith, ◌∙◌, subst, inl, inr}
+use Rattle.rational.specs.Rational.{ℚ, ◌+ℚ◌, ◌≤ℚ◌, ◌<ℚ◌, int}
 use Rattle.rational.specs.Extended.{Ext, ◌<ₑ◌}
-use Rattle.rational.specs.declared.Extended.TheVariants.{Fin, Inf}
+use Rattle.rational.specs.declared.Extended.TheVariants.{Inf}
 use Rattle.rational.proofs.Linear.{with1, with2}
 use Rattle.rational.proofs.Laws.{le_trans, le_of_lt}
 use Rattle.affine_segment.specs.declared.line.Piece.{Piece}
@@ -12,7 +12,7 @@ use Rattle.upp_curve.specs.declared.curve.Tail.TheVariants.{Periodic, Affine, In
 use Rattle.upp_curve.specs.Reading.{read}
 use Rattle.upp_curve.specs.Curve.{SpecCurve, value_at, with_tail, repeated}
 use Rattle.upp_curve.specs.Curves.{IsCurve}
-use Rattle.upp_curve.specs.Normal.{RisesFrom, StartsAtZero, Each, TailFits}
+use Rattle.upp_curve.specs.Normal.{StartsAtZero, Each, TailFits}
 use Rattle.upp_curve.specs.Shapes.{IsFinitePiece, IsNumber}
 use Rattle.upp_curve.specs.Functions.{IsFinite}
 use Rattle.upp_curve.specs.Steady.{Repeats, rise_over, rate}
@@ -77,7 +77,7 @@ not_finite_deviation f g curve not finite =
     let found = infinite_somewhere f curve not in
     infinite_deviation (value_at f) (value_at g) found.at found.nonneg found.top finite
 
-repeats_by : (from d : ℚ) (c : SpecCurve) → int (pos 0) <ℚ d → RepeatsBy from d c → Repeats (value_at c) from d (rise_over c d)
+pub repeats_by : (from d : ℚ) (c : SpecCurve) → int (pos 0) <ℚ d → RepeatsBy from d c → Repeats (value_at c) from d (rise_over c d)
 repeats_by from d c some R = record { rule = λ t h. (steady_rule c d R.curve.normal.raw R.periods (le_of_lt some)).rule t (le_trans R.steady_by h) }
 
 pub faster_deviation : (f g : SpecCurve) (from d : ℚ) → int (pos 0) <ℚ d → int (pos 0) ≤ℚ from → RepeatsBy from d f → RepeatsBy from d g → rate g <ₑ rate f

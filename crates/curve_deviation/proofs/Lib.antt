@@ -2,3 +2,11 @@ pub mod WholeGap
 pub mod Infinite
 pub mod AtOnce
 pub mod VerticalCall
+pub mod FirstReach
+pub mod Lagging
+pub mod KnownLags
+pub mod LateLags
+pub mod WindowTimes
+pub mod Searching
+pub mod PeriodsFound
+pub mod HorizontalCall

@@ -1,7 +1,7 @@
 -- A call for the vertical deviation: what its frame gives, and its limits where it is known at once.
-use Rattle.std.specs.Prelude.{◌≡◌, ℕ, pos, ◌⊎◌}
+use Rattle.std.specs.Prelude.{◌≡◌, pos}
 use Rattle.std.proofs.Common.{sym, ap₂, ◌∙◌, subst, inl, inr}
-use Rattle.rational.specs.Rational.{ℚ, ◌+ℚ◌, ◌≤ℚ◌, ◌<ℚ◌, int}
+use Rattle.rational.specs.Rational.{ℚ, ◌+ℚ◌, ◌≤ℚ◌, int}
 use Rattle.rational.specs.Extended.{◌<ₑ◌}
 use Rattle.rational.specs.declared.Extended.TheVariants.{Inf}
 use Rattle.rational.proofs.MinMax.{max_q_ge_left, max_q_ge_right}
@@ -15,7 +15,7 @@ use Rattle.upp_curve.specs.Functions.{IsFinite}
 use Rattle.upp_curve.specs.Steady.{steady, rate, IsWholePeriods}
 use Rattle.upp_curve.specs.Periods.{common_period, both_steady}
 use Rattle.upp_curve.specs.Windows.{window_at}
-use Rattle.upp_curve.specs.Limits.{Sizes, curve_numbers, joined, sizes_of}
+use Rattle.upp_curve.specs.Limits.{curve_numbers, sizes_of}
 use Rattle.upp_curve.specs.Sized.{Stands}
 use Rattle.upp_curve.specs.Operand.{AreLimited}
 use Rattle.upp_curve.specs.Gauges.{IsKnownAtOnce, both_numbers}
@@ -27,7 +27,7 @@ use Rattle.curve_frame.specs.Frames.{IsFrame, IsRefusedAt, sizes_at}
 use Rattle.curve_frame.proofs.CallTimes.{first_stands, second_stands}
 use Rattle.curve_frame.proofs.CurveTimes.{both_on}
 use Rattle.curve_frame.proofs.CurveRises.{common_first, common_second}
-use Rattle.curve_frame.proofs.FrameFacts.{FrameFacts, frame_facts}
+use Rattle.curve_frame.proofs.FrameFacts.{frame_facts}
 use Rattle.curve_least.specs.Compared.{AreCompared}
 use Rattle.curve_least.specs.Ever.{RepeatsBy}
 use Rattle.curve_least.proofs.Rises.{repeat_low}

@@ -2,7 +2,7 @@
 
 ghost use Rattle.std.specs.Prelude.{◌≡◌, ◌<◌};
 
-use crate::vertical;
+use crate::{horizontal, vertical};
 use affine_segment::{Line, Piece};
 use fraction128::{Ext, Frac};
 use rational::Extended;
@@ -13,11 +13,15 @@ use std::test::Fail;
 use steps::Steps;
 use upp_curve::{Curve, OpFault, RawCurve, Tail, normalise};
 
-fn whole(n: i128) -> Frac {
-    match Frac::new(n, 1) {
+fn ratio(n: i128, d: i128) -> Frac {
+    match Frac::new(n, d) {
         Ok(f) => f,
         Err(_) => Frac::zero(),
     }
+}
+
+fn whole(n: i128) -> Frac {
+    ratio(n, 1)
 }
 
 // From x on a line, and `at` at x.
@@ -107,5 +111,145 @@ fn flows_at_a_server(rt: HostRuntime) -> Result<(), Fail> {
             "the server above {level} + {slope} t"
         );
     }
+    Ok(())
+}
+
+fn repeating(alloc: Global, pieces: &[Piece], period: i128, rise: i128) -> Result<Curve, OpFault> {
+    let Ok(pieces) = Vec::from_slice(alloc, pieces) else {
+        return Err(OpFault::NoMemory);
+    };
+    let tail = Tail::Periodic {
+        rank: Frac::zero(),
+        period: whole(period),
+        rise: whole(rise),
+    };
+    let raw = RawCurve { pieces, tail };
+    if raw.is_raw() {
+        normalise(raw)
+    } else {
+        Err(OpFault::TooMany)
+    }
+}
+
+fn lag<L: Ledger>(f: &Curve, g: &Curve, steps: &mut Steps<L>) -> Result<Ext, OpFault> {
+    if !f.is_rising() {
+        return Err(OpFault::TooMany);
+    }
+    if !g.is_rising() {
+        return Err(OpFault::TooMany);
+    }
+    if g.is_finite() {
+        horizontal(f, g, steps)
+    } else {
+        Err(OpFault::TooMany)
+    }
+}
+
+// Of level + slope t, behind which a server of that rate lies after a latency of 10, up to `most` if that is no rate.
+fn of_latency<L: Ledger>(
+    alloc: Global,
+    blank: Blank,
+    level: i128,
+    slope: i128,
+    rate: i128,
+    most: i128,
+) -> Result<Ext, OpFault>
+    requires name { blank.name ≡ L.name }
+    requires parts { blank.parts ≡ L.parts }
+    requires one { 0 < blank.parts }
+{
+    let mut steps = Steps::<L>::new(blank);
+    let flow = curve(alloc, &[piece(0, level, level, slope)], 0)?;
+    let late = match rate {
+        0 => most,
+        100 => -1000,
+        _ => 0,
+    };
+    let server = curve(alloc, &[piece(0, 0, 0, 0), piece(10, most, late, rate)], 10)?;
+    lag(&flow, &server, &mut steps)
+}
+
+#[test]
+fn lags_behind_a_latency(rt: HostRuntime) -> Result<(), Fail> {
+    let rows = [
+        (12000, 10, 100, 0, Some(130)),
+        (12000, 100, 100, 0, Some(130)),
+        (12000, 101, 100, 0, None),
+        (7, 0, 0, 7, Some(10)),
+        (8, 0, 0, 7, None),
+        (0, 0, 100, 0, Some(0)),
+    ];
+    for (level, slope, rate, most, wanted) in rows {
+        let found = of_latency::<Brand>(rt.alloc(), Blank::new(1), level, slope, rate, most)?;
+        assert!(rt; agrees(found, wanted), "the lag behind {level} + {slope} t");
+    }
+    Ok(())
+}
+
+// Packets of 24000 each 1500, at a gate of rate 100 that is open in the last 250 of each 1000.
+fn of_gate<L: Ledger>(alloc: Global, blank: Blank) -> Result<Ext, OpFault>
+    requires name { blank.name ≡ L.name }
+    requires parts { blank.parts ≡ L.parts }
+    requires one { 0 < blank.parts }
+{
+    let mut steps = Steps::<L>::new(blank);
+    let packets = repeating(alloc, &[piece(0, 24000, 24000, 0)], 1500, 24000)?;
+    let gate = repeating(
+        alloc,
+        &[piece(0, 0, 0, 0), piece(750, 0, -75000, 100)],
+        1000,
+        25000,
+    )?;
+    lag(&packets, &gate, &mut steps)
+}
+
+#[test]
+fn lags_behind_a_gate(rt: HostRuntime) -> Result<(), Fail> {
+    let found = of_gate::<Brand>(rt.alloc(), Blank::new(1))?;
+    assert!(rt;
+        agrees(found, Some(990)),
+        "a packet just after the gate has closed"
+    );
+    Ok(())
+}
+
+// 1/p + t, and 0 up to 5, then 1/q + 2 (t - 5): the numbers that are met first are small, those of the window are not.
+fn of_gap<L: Ledger>(alloc: Global, blank: Blank) -> Result<Ext, OpFault>
+    requires name { blank.name ≡ L.name }
+    requires parts { blank.parts ≡ L.parts }
+    requires one { 0 < blank.parts }
+{
+    let mut steps = Steps::<L>::new(blank);
+    let p = 18446744073709551557;
+    let q = 18446744073709551533;
+    let burst = ratio(1, p);
+    let first = Piece {
+        x: Frac::zero(),
+        at: Extended::Fin(burst),
+        line: Some(Line {
+            icept: burst,
+            slope: Frac::one(),
+        }),
+    };
+    let second = Piece {
+        x: whole(5),
+        at: Extended::Fin(ratio(1, q)),
+        line: Some(Line {
+            icept: ratio(-184467440737095515329, q),
+            slope: whole(2),
+        }),
+    };
+    let flow = curve(alloc, &[first], 0)?;
+    let server = curve(alloc, &[piece(0, 0, 0, 0), second], 5)?;
+    lag(&flow, &server, &mut steps)
+}
+
+#[test]
+fn a_window_past_a_gap_is_too_wide(rt: HostRuntime) -> Result<(), Fail> {
+    let wide = match of_gap::<Brand>(rt.alloc(), Blank::new(1)) {
+        Err(OpFault::TooWide) => true,
+        _ => false,
+    };
+    assert!(rt; wide, "a common grid of two large primes");
     Ok(())
 }

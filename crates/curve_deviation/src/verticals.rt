@@ -61,7 +61,7 @@ fn vertical_in(f: &Curve, g: &Curve, frame: &Frame) -> Ext
 }
 
 /// Whether the curve is a number at each time.
-fn is_number(f: &Curve) -> bool
+pub(crate) fn is_number(f: &Curve) -> bool
     ensures finite { IsTrue result ↔ IsFinite (value_at f.now) }
     ensures kept { IsCurve f.now }
 {
@@ -70,7 +70,7 @@ fn is_number(f: &Curve) -> bool
 }
 
 /// Whether the first curve is the faster one.
-fn is_faster(f: &Curve, g: &Curve) -> bool
+pub(crate) fn is_faster(f: &Curve, g: &Curve) -> bool
     ensures faster { IsTrue result ↔ (rate g.now <ₑ rate f.now) }
     ensures kept { IsCurve g.now }
 {

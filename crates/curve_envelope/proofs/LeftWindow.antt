@@ -1,5 +1,5 @@
 -- The loop that moves pieces left, and what the moved pieces read as.
-use Rattle.std.specs.Prelude.{◌≡◌, pos, List, [], ◌∷◌, ◌++◌, map, Option, Some, None, ◌⊎◌}
+use Rattle.std.specs.Prelude.{◌≡◌, pos, List, [], ◌∷◌, ◌++◌, map, Option, Some, None}
 use Rattle.std.specs.declared.cmp.Ordering.{Ordering}
 use Rattle.std.proofs.Common.{arith, sym, ap, ap₂, ◌∙◌, refl, subst, inl, inr, append_assoc, append-nil, Greater}
 use Rattle.rational.specs.Rational.{ℚ, ◌+ℚ◌, ◌-ℚ◌, ◌*ℚ◌, ◌≤ℚ◌, ◌<ℚ◌, int, neg_ℚ}
@@ -8,17 +8,16 @@ use Rattle.rational.specs.Extended.{Ext, ◌+ₑ◌}
 use Rattle.rational.specs.declared.Extended.TheVariants.{Fin, Inf}
 use Rattle.rational.proofs.Comparison.{cmp_greater, cmp_not_greater}
 use Rattle.rational.proofs.Linear.{with1, with2, with3}
-use Rattle.rational.proofs.Laws.{le_refl, le_trans, le_of_lt, lt_le_trans, le_or_lt, add_zero, mul_neg}
+use Rattle.rational.proofs.Laws.{le_of_lt, le_or_lt, add_zero, mul_neg}
 use Rattle.affine_segment.specs.declared.line.Line.{Line}
 use Rattle.affine_segment.specs.declared.line.Piece.{Piece}
-use Rattle.affine_segment.specs.Values.{line_at}
 use Rattle.upp_curve.specs.Reading.{read}
 use Rattle.upp_curve.specs.Normal.{Each, RisesFrom, StartsAtZero}
 use Rattle.upp_curve.specs.Normalising.{past, cut_at}
 use Rattle.upp_curve.specs.Unrolled.{line_later, later, each_later}
 use Rattle.upp_curve.proofs.Unrolled.{read_later}
 use Rattle.upp_curve.proofs.NormaliseLoops.{past_go, past_stop, past_none, later_none, later_some}
-use Rattle.upp_curve.proofs.NormaliseLists.{past_all, rises_down}
+use Rattle.upp_curve.proofs.NormaliseLists.{past_all}
 use Rattle.upp_curve.proofs.NormalisePeriods.{cut_reads}
 use Rattle.curve_envelope.specs.Shifting.{left_line, left_piece, moved_left}
 

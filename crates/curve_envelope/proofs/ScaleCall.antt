@@ -1,9 +1,9 @@
 -- A curve times a number within the limits of the call: the products fit, and the curve of them has room.
-use Rattle.std.specs.Prelude.{◌≡◌, ℕ, ◌<◌, ◌^◌, pos, List, map}
+use Rattle.std.specs.Prelude.{◌≡◌, pos, List, map}
 use Rattle.std.specs.List.{AllByRecursion}
-use Rattle.std.proofs.Common.{arith, sym, ap, ap₂, ◌∙◌, refl, subst}
+use Rattle.std.proofs.Common.{arith, sym, ap, ap₂, ◌∙◌, subst}
 use Rattle.rational.specs.Rational.{ℚ, ◌+ℚ◌, ◌≤ℚ◌, ◌<ℚ◌, int}
-use Rattle.rational.proofs.Linear.{with3, with4}
+use Rattle.rational.proofs.Linear.{with3}
 use Rattle.rational.proofs.Laws.{lt_le_trans}
 use Rattle.affine_segment.specs.declared.line.Piece.{Piece}
 use Rattle.upp_curve.specs.declared.curve.Tail.{Tail}
@@ -12,14 +12,14 @@ use Rattle.upp_curve.specs.declared.op_kind.OpKind.TheVariants.{Scale}
 use Rattle.upp_curve.specs.Curve.{SpecCurve, value_at, HasSameValues}
 use Rattle.upp_curve.specs.Curves.{IsCurve}
 use Rattle.upp_curve.specs.Normal.{Each, IsNormal, IsRaw}
-use Rattle.upp_curve.specs.Steady.{rank_of, steady}
+use Rattle.upp_curve.specs.Steady.{steady}
 use Rattle.upp_curve.specs.Periods.{own_period}
-use Rattle.upp_curve.specs.Pointwise.{IsScaled, scaled}
-use Rattle.upp_curve.specs.Spans.{Span, piece_read, spans}
+use Rattle.upp_curve.specs.Pointwise.{IsScaled}
+use Rattle.upp_curve.specs.Spans.{piece_read, spans}
 use Rattle.upp_curve.specs.Limits.{Sizes, curve_numbers, own_end}
-use Rattle.upp_curve.specs.Sized.{Stands, HeldBy, grid_of}
+use Rattle.upp_curve.specs.Sized.{Stands, HeldBy}
 use Rattle.upp_curve.specs.Gauges.{scaled_piece, scaled_tail, scaled_curve, kind_numbers}
-use Rattle.upp_curve.specs.ClosedOperands.{PieceScales, TailScales, KnowsTimes, KnowsScaled}
+use Rattle.upp_curve.specs.ClosedOperands.{PieceScales, KnowsTimes, KnowsScaled}
 use Rattle.upp_curve.proofs.Stands.{stands_right}
 use Rattle.upp_curve.proofs.Every.{every_weaken}
 use Rattle.upp_curve.proofs.Operands.{held_scaled}

@@ -1,20 +1,20 @@
 -- A curve as it is some time later, within the limits of the call: each step fits, the pieces of the answer have room, and it repeats with the period.
-use Rattle.std.specs.Prelude.{◌≡◌, ℕ, ◌+◌, ◌*◌, ◌<◌, ◌≤◌, ◌^◌, pos, List, [], ◌∷◌, map, Option, Some, None}
+use Rattle.std.specs.Prelude.{◌≡◌, ℕ, ◌*◌, pos, List, [], ◌∷◌, Option, Some, None}
 use Prim.Native.Nat.{◌∣◌}
 use Rattle.std.proofs.Common.{arith, sym, ap, ap₂, ◌∙◌, refl, subst}
-use Rattle.rational.specs.Rational.{ℚ, ◌+ℚ◌, ◌-ℚ◌, ◌*ℚ◌, ◌≤ℚ◌, ◌<ℚ◌, int, neg_ℚ}
+use Rattle.rational.specs.Rational.{ℚ, ◌+ℚ◌, ◌-ℚ◌, ◌≤ℚ◌, ◌<ℚ◌, int, neg_ℚ}
 use Rattle.rational.specs.Ratio.{SumFits}
-use Rattle.rational.specs.Grid.{Whole, Within}
+use Rattle.rational.specs.Grid.{Whole}
 use Rattle.rational.specs.Extended.{Ext, ◌+ₑ◌}
 use Rattle.rational.specs.declared.Extended.TheVariants.{Fin, Inf}
 use Rattle.rational.proofs.Linear.{with2, with3, with4}
-use Rattle.rational.proofs.Laws.{le_trans, le_of_lt, le_refl}
+use Rattle.rational.proofs.Laws.{le_of_lt, le_refl}
 use Rattle.rational.proofs.Grid.{whole_sub, whole_neg, within_neg, within_weaken}
 use Rattle.affine_segment.specs.declared.line.Line.{Line}
 use Rattle.affine_segment.specs.declared.line.Piece.{Piece}
 use Rattle.upp_curve.specs.declared.op_kind.OpKind.{OpKind}
 use Rattle.upp_curve.specs.declared.op_kind.OpKind.TheVariants.{Shift}
-use Rattle.upp_curve.specs.Reading.{read, piece_in, piece_value}
+use Rattle.upp_curve.specs.Reading.{read, piece_in}
 use Rattle.upp_curve.specs.Curve.{SpecCurve, repeated, value_at}
 use Rattle.upp_curve.specs.Curves.{IsCurve}
 use Rattle.upp_curve.specs.Normal.{Each, StartsAtZero}
@@ -22,11 +22,10 @@ use Rattle.upp_curve.specs.Normalising.{HasValues, cut_at, past}
 use Rattle.upp_curve.specs.Readable.{LineFitsAt}
 use Rattle.upp_curve.specs.Unrolled.{unroll}
 use Rattle.upp_curve.specs.Steady.{steady, rise_over, IsWholePeriods}
-use Rattle.upp_curve.specs.Periods.{own_period}
 use Rattle.upp_curve.specs.Windows.{window_at}
 use Rattle.upp_curve.specs.Pointwise.{IsShift}
 use Rattle.upp_curve.specs.Limits.{Sizes, curve_numbers}
-use Rattle.upp_curve.specs.Sized.{Stands, grid_of, times_largest}
+use Rattle.upp_curve.specs.Sized.{Stands, grid_of}
 use Rattle.upp_curve.specs.Operand.{AreLimited, OperandPiece, OperandPieces, OperandLineAt, answer_room}
 use Rattle.upp_curve.specs.Room.{PieceHasRoom, LineHasRoom}
 use Rattle.upp_curve.proofs.NarrowSizes.{narrow_gauge, slope_time_divides}

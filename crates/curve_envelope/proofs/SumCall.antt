@@ -1,20 +1,18 @@
 -- The sum of two curves within the limits of the call: each step fits, the pieces of the answer have room, and it repeats with the common period.
-use Rattle.std.specs.Prelude.{◌≡◌, ℕ, ◌+◌, ◌*◌, ◌<◌, ◌^◌, pos, List}
+use Rattle.std.specs.Prelude.{◌≡◌, ℕ, ◌*◌, pos, List}
 use Prim.Native.Nat.{◌∣◌}
 use Rattle.std.proofs.Common.{arith, sym, ap, ap₂, ◌∙◌, refl, subst}
-use Rattle.rational.specs.Rational.{ℚ, ◌+ℚ◌, ◌*ℚ◌, ◌≤ℚ◌, ◌<ℚ◌, int}
-use Rattle.rational.specs.MinMax.{max_q}
+use Rattle.rational.specs.Rational.{ℚ, ◌+ℚ◌, ◌≤ℚ◌, ◌<ℚ◌, int}
 use Rattle.rational.specs.Ratio.{SumFits}
 use Rattle.rational.specs.Grid.{Whole, Within}
 use Rattle.rational.specs.Extended.{Ext, ◌+ₑ◌}
 use Rattle.rational.specs.declared.Extended.TheVariants.{Fin, Inf}
-use Rattle.rational.proofs.Linear.{with1, with3, with4}
-use Rattle.rational.proofs.Laws.{le_trans, le_of_lt, lt_le_trans}
+use Rattle.rational.proofs.Linear.{with1, with4}
+use Rattle.rational.proofs.Laws.{le_trans, le_of_lt}
 use Rattle.rational.proofs.MinMax.{max_q_ge_left, max_q_ge_right}
 use Rattle.rational.proofs.Grid.{whole_add, within_add, within_weaken}
 use Rattle.rational.proofs.Integers.{nat_nonneg}
 use Rattle.affine_segment.specs.declared.line.Piece.{Piece}
-use Rattle.upp_curve.specs.declared.op_kind.OpKind.{OpKind}
 use Rattle.upp_curve.specs.declared.op_kind.OpKind.TheVariants.{Sum}
 use Rattle.upp_curve.specs.Reading.{read}
 use Rattle.upp_curve.specs.Curve.{SpecCurve, repeated, value_at}
@@ -22,13 +20,12 @@ use Rattle.upp_curve.specs.Curves.{IsCurve}
 use Rattle.upp_curve.specs.Normal.{Each}
 use Rattle.upp_curve.specs.Normalising.{HasValues}
 use Rattle.upp_curve.specs.Unrolled.{unroll}
-use Rattle.upp_curve.specs.Steady.{steady, rise_over, IsWholePeriods, Repeats}
-use Rattle.upp_curve.specs.Periods.{common_period, both_steady}
+use Rattle.upp_curve.specs.Steady.{steady, rise_over, IsWholePeriods}
 use Rattle.upp_curve.specs.Windows.{window_at}
 use Rattle.upp_curve.specs.Pointwise.{IsSum}
 use Rattle.upp_curve.specs.Limits.{Sizes, curve_numbers}
 use Rattle.upp_curve.specs.Sized.{Stands, grid_of, times_largest}
-use Rattle.upp_curve.specs.Operand.{AreLimited, OperandPieces, answer_room}
+use Rattle.upp_curve.specs.Operand.{OperandPieces, answer_room}
 use Rattle.upp_curve.specs.Room.{PieceHasRoom}
 use Rattle.upp_curve.proofs.NarrowSizes.{narrow_gauge, small_sum, slope_time_divides}
 use Rattle.upp_curve.proofs.NormaliseGrids.{PieceOn, raw_on}

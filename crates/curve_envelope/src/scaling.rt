@@ -25,6 +25,7 @@ fn fitting_piece(piece: &Piece, factor: Frac) -> Piece
 {
     match scaled_piece(piece, factor) {
         Some(found) => found,
+        // never, since the products fit
         None => *piece,
     }
 }
@@ -34,10 +35,7 @@ fn fitting_tail(tail: &Tail, factor: Frac) -> Tail
     requires { TailScales factor tail.now }
     ensures { result ≡ scaled_tail factor tail.now }
 {
-    match scaled_tail(tail, factor) {
-        Some(found) => found,
-        None => *tail,
-    }
+    scaled_tail(tail, factor).unwrap()
 }
 
 fn fitting_pieces(alloc: Global, pieces: &[Piece], factor: Frac) -> Result<Vec<Piece>, AllocError>
@@ -76,8 +74,5 @@ pub fn scale<L: Ledger>(
 {
     steps.tick();
     let frame = within(&OpKind::Scale(factor), f, f, 0)?;
-    match scale_within(alloc, f, factor, &frame) {
-        Ok(c) => Ok(c),
-        Err(_) => Err(OpFault::NoMemory),
-    }
+    Ok(scale_within(alloc, f, factor, &frame)?)
 }

@@ -22,18 +22,7 @@ use std::alloc::{AllocError, Global};
 use std::cmp::Ordering;
 use std::sync::ledger::Ledger;
 use steps::Steps;
-use upp_curve::{Curve, OpFault, OpKind, Tail};
-
-// A difference whose steps fit.
-fn difference(a: Frac, b: Frac) -> Frac
-    requires { SumFits a (neg_ℚ b) }
-    ensures { result ≡ a -ℚ b }
-{
-    match Frac::sub(a, b) {
-        Ok(difference) => difference,
-        Err(_) => a,
-    }
-}
+use upp_curve::{Curve, OpFault, OpKind, Tail, difference};
 
 // A line that may be missing, moved left by x.
 fn left_line(line: Option<Line>, x: Frac) -> Option<Line>
@@ -42,13 +31,10 @@ fn left_line(line: Option<Line>, x: Frac) -> Option<Line>
 {
     match line {
         None => None,
-        Some(l) => match value(&l, x) {
-            Ok(icept) => Some(Line {
-                icept,
-                slope: l.slope,
-            }),
-            Err(_) => None,
-        },
+        Some(l) => Some(Line {
+            icept: value(&l, x).unwrap(),
+            slope: l.slope,
+        }),
     }
 }
 
@@ -69,10 +55,7 @@ fn line_value(line: Option<Line>, x: Frac) -> Ext
 {
     match line {
         None => Extended::Inf,
-        Some(l) => match value(&l, x) {
-            Ok(v) => Extended::Fin(v),
-            Err(_) => Extended::Inf,
-        },
+        Some(l) => Extended::Fin(value(&l, x).unwrap()),
     }
 }
 
@@ -170,10 +153,7 @@ fn shift_by(alloc: Global, f: &Curve, x: Frac) -> Result<Curve, OpFault>
     ensures limits { KeepsLimits (OpKind.Shift (Fin x)) f.now f.now result }
 {
     let frame = within(&OpKind::Shift(Extended::Fin(x)), f, f, 0)?;
-    match shift_within(alloc, f, x, &frame) {
-        Ok(c) => Ok(c),
-        Err(_) => Err(OpFault::NoMemory),
-    }
+    Ok(shift_within(alloc, f, x, &frame)?)
 }
 
 /// A curve as it is `by` later, at each time from 0 on; infinity everywhere where `by` is infinite (Le Boudec and Thiran,
@@ -192,10 +172,7 @@ pub fn shift<L: Ledger>(
 {
     steps.tick();
     match by {
-        Extended::Inf => match infinite_curve(alloc) {
-            Ok(c) => Ok(c),
-            Err(_) => Err(OpFault::NoMemory),
-        },
+        Extended::Inf => Ok(infinite_curve(alloc)?),
         Extended::Fin(x) => shift_by(alloc, f, x),
     }
 }

@@ -10,22 +10,10 @@ ghost use Rattle.curve_frame.specs.Frames.{IsFrame};
 
 use curve_frame::{Frame, answer, rise_over, within};
 use curve_window::window_sum;
-use fraction128::Frac;
 use std::alloc::{AllocError, Global};
 use std::sync::ledger::Ledger;
 use steps::Steps;
 use upp_curve::{Curve, OpFault, OpKind};
-
-// A sum whose steps fit.
-fn fitting_sum(a: Frac, b: Frac) -> Frac
-    requires { SumFits a b }
-    ensures { result ≡ a +ℚ b }
-{
-    match Frac::add(a, b) {
-        Ok(sum) => sum,
-        Err(_) => a,
-    }
-}
 
 // The sum of two curves whose call is within both limits.
 fn sum_within(alloc: Global, f: &Curve, g: &Curve, frame: &Frame) -> Result<Curve, AllocError>
@@ -37,7 +25,7 @@ fn sum_within(alloc: Global, f: &Curve, g: &Curve, frame: &Frame) -> Result<Curv
     let pieces = window_sum(alloc, &left, &right)?;
     let first = rise_over(f, frame.period);
     let second = rise_over(g, frame.period);
-    let rise = fitting_sum(first, second);
+    let rise = upp_curve::sum(first, second);
     answer(
         alloc,
         pieces,
@@ -63,8 +51,5 @@ pub fn sum<L: Ledger>(
 {
     steps.tick();
     let frame = within(&OpKind::Sum, f, g, 0)?;
-    match sum_within(alloc, f, g, &frame) {
-        Ok(c) => Ok(c),
-        Err(_) => Err(OpFault::NoMemory),
-    }
+    Ok(sum_within(alloc, f, g, &frame)?)
 }

@@ -39,7 +39,8 @@ use Rattle.curve_least.specs.Compared.{AreCompared}
 use Rattle.curve_lattice.specs.declared.lattice.Lattice.{Lattice}
 use Rattle.curve_lattice.specs.declared.lattice.Lattice.TheVariants.{Lower, Upper, Excess}
 use Rattle.curve_lattice.specs.Lattice.{kind_of}
-use Rattle.curve_lattice.specs.LatticeCall.{LatticeCall, IsFirstWindow}
+use Rattle.curve_frame.specs.FirstWindows.{IsFirstWindow}
+use Rattle.curve_lattice.specs.LatticeCall.{LatticeCall}
 
 -- ---- from a kind of call
 pub call_from : (op : OpKind) (f g h : SpecCurve) (k : ℕ) → IsCurve f → IsCurve h → SecondIsCurve op g → IsForward op → gauge_at op f g k 0 < 2 ^ 120 → number_of op k 0 ≡ k + 1

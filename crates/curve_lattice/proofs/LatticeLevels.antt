@@ -1,23 +1,20 @@
 -- A call on a curve and a level: its sizes and times, its limits, and its answer.
-use Rattle.std.specs.Prelude.{◌≡◌, ℕ, ◌+◌, ◌*◌, ◌<◌, ◌≤◌, ◌^◌, pos, List, [], ◌∷◌, Option, Some, None, MatchOption, ◌⊎◌}
-use Rattle.std.proofs.Common.{arith, sym, ap, ap₂, ◌∙◌, refl, subst, inl, inr}
+use Rattle.std.specs.Prelude.{◌≡◌, ℕ, ◌<◌, ◌^◌, pos, [], ◌∷◌, Option, Some, None, MatchOption}
+use Rattle.std.proofs.Common.{arith, sym, ap, ◌∙◌, refl, subst}
 use Rattle.rational.specs.Rational.{ℚ, ◌+ℚ◌, ◌-ℚ◌, ◌*ℚ◌, ◌≤ℚ◌, ◌<ℚ◌, int}
 use Rattle.rational.specs.Ratio.{IsSmall}
-use Rattle.rational.specs.Grid.{Whole, Within}
+use Rattle.rational.specs.Grid.{Within}
 use Rattle.rational.specs.Extended.{Ext, ◌≤ₑ◌, ◌<ₑ◌}
-use Rattle.rational.specs.declared.Extended.TheVariants.{Fin, Inf}
+use Rattle.rational.specs.declared.Extended.TheVariants.{Fin}
 use Rattle.rational.proofs.Grid.{whole_int, within_nonneg}
 use Rattle.rational.proofs.Integers.{nat_nonneg, int_mul}
 use Rattle.rational.proofs.Over.{lt_q_out}
-use Rattle.rational.proofs.Linear.{with1, with2, with3}
+use Rattle.rational.proofs.Linear.{with2, with3}
 use Rattle.rational.proofs.Laws.{le_refl, le_trans, le_of_lt, zero_mul, add_zero, mul_nonneg}
-use Rattle.affine_segment.specs.declared.line.Line.{Line}
 use Rattle.affine_segment.specs.declared.line.Piece.{Piece}
-use Rattle.upp_curve.specs.declared.op_kind.OpKind.{OpKind}
 use Rattle.upp_curve.specs.declared.op_kind.OpKind.TheVariants.{PosMinus}
 use Rattle.upp_curve.specs.declared.op_kind.OpFault.{OpFault}
 use Rattle.upp_curve.specs.declared.op_kind.OpFault.TheVariants.{TooMany, TooWide, NoMemory}
-use Rattle.upp_curve.specs.declared.curve.Tail.TheVariants.{Affine}
 use Rattle.upp_curve.specs.Curve.{SpecCurve, value_at}
 use Rattle.upp_curve.specs.Curves.{IsCurve}
 use Rattle.upp_curve.specs.Steady.{steady, rate, rise_over, later_unless}
@@ -26,11 +23,10 @@ use Rattle.upp_curve.specs.Windows.{window_at, Meets, IsLeast, IsLeastPeriods, I
 use Rattle.upp_curve.specs.Limits.{Sizes, sizes_of, curve_numbers}
 use Rattle.upp_curve.specs.Gauges.{numbers_over, gauge_at, gauge_over, IsTooWide}
 use Rattle.upp_curve.specs.Spans.{Span, spans, spans_below}
-use Rattle.upp_curve.specs.Sized.{Stands, IsValue, IsSlope}
-use Rattle.upp_curve.specs.Unrolled.{unroll, upto}
+use Rattle.upp_curve.specs.Sized.{Stands, IsValue}
+use Rattle.upp_curve.specs.Unrolled.{unroll}
 use Rattle.upp_curve.specs.Outcome.{IsWithin, IsCauseOf}
 use Rattle.upp_curve.specs.Pointwise.{excess, IsPositiveMinus}
-use Rattle.upp_curve.specs.Reading.{read}
 use Rattle.upp_curve.proofs.AtRank.{same_by}
 use Rattle.upp_curve.proofs.Unique.{upto_some, upto_end}
 use Rattle.upp_curve.proofs.CurveStands.{are_sizes}
@@ -52,7 +48,8 @@ use Rattle.curve_least.proofs.Rises.{rate_rise}
 use Rattle.curve_least.proofs.Shifts.{same_least}
 use Rattle.curve_lattice.specs.declared.lattice.Lattice.TheVariants.{Excess}
 use Rattle.curve_lattice.specs.Lattice.{RisesBy, IsTailRise}
-use Rattle.curve_lattice.specs.LatticeCall.{LatticeCall, IsLatticeFrame, IsFirstWindow, IsWideAtFirst}
+use Rattle.curve_frame.specs.FirstWindows.{IsFirstWindow, IsWideAtFirst}
+use Rattle.curve_lattice.specs.LatticeCall.{LatticeCall, IsLatticeFrame}
 use Rattle.curve_lattice.proofs.LatticeCalls.{call_from, at_times, compared}
 
 -- ---- a level is steady from 0 on, and has one span

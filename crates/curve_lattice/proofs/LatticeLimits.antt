@@ -24,7 +24,8 @@ use Rattle.curve_lattice.specs.Lattice.{kind_of}
 use Rattle.curve_frame.specs.declared.windows.CallWindow.{CallWindow}
 use Rattle.upp_curve.specs.Limits.{Sizes}
 use Rattle.curve_least.specs.Compared.{AreCompared}
-use Rattle.curve_lattice.specs.LatticeCall.{IsFirstWindow, IsLatticeFrame, IsWideAtFirst}
+use Rattle.curve_frame.specs.FirstWindows.{IsFirstWindow, IsWideAtFirst}
+use Rattle.curve_lattice.specs.LatticeCall.{IsLatticeFrame}
 use Rattle.curve_lattice.proofs.LatticeCalls.{lattice_call, at_times, kind_start, kind_period, first_compared}
 
 pub forward_kind : (of : Lattice) → IsForward (kind_of of)

@@ -12,18 +12,15 @@ ghost use Rattle.curve_frame.specs.Rises.{CurveRiseFits};
 ghost use Rattle.curve_lattice.specs.Lattice.{kind_of, made_of, rises_of, FiniteFor, RisesBy, IsTailRise};
 ghost use Rattle.curve_lattice.specs.LatticeCall.{IsLatticeFrame};
 
-use crate::gate::first_window;
 use affine_segment::Piece;
-use curve_frame::{Frame, answer, rise_over, within};
-use curve_least::least_periods;
+use curve_frame::{Frame, answer, first_window, rise_over, within};
+use curve_least::{Side, least_periods};
 use curve_window::{window_excess, window_max, window_min};
-use fraction128::{Ext, Frac};
-use rational::Extended;
+use fraction128::Frac;
 use std::alloc::{AllocError, Global};
-use std::cmp::Ordering;
 use std::sync::ledger::Ledger;
 use steps::Steps;
-use upp_curve::{Curve, OpFault, OpKind};
+use upp_curve::{Curve, OpFault, OpKind, difference};
 
 /// What is made of two curves.
 #[derive(Debug, Clone, Copy)]
@@ -46,44 +43,11 @@ fn kind_of(of: Lattice) -> OpKind
     }
 }
 
-/// a - b.
-pub(crate) fn difference(a: Frac, b: Frac) -> Frac
-    requires { SumFits a (neg_ℚ b) }
-    ensures { result ≡ a -ℚ b }
-{
-    Frac::sub(a, b).unwrap()
-}
-
-/// The long-run rate.
-pub(crate) fn rate_of(c: &Curve) -> Ext
-    ensures { result ≡ rate c.now }
-{
-    match c.rate() {
-        Ok(rate) => rate,
-        Err(_) => Extended::Inf,
-    }
-}
-
-pub(crate) fn is_less(a: Frac, b: Frac) -> bool
-    ensures { IsTrue result ↔ (a <ℚ b) }
-{
-    match a.cmp(&b) {
-        Ordering::Less => true,
-        _ => false,
-    }
-}
-
-/// Whether f is the slower one.
+// Whether f is the slower one.
 fn is_slower(f: &Curve, g: &Curve) -> bool
     ensures { IsTrue result ↔ (rate f.now <ₑ rate g.now) }
 {
-    match rate_of(f) {
-        Extended::Inf => false,
-        Extended::Fin(x) => match rate_of(g) {
-            Extended::Inf => true,
-            Extended::Fin(y) => is_less(x, y),
-        },
-    }
+    curve_least::is_slower(&Side::of(f), &Side::of(g))
 }
 
 // By how much the slower of two curves rises, or the faster.
@@ -191,8 +155,5 @@ pub(crate) fn made_of_curves<L: Ledger>(
         return Err(OpFault::TooWide);
     };
     let frame = within(&kind, f, g, periods)?;
-    match made_within(alloc, of, f, g, &frame) {
-        Ok(c) => Ok(c),
-        Err(_) => Err(OpFault::NoMemory),
-    }
+    Ok(made_within(alloc, of, f, g, &frame)?)
 }

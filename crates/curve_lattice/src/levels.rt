@@ -15,18 +15,16 @@ ghost use Rattle.curve_least.specs.Levels.{level_curve};
 ghost use Rattle.curve_lattice.specs.Lattice.{RisesBy};
 ghost use Rattle.curve_lattice.specs.LatticeCall.{IsLatticeFrame};
 
-use crate::gate::first_window;
-use crate::lattice::{difference, is_less, rate_of};
 use affine_segment::{Line, Piece};
-use curve_frame::{Frame, answer, rise_over, within};
-use curve_least::{Side, side_periods};
+use curve_frame::{Frame, answer, first_window, rise_over, within};
+use curve_least::{Side, is_slower, side_periods};
 use curve_window::window_excess;
 use fraction128::Frac;
 use rational::Extended;
 use std::alloc::{AllocError, Global};
 use std::sync::ledger::Ledger;
 use steps::Steps;
-use upp_curve::{Curve, OpFault, OpKind};
+use upp_curve::{Curve, OpFault, OpKind, difference};
 
 // The piece of a level.
 fn level_pieces(alloc: Global, l: Frac) -> Result<Vec<Piece>, AllocError>
@@ -48,10 +46,7 @@ fn level_pieces(alloc: Global, l: Frac) -> Result<Vec<Piece>, AllocError>
 fn is_gaining(f: &Curve) -> bool
     ensures { IsTrue result ↔ (Fin (int (pos 0)) <ₑ rate f.now) }
 {
-    match rate_of(f) {
-        Extended::Inf => true,
-        Extended::Fin(x) => is_less(Frac::zero(), x),
-    }
+    is_slower(&Side::level(Frac::zero()), &Side::of(f))
 }
 
 // By how much a curve rises over a period, where it gains.
@@ -109,8 +104,5 @@ pub fn pos_minus<L: Ledger>(
         return Err(OpFault::TooWide);
     };
     let frame = within(&kind, f, f, periods)?;
-    match minus_within(alloc, f, l, &frame) {
-        Ok(c) => Ok(c),
-        Err(_) => Err(OpFault::NoMemory),
-    }
+    Ok(minus_within(alloc, f, l, &frame)?)
 }

@@ -2,12 +2,10 @@
 #![tactic(auto)]
 
 mod extremes;
-mod gate;
 mod lattice;
 mod levels;
 #[cfg(test)]
 mod tests;
 
 pub use extremes::{max, min, pos_diff};
-pub use gate::first_window;
 pub use levels::pos_minus;

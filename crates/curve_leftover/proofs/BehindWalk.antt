@@ -1,18 +1,17 @@
 -- The walk over the starts of the service: at each it is looked how far the other, served theta later, is above; from each on, up to
 -- the next, the service has caught up.
-use Rattle.std.specs.Prelude.{◌≡◌, ℕ, ◌*◌, ◌<◌, pos, Option, Some, None, ◌⊎◌}
+use Rattle.std.specs.Prelude.{◌≡◌, ℕ, ◌<◌, pos, Option, Some, None, ◌⊎◌}
 use Rattle.std.proofs.Common.{arith, sym, ap, ◌∙◌, refl, subst, inl, inr}
-use Rattle.rational.specs.Rational.{ℚ, ◌-ℚ◌, ◌≤ℚ◌, ◌<ℚ◌, neg_ℚ, int}
+use Rattle.rational.specs.Rational.{ℚ, ◌-ℚ◌, ◌≤ℚ◌, ◌<ℚ◌, neg_ℚ}
 use Rattle.rational.specs.MinMax.{max_q}
 use Rattle.rational.specs.Ratio.{SumFits}
 use Rattle.rational.specs.Grid.{Whole, Within}
 use Rattle.rational.specs.Extended.{Ext, ◌≤ₑ◌, ◌<ₑ◌, ◌+ₑ◌}
-use Rattle.rational.specs.declared.Extended.TheVariants.{Fin, Inf}
+use Rattle.rational.specs.declared.Extended.TheVariants.{Fin}
 use Rattle.rational.proofs.Linear.{with2, with3, with4}
 use Rattle.rational.proofs.Laws.{le_or_lt, le_refl, le_of_lt, le_trans, lt_irrefl, lt_le_trans, le_lt_trans, antisym, le_of_not_lt}
 use Rattle.rational.proofs.MinMax.{max_q_one, max_q_ge_left, max_q_ge_right}
 use Rattle.rational.proofs.Grid.{whole_int, whole_sub, within_nonneg, within_sub}
-use Rattle.rational.proofs.Integers.{nat_nonneg, int_mul}
 use Rattle.rational.proofs.ExtendedOrder.{le_ext_refl, le_ext_trans, add_le_ext}
 use Rattle.upp_curve.specs.declared.ahead.Stretch.{Stretch}
 use Rattle.upp_curve.specs.Curve.{SpecCurve, value_at}
@@ -33,6 +32,7 @@ use Rattle.curve_least.specs.GapSteps.{larger, IsUntil, earlier_of, IsGapValue}
 use Rattle.curve_least.proofs.GapWalk.{GapWalk, NextTime, next_time, steps_left, walk_time, walk_start, walk_step, walk_fewer, next_found, next_past}
 use Rattle.curve_leftover.specs.Behind.{moved, IsServed, IsBehindCall, IsBehindAt, IsMostBehind, IsMost}
 use Rattle.curve_leftover.proofs.Served.{caught_up, other_finite}
+use Rattle.curve_leftover.proofs.Basics.{raised, some_times}
 
 -- ---- the walk
 pub record BehindWalk (f g : SpecCurve) (theta from end t most : ℚ) : Type 0 where
@@ -40,9 +40,6 @@ pub record BehindWalk (f g : SpecCurve) (theta from end t most : ℚ) : Type 0 w
   pub walk : GapWalk f f from end t gap
   pub most_is : IsMostBehind (value_at f) (moved (value_at g) theta) from t most
   pub sizes : (z : Sizes) → IsBehindCall z f g theta from end → IsGapValue z most
-
-some_times : (z : Sizes) (k : ℕ) → int (pos 0) ≤ℚ times_largest k z
-some_times z k = subst (λ y. int (pos 0) ≤ℚ y) (sym (int_mul (pos k) (pos z.largest))) (nat_nonneg (k * z.largest))
 
 zero_gap : (z : Sizes) → IsGapValue z zero_q
 zero_gap z = record { whole = whole_int (grid_of z) (pos 0); within = within_nonneg (times_largest 6 z) zero_q (le_refl zero_q) (some_times z 6) }
@@ -118,10 +115,6 @@ gap_value z x y u v a b h k =
     }
 
 -- ---- one step
-raised : (v : Ext) (c : ℚ) → zero_q ≤ℚ c → v ≤ₑ v +ₑ Fin c
-raised Inf c h = tt
-raised (Fin v) c h = with2 v c (λ k. omega (arith, k.le, k.lt, k.same))
-
 before_next : (u next : ℚ) (a : Option ℚ) → u <ℚ next → IsUntil next a → IsBeforeNext u a
 before_next u next None h k = tt
 before_next u next (Some e) h k = lt_le_trans h k

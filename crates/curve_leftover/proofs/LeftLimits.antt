@@ -15,7 +15,7 @@ use Rattle.curve_frame.specs.declared.frame.Frame.{Frame}
 use Rattle.curve_frame.specs.Frames.{IsFrame, IsRefusedAt, sizes_at}
 use Rattle.curve_frame.proofs.FirstGate.{first_gate}
 use Rattle.curve_frame.proofs.Limited.{refused_cause, frame_within, fifo_left_least}
-use Rattle.curve_lattice.specs.LatticeCall.{IsWideAtFirst}
+use Rattle.curve_frame.specs.FirstWindows.{IsWideAtFirst}
 use Rattle.curve_leftover.specs.Behind.{IsServed}
 use Rattle.curve_leftover.specs.LeftCall.{IsLeftFrame}
 use Rattle.curve_leftover.proofs.LeastBehind.{from_meets}

@@ -1,21 +1,22 @@
 -- The pieces of what is left are finite, and their numbers are sums of the operands' numbers.
-use Rattle.std.specs.Prelude.{◌≡◌, ℕ, ◌*◌, pos, List, [], ◌∷◌, Option, Some, None}
+use Rattle.std.specs.Prelude.{◌≡◌, ℕ, pos, List, [], ◌∷◌, Option, Some, None}
 use Rattle.std.proofs.Common.{arith, sym, ap, ◌∙◌, refl, subst, inl, inr}
 use Rattle.rational.specs.Rational.{ℚ, ◌-ℚ◌, ◌≤ℚ◌, ◌<ℚ◌, int}
 use Rattle.rational.specs.MinMax.{max_q}
 use Rattle.rational.specs.Extended.{Ext}
 use Rattle.rational.specs.declared.Extended.TheVariants.{Fin, Inf}
 use Rattle.rational.proofs.Grid.{whole_int, within_nonneg}
-use Rattle.rational.proofs.Integers.{nat_nonneg, int_mul}
+use Rattle.rational.proofs.Integers.{nat_nonneg}
 use Rattle.rational.proofs.Laws.{le_refl, le_of_lt}
 use Rattle.rational.proofs.MinMax.{max_q_one}
+use Rattle.rational.proofs.ExtendedOrder.{fin_same}
 use Rattle.affine_segment.specs.declared.line.Line.{Line}
 use Rattle.affine_segment.specs.declared.line.Piece.{Piece}
 use Rattle.affine_segment.specs.Values.{line_value}
 use Rattle.upp_curve.specs.Functions.{zero_q}
 use Rattle.upp_curve.specs.Normal.{Each, StartsAtZero}
 use Rattle.upp_curve.specs.Pointwise.{excess}
-use Rattle.upp_curve.specs.Reading.{read, piece_in, piece_value}
+use Rattle.upp_curve.specs.Reading.{read}
 use Rattle.upp_curve.specs.Shapes.{IsFinitePiece, IsNumber, IsLine}
 use Rattle.upp_curve.specs.Steady.{last_line}
 use Rattle.upp_curve.specs.Limits.{Sizes}
@@ -33,11 +34,9 @@ use Rattle.curve_window.proofs.OperandWindows.{operand_both}
 use Rattle.curve_leftover.specs.Lowest.{SumValue, SumLine, SumPiece}
 use Rattle.curve_leftover.specs.Parts.{left_piece, StretchLeftFits}
 use Rattle.curve_leftover.proofs.SumSizes.{sum_weaken, near_of, value_near}
+use Rattle.curve_leftover.proofs.Basics.{read_is, some_times}
 
 -- ---- one stretch
-some_times : (z : Sizes) (k : ℕ) → int (pos 0) ≤ℚ times_largest k z
-some_times z k = subst (λ y. int (pos 0) ≤ℚ y) (sym (int_mul (pos k) (pos z.largest))) (nat_nonneg (k * z.largest))
-
 zero_sum : (z : Sizes) (k : ℕ) → SumValue z k zero_q
 zero_sum z k = record { whole = whole_int (grid_of z) (pos 0); within = within_nonneg (times_largest k z) zero_q (le_refl zero_q) (some_times z k) }
 
@@ -67,10 +66,6 @@ apart_sum z (Some l) (Some m) is L M =
 -- ---- a finite operand
 abbrev pub IsFiniteIn : ℚ → List Piece → Type 0
 IsFiniteIn end ls = (t : ℚ) → zero_q ≤ℚ t → t <ℚ end → IsNumber (read ls t)
-
-read_is : (p : Piece) (ps : List Piece) (t : ℚ) → read (p ∷ ps) t ≡ piece_value (piece_in p ps t) t
-unfolding read
-read_is p ps t = refl
 
 pub each_finite : (end : ℚ) (ps : List Piece) → StartsAtZero ps → Each (λ p. p.x <ℚ end) ps → IsFiniteIn end ps → Each IsFinitePiece ps
 each_finite end [] s b h = absurd s
@@ -150,10 +145,7 @@ last_value z end [] v A h e = absurd (same_none e)
 last_value z end (p ∷ ps) v A h e =
     let L = (last_in (LeftStands z end) p ps h.0 h.1).line in
     let N = near_of z end end A.sizes.window A.some (le_refl end) in
-    subst (SumValue z 6) (fin_out (sym (ap (λ l. line_value l end) L.is) ∙ e)) (value_near z end end 4 L.on A L.stands N)
-  where
-    fin_out : {a b : ℚ} → Fin a ≡ Fin b → a ≡ b
-    fin_out e = cc
+    subst (SumValue z 6) (fin_same (sym (ap (λ l. line_value l end) L.is) ∙ e)) (value_near z end end 4 L.on A L.stands N)
 
 -- ---- the steps to them fit
 value_apart : (v w : Ext) (z : Sizes) (end : ℚ) → AreLimited z end → OperandValueAt z v → OperandValueAt z w → ValueApartFits v w

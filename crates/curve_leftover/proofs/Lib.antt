@@ -1,3 +1,4 @@
+pub mod Basics
 pub mod MovedLoop
 pub mod Served
 pub mod SumSizes
@@ -14,3 +15,4 @@ pub mod BehindWalk
 pub mod LeastBehind
 pub mod LeftLimits
 pub mod Nothing
+pub mod TestWaits

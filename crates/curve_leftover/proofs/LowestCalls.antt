@@ -9,9 +9,8 @@ use Rattle.rational.specs.declared.Extended.TheVariants.{Fin}
 use Rattle.rational.proofs.Grid.{whole_add, within_nonneg}
 use Rattle.rational.proofs.Linear.{with2}
 use Rattle.rational.proofs.Laws.{le_or_lt, le_refl, le_of_lt, le_trans, lt_le_trans}
-use Rattle.rational.proofs.Over.{le_q_out}
 use Rattle.rational.proofs.MinMax.{min_q_one, min_q_le_right}
-use Rattle.rational.proofs.ExtendedOrder.{lt_ext_not_le}
+use Rattle.rational.proofs.ExtendedOrder.{fin_same, lt_ext_not_le}
 use Rattle.affine_segment.specs.declared.line.Line.{Line}
 use Rattle.affine_segment.specs.declared.line.Piece.{Piece}
 use Rattle.affine_segment.specs.Values.{line_value}
@@ -32,6 +31,7 @@ use Rattle.curve_running.specs.Made.{IsMade, IsInfimumScan}
 use Rattle.curve_running.specs.Runs.{IsFrontBefore}
 use Rattle.curve_leftover.specs.Lowest.{SumValue, SumPiece, level_piece, IsLowestCall, IsLowest}
 use Rattle.curve_leftover.proofs.SumSizes.{EachSum, IsNear, near_of, sum_weaken, sums_fit, flat_line, line_near, value_near, level_value, made_sum, scan_fits, scan_lines}
+use Rattle.curve_leftover.proofs.Basics.{read_is, up_to}
 
 -- ---- finite pieces
 sum_finite : (z : Sizes) (end : ℚ) (p : Piece) → SumPiece z end p → IsFinitePiece p
@@ -39,10 +39,6 @@ sum_finite z end p P = record { at = subst IsNumber (sym P.at) tt; line = subst 
 
 pub sums_finite : (z : Sizes) (end : ℚ) (ps : List Piece) → EachSum z end ps → Each IsFinitePiece ps
 sums_finite z end ps h = each_map (SumPiece z end) IsFinitePiece (λ p P. sum_finite z end p P) ps h
-
-up_to : (p : Piece) (t : ℚ) → t ≤ℚ p.x → piece_value p t ≡ p.at
-unfolding piece_value
-up_to p t l = rw (le_q_out t p.x l) refl
 
 line_number : (l : Option Line) (t : ℚ) → IsLine l → IsNumber (line_value l t)
 line_number None t h = absurd h
@@ -53,10 +49,6 @@ finite_value p t h = elim (le_or_lt t p.x) [
   | inl l ↦ subst IsNumber (sym (up_to p t l)) h.at
   | inr l ↦ subst IsNumber (sym (value_past p t l)) (line_number p.line t h.line)
 ]
-
-read_is : (p : Piece) (ps : List Piece) (t : ℚ) → read (p ∷ ps) t ≡ piece_value (piece_in p ps t) t
-unfolding read
-read_is p ps t = refl
 
 pub finite_read : (ps : List Piece) (t : ℚ) → StartsAtZero ps → Each IsFinitePiece ps → IsNumber (read ps t)
 finite_read [] t s h = absurd s
@@ -73,17 +65,14 @@ pub scan_read : (far : ℚ) (ps qs : List Piece) (t : ℚ) → StartsAtZero qs �
 scan_read far ps qs t s m = finite_read qs t s (each_map (IsMade far ps) IsFinitePiece (λ q h. made_finite far ps q h) qs m)
 
 -- ---- what a scan reads
-fin_out : {a b : ℚ} → Fin a ≡ Fin b → a ≡ b
-fin_out e = cc
-
 made_value : (z : Sizes) (end far x v : ℚ) (ps : List Piece) (q : Piece) → AreLimited z end → IsNear z end far → EachSum z end ps → IsNear z end x → IsMade far ps q → piece_value q x ≡ Fin v → SumValue z 10 v
 made_value z end far x v ps q A F O N m e = elim (le_or_lt x q.x) [
   | inl l ↦
       let (w, k, level) = m.at in
-      subst (SumValue z 10) (fin_out (sym (up_to q x l ∙ k) ∙ e)) (sum_weaken z 8 10 w (omega arith) (level_value z end far ps w A F O level))
+      subst (SumValue z 10) (fin_same (sym (up_to q x l ∙ k) ∙ e)) (sum_weaken z 8 10 w (omega arith) (level_value z end far ps w A F O level))
   | inr l ↦
       let (n, k, L) = made_sum z end far ps q.line A F O m.line in
-      subst (SumValue z 10) (fin_out (sym (value_past q x l ∙ ap (λ i. line_value i x) k) ∙ e)) (value_near z end x 8 n A L N)
+      subst (SumValue z 10) (fin_same (sym (value_past q x l ∙ ap (λ i. line_value i x) k) ∙ e)) (value_near z end x 8 n A L N)
 ]
 
 pub scan_value : (z : Sizes) (end far x v : ℚ) (ps qs : List Piece) → AreLimited z end → IsNear z end far → EachSum z end ps → IsNear z end x → StartsAtZero qs → Each (IsMade far ps) qs → read qs x ≡ Fin v

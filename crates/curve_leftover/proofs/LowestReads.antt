@@ -10,19 +10,18 @@ use Rattle.rational.specs.declared.Extended.TheVariants.{Fin, Inf}
 use Rattle.rational.proofs.Bounds.{same_infimum}
 use Rattle.rational.proofs.Grid.{within_weaken}
 use Rattle.rational.proofs.Integers.{nat_nonneg}
-use Rattle.rational.proofs.Linear.{with2, with3, with4}
+use Rattle.rational.proofs.Linear.{with3, with4}
 use Rattle.rational.proofs.Laws.{le_or_lt, le_refl, le_of_lt, le_trans, le_lt_trans, mul_nonneg, sub_add, zero_mul, add_zero}
 use Rattle.rational.proofs.MinMax.{min_q_one, min_q_le_left, min_q_le_right, max_q_lt, max_q_ge_left, max_q_ge_right}
-use Rattle.rational.proofs.Over.{le_q_out}
 use Rattle.rational.proofs.Stretch.{line_infimum}
 use Rattle.rational.proofs.Whole.{periods_low, periods_high}
-use Rattle.rational.proofs.ExtendedOrder.{le_ext_refl, le_ext_trans, same_le_ext}
+use Rattle.rational.proofs.ExtendedOrder.{fin_same, le_ext_refl, le_ext_trans, same_le_ext}
 use Rattle.affine_segment.specs.declared.line.Line.{Line}
 use Rattle.affine_segment.specs.declared.line.Piece.{Piece}
 use Rattle.affine_segment.specs.Values.{line_at, line_value}
 use Rattle.upp_curve.specs.Functions.{zero_q, From}
 use Rattle.upp_curve.specs.Normal.{Each, StartsAtZero}
-use Rattle.upp_curve.specs.Reading.{read, piece_in, piece_value}
+use Rattle.upp_curve.specs.Reading.{read, piece_value}
 use Rattle.upp_curve.specs.Room.{PieceHasRoom}
 use Rattle.upp_curve.specs.Running.{IsRunningInfimum}
 use Rattle.upp_curve.specs.Steady.{Repeats, last_line, last_of}
@@ -44,12 +43,9 @@ use Rattle.curve_running.proofs.SupremumRuns.{grids_nested}
 use Rattle.curve_leftover.specs.Lowest.{level_piece, IsLowestCall, IsLowest}
 use Rattle.curve_leftover.proofs.SumSizes.{IsNear, EachSum, more, scan_room, only_bend}
 use Rattle.curve_leftover.proofs.LowestCalls.{call_far, all_sums}
+use Rattle.curve_leftover.proofs.Basics.{raised, read_is, up_to}
 
 -- ---- one period from `r` on is enough
-raised : (v : Ext) (c : ℚ) → zero_q ≤ℚ c → v ≤ₑ v +ₑ Fin c
-raised Inf c h = tt
-raised (Fin v) c h = with2 v c (λ k. omega (arith, k.le, k.lt, k.same))
-
 until_period : (f : ℚ → Ext) (r d c t : ℚ) (v : Ext) → int (pos 0) <ℚ d → zero_q ≤ℚ c → Repeats f r d c → t ≤ℚ r → IsInfimumUntil f (r +ℚ d) t v → IsRunningInfimum f t v
 until_period f r d c t v some rise F early k =
     same_infimum {I = Until t (r +ℚ d)} {J = From t} (λ s. f s.at) (λ s. f s.at) v
@@ -79,14 +75,6 @@ same_until f g end t v same h =
     (λ s. (s, same_le_ext (sym (same s.at s.least s.early)))) h
 
 -- ---- the pieces and the level
-read_is : (p : Piece) (ps : List Piece) (t : ℚ) → read (p ∷ ps) t ≡ piece_value (piece_in p ps t) t
-unfolding read
-read_is p ps t = refl
-
-up_to : (p : Piece) (t : ℚ) → t ≤ℚ p.x → piece_value p t ≡ p.at
-unfolding piece_value
-up_to p t l = rw (le_q_out t p.x l) refl
-
 level_reads : (x w t : ℚ) → read (level_piece x w ∷ []) t ≡ Fin w
 level_reads x w t =
     read_is (level_piece x w) [] t ∙ ap (λ z. piece_value z t) (piece_in_end (level_piece x w) t)
@@ -124,15 +112,12 @@ near_end (p ∷ ps) end t limit y s b early e h = by_line (last_of p ps).line re
     by_line (Some l) k =
         let from = max_q t last in
         let far : from <ℚ end = max_q_lt t last end early before in
-        let at : line_at l end ≡ limit = fin_out (sym (ap (λ l. line_value l end) k) ∙ e) in
+        let at : line_at l end ≡ limit = fin_same (sym (ap (λ l. line_value l end) k) ∙ e) in
         let low : min_q (line_at l from) (line_at l end) <ℚ y = le_lt_trans (min_q_le_right (line_at l from) (line_at l end)) (subst (λ x. x <ℚ y) (sym at) h) in
         let (u, less) = (line_infimum from end l.icept l.slope far).near y low in
         let past : last <ℚ u.at = le_lt_trans (max_q_ge_right t last) u.above in
         let same : read (p ∷ ps) u.at ≡ Fin (line_at l u.at) = read_past (p ∷ ps) last u.at (last_is_last p ps s.1) past ∙ ap (λ l. line_value l u.at) k in
         (record { at = u.at; least = le_of_lt (le_lt_trans (max_q_ge_left t last) u.above); early = u.below }, subst (λ x. x <ₑ Fin y) (sym same) less)
-      where
-        fin_out : {a b : ℚ} → Fin a ≡ Fin b → a ≡ b
-        fin_out e = cc
 
 -- ---- what is read
 pub record LowestOf (f : ℚ → Ext) (ps : List Piece) (from period end far rise : ℚ) : Type 0 where

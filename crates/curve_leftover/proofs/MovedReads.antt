@@ -19,6 +19,7 @@ use Rattle.upp_curve.proofs.NormaliseLists.{rises_upto}
 use Rattle.upp_curve.proofs.PieceIn.{piece_in_end, piece_in_go, piece_in_stop}
 use Rattle.upp_curve.proofs.Unique.{upto_none, upto_some, upto_end}
 use Rattle.curve_leftover.specs.Moved.{moved_line, moved_piece, silence, moved_right}
+use Rattle.curve_leftover.proofs.Basics.{read_is, up_to}
 
 -- ---- one piece
 pub moved_line_value : (theta t : ℚ) (l : Option Line) → line_value (moved_line theta l) t ≡ line_value l (t -ℚ theta)
@@ -31,10 +32,6 @@ moved_line_value theta t (Some l) =
     let r = l.slope *ℚ (t -ℚ theta) in
     ap Fin (with4 i p q r (λ c. omega (arith, c.le, c.lt, c.same)))
 
-value_up_to : (p : Piece) (t : ℚ) → t ≤ℚ p.x → piece_value p t ≡ p.at
-unfolding piece_value
-value_up_to p t l = rw (le_q_out t p.x l) refl
-
 at_past_zero : (theta : ℚ) (p : Piece) → zero_q <ℚ p.x → (moved_piece theta p).at ≡ p.at
 at_past_zero theta p h = ap (λ b. cond b p.at Inf) (lt_q_out zero_q p.x h)
 
@@ -46,7 +43,7 @@ moved_value theta t p past = elim (le_or_lt t (p.x +ℚ theta)) [
   | inl l ↦
       let x = p.x in
       let some : zero_q <ℚ x = with3 x theta t (λ c. omega (arith, c.le, c.lt, c.same)) in
-      value_up_to (moved_piece theta p) t l ∙ at_past_zero theta p some ∙ sym (value_up_to p (t -ℚ theta) (with3 x theta t (λ c. omega (arith, c.le, c.lt, c.same))))
+      up_to (moved_piece theta p) t l ∙ at_past_zero theta p some ∙ sym (up_to p (t -ℚ theta) (with3 x theta t (λ c. omega (arith, c.le, c.lt, c.same))))
   | inr l ↦
       let x = p.x in
       value_past (moved_piece theta p) t l ∙ moved_line_value theta t p.line ∙ sym (value_past p (t -ℚ theta) (with3 x theta t (λ c. omega (arith, c.le, c.lt, c.same))))
@@ -107,10 +104,6 @@ some_shape : (theta end : ℚ) (p : Piece) (ps : List Piece) → p.x ≡ zero_q 
 unfolding nothing
 some_shape theta end p ps e early h = with_body theta end p ps e early ∙ ap (λ zs. zs ++ body theta end p ps) (silence_some theta h)
 
-read_is : (p : Piece) (ps : List Piece) (t : ℚ) → read (p ∷ ps) t ≡ piece_value (piece_in p ps t) t
-unfolding read
-read_is p ps t = refl
-
 -- past theta
 body_past : (theta end t : ℚ) (p : Piece) (ps : List Piece) → theta <ℚ t → t <ℚ end → piece_value (piece_in (moved_piece theta p) (upto end (map (moved_piece theta) ps)) t) t ≡ read (p ∷ ps) (t -ℚ theta)
 body_past theta end t p ps past early = moved_in theta end t (moved_piece theta p) p ps past early (moved_value theta t p past) ∙ sym (read_is p ps (t -ℚ theta))
@@ -155,7 +148,7 @@ body_at : (theta end : ℚ) (p : Piece) (ps : List Piece) → p.x ≡ zero_q →
     → piece_value (piece_in (moved_piece theta p) (upto end (map (moved_piece theta) ps)) theta) theta ≡ Inf
 body_at theta end p ps e r =
     ap (λ z. piece_value z theta) (alone_at theta end p ps e r)
-    ∙ value_up_to (moved_piece theta p) theta (subst (λ x. theta ≤ℚ x) (sym (first_at theta p e)) (le_refl theta))
+    ∙ up_to (moved_piece theta p) theta (subst (λ x. theta ≤ℚ x) (sym (first_at theta p e)) (le_refl theta))
     ∙ at_zero theta p (subst (λ x. x ≤ℚ zero_q) (sym e) (le_refl zero_q))
 
 reads_up_to : (theta end t : ℚ) (p : Piece) (ps : List Piece) → p.x ≡ zero_q → RisesFrom p.x ps → theta <ℚ end → zero_q ≤ℚ t → t ≤ℚ theta → read (moved_right theta end (p ∷ ps)) t ≡ Inf

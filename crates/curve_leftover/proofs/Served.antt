@@ -47,7 +47,7 @@ other_finite f g theta S s low =
     let nonneg = a.nonneg in
     let (b, e) = S.finite (s +ℚ after) (with2 s after (λ c. omega (arith, c.le, c.lt, c.same))) in
     let r = a.reached in
-    finite_below (g s) b (subst (λ v. g s ≤ₑ v) e r)
+    finite_below (g s) b (subst (λ v. g s ≤ₑ v) {y = Fin b} e r)
 
 -- ---- caught up
 -- at the end of a wait before s' the service is at most what it is at s'

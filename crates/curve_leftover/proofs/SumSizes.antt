@@ -12,6 +12,7 @@ use Rattle.rational.proofs.Integers.{int_add, int_mul, nat_le, nat_nonneg}
 use Rattle.rational.proofs.Laws.{le_refl, le_trans, lt_irrefl, mul_comm, mul_assoc, mul_le_mul, mul_le_mul_right}
 use Rattle.rational.proofs.Linear.{with1, with2, with3}
 use Rattle.rational.proofs.Sizes.{quotient_on_grid, sum_on_grid}
+use Rattle.rational.proofs.ExtendedOrder.{fin_same}
 use Rattle.affine_segment.specs.declared.line.Line.{Line}
 use Rattle.affine_segment.specs.declared.line.Piece.{Piece}
 use Rattle.affine_segment.specs.Values.{line_at, line_value}
@@ -169,10 +170,7 @@ abbrev pub EachSum : Sizes → ℚ → List Piece → Type 0
 EachSum z end ps = Each (SumPiece z end) ps
 
 value_is : (v w : ℚ) (z : Sizes) (k : ℕ) (x : Ext) → x ≡ Fin w → x ≡ Fin v → SumValue z k w → SumValue z k v
-value_is v w z k x e h V = subst (λ y. SumValue z k y) (fin_out (sym e ∙ h)) V
-  where
-    fin_out : {a b : ℚ} → Fin a ≡ Fin b → a ≡ b
-    fin_out e = cc
+value_is v w z k x e h V = subst (λ y. SumValue z k y) (fin_same (sym e ∙ h)) V
 
 piece_near : (z : Sizes) (end : ℚ) (p : Piece) → SumPiece z end p → AreLimited z end → IsNear z end p.x
 piece_near z end p P A = let some = A.some in let low = P.nonneg in let early = P.early in near_of z end p.x P.start P.nonneg P.early

@@ -1,5 +1,5 @@
--- The lowest of some pieces of a window from each time on, where they go on for ever by repeating, a rise higher each period: the
--- scan ends with a level, the infimum of all that comes after the window. Own choice.
+-- The lowest of some pieces of a window from each time on, where they go on for ever by repeating, a rise higher each
+-- period: the scan ends with a level, the infimum of all that comes after the window. Own choice.
 use Rattle.std.specs.Prelude.{◌≡◌, ℕ, pos, List, [], ◌∷◌, ◌++◌, Some}
 use Rattle.rational.specs.Rational.{ℚ, ◌+ℚ◌, ◌*ℚ◌, ◌≤ℚ◌, ◌<ℚ◌, int}
 use Rattle.rational.specs.MinMax.{min_q}
@@ -64,8 +64,8 @@ pub record IsLowestCall (z : Sizes) (ps : List Piece) (from end far rise : ℚ) 
   pub far_late : end <ℚ far
   pub far_near : far ≤ℚ int (pos 2) *ℚ end
 
--- `low` is the infimum from `from` on, and a rise later it is that from `end` on; the scan is that of the pieces and of a level
--- from `end` up to `far`: `low` a rise higher, or the limit at `end` where that is less
+-- `low` is the infimum from `from` on, and a rise higher it is that from `end` on; the scan is that of the pieces and of
+-- a level from `end` up to `far`: `low` a rise higher, or the limit at `end` where that is less
 pub record IsLowest (ps : List Piece) (from end far rise : ℚ) (qs : List Piece) : Type 0 where
   pub low : ℚ
   pub first : IsInfimumUntil (read ps) end from (Fin low)

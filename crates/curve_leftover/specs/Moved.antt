@@ -1,4 +1,5 @@
--- Pieces moved right by a time, and infinite up to it: of a cross arrival curve that is served some time later. Own choice.
+-- Pieces moved right by a time, and infinite up to it: of a cross arrival curve that is served some time later. Own
+-- choice.
 use Rattle.std.specs.Prelude.{cond, List, [], ◌∷◌, ◌++◌, map, Option, Some, None}
 use Rattle.rational.specs.Rational.{ℚ, ◌+ℚ◌, ◌-ℚ◌, ◌*ℚ◌, neg_ℚ, lt_q}
 use Rattle.rational.specs.Ratio.{IsSmall, SumFits}

@@ -11,10 +11,10 @@ ghost use Rattle.curve_least.specs.GapSteps.{earlier_of};
 ghost use Rattle.curve_leftover.specs.Behind.{moved, IsBehindCall, IsMost};
 ghost use Rattle.curve_leftover.specs.LeftCall.{IsLeftGate};
 
-use crate::numbers::{difference, greater, is_less, number_of, quotient};
+use crate::numbers::{greater, number_of};
 use curve_frame::{CallWindow, rise_over};
 use fraction128::Frac;
-use upp_curve::{Curve, stretch_at};
+use upp_curve::{Curve, difference, is_less, quotient, stretch_at};
 
 // The earlier of a time and another that may be missing.
 fn earlier(t: Frac, next: &Option<Frac>) -> Frac
@@ -26,11 +26,12 @@ fn earlier(t: Frac, next: &Option<Frac>) -> Frac
     }
 }
 
-/// By how much cross, served theta later, is above beta at its worst over [from, end); 0 where it never is. Only the starts of
-/// beta's pieces are looked at: elsewhere beta goes on from its value, and has caught up by then.
+/// By how much cross, served theta later, is above beta at its worst over [from, end); 0 where it never is. Only the
+/// starts of beta's pieces are looked at: elsewhere beta goes on from its value, and has caught up by then.
 fn most_behind(beta: &Curve, cross: &Curve, theta: Frac, from: Frac, end: Frac) -> Frac
     requires { (z : Sizes) × IsBehindCall z beta.now cross.now theta from end }
-    ensures { (z : Sizes) → IsBehindCall z beta.now cross.now theta from end → IsMost z (value_at beta.now) (moved (value_at cross.now) theta) from end result }
+    ensures { (z : Sizes) → IsBehindCall z beta.now cross.now theta from end
+        → IsMost z (value_at beta.now) (moved (value_at cross.now) theta) from end result }
 {
     let mut most = Frac::zero();
     let mut t = from;
@@ -44,8 +45,8 @@ fn most_behind(beta: &Curve, cross: &Curve, theta: Frac, from: Frac, end: Frac) 
     most
 }
 
-/// The least number of periods after which, for a period, cross, served theta later, is nowhere above beta; 0 where the two have
-/// one rate. No memory is taken and nothing is unrolled.
+/// The least number of periods after which, for a period, cross, served theta later, is nowhere above beta; 0 where the
+/// two have one rate. No memory is taken and nothing is unrolled.
 pub(crate) fn enough_periods(beta: &Curve, cross: &Curve, theta: Frac, first: &CallWindow) -> u128
     requires { IsLeftGate beta.now cross.now theta first.now }
     ensures { IsLeast (Meets (FifoLeft (Fin theta)) beta.now cross.now) result }

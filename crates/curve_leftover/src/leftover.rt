@@ -9,25 +9,22 @@ ghost use Rattle.upp_curve.specs.Curve.{value_at};
 ghost use Rattle.upp_curve.specs.Deviations.{IsHorizontalDeviation};
 ghost use Rattle.upp_curve.specs.Functions.{IsFinite, IsRising, IsNonnegative};
 ghost use Rattle.upp_curve.specs.Outcome.{KeepsLimits};
-ghost use Rattle.upp_curve.specs.Running.{IsFifoLeftover};
 ghost use Rattle.curve_leftover.specs.Behind.{IsServed};
-ghost use Rattle.curve_leftover.specs.LeftCall.{IsLeftFrame, IsLeftWindow};
+ghost use Rattle.curve_leftover.specs.LeftCall.{IsLeftBeside, IsLeftFrame, IsLeftWindow};
 
 use crate::behind::enough_periods;
 use crate::lowest::lowest_pieces;
 use crate::moved::moved_right;
-use crate::numbers::{difference, sum};
 use crate::parts::left_pieces;
 use affine_segment::{Line, Piece};
-use curve_frame::{Frame, answer, rise_over, within};
-use curve_lattice::first_window;
+use curve_frame::{Frame, answer, first_window, rise_over, within};
 use curve_window::overlay;
 use fraction128::{Ext, Frac};
 use rational::Extended;
 use std::alloc::{AllocError, Global};
 use std::sync::ledger::Ledger;
 use steps::Steps;
-use upp_curve::{Curve, OpFault, OpKind, Tail};
+use upp_curve::{Curve, OpFault, OpKind, Tail, difference, sum};
 
 // The pieces of what is left in a call's window.
 fn left_window(
@@ -57,7 +54,7 @@ fn left_within(
 ) -> Result<Curve, AllocError>
     requires call { IsLeftFrame beta.now cross.now theta frame.now }
     requires served { IsServed (value_at beta.now) (value_at cross.now) theta }
-    ensures { IfOk result (λ c. (t : ℚ) → int (pos 0) ≤ℚ t → IsFifoLeftover (value_at beta.now) (value_at cross.now) (Fin theta) t (value_at c t)) }
+    ensures { IfOk result (IsLeftBeside beta.now cross.now (Fin theta)) }
 {
     let pieces = left_window(alloc, beta, cross, theta, frame)?;
     let rise = difference(
@@ -81,7 +78,7 @@ fn left_within(
 // What is left after a finite wait.
 fn left_after(alloc: Global, beta: &Curve, cross: &Curve, theta: Frac) -> Result<Curve, OpFault>
     requires { IsServed (value_at beta.now) (value_at cross.now) theta }
-    ensures value { IfOk result (λ c. (t : ℚ) → int (pos 0) ≤ℚ t → IsFifoLeftover (value_at beta.now) (value_at cross.now) (Fin theta) t (value_at c t)) }
+    ensures value { IfOk result (IsLeftBeside beta.now cross.now (Fin theta)) }
     ensures limits { KeepsLimits (FifoLeft (Fin theta)) beta.now cross.now result }
 {
     let kind = OpKind::FifoLeft(Extended::Fin(theta));
@@ -111,12 +108,12 @@ fn nothing(alloc: Global) -> Result<Curve, AllocError>
     Ok(Curve::from_normal(pieces, Tail::Affine { rank: Frac::zero() }))
 }
 
-/// What first in, first out leaves of the service beta beside the cross traffic `cross`, at each time from 0 on: the infimum,
-/// over the times from then on, of 0 up to theta, and past theta of what beta has above cross as it was theta earlier, or of 0
-/// where it has nothing; 0 everywhere where theta is infinite (Le Boudec and Thiran, chapter 6). beta is finite, never falls and
-/// is nowhere below 0, and theta is the horizontal deviation of cross and beta. One step is counted. Refused with TooWide or
-/// TooMany exactly where the call's gauge or tally is over that limit, else only for want of memory; after an infinite theta
-/// neither has a limit.
+/// What first in, first out leaves of the service beta beside the cross traffic `cross`, at each time from 0 on: the
+/// infimum, over the times from then on, of 0 up to theta, and past theta of what beta has above cross as it was theta
+/// earlier, or of 0 where it has nothing; 0 everywhere where theta is infinite (Le Boudec and Thiran, chapter 6). beta is
+/// finite, never falls and is nowhere below 0, and theta is the horizontal deviation of cross and beta. One step is
+/// counted. Refused with TooWide or TooMany exactly where the call's gauge or tally is over that limit, else only for
+/// want of memory; after an infinite theta there is no limit.
 pub fn fifo_left<L: Ledger>(
     alloc: Global,
     beta: &Curve,
@@ -129,7 +126,7 @@ pub fn fifo_left<L: Ledger>(
     requires nonneg { IsNonnegative (value_at beta.now) }
     requires deviation { IsHorizontalDeviation (value_at cross.now) (value_at beta.now) theta }
     ensures count { steps.new ≡ steps.old + 1 }
-    ensures value { IfOk result (λ c. (t : ℚ) → int (pos 0) ≤ℚ t → IsFifoLeftover (value_at beta.now) (value_at cross.now) theta t (value_at c t)) }
+    ensures value { IfOk result (IsLeftBeside beta.now cross.now theta) }
     ensures limits { KeepsLimits (FifoLeft theta) beta.now cross.now result }
 {
     steps.tick();

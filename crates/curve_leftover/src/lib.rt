@@ -7,5 +7,7 @@ mod lowest;
 mod moved;
 mod numbers;
 mod parts;
+#[cfg(test)]
+mod tests;
 
 pub use leftover::fifo_left;

@@ -12,13 +12,14 @@ ghost use Rattle.upp_curve.specs.Shapes.{IsFinitePiece, IsLine, IsNumber};
 ghost use Rattle.upp_curve.specs.Steady.{last_line};
 ghost use Rattle.curve_leftover.specs.Lowest.{level_piece, IsLowestCall, IsLowest};
 
-use crate::numbers::{lesser, number_of, sum};
+use crate::numbers::{lesser, number_of};
 use affine_segment::{Line, Piece, value};
 use curve_running::{front_before, infimum_scan};
 use fraction128::{Ext, Frac};
 use rational::Extended;
 use std::alloc::{AllocError, Global};
 use std::cmp::Ordering;
+use upp_curve::sum;
 
 fn starts_by(p: &Piece, t: Frac) -> bool
     ensures { result ≡ le_q p.now.x t }
@@ -102,9 +103,9 @@ fn level_piece(x: Frac, v: Frac) -> Piece
     }
 }
 
-/// The infimum of some pieces over all times from each time before `end` on, where from `from` on they repeat with the period
-/// that ends at `end`, a rise higher each time; `far` is some time past `end`. The first scan finds the infimum from `from` on;
-/// a rise higher it is that of all that comes after `end`, and bounds the second scan.
+/// The infimum of some pieces over all times from each time before `end` on, where from `from` on they repeat with the
+/// period that ends at `end`, a rise higher each time; `far` is some time past `end`. The first scan finds the infimum
+/// from `from` on; a rise higher it is that of all that comes after `end`, and bounds the second scan.
 pub(crate) fn lowest_pieces(
     alloc: Global,
     pieces: Vec<Piece>,

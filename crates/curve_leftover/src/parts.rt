@@ -7,12 +7,13 @@ ghost use Rattle.curve_window.specs.Pointwise.{mapped};
 ghost use Rattle.curve_window.specs.Made.{line_apart, ValueApartFits, LineApartFits};
 ghost use Rattle.curve_leftover.specs.Parts.{left_piece, StretchLeftFits};
 
-use crate::numbers::{difference, greater};
+use crate::numbers::greater;
 use affine_segment::{Line, Piece};
 use curve_window::Both;
 use fraction128::{Ext, Frac};
 use rational::Extended;
 use std::alloc::{AllocError, Global};
+use upp_curve::difference;
 
 // What a has above b; 0 where it has nothing, or b is infinite.
 fn excess_value(a: Ext, b: Ext) -> Ext

@@ -1,16 +1,13 @@
--- The window of a running supremum without any period, and the outcomes of its call.
-use Rattle.std.specs.Prelude.{◌<◌, ◌≤◌, ◌^◌, Option, Some, None, IfSome, IsSome, MatchOption}
-use Rattle.std.proofs.Common.{arith}
-use Rattle.std.proofs.lemmas.Bool.{false≢true}
-use Rattle.upp_curve.specs.declared.op_kind.OpKind.TheVariants.{RunSup}
+-- What a refused first look at a call says.
+use Rattle.std.specs.Prelude.{◌≤◌, ◌^◌}
+use Rattle.upp_curve.specs.declared.op_kind.OpKind.{OpKind}
+use Rattle.upp_curve.specs.declared.op_kind.OpFault.{OpFault}
+use Rattle.upp_curve.specs.declared.op_kind.OpFault.TheVariants.{TooMany, TooWide, NoMemory}
 use Rattle.upp_curve.specs.Curve.{SpecCurve}
 use Rattle.upp_curve.specs.Gauges.{gauge_at}
-use Rattle.curve_frame.specs.declared.windows.CallWindow.{CallWindow}
-use Rattle.curve_frame.specs.CallWindows.{IsWindow}
-use Rattle.curve_running.specs.Runs.{IsFirstWindow}
+use Rattle.curve_frame.specs.FirstWindows.{IsWideAtFirst}
 
-pub narrow_window : (f : SpecCurve) (o : Option CallWindow) → IfSome o (IsWindow RunSup f f 0 0) → (gauge_at RunSup f f 0 0 < 2 ^ 128 → IsSome o)
-    → gauge_at RunSup f f 0 0 < 2 ^ 120
-    → MatchOption o (2 ^ 120 ≤ gauge_at RunSup f f 0 0) (IsFirstWindow f)
-narrow_window f None h some g = absurd (false≢true (some (omega (arith, g))))
-narrow_window f (Some w) h some g = record { window = h; gauge = g }
+pub wide_gauge : (op : OpKind) (f g : SpecCurve) (e : OpFault) → IsWideAtFirst op f g e → 2 ^ 120 ≤ gauge_at op f g 0 0
+wide_gauge op f g TooMany h = absurd h
+wide_gauge op f g TooWide h = h
+wide_gauge op f g NoMemory h = absurd h

@@ -1,18 +1,15 @@
 -- The running bounds of a curve as curves, and the number of periods that the supremum needs. Own choice.
-use Rattle.std.specs.Prelude.{◌≡◌, ℕ, ◌<◌, ◌^◌, List, ◌∷◌, ◌++◌}
+use Rattle.std.specs.Prelude.{◌≡◌, ℕ, List, ◌∷◌, ◌++◌}
 use Rattle.rational.specs.Rational.{ℚ, ◌≤ℚ◌, ◌<ℚ◌}
 use Rattle.affine_segment.specs.declared.line.Piece.{Piece}
 use Rattle.upp_curve.specs.declared.op_kind.OpKind.TheVariants.{RunSup}
 use Rattle.upp_curve.specs.Curve.{SpecCurve, value_at}
 use Rattle.upp_curve.specs.Functions.{zero_q}
-use Rattle.upp_curve.specs.Gauges.{gauge_at}
 use Rattle.upp_curve.specs.Normal.{Each}
 use Rattle.upp_curve.specs.Periods.{own_period}
 use Rattle.upp_curve.specs.Running.{IsRunningSupremum, IsRunningInfimum}
 use Rattle.upp_curve.specs.Steady.{steady, rise_over}
 use Rattle.upp_curve.specs.Windows.{IsLeast, Meets}
-use Rattle.curve_frame.specs.declared.windows.CallWindow.{CallWindow}
-use Rattle.curve_frame.specs.CallWindows.{IsWindow}
 use Rattle.curve_running.specs.Periods.{IsCoveredAfter}
 
 -- c is the running supremum of f at each time from 0 on
@@ -27,11 +24,6 @@ RunsFrom f c = (t : ℚ) → zero_q ≤ℚ t → IsRunningInfimum (value_at f) t
 pub record IsNumberOf (f : SpecCurve) (k : ℕ) : Type 0 where
   pub least : IsLeast (Meets RunSup f f) k
   pub covered : IsCoveredAfter f (steady f) (own_period f) (rise_over f (own_period f)) k
-
--- the window without any period, where the gauge is below 2 ^ 120
-pub record IsFirstWindow (f : SpecCurve) (w : CallWindow) : Type 0 where
-  pub window : IsWindow RunSup f f 0 0 w
-  pub gauge : gauge_at RunSup f f 0 0 < 2 ^ 120
 
 -- front is the first of ps, all before `end`; what is left starts at `end` or later
 pub record IsFrontBefore (ps : List Piece) (end : ℚ) (front : List Piece) : Type 0 where

@@ -9,7 +9,6 @@ ghost use Rattle.curve_frame.specs.Frames.{IsFrame};
 ghost use Rattle.curve_running.specs.Runs.{RunsFrom, IsFrontBefore};
 
 use crate::infimum::infimum_scan;
-use crate::periods::fitting_sum;
 use affine_segment::Piece;
 use curve_frame::{Frame, answer, rise_over, within};
 use fraction128::Frac;
@@ -17,7 +16,7 @@ use std::alloc::{AllocError, Global};
 use std::cmp::Ordering;
 use std::sync::ledger::Ledger;
 use steps::Steps;
-use upp_curve::{Curve, OpFault, OpKind};
+use upp_curve::{Curve, OpFault, OpKind, sum};
 
 /// The pieces up to the first that starts at `end` or later.
 pub fn front_before(alloc: Global, pieces: &[Piece], end: Frac) -> Result<Vec<Piece>, AllocError>
@@ -42,7 +41,7 @@ fn infimum_within(alloc: Global, f: &Curve, frame: &Frame) -> Result<Curve, Allo
 {
     let pieces = f.unrolled(frame.end)?;
     let scanned = infimum_scan(alloc, &pieces, frame.end)?;
-    let front = front_before(alloc, &scanned, fitting_sum(frame.start, frame.period))?;
+    let front = front_before(alloc, &scanned, sum(frame.start, frame.period))?;
     let rise = rise_over(f, frame.period);
     answer(
         alloc,
@@ -62,13 +61,8 @@ fn infimum_of(alloc: Global, f: &Curve) -> Result<Curve, OpFault>
     ensures value { IfOk result (RunsFrom f.now) }
     ensures limits { KeepsLimits RunInf f.now f.now result }
 {
-    match within(&OpKind::RunInf, f, f, 0) {
-        Err(fault) => Err(fault),
-        Ok(frame) => match infimum_within(alloc, f, &frame) {
-            Ok(c) => Ok(c),
-            Err(_) => Err(OpFault::NoMemory),
-        },
-    }
+    let frame = within(&OpKind::RunInf, f, f, 0)?;
+    Ok(infimum_within(alloc, f, &frame)?)
 }
 
 /// The infimum of a curve over all times from each time on, for a curve that is finite and nowhere below 0 (Le

@@ -12,7 +12,7 @@ use crate::between::supremum_between;
 use affine_segment::Piece;
 use fraction128::Frac;
 use std::cmp::Ordering;
-use upp_curve::Curve;
+use upp_curve::{Curve, sum};
 
 // The least number of rises that take `once` up to `early`.
 fn cover(early: Frac, once: Frac, rise: Frac) -> u128
@@ -32,23 +32,12 @@ fn cover(early: Frac, once: Frac, rise: Frac) -> u128
     }
 }
 
-/// A sum whose steps fit.
-pub(crate) fn fitting_sum(a: Frac, b: Frac) -> Frac
-    requires { SumFits a b }
-    ensures { result ≡ a +ℚ b }
-{
-    match Frac::add(a, b) {
-        Ok(sum) => sum,
-        Err(_) => a,
-    }
-}
-
 // The same for pieces up to the end of the first period.
 fn covering(ps: &[Piece], start: Frac, period: Frac, rise: Frac) -> u128
     requires { IsFirstPeriod ps.now start period rise }
     ensures { IsCovering (read ps.now) start period rise result }
 {
-    let reach = fitting_sum(start, period);
+    let reach = sum(start, period);
     let early = supremum_between(ps, reach, Frac::zero(), start);
     let once = supremum_between(ps, reach, start, reach);
     cover(early, once, rise)

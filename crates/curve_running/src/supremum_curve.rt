@@ -10,41 +10,16 @@ ghost use Rattle.upp_curve.specs.Functions.{IsFinite, IsNonnegative};
 ghost use Rattle.upp_curve.specs.Gauges.{gauge_at};
 ghost use Rattle.upp_curve.specs.Outcome.{KeepsLimits};
 ghost use Rattle.curve_frame.specs.Frames.{IsFrame};
-ghost use Rattle.curve_running.specs.Runs.{RunsUpTo, IsNumberOf, IsFirstWindow};
+ghost use Rattle.curve_running.specs.Runs.{RunsUpTo, IsNumberOf};
 
 use crate::periods::supremum_periods;
 use crate::supremum::supremum_scan;
-use curve_frame::{CallWindow, Frame, answer, call_window, rise_over, within};
+use curve_frame::{Frame, answer, first_window, rise_over, within};
 use fraction128::Frac;
 use std::alloc::{AllocError, Global};
 use std::sync::ledger::Ledger;
 use steps::Steps;
-use upp_curve::{Curve, OpFault, OpKind};
-
-// A difference whose steps fit.
-fn fitting_difference(a: Frac, b: Frac) -> Frac
-    requires { SumFits a (neg_ℚ b) }
-    ensures { result ≡ a -ℚ b }
-{
-    match Frac::sub(a, b) {
-        Ok(difference) => difference,
-        Err(_) => a,
-    }
-}
-
-// The window without any period, where the call's gauge there is below 2^120.
-fn first_window(f: &Curve) -> Option<CallWindow>
-    ensures window { MatchOption result (2 ^ 120 ≤ gauge_at RunSup f.now f.now 0 0) (IsFirstWindow f.now) }
-    ensures kept { IsCurve f.now }
-{
-    let window = call_window(&OpKind::RunSup, f, f, 0, 0);
-    match within(&OpKind::RunSup, f, f, 0) {
-        Ok(_) => window,
-        Err(OpFault::TooMany) => window,
-        Err(OpFault::TooWide) => None,
-        Err(OpFault::NoMemory) => None,
-    }
-}
+use upp_curve::{Curve, OpFault, OpKind, difference};
 
 // The least number of periods of the call; none where already the window without any period is too wide.
 fn least_number(f: &Curve) -> Option<u128>
@@ -53,9 +28,9 @@ fn least_number(f: &Curve) -> Option<u128>
     ensures number { MatchOption result (2 ^ 120 ≤ gauge_at RunSup f.now f.now 0 0) (IsNumberOf f.now) }
     ensures kept { IsCurve f.now }
 {
-    match first_window(f) {
-        None => None,
-        Some(window) => {
+    match first_window(&OpKind::RunSup, f, f) {
+        Err(_) => None,
+        Ok(window) => {
             let rise = rise_over(f, window.period);
             Some(supremum_periods(f, window.start, window.period, rise))
         }
@@ -73,7 +48,7 @@ fn supremum_within(alloc: Global, f: &Curve, k: u128, frame: &Frame) -> Result<C
     let pieces = f.unrolled(frame.end)?;
     let scanned = supremum_scan(alloc, &pieces, frame.end)?;
     let rise = rise_over(f, frame.period);
-    let from = fitting_difference(frame.end, frame.period);
+    let from = difference(frame.end, frame.period);
     answer(
         alloc,
         scanned,
@@ -93,13 +68,8 @@ fn supremum_after(alloc: Global, f: &Curve, k: u128) -> Result<Curve, OpFault>
     ensures value { IfOk result (RunsUpTo f.now) }
     ensures limits { KeepsLimits RunSup f.now f.now result }
 {
-    match within(&OpKind::RunSup, f, f, k) {
-        Err(fault) => Err(fault),
-        Ok(frame) => match supremum_within(alloc, f, k, &frame) {
-            Ok(c) => Ok(c),
-            Err(_) => Err(OpFault::NoMemory),
-        },
-    }
+    let frame = within(&OpKind::RunSup, f, f, k)?;
+    Ok(supremum_within(alloc, f, k, &frame)?)
 }
 
 /// The supremum of a curve over the times from 0 to each time, for a curve that is finite and nowhere below 0 (Le

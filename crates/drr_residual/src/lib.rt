@@ -1,9 +1,11 @@
 //! The service of one queue of a deficit round robin server: its share of the server's service.
 #![tactic(auto)]
 
-ghost use Rattle.drr_residual.specs.Laws.{DrrServes};
+mod laws;
+mod service;
+#[cfg(test)]
+mod tests;
+mod turn;
 
-/// A queue of a deficit round robin server is served by its share.
-pub fn drr_serves()
-    ensures { DrrServes }
-{}
+pub use laws::{drr_curve_serves, drr_is_determined, drr_serves};
+pub use service::drr_service;

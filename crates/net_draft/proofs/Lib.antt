@@ -8,3 +8,5 @@ pub mod CurveMade
 pub mod Named
 pub mod HopParts
 pub mod Fitting
+pub mod Causes
+pub mod MayStand

@@ -60,10 +60,10 @@ bucket_tells n b r (Err faults.NotZeroAtStart) d h = absurd h
 bucket_tells n b r (Err (faults.Op limit)) d h = absurd h
 bucket_tells n b r (Err faults.NoMemory) d h = tt
 
-negative_decides : (x y : ℚ) → Decides (below_zero x || below_zero y) (OneNegative x y)
+pub negative_decides : (x y : ℚ) → Decides (below_zero x || below_zero y) (OneNegative x y)
 negative_decides x y = either (below_zero x) (below_zero y) (x <ℚ zero_q) (y <ℚ zero_q) (less_decides x zero_q) (less_decides y zero_q)
 
-slot_decides : (cycle slot : ℚ) → Decides (at_most_q cycle zero_q || (is_zero slot || less cycle slot)) (NoSlot cycle slot)
+pub slot_decides : (cycle slot : ℚ) → Decides (at_most_q cycle zero_q || (is_zero slot || less cycle slot)) (NoSlot cycle slot)
 slot_decides c s =
     either (at_most_q c zero_q) (is_zero s || less c s) (c ≤ℚ zero_q) ((s ≡ zero_q) ⊎ (c <ℚ s)) (at_most_q_decides c zero_q)
     (either (is_zero s) (less c s) (s ≡ zero_q) (c <ℚ s) (same_decides s zero_q) (less_decides c s))
@@ -73,14 +73,14 @@ goes_on : (ps : List PieceText) (tail : Option TailText) → GoesOn (text_tail p
 goes_on ps None = tt
 goes_on ps (Some t) = tt
 
-rising_of : (ps : List PieceText) (tail : Option TailText) → IsWellFormed ps tail → Decides (rises (listed_curve ps tail)) (IsRising (value_at (listed_curve ps tail)))
+pub rising_of : (ps : List PieceText) (tail : Option TailText) → IsWellFormed ps tail → Decides (rises (listed_curve ps tail)) (IsRising (value_at (listed_curve ps tail)))
 rising_of ps tail w = rising_decides (listed_curve ps tail) (raw_of ps tail w) (goes_on ps tail)
 
-smooth_of : (ps : List PieceText) (tail : Option TailText) → IsWellFormed ps tail → IsRising (value_at (listed_curve ps tail))
+pub smooth_of : (ps : List PieceText) (tail : Option TailText) → IsWellFormed ps tail → IsRising (value_at (listed_curve ps tail))
     → Decides (joins (listed_curve ps tail)) (IsContinuous (value_at (listed_curve ps tail)))
 smooth_of ps tail w rise = continuous_decides (listed_curve ps tail) (raw_of ps tail w) (goes_on ps tail) rise
 
-start_of : (c : SpecCurve) → Decides (is_same (value_at c zero_q) (Fin zero_q)) (value_at c zero_q ≡ Fin zero_q)
+pub start_of : (c : SpecCurve) → Decides (is_same (value_at c zero_q) (Fin zero_q)) (value_at c zero_q ≡ Fin zero_q)
 start_of c = is_same_decides (value_at c zero_q) (Fin zero_q)
 
 shaped : (ps : List PieceText) (tail : Option TailText) (u : UseAs) → IsWellFormed ps tail → HasShape u (value_at (listed_curve ps tail)) → shape_refusal u (listed_curve ps tail) ≡ None

@@ -1,5 +1,6 @@
 -- The draft that the bytes of a file give, or its first fault. Own choice.
-use Rattle.std.specs.Prelude.{◌≡◌, ℕ, ◌+◌, ◌&&◌, Bool, codes, nat_lt, nat_eq, List, [], ◌∷◌, Option, Some, None, Result, Ok, Err, if◌then◌else◌}
+use Rattle.std.specs.Prelude.{◌≡◌, ℕ, ◌+◌, ◌&&◌, Bool, codes, nat_lt, nat_eq, if◌then◌else◌}
+use Rattle.std.specs.Prelude.{List, [], ◌∷◌, Option, Some, None, Result, Ok, Err}
 use Rattle.std.specs.List.{list_any}
 use Rattle.std.specs.Str.{is_utf8}
 use Rattle.run_laws.specs.Servers.{Discipline, Fifo, Priority, Drr}
@@ -47,7 +48,8 @@ unfoldable pub servers_of : Members → Read (List ServerText)
 servers_of ms = at_key (codes "server") (optional (list_in 0 64) []) [] ms >>= each server_at (codes "server") []
 
 unfoldable pub flows_of : List ServerText → Members → Read (List FlowText)
-flows_of servers ms = at_key (codes "flow") (optional (list_in 0 256) []) [] ms >>= each (flow_at servers) (codes "flow") []
+flows_of servers ms =
+    at_key (codes "flow") (optional (list_in 0 256) []) [] ms >>= each (flow_at servers) (codes "flow") []
 
 unfoldable pub root_of : Members → Read DraftText
 root_of ms =

@@ -1,5 +1,6 @@
 -- Entries of paths: a server's name, or a name, `:` and the digits of a queue. Own choice.
-use Rattle.std.specs.Prelude.{ℕ, ◌+◌, ◌-◌, ◌^◌, min, ◌==◌, ◌&&◌, Bool, nat_lt, nat_eq, if◌then◌else◌, List, [], ◌∷◌, take, drop, Option, Some, None, Result, Ok, Err}
+use Rattle.std.specs.Prelude.{ℕ, ◌+◌, ◌-◌, ◌^◌, min, ◌==◌, ◌&&◌, Bool, nat_lt, nat_eq, if◌then◌else◌}
+use Rattle.std.specs.Prelude.{List, [], ◌∷◌, drop, Option, Some, None, Result, Ok, Err}
 use Rattle.std.specs.List.{list_any, position}
 use Rattle.std.specs.Str.{bytes_eq}
 use Rattle.std.specs.Str.Parse.{digits_value}
@@ -29,7 +30,9 @@ queue_digits (Some place) bytes = drop (place + 1) bytes
 
 abbrev pub hop_parts : List ℕ → List ℕ → Result HopText NetKind
 hop_parts name digits =
-    if is_name name && is_numeral digits then Ok (record { name = name; queue = min (digits_value 10 digits) (2 ^ 32 - 1) }) else Err M5
+    if is_name name && is_numeral digits
+    then Ok (record { name = name; queue = min (digits_value 10 digits) (2 ^ 32 - 1) })
+    else Err M5
 
 abbrev pub hop_text : List ℕ → Result HopText NetKind
 hop_text s = hop_parts (before_at (position is_colon s) s) (queue_digits (position is_colon s) s)
@@ -43,7 +46,8 @@ named_from n name (s ∷ ss) = if bytes_eq s.name name then Ok (n, s) else named
 abbrev pub hop_to : List Hop → ℕ → ℕ × ServerText → Result Hop NetKind
 hop_to before queue found =
     if nat_lt queue (queue_count found.1.discipline)
-    then (if list_any (λ h. nat_eq h.server found.0) before then Err M10 else Ok (record { server = found.0; queue = queue }))
+    then (if list_any (λ h. nat_eq h.server found.0) before then Err M10
+    else Ok (record { server = found.0; queue = queue }))
     else Err M6
 
 unfoldable pub hop_in : List ServerText → List Hop → Data → Result Hop NetKind

@@ -12,8 +12,12 @@ use Rattle.net_draft.specs.declared.flow_draft.FlowDraft.{FlowDraft}
 use Rattle.net_draft.specs.declared.draft.Draft.{Draft}
 use Rattle.net_draft.specs.CurveTexts.{text_of}
 use Rattle.net_draft.specs.Made.{IsMade}
-use Rattle.net_draft.specs.Texts.{ServerText, IsServiceOf, IsArrivalOf, IsHopOf, IsWithinQuantum}
+use Rattle.net_draft.specs.Texts.{ServerText, FlowText, IsServiceOf, IsArrivalOf, IsHopOf, IsWithinQuantum}
 use Rattle.net_draft.specs.Views.{server_text, flow_text}
+
+-- no packet is longer than the quanta on its way
+abbrev pub AreWithinQuanta : List ServerText → List FlowText → Type 0
+AreWithinQuanta servers flows = All (λ f. All (IsWithinQuantum servers f.packet) f.path) flows
 
 -- what was made is of the text
 abbrev pub IsMadeDraft : CurveDraft → Type 0
@@ -52,4 +56,4 @@ pub record IsDraft (d : Draft) : Type 0 where
   pub flow_names : AllPairs (λ f g. f.name ≢ g.name) (map flow_text d.flows.items)
   pub servers : All IsServerDraft d.servers.items
   pub flows : All (IsFlowDraft (map server_text d.servers.items)) d.flows.items
-  pub quanta : All (λ f. All (IsWithinQuantum (map server_text d.servers.items) f.packet) f.path) (map flow_text d.flows.items)
+  pub quanta : AreWithinQuanta (map server_text d.servers.items) (map flow_text d.flows.items)

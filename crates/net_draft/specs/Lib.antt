@@ -12,3 +12,4 @@ pub mod Tables
 pub mod Drafts
 pub mod DraftViews
 pub mod Kept
+pub mod Laws

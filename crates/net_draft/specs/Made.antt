@@ -25,7 +25,8 @@ KeepsBucket burst rate (Err faults.NoMemory) = Unit {0}
 -- what each answer to a text says, in the words of the curves of a file
 abbrev pub Answers : CurveText → Result SpecCurve CurveFault → Type 0
 Answers (Bucket burst rate) = KeepsBucket burst rate
-Answers (Stair packet period jitter) = KeepsCauses (jitter <ℚ zero_q) (period ≤ℚ zero_q) (stair (int (pos packet)) period jitter)
+Answers (Stair packet period jitter) =
+    KeepsCauses (jitter <ℚ zero_q) (period ≤ℚ zero_q) (stair (int (pos packet)) period jitter)
 Answers (RateLatency rate latency) = KeepsCauses (OneNegative rate latency) ⊥ (rate_latency rate latency)
 Answers (Gate rate cycle slot) = KeepsCauses (OneNegative rate slot) (NoSlot cycle slot) (gate rate cycle slot)
 Answers (Listed pieces tail use_as) = KeepsListed pieces tail use_as

@@ -1,6 +1,7 @@
--- Why the text of a curve is refused, as tests of its numbers: the first cause that is there. A curve that is over a limit
--- by itself is not refused here, and its shape is not looked at. Own choice.
-use Rattle.std.specs.Prelude.{◌^◌, Bool, true, false, not, ◌&&◌, ◌||◌, nat_lt, nat_le, if◌then◌else◌, List, [], ◌∷◌, Option, Some, None}
+-- Why the text of a curve is refused, as tests of its numbers: the first cause that is there. A curve that is over a
+-- limit by itself is not refused here, and its shape is not looked at. Own choice.
+use Rattle.std.specs.Prelude.{◌^◌, Bool, true, false, not, ◌&&◌, ◌||◌, nat_lt, nat_le, if◌then◌else◌}
+use Rattle.std.specs.Prelude.{List, [], ◌∷◌, Option, Some, None}
 use Rattle.std.specs.Ordering.{is_eq}
 use Rattle.rational.specs.Rational.{ℚ, ◌+ℚ◌}
 use Rattle.rational.specs.Ratio.{cmp_q}
@@ -21,7 +22,8 @@ use Rattle.curve_library.specs.declared.texts.UseAs.{UseAs}
 use Rattle.curve_library.specs.declared.texts.UseAs.TheVariants.{Arrival, Service}
 use Rattle.curve_library.specs.Listed.{listed_curve}
 use Rattle.net_model.specs.declared.fault.CurveRefusal.{CurveRefusal}
-use Rattle.net_model.specs.declared.fault.CurveRefusal.TheVariants.{Negative, ZeroPeriod, NotRising, NotContinuous, NotZeroAtStart}
+use Rattle.net_model.specs.declared.fault.CurveRefusal.TheVariants.{Negative, ZeroPeriod, NotRising}
+use Rattle.net_model.specs.declared.fault.CurveRefusal.TheVariants.{NotContinuous, NotZeroAtStart}
 use Rattle.net_draft.specs.Texts.{CurveText, Bucket, Stair, RateLatency, Gate, Listed}
 use Rattle.net_draft.specs.Values.{less}
 
@@ -141,17 +143,21 @@ first_of first second third a b c = if first then Some a else if second then Som
 unfoldable pub shape_refusal : UseAs → SpecCurve → Option CurveRefusal
 shape_refusal Arrival c = if rises c then None else Some NotRising
 shape_refusal Service c =
-    first_of (not (rises c)) (not (joins c)) (not (is_same (value_at c zero_q) (Fin zero_q))) NotRising NotContinuous NotZeroAtStart
+    first_of (not (rises c)) (not (joins c)) (not (is_same (value_at c zero_q) (Fin zero_q)))
+    NotRising NotContinuous NotZeroAtStart
 
 -- the form of what is listed, and within the limits the shape of its curve
 abbrev pub form_refusal : Bool → Bool → Bool → Bool → Option CurveRefusal → Option CurveRefusal
 form_refusal nonneg long order within shape =
-    if nonneg then (if long then (if order then (if within then shape else None) else Some NotRising) else Some ZeroPeriod)
-    else Some Negative
+    if not nonneg then Some Negative
+    else if not long then Some ZeroPeriod
+    else if not order then Some NotRising
+    else if within then shape else None
 
 unfoldable pub listed_refusal : List PieceText → Option TailText → UseAs → Option CurveRefusal
 listed_refusal ps tail use_as =
-    form_refusal (are_nonneg_texts ps && is_nonneg_end tail) (has_length tail) (starts_ascend ps && are_within_period tail ps)
+    form_refusal (are_nonneg_texts ps && is_nonneg_end tail) (has_length tail)
+    (starts_ascend ps && are_within_period tail ps)
     (is_within (listed_curve ps tail)) (shape_refusal use_as (listed_curve ps tail))
 
 -- the first of two causes

@@ -1,5 +1,6 @@
 -- The tables of a file, key by key: what each gives, or its first fault. Own choice.
-use Rattle.std.specs.Prelude.{◌≡◌, ℕ, ◌+◌, pos, Bool, false, codes, List, [], ◌∷◌, ◌++◌, length, map, Option, Some, None, Result, Ok, Err, if◌then◌else◌}
+use Rattle.std.specs.Prelude.{◌≡◌, ℕ, ◌+◌, pos, Bool, false, codes, if◌then◌else◌}
+use Rattle.std.specs.Prelude.{List, [], ◌∷◌, ◌++◌, length, map, Option, Some, None, Result, Ok, Err}
 use Rattle.std.specs.Str.{bytes_eq}
 use Rattle.rational.specs.Rational.{ℚ, int}
 use Rattle.curve_library.specs.declared.texts.PieceText.{PieceText}
@@ -23,12 +24,14 @@ use Rattle.net_draft.specs.Hops.{hop_in}
 use Rattle.net_draft.specs.Keys.{only}
 use Rattle.net_draft.specs.Refusals.{refusal_of}
 use Rattle.net_draft.specs.Texts.{CurveText, Bucket, Stair, RateLatency, Gate, Listed, ServerText, FlowText}
-use Rattle.net_draft.specs.Values.{required, optional, at_key, text_in, truth_in, table_in, number_in, positive_in, nonnegative_in, whole_in, longest, new_name, list_in}
+use Rattle.net_draft.specs.Values.{required, optional, at_key, text_in, truth_in, table_in, number_in, positive_in}
+use Rattle.net_draft.specs.Values.{nonnegative_in, whole_in, longest, new_name, list_in}
 
 -- the entries of an array one after the other, each with those before it and its place
 unfoldable pub each : {A : Type 0} → (List A → List ℕ → Data → Read A) → List ℕ → List A → List Data → Read (List A)
 each read place before [] = Ok before
-each read place before (d ∷ ds) = read before (nth place (length before)) d >>= λ x. each read place (before ++ x ∷ []) ds
+each read place before (d ∷ ds) =
+    read before (nth place (length before)) d >>= λ x. each read place (before ++ x ∷ []) ds
 
 -- ---- words
 abbrev pub service_of_text : List ℕ → Result ServiceWord NetKind
@@ -217,13 +220,18 @@ discipline_at place ms =
     at_key (codes "discipline") (optional discipline_word disciplines.Fifo) place ms >>= λ word.
     discipline_by word place ms
 
+abbrev pub server_keys : List (List ℕ)
+server_keys =
+    codes "name" ∷ codes "rate" ∷ codes "service" ∷ codes "link"
+    ∷ codes "discipline" ∷ codes "queues" ∷ codes "quanta" ∷ []
+
 abbrev pub server_names : List ServerText → List (List ℕ)
 server_names = map (λ s. s.name)
 
 unfoldable pub server_at : List ServerText → List ℕ → Data → Read ServerText
 server_at before place d =
     placed place (table_in d) >>= λ ms.
-    only (codes "name" ∷ codes "rate" ∷ codes "service" ∷ codes "link" ∷ codes "discipline" ∷ codes "queues" ∷ codes "quanta" ∷ []) place ms >>= λ _.
+    only server_keys place ms >>= λ _.
     at_key (codes "name") (required (new_name (server_names before))) place ms >>= λ name.
     at_key (codes "rate") (required positive_in) place ms >>= λ rate.
     service_or_rate rate (under place (codes "service")) (get_member (codes "service") ms) >>= λ service.

@@ -62,4 +62,5 @@ pub record IsHopOf (servers : List ServerText) (h : Hop) : Type 0 where
 
 -- where the queue has a quantum, a packet is no longer
 abbrev pub IsWithinQuantum : List ServerText → ℕ → Hop → Type 0
-IsWithinQuantum servers bits h = (s : ServerText) → slice_get servers h.server ≡ Some s → IsInQuantum s.discipline h.queue bits
+IsWithinQuantum servers bits h =
+    (s : ServerText) → slice_get servers h.server ≡ Some s → IsInQuantum s.discipline h.queue bits

@@ -1,5 +1,6 @@
 -- What one value of a file is read as, or what is wrong with it; its place is looked at elsewhere. Own choice.
-use Rattle.std.specs.Prelude.{ℕ, ℤ, pos, negsuc, Bool, List, [], ◌∷◌, length, ◌&&◌, ◌||◌, ◌==◌, nat_le, nat_lt, if◌then◌else◌, Option, Some, None, option_map, Result, Ok, Err}
+use Rattle.std.specs.Prelude.{ℕ, ℤ, pos, negsuc, Bool, List, [], ◌∷◌, length, ◌&&◌, nat_le, nat_lt, if◌then◌else◌}
+use Rattle.std.specs.Prelude.{Option, Some, None, option_map, Result, Ok, Err}
 use Rattle.std.specs.List.{list_all, list_any}
 use Rattle.std.specs.Str.{bytes_eq}
 use Rattle.rational.specs.Rational.{ℚ, int}
@@ -7,7 +8,8 @@ use Rattle.rational.specs.Ratio.{cmp_q}
 use Rattle.std.specs.Ordering.{is_lt}
 use Rattle.fraction128.specs.declared.fault.FracText.{FracText}
 use Rattle.fraction128.specs.Text.{parse_of}
-use Rattle.toml.specs.Data.{Data, Items, no_items, item, Members, as_str, as_integer, as_bool, as_array, as_table, get_member}
+use Rattle.toml.specs.Data.{Data, Items, no_items, item, Members, get_member}
+use Rattle.toml.specs.Data.{as_str, as_integer, as_bool, as_array, as_table}
 use Rattle.net_model.specs.declared.fault.NetKind.{NetKind}
 use Rattle.net_model.specs.declared.fault.NetKind.TheVariants.{M2, M4, M5, M6, M7, M11}
 use Rattle.net_model.specs.Names.{is_name_byte}

@@ -5,7 +5,8 @@ ghost use Rattle.toml.specs.View.{view, table_view};
 ghost use Rattle.net_model.specs.Views.{discipline_of};
 ghost use Rattle.net_model.specs.Accepted.{HasFewQueues, IsLength, IsQueueNumber};
 ghost use Rattle.net_draft.specs.Faults.{Gives};
-ghost use Rattle.net_draft.specs.Tables.{each, forbidden, quantum_at, quanta_of, fifo_at, priority_at, drr_at, discipline_at};
+ghost use Rattle.net_draft.specs.Tables.{each, forbidden, quantum_at, quanta_of, discipline_at};
+ghost use Rattle.net_draft.specs.Tables.{fifo_at, priority_at, drr_at};
 
 use crate::fault::DraftFault;
 use crate::keys::{field, required_list, required_whole};

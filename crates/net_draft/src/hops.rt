@@ -99,7 +99,8 @@ fn server_named<'a>(
     servers: &'a [ServerDraft],
     name: &[u8],
 ) -> Result<(usize, &'a ServerDraft), NetKind>
-    ensures value { seen (λ f. (f.0, server_text f.1.now)) result ≡ named_from 0 name.now (map server_text servers.now) }
+    ensures value { seen (λ f. (f.0, server_text f.1.now)) result
+        ≡ named_from 0 name.now (map server_text servers.now) }
     ensures within { IfOk result (λ f. f.0 < length servers.now) }
     ensures stands { IfOk result (λ f. slice_get (map server_text servers.now) f.0 ≡ Some (server_text f.1.now)) }
 {

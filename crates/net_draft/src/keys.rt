@@ -7,8 +7,8 @@ ghost use Rattle.rational.specs.Rational.{int, ◌≤ℚ◌, ◌<ℚ◌};
 ghost use Rattle.toml.specs.View.{view, table_view};
 ghost use Rattle.toml.specs.Data.{get_member};
 ghost use Rattle.net_draft.specs.Faults.{Gives, placed};
-ghost use Rattle.net_draft.specs.Values.{at_key, required, optional, text_in, truth_in, table_in, number_in, positive_in};
-ghost use Rattle.net_draft.specs.Values.{nonnegative_in, whole_in, list_in};
+ghost use Rattle.net_draft.specs.Values.{at_key, required, optional, text_in, truth_in, table_in};
+ghost use Rattle.net_draft.specs.Values.{number_in, positive_in, nonnegative_in, whole_in, list_in};
 ghost use Rattle.net_draft.specs.Keys.{only, texts_of};
 
 use crate::fault::DraftFault;

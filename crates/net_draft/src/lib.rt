@@ -1,5 +1,5 @@
-//! The first layer of the reader of networks: from the bytes of a file to its servers and flows, with the texts of their
-//! curves and what was made of them, or to the first fault and its place.
+//! The first layer of the reader of networks: from the bytes of a file to its servers and flows, with the texts of
+//! their curves and what was made of them, or to the first fault and its place.
 #![tactic(auto)]
 
 mod arrivals;
@@ -13,6 +13,7 @@ mod flows;
 mod hop;
 mod hops;
 mod keys;
+mod laws;
 mod limits;
 mod making;
 mod names;
@@ -35,5 +36,6 @@ pub use draft::Draft;
 pub use fault::DraftFault;
 pub use flow_draft::FlowDraft;
 pub use hop::Hop;
+pub use laws::{made_may_stand, refusals_are_causes};
 pub use reading::read_draft;
 pub use server_draft::ServerDraft;

@@ -106,7 +106,8 @@ pub(crate) fn server_name<'a>(
     servers: &[ServerDraft],
 ) -> Result<&'a str, DraftFault>
     ensures value { Gives (λ s. s.now) result
-        (at_key (codes "name") (required (new_name (server_names (map server_text servers.now)))) place.now (table_view table.now)) }
+        (at_key (codes "name") (required (new_name (server_names (map server_text servers.now))))
+        place.now (table_view table.now)) }
     ensures range { IfOk result (λ s. IsName s.now) }
     ensures fresh { IfOk result (λ s. All (λ t. t.name ≢ s.now) (map server_text servers.now)) }
 {
@@ -127,7 +128,8 @@ pub(crate) fn flow_name<'a>(
     flows: &[FlowDraft],
 ) -> Result<&'a str, DraftFault>
     ensures value { Gives (λ s. s.now) result
-        (at_key (codes "name") (required (new_name (flow_names (map flow_text flows.now)))) place.now (table_view table.now)) }
+        (at_key (codes "name") (required (new_name (flow_names (map flow_text flows.now))))
+        place.now (table_view table.now)) }
     ensures range { IfOk result (λ s. IsName s.now) }
     ensures fresh { IfOk result (λ s. All (λ f. f.name ≢ s.now) (map flow_text flows.now)) }
 {

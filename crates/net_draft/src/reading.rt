@@ -41,7 +41,8 @@ fn flows_at(
     root: &Table,
 ) -> Result<Vec<FlowDraft>, DraftFault>
     requires { length servers.now ≤ 64 }
-    ensures value { Gives (λ v. map flow_text v.items) result (flows_of (map server_text servers.now) (table_view root.now)) }
+    ensures value { Gives (λ v. map flow_text v.items) result
+        (flows_of (map server_text servers.now) (table_view root.now)) }
     ensures few { IfOk result (λ v. length v.items ≤ 256) }
     ensures names { IfOk result (λ v. AllPairs (λ f g. f.name ≢ g.name) (map flow_text v.items)) }
     ensures kept { IfOk result (λ v. All (IsFlowDraft (map server_text servers.now)) v.items) }

@@ -99,7 +99,8 @@ pub(crate) fn service_of(
     place: &str,
 ) -> Result<CurveDraft, DraftFault>
     ensures value { Gives (λ c. text_of c.text) result
-        (service_or_rate rate (under place.now (codes "service")) (get_member (codes "service") (table_view table.now))) }
+        (service_or_rate rate (under place.now (codes "service"))
+        (get_member (codes "service") (table_view table.now))) }
     ensures kept { IfOk result (IsServiceDraft rate) }
 {
     let here = under(alloc, place, "service")?;

@@ -1,1 +1,2 @@
+pub mod PriorityCalls
 pub mod PriorityLaw

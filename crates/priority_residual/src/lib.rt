@@ -1,9 +1,10 @@
 //! The service of one queue of a priority server: what the queues before it leave, less one packet of those after it.
 #![tactic(auto)]
 
-ghost use Rattle.priority_residual.specs.Laws.{PriorityServes};
+mod laws;
+mod service;
+#[cfg(test)]
+mod tests;
 
-/// A queue of a priority server is served by what the queues before it leave, less one packet of those after it.
-pub fn priority_serves()
-    ensures { PriorityServes }
-{}
+pub use laws::{priority_curve_serves, priority_is_determined, priority_serves};
+pub use service::priority_service;

@@ -1,4 +1,4 @@
-use Rattle.std.proofs.Common.{◌∙◌, sym}
+use Rattle.std.proofs.Common.{◌∙◌}
 use Rattle.rational.specs.declared.Extended.TheVariants.{Fin}
 use Rattle.upp_curve.specs.declared.op_kind.OpKind.TheVariants.{Shift}
 use Rattle.upp_curve.proofs.NormaliseForm.{ok_map}

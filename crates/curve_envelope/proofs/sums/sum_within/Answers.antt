@@ -1,4 +1,4 @@
-use Rattle.std.proofs.Common.{◌≡◌, ◌∙◌, sym, ap, ap₂, subst}
+use Rattle.std.proofs.Common.{◌∙◌, sym, ap₂, subst}
 use Rattle.rational.specs.Rational.{ℚ, ◌+ℚ◌}
 use Rattle.rational.specs.Ratio.{SumFits}
 use Rattle.upp_curve.specs.Steady.{rise_over}
@@ -7,7 +7,7 @@ use Rattle.upp_curve.proofs.NormaliseForm.{ok_map}
 use Rattle.curve_window.proofs.OperandWindows.{cuts_fit, sums_fit}
 use Rattle.curve_frame.specs.Frames.{sizes_at}
 use Rattle.curve_frame.proofs.Operands.{operand_to}
-use Rattle.curve_envelope.proofs.SumCall.{SumCall, sum_call, left_pieces, right_pieces, rises_fit, sum_answer, sum_values}
+use Rattle.curve_envelope.proofs.SumCall.{sum_call, left_pieces, right_pieces, rises_fit, sum_answer, sum_values}
 use Rattle.curve_envelope.proofs.sums.sum_within.Goals as goal
 
 pub unrolled-requires : goal.unrolled-requires
@@ -54,8 +54,8 @@ rise_over-first-requires c = (sum_call c.args.f.now c.args.g.now c.args.frame.no
 pub rise_over-second-requires : goal.rise_over-second-requires
 rise_over-second-requires c = (sum_call c.args.f.now c.args.g.now c.args.frame.now c.requires).right_rise.fits
 
-pub fitting_sum-rise-requires : goal.fitting_sum-rise-requires
-fitting_sum-rise-requires c =
+pub sum-rise-requires : goal.sum-rise-requires
+sum-rise-requires c =
     let f = c.args.f.now in let g = c.args.g.now in let r = c.args.frame.now in
     subst (λ (y : ℚ). SumFits c.rise_over-first.result y) (sym c.rise_over-second.ensures)
     (subst (λ (x : ℚ). SumFits x (rise_over g r.period)) (sym c.rise_over-first.ensures) (rises_fit f g r (sizes_at Sum f g 0 0) (sum_call f g r c.requires)))
@@ -63,15 +63,15 @@ fitting_sum-rise-requires c =
 pub answer-requires : goal.answer-requires
 answer-requires c =
     let f = c.args.f.now in let g = c.args.g.now in let r = c.args.frame.now in
-    sum_answer f g r (sizes_at Sum f g 0 0) c.deref.result.now c.deref-2.result.now c.in_ok-pieces.pieces.items c.fitting_sum-rise.result (sum_call f g r c.requires)
+    sum_answer f g r (sizes_at Sum f g 0 0) c.deref.result.now c.deref-2.result.now c.in_ok-pieces.pieces.items c.sum-rise.result (sum_call f g r c.requires)
     (c.deref.ensures.value ∙ c.in_ok-left.ensures) (c.deref-2.ensures.value ∙ c.in_ok-right.ensures) c.in_ok-pieces.ensures
-    (c.fitting_sum-rise.ensures ∙ ap₂ (λ (x y : ℚ). x +ℚ y) c.rise_over-first.ensures c.rise_over-second.ensures)
+    (c.sum-rise.ensures ∙ ap₂ (λ (x y : ℚ). x +ℚ y) c.rise_over-first.ensures c.rise_over-second.ensures)
 
 pub returns : goal.returns
 returns c =
     let f = c.args.f.now in let g = c.args.g.now in let r = c.args.frame.now in
     ok_map c.answer.result _ _
-    (λ a h. sum_values f g r (sizes_at Sum f g 0 0) c.deref.result.now c.deref-2.result.now c.in_ok-pieces.pieces.items c.fitting_sum-rise.result a (sum_call f g r c.requires)
+    (λ a h. sum_values f g r (sizes_at Sum f g 0 0) c.deref.result.now c.deref-2.result.now c.in_ok-pieces.pieces.items c.sum-rise.result a (sum_call f g r c.requires)
     (c.deref.ensures.value ∙ c.in_ok-left.ensures) (c.deref-2.ensures.value ∙ c.in_ok-right.ensures) c.in_ok-pieces.ensures
-    (c.fitting_sum-rise.ensures ∙ ap₂ (λ (x y : ℚ). x +ℚ y) c.rise_over-first.ensures c.rise_over-second.ensures) h)
+    (c.sum-rise.ensures ∙ ap₂ (λ (x y : ℚ). x +ℚ y) c.rise_over-first.ensures c.rise_over-second.ensures) h)
     c.answer.ensures

@@ -21,10 +21,11 @@ pub made_within-requires-clause-call : goal.made_within-requires-clause-call
 made_within-requires-clause-call g c =
     frame_by c.args.of c.kind_of-kind.result c.args.f.now c.args.g.now c.in_ok-first.first c.in-Some.periods c.in_ok-frame.frame c.kind_of-kind.ensures c.in_ok-first.ensures.window c.in-Some.ensures c.in_ok-frame.ensures.frame
 
-pub returns-in-Ok-clause-limits : goal.returns-in-Ok-clause-limits
-returns-in-Ok-clause-limits g c =
+pub returns-clause-limits : goal.returns-clause-limits
+returns-clause-limits g c =
     within_by c.args.of c.kind_of-kind.result c.args.f.now c.args.g.now c.in_ok-first.first c.in-Some.periods c.in_ok-frame.frame c.kind_of-kind.ensures c.in_ok-first.ensures.window c.in-Some.ensures c.in_ok-frame.ensures.frame
 
-pub returns-in-Err-clause-limits : goal.returns-in-Err-clause-limits
-returns-in-Err-clause-limits g c =
-    within_by c.args.of c.kind_of-kind.result c.args.f.now c.args.g.now c.in_ok-first.first c.in-Some.periods c.in_ok-frame.frame c.kind_of-kind.ensures c.in_ok-first.ensures.window c.in-Some.ensures c.in_ok-frame.ensures.frame
+pub returns-in_err-made_within-clause-limits : goal.returns-in_err-made_within-clause-limits
+returns-in_err-made_within-clause-limits g c =
+    let p = err_from_is_err_and c.from_residual-in_err-made_within.result c.from_residual-in_err-made_within.ensures.1 in
+    rw (p.1, p.2) (within_by c.args.of c.kind_of-kind.result c.args.f.now c.args.g.now c.in_ok-first.first c.in-Some.periods c.in_ok-frame.frame c.kind_of-kind.ensures c.in_ok-first.ensures.window c.in-Some.ensures c.in_ok-frame.ensures.frame)

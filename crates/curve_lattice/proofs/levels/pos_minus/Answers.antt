@@ -35,16 +35,17 @@ minus_within-requires-clause-call g c =
     let L = sides_least c.args.f.now (level_curve c.args.l) c.of.result c.level.result w.start w.period k c.of.ensures c.level.ensures c.in-Some.ensures in
     minus_frame c.args.l c.args.f.now w k c.in_ok-frame.frame c.in_ok-first.ensures.window L c.in_ok-frame.ensures.frame
 
-pub returns-in-Ok-clause-limits : goal.returns-in-Ok-clause-limits
-returns-in-Ok-clause-limits g c =
+pub returns-clause-limits : goal.returns-clause-limits
+returns-clause-limits g c =
     let w = c.in_ok-first.first in
     let k = c.in-Some.periods in
     let L = sides_least c.args.f.now (level_curve c.args.l) c.of.result c.level.result w.start w.period k c.of.ensures c.level.ensures c.in-Some.ensures in
     minus_is_within c.args.l c.args.f.now w k c.in_ok-frame.frame c.in_ok-first.ensures.window L c.in_ok-frame.ensures.frame
 
-pub returns-in-Err-clause-limits : goal.returns-in-Err-clause-limits
-returns-in-Err-clause-limits g c =
+pub returns-in_err-minus_within-clause-limits : goal.returns-in_err-minus_within-clause-limits
+returns-in_err-minus_within-clause-limits g c =
     let w = c.in_ok-first.first in
     let k = c.in-Some.periods in
     let L = sides_least c.args.f.now (level_curve c.args.l) c.of.result c.level.result w.start w.period k c.of.ensures c.level.ensures c.in-Some.ensures in
-    minus_is_within c.args.l c.args.f.now w k c.in_ok-frame.frame c.in_ok-first.ensures.window L c.in_ok-frame.ensures.frame
+    let p = err_from_is_err_and c.from_residual-in_err-minus_within.result c.from_residual-in_err-minus_within.ensures.1 in
+    rw (p.1, p.2) (minus_is_within c.args.l c.args.f.now w k c.in_ok-frame.frame c.in_ok-first.ensures.window L c.in_ok-frame.ensures.frame)

@@ -12,12 +12,12 @@ loop-theta-init c = behind_start c.args.beta.now c.args.cross.now c.args.theta c
 pub stretch_at-ahead-requires : goal.stretch_at-ahead-requires
 stretch_at-ahead-requires c =
     let w = c.requires in
-    (w.0, c.args.end, w.1.first, beta_time w.0 c.args.beta.now c.args.cross.now c.args.theta c.args.from c.args.end c.loop-theta.t c.loop-theta.most w.1 c.loop-theta.invariant (c.loop-theta-test.ensures.0 refl))
+    (w.0, c.args.end, w.1.first, beta_time w.0 c.args.beta.now c.args.cross.now c.args.theta c.args.from c.args.end c.loop-theta.t c.loop-theta.most w.1 c.loop-theta.invariant (c.loop-theta-test.ensures.less.0 refl))
 
 pub difference-requires : goal.difference-requires
 difference-requires c =
     let w = c.requires in
-    time_fits w.0 c.args.beta.now c.args.cross.now c.args.theta c.args.from c.args.end c.loop-theta.t c.loop-theta.most w.1 c.loop-theta.invariant (c.loop-theta-test.ensures.0 refl)
+    time_fits w.0 c.args.beta.now c.args.cross.now c.args.theta c.args.from c.args.end c.loop-theta.t c.loop-theta.most w.1 c.loop-theta.invariant (c.loop-theta-test.ensures.less.0 refl)
 
 pub stretch_at-served-requires : goal.stretch_at-served-requires
 stretch_at-served-requires c =
@@ -26,26 +26,26 @@ stretch_at-served-requires c =
       c.args.end,
       w.1.second,
       subst (IsTimeIn w.0 c.args.end) (sym c.difference.ensures)
-          (cross_time w.0 c.args.beta.now c.args.cross.now c.args.theta c.args.from c.args.end c.loop-theta.t c.loop-theta.most w.1 c.loop-theta.invariant (c.loop-theta-test.ensures.0 refl)),
+          (cross_time w.0 c.args.beta.now c.args.cross.now c.args.theta c.args.from c.args.end c.loop-theta.t c.loop-theta.most w.1 c.loop-theta.invariant (c.loop-theta-test.ensures.less.0 refl)),
     )
 
 pub number_of-requires : goal.number_of-requires
 number_of-requires c =
     let w = c.requires in
-    let T = cross_time w.0 c.args.beta.now c.args.cross.now c.args.theta c.args.from c.args.end c.loop-theta.t c.loop-theta.most w.1 c.loop-theta.invariant (c.loop-theta-test.ensures.0 refl) in
+    let T = cross_time w.0 c.args.beta.now c.args.cross.now c.args.theta c.args.from c.args.end c.loop-theta.t c.loop-theta.most w.1 c.loop-theta.invariant (c.loop-theta-test.ensures.less.0 refl) in
     let goes = subst (λ t. GoesOn (value_at c.args.cross.now) t c.stretch_at-served.result) c.difference.ensures c.stretch_at-served.ensures.goes in
     cross_number (value_at c.args.beta.now) c.args.cross.now c.args.theta (c.loop-theta.t -ℚ c.args.theta) c.stretch_at-served.result w.1.served T.nonneg goes
 
 pub number_of-requires-in-loop-theta : goal.number_of-requires-in-loop-theta
 number_of-requires-in-loop-theta c =
     let w = c.requires in
-    let T = beta_time w.0 c.args.beta.now c.args.cross.now c.args.theta c.args.from c.args.end c.loop-theta.t c.loop-theta.most w.1 c.loop-theta.invariant (c.loop-theta-test.ensures.0 refl) in
+    let T = beta_time w.0 c.args.beta.now c.args.cross.now c.args.theta c.args.from c.args.end c.loop-theta.t c.loop-theta.most w.1 c.loop-theta.invariant (c.loop-theta-test.ensures.less.0 refl) in
     beta_number c.args.beta.now (value_at c.args.cross.now) c.args.theta c.loop-theta.t c.stretch_at-ahead.result w.1.served T.nonneg c.stretch_at-ahead.ensures.goes
 
 pub difference-behind-requires : goal.difference-behind-requires
 difference-behind-requires c =
     let w = c.requires in
-    let h = c.loop-theta-test.ensures.0 refl in
+    let h = c.loop-theta-test.ensures.less.0 refl in
     let T = beta_time w.0 c.args.beta.now c.args.cross.now c.args.theta c.args.from c.args.end c.loop-theta.t c.loop-theta.most w.1 c.loop-theta.invariant h in
     let U = subst (IsTimeIn w.0 c.args.end) (sym c.difference.ensures) (cross_time w.0 c.args.beta.now c.args.cross.now c.args.theta c.args.from c.args.end c.loop-theta.t c.loop-theta.most w.1 c.loop-theta.invariant h) in
     values_apart w.0 c.args.end c.stretch_at-ahead.result.at c.stretch_at-served.result.at c.number_of-in-loop-theta.result c.number_of.result w.1.first.limited c.number_of-in-loop-theta.ensures c.number_of.ensures
@@ -54,7 +54,7 @@ difference-behind-requires c =
 pub loop-theta-preserved : goal.loop-theta-preserved
 loop-theta-preserved c =
     let w = c.requires in
-    let h = c.loop-theta-test.ensures.0 refl in
+    let h = c.loop-theta-test.ensures.less.0 refl in
     let f = c.args.beta.now in
     let g = c.args.cross.now in
     let u = c.number_of-in-loop-theta.result in
@@ -77,10 +77,10 @@ loop-theta-preserved c =
 
 pub loop-theta-smaller : goal.loop-theta-smaller
 loop-theta-smaller c =
-    let h = c.loop-theta-test.ensures.0 refl in
+    let h = c.loop-theta-test.ensures.less.0 refl in
     let N = next_past_it c.args.end c.loop-theta.t c.earlier-t.result c.stretch_at-ahead.result.next h c.stretch_at-ahead.ensures.goes.next c.earlier-t.ensures in
     behind_fewer c.args.beta.now c.args.cross.now c.args.theta c.args.from c.args.end c.loop-theta.t c.earlier-t.result c.loop-theta.most c.greater-most.result c.loop-theta.invariant (loop-theta-preserved c) N.past
 
 pub returns : goal.returns
 returns c = λ z C.
-    behind_end z c.args.beta.now c.args.cross.now c.args.theta c.args.from c.args.end c.loop-theta.t c.loop-theta.most C c.loop-theta.invariant (λ h. true≢false (sym (c.loop-theta-test.ensures.1 h)))
+    behind_end z c.args.beta.now c.args.cross.now c.args.theta c.args.from c.args.end c.loop-theta.t c.loop-theta.most C c.loop-theta.invariant (λ h. true≢false (sym (c.loop-theta-test.ensures.less.1 h)))

@@ -30,8 +30,8 @@ infimum_scan-requires-clause-fits c =
     let r = c.args.frame.now in
     subst (ScanFits r.end) (sym (c.deref.ensures.value ∙ c.in_ok-pieces.ensures)) (run_fits f r.start r.period r.end (sizes_at RunInf f f 0 0) (inf_facts f r c.requires.frame))
 
-pub fitting_sum-requires : goal.fitting_sum-requires
-fitting_sum-requires c =
+pub sum-requires : goal.sum-requires
+sum-requires c =
     let f = c.args.f.now in
     let r = c.args.frame.now in
     sum_fits f r.start r.period r.end (sizes_at RunInf f f 0 0) (inf_facts f r c.requires.frame)
@@ -44,21 +44,21 @@ rise_over-rise-requires c =
 
 pub answer-requires : goal.answer-requires
 answer-requires c =
-    inf_answer c.args.f.now c.args.frame.now c.fitting_sum.result c.rise_over-rise.result c.deref.result.now c.in_ok-scanned.scanned.items c.in_ok-front.front.items
+    inf_answer c.args.f.now c.args.frame.now c.sum.result c.rise_over-rise.result c.deref.result.now c.in_ok-scanned.scanned.items c.in_ok-front.front.items
     c.requires.frame
-    c.fitting_sum.ensures c.rise_over-rise.ensures (c.deref.ensures.value ∙ c.in_ok-pieces.ensures) c.in_ok-scanned.ensures
-    (subst (λ q. IsFrontBefore q c.fitting_sum.result c.in_ok-front.front.items) c.deref-2.ensures.value c.in_ok-front.ensures)
+    c.sum.ensures c.rise_over-rise.ensures (c.deref.ensures.value ∙ c.in_ok-pieces.ensures) c.in_ok-scanned.ensures
+    (subst (λ q. IsFrontBefore q c.sum.result c.in_ok-front.front.items) c.deref-2.ensures.value c.in_ok-front.ensures)
 
 pub returns : goal.returns
 returns c =
     let f = c.args.f.now in
     let r = c.args.frame.now in
     let front = c.in_ok-front.front.items in
-    let to = c.fitting_sum.result in
+    let to = c.sum.result in
     let rise = c.rise_over-rise.result in
     ok_map c.answer.result (λ a. HasValues a (repeated (read front) r.start r.period rise)) (RunsFrom f)
     (λ a v.
-    inf_value f r to rise c.deref.result.now c.in_ok-scanned.scanned.items front a c.requires.finite c.requires.nonneg c.requires.frame c.fitting_sum.ensures
+    inf_value f r to rise c.deref.result.now c.in_ok-scanned.scanned.items front a c.requires.finite c.requires.nonneg c.requires.frame c.sum.ensures
     c.rise_over-rise.ensures
     (c.deref.ensures.value ∙ c.in_ok-pieces.ensures) c.in_ok-scanned.ensures (subst (λ q. IsFrontBefore q to front) c.deref-2.ensures.value c.in_ok-front.ensures) v)
     c.answer.ensures

@@ -37,26 +37,26 @@ rise_over-rise-requires c =
     let r = c.args.frame.now in
     (run_rise f r.start r.period r.end (sizes_at RunSup f f c.args.k 0) (sup_facts f c.args.k r c.requires.frame)).fits
 
-pub fitting_difference-from-requires : goal.fitting_difference-from-requires
-fitting_difference-from-requires c =
+pub difference-from-requires : goal.difference-from-requires
+difference-from-requires c =
     let f = c.args.f.now in
     let r = c.args.frame.now in
     difference_fits f r.start r.period r.end (sizes_at RunSup f f c.args.k 0) (sup_facts f c.args.k r c.requires.frame)
 
 pub answer-requires : goal.answer-requires
 answer-requires c =
-    sup_answer c.args.f.now c.args.k c.args.frame.now c.fitting_difference-from.result c.rise_over-rise.result c.deref.result.now c.in_ok-scanned.scanned.items c.requires.frame
-    c.fitting_difference-from.ensures c.rise_over-rise.ensures (c.deref.ensures.value ∙ c.in_ok-pieces.ensures) c.in_ok-scanned.ensures
+    sup_answer c.args.f.now c.args.k c.args.frame.now c.difference-from.result c.rise_over-rise.result c.deref.result.now c.in_ok-scanned.scanned.items c.requires.frame
+    c.difference-from.ensures c.rise_over-rise.ensures (c.deref.ensures.value ∙ c.in_ok-pieces.ensures) c.in_ok-scanned.ensures
 
 pub returns : goal.returns
 returns c =
     let f = c.args.f.now in
     let r = c.args.frame.now in
     let qs = c.in_ok-scanned.scanned.items in
-    let from = c.fitting_difference-from.result in
+    let from = c.difference-from.result in
     let rise = c.rise_over-rise.result in
     ok_map c.answer.result (λ a. HasValues a (repeated (read qs) from r.period rise)) (RunsUpTo f)
     (λ a v.
-    sup_value f c.args.k r from rise c.deref.result.now qs a c.requires.finite c.requires.nonneg c.requires.number c.requires.frame c.fitting_difference-from.ensures
+    sup_value f c.args.k r from rise c.deref.result.now qs a c.requires.finite c.requires.nonneg c.requires.number c.requires.frame c.difference-from.ensures
     c.rise_over-rise.ensures
     (c.deref.ensures.value ∙ c.in_ok-pieces.ensures) c.in_ok-scanned.ensures v) c.answer.ensures

@@ -1,0 +1,213 @@
+//! Values worked out by hand.
+
+ghost use Rattle.std.specs.Prelude.{◌≡◌, ◌<◌};
+
+use crate::convolve;
+use affine_segment::{Line, Piece};
+use fraction128::{Ext, Frac};
+use rational::Extended;
+use std::alloc::Global;
+use std::cmp::Ordering;
+use std::marker::Brand;
+use std::sync::ledger::{Blank, Ledger};
+use std::test::Fail;
+use steps::Steps;
+use upp_curve::{Curve, OpFault, RawCurve, Tail, equal, normalise};
+
+fn whole(n: i128) -> Frac {
+    match Frac::new(n, 1) {
+        Ok(f) => f,
+        Err(_) => Frac::zero(),
+    }
+}
+
+fn curve(alloc: Global, list: &[Piece], tail: Tail) -> Result<Curve, OpFault> {
+    let Ok(pieces) = Vec::from_slice(alloc, list) else {
+        return Err(OpFault::NoMemory);
+    };
+    let raw = RawCurve { pieces, tail };
+    if raw.is_raw() {
+        normalise(raw)
+    } else {
+        Err(OpFault::TooMany)
+    }
+}
+
+// The pieces at 0 and at x: the first of one value and one line.
+fn piece(x: i128, at: Ext, line: Option<(i128, i128)>) -> Piece {
+    Piece {
+        x: whole(x),
+        at,
+        line: match line {
+            None => None,
+            Some((icept, slope)) => Some(Line {
+                icept: whole(icept),
+                slope: whole(slope),
+            }),
+        },
+    }
+}
+
+// A curve that repeats from 0 on with one piece: the value 1 at 0 and the line `line` after it.
+fn repeating(
+    alloc: Global,
+    at: i128,
+    line: Option<(i128, i128)>,
+    period: i128,
+    rise: i128,
+) -> Result<Curve, OpFault> {
+    let list = [piece(0, Extended::Fin(whole(at)), line)];
+    let tail = Tail::Periodic {
+        rank: Frac::zero(),
+        period: whole(period),
+        rise: whole(rise),
+    };
+    curve(alloc, &list, tail)
+}
+
+// 0 up to the latency, and then the line.
+fn late(alloc: Global, latency: i128, icept: i128, slope: i128) -> Result<Curve, OpFault> {
+    let list = [
+        piece(0, Extended::Fin(Frac::zero()), Some((0, 0))),
+        piece(latency, Extended::Fin(Frac::zero()), Some((icept, slope))),
+    ];
+    curve(
+        alloc,
+        &list,
+        Tail::Affine {
+            rank: whole(latency),
+        },
+    )
+}
+
+// A burst, and then the rate.
+fn bucket(alloc: Global, burst: i128, rate: i128) -> Result<Curve, OpFault> {
+    let list = [piece(0, Extended::Fin(whole(burst)), Some((burst, rate)))];
+    curve(alloc, &list, Tail::Affine { rank: Frac::zero() })
+}
+
+// One value at a time, and none elsewhere.
+fn point(alloc: Global, x: i128, v: i128) -> Result<Curve, OpFault> {
+    let list = [
+        piece(0, Extended::Inf, None),
+        piece(x, Extended::Fin(whole(v)), None),
+    ];
+    curve(alloc, &list, Tail::Infinite { rank: whole(x) })
+}
+
+fn nothing(alloc: Global) -> Result<Curve, OpFault> {
+    let list = [piece(0, Extended::Inf, None)];
+    curve(alloc, &list, Tail::Infinite { rank: Frac::zero() })
+}
+
+// The value at a time from 0 on; nothing where it is infinite.
+fn value(c: &Curve, t: Frac) -> Option<Frac> {
+    match t.cmp(&Frac::zero()) {
+        Ordering::Less => None,
+        _ => match c.value_at(t) {
+            Ok(Extended::Fin(v)) => Some(v),
+            _ => None,
+        },
+    }
+}
+
+// The rank, the period and the rise.
+fn repeats(c: &Curve) -> Option<(Frac, Frac, Frac)> {
+    match c.tail() {
+        Tail::Periodic { rank, period, rise } => Some((*rank, *period, *rise)),
+        _ => None,
+    }
+}
+
+fn convolved<L: Ledger>(alloc: Global, blank: Blank, f: &Curve, g: &Curve) -> Result<Curve, OpFault>
+    requires name { blank.name ≡ L.name }
+    requires parts { blank.parts ≡ L.parts }
+    requires one { 0 < blank.parts }
+{
+    let mut steps = Steps::<L>::new(blank);
+    convolve(alloc, f, g, &mut steps)
+}
+
+// Stairs of one packet and the periods 2 and 3.
+#[test]
+fn stairs(rt: HostRuntime) -> Result<(), Fail> {
+    let f = repeating(rt.alloc(), 1, Some((1, 0)), 2, 1)?;
+    let g = repeating(rt.alloc(), 1, Some((1, 0)), 3, 1)?;
+    let c = convolved::<Brand>(rt.alloc(), Blank::new(1), &f, &g)?;
+    for (t, v) in [(4, 2), (5, 3), (8, 4)] {
+        assert!(rt; value(&c, whole(t)) == Some(whole(v)), "at {t}");
+    }
+    assert!(rt; repeats(&c) == Some((whole(5), whole(3), whole(1))));
+    Ok(())
+}
+
+// Rate-latency curves of one rate: the latencies add up.
+#[test]
+fn latencies(rt: HostRuntime) -> Result<(), Fail> {
+    let f = late(rt.alloc(), 130, -13000, 100)?;
+    let g = late(rt.alloc(), 10, -1000, 100)?;
+    let sum = late(rt.alloc(), 140, -14000, 100)?;
+    let c = convolved::<Brand>(rt.alloc(), Blank::new(1), &f, &g)?;
+    assert!(rt; equal(&c, &sum));
+    Ok(())
+}
+
+// Buckets: the bursts add up, and the lesser rate is kept.
+#[test]
+fn buckets(rt: HostRuntime) -> Result<(), Fail> {
+    let f = bucket(rt.alloc(), 3, 2)?;
+    let g = bucket(rt.alloc(), 5, 1)?;
+    let sum = bucket(rt.alloc(), 8, 1)?;
+    let c = convolved::<Brand>(rt.alloc(), Blank::new(1), &f, &g)?;
+    assert!(rt; equal(&c, &sum));
+    let none = nothing(rt.alloc())?;
+    let d = convolved::<Brand>(rt.alloc(), Blank::new(1), &none, &f)?;
+    assert!(rt; equal(&d, &none));
+    Ok(())
+}
+
+// n at 2 n, and 2 n at 3 n.
+#[test]
+fn dots(rt: HostRuntime) -> Result<(), Fail> {
+    let f = repeating(rt.alloc(), 0, None, 2, 1)?;
+    let g = repeating(rt.alloc(), 0, None, 3, 2)?;
+    let c = convolved::<Brand>(rt.alloc(), Blank::new(1), &f, &g)?;
+    for (t, v) in [(0, 0), (2, 1), (3, 2), (5, 3)] {
+        assert!(rt; value(&c, whole(t)) == Some(whole(v)), "at {t}");
+    }
+    assert!(rt; value(&c, whole(1)).is_none());
+    assert!(rt; repeats(&c) == Some((whole(2), whole(2), whole(1))));
+    Ok(())
+}
+
+// One point each gives one point.
+#[test]
+fn points(rt: HostRuntime) -> Result<(), Fail> {
+    let f = point(rt.alloc(), 1, 2)?;
+    let g = point(rt.alloc(), 3, 4)?;
+    let sum = point(rt.alloc(), 4, 6)?;
+    let c = convolved::<Brand>(rt.alloc(), Blank::new(1), &f, &g)?;
+    assert!(rt; equal(&c, &sum));
+    Ok(())
+}
+
+// 0 before 1 and 10 from then on, with t: t - 1 up to 11, and then 10, so nine periods are needed.
+#[test]
+fn the_slower_takes_over_late(rt: HostRuntime) -> Result<(), Fail> {
+    let list = [
+        piece(0, Extended::Fin(Frac::zero()), Some((0, 0))),
+        piece(1, Extended::Fin(whole(10)), Some((10, 0))),
+    ];
+    let f = curve(rt.alloc(), &list, Tail::Affine { rank: Frac::one() })?;
+    let g = bucket(rt.alloc(), 0, 1)?;
+    let c = convolved::<Brand>(rt.alloc(), Blank::new(1), &f, &g)?;
+    let d = convolved::<Brand>(rt.alloc(), Blank::new(1), &g, &f)?;
+    for (t, v) in [(0, 0), (1, 0), (5, 4), (11, 10), (20, 10)] {
+        assert!(rt; value(&c, whole(t)) == Some(whole(v)), "at {t}");
+        assert!(rt;
+            value(&d, whole(t)) == Some(whole(v)),
+            "the other way round at {t}"
+        );
+    }
+    Ok(())
+}

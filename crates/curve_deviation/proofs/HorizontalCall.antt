@@ -1,0 +1,121 @@
+-- A call for the horizontal deviation within its limits: what its window gives, and that the longest lag in it is the deviation.
+use Rattle.std.specs.Prelude.{◌≡◌, suc, pos}
+use Rattle.std.proofs.Common.{arith, sym, ◌∙◌, subst, inl, inr}
+use Rattle.rational.specs.Rational.{ℚ, ◌*ℚ◌, ◌≤ℚ◌, ◌<ℚ◌, int}
+use Rattle.rational.specs.Extended.{◌≤ₑ◌, ◌<ₑ◌}
+use Rattle.rational.specs.declared.Extended.TheVariants.{Fin, Inf}
+use Rattle.rational.proofs.Linear.{with2}
+use Rattle.rational.proofs.Laws.{le_refl, le_trans, le_of_lt, le_lt_trans, mul_le_mul_right, le_of_not_lt}
+use Rattle.rational.proofs.ExtendedOrder.{same_le_ext}
+use Rattle.upp_curve.specs.declared.op_kind.OpKind.TheVariants.{Horizontal}
+use Rattle.upp_curve.specs.Curve.{SpecCurve, value_at}
+use Rattle.upp_curve.specs.Curves.{IsCurve}
+use Rattle.upp_curve.specs.Functions.{IsFinite}
+use Rattle.upp_curve.specs.Steady.{steady, rise_over, rate}
+use Rattle.upp_curve.specs.Periods.{common_period, periods_after}
+use Rattle.upp_curve.specs.Windows.{window_at, IsLeastPeriods}
+use Rattle.upp_curve.specs.Limits.{Sizes, sizes_of}
+use Rattle.upp_curve.specs.Ahead.{IsTimeIn}
+use Rattle.upp_curve.specs.Gauges.{IsKnownAtOnce, numbers_over}
+use Rattle.upp_curve.specs.Deviations.{IsHorizontalDeviation}
+use Rattle.curve_frame.specs.declared.frame.Frame.{Frame}
+use Rattle.curve_frame.specs.Frames.{IsFrame, sizes_at}
+use Rattle.curve_frame.proofs.CurveTimes.{steady_nonneg}
+use Rattle.rational.proofs.Grid.{whole_add, whole_times}
+use Rattle.curve_least.proofs.LeastNumber.{ext_cases}
+use Rattle.curve_least.proofs.Rises.{rate_rise, infinite_value}
+use Rattle.curve_lag.specs.Parts.{IsSeen}
+use Rattle.curve_lag.specs.Lags.{IsLongestLag}
+use Rattle.curve_deviation.specs.declared.horizontals.Periods.{Periods}
+use Rattle.curve_deviation.specs.Stages.{AreFinite, settled, AreFound}
+use Rattle.curve_deviation.proofs.KnownLags.{common_above, first_repeats, second_repeats, reaches}
+use Rattle.curve_deviation.proofs.Lagging.{Always, longest_is}
+use Rattle.curve_deviation.proofs.LateLags.{constant_late, rising_late}
+use Rattle.curve_deviation.proofs.PeriodsFound.{found_least}
+use Rattle.curve_deviation.proofs.WindowTimes.{WindowTimes, times_at, periods_low, settled_is}
+
+-- the sizes of a window's end
+pub sizes_to : SpecCurve → SpecCurve → ℚ → Sizes
+sizes_to f g end = sizes_of end (numbers_over Horizontal f g end)
+
+-- what the walk needs
+pub record IsReady (z : Sizes) (f g : SpecCurve) (until end : ℚ) : Type 0 where
+  pub first : IsSeen z end f
+  pub second : IsSeen z end g
+  pub time : IsTimeIn z end until
+  pub at : ℚ
+  pub low : int (pos 0) ≤ℚ at
+  pub before : at <ℚ end
+  pub reached : value_at f until ≤ₑ value_at g at
+
+ready_at : (f g : SpecCurve) (p : Periods) → IsCurve f → IsCurve g → AreFinite f g → IsLeastPeriods Horizontal f g p.first p.second → WindowTimes (sizes_at Horizontal f g p.first p.second) f g p.first p.second (window_at Horizontal f g p.first p.second) (common_period f g)
+    → IsReady (sizes_at Horizontal f g p.first p.second) f g (settled f g p.first) (window_at Horizontal f g p.first p.second)
+ready_at f g p F G both least W =
+    let d = common_period f g in
+    let some = common_above f g F G in
+    let z = sizes_at Horizontal f g p.first p.second in
+    let H = window_at Horizontal f g p.first p.second in
+    let t = settled f g p.first in
+    let u = periods_after t p.second d in
+    let low = le_trans (steady_nonneg f F) (periods_low (steady f) d (suc p.first) some) in
+    let more = periods_low t d p.second some in
+    let early : u <ℚ H = subst (λ x. x <ℚ H) W.is W.once.before in
+    record {
+      first = W.seen.first;
+      second = W.seen.second;
+      time = record { whole = whole_add z.dt (steady f) (int (pos (suc p.first)) *ℚ d) W.seen.start (whole_times z.dt (pos (suc p.first)) d W.seen.period.whole); nonneg = low; before = le_lt_trans more early };
+      at = u;
+      low = le_trans low more;
+      before = early;
+      reached = least.second.meets;
+    }
+
+pub ready : (f g : SpecCurve) (p : Periods) (r : Frame) → AreFinite f g → AreFound f g p → IsFrame Horizontal f g p.first p.second r → IsReady (sizes_to f g r.end) f g p.until r.end
+unfolding sizes_to
+ready f g p r both A h =
+    let least = found_least f g p h.first h.second A h.gauge in
+    let W = times_at f g p.first p.second h.first h.second both.first both.second h.gauge in
+    let found = ready_at f g p h.first h.second both least W in
+    subst (λ e. IsReady (sizes_of e (numbers_over Horizontal f g e)) f g p.until e) (sym h.end)
+    (subst (λ t. IsReady (sizes_at Horizontal f g p.first p.second) f g t (window_at Horizontal f g p.first p.second)) (sym A.until) found)
+
+-- ---- the curve that is not the faster rises no more
+no_faster : (f g : SpecCurve) (d : ℚ) → IsCurve f → IsCurve g → IsFinite (value_at f) → IsFinite (value_at g) → int (pos 0) <ℚ d → ¬ (rate g <ₑ rate f) → rise_over f d ≤ℚ rise_over g d
+no_faster f g d F G first second some slow = elim (ext_cases (rate f)) [
+  | inl e ↦ absurd (never f F first e)
+  | inr (r, e) ↦ elim (ext_cases (rate g)) [
+    | inl k ↦ absurd (never g G second k)
+    | inr (s, k) ↦
+        let less : r ≤ℚ s = le_of_not_lt (λ h. slow (subst (λ x. x <ₑ rate f) (sym k) (subst (λ x. Fin s <ₑ x) (sym e) h))) in
+        subst (λ x. x ≤ℚ rise_over g d) (rate_rise f d r e) (subst (λ x. r *ℚ d ≤ℚ x) (rate_rise g d s k) (mul_le_mul_right d (le_of_lt some) less))
+  ]
+]
+  where
+    never : (c : SpecCurve) → IsCurve c → IsFinite (value_at c) → rate c ≡ Inf → ⊥
+    never c C finite e = let (v, k) = finite (steady c) (steady_nonneg c C) in same_le_ext (sym (infinite_value c (steady c) C e (le_refl (steady c))) ∙ k)
+
+-- ---- the deviation
+whole_lag : (f g : SpecCurve) (p : Periods) (q : ℚ) → IsCurve f → IsCurve g → AreFinite f g → ¬ (IsKnownAtOnce Horizontal f g) → IsLeastPeriods Horizontal f g p.first p.second
+    → IsLongestLag (λ s. s <ℚ settled f g p.first) (value_at f) (value_at g) q → IsLongestLag Always (value_at f) (value_at g) q
+whole_lag f g p q F G both looks least L =
+    let d = common_period f g in
+    let some = common_above f g F G in
+    let T = steady f in
+    let low = steady_nonneg f F in
+    let left = periods_after T p.first d in
+    let past = periods_low T d p.first some in
+    let is = settled_is f g p.first in
+    elim least.first.meets [
+      | inl level ↦ constant_late (value_at f) (value_at g) T (settled f g p.first) q low (le_lt_trans past (subst (λ x. left <ℚ x) (sym is) (with2 left d (λ c. omega (arith, c.le, c.lt, c.same))))) level L
+      | inr above ↦
+          rising_late (value_at f) (value_at g) T (steady g) d (rise_over f d) (rise_over g d) left q some low (steady_nonneg g G) (first_repeats f g F G) (second_repeats f g F G)
+          (no_faster f g d F G both.first both.second some (λ faster. looks (inr (inl faster)))) both.first both.second both.first_rises both.second_rises past above
+          (subst (λ t. IsLongestLag (λ s. s <ℚ t) (value_at f) (value_at g) q) is L)
+    ]
+
+pub deviation_is : (f g : SpecCurve) (p : Periods) (r : Frame) (q : ℚ) → AreFinite f g → ¬ (IsKnownAtOnce Horizontal f g) → AreFound f g p → IsFrame Horizontal f g p.first p.second r
+    → IsLongestLag (λ s. s <ℚ p.until) (value_at f) (value_at g) q → IsHorizontalDeviation (value_at f) (value_at g) (Fin q)
+deviation_is f g p r q both looks A h L =
+    let least = found_least f g p h.first h.second A h.gauge in
+    longest_is (value_at f) (value_at g) q both.second both.second_rises (reaches f g h.first h.second both.second both.second_rises)
+    (whole_lag f g p q h.first h.second both looks least (subst (λ t. IsLongestLag (λ s. s <ℚ t) (value_at f) (value_at g) q) A.until L))

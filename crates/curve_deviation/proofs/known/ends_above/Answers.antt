@@ -1,0 +1,10 @@
+use Rattle.upp_curve.proofs.Compared.{iff_trans}
+use Rattle.upp_curve.proofs.LevelCurves.{levels_above}
+use Rattle.curve_deviation.proofs.known.ends_above.Goals as goal
+
+pub returns : goal.returns
+returns c =
+    let ef = c.is_level.ensures.0 c.if-not-is_level.false in
+    let eg = c.is_level-2.ensures.0 c.if-not-is_level-2.false in
+    let kept = c.is_level_above.ensures.kept in
+    iff_trans c.is_level_above.ensures.above (levels_above c.args.f.now c.args.g.now kept.0 kept.1 c.requires.0 c.requires.1 ef eg)

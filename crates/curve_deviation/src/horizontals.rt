@@ -1,0 +1,173 @@
+//! The horizontal deviation of two curves.
+
+ghost use Rattle.std.specs.Prelude.{ℕ, ◌≡◌, ◌+◌, ◌≤◌, ◌^◌, IfOk, IfErr, IfSome, IsSome, MatchOption};
+ghost use Rattle.rational.specs.Rational.{ℚ, ◌<ℚ◌};
+ghost use Rattle.upp_curve.specs.Curve.{value_at};
+ghost use Rattle.upp_curve.specs.Functions.{IsFinite, IsRising};
+ghost use Rattle.upp_curve.specs.Steady.{steady};
+ghost use Rattle.upp_curve.specs.Limits.{Sizes};
+ghost use Rattle.upp_curve.specs.Gauges.{IsKnownAtOnce, gauge_at};
+ghost use Rattle.upp_curve.specs.Deviations.{IsHorizontalDeviation};
+ghost use Rattle.upp_curve.specs.Outcome.{KeepsLimits};
+ghost use Rattle.curve_frame.specs.Frames.{IsFrame};
+ghost use Rattle.curve_lag.specs.Parts.{IsSeen};
+ghost use Rattle.curve_deviation.specs.Stages.{AreFinite, IsWideCall, IsFirst, IsTurn, AreFound};
+
+use crate::known::{is_known, is_level};
+use crate::search::{Stage, difference, least_past, narrow_window, value_in};
+use curve_frame::{Frame, within_both};
+use curve_lag::longest_lag;
+use fraction128::{Ext, Frac};
+use rational::Extended;
+use std::sync::ledger::Ledger;
+use steps::Steps;
+use upp_curve::{Curve, OpFault, OpKind, steady_time};
+
+/// A time and the first curve's value there.
+#[derive(Debug, Clone, Copy)]
+struct Turn {
+    time: Frac,
+    level: Frac,
+}
+
+/// The numbers of periods of a call, and the time from which on no lag is longer.
+#[derive(Debug, Clone, Copy)]
+struct Periods {
+    first: u128,
+    second: u128,
+    until: Frac,
+}
+
+/// The value of a finite curve when it begins to repeat. None only where a step to it does not fit.
+fn value_then(c: &Curve, time: Frac) -> Option<Frac>
+    requires finite { IsFinite (value_at c.now) }
+    requires time { time ≡ steady c.now }
+    ensures value { IfSome result (λ v. value_at c.now time ≡ Extended.Fin v) }
+    ensures fits { (z : Sizes) (end : ℚ) → IsSeen z end c.now → steady c.now <ℚ end → IsSome result }
+{
+    let _kept = c.tail();
+    match c.value_at(time) {
+        Err(_) => None,
+        Ok(value) => match value {
+            Extended::Inf => None,
+            Extended::Fin(level) => Some(level),
+        },
+    }
+}
+
+/// The value of a finite curve when it begins to repeat. None only where a step to it does not fit.
+fn late_level(c: &Curve) -> Option<Frac>
+    requires { IsFinite (value_at c.now) }
+    ensures value { IfSome result (λ v. value_at c.now (steady c.now) ≡ Extended.Fin v) }
+    ensures fits { (z : Sizes) (end : ℚ) → IsSeen z end c.now → steady c.now <ℚ end → IsSome result }
+{
+    match steady_time(c) {
+        None => None,
+        Some(time) => value_then(c, time),
+    }
+}
+
+/// After how many periods f has left the level at which g begins to repeat; 0 where f is constant from when it repeats.
+/// None only where the call is too wide.
+fn first_number(f: &Curve, g: &Curve) -> Option<u128>
+    requires { AreFinite f.now g.now }
+    ensures { MatchOption result (IsWideCall f.now g.now) (IsFirst f.now g.now) }
+{
+    let _first = f.tail();
+    let _second = g.tail();
+    if is_level(f) {
+        return Some(0);
+    }
+    match late_level(g) {
+        None => None,
+        Some(level) => Some(least_past(f, g, &Stage::First { level })),
+    }
+}
+
+/// The time a period after that, and the value of f there. None only where the call is too wide.
+fn turn_after(f: &Curve, g: &Curve, first: u128) -> Option<Turn>
+    requires { AreFinite f.now g.now }
+    ensures turn { MatchOption result (2 ^ 120 ≤ gauge_at OpKind.Horizontal f.now g.now first 0) (IsTurn f.now g.now first) }
+{
+    match narrow_window(f, g, first, 0) {
+        None => None,
+        Some(window) => {
+            let time = difference(window.end, window.period);
+            let level = value_in(f, time, window.end);
+            Some(Turn { time, level })
+        }
+    }
+}
+
+/// Both numbers of periods. None only where the call is too wide.
+fn periods_of(f: &Curve, g: &Curve) -> Option<Periods>
+    requires { AreFinite f.now g.now }
+    ensures { MatchOption result (IsWideCall f.now g.now) (AreFound f.now g.now) }
+{
+    let _first = f.tail();
+    let _second = g.tail();
+    match first_number(f, g) {
+        None => None,
+        Some(first) => match turn_after(f, g, first) {
+            None => None,
+            Some(turn) => {
+                let level = turn.level;
+                let second = least_past(f, g, &Stage::Second { first, level });
+                Some(Periods {
+                    first,
+                    second,
+                    until: turn.time,
+                })
+            }
+        },
+    }
+}
+
+/// The horizontal deviation of a call within both limits.
+fn deviation_in(f: &Curve, g: &Curve, periods: &Periods, frame: &Frame) -> Ext
+    requires both { AreFinite f.now g.now }
+    requires known { ¬ (IsKnownAtOnce OpKind.Horizontal f.now g.now) }
+    requires found { AreFound f.now g.now periods.now }
+    requires frame { IsFrame OpKind.Horizontal f.now g.now periods.now.first periods.now.second frame.now }
+    ensures { IsHorizontalDeviation (value_at f.now) (value_at g.now) result }
+{
+    Extended::Fin(longest_lag(f, g, periods.until, frame.end))
+}
+
+/// The horizontal deviation that has to be looked for.
+fn looked_for(f: &Curve, g: &Curve) -> Result<Ext, OpFault>
+    requires both { AreFinite f.now g.now }
+    requires known { ¬ (IsKnownAtOnce OpKind.Horizontal f.now g.now) }
+    ensures value { IfOk result (IsHorizontalDeviation (value_at f.now) (value_at g.now)) }
+    ensures limits { KeepsLimits OpKind.Horizontal f.now g.now result }
+    ensures memory { IfErr result (λ e. ¬ (e ≡ OpFault.NoMemory)) }
+{
+    let _first = f.tail();
+    let _second = g.tail();
+    let Some(periods) = periods_of(f, g) else {
+        return Err(OpFault::TooWide);
+    };
+    let frame = within_both(&OpKind::Horizontal, f, g, periods.first, periods.second)?;
+    Ok(deviation_in(f, g, &periods, &frame))
+}
+
+/// The horizontal deviation of two curves that rise, the second finite: the supremum, over all times t from 0 on, of the
+/// infimum of the waits after which g is at least f(t); infinity where f is infinite somewhere, or the faster one, or of
+/// rate 0 as g and above it in the end (Le Boudec and Thiran, chapter 3: the delay of an arrival curve at a service curve).
+/// One step is counted. Refused with TooWide or TooMany exactly where the call's gauge or tally is over that limit, and
+/// never for want of memory, since none is taken. The walk passes each stretch of the two in the window once.
+pub fn horizontal<L: Ledger>(f: &Curve, g: &Curve, steps: &mut Steps<L>) -> Result<Ext, OpFault>
+    requires finite { IsFinite (value_at g.now) }
+    requires rising { IsRising (value_at f.now) × IsRising (value_at g.now) }
+    ensures count { steps.new ≡ steps.old + 1 }
+    ensures value { IfOk result (IsHorizontalDeviation (value_at f.now) (value_at g.now)) }
+    ensures limits { KeepsLimits OpKind.Horizontal f.now g.now result }
+    ensures memory { IfErr result (λ e. ¬ (e ≡ OpFault.NoMemory)) }
+{
+    steps.tick();
+    if is_known(f, g) {
+        Ok(Extended::Inf)
+    } else {
+        looked_for(f, g)
+    }
+}

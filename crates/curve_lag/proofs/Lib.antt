@@ -1,0 +1,5 @@
+pub mod CellLag
+pub mod CellSizes
+pub mod EarlyParts
+pub mod RisingParts
+pub mod Walk

@@ -1,0 +1,4 @@
+pub mod Cells
+pub mod Parts
+pub mod Rises
+pub mod Lags

@@ -1,0 +1,4 @@
+pub mod Again
+pub mod Answers
+pub mod Calls
+pub mod Determined

@@ -1,0 +1,43 @@
+//! The curve of a deficit round robin queue's service.
+
+ghost use Rattle.std.specs.Prelude.{◌≡◌, ◌+◌, ◌<◌, ◌≤◌, length, IfOk};
+ghost use Rattle.upp_curve.specs.Curve.{value_at};
+ghost use Rattle.upp_curve.specs.Functions.{IsFinite};
+ghost use Rattle.drr_residual.specs.Calls.{AreQueues, MakesDrr};
+ghost use Rattle.drr_residual.specs.Laws.{IsDrrService};
+
+use crate::turn::turn_of;
+use curve_envelope::{pos_minus, scale};
+use curve_making::seen;
+use std::alloc::Global;
+use std::sync::ledger::Ledger;
+use steps::Steps;
+use upp_curve::{Curve, OpFault};
+
+/// The service of one queue of a deficit round robin server whose curve is `beta`: with the queue's quantum Q, the
+/// sum F of the quanta, the queue's longest packet l and the sum L of all queues' longest packets, at each time the
+/// greater of 0 and (Q beta - Q (L - l) - (F - Q) (Q + l)) / F (Bouillard, Boyer and Le Corronc). All are bits. Two
+/// operators, `scale` and then `pos_minus`, one step each; a refusal is that of the first that is over its limit,
+/// with TooWide or TooMany, or want of memory. beta is finite; there are 1 to 8 quanta of 1 to 2^24 bits, as many
+/// longest packets, and the queue is one of them.
+pub fn drr_service<L: Ledger>(
+    alloc: Global,
+    beta: &Curve,
+    quanta: &[u64],
+    longest: &[u32],
+    queue: u32,
+    steps: &mut Steps<L>,
+) -> Result<Curve, OpFault>
+    requires finite { IsFinite (value_at beta.now) }
+    requires queues { AreQueues quanta.now longest.now }
+    requires queue { queue < length quanta.now }
+    ensures answer { MakesDrr beta.now quanta.now longest.now queue result }
+    ensures value { IfOk result (λ c. IsDrrService (value_at beta.now) quanta.now longest.now queue (value_at c)) }
+    ensures least { steps.old + 1 ≤ steps.new }
+    ensures most { steps.new ≤ steps.old + 2 }
+    ensures all { IfOk result (λ _. steps.new ≡ steps.old + 2) }
+{
+    let turn = turn_of(quanta, longest, queue as usize);
+    let scaled = seen(scale(alloc, beta, turn.share, steps))?;
+    seen(pos_minus(alloc, &scaled, turn.owed, steps))
+}

@@ -1,0 +1,10 @@
+//! What a service is worth to whole packets: the service less one packet.
+#![tactic(auto)]
+
+mod laws;
+mod service;
+#[cfg(test)]
+mod tests;
+
+pub use laws::packet_curve_serves;
+pub use service::packetised;

@@ -1,0 +1,34 @@
+//! The curve of whole packets.
+
+ghost use Rattle.std.specs.Prelude.{◌≡◌, ◌+◌, IfOk};
+ghost use Rattle.rational.specs.Rational.{ℚ, ◌≤ℚ◌};
+ghost use Rattle.upp_curve.specs.declared.op_kind.OpKind.TheVariants.{PosMinus};
+ghost use Rattle.upp_curve.specs.Curve.{value_at};
+ghost use Rattle.upp_curve.specs.Functions.{zero_q, IsFinite};
+ghost use Rattle.upp_curve.specs.Pointwise.{IsPositiveMinus};
+ghost use Rattle.curve_making.specs.Calls.{AppliesTo};
+
+use curve_envelope::pos_minus;
+use curve_making::seen;
+use fraction128::Frac;
+use std::alloc::Global;
+use std::sync::ledger::Ledger;
+use steps::Steps;
+use upp_curve::{Curve, OpFault};
+
+/// The service of whole packets by a server whose curve is `beta`: at each time the greater of 0 and beta less `l`,
+/// the bits of the longest packet (Le Boudec and Thiran, packetisers). beta is finite. One operator, one step; it is
+/// refused with TooWide or TooMany exactly where the operator is over that limit, else only for want of memory.
+pub fn packetised<L: Ledger>(
+    alloc: Global,
+    beta: &Curve,
+    l: Frac,
+    steps: &mut Steps<L>,
+) -> Result<Curve, OpFault>
+    requires { IsFinite (value_at beta.now) }
+    ensures answer { AppliesTo (PosMinus l) beta.now result }
+    ensures value { IfOk result (λ c. (t : ℚ) → zero_q ≤ℚ t → IsPositiveMinus (value_at beta.now) l t (value_at c t)) }
+    ensures count { steps.new ≡ steps.old + 1 }
+{
+    seen(pos_minus(alloc, beta, l, steps))
+}

@@ -1,0 +1,44 @@
+use Rattle.std.proofs.Common.{◌≡◌, ◌+◌, arith, refl}
+use Rattle.std.proofs.lemmas.Result.{err_from_is_err_and}
+use Rattle.upp_curve.specs.declared.op_kind.OpKind.TheVariants.{RunSup}
+use Rattle.curve_making.specs.Calls.{goes_on, stops}
+use Rattle.curve_making.proofs.Applied.{applied_seen, if_ok}
+use Rattle.priority_residual.proofs.PriorityCalls.{left_finite, left_nonneg, ok_service}
+use Rattle.priority_residual.proofs.service.priority_service.Goals as goal
+
+pub returns-in_err-left-clause-answer : goal.returns-in_err-left-clause-answer
+returns-in_err-left-clause-answer g c =
+    let p = err_from_is_err_and c.from_residual.result c.from_residual.ensures.1 in
+    rw (p.1, p.2) (stops c.in_err-left.field-0.0 c.in_err-left.ensures.answer refl)
+
+pub run_sup-requires-clause-finite : goal.run_sup-requires-clause-finite
+run_sup-requires-clause-finite g c =
+    left_finite c.args.beta.now c.args.higher.now c.in_ok-left.left c.args.lower c.requires c.in_ok-left.ensures.answer
+
+pub run_sup-requires-clause-nonneg : goal.run_sup-requires-clause-nonneg
+run_sup-requires-clause-nonneg g c =
+    left_nonneg c.args.beta.now c.args.higher.now c.in_ok-left.left c.args.lower c.in_ok-left.ensures.answer
+
+pub returns-clause-answer : goal.returns-clause-answer
+returns-clause-answer g c =
+    goes_on c.in_ok-left.left c.in_ok-left.ensures.answer
+    (applied_seen RunSup c.in_ok-left.left c.in_ok-left.left c.run_sup.result c.seen.result c.seen.ensures.same
+    c.run_sup.ensures.value
+    c.run_sup.ensures.limits c.seen.ensures.kept)
+
+pub returns-clause-value : goal.returns-clause-value
+returns-clause-value g c =
+    ok_service c.args.beta.now c.args.higher.now c.args.lower c.seen.result
+    (goes_on c.in_ok-left.left c.in_ok-left.ensures.answer
+    (applied_seen RunSup c.in_ok-left.left c.in_ok-left.left c.run_sup.result c.seen.result c.seen.ensures.same
+    c.run_sup.ensures.value
+    c.run_sup.ensures.limits c.seen.ensures.kept))
+
+pub returns-clause-all : goal.returns-clause-all
+returns-clause-all g c =
+    let steps : c.run_sup.new.steps ≡ c.args.steps.now + 3 = omega (
+      arith,
+      c.in_ok-left.ensures.all,
+      c.run_sup.ensures.count,
+    ) in
+    if_ok c.seen.result steps

@@ -1,0 +1,17 @@
+ghost use Rattle.priority_residual.specs.Calls.{PriorityCurveServes, PriorityIsDetermined};
+ghost use Rattle.priority_residual.specs.Laws.{PriorityServes};
+
+/// A queue of a priority server is served by what the queues before it leave, less one packet of those after it.
+pub fn priority_serves()
+    ensures { PriorityServes }
+{}
+
+/// The curve that `priority_service` answers serves the queue, in every lawful view.
+pub fn priority_curve_serves()
+    ensures { PriorityCurveServes }
+{}
+
+/// What `priority_service` answers is determined: the curve, or the limit of the first operator that is over one.
+pub fn priority_is_determined()
+    ensures { PriorityIsDetermined }
+{}

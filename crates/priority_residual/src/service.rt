@@ -1,0 +1,63 @@
+//! The curve of a priority queue's service.
+
+ghost use Rattle.std.specs.Prelude.{◌≡◌, ◌+◌, ◌≤◌, IfOk};
+ghost use Rattle.upp_curve.specs.Curve.{value_at};
+ghost use Rattle.upp_curve.specs.Functions.{IsFinite};
+ghost use Rattle.run_laws.specs.Cards.{whole};
+ghost use Rattle.priority_residual.specs.Calls.{LeavesPriority, MakesPriority};
+ghost use Rattle.priority_residual.specs.Laws.{IsPriorityService};
+
+use curve_envelope::{pos_diff, pos_minus, run_sup};
+use curve_making::seen;
+use fraction128::Frac;
+use std::alloc::Global;
+use std::sync::ledger::Ledger;
+use steps::Steps;
+use upp_curve::{Curve, OpFault};
+
+fn whole(bits: u32) -> Frac
+    ensures { result ≡ whole bits }
+{
+    Frac::from_whole(i128::from(bits))
+}
+
+// What the service has above the higher queues' curve, less one packet of the lower queues. Its first curve is let go
+// here.
+fn priority_left<L: Ledger>(
+    alloc: Global,
+    beta: &Curve,
+    higher: &Curve,
+    lower: u32,
+    steps: &mut Steps<L>,
+) -> Result<Curve, OpFault>
+    requires { IsFinite (value_at beta.now) }
+    ensures answer { LeavesPriority beta.now higher.now lower result }
+    ensures least { steps.old + 1 ≤ steps.new }
+    ensures most { steps.new ≤ steps.old + 2 }
+    ensures all { IfOk result (λ _. steps.new ≡ steps.old + 2) }
+{
+    let above = seen(pos_diff(alloc, beta, higher, steps))?;
+    seen(pos_minus(alloc, &above, whole(lower), steps))
+}
+
+/// The service of one queue of a priority server whose curve is `beta`: the running supremum of what beta has above
+/// `higher`, the curve of the queues before it, and above one packet of the queues after it, which has at most
+/// `lower` bits (Le Boudec and Thiran, non-preemptive priority). Three operators in that order, one step each; a
+/// refusal is that of the first that is over its limit, with TooWide or TooMany, or want of memory. beta is finite.
+pub fn priority_service<L: Ledger>(
+    alloc: Global,
+    beta: &Curve,
+    higher: &Curve,
+    lower: u32,
+    steps: &mut Steps<L>,
+) -> Result<Curve, OpFault>
+    requires { IsFinite (value_at beta.now) }
+    ensures answer { MakesPriority beta.now higher.now lower result }
+    ensures value { IfOk result (λ c. IsPriorityService (value_at beta.now) (value_at higher.now) lower (value_at c)) }
+    ensures least { steps.old + 1 ≤ steps.new }
+    ensures most { steps.new ≤ steps.old + 3 }
+    ensures all { IfOk result (λ _. steps.new ≡ steps.old + 3) }
+{
+    let left = priority_left(alloc, beta, higher, lower, steps)?;
+    seen(run_sup(alloc, &left, steps))
+}
