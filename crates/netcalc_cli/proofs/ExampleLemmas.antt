@@ -28,7 +28,7 @@ its_backlog : IsBacklogBound one_flow (Fin (whole 13300))
 its_backlog =
     let q = whole 12000 /ℚ whole 100 in
     let same = sent q (quotient (whole 12000) (whole 100) (nat_lt 0 100 (omega arith))) (mul_comm q (whole 100)) in
-    subst (λ (x : ℚ). IsBacklogBound one_flow (Fin x)) same 
+    subst (λ (x : ℚ). IsBacklogBound one_flow (Fin x)) same
     (backlog (whole 12000) (whole 10) (whole 100) (whole 10) (whole 12000) (nat_nonneg 12000) (nat_nonneg 10) (nat_lt 0 100 (omega arith))
     (nat_nonneg 10) (nat_nonneg 12000) (nat_le 10 100 (omega arith)))
 
