@@ -3,9 +3,10 @@ use Rattle.std.specs.Prelude.{◌≡◌, Some, true}
 use Rattle.std.proofs.Common.{arith, refl, subst}
 use Rattle.rational.specs.Rational.{ℚ, ◌+ℚ◌, ◌*ℚ◌, ◌/ℚ◌}
 use Rattle.rational.specs.declared.Extended.TheVariants.{Fin}
-use Rattle.rational.proofs.Integers.{nat_lt}
+use Rattle.rational.proofs.Integers.{nat_le, nat_lt, nat_nonneg}
 use Rattle.rational.proofs.Laws.{mul_comm}
 use Rattle.rational.proofs.Linear.{with2}
+use Rattle.upp_curve.proofs.BucketDeviations.{backlog}
 use Rattle.run_laws.specs.Cards.{whole}
 use Rattle.run_laws.proofs.Clips.{quotient}
 use Rattle.run_laws.proofs.OnePacket.{one_packet_reaches_its_bound}
@@ -18,7 +19,6 @@ use Rattle.toml.proofs.OnLiterals.{toml_on_literals}
 use Rattle.netcalc_cli.specs.Form.{form_of, form_at, server_at, service_at, arrival_at, flow_at}
 use Rattle.netcalc_cli.specs.Bounds.{IsBacklogBound}
 use Rattle.netcalc_cli.specs.Example.{one_flow_text, one_flow, OneFlowReachesItsBound}
-use Rattle.netcalc_cli.proofs.DeviationLemmas.{finite_backlog}
 
 sent : (q : ℚ) → q *ℚ whole 100 ≡ whole 12000 → q *ℚ whole 100 ≡ whole 100 *ℚ q
     → whole 12000 +ℚ whole 10 *ℚ (whole 10 +ℚ q) ≡ whole 13300
@@ -28,7 +28,9 @@ its_backlog : IsBacklogBound one_flow (Fin (whole 13300))
 its_backlog =
     let q = whole 12000 /ℚ whole 100 in
     let same = sent q (quotient (whole 12000) (whole 100) (nat_lt 0 100 (omega arith))) (mul_comm q (whole 100)) in
-    subst (λ (x : ℚ). IsBacklogBound one_flow (Fin x)) same (finite_backlog 12000 10 100 10 12000 (omega arith) (omega arith))
+    subst (λ (x : ℚ). IsBacklogBound one_flow (Fin x)) same
+    (backlog (whole 12000) (whole 10) (whole 100) (whole 10) (whole 12000) (nat_nonneg 12000) (nat_nonneg 10) (nat_lt 0 100 (omega arith))
+    (nat_nonneg 10) (nat_nonneg 12000) (nat_le 10 100 (omega arith)))
 
 is_text : is_utf8 one_flow_text ≡ true
 unfolding encode

@@ -20,7 +20,7 @@ use Rattle.netcalc_cli.specs.Bounds.{arrival_of, service_of}
 use Rattle.netcalc_cli.specs.Guarantee.{routes_of, BoundsAreGuaranteed}
 
 -- ---- a rate after a latency
-service_rises : (R T : ℚ) (g : ℚ → Ext) → zero_q ≤ℚ R → IsService R T g → IsRising g
+pub service_rises : (R T : ℚ) (g : ℚ → Ext) → zero_q ≤ℚ R → IsService R T g → IsRising g
 service_rises R T g some is s t on l =
     let less : s -ℚ T ≤ℚ t -ℚ T = with3 s t T (λ c. omega (arith, c.le, c.lt, c.same)) in
     let most = max_q_mono zero_q (s -ℚ T) zero_q (t -ℚ T) (le_refl zero_q) less in

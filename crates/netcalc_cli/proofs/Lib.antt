@@ -3,8 +3,7 @@ pub mod SpellingLemmas
 pub mod ReplyLemmas
 pub mod DoneLemmas
 pub mod TextLemmas
-pub mod BoundLemmas
-pub mod DeviationLemmas
 pub mod CurveLemmas
 pub mod GuaranteeLemmas
+pub mod BoundLemmas
 pub mod ExampleLemmas

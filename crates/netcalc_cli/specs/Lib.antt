@@ -8,3 +8,4 @@ pub mod Guarantee
 pub mod Example
 pub mod Report
 pub mod Reply
+pub mod Counts

@@ -1,5 +1,6 @@
 //! The answers: a status, and the text that is written with it.
 ghost use Rattle.std.specs.Prelude.{◌≡◌, None, Some, IfOk};
+ghost use Rattle.netcalc_cli.specs.Counts.{Counts, IsUpToThree};
 ghost use Rattle.netcalc_cli.specs.Form.{form_of};
 ghost use Rattle.netcalc_cli.specs.Reply.{cannot_read, too_long, unsupported, IsReplyOnForm};
 ghost use Rattle.netcalc_cli.specs.View.{code_of, reply_of};
@@ -9,6 +10,8 @@ use crate::report::report_of;
 use crate::tree::tree_of;
 use outside::NoMemory;
 use std::alloc::Global;
+use std::sync::ledger::Ledger;
+use steps::Steps;
 
 /// How a call ends.
 #[derive(Clone, Copy, Debug, PartialEq, Eq)]
@@ -86,9 +89,15 @@ fn unsupported(alloc: Global) -> Result<Answer, NoMemory>
     })
 }
 
-/// The answer on a file of these bytes, which are not too many.
-pub fn on_bytes(alloc: Global, bytes: &[u8]) -> Result<Answer, NoMemory>
-    ensures { IfOk result (λ r. IsReplyOnForm (form_of bytes.now) (reply_of r)) }
+/// The answer on a file of these bytes, which are not too many. Steps are counted where it is a report.
+pub fn on_bytes<L: Ledger>(
+    alloc: Global,
+    bytes: &[u8],
+    steps: &mut Steps<L>,
+) -> Result<Answer, NoMemory>
+    ensures reply { IfOk result (λ r. IsReplyOnForm (form_of bytes.now) (reply_of r)) }
+    ensures count { IfOk result (λ r. Counts (code_of r.status) steps.old steps.new) }
+    ensures steps { IsUpToThree steps.old steps.new }
 {
     let Some(root) = tree_of(alloc, bytes)? else {
         return unsupported(alloc);
@@ -96,7 +105,7 @@ pub fn on_bytes(alloc: Global, bytes: &[u8]) -> Result<Answer, NoMemory>
     match form_of(&root) {
         Some(form) => Ok(Answer {
             status: Status::Done,
-            text: report_of(alloc, &form)?,
+            text: report_of(alloc, &form, steps)?,
         }),
         None => unsupported(alloc),
     }

@@ -1,89 +1,140 @@
-//! The bounds of a server and its flow. The numbers of a form are at most 2^24, so each denominator divides a number of
-//! at most 24 bits, each numerator has at most 74 bits, and no step is too wide: that is proved where each step is
-//! unwrapped.
-ghost use Rattle.std.specs.Prelude.{◌≡◌, ◌≤◌, ◌<◌, ◌↔◌, IsTrue};
-ghost use Rattle.rational.specs.Rational.{◌+ℚ◌, ◌*ℚ◌, ◌/ℚ◌};
+//! The bounds of a server and its flow: the two deviations of their curves, by the operators of the curves. The numbers
+//! of a form are so small that no call is over a limit: that is proved at each refusal.
+ghost use Rattle.std.specs.Prelude.{◌≡◌, ◌+◌, ◌≤◌, IfOk};
+ghost use Rattle.rational.specs.Rational.{ℚ, ◌≤ℚ◌};
 ghost use Rattle.run_laws.specs.Cards.{whole};
-ghost use Rattle.netcalc_cli.specs.Bounds.{IsDelayBound, IsBacklogBound};
-ghost use Rattle.netcalc_cli.specs.Form.{largest};
+ghost use Rattle.upp_curve.specs.Curve.{value_at};
+ghost use Rattle.upp_curve.specs.Functions.{zero_q, IsFinite, IsRising};
+ghost use Rattle.upp_curve.specs.Outcome.{IsWithin};
+ghost use Rattle.upp_curve.specs.Pointwise.{packetised};
+ghost use Rattle.upp_curve.specs.Deviations.{IsHorizontalDeviation, IsVerticalDeviation};
+ghost use Rattle.form_limits.specs.FormLimits.{arrival, service, packet_service};
+ghost use Rattle.netcalc_cli.specs.Bounds.{HasBounds};
+ghost use Rattle.netcalc_cli.specs.Counts.{IsUpToThree};
 ghost use Rattle.netcalc_cli.specs.View.{form_view, IsInRange};
 
-use crate::form::{Flow, Form, Server};
+use crate::form::Form;
+use curve_deviation::{horizontal, vertical};
+use curve_lattice::pos_minus;
+use curve_library::{CurveFault, bucket, rate_latency};
 use fraction128::{Ext, Frac};
-use rational::Extended;
+use outside::NoMemory;
+use std::alloc::Global;
+use std::sync::ledger::Ledger;
+use steps::Steps;
+use upp_curve::{Curve, OpFault, OpKind};
+
+/// The largest delay of a packet, and the largest backlog of the queue.
+#[derive(Clone, Copy)]
+pub struct Bounds {
+    pub delay: Ext,
+    pub backlog: Ext,
+}
 
 /// A whole number as a fraction.
 fn whole(n: u32) -> Frac
     ensures { result ≡ whole n }
 {
-    Frac::new(n as i128, 1).unwrap()
+    Frac::from_whole(n as i128)
 }
 
-/// How long the server takes for so many bits, at its rate.
-fn work_time(bits: u32, rate: u32) -> Frac
-    requires some { 1 ≤ rate }
-    requires rate { rate ≤ largest }
-    requires bits { bits ≤ largest }
-    ensures { result ≡ whole bits /ℚ whole rate }
+/// A curve of a form is refused for want of memory alone.
+fn no_curve(fault: CurveFault) -> NoMemory
+    requires { fault ≡ CurveFault.NoMemory }
 {
-    Frac::div(whole(bits), whole(rate)).unwrap()
+    let _ = fault;
+    NoMemory
 }
 
-/// How long so many bits take at most, from the start of a busy stretch on.
-fn time_for(bits: u32, server: &Server) -> Frac
-    requires some { 1 ≤ server.now.rate }
-    requires rate { server.now.rate ≤ largest }
-    requires latency { server.now.latency ≤ largest }
-    requires bits { bits ≤ largest }
-    ensures { result ≡ whole server.now.latency +ℚ whole bits /ℚ whole server.now.rate }
+/// So is a call on such curves.
+fn no_answer(fault: OpFault) -> NoMemory
+    requires { fault ≡ OpFault.NoMemory }
 {
-    Frac::add(whole(server.latency), work_time(bits, server.rate)).unwrap()
+    let _ = fault;
+    NoMemory
 }
 
-/// What the flow sends at most up to the time that the server takes for a packet.
-fn sent_meanwhile(flow: &Flow, server: &Server) -> Frac
-    requires some { 1 ≤ server.now.rate }
-    requires rate { server.now.rate ≤ largest }
-    requires latency { server.now.latency ≤ largest }
-    requires packet { flow.now.packet ≤ largest }
-    requires flow_rate { flow.now.rate ≤ largest }
-    ensures { result ≡ whole flow.now.rate
-        *ℚ (whole server.now.latency +ℚ whole flow.now.packet /ℚ whole server.now.rate) }
+/// The most bits that the flow sends in windows of each length.
+fn arrival_of(alloc: Global, form: &Form) -> Result<Curve, NoMemory>
+    ensures { IfOk result (λ c. c ≡ arrival form.now.flow.burst form.now.flow.rate) }
 {
-    Frac::mul(whole(flow.rate), time_for(flow.packet, server)).unwrap()
+    match bucket(alloc, whole(form.flow.burst), whole(form.flow.rate)) {
+        Ok(curve) => Ok(curve),
+        Err(fault) => Err(no_curve(fault)),
+    }
 }
 
-/// Whether the flow is faster than the server, so that no number bounds its delay or its backlog.
-fn is_overloaded(form: &Form) -> bool
-    ensures { IsTrue result ↔ (form.now.server.rate < form.now.flow.rate) }
-{
-    form.server.rate < form.flow.rate
-}
-
-/// The largest delay of a packet.
-pub fn delay_of(form: &Form) -> Ext
+/// The server's least work in stretches of each length.
+fn service_of(alloc: Global, form: &Form) -> Result<Curve, NoMemory>
     requires { IsInRange form.now }
-    ensures { IsDelayBound (form_view form.now) result }
+    ensures { IfOk result (λ c. c ≡ service form.now.server.rate form.now.server.latency) }
 {
-    let (server, flow) = (&form.server, &form.flow);
-    if is_overloaded(form) {
-        return Extended::Inf;
+    match rate_latency(alloc, whole(form.server.rate), whole(form.server.latency)) {
+        Ok(curve) => Ok(curve),
+        Err(fault) => Err(no_curve(fault)),
     }
-    if flow.burst == 0 && flow.rate == 0 {
-        return Extended::Fin(whole(0));
-    }
-    Extended::Fin(time_for(flow.burst, server))
 }
 
-/// The largest backlog of the queue.
-pub fn backlog_of(form: &Form) -> Ext
-    requires { IsInRange form.now }
-    ensures { IsBacklogBound (form_view form.now) result }
+/// The same in whole packets: less the flow's longest packet.
+fn packet_service_of<L: Ledger>(
+    alloc: Global,
+    form: &Form,
+    served: &Curve,
+    steps: &mut Steps<L>,
+) -> Result<Curve, NoMemory>
+    requires range { IsInRange form.now }
+    requires served { served.now ≡ service form.now.server.rate form.now.server.latency }
+    ensures count { steps.new ≡ steps.old + 1 }
+    ensures curve { IfOk result (λ c. c ≡ packet_service form.now.server.rate form.now.server.latency form.now.flow.packet) }
+    ensures value { IfOk result (λ c. (t : ℚ) → zero_q ≤ℚ t →
+        value_at c t ≡ packetised (value_at served.now) (whole form.now.flow.packet) t) }
 {
-    let (server, flow) = (&form.server, &form.flow);
-    if is_overloaded(form) {
-        return Extended::Inf;
+    match pos_minus(alloc, served, whole(form.flow.packet), steps) {
+        Ok(curve) => {
+            let _kept = curve.tail();
+            Ok(curve)
+        }
+        Err(fault) => Err(no_answer(fault)),
     }
-    let waiting = sent_meanwhile(flow, server);
-    Extended::Fin(Frac::add(whole(flow.burst), waiting).unwrap())
+}
+
+/// How far the second curve lies behind the first, in a call within both limits.
+fn lag_of<L: Ledger>(sent: &Curve, served: &Curve, steps: &mut Steps<L>) -> Ext
+    requires within { IsWithin OpKind.Horizontal sent.now served.now }
+    requires finite { IsFinite (value_at served.now) }
+    requires rising { IsRising (value_at sent.now) × IsRising (value_at served.now) }
+    ensures count { steps.new ≡ steps.old + 1 }
+    ensures value { IsHorizontalDeviation (value_at sent.now) (value_at served.now) result }
+{
+    horizontal(sent, served, steps).unwrap()
+}
+
+/// How far the first curve lies above the second, in a call within both limits.
+fn gap_of<L: Ledger>(sent: &Curve, served: &Curve, steps: &mut Steps<L>) -> Ext
+    requires within { IsWithin OpKind.Vertical sent.now served.now }
+    requires finite { IsFinite (value_at served.now) }
+    ensures count { steps.new ≡ steps.old + 1 }
+    ensures value { IsVerticalDeviation (value_at sent.now) (value_at served.now) result }
+{
+    vertical(sent, served, steps).unwrap()
+}
+
+/// The bounds of a server and its flow. Three steps are counted: one for each of the curve less a packet and the two
+/// deviations. Refused only for want of memory.
+pub fn bounds_of<L: Ledger>(
+    alloc: Global,
+    form: &Form,
+    steps: &mut Steps<L>,
+) -> Result<Bounds, NoMemory>
+    requires { IsInRange form.now }
+    ensures bounds { IfOk result (λ b. HasBounds (form_view form.now) b.delay b.backlog) }
+    ensures count { IfOk result (λ b. steps.new ≡ steps.old + 3) }
+    ensures steps { IsUpToThree steps.old steps.new }
+{
+    let sent = arrival_of(alloc, form)?;
+    let served = service_of(alloc, form)?;
+    let packets = packet_service_of(alloc, form, &served, steps)?;
+    let delay = lag_of(&sent, &served, steps);
+    let backlog = gap_of(&sent, &packets, steps);
+    Ok(Bounds { delay, backlog })
 }

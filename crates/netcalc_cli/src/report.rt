@@ -1,15 +1,18 @@
 //! The report.
-ghost use Rattle.std.specs.Prelude.{◌≡◌, ◌++◌, IfOk, OnOk};
+ghost use Rattle.std.specs.Prelude.{◌≡◌, ◌+◌, ◌++◌, IfOk, OnOk};
 ghost use Rattle.netcalc_cli.specs.Report.{bound_text, queue_line, flow_line, report_of};
+ghost use Rattle.netcalc_cli.specs.Counts.{IsUpToThree};
 ghost use Rattle.netcalc_cli.specs.Reply.{IsReportOn};
 ghost use Rattle.netcalc_cli.specs.View.{form_view, IsInRange};
 
-use crate::bounds::{backlog_of, delay_of};
+use crate::bounds::bounds_of;
 use crate::form::Form;
 use fraction128::Ext;
 use outside::NoMemory;
 use rational::Extended;
 use std::alloc::Global;
+use std::sync::ledger::Ledger;
+use steps::Steps;
 
 fn push_text(into: &mut Vec<u8>, text: &str) -> Result<(), NoMemory>
     ensures { OnOk result (into.new.items ≡ into.old.items ++ text.now) }
@@ -72,10 +75,18 @@ fn text_of(alloc: Global, form: &Form, delay: &Ext, backlog: &Ext) -> Result<Vec
     Ok(text)
 }
 
-/// The report on a server and its flow: its numbers are the two deviations of the flow's and the server's curves.
-pub fn report_of(alloc: Global, form: &Form) -> Result<Vec<u8>, NoMemory>
+/// The report on a server and its flow: its numbers are the two deviations of the flow's and the server's curves. Three
+/// steps are counted. Refused only for want of memory.
+pub fn report_of<L: Ledger>(
+    alloc: Global,
+    form: &Form,
+    steps: &mut Steps<L>,
+) -> Result<Vec<u8>, NoMemory>
     requires { IsInRange form.now }
-    ensures { IfOk result (λ text. IsReportOn (form_view form.now) record { status = 0; bytes = text.items }) }
+    ensures report { IfOk result (λ text. IsReportOn (form_view form.now) record { status = 0; bytes = text.items }) }
+    ensures count { IfOk result (λ text. steps.new ≡ steps.old + 3) }
+    ensures steps { IsUpToThree steps.old steps.new }
 {
-    text_of(alloc, form, &delay_of(form), &backlog_of(form))
+    let bounds = bounds_of(alloc, form, steps)?;
+    text_of(alloc, form, &bounds.delay, &bounds.backlog)
 }

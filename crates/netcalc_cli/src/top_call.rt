@@ -2,6 +2,7 @@
 ghost use Rattle.std.specs.Prelude.{◌≡◌, ◌≢◌, ◌⊎◌, None, Some, IfOk, IfSome};
 ghost use Rattle.std.specs.Io.KnownBytes.{Appends};
 ghost use Rattle.rational.specs.Extended.{Ext};
+ghost use Rattle.netcalc_cli.specs.Counts.{Counts, IsUpToThree};
 ghost use Rattle.netcalc_cli.specs.Form.{Form};
 ghost use Rattle.netcalc_cli.specs.Guarantee.{Guarantees};
 ghost use Rattle.netcalc_cli.specs.Reply.{Reply, usage, cannot_read, too_long, unsupported, found_in, IsReplyOn};
@@ -21,13 +22,20 @@ const USAGE: &str =
     "netcalc: usage: netcalc analyse NET [--json], edit NET EDITS [--json], simulate NET TRACE, exercise N\n";
 
 /// The answer on a file, which is fetched first.
-fn answer_on<I: Inputs>(alloc: Global, file: &str, inputs: &mut I) -> Result<Answer, NoMemory>
-    ensures { IfOk result (λ r.
+fn answer_on<I: Inputs, L: Ledger>(
+    alloc: Global,
+    file: &str,
+    inputs: &mut I,
+    steps: &mut Steps<L>,
+) -> Result<Answer, NoMemory>
+    ensures reply { IfOk result (λ r.
         MayReplyOn I.faults I.last_fault (I.content inputs.old file.now) file.now inputs.old inputs.new (reply_of r)) }
+    ensures count { IfOk result (λ r. Counts (code_of r.status) steps.old steps.new) }
+    ensures steps { IsUpToThree steps.old steps.new }
 {
     let mut bytes = Vec::new(alloc);
     match inputs.fetch(file, &mut bytes) {
-        Ok(()) => on_bytes(alloc, &bytes),
+        Ok(()) => on_bytes(alloc, &bytes, steps),
         Err(FetchFault::TooLong) => too_long(alloc, file),
         Err(FetchFault::Failed) => cannot_read(alloc, file),
         Err(FetchFault::NoMemory) => Err(NoMemory),
@@ -106,13 +114,15 @@ pub fn run<I: Inputs, K: Sink, L: Ledger>(
         × MayReply I.content I.faults I.last_fault (net_word (texts words.now)) inputs.old inputs.new reply
         × Gives result (K.written out.old) (K.written out.new) reply }
 
-    ensures steps { steps.new ≡ steps.old }
+    // Where the report is written three steps are counted, one for each operator of the curves; where another reply is
+    // written, none; and never more than three.
+    ensures count { result ≢ 4 → result ≢ 5 → Counts result steps.old steps.new }
+    ensures steps { IsUpToThree steps.old steps.new }
 {
-    let _ = steps;
     let Some(taken) = take_words(words) else {
         return give(out, Status::Usage, USAGE.as_bytes());
     };
-    match answer_on(taken.alloc, taken.net, inputs) {
+    match answer_on(taken.alloc, taken.net, inputs, steps) {
         Ok(answer) => give(out, answer.status, &answer.text),
         Err(_) => Status::NoMemory.code(),
     }

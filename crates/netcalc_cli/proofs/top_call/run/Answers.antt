@@ -13,7 +13,7 @@ returns-in-Ok-clause-done g c zero =
     let old = g.K.Sink.written c.args.out.now in
     let new = g.K.Sink.written c.give-in-Ok.new.out in
     let is = shown g.I.Inputs.faults g.I.Inputs.last_fault told file c.args.inputs.now c.answer_on.new.inputs reply
-    c.in-Ok.ensures (sym given.0 ∙ zero) in
+    c.in-Ok.ensures.reply (sym given.0 ∙ zero) in
     rw (← c.in-Some.ensures)
     (reported told reply c.give-in-Ok.result old new is (given.0, rw c.deref.ensures.value at given.1))
 
@@ -33,4 +33,4 @@ returns-in_default-clause-answers g c four five =
 pub returns-in-Ok-clause-answers : goal.returns-in-Ok-clause-answers
 returns-in-Ok-clause-answers g c four five =
     let given = c.give-in-Ok.ensures.given four in
-    (reply_of c.in-Ok.answer, rw (← c.in-Some.ensures) c.in-Ok.ensures, (given.0, rw c.deref.ensures.value at given.1))
+    (reply_of c.in-Ok.answer, rw (← c.in-Some.ensures) c.in-Ok.ensures.reply, (given.0, rw c.deref.ensures.value at given.1))

@@ -1,0 +1,4 @@
+pub mod SmallNumbers
+pub mod SmallCurves
+pub mod SmallCalls
+pub mod PacketService
