@@ -1,3 +1,5 @@
 pub mod Laws
 pub mod Paths
 pub mod PathLaws
+pub mod Sums
+pub mod Orders
