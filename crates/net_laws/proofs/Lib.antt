@@ -5,3 +5,4 @@ pub mod Journeys
 pub mod Ends
 pub mod Sums
 pub mod Orders
+pub mod Queues

@@ -3,3 +3,4 @@ pub mod Paths
 pub mod PathLaws
 pub mod Sums
 pub mod Orders
+pub mod Queues

@@ -6,6 +6,7 @@
 ghost use Rattle.net_laws.specs.Laws.{LinkCarries, NextKeeps};
 ghost use Rattle.net_laws.specs.Orders.{KeptEverywhere};
 ghost use Rattle.net_laws.specs.PathLaws.{PathIsServed, DelayFromPathService, DelayFromHops};
+ghost use Rattle.net_laws.specs.Queues.{FlowStays, FlowLeaves};
 ghost use Rattle.net_laws.specs.Sums.{SumsAreKept};
 
 /// What arrives of a flow at a server is what left the server before, the link's time ago.
@@ -43,4 +44,15 @@ pub fn sums_are_kept()
 /// server.
 pub fn kept_everywhere()
     ensures { KeptEverywhere }
+{}
+
+/// No packet of a flow stays in a queue longer than the lesser of the queue's and the flow's horizontal deviation.
+pub fn flow_stays()
+    ensures { FlowStays }
+{}
+
+/// A flow leaves a queue with its own curve, moved by that lesser deviation, and with the deconvolution of its curve
+/// and its service, whole packets counted.
+pub fn flow_leaves()
+    ensures { FlowLeaves }
 {}
