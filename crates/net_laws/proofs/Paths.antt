@@ -27,7 +27,7 @@ passes_there : (done : List Hop) (h : Hop) (hs : List Hop) → PassesServer h.se
 passes_there [] h hs = inl refl
 passes_there (x ∷ done) h hs = inr (passes_there done h hs)
 
-after_passes : (c s : ℕ) (x : Hop) (hs : List Hop) → server_after c (x ∷ hs) ≡ Some s → PassesServer s hs
+pub after_passes : (c s : ℕ) (x : Hop) (hs : List Hop) → server_after c (x ∷ hs) ≡ Some s → PassesServer s hs
 after_passes c s x [] e = elim (cases_Bool (x.server == c)) [
   | inl f ↦ absurd (none (rw f at e))
   | inr f ↦ absurd (none (rw f at e))

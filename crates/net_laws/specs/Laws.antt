@@ -19,10 +19,12 @@ pub record IsLink (net : Routes) (i a b : ℕ) : Type 0 where
 
 -- what arrives of a flow before t has left the server before, a link's time ago
 abbrev pub LinkCarries : Type 0
-LinkCarries = (net : Routes) (run : SpecRun) (flow a b : ℕ) (t : ℚ) → IsLawful net run → IsLink net flow a b → t ≤ℚ run.end →
+LinkCarries = (net : Routes) (run : SpecRun) (flow a b : ℕ) (t : ℚ) →
+    IsLawful net run → IsLink net flow a b → t ≤ℚ run.end →
     arrived (of_flow flow) (view net run b) t ≡ departed (of_flow flow) (view net run a) (t -ℚ link_at net a)
 
 -- a flow keeps at the next server of its path the curve with which it leaves this one
 abbrev pub NextKeeps : Type 0
 NextKeeps = (net : Routes) (run : SpecRun) (flow a b : ℕ) (out : ℚ → Ext) → IsLawful net run → IsLink net flow a b →
-    ((s t : ℚ) → s ≤ℚ t → Fin (departed_in (of_flow flow) (view net run a) s t) ≤ₑ out (t -ℚ s)) → KeepsArrivals (of_flow flow) out (view net run b)
+    ((s t : ℚ) → s ≤ℚ t → Fin (departed_in (of_flow flow) (view net run a) s t) ≤ₑ out (t -ℚ s)) →
+    KeepsArrivals (of_flow flow) out (view net run b)

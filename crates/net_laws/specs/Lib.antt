@@ -1,3 +1,6 @@
 pub mod Laws
 pub mod Paths
 pub mod PathLaws
+pub mod Sums
+pub mod Orders
+pub mod Queues

@@ -12,7 +12,8 @@ use Rattle.run_laws.specs.Routes.{Routes, route_of, first_server}
 use Rattle.run_laws.specs.Views.{view}
 use Rattle.run_laws.specs.Lawful.{IsLawful}
 use Rattle.run_laws.specs.Bounds.{IsFlowBounded}
-use Rattle.net_laws.specs.Paths.{IsPath, IsServedAlong, IsWithinSplits, IsServedOver, links_along, StaysAtMost, sum_along}
+use Rattle.net_laws.specs.Paths.{IsPath, links_along}
+use Rattle.net_laws.specs.Paths.{IsServedAlong, IsWithinSplits, IsServedOver, StaysAtMost, sum_along}
 
 -- a path serves its flow by what each hop serves it
 abbrev pub PathIsServed : Type 0

@@ -19,7 +19,8 @@ use Rattle.run_laws.specs.Views.{view}
 abbrev pub IsPath : Routes → List Hop → Type 0
 IsPath net [] = Unit {0}
 IsPath net (h ∷ hs) =
-    (h.server < length net.servers) × (int (pos 0) ≤ℚ link_at net h.server) × (¬ PassesServer h.server hs) × IsPath net hs
+    (h.server < length net.servers) × (int (pos 0) ≤ℚ link_at net h.server) × (¬ PassesServer h.server hs) ×
+    IsPath net hs
 
 -- the links between the servers of a path; that of the last is not one of them
 abbrev pub links_between : Routes → List Hop → ℚ
@@ -52,11 +53,12 @@ sum_of_values (f ∷ fs) (x ∷ xs) = f x +ₑ sum_of_values fs xs
 abbrev pub IsWithinSplits : (ℚ → Ext) → List (ℚ → Ext) → Type 0
 IsWithinSplits γ fs = (xs : List ℚ) → AllNonneg xs → length xs ≡ length fs → γ (sum_of xs) ≤ₑ sum_of_values fs xs
 
--- what arrived at the first server before s has left the last before t, and since s, the links taken off, the work there
--- kept up with γ
+-- what arrived at the first server before s has left the last before t, and since s, the links taken off, the work
+-- there kept up with γ
 pub record IsServedOver (net : Routes) (run : SpecRun) (i : ℕ) (hs : List Hop) (γ : ℚ → Ext) (t s : ℚ) : Type 0 where
   pub earlier : s ≤ℚ t -ℚ links_between net hs
-  pub left : arrived (of_flow i) (view net run (first_server hs)) s ≤ℚ departed (of_flow i) (view net run (last_server hs)) t
+  pub left : arrived (of_flow i) (view net run (first_server hs)) s
+      ≤ℚ departed (of_flow i) (view net run (last_server hs)) t
   pub kept_up : (Fin (arrived (of_flow i) (view net run (first_server hs)) s) +ₑ γ (t -ℚ links_between net hs -ℚ s))
       ≤ₑ Fin (worked (of_flow i) (view net run (last_server hs)) t)
 
@@ -67,7 +69,8 @@ StaysAtMost net run i [] [] = Unit {0}
 StaysAtMost net run i [] (d ∷ ds) = ⊥
 StaysAtMost net run i (h ∷ hs) [] = ⊥
 StaysAtMost net run i (h ∷ hs) (d ∷ ds) =
-    (Fin (int (pos 0)) ≤ₑ d) × AreAtMost d (hop_delays (of_flow i) run.end (view net run h.server)) × StaysAtMost net run i hs ds
+    (Fin (int (pos 0)) ≤ₑ d) × AreAtMost d (hop_delays (of_flow i) run.end (view net run h.server)) ×
+    StaysAtMost net run i hs ds
 
 -- these numbers and the links along the path
 abbrev pub sum_along : Routes → List Hop → List Ext → Ext

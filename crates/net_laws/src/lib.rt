@@ -4,7 +4,10 @@
 #![tactic(auto)]
 
 ghost use Rattle.net_laws.specs.Laws.{LinkCarries, NextKeeps};
+ghost use Rattle.net_laws.specs.Orders.{KeptEverywhere};
 ghost use Rattle.net_laws.specs.PathLaws.{PathIsServed, DelayFromPathService, DelayFromHops};
+ghost use Rattle.net_laws.specs.Queues.{FlowStays, FlowLeaves};
+ghost use Rattle.net_laws.specs.Sums.{SumsAreKept};
 
 /// What arrives of a flow at a server is what left the server before, the link's time ago.
 pub fn link_carries()
@@ -29,4 +32,27 @@ pub fn delay_from_path_service()
 /// No packet takes longer than its flow's delays at each hop, and the links.
 pub fn delay_from_hops()
     ensures { DelayFromHops }
+{}
+
+/// What is made of packets of some numbers, as of a queue's flows, of its flows but one, or of the queues before one,
+/// keeps the sum of these numbers' curves.
+pub fn sums_are_kept()
+    ensures { SumsAreKept }
+{}
+
+/// In a network without a cycle in which each server passes its flows' curves on, all flows keep theirs at every
+/// server.
+pub fn kept_everywhere()
+    ensures { KeptEverywhere }
+{}
+
+/// No packet of a flow stays in a queue longer than the lesser of the queue's and the flow's horizontal deviation.
+pub fn flow_stays()
+    ensures { FlowStays }
+{}
+
+/// A flow leaves a queue with its own curve, moved by that lesser deviation, and with the deconvolution of its curve
+/// and its service, whole packets counted.
+pub fn flow_leaves()
+    ensures { FlowLeaves }
 {}
