@@ -1,13 +1,13 @@
 -- No packet takes longer from end to end than its path's service and its hops' delays promise.
-use Rattle.std.specs.Prelude.{Some, ◌≡◌, ◌<◌, ℕ, pos, ◌==◌, Bool, true, List, [], ◌∷◌, ◌++◌, length, All}
-use Rattle.std.proofs.Common.{arith, sym, ap, ◌∙◌, refl, inl, inr, subst, append_assoc}
+use Rattle.std.specs.Prelude.{Some, ◌≡◌, ◌<◌, ℕ, pos, ◌==◌, true, List, [], ◌∷◌, ◌++◌, length, All}
+use Rattle.std.proofs.Common.{arith, sym, ap, ◌∙◌, refl, inl, inr, subst}
 use Rattle.std.proofs.lemmas.Bool.{eqb-true, eq-eqb}
 use Rattle.rational.specs.Rational.{ℚ, int, ◌+ℚ◌, ◌-ℚ◌, ◌≤ℚ◌, ◌<ℚ◌}
 use Rattle.rational.specs.Extended.{Ext, ◌≤ₑ◌, ◌+ₑ◌}
 use Rattle.rational.specs.declared.Extended.TheVariants.{Fin, Inf}
 use Rattle.rational.proofs.Laws.{le_refl, le_trans, le_or_lt}
-use Rattle.rational.proofs.ExtendedOrder.{le_ext_trans, add_le_ext, le_ext_refl}
-use Rattle.rational.proofs.Linear.{with1, with2, with3, with4, with5, with6, with7}
+use Rattle.rational.proofs.ExtendedOrder.{le_ext_trans}
+use Rattle.rational.proofs.Linear.{with2, with3, with4, with6, with7}
 use Rattle.upp_curve.specs.Functions.{IsRising}
 use Rattle.upp_curve.specs.Deviations.{IsHorizontalDeviation}
 use Rattle.run_laws.specs.declared.steps.Step.{Step}
@@ -16,14 +16,14 @@ use Rattle.run_laws.specs.Runs.{SpecRun}
 use Rattle.run_laws.specs.Cards.{Card, Class, of_flow, ServerStep, Arrives, Works, Leaves, Visits}
 use Rattle.run_laws.specs.Servers.{start}
 use Rattle.run_laws.specs.Next.{next, after}
-use Rattle.run_laws.specs.Allows.{AllAllowed, IsLawfulView}
+use Rattle.run_laws.specs.Allows.{AllAllowed}
 use Rattle.run_laws.specs.Counts.{arrived, arrived_upto, arrived_in, worked, departed, departed_upto, departed_in}
 use Rattle.run_laws.specs.Premises.{KeepsArrivals}
 use Rattle.run_laws.specs.Delays.{gone_at, hop_delays, AreAtMost}
 use Rattle.run_laws.specs.FlowDelays.{delivered_at, delays_from, delays}
 use Rattle.run_laws.specs.Routes.{Hop, Routes, server_at, route_of, link_at, first_of, first_server, server_after, last_server}
 use Rattle.run_laws.specs.Bounds.{IsFlowBounded}
-use Rattle.run_laws.specs.Views.{Entry, entry_of, card_of, entered_after, view_from, view}
+use Rattle.run_laws.specs.Views.{Entry, card_of, view_from, view}
 use Rattle.run_laws.specs.Lawful.{Due, RunState, next_run, AllAllowedInRun, after_run, run_start, IsLawful}
 use Rattle.run_laws.proofs.Counts.{arrived_in_is, upto_arrived, departed_rises}
 use Rattle.run_laws.proofs.Delay.{delay_core, gone_most, kept_most, kept_first, kept_rest, none_above_infinity}
@@ -39,7 +39,7 @@ use Rattle.net_laws.specs.Paths.{IsPath, links_between, links_along, IsServedAlo
 use Rattle.net_laws.proofs.Links.{link_carries, link_window}
 use Rattle.net_laws.proofs.Paths.{link_of_path, rest_of_path, one_further, links_nonneg, path_is_served}
 use Rattle.net_laws.proofs.Fifo.{IsAt, work_before_gone, work_by_gone, work_before_came, arrives_in_run}
-use Rattle.net_laws.proofs.Journeys.{Since, since_start, since_next, since_both, Knows, Comes, comes_since, Onward, onward, now_gone, gone_later}
+use Rattle.net_laws.proofs.Journeys.{Since, since_start, since_next, since_both, Comes, comes_since, onward, now_gone, gone_later}
 
 -- a packet of flow i arrives at server s at u, in the whole run
 abbrev ComesIn : Routes → SpecRun → ℕ → ℕ → Entry → ℚ → Type 0

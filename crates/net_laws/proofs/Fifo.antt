@@ -2,15 +2,15 @@
 use Rattle.std.specs.Prelude.{Option, Some, None, ◌≡◌, ◌<◌, ◌≤◌, ℕ, pos, ◌==◌, Bool, true, false, ◌&&◌, List, [], ◌∷◌, ◌++◌, length}
 use Rattle.std.proofs.Common.{arith, sym, ap, ◌∙◌, refl, inl, inr, subst, append_assoc}
 use Rattle.std.proofs.lemmas.Bool.{cases_Bool, both_ways, eqb-true, eq-eqb, and_parts, and_from}
-use Rattle.rational.specs.Rational.{ℚ, int, ◌+ℚ◌, ◌-ℚ◌, ◌≤ℚ◌, ◌<ℚ◌}
+use Rattle.rational.specs.Rational.{ℚ, int, ◌+ℚ◌, ◌≤ℚ◌, ◌<ℚ◌}
 use Rattle.rational.proofs.Over.{le_q_out, le_q_in, lt_q_in}
-use Rattle.rational.proofs.Laws.{le_refl, le_trans, le_or_lt}
-use Rattle.rational.proofs.Linear.{with1, with2, with3, with4, with5, with7}
+use Rattle.rational.proofs.Laws.{le_refl, le_trans}
+use Rattle.rational.proofs.Linear.{with1, with2, with3, with5, with7}
 use Rattle.run_laws.specs.declared.steps.Step.{Step}
 use Rattle.run_laws.specs.declared.steps.Step.TheVariants.{Enter, Reach, Work, Leave, Visit}
 use Rattle.run_laws.specs.Runs.{SpecRun}
-use Rattle.run_laws.specs.Cards.{Card, size, Class, of_flow, of_queue, IsOfQueue, ServerStep, Arrives, Works, Leaves, Visits, time_of}
-use Rattle.run_laws.specs.Servers.{Server, Under, ServerState, done_at, start}
+use Rattle.run_laws.specs.Cards.{Card, size, Class, of_flow, IsOfQueue, ServerStep, Arrives, Works, Leaves, Visits, time_of}
+use Rattle.run_laws.specs.Servers.{Server, Under, done_at, start}
 use Rattle.run_laws.specs.Next.{next, after}
 use Rattle.run_laws.specs.Allows.{AllAllowed, IsLawfulView}
 use Rattle.run_laws.specs.Counts.{total, arrives, leaves, works, before, upto, within, arrived, arrived_upto, arrived_in, worked}
@@ -22,9 +22,9 @@ use Rattle.run_laws.proofs.Sums.{when_true, when_false, Each, each_map, each-app
 use Rattle.run_laws.proofs.Counts.{arrived_in_is, arrivals_nonneg}
 use Rattle.run_laws.proofs.Heads.{sum_of}
 use Rattle.run_laws.proofs.States.{IsSoundFor, IsUnderWay, sound_next, sound_after, balance_after, work_after, if_true, done_by, done_at_most}
-use Rattle.run_laws.proofs.Cuts.{before_edge, IsBefore, time_in_order, at_time}
+use Rattle.run_laws.proofs.Cuts.{before_edge, IsBefore, at_time}
 use Rattle.run_laws.proofs.Orders.{worked_arrived}
-use Rattle.run_laws.proofs.Waiting.{of_class, bits_of, class-append, class_head, sum_class, bits_nonneg, KeepsPacket, IsWaiting, allowed-append, all_upto, not_worked}
+use Rattle.run_laws.proofs.Waiting.{of_class, bits_of, class-append, class_head, sum_class, bits_nonneg, KeepsPacket, allowed-append, all_upto, not_worked}
 use Rattle.run_laws.proofs.Oldest.{departures_of, arrivals_of, queue_order}
 use Rattle.run_laws.proofs.Sizes.{size_nonneg, size_pos}
 use Rattle.run_laws.proofs.Views.{views_are_lawful}

@@ -1,23 +1,21 @@
 -- A packet along its flow's path: at each server it is gone in time, and then at the next a link later, or the run ends.
-use Rattle.std.specs.Prelude.{Option, Some, None, ◌≡◌, ◌<◌, ◌⊎◌, ℕ, suc, pos, ◌==◌, Bool, true, false, List, [], ◌∷◌, ◌++◌, length, All}
+use Rattle.std.specs.Prelude.{Option, Some, None, ◌≡◌, ◌<◌, ◌⊎◌, ℕ, suc, pos, ◌==◌, false, List, [], ◌∷◌, ◌++◌, length, All}
 use Rattle.std.proofs.Common.{arith, sym, ap, ◌∙◌, refl, inl, inr, subst, append_assoc}
 use Rattle.std.proofs.lemmas.Bool.{cases_Bool, eqb-true, eq-eqb}
-use Rattle.rational.specs.Rational.{ℚ, int, ◌+ℚ◌, ◌-ℚ◌, ◌≤ℚ◌, ◌<ℚ◌}
+use Rattle.rational.specs.Rational.{ℚ, int, ◌+ℚ◌, ◌≤ℚ◌, ◌<ℚ◌}
 use Rattle.rational.proofs.Laws.{le_refl, le_trans, le_or_lt}
-use Rattle.rational.proofs.Linear.{with2, with3, with4}
+use Rattle.rational.proofs.Linear.{with2}
 use Rattle.run_laws.specs.declared.steps.Step.{Step}
 use Rattle.run_laws.specs.declared.steps.Step.TheVariants.{Enter, Reach, Work, Leave, Visit}
-use Rattle.run_laws.specs.Runs.{SpecRun}
 use Rattle.run_laws.specs.Cards.{Card, ServerStep, Arrives, Works, Leaves, Visits}
 use Rattle.run_laws.specs.Servers.{Server, ServerState}
 use Rattle.run_laws.specs.Next.{next}
 use Rattle.run_laws.specs.Allows.{AllAllowed}
 use Rattle.run_laws.specs.Delays.{gone_at}
-use Rattle.run_laws.specs.Routes.{Routes, route_of, link_at, server_after, first_server}
-use Rattle.run_laws.specs.Views.{Entry, entry_of, hops_of, card_of, entered_after, server_of, seen, view_from, view}
-use Rattle.run_laws.specs.Lawful.{Due, RunState, same_due, without, sent, next_due, next_run, IsKnown, AllAllowedInRun, after_run}
+use Rattle.run_laws.specs.Routes.{Routes, route_of, link_at, server_after}
+use Rattle.run_laws.specs.Views.{Entry, entry_of, hops_of, card_of, entered_after, server_of, seen, view_from}
+use Rattle.run_laws.specs.Lawful.{Due, RunState, same_due, without, sent, next_run, AllAllowedInRun, after_run}
 use Rattle.run_laws.proofs.Cuts.{time_in_order}
-use Rattle.run_laws.proofs.Delay.{gone_most}
 use Rattle.run_laws.proofs.Entries.{entry_before, one_more}
 use Rattle.net_laws.proofs.Links.{same_is}
 

@@ -1,19 +1,19 @@
 -- What is made of packets of some numbers keeps the sum of their curves.
 use Rattle.std.specs.Prelude.{◌≡◌, ◌<◌, ℕ, zero, suc, pos, Bool, true, false, not, ◌&&◌, ◌==◌, List}
-use Rattle.std.proofs.Common.{arith, sym, ap, ◌∙◌, refl, inl, inr, subst}
-use Rattle.std.proofs.lemmas.Bool.{cases_Bool, cases_eq, both_ways, eqb-true, eq-eqb, ne_eqb, and_parts}
+use Rattle.std.proofs.Common.{arith, refl, inl, inr, subst}
+use Rattle.std.proofs.lemmas.Bool.{cases_Bool, cases_eq, both_ways, eq-eqb, ne_eqb, and_parts}
 use Rattle.rational.specs.Rational.{ℚ, int, ◌+ℚ◌, ◌-ℚ◌, ◌≤ℚ◌}
-use Rattle.rational.specs.Extended.{Ext, ◌≤ₑ◌, ◌+ₑ◌}
+use Rattle.rational.specs.Extended.{Ext, ◌+ₑ◌}
 use Rattle.rational.specs.declared.Extended.TheVariants.{Fin}
 use Rattle.rational.proofs.Laws.{le_refl}
 use Rattle.rational.proofs.ExtendedOrder.{le_ext_trans, add_le_ext}
-use Rattle.rational.proofs.Linear.{with1, with2}
+use Rattle.rational.proofs.Linear.{with1}
 use Rattle.run_laws.specs.Cards.{Card, Class, size, ServerStep, Arrives, Works, Leaves, Visits}
 use Rattle.run_laws.specs.Counts.{when, total, arrives, within, arrived_in}
 use Rattle.run_laws.specs.Premises.{EachArrival, KeepsArrivals}
 use Rattle.run_laws.proofs.Arrivals.{arrivals_map, same_arrivals, none_arrive}
 use Rattle.run_laws.proofs.Sizes.{size_nonneg}
-use Rattle.run_laws.proofs.Sums.{when_true, when_false, when_nonneg, each_all, total_le, total_sum, nothing}
+use Rattle.run_laws.proofs.Sums.{when_false, when_nonneg, each_all, total_le, total_sum, nothing}
 use Rattle.net_laws.specs.Sums.{sum_of_curves, with_number, IsSummed}
 
 -- the packets of a class that have another number
