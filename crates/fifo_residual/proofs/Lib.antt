@@ -1,1 +1,2 @@
 pub mod FifoLaw
+pub mod FifoCurves
