@@ -114,12 +114,18 @@ fn flows_at_a_server(rt: HostRuntime) -> Result<(), Fail> {
     Ok(())
 }
 
-fn repeating(alloc: Global, pieces: &[Piece], period: i128, rise: i128) -> Result<Curve, OpFault> {
+fn repeating(
+    alloc: Global,
+    pieces: &[Piece],
+    rank: i128,
+    period: i128,
+    rise: i128,
+) -> Result<Curve, OpFault> {
     let Ok(pieces) = Vec::from_slice(alloc, pieces) else {
         return Err(OpFault::NoMemory);
     };
     let tail = Tail::Periodic {
-        rank: Frac::zero(),
+        rank: whole(rank),
         period: whole(period),
         rise: whole(rise),
     };
@@ -193,10 +199,11 @@ fn of_gate<L: Ledger>(alloc: Global, blank: Blank) -> Result<Ext, OpFault>
     requires one { 0 < blank.parts }
 {
     let mut steps = Steps::<L>::new(blank);
-    let packets = repeating(alloc, &[piece(0, 24000, 24000, 0)], 1500, 24000)?;
+    let packets = repeating(alloc, &[piece(0, 24000, 24000, 0)], 0, 1500, 24000)?;
     let gate = repeating(
         alloc,
         &[piece(0, 0, 0, 0), piece(750, 0, -75000, 100)],
+        0,
         1000,
         25000,
     )?;
@@ -209,6 +216,39 @@ fn lags_behind_a_gate(rt: HostRuntime) -> Result<(), Fail> {
     assert!(rt;
         agrees(found, Some(990)),
         "a packet just after the gate has closed"
+    );
+    Ok(())
+}
+
+// The same packets above what that gate makes past a packet of 24000.
+fn of_late_gate<L: Ledger>(alloc: Global, blank: Blank) -> Result<Ext, OpFault>
+    requires name { blank.name ≡ L.name }
+    requires parts { blank.parts ≡ L.parts }
+    requires one { 0 < blank.parts }
+{
+    let mut steps = Steps::<L>::new(blank);
+    let packets = repeating(alloc, &[piece(0, 24000, 24000, 0)], 0, 1500, 24000)?;
+    let late = repeating(
+        alloc,
+        &[
+            piece(0, 0, 0, 0),
+            piece(990, 0, -99000, 100),
+            piece(1000, 1000, 1000, 0),
+            piece(1750, 1000, -174000, 100),
+        ],
+        990,
+        1000,
+        25000,
+    )?;
+    deviation(&packets, &late, &mut steps)
+}
+
+#[test]
+fn packets_above_a_late_gate(rt: HostRuntime) -> Result<(), Fail> {
+    let found = of_late_gate::<Brand>(rt.alloc(), Blank::new(1))?;
+    assert!(rt;
+        agrees(found, Some(47000)),
+        "the second packet, before the gate opens again"
     );
     Ok(())
 }
