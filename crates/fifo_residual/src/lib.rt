@@ -2,8 +2,20 @@
 #![tactic(auto)]
 
 ghost use Rattle.fifo_residual.specs.Laws.{FifoServes};
+ghost use Rattle.fifo_residual.specs.Curves.{FifoCurveServes};
+
+mod service;
+#[cfg(test)]
+mod tests;
+
+pub use service::fifo_service;
 
 /// A flow of a queue is served by what the others leave, whatever theta.
 pub fn fifo_serves()
     ensures { FifoServes }
+{}
+
+/// The curve that `fifo_service` answers serves the flow, in every lawful view.
+pub fn fifo_curve_serves()
+    ensures { FifoCurveServes }
 {}

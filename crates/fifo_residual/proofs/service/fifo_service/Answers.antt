@@ -1,0 +1,9 @@
+use Rattle.upp_curve.specs.declared.op_kind.OpKind.TheVariants.{FifoLeft}
+use Rattle.curve_making.proofs.Applied.{applied_seen}
+use Rattle.fifo_residual.proofs.service.fifo_service.Goals as goal
+
+pub returns-clause-answer : goal.returns-clause-answer
+returns-clause-answer g c =
+    applied_seen (FifoLeft c.args.theta) c.args.beta.now c.args.cross.now c.fifo_left.result c.seen.result
+    c.seen.ensures.same c.fifo_left.ensures.value
+    c.fifo_left.ensures.limits c.seen.ensures.kept
