@@ -1,2 +1,3 @@
 pub mod FifoLaw
 pub mod FifoCurves
+pub mod TestStarts

@@ -5,6 +5,8 @@ ghost use Rattle.fifo_residual.specs.Laws.{FifoServes};
 ghost use Rattle.fifo_residual.specs.Curves.{FifoCurveServes};
 
 mod service;
+#[cfg(test)]
+mod tests;
 
 pub use service::fifo_service;
 
