@@ -5,5 +5,5 @@ use Rattle.fifo_residual.proofs.FifoLaw.{fifo_serves}
 
 pub curve_serves : FifoCurveServes
 curve_serves server end view Q f others queue β cross c θ made lawful of_queue parts keeps serves nonneg =
-    fifo_serves server end view Q f others queue (value_at β) (value_at cross) (value_at c) θ lawful of_queue parts keeps
-    serves nonneg made.made.answers
+    fifo_serves server end view Q f others queue (value_at β) (value_at cross) (value_at c) θ lawful of_queue parts
+    keeps serves nonneg made.made.answers

@@ -12,8 +12,8 @@ use Rattle.run_laws.specs.Premises.{KeepsArrivals}
 use Rattle.run_laws.specs.Serves.{Serves}
 use Rattle.curve_making.specs.Calls.{Applies}
 
--- the queue Q is the flow f and the others, which keep the curve `cross`; beta serves Q: the curve c that the call makes
--- of beta and cross serves f
+-- the queue Q is the flow f and the others, which keep the curve `cross`; beta serves Q: the curve c that the call
+-- makes of beta and cross serves f
 abbrev pub FifoCurveServes : Type 0
 FifoCurveServes = (server : Server) (end : ℚ) (view : List ServerStep) (Q f others : Class) (queue : ℕ)
     (β cross c : SpecCurve) (θ : Ext) → Applies (FifoLeft θ) β cross (Ok c) →
