@@ -4,3 +4,4 @@ pub mod ScaleCall
 pub mod LeftWindow
 pub mod ShiftCall
 pub mod Nowhere
+mod NotBelow

@@ -2,6 +2,8 @@
 //! Sums, multiples and shifts are made here; the others are handed on.
 #![tactic(auto)]
 
+#[cfg(test)]
+mod operator_tests;
 mod scaling;
 mod shifts;
 mod sums;
