@@ -124,13 +124,13 @@ minus_meets : (R T l : ℕ) → 1 ≤ R → steady (service R T) ≡ int (pos T)
     → Meets (PosMinus (int (pos l))) (service R T) (service R T) l
 minus_meets R T l some from every speed =
     let g = service R T in
-    let R0 = nat_nonneg R in
+    let R_nonneg = nat_nonneg R in
     record {
-      first = λ slow. absurd (no_slower (rate g) (int (pos R)) speed R0 slow);
+      first = λ slow. absurd (no_slower (rate g) (int (pos R)) speed R_nonneg slow);
       second = λ fast t late early.
           let past = subst (λ s. s ≤ℚ t) (minus_end g T l from every) late in
           let on = le_trans (nat_nonneg (T + l)) past in
-          subst (λ v. Fin (int (pos l)) ≤ₑ v) (sym ((service_is (int (pos R)) (int (pos T)) R0 (nat_nonneg T)).is t on)) (work_after R T l t some past);
+          subst (λ v. Fin (int (pos l)) ≤ₑ v) (sym ((service_is (int (pos R)) (int (pos T)) R_nonneg (nat_nonneg T)).is t on)) (work_after R T l t some past);
     }
   where
     no_slower : (v : Ext) (x : ℚ) → v ≡ Fin x → zero_q ≤ℚ x → v <ₑ Fin zero_q → ⊥
@@ -167,9 +167,9 @@ none_sent b r t none on =
 
 none_served : (R T : ℕ) (t : ℚ) → t ≡ int (pos T) → value_at (service R T) t ≡ Fin zero_q
 none_served R T t e =
-    let T0 = nat_nonneg T in
+    let T_nonneg = nat_nonneg T in
     let gap : int (pos T) -ℚ int (pos T) ≡ zero_q = with1 (int (pos T)) (λ c. omega (arith, c.le, c.lt, c.same)) in
-    ap (value_at (service R T)) e ∙ (service_is (int (pos R)) (int (pos T)) (nat_nonneg R) T0).is (int (pos T)) T0
+    ap (value_at (service R T)) e ∙ (service_is (int (pos R)) (int (pos T)) (nat_nonneg R) T_nonneg).is (int (pos T)) T_nonneg
     ∙ ap Fin (ap (λ x. int (pos R) *ℚ max_q zero_q x) gap ∙ ap (λ x. int (pos R) *ℚ x) (max_q_right zero_q zero_q (le_refl zero_q)) ∙ mul_zero (int (pos R)))
 
 module _ (b r R T : ℕ) (some : 1 ≤ R) (F : IsSmallCurve 1 zero_q (int (pos r)) (arrival b r)) (G : IsSmallCurve 1 (int (pos T)) (int (pos R)) (service R T)) where
@@ -235,7 +235,7 @@ quotient_most l R some =
 pub latency_nonneg : (R T l : ℕ) → 1 ≤ R → zero_q ≤ℚ packet_latency R T l
 latency_nonneg R T l some =
     let q = div_nonneg (int (pos l)) (int (pos R)) (nat_lt 0 R some) (nat_nonneg l) in
-    let T0 = nat_nonneg T in
+    let T_nonneg = nat_nonneg T in
     with2 (int (pos T)) (int (pos l) /ℚ int (pos R)) (λ c. omega (arith, c.le, c.lt, c.same))
 
 latency_early : (R T l : ℕ) → 1 ≤ R → T ≤ largest → l ≤ largest → packet_latency R T l ≤ℚ int (pos (2 ^ 25))
@@ -250,19 +250,19 @@ latency_early R T l some late long =
 
 pub form_calls_are_within : FormCallsAreWithin
 form_calls_are_within b r R T l n =
-    let R0 = nat_lt 0 R n.divides in
+    let R_nonneg = nat_lt 0 R n.divides in
     let speed = small_whole R n.rate in
     let fast = small_whole r n.flow_rate in
     let burst = small_whole b n.burst in
     let x = packet_latency R T l in
     let x0 = latency_nonneg R T l n.divides in
     let grid : Whole R x = whole_add R (int (pos T)) (int (pos l) /ℚ int (pos R)) (whole_int R (pos T)) (quotient_whole l R n.divides) in
-    let G = service_small 1 (int (pos R)) (int (pos T)) R0 (nat_nonneg T) (whole_int 1 (pos T)) speed in
+    let G = service_small 1 (int (pos R)) (int (pos T)) R_nonneg (nat_nonneg T) (whole_int 1 (pos T)) speed in
     let F = bucket_small 1 (int (pos b)) (int (pos r)) burst fast in
     record {
       own = own_within 1 (service R T) (int (pos T)) (int (pos R)) (omega arith) (omega arith) (whole_int 1 (pos T)) (nat_le T (2 ^ 25) (let h = n.latency in omega (arith, h))) G;
       minus = minus_within R T l n.divides n.latency n.packet G;
       horizontal = horizontal_within b r R T n.divides F G n.latency n.burst n.flow_rate;
       vertical = vertical_within R (arrival b r) (packet_service R T l) x (int (pos r)) (int (pos R)) n.divides n.rate grid x0 (latency_early R T l n.divides n.latency n.packet)
-          (bucket_small R (int (pos b)) (int (pos r)) burst fast) (service_small R (int (pos R)) x R0 x0 grid speed);
+          (bucket_small R (int (pos b)) (int (pos r)) burst fast) (service_small R (int (pos R)) x R_nonneg x0 grid speed);
     }
