@@ -99,3 +99,7 @@ pub mod Joins
 pub mod AnswerRoom
 pub mod UnrolledCounts
 pub mod SamePieces
+pub mod NextStarts
+pub mod LimitTests
+pub mod Repeating
+pub mod UnrolledReads

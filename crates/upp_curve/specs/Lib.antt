@@ -41,7 +41,10 @@ pub mod CallNumbers
 pub mod Unrolling
 pub mod Ahead
 pub mod Copied
+pub mod LimitTest
 pub mod OwnLimits
+pub mod Repeating
+pub mod GaugeLaws
 pub mod Bends
 pub mod Given
 pub mod Continuity
