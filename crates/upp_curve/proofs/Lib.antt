@@ -13,6 +13,7 @@ pub mod Unrolled
 pub mod Below
 pub mod Crossing
 pub mod Unambiguous
+pub mod DeviationSigns
 pub mod KindValues
 pub mod ReadableKinds
 pub mod BucketDelay

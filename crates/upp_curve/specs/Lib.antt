@@ -12,6 +12,7 @@ pub mod Pointwise
 pub mod Running
 pub mod Convolution
 pub mod Deviations
+pub mod DeviationSigns
 pub mod Kinds
 pub mod Service
 pub mod BucketBounds

@@ -4,6 +4,7 @@ ghost use Rattle.upp_curve.specs.Normal.{NormalFormIsUnique};
 ghost use Rattle.upp_curve.specs.PieceLaws.{PiecesAreCounted, SpansAreUnrolled};
 ghost use Rattle.upp_curve.specs.GaugeLaws.{GaugeNeverFalls};
 ghost use Rattle.upp_curve.specs.Deviations.{DeviationsAreUnique};
+ghost use Rattle.upp_curve.specs.DeviationSigns.{HorizontalsAreNonnegative, VerticalsAreNonnegative};
 ghost use Rattle.upp_curve.specs.BucketBounds.{BucketDeviations};
 ghost use Rattle.upp_curve.specs.WorkedRows.{StairRows, GateRows, BucketRows, RateLatencyRows, MinimumRows};
 ghost use Rattle.upp_curve.specs.WorkedRows.{RunningRows, ConvolutionRows};
@@ -32,6 +33,13 @@ pub fn gauge_never_falls()
 /// Two functions have one horizontal and one vertical deviation.
 pub fn deviations_are_unique()
     ensures { DeviationsAreUnique }
+{}
+
+/// A horizontal deviation of any two functions is at least 0; and so is a vertical one of a first function that at 0 is
+/// at least the second.
+pub fn deviations_are_nonnegative()
+    ensures horizontal { HorizontalsAreNonnegative }
+    ensures vertical { VerticalsAreNonnegative }
 {}
 
 /// The delay and the backlog of a token bucket at a rate after a latency, by their formulas.
