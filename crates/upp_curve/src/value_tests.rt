@@ -1,6 +1,7 @@
 //! Values of a curve past its rank, and how it goes on there, worked out by hand.
 
-ghost use Rattle.std.specs.Prelude.{IsTrue};
+ghost use Rattle.std.specs.Prelude.{◌≡◌, pos, IsTrue};
+ghost use Rattle.rational.specs.Rational.{int};
 ghost use Rattle.upp_curve.specs.Ahead.{IsOverBy};
 
 use crate::limit_tests::{ratio, teeth};
@@ -41,18 +42,23 @@ fn values_past_the_rank(rt: HostRuntime) -> Result<(), Fail> {
     Ok(())
 }
 
-// Whether c has started all its pieces, and ended a first period, by `end`.
+// Whether c repeats, and has ended a first period before `end`.
 fn is_over(c: &Curve, end: Frac) -> bool
     ensures { IsTrue result → IsOverBy end c.now.tail }
 {
     match *c.tail() {
         Tail::Periodic { rank, period, .. } => match Frac::add(rank, period) {
-            Ok(over) => !is_less(end, over),
+            Ok(over) => is_less(over, end),
             Err(_) => false,
         },
-        Tail::Affine { rank } => is_less(rank, end),
-        Tail::Infinite { rank } => is_less(rank, end),
+        _ => false,
     }
+}
+
+fn count(n: u32) -> Frac
+    ensures { result ≡ int (pos n) }
+{
+    Frac::from_whole(i128::from(n))
 }
 
 // How c goes on from a whole number, within a window that ends at `end`.
@@ -61,7 +67,7 @@ fn stretch(c: &Curve, n: u32, end: Frac) -> Option<Stretch> {
     let Some(size) = gauge(OpKind::Itself, c, c, Some(end)) else {
         return None;
     };
-    let t = Frac::from_whole(i128::from(n));
+    let t = count(n);
     if size >= 1 << 120 {
         return None;
     }
