@@ -19,17 +19,6 @@ use Rattle.curve_conv.specs.SumWindows.{SumWindow}
 use Rattle.curve_conv.specs.Arches.{Arches}
 use Rattle.curve_window.proofs.TailGrids.{TailOf}
 
--- the unrolled pieces of two operands of one call, below the end of its window, and how far past a time the first is read
-pub record OperandWindows (end reach : ℚ) (f g : List Piece) : Type 0 where
-  pub sizes : Sizes
-  pub limited : AreLimited sizes end
-  pub some : int (pos 0) <ℚ reach
-  pub early : reach <ℚ end
-  pub whole : Whole sizes.dt reach
-  pub left : OperandPieces sizes end f
-  pub right : OperandPieces sizes end g
-  pub after : Each (λ p. ValueStands sizes (line_value p.line p.x)) g
-
 -- ---- pairs of times
 -- a time u from 0 on and before `reach` at which g is finite, and f at t + u
 pub record EarlyPair (f g : ℚ → Ext) (reach t : ℚ) : Type 0 where
@@ -69,13 +58,32 @@ pub record IsInfiniteFrom (f : ℚ → Ext) (t end : ℚ) : Type 0 where
 abbrev pub IsFiniteFrom : (ℚ → Ext) → ℚ → ℚ → Type 0
 IsFiniteFrom f t end = (s : ℚ) → t ≤ℚ s → s <ℚ end → (v : ℚ) × (f s ≡ Fin v)
 
+-- ---- the operands
+-- the unrolled pieces of two operands of one call, below the end of its window, and how far past a time the first is read
+pub record OperandWindows (end reach : ℚ) (f g : List Piece) : Type 0 where
+  pub sizes : Sizes
+  pub limited : AreLimited sizes end
+  pub some : int (pos 0) <ℚ reach
+  pub early : reach <ℚ end
+  pub whole : Whole sizes.dt reach
+  pub left : OperandPieces sizes end f
+  pub right : OperandPieces sizes end g
+  pub after : Each (λ p. ValueStands sizes (line_value p.line p.x)) g
+  pub finite : IsFiniteFrom (read g) (int (pos 0)) reach
+
+-- ---- what is read
 -- infinity where f is, and else the least of the pairs
 abbrev pub IsRaised : (ℚ → Ext) → (ℚ → Ext) → ℚ → ℚ → ℚ → Ext → Type 0
 IsRaised f g reach end t v = IsInfiniteFrom f t end × (v ≡ Inf) ⊎ IsFiniteFrom f t end × IsLeastPair f g reach t v
 
--- infinity where f is, and else the supremum
+-- infinity where f is, and else the supremum, which is a number
+pub record IsNumberedSupremum (f g : ℚ → Ext) (reach t : ℚ) (v : Ext) : Type 0 where
+  pub supremum : IsEarlySupremum f g reach t v
+  pub level : ℚ
+  pub is : v ≡ Fin level
+
 abbrev pub IsReached : (ℚ → Ext) → (ℚ → Ext) → ℚ → ℚ → ℚ → Ext → Type 0
-IsReached f g reach end t v = IsInfiniteFrom f t end × (v ≡ Inf) ⊎ IsFiniteFrom f t end × IsEarlySupremum f g reach t v
+IsReached f g reach end t v = IsInfiniteFrom f t end × (v ≡ Inf) ⊎ IsFiniteFrom f t end × IsNumberedSupremum f g reach t v
 
 -- ---- windows
 -- pieces from 0 on that stand where what elements make stands, and bend only downwards between the times of the grid
@@ -99,5 +107,5 @@ pub record IsDeconvolutionWindow (end reach : ℚ) (f g ps : List Piece) : Type 
   pub reads : (t : ℚ) → int (pos 0) ≤ℚ t → t +ℚ reach <ℚ end → IsReached (read f) (read g) reach end t (read ps t)
   pub before : Each (λ p. p.x +ℚ reach <ℚ end) ps
   pub room : (r : OperandWindows end reach f g) → Each (PieceHasRoom (answer_room r.sizes end) 1) ps
-  pub grids : (r : OperandWindows end reach f g) (from period rise : ℚ) → TailOf r.sizes end (from +ℚ reach) period (neg_ℚ rise)
+  pub grids : (r : OperandWindows end reach f g) (from period rise : ℚ) → int (pos 0) ≤ℚ from → TailOf r.sizes end (from +ℚ reach) period (neg_ℚ rise)
       → OnGridsUnlessLine r.sizes.dt (grid_of r.sizes) (repeated (read ps) from period rise) from period rise

@@ -40,5 +40,9 @@ zero_line = record { icept = int (pos 0); slope = int (pos 0) }
 abbrev pub mark_after : ℚ → Ext → Piece
 mark_after x at = record { x = x; at = at; line = Some zero_line }
 
+-- where x is before `end`
+abbrev pub after_pieces : ℚ → Ext → ℚ → List Piece
+after_pieces x at end = cond (lt_q x end) (mark_after x at ∷ []) []
+
 abbrev pub mark_pieces : Last → ℚ → ℚ → List Piece
-mark_pieces last reach end = nothing_yet ∷ cond (lt_q (last.until +ℚ reach) end) (mark_after (last.until +ℚ reach) last.at ∷ []) []
+mark_pieces last reach end = nothing_yet ∷ after_pieces (last.until +ℚ reach) last.at end

@@ -49,10 +49,10 @@ abbrev pub BackFits : ℚ → Ext → Type 0
 BackFits reach Inf = Unit {0}
 BackFits reach (Fin t) = SumFits reach (neg_ℚ t)
 
-pub record SegmentBackFits (reach from : ℚ) (to : Ext) (line : Line) : Type 0 where
+pub record SegmentBackFits (reach from : ℚ) (to : Ext) (l : Line) : Type 0 where
   pub start : SumFits reach (neg_ℚ from)
   pub until : BackFits reach to
-  pub line : LineFitsAt reach (Some line)
+  pub line : LineFitsAt reach (Some l)
 
 abbrev pub MirrorFits : ℚ → Element → Type 0
 MirrorFits reach (Point x v) = SumFits reach (neg_ℚ x)

@@ -1,8 +1,8 @@
 //! Where a function is infinite last.
 
-ghost use Rattle.std.specs.Prelude.{◌≡◌, ◌+◌, ◌<◌, length, drop, IfOk};
+ghost use Rattle.std.specs.Prelude.{◌≡◌, ◌+◌, ◌<◌, ◌++◌, length, drop, OnOk, IfOk};
 ghost use Rattle.rational.specs.Ratio.{SumFits};
-ghost use Rattle.curve_deconv.specs.Marks.{last_step, last_of, first_last, next_time, mark_pieces};
+ghost use Rattle.curve_deconv.specs.Marks.{last_step, last_of, first_last, next_time, after_pieces, mark_pieces};
 
 use affine_segment::{Line, Piece};
 use fraction128::{Ext, Frac};
@@ -64,6 +64,26 @@ pub fn last_infinite(pieces: &[Piece], end: Frac) -> Last
     last
 }
 
+// The piece at x, where that is before `end`.
+fn push_after(pieces: &mut Vec<Piece>, x: Frac, at: Ext, end: Frac) -> Result<(), AllocError>
+    ensures { OnOk result (pieces.new.items ≡ pieces.old.items ++ after_pieces x at end) }
+{
+    match x.cmp(&end) {
+        Ordering::Less => {
+            pieces.push(Piece {
+                x,
+                at,
+                line: Some(Line {
+                    icept: Frac::zero(),
+                    slope: Frac::zero(),
+                }),
+            })?;
+            Ok(())
+        }
+        _ => Ok(()),
+    }
+}
+
 /// Pieces that read infinity up to `reach` after that time, and 0 after it, before `end`.
 pub fn mark_pieces(
     alloc: Global,
@@ -81,16 +101,6 @@ pub fn mark_pieces(
         line: None,
     })?;
     let x = sum(last.until, reach);
-    match x.cmp(&end) {
-        Ordering::Less => pieces.push(Piece {
-            x,
-            at: last.at,
-            line: Some(Line {
-                icept: Frac::zero(),
-                slope: Frac::zero(),
-            }),
-        })?,
-        _ => {}
-    }
+    push_after(&mut pieces, x, last.at, end)?;
     Ok(pieces)
 }

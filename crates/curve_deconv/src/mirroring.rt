@@ -1,8 +1,6 @@
 //! Elements turned over, and mirrored in time.
 
-ghost use Rattle.std.specs.Prelude.{◌≡◌, map, IfOk};
-ghost use Rattle.rational.specs.Rational.{◌-ℚ◌, neg_ℚ};
-ghost use Rattle.rational.specs.Ratio.{SumFits};
+ghost use Rattle.std.specs.Prelude.{◌≡◌, map, Some, IfOk};
 ghost use Rattle.upp_curve.specs.Readable.{LineFitsAt};
 ghost use Rattle.curve_deconv.specs.Mirrored.{neg_ext, neg_line, neg_option, neg_element, neg_piece};
 ghost use Rattle.curve_deconv.specs.Mirrored.{back, mirror_line, mirror, MirrorFits, BackFits, EachElement};
@@ -97,7 +95,7 @@ fn back(reach: Frac, to: Ext) -> Frac
 }
 
 fn mirrored_line(reach: Frac, line: Line) -> Line
-    requires { LineFitsAt reach (Option.Some line) }
+    requires { LineFitsAt reach (Some line) }
     ensures { result ≡ mirror_line reach line }
 {
     Line {

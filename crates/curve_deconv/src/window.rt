@@ -45,7 +45,8 @@ fn raised_window(
     ensures { IfOk result (λ v. IsRaisedWindow end reach f.now g.now v.items) }
 {
     let pairs = pairs_window(alloc, f, g, reach, end)?;
-    let marks = mark_pieces(alloc, last_infinite(f, end), reach, end)?;
+    let last = last_infinite(f, end);
+    let marks = mark_pieces(alloc, last, reach, end)?;
     window_sum(alloc, &pairs, &marks)
 }
 
