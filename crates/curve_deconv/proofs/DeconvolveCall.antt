@@ -1,14 +1,14 @@
 -- A call of the deconvolution within both limits, where the first curve is not the faster: its times, its operands' pieces, its answer and
 -- the answer's values.
-use Rattle.std.specs.Prelude.{◌≡◌, ℕ, ◌+◌, ◌^◌, pos, List}
+use Rattle.std.specs.Prelude.{◌≡◌, pos, List}
 use Rattle.std.proofs.Common.{arith, sym, ap, ap₂, ◌∙◌, refl, subst, inl, inr}
-use Rattle.rational.specs.Rational.{ℚ, ◌+ℚ◌, ◌-ℚ◌, ◌*ℚ◌, ◌≤ℚ◌, ◌<ℚ◌, neg_ℚ, int}
+use Rattle.rational.specs.Rational.{ℚ, ◌+ℚ◌, ◌-ℚ◌, ◌≤ℚ◌, ◌<ℚ◌, neg_ℚ, int}
 use Rattle.rational.specs.Ratio.{SumFits}
 use Rattle.rational.specs.Grid.{Whole}
 use Rattle.rational.specs.Extended.{Ext, ◌≤ₑ◌, ◌<ₑ◌, ◌+ₑ◌, ◌-ₑ◌}
-use Rattle.rational.specs.declared.Extended.TheVariants.{Fin, Inf}
+use Rattle.rational.specs.declared.Extended.TheVariants.{Fin}
 use Rattle.rational.proofs.Grid.{whole_sub, whole_add, whole_neg, within_weaken}
-use Rattle.rational.proofs.Linear.{with2, with3, with4, with5, with6}
+use Rattle.rational.proofs.Linear.{with2, with3, with4, with5}
 use Rattle.rational.proofs.MinMax.{max_q_ge_left, max_q_ge_right}
 use Rattle.rational.proofs.Laws.{le_refl, le_trans, le_of_lt, lt_trans, one_mul}
 use Rattle.rational.proofs.ExtendedOrder.{same_le_ext}
@@ -48,9 +48,9 @@ use Rattle.curve_frame.proofs.Answering.{answer_relation}
 use Rattle.curve_frame.proofs.CallTimes.{first_stands, second_stands}
 use Rattle.curve_frame.proofs.CurveTimes.{IsPeriod, one_later, own_or_on, steady_nonneg, steady_whole}
 use Rattle.curve_frame.proofs.CurveRises.{IsRise, rise_is, common_first, common_second}
-use Rattle.curve_frame.proofs.FrameFacts.{FrameFacts, frame_facts}
+use Rattle.curve_frame.proofs.FrameFacts.{frame_facts}
 use Rattle.curve_frame.proofs.Operands.{unrolled_pieces}
-use Rattle.curve_deconv.specs.DeconvolutionWindows.{OperandWindows, IsDeconvolutionWindow, IsReached, IsInfiniteFrom, IsFiniteFrom, IsNumberedSupremum, EarlyTime}
+use Rattle.curve_deconv.specs.DeconvolutionWindows.{OperandWindows, IsDeconvolutionWindow, IsReached}
 use Rattle.curve_deconv.proofs.MirroredRoom.{back_fits}
 use Rattle.curve_deconv.proofs.Reduced.{AreRepeating, reduced, moves}
 use Rattle.curve_deconv.proofs.Slower.{slower_rise, repeats_from}
@@ -283,28 +283,31 @@ agree : (f g p q : ℚ → Ext) (reach end t : ℚ) (v : Ext) → ((s : ℚ) →
     → int (pos 0) ≤ℚ t → t +ℚ reach <ℚ end → IsReached p q reach end t v → IsReached f g reach end t v
 agree f g p q reach end t v F G short low early (inl (I, e)) = inl (record { at = I.at; late = I.late; early = I.early; top = sym (F I.at (le_trans low I.late) I.early) ∙ I.top }, e)
 agree f g p q reach end t v F G short low early (inr (A, S)) =
-    inr (λ s a b. let (x, e) = A s a b in (x, sym (F s (le_trans low a) b) ∙ e), record {
-      supremum = record {
-        above = λ u.
-            let at = u.at in
-            let n = u.nonneg in
-            let m = u.before in
-            let there : t +ℚ at <ℚ end = with4 t at reach end (λ c. omega (arith, c.le, c.lt, c.same)) in
-            let nonneg : int (pos 0) ≤ℚ t +ℚ at = with2 t at (λ c. omega (arith, c.le, c.lt, c.same)) in
-            subst (λ x. x -ₑ u.level ≤ₑ v) (F (t +ℚ at) nonneg there)
-            (S.supremum.above record { at = at; nonneg = n; before = m; level = u.level; is = G at n (lt_trans m short) ∙ u.is });
-        near = λ y l.
-            let (u, k) = S.supremum.near y l in
-            let at = u.at in
-            let n = u.nonneg in
-            let m = u.before in
-            let there : t +ℚ at <ℚ end = with4 t at reach end (λ c. omega (arith, c.le, c.lt, c.same)) in
-            let nonneg : int (pos 0) ≤ℚ t +ℚ at = with2 t at (λ c. omega (arith, c.le, c.lt, c.same)) in
-            (record { at = at; nonneg = n; before = m; level = u.level; is = sym (G at n (lt_trans m short)) ∙ u.is }, subst (λ x. Fin y <ₑ x -ₑ u.level) (F (t +ℚ at) nonneg there) k);
-      };
-      level = S.level;
-      is = S.is;
-    })
+    inr (
+      λ s a b. let (x, e) = A s a b in (x, sym (F s (le_trans low a) b) ∙ e),
+      record {
+        supremum = record {
+          above = λ u.
+              let at = u.at in
+              let n = u.nonneg in
+              let m = u.before in
+              let there : t +ℚ at <ℚ end = with4 t at reach end (λ c. omega (arith, c.le, c.lt, c.same)) in
+              let nonneg : int (pos 0) ≤ℚ t +ℚ at = with2 t at (λ c. omega (arith, c.le, c.lt, c.same)) in
+              subst (λ x. x -ₑ u.level ≤ₑ v) (F (t +ℚ at) nonneg there)
+              (S.supremum.above record { at = at; nonneg = n; before = m; level = u.level; is = G at n (lt_trans m short) ∙ u.is });
+          near = λ y l.
+              let (u, k) = S.supremum.near y l in
+              let at = u.at in
+              let n = u.nonneg in
+              let m = u.before in
+              let there : t +ℚ at <ℚ end = with4 t at reach end (λ c. omega (arith, c.le, c.lt, c.same)) in
+              let nonneg : int (pos 0) ≤ℚ t +ℚ at = with2 t at (λ c. omega (arith, c.le, c.lt, c.same)) in
+              (record { at = at; nonneg = n; before = m; level = u.level; is = sym (G at n (lt_trans m short)) ∙ u.is }, subst (λ x. Fin y <ₑ x -ₑ u.level) (F (t +ℚ at) nonneg there) k);
+        };
+        level = S.level;
+        is = S.is;
+      },
+    )
 
 -- the deconvolution at t; a number where the first curve is finite
 pub record IsAnswerAt (f g : ℚ → Ext) (t : ℚ) (v : Ext) : Type 0 where

@@ -200,10 +200,13 @@ mark_last f end r L = record {
   before = λ t a b. let k = L.before t b in record { at = k.at; late = k.late; early = k.early; top = k.top };
   at = elim L.at [
     | inl k ↦ inl (k.0, record { at = r.until; late = le_refl r.until; early = k.2; top = k.1 })
-    | inr k ↦ inr (k.0, λ s a b. elim (same_or_past r.until s a) [
-      | inl e ↦ subst (λ w. IsLevel (f w)) (sym e) (k.1 (subst (λ w. w <ℚ end) e b))
-      | inr l ↦ L.after s l b
-    ])
+    | inr k ↦ inr (
+      k.0,
+      λ s a b. elim (same_or_past r.until s a) [
+        | inl e ↦ subst (λ w. IsLevel (f w)) (sym e) (k.1 (subst (λ w. w <ℚ end) e b))
+        | inr l ↦ L.after s l b
+      ],
+    )
   ];
   after = λ t l s a b. L.after s (lt_le_trans l a) b;
 }

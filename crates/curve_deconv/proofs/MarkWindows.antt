@@ -1,7 +1,6 @@
 -- The pieces that mark how long the first operand is infinite: what they read, that they stand where what elements make stands, and what
 -- their sum with such a window is.
 use Rattle.std.specs.Prelude.{◌≡◌, ◌⊎◌, ℕ, ◌*◌, Bool, true, false, pos, cond, List, [], ◌∷◌, Option, Some, None}
-use Prim.Native.Nat.{◌∣◌}
 use Rattle.std.proofs.Common.{arith, sym, ap, ap₂, ◌∙◌, refl, subst, inl, inr}
 use Rattle.rational.specs.Rational.{ℚ, ◌+ℚ◌, ◌-ℚ◌, ◌*ℚ◌, ◌≤ℚ◌, ◌<ℚ◌, neg_ℚ, int, lt_q}
 use Rattle.rational.specs.Ratio.{SumFits}
@@ -10,28 +9,26 @@ use Rattle.rational.specs.Extended.{Ext, ◌≤ₑ◌, ◌+ₑ◌}
 use Rattle.rational.specs.declared.Extended.TheVariants.{Fin, Inf}
 use Rattle.rational.proofs.Grid.{whole_int, within_nonneg}
 use Rattle.rational.proofs.Integers.{nat_nonneg, int_mul}
-use Rattle.rational.proofs.Linear.{with1, with2, with3, with4}
-use Rattle.rational.proofs.Laws.{le_or_lt, le_refl, le_trans, le_of_lt, lt_le_trans, le_lt_trans, lt_trans, lt_irrefl, zero_mul}
+use Rattle.rational.proofs.Linear.{with1, with3}
+use Rattle.rational.proofs.Laws.{le_or_lt, le_refl, le_of_lt, lt_le_trans, le_lt_trans, lt_trans, lt_irrefl, zero_mul}
 use Rattle.rational.proofs.MinMax.{lt_q_not}
 use Rattle.rational.proofs.Over.{lt_q_out}
 use Rattle.rational.proofs.ExtendedOrder.{add_zero_ext}
 use Rattle.affine_segment.specs.declared.line.Line.{Line}
 use Rattle.affine_segment.specs.declared.line.Piece.{Piece}
-use Rattle.affine_segment.specs.Values.{line_at, line_value}
+use Rattle.affine_segment.specs.Values.{line_value}
 use Rattle.upp_curve.specs.Reading.{read, piece_in, piece_value}
-use Rattle.upp_curve.specs.Normal.{Each, HasStart, StartsAtZero}
 use Rattle.upp_curve.specs.Limits.{Sizes}
 use Rattle.upp_curve.specs.Operand.{AreLimited}
 use Rattle.upp_curve.specs.Sized.{grid_of, times_largest}
 use Rattle.upp_curve.proofs.FirstStretch.{value_past}
 use Rattle.upp_curve.proofs.NormaliseLists.{each_map}
-use Rattle.curve_window.specs.declared.stretch.Both.{Both}
-use Rattle.curve_window.specs.Stretches.{CutsFit, IsBothOf, line_in}
-use Rattle.curve_window.specs.Pointwise.{ValueSumFits, LineSumFits, StretchSumFits, SumsFit, IsSumPiece, IsWindowSum, sum_line}
+use Rattle.curve_window.specs.Stretches.{line_in}
+use Rattle.curve_window.specs.Pointwise.{ValueSumFits, LineSumFits, SumsFit, IsSumPiece, IsWindowSum, sum_line}
 use Rattle.curve_window.specs.Made.{ValueApartFits, LineApartFits}
 use Rattle.curve_conv.specs.ElementRoom.{SumLine}
 use Rattle.curve_conv.specs.SumWindows.{SumStart, SumValueAt, SumLineAt, SumPiece, SumWindow}
-use Rattle.curve_conv.specs.Arches.{IsAround, Arches}
+use Rattle.curve_conv.specs.Arches.{Arches}
 use Rattle.curve_conv.proofs.Cover.{value_here, read_one, read_stop, read_go}
 use Rattle.curve_conv.proofs.SumSteps.{start_in, sum_line_in, sum_read}
 use Rattle.curve_conv.proofs.SumLower.{values_apart, lines_apart}

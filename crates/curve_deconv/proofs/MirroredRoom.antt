@@ -1,14 +1,14 @@
 -- The elements of an operand have room with minus their values, and mirrored in time.
-use Rattle.std.specs.Prelude.{◌≡◌, ◌⊎◌, ◌*◌, ◌+◌, ◌^◌, pos, List, [], ◌∷◌, ◌++◌, map, Option, Some, None}
-use Rattle.std.proofs.Common.{arith, sym, ap, ◌∙◌, refl, subst, inl, inr}
+use Rattle.std.specs.Prelude.{◌≡◌, pos, List, [], ◌∷◌, Some}
+use Rattle.std.proofs.Common.{arith, sym, refl, subst, inl, inr}
 use Rattle.rational.specs.Rational.{ℚ, ◌+ℚ◌, ◌-ℚ◌, ◌*ℚ◌, ◌≤ℚ◌, ◌<ℚ◌, neg_ℚ, int}
 use Rattle.rational.specs.Ratio.{SumFits}
 use Rattle.rational.specs.Grid.{Whole, Within}
-use Rattle.rational.specs.Extended.{Ext, ◌<ₑ◌}
+use Rattle.rational.specs.Extended.{Ext}
 use Rattle.rational.specs.declared.Extended.TheVariants.{Fin, Inf}
 use Rattle.rational.proofs.Grid.{whole_sub, whole_neg, within_neg, within_add}
 use Rattle.rational.proofs.Linear.{with1, with2, with3, with4}
-use Rattle.rational.proofs.Laws.{le_refl, le_of_lt, mul_neg, mul_sub, add_mul}
+use Rattle.rational.proofs.Laws.{le_refl, le_of_lt, mul_sub}
 use Rattle.affine_segment.specs.declared.line.Line.{Line}
 use Rattle.affine_segment.specs.declared.line.Piece.{Piece}
 use Rattle.affine_segment.specs.declared.element.Element.{Element}
@@ -16,10 +16,9 @@ use Rattle.affine_segment.specs.declared.element.Element.TheVariants.{Point, Ope
 use Rattle.affine_segment.specs.Values.{line_at, line_value}
 use Rattle.upp_curve.specs.Limits.{Sizes}
 use Rattle.upp_curve.specs.Normal.{Each}
-use Rattle.upp_curve.specs.Readable.{LineFitsAt}
 use Rattle.upp_curve.specs.Sized.{IsSlope, IsValue, ValueStands, grid_of, times_largest}
 use Rattle.upp_curve.specs.Ahead.{IsGridValue, GridValue}
-use Rattle.upp_curve.specs.Operand.{AreLimited, OperandLine, OperandLineAt, OperandPiece, OperandPieces}
+use Rattle.upp_curve.specs.Operand.{AreLimited, OperandLine, OperandLineAt, OperandPiece}
 use Rattle.upp_curve.proofs.NarrowSizes.{narrow_gauge}
 use Rattle.upp_curve.proofs.AnswerRoom.{operand_line, operand_line_fits, operand_line_value, stands_operand_value, steep_run, OperandValueAt}
 use Rattle.curve_frame.proofs.CurveTimes.{sum_fits, time_within}

@@ -1,40 +1,34 @@
 -- The window of the deconvolution: what is read of the pairs with their marks from `reach` on, moved left and turned over.
 use Rattle.std.specs.Prelude.{◌≡◌, ◌⊎◌, ℕ, ◌*◌, ◌≤◌, pos, List, [], ◌∷◌, map, Option, Some, None, Result, Ok, Err, IfOk, Vec}
-use Prim.Native.Nat.{◌∣◌}
 use native.Mathlib.Nat.{dvd-mul_left, dvd-mul_right, dvd_trans, dvd_refl, mul-le-mul_left, mul-le-mul_right}
-use Rattle.std.proofs.Common.{arith, sym, ap, ap₂, ◌∙◌, refl, subst, inl, inr, Global}
+use Rattle.std.proofs.Common.{arith, sym, ap, ◌∙◌, refl, subst, inl, inr, Global}
 use Rattle.rational.specs.Rational.{ℚ, ◌+ℚ◌, ◌-ℚ◌, ◌*ℚ◌, ◌≤ℚ◌, ◌<ℚ◌, neg_ℚ, int}
 use Rattle.rational.specs.Ratio.{SumFits}
-use Rattle.rational.specs.Grid.{Whole, Within}
+use Rattle.rational.specs.Grid.{Whole}
 use Rattle.rational.specs.Extended.{Ext, ◌≤ₑ◌, ◌<ₑ◌, ◌-ₑ◌}
 use Rattle.rational.specs.declared.Extended.TheVariants.{Fin, Inf}
-use Rattle.rational.specs.Bounds.{IsInfimum, IsSupremum}
 use Rattle.rational.proofs.Grid.{whole_sub, whole_add, whole_neg, whole_weaken, within_neg, within_nonneg}
 use Rattle.rational.proofs.Integers.{nat_nonneg}
 use Rattle.rational.proofs.Sizes.{sum_on_grid}
-use Rattle.rational.proofs.Linear.{with1, with2, with3, with4}
+use Rattle.rational.proofs.Linear.{with2, with3, with4}
 use Rattle.rational.proofs.Laws.{le_refl, le_trans, le_of_lt, le_or_lt, mul_le_mul_right, neg_mul}
-use Rattle.rational.proofs.ExtendedOrder.{same_le_ext}
 use Rattle.affine_segment.specs.declared.line.Line.{Line}
 use Rattle.affine_segment.specs.declared.line.Piece.{Piece}
 use Rattle.affine_segment.specs.Values.{line_at, line_value}
-use Rattle.upp_curve.specs.Reading.{read, piece_in, piece_value}
+use Rattle.upp_curve.specs.Reading.{read, piece_value}
 use Rattle.upp_curve.specs.Normal.{Each, RisesFrom, StartsAtZero}
-use Rattle.upp_curve.specs.Normalising.{OnGridsUnlessLine, cut_at, past}
+use Rattle.upp_curve.specs.Normalising.{cut_at, past}
 use Rattle.upp_curve.specs.Curve.{repeated}
 use Rattle.upp_curve.specs.Limits.{Sizes}
 use Rattle.upp_curve.specs.Operand.{AreLimited, answer_room}
 use Rattle.upp_curve.specs.Sized.{grid_of, times_largest}
 use Rattle.upp_curve.specs.Room.{TimeHasRoom, ValueHasRoom, LineHasRoom, PieceHasRoom, top}
-use Rattle.upp_curve.proofs.AnswerRoom.{AnswerLine, IsCrossing, line_in_room, line_value_in, value_in_room, steep_run}
+use Rattle.upp_curve.proofs.AnswerRoom.{IsCrossing, line_in_room, line_value_in, value_in_room, steep_run}
 use Rattle.upp_curve.proofs.FirstStretch.{value_past}
 use Rattle.upp_curve.proofs.NormaliseLists.{each_map}
 use Rattle.upp_curve.proofs.NormaliseCopies.{read_is}
-use Rattle.curve_window.specs.Stretches.{line_in}
-use Rattle.curve_window.proofs.TailGrids.{TailOf}
 use Rattle.curve_envelope.specs.Shifting.{left_line, left_piece, moved_left, LeftFits}
 use Rattle.curve_envelope.proofs.LeftWindow.{left_reads, left_starts, each_past, each_moved}
-use Rattle.curve_conv.specs.ElementRoom.{SumLine}
 use Rattle.curve_conv.specs.SumWindows.{SumStart, SumValueAt, SumLineAt, SumPiece, SumWindow}
 use Rattle.curve_conv.proofs.Cover.{value_here, read_one, read_stop, read_go}
 use Rattle.curve_conv.proofs.ElementSizes.{sum_within}

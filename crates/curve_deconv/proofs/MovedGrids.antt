@@ -1,6 +1,6 @@
 -- What repeats pieces that are moved left and turned over repeats as what repeats them: its periods stand on the same grids.
-use Rattle.std.specs.Prelude.{◌≡◌, ◌⊎◌, ℕ, ◌<◌, ◌≤◌, pos, Option, Some, None}
-use Rattle.std.proofs.Common.{arith, sym, ap, ap₂, ◌∙◌, refl, subst, inl, inr}
+use Rattle.std.specs.Prelude.{◌≡◌, ◌⊎◌, ℕ, ◌≤◌, pos, Option, Some, None}
+use Rattle.std.proofs.Common.{arith, sym, ap, ◌∙◌, refl, subst, inl, inr}
 use Rattle.rational.specs.Rational.{ℚ, ◌+ℚ◌, ◌-ℚ◌, ◌*ℚ◌, ◌/ℚ◌, ◌≤ℚ◌, ◌<ℚ◌, neg_ℚ, inv_ℚ, int}
 use Rattle.rational.specs.Whole.{periods, whole_part}
 use Rattle.rational.specs.Grid.{Whole}
@@ -14,7 +14,7 @@ use Rattle.affine_segment.specs.declared.line.Line.{Line}
 use Rattle.affine_segment.specs.Values.{line_at, line_value}
 use Rattle.upp_curve.specs.Curve.{repeated}
 use Rattle.upp_curve.specs.Steady.{Repeats}
-use Rattle.upp_curve.specs.Normalising.{IsOneLine, OnGrids, OnGridsUnlessLine}
+use Rattle.upp_curve.specs.Normalising.{IsOneLine, OnGridsUnlessLine}
 use Rattle.upp_curve.proofs.NormaliseLeast.{share_some}
 use Rattle.curve_deconv.specs.Mirrored.{neg_ext}
 

@@ -1,9 +1,9 @@
 -- The least of all pairs of elements of minus the first function and of the second mirrored is the least of the second at u less the
 -- first at t + u.
 use Rattle.std.specs.Prelude.{◌≡◌, pos, List, [], ◌∷◌, map}
-use Rattle.std.proofs.Common.{arith, sym, ap, ap₂, ◌∙◌, refl, subst, inl, inr}
+use Rattle.std.proofs.Common.{arith, sym, ap, ◌∙◌, subst}
 use Rattle.rational.specs.Rational.{ℚ, ◌+ℚ◌, ◌-ℚ◌, ◌≤ℚ◌, ◌<ℚ◌, neg_ℚ, int}
-use Rattle.rational.specs.Extended.{Ext, ◌≤ₑ◌, ◌<ₑ◌}
+use Rattle.rational.specs.Extended.{Ext, ◌≤ₑ◌}
 use Rattle.rational.specs.declared.Extended.TheVariants.{Fin, Inf}
 use Rattle.rational.proofs.Linear.{with2, with3, with4}
 use Rattle.rational.proofs.Laws.{le_refl}
@@ -14,7 +14,7 @@ use Rattle.affine_segment.specs.declared.element.Element.{Element}
 use Rattle.affine_segment.specs.Elements.{Covers, level}
 use Rattle.upp_curve.specs.Reading.{read}
 use Rattle.upp_curve.specs.Normal.{Each, StartsAtZero}
-use Rattle.curve_conv.specs.PieceElements.{elements_of, StartBefore, Among, ElementAt}
+use Rattle.curve_conv.specs.PieceElements.{elements_of, StartBefore, Among}
 use Rattle.curve_conv.specs.Envelopes.{ListSplit, list_sum, IsEnvelope}
 use Rattle.curve_conv.proofs.Cover.{cover, element_times}
 use Rattle.curve_deconv.specs.Mirrored.{neg_element, mirror}

@@ -12,7 +12,6 @@ use Rattle.affine_segment.specs.Values.{line_value}
 use Rattle.curve_conv.specs.ElementRoom.{OperandElement}
 use Rattle.upp_curve.specs.Reading.{read}
 use Rattle.upp_curve.specs.Normal.{Each}
-use Rattle.upp_curve.specs.Limits.{Sizes}
 use Rattle.upp_curve.specs.Sized.{ValueStands}
 use Rattle.upp_curve.specs.Operand.{OperandPiece}
 use Rattle.upp_curve.proofs.UnrolledPieces.{each_with}

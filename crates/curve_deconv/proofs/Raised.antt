@@ -1,19 +1,18 @@
 -- The window of the pairs with the marks of infinity.
-use Rattle.std.specs.Prelude.{◌≡◌, ◌⊎◌, pos, List, Result, Ok, Err, IfOk, Vec}
-use Rattle.std.proofs.Common.{arith, sym, ap, ap₂, ◌∙◌, refl, subst, inl, inr, Global}
+use Rattle.std.specs.Prelude.{◌≡◌, pos, List, Result, Ok, Err, IfOk, Vec}
+use Rattle.std.proofs.Common.{arith, sym, ap, ◌∙◌, subst, inl, inr, Global}
 use Rattle.rational.specs.Rational.{ℚ, ◌+ℚ◌, ◌≤ℚ◌, ◌<ℚ◌, int}
 use Rattle.rational.specs.Ratio.{SumFits}
 use Rattle.rational.specs.Grid.{Whole}
 use Rattle.rational.specs.Extended.{Ext, ◌+ₑ◌}
-use Rattle.rational.specs.declared.Extended.TheVariants.{Fin, Inf}
+use Rattle.rational.specs.declared.Extended.TheVariants.{Fin}
 use Rattle.rational.proofs.Grid.{whole_int, whole_add}
 use Rattle.rational.proofs.Linear.{with2, with3}
-use Rattle.rational.proofs.Laws.{le_or_lt, le_of_lt, le_trans, le_refl, antisym}
+use Rattle.rational.proofs.Laws.{le_or_lt, le_of_lt, antisym}
 use Rattle.rational.proofs.ExtendedOrder.{add_zero_ext}
 use Rattle.affine_segment.specs.declared.line.Piece.{Piece}
 use Rattle.upp_curve.specs.Reading.{read}
 use Rattle.upp_curve.specs.Normal.{Each, StartsAtZero}
-use Rattle.upp_curve.specs.Limits.{Sizes}
 use Rattle.upp_curve.specs.Operand.{OperandPiece}
 use Rattle.upp_curve.proofs.NarrowSizes.{narrow_gauge}
 use Rattle.upp_curve.proofs.NormaliseLists.{each_map}

@@ -1,6 +1,6 @@
 -- The supremum over the times of a window is that over all times, and it moves with a period of the first function. Where the first
 -- gains on the second it is infinite.
-use Rattle.std.specs.Prelude.{◌≡◌, pos, ◌⊎◌}
+use Rattle.std.specs.Prelude.{◌≡◌, pos}
 use Rattle.std.proofs.Common.{arith, sym, ap, ◌∙◌, refl, subst, inl, inr}
 use Rattle.rational.specs.Rational.{ℚ, ◌+ℚ◌, ◌-ℚ◌, ◌*ℚ◌, ◌≤ℚ◌, ◌<ℚ◌, int}
 use Rattle.rational.specs.Whole.{periods}

@@ -64,15 +64,7 @@ fn deconvolved_within(
     let reach = difference(past, period);
     let pieces = window_deconvolution(alloc, &left, &right, reach, frame.end)?;
     let rise = rise_over(f, period);
-    answer(
-        alloc,
-        pieces,
-        from,
-        period,
-        rise,
-        frame.times,
-        frame.values,
-    )
+    answer(alloc, pieces, from, period, rise, frame.times, frame.values)
 }
 
 // Whether the first curve is the faster one.

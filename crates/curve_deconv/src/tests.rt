@@ -121,7 +121,13 @@ fn a_stair_through_a_latency(rt: HostRuntime) -> Result<(), Fail> {
     let f = curve(rt.alloc(), &list, tail)?;
     let g = late(rt.alloc(), 100, 256, -25600)?;
     let c = deconvolved::<Brand>(rt.alloc(), Blank::new(1), &f, &g)?;
-    for (t, v) in [(0, 4000), (743, 7900), (744, 8000), (1743, 11900), (1744, 12000)] {
+    for (t, v) in [
+        (0, 4000),
+        (743, 7900),
+        (744, 8000),
+        (1743, 11900),
+        (1744, 12000),
+    ] {
         assert!(rt; value(&c, whole(t)) == Some(whole(v)), "at {t}");
     }
     Ok(())

@@ -1,9 +1,7 @@
 use Rattle.std.proofs.Common.{◌∙◌, ap, sym, subst}
 use Rattle.upp_curve.specs.Periods.{period_of, period_or}
-use Rattle.rational.specs.declared.Extended.TheVariants.{Fin}
 use Rattle.upp_curve.specs.declared.op_kind.OpKind.TheVariants.{Deconvolve}
 use Rattle.upp_curve.proofs.NormaliseForm.{ok_map}
-use Rattle.upp_curve.specs.Steady.{rise_over}
 use Rattle.curve_frame.specs.Rises.{CurveRiseFits}
 use Rattle.curve_frame.specs.Frames.{sizes_at}
 use Rattle.curve_frame.proofs.Operands.{operand_to}

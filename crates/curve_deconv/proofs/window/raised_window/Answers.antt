@@ -1,5 +1,5 @@
 use Rattle.std.proofs.Common.{◌∙◌, sym, subst}
-use Rattle.curve_deconv.proofs.Raised.{SumReady, mark_fits, sum_ready, ok_raised}
+use Rattle.curve_deconv.proofs.Raised.{mark_fits, sum_ready, ok_raised}
 use Rattle.curve_deconv.specs.DeconvolutionWindows.{IsPairsWindow}
 use Rattle.curve_deconv.proofs.window.raised_window.Goals as goal
 
