@@ -1,5 +1,7 @@
 -- A deviation is at least that at the time 0, which is at least 0.
-use Rattle.rational.specs.Extended.{◌-ₑ◌}
+use Rattle.std.specs.Prelude.{◌≡◌}
+use Rattle.rational.specs.Rational.{ℚ}
+use Rattle.rational.specs.Extended.{Ext, ◌≤ₑ◌, ◌-ₑ◌}
 use Rattle.rational.specs.declared.Extended.TheVariants.{Fin}
 use Rattle.rational.proofs.Bounds.{greatest}
 use Rattle.rational.proofs.ExtendedOrder.{le_ext_trans}
