@@ -45,7 +45,7 @@ fn least_over(gap: Frac, lead: Frac) -> u128
 
 /// The least number k of periods after `from` after which, for a period, no split of which the first side is before the time `first` from
 /// which on the slower curve repeats makes less than those of which it is later; none where there is no such number. `second` is the
-/// time from which on the faster curve repeats. No memory is taken.
+/// time from which on the faster curve repeats. 0 without a scan where `first` is 0. No memory is taken.
 pub(crate) fn late_number(
     s: &Scan,
     first: Frac,
@@ -59,6 +59,9 @@ pub(crate) fn late_number(
     ensures { MatchOption result ((k : ℕ) → ¬ (IsLateAfter s.now.first.now s.now.second.now from period k))
         (IsLateNumber s.now.first.now s.now.second.now from period) }
 {
+    if !is_less(Frac::zero(), first) {
+        return Some(0);
+    }
     match part_gap(s, first, second, from) {
         Gap::NoTime => Some(0),
         Gap::Never => None,

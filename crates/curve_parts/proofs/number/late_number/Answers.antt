@@ -1,5 +1,5 @@
 use Rattle.std.specs.Prelude.{◌≡◌, pos}
-use Rattle.std.proofs.Common.{sym, subst}
+use Rattle.std.proofs.Common.{sym, subst, true≢false}
 use Rattle.rational.specs.Rational.{ℚ, ◌/ℚ◌, ◌≤ℚ◌, ◌<ℚ◌, ◌*ℚ◌, int}
 use Rattle.rational.specs.Ratio.{IsSmall}
 use Rattle.upp_curve.specs.Curve.{SpecCurve, value_at}
@@ -12,7 +12,7 @@ use Rattle.curve_least.specs.Gaps.{InWindow, IsGap}
 use Rattle.curve_parts.specs.PartGaps.{PartGapStands, ArePartValues, HavePartValues}
 use Rattle.curve_parts.specs.Scans.{sizes_in}
 use Rattle.curve_parts.proofs.LateShifts.{values_are}
-use Rattle.curve_parts.proofs.LateNumbers.{Values, late_of, soon_of, late_times, some_lead, quotient_fits, number_none, number_endless, number_gap}
+use Rattle.curve_parts.proofs.LateNumbers.{Values, late_of, soon_of, late_times, some_lead, none_early, quotient_fits, number_none, number_endless, number_gap}
 use Rattle.curve_parts.proofs.number.late_number.Goals as goal
 
 pub part_gap-requires-clause-first : goal.part_gap-requires-clause-first
@@ -83,3 +83,8 @@ returns-in-Is c =
     (gap_at s.first.now s.second.now c.args.first c.args.second c.args.from s.end c.part_gap.result c.requires.first c.requires.second c.part_gap.ensures.gap V) in
     number_gap s.first.now s.second.now c.args.from c.args.period s.end c.in-Is.gap c.least_over.result c.requires.call V G
     (subst (λ y. IsLeast (λ k. c.in-Is.gap ≤ℚ int (pos k) *ℚ y) c.least_over.result) c.lead.ensures c.least_over.ensures)
+
+pub returns-then-not-is_less : goal.returns-then-not-is_less
+returns-then-not-is_less c =
+    none_early c.args.s.now.first.now c.args.s.now.second.now c.args.from c.args.period
+    (λ h. true≢false (sym (c.if-not-is_less.ensures.1 (subst (λ y. y <ℚ c.args.first) (sym c.zero.ensures) (subst (λ x. int (pos 0) <ℚ x) (sym c.requires.first) h)))))
