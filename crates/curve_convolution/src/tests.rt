@@ -247,3 +247,14 @@ fn gates(rt: HostRuntime) -> Result<(), Fail> {
     assert!(rt; is_too_many(d), "16 million pairs of pieces");
     Ok(())
 }
+
+// The same gates, closed for a unit of time before they begin: what is needed of the number of periods is found in memory.
+#[test]
+fn late_gates(rt: HostRuntime) -> Result<(), Fail> {
+    let f = gate(rt.alloc(), 1, 51, 101)?;
+    let g = gate(rt.alloc(), 1, 42, 102)?;
+    let later = gate(rt.alloc(), 43, 93, 143)?;
+    let c = convolved::<Brand>(rt.alloc(), Blank::new(1), &f, &g)?;
+    assert!(rt; equal(&c, &later));
+    Ok(())
+}

@@ -10,7 +10,7 @@ use Rattle.rational.specs.Extended.{Ext, ◌<ₑ◌, ◌+ₑ◌}
 use Rattle.rational.specs.declared.Extended.TheVariants.{Fin, Inf}
 use Rattle.rational.proofs.Linear.{with1, with3, with4, with5, with6}
 use Rattle.rational.proofs.Laws.{le_refl, le_of_lt, le_trans, le_lt_trans, le_of_not_lt, lt_irrefl, mul_nonneg, not_zero}
-use Rattle.rational.proofs.Grid.{whole_neg, whole_sub, whole_add, whole_weaken, within_neg}
+use Rattle.rational.proofs.Grid.{whole_int, whole_neg, whole_sub, whole_add, whole_weaken, within_neg}
 use Rattle.rational.proofs.Integers.{nat_le, nat_nonneg, int_mul}
 use Rattle.rational.proofs.Sizes.{quotient_on_grid}
 use Rattle.rational.proofs.ExtendedOrder.{finite_sum, same_le_ext}
@@ -84,6 +84,21 @@ late_times slow fast from d end C =
       with5 x y from d end (λ c. omega (arith, c.le, c.lt, c.same)),
       with5 x y from d end (λ c. omega (arith, c.le, c.lt, c.same)),
     )
+
+pub end_some : (slow fast : SpecCurve) (from d end : ℚ) → IsLateCall slow fast from d end → int (pos 0) <ℚ end
+end_some slow fast from d end C =
+    let T = late_times slow fast from d end C in
+    at from d end T.from_in.nonneg C.some C.end_is
+  where
+    at : (x y w : ℚ) → int (pos 0) ≤ℚ x → int (pos 0) <ℚ y → w ≡ x +ℚ y → int (pos 0) <ℚ w
+    at x y w a b e = with3 x y w (λ c. omega (arith, c.le, c.lt, c.same))
+
+pub zero_time : (slow fast : SpecCurve) (from d end : ℚ) → IsLateCall slow fast from d end → WindowTime (sizes_in slow fast end) end (int (pos 0))
+zero_time slow fast from d end C = record {
+  whole = whole_int (sizes_in slow fast end).dt (pos 0);
+  nonneg = le_refl (int (pos 0));
+  early = le_of_lt (end_some slow fast from d end C);
+}
 
 pub lead_fits : (slow fast : SpecCurve) (from d end a b : ℚ) → IsLateCall slow fast from d end → a ≡ rise_over fast d → b ≡ rise_over slow d → SumFits a (neg_ℚ b)
 lead_fits slow fast from d end a b C ea eb =

@@ -16,7 +16,7 @@ use Rattle.curve_parts.specs.Scans.{sizes_in, IsScan}
 pub record IsLateIn (slow fast : SpecCurve) (from d : ℚ) : Type 0 where
   pub least : IsLateLeastFor slow fast from d
   pub value : (t : ℚ) → from ≤ℚ t → t <ℚ from +ℚ d → (v : Ext) → IsConvolution (value_at slow) (value_at fast) t v
-    → IsPart (value_at slow) (value_at fast) (FirstLate (steady slow)) t v
+      → IsPart (value_at slow) (value_at fast) (FirstLate (steady slow)) t v
 
 -- so of the slower of two curves; of equal rates nothing is asked
 pub record IsSlowerLate (f g : SpecCurve) (from d : ℚ) : Type 0 where
