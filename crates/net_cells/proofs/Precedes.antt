@@ -1,31 +1,31 @@
 -- What a cell is made of stands before it in the order.
-use Rattle.std.proofs.Common.{◌≡◌, ◌≢◌, ℕ, zero, suc, ◌<◌, ◌≤◌, ◌+◌, ◌-◌, List, [], ◌∷◌, ◌++◌, length, get_or, map, take, refl, sym, ap, ◌∙◌, subst, arith, inl, inr, ◌⊎◌, true, false}
-use Rattle.std.specs.Prelude.{is_some, ◌&&◌, Contains, Option, Some, None, IsTrue, not, ◌==◌, slice_get, slice_index, nat_lt}
-use Rattle.std.specs.List.{filter, flat_map, range_with_len}
-use Rattle.std.proofs.lemmas.Bool.{lt-ltb, ltb-true, eqb-true, and_parts, and_from, eq-eqb}
+use Rattle.std.proofs.Common.{◌≡◌, ℕ, zero, suc, ◌<◌, ◌≤◌, ◌+◌, ◌-◌, List, [], ◌∷◌, ◌++◌, length, get_or, map, take, refl, sym, ap, ◌∙◌, subst, arith, inl, inr, ◌⊎◌, true, false}
+use Rattle.std.specs.Prelude.{is_some, ◌&&◌, Option, Some, None, not, ◌==◌, slice_index, nat_lt}
+use Rattle.std.specs.List.{flat_map, range_with_len}
+use Rattle.std.proofs.lemmas.Bool.{lt-ltb, ltb-true, eqb-true, and_parts}
 use Rattle.std.proofs.lemmas.List.{get_or_default}
 use Rattle.upp_curve.specs.declared.op_kind.OpKind.TheVariants.{Sum}
 use Rattle.run_laws.specs.Servers.{Discipline, Fifo, Priority, Drr, queue_count}
 use Rattle.net_model.specs.Networks.{Net, NetServer, NetFlow}
 use Rattle.net_model.specs.Accepted.{IsAccepted}
 use Rattle.net_model.specs.Orders.{IsOrder}
-use Rattle.net_model.specs.Walks.{IsNext, IsStep}
+use Rattle.net_model.specs.Walks.{IsNext}
 use Rattle.net_graph.proofs.Forward.{goes_forward}
 use Rattle.net_cells.specs.declared.cell.Cell.{Cell}
 use Rattle.net_cells.specs.declared.cell.Kind.{Kind}
 use Rattle.net_cells.specs.declared.cell.Kind.TheVariants.{In, Cross, Total, Higher, QueueService, Theta, Residual, QueueDelay, QueueBacklog, HopDelay, ShiftOut, DeconvOut, Out, PathService, Tfa, Sfa, Bound}
 use Rattle.net_cells.specs.declared.cell.Scope.{Scope}
-use Rattle.net_cells.specs.declared.cell.Scope.TheVariants.{EachHop, EachHopButLast, EachQueue, EachPriorityQueue, EachPath}
+use Rattle.net_cells.specs.declared.cell.Scope.TheVariants.{EachHop, EachHopButLast, EachQueue, EachPath}
 use Rattle.net_cells.specs.Numbered.{flow_at, path_of, hops, server_at, queue_at, queues, levels, levels_of, is_live, discipline, discipline_of}
 use Rattle.net_cells.specs.Visits.{Visit, visits, visits_in, others}
 use Rattle.net_cells.specs.Cells.{cell_of, scope_of, is_in_scope, has_cell, server_kinds, path_kinds}
 use Rattle.net_cells.specs.Order.{at_visit, evaluation_order, server_cells, kind_cells, path_cells}
 use Rattle.net_cells.specs.Formulas.{Formula, leaves, made, value_of}
-use Rattle.net_cells.specs.CellFormulas.{formula, formula_of, sum_of, sum_from, packets_to, served_to, hop_delays, queue_service, less}
+use Rattle.net_cells.specs.CellFormulas.{formula, sum_of, sum_from, packets_to, served_to, queue_service, less}
 use Rattle.net_cells.specs.Laws.{OperandsComeFirst}
-use Rattle.net_cells.proofs.Lists.{Has, Before, has_left, has_right, has_either, map_has, filter_has, has_flat, range_has, before_left, before_right, before_across, before_flat, before_inside, before_place, before_split, Apart, contains_has, has_contains}
+use Rattle.net_cells.proofs.Lists.{Has, Before, has_right, has_either, map_has, filter_has, has_flat, range_has, before_left, before_right, before_across, before_flat, before_inside, before_place, before_split, Apart, contains_has, has_contains}
 use Rattle.net_cells.proofs.Places.{flow_inside, live_inside, visit_has, home, home_in, rank, kinds_before, path_kinds_before, IsHome, has_kind, has_server, has_path}
-use Rattle.net_cells.proofs.Members.{IsHopOf, hop_of, hop_kept, home_inside, home_in_order, order_has, apart_cells}
+use Rattle.net_cells.proofs.Members.{hop_of, hop_kept, home_inside, home_in_order, order_has, apart_cells}
 
 -- ---- both in the order
 abbrev All : Net → List ℕ → List Cell
