@@ -6,3 +6,6 @@ pub mod SameLeaves
 pub mod Places
 pub mod Members
 pub mod Precedes
+pub mod Tables
+pub mod Works
+pub mod Determined

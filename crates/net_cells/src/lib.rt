@@ -4,5 +4,10 @@
 #![tactic(auto)]
 
 mod cell;
+mod laws;
 
 pub use cell::{Cell, Kind, Scope};
+pub use laws::{
+    answers_meet_equations, formulas_are_determined, front_meets_below, one_is_first_over,
+    operands_come_first, order_has_each_cell, tables_agree, work_is_operators,
+};
