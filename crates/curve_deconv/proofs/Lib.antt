@@ -10,3 +10,4 @@ pub mod Raised
 pub mod MovedGrids
 pub mod Moved
 pub mod DeconvolveCall
+pub mod Kept

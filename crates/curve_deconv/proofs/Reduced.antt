@@ -17,7 +17,7 @@ use Rattle.upp_curve.specs.Functions.{IsFinite, FiniteTime}
 use Rattle.upp_curve.specs.Steady.{Repeats}
 use Rattle.upp_curve.specs.Convolution.{IsDeconvolution}
 use Rattle.curve_least.proofs.Shifts.{later_value}
-use Rattle.curve_deconv.specs.DeconvolutionWindows.{IsEarlySupremum, IsReached}
+use Rattle.curve_deconv.specs.DeconvolutionWindows.{EarlyTime, IsReached}
 
 -- both repeat from `from` on with the period d, the second rises by at least as much, and `reach` is one period after
 pub record AreRepeating (f g : ℚ → Ext) (from d a b reach : ℚ) : Type 0 where
@@ -40,10 +40,11 @@ rise_out Inf c q = refl
 rise_out (Fin x) c q = ap Fin (with3 x c q (λ e. omega (arith, e.le, e.lt, e.same)))
 
 -- ---- later times add nothing
-early : (f g : ℚ → Ext) (from d a b reach t : ℚ) (v : Ext) → AreRepeating f g from d a b reach → int (pos 0) ≤ℚ t → IsEarlySupremum f g reach t v
+pub early : (f g : ℚ → Ext) (from d a b reach t : ℚ) (v : Ext) → AreRepeating f g from d a b reach → int (pos 0) ≤ℚ t
+    → ((u : EarlyTime g reach) → f (t +ℚ u.at) -ₑ u.level ≤ₑ v)
     → (u : FiniteTime g) → f (t +ℚ u.at) -ₑ u.level ≤ₑ v
 early f g from d a b reach t v R some S u = elim (le_or_lt reach u.at) [
-  | inr l ↦ S.above record { at = u.at; nonneg = u.nonneg; before = l; level = u.level; is = u.is }
+  | inr l ↦ S record { at = u.at; nonneg = u.nonneg; before = l; level = u.level; is = u.is }
   | inl l ↦ late l
 ]
   where
@@ -63,13 +64,13 @@ early f g from d a b reach t v R some S u = elim (le_or_lt reach u.at) [
         let w_high : w <ℚ reach = (let e = R.reach_is in with5 from at y d reach (λ c. omega (arith, c.le, c.lt, c.same))) in
         let low : int (pos 0) ≤ℚ w = le_trans R.low w_low in
         let (q, e) = R.finite w low in
-        let here : f (t +ℚ w) -ₑ q ≤ₑ v = S.above record { at = w; nonneg = low; before = w_high; level = q; is = e } in
+        let here : f (t +ℚ w) -ₑ q ≤ₑ v = S record { at = w; nonneg = low; before = w_high; level = q; is = e } in
         let there : (t +ℚ w) +ℚ y ≡ t +ℚ at = with3 t at y (λ c. omega (arith, c.le, c.lt, c.same)) in
         let back : w +ℚ y ≡ at = with2 at y (λ c. omega (arith, c.le, c.lt, c.same)) in
         let t_low : from ≤ℚ t +ℚ w = with3 from t w (λ c. omega (arith, c.le, c.lt, c.same)) in
         let f_is : f (t +ℚ at) ≡ f (t +ℚ w) +ₑ Fin (N *ℚ a) = ap f (sym there) ∙ later_value f from d a (t +ℚ w) n (le_of_lt R.some) R.left t_low in
         let g_is : g at ≡ g w +ₑ Fin (N *ℚ b) = ap g (sym back) ∙ later_value g from d b w n (le_of_lt R.some) R.right w_low in
-        let level_is : u.level ≡ q +ℚ N *ℚ b = fin_same (sym u.is ∙ g_is ∙ ap (λ x. x +ₑ Fin (N *ℚ b)) e) in
+        let level_is : u.level ≡ q +ℚ N *ℚ b = fin_same {y = q +ℚ N *ℚ b} (sym u.is ∙ g_is ∙ ap (λ x. x +ₑ Fin (N *ℚ b)) e) in
         let more : N *ℚ a ≤ℚ N *ℚ b = mul_le_mul N (nat_nonneg n) R.less in
         subst (λ x. x -ₑ u.level ≤ₑ v) (sym f_is) (subst (λ x. (f (t +ℚ w) +ₑ Fin (N *ℚ a)) -ₑ x ≤ₑ v) (sym level_is) (drop_le (f (t +ℚ w)) q (N *ℚ a) (N *ℚ b) v more here))
 
@@ -85,7 +86,7 @@ reduced f g from d a b reach end t v R some (inl (I, e)) =
     let i : FiniteTime g = record { at = u; nonneg = low; level = q; is = k } in
     subst (IsDeconvolution f g t) (sym e) (infinite_member F i (ap (λ w. f w -ₑ q) same ∙ ap (λ x. x -ₑ q) I.top))
 reduced f g from d a b reach end t v R some (inr (F, S)) = record {
-  above = early f g from d a b reach t v R some S.supremum;
+  above = early f g from d a b reach t v R some S.supremum.above;
   near = λ y l. let (i, k) = S.supremum.near y l in (record { at = i.at; nonneg = i.nonneg; level = i.level; is = i.is }, k);
 }
 

@@ -1,6 +1,7 @@
 //! The deconvolution of two curves. Minus the first is convolved with the second mirrored in time, by the pairs of their elements.
 #![tactic(auto)]
 
+pub mod laws;
 mod marks;
 mod mirroring;
 mod operator;
@@ -8,7 +9,4 @@ mod operator;
 mod tests;
 mod window;
 
-pub use marks::{Last, last_infinite};
-pub use mirroring::{mirrored_elements, negated_elements, negated_pieces};
 pub use operator::deconvolve;
-pub use window::window_deconvolution;

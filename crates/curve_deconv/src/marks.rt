@@ -13,11 +13,11 @@ use upp_curve::sum;
 
 /// Until when a function is infinite at some later time.
 #[derive(Debug, Clone, Copy)]
-pub struct Last {
+pub(crate) struct Last {
     /// Before this time it is infinite at the time or later.
-    pub until: Frac,
+    pub(crate) until: Frac,
     /// Infinity where it is infinite at that time too, else 0. After it it is finite.
-    pub at: Ext,
+    pub(crate) at: Ext,
 }
 
 // Where the piece after the i-th starts; `end` where there is none.
@@ -51,7 +51,7 @@ fn last_step(last: Last, p: &Piece, next: Frac) -> Last
 }
 
 /// Until when what the pieces read is infinite at some later time before `end`.
-pub fn last_infinite(pieces: &[Piece], end: Frac) -> Last
+pub(crate) fn last_infinite(pieces: &[Piece], end: Frac) -> Last
     ensures { result ≡ last_of pieces.now end first_last }
 {
     let mut last = Last {
@@ -85,7 +85,7 @@ fn push_after(pieces: &mut Vec<Piece>, x: Frac, at: Ext, end: Frac) -> Result<()
 }
 
 /// Pieces that read infinity up to `reach` after that time, and 0 after it, before `end`.
-pub fn mark_pieces(
+pub(crate) fn mark_pieces(
     alloc: Global,
     last: Last,
     reach: Frac,

@@ -43,7 +43,10 @@ fn negated_element(e: &Element) -> Element
 }
 
 /// The elements with minus their values.
-pub fn negated_elements(alloc: Global, elements: &[Element]) -> Result<Vec<Element>, AllocError>
+pub(crate) fn negated_elements(
+    alloc: Global,
+    elements: &[Element],
+) -> Result<Vec<Element>, AllocError>
     ensures { IfOk result (λ v. v.items ≡ map neg_element elements.now) }
 {
     let mut made = Vec::new(alloc);
@@ -73,7 +76,7 @@ fn negated_piece(p: &Piece) -> Piece
 }
 
 /// The pieces with minus their values; infinity stays.
-pub fn negated_pieces(alloc: Global, pieces: &[Piece]) -> Result<Vec<Piece>, AllocError>
+pub(crate) fn negated_pieces(alloc: Global, pieces: &[Piece]) -> Result<Vec<Piece>, AllocError>
     ensures { IfOk result (λ v. v.items ≡ map neg_piece pieces.now) }
 {
     let mut made = Vec::new(alloc);
@@ -122,7 +125,7 @@ fn mirrored_element(reach: Frac, e: &Element) -> Element
 }
 
 /// The elements mirrored in time: what is at t comes to stand at `reach` less t.
-pub fn mirrored_elements(
+pub(crate) fn mirrored_elements(
     alloc: Global,
     elements: &[Element],
     reach: Frac,

@@ -53,7 +53,7 @@ fn raised_window(
 /// The supremum of f at t + u less g at u over all u from 0 on and before `reach`, at each t from 0 on that is more than `reach` before
 /// `end`, as pieces; infinity where f is infinite at t or later. From the operands' unrolled pieces below `end`; g is finite. Only a
 /// lack of memory is an error.
-pub fn window_deconvolution(
+pub(crate) fn window_deconvolution(
     alloc: Global,
     f: &[Piece],
     g: &[Piece],
