@@ -95,16 +95,23 @@ fn point(alloc: Global, x: i128, v: i128) -> Result<Curve, OpFault> {
     curve(alloc, &list, Tail::Infinite { rank: whole(x) })
 }
 
-// 0 up to `open`, and then 10 a unit of time up to `last`, over and over from `rank` on.
-fn gate(alloc: Global, rank: i128, open: i128, last: i128) -> Result<Curve, OpFault> {
+// 0 up to `open`, and then icept + 10 t, over and over from `rank` on.
+fn gate(
+    alloc: Global,
+    open: i128,
+    icept: i128,
+    rank: i128,
+    period: i128,
+    rise: i128,
+) -> Result<Curve, OpFault> {
     let list = [
         piece(0, Extended::Fin(Frac::zero()), Some((0, 0))),
-        piece(open, Extended::Fin(Frac::zero()), Some((-10 * open, 10))),
+        piece(open, Extended::Fin(Frac::zero()), Some((icept, 10))),
     ];
     let tail = Tail::Periodic {
         rank: whole(rank),
-        period: whole(last - rank),
-        rise: whole(10 * (last - open)),
+        period: whole(period),
+        rise: whole(rise),
     };
     curve(alloc, &list, tail)
 }
@@ -236,25 +243,35 @@ fn the_slower_takes_over_late(rt: HostRuntime) -> Result<(), Fail> {
 // Gates of cycles that have no divisor in common: the one of the smaller rate, as much later as the other is closed.
 #[test]
 fn gates(rt: HostRuntime) -> Result<(), Fail> {
-    let f = gate(rt.alloc(), 0, 50, 100)?;
-    let g = gate(rt.alloc(), 0, 41, 101)?;
-    let later = gate(rt.alloc(), 41, 91, 141)?;
+    let f = gate(rt.alloc(), 50, -500, 0, 100, 500)?;
+    let g = gate(rt.alloc(), 41, -410, 0, 101, 600)?;
+    let later = gate(rt.alloc(), 91, -910, 41, 100, 500)?;
     let c = convolved::<Brand>(rt.alloc(), Blank::new(1), &f, &g)?;
     assert!(rt; equal(&c, &later));
-    let long = gate(rt.alloc(), 0, 50, 1000)?;
-    let longer = gate(rt.alloc(), 0, 50, 1001)?;
-    let d = convolved::<Brand>(rt.alloc(), Blank::new(1), &long, &longer);
-    assert!(rt; is_too_many(d), "16 million pairs of pieces");
     Ok(())
 }
 
 // The same gates, closed for a unit of time before they begin: what is needed of the number of periods is found in memory.
 #[test]
 fn late_gates(rt: HostRuntime) -> Result<(), Fail> {
-    let f = gate(rt.alloc(), 1, 51, 101)?;
-    let g = gate(rt.alloc(), 1, 42, 102)?;
-    let later = gate(rt.alloc(), 43, 93, 143)?;
+    let f = gate(rt.alloc(), 51, -510, 1, 100, 500)?;
+    let g = gate(rt.alloc(), 42, -420, 1, 101, 600)?;
+    let later = gate(rt.alloc(), 93, -930, 43, 100, 500)?;
     let c = convolved::<Brand>(rt.alloc(), Blank::new(1), &f, &g)?;
     assert!(rt; equal(&c, &later));
+    Ok(())
+}
+
+// Too many pairs of pieces is answered at once: 16 million, both from 0 on and from later on.
+#[test]
+fn too_many(rt: HostRuntime) -> Result<(), Fail> {
+    let f = gate(rt.alloc(), 50, -500, 0, 1000, 9500)?;
+    let g = gate(rt.alloc(), 50, -500, 0, 1001, 9510)?;
+    let c = convolved::<Brand>(rt.alloc(), Blank::new(1), &f, &g);
+    assert!(rt; is_too_many(c), "from 0 on");
+    let later = gate(rt.alloc(), 51, -510, 1, 1000, 9500)?;
+    let last = gate(rt.alloc(), 51, -510, 1, 1001, 9510)?;
+    let d = convolved::<Brand>(rt.alloc(), Blank::new(1), &later, &last);
+    assert!(rt; is_too_many(d), "from later on");
     Ok(())
 }

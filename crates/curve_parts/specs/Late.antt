@@ -1,6 +1,6 @@
 -- From when on a convolution is the part in which the slower curve repeats. (Bouillard, Boyer and Le Corronc: the convolution of two curves repeats with the
 -- smaller of their rates.)
-use Rattle.std.specs.Prelude.{◌≡◌, ℕ, pos}
+use Rattle.std.specs.Prelude.{◌≡◌, ℕ, ◌≤◌, pos}
 use Rattle.rational.specs.Rational.{ℚ, ◌+ℚ◌, ◌≤ℚ◌, ◌<ℚ◌, int}
 use Rattle.rational.specs.Grid.{Whole}
 use Rattle.rational.specs.Extended.{Ext, ◌<ₑ◌}
@@ -32,6 +32,12 @@ pub record IsLateNumber (slow fast : SpecCurve) (from d : ℚ) (k : ℕ) : Type 
   pub least : IsLeast (IsLateAfter slow fast from d) k
   pub late : IsLateIn slow fast (periods_after from k d) d
 
+-- that number is there, and at most n
+pub record IsLateMost (slow fast : SpecCurve) (from d : ℚ) (n : ℕ) : Type 0 where
+  pub number : ℕ
+  pub is : IsLateNumber slow fast from d number
+  pub most : number ≤ n
+
 -- two curves of which the first is the slower, one common period after the sum of the times from when on they repeat, and a period more up to the
 -- end of the window
 pub record IsLateCall (slow fast : SpecCurve) (from d end : ℚ) : Type 0 where
@@ -52,6 +58,12 @@ IsSlowerAfter f g from d k = IsSlowerLateLeast f g (periods_after from k d) d
 pub record IsSlowerNumber (f g : SpecCurve) (from d : ℚ) (k : ℕ) : Type 0 where
   pub least : IsLeast (IsSlowerAfter f g from d) k
   pub late : IsSlowerLate f g (periods_after from k d) d
+
+-- that number is there, and at most n
+pub record IsSlowerMost (f g : SpecCurve) (from d : ℚ) (n : ℕ) : Type 0 where
+  pub number : ℕ
+  pub is : IsSlowerNumber f g from d number
+  pub most : number ≤ n
 
 -- two curves of any rates, as such a call
 pub record IsPartsCall (f g : SpecCurve) (from d end : ℚ) : Type 0 where

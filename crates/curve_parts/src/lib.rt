@@ -6,10 +6,12 @@ mod elements;
 mod gaps;
 mod lower;
 mod made;
+mod most;
 mod number;
 mod order;
 mod parts;
 mod pieces;
 mod rows;
 
+pub use most::most_periods;
 pub use order::{is_slower_curve, late_periods};

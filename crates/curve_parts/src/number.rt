@@ -25,8 +25,8 @@ fn quotient(a: Frac, b: Frac) -> Frac
     Frac::div(a, b).unwrap()
 }
 
-// By how much the faster curve rises more than the slower over a period.
-fn lead(s: &Scan, from: Frac, period: Frac) -> Frac
+/// By how much the faster curve rises more than the slower over a period.
+pub(crate) fn lead(s: &Scan, from: Frac, period: Frac) -> Frac
     requires { IsLateCall s.now.first.now s.now.second.now from period s.now.end }
     ensures { result ≡ rise_over s.now.second.now period -ℚ rise_over s.now.first.now period }
 {
