@@ -59,7 +59,8 @@ abbrev pub IsFiniteFrom : (ℚ → Ext) → ℚ → ℚ → Type 0
 IsFiniteFrom f t end = (s : ℚ) → t ≤ℚ s → s <ℚ end → (v : ℚ) × (f s ≡ Fin v)
 
 -- ---- the operands
--- the unrolled pieces of two operands of one call, below the end of its window, and how far past a time the first is read
+-- the unrolled pieces of two operands of one call, below the end of its window; how far past a time the first is read;
+-- the values just after the second's starts; and the second is finite so far
 pub record OperandWindows (end reach : ℚ) (f g : List Piece) : Type 0 where
   pub sizes : Sizes
   pub limited : AreLimited sizes end
@@ -83,7 +84,8 @@ pub record IsNumberedSupremum (f g : ℚ → Ext) (reach t : ℚ) (v : Ext) : Ty
   pub is : v ≡ Fin level
 
 abbrev pub IsReached : (ℚ → Ext) → (ℚ → Ext) → ℚ → ℚ → ℚ → Ext → Type 0
-IsReached f g reach end t v = IsInfiniteFrom f t end × (v ≡ Inf) ⊎ IsFiniteFrom f t end × IsNumberedSupremum f g reach t v
+IsReached f g reach end t v =
+    IsInfiniteFrom f t end × (v ≡ Inf) ⊎ IsFiniteFrom f t end × IsNumberedSupremum f g reach t v
 
 -- ---- windows
 -- pieces from 0 on that stand where what elements make stands, and bend only downwards between the times of the grid
@@ -94,12 +96,14 @@ pub record StandsAndArches (end reach : ℚ) (f g ps : List Piece) : Type 0 wher
 -- pieces that at `reach` after t read as the least of the pairs
 pub record IsPairsWindow (end reach : ℚ) (f g ps : List Piece) : Type 0 where
   pub form : StandsAndArches end reach f g ps
-  pub reads : (t : ℚ) → int (pos 0) ≤ℚ t → t +ℚ reach <ℚ end → IsLeastPair (read f) (read g) reach t (read ps (t +ℚ reach))
+  pub reads : (t : ℚ) → int (pos 0) ≤ℚ t → t +ℚ reach <ℚ end
+      → IsLeastPair (read f) (read g) reach t (read ps (t +ℚ reach))
 
 -- as that, and as infinity where f is
 pub record IsRaisedWindow (end reach : ℚ) (f g ps : List Piece) : Type 0 where
   pub form : StandsAndArches end reach f g ps
-  pub reads : (t : ℚ) → int (pos 0) ≤ℚ t → t +ℚ reach <ℚ end → IsRaised (read f) (read g) reach end t (read ps (t +ℚ reach))
+  pub reads : (t : ℚ) → int (pos 0) ≤ℚ t → t +ℚ reach <ℚ end
+      → IsRaised (read f) (read g) reach end t (read ps (t +ℚ reach))
 
 -- pieces from 0 on that read as the supremum; they have room, and the periods of what repeats them stand on the grids
 pub record IsDeconvolutionWindow (end reach : ℚ) (f g ps : List Piece) : Type 0 where
@@ -107,5 +111,6 @@ pub record IsDeconvolutionWindow (end reach : ℚ) (f g ps : List Piece) : Type 
   pub reads : (t : ℚ) → int (pos 0) ≤ℚ t → t +ℚ reach <ℚ end → IsReached (read f) (read g) reach end t (read ps t)
   pub before : Each (λ p. p.x +ℚ reach <ℚ end) ps
   pub room : (r : OperandWindows end reach f g) → Each (PieceHasRoom (answer_room r.sizes end) 1) ps
-  pub grids : (r : OperandWindows end reach f g) (from period rise : ℚ) → int (pos 0) ≤ℚ from → TailOf r.sizes end (from +ℚ reach) period (neg_ℚ rise)
+  pub grids : (r : OperandWindows end reach f g) (from period rise : ℚ) → int (pos 0) ≤ℚ from
+      → TailOf r.sizes end (from +ℚ reach) period (neg_ℚ rise)
       → OnGridsUnlessLine r.sizes.dt (grid_of r.sizes) (repeated (read ps) from period rise) from period rise

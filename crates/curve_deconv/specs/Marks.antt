@@ -1,4 +1,5 @@
--- Until when a function that is read off pieces is infinite at some later time, and pieces that are infinite that long. Own choice.
+-- Until when a function that is read off pieces is infinite at some later time, and pieces that are infinite that long.
+-- Own choice.
 use Rattle.std.specs.Prelude.{pos, cond, List, [], ◌∷◌, Option, Some, None}
 use Rattle.rational.specs.Rational.{ℚ, ◌+ℚ◌, int, lt_q}
 use Rattle.rational.specs.Extended.{Ext}

@@ -100,10 +100,11 @@ fn slower_answer(alloc: Global, f: &Curve, g: &Curve) -> Result<Curve, OpFault>
     Ok(deconvolved_within(alloc, f, g, &frame)?)
 }
 
-/// At each time t from 0 on the supremum of f(t + u) - g(u) over all u from 0 on (Le Boudec and Thiran, chapter 3); a limit that no
-/// time takes counts. g is finite. Negative values stay negative; the answer is infinite everywhere where f is the faster, and
-/// else exactly where f is infinite at t or later. So it is finite where f is finite and not the faster. One step is counted. Refused with TooWide or TooMany exactly where the call's gauge
-/// or tally is over that limit, never where f is the faster; else only for want of memory.
+/// At each time t from 0 on the supremum of f(t + u) - g(u) over all u from 0 on (Le Boudec and Thiran, chapter 3); a
+/// limit that no time takes counts. g is finite. Negative values stay negative; the answer is infinite everywhere where f
+/// is the faster, and else exactly where f is infinite at t or later. So it is finite where f is finite and not the
+/// faster. One step is counted. Refused with TooWide or TooMany exactly where the call's gauge or tally is over that
+/// limit, never where f is the faster; else only for want of memory.
 pub fn deconvolve<L: Ledger>(
     alloc: Global,
     f: &Curve,

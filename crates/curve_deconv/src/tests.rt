@@ -69,6 +69,23 @@ fn bucket(alloc: Global, burst: i128, rate: i128) -> Result<Curve, OpFault> {
     curve(alloc, &list, Tail::Affine { rank: Frac::zero() })
 }
 
+// A curve that repeats from 0 on with one piece: the value `at` at 0 and the line `line` after it.
+fn repeating(
+    alloc: Global,
+    at: i128,
+    line: Option<(i128, i128)>,
+    period: i128,
+    rise: i128,
+) -> Result<Curve, OpFault> {
+    let list = [piece(0, Extended::Fin(whole(at)), line)];
+    let tail = Tail::Periodic {
+        rank: Frac::zero(),
+        period: whole(period),
+        rise: whole(rise),
+    };
+    curve(alloc, &list, tail)
+}
+
 // The value at a time from 0 on; nothing where it is infinite.
 fn value(c: &Curve, t: Frac) -> Option<Frac> {
     match t.cmp(&Frac::zero()) {
@@ -112,13 +129,7 @@ fn a_bucket_through_a_latency(rt: HostRuntime) -> Result<(), Fail> {
 // A stair of 4000 each 1000 through a rate of 100 after 256: 7900 at 743, just before a step, and 8000 from 744 on.
 #[test]
 fn a_stair_through_a_latency(rt: HostRuntime) -> Result<(), Fail> {
-    let list = [piece(0, Extended::Fin(whole(4000)), Some((4000, 0)))];
-    let tail = Tail::Periodic {
-        rank: Frac::zero(),
-        period: whole(1000),
-        rise: whole(4000),
-    };
-    let f = curve(rt.alloc(), &list, tail)?;
+    let f = repeating(rt.alloc(), 4000, Some((4000, 0)), 1000, 4000)?;
     let g = late(rt.alloc(), 100, 256, -25600)?;
     let c = deconvolved::<Brand>(rt.alloc(), Blank::new(1), &f, &g)?;
     for (t, v) in [
@@ -173,5 +184,52 @@ fn infinite_for_a_while(rt: HostRuntime) -> Result<(), Fail> {
     for t in [3, 4] {
         assert!(rt; value(&c, whole(t)) == Some(whole(5)), "at {t}");
     }
+    Ok(())
+}
+
+// Stairs of one packet each 2 and of two packets each 3, the first packet of the second at 3: the limit at 1 is not taken.
+#[test]
+fn two_stairs(rt: HostRuntime) -> Result<(), Fail> {
+    let f = repeating(rt.alloc(), 1, Some((1, 0)), 2, 1)?;
+    let g = repeating(rt.alloc(), 0, Some((0, 0)), 3, 2)?;
+    let c = deconvolved::<Brand>(rt.alloc(), Blank::new(1), &f, &g)?;
+    for (t, v) in [(0, 2), (1, 2), (2, 3), (3, 3), (4, 4), (7, 5)] {
+        assert!(rt; value(&c, whole(t)) == Some(whole(v)), "at {t}");
+    }
+    if let Ok(late) = Frac::new(3, 2) {
+        assert!(rt; value(&c, late) == Some(whole(3)));
+    }
+    Ok(())
+}
+
+// Infinite for one time unit in each two: infinite everywhere.
+#[test]
+fn infinite_again_and_again(rt: HostRuntime) -> Result<(), Fail> {
+    let list = [
+        piece(0, Extended::Fin(Frac::zero()), Some((0, 0))),
+        piece(1, Extended::Fin(Frac::zero()), None),
+    ];
+    let tail = Tail::Periodic {
+        rank: Frac::zero(),
+        period: whole(2),
+        rise: Frac::zero(),
+    };
+    let f = curve(rt.alloc(), &list, tail)?;
+    let g = bucket(rt.alloc(), 0, 0)?;
+    let c = deconvolved::<Brand>(rt.alloc(), Blank::new(1), &f, &g)?;
+    assert!(rt; value(&c, whole(0)).is_none());
+    assert!(rt; value(&c, whole(7)).is_none());
+    Ok(())
+}
+
+// The first ends: infinite everywhere.
+#[test]
+fn the_first_ends(rt: HostRuntime) -> Result<(), Fail> {
+    let list = [piece(0, Extended::Fin(Frac::one()), Some((1, 0)))];
+    let f = curve(rt.alloc(), &list, Tail::Infinite { rank: Frac::one() })?;
+    let g = bucket(rt.alloc(), 0, 1)?;
+    let c = deconvolved::<Brand>(rt.alloc(), Blank::new(1), &f, &g)?;
+    assert!(rt; value(&c, whole(0)).is_none());
+    assert!(rt; value(&c, whole(2)).is_none());
     Ok(())
 }
