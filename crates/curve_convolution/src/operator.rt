@@ -48,7 +48,8 @@ fn slower_rise(f: &Curve, g: &Curve, period: Frac) -> Frac
 // The convolution of two curves in a call within both limits, where the number of periods is enough.
 fn convolved_within(alloc: Global, f: &Curve, g: &Curve, frame: &Frame) -> Result<Curve, AllocError>
     requires { IsConvolveFrame f.now g.now frame.now }
-    ensures { IfOk result (λ c. (t : ℚ) → int (pos 0) ≤ℚ t → IsConvolution (value_at f.now) (value_at g.now) t (value_at c t)) }
+    ensures { IfOk result (λ c. (t : ℚ) → int (pos 0) ≤ℚ t
+        → IsConvolution (value_at f.now) (value_at g.now) t (value_at c t)) }
 {
     let left = f.unrolled(frame.end)?;
     let right = g.unrolled(frame.end)?;
@@ -66,8 +67,8 @@ fn convolved_within(alloc: Global, f: &Curve, g: &Curve, frame: &Frame) -> Resul
     )
 }
 
-// Whether the tally is over its limit, where that is known without a scan: the tally with no period is, and with enough periods the
-// gauge is not.
+// Whether the tally is over its limit, where that is known without a scan: the tally with no period is, and with
+// enough periods the gauge is not.
 fn is_many(f: &Curve, g: &Curve, first: &CallWindow, from: Frac) -> bool
     requires curves { IsCurve f.now × IsCurve g.now }
     requires window { IsFirstWindow Convolve f.now g.now first.now }
@@ -87,10 +88,10 @@ fn is_many(f: &Curve, g: &Curve, first: &CallWindow, from: Frac) -> bool
     }
 }
 
-/// At each time t from 0 on the infimum of f(s) + g(u) over all s and u from 0 on whose sum is t (Le Boudec and Thiran, chapter 3). The
-/// curves may be infinite anywhere. One step is counted. Refused with TooWide or TooMany exactly where the call's gauge or tally is over
-/// that limit, or no number of periods is enough for the slower curve's part to have the least sums (TooWide); else only for want of
-/// memory.
+/// At each time t from 0 on the infimum of f(s) + g(u) over all s and u from 0 on whose sum is t (Le Boudec and
+/// Thiran, chapter 3). The curves may be infinite anywhere. One step is counted. Refused with TooWide or TooMany
+/// exactly where the call's gauge or tally is over that limit, or no number of periods is enough for the slower
+/// curve's part to have the least sums (TooWide); else only for want of memory.
 pub fn convolve<L: Ledger>(
     alloc: Global,
     f: &Curve,
@@ -98,7 +99,8 @@ pub fn convolve<L: Ledger>(
     steps: &mut Steps<L>,
 ) -> Result<Curve, OpFault>
     ensures count { steps.new ≡ steps.old + 1 }
-    ensures value { IfOk result (λ c. (t : ℚ) → int (pos 0) ≤ℚ t → IsConvolution (value_at f.now) (value_at g.now) t (value_at c t)) }
+    ensures value { IfOk result (λ c. (t : ℚ) → int (pos 0) ≤ℚ t
+        → IsConvolution (value_at f.now) (value_at g.now) t (value_at c t)) }
     ensures limits { KeepsLimits Convolve f.now g.now result }
 {
     steps.tick();

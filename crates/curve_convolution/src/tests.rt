@@ -251,7 +251,8 @@ fn gates(rt: HostRuntime) -> Result<(), Fail> {
     Ok(())
 }
 
-// The same gates, closed for a unit of time before they begin: what is needed of the number of periods is found in memory.
+// The same gates, closed for a unit of time before they begin: what is needed of the number of periods is found in
+// memory.
 #[test]
 fn late_gates(rt: HostRuntime) -> Result<(), Fail> {
     let f = gate(rt.alloc(), 51, -510, 1, 100, 500)?;

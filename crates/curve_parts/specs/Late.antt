@@ -1,5 +1,5 @@
--- From when on a convolution is the part in which the slower curve repeats. (Bouillard, Boyer and Le Corronc: the convolution of two curves repeats with the
--- smaller of their rates.)
+-- From when on a convolution is the part in which the slower curve repeats. (Bouillard, Boyer and Le Corronc: the
+-- convolution of two curves repeats with the smaller of their rates.)
 use Rattle.std.specs.Prelude.{◌≡◌, ℕ, ◌≤◌, pos}
 use Rattle.rational.specs.Rational.{ℚ, ◌+ℚ◌, ◌≤ℚ◌, ◌<ℚ◌, int}
 use Rattle.rational.specs.Grid.{Whole}
@@ -38,8 +38,8 @@ pub record IsLateMost (slow fast : SpecCurve) (from d : ℚ) (n : ℕ) : Type 0 
   pub is : IsLateNumber slow fast from d number
   pub most : number ≤ n
 
--- two curves of which the first is the slower, one common period after the sum of the times from when on they repeat, and a period more up to the
--- end of the window
+-- two curves of which the first is the slower, one common period after the sum of the times from when on they repeat,
+-- and a period more up to the end of the window
 pub record IsLateCall (slow fast : SpecCurve) (from d end : ℚ) : Type 0 where
   pub scan : IsScan slow fast end
   pub slower : rate slow <ₑ rate fast

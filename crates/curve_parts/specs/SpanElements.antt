@@ -1,4 +1,5 @@
--- The elements of a function over some times, and the pieces of a part of a convolution that are made of them. Own choice.
+-- The elements of a function over some times, and the pieces of a part of a convolution that are made of them. Own
+-- choice.
 use Rattle.std.specs.Prelude.{◌≡◌, pos, List, [], ◌∷◌, Option, Some, None}
 use Rattle.rational.specs.Rational.{ℚ, ◌≤ℚ◌, ◌<ℚ◌, int}
 use Rattle.rational.specs.Extended.{Ext}
@@ -25,8 +26,8 @@ pub record ReadsAs (f : ℚ → Ext) (until : Option ℚ) (e : Element) (s : ℚ
   pub before : IsBeforeNext s until
   pub value : f s ≡ Fin (level e s)
 
--- all elements stand within a window's sizes; their times are `from` or later, and before the end they read as f before `until`; each time of
--- these at which f is finite is a time of one
+-- all elements stand within a window's sizes; their times are `from` or later, and before the end they read as f
+-- before `until`; each time of these at which f is finite is a time of one
 pub record AreSpanElements (z : Sizes) (end : ℚ) (f : ℚ → Ext) (from : ℚ) (until : Option ℚ) (es : List Element) : Type 0 where
   pub proper : (e : Element) → Among e es → IsProper e
   pub stands : (e : Element) → Among e es → OperandElement z end e
@@ -34,8 +35,8 @@ pub record AreSpanElements (z : Sizes) (end : ℚ) (f : ℚ → Ext) (from : ℚ
   pub reads : (e : Element) (s : ℚ) → Among e es → Covers e s → s <ℚ end → ReadsAs f until e s
   pub found : (s v : ℚ) → from ≤ℚ s → IsBeforeNext s until → s <ℚ end → f s ≡ Fin v → ElementAt es s
 
--- pieces from 0 on that read, before the end, as what f and g make of the splits of which the first side is in [from, until) and the second is
--- `low` or later
+-- pieces from 0 on that read, before the end, as what f and g make of the splits of which the first side is in [from,
+-- until) and the second is `low` or later
 pub record IsPartWindow (z : Sizes) (end : ℚ) (f g : ℚ → Ext) (from : ℚ) (until : Option ℚ) (low : ℚ) (ps : List Piece) : Type 0 where
   pub stands : SumWindow z end ps
   pub reads : (t : ℚ) → int (pos 0) ≤ℚ t → t <ℚ end → IsPart f g (InPart from None until low) t (read ps t)

@@ -73,10 +73,13 @@ fn earlier(t: Frac, next: &Option<Frac>) -> Frac
 
 // The gap from t up to `end`, where neither goes on otherwise before that.
 fn stretch_gap(f: &Stretch, g: &Stretch, t: Frac, end: Frac) -> Gap
-    requires sizes { (z : Sizes) × (last : ℚ) × SumTimeIn z last t × SumTimeTo z last end × SumStretch z t f.now × SumStretch z t g.now }
+    requires sizes { (z : Sizes) × (last : ℚ) × SumTimeIn z last t × SumTimeTo z last end
+        × SumStretch z t f.now × SumStretch z t g.now }
     requires some { t <ℚ end }
-    ensures sizes { (z : Sizes) (last : ℚ) → SumTimeIn z last t → SumTimeTo z last end → SumStretch z t f.now → SumStretch z t g.now → PartGapStands z result }
-    ensures gap { (slow fast : ℚ → Ext) → GoesOn slow t f.now → GoesOn fast t g.now → IsUntil end f.now.next → IsUntil end g.now.next
+    ensures sizes { (z : Sizes) (last : ℚ) → SumTimeIn z last t → SumTimeTo z last end → SumStretch z t f.now
+        → SumStretch z t g.now → PartGapStands z result }
+    ensures gap { (slow fast : ℚ → Ext) → GoesOn slow t f.now → GoesOn fast t g.now → IsUntil end f.now.next
+        → IsUntil end g.now.next
         → IsGap (InWindow t end) slow fast result }
 {
     let start = gap_of(f.at, g.at);
@@ -85,9 +88,9 @@ fn stretch_gap(f: &Stretch, g: &Stretch, t: Frac, end: Frac) -> Gap
     larger(start, larger(after, before))
 }
 
-/// By how much, from `from` to the end of the window, the splits of which the first side is `first` or later make more than those of
-/// which it is before, and the second is `second` or later. Each of both parts is read from its pieces, where they are made, or else
-/// found by a scan at each time. No memory is taken.
+/// By how much, from `from` to the end of the window, the splits of which the first side is `first` or later make
+/// more than those of which it is before, and the second is `second` or later. Each of both parts is read from its
+/// pieces, where they are made, or else found by a scan at each time. No memory is taken.
 pub(crate) fn part_gap(
     s: &Scan,
     made_late: &Option<Vec<Piece>>,
@@ -97,16 +100,20 @@ pub(crate) fn part_gap(
     from: Frac,
 ) -> Gap
     requires scan { IsScan s.now.first.now s.now.second.now s.now.end }
-    requires late { IfSome made_late.now (λ v. IsPartWindow (sizes_in s.now.first.now s.now.second.now s.now.end) s.now.end (value_at s.now.first.now)
+    requires late { IfSome made_late.now (λ v. IsPartWindow (sizes_in s.now.first.now s.now.second.now s.now.end)
+        s.now.end (value_at s.now.first.now)
         (value_at s.now.second.now) first None (int (pos 0)) v.items) }
-    requires soon { IfSome made_soon.now (λ v. IsPartWindow (sizes_in s.now.first.now s.now.second.now s.now.end) s.now.end (value_at s.now.first.now)
+    requires soon { IfSome made_soon.now (λ v. IsPartWindow (sizes_in s.now.first.now s.now.second.now s.now.end)
+        s.now.end (value_at s.now.first.now)
         (value_at s.now.second.now) (int (pos 0)) (Some first) second v.items) }
     requires first { WindowTime (sizes_in s.now.first.now s.now.second.now s.now.end) s.now.end first }
     requires second { WindowTime (sizes_in s.now.first.now s.now.second.now s.now.end) s.now.end second }
     requires from { WindowTime (sizes_in s.now.first.now s.now.second.now s.now.end) s.now.end from }
-    ensures gap { (a b : ℚ → Ext) → ArePartValues (value_at s.now.first.now) (value_at s.now.second.now) first second from s.now.end a b
+    ensures gap { (a b : ℚ → Ext) → ArePartValues (value_at s.now.first.now)
+        (value_at s.now.second.now) first second from s.now.end a b
         → IsGap (InWindow from s.now.end) a b result }
-    ensures values { (t : ℚ) → InWindow from s.now.end t → HavePartValues (value_at s.now.first.now) (value_at s.now.second.now) first second t }
+    ensures values { (t : ℚ) → InWindow from s.now.end t → HavePartValues (value_at s.now.first.now)
+        (value_at s.now.second.now) first second t }
     ensures sizes { PartGapStands (sizes_in s.now.first.now s.now.second.now s.now.end) result }
 {
     let zero = Frac::zero();

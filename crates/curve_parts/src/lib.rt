@@ -1,5 +1,5 @@
-//! The parts of a convolution of two curves, before and from the time on from which they repeat, and from which number of periods on
-//! the convolution is that of the parts that rise the least.
+//! The parts of a convolution of two curves, before and from the time on from which they repeat, and from which
+//! number of periods on the convolution is that of the parts that rise the least.
 #![tactic(auto)]
 
 mod elements;

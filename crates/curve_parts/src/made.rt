@@ -1,4 +1,5 @@
-//! A part of a convolution as pieces in memory: the elements of the spans of both curves, and the least of what their pairs make.
+//! A part of a convolution as pieces in memory: the elements of the spans of both curves, and the least of what their
+//! pairs make.
 
 ghost use Rattle.std.specs.Prelude.{◌≡◌, ◌++◌, pos, None, OnOk, IfOk, IfSome};
 ghost use Rattle.rational.specs.Rational.{int, ◌<ℚ◌};
@@ -31,7 +32,8 @@ fn push_elements(
     to: Option<Frac>,
     line: Option<Line>,
 ) -> Result<(), AllocError>
-    ensures { OnOk result (elements.new.items ≡ (elements.old.items ++ listed (point_at x at)) ++ listed (open_at x to line)) }
+    ensures { OnOk result (elements.new.items ≡ (elements.old.items ++ listed (point_at x at))
+        ++ listed (open_at x to line)) }
 {
     if let Extended::Fin(v) = at {
         elements.push(Element::Point { x, v })?;
@@ -57,7 +59,8 @@ fn span_elements(
     requires curve { HasWindow (sizes_in s.now.first.now s.now.second.now s.now.end) s.now.end c.now }
     requires from { WindowTime (sizes_in s.now.first.now s.now.second.now s.now.end) s.now.end from }
     requires until { AtNext (WindowTime (sizes_in s.now.first.now s.now.second.now s.now.end) s.now.end) until.now }
-    ensures { IfOk result (λ v. AreSpanElements (sizes_in s.now.first.now s.now.second.now s.now.end) s.now.end (value_at c.now) from until.now v.items) }
+    ensures { IfOk result (λ v. AreSpanElements (sizes_in s.now.first.now s.now.second.now s.now.end) s.now.end
+        (value_at c.now) from until.now v.items) }
 {
     let limit = limit_of(s.end, until);
     let mut elements = Vec::new(alloc);
@@ -74,7 +77,8 @@ fn span_elements(
     Ok(elements)
 }
 
-// What the two curves make of the splits of which the first side is in [from, until) and the second is `low` or later, up to the end.
+// What the two curves make of the splits of which the first side is in [from, until) and the second is `low` or
+// later, up to the end.
 fn part_window(
     alloc: Global,
     s: &Scan,
@@ -87,7 +91,8 @@ fn part_window(
     requires until { AtNext (WindowTime (sizes_in s.now.first.now s.now.second.now s.now.end) s.now.end) until.now }
     requires low { WindowTime (sizes_in s.now.first.now s.now.second.now s.now.end) s.now.end low }
     requires some { int (pos 0) <ℚ s.now.end }
-    ensures { IfOk result (λ v. IsPartWindow (sizes_in s.now.first.now s.now.second.now s.now.end) s.now.end (value_at s.now.first.now) (value_at s.now.second.now)
+    ensures { IfOk result (λ v. IsPartWindow (sizes_in s.now.first.now s.now.second.now s.now.end) s.now.end
+        (value_at s.now.first.now) (value_at s.now.second.now)
         from until.now low v.items) }
 {
     let xs = span_elements(alloc, s, s.first, from, until)?;
@@ -108,7 +113,8 @@ pub(crate) fn made_part(
     requires until { AtNext (WindowTime (sizes_in s.now.first.now s.now.second.now s.now.end) s.now.end) until.now }
     requires low { WindowTime (sizes_in s.now.first.now s.now.second.now s.now.end) s.now.end low }
     requires some { int (pos 0) <ℚ s.now.end }
-    ensures { IfSome result (λ v. IsPartWindow (sizes_in s.now.first.now s.now.second.now s.now.end) s.now.end (value_at s.now.first.now) (value_at s.now.second.now)
+    ensures { IfSome result (λ v. IsPartWindow (sizes_in s.now.first.now s.now.second.now s.now.end) s.now.end
+        (value_at s.now.first.now) (value_at s.now.second.now)
         from until.now low v.items) }
 {
     if tally_over(&OpKind::Convolve, s.first, s.second, s.end) > 1 << 22 {
@@ -130,13 +136,15 @@ pub(crate) fn part_at(
     t: Frac,
 ) -> Stretch
     requires scan { IsScan s.now.first.now s.now.second.now s.now.end }
-    requires made { IfSome made.now (λ v. IsPartWindow (sizes_in s.now.first.now s.now.second.now s.now.end) s.now.end (value_at s.now.first.now)
+    requires made { IfSome made.now (λ v. IsPartWindow (sizes_in s.now.first.now s.now.second.now s.now.end)
+        s.now.end (value_at s.now.first.now)
         (value_at s.now.second.now) from until.now low v.items) }
     requires from { WindowTime (sizes_in s.now.first.now s.now.second.now s.now.end) s.now.end from }
     requires until { AtNext (WindowTime (sizes_in s.now.first.now s.now.second.now s.now.end) s.now.end) until.now }
     requires low { WindowTime (sizes_in s.now.first.now s.now.second.now s.now.end) s.now.end low }
     requires time { SumStart (sizes_in s.now.first.now s.now.second.now s.now.end) s.now.end t }
-    ensures ahead { IsAhead (PartSplit (InPart from None until.now low)) (part_sum (value_at s.now.first.now) (value_at s.now.second.now) (InPart from None until.now low))
+    ensures ahead { IsAhead (PartSplit (InPart from None until.now low)) (part_sum (value_at s.now.first.now)
+        (value_at s.now.second.now) (InPart from None until.now low))
         s.now.end t result }
     ensures sizes { SumStretch (sizes_in s.now.first.now s.now.second.now s.now.end) t result }
 {

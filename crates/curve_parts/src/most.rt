@@ -62,9 +62,9 @@ fn most_late(s: &Scan, from: Frac, period: Frac) -> Option<u128>
     }
 }
 
-/// A number n of periods, at once, where both curves are numbers at each time: the least number of periods after `from` after which the
-/// convolution is the part in which the slower one repeats is there, and at most n. None also where n is not found by one division. The
-/// times are as for `late_periods`.
+/// A number n of periods, at once, where both curves are numbers at each time: the least number of periods after
+/// `from` after which the convolution is the part in which the slower one repeats is there, and at most n. None also
+/// where n is not found by one division. The times are as for `late_periods`.
 pub fn most_periods(f: &Curve, g: &Curve, from: Frac, period: Frac, end: Frac) -> Option<u128>
     requires { IsPartsCall f.now g.now from period end }
     ensures { IfSome result (IsSlowerMost f.now g.now from period) }

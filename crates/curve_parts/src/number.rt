@@ -45,11 +45,11 @@ fn least_over(gap: Frac, lead: Frac) -> u128
     quotient(gap, lead).size_up()
 }
 
-/// The least number k of periods after `from` after which, for a period, no split of which the first side is before the time `first` from
-/// which on the slower curve repeats makes less than those of which it is later; none where there is no such number. `second` is the
-/// time from which on the faster curve repeats. It is 0 at once where `first` is 0. Else both
-/// parts are made in memory, where there are few enough pairs of pieces; where there are more, or memory is refused, they are
-/// scanned.
+/// The least number k of periods after `from` after which, for a period, no split of which the first side is before
+/// the time `first` from which on the slower curve repeats makes less than those of which it is later; none where
+/// there is no such number. `second` is the time from which on the faster curve repeats. It is 0 at once where
+/// `first` is 0. Else both parts are made in memory, where there are few enough pairs of pieces; where there are
+/// more, or memory is refused, they are scanned.
 pub(crate) fn late_number(
     alloc: Global,
     s: &Scan,

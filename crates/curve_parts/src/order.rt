@@ -29,10 +29,11 @@ pub fn is_slower_curve(f: &Curve, g: &Curve) -> bool
     is_slower(&Side::of(f), &Side::of(g))
 }
 
-/// The least number k of periods after `from` after which, for a period, the convolution of two curves is the part in which the slower
-/// one repeats; none where there is no such number, and 0 for curves of one rate. `from` is one common period after the sum of the times
-/// from which on the curves repeat, and `end` is a period later. Both curves' numbers up to `end` have the sizes of a gauge below 2^120.
-/// Where memory is refused, or the pairs of pieces are many, it is found without any; it may take long then.
+/// The least number k of periods after `from` after which, for a period, the convolution of two curves is the part in
+/// which the slower one repeats; none where there is no such number, and 0 for curves of one rate. `from` is one
+/// common period after the sum of the times from which on the curves repeat, and `end` is a period later. Both
+/// curves' numbers up to `end` have the sizes of a gauge below 2^120. Where memory is refused, or the pairs of pieces
+/// are many, it is found without any; it may take long then.
 pub fn late_periods(
     alloc: Global,
     f: &Curve,
@@ -42,7 +43,8 @@ pub fn late_periods(
     end: Frac,
 ) -> Option<u128>
     requires { IsPartsCall f.now g.now from period end }
-    ensures { MatchOption result ((k : ℕ) → ¬ (IsSlowerAfter f.now g.now from period k)) (IsSlowerNumber f.now g.now from period) }
+    ensures { MatchOption result ((k : ℕ) → ¬ (IsSlowerAfter f.now g.now from period k))
+        (IsSlowerNumber f.now g.now from period) }
 {
     let first = begin(f);
     let second = begin(g);
