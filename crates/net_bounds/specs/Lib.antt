@@ -1,0 +1,3 @@
+pub mod NetRuns
+pub mod TableValues
+pub mod Guarantee
