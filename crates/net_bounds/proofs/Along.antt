@@ -30,7 +30,7 @@ use Rattle.net_cells.specs.CellFormulas.{packets_to, served_to}
 use Rattle.net_cells.specs.Means.{Means}
 use Rattle.net_bounds.specs.NetRuns.{hops_along, routes_of}
 use Rattle.net_bounds.specs.TableValues.{HasCurve}
-use Rattle.net_bounds.specs.Guarantee.{seen_by}
+use Rattle.net_bounds.specs.Promises.{seen_by}
 use Rattle.net_bounds.proofs.Routed.{link_is}
 use Rattle.net_bounds.proofs.Cells.{values, values_are, HasValues, curve_map, same_curve}
 use Rattle.net_bounds.proofs.Equations.{a_curve, less_reads}

@@ -36,7 +36,7 @@ use Rattle.net_cells.proofs.Lists.{Has, has_filter, filter_has, has_range, range
 use Rattle.net_cells.proofs.Places.{has_visit, visit_has}
 use Rattle.net_bounds.specs.NetRuns.{routes_of, IsRunOf}
 use Rattle.net_bounds.specs.TableValues.{HasCurve}
-use Rattle.net_bounds.specs.Guarantee.{seen_by}
+use Rattle.net_bounds.specs.Promises.{seen_by}
 use Rattle.net_bounds.proofs.Placed.{place_of_at}
 use Rattle.net_bounds.proofs.Paths.{queue_is, passes_has}
 use Rattle.net_bounds.proofs.Routed.{own_queues, live_is, hops_is, routed, hop_is_live, hop_at, passes_at, hop_passes}

@@ -13,6 +13,7 @@ use Rattle.run_laws.specs.Routes.{Hop, route_of, first_server}
 use Rattle.run_laws.specs.Bounds.{IsFlowBounded}
 use Rattle.net_laws.specs.Paths.{IsPath, StaysAtMost, IsServedAlong, sum_along, links_along}
 use Rattle.net_laws.proofs.Ends.{delay_from_hops, delay_from_path_service}
+use Rattle.net_laws.proofs.Paths.{path_is_served}
 use Rattle.net_model.specs.Networks.{Net}
 use Rattle.net_model.specs.Accepted.{IsAccepted}
 use Rattle.net_cells.specs.declared.cell.Kind.TheVariants.{In, PathService, Tfa, Sfa, Bound}
@@ -24,10 +25,10 @@ use Rattle.net_cells.specs.Means.{with_links}
 use Rattle.net_cells.specs.Equations.{MeetsEquations}
 use Rattle.net_bounds.specs.NetRuns.{routes_of, hops_along, IsRunOf}
 use Rattle.net_bounds.specs.TableValues.{HasCurve, HasNumber}
-use Rattle.net_bounds.specs.Guarantee.{seen_by, IsPathKept}
+use Rattle.net_bounds.specs.Promises.{seen_by, IsPathKept}
 use Rattle.net_bounds.proofs.Paths.{first_is}
 use Rattle.net_bounds.proofs.Routed.{own_queues, live_is, hops_is, routed, hop_inside, path_is}
-use Rattle.net_bounds.proofs.Cells.{values, curve_from, curve_holds, number_from}
+use Rattle.net_bounds.proofs.Cells.{values, curve_from, curve_has, curve_holds, number_from}
 use Rattle.net_bounds.proofs.Equations.{deviation_reads, residual_is}
 use Rattle.net_bounds.proofs.Comes.{AtServer, flow_comes}
 use Rattle.net_bounds.proofs.Hops.{AtHop, flow_served}
@@ -109,6 +110,16 @@ links_of : (net : Net) (ps qs : List ℕ) → length qs ≡ length ps → 1 ≤ 
 links_of net [] qs e some = absurd (omega (arith, some))
 links_of net (s ∷ ps) qs e some = links_are net s ps qs e
 
+-- the flow is served by its services
+served_along : (net : Net) (at : CellTable) (run : SpecRun) (i : ℕ) → AlongPath net at run i
+    → IsServedAlong (routes_of net) run i (route_of (routes_of net) i).hops (services net at i 0 (hops net i - 1))
+served_along net at run i w =
+    let on = routed net i w.accepted w.live in
+    let some : 1 ≤ hops net i = on.some in
+    subst (λ (hs : List Hop). IsServedAlong (routes_of net) run i hs (services net at i 0 (hops net i - 1))) (sym (hops_is net i))
+    (serves_along net at run i 0 (hops net i - 1) (path net i) (own_queues net i) (omega arith) on.paired
+    (whole_path net at run i w))
+
 pub sfa_kept : (net : Net) (at : CellTable) (run : SpecRun) (i : ℕ) → AlongPath net at run i
     → HasNumber at (cell_of Sfa i 0) (IsFlowBounded (routes_of net) run i)
 sfa_kept net at run i w =
@@ -119,14 +130,12 @@ sfa_kept net at run i w =
     let α = values at (cell_of In i 0) in
     let γ = values at (cell_of PathService i 0) in
     let curves = services net at i 0 (hops net i - 1) in
-    let some : 1 ≤ hops net i = on.some in
     let is_h : IsHorizontalDeviation α γ h =
     deviation_reads at (cell_of In i 0) (cell_of PathService i 0) IsHorizontalDeviation (number h) e.means.is in
     let along : IsAlong curves γ = curve_holds at (cell_of PathService i 0) (IsAlong curves) (path_served net at run i w) in
-    let serves = serves_along net at run i 0 (hops net i - 1) (path net i) (own_queues net i) (omega arith) on.paired (whole_path net at run i w) in
     let bounded : IsFlowBounded R run i (h +ₑ Fin (links_along R (route_of R i).hops)) =
     delay_from_path_service R run i α γ h curves w.run_of.lawful (path_ok net at run i w) (comes_first net at run i w)
-    (subst (λ (hs : List Hop). IsServedAlong R run i hs curves) (sym (hops_is net i)) serves) along.splits along.grows.rising is_h in
+    (served_along net at run i w) along.splits along.grows.rising is_h in
     let is : h +ₑ Fin (links_along R (route_of R i).hops) ≡ total (with_links (h ∷ []) (map (link net) (path net i))) =
     ap (λ (hs : List Hop). h +ₑ Fin (links_along R hs)) (hops_is net i)
     ∙ ap (λ (x : Ext). h +ₑ x) (sym (links_of net (path net i) (own_queues net i) on.paired on.some)) in
@@ -143,6 +152,9 @@ of_lesser P x y h k = elim (min_one x y) [
 pub path_kept : (net : Net) (at : CellTable) (run : SpecRun) (i : ℕ) → AlongPath net at run i → IsPathKept net at run i
 path_kept net at run i w =
     let R = routes_of net in
+    let curves = services net at i 0 (hops net i - 1) in
+    let path = path_served net at run i w in
+    let along : IsAlong curves (values at (cell_of PathService i 0)) = curve_holds at (cell_of PathService i 0) (IsAlong curves) path in
     let tfa = tfa_kept net at run i w in
     let sfa = sfa_kept net at run i w in
     let e = w.meets (cell_of Bound i 0) (path_cell net at run i w) in
@@ -151,8 +163,10 @@ path_kept net at run i w =
     let is_x : tfa.value ≡ x = same tfa.value x (sym tfa.is ∙ e.means.is) in
     let is_y : sfa.value ≡ y = same sfa.value y (sym sfa.is ∙ e.means.gives.is) in
     record {
-      tfa = tfa;
-      sfa = sfa;
+      served = curve_has at (cell_of PathService i 0) _ _ path
+          (path_is_served R run i (values at (cell_of PathService i 0)) curves w.run_of.lawful (path_ok net at run i w) (served_along net at run i w) along.splits);
+      by_hops = tfa;
+      by_service = sfa;
       bound = number_from at (cell_of Bound i 0) (IsFlowBounded R run i) e.value e.is
           (subst (IsNumberIn (IsFlowBounded R run i)) (sym e.means.gives.gives)
           (of_lesser (IsFlowBounded R run i) x y (subst (IsFlowBounded R run i) is_x tfa.holds) (subst (IsFlowBounded R run i) is_y sfa.holds)));

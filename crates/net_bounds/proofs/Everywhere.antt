@@ -26,7 +26,7 @@ use Rattle.net_cells.specs.Meanings.{CellTable}
 use Rattle.net_cells.specs.Equations.{MeetsEquations}
 use Rattle.net_cells.proofs.Lists.{Has, contains_has}
 use Rattle.net_bounds.specs.NetRuns.{routes_of, IsRunOf}
-use Rattle.net_bounds.specs.Guarantee.{seen_by}
+use Rattle.net_bounds.specs.Promises.{seen_by}
 use Rattle.net_bounds.proofs.Placed.{place_in, placed, place_of_at}
 use Rattle.net_bounds.proofs.Paths.{IsNextPlace, after_is, first_is}
 use Rattle.net_bounds.proofs.Routed.{own_queues, live_is, hops_is, live_flow, routed, hop_inside, hop_at, path_is}

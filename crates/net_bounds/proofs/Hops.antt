@@ -33,7 +33,7 @@ use Rattle.net_cells.specs.Cells.{cell_of}
 use Rattle.net_cells.specs.Meanings.{CellTable}
 use Rattle.net_cells.proofs.Lists.{at_has}
 use Rattle.net_bounds.specs.NetRuns.{routes_of}
-use Rattle.net_bounds.specs.Guarantee.{seen_by, IsHopKept}
+use Rattle.net_bounds.specs.Promises.{seen_by, IsHopKept}
 use Rattle.net_bounds.proofs.Paths.{queue_is}
 use Rattle.net_bounds.proofs.Routed.{own_queues, hops_is, routed, hop_is_live, hop_at, queue_inside}
 use Rattle.net_bounds.proofs.Seen.{IsInOwnQueue, cards_map, in_own_queues, Agree, agree_back, keeps_same, serves_same, same_delays, same_departed_in}
@@ -212,4 +212,5 @@ hop_kept net at run i k w =
       comes = curve_has at (cell_of In i k) _ _ (in_curve net at i k meets w.within) (flow_comes net at run s i k w.server w.within refl);
       served = curve_has at (cell_of Residual i k) _ _ (residual_is net at i k meets w.within) (flow_served_there net at run i k s w);
       stays = number_has at (cell_of HopDelay i k) _ _ (hop_delay_is net at i k meets w.within) (flow_stays_there net at run i k s w);
+      leaves = λ more. curve_has at (cell_of Out i k) _ _ (out_is net at i k meets more) (flow_goes_on net at run i k s w more);
     }

@@ -19,7 +19,7 @@ use Rattle.net_cells.specs.Meanings.{CellTable}
 use Rattle.net_cells.specs.NumberSums.{total}
 use Rattle.net_cells.specs.Means.{HaveNumbers, with_links}
 use Rattle.net_bounds.specs.NetRuns.{hops_along, routes_of}
-use Rattle.net_bounds.specs.Guarantee.{seen_by}
+use Rattle.net_bounds.specs.Promises.{seen_by}
 use Rattle.net_bounds.proofs.Routed.{link_is}
 use Rattle.net_bounds.proofs.Cells.{number_is}
 use Rattle.net_bounds.proofs.Hops.{AtHop, flow_stays_there, hop_delay_low}

@@ -35,7 +35,7 @@ use Rattle.net_cells.specs.Visits.{longest, longest_after}
 use Rattle.net_cells.specs.Cells.{cell_of}
 use Rattle.net_cells.specs.Meanings.{CellTable}
 use Rattle.net_bounds.specs.NetRuns.{routes_of}
-use Rattle.net_bounds.specs.Guarantee.{seen_by, IsQueueKept}
+use Rattle.net_bounds.specs.Promises.{seen_by, IsQueueKept}
 use Rattle.net_bounds.proofs.Routed.{hop_at, known_server, servers_are, discipline_is, queue_inside}
 use Rattle.net_bounds.proofs.Cells.{values, size_in, curve_has, number_has, curve_holds, number_holds}
 use Rattle.net_bounds.proofs.Equations.{IsServiceBy, queue_service_is, queue_delay_is, queue_backlog_is}
