@@ -1,0 +1,16 @@
+pub mod Placed
+pub mod Paths
+pub mod Routed
+pub mod Seen
+pub mod ListSums
+pub mod Cells
+pub mod Equations
+pub mod Comes
+pub mod Queues
+pub mod Hops
+pub mod Everywhere
+pub mod Hopwise
+pub mod Splits
+pub mod Along
+pub mod EndToEnd
+pub mod Kept
