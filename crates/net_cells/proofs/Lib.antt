@@ -12,3 +12,4 @@ pub mod Determined
 pub mod Growing
 pub mod Stored
 pub mod LeavesOf
+pub mod Counting

@@ -1,5 +1,5 @@
 -- Which flows pass a server, and in which of its queues. (Own choice.)
-use Rattle.std.specs.Prelude.{ℕ, ◌+◌, List, [], ◌∷◌, length, map, max, Bool, not, ◌==◌, nat_lt, slice_index}
+use Rattle.std.specs.Prelude.{ℕ, ◌+◌, List, [], ◌∷◌, length, map, max, Bool, not, ◌==◌, ◌&&◌, nat_lt, slice_index}
 use Rattle.std.specs.List.{filter, flat_map, range_with_len}
 use Rattle.net_model.specs.Networks.{Net}
 pub use Rattle.net_cells.specs.declared.visit.Visit.{Visit}
@@ -27,6 +27,11 @@ visits net s = filter (is_at net s) (all_visits net)
 -- those in one of its queues
 abbrev pub visits_in : Net → ℕ → ℕ → List Visit
 visits_in net s q = filter (λ v. queue_at net v.flow v.hop == q) (visits net s)
+
+-- and there those of one path with its queues
+abbrev pub hops_in : ℕ → (way lanes : List ℕ) → (s q : ℕ) → List Visit
+hops_in i way lanes s q =
+    filter (λ v. (slice_index way v.hop == s) && (slice_index lanes v.hop == q)) (map (visit i) (range_with_len 0 (length way)))
 
 -- and there of the other flows
 abbrev pub others : Net → ℕ → ℕ → ℕ → List Visit

@@ -4,6 +4,7 @@
 #![tactic(auto)]
 
 mod cell;
+mod effort;
 mod laws;
 mod numbered;
 mod operand;
@@ -11,6 +12,7 @@ mod order;
 mod visit;
 
 pub use cell::{Cell, Kind, Scope};
+pub use effort::work;
 pub use laws::{
     answers_meet_equations, formulas_are_determined, front_meets_below, one_is_first_over,
     operands_come_first, order_has_each_cell, tables_agree, work_is_operators,
