@@ -33,8 +33,8 @@ use Rattle.net_bounds.specs.TableValues.{HasCurve}
 use Rattle.net_bounds.specs.Promises.{seen_by}
 use Rattle.net_bounds.proofs.Routed.{link_is}
 use Rattle.net_bounds.proofs.Cells.{values, values_are, HasValues, curve_map, same_curve}
-use Rattle.net_bounds.proofs.Equations.{a_curve, less_reads}
-use Rattle.net_bounds.proofs.Comes.{flow_sizes}
+use Rattle.net_bounds.proofs.FormulaParts.{a_curve, less_reads}
+use Rattle.net_bounds.proofs.Sizes.{flow_sizes}
 use Rattle.net_bounds.proofs.Queues.{here, lawful_here}
 use Rattle.net_bounds.proofs.Hops.{flow_served_there}
 use Rattle.net_bounds.proofs.Hopwise.{IsRestFrom, first_hop, rest_from}

@@ -29,8 +29,9 @@ use Rattle.net_bounds.specs.Promises.{seen_by, IsPathKept}
 use Rattle.net_bounds.proofs.Paths.{first_is}
 use Rattle.net_bounds.proofs.Routed.{own_queues, live_is, hops_is, routed, hop_inside, path_is}
 use Rattle.net_bounds.proofs.Cells.{values, curve_from, curve_has, curve_holds, number_from}
-use Rattle.net_bounds.proofs.Equations.{deviation_reads, residual_is}
-use Rattle.net_bounds.proofs.Comes.{AtServer, flow_comes}
+use Rattle.net_bounds.proofs.FormulaParts.{deviation_reads}
+use Rattle.net_bounds.proofs.HopCells.{residual_is}
+use Rattle.net_bounds.proofs.Arriving.{AtServer, flow_comes}
 use Rattle.net_bounds.proofs.Hops.{AtHop, flow_served}
 use Rattle.net_bounds.proofs.Hopwise.{IsRestFrom, stays_along, sum_is}
 use Rattle.net_bounds.proofs.Along.{services, IsAlong, AllGrow, path_reads, serves_along, links_are}

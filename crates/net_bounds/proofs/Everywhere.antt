@@ -31,8 +31,8 @@ use Rattle.net_bounds.proofs.Placed.{place_in, placed, place_of_at}
 use Rattle.net_bounds.proofs.Paths.{IsNextPlace, after_is, first_is}
 use Rattle.net_bounds.proofs.Routed.{own_queues, live_is, hops_is, live_flow, routed, hop_inside, hop_at, path_is}
 use Rattle.net_bounds.proofs.Cells.{values, curve_holds}
-use Rattle.net_bounds.proofs.Equations.{in_first, in_next}
-use Rattle.net_bounds.proofs.Comes.{arrivals, AtServer}
+use Rattle.net_bounds.proofs.HopCells.{in_first, in_next}
+use Rattle.net_bounds.proofs.Arriving.{arrivals, AtServer}
 use Rattle.net_bounds.proofs.Hops.{flow_goes_on}
 
 -- ---- the order goes forward

@@ -39,8 +39,11 @@ use Rattle.net_bounds.proofs.Routed.{own_queues, hops_is, routed, hop_is_live, h
 use Rattle.net_bounds.proofs.Seen.{IsInOwnQueue, cards_map, in_own_queues, Agree, agree_back, keeps_same, serves_same, same_delays, same_departed_in}
 use Rattle.net_bounds.proofs.ListSums.{own, others, in_two}
 use Rattle.net_bounds.proofs.Cells.{values, size_in, curve_has, number_has, curve_holds, number_holds}
-use Rattle.net_bounds.proofs.Equations.{in_curve, theta_is, residual_is, IsHopDelay, hop_delay_is, queue_delay_is, shift_out_is, deconv_out_is, out_is}
-use Rattle.net_bounds.proofs.Comes.{AtServer, hop_is, flow_comes, queue_comes, cross_comes, flow_sizes}
+use Rattle.net_bounds.proofs.HopCells.{in_curve, theta_is, residual_is, IsHopDelay, hop_delay_is, shift_out_is, deconv_out_is, out_is}
+use Rattle.net_bounds.proofs.QueueCells.{queue_delay_is}
+use Rattle.net_bounds.proofs.Arriving.{AtServer, hop_is, flow_comes}
+use Rattle.net_bounds.proofs.Comes.{queue_comes, cross_comes}
+use Rattle.net_bounds.proofs.Sizes.{flow_sizes}
 use Rattle.net_bounds.proofs.Queues.{here, lawful_here, queue_served}
 
 -- ---- the setting

@@ -18,7 +18,7 @@ use Rattle.net_bounds.specs.OneServer.{FlowsKeep, ServerKeeps}
 use Rattle.net_bounds.specs.Guarantee.{TableBoundsEveryRun}
 use Rattle.net_bounds.proofs.Routed.{hop_inside, hop_at, passes_at}
 use Rattle.net_bounds.proofs.Cells.{curve_holds}
-use Rattle.net_bounds.proofs.Comes.{arrivals, AtServer}
+use Rattle.net_bounds.proofs.Arriving.{arrivals, AtServer}
 use Rattle.net_bounds.proofs.Queues.{queue_kept}
 use Rattle.net_bounds.proofs.Hops.{hop_kept}
 use Rattle.net_bounds.proofs.Everywhere.{at_server}

@@ -4,8 +4,12 @@ pub mod Routed
 pub mod Seen
 pub mod ListSums
 pub mod Cells
-pub mod Equations
+pub mod FormulaParts
+pub mod HopCells
+pub mod QueueCells
+pub mod Arriving
 pub mod Comes
+pub mod Sizes
 pub mod Queues
 pub mod Hops
 pub mod Everywhere

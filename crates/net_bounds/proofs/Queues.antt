@@ -38,8 +38,10 @@ use Rattle.net_bounds.specs.NetRuns.{routes_of}
 use Rattle.net_bounds.specs.Promises.{seen_by, IsQueueKept}
 use Rattle.net_bounds.proofs.Routed.{hop_at, known_server, servers_are, discipline_is, queue_inside}
 use Rattle.net_bounds.proofs.Cells.{values, size_in, curve_has, number_has, curve_holds, number_holds}
-use Rattle.net_bounds.proofs.Equations.{IsServiceBy, queue_service_is, queue_delay_is, queue_backlog_is}
-use Rattle.net_bounds.proofs.Comes.{AtServer, IsVisiting, all_visiting, kept_nonneg, total_cell, queue_comes, higher_comes, queue_sizes, after_sizes}
+use Rattle.net_bounds.proofs.QueueCells.{IsServiceBy, queue_service_is, queue_delay_is, queue_backlog_is}
+use Rattle.net_bounds.proofs.Arriving.{AtServer, IsVisiting, all_visiting, kept_nonneg}
+use Rattle.net_bounds.proofs.Comes.{total_cell, queue_comes, higher_comes}
+use Rattle.net_bounds.proofs.Sizes.{queue_sizes, after_sizes}
 
 -- ---- the server
 abbrev pub here : Net → ℕ → Server
