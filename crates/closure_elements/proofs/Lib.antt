@@ -1,0 +1,8 @@
+pub mod PieceReads
+pub mod TurnNumbers
+pub mod StretchReads
+pub mod ClosureValues
+pub mod EndlessFalling
+pub mod NormalClosures
+pub mod NormalTurns
+
