@@ -67,7 +67,7 @@ left_of R d t some h =
       high = with4 R t d (nat_times j d) (λ c. omega (arith, c.le, c.lt, c.same));
     }
 
-repeated_left : (f : ℚ → Ext) (R d c t : ℚ) (v : ℚ) (s : Left R d t) → f s.left ≡ Fin v
+pub repeated_left : (f : ℚ → Ext) (R d c t : ℚ) (v : ℚ) (s : Left R d t) → f s.left ≡ Fin v
     → repeated f R d c t ≡ Fin (v +ℚ nat_times s.number c)
 unfolding repeated
 repeated_left f R d c t v s e =

@@ -5,4 +5,7 @@ pub mod ClosureValues
 pub mod EndlessFalling
 pub mod NormalClosures
 pub mod NormalTurns
+pub mod SmallPieces
+pub mod FewCopies
+pub mod PointCurves
 
