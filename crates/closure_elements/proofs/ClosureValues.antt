@@ -121,10 +121,10 @@ module _ (a b : ℚ) (l : Line) (m : ℕ) (low : zero_q ≤ℚ a) (proper : a <�
       let q = turn R l (suc (suc m)) (suc (suc m)) in
       elim (le_or_lt R t) [
         | inl past ↦
-          let value : piece_value q t ≡ Fin (line_at (line_times (suc (suc m)) l) t) = turn_value R t past in
-          let next = one_more_times (suc m) b in
-          subst (λ z. IsSegmentClosure a (Fin b) l t z) (sym (read_go p q [] t past ∙ read_end q t ∙ value))
-          (least_at up (suc m) t (omega arith) past (subst (λ z. t <ℚ z) (sym next) high))
+            let value : piece_value q t ≡ Fin (line_at (line_times (suc (suc m)) l) t) = turn_value R t past in
+            let next = one_more_times (suc m) b in
+            subst (λ z. IsSegmentClosure a (Fin b) l t z) (sym (read_go p q [] t past ∙ read_end q t ∙ value))
+            (least_at up (suc m) t (omega arith) past (subst (λ z. t <ℚ z) (sym next) high))
         | inr before ↦ subst (λ z. IsSegmentClosure a (Fin b) l t z) (sym (read_stop p q [] t before))
             (last_stretch t h before late (λ u. least_up l.icept (suc m) (suc u.less_one) up (late t h u)))
       ]
@@ -148,29 +148,29 @@ module _ (a b : ℚ) (l : Line) (m : ℕ) (low : zero_q ≤ℚ a) (proper : a <�
       let f = read (all_stretches a b l m (turn R l (suc (suc m)) (suc (suc m)) ∷ [])) in
       elim (le_or_lt R t) [
         | inl past ↦
-          let s = left_of R b t some_end past in
-          let nonneg : zero_q ≤ℚ R = mul_nonneg (nat_nonneg (suc m)) end_low in
-          let next = one_more_times (suc m) b in
-          let x = rising_first up s.left (le_trans nonneg s.low) s.high in
-          let y = least_at up (suc m) s.left (omega arith) s.low (subst (λ z. s.left <ℚ z) (sym next) s.high) in
-          let same : f s.left ≡ Fin (line_at (line_times (suc (suc m)) l) s.left) =
-          infimum_unique (λ (u : Turn a (Fin b) s.left). Fin (nat_times (suc u.less_one) l.icept +ℚ l.slope *ℚ s.left)) _ _ x y in
-          let i = suc (m + s.number) in
-          let value = repeated_left f R b c t (line_at (line_times (suc (suc m)) l) s.left) s same
-          ∙ ap Fin (moved_line l (suc (suc m)) s.number (suc i) s.left t b (omega arith) s.back) in
-          let up_to = times_add (suc m) s.number i b (omega arith) in
-          let over = times_add (suc (suc m)) s.number (suc i) b (omega arith) in
-          let L = s.low in
-          let H = s.high in
-          let B = s.back in
-          subst (λ z. IsSegmentClosure a (Fin b) l t z) (sym value)
-          (least_at up i t (omega arith)
-          (placed_low R (nat_times s.number b) (nat_times i b) s.left t up_to L B)
-          (placed_high R b (nat_times s.number b) (nat_times (suc (suc m)) b) (nat_times (suc i) b) s.left t next over H B))
+            let s = left_of R b t some_end past in
+            let nonneg : zero_q ≤ℚ R = mul_nonneg (nat_nonneg (suc m)) end_low in
+            let next = one_more_times (suc m) b in
+            let x = rising_first up s.left (le_trans nonneg s.low) s.high in
+            let y = least_at up (suc m) s.left (omega arith) s.low (subst (λ z. s.left <ℚ z) (sym next) s.high) in
+            let same : f s.left ≡ Fin (line_at (line_times (suc (suc m)) l) s.left) =
+            infimum_unique (λ (u : Turn a (Fin b) s.left). Fin (nat_times (suc u.less_one) l.icept +ℚ l.slope *ℚ s.left)) _ _ x y in
+            let i = suc (m + s.number) in
+            let value = repeated_left f R b c t (line_at (line_times (suc (suc m)) l) s.left) s same
+            ∙ ap Fin (moved_line l (suc (suc m)) s.number (suc i) s.left t b (omega arith) s.back) in
+            let up_to = times_add (suc m) s.number i b (omega arith) in
+            let over = times_add (suc (suc m)) s.number (suc i) b (omega arith) in
+            let L = s.low in
+            let H = s.high in
+            let B = s.back in
+            subst (λ z. IsSegmentClosure a (Fin b) l t z) (sym value)
+            (least_at up i t (omega arith)
+            (placed_low R (nat_times s.number b) (nat_times i b) s.left t up_to L B)
+            (placed_high R b (nat_times s.number b) (nat_times (suc (suc m)) b) (nat_times (suc i) b) s.left t next over H B))
         | inr early ↦
-          let B = some_end in
-          let high : t <ℚ R +ℚ b = with3 t R b (λ c. omega (arith, c.le, c.lt, c.same)) in
-          subst (λ z. IsSegmentClosure a (Fin b) l t z) (sym (repeated_first f R b c t some_end high)) (rising_first up t h high)
+            let B = some_end in
+            let high : t <ℚ R +ℚ b = with3 t R b (λ c. omega (arith, c.le, c.lt, c.same)) in
+            subst (λ z. IsSegmentClosure a (Fin b) l t z) (sym (repeated_first f R b c t some_end high)) (rising_first up t h high)
       ]
     where
       placed_low : (R j k s t : ℚ) → k ≡ R +ℚ j → R ≤ℚ s → t ≡ s +ℚ j → k ≤ℚ t
@@ -203,11 +203,11 @@ module _ (a b : ℚ) (l : Line) (m : ℕ) (low : zero_q ≤ℚ a) (proper : a <�
           let after = one_more_times (suc (suc m)) a in
           elim (le_or_lt t R) [
             | inl here ↦
-              let same : t ≡ R = antisym (here, h) in
-              let some : nat_times (suc m) a <ℚ t = stepped a (nat_times (suc m) a) R t next h high in
-              subst (λ z. IsSegmentClosure a (Fin b) l t z)
-              (sym (value_here q t here ∙ ap (λ z. Fin (line_at (line_times (suc m) l) z)) (sym same)))
-              (greatest_at down m t (omega arith) some here)
+                let same : t ≡ R = antisym (here, h) in
+                let some : nat_times (suc m) a <ℚ t = stepped a (nat_times (suc m) a) R t next h high in
+                subst (λ z. IsSegmentClosure a (Fin b) l t z)
+                (sym (value_here q t here ∙ ap (λ z. Fin (line_at (line_times (suc m) l) z)) (sym same)))
+                (greatest_at down m t (omega arith) some here)
             | inr past ↦ subst (λ z. IsSegmentClosure a (Fin b) l t z) (sym (value_past q t past))
                 (greatest_at down (suc m) t (omega arith) past (le_of_lt (subst (λ z. t <ℚ z) (sym after) high)))
           ]
@@ -254,17 +254,17 @@ module _ (a b : ℚ) (l : Line) (m : ℕ) (low : zero_q ≤ℚ a) (proper : a <�
       let after = one_more_times (suc (suc m)) a in
       elim (le_or_lt R t) [
         | inl past ↦
-          let s = left_of R a t some past in
-          let L = s.low in
-          let H = s.high in
-          let x = falling_first down s.left (le_trans nonneg s.low) s.high in
-          elim (le_or_lt s.left R) [
-            | inl here ↦ falling_moved down f R t s m (omega arith) (before a (nat_times (suc m) a) R s.left some next L) here x
-            | inr later ↦ falling_moved down f R t s (suc m) (omega arith) later (upto a R (nat_times (suc (suc (suc m))) a) s.left after H) x
-          ]
+            let s = left_of R a t some past in
+            let L = s.low in
+            let H = s.high in
+            let x = falling_first down s.left (le_trans nonneg s.low) s.high in
+            elim (le_or_lt s.left R) [
+              | inl here ↦ falling_moved down f R t s m (omega arith) (before a (nat_times (suc m) a) R s.left some next L) here x
+              | inr later ↦ falling_moved down f R t s (suc m) (omega arith) later (upto a R (nat_times (suc (suc (suc m))) a) s.left after H) x
+            ]
         | inr early ↦
-          let high : t <ℚ R +ℚ a = with3 t R a (λ c. omega (arith, c.le, c.lt, c.same)) in
-          subst (λ z. IsSegmentClosure a (Fin b) l t z) (sym (repeated_first f R a (line_at l a) t some high)) (falling_first down t h high)
+            let high : t <ℚ R +ℚ a = with3 t R a (λ c. omega (arith, c.le, c.lt, c.same)) in
+            subst (λ z. IsSegmentClosure a (Fin b) l t z) (sym (repeated_first f R a (line_at l a) t some high)) (falling_first down t h high)
       ]
     where
       before : (a n R s : ℚ) → zero_q <ℚ a → R ≡ n +ℚ a → R ≤ℚ s → n <ℚ s
@@ -280,21 +280,21 @@ module _ (a b : ℚ) (l : Line) (m : ℕ) (low : zero_q ≤ℚ a) (proper : a <�
   level_last flat t h late = subst (λ z. IsSegmentClosure a (Fin b) l t z) (sym (read_end (stretch a l (suc m)) t))
       (elim (le_or_lt (nat_times (suc m) b) t) [
         | inl past ↦
-          let R = nat_times (suc m) b in
-          let s = left_of R b t some_end past in
-          let i = suc (m + s.number) in
-          let next = one_more_times (suc m) b in
-          let up_to = times_add (suc m) s.number i b (omega arith) in
-          let over = times_add (suc (suc m)) s.number (suc i) b (omega arith) in
-          let L = s.low in
-          let H = s.high in
-          let B = s.back in
-          let low_i = placed_low R (nat_times s.number b) (nat_times i b) s.left t up_to L B in
-          let at_i = least_at (same_le (sym flat)) i t (omega arith) low_i
-          (placed_high R b (nat_times s.number b) (nat_times (suc (suc m)) b) (nat_times (suc i) b) s.left t next over H B) in
-          let meet = joined (suc m) (omega arith) in
-          let reach : nat_times (suc m) a <ℚ t = lt_le_trans (le_lt_trans (mul_le_mul_right a low (nat_le (suc m) (suc (suc m)) (omega arith))) meet) past in
-          subst (λ z. IsSegmentClosure a (Fin b) l t z) (sym (opening_past (nat_times (suc m) a) (line_times (suc m) l) t reach ∙ all_flat (suc m) (suc i) t)) at_i
+            let R = nat_times (suc m) b in
+            let s = left_of R b t some_end past in
+            let i = suc (m + s.number) in
+            let next = one_more_times (suc m) b in
+            let up_to = times_add (suc m) s.number i b (omega arith) in
+            let over = times_add (suc (suc m)) s.number (suc i) b (omega arith) in
+            let L = s.low in
+            let H = s.high in
+            let B = s.back in
+            let low_i = placed_low R (nat_times s.number b) (nat_times i b) s.left t up_to L B in
+            let at_i = least_at (same_le (sym flat)) i t (omega arith) low_i
+            (placed_high R b (nat_times s.number b) (nat_times (suc (suc m)) b) (nat_times (suc i) b) s.left t next over H B) in
+            let meet = joined (suc m) (omega arith) in
+            let reach : nat_times (suc m) a <ℚ t = lt_le_trans (le_lt_trans (mul_le_mul_right a low (nat_le (suc m) (suc (suc m)) (omega arith))) meet) past in
+            subst (λ z. IsSegmentClosure a (Fin b) l t z) (sym (opening_past (nat_times (suc m) a) (line_times (suc m) l) t reach ∙ all_flat (suc m) (suc i) t)) at_i
         | inr before ↦ last_stretch t h before late (λ u. least_up l.icept (suc m) (suc u.less_one) (same_le (sym flat)) (late t h u))
       ])
     where
@@ -354,8 +354,8 @@ endless_values a l low up b t h =
         elim (le_or_lt a zero_q) [
           | inl none ↦ ap (λ z. read z t) (early_start a (p ∷ []) none) ∙ read_p
           | inr some ↦ ap (λ z. read z t) (late_start a (p ∷ []) some)
-            ∙ elim (le_or_lt (nat_times 1 a) t) [
-              | inl reached ↦ read_go (gap zero_q) p [] t reached ∙ read_p
-              | inr not_yet ↦ read_stop (gap zero_q) p [] t not_yet ∙ gap_value zero_q t
-            ]
+              ∙ elim (le_or_lt (nat_times 1 a) t) [
+                | inl reached ↦ read_go (gap zero_q) p [] t reached ∙ read_p
+                | inr not_yet ↦ read_stop (gap zero_q) p [] t not_yet ∙ gap_value zero_q t
+              ]
         ]

@@ -68,10 +68,10 @@ last_of a t some h =
         under j k s e q b = with5 a t j k s (λ c. omega (arith, c.le, c.lt, c.same))
 
 -- an end that every stretch from the first on reaches the next with
-abbrev far : ℚ → ℚ
+abbrev pub far : ℚ → ℚ
 far a = a +ℚ a +ℚ int (pos 1)
 
-far_joined : (a : ℚ) → zero_q ≤ℚ a → (i : ℕ) → 1 ≤ i → nat_times (suc i) a <ℚ nat_times i (far a)
+pub far_joined : (a : ℚ) → zero_q ≤ℚ a → (i : ℕ) → 1 ≤ i → nat_times (suc i) a <ℚ nat_times i (far a)
 far_joined a low zero h = absurd (omega arith)
 far_joined a low (suc i) h =
     let I = int (pos (suc i)) in
@@ -109,6 +109,9 @@ to_endless a l t v some down h = record {
         let x = least_down l.icept (suc r.number) (suc u.less_one) down (omega arith) in
         le_ext_trans v (Fin (nat_times (suc r.number) l.icept +ℚ l.slope *ℚ t)) (Fin (nat_times (suc u.less_one) l.icept +ℚ l.slope *ℚ t))
         (h.below w) (raised (nat_times (suc r.number) l.icept) (nat_times (suc u.less_one) l.icept) (l.slope *ℚ t) x)
+
+pub far_later : (a : ℚ) → zero_q <ℚ a → a <ℚ far a
+far_later a some = with1 a (λ c. omega (arith, c.le, c.lt, c.same))
 
 pub endless_falling : (a b : ℚ) (l : Line) → zero_q <ℚ a → l.icept ≤ℚ zero_q → (t : ℚ) → zero_q ≤ℚ t
     → IsSegmentClosure a Inf l t (value_at (falling_closure a b l 0) t)

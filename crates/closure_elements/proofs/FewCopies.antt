@@ -1,6 +1,6 @@
 -- In its own window a curve has as many unrolled pieces as it has pieces, or fewer.
 use Rattle.std.specs.Prelude.{◌≡◌, ℕ, zero, suc, ◌+◌, ◌*◌, ◌≤◌, pos, List, [], ◌∷◌, length, sum_by, cond, Bool, true, false}
-use Rattle.std.proofs.Common.{arith, sym, refl, ap, ◌∙◌, subst, inl, inr}
+use Rattle.std.proofs.Common.{arith, sym, refl, subst, inl, inr}
 use Rattle.std.proofs.lemmas.List.Sums.{sum_by-cons}
 use Rattle.rational.specs.Rational.{ℚ, ◌+ℚ◌, ◌-ℚ◌, ◌*ℚ◌, ◌/ℚ◌, ◌≤ℚ◌, ◌<ℚ◌, int, lt_q}
 use Rattle.rational.proofs.Linear.{with3}
@@ -10,7 +10,7 @@ use Rattle.rational.proofs.Over.{lt_q_out}
 use Rattle.rational.proofs.MinMax.{lt_q_not}
 use Rattle.affine_segment.specs.declared.line.Line.{Line}
 use Rattle.affine_segment.specs.declared.line.Piece.{Piece}
-use Rattle.upp_curve.specs.declared.curve.Tail.TheVariants.{Periodic, Affine}
+use Rattle.upp_curve.specs.declared.curve.Tail.TheVariants.{Periodic, Affine, Infinite}
 use Rattle.upp_curve.specs.Curve.{SpecCurve}
 use Rattle.upp_curve.specs.Functions.{zero_q}
 use Rattle.upp_curve.specs.Steady.{steady}
@@ -44,15 +44,20 @@ affine_few ps rank h =
     let c : SpecCurve = record { pieces = ps; tail = Affine rank } in
     subst (λ n. n ≤ length ps) (sym (count_is_sum c (own_end c) h)) (sum_most (number_below (Affine rank) (own_end c)) ps (once_most (own_end c)))
 
+pub infinite_few : (ps : List Piece) (rank : ℚ) → StartsAtZero ps → own_tally record { pieces = ps; tail = Infinite rank } ≤ length ps
+infinite_few ps rank h =
+    let c : SpecCurve = record { pieces = ps; tail = Infinite rank } in
+    subst (λ n. n ≤ length ps) (sym (count_is_sum c (own_end c) h)) (sum_most (number_below (Infinite rank) (own_end c)) ps (once_most (own_end c)))
+
 -- of a piece one copy starts before the end of the first period
 copy_most : (R d c end : ℚ) (p : Piece) → zero_q <ℚ d → end ≡ R +ℚ d → number_below (Periodic R d c) end p ≤ 1
 copy_most R d c end p some e = elim (le_or_lt R p.x) [
   | inl past ↦
-    let x = p.x in
-    let one : int (pos 1) *ℚ d ≡ d = one_mul d in
-    let l : end -ℚ p.x ≤ℚ int (pos 1) *ℚ d = subst (λ z. end -ℚ p.x ≤ℚ z) (sym one) (under x past) in
-    subst (λ b. cond b (once end p) (copies_below d end p) ≤ 1) (sym (lt_q_not p.x R past))
-    (whole_up_most ((end -ℚ p.x) /ℚ d) 1 ((div_le (end -ℚ p.x) d (int (pos 1)) some).1 l))
+      let x = p.x in
+      let one : int (pos 1) *ℚ d ≡ d = one_mul d in
+      let l : end -ℚ p.x ≤ℚ int (pos 1) *ℚ d = subst (λ z. end -ℚ p.x ≤ℚ z) (sym one) (under x past) in
+      subst (λ b. cond b (once end p) (copies_below d end p) ≤ 1) (sym (lt_q_not p.x R past))
+      (whole_up_most ((end -ℚ p.x) /ℚ d) 1 ((div_le (end -ℚ p.x) d (int (pos 1)) some).1 l))
   | inr early ↦ subst (λ b. cond b (once end p) (copies_below d end p) ≤ 1) (sym (lt_q_out p.x R early)) (once_most end p)
 ]
   where

@@ -8,4 +8,6 @@ pub mod NormalTurns
 pub mod SmallPieces
 pub mod FewCopies
 pub mod PointCurves
-
+pub mod TurnSteps
+pub mod SegmentAnswers
+pub mod PointAnswers

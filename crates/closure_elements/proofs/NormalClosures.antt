@@ -38,12 +38,13 @@ module _ (a b : ℚ) (l : Line) (low : zero_q ≤ℚ a) (proper : a <ℚ b) wher
       let more = each_stretch P rest (suc n) m k (omega arith) (λ i p q. opens i (omega arith) q) (λ i p q. shut i (omega arith) q) last in
       let x = nat_times (suc n) b in
       let y = nat_times (suc (suc n)) a in
-      let ps = stretch a l (suc (suc n)) ∷ stretches a b l (suc (suc n)) m rest in
-      (opens (suc n) (omega arith) (omega arith),
-      elim (le_or_lt y x) [
-        | inl none ↦ subst (Each P) (sym (gap_left x y ps none)) more
-        | inr some ↦ subst (Each P) (sym (gap_kept x y ps some)) (shut (suc n) (omega arith) (omega arith), more)
-      ])
+      let ps = stretch a l (suc (suc n)) ∷ stretches a b l (suc (suc n)) m rest in (
+        opens (suc n) (omega arith) (omega arith),
+        elim (le_or_lt y x) [
+          | inl none ↦ subst (Each P) (sym (gap_left x y ps none)) more
+          | inr some ↦ subst (Each P) (sym (gap_kept x y ps some)) (shut (suc n) (omega arith) (omega arith), more)
+        ],
+      )
 
   rising : (rest : List Piece) (n m k : ℕ) → suc n + m ≡ k → Apart (suc n) k → RisesFrom (nat_times k a) rest
       → RisesFrom (nat_times (suc n) a) (stretches a b l (suc n) m rest)
@@ -245,8 +246,8 @@ no_share f R d K k r s T n two h =
     elim T.below [
       | inl none ↦ T.lines (sym whole ∙ ap (λ z. z *ℚ M) none ∙ zero_mul M)
       | inr all ↦
-        let all_times : k *ℚ M ≡ k *ℚ int (pos 1) = ap (λ z. z *ℚ M) (sym all) ∙ whole ∙ sym (mul_one k) in
-        lt_irrefl M (subst (λ z. z <ℚ M) (sym (mul_cancel M (int (pos 1)) k T.lines (mul_comm M k ∙ all_times ∙ mul_comm k (int (pos 1))))) one)
+          let all_times : k *ℚ M ≡ k *ℚ int (pos 1) = ap (λ z. z *ℚ M) (sym all) ∙ whole ∙ sym (mul_one k) in
+          lt_irrefl M (subst (λ z. z <ℚ M) (sym (mul_cancel M (int (pos 1)) k T.lines (mul_comm M k ∙ all_times ∙ mul_comm k (int (pos 1))))) one)
     ]
   where
     apart : (s x y K u v w : ℚ) → K +ℚ u ≡ w +ℚ y → u ≡ v +ℚ x → w +ℚ s ≡ K +ℚ v → s +ℚ x ≡ y

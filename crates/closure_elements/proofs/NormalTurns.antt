@@ -1,26 +1,25 @@
 -- The closures that rise and fall by their numbers are in normal form.
-use Rattle.std.specs.Prelude.{◌≡◌, ◌≢◌, ℕ, zero, suc, ◌+◌, ◌≤◌, pos, List, [], ◌∷◌, Some, ◌⊎◌}
+use Rattle.std.specs.Prelude.{◌≡◌, ◌≢◌, ℕ, zero, suc, ◌≤◌, pos, [], ◌∷◌, Some}
 use Rattle.std.proofs.Common.{arith, sym, refl, ap, ◌∙◌, subst, inl, inr}
 use Rattle.rational.specs.Rational.{ℚ, ◌+ℚ◌, ◌*ℚ◌, ◌≤ℚ◌, ◌<ℚ◌, int}
-use Rattle.rational.specs.Extended.{Ext, ◌≤ₑ◌, ◌<ₑ◌, ◌+ₑ◌}
+use Rattle.rational.specs.Extended.{Ext, ◌+ₑ◌}
 use Rattle.rational.specs.declared.Extended.TheVariants.{Fin, Inf}
-use Rattle.rational.proofs.Linear.{with1, with2, with3, with4, with5}
-use Rattle.rational.proofs.Laws.{le_trans, le_lt_trans, lt_le_trans, lt_irrefl, lt_trans, le_refl, le_of_lt, le_or_lt, antisym, not_zero, mul_le_mul_right, mul_lt_mul, mul_nonneg}
+use Rattle.rational.proofs.Linear.{with1, with2, with3, with4}
+use Rattle.rational.proofs.Laws.{le_trans, le_lt_trans, lt_irrefl, le_refl, le_of_lt, antisym, not_zero, mul_le_mul_right, mul_lt_mul, mul_nonneg}
 use Rattle.rational.proofs.Integers.{nat_lt, nat_le, nat_nonneg}
 use Rattle.rational.proofs.Whole.{one_more_times}
 use Rattle.rational.proofs.Bounds.{infimum_unique}
 use Rattle.rational.proofs.ExtendedOrder.{finite_below}
 use Rattle.affine_segment.specs.declared.line.Line.{Line}
-use Rattle.affine_segment.specs.declared.line.Piece.{Piece}
-use Rattle.affine_segment.specs.Values.{line_at, line_value}
+use Rattle.affine_segment.specs.Values.{line_at}
 use Rattle.upp_curve.specs.declared.curve.Tail.TheVariants.{Periodic}
 use Rattle.upp_curve.specs.Functions.{zero_q}
 use Rattle.upp_curve.specs.Curve.{SpecCurve, value_at}
 use Rattle.upp_curve.specs.Steady.{Repeats}
-use Rattle.upp_curve.specs.Normal.{Each, HasStart, RisesFrom, Continues, IsLeastPeriodic, IsNormal}
+use Rattle.upp_curve.specs.Normal.{Each, IsNormal}
 use Rattle.upp_curve.proofs.Normal.{periodic_rule}
 use Rattle.closure_laws.specs.ElementClosures.{Turn, IsSegmentClosure}
-use Rattle.closure_elements.specs.ElementCurves.{nat_times, gap, stretch, turn, line_times, all_stretches, rising_closure, falling_closure}
+use Rattle.closure_elements.specs.ElementCurves.{nat_times, turn, line_times, all_stretches, rising_closure, falling_closure}
 use Rattle.closure_elements.proofs.TurnNumbers.{turn_in, more}
 use Rattle.closure_elements.proofs.StretchReads.{IsLate, first_late, none_at_start}
 use Rattle.closure_elements.proofs.ClosureValues.{rising_values, falling_values, least_at, greatest_at}

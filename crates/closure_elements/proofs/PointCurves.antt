@@ -1,11 +1,11 @@
 -- The curves of a point's closure: their values and normal form.
-use Rattle.std.specs.Prelude.{◌≡◌, ◌≢◌, ℕ, zero, suc, ◌+◌, ◌≤◌, pos, [], ◌∷◌, Option, Some, None}
+use Rattle.std.specs.Prelude.{◌≡◌, ℕ, suc, ◌≤◌, pos, [], ◌∷◌, Option, Some, None}
 use Rattle.std.proofs.Common.{arith, sym, refl, ap, ◌∙◌, subst, inl, inr}
 use Rattle.rational.specs.Rational.{ℚ, ◌+ℚ◌, ◌-ℚ◌, ◌*ℚ◌, ◌/ℚ◌, ◌≤ℚ◌, ◌<ℚ◌, int}
-use Rattle.rational.specs.Extended.{Ext, ◌≤ₑ◌, ◌<ₑ◌, ◌+ₑ◌}
+use Rattle.rational.specs.Extended.{Ext, ◌+ₑ◌}
 use Rattle.rational.specs.declared.Extended.TheVariants.{Fin, Inf}
-use Rattle.rational.proofs.Linear.{with1, with2, with3, with4, with5, with6}
-use Rattle.rational.proofs.Laws.{le_trans, le_lt_trans, lt_le_trans, lt_irrefl, le_refl, le_of_lt, le_or_lt, antisym, mul_one, mul_zero, zero_mul, one_mul, mul_lt_mul, mul_lt_mul_right, mul_le_mul_right, lt_of_mul, div_mul, not_zero, mul_comm, between}
+use Rattle.rational.proofs.Linear.{with1, with2, with3, with5, with6}
+use Rattle.rational.proofs.Laws.{le_trans, le_lt_trans, lt_le_trans, lt_irrefl, le_refl, le_of_lt, le_or_lt, antisym, mul_one, mul_zero, zero_mul, one_mul, mul_lt_mul, mul_lt_mul_right, mul_le_mul_right, lt_of_mul, div_mul, not_zero, between}
 use Rattle.rational.proofs.Integers.{nat_lt, nat_le}
 use Rattle.rational.proofs.Whole.{one_more_times}
 use Rattle.rational.proofs.Bounds.{least_member, all_infinite}
@@ -18,14 +18,13 @@ use Rattle.upp_curve.specs.Functions.{zero_q}
 use Rattle.upp_curve.specs.Reading.{read}
 use Rattle.upp_curve.specs.Curve.{value_at, repeated, cut}
 use Rattle.upp_curve.specs.Steady.{Repeats}
-use Rattle.upp_curve.specs.Normal.{IsNormal, IsLeastPeriodic}
+use Rattle.upp_curve.specs.Normal.{IsNormal}
 use Rattle.upp_curve.proofs.Repeats.{repeated_first}
-use Rattle.upp_curve.proofs.Normal.{periodic_rule}
 use Rattle.closure_laws.specs.ElementClosures.{Multiple, IsPointClosure}
 use Rattle.closure_elements.specs.ElementCurves.{nat_times, gap, point_closure, point_at_zero}
 use Rattle.closure_elements.proofs.PieceReads.{value_past, value_here, read_stop, read_go, read_end, gap_value}
 use Rattle.closure_elements.proofs.TurnNumbers.{le_or_more}
-use Rattle.closure_elements.proofs.ClosureValues.{Left, left_of, repeated_left, times_add}
+use Rattle.closure_elements.proofs.ClosureValues.{Left, left_of, repeated_left}
 
 -- ---- the closure by a multiple
 -- where t is n and one times a, and no other number of times, or each gives as much
@@ -45,14 +44,14 @@ pub zero_values : (v : ℚ) → zero_q ≤ℚ v → (t : ℚ) → zero_q ≤ℚ 
 unfolding value_at cut
 zero_values v low t h = elim (le_or_lt t zero_q) [
   | inl here ↦
-    let value : cut (read (record { x = zero_q; at = Fin v; line = None } ∷ [])) zero_q t ≡ Fin (nat_times 1 v) =
-    rw (le_q_out t zero_q here) (read_end record { x = zero_q; at = Fin v; line = None } t ∙ value_here record { x = zero_q; at = Fin v; line = None } t here ∙ ap Fin (sym (one_mul v))) in
-    subst (λ z. IsPointClosure zero_q v t z) (sym value)
-    (least_multiple zero_q v t 0 (antisym (here, h) ∙ sym (mul_zero (int (pos 1)))) (λ m. mul_le_mul_right v low (nat_le 1 (suc m.less_one) (omega arith))))
+      let value : cut (read (record { x = zero_q; at = Fin v; line = None } ∷ [])) zero_q t ≡ Fin (nat_times 1 v) =
+      rw (le_q_out t zero_q here) (read_end record { x = zero_q; at = Fin v; line = None } t ∙ value_here record { x = zero_q; at = Fin v; line = None } t here ∙ ap Fin (sym (one_mul v))) in
+      subst (λ z. IsPointClosure zero_q v t z) (sym value)
+      (least_multiple zero_q v t 0 (antisym (here, h) ∙ sym (mul_zero (int (pos 1)))) (λ m. mul_le_mul_right v low (nat_le 1 (suc m.less_one) (omega arith))))
   | inr past ↦
-    let value : cut (read (record { x = zero_q; at = Fin v; line = None } ∷ [])) zero_q t ≡ Inf = rw (le_q_not t zero_q past) refl in
-    subst (λ z. IsPointClosure zero_q v t z) (sym value)
-    (no_multiple zero_q v t (λ m. lt_irrefl zero_q (subst (λ z. zero_q <ℚ z) (m.is ∙ mul_zero (int (pos (suc m.less_one)))) past)))
+      let value : cut (read (record { x = zero_q; at = Fin v; line = None } ∷ [])) zero_q t ≡ Inf = rw (le_q_not t zero_q past) refl in
+      subst (λ z. IsPointClosure zero_q v t z) (sym value)
+      (no_multiple zero_q v t (λ m. lt_irrefl zero_q (subst (λ z. zero_q <ℚ z) (m.is ∙ mul_zero (int (pos (suc m.less_one)))) past)))
 ]
 
 pub zero_normal : (v : ℚ) → IsNormal (point_at_zero v)
@@ -104,33 +103,33 @@ module _ (a v : ℚ) (some : zero_q <ℚ a) where
       let f = read (gap zero_q ∷ record { x = a; at = Fin v; line = None } ∷ []) in
       elim (le_or_lt a t) [
         | inl past ↦
-          let s = left_of a a t some past in
-          let B = s.back in
-          let H = s.high in
-          let next = one_more_times s.number a in
-          let next_value = one_more_times s.number v in
-          elim (le_or_lt s.left a) [
-            | inl here ↦
-              let same : s.left ≡ a = antisym (here, s.low) in
-              let is : t ≡ nat_times (suc s.number) a = placed s.left t (nat_times s.number a) (nat_times (suc s.number) a) same B next in
-              let value : repeated f a a v t ≡ Fin (nat_times (suc s.number) v) =
-              repeated_left f a a v t v s (point_read s.left here s.low) ∙ ap Fin (risen v (nat_times s.number v) (nat_times (suc s.number) v) next_value) in
-              subst (λ z. IsPointClosure a v t z) (sym value)
-              (least_multiple a v t s.number is (λ m. let one = one_number (suc s.number) (suc m.less_one) (sym is ∙ m.is) in
-              subst (λ z. nat_times (suc s.number) v ≤ℚ nat_times z v) one (le_refl (nat_times (suc s.number) v))))
-            | inr later ↦
-              let after = one_more_times (suc s.number) a in
-              subst (λ z. IsPointClosure a v t z) (sym (repeated_none f a a v t s (late_read s.left later)))
-              (no_multiple a v t (λ m. between_two m s.number
-              (over s.left t (nat_times s.number a) (nat_times (suc s.number) a) later B next)
-              (under s.left t (nat_times s.number a) (nat_times (suc s.number) a) (nat_times (suc (suc s.number)) a) H B next after)))
-          ]
+            let s = left_of a a t some past in
+            let B = s.back in
+            let H = s.high in
+            let next = one_more_times s.number a in
+            let next_value = one_more_times s.number v in
+            elim (le_or_lt s.left a) [
+              | inl here ↦
+                  let same : s.left ≡ a = antisym (here, s.low) in
+                  let is : t ≡ nat_times (suc s.number) a = placed s.left t (nat_times s.number a) (nat_times (suc s.number) a) same B next in
+                  let value : repeated f a a v t ≡ Fin (nat_times (suc s.number) v) =
+                  repeated_left f a a v t v s (point_read s.left here s.low) ∙ ap Fin (risen v (nat_times s.number v) (nat_times (suc s.number) v) next_value) in
+                  subst (λ z. IsPointClosure a v t z) (sym value)
+                  (least_multiple a v t s.number is (λ m. let one = one_number (suc s.number) (suc m.less_one) (sym is ∙ m.is) in
+                  subst (λ z. nat_times (suc s.number) v ≤ℚ nat_times z v) one (le_refl (nat_times (suc s.number) v))))
+              | inr later ↦
+                  let after = one_more_times (suc s.number) a in
+                  subst (λ z. IsPointClosure a v t z) (sym (repeated_none f a a v t s (late_read s.left later)))
+                  (no_multiple a v t (λ m. between_two m s.number
+                  (over s.left t (nat_times s.number a) (nat_times (suc s.number) a) later B next)
+                  (under s.left t (nat_times s.number a) (nat_times (suc s.number) a) (nat_times (suc (suc s.number)) a) H B next after)))
+            ]
         | inr early ↦
-          let high : t <ℚ a +ℚ a = with2 t a (λ c. omega (arith, c.le, c.lt, c.same)) in
-          subst (λ z. IsPointClosure a v t z) (sym (repeated_first f a a v t some high ∙ early_read t early))
-          (no_multiple a v t (λ m. lt_irrefl t (lt_le_trans early
-          (subst (λ z. a ≤ℚ z) (sym m.is) (subst (λ z. z ≤ℚ nat_times (suc m.less_one) a) (one_mul a)
-          (mul_le_mul_right a (le_of_lt some) (nat_le 1 (suc m.less_one) (omega arith))))))))
+            let high : t <ℚ a +ℚ a = with2 t a (λ c. omega (arith, c.le, c.lt, c.same)) in
+            subst (λ z. IsPointClosure a v t z) (sym (repeated_first f a a v t some high ∙ early_read t early))
+            (no_multiple a v t (λ m. lt_irrefl t (lt_le_trans early
+            (subst (λ z. a ≤ℚ z) (sym m.is) (subst (λ z. z ≤ℚ nat_times (suc m.less_one) a) (one_mul a)
+            (mul_le_mul_right a (le_of_lt some) (nat_le 1 (suc m.less_one) (omega arith))))))))
       ]
     where
       placed : (s t j k : ℚ) → s ≡ a → t ≡ s +ℚ j → k ≡ j +ℚ a → t ≡ k

@@ -1,9 +1,8 @@
 -- Where a curve's own gauge is below 2 ^ 120, the steps by which its pieces are made fit.
-use Rattle.std.specs.Prelude.{◌≡◌, ◌+◌, ◌<◌, ◌≤◌, ◌^◌, pos, List, [], ◌∷◌, Option, Some, None}
+use Rattle.std.specs.Prelude.{◌≡◌, ◌<◌, ◌≤◌, ◌^◌, pos, List, [], ◌∷◌, Option, Some, None}
 use Rattle.std.specs.List.{AllByRecursion}
-use Rattle.std.proofs.Common.{arith, sym, refl, ap, ◌∙◌, subst}
+use Rattle.std.proofs.Common.{arith, subst}
 use Rattle.rational.specs.Rational.{ℚ, ◌+ℚ◌, ◌-ℚ◌, ◌*ℚ◌, ◌≤ℚ◌, ◌<ℚ◌, int, neg_ℚ}
-use Rattle.rational.specs.Ratio.{IsSmall, SumFits}
 use Rattle.rational.specs.Grid.{Whole, Within}
 use Rattle.rational.specs.Extended.{Ext}
 use Rattle.rational.specs.declared.Extended.TheVariants.{Fin, Inf}
@@ -19,42 +18,17 @@ use Rattle.upp_curve.specs.Curve.{SpecCurve}
 use Rattle.upp_curve.specs.Functions.{zero_q}
 use Rattle.upp_curve.specs.Readable.{LineFitsAt}
 use Rattle.upp_curve.specs.Normal.{Each, StartsAtZero, IsRaw}
-use Rattle.upp_curve.specs.Spans.{Span, spans}
+use Rattle.upp_curve.specs.Spans.{spans}
 use Rattle.upp_curve.specs.Limits.{Sizes, own_end, own_sizes, own_gauge}
 use Rattle.upp_curve.specs.Sized.{IsValue, IsSlope, AreSizes, ValueStands, LineStands, SpanStands, TailStands, CurveStands, grid_of, times_largest}
 use Rattle.upp_curve.specs.Operand.{AreLimited, OperandLineAt}
+use Rattle.closure_elements.specs.PieceFits.{AtFits, LineFits, DropFits, PieceFits}
 use Rattle.upp_curve.proofs.NarrowSizes.{IsNarrow, narrow_gauge, small_number, small_sum, small_slope, value_whole, value_within, line_parts}
 use Rattle.upp_curve.proofs.KnownNumbers.{start_fits}
 use Rattle.upp_curve.proofs.StretchSizes.{time_whole, time_within}
 use Rattle.upp_curve.proofs.CurveStands.{own_are_sizes, own_stands, starts_below_own_end}
 use Rattle.upp_curve.proofs.PieceLists.{starts_nonneg}
 use Rattle.upp_curve.proofs.OwnGauge.{large}
-
--- ---- what fits
-abbrev pub AtFits : Ext → Type 0
-AtFits Inf = Unit {0}
-AtFits (Fin v) = IsSmall v
-
-pub record LineParts (l : Line) : Type 0 where
-  pub icept : IsSmall l.icept
-  pub slope : IsSmall l.slope
-
-abbrev pub LineFits : Option Line → Type 0
-LineFits None = Unit {0}
-LineFits (Some l) = LineParts l
-
--- from the value just after a start down to the value at it
-abbrev pub DropFits : Ext → Ext → Type 0
-DropFits Inf w = Unit {0}
-DropFits (Fin v) Inf = Unit {0}
-DropFits (Fin v) (Fin w) = SumFits w (neg_ℚ (w -ℚ v))
-
-pub record PieceFits (p : Piece) : Type 0 where
-  pub start : IsSmall p.x
-  pub at : AtFits p.at
-  pub line : LineFits p.line
-  pub reads : LineFitsAt p.x p.line
-  pub drop : DropFits p.at (line_value p.line p.x)
 
 -- ---- where pieces stand
 pub record PieceStands (z : Sizes) (end : ℚ) (p : Piece) : Type 0 where

@@ -62,8 +62,8 @@ le_or_more a b = elim (le_or_lt (int (pos a)) (int (pos b))) [ inl h ↦ inl (na
 pub fewer : (a : ℚ) (b : Ext) (t : ℚ) (n : ℕ) → zero_q ≤ℚ a → t ≤ℚ nat_times n a → (u : Turn a b t) → suc (suc u.less_one) ≤ n
 fewer a b t n low h u = elim (le_or_more n (suc u.less_one)) [
   | inl k ↦
-    let m : nat_times n a ≤ℚ nat_times (suc u.less_one) a = mul_le_mul_right a low (nat_le n (suc u.less_one) k) in
-    absurd (lt_irrefl t (le_lt_trans (le_trans h m) (turn_above a b t u)))
+      let m : nat_times n a ≤ℚ nat_times (suc u.less_one) a = mul_le_mul_right a low (nat_le n (suc u.less_one) k) in
+      absurd (lt_irrefl t (le_lt_trans (le_trans h m) (turn_above a b t u)))
   | inr k ↦ k
 ]
 

@@ -1,1 +1,3 @@
 pub mod ElementCurves
+pub mod PieceFits
+pub mod ElementAnswers

@@ -1,5 +1,12 @@
-//! The closures of a curve's elements, as curves.
+//! The closures of the elements of a curve, as curves: of a point, and of a line on an open stretch.
 #![tactic(auto)]
 
-/// Nothing yet.
-pub fn nothing() {}
+mod multiples;
+mod points;
+mod segments;
+mod stretches;
+#[cfg(test)]
+mod tests;
+
+pub use points::point_closure;
+pub use segments::segment_closure;
