@@ -11,3 +11,4 @@ pub mod PointCurves
 pub mod TurnSteps
 pub mod SegmentAnswers
 pub mod PointAnswers
+pub mod MeetNumbers

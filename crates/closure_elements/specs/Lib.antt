@@ -1,3 +1,4 @@
 pub mod ElementCurves
 pub mod PieceFits
 pub mod ElementAnswers
+pub mod MeetLaws
