@@ -13,3 +13,4 @@ pub mod Growing
 pub mod Stored
 pub mod LeavesOf
 pub mod Counting
+pub mod Different

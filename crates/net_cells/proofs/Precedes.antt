@@ -22,7 +22,7 @@ use Rattle.net_cells.specs.Cells.{cell_of, scope_of, is_in_scope, has_cell, serv
 use Rattle.net_cells.specs.Order.{at_visit, evaluation_order, server_cells, kind_cells, path_cells}
 use Rattle.net_cells.specs.Formulas.{Formula, leaves, made, value_of}
 use Rattle.net_cells.specs.CellFormulas.{formula, sum_of, sum_from, packets_to, served_to, queue_service, less}
-use Rattle.net_cells.specs.Laws.{OperandsComeFirst}
+use Rattle.net_cells.specs.Laws.{OperandsComeFirst, OperandsAreCells}
 use Rattle.net_cells.proofs.Lists.{Has, Before, has_right, has_either, map_has, filter_has, has_flat, range_has, before_left, before_right, before_across, before_flat, before_inside, before_place, before_split, Apart, contains_has, has_contains}
 use Rattle.net_cells.proofs.Places.{flow_inside, live_inside, visit_has, home, home_in, rank, kinds_before, path_kinds_before, IsHome, has_kind, has_server, has_path}
 use Rattle.net_cells.proofs.Members.{hop_of, hop_kept, home_inside, home_in_order, order_has, apart_cells}
@@ -507,3 +507,13 @@ leaf_in_front net order front c back d a o e m =
 pub operands_come_first : OperandsComeFirst
 operands_come_first net order a o front back c d e m =
     has_contains front d (leaf_in_front net order front c back d a o e (contains_has (leaves (formula net c)) d m))
+
+before_first : (x y : Cell) (xs : List Cell) → Before x y xs → Has xs x
+before_first x y [] h = absurd h
+before_first x y (z ∷ zs) (inl h) = inl h.0
+before_first x y (z ∷ zs) (inr h) = inr (before_first x y zs h)
+
+pub operands_are_cells : OperandsAreCells
+operands_are_cells net order a o c d h m =
+    order_has net order d (before_first d c (evaluation_order net order)
+    (leaf_before net order c d a o h (contains_has (leaves (formula net c)) d m)))

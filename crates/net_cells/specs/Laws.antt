@@ -34,6 +34,16 @@ OperandsComeFirst =
     (net : Net) (order : List ℕ) → IsAccepted net → IsOrder net order → (before after : List Cell) (c d : Cell)
     → evaluation_order net order ≡ before ++ c ∷ after → Contains (leaves (formula net c)) d → Contains before d
 
+-- and are cells of the network too
+abbrev pub OperandsAreCells : Type 0
+OperandsAreCells =
+    (net : Net) (order : List ℕ) → IsAccepted net → IsOrder net order → (c d : Cell) → IsTrue (has_cell net c)
+    → Contains (leaves (formula net c)) d → IsTrue (has_cell net d)
+
+-- no cell is made of another one twice
+abbrev pub OperandsAreDifferent : Type 0
+OperandsAreDifferent = (net : Net) (c : Cell) → AllPairs (λ d e. d ≢ e) (leaves (formula net c))
+
 -- ---- formulas
 -- two tables have the same values at a formula's cells
 abbrev pub AgreeAtLeaves : Formula → CellTable → CellTable → Type 0
