@@ -1,11 +1,12 @@
 -- The sizes and the times of a call of the convolution, and which limits it is over.
-use Rattle.std.specs.Prelude.{◌≡◌, ℕ, suc, ◌+◌, ◌<◌, ◌^◌, pos}
+use Rattle.std.specs.Prelude.{◌≡◌, ℕ, suc, ◌+◌, ◌<◌, ◌≤◌, ◌^◌, pos}
 use Rattle.std.proofs.Common.{arith, sym, ap, ◌∙◌, subst}
 use Rattle.rational.specs.Rational.{ℚ, neg_ℚ, ◌+ℚ◌, ◌-ℚ◌, ◌*ℚ◌, ◌≤ℚ◌, ◌<ℚ◌, int}
 use Rattle.rational.specs.Ratio.{SumFits}
 use Rattle.rational.specs.Grid.{Whole}
 use Rattle.rational.proofs.Linear.{with2, with3, with4, with5}
-use Rattle.rational.proofs.Laws.{le_trans, one_mul}
+use Rattle.rational.proofs.Laws.{le_trans, le_of_lt, one_mul, mul_le_mul_right}
+use Rattle.rational.proofs.Integers.{nat_le}
 use Rattle.rational.proofs.Whole.{one_more_times}
 use Rattle.upp_curve.specs.declared.op_kind.OpKind.TheVariants.{Convolve}
 use Rattle.upp_curve.specs.declared.op_kind.OpFault.{OpFault}
@@ -16,7 +17,7 @@ use Rattle.upp_curve.specs.Steady.{steady, IsWholePeriods}
 use Rattle.upp_curve.specs.Periods.{common_period, periods_after}
 use Rattle.upp_curve.specs.Windows.{window_at, Meets, IsLeastPeriods, IsSlowerLateLeast}
 use Rattle.upp_curve.specs.Limits.{Sizes, sizes_of, curve_numbers}
-use Rattle.upp_curve.specs.Gauges.{numbers_over, gauge_over, gauge_at, IsTooWide, IsKnownAtOnce}
+use Rattle.upp_curve.specs.Gauges.{numbers_over, gauge_over, gauge_at, tally_over, IsTooWide, IsTooMany, IsKnownAtOnce}
 use Rattle.upp_curve.specs.Outcome.{IsWithin, IsCauseOf}
 use Rattle.upp_curve.specs.Sized.{Stands}
 use Rattle.upp_curve.specs.Operand.{AreLimited}
@@ -30,16 +31,17 @@ use Rattle.curve_frame.proofs.CallTimes.{first_stands, second_stands, IsCall, st
 use Rattle.curve_frame.proofs.CallFits.{call_early}
 use Rattle.curve_frame.proofs.CurveRises.{common_first, common_second}
 use Rattle.curve_frame.proofs.CurveTimes.{steady_nonneg}
-use Rattle.curve_frame.proofs.FirstGate.{first_gate}
-use Rattle.curve_frame.proofs.Limited.{refused_cause, frame_within, convolve_least}
+use Rattle.curve_frame.proofs.FirstGate.{first_gate, gauge_grows}
+use Rattle.curve_frame.proofs.Limited.{refused_cause, frame_within, convolve_least, many_at_least}
 use Rattle.curve_least.proofs.Rises.{has_window}
 use Rattle.curve_least.proofs.Shifts.{same_least}
 use Rattle.curve_lattice.specs.LatticeCall.{LatticeCall}
 use Rattle.curve_frame.specs.FirstWindows.{IsFirstWindow, IsWideAtFirst}
 use Rattle.curve_lattice.proofs.LatticeCalls.{at_times, from_is, from_fits}
 use Rattle.curve_parts.specs.Scans.{sizes_in}
-use Rattle.curve_parts.specs.Late.{IsSlowerLate, IsSlowerAfter, IsSlowerNumber, IsPartsCall}
+use Rattle.curve_parts.specs.Late.{IsSlowerLate, IsSlowerAfter, IsSlowerNumber, IsSlowerMost, IsPartsCall}
 use Rattle.curve_convolution.specs.ConvolveCall.{IsConvolveFrame}
+use Rattle.curve_convolution.proofs.Tallies.{tally_grows}
 
 -- ---- the call
 left_of : (x y : ℚ) → int (pos 0) ≤ℚ y → x ≤ℚ x +ℚ y
@@ -189,3 +191,27 @@ frame_by f g w from k r K W e N h =
       values = h.values;
       enough = subst (λ d. IsSlowerLate f g (r.end -ℚ r.period) d) same (subst (λ y. IsSlowerLate f g y w.period) at N.late);
     }
+
+-- ---- known without a scan
+window_later : (f g : SpecCurve) (w : CallWindow) (k : ℕ) → IsCurve f × IsCurve g → IsFirstWindow Convolve f g w → w.end ≤ℚ window_at Convolve f g k 0
+window_later f g w k K W =
+    let above = (first_call f g w K.0 K.1 W).above in
+    let d = common_period f g in
+    let s = steady f +ℚ steady g in
+    let some : int (pos 0) ≤ℚ d = le_of_lt (subst (λ y. int (pos 0) <ℚ y) W.window.period above) in
+    let n : 2 ≤ k + 2 = omega arith in
+    let run = mul_le_mul_right d some (nat_le 2 (k + 2) n) in
+    subst (λ x. x ≤ℚ window_at Convolve f g k 0) (sym (W.window.end ∙ window_is Convolve f g 0 0))
+    (subst (λ x. periods_after s 2 d ≤ℚ x) (sym (window_is Convolve f g k 0)) (later s (int (pos 2) *ℚ d) (int (pos (k + 2)) *ℚ d) run))
+  where
+    later : (s x y : ℚ) → x ≤ℚ y → s +ℚ x ≤ℚ s +ℚ y
+    later s x y h = with3 s x y (λ c. omega (arith, c.le, c.lt, c.same))
+
+-- the tally with no period is over its limit, and with enough periods the gauge is not
+pub many_by : (f g : SpecCurve) (w : CallWindow) (from : ℚ) (n : ℕ) → IsCurve f × IsCurve g → IsFirstWindow Convolve f g w → from ≡ w.end -ℚ w.period → IsSlowerMost f g from w.period n
+    → gauge_at Convolve f g n 0 < 2 ^ 120 → 2 ^ 20 < tally_over Convolve f g w.end → IsTooMany Convolve f g
+many_by f g w from n K W e M gauge tally =
+    let k = M.number in
+    let rises = gauge_grows Convolve f g k 0 n 0 K.0 K.1 tt M.most (omega arith) in
+    let more = tally_grows f g w.end (window_at Convolve f g k 0) K.0 K.1 (window_later f g w k K W) in
+    many_at_least Convolve f g k 0 (looks f g) (least_periods f g w from k K W e M.is) (omega (arith, rises, gauge)) (omega (arith, more, tally))

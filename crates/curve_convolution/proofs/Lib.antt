@@ -1,2 +1,3 @@
 pub mod ConvolveCalls
 pub mod ConvolveAnswers
+pub mod Tallies

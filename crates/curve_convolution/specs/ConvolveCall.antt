@@ -9,8 +9,8 @@ use Rattle.curve_frame.specs.declared.frame.Frame.{Frame}
 use Rattle.curve_lattice.specs.LatticeCall.{LatticeCall}
 use Rattle.curve_parts.specs.Late.{IsSlowerLate}
 
--- its window ends k + 2 periods after the sum of the times from when on the curves repeat, and in the last of them the slower curve's part has the
--- least sums
+-- its window ends k + 2 periods after the sum of the times from when on the curves repeat, and in the last of them
+-- the slower curve's part has the least sums
 pub record IsConvolveFrame (f g : SpecCurve) (r : Frame) : Type 0 where
   pub number : ℕ
   pub sizes : Sizes

@@ -1,26 +1,29 @@
 //! The convolution of two curves.
 
-ghost use Rattle.std.specs.Prelude.{◌≡◌, ◌+◌, pos, IfOk};
+ghost use Rattle.std.specs.Prelude.{◌≡◌, ◌+◌, pos, IfOk, IsTrue};
 ghost use Rattle.rational.specs.Rational.{ℚ, int, ◌-ℚ◌, ◌≤ℚ◌, neg_ℚ};
 ghost use Rattle.rational.specs.Ratio.{SumFits};
 ghost use Rattle.rational.specs.Extended.{◌<ₑ◌};
 ghost use Rattle.upp_curve.specs.Curve.{value_at};
 ghost use Rattle.upp_curve.specs.Convolution.{IsConvolution};
 ghost use Rattle.upp_curve.specs.Steady.{rate, rise_over};
+ghost use Rattle.upp_curve.specs.Curves.{IsCurve};
+ghost use Rattle.upp_curve.specs.Gauges.{IsTooMany};
 ghost use Rattle.upp_curve.specs.Outcome.{KeepsLimits};
 ghost use Rattle.upp_curve.specs.declared.op_kind.OpKind.TheVariants.{Convolve};
+ghost use Rattle.curve_frame.specs.FirstWindows.{IsFirstWindow};
 ghost use Rattle.curve_frame.specs.Rises.{CurveRiseFits};
 ghost use Rattle.curve_lattice.specs.Lattice.{RisesBy};
 ghost use Rattle.curve_convolution.specs.ConvolveCall.{IsConvolveFrame};
 
 use curve_conv::window_convolution;
-use curve_frame::{Frame, answer, first_window, rise_over, within};
-use curve_parts::{is_slower_curve, late_periods};
+use curve_frame::{CallWindow, Frame, answer, first_window, rise_over, within};
+use curve_parts::{is_slower_curve, late_periods, most_periods};
 use fraction128::Frac;
 use std::alloc::{AllocError, Global};
 use std::sync::ledger::Ledger;
 use steps::Steps;
-use upp_curve::{Curve, OpFault, OpKind};
+use upp_curve::{Curve, OpFault, OpKind, tally_over};
 
 // a - b.
 fn difference(a: Frac, b: Frac) -> Frac
@@ -45,7 +48,8 @@ fn slower_rise(f: &Curve, g: &Curve, period: Frac) -> Frac
 // The convolution of two curves in a call within both limits, where the number of periods is enough.
 fn convolved_within(alloc: Global, f: &Curve, g: &Curve, frame: &Frame) -> Result<Curve, AllocError>
     requires { IsConvolveFrame f.now g.now frame.now }
-    ensures { IfOk result (λ c. (t : ℚ) → int (pos 0) ≤ℚ t → IsConvolution (value_at f.now) (value_at g.now) t (value_at c t)) }
+    ensures { IfOk result (λ c. (t : ℚ) → int (pos 0) ≤ℚ t
+        → IsConvolution (value_at f.now) (value_at g.now) t (value_at c t)) }
 {
     let left = f.unrolled(frame.end)?;
     let right = g.unrolled(frame.end)?;
@@ -63,10 +67,31 @@ fn convolved_within(alloc: Global, f: &Curve, g: &Curve, frame: &Frame) -> Resul
     )
 }
 
-/// At each time t from 0 on the infimum of f(s) + g(u) over all s and u from 0 on whose sum is t (Le Boudec and Thiran, chapter 3). The
-/// curves may be infinite anywhere. One step is counted. Refused with TooWide or TooMany exactly where the call's gauge or tally is over
-/// that limit, or no number of periods is enough for the slower curve's part to have the least sums (TooWide); else only for want of
-/// memory.
+// Whether the tally is over its limit, where that is known without a scan: the tally with no period is, and with
+// enough periods the gauge is not.
+fn is_many(f: &Curve, g: &Curve, first: &CallWindow, from: Frac) -> bool
+    requires curves { IsCurve f.now × IsCurve g.now }
+    requires window { IsFirstWindow Convolve f.now g.now first.now }
+    requires from { from ≡ first.now.end -ℚ first.now.period }
+    ensures { IsTrue result → IsTooMany Convolve f.now g.now }
+{
+    let kind = OpKind::Convolve;
+    if tally_over(&kind, f, g, first.end) <= 1 << 20 {
+        return false;
+    }
+    let Some(most) = most_periods(f, g, from, first.period, first.end) else {
+        return false;
+    };
+    match within(&kind, f, g, most) {
+        Err(OpFault::TooMany) => true,
+        _ => false,
+    }
+}
+
+/// At each time t from 0 on the infimum of f(s) + g(u) over all s and u from 0 on whose sum is t (Le Boudec and
+/// Thiran, chapter 3). The curves may be infinite anywhere. One step is counted. Refused with TooWide or TooMany
+/// exactly where the call's gauge or tally is over that limit, or no number of periods is enough for the slower
+/// curve's part to have the least sums (TooWide); else only for want of memory.
 pub fn convolve<L: Ledger>(
     alloc: Global,
     f: &Curve,
@@ -74,14 +99,18 @@ pub fn convolve<L: Ledger>(
     steps: &mut Steps<L>,
 ) -> Result<Curve, OpFault>
     ensures count { steps.new ≡ steps.old + 1 }
-    ensures value { IfOk result (λ c. (t : ℚ) → int (pos 0) ≤ℚ t → IsConvolution (value_at f.now) (value_at g.now) t (value_at c t)) }
+    ensures value { IfOk result (λ c. (t : ℚ) → int (pos 0) ≤ℚ t
+        → IsConvolution (value_at f.now) (value_at g.now) t (value_at c t)) }
     ensures limits { KeepsLimits Convolve f.now g.now result }
 {
     steps.tick();
     let kind = OpKind::Convolve;
     let first = first_window(&kind, f, g)?;
     let from = difference(first.end, first.period);
-    let Some(periods) = late_periods(f, g, from, first.period, first.end) else {
+    if is_many(f, g, &first, from) {
+        return Err(OpFault::TooMany);
+    }
+    let Some(periods) = late_periods(alloc, f, g, from, first.period, first.end) else {
         return Err(OpFault::TooWide);
     };
     let frame = within(&kind, f, g, periods)?;

@@ -95,6 +95,27 @@ fn point(alloc: Global, x: i128, v: i128) -> Result<Curve, OpFault> {
     curve(alloc, &list, Tail::Infinite { rank: whole(x) })
 }
 
+// 0 up to `open`, and then icept + 10 t, over and over from `rank` on.
+fn gate(
+    alloc: Global,
+    open: i128,
+    icept: i128,
+    rank: i128,
+    period: i128,
+    rise: i128,
+) -> Result<Curve, OpFault> {
+    let list = [
+        piece(0, Extended::Fin(Frac::zero()), Some((0, 0))),
+        piece(open, Extended::Fin(Frac::zero()), Some((icept, 10))),
+    ];
+    let tail = Tail::Periodic {
+        rank: whole(rank),
+        period: whole(period),
+        rise: whole(rise),
+    };
+    curve(alloc, &list, tail)
+}
+
 fn nothing(alloc: Global) -> Result<Curve, OpFault> {
     let list = [piece(0, Extended::Inf, None)];
     curve(alloc, &list, Tail::Infinite { rank: Frac::zero() })
@@ -126,6 +147,13 @@ fn convolved<L: Ledger>(alloc: Global, blank: Blank, f: &Curve, g: &Curve) -> Re
 {
     let mut steps = Steps::<L>::new(blank);
     convolve(alloc, f, g, &mut steps)
+}
+
+fn is_too_many(r: Result<Curve, OpFault>) -> bool {
+    match r {
+        Err(OpFault::TooMany) => true,
+        _ => false,
+    }
 }
 
 // Stairs of one packet and the periods 2 and 3.
@@ -209,5 +237,42 @@ fn the_slower_takes_over_late(rt: HostRuntime) -> Result<(), Fail> {
             "the other way round at {t}"
         );
     }
+    Ok(())
+}
+
+// Gates of cycles that have no divisor in common: the one of the smaller rate, as much later as the other is closed.
+#[test]
+fn gates(rt: HostRuntime) -> Result<(), Fail> {
+    let f = gate(rt.alloc(), 50, -500, 0, 100, 500)?;
+    let g = gate(rt.alloc(), 41, -410, 0, 101, 600)?;
+    let later = gate(rt.alloc(), 91, -910, 41, 100, 500)?;
+    let c = convolved::<Brand>(rt.alloc(), Blank::new(1), &f, &g)?;
+    assert!(rt; equal(&c, &later));
+    Ok(())
+}
+
+// The same gates, closed for a unit of time before they begin: what is needed of the number of periods is found in
+// memory.
+#[test]
+fn late_gates(rt: HostRuntime) -> Result<(), Fail> {
+    let f = gate(rt.alloc(), 51, -510, 1, 100, 500)?;
+    let g = gate(rt.alloc(), 42, -420, 1, 101, 600)?;
+    let later = gate(rt.alloc(), 93, -930, 43, 100, 500)?;
+    let c = convolved::<Brand>(rt.alloc(), Blank::new(1), &f, &g)?;
+    assert!(rt; equal(&c, &later));
+    Ok(())
+}
+
+// Too many pairs of pieces is answered at once: 16 million, both from 0 on and from later on.
+#[test]
+fn too_many(rt: HostRuntime) -> Result<(), Fail> {
+    let f = gate(rt.alloc(), 50, -500, 0, 1000, 9500)?;
+    let g = gate(rt.alloc(), 50, -500, 0, 1001, 9510)?;
+    let c = convolved::<Brand>(rt.alloc(), Blank::new(1), &f, &g);
+    assert!(rt; is_too_many(c), "from 0 on");
+    let later = gate(rt.alloc(), 51, -510, 1, 1000, 9500)?;
+    let last = gate(rt.alloc(), 51, -510, 1, 1001, 9510)?;
+    let d = convolved::<Brand>(rt.alloc(), Blank::new(1), &later, &last);
+    assert!(rt; is_too_many(d), "from later on");
     Ok(())
 }

@@ -1,4 +1,7 @@
-//! Each operator, of a curve that repeats and of one that ends: a call that was refused would still be proved.
+//! Each operator, of curves that it takes: a call that was refused would still be proved.
+//! `sum`, `min`, `max`, `pos_diff`, `scale` and `shift` are tried of a curve that repeats and of one that ends, which
+//! `pos_diff` takes as its second operand. `pos_minus`, `run_sup` and `run_inf` ask for finite curves, and are tried of
+//! the one that repeats alone.
 //!
 //! The saw is 2 + n at 2 n and n + s at 2 n + s, for s between 0 and 2: at 0, 1, .. it is 2, 1, 3, 2, 4, 3.
 //! The ramp is 1 + t up to 3, and infinite after it. In the rows below -1 stands for infinity.

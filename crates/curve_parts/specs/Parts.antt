@@ -1,5 +1,6 @@
--- A part of a convolution: the splits of a time of which both sides are in some times. (Bouillard, Boyer and Le Corronc: the convolution of two
--- functions is the least of those of their parts, before and from the time on from which they repeat.)
+-- A part of a convolution: the splits of a time of which both sides are in some times. (Bouillard, Boyer and Le
+-- Corronc: the convolution of two functions is the least of those of their parts, before and from the time on from
+-- which they repeat.)
 use Rattle.rational.specs.Rational.{ℚ, ◌≤ℚ◌, ◌<ℚ◌}
 use Rattle.rational.specs.Extended.{Ext, ◌+ₑ◌}
 use Rattle.rational.specs.Bounds.{IsInfimum}

@@ -1,4 +1,5 @@
--- A scan of the pairs of two curves' pieces up to the end of a window: its sizes, and which times it looks at. Own choice.
+-- A scan of the pairs of two curves' pieces up to the end of a window: its sizes, and which times it looks at. Own
+-- choice.
 use Rattle.std.specs.Prelude.{◌≡◌, Bool, true, false, Option, Some, None}
 use Rattle.rational.specs.Rational.{ℚ, ◌≤ℚ◌, ◌<ℚ◌}
 use Rattle.upp_curve.specs.declared.op_kind.OpKind.TheVariants.{Convolve}

@@ -4,12 +4,14 @@ ghost use Rattle.std.specs.Prelude.{◌≡◌, ◌↔◌, IsTrue};
 ghost use Rattle.rational.specs.Rational.{ℚ, ◌<ℚ◌};
 ghost use Rattle.rational.specs.Extended.{◌<ₑ◌};
 ghost use Rattle.affine_segment.specs.Values.{line_at};
-ghost use Rattle.affine_segment.specs.Elements.{IsProper, element_value, part_value, joined_value, PairSplit, pair_sum, AreAdjoined};
+ghost use Rattle.affine_segment.specs.Elements.{IsProper, element_value, part_value, joined_value, PairSplit};
+ghost use Rattle.affine_segment.specs.Elements.{pair_sum, AreAdjoined};
 ghost use Rattle.upp_curve.specs.Limits.{Sizes};
 ghost use Rattle.upp_curve.specs.Ahead.{GoesOn};
 ghost use Rattle.upp_curve.specs.Readable.{LineFits};
 ghost use Rattle.curve_conv.specs.ElementRoom.{OperandElement, SumElement, SumPart, SumJoined, HaveRoom};
-ghost use Rattle.curve_parts.specs.Stretches.{SumStretch, SumTimeIn, IsAhead, end_time, until_time, point_at, open_at, PartPair, part_pair_sum, IsProperPart, OperandPart};
+ghost use Rattle.curve_parts.specs.Stretches.{SumStretch, SumTimeIn, IsAhead, end_time, until_time, point_at};
+ghost use Rattle.curve_parts.specs.Stretches.{open_at, PartPair, part_pair_sum, IsProperPart, OperandPart};
 
 use crate::lower::{is_less, lower};
 use affine_segment::{Element, Joined, Line, value};
@@ -60,7 +62,8 @@ fn is_inside(t: Frac, to: &Ext) -> bool
 
 fn point_stretch(x: Frac, v: Frac, t: Frac) -> Stretch
     ensures goes { GoesOn (element_value (Element.Point x v)) t result }
-    ensures sizes { (z : Sizes) (end : ℚ) → SumTimeIn z end t → SumElement z end (Element.Point x v) → SumStretch z t result }
+    ensures sizes { (z : Sizes) (end : ℚ) → SumTimeIn z end t → SumElement z end (Element.Point x v)
+        → SumStretch z t result }
 {
     match t.cmp(&x) {
         Ordering::Less => nothing(Some(x)),
@@ -78,7 +81,8 @@ fn begun_stretch(from: Frac, to: &Ext, line: &Line, t: Frac) -> Stretch
     requires past { from <ℚ t }
     requires fits { LineFits t line.now }
     ensures goes { GoesOn (element_value (Element.Open from to.now line.now)) t result }
-    ensures sizes { (z : Sizes) (end : ℚ) → SumTimeIn z end t → SumElement z end (Element.Open from to.now line.now) → SumStretch z t result }
+    ensures sizes { (z : Sizes) (end : ℚ) → SumTimeIn z end t
+        → SumElement z end (Element.Open from to.now line.now) → SumStretch z t result }
 {
     if is_inside(t, to) {
         return Stretch {
@@ -94,7 +98,8 @@ fn open_stretch(from: Frac, to: &Ext, line: &Line, t: Frac) -> Stretch
     requires proper { Extended.Fin from <ₑ to.now }
     requires fits { LineFits t line.now }
     ensures goes { GoesOn (element_value (Element.Open from to.now line.now)) t result }
-    ensures sizes { (z : Sizes) (end : ℚ) → SumTimeIn z end t → SumElement z end (Element.Open from to.now line.now) → SumStretch z t result }
+    ensures sizes { (z : Sizes) (end : ℚ) → SumTimeIn z end t
+        → SumElement z end (Element.Open from to.now line.now) → SumStretch z t result }
 {
     match t.cmp(&from) {
         Ordering::Less => nothing(Some(from)),
@@ -147,11 +152,13 @@ fn joined_stretch(j: &Joined, t: Frac) -> Stretch
 
 // What two elements make.
 fn pair_stretch(a: &Element, b: &Element, t: Frac) -> Stretch
-    requires room { (z : Sizes) × (end : ℚ) × SumTimeIn z end t × OperandElement z end a.now × OperandElement z end b.now }
+    requires room { (z : Sizes) × (end : ℚ) × SumTimeIn z end t × OperandElement z end a.now
+        × OperandElement z end b.now }
     requires left { IsProper a.now }
     requires right { IsProper b.now }
     ensures ahead { (end : ℚ) → IsAhead (PairSplit a.now b.now) (pair_sum a.now b.now) end t result }
-    ensures sizes { (z : Sizes) (end : ℚ) → SumTimeIn z end t → OperandElement z end a.now → OperandElement z end b.now → SumStretch z t result }
+    ensures sizes { (z : Sizes) (end : ℚ) → SumTimeIn z end t → OperandElement z end a.now
+        → OperandElement z end b.now → SumStretch z t result }
 {
     joined_stretch(&joined(a, b), t)
 }
@@ -162,7 +169,8 @@ pub(crate) fn part_pair(a: &Element, o: &Option<Element>, t: Frac) -> Stretch
     requires left { IsProper a.now }
     requires right { IsProperPart o.now }
     ensures ahead { (end : ℚ) → IsAhead (PartPair a.now o.now) (part_pair_sum a.now o.now) end t result }
-    ensures sizes { (z : Sizes) (end : ℚ) → SumTimeIn z end t → OperandElement z end a.now → OperandPart z end o.now → SumStretch z t result }
+    ensures sizes { (z : Sizes) (end : ℚ) → SumTimeIn z end t → OperandElement z end a.now
+        → OperandPart z end o.now → SumStretch z t result }
 {
     match o {
         None => nothing(None),
@@ -180,7 +188,8 @@ pub(crate) fn point_at(x: Frac, at: Ext) -> Option<Element>
     }
 }
 
-fn until_time(next: Option<Frac>) -> Ext
+/// The time at which a line ends; infinity where it has no end.
+pub(crate) fn until_time(next: Option<Frac>) -> Ext
     ensures { result ≡ until_time next }
 {
     match next {

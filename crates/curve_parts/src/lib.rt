@@ -1,13 +1,17 @@
-//! The parts of a convolution of two curves, before and from the time on from which they repeat, and from which number of periods on
-//! the convolution is that of the parts that rise the least.
+//! The parts of a convolution of two curves, before and from the time on from which they repeat, and from which
+//! number of periods on the convolution is that of the parts that rise the least.
 #![tactic(auto)]
 
 mod elements;
 mod gaps;
 mod lower;
+mod made;
+mod most;
 mod number;
 mod order;
 mod parts;
+mod pieces;
 mod rows;
 
+pub use most::most_periods;
 pub use order::{is_slower_curve, late_periods};

@@ -154,7 +154,8 @@ pub(crate) fn lower(s: &Stretch, r: &Stretch, t: Frac) -> Stretch
     requires { (z : Sizes) × (end : ℚ) × SumTimeIn z end t × SumStretch z t s.now × SumStretch z t r.now }
     ensures goes { (f g : ℚ → Ext) → GoesOn f t s.now → GoesOn g t r.now → GoesOn (λ u. min_ext (f u) (g u)) t result }
     ensures next { (u : ℚ) → IsBeforeNext u result.next → IsBeforeNext u s.now.next × IsBeforeNext u r.now.next }
-    ensures sizes { (z : Sizes) (end : ℚ) → SumTimeIn z end t → SumStretch z t s.now → SumStretch z t r.now → SumStretch z t result }
+    ensures sizes { (z : Sizes) (end : ℚ) → SumTimeIn z end t → SumStretch z t s.now → SumStretch z t r.now
+        → SumStretch z t result }
 {
     let line = either_under(&s.line, &r.line, t);
     let next = earliest(s.next, r.next);

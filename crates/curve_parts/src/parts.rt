@@ -1,4 +1,5 @@
-//! What two curves make of the splits of which the first side is in some span, as it goes on from a time. No memory is taken.
+//! What two curves make of the splits of which the first side is in some span, as it goes on from a time. No memory
+//! is taken.
 
 ghost use Rattle.std.specs.Prelude.{◌≡◌, ◌⊎◌, Option, None};
 ghost use Rattle.rational.specs.Rational.{ℚ, ◌≤ℚ◌};
@@ -18,8 +19,8 @@ use affine_segment::Element;
 use fraction128::Frac;
 use upp_curve::{Stretch, stretch_at};
 
-// The first of two times that may be missing, where it is there.
-fn or_else(next: Option<Frac>, until: &Option<Frac>) -> Option<Frac>
+/// The first of two times that may be missing, where it is there.
+pub(crate) fn or_else(next: Option<Frac>, until: &Option<Frac>) -> Option<Frac>
     ensures { result ≡ or_else next until.now }
 {
     match next {
@@ -28,8 +29,8 @@ fn or_else(next: Option<Frac>, until: &Option<Frac>) -> Option<Frac>
     }
 }
 
-// The earlier of a time and one that may be missing.
-fn limit_of(room: Frac, until: &Option<Frac>) -> Frac
+/// The earlier of a time and one that may be missing.
+pub(crate) fn limit_of(room: Frac, until: &Option<Frac>) -> Frac
     ensures { IsLimit room until.now result }
 {
     match until {
@@ -45,7 +46,8 @@ fn part_row(s: &Scan, o: &Option<Element>, low: Frac, t: Frac) -> Stretch
     requires proper { IsProperPart o.now }
     requires low { WindowTime (sizes_in s.now.first.now s.now.second.now s.now.end) s.now.end low }
     requires time { SumStart (sizes_in s.now.first.now s.now.second.now s.now.end) s.now.end t }
-    ensures ahead { IsAhead (PartRow o.now (λ u. low ≤ℚ u)) (part_row_sum o.now (value_at s.now.second.now) (λ u. low ≤ℚ u)) s.now.end t result }
+    ensures ahead { IsAhead (PartRow o.now (λ u. low ≤ℚ u)) (part_row_sum o.now (value_at s.now.second.now)
+        (λ u. low ≤ℚ u)) s.now.end t result }
     ensures sizes { SumStretch (sizes_in s.now.first.now s.now.second.now s.now.end) t result }
 {
     match o {
@@ -63,12 +65,15 @@ fn cell_part(
     t: Frac,
 ) -> Stretch
     requires scan { IsScan s.now.first.now s.now.second.now s.now.end }
-    requires point { OperandPart (sizes_in s.now.first.now s.now.second.now s.now.end) s.now.end point.now × IsProperPart point.now }
-    requires after { OperandPart (sizes_in s.now.first.now s.now.second.now s.now.end) s.now.end after.now × IsProperPart after.now }
+    requires point { OperandPart (sizes_in s.now.first.now s.now.second.now s.now.end) s.now.end point.now
+        × IsProperPart point.now }
+    requires after { OperandPart (sizes_in s.now.first.now s.now.second.now s.now.end) s.now.end after.now
+        × IsProperPart after.now }
     requires low { WindowTime (sizes_in s.now.first.now s.now.second.now s.now.end) s.now.end low }
     requires time { SumStart (sizes_in s.now.first.now s.now.second.now s.now.end) s.now.end t }
     ensures ahead { IsAhead (λ u. PartRow point.now (λ v. low ≤ℚ v) u ⊎ PartRow after.now (λ v. low ≤ℚ v) u)
-        (λ u. either (part_row_sum point.now (value_at s.now.second.now) (λ v. low ≤ℚ v) u) (part_row_sum after.now (value_at s.now.second.now) (λ v. low ≤ℚ v) u))
+        (λ u. either (part_row_sum point.now (value_at s.now.second.now) (λ v. low ≤ℚ v) u)
+        (part_row_sum after.now (value_at s.now.second.now) (λ v. low ≤ℚ v) u))
         s.now.end t result }
     ensures sizes { SumStretch (sizes_in s.now.first.now s.now.second.now s.now.end) t result }
 {
@@ -77,15 +82,16 @@ fn cell_part(
     lower(&first, &second, t)
 }
 
-/// What the two curves make of the splits of which the first side is in [from, until) and the second is `low` or later, as it goes on
-/// from t, up to the end of the window.
+/// What the two curves make of the splits of which the first side is in [from, until) and the second is `low` or
+/// later, as it goes on from t, up to the end of the window.
 pub(crate) fn part(s: &Scan, from: Frac, until: &Option<Frac>, low: Frac, t: Frac) -> Stretch
     requires scan { IsScan s.now.first.now s.now.second.now s.now.end }
     requires from { WindowTime (sizes_in s.now.first.now s.now.second.now s.now.end) s.now.end from }
     requires until { AtNext (WindowTime (sizes_in s.now.first.now s.now.second.now s.now.end) s.now.end) until.now }
     requires low { WindowTime (sizes_in s.now.first.now s.now.second.now s.now.end) s.now.end low }
     requires time { SumStart (sizes_in s.now.first.now s.now.second.now s.now.end) s.now.end t }
-    ensures ahead { IsAhead (PartSplit (InPart from None until.now low)) (part_sum (value_at s.now.first.now) (value_at s.now.second.now) (InPart from None until.now low)) s.now.end t result }
+    ensures ahead { IsAhead (PartSplit (InPart from None until.now low)) (part_sum (value_at s.now.first.now)
+        (value_at s.now.second.now) (InPart from None until.now low)) s.now.end t result }
     ensures sizes { SumStretch (sizes_in s.now.first.now s.now.second.now s.now.end) t result }
 {
     let room = difference(s.end, low);

@@ -10,7 +10,8 @@ ghost use Rattle.upp_curve.specs.Limits.{Sizes};
 ghost use Rattle.curve_conv.specs.ElementRoom.{OperandElement, WindowTime};
 ghost use Rattle.curve_conv.specs.SumWindows.{SumStart};
 ghost use Rattle.curve_parts.specs.Scans.{sizes_in, IsScan, IsEarly, is_time, time_or};
-ghost use Rattle.curve_parts.specs.Stretches.{SumStretch, SumTimeIn, IsAhead, PartPair, part_pair_sum, RowSplit, row_sum};
+ghost use Rattle.curve_parts.specs.Stretches.{SumStretch, SumTimeIn, IsAhead, PartPair, part_pair_sum, RowSplit};
+ghost use Rattle.curve_parts.specs.Stretches.{row_sum};
 ghost use Rattle.curve_parts.specs.Stretches.{IsProperPart, OperandPart};
 
 use crate::elements::{nothing, open_at, part_pair, point_at};
@@ -83,13 +84,15 @@ fn start_of(e: &Element) -> Frac
 
 // What an element makes with a point and with a line that may be missing.
 fn cell_row(a: &Element, point: &Option<Element>, after: &Option<Element>, t: Frac) -> Stretch
-    requires room { (z : Sizes) × (end : ℚ) × SumTimeIn z end t × OperandElement z end a.now × OperandPart z end point.now × OperandPart z end after.now }
+    requires room { (z : Sizes) × (end : ℚ) × SumTimeIn z end t × OperandElement z end a.now
+        × OperandPart z end point.now × OperandPart z end after.now }
     requires proper { IsProper a.now }
     requires point { IsProperPart point.now }
     requires after { IsProperPart after.now }
     ensures ahead { (end : ℚ) → IsAhead (λ u. PartPair a.now point.now u ⊎ PartPair a.now after.now u)
         (λ u. either (part_pair_sum a.now point.now u) (part_pair_sum a.now after.now u)) end t result }
-    ensures sizes { (z : Sizes) (end : ℚ) → SumTimeIn z end t → OperandElement z end a.now → OperandPart z end point.now → OperandPart z end after.now
+    ensures sizes { (z : Sizes) (end : ℚ) → SumTimeIn z end t → OperandElement z end a.now
+        → OperandPart z end point.now → OperandPart z end after.now
         → SumStretch z t result }
 {
     let first = part_pair(a, point, t);
@@ -104,7 +107,8 @@ pub(crate) fn row(s: &Scan, a: &Element, low: Frac, t: Frac) -> Stretch
     requires proper { IsProper a.now }
     requires low { WindowTime (sizes_in s.now.first.now s.now.second.now s.now.end) s.now.end low }
     requires time { SumStart (sizes_in s.now.first.now s.now.second.now s.now.end) s.now.end t }
-    ensures ahead { IsAhead (RowSplit a.now (λ u. low ≤ℚ u)) (row_sum a.now (value_at s.now.second.now) (λ u. low ≤ℚ u)) s.now.end t result }
+    ensures ahead { IsAhead (RowSplit a.now (λ u. low ≤ℚ u)) (row_sum a.now (value_at s.now.second.now)
+        (λ u. low ≤ℚ u)) s.now.end t result }
     ensures sizes { SumStretch (sizes_in s.now.first.now s.now.second.now s.now.end) t result }
 {
     let room = difference(s.end, start_of(a));

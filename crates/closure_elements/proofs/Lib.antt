@@ -1,0 +1,14 @@
+pub mod PieceReads
+pub mod TurnNumbers
+pub mod StretchReads
+pub mod ClosureValues
+pub mod EndlessFalling
+pub mod NormalClosures
+pub mod NormalTurns
+pub mod SmallPieces
+pub mod FewCopies
+pub mod PointCurves
+pub mod TurnSteps
+pub mod SegmentAnswers
+pub mod PointAnswers
+pub mod MeetNumbers

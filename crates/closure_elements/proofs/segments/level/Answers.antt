@@ -1,0 +1,24 @@
+use Rattle.std.proofs.Common.{arith, ◌≡◌, ◌+◌, ◌≤◌, ◌^◌, suc, subst, sym}
+use Rattle.std.proofs.lemmas.Result.{err_from_is_err_and}
+use Rattle.rational.specs.Ratio.{IsSmall}
+use Rattle.upp_curve.specs.Limits.{own_tally}
+use Rattle.closure_elements.specs.ElementCurves.{nat_times}
+use Rattle.closure_elements.proofs.SegmentAnswers.{level_unfit, level_wide, level_is, level_few}
+use Rattle.closure_elements.proofs.segments.level.Goals as goal
+
+pub returns-in_err-pieces : goal.returns-in_err-pieces
+returns-in_err-pieces c =
+    let p = err_from_is_err_and c.from_residual.result c.from_residual.ensures.1 in
+    rw (p.1, p.2) (level_unfit c.args.a c.args.b c.args.line.now c.args.m c.requires.normal c.in_err-pieces.field-0.0 c.in_err-pieces.ensures.unfit)
+
+pub returns-in_default : goal.returns-in_default
+returns-in_default c =
+    let next : suc c.args.m ≡ c.args.m + 1 = omega arith in
+    level_wide c.args.a c.args.b c.args.line.now c.args.m c.requires.normal
+    (λ h. let k = c.in_default.ensures.fits (subst (λ z. IsSmall (nat_times z c.args.a)) next h) in cc)
+
+pub made-requires-clause-few : goal.made-requires-clause-few
+made-requires-clause-few c =
+    subst (λ z. own_tally z ≤ 2 ^ 20)
+    (sym (level_is c.args.a c.args.b c.args.line.now c.args.m (c.args.m + 1) c.in_ok-pieces.pieces.items c.in-Some.rank (omega arith) c.in_ok-pieces.ensures.made c.in-Some.ensures.value))
+    (level_few c.args.a c.args.b c.args.line.now c.args.m c.requires.few c.requires.normal)

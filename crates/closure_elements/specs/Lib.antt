@@ -1,0 +1,4 @@
+pub mod ElementCurves
+pub mod PieceFits
+pub mod ElementAnswers
+pub mod MeetLaws

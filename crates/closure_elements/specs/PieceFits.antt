@@ -1,0 +1,59 @@
+-- The steps by which the pieces of a closure are made, where they fit. Own choice.
+use Rattle.std.specs.Prelude.{◌≤◌, ◌^◌, Option, Some, None, List, Result, Ok, Err}
+use Rattle.rational.specs.Rational.{◌-ℚ◌, neg_ℚ}
+use Rattle.rational.specs.Ratio.{IsSmall, SumFits}
+use Rattle.rational.specs.Extended.{Ext}
+use Rattle.rational.specs.declared.Extended.TheVariants.{Fin, Inf}
+use Rattle.affine_segment.specs.declared.line.Line.{Line}
+use Rattle.affine_segment.specs.declared.line.Piece.{Piece}
+use Rattle.affine_segment.specs.Values.{line_value}
+use Rattle.upp_curve.specs.declared.op_kind.OpFault.{OpFault}
+use Rattle.upp_curve.specs.declared.op_kind.OpFault.TheVariants.{TooMany, TooWide, NoMemory}
+use Rattle.upp_curve.specs.Curve.{SpecCurve, HasSameValues}
+use Rattle.upp_curve.specs.Curves.{IsCurve}
+use Rattle.upp_curve.specs.Normal.{Each}
+use Rattle.upp_curve.specs.Limits.{own_gauge}
+use Rattle.upp_curve.specs.Readable.{LineFitsAt}
+
+abbrev pub AtFits : Ext → Type 0
+AtFits Inf = Unit {0}
+AtFits (Fin v) = IsSmall v
+
+pub record LineParts (l : Line) : Type 0 where
+  pub icept : IsSmall l.icept
+  pub slope : IsSmall l.slope
+
+abbrev pub LineFits : Option Line → Type 0
+LineFits None = Unit {0}
+LineFits (Some l) = LineParts l
+
+-- from the value just after a start down to the value at it
+abbrev pub DropFits : Ext → Ext → Type 0
+DropFits Inf w = Unit {0}
+DropFits (Fin v) Inf = Unit {0}
+DropFits (Fin v) (Fin w) = SumFits w (neg_ℚ (w -ℚ v))
+
+pub record PieceFits (p : Piece) : Type 0 where
+  pub start : IsSmall p.x
+  pub at : AtFits p.at
+  pub line : LineFits p.line
+  pub reads : LineFitsAt p.x p.line
+  pub drop : DropFits p.at (line_value p.line p.x)
+
+-- ---- answers
+-- pieces that are not made: a step does not fit, or want of memory
+abbrev pub IsUnfit : List Piece → OpFault → Type 0
+IsUnfit ps TooMany = ⊥
+IsUnfit ps TooWide = ¬ (Each PieceFits ps)
+IsUnfit ps NoMemory = Unit {0}
+
+-- the curve, or that its own gauge is 2 ^ 120 or more, or want of memory
+pub record IsCurveOf (c d : SpecCurve) : Type 0 where
+  pub same : HasSameValues d c
+  pub curve : IsCurve d
+
+abbrev pub IsMade : SpecCurve → Result SpecCurve OpFault → Type 0
+IsMade c (Ok d) = IsCurveOf c d
+IsMade c (Err TooMany) = ⊥
+IsMade c (Err TooWide) = 2 ^ 120 ≤ own_gauge c
+IsMade c (Err NoMemory) = Unit {0}

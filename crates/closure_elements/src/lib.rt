@@ -1,0 +1,14 @@
+//! The closures of the elements of a curve, as curves: of a point, and of a line on an open stretch.
+#![tactic(auto)]
+
+mod laws;
+mod multiples;
+mod points;
+mod segments;
+mod stretches;
+#[cfg(test)]
+mod tests;
+
+pub use laws::stretches_meet;
+pub use points::point_closure;
+pub use segments::segment_closure;

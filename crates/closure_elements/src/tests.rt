@@ -1,0 +1,58 @@
+//! Closures worked out by hand.
+
+use crate::point_closure;
+use fraction128::Frac;
+use rational::Extended;
+use std::alloc::Global;
+use std::cmp::Ordering;
+use std::test::Fail;
+use upp_curve::{Curve, OpFault, is_less};
+
+fn whole(n: i128) -> Frac {
+    match Frac::new(n, 1) {
+        Ok(f) => f,
+        Err(_) => Frac::zero(),
+    }
+}
+
+// The closure of a point.
+fn point(alloc: Global, x: Frac, v: Frac) -> Result<Curve, OpFault> {
+    if is_less(x, Frac::zero()) {
+        return Err(OpFault::TooMany);
+    }
+    if is_less(v, Frac::zero()) {
+        return Err(OpFault::TooMany);
+    }
+    point_closure(alloc, x, v)
+}
+
+// The value at a time from 0 on; nothing where it is infinite.
+fn value(c: &Curve, t: Frac) -> Option<Frac> {
+    match t.cmp(&Frac::zero()) {
+        Ordering::Less => None,
+        _ => match c.value_at(t) {
+            Ok(Extended::Fin(v)) => Some(v),
+            _ => None,
+        },
+    }
+}
+
+#[test]
+fn a_point_repeats(rt: HostRuntime) -> Result<(), Fail> {
+    let c = point(rt.alloc(), whole(2), whole(3))?;
+    for (t, v) in [(2, 3), (4, 6), (10, 15)] {
+        assert!(rt; value(&c, whole(t)) == Some(whole(v)), "at {t}");
+    }
+    for t in [0, 1, 3, 5] {
+        assert!(rt; value(&c, whole(t)).is_none(), "at {t}");
+    }
+    Ok(())
+}
+
+#[test]
+fn a_point_at_zero_stays(rt: HostRuntime) -> Result<(), Fail> {
+    let c = point(rt.alloc(), whole(0), whole(3))?;
+    assert!(rt; value(&c, whole(0)) == Some(whole(3)));
+    assert!(rt; value(&c, whole(1)).is_none());
+    Ok(())
+}

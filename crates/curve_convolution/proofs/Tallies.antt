@@ -1,0 +1,58 @@
+-- More periods, no smaller tally.
+use Rattle.std.specs.Prelude.{◌≡◌, ℕ, suc, ◌+◌, ◌*◌, ◌<◌, ◌≤◌, pos, Bool, true, false, cond, List, [], ◌∷◌, length}
+use Rattle.std.specs.List.{fold}
+use Rattle.std.proofs.Common.{arith, sym, ap, refl, subst, inl, inr, mul-le-mul}
+use Rattle.rational.specs.Rational.{ℚ, ◌-ℚ◌, ◌/ℚ◌, ◌≤ℚ◌, ◌<ℚ◌, int, lt_q}
+use Rattle.rational.proofs.Laws.{le_or_lt, le_trans, lt_le_trans}
+use Rattle.rational.proofs.Linear.{with3}
+use Rattle.rational.proofs.MinMax.{lt_q_not}
+use Rattle.rational.proofs.Over.{lt_q_out}
+use Rattle.rational.proofs.Quotients.{div_mono}
+use Rattle.affine_segment.specs.declared.line.Piece.{Piece}
+use Rattle.upp_curve.specs.declared.curve.Tail.{Tail}
+use Rattle.upp_curve.specs.declared.curve.Tail.TheVariants.{Periodic, Affine, Infinite}
+use Rattle.upp_curve.specs.declared.op_kind.OpKind.TheVariants.{Convolve}
+use Rattle.upp_curve.specs.Curve.{SpecCurve}
+use Rattle.upp_curve.specs.Curves.{IsCurve}
+use Rattle.upp_curve.specs.Gauges.{tally_over}
+use Rattle.upp_curve.specs.Unrolled.{upto, from, whole_up, copies_below, counted, count}
+use Rattle.upp_curve.proofs.Rounding.{whole_up_least, whole_up_most}
+use Rattle.upp_curve.proofs.StretchSizes.{some_period}
+
+upto_grows : (x y : ℚ) (ps : List Piece) → x ≤ℚ y → length (upto x ps) ≤ length (upto y ps)
+unfolding upto
+upto_grows x y [] h = omega arith
+upto_grows x y (p ∷ ps) h = elim (le_or_lt x p.x) [
+  | inl k ↦ rw (lt_q_not p.x x k) (omega arith)
+  | inr k ↦ rw (lt_q_out p.x x k, lt_q_out p.x y (lt_le_trans k h)) (let l = upto_grows x y ps h in omega (arith, l))
+]
+
+whole_grows : (x y : ℚ) → x ≤ℚ y → whole_up x ≤ whole_up y
+whole_grows x y h = whole_up_most x (whole_up y) (le_trans h (whole_up_least y))
+
+copies_grow : (d x y : ℚ) (p : Piece) → int (pos 0) <ℚ d → x ≤ℚ y → copies_below d x p ≤ copies_below d y p
+copies_grow d x y p some h = whole_grows ((x -ℚ p.x) /ℚ d) ((y -ℚ p.x) /ℚ d) (div_mono (x -ℚ p.x) (y -ℚ p.x) d some (less x y p.x h))
+  where
+    less : (x y z : ℚ) → x ≤ℚ y → x -ℚ z ≤ℚ y -ℚ z
+    less x y z h = with3 x y z (λ c. omega (arith, c.le, c.lt, c.same))
+
+sums_grow : (f g : Piece → ℕ) → ((p : Piece) → f p ≤ g p) → (ps : List Piece) (a b : ℕ) → a ≤ b → fold (λ (n : ℕ) (p : Piece). n + f p) a ps ≤ fold (λ (n : ℕ) (p : Piece). n + g p) b ps
+sums_grow f g h [] a b l = l
+sums_grow f g h (p ∷ ps) a b l = let k = h p in sums_grow f g h ps (a + f p) (b + g p) (omega (arith, k, l))
+
+counted_grows : (c : SpecCurve) (tail : Tail) (x y : ℚ) → IsCurve c → c.tail ≡ tail → x ≤ℚ y → counted c.pieces tail x ≤ counted c.pieces tail y
+counted_grows c (Periodic rank period rise) x y C e h =
+    let some = (some_period c rank period rise C e).some in
+    let a = upto_grows x y (upto rank c.pieces) h in
+    let b = sums_grow (copies_below period x) (copies_below period y) (λ p. copies_grow period x y p some h) (from rank c.pieces) 0 0 (omega arith) in
+    omega (arith, a, b)
+counted_grows c (Affine rank) x y C e h = upto_grows x y c.pieces h
+counted_grows c (Infinite rank) x y C e h = upto_grows x y c.pieces h
+
+count_grows : (c : SpecCurve) (x y : ℚ) → IsCurve c → x ≤ℚ y → count c x ≤ count c y
+unfolding count
+count_grows c x y C h = counted_grows c c.tail x y C refl h
+
+pub tally_grows : (f g : SpecCurve) (x y : ℚ) → IsCurve f → IsCurve g → x ≤ℚ y → tally_over Convolve f g x ≤ tally_over Convolve f g y
+unfolding tally_over
+tally_grows f g x y F G h = mul-le-mul (count_grows f x y F h) (count_grows g x y G h)
