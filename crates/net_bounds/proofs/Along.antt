@@ -57,7 +57,8 @@ packs net at i j (suc m) = packed net at i j ∷ packs net at i (j + 1) m
 abbrev pub services : Net → CellTable → ℕ → (j m : ℕ) → List (ℚ → Ext)
 services net at i j m = packs net at i j m ++ left at i (j + m) ∷ []
 
-packs_more : (net : Net) (at : CellTable) (i j m : ℕ) → packs net at i j (suc m) ≡ packs net at i j m ++ packed net at i (j + m) ∷ []
+packs_more : (net : Net) (at : CellTable) (i j m : ℕ)
+    → packs net at i j (suc m) ≡ packs net at i j m ++ packed net at i (j + m) ∷ []
 packs_more net at i j zero =
     let same : j ≡ j + 0 = omega arith in
     ap (λ (k : ℕ). packed net at i k ∷ []) same
@@ -74,9 +75,11 @@ pub record IsAlong (fs : List (ℚ → Ext)) (f : ℚ → Ext) : Type 0 where
 abbrev pub AllGrow : Net → CellTable → ℕ → Type 0
 AllGrow net at i = (k : ℕ) → k < hops net i → GrowsFromZero (left at i k)
 
-packed_grows : (net : Net) (at : CellTable) (i k : ℕ) (f : ℚ → Ext) → GrowsFromZero (left at i k) → HasValues (packed net at i k) f → GrowsFromZero f
+packed_grows : (net : Net) (at : CellTable) (i k : ℕ) (f : ℚ → Ext) → GrowsFromZero (left at i k)
+    → HasValues (packed net at i k) f → GrowsFromZero f
 packed_grows net at i k f grows is =
-    growing_answers (PosMinus (whole (packet net i))) (left at i k) (left at i k) f (whole_nonneg (packet net i), grows) is
+    growing_answers (PosMinus (whole (packet net i))) (left at i k) (left at i k) f
+    (whole_nonneg (packet net i), grows) is
 
 -- one more convolution
 more_along : (f g h other : ℚ → Ext) (fs : List (ℚ → Ext)) → IsAlong fs f → GrowsFromZero g → HasValues other g
@@ -87,7 +90,8 @@ more_along f g h other fs along grows is made = record {
   grows = growing_answers Convolve f g h (along.grows, grows) made;
 }
 
-packs_read : (net : Net) (at : CellTable) (i m : ℕ) (w : Meaning) → AllGrow net at i → m < hops net i → Means at (packets_to net i m) w
+packs_read : (net : Net) (at : CellTable) (i m : ℕ) (w : Meaning) → AllGrow net at i → m < hops net i
+    → Means at (packets_to net i m) w
     → IsCurveIn (λ f. IsAlong (packs net at i 0 (suc m)) (value_at f)) w
 packs_read net at i zero w grow h means =
     curve_map (λ f. HasValues (packed net at i 0) (value_at f)) (λ f. IsAlong (packs net at i 0 1) (value_at f)) w
@@ -99,11 +103,14 @@ packs_read net at i zero w grow h means =
 packs_read net at i (suc m) w grow h means =
     let f = means.operand in
     let g = means.gives.operand in
-    let before : IsAlong (packs net at i 0 (suc m)) (value_at f) = packs_read net at i m (curve f) grow (omega (arith, h)) means.is in
-    let is : HasValues (packed net at i (suc m)) (value_at g) = less_reads at (cell_of Residual i (suc m)) (packet net i) (curve g) means.gives.is in
+    let before : IsAlong (packs net at i 0 (suc m)) (value_at f) =
+    packs_read net at i m (curve f) grow (omega (arith, h)) means.is in
+    let is : HasValues (packed net at i (suc m)) (value_at g) =
+    less_reads at (cell_of Residual i (suc m)) (packet net i) (curve g) means.gives.is in
     let same : 0 + suc m ≡ suc m = omega arith in
     let all : packs net at i 0 (suc m) ++ packed net at i (suc m) ∷ [] ≡ packs net at i 0 (suc (suc m)) =
-    ap (λ (k : ℕ). packs net at i 0 (suc m) ++ packed net at i k ∷ []) (sym same) ∙ sym (packs_more net at i 0 (suc m)) in
+    ap (λ (k : ℕ). packs net at i 0 (suc m) ++ packed net at i k ∷ []) (sym same) ∙ sym
+    (packs_more net at i 0 (suc m)) in
     curve_map (IsMadeBy Convolve f g) (λ c. IsAlong (packs net at i 0 (suc (suc m))) (value_at c)) w
     (λ c made. subst (λ (fs : List (ℚ → Ext)). IsAlong fs (value_at c)) all
     (more_along (value_at f) (value_at g) (value_at c) (packed net at i (suc m)) (packs net at i 0 (suc m)) before
@@ -121,7 +128,8 @@ path_reads net at i zero w grow h one means =
 path_reads net at i (suc m) w grow h one means =
     let f = means.operand in
     let g = means.gives.operand in
-    let before : IsAlong (packs net at i 0 (suc m)) (value_at f) = packs_read net at i m (curve f) grow (omega (arith, h)) means.is in
+    let before : IsAlong (packs net at i 0 (suc m)) (value_at f) =
+    packs_read net at i m (curve f) grow (omega (arith, h)) means.is in
     let is : left at i (suc m) ≡ value_at g = values_are at (cell_of Residual i (suc m)) g means.gives.is in
     let same : suc m ≡ 0 + suc m = omega arith in
     let all : packs net at i 0 (suc m) ++ left at i (suc m) ∷ [] ≡ services net at i 0 (suc m) =
@@ -136,8 +144,10 @@ path_reads net at i (suc m) w grow h one means =
 packed_low : (net : Net) (at : CellTable) (i j : ℕ) → IsNonnegative (packed net at i j)
 packed_low net at i j t p = excess_nonneg (left at i j t) (Fin (whole (packet net i)))
 
-pub serves_along : (net : Net) (at : CellTable) (run : SpecRun) (i j m : ℕ) (path queues : List ℕ) → length path ≡ suc m → length queues ≡ length path
-    → IsRestFrom net at run i j path → IsServedAlong (routes_of net) run i (hops_along path queues) (services net at i j m)
+pub serves_along : (net : Net) (at : CellTable) (run : SpecRun) (i j m : ℕ) (path queues : List ℕ)
+    → length path ≡ suc m → length queues ≡ length path
+    → IsRestFrom net at run i j path
+    → IsServedAlong (routes_of net) run i (hops_along path queues) (services net at i j m)
 serves_along net at run i j m [] queues n e h = absurd (omega (arith, n))
 serves_along net at run i j m (s ∷ path) [] n e h = absurd (omega (arith, e))
 serves_along net at run i j zero (s ∷ []) (q ∷ []) n e h = flow_served_there net at run i (j + 0) s (h 0 (omega arith))
@@ -149,11 +159,14 @@ serves_along net at run i j (suc m) (s ∷ t ∷ path) (q ∷ r ∷ queues) n e 
     let hop = first_hop net at run i j s (t ∷ path) h in
     let V = seen_by net run s in
     let same : (j + 1) + m ≡ j + suc m = omega arith in
-    let rest = serves_along net at run i (j + 1) m (t ∷ path) (r ∷ queues) (omega (arith, n)) (omega (arith, e)) (rest_from net at run i j s (t ∷ path) h) in (
+    let rest = serves_along net at run i (j + 1) m (t ∷ path) (r ∷ queues) (omega (arith, n)) (omega (arith, e))
+    (rest_from net at run i j s (t ∷ path) h) in (
       packed_low net at i j,
-      packets_are_served (here net s) run.end V (of_flow i) (left at i j) (packet net i) (lawful_here net at run s hop.server)
+      packets_are_served (here net s) run.end V (of_flow i) (left at i j) (packet net i)
+          (lawful_here net at run s hop.server)
           (flow_sizes net at run s i hop.server) (flow_served_there net at run i j s hop),
-      subst (λ (k : ℕ). IsServedAlong (routes_of net) run i (hops_along (t ∷ path) (r ∷ queues)) (packs net at i (j + 1) m ++ left at i k ∷ [])) same rest,
+      subst (λ (k : ℕ). IsServedAlong (routes_of net) run i (hops_along (t ∷ path) (r ∷ queues))
+          (packs net at i (j + 1) m ++ left at i k ∷ [])) same rest,
     )
 
 -- ---- the links
@@ -169,4 +182,5 @@ links_are net s (t ∷ path) (q ∷ r ∷ queues) e =
     let hs = hops_along (t ∷ path) (r ∷ queues) in
     ap (λ (x : Ext). Fin (link net s) +ₑ x) rest
     ∙ ap (λ (x : ℚ). Fin (x +ℚ links_along (routes_of net) hs)) (sym (link_is net s))
-    ∙ ap Fin (with3 (link_at (routes_of net) s) (links_between (routes_of net) hs) (link_at (routes_of net) (last_server hs)) (λ c. omega (arith, c.le, c.lt, c.same)))
+    ∙ ap Fin (with3 (link_at (routes_of net) s) (links_between (routes_of net) hs)
+    (link_at (routes_of net) (last_server hs)) (λ c. omega (arith, c.le, c.lt, c.same)))

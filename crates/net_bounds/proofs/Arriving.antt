@@ -1,4 +1,5 @@
--- What arrives at a server whose flows keep their curves there: each packet is of a flow with a hop there, in its queue.
+-- What arrives at a server whose flows keep their curves there: each packet is of a flow with a hop there, in its
+-- flow's queue.
 use Rattle.std.specs.Prelude.{◌≡◌, ℕ, ◌<◌, ◌≤◌, ◌==◌, ◌&&◌, List, [], ◌∷◌, length}
 use Rattle.std.proofs.Common.{arith, sym, ap, ◌∙◌, subst, inl, inr}
 use Rattle.std.proofs.lemmas.Bool.{eqb-true, eq-eqb}
@@ -55,12 +56,15 @@ pub record AtServer (net : Net) (at : CellTable) (run : SpecRun) (s : ℕ) : Typ
 pub all_passing : (net : Net) (run : SpecRun) (s : ℕ) → IsRunOf net run
     → EachArrival (IsPassing (routes_of net) (packet net) s) (seen_by net run s)
 all_passing net run s r =
-    passing (routes_of net) run (packet net) (λ i. value_at (arrival net i)) (λ k. value_at (service net k)) s r.lawful r.keeps
+    passing (routes_of net) run (packet net) (λ i. value_at (arrival net i)) (λ k. value_at (service net k)) s
+    r.lawful r.keeps
 
 -- ---- curves
-pub keeps_values : (C : Class) (f base : ℚ → Ext) (V : List ServerStep) → HasValues base f → KeepsArrivals C base V → KeepsArrivals C f V
+pub keeps_values : (C : Class) (f base : ℚ → Ext) (V : List ServerStep) → HasValues base f → KeepsArrivals C base V
+    → KeepsArrivals C f V
 keeps_values C f base V is keeps s t l =
-    subst (λ (x : Ext). Fin (arrived_in C V s t) ≤ₑ x) (sym (is (t -ℚ s) (with2 s t (λ c. omega (arith, c.le, c.lt, c.same))))) (keeps s t l)
+    subst (λ (x : Ext). Fin (arrived_in C V s t) ≤ₑ x)
+    (sym (is (t -ℚ s) (with2 s t (λ c. omega (arith, c.le, c.lt, c.same))))) (keeps s t l)
 
 -- a curve that is kept is nowhere below 0
 pub kept_nonneg : (C : Class) (α : ℚ → Ext) (V : List ServerStep) → KeepsArrivals C α V → IsNonnegative α
@@ -75,13 +79,15 @@ kept_nonneg C α V keeps t p =
     none_less (Visits q u) = with1 zero_q (λ c. omega (arith, c.le, c.lt, c.same))
 
     some : zero_q ≤ℚ arrived_in C V zero_q t
-    some = total_nonneg (arrives C (within zero_q t)) V (each_all (λ x. zero_q ≤ℚ arrives C (within zero_q t) x) none_less V)
+    some = total_nonneg (arrives C (within zero_q t)) V
+        (each_all (λ x. zero_q ≤ℚ arrives C (within zero_q t) x) none_less V)
 
 -- ---- a flow
 pub hop_is : (net : Net) (i k : ℕ) → IsAccepted net → k < hops net i → hop_at net i (server_at net i k) ≡ k
 hop_is net i k a h = place_of_at (path net i) k (routed net i a (hop_is_live net i k h)).apart h
 
-pub flow_comes : (net : Net) (at : CellTable) (run : SpecRun) (s i k : ℕ) → AtServer net at run s → k < hops net i → server_at net i k ≡ s
+pub flow_comes : (net : Net) (at : CellTable) (run : SpecRun) (s i k : ℕ) → AtServer net at run s → k < hops net i
+    → server_at net i k ≡ s
     → KeepsArrivals (of_flow i) (values at (cell_of In i k)) (seen_by net run s)
 flow_comes net at run s i k w h e =
     let here : hop_at net i s ≡ k = ap (hop_at net i) (sym e) ∙ hop_is net i k w.accepted h in
@@ -97,22 +103,26 @@ pub record IsVisiting (net : Net) (s : ℕ) (c : Card) : Type 0 where
   pub queue : queue_at net c.flow (hop_at net c.flow s) ≡ c.queue
   pub small : c.bits ≤ packet net c.flow
 
-pub visiting : (net : Net) (s : ℕ) (c : Card) → IsAccepted net → IsPassing (routes_of net) (packet net) s c → IsVisiting net s c
+pub visiting : (net : Net) (s : ℕ) (c : Card) → IsAccepted net → IsPassing (routes_of net) (packet net) s c
+    → IsVisiting net s c
 visiting net s c a p =
     let at_place = passes_at net c.flow s p.passes in
     let on = routed net c.flow a (sym (live_is net c.flow) ∙ p.is_live) in
-    let there = passes_has s (path net c.flow) (own_queues net c.flow) (subst (PassesServer s) (hops_is net c.flow) p.passes) in
+    let there = passes_has s (path net c.flow) (own_queues net c.flow)
+    (subst (PassesServer s) (hops_is net c.flow) p.passes) in
     record {
       within = at_place.within;
       server = at_place.is;
-      queue = sym (p.its_queue ∙ ap (λ (hs : List Hop). routes.queue_at s hs) (hops_is net c.flow) ∙ queue_is s (path net c.flow) (own_queues net c.flow) on.paired there);
+      queue = sym (p.its_queue ∙ ap (λ (hs : List Hop). routes.queue_at s hs) (hops_is net c.flow) ∙ queue_is s
+          (path net c.flow) (own_queues net c.flow) on.paired there);
       small = p.small;
     }
 
 pub all_visiting : (net : Net) (at : CellTable) (run : SpecRun) (s : ℕ) → AtServer net at run s
     → EachArrival (IsVisiting net s) (seen_by net run s)
 all_visiting net at run s w =
-    arrivals_map (IsPassing (routes_of net) (packet net) s) (IsVisiting net s) (λ c p. visiting net s c w.accepted p) (seen_by net run s)
+    arrivals_map (IsPassing (routes_of net) (packet net) s) (IsVisiting net s) (λ c p. visiting net s c w.accepted p)
+    (seen_by net run s)
     (all_passing net run s w.run_of)
 
 abbrev pub card_visit : Net → ℕ → Card → Visit
@@ -121,7 +131,8 @@ card_visit net s c = visit c.flow (hop_at net c.flow s)
 pub has_card : (net : Net) (s : ℕ) (c : Card) → IsVisiting net s c → Has (visits net s) (card_visit net s c)
 has_card net s c v = has_visit net s c.flow (hop_at net c.flow s) v.within v.server
 
-pub has_in : (net : Net) (s q : ℕ) (c : Card) → IsVisiting net s c → c.queue ≡ q → Has (visits_in net s q) (card_visit net s c)
+pub has_in : (net : Net) (s q : ℕ) (c : Card) → IsVisiting net s c → c.queue ≡ q
+    → Has (visits_in net s q) (card_visit net s c)
 has_in net s q c v e =
     has_filter (λ w. queue_at net w.flow w.hop == q) (visits net s) (card_visit net s c) (has_card net s c v)
     (eq-eqb (queue_at net c.flow (hop_at net c.flow s)) q (v.queue ∙ e))

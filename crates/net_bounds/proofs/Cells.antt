@@ -46,10 +46,12 @@ pub number_is : (at : CellTable) (c : Cell) (x : Ext) → at c ≡ Some (number 
 unfolding number_in
 number_is at c x e = ap number_in e
 
-pub of_values : (at : CellTable) (c : Cell) (f : SpecCurve) (P : (ℚ → Ext) → Type 0) → at c ≡ Some (curve f) → P (value_at f) → P (values at c)
+pub of_values : (at : CellTable) (c : Cell) (f : SpecCurve) (P : (ℚ → Ext) → Type 0) → at c ≡ Some (curve f)
+    → P (value_at f) → P (values at c)
 of_values at c f P e h = subst P (sym (values_are at c f e)) h
 
-pub of_number : (at : CellTable) (c : Cell) (x : Ext) (P : Ext → Type 0) → at c ≡ Some (number x) → P x → P (size_in at c)
+pub of_number : (at : CellTable) (c : Cell) (x : Ext) (P : Ext → Type 0) → at c ≡ Some (number x) → P x
+    → P (size_in at c)
 of_number at c x P e h = subst P (sym (number_is at c x e)) h
 
 -- ---- from what the table has, and to it
@@ -59,17 +61,21 @@ curve_holds at c P h = of_values at c h.value P h.is h.holds
 pub number_holds : (at : CellTable) (c : Cell) (P : Ext → Type 0) → HasNumber at c P → P (size_in at c)
 number_holds at c P h = of_number at c h.value P h.is h.holds
 
-pub curve_has : (at : CellTable) (c : Cell) (P Q : (ℚ → Ext) → Type 0) → HasCurve at c P → Q (values at c) → HasCurve at c Q
+pub curve_has : (at : CellTable) (c : Cell) (P Q : (ℚ → Ext) → Type 0) → HasCurve at c P → Q (values at c)
+    → HasCurve at c Q
 curve_has at c P Q h k = record { value = h.value; is = h.is; holds = subst Q (values_are at c h.value h.is) k }
 
-pub number_has : (at : CellTable) (c : Cell) (P Q : Ext → Type 0) → HasNumber at c P → Q (size_in at c) → HasNumber at c Q
+pub number_has : (at : CellTable) (c : Cell) (P Q : Ext → Type 0) → HasNumber at c P → Q (size_in at c)
+    → HasNumber at c Q
 number_has at c P Q h k = record { value = h.value; is = h.is; holds = subst Q (number_is at c h.value h.is) k }
 
-pub curve_from : (at : CellTable) (c : Cell) (P : (ℚ → Ext) → Type 0) (v : Meaning) → at c ≡ Some v → IsCurveIn (λ f. P (value_at f)) v → HasCurve at c P
+pub curve_from : (at : CellTable) (c : Cell) (P : (ℚ → Ext) → Type 0) (v : Meaning) → at c ≡ Some v
+    → IsCurveIn (λ f. P (value_at f)) v → HasCurve at c P
 curve_from at c P (curve f) e h = record { value = f; is = e; holds = h }
 curve_from at c P (number x) e h = absurd h
 
-pub number_from : (at : CellTable) (c : Cell) (P : Ext → Type 0) (v : Meaning) → at c ≡ Some v → IsNumberIn P v → HasNumber at c P
+pub number_from : (at : CellTable) (c : Cell) (P : Ext → Type 0) (v : Meaning) → at c ≡ Some v → IsNumberIn P v
+    → HasNumber at c P
 number_from at c P (curve f) e h = absurd h
 number_from at c P (number x) e h = record { value = x; is = e; holds = h }
 
@@ -82,12 +88,14 @@ abbrev pub HasValues : (ℚ → Ext) → (ℚ → Ext) → Type 0
 HasValues base f = (t : ℚ) → zero_q ≤ℚ t → f t ≡ base t
 
 -- where the values of two curves in cells are put together
-pub made_of_two : (at : CellTable) (op : OpKind) (c d : Cell) (v : Meaning) → Means at (made op (value_of c) (value_of d)) v
+pub made_of_two : (at : CellTable) (op : OpKind) (c d : Cell) (v : Meaning)
+    → Means at (made op (value_of c) (value_of d)) v
     → IsCurveIn (λ h. (t : ℚ) → zero_q ≤ℚ t → IsAnswer op (values at c) (values at d) t (value_at h t)) v
 made_of_two at op c d v m =
     let f = m.operand in
     let g = m.gives.operand in
-    curve_map (IsMadeBy op f g) (λ h. (t : ℚ) → zero_q ≤ℚ t → IsAnswer op (values at c) (values at d) t (value_at h t)) v
+    curve_map (IsMadeBy op f g)
+    (λ h. (t : ℚ) → zero_q ≤ℚ t → IsAnswer op (values at c) (values at d) t (value_at h t)) v
     (λ h made t p.
     of_values at c f (λ (a : ℚ → Ext). IsAnswer op a (values at d) t (value_at h t)) m.is
     (of_values at d g (λ (b : ℚ → Ext). IsAnswer op (value_at f) b t (value_at h t)) m.gives.is (made.answers t p)))
@@ -122,7 +130,8 @@ from_first at F (c ∷ cs) base v reads m =
     curve_map (λ f. HasValues (λ t. (base t +ₑ values at c t) +ₑ sum_over (values at) cs t) (value_at f))
     (λ f. HasValues (λ t. base t +ₑ (values at c t +ₑ sum_over (values at) cs t)) (value_at f)) v
     (λ f h t p. h t p ∙ add_ext_assoc (base t) (values at c t) (sum_over (values at) cs t))
-    (from_first at (made Sum F (value_of c)) cs (λ t. base t +ₑ values at c t) v (λ w k. one_more at F c base w reads k) m)
+    (from_first at (made Sum F (value_of c)) cs (λ t. base t +ₑ values at c t) v
+    (λ w k. one_more at F c base w reads k) m)
 
 -- each cell has a curve
 abbrev pub AllCurves : CellTable → List Cell → Type 0

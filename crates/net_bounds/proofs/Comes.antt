@@ -41,7 +41,8 @@ queue_comes net at run s q w h =
     (λ v m. let is = visit_in net s q v m in flow_comes net at run s v.flow v.hop w is.within is.server))
   where
     has_flow : (c : Card) → IsVisiting net s c → c.queue ≡ q → HasKey (λ (v : Visit). v.flow) (visits_in net s q) c.flow
-    has_flow c v e = has_key (λ (u : Visit). u.flow) (visits_in net s q) (card_visit net s c) c.flow (has_in net s q c v e) refl
+    has_flow c v e = has_key (λ (u : Visit). u.flow) (visits_in net s q) (card_visit net s c) c.flow
+        (has_in net s q c v e) refl
 
 -- the queues before it, at a server that serves them first
 pub higher_comes : (net : Net) (at : CellTable) (run : SpecRun) (s q : ℕ) → AtServer net at run s → q < levels net s
@@ -54,12 +55,14 @@ higher_comes net at run s q w h e =
     (λ c v b. has_queue c (ltb-true c.queue q b)) V (all_visiting net at run s w) in
     keeps_values (before_queue q) (values at (cell_of Higher s q)) sum V
     (curve_holds at (cell_of Higher s q) (HasValues sum)
-    (higher_is net at s q w.meets h (λ p m. let c = total_cell net at s p w.meets (below p m) in record { value = c.value; is = c.is; holds = tt })))
+    (higher_is net at s q w.meets h
+    (λ p m. let c = total_cell net at s p w.meets (below p m) in record { value = c.value; is = c.is; holds = tt })))
     (list_keeps (λ (p : ℕ). p) (total_at at s) (λ c. c.queue) qs (before_queue q) V known
     (λ p m. queue_comes net at run s p w (below p m)))
   where
     has_queue : (c : Card) → c.queue < q → HasKey (λ (p : ℕ). p) (range_with_len 0 q) c.queue
-    has_queue c l = has_key (λ (p : ℕ). p) (range_with_len 0 q) c.queue c.queue (has_range 0 q c.queue (omega arith) (omega (arith, l))) refl
+    has_queue c l = has_key (λ (p : ℕ). p) (range_with_len 0 q) c.queue c.queue
+        (has_range 0 q c.queue (omega arith) (omega (arith, l))) refl
 
     below : (p : ℕ) → Has (range_with_len 0 q) p → p < queues net s
     below p m = let r = range_has 0 q p m in omega (arith, r.1)
@@ -68,7 +71,8 @@ higher_comes net at run s q w h e =
 abbrev pub others_of : ℕ → ℕ → Class
 others_of q i c = (c.queue == q) && not (c.flow == i)
 
-pub cross_comes : (net : Net) (at : CellTable) (run : SpecRun) (s i k : ℕ) → AtServer net at run s → k < hops net i → server_at net i k ≡ s
+pub cross_comes : (net : Net) (at : CellTable) (run : SpecRun) (s i k : ℕ) → AtServer net at run s → k < hops net i
+    → server_at net i k ≡ s
     → KeepsArrivals (others_of (queue_at net i k) i) (values at (cell_of Cross i k)) (seen_by net run s)
 cross_comes net at run s i k w h e =
     let V = seen_by net run s in
@@ -82,7 +86,8 @@ cross_comes net at run s i k w h e =
     (list_keeps (λ (v : Visit). v.flow) (arriving_at at) (λ c. c.flow) vs (others_of q i) V known
     (λ v m. let is = other_in v m in flow_comes net at run s v.flow v.hop w is.within (is.server ∙ e)))
   where
-    other_in : (v : Visit) → Has (others net i (server_at net i k) (queue_at net i k)) v → IsVisitIn net (server_at net i k) (queue_at net i k) v
+    other_in : (v : Visit) → Has (others net i (server_at net i k) (queue_at net i k)) v
+        → IsVisitIn net (server_at net i k) (queue_at net i k) v
     other_in v m =
         visit_in net (server_at net i k) (queue_at net i k) v
         (filter_has (λ u. not (u.flow == i)) (visits_in net (server_at net i k) (queue_at net i k)) v m).0
@@ -92,5 +97,7 @@ cross_comes net at run s i k w h e =
     has_other c v both =
         let there = subst (λ (r : ℕ). Has (visits_in net r (queue_at net i k)) (card_visit net s c)) (sym e)
         (has_in net s (queue_at net i k) c v (eqb-true c.queue (queue_at net i k) both.0)) in
-        has_key (λ (u : Visit). u.flow) (others net i (server_at net i k) (queue_at net i k)) (card_visit net s c) c.flow
-        (has_filter (λ u. not (u.flow == i)) (visits_in net (server_at net i k) (queue_at net i k)) (card_visit net s c) there both.1) refl
+        has_key (λ (u : Visit). u.flow) (others net i (server_at net i k) (queue_at net i k)) (card_visit net s c)
+        c.flow
+        (has_filter (λ u. not (u.flow == i)) (visits_in net (server_at net i k) (queue_at net i k))
+        (card_visit net s c) there both.1) refl

@@ -44,19 +44,23 @@ pub record AlongPath (net : Net) (at : CellTable) (run : SpecRun) (i : ℕ) : Ty
   pub live : is_live net i ≡ true
   pub servers : (s : ℕ) → s < length net.servers → AtServer net at run s
 
-pub at_hop : (net : Net) (at : CellTable) (run : SpecRun) (i k : ℕ) → AlongPath net at run i → k < hops net i → AtHop net at run i k (server_at net i k)
+pub at_hop : (net : Net) (at : CellTable) (run : SpecRun) (i k : ℕ) → AlongPath net at run i → k < hops net i
+    → AtHop net at run i k (server_at net i k)
 at_hop net at run i k w h =
     record { server = w.servers (server_at net i k) (hop_inside net i k w.accepted h); within = h; is = refl }
 
-whole_path : (net : Net) (at : CellTable) (run : SpecRun) (i : ℕ) → AlongPath net at run i → IsRestFrom net at run i 0 (path net i)
+whole_path : (net : Net) (at : CellTable) (run : SpecRun) (i : ℕ) → AlongPath net at run i
+    → IsRestFrom net at run i 0 (path net i)
 whole_path net at run i w k l =
     let same : k ≡ 0 + k = omega arith in
     subst (λ (j : ℕ). AtHop net at run i j (server_at net i k)) same (at_hop net at run i k w l)
 
-path_ok : (net : Net) (at : CellTable) (run : SpecRun) (i : ℕ) → AlongPath net at run i → IsPath (routes_of net) (route_of (routes_of net) i).hops
+path_ok : (net : Net) (at : CellTable) (run : SpecRun) (i : ℕ) → AlongPath net at run i
+    → IsPath (routes_of net) (route_of (routes_of net) i).hops
 path_ok net at run i w = path_is net i w.accepted (live_is net i ∙ w.live)
 
-path_cell : (net : Net) (at : CellTable) (run : SpecRun) (i : ℕ) → AlongPath net at run i → (is_live net i && (0 == 0)) ≡ true
+path_cell : (net : Net) (at : CellTable) (run : SpecRun) (i : ℕ) → AlongPath net at run i
+    → (is_live net i && (0 == 0)) ≡ true
 path_cell net at run i w = and_from (is_live net i) (0 == 0) w.live refl
 
 -- ---- hop by hop
@@ -95,7 +99,8 @@ path_served net at run i w =
     record { value = first.value; is = first.is; holds = tt } e.means)
 
 comes_first : (net : Net) (at : CellTable) (run : SpecRun) (i : ℕ) → AlongPath net at run i
-    → KeepsArrivals (of_flow i) (values at (cell_of In i 0)) (seen_by net run (first_server (route_of (routes_of net) i).hops))
+    → KeepsArrivals (of_flow i) (values at (cell_of In i 0))
+    (seen_by net run (first_server (route_of (routes_of net) i).hops))
 comes_first net at run i w =
     let on = routed net i w.accepted w.live in
     let some : 0 < hops net i = omega (arith, on.some) in
@@ -117,7 +122,8 @@ served_along : (net : Net) (at : CellTable) (run : SpecRun) (i : ℕ) → AlongP
 served_along net at run i w =
     let on = routed net i w.accepted w.live in
     let some : 1 ≤ hops net i = on.some in
-    subst (λ (hs : List Hop). IsServedAlong (routes_of net) run i hs (services net at i 0 (hops net i - 1))) (sym (hops_is net i))
+    subst (λ (hs : List Hop). IsServedAlong (routes_of net) run i hs (services net at i 0 (hops net i - 1)))
+    (sym (hops_is net i))
     (serves_along net at run i 0 (hops net i - 1) (path net i) (own_queues net i) (omega arith) on.paired
     (whole_path net at run i w))
 
@@ -133,7 +139,8 @@ sfa_kept net at run i w =
     let curves = services net at i 0 (hops net i - 1) in
     let is_h : IsHorizontalDeviation α γ h =
     deviation_reads at (cell_of In i 0) (cell_of PathService i 0) IsHorizontalDeviation (number h) e.means.is in
-    let along : IsAlong curves γ = curve_holds at (cell_of PathService i 0) (IsAlong curves) (path_served net at run i w) in
+    let along : IsAlong curves γ = curve_holds at (cell_of PathService i 0) (IsAlong curves)
+    (path_served net at run i w) in
     let bounded : IsFlowBounded R run i (h +ₑ Fin (links_along R (route_of R i).hops)) =
     delay_from_path_service R run i α γ h curves w.run_of.lawful (path_ok net at run i w) (comes_first net at run i w)
     (served_along net at run i w) along.splits along.grows.rising is_h in
@@ -155,7 +162,8 @@ path_kept net at run i w =
     let R = routes_of net in
     let curves = services net at i 0 (hops net i - 1) in
     let path = path_served net at run i w in
-    let along : IsAlong curves (values at (cell_of PathService i 0)) = curve_holds at (cell_of PathService i 0) (IsAlong curves) path in
+    let along : IsAlong curves (values at (cell_of PathService i 0)) =
+    curve_holds at (cell_of PathService i 0) (IsAlong curves) path in
     let tfa = tfa_kept net at run i w in
     let sfa = sfa_kept net at run i w in
     let e = w.meets (cell_of Bound i 0) (path_cell net at run i w) in
@@ -165,12 +173,14 @@ path_kept net at run i w =
     let is_y : sfa.value ≡ y = same sfa.value y (sym sfa.is ∙ e.means.gives.is) in
     record {
       served = curve_has at (cell_of PathService i 0) _ _ path
-          (path_is_served R run i (values at (cell_of PathService i 0)) curves w.run_of.lawful (path_ok net at run i w) (served_along net at run i w) along.splits);
+          (path_is_served R run i (values at (cell_of PathService i 0)) curves w.run_of.lawful
+          (path_ok net at run i w) (served_along net at run i w) along.splits);
       by_hops = tfa;
       by_service = sfa;
       bound = number_from at (cell_of Bound i 0) (IsFlowBounded R run i) e.value e.is
           (subst (IsNumberIn (IsFlowBounded R run i)) (sym e.means.gives.gives)
-          (of_lesser (IsFlowBounded R run i) x y (subst (IsFlowBounded R run i) is_x tfa.holds) (subst (IsFlowBounded R run i) is_y sfa.holds)));
+          (of_lesser (IsFlowBounded R run i) x y (subst (IsFlowBounded R run i) is_x tfa.holds)
+          (subst (IsFlowBounded R run i) is_y sfa.holds)));
     }
   where
     same : (a b : Ext) → Some (number a) ≡ Some (number b) → a ≡ b

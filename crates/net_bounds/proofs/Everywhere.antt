@@ -48,13 +48,17 @@ early s (x ∷ xs) (suc n) h = elim (cases_eq x s) [
       rw (ne_eqb x s m) (omega arith)
 ]
 
-next_place : (net : Net) (i a b : ℕ) → server_after a (route_of (routes_of net) i).hops ≡ Some b → IsNextPlace a b (path net i)
-next_place net i a b e = after_is a b (path net i) (own_queues net i) (subst (λ (hs : List Hop). server_after a hs ≡ Some b) (hops_is net i) e)
+next_place : (net : Net) (i a b : ℕ) → server_after a (route_of (routes_of net) i).hops ≡ Some b
+    → IsNextPlace a b (path net i)
+next_place net i a b e =
+    after_is a b (path net i) (own_queues net i)
+    (subst (λ (hs : List Hop). server_after a hs ≡ Some b) (hops_is net i) e)
 
 is_next : (net : Net) (i a b : ℕ) → is_live net i ≡ true → IsNextPlace a b (path net i) → IsNext net a b
 is_next net i a b live n =
     let it = live_flow net i live in
-    let step : IsStep (path net i) a b = record { hop = hop_at net i a; on_path = n.within; from = n.from; to = n.to } in
+    let step : IsStep (path net i) a b = record
+    { hop = hop_at net i a; on_path = n.within; from = n.from; to = n.to } in
     record { flow = it.flow; live = it.there; step = subst (λ (p : List ℕ). IsStep p a b) (ap path_of it.is) step }
 
 pub forward : (net : Net) (order : List ℕ) → IsAccepted net → IsOrder net order
@@ -65,7 +69,8 @@ forward net order acc o i a b live e =
     let inside : b < length net.servers =
     subst (λ (t : ℕ). t < length net.servers) n.to (hop_inside net i (suc (hop_at net i a)) acc n.within) in
     let stands = placed b order (contains_has order b ((has_each_server net order o).each b inside)) in
-    let before = goes_forward net order a b (place_in b order) o (is_next net i a b is_live_flow n) stands.within stands.is in
+    let before = goes_forward net order a b (place_in b order) o (is_next net i a b is_live_flow n) stands.within
+    stands.is in
     early a order (place_in b order) (contains_has (take (place_in b order) order) a before)
 
 -- ---- where flows enter
@@ -79,21 +84,26 @@ enters net at run acc meets r i live s t l =
     let place : hop_at net i (first_server (route_of (routes_of net) i).hops) ≡ 0 =
     ap (hop_at net i) first ∙ place_of_at (path net i) 0 on.apart some in
     let own : arrivals net at i (first_server (route_of (routes_of net) i).hops) ≡ value_at (arrival net i) =
-    ap (λ (k : ℕ). values at (cell_of In i k)) place ∙ curve_holds at (cell_of In i 0) _ (in_first net at i meets some) in
+    ap (λ (k : ℕ). values at (cell_of In i k)) place ∙ curve_holds at (cell_of In i 0) _
+    (in_first net at i meets some) in
     subst (λ (α : ℚ → Ext). Fin (entered_in i s t run.steps) ≤ₑ α (t -ℚ s)) (sym own) (r.keeps.arrivals i live s t l)
 
 -- ---- from a server to the next ones
-pub passed_on : (net : Net) (at : CellTable) (run : SpecRun) (s : ℕ) → IsAccepted net → MeetsEquations net at → IsRunOf net run
+pub passed_on : (net : Net) (at : CellTable) (run : SpecRun) (s : ℕ) → IsAccepted net → MeetsEquations net at
+    → IsRunOf net run
     → KeptAt (routes_of net) run (arrivals net at) s → PassedOn (routes_of net) run (arrivals net at) s
 passed_on net at run s acc meets r kept i next live e a b l =
     let n = next_place net i s next e in
     let k = hop_at net i s in
     let within : k < hops net i = omega (arith, n.within) in
     let on = routed net i acc (sym (live_is net i) ∙ live) in
-    let inside : s < length net.servers = subst (λ (t : ℕ). t < length net.servers) n.from (hop_inside net i k acc within) in
-    let place : hop_at net i next ≡ suc k = ap (hop_at net i) (sym n.to) ∙ place_of_at (path net i) (suc k) on.apart n.within in
+    let inside : s < length net.servers = subst (λ (t : ℕ). t < length net.servers) n.from
+    (hop_inside net i k acc within) in
+    let place : hop_at net i next ≡ suc k = ap (hop_at net i) (sym n.to) ∙ place_of_at (path net i) (suc k) on.apart
+    n.within in
     let same : arrivals net at i next ≡ values at (cell_of Out i k) =
-    ap (λ (j : ℕ). values at (cell_of In i j)) place ∙ curve_holds at (cell_of In i (suc k)) _ (in_next net at i k meets n.within) in
+    ap (λ (j : ℕ). values at (cell_of In i j)) place ∙ curve_holds at (cell_of In i (suc k)) _
+    (in_next net at i k meets n.within) in
     subst (λ (α : ℚ → Ext). Fin (departed_in (of_flow i) (seen_by net run s) a b) ≤ₑ α (b -ℚ a)) (sym same)
     (flow_goes_on net at run i k s
     record {
@@ -103,13 +113,15 @@ passed_on net at run s acc meets r kept i next live e a b l =
     } n.within a b l)
 
 -- ---- so everywhere
-pub at_server : (net : Net) (order : List ℕ) (at : CellTable) (run : SpecRun) (s : ℕ) → IsAccepted net → IsOrder net order
+pub at_server : (net : Net) (order : List ℕ) (at : CellTable) (run : SpecRun) (s : ℕ) → IsAccepted net
+    → IsOrder net order
     → MeetsEquations net at → IsRunOf net run → s < length net.servers → AtServer net at run s
 at_server net order at run s acc o meets r h = record {
   accepted = acc;
   meets = meets;
   run_of = r;
   inside = h;
-  kept = kept_everywhere (routes_of net) run (λ t. place_in t order) (arrivals net at) r.lawful (λ i live. path_is net i acc live)
+  kept = kept_everywhere (routes_of net) run (λ t. place_in t order) (arrivals net at) r.lawful
+      (λ i live. path_is net i acc live)
       (forward net order acc o) (enters net at run acc meets r) (λ t kept. passed_on net at run t acc meets r kept) s;
 }

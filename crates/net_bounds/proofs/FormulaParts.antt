@@ -31,7 +31,8 @@ vertical_same f g h v same d = record {
   near = λ y l. let (u, m) = d.near y l in (finite_here g h same u, m);
 }
 
-pub deconvolution_same : (f g h : ℚ → Ext) (t : ℚ) (v : Ext) → HasValues h g → IsDeconvolution f g t v → IsDeconvolution f h t v
+pub deconvolution_same : (f g h : ℚ → Ext) (t : ℚ) (v : Ext) → HasValues h g → IsDeconvolution f g t v
+    → IsDeconvolution f h t v
 deconvolution_same f g h t v same d = record {
   above = λ u. d.above (finite_there g h same u);
   near = λ y l. let (u, m) = d.near y l in (finite_here g h same u, m);
@@ -46,8 +47,10 @@ pub less_reads : (at : CellTable) (c : Cell) (bits : ℕ) (w : Meaning) → Mean
     → IsCurveIn (λ h. HasValues (packetised (values at c) (whole bits)) (value_at h)) w
 less_reads at c bits w m =
     let f = m.operand in
-    curve_map (IsMadeBy (PosMinus (whole bits)) f f) (λ h. HasValues (packetised (values at c) (whole bits)) (value_at h)) w
-    (λ h made t p. of_values at c f (λ (a : ℚ → Ext). value_at h t ≡ packetised a (whole bits) t) m.is (made.answers t p))
+    curve_map (IsMadeBy (PosMinus (whole bits)) f f)
+    (λ h. HasValues (packetised (values at c) (whole bits)) (value_at h)) w
+    (λ h made t p. of_values at c f (λ (a : ℚ → Ext). value_at h t ≡ packetised a (whole bits) t) m.is
+    (made.answers t p))
     m.gives
 
 pub number_map : (P Q : Ext → Type 0) (v : Meaning) → ((x : Ext) → P x → Q x) → IsNumberIn P v → IsNumberIn Q v
@@ -62,5 +65,6 @@ deviation_reads at c d D v m =
     let f = m.operand in
     let g = m.gives.operand in
     number_map (D (value_at f) (value_at g)) (D (values at c) (values at d)) v
-    (λ x h. of_values at c f (λ (a : ℚ → Ext). D a (values at d) x) m.is (of_values at d g (λ (b : ℚ → Ext). D (value_at f) b x) m.gives.is h))
+    (λ x h. of_values at c f (λ (a : ℚ → Ext). D a (values at d) x) m.is
+    (of_values at d g (λ (b : ℚ → Ext). D (value_at f) b x) m.gives.is h))
     m.gives.gives

@@ -27,10 +27,12 @@ out_cell : (net : Net) (i k : ℕ) → suc k < hops net i → nat_lt (k + 1) (ho
 out_cell net i k h = lt-ltb (k + 1) (hops net i) (omega (arith, h))
 
 pub out_is : (net : Net) (at : CellTable) (i k : ℕ) → MeetsEquations net at → suc k < hops net i
-    → HasCurve at (cell_of Out i k) (HasValues (λ t. min_ext (values at (cell_of ShiftOut i k) t) (values at (cell_of DeconvOut i k) t)))
+    → HasCurve at (cell_of Out i k)
+    (HasValues (λ t. min_ext (values at (cell_of ShiftOut i k) t) (values at (cell_of DeconvOut i k) t)))
 out_is net at i k meets h =
     let e = meets (cell_of Out i k) (out_cell net i k h) in
-    curve_from at (cell_of Out i k) (HasValues (λ t. min_ext (values at (cell_of ShiftOut i k) t) (values at (cell_of DeconvOut i k) t))) e.value e.is
+    curve_from at (cell_of Out i k)
+    (HasValues (λ t. min_ext (values at (cell_of ShiftOut i k) t) (values at (cell_of DeconvOut i k) t))) e.value e.is
     (made_of_two at Min (cell_of ShiftOut i k) (cell_of DeconvOut i k) e.value e.means)
 
 pub in_first : (net : Net) (at : CellTable) (i : ℕ) → MeetsEquations net at → 0 < hops net i
@@ -48,12 +50,15 @@ in_next net at i k meets h =
     curve_from at (cell_of In i (suc k)) (λ f. f ≡ values at (cell_of Out i k)) e.value e.is
     (same_curve at (cell_of Out i k) e.value record { value = out.value; is = out.is; holds = tt } e.means)
 
-pub in_curve : (net : Net) (at : CellTable) (i k : ℕ) → MeetsEquations net at → k < hops net i → HasCurve at (cell_of In i k) a_curve
+pub in_curve : (net : Net) (at : CellTable) (i k : ℕ) → MeetsEquations net at → k < hops net i
+    → HasCurve at (cell_of In i k) a_curve
 in_curve net at i zero meets h = let c = in_first net at i meets h in record { value = c.value; is = c.is; holds = tt }
-in_curve net at i (suc k) meets h = let c = in_next net at i k meets h in record { value = c.value; is = c.is; holds = tt }
+in_curve net at i (suc k) meets h =
+    let c = in_next net at i k meets h in record { value = c.value; is = c.is; holds = tt }
 
 pub shift_out_is : (net : Net) (at : CellTable) (i k : ℕ) → MeetsEquations net at → suc k < hops net i
-    → HasCurve at (cell_of ShiftOut i k) (HasValues (shifted (values at (cell_of In i k)) (size_in at (cell_of HopDelay i k))))
+    → HasCurve at (cell_of ShiftOut i k)
+    (HasValues (shifted (values at (cell_of In i k)) (size_in at (cell_of HopDelay i k))))
 shift_out_is net at i k meets h =
     let e = meets (cell_of ShiftOut i k) (out_cell net i k h) in
     let c = cell_of In i k in
@@ -71,7 +76,8 @@ shift_out_is net at i k meets h =
 pub deconv_out_is : (net : Net) (at : CellTable) (i k : ℕ) → MeetsEquations net at → suc k < hops net i
     → HasCurve at (cell_of DeconvOut i k)
     (λ g. (t : ℚ) → zero_q ≤ℚ t
-    → IsDeconvolution (values at (cell_of In i k)) (packetised (values at (cell_of Residual i k)) (whole (packet net i))) t (g t))
+    → IsDeconvolution (values at (cell_of In i k))
+    (packetised (values at (cell_of Residual i k)) (whole (packet net i))) t (g t))
 deconv_out_is net at i k meets h =
     let e = meets (cell_of DeconvOut i k) (out_cell net i k h) in
     let c = cell_of In i k in
@@ -79,8 +85,10 @@ deconv_out_is net at i k meets h =
     let m = e.means in
     let f = m.operand in
     let r = m.gives.operand in
-    curve_from at (cell_of DeconvOut i k) (λ g. (t : ℚ) → zero_q ≤ℚ t → IsDeconvolution (values at c) less_one t (g t)) e.value e.is
-    (curve_map (IsMadeBy Deconvolve f r) (λ g. (t : ℚ) → zero_q ≤ℚ t → IsDeconvolution (values at c) less_one t (value_at g t)) e.value
+    curve_from at (cell_of DeconvOut i k)
+    (λ g. (t : ℚ) → zero_q ≤ℚ t → IsDeconvolution (values at c) less_one t (g t)) e.value e.is
+    (curve_map (IsMadeBy Deconvolve f r)
+    (λ g. (t : ℚ) → zero_q ≤ℚ t → IsDeconvolution (values at c) less_one t (value_at g t)) e.value
     (λ g made t p.
     of_values at c f (λ (a : ℚ → Ext). IsDeconvolution a less_one t (value_at g t)) m.is
     (deconvolution_same (value_at f) (value_at r) less_one t (value_at g t)
@@ -89,7 +97,8 @@ deconv_out_is net at i k meets h =
 
 pub theta_is : (net : Net) (at : CellTable) (i k : ℕ) → MeetsEquations net at → k < hops net i
     → HasNumber at (cell_of Theta i k)
-    (IsHorizontalDeviation (values at (cell_of Cross i k)) (values at (cell_of QueueService (server_at net i k) (queue_at net i k))))
+    (IsHorizontalDeviation (values at (cell_of Cross i k))
+    (values at (cell_of QueueService (server_at net i k) (queue_at net i k))))
 theta_is net at i k meets h =
     let e = meets (cell_of Theta i k) (lt-ltb k (hops net i) h) in
     let c = cell_of Cross i k in
@@ -100,7 +109,8 @@ theta_is net at i k meets h =
 pub residual_is : (net : Net) (at : CellTable) (i k : ℕ) → MeetsEquations net at → k < hops net i
     → HasCurve at (cell_of Residual i k)
     (λ g. (t : ℚ) → zero_q ≤ℚ t
-    → IsFifoLeftover (values at (cell_of QueueService (server_at net i k) (queue_at net i k))) (values at (cell_of Cross i k))
+    → IsFifoLeftover (values at (cell_of QueueService (server_at net i k) (queue_at net i k)))
+    (values at (cell_of Cross i k))
     (size_in at (cell_of Theta i k)) t (g t))
 residual_is net at i k meets h =
     let e = meets (cell_of Residual i k) (lt-ltb k (hops net i) h) in
@@ -111,12 +121,15 @@ residual_is net at i k meets h =
     let f = m.operand in
     let o = m.gives.operand in
     let x = m.gives.gives.operand in
-    curve_from at (cell_of Residual i k) (λ g. (t : ℚ) → zero_q ≤ℚ t → IsFifoLeftover (values at s) (values at c) (size_in at d) t (g t)) e.value e.is
-    (curve_map (IsMadeBy (FifoLeft x) f o) (λ g. (t : ℚ) → zero_q ≤ℚ t → IsFifoLeftover (values at s) (values at c) (size_in at d) t (value_at g t)) e.value
+    curve_from at (cell_of Residual i k)
+    (λ g. (t : ℚ) → zero_q ≤ℚ t → IsFifoLeftover (values at s) (values at c) (size_in at d) t (g t)) e.value e.is
+    (curve_map (IsMadeBy (FifoLeft x) f o)
+    (λ g. (t : ℚ) → zero_q ≤ℚ t → IsFifoLeftover (values at s) (values at c) (size_in at d) t (value_at g t)) e.value
     (λ g made t p.
     of_values at s f (λ (a : ℚ → Ext). IsFifoLeftover a (values at c) (size_in at d) t (value_at g t)) m.is
     (of_values at c o (λ (b : ℚ → Ext). IsFifoLeftover (value_at f) b (size_in at d) t (value_at g t)) m.gives.is
-    (of_number at d x (λ (y : Ext). IsFifoLeftover (value_at f) (value_at o) y t (value_at g t)) m.gives.gives.is (made.answers t p))))
+    (of_number at d x (λ (y : Ext). IsFifoLeftover (value_at f) (value_at o) y t (value_at g t)) m.gives.gives.is
+    (made.answers t p))))
     m.gives.gives.gives)
 
 -- the lesser of the queue's delay and the flow's own

@@ -1,5 +1,5 @@
--- A flow at a hop of its path: it is served by what the others of its queue leave, stays no longer than the hop's delay,
--- and leaves with the curve with which it comes to the next hop.
+-- A flow at a hop of its path: it is served by what the others of its queue leave, stays no longer than the hop's
+-- delay, and leaves with the curve with which it comes to the next hop.
 use Rattle.std.specs.Prelude.{◌≡◌, ℕ, suc, ◌<◌, ◌≤◌, ◌==◌, Bool, true, false, ◌&&◌, List}
 use Rattle.std.proofs.Common.{arith, sym, ap, ◌∙◌, refl, subst, get_or}
 use Rattle.std.proofs.lemmas.Bool.{eqb-true, eq-eqb, and_parts}
@@ -74,18 +74,21 @@ part_is false true h = h refl
 pub part_agrees : (net : Net) (at : CellTable) (run : SpecRun) (i k s : ℕ) → AtHop net at run i k s
     → Agree (part net i k) (of_flow i) (seen_by net run s)
 part_agrees net at run i k s w =
-    cards_map (IsInOwnQueue (routes_of net) s) (λ c. part net i k c ≡ of_flow i c) one (seen_by net run s) (in_own_queues (routes_of net) run s)
+    cards_map (IsInOwnQueue (routes_of net) s) (λ c. part net i k c ≡ of_flow i c) one (seen_by net run s)
+    (in_own_queues (routes_of net) run s)
   where
     one : (c : Card) → IsInOwnQueue (routes_of net) s c → part net i k c ≡ of_flow i c
     one c e = part_is (c.queue == queue_at net i k) (c.flow == i)
         (λ own_flow.
         let same : c.flow ≡ i = eqb-true c.flow i own_flow in
         let its : c.queue ≡ queue_at net i k =
-        e ∙ ap (λ (j : ℕ). routes.queue_at s (route_of (routes_of net) j).hops) same ∙ queue_there net i k s w.server.accepted w.within w.is in
+        e ∙ ap (λ (j : ℕ). routes.queue_at s (route_of (routes_of net) j).hops) same ∙ queue_there net i k s
+        w.server.accepted w.within w.is in
         eq-eqb c.queue (queue_at net i k) its)
 
 -- ---- service
-queue_is_there : (net : Net) (at : CellTable) (run : SpecRun) (i k s : ℕ) → AtHop net at run i k s → queue_at net i k < queues net s
+queue_is_there : (net : Net) (at : CellTable) (run : SpecRun) (i k s : ℕ) → AtHop net at run i k s
+    → queue_at net i k < queues net s
 queue_is_there net at run i k s w =
     subst (λ (r : ℕ). queue_at net i k < queues net r) w.is (queue_inside net i k w.server.accepted w.within)
 
@@ -105,11 +108,14 @@ flow_served net at run i k s w =
     let queue = queue_served net at run s q w.server (queue_is_there net at run i k s w) in
     let is_theta = theta_is net at i k w.server.meets w.within in
     let is_residual = residual_is net at i k w.server.meets w.within in
-    let low = horizontals_are_nonnegative cross (values at (cell_of QueueService (server_at net i k) q)) theta (number_holds at (cell_of Theta i k) _ is_theta) in
-    let residual = subst (λ (r : ℕ). (t : ℚ) → zero_q ≤ℚ t → IsFifoLeftover (values at (cell_of QueueService r q)) cross theta t (R t)) w.is
+    let low = horizontals_are_nonnegative cross (values at (cell_of QueueService (server_at net i k) q)) theta
+    (number_holds at (cell_of Theta i k) _ is_theta) in
+    let residual = subst
+    (λ (r : ℕ). (t : ℚ) → zero_q ≤ℚ t → IsFifoLeftover (values at (cell_of QueueService r q)) cross theta t (R t)) w.is
     (curve_holds at (cell_of Residual i k) _ is_residual) in
     record {
-      serves = fifo_serves (here net s) run.end V (of_queue q) (part net i k) (others (λ c. c.flow) i (of_queue q)) q β cross R theta
+      serves = fifo_serves (here net s) run.end V (of_queue q) (part net i k) (others (λ c. c.flow) i (of_queue q)) q
+          β cross R theta
           (lawful_here net at run s w.server) (λ c e. eqb-true c.queue q e) (in_two (λ c. c.flow) i (of_queue q))
           (cross_comes net at run s i k w.server w.within w.is) queue.serves low residual;
       grows = fifo.service_grows β cross R theta low queue.grows.finite residual;
@@ -118,12 +124,15 @@ flow_served net at run i k s w =
 -- ---- in its queue
 record HasDelay (net : Net) (at : CellTable) (run : SpecRun) (i k s : ℕ) : Type 0 where
   own_delay : Ext
-  in_queue : IsInQueue (here net s) run.end (seen_by net run s) (of_queue (queue_at net i k)) (part net i k) (queue_at net i k)
+  in_queue : IsInQueue (here net s) run.end (seen_by net run s)
+      (of_queue (queue_at net i k)) (part net i k) (queue_at net i k)
       (values at (cell_of Total s (queue_at net i k))) (values at (cell_of QueueService s (queue_at net i k)))
-      (values at (cell_of In i k)) (values at (cell_of Residual i k)) (size_in at (cell_of QueueDelay s (queue_at net i k))) own_delay
+      (values at (cell_of In i k)) (values at (cell_of Residual i k))
+      (size_in at (cell_of QueueDelay s (queue_at net i k))) own_delay
   is : size_in at (cell_of HopDelay i k) ≡ min_ext (size_in at (cell_of QueueDelay s (queue_at net i k))) own_delay
 
-has_delay : (net : Net) (at : CellTable) (run : SpecRun) (i k s : ℕ) → AtHop net at run i k s → HasDelay net at run i k s
+has_delay : (net : Net) (at : CellTable) (run : SpecRun) (i k s : ℕ) → AtHop net at run i k s
+    → HasDelay net at run i k s
 has_delay net at run i k s w =
     let q = queue_at net i k in
     let V = seen_by net run s in
@@ -140,7 +149,8 @@ has_delay net at run i k s w =
         is_part = λ c e. (and_parts (c.queue == q) (c.flow == i) e).0;
         keeps_total = queue_comes net at run s q w.server there;
         keeps_own = keeps_same (of_flow i) (part net i k) (values at (cell_of In i k)) V
-            (agree_back (part net i k) (of_flow i) V (part_agrees net at run i k s w)) (flow_comes net at run s i k w.server w.within w.is);
+            (agree_back (part net i k) (of_flow i) V (part_agrees net at run i k s w))
+            (flow_comes net at run s i k w.server w.within w.is);
         serves_queue = queue.serves;
         serves_own = flow.serves;
         service_rises = queue.grows.rising;
@@ -148,7 +158,8 @@ has_delay net at run i k s w =
         is_queue_delay = number_holds at (cell_of QueueDelay s q) _ (queue_delay_is net at s q w.server.meets there);
         is_own_delay = delay.is_own;
       };
-      is = subst (λ (r : ℕ). size_in at (cell_of HopDelay i k) ≡ min_ext (size_in at (cell_of QueueDelay r q)) delay.own) w.is delay.is;
+      is = subst (λ (r : ℕ). size_in at (cell_of HopDelay i k) ≡ min_ext (size_in at (cell_of QueueDelay r q))
+          delay.own) w.is delay.is;
     }
 
 pub flow_stays_there : (net : Net) (at : CellTable) (run : SpecRun) (i k s : ℕ) → AtHop net at run i k s
@@ -157,8 +168,10 @@ flow_stays_there net at run i k s w =
     let q = queue_at net i k in
     let V = seen_by net run s in
     let h = has_delay net at run i k s w in
-    let stays = flow_stays (here net s) run.end V (of_queue q) (part net i k) q (values at (cell_of Total s q)) (values at (cell_of QueueService s q))
-    (values at (cell_of In i k)) (values at (cell_of Residual i k)) (size_in at (cell_of QueueDelay s q)) h.own_delay h.in_queue in
+    let stays = flow_stays (here net s) run.end V (of_queue q) (part net i k) q (values at (cell_of Total s q))
+    (values at (cell_of QueueService s q))
+    (values at (cell_of In i k)) (values at (cell_of Residual i k)) (size_in at (cell_of QueueDelay s q)) h.own_delay
+    h.in_queue in
     subst (λ (d : Ext). AreAtMost d (hop_delays (of_flow i) run.end V)) (sym h.is)
     (subst (AreAtMost (min_ext (size_in at (cell_of QueueDelay s q)) h.own_delay))
     (same_delays (part net i k) (of_flow i) run.end V (part_agrees net at run i k s w)) stays)
@@ -169,12 +182,16 @@ pub hop_delay_low : (net : Net) (at : CellTable) (run : SpecRun) (i k s : ℕ) �
 hop_delay_low net at run i k s w =
     let q = queue_at net i k in
     let h = has_delay net at run i k s w in
-    let one = horizontals_are_nonnegative (values at (cell_of Total s q)) (values at (cell_of QueueService s q)) (size_in at (cell_of QueueDelay s q)) h.in_queue.is_queue_delay in
-    let two = horizontals_are_nonnegative (values at (cell_of In i k)) (values at (cell_of Residual i k)) h.own_delay h.in_queue.is_own_delay in
-    subst (λ (d : Ext). Fin zero_q ≤ₑ d) (sym h.is) (min_greatest (size_in at (cell_of QueueDelay s q)) h.own_delay (Fin zero_q) one two)
+    let one = horizontals_are_nonnegative (values at (cell_of Total s q)) (values at (cell_of QueueService s q))
+    (size_in at (cell_of QueueDelay s q)) h.in_queue.is_queue_delay in
+    let two = horizontals_are_nonnegative (values at (cell_of In i k)) (values at (cell_of Residual i k)) h.own_delay
+    h.in_queue.is_own_delay in
+    subst (λ (d : Ext). Fin zero_q ≤ₑ d) (sym h.is)
+    (min_greatest (size_in at (cell_of QueueDelay s q)) h.own_delay (Fin zero_q) one two)
 
 -- ---- it leaves for the next hop
-pub flow_goes_on : (net : Net) (at : CellTable) (run : SpecRun) (i k s : ℕ) → AtHop net at run i k s → suc k < hops net i → (a b : ℚ) → a ≤ℚ b
+pub flow_goes_on : (net : Net) (at : CellTable) (run : SpecRun) (i k s : ℕ) → AtHop net at run i k s
+    → suc k < hops net i → (a b : ℚ) → a ≤ℚ b
     → Fin (departed_in (of_flow i) (seen_by net run s) a b) ≤ₑ values at (cell_of Out i k) (b -ℚ a)
 flow_goes_on net at run i k s w more a b l =
     let q = queue_at net i k in
@@ -184,36 +201,49 @@ flow_goes_on net at run i k s w more a b l =
     let h = has_delay net at run i k s w in
     let meets = w.server.meets in
     let agrees = part_agrees net at run i k s w in
-    let sizes = arrivals_map (λ c. of_flow i c ≡ true → c.bits ≤ packet net i) (λ c. part net i k c ≡ true → c.bits ≤ packet net i)
+    let sizes = arrivals_map (λ c. of_flow i c ≡ true → c.bits ≤ packet net i)
+    (λ c. part net i k c ≡ true → c.bits ≤ packet net i)
     (λ c f e. f (and_parts (c.queue == q) (c.flow == i) e).1) V (flow_sizes net at run s i w.server) in
     let deconvolved = curve_holds at (cell_of DeconvOut i k) _ (deconv_out_is net at i k meets more) x low in
-    let leaves = flow_leaves (here net s) run.end V (of_queue q) (part net i k) q (packet net i) (values at (cell_of Total s q)) (values at (cell_of QueueService s q))
-    (values at (cell_of In i k)) (values at (cell_of Residual i k)) (size_in at (cell_of QueueDelay s q)) h.own_delay (values at (cell_of DeconvOut i k) x)
+    let leaves = flow_leaves (here net s) run.end V (of_queue q) (part net i k) q (packet net i)
+    (values at (cell_of Total s q)) (values at (cell_of QueueService s q))
+    (values at (cell_of In i k)) (values at (cell_of Residual i k)) (size_in at (cell_of QueueDelay s q)) h.own_delay
+    (values at (cell_of DeconvOut i k) x)
     a b h.in_queue sizes l deconvolved in
-    let by_delay : values at (cell_of ShiftOut i k) x ≡ shifted (values at (cell_of In i k)) (min_ext (size_in at (cell_of QueueDelay s q)) h.own_delay) x =
+    let by_delay : values at (cell_of ShiftOut i k) x ≡ shifted (values at (cell_of In i k))
+    (min_ext (size_in at (cell_of QueueDelay s q)) h.own_delay) x =
     curve_holds at (cell_of ShiftOut i k) _ (shift_out_is net at i k meets more) x low
     ∙ ap (λ (d : Ext). shifted (values at (cell_of In i k)) d x) h.is in
-    let out : values at (cell_of Out i k) x ≡ min_ext (values at (cell_of ShiftOut i k) x) (values at (cell_of DeconvOut i k) x) =
+    let out : values at (cell_of Out i k) x ≡ min_ext (values at (cell_of ShiftOut i k) x)
+    (values at (cell_of DeconvOut i k) x) =
     curve_holds at (cell_of Out i k) _ (out_is net at i k meets more) x low in
     subst (λ (y : Ext). Fin (departed_in (of_flow i) V a b) ≤ₑ y)
     (sym (out ∙ ap (λ (y : Ext). min_ext y (values at (cell_of DeconvOut i k) x)) by_delay))
-    (subst (λ (y : ℚ). Fin y ≤ₑ min_ext (shifted (values at (cell_of In i k)) (min_ext (size_in at (cell_of QueueDelay s q)) h.own_delay) x) (values at (cell_of DeconvOut i k) x))
+    (subst (λ (y : ℚ). Fin y ≤ₑ min_ext
+    (shifted (values at (cell_of In i k)) (min_ext (size_in at (cell_of QueueDelay s q)) h.own_delay) x)
+    (values at (cell_of DeconvOut i k) x))
     (same_departed_in (part net i k) (of_flow i) V a b agrees) leaves)
 
 -- ---- all that is promised of a hop
 pub flow_served_there : (net : Net) (at : CellTable) (run : SpecRun) (i k s : ℕ) → AtHop net at run i k s
     → Serves (of_flow i) (values at (cell_of Residual i k)) run.end (seen_by net run s)
 flow_served_there net at run i k s w =
-    serves_same (part net i k) (of_flow i) (values at (cell_of Residual i k)) run.end (seen_by net run s) (part_agrees net at run i k s w)
+    serves_same (part net i k) (of_flow i) (values at (cell_of Residual i k)) run.end (seen_by net run s)
+    (part_agrees net at run i k s w)
     (flow_served net at run i k s w).serves
 
-pub hop_kept : (net : Net) (at : CellTable) (run : SpecRun) (i k : ℕ) → AtHop net at run i k (server_at net i k) → IsHopKept net at run i k
+pub hop_kept : (net : Net) (at : CellTable) (run : SpecRun) (i k : ℕ) → AtHop net at run i k (server_at net i k)
+    → IsHopKept net at run i k
 hop_kept net at run i k w =
     let s = server_at net i k in
     let meets = w.server.meets in
     record {
-      comes = curve_has at (cell_of In i k) _ _ (in_curve net at i k meets w.within) (flow_comes net at run s i k w.server w.within refl);
-      served = curve_has at (cell_of Residual i k) _ _ (residual_is net at i k meets w.within) (flow_served_there net at run i k s w);
-      stays = number_has at (cell_of HopDelay i k) _ _ (hop_delay_is net at i k meets w.within) (flow_stays_there net at run i k s w);
-      leaves = λ more. curve_has at (cell_of Out i k) _ _ (out_is net at i k meets more) (flow_goes_on net at run i k s w more);
+      comes = curve_has at (cell_of In i k) _ _ (in_curve net at i k meets w.within)
+          (flow_comes net at run s i k w.server w.within refl);
+      served = curve_has at (cell_of Residual i k) _ _ (residual_is net at i k meets w.within)
+          (flow_served_there net at run i k s w);
+      stays = number_has at (cell_of HopDelay i k) _ _ (hop_delay_is net at i k meets w.within)
+          (flow_stays_there net at run i k s w);
+      leaves = λ more. curve_has at (cell_of Out i k) _ _ (out_is net at i k meets more)
+          (flow_goes_on net at run i k s w more);
     }

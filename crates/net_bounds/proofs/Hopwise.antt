@@ -34,7 +34,8 @@ total_between (x ∷ xs) ys y =
     ∙ add_ext_assoc y x (total (xs ++ ys))
 
 -- one more hop: its delay and its link
-one_more_hop : (d l rest : Ext) (xs ys : List Ext) → rest ≡ total (xs ++ ys) → (d +ₑ l) +ₑ rest ≡ total ((d ∷ xs) ++ l ∷ ys)
+one_more_hop : (d l rest : Ext) (xs ys : List Ext) → rest ≡ total (xs ++ ys)
+    → (d +ₑ l) +ₑ rest ≡ total ((d ∷ xs) ++ l ∷ ys)
 one_more_hop d l rest xs ys e =
     ap (λ (z : Ext). (d +ₑ l) +ₑ z) e
     ∙ add_ext_assoc d l (total (xs ++ ys))
@@ -45,19 +46,22 @@ one_more_hop d l rest xs ys e =
 abbrev pub IsRestFrom : Net → CellTable → SpecRun → ℕ → ℕ → List ℕ → Type 0
 IsRestFrom net at run i j path = (k : ℕ) → k < length path → AtHop net at run i (j + k) (get_or path k 0)
 
-pub first_hop : (net : Net) (at : CellTable) (run : SpecRun) (i j s : ℕ) (path : List ℕ) → IsRestFrom net at run i j (s ∷ path) → AtHop net at run i j s
+pub first_hop : (net : Net) (at : CellTable) (run : SpecRun) (i j s : ℕ) (path : List ℕ)
+    → IsRestFrom net at run i j (s ∷ path) → AtHop net at run i j s
 first_hop net at run i j s path h =
     let same : j + 0 ≡ j = omega arith in
     subst (λ (k : ℕ). AtHop net at run i k s) same (h 0 (omega arith))
 
-pub rest_from : (net : Net) (at : CellTable) (run : SpecRun) (i j s : ℕ) (path : List ℕ) → IsRestFrom net at run i j (s ∷ path)
+pub rest_from : (net : Net) (at : CellTable) (run : SpecRun) (i j s : ℕ) (path : List ℕ)
+    → IsRestFrom net at run i j (s ∷ path)
     → IsRestFrom net at run i (j + 1) path
 rest_from net at run i j s path h k l =
     let same : j + suc k ≡ (j + 1) + k = omega arith in
     subst (λ (m : ℕ). AtHop net at run i m (get_or path k 0)) same (h (suc k) (omega (arith, l)))
 
 -- ---- the delays at its hops
-pub stays_along : (net : Net) (at : CellTable) (run : SpecRun) (i j : ℕ) (path queues : List ℕ) (xs : List Ext) → length queues ≡ length path
+pub stays_along : (net : Net) (at : CellTable) (run : SpecRun) (i j : ℕ) (path queues : List ℕ) (xs : List Ext)
+    → length queues ≡ length path
     → IsRestFrom net at run i j path → HaveNumbers at (map (cell_of HopDelay i) (range_with_len j (length path))) xs
     → StaysAtMost (routes_of net) run i (hops_along path queues) xs
 stays_along net at run i j [] queues [] e h are = tt
@@ -68,7 +72,8 @@ stays_along net at run i j (s ∷ path) (q ∷ queues) (x ∷ xs) e h are =
     let hop = first_hop net at run i j s path h in
     let is = number_is at (cell_of HopDelay i j) x are.0 in (
       subst (λ (d : Ext). Fin zero_q ≤ₑ d) is (hop_delay_low net at run i j s hop),
-      subst (λ (d : Ext). AreAtMost d (hop_delays (of_flow i) run.end (seen_by net run s))) is (flow_stays_there net at run i j s hop),
+      subst (λ (d : Ext). AreAtMost d (hop_delays (of_flow i) run.end (seen_by net run s))) is
+          (flow_stays_there net at run i j s hop),
       stays_along net at run i (j + 1) path queues xs (omega (arith, e)) (rest_from net at run i j s path h) are.1,
     )
 
@@ -83,4 +88,5 @@ sum_is net at i j (s ∷ path) (q ∷ queues) [] e are = absurd are
 sum_is net at i j (s ∷ path) (q ∷ queues) (x ∷ xs) e are =
     let rest = sum_is net at i (j + 1) path queues xs (omega (arith, e)) are.1 in
     ap (λ (l : ℚ). (x +ₑ Fin l) +ₑ sum_along (routes_of net) (hops_along path queues) xs) (link_is net s)
-    ∙ one_more_hop x (Fin (link net s)) (sum_along (routes_of net) (hops_along path queues) xs) xs (map Fin (map (link net) path)) rest
+    ∙ one_more_hop x (Fin (link net s)) (sum_along (routes_of net) (hops_along path queues) xs) xs
+    (map Fin (map (link net) path)) rest

@@ -28,7 +28,8 @@ use Rattle.net_bounds.proofs.EndToEnd.{path_kept}
 with_queues : (net : Net) (s q : ℕ) → q < queues net s → s < length net.servers
 with_queues net s q h = one (slice_get net.servers s) refl h
   where
-    one : (o : Option NetServer) → slice_get net.servers s ≡ o → q < queue_count (discipline_of o) → s < length net.servers
+    one : (o : Option NetServer) → slice_get net.servers s ≡ o → q < queue_count (discipline_of o)
+        → s < length net.servers
     one None e l = absurd (omega (arith, l))
     one (Some server) e l = slice_get_within net.servers s server e
 
@@ -61,11 +62,13 @@ pub table_bounds_every_run : TableBoundsEveryRun
 table_bounds_every_run net order at run accepted is_order meets run_of = record {
   hops = λ i k h. hop_kept net at run i k
       record {
-        server = at_server net order at run (server_at net i k) accepted is_order meets run_of (hop_inside net i k accepted h);
+        server = at_server net order at run (server_at net i k) accepted is_order meets run_of
+            (hop_inside net i k accepted h);
         within = h;
         is = refl;
       };
-  queues = λ s q h. queue_kept net at run s q (at_server net order at run s accepted is_order meets run_of (with_queues net s q h)) h;
+  queues = λ s q h. queue_kept net at run s q
+      (at_server net order at run s accepted is_order meets run_of (with_queues net s q h)) h;
   paths = λ i live. path_kept net at run i
       record {
         accepted = accepted;

@@ -62,7 +62,8 @@ own_less : (number : Card → ℕ) (n : ℕ) (C : Class) (V : List ServerStep) (
     → arrived_in (own number n C) V a b ≤ℚ arrived_in (with_number number n) V a b
 own_less number n C V a b =
     total_le (arrives (own number n C) (within a b)) (arrives (with_number number n) (within a b)) V
-    (each_all (λ x. arrives (own number n C) (within a b) x ≤ℚ arrives (with_number number n) (within a b) x) (own_step number n C (within a b)) V)
+    (each_all (λ x. arrives (own number n C) (within a b) x ≤ℚ arrives (with_number number n) (within a b) x)
+    (own_step number n C (within a b)) V)
 
 -- those of another number are of the rest
 of_rest : {X : Type 0} (key : X → ℕ) (number : Card → ℕ) (x : X) (xs : List X) (C : Class) (c : Card)
@@ -74,11 +75,12 @@ of_rest key number x xs C c h e =
       | inr rest ↦ rest
     ]
 
-pub list_keeps : {X : Type 0} (key : X → ℕ) (α : X → ℚ → Ext) (number : Card → ℕ) (xs : List X) (C : Class) (V : List ServerStep)
-    → EachArrival (λ c. C c ≡ true → HasKey key xs (number c)) V
+pub list_keeps : {X : Type 0} (key : X → ℕ) (α : X → ℚ → Ext) (number : Card → ℕ) (xs : List X) (C : Class)
+    (V : List ServerStep) → EachArrival (λ c. C c ≡ true → HasKey key xs (number c)) V
     → ((x : X) → Has xs x → KeepsArrivals (with_number number (key x)) (α x) V) → KeepsArrivals C (sum_over α xs) V
 list_keeps {X} key α number [] C V known keeps a b l =
-    let none = none_arrive C (within a b) V (arrivals_map (λ c. C c ≡ true → HasKey key [] (number c)) (λ c. C c ≡ false) no V known) in
+    let none = none_arrive C (within a b) V
+    (arrivals_map (λ c. C c ≡ true → HasKey key [] (number c)) (λ c. C c ≡ false) no V known) in
     rw none (le_refl (int (pos 0)))
   where
     no : (c : Card) → (C c ≡ true → HasKey key [] (number c)) → C c ≡ false
@@ -89,12 +91,16 @@ list_keeps {X} key α number [] C V known keeps a b l =
 list_keeps {X} key α number (x ∷ xs) C V known keeps a b l =
     let n = key x in
     let D = others number n C in
-    let fewer = arrivals_map (λ c. C c ≡ true → HasKey key (x ∷ xs) (number c)) (λ c. D c ≡ true → HasKey key xs (number c))
+    let fewer = arrivals_map (λ c. C c ≡ true → HasKey key (x ∷ xs) (number c))
+    (λ c. D c ≡ true → HasKey key xs (number c))
     (λ c h. of_rest key number x xs C c h) V known in
     let rest = list_keeps key α number xs D V fewer (λ y m. keeps y (inr m)) a b l in
-    let first = le_ext_trans (Fin (arrived_in (own number n C) V a b)) (Fin (arrived_in (with_number number n) V a b)) (α x (b -ℚ a))
+    let first = le_ext_trans (Fin (arrived_in (own number n C) V a b)) (Fin (arrived_in (with_number number n) V a b))
+    (α x (b -ℚ a))
     (own_less number n C V a b) (keeps x (inl refl) a b l) in
     let parts = arrivals_parts C (own number n C) D (within a b) V (in_two number n C) in
-    le_ext_trans (Fin (arrived_in C V a b)) (Fin (arrived_in (own number n C) V a b) +ₑ Fin (arrived_in D V a b)) (α x (b -ℚ a) +ₑ sum_over α xs (b -ℚ a))
+    le_ext_trans (Fin (arrived_in C V a b)) (Fin (arrived_in (own number n C) V a b) +ₑ Fin (arrived_in D V a b))
+    (α x (b -ℚ a) +ₑ sum_over α xs (b -ℚ a))
     (same_le_ext (ap Fin parts))
-    (add_le_ext (Fin (arrived_in (own number n C) V a b)) (α x (b -ℚ a)) (Fin (arrived_in D V a b)) (sum_over α xs (b -ℚ a)) first rest)
+    (add_le_ext (Fin (arrived_in (own number n C) V a b)) (α x (b -ℚ a)) (Fin (arrived_in D V a b))
+    (sum_over α xs (b -ℚ a)) first rest)

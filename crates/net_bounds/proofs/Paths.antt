@@ -16,7 +16,8 @@ passes_has s (x ∷ path) [] p = absurd p
 passes_has s (x ∷ path) (q ∷ queues) (inl e) = inl e
 passes_has s (x ∷ path) (q ∷ queues) (inr p) = inr (passes_has s path queues p)
 
-pub has_passes : (s : ℕ) (path queues : List ℕ) → length queues ≡ length path → Has path s → PassesServer s (hops_along path queues)
+pub has_passes : (s : ℕ) (path queues : List ℕ) → length queues ≡ length path → Has path s
+    → PassesServer s (hops_along path queues)
 has_passes s [] queues e h = h
 has_passes s (x ∷ path) [] e h = absurd (omega (arith, e))
 has_passes s (x ∷ path) (q ∷ queues) e (inl h) = inl h
@@ -29,7 +30,8 @@ queue_is s [] queues e h = absurd h
 queue_is s (x ∷ path) [] e h = absurd (omega (arith, e))
 queue_is s (x ∷ path) (q ∷ queues) e h = elim (cases_eq x s) [
   | inl here ↦ rw (eq-eqb x s here) refl
-  | inr n ↦ rw (ne_eqb x s n) (queue_is s path queues (omega (arith, e)) (elim h [ inl here ↦ absurd (n here) | inr m ↦ m ]))
+  | inr n ↦ rw (ne_eqb x s n)
+      (queue_is s path queues (omega (arith, e)) (elim h [ inl here ↦ absurd (n here) | inr m ↦ m ]))
 ]
 
 -- ---- the server after another
@@ -38,7 +40,8 @@ pub record IsNextPlace (s t : ℕ) (path : List ℕ) : Type 0 where
   pub from : get_or path (place_in s path) 0 ≡ s
   pub to : get_or path (suc (place_in s path)) 0 ≡ t
 
-first_to : (x t : ℕ) (path queues : List ℕ) → first_of (hops_along path queues) ≡ Some t → (0 < length path) × (get_or path 0 0 ≡ t)
+first_to : (x t : ℕ) (path queues : List ℕ) → first_of (hops_along path queues) ≡ Some t
+    → (0 < length path) × (get_or path 0 0 ≡ t)
 first_to x t [] queues e = absurd (cc)
 first_to x t (y ∷ path) [] e = absurd (cc)
 first_to x t (y ∷ path) (q ∷ queues) e = (omega arith, same y e)
@@ -46,7 +49,8 @@ first_to x t (y ∷ path) (q ∷ queues) e = (omega arith, same y e)
     same : (a : ℕ) → Some a ≡ Some t → a ≡ t
     same a k = cc
 
-pub after_is : (s t : ℕ) (path queues : List ℕ) → server_after s (hops_along path queues) ≡ Some t → IsNextPlace s t path
+pub after_is : (s t : ℕ) (path queues : List ℕ) → server_after s (hops_along path queues) ≡ Some t
+    → IsNextPlace s t path
 after_is s t [] queues e = absurd (cc)
 after_is s t (x ∷ path) [] e = absurd (cc)
 after_is s t (x ∷ path) (q ∷ queues) e = elim (cases_eq x s) [
@@ -60,7 +64,8 @@ after_is s t (x ∷ path) (q ∷ queues) e = elim (cases_eq x s) [
       record { within = rw later (omega (arith, rest.within)); from = rw later rest.from; to = rw later rest.to }
 ]
 
-pub first_is : (path queues : List ℕ) → length queues ≡ length path → first_server (hops_along path queues) ≡ get_or path 0 0
+pub first_is : (path queues : List ℕ) → length queues ≡ length path
+    → first_server (hops_along path queues) ≡ get_or path 0 0
 first_is [] queues e = refl
 first_is (x ∷ path) [] e = absurd (omega (arith, e))
 first_is (x ∷ path) (q ∷ queues) e = refl

@@ -51,13 +51,15 @@ queues_over at s (q ∷ qs) t = ap (λ (x : Ext). values at (cell_of Total s q) 
 abbrev pub AreHops : Net → List Visit → Type 0
 AreHops net vs = (v : Visit) → Has vs v → v.hop < hops net v.flow
 
-visit_curves : (net : Net) (at : CellTable) (vs : List Visit) → MeetsEquations net at → AreHops net vs → AllCurves at (map (at_visit In) vs)
+visit_curves : (net : Net) (at : CellTable) (vs : List Visit) → MeetsEquations net at → AreHops net vs
+    → AllCurves at (map (at_visit In) vs)
 visit_curves net at [] meets h = tt
 visit_curves net at (v ∷ vs) meets h =
     (in_curve net at v.flow v.hop meets (h v (inl refl)), visit_curves net at vs meets (λ w m. h w (inr m)))
 
 -- the curve of a cell that is the sum of those of visits
-visit_sum : (net : Net) (at : CellTable) (c : Cell) (vs : List Visit) (v : Meaning) → MeetsEquations net at → AreHops net vs
+visit_sum : (net : Net) (at : CellTable) (c : Cell) (vs : List Visit) (v : Meaning) → MeetsEquations net at
+    → AreHops net vs
     → at c ≡ Some v → IsCurveIn (λ f. HasValues (sum_over (values at) (map (at_visit In) vs)) (value_at f)) v
     → HasCurve at c (HasValues (sum_over (arriving_at at) vs))
 visit_sum net at c vs v meets h is reads =
@@ -68,14 +70,16 @@ visit_sum net at c vs v meets h is reads =
 
 pub cross_is : (net : Net) (at : CellTable) (i k : ℕ) → MeetsEquations net at → k < hops net i
     → AreHops net (others net i (server_at net i k) (queue_at net i k))
-    → HasCurve at (cell_of Cross i k) (HasValues (sum_over (arriving_at at) (others net i (server_at net i k) (queue_at net i k))))
+    → HasCurve at (cell_of Cross i k)
+    (HasValues (sum_over (arriving_at at) (others net i (server_at net i k) (queue_at net i k))))
 cross_is net at i k meets h are =
     let e = meets (cell_of Cross i k) (lt-ltb k (hops net i) h) in
     let vs = others net i (server_at net i k) (queue_at net i k) in
     visit_sum net at (cell_of Cross i k) vs e.value meets are e.is
     (sum_reads at (map (at_visit In) vs) e.value (visit_curves net at vs meets are) e.means)
 
-pub total_is : (net : Net) (at : CellTable) (s q : ℕ) → MeetsEquations net at → q < queues net s → AreHops net (visits_in net s q)
+pub total_is : (net : Net) (at : CellTable) (s q : ℕ) → MeetsEquations net at → q < queues net s
+    → AreHops net (visits_in net s q)
     → HasCurve at (cell_of Total s q) (HasValues (sum_over (arriving_at at) (visits_in net s q)))
 total_is net at s q meets h are =
     let e = meets (cell_of Total s q) (lt-ltb q (queues net s) h) in
@@ -103,17 +107,23 @@ higher_is net at s q meets h totals =
 -- by the server's discipline
 abbrev pub IsServiceBy : Net → CellTable → ℕ → ℕ → Discipline → (ℚ → Ext) → Type 0
 IsServiceBy net at s q Fifo g = g ≡ value_at (service net s)
-IsServiceBy net at s q (Priority n) g = IsPriorityService (value_at (service net s)) (values at (cell_of Higher s q)) (longest_after net s q) g
-IsServiceBy net at s q (Drr quanta) g = IsDrrService (value_at (service net s)) quanta (map (longest net s) (range_with_len 0 (length quanta))) q g
+IsServiceBy net at s q (Priority n) g =
+    IsPriorityService (value_at (service net s)) (values at (cell_of Higher s q)) (longest_after net s q) g
+IsServiceBy net at s q (Drr quanta) g =
+    IsDrrService (value_at (service net s)) quanta (map (longest net s) (range_with_len 0 (length quanta))) q g
 
-service_reads : (net : Net) (at : CellTable) (s q : ℕ) (d : Discipline) (v : Meaning) → Means at (queue_service net s q d) v
+service_reads : (net : Net) (at : CellTable) (s q : ℕ) (d : Discipline) (v : Meaning)
+    → Means at (queue_service net s q d) v
     → IsCurveIn (λ f. IsServiceBy net at s q d (value_at f)) v
 service_reads net at s q Fifo v m = subst (IsCurveIn (λ f. value_at f ≡ value_at (service net s))) (sym m) refl
 service_reads net at s q (Priority n) v m =
     let g = m.operand in
     let c = cell_of Higher s q in
-    curve_map (IsPriorityCurve (service net s) g (longest_after net s q)) (λ f. IsServiceBy net at s q (Priority n) (value_at f)) v
-    (λ f k. of_values at c g (λ (a : ℚ → Ext). IsPriorityService (value_at (service net s)) a (longest_after net s q) (value_at f)) m.is k.serves)
+    curve_map (IsPriorityCurve (service net s) g (longest_after net s q))
+    (λ f. IsServiceBy net at s q (Priority n) (value_at f)) v
+    (λ f k. of_values at c g
+    (λ (a : ℚ → Ext). IsPriorityService (value_at (service net s)) a (longest_after net s q) (value_at f)) m.is
+    k.serves)
     m.gives
 service_reads net at s q (Drr quanta) v m =
     let longests = map (longest net s) (range_with_len 0 (length quanta)) in
@@ -128,7 +138,8 @@ queue_service_is net at s q meets h =
     (service_reads net at s q (discipline net s) e.value e.means)
 
 pub queue_delay_is : (net : Net) (at : CellTable) (s q : ℕ) → MeetsEquations net at → q < queues net s
-    → HasNumber at (cell_of QueueDelay s q) (IsHorizontalDeviation (values at (cell_of Total s q)) (values at (cell_of QueueService s q)))
+    → HasNumber at (cell_of QueueDelay s q)
+    (IsHorizontalDeviation (values at (cell_of Total s q)) (values at (cell_of QueueService s q)))
 queue_delay_is net at s q meets h =
     let e = meets (cell_of QueueDelay s q) (lt-ltb q (queues net s) h) in
     let c = cell_of Total s q in
@@ -138,7 +149,8 @@ queue_delay_is net at s q meets h =
 
 pub queue_backlog_is : (net : Net) (at : CellTable) (s q : ℕ) → MeetsEquations net at → q < queues net s
     → HasNumber at (cell_of QueueBacklog s q)
-    (IsVerticalDeviation (values at (cell_of Total s q)) (packetised (values at (cell_of QueueService s q)) (whole (longest net s q))))
+    (IsVerticalDeviation (values at (cell_of Total s q))
+    (packetised (values at (cell_of QueueService s q)) (whole (longest net s q))))
 queue_backlog_is net at s q meets h =
     let e = meets (cell_of QueueBacklog s q) (lt-ltb q (queues net s) h) in
     let c = cell_of Total s q in
@@ -150,5 +162,6 @@ queue_backlog_is net at s q meets h =
     (number_map (IsVerticalDeviation (value_at f) (value_at g)) (IsVerticalDeviation (values at c) less_one) e.value
     (λ x d.
     of_values at c f (λ (a : ℚ → Ext). IsVerticalDeviation a less_one x) m.is
-    (vertical_same (value_at f) (value_at g) less_one x (less_reads at (cell_of QueueService s q) (longest net s q) (curve g) m.gives.is) d))
+    (vertical_same (value_at f) (value_at g) less_one x
+    (less_reads at (cell_of QueueService s q) (longest net s q) (curve g) m.gives.is) d))
     m.gives.gives)

@@ -56,7 +56,8 @@ pub keeps_service : (net : Net) (at : CellTable) (run : SpecRun) (s : ℕ) → A
     → KeepsService (value_at (service net s)) run.end (seen_by net run s)
 keeps_service net at run s w = w.run_of.keeps.service s (subst (λ (n : ℕ). s < n) (sym (servers_are net)) w.inside)
 
-pub service_grows : (net : Net) (s : ℕ) → IsAccepted net → s < length net.servers → GrowsFromZero (value_at (service net s))
+pub service_grows : (net : Net) (s : ℕ) → IsAccepted net → s < length net.servers
+    → GrowsFromZero (value_at (service net s))
 service_grows net s a h =
     let it = known_server net s a h in
     let c = it.keeps.service in
@@ -76,7 +77,8 @@ pub record IsServedBy (net : Net) (run : SpecRun) (s q : ℕ) (g : ℚ → Ext) 
   pub serves : Serves (of_queue q) g run.end (seen_by net run s)
   pub grows : GrowsFromZero g
 
-fifo_served : (net : Net) (at : CellTable) (run : SpecRun) (s q : ℕ) (g : ℚ → Ext) → AtServer net at run s → discipline net s ≡ Fifo
+fifo_served : (net : Net) (at : CellTable) (run : SpecRun) (s q : ℕ) (g : ℚ → Ext) → AtServer net at run s
+    → discipline net s ≡ Fifo
     → q < 1 → g ≡ value_at (service net s) → IsServedBy net run s q g
 fifo_served net at run s q g w is h e =
     let β = value_at (service net s) in
@@ -101,7 +103,8 @@ priority_served net at run s q n g w is h made =
     let queues_are : queues net s ≡ n = ap queue_count is in
     let comes = higher_comes net at run s q w (omega arith) (omega arith) in
     record {
-      serves = priority_serves (here net s) run.end V n q (longest_after net s q) β higher g (lawful_here net at run s w)
+      serves = priority_serves (here net s) run.end V n q (longest_after net s q) β higher g
+          (lawful_here net at run s w)
           (discipline_is net s w.accepted w.inside ∙ is) (keeps_service net at run s w) (zero_at_start β grows) comes
           (after_sizes net at run s q w) made;
       grows = priority.service_grows β higher g (longest_after net s q) grows (kept_nonneg _ higher V comes) made;
@@ -111,7 +114,8 @@ priority_served net at run s q n g w is h made =
 no_such_queue : (net : Net) (at : CellTable) (run : SpecRun) (s p : ℕ) → AtServer net at run s → queues net s ≤ p
     → KeepsSizes (of_queue p) 0 (seen_by net run s)
 no_such_queue net at run s p w h =
-    arrivals_map (IsVisiting net s) (λ c. of_queue p c ≡ true → c.bits ≤ 0) one (seen_by net run s) (all_visiting net at run s w)
+    arrivals_map (IsVisiting net s) (λ c. of_queue p c ≡ true → c.bits ≤ 0) one (seen_by net run s)
+    (all_visiting net at run s w)
   where
     one : (c : Card) → IsVisiting net s c → of_queue p c ≡ true → c.bits ≤ 0
     one c v e =
@@ -129,33 +133,44 @@ drr_sizes net at run s n w e p =
     let all = map (longest net s) (range_with_len 0 n) in
     elim (cases_lt p n) [
       | inl l ↦
-          let is : get_or all p 0 ≡ longest net s p = get_or-map-range_with_len (longest net s) 0 n p p 0 l (omega arith) in
+          let is : get_or all p 0 ≡ longest net s p =
+          get_or-map-range_with_len (longest net s) 0 n p p 0 l (omega arith) in
           subst (λ (b : ℕ). KeepsSizes (of_queue p) b V) (sym is) (queue_sizes net at run s p w)
       | inr l ↦
-          let few : length all ≤ p = omega (arith, length-map (range_with_len 0 n) (longest net s), length-range_with_len 0 n) in
+          let few : length all ≤ p = omega
+          (arith, length-map (range_with_len 0 n) (longest net s), length-range_with_len 0 n) in
           let is : get_or all p 0 ≡ 0 = get_or_past all p 0 few in
           subst (λ (b : ℕ). KeepsSizes (of_queue p) b V) (sym is) (no_such_queue net at run s p w (omega arith))
     ]
 
-drr_served : (net : Net) (at : CellTable) (run : SpecRun) (s q : ℕ) (quanta : List ℕ) (g : ℚ → Ext) → AtServer net at run s
-    → discipline net s ≡ Drr quanta → q < length quanta → IsServiceBy net at s q (Drr quanta) g → IsServedBy net run s q g
+drr_served : (net : Net) (at : CellTable) (run : SpecRun) (s q : ℕ) (quanta : List ℕ) (g : ℚ → Ext)
+    → AtServer net at run s
+    → discipline net s ≡ Drr quanta → q < length quanta → IsServiceBy net at s q (Drr quanta) g
+    → IsServedBy net run s q g
 drr_served net at run s q quanta g w is h made =
     let β = value_at (service net s) in
     let V = seen_by net run s in
     let all = map (longest net s) (range_with_len 0 (length quanta)) in
     let grows = service_grows net s w.accepted w.inside in
     let paired : length all ≡ length quanta =
-    omega (arith, length-map (range_with_len 0 (length quanta)) (longest net s), length-range_with_len 0 (length quanta)) in
+    omega (
+      arith,
+      length-map (range_with_len 0 (length quanta)) (longest net s),
+      length-range_with_len 0
+          (length quanta),
+    ) in
     let few : HasFewQueues (Drr quanta) = subst HasFewQueues is (few_queues net s w.accepted w.inside) in
     let some = (few.1 q 0 h).0 in
     record {
       serves = drr_serves (here net s) run.end V quanta all q β g (lawful_here net at run s w)
-          (discipline_is net s w.accepted w.inside ∙ is) paired h some (drr_sizes net at run s (length quanta) w (ap queue_count is))
+          (discipline_is net s w.accepted w.inside ∙ is) paired h some
+          (drr_sizes net at run s (length quanta) w (ap queue_count is))
           (keeps_service net at run s w) (zero_at_start β grows) made;
       grows = drr.service_grows β g quanta all q paired h some grows made;
     }
 
-served_by : (net : Net) (at : CellTable) (run : SpecRun) (s q : ℕ) (d : Discipline) (g : ℚ → Ext) → AtServer net at run s
+served_by : (net : Net) (at : CellTable) (run : SpecRun) (s q : ℕ) (d : Discipline) (g : ℚ → Ext)
+    → AtServer net at run s
     → discipline net s ≡ d → q < queue_count d → IsServiceBy net at s q d g → IsServedBy net run s q g
 served_by net at run s q Fifo g w is h made = fifo_served net at run s q g w is h made
 served_by net at run s q (Priority n) g w is h made = priority_served net at run s q n g w is h made
@@ -164,11 +179,13 @@ served_by net at run s q (Drr quanta) g w is h made = drr_served net at run s q 
 pub queue_served : (net : Net) (at : CellTable) (run : SpecRun) (s q : ℕ) → AtServer net at run s → q < queues net s
     → IsServedBy net run s q (values at (cell_of QueueService s q))
 queue_served net at run s q w h =
-    let made = curve_holds at (cell_of QueueService s q) (IsServiceBy net at s q (discipline net s)) (queue_service_is net at s q w.meets h) in
+    let made = curve_holds at (cell_of QueueService s q) (IsServiceBy net at s q (discipline net s))
+    (queue_service_is net at s q w.meets h) in
     served_by net at run s q (discipline net s) (values at (cell_of QueueService s q)) w refl h made
 
 -- ---- all that is promised of a queue
-pub queue_kept : (net : Net) (at : CellTable) (run : SpecRun) (s q : ℕ) → AtServer net at run s → q < queues net s → IsQueueKept net at run s q
+pub queue_kept : (net : Net) (at : CellTable) (run : SpecRun) (s q : ℕ) → AtServer net at run s → q < queues net s
+    → IsQueueKept net at run s q
 queue_kept net at run s q w h =
     let V = seen_by net run s in
     let coming = cell_of Total s q in
@@ -184,9 +201,12 @@ queue_kept net at run s q w h =
       comes = curve_has at coming _ _ (total_cell net at s q w.meets h) comes;
       served = curve_has at serving _ _ (queue_service_is net at s q w.meets h) served.serves;
       stays = number_has at longest_stay _ _ is_delay
-          (delay_from_service (here net s) run.end V (of_queue q) q (values at coming) (values at serving) (size_in at longest_stay) lawful
-          (λ c e. eqb-true c.queue q e) comes served.serves served.grows.rising (number_holds at longest_stay _ is_delay));
+          (delay_from_service (here net s) run.end V (of_queue q) q (values at coming) (values at serving)
+          (size_in at longest_stay) lawful
+          (λ c e. eqb-true c.queue q e) comes served.serves served.grows.rising
+          (number_holds at longest_stay _ is_delay));
       holds = number_has at most _ _ is_most
-          (backlog_from_service (here net s) run.end V (of_queue q) (longest net s q) (values at coming) (values at serving) (size_in at most) lawful
+          (backlog_from_service (here net s) run.end V (of_queue q) (longest net s q) (values at coming)
+          (values at serving) (size_in at most) lawful
           (queue_sizes net at run s q w) comes served.serves (number_holds at most _ is_most));
     }

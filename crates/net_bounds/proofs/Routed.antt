@@ -102,7 +102,8 @@ pub record IsServerAt (net : Net) (s : ℕ) : Type 0 where
   pub keeps : IsServer server
 
 kept_server : (net : Net) (s : ℕ) (x : NetServer) → IsAccepted net → slice_get net.servers s ≡ Some x → IsServer x
-kept_server net s x a is = a.servers x (s, slice_get_within net.servers s x is, get_or_from_slice_get net.servers s x x is)
+kept_server net s x a is =
+    a.servers x (s, slice_get_within net.servers s x is, get_or_from_slice_get net.servers s x x is)
 
 pub known_server : (net : Net) (s : ℕ) → IsAccepted net → s < length net.servers → IsServerAt net s
 known_server net s a h =
@@ -125,10 +126,12 @@ pub discipline_is : (net : Net) (s : ℕ) → IsAccepted net → s < length net.
     → (routes.server_at (routes_of net) s).discipline ≡ discipline net s
 discipline_is net s a h =
     let it = known_server net s a h in
-    ap (λ (x : Server). x.discipline) (server_read net.servers s it.server record { discipline = Fifo; pace = None } it.is)
+    ap (λ (x : Server). x.discipline)
+    (server_read net.servers s it.server record { discipline = Fifo; pace = None } it.is)
     ∙ ap discipline_of (sym it.is)
 
-link_read : (servers : List NetServer) (s : ℕ) → get_or (map link_for servers) s (int (pos 0)) ≡ link_of (slice_get servers s)
+link_read : (servers : List NetServer) (s : ℕ)
+    → get_or (map link_for servers) s (int (pos 0)) ≡ link_of (slice_get servers s)
 link_read [] s = refl
 link_read (x ∷ servers) zero = refl
 link_read (x ∷ servers) (suc s) = link_read servers s
@@ -165,7 +168,8 @@ pub record PassesAt (net : Net) (i s : ℕ) : Type 0 where
 
 pub passes_at : (net : Net) (i s : ℕ) → PassesServer s (route_of (routes_of net) i).hops → PassesAt net i s
 passes_at net i s p =
-    let stands = placed s (path net i) (passes_has s (path net i) (own_queues net i) (subst (PassesServer s) (hops_is net i) p)) in
+    let stands = placed s (path net i)
+    (passes_has s (path net i) (own_queues net i) (subst (PassesServer s) (hops_is net i) p)) in
     record { within = stands.within; is = stands.is }
 
 pub hop_passes : (net : Net) (i k : ℕ) → IsAccepted net → k < hops net i
@@ -173,17 +177,20 @@ pub hop_passes : (net : Net) (i k : ℕ) → IsAccepted net → k < hops net i
 hop_passes net i k a h =
     let on = routed net i a (hop_is_live net i k h) in
     subst (PassesServer (server_at net i k)) (sym (hops_is net i))
-    (has_passes (server_at net i k) (path net i) (own_queues net i) on.paired (at_has (path net i) k 0 (server_at net i k) h refl))
+    (has_passes (server_at net i k) (path net i) (own_queues net i) on.paired
+    (at_has (path net i) k 0 (server_at net i k) h refl))
 
 -- ---- each live flow has a path
-pub path_is : (net : Net) (i : ℕ) → IsAccepted net → (route_of (routes_of net) i).live ≡ true → IsPath (routes_of net) (route_of (routes_of net) i).hops
+pub path_is : (net : Net) (i : ℕ) → IsAccepted net → (route_of (routes_of net) i).live ≡ true
+    → IsPath (routes_of net) (route_of (routes_of net) i).hops
 path_is net i a live =
     let on = routed net i a (sym (live_is net i) ∙ live) in
     subst (IsPath (routes_of net)) (sym (hops_is net i))
     (is_path (routes_of net) (path net i) (own_queues net i)
     (λ s h.
     let stands = placed s (path net i) h in
-    let inside : server_at net i (hop_at net i s) < length net.servers = hop_inside net i (hop_at net i s) a stands.within in
+    let inside : server_at net i (hop_at net i s) < length net.servers =
+    hop_inside net i (hop_at net i s) a stands.within in
     let small : s < length net.servers = subst (λ (t : ℕ). t < length net.servers) stands.is inside in
     subst (λ (n : ℕ). s < n) (sym (servers_are net)) small)
     (λ s. subst (λ (x : ℚ). int (pos 0) ≤ℚ x) (sym (link_is net s)) (link_nonneg net s a)) on.apart)

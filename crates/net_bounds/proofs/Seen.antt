@@ -35,7 +35,8 @@ cards_map P Q f (Visits q t ∷ V) h = cards_map P Q f V h
 abbrev pub IsInOwnQueue : Routes → ℕ → Card → Type 0
 IsInOwnQueue net s c = c.queue ≡ queue_at s (route_of net c.flow).hops
 
-own_first : (net : Routes) (entered : List Entry) (x : Step) (V : List ServerStep) → EachCard (IsInOwnQueue net (server_of net x)) V
+own_first : (net : Routes) (entered : List Entry) (x : Step) (V : List ServerStep)
+    → EachCard (IsInOwnQueue net (server_of net x)) V
     → EachCard (IsInOwnQueue net (server_of net x)) (seen net entered x ∷ V)
 own_first net entered (Enter f p t b) V h = (refl, h)
 own_first net entered (Reach r p t) V h = (refl, h)
@@ -43,7 +44,8 @@ own_first net entered (Work r p a b w) V h = (refl, h)
 own_first net entered (Leave r p t) V h = (refl, h)
 own_first net entered (Visit r q t) V h = h
 
-own_from : (net : Routes) (s : ℕ) (entered : List Entry) (xs : List Step) → EachCard (IsInOwnQueue net s) (view_from net s entered xs)
+own_from : (net : Routes) (s : ℕ) (entered : List Entry) (xs : List Step)
+    → EachCard (IsInOwnQueue net s) (view_from net s entered xs)
 own_from net s entered [] = tt
 own_from net s entered (x ∷ xs) =
     let V = view_from net s (entered_after entered x) xs in
@@ -66,14 +68,16 @@ Agree C D V = EachCard (λ c. C c ≡ D c) V
 pub agree_back : (C D : Class) (V : List ServerStep) → Agree C D V → Agree D C V
 agree_back C D V h = cards_map (λ c. C c ≡ D c) (λ c. D c ≡ C c) (λ c e. sym e) V h
 
-same_arrives : (C D : Class) (p : ℚ → Bool) (V : List ServerStep) → Agree C D V → total (arrives C p) V ≡ total (arrives D p) V
+same_arrives : (C D : Class) (p : ℚ → Bool) (V : List ServerStep) → Agree C D V
+    → total (arrives C p) V ≡ total (arrives D p) V
 same_arrives C D p [] h = refl
 same_arrives C D p (Arrives c t ∷ V) h = rw (h.0, same_arrives C D p V h.1) refl
 same_arrives C D p (Works c a b w ∷ V) h = ap (λ (x : ℚ). int (pos 0) +ℚ x) (same_arrives C D p V h.1)
 same_arrives C D p (Leaves c t ∷ V) h = ap (λ (x : ℚ). int (pos 0) +ℚ x) (same_arrives C D p V h.1)
 same_arrives C D p (Visits q t ∷ V) h = ap (λ (x : ℚ). int (pos 0) +ℚ x) (same_arrives C D p V h)
 
-same_leaves : (C D : Class) (p : ℚ → Bool) (V : List ServerStep) → Agree C D V → total (leaves C p) V ≡ total (leaves D p) V
+same_leaves : (C D : Class) (p : ℚ → Bool) (V : List ServerStep) → Agree C D V
+    → total (leaves C p) V ≡ total (leaves D p) V
 same_leaves C D p [] h = refl
 same_leaves C D p (Arrives c t ∷ V) h = ap (λ (x : ℚ). int (pos 0) +ℚ x) (same_leaves C D p V h.1)
 same_leaves C D p (Works c a b w ∷ V) h = ap (λ (x : ℚ). int (pos 0) +ℚ x) (same_leaves C D p V h.1)
@@ -87,14 +91,17 @@ same_works C D t (Works c a b w ∷ V) h = rw (h.0, same_works C D t V h.1) refl
 same_works C D t (Leaves c u ∷ V) h = ap (λ (x : ℚ). int (pos 0) +ℚ x) (same_works C D t V h.1)
 same_works C D t (Visits q u ∷ V) h = ap (λ (x : ℚ). int (pos 0) +ℚ x) (same_works C D t V h)
 
-pub same_departed_in : (C D : Class) (V : List ServerStep) (s t : ℚ) → Agree C D V → departed_in C V s t ≡ departed_in D V s t
+pub same_departed_in : (C D : Class) (V : List ServerStep) (s t : ℚ) → Agree C D V
+    → departed_in C V s t ≡ departed_in D V s t
 same_departed_in C D V s t h = same_leaves C D (within s t) V h
 
-pub keeps_same : (C D : Class) (α : ℚ → Ext) (V : List ServerStep) → Agree C D V → KeepsArrivals C α V → KeepsArrivals D α V
+pub keeps_same : (C D : Class) (α : ℚ → Ext) (V : List ServerStep) → Agree C D V → KeepsArrivals C α V
+    → KeepsArrivals D α V
 keeps_same C D α V h keeps s t l =
     subst (λ (x : ℚ). Fin x ≤ₑ α (t -ℚ s)) (same_arrives C D (within s t) V h) (keeps s t l)
 
-pub serves_same : (C D : Class) (β : ℚ → Ext) (end : ℚ) (V : List ServerStep) → Agree C D V → Serves C β end V → Serves D β end V
+pub serves_same : (C D : Class) (β : ℚ → Ext) (end : ℚ) (V : List ServerStep) → Agree C D V → Serves C β end V
+    → Serves D β end V
 serves_same C D β end V h serves t l =
     let (s, one) = serves t l in
     let came = same_arrives C D (before s) V h in

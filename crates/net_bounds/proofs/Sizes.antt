@@ -28,23 +28,28 @@ longest_most net (u ∷ vs) v (inr h) =
 pub queue_sizes : (net : Net) (at : CellTable) (run : SpecRun) (s q : ℕ) → AtServer net at run s
     → KeepsSizes (of_queue q) (longest net s q) (seen_by net run s)
 queue_sizes net at run s q w =
-    arrivals_map (IsVisiting net s) (λ c. of_queue q c ≡ true → c.bits ≤ longest net s q) one (seen_by net run s) (all_visiting net at run s w)
+    arrivals_map (IsVisiting net s) (λ c. of_queue q c ≡ true → c.bits ≤ longest net s q) one (seen_by net run s)
+    (all_visiting net at run s w)
   where
     one : (c : Card) → IsVisiting net s c → of_queue q c ≡ true → c.bits ≤ longest net s q
     one c v e =
-        let most = longest_most net (visits_in net s q) (card_visit net s c) (has_in net s q c v (eqb-true c.queue q e)) in
+        let most = longest_most net (visits_in net s q) (card_visit net s c)
+        (has_in net s q c v (eqb-true c.queue q e)) in
         let small = v.small in
         omega arith
 
 pub after_sizes : (net : Net) (at : CellTable) (run : SpecRun) (s q : ℕ) → AtServer net at run s
     → KeepsSizes (after_queue q) (longest_after net s q) (seen_by net run s)
 after_sizes net at run s q w =
-    arrivals_map (IsVisiting net s) (λ c. after_queue q c ≡ true → c.bits ≤ longest_after net s q) one (seen_by net run s) (all_visiting net at run s w)
+    arrivals_map (IsVisiting net s) (λ c. after_queue q c ≡ true → c.bits ≤ longest_after net s q) one
+    (seen_by net run s) (all_visiting net at run s w)
   where
     one : (c : Card) → IsVisiting net s c → after_queue q c ≡ true → c.bits ≤ longest_after net s q
     one c v e =
-        let later : nat_lt q (queue_at net c.flow (hop_at net c.flow s)) ≡ true = subst (λ (p : ℕ). nat_lt q p ≡ true) (sym v.queue) e in
-        let there = has_filter (λ u. nat_lt q (queue_at net u.flow u.hop)) (visits net s) (card_visit net s c) (has_card net s c v) later in
+        let later : nat_lt q (queue_at net c.flow (hop_at net c.flow s)) ≡ true =
+        subst (λ (p : ℕ). nat_lt q p ≡ true) (sym v.queue) e in
+        let there = has_filter (λ u. nat_lt q (queue_at net u.flow u.hop)) (visits net s) (card_visit net s c)
+        (has_card net s c v) later in
         let most = longest_most net (visits_after net s q) (card_visit net s c) there in
         let small = v.small in
         omega arith
@@ -52,7 +57,8 @@ after_sizes net at run s q w =
 pub flow_sizes : (net : Net) (at : CellTable) (run : SpecRun) (s i : ℕ) → AtServer net at run s
     → KeepsSizes (of_flow i) (packet net i) (seen_by net run s)
 flow_sizes net at run s i w =
-    arrivals_map (IsVisiting net s) (λ c. of_flow i c ≡ true → c.bits ≤ packet net i) one (seen_by net run s) (all_visiting net at run s w)
+    arrivals_map (IsVisiting net s) (λ c. of_flow i c ≡ true → c.bits ≤ packet net i) one (seen_by net run s)
+    (all_visiting net at run s w)
   where
     one : (c : Card) → IsVisiting net s c → of_flow i c ≡ true → c.bits ≤ packet net i
     one c v e = subst (λ (j : ℕ). c.bits ≤ packet net j) (eqb-true c.flow i e) v.small

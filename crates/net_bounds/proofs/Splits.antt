@@ -23,7 +23,13 @@ ends_with zero (x ∷ []) e = record { front = []; last = x; is = refl; long = r
 ends_with zero (x ∷ y ∷ xs) e = absurd (omega (arith, e))
 ends_with (suc n) (x ∷ xs) e =
     let rest = ends_with n xs (omega (arith, e)) in
-    record { front = x ∷ rest.front; last = rest.last; is = ap (λ (ys : List ℚ). x ∷ ys) rest.is; long = ap suc rest.long }
+    record {
+      front = x ∷ rest.front;
+      last = rest.last;
+      is = ap (λ (ys : List ℚ). x ∷ ys) rest.is;
+      long = ap suc
+          rest.long;
+    }
 
 nonneg_front : (ys : List ℚ) (y : ℚ) → AllNonneg (ys ++ y ∷ []) → AllNonneg ys × (zero_q ≤ℚ y)
 nonneg_front [] y h = (tt, h.0)
@@ -52,7 +58,8 @@ values_front [] g [] y e = add_zero_ext (g y) ∙ sym (zero_add_ext (g y))
 values_front [] g (x ∷ ys) y e = absurd (omega (arith, e))
 values_front (f ∷ fs) g [] y e = absurd (omega (arith, e))
 values_front (f ∷ fs) g (x ∷ ys) y e =
-    ap (λ (z : Ext). f x +ₑ z) (values_front fs g ys y (omega (arith, e))) ∙ sym (add_ext_assoc (f x) (sum_of_values fs ys) (g y))
+    ap (λ (z : Ext). f x +ₑ z) (values_front fs g ys y (omega (arith, e))) ∙ sym
+    (add_ext_assoc (f x) (sum_of_values fs ys) (g y))
 
 -- ---- one service, and one more
 pub one_split : (f h : ℚ → Ext) → ((t : ℚ) → zero_q ≤ℚ t → h t ≡ f t) → IsWithinSplits h (f ∷ [])
@@ -76,7 +83,13 @@ more_split f g h fs within is xs all e =
     let low : zero_q ≤ℚ sum_of xs = sum_nonneg xs all in
     let whole : sum_of ys +ℚ y ≡ sum_of xs = sym (ap sum_of end.is ∙ sum_front ys y) in
     let split = is (sum_of xs) low
-    record { first = sum_of ys; second = y; first_nonneg = sum_nonneg ys parts.0; second_nonneg = parts.1; whole = whole } in
+    record {
+      first = sum_of ys;
+      second = y;
+      first_nonneg = sum_nonneg ys parts.0;
+      second_nonneg = parts.1;
+      whole = whole;
+    } in
     let values = ap (sum_of_values (fs ++ g ∷ [])) end.is ∙ values_front fs g ys y end.long in
     le_ext_trans (h (sum_of xs)) (f (sum_of ys) +ₑ g y) (sum_of_values (fs ++ g ∷ []) xs) split
     (le_ext_trans (f (sum_of ys) +ₑ g y) (sum_of_values fs ys +ₑ g y) (sum_of_values (fs ++ g ∷ []) xs)

@@ -39,4 +39,5 @@ routes_of net = record {
 -- it is lawful, and keeps each flow's longest packet and arrival curve, and each server's service curve
 pub record IsRunOf (net : Net) (run : SpecRun) : Type 0 where
   pub lawful : IsLawful (routes_of net) run
-  pub keeps : KeepsPremises (routes_of net) (packet net) (λ i. value_at (arrival net i)) (λ s. value_at (service net s)) run
+  pub keeps : KeepsPremises (routes_of net) (packet net)
+      (λ i. value_at (arrival net i)) (λ s. value_at (service net s)) run
