@@ -1,9 +1,9 @@
 #!/usr/bin/env python3
-"""How long the sum and the minimum of two curves take, with 100, 1,000 and 10,000 pieces each: microseconds a
-call, how many times as long as with a tenth of the pieces, and how many times as long Python's own fractions take
-for the same pieces.
+"""How many pieces of two curves their sum and their minimum go through in a second, with 1,000, 10,000 and 100,000
+pieces each; microseconds a piece, how many times as long that is as in the row before (it is to stay about 1), and
+how many times as long Python's own fractions take for the same pieces.
 
-Usage: python3 bench/operators.py [thousands of pieces to go through at each size, default 20]
+Usage: python3 bench/operators.py [thousands of pieces to go through at each size, default 100]
 
 The two curves turn at 0, 1, 2, .. and at 1/2, 3/2, 5/2, .., between the slopes 1 and 2, and cross once in each unit
 of time. The script writes a program over the proved crates into a new folder outside the repository, has `rt run`
@@ -179,7 +179,7 @@ fn repeated(alloc: Global, least: bool, f: &Curve, g: &Curve, times: u32) -> u64
 
 fn main(rt: HostRuntime) -> io::Result<()> {
     let alloc = rt.alloc();
-    for (n, times) in [(100, TIMES_100), (1_000, TIMES_1000), (10_000, TIMES_10000)] {
+    for (n, times) in [(1_000, TIMES_1000), (10_000, TIMES_10000), (100_000, TIMES_100000)] {
         let Ok(f) = turning(alloc, false, n) else {
             return Ok(());
         };
@@ -206,7 +206,7 @@ abbrev pub ghosts-made : goal.ghosts-made
 ghosts-made a = record { name = a.blank.name; parts = a.blank.parts }
 """
 
-SIZES = (100, 1_000, 10_000)
+SIZES = (1_000, 10_000, 100_000)
 
 
 def curve(n, halves):
@@ -292,27 +292,36 @@ def built(thousands):
         run = subprocess.run(["rt", "run"], cwd=os.path.join(folder, "crates", "bench"), capture_output=True, text=True)
         if run.returncode != 0:
             sys.exit(run.stdout + run.stderr)
-        return [line.split() for line in run.stdout.splitlines() if line.split()[:1] and line.split()[0] in PYTHON]
+        rows = [line.split() for line in run.stdout.splitlines() if line.split()[:1] and line.split()[0] in PYTHON]
+        if len(rows) != len(PYTHON) * len(SIZES):
+            sys.exit(run.stdout + run.stderr)
+        return rows
     finally:
         shutil.rmtree(folder)
 
 
 def main():
-    thousands = int(sys.argv[1]) if len(sys.argv) > 1 else 20
+    thousands = int(sys.argv[1]) if len(sys.argv) > 1 else 100
     last = {}
-    print(f"{'operator':<10}{'pieces':>8}{'of answer':>11}{'us a call':>12}{'of a tenth':>12}{'Python takes':>14}")
+    print(
+        f"{'operator':<10}{'pieces':>8}{'of answer':>11}{'pieces a s':>12}{'us a piece':>12}{'a piece takes':>15}"
+        f"{'Python takes':>14}"
+    )
     for name, pieces, nanoseconds, found in built(thousands):
         n = int(pieces)
         ours = int(nanoseconds) / max(thousands * 1_000 // n, 1)
+        each = ours / (2 * n)
         f, g = curve(n, False), curve(n, True)
         start = time.perf_counter()
         wanted = PYTHON[name](f, g)
         theirs = (time.perf_counter() - start) * 1e9
         if len(wanted) != int(found):
             sys.exit(f"{name} of {n} pieces: {found} pieces, and Python's has {len(wanted)}")
-        growth = f"{ours / last[name]:.1f}x" if name in last else ""
-        last[name] = ours
-        print(f"{name:<10}{n:>8}{found:>11}{ours / 1e3:>12.1f}{growth:>12}{theirs / ours:>13.1f}x")
+        growth = f"{each / last[name]:.2f}x" if name in last else ""
+        last[name] = each
+        print(
+            f"{name:<10}{n:>8}{found:>11}{1e9 / each:>12.0f}{each / 1e3:>12.2f}{growth:>15}{theirs / ours:>13.1f}x"
+        )
 
 
 if __name__ == "__main__":

@@ -204,6 +204,11 @@ fn dots(rt: HostRuntime) -> Result<(), Fail> {
         assert!(rt; value(&c, whole(t)) == Some(whole(v)), "at {t}");
     }
     assert!(rt; value(&c, whole(1)).is_none());
+    let late = match Frac::new(11, 2) {
+        Ok(t) => t,
+        Err(_) => Frac::zero(),
+    };
+    assert!(rt; value(&c, late).is_none());
     assert!(rt; repeats(&c) == Some((whole(2), whole(2), whole(1))));
     Ok(())
 }

@@ -29,14 +29,16 @@ pub fn calls_in_turn<P: Making, Q: Making>()
     ensures { AreDetermined (λ c. Then (P.answers c) Q.answers) }
 {}
 
-/// A call's answer is finite at each time, and so as a curve, where its operands are: of a minimum one of them, of a
-/// difference and of what first in, first out leaves the first. A running supremum needs a bound up to each time.
+/// The answer of a call that makes a curve, but for a deconvolution and a shift by infinity, is finite at each time, and
+/// so as a curve, where its operands are: of a minimum one of them, of a difference and of what first in, first out
+/// leaves the first. A shift goes forward; a running supremum needs a bound up to each time.
 pub fn answers_are_finite()
     ensures { AnswersAreFinite }
 {}
 
-/// A call's answer is finite, is 0 at 0, never falls and is nowhere below 0, where its operands do the same; the
-/// running bounds, and what first in, first out leaves, ask for less.
+/// The answer is finite, is 0 at 0, never falls and is nowhere below 0: of a sum, a minimum, a maximum or a convolution
+/// where both operands do the same; of a multiple by a number from 0 on, or less such a number, where the first does.
+/// The running bounds, and what first in, first out leaves after a wait from 0 on, ask for less.
 pub fn answers_grow()
     ensures { AnswersGrow }
 {}

@@ -11,7 +11,7 @@ mod tests;
 
 pub use service::fifo_service;
 
-/// A flow of a queue is served by what the others leave, whatever theta.
+/// A flow of a queue is served by what the others leave, for any theta from 0 on.
 pub fn fifo_serves()
     ensures { FifoServes }
 {}
@@ -22,7 +22,7 @@ pub fn fifo_curve_serves()
 {}
 
 /// What first in, first out leaves of a finite service is finite, is 0 at 0, never falls and is nowhere below 0,
-/// whatever the others' curve and theta; and so is the curve that `fifo_service` answers.
+/// whatever the others' curve, and for any theta from 0 on; and so is the curve that `fifo_service` answers.
 pub fn fifo_service_grows()
     ensures service { FifoServiceGrows }
     ensures curve { FifoCurveGrows }
