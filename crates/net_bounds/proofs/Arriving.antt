@@ -26,7 +26,8 @@ use Rattle.net_model.specs.Accepted.{IsAccepted}
 use Rattle.upp_curve.specs.Curve.{value_at}
 use Rattle.net_cells.specs.declared.cell.Kind.TheVariants.{In}
 use Rattle.net_cells.specs.Numbered.{packet, arrival, service, hops, server_at, queue_at, path}
-use Rattle.net_cells.specs.Visits.{Visit, visit, visits, visits_in}
+use Rattle.net_cells.specs.declared.visit.Visit.{Visit}
+use Rattle.net_cells.specs.Visits.{visit, visits, visits_in}
 use Rattle.net_cells.specs.Cells.{cell_of}
 use Rattle.net_cells.specs.Meanings.{CellTable}
 use Rattle.net_cells.specs.Equations.{MeetsEquations}

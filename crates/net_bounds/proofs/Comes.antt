@@ -10,7 +10,8 @@ use Rattle.run_laws.proofs.Arrivals.{arrivals_map}
 use Rattle.net_model.specs.Networks.{Net}
 use Rattle.net_cells.specs.declared.cell.Kind.TheVariants.{Cross, Total, Higher}
 use Rattle.net_cells.specs.Numbered.{hops, server_at, queue_at, queues, levels}
-use Rattle.net_cells.specs.Visits.{Visit, visits_in, others}
+use Rattle.net_cells.specs.declared.visit.Visit.{Visit}
+use Rattle.net_cells.specs.Visits.{visits_in, others}
 use Rattle.net_cells.specs.Cells.{cell_of}
 use Rattle.net_cells.specs.Meanings.{CellTable}
 use Rattle.net_cells.specs.Equations.{MeetsEquations}

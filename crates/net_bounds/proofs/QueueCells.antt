@@ -16,7 +16,8 @@ use Rattle.net_model.specs.Networks.{Net}
 use Rattle.net_cells.specs.declared.cell.Cell.{Cell}
 use Rattle.net_cells.specs.declared.cell.Kind.TheVariants.{In, Cross, Total, Higher, QueueService, QueueDelay, QueueBacklog}
 use Rattle.net_cells.specs.Numbered.{hops, server_at, queue_at, service, discipline, queues, levels}
-use Rattle.net_cells.specs.Visits.{Visit, visits_in, others, longest, longest_after}
+use Rattle.net_cells.specs.declared.visit.Visit.{Visit}
+use Rattle.net_cells.specs.Visits.{visits_in, others, longest, longest_after}
 use Rattle.net_cells.specs.Cells.{cell_of}
 use Rattle.net_cells.specs.Order.{at_visit}
 use Rattle.net_cells.specs.Meanings.{Meaning, curve, CellTable, IsCurveIn}

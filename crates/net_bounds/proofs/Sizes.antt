@@ -9,7 +9,8 @@ use Rattle.run_laws.specs.Premises.{KeepsSizes}
 use Rattle.run_laws.proofs.Arrivals.{arrivals_map}
 use Rattle.net_model.specs.Networks.{Net}
 use Rattle.net_cells.specs.Numbered.{packet, queue_at}
-use Rattle.net_cells.specs.Visits.{Visit, visits, visits_in, visits_after, longest_of, longest, longest_after}
+use Rattle.net_cells.specs.declared.visit.Visit.{Visit}
+use Rattle.net_cells.specs.Visits.{visits, visits_in, visits_after, longest_of, longest, longest_after}
 use Rattle.net_cells.specs.Meanings.{CellTable}
 use Rattle.net_cells.proofs.Lists.{Has, has_filter}
 use Rattle.net_bounds.specs.Promises.{seen_by}
