@@ -10,3 +10,4 @@ pub mod HopParts
 pub mod Fitting
 pub mod Causes
 pub mod MayStand
+pub mod LeastKey
