@@ -36,7 +36,8 @@ fn servers_at(alloc: Global, root: &Table) -> Result<ServerList, DraftFault>
 
 #[tactic(auto, unfolding(crate::specs::Drafts::flows_of))]
 fn flows_at(alloc: Global, servers: &ServerList, root: &Table) -> Result<Vec<FlowDraft>, DraftFault>
-    ensures value { Gives (λ v. map flow_text v.items) result (flows_of (list_texts servers.now) (table_view root.now)) }
+    ensures value { Gives (λ v. map flow_text v.items) result
+        (flows_of (list_texts servers.now) (table_view root.now)) }
     ensures few { IfOk result (λ v. length v.items ≤ 256) }
     ensures names { IfOk result (λ v. AllPairs (λ f g. f.name ≢ g.name) (map flow_text v.items)) }
     ensures kept { IfOk result (λ v. All (IsFlowDraft (list_texts servers.now)) v.items) }
