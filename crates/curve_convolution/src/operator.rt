@@ -81,7 +81,7 @@ pub fn convolve<L: Ledger>(
     let kind = OpKind::Convolve;
     let first = first_window(&kind, f, g)?;
     let from = difference(first.end, first.period);
-    let Some(periods) = late_periods(f, g, from, first.period, first.end) else {
+    let Some(periods) = late_periods(alloc, f, g, from, first.period, first.end) else {
         return Err(OpFault::TooWide);
     };
     let frame = within(&kind, f, g, periods)?;

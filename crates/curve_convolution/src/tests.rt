@@ -95,6 +95,20 @@ fn point(alloc: Global, x: i128, v: i128) -> Result<Curve, OpFault> {
     curve(alloc, &list, Tail::Infinite { rank: whole(x) })
 }
 
+// 0 up to `open`, and then 10 a unit of time up to `last`, over and over from `rank` on.
+fn gate(alloc: Global, rank: i128, open: i128, last: i128) -> Result<Curve, OpFault> {
+    let list = [
+        piece(0, Extended::Fin(Frac::zero()), Some((0, 0))),
+        piece(open, Extended::Fin(Frac::zero()), Some((-10 * open, 10))),
+    ];
+    let tail = Tail::Periodic {
+        rank: whole(rank),
+        period: whole(last - rank),
+        rise: whole(10 * (last - open)),
+    };
+    curve(alloc, &list, tail)
+}
+
 fn nothing(alloc: Global) -> Result<Curve, OpFault> {
     let list = [piece(0, Extended::Inf, None)];
     curve(alloc, &list, Tail::Infinite { rank: Frac::zero() })
@@ -126,6 +140,13 @@ fn convolved<L: Ledger>(alloc: Global, blank: Blank, f: &Curve, g: &Curve) -> Re
 {
     let mut steps = Steps::<L>::new(blank);
     convolve(alloc, f, g, &mut steps)
+}
+
+fn is_too_many(r: Result<Curve, OpFault>) -> bool {
+    match r {
+        Err(OpFault::TooMany) => true,
+        _ => false,
+    }
 }
 
 // Stairs of one packet and the periods 2 and 3.
@@ -209,5 +230,31 @@ fn the_slower_takes_over_late(rt: HostRuntime) -> Result<(), Fail> {
             "the other way round at {t}"
         );
     }
+    Ok(())
+}
+
+// Gates of cycles that have no divisor in common: the one of the smaller rate, as much later as the other is closed.
+#[test]
+fn gates(rt: HostRuntime) -> Result<(), Fail> {
+    let f = gate(rt.alloc(), 0, 50, 100)?;
+    let g = gate(rt.alloc(), 0, 41, 101)?;
+    let later = gate(rt.alloc(), 41, 91, 141)?;
+    let c = convolved::<Brand>(rt.alloc(), Blank::new(1), &f, &g)?;
+    assert!(rt; equal(&c, &later));
+    let long = gate(rt.alloc(), 0, 50, 1000)?;
+    let longer = gate(rt.alloc(), 0, 50, 1001)?;
+    let d = convolved::<Brand>(rt.alloc(), Blank::new(1), &long, &longer);
+    assert!(rt; is_too_many(d), "16 million pairs of pieces");
+    Ok(())
+}
+
+// The same gates, closed for a unit of time before they begin: what is needed of the number of periods is found in memory.
+#[test]
+fn late_gates(rt: HostRuntime) -> Result<(), Fail> {
+    let f = gate(rt.alloc(), 1, 51, 101)?;
+    let g = gate(rt.alloc(), 1, 42, 102)?;
+    let later = gate(rt.alloc(), 43, 93, 143)?;
+    let c = convolved::<Brand>(rt.alloc(), Blank::new(1), &f, &g)?;
+    assert!(rt; equal(&c, &later));
     Ok(())
 }

@@ -14,5 +14,5 @@ pub use curve_lattice::{max, min, pos_diff, pos_minus};
 pub use curve_leftover::fifo_left;
 pub use curve_running::{run_inf, run_sup};
 pub use scaling::scale;
-pub use shifts::shift;
+pub use shifts::{infinite_curve, left_window, shift};
 pub use sums::sum;

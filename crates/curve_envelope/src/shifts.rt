@@ -86,8 +86,8 @@ fn piece_at(pieces: &[Piece], t: Frac) -> Piece
     pieces[count - 1]
 }
 
-// What is read of pieces from x on, moved left by x.
-fn left_window(alloc: Global, pieces: &[Piece], x: Frac) -> Result<Vec<Piece>, AllocError>
+/// What is read of pieces from x on, moved left by x. Only a lack of memory is an error.
+pub fn left_window(alloc: Global, pieces: &[Piece], x: Frac) -> Result<Vec<Piece>, AllocError>
     requires starts { StartsAtZero pieces.now }
     requires time { int (pos 0) ≤ℚ x }
     requires zero { SumFits x (neg_ℚ x) }
@@ -132,8 +132,8 @@ fn shift_within(alloc: Global, f: &Curve, x: Frac, frame: &Frame) -> Result<Curv
     )
 }
 
-// The curve that is infinite everywhere.
-fn infinite_curve(alloc: Global) -> Result<Curve, AllocError>
+/// The curve that is infinite everywhere. Only a lack of memory is an error.
+pub fn infinite_curve(alloc: Global) -> Result<Curve, AllocError>
     ensures { IfOk result (λ c. (t : ℚ) → int (pos 0) ≤ℚ t → value_at c t ≡ Inf) }
 {
     let nowhere = Piece {

@@ -8,4 +8,4 @@ mod laws;
 mod tests;
 
 pub use kept::seen;
-pub use laws::{Making, answers_are_determined, calls_in_turn};
+pub use laws::{Making, answers_are_determined, answers_are_finite, answers_grow, calls_in_turn};

@@ -8,13 +8,15 @@ use Rattle.rational.specs.Ratio.{IsSmall, SumFits}
 use Rattle.rational.specs.Grid.{Whole, Within}
 use Rattle.rational.specs.Extended.{Ext, ◌<ₑ◌, ◌+ₑ◌}
 use Rattle.rational.specs.declared.Extended.TheVariants.{Fin, Inf}
-use Rattle.rational.proofs.Linear.{with1, with3, with4, with5}
-use Rattle.rational.proofs.Laws.{le_refl, le_of_lt, not_zero}
-use Rattle.rational.proofs.Grid.{whole_neg, whole_sub, whole_add, whole_weaken, within_neg}
-use Rattle.rational.proofs.Integers.{nat_le, int_mul}
+use Rattle.rational.proofs.Linear.{with1, with3, with4, with5, with6}
+use Rattle.rational.proofs.Laws.{le_refl, le_of_lt, le_trans, le_lt_trans, le_of_not_lt, lt_irrefl, mul_nonneg, not_zero}
+use Rattle.rational.proofs.Grid.{whole_int, whole_neg, whole_sub, whole_add, whole_weaken, within_neg}
+use Rattle.rational.proofs.Integers.{nat_le, nat_nonneg, int_mul}
 use Rattle.rational.proofs.Sizes.{quotient_on_grid}
-use Rattle.rational.proofs.ExtendedOrder.{finite_sum}
+use Rattle.rational.proofs.ExtendedOrder.{finite_sum, same_le_ext}
+use Rattle.rational.proofs.Bounds.{infimum_unique, same_infimum}
 use Rattle.upp_curve.specs.Curve.{SpecCurve, value_at}
+use Rattle.upp_curve.specs.Convolution.{Split, IsConvolution}
 use Rattle.upp_curve.specs.Limits.{Sizes}
 use Rattle.upp_curve.specs.Sized.{grid_of, times_largest}
 use Rattle.upp_curve.specs.Operand.{AreLimited}
@@ -32,10 +34,11 @@ use Rattle.curve_least.proofs.LeastNumber.{gains}
 use Rattle.curve_least.proofs.Shifts.{largest_bounds, none_bounds, endless_bounds, same_least, least_zero}
 use Rattle.curve_conv.specs.ElementRoom.{WindowTime}
 use Rattle.curve_conv.proofs.ElementSizes.{gap_within}
-use Rattle.curve_parts.specs.Parts.{part_sum, IsPart, FirstLate, FirstEarly}
+use Rattle.curve_parts.specs.Parts.{PartSplit, part_sum, IsPart, FirstLate, FirstEarly}
 use Rattle.curve_parts.specs.PartGaps.{IsPartGap, ArePartValues, HavePartValues}
 use Rattle.curve_parts.specs.Scans.{sizes_in}
 use Rattle.curve_parts.specs.Late.{IsLateIn, IsLateAfter, IsLateNumber, IsLateCall}
+use Rattle.curve_parts.proofs.Moves.{late_only}
 use Rattle.curve_parts.proofs.Repeating.{are_rising}
 use Rattle.curve_parts.proofs.LateShifts.{AreParts, after_in, after_out, late_later, back, late_value, soon_value, values_are}
 
@@ -81,6 +84,21 @@ late_times slow fast from d end C =
       with5 x y from d end (λ c. omega (arith, c.le, c.lt, c.same)),
       with5 x y from d end (λ c. omega (arith, c.le, c.lt, c.same)),
     )
+
+pub end_some : (slow fast : SpecCurve) (from d end : ℚ) → IsLateCall slow fast from d end → int (pos 0) <ℚ end
+end_some slow fast from d end C =
+    let T = late_times slow fast from d end C in
+    at from d end T.from_in.nonneg C.some C.end_is
+  where
+    at : (x y w : ℚ) → int (pos 0) ≤ℚ x → int (pos 0) <ℚ y → w ≡ x +ℚ y → int (pos 0) <ℚ w
+    at x y w a b e = with3 x y w (λ c. omega (arith, c.le, c.lt, c.same))
+
+pub zero_time : (slow fast : SpecCurve) (from d end : ℚ) → IsLateCall slow fast from d end → WindowTime (sizes_in slow fast end) end (int (pos 0))
+zero_time slow fast from d end C = record {
+  whole = whole_int (sizes_in slow fast end).dt (pos 0);
+  nonneg = le_refl (int (pos 0));
+  early = le_of_lt (end_some slow fast from d end C);
+}
 
 pub lead_fits : (slow fast : SpecCurve) (from d end a b : ℚ) → IsLateCall slow fast from d end → a ≡ rise_over fast d → b ≡ rise_over slow d → SumFits a (neg_ℚ b)
 lead_fits slow fast from d end a b C ea eb =
@@ -148,19 +166,48 @@ some_lead slow fast from d end q a b C V L =
     gains slow fast d i.split.second both.1 C.scan.second.curve C.some C.slower i.inside.1 both.3
 
 -- ---- the number
+-- a time some periods after `from` is after the sum of the times from which on the curves repeat
+after_both : (slow fast : SpecCurve) (from d end : ℚ) (k : ℕ) (t : ℚ) → IsLateCall slow fast from d end → periods_after from k d ≤ℚ t
+    → steady slow +ℚ steady fast ≤ℚ t
+after_both slow fast from d end k t C h = at (steady slow) (steady fast) d from (int (pos k) *ℚ d) C.from_is (le_of_lt C.some) (mul_nonneg (nat_nonneg k) (le_of_lt C.some)) h
+  where
+    at : (x y d from w : ℚ) → from ≡ x +ℚ y +ℚ d → int (pos 0) ≤ℚ d → int (pos 0) ≤ℚ w → from +ℚ w ≤ℚ t → x +ℚ y ≤ℚ t
+    at x y d from w e a b h = with6 x y d from w t (λ c. omega (arith, c.le, c.lt, c.same))
+
 late_in : (slow fast : SpecCurve) (from d end : ℚ) (k : ℕ) → IsLateCall slow fast from d end
     → ((t : ℚ) → InWindow from end t → HavePartValues (value_at slow) (value_at fast) (steady slow) (steady fast) t) → IsLateAfter slow fast from d k → IsLateIn slow fast (periods_after from k d) d
 late_in slow fast from d end k C V L = record {
   least = L;
-  values = λ t h l.
+  value = λ t h l v W.
       let B = back from d t k h l in
       let i = subst (λ e. InWindow from e B.at) (sym C.end_is) B.in_window in
-      let v = (V B.at i).late in (
-        v.0 +ₑ Fin (int (pos k) *ℚ rise_over slow d),
-        subst (λ u. IsPart (value_at slow) (value_at fast) (FirstLate (steady slow)) u (v.0 +ₑ Fin (int (pos k) *ℚ rise_over slow d))) B.is
-            (late_later (value_at slow) (value_at fast) (steady slow) (steady fast) d (rise_over slow d) (rise_over fast d) from B.at v.0 k (are_parts slow fast from d end C) B.in_window.start v.1),
-      );
+      let x = (V B.at i).late in
+      let w = x.0 +ₑ Fin (int (pos k) *ℚ rise_over slow d) in
+      let P = subst (λ u. IsPart (value_at slow) (value_at fast) (FirstLate (steady slow)) u w) B.is
+      (late_later (value_at slow) (value_at fast) (steady slow) (steady fast) d (rise_over slow d) (rise_over fast d) from B.at x.0 k
+      (are_parts slow fast from d end C) B.in_window.start x.1) in
+      let there = late_only (value_at slow) (value_at fast) (steady slow) (steady fast) t w (after_both slow fast from d end k t C h) (L t h l) P in
+      subst (IsPart (value_at slow) (value_at fast) (FirstLate (steady slow)) t)
+      (infimum_unique {I = Split t} (λ s. value_at slow s.first +ₑ value_at fast s.second) w v there W) P;
 }
+
+-- ---- a slower curve that repeats from 0 on
+-- no split is before that time
+pub none_early : (slow fast : SpecCurve) (from d : ℚ) → ¬ (int (pos 0) <ℚ steady slow) → IsLateNumber slow fast from d 0
+none_early slow fast from d none = record { least = least_zero (IsLateAfter slow fast from d) here; late = record { least = here; value = all } }
+  where
+    all_late : (t : ℚ) (s : Split t) → steady slow ≤ℚ s.first
+    all_late t s = le_trans (le_of_not_lt none) s.first_nonneg
+
+    here : IsLateAfter slow fast from d 0
+    here t h l b below s early after = absurd (lt_irrefl (steady slow) (le_lt_trans (all_late t s) early))
+
+    all : (t : ℚ) → periods_after from 0 d ≤ℚ t → t <ℚ periods_after from 0 d +ℚ d → (v : Ext) → IsConvolution (value_at slow) (value_at fast) t v
+        → IsPart (value_at slow) (value_at fast) (FirstLate (steady slow)) t v
+    all t h l v W =
+        same_infimum {I = Split t} {J = PartSplit (FirstLate (steady slow)) t} (λ s. value_at slow s.first +ₑ value_at fast s.second)
+        (part_sum (value_at slow) (value_at fast) (FirstLate (steady slow)) t) v
+        (λ s. (record { split = s; inside = all_late t s }, same_le_ext refl)) (λ i. (i.split, same_le_ext refl)) W
 
 abbrev IsWithinBy : SpecCurve → SpecCurve → ℚ → ℚ → (ℚ → Ext) → (ℚ → Ext) → ℕ → Type 0
 IsWithinBy slow fast from d a b k = IsWithin (InWindow from (from +ℚ d)) a b (int (pos k) *ℚ (rise_over fast d -ℚ rise_over slow d))

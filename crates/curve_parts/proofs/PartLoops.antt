@@ -61,15 +61,15 @@ cell_sum f g from low x until here next t =
 in_limit : (low limit end : ℚ) (until : Option ℚ) (s u t : ℚ) → IsLimit (end -ℚ low) until limit → IsBeforeNext s until → low ≤ℚ u → s +ℚ u ≡ t → t <ℚ end → s <ℚ limit
 in_limit low limit end until s u t L b k w l = L.least s (with5 s u t end low (λ c. omega (arith, c.le, c.lt, c.same))) b
 
-before_or : (next until : Option ℚ) (s : ℚ) → IsBeforeNext s next → IsBeforeNext s until → IsBeforeNext s (or_else next until)
+pub before_or : (next until : Option ℚ) (s : ℚ) → IsBeforeNext s next → IsBeforeNext s until → IsBeforeNext s (or_else next until)
 before_or None until s h k = k
 before_or (Some x) until s h k = h
 
-or_next : (next until : Option ℚ) (s : ℚ) → IsBeforeNext s (or_else next until) → IsBeforeNext s next
+pub or_next : (next until : Option ℚ) (s : ℚ) → IsBeforeNext s (or_else next until) → IsBeforeNext s next
 or_next None until s h = tt
 or_next (Some x) until s h = h
 
-or_until : (next until : Option ℚ) (limit s : ℚ) → ((s : ℚ) → s <ℚ limit → IsBeforeNext s until) → AtNext (λ x. x <ℚ limit) next → IsBeforeNext s (or_else next until) → IsBeforeNext s until
+pub or_until : (next until : Option ℚ) (limit s : ℚ) → ((s : ℚ) → s <ℚ limit → IsBeforeNext s until) → AtNext (λ x. x <ℚ limit) next → IsBeforeNext s (or_else next until) → IsBeforeNext s until
 or_until None until limit s L n h = h
 or_until (Some x) until limit s L n h = L s (lt_trans h n)
 
@@ -223,7 +223,7 @@ pub record CellFacts (z : Sizes) (end limit x : ℚ) (until : Option ℚ) (here 
   pub whole : AtNext (Whole z.dt) next
   pub limit_is : AtNext (λ y. y <ℚ limit) next
 
-to_stands : (z : Sizes) (end limit x : ℚ) (until next : Option ℚ) → int (pos 0) ≤ℚ x → limit ≤ℚ end → IsBeforeNext x next → AtNext (Whole z.dt) next → AtNext (λ y. y <ℚ limit) next → AtNext (WindowTime z end) until
+pub to_stands : (z : Sizes) (end limit x : ℚ) (until next : Option ℚ) → int (pos 0) ≤ℚ x → limit ≤ℚ end → IsBeforeNext x next → AtNext (Whole z.dt) next → AtNext (λ y. y <ℚ limit) next → AtNext (WindowTime z end) until
     → WindowEnd z end (until_time (or_else next until))
 to_stands z end limit x None None some most h w l U = tt
 to_stands z end limit x (Some e) None some most h w l U = U
@@ -249,7 +249,7 @@ part_facts z f g from until low room limit end t least x here next F T U e L W V
     }
 
 -- ---- one step
-at_next : (next : Option ℚ) (x : ℚ) → next ≡ at_of (is_time next) (time_or next x)
+pub at_next : (next : Option ℚ) (x : ℚ) → next ≡ at_of (is_time next) (time_or next x)
 at_next None x = refl
 at_next (Some y) x = refl
 

@@ -7,7 +7,7 @@ use Rattle.rational.specs.declared.Extended.TheVariants.{Fin, Inf}
 use Rattle.rational.proofs.Linear.{with2, with3, with4}
 use Rattle.rational.proofs.Laws.{le_trans, le_of_lt, mul_lt_mul_right}
 use Rattle.rational.proofs.ExtendedOrder.{same_le_ext, le_ext_refl, le_inf, add_le_ext, add_ext_comm, lt_ext_irrefl, lt_ext_trans}
-use Rattle.rational.proofs.Bounds.{infimum_unique, same_infimum}
+use Rattle.rational.proofs.Bounds.{same_infimum}
 use Rattle.upp_curve.specs.Curve.{SpecCurve, repeated, value_at}
 use Rattle.upp_curve.specs.Curves.{IsCurve}
 use Rattle.upp_curve.specs.Steady.{Repeats, steady, rate, rise_over, IsWholePeriods}
@@ -45,7 +45,7 @@ record LateValue (f g : ℚ → Ext) (first from t : ℚ) (v : Ext) : Type 0 whe
 
 pub slower_repeats : (f g : ℚ → Ext) (first second d slow from : ℚ) (c : SpecCurve) (h : ℚ → Ext) → int (pos 0) <ℚ d → AreRising f g first second d slow → first +ℚ second +ℚ d ≤ℚ from
     → ((t : ℚ) → from ≤ℚ t → t <ℚ from +ℚ d → IsLateLeast f g first second t)
-    → ((t : ℚ) → from ≤ℚ t → t <ℚ from +ℚ d → (v : Ext) × IsPart f g (FirstLate first) t v)
+    → ((t : ℚ) → from ≤ℚ t → t <ℚ from +ℚ d → (v : Ext) → IsConvolution f g t v → IsPart f g (FirstLate first) t v)
     → HasValues c (repeated h from d slow) → ((t : ℚ) → int (pos 0) ≤ℚ t → t <ℚ from +ℚ d → IsConvolution f g t (h t))
     → (t : ℚ) → int (pos 0) ≤ℚ t → IsConvolution f g t (value_at c t)
 slower_repeats f g first second d slow from c h some R late L V same W t nonneg =
@@ -72,10 +72,7 @@ slower_repeats f g first second d slow from c h some R late L V same W t nonneg 
     ever = late_ever f g first second d slow from some R sum_late L
 
     found : (u : ℚ) → from ≤ℚ u → u <ℚ from +ℚ d → IsConvolution f g u (h u) → IsPart f g (FirstLate first) u (h u)
-    found u k m whole =
-        let (v, P) = V u k m in
-        let there = late_only f g first second u v (le_trans sum_late k) (L u k m) P in
-        subst (IsPart f g (FirstLate first) u) (infimum_unique {I = Split u} (λ s. f s.first +ₑ g s.second) v (h u) there whole) P
+    found u k m whole = V u k m (h u) whole
 
 pub both_repeat : (f g : ℚ → Ext) (first second d rise from : ℚ) (c : SpecCurve) (h : ℚ → Ext) → int (pos 0) <ℚ d → int (pos 0) ≤ℚ first → int (pos 0) ≤ℚ second
     → Repeats f first d rise → Repeats g second d rise → first +ℚ second +ℚ d ≤ℚ from
@@ -141,7 +138,7 @@ pub convolution_repeats : (f g : SpecCurve) (d from rise : ℚ) (c : SpecCurve) 
 convolution_repeats f g d from rise c h C so else same W (inl l) t n =
     let e = else (λ k. lt_both l k) in
     let E = C.enough.first l in
-    slower_repeats (value_at f) (value_at g) (steady f) (steady g) d (rise_over f d) from c h C.some (are_rising f g d C.first C.second C.left C.right C.some l) C.late E.least E.values
+    slower_repeats (value_at f) (value_at g) (steady f) (steady g) d (rise_over f d) from c h C.some (are_rising f g d C.first C.second C.left C.right C.some l) C.late E.least E.value
     (subst (λ r. HasValues c (repeated h from d r)) e same) W t n
   where
     lt_both : rate f <ₑ rate g → rate g <ₑ rate f → ⊥
@@ -159,5 +156,5 @@ convolution_repeats f g d from rise c h C so else same W (inr (inr l)) t n =
     let y = steady g in
     other_way (value_at g) (value_at f) t (value_at c t)
     (slower_repeats (value_at g) (value_at f) (steady g) (steady f) d (rise_over g d) from c h C.some (are_rising g f d C.second C.first C.right C.left C.some l)
-    (with4 x y d from (λ c. omega (arith, c.le, c.lt, c.same))) E.least E.values (subst (λ r. HasValues c (repeated h from d r)) (so l) same)
+    (with4 x y d from (λ c. omega (arith, c.le, c.lt, c.same))) E.least E.value (subst (λ r. HasValues c (repeated h from d r)) (so l) same)
     (λ u a b. other_way (value_at f) (value_at g) u (h u) (W u a b)) t n)

@@ -5,16 +5,18 @@ use Rattle.rational.specs.Rational.{ℚ, ◌+ℚ◌, ◌≤ℚ◌, ◌<ℚ◌, i
 use Rattle.rational.specs.Grid.{Whole}
 use Rattle.rational.specs.Extended.{Ext, ◌<ₑ◌}
 use Rattle.upp_curve.specs.Curve.{SpecCurve, value_at}
+use Rattle.upp_curve.specs.Convolution.{IsConvolution}
 use Rattle.upp_curve.specs.Steady.{steady, rate, IsWholePeriods}
 use Rattle.upp_curve.specs.Periods.{periods_after}
 use Rattle.upp_curve.specs.Windows.{IsLateLeastFor, IsSlowerLateLeast, IsLeast}
 use Rattle.curve_parts.specs.Parts.{IsPart, FirstLate}
 use Rattle.curve_parts.specs.Scans.{sizes_in, IsScan}
 
--- on [from, from + d) the part in which `slow` repeats has the least sums, and it has values
+-- on [from, from + d) the part in which `slow` repeats has the least sums, and its value is that of the convolution
 pub record IsLateIn (slow fast : SpecCurve) (from d : ℚ) : Type 0 where
   pub least : IsLateLeastFor slow fast from d
-  pub values : (t : ℚ) → from ≤ℚ t → t <ℚ from +ℚ d → (v : Ext) × IsPart (value_at slow) (value_at fast) (FirstLate (steady slow)) t v
+  pub value : (t : ℚ) → from ≤ℚ t → t <ℚ from +ℚ d → (v : Ext) → IsConvolution (value_at slow) (value_at fast) t v
+      → IsPart (value_at slow) (value_at fast) (FirstLate (steady slow)) t v
 
 -- so of the slower of two curves; of equal rates nothing is asked
 pub record IsSlowerLate (f g : SpecCurve) (from d : ℚ) : Type 0 where

@@ -180,7 +180,8 @@ pub(crate) fn point_at(x: Frac, at: Ext) -> Option<Element>
     }
 }
 
-fn until_time(next: Option<Frac>) -> Ext
+/// The time at which a line ends; infinity where it has no end.
+pub(crate) fn until_time(next: Option<Frac>) -> Ext
     ensures { result ≡ until_time next }
 {
     match next {

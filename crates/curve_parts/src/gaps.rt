@@ -1,12 +1,10 @@
 //! By how much the part of a convolution in which the first curve repeats is above the part before.
 
-ghost use Rattle.std.specs.Prelude.{◌≡◌};
-ghost use Rattle.rational.specs.Rational.{ℚ, ◌-ℚ◌, ◌<ℚ◌, neg_ℚ};
+ghost use Rattle.std.specs.Prelude.{◌≡◌, pos, Some, None, IfSome};
+ghost use Rattle.rational.specs.Rational.{ℚ, ◌-ℚ◌, ◌<ℚ◌, int};
 ghost use Rattle.rational.specs.MinMax.{max_q};
 ghost use Rattle.rational.specs.Extended.{Ext};
-ghost use Rattle.affine_segment.specs.Values.{line_value};
 ghost use Rattle.upp_curve.specs.Curve.{value_at};
-ghost use Rattle.upp_curve.specs.Readable.{LineFitsAt};
 ghost use Rattle.upp_curve.specs.Limits.{Sizes};
 ghost use Rattle.upp_curve.specs.Ahead.{GoesOn};
 ghost use Rattle.curve_least.specs.Gaps.{InWindow, IsGap};
@@ -14,27 +12,18 @@ ghost use Rattle.curve_least.specs.GapSteps.{gap_of, larger, DifferenceFits, IsU
 ghost use Rattle.curve_conv.specs.ElementRoom.{WindowTime};
 ghost use Rattle.curve_parts.specs.PartGaps.{PartGapStands, SumTimeTo, ArePartValues, HavePartValues};
 ghost use Rattle.curve_parts.specs.Scans.{sizes_in, IsScan};
+ghost use Rattle.curve_parts.specs.SpanElements.{IsPartWindow};
 ghost use Rattle.curve_parts.specs.Stretches.{SumStretch, SumTimeIn};
 
 use crate::lower::is_less;
-use crate::parts::part;
+use crate::made::part_at;
+use crate::pieces::line_value;
 use crate::rows::{Scan, difference};
-use affine_segment::{Line, value};
+use affine_segment::Piece;
 use curve_least::Gap;
 use fraction128::{Ext, Frac};
 use rational::Extended;
 use upp_curve::Stretch;
-
-// The value at t of a line that may be missing.
-fn line_value(line: &Option<Line>, t: Frac) -> Ext
-    requires { LineFitsAt t line.now }
-    ensures { result ≡ line_value line.now t }
-{
-    match line {
-        None => Extended::Inf,
-        Some(l) => Extended::Fin(value(l, t).unwrap()),
-    }
-}
 
 // By how much a is above b.
 fn gap_of(a: Ext, b: Ext) -> Gap
@@ -97,9 +86,21 @@ fn stretch_gap(f: &Stretch, g: &Stretch, t: Frac, end: Frac) -> Gap
 }
 
 /// By how much, from `from` to the end of the window, the splits of which the first side is `first` or later make more than those of
-/// which it is before, and the second is `second` or later. No memory is taken.
-pub(crate) fn part_gap(s: &Scan, first: Frac, second: Frac, from: Frac) -> Gap
+/// which it is before, and the second is `second` or later. Each of both parts is read from its pieces, where they are made, or else
+/// found by a scan at each time. No memory is taken.
+pub(crate) fn part_gap(
+    s: &Scan,
+    made_late: &Option<Vec<Piece>>,
+    made_soon: &Option<Vec<Piece>>,
+    first: Frac,
+    second: Frac,
+    from: Frac,
+) -> Gap
     requires scan { IsScan s.now.first.now s.now.second.now s.now.end }
+    requires late { IfSome made_late.now (λ v. IsPartWindow (sizes_in s.now.first.now s.now.second.now s.now.end) s.now.end (value_at s.now.first.now)
+        (value_at s.now.second.now) first None (int (pos 0)) v.items) }
+    requires soon { IfSome made_soon.now (λ v. IsPartWindow (sizes_in s.now.first.now s.now.second.now s.now.end) s.now.end (value_at s.now.first.now)
+        (value_at s.now.second.now) (int (pos 0)) (Some first) second v.items) }
     requires first { WindowTime (sizes_in s.now.first.now s.now.second.now s.now.end) s.now.end first }
     requires second { WindowTime (sizes_in s.now.first.now s.now.second.now s.now.end) s.now.end second }
     requires from { WindowTime (sizes_in s.now.first.now s.now.second.now s.now.end) s.now.end from }
@@ -113,8 +114,8 @@ pub(crate) fn part_gap(s: &Scan, first: Frac, second: Frac, from: Frac) -> Gap
     let mut gap = Gap::NoTime;
     let mut t = from;
     'times: while is_less(t, s.end) {
-        let late = part(s, first, &None, zero, t);
-        let soon = part(s, zero, &until, second, t);
+        let late = part_at(s, made_late, first, &None, zero, t);
+        let soon = part_at(s, made_soon, zero, &until, second, t);
         let next = earlier(earlier(s.end, &late.next), &soon.next);
         let more = stretch_gap(&late, &soon, t, next);
         gap = larger(gap, more);

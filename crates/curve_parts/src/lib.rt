@@ -5,9 +5,11 @@
 mod elements;
 mod gaps;
 mod lower;
+mod made;
 mod number;
 mod order;
 mod parts;
+mod pieces;
 mod rows;
 
 pub use order::{is_slower_curve, late_periods};

@@ -9,10 +9,12 @@ ghost use Rattle.curve_parts.specs.Late.{IsLateAfter, IsLateNumber, IsLateCall};
 
 use crate::gaps::part_gap;
 use crate::lower::is_less;
+use crate::made::made_part;
 use crate::rows::{Scan, difference};
 use curve_frame::rise_over;
 use curve_least::Gap;
 use fraction128::Frac;
+use std::alloc::Global;
 
 /// a / b.
 fn quotient(a: Frac, b: Frac) -> Frac
@@ -45,8 +47,11 @@ fn least_over(gap: Frac, lead: Frac) -> u128
 
 /// The least number k of periods after `from` after which, for a period, no split of which the first side is before the time `first` from
 /// which on the slower curve repeats makes less than those of which it is later; none where there is no such number. `second` is the
-/// time from which on the faster curve repeats. No memory is taken.
+/// time from which on the faster curve repeats. It is 0 at once where `first` is 0. Else both
+/// parts are made in memory, where there are few enough pairs of pieces; where there are more, or memory is refused, they are
+/// scanned.
 pub(crate) fn late_number(
+    alloc: Global,
     s: &Scan,
     first: Frac,
     second: Frac,
@@ -59,7 +64,14 @@ pub(crate) fn late_number(
     ensures { MatchOption result ((k : ℕ) → ¬ (IsLateAfter s.now.first.now s.now.second.now from period k))
         (IsLateNumber s.now.first.now s.now.second.now from period) }
 {
-    match part_gap(s, first, second, from) {
+    let zero = Frac::zero();
+    if !is_less(zero, first) {
+        return Some(0);
+    }
+    let until = Some(first);
+    let made_late = made_part(alloc, s, first, &None, zero);
+    let made_soon = made_part(alloc, s, zero, &until, second);
+    match part_gap(s, &made_late, &made_soon, first, second, from) {
         Gap::NoTime => Some(0),
         Gap::Never => None,
         Gap::Is(gap) => Some(least_over(gap, lead(s, from, period))),

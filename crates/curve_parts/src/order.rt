@@ -11,6 +11,7 @@ use crate::rows::Scan;
 use curve_frame::steady_time;
 use curve_least::{Side, is_slower};
 use fraction128::Frac;
+use std::alloc::Global;
 use upp_curve::Curve;
 
 // From when on a curve repeats.
@@ -31,8 +32,15 @@ pub fn is_slower_curve(f: &Curve, g: &Curve) -> bool
 /// The least number k of periods after `from` after which, for a period, the convolution of two curves is the part in which the slower
 /// one repeats; none where there is no such number, and 0 for curves of one rate. `from` is one common period after the sum of the times
 /// from which on the curves repeat, and `end` is a period later. Both curves' numbers up to `end` have the sizes of a gauge below 2^120.
-/// No memory is taken, and nothing is unrolled.
-pub fn late_periods(f: &Curve, g: &Curve, from: Frac, period: Frac, end: Frac) -> Option<u128>
+/// Where memory is refused, or the pairs of pieces are many, it is found without any; it may take long then.
+pub fn late_periods(
+    alloc: Global,
+    f: &Curve,
+    g: &Curve,
+    from: Frac,
+    period: Frac,
+    end: Frac,
+) -> Option<u128>
     requires { IsPartsCall f.now g.now from period end }
     ensures { MatchOption result ((k : ℕ) → ¬ (IsSlowerAfter f.now g.now from period k)) (IsSlowerNumber f.now g.now from period) }
 {
@@ -44,7 +52,7 @@ pub fn late_periods(f: &Curve, g: &Curve, from: Frac, period: Frac, end: Frac) -
             second: g,
             end,
         };
-        return late_number(&s, first, second, from, period);
+        return late_number(alloc, &s, first, second, from, period);
     }
     if is_slower_curve(g, f) {
         let s = Scan {
@@ -52,7 +60,7 @@ pub fn late_periods(f: &Curve, g: &Curve, from: Frac, period: Frac, end: Frac) -
             second: f,
             end,
         };
-        return late_number(&s, second, first, from, period);
+        return late_number(alloc, &s, second, first, from, period);
     }
     Some(0)
 }

@@ -18,8 +18,8 @@ use affine_segment::Element;
 use fraction128::Frac;
 use upp_curve::{Stretch, stretch_at};
 
-// The first of two times that may be missing, where it is there.
-fn or_else(next: Option<Frac>, until: &Option<Frac>) -> Option<Frac>
+/// The first of two times that may be missing, where it is there.
+pub(crate) fn or_else(next: Option<Frac>, until: &Option<Frac>) -> Option<Frac>
     ensures { result ≡ or_else next until.now }
 {
     match next {
@@ -28,8 +28,8 @@ fn or_else(next: Option<Frac>, until: &Option<Frac>) -> Option<Frac>
     }
 }
 
-// The earlier of a time and one that may be missing.
-fn limit_of(room: Frac, until: &Option<Frac>) -> Frac
+/// The earlier of a time and one that may be missing.
+pub(crate) fn limit_of(room: Frac, until: &Option<Frac>) -> Frac
     ensures { IsLimit room until.now result }
 {
     match until {

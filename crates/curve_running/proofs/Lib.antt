@@ -19,3 +19,4 @@ pub mod Fronts
 pub mod InfimumRuns
 pub mod FirstWindows
 pub mod Dips
+pub mod FiniteRuns

@@ -43,7 +43,8 @@ fn supremum_within(alloc: Global, f: &Curve, k: u128, frame: &Frame) -> Result<C
     requires nonneg { IsNonnegative (value_at f.now) }
     requires number { IsNumberOf f.now k }
     requires frame { IsFrame RunSup f.now f.now k 0 frame.now }
-    ensures { IfOk result (RunsUpTo f.now) }
+    ensures value { IfOk result (RunsUpTo f.now) }
+    ensures finite { IfOk result (λ c. IsFinite (value_at c)) }
 {
     let pieces = f.unrolled(frame.end)?;
     let scanned = supremum_scan(alloc, &pieces, frame.end)?;
@@ -66,6 +67,7 @@ fn supremum_after(alloc: Global, f: &Curve, k: u128) -> Result<Curve, OpFault>
     requires nonneg { IsNonnegative (value_at f.now) }
     requires number { IsNumberOf f.now k }
     ensures value { IfOk result (RunsUpTo f.now) }
+    ensures finite { IfOk result (λ c. IsFinite (value_at c)) }
     ensures limits { KeepsLimits RunSup f.now f.now result }
 {
     let frame = within(&OpKind::RunSup, f, f, k)?;
@@ -73,13 +75,15 @@ fn supremum_after(alloc: Global, f: &Curve, k: u128) -> Result<Curve, OpFault>
 }
 
 /// The supremum of a curve over the times from 0 to each time, for a curve that is finite and nowhere below 0 (Le
-/// Boudec and Thiran, chapter 3). A limit that the curve does not take counts. One step is counted. Refused with
-/// TooWide or TooMany exactly where the call's gauge or tally is over that limit, else only for want of memory.
+/// Boudec and Thiran, chapter 3). A limit that the curve does not take counts. The answer is finite. One step is counted.
+/// Refused with TooWide or TooMany exactly where the call's gauge or tally is over that limit, else only for want of
+/// memory.
 pub fn run_sup<L: Ledger>(alloc: Global, f: &Curve, steps: &mut Steps<L>) -> Result<Curve, OpFault>
     requires finite { IsFinite (value_at f.now) }
     requires nonneg { IsNonnegative (value_at f.now) }
     ensures count { steps.new ≡ steps.old + 1 }
     ensures value { IfOk result (RunsUpTo f.now) }
+    ensures finite { IfOk result (λ c. IsFinite (value_at c)) }
     ensures limits { KeepsLimits RunSup f.now f.now result }
 {
     steps.tick();

@@ -8,6 +8,7 @@ use Rattle.rational.specs.declared.Extended.TheVariants.{Fin}
 use Rattle.upp_curve.specs.declared.op_kind.OpKind.TheVariants.{Scale, PosMinus}
 use Rattle.upp_curve.specs.declared.op_kind.OpFault.{OpFault}
 use Rattle.upp_curve.specs.Curve.{SpecCurve, value_at}
+use Rattle.upp_curve.specs.Curves.{IsCurve}
 use Rattle.upp_curve.specs.Functions.{IsFinite}
 use Rattle.upp_curve.specs.Pointwise.{excess, scaled}
 use Rattle.curve_making.specs.Answers.{IsMadeBy}
@@ -35,6 +36,10 @@ pub service_is : (β c : SpecCurve) (quanta longest : List ℕ) (i : ℕ) → Ma
 service_is β c quanta longest i (goes_on d first second) t p =
     second.made.answers t p ∙ ap (λ (v : Ext). excess v (Fin (owed_in quanta longest i))) (first.made.answers t p)
 service_is β c quanta longest i (stops fault a b) t p = absurd (let e : Ok c ≡ Err fault = b in cc)
+
+pub made_curve : (β c : SpecCurve) (quanta longest : List ℕ) (i : ℕ) → MakesDrr β quanta longest i (Ok c) → IsCurve c
+made_curve β c quanta longest i (goes_on d first second) = second.made.curve
+made_curve β c quanta longest i (stops fault a b) = absurd (let e : Ok c ≡ Err fault = b in cc)
 
 pub ok_service : (β : SpecCurve) (quanta longest : List ℕ) (i : ℕ) (r : Result SpecCurve OpFault) → MakesDrr β quanta
     longest i r

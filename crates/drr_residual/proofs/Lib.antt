@@ -5,3 +5,4 @@ pub mod Shares
 pub mod DrrLaw
 pub mod DrrCalls
 pub mod Numbers
+pub mod DrrGrowth

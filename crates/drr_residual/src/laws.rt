@@ -1,4 +1,5 @@
 ghost use Rattle.drr_residual.specs.Calls.{DrrCurveServes, DrrIsDetermined};
+ghost use Rattle.drr_residual.specs.Growth.{DrrServiceGrows, DrrCurveGrows};
 ghost use Rattle.drr_residual.specs.Laws.{DrrServes};
 
 /// A queue of a deficit round robin server is served by its share.
@@ -14,4 +15,11 @@ pub fn drr_curve_serves()
 /// What `drr_service` answers is determined: the curve, or the limit of the first operator that is over one.
 pub fn drr_is_determined()
     ensures { DrrIsDetermined }
+{}
+
+/// Where a service is finite, is 0 at 0 and never falls, so is a queue's share of it, less what is owed, and the curve
+/// that `drr_service` answers; neither is anywhere below 0.
+pub fn drr_service_grows()
+    ensures service { DrrServiceGrows }
+    ensures curve { DrrCurveGrows }
 {}

@@ -7,5 +7,5 @@ mod service;
 mod tests;
 mod turn;
 
-pub use laws::{drr_curve_serves, drr_is_determined, drr_serves};
+pub use laws::{drr_curve_serves, drr_is_determined, drr_serves, drr_service_grows};
 pub use service::drr_service;

@@ -1,3 +1,4 @@
 pub mod FifoLaw
 pub mod FifoCurves
 pub mod TestStarts
+pub mod FifoGrowth

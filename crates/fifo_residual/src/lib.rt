@@ -3,6 +3,7 @@
 
 ghost use Rattle.fifo_residual.specs.Laws.{FifoServes};
 ghost use Rattle.fifo_residual.specs.Curves.{FifoCurveServes};
+ghost use Rattle.fifo_residual.specs.Growth.{FifoServiceGrows, FifoCurveGrows};
 
 mod service;
 #[cfg(test)]
@@ -18,4 +19,11 @@ pub fn fifo_serves()
 /// The curve that `fifo_service` answers serves the flow, in every lawful view.
 pub fn fifo_curve_serves()
     ensures { FifoCurveServes }
+{}
+
+/// What first in, first out leaves of a finite service is finite, is 0 at 0, never falls and is nowhere below 0,
+/// whatever the others' curve and theta; and so is the curve that `fifo_service` answers.
+pub fn fifo_service_grows()
+    ensures service { FifoServiceGrows }
+    ensures curve { FifoCurveGrows }
 {}

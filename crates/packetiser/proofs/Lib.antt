@@ -1,1 +1,2 @@
 pub mod PacketLaw
+pub mod PacketGrowth

@@ -6,5 +6,5 @@ mod service;
 #[cfg(test)]
 mod tests;
 
-pub use laws::packet_curve_serves;
+pub use laws::{packet_curve_serves, packet_service_grows};
 pub use service::packetised;

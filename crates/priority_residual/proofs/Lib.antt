@@ -1,2 +1,3 @@
 pub mod PriorityCalls
 pub mod PriorityLaw
+pub mod PriorityGrowth

@@ -1,38 +1,28 @@
 -- What the three calls make: a finite curve that is nowhere below 0, its running supremum, and so the service of a
 -- priority queue.
 use Rattle.std.specs.Prelude.{◌≡◌, ℕ, Result, Ok, Err, IfOk}
-use Rattle.std.proofs.Common.{sym, ap, ◌∙◌, refl, subst}
-use Rattle.rational.specs.Rational.{ℚ, ◌-ℚ◌, ◌≤ℚ◌}
-use Rattle.rational.specs.MinMax.{max_q}
+use Rattle.std.proofs.Common.{sym, ap, ◌∙◌, subst}
+use Rattle.rational.specs.Rational.{ℚ, ◌≤ℚ◌}
 use Rattle.rational.specs.Extended.{Ext, ◌≤ₑ◌}
-use Rattle.rational.specs.declared.Extended.TheVariants.{Fin, Inf}
+use Rattle.rational.specs.declared.Extended.TheVariants.{Fin}
 use Rattle.rational.proofs.Bounds.{same_supremum}
 use Rattle.rational.proofs.ExtendedOrder.{same_le_ext}
-use Rattle.rational.proofs.Laws.{le_refl}
-use Rattle.rational.proofs.MinMax.{max_q_ge_left}
 use Rattle.upp_curve.specs.declared.op_kind.OpKind.TheVariants.{PosDiff, PosMinus, RunSup}
 use Rattle.upp_curve.specs.declared.op_kind.OpFault.{OpFault}
 use Rattle.upp_curve.specs.Curve.{SpecCurve, value_at}
+use Rattle.upp_curve.specs.Curves.{IsCurve}
 use Rattle.upp_curve.specs.Functions.{zero_q, UpTo, IsFinite, IsNonnegative}
 use Rattle.upp_curve.specs.Pointwise.{excess}
 use Rattle.run_laws.specs.Cards.{whole}
 use Rattle.curve_making.specs.Answers.{IsMadeBy}
 use Rattle.curve_making.specs.Calls.{Applies, AppliesTo, goes_on, stops}
+use Rattle.curve_making.proofs.Excesses.{finite_excess, excess_nonneg}
 use Rattle.curve_making.proofs.InTurn.{applies_determined, then_determined}
 use Rattle.priority_residual.specs.Calls.{LeavesPriority, MakesPriority, PriorityCurveServes, PriorityIsDetermined}
 use Rattle.priority_residual.specs.Laws.{priority_left, IsPriorityService}
 use Rattle.priority_residual.proofs.PriorityLaw.{priority_serves}
 
 -- ---- excesses
-finite_excess : (v w : Ext) (x : ℚ) → v ≡ Fin x → (level : ℚ) × (excess v w ≡ Fin level)
-finite_excess v Inf x e = (zero_q, refl)
-finite_excess v (Fin y) x e = (max_q zero_q (x -ℚ y), ap (λ z. excess z (Fin y)) e)
-
-excess_nonneg : (v w : Ext) → Fin zero_q ≤ₑ excess v w
-excess_nonneg v Inf = le_refl zero_q
-excess_nonneg Inf (Fin y) = tt
-excess_nonneg (Fin x) (Fin y) = max_q_ge_left zero_q (x -ℚ y)
-
 pub difference_finite : (f g d : SpecCurve) → IsFinite (value_at f) → IsMadeBy PosDiff f g d → IsFinite (value_at d)
 difference_finite f g d finite made t p =
     let level = finite t p in
@@ -78,6 +68,10 @@ service_is β higher c lower (goes_on left first second) t p =
     (λ s. (s, same_le_ext (sym (left_is β higher left lower first s.at s.nonneg))))
     (second.made.answers t p)
 service_is β higher c lower (stops fault a b) t p = absurd (let e : Ok c ≡ Err fault = b in cc)
+
+pub made_curve : (β higher c : SpecCurve) (lower : ℕ) → MakesPriority β higher lower (Ok c) → IsCurve c
+made_curve β higher c lower (goes_on left first second) = second.made.curve
+made_curve β higher c lower (stops fault a b) = absurd (let e : Ok c ≡ Err fault = b in cc)
 
 pub ok_service : (β higher : SpecCurve) (lower : ℕ) (r : Result SpecCurve OpFault) → MakesPriority β higher lower r
     → IfOk r (λ c. IsPriorityService (value_at β) (value_at higher) lower (value_at c))

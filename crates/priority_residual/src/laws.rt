@@ -1,4 +1,5 @@
 ghost use Rattle.priority_residual.specs.Calls.{PriorityCurveServes, PriorityIsDetermined};
+ghost use Rattle.priority_residual.specs.Growth.{PriorityServiceGrows, PriorityCurveGrows};
 ghost use Rattle.priority_residual.specs.Laws.{PriorityServes};
 
 /// A queue of a priority server is served by what the queues before it leave, less one packet of those after it.
@@ -14,4 +15,12 @@ pub fn priority_curve_serves()
 /// What `priority_service` answers is determined: the curve, or the limit of the first operator that is over one.
 pub fn priority_is_determined()
     ensures { PriorityIsDetermined }
+{}
+
+/// Where a service is finite, is 0 at 0 and never falls, so is what the queues before a queue and one packet of those
+/// after it leave, and the curve that `priority_service` answers; neither is anywhere below 0. The curve of the queues
+/// before it is nowhere below 0.
+pub fn priority_service_grows()
+    ensures service { PriorityServiceGrows }
+    ensures curve { PriorityCurveGrows }
 {}

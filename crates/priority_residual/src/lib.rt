@@ -6,5 +6,7 @@ mod service;
 #[cfg(test)]
 mod tests;
 
-pub use laws::{priority_curve_serves, priority_is_determined, priority_serves};
+pub use laws::{
+    priority_curve_serves, priority_is_determined, priority_serves, priority_service_grows,
+};
 pub use service::priority_service;

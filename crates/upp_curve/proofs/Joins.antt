@@ -36,7 +36,7 @@ unfolding read
 read_is p ps t = refl
 
 -- ---- from pieces that join
-plain_continuous : (ps : List Piece) (f : ℚ → Ext) → StartsAtZero ps → ((t : ℚ) → zero_q ≤ℚ t → read ps t ≡ f t) → PiecesJoin None ps → IsRising f → IsContinuous f
+pub plain_continuous : (ps : List Piece) (f : ℚ → Ext) → StartsAtZero ps → ((t : ℚ) → zero_q ≤ℚ t → read ps t ≡ f t) → PiecesJoin None ps → IsRising f → IsContinuous f
 plain_continuous [] f h same join rise = absurd h
 plain_continuous (p ∷ ps) f h same join rise =
     let S = steepest (p ∷ ps) in
@@ -50,7 +50,7 @@ each_at_most : (x : ℚ) (ps : List Piece) → Each (λ z. z.x <ℚ x) ps → Ea
 each_at_most x [] h = tt
 each_at_most x (p ∷ ps) h = (le_of_lt h.0, each_at_most x ps h.1)
 
-periodic_continuous : (ps : List Piece) (r d c : ℚ) → StartsAtZero ps → FitsPeriod ps r d → PiecesJoin (Some (period_end ps r d c)) ps → IsRising (repeated (read ps) r d c) → IsContinuous (repeated (read ps) r d c)
+pub periodic_continuous : (ps : List Piece) (r d c : ℚ) → StartsAtZero ps → FitsPeriod ps r d → PiecesJoin (Some (period_end ps r d c)) ps → IsRising (repeated (read ps) r d c) → IsContinuous (repeated (read ps) r d c)
 periodic_continuous [] r d c h fits join rise = absurd h
 periodic_continuous (p ∷ ps) r d c h fits join rise =
     let S = steepest (p ∷ ps) in
@@ -198,7 +198,7 @@ each_free : (ps : List Piece) → Each (λ z. IsBefore z.x None) ps
 each_free [] = tt
 each_free (p ∷ ps) = (tt, each_free ps)
 
-plain_joins : (ps : List Piece) (f : ℚ → Ext) → StartsAtZero ps → ((t : ℚ) → zero_q ≤ℚ t → read ps t ≡ f t) → PiecesRise None ps → IsContinuous f → PiecesJoin None ps
+pub plain_joins : (ps : List Piece) (f : ℚ → Ext) → StartsAtZero ps → ((t : ℚ) → zero_q ≤ℚ t → read ps t ≡ f t) → PiecesRise None ps → IsContinuous f → PiecesJoin None ps
 plain_joins [] f h same rise smooth = absurd h
 plain_joins (p ∷ ps) f h same rise smooth =
     all_join f None p ps record {
@@ -210,7 +210,7 @@ plain_joins (p ∷ ps) f h same rise smooth =
       smooth = smooth;
     } rise
 
-periodic_joins : (ps : List Piece) (r d c : ℚ) → StartsAtZero ps → FitsPeriod ps r d → PiecesRise (Some (period_end ps r d c)) ps → IsContinuous (repeated (read ps) r d c) → PiecesJoin (Some (period_end ps r d c)) ps
+pub periodic_joins : (ps : List Piece) (r d c : ℚ) → StartsAtZero ps → FitsPeriod ps r d → PiecesRise (Some (period_end ps r d c)) ps → IsContinuous (repeated (read ps) r d c) → PiecesJoin (Some (period_end ps r d c)) ps
 periodic_joins [] r d c h fits rise smooth = absurd h
 periodic_joins (p ∷ ps) r d c h fits rise smooth =
     all_join (repeated (read (p ∷ ps)) r d c) (Some (period_end (p ∷ ps) r d c)) p ps record {

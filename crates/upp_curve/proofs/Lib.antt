@@ -13,6 +13,7 @@ pub mod Unrolled
 pub mod Below
 pub mod Crossing
 pub mod Unambiguous
+pub mod DeviationSigns
 pub mod KindValues
 pub mod ReadableKinds
 pub mod BucketDelay
@@ -99,3 +100,7 @@ pub mod Joins
 pub mod AnswerRoom
 pub mod UnrolledCounts
 pub mod SamePieces
+pub mod NextStarts
+pub mod LimitTests
+pub mod Repeating
+pub mod UnrolledReads

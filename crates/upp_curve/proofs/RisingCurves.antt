@@ -41,14 +41,14 @@ each_at_most x [] h = tt
 each_at_most x (p ∷ ps) h = (le_of_lt h.0, each_at_most x ps h.1)
 
 -- ---- without a period
-plain_rises : (ps : List Piece) (f : ℚ → Ext) → StartsAtZero ps → ((t : ℚ) → int (pos 0) ≤ℚ t → read ps t ≡ f t) → PiecesRise None ps → IsRising f
+pub plain_rises : (ps : List Piece) (f : ℚ → Ext) → StartsAtZero ps → ((t : ℚ) → int (pos 0) ≤ℚ t → read ps t ≡ f t) → PiecesRise None ps → IsRising f
 plain_rises [] f h same rise s t low up = absurd h
 plain_rises (p ∷ ps) f h same rise s t low up =
     let start = le_trans low up in
     rw (← same s low, ← same t start, read_is p ps s, read_is p ps t)
     (list_rises None p ps s t h.1 rise (subst (λ x. x ≤ℚ s) (sym h.0) low) up)
 
-plain_pieces : (ps : List Piece) (f : ℚ → Ext) → StartsAtZero ps → ((t : ℚ) → int (pos 0) ≤ℚ t → read ps t ≡ f t) → IsRising f → PiecesRise None ps
+pub plain_pieces : (ps : List Piece) (f : ℚ → Ext) → StartsAtZero ps → ((t : ℚ) → int (pos 0) ≤ℚ t → read ps t ≡ f t) → IsRising f → PiecesRise None ps
 plain_pieces [] f h same rise = absurd h
 plain_pieces (p ∷ ps) f h same rise =
     pieces_rise None p ps record {
@@ -80,7 +80,7 @@ plain_finite_pieces (p ∷ ps) f h same finite =
 abbrev pub period_end : List Piece → (rank period rise : ℚ) → End
 period_end ps r d c = record { x = r +ℚ d; at = read ps r +ₑ Fin c }
 
-periodic_rises : (ps : List Piece) (r d c : ℚ) → StartsAtZero ps → FitsPeriod ps r d → PiecesRise (Some (period_end ps r d c)) ps → IsRising (repeated (read ps) r d c)
+pub periodic_rises : (ps : List Piece) (r d c : ℚ) → StartsAtZero ps → FitsPeriod ps r d → PiecesRise (Some (period_end ps r d c)) ps → IsRising (repeated (read ps) r d c)
 periodic_rises [] r d c h fits rise = absurd h
 periodic_rises (p ∷ ps) r d c h fits rise =
     repeated_rises (read (p ∷ ps)) r d c fits.nonneg fits.some
@@ -88,7 +88,7 @@ periodic_rises (p ∷ ps) r d c h fits rise =
     (λ s low l. rw (read_is p ps s)
     (list_ends (period_end (p ∷ ps) r d c) p ps s h.1 rise (each_at_most (r +ℚ d) ps fits.starts.1) (subst (λ x. x ≤ℚ s) (sym h.0) low) (le_of_lt l)))
 
-periodic_pieces : (ps : List Piece) (r d c : ℚ) → StartsAtZero ps → FitsPeriod ps r d → IsRising (repeated (read ps) r d c) → PiecesRise (Some (period_end ps r d c)) ps
+pub periodic_pieces : (ps : List Piece) (r d c : ℚ) → StartsAtZero ps → FitsPeriod ps r d → IsRising (repeated (read ps) r d c) → PiecesRise (Some (period_end ps r d c)) ps
 periodic_pieces [] r d c h fits rise = absurd h
 periodic_pieces (p ∷ ps) r d c h fits rise =
     pieces_rise (Some (period_end (p ∷ ps) r d c)) p ps record {

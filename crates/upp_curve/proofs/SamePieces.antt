@@ -18,7 +18,7 @@ use Rattle.upp_curve.specs.declared.curve.Tail.{Tail}
 use Rattle.upp_curve.specs.declared.curve.Tail.TheVariants.{Periodic, Affine, Infinite}
 use Rattle.upp_curve.specs.Curve.{SpecCurve}
 use Rattle.upp_curve.specs.Normal.{Each, IsNormal, RisesFrom}
-use Rattle.upp_curve.specs.PieceLaws.{PiecesAreCounted, SpansAreUnrolled}
+use Rattle.upp_curve.specs.PieceLaws.{HaveSamePieces, PiecesAreCounted}
 use Rattle.upp_curve.specs.Spans.{Span, copies_of, end_of, number_below, once, once_below, piece_read, span_below, spans, spans_below, start_after}
 use Rattle.upp_curve.specs.Unrolled.{copies, copies_below, each_later, from, later, unroll, unrolled, upto}
 use Rattle.upp_curve.proofs.Copies.{copies_in, every_copy}
@@ -77,7 +77,7 @@ none_before P x y (p ∷ ps) l r =
     let k : x ≤ℚ p.x = le_trans l (le_of_lt r.0) in
     (λ h. absurd (lt_irrefl x (le_lt_trans k h)), none_before P x p.x ps k r.1)
 
-each_whole : (P : Piece → Type 0) (x y : ℚ) (ps : List Piece) → RisesFrom y ps → Each P (upto x ps) → Each (λ p. p.x <ℚ x → P p) ps
+pub each_whole : (P : Piece → Type 0) (x y : ℚ) (ps : List Piece) → RisesFrom y ps → Each P (upto x ps) → Each (λ p. p.x <ℚ x → P p) ps
 each_whole P x y [] r h = tt
 each_whole P x y (p ∷ ps) r h = elim (le_or_lt x p.x) [
   | inl k ↦ (λ l. absurd (lt_irrefl x (le_lt_trans k l)), none_before P x p.x ps k r.1)
@@ -135,7 +135,7 @@ is_made rank d end x n some late early = elim (cases_lt n (suc (periods rank d e
       absurd (lt_irrefl end inside)
 ]
 
-periodic_given : (P : Piece → Type 0) (ps : List Piece) (rank d c end : ℚ) → IsNormal record { pieces = ps; tail = Periodic rank d c }
+pub periodic_given : (P : Piece → Type 0) (ps : List Piece) (rank d c end : ℚ) → IsNormal record { pieces = ps; tail = Periodic rank d c }
     → Each P (unrolled ps (Periodic rank d c) end) → Each (IsGiven P rank d c end) ps
 periodic_given P ps rank d c end n h =
     let k = periods rank d end in
@@ -154,7 +154,7 @@ periodic_given P ps rank d c end n h =
     each_with (λ p. p.x <ℚ rank → Q p) (λ p. rank ≤ℚ p.x → (m : ℕ) → m < suc k → R m p) (IsGiven P rank d c end)
     (λ p b t. record { once = b; again = λ l m f. t l m (is_made rank d end p.x m some l f) f }) ps before turns
 
-once_in : (Q : Span → Type 0) (end : ℚ) (s : Span) → (s.piece.x <ℚ end → Q s) → AllByRecursion Q (once_below end s)
+pub once_in : (Q : Span → Type 0) (end : ℚ) (s : Span) → (s.piece.x <ℚ end → Q s) → AllByRecursion Q (once_below end s)
 once_in Q end s f = elim (le_or_lt end s.piece.x) [
   | inl l ↦ subst (λ b. AllByRecursion Q (cond b (s ∷ []) [])) (sym (lt_q_not s.piece.x end l)) tt
   | inr l ↦ subst (λ b. AllByRecursion Q (cond b (s ∷ []) [])) (sym (lt_q_out s.piece.x end l)) (f l, tt)
@@ -204,12 +204,12 @@ each_span P c end n h = every_flat (λ s. P s.piece) (span_below c.tail end) (sp
 one_later : (p : Piece) (ps : List Piece) (q : Piece) (k : ℕ) → k < length ps → get_or ps k q ≡ q → Contains (p ∷ ps) q
 one_later p ps q k l e = (suc k, omega arith, e)
 
-each_contained : (ps : List Piece) → Each (Contains ps) ps
+pub each_contained : (ps : List Piece) → Each (Contains ps) ps
 each_contained [] = tt
 each_contained (p ∷ ps) =
     ((0, omega arith, refl), each_map (Contains ps) (Contains (p ∷ ps)) (λ q h. one_later p ps q h.0 h.1 h.2) ps (each_contained ps))
 
-each_at : (P : Piece → Type 0) (ps : List Piece) (x : Piece) → Each P ps → Contains ps x → P x
+pub each_at : (P : Piece → Type 0) (ps : List Piece) (x : Piece) → Each P ps → Contains ps x → P x
 each_at P [] x h (k, l, e) = absurd (omega arith)
 each_at P (p ∷ ps) x h (zero, l, e) = subst P e h.0
 each_at P (p ∷ ps) x h (suc k, l, e) = each_at P ps x h.1 (k, omega arith, e)
@@ -226,8 +226,8 @@ each_every P (p ∷ ps) h = (h.0, each_every P ps h.1)
 pub pieces_are_counted : PiecesAreCounted
 pieces_are_counted = λ c end raw. count_is_length c end raw
 
-pub spans_are_unrolled : SpansAreUnrolled
-spans_are_unrolled = λ c end n.
+pub same_pieces : (c : SpecCurve) (end : ℚ) → IsNormal c → HaveSamePieces (unroll c end) (map (λ s. s.piece) (spans_below c end))
+same_pieces c end n =
     let ps = unroll c end in
     let ss = spans_below c end in
     let qs = map (λ (s : Span). s.piece) ss in

@@ -178,7 +178,7 @@ pub each_copy_of : (Q : Piece → Type 0) (d c : ℚ) (ps : List Piece) (n : ℕ
 each_copy_of Q d c ps n f =
     each_map (λ p. Q (later (int (pos 0) *ℚ d) (int (pos 0) *ℚ c) p)) Q (λ p h. subst Q (no_later d c p) h) (copies n d c ps) (each_copy Q d c ps n 0 f)
 
-periodic_each : (P : Piece → Type 0) (ps : List Piece) (rank d c end : ℚ) → StartsAtZero ps → Each (IsGiven P rank d c end) ps
+pub periodic_each : (P : Piece → Type 0) (ps : List Piece) (rank d c end : ℚ) → StartsAtZero ps → Each (IsGiven P rank d c end) ps
     → Each P (upto end (upto rank ps ++ copies (suc (periods rank d end)) d c (from rank ps)))
 periodic_each P ps rank d c end at0 h =
     let Q = λ (p : Piece). p.x <ℚ end → P p in

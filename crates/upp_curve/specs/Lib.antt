@@ -12,6 +12,7 @@ pub mod Pointwise
 pub mod Running
 pub mod Convolution
 pub mod Deviations
+pub mod DeviationSigns
 pub mod Kinds
 pub mod Service
 pub mod BucketBounds
@@ -41,7 +42,10 @@ pub mod CallNumbers
 pub mod Unrolling
 pub mod Ahead
 pub mod Copied
+pub mod LimitTest
 pub mod OwnLimits
+pub mod Repeating
+pub mod GaugeLaws
 pub mod Bends
 pub mod Given
 pub mod Continuity

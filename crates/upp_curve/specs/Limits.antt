@@ -1,5 +1,5 @@
--- The numbers that set the limits: how many pieces a call looks at, and its gauge, which bounds the size of every
--- number on its way. All are of curves whose pieces have any size, and of a window's end H. Own choice.
+-- The numbers that set the limits: how many pieces a call looks at, and its gauge: where that is below 2 ^ 120, no step
+-- on the call's way is too wide. All are of curves whose pieces have any size, and of a window's end H. Own choice.
 use Rattle.std.specs.Prelude.{ℕ, ◌*◌, max, pos, List, [], ◌∷◌, ◌++◌, Option, Some, None, map}
 use Rattle.std.specs.List.{flat_map}
 use Rattle.rational.specs.Rational.{ℚ, ◌+ℚ◌, ◌*ℚ◌, int}

@@ -1,14 +1,13 @@
 -- When a curve by itself is over a limit. Own choice.
 use Rattle.std.specs.Prelude.{◌<◌, ◌≤◌, ◌^◌}
 use Rattle.upp_curve.specs.declared.own_limits.OverLimit.{OverLimit}
-use Rattle.upp_curve.specs.declared.own_limits.OverLimit.TheVariants.{TooMany, TooWide}
 use Rattle.upp_curve.specs.Curve.{SpecCurve}
 use Rattle.upp_curve.specs.Limits.{own_gauge, own_tally}
+use Rattle.upp_curve.specs.LimitTest.{IsPassed}
 
--- the gauge is looked at first
+-- its own gauge and its own tally are over the limit
 abbrev pub IsOver : SpecCurve → OverLimit → Type 0
-IsOver c TooWide = 2 ^ 120 ≤ own_gauge c
-IsOver c TooMany = (own_gauge c < 2 ^ 120) × (2 ^ 20 < own_tally c)
+IsOver c limit = IsPassed (own_gauge c) (own_tally c) limit
 
 pub record IsWithinOwn (c : SpecCurve) : Type 0 where
   pub narrow : own_gauge c < 2 ^ 120

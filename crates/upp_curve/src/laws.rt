@@ -2,7 +2,9 @@
 
 ghost use Rattle.upp_curve.specs.Normal.{NormalFormIsUnique};
 ghost use Rattle.upp_curve.specs.PieceLaws.{PiecesAreCounted, SpansAreUnrolled};
+ghost use Rattle.upp_curve.specs.GaugeLaws.{GaugeNeverFalls};
 ghost use Rattle.upp_curve.specs.Deviations.{DeviationsAreUnique};
+ghost use Rattle.upp_curve.specs.DeviationSigns.{HorizontalsAreNonnegative, VerticalsAreNonnegative};
 ghost use Rattle.upp_curve.specs.BucketBounds.{BucketDeviations};
 ghost use Rattle.upp_curve.specs.WorkedRows.{StairRows, GateRows, BucketRows, RateLatencyRows, MinimumRows};
 ghost use Rattle.upp_curve.specs.WorkedRows.{RunningRows, ConvolutionRows};
@@ -15,15 +17,29 @@ pub fn normal_form_is_unique()
 {}
 
 /// The number of unrolled pieces that start before a time, as a tally counts it without unrolling, is the length of the
-/// list of them; and the pieces whose numbers a gauge looks at are the same pieces.
+/// list of them. Of a curve in normal form the pieces whose numbers a gauge looks at are the same pieces, each with the
+/// start of the next one.
 pub fn unrolled_pieces_are_counted()
     ensures count { PiecesAreCounted }
     ensures spans { SpansAreUnrolled }
 {}
 
+/// The gauge of a call never falls as its window grows, where the shorter window ends on the grid of the longer one's
+/// times.
+pub fn gauge_never_falls()
+    ensures { GaugeNeverFalls }
+{}
+
 /// Two functions have one horizontal and one vertical deviation.
 pub fn deviations_are_unique()
     ensures { DeviationsAreUnique }
+{}
+
+/// A horizontal deviation of any two functions is at least 0; and so is a vertical one of a first function that at 0 is
+/// at least the second.
+pub fn deviations_are_nonnegative()
+    ensures horizontal { HorizontalsAreNonnegative }
+    ensures vertical { VerticalsAreNonnegative }
 {}
 
 /// The delay and the backlog of a token bucket at a rate after a latency, by their formulas.

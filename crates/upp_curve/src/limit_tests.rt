@@ -9,7 +9,7 @@ use std::alloc::{AllocError, Global};
 use std::process::Abort;
 use std::test::Fail;
 
-fn ratio(num: i128, den: i128) -> Frac {
+pub(crate) fn ratio(num: i128, den: i128) -> Frac {
     match Frac::new(num, den) {
         Ok(f) => f,
         Err(_) => Frac::zero(),
@@ -44,9 +44,9 @@ fn repeated(
     normalise(raw)
 }
 
-// 1/2 at 0 and 1 + 4/3 t after it; each 3/2 later it is 5/7 higher.
-fn teeth(rt: &impl Abort, alloc: Global) -> Result<Curve, OpFault> {
-    match first(alloc, ratio(1, 2), whole(1), ratio(4, 3)) {
+// 1/2 at 0 and 1 + 5/4 t after it; each 3/2 later it is 5/7 higher.
+pub(crate) fn teeth(rt: &impl Abort, alloc: Global) -> Result<Curve, OpFault> {
+    match first(alloc, ratio(1, 2), whole(1), ratio(5, 4)) {
         Ok(pieces) => repeated(rt, pieces, ratio(3, 2), ratio(5, 7)),
         Err(_) => Err(OpFault::NoMemory),
     }
@@ -61,15 +61,15 @@ fn stair(rt: &impl Abort, alloc: Global) -> Result<Curve, OpFault> {
 }
 
 // Below 3 the pieces of `teeth` start at 0 and 3/2. The times 3, 0 and 3/2 have the denominator 2. The values 1/2 and
-// 17/14 at starts, 1 and 12/7 after them, 3 and 26/7 before the next ones, and the rise 5/7 have the denominator 14.
-// The slope 4/3 has the denominator 3, and twice its size is at most 3. No value is above 3 times 3. So the gauge is
-// 64 * 9 * 3 * 14 * 2 * 3 * 3.
+// 17/14 at starts, 1 and 12/7 after them and the rise 5/7 have the denominator 14; with 23/8 and 201/56 just before the
+// next starts it is 56. The slope 5/4 has the denominator 4, and twice its size is at most 3. No value is above 3 times
+// 3. So the gauge is 64 * 9 * 3 * 56 * 2 * 4 * 4.
 #[test]
 fn gauge_of_teeth(rt: HostRuntime) -> Result<(), Fail> {
     let f = teeth(&rt, rt.alloc())?;
     assert_eq!(rt;
         gauge(OpKind::Itself, &f, &f, Some(whole(3))),
-        Some(435_456)
+        Some(3_096_576)
     );
     assert_eq!(rt; gauge(OpKind::Itself, &f, &f, None), None);
     Ok(())
@@ -108,7 +108,7 @@ fn rate(c: &Curve) -> Option<Frac> {
     }
 }
 
-// `teeth` fall from 3 to 17/14 at 3/2; a stair jumps; t from 0 to 1, repeated 1 higher, does neither.
+// `teeth` fall from 23/8 to 17/14 at 3/2; a stair jumps; t from 0 to 1, repeated 1 higher, does neither.
 #[test]
 fn shapes_of_repeated_curves(rt: HostRuntime) -> Result<(), Fail> {
     let alloc = rt.alloc();

@@ -62,9 +62,9 @@ fn gauge_over(op: &OpKind, f: &Curve, g: &Curve, end: Frac) -> Option<u128>
     }
 }
 
-/// The gauge of a call within a window: no number on the way to its answer has a numerator or a denominator of many
-/// more digits. None where it is 2^128 or more; also without a window. 0 where the answer is known at once. No memory
-/// is taken. For a horizontal deviation it is that of the operator for curves that rise, as `tally` says.
+/// The gauge of a call within a window: where it is below 2^120, no step on the way to the call's answer is too wide.
+/// None where it is 2^128 or more; also without a window. 0 where the answer is known at once. No memory is taken. For
+/// a horizontal deviation it is that of the operator for curves that rise, as `tally` says.
 pub fn gauge(op: OpKind, f: &Curve, g: &Curve, window: Window) -> Option<u128>
     ensures known { IsKnownAtOnce op f.now g.now → result ≡ Some 0 }
     ensures none { ¬ (IsKnownAtOnce op f.now g.now) → window ≡ None → result ≡ None }

@@ -35,7 +35,7 @@ fn levels(alloc: Global, rows: &[(i128, i128)]) -> Result<Vec<Piece>, AllocError
 }
 
 // A value at 0, and a line after it.
-fn start(alloc: Global, at: Ext, line: Option<Line>) -> Result<Vec<Piece>, AllocError> {
+pub(crate) fn start(alloc: Global, at: Ext, line: Option<Line>) -> Result<Vec<Piece>, AllocError> {
     let mut pieces = Vec::new(alloc);
     pieces.push(Piece {
         x: Frac::zero(),
@@ -53,14 +53,14 @@ fn periodic(parts: (i128, i128, i128)) -> Tail {
     }
 }
 
-fn normal(rt: &impl Abort, pieces: Vec<Piece>, tail: Tail) -> Result<Curve, OpFault> {
+pub(crate) fn normal(rt: &impl Abort, pieces: Vec<Piece>, tail: Tail) -> Result<Curve, OpFault> {
     let raw = RawCurve { pieces, tail };
     assert!(rt; raw.is_raw());
     normalise(raw)
 }
 
 // A packet at 0 and every second time.
-fn stair(rt: &impl Abort, alloc: Global) -> Result<Curve, OpFault> {
+pub(crate) fn stair(rt: &impl Abort, alloc: Global) -> Result<Curve, OpFault> {
     match levels(alloc, [(0, 1)].as_slice()) {
         Ok(pieces) => normal(rt, pieces, periodic((0, 2, 1))),
         Err(_) => Err(OpFault::NoMemory),

@@ -10,14 +10,13 @@ ghost use Rattle.upp_curve.specs.Normalising.{HasValues, IsTwoPeriods, IsTurning
 ghost use Rattle.upp_curve.specs.Normalising.{TailOnGrids, cycle_values, raw_curve};
 ghost use Rattle.upp_curve.specs.Room.{Room, PiecesHaveRoom, TwoHaveRoom, CycleHasRoom, TurnHasRoom, TailHasRoom};
 
-use crate::counts::count_below;
 use crate::curve::{Curve, Tail};
 use crate::cycle::{Cycle, Shape, shape_of};
 use crate::least_period::least_period;
 use crate::lowest_rank::lowest_rank;
 use crate::merging::merged;
 use crate::op_kind::OpFault;
-use crate::own_window::own_numbers;
+use crate::own_limits::own_within;
 use crate::two_periods::{ended, two_periods};
 use affine_segment::Piece;
 use fraction128::Frac;
@@ -168,15 +167,7 @@ pub fn normalise(raw: RawCurve) -> Result<Curve, OpFault>
     ensures inside { own_gauge (raw_curve raw) < 2 ^ 120 → own_tally (raw_curve raw) ≤ 2 ^ 20
         → IfErr result (λ e. e ≡ OpFault.NoMemory) }
 {
-    let Some(own) = own_numbers(&raw.pieces, &raw.tail) else {
-        return Err(OpFault::TooWide);
-    };
-    if own.gauge >= 1 << 120 {
-        return Err(OpFault::TooWide);
-    }
-    if count_below(&raw.pieces, &raw.tail, own.end) > 1 << 20 {
-        return Err(OpFault::TooMany);
-    }
+    let own = own_within(&raw.pieces, &raw.tail)?;
     let alloc = *raw.pieces.allocator();
     Ok(normalise_on(alloc, &raw, own.times, own.values)?)
 }

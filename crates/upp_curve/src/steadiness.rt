@@ -4,16 +4,19 @@ ghost use Rattle.std.specs.Prelude.{◌≡◌, pos, IfNone, IfSome, IsSome};
 ghost use Rattle.rational.specs.Rational.{◌+ℚ◌, int};
 ghost use Rattle.rational.specs.Ratio.{SumFits};
 ghost use Rattle.upp_curve.specs.Steady.{rank_of, steady};
+ghost use Rattle.upp_curve.specs.Repeating.{RepeatsFrom};
 
 use crate::curve::{Curve, Tail};
 use crate::own_window::{is_infinite_at, keeps_line, later_unless};
 use fraction128::Frac;
 
 /// From when on a curve repeats with each of its periods: its rank; 1 later where the value at the rank of an affine
-/// tail is not its line's, or that of an infinite tail is finite. None exactly where that is rank + 1 and does not fit;
-/// so never for a periodic tail.
+/// tail is not its line's, or that of an infinite tail is finite. From then on the value any whole number of periods
+/// later is higher by what the tail rises over them. None exactly where that time is rank + 1 and does not fit; so
+/// never for a periodic tail.
 pub fn steady_time(c: &Curve) -> Option<Frac>
     ensures value { IfSome result (λ t. t ≡ steady c.now) }
+    ensures repeats { IfSome result (RepeatsFrom c.now) }
     ensures fits { SumFits (rank_of c.now.tail) (int (pos 1)) → IsSome result }
     ensures none { IfNone result ((steady c.now ≡ rank_of c.now.tail +ℚ int (pos 1))
         × ¬ (SumFits (rank_of c.now.tail) (int (pos 1)))) }

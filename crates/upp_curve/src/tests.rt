@@ -34,7 +34,7 @@ fn bucket(alloc: Global, burst: Frac, rate: Frac) -> Result<Curve, AllocError>
     Ok(Curve::from_normal(pieces, Tail::Affine { rank: Frac::zero() }))
 }
 
-fn value(c: &Curve, t: Frac) -> Result<Option<Frac>, Wide> {
+pub(crate) fn value(c: &Curve, t: Frac) -> Result<Option<Frac>, Wide> {
     match t.cmp(&Frac::zero()) {
         Ordering::Less => Ok(None),
         _ => match c.value_at(t)? {

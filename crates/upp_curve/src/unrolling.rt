@@ -1,8 +1,10 @@
 //! The pieces of a curve that start before a time, its periods written out.
 
 ghost use Rattle.std.specs.Prelude.{◌≡◌, ◌<◌, ◌≤◌, ◌^◌, ◌++◌, [], length, pos, OnOk, IfOk, IfErr, Err};
-ghost use Rattle.rational.specs.Rational.{ℚ, int, ◌*ℚ◌, ◌≤ℚ◌};
+ghost use Rattle.rational.specs.Rational.{ℚ, int, ◌*ℚ◌, ◌≤ℚ◌, ◌<ℚ◌};
 ghost use Rattle.upp_curve.specs.declared.curve.Tail.TheVariants.{Periodic};
+ghost use Rattle.upp_curve.specs.Reading.{read};
+ghost use Rattle.upp_curve.specs.Curve.{value_at};
 ghost use Rattle.upp_curve.specs.Normal.{StartsAtZero, FitsPeriod};
 ghost use Rattle.upp_curve.specs.Unrolled.{each_later, from, unroll, unrolled, upto};
 ghost use Rattle.upp_curve.specs.Gauges.{gauge_over, tally_over};
@@ -13,6 +15,7 @@ use crate::fitting::{difference, later, product};
 use crate::least_period::turn_of;
 use crate::limits::{gauge, tally};
 use crate::op_kind::{OpFault, OpKind};
+use crate::own_limits::within_limits;
 use crate::start_counts;
 use crate::starts::is_less;
 use crate::two_periods::count_before;
@@ -99,12 +102,13 @@ impl Curve {
         }
     }
 
-    /// The pieces that start before h, its periods written out; none where h is 0 or less. They are as many as the
-    /// tally of the curve by itself counts below h. Refused with TooWide exactly where the gauge of the curve for a
-    /// window that ends at h is 2^120 or more, and with TooMany exactly where that is not so and more than 2^20 pieces
-    /// start before h.
+    /// The pieces that start before h, its periods written out; none where h is 0 or less. From 0 on and before h they
+    /// have the curve's values. They are as many as the tally of the curve by itself counts below h. Refused with
+    /// TooWide exactly where the gauge of the curve for a window that ends at h is 2^120 or more, and with TooMany
+    /// exactly where that is not so and more than 2^20 pieces start before h.
     pub fn pieces_to(&self, h: Frac) -> Result<Vec<Piece>, OpFault>
         ensures pieces { IfOk result (λ v. v.items ≡ unroll self.now h) }
+        ensures reads { IfOk result (λ v. (t : ℚ) → int (pos 0) ≤ℚ t → t <ℚ h → read v.items t ≡ value_at self.now t) }
         ensures number { IfOk result (λ v. length v.items ≡ tally_over OpKind.Itself self.now self.now h) }
         ensures none { h ≤ℚ int (pos 0) → IfOk result (λ v. v.items ≡ []) }
         ensures wide { 2 ^ 120 ≤ gauge_over OpKind.Itself self.now self.now h → result ≡ Err OpFault.TooWide }
@@ -118,12 +122,7 @@ impl Curve {
         let Some(size) = gauge(OpKind::Itself, self, self, Some(h)) else {
             return Err(OpFault::TooWide);
         };
-        if size >= 1 << 120 {
-            return Err(OpFault::TooWide);
-        }
-        if tally(OpKind::Itself, self, self, Some(h)) > 1 << 20 {
-            return Err(OpFault::TooMany);
-        }
+        within_limits(size, tally(OpKind::Itself, self, self, Some(h)))?;
         let alloc = self.allocator();
         if is_less(h, Frac::zero()) {
             return Ok(Vec::new(alloc));

@@ -1,5 +1,5 @@
-use Rattle.std.specs.Prelude.{◌≡◌, pos}
-use Rattle.std.proofs.Common.{sym, subst}
+use Rattle.std.specs.Prelude.{◌≡◌, pos, Some, None, IfSome}
+use Rattle.std.proofs.Common.{sym, subst, true≢false}
 use Rattle.rational.specs.Rational.{ℚ, ◌/ℚ◌, ◌≤ℚ◌, ◌<ℚ◌, ◌*ℚ◌, int}
 use Rattle.rational.specs.Ratio.{IsSmall}
 use Rattle.upp_curve.specs.Curve.{SpecCurve, value_at}
@@ -11,8 +11,9 @@ use Rattle.curve_least.specs.declared.gaps.Gap.{Gap}
 use Rattle.curve_least.specs.Gaps.{InWindow, IsGap}
 use Rattle.curve_parts.specs.PartGaps.{PartGapStands, ArePartValues, HavePartValues}
 use Rattle.curve_parts.specs.Scans.{sizes_in}
+use Rattle.curve_parts.specs.SpanElements.{IsPartWindow}
 use Rattle.curve_parts.proofs.LateShifts.{values_are}
-use Rattle.curve_parts.proofs.LateNumbers.{Values, late_of, soon_of, late_times, some_lead, quotient_fits, number_none, number_endless, number_gap}
+use Rattle.curve_parts.proofs.LateNumbers.{Values, late_of, soon_of, late_times, some_lead, none_early, zero_time, end_some, quotient_fits, number_none, number_endless, number_gap}
 use Rattle.curve_parts.proofs.number.late_number.Goals as goal
 
 pub part_gap-requires-clause-first : goal.part_gap-requires-clause-first
@@ -75,11 +76,61 @@ returns-in-Never c =
     (gap_at s.first.now s.second.now c.args.first c.args.second c.args.from s.end c.part_gap.result c.requires.first c.requires.second c.part_gap.ensures.gap V) in
     number_endless s.first.now s.second.now c.args.from c.args.period s.end c.requires.call V G
 
-pub returns-in-Is : goal.returns-in-Is
-returns-in-Is c =
+pub returns : goal.returns
+returns c =
     let s = c.args.s.now in
     let V = values_at s.first.now s.second.now c.args.first c.args.second c.args.from s.end c.requires.first c.requires.second c.part_gap.ensures.values in
     let G = subst (λ x. IsGap (InWindow c.args.from s.end) (late_of s.first.now s.second.now c.args.from s.end V) (soon_of s.first.now s.second.now c.args.from s.end V) x) c.in-Is.is
     (gap_at s.first.now s.second.now c.args.first c.args.second c.args.from s.end c.part_gap.result c.requires.first c.requires.second c.part_gap.ensures.gap V) in
     number_gap s.first.now s.second.now c.args.from c.args.period s.end c.in-Is.gap c.least_over.result c.requires.call V G
     (subst (λ y. IsLeast (λ k. c.in-Is.gap ≤ℚ int (pos k) *ℚ y) c.least_over.result) c.lead.ensures c.least_over.ensures)
+
+pub returns-then-not-is_less : goal.returns-then-not-is_less
+returns-then-not-is_less c =
+    none_early c.args.s.now.first.now c.args.s.now.second.now c.args.from c.args.period
+    (λ h. true≢false (sym (c.if-not-is_less.ensures.1 (subst (λ y. y <ℚ c.args.first) (sym c.zero-zero.ensures) (subst (λ x. int (pos 0) <ℚ x) (sym c.requires.first) h)))))
+
+-- ---- both parts in memory
+pub made_part-made_late-requires-clause-from : goal.made_part-made_late-requires-clause-from
+made_part-made_late-requires-clause-from c =
+    let s = c.args.s.now in
+    subst (WindowTime (sizes_in s.first.now s.second.now s.end) s.end) (sym c.requires.first) (late_times s.first.now s.second.now c.args.from c.args.period s.end c.requires.call).first
+
+pub made_part-made_late-requires-clause-low : goal.made_part-made_late-requires-clause-low
+made_part-made_late-requires-clause-low c =
+    let s = c.args.s.now in
+    subst (WindowTime (sizes_in s.first.now s.second.now s.end) s.end) (sym c.zero-zero.ensures) (zero_time s.first.now s.second.now c.args.from c.args.period s.end c.requires.call)
+
+pub made_part-made_late-requires-clause-some : goal.made_part-made_late-requires-clause-some
+made_part-made_late-requires-clause-some c = let s = c.args.s.now in end_some s.first.now s.second.now c.args.from c.args.period s.end c.requires.call
+
+pub made_part-made_soon-requires-clause-from : goal.made_part-made_soon-requires-clause-from
+made_part-made_soon-requires-clause-from c =
+    let s = c.args.s.now in
+    subst (WindowTime (sizes_in s.first.now s.second.now s.end) s.end) (sym c.zero-zero.ensures) (zero_time s.first.now s.second.now c.args.from c.args.period s.end c.requires.call)
+
+pub made_part-made_soon-requires-clause-until : goal.made_part-made_soon-requires-clause-until
+made_part-made_soon-requires-clause-until c =
+    let s = c.args.s.now in
+    subst (WindowTime (sizes_in s.first.now s.second.now s.end) s.end) (sym c.requires.first) (late_times s.first.now s.second.now c.args.from c.args.period s.end c.requires.call).first
+
+pub made_part-made_soon-requires-clause-low : goal.made_part-made_soon-requires-clause-low
+made_part-made_soon-requires-clause-low c =
+    let s = c.args.s.now in
+    subst (WindowTime (sizes_in s.first.now s.second.now s.end) s.end) (sym c.requires.second) (late_times s.first.now s.second.now c.args.from c.args.period s.end c.requires.call).second
+
+pub made_part-made_soon-requires-clause-some : goal.made_part-made_soon-requires-clause-some
+made_part-made_soon-requires-clause-some c = let s = c.args.s.now in end_some s.first.now s.second.now c.args.from c.args.period s.end c.requires.call
+
+pub part_gap-requires-clause-late : goal.part_gap-requires-clause-late
+part_gap-requires-clause-late c =
+    let s = c.args.s.now in
+    let z = sizes_in s.first.now s.second.now s.end in
+    subst (λ y. IfSome c.made_part-made_late.result (λ v. IsPartWindow z s.end (value_at s.first.now) (value_at s.second.now) c.args.first None y v.items)) c.zero-zero.ensures c.made_part-made_late.ensures
+
+pub part_gap-requires-clause-soon : goal.part_gap-requires-clause-soon
+part_gap-requires-clause-soon c =
+    let s = c.args.s.now in
+    let z = sizes_in s.first.now s.second.now s.end in
+    subst (λ y. IfSome c.made_part-made_soon.result (λ v. IsPartWindow z s.end (value_at s.first.now) (value_at s.second.now) y (Some c.args.first) c.args.second v.items)) c.zero-zero.ensures
+    c.made_part-made_soon.ensures

@@ -1,6 +1,7 @@
 use Rattle.std.proofs.lemmas.Result.{err_from_is_err_and}
 use Rattle.upp_curve.specs.declared.op_kind.OpKind.TheVariants.{RunInf}
 use Rattle.curve_frame.proofs.Limited.{within_at_least, refused_cause, run_inf_least}
+use Rattle.curve_running.proofs.FiniteRuns.{infimum_finite}
 use Rattle.curve_running.proofs.infimum_curve.infimum_of.Goals as goal
 
 pub returns-in_err-frame-clause-limits : goal.returns-in_err-frame-clause-limits
@@ -21,3 +22,6 @@ returns-clause-limits c =
     let f = c.args.f.now in
     let r = c.in_ok-frame.ensures.frame in
     within_at_least RunInf f f 0 0 (run_inf_least f f) r.gauge r.tally
+
+pub returns-clause-finite : goal.returns-clause-finite
+returns-clause-finite c = infimum_finite c.args.f.now _ c.requires.finite c.in_ok-infimum_within.ensures

@@ -1,13 +1,16 @@
+use Rattle.std.specs.Prelude.{true}
 use Rattle.std.proofs.Common.{◌∙◌, sym, subst}
 use Rattle.upp_curve.specs.declared.op_kind.OpKind.TheVariants.{RunSup}
 use Rattle.upp_curve.specs.Reading.{read}
-use Rattle.upp_curve.specs.Curve.{repeated}
+use Rattle.upp_curve.specs.Curve.{value_at, repeated}
+use Rattle.upp_curve.specs.Functions.{IsFinite}
 use Rattle.upp_curve.specs.Normalising.{HasValues}
 use Rattle.curve_frame.specs.Frames.{sizes_at}
 use Rattle.curve_window.proofs.Results.{ok_map}
 use Rattle.curve_running.specs.Scans.{IsWindow, ScanFits}
 use Rattle.curve_running.specs.Runs.{RunsUpTo}
 use Rattle.curve_running.proofs.RunFacts.{sup_facts, operand_to, run_window, run_fits, run_rise, difference_fits}
+use Rattle.curve_running.proofs.FiniteRuns.{scan_finite}
 use Rattle.curve_running.proofs.SupremumRuns.{sup_answer, sup_value}
 use Rattle.curve_running.proofs.supremum_curve.supremum_within.Goals as goal
 
@@ -48,8 +51,8 @@ answer-requires c =
     sup_answer c.args.f.now c.args.k c.args.frame.now c.difference-from.result c.rise_over-rise.result c.deref.result.now c.in_ok-scanned.scanned.items c.requires.frame
     c.difference-from.ensures c.rise_over-rise.ensures (c.deref.ensures.value ∙ c.in_ok-pieces.ensures) c.in_ok-scanned.ensures
 
-pub returns : goal.returns
-returns c =
+pub returns-clause-value : goal.returns-clause-value
+returns-clause-value c =
     let f = c.args.f.now in
     let r = c.args.frame.now in
     let qs = c.in_ok-scanned.scanned.items in
@@ -60,3 +63,12 @@ returns c =
     sup_value f c.args.k r from rise c.deref.result.now qs a c.requires.finite c.requires.nonneg c.requires.number c.requires.frame c.difference-from.ensures
     c.rise_over-rise.ensures
     (c.deref.ensures.value ∙ c.in_ok-pieces.ensures) c.in_ok-scanned.ensures v) c.answer.ensures
+
+pub returns-clause-finite : goal.returns-clause-finite
+returns-clause-finite c =
+    let qs = c.in_ok-scanned.scanned.items in
+    let d = c.args.frame.now.period in
+    let from = c.difference-from.result in
+    let rise = c.rise_over-rise.result in
+    ok_map c.answer.result (λ a. HasValues a (repeated (read qs) from d rise)) (λ a. IsFinite (value_at a))
+    (λ a v. scan_finite true c.deref.result.now qs c.args.frame.now.end from d rise a c.in_ok-scanned.ensures.scan v) c.answer.ensures

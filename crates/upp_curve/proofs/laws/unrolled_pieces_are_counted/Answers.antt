@@ -1,4 +1,5 @@
-use Rattle.upp_curve.proofs.SamePieces.{pieces_are_counted, spans_are_unrolled}
+use Rattle.upp_curve.proofs.NextStarts.{spans_are_unrolled}
+use Rattle.upp_curve.proofs.SamePieces.{pieces_are_counted}
 use Rattle.upp_curve.proofs.laws.unrolled_pieces_are_counted.Goals as goal
 
 pub returns-clause-count : goal.returns-clause-count

@@ -2,6 +2,7 @@ use Rattle.std.proofs.Common.{◌≡◌, ◌∙◌, sym, subst, ap}
 use Rattle.std.specs.Option.{IfSome}
 use Rattle.upp_curve.specs.Steady.{later_unless, rank_of}
 use Rattle.upp_curve.proofs.SteadyStart.{IsLast, periodic_steady, affine_steady, infinite_steady, affine_line, steady_none, not_answered}
+use Rattle.upp_curve.proofs.Repeating.{repeats_at, repeats_if}
 use Rattle.upp_curve.proofs.steadiness.steady_time.Goals as goal
 
 pub returns-in-Periodic-clause-value : goal.returns-in-Periodic-clause-value
@@ -45,3 +46,12 @@ returns-in-Infinite-clause-none c =
     let e = infinite_steady c.args.c.now c.pieces-pieces.result.now c.index-pieces-pieces.result c.in-Infinite.rank c.tail.ensures.kept last tail in
     steady_none c.later_unless-in-Infinite.result c.args.c.now c.is_infinite_at.result c.in-Infinite.rank (ap rank_of tail)
     (ap (λ b. later_unless b c.in-Infinite.rank) c.is_infinite_at.ensures ∙ e) c.later_unless-in-Infinite.ensures.none
+
+pub returns-in-Periodic-clause-repeats : goal.returns-in-Periodic-clause-repeats
+returns-in-Periodic-clause-repeats c = repeats_at c.args.c.now c.in-Periodic.rank c.tail.ensures.kept (returns-in-Periodic-clause-value c)
+
+pub returns-in-Some-clause-repeats : goal.returns-in-Some-clause-repeats
+returns-in-Some-clause-repeats c = repeats_if c.args.c.now c.later_unless.result c.tail.ensures.kept (returns-in-Some-clause-value c)
+
+pub returns-in-Infinite-clause-repeats : goal.returns-in-Infinite-clause-repeats
+returns-in-Infinite-clause-repeats c = repeats_if c.args.c.now c.later_unless-in-Infinite.result c.tail.ensures.kept (returns-in-Infinite-clause-value c)

@@ -7,6 +7,7 @@ use Rattle.upp_curve.proofs.Compared.{not_less_out}
 use Rattle.upp_curve.proofs.GaugeRises.{first_operand}
 use Rattle.upp_curve.proofs.UnrolledPieces.{unroll_none}
 use Rattle.upp_curve.proofs.UnrolledCounts.{number_of}
+use Rattle.upp_curve.proofs.UnrolledReads.{reads_below}
 use Rattle.upp_curve.proofs.curve.Curve.pieces_to.Goals as goal
 
 pub returns-then-is_less-clause-pieces : goal.returns-then-is_less-clause-pieces
@@ -22,7 +23,7 @@ unrolled-requires c =
     let h = c.args.h in
     let late : int (pos 0) ≤ℚ h = subst (λ x. x ≤ℚ h) c.zero.ensures (not_less_out c.is_less.result h c.zero.result c.is_less.ensures.less c.if-is_less.false) in
     let size : c.in-Some.size ≡ gauge_over Itself f f h = c.in-Some.ensures.exact h (λ k. k) refl in
-    let small : gauge_over Itself f f h < 2 ^ 120 = omega arith in
+    let small : gauge_over Itself f f h < 2 ^ 120 = omega (arith, c.in_ok-within_limits.ensures.narrow) in
     first_operand Itself f f h late small
 
 pub returns-clause-none : goal.returns-clause-none
@@ -39,3 +40,9 @@ returns-then-is_less-clause-number c =
 pub returns-clause-number : goal.returns-clause-number
 returns-clause-number c =
     number_of c.args.self.now c.args.h c.in_ok-unrolled.field-0.items c.allocator-alloc.ensures.normal c.in_ok-unrolled.ensures
+
+pub returns-then-is_less-clause-reads : goal.returns-then-is_less-clause-reads
+returns-then-is_less-clause-reads c = reads_below c.args.self.now c.args.h c.new.result.items c.allocator-alloc.ensures.normal (returns-then-is_less-clause-pieces c)
+
+pub returns-clause-reads : goal.returns-clause-reads
+returns-clause-reads c = reads_below c.args.self.now c.args.h c.in_ok-unrolled.field-0.items c.allocator-alloc.ensures.normal c.in_ok-unrolled.ensures

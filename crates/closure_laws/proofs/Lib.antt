@@ -1,0 +1,5 @@
+pub mod TimeLists
+pub mod StarSums
+pub mod CopiedParts
+pub mod KeptShapes
+pub mod ElementSums

@@ -1,0 +1,3 @@
+pub mod Star
+pub mod ClosureLaws
+pub mod ElementClosures

@@ -1,0 +1,13 @@
+pub mod Reduced
+pub mod Slower
+pub mod Mirrored
+pub mod PairSplits
+pub mod MirroredRoom
+pub mod Pairs
+pub mod MarkTimes
+pub mod MarkWindows
+pub mod Raised
+pub mod MovedGrids
+pub mod Moved
+pub mod DeconvolveCall
+pub mod Kept

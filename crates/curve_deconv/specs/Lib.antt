@@ -1,0 +1,4 @@
+pub mod Mirrored
+pub mod Marks
+pub mod DeconvolutionWindows
+pub mod DeconvolutionLaws

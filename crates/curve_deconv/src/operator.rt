@@ -1,0 +1,124 @@
+//! The deconvolution of two curves.
+
+ghost use Rattle.std.specs.Prelude.{◌≡◌, ◌↔◌, ◌+◌, pos, IfOk, IsTrue};
+ghost use Rattle.rational.specs.Rational.{ℚ, int, ◌≤ℚ◌};
+ghost use Rattle.rational.specs.Extended.{◌<ₑ◌};
+ghost use Rattle.upp_curve.specs.Curve.{value_at};
+ghost use Rattle.upp_curve.specs.Curves.{IsCurve};
+ghost use Rattle.upp_curve.specs.Convolution.{IsDeconvolution};
+ghost use Rattle.upp_curve.specs.Functions.{IsFinite};
+ghost use Rattle.upp_curve.specs.Periods.{period_of, period_or};
+ghost use Rattle.upp_curve.specs.Steady.{rate, steady};
+ghost use Rattle.upp_curve.specs.Outcome.{KeepsLimits};
+ghost use Rattle.upp_curve.specs.declared.op_kind.OpKind.TheVariants.{Deconvolve};
+ghost use Rattle.curve_frame.specs.Frames.{IsFrame};
+ghost use Rattle.curve_frame.specs.Times.{OneLaterFits};
+
+use crate::window::window_deconvolution;
+use curve_envelope::infinite_curve;
+use curve_frame::{Frame, answer, rise_over, steady_time, within};
+use curve_least::{Side, is_slower};
+use fraction128::Frac;
+use std::alloc::{AllocError, Global};
+use std::sync::ledger::Ledger;
+use steps::Steps;
+use upp_curve::{Curve, OpFault, OpKind, Tail, difference};
+
+// From when on a curve repeats.
+fn begin(c: &Curve) -> Frac
+    requires { OneLaterFits c.now }
+    ensures { result ≡ steady c.now }
+{
+    steady_time(c).unwrap()
+}
+
+// The period of f, and `other` where it has every period.
+fn period_or(f: &Curve, other: Frac) -> Frac
+    ensures { result ≡ period_or other (period_of f.now.tail) }
+{
+    match f.tail() {
+        Tail::Periodic { period, .. } => *period,
+        Tail::Affine { .. } => other,
+        Tail::Infinite { .. } => other,
+    }
+}
+
+// The deconvolution of two curves in a call within both limits, where the first is not the faster.
+fn deconvolved_within(
+    alloc: Global,
+    f: &Curve,
+    g: &Curve,
+    frame: &Frame,
+) -> Result<Curve, AllocError>
+    requires frame { IsFrame Deconvolve f.now g.now 0 0 frame.now }
+    requires finite { IsFinite (value_at g.now) }
+    requires slow { ¬ (rate g.now <ₑ rate f.now) }
+    ensures value { IfOk result (λ c. (t : ℚ) → int (pos 0) ≤ℚ t → IsDeconvolution (value_at f.now) (value_at g.now) t (value_at c t)) }
+    ensures finite { IsFinite (value_at f.now) → IfOk result (λ c. IsFinite (value_at c)) }
+{
+    let left = f.unrolled(frame.end)?;
+    let right = g.unrolled(frame.end)?;
+    let from = begin(f);
+    let period = period_or(f, frame.period);
+    let past = difference(frame.end, from);
+    let reach = difference(past, period);
+    let pieces = window_deconvolution(alloc, &left, &right, reach, frame.end)?;
+    let rise = rise_over(f, period);
+    answer(alloc, pieces, from, period, rise, frame.times, frame.values)
+}
+
+// Whether the first curve is the faster one.
+fn is_faster(f: &Curve, g: &Curve) -> bool
+    ensures faster { IsTrue result ↔ (rate g.now <ₑ rate f.now) }
+    ensures kept { IsCurve f.now × IsCurve g.now }
+{
+    let _first = f.tail();
+    let _second = g.tail();
+    is_slower(&Side::of(g), &Side::of(f))
+}
+
+// The deconvolution where the first is the faster: infinity, whatever the sizes are.
+fn faster_answer(alloc: Global, f: &Curve, g: &Curve) -> Result<Curve, OpFault>
+    requires curves { IsCurve f.now × IsCurve g.now }
+    requires finite { IsFinite (value_at g.now) }
+    requires faster { rate g.now <ₑ rate f.now }
+    ensures value { IfOk result (λ c. (t : ℚ) → int (pos 0) ≤ℚ t → IsDeconvolution (value_at f.now) (value_at g.now) t (value_at c t)) }
+    ensures limits { KeepsLimits Deconvolve f.now g.now result }
+{
+    Ok(infinite_curve(alloc)?)
+}
+
+// The deconvolution where the first is not the faster.
+fn slower_answer(alloc: Global, f: &Curve, g: &Curve) -> Result<Curve, OpFault>
+    requires finite { IsFinite (value_at g.now) }
+    requires slow { ¬ (rate g.now <ₑ rate f.now) }
+    ensures value { IfOk result (λ c. (t : ℚ) → int (pos 0) ≤ℚ t → IsDeconvolution (value_at f.now) (value_at g.now) t (value_at c t)) }
+    ensures finite { IsFinite (value_at f.now) → IfOk result (λ c. IsFinite (value_at c)) }
+    ensures limits { KeepsLimits Deconvolve f.now g.now result }
+{
+    let frame = within(&OpKind::Deconvolve, f, g, 0)?;
+    Ok(deconvolved_within(alloc, f, g, &frame)?)
+}
+
+/// At each time t from 0 on the supremum of f(t + u) - g(u) over all u from 0 on (Le Boudec and Thiran, chapter 3); a limit that no
+/// time takes counts. g is finite. Negative values stay negative; the answer is infinite everywhere where f is the faster, and
+/// else exactly where f is infinite at t or later. So it is finite where f is finite and not the faster. One step is counted. Refused with TooWide or TooMany exactly where the call's gauge
+/// or tally is over that limit, never where f is the faster; else only for want of memory.
+pub fn deconvolve<L: Ledger>(
+    alloc: Global,
+    f: &Curve,
+    g: &Curve,
+    steps: &mut Steps<L>,
+) -> Result<Curve, OpFault>
+    requires { IsFinite (value_at g.now) }
+    ensures count { steps.new ≡ steps.old + 1 }
+    ensures value { IfOk result (λ c. (t : ℚ) → int (pos 0) ≤ℚ t → IsDeconvolution (value_at f.now) (value_at g.now) t (value_at c t)) }
+    ensures finite { IsFinite (value_at f.now) → ¬ (rate g.now <ₑ rate f.now) → IfOk result (λ c. IsFinite (value_at c)) }
+    ensures limits { KeepsLimits Deconvolve f.now g.now result }
+{
+    steps.tick();
+    if is_faster(f, g) {
+        return faster_answer(alloc, f, g);
+    }
+    slower_answer(alloc, f, g)
+}

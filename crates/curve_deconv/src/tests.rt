@@ -1,0 +1,177 @@
+//! Values worked out by hand.
+
+ghost use Rattle.std.specs.Prelude.{◌≡◌, ◌<◌};
+
+use crate::deconvolve;
+use affine_segment::{Line, Piece};
+use fraction128::{Ext, Frac};
+use rational::Extended;
+use std::alloc::Global;
+use std::cmp::Ordering;
+use std::marker::Brand;
+use std::sync::ledger::{Blank, Ledger};
+use std::test::Fail;
+use steps::Steps;
+use upp_curve::{Curve, OpFault, RawCurve, Tail, equal, normalise};
+
+fn whole(n: i128) -> Frac {
+    match Frac::new(n, 1) {
+        Ok(f) => f,
+        Err(_) => Frac::zero(),
+    }
+}
+
+fn curve(alloc: Global, list: &[Piece], tail: Tail) -> Result<Curve, OpFault> {
+    let Ok(pieces) = Vec::from_slice(alloc, list) else {
+        return Err(OpFault::NoMemory);
+    };
+    let raw = RawCurve { pieces, tail };
+    if raw.is_raw() {
+        normalise(raw)
+    } else {
+        Err(OpFault::TooMany)
+    }
+}
+
+// The pieces at 0 and at x: the first of one value and one line.
+fn piece(x: i128, at: Ext, line: Option<(i128, i128)>) -> Piece {
+    Piece {
+        x: whole(x),
+        at,
+        line: match line {
+            None => None,
+            Some((icept, slope)) => Some(Line {
+                icept: whole(icept),
+                slope: whole(slope),
+            }),
+        },
+    }
+}
+
+// 0 up to the latency, and then the rate.
+fn late(alloc: Global, rate: i128, latency: i128, icept: i128) -> Result<Curve, OpFault> {
+    let list = [
+        piece(0, Extended::Fin(Frac::zero()), Some((0, 0))),
+        piece(latency, Extended::Fin(Frac::zero()), Some((icept, rate))),
+    ];
+    curve(
+        alloc,
+        &list,
+        Tail::Affine {
+            rank: whole(latency),
+        },
+    )
+}
+
+// A burst, and then the rate.
+fn bucket(alloc: Global, burst: i128, rate: i128) -> Result<Curve, OpFault> {
+    let list = [piece(0, Extended::Fin(whole(burst)), Some((burst, rate)))];
+    curve(alloc, &list, Tail::Affine { rank: Frac::zero() })
+}
+
+// The value at a time from 0 on; nothing where it is infinite.
+fn value(c: &Curve, t: Frac) -> Option<Frac> {
+    match t.cmp(&Frac::zero()) {
+        Ordering::Less => None,
+        _ => match c.value_at(t) {
+            Ok(Extended::Fin(v)) => Some(v),
+            _ => None,
+        },
+    }
+}
+
+fn deconvolved<L: Ledger>(
+    alloc: Global,
+    blank: Blank,
+    f: &Curve,
+    g: &Curve,
+) -> Result<Curve, OpFault>
+    requires name { blank.name ≡ L.name }
+    requires parts { blank.parts ≡ L.parts }
+    requires one { 0 < blank.parts }
+{
+    let mut steps = Steps::<L>::new(blank);
+    if g.is_finite() {
+        deconvolve(alloc, f, g, &mut steps)
+    } else {
+        Err(OpFault::TooMany)
+    }
+}
+
+// A bucket through a rate with a latency: the burst grows by the rate times the latency.
+#[test]
+fn a_bucket_through_a_latency(rt: HostRuntime) -> Result<(), Fail> {
+    let f = bucket(rt.alloc(), 12000, 10)?;
+    let g = late(rt.alloc(), 100, 130, -13000)?;
+    let more = bucket(rt.alloc(), 13300, 10)?;
+    let c = deconvolved::<Brand>(rt.alloc(), Blank::new(1), &f, &g)?;
+    assert!(rt; equal(&c, &more));
+    Ok(())
+}
+
+// A stair of 4000 each 1000 through a rate of 100 after 256: 7900 at 743, just before a step, and 8000 from 744 on.
+#[test]
+fn a_stair_through_a_latency(rt: HostRuntime) -> Result<(), Fail> {
+    let list = [piece(0, Extended::Fin(whole(4000)), Some((4000, 0)))];
+    let tail = Tail::Periodic {
+        rank: Frac::zero(),
+        period: whole(1000),
+        rise: whole(4000),
+    };
+    let f = curve(rt.alloc(), &list, tail)?;
+    let g = late(rt.alloc(), 100, 256, -25600)?;
+    let c = deconvolved::<Brand>(rt.alloc(), Blank::new(1), &f, &g)?;
+    for (t, v) in [
+        (0, 4000),
+        (743, 7900),
+        (744, 8000),
+        (1743, 11900),
+        (1744, 12000),
+    ] {
+        assert!(rt; value(&c, whole(t)) == Some(whole(v)), "at {t}");
+    }
+    Ok(())
+}
+
+// Values below 0 stay, and the rates may be equal.
+#[test]
+fn buckets(rt: HostRuntime) -> Result<(), Fail> {
+    let f = bucket(rt.alloc(), 1, 1)?;
+    let g = bucket(rt.alloc(), 2, 1)?;
+    let c = deconvolved::<Brand>(rt.alloc(), Blank::new(1), &f, &g)?;
+    for (t, v) in [(0, -1), (1, 0), (2, 1)] {
+        assert!(rt; value(&c, whole(t)) == Some(whole(v)), "at {t}");
+    }
+    Ok(())
+}
+
+// The first is the faster: infinite everywhere.
+#[test]
+fn the_faster_first(rt: HostRuntime) -> Result<(), Fail> {
+    let f = bucket(rt.alloc(), 1, 2)?;
+    let g = bucket(rt.alloc(), 0, 1)?;
+    let c = deconvolved::<Brand>(rt.alloc(), Blank::new(1), &f, &g)?;
+    assert!(rt; value(&c, whole(0)).is_none());
+    assert!(rt; value(&c, whole(5)).is_none());
+    Ok(())
+}
+
+// The first is infinite between 2 and 3, and then 5: infinite up to 3, and 5 from then on.
+#[test]
+fn infinite_for_a_while(rt: HostRuntime) -> Result<(), Fail> {
+    let list = [
+        piece(0, Extended::Fin(whole(1)), Some((1, 0))),
+        piece(2, Extended::Fin(whole(1)), None),
+        piece(3, Extended::Fin(whole(5)), Some((5, 0))),
+    ];
+    let f = curve(rt.alloc(), &list, Tail::Affine { rank: whole(3) })?;
+    let g = bucket(rt.alloc(), 0, 0)?;
+    let c = deconvolved::<Brand>(rt.alloc(), Blank::new(1), &f, &g)?;
+    for t in [0, 1, 2] {
+        assert!(rt; value(&c, whole(t)).is_none(), "at {t}");
+    }
+    for t in [3, 4] {
+        assert!(rt; value(&c, whole(t)) == Some(whole(5)), "at {t}");
+    }
+    Ok(())
+}

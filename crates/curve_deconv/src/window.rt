@@ -1,0 +1,69 @@
+//! The deconvolution of two windows.
+
+ghost use Rattle.std.specs.Prelude.{IfOk};
+ghost use Rattle.curve_deconv.specs.DeconvolutionWindows.{OperandWindows, IsPairsWindow, IsRaisedWindow, IsDeconvolutionWindow};
+
+use crate::marks::{last_infinite, mark_pieces};
+use crate::mirroring::{mirrored_elements, negated_elements, negated_pieces};
+use affine_segment::Piece;
+use curve_conv::{cut, envelope};
+use curve_envelope::left_window;
+use curve_running::front_before;
+use curve_window::window_sum;
+use fraction128::Frac;
+use rational::Extended;
+use std::alloc::{AllocError, Global};
+
+// The least of g at u less f at t + u, over all u from 0 on and before `reach` at which both are finite, at `reach` after t.
+fn pairs_window(
+    alloc: Global,
+    f: &[Piece],
+    g: &[Piece],
+    reach: Frac,
+    end: Frac,
+) -> Result<Vec<Piece>, AllocError>
+    requires { OperandWindows end reach f.now g.now }
+    ensures { IfOk result (λ v. IsPairsWindow end reach f.now g.now v.items) }
+{
+    let first = cut(alloc, f, Extended::Inf)?;
+    let xs = negated_elements(alloc, &first)?;
+    let front = front_before(alloc, g, reach)?;
+    let second = cut(alloc, &front, Extended::Fin(reach))?;
+    let ys = mirrored_elements(alloc, &second, reach)?;
+    envelope(alloc, &xs, &ys, end)
+}
+
+// The same, and infinity where f is infinite at t or later.
+fn raised_window(
+    alloc: Global,
+    f: &[Piece],
+    g: &[Piece],
+    reach: Frac,
+    end: Frac,
+) -> Result<Vec<Piece>, AllocError>
+    requires { OperandWindows end reach f.now g.now }
+    ensures { IfOk result (λ v. IsRaisedWindow end reach f.now g.now v.items) }
+{
+    let pairs = pairs_window(alloc, f, g, reach, end)?;
+    let last = last_infinite(f, end);
+    let marks = mark_pieces(alloc, last, reach, end)?;
+    window_sum(alloc, &pairs, &marks)
+}
+
+/// The supremum of f at t + u less g at u over all u from 0 on and before `reach`, at each t from 0 on that is more than `reach` before
+/// `end`, as pieces; infinity where f is infinite at t or later. From the operands' unrolled pieces below `end`; g is finite. Only a
+/// lack of memory is an error.
+pub(crate) fn window_deconvolution(
+    alloc: Global,
+    f: &[Piece],
+    g: &[Piece],
+    reach: Frac,
+    end: Frac,
+) -> Result<Vec<Piece>, AllocError>
+    requires { OperandWindows end reach f.now g.now }
+    ensures { IfOk result (λ v. IsDeconvolutionWindow end reach f.now g.now v.items) }
+{
+    let raised = raised_window(alloc, f, g, reach, end)?;
+    let moved = left_window(alloc, &raised, reach)?;
+    negated_pieces(alloc, &moved)
+}

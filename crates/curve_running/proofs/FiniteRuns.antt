@@ -1,0 +1,60 @@
+-- The running bounds of a finite curve are finite: of the supremum by its pieces, of the infimum by its value.
+use Rattle.std.specs.Prelude.{◌≡◌, Bool, List, [], ◌∷◌, Option, Some}
+use Rattle.std.proofs.Common.{sym, ◌∙◌, refl, subst, inl, inr}
+use Rattle.rational.specs.Rational.{ℚ}
+use Rattle.rational.specs.Extended.{Ext, ◌≤ₑ◌}
+use Rattle.rational.specs.declared.Extended.TheVariants.{Fin, Inf}
+use Rattle.rational.proofs.Laws.{le_refl}
+use Rattle.affine_segment.specs.declared.line.Line.{Line}
+use Rattle.affine_segment.specs.declared.line.Piece.{Piece}
+use Rattle.upp_curve.specs.Reading.{read}
+use Rattle.upp_curve.specs.Curve.{SpecCurve, value_at, repeated}
+use Rattle.upp_curve.specs.Functions.{IsFinite}
+use Rattle.upp_curve.specs.Normal.{Each, StartsAtZero}
+use Rattle.upp_curve.specs.Normalising.{HasValues}
+use Rattle.upp_curve.specs.Shapes.{IsNumber, IsLine, IsFinitePiece}
+use Rattle.upp_curve.proofs.FirstStretch.{read_in}
+use Rattle.upp_curve.proofs.Finite.{level_of, number_of, read_number, repeated_number}
+use Rattle.curve_running.specs.Made.{IsMade, IsScan}
+use Rattle.curve_running.specs.Runs.{RunsFrom}
+
+-- ---- the supremum
+some_line : (line : Option Line) (l : Line) → line ≡ Some l → IsLine line
+some_line line l e = subst IsLine (sym e) tt
+
+made_finite : (end : ℚ) (ps : List Piece) (q : Piece) → IsMade end ps q → IsFinitePiece q
+made_finite end ps q m = record {
+  at = number_of q.at m.at.0 m.at.1;
+  line = elim m.line [ inl h ↦ some_line q.line h.0 h.1 | inr h ↦ some_line q.line _ h.1 ];
+}
+
+each_made_finite : (end : ℚ) (ps qs : List Piece) → Each (IsMade end ps) qs → Each IsFinitePiece qs
+each_made_finite end ps [] h = tt
+each_made_finite end ps (q ∷ qs) h = (made_finite end ps q h.0, each_made_finite end ps qs h.1)
+
+read_is : (p : Piece) (ps : List Piece) (t : ℚ) → read (p ∷ ps) t ≡ read_in p ps t
+unfolding read
+read_is p ps t = refl
+
+list_number : (qs : List Piece) (t : ℚ) → StartsAtZero qs → Each IsFinitePiece qs → IsNumber (read qs t)
+list_number [] t starts each = absurd starts
+list_number (q ∷ qs) t starts each = subst IsNumber (sym (read_is q qs t)) (read_number q qs t each)
+
+-- what repeats the pieces of a scan is finite
+pub scan_finite : (rises : Bool) (ps qs : List Piece) (end from d rise : ℚ) (c : SpecCurve) → IsScan rises ps end qs → HasValues c (repeated (read qs) from d rise)
+    → IsFinite (value_at c)
+scan_finite rises ps qs end from d rise c S V t low =
+    let found = level_of (repeated (read qs) from d rise t)
+    (repeated_number (read qs) from d rise t (λ u. list_number qs u S.starts (each_made_finite end ps qs S.made))) in
+    (found.0, V t low ∙ found.1)
+
+-- ---- the infimum
+below_number : (v : Ext) (level : ℚ) → v ≤ₑ Fin level → (x : ℚ) × (v ≡ Fin x)
+below_number Inf level h = absurd h
+below_number (Fin x) level h = (x, refl)
+
+-- it is at most the value at the time itself
+pub infimum_finite : (f c : SpecCurve) → IsFinite (value_at f) → RunsFrom f c → IsFinite (value_at c)
+infimum_finite f c finite h t low =
+    let found = finite t low in
+    below_number (value_at c t) found.0 (subst (λ (v : Ext). value_at c t ≤ₑ v) found.1 ((h t low).below record { at = t; least = le_refl t }))

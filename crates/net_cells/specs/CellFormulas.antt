@@ -1,0 +1,97 @@
+-- What each cell of a network is made of. (Le Boudec and Thiran; Bouillard, Boyer and Le Corronc: total-flow and
+-- separate-flow analysis. That the smaller of two delays, the lesser of two output curves and the smaller of the two
+-- bounds are taken, and the others' horizontal deviation from the service as theta, is our own choice.)
+use Rattle.std.specs.Prelude.{ℕ, zero, suc, ◌-◌, List, [], ◌∷◌, length, map}
+use Rattle.std.specs.List.{range_with_len}
+use Rattle.rational.specs.Rational.{ℚ}
+use Rattle.upp_curve.specs.declared.op_kind.OpKind.TheVariants.{Sum, Min, PosMinus, Convolve, Deconvolve}
+use Rattle.run_laws.specs.Cards.{whole}
+use Rattle.run_laws.specs.Servers.{Discipline, Fifo, Priority, Drr}
+use Rattle.net_model.specs.Networks.{Net}
+use Rattle.net_cells.specs.declared.cell.Cell.{Cell}
+use Rattle.net_cells.specs.declared.cell.Kind.{Kind}
+use Rattle.net_cells.specs.declared.cell.Kind.TheVariants.{In, Cross, Total, Higher, QueueService, Theta, Residual, QueueDelay, QueueBacklog, HopDelay, ShiftOut, DeconvOut, Out, PathService, Tfa, Sfa, Bound}
+use Rattle.net_cells.specs.Numbered.{path, packet, arrival, hops, server_at, queue_at, service, link, discipline}
+use Rattle.net_cells.specs.Visits.{visits_in, others, longest, longest_after}
+use Rattle.net_cells.specs.Cells.{cell_of}
+use Rattle.net_cells.specs.Order.{at_visit}
+use Rattle.net_cells.specs.Formulas.{Formula, value_of, given, empty_sum, made, made_of, moved, leftover, priority, deficit, horizontal, vertical, smaller, along, delayed}
+
+-- ---- words
+abbrev pub value : Kind → ℕ → ℕ → Formula
+value kind a b = value_of (cell_of kind a b)
+
+-- one packet of so many bits taken off a service: what that serves in whole packets
+abbrev pub less : Formula → ℕ → Formula
+less F bits = made_of (PosMinus (whole bits)) F
+
+-- cells' curves, added up from the first on; one alone is itself
+abbrev pub sum_from : Formula → List Cell → Formula
+sum_from F [] = F
+sum_from F (c ∷ cs) = sum_from (made Sum F (value_of c)) cs
+
+abbrev pub sum_of : List Cell → Formula
+sum_of [] = empty_sum
+sum_of (c ∷ cs) = sum_from (value_of c) cs
+
+-- the service of a hop's queue
+abbrev pub service_at : Net → ℕ → ℕ → Formula
+service_at net i k = value QueueService (server_at net i k) (queue_at net i k)
+
+-- ---- queues
+-- the sum of the curves of the queues before one
+abbrev pub higher : ℕ → ℕ → Formula
+higher s q = sum_of (map (cell_of Total s) (range_with_len 0 q))
+
+abbrev pub queue_service : Net → ℕ → ℕ → Discipline → Formula
+queue_service net s q Fifo = given (service net s)
+queue_service net s q (Priority n) = priority (service net s) (value Higher s q) (longest_after net s q)
+queue_service net s q (Drr quanta) =
+    deficit (service net s) quanta (map (longest net s) (range_with_len 0 (length quanta))) q
+
+-- ---- hops
+-- the flow's own curve at its first hop, and at any other what leaves the one before
+abbrev pub arriving : Net → ℕ → ℕ → Formula
+arriving net i zero = given (arrival net i)
+arriving net i (suc k) = value Out i k
+
+-- ---- paths
+-- the convolution of the services of the hops up to one, each in whole packets
+abbrev pub packets_to : Net → ℕ → ℕ → Formula
+packets_to net i zero = less (value Residual i 0) (packet net i)
+packets_to net i (suc k) = made Convolve (packets_to net i k) (less (value Residual i (suc k)) (packet net i))
+
+-- the convolution of that with the last hop's service, which is not in whole packets
+abbrev pub served_to : Net → ℕ → ℕ → Formula
+served_to net i zero = value Residual i 0
+served_to net i (suc k) = made Convolve (packets_to net i k) (value Residual i (suc k))
+
+abbrev pub links_along : Net → ℕ → List ℚ
+links_along net i = map (link net) (path net i)
+
+abbrev pub hop_delays : Net → ℕ → List Cell
+hop_delays net i = map (cell_of HopDelay i) (range_with_len 0 (hops net i))
+
+-- ---- all kinds
+abbrev pub formula_of : Net → Kind → ℕ → ℕ → Formula
+formula_of net In i k = arriving net i k
+formula_of net Cross i k = sum_of (map (at_visit In) (others net i (server_at net i k) (queue_at net i k)))
+formula_of net Total s q = sum_of (map (at_visit In) (visits_in net s q))
+formula_of net Higher s q = higher s q
+formula_of net QueueService s q = queue_service net s q (discipline net s)
+formula_of net Theta i k = horizontal (value Cross i k) (service_at net i k)
+formula_of net Residual i k = leftover (service_at net i k) (value Cross i k) (value Theta i k)
+formula_of net QueueDelay s q = horizontal (value Total s q) (value QueueService s q)
+formula_of net QueueBacklog s q = vertical (value Total s q) (less (value QueueService s q) (longest net s q))
+formula_of net HopDelay i k =
+    smaller (value QueueDelay (server_at net i k) (queue_at net i k)) (horizontal (value In i k) (value Residual i k))
+formula_of net ShiftOut i k = moved (value In i k) (value HopDelay i k)
+formula_of net DeconvOut i k = made Deconvolve (value In i k) (less (value Residual i k) (packet net i))
+formula_of net Out i k = made Min (value ShiftOut i k) (value DeconvOut i k)
+formula_of net PathService i b = served_to net i (hops net i - 1)
+formula_of net Tfa i b = along (hop_delays net i) (links_along net i)
+formula_of net Sfa i b = delayed (horizontal (value In i 0) (value PathService i 0)) (links_along net i)
+formula_of net Bound i b = smaller (value Tfa i 0) (value Sfa i 0)
+
+abbrev pub formula : Net → Cell → Formula
+formula net c = formula_of net c.kind c.a c.b

@@ -1,0 +1,14 @@
+pub mod Numbered
+pub mod Visits
+pub mod Cells
+pub mod Order
+pub mod Meanings
+pub mod Formulas
+pub mod CellFormulas
+pub mod NumberSums
+pub mod Means
+pub mod Answers
+pub mod Equations
+pub mod FirstOver
+pub mod Work
+pub mod Laws

@@ -1,0 +1,54 @@
+-- Which flows pass a server, and in which of its queues. (Own choice.)
+use Rattle.std.specs.Prelude.{ℕ, ◌+◌, List, [], ◌∷◌, length, map, max, Bool, not, ◌==◌, nat_lt}
+use Rattle.std.specs.List.{filter, flat_map, range_with_len}
+use Rattle.net_model.specs.Networks.{Net}
+use Rattle.net_cells.specs.Numbered.{hops, packet, server_at, queue_at}
+
+-- the hop of a flow, by its place on the flow's path
+pub record Visit : Type 0 where
+  pub flow : ℕ
+  pub hop : ℕ
+
+abbrev pub visit : ℕ → ℕ → Visit
+visit i k = record { flow = i; hop = k }
+
+-- ---- by flow, and then by hop
+-- all hops
+abbrev pub all_visits : Net → List Visit
+all_visits net = flat_map (λ i. map (visit i) (range_with_len 0 (hops net i))) (range_with_len 0 (length net.flows))
+
+-- those at a server
+abbrev pub is_at : Net → ℕ → Visit → Bool
+is_at net s v = server_at net v.flow v.hop == s
+
+abbrev pub visits : Net → ℕ → List Visit
+visits net s = filter (is_at net s) (all_visits net)
+
+-- those in one of its queues
+abbrev pub visits_in : Net → ℕ → ℕ → List Visit
+visits_in net s q = filter (λ v. queue_at net v.flow v.hop == q) (visits net s)
+
+-- and there of the other flows
+abbrev pub others : Net → ℕ → ℕ → ℕ → List Visit
+others net i s q = filter (λ v. not (v.flow == i)) (visits_in net s q)
+
+-- those in its queues of greater number
+abbrev pub visits_after : Net → ℕ → ℕ → List Visit
+visits_after net s q = filter (λ v. nat_lt q (queue_at net v.flow v.hop)) (visits net s)
+
+-- another hop comes after it
+abbrev pub goes_on : Net → Visit → Bool
+goes_on net v = nat_lt (v.hop + 1) (hops net v.flow)
+
+-- ---- longest packets, in bits; 0 of no flow
+abbrev pub longest_of : Net → List Visit → ℕ
+longest_of net [] = 0
+longest_of net (v ∷ vs) = max (packet net v.flow) (longest_of net vs)
+
+-- of a queue
+abbrev pub longest : Net → ℕ → ℕ → ℕ
+longest net s q = longest_of net (visits_in net s q)
+
+-- of the queues of greater number
+abbrev pub longest_after : Net → ℕ → ℕ → ℕ
+longest_after net s q = longest_of net (visits_after net s q)

@@ -1,0 +1,37 @@
+-- How many operators on curves a cell takes. Own choice.
+use Rattle.std.specs.Prelude.{ℕ, ◌-◌, ◌*◌, length}
+use Rattle.run_laws.specs.Servers.{Discipline, Fifo, Priority, Drr}
+use Rattle.net_model.specs.Networks.{Net}
+use Rattle.net_cells.specs.declared.cell.Cell.{Cell}
+use Rattle.net_cells.specs.declared.cell.Kind.{Kind}
+use Rattle.net_cells.specs.declared.cell.Kind.TheVariants.{In, Cross, Total, Higher, QueueService, Theta, Residual, QueueDelay, QueueBacklog, HopDelay, ShiftOut, DeconvOut, Out, PathService, Tfa, Sfa, Bound}
+use Rattle.net_cells.specs.Numbered.{hops, server_at, queue_at, discipline}
+use Rattle.net_cells.specs.Visits.{visits_in, others}
+
+abbrev pub service_work : Discipline → ℕ
+service_work Fifo = 0
+service_work (Priority n) = 3
+service_work (Drr quanta) = 2
+
+-- a sum takes one less than it has terms
+abbrev pub kind_work : Net → Kind → ℕ → ℕ → ℕ
+kind_work net In i k = 0
+kind_work net Cross i k = length (others net i (server_at net i k) (queue_at net i k)) - 1
+kind_work net Total s q = length (visits_in net s q) - 1
+kind_work net Higher s q = q - 1
+kind_work net QueueService s q = service_work (discipline net s)
+kind_work net Theta i k = 1
+kind_work net Residual i k = 1
+kind_work net QueueDelay s q = 1
+kind_work net QueueBacklog s q = 2
+kind_work net HopDelay i k = 1
+kind_work net ShiftOut i k = 1
+kind_work net DeconvOut i k = 2
+kind_work net Out i k = 1
+kind_work net PathService i b = 2 * (hops net i - 1)
+kind_work net Tfa i b = 0
+kind_work net Sfa i b = 1
+kind_work net Bound i b = 0
+
+abbrev pub work : Net → Cell → ℕ
+work net c = kind_work net c.kind c.a c.b

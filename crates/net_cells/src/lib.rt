@@ -1,0 +1,13 @@
+//! The cells of a network: the curves and numbers that its analysis is made of. Which cells there are and in which order
+//! they are taken, what each is made of, what a table of their values must keep, and laws of all that. There is no
+//! arithmetic on curves here.
+#![tactic(auto)]
+
+mod cell;
+mod laws;
+
+pub use cell::{Cell, Kind, Scope};
+pub use laws::{
+    answers_meet_equations, formulas_are_determined, front_meets_below, one_is_first_over,
+    operands_come_first, order_has_each_cell, tables_agree, work_is_operators,
+};

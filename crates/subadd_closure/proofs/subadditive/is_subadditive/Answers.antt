@@ -1,0 +1,40 @@
+use Rattle.std.proofs.Common.{refl}
+use Rattle.std.proofs.lemmas.Result.{err_from_is_err_and}
+use Rattle.upp_curve.specs.declared.op_kind.OpKind.TheVariants.{Convolve}
+use Rattle.upp_curve.specs.Curve.{value_at}
+use Rattle.curve_making.specs.Calls.{goes_on, stops}
+use Rattle.curve_making.proofs.Applied.{applied_seen}
+use Rattle.subadd_closure.proofs.SameConvolution.{subadditive_where_same, same_where_subadditive}
+use Rattle.subadd_closure.proofs.subadditive.is_subadditive.Goals as goal
+
+pub returns-in_err-twice-clause-limits : goal.returns-in_err-twice-clause-limits
+returns-in_err-twice-clause-limits g c =
+    let p = err_from_is_err_and c.from_residual.result c.from_residual.ensures.1 in
+    let first = applied_seen Convolve c.args.f.now c.args.f.now c.convolve.result c.seen.result c.seen.ensures.same
+    c.convolve.ensures.value c.convolve.ensures.limits c.seen.ensures.kept in
+    rw (p.1, p.2) (stops c.in_err-twice.field-0.0 (rw c.in_err-twice.was at first) refl)
+
+pub returns-in_err-lower-clause-limits : goal.returns-in_err-lower-clause-limits
+returns-in_err-lower-clause-limits g c =
+    let p = err_from_is_err_and c.from_residual-in_err-lower.result c.from_residual-in_err-lower.ensures.1 in
+    let first = applied_seen Convolve c.args.f.now c.args.f.now c.convolve.result c.seen.result c.seen.ensures.same
+    c.convolve.ensures.value c.convolve.ensures.limits c.seen.ensures.kept in
+    rw (p.1, p.2) (goes_on c.in_ok-twice.twice (rw c.in_ok-twice.was at first) c.in_err-lower.ensures.limits)
+
+pub returns-clause-value : goal.returns-clause-value
+returns-clause-value g c =
+    let first = applied_seen Convolve c.args.f.now c.args.f.now c.convolve.result c.seen.result c.seen.ensures.same
+    c.convolve.ensures.value c.convolve.ensures.limits c.seen.ensures.kept in
+    let made = (rw c.in_ok-twice.was at first).made in
+    let f = value_at c.args.f.now in
+    let twice = value_at c.in_ok-twice.twice in
+    let lower = value_at c.in_ok-lower.lower in (
+      λ b. subadditive_where_same f twice lower made.answers c.in_ok-lower.ensures.value (c.equal.ensures.0 b),
+      λ s. c.equal.ensures.1 (same_where_subadditive f twice lower made.answers c.in_ok-lower.ensures.value s),
+    )
+
+pub returns-clause-limits : goal.returns-clause-limits
+returns-clause-limits g c =
+    let first = applied_seen Convolve c.args.f.now c.args.f.now c.convolve.result c.seen.result c.seen.ensures.same
+    c.convolve.ensures.value c.convolve.ensures.limits c.seen.ensures.kept in
+    goes_on c.in_ok-twice.twice (rw c.in_ok-twice.was at first) c.in_ok-lower.ensures.limits

@@ -1,0 +1,34 @@
+//! Whether a curve is subadditive.
+
+ghost use Rattle.std.specs.Prelude.{◌≡◌, ◌+◌, ◌≤◌, ◌↔◌, IfOk, IsTrue};
+ghost use Rattle.upp_curve.specs.Curve.{value_at};
+ghost use Rattle.upp_curve.specs.Convolution.{IsSubadditive};
+ghost use Rattle.subadd_closure.specs.Tests.{TestsSubadditive};
+
+use curve_convolution::convolve;
+use curve_lattice::min;
+use curve_making::seen;
+use std::alloc::Global;
+use std::sync::ledger::Ledger;
+use steps::Steps;
+use upp_curve::{Curve, OpFault, equal};
+
+/// Whether f(s + u) is at most f(s) + f(u) for all times s and u from 0 on (Le Boudec and Thiran, chapter 3); f may be
+/// infinite anywhere. Two operators, one step each: the convolution of f with itself, and the lesser of f and that,
+/// which is f exactly where f is subadditive. A refusal is that of the first of the two that is over its limit, with
+/// TooWide or TooMany, or want of memory.
+pub fn is_subadditive<L: Ledger>(
+    alloc: Global,
+    f: &Curve,
+    steps: &mut Steps<L>,
+) -> Result<bool, OpFault>
+    ensures value { IfOk result (λ b. IsTrue b ↔ IsSubadditive (value_at f.now)) }
+    ensures limits { TestsSubadditive f.now result }
+    ensures least { steps.old + 1 ≤ steps.new }
+    ensures most { steps.new ≤ steps.old + 2 }
+    ensures all { IfOk result (λ _. steps.new ≡ steps.old + 2) }
+{
+    let twice = seen(convolve(alloc, f, f, steps))?;
+    let lower = min(alloc, f, &twice, steps)?;
+    Ok(equal(&lower, f))
+}

@@ -1,0 +1,108 @@
+//! Values worked out by hand.
+
+ghost use Rattle.std.specs.Prelude.{◌≡◌, ◌<◌};
+
+use crate::is_subadditive;
+use affine_segment::{Line, Piece};
+use fraction128::{Ext, Frac};
+use rational::Extended;
+use std::alloc::Global;
+use std::marker::Brand;
+use std::sync::ledger::{Blank, Ledger};
+use std::test::Fail;
+use steps::Steps;
+use upp_curve::{Curve, OpFault, RawCurve, Tail, normalise};
+
+fn whole(n: i128) -> Frac {
+    match Frac::new(n, 1) {
+        Ok(f) => f,
+        Err(_) => Frac::zero(),
+    }
+}
+
+fn curve(alloc: Global, list: &[Piece], tail: Tail) -> Result<Curve, OpFault> {
+    let Ok(pieces) = Vec::from_slice(alloc, list) else {
+        return Err(OpFault::NoMemory);
+    };
+    let raw = RawCurve { pieces, tail };
+    if raw.is_raw() {
+        normalise(raw)
+    } else {
+        Err(OpFault::TooMany)
+    }
+}
+
+// From x on the line with this value at 0, and at x the value `at`.
+fn piece(x: i128, at: Ext, line: Option<(i128, i128)>) -> Piece {
+    Piece {
+        x: whole(x),
+        at,
+        line: match line {
+            None => None,
+            Some((icept, slope)) => Some(Line {
+                icept: whole(icept),
+                slope: whole(slope),
+            }),
+        },
+    }
+}
+
+// A burst, and then the rate.
+fn bucket(alloc: Global, burst: i128, rate: i128) -> Result<Curve, OpFault> {
+    let list = [piece(0, Extended::Fin(whole(burst)), Some((burst, rate)))];
+    curve(alloc, &list, Tail::Affine { rank: Frac::zero() })
+}
+
+// The rate 1 after the time 1.
+fn late(alloc: Global) -> Result<Curve, OpFault> {
+    let list = [
+        piece(0, Extended::Fin(Frac::zero()), Some((0, 0))),
+        piece(1, Extended::Fin(Frac::zero()), Some((-1, 1))),
+    ];
+    curve(alloc, &list, Tail::Affine { rank: Frac::one() })
+}
+
+// `at` at 0, and `level` up to the period; then it repeats, `rise` higher.
+fn steps_up(
+    alloc: Global,
+    at: i128,
+    level: i128,
+    period: i128,
+    rise: i128,
+) -> Result<Curve, OpFault> {
+    let list = [piece(0, Extended::Fin(whole(at)), Some((level, 0)))];
+    let tail = Tail::Periodic {
+        rank: Frac::zero(),
+        period: whole(period),
+        rise: whole(rise),
+    };
+    curve(alloc, &list, tail)
+}
+
+fn told<L: Ledger>(alloc: Global, blank: Blank, f: &Curve) -> Result<bool, OpFault>
+    requires name { blank.name ≡ L.name }
+    requires parts { blank.parts ≡ L.parts }
+    requires one { 0 < blank.parts }
+{
+    let mut steps = Steps::<L>::new(blank);
+    is_subadditive(alloc, f, &mut steps)
+}
+
+#[test]
+fn a_bucket_is_and_a_latency_is_not(rt: HostRuntime) -> Result<(), Fail> {
+    let f = bucket(rt.alloc(), 3, 2)?;
+    let g = late(rt.alloc())?;
+    assert!(rt; told::<Brand>(rt.alloc(), Blank::new(1), &f)?);
+    assert!(rt; !told::<Brand>(rt.alloc(), Blank::new(1), &g)?);
+    Ok(())
+}
+
+// A stair is; one that waits a whole period for its first step is not; nor is one whose steps come up to 1 at 3 but 3 at 6.
+#[test]
+fn stairs(rt: HostRuntime) -> Result<(), Fail> {
+    let f = steps_up(rt.alloc(), 1, 1, 2, 1)?;
+    let g = steps_up(rt.alloc(), 0, 0, 2, 1)?;
+    assert!(rt; told::<Brand>(rt.alloc(), Blank::new(1), &f)?);
+    assert!(rt; !told::<Brand>(rt.alloc(), Blank::new(1), &g)?);
+    Ok(())
+}
