@@ -11,3 +11,4 @@ pub mod Fitting
 pub mod Causes
 pub mod MayStand
 pub mod LeastKey
+pub mod KindsOfTables

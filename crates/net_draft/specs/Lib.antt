@@ -16,3 +16,4 @@ pub mod Laws
 pub mod NameTexts
 pub mod ListViews
 pub mod KeyOrder
+pub mod FaultKinds

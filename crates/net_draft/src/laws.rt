@@ -1,6 +1,7 @@
 //! What else is known of drafts.
 
 ghost use Rattle.toml.specs.View.{table_view};
+ghost use Rattle.net_draft.specs.FaultKinds.{FaultsAreOfTables};
 ghost use Rattle.net_draft.specs.KeyOrder.{KeysAscend, UnknownKeyIsLeast};
 ghost use Rattle.net_draft.specs.Laws.{RefusalsAreCauses, MadeMayStand};
 
@@ -15,6 +16,11 @@ pub fn refusals_are_causes()
 /// be a flow's: a network can be made of a draft whose curves are within their limits, without a further test.
 pub fn made_may_stand()
     ensures { MadeMayStand }
+{}
+
+/// The first fault of a file is one of its tables, M1 to M12: no limit of a curve, and no want of memory.
+pub fn faults_are_of_tables()
+    ensures { FaultsAreOfTables }
 {}
 
 /// The unknown key that a fault names is the least by bytes of the unknown keys of its table, whose keys ascend.
