@@ -10,3 +10,5 @@ pub mod HopParts
 pub mod Fitting
 pub mod Causes
 pub mod MayStand
+pub mod LeastKey
+pub mod KindsOfTables

@@ -13,3 +13,7 @@ pub mod Drafts
 pub mod DraftViews
 pub mod Kept
 pub mod Laws
+pub mod NameTexts
+pub mod ListViews
+pub mod KeyOrder
+pub mod FaultKinds

@@ -228,16 +228,21 @@ server_keys =
 abbrev pub server_names : List ServerText → List (List ℕ)
 server_names = map (λ s. s.name)
 
-unfoldable pub server_at : List ServerText → List ℕ → Data → Read ServerText
-server_at before place d =
+-- a server with none of these names
+unfoldable pub server_with : List (List ℕ) → List ℕ → Data → Read ServerText
+server_with names place d =
     placed place (table_in d) >>= λ ms.
     only server_keys place ms >>= λ _.
-    at_key (codes "name") (required (new_name (server_names before))) place ms >>= λ name.
+    at_key (codes "name") (required (new_name names)) place ms >>= λ name.
     at_key (codes "rate") (required positive_in) place ms >>= λ rate.
     service_or_rate rate (under place (codes "service")) (get_member (codes "service") ms) >>= λ service.
     at_key (codes "link") (optional nonnegative_in (int (pos 0))) place ms >>= λ link.
     discipline_at place ms >>= λ discipline.
     Ok (record { name = name; rate = rate; service = service; link = link; discipline = discipline })
+
+-- a server after these
+abbrev pub server_at : List ServerText → List ℕ → Data → Read ServerText
+server_at before = server_with (server_names before)
 
 -- ---- flows
 abbrev pub hop_at : List ServerText → List Hop → List ℕ → Data → Read Hop
@@ -255,12 +260,17 @@ arrival_of packet place ms =
 abbrev pub flow_names : List FlowText → List (List ℕ)
 flow_names = map (λ f. f.name)
 
-unfoldable pub flow_at : List ServerText → List FlowText → List ℕ → Data → Read FlowText
-flow_at servers before place d =
+-- a flow with none of these names, over these servers
+unfoldable pub flow_with : List ServerText → List (List ℕ) → List ℕ → Data → Read FlowText
+flow_with servers names place d =
     placed place (table_in d) >>= λ ms.
     only (codes "name" ∷ codes "packet" ∷ codes "arrival" ∷ codes "path" ∷ []) place ms >>= λ _.
-    at_key (codes "name") (required (new_name (flow_names before))) place ms >>= λ name.
+    at_key (codes "name") (required (new_name names)) place ms >>= λ name.
     at_key (codes "packet") (required (whole_in 1 longest)) place ms >>= λ packet.
     arrival_of packet place ms >>= λ arrival.
     path_of servers place ms >>= λ path.
     Ok (record { name = name; packet = packet; arrival = arrival.0; closes = arrival.1; path = path })
+
+-- a flow after these
+abbrev pub flow_at : List ServerText → List FlowText → List ℕ → Data → Read FlowText
+flow_at servers before = flow_with servers (flow_names before)

@@ -1,11 +1,13 @@
 //! Flows.
 
-ghost use Rattle.std.specs.Prelude.{◌≡◌, ◌≢◌, [], map, codes, IfOk, All, AllPairs, length, ◌≤◌};
-ghost use Rattle.toml.specs.View.{view, table_view};
+ghost use Rattle.std.specs.Prelude.{◌≡◌, ◌≢◌, ◌++◌, ◌∷◌, [], map, codes, IfOk, All, AllPairs, length};
+ghost use Rattle.toml.specs.View.{view};
 ghost use Rattle.net_draft.specs.Faults.{Gives};
-ghost use Rattle.net_draft.specs.Tables.{each, flow_at};
+ghost use Rattle.net_draft.specs.ListViews.{list_texts};
+ghost use Rattle.net_draft.specs.NameTexts.{texts};
+ghost use Rattle.net_draft.specs.Tables.{each, flow_at, flow_with};
 ghost use Rattle.net_draft.specs.Kept.{IsFlowDraft};
-ghost use Rattle.net_draft.specs.Views.{server_text, flow_text};
+ghost use Rattle.net_draft.specs.Views.{flow_text};
 
 use crate::arrivals::arrival_of;
 use crate::fault::DraftFault;
@@ -13,29 +15,31 @@ use crate::flow_draft::FlowDraft;
 use crate::hops::path_of;
 use crate::keys::{only, required_whole, table_at};
 use crate::limits::LONGEST;
-use crate::names::flow_name;
+use crate::names::new_name;
 use crate::places::nth;
-use crate::server_draft::ServerDraft;
+use crate::server_list::ServerList;
+use indexmap::IndexSet;
 use std::alloc::Global;
 use toml::Value;
 
-#[tactic(auto, unfolding(crate::specs::Tables::flow_at))]
+/// The flow of an entry, whose name goes last among the names of those before it.
+#[tactic(auto, unfolding(crate::specs::Tables::flow_with))]
 fn flow_of(
     alloc: Global,
-    servers: &[ServerDraft],
-    before: &[FlowDraft],
+    servers: &ServerList,
+    names: &mut IndexSet<String>,
     place: &str,
     value: &Value,
 ) -> Result<FlowDraft, DraftFault>
-    requires { length servers.now ≤ 64 }
     ensures value { Gives flow_text result
-        (flow_at (map server_text servers.now) (map flow_text before.now) place.now (view value.now)) }
-    ensures fresh { IfOk result (λ f. All (λ g. g.name ≢ (flow_text f).name) (map flow_text before.now)) }
-    ensures kept { IfOk result (IsFlowDraft (map server_text servers.now)) }
+        (flow_with (list_texts servers.now) (texts names.old) place.now (view value.now)) }
+    ensures fresh { IfOk result (λ f. All (λ t. t ≢ (flow_text f).name) (texts names.old)) }
+    ensures grown { IfOk result (λ f. texts names.new ≡ texts names.old ++ (flow_text f).name ∷ []) }
+    ensures kept { IfOk result (IsFlowDraft (list_texts servers.now)) }
 {
     let table = table_at(alloc, place, value)?;
     only(alloc, table, place, &["name", "packet", "arrival", "path"])?;
-    let name = flow_name(alloc, table, place, before)?;
+    let name = new_name(alloc, names, table, place)?;
     let packet = required_whole(alloc, table, place, "packet", 1, LONGEST)?;
     let (arrival, closes) = arrival_of(alloc, packet, table, place)?;
     let path = path_of(alloc, servers, table, place)?;
@@ -51,20 +55,20 @@ fn flow_of(
 /// The flows of these entries.
 pub(crate) fn flows_of(
     alloc: Global,
-    servers: &[ServerDraft],
+    servers: &ServerList,
     entries: &[Value],
 ) -> Result<Vec<FlowDraft>, DraftFault>
-    requires { length servers.now ≤ 64 }
     ensures value { Gives (λ v. map flow_text v.items) result
-        (each (flow_at (map server_text servers.now)) (codes "flow") [] (map view entries.now)) }
+        (each (flow_at (list_texts servers.now)) (codes "flow") [] (map view entries.now)) }
     ensures count { IfOk result (λ v. length v.items ≡ length entries.now) }
     ensures names { IfOk result (λ v. AllPairs (λ f g. f.name ≢ g.name) (map flow_text v.items)) }
-    ensures kept { IfOk result (λ v. All (IsFlowDraft (map server_text servers.now)) v.items) }
+    ensures kept { IfOk result (λ v. All (IsFlowDraft (list_texts servers.now)) v.items) }
 {
     let mut flows = Vec::new(alloc);
+    let mut names = IndexSet::new(alloc);
     for entry in entries {
         let place = nth(alloc, "flow", flows.len())?;
-        let flow = flow_of(alloc, servers, &flows, place.as_str(), entry)?;
+        let flow = flow_of(alloc, servers, &mut names, place.as_str(), entry)?;
         flows.push(flow)?;
     }
     Ok(flows)

@@ -12,6 +12,7 @@ ghost use Rattle.net_model.specs.Views.{discipline_of};
 ghost use Rattle.net_draft.specs.Faults.{Gives, seen};
 ghost use Rattle.net_draft.specs.Hops.{is_colon, hop_parts, hop_text, hop_in, named_from};
 ghost use Rattle.net_draft.specs.HopViews.{hop_view};
+ghost use Rattle.net_draft.specs.ListViews.{list_texts};
 ghost use Rattle.net_draft.specs.Tables.{each, hop_at, path_of};
 ghost use Rattle.net_draft.specs.Texts.{IsHopOf};
 ghost use Rattle.net_draft.specs.Views.{server_text};
@@ -23,6 +24,7 @@ use crate::limits::MOST_HOPS;
 use crate::names::is_name;
 use crate::places::{fault_at, nth, under};
 use crate::server_draft::ServerDraft;
+use crate::server_list::ServerList;
 use crate::values::text_in;
 use net_model::{Discipline, NetKind};
 use std::alloc::Global;
@@ -31,7 +33,7 @@ use toml::{Table, Value};
 /// A path entry as it is written. A number of a queue above 2^32 - 1 is 2^32 - 1.
 #[derive(Clone, Copy)]
 pub(crate) struct WrittenHop<'a> {
-    name: &'a [u8],
+    name: &'a str,
     queue: u32,
 }
 
@@ -70,10 +72,10 @@ fn queue_number(n: u128) -> u32
     }
 }
 
-fn hop_of_parts<'a>(name: &'a [u8], digits: &[u8]) -> Result<WrittenHop<'a>, NetKind>
+fn hop_of_parts<'a>(name: &'a str, digits: &[u8]) -> Result<WrittenHop<'a>, NetKind>
     ensures { seen hop_view result ≡ hop_parts name.now digits.now }
 {
-    if !is_name(name) {
+    if !is_name(name.as_bytes()) {
         return Err(NetKind::M5);
     }
     match read_digits(digits) {
@@ -85,31 +87,29 @@ fn hop_of_parts<'a>(name: &'a [u8], digits: &[u8]) -> Result<WrittenHop<'a>, Net
     }
 }
 
-fn written_hop(text: &[u8]) -> Result<WrittenHop<'_>, NetKind>
+fn written_hop(text: &str) -> Result<WrittenHop<'_>, NetKind>
     ensures { seen hop_view result ≡ hop_text text.now }
 {
-    match find_colon(text) {
-        Some(at) => hop_of_parts(&text[..at], &text[at + 1..]),
+    let bytes = text.as_bytes();
+    match find_colon(bytes) {
+        Some(at) => hop_of_parts(&text[..at], &bytes[at + 1..]),
         None => hop_of_parts(text, b"0"),
     }
 }
 
-/// The first server of a name, and its number.
+/// The server of a name, and its number.
 fn server_named<'a>(
-    servers: &'a [ServerDraft],
-    name: &[u8],
+    servers: &'a ServerList,
+    name: &str,
 ) -> Result<(usize, &'a ServerDraft), NetKind>
-    ensures value { seen (λ f. (f.0, server_text f.1.now)) result
-        ≡ named_from 0 name.now (map server_text servers.now) }
-    ensures within { IfOk result (λ f. f.0 < length servers.now) }
-    ensures stands { IfOk result (λ f. slice_get (map server_text servers.now) f.0 ≡ Some (server_text f.1.now)) }
+    ensures value { seen (λ f. (f.0, server_text f.1.now)) result ≡ named_from 0 name.now (list_texts servers.now) }
+    ensures within { IfOk result (λ f. f.0 < 64) }
+    ensures stands { IfOk result (λ f. slice_get (list_texts servers.now) f.0 ≡ Some (server_text f.1.now)) }
 {
-    for (number, server) in servers.iter().enumerate() {
-        if server.name.as_bytes() == name {
-            return Ok((number, server));
-        }
+    match servers.names.get_index_of(name) {
+        Some(number) => Ok((number, &servers.servers[number])),
+        None => Err(NetKind::M8),
     }
-    Err(NetKind::M8)
 }
 
 fn queue_count(discipline: &Discipline) -> usize
@@ -134,14 +134,13 @@ fn passes_server(hops: &[Hop], server: usize) -> bool
 }
 
 #[tactic(auto, unfolding(crate::specs::Hops::hop_in))]
-fn hop_in(servers: &[ServerDraft], before: &[Hop], value: &Value) -> Result<Hop, NetKind>
-    requires { length servers.now ≤ 64 }
-    ensures value { result ≡ hop_in (map server_text servers.now) before.now (view value.now) }
-    ensures range { IfOk result (IsHopOf (map server_text servers.now)) }
+fn hop_in(servers: &ServerList, before: &[Hop], value: &Value) -> Result<Hop, NetKind>
+    ensures value { result ≡ hop_in (list_texts servers.now) before.now (view value.now) }
+    ensures range { IfOk result (IsHopOf (list_texts servers.now)) }
     ensures fresh { IfOk result (λ h. All (λ b. b.server ≢ h.server) before.now) }
 {
     let text = text_in(value)?;
-    let written = written_hop(text.as_bytes())?;
+    let written = written_hop(text)?;
     let (number, server) = server_named(servers, written.name)?;
     if written.queue as usize >= queue_count(&server.discipline) {
         return Err(NetKind::M6);
@@ -157,14 +156,13 @@ fn hop_in(servers: &[ServerDraft], before: &[Hop], value: &Value) -> Result<Hop,
 
 fn hop_at(
     alloc: Global,
-    servers: &[ServerDraft],
+    servers: &ServerList,
     before: &[Hop],
     place: &str,
     value: &Value,
 ) -> Result<Hop, DraftFault>
-    requires { length servers.now ≤ 64 }
-    ensures value { Gives (λ h. h) result (hop_at (map server_text servers.now) before.now place.now (view value.now)) }
-    ensures range { IfOk result (IsHopOf (map server_text servers.now)) }
+    ensures value { Gives (λ h. h) result (hop_at (list_texts servers.now) before.now place.now (view value.now)) }
+    ensures range { IfOk result (IsHopOf (list_texts servers.now)) }
     ensures fresh { IfOk result (λ h. All (λ b. b.server ≢ h.server) before.now) }
 {
     match hop_in(servers, before, value) {
@@ -175,15 +173,14 @@ fn hop_at(
 
 fn each_hop(
     alloc: Global,
-    servers: &[ServerDraft],
+    servers: &ServerList,
     place: &str,
     entries: &[Value],
 ) -> Result<Vec<Hop>, DraftFault>
-    requires { length servers.now ≤ 64 }
     ensures value { Gives (λ v. v.items) result
-        (each (hop_at (map server_text servers.now)) place.now [] (map view entries.now)) }
+        (each (hop_at (list_texts servers.now)) place.now [] (map view entries.now)) }
     ensures count { IfOk result (λ v. length v.items ≡ length entries.now) }
-    ensures range { IfOk result (λ v. All (IsHopOf (map server_text servers.now)) v.items) }
+    ensures range { IfOk result (λ v. All (IsHopOf (list_texts servers.now)) v.items) }
     ensures once { IfOk result (λ v. AllPairs (λ a b. a.server ≢ b.server) v.items) }
 {
     let mut hops = Vec::new(alloc);
@@ -199,16 +196,15 @@ fn each_hop(
 #[tactic(auto, unfolding(crate::specs::Tables::path_of))]
 pub(crate) fn path_of(
     alloc: Global,
-    servers: &[ServerDraft],
+    servers: &ServerList,
     table: &Table,
     place: &str,
 ) -> Result<Vec<Hop>, DraftFault>
-    requires { length servers.now ≤ 64 }
     ensures value { Gives (λ v. v.items) result
-        (path_of (map server_text servers.now) place.now (table_view table.now)) }
+        (path_of (list_texts servers.now) place.now (table_view table.now)) }
     ensures some { IfOk result (λ v. 1 ≤ length v.items) }
     ensures few { IfOk result (λ v. length v.items ≤ 16) }
-    ensures range { IfOk result (λ v. All (IsHopOf (map server_text servers.now)) v.items) }
+    ensures range { IfOk result (λ v. All (IsHopOf (list_texts servers.now)) v.items) }
     ensures once { IfOk result (λ v. AllPairs (λ a b. a.server ≢ b.server) v.items) }
 {
     let entries = required_list(alloc, table, place, "path", 1, MOST_HOPS)?;

@@ -22,6 +22,7 @@ mod places;
 mod quanta;
 mod reading;
 mod server_draft;
+mod server_list;
 mod servers;
 mod services;
 #[cfg(test)]
@@ -36,6 +37,9 @@ pub use draft::Draft;
 pub use fault::DraftFault;
 pub use flow_draft::FlowDraft;
 pub use hop::Hop;
-pub use laws::{made_may_stand, refusals_are_causes};
+pub use laws::{
+    faults_are_of_tables, keys_ascend, made_may_stand, refusals_are_causes, unknown_key_is_least,
+};
+pub use places::{fault_under, nth};
 pub use reading::read_draft;
 pub use server_draft::ServerDraft;

@@ -10,7 +10,7 @@ use std::alloc::{AllocError, Global};
 
 /// The place of a key of the table at a place.
 #[tactic(auto, unfolding(crate::specs::Faults::under))]
-pub(crate) fn under(alloc: Global, place: &str, key: &str) -> Result<String, AllocError>
+pub fn under(alloc: Global, place: &str, key: &str) -> Result<String, AllocError>
     ensures { IfOk result (λ s. string_bytes s ≡ under place.now key.now) }
 {
     if place.is_empty() {
@@ -22,14 +22,14 @@ pub(crate) fn under(alloc: Global, place: &str, key: &str) -> Result<String, All
 
 /// The place of an entry of the array at a place.
 #[tactic(auto, unfolding(crate::specs::Faults::nth))]
-pub(crate) fn nth(alloc: Global, place: &str, number: usize) -> Result<String, AllocError>
+pub fn nth(alloc: Global, place: &str, number: usize) -> Result<String, AllocError>
     ensures { IfOk result (λ s. string_bytes s ≡ nth place.now number) }
 {
     format!(in alloc; "{place}[{number}]")
 }
 
 /// A fault at a place, or want of memory.
-pub(crate) fn fault_at(alloc: Global, kind: NetKind, place: &str) -> DraftFault
+pub fn fault_at(alloc: Global, kind: NetKind, place: &str) -> DraftFault
     ensures { IsFault kind place.now result }
 {
     match String::from_str(alloc, place) {
@@ -39,7 +39,7 @@ pub(crate) fn fault_at(alloc: Global, kind: NetKind, place: &str) -> DraftFault
 }
 
 /// A fault at a key of the table at a place, or want of memory.
-pub(crate) fn fault_under(alloc: Global, kind: NetKind, place: &str, key: &str) -> DraftFault
+pub fn fault_under(alloc: Global, kind: NetKind, place: &str, key: &str) -> DraftFault
     ensures { IsFault kind (under place.now key.now) result }
 {
     match under(alloc, place, key) {

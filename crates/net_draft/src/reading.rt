@@ -5,8 +5,9 @@ ghost use Rattle.toml.specs.View.{table_view};
 ghost use Rattle.net_draft.specs.Faults.{Gives};
 ghost use Rattle.net_draft.specs.DraftViews.{draft_text};
 ghost use Rattle.net_draft.specs.Drafts.{servers_of, flows_of, root_of, draft_of};
+ghost use Rattle.net_draft.specs.ListViews.{list_texts};
 ghost use Rattle.net_draft.specs.Kept.{IsServerDraft, IsFlowDraft, IsDraft};
-ghost use Rattle.net_draft.specs.Views.{server_text, flow_text};
+ghost use Rattle.net_draft.specs.Views.{flow_text};
 
 use crate::draft::Draft;
 use crate::fault::DraftFault;
@@ -16,7 +17,7 @@ use crate::keys::{list_or_none, only, version};
 use crate::limits::{MOST_FLOWS, MOST_SERVERS};
 use crate::places::fault_at;
 use crate::quanta::all_fit;
-use crate::server_draft::ServerDraft;
+use crate::server_list::ServerList;
 use crate::servers::servers_of;
 use crate::tree::tree_of;
 use net_model::NetKind;
@@ -24,28 +25,22 @@ use std::alloc::Global;
 use toml::Table;
 
 #[tactic(auto, unfolding(crate::specs::Drafts::servers_of))]
-fn servers_at(alloc: Global, root: &Table) -> Result<Vec<ServerDraft>, DraftFault>
-    ensures value { Gives (λ v. map server_text v.items) result (servers_of (table_view root.now)) }
-    ensures few { IfOk result (λ v. length v.items ≤ 64) }
-    ensures kept { IfOk result (λ v. All IsServerDraft v.items) }
-    ensures names { IfOk result (λ v. AllPairs (λ s t. s.name ≢ t.name) (map server_text v.items)) }
+fn servers_at(alloc: Global, root: &Table) -> Result<ServerList, DraftFault>
+    ensures value { Gives list_texts result (servers_of (table_view root.now)) }
+    ensures kept { IfOk result (λ l. All IsServerDraft l.servers.items) }
+    ensures names { IfOk result (λ l. AllPairs (λ s t. s.name ≢ t.name) (list_texts l)) }
 {
     let entries = list_or_none(alloc, root, "server", MOST_SERVERS)?;
     servers_of(alloc, entries)
 }
 
 #[tactic(auto, unfolding(crate::specs::Drafts::flows_of))]
-fn flows_at(
-    alloc: Global,
-    servers: &[ServerDraft],
-    root: &Table,
-) -> Result<Vec<FlowDraft>, DraftFault>
-    requires { length servers.now ≤ 64 }
+fn flows_at(alloc: Global, servers: &ServerList, root: &Table) -> Result<Vec<FlowDraft>, DraftFault>
     ensures value { Gives (λ v. map flow_text v.items) result
-        (flows_of (map server_text servers.now) (table_view root.now)) }
+        (flows_of (list_texts servers.now) (table_view root.now)) }
     ensures few { IfOk result (λ v. length v.items ≤ 256) }
     ensures names { IfOk result (λ v. AllPairs (λ f g. f.name ≢ g.name) (map flow_text v.items)) }
-    ensures kept { IfOk result (λ v. All (IsFlowDraft (map server_text servers.now)) v.items) }
+    ensures kept { IfOk result (λ v. All (IsFlowDraft (list_texts servers.now)) v.items) }
 {
     let entries = list_or_none(alloc, root, "flow", MOST_FLOWS)?;
     flows_of(alloc, servers, entries)
@@ -60,10 +55,10 @@ fn draft_at(alloc: Global, root: &Table) -> Result<Draft, DraftFault>
     let version = version(alloc, root)?;
     let servers = servers_at(alloc, root)?;
     let flows = flows_at(alloc, &servers, root)?;
-    all_fit(alloc, &servers, &flows)?;
+    all_fit(alloc, &servers.servers, &flows)?;
     Ok(Draft {
         version,
-        servers,
+        servers: servers.servers,
         flows,
     })
 }

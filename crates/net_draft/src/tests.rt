@@ -1,6 +1,6 @@
 //! Files, their drafts and their first faults. What no clause says is that the words are the ones meant.
 
-use crate::{CurveText, Draft, DraftFault, read_draft};
+use crate::{CurveText, Draft, DraftFault, FlowDraft, ServerDraft, read_draft};
 use fraction128::Frac;
 use net_model::{CurveRefusal, Discipline, NetKind};
 use std::alloc::Global;
@@ -182,5 +182,116 @@ fn what_is_not_written_has_a_default(rt: HostRuntime) -> Result<(), Fail> {
         .ok()
         .ok_or("no draft")?;
     assert!(rt; has_defaults(&draft));
+    Ok(())
+}
+
+// Each key of each table, three servers and three flows.
+const EVERY_KEY: &str = "
+version = 1
+
+[[server]]
+name = \"s1\"
+rate = 100
+service = { kind = \"latency\", latency = \"21/2\" }
+link = 1
+discipline = \"priority\"
+queues = 2
+
+[[server]]
+name = \"s2\"
+rate = \"201/2\"
+service = { kind = \"gate\", cycle = 10, slot = 5 }
+link = \"1/2\"
+discipline = \"drr\"
+quanta = [1000, 2000]
+
+[[server]]
+name = \"s3\"
+rate = 5
+link = 0
+discipline = \"fifo\"
+
+[server.service]
+kind = \"list\"
+piece = [{ x = 0, at = 0, after = 0, slope = 1 }]
+tail = { rank = 0, period = 1, rise = 1 }
+
+[[flow]]
+name = \"f1\"
+packet = 1000
+arrival = { kind = \"bucket\", burst = 3, rate = \"1/2\" }
+path = [\"s1:1\", \"s2\"]
+
+[[flow]]
+name = \"f2\"
+packet = 2000
+arrival = { kind = \"stair\", period = 1000, jitter = 2 }
+path = [\"s2:1\", \"s3:0\", \"s1\"]
+
+[[flow]]
+name = \"f3\"
+packet = 1
+path = [\"s3\"]
+
+[flow.arrival]
+kind = \"list\"
+piece = [{ x = 0, at = 1, after = 1, slope = 0 }]
+tail = { rank = 0, period = 2, rise = 1 }
+close = true
+";
+
+fn are_servers_of_every_key(servers: &[ServerDraft]) -> bool {
+    let [s1, s2, s3] = servers else {
+        return false;
+    };
+    let CurveText::Gate {
+        rate: _,
+        cycle,
+        slot,
+    } = s2.service.text
+    else {
+        return false;
+    };
+    let Discipline::Priority { queues } = s1.discipline else {
+        return false;
+    };
+    s1.name.as_str() == "s1"
+        && queues == 2
+        && is_whole(cycle, 10)
+        && is_whole(slot, 5)
+        && s1.service.made.is_ok()
+        && s2.service.made.is_ok()
+        && s3.service.made.is_ok()
+}
+
+fn goes_over(flow: &FlowDraft, hops: &[(u32, u32)]) -> bool {
+    let mut same = flow.path.len() == hops.len();
+    for (hop, (server, queue)) in flow.path.iter().zip(hops) {
+        same = same && hop.server == *server && hop.queue == *queue;
+    }
+    same
+}
+
+fn are_flows_of_every_key(flows: &[FlowDraft]) -> bool {
+    let [f1, f2, f3] = flows else {
+        return false;
+    };
+    goes_over(f1, &[(0, 1), (1, 0)])
+        && goes_over(f2, &[(1, 1), (2, 0), (0, 0)])
+        && goes_over(f3, &[(2, 0)])
+        && f1.packet == 1000
+        && !f1.closes
+        && !f2.closes
+        && f3.closes
+        && f3.arrival.made.is_ok()
+}
+
+#[test]
+fn each_key_of_each_table_is_read(rt: HostRuntime) -> Result<(), Fail> {
+    let draft = read_draft(rt.alloc(), EVERY_KEY.as_bytes())
+        .ok()
+        .ok_or("no draft")?;
+    assert!(rt; are_servers_of_every_key(&draft.servers));
+    assert!(rt; are_flows_of_every_key(&draft.flows));
     Ok(())
 }

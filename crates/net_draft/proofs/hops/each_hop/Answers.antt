@@ -8,14 +8,14 @@ use Rattle.toml.specs.View.{view}
 use Rattle.net_draft.specs.Faults.{Fails, nth}
 use Rattle.net_draft.specs.Tables.{each, hop_at}
 use Rattle.net_draft.specs.Texts.{IsHopOf}
-use Rattle.net_draft.specs.Views.{server_text}
+use Rattle.net_draft.specs.ListViews.{list_texts}
 use Rattle.net_draft.proofs.Each.{goes_on, stops, is_done}
 use Rattle.net_draft.proofs.hops.each_hop.Goals as goal
 
 pub returns-in_err-hop-clause-value : goal.returns-in_err-hop-clause-value
 returns-in_err-hop-clause-value c =
     let p = err_from_is_err_and c.from_residual-in_err-hop.result c.from_residual-in_err-hop.ensures.1 in
-    let S = map server_text c.args.servers.now in
+    let S = list_texts c.args.servers.now in
     let xs = c.loop-entry.hops.items in
     let here : c.as_str.result.now ≡ nth c.args.place.now (length xs) = search rules in
     let e = c.in_err-hop.field-0.0 in
@@ -27,7 +27,7 @@ returns-in_err-hop-clause-value c =
 
 pub loop-entry-preserved : goal.loop-entry-preserved
 loop-entry-preserved c =
-    let S = map server_text c.args.servers.now in
+    let S = list_texts c.args.servers.now in
     let xs = c.loop-entry.hops.items in
     let x = c.in_ok-hop.hop in
     let here : c.as_str.result.now ≡ nth c.args.place.now (length xs) = search rules in
@@ -46,6 +46,6 @@ loop-entry-preserved c =
 
 pub returns-clause-value : goal.returns-clause-value
 returns-clause-value c =
-    let S = map server_text c.args.servers.now in
+    let S = list_texts c.args.servers.now in
     is_done (hop_at S) c.args.place.now c.loop-entry.hops.items c.args.entries.now c.loop-entry.entry-index (each (hop_at S) c.args.place.now [] (map view c.args.entries.now))
     c.loop-entry-test.false c.loop-entry.invariant.value

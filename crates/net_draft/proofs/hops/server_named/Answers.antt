@@ -1,29 +1,24 @@
-use Rattle.std.specs.Str.{bytes_eq}
-use Rattle.std.specs.String.{string_bytes}
-use Rattle.std.proofs.Common.{◌≡◌, true, false, map, sym, ap, ◌∙◌}
+use Rattle.std.proofs.Common.{◌≡◌, ◌<◌, Some, length, sym}
+use Rattle.std.specs.Prelude.{slice_get}
 use Rattle.net_model.proofs.Placed.{made_at}
-use Rattle.net_draft.specs.Hops.{named_from}
+use Rattle.net_draft.specs.ListViews.{list_texts}
 use Rattle.net_draft.specs.Views.{server_text}
-use Rattle.net_draft.proofs.Named.{named_here, named_on, named_end}
+use Rattle.net_draft.proofs.Named.{unknown_server, known_server, known_within}
 use Rattle.net_draft.proofs.hops.server_named.Goals as goal
 
-pub returns-then-eq-clause-value : goal.returns-then-eq-clause-value
-returns-then-eq-clause-value c =
-    let same : bytes_eq (string_bytes c.index-servers-number.result.name) c.args.name.now ≡ true =
-    ap (λ t. bytes_eq t c.args.name.now) (sym c.as_bytes.ensures.value) ∙ sym c.eq.ensures ∙ c.if-eq.true in
-    named_here c.args.servers.now c.loop-number.number c.args.name.now c.index-servers-number.result (named_from 0 c.args.name.now (map server_text c.args.servers.now))
-    c.loop-number-test.true c.index-servers-number.is same c.loop-number.invariant
+pub returns-in-Some-clause-stands : goal.returns-in-Some-clause-stands
+returns-in-Some-clause-stands c =
+    let l = c.args.servers.now in
+    made_at server_text l.servers.items c.in-Some.number c.index.result.now (known_within c.args.name.now l.names.keys l.servers.items c.in-Some.number l.named c.in-Some.ensures.index) c.index.ensures
 
-pub returns-then-eq-clause-stands : goal.returns-then-eq-clause-stands
-returns-then-eq-clause-stands c = made_at server_text c.args.servers.now c.loop-number.number c.index-servers-number.result c.loop-number-test.true c.index-servers-number.is
+pub returns-in-Some-clause-value : goal.returns-in-Some-clause-value
+returns-in-Some-clause-value c =
+    let l = c.args.servers.now in
+    let stands : slice_get (list_texts l) c.in-Some.number ≡ Some (server_text c.index.result.now) =
+    made_at server_text l.servers.items c.in-Some.number c.index.result.now (known_within c.args.name.now l.names.keys l.servers.items c.in-Some.number l.named c.in-Some.ensures.index) c.index.ensures in
+    sym (known_server c.args.name.now l.names.keys (list_texts l) c.in-Some.number (server_text c.index.result.now) l.named c.in-Some.ensures.index stands)
 
-pub loop-number-preserved : goal.loop-number-preserved
-loop-number-preserved c =
-    let other : bytes_eq (string_bytes c.index-servers-number.result.name) c.args.name.now ≡ false =
-    ap (λ t. bytes_eq t c.args.name.now) (sym c.as_bytes.ensures.value) ∙ sym c.eq.ensures ∙ c.if-eq.false in
-    named_on c.args.servers.now c.loop-number.number c.args.name.now c.index-servers-number.result (named_from 0 c.args.name.now (map server_text c.args.servers.now))
-    c.loop-number-test.true c.index-servers-number.is other c.loop-number.invariant
-
-pub returns-clause-value : goal.returns-clause-value
-returns-clause-value c =
-    named_end c.args.servers.now c.loop-number.number c.args.name.now (named_from 0 c.args.name.now (map server_text c.args.servers.now)) c.loop-number-test.false c.loop-number.invariant
+pub returns-in-None-clause-value : goal.returns-in-None-clause-value
+returns-in-None-clause-value c =
+    let l = c.args.servers.now in
+    sym (unknown_server c.args.name.now l.names.keys (list_texts l) l.named c.in-None.ensures.index)

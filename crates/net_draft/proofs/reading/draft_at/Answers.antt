@@ -10,17 +10,17 @@ use Rattle.net_draft.proofs.reading.draft_at.Goals as goal
 
 pub returns-clause-kept : goal.returns-clause-kept
 returns-clause-kept c =
-    let servers = c.in_ok-servers.servers.items in
+    let servers = c.in_ok-servers.servers.servers.items in
     let flows = c.in_ok-flows.flows.items in
-    let kept : All (IsFlowDraft (map server_text servers)) flows = subst (λ ss. All (IsFlowDraft (map server_text ss)) flows) c.deref.ensures.value c.in_ok-flows.ensures.kept in
+    let kept : All (IsFlowDraft (map server_text servers)) flows = c.in_ok-flows.ensures.kept in
     let paths : All (λ f. All (IsHopOf (map server_text servers)) f.path) (map flow_text flows) =
     All-map (λ f. All (IsHopOf (map server_text servers)) f.path) flow_text flows
     (All-weaker (IsFlowDraft (map server_text servers)) (λ d. All (IsHopOf (map server_text servers)) d.path.items) (λ d h. h.hops) flows kept) in
-    let of_servers = subst (λ ss. quanta_fit (map flow_text c.deref-3.result.now) 0 (map server_text ss) ≡ Ok tt) c.deref-2.ensures.value c.in_ok-all_fit.ensures in
-    let fit = subst (λ fs. quanta_fit (map flow_text fs) 0 (map server_text servers) ≡ Ok tt) c.deref-3.ensures.value of_servers in
+    let of_servers = subst (λ ss. quanta_fit (map flow_text c.deref-2.result.now) 0 (map server_text ss) ≡ Ok tt) c.deref.ensures.value c.in_ok-all_fit.ensures in
+    let fit = subst (λ fs. quanta_fit (map flow_text fs) 0 (map server_text servers) ≡ Ok tt) c.deref-2.ensures.value of_servers in
     record {
       version = c.in_ok-version.ensures.range;
-      few_servers = c.in_ok-servers.ensures.few;
+      few_servers = c.in_ok-servers.servers.few;
       few_flows = c.in_ok-flows.ensures.few;
       server_names = c.in_ok-servers.ensures.names;
       flow_names = c.in_ok-flows.ensures.names;
