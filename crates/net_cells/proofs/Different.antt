@@ -33,7 +33,8 @@ not_in_two : (x y z : Cell) → (y.kind ≡ x.kind → ⊥) → (z.kind ≡ x.ki
 not_in_two x y z n m (inl e) = n (ap (λ (c : Cell). c.kind) e)
 not_in_two x y z n m (inr h) = not_in x z m h
 
-three_apart : (x y z : Cell) → (y.kind ≡ x.kind → ⊥) → (z.kind ≡ x.kind → ⊥) → (z.kind ≡ y.kind → ⊥) → Apart (x ∷ y ∷ z ∷ [])
+three_apart : (x y z : Cell) → (y.kind ≡ x.kind → ⊥) → (z.kind ≡ x.kind → ⊥) → (z.kind ≡ y.kind → ⊥)
+    → Apart (x ∷ y ∷ z ∷ [])
 three_apart x y z n m l = (not_in_two x y z n m, two_apart y z l)
 
 -- ---- many
@@ -71,10 +72,12 @@ of_kind net Cross i k =
     (apart_map (at_visit In) (others net i s q) (visit_one In)
     (apart_filter (λ (v : Visit). not (v.flow == i)) (visits_in net s q) (in_apart net s q)))
 of_kind net Total s q =
-    sum_apart (map (at_visit In) (visits_in net s q)) (apart_map (at_visit In) (visits_in net s q) (visit_one In) (in_apart net s q))
+    sum_apart (map (at_visit In) (visits_in net s q))
+    (apart_map (at_visit In) (visits_in net s q) (visit_one In) (in_apart net s q))
 of_kind net Higher s q = sum_apart (map (cell_of Total s) (range_with_len 0 q)) (numbers_apart Total s q)
 of_kind net QueueService s q = of_service net s q (discipline net s)
-of_kind net Theta i k = two_apart (cell_of Cross i k) (cell_of QueueService (server_at net i k) (queue_at net i k)) (λ e. cc)
+of_kind net Theta i k = two_apart (cell_of Cross i k) (cell_of QueueService (server_at net i k) (queue_at net i k))
+    (λ e. cc)
 of_kind net Residual i k =
     three_apart (cell_of QueueService (server_at net i k) (queue_at net i k)) (cell_of Cross i k) (cell_of Theta i k)
     (λ e. cc) (λ e. cc) (λ e. cc)
@@ -86,7 +89,8 @@ of_kind net HopDelay i k =
 of_kind net ShiftOut i k = two_apart (cell_of In i k) (cell_of HopDelay i k) (λ e. cc)
 of_kind net DeconvOut i k = two_apart (cell_of In i k) (cell_of Residual i k) (λ e. cc)
 of_kind net Out i k = two_apart (cell_of ShiftOut i k) (cell_of DeconvOut i k) (λ e. cc)
-of_kind net PathService i b = subst Apart (sym (served_leaves net i (hops net i - 1))) (numbers_apart Residual i (hops net i - 1 + 1))
+of_kind net PathService i b = subst Apart (sym (served_leaves net i (hops net i - 1)))
+    (numbers_apart Residual i (hops net i - 1 + 1))
 of_kind net Tfa i b = numbers_apart HopDelay i (hops net i)
 of_kind net Sfa i b = two_apart (cell_of In i 0) (cell_of PathService i 0) (λ e. cc)
 of_kind net Bound i b = two_apart (cell_of Tfa i 0) (cell_of Sfa i 0) (λ e. cc)

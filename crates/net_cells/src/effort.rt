@@ -2,8 +2,6 @@
 
 ghost use Rattle.std.specs.Prelude.{◌≡◌, ◌≤◌, ◌-◌, ◌*◌, ℕ, length, slice_index, ◌==◌, ◌&&◌};
 ghost use Rattle.std.specs.List.{filter};
-ghost use Rattle.std.specs.Option.{option_map};
-ghost use Rattle.net_model.specs.Views.{flow_of};
 ghost use Rattle.net_cells.specs.declared.cell.Kind.TheVariants.{Cross, Total, QueueService};
 ghost use Rattle.net_cells.specs.Numbered as at;
 ghost use Rattle.net_cells.specs.Visits.{hops_in, visits_in};
@@ -37,8 +35,8 @@ fn count_hops(path: &[u32], lanes: &[u32], server: u32, queue: u32) -> u32
 
 // Of a flow, where it is live.
 fn count_flow(flow: &Option<Flow>, server: u32, queue: u32) -> u32
-    requires { length (at.path_of (option_map flow_of flow.now)) ≤ 16 }
-    ensures count { (i : ℕ) → result ≡ length (hops_in i (at.path_of (option_map flow_of flow.now)) (at.queues_of (option_map flow_of flow.now)) server queue) }
+    requires { length (at.stored_path flow.now) ≤ 16 }
+    ensures count { (i : ℕ) → result ≡ length (hops_in i (at.stored_path flow.now) (at.stored_queues flow.now) server queue) }
     ensures few { result ≤ 16 }
 {
     match flow {
@@ -107,8 +105,9 @@ fn for_service(net: &Network, cell: Cell) -> u32
 }
 
 /// How many operators on curves a cell takes: the terms of a sum less one; 3 for a priority queue's service and 2 for a
-/// deficit round robin queue's; 2 for each hop of a path but the last; 2 for a backlog and for an output by its service;
-/// 1 for the others that compute; 0 where a value is handed on, or numbers alone are computed with. It takes no memory.
+/// deficit round robin queue's; 2 for each hop of a path but the last; 2 for a backlog and for an output by its
+/// service; 1 for the others that compute; 0 where a value is handed on, or numbers alone are computed with. It takes
+/// no memory.
 pub fn work(cell: Cell, net: &Network) -> u32
     ensures { result ≡ spec.work net.now cell }
 {

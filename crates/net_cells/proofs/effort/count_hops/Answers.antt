@@ -7,7 +7,8 @@ use Rattle.net_cells.proofs.effort.count_hops.Goals.{then-is_in, else-is_in}
 
 pub loop-hop-preserved : goal.loop-hop-preserved
 loop-hop-preserved c =
-    let p = λ (v : Visit). eqb (get_or c.args.path.now v.hop 0) c.args.server && eqb (get_or c.args.lanes.now v.hop 0) c.args.queue in
+    let p = λ (v : Visit). eqb (get_or c.args.path.now v.hop 0) c.args.server && eqb
+    (get_or c.args.lanes.now v.hop 0) c.args.queue in
     let n = c.loop-hop.hop in
     let old = c.loop-hop.invariant in
     elim c.if-is_in.branch [

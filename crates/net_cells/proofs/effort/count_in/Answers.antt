@@ -13,7 +13,8 @@ use Rattle.net_cells.proofs.effort.count_in.Goals as goal
 pub count_flow-more-requires : goal.count_flow-more-requires
 count_flow-more-requires c =
     let fs = c.flows-flows.result.now in
-    let same = flow_stored c.args.net.now fs c.loop-number.number c.index-flows-number.result c.flows-flows.ensures.flows
+    let same = flow_stored c.args.net.now fs c.loop-number.number c.index-flows-number.result
+    c.flows-flows.ensures.flows
     c.loop-number-test.true c.index-flows-number.is in
     let P : Option NetFlow → Type 0 = λ o. length (path_of o) ≤ 16 in
     subst P (sym same) (few_hops c.args.net.now c.loop-number.number c.flows-flows.ensures.kept)
@@ -27,7 +28,8 @@ loop-number-preserved c =
     let q = c.args.queue in
     let same = flow_stored net fs n c.index-flows-number.result c.flows-flows.ensures.flows c.loop-number-test.true
     c.index-flows-number.is in
-    let count = c.count_flow-more.ensures.count n ∙ ap (λ (o : Option NetFlow). length (hops_in n (path_of o) (queues_of o) s q)) same in
+    let count = c.count_flow-more.ensures.count n
+    ∙ ap (λ (o : Option NetFlow). length (hops_in n (path_of o) (queues_of o) s q)) same in
     record {
       is = more_of net s q n c.loop-number.total c.count_flow-more.result c.loop-number.invariant.is count;
       few = omega (arith, c.loop-number.invariant.few, c.count_flow-more.ensures.few);
@@ -38,7 +40,8 @@ returns c =
     let net = c.args.net.now in
     let count = ap length c.flows-flows.ensures.flows in
     let all = length-map c.flows-flows.result.now (option_map flow_of) in
-    let last : c.loop-number.number ≡ length net.flows = omega (arith, count, all, c.loop-number-test.false, c.loop-number.auto.number-end) in
+    let last : c.loop-number.number ≡ length net.flows =
+    omega (arith, count, all, c.loop-number-test.false, c.loop-number.auto.number-end) in
     c.loop-number.invariant.is
     ∙ ap (λ (n : ℕ). length (flat_map (hops_of net c.args.server c.args.queue) (range_with_len 0 n))) last
     ∙ sym (ap length (in_by_flow net c.args.server c.args.queue))
