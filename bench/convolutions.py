@@ -94,6 +94,10 @@ fn convolved<L: Ledger>(alloc: Global, blank: Blank, f: &Curve, g: &Curve) -> us
     }
 }
 
+fn counted(alloc: Global, f: &Curve, g: &Curve) -> usize {
+    convolved::<Brand>(alloc, Blank::new(1), f, g)
+}
+
 fn main(rt: HostRuntime) -> io::Result<()> {
     for (name, (rank, open, last, rise), (first, second, end, gain)) in [
 ROWS    ] {
@@ -102,7 +106,7 @@ ROWS    ] {
         if let (Ok(f), Ok(g)) = (slow, fast) {
             let tally = pairs(&f, &g);
             let start = Instant::now(&rt)?;
-            let count = convolved::<Brand>(rt.alloc(), Blank::new(1), &f, &g);
+            let count = counted(rt.alloc(), &f, &g);
             let time = start.elapsed(&rt)?;
             println!(rt; "{name} {tally} {} {count}", time.as_nanos())?;
         }
@@ -121,10 +125,10 @@ CYCLES = [
     ("late", 1, 246, 247),
 ]
 
-GHOSTS = """use Rattle.bench.proofs.main.Given as goal
+GHOSTS = """use Rattle.bench.proofs.counted.Given as goal
 
 abbrev pub ghosts-convolved : goal.ghosts-convolved
-ghosts-convolved g a = record { name = a.blank.name; parts = a.blank.parts }
+ghosts-convolved a = record { name = a.blank.name; parts = a.blank.parts }
 """
 
 
@@ -164,10 +168,10 @@ def measured():
             shutil.copytree(os.path.join(top, "crates", name), os.path.join(folder, "crates", name))
         bench = os.path.join(folder, "crates", "bench")
         os.makedirs(os.path.join(bench, "src"))
-        os.makedirs(os.path.join(bench, "proofs", "main"))
+        os.makedirs(os.path.join(bench, "proofs", "counted"))
         with open(os.path.join(bench, "src", "main.rt"), "w") as out:
             out.write(PROGRAM.lstrip().replace("ROWS", "".join(row(*c) for c in CYCLES)))
-        with open(os.path.join(bench, "proofs", "main", "Invariants.antt"), "w") as out:
+        with open(os.path.join(bench, "proofs", "counted", "Invariants.antt"), "w") as out:
             out.write(GHOSTS)
         with open(os.path.join(folder, "crates.txt"), "w") as out:
             for name, deps in crates:
