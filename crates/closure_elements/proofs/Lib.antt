@@ -7,6 +7,8 @@ pub mod NormalClosures
 pub mod NormalTurns
 pub mod SmallPieces
 pub mod FewCopies
+pub mod HeavyCurves
+pub mod FlatLines
 pub mod PointCurves
 pub mod TurnSteps
 pub mod SegmentAnswers

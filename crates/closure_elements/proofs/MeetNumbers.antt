@@ -1,10 +1,10 @@
 -- How many stretches end before the next begins.
-use Rattle.std.specs.Prelude.{◌≡◌, ℕ, suc, ◌≤◌, pos}
+use Rattle.std.specs.Prelude.{◌≡◌, ℕ, suc, pos}
 use Rattle.std.proofs.Common.{arith, sym, subst}
 use Rattle.rational.specs.Rational.{ℚ, ◌+ℚ◌, ◌-ℚ◌, ◌*ℚ◌, ◌/ℚ◌, ◌≤ℚ◌, ◌<ℚ◌, int}
 use Rattle.rational.specs.Whole.{whole_part}
 use Rattle.rational.specs.declared.Extended.TheVariants.{Fin, Inf}
-use Rattle.rational.proofs.Linear.{with2, with3, with4, with5}
+use Rattle.rational.proofs.Linear.{with2, with3, with5}
 use Rattle.rational.proofs.Laws.{le_trans, lt_le_trans, le_of_lt, mul_le_mul_right, mul_lt_mul_right, mul_add, zero_mul, div_mul, not_zero, le_of_mul}
 use Rattle.rational.proofs.Integers.{nat_le}
 use Rattle.rational.proofs.Whole.{one_more_times, whole_le, whole_gt}

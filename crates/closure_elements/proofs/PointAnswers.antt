@@ -8,12 +8,13 @@ use Rattle.affine_segment.specs.declared.line.Piece.{Piece}
 use Rattle.affine_segment.specs.declared.element.Element.TheVariants.{Point}
 use Rattle.upp_curve.specs.declared.curve.Tail.TheVariants.{Periodic, Infinite}
 use Rattle.upp_curve.specs.Curve.{SpecCurve, value_at}
+use Rattle.upp_curve.specs.Curves.{IsCurve}
 use Rattle.upp_curve.specs.Functions.{zero_q}
 use Rattle.upp_curve.specs.Limits.{own_tally}
 use Rattle.closure_laws.proofs.ElementSums.{closure_of_point}
 use Rattle.closure_elements.specs.ElementCurves.{gap, point_closure, point_at_zero}
 use Rattle.closure_elements.specs.ElementAnswers.{IsElementClosure}
-use Rattle.closure_elements.proofs.FewCopies.{periodic_few, infinite_few}
+use Rattle.closure_elements.proofs.FewCopies.{periodic_few}
 use Rattle.closure_elements.proofs.PointCurves.{point_values, point_normal, zero_values, zero_normal}
 
 abbrev pub point_piece : ℚ → ℚ → Piece
@@ -37,10 +38,8 @@ zero_is z v ps e f =
     let second = λ (y : ℚ). let c : SpecCurve = record { pieces = point_piece y v ∷ []; tail = Infinite y } in c in
     ap first f ∙ ap second e
 
-pub zero_few : (v : ℚ) → own_tally (point_at_zero v) ≤ 2 ^ 20
-zero_few v =
-    let h = infinite_few (point_piece zero_q v ∷ []) zero_q (zero_normal v).raw.starts in
-    omega (arith, h)
+pub zero_curve : (v : ℚ) → IsCurve (point_at_zero v)
+zero_curve v = record { normal = zero_normal v; readable = (tt, tt, tt) }
 
 pub ready_point : (x v : ℚ) → zero_q <ℚ x → IsElementClosure (Point x v) (point_closure x v)
 ready_point x v some = record {

@@ -1,37 +1,42 @@
 -- What the calls on a segment answer.
-use Rattle.std.specs.Prelude.{◌≡◌, ◌<◌, ◌≤◌, ◌^◌, ◌+◌, ◌++◌, ◌⊎◌, ℕ, suc, pos, List, [], ◌∷◌, Some, Result, Ok, Err}
+use Rattle.std.specs.Prelude.{◌≡◌, ◌<◌, ◌≤◌, ◌^◌, ◌+◌, ◌++◌, ◌⊎◌, ℕ, suc, pos, List, [], ◌∷◌, Some, None, Result, Ok, Err}
 use Rattle.std.proofs.Common.{arith, sym, refl, ap, ◌∙◌, subst, inl, inr, Ordering, Equal}
 use Rattle.std.specs.Ordering.{MatchOrdering}
 use Rattle.rational.specs.Rational.{ℚ, ◌+ℚ◌, ◌≤ℚ◌, ◌<ℚ◌, int}
 use Rattle.rational.specs.Ratio.{IsSmall}
 use Rattle.rational.specs.declared.Extended.TheVariants.{Fin, Inf}
-use Rattle.rational.proofs.Linear.{with1, with2}
-use Rattle.rational.proofs.Laws.{le_of_lt, le_lt_trans, lt_irrefl}
+use Rattle.rational.proofs.Linear.{with1}
+use Rattle.rational.proofs.Laws.{le_of_lt, le_or_lt, one_mul, le_lt_trans, lt_irrefl}
 use Rattle.affine_segment.specs.declared.line.Line.{Line}
 use Rattle.affine_segment.specs.declared.line.Piece.{Piece}
 use Rattle.affine_segment.specs.declared.element.Element.{Element}
 use Rattle.affine_segment.specs.declared.element.Element.TheVariants.{Open}
 use Rattle.affine_segment.specs.Elements.{element_value}
 use Rattle.affine_segment.specs.Values.{line_at}
-use Rattle.upp_curve.specs.declared.curve.Tail.TheVariants.{Periodic, Affine}
+use Rattle.upp_curve.specs.declared.curve.Tail.{Tail}
+use Rattle.upp_curve.specs.declared.curve.Tail.TheVariants.{Periodic, Affine, Infinite}
 use Rattle.upp_curve.specs.declared.op_kind.OpFault.{OpFault}
 use Rattle.upp_curve.specs.declared.op_kind.OpFault.TheVariants.{TooMany, TooWide, NoMemory}
 use Rattle.upp_curve.specs.Curve.{SpecCurve, value_at, HasSameValues}
 use Rattle.upp_curve.specs.Curves.{IsCurve}
 use Rattle.upp_curve.specs.Functions.{zero_q}
-use Rattle.upp_curve.specs.Normal.{Each, IsNormal}
+use Rattle.upp_curve.specs.Normal.{Each, IsRaw, IsNormal}
 use Rattle.upp_curve.specs.Steady.{rank_of}
 use Rattle.upp_curve.proofs.Normal.{each_at}
-use Rattle.upp_curve.specs.Readable.{LineFitsAt}
-use Rattle.upp_curve.specs.Limits.{own_gauge, own_tally, own_end, own_sizes}
+use Rattle.upp_curve.specs.Readable.{LineFitsAt, EachFits}
+use Rattle.upp_curve.specs.Limits.{Sizes, own_gauge, own_tally}
 use Rattle.upp_curve.specs.Convolution.{IsSubadditiveClosure}
 use Rattle.closure_laws.proofs.ElementSums.{closure_of_segment}
 use Rattle.closure_laws.specs.ElementClosures.{IsSegmentClosure}
-use Rattle.closure_elements.specs.ElementCurves.{nat_times, turn, stretches, all_stretches, level_closure, rising_closure, falling_closure}
-use Rattle.closure_elements.specs.PieceFits.{PieceFits, IsUnfit, IsMade}
+use Rattle.closure_elements.specs.ElementCurves.{nat_times, opening, line_times, from_zero, turn, stretches, all_stretches, level_closure, rising_closure, falling_closure}
+use Rattle.closure_elements.specs.PieceFits.{PieceFits, IsUnfit, IsMade, SlopesRead, Turns}
 use Rattle.closure_elements.specs.ElementAnswers.{IsElementClosure, ClosureAnswer, IsOpenPart}
-use Rattle.closure_elements.proofs.SmallPieces.{OwnSizes, PieceStands, pieces_fit, rise_fits, wide_by}
-use Rattle.closure_elements.proofs.FewCopies.{affine_few, periodic_few, few_pieces, end_is}
+use Rattle.closure_elements.proofs.SmallPieces.{CallSizes, PieceStands, pieces_fit, rise_fits, lines_read, heavy_by}
+use Rattle.closure_elements.proofs.HeavyCurves.{own_heavy}
+use Rattle.closure_elements.proofs.FlatLines.{slopes_of, none_next, flat_each, flat_stretches}
+use Rattle.closure_elements.proofs.PieceReads.{late_start, early_start}
+use Rattle.closure_elements.specs.Heavy.{IsHeavy}
+use Rattle.closure_elements.proofs.FewCopies.{periodic_few, few_pieces}
 use Rattle.closure_elements.proofs.TurnNumbers.{le_or_more}
 use Rattle.closure_elements.proofs.TurnSteps.{first_of_all, all_then, each_then}
 use Rattle.closure_elements.proofs.ClosureValues.{level_values, rising_values, falling_values, endless_values}
@@ -59,24 +64,28 @@ made_answer e c (Err NoMemory) normal values h = h
 pub made_ok : (c d : SpecCurve) → HasSameValues d c → IsCurve d → IsMade c (Ok d)
 made_ok c d h k = record { same = h; curve = k }
 
-pub made_err : (c : SpecCurve) (e : OpFault) → own_tally c ≤ 2 ^ 20
-    → (own_gauge c < 2 ^ 120 → own_tally c ≤ 2 ^ 20 → e ≡ NoMemory) → (2 ^ 120 ≤ own_gauge c → e ≡ TooWide) → IsMade c (Err e)
-made_err c e few inside wide = by_gauge e inside wide (below (own_gauge c) (2 ^ 120))
+pub made_err : (ps : List Piece) (tail : Tail) (e : OpFault) → (let c : SpecCurve = record { pieces = ps; tail = tail } in IsRaw c → Turns tail → own_tally c ≤ 2 ^ 20
+    → (own_gauge c < 2 ^ 120 → own_tally c ≤ 2 ^ 20 → e ≡ NoMemory) → (2 ^ 120 ≤ own_gauge c → e ≡ TooWide) → IsMade c (Err e))
+made_err ps (Affine r) e raw turns few inside wide = absurd turns
+made_err ps (Infinite r) e raw turns few inside wide = absurd turns
+made_err ps (Periodic R d x) e raw turns few inside wide = by_gauge (below (own_gauge c) (2 ^ 120))
   where
+    c : SpecCurve
+    c = record { pieces = ps; tail = Periodic R d x }
+
     below : (n m : ℕ) → (n < m) ⊎ (m ≤ n)
     below n m = elim (le_or_more m n) [ inl h ↦ inr h | inr h ↦ inl h ]
 
-    by_gauge : (e : OpFault) → (own_gauge c < 2 ^ 120 → own_tally c ≤ 2 ^ 20 → e ≡ NoMemory) → (2 ^ 120 ≤ own_gauge c → e ≡ TooWide)
-        → ((own_gauge c < 2 ^ 120) ⊎ (2 ^ 120 ≤ own_gauge c)) → IsMade c (Err e)
-    by_gauge e inside wide (inl h) = subst (λ z. IsMade c (Err z)) (sym (inside h few)) tt
-    by_gauge e inside wide (inr h) = subst (λ z. IsMade c (Err z)) (sym (wide h)) h
+    by_gauge : ((own_gauge c < 2 ^ 120) ⊎ (2 ^ 120 ≤ own_gauge c)) → IsMade record { pieces = ps; tail = Periodic R d x } (Err e)
+    by_gauge (inl h) = subst (λ z. IsMade record { pieces = ps; tail = Periodic R d x } (Err z)) (sym (inside h few)) tt
+    by_gauge (inr h) = subst (λ z. IsMade record { pieces = ps; tail = Periodic R d x } (Err z)) (sym (wide h)) (own_heavy ps R d x raw.tail.some h)
 
 pub ready_answer : (e : Element) (c : SpecCurve) (r : Result SpecCurve OpFault) → IsElementClosure e c → IsMade c r → ClosureAnswer e r
 ready_answer e c r h k = made_answer e c r h.normal h.closes k
 
--- ---- what fits of a curve with a small gauge
-rank_small : (c : SpecCurve) → IsNormal c → OwnSizes c → IsSmall (rank_of c.tail)
-rank_small c normal O = each_at IsSmall (rank_of c.tail) c.pieces (starts c.pieces (pieces_fit c O)) normal.rank_is_start
+-- ---- what fits of a curve that a call takes
+rank_small : (c : SpecCurve) (z : Sizes) (end : ℚ) → IsNormal c → CallSizes c z end → IsSmall (rank_of c.tail)
+rank_small c z end normal O = each_at IsSmall (rank_of c.tail) c.pieces (starts c.pieces (pieces_fit c z end O)) normal.rank_is_start
   where
     starts : (ps : List Piece) → Each PieceFits ps → Each (λ p. IsSmall p.x) ps
     starts [] h = tt
@@ -88,14 +97,62 @@ pub level_unfit : (a b : ℚ) (l : Line) (m : ℕ) → IsNormal (level_closure a
 level_unfit a b l m normal TooMany h = h
 level_unfit a b l m normal TooWide h =
     let c = level_closure a b l m in
-    wide_by c (Each PieceFits c.pieces) normal.raw tt (pieces_fit c) h
+    heavy_by c (Each PieceFits c.pieces) normal.raw tt (pieces_fit c) h
 level_unfit a b l m normal NoMemory h = tt
 
 pub level_wide : (a b : ℚ) (l : Line) (m : ℕ) → IsNormal (level_closure a b l m) → ¬ (IsSmall (nat_times (suc m) a))
-    → 2 ^ 120 ≤ own_gauge (level_closure a b l m)
+    → IsHeavy (level_closure a b l m)
 level_wide a b l m normal h =
     let c = level_closure a b l m in
-    wide_by c (IsSmall (nat_times (suc m) a)) normal.raw tt (rank_small c normal) h
+    heavy_by c (IsSmall (nat_times (suc m) a)) normal.raw tt (λ z end O. rank_small c z end normal O) h
+
+pub level_blind : (a b : ℚ) (l : Line) (m : ℕ) (v : List Piece) → v ≡ all_stretches a b l m [] → IsNormal (level_closure a b l m) → ¬ (SlopesRead None v)
+    → IsHeavy (level_closure a b l m)
+level_blind a b l m v e normal h =
+    let c = level_closure a b l m in
+    heavy_by c (EachFits None c.pieces) normal.raw tt (λ z end O. lines_read c z end (nat_times (suc m) a) O refl)
+    (λ k. h (subst (SlopesRead None) (sym e) (slopes_of None (all_stretches a b l m []) (none_next (all_stretches a b l m [])) k)))
+
+-- a curve that is made from what is in normal form and readable
+pub formed : (c d : SpecCurve) → d ≡ c → IsCurve c → IsMade c (Ok d)
+formed c d e h = record { same = λ t k. ap (λ z. value_at z t) e; curve = subst IsCurve (sym e) h }
+
+pub level_curve : (a b : ℚ) (l : Line) (m : ℕ) (v : List Piece) → v ≡ all_stretches a b l m [] → l.icept ≡ zero_q → IsNormal (level_closure a b l m)
+    → SlopesRead None v → IsCurve (level_closure a b l m)
+level_curve a b l m v e flat normal h = record {
+  normal = normal;
+  readable = flat_each None (all_stretches a b l m []) tt (flat_stretches a b l m flat) (subst (SlopesRead None) e h);
+}
+
+-- one value of a line
+pub single_is : (a : ℚ) (l : Line) (v : List Piece) → v ≡ from_zero a (opening a l ∷ [])
+    → (let c : SpecCurve = record { pieces = v; tail = Affine a } in c ≡ level_closure a zero_q l 0)
+unfolding stretches
+single_is a l v e =
+    let one : nat_times 1 a ≡ a = one_mul a in
+    let same : line_times 1 l ≡ l = once l in
+    let first = λ (z : List Piece). let c : SpecCurve = record { pieces = z; tail = Affine a } in c in
+    let second = λ (z : ℚ). let c : SpecCurve = record { pieces = from_zero a (opening z l ∷ []); tail = Affine z } in c in
+    let third = λ (z : Line). let c : SpecCurve = record { pieces = from_zero a (opening (nat_times 1 a) z ∷ []); tail = Affine (nat_times 1 a) } in c in
+    ap first e ∙ ap second (sym one) ∙ ap third (sym same)
+  where
+    once : (l : Line) → line_times 1 l ≡ l
+    once l = ap (λ z. let m : Line = record { icept = z; slope = l.slope } in m) (one_mul l.icept)
+
+pub single_curve : (a : ℚ) (l : Line) → LineFitsAt a (Some l) → IsNormal (level_closure a zero_q l 0)
+    → (let c : SpecCurve = record { pieces = from_zero a (opening a l ∷ []); tail = Affine a } in IsCurve c)
+single_curve a l h normal =
+    let c : SpecCurve = record { pieces = from_zero a (opening a l ∷ []); tail = Affine a } in
+    record {
+      normal = subst IsNormal (sym (single_is a l (from_zero a (opening a l ∷ [])) refl)) normal;
+      readable = elim (le_or_lt a zero_q) [
+        | inl none ↦ subst (EachFits None) (sym (early_start a (opening a l ∷ []) none)) (h, tt, tt)
+        | inr some ↦ subst (EachFits None) (sym (late_start a (opening a l ∷ []) some)) (tt, tt, (h, tt, tt))
+      ];
+    }
+
+pub single_made : (a : ℚ) (l : Line) → LineFitsAt a (Some l) → IsNormal (level_closure a zero_q l 0) → IsCurve (level_closure a zero_q l 0)
+single_made a l h normal = subst IsCurve (single_is a l (from_zero a (opening a l ∷ [])) refl) (single_curve a l h normal)
 
 pub level_is : (a b : ℚ) (l : Line) (m k : ℕ) (v : List Piece) (r : ℚ) → k ≡ suc m → v ≡ all_stretches a b l m [] → r ≡ nat_times k a
     → (let c : SpecCurve = record { pieces = v; tail = Affine r } in c ≡ level_closure a b l m)
@@ -104,44 +161,31 @@ level_is a b l m k v r e f g =
     let second = λ (z : ℚ). let c : SpecCurve = record { pieces = all_stretches a b l m []; tail = Affine z } in c in
     ap first f ∙ ap second (g ∙ ap (λ z. nat_times z a) e)
 
-pub level_few : (a b : ℚ) (l : Line) (m : ℕ) → m + 3 ≤ 2 ^ 19 → IsNormal (level_closure a b l m) → own_tally (level_closure a b l m) ≤ 2 ^ 20
-level_few a b l m h normal =
-    let x = affine_few (all_stretches a b l m []) (nat_times (suc m) a) normal.raw.starts in
-    let y = few_pieces a b l m [] in
-    omega (arith, x, y)
-
 -- ---- a turn at the end
 module _ (a b : ℚ) (l : Line) (m : ℕ) (q : Piece) (d : ℚ) where
   abbrev pub with_turn : SpecCurve
   with_turn = record { pieces = all_stretches a b l m (q ∷ []); tail = Periodic q.x d (line_at l d) }
 
-  parts_fit : OwnSizes with_turn → Each PieceFits (all_stretches a b l m []) × Each PieceFits (q ∷ [])
-  parts_fit O =
-      each_then PieceFits (all_stretches a b l m []) (q ∷ []) (subst (Each PieceFits) (sym (all_then a b l m (q ∷ []))) (pieces_fit with_turn O))
+  parts_fit : (z : Sizes) (end : ℚ) → CallSizes with_turn z end → Each PieceFits (all_stretches a b l m []) × Each PieceFits (q ∷ [])
+  parts_fit z end O =
+      each_then PieceFits (all_stretches a b l m []) (q ∷ []) (subst (Each PieceFits) (sym (all_then a b l m (q ∷ []))) (pieces_fit with_turn z end O))
 
   pub turn_unfit : IsNormal with_turn → (e : OpFault) → IsUnfit (all_stretches a b l m []) e → IsMade with_turn (Err e)
   turn_unfit normal TooMany h = h
-  turn_unfit normal TooWide h = wide_by with_turn (Each PieceFits (all_stretches a b l m [])) normal.raw tt (λ O. (parts_fit O).0) h
+  turn_unfit normal TooWide h = heavy_by with_turn (Each PieceFits (all_stretches a b l m [])) normal.raw tt (λ z end O. (parts_fit z end O).0) h
   turn_unfit normal NoMemory h = tt
 
-  pub turn_wide : IsNormal with_turn → ¬ (PieceFits q) → 2 ^ 120 ≤ own_gauge with_turn
-  turn_wide normal h = wide_by with_turn (PieceFits q) normal.raw tt (λ O. (parts_fit O).1.0) h
+  pub turn_wide : IsNormal with_turn → ¬ (PieceFits q) → IsHeavy with_turn
+  turn_wide normal h = heavy_by with_turn (PieceFits q) normal.raw tt (λ z end O. (parts_fit z end O).1.0) h
 
-  pub rise_wide : IsNormal with_turn → ¬ (LineFitsAt d (Some l)) → 2 ^ 120 ≤ own_gauge with_turn
-  rise_wide normal h = wide_by with_turn (LineFitsAt d (Some l)) normal.raw tt fits h
+  pub rise_wide : IsNormal with_turn → ¬ (LineFitsAt d (Some l)) → IsHeavy with_turn
+  rise_wide normal h = heavy_by with_turn (LineFitsAt d (Some l)) normal.raw tt fits h
     where
-      reach : (R : ℚ) → zero_q ≤ℚ R → d ≤ℚ R +ℚ d
-      reach R h = with2 R d (λ c. omega (arith, c.le, c.lt, c.same))
-
-      fits : OwnSizes with_turn → LineFitsAt d (Some l)
-      fits O =
-          let s = (first_of_all (PieceStands (own_sizes with_turn) (own_end with_turn)) a b l m (q ∷ []) O.pieces).0 in
+      fits : (z : Sizes) (end : ℚ) → CallSizes with_turn z end → LineFitsAt d (Some l)
+      fits z end O =
+          let s = (first_of_all (PieceStands z end) a b l m (q ∷ []) O.pieces).0 in
           let t = normal.raw.tail in
-          let R = q.x in
-          let low = t.nonneg in
-          let some = t.some in
-          rise_fits with_turn q.x d l O refl s.slope (le_of_lt t.some)
-          (subst (λ z. d ≤ℚ z) (sym (end_is (all_stretches a b l m (q ∷ [])) q.x d (line_at l d))) (reach R low))
+          rise_fits with_turn z end q.x d l O refl s.slope t.nonneg (le_of_lt t.some)
 
   pub turn_few : m + 3 ≤ 2 ^ 19 → IsNormal with_turn → own_tally with_turn ≤ 2 ^ 20
   turn_few h normal =

@@ -1,12 +1,12 @@
--- Where a curve's own gauge is below 2 ^ 120, the steps by which its pieces are made fit.
-use Rattle.std.specs.Prelude.{◌≡◌, ◌<◌, ◌≤◌, ◌^◌, pos, List, [], ◌∷◌, Option, Some, None}
+-- Where a call within the limits takes a curve, the steps by which its pieces are made fit.
+use Rattle.std.specs.Prelude.{◌≡◌, ◌^◌, pos, List, [], ◌∷◌, Option, Some, None}
 use Rattle.std.specs.List.{AllByRecursion}
 use Rattle.std.proofs.Common.{arith, subst}
 use Rattle.rational.specs.Rational.{ℚ, ◌+ℚ◌, ◌-ℚ◌, ◌*ℚ◌, ◌≤ℚ◌, ◌<ℚ◌, int, neg_ℚ}
 use Rattle.rational.specs.Grid.{Whole, Within}
 use Rattle.rational.specs.Extended.{Ext}
 use Rattle.rational.specs.declared.Extended.TheVariants.{Fin, Inf}
-use Rattle.rational.proofs.Linear.{with1}
+use Rattle.rational.proofs.Linear.{with1, with3}
 use Rattle.rational.proofs.Laws.{le_of_lt}
 use Rattle.rational.proofs.Grid.{whole_sub, whole_neg, within_sub, within_neg}
 use Rattle.affine_segment.specs.declared.line.Line.{Line}
@@ -16,19 +16,21 @@ use Rattle.upp_curve.specs.declared.curve.Tail.{Tail}
 use Rattle.upp_curve.specs.declared.curve.Tail.TheVariants.{Periodic, Affine, Infinite}
 use Rattle.upp_curve.specs.Curve.{SpecCurve}
 use Rattle.upp_curve.specs.Functions.{zero_q}
-use Rattle.upp_curve.specs.Readable.{LineFitsAt}
-use Rattle.upp_curve.specs.Normal.{Each, StartsAtZero, IsRaw}
+use Rattle.upp_curve.specs.Readable.{LineFitsAt, LineFitsTo, EachFits, start_after}
+use Rattle.upp_curve.specs.Normal.{Each, IsRaw}
 use Rattle.upp_curve.specs.Spans.{spans}
-use Rattle.upp_curve.specs.Limits.{Sizes, own_end, own_sizes, own_gauge}
-use Rattle.upp_curve.specs.Sized.{IsValue, IsSlope, AreSizes, ValueStands, LineStands, SpanStands, TailStands, CurveStands, grid_of, times_largest}
+use Rattle.upp_curve.specs.Ahead.{IsOverBy}
+use Rattle.upp_curve.specs.Seen.{NextFits}
+use Rattle.upp_curve.specs.Limits.{Sizes, curve_numbers}
+use Rattle.upp_curve.specs.Sized.{IsValue, IsSlope, AreSizes, ValueStands, LineStands, SpanStands, TailStands, CurveStands, Stands, grid_of, times_largest}
 use Rattle.upp_curve.specs.Operand.{AreLimited, OperandLineAt}
+use Rattle.closure_elements.specs.Heavy.{IsHeavy}
 use Rattle.closure_elements.specs.PieceFits.{AtFits, LineFits, DropFits, PieceFits}
 use Rattle.upp_curve.proofs.NarrowSizes.{IsNarrow, narrow_gauge, small_number, small_sum, small_slope, value_whole, value_within, line_parts}
-use Rattle.upp_curve.proofs.KnownNumbers.{start_fits}
-use Rattle.upp_curve.proofs.StretchSizes.{time_whole, time_within}
-use Rattle.upp_curve.proofs.CurveStands.{own_are_sizes, own_stands, starts_below_own_end}
+use Rattle.upp_curve.proofs.KnownNumbers.{start_fits, span_fits}
+use Rattle.upp_curve.proofs.StretchSizes.{time_whole, time_within, starts_over}
+use Rattle.upp_curve.proofs.CurveStands.{curve_stands}
 use Rattle.upp_curve.proofs.PieceLists.{starts_nonneg}
-use Rattle.upp_curve.proofs.OwnGauge.{large}
 
 -- ---- where pieces stand
 pub record PieceStands (z : Sizes) (end : ℚ) (p : Piece) : Type 0 where
@@ -58,30 +60,26 @@ pieces_stand z end (Affine r) (p ∷ ps) g h k s = (
 )
 pieces_stand z end (Infinite r) (p ∷ ps) g h k s = absurd g
 
--- the sizes of a curve with a small gauge
-pub record OwnSizes (c : SpecCurve) : Type 0 where
-  pub limited : AreLimited (own_sizes c) (own_end c)
-  pub narrow : IsNarrow (own_sizes c) (2 ^ 122)
-  pub stands : CurveStands (own_sizes c) c
-  pub pieces : Each (PieceStands (own_sizes c) (own_end c)) c.pieces
+-- the sizes of a call's window that goes past the curve's rank
+pub record CallSizes (c : SpecCurve) (z : Sizes) (end : ℚ) : Type 0 where
+  pub limited : AreLimited z end
+  pub narrow : IsNarrow z (2 ^ 122)
+  pub over : IsOverBy end c.tail
+  pub stands : CurveStands z c
+  pub pieces : Each (PieceStands z end) c.pieces
 
-some_end : (c : SpecCurve) → StartsAtZero c.pieces → Each (λ p. p.x <ℚ own_end c) c.pieces → zero_q ≤ℚ own_end c
-some_end c starts h = by_list c.pieces starts h
-  where
-    by_list : (ps : List Piece) → StartsAtZero ps → Each (λ p. p.x <ℚ own_end c) ps → zero_q ≤ℚ own_end c
-    by_list [] s h = absurd s
-    by_list (p ∷ ps) s h = le_of_lt (subst (λ z. z <ℚ own_end c) s.0 h.0)
-
-pub own_sizes_of : (c : SpecCurve) → IsRaw c → GoesOn c.tail → own_gauge c < 2 ^ 120 → OwnSizes c
-own_sizes_of c raw g small =
-    let below = starts_below_own_end c raw in
-    let sizes = own_are_sizes c in
-    let stands = own_stands c raw in
+pub call_sizes : (c : SpecCurve) (z : Sizes) (end : ℚ) → IsRaw c → GoesOn c.tail → AreLimited z end → IsOverBy end c.tail
+    → Stands z (curve_numbers end c) → CallSizes c z end
+call_sizes c z end raw g A over h =
+    let below = starts_over c.pieces c.tail end raw.tail over in
+    let stands = curve_stands z end c raw below h in
+    let small = A.gauge in
     record {
-      limited = record { sizes = sizes; gauge = small; some = some_end c raw.starts below };
-      narrow = narrow_gauge (own_sizes c) (own_end c) sizes (omega (arith, small));
+      limited = A;
+      narrow = narrow_gauge z end A.sizes (omega (arith, small));
+      over = over;
       stands = stands;
-      pieces = pieces_stand (own_sizes c) (own_end c) c.tail c.pieces g below (starts_nonneg c.pieces raw.starts) stands.spans;
+      pieces = pieces_stand z end c.tail c.pieces g below (starts_nonneg c.pieces raw.starts) stands.spans;
     }
 
 -- ---- and what follows
@@ -110,45 +108,58 @@ drop_fits z end (Fin v) (Fin w) a n h k =
     two_ones : (v : ℚ) → int (pos 1) *ℚ v +ℚ int (pos 1) *ℚ v ≡ int (pos 2) *ℚ v
     two_ones v = with1 v (λ c. omega (arith, c.le, c.lt, c.same))
 
-piece_fits : (c : SpecCurve) (p : Piece) → OwnSizes c → PieceStands (own_sizes c) (own_end c) p → PieceFits p
-piece_fits c p O s =
-    let z = own_sizes c in
-    let end = own_end c in
+piece_fits : (c : SpecCurve) (z : Sizes) (end : ℚ) (p : Piece) → CallSizes c z end → PieceStands z end p → PieceFits p
+piece_fits c z end p O s =
     let a = O.limited.sizes in
     let n = O.narrow in
     record {
       start = small_number z end 1 p.x a n (omega arith) (time_whole z p.x s.start) (time_within z end p.x O.limited s.low s.high);
       at = at_fits z end p.at a n s.at;
-      line = line_fits z end p.line a n (line_of z end p.x p.line p.at O.limited s.start s.low s.high s.after s.slope);
+      line = line_fits z end p.line a n (line_of p.x p.line O.limited s.start s.low s.high s.after s.slope);
       reads = start_fits z end p.line p.x a n s.start s.low s.high s.slope s.after;
       drop = drop_fits z end p.at (line_value p.line p.x) a n s.at s.after;
     }
   where
-    line_of : (z : Sizes) (end x : ℚ) (l : Option Line) (at : Ext) → AreLimited z end → Whole z.dt x → zero_q ≤ℚ x → x ≤ℚ end
+    line_of : (x : ℚ) (l : Option Line) → AreLimited z end → Whole z.dt x → zero_q ≤ℚ x → x ≤ℚ end
         → ValueStands z (line_value l x) → LineStands z l → OperandLineAt z l
-    line_of z end x None at A w low high v s = tt
-    line_of z end x (Some l) at A w low high v s =
+    line_of x None A w low high v s = tt
+    line_of x (Some l) A w low high v s =
         let p = line_parts z end l.icept l.slope x A.sizes s w low high v in
         record { slope = s; icept = p.icept_whole; within = p.icept_within }
 
-each_fits : (c : SpecCurve) → OwnSizes c → (ps : List Piece) → Each (PieceStands (own_sizes c) (own_end c)) ps → Each PieceFits ps
-each_fits c O [] h = tt
-each_fits c O (p ∷ ps) h = (piece_fits c p O h.0, each_fits c O ps h.1)
+each_fits : (c : SpecCurve) (z : Sizes) (end : ℚ) → CallSizes c z end → (ps : List Piece) → Each (PieceStands z end) ps → Each PieceFits ps
+each_fits c z end O [] h = tt
+each_fits c z end O (p ∷ ps) h = (piece_fits c z end p O h.0, each_fits c z end O ps h.1)
 
-pub pieces_fit : (c : SpecCurve) → OwnSizes c → Each PieceFits c.pieces
-pieces_fit c O = each_fits c O c.pieces O.pieces
+pub pieces_fit : (c : SpecCurve) (z : Sizes) (end : ℚ) → CallSizes c z end → Each PieceFits c.pieces
+pieces_fit c z end O = each_fits c z end O c.pieces O.pieces
 
 -- the value of a line at the period, where that is the rise
-pub rise_fits : (c : SpecCurve) (R d : ℚ) (l : Line) → OwnSizes c → c.tail ≡ Periodic R d (line_at l d) → IsSlope (own_sizes c) l.slope
-    → zero_q ≤ℚ d → d ≤ℚ own_end c → LineFitsAt d (Some l)
-rise_fits c R d l O e s low high =
+pub rise_fits : (c : SpecCurve) (z : Sizes) (end R d : ℚ) (l : Line) → CallSizes c z end → c.tail ≡ Periodic R d (line_at l d)
+    → IsSlope z l.slope → zero_q ≤ℚ R → zero_q ≤ℚ d → LineFitsAt d (Some l)
+rise_fits c z end R d l O e s first low =
     let t = period_of c.tail (line_at l d) O.stands.tail e in
-    start_fits (own_sizes c) (own_end c) (Some l) d O.limited.sizes O.narrow t.0 low high s t.1
+    let over : R +ℚ d ≤ℚ end = subst (IsOverBy end) e O.over in
+    start_fits z end (Some l) d O.limited.sizes O.narrow t.0 low (with3 R d end (λ c. omega (arith, c.le, c.lt, c.same))) s t.1
   where
-    period_of : (tail : Tail) (rise : ℚ) → TailStands (own_sizes c) tail → tail ≡ Periodic R d rise
-        → (Whole (own_sizes c).dt d) × IsValue (own_sizes c) rise
-    period_of tail rise h e = let k = subst (TailStands (own_sizes c)) e h in (k.whole, k.value)
+    period_of : (tail : Tail) (rise : ℚ) → TailStands z tail → tail ≡ Periodic R d rise → (Whole z.dt d) × IsValue z rise
+    period_of tail rise h e = let k = subst (TailStands z) e h in (k.whole, k.value)
 
--- where the pieces fit if the gauge is small, and do not fit, the gauge is large
-pub wide_by : (c : SpecCurve) (P : Type 0) → IsRaw c → GoesOn c.tail → (OwnSizes c → P) → ¬ P → 2 ^ 120 ≤ own_gauge c
-wide_by c P raw g f n = large (own_gauge c) (2 ^ 120) (λ h. n (f (own_sizes_of c raw g h)))
+-- the lines of a curve that goes on with its last line are readable
+pub lines_read : (c : SpecCurve) (z : Sizes) (end r : ℚ) → CallSizes c z end → c.tail ≡ Affine r → EachFits None c.pieces
+unfolding spans
+lines_read c z end r O e = by_list c.pieces (subst (λ t. AllByRecursion (SpanStands z) (spans t c.pieces)) e O.stands.spans) O.pieces
+  where
+    by_list : (ps : List Piece) → AllByRecursion (SpanStands z) (spans (Affine r) ps) → Each (PieceStands z end) ps → EachFits None ps
+    by_list [] h k = tt
+    by_list (p ∷ ps) h k =
+        let s = span_fits z end record { piece = p; next = start_after ps None } O.limited.sizes O.narrow k.0.low k.0.high h.0 in
+        (s.start, next_reads p.line (start_after ps None) s.end, by_list ps h.1 k.1)
+      where
+        next_reads : (l : Option Line) (next : Option ℚ) → NextFits l next → LineFitsTo next l
+        next_reads l None h = tt
+        next_reads l (Some e) h = h
+
+-- where the pieces of a call's operand would fit, and do not fit, no call takes it
+pub heavy_by : (c : SpecCurve) (P : Type 0) → IsRaw c → GoesOn c.tail → ((z : Sizes) (end : ℚ) → CallSizes c z end → P) → ¬ P → IsHeavy c
+heavy_by c P raw g f n = λ z end A over h. n (f z end (call_sizes c z end raw g A over h))

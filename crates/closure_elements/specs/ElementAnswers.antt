@@ -1,5 +1,5 @@
 -- What is answered for an element of a curve: the curve of its closure. Own choice.
-use Rattle.std.specs.Prelude.{ℕ, ◌≤◌, ◌^◌, Result, Ok, Err, ◌⊎◌}
+use Rattle.std.specs.Prelude.{ℕ, Result, Ok, Err, ◌⊎◌}
 use Rattle.rational.specs.Rational.{ℚ, ◌≤ℚ◌, ◌<ℚ◌}
 use Rattle.rational.specs.Extended.{Ext}
 use Rattle.affine_segment.specs.declared.line.Line.{Line}
@@ -10,8 +10,8 @@ use Rattle.upp_curve.specs.declared.op_kind.OpFault.TheVariants.{TooMany, TooWid
 use Rattle.upp_curve.specs.Curve.{SpecCurve, value_at}
 use Rattle.upp_curve.specs.Functions.{zero_q}
 use Rattle.upp_curve.specs.Normal.{IsNormal}
-use Rattle.upp_curve.specs.Limits.{own_gauge}
 use Rattle.upp_curve.specs.Convolution.{IsSubadditiveClosure}
+use Rattle.closure_elements.specs.Heavy.{IsHeavy}
 use Rattle.closure_elements.specs.ElementCurves.{IsStretch}
 
 -- c is the curve of the closure of an element, whatever the size of its numbers: there is one in normal form
@@ -19,11 +19,11 @@ pub record IsElementClosure (e : Element) (c : SpecCurve) : Type 0 where
   pub normal : IsNormal c
   pub closes : (t : ℚ) → zero_q ≤ℚ t → IsSubadditiveClosure (element_value e) t (value_at c t)
 
--- the curve; TooWide only where its own gauge is 2 ^ 120 or more; want of memory
+-- the curve; TooWide only where it is too wide for any call; want of memory
 abbrev pub ClosureAnswer : Element → Result SpecCurve OpFault → Type 0
 ClosureAnswer e (Ok c) = IsElementClosure e c
 ClosureAnswer e (Err TooMany) = ⊥
-ClosureAnswer e (Err TooWide) = (c : SpecCurve) × IsElementClosure e c × (2 ^ 120 ≤ own_gauge c)
+ClosureAnswer e (Err TooWide) = (c : SpecCurve) × IsElementClosure e c × IsHeavy c
 ClosureAnswer e (Err NoMemory) = Unit {0}
 
 -- a line on an open stretch from 0 on, of which m stretches of sums end before the next begins, or just there; a line

@@ -1,3 +1,4 @@
+pub mod Heavy
 pub mod ElementCurves
 pub mod PieceFits
 pub mod ElementAnswers

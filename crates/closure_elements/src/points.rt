@@ -50,12 +50,12 @@ fn at_zero(alloc: Global, v: Frac) -> Result<Curve, OpFault>
     };
     let pieces = Vec::from_slice(alloc, &[only])?;
     let tail = Tail::Infinite { rank };
-    made(RawCurve { pieces, tail })
+    Ok(Curve::from_normal(pieces, tail))
 }
 
 /// The closure of the value v at the time x: n v at n x for each whole n from 1 on, and infinity elsewhere; at 0 it is v
-/// at 0. Both are at least 0. Refused with TooWide only where the own gauge of that curve is 2^120 or more, and for want
-/// of memory.
+/// at 0. Both are at least 0. Refused with TooWide only where no call within the limits could take
+/// that curve, and for want of memory.
 pub fn point_closure(alloc: Global, x: Frac, v: Frac) -> Result<Curve, OpFault>
     requires time { zero_q ≤ℚ x }
     requires value { zero_q ≤ℚ v }

@@ -1,6 +1,7 @@
 //! The closure of a line on an open stretch.
 
-ghost use Rattle.std.specs.Prelude.{◌≡◌, ◌≤◌, ◌+◌, ◌^◌, ℕ, suc};
+ghost use Rattle.std.specs.Prelude.{◌≡◌, ◌≤◌, ◌+◌, ◌^◌, ℕ, suc, Some};
+ghost use Rattle.upp_curve.specs.Readable.{LineFitsAt};
 ghost use Rattle.rational.specs.Rational.{◌≤ℚ◌, ◌<ℚ◌};
 ghost use Rattle.affine_segment.specs.declared.element.Element.TheVariants.{Open};
 ghost use Rattle.upp_curve.specs.Functions.{zero_q};
@@ -8,21 +9,22 @@ ghost use Rattle.upp_curve.specs.Normal.{IsRaw, IsNormal};
 ghost use Rattle.upp_curve.specs.Normalising.{raw_curve};
 ghost use Rattle.upp_curve.specs.Limits.{own_tally};
 ghost use Rattle.closure_elements.specs.ElementCurves.{nat_times, level_closure, rising_closure, falling_closure};
-ghost use Rattle.closure_elements.specs.PieceFits.{IsMade};
+ghost use Rattle.closure_elements.specs.PieceFits.{IsMade, Turns};
 ghost use Rattle.closure_elements.specs.ElementAnswers.{ClosureAnswer, IsOpenPart};
 
 use crate::multiples::{falling_turn, rising_turn, value_on, whole_times};
-use crate::stretches::{all_stretches, with_last};
-use affine_segment::Line;
+use crate::stretches::{all_stretches, slopes_read, started, with_last};
+use affine_segment::{Line, Piece};
 use fraction128::{Ext, Frac};
 use rational::Extended;
 use std::alloc::Global;
 use std::cmp::Ordering;
 use upp_curve::{Curve, OpFault, RawCurve, Tail, is_less, normalise};
 
-/// The normal form of a curve with few pieces.
+/// The normal form of a curve with few pieces that repeats.
 pub(crate) fn made(raw: RawCurve) -> Result<Curve, OpFault>
     requires raw { IsRaw (raw_curve raw) }
+    requires turns { Turns raw.tail }
     requires few { own_tally (raw_curve raw) ≤ 2 ^ 20 }
     ensures { IsMade (raw_curve raw) result }
 {
@@ -35,9 +37,10 @@ pub(crate) fn made(raw: RawCurve) -> Result<Curve, OpFault>
     }
 }
 
-// One line from the last stretch on.
+// A line of the slope alone, from the last stretch on.
 fn level(alloc: Global, a: Frac, b: Frac, line: &Line, m: u64) -> Result<Curve, OpFault>
     requires few { m + 3 ≤ 2 ^ 19 }
+    requires flat { line.now.icept ≡ zero_q }
     requires apart { (i : ℕ) → 1 ≤ i → suc i ≤ suc m → nat_times i b ≤ℚ nat_times (suc i) a }
     requires normal { IsNormal (level_closure a b line.now m) }
     ensures { IsMade (level_closure a b line.now m) result }
@@ -46,8 +49,27 @@ fn level(alloc: Global, a: Frac, b: Frac, line: &Line, m: u64) -> Result<Curve, 
     let Some(rank) = whole_times(m + 1, a) else {
         return Err(OpFault::TooWide);
     };
+    if !slopes_read(&pieces) {
+        return Err(OpFault::TooWide);
+    }
     let tail = Tail::Affine { rank };
-    made(RawCurve { pieces, tail })
+    Ok(Curve::from_normal(pieces, tail))
+}
+
+// One value of a line is the least.
+fn single(alloc: Global, a: Frac, line: &Line) -> Result<Curve, OpFault>
+    requires reads { LineFitsAt a (Some line.now) }
+    requires normal { IsNormal (level_closure a zero_q line.now 0) }
+    ensures { IsMade (level_closure a zero_q line.now 0) result }
+{
+    let first = Piece {
+        x: a,
+        at: Extended::Inf,
+        line: Some(*line),
+    };
+    let pieces = started(alloc, a, first)?;
+    let tail = Tail::Affine { rank: a };
+    Ok(Curve::from_normal(pieces, tail))
 }
 
 // One value more from each n b on.
@@ -114,17 +136,19 @@ fn ended(alloc: Global, a: Frac, b: Frac, line: &Line, m: u64) -> Result<Curve, 
 // The closure of a line without an end.
 fn endless(alloc: Global, a: Frac, line: &Line) -> Result<Curve, OpFault>
     requires part { IsOpenPart a Extended.Inf line.now 0 }
+    requires reads { LineFitsAt a (Some line.now) }
     ensures { ClosureAnswer (Open a Extended.Inf line.now) result }
 {
     if is_less(line.icept, Frac::zero()) {
         return falling(alloc, a, Frac::zero(), line, 0);
     }
-    level(alloc, a, Frac::zero(), line, 0)
+    single(alloc, a, line)
 }
 
 /// The closure of a line between the times a and b: at t the least sum of n of its values at times whose sum is t, for
 /// whole n from 1 on, and infinity where no n has n a < t < n b. `m` is how many of the stretches from n a up to n b end
-/// before the next begins, or just there. Refused with TooWide only where the own gauge of that curve is 2^120 or more, and for want of memory.
+/// before the next begins, or just there; the line is readable at a. Refused with TooWide only where no call within the
+/// limits could take that curve, and for want of memory.
 pub fn segment_closure(
     alloc: Global,
     a: Frac,
@@ -133,6 +157,7 @@ pub fn segment_closure(
     m: u64,
 ) -> Result<Curve, OpFault>
     requires part { IsOpenPart a b line.now m }
+    requires reads { LineFitsAt a (Some line.now) }
     requires few { m + 3 ≤ 2 ^ 19 }
     ensures { ClosureAnswer (Open a b line.now) result }
 {

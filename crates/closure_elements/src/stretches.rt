@@ -1,9 +1,9 @@
 //! The pieces of the stretches of sums, one after another.
 
-ghost use Rattle.std.specs.Prelude.{◌≡◌, ◌≤◌, ◌<◌, ◌^◌, ◌++◌, ℕ, suc, [], ◌∷◌, IfOk, IfErr, OnOk};
+ghost use Rattle.std.specs.Prelude.{◌≡◌, ◌≤◌, ◌<◌, ◌^◌, ◌++◌, ℕ, suc, [], ◌∷◌, IfOk, IfErr, OnOk, None, IsTrue, ◌↔◌};
 ghost use Rattle.rational.specs.Rational.{◌≤ℚ◌};
 ghost use Rattle.closure_elements.specs.ElementCurves.{nat_times, after_gap, from_zero, stretches, all_stretches};
-ghost use Rattle.closure_elements.specs.PieceFits.{IsUnfit};
+ghost use Rattle.closure_elements.specs.PieceFits.{IsUnfit, SlopeFitsAt, SlopesRead};
 
 use crate::multiples::{stretch, whole_times};
 use affine_segment::{Line, Piece};
@@ -12,8 +12,8 @@ use rational::Extended;
 use std::alloc::{AllocError, Global};
 use upp_curve::{OpFault, is_less};
 
-// A piece at a, after a gap from 0 on where a is after 0.
-fn started(alloc: Global, a: Frac, first: Piece) -> Result<Vec<Piece>, AllocError>
+/// A piece at a, after a gap from 0 on where a is after 0.
+pub(crate) fn started(alloc: Global, a: Frac, first: Piece) -> Result<Vec<Piece>, AllocError>
     ensures { IfOk result (λ v. v.items ≡ from_zero a (first ∷ [])) }
 {
     let mut pieces = Vec::new(alloc);
@@ -102,4 +102,31 @@ pub(crate) fn with_last(pieces: Vec<Piece>, last: Piece) -> Result<Vec<Piece>, A
     let mut more = pieces;
     more.push(last)?;
     Ok(more)
+}
+
+// Whether the slope of a line times x fits.
+fn slope_fits(line: &Option<Line>, x: Frac) -> bool
+    ensures { IsTrue result ↔ SlopeFitsAt x line.now }
+{
+    match line {
+        None => true,
+        Some(l) => Frac::mul(l.slope, x).is_ok(),
+    }
+}
+
+/// Whether each slope times the start and the next start of its line fits.
+pub(crate) fn slopes_read(pieces: &[Piece]) -> bool
+    ensures { IsTrue result ↔ SlopesRead None pieces.now }
+{
+    let mut line: Option<Line> = None;
+    for p in pieces {
+        if !slope_fits(&line, p.x) {
+            return false;
+        }
+        if !slope_fits(&p.line, p.x) {
+            return false;
+        }
+        line = p.line;
+    }
+    true
 }

@@ -2,6 +2,7 @@ use Rattle.std.proofs.Common.{subst}
 use Rattle.rational.specs.Rational.{◌<ℚ◌, ◌≤ℚ◌}
 use Rattle.rational.specs.declared.Extended.TheVariants.{Inf}
 use Rattle.affine_segment.specs.declared.element.Element.TheVariants.{Open}
+use Rattle.upp_curve.specs.Functions.{zero_q}
 use Rattle.upp_curve.proofs.Compared.{not_less_out}
 use Rattle.closure_elements.specs.ElementCurves.{level_closure, falling_closure}
 use Rattle.closure_elements.proofs.SegmentAnswers.{ready_answer, ready_endless_level, ready_endless_falling, endless_some}
@@ -22,13 +23,13 @@ returns-then-is_less c =
     (ready_endless_falling c.args.a c.zero-then-is_less.result c.args.line.now c.requires.part
     (subst (λ z. c.args.line.now.icept <ℚ z) c.zero.ensures (c.is_less.ensures.less.0 c.if-is_less.true))) c.falling.ensures
 
-pub level-requires-clause-normal : goal.level-requires-clause-normal
-level-requires-clause-normal c =
-    (ready_endless_level c.args.a c.zero-2.result c.args.line.now c.requires.part
+pub single-requires-clause-normal : goal.single-requires-clause-normal
+single-requires-clause-normal c =
+    (ready_endless_level c.args.a zero_q c.args.line.now c.requires.part
     (subst (λ z. z ≤ℚ c.args.line.now.icept) c.zero.ensures (not_less_out c.is_less.result c.args.line.now.icept c.zero.result c.is_less.ensures.less c.if-is_less.false))).normal
 
 pub returns : goal.returns
 returns c =
-    ready_answer (Open c.args.a Inf c.args.line.now) (level_closure c.args.a c.zero-2.result c.args.line.now 0) c.level.result
-    (ready_endless_level c.args.a c.zero-2.result c.args.line.now c.requires.part
-    (subst (λ z. z ≤ℚ c.args.line.now.icept) c.zero.ensures (not_less_out c.is_less.result c.args.line.now.icept c.zero.result c.is_less.ensures.less c.if-is_less.false))) c.level.ensures
+    ready_answer (Open c.args.a Inf c.args.line.now) (level_closure c.args.a zero_q c.args.line.now 0) c.single.result
+    (ready_endless_level c.args.a zero_q c.args.line.now c.requires.part
+    (subst (λ z. z ≤ℚ c.args.line.now.icept) c.zero.ensures (not_less_out c.is_less.result c.args.line.now.icept c.zero.result c.is_less.ensures.less c.if-is_less.false))) c.single.ensures
