@@ -9,3 +9,6 @@ pub mod Precedes
 pub mod Tables
 pub mod Works
 pub mod Determined
+pub mod Growing
+pub mod Stored
+pub mod LeavesOf
