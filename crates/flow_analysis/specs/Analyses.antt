@@ -1,0 +1,39 @@
+-- What the analysis of a network goes over, and why there is none. Own choice.
+use Rattle.std.specs.Prelude.{◌≡◌, ℕ, List, None, Contains}
+use Rattle.upp_curve.specs.declared.op_kind.OpFault.{OpFault}
+use Rattle.upp_curve.specs.declared.op_kind.OpFault.TheVariants as operator
+use Rattle.net_model.specs.Networks.{Net}
+use Rattle.net_model.specs.Orders.{IsOrder}
+use Rattle.net_cells.specs.declared.cell.Cell.{Cell}
+use Rattle.net_cells.specs.Meanings.{CellTable}
+use Rattle.net_cells.specs.Order.{evaluation_order}
+use Rattle.net_cells.specs.FirstOver.{FirstOver}
+use Rattle.cell_table.specs.declared.fault.AnalysisFault.{AnalysisFault}
+use Rattle.cell_table.specs.declared.fault.AnalysisFault.TheVariants.{TooMany, TooWide, NoMemory}
+
+-- all cells of a network whose servers have an order, in the order in which they are taken
+pub record AreAllCells (net : Net) (cells : List Cell) : Type 0 where
+  pub order : List ℕ
+  pub servers : IsOrder net order
+  pub are : cells ≡ evaluation_order net order
+
+-- a table has nothing at other cells
+abbrev pub HasNothingElse : CellTable → List Cell → Type 0
+HasNothingElse at cells = (c : Cell) → ¬ (Contains cells c) → at c ≡ None
+
+-- ---- refusals
+-- of these cells this one is the first over a limit
+abbrev pub IsFirstOver : Net → List Cell → Cell → OpFault → Type 0
+IsFirstOver net cells c fault = (order : List ℕ) → cells ≡ evaluation_order net order → FirstOver net order c fault
+
+-- where a cell has no value, the analysis is refused for that one
+abbrev pub fault_at : Cell → OpFault → AnalysisFault
+fault_at c operator.TooMany = TooMany c
+fault_at c operator.TooWide = TooWide c
+fault_at c operator.NoMemory = NoMemory
+
+-- why there is no table: the first cell that is over a limit, and which limit, or want of memory
+abbrev pub IsRefusal : Net → List Cell → AnalysisFault → Type 0
+IsRefusal net cells (TooMany c) = IsFirstOver net cells c operator.TooMany
+IsRefusal net cells (TooWide c) = IsFirstOver net cells c operator.TooWide
+IsRefusal net cells NoMemory = Unit {0}

@@ -1,0 +1,7 @@
+//! The analysis of a network: the values of all its cells, each made once, after those that it is made of.
+#![tactic(auto)]
+
+mod each_cell;
+mod fault;
+
+pub use each_cell::analysed;
