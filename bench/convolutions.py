@@ -144,7 +144,7 @@ def row(name, rank, p, q):
 def below(top, wanted):
     """The lines of crates.txt of a crate and of those that it stands on."""
     lines = {}
-    for line in open(os.path.join(top, "crates.txt")):
+    for line in open(os.path.join(top, "crates.txt"), encoding="utf-8"):
         name, _, deps = line.strip().partition(":")
         if name:
             lines[name] = deps.split()
@@ -169,21 +169,21 @@ def measured():
         bench = os.path.join(folder, "crates", "bench")
         os.makedirs(os.path.join(bench, "src"))
         os.makedirs(os.path.join(bench, "proofs", "counted"))
-        with open(os.path.join(bench, "src", "main.rt"), "w") as out:
+        with open(os.path.join(bench, "src", "main.rt"), "w", encoding="utf-8") as out:
             out.write(PROGRAM.lstrip().replace("ROWS", "".join(row(*c) for c in CYCLES)))
-        with open(os.path.join(bench, "proofs", "counted", "Invariants.antt"), "w") as out:
+        with open(os.path.join(bench, "proofs", "counted", "Invariants.antt"), "w", encoding="utf-8") as out:
             out.write(GHOSTS)
-        with open(os.path.join(folder, "crates.txt"), "w") as out:
+        with open(os.path.join(folder, "crates.txt"), "w", encoding="utf-8") as out:
             for name, deps in crates:
                 out.write(f"{name}: {' '.join(deps)}\n")
             out.write(f"bench: {' '.join(uses)}\n")
-        with open(os.path.join(folder, "HANDLES"), "w") as out:
+        with open(os.path.join(folder, "HANDLES"), "w", encoding="utf-8") as out:
             out.write("Handles allowed: none.\n")
         print("building (the first time takes minutes)", file=sys.stderr)
         run = subprocess.run(["rt", "run"], cwd=bench, capture_output=True, text=True)
         rows = [line.split() for line in run.stdout.splitlines()]
         rows = [row for row in rows if len(row) == 4 and row[0] in ("gates", "late")]
-        if not rows:
+        if len(rows) != len(CYCLES) or any(row[3] == "0" for row in rows):
             sys.exit(run.stdout + run.stderr)
         return rows
     finally:
