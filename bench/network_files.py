@@ -2,7 +2,8 @@
 
     python3 bench/network_files.py NETCALC
 
-NETCALC is the program. Each file has 64 servers and 256 flows of 16 hops with listed arrival curves of 64 pieces, cut to
+NETCALC is the program. Today it reads one form of file and refuses these, each with status 10; the times are of use
+once it reads networks of more than one server. Each file has 64 servers and 256 flows of 16 hops with listed arrival curves of 64 pieces, cut to
 fit 1,048,576 bytes; one is accepted, and the others have one fault each near the end. A line a file: its bytes, the
 status, the first line that was written, and the seconds that the run took.
 """
