@@ -97,7 +97,7 @@ fn a_bucket_is_and_a_latency_is_not(rt: HostRuntime) -> Result<(), Fail> {
     Ok(())
 }
 
-// A stair is; one that waits a whole period for its first step is not; nor is one whose steps come up to 1 at 3 but 3 at 6.
+// A stair is; one that waits a whole period for its first step is not.
 #[test]
 fn stairs(rt: HostRuntime) -> Result<(), Fail> {
     let f = steps_up(rt.alloc(), 1, 1, 2, 1)?;
