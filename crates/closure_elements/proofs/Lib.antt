@@ -14,3 +14,4 @@ pub mod TurnSteps
 pub mod SegmentAnswers
 pub mod PointAnswers
 pub mod MeetNumbers
+pub mod HeavyCalls

@@ -93,8 +93,8 @@ abbrev pub ext_times : ℕ → Ext → Ext
 ext_times n Inf = Inf
 ext_times n (Fin b) = Fin (nat_times n b)
 
--- of the stretches from i a up to i b, those before the n-th end before the next begins, or just there; from the n-th on
--- each goes on past the beginning of the next
+-- of the stretches from i a up to i b, those before the n-th end before the next begins, or just there; from the n-th
+-- on each goes on past the beginning of the next
 pub record MeetAt (a : ℚ) (b : Ext) (n : ℕ) : Type 0 where
   pub apart : (i : ℕ) → 1 ≤ i → suc i ≤ n → ext_times i b ≤ₑ Fin (nat_times (suc i) a)
   pub joined : (i : ℕ) → n ≤ i → Fin (nat_times (suc i) a) <ₑ ext_times i b

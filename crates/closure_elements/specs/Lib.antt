@@ -3,3 +3,4 @@ pub mod ElementCurves
 pub mod PieceFits
 pub mod ElementAnswers
 pub mod MeetLaws
+pub mod HeavyLaws

@@ -1,8 +1,15 @@
-//! How many stretches of sums end before the next begins: a theorem, by its contract.
+//! What is known of the stretches of a closure, and of a closure that is refused. Each function is a theorem: its
+//! contract is the law, its body is empty.
 
+ghost use Rattle.closure_elements.specs.HeavyLaws.{HeavyIsRefused};
 ghost use Rattle.closure_elements.specs.MeetLaws.{StretchesMeet};
 
-/// As many as the length of a stretch goes whole times into its start.
+/// As many stretches end before the next begins as the length of one goes whole times into its start.
 pub fn stretches_meet()
     ensures { StretchesMeet }
+{}
+
+/// A closure that is answered as TooWide makes the next call, a minimum or a convolution with it, TooWide.
+pub fn heavy_is_refused()
+    ensures { HeavyIsRefused }
 {}

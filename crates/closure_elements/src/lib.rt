@@ -9,6 +9,6 @@ mod stretches;
 #[cfg(test)]
 mod tests;
 
-pub use laws::stretches_meet;
+pub use laws::{heavy_is_refused, stretches_meet};
 pub use points::point_closure;
 pub use segments::segment_closure;

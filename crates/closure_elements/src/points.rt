@@ -53,9 +53,9 @@ fn at_zero(alloc: Global, v: Frac) -> Result<Curve, OpFault>
     Ok(Curve::from_normal(pieces, tail))
 }
 
-/// The closure of the value v at the time x: n v at n x for each whole n from 1 on, and infinity elsewhere; at 0 it is v
-/// at 0. Both are at least 0. Refused with TooWide only where no call within the limits could take
-/// that curve, and for want of memory.
+/// The closure of the value v at the time x: n v at n x for each whole n from 1 on, and infinity elsewhere; at 0 it is
+/// v at 0 (Bouillard, Boyer and Le Corronc). Both are at least 0. Refused with TooWide only where no call within the
+/// limits could take that curve, and for want of memory.
 pub fn point_closure(alloc: Global, x: Frac, v: Frac) -> Result<Curve, OpFault>
     requires time { zero_q ≤ℚ x }
     requires value { zero_q ≤ℚ v }

@@ -146,9 +146,10 @@ fn endless(alloc: Global, a: Frac, line: &Line) -> Result<Curve, OpFault>
 }
 
 /// The closure of a line between the times a and b: at t the least sum of n of its values at times whose sum is t, for
-/// whole n from 1 on, and infinity where no n has n a < t < n b. `m` is how many of the stretches from n a up to n b end
-/// before the next begins, or just there; the line is readable at a. Refused with TooWide only where no call within the
-/// limits could take that curve, and for want of memory.
+/// whole n from 1 on, and infinity where no n has n a < t < n b (Bouillard, Boyer and Le Corronc). `m` is how many of
+/// the stretches from n a up to n b end before the next begins, or just there; the line is readable at a, and a line
+/// that is below 0 at 0 starts after 0. Refused with TooWide only where no call within the limits could take that
+/// curve, and for want of memory.
 pub fn segment_closure(
     alloc: Global,
     a: Frac,

@@ -30,7 +30,8 @@ pub record Turn (a : ℚ) (b : Ext) (t : ℚ) : Type 0 where
 
 -- the closure of the line k + r t between a and b is, at t, the least n k + r t over those n
 abbrev pub IsSegmentClosure : ℚ → Ext → Line → ℚ → Ext → Type 0
-IsSegmentClosure a b l t w = IsInfimum {I = Turn a b t} (λ n. Fin (int (pos (suc n.less_one)) *ℚ l.icept +ℚ l.slope *ℚ t)) w
+IsSegmentClosure a b l t w =
+    IsInfimum {I = Turn a b t} (λ n. Fin (int (pos (suc n.less_one)) *ℚ l.icept +ℚ l.slope *ℚ t)) w
 
 abbrev pub ClosureOfPoint : Type 0
 ClosureOfPoint = (a v t : ℚ) (w : Ext) → zero_q ≤ℚ a → IsPointClosure a v t w
