@@ -23,7 +23,8 @@ use Rattle.net_cells.specs.Means.{Means, OfCurve, OfNumber, IsPriorityCurve, IsD
 use Rattle.net_cells.specs.Answers.{Answer, Answers, IsOnly, MakesCurve, MakesNumber, Deviates, ThenCurve, ThenNumber}
 
 -- ---- one call
-makes_curve : (P : Result SpecCurve OpFault → Type 0) (R : SpecCurve → Type 0) (v : Meaning) → ((h : SpecCurve) → P (Ok h) → R h)
+makes_curve : (P : Result SpecCurve OpFault → Type 0) (R : SpecCurve → Type 0) (v : Meaning)
+    → ((h : SpecCurve) → P (Ok h) → R h)
     → MakesCurve P (Ok v) → IsCurveIn R v
 makes_curve P R (curve h) p a = p h a
 makes_curve P R (number x) p a = absurd a
@@ -42,7 +43,8 @@ sums xs (curve g) a = absurd a
 sums xs (number x) a = ap number a.1
 
 -- ---- on operands
-on_curve : (P : Answer → Type 0) (Q : SpecCurve → Answer → Type 0) (M : Meaning → Type 0) (R : SpecCurve → Meaning → Type 0)
+on_curve : (P : Answer → Type 0) (Q : SpecCurve → Answer → Type 0) (M : Meaning → Type 0)
+    (R : SpecCurve → Meaning → Type 0)
     (v : Meaning) → ((x : Meaning) → P (Ok x) → M x) → ((f : SpecCurve) → Q f (Ok v) → R f v)
     → ThenCurve P Q (Ok v) → OfCurve M R v
 on_curve P Q M R v p q (goes_on (curve f) a b) = record { operand = f; is = p (curve f) a; gives = q f b }
@@ -57,23 +59,27 @@ on_number P Q M R v p q (goes_on (number x) a b) = record { operand = x; is = p 
 on_number P Q M R v p q (stops fault a b) = absurd (let e : Ok v ≡ Err fault = b in cc)
 
 -- ---- services of queues
-priority_curve : (f g : SpecCurve) (lower : ℕ) (h : SpecCurve) → MakesPriority f g lower (Ok h) → IsPriorityCurve f g lower h
+priority_curve : (f g : SpecCurve) (lower : ℕ) (h : SpecCurve) → MakesPriority f g lower (Ok h)
+    → IsPriorityCurve f g lower h
 priority_curve f g lower h a = record { curve = is_curve a; serves = priority_calls.service_is f g h lower a }
   where
     is_curve : MakesPriority f g lower (Ok h) → IsCurve h
     is_curve (goes_on left first second) = second.made.curve
     is_curve (stops fault x y) = absurd (let e : Ok h ≡ Err fault = y in cc)
 
-drr_curve : (f : SpecCurve) (quanta longest : List ℕ) (queue : ℕ) (h : SpecCurve) → MakesDrr f quanta longest queue (Ok h)
+drr_curve : (f : SpecCurve) (quanta longest : List ℕ) (queue : ℕ) (h : SpecCurve)
+    → MakesDrr f quanta longest queue (Ok h)
     → IsDrrCurve f quanta longest queue h
-drr_curve f quanta longest queue h a = record { curve = is_curve a; serves = drr_calls.service_is f h quanta longest queue a }
+drr_curve f quanta longest queue h a =
+    record { curve = is_curve a; serves = drr_calls.service_is f h quanta longest queue a }
   where
     is_curve : MakesDrr f quanta longest queue (Ok h) → IsCurve h
     is_curve (goes_on left first second) = second.made.curve
     is_curve (stops fault x y) = absurd (let e : Ok h ≡ Err fault = y in cc)
 
 -- ---- formulas
-made_curve : (op : OpKind) (f g : SpecCurve) (v : Meaning) → MakesCurve (Applies op f g) (Ok v) → IsCurveIn (IsMadeBy op f g) v
+made_curve : (op : OpKind) (f g : SpecCurve) (v : Meaning) → MakesCurve (Applies op f g) (Ok v)
+    → IsCurveIn (IsMadeBy op f g) v
 made_curve op f g v a = makes_curve (Applies op f g) (IsMadeBy op f g) v (λ h b. b.made) a
 
 pub answers_mean : (at : CellTable) (F : Formula) (v : Meaning) → Answers at F (Ok v) → Means at F v
@@ -108,7 +114,8 @@ answers_mean at (priority f F lower) v a =
     (Means at F) (λ g. IsCurveIn (IsPriorityCurve f g lower)) v (answers_mean at F)
     (λ g. makes_curve (MakesPriority f g lower) (IsPriorityCurve f g lower) v (priority_curve f g lower)) a
 answers_mean at (deficit f quanta longest queue) v a =
-    makes_curve (MakesDrr f quanta longest queue) (IsDrrCurve f quanta longest queue) v (drr_curve f quanta longest queue) a
+    makes_curve (MakesDrr f quanta longest queue) (IsDrrCurve f quanta longest queue) v
+    (drr_curve f quanta longest queue) a
 answers_mean at (horizontal F G) v a =
     on_curve (Answers at F)
     (λ f. ThenCurve (Answers at G) (λ g. MakesNumber (Deviates Horizontal IsHorizontalDeviation f g)))

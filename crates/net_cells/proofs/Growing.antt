@@ -13,18 +13,21 @@ range_more n =
     sym (map-id (range_with_len 0 (n + 1))) ∙ map-range_with_len_more (λ (x : ℕ). x) 0 n n (omega arith)
     ∙ ap (λ (xs : List ℕ). xs ++ n ∷ []) (map-id (range_with_len 0 n))
 
-pub flat_more : {Y : Type 0} (f : ℕ → List Y) (n : ℕ) → flat_map f (range_with_len 0 (n + 1)) ≡ flat_map f (range_with_len 0 n) ++ f n
+pub flat_more : {Y : Type 0} (f : ℕ → List Y) (n : ℕ)
+    → flat_map f (range_with_len 0 (n + 1)) ≡ flat_map f (range_with_len 0 n) ++ f n
 flat_more f n =
     ap (flat_map f) (range_more n) ∙ flat_map-append f (range_with_len 0 n) (n ∷ [])
     ∙ ap (λ ys. flat_map f (range_with_len 0 n) ++ ys) (append-nil (f n))
 
 -- ---- a list with more at its end, behind an old one
-pub behind : {Y : Type 0} (old items new more front whole : List Y) → items ≡ old ++ front → new ≡ items ++ more → whole ≡ front ++ more
+pub behind : {Y : Type 0} (old items new more front whole : List Y) → items ≡ old ++ front → new ≡ items ++ more
+    → whole ≡ front ++ more
     → new ≡ old ++ whole
 behind old items new more front whole a b c =
     b ∙ ap (λ xs. xs ++ more) a ∙ append_assoc old front more ∙ ap (λ xs. old ++ xs) (sym c)
 
-pub still : {Y : Type 0} (old items front whole : List Y) → items ≡ old ++ front → whole ≡ front ++ [] → items ≡ old ++ whole
+pub still : {Y : Type 0} (old items front whole : List Y) → items ≡ old ++ front → whole ≡ front ++ []
+    → items ≡ old ++ whole
 still old items front whole a c = a ∙ ap (λ xs. old ++ xs) (sym (append-nil front) ∙ sym c)
 
 -- ---- by a number
@@ -41,7 +44,8 @@ dropped_number p f n e =
     ∙ ap (λ xs. filter p (map f (range_with_len 0 n)) ++ xs) (cond-false (p (f n)) (f n ∷ []) [] e)
 
 -- ---- by an element
-pub kept_element : {X Y : Type 0} (p : X → Bool) (f : X → Y) (xs : List X) (i : ℕ) (x : X) → i < length xs → get_or xs i x ≡ x
+pub kept_element : {X Y : Type 0} (p : X → Bool) (f : X → Y) (xs : List X) (i : ℕ) (x : X) → i < length xs
+    → get_or xs i x ≡ x
     → p x ≡ true → map f (filter p (take (i + 1) xs)) ≡ map f (filter p (take i xs)) ++ f x ∷ []
 kept_element p f xs i x h is e =
     ap (map f) (filter_more p xs i x h
@@ -49,7 +53,8 @@ kept_element p f xs i x h is e =
     ∙ ap (λ ys. filter p (take i xs) ++ ys) (cond-true (p x) (x ∷ []) [] e))
     ∙ map-append f (filter p (take i xs)) (x ∷ [])
 
-pub dropped_element : {X Y : Type 0} (p : X → Bool) (f : X → Y) (xs : List X) (i : ℕ) (x : X) → i < length xs → get_or xs i x ≡ x
+pub dropped_element : {X Y : Type 0} (p : X → Bool) (f : X → Y) (xs : List X) (i : ℕ) (x : X) → i < length xs
+    → get_or xs i x ≡ x
     → p x ≡ false → map f (filter p (take (i + 1) xs)) ≡ map f (filter p (take i xs)) ++ []
 dropped_element p f xs i x h is e =
     ap (map f) (filter_more p xs i x h
@@ -64,7 +69,8 @@ flat_element f xs i x h is =
     ∙ flat_map-append f (take i xs) (x ∷ []) ∙ ap (λ ys. flat_map f (take i xs) ++ ys) (append-nil (f x))
 
 -- ---- filters of joined lists
-pub filter_flat : {X Y : Type 0} (p : Y → Bool) (f : X → List Y) (xs : List X) → filter p (flat_map f xs) ≡ flat_map (λ x. filter p (f x)) xs
+pub filter_flat : {X Y : Type 0} (p : Y → Bool) (f : X → List Y) (xs : List X)
+    → filter p (flat_map f xs) ≡ flat_map (λ x. filter p (f x)) xs
 filter_flat p f [] = refl
 filter_flat p f (x ∷ xs) = filter-append p (f x) (flat_map f xs) ∙ ap (λ ys. filter p (f x) ++ ys) (filter_flat p f xs)
 

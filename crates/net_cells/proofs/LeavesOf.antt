@@ -21,7 +21,8 @@ sum_leaves [] = refl
 sum_leaves (c ∷ cs) = sum_from_leaves (value_of c) cs
 
 -- ---- the service along a path
-packets_leaves : (net : Net) (i k : ℕ) → leaves (packets_to net i k) ≡ map (cell_of Residual i) (range_with_len 0 (k + 1))
+packets_leaves : (net : Net) (i k : ℕ)
+    → leaves (packets_to net i k) ≡ map (cell_of Residual i) (range_with_len 0 (k + 1))
 packets_leaves net i zero = refl
 packets_leaves net i (suc k) =
     let same : k + 1 + 1 ≡ suc k + 1 = omega arith in
@@ -29,7 +30,8 @@ packets_leaves net i (suc k) =
     ∙ sym (map-range_with_len_more (cell_of Residual i) 0 (k + 1) (suc k) (omega arith))
     ∙ ap (λ n. map (cell_of Residual i) (range_with_len 0 n)) same
 
-pub served_leaves : (net : Net) (i k : ℕ) → leaves (served_to net i k) ≡ map (cell_of Residual i) (range_with_len 0 (k + 1))
+pub served_leaves : (net : Net) (i k : ℕ)
+    → leaves (served_to net i k) ≡ map (cell_of Residual i) (range_with_len 0 (k + 1))
 served_leaves net i zero = refl
 served_leaves net i (suc k) =
     let same : k + 1 + 1 ≡ suc k + 1 = omega arith in
@@ -38,12 +40,14 @@ served_leaves net i (suc k) =
     ∙ ap (λ n. map (cell_of Residual i) (range_with_len 0 n)) same
 
 -- ---- the service of a queue
-pub priority_leaves : (net : Net) (s q : ℕ) (d : Discipline) → is_by_priority d ≡ true → cell_of Higher s q ∷ [] ≡ leaves (queue_service net s q d)
+pub priority_leaves : (net : Net) (s q : ℕ) (d : Discipline) → is_by_priority d ≡ true
+    → cell_of Higher s q ∷ [] ≡ leaves (queue_service net s q d)
 priority_leaves net s q Fifo e = absurd (let bad : false ≡ true = e in cc)
 priority_leaves net s q (Priority n) e = refl
 priority_leaves net s q (Drr quanta) e = absurd (let bad : false ≡ true = e in cc)
 
-pub other_leaves : (net : Net) (s q : ℕ) (d : Discipline) → is_by_priority d ≡ false → [] ≡ leaves (queue_service net s q d)
+pub other_leaves : (net : Net) (s q : ℕ) (d : Discipline) → is_by_priority d ≡ false
+    → [] ≡ leaves (queue_service net s q d)
 other_leaves net s q Fifo e = refl
 other_leaves net s q (Priority n) e = absurd (let bad : true ≡ false = e in cc)
 other_leaves net s q (Drr quanta) e = refl

@@ -12,3 +12,5 @@ pub mod Determined
 pub mod Growing
 pub mod Stored
 pub mod LeavesOf
+pub mod Counting
+pub mod Different

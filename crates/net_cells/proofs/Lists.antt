@@ -54,7 +54,8 @@ has_either [] ys x h = inr h
 has_either (z ∷ zs) ys x (inl e) = inl (inl e)
 has_either (z ∷ zs) ys x (inr h) = elim (has_either zs ys x h) [ inl l ↦ inl (inr l) | inr r ↦ inr r ]
 
-pub apart_joined : {X : Type 0} (xs ys : List X) → Apart xs → Apart ys → ((x : X) → Has xs x → ¬ (Has ys x)) → Apart (xs ++ ys)
+pub apart_joined : {X : Type 0} (xs ys : List X) → Apart xs → Apart ys → ((x : X) → Has xs x → ¬ (Has ys x))
+    → Apart (xs ++ ys)
 apart_joined [] ys a b never = b
 apart_joined (x ∷ xs) ys a b never = (
   λ h. elim (has_either xs ys x h) [ inl l ↦ a.0 l | inr r ↦ never x (inl refl) r ],
@@ -89,7 +90,8 @@ pub has_filter : {X : Type 0} (p : X → Bool) (xs : List X) (x : X) → Has xs 
 has_filter {X} p [] x h t = absurd h
 has_filter {X} p (y ∷ ys) x h t = here (p y) refl (λ l. has_filter p ys x l t) h
   where
-    here : (b : Bool) → p y ≡ b → (Has ys x → Has (filter p ys) x) → Has (y ∷ ys) x → Has (cond b (y ∷ filter p ys) (filter p ys)) x
+    here : (b : Bool) → p y ≡ b → (Has ys x → Has (filter p ys) x) → Has (y ∷ ys) x
+        → Has (cond b (y ∷ filter p ys) (filter p ys)) x
     here true e rest (inl same) = inl same
     here true e rest (inr later) = inr (rest later)
     here false e rest (inl same) = let bad : true ≡ false = sym t ∙ ap p (sym same) ∙ e in absurd cc
@@ -114,12 +116,14 @@ apart_filter {X} p (y ∷ ys) a = here (p y) (apart_filter p ys a.1)
     here false rest = rest
 
 -- ---- one list for each element
-pub has_flat : {X Y : Type 0} (f : X → List Y) (xs : List X) (x : X) (y : Y) → Has xs x → Has (f x) y → Has (flat_map f xs) y
+pub has_flat : {X Y : Type 0} (f : X → List Y) (xs : List X) (x : X) (y : Y) → Has xs x → Has (f x) y
+    → Has (flat_map f xs) y
 has_flat f [] x y h k = absurd h
 has_flat f (z ∷ zs) x y (inl e) k = has_left (f z) (flat_map f zs) y (subst (λ w. Has (f w) y) (sym e) k)
 has_flat f (z ∷ zs) x y (inr h) k = has_right (f z) (flat_map f zs) y (has_flat f zs x y h k)
 
-pub flat_has : {X Y : Type 0} (f : X → List Y) (xs : List X) (y : Y) → Has (flat_map f xs) y → (x : X) × Has xs x × Has (f x) y
+pub flat_has : {X Y : Type 0} (f : X → List Y) (xs : List X) (y : Y) → Has (flat_map f xs) y
+    → (x : X) × Has xs x × Has (f x) y
 flat_has f [] y h = absurd h
 flat_has f (z ∷ zs) y h =
     elim (has_either (f z) (flat_map f zs) y h) [
@@ -128,7 +132,8 @@ flat_has f (z ∷ zs) y h =
     ]
 
 -- each element is told from what its list has
-pub apart_flat : {X Y : Type 0} (f : X → List Y) (key : Y → X) (xs : List X) → ((x : X) (y : Y) → Has (f x) y → key y ≡ x)
+pub apart_flat : {X Y : Type 0} (f : X → List Y) (key : Y → X) (xs : List X)
+    → ((x : X) (y : Y) → Has (f x) y → key y ≡ x)
     → ((x : X) → Apart (f x)) → Apart xs → Apart (flat_map f xs)
 apart_flat f key [] tells each a = tt
 apart_flat f key (x ∷ xs) tells each a =
@@ -175,7 +180,8 @@ before_across x y (z ∷ zs) ys (inl e) k = inl (e, has_right zs ys y k)
 before_across x y (z ∷ zs) ys (inr h) k = inr (before_across x y zs ys h k)
 
 -- in the lists of two elements, or in that of one
-pub before_flat : {X Y : Type 0} (f : X → List Y) (a b : X) (x y : Y) (xs : List X) → Before a b xs → Has (f a) x → Has (f b) y
+pub before_flat : {X Y : Type 0} (f : X → List Y) (a b : X) (x y : Y) (xs : List X) → Before a b xs → Has (f a) x
+    → Has (f b) y
     → Before x y (flat_map f xs)
 before_flat f a b x y [] h k l = absurd h
 before_flat f a b x y (z ∷ zs) (inl h) k l =
@@ -185,11 +191,13 @@ before_flat f a b x y (z ∷ zs) (inr h) k l = before_right x y (f z) (flat_map 
 pub before_inside : {X Y : Type 0} (f : X → List Y) (a : X) (x y : Y) (xs : List X) → Has xs a → Before x y (f a)
     → Before x y (flat_map f xs)
 before_inside f a x y [] h k = absurd h
-before_inside f a x y (z ∷ zs) (inl e) k = before_left x y (f z) (flat_map f zs) (subst (λ w. Before x y (f w)) (sym e) k)
+before_inside f a x y (z ∷ zs) (inl e) k =
+    before_left x y (f z) (flat_map f zs) (subst (λ w. Before x y (f w)) (sym e) k)
 before_inside f a x y (z ∷ zs) (inr h) k = before_right x y (f z) (flat_map f zs) (before_inside f a x y zs h k)
 
 -- by an image that tells elements apart
-pub has_back : {X Y : Type 0} (f : X → Y) (x : X) (xs : List X) → ((y z : X) → f y ≡ f z → y ≡ z) → Has (map f xs) (f x) → Has xs x
+pub has_back : {X Y : Type 0} (f : X → Y) (x : X) (xs : List X) → ((y z : X) → f y ≡ f z → y ≡ z)
+    → Has (map f xs) (f x) → Has xs x
 has_back f x xs one h = let found = map_has f xs (f x) h in subst (Has xs) (one found.0 x found.2) found.1
 
 pub before_back : {X Y : Type 0} (f : X → Y) (x y : X) (xs : List X) → ((z w : X) → f z ≡ f w → z ≡ w)

@@ -48,21 +48,25 @@ hop_kept net i k a h =
     let place : get_or net.flows i (Some hop.flow) ≡ Some hop.flow =
     get_or_default net.flows i (Some hop.flow) None (flow_inside net i k h) ∙ hop.is in
     let kept = (a.flows hop.flow (i, flow_inside net i k h, place)).hops k hop.on_path in
-    subst (λ (o : Option NetFlow). IsHop net.servers (slice_index (path_of o) k) (slice_index (queues_of o) k) (packet_of o))
+    subst (λ (o : Option NetFlow). IsHop net.servers (slice_index (path_of o) k) (slice_index (queues_of o) k)
+    (packet_of o))
     (sym hop.is) kept
 
 -- ---- servers
-has_queues : (net : Net) (s : ℕ) (o : Option NetServer) (b : ℕ) → slice_get net.servers s ≡ o → b < queue_count (discipline_of o)
+has_queues : (net : Net) (s : ℕ) (o : Option NetServer) (b : ℕ) → slice_get net.servers s ≡ o
+    → b < queue_count (discipline_of o)
     → s < length net.servers
 has_queues net s None b e h = absurd (omega (arith, h))
 has_queues net s (Some server) b e h = slice_get_within net.servers s server e
 
-has_levels : (net : Net) (s : ℕ) (o : Option NetServer) (b : ℕ) → slice_get net.servers s ≡ o → b < levels_of (discipline_of o)
+has_levels : (net : Net) (s : ℕ) (o : Option NetServer) (b : ℕ) → slice_get net.servers s ≡ o
+    → b < levels_of (discipline_of o)
     → s < length net.servers
 has_levels net s None b e h = absurd (omega (arith, h))
 has_levels net s (Some server) b e h = slice_get_within net.servers s server e
 
-pub home_inside : (net : Net) (scope : Scope) (a b : ℕ) → IsAccepted net → is_in_scope net scope a b ≡ true → scope ≢ EachPath
+pub home_inside : (net : Net) (scope : Scope) (a b : ℕ) → IsAccepted net → is_in_scope net scope a b ≡ true
+    → scope ≢ EachPath
     → home_in net scope a b < length net.servers
 home_inside net EachHop a b acc h n =
     let hop = hop_kept net a b acc (ltb-true b (hops net a) h) in
@@ -111,7 +115,8 @@ in_order net order c a o h = here (side_of c.kind)
   where
     here : Side c.kind → Has (flat_map (server_cells net) order ++ flat_map (path_cells net) path_kinds) c
     here (at_servers m n) =
-        has_left (flat_map (server_cells net) order) (flat_map (path_cells net) path_kinds) c (in_servers net order c a o h n)
+        has_left (flat_map (server_cells net) order) (flat_map (path_cells net) path_kinds) c
+        (in_servers net order c a o h n)
     here (of_paths m e) =
         has_right (flat_map (server_cells net) order) (flat_map (path_cells net) path_kinds) c (in_paths net c h e m)
 
@@ -122,7 +127,8 @@ paths_have net c h =
     let kind = flat_has (path_cells net) path_kinds c h in
     let whole = path_have net kind.0 c kind.2 in
     let e : scope_of c.kind ≡ EachPath = ap scope_of whole.kind_is ∙ path_scope kind.0 kind.1 in
-    let both : is_in_scope net EachPath c.a c.b ≡ true = and_from (is_live net c.a) _ whole.live (zero_is c.b whole.second) in
+    let both : is_in_scope net EachPath c.a c.b ≡ true =
+    and_from (is_live net c.a) _ whole.live (zero_is c.b whole.second) in
     (subst (λ (s : Scope). is_in_scope net s c.a c.b ≡ true) (sym e) both, e)
   where
     zero_is : (b : ℕ) → b ≡ 0 → nat_eq b 0 ≡ true
@@ -130,7 +136,8 @@ paths_have net c h =
 
 servers_have : (net : Net) (order : List ℕ) (c : Cell) → Has (flat_map (server_cells net) order) c
     → (s : ℕ) × IsHome net s c
-servers_have net order c h = let found = flat_has (server_cells net) order c h in (found.0, server_have net found.0 c found.2)
+servers_have net order c h = let found =
+    flat_has (server_cells net) order c h in (found.0, server_have net found.0 c found.2)
 
 pub order_has : (net : Net) (order : List ℕ) (c : Cell) → Has (evaluation_order net order) c → has_cell net c ≡ true
 unfolding evaluation_order

@@ -69,7 +69,8 @@ number_determined P d (Err e) (Err f) a b m n =
     ap Err one
 
 -- ---- deviations and sums
-not_within : (op : OpKind) (f g : SpecCurve) (fault : OpFault) → fault ≢ NoMemory → IsWithin op f g → ¬ (IsCauseOf op f g fault)
+not_within : (op : OpKind) (f g : SpecCurve) (fault : OpFault) → fault ≢ NoMemory → IsWithin op f g
+    → ¬ (IsCauseOf op f g fault)
 not_within op f g TooMany m within cause = within.few cause
 not_within op f g TooWide m within cause = within.narrow cause
 not_within op f g NoMemory m within cause = m refl
@@ -100,7 +101,8 @@ sums_determined xs (Err TooWide) (Err TooWide) a b m n = refl
 sums_determined xs (Err TooWide) (Err NoMemory) a b m n = absurd b
 
 -- ---- on operands
-on_curve : (Q : SpecCurve → Answer → Type 0) → ((f : SpecCurve) → IsDetermined (Q f)) → (v : Meaning) → IsDetermined (OnCurve Q v)
+on_curve : (Q : SpecCurve → Answer → Type 0) → ((f : SpecCurve) → IsDetermined (Q f)) → (v : Meaning)
+    → IsDetermined (OnCurve Q v)
 on_curve Q q (curve f) r s a b m n = q f r s a b m n
 on_curve Q q (number x) r s a b m n = absurd a
 
@@ -108,7 +110,8 @@ on_number : (Q : Ext → Answer → Type 0) → ((x : Ext) → IsDetermined (Q x
 on_number Q q (curve f) r s a b m n = absurd a
 on_number Q q (number x) r s a b m n = q x r s a b m n
 
-then_curve : (P : Answer → Type 0) (Q : SpecCurve → Answer → Type 0) → IsDetermined P → ((f : SpecCurve) → IsDetermined (Q f))
+then_curve : (P : Answer → Type 0) (Q : SpecCurve → Answer → Type 0) → IsDetermined P
+    → ((f : SpecCurve) → IsDetermined (Q f))
     → IsDetermined (ThenCurve P Q)
 then_curve P Q p q = then_determined P (OnCurve Q) p (on_curve Q q)
 
@@ -116,7 +119,8 @@ then_number : (P : Answer → Type 0) (Q : Ext → Answer → Type 0) → IsDete
     → IsDetermined (ThenNumber P Q)
 then_number P Q p q = then_determined P (OnNumber Q) p (on_number Q q)
 
-then_cells : (at : CellTable) (cells : List Cell) (Q : List Ext → Answer → Type 0) → ((xs : List Ext) → IsDetermined (Q xs))
+then_cells : (at : CellTable) (cells : List Cell) (Q : List Ext → Answer → Type 0)
+    → ((xs : List Ext) → IsDetermined (Q xs))
     → IsDetermined (ThenCells at cells Q)
 then_cells at cells Q q r s a b m n =
     let one : a.numbers ≡ b.numbers = have_numbers_one at cells a.numbers b.numbers a.are b.are in
@@ -139,7 +143,8 @@ answers_one at (made_of op F) r s a b m n =
     then_curve (Answers at F) (λ f. MakesCurve (AppliesTo op f)) (answers_one at F) (λ f. made_determined op f f)
     r s a b m n
 answers_one at (moved F T) r s a b m n =
-    then_curve (Answers at F) (λ f. ThenNumber (Answers at T) (λ x. MakesCurve (AppliesTo (Shift x) f))) (answers_one at F)
+    then_curve (Answers at F) (λ f. ThenNumber (Answers at T) (λ x. MakesCurve (AppliesTo (Shift x) f)))
+    (answers_one at F)
     (λ f. then_number (Answers at T) (λ x. MakesCurve (AppliesTo (Shift x) f)) (answers_one at T)
     (λ x. made_determined (Shift x) f f))
     r s a b m n
@@ -160,8 +165,10 @@ answers_one at (deficit f quanta longest queue) r s a b m n =
     curve_determined (MakesDrr f quanta longest queue) (drr_calls.is_determined f quanta longest queue) r s a b m n
 answers_one at (horizontal F G) r s a b m n =
     then_curve (Answers at F)
-    (λ f. ThenCurve (Answers at G) (λ g. MakesNumber (Deviates Horizontal IsHorizontalDeviation f g))) (answers_one at F)
-    (λ f. then_curve (Answers at G) (λ g. MakesNumber (Deviates Horizontal IsHorizontalDeviation f g)) (answers_one at G)
+    (λ f. ThenCurve (Answers at G) (λ g. MakesNumber (Deviates Horizontal IsHorizontalDeviation f g)))
+    (answers_one at F)
+    (λ f. then_curve (Answers at G) (λ g. MakesNumber (Deviates Horizontal IsHorizontalDeviation f g))
+    (answers_one at G)
     (λ g. number_determined (Deviates Horizontal IsHorizontalDeviation f g)
     (deviates_determined Horizontal IsHorizontalDeviation f g
     (λ x y. (deviations_are_unique (value_at f) (value_at g) x y).0))))

@@ -96,8 +96,10 @@ means_one at (moved F T) v w a b =
     v w a b
 means_one at (leftover F G T) v w a b =
     of_curve_one (Means at F)
-    (λ f. OfCurve (Means at G) (λ g. OfNumber (Means at T) (λ x. IsCurveIn (IsMadeBy (FifoLeft x) f g)))) (means_one at F)
-    (λ f. of_curve_one (Means at G) (λ g. OfNumber (Means at T) (λ x. IsCurveIn (IsMadeBy (FifoLeft x) f g))) (means_one at G)
+    (λ f. OfCurve (Means at G) (λ g. OfNumber (Means at T) (λ x. IsCurveIn (IsMadeBy (FifoLeft x) f g))))
+    (means_one at F)
+    (λ f. of_curve_one (Means at G) (λ g. OfNumber (Means at T) (λ x. IsCurveIn (IsMadeBy (FifoLeft x) f g)))
+    (means_one at G)
     (λ g. of_number_one (Means at T) (λ x. IsCurveIn (IsMadeBy (FifoLeft x) f g)) (means_one at T)
     (λ x. curve_in_one (IsMadeBy (FifoLeft x) f g) (made_unique (FifoLeft x) f g))))
     v w a b

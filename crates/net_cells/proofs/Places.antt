@@ -49,16 +49,19 @@ has_all net i k h =
 
 all_has : (net : Net) (v : Visit) → Has (all_visits net) v → v.hop < hops net v.flow
 all_has net v h =
-    let flow = flat_has (λ j. map (visit j) (range_with_len 0 (hops net j))) (range_with_len 0 (length net.flows)) v h in
+    let flow = flat_has (λ j. map (visit j) (range_with_len 0 (hops net j)))
+    (range_with_len 0 (length net.flows)) v h in
     let hop = map_has (visit flow.0) (range_with_len 0 (hops net flow.0)) v flow.2 in
     let below : hop.0 < hops net flow.0 =
     let found = range_has 0 (hops net flow.0) hop.0 hop.1 in omega (arith, found.1) in
     subst (λ (w : Visit). w.hop < hops net w.flow) hop.2 below
 
 pub has_visit : (net : Net) (s i k : ℕ) → k < hops net i → server_at net i k ≡ s → Has (visits net s) (visit i k)
-has_visit net s i k h e = has_filter (is_at net s) (all_visits net) (visit i k) (has_all net i k h) (eq-eqb (server_at net i k) s e)
+has_visit net s i k h e = has_filter (is_at net s) (all_visits net) (visit i k) (has_all net i k h)
+    (eq-eqb (server_at net i k) s e)
 
-pub visit_has : (net : Net) (s : ℕ) (v : Visit) → Has (visits net s) v → (v.hop < hops net v.flow) × (server_at net v.flow v.hop ≡ s)
+pub visit_has : (net : Net) (s : ℕ) (v : Visit) → Has (visits net s) v
+    → (v.hop < hops net v.flow) × (server_at net v.flow v.hop ≡ s)
 visit_has net s v h =
     let found = filter_has (is_at net s) (all_visits net) v h in
     (all_has net v found.0, eqb-true (server_at net v.flow v.hop) s found.1)
@@ -66,7 +69,8 @@ visit_has net s v h =
 pub apart_visits : (net : Net) (s : ℕ) → Apart (visits net s)
 apart_visits net s =
     apart_filter (is_at net s) (all_visits net)
-    (apart_flat (λ j. map (visit j) (range_with_len 0 (hops net j))) (λ (v : Visit). v.flow) (range_with_len 0 (length net.flows))
+    (apart_flat (λ j. map (visit j) (range_with_len 0 (hops net j))) (λ (v : Visit). v.flow)
+    (range_with_len 0 (length net.flows))
     (λ i v h. let hop = map_has (visit i) (range_with_len 0 (hops net i)) v h in sym (ap (λ (w : Visit). w.flow) hop.2))
     (λ i. apart_map (visit i) (range_with_len 0 (hops net i)) (λ j k e. ap (λ (w : Visit). w.hop) e)
     (apart_range 0 (hops net i)))
@@ -91,7 +95,8 @@ pub record IsAt (net : Net) (s : ℕ) (kind : Kind) (scope : Scope) (c : Cell) :
   pub at_home : home_in net scope c.a c.b ≡ s
   pub no_path : scope ≢ EachPath
 
-at_each_visit : (net : Net) (s : ℕ) (kind : Kind) (v : Visit) → Has (visits net s) v → IsAt net s kind EachHop (at_visit kind v)
+at_each_visit : (net : Net) (s : ℕ) (kind : Kind) (v : Visit) → Has (visits net s) v
+    → IsAt net s kind EachHop (at_visit kind v)
 at_each_visit net s kind v h =
     let found = visit_has net s v h in
     record { kind_is = refl; exists = lt-ltb v.hop (hops net v.flow) found.0; at_home = found.1; no_path = λ e. cc }
@@ -241,7 +246,8 @@ rank_one : (j k : Kind) → rank j ≡ rank k → j ≡ k
 rank_one j k e = sym (kind_at_rank j) ∙ ap kind_at e ∙ kind_at_rank k
 
 pub kinds_before : (j k : Kind) → rank j < rank k → rank k < 13 → Before j k server_kinds
-kinds_before j k h l = before_back rank j k server_kinds rank_one (before_range 0 13 (rank j) (rank k) (omega arith) h l)
+kinds_before j k h l = before_back rank j k server_kinds rank_one
+    (before_range 0 13 (rank j) (rank k) (omega arith) h l)
 
 pub path_kinds_before : (j k : Kind) → 13 ≤ rank j → rank j < rank k → rank k < 17 → Before j k path_kinds
 path_kinds_before j k g h l = before_back rank j k path_kinds rank_one (before_range 13 4 (rank j) (rank k) g h l)

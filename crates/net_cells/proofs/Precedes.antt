@@ -22,7 +22,7 @@ use Rattle.net_cells.specs.Cells.{cell_of, scope_of, is_in_scope, has_cell, serv
 use Rattle.net_cells.specs.Order.{at_visit, evaluation_order, server_cells, kind_cells, path_cells}
 use Rattle.net_cells.specs.Formulas.{Formula, leaves, made, value_of}
 use Rattle.net_cells.specs.CellFormulas.{formula, sum_of, sum_from, packets_to, served_to, queue_service, less}
-use Rattle.net_cells.specs.Laws.{OperandsComeFirst}
+use Rattle.net_cells.specs.Laws.{OperandsComeFirst, OperandsAreCells}
 use Rattle.net_cells.proofs.Lists.{Has, Before, has_right, has_either, map_has, filter_has, has_flat, range_has, before_left, before_right, before_across, before_flat, before_inside, before_place, before_split, Apart, contains_has, has_contains}
 use Rattle.net_cells.proofs.Places.{flow_inside, live_inside, visit_has, home, home_in, rank, kinds_before, path_kinds_before, IsHome, has_kind, has_server, has_path}
 use Rattle.net_cells.proofs.Members.{hop_of, hop_kept, home_inside, home_in_order, order_has, apart_cells}
@@ -68,7 +68,8 @@ at_last net order s c d o q p =
 on_path : (net : Net) (order : List ℕ) (i : ℕ) (j k : Kind) → is_live net i ≡ true → 13 ≤ rank j → rank j < rank k
     → rank k < 17 → Before (cell_of j i 0) (cell_of k i 0) (All net order)
 on_path net order i j k h low less high =
-    before_right (cell_of j i 0) (cell_of k i 0) (flat_map (server_cells net) order) (flat_map (path_cells net) path_kinds)
+    before_right (cell_of j i 0) (cell_of k i 0) (flat_map (server_cells net) order)
+    (flat_map (path_cells net) path_kinds)
     (before_flat (path_cells net) j k (cell_of j i 0) (cell_of k i 0) path_kinds (path_kinds_before j k low less high)
     (has_path net j i h) (has_path net k i h))
 
@@ -81,7 +82,8 @@ at_hop net kind i k s e h is = record {
   no_path = λ p. let bad : EachHop ≡ EachPath = sym e ∙ p in cc;
 }
 
-at_queue : (net : Net) (kind : Kind) (s q : ℕ) → scope_of kind ≡ EachQueue → q < queues net s → IsHome net s (cell_of kind s q)
+at_queue : (net : Net) (kind : Kind) (s q : ℕ) → scope_of kind ≡ EachQueue → q < queues net s
+    → IsHome net s (cell_of kind s q)
 at_queue net kind s q e h = record {
   exists = subst (λ (c : Scope). is_in_scope net c s q ≡ true) (sym e) (lt-ltb q (queues net s) h);
   at_home = subst (λ (c : Scope). home_in net c s q ≡ s) (sym e) refl;
@@ -89,14 +91,16 @@ at_queue net kind s q e h = record {
 }
 
 -- the queue of a hop
-queue_exists : (net : Net) (i k : ℕ) → IsAccepted net → k < hops net i → queue_at net i k < queues net (server_at net i k)
+queue_exists : (net : Net) (i k : ℕ) → IsAccepted net → k < hops net i
+    → queue_at net i k < queues net (server_at net i k)
 queue_exists net i k a h =
     let hop = hop_kept net i k a h in
     subst (λ (o : Option NetServer). queue_at net i k < queue_count (discipline_of o)) (sym hop.is) hop.has_queue
 
 service_at_home : (net : Net) (i k : ℕ) → IsAccepted net → k < hops net i
     → IsHome net (server_at net i k) (cell_of QueueService (server_at net i k) (queue_at net i k))
-service_at_home net i k a h = at_queue net QueueService (server_at net i k) (queue_at net i k) refl (queue_exists net i k a h)
+service_at_home net i k a h = at_queue net QueueService (server_at net i k) (queue_at net i k) refl
+    (queue_exists net i k a h)
 
 levels_at_most : (d : Discipline) → levels_of d ≤ queue_count d
 levels_at_most Fifo = omega arith
@@ -127,7 +131,8 @@ leaf_of_sum (c ∷ cs) d h = elim (sum_leaves (value_of c) cs d h) [ inl l ↦ o
     one (inr n) = absurd n
 
 -- the curve of a visit of a server
-of_visit : (net : Net) (order : List ℕ) (s : ℕ) (c : Cell) (v : Visit) → Ordered net order → IsHome net s c → Has (visits net s) v
+of_visit : (net : Net) (order : List ℕ) (s : ℕ) (c : Cell) (v : Visit) → Ordered net order → IsHome net s c
+    → Has (visits net s) v
     → 0 < rank c.kind → rank c.kind < 13 → Before (at_visit In v) c (All net order)
 of_visit net order s c v o h m k l =
     let found = visit_has net s v m in
@@ -143,7 +148,8 @@ one_of : (net : Net) (order : List ℕ) (c x d : Cell) → Before x c (All net o
 one_of net order c x d h e = subst (λ (y : Cell). Before y c (All net order)) e h
 
 -- the server of a hop, and of the one after it
-next_is : (net : Net) (i k : ℕ) → IsAccepted net → suc k < hops net i → IsNext net (server_at net i k) (server_at net i (suc k))
+next_is : (net : Net) (i k : ℕ) → IsAccepted net → suc k < hops net i
+    → IsNext net (server_at net i k) (server_at net i (suc k))
 next_is net i k a h =
     let hop = hop_of net i (suc k) h in
     let place : get_or net.flows i (Some hop.flow) ≡ Some hop.flow =
@@ -159,7 +165,8 @@ next_is net i k a h =
       };
     }
 
-earlier : (net : Net) (order : List ℕ) (i k : ℕ) → Ordered net order → Has order (server_at net i (suc k)) → suc k < hops net i
+earlier : (net : Net) (order : List ℕ) (i k : ℕ) → Ordered net order → Has order (server_at net i (suc k))
+    → suc k < hops net i
     → Before (server_at net i k) (server_at net i (suc k)) order
 earlier net order i k o m h =
     let place = has_contains order (server_at net i (suc k)) m in
@@ -167,9 +174,11 @@ earlier net order i k o m h =
     get_or_default order place.0 0 (server_at net i (suc k)) place.1 ∙ place.2 in
     before_place order place.0 (server_at net i k) (server_at net i (suc k)) place.1 is
     (contains_has (take place.0 order) (server_at net i k)
-    (goes_forward net order (server_at net i k) (server_at net i (suc k)) place.0 o.is (next_is net i k o.kept h) place.1 is))
+    (goes_forward net order (server_at net i k) (server_at net i (suc k)) place.0 o.is
+    (next_is net i k o.kept h) place.1 is))
 
-in_first : (net : Net) (order : List ℕ) (i k : ℕ) → Ordered net order → k < hops net i → OperandsFirst net order (cell_of In i k)
+in_first : (net : Net) (order : List ℕ) (i k : ℕ) → Ordered net order → k < hops net i
+    → OperandsFirst net order (cell_of In i k)
 in_first net order i zero o h d m = absurd m
 in_first net order i (suc k) o h d (inl e) =
     let s = server_at net i (suc k) in
@@ -181,7 +190,8 @@ in_first net order i (suc k) o h d (inl e) =
     e
 in_first net order i (suc k) o h d (inr m) = absurd m
 
-cross_first : (net : Net) (order : List ℕ) (i k : ℕ) → Ordered net order → k < hops net i → OperandsFirst net order (cell_of Cross i k)
+cross_first : (net : Net) (order : List ℕ) (i k : ℕ) → Ordered net order → k < hops net i
+    → OperandsFirst net order (cell_of Cross i k)
 cross_first net order i k o h d m =
     let s = server_at net i k in
     let q = queue_at net i k in
@@ -189,21 +199,25 @@ cross_first net order i k o h d m =
     let other = filter_has (λ (v : Visit). not (v.flow == i)) (visits_in net s q) found.0 found.1 in
     let here = filter_has (λ (v : Visit). queue_at net v.flow v.hop == q) (visits net s) found.0 other.0 in
     one_of net order (cell_of Cross i k) (at_visit In found.0) d
-    (of_visit net order s (cell_of Cross i k) found.0 o (at_hop net Cross i k s refl h refl) here.0 (omega arith) (omega arith))
+    (of_visit net order s (cell_of Cross i k) found.0 o (at_hop net Cross i k s refl h refl) here.0 (omega arith)
+    (omega arith))
     found.2
 
-total_first : (net : Net) (order : List ℕ) (s q : ℕ) → Ordered net order → q < queues net s → OperandsFirst net order (cell_of Total s q)
+total_first : (net : Net) (order : List ℕ) (s q : ℕ) → Ordered net order → q < queues net s
+    → OperandsFirst net order (cell_of Total s q)
 total_first net order s q o h d m =
     let found = map_has (at_visit In) (visits_in net s q) d (leaf_of_sum (map (at_visit In) (visits_in net s q)) d m) in
     let here = filter_has (λ (v : Visit). queue_at net v.flow v.hop == q) (visits net s) found.0 found.1 in
     one_of net order (cell_of Total s q) (at_visit In found.0) d
-    (of_visit net order s (cell_of Total s q) found.0 o (at_queue net Total s q refl h) here.0 (omega arith) (omega arith))
+    (of_visit net order s (cell_of Total s q) found.0 o (at_queue net Total s q refl h) here.0 (omega arith)
+    (omega arith))
     found.2
 
 higher_home : (net : Net) (s q : ℕ) → q < levels net s → IsHome net s (cell_of Higher s q)
 higher_home net s q h = record { exists = lt-ltb q (levels net s) h; at_home = refl; no_path = λ p. cc }
 
-higher_first : (net : Net) (order : List ℕ) (s q : ℕ) → Ordered net order → q < levels net s → OperandsFirst net order (cell_of Higher s q)
+higher_first : (net : Net) (order : List ℕ) (s q : ℕ) → Ordered net order → q < levels net s
+    → OperandsFirst net order (cell_of Higher s q)
 higher_first net order s q o h d m =
     let cells = map (cell_of Total s) (range_with_len 0 q) in
     let found = map_has (cell_of Total s) (range_with_len 0 q) d (leaf_of_sum cells d m) in
@@ -237,10 +251,12 @@ of_hop : (net : Net) (order : List ℕ) (i k : ℕ) (c : Cell) (kind : Kind) (d 
     → cell_of kind i k ≡ d → Before d c (All net order)
 of_hop net order i k c kind d o h p e l u same =
     one_of net order c (cell_of kind i k) d
-    (at_one net order (server_at net i k) c (cell_of kind i k) o p (at_hop net kind i k (server_at net i k) e h refl) l u)
+    (at_one net order (server_at net i k) c (cell_of kind i k) o p
+    (at_hop net kind i k (server_at net i k) e h refl) l u)
     same
 
-of_queue : (net : Net) (order : List ℕ) (i k : ℕ) (c : Cell) (kind : Kind) (d : Cell) → Ordered net order → k < hops net i
+of_queue : (net : Net) (order : List ℕ) (i k : ℕ) (c : Cell) (kind : Kind) (d : Cell) → Ordered net order
+    → k < hops net i
     → IsHome net (server_at net i k) c → scope_of kind ≡ EachQueue → rank kind < rank c.kind → rank c.kind < 13
     → cell_of kind (server_at net i k) (queue_at net i k) ≡ d → Before d c (All net order)
 of_queue net order i k c kind d o h p e l u same =
@@ -258,15 +274,18 @@ at_hop_before net kind i k s e h is = record {
   no_path = λ p. let bad : EachHopButLast ≡ EachPath = sym e ∙ p in cc;
 }
 
-of_last : (net : Net) (order : List ℕ) (i k : ℕ) (c : Cell) (kind : Kind) (d : Cell) → Ordered net order → suc k < hops net i
+of_last : (net : Net) (order : List ℕ) (i k : ℕ) (c : Cell) (kind : Kind) (d : Cell) → Ordered net order
+    → suc k < hops net i
     → IsHome net (server_at net i k) c → scope_of kind ≡ EachHopButLast → rank kind < rank c.kind → rank c.kind < 13
     → cell_of kind i k ≡ d → Before d c (All net order)
 of_last net order i k c kind d o h p e l u same =
     one_of net order c (cell_of kind i k) d
-    (at_one net order (server_at net i k) c (cell_of kind i k) o p (at_hop_before net kind i k (server_at net i k) e h refl) l u)
+    (at_one net order (server_at net i k) c (cell_of kind i k) o p
+    (at_hop_before net kind i k (server_at net i k) e h refl) l u)
     same
 
-theta_first : (net : Net) (order : List ℕ) (i k : ℕ) → Ordered net order → k < hops net i → OperandsFirst net order (cell_of Theta i k)
+theta_first : (net : Net) (order : List ℕ) (i k : ℕ) → Ordered net order → k < hops net i
+    → OperandsFirst net order (cell_of Theta i k)
 theta_first net order i k o h d m = here m
   where
     home : IsHome net (server_at net i k) (cell_of Theta i k)
@@ -274,34 +293,42 @@ theta_first net order i k o h d m = here m
 
     here : Has (leaves (formula net (cell_of Theta i k))) d → Before d (cell_of Theta i k) (All net order)
     here (inl e) = of_hop net order i k (cell_of Theta i k) Cross d o h home refl (omega arith) (omega arith) e
-    here (inr (inl e)) = of_queue net order i k (cell_of Theta i k) QueueService d o h home refl (omega arith) (omega arith) e
+    here (inr (inl e)) = of_queue net order i k (cell_of Theta i k) QueueService d o h home refl (omega arith)
+        (omega arith) e
     here (inr (inr n)) = absurd n
 
-residual_first : (net : Net) (order : List ℕ) (i k : ℕ) → Ordered net order → k < hops net i → OperandsFirst net order (cell_of Residual i k)
+residual_first : (net : Net) (order : List ℕ) (i k : ℕ) → Ordered net order → k < hops net i
+    → OperandsFirst net order (cell_of Residual i k)
 residual_first net order i k o h d m = here m
   where
     home : IsHome net (server_at net i k) (cell_of Residual i k)
     home = at_hop net Residual i k (server_at net i k) refl h refl
 
     here : Has (leaves (formula net (cell_of Residual i k))) d → Before d (cell_of Residual i k) (All net order)
-    here (inl e) = of_queue net order i k (cell_of Residual i k) QueueService d o h home refl (omega arith) (omega arith) e
+    here (inl e) = of_queue net order i k (cell_of Residual i k) QueueService d o h home refl (omega arith)
+        (omega arith) e
     here (inr (inl e)) = of_hop net order i k (cell_of Residual i k) Cross d o h home refl (omega arith) (omega arith) e
-    here (inr (inr (inl e))) = of_hop net order i k (cell_of Residual i k) Theta d o h home refl (omega arith) (omega arith) e
+    here (inr (inr (inl e))) = of_hop net order i k (cell_of Residual i k) Theta d o h home refl (omega arith)
+        (omega arith) e
     here (inr (inr (inr n))) = absurd n
 
-hop_delay_first : (net : Net) (order : List ℕ) (i k : ℕ) → Ordered net order → k < hops net i → OperandsFirst net order (cell_of HopDelay i k)
+hop_delay_first : (net : Net) (order : List ℕ) (i k : ℕ) → Ordered net order → k < hops net i
+    → OperandsFirst net order (cell_of HopDelay i k)
 hop_delay_first net order i k o h d m = here m
   where
     home : IsHome net (server_at net i k) (cell_of HopDelay i k)
     home = at_hop net HopDelay i k (server_at net i k) refl h refl
 
     here : Has (leaves (formula net (cell_of HopDelay i k))) d → Before d (cell_of HopDelay i k) (All net order)
-    here (inl e) = of_queue net order i k (cell_of HopDelay i k) QueueDelay d o h home refl (omega arith) (omega arith) e
+    here (inl e) = of_queue net order i k (cell_of HopDelay i k) QueueDelay d o h home refl (omega arith)
+        (omega arith) e
     here (inr (inl e)) = of_hop net order i k (cell_of HopDelay i k) In d o h home refl (omega arith) (omega arith) e
-    here (inr (inr (inl e))) = of_hop net order i k (cell_of HopDelay i k) Residual d o h home refl (omega arith) (omega arith) e
+    here (inr (inr (inl e))) = of_hop net order i k (cell_of HopDelay i k) Residual d o h home refl (omega arith)
+        (omega arith) e
     here (inr (inr (inr n))) = absurd n
 
-shift_out_first : (net : Net) (order : List ℕ) (i k : ℕ) → Ordered net order → k < hops net i → suc k < hops net i → OperandsFirst net order (cell_of ShiftOut i k)
+shift_out_first : (net : Net) (order : List ℕ) (i k : ℕ) → Ordered net order → k < hops net i → suc k < hops net i
+    → OperandsFirst net order (cell_of ShiftOut i k)
 shift_out_first net order i k o h g d m = here m
   where
     home : IsHome net (server_at net i k) (cell_of ShiftOut i k)
@@ -309,10 +336,12 @@ shift_out_first net order i k o h g d m = here m
 
     here : Has (leaves (formula net (cell_of ShiftOut i k))) d → Before d (cell_of ShiftOut i k) (All net order)
     here (inl e) = of_hop net order i k (cell_of ShiftOut i k) In d o h home refl (omega arith) (omega arith) e
-    here (inr (inl e)) = of_hop net order i k (cell_of ShiftOut i k) HopDelay d o h home refl (omega arith) (omega arith) e
+    here (inr (inl e)) = of_hop net order i k (cell_of ShiftOut i k) HopDelay d o h home refl (omega arith)
+        (omega arith) e
     here (inr (inr n)) = absurd n
 
-deconv_out_first : (net : Net) (order : List ℕ) (i k : ℕ) → Ordered net order → k < hops net i → suc k < hops net i → OperandsFirst net order (cell_of DeconvOut i k)
+deconv_out_first : (net : Net) (order : List ℕ) (i k : ℕ) → Ordered net order → k < hops net i → suc k < hops net i
+    → OperandsFirst net order (cell_of DeconvOut i k)
 deconv_out_first net order i k o h g d m = here m
   where
     home : IsHome net (server_at net i k) (cell_of DeconvOut i k)
@@ -320,10 +349,12 @@ deconv_out_first net order i k o h g d m = here m
 
     here : Has (leaves (formula net (cell_of DeconvOut i k))) d → Before d (cell_of DeconvOut i k) (All net order)
     here (inl e) = of_hop net order i k (cell_of DeconvOut i k) In d o h home refl (omega arith) (omega arith) e
-    here (inr (inl e)) = of_hop net order i k (cell_of DeconvOut i k) Residual d o h home refl (omega arith) (omega arith) e
+    here (inr (inl e)) = of_hop net order i k (cell_of DeconvOut i k) Residual d o h home refl (omega arith)
+        (omega arith) e
     here (inr (inr n)) = absurd n
 
-out_first : (net : Net) (order : List ℕ) (i k : ℕ) → Ordered net order → k < hops net i → suc k < hops net i → OperandsFirst net order (cell_of Out i k)
+out_first : (net : Net) (order : List ℕ) (i k : ℕ) → Ordered net order → k < hops net i → suc k < hops net i
+    → OperandsFirst net order (cell_of Out i k)
 out_first net order i k o h g d m = here m
   where
     home : IsHome net (server_at net i k) (cell_of Out i k)
@@ -334,13 +365,16 @@ out_first net order i k o h g d m = here m
     here (inr (inl e)) = of_last net order i k (cell_of Out i k) DeconvOut d o g home refl (omega arith) (omega arith) e
     here (inr (inr n)) = absurd n
 
-queue_delay_first : (net : Net) (order : List ℕ) (s q : ℕ) → Ordered net order → q < queues net s → OperandsFirst net order (cell_of QueueDelay s q)
+queue_delay_first : (net : Net) (order : List ℕ) (s q : ℕ) → Ordered net order → q < queues net s
+    → OperandsFirst net order (cell_of QueueDelay s q)
 queue_delay_first net order s q o h d m = here m
   where
-    same : (k : Kind) → scope_of k ≡ EachQueue → rank k < rank QueueDelay → cell_of k s q ≡ d → Before d (cell_of QueueDelay s q) (All net order)
+    same : (k : Kind) → scope_of k ≡ EachQueue → rank k < rank QueueDelay → cell_of k s q ≡ d
+        → Before d (cell_of QueueDelay s q) (All net order)
     same k e l is =
         one_of net order (cell_of QueueDelay s q) (cell_of k s q) d
-        (at_one net order s (cell_of QueueDelay s q) (cell_of k s q) o (at_queue net QueueDelay s q refl h) (at_queue net k s q e h) l
+        (at_one net order s (cell_of QueueDelay s q) (cell_of k s q) o (at_queue net QueueDelay s q refl h)
+        (at_queue net k s q e h) l
         (omega arith))
         is
 
@@ -349,13 +383,16 @@ queue_delay_first net order s q o h d m = here m
     here (inr (inl e)) = same QueueService refl (omega arith) e
     here (inr (inr n)) = absurd n
 
-queue_backlog_first : (net : Net) (order : List ℕ) (s q : ℕ) → Ordered net order → q < queues net s → OperandsFirst net order (cell_of QueueBacklog s q)
+queue_backlog_first : (net : Net) (order : List ℕ) (s q : ℕ) → Ordered net order → q < queues net s
+    → OperandsFirst net order (cell_of QueueBacklog s q)
 queue_backlog_first net order s q o h d m = here m
   where
-    same : (k : Kind) → scope_of k ≡ EachQueue → rank k < rank QueueBacklog → cell_of k s q ≡ d → Before d (cell_of QueueBacklog s q) (All net order)
+    same : (k : Kind) → scope_of k ≡ EachQueue → rank k < rank QueueBacklog → cell_of k s q ≡ d
+        → Before d (cell_of QueueBacklog s q) (All net order)
     same k e l is =
         one_of net order (cell_of QueueBacklog s q) (cell_of k s q) d
-        (at_one net order s (cell_of QueueBacklog s q) (cell_of k s q) o (at_queue net QueueBacklog s q refl h) (at_queue net k s q e h) l
+        (at_one net order s (cell_of QueueBacklog s q) (cell_of k s q) o (at_queue net QueueBacklog s q refl h)
+        (at_queue net k s q e h) l
         (omega arith))
         is
 
@@ -389,7 +426,8 @@ of_path net order i k kind last d o h e p same =
     same
 
 -- the leaves of the service along a path
-packets_leaves : (net : Net) (i k : ℕ) (d : Cell) → Has (leaves (packets_to net i k)) d → (j : ℕ) × (j ≤ k) × (cell_of Residual i j ≡ d)
+packets_leaves : (net : Net) (i k : ℕ) (d : Cell) → Has (leaves (packets_to net i k)) d
+    → (j : ℕ) × (j ≤ k) × (cell_of Residual i j ≡ d)
 packets_leaves net i zero d (inl e) = (0, omega arith, e)
 packets_leaves net i zero d (inr n) = absurd n
 packets_leaves net i (suc k) d h =
@@ -402,7 +440,8 @@ packets_leaves net i (suc k) d h =
     one (inl e) = (suc k, omega arith, e)
     one (inr n) = absurd n
 
-served_leaves : (net : Net) (i k : ℕ) (d : Cell) → Has (leaves (served_to net i k)) d → (j : ℕ) × (j ≤ k) × (cell_of Residual i j ≡ d)
+served_leaves : (net : Net) (i k : ℕ) (d : Cell) → Has (leaves (served_to net i k)) d
+    → (j : ℕ) × (j ≤ k) × (cell_of Residual i j ≡ d)
 served_leaves net i zero d (inl e) = (0, omega arith, e)
 served_leaves net i zero d (inr n) = absurd n
 served_leaves net i (suc k) d h =
@@ -421,10 +460,12 @@ path_service_first net order i o h d m =
     let found = served_leaves net i (hops net i - 1) d m in
     let some = some_hop net i o.kept h in
     of_path net order i found.0 Residual PathService d o (omega (arith, found.1, some)) refl
-    (has_flat (path_cells net) path_kinds PathService (cell_of PathService i 0) (inl refl) (has_path net PathService i h))
+    (has_flat (path_cells net) path_kinds PathService (cell_of PathService i 0) (inl refl)
+    (has_path net PathService i h))
     found.2
 
-tfa_first : (net : Net) (order : List ℕ) (i : ℕ) → Ordered net order → is_live net i ≡ true → OperandsFirst net order (cell_of Tfa i 0)
+tfa_first : (net : Net) (order : List ℕ) (i : ℕ) → Ordered net order → is_live net i ≡ true
+    → OperandsFirst net order (cell_of Tfa i 0)
 tfa_first net order i o h d m =
     let found = map_has (cell_of HopDelay i) (range_with_len 0 (hops net i)) d m in
     let low = range_has 0 (hops net i) found.0 found.1 in
@@ -432,7 +473,8 @@ tfa_first net order i o h d m =
     (has_flat (path_cells net) path_kinds Tfa (cell_of Tfa i 0) (inr (inl refl)) (has_path net Tfa i h))
     found.2
 
-sfa_first : (net : Net) (order : List ℕ) (i : ℕ) → Ordered net order → is_live net i ≡ true → OperandsFirst net order (cell_of Sfa i 0)
+sfa_first : (net : Net) (order : List ℕ) (i : ℕ) → Ordered net order → is_live net i ≡ true
+    → OperandsFirst net order (cell_of Sfa i 0)
 sfa_first net order i o h d (inl e) =
     of_path net order i 0 In Sfa d o (some_hop net i o.kept h) refl
     (has_flat (path_cells net) path_kinds Sfa (cell_of Sfa i 0) (inr (inr (inl refl))) (has_path net Sfa i h)) e
@@ -466,7 +508,8 @@ whole_first net order kind i b h first =
     let parts = and_parts (is_live net i) (b == 0) h in
     subst (λ (n : ℕ). OperandsFirst net order (cell_of kind i n)) (sym (eqb-true b 0 parts.1)) (first parts.0)
 
-cells_first : (net : Net) (order : List ℕ) (kind : Kind) (a b : ℕ) → Ordered net order → has_cell net (cell_of kind a b) ≡ true
+cells_first : (net : Net) (order : List ℕ) (kind : Kind) (a b : ℕ) → Ordered net order
+    → has_cell net (cell_of kind a b) ≡ true
     → OperandsFirst net order (cell_of kind a b)
 cells_first net order In a b o h = in_first net order a b o (hop_is net a b h)
 cells_first net order Cross a b o h = cross_first net order a b o (hop_is net a b h)
@@ -498,7 +541,8 @@ pub in_front : (net : Net) (order : List ℕ) (front : List Cell) (c : Cell) (ba
 in_front net order front c back e =
     order_has net order c (subst (λ (cs : List Cell). Has cs c) (sym e) (has_right front (c ∷ back) c (inl refl)))
 
-pub leaf_in_front : (net : Net) (order : List ℕ) (front : List Cell) (c : Cell) (back : List Cell) (d : Cell) → IsAccepted net
+pub leaf_in_front : (net : Net) (order : List ℕ) (front : List Cell) (c : Cell) (back : List Cell) (d : Cell)
+    → IsAccepted net
     → IsOrder net order → evaluation_order net order ≡ front ++ c ∷ back → Has (leaves (formula net c)) d → Has front d
 leaf_in_front net order front c back d a o e m =
     before_split front d c back (subst (λ (cs : List Cell). Apart cs) e (apart_cells net order o))
@@ -507,3 +551,13 @@ leaf_in_front net order front c back d a o e m =
 pub operands_come_first : OperandsComeFirst
 operands_come_first net order a o front back c d e m =
     has_contains front d (leaf_in_front net order front c back d a o e (contains_has (leaves (formula net c)) d m))
+
+before_first : (x y : Cell) (xs : List Cell) → Before x y xs → Has xs x
+before_first x y [] h = absurd h
+before_first x y (z ∷ zs) (inl h) = inl h.0
+before_first x y (z ∷ zs) (inr h) = inr (before_first x y zs h)
+
+pub operands_are_cells : OperandsAreCells
+operands_are_cells net order a o c d h m =
+    order_has net order d (before_first d c (evaluation_order net order)
+    (leaf_before net order c d a o h (contains_has (leaves (formula net c)) d m)))

@@ -27,7 +27,8 @@ on_right : (cs ds : List Cell) (at other : CellTable) → AgreeOn (cs ++ ds) at 
 on_right cs ds at other same c h = same c (has_right cs ds c h)
 
 -- ---- numbers of cells
-pub numbers_same : (at other : CellTable) (cells : List Cell) (xs : List Ext) → AgreeOn cells at other → HaveNumbers at cells xs
+pub numbers_same : (at other : CellTable) (cells : List Cell) (xs : List Ext) → AgreeOn cells at other
+    → HaveNumbers at cells xs
     → HaveNumbers other cells xs
 numbers_same at other [] [] same h = h
 numbers_same at other [] (x ∷ xs) same h = h
@@ -50,7 +51,8 @@ of_curves : (P M Q N : Meaning → Type 0) (R : SpecCurve → SpecCurve → Mean
 of_curves P M Q N R v p q a =
     of_curve P M (λ f. OfCurve Q (R f)) (λ f. OfCurve N (R f)) v p (λ f b. of_curve Q N (R f) (R f) v q (λ g h. h) b) a
 
-pub means_same : (at other : CellTable) (F : Formula) (v : Meaning) → AgreeOn (leaves F) at other → Means at F v → Means other F v
+pub means_same : (at other : CellTable) (F : Formula) (v : Meaning) → AgreeOn (leaves F) at other → Means at F v
+    → Means other F v
 means_same at other (value_of c) v same a = sym (same c (inl refl)) ∙ a
 means_same at other (given f) v same a = a
 means_same at other empty_sum v same a = a
@@ -73,7 +75,8 @@ means_same at other (leftover F G T) v same a =
     (λ f. OfCurve (Means at G) (λ g. OfNumber (Means at T) (λ x. IsCurveIn (IsMadeBy (FifoLeft x) f g))))
     (λ f. OfCurve (Means other G) (λ g. OfNumber (Means other T) (λ x. IsCurveIn (IsMadeBy (FifoLeft x) f g)))) v
     (λ x. means_same at other F x (on_left (leaves F) (leaves G ++ leaves T) at other same))
-    (λ f. of_curve (Means at G) (Means other G) (λ g. OfNumber (Means at T) (λ x. IsCurveIn (IsMadeBy (FifoLeft x) f g)))
+    (λ f. of_curve (Means at G) (Means other G)
+    (λ g. OfNumber (Means at T) (λ x. IsCurveIn (IsMadeBy (FifoLeft x) f g)))
     (λ g. OfNumber (Means other T) (λ x. IsCurveIn (IsMadeBy (FifoLeft x) f g))) v
     (λ x. means_same at other G x
     (on_left (leaves G) (leaves T) at other (on_right (leaves F) (leaves G ++ leaves T) at other same)))
@@ -141,7 +144,8 @@ answers_same at other (made_of op F) r same a =
     then_curve (Answers at F) (Answers other F) (λ f. MakesCurve (AppliesTo op f)) (λ f. MakesCurve (AppliesTo op f)) r
     (λ x. answers_same at other F x same) (λ f b. b) a
 answers_same at other (moved F T) r same a =
-    then_curve (Answers at F) (Answers other F) (λ f. ThenNumber (Answers at T) (λ x. MakesCurve (AppliesTo (Shift x) f)))
+    then_curve (Answers at F) (Answers other F)
+    (λ f. ThenNumber (Answers at T) (λ x. MakesCurve (AppliesTo (Shift x) f)))
     (λ f. ThenNumber (Answers other T) (λ x. MakesCurve (AppliesTo (Shift x) f))) r
     (λ x. answers_same at other F x (on_left (leaves F) (leaves T) at other same))
     (λ f. then_number (Answers at T) (Answers other T) (λ x. MakesCurve (AppliesTo (Shift x) f))
@@ -150,7 +154,8 @@ answers_same at other (moved F T) r same a =
 answers_same at other (leftover F G T) r same a =
     then_curve (Answers at F) (Answers other F)
     (λ f. ThenCurve (Answers at G) (λ g. ThenNumber (Answers at T) (λ x. MakesCurve (Applies (FifoLeft x) f g))))
-    (λ f. ThenCurve (Answers other G) (λ g. ThenNumber (Answers other T) (λ x. MakesCurve (Applies (FifoLeft x) f g)))) r
+    (λ f. ThenCurve (Answers other G)
+    (λ g. ThenNumber (Answers other T) (λ x. MakesCurve (Applies (FifoLeft x) f g)))) r
     (λ x. answers_same at other F x (on_left (leaves F) (leaves G ++ leaves T) at other same))
     (λ f. then_curve (Answers at G) (Answers other G)
     (λ g. ThenNumber (Answers at T) (λ x. MakesCurve (Applies (FifoLeft x) f g)))

@@ -16,12 +16,14 @@ use Rattle.net_cells.specs.Visits.{Visit, visit, visits, is_at, hops_at}
 use Rattle.net_cells.proofs.Growing.{filter_flat, flat_same, filter_mapped}
 
 -- ---- flows
-pub flow_stored : (net : Net) (fs : List (Option Flow)) (i : ℕ) (x : Option Flow) → flows_of fs ≡ net.flows → i < length fs
+pub flow_stored : (net : Net) (fs : List (Option Flow)) (i : ℕ) (x : Option Flow) → flows_of fs ≡ net.flows
+    → i < length fs
     → x ≡ get_or fs i x → option_map flow_of x ≡ flow_at net i
 flow_stored net fs i x same h is =
     ap (option_map flow_of) is ∙ sym (get_or-map (option_map flow_of) fs i x None h) ∙ ap (λ gs. get_or gs i None) same
 
-pub flow_past : (net : Net) (fs : List (Option Flow)) (i : ℕ) → flows_of fs ≡ net.flows → length fs ≤ i → None ≡ flow_at net i
+pub flow_past : (net : Net) (fs : List (Option Flow)) (i : ℕ) → flows_of fs ≡ net.flows → length fs ≤ i
+    → None ≡ flow_at net i
 flow_past net fs i same h =
     let count = ap length same in
     let all = length-map fs (option_map flow_of) in
@@ -42,12 +44,15 @@ few_hops net i a = by (flow_at net i) refl
     by (Some f) e = (flow_kept net i f a e).few
 
 -- the hops at a server, flow by flow
-pub visits_by_flow : (net : Net) (s : ℕ) → visits net s ≡ flat_map (λ i. hops_at i (path net i) s) (range_with_len 0 (length net.flows))
+pub visits_by_flow : (net : Net) (s : ℕ)
+    → visits net s ≡ flat_map (λ i. hops_at i (path net i) s) (range_with_len 0 (length net.flows))
 visits_by_flow net s =
     filter_flat (is_at net s) (λ i. map (visit i) (range_with_len 0 (hops net i))) (range_with_len 0 (length net.flows))
-    ∙ flat_same (λ i. filter (is_at net s) (map (visit i) (range_with_len 0 (hops net i)))) (λ i. hops_at i (path net i) s)
+    ∙ flat_same (λ i. filter (is_at net s) (map (visit i) (range_with_len 0 (hops net i))))
+    (λ i. hops_at i (path net i) s)
     (range_with_len 0 (length net.flows))
-    (λ i. filter_mapped (is_at net s) (λ (v : Visit). eqb (get_or (path net i) v.hop 0) s) (visit i) (range_with_len 0 (hops net i))
+    (λ i. filter_mapped (is_at net s) (λ (v : Visit). eqb (get_or (path net i) v.hop 0) s) (visit i)
+    (range_with_len 0 (hops net i))
     (λ k. refl))
 
 -- ---- servers
@@ -59,7 +64,8 @@ server_stored net ss i x same h is =
     ∙ slice_get-get_or (servers_of ss) i (server_of x) (omega (arith, h, all))
     ∙ ap Some (get_or-map server_of ss i x (server_of x) h ∙ ap server_of (sym is))
 
-pub server_past : (net : Net) (ss : List Server) (i : ℕ) → servers_of ss ≡ net.servers → length ss ≤ i → slice_get net.servers i ≡ None
+pub server_past : (net : Net) (ss : List Server) (i : ℕ) → servers_of ss ≡ net.servers → length ss ≤ i
+    → slice_get net.servers i ≡ None
 server_past net ss i same h =
     let count = ap length same in
     let all = length-map ss server_of in
@@ -68,9 +74,11 @@ server_past net ss i same h =
 pub server_kept : (net : Net) (i : ℕ) (s : NetServer) → IsAccepted net → slice_get net.servers i ≡ Some s → IsServer s
 server_kept net i s a e = a.servers s (i, slice_get_within net.servers i s e, get_or_from_slice_get net.servers i s s e)
 
-pub live_stored : (net : Net) (fs : List (Option Flow)) (i : ℕ) (x : Option Flow) → flows_of fs ≡ net.flows → i < length fs
+pub live_stored : (net : Net) (fs : List (Option Flow)) (i : ℕ) (x : Option Flow) → flows_of fs ≡ net.flows
+    → i < length fs
     → x ≡ get_or fs i x → is_some x ≡ is_live net i
-live_stored net fs i x same h is = same_some x ∙ ap (λ (o : Option NetFlow). is_some o) (flow_stored net fs i x same h is)
+live_stored net fs i x same h is = same_some x
+    ∙ ap (λ (o : Option NetFlow). is_some o) (flow_stored net fs i x same h is)
   where
     same_some : (o : Option Flow) → is_some o ≡ is_some (option_map flow_of o)
     same_some None = refl

@@ -27,11 +27,14 @@ abbrev MeetOn : Net → CellTable → List Cell → Type 0
 MeetOn net at cells = (c : Cell) → Has cells c → MeetsEquation net at c
 
 pub answered_meets : (net : Net) (at : CellTable) (c : Cell) → IsAnswered net at c → MeetsEquation net at c
-answered_meets net at c a = record { value = a.value; is = a.is; means = answers_mean at (formula net c) a.value a.answers }
+answered_meets net at c a = record
+    { value = a.value; is = a.is; means = answers_mean at (formula net c) a.value a.answers }
 
 -- one more cell
-agree_at : (net : Net) (order : List ℕ) (at other : CellTable) (front : List Cell) (c : Cell) (back : List Cell) → IsAccepted net
-    → IsOrder net order → evaluation_order net order ≡ front ++ c ∷ back → AgreeOn front at other → MeetsEquation net at c
+agree_at : (net : Net) (order : List ℕ) (at other : CellTable) (front : List Cell) (c : Cell) (back : List Cell)
+    → IsAccepted net
+    → IsOrder net order → evaluation_order net order ≡ front ++ c ∷ back → AgreeOn front at other
+    → MeetsEquation net at c
     → MeetsEquation net other c → at c ≡ other c
 agree_at net order at other front c back a o e same m n =
     let read : AgreeOn (leaves (formula net c)) at other =
@@ -51,14 +54,16 @@ agree_from net order at other front (c ∷ cs) back a o e same m n =
     λ d h. elim (has_either front (c ∷ []) d h) [ inl l ↦ same d l | inr r ↦ one d r here ] in
     let split : evaluation_order net order ≡ (front ++ c ∷ []) ++ (cs ++ back) =
     e ∙ sym (append_assoc front (c ∷ []) (cs ++ back)) in
-    let all = agree_from net order at other (front ++ c ∷ []) cs back a o split grown (λ d h. m d (inr h)) (λ d h. n d (inr h)) in
+    let all = agree_from net order at other (front ++ c ∷ []) cs back a o split grown (λ d h. m d (inr h))
+    (λ d h. n d (inr h)) in
     subst (λ (ds : List Cell). AgreeOn ds at other) (append_assoc front (c ∷ []) cs) all
   where
     one : (d : Cell) → Has (c ∷ []) d → at c ≡ other c → at d ≡ other d
     one d (inl is) here = subst (λ (x : Cell). at x ≡ other x) is here
     one d (inr bad) here = absurd bad
 
-agree_on : (net : Net) (order : List ℕ) (at other : CellTable) (front back : List Cell) → IsAccepted net → IsOrder net order
+agree_on : (net : Net) (order : List ℕ) (at other : CellTable) (front back : List Cell) → IsAccepted net
+    → IsOrder net order
     → evaluation_order net order ≡ front ++ back → MeetOn net at front → MeetOn net other front → AgreeOn front at other
 agree_on net order at other front back a o e m n =
     agree_from net order at other [] front back a o e (λ c h. absurd h) m n
@@ -77,10 +82,12 @@ answers_meet net order at a o all c h =
 split_at : (front : List Cell) (d : Cell) → Has front d → (before after : List Cell) × (front ≡ before ++ d ∷ after)
 split_at [] d h = absurd h
 split_at (c ∷ cs) d (inl e) = ([], cs, ap (λ (x : Cell). x ∷ cs) e)
-split_at (c ∷ cs) d (inr h) = let found = split_at cs d h in (c ∷ found.0, found.1, ap (λ (xs : List Cell). c ∷ xs) found.2)
+split_at (c ∷ cs) d (inr h) = let found =
+    split_at cs d h in (c ∷ found.0, found.1, ap (λ (xs : List Cell). c ∷ xs) found.2)
 
 -- what a cell of a front is made of is in the front
-closed_front : (net : Net) (order : List ℕ) (front : List Cell) (c : Cell) (back : List Cell) (d e : Cell) → IsAccepted net
+closed_front : (net : Net) (order : List ℕ) (front : List Cell) (c : Cell) (back : List Cell) (d e : Cell)
+    → IsAccepted net
     → IsOrder net order → evaluation_order net order ≡ front ++ c ∷ back → Has front d → Has (leaves (formula net d)) e
     → Has front e
 closed_front net order front c back d e a o is h m =
@@ -93,7 +100,8 @@ closed_front net order front c back d e a o is h m =
 pub front_meets_below : FrontMeetsBelow
 front_meets_below net order at a o front back c is all = record {
   cells = front;
-  operands = λ d m. has_contains front d (leaf_in_front net order front c back d a o is (contains_has (leaves (formula net c)) d m));
+  operands = λ d m. has_contains front d
+      (leaf_in_front net order front c back d a o is (contains_has (leaves (formula net c)) d m));
   closed = λ d e h m. has_contains front e (closed_front net order front c back d e a o is (contains_has front d h)
       (contains_has (leaves (formula net d)) e m));
   meet = λ d h. answered_meets net at d (all d h);
@@ -101,8 +109,10 @@ front_meets_below net order at a o front back c is all = record {
 
 -- ---- the first over a limit
 -- a cell over a limit by the table of the cells before it has no answer by any table that is right on them
-over_answered : (net : Net) (order : List ℕ) (c : Cell) (fault : OpFault) (at : CellTable) → IsAccepted net → IsOrder net order
-    → (first : FirstOver net order c fault) → ((d : Cell) → Has first.before d → IsAnswered net at d) → ¬ (IsAnswered net at c)
+over_answered : (net : Net) (order : List ℕ) (c : Cell) (fault : OpFault) (at : CellTable) → IsAccepted net
+    → IsOrder net order
+    → (first : FirstOver net order c fault) → ((d : Cell) → Has first.before d → IsAnswered net at d)
+    → ¬ (IsAnswered net at c)
 over_answered net order c fault at a o first all answered =
     let same : AgreeOn first.before first.table at =
     agree_on net order first.table at first.before (c ∷ first.after) a o first.is
@@ -122,12 +132,14 @@ data Places (xs : List Cell) (c : Cell) (zs : List Cell) (d : Cell) : Type 0 whe
   sooner : (us : List Cell) → zs ≡ xs ++ c ∷ us → Places xs c zs d
   later : (us : List Cell) → xs ≡ zs ++ d ∷ us → Places xs c zs d
 
-onward : (x : Cell) (xs : List Cell) (c : Cell) (zs : List Cell) (d : Cell) → Places xs c zs d → Places (x ∷ xs) c (x ∷ zs) d
+onward : (x : Cell) (xs : List Cell) (c : Cell) (zs : List Cell) (d : Cell) → Places xs c zs d
+    → Places (x ∷ xs) c (x ∷ zs) d
 onward x xs c zs d (same e f) = same (ap (λ (us : List Cell). x ∷ us) e) f
 onward x xs c zs d (sooner us e) = sooner us (ap (λ (vs : List Cell). x ∷ vs) e)
 onward x xs c zs d (later us e) = later us (ap (λ (vs : List Cell). x ∷ vs) e)
 
-places : (xs : List Cell) (c : Cell) (ys zs : List Cell) (d : Cell) (ws : List Cell) → xs ++ c ∷ ys ≡ zs ++ d ∷ ws → Places xs c zs d
+places : (xs : List Cell) (c : Cell) (ys zs : List Cell) (d : Cell) (ws : List Cell) → xs ++ c ∷ ys ≡ zs ++ d ∷ ws
+    → Places xs c zs d
 places [] c ys [] d ws e = same refl cc
 places [] c ys (z ∷ zs) d ws e = sooner zs (let head : c ≡ z = cc in ap (λ (x : Cell). x ∷ zs) (sym head))
 places (x ∷ xs) c ys [] d ws e = later xs (let head : x ≡ d = cc in ap (λ (y : Cell). y ∷ xs) head)
@@ -138,7 +150,8 @@ places (x ∷ xs) c ys (z ∷ zs) d ws e =
 
 -- one that stands before the other is answered there
 not_sooner : (net : Net) (order : List ℕ) (c d : Cell) (e f : OpFault) → IsAccepted net → IsOrder net order
-    → (p : FirstOver net order c e) → (q : FirstOver net order d f) → (us : List Cell) → ¬ (q.before ≡ p.before ++ c ∷ us)
+    → (p : FirstOver net order c e) → (q : FirstOver net order d f) → (us : List Cell)
+    → ¬ (q.before ≡ p.before ++ c ∷ us)
 not_sooner net order c d e f a o p q us is =
     over_answered net order c e q.table a o p
     (λ x h. q.answered x (has_contains q.before x
@@ -162,7 +175,8 @@ one_fault net order c e f a o p q is =
     let same : AgreeOn p.before p.table q.table =
     agree_on net order p.table q.table p.before (c ∷ p.after) a o p.is
     (λ d h. answered_meets net p.table d (p.answered d (has_contains p.before d h)))
-    (λ d h. answered_meets net q.table d (q.answered d (has_contains q.before d (subst (λ (xs : List Cell). Has xs d) is h)))) in
+    (λ d h. answered_meets net q.table d
+    (q.answered d (has_contains q.before d (subst (λ (xs : List Cell). Has xs d) is h)))) in
     let read : AgreeOn (leaves (formula net c)) p.table q.table =
     λ d h. same d (leaf_in_front net order p.before c p.after d a o p.is h) in
     let over = answers_same p.table q.table (formula net c) (Err e) read p.over in

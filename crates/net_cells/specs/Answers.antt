@@ -1,5 +1,5 @@
--- What making a formula's value may answer, by a table of the values of its cells: the value, or what the first operator
--- that is over a limit is refused for. Own choice.
+-- What making a formula's value may answer, by a table of the values of its cells: the value, or what the first
+-- operator that is over a limit is refused for. Own choice.
 use Rattle.std.specs.Prelude.{◌≡◌, ◌≢◌, List, [], ◌∷◌, Some, Result, Ok, Err}
 use Rattle.rational.specs.Rational.{ℚ}
 use Rattle.rational.specs.Extended.{Ext, min_ext}
@@ -40,7 +40,8 @@ MakesNumber P (Ok v) = IsNumberIn (λ x. P (Ok x)) v
 MakesNumber P (Err fault) = P (Err fault)
 
 -- a deviation: it takes no memory
-abbrev pub Deviates : OpKind → ((ℚ → Ext) → (ℚ → Ext) → Ext → Type 0) → SpecCurve → SpecCurve → Result Ext OpFault → Type 0
+abbrev pub Deviates : OpKind → ((ℚ → Ext) → (ℚ → Ext) → Ext → Type 0) → SpecCurve → SpecCurve → Result Ext OpFault
+    → Type 0
 Deviates op D f g (Ok x) = IsWithin op f g × D (value_at f) (value_at g) x
 Deviates op D f g (Err fault) = IsCauseOf op f g fault × (fault ≢ NoMemory)
 
@@ -83,7 +84,8 @@ Answers at (made_of op F) r = ThenCurve (Answers at F) (λ f. MakesCurve (Applie
 Answers at (moved F T) r =
     ThenCurve (Answers at F) (λ f. ThenNumber (Answers at T) (λ x. MakesCurve (AppliesTo (Shift x) f))) r
 Answers at (leftover F G T) r =
-    ThenCurves (Answers at F) (Answers at G) (λ f g. ThenNumber (Answers at T) (λ x. MakesCurve (Applies (FifoLeft x) f g))) r
+    ThenCurves (Answers at F) (Answers at G)
+    (λ f g. ThenNumber (Answers at T) (λ x. MakesCurve (Applies (FifoLeft x) f g))) r
 Answers at (priority f F lower) r = ThenCurve (Answers at F) (λ g. MakesCurve (MakesPriority f g lower)) r
 Answers at (deficit f quanta longest queue) r = MakesCurve (MakesDrr f quanta longest queue) r
 Answers at (horizontal F G) r =

@@ -1,4 +1,5 @@
--- The first cell that is over a limit, stated by a table of the cells before it: past it there need be none. Own choice.
+-- The first cell that is over a limit, stated by a table of the cells before it: past it there need be none. Own
+-- choice.
 use Rattle.std.specs.Prelude.{◌≡◌, ◌≢◌, ℕ, List, ◌∷◌, ◌++◌, Some, Ok, Err, Contains}
 use Rattle.upp_curve.specs.declared.op_kind.OpFault.{OpFault}
 use Rattle.upp_curve.specs.declared.op_kind.OpFault.TheVariants.{NoMemory}

@@ -1,5 +1,5 @@
--- What a cell is made of: cells, curves and numbers of the network, and operators on them, in the order in which they are
--- made. (Own choice of the form; the operators are those of Le Boudec and Thiran.)
+-- What a cell is made of: cells, curves and numbers of the network, and operators on them, in the order in which they
+-- are made. (Own choice of the form; the operators are those of Le Boudec and Thiran.)
 use Rattle.std.specs.Prelude.{ℕ, ◌+◌, List, [], ◌∷◌, ◌++◌}
 use Rattle.rational.specs.Rational.{ℚ}
 use Rattle.upp_curve.specs.declared.op_kind.OpKind.{OpKind}
@@ -22,7 +22,7 @@ pub data Formula : Type 0 where
   moved : Formula → Formula → Formula
   -- what is left of a service when the others' curve, later by a number, is served first
   leftover : (service others theta : Formula) → Formula
-  -- the service of a priority queue: of the server's curve, the higher queues' curve and the longest packet of the lower
+  -- the service of a priority queue: of the server's curve, the higher queues' curve and the lower's longest packet
   priority : SpecCurve → Formula → (lower : ℕ) → Formula
   -- the service of a queue of a deficit round robin server: of its curve, and of its queues' quanta and longest packets
   deficit : SpecCurve → (quanta longest : List ℕ) → (queue : ℕ) → Formula

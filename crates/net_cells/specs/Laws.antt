@@ -34,6 +34,16 @@ OperandsComeFirst =
     (net : Net) (order : List ℕ) → IsAccepted net → IsOrder net order → (before after : List Cell) (c d : Cell)
     → evaluation_order net order ≡ before ++ c ∷ after → Contains (leaves (formula net c)) d → Contains before d
 
+-- and are cells of the network too
+abbrev pub OperandsAreCells : Type 0
+OperandsAreCells =
+    (net : Net) (order : List ℕ) → IsAccepted net → IsOrder net order → (c d : Cell) → IsTrue (has_cell net c)
+    → Contains (leaves (formula net c)) d → IsTrue (has_cell net d)
+
+-- no cell is made of another one twice
+abbrev pub OperandsAreDifferent : Type 0
+OperandsAreDifferent = (net : Net) (c : Cell) → AllPairs (λ d e. d ≢ e) (leaves (formula net c))
+
 -- ---- formulas
 -- two tables have the same values at a formula's cells
 abbrev pub AgreeAtLeaves : Formula → CellTable → CellTable → Type 0
@@ -45,8 +55,10 @@ pub record FormulasAreDetermined : Type 0 where
   pub meaning : (at : CellTable) (F : Formula) (v w : Meaning) → Means at F v → Means at F w → v ≡ w
   pub answer : (at : CellTable) (F : Formula) → IsDetermined (Answers at F)
   pub agree : (at : CellTable) (F : Formula) (v : Meaning) → Answers at F (Ok v) → Means at F v
-  pub meaning_reads : (at other : CellTable) (F : Formula) (v : Meaning) → AgreeAtLeaves F at other → Means at F v → Means other F v
-  pub answer_reads : (at other : CellTable) (F : Formula) (r : Answer) → AgreeAtLeaves F at other → Answers at F r → Answers other F r
+  pub meaning_reads : (at other : CellTable) (F : Formula) (v : Meaning) → AgreeAtLeaves F at other → Means at F v
+      → Means other F v
+  pub answer_reads : (at other : CellTable) (F : Formula) (r : Answer) → AgreeAtLeaves F at other → Answers at F r
+      → Answers other F r
 
 -- ---- tables
 -- two tables that meet the equations of a network have the same value at each of its cells
@@ -64,17 +76,20 @@ AnswersMeetEquations =
 -- where the cells before one are answered, all that it depends on meets the equations
 abbrev pub FrontMeetsBelow : Type 0
 FrontMeetsBelow =
-    (net : Net) (order : List ℕ) (at : CellTable) → IsAccepted net → IsOrder net order → (before after : List Cell) (c : Cell)
+    (net : Net) (order : List ℕ) (at : CellTable) → IsAccepted net → IsOrder net order
+    → (before after : List Cell) (c : Cell)
     → evaluation_order net order ≡ before ++ c ∷ after → AnswersAll net at before → MeetsBelow net at c
 
--- one cell is the first over a limit, by one fault, it is a cell of the network, and then no table has all cells answered
+-- at most one cell is the first over a limit, by one fault; it is a cell of the network; and then no table has all
+-- cells answered
 pub record OneIsFirstOver : Type 0 where
   pub cell : (net : Net) (order : List ℕ) (c d : Cell) (e f : OpFault) → IsAccepted net → IsOrder net order
       → FirstOver net order c e → FirstOver net order d f → c ≡ d
   pub fault : (net : Net) (order : List ℕ) (c d : Cell) (e f : OpFault) → IsAccepted net → IsOrder net order
       → FirstOver net order c e → FirstOver net order d f → e ≡ f
   pub exists : (net : Net) (order : List ℕ) (c : Cell) (e : OpFault) → FirstOver net order c e → IsTrue (has_cell net c)
-  pub alone : (net : Net) (order : List ℕ) (c : Cell) (e : OpFault) (at : CellTable) → IsAccepted net → IsOrder net order
+  pub alone : (net : Net) (order : List ℕ) (c : Cell) (e : OpFault) (at : CellTable) → IsAccepted net
+      → IsOrder net order
       → FirstOver net order c e → ¬ (AnswersAll net at (evaluation_order net order))
 
 -- ---- work

@@ -1,11 +1,14 @@
 -- What a network has at a number. Past the last server, and where there is no live flow, there is nothing: no queue, no
 -- hop, no bit. (Own choice.)
 use Rattle.std.specs.Prelude.{ℕ, List, [], length, Option, Some, None, Bool, true, false, is_some, slice_get, slice_index, slice_index_or}
+use Rattle.std.specs.Option.{option_map}
 use Rattle.rational.specs.Rational.{ℚ}
 use Rattle.upp_curve.specs.Curve.{SpecCurve}
 use Rattle.upp_curve.specs.Functions.{zero_q}
 use Rattle.upp_curve.specs.Kinds.{bucket}
 use Rattle.run_laws.specs.Servers.{Discipline, Fifo, Priority, Drr, queue_count}
+use Rattle.net_model.specs.declared.flow.Flow.{Flow}
+use Rattle.net_model.specs.Views.{flow_of}
 use Rattle.net_model.specs.Networks.{Net, NetServer, NetFlow}
 
 -- the sum over no curve: 0 at each time
@@ -34,6 +37,13 @@ packet_of (Some f) = f.packet
 abbrev pub arrival_of : Option NetFlow → SpecCurve
 arrival_of None = zero_curve
 arrival_of (Some f) = f.arrival
+
+-- of a flow that is stored
+abbrev pub stored_path : Option Flow → List ℕ
+stored_path f = path_of (option_map flow_of f)
+
+abbrev pub stored_queues : Option Flow → List ℕ
+stored_queues f = queues_of (option_map flow_of f)
 
 -- the servers on the way of a flow, the bits of its longest packet, and its arrival curve
 abbrev pub path : Net → ℕ → List ℕ

@@ -1,5 +1,5 @@
--- The order in which the cells of a network are taken: server by server, in a given order; at a server kind by kind, and
--- in a kind by flow or by queue; then the whole paths, kind by kind and by flow. (Own choice.)
+-- The order in which the cells of a network are taken: server by server, in a given order; at a server kind by kind,
+-- and in a kind by flow or by queue; then the whole paths, kind by kind and by flow. (Own choice.)
 use Rattle.std.specs.Prelude.{ℕ, List, [], ◌++◌, length, map}
 use Rattle.std.specs.List.{filter, flat_map, range_with_len}
 use Rattle.net_model.specs.Networks.{Net}

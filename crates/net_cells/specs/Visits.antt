@@ -1,5 +1,5 @@
 -- Which flows pass a server, and in which of its queues. (Own choice.)
-use Rattle.std.specs.Prelude.{ℕ, ◌+◌, List, [], ◌∷◌, length, map, max, Bool, not, ◌==◌, nat_lt, slice_index}
+use Rattle.std.specs.Prelude.{ℕ, ◌+◌, List, [], ◌∷◌, length, map, max, Bool, not, ◌==◌, ◌&&◌, nat_lt, slice_index}
 use Rattle.std.specs.List.{filter, flat_map, range_with_len}
 use Rattle.net_model.specs.Networks.{Net}
 pub use Rattle.net_cells.specs.declared.visit.Visit.{Visit}
@@ -28,6 +28,12 @@ visits net s = filter (is_at net s) (all_visits net)
 abbrev pub visits_in : Net → ℕ → ℕ → List Visit
 visits_in net s q = filter (λ v. queue_at net v.flow v.hop == q) (visits net s)
 
+-- and there those of one path with its queues
+abbrev pub hops_in : ℕ → (way lanes : List ℕ) → (s q : ℕ) → List Visit
+hops_in i way lanes s q =
+    filter (λ v. (slice_index way v.hop == s) && (slice_index lanes v.hop == q))
+    (map (visit i) (range_with_len 0 (length way)))
+
 -- and there of the other flows
 abbrev pub others : Net → ℕ → ℕ → ℕ → List Visit
 others net i s q = filter (λ v. not (v.flow == i)) (visits_in net s q)
@@ -39,6 +45,9 @@ visits_after net s q = filter (λ v. nat_lt q (queue_at net v.flow v.hop)) (visi
 -- another hop comes after it
 abbrev pub goes_on : Net → Visit → Bool
 goes_on net v = nat_lt (v.hop + 1) (hops net v.flow)
+
+abbrev pub going_on : Net → List Visit → List Visit
+going_on net = filter (goes_on net)
 
 -- ---- longest packets, in bits; 0 of no flow
 abbrev pub longest_of : Net → List Visit → ℕ

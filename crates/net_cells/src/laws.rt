@@ -1,5 +1,5 @@
-ghost use Rattle.net_cells.specs.Laws.{OrderHasEachCell, OperandsComeFirst, FormulasAreDetermined, TablesAgree};
-ghost use Rattle.net_cells.specs.Laws.{AnswersMeetEquations, FrontMeetsBelow, OneIsFirstOver, WorkIsOperators};
+ghost use Rattle.net_cells.specs.Laws.{OrderHasEachCell, OperandsComeFirst, OperandsAreCells, OperandsAreDifferent};
+ghost use Rattle.net_cells.specs.Laws.{FormulasAreDetermined, TablesAgree, AnswersMeetEquations, FrontMeetsBelow, OneIsFirstOver, WorkIsOperators};
 
 /// The order of the cells has exactly the cells of the network, each once.
 pub fn order_has_each_cell()
@@ -9,6 +9,16 @@ pub fn order_has_each_cell()
 /// In the order of the cells each cell stands after those that it is made of.
 pub fn operands_come_first()
     ensures { OperandsComeFirst }
+{}
+
+/// What a cell of a network is made of are cells of the network. The network has an order of its servers.
+pub fn operands_are_cells()
+    ensures { OperandsAreCells }
+{}
+
+/// A cell is made of different cells.
+pub fn operands_are_different()
+    ensures { OperandsAreDifferent }
 {}
 
 /// A formula means one value by a table, its answer is one too (want of memory apart), and a value that it answers is

@@ -1,19 +1,24 @@
-//! The cells of a network: the curves and numbers that its analysis is made of. Which cells there are and in which order
-//! they are taken, what each is made of, what a table of their values must keep, and laws of all that. There is no
-//! arithmetic on curves here.
+//! The cells of a network: the curves and numbers that its analysis is made of. Which cells there are and in which
+//! order they are taken, what each is made of, what a table of their values must keep, and laws of all that. There is
+//! no arithmetic on curves here.
 #![tactic(auto)]
 
 mod cell;
+mod effort;
 mod laws;
 mod numbered;
 mod operand;
 mod order;
+#[cfg(test)]
+mod tests;
 mod visit;
 
 pub use cell::{Cell, Kind, Scope};
+pub use effort::work;
 pub use laws::{
     answers_meet_equations, formulas_are_determined, front_meets_below, one_is_first_over,
-    operands_come_first, order_has_each_cell, tables_agree, work_is_operators,
+    operands_are_cells, operands_are_different, operands_come_first, order_has_each_cell,
+    tables_agree, work_is_operators,
 };
 pub use numbered::{hops, is_by_priority, levels, live_flow, queue_at, queues, server, server_at};
 pub use operand::{operands, visits_in};

@@ -38,7 +38,7 @@ pub fn hops(net: &Network, flow: u32) -> u32
 }
 
 // The number at a place; 0 past the last.
-fn number_at(numbers: &[u32], place: u32) -> u32
+pub(crate) fn number_at(numbers: &[u32], place: u32) -> u32
     ensures { result ≡ slice_index numbers.now place }
 {
     let place = place as usize;

@@ -186,8 +186,8 @@ fn hop_delay(alloc: Global, net: &Network, cell: Cell) -> Result<Vec<Cell>, Allo
     )
 }
 
-/// The cells that a cell is made of, in the order in which its formula names them. Where the cell is one of the network,
-/// so are these.
+/// The cells that a cell is made of, in the order in which its formula names them. In a network with an
+/// order these are cells of it where the cell is one.
 pub fn operands(alloc: Global, cell: Cell, net: &Network) -> Result<Vec<Cell>, AllocError>
     ensures { IfOk result (λ v. v.items ≡ leaves (formula net.now cell)) }
 {

@@ -63,7 +63,7 @@ fn push_going_on(
     kind: Kind,
     here: &[Visit],
 ) -> Result<(), AllocError>
-    ensures { OnOk result (cells.new.items ≡ cells.old.items ++ map (at_visit kind) (filter (seen.goes_on net.now) here.now)) }
+    ensures { OnOk result (cells.new.items ≡ cells.old.items ++ map (at_visit kind) (seen.going_on net.now here.now)) }
 {
     for v in here {
         if goes_on(net, *v) {

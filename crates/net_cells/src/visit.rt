@@ -1,9 +1,7 @@
 //! Which flows pass a server.
 
 ghost use Rattle.std.specs.Prelude.{◌≡◌, ◌≤◌, ◌++◌, length, IfOk, OnOk};
-ghost use Rattle.std.specs.Option.{option_map};
-ghost use Rattle.net_model.specs.Views.{flow_of};
-ghost use Rattle.net_cells.specs.Numbered.{path_of};
+ghost use Rattle.net_cells.specs.Numbered.{stored_path};
 ghost use Rattle.net_cells.specs.Visits.{visits, hops_at};
 
 use net_model::{Flow, Network};
@@ -39,8 +37,8 @@ fn push_flow(
     number: u32,
     server: u32,
 ) -> Result<(), AllocError>
-    requires { length (path_of (option_map flow_of flow.now)) ≤ 16 }
-    ensures { OnOk result (found.new.items ≡ found.old.items ++ hops_at number (path_of (option_map flow_of flow.now)) server) }
+    requires { length (stored_path flow.now) ≤ 16 }
+    ensures { OnOk result (found.new.items ≡ found.old.items ++ hops_at number (stored_path flow.now) server) }
 {
     match flow {
         Some(flow) => push_hops(found, &flow.path, number, server),

@@ -8,7 +8,8 @@ returns-then-place-servers-clause-kept c =
     let net = c.args.net.now in
     let x = c.index-servers-place.result in
     server_kept net c.args.number (server_of x) c.servers-servers.ensures.kept
-    (server_stored net c.servers-servers.result.now c.args.number x c.servers-servers.ensures.servers c.if-place-servers.true
+    (server_stored net c.servers-servers.result.now c.args.number x c.servers-servers.ensures.servers
+    c.if-place-servers.true
     c.index-servers-place.is)
 
 pub returns-else-place-servers-clause-server : goal.returns-else-place-servers-clause-server

@@ -9,5 +9,6 @@ pub loop-b-preserved : goal.loop-b-preserved
 loop-b-preserved c =
     let f = cell_of c.args.kind c.args.a in
     let b = c.loop-b.b in
-    behind c.args.cells.now.items c.loop-b.cells.items c.push.new.self.items _ (map f (range_with_len 0 b)) _ c.loop-b.invariant
+    behind c.args.cells.now.items c.loop-b.cells.items c.push.new.self.items _
+    (map f (range_with_len 0 b)) _ c.loop-b.invariant
     c.in_ok-push.ensures.items (map-range_with_len_more f 0 b b (omega arith))

@@ -17,8 +17,10 @@ loop-number-preserved c =
     c.loop-number-test.true c.index-flows-number.is in
     elim c.if-is_some.branch [
       | then-is_some+in_ok-push w ↦ rw w.cells-is
-          (behind c.args.cells.now.items c.loop-number.cells.items w.push.new.self.items _ front _ c.loop-number.invariant
-          w.in_ok-push.ensures.items (kept_range (is_live net) f n (sym live ∙ sym c.is_some.ensures ∙ w.if-is_some.true)))
+          (behind c.args.cells.now.items c.loop-number.cells.items w.push.new.self.items _ front _
+          c.loop-number.invariant
+          w.in_ok-push.ensures.items (kept_range (is_live net) f n
+          (sym live ∙ sym c.is_some.ensures ∙ w.if-is_some.true)))
       | else-is_some w ↦ rw w.cells-is
           (still c.args.cells.now.items c.loop-number.cells.items front _ c.loop-number.invariant
           (dropped_range (is_live net) f n (sym live ∙ sym c.is_some.ensures ∙ w.if-is_some.false)))

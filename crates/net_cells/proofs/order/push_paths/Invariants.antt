@@ -6,4 +6,5 @@ use Rattle.net_cells.proofs.order.push_paths.Given as goal
 
 abbrev pub invariant-loop-number : goal.invariant-loop-number
 invariant-loop-number l =
-    l.cells.items ≡ l.initial.cells.items ++ map (λ i. cell_of l.kind i 0) (filter (is_live l.net) (range_with_len 0 l.number))
+    l.cells.items ≡ l.initial.cells.items ++ map (λ i. cell_of l.kind i 0)
+    (filter (is_live l.net) (range_with_len 0 l.number))

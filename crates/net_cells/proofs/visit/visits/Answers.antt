@@ -13,7 +13,8 @@ use Rattle.net_cells.proofs.visit.visits.Goals as goal
 pub push_flow-requires : goal.push_flow-requires
 push_flow-requires c =
     let fs = c.flows-flows.result.now in
-    let same = flow_stored c.args.net.now fs c.loop-number.number c.index-flows-number.result c.flows-flows.ensures.flows
+    let same = flow_stored c.args.net.now fs c.loop-number.number c.index-flows-number.result
+    c.flows-flows.ensures.flows
     c.loop-number-test.true c.index-flows-number.is in
     let P : Option NetFlow → Type 0 = λ o. length (path_of o) ≤ 16 in
     subst P (sym same) (few_hops c.args.net.now c.loop-number.number c.flows-flows.ensures.kept)
@@ -36,5 +37,6 @@ returns c =
     let f = λ (i : ℕ). hops_at i (path net i) c.args.server in
     let count = ap length c.flows-flows.ensures.flows in
     let all = length-map c.flows-flows.result.now (option_map flow_of) in
-    let last : c.loop-number.number ≡ length net.flows = omega (arith, count, all, c.loop-number-test.false, c.loop-number.auto.number-end) in
+    let last : c.loop-number.number ≡ length net.flows =
+    omega (arith, count, all, c.loop-number-test.false, c.loop-number.auto.number-end) in
     c.loop-number.invariant ∙ ap (λ n. flat_map f (range_with_len 0 n)) last ∙ sym (visits_by_flow net c.args.server)

@@ -1,0 +1,99 @@
+-- The cells that a cell is made of are different ones.
+use Rattle.std.proofs.Common.{◌≡◌, ℕ, zero, suc, ◌-◌, List, [], ◌∷◌, map, sym, ap, subst, inl, inr, ◌+◌}
+use Rattle.std.specs.Prelude.{not, ◌==◌}
+use Rattle.std.specs.List.{range_with_len}
+use Rattle.run_laws.specs.Servers.{Discipline, Fifo, Priority, Drr}
+use Rattle.net_model.specs.Networks.{Net}
+use Rattle.net_cells.specs.declared.cell.Cell.{Cell}
+use Rattle.net_cells.specs.declared.cell.Kind.{Kind}
+use Rattle.net_cells.specs.declared.cell.Kind.TheVariants.{In, Cross, Total, Higher, QueueService, Theta, Residual, QueueDelay, QueueBacklog, HopDelay, ShiftOut, DeconvOut, Out, PathService, Tfa, Sfa, Bound}
+use Rattle.net_cells.specs.Numbered.{hops, server_at, queue_at, discipline}
+use Rattle.net_cells.specs.Visits.{Visit, visit, visits, visits_in, others}
+use Rattle.net_cells.specs.Cells.{cell_of}
+use Rattle.net_cells.specs.Order.{at_visit}
+use Rattle.net_cells.specs.Formulas.{leaves}
+use Rattle.net_cells.specs.CellFormulas.{formula, formula_of, sum_of, arriving, queue_service}
+use Rattle.net_cells.specs.Laws.{OperandsAreDifferent}
+use Rattle.net_cells.proofs.Lists.{Has, Apart, apart_pairs, apart_map, apart_filter, apart_range}
+use Rattle.net_cells.proofs.Places.{apart_visits}
+use Rattle.net_cells.proofs.LeavesOf.{sum_leaves, served_leaves}
+
+-- ---- one, two, three
+one_apart : (x : Cell) → Apart (x ∷ [])
+one_apart x = (λ h. h, tt)
+
+not_in : (x y : Cell) → (y.kind ≡ x.kind → ⊥) → ¬ (Has (y ∷ []) x)
+not_in x y n (inl e) = n (ap (λ (c : Cell). c.kind) e)
+not_in x y n (inr h) = h
+
+two_apart : (x y : Cell) → (y.kind ≡ x.kind → ⊥) → Apart (x ∷ y ∷ [])
+two_apart x y n = (not_in x y n, one_apart y)
+
+not_in_two : (x y z : Cell) → (y.kind ≡ x.kind → ⊥) → (z.kind ≡ x.kind → ⊥) → ¬ (Has (y ∷ z ∷ []) x)
+not_in_two x y z n m (inl e) = n (ap (λ (c : Cell). c.kind) e)
+not_in_two x y z n m (inr h) = not_in x z m h
+
+three_apart : (x y z : Cell) → (y.kind ≡ x.kind → ⊥) → (z.kind ≡ x.kind → ⊥) → (z.kind ≡ y.kind → ⊥)
+    → Apart (x ∷ y ∷ z ∷ [])
+three_apart x y z n m l = (not_in_two x y z n m, two_apart y z l)
+
+-- ---- many
+visit_one : (kind : Kind) (v w : Visit) → at_visit kind v ≡ at_visit kind w → v ≡ w
+visit_one kind v w e = ap (λ (c : Cell). visit c.a c.b) e
+
+number_one : (kind : Kind) (a p q : ℕ) → cell_of kind a p ≡ cell_of kind a q → p ≡ q
+number_one kind a p q e = ap (λ (c : Cell). c.b) e
+
+numbers_apart : (kind : Kind) (a n : ℕ) → Apart (map (cell_of kind a) (range_with_len 0 n))
+numbers_apart kind a n = apart_map (cell_of kind a) (range_with_len 0 n) (number_one kind a) (apart_range 0 n)
+
+in_apart : (net : Net) (s q : ℕ) → Apart (visits_in net s q)
+in_apart net s q = apart_filter (λ (v : Visit). queue_at net v.flow v.hop == q) (visits net s) (apart_visits net s)
+
+sum_apart : (cs : List Cell) → Apart cs → Apart (leaves (sum_of cs))
+sum_apart cs a = subst Apart (sym (sum_leaves cs)) a
+
+-- ---- by kinds
+of_arriving : (net : Net) (i k : ℕ) → Apart (leaves (arriving net i k))
+of_arriving net i zero = tt
+of_arriving net i (suc k) = one_apart (cell_of Out i k)
+
+of_service : (net : Net) (s q : ℕ) (d : Discipline) → Apart (leaves (queue_service net s q d))
+of_service net s q Fifo = tt
+of_service net s q (Priority n) = one_apart (cell_of Higher s q)
+of_service net s q (Drr quanta) = tt
+
+of_kind : (net : Net) (kind : Kind) (a b : ℕ) → Apart (leaves (formula_of net kind a b))
+of_kind net In i k = of_arriving net i k
+of_kind net Cross i k =
+    let s = server_at net i k in
+    let q = queue_at net i k in
+    sum_apart (map (at_visit In) (others net i s q))
+    (apart_map (at_visit In) (others net i s q) (visit_one In)
+    (apart_filter (λ (v : Visit). not (v.flow == i)) (visits_in net s q) (in_apart net s q)))
+of_kind net Total s q =
+    sum_apart (map (at_visit In) (visits_in net s q))
+    (apart_map (at_visit In) (visits_in net s q) (visit_one In) (in_apart net s q))
+of_kind net Higher s q = sum_apart (map (cell_of Total s) (range_with_len 0 q)) (numbers_apart Total s q)
+of_kind net QueueService s q = of_service net s q (discipline net s)
+of_kind net Theta i k = two_apart (cell_of Cross i k) (cell_of QueueService (server_at net i k) (queue_at net i k))
+    (λ e. cc)
+of_kind net Residual i k =
+    three_apart (cell_of QueueService (server_at net i k) (queue_at net i k)) (cell_of Cross i k) (cell_of Theta i k)
+    (λ e. cc) (λ e. cc) (λ e. cc)
+of_kind net QueueDelay s q = two_apart (cell_of Total s q) (cell_of QueueService s q) (λ e. cc)
+of_kind net QueueBacklog s q = two_apart (cell_of Total s q) (cell_of QueueService s q) (λ e. cc)
+of_kind net HopDelay i k =
+    three_apart (cell_of QueueDelay (server_at net i k) (queue_at net i k)) (cell_of In i k) (cell_of Residual i k)
+    (λ e. cc) (λ e. cc) (λ e. cc)
+of_kind net ShiftOut i k = two_apart (cell_of In i k) (cell_of HopDelay i k) (λ e. cc)
+of_kind net DeconvOut i k = two_apart (cell_of In i k) (cell_of Residual i k) (λ e. cc)
+of_kind net Out i k = two_apart (cell_of ShiftOut i k) (cell_of DeconvOut i k) (λ e. cc)
+of_kind net PathService i b = subst Apart (sym (served_leaves net i (hops net i - 1)))
+    (numbers_apart Residual i (hops net i - 1 + 1))
+of_kind net Tfa i b = numbers_apart HopDelay i (hops net i)
+of_kind net Sfa i b = two_apart (cell_of In i 0) (cell_of PathService i 0) (λ e. cc)
+of_kind net Bound i b = two_apart (cell_of Tfa i 0) (cell_of Sfa i 0) (λ e. cc)
+
+pub operands_are_different : OperandsAreDifferent
+operands_are_different net c = apart_pairs (leaves (formula net c)) (of_kind net c.kind c.a c.b)
