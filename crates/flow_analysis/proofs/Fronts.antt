@@ -34,7 +34,8 @@ not_in_front (x ∷ xs) c back a (inr h) = not_in_front xs c back a.1 h
 split_at : (front : List Cell) (d : Cell) → Has front d → (before after : List Cell) × (front ≡ before ++ d ∷ after)
 split_at [] d h = absurd h
 split_at (c ∷ cs) d (inl e) = ([], cs, ap (λ (x : Cell). x ∷ cs) e)
-split_at (c ∷ cs) d (inr h) = let found = split_at cs d h in (c ∷ found.0, found.1, ap (λ (xs : List Cell). c ∷ xs) found.2)
+split_at (c ∷ cs) d (inr h) =
+    let found = split_at cs d h in (c ∷ found.0, found.1, ap (λ (xs : List Cell). c ∷ xs) found.2)
 
 -- the element at a place, with those before and after it
 abbrev pub no_cell : Cell
@@ -43,12 +44,14 @@ no_cell = record { kind = In; a = 0; b = 0 }
 abbrev pub cell_at : List Cell → ℕ → Cell
 cell_at cells i = get_or cells i no_cell
 
-pub at_place : (cells : List Cell) (i : ℕ) → i < length cells → cells ≡ take i cells ++ cell_at cells i ∷ drop (i + 1) cells
+pub at_place : (cells : List Cell) (i : ℕ) → i < length cells
+    → cells ≡ take i cells ++ cell_at cells i ∷ drop (i + 1) cells
 at_place cells i h =
     sym (take-append-drop i cells) ∙ ap (λ (xs : List Cell). take i cells ++ xs) (drop-cons cells i no_cell h)
     ∙ ap (λ (n : ℕ). take i cells ++ cell_at cells i ∷ drop n cells) (sym (add-one i))
 
-pub take_more : (cells : List Cell) (i : ℕ) → i < length cells → take (i + 1) cells ≡ take i cells ++ cell_at cells i ∷ []
+pub take_more : (cells : List Cell) (i : ℕ) → i < length cells
+    → take (i + 1) cells ≡ take i cells ++ cell_at cells i ∷ []
 take_more cells i h =
     ap (λ (n : ℕ). take n cells) (add-one i) ∙ take-suc cells i no_cell h
 
@@ -65,8 +68,9 @@ closed net order front c back d e a o is h m =
     subst (λ (xs : List Cell). Has xs e) (sym part.2) (has_left part.0 (d ∷ part.1) e found)
 
 -- one more cell: a table that has its value, and else is as before
-pub grown : (net : Net) (order : List ℕ) (at more : CellTable) (front : List Cell) (c : Cell) (back : List Cell) (v : Meaning)
-    → IsAccepted net → IsOrder net order → evaluation_order net order ≡ front ++ c ∷ back → AnswersAll net at front
+pub grown : (net : Net) (order : List ℕ) (at more : CellTable) (front : List Cell) (c : Cell) (back : List Cell)
+    (v : Meaning) → IsAccepted net → IsOrder net order → evaluation_order net order ≡ front ++ c ∷ back
+    → AnswersAll net at front
     → Gives at (formula net c) (Ok v) → more c ≡ Some v → ((d : Cell) → d ≢ c → more d ≡ at d)
     → AnswersAll net more (front ++ c ∷ [])
 grown net order at more front c back v a o is all gives put others d m =
@@ -91,8 +95,8 @@ grown net order at more front c back v a o is all gives put others d m =
     here = record {
       value = v;
       is = put;
-      answers = answers_same at more (formula net c) (Ok v) (λ x k. same x (leaf_in_front net order front c back x a o is k))
-          (gives_ok at (formula net c) v gives);
+      answers = answers_same at more (formula net c) (Ok v)
+          (λ x k. same x (leaf_in_front net order front c back x a o is k)) (gives_ok at (formula net c) v gives);
     }
 
     new : (e : Cell) → Has (c ∷ []) e → IsAnswered net more e
@@ -108,9 +112,9 @@ still_nothing at more front c nothing others d out =
     ∙ nothing d (λ h. out (has_contains (front ++ c ∷ []) d (has_left front (c ∷ []) d (contains_has front d h))))
 
 -- ---- a cell that is refused
-first_over : (net : Net) (cells : List Cell) (at : CellTable) (front : List Cell) (c : Cell) (back : List Cell) (fault : OpFault)
-    → fault ≢ operator.NoMemory → cells ≡ front ++ c ∷ back → AnswersAll net at front → Gives at (formula net c) (Err fault)
-    → IsFirstOver net cells c fault
+first_over : (net : Net) (cells : List Cell) (at : CellTable) (front : List Cell) (c : Cell) (back : List Cell)
+    (fault : OpFault) → fault ≢ operator.NoMemory → cells ≡ front ++ c ∷ back → AnswersAll net at front
+    → Gives at (formula net c) (Err fault) → IsFirstOver net cells c fault
 first_over net cells at front c back fault limit split all gives order is = record {
   before = front;
   after = back;
@@ -121,17 +125,19 @@ first_over net cells at front c back fault limit split all gives order is = reco
   limit = limit;
 }
 
-refused_at : (net : Net) (cells : List Cell) (at : CellTable) (front : List Cell) (c : Cell) (back : List Cell) (fault : OpFault)
-    → cells ≡ front ++ c ∷ back → AnswersAll net at front → Gives at (formula net c) (Err fault)
-    → IsRefusal net cells (fault_at c fault)
+refused_at : (net : Net) (cells : List Cell) (at : CellTable) (front : List Cell) (c : Cell) (back : List Cell)
+    (fault : OpFault) → cells ≡ front ++ c ∷ back → AnswersAll net at front → Gives at (formula net c) (Err fault)
+    → IsRefusal (IsFirstOver net cells) (fault_at c fault)
 refused_at net cells at front c back operator.TooMany split all gives =
     first_over net cells at front c back operator.TooMany (λ e. cc) split all gives
 refused_at net cells at front c back operator.TooWide split all gives =
     first_over net cells at front c back operator.TooWide (λ e. cc) split all gives
 refused_at net cells at front c back operator.NoMemory split all gives = tt
 
-pub refused : (net : Net) (cells : List Cell) (at : CellTable) (front : List Cell) (c : Cell) (back : List Cell) (fault : OpFault)
-    (why : AnalysisFault) → why ≡ fault_at c fault → cells ≡ front ++ c ∷ back → AnswersAll net at front
-    → Gives at (formula net c) (Err fault) → IsRefusal net cells why
+pub refused : (net : Net) (cells : List Cell) (at : CellTable) (front : List Cell) (c : Cell) (back : List Cell)
+    (fault : OpFault) (why : AnalysisFault) → why ≡ fault_at c fault → cells ≡ front ++ c ∷ back
+    → AnswersAll net at front
+    → Gives at (formula net c) (Err fault) → IsRefusal (IsFirstOver net cells) why
 refused net cells at front c back fault why e split all gives =
-    subst (λ (w : AnalysisFault). IsRefusal net cells w) (sym e) (refused_at net cells at front c back fault split all gives)
+    subst (λ (w : AnalysisFault). IsRefusal (IsFirstOver net cells) w) (sym e)
+    (refused_at net cells at front c back fault split all gives)

@@ -32,8 +32,8 @@ fault_at c operator.TooMany = TooMany c
 fault_at c operator.TooWide = TooWide c
 fault_at c operator.NoMemory = NoMemory
 
--- why there is no table: the first cell that is over a limit, and which limit, or want of memory
-abbrev pub IsRefusal : Net → List Cell → AnalysisFault → Type 0
-IsRefusal net cells (TooMany c) = IsFirstOver net cells c operator.TooMany
-IsRefusal net cells (TooWide c) = IsFirstOver net cells c operator.TooWide
-IsRefusal net cells NoMemory = Unit {0}
+-- why there is no table: the cell that is first over a limit, and which limit, or want of memory
+abbrev pub IsRefusal : (Cell → OpFault → Type 0) → AnalysisFault → Type 0
+IsRefusal IsFirst (TooMany c) = IsFirst c operator.TooMany
+IsRefusal IsFirst (TooWide c) = IsFirst c operator.TooWide
+IsRefusal IsFirst NoMemory = Unit {0}

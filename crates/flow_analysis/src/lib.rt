@@ -3,5 +3,7 @@
 
 mod each_cell;
 mod fault;
+mod in_order;
 
 pub use each_cell::analysed;
+pub use in_order::analysed_in_order;

@@ -27,15 +27,17 @@ eval-requires-clause-below g c =
     let i = c.loop-cell.cell-index in
     let at : CellTable = held order.ghosts.cmp g.V.CellValue.meaning c.loop-cell.table.values in
     front_meets_below c.args.net.now c.requires.order at c.servers.ensures.kept c.requires.servers (take i cells)
-    (drop (i + 1) cells) (cell_at cells i) (sym c.requires.are ∙ at_place cells i (omega arith)) c.loop-cell.invariant.answers
+    (drop (i + 1) cells) (cell_at cells i) (sym c.requires.are ∙ at_place cells i (omega arith))
+    c.loop-cell.invariant.answers
 
 pub returns-in-Err-clause-refused : goal.returns-in-Err-clause-refused
 returns-in-Err-clause-refused g c =
     let cells = c.args.cells.now in
     let i = c.loop-cell.cell-index in
     let at : CellTable = held order.ghosts.cmp g.V.CellValue.meaning c.loop-cell.table.values in
-    refused c.args.net.now cells at (take i cells) (cell_at cells i) (drop (i + 1) cells) c.in-Err.fault c.refusal.result
-    c.refusal.ensures (at_place cells i (omega arith)) c.loop-cell.invariant.answers c.in-Err.ensures.answer
+    refused c.args.net.now cells at (take i cells) (cell_at cells i) (drop (i + 1) cells) c.in-Err.fault
+    c.refusal.result c.refusal.ensures (at_place cells i (omega arith)) c.loop-cell.invariant.answers
+    c.in-Err.ensures.answer
 
 pub returns-in-Err-clause-within : goal.returns-in-Err-clause-within
 returns-in-Err-clause-within g c =
