@@ -6,3 +6,9 @@ pub mod SameLeaves
 pub mod Places
 pub mod Members
 pub mod Precedes
+pub mod Tables
+pub mod Works
+pub mod Determined
+pub mod Growing
+pub mod Stored
+pub mod LeavesOf

@@ -188,6 +188,24 @@ before_inside f a x y [] h k = absurd h
 before_inside f a x y (z ∷ zs) (inl e) k = before_left x y (f z) (flat_map f zs) (subst (λ w. Before x y (f w)) (sym e) k)
 before_inside f a x y (z ∷ zs) (inr h) k = before_right x y (f z) (flat_map f zs) (before_inside f a x y zs h k)
 
+-- by an image that tells elements apart
+pub has_back : {X Y : Type 0} (f : X → Y) (x : X) (xs : List X) → ((y z : X) → f y ≡ f z → y ≡ z) → Has (map f xs) (f x) → Has xs x
+has_back f x xs one h = let found = map_has f xs (f x) h in subst (Has xs) (one found.0 x found.2) found.1
+
+pub before_back : {X Y : Type 0} (f : X → Y) (x y : X) (xs : List X) → ((z w : X) → f z ≡ f w → z ≡ w)
+    → Before (f x) (f y) (map f xs) → Before x y xs
+before_back f x y [] one h = absurd h
+before_back f x y (z ∷ zs) one (inl h) = inl (one z x h.0, has_back f y zs one h.1)
+before_back f x y (z ∷ zs) one (inr h) = inr (before_back f x y zs one h)
+
+pub before_range : (a n x y : ℕ) → a ≤ x → x < y → y < a + n → Before x y (range_with_len a n)
+before_range a zero x y low h high = absurd (omega (arith, low, h, high))
+before_range a (suc n) x y low h high =
+    elim (cases_lt a x) [
+      | inl l ↦ inr (before_range (a + 1) n x y (omega (arith, l)) h (omega (arith, high)))
+      | inr l ↦ inl (omega (arith, l, low), has_range (a + 1) n y (omega (arith, low, h)) (omega (arith, high)))
+    ]
+
 -- an element that stands before the one at a place
 pub before_place : (xs : List ℕ) (j a b : ℕ) → j < length xs → get_or xs j 0 ≡ b → Has (take j xs) a → Before a b xs
 before_place [] j a b h e k = absurd (omega (arith, h))

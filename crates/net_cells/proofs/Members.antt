@@ -62,7 +62,7 @@ has_levels : (net : Net) (s : ℕ) (o : Option NetServer) (b : ℕ) → slice_ge
 has_levels net s None b e h = absurd (omega (arith, h))
 has_levels net s (Some server) b e h = slice_get_within net.servers s server e
 
-home_inside : (net : Net) (scope : Scope) (a b : ℕ) → IsAccepted net → is_in_scope net scope a b ≡ true → scope ≢ EachPath
+pub home_inside : (net : Net) (scope : Scope) (a b : ℕ) → IsAccepted net → is_in_scope net scope a b ≡ true → scope ≢ EachPath
     → home_in net scope a b < length net.servers
 home_inside net EachHop a b acc h n =
     let hop = hop_kept net a b acc (ltb-true b (hops net a) h) in

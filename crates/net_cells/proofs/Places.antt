@@ -1,5 +1,5 @@
 -- Which hops, queues and cells a network has: what stands in the lists of them.
-use Rattle.std.proofs.Common.{◌≡◌, ◌≢◌, ℕ, ◌<◌, ◌+◌, List, length, map, refl, sym, ap, ◌∙◌, subst, arith, inl, inr, true, false}
+use Rattle.std.proofs.Common.{◌≡◌, ◌≢◌, ℕ, ◌<◌, ◌+◌, List, length, map, refl, sym, ap, ◌∙◌, subst, arith, inl, inr, true, false, ◌≤◌, ◌++◌, get_or}
 use Rattle.std.specs.Prelude.{Option, None, is_some}
 use Rattle.std.specs.List.{filter, range_with_len}
 use Rattle.std.proofs.lemmas.Bool.{cases_lt, ltb-true, lt-ltb, eqb-true, eq-eqb}
@@ -14,7 +14,7 @@ use Rattle.net_cells.specs.Numbered.{flow_at, path_of, hops, server_at, is_live,
 use Rattle.net_cells.specs.Visits.{Visit, visit, all_visits, visits, is_at, goes_on}
 use Rattle.net_cells.specs.Cells.{cell_of, scope_of, is_in_scope, has_cell, server_kinds, path_kinds}
 use Rattle.net_cells.specs.Order.{at_visit, cells_in_scope, kind_cells, server_cells, path_cells}
-use Rattle.net_cells.proofs.Lists.{Has, Apart, has_map, map_has, apart_map, has_filter, filter_has, apart_filter, apart_back, has_flat, flat_has, apart_flat, has_range, range_has, apart_range}
+use Rattle.net_cells.proofs.Lists.{Has, Apart, has_map, map_has, apart_map, has_filter, filter_has, apart_filter, apart_back, Before, before_back, before_range, has_flat, flat_has, apart_flat, has_range, range_has, apart_range}
 
 -- ---- flows
 pub flow_inside : (net : Net) (i k : ℕ) → k < hops net i → i < length net.flows
@@ -184,7 +184,7 @@ side_of Sfa = of_paths (inr (inr (inl refl))) refl
 side_of Bound = of_paths (inr (inr (inr (inl refl)))) refl
 
 -- by their places
-rank : Kind → ℕ
+abbrev pub rank : Kind → ℕ
 rank In = 0
 rank Cross = 1
 rank Total = 2
@@ -204,12 +204,47 @@ rank Sfa = 15
 rank Bound = 16
 
 apart_kinds : Apart server_kinds
-unfolding rank
 apart_kinds = apart_back rank server_kinds (apart_range 0 13)
 
 pub apart_path_kinds : Apart path_kinds
-unfolding rank
 apart_path_kinds = apart_back rank path_kinds (apart_range 13 4)
+
+-- and back
+kinds : List Kind
+kinds = server_kinds ++ path_kinds
+
+kind_at : ℕ → Kind
+unfolding kinds
+kind_at n = get_or kinds n In
+
+kind_at_rank : (kind : Kind) → kind_at (rank kind) ≡ kind
+unfolding kind_at kinds
+kind_at_rank In = refl
+kind_at_rank Cross = refl
+kind_at_rank Total = refl
+kind_at_rank Higher = refl
+kind_at_rank QueueService = refl
+kind_at_rank Theta = refl
+kind_at_rank Residual = refl
+kind_at_rank QueueDelay = refl
+kind_at_rank QueueBacklog = refl
+kind_at_rank HopDelay = refl
+kind_at_rank ShiftOut = refl
+kind_at_rank DeconvOut = refl
+kind_at_rank Out = refl
+kind_at_rank PathService = refl
+kind_at_rank Tfa = refl
+kind_at_rank Sfa = refl
+kind_at_rank Bound = refl
+
+rank_one : (j k : Kind) → rank j ≡ rank k → j ≡ k
+rank_one j k e = sym (kind_at_rank j) ∙ ap kind_at e ∙ kind_at_rank k
+
+pub kinds_before : (j k : Kind) → rank j < rank k → rank k < 13 → Before j k server_kinds
+kinds_before j k h l = before_back rank j k server_kinds rank_one (before_range 0 13 (rank j) (rank k) (omega arith) h l)
+
+pub path_kinds_before : (j k : Kind) → 13 ≤ rank j → rank j < rank k → rank k < 17 → Before j k path_kinds
+path_kinds_before j k g h l = before_back rank j k path_kinds rank_one (before_range 13 4 (rank j) (rank k) g h l)
 
 pub path_scope : (kind : Kind) → Has path_kinds kind → scope_of kind ≡ EachPath
 path_scope kind (inl e) = ap scope_of (sym e)

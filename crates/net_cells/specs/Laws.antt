@@ -13,7 +13,7 @@ use Rattle.net_cells.specs.CellFormulas.{formula}
 use Rattle.net_cells.specs.Meanings.{Meaning, CellTable}
 use Rattle.net_cells.specs.Means.{Means}
 use Rattle.net_cells.specs.Answers.{Answer, Answers}
-use Rattle.net_cells.specs.Equations.{MeetsEquations}
+use Rattle.net_cells.specs.Equations.{MeetsEquations, MeetsBelow}
 use Rattle.net_cells.specs.FirstOver.{AnswersAll, FirstOver}
 use Rattle.net_cells.specs.Work.{work}
 
@@ -61,14 +61,19 @@ AnswersMeetEquations =
     (net : Net) (order : List ℕ) (at : CellTable) → IsAccepted net → IsOrder net order
     → AnswersAll net at (evaluation_order net order) → MeetsEquations net at
 
+-- where the cells before one are answered, all that it depends on meets the equations
+abbrev pub FrontMeetsBelow : Type 0
+FrontMeetsBelow =
+    (net : Net) (order : List ℕ) (at : CellTable) → IsAccepted net → IsOrder net order → (before after : List Cell) (c : Cell)
+    → evaluation_order net order ≡ before ++ c ∷ after → AnswersAll net at before → MeetsBelow net at c
+
 -- one cell is the first over a limit, by one fault, it is a cell of the network, and then no table has all cells answered
 pub record OneIsFirstOver : Type 0 where
   pub cell : (net : Net) (order : List ℕ) (c d : Cell) (e f : OpFault) → IsAccepted net → IsOrder net order
       → FirstOver net order c e → FirstOver net order d f → c ≡ d
   pub fault : (net : Net) (order : List ℕ) (c d : Cell) (e f : OpFault) → IsAccepted net → IsOrder net order
       → FirstOver net order c e → FirstOver net order d f → e ≡ f
-  pub exists : (net : Net) (order : List ℕ) (c : Cell) (e : OpFault) → IsAccepted net → IsOrder net order
-      → FirstOver net order c e → IsTrue (has_cell net c)
+  pub exists : (net : Net) (order : List ℕ) (c : Cell) (e : OpFault) → FirstOver net order c e → IsTrue (has_cell net c)
   pub alone : (net : Net) (order : List ℕ) (c : Cell) (e : OpFault) (at : CellTable) → IsAccepted net → IsOrder net order
       → FirstOver net order c e → ¬ (AnswersAll net at (evaluation_order net order))
 

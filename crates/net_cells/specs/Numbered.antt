@@ -1,6 +1,6 @@
 -- What a network has at a number. Past the last server, and where there is no live flow, there is nothing: no queue, no
 -- hop, no bit. (Own choice.)
-use Rattle.std.specs.Prelude.{ℕ, List, [], length, Option, Some, None, Bool, is_some, slice_get, slice_index, slice_index_or}
+use Rattle.std.specs.Prelude.{ℕ, List, [], length, Option, Some, None, Bool, true, false, is_some, slice_get, slice_index, slice_index_or}
 use Rattle.rational.specs.Rational.{ℚ}
 use Rattle.upp_curve.specs.Curve.{SpecCurve}
 use Rattle.upp_curve.specs.Functions.{zero_q}
@@ -91,3 +91,9 @@ levels_of (Drr quanta) = 0
 
 abbrev pub levels : Net → ℕ → ℕ
 levels net s = levels_of (discipline net s)
+
+-- its queues are served by priority
+abbrev pub is_by_priority : Discipline → Bool
+is_by_priority Fifo = false
+is_by_priority (Priority n) = true
+is_by_priority (Drr quanta) = false

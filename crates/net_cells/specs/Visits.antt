@@ -1,13 +1,9 @@
 -- Which flows pass a server, and in which of its queues. (Own choice.)
-use Rattle.std.specs.Prelude.{ℕ, ◌+◌, List, [], ◌∷◌, length, map, max, Bool, not, ◌==◌, nat_lt}
+use Rattle.std.specs.Prelude.{ℕ, ◌+◌, List, [], ◌∷◌, length, map, max, Bool, not, ◌==◌, nat_lt, slice_index}
 use Rattle.std.specs.List.{filter, flat_map, range_with_len}
 use Rattle.net_model.specs.Networks.{Net}
+pub use Rattle.net_cells.specs.declared.visit.Visit.{Visit}
 use Rattle.net_cells.specs.Numbered.{hops, packet, server_at, queue_at}
-
--- the hop of a flow, by its place on the flow's path
-pub record Visit : Type 0 where
-  pub flow : ℕ
-  pub hop : ℕ
 
 abbrev pub visit : ℕ → ℕ → Visit
 visit i k = record { flow = i; hop = k }
@@ -17,7 +13,11 @@ visit i k = record { flow = i; hop = k }
 abbrev pub all_visits : Net → List Visit
 all_visits net = flat_map (λ i. map (visit i) (range_with_len 0 (hops net i))) (range_with_len 0 (length net.flows))
 
--- those at a server
+-- those of one path that are at a server
+abbrev pub hops_at : ℕ → List ℕ → ℕ → List Visit
+hops_at i way s = filter (λ v. slice_index way v.hop == s) (map (visit i) (range_with_len 0 (length way)))
+
+-- those of all flows that are
 abbrev pub is_at : Net → ℕ → Visit → Bool
 is_at net s v = server_at net v.flow v.hop == s
 

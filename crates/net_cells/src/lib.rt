@@ -4,5 +4,18 @@
 #![tactic(auto)]
 
 mod cell;
+mod laws;
+mod numbered;
+mod operand;
+mod order;
+mod visit;
 
 pub use cell::{Cell, Kind, Scope};
+pub use laws::{
+    answers_meet_equations, formulas_are_determined, front_meets_below, one_is_first_over,
+    operands_come_first, order_has_each_cell, tables_agree, work_is_operators,
+};
+pub use numbered::{hops, is_by_priority, levels, live_flow, queue_at, queues, server, server_at};
+pub use operand::{operands, visits_in};
+pub use order::cells;
+pub use visit::{Visit, visits};

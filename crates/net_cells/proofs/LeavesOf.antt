@@ -1,0 +1,49 @@
+-- The cells of some formulas, as lists.
+use Rattle.std.proofs.Common.{◌≡◌, ℕ, zero, suc, ◌+◌, List, [], ◌∷◌, ◌++◌, map, refl, sym, ap, ◌∙◌, arith, append_assoc, append-nil, true, false}
+use Rattle.std.specs.List.{range_with_len}
+use Rattle.std.proofs.lemmas.List.FromFn.{map-range_with_len_more}
+use Rattle.upp_curve.specs.declared.op_kind.OpKind.TheVariants.{Sum}
+use Rattle.run_laws.specs.Servers.{Discipline, Fifo, Priority, Drr}
+use Rattle.net_model.specs.Networks.{Net}
+use Rattle.net_cells.specs.declared.cell.Cell.{Cell}
+use Rattle.net_cells.specs.declared.cell.Kind.TheVariants.{Higher, Residual}
+use Rattle.net_cells.specs.Numbered.{is_by_priority}
+use Rattle.net_cells.specs.Cells.{cell_of}
+use Rattle.net_cells.specs.Formulas.{Formula, leaves, made, value_of}
+use Rattle.net_cells.specs.CellFormulas.{sum_of, sum_from, packets_to, served_to, queue_service}
+
+sum_from_leaves : (F : Formula) (cs : List Cell) → leaves (sum_from F cs) ≡ leaves F ++ cs
+sum_from_leaves F [] = sym (append-nil (leaves F))
+sum_from_leaves F (c ∷ cs) = sum_from_leaves (made Sum F (value_of c)) cs ∙ append_assoc (leaves F) (c ∷ []) cs
+
+pub sum_leaves : (cs : List Cell) → leaves (sum_of cs) ≡ cs
+sum_leaves [] = refl
+sum_leaves (c ∷ cs) = sum_from_leaves (value_of c) cs
+
+-- ---- the service along a path
+packets_leaves : (net : Net) (i k : ℕ) → leaves (packets_to net i k) ≡ map (cell_of Residual i) (range_with_len 0 (k + 1))
+packets_leaves net i zero = refl
+packets_leaves net i (suc k) =
+    let same : k + 1 + 1 ≡ suc k + 1 = omega arith in
+    ap (λ xs. xs ++ cell_of Residual i (suc k) ∷ []) (packets_leaves net i k)
+    ∙ sym (map-range_with_len_more (cell_of Residual i) 0 (k + 1) (suc k) (omega arith))
+    ∙ ap (λ n. map (cell_of Residual i) (range_with_len 0 n)) same
+
+pub served_leaves : (net : Net) (i k : ℕ) → leaves (served_to net i k) ≡ map (cell_of Residual i) (range_with_len 0 (k + 1))
+served_leaves net i zero = refl
+served_leaves net i (suc k) =
+    let same : k + 1 + 1 ≡ suc k + 1 = omega arith in
+    ap (λ xs. xs ++ cell_of Residual i (suc k) ∷ []) (packets_leaves net i k)
+    ∙ sym (map-range_with_len_more (cell_of Residual i) 0 (k + 1) (suc k) (omega arith))
+    ∙ ap (λ n. map (cell_of Residual i) (range_with_len 0 n)) same
+
+-- ---- the service of a queue
+pub priority_leaves : (net : Net) (s q : ℕ) (d : Discipline) → is_by_priority d ≡ true → cell_of Higher s q ∷ [] ≡ leaves (queue_service net s q d)
+priority_leaves net s q Fifo e = absurd (let bad : false ≡ true = e in cc)
+priority_leaves net s q (Priority n) e = refl
+priority_leaves net s q (Drr quanta) e = absurd (let bad : false ≡ true = e in cc)
+
+pub other_leaves : (net : Net) (s q : ℕ) (d : Discipline) → is_by_priority d ≡ false → [] ≡ leaves (queue_service net s q d)
+other_leaves net s q Fifo e = refl
+other_leaves net s q (Priority n) e = absurd (let bad : true ≡ false = e in cc)
+other_leaves net s q (Drr quanta) e = refl

@@ -1,0 +1,44 @@
+ghost use Rattle.net_cells.specs.Laws.{OrderHasEachCell, OperandsComeFirst, FormulasAreDetermined, TablesAgree};
+ghost use Rattle.net_cells.specs.Laws.{AnswersMeetEquations, FrontMeetsBelow, OneIsFirstOver, WorkIsOperators};
+
+/// The order of the cells has exactly the cells of the network, each once.
+pub fn order_has_each_cell()
+    ensures { OrderHasEachCell }
+{}
+
+/// In the order of the cells each cell stands after those that it is made of.
+pub fn operands_come_first()
+    ensures { OperandsComeFirst }
+{}
+
+/// A formula means one value by a table, its answer is one too (want of memory apart), and a value that it answers is
+/// its meaning. Both read the formula's own cells alone.
+pub fn formulas_are_determined()
+    ensures { FormulasAreDetermined }
+{}
+
+/// Two tables that meet the equations of a network agree on each of its cells. The network has an order of its servers:
+/// with a cycle there may be more than one table.
+pub fn tables_agree()
+    ensures { TablesAgree }
+{}
+
+/// A table with the answer of each cell meets the equations.
+pub fn answers_meet_equations()
+    ensures { AnswersMeetEquations }
+{}
+
+/// Where the cells before one have their answers, all that it depends on meets the equations.
+pub fn front_meets_below()
+    ensures { FrontMeetsBelow }
+{}
+
+/// At most one cell is the first over a limit, by one limit, and then no table has the answer of each cell.
+pub fn one_is_first_over()
+    ensures { OneIsFirstOver }
+{}
+
+/// The work of a cell is the number of operators on curves in its formula.
+pub fn work_is_operators()
+    ensures { WorkIsOperators }
+{}
