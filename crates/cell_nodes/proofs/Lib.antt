@@ -1,0 +1,4 @@
+pub mod Rises
+pub mod Meeting
+pub mod Shapes
+pub mod Handing

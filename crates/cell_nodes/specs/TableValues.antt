@@ -1,0 +1,31 @@
+-- What a table has at a cell: a curve, or a number, and of which sort. Own choice.
+use Rattle.std.specs.Prelude.{◌≡◌, Some}
+use Rattle.rational.specs.Extended.{Ext}
+use Rattle.upp_curve.specs.Curve.{SpecCurve, value_at}
+use Rattle.upp_curve.specs.Deviations.{IsHorizontalDeviation}
+use Rattle.net_cells.specs.declared.cell.Cell.{Cell}
+use Rattle.net_cells.specs.Meanings.{curve, number, CellTable}
+
+-- a curve of which P holds
+pub record HasCurve (at : CellTable) (c : Cell) (P : SpecCurve → Type 0) : Type 0 where
+  pub value : SpecCurve
+  pub is : at c ≡ Some (curve value)
+  pub holds : P value
+
+-- a number of which P holds
+pub record HasNumber (at : CellTable) (c : Cell) (P : Ext → Type 0) : Type 0 where
+  pub value : Ext
+  pub is : at c ≡ Some (number value)
+  pub holds : P value
+
+-- some curve, some number
+abbrev pub IsCurveAt : CellTable → Cell → Type 0
+IsCurveAt at c = HasCurve at c (λ f. Unit {0})
+
+abbrev pub IsNumberAt : CellTable → Cell → Type 0
+IsNumberAt at c = HasNumber at c (λ x. Unit {0})
+
+-- the number of theta is how far the curve of cross is from that of service
+abbrev pub Deviate : CellTable → (cross service theta : Cell) → Type 0
+Deviate at cross service theta =
+    HasCurve at cross (λ f. HasCurve at service (λ g. HasNumber at theta (IsHorizontalDeviation (value_at f) (value_at g))))
