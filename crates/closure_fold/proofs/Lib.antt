@@ -1,0 +1,4 @@
+pub mod ElementTimes
+pub mod LeastParts
+pub mod EachParts
+pub mod StarFolding

@@ -1,0 +1,3 @@
+pub mod CurveParts
+pub mod PartLaws
+pub mod StarFolds
