@@ -4,3 +4,4 @@ pub mod EachParts
 pub mod StarFolding
 pub mod FoldCurves
 pub mod FoldStars
+pub mod OneFold

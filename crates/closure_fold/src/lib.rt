@@ -5,6 +5,7 @@
 ghost use Rattle.closure_fold.specs.PartLaws.{PartsMakeCurve, PartsAreParts};
 ghost use Rattle.closure_fold.specs.StarFolds.{StarOfLeast, ClosureOfSetBack};
 ghost use Rattle.closure_fold.specs.FoldLaws.{LatticeCurveIsLattice, PartAnswerIsStar, CloseAnswerIsClosure};
+ghost use Rattle.closure_fold.specs.FoldLaws.{CloseAnswerIsDetermined};
 
 /// A finite curve is at each time the least of its parts, and each part is a proper element from 0 on, read with its
 /// copies.
@@ -25,4 +26,9 @@ pub fn fold_answers()
     ensures lattice { LatticeCurveIsLattice }
     ensures part { PartAnswerIsStar }
     ensures closure { CloseAnswerIsClosure }
+{}
+
+/// Want of memory apart, the fold of a curve has one answer.
+pub fn fold_is_determined()
+    ensures { CloseAnswerIsDetermined }
 {}
