@@ -1,0 +1,5 @@
+pub mod CurveParts
+pub mod PartLaws
+pub mod StarFolds
+pub mod Folds
+pub mod FoldLaws
