@@ -56,7 +56,7 @@ zero_den : den (int (pos 0)) ≡ 1
 unfolding frac gcd gcd_steps
 zero_den = refl
 
-zero_sum : (x : ℚ) → IsSmall x → SumFits (int (pos 0)) x
+pub zero_sum : (x : ℚ) → IsSmall x → SumFits (int (pos 0)) x
 zero_sum x h = rw (zero_num, zero_den) (zero_parts x.num (den x) (zero-lt-suc x.pre) h.top h.bottom)
 
 -- ---- lines

@@ -15,3 +15,4 @@ pub mod SegmentAnswers
 pub mod PointAnswers
 pub mod MeetNumbers
 pub mod HeavyCalls
+pub mod LatticeCurves

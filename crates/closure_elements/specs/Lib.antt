@@ -4,3 +4,4 @@ pub mod PieceFits
 pub mod ElementAnswers
 pub mod MeetLaws
 pub mod HeavyLaws
+pub mod Lattices

@@ -1,6 +1,7 @@
 //! The closures of the elements of a curve, as curves: of a point, and of a line on an open stretch.
 #![tactic(auto)]
 
+mod lattices;
 mod laws;
 mod multiples;
 mod points;
@@ -9,6 +10,7 @@ mod stretches;
 #[cfg(test)]
 mod tests;
 
-pub use laws::{heavy_is_refused, stretches_meet};
+pub use lattices::{lattice, origin};
+pub use laws::{heavy_is_refused, lattice_values, stretches_meet};
 pub use points::point_closure;
 pub use segments::segment_closure;
