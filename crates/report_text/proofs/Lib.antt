@@ -1,0 +1,4 @@
+pub mod TextLemmas
+pub mod Counted
+pub mod Agree
+pub mod Numbers

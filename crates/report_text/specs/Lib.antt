@@ -1,0 +1,6 @@
+pub mod CellWords
+pub mod Shown
+pub mod Report
+pub mod Faults
+pub mod Refusals
+pub mod Laws

@@ -1,0 +1,27 @@
+-- The lines that stand in place of a report. Own choice.
+use Rattle.std.specs.Prelude.{ℕ, List, ◌++◌, map, codes}
+use Rattle.std.specs.List.{flat_map}
+use Rattle.std.specs.String.{string_bytes}
+use Rattle.report_text.specs.declared.refusal.Refusal.{Refusal}
+use Rattle.report_text.specs.declared.refusal.Refusal.TheVariants.{Usage, CannotRead, TooLong, BadNetwork, Cycle, CurveTooMany, CurveTooWide, CellTooMany, CellTooWide}
+use Rattle.report_text.specs.Faults.{fault_text}
+
+-- names, each after a space
+abbrev pub spaced : List (List ℕ) → List ℕ
+spaced = flat_map (λ name. codes " " ++ name)
+
+-- what is said
+abbrev pub reason : Refusal → List ℕ
+reason (Usage commands) = codes "usage: " ++ string_bytes commands
+reason (CannotRead file) = codes "cannot read " ++ string_bytes file
+reason (TooLong file) = string_bytes file ++ codes ": too long"
+reason (BadNetwork file fault) = string_bytes file ++ codes ": " ++ fault_text fault.kind (string_bytes fault.place)
+reason (Cycle names) = codes "cycle" ++ spaced (map string_bytes names.items)
+reason (CurveTooMany place) = codes "too many: curve " ++ string_bytes place
+reason (CurveTooWide place) = codes "too wide: curve " ++ string_bytes place
+reason (CellTooMany cell) = codes "too many: " ++ string_bytes cell
+reason (CellTooWide cell) = codes "too wide: " ++ string_bytes cell
+
+-- the line
+unfoldable pub refusal_line : Refusal → List ℕ
+refusal_line refusal = codes "netcalc: " ++ reason refusal ++ codes "\n"

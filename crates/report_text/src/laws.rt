@@ -1,0 +1,29 @@
+//! Laws of the report. Each is the contract of a function that does nothing.
+
+ghost use Rattle.report_text.specs.Laws.{TextsTellNumbers, OnlyInfinityIsUnbounded, ReportsAgree};
+ghost use Rattle.report_text.specs.Laws.{EquationsGiveOneReport, EquationsGiveNumbers};
+
+/// The text of a number tells the number.
+pub fn texts_tell_numbers()
+    ensures { TextsTellNumbers }
+{}
+
+/// Only infinity is written as `unbounded`.
+pub fn only_infinity_is_unbounded()
+    ensures { OnlyInfinityIsUnbounded }
+{}
+
+/// Two tables that have the same values at the cells that the report prints give the same bytes.
+pub fn reports_agree()
+    ensures { ReportsAgree }
+{}
+
+/// There is one report on a network that has an order, whatever table meets its equations.
+pub fn equations_give_one_report()
+    ensures { EquationsGiveOneReport }
+{}
+
+/// A table that meets the equations has a number at each cell that the report prints.
+pub fn equations_give_numbers()
+    ensures { EquationsGiveNumbers }
+{}
