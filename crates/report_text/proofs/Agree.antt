@@ -34,8 +34,8 @@ same_shown : (net : Net) (at other : CellTable) (kind : Kind) (a b : ℕ) → Ag
 same_shown net at other kind a b agree has printed = ap shown_value (agree (cell_of kind a b) has printed)
 
 -- ---- lines
-same_queue : (net : Net) (at other : CellTable) (name : List ℕ) (s q : ℕ) → AgreeWherePrinted net at other → q < queues net s
-    → queue_line name at s q ≡ queue_line name other s q
+same_queue : (net : Net) (at other : CellTable) (name : List ℕ) (s q : ℕ) → AgreeWherePrinted net at other
+    → q < queues net s → queue_line name at s q ≡ queue_line name other s q
 unfolding queue_line
 same_queue net at other name s q agree h =
     let has = lt-ltb q (queues net s) h in
@@ -44,8 +44,8 @@ same_queue net at other name s q agree h =
     ap (λ x. line x (shown at QueueBacklog s q)) (same_shown net at other QueueDelay s q agree has refl)
     ∙ ap (λ y. line (shown other QueueDelay s q) y) (same_shown net at other QueueBacklog s q agree has refl)
 
-same_flow : (net : Net) (at other : CellTable) (name : List ℕ) (i : ℕ) → AgreeWherePrinted net at other → is_live net i ≡ true
-    → flow_line name at i ≡ flow_line name other i
+same_flow : (net : Net) (at other : CellTable) (name : List ℕ) (i : ℕ) → AgreeWherePrinted net at other
+    → is_live net i ≡ true → flow_line name at i ≡ flow_line name other i
 unfolding flow_line
 same_flow net at other name i agree live =
     let has : (is_live net i && (0 == 0)) ≡ true = ap (λ b. b && (0 == 0)) live in
@@ -55,10 +55,11 @@ same_flow net at other name i agree live =
     ∙ ap (λ y. line (shown other Tfa i 0) y (shown at Bound i 0)) (same_shown net at other Sfa i 0 agree has refl)
     ∙ ap (λ z. line (shown other Tfa i 0) (shown other Sfa i 0) z) (same_shown net at other Bound i 0 agree has refl)
 
-same_live : (net : Net) (at other : CellTable) (i : ℕ) (o : Option NetFlow) → AgreeWherePrinted net at other → flow_at net i ≡ o
-    → live_line at i o ≡ live_line other i o
+same_live : (net : Net) (at other : CellTable) (i : ℕ) (o : Option NetFlow) → AgreeWherePrinted net at other
+    → flow_at net i ≡ o → live_line at i o ≡ live_line other i o
 same_live net at other i None agree e = refl
-same_live net at other i (Some f) agree e = same_flow net at other f.name i agree (ap (λ (o : Option NetFlow). is_some o) e)
+same_live net at other i (Some f) agree e =
+    same_flow net at other f.name i agree (ap (λ (o : Option NetFlow). is_some o) e)
 
 -- ---- reports
 pub reports_agree : ReportsAgree
@@ -74,4 +75,5 @@ reports_agree net at other agree =
     (λ i h. same_live net at other i (flow_at net i) agree refl))
 
 pub one_report : EquationsGiveOneReport
-one_report net order at other a o m n = reports_agree net at other (λ c has printed. tables_agree net order at other a o m n c has)
+one_report net order at other a o m n =
+    reports_agree net at other (λ c has printed. tables_agree net order at other a o m n c has)

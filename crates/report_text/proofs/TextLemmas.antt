@@ -15,11 +15,13 @@ none_read : parse_of (codes "unbounded") ≡ Err fault.Form
 none_read = refl
 
 not_unbounded : (x : ℚ) → IsSmall x → text_of x ≡ codes "unbounded" → ⊥
-not_unbounded x small same = let read : Ok x ≡ Err fault.Form = sym (reads_back x small) ∙ ap parse_of same ∙ none_read in cc
+not_unbounded x small same =
+    let read : Ok x ≡ Err fault.Form = sym (reads_back x small) ∙ ap parse_of same ∙ none_read in cc
 
 same_number : (x y : ℚ) → IsSmall x → IsSmall y → text_of x ≡ text_of y → x ≡ y
 same_number x y h k same =
-    let read : ◌≡◌ {A = Result ℚ FracText} (Ok x) (Ok y) = sym (reads_back x h) ∙ ap parse_of same ∙ reads_back y k in cc
+    let read : ◌≡◌ {A = Result ℚ FracText} (Ok x) (Ok y) =
+    sym (reads_back x h) ∙ ap parse_of same ∙ reads_back y k in cc
 
 pub texts_tell_numbers : TextsTellNumbers
 texts_tell_numbers Inf Inf h k same = refl

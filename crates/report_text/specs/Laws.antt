@@ -45,7 +45,8 @@ AgreeWherePrinted net at other = (c : Cell) → IsTrue (has_cell net c) → IsTr
 
 -- then they give the same report
 abbrev pub ReportsAgree : Type 0
-ReportsAgree = (net : Net) (at other : CellTable) → AgreeWherePrinted net at other → report_of net at ≡ report_of net other
+ReportsAgree =
+    (net : Net) (at other : CellTable) → AgreeWherePrinted net at other → report_of net at ≡ report_of net other
 
 -- so there is one report on a network that has an order, whatever table meets its equations
 abbrev pub EquationsGiveOneReport : Type 0

@@ -17,7 +17,8 @@ live_flows net = filter (is_live net) (range_with_len 0 (length net.flows))
 -- how many servers, and how many live flows
 unfoldable pub head_line : Net → List ℕ
 head_line net =
-    codes "servers " ++ decimal (length net.servers) ++ codes " flows " ++ decimal (length (live_flows net)) ++ codes "\n"
+    codes "servers " ++ decimal (length net.servers) ++ codes " flows " ++ decimal (length (live_flows net))
+    ++ codes "\n"
 
 -- a queue's delay and backlog, of the server with a name and a number
 unfoldable pub queue_line : List ℕ → CellTable → ℕ → ℕ → List ℕ

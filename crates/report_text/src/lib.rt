@@ -1,5 +1,5 @@
-//! Texts about a network: the report on its analysis, the words of a cell, and the lines that stand in place of a report.
-//! Each call's contract is an equation of its bytes.
+//! Texts about a network: the report on its analysis, the words of a cell, and the lines that stand in place of a
+//! report. Each call's contract is an equation of its bytes.
 #![tactic(auto)]
 
 mod cell_words;

@@ -46,7 +46,8 @@ fn push_number_after<V: ShownValue, T: Table<V>>(
 }
 
 fn push_queue_name(into: &mut Vec<u8>, name: &str, queue: u32) -> Result<(), AllocError>
-    ensures { OnOk result (into.new.items ≡ into.old.items ++ (codes "queue " ++ name.now ++ codes " " ++ decimal queue)) }
+    ensures { OnOk result (into.new.items ≡
+        into.old.items ++ (codes "queue " ++ name.now ++ codes " " ++ decimal queue)) }
 {
     push_after(into, "queue ", name)?;
     push_text(into, " ")?;

@@ -87,7 +87,8 @@ fn push_place(into: &mut Vec<u8>, kind: NetKind, place: &str) -> Result<(), Allo
 }
 
 fn push_fault(into: &mut Vec<u8>, fault: &NetFault) -> Result<(), AllocError>
-    ensures { OnOk result (into.new.items ≡ into.old.items ++ faults.fault_text fault.now.kind (string_bytes fault.now.place)) }
+    ensures { OnOk result (into.new.items ≡
+        into.old.items ++ faults.fault_text fault.now.kind (string_bytes fault.now.place)) }
 {
     push_text(into, rule_word(fault.kind))?;
     push_place(into, fault.kind, &fault.place)

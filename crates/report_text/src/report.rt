@@ -101,9 +101,9 @@ fn push_flows<V: ShownValue, T: Table<V>>(
 }
 
 /// The report on a network, with the numbers that a table has: how many servers and live flows there are; for each
-/// server, in the order of the file, and each of its queues the delay and the backlog; for each live flow, by number, its
-/// delay from end to end, hop by hop, by the service along its path, and the lesser of the two. Where the table has no
-/// number, nothing is printed in its place. Refused only for want of memory.
+/// server, in the order of the file, and each of its queues the delay and the backlog; for each live flow, by number,
+/// its delay from end to end, hop by hop, by the service along its path, and the lesser of the two. Where the table has
+/// no number, nothing is printed in its place. Refused only for want of memory.
 #[tactic(auto, unfolding(crate::specs::Report::report_of))]
 pub fn analysis_text<V: ShownValue, T: Table<V>>(
     alloc: Global,

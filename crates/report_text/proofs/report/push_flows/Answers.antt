@@ -7,5 +7,5 @@ pub loop-number-preserved : goal.loop-number-preserved
 loop-number-preserved g c =
     let f = flow_lines c.args.net.now (g.T.Table.at c.args.table.now) in
     let n = c.loop-number.number in
-    behind c.args.into.now.items c.loop-number.into.items c.push_live.new.into.items _ (flat_map f (range_with_len 0 n)) _
-    c.loop-number.invariant c.in_ok-push_live.ensures (flat_more f n)
+    behind c.args.into.now.items c.loop-number.into.items c.push_live.new.into.items _
+    (flat_map f (range_with_len 0 n)) _ c.loop-number.invariant c.in_ok-push_live.ensures (flat_more f n)

@@ -5,4 +5,5 @@ use Rattle.report_text.proofs.report.push_servers.Given as goal
 
 abbrev pub invariant-loop-number : goal.invariant-loop-number
 invariant-loop-number g l =
-    l.into.items ≡ l.initial.into.items ++ flat_map (queue_lines l.net (g.T.Table.at l.table)) (range_with_len 0 l.number)
+    l.into.items
+    ≡ l.initial.into.items ++ flat_map (queue_lines l.net (g.T.Table.at l.table)) (range_with_len 0 l.number)
