@@ -23,7 +23,8 @@ use Rattle.upp_curve.specs.Normal.{Each, StartsAtZero, TailFits, IsNormal}
 use Rattle.curve_conv.specs.PieceElements.{elements_of, StartBefore, Among}
 use Rattle.curve_conv.proofs.Cover.{cover, element_times}
 use Rattle.closure_laws.specs.ClosureLaws.{IsCopy, HasCopies}
-use Rattle.closure_fold.specs.CurveParts.{Part, pieces_end, copies_of, part_of, parts_of, part_value}
+use Rattle.closure_fold.specs.CurveParts.{pieces_end, copies_of, part_of, parts_of, part_value}
+use Rattle.closure_fold.specs.declared.part.Part.{Part}
 use Rattle.closure_fold.specs.PartLaws.{EachPart, IsCopied, IsPart, PartsAreParts}
 use Rattle.closure_fold.proofs.ElementTimes.{start_low, starts_nonneg}
 

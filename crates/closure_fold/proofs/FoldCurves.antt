@@ -19,7 +19,7 @@ use Rattle.upp_curve.proofs.FirstStretch.{value_past}
 use Rattle.curve_conv.proofs.Cover.{read_one, value_here}
 use Rattle.closure_laws.specs.Star.{origin}
 use Rattle.closure_laws.specs.ClosureLaws.{IsLattice}
-use Rattle.closure_fold.specs.CurveParts.{Copies}
+use Rattle.closure_fold.specs.declared.part.Copies.{Copies}
 use Rattle.closure_fold.specs.Folds.{origin_curve, lattice_curve}
 use Rattle.closure_fold.specs.FoldLaws.{LatticeCurveIsLattice}
 use Rattle.closure_fold.proofs.EachParts.{repeated_at}

@@ -17,7 +17,9 @@ use Rattle.closure_laws.specs.Star.{IsStar, AreStars, origin, least_of}
 use Rattle.closure_laws.proofs.StarSums.{star_of_closure, stars_of_values}
 use Rattle.closure_laws.proofs.CopiedParts.{closure_of_copies}
 use Rattle.closure_elements.specs.ElementAnswers.{IsElementClosure}
-use Rattle.closure_fold.specs.CurveParts.{Copies, Part, parts_of, part_value}
+use Rattle.closure_fold.specs.CurveParts.{parts_of, part_value}
+use Rattle.closure_fold.specs.declared.part.Copies.{Copies}
+use Rattle.closure_fold.specs.declared.part.Part.{Part}
 use Rattle.closure_fold.specs.PartLaws.{EachPart, IsPart}
 use Rattle.closure_fold.specs.StarFolds.{AreFolded, EachStar}
 use Rattle.closure_fold.specs.Folds.{origin_curve, lattice_curve, ElementAnswer, CopiedAnswer, LoweredAnswer, PartAnswer, FoldAnswer, PartsAnswer, SetBackAnswer, CloseAnswer}

@@ -27,7 +27,8 @@ use Rattle.curve_conv.specs.PieceElements.{elements_of, Among, ElementAt}
 use Rattle.curve_conv.specs.ConvolutionLaws.{ElementsCover}
 use Rattle.curve_conv.proofs.Cover.{cover, element_times}
 use Rattle.closure_laws.specs.Star.{least_of}
-use Rattle.closure_fold.specs.CurveParts.{Part, pieces_end, part_of, parts_of, part_value}
+use Rattle.closure_fold.specs.CurveParts.{pieces_end, part_of, parts_of, part_value}
+use Rattle.closure_fold.specs.declared.part.Part.{Part}
 use Rattle.closure_fold.specs.PartLaws.{EachPart, PartsMakeCurve}
 use Rattle.closure_fold.proofs.ElementTimes.{start_low, times_before}
 use Rattle.closure_fold.proofs.EachParts.{repeated_at, starts_before, each_part}

@@ -5,3 +5,5 @@ pub mod StarFolding
 pub mod FoldCurves
 pub mod FoldStars
 pub mod OneFold
+pub mod PartCopies
+pub mod Starts

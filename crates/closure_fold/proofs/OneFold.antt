@@ -15,7 +15,9 @@ use Rattle.curve_making.specs.Calls.{Applies, Then}
 use Rattle.curve_making.specs.Determined.{IsDetermined}
 use Rattle.curve_making.proofs.InTurn.{applies_determined, then_determined}
 use Rattle.closure_elements.specs.ElementAnswers.{IsElementClosure}
-use Rattle.closure_fold.specs.CurveParts.{Copies, Part, parts_of}
+use Rattle.closure_fold.specs.CurveParts.{parts_of}
+use Rattle.closure_fold.specs.declared.part.Copies.{Copies}
+use Rattle.closure_fold.specs.declared.part.Part.{Part}
 use Rattle.closure_fold.specs.Folds.{origin_curve, lattice_curve, segment_number, SegmentWithin, SegmentCause, ElementAnswer, CopiedAnswer, LoweredAnswer, PartAnswer, FoldAnswer, PartsAnswer, IsSetBackCurve, SetBackAnswer, CloseAnswer}
 use Rattle.closure_fold.specs.FoldLaws.{CloseAnswerIsDetermined}
 

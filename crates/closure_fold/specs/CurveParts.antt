@@ -10,15 +10,8 @@ use Rattle.upp_curve.specs.declared.curve.Tail.{Tail}
 use Rattle.upp_curve.specs.declared.curve.Tail.TheVariants.{Periodic, Affine, Infinite}
 use Rattle.upp_curve.specs.Curve.{SpecCurve, repeated}
 use Rattle.curve_conv.specs.PieceElements.{elements_of}
-
--- copies each a period later and a rise higher than the one before
-pub record Copies : Type 0 where
-  pub period : ℚ
-  pub rise : ℚ
-
-pub record Part : Type 0 where
-  pub element : Element
-  pub copies : Option Copies
+use Rattle.closure_fold.specs.declared.part.Copies.{Copies}
+use Rattle.closure_fold.specs.declared.part.Part.{Part}
 
 -- ---- of a curve
 -- a periodic tail's pieces are of one period from the rank on; the last piece of another tail goes on without end

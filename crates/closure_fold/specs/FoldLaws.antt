@@ -8,7 +8,9 @@ use Rattle.upp_curve.specs.Convolution.{IsSubadditiveClosure}
 use Rattle.curve_making.specs.Determined.{IsDetermined}
 use Rattle.closure_laws.specs.Star.{AreStars}
 use Rattle.closure_laws.specs.ClosureLaws.{IsLattice}
-use Rattle.closure_fold.specs.CurveParts.{Copies, Part, part_value}
+use Rattle.closure_fold.specs.CurveParts.{part_value}
+use Rattle.closure_fold.specs.declared.part.Copies.{Copies}
+use Rattle.closure_fold.specs.declared.part.Part.{Part}
 use Rattle.closure_fold.specs.PartLaws.{IsPart}
 use Rattle.closure_fold.specs.Folds.{lattice_curve, PartAnswer, CloseAnswer}
 

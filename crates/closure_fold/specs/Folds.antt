@@ -20,7 +20,9 @@ use Rattle.upp_curve.specs.Limits.{own_gauge}
 use Rattle.curve_making.specs.Calls.{Applies, Then}
 use Rattle.closure_elements.specs.ElementAnswers.{IsElementClosure}
 use Rattle.closure_elements.specs.ElementCurves.{point_at_zero}
-use Rattle.closure_fold.specs.CurveParts.{Copies, Part, parts_of}
+use Rattle.closure_fold.specs.CurveParts.{parts_of}
+use Rattle.closure_fold.specs.declared.part.Copies.{Copies}
+use Rattle.closure_fold.specs.declared.part.Part.{Part}
 use Rattle.closure_fold.specs.StarFolds.{IsSetBack}
 
 -- ---- the two curves of the fold's own

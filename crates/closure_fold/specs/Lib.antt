@@ -3,3 +3,4 @@ pub mod PartLaws
 pub mod StarFolds
 pub mod Folds
 pub mod FoldLaws
+pub mod Starting

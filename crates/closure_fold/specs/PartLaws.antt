@@ -7,7 +7,9 @@ use Rattle.upp_curve.specs.Functions.{zero_q, IsFinite}
 use Rattle.upp_curve.specs.Normal.{IsNormal}
 use Rattle.closure_laws.specs.Star.{least_of}
 use Rattle.closure_laws.specs.ClosureLaws.{HasCopies}
-use Rattle.closure_fold.specs.CurveParts.{Copies, Part, parts_of, part_value}
+use Rattle.closure_fold.specs.CurveParts.{parts_of, part_value}
+use Rattle.closure_fold.specs.declared.part.Copies.{Copies}
+use Rattle.closure_fold.specs.declared.part.Part.{Part}
 
 -- P holds of each part
 abbrev pub EachPart : (Part → Type 0) → List Part → Type 0

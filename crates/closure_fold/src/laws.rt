@@ -1,0 +1,32 @@
+//! What the fold makes. Each function is a theorem: its contract is the law, its body is empty.
+
+ghost use Rattle.closure_fold.specs.PartLaws.{PartsMakeCurve, PartsAreParts};
+ghost use Rattle.closure_fold.specs.StarFolds.{StarOfLeast, ClosureOfSetBack};
+ghost use Rattle.closure_fold.specs.FoldLaws.{LatticeCurveIsLattice, PartAnswerIsStar, CloseAnswerIsClosure};
+ghost use Rattle.closure_fold.specs.FoldLaws.{CloseAnswerIsDetermined};
+
+/// A finite curve is at each time the least of its parts, and each part is a proper element from 0 on, read with its
+/// copies.
+pub fn curve_parts()
+    ensures least { PartsMakeCurve }
+    ensures each { PartsAreParts }
+{}
+
+/// The star of the least of some functions is the convolution of their stars, one after another; and a function that is
+/// nowhere below 0 has its star past 0 and its own value at 0 for its closure.
+pub fn star_folds()
+    ensures least { StarOfLeast }
+    ensures closure { ClosureOfSetBack }
+{}
+
+/// What the fold of a curve answers: for a part its star, and for a finite curve that is nowhere below 0 its closure.
+pub fn fold_answers()
+    ensures lattice { LatticeCurveIsLattice }
+    ensures part { PartAnswerIsStar }
+    ensures closure { CloseAnswerIsClosure }
+{}
+
+/// Want of memory apart, the fold of a curve has one answer.
+pub fn fold_is_determined()
+    ensures { CloseAnswerIsDetermined }
+{}
