@@ -1,5 +1,5 @@
 -- A table that meets the equations has a number at each cell that the report prints.
-use Rattle.std.proofs.Common.{◌≡◌, ℕ, refl, ap, ◌∙◌, subst}
+use Rattle.std.proofs.Common.{◌≡◌, ℕ, refl, ap, ◌∙◌}
 use Rattle.std.specs.Prelude.{IsTrue, Some, true, false}
 use Rattle.rational.specs.Extended.{Ext}
 use Rattle.net_model.specs.Networks.{Net}

@@ -1,5 +1,5 @@
 -- Laws of the report.
-use Rattle.std.specs.Prelude.{◌≡◌, ℕ, List, Option, Some, None, Bool, true, false, IsTrue, codes}
+use Rattle.std.specs.Prelude.{◌≡◌, ℕ, List, Some, Bool, true, false, IsTrue, codes}
 use Rattle.rational.specs.Ratio.{IsSmall}
 use Rattle.rational.specs.Extended.{Ext}
 use Rattle.rational.specs.declared.Extended.TheVariants.{Fin, Inf}
@@ -8,9 +8,9 @@ use Rattle.net_model.specs.Accepted.{IsAccepted}
 use Rattle.net_model.specs.Orders.{IsOrder}
 use Rattle.net_cells.specs.declared.cell.Cell.{Cell}
 use Rattle.net_cells.specs.declared.cell.Kind.{Kind}
-use Rattle.net_cells.specs.declared.cell.Kind.TheVariants.{In, Cross, Total, Higher, QueueService, Theta, Residual, QueueDelay, QueueBacklog, HopDelay, ShiftOut, DeconvOut, Out, PathService, Tfa, Sfa, Bound}
+use Rattle.net_cells.specs.declared.cell.Kind.TheVariants.{QueueDelay, QueueBacklog, Tfa, Sfa, Bound}
 use Rattle.net_cells.specs.Cells.{has_cell}
-use Rattle.net_cells.specs.Meanings.{Meaning, number, CellTable}
+use Rattle.net_cells.specs.Meanings.{number, CellTable}
 use Rattle.net_cells.specs.Equations.{MeetsEquations}
 use Rattle.report_text.specs.Shown.{number_text}
 use Rattle.report_text.specs.Report.{report_of}
