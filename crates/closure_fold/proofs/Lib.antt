@@ -7,3 +7,4 @@ pub mod FoldStars
 pub mod OneFold
 pub mod PartCopies
 pub mod Starts
+pub mod StartCurves

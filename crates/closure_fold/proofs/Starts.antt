@@ -44,7 +44,7 @@ pub read_past : (v : Ext) (ps : List Piece) (t : ℚ) → StartsAtZero ps → ze
 read_past v [] t z h = absurd z
 read_past v (p ∷ ps) t z h = same_past v p ps t z.1 (subst (λ y. y <ℚ t) (sym z.0) h)
 
-read_zero : (v : Ext) (ps : List Piece) → StartsAtZero ps → read (first_at v ps) zero_q ≡ v
+pub read_zero : (v : Ext) (ps : List Piece) → StartsAtZero ps → read (first_at v ps) zero_q ≡ v
 read_zero v [] z = absurd z
 read_zero v (p ∷ []) z =
     read_one record { x = p.x; at = v; line = p.line } zero_q
@@ -53,35 +53,35 @@ read_zero v (p ∷ q ∷ qs) z =
     read_stop record { x = p.x; at = v; line = p.line } q qs zero_q (subst (λ y. y <ℚ q.x) z.0 z.1.0)
     ∙ value_here record { x = p.x; at = v; line = p.line } zero_q (subst (λ y. zero_q ≤ℚ y) (sym z.0) (le_refl zero_q))
 
-starts_kept : (v : Ext) (ps : List Piece) → StartsAtZero ps → StartsAtZero (first_at v ps)
+pub starts_kept : (v : Ext) (ps : List Piece) → StartsAtZero ps → StartsAtZero (first_at v ps)
 starts_kept v [] z = z
 starts_kept v (p ∷ ps) z = z
 
-each_kept : (P : ℚ → Type 0) (v : Ext) (ps : List Piece) → Each (λ p. P p.x) ps → Each (λ p. P p.x) (first_at v ps)
+pub each_kept : (P : ℚ → Type 0) (v : Ext) (ps : List Piece) → Each (λ p. P p.x) ps → Each (λ p. P p.x) (first_at v ps)
 each_kept P v [] h = h
 each_kept P v (p ∷ ps) h = h
 
-start_kept : (v : Ext) (x : ℚ) (ps : List Piece) → HasStart x ps → HasStart x (first_at v ps)
+pub start_kept : (v : Ext) (x : ℚ) (ps : List Piece) → HasStart x ps → HasStart x (first_at v ps)
 start_kept v x [] h = h
 start_kept v x (p ∷ ps) h = h
 
-merge_kept : (v : Ext) (ps : List Piece) → NoMerge ps → NoMerge (first_at v ps)
+pub merge_kept : (v : Ext) (ps : List Piece) → NoMerge ps → NoMerge (first_at v ps)
 merge_kept v [] h = h
 merge_kept v (p ∷ []) h = h
 merge_kept v (p ∷ q ∷ qs) h = h
 
-line_kept : (v : Ext) (ps : List Piece) → last_line (first_at v ps) ≡ last_line ps
+pub line_kept : (v : Ext) (ps : List Piece) → last_line (first_at v ps) ≡ last_line ps
 line_kept v [] = refl
 line_kept v (p ∷ []) = refl
 line_kept v (p ∷ q ∷ qs) = refl
 
-fits_kept : (v : Ext) (end : Option ℚ) (ps : List Piece) → EachFits end ps → EachFits end (first_at v ps)
+pub fits_kept : (v : Ext) (end : Option ℚ) (ps : List Piece) → EachFits end ps → EachFits end (first_at v ps)
 fits_kept v end [] h = h
 fits_kept v end (p ∷ ps) h = h
 
 -- ---- values past 0
 module _ (v : Ext) (ps : List Piece) (zeroth : StartsAtZero ps) where
-  repeated_past : (rank d c t : ℚ) → zero_q <ℚ rank → zero_q <ℚ d → zero_q <ℚ t
+  pub repeated_past : (rank d c t : ℚ) → zero_q <ℚ rank → zero_q <ℚ d → zero_q <ℚ t
       → repeated (read (first_at v ps)) rank d c t ≡ repeated (read ps) rank d c t
   repeated_past rank d c t late some h = elim (le_or_lt rank t) [
     | inl past ↦
@@ -97,13 +97,13 @@ module _ (v : Ext) (ps : List Piece) (zeroth : StartsAtZero ps) where
         ∙ sym (repeated_first (read ps) rank d c t some soon)
   ]
 
-  repeated_zero : (rank d c : ℚ) → zero_q <ℚ rank → zero_q <ℚ d → repeated (read (first_at v ps)) rank d c zero_q ≡ v
+  pub repeated_zero : (rank d c : ℚ) → zero_q <ℚ rank → zero_q <ℚ d → repeated (read (first_at v ps)) rank d c zero_q ≡ v
   repeated_zero rank d c late some =
       let soon : zero_q <ℚ rank +ℚ d = with2 rank d (λ o. omega (arith, o.le, o.lt, o.same)) in
       repeated_first (read (first_at v ps)) rank d c zero_q some soon ∙ read_zero v ps zeroth
 
 -- ---- a rule past 0 is of both
-repeats_on : (f g : ℚ → Ext) (from d c : ℚ) → ((t : ℚ) → zero_q <ℚ t → g t ≡ f t) → zero_q <ℚ from → zero_q <ℚ d
+pub repeats_on : (f g : ℚ → Ext) (from d c : ℚ) → ((t : ℚ) → zero_q <ℚ t → g t ≡ f t) → zero_q <ℚ from → zero_q <ℚ d
     → Repeats g from d c → Repeats f from d c
 repeats_on f g from d c same late some h = record {
   rule = λ t k.

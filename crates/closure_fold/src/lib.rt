@@ -3,5 +3,7 @@
 
 pub mod laws;
 mod part;
+mod starting;
 
 pub use part::{Copies, Part, elements, part_of};
+pub use starting::with_start;
