@@ -1,1 +1,2 @@
 pub mod SameConvolution
+pub mod ElementStars

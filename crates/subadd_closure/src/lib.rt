@@ -1,8 +1,10 @@
-//! Subadditive curves, and the subadditive closure of a curve.
+//! Subadditive curves, and the stars of a curve's elements, of which the subadditive closure is made.
 #![tactic(auto)]
 
+mod stars;
 mod subadditive;
 #[cfg(test)]
 mod tests;
 
+pub use stars::{point_star, segment_star, stars_are_made};
 pub use subadditive::is_subadditive;

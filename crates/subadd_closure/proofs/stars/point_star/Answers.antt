@@ -1,0 +1,13 @@
+use Rattle.std.proofs.lemmas.Result.{err_from_is_err_and}
+use Rattle.affine_segment.specs.declared.element.Element.TheVariants.{Point}
+use Rattle.subadd_closure.proofs.ElementStars.{refused_star, made_star}
+use Rattle.subadd_closure.proofs.stars.point_star.Goals as goal
+
+pub returns-in_err-c-clause-answer : goal.returns-in_err-c-clause-answer
+returns-in_err-c-clause-answer g c =
+    let p = err_from_is_err_and c.from_residual.result c.from_residual.ensures.1 in
+    rw (p.1, p.2) (refused_star c.args.turn (Point c.args.x c.args.v) c.in_err-c.field-0.0 c.requires.turn c.in_err-c.ensures)
+
+pub returns-clause-answer : goal.returns-clause-answer
+returns-clause-answer g c =
+    made_star c.args.turn (Point c.args.x c.args.v) c.in_ok-c.c c.star_of.result c.in_ok-c.ensures c.star_of.ensures.answer

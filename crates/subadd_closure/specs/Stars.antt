@@ -1,0 +1,55 @@
+-- The calls that make the star of an element of a curve: its closure, in a periodic tail with all copies, lowered by
+-- the point 0 at 0. Own choice.
+use Rattle.std.specs.Prelude.{◌≡◌, Option, Some, None, Result, Ok, Err}
+use Rattle.rational.specs.Rational.{ℚ, ◌/ℚ◌, ◌<ℚ◌}
+use Rattle.rational.specs.Ratio.{IsSmall}
+use Rattle.rational.specs.Extended.{Ext}
+use Rattle.affine_segment.specs.declared.element.Element.{Element}
+use Rattle.affine_segment.specs.Elements.{element_value}
+use Rattle.upp_curve.specs.declared.op_kind.OpKind.TheVariants.{Min, Convolve}
+use Rattle.upp_curve.specs.declared.op_kind.OpFault.{OpFault}
+use Rattle.upp_curve.specs.declared.op_kind.OpFault.TheVariants.{NoMemory}
+use Rattle.upp_curve.specs.Curve.{SpecCurve, value_at}
+use Rattle.upp_curve.specs.Functions.{zero_q}
+use Rattle.curve_making.specs.Calls.{Applies, Then}
+use Rattle.closure_laws.specs.Star.{AreStars}
+use Rattle.closure_laws.specs.ClosureLaws.{HasCopies}
+use Rattle.closure_elements.specs.ElementAnswers.{IsElementClosure}
+use Rattle.closure_elements.specs.Lattices.{lattice_curve, origin_curve}
+
+-- what P says; or want of memory, before a call of P is made
+pub data OrWants {A : Type 0} (P : Result A OpFault → Type 0) (r : Result A OpFault) : Type 0 where
+  answers : P r → OrWants P r
+  wants : r ≡ Err NoMemory → OrWants P r
+
+-- a curve lowered by the point 0 at 0
+abbrev pub Lowers : SpecCurve → Result SpecCurve OpFault → Type 0
+Lowers c r = OrWants (Applies Min c origin_curve) r
+
+-- a curve with all its copies, each a period later and a rise higher than the one before
+abbrev pub Copies : ℚ × ℚ → SpecCurve → Result SpecCurve OpFault → Type 0
+Copies p c r = OrWants (Applies Convolve c (lattice_curve p.0 p.1)) r
+
+-- the calls on a closure: of an element of a periodic tail the copies first
+abbrev pub StarOf : Option (ℚ × ℚ) → SpecCurve → Result SpecCurve OpFault → Type 0
+StarOf None c r = Lowers c r
+StarOf (Some p) c r = Then (Copies p c) Lowers r
+
+-- the calls on the closure of an element: the closure is the one curve in normal form, whatever its numbers' sizes
+abbrev pub MakesStar : Option (ℚ × ℚ) → Element → Result SpecCurve OpFault → Type 0
+MakesStar p e r = OrWants (λ s. (c : SpecCurve) × IsElementClosure e c × StarOf p c s) r
+
+-- the period and the rise of a periodic tail
+abbrev pub IsTurn : Option (ℚ × ℚ) → Type 0
+IsTurn None = Unit {0}
+IsTurn (Some p) = (zero_q <ℚ p.0) × IsSmall (p.1 /ℚ p.0)
+
+-- h is the element, with all its copies
+abbrev pub IsSpread : Option (ℚ × ℚ) → Element → (ℚ → Ext) → Type 0
+IsSpread None e h = (t : ℚ) → h t ≡ element_value e t
+IsSpread (Some p) e h = HasCopies (element_value e) p.0 p.1 h
+
+-- what the calls make is the star of the element with all its copies
+abbrev pub StarsAreMade : Type 0
+StarsAreMade = (p : Option (ℚ × ℚ)) (e : Element) (s : SpecCurve) (h : ℚ → Ext) → IsTurn p → MakesStar p e (Ok s) → IsSpread p e h
+    → AreStars h (value_at s)

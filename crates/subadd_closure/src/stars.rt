@@ -1,0 +1,112 @@
+//! The stars of a curve's elements: the closure of an element, of a periodic tail with all its copies, lowered by the
+//! point 0 at 0.
+
+ghost use Rattle.std.specs.Prelude.{◌+◌, ◌≤◌, ◌^◌, Some};
+ghost use Rattle.rational.specs.Rational.{◌<ℚ◌, ◌≤ℚ◌, ◌/ℚ◌};
+ghost use Rattle.rational.specs.Ratio.{IsSmall};
+ghost use Rattle.affine_segment.specs.declared.element.Element.TheVariants.{Point, Open};
+ghost use Rattle.upp_curve.specs.Functions.{zero_q};
+ghost use Rattle.upp_curve.specs.Readable.{LineFitsAt};
+ghost use Rattle.closure_elements.specs.ElementAnswers.{IsOpenPart};
+ghost use Rattle.subadd_closure.specs.Stars.{Copies, IsTurn, Lowers, MakesStar, StarOf, StarsAreMade};
+
+use affine_segment::Line;
+use closure_elements::{lattice, origin, point_closure, segment_closure};
+use curve_convolution::convolve;
+use curve_lattice::min;
+use curve_making::seen;
+use fraction128::{Ext, Frac};
+use std::alloc::Global;
+use std::sync::ledger::Ledger;
+use steps::Steps;
+use upp_curve::{Curve, OpFault};
+
+// A curve lowered by the point 0 at 0.
+fn lowered<L: Ledger>(alloc: Global, c: &Curve, steps: &mut Steps<L>) -> Result<Curve, OpFault>
+    ensures answer { Lowers c.now result }
+    ensures most { steps.new ≤ steps.old + 1 }
+{
+    let zero = origin(alloc)?;
+    seen(min(alloc, c, &zero, steps))
+}
+
+// A curve with all its copies.
+fn copied<L: Ledger>(
+    alloc: Global,
+    c: &Curve,
+    turn: (Frac, Frac),
+    steps: &mut Steps<L>,
+) -> Result<Curve, OpFault>
+    requires { IsTurn (Some turn) }
+    ensures answer { Copies turn c.now result }
+    ensures most { steps.new ≤ steps.old + 1 }
+{
+    let points = lattice(alloc, turn.0, turn.1)?;
+    seen(convolve(alloc, c, &points, steps))
+}
+
+// The star of an element, from its closure.
+fn star_of<L: Ledger>(
+    alloc: Global,
+    c: &Curve,
+    turn: Option<(Frac, Frac)>,
+    steps: &mut Steps<L>,
+) -> Result<Curve, OpFault>
+    requires { IsTurn turn }
+    ensures answer { StarOf turn c.now result }
+    ensures most { steps.new ≤ steps.old + 2 }
+{
+    match turn {
+        None => lowered(alloc, c, steps),
+        Some(p) => {
+            let all = copied(alloc, c, p, steps)?;
+            lowered(alloc, &all, steps)
+        }
+    }
+}
+
+/// The star of a point: its closure, in a periodic tail (with the period and the rise `turn`) with all its copies,
+/// lowered by the point 0 at 0. At most two operators, one step each; a refusal is that of the first that is over its
+/// limit, with TooWide or TooMany, or want of memory.
+pub fn point_star<L: Ledger>(
+    alloc: Global,
+    x: Frac,
+    v: Frac,
+    turn: Option<(Frac, Frac)>,
+    steps: &mut Steps<L>,
+) -> Result<Curve, OpFault>
+    requires time { zero_q ≤ℚ x }
+    requires value { zero_q ≤ℚ v }
+    requires turn { IsTurn turn }
+    ensures answer { MakesStar turn (Point x v) result }
+    ensures most { steps.new ≤ steps.old + 2 }
+{
+    let c = point_closure(alloc, x, v)?;
+    star_of(alloc, &c, turn, steps)
+}
+
+/// The star of a line on an open stretch, as `point_star`; `m` as of `segment_closure`.
+pub fn segment_star<L: Ledger>(
+    alloc: Global,
+    a: Frac,
+    b: Ext,
+    line: &Line,
+    m: u64,
+    turn: Option<(Frac, Frac)>,
+    steps: &mut Steps<L>,
+) -> Result<Curve, OpFault>
+    requires part { IsOpenPart a b line.now m }
+    requires reads { LineFitsAt a (Some line.now) }
+    requires few { m + 3 ≤ 2 ^ 19 }
+    requires turn { IsTurn turn }
+    ensures answer { MakesStar turn (Open a b line.now) result }
+    ensures most { steps.new ≤ steps.old + 2 }
+{
+    let c = segment_closure(alloc, a, b, line, m)?;
+    star_of(alloc, &c, turn, steps)
+}
+
+/// What the calls make is the star of the element with all its copies.
+pub fn stars_are_made()
+    ensures { StarsAreMade }
+{}
