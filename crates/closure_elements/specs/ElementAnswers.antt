@@ -14,7 +14,7 @@ use Rattle.upp_curve.specs.Convolution.{IsSubadditiveClosure}
 use Rattle.closure_elements.specs.Heavy.{IsHeavy}
 use Rattle.closure_elements.specs.ElementCurves.{IsStretch}
 
--- c is the curve of the closure of an element, whatever the size of its numbers: there is one in normal form
+-- c is the curve, in normal form, of the closure of an element, whatever the size of its numbers
 pub record IsElementClosure (e : Element) (c : SpecCurve) : Type 0 where
   pub normal : IsNormal c
   pub closes : (t : ℚ) → zero_q ≤ℚ t → IsSubadditiveClosure (element_value e) t (value_at c t)

@@ -1,7 +1,7 @@
 -- The fold by which the closure of a curve is made: for each of its parts the closure of the element, its copies, and
--- the point (0, 0), and the result convolved with that of the parts before. What it answers, and its limits. (The
--- closure of a minimum is the convolution of the closures: Bouillard, Boyer and Le Corronc; the order and the limits are
--- own choice.)
+-- the point (0, 0), and the result convolved with that of the parts before. What it answers, and its limits. (The star
+-- of a minimum is the convolution of the stars: Bouillard, Boyer and Le Corronc; the order and the limits are own
+-- choice.)
 use Rattle.std.specs.Prelude.{◌≡◌, ℕ, suc, ◌+◌, ◌*◌, ◌^◌, ◌<◌, ◌≤◌, cond, List, [], ◌∷◌, Option, Some, None, Result, Ok, Err}
 use Rattle.rational.specs.Rational.{ℚ, ◌-ℚ◌, ◌/ℚ◌, ◌<ℚ◌, lt_q}
 use Rattle.rational.specs.Whole.{whole_part}
@@ -95,7 +95,7 @@ PartsAnswer f [] r = ⊥
 PartsAnswer f (p ∷ ps) r = Then (PartAnswer f p) (λ c. FoldAnswer f c ps) r
 
 -- ---- the closure
--- the curve with the value at 0 set to that of f, which is over no limit
+-- the curve with the value at 0 set to that of f; no limit is asked of it
 pub record IsSetBackCurve (f c h : SpecCurve) : Type 0 where
   pub curve : IsCurve h
   pub values : IsSetBack (value_at f) (value_at c) (value_at h)

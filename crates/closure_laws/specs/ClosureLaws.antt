@@ -1,5 +1,5 @@
--- The laws by which a closure is made of the closures of parts. (Bouillard, Boyer and Le Corronc: the closure of a
--- minimum is the convolution of the closures.)
+-- The laws by which a closure is made of the closures of parts. (Bouillard, Boyer and Le Corronc: the closure,
+-- with the sum of no value too, of a minimum is the convolution of theirs.)
 use Rattle.std.specs.Prelude.{◌≡◌, ℕ, pos}
 use Rattle.rational.specs.Rational.{ℚ, ◌+ℚ◌, ◌*ℚ◌, ◌≤ℚ◌, ◌<ℚ◌, int}
 use Rattle.rational.specs.Extended.{Ext, ◌≤ₑ◌, ◌+ₑ◌, min_ext}

@@ -7,7 +7,7 @@ use Rattle.net_cells.specs.Meanings.{Meaning, curve, number, CellTable}
 use Rattle.net_cells.specs.declared.cell.Kind.{Kind}
 use Rattle.net_cells.specs.Cells.{cell_of}
 
--- a whole number, or a fraction in lowest terms, or that nothing bounds
+-- a whole number, or a fraction in lowest terms, or `unbounded` for infinity
 abbrev pub number_text : Ext → List ℕ
 number_text Inf = codes "unbounded"
 number_text (Fin q) = text_of q

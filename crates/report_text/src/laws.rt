@@ -18,7 +18,7 @@ pub fn reports_agree()
     ensures { ReportsAgree }
 {}
 
-/// There is one report on a network that has an order, whatever table meets its equations.
+/// There is one report on an accepted network that has an order, whatever table meets its equations.
 pub fn equations_give_one_report()
     ensures { EquationsGiveOneReport }
 {}
