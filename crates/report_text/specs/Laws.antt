@@ -12,6 +12,7 @@ use Rattle.net_cells.specs.declared.cell.Kind.TheVariants.{QueueDelay, QueueBack
 use Rattle.net_cells.specs.Cells.{has_cell}
 use Rattle.net_cells.specs.Meanings.{number, CellTable}
 use Rattle.net_cells.specs.Equations.{MeetsEquations}
+use Rattle.report_text.specs.CellWords.{cell_words}
 use Rattle.report_text.specs.Shown.{number_text}
 use Rattle.report_text.specs.Report.{report_of}
 
@@ -64,3 +65,10 @@ abbrev pub EquationsGiveNumbers : Type 0
 EquationsGiveNumbers =
     (net : Net) (at : CellTable) → MeetsEquations net at
     → (c : Cell) → IsTrue (has_cell net c) → IsTrue (is_printed c.kind) → HasNumber at c
+
+-- ---- cells
+-- the words of a cell tell which of a network's cells it is
+abbrev pub WordsTellCells : Type 0
+WordsTellCells =
+    (net : Net) (c d : Cell) → IsAccepted net → IsTrue (has_cell net c) → IsTrue (has_cell net d)
+    → cell_words net c ≡ cell_words net d → c ≡ d

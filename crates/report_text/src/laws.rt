@@ -1,7 +1,7 @@
 //! Laws of the report. Each is the contract of a function that does nothing.
 
 ghost use Rattle.report_text.specs.Laws.{TextsTellNumbers, OnlyInfinityIsUnbounded, ReportsAgree};
-ghost use Rattle.report_text.specs.Laws.{EquationsGiveOneReport, EquationsGiveNumbers};
+ghost use Rattle.report_text.specs.Laws.{EquationsGiveOneReport, EquationsGiveNumbers, WordsTellCells};
 
 /// The text of a number tells the number.
 pub fn texts_tell_numbers()
@@ -26,4 +26,9 @@ pub fn equations_give_one_report()
 /// A table that meets the equations has a number at each cell that the report prints.
 pub fn equations_give_numbers()
     ensures { EquationsGiveNumbers }
+{}
+
+/// The words of a cell tell which of a network's cells it is.
+pub fn words_tell_cells()
+    ensures { WordsTellCells }
 {}

@@ -15,7 +15,7 @@ mod text;
 pub use cell_words::cell_text;
 pub use laws::{
     equations_give_numbers, equations_give_one_report, only_infinity_is_unbounded, reports_agree,
-    texts_tell_numbers,
+    texts_tell_numbers, words_tell_cells,
 };
 pub use refusal::{Refusal, refusal_text};
 pub use report::analysis_text;
