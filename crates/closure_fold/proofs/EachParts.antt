@@ -44,8 +44,8 @@ copies_hold e d c some low short = record {
         let until = short t k in
         let u = t +ℚ int (pos n) *ℚ d in
         let N : periods s d u ≡ n = periods_unique s d u n some
-            (with4 s d t (int (pos n) *ℚ d) (λ o. omega (arith, o.le, o.lt, o.same)))
-            (with4 s d t (int (pos n) *ℚ d) (λ o. omega (arith, o.le, o.lt, o.same))) in
+        (with4 s d t (int (pos n) *ℚ d) (λ o. omega (arith, o.le, o.lt, o.same)))
+        (with4 s d t (int (pos n) *ℚ d) (λ o. omega (arith, o.le, o.lt, o.same))) in
         let back : u -ℚ int (pos n) *ℚ d ≡ t = antisym (with2 t (int (pos n) *ℚ d) (λ o. omega (arith, o.le, o.lt, o.same))) in
         same_le_ext (repeated_at f s d c u ∙ ap (λ m. f (u -ℚ int (pos m) *ℚ d) +ₑ Fin (int (pos m) *ℚ c)) N
         ∙ ap (λ z. f z +ₑ Fin (int (pos n) *ℚ c)) back)

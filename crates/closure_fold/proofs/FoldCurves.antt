@@ -56,8 +56,8 @@ module _ (k : Copies) (some : zero_q <ℚ k.period) where
   lattice_at n =
       let t = int (pos n) *ℚ k.period in
       let N : periods zero_q k.period t ≡ n = periods_unique zero_q k.period t n some
-          (with2 t k.period (λ o. omega (arith, o.le, o.lt, o.same)))
-          (with2 t k.period (λ o. omega (arith, o.le, o.lt, o.same))) in
+      (with2 t k.period (λ o. omega (arith, o.le, o.lt, o.same)))
+      (with2 t k.period (λ o. omega (arith, o.le, o.lt, o.same))) in
       let here : t -ℚ t ≤ℚ zero_q = with1 t (λ o. omega (arith, o.le, o.lt, o.same)) in
       after t n N ∙ ap (λ z. z +ₑ Fin (int (pos n) *ℚ k.rise)) (lone_here (t -ℚ t) here) ∙ zero_add_ext (Fin (int (pos n) *ℚ k.rise))
 
