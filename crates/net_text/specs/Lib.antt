@@ -1,0 +1,6 @@
+pub mod Closing
+pub mod Becoming
+pub mod Built
+pub mod Firsts
+pub mod Reading
+pub mod Laws

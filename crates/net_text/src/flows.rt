@@ -1,0 +1,68 @@
+//! Flows.
+
+ghost use Rattle.std.specs.Prelude.{◌≡◌, ◌≤◌, List, map, length, All, IfOk, IfErr};
+ghost use Rattle.std.specs.List.{AllZip};
+ghost use Rattle.net_model.specs.Views.{flow_of, flows_of};
+ghost use Rattle.net_draft.specs.CurveTexts.{text_of};
+ghost use Rattle.net_draft.specs.Kept.{IsArrivalDraft};
+ghost use Rattle.net_draft.specs.Views.{flow_text};
+ghost use Rattle.net_text.specs.Becoming.{FailsAt};
+ghost use Rattle.net_text.specs.Built.{IsFlowOf, IsLiveFlowOf};
+ghost use Rattle.net_text.specs.Firsts.{arrival_place, arrivals_from, FailsFirst};
+
+use crate::arrivals::arrival_of;
+use net_draft::{DraftFault, FlowDraft, Hop};
+use net_model::Flow;
+use std::alloc::{AllocError, Global};
+use std::sync::ledger::Ledger;
+use steps::Steps;
+
+fn path_of(alloc: Global, hops: &[Hop]) -> Result<Vec<u32>, AllocError>
+    ensures { IfOk result (λ v. v.items ≡ map (λ h. h.server) hops.now) }
+{
+    hops.iter().map(|hop| hop.server).collect(alloc)
+}
+
+fn queues_of(alloc: Global, hops: &[Hop]) -> Result<Vec<u32>, AllocError>
+    ensures { IfOk result (λ v. v.items ≡ map (λ h. h.queue) hops.now) }
+{
+    hops.iter().map(|hop| hop.queue).collect(alloc)
+}
+
+fn flow_of<L: Ledger>(
+    alloc: Global,
+    number: usize,
+    draft: &FlowDraft,
+    steps: &mut Steps<L>,
+) -> Result<Flow, DraftFault>
+    requires { IsArrivalDraft draft.now.packet draft.now.arrival }
+    ensures built { IfOk result (λ f. IsFlowOf (flow_text draft.now) (flow_of f)) }
+    ensures over { IfErr result (FailsAt draft.now.closes (text_of draft.now.arrival.text) (arrival_place number)) }
+{
+    let arrival = arrival_of(alloc, number, draft, steps)?;
+    Ok(Flow {
+        name: draft.name.clone()?,
+        path: path_of(alloc, &draft.path)?,
+        queues: queues_of(alloc, &draft.path)?,
+        packet: draft.packet,
+        arrival,
+    })
+}
+
+/// The flows of a draft, or the fault of the first whose curve, or its closure, is over a limit.
+pub(crate) fn flows_of<L: Ledger>(
+    alloc: Global,
+    drafts: &[FlowDraft],
+    steps: &mut Steps<L>,
+) -> Result<Vec<Option<Flow>>, DraftFault>
+    requires { All (λ f. IsArrivalDraft f.packet f.arrival) drafts.now }
+    ensures built { IfOk result (λ v. AllZip IsLiveFlowOf (map flow_text drafts.now) (flows_of v.items)) }
+    ensures over { IfErr result (FailsFirst (arrivals_from 0 (map flow_text drafts.now))) }
+{
+    let mut flows = Vec::with_capacity(alloc, drafts.len())?;
+    for (number, draft) in drafts.iter().enumerate() {
+        let flow = flow_of(alloc, number, draft, steps)?;
+        flows.push(Some(flow))?;
+    }
+    Ok(flows)
+}
