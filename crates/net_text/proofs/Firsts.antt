@@ -53,3 +53,7 @@ after_services n (t ∷ ts) (s ∷ ss) more f z h = inr (record { curve = s.serv
 pub among_services : (es more : List PlacedCurve) (f : Fault) → FirstCurveOver es f → FirstCurveOver (es ++ more) f
 among_services [] more f h = absurd h
 among_services (e ∷ es) more f h = elim h [ inl over ↦ inl over | inr later ↦ inr (later.0, among_services es more f later.1) ]
+
+-- ---- the texts of what is left
+pub texts_more : (ds : List FlowDraft) (i : ℕ) (d : FlowDraft) → i < length ds → d ≡ get_or ds i d → map flow_text (drop i ds) ≡ flow_text d ∷ map flow_text (drop (i + 1) ds)
+texts_more ds i d within is = ap (map flow_text) (drop_more ds i d within ∙ ap (λ t. t ∷ drop (i + 1) ds) (sym is))

@@ -4,3 +4,4 @@ pub mod Accepted
 pub mod OneThing
 pub mod Files
 pub mod ClosedArrivals
+pub mod FoldSteps

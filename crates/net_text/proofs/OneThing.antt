@@ -35,14 +35,14 @@ one_limit c TooMany TooWide g h = absurd (omega (arith, g.0, h))
 one_limit c TooWide TooMany g h = absurd (omega (arith, g, h.0))
 one_limit c TooWide TooWide g h = refl
 
-one_made : (text : CurveText) (a b : SpecCurve) → IsCurveOf text a → IsCurveOf text b → a ≡ b
+pub one_made : (text : CurveText) (a b : SpecCurve) → IsCurveOf text a → IsCurveOf text b → a ≡ b
 one_made (Bucket burst rate) a b g h = g.made.1 ∙ sym h.made.1
 one_made (Stair packet period jitter) a b g h = g.made.1.0 ∙ sym h.made.1.0
 one_made (RateLatency rate latency) a b g h = g.made.1.0 ∙ sym h.made.1.0
 one_made (Gate rate cycle slot) a b g h = g.made.1.0 ∙ sym h.made.1.0
 one_made (Listed pieces tail use_as) a b g h = normal_unique a b g.curve.normal h.curve.normal (λ t late. g.made.1.0 t late ∙ sym (h.made.1.0 t late))
 
-made_or_over : (text : CurveText) (a : SpecCurve) (limit : OverLimit) → IsMade text (Ok a) → IsMade text (Err limit) → ⊥
+pub made_or_over : (text : CurveText) (a : SpecCurve) (limit : OverLimit) → IsMade text (Ok a) → IsMade text (Err limit) → ⊥
 made_or_over (Bucket burst rate) a limit g h = h
 made_or_over (Stair packet period jitter) a limit g h = over_or_within _ limit h.1 g.1.1
 made_or_over (RateLatency rate latency) a limit g h = over_or_within _ limit h.1 g.1.1

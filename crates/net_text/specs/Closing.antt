@@ -1,5 +1,5 @@
 -- What the closure of a curve answers.
-use Rattle.std.specs.Prelude.{Result, Ok, Err}
+use Rattle.std.specs.Prelude.{ℕ, Result, Ok, Err}
 use Rattle.rational.specs.Rational.{ℚ, ◌≤ℚ◌}
 use Rattle.upp_curve.specs.Curve.{SpecCurve, value_at}
 use Rattle.upp_curve.specs.Curves.{IsCurve}
@@ -13,6 +13,10 @@ use Rattle.upp_curve.specs.declared.op_kind.OpFault.TheVariants.{TooMany, TooWid
 -- PLACE HOLDER: the first operator of the fold that is over a limit is over this one (to come from subadd_closure)
 unfoldable pub FoldIsOver : SpecCurve → OverLimit → Type 0
 FoldIsOver f limit = ⊥
+
+-- PLACE HOLDER: how many operators the fold of the closure has (to come from subadd_closure)
+unfoldable pub fold_count : SpecCurve → ℕ
+fold_count f = 0
 
 -- a curve whose values are those of the closure
 pub record IsClosureOf (f c : SpecCurve) : Type 0 where

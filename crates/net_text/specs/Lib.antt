@@ -4,3 +4,4 @@ pub mod Built
 pub mod Firsts
 pub mod Reading
 pub mod Laws
+pub mod Folds

@@ -1,13 +1,14 @@
 //! Arrival curves, and their closures where they are asked for.
 
-ghost use Rattle.std.specs.Prelude.{Ok, IfOk, IfErr};
+ghost use Rattle.std.specs.Prelude.{◌≤◌, ◌+◌, ℕ, Ok, IfOk, IfErr};
 ghost use Rattle.upp_curve.specs.Curve.{value_at};
 ghost use Rattle.upp_curve.specs.Curves.{IsCurve};
 ghost use Rattle.upp_curve.specs.Functions.{IsFinite, IsNonnegative};
 ghost use Rattle.net_draft.specs.CurveTexts.{text_of};
 ghost use Rattle.net_draft.specs.Kept.{IsArrivalDraft};
 ghost use Rattle.net_text.specs.Becoming.{Becomes, FailsAt, FailsClosing};
-ghost use Rattle.net_text.specs.Closing.{Closes};
+ghost use Rattle.net_text.specs.Closing.{Closes, fold_count};
+ghost use Rattle.net_text.specs.Folds.{FoldOf};
 ghost use Rattle.net_text.specs.Firsts.{arrival_place};
 
 use crate::closing::close;
@@ -31,6 +32,7 @@ fn closure_of<L: Ledger>(
     ensures own { IsCurve curve.now }
     ensures closed { IfOk result (λ c. Closes curve.now (Ok c)) }
     ensures over { IfErr result (FailsClosing curve.now (arrival_place number)) }
+    ensures most { steps.new ≤ steps.old + fold_count curve.now }
 {
     let _pieces = curve.pieces();
     match close(alloc, curve, steps) {
@@ -63,6 +65,7 @@ pub(crate) fn arrival_of<L: Ledger>(
     requires { IsArrivalDraft flow.now.packet flow.now.arrival }
     ensures becomes { IfOk result (λ c. Becomes flow.now.closes (text_of flow.now.arrival.text) (Ok c)) }
     ensures over { IfErr result (FailsAt flow.now.closes (text_of flow.now.arrival.text) (arrival_place number)) }
+    ensures most { (k : ℕ) → FoldOf flow.now.closes (text_of flow.now.arrival.text) k → steps.new ≤ steps.old + k }
 {
     match &flow.arrival.made {
         Ok(curve) => {

@@ -1,9 +1,9 @@
 //! PLACE HOLDER for `subadd_closure::close`.
 
-ghost use Rattle.std.specs.Prelude.{◌≤◌};
+ghost use Rattle.std.specs.Prelude.{◌≤◌, ◌+◌};
 ghost use Rattle.upp_curve.specs.Curve.{value_at};
 ghost use Rattle.upp_curve.specs.Functions.{IsFinite, IsNonnegative};
-ghost use Rattle.net_text.specs.Closing.{KeepsClosing};
+ghost use Rattle.net_text.specs.Closing.{KeepsClosing, fold_count};
 
 use std::alloc::Global;
 use std::sync::ledger::Ledger;
@@ -18,7 +18,7 @@ pub(crate) fn close<L: Ledger>(
     requires finite { IsFinite (value_at f.now) }
     requires nonneg { IsNonnegative (value_at f.now) }
     ensures answer { KeepsClosing f.now result }
-    ensures least { steps.old ≤ steps.new }
+    ensures most { steps.new ≤ steps.old + fold_count f.now }
 {
     let _ = f;
     let _ = steps;

@@ -1,6 +1,6 @@
 //! Flows.
 
-ghost use Rattle.std.specs.Prelude.{◌≡◌, ◌≤◌, List, map, length, All, IfOk, IfErr};
+ghost use Rattle.std.specs.Prelude.{◌≡◌, ◌≤◌, ◌+◌, ℕ, map, All, IfOk, IfErr};
 ghost use Rattle.std.specs.List.{AllZip};
 ghost use Rattle.net_model.specs.Views.{flow_of, flows_of};
 ghost use Rattle.net_draft.specs.CurveTexts.{text_of};
@@ -8,6 +8,7 @@ ghost use Rattle.net_draft.specs.Kept.{IsArrivalDraft};
 ghost use Rattle.net_draft.specs.Views.{flow_text};
 ghost use Rattle.net_text.specs.Becoming.{FailsAt};
 ghost use Rattle.net_text.specs.Built.{IsFlowOf, IsLiveFlowOf};
+ghost use Rattle.net_text.specs.Folds.{FoldOf, FoldsOf};
 ghost use Rattle.net_text.specs.Firsts.{arrival_place, arrivals_from, FailsFirst};
 
 use crate::arrivals::arrival_of;
@@ -38,6 +39,7 @@ fn flow_of<L: Ledger>(
     requires { IsArrivalDraft draft.now.packet draft.now.arrival }
     ensures built { IfOk result (λ f. IsFlowOf (flow_text draft.now) (flow_of f)) }
     ensures over { IfErr result (FailsAt draft.now.closes (text_of draft.now.arrival.text) (arrival_place number)) }
+    ensures most { (k : ℕ) → FoldOf draft.now.closes (text_of draft.now.arrival.text) k → steps.new ≤ steps.old + k }
 {
     let arrival = arrival_of(alloc, number, draft, steps)?;
     Ok(Flow {
@@ -58,6 +60,7 @@ pub(crate) fn flows_of<L: Ledger>(
     requires { All (λ f. IsArrivalDraft f.packet f.arrival) drafts.now }
     ensures built { IfOk result (λ v. AllZip IsLiveFlowOf (map flow_text drafts.now) (flows_of v.items)) }
     ensures over { IfErr result (FailsFirst (arrivals_from 0 (map flow_text drafts.now))) }
+    ensures most { (t : ℕ) → FoldsOf (map flow_text drafts.now) t → steps.new ≤ steps.old + t }
 {
     let mut flows = Vec::with_capacity(alloc, drafts.len())?;
     for (number, draft) in drafts.iter().enumerate() {

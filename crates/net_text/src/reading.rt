@@ -2,6 +2,7 @@
 
 ghost use Rattle.std.specs.Prelude.{IfOk, IfErr};
 ghost use Rattle.net_text.specs.Becoming.{IsTold};
+ghost use Rattle.net_text.specs.Folds.{StepsAtMost};
 ghost use Rattle.net_text.specs.Reading.{IsNetworkOf, IsAnswered, FailsFile};
 
 use crate::flows::flows_of;
@@ -31,6 +32,7 @@ fn network_of<L: Ledger>(
 ) -> Result<Network, DraftFault>
     ensures network { IfOk result (IsNetworkOf text.now) }
     ensures fault { IfErr result (FailsFile text.now) }
+    ensures most { StepsAtMost text.now steps.old steps.new }
 {
     let draft = read_draft(alloc, text)?;
     let servers = servers_of(alloc, &draft.servers)?;
@@ -40,6 +42,7 @@ fn network_of<L: Ledger>(
 
 /// The network that the bytes of a file give, or its first fault: of its tables in their order, and past them of the
 /// first curve that is over a limit, services of servers in order, then arrivals of flows, each before its closure.
+/// It takes at most the steps of the folds of the closures that the file asks for.
 /// Only where an allocation was refused the kind is `NoMemory`, with no place.
 pub fn read_network<L: Ledger>(
     alloc: Global,
@@ -48,6 +51,7 @@ pub fn read_network<L: Ledger>(
 ) -> Result<Network, NetFault>
     ensures network { IfOk result (IsNetworkOf text.now) }
     ensures fault { IfErr result (IsAnswered text.now) }
+    ensures most { StepsAtMost text.now steps.old steps.new }
 {
     match network_of(alloc, text, steps) {
         Ok(network) => Ok(network),

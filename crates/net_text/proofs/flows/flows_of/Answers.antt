@@ -8,7 +8,8 @@ use Rattle.net_draft.specs.Kept.{IsArrivalDraft}
 use Rattle.net_draft.specs.Views.{flow_text}
 use Rattle.net_text.specs.Built.{IsFlowOf, IsLiveFlowOf}
 use Rattle.net_text.specs.Firsts.{arrivals_from}
-use Rattle.net_text.proofs.Firsts.{goes_on, stops, arrival_entry, arrivals_more}
+use Rattle.net_text.proofs.Firsts.{goes_on, stops, arrival_entry, arrivals_more, texts_more}
+use Rattle.net_text.proofs.FoldSteps.{spends_more, spent}
 use Rattle.net_text.proofs.Zips.{zip_more, zip_whole}
 use Rattle.net_text.proofs.flows.flows_of.Goals as goal
 
@@ -39,7 +40,31 @@ loop-number-preserved g c =
       built = rw views (zip_more IsLiveFlowOf flow_text ds i d (map (option_map flow_of) xs) (Some (flow_of f)) c.loop-number-test.true c.index-drafts-number.is c.loop-number.invariant.built live);
       leads = goes_on (arrivals_from i (map flow_text (drop i ds))) (arrivals_from 0 (map flow_text ds)) (arrival_entry i d) (arrivals_from (i + 1) (map flow_text (drop (i + 1) ds)))
           (arrivals_more ds i d c.loop-number-test.true c.index-drafts-number.is) (record { curve = (flow_of f).arrival; is = c.in_ok-flow.ensures.built.arrival }) c.loop-number.invariant.leads;
+      spends = spends_more (map flow_text ds) (map flow_text (drop i ds)) (flow_text d) (map flow_text (drop (i + 1) ds)) c.args.steps.now c.loop-number.steps c.flow_of.new.steps
+          (texts_more ds i d c.loop-number-test.true c.index-drafts-number.is) c.in_ok-flow.ensures.most c.loop-number.invariant.spends;
     }
+
+pub returns-in_err-flow-clause-most : goal.returns-in_err-flow-clause-most
+returns-in_err-flow-clause-most g c =
+    let ds = c.args.drafts.now in
+    let i = c.loop-number.number in
+    let d = c.index-drafts-number.result in
+    let spends = spends_more (map flow_text ds) (map flow_text (drop i ds)) (flow_text d) (map flow_text (drop (i + 1) ds)) c.args.steps.now c.loop-number.steps c.flow_of.new.steps
+    (texts_more ds i d c.loop-number-test.true c.index-drafts-number.is) c.in_err-flow.ensures.most c.loop-number.invariant.spends in
+    spent (map flow_text ds) (map flow_text (drop (i + 1) ds)) c.args.steps.now c.flow_of.new.steps spends
+
+pub returns-in_err-push-clause-most : goal.returns-in_err-push-clause-most
+returns-in_err-push-clause-most g c =
+    let ds = c.args.drafts.now in
+    let i = c.loop-number.number in
+    let d = c.index-drafts-number.result in
+    let spends = spends_more (map flow_text ds) (map flow_text (drop i ds)) (flow_text d) (map flow_text (drop (i + 1) ds)) c.args.steps.now c.loop-number.steps c.flow_of.new.steps
+    (texts_more ds i d c.loop-number-test.true c.index-drafts-number.is) c.in_ok-flow.ensures.most c.loop-number.invariant.spends in
+    spent (map flow_text ds) (map flow_text (drop (i + 1) ds)) c.args.steps.now c.flow_of.new.steps spends
+
+pub returns-clause-most : goal.returns-clause-most
+returns-clause-most g c =
+    spent (map flow_text c.args.drafts.now) (map flow_text (drop c.loop-number.number c.args.drafts.now)) c.args.steps.now c.loop-number.steps c.loop-number.invariant.spends
 
 pub returns-clause-built : goal.returns-clause-built
 returns-clause-built g c =

@@ -1,5 +1,5 @@
 use Rattle.std.specs.List.{AllZip}
-use Rattle.std.proofs.Common.{map, sym, subst}
+use Rattle.std.proofs.Common.{ℕ, ◌+◌, ◌≤◌, map, refl, sym, subst}
 use Rattle.std.proofs.lemmas.Result.{err_from_is_err_and}
 use Rattle.net_model.specs.Views.{servers_of, flows_of, net_of}
 use Rattle.net_draft.specs.DraftViews.{draft_text}
@@ -7,6 +7,8 @@ use Rattle.net_draft.specs.Views.{server_text, flow_text}
 use Rattle.net_text.specs.Built.{IsServerOf, IsLiveFlowOf, IsBuilt}
 use Rattle.net_text.specs.Firsts.{services_from, arrivals_from, FailsFirst}
 use Rattle.net_text.proofs.Accepted.{accepted}
+use Rattle.net_text.specs.Folds.{FoldsOf}
+use Rattle.net_text.proofs.FoldSteps.{no_steps, fold_steps}
 use Rattle.net_text.proofs.Files.{servers_fail, flows_fail}
 use Rattle.net_text.proofs.reading.network_of.Goals as goal
 
@@ -35,3 +37,19 @@ returns-in_err-flows-clause-fault g c =
     let over = subst (λ ds. FailsFirst (arrivals_from 0 (map flow_text ds)) e) c.deref-2.ensures.value c.in_err-flows.ensures.over in
     let built = subst (λ ds. AllZip IsServerOf (map server_text ds) (servers_of c.in_ok-servers.servers.items)) c.deref.ensures.value c.in_ok-servers.ensures.built in
     rw (p.1, p.2) (flows_fail c.args.text.now (draft_text c.in_ok-draft.draft) e (servers_of c.in_ok-servers.servers.items) c.in_ok-draft.ensures.value built over)
+
+pub returns-in_err-draft-clause-most : goal.returns-in_err-draft-clause-most
+returns-in_err-draft-clause-most g c = no_steps c.args.text.now c.args.steps.now c.args.steps.now refl
+
+pub returns-in_err-servers-clause-most : goal.returns-in_err-servers-clause-most
+returns-in_err-servers-clause-most g c = no_steps c.args.text.now c.args.steps.now c.args.steps.now refl
+
+pub returns-in_err-flows-clause-most : goal.returns-in_err-flows-clause-most
+returns-in_err-flows-clause-most g c =
+    let most = subst (λ ds. (t : ℕ) → FoldsOf (map flow_text ds) t → c.flows_of.new.steps ≤ c.args.steps.now + t) c.deref-2.ensures.value c.in_err-flows.ensures.most in
+    fold_steps c.args.text.now (draft_text c.in_ok-draft.draft) c.args.steps.now c.flows_of.new.steps c.in_ok-draft.ensures.value most
+
+pub returns-clause-most : goal.returns-clause-most
+returns-clause-most g c =
+    let most = subst (λ ds. (t : ℕ) → FoldsOf (map flow_text ds) t → c.flows_of.new.steps ≤ c.args.steps.now + t) c.deref-2.ensures.value c.in_ok-flows.ensures.most in
+    fold_steps c.args.text.now (draft_text c.in_ok-draft.draft) c.args.steps.now c.flows_of.new.steps c.in_ok-draft.ensures.value most
