@@ -9,6 +9,8 @@ mod limits;
 mod reading;
 mod servers;
 mod services;
+#[cfg(test)]
+mod tests;
 
 pub use laws::each_file_says_one_thing;
 pub use reading::read_network;
