@@ -24,20 +24,22 @@ abbrev pub BecomesItself : CurveText → Result SpecCurve OverLimit → Type 0
 BecomesItself text (Ok c) = IsCurveOf text c
 BecomesItself text (Err limit) = IsMade text (Err limit)
 
--- what its closure answers
-pub record ClosesMade (text : CurveText) (r : Result SpecCurve OverLimit) : Type 0 where
-  pub made : SpecCurve
-  pub is : IsCurveOf text made
-  pub closes : Closes made r
+-- where closures are made by folds of which Over says which limit they are over
+module _ (Over : SpecCurve → OverLimit → Type 0) where
+  -- what its closure answers
+  pub record ClosesMade (text : CurveText) (r : Result SpecCurve OverLimit) : Type 0 where
+    pub made : SpecCurve
+    pub is : IsCurveOf text made
+    pub closes : Closes Over made r
 
--- the closure in the place of the curve; a limit is the curve's own, or that of the fold of its closure
-abbrev pub BecomesClosed : CurveText → Result SpecCurve OverLimit → Type 0
-BecomesClosed text (Ok closed) = ClosesMade text (Ok closed)
-BecomesClosed text (Err limit) = IsMade text (Err limit) ⊎ ClosesMade text (Err limit)
+  -- the closure in the place of the curve; a limit is the curve's own, or that of the fold of its closure
+  abbrev pub BecomesClosed : CurveText → Result SpecCurve OverLimit → Type 0
+  BecomesClosed text (Ok closed) = ClosesMade text (Ok closed)
+  BecomesClosed text (Err limit) = IsMade text (Err limit) ⊎ ClosesMade text (Err limit)
 
-abbrev pub Becomes : Bool → CurveText → Result SpecCurve OverLimit → Type 0
-Becomes false text = BecomesItself text
-Becomes true text = BecomesClosed text
+  abbrev pub Becomes : Bool → CurveText → Result SpecCurve OverLimit → Type 0
+  Becomes false text = BecomesItself text
+  Becomes true text = BecomesClosed text
 
 -- ---- faults
 abbrev pub limit_kind : OverLimit → NetKind
@@ -48,28 +50,19 @@ limit_kind TooWide = CurveTooWide
 abbrev pub limit_fault : OverLimit → List ℕ → Fault
 limit_fault limit place = record { kind = limit_kind limit; place = place }
 
--- the curve of this text is over a limit, and the fault says which, and where
-pub record IsOverAt (closes : Bool) (text : CurveText) (place : List ℕ) (f : Fault) : Type 0 where
+-- what becomes of a curve is that it is over a limit, and the fault says which, and where
+pub record IsOverAt (Answers : Result SpecCurve OverLimit → Type 0) (place : List ℕ) (f : Fault) : Type 0 where
   pub limit : OverLimit
-  pub over : Becomes closes text (Err limit)
+  pub over : Answers (Err limit)
   pub is : f ≡ limit_fault limit place
 
-abbrev pub FailsAt : Bool → CurveText → List ℕ → DraftFault → Type 0
-FailsAt closes text place answers.NoMemory = Unit {0}
-FailsAt closes text place (answers.Fault f) = IsOverAt closes text place (fault_of f)
+-- the same of a fault that may be want of memory
+abbrev pub FailsAt : (Result SpecCurve OverLimit → Type 0) → List ℕ → DraftFault → Type 0
+FailsAt Answers place answers.NoMemory = Unit {0}
+FailsAt Answers place (answers.Fault f) = IsOverAt Answers place (fault_of f)
 
 -- ---- answers
 -- the fault that a caller is told
 abbrev pub IsTold : DraftFault → NetFault → Type 0
 IsTold answers.NoMemory f = f.kind ≡ NoMemory
 IsTold (answers.Fault g) f = f ≡ g
-
--- the fold of a curve's closure is over a limit, and the fault says which, and where
-pub record IsFoldOver (f : SpecCurve) (place : List ℕ) (fault : Fault) : Type 0 where
-  pub limit : OverLimit
-  pub over : Closes f (Err limit)
-  pub is : fault ≡ limit_fault limit place
-
-abbrev pub FailsClosing : SpecCurve → List ℕ → DraftFault → Type 0
-FailsClosing f place answers.NoMemory = Unit {0}
-FailsClosing f place (answers.Fault g) = IsFoldOver f place (fault_of g)

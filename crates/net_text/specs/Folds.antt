@@ -7,23 +7,12 @@ use Rattle.net_draft.specs.Faults.{Fault}
 use Rattle.net_draft.specs.Made.{IsMade}
 use Rattle.net_draft.specs.Texts.{CurveText, FlowText, DraftText}
 use Rattle.net_text.specs.Becoming.{IsCurveOf}
-use Rattle.net_text.specs.Closing.{fold_count}
-
--- the operators of the fold of a text's curve
-pub record FoldOfCurve (text : CurveText) (count : ℕ) : Type 0 where
-  pub curve : SpecCurve
-  pub is : IsCurveOf text curve
-  pub count_is : count ≡ fold_count curve
 
 -- a curve that is over a limit has no fold
 pub record NoFold (text : CurveText) (count : ℕ) : Type 0 where
   pub limit : OverLimit
   pub over : IsMade text (Err limit)
   pub count_is : count ≡ 0
-
-abbrev pub FoldOf : Bool → CurveText → ℕ → Type 0
-FoldOf false text count = count ≡ 0
-FoldOf true text count = FoldOfCurve text count ⊎ NoFold text count
 
 -- a sum of two
 pub record IsSumOf (First Rest : ℕ → Type 0) (total : ℕ) : Type 0 where
@@ -33,12 +22,28 @@ pub record IsSumOf (First Rest : ℕ → Type 0) (total : ℕ) : Type 0 where
   pub is_rest : Rest rest
   pub sum : total ≡ first + rest
 
--- those of all flows
-abbrev pub FoldsOf : List FlowText → ℕ → Type 0
-FoldsOf [] total = total ≡ 0
-FoldsOf (f ∷ fs) total = IsSumOf (FoldOf f.closes f.arrival) (FoldsOf fs) total
+-- where the fold of a curve has so many operators
+module _ (operators : SpecCurve → ℕ) where
+  -- the operators of the fold of a text's curve
+  pub record FoldOfCurve (text : CurveText) (count : ℕ) : Type 0 where
+    pub curve : SpecCurve
+    pub is : IsCurveOf text curve
+    pub count_is : count ≡ operators curve
 
--- reading takes no more steps than these; none where there is no draft
-pub record StepsAtMost (bytes : List ℕ) (before after : ℕ) : Type 0 where
-  pub drafted : (d : DraftText) (total : ℕ) → draft_of bytes ≡ Ok d → FoldsOf d.flows total → after ≤ before + total
-  pub refused : (f : Fault) → draft_of bytes ≡ Err f → after ≡ before
+  abbrev pub FoldOf : Bool → CurveText → ℕ → Type 0
+  FoldOf false text count = count ≡ 0
+  FoldOf true text count = FoldOfCurve text count ⊎ NoFold text count
+
+  -- one arrival takes no more steps than these
+  abbrev pub FoldAtMost : Bool → CurveText → ℕ → ℕ → Type 0
+  FoldAtMost closes text before after = (count : ℕ) → FoldOf closes text count → after ≤ before + count
+
+  -- those of all flows
+  abbrev pub FoldsOf : List FlowText → ℕ → Type 0
+  FoldsOf [] total = total ≡ 0
+  FoldsOf (f ∷ fs) total = IsSumOf (FoldOf f.closes f.arrival) (FoldsOf fs) total
+
+  -- reading takes no more steps than these; none where there is no draft
+  pub record StepsAtMost (bytes : List ℕ) (before after : ℕ) : Type 0 where
+    pub drafted : (d : DraftText) (total : ℕ) → draft_of bytes ≡ Ok d → FoldsOf d.flows total → after ≤ before + total
+    pub refused : (f : Fault) → draft_of bytes ≡ Err f → after ≡ before

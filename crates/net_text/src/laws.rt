@@ -2,7 +2,9 @@
 
 ghost use Rattle.net_text.specs.Laws.{EachFileSaysOneThing};
 
-/// A file says one thing: one network, or one first fault, and not both.
-pub fn each_file_says_one_thing()
-    ensures { EachFileSaysOneThing }
+use crate::closer::Closer;
+
+/// A file says one thing, by what makes closures: one network, or one first fault, and not both.
+pub fn each_file_says_one_thing<C: Closer>()
+    ensures { EachFileSaysOneThing C.over }
 {}

@@ -2,15 +2,14 @@
 #![tactic(auto)]
 
 mod arrivals;
-mod closing;
+mod closer;
 mod flows;
 mod laws;
 mod limits;
 mod reading;
 mod servers;
 mod services;
-#[cfg(test)]
-mod tests;
 
+pub use closer::Closer;
 pub use laws::each_file_says_one_thing;
 pub use reading::read_network;

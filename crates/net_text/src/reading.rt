@@ -5,6 +5,7 @@ ghost use Rattle.net_text.specs.Becoming.{IsTold};
 ghost use Rattle.net_text.specs.Folds.{StepsAtMost};
 ghost use Rattle.net_text.specs.Reading.{IsNetworkOf, IsAnswered, FailsFile};
 
+use crate::closer::Closer;
 use crate::flows::flows_of;
 use crate::servers::servers_of;
 use net_draft::{DraftFault, read_draft};
@@ -25,18 +26,19 @@ fn told(alloc: Global, fault: DraftFault) -> NetFault
     }
 }
 
-fn network_of<L: Ledger>(
+fn network_of<C: Closer, L: Ledger>(
     alloc: Global,
+    closer: &C,
     text: &[u8],
     steps: &mut Steps<L>,
 ) -> Result<Network, DraftFault>
-    ensures network { IfOk result (IsNetworkOf text.now) }
-    ensures fault { IfErr result (FailsFile text.now) }
-    ensures most { StepsAtMost text.now steps.old steps.new }
+    ensures network { IfOk result (IsNetworkOf C.over text.now) }
+    ensures fault { IfErr result (FailsFile C.over text.now) }
+    ensures most { StepsAtMost C.operators text.now steps.old steps.new }
 {
     let draft = read_draft(alloc, text)?;
-    let servers = servers_of(alloc, &draft.servers)?;
-    let flows = flows_of(alloc, &draft.flows, steps)?;
+    let servers = servers_of::<C>(alloc, &draft.servers)?;
+    let flows = flows_of(alloc, closer, &draft.flows, steps)?;
     Ok(Network::new(servers, flows))
 }
 
@@ -44,16 +46,17 @@ fn network_of<L: Ledger>(
 /// first curve that is over a limit, services of servers in order, then arrivals of flows, each before its closure.
 /// It takes at most the steps of the folds of the closures that the file asks for.
 /// Only where an allocation was refused the kind is `NoMemory`, with no place.
-pub fn read_network<L: Ledger>(
+pub fn read_network<C: Closer, L: Ledger>(
     alloc: Global,
+    closer: &C,
     text: &[u8],
     steps: &mut Steps<L>,
 ) -> Result<Network, NetFault>
-    ensures network { IfOk result (IsNetworkOf text.now) }
-    ensures fault { IfErr result (IsAnswered text.now) }
-    ensures most { StepsAtMost text.now steps.old steps.new }
+    ensures network { IfOk result (IsNetworkOf C.over text.now) }
+    ensures fault { IfErr result (IsAnswered C.over text.now) }
+    ensures most { StepsAtMost C.operators text.now steps.old steps.new }
 {
-    match network_of(alloc, text, steps) {
+    match network_of(alloc, closer, text, steps) {
         Ok(network) => Ok(network),
         Err(fault) => Err(told(alloc, fault)),
     }

@@ -1,11 +1,11 @@
 //! Service curves.
 
-ghost use Rattle.std.specs.Prelude.{◌≡◌, IfOk, IfErr, false};
+ghost use Rattle.std.specs.Prelude.{◌≡◌, IfOk, IfErr};
 ghost use Rattle.net_draft.specs.CurveTexts.{text_of};
 ghost use Rattle.net_draft.specs.Kept.{IsMadeDraft};
 ghost use Rattle.net_draft.specs.Laws.{kind_of};
 ghost use Rattle.upp_curve.specs.Curves.{IsCurve};
-ghost use Rattle.net_text.specs.Becoming.{IsCurveOf, FailsAt};
+ghost use Rattle.net_text.specs.Becoming.{IsCurveOf, BecomesItself, FailsAt};
 ghost use Rattle.net_text.specs.Firsts.{service_place};
 
 use crate::limits::limit_fault;
@@ -49,7 +49,7 @@ pub(crate) fn service_of(
 ) -> Result<Curve, DraftFault>
     requires { IsMadeDraft draft.now }
     ensures made { IfOk result (IsCurveOf (text_of draft.now.text)) }
-    ensures over { IfErr result (FailsAt false (text_of draft.now.text) (service_place number)) }
+    ensures over { IfErr result (FailsAt (BecomesItself (text_of draft.now.text)) (service_place number)) }
 {
     match &draft.made {
         Ok(curve) => Ok(copy_of(curve)?),

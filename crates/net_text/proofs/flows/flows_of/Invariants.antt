@@ -10,7 +10,7 @@ use Rattle.net_text.proofs.flows.flows_of.Given as goal
 
 abbrev pub invariant-loop-number : goal.invariant-loop-number
 invariant-loop-number g l = record {
-  built : AllZip IsLiveFlowOf (map flow_text (take l.number l.drafts)) (flows_of l.flows.items);
-  leads : Leads (arrivals_from l.number (map flow_text (drop l.number l.drafts))) (arrivals_from 0 (map flow_text l.drafts));
-  spends : Spends (map flow_text l.drafts) (map flow_text (drop l.number l.drafts)) l.fn.steps l.steps;
+  built : AllZip (IsLiveFlowOf g.C.Closer.over) (map flow_text (take l.number l.drafts)) (flows_of l.flows.items);
+  leads : Leads g.C.Closer.over (arrivals_from l.number (map flow_text (drop l.number l.drafts))) (arrivals_from 0 (map flow_text l.drafts));
+  spends : Spends g.C.Closer.operators (map flow_text l.drafts) (map flow_text (drop l.number l.drafts)) l.fn.steps l.steps;
 }

@@ -8,7 +8,7 @@ use Rattle.net_text.proofs.Firsts.{Leads}
 use Rattle.net_text.proofs.servers.servers_of.Given as goal
 
 abbrev pub invariant-loop-number : goal.invariant-loop-number
-invariant-loop-number l = record {
+invariant-loop-number g l = record {
   built : AllZip IsServerOf (map server_text (take l.number l.drafts)) (servers_of l.servers.items);
-  leads : Leads (services_from l.number (map server_text (drop l.number l.drafts))) (services_from 0 (map server_text l.drafts));
+  leads : Leads g.C.Closer.over (services_from l.number (map server_text (drop l.number l.drafts))) (services_from 0 (map server_text l.drafts));
 }
