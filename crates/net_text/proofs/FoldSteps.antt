@@ -1,0 +1,54 @@
+-- Steps of the closures of some flows, as a loop counts them.
+use Rattle.std.proofs.Common.{◌≡◌, ℕ, ◌+◌, ◌≤◌, ◌⊎◌, Bool, true, false, List, [], ◌∷◌, Ok, Err, sym, ap, ◌∙◌, subst, arith, inl, inr, true≢false}
+use Rattle.upp_curve.specs.Curve.{SpecCurve}
+use Rattle.net_draft.specs.Drafts.{draft_of}
+use Rattle.net_draft.specs.Faults.{Fault, Read}
+use Rattle.net_draft.specs.Texts.{CurveText, FlowText, DraftText}
+use Rattle.net_text.specs.Becoming.{IsCurveOf}
+use Rattle.net_text.specs.Folds.{FoldOf, FoldsOf, IsSumOf, StepsAtMost}
+use Rattle.net_text.proofs.OneThing.{one_made, made_or_over}
+
+-- ---- drafts
+same_draft : (d e : DraftText) → (let r : Read DraftText = Ok d in r) ≡ Ok e → d ≡ e
+same_draft d e h = cc
+
+draft_or_fault : (d : DraftText) (f : Fault) → (let r : Read DraftText = Ok d in r) ≡ Err f → ⊥
+draft_or_fault d f h = cc
+
+-- where the fold of a curve has so many operators
+module _ (operators : SpecCurve → ℕ) where
+  -- the curve that was made is the one whose fold counts
+  pub fold_is : (closes : Bool) (text : CurveText) (c : SpecCurve) (k : ℕ) → closes ≡ true → IsCurveOf text c → FoldOf operators closes text k → k ≡ operators c
+  fold_is false text c k e is h = absurd (true≢false (sym e))
+  fold_is true text c k e is (inl h) = h.count_is ∙ ap operators (one_made text h.curve c h.is is)
+  fold_is true text c k e is (inr h) = absurd (made_or_over text c h.limit is.made h.over)
+
+  -- what is left of the whole number of steps
+  pub record StepsLeft (fs : List FlowText) (before now total : ℕ) : Type 0 where
+    pub rest : ℕ
+    pub folds : FoldsOf operators fs rest
+    pub within : now + rest ≤ before + total
+
+  abbrev pub Spends : List FlowText → List FlowText → ℕ → ℕ → Type 0
+  Spends whole left before now = (total : ℕ) → FoldsOf operators whole total → StepsLeft left before now total
+
+  pub spends_more : (whole left : List FlowText) (f : FlowText) (fs : List FlowText) (before now after : ℕ) → left ≡ f ∷ fs → ((k : ℕ) → FoldOf operators f.closes f.arrival k → after ≤ now + k) → Spends whole left before now
+      → Spends whole fs before after
+  spends_more whole left f fs before now after same most spends = λ total folds.
+      let l = spends total folds in
+      let s : IsSumOf (FoldOf operators f.closes f.arrival) (FoldsOf operators fs) l.rest = subst (λ gs. FoldsOf operators gs l.rest) same l.folds in
+      let first = most s.first s.is_first in
+      record { rest = s.rest; folds = s.is_rest; within = omega (arith, l.within, s.sum, first) }
+
+  pub spent : (whole left : List FlowText) (before now : ℕ) → Spends whole left before now → (total : ℕ) → FoldsOf operators whole total → now ≤ before + total
+  spent whole left before now spends total folds = omega (arith, (spends total folds).within)
+
+  -- ---- files
+  pub no_steps : (bytes : List ℕ) (before after : ℕ) → after ≡ before → StepsAtMost operators bytes before after
+  no_steps bytes before after e = record { drafted = λ d total is folds. omega (arith, e); refused = λ f h. e }
+
+  pub fold_steps : (bytes : List ℕ) (d : DraftText) (before after : ℕ) → draft_of bytes ≡ Ok d → ((total : ℕ) → FoldsOf operators d.flows total → after ≤ before + total) → StepsAtMost operators bytes before after
+  fold_steps bytes d before after is most = record {
+    drafted = λ e total other folds. most total (subst (λ (x : DraftText). FoldsOf operators x.flows total) (same_draft e d (sym other ∙ is)) folds);
+    refused = λ f h. absurd (draft_or_fault d f (sym is ∙ h));
+  }

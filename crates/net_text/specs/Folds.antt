@@ -1,0 +1,49 @@
+-- How many steps reading may take: the operators of the folds of the closures that a file asks for. Own choice.
+use Rattle.std.specs.Prelude.{◌≡◌, ◌⊎◌, ◌+◌, ◌≤◌, ℕ, List, [], ◌∷◌, Bool, true, false, Ok, Err}
+use Rattle.upp_curve.specs.Curve.{SpecCurve}
+use Rattle.upp_curve.specs.declared.own_limits.OverLimit.{OverLimit}
+use Rattle.net_draft.specs.Drafts.{draft_of}
+use Rattle.net_draft.specs.Faults.{Fault}
+use Rattle.net_draft.specs.Made.{IsMade}
+use Rattle.net_draft.specs.Texts.{CurveText, FlowText, DraftText}
+use Rattle.net_text.specs.Becoming.{IsCurveOf}
+
+-- a curve that is over a limit has no fold
+pub record NoFold (text : CurveText) (count : ℕ) : Type 0 where
+  pub limit : OverLimit
+  pub over : IsMade text (Err limit)
+  pub count_is : count ≡ 0
+
+-- a sum of two
+pub record IsSumOf (First Rest : ℕ → Type 0) (total : ℕ) : Type 0 where
+  pub first : ℕ
+  pub rest : ℕ
+  pub is_first : First first
+  pub is_rest : Rest rest
+  pub sum : total ≡ first + rest
+
+-- where the fold of a curve has so many operators
+module _ (operators : SpecCurve → ℕ) where
+  -- the operators of the fold of a text's curve
+  pub record FoldOfCurve (text : CurveText) (count : ℕ) : Type 0 where
+    pub curve : SpecCurve
+    pub is : IsCurveOf text curve
+    pub count_is : count ≡ operators curve
+
+  abbrev pub FoldOf : Bool → CurveText → ℕ → Type 0
+  FoldOf false text count = count ≡ 0
+  FoldOf true text count = FoldOfCurve text count ⊎ NoFold text count
+
+  -- one arrival takes no more steps than these
+  abbrev pub FoldAtMost : Bool → CurveText → ℕ → ℕ → Type 0
+  FoldAtMost closes text before after = (count : ℕ) → FoldOf closes text count → after ≤ before + count
+
+  -- those of all flows
+  abbrev pub FoldsOf : List FlowText → ℕ → Type 0
+  FoldsOf [] total = total ≡ 0
+  FoldsOf (f ∷ fs) total = IsSumOf (FoldOf f.closes f.arrival) (FoldsOf fs) total
+
+  -- reading takes no more steps than these; none where there is no draft
+  pub record StepsAtMost (bytes : List ℕ) (before after : ℕ) : Type 0 where
+    pub drafted : (d : DraftText) (total : ℕ) → draft_of bytes ≡ Ok d → FoldsOf d.flows total → after ≤ before + total
+    pub refused : (f : Fault) → draft_of bytes ≡ Err f → after ≡ before
