@@ -1,18 +1,21 @@
 -- What the two ways of setting the value at 0 of a convolution's window answer.
-use Rattle.std.specs.Prelude.{◌≡◌, ◌*◌, pos, List}
-use Prim.Native.Nat.{◌∣◌, dvd-mul_left, mul-dvd-mul_right}
-use native.Mathlib.Nat.{dvd_refl}
+use Rattle.std.specs.Prelude.{◌≡◌, ℕ, ◌*◌, pos, List, Ok}
+use Prim.Native.Nat.{◌∣◌}
+use native.Mathlib.Nat.{dvd-mul_left, dvd_refl, mul-dvd-mul_right}
 use Rattle.std.proofs.Common.{arith, sym, refl, ◌∙◌, subst, inl, inr}
 use Rattle.rational.specs.Rational.{ℚ, neg_ℚ, ◌+ℚ◌, ◌-ℚ◌, ◌*ℚ◌, ◌≤ℚ◌, ◌<ℚ◌, int}
-use Rattle.rational.specs.Extended.{Ext}
+use Rattle.rational.specs.Extended.{Ext, ◌+ₑ◌}
 use Rattle.rational.specs.Grid.{Whole}
 use Rattle.rational.specs.declared.Extended.TheVariants.{Fin, Inf}
+use Rattle.rational.proofs.Bounds.{infimum_unique}
 use Rattle.rational.proofs.Grid.{whole_sub, whole_neg, whole_weaken, within_nonneg, within_neg, within_weaken}
 use Rattle.rational.proofs.Laws.{le_refl, le_of_lt, le_trans}
 use Rattle.rational.proofs.Linear.{with2, with3}
 use Rattle.affine_segment.specs.declared.line.Piece.{Piece}
-use Rattle.upp_curve.specs.Convolution.{IsConvolution}
+use Rattle.upp_curve.specs.declared.op_kind.OpKind.TheVariants.{Convolve}
+use Rattle.upp_curve.specs.Convolution.{IsConvolution, Split}
 use Rattle.upp_curve.specs.Curve.{SpecCurve, value_at, repeated}
+use Rattle.upp_curve.specs.Curves.{IsCurve}
 use Rattle.upp_curve.specs.Fitting.{ReadFits}
 use Rattle.upp_curve.specs.Functions.{zero_q, IsNonnegative}
 use Rattle.upp_curve.specs.Limits.{Sizes}
@@ -32,10 +35,11 @@ use Rattle.curve_conv.specs.SumWindows.{SumValueAt}
 use Rattle.curve_conv.proofs.SumRoom.{pieces_room}
 use Rattle.curve_conv.proofs.SumSteps.{sum_read}
 use Rattle.curve_frame.specs.declared.frame.Frame.{Frame}
+use Rattle.curve_making.specs.Calls.{IsApplied}
 use Rattle.curve_least.proofs.LeastNumber.{ext_cases}
 use Rattle.closure_fold.specs.Starting.{first_at, started_at, KeepsTail, IsStartedAt}
 use Rattle.closure_fold.proofs.Starts.{repeated_past, repeated_zero, repeats_on}
-use Rattle.closure_start.specs.StartsAt.{ConvolvesFinitely, ConvolvesPastZero}
+use Rattle.closure_start.specs.StartsAt.{ConvolvesFinitely, ConvolvesPastZero, StartsAt}
 use Rattle.closure_start.proofs.Windowed.{IsConvolved, stands_of, from_some, period_in, period_start, ends_at, convolved_at}
 use Rattle.closure_start.proofs.Started.{rise_room}
 use Rattle.closure_start.proofs.Risen.{convolution_nonneg, rise_nonneg}
@@ -55,13 +59,13 @@ module _ (f g : SpecCurve) (r : Frame) (ps : List Piece) (from rise : ℚ) (C : 
   starts = (stands_of f g r C.frame ps C.window).starts
 
   late : zero_q <ℚ from
-  late = subst (λ x. zero_q <ℚ x) (sym C.from) (from_some f g r C.frame)
+  late = subst (λ x. zero_q <ℚ x) (sym C.from_is) (from_some f g r C.frame)
 
   pub some : zero_q <ℚ r.period
   some = C.frame.call.above
 
   early : r.period <ℚ from +ℚ r.period
-  early = subst (λ x. r.period <ℚ x) (sym (ends_at r.end r.period from C.from)) (period_in f g r C.frame)
+  early = subst (λ x. r.period <ℚ x) (sym (ends_at r.end r.period from C.from_is)) (period_in f g r C.frame)
 
   -- ---- what is read a period after 0
   pub period_reads : ReadFits ps r.period
@@ -88,7 +92,7 @@ module _ (f g : SpecCurve) (r : Frame) (ps : List Piece) (from rise : ℚ) (C : 
       let L = C.frame.call in
       let z = C.frame.sizes in
       let T = room_at_start z r.end r.period L.limited L.period_whole (le_of_lt L.above) in
-      let R = rise_room f g r rise C.frame C.rise in
+      let R = rise_room f g r rise C.frame C.rise_is in
       at_fits (answer_room z r.end) 1 r.period (neg_ℚ rise) (read ps r.period) (answer_is_room z r.end L.limited) (omega arith)
       T (value_room z r.end r.period T.grid (read ps r.period) T.base T.whole period_value)
       (whole_neg (grid_of z) rise R.whole)
@@ -120,7 +124,7 @@ module _ (f g : SpecCurve) (r : Frame) (ps : List Piece) (from rise : ℚ) (C : 
       → SumValueAt C.frame.sizes zero_q (Fin start)
   left_room v start V e up low =
       let z = C.frame.sizes in
-      let R = rise_room f g r rise C.frame C.rise in
+      let R = rise_room f g r rise C.frame C.rise_is in
       let on : Whole (z.dv * z.dt) r.period =
       whole_weaken z.dt (z.dv * z.dt) r.period (dvd-mul_left z.dt z.dv) C.frame.call.period_whole in
       let high = V.within.high in
@@ -175,3 +179,13 @@ module _ (f g : SpecCurve) (r : Frame) (ps : List Piece) (from rise : ℚ) (C : 
     S.zero,
     λ t h. subst (IsConvolution (value_at f) (value_at g) t) (sym (S.past t h ∙ values_past Inf c H t h)) (turn_is t (le_of_lt h)),
   )
+
+-- ---- what is answered
+pub starts_at : (f g w h : SpecCurve) (start : ℚ) → IsApplied Convolve f g w → IsCurve h → ConvolvesPastZero f g start h
+    → StartsAt start w (Ok h)
+starts_at f g w h start A K (zero, past) = (
+  K,
+  zero,
+  λ t l. infimum_unique {I = Split t} (λ s. value_at f s.first +ₑ value_at g s.second) (value_at h t) (value_at w t) (past t l)
+      (A.made.answers t (le_of_lt l)),
+)

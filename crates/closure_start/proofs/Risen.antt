@@ -8,7 +8,7 @@ use Rattle.rational.proofs.Linear.{with1, with2, with3, with4}
 use Rattle.rational.proofs.Integers.{nat_nonneg}
 use Rattle.rational.proofs.Laws.{le_or_lt, le_refl, le_lt_trans, lt_irrefl, above, div_mul, not_zero, mul_lt_mul_right, mul_neg, mul_nonneg}
 use Rattle.rational.proofs.Bounds.{greatest}
-use Rattle.rational.proofs.ExtendedOrder.{add_le_ext, add_zero_ext}
+use Rattle.rational.proofs.ExtendedOrder.{add_le_ext, add_zero_ext, fin_same}
 use Rattle.upp_curve.specs.Convolution.{IsConvolution, Split}
 use Rattle.upp_curve.specs.Functions.{zero_q, IsNonnegative}
 use Rattle.upp_curve.specs.Steady.{Repeats}
@@ -53,3 +53,10 @@ rise_nonneg f from d c a low some R e N = elim (le_or_lt zero_q c) [
       subst (λ v. Fin zero_q ≤ₑ v) is (N (from +ℚ int (pos n) *ℚ d) time) in
       absurd (lt_irrefl zero_q (le_lt_trans up down))
 ]
+
+-- ---- what is left of a value
+pub left_of : (v c x : ℚ) → v -ℚ c ≡ x → v ≡ x +ℚ c
+left_of v c x e = with3 v c x (λ o. omega (arith, o.le, o.lt, o.same))
+
+pub left_is : (v c x : ℚ) → Fin v ≡ Fin (x +ℚ c) → v -ℚ c ≡ x
+left_is v c x e = let same = fin_same e in with3 v c x (λ o. omega (arith, o.le, o.lt, o.same))

@@ -99,11 +99,11 @@ started_answer f g r ps from rise v C V =
     let W = stands_of f g r F ps C.window in
     let U = window_started z r.end v ps W V in
     let B = arches_started z.dt r.end v ps W.starts (arches_of f g r F ps C.window) in
-    let room = rise_room f g r rise F C.rise in
+    let room = rise_room f g r rise F C.rise_is in
     let whole : Whole z.dt from =
-    subst (Whole z.dt) (sym C.from) (from_whole f g r.start r.period r.end (F.number + 1) z L) in
-    let nonneg : zero_q ≤ℚ from = subst (λ y. zero_q ≤ℚ y) (sym C.from) (le_of_lt (from_some f g r F)) in
-    let ends = ends_at r.end r.period from C.from in
+    subst (Whole z.dt) (sym C.from_is) (from_whole f g r.start r.period r.end (F.number + 1) z L) in
+    let nonneg : zero_q ≤ℚ from = subst (λ y. zero_q ≤ℚ y) (sym C.from_is) (le_of_lt (from_some f g r F)) in
+    let ends = ends_at r.end r.period from C.from_is in
     let tail : TailOf z r.end from r.period rise =
     record { nonneg = nonneg; some = L.above; ends = ends; time = whole; whole = L.period_whole; value = room.whole } in
     record {

@@ -28,8 +28,8 @@ use Rattle.curve_convolution.proofs.ConvolveAnswers.{convolved_values}
 pub record IsConvolved (f g : SpecCurve) (r : Frame) (ps : List Piece) (from rise : ℚ) : Type 0 where
   pub frame : IsConvolveFrame f g r
   pub window : IsConvolutionWindow (unroll f r.end) (unroll g r.end) r.end ps
-  pub from : from ≡ r.end -ℚ r.period
-  pub rise : RisesBy (rate g <ₑ rate f) (rise_over g r.period) (rise_over f r.period) rise
+  pub from_is : from ≡ r.end -ℚ r.period
+  pub rise_is : RisesBy (rate g <ₑ rate f) (rise_over g r.period) (rise_over f r.period) rise
 
 -- ---- where they stand
 module _ (f g : SpecCurve) (r : Frame) (F : IsConvolveFrame f g r) where
@@ -84,4 +84,4 @@ pub convolved_at : (f g : SpecCurve) (r : Frame) (ps : List Piece) (from rise : 
 unfolding value_at
 convolved_at f g r ps from rise C t n =
     convolved_values f g r (unroll f r.end) (unroll g r.end) ps from rise record { pieces = ps; tail = Periodic from r.period rise }
-    C.frame refl refl C.window C.from C.rise (λ u m. refl) t n
+    C.frame refl refl C.window C.from_is C.rise_is (λ u m. refl) t n
