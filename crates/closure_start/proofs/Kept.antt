@@ -1,13 +1,12 @@
 -- A curve that is infinite at 0 and past 0 the values of one that repeats later on: with a value at 0 that is not what a
 -- period later would ask for it keeps its tail.
-use Rattle.std.specs.Prelude.{◌≡◌, ◌≢◌, ℕ, suc, pos, List}
+use Rattle.std.specs.Prelude.{◌≡◌, ◌≢◌, ℕ, pos, List}
 use Rattle.std.proofs.Common.{arith, sym, refl, ap, ◌∙◌, subst, inl, inr}
-use Rattle.rational.specs.Rational.{ℚ, ◌+ℚ◌, ◌-ℚ◌, ◌*ℚ◌, ◌/ℚ◌, ◌≤ℚ◌, ◌<ℚ◌, int}
+use Rattle.rational.specs.Rational.{ℚ, ◌+ℚ◌, ◌*ℚ◌, ◌/ℚ◌, ◌≤ℚ◌, ◌<ℚ◌, int}
 use Rattle.rational.specs.Extended.{Ext, ◌+ₑ◌}
 use Rattle.rational.specs.declared.Extended.TheVariants.{Fin, Inf}
-use Rattle.rational.proofs.ExtendedOrder.{add_cancel_ext, add_assoc_ext}
-use Rattle.rational.proofs.Integers.{nat_nonneg}
-use Rattle.rational.proofs.Laws.{le_or_lt, le_refl, le_of_lt, lt_le_trans, antisym, above, div_mul, not_zero, mul_lt_mul_right}
+use Rattle.rational.proofs.ExtendedOrder.{add_cancel_ext}
+use Rattle.rational.proofs.Laws.{le_or_lt, le_refl, le_of_lt, above, div_mul, not_zero, mul_lt_mul_right}
 use Rattle.rational.proofs.Linear.{with1, with2, with3}
 use Rattle.rational.proofs.MinMax.{le_q_not}
 use Rattle.affine_segment.specs.declared.line.Piece.{Piece}

@@ -35,7 +35,12 @@ pub(crate) fn frame_of(alloc: Global, f: &Curve, g: &Curve) -> Result<Frame, OpF
 }
 
 /// The pieces of the convolution that start below the end of the window. Refused only for want of memory.
-pub(crate) fn window_of(alloc: Global, f: &Curve, g: &Curve, frame: &Frame) -> Result<Vec<Piece>, AllocError>
+pub(crate) fn window_of(
+    alloc: Global,
+    f: &Curve,
+    g: &Curve,
+    frame: &Frame,
+) -> Result<Vec<Piece>, AllocError>
     requires { IsConvolveFrame f.now g.now frame.now }
     ensures { IfOk result (λ ps. IsConvolutionWindow (unroll f.now frame.now.end) (unroll g.now frame.now.end)
         frame.now.end ps.items) }

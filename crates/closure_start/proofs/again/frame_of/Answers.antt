@@ -1,4 +1,3 @@
-use Rattle.std.specs.Prelude.{IfOk, IfErr}
 use Rattle.std.proofs.lemmas.Result.{err_from_is_err_and}
 use Rattle.upp_curve.specs.Outcome.{IsCauseOf}
 use Rattle.upp_curve.specs.declared.op_kind.OpKind.TheVariants.{Convolve}
@@ -29,12 +28,12 @@ pub returns-clause-frame : goal.returns-clause-frame
 returns-clause-frame c =
     ok_map c.within.result _ _
     (λ r h. frame_by c.args.f.now c.args.g.now c.in_ok-first.first c.difference-from.result c.in-Some.periods r
-        c.first_window.ensures.kept c.in_ok-first.ensures.window c.difference-from.ensures c.in-Some.ensures h)
+    c.first_window.ensures.kept c.in_ok-first.ensures.window c.difference-from.ensures c.in-Some.ensures h)
     c.within.ensures.frame
 
 pub returns-clause-refused : goal.returns-clause-refused
 returns-clause-refused c =
     err_map c.within.result _ (IsCauseOf Convolve c.args.f.now c.args.g.now)
     (λ fault h. refused_by c.args.f.now c.args.g.now c.in_ok-first.first c.difference-from.result c.in-Some.periods fault
-        c.first_window.ensures.kept c.in_ok-first.ensures.window c.difference-from.ensures c.in-Some.ensures h)
+    c.first_window.ensures.kept c.in_ok-first.ensures.window c.difference-from.ensures c.in-Some.ensures h)
     c.within.ensures.refused

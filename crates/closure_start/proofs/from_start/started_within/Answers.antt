@@ -88,10 +88,10 @@ returns-then-repeats_start c =
     } in
     ok_map c.answer.result _ _
     (λ h values. started_convolves c.args.f.now c.args.g.now c.args.frame.now c.in_ok-pieces.pieces.items c.difference-from.result
-        c.slower_rise-rise.result C
-        c.args.start h
-        (subst (λ ps. HasValues h (repeated (read ps) c.difference-from.result c.args.frame.now.period c.slower_rise-rise.result))
-        c.with_first-started.ensures values))
+    c.slower_rise-rise.result C
+    c.args.start h
+    (subst (λ ps. HasValues h (repeated (read ps) c.difference-from.result c.args.frame.now.period c.slower_rise-rise.result))
+    c.with_first-started.ensures values))
     c.answer.ensures
 
 pub answer-requires-2 : goal.answer-requires-2
@@ -124,7 +124,7 @@ with_start-requires c =
     let r = c.args.frame.now in
     let other : ¬ (read c.in_ok-pieces.pieces.items r.period ≡ Fin (c.args.start +ℚ c.slower_rise-rise.result)) =
     λ e. true≢false (sym (c.if-repeats_start.ensures.1
-        (subst (λ ps. read ps r.period ≡ Fin (c.args.start +ℚ c.slower_rise-rise.result)) (sym c.deref.ensures.value) e))) in
+    (subst (λ ps. read ps r.period ≡ Fin (c.args.start +ℚ c.slower_rise-rise.result)) (sym c.deref.ensures.value) e))) in
     open_keeps c.args.f.now c.args.g.now c.args.frame.now c.in_ok-pieces.pieces.items c.difference-from.result
     c.slower_rise-rise.result C c.args.start
     c.in_ok-late.late c.requires.finite other c.tail-kept.ensures.kept.normal
@@ -144,8 +144,8 @@ returns c =
     let r = c.args.frame.now in
     ok_map c.with_start.result _ _
     (λ h started. open_convolves c.args.f.now c.args.g.now c.args.frame.now c.in_ok-pieces.pieces.items c.difference-from.result
-        c.slower_rise-rise.result C
-        c.args.start c.in_ok-late.late h
-        (subst (λ ps. HasValues c.in_ok-late.late (repeated (read ps) c.difference-from.result r.period c.slower_rise-rise.result))
-        c.with_first-open.ensures c.in_ok-late.ensures) started)
+    c.slower_rise-rise.result C
+    c.args.start c.in_ok-late.late h
+    (subst (λ ps. HasValues c.in_ok-late.late (repeated (read ps) c.difference-from.result r.period c.slower_rise-rise.result))
+    c.with_first-open.ensures c.in_ok-late.ensures) started)
     c.with_start.ensures.values
