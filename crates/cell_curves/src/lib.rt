@@ -1,0 +1,6 @@
+//! The curves with which flows come to hops and queues, and what queues and paths are served.
+#![tactic(auto)]
+
+mod kinds;
+
+pub use kinds::{arriving, cross, higher, path, serving, total};
