@@ -8,6 +8,7 @@ ghost use Rattle.net_cells.specs.Cells.{cell_of};
 ghost use Rattle.cell_table.specs.Values.{answer_of, meaning_of};
 ghost use Rattle.cell_paths.specs.Evaluates.{MayBeMade, Evaluates};
 
+use crate::places::{numbered, place_of};
 use cell_nodes::{backlog, delay_between, later, left_over, lesser, spread};
 use cell_sums::{Pick, longest_at, packet};
 use cell_table::{Table, Value};
@@ -17,7 +18,6 @@ use std::alloc::Global;
 use std::sync::ledger::Ledger;
 use steps::Steps;
 use upp_curve::OpFault;
-use crate::places::{numbered, place_of};
 
 macro_rules! cell {
     ($kind:ident, $a:expr, $b:expr) => {
@@ -60,7 +60,14 @@ pub fn residual<T: Table<Value>, L: Ledger>(
     let place = place_of(net, flow, hop);
     let service = cell!(QueueService, place.0, place.1);
     let others = cell!(Cross, flow, hop);
-    left_over(alloc, table, service, others, cell!(Theta, flow, hop), steps)
+    left_over(
+        alloc,
+        table,
+        service,
+        others,
+        cell!(Theta, flow, hop),
+        steps,
+    )
 }
 
 /// The longest delay in a queue.
@@ -92,7 +99,14 @@ pub fn queue_backlog<T: Table<Value>, L: Ledger>(
 {
     let service = cell!(QueueService, server, queue);
     let bits = longest_at(net, server, Pick::InQueue(queue));
-    numbered(backlog(alloc, table, cell!(Total, server, queue), service, bits, steps))
+    numbered(backlog(
+        alloc,
+        table,
+        cell!(Total, server, queue),
+        service,
+        bits,
+        steps,
+    ))
 }
 
 /// The curve with which a flow leaves a hop, by the delay there.
@@ -124,7 +138,14 @@ pub fn deconv_out<T: Table<Value>, L: Ledger>(
     ensures { Evaluates net.now (T.at table.now) (cell_of DeconvOut flow hop) steps.old steps.new (answer_of meaning_of result) }
 {
     let service = cell!(Residual, flow, hop);
-    spread(alloc, table, cell!(In, flow, hop), service, packet(net, flow), steps)
+    spread(
+        alloc,
+        table,
+        cell!(In, flow, hop),
+        service,
+        packet(net, flow),
+        steps,
+    )
 }
 
 /// The curve with which a flow leaves a hop.

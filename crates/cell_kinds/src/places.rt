@@ -11,9 +11,7 @@ use cell_table::Value;
 use fraction128::Ext;
 use net_cells::{queue_at, server_at};
 use net_model::Network;
-use number_sums::and;
 use upp_curve::OpFault;
-use cell_kinds::{numbered, place_of};
 
 /// The server and the queue of a hop.
 pub fn place_of(net: &Network, flow: u32, hop: u32) -> (u32, u32)
