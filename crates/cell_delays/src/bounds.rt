@@ -19,6 +19,7 @@ use net_model::Network;
 use number_sums::{Added, and, no_number};
 use rational::Extended;
 
+// How long a packet that leaves a server is on the way; 0 past the last server.
 fn link(net: &Network, number: u32) -> Frac
     ensures { result ≡ at.link net.now number }
 {
@@ -34,7 +35,8 @@ pub(crate) fn delays<T: Table<Value>>(table: &T, net: &Network, flow: u32) -> Ad
     ensures { (xs : List Ext) → HaveNumbers (T.at table.now) (map (cell_of HopDelay flow) (range_with_len 0 (at.hops net.now flow))) xs → AreAdded xs result }
 {
     let mut all = no_number();
-    for hop in 0..hops(net, flow) {
+    let count = hops(net, flow);
+    for hop in 0..count {
         let cell = Cell {
             kind: Kind::HopDelay,
             a: flow,
