@@ -8,6 +8,8 @@ ghost use Rattle.net_cells.specs.Cells.{cell_of};
 ghost use Rattle.cell_table.specs.Values.{answer_of, meaning_of};
 ghost use Rattle.cell_paths.specs.Evaluates.{MayBeMade, Evaluates};
 
+use crate::sums::summed;
+use cell_kinds::place_of;
 use cell_nodes::{again, copied, shared};
 use cell_paths::path_service;
 use cell_services::queue_service;
@@ -19,8 +21,6 @@ use std::alloc::Global;
 use std::sync::ledger::Ledger;
 use steps::Steps;
 use upp_curve::OpFault;
-use cell_kinds::place_of;
-use crate::sums::summed;
 
 macro_rules! cell {
     ($kind:ident, $a:expr, $b:expr) => {
@@ -65,7 +65,14 @@ pub fn cross<T: Table<Value>, L: Ledger>(
     requires { MayBeMade net.now (T.at table.now) (cell_of Cross flow hop) }
     ensures { Evaluates net.now (T.at table.now) (cell_of Cross flow hop) steps.old steps.new (answer_of meaning_of result) }
 {
-    let made = flows_sum(alloc, table, net, place_of(net, flow, hop), Some(flow), steps);
+    let made = flows_sum(
+        alloc,
+        table,
+        net,
+        place_of(net, flow, hop),
+        Some(flow),
+        steps,
+    );
     summed(alloc, table, made)
 }
 

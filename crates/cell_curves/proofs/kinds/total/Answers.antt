@@ -23,7 +23,7 @@ returns g c =
     let there = visits_in net c.args.server c.args.queue in
     let cells = map (at_visit In) there in
     let adds = subst (λ (vs : List Visit). Adds at [] (map (at_visit In) vs) old new c.flows_sum-made.result)
-        (sym (queue_visits net c.args.server c.args.queue)) c.flows_sum-made.ensures.sum in
+    (sym (queue_visits net c.args.server c.args.queue)) c.flows_sum-made.ensures.sum in
     record {
       answer = c.summed.ensures.answer cells old new adds;
       counts = subst (λ n. Counts (n - 1) old new (answer_of meaning_of c.summed.result)) (length-map there (at_visit In))
