@@ -8,10 +8,12 @@ ghost use Rattle.net_cells.specs.Cells.{cell_of};
 ghost use Rattle.cell_table.specs.Values.{answer_of, meaning_of};
 ghost use Rattle.cell_paths.specs.Evaluates.{MayBeMade, Evaluates};
 
+use crate::sums::summed;
+use cell_kinds::place_of;
 use cell_nodes::{again, copied, shared};
 use cell_paths::path_service;
 use cell_services::queue_service;
-use cell_sums::{flows_sum, queues_sum, sum_value};
+use cell_sums::{flows_sum, queues_sum};
 use cell_table::{Table, Value};
 use net_cells::{Cell, Kind, live_flow};
 use net_model::Network;
@@ -19,7 +21,6 @@ use std::alloc::Global;
 use std::sync::ledger::Ledger;
 use steps::Steps;
 use upp_curve::OpFault;
-use cell_kinds::place_of;
 
 macro_rules! cell {
     ($kind:ident, $a:expr, $b:expr) => {
@@ -64,8 +65,15 @@ pub fn cross<T: Table<Value>, L: Ledger>(
     requires { MayBeMade net.now (T.at table.now) (cell_of Cross flow hop) }
     ensures { Evaluates net.now (T.at table.now) (cell_of Cross flow hop) steps.old steps.new (answer_of meaning_of result) }
 {
-    let made = flows_sum(alloc, table, net, place_of(net, flow, hop), Some(flow), steps);
-    sum_value(alloc, table, made)
+    let made = flows_sum(
+        alloc,
+        table,
+        net,
+        place_of(net, flow, hop),
+        Some(flow),
+        steps,
+    );
+    summed(alloc, table, made)
 }
 
 /// The sum of the curves of all flows in a queue.
@@ -81,7 +89,7 @@ pub fn total<T: Table<Value>, L: Ledger>(
     ensures { Evaluates net.now (T.at table.now) (cell_of Total server queue) steps.old steps.new (answer_of meaning_of result) }
 {
     let made = flows_sum(alloc, table, net, (server, queue), None, steps);
-    sum_value(alloc, table, made)
+    summed(alloc, table, made)
 }
 
 /// The sum of the curves of all queues before one.
@@ -97,7 +105,7 @@ pub fn higher<T: Table<Value>, L: Ledger>(
     ensures { Evaluates net.now (T.at table.now) (cell_of Higher server queue) steps.old steps.new (answer_of meaning_of result) }
 {
     let made = queues_sum(alloc, table, server, queue, steps);
-    sum_value(alloc, table, made)
+    summed(alloc, table, made)
 }
 
 /// What a queue is served.

@@ -2,5 +2,6 @@
 #![tactic(auto)]
 
 mod kinds;
+mod sums;
 
 pub use kinds::{arriving, cross, higher, path, serving, total};

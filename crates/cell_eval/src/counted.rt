@@ -1,6 +1,5 @@
 //! The evaluator of the program.
 
-
 use crate::each_kind::eval;
 use cell_table::{Evaluator, Table, Value};
 use net_cells::Cell;

@@ -12,6 +12,9 @@ ghost use Rattle.cell_table.specs.Gives.{Gives};
 ghost use Rattle.cell_table.specs.Values.{answer_of, meaning_of};
 ghost use Rattle.cell_paths.specs.Evaluates.{MayBeMade, Evaluates};
 
+use cell_curves::{arriving, cross, higher, path, serving, total};
+use cell_delays::{bound, hop_delay, sfa, tfa};
+use cell_kinds::{deconv_out, out, queue_backlog, queue_delay, residual, shift_out, theta};
 use cell_table::{Table, Value};
 use net_cells::{Cell, Kind};
 use net_model::Network;
@@ -19,9 +22,6 @@ use std::alloc::Global;
 use std::sync::ledger::Ledger;
 use steps::Steps;
 use upp_curve::OpFault;
-use cell_curves::{arriving, cross, higher, path, serving, total};
-use cell_delays::{bound, hop_delay, sfa, tfa};
-use cell_kinds::{deconv_out, out, queue_backlog, queue_delay, residual, shift_out, theta};
 
 fn by_kind<T: Table<Value>, L: Ledger>(
     alloc: Global,

@@ -1,24 +1,24 @@
-use Rattle.std.proofs.Common.{◌≡◌, ℕ, ◌<◌, ◌≤◌, ◌+◌, ◌-◌, sym, ap, ◌∙◌, subst, refl, arith, inl, inr, length, map, [], ◌∷◌, ◌++◌}
-use Rattle.std.specs.Prelude.{Some, None, Ok, Err, OnOk, IfOk, Result, List}
-use Rattle.net_cells.specs.declared.cell.Cell.{Cell}
-use Rattle.net_cells.specs.declared.cell.Kind.TheVariants.{In, Cross, Total, Higher, QueueService, Theta, Residual, QueueDelay, QueueBacklog, HopDelay, ShiftOut, DeconvOut, Out, PathService, Tfa, Sfa, Bound}
+use Rattle.std.proofs.Common.{◌-◌, map, subst}
+use Rattle.std.specs.List.{range_with_len}
+use Rattle.std.proofs.lemmas.List.FromFn.{length-map-range_with_len}
+use Rattle.net_cells.specs.declared.cell.Kind.TheVariants.{Total}
 use Rattle.net_cells.specs.Cells.{cell_of}
-use Rattle.net_cells.specs.Meanings.{curve, number}
 use Rattle.cell_table.specs.Values.{answer_of, meaning_of}
-use Rattle.cell_paths.specs.Evaluates.{Counts, Evaluates, MayBeMade}
-use Rattle.cell_nodes.specs.Shapes.{Rises, Serving, Grows, Ahead}
-use Rattle.cell_nodes.specs.TableValues.{HasCurve, HasNumber, IsCurveAt, IsNumberAt}
-use Rattle.cell_paths.proofs.Counting.{ok_answer, counts_all, counts_none}
-use Rattle.cell_kinds.proofs.Arms.{theta_cross, theta_service, residual_service, residual_cross, residual_theta, hop_comes, hop_served_by, hop_queue, shift_comes, shift_by, deconv_comes, deconv_served_by, delay_comes, delay_served_by, backlog_comes, backlog_served_by, path_some, path_serves, sfa_comes, sfa_served_by, tfa_delays, bound_tfa, bound_sfa, out_shifted, out_spread, in_before, cross_ready, total_ready, higher_ready, service_above, sum_counts}
-use Rattle.net_cells.specs.Order.{at_visit}
-use Rattle.net_cells.specs.Visits.{visits_in, others}
-use Rattle.net_cells.specs.CellFormulas.{sum_of}
-use Rattle.cell_table.specs.Gives.{Gives}
-use Rattle.cell_sums.specs.declared.places.Pick.TheVariants.{InQueue}
-use Rattle.cell_sums.specs.Chosen.{all_chosen}
-use Rattle.cell_sums.specs.Partial.{Adds}
-use Rattle.cell_sums.proofs.Choosing.{queue_visits, other_visits}
+use Rattle.cell_paths.specs.Evaluates.{Counts}
+use Rattle.cell_kinds.proofs.Arms.{higher_ready}
 use Rattle.cell_curves.proofs.kinds.higher.Goals as goal
 
 pub queues_sum-made-requires : goal.queues_sum-made-requires
 queues_sum-made-requires g c = higher_ready c.args.net.now (g.T.Table.at c.args.table.now) c.args.server c.args.queue c.requires
+
+pub returns : goal.returns
+returns g c =
+    let old = c.args.steps.now in
+    let new = c.queues_sum-made.new.steps in
+    let cells = map (cell_of Total c.args.server) (range_with_len 0 c.args.queue) in
+    let adds = c.queues_sum-made.ensures.sum in
+    record {
+      answer = c.summed.ensures.answer cells old new adds;
+      counts = subst (λ n. Counts (n - 1) old new (answer_of meaning_of c.summed.result))
+          (length-map-range_with_len (cell_of Total c.args.server) 0 c.args.queue) (c.summed.ensures.counts cells old new adds);
+    }
