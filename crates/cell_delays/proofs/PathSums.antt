@@ -1,5 +1,5 @@
 -- Numbers along a path, added up, and what the numbers of two cells answer.
-use Rattle.std.proofs.Common.{◌≡◌, ℕ, ◌+◌, ◌≤◌, ◌<◌, ◌^◌, List, [], ◌∷◌, ◌++◌, length, map, take, get_or, refl, sym, ap, ◌∙◌, subst, arith, append_assoc}
+use Rattle.std.proofs.Common.{◌≡◌, ℕ, ◌+◌, ◌≤◌, ◌<◌, ◌^◌, List, [], ◌∷◌, ◌++◌, length, map, take, refl, sym, ap, ◌∙◌, subst, arith, append_assoc}
 use Rattle.std.specs.Prelude.{Some, Result, Ok, Err}
 use Rattle.std.specs.List.{range_with_len}
 use Rattle.std.proofs.lemmas.List.{length-map, length-append, map-append, map_more}
@@ -27,7 +27,7 @@ use Rattle.cell_table.specs.Values.{answer_of}
 use Rattle.cell_nodes.specs.TableValues.{IsNumberAt}
 use Rattle.number_sums.specs.declared.numbers.Added.{Added}
 use Rattle.number_sums.specs.Tallies.{AreAdded}
-use Rattle.cell_delays.proofs.HaveNumbers.{HaveAll, have_all, have_more, have_none}
+use Rattle.cell_delays.proofs.HaveNumbers.{have_all, have_more, have_none}
 
 -- ---- hop after hop
 abbrev pub delays_to : ℕ → ℕ → List Cell
@@ -48,7 +48,7 @@ pub delay_added : (at : CellTable) (i n : ℕ) (a b : Added) (x : Ext) → at (c
     → ((xs : List Ext) → AreAdded xs a → AreAdded (xs ++ x ∷ []) b)
     → (xs : List Ext) → HaveNumbers at (delays_to i (n + 1)) xs → AreAdded xs b
 delay_added at i n a b x is before one xs are =
-    let cells = map-range_with_len_more (cell_of HopDelay i) 0 n n refl in
+    let cells = map-range_with_len_more (cell_of HopDelay i) 0 n n (omega arith) in
     let more = have_more at (delays_to i n) (cell_of HopDelay i n) xs (subst (λ cs. HaveNumbers at cs xs) cells are) in
     let last = same_number at (cell_of HopDelay i n) more.last x more.at_last is in
     subst (λ ys. AreAdded ys b) (sym (more.is ∙ ap (λ y. more.front ++ y ∷ []) last)) (one more.front (before more.front more.are))

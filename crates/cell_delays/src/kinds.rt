@@ -8,6 +8,8 @@ ghost use Rattle.net_cells.specs.Cells.{cell_of};
 ghost use Rattle.cell_table.specs.Values.{answer_of, meaning_of};
 ghost use Rattle.cell_paths.specs.Evaluates.{MayBeMade, Evaluates};
 
+use crate::bounds::{delays, with_path};
+use cell_kinds::{numbered, place_of};
 use cell_nodes::{delay_between, number_at};
 use cell_table::{Table, Value};
 use net_cells::{Cell, Kind};
@@ -16,8 +18,6 @@ use number_sums::{and, lesser_number, no_number, sum_of};
 use std::sync::ledger::Ledger;
 use steps::Steps;
 use upp_curve::OpFault;
-use cell_kinds::{numbered, place_of};
-use crate::bounds::{delays, with_path};
 
 macro_rules! cell {
     ($kind:ident, $a:expr, $b:expr) => {

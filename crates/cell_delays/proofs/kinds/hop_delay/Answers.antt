@@ -1,9 +1,6 @@
-use Rattle.std.proofs.Common.{ap, sym, ◌∙◌, subst}
-use Rattle.std.specs.Prelude.{Some, Ok, Err}
 use Rattle.net_cells.specs.declared.cell.Kind.TheVariants.{In, Residual, QueueDelay}
 use Rattle.net_cells.specs.Numbered.{server_at, queue_at}
 use Rattle.net_cells.specs.Cells.{cell_of}
-use Rattle.net_cells.specs.Meanings.{number}
 use Rattle.net_cells.specs.Formulas.{value_of, horizontal}
 use Rattle.cell_paths.proofs.Counting.{counts_all}
 use Rattle.cell_kinds.proofs.Arms.{hop_comes, hop_served_by, hop_queue}
@@ -32,7 +29,7 @@ returns-in-Ok g c =
     let is = rw (c.place_of-place.ensures.server, c.place_of-place.ensures.queue) at c.number_at-queue.ensures in
     record {
       answer =
-      rw c.lesser_number.ensures (smaller_answer (g.T.Table.at c.args.table.now) queue own c.number_at-queue.result c.in-Ok.own is c.in-Ok.ensures.answer);
+          rw c.lesser_number.ensures (smaller_answer (g.T.Table.at c.args.table.now) queue own c.number_at-queue.result c.in-Ok.own is c.in-Ok.ensures.answer);
       counts = counts_all 1 c.args.steps.now _ _ c.in-Ok.ensures.count;
     }
 
@@ -44,7 +41,7 @@ returns-in-Err g c =
     let at = g.T.Table.at c.args.table.now in
     record {
       answer =
-      smaller_refused at (cell_of QueueDelay (server_at net i k) (queue_at net i k))
-      (horizontal (value_of (cell_of In i k)) (value_of (cell_of Residual i k))) c.in-Err.fault (hop_queue net at i k c.requires) c.in-Err.ensures.answer;
+          smaller_refused at (cell_of QueueDelay (server_at net i k) (queue_at net i k))
+          (horizontal (value_of (cell_of In i k)) (value_of (cell_of Residual i k))) c.in-Err.fault (hop_queue net at i k c.requires) c.in-Err.ensures.answer;
       counts = counts_all 1 c.args.steps.now _ _ c.in-Err.ensures.count;
     }

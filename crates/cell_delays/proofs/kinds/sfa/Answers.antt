@@ -25,10 +25,10 @@ returns-in-Ok g c =
     let x = c.in-Ok.delay in
     record {
       answer =
-      rw c.numbered.ensures
-      (delayed_answer net at (horizontal (value_of (cell_of In i 0)) (value_of (cell_of PathService i 0))) i x c.sum_of.result c.requires.accepted
-      c.in-Ok.ensures.answer
-      (λ few. c.sum_of.ensures (with_links (x ∷ []) (links_along net i)) few (c.with_path.ensures (x ∷ []) (c.and.ensures [] c.no_number.ensures))));
+          rw c.numbered.ensures
+          (delayed_answer net at (horizontal (value_of (cell_of In i 0)) (value_of (cell_of PathService i 0))) i x c.sum_of.result c.requires.accepted
+          c.in-Ok.ensures.answer
+          (λ few. c.sum_of.ensures (with_links (x ∷ []) (links_along net i)) few (c.with_path.ensures (x ∷ []) (c.and.ensures [] c.no_number.ensures))));
       counts = counts_all 1 c.args.steps.now _ _ c.in-Ok.ensures.count;
     }
 

@@ -15,8 +15,8 @@ returns g c = λ n.
     let at = g.T.Table.at c.args.table.now in
     record {
       answer =
-      rw c.numbered.ensures
-      (path_answer net at i c.sum_of.result c.requires.accepted (tfa_delays net at i c.requires)
-      (λ xs few are. c.sum_of.ensures (with_links xs (links_along net i)) few (c.with_path.ensures xs (c.delays.ensures xs are))));
+          rw c.numbered.ensures
+          (path_answer net at i c.sum_of.result c.requires.accepted (tfa_delays net at i c.requires)
+          (λ xs few are. c.sum_of.ensures (with_links xs (links_along net i)) few (c.with_path.ensures xs (c.delays.ensures xs are))));
       counts = counts_none n _;
     }
