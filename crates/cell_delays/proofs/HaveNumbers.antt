@@ -1,12 +1,12 @@
 -- Numbers of cells.
-use Rattle.std.proofs.Common.{◌≡◌, ℕ, suc, ◌+◌, List, [], ◌∷◌, ◌++◌, length, refl, ap, inl, inr}
+use Rattle.std.proofs.Common.{◌≡◌, suc, List, [], ◌∷◌, ◌++◌, length, refl, ap, inl, inr}
 use Rattle.std.specs.Prelude.{Some}
 use Rattle.rational.specs.Extended.{Ext}
 use Rattle.net_cells.specs.declared.cell.Cell.{Cell}
 use Rattle.net_cells.specs.Meanings.{number, CellTable}
 use Rattle.net_cells.specs.Means.{HaveNumbers}
 use Rattle.net_cells.proofs.Lists.{Has}
-use Rattle.cell_nodes.specs.TableValues.{HasNumber, IsNumberAt}
+use Rattle.cell_nodes.specs.TableValues.{IsNumberAt}
 
 pub record HaveMore (at : CellTable) (cs : List Cell) (c : Cell) (xs : List Ext) : Type 0 where
   pub front : List Ext

@@ -1,11 +1,10 @@
 //! The numbers of hops and of whole paths.
 
-ghost use Rattle.std.specs.Prelude.{◌≡◌, ◌<◌, ℕ, List, map};
-ghost use Rattle.std.specs.List.{range_with_len};
+ghost use Rattle.std.specs.Prelude.{◌≡◌, ◌<◌, ℕ, List};
 ghost use Rattle.net_cells.specs.declared.cell.Kind.TheVariants.{HopDelay};
 ghost use Rattle.net_cells.specs.Numbered as at;
 ghost use Rattle.net_cells.specs.Cells.{cell_of};
-ghost use Rattle.net_cells.specs.CellFormulas.{links_along};
+ghost use Rattle.net_cells.specs.CellFormulas.{hop_delays, links_along};
 ghost use Rattle.net_cells.specs.Means.{HaveNumbers, with_links};
 ghost use Rattle.rational.specs.Extended.{Ext};
 ghost use Rattle.cell_nodes.specs.TableValues.{IsNumberAt};
@@ -19,6 +18,7 @@ use net_model::Network;
 use number_sums::{Added, and, no_number};
 use rational::Extended;
 
+// How long a packet that leaves a server is on the way; 0 past the last server.
 fn link(net: &Network, number: u32) -> Frac
     ensures { result ≡ at.link net.now number }
 {
@@ -31,10 +31,12 @@ fn link(net: &Network, number: u32) -> Frac
 /// The delays of a flow's hops, added up.
 pub(crate) fn delays<T: Table<Value>>(table: &T, net: &Network, flow: u32) -> Added
     requires { (k : ℕ) → k < at.hops net.now flow → IsNumberAt (T.at table.now) (cell_of HopDelay flow k) }
-    ensures { (xs : List Ext) → HaveNumbers (T.at table.now) (map (cell_of HopDelay flow) (range_with_len 0 (at.hops net.now flow))) xs → AreAdded xs result }
+    ensures { (xs : List Ext)
+        → HaveNumbers (T.at table.now) (hop_delays net.now flow) xs → AreAdded xs result }
 {
     let mut all = no_number();
-    for hop in 0..hops(net, flow) {
+    let count = hops(net, flow);
+    for hop in 0..count {
         let cell = Cell {
             kind: Kind::HopDelay,
             a: flow,

@@ -1,13 +1,15 @@
 //! The value of a cell, kind by kind.
 
 ghost use Rattle.net_cells.specs.declared.cell.Cell.{Cell};
-ghost use Rattle.net_cells.specs.declared.cell.Kind.TheVariants.{In, Residual, QueueDelay, HopDelay, PathService, Tfa, Sfa, Bound};
+ghost use Rattle.net_cells.specs.declared.cell.Kind.TheVariants.{HopDelay, Tfa, Sfa, Bound};
 ghost use Rattle.std.specs.Prelude.{◌<◌, ℕ, Result};
 ghost use Rattle.upp_curve.specs.declared.op_kind.OpFault.{OpFault};
 ghost use Rattle.net_cells.specs.Cells.{cell_of};
 ghost use Rattle.cell_table.specs.Values.{answer_of, meaning_of};
 ghost use Rattle.cell_paths.specs.Evaluates.{MayBeMade, Evaluates};
 
+use crate::bounds::{delays, with_path};
+use cell_kinds::{numbered, place_of};
 use cell_nodes::{delay_between, number_at};
 use cell_table::{Table, Value};
 use net_cells::{Cell, Kind};
@@ -16,8 +18,6 @@ use number_sums::{and, lesser_number, no_number, sum_of};
 use std::sync::ledger::Ledger;
 use steps::Steps;
 use upp_curve::OpFault;
-use cell_kinds::{numbered, place_of};
-use crate::bounds::{delays, with_path};
 
 macro_rules! cell {
     ($kind:ident, $a:expr, $b:expr) => {
@@ -38,7 +38,8 @@ pub fn hop_delay<T: Table<Value>, L: Ledger>(
     steps: &mut Steps<L>,
 ) -> Result<Value, OpFault>
     requires { MayBeMade net.now (T.at table.now) (cell_of HopDelay flow hop) }
-    ensures { Evaluates net.now (T.at table.now) (cell_of HopDelay flow hop) steps.old steps.new (answer_of meaning_of result) }
+    ensures { Evaluates net.now (T.at table.now) (cell_of HopDelay flow hop) steps.old steps.new
+        (answer_of meaning_of result) }
 {
     let place = place_of(net, flow, hop);
     let service = cell!(Residual, flow, hop);
@@ -67,7 +68,8 @@ pub fn sfa<T: Table<Value>, L: Ledger>(
     steps: &mut Steps<L>,
 ) -> Result<Value, OpFault>
     requires { MayBeMade net.now (T.at table.now) (cell_of Sfa flow 0) }
-    ensures { Evaluates net.now (T.at table.now) (cell_of Sfa flow 0) steps.old steps.new (answer_of meaning_of result) }
+    ensures { Evaluates net.now (T.at table.now) (cell_of Sfa flow 0) steps.old steps.new
+        (answer_of meaning_of result) }
 {
     let service = cell!(PathService, flow, 0);
     match delay_between(table, cell!(In, flow, 0), service, steps) {
