@@ -1,7 +1,8 @@
 //! The value of a cell, kind by kind.
 
 ghost use Rattle.net_cells.specs.declared.cell.Cell.{Cell};
-ghost use Rattle.net_cells.specs.declared.cell.Kind.TheVariants.{In, Cross, Total, Higher, QueueService, Out, PathService};
+ghost use Rattle.net_cells.specs.declared.cell.Kind.TheVariants.{In, Cross, Total, Higher};
+ghost use Rattle.net_cells.specs.declared.cell.Kind.TheVariants.{QueueService, Out, PathService};
 ghost use Rattle.std.specs.Prelude.{◌<◌, ℕ, Result};
 ghost use Rattle.upp_curve.specs.declared.op_kind.OpFault.{OpFault};
 ghost use Rattle.net_cells.specs.Cells.{cell_of};
@@ -63,7 +64,8 @@ pub fn cross<T: Table<Value>, L: Ledger>(
     steps: &mut Steps<L>,
 ) -> Result<Value, OpFault>
     requires { MayBeMade net.now (T.at table.now) (cell_of Cross flow hop) }
-    ensures { Evaluates net.now (T.at table.now) (cell_of Cross flow hop) steps.old steps.new (answer_of meaning_of result) }
+    ensures { Evaluates net.now (T.at table.now) (cell_of Cross flow hop) steps.old steps.new
+        (answer_of meaning_of result) }
 {
     let made = flows_sum(
         alloc,
@@ -86,7 +88,8 @@ pub fn total<T: Table<Value>, L: Ledger>(
     steps: &mut Steps<L>,
 ) -> Result<Value, OpFault>
     requires { MayBeMade net.now (T.at table.now) (cell_of Total server queue) }
-    ensures { Evaluates net.now (T.at table.now) (cell_of Total server queue) steps.old steps.new (answer_of meaning_of result) }
+    ensures { Evaluates net.now (T.at table.now) (cell_of Total server queue) steps.old steps.new
+        (answer_of meaning_of result) }
 {
     let made = flows_sum(alloc, table, net, (server, queue), None, steps);
     summed(alloc, table, made)
@@ -102,7 +105,8 @@ pub fn higher<T: Table<Value>, L: Ledger>(
     steps: &mut Steps<L>,
 ) -> Result<Value, OpFault>
     requires { MayBeMade net.now (T.at table.now) (cell_of Higher server queue) }
-    ensures { Evaluates net.now (T.at table.now) (cell_of Higher server queue) steps.old steps.new (answer_of meaning_of result) }
+    ensures { Evaluates net.now (T.at table.now) (cell_of Higher server queue) steps.old steps.new
+        (answer_of meaning_of result) }
 {
     let made = queues_sum(alloc, table, server, queue, steps);
     summed(alloc, table, made)
@@ -118,7 +122,8 @@ pub fn serving<T: Table<Value>, L: Ledger>(
     steps: &mut Steps<L>,
 ) -> Result<Value, OpFault>
     requires { MayBeMade net.now (T.at table.now) (cell_of QueueService server queue) }
-    ensures { Evaluates net.now (T.at table.now) (cell_of QueueService server queue) steps.old steps.new (answer_of meaning_of result) }
+    ensures { Evaluates net.now (T.at table.now) (cell_of QueueService server queue) steps.old steps.new
+        (answer_of meaning_of result) }
 {
     queue_service(alloc, table, net, (server, queue), steps)
 }
@@ -132,7 +137,8 @@ pub fn path<T: Table<Value>, L: Ledger>(
     steps: &mut Steps<L>,
 ) -> Result<Value, OpFault>
     requires { MayBeMade net.now (T.at table.now) (cell_of PathService flow 0) }
-    ensures { Evaluates net.now (T.at table.now) (cell_of PathService flow 0) steps.old steps.new (answer_of meaning_of result) }
+    ensures { Evaluates net.now (T.at table.now) (cell_of PathService flow 0) steps.old steps.new
+        (answer_of meaning_of result) }
 {
     path_service(alloc, table, net, flow, steps)
 }

@@ -21,8 +21,10 @@ pub(crate) fn summed<T: Table<Value>>(
     made: Result<Partial, OpFault>,
 ) -> Result<Value, OpFault>
     requires { IfOk made (IsReady (T.at table.now)) }
-    ensures answer { (cells : List Cell) (old new : ℕ) → Adds (T.at table.now) [] cells old new made → Gives (T.at table.now) (sum_of cells) (answer_of meaning_of result) }
-    ensures counts { (cells : List Cell) (old new : ℕ) → Adds (T.at table.now) [] cells old new made → Counts (length cells - 1) old new (answer_of meaning_of result) }
+    ensures answer { (cells : List Cell) (old new : ℕ) → Adds (T.at table.now) [] cells old new made →
+        Gives (T.at table.now) (sum_of cells) (answer_of meaning_of result) }
+    ensures counts { (cells : List Cell) (old new : ℕ) → Adds (T.at table.now) [] cells old new made →
+        Counts (length cells - 1) old new (answer_of meaning_of result) }
 {
     match made {
         Ok(whole) => finished(alloc, table, whole),

@@ -1,7 +1,10 @@
 //! The value of a cell, whatever its kind.
 
 ghost use Rattle.net_cells.specs.declared.cell.Cell.{Cell};
-ghost use Rattle.net_cells.specs.declared.cell.Kind.TheVariants.{In, Cross, Total, Higher, QueueService, Theta, Residual, QueueDelay, QueueBacklog, HopDelay, ShiftOut, DeconvOut, Out, PathService, Tfa, Sfa, Bound};
+ghost use Rattle.net_cells.specs.declared.cell.Kind.TheVariants.{In, Cross, Total, Higher, QueueService};
+ghost use Rattle.net_cells.specs.declared.cell.Kind.TheVariants.{Theta, Residual, QueueDelay, QueueBacklog};
+ghost use Rattle.net_cells.specs.declared.cell.Kind.TheVariants.{HopDelay, ShiftOut, DeconvOut, Out};
+ghost use Rattle.net_cells.specs.declared.cell.Kind.TheVariants.{PathService, Tfa, Sfa, Bound};
 ghost use Rattle.std.specs.Prelude.{◌≡◌, ◌+◌, ◌≤◌, ◌<◌, IsTrue, OnOk, Result};
 ghost use Rattle.upp_curve.specs.declared.op_kind.OpFault.{OpFault};
 ghost use Rattle.net_cells.specs.Cells.{has_cell};
@@ -14,7 +17,7 @@ ghost use Rattle.cell_paths.specs.Evaluates.{MayBeMade, Evaluates};
 
 use cell_curves::{arriving, cross, higher, path, serving, total};
 use cell_delays::{bound, hop_delay, sfa, tfa};
-use cell_kinds::{deconv_out, out, queue_backlog, queue_delay, residual, shift_out, theta};
+use cell_kinds::{deconv_out, leaving, queue_backlog, queue_delay, residual, shift_out, theta};
 use cell_table::{Table, Value};
 use net_cells::{Cell, Kind};
 use net_model::Network;
@@ -46,7 +49,7 @@ fn by_kind<T: Table<Value>, L: Ledger>(
         Kind::HopDelay => hop_delay(table, net, cell.a, cell.b, steps),
         Kind::ShiftOut => shift_out(alloc, table, net, cell.a, cell.b, steps),
         Kind::DeconvOut => deconv_out(alloc, table, net, cell.a, cell.b, steps),
-        Kind::Out => out(alloc, table, net, cell.a, cell.b, steps),
+        Kind::Out => leaving(alloc, table, net, cell.a, cell.b, steps),
         Kind::PathService => path(alloc, table, net, cell.a, steps),
         Kind::Tfa => tfa(table, net, cell.a),
         Kind::Sfa => sfa(table, net, cell.a, steps),

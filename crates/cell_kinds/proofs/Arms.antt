@@ -1,6 +1,6 @@
 -- What each kind of cell needs of the cells that it is made of, and how its operators are counted.
-use Rattle.std.proofs.Common.{◌≡◌, ℕ, zero, suc, ◌<◌, ◌≤◌, ◌+◌, ◌-◌, List, [], ◌∷◌, ◌++◌, length, map, refl, sym, ap, ◌∙◌, subst, arith, inl, inr, true, false}
-use Rattle.std.specs.Prelude.{Option, None, Some, Ok, Err, Result, IfOk, OnOk, nat_lt, IsTrue, is_some}
+use Rattle.std.proofs.Common.{◌≡◌, ℕ, suc, ◌<◌, ◌≤◌, ◌+◌, ◌-◌, List, [], ◌∷◌, length, map, refl, sym, ap, ◌∙◌, subst, arith, inl, inr, true, false}
+use Rattle.std.specs.Prelude.{Option, None, Some, Ok, Err, Result, IfOk, is_some}
 use Rattle.std.specs.List.{range_with_len}
 use Rattle.std.proofs.lemmas.Bool.{ltb-true, and_parts}
 use Rattle.rational.specs.Extended.{Ext}
@@ -17,27 +17,24 @@ use Rattle.net_cells.specs.declared.visit.Visit.{Visit}
 use Rattle.net_cells.specs.Visits.{visit, visits_in, others, is_at}
 use Rattle.net_cells.specs.Order.{at_visit}
 use Rattle.net_cells.specs.Cells.{cell_of}
-use Rattle.net_cells.specs.Meanings.{Meaning, curve, number, CellTable}
+use Rattle.net_cells.specs.Meanings.{CellTable}
 use Rattle.net_cells.specs.Formulas.{leaves}
-use Rattle.net_cells.specs.CellFormulas.{formula, queue_service}
-use Rattle.net_cells.specs.Answers.{Answer}
-use Rattle.net_cells.specs.Equations.{MeetsBelow}
+use Rattle.net_cells.specs.CellFormulas.{queue_service}
 use Rattle.net_cells.proofs.Lists.{Has, has_map, map_has, filter_has, has_flat, has_range, range_has}
 use Rattle.net_cells.proofs.Places.{flow_inside}
 use Rattle.net_cells.proofs.Stored.{flow_kept}
-use Rattle.cell_table.specs.Values.{answer_of}
 use Rattle.cell_sums.specs.declared.places.Pick.{Pick}
 use Rattle.cell_sums.specs.declared.places.Pick.TheVariants.{InQueue}
 use Rattle.cell_sums.specs.declared.sums.Partial.{Partial}
 use Rattle.cell_sums.specs.Chosen.{flow_visits, visit_list, picks, is_other, picked, chosen, all_chosen}
 use Rattle.cell_sums.specs.Partial.{Adds}
-use Rattle.cell_paths.specs.Evaluates.{Counts, MayBeMade}
+use Rattle.cell_paths.specs.Evaluates.{MayBeMade}
 use Rattle.cell_nodes.specs.Shapes.{Rises, Serving, Grows, Ahead}
 use Rattle.cell_nodes.specs.TableValues.{HasCurve, HasNumber, IsCurveAt, IsNumberAt, Deviate}
 use Rattle.cell_nodes.proofs.Rises.{grows_served}
-use Rattle.cell_nodes.proofs.Meeting.{Meets, InList, meets_below, operand, curve_map, number_map, curve_holds, curve_from, number_from, sum_leaf, served_leaf}
+use Rattle.cell_nodes.proofs.Meeting.{InList, meets_below, operand, curve_map, number_map, curve_from, number_from, sum_leaf, served_leaf}
 use Rattle.cell_sums.proofs.Choosing.{queue_visits, other_visits}
-use Rattle.cell_nodes.proofs.Shapes.{in_rises, cross_rises, total_rises, higher_rises, queue_served, hop_served, residual_grows, path_grows, theta_ahead, queue_delay_ahead, hop_delay_ahead}
+use Rattle.cell_nodes.proofs.Shapes.{in_rises, cross_rises, total_rises, higher_rises, queue_served, hop_served, residual_grows, path_grows, queue_delay_ahead, hop_delay_ahead}
 
 -- ---- what stands in the table
 some_curve : (at : CellTable) (c : Cell) (Q : SpecCurve → Type 0) → HasCurve at c Q → IsCurveAt at c

@@ -1,7 +1,9 @@
 //! The value of a cell, kind by kind.
 
 ghost use Rattle.net_cells.specs.declared.cell.Cell.{Cell};
-ghost use Rattle.net_cells.specs.declared.cell.Kind.TheVariants.{In, Cross, Total, QueueService, Theta, Residual, QueueDelay, QueueBacklog, HopDelay, ShiftOut, DeconvOut, Out};
+ghost use Rattle.net_cells.specs.declared.cell.Kind.TheVariants.{In, Cross, Total, QueueService, Theta, Residual};
+ghost use Rattle.net_cells.specs.declared.cell.Kind.TheVariants.{QueueDelay, QueueBacklog, HopDelay, ShiftOut};
+ghost use Rattle.net_cells.specs.declared.cell.Kind.TheVariants.{DeconvOut, Out};
 ghost use Rattle.std.specs.Prelude.{◌<◌, Result};
 ghost use Rattle.upp_curve.specs.declared.op_kind.OpFault.{OpFault};
 ghost use Rattle.net_cells.specs.Cells.{cell_of};
@@ -38,7 +40,8 @@ pub fn theta<T: Table<Value>, L: Ledger>(
     steps: &mut Steps<L>,
 ) -> Result<Value, OpFault>
     requires { MayBeMade net.now (T.at table.now) (cell_of Theta flow hop) }
-    ensures { Evaluates net.now (T.at table.now) (cell_of Theta flow hop) steps.old steps.new (answer_of meaning_of result) }
+    ensures { Evaluates net.now (T.at table.now) (cell_of Theta flow hop) steps.old steps.new
+        (answer_of meaning_of result) }
 {
     let place = place_of(net, flow, hop);
     let service = cell!(QueueService, place.0, place.1);
@@ -55,7 +58,8 @@ pub fn residual<T: Table<Value>, L: Ledger>(
     steps: &mut Steps<L>,
 ) -> Result<Value, OpFault>
     requires { MayBeMade net.now (T.at table.now) (cell_of Residual flow hop) }
-    ensures { Evaluates net.now (T.at table.now) (cell_of Residual flow hop) steps.old steps.new (answer_of meaning_of result) }
+    ensures { Evaluates net.now (T.at table.now) (cell_of Residual flow hop) steps.old steps.new
+        (answer_of meaning_of result) }
 {
     let place = place_of(net, flow, hop);
     let service = cell!(QueueService, place.0, place.1);
@@ -79,7 +83,8 @@ pub fn queue_delay<T: Table<Value>, L: Ledger>(
     steps: &mut Steps<L>,
 ) -> Result<Value, OpFault>
     requires { MayBeMade net.now (T.at table.now) (cell_of QueueDelay server queue) }
-    ensures { Evaluates net.now (T.at table.now) (cell_of QueueDelay server queue) steps.old steps.new (answer_of meaning_of result) }
+    ensures { Evaluates net.now (T.at table.now) (cell_of QueueDelay server queue) steps.old steps.new
+        (answer_of meaning_of result) }
 {
     let service = cell!(QueueService, server, queue);
     numbered(delay_between(table, cell!(Total, server, queue), service, steps))
@@ -95,7 +100,8 @@ pub fn queue_backlog<T: Table<Value>, L: Ledger>(
     steps: &mut Steps<L>,
 ) -> Result<Value, OpFault>
     requires { MayBeMade net.now (T.at table.now) (cell_of QueueBacklog server queue) }
-    ensures { Evaluates net.now (T.at table.now) (cell_of QueueBacklog server queue) steps.old steps.new (answer_of meaning_of result) }
+    ensures { Evaluates net.now (T.at table.now) (cell_of QueueBacklog server queue) steps.old steps.new
+        (answer_of meaning_of result) }
 {
     let service = cell!(QueueService, server, queue);
     let bits = longest_at(net, server, Pick::InQueue(queue));
@@ -119,7 +125,8 @@ pub fn shift_out<T: Table<Value>, L: Ledger>(
     steps: &mut Steps<L>,
 ) -> Result<Value, OpFault>
     requires { MayBeMade net.now (T.at table.now) (cell_of ShiftOut flow hop) }
-    ensures { Evaluates net.now (T.at table.now) (cell_of ShiftOut flow hop) steps.old steps.new (answer_of meaning_of result) }
+    ensures { Evaluates net.now (T.at table.now) (cell_of ShiftOut flow hop) steps.old steps.new
+        (answer_of meaning_of result) }
 {
     let by = cell!(HopDelay, flow, hop);
     later(alloc, table, cell!(In, flow, hop), by, steps)
@@ -135,7 +142,8 @@ pub fn deconv_out<T: Table<Value>, L: Ledger>(
     steps: &mut Steps<L>,
 ) -> Result<Value, OpFault>
     requires { MayBeMade net.now (T.at table.now) (cell_of DeconvOut flow hop) }
-    ensures { Evaluates net.now (T.at table.now) (cell_of DeconvOut flow hop) steps.old steps.new (answer_of meaning_of result) }
+    ensures { Evaluates net.now (T.at table.now) (cell_of DeconvOut flow hop) steps.old steps.new
+        (answer_of meaning_of result) }
 {
     let service = cell!(Residual, flow, hop);
     spread(
@@ -149,7 +157,7 @@ pub fn deconv_out<T: Table<Value>, L: Ledger>(
 }
 
 /// The curve with which a flow leaves a hop.
-pub fn out<T: Table<Value>, L: Ledger>(
+pub fn leaving<T: Table<Value>, L: Ledger>(
     alloc: Global,
     table: &T,
     net: &Network,
@@ -158,7 +166,8 @@ pub fn out<T: Table<Value>, L: Ledger>(
     steps: &mut Steps<L>,
 ) -> Result<Value, OpFault>
     requires { MayBeMade net.now (T.at table.now) (cell_of Out flow hop) }
-    ensures { Evaluates net.now (T.at table.now) (cell_of Out flow hop) steps.old steps.new (answer_of meaning_of result) }
+    ensures { Evaluates net.now (T.at table.now) (cell_of Out flow hop) steps.old steps.new
+        (answer_of meaning_of result) }
 {
     let second = cell!(DeconvOut, flow, hop);
     lesser(alloc, table, cell!(ShiftOut, flow, hop), second, steps)

@@ -1,8 +1,6 @@
-use Rattle.std.proofs.Common.{◌≡◌, suc, ◌-◌, ◌∙◌, sym, subst, arith}
-use Rattle.net_cells.specs.declared.cell.Kind.TheVariants.{In, Out}
+use Rattle.std.proofs.Common.{◌≡◌, suc, ◌-◌, subst, arith}
+use Rattle.net_cells.specs.declared.cell.Kind.TheVariants.{In}
 use Rattle.net_cells.specs.Cells.{cell_of}
-use Rattle.net_cells.specs.CellFormulas.{formula}
-use Rattle.cell_table.specs.Gives.{Gives}
 use Rattle.cell_table.specs.Values.{answer_of, meaning_of}
 use Rattle.cell_paths.specs.Evaluates.{MayBeMade, Evaluates}
 use Rattle.cell_paths.proofs.Counting.{counts_none}

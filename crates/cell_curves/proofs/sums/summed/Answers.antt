@@ -1,4 +1,4 @@
-use Rattle.std.proofs.Common.{◌≡◌, ◌+◌, ◌-◌, subst, length, []}
+use Rattle.std.proofs.Common.{◌-◌, subst, length, []}
 use Rattle.std.specs.Prelude.{Ok, Err}
 use Rattle.cell_table.specs.Values.{answer_of, meaning_of}
 use Rattle.cell_sums.specs.Partial.{Adds}

@@ -100,13 +100,13 @@ returns-in-DeconvOut g c =
     evaluates_kind c.args.net.now (g.T.Table.at c.args.table.now) c.args.cell DeconvOut c.args.steps.now c.deconv_out.new.steps
     (answer_of meaning_of c.deconv_out.result) c.in-DeconvOut.is c.deconv_out.ensures
 
-pub out-requires : goal.out-requires
-out-requires g c = made_of_kind c.args.net.now (g.T.Table.at c.args.table.now) c.args.cell Out c.in-Out.is c.requires
+pub leaving-requires : goal.leaving-requires
+leaving-requires g c = made_of_kind c.args.net.now (g.T.Table.at c.args.table.now) c.args.cell Out c.in-Out.is c.requires
 
 pub returns-in-Out : goal.returns-in-Out
 returns-in-Out g c =
-    evaluates_kind c.args.net.now (g.T.Table.at c.args.table.now) c.args.cell Out c.args.steps.now c.out.new.steps
-    (answer_of meaning_of c.out.result) c.in-Out.is c.out.ensures
+    evaluates_kind c.args.net.now (g.T.Table.at c.args.table.now) c.args.cell Out c.args.steps.now c.leaving.new.steps
+    (answer_of meaning_of c.leaving.result) c.in-Out.is c.leaving.ensures
 
 pub path-requires : goal.path-requires
 path-requires g c = made_of_path c.args.net.now (g.T.Table.at c.args.table.now) c.args.cell PathService c.in-PathService.is refl c.requires

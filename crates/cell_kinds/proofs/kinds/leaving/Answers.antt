@@ -10,7 +10,7 @@ use Rattle.cell_nodes.specs.Shapes.{Rises, Serving, Grows, Ahead}
 use Rattle.cell_nodes.specs.TableValues.{HasCurve, HasNumber, IsCurveAt, IsNumberAt}
 use Rattle.cell_paths.proofs.Counting.{ok_answer, counts_all, counts_none}
 use Rattle.cell_kinds.proofs.Arms.{theta_cross, theta_service, residual_service, residual_cross, residual_theta, hop_comes, hop_served_by, hop_queue, shift_comes, shift_by, deconv_comes, deconv_served_by, delay_comes, delay_served_by, backlog_comes, backlog_served_by, path_some, path_serves, sfa_comes, sfa_served_by, tfa_delays, bound_tfa, bound_sfa, out_shifted, out_spread, in_before, cross_ready, total_ready, higher_ready, service_above, sum_counts}
-use Rattle.cell_kinds.proofs.kinds.out.Goals as goal
+use Rattle.cell_kinds.proofs.kinds.leaving.Goals as goal
 
 pub lesser-requires-clause-first : goal.lesser-requires-clause-first
 lesser-requires-clause-first g c = out_shifted c.args.net.now (g.T.Table.at c.args.table.now) c.args.flow c.args.hop c.requires
