@@ -1,6 +1,6 @@
 -- The first elements of a finite curve: the point at 0, and the segment after it.
-use Rattle.std.specs.Prelude.{◌≡◌, List, [], ◌∷◌, ◌++◌, Option, Some, None}
-use Rattle.std.proofs.Common.{sym, refl, ap, ◌∙◌, subst}
+use Rattle.std.specs.Prelude.{◌≡◌, ◌≤◌, List, [], ◌∷◌, ◌++◌, length, map, Option, Some, None, Result, Err}
+use Rattle.std.proofs.Common.{arith, sym, refl, ap, ◌∙◌, subst, get_or}
 use Rattle.rational.specs.Rational.{ℚ, ◌≤ℚ◌, ◌<ℚ◌}
 use Rattle.rational.specs.Extended.{Ext, ◌<ₑ◌}
 use Rattle.rational.specs.declared.Extended.TheVariants.{Fin, Inf}
@@ -21,10 +21,15 @@ use Rattle.upp_curve.proofs.FirstStretch.{value_past}
 use Rattle.upp_curve.proofs.Repeats.{repeated_first}
 use Rattle.curve_conv.specs.PieceElements.{point_of, segment_of, next_start, elements_of, StartBefore}
 use Rattle.curve_conv.proofs.Cover.{read_one, read_stop, value_here}
-use Rattle.closure_fold.specs.CurveParts.{pieces_end}
+use Rattle.upp_curve.specs.declared.op_kind.OpFault.{OpFault}
+use Rattle.upp_curve.specs.declared.op_kind.OpFault.TheVariants.{NoMemory}
+use Rattle.curve_making.specs.Calls.{stops}
+use Rattle.closure_fold.specs.CurveParts.{pieces_end, part_of, parts_of}
+use Rattle.closure_fold.specs.Folds.{CloseAnswer}
 use Rattle.closure_fold.proofs.EachParts.{starts_before}
 use Rattle.closure_fold.proofs.LeastParts.{not_finite}
 use Rattle.subadd_closure.proofs.ElementFits.{early_time}
+use Rattle.subadd_closure.proofs.FoldSteps.{first_stops, early_refusal}
 
 -- ---- what is read of a finite curve before its pieces end
 by_tail : (ps : List Piece) (tail : Tail) (t : ℚ) → TailFits ps tail → IsFinite (λ u. with_tail (read ps) tail u)
@@ -113,3 +118,26 @@ elements_begin c v raw finite at = by_pieces c.pieces raw finite at
         → value_at record { pieces = ps; tail = c.tail } zero_q ≡ Fin v → BeginsWith v (elements_of ps (pieces_end c.tail))
     by_pieces [] raw finite at = absurd raw.starts
     by_pieces (p ∷ ps) raw finite at = first_two p ps c.tail v raw finite at
+
+-- the value at 0 is that of the first piece
+pub start_value : (c : SpecCurve) (ps : List Piece) (d : Piece) → ps ≡ c.pieces → IsRaw c → IsFinite (value_at c)
+    → value_at c zero_q ≡ (get_or ps 0 d).at
+start_value c [] d e raw finite = absurd (subst StartsAtZero (sym e) raw.starts)
+start_value c (p ∷ qs) d e raw finite = first_value c.pieces c.tail p qs raw finite (sym e)
+
+pub two_elements : (c : SpecCurve) (es : List Element) → es ≡ elements_of c.pieces (pieces_end c.tail) → IsRaw c
+    → IsFinite (value_at c) → 2 ≤ length es
+two_elements c es e raw finite =
+    let (v, at) = finite zero_q (le_refl zero_q) in
+    let n = ap length (e ∙ (elements_begin c v raw finite at).is) in
+    omega (arith, n)
+
+-- want of memory before the first part
+pub no_memory : (c : SpecCurve) (r : Result SpecCurve OpFault) → IsRaw c → IsFinite (value_at c) → r ≡ Err NoMemory → CloseAnswer c r
+no_memory c r raw finite is =
+    let (v, at) = finite zero_q (le_refl zero_q) in
+    let b = elements_begin c v raw finite at in
+    let first = part_of c.tail (Point b.start v) in
+    let all : parts_of c ≡ first ∷ map (part_of c.tail) (Open b.start b.end b.line ∷ b.others) = ap (map (part_of c.tail)) b.is in
+    early_refusal c (first ∷ []) (map (part_of c.tail) (Open b.start b.end b.line ∷ b.others)) NoMemory r all
+    (first_stops c first [] NoMemory (stops NoMemory tt refl)) is

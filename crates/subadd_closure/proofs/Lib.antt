@@ -7,3 +7,4 @@ pub mod SegmentLimits
 pub mod FoldShapes
 pub mod FoldLists
 pub mod FirstElements
+pub mod FoldSteps
