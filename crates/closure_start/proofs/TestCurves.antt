@@ -14,7 +14,8 @@ use Rattle.closure_start.specs.StartsAt.{ConvolvesFinitely}
 
 pub rising_nonneg : (f : ℚ → Ext) (v : ℚ) → IsRising f → f zero_q ≡ Fin v → zero_q ≤ℚ v → IsNonnegative f
 rising_nonneg f v R e low = λ t n.
-    le_ext_trans (Fin zero_q) (f zero_q) (f t) (subst (λ x. Fin zero_q ≤ₑ x) (sym e) low) (R zero_q t (le_refl zero_q) n)
+    le_ext_trans (Fin zero_q) (f zero_q) (f t) (subst (λ x. Fin zero_q ≤ₑ x) (sym e) low)
+    (R zero_q t (le_refl zero_q) n)
 
 at_once : (t : ℚ) → zero_q ≤ℚ t → Split t
 at_once t n = record {

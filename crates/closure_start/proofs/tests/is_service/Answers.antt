@@ -14,5 +14,6 @@ pub returns-then-is_finite : goal.returns-then-is_finite
 returns-then-is_finite c = λ rises.
     let f = value_at c.args.c.now in
     let zero = ap f (sym c.zero.ensures) ∙ sym c.in-Ok-Fin.ensures.value ∙ c.in-Ok-Fin.field-0-is in
-    let low = subst (λ z. z ≤ℚ c.in-Ok-Fin.v) c.zero-2.ensures (not_less c.cmp.result c.cmp.ensures.ranks c.in_default-cmp.not-Less) in
+    let low = subst (λ z. z ≤ℚ c.in-Ok-Fin.v) c.zero-2.ensures
+    (not_less c.cmp.result c.cmp.ensures.ranks c.in_default-cmp.not-Less) in
     (c.if-is_finite.ensures.0 refl, rising_nonneg f c.in-Ok-Fin.v (c.is_rising.ensures.0 rises) zero low)
