@@ -1,12 +1,12 @@
 use Rattle.std.specs.Option.{option_map}
-use Rattle.std.proofs.Common.{◌≡◌, ◌+◌, [], ◌∷◌, ◌++◌, map, get_or, drop, Some, refl, sym, ap, ◌∙◌, subst, arith}
+use Rattle.std.proofs.Common.{◌≡◌, ◌+◌, [], ◌∷◌, ◌++◌, map, drop, Some, refl, sym, ap, ◌∙◌, subst, arith}
 use Rattle.std.proofs.lemmas.List.{map_push}
 use Rattle.std.proofs.lemmas.Result.{err_from_is_err_and}
 use Rattle.net_model.specs.Views.{flow_of}
 use Rattle.net_draft.specs.declared.flow_draft.FlowDraft.{FlowDraft}
 use Rattle.net_draft.specs.Kept.{IsArrivalDraft}
 use Rattle.net_draft.specs.Views.{flow_text}
-use Rattle.net_text.specs.Built.{IsFlowOf, IsLiveFlowOf}
+use Rattle.net_text.specs.Built.{IsLiveFlowOf}
 use Rattle.net_text.specs.Firsts.{arrivals_from}
 use Rattle.net_text.proofs.Firsts.{goes_on, stops, arrival_entry, arrivals_more, texts_more}
 use Rattle.net_text.proofs.FoldSteps.{spends_more, spent}
