@@ -1,5 +1,5 @@
 -- A cell is the one of its kind with its numbers; that of a path has 0 for its second one.
-use Rattle.std.proofs.Common.{◌≡◌, ℕ, sym, subst, Bool, true}
+use Rattle.std.proofs.Common.{◌≡◌, ℕ, sym, subst}
 use Rattle.std.specs.Prelude.{IsTrue, ◌==◌}
 use Rattle.std.proofs.lemmas.Bool.{and_parts, eqb-true}
 use Rattle.net_model.specs.Networks.{Net}
