@@ -1,14 +1,12 @@
 -- The steps of an answer.
-use Rattle.std.proofs.Common.{◌≡◌, ◌≢◌, ◌+◌, ◌≤◌, ℕ, List, refl, sym, subst, arith}
+use Rattle.std.proofs.Common.{◌≡◌, ◌≢◌, ◌+◌, ◌≤◌, ℕ, List, refl, subst, arith}
 use Rattle.net_model.specs.Accepted.{IsAccepted}
 use Rattle.net_model.specs.Networks.{Net}
 use Rattle.net_model.specs.Orders.{IsOrder}
-use Rattle.net_model.specs.Walks.{IsCycle}
 use Rattle.net_graph.proofs.OneOrders.{one_order}
 use Rattle.net_graph.proofs.Returns.{order_or_cycle}
-use Rattle.net_draft.specs.Faults.{Fault}
 use Rattle.net_text.specs.Folds.{StepsAtMost}
-use Rattle.net_text.specs.Reading.{IsNetworkOf, FirstFault}
+use Rattle.net_text.specs.Reading.{IsNetworkOf}
 use Rattle.network_files.specs.FoldLimits.{OverFold}
 use Rattle.network_files.specs.FoldWork.{fold_work}
 use Rattle.file_answers.specs.Counts.{work_of_cells, CountsOnNet, CountsOn}

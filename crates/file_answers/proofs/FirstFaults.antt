@@ -22,7 +22,7 @@ use Rattle.network_files.specs.FoldLimits.{OverFold}
 use Rattle.file_answers.specs.declared.answer.Answer.{Answer}
 use Rattle.file_answers.specs.Replies.{Reply, breaks_rule, curve_over}
 use Rattle.file_answers.specs.Faults.{reply_of_kind, fault_reply}
-use Rattle.file_answers.specs.OnFiles.{IsBroken, IsCurveOver, IsReplyOn, Broken, CurveOver}
+use Rattle.file_answers.specs.OnFiles.{IsBroken, IsReplyOn, Broken, CurveOver}
 use Rattle.file_answers.specs.View.{reply_of}
 
 -- ---- a file says one thing

@@ -1,5 +1,5 @@
 -- Two replies on one file are the same, but for the choice among cycles.
-use Rattle.std.proofs.Common.{◌≡◌, ◌≢◌, ℕ, List, ◌⊎◌, inl, inr, refl, sym, ap, ◌∙◌, subst}
+use Rattle.std.proofs.Common.{◌≡◌, ℕ, List, ◌⊎◌, inl, inr, refl, sym, ap, ◌∙◌, subst}
 use Rattle.upp_curve.specs.LimitTest.{fault_of}
 use Rattle.upp_curve.specs.declared.own_limits.OverLimit.{OverLimit}
 use Rattle.upp_curve.specs.declared.own_limits.OverLimit.TheVariants.{TooMany, TooWide}
@@ -13,7 +13,6 @@ use Rattle.report_text.specs.CellWords.{cell_words}
 use Rattle.report_text.proofs.Agree.{one_report}
 use Rattle.file_answers.specs.Replies.{Reply, cell_over}
 use Rattle.file_answers.specs.Faults.{fault_reply}
-use Rattle.file_answers.specs.OnFiles.{IsReplyOn}
 use Rattle.file_answers.specs.Laws.{AreSame, RepliesAreDetermined, IsWithinLimits, RepliesAreComplete}
 use Rattle.file_answers.proofs.FirstFaults.{says}
 use Rattle.file_answers.proofs.Sorted.{OnFault, IsOver, IsShown, OnOrder, OnCycle, OnNet, sorted}
