@@ -2,7 +2,8 @@
 use Rattle.std.proofs.Common.{◌≡◌, ℕ, List, inl, inr, ap}
 use Rattle.upp_curve.specs.declared.own_limits.OverLimit.TheVariants.{TooMany, TooWide}
 use Rattle.file_answers.specs.Replies.{Reply}
-use Rattle.file_answers.specs.OnFiles.{IsBroken, IsOverLimit, HasCycle, IsReport, IsReplyOn, Broken, CurveOver, Cyclic, CellOver, Reported}
+use Rattle.file_answers.specs.OnFiles.{IsBroken, IsOverLimit, HasCycle, IsReport, IsReplyOn, Broken, CurveOver}
+use Rattle.file_answers.specs.OnFiles.{Cyclic, CellOver, Reported}
 
 -- what a reply is by its status
 pub record IsByStatus (file bytes : List ℕ) (reply : Reply) : Type 0 where

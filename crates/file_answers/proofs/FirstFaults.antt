@@ -8,7 +8,8 @@ use Rattle.upp_curve.specs.declared.op_kind.OpFault.TheVariants as operator
 use Rattle.closure_fold.proofs.OneFold.{close_once}
 use Rattle.net_model.specs.declared.fault.NetFault.{NetFault}
 use Rattle.net_model.specs.declared.fault.NetKind.{NetKind}
-use Rattle.net_model.specs.declared.fault.NetKind.TheVariants.{M1, M2, M3, M4, M5, M6, M7, M8, M9, M10, M11, M12, CurveTooMany, CurveTooWide, NoMemory}
+use Rattle.net_model.specs.declared.fault.NetKind.TheVariants.{M1, M2, M3, M4, M5, M6, M7, M8, M9, M10, M11, M12}
+use Rattle.net_model.specs.declared.fault.NetKind.TheVariants.{CurveTooMany, CurveTooWide, NoMemory}
 use Rattle.net_draft.specs.FaultKinds.{IsOfTables}
 use Rattle.net_draft.specs.Faults.{Fault, fault_of}
 use Rattle.net_draft.proofs.KindsOfTables.{faults_are_of_tables}
@@ -57,7 +58,8 @@ of_curves [] f h = absurd h
 of_curves (e ∷ es) f (inl here) = record { limit = here.limit; place = e.place; is = here.is }
 of_curves (e ∷ es) f (inr later) = of_curves es f later.1
 
-pub on_limit : (file place : List ℕ) (limit : OverLimit) → fault_reply file (limit_fault limit place) ≡ curve_over limit place
+pub on_limit : (file place : List ℕ) (limit : OverLimit)
+    → fault_reply file (limit_fault limit place) ≡ curve_over limit place
 on_limit file place TooMany = refl
 on_limit file place TooWide = refl
 
@@ -87,9 +89,14 @@ on_curve : (file bytes : List ℕ) (f : Fault) → CurveFault OverFold bytes f �
     → IsReplyOn file bytes (fault_reply file f)
 on_curve file bytes f h l =
     CurveOver l.limit
-    (record { place = l.place; first = subst (CurveFault OverFold bytes) l.is h; is = ap (fault_reply file) l.is ∙ on_limit file l.place l.limit })
+    record {
+      place = l.place;
+      first = subst (CurveFault OverFold bytes) l.is h;
+      is = ap (fault_reply file) l.is ∙ on_limit file l.place l.limit;
+    }
 
-pub on_first : (file bytes : List ℕ) (f : Fault) → FirstFault OverFold bytes f → IsReplyOn file bytes (fault_reply file f)
+pub on_first : (file bytes : List ℕ) (f : Fault) → FirstFault OverFold bytes f
+    → IsReplyOn file bytes (fault_reply file f)
 on_first file bytes f (inl tables) =
     Broken (record { fault = f; first = tables; is = of_tables file f f.kind (faults_are_of_tables bytes f tables) })
 on_first file bytes f (inr curve) = on_curve file bytes f curve (of_curves (curves_of curve.draft) f curve.first)

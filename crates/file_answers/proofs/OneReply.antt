@@ -17,8 +17,11 @@ use Rattle.file_answers.specs.Laws.{AreSame, RepliesAreDetermined, IsWithinLimit
 use Rattle.file_answers.proofs.FirstFaults.{says}
 use Rattle.file_answers.proofs.Sorted.{OnFault, IsOver, IsShown, OnOrder, OnCycle, OnNet, sorted}
 
-equal : (x y : Reply) → x ≡ y → AreSame x y
-equal x y same = record { status = ap (λ (r : Reply). r.status) same; bytes = λ other. ap (λ (r : Reply). r.bytes) same }
+pub equal : (x y : Reply) → x ≡ y → AreSame x y
+equal x y same = record {
+  status = ap (λ (r : Reply). r.status) same;
+  bytes = λ other. ap (λ (r : Reply). r.bytes) same;
+}
 
 -- ---- by an order
 same_limit : (l m : OverLimit) → fault_of l ≡ fault_of m → l ≡ m
@@ -32,7 +35,8 @@ by_order : (net : Net) (order : List ℕ) (x y : Reply) → IsAccepted net → I
 by_order net order x y a o (inl h) (inl k) =
     let limit = same_limit h.limit k.limit
     (one_is_first_over.fault net order h.cell k.cell (fault_of h.limit) (fault_of k.limit) a o h.first k.first) in
-    let cell = one_is_first_over.cell net order h.cell k.cell (fault_of h.limit) (fault_of k.limit) a o h.first k.first in
+    let cell =
+    one_is_first_over.cell net order h.cell k.cell (fault_of h.limit) (fault_of k.limit) a o h.first k.first in
     h.is ∙ ap (λ l. cell_over l (cell_words net h.cell)) limit
     ∙ ap (λ c. cell_over k.limit (cell_words net c)) cell ∙ sym k.is
 by_order net order x y a o (inl h) (inr k) =
@@ -58,7 +62,8 @@ by_net net x y a (inr h) (inr k) =
     equal x y (by_order net h.order x y a h.ordered h.on on)
 
 -- ---- by a file
-by_file : (file bytes : List ℕ) (x y : Reply) → OnFault file bytes x ⊎ OnNet bytes x → OnFault file bytes y ⊎ OnNet bytes y
+by_file : (file bytes : List ℕ) (x y : Reply) → OnFault file bytes x ⊎ OnNet bytes x
+    → OnFault file bytes y ⊎ OnNet bytes y
     → AreSame x y
 by_file file bytes x y (inl h) (inl k) =
     equal x y
@@ -74,7 +79,8 @@ pub replies_are_determined : RepliesAreDetermined
 replies_are_determined file bytes x y h k = by_file file bytes x y (sorted file bytes x h) (sorted file bytes y k)
 
 -- ---- within the limits
-on_order : (bytes : List ℕ) (reply : Reply) (w : IsWithinLimits bytes) → IsOver w.net w.order reply ⊎ IsShown w.net w.order reply
+on_order : (bytes : List ℕ) (reply : Reply) (w : IsWithinLimits bytes)
+    → IsOver w.net w.order reply ⊎ IsShown w.net w.order reply
     → reply.status ≡ 0
 on_order bytes reply w (inl h) = absurd (w.within h.cell (fault_of h.limit) h.first)
 on_order bytes reply w (inr h) = ap (λ (r : Reply). r.status) h.is
@@ -86,7 +92,8 @@ on_net bytes reply w (inr h) =
     let same = one_order w.net h.order w.order h.ordered w.ordered in
     on_order bytes reply w (subst (λ order. IsOver w.net order reply ⊎ IsShown w.net order reply) same h.on)
 
-on_file : (file bytes : List ℕ) (reply : Reply) (w : IsWithinLimits bytes) → OnFault file bytes reply ⊎ OnNet bytes reply
+on_file : (file bytes : List ℕ) (reply : Reply) (w : IsWithinLimits bytes)
+    → OnFault file bytes reply ⊎ OnNet bytes reply
     → reply.status ≡ 0
 on_file file bytes reply w (inl h) = absurd ((says bytes).not_both w.net h.fault w.gives.reads h.first)
 on_file file bytes reply w (inr h) =

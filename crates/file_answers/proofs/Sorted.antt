@@ -60,12 +60,15 @@ pub sorted : (file bytes : List ℕ) (reply : Reply) → IsReplyOn file bytes re
 sorted file bytes reply (Broken h) =
     inl (record { fault = h.fault; first = inl h.first; is = on_broken file bytes reply h })
 sorted file bytes reply (CurveOver limit h) =
-    inl (record { fault = limit_fault limit h.place; first = inr h.first; is = h.is ∙ sym (on_limit file h.place limit) })
+    let is = h.is ∙ sym (on_limit file h.place limit) in
+    inl (record { fault = limit_fault limit h.place; first = inr h.first; is = is })
 sorted file bytes reply (Cyclic h) =
     inr (record { net = h.net; gives = h.gives; on = inl (record { walk = h.walk; cycle = h.cycle; is = h.is }) })
 sorted file bytes reply (CellOver limit h) =
     let over : IsOver h.net h.order reply = record { limit = limit; cell = h.cell; first = h.first; is = h.is } in
-    inr (record { net = h.net; gives = h.gives; on = inr (record { order = h.order; ordered = h.ordered; on = inl over }) })
+    let on : OnOrder h.net reply = record { order = h.order; ordered = h.ordered; on = inl over } in
+    inr (record { net = h.net; gives = h.gives; on = inr on })
 sorted file bytes reply (Reported (net, at, h)) =
     let shown : IsShown net h.order reply = record { table = at; answers = h.answers; meets = h.meets; is = h.is } in
-    inr (record { net = net; gives = h.gives; on = inr (record { order = h.order; ordered = h.ordered; on = inr shown }) })
+    let on : OnOrder net reply = record { order = h.order; ordered = h.ordered; on = inr shown } in
+    inr (record { net = net; gives = h.gives; on = inr on })

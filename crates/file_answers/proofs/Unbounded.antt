@@ -1,5 +1,6 @@
 -- No fraction is written as `unbounded`: its text begins with no letter.
-use Rattle.std.proofs.Common.{◌≡◌, ℕ, zero, suc, ◌<◌, ◌/◌, ◌%◌, Bool, true, false, cond, eqb, List, [], ◌∷◌, ◌++◌, Option, Some, None, ℤ, pos, negsuc, refl, sym, ap, ◌∙◌, arith}
+use Rattle.std.proofs.Common.{◌≡◌, ℕ, zero, suc, ◌<◌, ◌/◌, ◌%◌, Bool, true, false, cond, eqb, List, [], ◌∷◌, ◌++◌}
+use Rattle.std.proofs.Common.{Option, Some, None, ℤ, pos, negsuc, refl, sym, ap, ◌∙◌, arith}
 use Rattle.std.specs.Prelude.{◌==◌, codes}
 use Rattle.std.specs.Fmt.{decimal, digits, digits_onto, digit_glyph}
 use Rattle.std.proofs.lemmas.Bool.Decides.{nat_tests}
@@ -22,8 +23,8 @@ onto : (k n : ℕ) (acc : List ℕ) → begins acc ≡ false → begins (digits_
 onto zero n acc h = h
 onto (suc k) n acc h =
     let here = glyph (n % 10) (omega arith) in
-    either (eqb (n / 10) 0) (digit_glyph false (n % 10) ∷ acc) (digits_onto k 10 false (n / 10) (digit_glyph false (n % 10) ∷ acc)) here
-    (onto k (n / 10) (digit_glyph false (n % 10) ∷ acc) here)
+    let more = digit_glyph false (n % 10) ∷ acc in
+    either (eqb (n / 10) 0) more (digits_onto k 10 false (n / 10) more) here (onto k (n / 10) more here)
   where
     either : (b : Bool) (xs ys : List ℕ) → begins xs ≡ false → begins ys ≡ false → begins (cond b xs ys) ≡ false
     either true xs ys h k = h

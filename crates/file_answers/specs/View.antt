@@ -1,7 +1,8 @@
 -- What the code's status and answer stand for.
 use Rattle.std.specs.Prelude.{ℕ, Result, Ok, Err}
 use Rattle.file_answers.specs.declared.answer.Status.{Status}
-use Rattle.file_answers.specs.declared.answer.Status.TheVariants.{Done, Malformed, Usage, ReadFault, WriteFault, NoMemory, TooWide, TooMany, Cycle}
+use Rattle.file_answers.specs.declared.answer.Status.TheVariants.{Done, Malformed, Usage, ReadFault, WriteFault}
+use Rattle.file_answers.specs.declared.answer.Status.TheVariants.{NoMemory, TooWide, TooMany, Cycle}
 use Rattle.file_answers.specs.declared.answer.Answer.{Answer}
 use Rattle.file_answers.specs.Replies.{Reply}
 

@@ -59,8 +59,9 @@ fn network(
     let server = format!(in alloc;
         "[[server]]\nname = \"s1\"\nrate = {rate}\nservice = {{ kind = \"latency\", latency = {latency} }}\n"
     )?;
+    let arrival = format!(in alloc; "arrival = {{ kind = \"bucket\", {bucket} }}\n")?;
     Ok(format!(in alloc;
-        "{server}[[flow]]\nname = \"f1\"\npacket = {packet}\narrival = {{ kind = \"bucket\", {bucket} }}\npath = [\"s1\"]\n"
+        "{server}[[flow]]\nname = \"f1\"\npacket = {packet}\n{arrival}path = [\"s1\"]\n"
     )?)
 }
 

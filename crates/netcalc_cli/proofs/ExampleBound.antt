@@ -41,7 +41,10 @@ same_curve at c f g h k = cc
 same_number : (at : CellTable) (c : Cell) (x y : Ext) → at c ≡ Some (number x) → at c ≡ Some (number y) → x ≡ y
 same_number at c x y h k = cc
 
-deviation_is : (v : Meaning) → IsNumberIn (IsHorizontalDeviation (value_at its_flow.arrival) (value_at its_server.service)) v
+abbrev IsDeviation : SpecCurve → SpecCurve → Meaning → Type 0
+IsDeviation f g = IsNumberIn (IsHorizontalDeviation (value_at f) (value_at g))
+
+deviation_is : (v : Meaning) → IsDeviation its_flow.arrival its_server.service v
     → v ≡ number (Fin (whole 130))
 deviation_is (curve f) h = absurd h
 deviation_is (number x) h =
@@ -54,11 +57,10 @@ queue_delay_is : (at : CellTable) → MeetsEquations one_flow at
 queue_delay_is at m =
     let e = m (cell_of QueueDelay 0 0) refl in
     let f = same_curve at (cell_of Total 0 0) e.means.operand its_flow.arrival e.means.is (total_is at m) in
-    let g = same_curve at (cell_of QueueService 0 0) e.means.gives.operand its_server.service e.means.gives.is (service_is at m) in
-    let first = subst (λ (c : SpecCurve). IsNumberIn (IsHorizontalDeviation (value_at c) (value_at e.means.gives.operand)) e.value)
-    f e.means.gives.gives in
-    let both = subst (λ (c : SpecCurve). IsNumberIn (IsHorizontalDeviation (value_at its_flow.arrival) (value_at c)) e.value)
-    g first in
+    let served = e.means.gives.operand in
+    let g = same_curve at (cell_of QueueService 0 0) served its_server.service e.means.gives.is (service_is at m) in
+    let first = subst (λ (c : SpecCurve). IsDeviation c served e.value) f e.means.gives.gives in
+    let both = subst (λ (c : SpecCurve). IsDeviation its_flow.arrival c e.value) g first in
     e.is ∙ ap Some (deviation_is e.value both)
 
 -- ---- numbers of at most 130
@@ -117,7 +119,8 @@ bound_at_most at m =
 -- ---- and at least 130, by the packet
 its_bound : (at : CellTable) → MeetsEquations one_flow at → at (cell_of Bound 0 0) ≡ Some (number (Fin (whole 130)))
 its_bound at m =
-    let kept = ((table_bounds_every_run one_flow (0 ∷ []) at one_packet accepted ordered m is_run).paths 0 refl).bound in
+    let all = table_bounds_every_run one_flow (0 ∷ []) at one_packet accepted ordered m is_run in
+    let kept = (all.paths 0 refl).bound in
     let most = bound_at_most at m in
     let same = same_number at (cell_of Bound 0 0) kept.value most.value kept.is most.is in
     let seen = subst (λ (ds : List ℚ). AreAtMost kept.value ds) one_packet_reaches_its_bound.its_delay kept.holds in

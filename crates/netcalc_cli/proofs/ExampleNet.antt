@@ -1,6 +1,7 @@
 -- The network of the example is accepted, its one server is its order, and one packet through it is a run of it.
 use Rattle.std.specs.Prelude.{All, AllPairs, Contains, IsTrue}
-use Rattle.std.proofs.Common.{◌≡◌, ◌≢◌, ℕ, zero, suc, ◌<◌, [], ◌∷◌, length, get_or, take, true, false, Some, refl, ap, subst, arith}
+use Rattle.std.proofs.Common.{◌≡◌, ◌≢◌, ℕ, zero, suc, ◌<◌, [], ◌∷◌, length, get_or, take, true, false, Some, refl, ap}
+use Rattle.std.proofs.Common.{subst, arith}
 use Rattle.rational.specs.Rational.{◌-ℚ◌}
 use Rattle.rational.specs.Extended.{◌≤ₑ◌}
 use Rattle.rational.specs.declared.Extended.TheVariants.{Fin}

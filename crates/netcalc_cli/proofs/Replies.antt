@@ -1,5 +1,6 @@
 -- What a reply that was given is, by its status.
-use Rattle.std.proofs.Common.{◌≡◌, ◌≢◌, ◌≤◌, ◌<◌, ◌⊎◌, ℕ, List, length, Option, Some, None, IfSome, inl, inr, refl, sym, ap, ◌∙◌, subst, lit<, arith}
+use Rattle.std.proofs.Common.{◌≡◌, ◌≢◌, ◌≤◌, ◌<◌, ◌⊎◌, ℕ, List, length, Option, Some, None, IfSome, inl, inr, refl}
+use Rattle.std.proofs.Common.{sym, ap, ◌∙◌, subst, lit<, arith}
 use Rattle.std.proofs.Math.ListN.{replicate}
 use Rattle.std.proofs.lemmas.Bool.{cases_eq}
 use Rattle.std.proofs.lemmas.List.{length-replicate}
@@ -16,7 +17,8 @@ use Rattle.file_answers.proofs.OneReply as on_bytes
 use Rattle.netcalc_cli.specs.Counts.{CountsOnFile}
 use Rattle.netcalc_cli.specs.Guarantee.{Guarantees}
 use Rattle.netcalc_cli.specs.Laws.{RepliesAreDetermined}
-use Rattle.netcalc_cli.specs.Reply.{most_bytes, IsReplyOnFile, MayHold, IsTooLong, MayReplyOn, Gives, GivesOnTold, Brings}
+use Rattle.netcalc_cli.specs.Reply.{most_bytes, IsReplyOnFile, MayHold, IsTooLong, MayReplyOn, Gives, GivesOnTold}
+use Rattle.netcalc_cli.specs.Reply.{Brings}
 
 -- ---- files that are too long
 -- a list of any length
@@ -84,7 +86,8 @@ brings P told file reply status old new on is given =
     record { bytes = on.bytes; held = on.held; fits = on.fits; reply = reply; is = is; given = given }
 
 malformed : (told : Option (List ℕ)) (file : List ℕ) (reply : Reply) (status : ℕ) (old new : Option (List ℕ))
-    → Gives status old new reply → reply.status ≡ 1 → (IsTooLong told × (reply ≡ too_long file)) ⊎ IsOnBytes told file reply
+    → Gives status old new reply → reply.status ≡ 1
+    → (IsTooLong told × (reply ≡ too_long file)) ⊎ IsOnBytes told file reply
     → (IsTooLong told × Gives status old new (too_long file)) ⊎ Brings (IsBroken file) told status old new
 malformed told file reply status old new given one (inl long) =
     inl (long.0, subst (Gives status old new) long.1 given)
@@ -100,8 +103,12 @@ guaranteed net at bytes reply h run keeps =
 done : (told : Option (List ℕ)) (file : List ℕ) (reply : Reply) (status : ℕ) (old new : Option (List ℕ))
     (on : IsOnBytes told file reply) → Gives status old new reply → IsReport on.bytes reply
     → (net : Net) × (at : CellTable) × Brings (IsReportOf net at) told status old new × Guarantees net at
-done told file reply status old new on given r =
-    (r.0, r.1, brings (IsReportOf r.0 r.1) told file reply status old new on r.2 given, guaranteed r.0 r.1 on.bytes reply r.2)
+done told file reply status old new on given r = (
+  r.0,
+  r.1,
+  brings (IsReportOf r.0 r.1) told file reply status old new on r.2 given,
+  guaranteed r.0 r.1 on.bytes reply r.2,
+)
 
 by_given : (told : Option (List ℕ)) (file : List ℕ) (reply : Reply) (status : ℕ) (old new : Option (List ℕ))
     → MayBe told file reply → Gives status old new reply → IsBrought told file status old new
@@ -179,14 +186,12 @@ pub on_file_at : (told : Option (List ℕ)) (status other old new : ℕ) → (ot
     → CountsOnFile told status old new → CountsOnFile told other old new
 on_file_at told status other old new same (inl none) = inl (λ zero. none.0 (same zero), none.1)
 on_file_at told status other old new same (inr h) =
-    inr (record { bytes = h.bytes; held = h.held; fits = h.fits; counts = counts_at h.bytes status other old new same h.counts })
+    let counts = counts_at h.bytes status other old new same h.counts in
+    inr (record { bytes = h.bytes; held = h.held; fits = h.fits; counts = counts })
 
 -- ---- there is one reply
-equal : (x y : Reply) → x ≡ y → AreSame x y
-equal x y same = record { status = ap (λ (r : Reply). r.status) same; bytes = λ other. ap (λ (r : Reply). r.bytes) same }
-
 pub replies_are_determined : RepliesAreDetermined
-replies_are_determined file bytes x y (inl h) (inl k) = equal x y (h.1 ∙ sym k.1)
+replies_are_determined file bytes x y (inl h) (inl k) = on_bytes.equal x y (h.1 ∙ sym k.1)
 replies_are_determined file bytes x y (inl h) (inr k) = absurd (omega (arith, h.0, k.0))
 replies_are_determined file bytes x y (inr h) (inl k) = absurd (omega (arith, h.0, k.0))
 replies_are_determined file bytes x y (inr h) (inr k) = on_bytes.replies_are_determined file bytes x y h.1 k.1

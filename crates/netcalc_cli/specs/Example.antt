@@ -40,8 +40,8 @@ its_flow = record {
 abbrev pub one_flow : Net
 one_flow = record { version = 1; servers = its_server ∷ []; flows = Some its_flow ∷ [] }
 
--- The network is accepted and has an order. A packet of 12000 bits that enters at 0 and is worked on from 10 to 130 is a
--- run of it, and the packet's delay is 130. Each table that meets the equations has the bound 130.
+-- The network is accepted and has an order. A packet of 12000 bits that enters at 0 and is worked on from 10 to 130 is
+-- a run of it, and the packet's delay is 130. Each table that meets the equations has the bound 130.
 pub record OneFlowReachesItsBound : Type 0 where
   pub accepted : IsAccepted one_flow
   pub ordered : IsOrder one_flow (0 ∷ [])

@@ -40,8 +40,8 @@ fn give<K: Sink>(out: &mut K, status: Status, text: &[u8]) -> u8
 /// Does what the words ask for, and gives the status. The program's name is the first word.
 ///
 /// `analyse NET` reads a file of a network, and writes the bounds on its delays and backlogs. The order is: the words,
-/// the file, its tables, its curves, the order of its servers, the cells, one `put`. Each refusal but 4 and 5 writes one
-/// line.
+/// the file, its tables, its curves, the order of its servers, the cells, one `put`. Each refusal but 4 and 5 writes
+/// one line.
 pub fn run<I: Inputs, K: Sink, L: Ledger>(
     words: &[String],
     inputs: &mut I,
@@ -66,18 +66,20 @@ pub fn run<I: Inputs, K: Sink, L: Ledger>(
     // 7 only where the first curve of the file over a limit, or else the first cell over one, has too many pieces; the
     // line names it.
     ensures too_many { result ≡ 7 → IfSome (net_word (texts words.now)) (λ file.
-        Brings (IsOverLimit limits.TooMany) (I.content inputs.old file) result (K.written out.old) (K.written out.new)) }
+        Brings (IsOverLimit limits.TooMany) (I.content inputs.old file)
+        result (K.written out.old) (K.written out.new)) }
 
     // 6 only where that first curve or cell has too wide numbers.
     ensures too_wide { result ≡ 6 → IfSome (net_word (texts words.now)) (λ file.
-        Brings (IsOverLimit limits.TooWide) (I.content inputs.old file) result (K.written out.old) (K.written out.new)) }
+        Brings (IsOverLimit limits.TooWide) (I.content inputs.old file)
+        result (K.written out.old) (K.written out.new)) }
 
     // 8 only where the network of the file has a cycle, which the line tells.
     ensures cycle { result ≡ 8 → IfSome (net_word (texts words.now)) (λ file.
         Brings HasCycle (I.content inputs.old file) result (K.written out.old) (K.written out.new)) }
 
-    // 0 only where the file gives a network whose cells have their answers in a table that meets the equations, and then
-    // the report is written, with the numbers of the table. In every run of the network they are kept.
+    // 0 only where the file gives a network whose cells have their answers in a table that meets the equations, and
+    // then the report is written, with the numbers of the table. In every run of the network they are kept.
     ensures done { result ≡ 0 → IfSome (net_word (texts words.now)) (λ file. (net : Net) × (at : CellTable)
         × Brings (IsReportOf net at) (I.content inputs.old file) result (K.written out.old) (K.written out.new)
         × Guarantees net at) }
@@ -99,8 +101,8 @@ pub fn run<I: Inputs, K: Sink, L: Ledger>(
         × MayReply I.content I.faults I.last_fault (net_word (texts words.now)) inputs.old inputs.new reply
         × Gives result (K.written out.old) (K.written out.new) reply }
 
-    // No more steps than the operators of the folds of the file's closures, and after these the work of all cells; where
-    // the report is written, exactly that work.
+    // No more steps than the operators of the folds of the file's closures, and after these the work of all cells;
+    // where the report is written, exactly that work.
     ensures counts { Counts I.content (net_word (texts words.now)) inputs.old result steps.old steps.new }
 {
     let Some(taken) = take_words(words) else {

@@ -17,10 +17,7 @@ fn one_server_has_these_bounds(rt: HostRuntime) -> Result<(), Fail> {
              flow f1 tfa 190 sfa 3730/19 bound 190\nflow f2 tfa 190 sfa 590/3 bound 190\n",
         ),
         (&[""], "servers 0 flows 0\n"),
-        (
-            &[S1],
-            "servers 1 flows 0\nqueue s1 0 delay 0 backlog 0\n",
-        ),
+        (&[S1], "servers 1 flows 0\nqueue s1 0 delay 0 backlog 0\n"),
     ];
     for (parts, wanted) in rows {
         let text = joined(alloc, parts)?;
@@ -121,7 +118,8 @@ fn queues_have_these_bounds(rt: HostRuntime) -> Result<(), Fail> {
 }
 
 /// What `examples/avionics.toml` holds.
-const AVIONICS: &str = "# Two switches of an avionics network, and three flows through both, in microseconds and bits.
+const AVIONICS: &str =
+    "# Two switches of an avionics network, and three flows through both, in microseconds and bits.
 
 [[server]]
 name = \"sw1\"
@@ -153,7 +151,8 @@ path = [\"sw1\", \"sw2\"]
 ";
 
 /// What `examples/gate.toml` holds.
-const GATE: &str = "# A server that works in the first 250 of each 1000, and one flow through it, in microseconds and bits.
+const GATE: &str =
+    "# A server that works in 250 of each 1000, and one flow through it, in microseconds and bits.
 
 [[server]]
 name = \"g\"

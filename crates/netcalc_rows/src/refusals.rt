@@ -16,7 +16,14 @@ fn rules_and_cycles_are_told(rt: HostRuntime) -> Result<(), Fail> {
             "netcalc: n.toml: M3 server[0].colour\n",
         ),
         (
-            &[S1, deficit, F1, "path = [\"s1:0\"]\n", F2, "path = [\"s1:1\"]\n"],
+            &[
+                S1,
+                deficit,
+                F1,
+                "path = [\"s1:0\"]\n",
+                F2,
+                "path = [\"s1:1\"]\n",
+            ],
             1,
             "netcalc: n.toml: M12 server[0].quanta[0]\n",
         ),

@@ -62,8 +62,11 @@ returns-in_default-clause-answers g c four five =
 
 pub returns-in-Ok-clause-answers : goal.returns-in-Ok-clause-answers
 returns-in-Ok-clause-answers g c four five =
-    let given = c.give-in-Ok.ensures.given four in
-    (reply_of c.in-Ok.answer, rw (← c.in-Some.ensures) c.in-Ok.ensures.reply, (given.0, rw c.deref.ensures.value at given.1))
+    let given = c.give-in-Ok.ensures.given four in (
+      reply_of c.in-Ok.answer,
+      rw (← c.in-Some.ensures) c.in-Ok.ensures.reply,
+      (given.0, rw c.deref.ensures.value at given.1),
+    )
 
 pub returns-in-Ok-clause-counts : goal.returns-in-Ok-clause-counts
 returns-in-Ok-clause-counts g c =
