@@ -15,14 +15,21 @@ pub record HaveMore (at : CellTable) (cs : List Cell) (c : Cell) (xs : List Ext)
   pub are : HaveNumbers at cs front
   pub at_last : at c ≡ Some (number last)
 
-pub have_more : (at : CellTable) (cs : List Cell) (c : Cell) (xs : List Ext) → HaveNumbers at (cs ++ c ∷ []) xs → HaveMore at cs c xs
+pub have_more : (at : CellTable) (cs : List Cell) (c : Cell) (xs : List Ext)
+    → HaveNumbers at (cs ++ c ∷ []) xs → HaveMore at cs c xs
 have_more at [] c [] h = absurd h
 have_more at [] c (x ∷ []) h = record { front = []; last = x; is = refl; are = tt; at_last = h.0 }
 have_more at [] c (x ∷ y ∷ ys) h = absurd h.1
 have_more at (d ∷ cs) c [] h = absurd h
 have_more at (d ∷ cs) c (x ∷ xs) h =
     let rest = have_more at cs c xs h.1 in
-    record { front = x ∷ rest.front; last = rest.last; is = ap (λ ys. x ∷ ys) rest.is; are = (h.0, rest.are); at_last = rest.at_last }
+    record {
+      front = x ∷ rest.front;
+      last = rest.last;
+      is = ap (λ ys. x ∷ ys) rest.is;
+      are = (h.0, rest.are);
+      at_last = rest.at_last;
+    }
 
 pub record HaveAll (at : CellTable) (cs : List Cell) : Type 0 where
   pub numbers : List Ext
@@ -36,7 +43,7 @@ have_all at (c ∷ cs) each =
     let rest = have_all at cs (λ d h. each d (inr h)) in
     record { numbers = first.value ∷ rest.numbers; are = (first.is, rest.are); long = ap suc rest.long }
 
--- one more number after those of a list
+-- no cell, no number
 pub have_none : (at : CellTable) (xs : List Ext) → HaveNumbers at [] xs → xs ≡ []
 have_none at [] h = refl
 have_none at (x ∷ xs) h = absurd h

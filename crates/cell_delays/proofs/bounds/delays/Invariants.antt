@@ -6,4 +6,5 @@ use Rattle.cell_delays.proofs.PathSums.{delays_to}
 use Rattle.cell_delays.proofs.bounds.delays.Given as goal
 
 abbrev pub invariant-loop-hop : goal.invariant-loop-hop
-invariant-loop-hop g l = (xs : List Ext) → HaveNumbers (g.T.Table.at l.table) (delays_to l.flow l.hop) xs → AreAdded xs l.all
+invariant-loop-hop g l =
+    (xs : List Ext) → HaveNumbers (g.T.Table.at l.table) (delays_to l.flow l.hop) xs → AreAdded xs l.all

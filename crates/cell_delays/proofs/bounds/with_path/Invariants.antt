@@ -6,4 +6,5 @@ use Rattle.cell_delays.proofs.PathSums.{links_to}
 use Rattle.cell_delays.proofs.bounds.with_path.Given as goal
 
 abbrev pub invariant-loop-hop : goal.invariant-loop-hop
-invariant-loop-hop l = (xs : List Ext) → AreAdded xs l.fn.numbers → AreAdded (with_links xs (links_to l.net l.flow l.hop)) l.all
+invariant-loop-hop l =
+    (xs : List Ext) → AreAdded xs l.fn.numbers → AreAdded (with_links xs (links_to l.net l.flow l.hop)) l.all

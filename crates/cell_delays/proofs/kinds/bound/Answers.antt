@@ -16,7 +16,8 @@ pub returns : goal.returns
 returns g c = λ n. record {
   answer =
       rw c.lesser_number.ensures
-      (smaller_answer (g.T.Table.at c.args.table.now) (cell_of Tfa c.args.flow 0) (value_of (cell_of Sfa c.args.flow 0)) c.number_at-hop_by_hop.result
-      c.number_at-whole_path.result c.number_at-hop_by_hop.ensures c.number_at-whole_path.ensures);
+      (smaller_answer (g.T.Table.at c.args.table.now) (cell_of Tfa c.args.flow 0) (value_of (cell_of Sfa c.args.flow 0))
+      c.number_at-hop_by_hop.result c.number_at-whole_path.result
+      c.number_at-hop_by_hop.ensures c.number_at-whole_path.ensures);
   counts = counts_none n _;
 }

@@ -8,7 +8,8 @@ use Rattle.cell_delays.proofs.PathSums.{smaller_answer, smaller_refused}
 use Rattle.cell_delays.proofs.kinds.hop_delay.Goals as goal
 
 pub delay_between-requires-clause-rises : goal.delay_between-requires-clause-rises
-delay_between-requires-clause-rises g c = hop_comes c.args.net.now (g.T.Table.at c.args.table.now) c.args.flow c.args.hop c.requires
+delay_between-requires-clause-rises g c =
+    hop_comes c.args.net.now (g.T.Table.at c.args.table.now) c.args.flow c.args.hop c.requires
 
 pub delay_between-requires-clause-serves : goal.delay_between-requires-clause-serves
 delay_between-requires-clause-serves g c =
@@ -29,7 +30,9 @@ returns-in-Ok g c =
     let is = rw (c.place_of-place.ensures.server, c.place_of-place.ensures.queue) at c.number_at-queue.ensures in
     record {
       answer =
-          rw c.lesser_number.ensures (smaller_answer (g.T.Table.at c.args.table.now) queue own c.number_at-queue.result c.in-Ok.own is c.in-Ok.ensures.answer);
+          rw c.lesser_number.ensures
+          (smaller_answer (g.T.Table.at c.args.table.now) queue own c.number_at-queue.result c.in-Ok.own is
+          c.in-Ok.ensures.answer);
       counts = counts_all 1 c.args.steps.now _ _ c.in-Ok.ensures.count;
     }
 
@@ -42,6 +45,7 @@ returns-in-Err g c =
     record {
       answer =
           smaller_refused at (cell_of QueueDelay (server_at net i k) (queue_at net i k))
-          (horizontal (value_of (cell_of In i k)) (value_of (cell_of Residual i k))) c.in-Err.fault (hop_queue net at i k c.requires) c.in-Err.ensures.answer;
+          (horizontal (value_of (cell_of In i k)) (value_of (cell_of Residual i k))) c.in-Err.fault
+          (hop_queue net at i k c.requires) c.in-Err.ensures.answer;
       counts = counts_all 1 c.args.steps.now _ _ c.in-Err.ensures.count;
     }

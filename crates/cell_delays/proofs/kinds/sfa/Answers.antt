@@ -12,10 +12,12 @@ use Rattle.cell_delays.proofs.PathSums.{delayed_answer}
 use Rattle.cell_delays.proofs.kinds.sfa.Goals as goal
 
 pub delay_between-requires-clause-rises : goal.delay_between-requires-clause-rises
-delay_between-requires-clause-rises g c = sfa_comes c.args.net.now (g.T.Table.at c.args.table.now) c.args.flow c.requires
+delay_between-requires-clause-rises g c =
+    sfa_comes c.args.net.now (g.T.Table.at c.args.table.now) c.args.flow c.requires
 
 pub delay_between-requires-clause-serves : goal.delay_between-requires-clause-serves
-delay_between-requires-clause-serves g c = sfa_served_by c.args.net.now (g.T.Table.at c.args.table.now) c.args.flow c.requires
+delay_between-requires-clause-serves g c =
+    sfa_served_by c.args.net.now (g.T.Table.at c.args.table.now) c.args.flow c.requires
 
 pub returns-in-Ok : goal.returns-in-Ok
 returns-in-Ok g c =
@@ -26,9 +28,12 @@ returns-in-Ok g c =
     record {
       answer =
           rw c.numbered.ensures
-          (delayed_answer net at (horizontal (value_of (cell_of In i 0)) (value_of (cell_of PathService i 0))) i x c.sum_of.result c.requires.accepted
+          (delayed_answer net at (horizontal (value_of (cell_of In i 0)) (value_of (cell_of PathService i 0))) i x
+          c.sum_of.result c.requires.accepted
           c.in-Ok.ensures.answer
-          (λ few. c.sum_of.ensures (with_links (x ∷ []) (links_along net i)) few (c.with_path.ensures (x ∷ []) (c.and.ensures [] c.no_number.ensures))));
+          (λ few.
+          c.sum_of.ensures (with_links (x ∷ []) (links_along net i)) few
+          (c.with_path.ensures (x ∷ []) (c.and.ensures [] c.no_number.ensures))));
       counts = counts_all 1 c.args.steps.now _ _ c.in-Ok.ensures.count;
     }
 

@@ -17,6 +17,7 @@ returns g c = λ n.
       answer =
           rw c.numbered.ensures
           (path_answer net at i c.sum_of.result c.requires.accepted (tfa_delays net at i c.requires)
-          (λ xs few are. c.sum_of.ensures (with_links xs (links_along net i)) few (c.with_path.ensures xs (c.delays.ensures xs are))));
+          (λ xs few are.
+          c.sum_of.ensures (with_links xs (links_along net i)) few (c.with_path.ensures xs (c.delays.ensures xs are))));
       counts = counts_none n _;
     }
