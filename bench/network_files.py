@@ -2,10 +2,12 @@
 
     python3 bench/network_files.py NETCALC
 
-NETCALC is the program. Today it reads one form of file and refuses these, each with status 10; the times are of use
-once it reads networks of more than one server. Each file has 64 servers and 256 flows of 16 hops with listed arrival curves of 64 pieces, cut to
-fit 1,048,576 bytes; one is accepted, and the others have one fault each near the end. A line a file: its bytes, the
-status, the first line that was written, and the seconds that the run took.
+NETCALC is the program. The first file has 64 servers and 256 flows of 16 hops with listed arrival curves of up to 64
+pieces, cut to fit 1,048,576 bytes, and the same with a fault near its end; the others are made to take long: brackets
+in brackets, a long key, many keys, a long number, and many names that differ in their last byte. A line a file: its
+bytes, the status, the seconds that the run took, how many times the bytes and the seconds are those of a smaller file of
+the same make, and the first line that was written. Where the seconds grow as the bytes do, the two are alike. A file
+that is accepted is analysed too.
 """
 
 import subprocess
@@ -36,49 +38,72 @@ def flow(number: int, count: int, path: list[str]) -> str:
     )
 
 
-def network(last_path: list[str] | None = None, last_key: str = "") -> str:
-    servers = [server(n) for n in range(64)]
-    flows = []
-    for n in range(256):
-        first = n % 48
-        path = [f"s{first + k}" for k in range(16)]
-        if n == 255 and last_path is not None:
-            path = last_path
-        flows.append(flow(n, 64, path))
-    size = sum(map(len, servers)) + sum(map(len, flows)) + len(last_key)
-    count = 64
-    while size > MOST_BYTES:
-        count -= 1
-        flows = [
-            flow(n, count, [f"s{n % 48 + k}" for k in range(16)] if n != 255 or last_path is None else last_path)
-            for n in range(256)
-        ]
-        size = sum(map(len, servers)) + sum(map(len, flows)) + len(last_key)
-    return "".join(servers) + "".join(flows) + last_key
+def network(most: int, last_path: list[str] | None = None, last_key: str = "") -> str:
+    """The largest such file of at most so many bytes; the last key is one of its last flow."""
+    servers = "".join(server(n) for n in range(64))
+
+    def with_pieces(count: int) -> str:
+        flows = []
+        for n in range(256):
+            path = last_path if n == 255 and last_path is not None else [f"s{n % 48 + k}" for k in range(16)]
+            flows.append(flow(n, count, path))
+        return servers + "".join(flows) + last_key
+
+    for count in range(64, 1, -1):
+        text = with_pieces(count)
+        if len(text) <= most:
+            return text
+    return with_pieces(1)
 
 
+def names(most: int) -> str:
+    """Servers whose names differ in their last bytes, and flows over the last of them."""
+    servers = "".join(f'[[server]]\nname = "{"s" * 28}{n:04}"\nrate = 1\n' for n in range(64))
+    path = "path = [" + ", ".join(f'"{"s" * 28}{63 - n:04}"' for n in range(16)) + "]\n"
+    flows = "".join(
+        f'[[flow]]\nname = "{"f" * 28}{n:04}"\npacket = 1\narrival = {{ kind = "bucket", burst = 1, rate = 0 }}\n{path}'
+        for n in range(256)
+    )
+    text = servers + flows
+    return text + "#" * max(0, most - len(text) - 1) + "\n"
+
+
+# Each makes a file of at most so many bytes.
 FILES = {
-    "accepted": network(),
-    "unknown server at the end": network([f"s{k}" for k in range(15)] + ["s99"]),
-    "unknown key at the end": network(last_key="speed = 1\n"),
-    "deep": "a = " + "[" * 500_000 + "]" * 500_000 + "\n",
-    "long key": '"' + "k" * 1_000_000 + '" = 1\n',
-    "many keys": "".join(f"k{n} = 1\n" for n in range(90_000)),
-    "long number": "version = " + "9" * 1_000_000 + "\n",
+    "accepted": lambda most: network(most),
+    "unknown server at the end": lambda most: network(most, [f"s{k}" for k in range(15)] + ["s99"]),
+    "unknown key at the end": lambda most: network(most, last_key="speed = 1\n"),
+    "deep": lambda most: "a = " + "[" * (most // 2 - 3) + "]" * (most // 2 - 3) + "\n",
+    "long key": lambda most: '"' + "k" * (most - 8) + '" = 1\n',
+    "many keys": lambda most: "".join(f"k{n} = 1\n" for n in range(most // 12)),
+    "long number": lambda most: "version = " + "9" * (most - 12) + "\n",
+    "alike names": names,
 }
+
+
+def seconds(program: str, path: Path, text: str) -> tuple[float, int, str]:
+    path.write_text(text)
+    began = time.monotonic()
+    run = subprocess.run([program, "analyse", str(path)], capture_output=True, text=True)
+    took = time.monotonic() - began
+    lines = (run.stdout + run.stderr).splitlines()
+    return took, run.returncode, lines[0][:100] if lines else ""
 
 
 def main() -> None:
     program = sys.argv[1]
     with tempfile.TemporaryDirectory() as folder:
         path = Path(folder) / "n.toml"
-        for name, text in FILES.items():
-            path.write_text(text)
-            began = time.monotonic()
-            run = subprocess.run([program, "analyse", str(path)], capture_output=True, text=True)
-            took = time.monotonic() - began
-            line = (run.stdout + run.stderr).splitlines()
-            print(f"{name}: {len(text)} bytes, status {run.returncode}, {took:.2f} s, {line[0] if line else ''}")
+        for name, make in FILES.items():
+            small = make(MOST_BYTES // 2)
+            before, _, _ = seconds(program, path, small)
+            text = make(MOST_BYTES)
+            took, status, line = seconds(program, path, text)
+            bytes_ratio, time_ratio = len(text) / len(small), took / before
+            print(
+                f"{name}: {len(text)} bytes, status {status}, {took:.2f} s, "
+                f"{bytes_ratio:.1f} times the bytes, {time_ratio:.1f} times the seconds, {line}"
+            )
 
 
 if __name__ == "__main__":

@@ -22,11 +22,12 @@ use Rattle.closure_fold.specs.declared.part.Copies.{Copies}
 use Rattle.closure_fold.specs.declared.part.Part.{Part}
 use Rattle.closure_fold.specs.PartLaws.{EachPart, IsPart}
 use Rattle.closure_fold.specs.StarFolds.{AreFolded, EachStar}
-use Rattle.closure_fold.specs.Folds.{origin_curve, lattice_curve, ElementAnswer, CopiedAnswer, LoweredAnswer, PartAnswer, FoldAnswer, PartsAnswer, SetBackAnswer, CloseAnswer}
+use Rattle.closure_fold.specs.Folds.{ElementAnswer, CopiedAnswer, LoweredAnswer, PartAnswer, FoldAnswer, PartsAnswer, SetBackAnswer, CloseAnswer}
 use Rattle.closure_fold.specs.FoldLaws.{PartAnswerIsStar, CloseAnswerIsClosure}
 use Rattle.closure_fold.proofs.EachParts.{parts_are_parts}
 use Rattle.closure_fold.proofs.LeastParts.{parts_make_curve}
-use Rattle.closure_fold.proofs.FoldCurves.{origin_values, lattice_is_lattice}
+use Rattle.closure_elements.specs.Lattices.{lattice_curve, origin_curve}
+use Rattle.closure_elements.proofs.LatticeCurves.{lattice_values}
 use Rattle.closure_fold.proofs.StarFolding.{star_of_least, closure_of_set_back}
 
 -- ---- a call that goes on
@@ -50,14 +51,14 @@ copied_closure e None E C p closed is t h =
     subst (λ z. IsSubadditiveClosure (element_value e) t (value_at z t)) (sym (same_ok (Ok C) C E refl is)) (closed.closes t h)
 copied_closure e (Some k) E C p closed applied t h =
     let (some, copies) = p.copied in
-    closure_of_copies (element_value e) (part_value record { element = e; copies = Some k }) (value_at (lattice_curve k))
-    (value_at E) k.period k.rise t (value_at C t) some copies (lattice_is_lattice k some) closed.closes (applied.made.answers t h)
+    closure_of_copies (element_value e) (part_value record { element = e; copies = Some k }) (value_at (lattice_curve k.period k.rise))
+    (value_at E) k.period k.rise t (value_at C t) some copies (lattice_values.lattice k.period k.rise some) closed.closes (applied.made.answers t h)
 
 lowered_star : (f : ℚ → Ext) (C c : SpecCurve) → ((t : ℚ) → zero_q ≤ℚ t → IsSubadditiveClosure f t (value_at C t))
     → IsMadeBy Min C origin_curve c → AreStars f (value_at c)
 lowered_star f C c closed made t h =
     subst (λ z. IsStar f t z)
-    (sym (made.answers t h ∙ ap (λ z. min_ext (value_at C t) z) (origin_values t)))
+    (sym (made.answers t h ∙ ap (λ z. min_ext (value_at C t) z) (lattice_values.origin t h)))
     (star_of_closure f t (value_at C t) h (closed t h))
 
 pub part_star : PartAnswerIsStar

@@ -18,7 +18,8 @@ use Rattle.closure_elements.specs.ElementAnswers.{IsElementClosure}
 use Rattle.closure_fold.specs.CurveParts.{parts_of}
 use Rattle.closure_fold.specs.declared.part.Copies.{Copies}
 use Rattle.closure_fold.specs.declared.part.Part.{Part}
-use Rattle.closure_fold.specs.Folds.{origin_curve, lattice_curve, segment_number, SegmentWithin, SegmentCause, ElementAnswer, CopiedAnswer, LoweredAnswer, PartAnswer, FoldAnswer, PartsAnswer, IsSetBackCurve, SetBackAnswer, CloseAnswer}
+use Rattle.closure_elements.specs.Lattices.{lattice_curve, origin_curve}
+use Rattle.closure_fold.specs.Folds.{segment_number, SegmentWithin, SegmentCause, ElementAnswer, CopiedAnswer, LoweredAnswer, PartAnswer, FoldAnswer, PartsAnswer, IsSetBackCurve, SetBackAnswer, CloseAnswer}
 use Rattle.closure_fold.specs.FoldLaws.{CloseAnswerIsDetermined}
 
 -- ---- the operator of a segment
@@ -55,7 +56,7 @@ element_once f e (Err c) (Err d) a b m n = ap Err (one_cause f (segment_number e
 -- ---- the parts
 copied_once : (o : Option Copies) (c : SpecCurve) → IsDetermined (CopiedAnswer o c)
 copied_once None c r s a b m n = a ∙ sym b
-copied_once (Some k) c r s a b m n = applies_determined.answer Convolve c (lattice_curve k) r s a b m n
+copied_once (Some k) c r s a b m n = applies_determined.answer Convolve c (lattice_curve k.period k.rise) r s a b m n
 
 lowered_once : (c : SpecCurve) → IsDetermined (LoweredAnswer c)
 lowered_once c r s a b m n = applies_determined.answer Min c origin_curve r s a b m n

@@ -1,21 +1,16 @@
 -- What the fold answers.
-use Rattle.std.specs.Prelude.{Option, Some, None, Ok}
-use Rattle.rational.specs.Rational.{ℚ, ◌≤ℚ◌, ◌<ℚ◌}
+use Rattle.std.specs.Prelude.{Ok}
+use Rattle.rational.specs.Rational.{ℚ, ◌≤ℚ◌}
 use Rattle.upp_curve.specs.Curve.{SpecCurve, value_at}
 use Rattle.upp_curve.specs.Functions.{zero_q, IsFinite, IsNonnegative}
 use Rattle.upp_curve.specs.Normal.{IsNormal}
 use Rattle.upp_curve.specs.Convolution.{IsSubadditiveClosure}
 use Rattle.curve_making.specs.Determined.{IsDetermined}
 use Rattle.closure_laws.specs.Star.{AreStars}
-use Rattle.closure_laws.specs.ClosureLaws.{IsLattice}
 use Rattle.closure_fold.specs.CurveParts.{part_value}
-use Rattle.closure_fold.specs.declared.part.Copies.{Copies}
 use Rattle.closure_fold.specs.declared.part.Part.{Part}
 use Rattle.closure_fold.specs.PartLaws.{IsPart}
-use Rattle.closure_fold.specs.Folds.{lattice_curve, PartAnswer, CloseAnswer}
-
-abbrev pub LatticeCurveIsLattice : Type 0
-LatticeCurveIsLattice = (k : Copies) → zero_q <ℚ k.period → IsLattice k.period k.rise (value_at (lattice_curve k))
+use Rattle.closure_fold.specs.Folds.{PartAnswer, CloseAnswer}
 
 -- what is answered for a part is its star
 abbrev pub PartAnswerIsStar : Type 0

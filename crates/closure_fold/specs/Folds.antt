@@ -6,10 +6,8 @@ use Rattle.std.specs.Prelude.{◌≡◌, ℕ, suc, ◌+◌, ◌*◌, ◌^◌, �
 use Rattle.rational.specs.Rational.{ℚ, ◌-ℚ◌, ◌/ℚ◌, ◌<ℚ◌, lt_q}
 use Rattle.rational.specs.Whole.{whole_part}
 use Rattle.rational.specs.declared.Extended.TheVariants.{Fin, Inf}
-use Rattle.affine_segment.specs.declared.line.Piece.{Piece}
 use Rattle.affine_segment.specs.declared.element.Element.{Element}
 use Rattle.affine_segment.specs.declared.element.Element.TheVariants.{Point, Open}
-use Rattle.upp_curve.specs.declared.curve.Tail.TheVariants.{Periodic}
 use Rattle.upp_curve.specs.declared.op_kind.OpKind.TheVariants.{Min, Convolve}
 use Rattle.upp_curve.specs.declared.op_kind.OpFault.{OpFault}
 use Rattle.upp_curve.specs.declared.op_kind.OpFault.TheVariants.{TooMany, TooWide, NoMemory}
@@ -19,23 +17,11 @@ use Rattle.upp_curve.specs.Functions.{zero_q}
 use Rattle.upp_curve.specs.Limits.{own_gauge}
 use Rattle.curve_making.specs.Calls.{Applies, Then}
 use Rattle.closure_elements.specs.ElementAnswers.{IsElementClosure}
-use Rattle.closure_elements.specs.ElementCurves.{point_at_zero}
+use Rattle.closure_elements.specs.Lattices.{lattice_curve, origin_curve}
 use Rattle.closure_fold.specs.CurveParts.{parts_of}
 use Rattle.closure_fold.specs.declared.part.Copies.{Copies}
 use Rattle.closure_fold.specs.declared.part.Part.{Part}
 use Rattle.closure_fold.specs.StarFolds.{IsSetBack}
-
--- ---- the two curves of the fold's own
--- 0 at 0 alone
-abbrev pub origin_curve : SpecCurve
-origin_curve = point_at_zero zero_q
-
--- n rises at n periods, for each natural n, and infinite elsewhere
-abbrev pub lattice_curve : Copies → SpecCurve
-lattice_curve k = record {
-  pieces = record { x = zero_q; at = Fin zero_q; line = None } ∷ [];
-  tail = Periodic zero_q k.period k.rise;
-}
 
 -- ---- the operator of a segment, so that a closure of too many pieces is never made
 -- of a segment from a > 0 up to an end b: the least whole number above a / (b - a); other elements have none
@@ -73,7 +59,7 @@ ElementAnswer f e (Err fault) = SegmentCause f (segment_number e) fault
 -- convolved with the lattice of its copies, where it has copies
 abbrev pub CopiedAnswer : Option Copies → SpecCurve → Result SpecCurve OpFault → Type 0
 CopiedAnswer None c r = r ≡ Ok c
-CopiedAnswer (Some k) c r = Applies Convolve c (lattice_curve k) r
+CopiedAnswer (Some k) c r = Applies Convolve c (lattice_curve k.period k.rise) r
 
 -- lowered by the point (0, 0)
 abbrev pub LoweredAnswer : SpecCurve → Result SpecCurve OpFault → Type 0

@@ -2,7 +2,7 @@
 
 ghost use Rattle.closure_fold.specs.PartLaws.{PartsMakeCurve, PartsAreParts};
 ghost use Rattle.closure_fold.specs.StarFolds.{StarOfLeast, ClosureOfSetBack};
-ghost use Rattle.closure_fold.specs.FoldLaws.{LatticeCurveIsLattice, PartAnswerIsStar, CloseAnswerIsClosure};
+ghost use Rattle.closure_fold.specs.FoldLaws.{PartAnswerIsStar, CloseAnswerIsClosure};
 ghost use Rattle.closure_fold.specs.FoldLaws.{CloseAnswerIsDetermined};
 
 /// A finite curve is at each time the least of its parts, and each part is a proper element from 0 on, read with its
@@ -21,7 +21,6 @@ pub fn star_folds()
 
 /// What the fold of a curve answers: for a part its star, and for a finite curve that is nowhere below 0 its closure.
 pub fn fold_answers()
-    ensures lattice { LatticeCurveIsLattice }
     ensures part { PartAnswerIsStar }
     ensures closure { CloseAnswerIsClosure }
 {}

@@ -1,5 +1,5 @@
--- A curve that is infinite at 0 and past 0 the values of one that repeats later on: with a value at 0 that is not what a
--- period later would ask for it keeps its tail.
+-- A curve that is infinite at 0, finite past it and repeats later on: with a value at 0 that is not what the value a
+-- period after 0 would ask for, it keeps its tail.
 use Rattle.std.specs.Prelude.{◌≡◌, ◌≢◌, ℕ, pos, List}
 use Rattle.std.proofs.Common.{arith, sym, refl, ap, ◌∙◌, subst, inl, inr}
 use Rattle.rational.specs.Rational.{ℚ, ◌+ℚ◌, ◌*ℚ◌, ◌/ℚ◌, ◌≤ℚ◌, ◌<ℚ◌, int}

@@ -3,3 +3,4 @@ pub mod Started
 pub mod Risen
 pub mod Kept
 pub mod Made
+pub mod TestCurves

@@ -40,7 +40,8 @@ use Rattle.curve_least.proofs.LeastNumber.{ext_cases}
 use Rattle.closure_fold.specs.Starting.{first_at, started_at, KeepsTail, IsStartedAt}
 use Rattle.closure_fold.proofs.Starts.{repeated_past, repeated_zero, repeats_on}
 use Rattle.closure_start.specs.StartsAt.{ConvolvesFinitely, ConvolvesPastZero, StartsAt}
-use Rattle.closure_start.proofs.Windowed.{IsConvolved, stands_of, from_some, period_in, period_start, ends_at, convolved_at}
+use Rattle.closure_start.proofs.Windowed.{IsConvolved, stands_of, from_some, period_in, period_start}
+use Rattle.closure_start.proofs.Windowed.{ends_at, convolved_at}
 use Rattle.closure_start.proofs.Started.{rise_room}
 use Rattle.closure_start.proofs.Risen.{convolution_nonneg, rise_nonneg}
 use Rattle.closure_start.proofs.Kept.{StartsAnew, keeps_tail}
@@ -93,7 +94,8 @@ module _ (f g : SpecCurve) (r : Frame) (ps : List Piece) (from rise : ℚ) (C : 
       let z = C.frame.sizes in
       let T = room_at_start z r.end r.period L.limited L.period_whole (le_of_lt L.above) in
       let R = rise_room f g r rise C.frame C.rise_is in
-      at_fits (answer_room z r.end) 1 r.period (neg_ℚ rise) (read ps r.period) (answer_is_room z r.end L.limited) (omega arith)
+      at_fits (answer_room z r.end) 1 r.period (neg_ℚ rise) (read ps r.period) (answer_is_room z r.end L.limited)
+      (omega arith)
       T (value_room z r.end r.period T.grid (read ps r.period) T.base T.whole period_value)
       (whole_neg (grid_of z) rise R.whole)
       (within_neg _ rise (within_weaken _ _ rise (largest_room z r.end 8 (omega arith)) R.within))
@@ -114,13 +116,15 @@ module _ (f g : SpecCurve) (r : Frame) (ps : List Piece) (from rise : ℚ) (C : 
   turn_nonneg : IsNonnegative (value_at f) → IsNonnegative (value_at g) → IsNonnegative turn
   turn_nonneg F G = λ t n. convolution_nonneg (value_at f) (value_at g) t (turn t) F G (turn_is t n)
 
-  turn_rises : IsNonnegative (value_at f) → IsNonnegative (value_at g) → ConvolvesFinitely (value_at f) (value_at g) → zero_q ≤ℚ rise
+  turn_rises : IsNonnegative (value_at f) → IsNonnegative (value_at g) → ConvolvesFinitely (value_at f) (value_at g)
+      → zero_q ≤ℚ rise
   turn_rises F G finite = elim (ext_cases (turn from)) [
     | inl e ↦ absurd (finite from (turn from) late (turn_is from (le_of_lt late)) e)
     | inr (a, e) ↦ rise_nonneg turn from r.period rise a (le_of_lt late) (le_of_lt some) turn_rule e (turn_nonneg F G)
   ]
 
-  left_room : (v start : ℚ) → SumValueAt C.frame.sizes r.period (Fin v) → v ≡ start +ℚ rise → zero_q ≤ℚ rise → zero_q ≤ℚ start
+  left_room : (v start : ℚ) → SumValueAt C.frame.sizes r.period (Fin v) → v ≡ start +ℚ rise → zero_q ≤ℚ rise
+      → zero_q ≤ℚ start
       → SumValueAt C.frame.sizes zero_q (Fin start)
   left_room v start V e up low =
       let z = C.frame.sizes in
@@ -131,16 +135,20 @@ module _ (f g : SpecCurve) (r : Frame) (ps : List Piece) (from rise : ℚ) (C : 
       let left : v -ℚ rise ≡ start = with3 v start rise (λ c. omega (arith, c.le, c.lt, c.same)) in
       let most : start ≤ℚ v = with3 v start rise (λ c. omega (arith, c.le, c.lt, c.same)) in
       let whole : Whole (grid_of z) start =
-      subst (Whole (grid_of z)) left (whole_sub (grid_of z) v rise (V.whole (z.dv * z.dt) (dvd_refl (z.dv * z.dt)) on) R.whole) in
+      subst (Whole (grid_of z)) left (whole_sub (grid_of z) v rise (V.whole (z.dv * z.dt) (dvd_refl (z.dv * z.dt)) on)
+      R.whole) in
       record {
-        whole = λ grid base w. whole_weaken (grid_of z) (grid * z.ds) start (mul-dvd-mul_right (z.dv * z.dt) base z.ds) whole;
+        whole = λ grid base w. whole_weaken (grid_of z) (grid * z.ds) start
+            (mul-dvd-mul_right (z.dv * z.dt) base z.ds) whole;
         within = within_nonneg (times_largest 7 z) start low (le_trans most high);
       }
 
-  pub start_room : (start : ℚ) → IsNonnegative (value_at f) → IsNonnegative (value_at g) → ConvolvesFinitely (value_at f) (value_at g) → zero_q ≤ℚ start
+  pub start_room : (start : ℚ) → IsNonnegative (value_at f) → IsNonnegative (value_at g)
+      → ConvolvesFinitely (value_at f) (value_at g) → zero_q ≤ℚ start
       → read ps r.period ≡ Fin (start +ℚ rise) → SumValueAt C.frame.sizes zero_q (Fin start)
   start_room start F G finite low e =
-      left_room (start +ℚ rise) start (subst (SumValueAt C.frame.sizes r.period) e period_value) refl (turn_rises F G finite) low
+      left_room (start +ℚ rise) start (subst (SumValueAt C.frame.sizes r.period) e period_value) refl
+      (turn_rises F G finite) low
 
   -- ---- the answers
   values_past : (v : Ext) (c : SpecCurve) → HasValues c (repeated (read (first_at v ps)) from r.period rise)
@@ -148,18 +156,23 @@ module _ (f g : SpecCurve) (r : Frame) (ps : List Piece) (from rise : ℚ) (C : 
   unfolding turn
   values_past v c H t h = H t (le_of_lt h) ∙ repeated_past v ps starts from r.period rise t late some h
 
-  value_zero : (v : Ext) (c : SpecCurve) → HasValues c (repeated (read (first_at v ps)) from r.period rise) → value_at c zero_q ≡ v
+  value_zero : (v : Ext) (c : SpecCurve) → HasValues c (repeated (read (first_at v ps)) from r.period rise)
+      → value_at c zero_q ≡ v
   value_zero v c H = H zero_q (le_refl zero_q) ∙ repeated_zero v ps starts from r.period rise late some
 
-  pub started_convolves : (start : ℚ) (c : SpecCurve) → HasValues c (repeated (read (first_at (Fin start) ps)) from r.period rise)
+  pub started_convolves : (start : ℚ) (c : SpecCurve)
+      → HasValues c (repeated (read (first_at (Fin start) ps)) from r.period rise)
       → ConvolvesPastZero f g start c
   started_convolves start c H = (
     value_zero (Fin start) c H,
-    λ t h. subst (IsConvolution (value_at f) (value_at g) t) (sym (values_past (Fin start) c H t h)) (turn_is t (le_of_lt h)),
+    λ t h. subst (IsConvolution (value_at f) (value_at g) t) (sym (values_past (Fin start) c H t h))
+        (turn_is t (le_of_lt h)),
   )
 
-  starts_anew : (start : ℚ) (c : SpecCurve) → ConvolvesFinitely (value_at f) (value_at g) → ¬ (read ps r.period ≡ Fin (start +ℚ rise))
-      → HasValues c (repeated (read (first_at Inf ps)) from r.period rise) → StartsAnew (value_at c) from r.period rise start
+  starts_anew : (start : ℚ) (c : SpecCurve) → ConvolvesFinitely (value_at f) (value_at g)
+      → ¬ (read ps r.period ≡ Fin (start +ℚ rise))
+      → HasValues c (repeated (read (first_at Inf ps)) from r.period rise)
+      → StartsAnew (value_at c) from r.period rise start
   starts_anew start c finite other H = record {
     zero = value_zero Inf c H;
     finite = λ t h e. finite t (turn t) h (turn_is t (le_of_lt h)) (sym (values_past Inf c H t h) ∙ e);
@@ -169,15 +182,19 @@ module _ (f g : SpecCurve) (r : Frame) (ps : List Piece) (from rise : ℚ) (C : 
     other = λ e. other (sym at_period ∙ sym (values_past Inf c H r.period some) ∙ e);
   }
 
-  pub open_keeps : (start : ℚ) (c : SpecCurve) → ConvolvesFinitely (value_at f) (value_at g) → ¬ (read ps r.period ≡ Fin (start +ℚ rise)) → IsNormal c
-      → HasValues c (repeated (read (first_at Inf ps)) from r.period rise) → KeepsTail (value_at (started_at (Fin start) c)) c.tail
+  pub open_keeps : (start : ℚ) (c : SpecCurve) → ConvolvesFinitely (value_at f) (value_at g)
+      → ¬ (read ps r.period ≡ Fin (start +ℚ rise)) → IsNormal c
+      → HasValues c (repeated (read (first_at Inf ps)) from r.period rise)
+      → KeepsTail (value_at (started_at (Fin start) c)) c.tail
   open_keeps start c finite other N H = keeps_tail c from r.period rise start N (starts_anew start c finite other H)
 
-  pub open_convolves : (start : ℚ) (c d : SpecCurve) → HasValues c (repeated (read (first_at Inf ps)) from r.period rise)
+  pub open_convolves : (start : ℚ) (c d : SpecCurve)
+      → HasValues c (repeated (read (first_at Inf ps)) from r.period rise)
       → IsStartedAt (Fin start) c d → ConvolvesPastZero f g start d
   open_convolves start c d H S = (
     S.zero,
-    λ t h. subst (IsConvolution (value_at f) (value_at g) t) (sym (S.past t h ∙ values_past Inf c H t h)) (turn_is t (le_of_lt h)),
+    λ t h. subst (IsConvolution (value_at f) (value_at g) t) (sym (S.past t h ∙ values_past Inf c H t h))
+        (turn_is t (le_of_lt h)),
   )
 
 -- ---- what is answered
@@ -186,6 +203,7 @@ pub starts_at : (f g w h : SpecCurve) (start : ℚ) → IsApplied Convolve f g w
 starts_at f g w h start A K (zero, past) = (
   K,
   zero,
-  λ t l. infimum_unique {I = Split t} (λ s. value_at f s.first +ₑ value_at g s.second) (value_at h t) (value_at w t) (past t l)
+  λ t l. infimum_unique {I = Split t} (λ s. value_at f s.first +ₑ value_at g s.second) (value_at h t) (value_at w t)
+      (past t l)
       (A.made.answers t (le_of_lt l)),
 )

@@ -6,7 +6,8 @@ use Rattle.rational.specs.Extended.{Ext, ◌≤ₑ◌, ◌+ₑ◌}
 use Rattle.rational.specs.declared.Extended.TheVariants.{Fin}
 use Rattle.rational.proofs.Linear.{with1, with2, with3, with4}
 use Rattle.rational.proofs.Integers.{nat_nonneg}
-use Rattle.rational.proofs.Laws.{le_or_lt, le_refl, le_lt_trans, lt_irrefl, above, div_mul, not_zero, mul_lt_mul_right, mul_neg, mul_nonneg}
+use Rattle.rational.proofs.Laws.{le_or_lt, le_refl, le_lt_trans, lt_irrefl, above, div_mul, not_zero}
+use Rattle.rational.proofs.Laws.{mul_lt_mul_right, mul_neg, mul_nonneg}
 use Rattle.rational.proofs.Bounds.{greatest}
 use Rattle.rational.proofs.ExtendedOrder.{add_le_ext, add_zero_ext, fin_same}
 use Rattle.upp_curve.specs.Convolution.{IsConvolution, Split}
@@ -47,8 +48,10 @@ rise_nonneg f from d c a low some R e N = elim (le_or_lt zero_q c) [
       let (n, down) = falls_below a c h in
       let later = (repeats_times f from d c n some R).rule from (le_refl from) in
       let run : zero_q ≤ℚ int (pos n) *ℚ d = mul_nonneg (nat_nonneg n) some in
-      let time : zero_q ≤ℚ from +ℚ int (pos n) *ℚ d = with2 from (int (pos n) *ℚ d) (λ o. omega (arith, o.le, o.lt, o.same)) in
-      let is : f (from +ℚ int (pos n) *ℚ d) ≡ Fin (a +ℚ int (pos n) *ℚ c) = later ∙ ap (λ v. v +ₑ Fin (int (pos n) *ℚ c)) e in
+      let time : zero_q ≤ℚ from +ℚ int (pos n) *ℚ d = with2 from (int (pos n) *ℚ d)
+      (λ o. omega (arith, o.le, o.lt, o.same)) in
+      let is : f (from +ℚ int (pos n) *ℚ d) ≡ Fin (a +ℚ int (pos n) *ℚ c) =
+      later ∙ ap (λ v. v +ₑ Fin (int (pos n) *ℚ c)) e in
       let up : Fin zero_q ≤ₑ Fin (a +ℚ int (pos n) *ℚ c) =
       subst (λ v. Fin zero_q ≤ₑ v) is (N (from +ℚ int (pos n) *ℚ d) time) in
       absurd (lt_irrefl zero_q (le_lt_trans up down))

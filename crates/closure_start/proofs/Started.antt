@@ -37,10 +37,9 @@ use Rattle.closure_start.proofs.Windowed.{IsConvolved, stands_of, arches_of, fro
 pub window_started : (z : Sizes) (end : ℚ) (v : Ext) (ps : List Piece) → SumWindow z end ps → SumValueAt z zero_q v
     → SumWindow z end (first_at v ps)
 window_started z end v [] W V = W
-window_started z end v (p ∷ ps) W V = record {
-  starts = W.starts;
-  each = (record { start = W.each.0.start; at = subst (λ x. SumValueAt z x v) (sym W.starts.0) V; line = W.each.0.line }, W.each.1);
-}
+window_started z end v (p ∷ ps) W V =
+    let at : SumValueAt z p.x v = subst (λ x. SumValueAt z x v) (sym W.starts.0) V in
+    record { starts = W.starts; each = (record { start = W.each.0.start; at = at; line = W.each.0.line }, W.each.1) }
 
 -- it bends as before, since the values that count are past 0
 pub arches_started : (T : ℕ) (end : ℚ) (v : Ext) (ps : List Piece) → StartsAtZero ps → Arches T end (read ps)
@@ -52,8 +51,9 @@ arches_started T end v ps S A = λ low high y h W.
     let early : zero_q <ℚ y -ℚ h = with3 low y h (λ c. omega (arith, c.le, c.lt, c.same)) in
     let here : zero_q <ℚ y = with3 low y h (λ c. omega (arith, c.le, c.lt, c.same)) in
     let late : zero_q <ℚ y +ℚ h = with3 low y h (λ c. omega (arith, c.le, c.lt, c.same)) in
-    same (read ps (y -ℚ h)) (read ps (y +ℚ h)) (read ps y) (read (first_at v ps) (y -ℚ h)) (read (first_at v ps) (y +ℚ h))
-    (read (first_at v ps) y) (read_past v ps (y -ℚ h) S early) (read_past v ps (y +ℚ h) S late) (read_past v ps y S here)
+    same (read ps (y -ℚ h)) (read ps (y +ℚ h)) (read ps y)
+    (read (first_at v ps) (y -ℚ h)) (read (first_at v ps) (y +ℚ h)) (read (first_at v ps) y)
+    (read_past v ps (y -ℚ h) S early) (read_past v ps (y +ℚ h) S late) (read_past v ps y S here)
     (A low high y h W)
   where
     same : (a b c d e k : Ext) → d ≡ a → e ≡ b → k ≡ c → a +ₑ b ≤ₑ c +ₑ c → d +ₑ e ≤ₑ k +ₑ k
@@ -74,7 +74,8 @@ pub record RiseHasRoom (z : Sizes) (y : ℚ) : Type 0 where
 rise_has_room : (z : Sizes) (c : SpecCurve) (d : ℚ) → IsRise z c d → RiseHasRoom z (rise_over c d)
 rise_has_room z c d R = record {
   whole = R.whole;
-  within = within_weaken (times_largest 3 z) (times_largest 8 z) (rise_over c d) (more_largest z 3 8 (omega arith)) R.within;
+  within = within_weaken (times_largest 3 z) (times_largest 8 z) (rise_over c d) (more_largest z 3 8 (omega arith))
+      R.within;
 }
 
 pub rise_room : (f g : SpecCurve) (r : Frame) (rise : ℚ) (F : IsConvolveFrame f g r)
@@ -90,7 +91,8 @@ rise_room f g r rise F R = by (slower_or_not (rate g) (rate f))
         (rise_has_room F.sizes f r.period (left_rise f g r.start r.period r.end (F.number + 1) F.sizes F.call))
 
 -- ---- the answer
-pub started_answer : (f g : SpecCurve) (r : Frame) (ps : List Piece) (from rise : ℚ) (v : Ext) (C : IsConvolved f g r ps from rise)
+pub started_answer : (f g : SpecCurve) (r : Frame) (ps : List Piece) (from rise : ℚ) (v : Ext)
+    (C : IsConvolved f g r ps from rise)
     → SumValueAt C.frame.sizes zero_q v → IsAnswer (first_at v ps) from r.period rise r.times r.values
 started_answer f g r ps from rise v C V =
     let F = C.frame in

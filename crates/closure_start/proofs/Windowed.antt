@@ -1,4 +1,5 @@
--- The pieces of a convolution below the end of its call's window: where they stand, and what they read as when they go on.
+-- The pieces of a convolution below the end of its call's window: where they stand, and what they read as when they go
+-- on.
 use Rattle.std.specs.Prelude.{◌≡◌, ◌+◌, pos, List}
 use Rattle.std.proofs.Common.{arith, refl, inl}
 use Rattle.rational.specs.Rational.{ℚ, ◌+ℚ◌, ◌-ℚ◌, ◌*ℚ◌, ◌≤ℚ◌, ◌<ℚ◌, int}
@@ -35,7 +36,8 @@ pub record IsConvolved (f g : SpecCurve) (r : Frame) (ps : List Piece) (from ris
 module _ (f g : SpecCurve) (r : Frame) (F : IsConvolveFrame f g r) where
   windows_of : OperandWindows r.end (unroll f r.end) (unroll g r.end)
   windows_of =
-      let A = operands f g r.start r.period r.end (F.number + 1) F.sizes (unroll f r.end) (unroll g r.end) F.call refl refl in
+      let A = operands f g r.start r.period r.end (F.number + 1) F.sizes (unroll f r.end) (unroll g r.end) F.call refl
+      refl in
       record {
         sizes = F.sizes;
         limited = F.call.limited;
@@ -44,11 +46,13 @@ module _ (f g : SpecCurve) (r : Frame) (F : IsConvolveFrame f g r) where
         right = A.right;
       }
 
-  pub stands_of : (ps : List Piece) → IsConvolutionWindow (unroll f r.end) (unroll g r.end) r.end ps → SumWindow F.sizes r.end ps
+  pub stands_of : (ps : List Piece) → IsConvolutionWindow (unroll f r.end) (unroll g r.end) r.end ps
+      → SumWindow F.sizes r.end ps
   unfolding windows_of
   stands_of ps M = M.stands windows_of
 
-  pub arches_of : (ps : List Piece) → IsConvolutionWindow (unroll f r.end) (unroll g r.end) r.end ps → Arches F.sizes.dt r.end (read ps)
+  pub arches_of : (ps : List Piece) → IsConvolutionWindow (unroll f r.end) (unroll g r.end) r.end ps
+      → Arches F.sizes.dt r.end (read ps)
   unfolding windows_of
   arches_of ps M = M.arches windows_of
 
@@ -83,5 +87,6 @@ pub convolved_at : (f g : SpecCurve) (r : Frame) (ps : List Piece) (from rise : 
     → (t : ℚ) → zero_q ≤ℚ t → IsConvolution (value_at f) (value_at g) t (repeated (read ps) from r.period rise t)
 unfolding value_at
 convolved_at f g r ps from rise C t n =
-    convolved_values f g r (unroll f r.end) (unroll g r.end) ps from rise record { pieces = ps; tail = Periodic from r.period rise }
+    convolved_values f g r (unroll f r.end) (unroll g r.end) ps from rise record
+    { pieces = ps; tail = Periodic from r.period rise }
     C.frame refl refl C.window C.from_is C.rise_is (λ u m. refl) t n

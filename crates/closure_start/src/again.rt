@@ -1,5 +1,5 @@
-//! The call of a convolution once more: its frame, its pieces below the end of its window, and by how much it rises over
-//! a period.
+//! The call of a convolution once more: its frame, its pieces below the end of its window, and by how much it rises
+//! over a period.
 
 ghost use Rattle.std.specs.Prelude.{IfOk, IfErr};
 ghost use Rattle.rational.specs.Extended.{◌<ₑ◌};

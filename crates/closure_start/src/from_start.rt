@@ -32,9 +32,10 @@ fn begins_at(c: &Curve, start: Frac) -> bool
     }
 }
 
-// The convolution with `start` at 0, in a call within both limits. Where a period after 0 the convolution is `start` and
-// its rise, `start` is on the grid of the call's values, and the curve may repeat from 0 on: it is made of the window
-// with `start` in it. Elsewhere it does not repeat from 0 on, so the tail is that of the curve that is infinite at 0.
+// The convolution with `start` at 0, in a call within both limits. Where a period after 0 the convolution is `start`
+// and its rise, `start` is on the grid of the call's values, and the curve may repeat from 0 on: it is made of the
+// window with `start` in it. Elsewhere it does not repeat from 0 on, so the tail is that of the curve that is infinite
+// at 0, whose tail begins past 0.
 fn started_within(
     alloc: Global,
     f: &Curve,
@@ -77,9 +78,10 @@ fn started_within(
     with_start(alloc, &late, start)
 }
 
-/// The convolution of two curves that are nowhere below 0, finite past 0, with the value `start` at 0 in place of its own.
-/// One step is counted. Refused exactly where the convolution is over a limit: no limit is asked of the value at 0. Else
-/// only for want of memory. Where the value at 0 is not `start` at once, the convolution's pieces are made twice.
+/// The convolution of two curves that are nowhere below 0, finite past 0, with the value `start` at 0 in place of its
+/// own. One step is counted. Refused with TooWide or TooMany exactly where the convolution is over that limit: no limit
+/// is asked of the value at 0. Else only for want of memory. Where the convolution's own value at 0 is not `start`, its
+/// pieces are made twice.
 pub fn convolve_from<L: Ledger>(
     alloc: Global,
     sofar: &Curve,

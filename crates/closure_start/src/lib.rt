@@ -4,5 +4,7 @@
 mod again;
 mod from_start;
 mod parts;
+#[cfg(test)]
+mod tests;
 
 pub use from_start::convolve_from;

@@ -1,8 +1,7 @@
 -- What is built of a draft is a network.
-use Rattle.std.specs.Prelude.{◌≢◌, All, AllPairs, Contains, slice_get, slice_index}
+use Rattle.std.specs.Prelude.{◌≢◌, All, AllPairs, slice_index}
 use Rattle.std.specs.List.{AllZip}
-use Rattle.std.specs.String.{string_bytes}
-use Rattle.std.proofs.Common.{◌≡◌, ℕ, ◌+◌, ◌≤◌, ◌<◌, Bool, true, false, List, [], ◌∷◌, length, map, get_or, Option, None, Some, Ok, refl, sym, ap, ◌∙◌, subst, arith}
+use Rattle.std.proofs.Common.{◌≡◌, ℕ, ◌<◌, Bool, true, false, List, length, map, get_or, Option, Some, Ok, refl, sym, ap, ◌∙◌, subst, arith}
 use Rattle.std.proofs.lemmas.List.{length-map, get_or-map}
 use Rattle.std.proofs.lemmas.List.Elements.{All-contains}
 use Rattle.rational.specs.Rational.{ℚ, ◌≤ℚ◌, ◌<ℚ◌}

@@ -1,10 +1,10 @@
 -- The first curve that is over a limit, as loops find it.
 use Rattle.std.specs.List.{AllZip}
-use Rattle.std.proofs.Common.{◌≡◌, ℕ, ◌+◌, ◌<◌, ◌⊎◌, false, List, [], ◌∷◌, ◌++◌, length, map, get_or, drop, Ok, refl, sym, ap, ◌∙◌, subst, inl, inr}
+use Rattle.std.proofs.Common.{◌≡◌, ℕ, ◌+◌, ◌<◌, false, List, [], ◌∷◌, ◌++◌, length, map, get_or, drop, sym, ap, ◌∙◌, subst, inl, inr}
 use Rattle.std.proofs.lemmas.List.{drop_more}
 use Rattle.upp_curve.specs.Curve.{SpecCurve}
 use Rattle.upp_curve.specs.declared.own_limits.OverLimit.{OverLimit}
-use Rattle.net_model.specs.Networks.{NetServer, NetFlow}
+use Rattle.net_model.specs.Networks.{NetServer}
 use Rattle.net_draft.specs.declared.fault.DraftFault.{DraftFault}
 use Rattle.net_draft.specs.declared.fault.DraftFault.TheVariants as answers
 use Rattle.net_draft.specs.declared.server_draft.ServerDraft.{ServerDraft}
@@ -13,7 +13,7 @@ use Rattle.net_draft.specs.CurveTexts.{text_of}
 use Rattle.net_draft.specs.Faults.{Fault, fault_of}
 use Rattle.net_draft.specs.Texts.{ServerText}
 use Rattle.net_draft.specs.Views.{server_text, flow_text}
-use Rattle.net_text.specs.Becoming.{Becomes, IsOverAt, FailsAt}
+use Rattle.net_text.specs.Becoming.{Becomes, FailsAt}
 use Rattle.net_text.specs.Built.{IsServerOf}
 use Rattle.net_text.specs.Firsts.{PlacedCurve, service_place, arrival_place, services_from, arrivals_from, Fits, FirstCurveOver, FailsFirst}
 

@@ -1,5 +1,5 @@
 -- Steps of the closures of some flows, as a loop counts them.
-use Rattle.std.proofs.Common.{◌≡◌, ℕ, ◌+◌, ◌≤◌, ◌⊎◌, Bool, true, false, List, [], ◌∷◌, Ok, Err, sym, ap, ◌∙◌, subst, arith, inl, inr, true≢false}
+use Rattle.std.proofs.Common.{◌≡◌, ℕ, ◌+◌, ◌≤◌, Bool, true, false, List, ◌∷◌, Ok, Err, sym, ap, ◌∙◌, subst, arith, inl, inr, true≢false}
 use Rattle.upp_curve.specs.Curve.{SpecCurve}
 use Rattle.net_draft.specs.Drafts.{draft_of}
 use Rattle.net_draft.specs.Faults.{Fault, Read}

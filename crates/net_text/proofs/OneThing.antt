@@ -1,27 +1,23 @@
 -- A file says one thing.
-use Rattle.std.specs.Prelude.{◌^◌}
 use Rattle.std.specs.List.{AllZip}
-use Rattle.std.proofs.Common.{◌≡◌, ℕ, ◌+◌, ◌≤◌, ◌<◌, ◌⊎◌, Bool, true, false, List, [], ◌∷◌, ◌++◌, map, Option, Some, Result, Ok, Err, refl, sym, ap, ◌∙◌, subst, arith, inl, inr}
-use Rattle.rational.specs.Rational.{ℚ, ◌≤ℚ◌}
+use Rattle.std.proofs.Common.{◌≡◌, ℕ, ◌+◌, Bool, true, false, List, [], ◌∷◌, ◌++◌, Option, Some, Ok, Err, refl, sym, ap, ◌∙◌, subst, arith, inl, inr}
 use Rattle.rational.proofs.Bounds.{infimum_unique}
-use Rattle.upp_curve.specs.Curve.{SpecCurve, value_at, HasSameValues}
+use Rattle.upp_curve.specs.Curve.{SpecCurve, value_at}
 use Rattle.upp_curve.specs.Convolution.{Parts, sum_at}
-use Rattle.upp_curve.specs.Curves.{IsCurve}
 use Rattle.upp_curve.specs.OwnLimits.{IsOver, IsWithinOwn}
 use Rattle.upp_curve.specs.declared.own_limits.OverLimit.{OverLimit}
 use Rattle.upp_curve.specs.declared.own_limits.OverLimit.TheVariants.{TooMany, TooWide}
 use Rattle.upp_curve.proofs.OneForm.{normal_unique}
 use Rattle.net_model.specs.Networks.{Net, NetServer, NetFlow}
-use Rattle.net_draft.specs.Drafts.{draft_of}
 use Rattle.net_draft.specs.Faults.{Fault, Read}
 use Rattle.net_draft.specs.Made.{IsMade}
 use Rattle.net_draft.specs.Texts.{CurveText, Bucket, Stair, RateLatency, Gate, Listed, ServerText, FlowText, DraftText}
-use Rattle.net_text.specs.Becoming.{IsCurveOf, Becomes, IsOverAt, limit_fault}
+use Rattle.net_text.specs.Becoming.{IsCurveOf, Becomes, limit_fault}
 use Rattle.net_text.specs.Built.{IsServerOf, IsFlowOf, IsLiveFlowOf, IsBuilt}
 use Rattle.net_text.specs.Closing.{IsClosureOf, HasOneLimit}
-use Rattle.net_text.specs.Firsts.{PlacedCurve, services_from, arrivals_from, curves_of, Fits, FirstCurveOver}
+use Rattle.net_text.specs.Firsts.{PlacedCurve, services_from, arrivals_from, curves_of, FirstCurveOver}
 use Rattle.net_text.specs.Laws.{EachFileSaysOneThing}
-use Rattle.net_text.specs.Reading.{IsNetworkOf, CurveFault, FirstFault}
+use Rattle.net_text.specs.Reading.{IsNetworkOf, FirstFault}
 use Rattle.net_text.proofs.Zips.{zip_one}
 
 -- ---- what was made of a text

@@ -1,5 +1,5 @@
 -- The network that is built of a draft. Own choice.
-use Rattle.std.specs.Prelude.{◌≡◌, ℕ, List, map, Option, Some, Ok}
+use Rattle.std.specs.Prelude.{◌≡◌, map, Option, Some, Ok}
 use Rattle.std.specs.List.{AllZip}
 use Rattle.upp_curve.specs.Curve.{SpecCurve}
 use Rattle.upp_curve.specs.declared.own_limits.OverLimit.{OverLimit}

@@ -33,6 +33,7 @@ fn closure_of<C: Closer, L: Ledger>(
     ensures own { IsCurve curve.now }
     ensures closed { IfOk result (λ c. Closes C.over curve.now (Ok c)) }
     ensures over { IfErr result (FailsAt (Closes C.over curve.now) (arrival_place number)) }
+    ensures rises { steps.old ≤ steps.new }
     ensures most { steps.new ≤ steps.old + C.operators curve.now }
 {
     let _pieces = curve.pieces();
@@ -67,6 +68,7 @@ pub(crate) fn arrival_of<C: Closer, L: Ledger>(
     requires { IsArrivalDraft flow.now.packet flow.now.arrival }
     ensures becomes { IfOk result (λ c. Becomes C.over flow.now.closes (text_of flow.now.arrival.text) (Ok c)) }
     ensures over { IfErr result (FailsArrival C.over flow.now.closes (text_of flow.now.arrival.text) number) }
+    ensures rises { steps.old ≤ steps.new }
     ensures most { FoldAtMost C.operators flow.now.closes (text_of flow.now.arrival.text) steps.old steps.new }
 {
     match &flow.arrival.made {

@@ -24,6 +24,7 @@ pub trait Closer {
         requires finite { IsFinite (value_at f.now) }
         requires nonneg { IsNonnegative (value_at f.now) }
         ensures answer { KeepsClosing over f.now result }
+        ensures rises { steps.old ≤ steps.new }
         ensures most { steps.new ≤ steps.old + operators f.now };
 
     ghost one_limit: { HasOneLimit over };

@@ -40,6 +40,7 @@ fn flow_of<C: Closer, L: Ledger>(
     requires { IsArrivalDraft draft.now.packet draft.now.arrival }
     ensures built { IfOk result (λ f. IsFlowOf C.over (flow_text draft.now) (flow_of f)) }
     ensures over { IfErr result (FailsArrival C.over draft.now.closes (text_of draft.now.arrival.text) number) }
+    ensures rises { steps.old ≤ steps.new }
     ensures most { FoldAtMost C.operators draft.now.closes (text_of draft.now.arrival.text) steps.old steps.new }
 {
     let arrival = arrival_of(alloc, closer, number, draft, steps)?;
@@ -62,6 +63,7 @@ pub(crate) fn flows_of<C: Closer, L: Ledger>(
     requires { All (λ f. IsArrivalDraft f.packet f.arrival) drafts.now }
     ensures built { IfOk result (λ v. AllZip (IsLiveFlowOf C.over) (map flow_text drafts.now) (flows_of v.items)) }
     ensures over { IfErr result (FailsFirst C.over (arrivals_from 0 (map flow_text drafts.now))) }
+    ensures rises { steps.old ≤ steps.new }
     ensures most { (t : ℕ) → FoldsOf C.operators (map flow_text drafts.now) t → steps.new ≤ steps.old + t }
 {
     let mut flows = Vec::with_capacity(alloc, drafts.len())?;

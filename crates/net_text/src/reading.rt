@@ -1,6 +1,6 @@
 //! Files of networks.
 
-ghost use Rattle.std.specs.Prelude.{IfOk, IfErr};
+ghost use Rattle.std.specs.Prelude.{◌≤◌, IfOk, IfErr};
 ghost use Rattle.net_text.specs.Becoming.{IsTold};
 ghost use Rattle.net_text.specs.Folds.{StepsAtMost};
 ghost use Rattle.net_text.specs.Reading.{IsNetworkOf, IsAnswered, FailsFile};
@@ -34,6 +34,7 @@ fn network_of<C: Closer, L: Ledger>(
 ) -> Result<Network, DraftFault>
     ensures network { IfOk result (IsNetworkOf C.over text.now) }
     ensures fault { IfErr result (FailsFile C.over text.now) }
+    ensures rises { steps.old ≤ steps.new }
     ensures most { StepsAtMost C.operators text.now steps.old steps.new }
 {
     let draft = read_draft(alloc, text)?;
@@ -54,6 +55,7 @@ pub fn read_network<C: Closer, L: Ledger>(
 ) -> Result<Network, NetFault>
     ensures network { IfOk result (IsNetworkOf C.over text.now) }
     ensures fault { IfErr result (IsAnswered C.over text.now) }
+    ensures rises { steps.old ≤ steps.new }
     ensures most { StepsAtMost C.operators text.now steps.old steps.new }
 {
     match network_of(alloc, closer, text, steps) {

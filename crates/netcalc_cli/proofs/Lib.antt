@@ -1,9 +1,3 @@
-pub mod FormLemmas
-pub mod SpellingLemmas
-pub mod ReplyLemmas
-pub mod DoneLemmas
-pub mod TextLemmas
-pub mod CurveLemmas
-pub mod GuaranteeLemmas
-pub mod BoundLemmas
-pub mod ExampleLemmas
+pub mod Replies
+pub mod ExampleNet
+pub mod ExampleBound

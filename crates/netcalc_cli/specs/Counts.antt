@@ -1,12 +1,21 @@
--- How many steps a call counts: one for each operator of the curves.
-use Rattle.std.specs.Prelude.{◌≡◌, ◌≢◌, ℕ, ◌+◌, ◌≤◌}
+-- How many steps a call takes.
+use Rattle.std.specs.Prelude.{◌≡◌, ◌≢◌, ◌≤◌, ◌⊎◌, ℕ, List, length, Option, Some, None}
+use Rattle.file_answers.specs.Counts.{CountsOn}
+use Rattle.netcalc_cli.specs.Reply.{most_bytes, MayHold}
 
--- three at most
-pub record IsUpToThree (old new : ℕ) : Type 0 where
-  pub least : old ≤ new
-  pub most : new ≤ old + 3
+-- A file holds bytes that are not too many, and the steps are those of an answer on them.
+pub record CountsOnBytes (told : Option (List ℕ)) (status old new : ℕ) : Type 0 where
+  pub bytes : List ℕ
+  pub held : MayHold told bytes
+  pub fits : length bytes ≤ most_bytes
+  pub counts : CountsOn bytes status old new
 
--- three where the status is that of a report, and none at the status of another reply
-pub record Counts (status old new : ℕ) : Type 0 where
-  pub report : status ≡ 0 → new ≡ old + 3
-  pub other : status ≢ 0 → new ≡ old
+-- That, or none; and not none where the status is that of a report.
+abbrev pub CountsOnFile : Option (List ℕ) → (status old new : ℕ) → Type 0
+CountsOnFile told status old new = (status ≢ 0 × (new ≡ old)) ⊎ CountsOnBytes told status old new
+
+-- None where the words are not taken.
+abbrev pub Counts : {I : Type 0} → (I → List ℕ → Option (List ℕ)) → Option (List ℕ) → I → (status old new : ℕ)
+    → Type 0
+Counts content None inputs status old new = new ≡ old
+Counts content (Some file) inputs status old new = CountsOnFile (content inputs file) status old new

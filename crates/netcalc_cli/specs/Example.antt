@@ -1,44 +1,51 @@
--- The premises of the guarantee can be met, and its bound on the delay can be reached: by one packet through the server
--- of the example file `one_flow.toml`.
-use Rattle.std.specs.Prelude.{◌≡◌, ℕ, List, [], ◌∷◌, ◌++◌, codes, Some}
+-- The premises of the guarantee can be met, and its bound on the delay is reached: by one packet through one server.
+use Rattle.std.specs.Prelude.{◌≡◌, [], ◌∷◌, codes, Some}
 use Rattle.rational.specs.declared.Extended.TheVariants.{Fin}
-use Rattle.run_laws.specs.Cards.{whole, of_queue}
-use Rattle.run_laws.specs.Views.{view}
-use Rattle.run_laws.specs.Delays.{hop_delays}
-use Rattle.run_laws.specs.FlowDelays.{delays}
+use Rattle.upp_curve.specs.Kinds.{bucket, rate_latency}
+use Rattle.run_laws.specs.Cards.{whole}
 use Rattle.run_laws.specs.Examples.{one_packet}
-use Rattle.netcalc_cli.specs.Form.{Form, form_of}
-use Rattle.netcalc_cli.specs.Bounds.{HasBounds}
-use Rattle.netcalc_cli.specs.Guarantee.{routes_of, IsRunOf}
+use Rattle.run_laws.specs.FlowDelays.{delays}
+use Rattle.run_laws.specs.Servers.{Fifo}
+use Rattle.net_model.specs.declared.server.ServiceKind.TheVariants.{Latency}
+use Rattle.net_model.specs.Accepted.{IsAccepted}
+use Rattle.net_model.specs.Networks.{Net, NetServer, NetFlow}
+use Rattle.net_model.specs.Orders.{IsOrder}
+use Rattle.net_cells.specs.declared.cell.Kind.TheVariants.{Bound}
+use Rattle.net_cells.specs.Cells.{cell_of}
+use Rattle.net_cells.specs.Equations.{MeetsEquations}
+use Rattle.net_cells.specs.Meanings.{CellTable, number}
+use Rattle.net_bounds.specs.NetRuns.{routes_of, IsRunOf}
 
--- what the file holds
-abbrev pub one_flow_text : List ℕ
-one_flow_text =
-    codes "# One server and one flow, in microseconds and bits.\n"
-    ++ codes "\n"
-    ++ codes "[[server]]\n"
-    ++ codes "name = \"s1\"\n"
-    ++ codes "rate = 100\n"
-    ++ codes "service = { kind = \"latency\", latency = 10 }\n"
-    ++ codes "\n"
-    ++ codes "[[flow]]\n"
-    ++ codes "name = \"f1\"\n"
-    ++ codes "packet = 12000\n"
-    ++ codes "arrival = { kind = \"bucket\", burst = 12000, rate = 10 }\n"
-    ++ codes "path = [\"s1\"]\n"
-
--- what the file says
-abbrev pub one_flow : Form
-one_flow = record {
-  server = record { name = codes "s1"; rate = 100; latency = 10 };
-  flow = record { name = codes "f1"; packet = 12000; burst = 12000; rate = 10 };
+-- 100 bits a unit of time, after a latency of 10
+abbrev pub its_server : NetServer
+its_server = record {
+  name = codes "s1";
+  rate = whole 100;
+  kind = Latency (whole 10);
+  service = rate_latency (whole 100) (whole 10);
+  link = whole 0;
+  discipline = Fifo;
 }
 
--- Its bounds are 130 and 13300. A packet of 12000 bits that enters at 0 and is worked on from 10 to 130 is a lawful run
--- that keeps the file's sizes and curves, and the packet's delay is 130.
+-- packets of up to 12000 bits; a burst of 12000 bits, and 10 bits a unit of time
+abbrev pub its_flow : NetFlow
+its_flow = record {
+  name = codes "f1";
+  path = 0 ∷ [];
+  queues = 0 ∷ [];
+  packet = 12000;
+  arrival = bucket (whole 12000) (whole 10);
+}
+
+abbrev pub one_flow : Net
+one_flow = record { version = 1; servers = its_server ∷ []; flows = Some its_flow ∷ [] }
+
+-- The network is accepted and has an order. A packet of 12000 bits that enters at 0 and is worked on from 10 to 130 is
+-- a run of it, and the packet's delay is 130. Each table that meets the equations has the bound 130.
 pub record OneFlowReachesItsBound : Type 0 where
-  pub is_read : form_of one_flow_text ≡ Some one_flow
-  pub bounds : HasBounds one_flow (Fin (whole 130)) (Fin (whole 13300))
+  pub accepted : IsAccepted one_flow
+  pub ordered : IsOrder one_flow (0 ∷ [])
   pub is_run : IsRunOf one_flow one_packet
   pub its_delay : delays (routes_of one_flow) one_packet 0 ≡ whole 130 ∷ []
-  pub its_hop_delay : hop_delays (of_queue 0) one_packet.end (view (routes_of one_flow) one_packet 0) ≡ whole 130 ∷ []
+  pub its_bound : (at : CellTable) → MeetsEquations one_flow at
+      → at (cell_of Bound 0 0) ≡ Some (number (Fin (whole 130)))

@@ -1,11 +1,6 @@
 pub mod Words
-pub mod Tree
-pub mod Form
-pub mod Spelling
-pub mod View
-pub mod Bounds
-pub mod Guarantee
-pub mod Example
-pub mod Report
 pub mod Reply
 pub mod Counts
+pub mod Guarantee
+pub mod Laws
+pub mod Example

@@ -1,94 +1,28 @@
 -- What the program answers on words and files, and what it means that the answer is given.
-use Rattle.std.specs.Prelude.{◌≡◌, ◌≤◌, ◌<◌, ◌⊎◌, ℕ, ◌++◌, List, length, codes, nat_lt, if◌then◌else◌}
-use Rattle.std.specs.Prelude.{Option, Some, None, IfSome}
-use Rattle.rational.specs.Extended.{Ext}
+use Rattle.std.specs.Prelude.{◌≡◌, ◌≤◌, ◌<◌, ◌⊎◌, ℕ, List, length, codes, Option, Some, None, IfSome}
 use Rattle.std.specs.Io.KnownBytes.{Appends}
 use Rattle.outside.specs.Faults.{Rose}
 use Rattle.outside.specs.Written.{AppendsFront}
-use Rattle.netcalc_cli.specs.Form.{Form, form_of}
-use Rattle.netcalc_cli.specs.Report.{report_of}
-use Rattle.netcalc_cli.specs.Bounds.{HasBounds}
+use Rattle.file_answers.specs.Replies.{Reply, usage, cannot_read, too_long}
+use Rattle.file_answers.specs.OnFiles.{IsReplyOn}
 
--- an exit status, and the bytes that are written
-pub record Reply : Type 0 where
-  pub status : ℕ
-  pub bytes : List ℕ
+-- the commands that the usage line tells
+abbrev pub commands : List ℕ
+commands = codes "netcalc analyse NET [--json], edit NET EDITS [--json], simulate NET TRACE, exercise N"
 
--- the words are not taken
-abbrev pub usage : Reply
-usage = record {
-  status = 2;
-  bytes = codes "netcalc: usage: netcalc analyse NET [--json], edit NET EDITS [--json], simulate NET TRACE, exercise N\n";
-}
-
--- the file could not be read
-abbrev pub cannot_read : List ℕ → Reply
-cannot_read file = record { status = 3; bytes = codes "netcalc: cannot read " ++ file ++ codes "\n" }
-
--- the file has more bytes than a file may have
-abbrev pub too_long : List ℕ → Reply
-too_long file = record { status = 1; bytes = codes "netcalc: " ++ file ++ codes ": too long\n" }
-
--- the file is not of the form
-abbrev pub unsupported : Reply
-unsupported = record { status = 10; bytes = codes "netcalc: unsupported file\n" }
-
--- the report on a form with these bounds
-abbrev pub report : Form → Ext → Ext → Reply
-report form delay backlog = record { status = 0; bytes = report_of form delay backlog }
-
--- the reply is the report on this form, with the form's bounds
-pub record IsReportOn (form : Form) (reply : Reply) : Type 0 where
-  pub delay : Ext
-  pub backlog : Ext
-  pub bounds : HasBounds form delay backlog
-  pub is : reply ≡ report form delay backlog
-
--- the reply on a file that reads as this form, or as none
-abbrev pub IsReplyOnForm : Option Form → Reply → Type 0
-IsReplyOnForm None reply = reply ≡ unsupported
-IsReplyOnForm (Some form) reply = IsReportOn form reply
-
+-- ---- on a file
 -- the most bytes that a file may have
 abbrev pub most_bytes : ℕ
 most_bytes = 1048576
 
--- what is found in a file: more bytes than a file may have, or bytes that read as a form or as none
-pub data Found : Type 0 where
-  TooLong : Found
-  Fits : (form : Option Form) → Found
-
--- what is found in these bytes
-abbrev pub found_in : List ℕ → Found
-found_in bytes = if nat_lt most_bytes (length bytes) then TooLong else Fits (form_of bytes)
-
--- the reply on a file of this name in which this is found
-abbrev pub IsReplyOn : List ℕ → Found → Reply → Type 0
-IsReplyOn file TooLong reply = reply ≡ too_long file
-IsReplyOn file (Fits form) reply = IsReplyOnForm form reply
-
--- there is one such reply: status and bytes are a function of the file's name and of what it holds
-abbrev pub RepliesAreUnique : Type 0
-RepliesAreUnique = (file : List ℕ) (found : Found) (x y : Reply) →
-    IsReplyOn file found x → IsReplyOn file found y → x ≡ y
+-- the reply on a file with this name that holds these bytes
+abbrev pub IsReplyOnFile : List ℕ → List ℕ → Reply → Type 0
+IsReplyOnFile file bytes reply =
+    (most_bytes < length bytes × (reply ≡ too_long file)) ⊎ (length bytes ≤ most_bytes × IsReplyOn file bytes reply)
 
 -- These are the bytes that are told, or any where none are told.
 abbrev pub MayHold : Option (List ℕ) → List ℕ → Type 0
 MayHold told bytes = IfSome told (λ held. held ≡ bytes)
-
--- A file holds bytes that read as this form.
-pub record Reads (told : Option (List ℕ)) (form : Form) : Type 0 where
-  pub bytes : List ℕ
-  pub held : MayHold told bytes
-  pub fits : length bytes ≤ most_bytes
-  pub reads : form_of bytes ≡ Some form
-
--- A file holds bytes that read as no form.
-pub record ReadsNone (told : Option (List ℕ)) : Type 0 where
-  pub bytes : List ℕ
-  pub held : MayHold told bytes
-  pub fits : length bytes ≤ most_bytes
-  pub reads : form_of bytes ≡ None
 
 -- A file holds more bytes than a file may.
 pub record IsTooLong (told : Option (List ℕ)) : Type 0 where
@@ -102,30 +36,41 @@ pub record FailedAt {I : Type 0} (faults : I → ℕ) (last_fault : I → List �
   pub rose : Rose (faults old) (faults new)
   pub name : last_fault new ≡ file
 
+-- ---- on words and inputs
 -- The inputs may bring this reply on a file: they failed at it, or it is the reply on what the file holds.
 abbrev pub MayReplyOn : {I : Type 0} → (I → ℕ) → (I → List ℕ) → Option (List ℕ) → List ℕ → I → I → Reply
     → Type 0
 MayReplyOn faults last_fault told file old new reply =
     (FailedAt faults last_fault file old new × (reply ≡ cannot_read file))
-    ⊎ ((bytes : List ℕ) × MayHold told bytes × IsReplyOn file (found_in bytes) reply)
+    ⊎ ((bytes : List ℕ) × MayHold told bytes × IsReplyOnFile file bytes reply)
 
 -- Words and inputs may bring this reply.
 abbrev pub MayReply : {I : Type 0} → (I → List ℕ → Option (List ℕ)) → (I → ℕ) → (I → List ℕ) → Option (List ℕ)
     → I → I → Reply → Type 0
-MayReply content faults last_fault None old new reply = reply ≡ usage
+MayReply content faults last_fault None old new reply = reply ≡ usage commands
 MayReply content faults last_fault (Some file) old new reply =
     MayReplyOn faults last_fault (content old file) file old new reply
 
+-- ---- given
 -- The status is the reply's, and its bytes were written.
 abbrev pub Gives : ℕ → Option (List ℕ) → Option (List ℕ) → Reply → Type 0
 Gives status old new reply = (status ≡ reply.status) × Appends old new reply.bytes
 
--- The file reads as this form, and the report on it was written, with these numbers, which are the form's bounds.
-pub record Reports (told : Option (List ℕ)) (form : Form) (delay backlog : Ext) (status : ℕ)
+-- A file holds bytes that are not too many, and a reply of this kind on them was given.
+pub record Brings (IsKind : List ℕ → Reply → Type 0) (told : Option (List ℕ)) (status : ℕ)
     (old new : Option (List ℕ)) : Type 0 where
-  pub reads : Reads told form
-  pub bounds : HasBounds form delay backlog
-  pub given : Gives status old new (report form delay backlog)
+  pub bytes : List ℕ
+  pub held : MayHold told bytes
+  pub fits : length bytes ≤ most_bytes
+  pub reply : Reply
+  pub is : IsKind bytes reply
+  pub given : Gives status old new reply
+
+-- Where it is told what a file holds, the reply on that was given, or the status is 3, 4 or 5.
+abbrev pub GivesOnTold : List ℕ → Option (List ℕ) → ℕ → Option (List ℕ) → Option (List ℕ) → Type 0
+GivesOnTold file told status old new = IfSome told (λ bytes.
+    ((reply : Reply) × IsReplyOnFile file bytes reply × Gives status old new reply)
+    ⊎ ((status ≡ 3) ⊎ ((status ≡ 4) ⊎ (status ≡ 5))))
 
 -- The sink failed in this call, and a front of the reply's bytes was written.
 pub record FailsToGive {K : Type 0} (faults : K → ℕ) (written : K → Option (List ℕ)) (old new : K) (reply : Reply)

@@ -1,9 +1,5 @@
-use Rattle.closure_fold.proofs.FoldCurves.{lattice_is_lattice}
 use Rattle.closure_fold.proofs.FoldStars.{part_star, close_answer}
 use Rattle.closure_fold.proofs.laws.fold_answers.Goals as goal
-
-pub returns-clause-lattice : goal.returns-clause-lattice
-returns-clause-lattice c = lattice_is_lattice
 
 pub returns-clause-part : goal.returns-clause-part
 returns-clause-part c = part_star

@@ -12,7 +12,8 @@ returns-in_err-first-clause-refused c =
     rw (p.1, p.2) (wide_first c.args.f.now c.args.g.now _ c.first_window.ensures.kept c.in_err-first.ensures.refused)
 
 pub difference-from-requires : goal.difference-from-requires
-difference-from-requires c = first_fits c.args.f.now c.args.g.now c.in_ok-first.first c.first_window.ensures.kept c.in_ok-first.ensures.window
+difference-from-requires c = first_fits c.args.f.now c.args.g.now c.in_ok-first.first c.first_window.ensures.kept
+    c.in_ok-first.ensures.window
 
 pub late_periods-requires : goal.late_periods-requires
 late_periods-requires c =
@@ -34,6 +35,7 @@ returns-clause-frame c =
 pub returns-clause-refused : goal.returns-clause-refused
 returns-clause-refused c =
     err_map c.within.result _ (IsCauseOf Convolve c.args.f.now c.args.g.now)
-    (λ fault h. refused_by c.args.f.now c.args.g.now c.in_ok-first.first c.difference-from.result c.in-Some.periods fault
+    (λ fault h. refused_by c.args.f.now c.args.g.now c.in_ok-first.first c.difference-from.result c.in-Some.periods
+    fault
     c.first_window.ensures.kept c.in_ok-first.ensures.window c.difference-from.ensures c.in-Some.ensures h)
     c.within.ensures.refused

@@ -13,7 +13,8 @@ use Rattle.curve_frame.specs.Answering.{IsAnswer}
 use Rattle.curve_lattice.proofs.LatticeCalls.{from_fits}
 use Rattle.closure_start.proofs.Started.{started_answer}
 use Rattle.closure_start.proofs.Windowed.{IsConvolved}
-use Rattle.closure_start.proofs.Made.{period_reads, rise_less, start_room, started_convolves, open_keeps, open_convolves}
+use Rattle.closure_start.proofs.Made.{period_reads, rise_less, start_room, started_convolves}
+use Rattle.closure_start.proofs.Made.{open_keeps, open_convolves}
 use Rattle.closure_start.proofs.from_start.started_within.Goals as goal
 
 pub difference-from-requires : goal.difference-from-requires
@@ -49,7 +50,8 @@ repeats_start-requires-clause-less c =
       from_is = c.difference-from.ensures;
       rise_is = c.slower_rise-rise.ensures;
     } in
-    subst (λ ps. SumFitsAt (read ps c.args.frame.now.period) (neg_ℚ c.slower_rise-rise.result)) (sym c.deref.ensures.value)
+    subst (λ ps. SumFitsAt (read ps c.args.frame.now.period) (neg_ℚ c.slower_rise-rise.result))
+    (sym c.deref.ensures.value)
     (rise_less c.args.f.now c.args.g.now c.args.frame.now c.in_ok-pieces.pieces.items c.difference-from.result
     c.slower_rise-rise.result C)
 
@@ -67,7 +69,8 @@ answer-requires c =
     let at : read c.in_ok-pieces.pieces.items r.period ≡ Fin (c.args.start +ℚ c.slower_rise-rise.result) =
     subst (λ ps. read ps r.period ≡ Fin (c.args.start +ℚ c.slower_rise-rise.result)) c.deref.ensures.value
     (c.if-repeats_start.ensures.0 refl) in
-    let room = start_room c.args.f.now c.args.g.now c.args.frame.now c.in_ok-pieces.pieces.items c.difference-from.result
+    let room = start_room c.args.f.now c.args.g.now c.args.frame.now c.in_ok-pieces.pieces.items
+    c.difference-from.result
     c.slower_rise-rise.result C
     c.args.start c.requires.nonneg.0 c.requires.nonneg.1 c.requires.finite c.requires.start at in
     subst (λ ps. IsAnswer ps c.difference-from.result r.period c.slower_rise-rise.result r.times r.values)
@@ -87,10 +90,12 @@ returns-then-repeats_start c =
       rise_is = c.slower_rise-rise.ensures;
     } in
     ok_map c.answer.result _ _
-    (λ h values. started_convolves c.args.f.now c.args.g.now c.args.frame.now c.in_ok-pieces.pieces.items c.difference-from.result
+    (λ h values. started_convolves c.args.f.now c.args.g.now c.args.frame.now c.in_ok-pieces.pieces.items
+    c.difference-from.result
     c.slower_rise-rise.result C
     c.args.start h
-    (subst (λ ps. HasValues h (repeated (read ps) c.difference-from.result c.args.frame.now.period c.slower_rise-rise.result))
+    (subst (λ ps. HasValues h (repeated (read ps) c.difference-from.result c.args.frame.now.period
+    c.slower_rise-rise.result))
     c.with_first-started.ensures values))
     c.answer.ensures
 
@@ -124,11 +129,13 @@ with_start-requires c =
     let r = c.args.frame.now in
     let other : ¬ (read c.in_ok-pieces.pieces.items r.period ≡ Fin (c.args.start +ℚ c.slower_rise-rise.result)) =
     λ e. true≢false (sym (c.if-repeats_start.ensures.1
-    (subst (λ ps. read ps r.period ≡ Fin (c.args.start +ℚ c.slower_rise-rise.result)) (sym c.deref.ensures.value) e))) in
+    (subst (λ ps. read ps r.period ≡ Fin (c.args.start +ℚ c.slower_rise-rise.result)) (sym c.deref.ensures.value)
+    e))) in
     open_keeps c.args.f.now c.args.g.now c.args.frame.now c.in_ok-pieces.pieces.items c.difference-from.result
     c.slower_rise-rise.result C c.args.start
     c.in_ok-late.late c.requires.finite other c.tail-kept.ensures.kept.normal
-    (subst (λ ps. HasValues c.in_ok-late.late (repeated (read ps) c.difference-from.result r.period c.slower_rise-rise.result))
+    (subst (λ ps. HasValues c.in_ok-late.late (repeated (read ps) c.difference-from.result r.period
+    c.slower_rise-rise.result))
     c.with_first-open.ensures c.in_ok-late.ensures)
 
 pub returns : goal.returns
@@ -143,9 +150,11 @@ returns c =
     } in
     let r = c.args.frame.now in
     ok_map c.with_start.result _ _
-    (λ h started. open_convolves c.args.f.now c.args.g.now c.args.frame.now c.in_ok-pieces.pieces.items c.difference-from.result
+    (λ h started. open_convolves c.args.f.now c.args.g.now c.args.frame.now c.in_ok-pieces.pieces.items
+    c.difference-from.result
     c.slower_rise-rise.result C
     c.args.start c.in_ok-late.late h
-    (subst (λ ps. HasValues c.in_ok-late.late (repeated (read ps) c.difference-from.result r.period c.slower_rise-rise.result))
+    (subst (λ ps. HasValues c.in_ok-late.late (repeated (read ps) c.difference-from.result r.period
+    c.slower_rise-rise.result))
     c.with_first-open.ensures c.in_ok-late.ensures) started)
     c.with_start.ensures.values

@@ -1,12 +1,12 @@
 use Rattle.std.specs.Option.{option_map}
-use Rattle.std.proofs.Common.{◌≡◌, ◌+◌, [], ◌∷◌, ◌++◌, map, get_or, drop, Some, refl, sym, ap, ◌∙◌, subst}
+use Rattle.std.proofs.Common.{◌≡◌, ◌+◌, [], ◌∷◌, ◌++◌, map, drop, Some, refl, sym, ap, ◌∙◌, subst, arith}
 use Rattle.std.proofs.lemmas.List.{map_push}
 use Rattle.std.proofs.lemmas.Result.{err_from_is_err_and}
 use Rattle.net_model.specs.Views.{flow_of}
 use Rattle.net_draft.specs.declared.flow_draft.FlowDraft.{FlowDraft}
 use Rattle.net_draft.specs.Kept.{IsArrivalDraft}
 use Rattle.net_draft.specs.Views.{flow_text}
-use Rattle.net_text.specs.Built.{IsFlowOf, IsLiveFlowOf}
+use Rattle.net_text.specs.Built.{IsLiveFlowOf}
 use Rattle.net_text.specs.Firsts.{arrivals_from}
 use Rattle.net_text.proofs.Firsts.{goes_on, stops, arrival_entry, arrivals_more, texts_more}
 use Rattle.net_text.proofs.FoldSteps.{spends_more, spent}
@@ -40,6 +40,7 @@ loop-number-preserved g c =
       built = rw views (zip_more (IsLiveFlowOf g.C.Closer.over) flow_text ds i d (map (option_map flow_of) xs) (Some (flow_of f)) c.loop-number-test.true c.index-drafts-number.is c.loop-number.invariant.built live);
       leads = goes_on g.C.Closer.over (arrivals_from i (map flow_text (drop i ds))) (arrivals_from 0 (map flow_text ds)) (arrival_entry i d) (arrivals_from (i + 1) (map flow_text (drop (i + 1) ds)))
           (arrivals_more ds i d c.loop-number-test.true c.index-drafts-number.is) (record { curve = (flow_of f).arrival; is = c.in_ok-flow.ensures.built.arrival }) c.loop-number.invariant.leads;
+      rises = omega (arith, c.loop-number.invariant.rises, c.in_ok-flow.ensures.rises);
       spends = spends_more g.C.Closer.operators (map flow_text ds) (map flow_text (drop i ds)) (flow_text d) (map flow_text (drop (i + 1) ds)) c.args.steps.now c.loop-number.steps c.flow_of.new.steps
           (texts_more ds i d c.loop-number-test.true c.index-drafts-number.is) c.in_ok-flow.ensures.most c.loop-number.invariant.spends;
     }

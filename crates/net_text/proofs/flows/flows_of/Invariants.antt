@@ -1,5 +1,5 @@
 use Rattle.std.specs.List.{AllZip}
-use Rattle.std.proofs.Common.{map, take, drop}
+use Rattle.std.proofs.Common.{◌≤◌, map, take, drop}
 use Rattle.net_model.specs.Views.{flows_of}
 use Rattle.net_draft.specs.Views.{flow_text}
 use Rattle.net_text.specs.Built.{IsLiveFlowOf}
@@ -12,5 +12,6 @@ abbrev pub invariant-loop-number : goal.invariant-loop-number
 invariant-loop-number g l = record {
   built : AllZip (IsLiveFlowOf g.C.Closer.over) (map flow_text (take l.number l.drafts)) (flows_of l.flows.items);
   leads : Leads g.C.Closer.over (arrivals_from l.number (map flow_text (drop l.number l.drafts))) (arrivals_from 0 (map flow_text l.drafts));
+  rises : l.fn.steps ≤ l.steps;
   spends : Spends g.C.Closer.operators (map flow_text l.drafts) (map flow_text (drop l.number l.drafts)) l.fn.steps l.steps;
 }

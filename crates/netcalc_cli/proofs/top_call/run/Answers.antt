@@ -1,36 +1,93 @@
 use Rattle.std.proofs.Common.{refl, sym, ◌∙◌}
-use Rattle.netcalc_cli.specs.Reply.{usage}
-use Rattle.netcalc_cli.specs.View.{reply_of}
-use Rattle.netcalc_cli.proofs.DoneLemmas.{shown, reported, guarantee_of}
+use Rattle.file_answers.specs.Replies.{usage}
+use Rattle.file_answers.specs.View.{reply_of}
+use Rattle.netcalc_cli.specs.Reply.{commands}
+use Rattle.netcalc_cli.proofs.Replies.{brought, told_given, on_file_at}
 use Rattle.netcalc_cli.proofs.top_call.run.Goals as goal
 
-pub returns-in-Ok-clause-done : goal.returns-in-Ok-clause-done
-returns-in-Ok-clause-done g c zero =
-    let file = c.in-Some.taken.net.now in
-    let told = g.I.Inputs.content c.args.inputs.now file in
+pub returns-in-Ok-clause-malformed : goal.returns-in-Ok-clause-malformed
+returns-in-Ok-clause-malformed g c is =
     let given = c.give-in-Ok.ensures.given (λ four. cc) in
-    let reply = reply_of c.in-Ok.answer in
-    let old = g.K.Sink.written c.args.out.now in
-    let new = g.K.Sink.written c.give-in-Ok.new.out in
-    let is = shown g.I.Inputs.faults g.I.Inputs.last_fault told file c.args.inputs.now c.answer_on.new.inputs reply
-    c.in-Ok.ensures.reply (sym given.0 ∙ zero) in
-    rw (← c.in-Some.ensures)
-    (reported told reply c.give-in-Ok.result old new is (given.0, rw c.deref.ensures.value at given.1))
+    let all = brought g.I.Inputs.faults g.I.Inputs.last_fault
+    (g.I.Inputs.content c.args.inputs.now c.in-Some.taken.net.now) c.in-Some.taken.net.now
+    c.args.inputs.now c.answer_on.new.inputs (reply_of c.in-Ok.answer) c.give-in-Ok.result
+    (g.K.Sink.written c.args.out.now) (g.K.Sink.written c.give-in-Ok.new.out)
+    c.in-Ok.ensures.reply (given.0, rw c.deref.ensures.value at given.1) in
+    rw (← c.in-Some.ensures) (all.malformed is)
 
-pub returns-in-Ok-clause-guarantee : goal.returns-in-Ok-clause-guarantee
-returns-in-Ok-clause-guarantee g c zero =
-    let done = returns-in-Ok-clause-done g c zero in
-    let told = g.I.Inputs.content c.args.inputs.now c.in-Some.taken.net.now in
-    let old = g.K.Sink.written c.args.out.now in
-    let new = g.K.Sink.written c.give-in-Ok.new.out in
-    rw (← c.in-Some.ensures) (guarantee_of told c.give-in-Ok.result old new (rw (← c.in-Some.ensures) at done))
+pub returns-in-Ok-clause-too_many : goal.returns-in-Ok-clause-too_many
+returns-in-Ok-clause-too_many g c is =
+    let given = c.give-in-Ok.ensures.given (λ four. cc) in
+    let all = brought g.I.Inputs.faults g.I.Inputs.last_fault
+    (g.I.Inputs.content c.args.inputs.now c.in-Some.taken.net.now) c.in-Some.taken.net.now
+    c.args.inputs.now c.answer_on.new.inputs (reply_of c.in-Ok.answer) c.give-in-Ok.result
+    (g.K.Sink.written c.args.out.now) (g.K.Sink.written c.give-in-Ok.new.out)
+    c.in-Ok.ensures.reply (given.0, rw c.deref.ensures.value at given.1) in
+    rw (← c.in-Some.ensures) (all.too_many is)
+
+pub returns-in-Ok-clause-too_wide : goal.returns-in-Ok-clause-too_wide
+returns-in-Ok-clause-too_wide g c is =
+    let given = c.give-in-Ok.ensures.given (λ four. cc) in
+    let all = brought g.I.Inputs.faults g.I.Inputs.last_fault
+    (g.I.Inputs.content c.args.inputs.now c.in-Some.taken.net.now) c.in-Some.taken.net.now
+    c.args.inputs.now c.answer_on.new.inputs (reply_of c.in-Ok.answer) c.give-in-Ok.result
+    (g.K.Sink.written c.args.out.now) (g.K.Sink.written c.give-in-Ok.new.out)
+    c.in-Ok.ensures.reply (given.0, rw c.deref.ensures.value at given.1) in
+    rw (← c.in-Some.ensures) (all.too_wide is)
+
+pub returns-in-Ok-clause-cycle : goal.returns-in-Ok-clause-cycle
+returns-in-Ok-clause-cycle g c is =
+    let given = c.give-in-Ok.ensures.given (λ four. cc) in
+    let all = brought g.I.Inputs.faults g.I.Inputs.last_fault
+    (g.I.Inputs.content c.args.inputs.now c.in-Some.taken.net.now) c.in-Some.taken.net.now
+    c.args.inputs.now c.answer_on.new.inputs (reply_of c.in-Ok.answer) c.give-in-Ok.result
+    (g.K.Sink.written c.args.out.now) (g.K.Sink.written c.give-in-Ok.new.out)
+    c.in-Ok.ensures.reply (given.0, rw c.deref.ensures.value at given.1) in
+    rw (← c.in-Some.ensures) (all.cycle is)
+
+pub returns-in-Ok-clause-done : goal.returns-in-Ok-clause-done
+returns-in-Ok-clause-done g c is =
+    let given = c.give-in-Ok.ensures.given (λ four. cc) in
+    let all = brought g.I.Inputs.faults g.I.Inputs.last_fault
+    (g.I.Inputs.content c.args.inputs.now c.in-Some.taken.net.now) c.in-Some.taken.net.now
+    c.args.inputs.now c.answer_on.new.inputs (reply_of c.in-Ok.answer) c.give-in-Ok.result
+    (g.K.Sink.written c.args.out.now) (g.K.Sink.written c.give-in-Ok.new.out)
+    c.in-Ok.ensures.reply (given.0, rw c.deref.ensures.value at given.1) in
+    rw (← c.in-Some.ensures) (all.done is)
 
 pub returns-in_default-clause-answers : goal.returns-in_default-clause-answers
 returns-in_default-clause-answers g c four five =
     let given = c.give.ensures.given four in
-    (usage, rw (← c.in_default.ensures) refl, (given.0, rw c.as_bytes.ensures.value at given.1))
+    (usage commands, rw (← c.in_default.ensures) refl, (given.0, rw c.as_bytes.ensures.value at given.1))
 
 pub returns-in-Ok-clause-answers : goal.returns-in-Ok-clause-answers
 returns-in-Ok-clause-answers g c four five =
-    let given = c.give-in-Ok.ensures.given four in
-    (reply_of c.in-Ok.answer, rw (← c.in-Some.ensures) c.in-Ok.ensures.reply, (given.0, rw c.deref.ensures.value at given.1))
+    let given = c.give-in-Ok.ensures.given four in (
+      reply_of c.in-Ok.answer,
+      rw (← c.in-Some.ensures) c.in-Ok.ensures.reply,
+      (given.0, rw c.deref.ensures.value at given.1),
+    )
+
+pub returns-in-Ok-clause-counts : goal.returns-in-Ok-clause-counts
+returns-in-Ok-clause-counts g c =
+    rw (← c.in-Some.ensures)
+    (on_file_at (g.I.Inputs.content c.args.inputs.now c.in-Some.taken.net.now) (reply_of c.in-Ok.answer).status
+    c.give-in-Ok.result c.args.steps.now c.answer_on.new.steps
+    (λ zero. sym (c.give-in-Ok.ensures.given (λ four. cc)).0 ∙ zero) c.in-Ok.ensures.counts)
+
+pub returns-in-Ok-clause-write_fault : goal.returns-in-Ok-clause-write_fault
+returns-in-Ok-clause-write_fault g c four =
+    let failed = c.give-in-Ok.ensures.failed four in (
+      reply_of c.in-Ok.answer,
+      rw (← c.in-Some.ensures) c.in-Ok.ensures.reply,
+      record { rose = failed.rose; front = rw c.deref.ensures.value at failed.front },
+    )
+
+pub returns-in-Ok-clause-told : goal.returns-in-Ok-clause-told
+returns-in-Ok-clause-told g c =
+    let told = told_given g.I.Inputs.faults g.I.Inputs.last_fault
+    (g.I.Inputs.content c.args.inputs.now c.in-Some.taken.net.now) c.in-Some.taken.net.now
+    c.args.inputs.now c.answer_on.new.inputs (reply_of c.in-Ok.answer) c.give-in-Ok.result
+    (g.K.Sink.written c.args.out.now) (g.K.Sink.written c.give-in-Ok.new.out) c.in-Ok.ensures.reply
+    (λ other. let given = c.give-in-Ok.ensures.given other in (given.0, rw c.deref.ensures.value at given.1)) in
+    rw (← c.in-Some.ensures) told

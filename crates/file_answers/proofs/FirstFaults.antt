@@ -1,0 +1,116 @@
+-- The first fault of a file is a rule that its tables break, or a curve over a limit.
+use Rattle.std.proofs.Common.{◌≡◌, ◌≢◌, ℕ, List, [], ◌∷◌, Result, Ok, Err, IfOk, inl, inr, refl, sym, ap, ◌∙◌, subst}
+use Rattle.upp_curve.specs.Curve.{SpecCurve}
+use Rattle.upp_curve.specs.declared.own_limits.OverLimit.{OverLimit}
+use Rattle.upp_curve.specs.declared.own_limits.OverLimit.TheVariants.{TooMany, TooWide}
+use Rattle.upp_curve.specs.declared.op_kind.OpFault.{OpFault}
+use Rattle.upp_curve.specs.declared.op_kind.OpFault.TheVariants as operator
+use Rattle.closure_fold.proofs.OneFold.{close_once}
+use Rattle.net_model.specs.declared.fault.NetFault.{NetFault}
+use Rattle.net_model.specs.declared.fault.NetKind.{NetKind}
+use Rattle.net_model.specs.declared.fault.NetKind.TheVariants.{M1, M2, M3, M4, M5, M6, M7, M8, M9, M10, M11, M12}
+use Rattle.net_model.specs.declared.fault.NetKind.TheVariants.{CurveTooMany, CurveTooWide, NoMemory}
+use Rattle.net_draft.specs.FaultKinds.{IsOfTables}
+use Rattle.net_draft.specs.Faults.{Fault, fault_of}
+use Rattle.net_draft.proofs.KindsOfTables.{faults_are_of_tables}
+use Rattle.net_text.specs.Becoming.{limit_fault}
+use Rattle.net_text.specs.Closing.{HasOneLimit}
+use Rattle.net_text.specs.Firsts.{PlacedCurve, FirstCurveOver, curves_of}
+use Rattle.net_text.specs.Laws.{EachFileSaysOneThing}
+use Rattle.net_text.specs.Reading.{CurveFault, FirstFault, IsAnswered}
+use Rattle.net_text.proofs.OneThing.{each_file_says_one_thing}
+use Rattle.network_files.specs.FoldLimits.{OverFold}
+use Rattle.file_answers.specs.declared.answer.Answer.{Answer}
+use Rattle.file_answers.specs.Replies.{Reply, breaks_rule, curve_over}
+use Rattle.file_answers.specs.Faults.{reply_of_kind, fault_reply}
+use Rattle.file_answers.specs.OnFiles.{IsBroken, IsReplyOn, Broken, CurveOver}
+use Rattle.file_answers.specs.View.{reply_of}
+
+-- ---- a file says one thing
+-- two refusals of the fold of a closure are one
+same_refusal : (f : SpecCurve) (a b : OpFault) → ◌≡◌ {A = Result SpecCurve OpFault} (Err a) (Err b) → a ≡ b
+same_refusal f a b same = cc
+
+one_limit : HasOneLimit OverFold
+one_limit f TooMany TooMany h k = refl
+one_limit f TooWide TooWide h k = refl
+one_limit f TooMany TooWide h k =
+    let same = same_refusal f operator.TooMany operator.TooWide
+    (close_once f (Err operator.TooMany) (Err operator.TooWide) h k (λ e. cc) (λ e. cc)) in
+    absurd (cc)
+one_limit f TooWide TooMany h k =
+    let same = same_refusal f operator.TooWide operator.TooMany
+    (close_once f (Err operator.TooWide) (Err operator.TooMany) h k (λ e. cc) (λ e. cc)) in
+    absurd (cc)
+
+pub says : EachFileSaysOneThing OverFold
+says = each_file_says_one_thing OverFold one_limit
+
+-- ---- the reply on a fault
+-- a curve over a limit at a place
+record IsLimit (f : Fault) : Type 0 where
+  limit : OverLimit
+  place : List ℕ
+  is : f ≡ limit_fault limit place
+
+of_curves : (es : List PlacedCurve) (f : Fault) → FirstCurveOver OverFold es f → IsLimit f
+of_curves [] f h = absurd h
+of_curves (e ∷ es) f (inl here) = record { limit = here.limit; place = e.place; is = here.is }
+of_curves (e ∷ es) f (inr later) = of_curves es f later.1
+
+pub on_limit : (file place : List ℕ) (limit : OverLimit)
+    → fault_reply file (limit_fault limit place) ≡ curve_over limit place
+on_limit file place TooMany = refl
+on_limit file place TooWide = refl
+
+of_tables : (file : List ℕ) (f : Fault) (kind : NetKind) → IsOfTables kind
+    → reply_of_kind file f kind ≡ breaks_rule file f
+of_tables file f M1 h = refl
+of_tables file f M2 h = refl
+of_tables file f M3 h = refl
+of_tables file f M4 h = refl
+of_tables file f M5 h = refl
+of_tables file f M6 h = refl
+of_tables file f M7 h = refl
+of_tables file f M8 h = refl
+of_tables file f (M9 why) h = refl
+of_tables file f M10 h = refl
+of_tables file f M11 h = refl
+of_tables file f M12 h = refl
+of_tables file f CurveTooMany h = absurd h
+of_tables file f CurveTooWide h = absurd h
+of_tables file f NoMemory h = absurd h
+
+pub on_broken : (file bytes : List ℕ) (reply : Reply) (h : IsBroken file bytes reply) → reply ≡ fault_reply file h.fault
+on_broken file bytes reply h =
+    h.is ∙ sym (of_tables file h.fault h.fault.kind (faults_are_of_tables bytes h.fault h.first))
+
+on_curve : (file bytes : List ℕ) (f : Fault) → CurveFault OverFold bytes f → IsLimit f
+    → IsReplyOn file bytes (fault_reply file f)
+on_curve file bytes f h l =
+    CurveOver l.limit
+    record {
+      place = l.place;
+      first = subst (CurveFault OverFold bytes) l.is h;
+      is = ap (fault_reply file) l.is ∙ on_limit file l.place l.limit;
+    }
+
+pub on_first : (file bytes : List ℕ) (f : Fault) → FirstFault OverFold bytes f
+    → IsReplyOn file bytes (fault_reply file f)
+on_first file bytes f (inl tables) =
+    Broken (record { fault = f; first = tables; is = of_tables file f f.kind (faults_are_of_tables bytes f tables) })
+on_first file bytes f (inr curve) = on_curve file bytes f curve (of_curves (curves_of curve.draft) f curve.first)
+
+-- where a fault is told, it is the first
+pub first_told : (bytes : List ℕ) (f : NetFault) → IsAnswered OverFold bytes f → f.kind ≢ NoMemory
+    → FirstFault OverFold bytes (fault_of f)
+first_told bytes f (inl wants) told = absurd (told wants)
+first_told bytes f (inr first) told = first
+
+-- a call that answers on a fault, if anything, answers on the file
+pub on_told : {E : Type 0} (file bytes : List ℕ) (f : NetFault) (r : Result Answer E) → IsAnswered OverFold bytes f
+    → IfOk r (λ a. reply_of a ≡ fault_reply file (fault_of f)) → IfOk r (λ a. f.kind ≢ NoMemory)
+    → IfOk r (λ a. IsReplyOn file bytes (reply_of a))
+on_told file bytes f (Ok a) answered is told =
+    subst (IsReplyOn file bytes) (sym is) (on_first file bytes (fault_of f) (first_told bytes f answered told))
+on_told file bytes f (Err e) answered is told = tt

@@ -1,0 +1,55 @@
+-- What a call answers: an exit status, and the bytes that are written.
+use Rattle.std.specs.Prelude.{ℕ, ◌++◌, List, codes}
+use Rattle.upp_curve.specs.declared.own_limits.OverLimit.{OverLimit}
+use Rattle.upp_curve.specs.declared.own_limits.OverLimit.TheVariants.{TooMany, TooWide}
+use Rattle.net_model.specs.Networks.{Net}
+use Rattle.net_draft.specs.Faults.{Fault}
+use Rattle.net_cells.specs.Meanings.{CellTable}
+use Rattle.report_text.specs.Faults.{fault_text}
+use Rattle.report_text.specs.Refusals.{spaced}
+use Rattle.report_text.specs.Report.{report_of}
+
+pub record Reply : Type 0 where
+  pub status : ℕ
+  pub bytes : List ℕ
+
+-- ---- a report
+abbrev pub report : Net → CellTable → Reply
+report net at = record { status = 0; bytes = report_of net at }
+
+-- ---- refusals, of one line each
+abbrev pub refusal : ℕ → List ℕ → Reply
+refusal status reason = record { status = status; bytes = codes "netcalc: " ++ reason ++ codes "\n" }
+
+-- the words are not taken, but for these
+abbrev pub usage : List ℕ → Reply
+usage commands = refusal 2 (codes "usage: " ++ commands)
+
+-- the file could not be read
+abbrev pub cannot_read : List ℕ → Reply
+cannot_read file = refusal 3 (codes "cannot read " ++ file)
+
+-- the file has more bytes than a file may have
+abbrev pub too_long : List ℕ → Reply
+too_long file = refusal 1 (file ++ codes ": too long")
+
+-- the file breaks this rule of network files, at this place
+abbrev pub breaks_rule : List ℕ → Fault → Reply
+breaks_rule file fault = refusal 1 (file ++ codes ": " ++ fault_text fault.kind fault.place)
+
+-- the flows go round, over the servers with these names
+abbrev pub goes_round : List (List ℕ) → Reply
+goes_round names = refusal 8 (codes "cycle" ++ spaced names)
+
+-- too many pieces, or too wide numbers, in this
+abbrev pub over : OverLimit → List ℕ → Reply
+over TooMany what = refusal 7 (codes "too many: " ++ what)
+over TooWide what = refusal 6 (codes "too wide: " ++ what)
+
+-- the curve at a place of the file is over a limit
+abbrev pub curve_over : OverLimit → List ℕ → Reply
+curve_over limit place = over limit (codes "curve " ++ place)
+
+-- the cell with these words is over a limit
+abbrev pub cell_over : OverLimit → List ℕ → Reply
+cell_over limit words = over limit words

@@ -1,0 +1,19 @@
+//! Laws of the replies on files. Each is the contract of a function that does nothing.
+
+ghost use Rattle.file_answers.specs.Laws.{RepliesAreComplete, RepliesAreDetermined, UnboundedIsInfinite};
+
+/// Two replies on one file have one status, and one text unless it tells a cycle.
+pub fn replies_are_determined()
+    ensures { RepliesAreDetermined }
+{}
+
+/// A file that gives a network whose servers have an order, with no cell over a limit, has no other reply than a
+/// report.
+pub fn replies_are_complete()
+    ensures { RepliesAreComplete }
+{}
+
+/// Where a report shows `unbounded` for a cell, the number of the cell is infinite.
+pub fn unbounded_is_infinite()
+    ensures { UnboundedIsInfinite }
+{}

@@ -1,4 +1,0 @@
-pub mod SmallNumbers
-pub mod SmallCurves
-pub mod SmallCalls
-pub mod PacketService

@@ -1,0 +1,136 @@
+-- The network of the example is accepted, its one server is its order, and one packet through it is a run of it.
+use Rattle.std.specs.Prelude.{All, AllPairs, Contains, IsTrue}
+use Rattle.std.proofs.Common.{◌≡◌, ◌≢◌, ℕ, zero, suc, ◌<◌, [], ◌∷◌, length, get_or, take, true, false, Some, refl, ap}
+use Rattle.std.proofs.Common.{subst, arith}
+use Rattle.rational.specs.Rational.{◌-ℚ◌}
+use Rattle.rational.specs.Extended.{◌≤ₑ◌}
+use Rattle.rational.specs.declared.Extended.TheVariants.{Fin}
+use Rattle.rational.proofs.Integers.{nat_lt, nat_nonneg}
+use Rattle.upp_curve.specs.Curve.{value_at}
+use Rattle.upp_curve.specs.Windows.{IsLeast}
+use Rattle.run_laws.specs.Cards.{whole}
+use Rattle.run_laws.specs.Examples.{one_packet}
+use Rattle.run_laws.specs.Premises.{KeepsService}
+use Rattle.run_laws.specs.Routes.{route_of}
+use Rattle.run_laws.specs.RunPremises.{EnterSizes, entered_in}
+use Rattle.run_laws.specs.Views.{view}
+use Rattle.run_laws.proofs.OnePacket.{one_packet_reaches_its_bound}
+use Rattle.net_model.specs.Accepted.{IsServer, IsHop, IsFlow, IsAccepted}
+use Rattle.net_model.specs.Names.{IsName, is_name_byte, DifferInName}
+use Rattle.net_model.specs.Networks.{NetFlow}
+use Rattle.net_model.specs.Orders.{IsReady, IsOrder}
+use Rattle.net_model.specs.Walks.{IsNext}
+use Rattle.net_model.proofs.KindsStand.{kinds_may_stand}
+use Rattle.net_cells.specs.Numbered.{packet, arrival, service}
+use Rattle.net_bounds.specs.NetRuns.{routes_of, IsRunOf}
+use Rattle.netcalc_cli.specs.Example.{its_server, its_flow, one_flow}
+
+-- ---- names
+-- of two bytes
+named : (a b : ℕ) → is_name_byte a ≡ true → is_name_byte b ≡ true → IsName (a ∷ b ∷ [])
+named a b h k = record { some = omega arith; few = omega arith; bytes = bytes }
+  where
+    bytes : All (λ c. IsTrue (is_name_byte c)) (a ∷ b ∷ [])
+    bytes zero d l = h
+    bytes (suc zero) d l = k
+    bytes (suc (suc j)) d l = absurd (omega (arith, l))
+
+-- a list of one has no two places
+no_pairs : {A : Type 0} (R : A → A → Type 0) (x : A) → AllPairs R (x ∷ [])
+no_pairs R x i zero d before within = absurd (omega (arith, before))
+no_pairs R x i (suc j) d before within = absurd (omega (arith, within))
+
+-- what it contains is that one
+alone : {A : Type 0} (x y : A) → Contains (x ∷ []) y → x ≡ y
+alone x y (zero, within, is) = is
+alone x y (suc k, within, is) = absurd (omega (arith, within))
+
+-- ---- accepted
+is_server : IsServer its_server
+is_server = record {
+  name = named 115 49 refl refl;
+  rate = nat_lt 0 100 (omega arith);
+  kind = (nat_nonneg 10, refl);
+  service = kinds_may_stand.rate_latency (whole 100) (whole 10) (nat_nonneg 100) (nat_nonneg 10);
+  link = nat_nonneg 0;
+  queues = tt;
+}
+
+is_hop : (k : ℕ) → k < 1 → IsHop one_flow.servers (get_or its_flow.path k 0) (get_or its_flow.queues k 0) 12000
+is_hop zero within = record { server = its_server; is = refl; has_queue = omega arith; takes = tt }
+is_hop (suc k) within = absurd (omega (arith, within))
+
+is_flow : IsFlow one_flow.servers its_flow
+is_flow = record {
+  name = named 102 49 refl refl;
+  packet = (omega arith, omega arith);
+  some = omega arith;
+  few = omega arith;
+  paired = refl;
+  hops = is_hop;
+  once = no_pairs (λ s t. s ≢ t) 0;
+  arrival = kinds_may_stand.bucket (whole 12000) (whole 10) (nat_nonneg 12000) (nat_nonneg 10);
+}
+
+pub accepted : IsAccepted one_flow
+accepted = record {
+  version = refl;
+  few_servers = omega arith;
+  few_flows = omega arith;
+  names = (no_pairs (λ s t. s.name ≢ t.name) its_server, no_pairs DifferInName (Some its_flow));
+  servers = λ s has. subst IsServer (alone its_server s has) is_server;
+  flows = λ f has.
+      let same = alone (Some its_flow) (Some f) has in
+      let flow : its_flow ≡ f = cc in
+      subst (IsFlow one_flow.servers) flow is_flow;
+}
+
+-- ---- the order
+-- no server comes right before another
+no_next : (a b : ℕ) → IsNext one_flow a b → ⊥
+no_next a b h =
+    let same = alone (Some its_flow) (Some h.flow) h.live in
+    let flow : h.flow ≡ its_flow = cc in
+    let short : length h.flow.path ≡ 1 = ap (λ (f : NetFlow). length f.path) flow in
+    let on : suc h.step.hop < length h.flow.path = h.step.on_path in
+    absurd (omega (arith, short, on))
+
+ready : IsReady one_flow [] 0
+ready = record {
+  in_range = omega arith;
+  free = λ has. absurd (omega (arith, has.1));
+  waits_for_none = λ before next. absurd (no_next before 0 next);
+}
+
+pub ordered : IsOrder one_flow (0 ∷ [])
+ordered = record { all = refl; each = each }
+  where
+    each : (place : ℕ) → place < 1 → IsLeast (IsReady one_flow (take place (0 ∷ []))) (get_or (0 ∷ []) place 0)
+    each zero within = record { meets = ready; least = λ other before h. absurd (omega (arith, before)) }
+    each (suc place) within = absurd (omega (arith, within))
+
+-- ---- the run
+-- flow 0 is the only live one
+only_flow : (flow : ℕ) → (route_of (routes_of one_flow) flow).live ≡ true → 0 ≡ flow
+only_flow zero live = refl
+only_flow (suc flow) live = let bad : false ≡ true = live in absurd (cc)
+
+keeps_service : (server : ℕ) → server < 1
+    → KeepsService (value_at (service one_flow server)) one_packet.end (view (routes_of one_flow) one_packet server)
+keeps_service zero within = one_packet_reaches_its_bound.keeps.service 0 (omega arith)
+keeps_service (suc server) within = absurd (omega (arith, within))
+
+pub is_run : IsRunOf one_flow one_packet
+is_run =
+    let keeps = one_packet_reaches_its_bound.keeps in
+    record {
+      lawful = one_packet_reaches_its_bound.is_lawful;
+      keeps = record {
+        sizes = λ flow live. subst (λ i. EnterSizes i (packet one_flow i) one_packet.steps) (only_flow flow live)
+            (keeps.sizes 0 refl);
+        arrivals = λ flow live s t before.
+            subst (λ i. Fin (entered_in i s t one_packet.steps) ≤ₑ value_at (arrival one_flow i) (t -ℚ s))
+            (only_flow flow live) (keeps.arrivals 0 refl s t before);
+        service = keeps_service;
+      };
+    }

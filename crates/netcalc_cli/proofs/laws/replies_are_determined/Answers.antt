@@ -1,0 +1,5 @@
+use Rattle.netcalc_cli.proofs.Replies.{replies_are_determined}
+use Rattle.netcalc_cli.proofs.laws.replies_are_determined.Goals as goal
+
+pub returns : goal.returns
+returns c = replies_are_determined

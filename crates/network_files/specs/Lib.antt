@@ -1,0 +1,3 @@
+pub mod FoldLimits
+pub mod OneLimit
+pub mod FileLaws
