@@ -5,7 +5,8 @@ use Rattle.rational.specs.Rational.{ℚ, ◌+ℚ◌, ◌*ℚ◌, ◌/ℚ◌, ◌
 use Rattle.rational.specs.Extended.{Ext, ◌≤ₑ◌, ◌<ₑ◌, ◌+ₑ◌}
 use Rattle.rational.specs.declared.Extended.TheVariants.{Fin, Inf}
 use Rattle.rational.proofs.Linear.{with1, with2, with3}
-use Rattle.rational.proofs.Laws.{le_or_lt, lt_irrefl, lt_trans, le_lt_trans, antisym, between, half, half_is, half_pos, div_mul, not_zero, lt_of_mul, mul_lt_mul_right, mul_assoc, mul_comm, one_mul, zero_mul}
+use Rattle.rational.proofs.Laws.{le_or_lt, lt_irrefl, lt_trans, le_lt_trans, antisym, between, half, half_is}
+use Rattle.rational.proofs.Laws.{half_pos, div_mul, not_zero, lt_of_mul, mul_lt_mul_right, mul_assoc, mul_comm, one_mul, zero_mul}
 use Rattle.rational.proofs.Over.{le_q_out}
 use Rattle.rational.proofs.MinMax.{le_q_not}
 use Rattle.rational.proofs.ExtendedOrder.{le_ext_trans, same_le_ext, add_zero_ext}
@@ -59,19 +60,22 @@ part_under e None t p low = same_le_ext refl
 part_under e (Some k) t p low =
     let f = part_value record { element = e; copies = Some k } in
     subst (λ x. x ≤ₑ element_value e t) (ap f (none_later t k.period))
-    (subst (λ x. f (t +ℚ int (pos 0) *ℚ k.period) ≤ₑ x) (none_higher (element_value e t) k.rise) (p.copied.1.at 0 t low))
+    (subst (λ x. f (t +ℚ int (pos 0) *ℚ k.period) ≤ₑ x) (none_higher (element_value e t) k.rise) (p.copied.1.at 0 t
+    low))
 
 element_low : (c : SpecCurve) (e : Element) (t : ℚ) → IsNormal c → IsFinite (value_at c) → IsNonnegative (value_at c)
     → IsElementOf c e → Covers e t → zero_q ≤ℚ level e t
 element_low c e t n finite nonneg k covers =
     let es = elements_of c.pieces (pieces_end c.tail) in
-    let low = (element_times c.pieces (pieces_end c.tail) t e n.raw.starts (starts_before c.pieces c.tail n.raw.tail) k covers).0 in
+    let low = (element_times c.pieces (pieces_end c.tail) t e n.raw.starts (starts_before c.pieces c.tail n.raw.tail)
+    k covers).0 in
     let part = part_in IsPart c.tail es e (parts_are_parts c n) k in
     let value : element_value e t ≡ Fin (level e t) = value_in e t covers in
     subst (λ x. Fin zero_q ≤ₑ x) value
     (le_ext_trans (Fin zero_q) (value_at c t) (element_value e t) (nonneg t low)
     (le_ext_trans (value_at c t) (part_value (part_of c.tail e) t) (element_value e t)
-    (subst (λ x. x ≤ₑ part_value (part_of c.tail e) t) (sym (parts_make_curve c t n finite low)) (least_below t c.tail es e k))
+    (subst (λ x. x ≤ₑ part_value (part_of c.tail e) t) (sym (parts_make_curve c t n finite low)) (least_below t
+    c.tail es e k))
     (part_under e (copies_of c.tail e) t part low)))
 
 pub point_start : (c : SpecCurve) (x v : ℚ) → IsNormal c → IsElementOf c (Point x v) → zero_q ≤ℚ x
@@ -113,7 +117,8 @@ module _ (k s m : ℚ) (below : k <ℚ zero_q) (past : zero_q <ℚ m) (at : zero
 
   share_some : zero_q <ℚ share
   share_some = lt_of_mul (s *ℚ m) zero_q share gain
-      (subst (λ x. x <ℚ share *ℚ (s *ℚ m)) (sym (zero_mul (s *ℚ m))) (subst (λ x. zero_q <ℚ x) (sym shared) (half_pos loss)))
+      (subst (λ x. x <ℚ share *ℚ (s *ℚ m)) (sym (zero_mul (s *ℚ m))) (subst (λ x. zero_q <ℚ x) (sym shared) (half_pos
+      loss)))
 
   share_less : share <ℚ int (pos 1)
   share_less = lt_of_mul (s *ℚ m) share (int (pos 1)) gain
@@ -143,10 +148,12 @@ line_low l to room low = elim (le_or_lt zero_q l.icept) [
   | inr h ↦
       let (m, w) = early_time to room in
       let (t, past, less, below) = soon l.icept l.slope m h w.past (low m w) in
-      absurd (lt_irrefl zero_q (le_lt_trans (low t record { past = past; before = earlier to t m less w.before }) below))
+      absurd (lt_irrefl zero_q (le_lt_trans (low t record { past = past; before = earlier to t m less w.before })
+      below))
 ]
 
-pub segment_late : (c : SpecCurve) (a : ℚ) (b : Ext) (l : Line) → IsNormal c → IsFinite (value_at c) → IsNonnegative (value_at c)
+pub segment_late : (c : SpecCurve) (a : ℚ) (b : Ext) (l : Line) → IsNormal c → IsFinite (value_at c)
+    → IsNonnegative (value_at c)
     → IsElementOf c (Open a b l) → (zero_q ≤ℚ l.icept) ⊎ (zero_q <ℚ a)
 segment_late c a b l n finite nonneg k = elim (le_or_lt a zero_q) [
   | inl early ↦ inl (by_start (antisym (early, starts_nonneg c.pieces (pieces_end c.tail) (Open a b l) n.raw.starts k)))
@@ -154,7 +161,8 @@ segment_late c a b l n finite nonneg k = elim (le_or_lt a zero_q) [
 ]
   where
     proper : Fin a <ₑ b
-    proper = (cover c.pieces (pieces_end c.tail) n.raw.starts (starts_before c.pieces c.tail n.raw.tail)).proper (Open a b l) k
+    proper = (cover c.pieces (pieces_end c.tail) n.raw.starts (starts_before c.pieces c.tail n.raw.tail)).proper
+        (Open a b l) k
 
     by_start : a ≡ zero_q → zero_q ≤ℚ l.icept
     by_start is = line_low l b (subst (λ x. Fin x <ₑ b) is proper)
@@ -179,7 +187,8 @@ line_reads (p ∷ ps) end until a b l h k =
 
 tail_reads : (ps : List Piece) (tail : Tail) (a : ℚ) (b : Ext) (l : Line) → TailReadable ps tail
     → Among (Open a b l) (elements_of ps (pieces_end tail)) → LineFitsAt a (Some l)
-tail_reads ps (Periodic rank period rise) a b l h k = line_reads ps (Some (rank +ℚ period)) (Fin (rank +ℚ period)) a b l h.lines k
+tail_reads ps (Periodic rank period rise) a b l h k = line_reads ps (Some (rank +ℚ period)) (Fin (rank +ℚ period)) a
+    b l h.lines k
 tail_reads ps (Affine rank) a b l h k = line_reads ps None Inf a b l h k
 tail_reads ps (Infinite rank) a b l h k = line_reads ps (Some rank) Inf a b l h k
 

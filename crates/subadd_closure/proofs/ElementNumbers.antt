@@ -108,7 +108,8 @@ segment_start c a b l n k = starts_nonneg c.pieces (pieces_end c.tail) (Open a b
 
 pub segment_room : (c : SpecCurve) (a b : ℚ) (l : Line) → IsNormal c → IsElementOf c (Open a (Fin b) l) → a <ℚ b
 segment_room c a b l n k =
-    (cover c.pieces (pieces_end c.tail) n.raw.starts (starts_before c.pieces c.tail n.raw.tail)).proper (Open a (Fin b) l) k
+    (cover c.pieces (pieces_end c.tail) n.raw.starts (starts_before c.pieces c.tail n.raw.tail)).proper (Open a (Fin
+    b) l) k
 
 pub lengths_fit : (c : SpecCurve) (a b : ℚ) (l : Line) → IsNormal c → own_gauge c < 2 ^ 120
     → IsElementOf c (Open a (Fin b) l) → LengthsFit a b
@@ -130,5 +131,6 @@ lengths_fit c a b l n small k =
           (whole_sub (grid_of z) b a (time_whole z b T.1.whole) (time_whole z a T.0.whole))
           (time_within z w a A low T.0.by)
           (subst (λ m. Within m (b -ℚ a)) (two_ones (int (pos z.largest)))
-          (within_sub (times_largest 1 z) (times_largest 1 z) b a (time_within z w b A late T.1.by) (time_within z w a A low T.0.by)));
+          (within_sub (times_largest 1 z) (times_largest 1 z) b a (time_within z w b A late T.1.by) (time_within z w
+          a A low T.0.by)));
     }

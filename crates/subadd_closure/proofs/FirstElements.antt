@@ -38,7 +38,8 @@ by_tail ps (Periodic rank d r) t fits finite early = repeated_first (read ps) ra
 by_tail ps (Affine rank) t fits finite early = refl
 by_tail ps (Infinite rank) t fits finite early = absurd (not_finite ps rank fits.nonneg finite)
 
-value_read : (ps : List Piece) (tail : Tail) (t : ℚ) → TailFits ps tail → IsFinite (value_at record { pieces = ps; tail = tail })
+value_read : (ps : List Piece) (tail : Tail) (t : ℚ) → TailFits ps tail
+    → IsFinite (value_at record { pieces = ps; tail = tail })
     → Fin t <ₑ pieces_end tail → value_at record { pieces = ps; tail = tail } t ≡ read ps t
 unfolding value_at
 value_read ps tail t fits finite early = by_tail ps tail t fits finite early
@@ -54,7 +55,8 @@ read_early : (p : Piece) (ps : List Piece) (end : Ext) (t : ℚ) → p.x <ℚ t 
 read_early p [] end t past early = read_one p t ∙ value_past p t past
 read_early p (q ∷ qs) end t past early = read_stop p q qs t early ∙ value_past p t past
 
-next_late : (p : Piece) (ps : List Piece) (end : Ext) → RisesFrom p.x ps → StartBefore end (p ∷ ps) → Fin p.x <ₑ next_start ps end
+next_late : (p : Piece) (ps : List Piece) (end : Ext) → RisesFrom p.x ps → StartBefore end (p ∷ ps)
+    → Fin p.x <ₑ next_start ps end
 next_late p [] end r b = b.0
 next_late p (q ∷ qs) end r b = r.0
 
@@ -83,7 +85,8 @@ begins x (Fin u) (Some l) next es v m q a h = record {
   is = let same : u ≡ v = cc in ap (λ z. Point x z ∷ Open x next l ∷ es) same;
 }
 
-pub first_value : (ps : List Piece) (tail : Tail) (p : Piece) (qs : List Piece) → IsRaw record { pieces = ps; tail = tail }
+pub first_value : (ps : List Piece) (tail : Tail) (p : Piece) (qs : List Piece)
+    → IsRaw record { pieces = ps; tail = tail }
     → IsFinite (value_at record { pieces = ps; tail = tail }) → ps ≡ p ∷ qs
     → value_at record { pieces = ps; tail = tail } zero_q ≡ p.at
 first_value ps tail p qs raw finite is =
@@ -95,7 +98,8 @@ first_value ps tail p qs raw finite is =
     ∙ read_start p qs zero_q starts.1 (subst (λ x. zero_q ≤ℚ x) (sym starts.0) (le_refl zero_q))
 
 first_two : (p : Piece) (ps : List Piece) (tail : Tail) (v : ℚ) → IsRaw record { pieces = p ∷ ps; tail = tail }
-    → IsFinite (value_at record { pieces = p ∷ ps; tail = tail }) → value_at record { pieces = p ∷ ps; tail = tail } zero_q ≡ Fin v
+    → IsFinite (value_at record { pieces = p ∷ ps; tail = tail })
+    → value_at record { pieces = p ∷ ps; tail = tail } zero_q ≡ Fin v
     → BeginsWith v (elements_of (p ∷ ps) (pieces_end tail))
 first_two p ps tail v raw finite at =
     let end = pieces_end tail in
@@ -114,8 +118,10 @@ pub elements_begin : (c : SpecCurve) (v : ℚ) → IsRaw c → IsFinite (value_a
     → BeginsWith v (elements_of c.pieces (pieces_end c.tail))
 elements_begin c v raw finite at = by_pieces c.pieces raw finite at
   where
-    by_pieces : (ps : List Piece) → IsRaw record { pieces = ps; tail = c.tail } → IsFinite (value_at record { pieces = ps; tail = c.tail })
-        → value_at record { pieces = ps; tail = c.tail } zero_q ≡ Fin v → BeginsWith v (elements_of ps (pieces_end c.tail))
+    by_pieces : (ps : List Piece) → IsRaw record { pieces = ps; tail = c.tail }
+        → IsFinite (value_at record { pieces = ps; tail = c.tail })
+        → value_at record { pieces = ps; tail = c.tail } zero_q ≡ Fin v
+        → BeginsWith v (elements_of ps (pieces_end c.tail))
     by_pieces [] raw finite at = absurd raw.starts
     by_pieces (p ∷ ps) raw finite at = first_two p ps c.tail v raw finite at
 
@@ -133,11 +139,13 @@ two_elements c es e raw finite =
     omega (arith, n)
 
 -- want of memory before the first part
-pub no_memory : (c : SpecCurve) (r : Result SpecCurve OpFault) → IsRaw c → IsFinite (value_at c) → r ≡ Err NoMemory → CloseAnswer c r
+pub no_memory : (c : SpecCurve) (r : Result SpecCurve OpFault) → IsRaw c → IsFinite (value_at c)
+    → r ≡ Err NoMemory → CloseAnswer c r
 no_memory c r raw finite is =
     let (v, at) = finite zero_q (le_refl zero_q) in
     let b = elements_begin c v raw finite at in
     let first = part_of c.tail (Point b.start v) in
-    let all : parts_of c ≡ first ∷ map (part_of c.tail) (Open b.start b.end b.line ∷ b.others) = ap (map (part_of c.tail)) b.is in
+    let all : parts_of c ≡ first ∷ map (part_of c.tail) (Open b.start b.end b.line ∷ b.others) = ap (map (part_of
+    c.tail)) b.is in
     early_refusal c (first ∷ []) (map (part_of c.tail) (Open b.start b.end b.line ∷ b.others)) NoMemory r all
     (first_stops c first [] NoMemory (stops NoMemory tt refl)) is

@@ -32,7 +32,8 @@ split_at tail es i e h is =
 pub work_one : (p : Part) → parts_work (p ∷ []) ≡ part_work p
 work_one p = omega arith
 
-pub work_more : (ps : List Part) (p : Part) → 0 < length ps → parts_work (ps ++ p ∷ []) ≡ parts_work ps + (part_work p + 1)
+pub work_more : (ps : List Part) (p : Part) → 0 < length ps → parts_work (ps ++ p ∷ []) ≡ parts_work ps + (part_work
+    p + 1)
 work_more ps p some = omega (arith, sum_by_push part_work ps p, length-append ps (p ∷ []))
 
 pub work_front : (ps qs : List Part) → parts_work ps ≤ parts_work (ps ++ qs)
@@ -43,7 +44,8 @@ pub work_up_to : (ps : List Part) (p : Part) (qs : List Part) → 0 < length ps
 work_up_to ps p qs some =
     omega (arith, sum_by-append part_work ps (p ∷ qs), sum_by-cons part_work p qs, length-append ps (p ∷ qs))
 
-pub some_taken : (tail : Tail) (es : List Element) (n : ℕ) → 1 ≤ n → n ≤ length es → 0 < length (map (part_of tail) (take n es))
+pub some_taken : (tail : Tail) (es : List Element) (n : ℕ) → 1 ≤ n → n ≤ length es
+    → 0 < length (map (part_of tail) (take n es))
 some_taken tail es n low high = omega (arith, length-map (take n es) (part_of tail), length-take n es)
 
 -- ---- all elements
@@ -51,17 +53,20 @@ all_among : (es ds : List Element) → ((e : Element) → Among e ds → Among e
 all_among es [] h = All-nil (λ e. Among e es)
 all_among es (d ∷ ds) h = All-cons (λ e. Among e es) d ds (h d (inl refl)) (all_among es ds (λ e k. h e (inr k)))
 
-pub all_elements : (c : SpecCurve) (es : List Element) → es ≡ elements_of c.pieces (pieces_end c.tail) → All (IsElementOf c) es
+pub all_elements : (c : SpecCurve) (es : List Element) → es ≡ elements_of c.pieces (pieces_end c.tail)
+    → All (IsElementOf c) es
 all_elements c es is = All-same (IsElementOf c) es (elements_of c.pieces (pieces_end c.tail)) is
     (all_among (elements_of c.pieces (pieces_end c.tail)) (elements_of c.pieces (pieces_end c.tail)) (λ e k. k))
 
 pub split_parts : (c : SpecCurve) (es : List Element) (n : ℕ) → es ≡ elements_of c.pieces (pieces_end c.tail)
     → parts_of c ≡ map (part_of c.tail) (take n es) ++ map (part_of c.tail) (drop n es)
 split_parts c es n is =
-    ap (map (part_of c.tail)) (sym is ∙ sym (take-append-drop n es)) ∙ map-append (part_of c.tail) (take n es) (drop n es)
+    ap (map (part_of c.tail)) (sym is ∙ sym (take-append-drop n es))
+    ∙ map-append (part_of c.tail) (take n es) (drop n es)
 
 -- those before the last, and the last
-pub split_last : (c : SpecCurve) (es : List Element) (n : ℕ) (e : Element) → es ≡ elements_of c.pieces (pieces_end c.tail)
+pub split_last : (c : SpecCurve) (es : List Element) (n : ℕ) (e : Element)
+    → es ≡ elements_of c.pieces (pieces_end c.tail)
     → n + 1 ≡ length es → e ≡ get_or es n e → parts_of c ≡ map (part_of c.tail) (take n es) ++ part_of c.tail e ∷ []
 split_last c es n e all h is =
     ap (map (part_of c.tail)) (sym all) ∙ split_at c.tail es n e (omega (arith, h)) is

@@ -7,7 +7,8 @@ use Rattle.rational.specs.Extended.{Ext, ◌≤ₑ◌, ◌+ₑ◌, min_ext}
 use Rattle.rational.specs.declared.Extended.TheVariants.{Fin, Inf}
 use Rattle.rational.proofs.Bounds.{greatest}
 use Rattle.rational.proofs.Laws.{le_of_lt, add_zero}
-use Rattle.rational.proofs.ExtendedOrder.{le_ext_refl, le_ext_trans, same_le_ext, add_le_ext, add_zero_ext, zero_add_ext, min_left, min_right}
+use Rattle.rational.proofs.ExtendedOrder.{le_ext_refl, le_ext_trans, same_le_ext, add_le_ext}
+use Rattle.rational.proofs.ExtendedOrder.{add_zero_ext, zero_add_ext, min_left, min_right}
 use Rattle.upp_curve.specs.Curve.{SpecCurve, value_at}
 use Rattle.upp_curve.specs.Functions.{zero_q, IsFinite, IsNonnegative}
 use Rattle.upp_curve.specs.Normal.{IsNormal}
@@ -33,7 +34,8 @@ sums_nonneg f (x ∷ xs) (p, n) low =
 
 stars_nonneg : (f F : ℚ → Ext) → AreStars f F → IsNonnegative f → IsNonnegative F
 stars_nonneg f F stars low t n =
-    greatest (λ (p : Times t). sum_at f p.times) (F t) (Fin zero_q) (stars t n) (λ p. sums_nonneg f p.times p.nonneg low)
+    greatest (λ (p : Times t). sum_at f p.times) (F t) (Fin zero_q) (stars t n) (λ p. sums_nonneg f p.times p.nonneg
+    low)
 
 -- and it is at most the function
 star_under : (f : ℚ → Ext) (t : ℚ) (v : Ext) → zero_q ≤ℚ t → IsStar f t v → v ≤ₑ f t

@@ -8,3 +8,4 @@ pub mod FoldShapes
 pub mod FoldLists
 pub mod FirstElements
 pub mod FoldSteps
+pub mod WorkedSegments

@@ -13,7 +13,8 @@ use Rattle.closure_elements.specs.ElementAnswers.{IsElementClosure}
 use Rattle.closure_elements.specs.Lattices.{lattice_curve, origin_curve}
 use Rattle.closure_fold.specs.declared.part.Copies.{Copies}
 use Rattle.closure_fold.specs.CurveParts.{copies_of, part_of}
-use Rattle.closure_fold.specs.Folds.{segment_number, SegmentWithin, SegmentCause, ElementAnswer, CopiedAnswer, LoweredAnswer, PartAnswer}
+use Rattle.closure_fold.specs.Folds.{segment_number, SegmentWithin, SegmentCause}
+use Rattle.closure_fold.specs.Folds.{ElementAnswer, CopiedAnswer, LoweredAnswer, PartAnswer}
 use Rattle.subadd_closure.specs.Stars.{OrWants, answers, wants, StarOf, MakesStar}
 use Rattle.subadd_closure.specs.PartStars.{turn_of, StarsAnswerParts}
 
@@ -26,7 +27,8 @@ module _ (f : SpecCurve) (e : Element) (within : SegmentWithin f (segment_number
       → Then (ElementAnswer f e) (λ c. Then (CopiedAnswer o c) LoweredAnswer) r
   no_closure o r is = stops NoMemory (within_wants f (segment_number e) within) is
 
-  lowers : (o : Option Copies) (c x : SpecCurve) (r : Result SpecCurve OpFault) → IsElementClosure e c → CopiedAnswer o c (Ok x)
+  lowers : (o : Option Copies) (c x : SpecCurve) (r : Result SpecCurve OpFault) → IsElementClosure e c
+      → CopiedAnswer o c (Ok x)
       → OrWants (Applies Min x origin_curve) r → Then (ElementAnswer f e) (λ c. Then (CopiedAnswer o c) LoweredAnswer) r
   lowers o c x r closed copied (answers a) = goes_on c (within, closed) (goes_on x copied a)
   lowers o c x r closed copied (wants is) = no_closure o r is
@@ -43,7 +45,8 @@ module _ (f : SpecCurve) (e : Element) (within : SegmentWithin f (segment_number
   copies_stop k c fault r closed (answers a) is = goes_on c (within, closed) (stops fault a is)
   copies_stop k c fault r closed (wants w) is = no_closure (Some k) r (is ∙ w)
 
-  by_copies : (o : Option Copies) (c : SpecCurve) (r : Result SpecCurve OpFault) → IsElementClosure e c → StarOf (turn_of o) c r
+  by_copies : (o : Option Copies) (c : SpecCurve) (r : Result SpecCurve OpFault) → IsElementClosure e c
+      → StarOf (turn_of o) c r
       → Then (ElementAnswer f e) (λ c. Then (CopiedAnswer o c) LoweredAnswer) r
   by_copies None c r closed h = lowers None c c r closed refl h
   by_copies (Some k) c r closed (goes_on x a b) = copies_on k c x r closed a b

@@ -66,7 +66,8 @@ number_early a b l h = ap (λ t. cond t (Some (suc (number a b))) None) (lt_q_no
 pub endless_overlap : (f : SpecCurve) (a : ℚ) (l : Line) → IsStretch a Inf 0 → IsOverlap f a Inf l 0
 endless_overlap f a l s = record { within = tt; stretch = s; few = omega arith }
 
-pub early_overlap : (f : SpecCurve) (a b : ℚ) (l : Line) → a ≤ℚ zero_q → IsStretch a (Fin b) 0 → IsOverlap f a (Fin b) l 0
+pub early_overlap : (f : SpecCurve) (a b : ℚ) (l : Line) → a ≤ℚ zero_q → IsStretch a (Fin b) 0
+    → IsOverlap f a (Fin b) l 0
 early_overlap f a b l h s = record {
   within = subst (SegmentWithin f) (sym (number_early a b l h)) tt;
   stretch = s;
@@ -88,7 +89,8 @@ late_overlap f a b l gauge m h same is narrow few s = record {
     next : m + 3 ≡ suc m + 2
     next = omega arith
 
-pub found_overlap : (f : SpecCurve) (a b : ℚ) (l : Line) (gauge m : ℕ) (r : Result ℕ OpFault) → zero_q <ℚ a → gauge ≡ own_gauge f
+pub found_overlap : (f : SpecCurve) (a b : ℚ) (l : Line) (gauge m : ℕ) (r : Result ℕ OpFault) → zero_q <ℚ a
+    → gauge ≡ own_gauge f
     → m ≡ number a b → IfOk r (λ k. k ≡ m) → IfOk r (λ k. (m + 3) * gauge < 2 ^ 120) → IfOk r (λ k. m + 3 ≤ 2 ^ 19)
     → IsStretch a (Fin b) (number a b) → IfOk r (IsOverlap f a (Fin b) l)
 found_overlap f a b l gauge m (Ok k) h same is found narrow few s =
@@ -105,7 +107,8 @@ cause_of f gauge m TooWide same wide =
     subst (λ g. 2 ^ 120 ≤ (suc m + 2) * g) same (subst (λ k. 2 ^ 120 ≤ k * gauge) (omega arith) wide)
 cause_of f gauge m NoMemory same none = absurd none
 
-pub late_cause : (f : SpecCurve) (a b : ℚ) (l : Line) (gauge m : ℕ) (fault : OpFault) → zero_q <ℚ a → gauge ≡ own_gauge f
+pub late_cause : (f : SpecCurve) (a b : ℚ) (l : Line) (gauge m : ℕ) (fault : OpFault) → zero_q <ℚ a
+    → gauge ≡ own_gauge f
     → m ≡ number a b → IsOverLimit gauge (m + 3) fault → SegmentCause f (segment_number (Open a (Fin b) l)) fault
 late_cause f a b l gauge m fault h same is over =
     subst (λ o. SegmentCause f o fault) (sym (number_late a b l h))

@@ -15,5 +15,5 @@ turn_of (Some k) = Some (k.period, k.rise)
 
 -- where the operator of its segment is over no limit, what is answered for a part's star is what the fold answers
 abbrev pub StarsAnswerParts : Type 0
-StarsAnswerParts = (f : SpecCurve) (p : Part) (r : Result SpecCurve OpFault) → SegmentWithin f (segment_number p.element)
-    → MakesStar (turn_of p.copies) p.element r → PartAnswer f p r
+StarsAnswerParts = (f : SpecCurve) (p : Part) (r : Result SpecCurve OpFault)
+    → SegmentWithin f (segment_number p.element) → MakesStar (turn_of p.copies) p.element r → PartAnswer f p r

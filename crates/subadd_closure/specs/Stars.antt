@@ -56,5 +56,5 @@ IsSpread (Some p) e h = HasCopies (element_value e) p.0 p.1 h
 
 -- what the calls make is the star of the element with all its copies
 abbrev pub StarsAreMade : Type 0
-StarsAreMade = (p : Option (ℚ × ℚ)) (e : Element) (s : SpecCurve) (h : ℚ → Ext) → IsTurn p → MakesStar p e (Ok s) → IsSpread p e h
-    → AreStars h (value_at s)
+StarsAreMade = (p : Option (ℚ × ℚ)) (e : Element) (s : SpecCurve) (h : ℚ → Ext) → IsTurn p → MakesStar p e (Ok s)
+    → IsSpread p e h → AreStars h (value_at s)

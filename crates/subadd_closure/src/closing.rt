@@ -109,12 +109,11 @@ fn closed<L: Ledger>(
 }
 
 /// The subadditive closure of a curve that is finite and nowhere below 0: at t the infimum of the sums of f over one or
-/// more times from 0 on whose sum is t (Le Boudec and Thiran, chapter 3). It is made part by part: of each point and each
-/// open segment of f, those of a period from the rank on with all their copies, the closure, lowered by the point 0 at
-/// 0; and these are convolved in the order of their starts, with the value at 0 set back to f at 0. Refused with TooWide
-/// or TooMany exactly where the first operator of that fold that is over a limit is over that one: an open segment after
-/// 0 that has an end has an operator of its own, before the calls on curves. Else only for want of memory. Each call on
-/// curves counts one step.
+/// more times from 0 on whose sum is t. It is made part by part: of each point and each open segment of f, those of a
+/// period from the rank on with all their copies, the closure, lowered by the point 0 at 0; and these are convolved in
+/// the order of their starts, with the value at 0 set back to f at 0. Refused with TooWide or TooMany exactly where the
+/// first operator of that fold that is over a limit is over that one: an open segment after 0 that has an end has an
+/// operator of its own, before the calls on curves. Else only for want of memory. Each call on curves counts one step.
 pub fn close<L: Ledger>(alloc: Global, f: &Curve, steps: &mut Steps<L>) -> Result<Curve, OpFault>
     requires finite { IsFinite (value_at f.now) }
     requires nonneg { IsNonnegative (value_at f.now) }

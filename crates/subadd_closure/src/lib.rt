@@ -4,6 +4,8 @@
 mod closing;
 mod overlaps;
 mod part_stars;
+#[cfg(test)]
+mod segment_tests;
 mod stars;
 mod subadditive;
 #[cfg(test)]

@@ -29,8 +29,8 @@ fn turn_of(tail: &Tail, e: &Element) -> Option<(Frac, Frac)>
     }
 }
 
-/// The star of an element of a curve f, with its copies where it has any: f is finite and nowhere below 0, and `gauge` is
-/// its gauge by itself. A refusal is that of the first operator that is over a limit, a segment's own one before the
+/// The star of an element of a curve f, with its copies where it has any: f is finite and nowhere below 0, and `gauge`
+/// is its gauge by itself. A refusal is that of the first operator that is over a limit, a segment's own one before the
 /// calls on curves; or want of memory. Each call on curves counts one step: two with copies, else one.
 pub(crate) fn element_star<L: Ledger>(
     alloc: Global,

@@ -1,8 +1,11 @@
 //! Values worked out by hand.
 
-ghost use Rattle.std.specs.Prelude.{◌≡◌, ◌<◌};
+ghost use Rattle.std.specs.Prelude.{◌≡◌, ◌<◌, IsTrue};
+ghost use Rattle.rational.specs.Extended.{◌≤ₑ◌};
+ghost use Rattle.upp_curve.specs.Curve.{value_at};
+ghost use Rattle.upp_curve.specs.Functions.{zero_q};
 
-use crate::is_subadditive;
+use crate::{close, is_subadditive};
 use affine_segment::{Line, Piece};
 use fraction128::{Ext, Frac};
 use rational::Extended;
@@ -11,10 +14,18 @@ use std::marker::Brand;
 use std::sync::ledger::{Blank, Ledger};
 use std::test::Fail;
 use steps::Steps;
-use upp_curve::{Curve, OpFault, RawCurve, Tail, normalise};
+use upp_curve::{Curve, OpFault, RawCurve, Tail, equal, is_less, normalise};
 
 fn whole(n: i128) -> Frac {
     match Frac::new(n, 1) {
+        Ok(f) => f,
+        Err(_) => Frac::zero(),
+    }
+}
+
+// 1 / n.
+fn part(n: i128) -> Frac {
+    match Frac::new(1, n) {
         Ok(f) => f,
         Err(_) => Frac::zero(),
     }
@@ -62,18 +73,27 @@ fn late(alloc: Global) -> Result<Curve, OpFault> {
     curve(alloc, &list, Tail::Affine { rank: Frac::one() })
 }
 
+// The rate 1 up to the time 1, and 3 after it.
+fn bent(alloc: Global) -> Result<Curve, OpFault> {
+    let list = [
+        piece(0, Extended::Fin(Frac::zero()), Some((0, 1))),
+        piece(1, Extended::Fin(Frac::one()), Some((-2, 3))),
+    ];
+    curve(alloc, &list, Tail::Affine { rank: Frac::one() })
+}
+
 // `at` at 0, and `level` up to the period; then it repeats, `rise` higher.
 fn steps_up(
     alloc: Global,
     at: i128,
     level: i128,
-    period: i128,
+    period: Frac,
     rise: i128,
 ) -> Result<Curve, OpFault> {
     let list = [piece(0, Extended::Fin(whole(at)), Some((level, 0)))];
     let tail = Tail::Periodic {
         rank: Frac::zero(),
-        period: whole(period),
+        period,
         rise: whole(rise),
     };
     curve(alloc, &list, tail)
@@ -100,9 +120,68 @@ fn a_bucket_is_and_a_latency_is_not(rt: HostRuntime) -> Result<(), Fail> {
 // A stair is; one that waits a whole period for its first step is not.
 #[test]
 fn stairs(rt: HostRuntime) -> Result<(), Fail> {
-    let f = steps_up(rt.alloc(), 1, 1, 2, 1)?;
-    let g = steps_up(rt.alloc(), 0, 0, 2, 1)?;
+    let f = steps_up(rt.alloc(), 1, 1, whole(2), 1)?;
+    let g = steps_up(rt.alloc(), 0, 0, whole(2), 1)?;
     assert!(rt; told::<Brand>(rt.alloc(), Blank::new(1), &f)?);
     assert!(rt; !told::<Brand>(rt.alloc(), Blank::new(1), &g)?);
+    Ok(())
+}
+
+// Whether the value at 0 is 0 or more.
+fn starts_high(f: &Curve) -> bool
+    ensures { IsTrue result → Extended.Fin zero_q ≤ₑ value_at f.now zero_q }
+{
+    match f.value_at(Frac::zero()) {
+        Ok(Extended::Fin(v)) => !is_less(v, Frac::zero()),
+        _ => false,
+    }
+}
+
+// The closure of a curve that is finite and rises from 0 or more.
+fn closure<L: Ledger>(alloc: Global, blank: Blank, f: &Curve) -> Result<Curve, OpFault>
+    requires name { blank.name ≡ L.name }
+    requires parts { blank.parts ≡ L.parts }
+    requires one { 0 < blank.parts }
+{
+    if !f.is_finite() {
+        return Err(OpFault::TooWide);
+    }
+    if !f.is_rising() {
+        return Err(OpFault::TooWide);
+    }
+    if !starts_high(f) {
+        return Err(OpFault::TooWide);
+    }
+    let mut steps = Steps::<L>::new(blank);
+    close(alloc, f, &mut steps)
+}
+
+#[test]
+fn slow_starts_are_what_stays(rt: HostRuntime) -> Result<(), Fail> {
+    let f = bent(rt.alloc())?;
+    let one = bucket(rt.alloc(), 0, 1)?;
+    assert!(rt; equal(&closure::<Brand>(rt.alloc(), Blank::new(1), &f)?, &one));
+    let g = late(rt.alloc())?;
+    let h = steps_up(rt.alloc(), 0, 0, whole(2), 1)?;
+    let none = bucket(rt.alloc(), 0, 0)?;
+    assert!(rt; equal(&closure::<Brand>(rt.alloc(), Blank::new(1), &g)?, &none));
+    assert!(rt; equal(&closure::<Brand>(rt.alloc(), Blank::new(1), &h)?, &none));
+    Ok(())
+}
+
+#[test]
+fn subadditive_curves_stay(rt: HostRuntime) -> Result<(), Fail> {
+    let f = bucket(rt.alloc(), 3, 2)?;
+    let g = steps_up(rt.alloc(), 1, 1, whole(2), 1)?;
+    assert!(rt; equal(&closure::<Brand>(rt.alloc(), Blank::new(1), &f)?, &f));
+    assert!(rt; equal(&closure::<Brand>(rt.alloc(), Blank::new(1), &g)?, &g));
+    Ok(())
+}
+
+#[test]
+fn a_stair_of_short_steps_has_too_many_pieces(rt: HostRuntime) -> Result<(), Fail> {
+    let f = steps_up(rt.alloc(), 1, 1, part(1 << 21), 1)?;
+    let answer = closure::<Brand>(rt.alloc(), Blank::new(1), &f);
+    assert!(rt; matches!(answer, Err(OpFault::TooMany)));
     Ok(())
 }

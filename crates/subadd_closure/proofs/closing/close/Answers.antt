@@ -6,4 +6,7 @@ use Rattle.subadd_closure.proofs.closing.close.Goals as goal
 pub returns-in_err-es-clause-answer : goal.returns-in_err-es-clause-answer
 returns-in_err-es-clause-answer g c =
     let p = err_from_is_err_and c.from_residual.result c.from_residual.ensures.1 in
-    no_memory c.args.f.now c.from_residual.result c.tail-tail.ensures.kept.normal.raw c.requires.finite (rw (p.1, p.2) refl)
+    no_memory c.args.f.now c.from_residual.result c.tail-tail.ensures.kept.normal.raw c.requires.finite (rw (
+      p.1,
+      p.2,
+    ) refl)

@@ -1,25 +1,26 @@
-use Rattle.std.specs.Prelude.{List, []}
-use Rattle.std.proofs.Common.{◌≡◌, ◌+◌, ◌-◌, ◌<◌, ℕ, length, map, take, drop, length-take, sym, refl, ap, ◌∙◌, subst, arith}
+use Rattle.std.specs.Prelude.{[]}
+use Rattle.std.proofs.Common.{◌≡◌, ◌+◌, ◌-◌, length, map, take}
+use Rattle.std.proofs.Common.{drop, length-take, sym, refl, ap, subst, arith}
 use Rattle.std.proofs.lemmas.List.Elements.{All-take}
 use Rattle.std.proofs.lemmas.Result.{err_from_is_err_and}
-use Rattle.rational.specs.Rational.{ℚ}
 use Rattle.rational.specs.Extended.{◌≤ₑ◌}
 use Rattle.rational.specs.declared.Extended.TheVariants.{Fin}
 use Rattle.rational.proofs.Laws.{le_refl}
 use Rattle.upp_curve.specs.Functions.{zero_q}
-use Rattle.upp_curve.specs.Curve.{value_at}
 use Rattle.closure_fold.specs.CurveParts.{part_of}
-use Rattle.subadd_closure.specs.FoldWork.{part_work, parts_work, fold_work}
+use Rattle.subadd_closure.specs.FoldWork.{parts_work, fold_work}
 use Rattle.subadd_closure.specs.SegmentLimits.{IsElementOf}
 use Rattle.subadd_closure.proofs.FirstElements.{two_elements}
 use Rattle.subadd_closure.proofs.FoldSteps.{early_refusal, last_refusal, last_part, always}
-use Rattle.subadd_closure.proofs.FoldLists.{all_elements, split_parts, split_last, some_taken, work_front, work_more, work_up_to}
+use Rattle.subadd_closure.proofs.FoldLists.{all_elements, split_parts, split_last}
+use Rattle.subadd_closure.proofs.FoldLists.{some_taken, work_front, work_more, work_up_to}
 use Rattle.subadd_closure.proofs.FoldShapes.{sofar_nonneg, star_nonneg, finite_past}
 use Rattle.subadd_closure.proofs.closing.closed.Goals as goal
 
 pub overflow_sub-last : goal.overflow_sub-last
 overflow_sub-last g c =
-    let two = two_elements c.args.f.now c.args.es.now c.requires.elements c.requires.curve.normal.raw c.requires.finite in
+    let two = two_elements c.args.f.now c.args.es.now c.requires.elements c.requires.curve.normal.raw
+    c.requires.finite in
     omega (arith, two)
 
 pub folded-requires-clause-some : goal.folded-requires-clause-some
@@ -40,7 +41,8 @@ returns-in_err-sofar-clause-answer g c =
     let es = c.args.es.now in
     let n = length es - 1 in
     let p = err_from_is_err_and c.from_residual.result c.from_residual.ensures.1 in
-    early_refusal f (map (part_of f.tail) (take n es)) (map (part_of f.tail) (drop n es)) c.in_err-sofar.field-0.0 c.from_residual.result
+    early_refusal f (map (part_of f.tail) (take n es)) (map (part_of f.tail) (drop n es)) c.in_err-sofar.field-0.0
+    c.from_residual.result
     (split_parts f es n c.requires.elements) c.in_err-sofar.ensures.answer (rw (p.1, p.2) refl)
 
 pub returns-in_err-sofar-clause-within : goal.returns-in_err-sofar-clause-within
@@ -70,7 +72,8 @@ returns-in_err-star-clause-answer g c =
     let two = two_elements f es c.requires.elements c.requires.curve.normal.raw c.requires.finite in
     let r = c.from_residual-in_err-star in
     let p = err_from_is_err_and r.result r.ensures.1 in
-    last_refusal f c.in_ok-sofar.sofar (map (part_of f.tail) (take n es)) (part_of f.tail e) c.in_err-star.field-0.0 r.result
+    last_refusal f c.in_ok-sofar.sofar (map (part_of f.tail) (take n es)) (part_of f.tail e) c.in_err-star.field-0.0
+    r.result
     (split_last f es n e c.requires.elements (omega (arith, two)) c.index-es-last.is) c.in_ok-sofar.ensures.answer
     c.in_err-star.ensures.answer (rw (p.1, p.2) refl)
 
@@ -95,8 +98,10 @@ convolve_from-requires-clause-first g c =
     let n = length es - 1 in
     let e = c.index-es-last.result in
     let two = two_elements f es c.requires.elements c.requires.curve.normal.raw c.requires.finite in
-    sofar_nonneg f c.in_ok-sofar.sofar c.in_ok-star.star (map (part_of f.tail) (take n es)) (part_of f.tail e) c.requires.curve.normal
-    c.requires.finite c.requires.nonneg (split_last f es n e c.requires.elements (omega (arith, two)) c.index-es-last.is)
+    sofar_nonneg f c.in_ok-sofar.sofar c.in_ok-star.star (map (part_of f.tail) (take n es)) (part_of f.tail e)
+    c.requires.curve.normal
+    c.requires.finite c.requires.nonneg (split_last f es n e c.requires.elements (omega (arith, two))
+    c.index-es-last.is)
     c.in_ok-sofar.ensures.answer c.in_ok-star.ensures.answer
 
 pub convolve_from-requires-clause-second : goal.convolve_from-requires-clause-second
@@ -106,8 +111,10 @@ convolve_from-requires-clause-second g c =
     let n = length es - 1 in
     let e = c.index-es-last.result in
     let two = two_elements f es c.requires.elements c.requires.curve.normal.raw c.requires.finite in
-    star_nonneg f c.in_ok-sofar.sofar c.in_ok-star.star (map (part_of f.tail) (take n es)) (part_of f.tail e) c.requires.curve.normal
-    c.requires.finite c.requires.nonneg (split_last f es n e c.requires.elements (omega (arith, two)) c.index-es-last.is)
+    star_nonneg f c.in_ok-sofar.sofar c.in_ok-star.star (map (part_of f.tail) (take n es)) (part_of f.tail e)
+    c.requires.curve.normal
+    c.requires.finite c.requires.nonneg (split_last f es n e c.requires.elements (omega (arith, two))
+    c.index-es-last.is)
     c.in_ok-sofar.ensures.answer c.in_ok-star.ensures.answer
 
 pub convolve_from-requires-clause-start : goal.convolve_from-requires-clause-start
@@ -121,8 +128,10 @@ convolve_from-requires-clause-finite g c =
     let n = length es - 1 in
     let e = c.index-es-last.result in
     let two = two_elements f es c.requires.elements c.requires.curve.normal.raw c.requires.finite in
-    finite_past f c.in_ok-sofar.sofar c.in_ok-star.star (map (part_of f.tail) (take n es)) (part_of f.tail e) c.requires.curve.normal
-    c.requires.finite c.requires.nonneg (split_last f es n e c.requires.elements (omega (arith, two)) c.index-es-last.is)
+    finite_past f c.in_ok-sofar.sofar c.in_ok-star.star (map (part_of f.tail) (take n es)) (part_of f.tail e)
+    c.requires.curve.normal
+    c.requires.finite c.requires.nonneg (split_last f es n e c.requires.elements (omega (arith, two))
+    c.index-es-last.is)
     c.in_ok-sofar.ensures.answer c.in_ok-star.ensures.answer
 
 pub returns-clause-answer : goal.returns-clause-answer
@@ -132,7 +141,8 @@ returns-clause-answer g c =
     let n = length es - 1 in
     let e = c.index-es-last.result in
     let two = two_elements f es c.requires.elements c.requires.curve.normal.raw c.requires.finite in
-    last_part f c.in_ok-sofar.sofar c.in_ok-star.star (map (part_of f.tail) (take n es)) (part_of f.tail e) c.start_of.result
+    last_part f c.in_ok-sofar.sofar c.in_ok-star.star (map (part_of f.tail) (take n es)) (part_of f.tail e)
+    c.start_of.result
     c.convolve_from.result (split_last f es n e c.requires.elements (omega (arith, two)) c.index-es-last.is)
     c.in_ok-sofar.ensures.answer c.in_ok-star.ensures.answer c.start_of.ensures c.convolve_from.ensures.answer
 

@@ -1,5 +1,5 @@
 use Rattle.std.specs.Prelude.{Ok}
-use Rattle.std.proofs.Common.{◌≡◌, ◌+◌, map, take, drop, sym, ap, subst, arith}
+use Rattle.std.proofs.Common.{◌+◌, map, take, drop, sym, ap, subst, arith}
 use Rattle.std.proofs.lemmas.Result.{err_from_is_err_and}
 use Rattle.closure_fold.specs.CurveParts.{part_of}
 use Rattle.closure_fold.specs.Folds.{PartsAnswer}
@@ -16,7 +16,8 @@ returns-in_err-sofar-clause-answer g c =
     let e = c.index-es-0.result in
     let p = err_from_is_err_and c.from_residual.result c.from_residual.ensures.1 in
     subst (λ z. PartsAnswer f z c.from_residual.result) (sym (split_at f.tail es 0 e c.requires.some c.index-es-0.is))
-    (rw (p.1, p.2) (first_stops f (part_of f.tail e) (map (part_of f.tail) (drop 1 es)) c.in_err-sofar.field-0.0 c.in_err-sofar.ensures.answer))
+    (rw (p.1, p.2) (first_stops f (part_of f.tail e) (map (part_of f.tail) (drop 1 es)) c.in_err-sofar.field-0.0
+    c.in_err-sofar.ensures.answer))
 
 pub loop-i-init : goal.loop-i-init
 loop-i-init g c =
@@ -29,7 +30,8 @@ loop-i-init g c =
     let work = ap parts_work one in
     let alone = work_one (part_of f.tail e) in
     record {
-      answer = subst (λ z. PartsAnswer f z (Ok sofar)) (sym one) (first_part f (part_of f.tail e) sofar c.in_ok-sofar.ensures.answer);
+      answer = subst (λ z. PartsAnswer f z (Ok sofar)) (sym one) (first_part f (part_of f.tail e) sofar
+          c.in_ok-sofar.ensures.answer);
       count = omega (arith, all, work, alone);
     }
 
@@ -47,7 +49,8 @@ returns-in_err-sofar-2-clause-answer g c =
     let r = c.from_residual-in_err-sofar-2 in
     let p = err_from_is_err_and r.result r.ensures.1 in
     subst (λ z. PartsAnswer f z r.result) (sym (split_at f.tail es i e c.loop-i-test.true c.index-es-i.is))
-    (rw (p.1, p.2) (next_stops f c.loop-i.sofar (map (part_of f.tail) (take i es)) (map (part_of f.tail) (drop (i + 1) es))
+    (rw (p.1, p.2) (next_stops f c.loop-i.sofar (map (part_of f.tail) (take i es)) (map (part_of f.tail) (drop (i +
+    1) es))
     (part_of f.tail e) c.in_err-sofar-2.field-0.0 c.loop-i.invariant.answer c.in_err-sofar-2.ensures.answer))
 
 pub returns-in_err-sofar-2-clause-most : goal.returns-in_err-sofar-2-clause-most
@@ -79,6 +82,7 @@ loop-i-preserved g c =
     let work = work_more before (part_of f.tail e) (some_taken f.tail es i c.loop-i.auto.i (omega arith)) in
     record {
       answer = subst (λ z. PartsAnswer f z (Ok c.in_ok-sofar-2.sofar)) (sym one)
-          (next_part f c.loop-i.sofar before (part_of f.tail e) c.in_ok-sofar-2.sofar c.loop-i.invariant.answer c.in_ok-sofar-2.ensures.answer);
+          (next_part f c.loop-i.sofar before (part_of f.tail e) c.in_ok-sofar-2.sofar c.loop-i.invariant.answer
+          c.in_ok-sofar-2.ensures.answer);
       count = omega (arith, count, all, more, work);
     }

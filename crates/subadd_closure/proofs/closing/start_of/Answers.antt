@@ -9,9 +9,11 @@ pub unreachable-requires : goal.unreachable-requires
 unreachable-requires c =
     let (q, is) = c.requires zero_q (le_refl zero_q) in
     let both : Fin q ≡ Inf =
-    sym is ∙ start_value c.args.f.now c.pieces.result.now _ c.pieces.ensures.pieces c.pieces.ensures.kept.normal.raw c.requires ∙ c.in-Inf.is in
+    sym is ∙ start_value c.args.f.now c.pieces.result.now _ c.pieces.ensures.pieces c.pieces.ensures.kept.normal.raw
+    c.requires ∙ c.in-Inf.is in
     cc
 
 pub returns : goal.returns
 returns c =
-    start_value c.args.f.now c.pieces.result.now _ c.pieces.ensures.pieces c.pieces.ensures.kept.normal.raw c.requires ∙ c.in-Fin.is
+    start_value c.args.f.now c.pieces.result.now _ c.pieces.ensures.pieces c.pieces.ensures.kept.normal.raw
+    c.requires ∙ c.in-Fin.is

@@ -26,5 +26,6 @@ returns-clause-value c =
     let some : zero_q <ℚ b -ℚ a = with2 a b (λ o. omega (arith, o.le, o.lt, o.same)) in
     let ratio : c.quotient.result ≡ a /ℚ (b -ℚ a) = c.quotient.ensures ∙ ap (λ d. a /ℚ d) c.difference-length.ensures in
     let whole : c.floor.result ≡ pos (whole_part (a /ℚ (b -ℚ a))) =
-    c.floor.ensures.value ∙ ap floor ratio ∙ whole_floor (a /ℚ (b -ℚ a)) (div_nonneg a (b -ℚ a) some (le_of_lt c.requires.late)) in
+    c.floor.ensures.value ∙ ap floor ratio ∙ whole_floor (a /ℚ (b -ℚ a)) (div_nonneg a (b -ℚ a) some (le_of_lt
+    c.requires.late)) in
     grind (arith, to_z-of_z)

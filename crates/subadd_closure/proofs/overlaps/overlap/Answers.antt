@@ -28,7 +28,8 @@ returns-then-not-is_less-clause-within c =
     let n = c.tail-tail.ensures.kept.normal in
     let part : IsElementOf f (Open a (Fin b) l) = subst (λ z. IsElementOf f (Open a z l)) c.in-Fin.is c.requires.part in
     let early : a ≤ℚ zero_q =
-    subst (λ z. a ≤ℚ z) c.zero.ensures (not_less_out c.is_less.result c.zero.result a c.is_less.ensures.less c.if-not-is_less.true) in
+    subst (λ z. a ≤ℚ z) c.zero.ensures (not_less_out c.is_less.result c.zero.result a c.is_less.ensures.less
+    c.if-not-is_less.true) in
     subst (λ z. IsOverlap f a z l 0) (sym c.in-Fin.is)
     (early_overlap f a b l early
     (early_stretch stretches_meet a b (segment_start f a (Fin b) l n part) early (segment_room f a b l n part)))
@@ -55,6 +56,7 @@ returns-in-Some-clause-within c =
     let own = subst (IsOwnGauge f) c.in-Some.is c.requires.gauge in
     let late : zero_q <ℚ a = subst (λ z. z <ℚ a) c.zero.ensures (c.is_less.ensures.less.0 c.if-not-is_less.false) in
     subst (λ z. IfOk c.within_limits.result (IsOverlap f a z l)) (sym c.in-Fin.is)
-    (found_overlap f a b l c.in-Some.own c.lengths_before.result c.within_limits.result late own.0 c.lengths_before.ensures.value
+    (found_overlap f a b l c.in-Some.own c.lengths_before.result c.within_limits.result late own.0
+    c.lengths_before.ensures.value
     c.within_limits.ensures.same c.within_limits.ensures.narrow c.within_limits.ensures.few
     (stretches_meet.ended a b (segment_start f a (Fin b) l n part) (segment_room f a b l n part)))

@@ -6,7 +6,8 @@ use Rattle.closure_fold.specs.CurveParts.{copies_of}
 use Rattle.subadd_closure.specs.PartStars.{turn_of}
 use Rattle.subadd_closure.specs.SegmentLimits.{IsElementOf}
 use Rattle.subadd_closure.specs.Stars.{IsTurn, turn_work}
-use Rattle.subadd_closure.proofs.ElementFits.{point_start, point_low, segment_late, segment_reads, part_turns, turn_works}
+use Rattle.subadd_closure.proofs.ElementFits.{point_start, point_low, segment_late}
+use Rattle.subadd_closure.proofs.ElementFits.{segment_reads, part_turns, turn_works}
 use Rattle.subadd_closure.proofs.PartStars.{star_is_part, part_refused}
 use Rattle.subadd_closure.proofs.part_stars.element_star.Goals as goal
 
@@ -48,12 +49,14 @@ returns-in-Point-clause-all g c =
     let e = c.args.e.now in
     let turn = c.turn_of-turn.ensures ∙ ap (λ t. turn_of (copies_of t e)) c.tail.ensures.tail in
     let work = ap turn_work turn ∙ turn_works (copies_of c.args.f.now.tail e) in
-    subst (λ k. IfOk c.point_star.result (λ x. c.point_star.new.steps ≡ c.args.steps.now + k)) work c.point_star.ensures.all
+    subst (λ k. IfOk c.point_star.result (λ x. c.point_star.new.steps ≡ c.args.steps.now + k)) work
+    c.point_star.ensures.all
 
 pub returns-in_err-m-in-Open-clause-answer : goal.returns-in_err-m-in-Open-clause-answer
 returns-in_err-m-in-Open-clause-answer g c =
     let p = err_from_is_err_and c.from_residual.result c.from_residual.ensures.1 in
-    part_refused c.args.f.now c.args.e.now (Open c.in-Open.from c.in-Open.to c.in-Open.line) c.in_err-m-in-Open.field-0.0
+    part_refused c.args.f.now c.args.e.now (Open c.in-Open.from c.in-Open.to c.in-Open.line)
+    c.in_err-m-in-Open.field-0.0
     c.from_residual.result c.in-Open.is c.in_err-m-in-Open.ensures.over (rw (p.1, p.2) refl)
 
 pub segment_star-requires-clause-part : goal.segment_star-requires-clause-part
@@ -61,7 +64,8 @@ segment_star-requires-clause-part g c =
     let f = c.args.f.now in
     record {
       stretch = c.in_ok-m-in-Open.ensures.within.stretch;
-      late = segment_late f c.in-Open.from c.in-Open.to c.in-Open.line c.tail.ensures.kept.normal c.requires.finite c.requires.nonneg
+      late = segment_late f c.in-Open.from c.in-Open.to c.in-Open.line c.tail.ensures.kept.normal c.requires.finite
+          c.requires.nonneg
           (subst (IsElementOf f) c.in-Open.is c.requires.part);
     }
 
@@ -82,7 +86,8 @@ returns-in_ok-m-in-Open-clause-answer g c =
     let f = c.args.f.now in
     let e = c.args.e.now in
     let turn = c.turn_of-turn.ensures ∙ ap (λ t. turn_of (copies_of t e)) c.tail.ensures.tail in
-    star_is_part f e (Open c.in-Open.from c.in-Open.to c.in-Open.line) c.turn_of-turn.result c.segment_star.result c.in-Open.is turn
+    star_is_part f e (Open c.in-Open.from c.in-Open.to c.in-Open.line) c.turn_of-turn.result c.segment_star.result
+    c.in-Open.is turn
     c.in_ok-m-in-Open.ensures.within.within c.segment_star.ensures.answer
 
 pub returns-in_ok-m-in-Open-clause-most : goal.returns-in_ok-m-in-Open-clause-most
@@ -98,4 +103,5 @@ returns-in_ok-m-in-Open-clause-all g c =
     let e = c.args.e.now in
     let turn = c.turn_of-turn.ensures ∙ ap (λ t. turn_of (copies_of t e)) c.tail.ensures.tail in
     let work = ap turn_work turn ∙ turn_works (copies_of c.args.f.now.tail e) in
-    subst (λ k. IfOk c.segment_star.result (λ x. c.segment_star.new.steps ≡ c.args.steps.now + k)) work c.segment_star.ensures.all
+    subst (λ k. IfOk c.segment_star.result (λ x. c.segment_star.new.steps ≡ c.args.steps.now + k)) work
+    c.segment_star.ensures.all
