@@ -37,7 +37,8 @@ pub fn whole(bits: u32) -> Frac
     Frac::from_whole(i128::from(bits))
 }
 
-/// How far a cell's curve is from another's service.
+/// The horizontal deviation of a cell's curve, which rises, and another's, which serves. One step is counted; refused only
+/// where that call is over a limit.
 pub fn delay_between<T: Table<Value>, L: Ledger>(
     table: &T,
     from: Cell,

@@ -5,4 +5,4 @@ mod places;
 mod sums;
 
 pub use places::{Pick, chosen_at, hop_at, longest_at, packet, picked_at};
-pub use sums::{Partial, added, finished, flows_sum, queues_sum, sum_value};
+pub use sums::{Partial, added, finished, flows_sum, queues_sum};

@@ -177,18 +177,3 @@ pub fn queues_sum<T: Table<Value>, L: Ledger>(
     }
     Ok(so_far)
 }
-
-/// The value of a sum of cells that was made, or its refusal.
-pub fn sum_value<T: Table<Value>>(
-    alloc: Global,
-    table: &T,
-    made: Result<Partial, OpFault>,
-) -> Result<Value, OpFault>
-    requires ready { IfOk made (IsReady (T.at table.now)) }
-    ensures { (cells : List Cell) (old new : ℕ) → Adds (T.at table.now) [] cells old new made → Gives (T.at table.now) (sum_of cells) (answer_of meaning_of result) }
-{
-    match made {
-        Ok(whole) => finished(alloc, table, whole),
-        Err(fault) => Err(fault),
-    }
-}

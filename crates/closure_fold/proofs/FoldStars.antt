@@ -89,7 +89,7 @@ fold_stars f F (p ∷ ps) G each answer =
       folded = (value_at H, y.made.answers, r.folded);
     }
 
-parts_star : (f : SpecCurve) (ps : List Part) (c : SpecCurve) → EachPart IsPart ps → PartsAnswer f ps (Ok c)
+pub parts_star : (f : SpecCurve) (ps : List Part) (c : SpecCurve) → EachPart IsPart ps → PartsAnswer f ps (Ok c)
     → AreStars (least_of (map part_value ps)) (value_at c)
 parts_star f [] c each answer = absurd answer
 parts_star f (p ∷ ps) c each answer =

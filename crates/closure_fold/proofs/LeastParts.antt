@@ -38,7 +38,7 @@ least_above : (x : Ext) (t : ℚ) (ps : List Part) → EachPart (λ p. x ≤ₑ 
 least_above x t [] h = le_inf x
 least_above x t (p ∷ ps) h = min_greatest (part_value p t) (least_of (map part_value ps) t) x h.0 (least_above x t ps h.1)
 
-least_below : (t : ℚ) (tail : Tail) (es : List Element) (e : Element) → Among e es
+pub least_below : (t : ℚ) (tail : Tail) (es : List Element) (e : Element) → Among e es
     → least_of (map part_value (map (part_of tail) es)) t ≤ₑ part_value (part_of tail e) t
 least_below t tail [] e h = absurd h
 least_below t tail (d ∷ ds) e (inl is) =
@@ -172,7 +172,7 @@ module _ (ps : List Piece) (rank d r : ℚ) (zeroth : StartsAtZero ps) (fits : T
 
 -- ---- a curve
 -- an infinite tail has no finite value after its rank
-not_finite : (ps : List Piece) (rank : ℚ) → zero_q ≤ℚ rank → ¬ (IsFinite (λ t. cut (read ps) rank t))
+pub not_finite : (ps : List Piece) (rank : ℚ) → zero_q ≤ℚ rank → ¬ (IsFinite (λ t. cut (read ps) rank t))
 unfolding cut
 not_finite ps rank low h =
     let (v, is) = h (rank +ℚ int (pos 1)) (with1 rank (λ o. omega (arith, o.le, o.lt, o.same))) in

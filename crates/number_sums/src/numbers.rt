@@ -157,8 +157,9 @@ fn finite_sum(all: Option<Tally>) -> Result<Ext, OpFault>
     }
 }
 
-/// The sum, infinite where one of them is. Refused exactly where 64 times their sizes together, rounded up and at least
-/// 1, times their least common denominator is 2^120 or more; where one is infinite it is not refused.
+/// The sum of at most 2^20 numbers, infinite where one of them is. Refused with TooWide exactly where 64 times their sizes
+/// together, rounded up and at least 1, times their least common denominator is 2^120 or more; where one is infinite it is
+/// not refused.
 pub fn sum_of(all: Added) -> Result<Ext, OpFault>
     ensures { (xs : List Ext) → length xs ≤ 2 ^ 20 → AreAdded xs all → Sums xs result }
 {

@@ -1,2 +1,10 @@
 pub mod SameConvolution
 pub mod ElementStars
+pub mod PartStars
+pub mod ElementNumbers
+pub mod ElementFits
+pub mod SegmentLimits
+pub mod FoldShapes
+pub mod FoldLists
+pub mod FirstElements
+pub mod FoldSteps

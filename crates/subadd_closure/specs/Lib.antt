@@ -1,2 +1,5 @@
 pub mod Tests
 pub mod Stars
+pub mod PartStars
+pub mod FoldWork
+pub mod SegmentLimits

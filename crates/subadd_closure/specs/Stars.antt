@@ -1,6 +1,6 @@
 -- The calls that make the star of an element of a curve: its closure, in a periodic tail with all copies, lowered by
 -- the point 0 at 0. Own choice.
-use Rattle.std.specs.Prelude.{◌≡◌, Option, Some, None, Result, Ok, Err}
+use Rattle.std.specs.Prelude.{◌≡◌, ℕ, Option, Some, None, Result, Ok, Err}
 use Rattle.rational.specs.Rational.{ℚ, ◌/ℚ◌, ◌<ℚ◌}
 use Rattle.rational.specs.Ratio.{IsSmall}
 use Rattle.rational.specs.Extended.{Ext}
@@ -43,6 +43,11 @@ MakesStar p e r = OrWants (λ s. (c : SpecCurve) × IsElementClosure e c × Star
 abbrev pub IsTurn : Option (ℚ × ℚ) → Type 0
 IsTurn None = Unit {0}
 IsTurn (Some p) = (zero_q <ℚ p.0) × IsSmall (p.1 /ℚ p.0)
+
+-- how many calls there are on a closure
+abbrev pub turn_work : Option (ℚ × ℚ) → ℕ
+turn_work None = 1
+turn_work (Some p) = 2
 
 -- h is the element, with all its copies
 abbrev pub IsSpread : Option (ℚ × ℚ) → Element → (ℚ → Ext) → Type 0

@@ -1,10 +1,15 @@
-//! Subadditive curves, and the stars of a curve's elements, of which the subadditive closure is made.
+//! Subadditive curves, and the subadditive closure of a curve, made of the stars of its points and segments.
 #![tactic(auto)]
 
+mod closing;
+mod overlaps;
+mod part_stars;
 mod stars;
 mod subadditive;
 #[cfg(test)]
 mod tests;
 
+pub use closing::close;
+pub use part_stars::stars_answer_parts;
 pub use stars::{point_star, segment_star, stars_are_made};
 pub use subadditive::is_subadditive;

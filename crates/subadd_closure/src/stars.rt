@@ -1,14 +1,14 @@
 //! The stars of a curve's elements: the closure of an element, of a periodic tail with all its copies, lowered by the
 //! point 0 at 0.
 
-ghost use Rattle.std.specs.Prelude.{◌+◌, ◌≤◌, ◌^◌, Some};
+ghost use Rattle.std.specs.Prelude.{◌≡◌, ◌+◌, ◌≤◌, ◌^◌, IfOk, Some};
 ghost use Rattle.rational.specs.Rational.{◌<ℚ◌, ◌≤ℚ◌, ◌/ℚ◌};
 ghost use Rattle.rational.specs.Ratio.{IsSmall};
 ghost use Rattle.affine_segment.specs.declared.element.Element.TheVariants.{Point, Open};
 ghost use Rattle.upp_curve.specs.Functions.{zero_q};
 ghost use Rattle.upp_curve.specs.Readable.{LineFitsAt};
 ghost use Rattle.closure_elements.specs.ElementAnswers.{IsOpenPart};
-ghost use Rattle.subadd_closure.specs.Stars.{Copies, IsTurn, Lowers, MakesStar, StarOf, StarsAreMade};
+ghost use Rattle.subadd_closure.specs.Stars.{Copies, IsTurn, Lowers, MakesStar, StarOf, StarsAreMade, turn_work};
 
 use affine_segment::Line;
 use closure_elements::{lattice, origin, point_closure, segment_closure};
@@ -24,7 +24,9 @@ use upp_curve::{Curve, OpFault};
 // A curve lowered by the point 0 at 0.
 fn lowered<L: Ledger>(alloc: Global, c: &Curve, steps: &mut Steps<L>) -> Result<Curve, OpFault>
     ensures answer { Lowers c.now result }
+    ensures rises { steps.old ≤ steps.new }
     ensures most { steps.new ≤ steps.old + 1 }
+    ensures all { IfOk result (λ _. steps.new ≡ steps.old + 1) }
 {
     let zero = origin(alloc)?;
     seen(min(alloc, c, &zero, steps))
@@ -39,7 +41,9 @@ fn copied<L: Ledger>(
 ) -> Result<Curve, OpFault>
     requires { IsTurn (Some turn) }
     ensures answer { Copies turn c.now result }
+    ensures rises { steps.old ≤ steps.new }
     ensures most { steps.new ≤ steps.old + 1 }
+    ensures all { IfOk result (λ _. steps.new ≡ steps.old + 1) }
 {
     let points = lattice(alloc, turn.0, turn.1)?;
     seen(convolve(alloc, c, &points, steps))
@@ -54,7 +58,9 @@ fn star_of<L: Ledger>(
 ) -> Result<Curve, OpFault>
     requires { IsTurn turn }
     ensures answer { StarOf turn c.now result }
-    ensures most { steps.new ≤ steps.old + 2 }
+    ensures rises { steps.old ≤ steps.new }
+    ensures most { steps.new ≤ steps.old + turn_work turn }
+    ensures all { IfOk result (λ _. steps.new ≡ steps.old + turn_work turn) }
 {
     match turn {
         None => lowered(alloc, c, steps),
@@ -66,8 +72,8 @@ fn star_of<L: Ledger>(
 }
 
 /// The star of a point: its closure, in a periodic tail (with the period and the rise `turn`) with all its copies,
-/// lowered by the point 0 at 0. At most two operators, one step each; a refusal is that of the first that is over its
-/// limit, with TooWide or TooMany, or want of memory.
+/// lowered by the point 0 at 0. One operator, with copies two, one step each; a refusal is that of the first that is
+/// over its limit, with TooWide or TooMany, or want of memory.
 pub fn point_star<L: Ledger>(
     alloc: Global,
     x: Frac,
@@ -79,7 +85,9 @@ pub fn point_star<L: Ledger>(
     requires value { zero_q ≤ℚ v }
     requires turn { IsTurn turn }
     ensures answer { MakesStar turn (Point x v) result }
-    ensures most { steps.new ≤ steps.old + 2 }
+    ensures rises { steps.old ≤ steps.new }
+    ensures most { steps.new ≤ steps.old + turn_work turn }
+    ensures all { IfOk result (λ _. steps.new ≡ steps.old + turn_work turn) }
 {
     let c = point_closure(alloc, x, v)?;
     star_of(alloc, &c, turn, steps)
@@ -100,7 +108,9 @@ pub fn segment_star<L: Ledger>(
     requires few { m + 3 ≤ 2 ^ 19 }
     requires turn { IsTurn turn }
     ensures answer { MakesStar turn (Open a b line.now) result }
-    ensures most { steps.new ≤ steps.old + 2 }
+    ensures rises { steps.old ≤ steps.new }
+    ensures most { steps.new ≤ steps.old + turn_work turn }
+    ensures all { IfOk result (λ _. steps.new ≡ steps.old + turn_work turn) }
 {
     let c = segment_closure(alloc, a, b, line, m)?;
     star_of(alloc, &c, turn, steps)

@@ -1,0 +1,2 @@
+pub mod HaveNumbers
+pub mod PathSums

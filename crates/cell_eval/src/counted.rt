@@ -1,0 +1,32 @@
+//! The evaluator of the program.
+
+use crate::each_kind::eval;
+use cell_table::{Evaluator, Table, Value};
+use net_cells::Cell;
+use net_model::Network;
+use std::alloc::Global;
+use std::sync::ledger::Ledger;
+use steps::Steps;
+use upp_curve::OpFault;
+
+/// Makes values by the definitions, and counts each operator on curves in the caller's counter.
+#[derive(Drop)]
+pub struct Counted<'a, L: Ledger> {
+    pub alloc: Global,
+    pub steps: &'a mut Steps<L>,
+}
+
+impl<'a, L: Ledger> Evaluator<Value> for Counted<'a, L> {
+    ghost count = { λ c. c.steps.now };
+
+    ghost counter = { λ c. c.steps.ghost_name };
+
+    fn eval<T: Table<Value>>(
+        &mut self,
+        cell: Cell,
+        net: &Network,
+        table: &T,
+    ) -> Result<Value, OpFault> {
+        eval(self.alloc, cell, net, table, self.steps)
+    }
+}

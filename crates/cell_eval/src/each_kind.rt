@@ -1,0 +1,79 @@
+//! The value of a cell, whatever its kind.
+
+ghost use Rattle.net_cells.specs.declared.cell.Cell.{Cell};
+ghost use Rattle.net_cells.specs.declared.cell.Kind.TheVariants.{In, Cross, Total, Higher, QueueService};
+ghost use Rattle.net_cells.specs.declared.cell.Kind.TheVariants.{Theta, Residual, QueueDelay, QueueBacklog};
+ghost use Rattle.net_cells.specs.declared.cell.Kind.TheVariants.{HopDelay, ShiftOut, DeconvOut, Out};
+ghost use Rattle.net_cells.specs.declared.cell.Kind.TheVariants.{PathService, Tfa, Sfa, Bound};
+ghost use Rattle.std.specs.Prelude.{◌≡◌, ◌+◌, ◌≤◌, ◌<◌, IsTrue, OnOk, Result};
+ghost use Rattle.upp_curve.specs.declared.op_kind.OpFault.{OpFault};
+ghost use Rattle.net_cells.specs.Cells.{has_cell};
+ghost use Rattle.net_cells.specs.CellFormulas.{formula};
+ghost use Rattle.net_cells.specs.Equations.{MeetsBelow};
+ghost use Rattle.net_cells.specs.Work.{work};
+ghost use Rattle.cell_table.specs.Gives.{Gives};
+ghost use Rattle.cell_table.specs.Values.{answer_of, meaning_of};
+ghost use Rattle.cell_paths.specs.Evaluates.{MayBeMade, Evaluates};
+
+use cell_curves::{arriving, cross, higher, path, serving, total};
+use cell_delays::{bound, hop_delay, sfa, tfa};
+use cell_kinds::{deconv_out, leaving, queue_backlog, queue_delay, residual, shift_out, theta};
+use cell_table::{Table, Value};
+use net_cells::{Cell, Kind};
+use net_model::Network;
+use std::alloc::Global;
+use std::sync::ledger::Ledger;
+use steps::Steps;
+use upp_curve::OpFault;
+
+fn by_kind<T: Table<Value>, L: Ledger>(
+    alloc: Global,
+    cell: Cell,
+    net: &Network,
+    table: &T,
+    steps: &mut Steps<L>,
+) -> Result<Value, OpFault>
+    requires { MayBeMade net.now (T.at table.now) cell }
+    ensures { Evaluates net.now (T.at table.now) cell steps.old steps.new (answer_of meaning_of result) }
+{
+    match cell.kind {
+        Kind::In => arriving(alloc, table, net, cell.a, cell.b),
+        Kind::Cross => cross(alloc, table, net, cell.a, cell.b, steps),
+        Kind::Total => total(alloc, table, net, cell.a, cell.b, steps),
+        Kind::Higher => higher(alloc, table, net, cell.a, cell.b, steps),
+        Kind::QueueService => serving(alloc, table, net, cell.a, cell.b, steps),
+        Kind::Theta => theta(table, net, cell.a, cell.b, steps),
+        Kind::Residual => residual(alloc, table, net, cell.a, cell.b, steps),
+        Kind::QueueDelay => queue_delay(table, net, cell.a, cell.b, steps),
+        Kind::QueueBacklog => queue_backlog(alloc, table, net, cell.a, cell.b, steps),
+        Kind::HopDelay => hop_delay(table, net, cell.a, cell.b, steps),
+        Kind::ShiftOut => shift_out(alloc, table, net, cell.a, cell.b, steps),
+        Kind::DeconvOut => deconv_out(alloc, table, net, cell.a, cell.b, steps),
+        Kind::Out => leaving(alloc, table, net, cell.a, cell.b, steps),
+        Kind::PathService => path(alloc, table, net, cell.a, steps),
+        Kind::Tfa => tfa(table, net, cell.a),
+        Kind::Sfa => sfa(table, net, cell.a, steps),
+        Kind::Bound => bound(table, net, cell.a),
+    }
+}
+
+/// The value of a cell, by a table in which all that the cell depends on meets its equations. Refused with TooMany or
+/// TooWide exactly where the cell's first operator that is over a limit is over that one, else only for want of memory.
+/// It counts the cell's work, and no more than that where it is refused.
+pub fn eval<T: Table<Value>, L: Ledger>(
+    alloc: Global,
+    cell: Cell,
+    net: &Network,
+    table: &T,
+    steps: &mut Steps<L>,
+) -> Result<Value, OpFault>
+    requires cell { IsTrue (has_cell net.now cell) }
+    requires below { MeetsBelow net.now (T.at table.now) cell }
+    ensures answer { Gives (T.at table.now) (formula net.now cell) (answer_of meaning_of result) }
+    ensures exact { OnOk result (steps.new ≡ steps.old + work net.now cell) }
+    ensures rises { steps.old ≤ steps.new }
+    ensures within { steps.new ≤ steps.old + work net.now cell }
+{
+    let _flows = net.flows();
+    by_kind(alloc, cell, net, table, steps)
+}

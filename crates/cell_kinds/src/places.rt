@@ -1,0 +1,32 @@
+//! Places of hops, and numbers as values.
+
+ghost use Rattle.std.specs.Prelude.{◌≡◌, ◌<◌, Result};
+ghost use Rattle.rational.specs.Extended.{Ext};
+ghost use Rattle.upp_curve.specs.declared.op_kind.OpFault.{OpFault};
+ghost use Rattle.net_cells.specs.Numbered as at;
+ghost use Rattle.net_cells.specs.Meanings.{number};
+ghost use Rattle.cell_table.specs.Values.{answer_of, meaning_of};
+
+use cell_table::Value;
+use fraction128::Ext;
+use net_cells::{queue_at, server_at};
+use net_model::Network;
+use upp_curve::OpFault;
+
+/// The server and the queue of a hop.
+pub fn place_of(net: &Network, flow: u32, hop: u32) -> (u32, u32)
+    ensures server { result.0 ≡ at.server_at net.now flow hop }
+    ensures queue { result.1 ≡ at.queue_at net.now flow hop }
+{
+    (server_at(net, flow, hop), queue_at(net, flow, hop))
+}
+
+/// A number as a value, or the same refusal.
+pub fn numbered(made: Result<Ext, OpFault>) -> Result<Value, OpFault>
+    ensures { answer_of meaning_of result ≡ answer_of number made }
+{
+    match made {
+        Ok(x) => Ok(Value::Number(x)),
+        Err(fault) => Err(fault),
+    }
+}

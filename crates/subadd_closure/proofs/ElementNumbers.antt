@@ -1,0 +1,134 @@
+-- The numbers of an open segment of a curve within the limit of its own gauge: its length, and how often that goes into
+-- its start, fit.
+use Rattle.std.specs.Prelude.{◌≡◌, ◌<◌, ◌^◌, pos, List, [], ◌∷◌}
+use Rattle.std.specs.List.{AllByRecursion}
+use Rattle.std.proofs.Common.{arith, sym, refl, subst, inl, inr}
+use Rattle.rational.specs.Rational.{ℚ, ◌+ℚ◌, ◌-ℚ◌, ◌*ℚ◌, ◌≤ℚ◌, ◌<ℚ◌, int}
+use Rattle.rational.specs.Grid.{Whole, Within}
+use Rattle.rational.specs.Extended.{Ext}
+use Rattle.rational.specs.declared.Extended.TheVariants.{Fin, Inf}
+use Rattle.rational.proofs.Linear.{with1, with2}
+use Rattle.rational.proofs.Laws.{antisym, le_refl, le_of_lt, le_trans, not_zero}
+use Rattle.rational.proofs.Grid.{whole_add, whole_sub, within_sub}
+use Rattle.affine_segment.specs.declared.line.Line.{Line}
+use Rattle.affine_segment.specs.declared.line.Piece.{Piece}
+use Rattle.affine_segment.specs.declared.element.Element.TheVariants.{Open}
+use Rattle.upp_curve.specs.declared.curve.Tail.{Tail}
+use Rattle.upp_curve.specs.declared.curve.Tail.TheVariants.{Periodic, Affine, Infinite}
+use Rattle.upp_curve.specs.Curve.{SpecCurve}
+use Rattle.upp_curve.specs.Functions.{zero_q}
+use Rattle.upp_curve.specs.Normal.{Each, StartsAtZero, IsRaw, IsNormal}
+use Rattle.upp_curve.specs.Steady.{rank_of, steady}
+use Rattle.upp_curve.specs.Periods.{own_period}
+use Rattle.upp_curve.specs.Spans.{spans}
+use Rattle.upp_curve.specs.Limits.{Sizes, own_end, own_sizes, own_gauge}
+use Rattle.upp_curve.specs.Sized.{TailStands, SpanStands, grid_of, times_largest}
+use Rattle.upp_curve.specs.Operand.{AreLimited}
+use Rattle.upp_curve.proofs.CurveStands.{own_are_sizes, own_stands, starts_below_own_end}
+use Rattle.upp_curve.proofs.StretchSizes.{time_whole, time_within, times_fit, small_quotient}
+use Rattle.curve_conv.specs.PieceElements.{next_start, elements_of, Among}
+use Rattle.curve_conv.proofs.Members.{among_cases}
+use Rattle.curve_conv.proofs.Cover.{head, head_cases, cover}
+use Rattle.closure_fold.specs.CurveParts.{pieces_end}
+use Rattle.closure_fold.proofs.ElementTimes.{starts_nonneg}
+use Rattle.closure_fold.proofs.EachParts.{starts_before}
+use Rattle.subadd_closure.specs.SegmentLimits.{IsElementOf, LengthsFit}
+
+-- ---- times
+-- on the grid of times, up to the end of a window
+record IsTimeTo (z : Sizes) (end t : ℚ) : Type 0 where
+  whole : Whole z.dt t
+  by : t ≤ℚ end
+
+abbrev IsEndTo : Sizes → ℚ → Ext → Type 0
+IsEndTo z w Inf = Unit {0}
+IsEndTo z w (Fin e) = IsTimeTo z w e
+
+next_to : (z : Sizes) (w : ℚ) (ps : List Piece) (end : Ext) → Each (λ p. IsTimeTo z w p.x) ps → IsEndTo z w end
+    → IsEndTo z w (next_start ps end)
+next_to z w [] end h e = e
+next_to z w (q ∷ qs) end h e = h.0
+
+-- a segment starts and ends where pieces do
+segment_to : (z : Sizes) (w : ℚ) (ps : List Piece) (end : Ext) (a b : ℚ) (l : Line) → Each (λ p. IsTimeTo z w p.x) ps
+    → IsEndTo z w end → Among (Open a (Fin b) l) (elements_of ps end) → IsTimeTo z w a × IsTimeTo z w b
+segment_to z w [] end a b l h e k = absurd k
+segment_to z w (p ∷ ps) end a b l h e k =
+    elim (among_cases (Open a (Fin b) l) (head p.x p.at p.line (next_start ps end)) (elements_of ps end) k) [
+      | inl m ↦ elim (head_cases p.x p.at p.line (next_start ps end) (Open a (Fin b) l) m) [
+        | inl point ↦ let (v, at, is) = point in absurd cc
+        | inr segment ↦
+            let (m, line, is) = segment in
+            let from : p.x ≡ a = cc in
+            let to : next_start ps end ≡ Fin b = cc in
+            (subst (IsTimeTo z w) from h.0, subst (IsEndTo z w) to (next_to z w ps end h.1 e))
+      ]
+      | inr m ↦ segment_to z w ps end a b l h.1 e m
+    ]
+
+-- ---- those of a curve
+-- the sizes of a curve by itself
+first_before : (ps : List Piece) (w : ℚ) → StartsAtZero ps → Each (λ p. p.x <ℚ w) ps → zero_q ≤ℚ w
+first_before [] w z h = absurd z
+first_before (p ∷ ps) w z h = subst (λ x. x ≤ℚ w) z.0 (le_of_lt h.0)
+
+own_limited : (c : SpecCurve) → IsRaw c → own_gauge c < 2 ^ 120 → AreLimited (own_sizes c) (own_end c)
+own_limited c raw small = record {
+  sizes = own_are_sizes c;
+  gauge = small;
+  some = first_before c.pieces (own_end c) raw.starts (starts_below_own_end c raw);
+}
+
+starts_to : (z : Sizes) (w : ℚ) (tail : Tail) (ps : List Piece) → AllByRecursion (SpanStands z) (spans tail ps)
+    → Each (λ p. p.x <ℚ w) ps → Each (λ p. IsTimeTo z w p.x) ps
+unfolding spans
+starts_to z w tail [] h k = tt
+starts_to z w tail (p ∷ ps) h k =
+    (record { whole = h.0.start; by = le_of_lt k.0 }, starts_to z w tail ps h.1 k.1)
+
+period_end : (ps : List Piece) (rank period rise : ℚ)
+    → own_end record { pieces = ps; tail = Periodic rank period rise } ≡ rank +ℚ period
+unfolding own_end steady own_period
+period_end ps rank period rise = refl
+
+end_to : (z : Sizes) (ps : List Piece) (tail : Tail) → Whole z.dt (rank_of tail) → TailStands z tail
+    → IsEndTo z (own_end record { pieces = ps; tail = tail }) (pieces_end tail)
+end_to z ps (Periodic rank period rise) w h = record {
+  whole = whole_add z.dt rank period w h.whole;
+  by = subst (λ x. rank +ℚ period ≤ℚ x) (sym (period_end ps rank period rise)) (le_refl (rank +ℚ period));
+}
+end_to z ps (Affine rank) w h = tt
+end_to z ps (Infinite rank) w h = tt
+
+two_ones : (v : ℚ) → int (pos 1) *ℚ v +ℚ int (pos 1) *ℚ v ≡ int (pos 2) *ℚ v
+two_ones v = antisym (with1 v (λ c. omega (arith, c.le, c.lt, c.same)))
+
+pub segment_start : (c : SpecCurve) (a : ℚ) (b : Ext) (l : Line) → IsNormal c → IsElementOf c (Open a b l) → zero_q ≤ℚ a
+segment_start c a b l n k = starts_nonneg c.pieces (pieces_end c.tail) (Open a b l) n.raw.starts k
+
+pub segment_room : (c : SpecCurve) (a b : ℚ) (l : Line) → IsNormal c → IsElementOf c (Open a (Fin b) l) → a <ℚ b
+segment_room c a b l n k =
+    (cover c.pieces (pieces_end c.tail) n.raw.starts (starts_before c.pieces c.tail n.raw.tail)).proper (Open a (Fin b) l) k
+
+pub lengths_fit : (c : SpecCurve) (a b : ℚ) (l : Line) → IsNormal c → own_gauge c < 2 ^ 120
+    → IsElementOf c (Open a (Fin b) l) → LengthsFit a b
+lengths_fit c a b l n small k =
+    let z = own_sizes c in
+    let w = own_end c in
+    let A = own_limited c n.raw small in
+    let S = own_stands c n.raw in
+    let T = segment_to z w c.pieces (pieces_end c.tail) a b l
+    (starts_to z w c.tail c.pieces S.spans (starts_below_own_end c n.raw)) (end_to z c.pieces c.tail S.rank S.tail) k in
+    let low = segment_start c a (Fin b) l n k in
+    let room = segment_room c a b l n k in
+    let late : zero_q ≤ℚ b = le_trans low (le_of_lt room) in
+    let some : zero_q <ℚ b -ℚ a = with2 a b (λ o. omega (arith, o.le, o.lt, o.same)) in
+    record {
+      gap = (times_fit z w b a A T.1.whole T.0.whole late T.1.by low T.0.by).1;
+      quotient = small_quotient z w 1 2 a (b -ℚ a) A (omega arith) (omega arith) (not_zero (b -ℚ a) some)
+          (time_whole z a T.0.whole)
+          (whole_sub (grid_of z) b a (time_whole z b T.1.whole) (time_whole z a T.0.whole))
+          (time_within z w a A low T.0.by)
+          (subst (λ m. Within m (b -ℚ a)) (two_ones (int (pos z.largest)))
+          (within_sub (times_largest 1 z) (times_largest 1 z) b a (time_within z w b A late T.1.by) (time_within z w a A low T.0.by)));
+    }

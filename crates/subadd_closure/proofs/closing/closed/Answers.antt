@@ -1,0 +1,168 @@
+use Rattle.std.specs.Prelude.{List, []}
+use Rattle.std.proofs.Common.{◌≡◌, ◌+◌, ◌-◌, ◌<◌, ℕ, length, map, take, drop, length-take, sym, refl, ap, ◌∙◌, subst, arith}
+use Rattle.std.proofs.lemmas.List.Elements.{All-take}
+use Rattle.std.proofs.lemmas.Result.{err_from_is_err_and}
+use Rattle.rational.specs.Rational.{ℚ}
+use Rattle.rational.specs.Extended.{◌≤ₑ◌}
+use Rattle.rational.specs.declared.Extended.TheVariants.{Fin}
+use Rattle.rational.proofs.Laws.{le_refl}
+use Rattle.upp_curve.specs.Functions.{zero_q}
+use Rattle.upp_curve.specs.Curve.{value_at}
+use Rattle.closure_fold.specs.CurveParts.{part_of}
+use Rattle.subadd_closure.specs.FoldWork.{part_work, parts_work, fold_work}
+use Rattle.subadd_closure.specs.SegmentLimits.{IsElementOf}
+use Rattle.subadd_closure.proofs.FirstElements.{two_elements}
+use Rattle.subadd_closure.proofs.FoldSteps.{early_refusal, last_refusal, last_part, always}
+use Rattle.subadd_closure.proofs.FoldLists.{all_elements, split_parts, split_last, some_taken, work_front, work_more, work_up_to}
+use Rattle.subadd_closure.proofs.FoldShapes.{sofar_nonneg, star_nonneg, finite_past}
+use Rattle.subadd_closure.proofs.closing.closed.Goals as goal
+
+pub overflow_sub-last : goal.overflow_sub-last
+overflow_sub-last g c =
+    let two = two_elements c.args.f.now c.args.es.now c.requires.elements c.requires.curve.normal.raw c.requires.finite in
+    omega (arith, two)
+
+pub folded-requires-clause-some : goal.folded-requires-clause-some
+folded-requires-clause-some g c =
+    let es = c.args.es.now in
+    let two = two_elements c.args.f.now es c.requires.elements c.requires.curve.normal.raw c.requires.finite in
+    omega (arith, two, length-take (length es - 1) es)
+
+pub folded-requires-clause-parts : goal.folded-requires-clause-parts
+folded-requires-clause-parts g c =
+    let f = c.args.f.now in
+    let es = c.args.es.now in
+    All-take (IsElementOf f) (length es - 1) es (all_elements f es c.requires.elements)
+
+pub returns-in_err-sofar-clause-answer : goal.returns-in_err-sofar-clause-answer
+returns-in_err-sofar-clause-answer g c =
+    let f = c.args.f.now in
+    let es = c.args.es.now in
+    let n = length es - 1 in
+    let p = err_from_is_err_and c.from_residual.result c.from_residual.ensures.1 in
+    early_refusal f (map (part_of f.tail) (take n es)) (map (part_of f.tail) (drop n es)) c.in_err-sofar.field-0.0 c.from_residual.result
+    (split_parts f es n c.requires.elements) c.in_err-sofar.ensures.answer (rw (p.1, p.2) refl)
+
+pub returns-in_err-sofar-clause-within : goal.returns-in_err-sofar-clause-within
+returns-in_err-sofar-clause-within g c =
+    let f = c.args.f.now in
+    let es = c.args.es.now in
+    let n = length es - 1 in
+    let most = c.in_err-sofar.ensures.most in
+    let all = ap parts_work (split_parts f es n c.requires.elements) in
+    let work = work_front (map (part_of f.tail) (take n es)) (map (part_of f.tail) (drop n es)) in
+    omega (arith, most, all, work)
+
+pub element_star-requires-clause-part : goal.element_star-requires-clause-part
+element_star-requires-clause-part g c =
+    let f = c.args.f.now in
+    let es = c.args.es.now in
+    let two = two_elements f es c.requires.elements c.requires.curve.normal.raw c.requires.finite in
+    subst (IsElementOf f) (sym c.index-es-last.is)
+    (all_elements f es c.requires.elements (length es - 1) c.index-es-last.result (omega (arith, two)))
+
+pub returns-in_err-star-clause-answer : goal.returns-in_err-star-clause-answer
+returns-in_err-star-clause-answer g c =
+    let f = c.args.f.now in
+    let es = c.args.es.now in
+    let n = length es - 1 in
+    let e = c.index-es-last.result in
+    let two = two_elements f es c.requires.elements c.requires.curve.normal.raw c.requires.finite in
+    let r = c.from_residual-in_err-star in
+    let p = err_from_is_err_and r.result r.ensures.1 in
+    last_refusal f c.in_ok-sofar.sofar (map (part_of f.tail) (take n es)) (part_of f.tail e) c.in_err-star.field-0.0 r.result
+    (split_last f es n e c.requires.elements (omega (arith, two)) c.index-es-last.is) c.in_ok-sofar.ensures.answer
+    c.in_err-star.ensures.answer (rw (p.1, p.2) refl)
+
+pub returns-in_err-star-clause-within : goal.returns-in_err-star-clause-within
+returns-in_err-star-clause-within g c =
+    let f = c.args.f.now in
+    let es = c.args.es.now in
+    let n = length es - 1 in
+    let e = c.index-es-last.result in
+    let two = two_elements f es c.requires.elements c.requires.curve.normal.raw c.requires.finite in
+    let before = c.in_ok-sofar.ensures.all in
+    let most = c.in_err-star.ensures.most in
+    let all = ap parts_work (split_last f es n e c.requires.elements (omega (arith, two)) c.index-es-last.is) in
+    let work = work_up_to (map (part_of f.tail) (take n es)) (part_of f.tail e) []
+    (some_taken f.tail es n (omega (arith, two)) (omega (arith, two))) in
+    omega (arith, before, most, all, work)
+
+pub convolve_from-requires-clause-first : goal.convolve_from-requires-clause-first
+convolve_from-requires-clause-first g c =
+    let f = c.args.f.now in
+    let es = c.args.es.now in
+    let n = length es - 1 in
+    let e = c.index-es-last.result in
+    let two = two_elements f es c.requires.elements c.requires.curve.normal.raw c.requires.finite in
+    sofar_nonneg f c.in_ok-sofar.sofar c.in_ok-star.star (map (part_of f.tail) (take n es)) (part_of f.tail e) c.requires.curve.normal
+    c.requires.finite c.requires.nonneg (split_last f es n e c.requires.elements (omega (arith, two)) c.index-es-last.is)
+    c.in_ok-sofar.ensures.answer c.in_ok-star.ensures.answer
+
+pub convolve_from-requires-clause-second : goal.convolve_from-requires-clause-second
+convolve_from-requires-clause-second g c =
+    let f = c.args.f.now in
+    let es = c.args.es.now in
+    let n = length es - 1 in
+    let e = c.index-es-last.result in
+    let two = two_elements f es c.requires.elements c.requires.curve.normal.raw c.requires.finite in
+    star_nonneg f c.in_ok-sofar.sofar c.in_ok-star.star (map (part_of f.tail) (take n es)) (part_of f.tail e) c.requires.curve.normal
+    c.requires.finite c.requires.nonneg (split_last f es n e c.requires.elements (omega (arith, two)) c.index-es-last.is)
+    c.in_ok-sofar.ensures.answer c.in_ok-star.ensures.answer
+
+pub convolve_from-requires-clause-start : goal.convolve_from-requires-clause-start
+convolve_from-requires-clause-start g c =
+    subst (λ z. Fin zero_q ≤ₑ z) c.start_of.ensures (c.requires.nonneg zero_q (le_refl zero_q))
+
+pub convolve_from-requires-clause-finite : goal.convolve_from-requires-clause-finite
+convolve_from-requires-clause-finite g c =
+    let f = c.args.f.now in
+    let es = c.args.es.now in
+    let n = length es - 1 in
+    let e = c.index-es-last.result in
+    let two = two_elements f es c.requires.elements c.requires.curve.normal.raw c.requires.finite in
+    finite_past f c.in_ok-sofar.sofar c.in_ok-star.star (map (part_of f.tail) (take n es)) (part_of f.tail e) c.requires.curve.normal
+    c.requires.finite c.requires.nonneg (split_last f es n e c.requires.elements (omega (arith, two)) c.index-es-last.is)
+    c.in_ok-sofar.ensures.answer c.in_ok-star.ensures.answer
+
+pub returns-clause-answer : goal.returns-clause-answer
+returns-clause-answer g c =
+    let f = c.args.f.now in
+    let es = c.args.es.now in
+    let n = length es - 1 in
+    let e = c.index-es-last.result in
+    let two = two_elements f es c.requires.elements c.requires.curve.normal.raw c.requires.finite in
+    last_part f c.in_ok-sofar.sofar c.in_ok-star.star (map (part_of f.tail) (take n es)) (part_of f.tail e) c.start_of.result
+    c.convolve_from.result (split_last f es n e c.requires.elements (omega (arith, two)) c.index-es-last.is)
+    c.in_ok-sofar.ensures.answer c.in_ok-star.ensures.answer c.start_of.ensures c.convolve_from.ensures.answer
+
+pub returns-clause-within : goal.returns-clause-within
+returns-clause-within g c =
+    let f = c.args.f.now in
+    let es = c.args.es.now in
+    let n = length es - 1 in
+    let e = c.index-es-last.result in
+    let two = two_elements f es c.requires.elements c.requires.curve.normal.raw c.requires.finite in
+    let before = c.in_ok-sofar.ensures.all in
+    let star = c.in_ok-star.ensures.all in
+    let last = c.convolve_from.ensures.count in
+    let all = ap parts_work (split_last f es n e c.requires.elements (omega (arith, two)) c.index-es-last.is) in
+    let work = work_more (map (part_of f.tail) (take n es)) (part_of f.tail e)
+    (some_taken f.tail es n (omega (arith, two)) (omega (arith, two))) in
+    omega (arith, before, star, last, all, work)
+
+pub returns-clause-exact : goal.returns-clause-exact
+returns-clause-exact g c =
+    let f = c.args.f.now in
+    let es = c.args.es.now in
+    let n = length es - 1 in
+    let e = c.index-es-last.result in
+    let two = two_elements f es c.requires.elements c.requires.curve.normal.raw c.requires.finite in
+    let before = c.in_ok-sofar.ensures.all in
+    let star = c.in_ok-star.ensures.all in
+    let last = c.convolve_from.ensures.count in
+    let all = ap parts_work (split_last f es n e c.requires.elements (omega (arith, two)) c.index-es-last.is) in
+    let work = work_more (map (part_of f.tail) (take n es)) (part_of f.tail e)
+    (some_taken f.tail es n (omega (arith, two)) (omega (arith, two))) in
+    always (c.convolve_from.new.steps ≡ c.args.steps.now + fold_work f) c.convolve_from.result
+    (omega (arith, before, star, last, all, work))

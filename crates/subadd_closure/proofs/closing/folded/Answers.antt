@@ -1,0 +1,84 @@
+use Rattle.std.specs.Prelude.{Ok}
+use Rattle.std.proofs.Common.{◌≡◌, ◌+◌, map, take, drop, sym, ap, subst, arith}
+use Rattle.std.proofs.lemmas.Result.{err_from_is_err_and}
+use Rattle.closure_fold.specs.CurveParts.{part_of}
+use Rattle.closure_fold.specs.Folds.{PartsAnswer}
+use Rattle.subadd_closure.specs.FoldWork.{parts_work}
+use Rattle.subadd_closure.specs.SegmentLimits.{IsElementOf}
+use Rattle.subadd_closure.proofs.FoldSteps.{first_part, first_stops, next_part, next_stops}
+use Rattle.subadd_closure.proofs.FoldLists.{one_more, split_at, work_one, work_more, work_up_to, some_taken}
+use Rattle.subadd_closure.proofs.closing.folded.Goals as goal
+
+pub returns-in_err-sofar-clause-answer : goal.returns-in_err-sofar-clause-answer
+returns-in_err-sofar-clause-answer g c =
+    let f = c.args.f.now in
+    let es = c.args.es.now in
+    let e = c.index-es-0.result in
+    let p = err_from_is_err_and c.from_residual.result c.from_residual.ensures.1 in
+    subst (λ z. PartsAnswer f z c.from_residual.result) (sym (split_at f.tail es 0 e c.requires.some c.index-es-0.is))
+    (rw (p.1, p.2) (first_stops f (part_of f.tail e) (map (part_of f.tail) (drop 1 es)) c.in_err-sofar.field-0.0 c.in_err-sofar.ensures.answer))
+
+pub loop-i-init : goal.loop-i-init
+loop-i-init g c =
+    let f = c.args.f.now in
+    let es = c.args.es.now in
+    let e = c.index-es-0.result in
+    let sofar = c.in_ok-sofar.sofar in
+    let one = one_more f.tail es 0 e c.requires.some c.index-es-0.is in
+    let all = c.in_ok-sofar.ensures.all in
+    let work = ap parts_work one in
+    let alone = work_one (part_of f.tail e) in
+    record {
+      answer = subst (λ z. PartsAnswer f z (Ok sofar)) (sym one) (first_part f (part_of f.tail e) sofar c.in_ok-sofar.ensures.answer);
+      count = omega (arith, all, work, alone);
+    }
+
+pub with_star-requires-clause-part : goal.with_star-requires-clause-part
+with_star-requires-clause-part g c =
+    subst (IsElementOf c.args.f.now) (sym c.index-es-i.is)
+    (c.requires.parts c.loop-i.i c.index-es-i.result c.loop-i-test.true)
+
+pub returns-in_err-sofar-2-clause-answer : goal.returns-in_err-sofar-2-clause-answer
+returns-in_err-sofar-2-clause-answer g c =
+    let f = c.args.f.now in
+    let es = c.args.es.now in
+    let i = c.loop-i.i in
+    let e = c.index-es-i.result in
+    let r = c.from_residual-in_err-sofar-2 in
+    let p = err_from_is_err_and r.result r.ensures.1 in
+    subst (λ z. PartsAnswer f z r.result) (sym (split_at f.tail es i e c.loop-i-test.true c.index-es-i.is))
+    (rw (p.1, p.2) (next_stops f c.loop-i.sofar (map (part_of f.tail) (take i es)) (map (part_of f.tail) (drop (i + 1) es))
+    (part_of f.tail e) c.in_err-sofar-2.field-0.0 c.loop-i.invariant.answer c.in_err-sofar-2.ensures.answer))
+
+pub returns-in_err-sofar-2-clause-most : goal.returns-in_err-sofar-2-clause-most
+returns-in_err-sofar-2-clause-most g c =
+    let f = c.args.f.now in
+    let es = c.args.es.now in
+    let i = c.loop-i.i in
+    let e = c.index-es-i.result in
+    let inside = c.loop-i-test.true in
+    let count = c.loop-i.invariant.count in
+    let most = c.in_err-sofar-2.ensures.most in
+    let all = ap parts_work (split_at f.tail es i e inside c.index-es-i.is) in
+    let work = work_up_to (map (part_of f.tail) (take i es)) (part_of f.tail e) (map (part_of f.tail) (drop (i + 1) es))
+    (some_taken f.tail es i c.loop-i.auto.i (omega arith)) in
+    omega (arith, count, most, all, work)
+
+pub loop-i-preserved : goal.loop-i-preserved
+loop-i-preserved g c =
+    let f = c.args.f.now in
+    let es = c.args.es.now in
+    let i = c.loop-i.i in
+    let e = c.index-es-i.result in
+    let inside = c.loop-i-test.true in
+    let before = map (part_of f.tail) (take i es) in
+    let count = c.loop-i.invariant.count in
+    let all = c.in_ok-sofar-2.ensures.all in
+    let one = one_more f.tail es i e inside c.index-es-i.is in
+    let more = ap parts_work one in
+    let work = work_more before (part_of f.tail e) (some_taken f.tail es i c.loop-i.auto.i (omega arith)) in
+    record {
+      answer = subst (λ z. PartsAnswer f z (Ok c.in_ok-sofar-2.sofar)) (sym one)
+          (next_part f c.loop-i.sofar before (part_of f.tail e) c.in_ok-sofar-2.sofar c.loop-i.invariant.answer c.in_ok-sofar-2.ensures.answer);
+      count = omega (arith, count, all, more, work);
+    }

@@ -1,0 +1,27 @@
+use Rattle.std.proofs.Common.{◌≡◌, ◌+◌, refl, arith}
+use Rattle.std.proofs.lemmas.Result.{err_from_is_err_and}
+use Rattle.upp_curve.specs.declared.op_kind.OpKind.TheVariants.{Convolve}
+use Rattle.curve_making.specs.Calls.{goes_on, stops}
+use Rattle.curve_making.proofs.Applied.{applied_seen}
+use Rattle.closure_fold.specs.CurveParts.{part_of}
+use Rattle.subadd_closure.specs.FoldWork.{part_work}
+use Rattle.subadd_closure.proofs.FoldSteps.{always}
+use Rattle.subadd_closure.proofs.closing.with_star.Goals as goal
+
+pub returns-in_err-star-clause-answer : goal.returns-in_err-star-clause-answer
+returns-in_err-star-clause-answer g c =
+    let p = err_from_is_err_and c.from_residual.result c.from_residual.ensures.1 in
+    rw (p.1, p.2) (stops c.in_err-star.field-0.0 c.in_err-star.ensures.answer refl)
+
+pub returns-clause-answer : goal.returns-clause-answer
+returns-clause-answer g c =
+    goes_on c.in_ok-star.star c.in_ok-star.ensures.answer
+    (applied_seen Convolve c.args.sofar.now c.in_ok-star.star c.convolve.result c.seen.result c.seen.ensures.same
+    c.convolve.ensures.value c.convolve.ensures.limits c.seen.ensures.kept)
+
+pub returns-clause-all : goal.returns-clause-all
+returns-clause-all g c =
+    let first = c.in_ok-star.ensures.all in
+    let second = c.convolve.ensures.count in
+    let work = part_work (part_of c.args.f.now.tail c.args.e.now) in
+    always (c.convolve.new.steps ≡ c.args.steps.now + (work + 1)) c.seen.result (omega (arith, first, second))

@@ -1,0 +1,130 @@
+//! The subadditive closure of a curve: the fold of the stars of its parts.
+
+ghost use Rattle.std.specs.Prelude.{◌≡◌, ◌+◌, ◌<◌, ◌≤◌, map, length, All, IfOk};
+ghost use Rattle.rational.specs.Rational.{ℚ, ◌≤ℚ◌};
+ghost use Rattle.upp_curve.specs.Curve.{value_at};
+ghost use Rattle.upp_curve.specs.Curves.{IsCurve};
+ghost use Rattle.upp_curve.specs.Functions.{IsFinite, IsNonnegative, zero_q};
+ghost use Rattle.upp_curve.specs.declared.op_kind.OpKind.TheVariants.{Convolve};
+ghost use Rattle.curve_conv.specs.PieceElements.{elements_of};
+ghost use Rattle.curve_making.specs.Calls.{Applies, Then};
+ghost use Rattle.closure_fold.specs.CurveParts.{pieces_end, part_of};
+ghost use Rattle.closure_fold.specs.Folds.{PartAnswer, PartsAnswer, CloseAnswer};
+ghost use Rattle.subadd_closure.specs.FoldWork.{part_work, parts_work, fold_work};
+ghost use Rattle.subadd_closure.specs.SegmentLimits.{IsElementOf, IsOwnGauge};
+
+use crate::overlaps::own_gauge;
+use crate::part_stars::element_star;
+use affine_segment::Element;
+use closure_fold::elements;
+use closure_start::convolve_from;
+use curve_convolution::convolve;
+use curve_making::seen;
+use fraction128::Frac;
+use rational::Extended;
+use std::alloc::Global;
+use std::sync::ledger::Ledger;
+use steps::Steps;
+use upp_curve::{Curve, OpFault};
+
+// What the parts so far make, convolved with the star of one more element.
+fn with_star<L: Ledger>(
+    alloc: Global,
+    f: &Curve,
+    gauge: Option<u128>,
+    sofar: &Curve,
+    e: &Element,
+    steps: &mut Steps<L>,
+) -> Result<Curve, OpFault>
+    requires part { IsElementOf f.now e.now }
+    requires finite { IsFinite (value_at f.now) }
+    requires nonneg { IsNonnegative (value_at f.now) }
+    requires gauge { IsOwnGauge f.now gauge }
+    ensures answer { Then (PartAnswer f.now (part_of f.now.tail e.now)) (λ c. Applies Convolve sofar.now c) result }
+    ensures rises { steps.old ≤ steps.new }
+    ensures most { steps.new ≤ steps.old + (part_work (part_of f.now.tail e.now) + 1) }
+    ensures all { IfOk result (λ _. steps.new ≡ steps.old + (part_work (part_of f.now.tail e.now) + 1)) }
+{
+    let star = element_star(alloc, f, gauge, e, steps)?;
+    seen(convolve(alloc, sofar, &star, steps))
+}
+
+// The stars of some elements, convolved one after another.
+fn folded<L: Ledger>(
+    alloc: Global,
+    f: &Curve,
+    gauge: Option<u128>,
+    es: &[Element],
+    steps: &mut Steps<L>,
+) -> Result<Curve, OpFault>
+    requires some { 0 < length es.now }
+    requires parts { All (IsElementOf f.now) es.now }
+    requires finite { IsFinite (value_at f.now) }
+    requires nonneg { IsNonnegative (value_at f.now) }
+    requires gauge { IsOwnGauge f.now gauge }
+    ensures answer { PartsAnswer f.now (map (part_of f.now.tail) es.now) result }
+    ensures rises { steps.old ≤ steps.new }
+    ensures most { steps.new ≤ steps.old + parts_work (map (part_of f.now.tail) es.now) }
+    ensures all { IfOk result (λ _. steps.new ≡ steps.old + parts_work (map (part_of f.now.tail) es.now)) }
+{
+    let mut sofar = element_star(alloc, f, gauge, &es[0], steps)?;
+    for i in 1..es.len() {
+        sofar = with_star(alloc, f, gauge, &sofar, &es[i], steps)?;
+    }
+    Ok(sofar)
+}
+
+// The value at 0 of a finite curve.
+fn start_of(f: &Curve) -> Frac
+    requires { IsFinite (value_at f.now) }
+    ensures { value_at f.now zero_q ≡ Extended.Fin result }
+{
+    match f.pieces()[0].at {
+        Extended::Fin(v) => v,
+        Extended::Inf => unreachable!(),
+    }
+}
+
+// The fold over all elements of f, with the value at 0 set back to that of f in the last convolution.
+fn closed<L: Ledger>(
+    alloc: Global,
+    f: &Curve,
+    es: &[Element],
+    steps: &mut Steps<L>,
+) -> Result<Curve, OpFault>
+    requires elements { es.now ≡ elements_of f.now.pieces (pieces_end f.now.tail) }
+    requires finite { IsFinite (value_at f.now) }
+    requires nonneg { IsNonnegative (value_at f.now) }
+    requires curve { IsCurve f.now }
+    ensures answer { CloseAnswer f.now result }
+    ensures rises { steps.old ≤ steps.new }
+    ensures within { steps.new ≤ steps.old + fold_work f.now }
+    ensures exact { IfOk result (λ _. steps.new ≡ steps.old + fold_work f.now) }
+{
+    let gauge = own_gauge(f);
+    let last = es.len() - 1;
+    let sofar = folded(alloc, f, gauge, &es[..last], steps)?;
+    let star = element_star(alloc, f, gauge, &es[last], steps)?;
+    convolve_from(alloc, &sofar, &star, start_of(f), steps)
+}
+
+/// The subadditive closure of a curve that is finite and nowhere below 0: at t the infimum of the sums of f over one or
+/// more times from 0 on whose sum is t (Le Boudec and Thiran, chapter 3). It is made part by part: of each point and each
+/// open segment of f, those of a period from the rank on with all their copies, the closure, lowered by the point 0 at
+/// 0; and these are convolved in the order of their starts, with the value at 0 set back to f at 0. Refused with TooWide
+/// or TooMany exactly where the first operator of that fold that is over a limit is over that one: an open segment after
+/// 0 that has an end has an operator of its own, before the calls on curves. Else only for want of memory. Each call on
+/// curves counts one step.
+pub fn close<L: Ledger>(alloc: Global, f: &Curve, steps: &mut Steps<L>) -> Result<Curve, OpFault>
+    requires finite { IsFinite (value_at f.now) }
+    requires nonneg { IsNonnegative (value_at f.now) }
+    ensures own { IsCurve f.now }
+    ensures answer { CloseAnswer f.now result }
+    ensures rises { steps.old ≤ steps.new }
+    ensures within { steps.new ≤ steps.old + fold_work f.now }
+    ensures exact { IfOk result (λ _. steps.new ≡ steps.old + fold_work f.now) }
+{
+    let _tail = f.tail();
+    let es = elements(alloc, f)?;
+    closed(alloc, f, &es, steps)
+}
