@@ -7,7 +7,7 @@ use std::test::Fail;
 /// A flow, but for its arrival.
 const PACKET: &str = "[[flow]]\nname = 'f1'\npacket = 1\narrival = { kind = 'list', piece = ";
 
-/// A service of rate 1 after 1.
+/// 0 up to 1, and then t - 1.
 const LATE: &str = "[{ x = 0, at = 0 }, { x = 1, at = 0, slope = 1 }]";
 
 /// 1 before 1, and then 3.
