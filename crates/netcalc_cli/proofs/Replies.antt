@@ -17,7 +17,7 @@ use Rattle.file_answers.proofs.OneReply as on_bytes
 use Rattle.netcalc_cli.specs.Counts.{CountsOnFile}
 use Rattle.netcalc_cli.specs.Guarantee.{Guarantees}
 use Rattle.netcalc_cli.specs.Laws.{RepliesAreDetermined}
-use Rattle.netcalc_cli.specs.Reply.{most_bytes, IsReplyOnFile, MayHold, IsTooLong, FailedAt, MayReplyOn}
+use Rattle.netcalc_cli.specs.Reply.{most_bytes, IsReplyOnFile, MayHold, IsTooLong, MayReplyOn}
 use Rattle.netcalc_cli.specs.Reply.{Gives, GivesOnTold, ReportsWithinLimits, Brings}
 
 -- ---- files that are too long

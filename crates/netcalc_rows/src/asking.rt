@@ -60,8 +60,9 @@ fn ask(alloc: Global, text: &str) -> Result<(u8, Vec<u8>), Fail> {
         String::from_str(alloc, "n.toml")?,
         Vec::from_slice(alloc, text.as_bytes())?,
     ))?;
-    let mut inputs = MemInputs::new(files, Vec::new(alloc));
-    let mut out = MemSink::new(Vec::new(alloc))?;
+    // A second fetch, or a second put, would fail.
+    let mut inputs = MemInputs::new(files, vec![in alloc; 1u32]?);
+    let mut out = MemSink::new(vec![in alloc; 1u32]?)?;
     let status = run_counted::<Brand>(Blank::new(1), &words, &mut inputs, &mut out);
     Ok((status, Vec::from_slice(alloc, out.bytes())?))
 }

@@ -65,6 +65,15 @@ fn two_servers_have_these_bounds(rt: HostRuntime) -> Result<(), Fail> {
         "servers 2 flows 1\nqueue s1 0 delay 130 backlog 13300\nqueue s2 0 delay 143 backlog 14600\n\
          flow f1 tfa 273 sfa 260 bound 260\n",
     )?;
+    let links = text.replace(alloc, "rate = 100\n", "rate = 100\nlink = 5\n")?;
+    check(
+        &rt,
+        alloc,
+        links.as_str(),
+        0,
+        "servers 2 flows 1\nqueue s1 0 delay 130 backlog 13300\nqueue s2 0 delay 143 backlog 14600\n\
+         flow f1 tfa 283 sfa 270 bound 270\n",
+    )?;
     let more = joined(alloc, &[S1, S2, F1, both, F2, "path = [\"s2\"]\n"])?;
     let faster = more.replace(alloc, "rate = 10 }", "rate = 101 }")?;
     check(

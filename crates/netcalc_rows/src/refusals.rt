@@ -63,6 +63,19 @@ fn changed_files_are_refused(rt: HostRuntime) -> Result<(), Fail> {
             6,
             "netcalc: too wide: curve flow[0].arrival\n",
         ),
+        (
+            "kind = \"bucket\", burst = 12000, rate = 10",
+            "kind = \"list\", close = true, piece = [{ x = 0, at = 0 }, { x = 1, at = 1 }, \
+             { x = \"1048577/1048576\", at = 2 }]",
+            7,
+            "netcalc: too many: curve flow[0].arrival\n",
+        ),
+        (
+            "burst = 12000, rate = 10",
+            "burst = 12000, rate = -10",
+            1,
+            "netcalc: n.toml: M9 flow[0].arrival negative\n",
+        ),
     ] {
         let text = good.replace(alloc, old, new)?;
         check(&rt, alloc, text.as_str(), status, wanted)?;
