@@ -1,4 +1,5 @@
--- The premises of the guarantee can be met, and its bound on the delay is reached: by one packet through one server.
+-- A network and a run that meet the premises of the guarantee: one packet through one server. It stays exactly as long
+-- as the bound of each table that meets the equations.
 use Rattle.std.specs.Prelude.{◌≡◌, [], ◌∷◌, codes, Some}
 use Rattle.rational.specs.declared.Extended.TheVariants.{Fin}
 use Rattle.upp_curve.specs.Kinds.{bucket, rate_latency}

@@ -8,7 +8,8 @@ pub fn replies_are_determined()
     ensures { RepliesAreDetermined }
 {}
 
-/// The premises of the guarantee can be met, and its bound on the delay is reached: by one packet through one server.
+/// A network and a run that meet the premises of the guarantee: one packet through one server. It stays exactly as long
+/// as the bound of each table that meets the equations.
 pub fn one_flow_reaches_its_bound()
     ensures { OneFlowReachesItsBound }
 {}

@@ -79,7 +79,8 @@ pub fn run<I: Inputs, K: Sink, L: Ledger>(
         Brings HasCycle (I.content inputs.old file) result (K.written out.old) (K.written out.new)) }
 
     // 0 only where the file gives a network whose cells have their answers in a table that meets the equations, and
-    // then the report is written, with the numbers of the table. In every run of the network they are kept.
+    // then the report is written, with the numbers of the table, which every run of the network keeps. By a law
+    // `unbounded` stands for infinity alone.
     ensures done { result ≡ 0 → IfSome (net_word (texts words.now)) (λ file. (net : Net) × (at : CellTable)
         × Brings (IsReportOf net at) (I.content inputs.old file) result (K.written out.old) (K.written out.new)
         × Guarantees net at) }
