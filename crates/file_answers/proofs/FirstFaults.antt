@@ -1,11 +1,7 @@
 -- The first fault of a file is a rule that its tables break, or a curve over a limit.
 use Rattle.std.proofs.Common.{◌≡◌, ◌≢◌, ℕ, List, [], ◌∷◌, Result, Ok, Err, IfOk, inl, inr, refl, sym, ap, ◌∙◌, subst}
-use Rattle.upp_curve.specs.Curve.{SpecCurve}
 use Rattle.upp_curve.specs.declared.own_limits.OverLimit.{OverLimit}
 use Rattle.upp_curve.specs.declared.own_limits.OverLimit.TheVariants.{TooMany, TooWide}
-use Rattle.upp_curve.specs.declared.op_kind.OpFault.{OpFault}
-use Rattle.upp_curve.specs.declared.op_kind.OpFault.TheVariants as operator
-use Rattle.closure_fold.proofs.OneFold.{close_once}
 use Rattle.net_model.specs.declared.fault.NetFault.{NetFault}
 use Rattle.net_model.specs.declared.fault.NetKind.{NetKind}
 use Rattle.net_model.specs.declared.fault.NetKind.TheVariants.{M1, M2, M3, M4, M5, M6, M7, M8, M9, M10, M11, M12}
@@ -14,37 +10,21 @@ use Rattle.net_draft.specs.FaultKinds.{IsOfTables}
 use Rattle.net_draft.specs.Faults.{Fault, fault_of}
 use Rattle.net_draft.proofs.KindsOfTables.{faults_are_of_tables}
 use Rattle.net_text.specs.Becoming.{limit_fault}
-use Rattle.net_text.specs.Closing.{HasOneLimit}
 use Rattle.net_text.specs.Firsts.{PlacedCurve, FirstCurveOver, curves_of}
 use Rattle.net_text.specs.Laws.{EachFileSaysOneThing}
 use Rattle.net_text.specs.Reading.{CurveFault, FirstFault, IsAnswered}
 use Rattle.net_text.proofs.OneThing.{each_file_says_one_thing}
 use Rattle.network_files.specs.FoldLimits.{OverFold}
+use Rattle.network_files.specs.OneLimit.{fold_has_one_limit}
 use Rattle.file_answers.specs.declared.answer.Answer.{Answer}
 use Rattle.file_answers.specs.Replies.{Reply, breaks_rule, curve_over}
 use Rattle.file_answers.specs.Faults.{reply_of_kind, fault_reply}
 use Rattle.file_answers.specs.OnFiles.{IsBroken, IsReplyOn, Broken, CurveOver}
 use Rattle.file_answers.specs.View.{reply_of}
 
--- ---- a file says one thing
--- two refusals of the fold of a closure are one
-same_refusal : (f : SpecCurve) (a b : OpFault) → ◌≡◌ {A = Result SpecCurve OpFault} (Err a) (Err b) → a ≡ b
-same_refusal f a b same = cc
-
-one_limit : HasOneLimit OverFold
-one_limit f TooMany TooMany h k = refl
-one_limit f TooWide TooWide h k = refl
-one_limit f TooMany TooWide h k =
-    let same = same_refusal f operator.TooMany operator.TooWide
-    (close_once f (Err operator.TooMany) (Err operator.TooWide) h k (λ e. cc) (λ e. cc)) in
-    absurd (cc)
-one_limit f TooWide TooMany h k =
-    let same = same_refusal f operator.TooWide operator.TooMany
-    (close_once f (Err operator.TooWide) (Err operator.TooMany) h k (λ e. cc) (λ e. cc)) in
-    absurd (cc)
-
+-- a file says one thing
 pub says : EachFileSaysOneThing OverFold
-says = each_file_says_one_thing OverFold one_limit
+says = each_file_says_one_thing OverFold fold_has_one_limit
 
 -- ---- the reply on a fault
 -- a curve over a limit at a place

@@ -79,25 +79,24 @@ pub replies_are_determined : RepliesAreDetermined
 replies_are_determined file bytes x y h k = by_file file bytes x y (sorted file bytes x h) (sorted file bytes y k)
 
 -- ---- within the limits
-on_order : (bytes : List ℕ) (reply : Reply) (w : IsWithinLimits bytes)
-    → IsOver w.net w.order reply ⊎ IsShown w.net w.order reply
-    → reply.status ≡ 0
-on_order bytes reply w (inl h) = absurd (w.within h.cell (fault_of h.limit) h.first)
-on_order bytes reply w (inr h) = ap (λ (r : Reply). r.status) h.is
+on_order : (bytes : List ℕ) (reply : Reply) (w : IsWithinLimits bytes) (order : List ℕ) → IsOrder w.net order
+    → IsOver w.net order reply ⊎ IsShown w.net order reply → reply.status ≡ 0
+on_order bytes reply w order o (inl h) = absurd (w.within order h.cell (fault_of h.limit) o h.first)
+on_order bytes reply w order o (inr h) = ap (λ (r : Reply). r.status) h.is
 
 on_net : (bytes : List ℕ) (reply : Reply) (w : IsWithinLimits bytes) → OnCycle w.net reply ⊎ OnOrder w.net reply
     → reply.status ≡ 0
-on_net bytes reply w (inl h) = absurd (order_or_cycle.no_cycle w.net w.order h.walk w.gives.accepted w.ordered h.cycle)
-on_net bytes reply w (inr h) =
-    let same = one_order w.net h.order w.order h.ordered w.ordered in
-    on_order bytes reply w (subst (λ order. IsOver w.net order reply ⊎ IsShown w.net order reply) same h.on)
+on_net bytes reply w (inl h) =
+    let c = h.cycle in
+    absurd (w.feed_forward h.walk (record { start = c.start; between = c.between; is = c.is; steps = c.steps }))
+on_net bytes reply w (inr h) = on_order bytes reply w h.order h.ordered h.on
 
 on_file : (file bytes : List ℕ) (reply : Reply) (w : IsWithinLimits bytes)
     → OnFault file bytes reply ⊎ OnNet bytes reply
     → reply.status ≡ 0
-on_file file bytes reply w (inl h) = absurd ((says bytes).not_both w.net h.fault w.gives.reads h.first)
+on_file file bytes reply w (inl h) = absurd ((says bytes).not_both w.net h.fault w.reads h.first)
 on_file file bytes reply w (inr h) =
-    let same = (says bytes).one_network h.net w.net h.gives.reads w.gives.reads in
+    let same = (says bytes).one_network h.net w.net h.gives.reads w.reads in
     on_net bytes reply w (subst (λ net. OnCycle net reply ⊎ OnOrder net reply) same h.on)
 
 pub replies_are_complete : RepliesAreComplete

@@ -4,12 +4,15 @@ use Rattle.rational.specs.declared.Extended.TheVariants.{Inf}
 use Rattle.upp_curve.specs.declared.op_kind.OpFault.{OpFault}
 use Rattle.net_model.specs.Networks.{Net}
 use Rattle.net_model.specs.Orders.{IsOrder}
+use Rattle.net_model.specs.Walks.{IsFeedForward}
+use Rattle.net_text.specs.Reading.{IsNetworkOf}
+use Rattle.network_files.specs.FoldLimits.{OverFold}
 use Rattle.net_cells.specs.declared.cell.Cell.{Cell}
 use Rattle.net_cells.specs.Meanings.{number, CellTable}
 use Rattle.net_cells.specs.FirstOver.{FirstOver}
 use Rattle.report_text.specs.Shown.{shown}
 use Rattle.file_answers.specs.Replies.{Reply}
-use Rattle.file_answers.specs.OnFiles.{IsNetOf, IsReplyOn}
+use Rattle.file_answers.specs.OnFiles.{IsReplyOn}
 
 -- one status, and one text unless it tells a cycle
 pub record AreSame (x y : Reply) : Type 0 where
@@ -21,13 +24,12 @@ abbrev pub RepliesAreDetermined : Type 0
 RepliesAreDetermined =
     (file bytes : List ℕ) (x y : Reply) → IsReplyOn file bytes x → IsReplyOn file bytes y → AreSame x y
 
--- a file that gives a network whose servers have an order, with no cell over a limit
+-- a file that gives a network without a cycle, and by no order of its servers a cell is over a limit
 pub record IsWithinLimits (bytes : List ℕ) : Type 0 where
   pub net : Net
-  pub gives : IsNetOf bytes net
-  pub order : List ℕ
-  pub ordered : IsOrder net order
-  pub within : (c : Cell) (fault : OpFault) → ¬ (FirstOver net order c fault)
+  pub reads : IsNetworkOf OverFold bytes net
+  pub feed_forward : IsFeedForward net
+  pub within : (order : List ℕ) (c : Cell) (fault : OpFault) → IsOrder net order → ¬ (FirstOver net order c fault)
 
 -- its one reply is a report
 abbrev pub RepliesAreComplete : Type 0

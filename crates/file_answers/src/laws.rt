@@ -7,8 +7,7 @@ pub fn replies_are_determined()
     ensures { RepliesAreDetermined }
 {}
 
-/// A file that gives a network whose servers have an order, with no cell over a limit, has no other reply than a
-/// report.
+/// A file that gives a network without a cycle, with no cell over a limit, has no other reply than a report.
 pub fn replies_are_complete()
     ensures { RepliesAreComplete }
 {}

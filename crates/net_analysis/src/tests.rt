@@ -4,7 +4,7 @@ ghost use Rattle.std.specs.Prelude.{◌≡◌, ◌<◌};
 
 use crate::analyse;
 use cell_table::{Table, Value};
-use fraction128::{Ext, Frac};
+use fraction128::Frac;
 use net_cells::{Cell, Kind};
 use net_graph::order;
 use net_model::{Network, plain_network};
@@ -15,7 +15,8 @@ use std::sync::ledger::{Blank, Ledger};
 use std::test::Fail;
 use steps::Steps;
 
-fn number_of<L: Ledger>(alloc: Global, blank: Blank, net: &Network, cell: Cell) -> Option<Ext>
+// The number of a cell, if there is a finite one.
+fn number_of<L: Ledger>(alloc: Global, blank: Blank, net: &Network, cell: Cell) -> Option<Frac>
     requires name { blank.name ≡ L.name }
     requires parts { blank.parts ≡ L.parts }
     requires one { 0 < blank.parts }
@@ -28,13 +29,12 @@ fn number_of<L: Ledger>(alloc: Global, blank: Blank, net: &Network, cell: Cell) 
         return None;
     };
     match all.value(cell) {
-        Some(Value::Number(found)) => Some(*found),
-        Some(Value::Curve(_)) => None,
-        None => None,
+        Some(Value::Number(Extended::Fin(found))) => Some(*found),
+        _ => None,
     }
 }
 
-// One bit waits at most 1 s at each server; nothing waits for the whole path more than once.
+// A packet of one bit, alone at two servers of 1 bit/s each: it takes 1 s at each of them.
 #[test]
 fn a_bit_over_two_servers_takes_two_seconds(rt: HostRuntime) -> Result<(), Fail> {
     let net = plain_network(rt.alloc(), 2, &[&[0, 1]])?;
@@ -44,6 +44,6 @@ fn a_bit_over_two_servers_takes_two_seconds(rt: HostRuntime) -> Result<(), Fail>
         b: 0,
     };
     let found = number_of::<Brand>(rt.alloc(), Blank::new(1), &net, bound);
-    assert_eq!(rt; found, Some(Extended::Fin(Frac::from(2u64))));
+    assert_eq!(rt; found, Some(Frac::from(2u64)));
     Ok(())
 }

@@ -9,7 +9,7 @@ use Rattle.net_model.specs.Networks.{Net}
 use Rattle.net_cells.specs.Meanings.{CellTable}
 use Rattle.net_bounds.proofs.Kept.{table_bounds_every_run}
 use Rattle.file_answers.specs.Counts.{CountsOn}
-use Rattle.file_answers.specs.Laws.{AreSame}
+use Rattle.file_answers.specs.Laws.{IsWithinLimits}
 use Rattle.file_answers.specs.Replies.{Reply, too_long}
 use Rattle.file_answers.specs.OnFiles.{IsBroken, IsOverLimit, HasCycle, IsReportOf, IsReport}
 use Rattle.file_answers.proofs.ByStatus.{IsByStatus, by_status}
@@ -17,8 +17,8 @@ use Rattle.file_answers.proofs.OneReply as on_bytes
 use Rattle.netcalc_cli.specs.Counts.{CountsOnFile}
 use Rattle.netcalc_cli.specs.Guarantee.{Guarantees}
 use Rattle.netcalc_cli.specs.Laws.{RepliesAreDetermined}
-use Rattle.netcalc_cli.specs.Reply.{most_bytes, IsReplyOnFile, MayHold, IsTooLong, MayReplyOn, Gives, GivesOnTold}
-use Rattle.netcalc_cli.specs.Reply.{Brings}
+use Rattle.netcalc_cli.specs.Reply.{most_bytes, IsReplyOnFile, MayHold, IsTooLong, FailedAt, MayReplyOn}
+use Rattle.netcalc_cli.specs.Reply.{Gives, GivesOnTold, ReportsWithinLimits, Brings}
 
 -- ---- files that are too long
 -- a list of any length
@@ -164,6 +164,27 @@ told_given faults last_fault told file before after reply status old new may giv
       | inl four ↦ failed_told file told status old new four
       | inr other ↦ told_on faults last_fault told file before after reply status old new may (given other)
     ]
+
+-- ---- within the limits
+reports_on : (file bytes : List ℕ) (reply : Reply) → length bytes ≤ most_bytes → IsWithinLimits bytes
+    → IsReplyOnFile file bytes reply → reply.status ≡ 0
+reports_on file bytes reply fits within (inl long) = absurd (omega (arith, long.0, fits))
+reports_on file bytes reply fits within (inr on) = on_bytes.replies_are_complete file bytes reply within on.1
+
+reports_or : (file bytes : List ℕ) (status : ℕ) (old new : Option (List ℕ)) → length bytes ≤ most_bytes
+    → IsWithinLimits bytes
+    → ((reply : Reply) × IsReplyOnFile file bytes reply × Gives status old new reply)
+    ⊎ ((status ≡ 3) ⊎ ((status ≡ 4) ⊎ (status ≡ 5)))
+    → (status ≡ 0) ⊎ ((status ≡ 3) ⊎ ((status ≡ 4) ⊎ (status ≡ 5)))
+reports_or file bytes status old new fits within (inl r) =
+    inl (r.2.0 ∙ reports_on file bytes r.0 fits within r.1)
+reports_or file bytes status old new fits within (inr other) = inr other
+
+pub reports_within : (file : List ℕ) (told : Option (List ℕ)) (status : ℕ) (old new : Option (List ℕ))
+    → GivesOnTold file told status old new → ReportsWithinLimits told status
+reports_within file None status old new h = tt
+reports_within file (Some bytes) status old new h =
+    λ fits within. reports_or file bytes status old new fits within h
 
 -- ---- steps
 -- at a status that is that of a report only where the other is

@@ -5,6 +5,7 @@ use Rattle.outside.specs.Faults.{Rose}
 use Rattle.outside.specs.Written.{AppendsFront}
 use Rattle.file_answers.specs.Replies.{Reply, usage, cannot_read, too_long}
 use Rattle.file_answers.specs.OnFiles.{IsReplyOn}
+use Rattle.file_answers.specs.Laws.{IsWithinLimits}
 
 -- the commands that the usage line tells
 abbrev pub commands : List ℕ
@@ -71,6 +72,11 @@ abbrev pub GivesOnTold : List ℕ → Option (List ℕ) → ℕ → Option (List
 GivesOnTold file told status old new = IfSome told (λ bytes.
     ((reply : Reply) × IsReplyOnFile file bytes reply × Gives status old new reply)
     ⊎ ((status ≡ 3) ⊎ ((status ≡ 4) ⊎ (status ≡ 5))))
+
+-- Where it is told that a file fits and is within the limits, the status is that of a report, or 3, 4 or 5.
+abbrev pub ReportsWithinLimits : Option (List ℕ) → ℕ → Type 0
+ReportsWithinLimits told status = IfSome told (λ bytes. length bytes ≤ most_bytes → IsWithinLimits bytes
+    → (status ≡ 0) ⊎ ((status ≡ 3) ⊎ ((status ≡ 4) ⊎ (status ≡ 5))))
 
 -- The sink failed in this call, and a front of the reply's bytes was written.
 pub record FailsToGive {K : Type 0} (faults : K → ℕ) (written : K → Option (List ℕ)) (old new : K) (reply : Reply)

@@ -10,7 +10,7 @@ ghost use Rattle.file_answers.specs.View.{code_of};
 ghost use Rattle.netcalc_cli.specs.Counts.{Counts};
 ghost use Rattle.netcalc_cli.specs.Guarantee.{Guarantees};
 ghost use Rattle.netcalc_cli.specs.Reply.{commands, MayReply, IsTooLong, FailedAt};
-ghost use Rattle.netcalc_cli.specs.Reply.{Gives, GivesOnTold, Brings, FailsToGive};
+ghost use Rattle.netcalc_cli.specs.Reply.{Gives, GivesOnTold, ReportsWithinLimits, Brings, FailsToGive};
 ghost use Rattle.netcalc_cli.specs.Words.{texts, net_word};
 
 use crate::fetching::answer_on;
@@ -95,6 +95,10 @@ pub fn run<I: Inputs, K: Sink, L: Ledger>(
     // Where it is told what the file holds, 3, 4 and 5 are the only other answers than the one on that.
     ensures told { IfSome (net_word (texts words.now)) (λ file.
         GivesOnTold file (I.content inputs.old file) result (K.written out.old) (K.written out.new)) }
+
+    // So where it holds a network without a cycle, and no curve and no cell is over a limit, 0 is the only other one.
+    ensures complete { IfSome (net_word (texts words.now)) (λ file.
+        ReportsWithinLimits (I.content inputs.old file) result) }
 
     // Every answer but 4 and 5 is the status of a reply that words and inputs may bring, whose bytes are written.
     ensures answers { result ≢ 4 → result ≢ 5 → (reply : Reply)

@@ -1,14 +1,13 @@
 -- No first fault of a file is want of memory.
-use Rattle.std.specs.Prelude.{◌≡◌, ◌⊎◌, ℕ, List, [], ◌∷◌, Err}
+use Rattle.std.specs.Prelude.{◌≡◌, List, [], ◌∷◌}
 use Rattle.std.proofs.Common.{sym, ap, ◌∙◌, subst, inl, inr}
-use Rattle.upp_curve.specs.Curve.{SpecCurve}
 use Rattle.upp_curve.specs.declared.own_limits.OverLimit.{OverLimit}
 use Rattle.upp_curve.specs.declared.own_limits.OverLimit.TheVariants.{TooMany, TooWide}
 use Rattle.net_model.specs.declared.fault.NetKind.TheVariants.{NoMemory}
 use Rattle.net_draft.specs.FaultKinds.{IsOfTables}
 use Rattle.net_draft.specs.Faults.{Fault}
 use Rattle.net_draft.proofs.KindsOfTables.{faults_are_of_tables}
-use Rattle.net_text.specs.Becoming.{limit_kind, limit_fault}
+use Rattle.net_text.specs.Becoming.{limit_kind}
 use Rattle.net_text.specs.Firsts.{PlacedCurve, FirstCurveOver, curves_of}
 use Rattle.network_files.specs.FileLaws.{NoFaultIsWantOfMemory}
 use Rattle.network_files.specs.FoldLimits.{OverFold}

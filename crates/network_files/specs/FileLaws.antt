@@ -1,5 +1,5 @@
 -- What the faults of files are not. Own choice.
-use Rattle.std.specs.Prelude.{◌≡◌, ◌≢◌, ℕ, List}
+use Rattle.std.specs.Prelude.{◌≢◌, ℕ, List}
 use Rattle.net_model.specs.declared.fault.NetKind.TheVariants.{NoMemory}
 use Rattle.net_draft.specs.Faults.{Fault}
 use Rattle.net_text.specs.Reading.{FirstFault}

@@ -1,5 +1,5 @@
 -- A fold is over one limit at most, since it has one answer.
-use Rattle.std.specs.Prelude.{◌≡◌, refl, Result, Err}
+use Rattle.std.specs.Prelude.{refl, Result, Err}
 use Rattle.std.proofs.Common.{subst}
 use Rattle.upp_curve.specs.Curve.{SpecCurve}
 use Rattle.upp_curve.specs.declared.own_limits.OverLimit.TheVariants as limits

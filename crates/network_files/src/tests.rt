@@ -4,6 +4,7 @@
 ghost use Rattle.std.specs.Prelude.{◌≡◌, ◌<◌};
 
 mod accepted;
+mod closed;
 mod refused;
 
 use crate::read_network;

@@ -2,7 +2,7 @@ use Rattle.std.proofs.Common.{refl, sym, ◌∙◌}
 use Rattle.file_answers.specs.Replies.{usage}
 use Rattle.file_answers.specs.View.{reply_of}
 use Rattle.netcalc_cli.specs.Reply.{commands}
-use Rattle.netcalc_cli.proofs.Replies.{brought, told_given, on_file_at}
+use Rattle.netcalc_cli.proofs.Replies.{brought, told_given, reports_within, on_file_at}
 use Rattle.netcalc_cli.proofs.top_call.run.Goals as goal
 
 pub returns-in-Ok-clause-malformed : goal.returns-in-Ok-clause-malformed
@@ -91,3 +91,15 @@ returns-in-Ok-clause-told g c =
     (g.K.Sink.written c.args.out.now) (g.K.Sink.written c.give-in-Ok.new.out) c.in-Ok.ensures.reply
     (λ other. let given = c.give-in-Ok.ensures.given other in (given.0, rw c.deref.ensures.value at given.1)) in
     rw (← c.in-Some.ensures) told
+
+pub returns-in-Ok-clause-complete : goal.returns-in-Ok-clause-complete
+returns-in-Ok-clause-complete g c =
+    let file = c.in-Some.taken.net.now in
+    let content = g.I.Inputs.content c.args.inputs.now file in
+    let old = g.K.Sink.written c.args.out.now in
+    let new = g.K.Sink.written c.give-in-Ok.new.out in
+    let told = told_given g.I.Inputs.faults g.I.Inputs.last_fault content file
+    c.args.inputs.now c.answer_on.new.inputs (reply_of c.in-Ok.answer) c.give-in-Ok.result
+    old new c.in-Ok.ensures.reply
+    (λ other. let given = c.give-in-Ok.ensures.given other in (given.0, rw c.deref.ensures.value at given.1)) in
+    rw (← c.in-Some.ensures) (reports_within file content c.give-in-Ok.result old new told)
