@@ -9,3 +9,4 @@ pub mod FoldLists
 pub mod FirstElements
 pub mod FoldSteps
 pub mod WorkedSegments
+pub mod ClosedValues

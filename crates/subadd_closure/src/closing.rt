@@ -3,11 +3,13 @@
 ghost use Rattle.std.specs.Prelude.{◌≡◌, ◌+◌, ◌<◌, ◌≤◌, map, length, All, IfOk};
 ghost use Rattle.rational.specs.Rational.{ℚ, ◌≤ℚ◌};
 ghost use Rattle.upp_curve.specs.Curve.{value_at};
+ghost use Rattle.upp_curve.specs.Convolution.{IsSubadditiveClosure};
 ghost use Rattle.upp_curve.specs.Curves.{IsCurve};
 ghost use Rattle.upp_curve.specs.Functions.{IsFinite, IsNonnegative, zero_q};
 ghost use Rattle.upp_curve.specs.declared.op_kind.OpKind.TheVariants.{Convolve};
 ghost use Rattle.curve_conv.specs.PieceElements.{elements_of};
 ghost use Rattle.curve_making.specs.Calls.{Applies, Then};
+ghost use Rattle.closure_laws.specs.ClosureLaws.{ClosureKeeps};
 ghost use Rattle.closure_fold.specs.CurveParts.{pieces_end, part_of};
 ghost use Rattle.closure_fold.specs.Folds.{PartAnswer, PartsAnswer, CloseAnswer};
 ghost use Rattle.subadd_closure.specs.FoldWork.{part_work, parts_work, fold_work};
@@ -109,15 +111,19 @@ fn closed<L: Ledger>(
 }
 
 /// The subadditive closure of a curve that is finite and nowhere below 0: at t the infimum of the sums of f over one or
-/// more times from 0 on whose sum is t. It is made part by part: of each point and each open segment of f, those of a
-/// period from the rank on with all their copies, the closure, lowered by the point 0 at 0; and these are convolved in
-/// the order of their starts, with the value at 0 set back to f at 0. Refused with TooWide or TooMany exactly where the
-/// first operator of that fold that is over a limit is over that one: an open segment after 0 that has an end has an
-/// operator of its own, before the calls on curves. Else only for want of memory. Each call on curves counts one step.
+/// more times from 0 on whose sum is t. It is finite and nowhere below 0 too, and rises where f does. It is made part
+/// by part: of each point and each open segment of f, those of a period from the rank on with all their copies, the
+/// closure, lowered by the point 0 at 0; and these are convolved in the order of their starts, with the value at 0 set
+/// back to f at 0. Refused with TooWide or TooMany exactly where the first operator of that fold that is over a limit
+/// is over that one: an open segment after 0 that has an end has an operator of its own, before the calls on curves.
+/// Else only for want of memory. Each call on curves counts one step.
 pub fn close<L: Ledger>(alloc: Global, f: &Curve, steps: &mut Steps<L>) -> Result<Curve, OpFault>
     requires finite { IsFinite (value_at f.now) }
     requires nonneg { IsNonnegative (value_at f.now) }
     ensures own { IsCurve f.now }
+    ensures value { IfOk result (λ h. (t : ℚ) → zero_q ≤ℚ t
+        → IsSubadditiveClosure (value_at f.now) t (value_at h t)) }
+    ensures keeps { IfOk result (λ h. ClosureKeeps (value_at f.now) (value_at h)) }
     ensures answer { CloseAnswer f.now result }
     ensures rises { steps.old ≤ steps.new }
     ensures within { steps.new ≤ steps.old + fold_work f.now }

@@ -2,6 +2,8 @@
 #![tactic(auto)]
 
 mod closing;
+#[cfg(test)]
+mod closing_tests;
 mod overlaps;
 mod part_stars;
 #[cfg(test)]

@@ -37,7 +37,7 @@ fn endless(alloc: Global) -> Result<Curve, OpFault> {
 }
 
 // The value at a time from 0 on; nothing where it is infinite.
-fn value(c: &Curve, t: Frac) -> Option<Frac> {
+pub(crate) fn value(c: &Curve, t: Frac) -> Option<Frac> {
     match t.cmp(&Frac::zero()) {
         Ordering::Less => None,
         _ => match c.value_at(t) {

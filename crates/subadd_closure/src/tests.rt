@@ -16,7 +16,7 @@ use std::test::Fail;
 use steps::Steps;
 use upp_curve::{Curve, OpFault, RawCurve, Tail, equal, is_less, normalise};
 
-fn whole(n: i128) -> Frac {
+pub(crate) fn whole(n: i128) -> Frac {
     match Frac::new(n, 1) {
         Ok(f) => f,
         Err(_) => Frac::zero(),
@@ -31,7 +31,7 @@ fn part(n: i128) -> Frac {
     }
 }
 
-fn curve(alloc: Global, list: &[Piece], tail: Tail) -> Result<Curve, OpFault> {
+pub(crate) fn curve(alloc: Global, list: &[Piece], tail: Tail) -> Result<Curve, OpFault> {
     let Ok(pieces) = Vec::from_slice(alloc, list) else {
         return Err(OpFault::NoMemory);
     };
@@ -44,7 +44,7 @@ fn curve(alloc: Global, list: &[Piece], tail: Tail) -> Result<Curve, OpFault> {
 }
 
 // From x on the line with this value at 0, and at x the value `at`.
-fn piece(x: i128, at: Ext, line: Option<(i128, i128)>) -> Piece {
+pub(crate) fn piece(x: i128, at: Ext, line: Option<(i128, i128)>) -> Piece {
     Piece {
         x: whole(x),
         at,
@@ -138,7 +138,7 @@ fn starts_high(f: &Curve) -> bool
 }
 
 // The closure of a curve that is finite and rises from 0 or more.
-fn closure<L: Ledger>(alloc: Global, blank: Blank, f: &Curve) -> Result<Curve, OpFault>
+pub(crate) fn closure<L: Ledger>(alloc: Global, blank: Blank, f: &Curve) -> Result<Curve, OpFault>
     requires name { blank.name ≡ L.name }
     requires parts { blank.parts ≡ L.parts }
     requires one { 0 < blank.parts }

@@ -1,5 +1,6 @@
 use Rattle.std.proofs.Common.{refl}
 use Rattle.std.proofs.lemmas.Result.{err_from_is_err_and}
+use Rattle.subadd_closure.proofs.ClosedValues.{closed_value, closed_keeps}
 use Rattle.subadd_closure.proofs.FirstElements.{no_memory}
 use Rattle.subadd_closure.proofs.closing.close.Goals as goal
 
@@ -10,3 +11,13 @@ returns-in_err-es-clause-answer g c =
       p.1,
       p.2,
     ) refl)
+
+pub returns-clause-value : goal.returns-clause-value
+returns-clause-value g c =
+    closed_value c.args.f.now c.tail-tail.ensures.kept.normal c.requires.finite c.requires.nonneg c.closed.result
+    c.closed.ensures.answer
+
+pub returns-clause-keeps : goal.returns-clause-keeps
+returns-clause-keeps g c =
+    closed_keeps c.args.f.now c.tail-tail.ensures.kept.normal c.requires.finite c.requires.nonneg c.closed.result
+    c.closed.ensures.answer
