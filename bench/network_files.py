@@ -3,11 +3,16 @@
     python3 bench/network_files.py NETCALC
 
 NETCALC is the program. The first file has 64 servers and 256 flows of 16 hops with listed arrival curves of up to 64
-pieces, cut to fit 1,048,576 bytes, and the same with a fault near its end; the others are made to take long: brackets
-in brackets, a long key, many keys, a long number, and many names that differ in their last byte. A line a file: its
-bytes, the status, the seconds that the run took, how many times the bytes and the seconds are those of a smaller file of
-the same make, and the first line that was written. Where the seconds grow as the bytes do, the two are alike. A file
-that is accepted is analysed too.
+pieces, cut to fit 1,048,576 bytes; its flows go round, so that it is read whole and has no cell. Then the same with a
+fault near its end, and files that are made to take long: brackets in brackets, a long key, many keys, headers or flows,
+a long number, many short keys under one long header, and names that differ in their last byte. The last is analysed.
+A line a file: its bytes, the status, the seconds that the run took, how many times the bytes and the seconds are those
+of a smaller file of the same make, and the first line that was written. Where the seconds grow as the bytes do, the two
+are alike.
+
+Then files of one flow whose curve is closed: from 1 on it has a segment of length 1 / n, so that the closure of that
+has about 2 n pieces. A line an n: the seconds, and how many times as long as for half the n. That is about 4, since
+the closures of two parts are convolved piece by piece.
 """
 
 import subprocess
@@ -70,15 +75,28 @@ def names(most: int) -> str:
 
 # Each makes a file of at most so many bytes.
 FILES = {
-    "accepted": lambda most: network(most),
+    "in a ring": lambda most: network(most, ["s1", "s0"]),
     "unknown server at the end": lambda most: network(most, [f"s{k}" for k in range(15)] + ["s99"]),
     "unknown key at the end": lambda most: network(most, last_key="speed = 1\n"),
     "deep": lambda most: "a = " + "[" * (most // 2 - 3) + "]" * (most // 2 - 3) + "\n",
     "long key": lambda most: '"' + "k" * (most - 8) + '" = 1\n',
     "many keys": lambda most: "".join(f"k{n} = 1\n" for n in range(most // 12)),
     "long number": lambda most: "version = " + "9" * (most - 12) + "\n",
+    "many headers": lambda most: "".join(f"[k{n}]\n" for n in range(most // 10)),
+    "many dotted keys": lambda most: "".join(f"a.b.k{n} = 1\n" for n in range(most // 16)),
+    "many flows": lambda most: "[[flow]]\n" * (most // 9),
+    "long header": lambda most: "[" + "k" * (most // 2) + "]\n" + "".join(f"a{n} = 1\n" for n in range(most // 24)),
     "alike names": names,
+    "accepted and analysed": lambda most: network(most),
 }
+
+
+def closed(parts: int) -> str:
+    """A flow whose curve is closed, with a segment of length 1 / parts from 1 on."""
+    return server(0) + (
+        '[[flow]]\nname = "f"\npacket = 1\npath = ["s0"]\narrival = { kind = "list", close = true, piece = '
+        f'[{{ x = 0, at = 1 }}, {{ x = 1, at = 2 }}, {{ x = "{parts + 1}/{parts}", at = 3 }}] }}\n'
+    )
 
 
 def seconds(program: str, path: Path, text: str) -> tuple[float, int, str]:
@@ -104,6 +122,12 @@ def main() -> None:
                 f"{name}: {len(text)} bytes, status {status}, {took:.2f} s, "
                 f"{bytes_ratio:.1f} times the bytes, {time_ratio:.1f} times the seconds, {line}"
             )
+        before = None
+        for parts in (20, 40, 80):
+            took, status, line = seconds(program, path, closed(parts))
+            ratio = f", {took / before:.1f} times as long" if before else ""
+            print(f"closed, n = {parts}: status {status}, {took:.2f} s{ratio}, {line}")
+            before = took
 
 
 if __name__ == "__main__":

@@ -81,7 +81,18 @@ fn worked_files_are_accepted(rt: HostRuntime) -> Result<(), Fail> {
         "[[server]]\nname = 'g'\nrate = 100\nservice = { kind = 'gate', cycle = 1000, slot = 250 }\n";
     let stair =
         "[[flow]]\nname = 'f'\npacket = 24000\narrival = { kind = 'stair', period = 1500 }\n";
-    let rows: [(&[&str], usize, usize); 9] = [
+    let lines = "[[server]]\r\nname = 's1'\r\nrate = 100\r\n";
+    // A name of 32 letters.
+    let dotted = "[[server]]\nname = 'ssssssssssssssssssssssssssssssss'\nrate = 1\nlink = '-0'\n";
+    let parts = "service.kind = 'gate'\nservice.cycle = 2\nservice.slot = 2\n";
+    let most = "discipline = 'priority'\nqueues = 8\n";
+    let alike = "[[server]]\nname = 'f1'\nrate = 1\n";
+    let rows: [(&[&str], usize, usize); 14] = [
+        (&["\u{feff}", SERVER, FLOW, PATH], 1, 1),
+        (&[lines], 1, 0),
+        (&["server = []\nflow = []\n"], 0, 0),
+        (&[dotted, parts, most], 1, 0),
+        (&[alike, FLOW, "path = ['f1:00']\n"], 1, 1),
         (&[], 0, 0),
         (&[SERVER], 1, 0),
         (&[cut], 1, 0),

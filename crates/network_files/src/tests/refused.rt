@@ -186,7 +186,9 @@ fn each_curve_is_refused_for_its_cause(rt: HostRuntime) -> Result<(), Fail> {
 fn the_first_of_two_faults_is_told(rt: HostRuntime) -> Result<(), Fail> {
     let short = "discipline = 'drr'\nquanta = [1]\n";
     let other = "[[server]]\nname = 's2'\n";
-    let rows: [(&[&str], NetKind, &str); 16] = [
+    let falling = "at = 1, slope = '-1/1329227995784915872903807060280344576' }] }\n";
+    let list = "arrival = { kind = 'list', piece = [{ x = ";
+    let rows: [(&[&str], NetKind, &str); 18] = [
         // Of the keys of one table: in the order of the format, and not of the file.
         (&["version = 2\nserver = 1\n"], NetKind::M6, "version"),
         (&["version = 2\nb = 1\na = 1\n"], NetKind::M3, "a"),
@@ -268,6 +270,17 @@ fn the_first_of_two_faults_is_told(rt: HostRuntime) -> Result<(), Fail> {
             ],
             NetKind::CurveTooWide,
             "flow[1].arrival",
+        ),
+        // A limit hides that a curve falls, and not that its first piece is late.
+        (
+            &[SERVER, PACKET, list, "0, ", falling, PATH],
+            NetKind::CurveTooWide,
+            "flow[0].arrival",
+        ),
+        (
+            &[SERVER, PACKET, list, "1, ", falling, PATH],
+            NetKind::M9(CurveRefusal::NotRising),
+            "flow[0].arrival",
         ),
     ];
     for (parts, kind, place) in &rows {
@@ -362,6 +375,79 @@ fn values_of_another_kind_are_refused(rt: HostRuntime) -> Result<(), Fail> {
         check(&rt, rt.alloc(), &[root], NetKind::M4, place)?;
     }
     Ok(())
+}
+
+#[test]
+fn ranges_have_edges(rt: HostRuntime) -> Result<(), Fail> {
+    let servers = [
+        ("discipline = 'FIFO'\n", NetKind::M6, "discipline"),
+        ("discipline = 'priority'\n", NetKind::M2, "queues"),
+        (
+            "discipline = 'priority'\nqueues = 0\n",
+            NetKind::M6,
+            "queues",
+        ),
+        (
+            "discipline = 'priority'\nqueues = 9\n",
+            NetKind::M6,
+            "queues",
+        ),
+        (
+            "discipline = 'priority'\nqueues = 8\nquanta = 'x'\n",
+            NetKind::M3,
+            "quanta",
+        ),
+        ("discipline = 'drr'\n", NetKind::M2, "quanta"),
+        ("discipline = 'drr'\nquanta = []\n", NetKind::M6, "quanta"),
+        (
+            "discipline = 'drr'\nquanta = [1, 0]\n",
+            NetKind::M6,
+            "quanta[1]",
+        ),
+        (
+            "discipline = 'drr'\nquanta = [16777216, 16777217]\n",
+            NetKind::M6,
+            "quanta[1]",
+        ),
+        // Keys of another discipline: at their turn, whatever stands there.
+        ("queues = 'x'\n", NetKind::M3, "queues"),
+        ("quanta = 'x'\nqueues = 1\n", NetKind::M3, "queues"),
+        ("quanta = 'x'\nqueues = 1\nlink = -1\n", NetKind::M6, "link"),
+        // Keys of another kind of curve.
+        (
+            "service = { kind = 'list', piece = [], close = true }\n",
+            NetKind::M3,
+            "service.close",
+        ),
+        (
+            "service = { kind = 'latency', cycle = 1 }\n",
+            NetKind::M3,
+            "service.cycle",
+        ),
+    ];
+    for (keys, kind, key) in &servers {
+        let place = joined(rt.alloc(), &["server[0].", key])?;
+        let parts = [NAMED, "rate = 1\n", keys];
+        check(&rt, rt.alloc(), &parts, *kind, place.as_str())?;
+    }
+    // The last of these has 33 letters.
+    let paths = [
+        "''",
+        "'s 1'",
+        "':0'",
+        "'s1:-1'",
+        "'s1:0:0'",
+        "'s\u{e9}'",
+        "'sssssssssssssssssssssssssssssssss'",
+    ];
+    for entry in &paths {
+        let parts = [SERVER, FLOW, "path = [", entry, "]\n"];
+        check(&rt, rt.alloc(), &parts, NetKind::M5, "flow[0].path[0]")?;
+    }
+    let long = "[[server]]\nname = 'sssssssssssssssssssssssssssssssss'\n";
+    check(&rt, rt.alloc(), &[long], NetKind::M6, "server[0].name")?;
+    let packet = "[[flow]]\nname = 'f1'\npacket = 16777217\n";
+    check(&rt, rt.alloc(), &[packet], NetKind::M6, "flow[0].packet")
 }
 
 /// A flow over the server of one file, but for the entries of its path.
