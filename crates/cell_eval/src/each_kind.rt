@@ -26,6 +26,7 @@ use std::sync::ledger::Ledger;
 use steps::Steps;
 use upp_curve::OpFault;
 
+// The value of a cell by its kind: each call makes the one that its name says.
 fn by_kind<T: Table<Value>, L: Ledger>(
     alloc: Global,
     cell: Cell,
@@ -74,6 +75,7 @@ pub fn eval<T: Table<Value>, L: Ledger>(
     ensures rises { steps.old ≤ steps.new }
     ensures within { steps.new ≤ steps.old + work net.now cell }
 {
+    // What an accepted network keeps is in the contract of this call.
     let _flows = net.flows();
     by_kind(alloc, cell, net, table, steps)
 }

@@ -18,8 +18,8 @@ use steps::Steps;
 
 /// The values of all cells of a network, by the order of its servers; each is made once, after those that it is made
 /// of. Refused for the first cell with an operator over a limit, and then the fault names it and which limit that is,
-/// or where there is no memory. Each operator on curves that is applied raises `steps` by 1: on success by the work of all
-/// cells, and by no more than that where it is refused.
+/// or where there is no memory. Each operator on curves that is applied raises `steps` by 1: on success by the work of
+/// all cells, and by no more than that where it is refused.
 pub fn analyse<L: Ledger>(
     alloc: Global,
     net: &Network,
