@@ -12,11 +12,12 @@ use Rattle.curve_making.specs.Calls.{Applies, Then, goes_on, stops}
 use Rattle.closure_elements.specs.ElementAnswers.{IsElementClosure}
 use Rattle.closure_elements.specs.Lattices.{lattice_curve, origin_curve}
 use Rattle.closure_fold.specs.declared.part.Copies.{Copies}
+use Rattle.closure_fold.specs.declared.part.Part.{Part}
 use Rattle.closure_fold.specs.CurveParts.{copies_of, part_of}
 use Rattle.closure_fold.specs.Folds.{segment_number, SegmentWithin, SegmentCause}
 use Rattle.closure_fold.specs.Folds.{ElementAnswer, CopiedAnswer, LoweredAnswer, PartAnswer}
 use Rattle.subadd_closure.specs.Stars.{OrWants, answers, wants, StarOf, MakesStar}
-use Rattle.subadd_closure.specs.PartStars.{turn_of, StarsAnswerParts}
+use Rattle.subadd_closure.specs.PartStars.{turn_of}
 
 within_wants : (f : SpecCurve) (o : Option ℕ) → SegmentWithin f o → SegmentCause f o NoMemory
 within_wants f None h = tt
@@ -57,7 +58,9 @@ module _ (f : SpecCurve) (e : Element) (within : SegmentWithin f (segment_number
   made_part o r (answers a) = by_copies o a.0 r a.1 a.2
   made_part o r (wants is) = no_closure o r is
 
-pub stars_answer_parts : StarsAnswerParts
+-- where the operator of its segment is over no limit, what is answered for a part's star is what the fold answers
+stars_answer_parts : (f : SpecCurve) (p : Part) (r : Result SpecCurve OpFault) → SegmentWithin f (segment_number p.element)
+    → MakesStar (turn_of p.copies) p.element r → PartAnswer f p r
 stars_answer_parts f p r within h = made_part f p.element within p.copies r h
 
 -- of an element in other words

@@ -14,24 +14,24 @@ use Rattle.closure_elements.specs.ElementAnswers.{IsOpenPart}
 use Rattle.closure_elements.proofs.MeetNumbers.{stretches_meet}
 
 -- ---- 1 between 2 and 3
-abbrev pub level_line : Line
-level_line = record { icept = int (pos 1); slope = int (pos 0) }
+abbrev pub constant_line : Line
+constant_line = record { icept = int (pos 1); slope = int (pos 0) }
 
 lengths : whole_part (int (pos 2) /ℚ (int (pos 3) -ℚ int (pos 2))) ≡ 2
 unfolding whole_part ◌+ℚ◌ ◌-ℚ◌ ◌*ℚ◌ ◌/ℚ◌ neg_ℚ inv_ℚ frac gcd gcd_steps
 lengths = refl
 
-pub level_part : IsOpenPart (int (pos 2)) (Fin (int (pos 3))) level_line 2
-level_part = record {
+pub constant_part : IsOpenPart (int (pos 2)) (Fin (int (pos 3))) constant_line 2
+constant_part = record {
   stretch = subst (IsStretch (int (pos 2)) (Fin (int (pos 3)))) lengths
       (stretches_meet.ended (int (pos 2)) (int (pos 3)) (with1 zero_q (λ o. omega (arith, o.le, o.lt, o.same)))
       (with1 zero_q (λ o. omega (arith, o.le, o.lt, o.same))));
   late = inl (with1 zero_q (λ o. omega (arith, o.le, o.lt, o.same)));
 }
 
-pub level_reads : LineFitsAt (int (pos 2)) (Some level_line)
+pub constant_reads : LineFitsAt (int (pos 2)) (Some constant_line)
 unfolding ◌*ℚ◌ frac gcd gcd_steps
-level_reads = record {
+constant_reads = record {
   product = record { top = omega arith; bottom = omega arith };
   sum = record { left = omega arith; right = omega arith; sum = omega arith; bottom = omega arith };
 }

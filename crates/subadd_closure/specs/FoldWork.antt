@@ -19,4 +19,4 @@ abbrev pub parts_work : List Part → ℕ
 parts_work ps = sum_by part_work ps + (length ps - 1)
 
 abbrev pub fold_work : SpecCurve → ℕ
-fold_work f = sum_by part_work (parts_of f) + (length (parts_of f) - 1)
+fold_work f = parts_work (parts_of f)

@@ -1,19 +1,15 @@
 -- The calls that make the star of an element of a curve: its closure, in a periodic tail with all copies, lowered by
 -- the point 0 at 0. Own choice.
-use Rattle.std.specs.Prelude.{◌≡◌, ℕ, Option, Some, None, Result, Ok, Err}
+use Rattle.std.specs.Prelude.{◌≡◌, ℕ, Option, Some, None, Result, Err}
 use Rattle.rational.specs.Rational.{ℚ, ◌/ℚ◌, ◌<ℚ◌}
 use Rattle.rational.specs.Ratio.{IsSmall}
-use Rattle.rational.specs.Extended.{Ext}
 use Rattle.affine_segment.specs.declared.element.Element.{Element}
-use Rattle.affine_segment.specs.Elements.{element_value}
 use Rattle.upp_curve.specs.declared.op_kind.OpKind.TheVariants.{Min, Convolve}
 use Rattle.upp_curve.specs.declared.op_kind.OpFault.{OpFault}
 use Rattle.upp_curve.specs.declared.op_kind.OpFault.TheVariants.{NoMemory}
-use Rattle.upp_curve.specs.Curve.{SpecCurve, value_at}
+use Rattle.upp_curve.specs.Curve.{SpecCurve}
 use Rattle.upp_curve.specs.Functions.{zero_q}
 use Rattle.curve_making.specs.Calls.{Applies, Then}
-use Rattle.closure_laws.specs.Star.{AreStars}
-use Rattle.closure_laws.specs.ClosureLaws.{HasCopies}
 use Rattle.closure_elements.specs.ElementAnswers.{IsElementClosure}
 use Rattle.closure_elements.specs.Lattices.{lattice_curve, origin_curve}
 
@@ -48,13 +44,3 @@ IsTurn (Some p) = (zero_q <ℚ p.0) × IsSmall (p.1 /ℚ p.0)
 abbrev pub turn_work : Option (ℚ × ℚ) → ℕ
 turn_work None = 1
 turn_work (Some p) = 2
-
--- h is the element, with all its copies
-abbrev pub IsSpread : Option (ℚ × ℚ) → Element → (ℚ → Ext) → Type 0
-IsSpread None e h = (t : ℚ) → h t ≡ element_value e t
-IsSpread (Some p) e h = HasCopies (element_value e) p.0 p.1 h
-
--- what the calls make is the star of the element with all its copies
-abbrev pub StarsAreMade : Type 0
-StarsAreMade = (p : Option (ℚ × ℚ)) (e : Element) (s : SpecCurve) (h : ℚ → Ext) → IsTurn p → MakesStar p e (Ok s)
-    → IsSpread p e h → AreStars h (value_at s)

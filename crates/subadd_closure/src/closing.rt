@@ -129,6 +129,7 @@ pub fn close<L: Ledger>(alloc: Global, f: &Curve, steps: &mut Steps<L>) -> Resul
     ensures within { steps.new ≤ steps.old + fold_work f.now }
     ensures exact { IfOk result (λ _. steps.new ≡ steps.old + fold_work f.now) }
 {
+    // Its type keeps that f is a curve.
     let _tail = f.tail();
     let es = elements(alloc, f)?;
     closed(alloc, f, &es, steps)

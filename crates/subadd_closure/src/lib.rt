@@ -14,6 +14,4 @@ mod subadditive;
 mod tests;
 
 pub use closing::close;
-pub use part_stars::stars_answer_parts;
-pub use stars::{point_star, segment_star, stars_are_made};
 pub use subadditive::is_subadditive;

@@ -74,6 +74,7 @@ pub(crate) fn overlap(
     ensures within { IfOk result (IsOverlap f.now a b line.now) }
     ensures over { IfErr result (SegmentCause f.now (segment_number (Open a b line.now))) }
 {
+    // Its type keeps that f is a curve.
     let _tail = f.tail();
     let Extended::Fin(end) = b else {
         return Ok(0);

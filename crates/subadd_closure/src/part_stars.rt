@@ -6,7 +6,7 @@ ghost use Rattle.upp_curve.specs.Functions.{IsFinite, IsNonnegative};
 ghost use Rattle.closure_fold.specs.CurveParts.{part_of};
 ghost use Rattle.closure_fold.specs.Folds.{PartAnswer};
 ghost use Rattle.subadd_closure.specs.FoldWork.{part_work};
-ghost use Rattle.subadd_closure.specs.PartStars.{turn_of, StarsAnswerParts};
+ghost use Rattle.subadd_closure.specs.PartStars.{turn_of};
 ghost use Rattle.subadd_closure.specs.SegmentLimits.{IsElementOf, IsOwnGauge};
 
 use crate::overlaps::overlap;
@@ -57,9 +57,3 @@ pub(crate) fn element_star<L: Ledger>(
         }
     }
 }
-
-/// Where the operator of its segment is over no limit, what is answered for the star of a part's element is what the
-/// fold answers for the part.
-pub fn stars_answer_parts()
-    ensures { StarsAnswerParts }
-{}

@@ -18,7 +18,7 @@ fn half(n: i128) -> Frac {
 }
 
 // The closure of the value 1 between 2 and 3.
-fn level(alloc: Global) -> Result<Curve, OpFault> {
+fn constant(alloc: Global) -> Result<Curve, OpFault> {
     let line = Line {
         icept: Frac::one(),
         slope: Frac::zero(),
@@ -50,7 +50,7 @@ pub(crate) fn value(c: &Curve, t: Frac) -> Option<Frac> {
 // Where n values lie between 2 n and 3 n, the fewest of them; from 6 on there are such n for each time but 6.
 #[test]
 fn values_on_a_stretch_are_as_few_as_can_be(rt: HostRuntime) -> Result<(), Fail> {
-    let c = level(rt.alloc())?;
+    let c = constant(rt.alloc())?;
     for (t, v) in [(5, 2), (10, 4), (14, 6), (17, 6), (18, 8), (200, 68)] {
         assert!(rt; value(&c, half(t)) == Some(half(v)), "at {t}");
     }

@@ -8,7 +8,7 @@ ghost use Rattle.affine_segment.specs.declared.element.Element.TheVariants.{Poin
 ghost use Rattle.upp_curve.specs.Functions.{zero_q};
 ghost use Rattle.upp_curve.specs.Readable.{LineFitsAt};
 ghost use Rattle.closure_elements.specs.ElementAnswers.{IsOpenPart};
-ghost use Rattle.subadd_closure.specs.Stars.{Copies, IsTurn, Lowers, MakesStar, StarOf, StarsAreMade, turn_work};
+ghost use Rattle.subadd_closure.specs.Stars.{Copies, IsTurn, Lowers, MakesStar, StarOf, turn_work};
 
 use affine_segment::Line;
 use closure_elements::{lattice, origin, point_closure, segment_closure};
@@ -74,7 +74,7 @@ fn star_of<L: Ledger>(
 /// The star of a point: its closure, in a periodic tail (with the period and the rise `turn`) with all its copies,
 /// lowered by the point 0 at 0. One operator, with copies two, one step each; a refusal is that of the first that is
 /// over its limit, with TooWide or TooMany, or want of memory.
-pub fn point_star<L: Ledger>(
+pub(crate) fn point_star<L: Ledger>(
     alloc: Global,
     x: Frac,
     v: Frac,
@@ -94,7 +94,7 @@ pub fn point_star<L: Ledger>(
 }
 
 /// The star of a line on an open stretch, as `point_star`; `m` as of `segment_closure`.
-pub fn segment_star<L: Ledger>(
+pub(crate) fn segment_star<L: Ledger>(
     alloc: Global,
     a: Frac,
     b: Ext,
@@ -115,8 +115,3 @@ pub fn segment_star<L: Ledger>(
     let c = segment_closure(alloc, a, b, line, m)?;
     star_of(alloc, &c, turn, steps)
 }
-
-/// What the calls make is the star of the element with all its copies.
-pub fn stars_are_made()
-    ensures { StarsAreMade }
-{}
