@@ -8,7 +8,7 @@ use Rattle.upp_curve.specs.declared.op_kind.OpFault.{OpFault}
 use Rattle.upp_curve.specs.declared.op_kind.OpFault.TheVariants.{NoMemory}
 use Rattle.upp_curve.specs.Curve.{SpecCurve, value_at}
 use Rattle.upp_curve.specs.declared.op_kind.OpKind.TheVariants.{PosMinus, Deconvolve, Vertical}
-use Rattle.upp_curve.specs.Functions.{IsFinite}
+use Rattle.min_plus.specs.Functions.{IsFinite}
 use Rattle.upp_curve.specs.Outcome.{KeepsLimits}
 use Rattle.curve_making.specs.Again.{IsAgain}
 use Rattle.curve_making.specs.Calls.{Applies, AppliesTo, Then, goes_on, stops}
@@ -17,7 +17,7 @@ use Rattle.priority_residual.proofs.PriorityCalls.{above_finite}
 use Rattle.drr_residual.specs.Calls.{MakesDrr}
 use Rattle.net_cells.specs.declared.cell.Cell.{Cell}
 use Rattle.net_cells.specs.Meanings.{curve, number, CellTable}
-use Rattle.upp_curve.specs.Deviations.{IsVerticalDeviation}
+use Rattle.min_plus.specs.Deviations.{IsVerticalDeviation}
 use Rattle.run_laws.specs.Cards.{whole}
 use Rattle.net_cells.specs.Formulas.{value_of, made, vertical}
 use Rattle.net_cells.specs.CellFormulas.{less}

@@ -11,8 +11,8 @@ use Rattle.rational.proofs.Linear.{with3}
 use Rattle.rational.proofs.MinMax.{max_q_mono}
 use Rattle.upp_curve.specs.declared.op_kind.OpKind.TheVariants.{Sum, Min, Shift, Deconvolve}
 use Rattle.upp_curve.specs.Curve.{SpecCurve, value_at}
-use Rattle.upp_curve.specs.Functions.{zero_q, UpTo, FiniteTime, IsRising}
-use Rattle.upp_curve.specs.Pointwise.{excess, shifted}
+use Rattle.min_plus.specs.Functions.{zero_q, UpTo, FiniteTime, IsRising}
+use Rattle.min_plus.specs.Pointwise.{excess, shifted}
 use Rattle.run_laws.specs.Cards.{whole}
 use Rattle.run_laws.proofs.Sizes.{whole_nonneg}
 use Rattle.curve_making.specs.Answers.{IsMadeBy}

@@ -13,9 +13,9 @@ use Rattle.rational.proofs.ExtendedOrder.{min_greatest}
 use Rattle.rational.proofs.Laws.{le_refl}
 use Rattle.upp_curve.specs.declared.op_kind.OpKind.TheVariants.{Sum, Min, PosMinus, Shift, FifoLeft, Convolve, Deconvolve}
 use Rattle.upp_curve.specs.Curve.{value_at}
-use Rattle.upp_curve.specs.Functions.{zero_q}
-use Rattle.upp_curve.specs.Deviations.{IsHorizontalDeviation}
-use Rattle.upp_curve.proofs.DeviationSigns.{horizontals_are_nonnegative}
+use Rattle.min_plus.specs.Functions.{zero_q}
+use Rattle.min_plus.specs.Deviations.{IsHorizontalDeviation}
+use Rattle.min_plus.proofs.DeviationSigns.{horizontals_are_nonnegative}
 use Rattle.run_laws.specs.Cards.{whole}
 use Rattle.run_laws.specs.Servers.{Discipline, Fifo, Priority, Drr, queue_count}
 use Rattle.run_laws.proofs.Sizes.{whole_nonneg}

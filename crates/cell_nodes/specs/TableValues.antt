@@ -2,7 +2,7 @@
 use Rattle.std.specs.Prelude.{◌≡◌, Some}
 use Rattle.rational.specs.Extended.{Ext}
 use Rattle.upp_curve.specs.Curve.{SpecCurve, value_at}
-use Rattle.upp_curve.specs.Deviations.{IsHorizontalDeviation}
+use Rattle.min_plus.specs.Deviations.{IsHorizontalDeviation}
 use Rattle.net_cells.specs.declared.cell.Cell.{Cell}
 use Rattle.net_cells.specs.Meanings.{curve, number, CellTable}
 

@@ -3,7 +3,7 @@
 ghost use Rattle.std.specs.Prelude.{◌≡◌, ◌+◌, ◌≤◌, IfOk};
 ghost use Rattle.upp_curve.specs.declared.op_kind.OpKind.TheVariants.{Min, PosMinus, Deconvolve};
 ghost use Rattle.upp_curve.specs.Curve.{value_at};
-ghost use Rattle.upp_curve.specs.Functions.{IsFinite};
+ghost use Rattle.min_plus.specs.Functions.{IsFinite};
 ghost use Rattle.run_laws.specs.Cards.{whole};
 ghost use Rattle.curve_making.specs.Calls.{AppliesTo};
 ghost use Rattle.net_cells.specs.Meanings.{number};

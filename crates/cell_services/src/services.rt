@@ -3,7 +3,7 @@
 ghost use Rattle.std.specs.Prelude.{◌≡◌, ◌<◌, ◌≤◌, ℕ, length, map};
 ghost use Rattle.std.specs.List.{range_with_len};
 ghost use Rattle.upp_curve.specs.Curve.{value_at};
-ghost use Rattle.upp_curve.specs.Functions.{IsFinite};
+ghost use Rattle.min_plus.specs.Functions.{IsFinite};
 ghost use Rattle.run_laws.specs.Servers.{Priority, Drr};
 ghost use Rattle.net_model.specs.Accepted.{HasFewQueues};
 ghost use Rattle.net_cells.specs.declared.cell.Kind.TheVariants.{Higher};

@@ -12,7 +12,7 @@ use Rattle.rational.proofs.Bounds.{infimum_unique}
 use Rattle.rational.proofs.Whole.{one_more_times, periods_low, periods_high}
 use Rattle.affine_segment.specs.declared.line.Line.{Line}
 use Rattle.affine_segment.specs.Values.{line_at}
-use Rattle.upp_curve.specs.Functions.{zero_q}
+use Rattle.min_plus.specs.Functions.{zero_q}
 use Rattle.upp_curve.specs.Reading.{read, piece_value}
 use Rattle.upp_curve.specs.Curve.{repeated, value_at}
 use Rattle.upp_curve.proofs.Repeats.{repeated_first}

@@ -10,7 +10,7 @@ use Rattle.rational.proofs.Integers.{nat_le, nat_lt}
 use Rattle.rational.proofs.Whole.{one_more_times}
 use Rattle.rational.proofs.ExtendedOrder.{le_ext_trans}
 use Rattle.affine_segment.specs.declared.line.Line.{Line}
-use Rattle.upp_curve.specs.Functions.{zero_q}
+use Rattle.min_plus.specs.Functions.{zero_q}
 use Rattle.upp_curve.specs.Curve.{value_at}
 use Rattle.closure_laws.specs.ElementClosures.{Turn, IsSegmentClosure}
 use Rattle.closure_elements.specs.ElementCurves.{nat_times, falling_closure, stretches}

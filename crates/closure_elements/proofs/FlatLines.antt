@@ -11,7 +11,7 @@ use Rattle.rational.proofs.Laws.{mul_zero, le_or_lt}
 use Rattle.affine_segment.specs.declared.line.Line.{Line}
 use Rattle.affine_segment.specs.declared.line.Piece.{Piece}
 use Rattle.upp_curve.proofs.PieceLoops.{next_piece}
-use Rattle.upp_curve.specs.Functions.{zero_q}
+use Rattle.min_plus.specs.Functions.{zero_q}
 use Rattle.upp_curve.specs.Normal.{Each}
 use Rattle.upp_curve.specs.Readable.{LineFitsAt, LineFitsTo, EachFits, start_after}
 use Rattle.closure_elements.specs.ElementCurves.{nat_times, stretch, stretches, all_stretches}

@@ -17,7 +17,7 @@ use Rattle.affine_segment.specs.Values.{line_value}
 use Rattle.upp_curve.specs.declared.curve.Tail.TheVariants.{Periodic, Infinite}
 use Rattle.upp_curve.specs.Curve.{SpecCurve, value_at, repeated, cut}
 use Rattle.upp_curve.specs.Curves.{IsCurve}
-use Rattle.upp_curve.specs.Functions.{zero_q}
+use Rattle.min_plus.specs.Functions.{zero_q}
 use Rattle.upp_curve.specs.Normal.{IsNormal}
 use Rattle.upp_curve.specs.Readable.{SumFitsAt}
 use Rattle.upp_curve.specs.Reading.{read}

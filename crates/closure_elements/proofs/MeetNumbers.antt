@@ -8,7 +8,7 @@ use Rattle.rational.proofs.Linear.{with2, with3, with5}
 use Rattle.rational.proofs.Laws.{le_trans, lt_le_trans, le_of_lt, mul_le_mul_right, mul_lt_mul_right, mul_add, zero_mul, div_mul, not_zero, le_of_mul}
 use Rattle.rational.proofs.Integers.{nat_le}
 use Rattle.rational.proofs.Whole.{one_more_times, whole_le, whole_gt}
-use Rattle.upp_curve.specs.Functions.{zero_q}
+use Rattle.min_plus.specs.Functions.{zero_q}
 use Rattle.closure_elements.specs.ElementCurves.{nat_times, IsStretch}
 use Rattle.closure_elements.specs.MeetLaws.{StretchesMeet}
 

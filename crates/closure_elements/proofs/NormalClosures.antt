@@ -11,7 +11,7 @@ use Rattle.rational.proofs.ExtendedOrder.{fin_same}
 use Rattle.affine_segment.specs.declared.line.Line.{Line}
 use Rattle.affine_segment.specs.declared.line.Piece.{Piece}
 use Rattle.affine_segment.specs.Values.{line_at, line_value}
-use Rattle.upp_curve.specs.Functions.{zero_q}
+use Rattle.min_plus.specs.Functions.{zero_q}
 use Rattle.upp_curve.specs.Steady.{Repeats, last_line}
 use Rattle.upp_curve.specs.Normal.{Each, HasStart, RisesFrom, StartsAtZero, Continues, NoneContinues, NoMerge, IsNormal}
 use Rattle.upp_curve.proofs.Unique.{lines_at_two}

@@ -13,7 +13,7 @@ use Rattle.rational.proofs.ExtendedOrder.{finite_below}
 use Rattle.affine_segment.specs.declared.line.Line.{Line}
 use Rattle.affine_segment.specs.Values.{line_at}
 use Rattle.upp_curve.specs.declared.curve.Tail.TheVariants.{Periodic}
-use Rattle.upp_curve.specs.Functions.{zero_q}
+use Rattle.min_plus.specs.Functions.{zero_q}
 use Rattle.upp_curve.specs.Curve.{SpecCurve, value_at}
 use Rattle.upp_curve.specs.Steady.{Repeats}
 use Rattle.upp_curve.specs.Normal.{Each, IsNormal}

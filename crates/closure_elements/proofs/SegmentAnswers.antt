@@ -19,13 +19,13 @@ use Rattle.upp_curve.specs.declared.op_kind.OpFault.{OpFault}
 use Rattle.upp_curve.specs.declared.op_kind.OpFault.TheVariants.{TooMany, TooWide, NoMemory}
 use Rattle.upp_curve.specs.Curve.{SpecCurve, value_at, HasSameValues}
 use Rattle.upp_curve.specs.Curves.{IsCurve}
-use Rattle.upp_curve.specs.Functions.{zero_q}
+use Rattle.min_plus.specs.Functions.{zero_q}
 use Rattle.upp_curve.specs.Normal.{Each, IsRaw, IsNormal}
 use Rattle.upp_curve.specs.Steady.{rank_of}
 use Rattle.upp_curve.proofs.Normal.{each_at}
 use Rattle.upp_curve.specs.Readable.{LineFitsAt, EachFits}
 use Rattle.upp_curve.specs.Limits.{Sizes, own_gauge, own_tally}
-use Rattle.upp_curve.specs.Convolution.{IsSubadditiveClosure}
+use Rattle.min_plus.specs.Convolution.{IsSubadditiveClosure}
 use Rattle.closure_laws.proofs.ElementSums.{closure_of_segment}
 use Rattle.closure_laws.specs.ElementClosures.{IsSegmentClosure}
 use Rattle.closure_elements.specs.ElementCurves.{nat_times, opening, line_times, from_zero, turn, stretches, all_stretches, level_closure, rising_closure, falling_closure}

@@ -15,7 +15,7 @@ use Rattle.affine_segment.specs.Values.{line_at, line_value}
 use Rattle.upp_curve.specs.declared.curve.Tail.{Tail}
 use Rattle.upp_curve.specs.declared.curve.Tail.TheVariants.{Periodic, Affine, Infinite}
 use Rattle.upp_curve.specs.Curve.{SpecCurve}
-use Rattle.upp_curve.specs.Functions.{zero_q}
+use Rattle.min_plus.specs.Functions.{zero_q}
 use Rattle.upp_curve.specs.Readable.{LineFitsAt, LineFitsTo, EachFits, start_after}
 use Rattle.upp_curve.specs.Normal.{Each, IsRaw}
 use Rattle.upp_curve.specs.Spans.{spans}

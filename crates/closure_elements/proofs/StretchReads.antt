@@ -7,7 +7,7 @@ use Rattle.rational.specs.declared.Extended.TheVariants.{Fin, Inf}
 use Rattle.rational.proofs.Laws.{le_trans, lt_le_trans, le_refl, le_of_lt, le_or_lt, one_mul}
 use Rattle.affine_segment.specs.declared.line.Line.{Line}
 use Rattle.affine_segment.specs.declared.line.Piece.{Piece}
-use Rattle.upp_curve.specs.Functions.{zero_q}
+use Rattle.min_plus.specs.Functions.{zero_q}
 use Rattle.upp_curve.specs.Reading.{read}
 use Rattle.closure_laws.specs.ElementClosures.{Turn, IsSegmentClosure}
 use Rattle.closure_elements.specs.ElementCurves.{nat_times, gap, stretch, line_times, stretches, all_stretches}

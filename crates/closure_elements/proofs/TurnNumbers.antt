@@ -10,7 +10,7 @@ use Rattle.rational.proofs.Bounds.{least_member, all_infinite}
 use Rattle.rational.proofs.Linear.{with1, with3, with4}
 use Rattle.affine_segment.specs.declared.line.Line.{Line}
 use Rattle.affine_segment.specs.Values.{line_at}
-use Rattle.upp_curve.specs.Functions.{zero_q}
+use Rattle.min_plus.specs.Functions.{zero_q}
 use Rattle.closure_laws.specs.ElementClosures.{Turn, IsSegmentClosure}
 use Rattle.closure_elements.specs.ElementCurves.{nat_times, line_times, ext_times}
 

@@ -10,7 +10,7 @@ use Rattle.rational.proofs.Whole.{one_more_times}
 use Rattle.affine_segment.specs.declared.line.Line.{Line}
 use Rattle.affine_segment.specs.declared.line.Piece.{Piece}
 use Rattle.affine_segment.specs.Values.{line_at}
-use Rattle.upp_curve.specs.Functions.{zero_q}
+use Rattle.min_plus.specs.Functions.{zero_q}
 use Rattle.upp_curve.specs.Normal.{Each}
 use Rattle.closure_elements.specs.ElementCurves.{nat_times, line_times, gap, stretch, turn, after_gap, from_zero, stretches, all_stretches}
 use Rattle.closure_elements.specs.PieceFits.{PieceFits}

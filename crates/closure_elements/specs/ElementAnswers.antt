@@ -8,9 +8,9 @@ use Rattle.affine_segment.specs.Elements.{element_value}
 use Rattle.upp_curve.specs.declared.op_kind.OpFault.{OpFault}
 use Rattle.upp_curve.specs.declared.op_kind.OpFault.TheVariants.{TooMany, TooWide, NoMemory}
 use Rattle.upp_curve.specs.Curve.{SpecCurve, value_at}
-use Rattle.upp_curve.specs.Functions.{zero_q}
+use Rattle.min_plus.specs.Functions.{zero_q}
 use Rattle.upp_curve.specs.Normal.{IsNormal}
-use Rattle.upp_curve.specs.Convolution.{IsSubadditiveClosure}
+use Rattle.min_plus.specs.Convolution.{IsSubadditiveClosure}
 use Rattle.closure_elements.specs.Heavy.{IsHeavy}
 use Rattle.closure_elements.specs.ElementCurves.{IsStretch}
 

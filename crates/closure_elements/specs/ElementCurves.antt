@@ -9,7 +9,7 @@ use Rattle.affine_segment.specs.declared.line.Piece.{Piece}
 use Rattle.affine_segment.specs.Values.{line_at}
 use Rattle.upp_curve.specs.declared.curve.Tail.TheVariants.{Periodic, Affine, Infinite}
 use Rattle.upp_curve.specs.Curve.{SpecCurve}
-use Rattle.upp_curve.specs.Functions.{zero_q}
+use Rattle.min_plus.specs.Functions.{zero_q}
 
 -- ---- pieces
 abbrev pub nat_times : ℕ → ℚ → ℚ

@@ -2,7 +2,7 @@
 use Rattle.rational.specs.Rational.{ℚ, ◌-ℚ◌, ◌/ℚ◌, ◌≤ℚ◌, ◌<ℚ◌}
 use Rattle.rational.specs.Whole.{whole_part}
 use Rattle.rational.specs.declared.Extended.TheVariants.{Fin, Inf}
-use Rattle.upp_curve.specs.Functions.{zero_q}
+use Rattle.min_plus.specs.Functions.{zero_q}
 use Rattle.closure_elements.specs.ElementCurves.{IsStretch}
 
 -- as many as the length of a stretch goes whole times into its start; without an end there is none

@@ -3,7 +3,7 @@
 ghost use Rattle.std.specs.Prelude.{◌≡◌, IfOk};
 ghost use Rattle.rational.specs.Rational.{◌<ℚ◌, ◌/ℚ◌};
 ghost use Rattle.rational.specs.Ratio.{IsSmall};
-ghost use Rattle.upp_curve.specs.Functions.{zero_q};
+ghost use Rattle.min_plus.specs.Functions.{zero_q};
 ghost use Rattle.closure_elements.specs.Lattices.{lattice_curve, origin_curve};
 
 use affine_segment::Piece;

@@ -2,7 +2,7 @@
 
 ghost use Rattle.rational.specs.Rational.{◌≤ℚ◌, ◌<ℚ◌};
 ghost use Rattle.affine_segment.specs.declared.element.Element.TheVariants.{Point};
-ghost use Rattle.upp_curve.specs.Functions.{zero_q};
+ghost use Rattle.min_plus.specs.Functions.{zero_q};
 ghost use Rattle.closure_elements.specs.ElementCurves.{point_closure, point_at_zero};
 ghost use Rattle.closure_elements.specs.ElementAnswers.{ClosureAnswer};
 ghost use Rattle.closure_elements.specs.PieceFits.{IsMade};

@@ -4,7 +4,7 @@ ghost use Rattle.std.specs.Prelude.{◌≡◌, ◌≤◌, ◌+◌, ◌^◌, ℕ,
 ghost use Rattle.upp_curve.specs.Readable.{LineFitsAt};
 ghost use Rattle.rational.specs.Rational.{◌≤ℚ◌, ◌<ℚ◌};
 ghost use Rattle.affine_segment.specs.declared.element.Element.TheVariants.{Open};
-ghost use Rattle.upp_curve.specs.Functions.{zero_q};
+ghost use Rattle.min_plus.specs.Functions.{zero_q};
 ghost use Rattle.upp_curve.specs.Normal.{IsRaw, IsNormal};
 ghost use Rattle.upp_curve.specs.Normalising.{raw_curve};
 ghost use Rattle.upp_curve.specs.Limits.{own_tally};

@@ -8,9 +8,9 @@ use Rattle.affine_segment.specs.Elements.{element_value}
 use Rattle.upp_curve.specs.declared.op_kind.OpKind.TheVariants.{Min, Convolve}
 use Rattle.upp_curve.specs.declared.op_kind.OpFault.{OpFault}
 use Rattle.upp_curve.specs.Curve.{SpecCurve, value_at}
-use Rattle.upp_curve.specs.Functions.{zero_q, IsFinite, IsNonnegative}
+use Rattle.min_plus.specs.Functions.{zero_q, IsFinite, IsNonnegative}
 use Rattle.upp_curve.specs.Normal.{IsNormal}
-use Rattle.upp_curve.specs.Convolution.{IsSubadditiveClosure}
+use Rattle.min_plus.specs.Convolution.{IsSubadditiveClosure}
 use Rattle.curve_making.specs.Answers.{IsMadeBy}
 use Rattle.curve_making.specs.Calls.{Applies, Then, goes_on, stops}
 use Rattle.closure_laws.specs.Star.{IsStar, AreStars, origin, least_of}

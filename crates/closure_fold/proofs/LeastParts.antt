@@ -19,7 +19,7 @@ use Rattle.upp_curve.specs.declared.curve.Tail.{Tail}
 use Rattle.upp_curve.specs.declared.curve.Tail.TheVariants.{Periodic, Affine, Infinite}
 use Rattle.upp_curve.specs.Curve.{SpecCurve, repeated, cut, with_tail, value_at}
 use Rattle.upp_curve.specs.Reading.{read}
-use Rattle.upp_curve.specs.Functions.{zero_q, IsFinite}
+use Rattle.min_plus.specs.Functions.{zero_q, IsFinite}
 use Rattle.upp_curve.specs.Normal.{HasStart, StartsAtZero, TailFits, IsNormal}
 use Rattle.upp_curve.specs.Steady.{rank_of}
 use Rattle.upp_curve.proofs.Repeats.{repeated_first}

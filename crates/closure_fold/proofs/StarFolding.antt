@@ -6,8 +6,8 @@ use Rattle.rational.specs.Extended.{Ext, ◌≤ₑ◌, min_ext}
 use Rattle.rational.specs.declared.Extended.TheVariants.{Fin, Inf}
 use Rattle.rational.proofs.Laws.{le_or_lt, le_refl, le_of_lt, antisym}
 use Rattle.rational.proofs.ExtendedOrder.{min_ext_comm, min_ext_assoc}
-use Rattle.upp_curve.specs.Functions.{zero_q, IsNonnegative}
-use Rattle.upp_curve.specs.Convolution.{IsConvolution, IsSubadditiveClosure}
+use Rattle.min_plus.specs.Functions.{zero_q, IsNonnegative}
+use Rattle.min_plus.specs.Convolution.{IsConvolution, IsSubadditiveClosure}
 use Rattle.closure_laws.specs.Star.{IsStar, AreStars, lesser, least_of}
 use Rattle.closure_laws.proofs.StarSums.{star_of_lesser, stars_of_values, closure_of_star}
 use Rattle.closure_fold.specs.StarFolds.{AreFolded, EachStar, StarOfLeast, IsSetBack, ClosureOfSetBack}

@@ -15,7 +15,7 @@ use Rattle.upp_curve.specs.declared.curve.Tail.TheVariants.{Periodic, Affine, In
 use Rattle.upp_curve.specs.Curve.{SpecCurve, value_at, with_tail}
 use Rattle.upp_curve.specs.Curves.{IsCurve}
 use Rattle.upp_curve.specs.Reading.{read}
-use Rattle.upp_curve.specs.Functions.{zero_q}
+use Rattle.min_plus.specs.Functions.{zero_q}
 use Rattle.upp_curve.specs.Steady.{Repeats, rank_of}
 use Rattle.upp_curve.specs.Normal.{Each, RisesFrom, StartsAtZero, TailFits, TailNormal, IsLeastPeriodic, IsNormal}
 use Rattle.upp_curve.specs.Readable.{PeriodFits, SumFitsAt, TailReadable}

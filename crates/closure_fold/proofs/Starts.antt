@@ -16,7 +16,7 @@ use Rattle.upp_curve.specs.declared.curve.Tail.TheVariants.{Periodic, Affine, In
 use Rattle.upp_curve.specs.Curve.{SpecCurve, value_at, with_tail, repeated}
 use Rattle.upp_curve.specs.Curves.{IsCurve}
 use Rattle.upp_curve.specs.Reading.{read, piece_value}
-use Rattle.upp_curve.specs.Functions.{zero_q}
+use Rattle.min_plus.specs.Functions.{zero_q}
 use Rattle.upp_curve.specs.Steady.{Repeats, rank_of, last_line, last_of}
 use Rattle.upp_curve.specs.Normal.{Each, HasStart, RisesFrom, StartsAtZero, TailFits, NoMerge, TailNormal, IsLeastPeriodic, IsNormal}
 use Rattle.upp_curve.specs.Readable.{EachFits, PeriodFits, SumFitsAt, TailReadable, IsReadable}

@@ -2,9 +2,9 @@
 use Rattle.std.specs.Prelude.{Ok}
 use Rattle.rational.specs.Rational.{ℚ, ◌≤ℚ◌}
 use Rattle.upp_curve.specs.Curve.{SpecCurve, value_at}
-use Rattle.upp_curve.specs.Functions.{zero_q, IsFinite, IsNonnegative}
+use Rattle.min_plus.specs.Functions.{zero_q, IsFinite, IsNonnegative}
 use Rattle.upp_curve.specs.Normal.{IsNormal}
-use Rattle.upp_curve.specs.Convolution.{IsSubadditiveClosure}
+use Rattle.min_plus.specs.Convolution.{IsSubadditiveClosure}
 use Rattle.curve_making.specs.Determined.{IsDetermined}
 use Rattle.closure_laws.specs.Star.{AreStars}
 use Rattle.closure_fold.specs.CurveParts.{part_value}

@@ -13,7 +13,7 @@ use Rattle.upp_curve.specs.declared.op_kind.OpFault.{OpFault}
 use Rattle.upp_curve.specs.declared.op_kind.OpFault.TheVariants.{TooMany, TooWide, NoMemory}
 use Rattle.upp_curve.specs.Curve.{SpecCurve, value_at}
 use Rattle.upp_curve.specs.Curves.{IsCurve}
-use Rattle.upp_curve.specs.Functions.{zero_q}
+use Rattle.min_plus.specs.Functions.{zero_q}
 use Rattle.upp_curve.specs.Limits.{own_gauge}
 use Rattle.curve_making.specs.Calls.{Applies, Then}
 use Rattle.closure_elements.specs.ElementAnswers.{IsElementClosure}

@@ -3,7 +3,7 @@ use Rattle.std.specs.Prelude.{◌≡◌, List, [], ◌∷◌, map, Option, Some,
 use Rattle.rational.specs.Rational.{ℚ, ◌≤ℚ◌, ◌<ℚ◌}
 use Rattle.affine_segment.specs.Elements.{IsProper, start_of, element_value}
 use Rattle.upp_curve.specs.Curve.{SpecCurve, value_at}
-use Rattle.upp_curve.specs.Functions.{zero_q, IsFinite}
+use Rattle.min_plus.specs.Functions.{zero_q, IsFinite}
 use Rattle.upp_curve.specs.Normal.{IsNormal}
 use Rattle.closure_laws.specs.Star.{least_of}
 use Rattle.closure_laws.specs.ClosureLaws.{HasCopies}

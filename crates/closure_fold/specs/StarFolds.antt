@@ -2,8 +2,8 @@
 use Rattle.std.specs.Prelude.{◌≡◌, List, [], ◌∷◌}
 use Rattle.rational.specs.Rational.{ℚ, ◌≤ℚ◌, ◌<ℚ◌}
 use Rattle.rational.specs.Extended.{Ext}
-use Rattle.upp_curve.specs.Functions.{zero_q, IsNonnegative}
-use Rattle.upp_curve.specs.Convolution.{IsConvolution, IsSubadditiveClosure}
+use Rattle.min_plus.specs.Functions.{zero_q, IsNonnegative}
+use Rattle.min_plus.specs.Convolution.{IsConvolution, IsSubadditiveClosure}
 use Rattle.closure_laws.specs.Star.{AreStars, least_of}
 
 -- G is F, convolved with each of some functions in turn

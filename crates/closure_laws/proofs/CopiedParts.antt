@@ -8,8 +8,8 @@ use Rattle.rational.proofs.Linear.{with1, with6}
 use Rattle.rational.proofs.Laws.{antisym, zero_mul, add_mul, mul_nonneg, le_of_lt}
 use Rattle.rational.proofs.Integers.{nat_nonneg, int_add}
 use Rattle.rational.proofs.ExtendedOrder.{le_ext_trans, le_lt_ext, same_le_ext, add_le_ext, add_zero_ext, finite_sum, le_inf, lt_add_out, lt_add_in, fin_same}
-use Rattle.upp_curve.specs.Functions.{zero_q}
-use Rattle.upp_curve.specs.Convolution.{Split, Parts, AllNonneg, sum_of, sum_at, IsConvolution, IsSubadditiveClosure}
+use Rattle.min_plus.specs.Functions.{zero_q}
+use Rattle.min_plus.specs.Convolution.{Split, Parts, AllNonneg, sum_of, sum_at, IsConvolution, IsSubadditiveClosure}
 use Rattle.closure_laws.specs.ClosureLaws.{IsLattice, IsCopy, HasCopies, ClosureOfCopies}
 use Rattle.closure_laws.proofs.TimeLists.{nonneg_sum, nonneg_total, total_le, sums_crossed}
 

@@ -15,8 +15,8 @@ use Rattle.affine_segment.specs.declared.element.Element.TheVariants.{Point, Ope
 use Rattle.affine_segment.specs.Elements.{Covers, element_value}
 use Rattle.affine_segment.proofs.ElementValues.{value_in, value_cases}
 use Rattle.affine_segment.specs.Cuts.{IsWithin}
-use Rattle.upp_curve.specs.Functions.{zero_q}
-use Rattle.upp_curve.specs.Convolution.{Parts, AllNonneg, sum_of, sum_at}
+use Rattle.min_plus.specs.Functions.{zero_q}
+use Rattle.min_plus.specs.Convolution.{Parts, AllNonneg, sum_of, sum_at}
 use Rattle.closure_laws.specs.ElementClosures.{Multiple, Turn, ClosureOfPoint, ClosureOfSegment}
 
 abbrev pub nat_times : ℕ → ℚ → ℚ

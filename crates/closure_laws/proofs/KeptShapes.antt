@@ -8,8 +8,8 @@ use Rattle.rational.proofs.Linear.{with1, with2}
 use Rattle.rational.proofs.Laws.{antisym, le_refl, le_or_lt, mul_nonneg, mul_le_mul_right, mul_add, mul_zero, one_mul, zero_mul, div_mul, not_zero, le_of_mul}
 use Rattle.rational.proofs.Bounds.{greatest, infimum_le}
 use Rattle.rational.proofs.ExtendedOrder.{le_ext_refl, le_ext_trans, same_le_ext, add_le_ext, add_zero_ext, finite_below, zero_add_ext}
-use Rattle.upp_curve.specs.Functions.{zero_q, IsFinite, IsRising, IsNonnegative}
-use Rattle.upp_curve.specs.Convolution.{Parts, AllNonneg, sum_of, sum_at, IsSubadditiveClosure}
+use Rattle.min_plus.specs.Functions.{zero_q, IsFinite, IsRising, IsNonnegative}
+use Rattle.min_plus.specs.Convolution.{Parts, AllNonneg, sum_of, sum_at, IsSubadditiveClosure}
 use Rattle.closure_laws.specs.ClosureLaws.{ClosuresKeep}
 
 -- the time t alone

@@ -11,8 +11,8 @@ use Rattle.rational.proofs.MinMax.{le_q_not}
 use Rattle.rational.proofs.Laws.{le_or_lt}
 use Rattle.rational.proofs.Bounds.{infimum_sum}
 use Rattle.rational.proofs.ExtendedOrder.{le_ext_trans, le_lt_ext, same_le_ext, add_le_ext, add_ext_assoc, add_zero_ext, min_left, min_right, min_one, min_ext_assoc}
-use Rattle.upp_curve.specs.Functions.{zero_q}
-use Rattle.upp_curve.specs.Convolution.{Split, Parts, AllNonneg, sum_of, sum_at, IsSubadditiveClosure}
+use Rattle.min_plus.specs.Functions.{zero_q}
+use Rattle.min_plus.specs.Convolution.{Split, Parts, AllNonneg, sum_of, sum_at, IsSubadditiveClosure}
 use Rattle.closure_laws.specs.Star.{Times, IsStar, origin, lesser, least_of}
 use Rattle.closure_laws.specs.ClosureLaws.{StarOfLesser, StarOfClosure, ClosureOfStar, StarsAreOfValues}
 use Rattle.closure_laws.proofs.TimeLists.{nonneg_total, append_sum, append_at, append_nonneg, total_le, second_first, zero_parts, zero_total}

@@ -7,8 +7,8 @@ use Rattle.rational.specs.declared.Extended.TheVariants.{Fin}
 use Rattle.rational.proofs.Linear.{with1, with2, with4}
 use Rattle.rational.proofs.Laws.{antisym}
 use Rattle.rational.proofs.ExtendedOrder.{le_ext_refl, le_ext_trans, same_le_ext, add_le_ext, add_ext_assoc, add_ext_comm, zero_add_ext}
-use Rattle.upp_curve.specs.Functions.{zero_q}
-use Rattle.upp_curve.specs.Convolution.{AllNonneg, sum_of, sum_at}
+use Rattle.min_plus.specs.Functions.{zero_q}
+use Rattle.min_plus.specs.Convolution.{AllNonneg, sum_of, sum_at}
 
 pub nonneg_sum : (x y : ℚ) → zero_q ≤ℚ x → zero_q ≤ℚ y → zero_q ≤ℚ x +ℚ y
 nonneg_sum x y h k = with2 x y (λ c. omega (arith, c.le, c.lt, c.same))

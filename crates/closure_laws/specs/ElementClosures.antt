@@ -8,8 +8,8 @@ use Rattle.rational.specs.declared.Extended.TheVariants.{Fin}
 use Rattle.affine_segment.specs.declared.line.Line.{Line}
 use Rattle.affine_segment.specs.declared.element.Element.TheVariants.{Point, Open}
 use Rattle.affine_segment.specs.Elements.{element_value}
-use Rattle.upp_curve.specs.Functions.{zero_q}
-use Rattle.upp_curve.specs.Convolution.{IsSubadditiveClosure}
+use Rattle.min_plus.specs.Functions.{zero_q}
+use Rattle.min_plus.specs.Convolution.{IsSubadditiveClosure}
 
 -- a whole number n from 1 on such that t is n times the time a
 pub record Multiple (a t : ℚ) : Type 0 where

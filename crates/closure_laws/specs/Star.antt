@@ -5,8 +5,8 @@ use Rattle.rational.specs.Rational.{ℚ, ◌≤ℚ◌, le_q}
 use Rattle.rational.specs.Extended.{Ext, min_ext}
 use Rattle.rational.specs.Bounds.{IsInfimum}
 use Rattle.rational.specs.declared.Extended.TheVariants.{Fin, Inf}
-use Rattle.upp_curve.specs.Functions.{zero_q}
-use Rattle.upp_curve.specs.Convolution.{AllNonneg, sum_of, sum_at}
+use Rattle.min_plus.specs.Functions.{zero_q}
+use Rattle.min_plus.specs.Convolution.{AllNonneg, sum_of, sum_at}
 
 -- times from 0 on, none too, whose sum is t
 pub record Times (t : ℚ) : Type 0 where

@@ -13,11 +13,11 @@ use Rattle.rational.proofs.Laws.{le_refl, le_of_lt, le_trans}
 use Rattle.rational.proofs.Linear.{with2, with3}
 use Rattle.affine_segment.specs.declared.line.Piece.{Piece}
 use Rattle.upp_curve.specs.declared.op_kind.OpKind.TheVariants.{Convolve}
-use Rattle.upp_curve.specs.Convolution.{IsConvolution, Split}
+use Rattle.min_plus.specs.Convolution.{IsConvolution, Split}
 use Rattle.upp_curve.specs.Curve.{SpecCurve, value_at, repeated}
 use Rattle.upp_curve.specs.Curves.{IsCurve}
 use Rattle.upp_curve.specs.Fitting.{ReadFits}
-use Rattle.upp_curve.specs.Functions.{zero_q, IsNonnegative}
+use Rattle.min_plus.specs.Functions.{zero_q, IsNonnegative}
 use Rattle.upp_curve.specs.Limits.{Sizes}
 use Rattle.upp_curve.specs.Normal.{StartsAtZero, IsNormal}
 use Rattle.upp_curve.specs.Normalising.{HasValues}

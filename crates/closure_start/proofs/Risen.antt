@@ -10,8 +10,8 @@ use Rattle.rational.proofs.Laws.{le_or_lt, le_refl, le_lt_trans, lt_irrefl, abov
 use Rattle.rational.proofs.Laws.{mul_lt_mul_right, mul_neg, mul_nonneg}
 use Rattle.rational.proofs.Bounds.{greatest}
 use Rattle.rational.proofs.ExtendedOrder.{add_le_ext, add_zero_ext, fin_same}
-use Rattle.upp_curve.specs.Convolution.{IsConvolution, Split}
-use Rattle.upp_curve.specs.Functions.{zero_q, IsNonnegative}
+use Rattle.min_plus.specs.Convolution.{IsConvolution, Split}
+use Rattle.min_plus.specs.Functions.{zero_q, IsNonnegative}
 use Rattle.upp_curve.specs.Steady.{Repeats}
 use Rattle.upp_curve.proofs.Repeats.{repeats_times}
 

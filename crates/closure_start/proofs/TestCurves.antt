@@ -7,9 +7,9 @@ use Rattle.rational.specs.declared.Extended.TheVariants.{Fin, Inf}
 use Rattle.rational.proofs.ExtendedOrder.{le_ext_trans, finite_below}
 use Rattle.rational.proofs.Laws.{le_refl, le_of_lt}
 use Rattle.rational.proofs.Linear.{with1}
-use Rattle.upp_curve.specs.Convolution.{Split}
-use Rattle.upp_curve.specs.Functions.{zero_q, IsFinite, IsNonnegative, IsRising}
-use Rattle.upp_curve.proofs.FiniteValues.{no_inf}
+use Rattle.min_plus.specs.Convolution.{Split}
+use Rattle.min_plus.specs.Functions.{zero_q, IsFinite, IsNonnegative, IsRising}
+use Rattle.min_plus.proofs.FiniteValues.{no_inf}
 use Rattle.closure_start.specs.StartsAt.{ConvolvesFinitely}
 
 pub rising_nonneg : (f : ℚ → Ext) (v : ℚ) → IsRising f → f zero_q ≡ Fin v → zero_q ≤ℚ v → IsNonnegative f

@@ -5,10 +5,10 @@ use Rattle.rational.specs.Extended.{Ext}
 use Rattle.rational.specs.declared.Extended.TheVariants.{Fin, Inf}
 use Rattle.upp_curve.specs.declared.op_kind.OpFault.{OpFault}
 use Rattle.upp_curve.specs.declared.op_kind.OpFault.TheVariants.{NoMemory}
-use Rattle.upp_curve.specs.Convolution.{IsConvolution}
+use Rattle.min_plus.specs.Convolution.{IsConvolution}
 use Rattle.upp_curve.specs.Curve.{SpecCurve, value_at}
 use Rattle.upp_curve.specs.Curves.{IsCurve}
-use Rattle.upp_curve.specs.Functions.{zero_q}
+use Rattle.min_plus.specs.Functions.{zero_q}
 
 -- past 0 the convolution of f and g is finite
 abbrev pub ConvolvesFinitely : (ℚ → Ext) → (ℚ → Ext) → Type 0

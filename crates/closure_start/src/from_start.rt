@@ -3,7 +3,7 @@
 ghost use Rattle.std.specs.Prelude.{◌≡◌, ◌+◌, IfOk, IsTrue};
 ghost use Rattle.rational.specs.Rational.{◌≤ℚ◌};
 ghost use Rattle.upp_curve.specs.Curve.{value_at};
-ghost use Rattle.upp_curve.specs.Functions.{IsNonnegative, zero_q};
+ghost use Rattle.min_plus.specs.Functions.{IsNonnegative, zero_q};
 ghost use Rattle.upp_curve.specs.declared.op_kind.OpKind.TheVariants.{Convolve};
 ghost use Rattle.curve_convolution.specs.ConvolveCall.{IsConvolveFrame};
 ghost use Rattle.curve_making.specs.Calls.{Applies, Then};

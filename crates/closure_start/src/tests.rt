@@ -2,7 +2,7 @@
 
 ghost use Rattle.std.specs.Prelude.{◌≡◌, ◌<◌, IsTrue};
 ghost use Rattle.upp_curve.specs.Curve.{value_at};
-ghost use Rattle.upp_curve.specs.Functions.{IsFinite, IsNonnegative};
+ghost use Rattle.min_plus.specs.Functions.{IsFinite, IsNonnegative};
 
 use crate::convolve_from;
 use affine_segment::{Line, Piece};

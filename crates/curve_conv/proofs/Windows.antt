@@ -12,7 +12,7 @@ use Rattle.affine_segment.specs.declared.line.Piece.{Piece}
 use Rattle.upp_curve.specs.Curve.{SpecCurve, value_at}
 use Rattle.upp_curve.specs.Normal.{StartsAtZero}
 use Rattle.upp_curve.specs.Reading.{read}
-use Rattle.upp_curve.specs.Convolution.{Split, IsConvolution}
+use Rattle.min_plus.specs.Convolution.{Split, IsConvolution}
 use Rattle.upp_curve.specs.Unrolled.{unroll}
 use Rattle.upp_curve.proofs.Below.{unroll_reads}
 use Rattle.upp_curve.proofs.NormaliseLists.{each_map}

@@ -10,7 +10,7 @@ use Rattle.affine_segment.specs.Elements.{IsProper, level, joined_value, IsConvo
 use Rattle.upp_curve.specs.Curve.{SpecCurve, value_at}
 use Rattle.upp_curve.specs.Normal.{StartsAtZero, IsNormal}
 use Rattle.upp_curve.specs.Reading.{read}
-use Rattle.upp_curve.specs.Convolution.{IsConvolution}
+use Rattle.min_plus.specs.Convolution.{IsConvolution}
 use Rattle.upp_curve.specs.Unrolled.{unroll}
 use Rattle.curve_conv.specs.PieceElements.{elements_of, StartBefore, Among, ElementAt}
 use Rattle.curve_conv.specs.Envelopes.{IsEnvelope, StartLate}

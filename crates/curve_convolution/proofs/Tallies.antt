@@ -15,7 +15,8 @@ use Rattle.upp_curve.specs.declared.op_kind.OpKind.TheVariants.{Convolve}
 use Rattle.upp_curve.specs.Curve.{SpecCurve}
 use Rattle.upp_curve.specs.Curves.{IsCurve}
 use Rattle.upp_curve.specs.Gauges.{tally_over}
-use Rattle.upp_curve.specs.Unrolled.{upto, from, whole_up, copies_below, counted, count}
+use Rattle.upp_curve.specs.Unrolled.{upto, from, copies_below, counted, count}
+use Rattle.min_plus.specs.WholeUp.{whole_up}
 use Rattle.upp_curve.proofs.Rounding.{whole_up_least, whole_up_most}
 use Rattle.upp_curve.proofs.StretchSizes.{some_period}
 

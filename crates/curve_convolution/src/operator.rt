@@ -5,7 +5,7 @@ ghost use Rattle.rational.specs.Rational.{ℚ, int, ◌-ℚ◌, ◌≤ℚ◌, ne
 ghost use Rattle.rational.specs.Ratio.{SumFits};
 ghost use Rattle.rational.specs.Extended.{◌<ₑ◌};
 ghost use Rattle.upp_curve.specs.Curve.{value_at};
-ghost use Rattle.upp_curve.specs.Convolution.{IsConvolution};
+ghost use Rattle.min_plus.specs.Convolution.{IsConvolution};
 ghost use Rattle.upp_curve.specs.Steady.{rate, rise_over};
 ghost use Rattle.upp_curve.specs.Curves.{IsCurve};
 ghost use Rattle.upp_curve.specs.Gauges.{IsTooMany};

@@ -20,8 +20,8 @@ use Rattle.upp_curve.specs.declared.op_kind.OpKind.TheVariants.{Deconvolve}
 use Rattle.upp_curve.specs.Reading.{read}
 use Rattle.upp_curve.specs.Curve.{SpecCurve, repeated, value_at}
 use Rattle.upp_curve.specs.Curves.{IsCurve}
-use Rattle.upp_curve.specs.Convolution.{IsDeconvolution}
-use Rattle.upp_curve.specs.Functions.{IsFinite}
+use Rattle.min_plus.specs.Convolution.{IsDeconvolution}
+use Rattle.min_plus.specs.Functions.{IsFinite}
 use Rattle.upp_curve.specs.Normal.{Each}
 use Rattle.upp_curve.specs.Normalising.{HasValues}
 use Rattle.upp_curve.specs.Unrolled.{unroll}

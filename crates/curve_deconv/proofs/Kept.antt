@@ -18,7 +18,7 @@ use Rattle.affine_segment.specs.Values.{line_at, line_value}
 use Rattle.upp_curve.specs.Reading.{read, piece_in, piece_value}
 use Rattle.upp_curve.specs.Curve.{SpecCurve, value_at}
 use Rattle.upp_curve.specs.Curves.{IsCurve}
-use Rattle.upp_curve.specs.Functions.{zero_q, IsRising, IsNonnegative, FiniteTime}
+use Rattle.min_plus.specs.Functions.{zero_q, IsRising, IsNonnegative, FiniteTime}
 use Rattle.upp_curve.specs.Normal.{Each, StartsAtZero}
 use Rattle.upp_curve.specs.Steady.{steady, rise_over}
 use Rattle.upp_curve.specs.Periods.{common_period, both_steady}

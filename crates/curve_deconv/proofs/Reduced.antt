@@ -13,9 +13,9 @@ use Rattle.rational.proofs.Quotients.{times_above}
 use Rattle.rational.proofs.Whole.{periods_low, periods_high}
 use Rattle.rational.proofs.ExtendedOrder.{same_le_ext, fin_same}
 use Rattle.rational.proofs.Bounds.{infinite_member, unbounded, supremum_shift}
-use Rattle.upp_curve.specs.Functions.{IsFinite, FiniteTime}
+use Rattle.min_plus.specs.Functions.{IsFinite, FiniteTime}
 use Rattle.upp_curve.specs.Steady.{Repeats}
-use Rattle.upp_curve.specs.Convolution.{IsDeconvolution}
+use Rattle.min_plus.specs.Convolution.{IsDeconvolution}
 use Rattle.curve_least.proofs.Shifts.{later_value}
 use Rattle.curve_deconv.specs.DeconvolutionWindows.{EarlyTime, IsReached}
 

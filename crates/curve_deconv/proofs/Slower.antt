@@ -11,13 +11,13 @@ use Rattle.rational.proofs.Laws.{le_refl, le_trans, le_of_lt, le_of_not_lt, mul_
 use Rattle.rational.proofs.ExtendedOrder.{same_le_ext}
 use Rattle.upp_curve.specs.Curve.{SpecCurve, value_at}
 use Rattle.upp_curve.specs.Curves.{IsCurve}
-use Rattle.upp_curve.specs.Functions.{IsFinite}
+use Rattle.min_plus.specs.Functions.{IsFinite}
 use Rattle.upp_curve.specs.Steady.{Repeats, steady, rate, rise_over, IsWholePeriods}
 use Rattle.upp_curve.specs.Periods.{common_period, both_steady}
 use Rattle.upp_curve.specs.Limits.{curve_numbers, sizes_of}
 use Rattle.upp_curve.specs.Sized.{Stands}
 use Rattle.upp_curve.specs.Gauges.{both_numbers}
-use Rattle.upp_curve.specs.Convolution.{IsDeconvolution}
+use Rattle.min_plus.specs.Convolution.{IsDeconvolution}
 use Rattle.upp_curve.proofs.Stands.{sizes_stand, stands_left, stands_right}
 use Rattle.upp_curve.proofs.Steady.{steady_rule}
 use Rattle.curve_frame.proofs.CurveTimes.{both_on, steady_nonneg}

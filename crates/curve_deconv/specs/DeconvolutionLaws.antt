@@ -6,9 +6,9 @@ use Rattle.rational.specs.Extended.{Ext, ◌≤ₑ◌, ◌<ₑ◌, ◌-ₑ◌}
 use Rattle.rational.specs.declared.Extended.TheVariants.{Fin}
 use Rattle.upp_curve.specs.Curve.{SpecCurve, value_at}
 use Rattle.upp_curve.specs.Curves.{IsCurve}
-use Rattle.upp_curve.specs.Functions.{zero_q, IsFinite, IsRising, IsNonnegative}
+use Rattle.min_plus.specs.Functions.{zero_q, IsFinite, IsRising, IsNonnegative}
 use Rattle.upp_curve.specs.Steady.{rate}
-use Rattle.upp_curve.specs.Convolution.{IsDeconvolution}
+use Rattle.min_plus.specs.Convolution.{IsDeconvolution}
 
 -- h is the deconvolution at each time from 0 on
 abbrev pub IsDeconvolved : (ℚ → Ext) → (ℚ → Ext) → (ℚ → Ext) → Type 0

@@ -14,9 +14,9 @@ use Rattle.upp_curve.specs.Curve.{SpecCurve, value_at, with_tail, repeated}
 use Rattle.upp_curve.specs.Curves.{IsCurve}
 use Rattle.upp_curve.specs.Normal.{StartsAtZero, Each, TailFits}
 use Rattle.upp_curve.specs.Shapes.{IsFinitePiece, IsNumber}
-use Rattle.upp_curve.specs.Functions.{IsFinite}
+use Rattle.min_plus.specs.Functions.{IsFinite}
 use Rattle.upp_curve.specs.Steady.{Repeats, rise_over, rate}
-use Rattle.upp_curve.specs.Deviations.{IsVerticalDeviation}
+use Rattle.min_plus.specs.Deviations.{IsVerticalDeviation}
 use Rattle.upp_curve.specs.Ahead.{IsBeforeNext}
 use Rattle.upp_curve.proofs.Finite.{level_of, read_number, repeated_number}
 use Rattle.upp_curve.proofs.Repeats.{repeated_first}

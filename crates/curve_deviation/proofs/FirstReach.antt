@@ -19,10 +19,10 @@ use Rattle.upp_curve.specs.Reading.{read, piece_value}
 use Rattle.upp_curve.specs.Normal.{RisesFrom, StartsAtZero}
 use Rattle.upp_curve.specs.Curve.{SpecCurve, value_at}
 use Rattle.upp_curve.specs.Curves.{IsCurve}
-use Rattle.upp_curve.specs.Functions.{IsFinite, IsRising}
+use Rattle.min_plus.specs.Functions.{IsFinite, IsRising}
 use Rattle.upp_curve.specs.Steady.{Repeats}
 use Rattle.upp_curve.specs.Unrolled.{unroll}
-use Rattle.upp_curve.proofs.FiniteValues.{no_inf}
+use Rattle.min_plus.proofs.FiniteValues.{no_inf}
 use Rattle.upp_curve.proofs.PieceIn.{piece_in_stop, piece_in_go, piece_in_end}
 use Rattle.upp_curve.proofs.FirstStretch.{read_in, value_past}
 use Rattle.upp_curve.proofs.Below.{unroll_reads}

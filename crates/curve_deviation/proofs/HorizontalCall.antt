@@ -10,14 +10,14 @@ use Rattle.rational.proofs.ExtendedOrder.{same_le_ext}
 use Rattle.upp_curve.specs.declared.op_kind.OpKind.TheVariants.{Horizontal}
 use Rattle.upp_curve.specs.Curve.{SpecCurve, value_at}
 use Rattle.upp_curve.specs.Curves.{IsCurve}
-use Rattle.upp_curve.specs.Functions.{IsFinite}
+use Rattle.min_plus.specs.Functions.{IsFinite}
 use Rattle.upp_curve.specs.Steady.{steady, rise_over, rate}
 use Rattle.upp_curve.specs.Periods.{common_period, periods_after}
 use Rattle.upp_curve.specs.Windows.{window_at, IsLeastPeriods}
 use Rattle.upp_curve.specs.Limits.{Sizes, sizes_of}
 use Rattle.upp_curve.specs.Ahead.{IsTimeIn}
 use Rattle.upp_curve.specs.Gauges.{IsKnownAtOnce, numbers_over}
-use Rattle.upp_curve.specs.Deviations.{IsHorizontalDeviation}
+use Rattle.min_plus.specs.Deviations.{IsHorizontalDeviation}
 use Rattle.curve_frame.specs.declared.frame.Frame.{Frame}
 use Rattle.curve_frame.specs.Frames.{IsFrame, sizes_at}
 use Rattle.curve_frame.proofs.CurveTimes.{steady_nonneg}

@@ -14,9 +14,9 @@ use Rattle.affine_segment.specs.Values.{line_value}
 use Rattle.upp_curve.specs.Reading.{piece_value}
 use Rattle.upp_curve.specs.Normal.{RisesFrom, Each}
 use Rattle.upp_curve.specs.Shapes.{IsFinitePiece, IsNumber, IsLine}
-use Rattle.upp_curve.specs.Functions.{IsFinite}
+use Rattle.min_plus.specs.Functions.{IsFinite}
 use Rattle.upp_curve.specs.Steady.{Repeats}
-use Rattle.upp_curve.specs.Deviations.{IsVerticalDeviation}
+use Rattle.min_plus.specs.Deviations.{IsVerticalDeviation}
 use Rattle.upp_curve.proofs.PieceIn.{piece_in_stop, piece_in_go, piece_in_end}
 use Rattle.upp_curve.proofs.FirstStretch.{read_in, value_past, at_start}
 use Rattle.curve_least.proofs.Shifts.{later_value}

@@ -12,14 +12,14 @@ use Rattle.rational.proofs.MinMax.{max_q_ge_left, max_q_ge_right}
 use Rattle.upp_curve.specs.declared.op_kind.OpKind.TheVariants.{Horizontal}
 use Rattle.upp_curve.specs.Curve.{SpecCurve, value_at}
 use Rattle.upp_curve.specs.Curves.{IsCurve}
-use Rattle.upp_curve.specs.Functions.{IsFinite, IsRising}
+use Rattle.min_plus.specs.Functions.{IsFinite, IsRising}
 use Rattle.upp_curve.specs.Steady.{Repeats, steady, rise_over, rate}
 use Rattle.upp_curve.specs.Periods.{common_period, both_steady}
 use Rattle.upp_curve.specs.Limits.{curve_numbers, sizes_of}
 use Rattle.upp_curve.specs.Sized.{Stands}
 use Rattle.upp_curve.specs.Gauges.{IsKnownAtOnce, both_numbers}
 use Rattle.upp_curve.specs.Outcome.{IsWithin}
-use Rattle.upp_curve.specs.Deviations.{IsHorizontalDeviation}
+use Rattle.min_plus.specs.Deviations.{IsHorizontalDeviation}
 use Rattle.upp_curve.proofs.Stands.{sizes_stand, stands_left, stands_right}
 use Rattle.upp_curve.proofs.Steady.{steady_rule}
 use Rattle.curve_frame.proofs.CurveTimes.{both_on, steady_nonneg}

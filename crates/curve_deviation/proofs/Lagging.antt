@@ -10,8 +10,8 @@ use Rattle.rational.proofs.Laws.{le_refl, le_trans, le_of_lt, le_or_lt, lt_le_tr
 use Rattle.rational.proofs.Bounds.{greatest, unbounded}
 use Rattle.rational.proofs.MinMax.{max_q_ge_left, max_q_ge_right}
 use Rattle.rational.proofs.ExtendedOrder.{le_ext_trans, le_lt_ext, lt_le_ext, le_or_lt_ext, lt_ext_irrefl}
-use Rattle.upp_curve.specs.Functions.{Time, IsFinite, IsRising}
-use Rattle.upp_curve.specs.Deviations.{Lag, IsLag, IsHorizontalDeviation}
+use Rattle.min_plus.specs.Functions.{Time, IsFinite, IsRising}
+use Rattle.min_plus.specs.Deviations.{Lag, IsLag, IsHorizontalDeviation}
 use Rattle.curve_least.proofs.LeastNumber.{ext_cases}
 use Rattle.curve_lag.specs.Lags.{IsBehindAt, LagsBy, IsLongestLag}
 use Rattle.curve_deviation.proofs.FirstReach.{IsReached, StaysBelow}

@@ -10,7 +10,7 @@ use Rattle.rational.proofs.Laws.{le_trans, le_of_lt, le_or_lt, mul_le_mul, sub_a
 use Rattle.rational.proofs.Integers.{nat_nonneg}
 use Rattle.rational.proofs.Whole.{periods_low, periods_high}
 use Rattle.rational.proofs.ExtendedOrder.{le_lt_ext, lt_le_ext}
-use Rattle.upp_curve.specs.Functions.{IsFinite, IsRising}
+use Rattle.min_plus.specs.Functions.{IsFinite, IsRising}
 use Rattle.upp_curve.specs.Steady.{Repeats, steady}
 use Rattle.upp_curve.specs.Windows.{IsConstantFrom}
 use Rattle.curve_least.proofs.Shifts.{later_value}

@@ -23,7 +23,7 @@ use Rattle.upp_curve.specs.Readable.{LineFitsAt}
 use Rattle.upp_curve.specs.Reading.{piece_in}
 use Rattle.upp_curve.specs.Curve.{SpecCurve, value_at}
 use Rattle.upp_curve.specs.Curves.{IsCurve}
-use Rattle.upp_curve.specs.Functions.{IsFinite, IsRising}
+use Rattle.min_plus.specs.Functions.{IsFinite, IsRising}
 use Rattle.upp_curve.specs.Steady.{steady, steady_in, rise_over, rate}
 use Rattle.upp_curve.specs.Periods.{common_period, periods_after}
 use Rattle.upp_curve.specs.Windows.{window_at, IsConstantFrom, IsLeastPeriods, Reaches, Meets}

@@ -12,10 +12,10 @@ use Rattle.rational.proofs.Whole.{periods_low, periods_high}
 use Rattle.rational.proofs.Grid.{whole_int}
 use Rattle.rational.proofs.ExtendedOrder.{add_le_ext, add_assoc_ext, same_le_ext}
 use Rattle.upp_curve.specs.Curve.{SpecCurve, value_at}
-use Rattle.upp_curve.specs.Functions.{IsFinite}
+use Rattle.min_plus.specs.Functions.{IsFinite}
 use Rattle.upp_curve.specs.Steady.{Repeats, rise_over, rate}
 use Rattle.upp_curve.specs.Limits.{Sizes}
-use Rattle.upp_curve.specs.Deviations.{IsVerticalDeviation}
+use Rattle.min_plus.specs.Deviations.{IsVerticalDeviation}
 use Rattle.upp_curve.specs.Ahead.{HasWindow, IsTimeIn}
 use Rattle.curve_least.specs.Gaps.{InWindow, IsWithin, IsEndless, IsLargest}
 use Rattle.curve_least.specs.Compared.{RepeatsIn, AreCompared}

@@ -12,7 +12,7 @@ use Rattle.rational.proofs.Grid.{whole_sub}
 use Rattle.upp_curve.specs.declared.op_kind.OpKind.TheVariants.{Horizontal}
 use Rattle.upp_curve.specs.Curve.{SpecCurve, value_at}
 use Rattle.upp_curve.specs.Curves.{IsCurve}
-use Rattle.upp_curve.specs.Functions.{IsFinite}
+use Rattle.min_plus.specs.Functions.{IsFinite}
 use Rattle.upp_curve.specs.Steady.{steady}
 use Rattle.upp_curve.specs.Periods.{common_period, periods_after}
 use Rattle.upp_curve.specs.Windows.{window_at}

@@ -3,11 +3,11 @@
 ghost use Rattle.std.specs.Prelude.{ℕ, ◌≡◌, ◌+◌, ◌≤◌, ◌^◌, IfOk, IfErr, IfSome, IsSome, MatchOption};
 ghost use Rattle.rational.specs.Rational.{ℚ, ◌<ℚ◌};
 ghost use Rattle.upp_curve.specs.Curve.{value_at};
-ghost use Rattle.upp_curve.specs.Functions.{IsFinite, IsRising};
+ghost use Rattle.min_plus.specs.Functions.{IsFinite, IsRising};
 ghost use Rattle.upp_curve.specs.Steady.{steady};
 ghost use Rattle.upp_curve.specs.Limits.{Sizes};
 ghost use Rattle.upp_curve.specs.Gauges.{IsKnownAtOnce, gauge_at};
-ghost use Rattle.upp_curve.specs.Deviations.{IsHorizontalDeviation};
+ghost use Rattle.min_plus.specs.Deviations.{IsHorizontalDeviation};
 ghost use Rattle.upp_curve.specs.Outcome.{KeepsLimits};
 ghost use Rattle.curve_frame.specs.Frames.{IsFrame};
 ghost use Rattle.curve_lag.specs.Parts.{IsSeen};

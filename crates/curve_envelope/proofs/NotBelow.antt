@@ -7,8 +7,8 @@ use Rattle.rational.specs.declared.Extended.TheVariants.{Fin, Inf}
 use Rattle.rational.proofs.Laws.{le_refl}
 use Rattle.rational.proofs.MinMax.{max_q_ge_left}
 use Rattle.upp_curve.specs.Curve.{SpecCurve, value_at}
-use Rattle.upp_curve.specs.Functions.{IsNonnegative, zero_q}
-use Rattle.upp_curve.specs.Pointwise.{excess, IsPositiveMinus}
+use Rattle.min_plus.specs.Functions.{IsNonnegative, zero_q}
+use Rattle.min_plus.specs.Pointwise.{excess, IsPositiveMinus}
 
 not_below : (x y : Ext) → Fin zero_q ≤ₑ excess x y
 not_below x Inf = le_refl zero_q

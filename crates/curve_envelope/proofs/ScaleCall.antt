@@ -14,7 +14,7 @@ use Rattle.upp_curve.specs.Curves.{IsCurve}
 use Rattle.upp_curve.specs.Normal.{Each, IsNormal, IsRaw}
 use Rattle.upp_curve.specs.Steady.{steady}
 use Rattle.upp_curve.specs.Periods.{own_period}
-use Rattle.upp_curve.specs.Pointwise.{IsScaled}
+use Rattle.min_plus.specs.Pointwise.{IsScaled}
 use Rattle.upp_curve.specs.Spans.{piece_read, spans}
 use Rattle.upp_curve.specs.Limits.{Sizes, curve_numbers, own_end}
 use Rattle.upp_curve.specs.Sized.{Stands, HeldBy}

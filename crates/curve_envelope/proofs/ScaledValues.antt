@@ -14,7 +14,7 @@ use Rattle.upp_curve.specs.declared.curve.Tail.TheVariants.{Periodic, Affine, In
 use Rattle.upp_curve.specs.Reading.{read, piece_in, piece_value}
 use Rattle.upp_curve.specs.Curve.{SpecCurve, repeated, cut, with_tail, value_at}
 use Rattle.upp_curve.specs.Normal.{Each, RisesFrom, StartsAtZero, TailFits, IsRaw}
-use Rattle.upp_curve.specs.Pointwise.{scaled}
+use Rattle.min_plus.specs.Pointwise.{scaled}
 use Rattle.upp_curve.specs.Gauges.{scaled_line, scaled_piece, scaled_tail, scaled_curve}
 use Rattle.upp_curve.proofs.PieceIn.{piece_in_stop, piece_in_go, piece_in_end}
 

@@ -23,7 +23,7 @@ use Rattle.upp_curve.specs.Readable.{LineFitsAt}
 use Rattle.upp_curve.specs.Unrolled.{unroll}
 use Rattle.upp_curve.specs.Steady.{steady, rise_over, IsWholePeriods}
 use Rattle.upp_curve.specs.Windows.{window_at}
-use Rattle.upp_curve.specs.Pointwise.{IsShift}
+use Rattle.min_plus.specs.Pointwise.{IsShift}
 use Rattle.upp_curve.specs.Limits.{Sizes, curve_numbers}
 use Rattle.upp_curve.specs.Sized.{Stands, grid_of}
 use Rattle.upp_curve.specs.Operand.{AreLimited, OperandPiece, OperandPieces, OperandLineAt, answer_room}

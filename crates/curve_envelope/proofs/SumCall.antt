@@ -22,7 +22,7 @@ use Rattle.upp_curve.specs.Normalising.{HasValues}
 use Rattle.upp_curve.specs.Unrolled.{unroll}
 use Rattle.upp_curve.specs.Steady.{steady, rise_over, IsWholePeriods}
 use Rattle.upp_curve.specs.Windows.{window_at}
-use Rattle.upp_curve.specs.Pointwise.{IsSum}
+use Rattle.min_plus.specs.Pointwise.{IsSum}
 use Rattle.upp_curve.specs.Limits.{Sizes, curve_numbers}
 use Rattle.upp_curve.specs.Sized.{Stands, grid_of, times_largest}
 use Rattle.upp_curve.specs.Operand.{OperandPieces, answer_room}

@@ -9,7 +9,7 @@ ghost use Rattle.upp_curve.specs.Reading.{piece_in, piece_value};
 ghost use Rattle.upp_curve.specs.Curve.{value_at};
 ghost use Rattle.upp_curve.specs.Normal.{Each, StartsAtZero};
 ghost use Rattle.upp_curve.specs.Readable.{LineFitsAt};
-ghost use Rattle.upp_curve.specs.Pointwise.{IsShift};
+ghost use Rattle.min_plus.specs.Pointwise.{IsShift};
 ghost use Rattle.upp_curve.specs.Outcome.{KeepsLimits};
 ghost use Rattle.curve_frame.specs.Frames.{IsFrame};
 ghost use Rattle.curve_envelope.specs.Shifting.{left_line, left_piece, moved_left, LeftFits, IsAhead};

@@ -15,7 +15,7 @@ use Rattle.upp_curve.specs.declared.op_kind.OpKind.{OpKind}
 use Rattle.upp_curve.specs.declared.op_kind.OpKind.TheVariants.{Sum, Min, Max, PosDiff, PosMinus, Scale, Shift, RunSup, RunInf, FifoLeft, Convolve, Deconvolve, Horizontal, Vertical, Itself}
 use Rattle.upp_curve.specs.Curve.{SpecCurve}
 use Rattle.upp_curve.specs.Curves.{IsCurve}
-use Rattle.upp_curve.specs.Functions.{zero_q}
+use Rattle.min_plus.specs.Functions.{zero_q}
 use Rattle.upp_curve.specs.Steady.{steady}
 use Rattle.upp_curve.specs.Periods.{common_period, own_period, period_of, period_or, both_steady, periods_after}
 use Rattle.upp_curve.specs.Windows.{window_at}

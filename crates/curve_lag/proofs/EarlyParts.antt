@@ -17,7 +17,7 @@ use Rattle.upp_curve.specs.declared.ahead.Stretch.{Stretch}
 use Rattle.upp_curve.specs.Reading.{read, piece_in, piece_value}
 use Rattle.upp_curve.specs.Curve.{SpecCurve, value_at, with_tail}
 use Rattle.upp_curve.specs.Curves.{IsCurve}
-use Rattle.upp_curve.specs.Functions.{IsFinite}
+use Rattle.min_plus.specs.Functions.{IsFinite}
 use Rattle.upp_curve.specs.Normal.{Each, StartsAtZero, IsNormal, TailFits}
 use Rattle.upp_curve.specs.Fitting.{ReadFits}
 use Rattle.upp_curve.specs.Readable.{LineFitsAt, TailReadable}

@@ -16,12 +16,12 @@ use Rattle.rational.proofs.ExtendedOrder.{same_le_ext}
 use Rattle.affine_segment.specs.declared.line.Line.{Line}
 use Rattle.affine_segment.specs.Values.{line_at, line_value}
 use Rattle.upp_curve.specs.Curve.{SpecCurve, value_at}
-use Rattle.upp_curve.specs.Functions.{IsFinite, IsRising}
+use Rattle.min_plus.specs.Functions.{IsFinite, IsRising}
 use Rattle.upp_curve.specs.Shapes.{IsLine}
 use Rattle.upp_curve.specs.Limits.{Sizes}
 use Rattle.upp_curve.specs.Operand.{OperandLine, OperandLineAt}
 use Rattle.upp_curve.specs.Ahead.{IsTimeIn}
-use Rattle.upp_curve.proofs.FiniteValues.{no_inf, Fin_inj}
+use Rattle.min_plus.proofs.FiniteValues.{no_inf, Fin_inj}
 use Rattle.curve_lag.specs.declared.cells.Cell.{Cell}
 use Rattle.curve_lag.specs.declared.parts.Part.{Part}
 use Rattle.curve_lag.specs.Cells.{RisingCell, CellSizes, IsTimeTo}

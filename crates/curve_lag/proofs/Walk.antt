@@ -18,7 +18,7 @@ use Rattle.rational.proofs.MinMax.{max_q_one, max_q_ge_left, max_q_ge_right}
 use Rattle.rational.proofs.ExtendedOrder.{le_ext_trans, le_lt_ext, lt_le_ext, lt_ext_irrefl}
 use Rattle.affine_segment.specs.declared.line.Line.{Line}
 use Rattle.affine_segment.specs.Values.{line_at}
-use Rattle.upp_curve.specs.Functions.{IsRising}
+use Rattle.min_plus.specs.Functions.{IsRising}
 use Rattle.upp_curve.specs.Limits.{Sizes}
 use Rattle.upp_curve.specs.Ahead.{IsTimeIn}
 use Rattle.curve_lag.specs.declared.cells.Cell.{Cell}

@@ -6,7 +6,7 @@ ghost use Rattle.rational.specs.MinMax.{max_q};
 ghost use Rattle.rational.specs.Extended.{◌≤ₑ◌};
 ghost use Rattle.affine_segment.specs.Values.{line_at};
 ghost use Rattle.upp_curve.specs.Curve.{value_at};
-ghost use Rattle.upp_curve.specs.Functions.{IsRising};
+ghost use Rattle.min_plus.specs.Functions.{IsRising};
 ghost use Rattle.upp_curve.specs.Limits.{Sizes};
 ghost use Rattle.upp_curve.specs.Shapes.{IsLine};
 ghost use Rattle.upp_curve.specs.Ahead.{IsTimeIn};

@@ -26,7 +26,7 @@ use Rattle.upp_curve.specs.Spans.{Span, spans, spans_below}
 use Rattle.upp_curve.specs.Sized.{Stands, IsValue}
 use Rattle.upp_curve.specs.Unrolled.{unroll}
 use Rattle.upp_curve.specs.Outcome.{IsWithin, IsCauseOf}
-use Rattle.upp_curve.specs.Pointwise.{excess, IsPositiveMinus}
+use Rattle.min_plus.specs.Pointwise.{excess, IsPositiveMinus}
 use Rattle.upp_curve.proofs.AtRank.{same_by}
 use Rattle.upp_curve.proofs.Unique.{upto_some, upto_end}
 use Rattle.upp_curve.proofs.CurveStands.{are_sizes}

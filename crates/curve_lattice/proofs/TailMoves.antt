@@ -8,7 +8,7 @@ use Rattle.rational.specs.declared.Extended.TheVariants.{Fin, Inf}
 use Rattle.rational.proofs.Linear.{with1, with2, with3, with4}
 use Rattle.rational.proofs.MinMax.{max_q_is_left, max_q_right}
 use Rattle.rational.proofs.ExtendedOrder.{min_ext_of_le, min_ext_comm, max_ext_of_le, max_ext_comm, min_add_ext, max_add_ext, lt_ext_trans, lt_ext_irrefl, le_or_lt_ext, antisym_ext}
-use Rattle.upp_curve.specs.Pointwise.{excess}
+use Rattle.min_plus.specs.Pointwise.{excess}
 
 -- two rates: one is less, or they are one
 pub rates_compared : (x y : Ext) → (x <ₑ y) ⊎ ((x ≡ y) ⊎ (y <ₑ x))

@@ -6,8 +6,8 @@ use Rattle.rational.specs.Extended.{Ext, ◌<ₑ◌, min_ext, max_ext}
 use Rattle.upp_curve.specs.declared.op_kind.OpKind.{OpKind}
 use Rattle.upp_curve.specs.declared.op_kind.OpKind.TheVariants.{Min, Max, PosDiff}
 use Rattle.upp_curve.specs.Curve.{SpecCurve}
-use Rattle.upp_curve.specs.Functions.{IsFinite}
-use Rattle.upp_curve.specs.Pointwise.{excess}
+use Rattle.min_plus.specs.Functions.{IsFinite}
+use Rattle.min_plus.specs.Pointwise.{excess}
 use Rattle.upp_curve.specs.Steady.{rate}
 use Rattle.curve_lattice.specs.declared.lattice.Lattice.{Lattice}
 use Rattle.curve_lattice.specs.declared.lattice.Lattice.TheVariants.{Lower, Upper, Excess}

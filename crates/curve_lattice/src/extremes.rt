@@ -3,8 +3,8 @@
 ghost use Rattle.std.specs.Prelude.{◌≡◌, ◌+◌, pos, IfOk};
 ghost use Rattle.rational.specs.Rational.{ℚ, int, ◌≤ℚ◌};
 ghost use Rattle.upp_curve.specs.Curve.{value_at};
-ghost use Rattle.upp_curve.specs.Functions.{IsFinite};
-ghost use Rattle.upp_curve.specs.Pointwise.{IsMinimum, IsMaximum, IsPositiveDifference};
+ghost use Rattle.min_plus.specs.Functions.{IsFinite};
+ghost use Rattle.min_plus.specs.Pointwise.{IsMinimum, IsMaximum, IsPositiveDifference};
 ghost use Rattle.upp_curve.specs.Outcome.{KeepsLimits};
 ghost use Rattle.upp_curve.specs.declared.op_kind.OpKind.TheVariants.{Min, Max, PosDiff};
 

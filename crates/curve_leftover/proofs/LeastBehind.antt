@@ -13,7 +13,7 @@ use Rattle.rational.proofs.Integers.{nat_nonneg}
 use Rattle.rational.proofs.ExtendedOrder.{add_le_ext, le_ext_refl, le_ext_trans}
 use Rattle.upp_curve.specs.declared.op_kind.OpKind.TheVariants.{FifoLeft}
 use Rattle.upp_curve.specs.Curve.{SpecCurve, value_at}
-use Rattle.upp_curve.specs.Functions.{zero_q}
+use Rattle.min_plus.specs.Functions.{zero_q}
 use Rattle.upp_curve.specs.Steady.{Repeats, steady, rate, rise_over}
 use Rattle.upp_curve.specs.Periods.{common_period, moved_steady, periods_after}
 use Rattle.upp_curve.specs.Windows.{IsBelowFor, IsLeast, Meets}

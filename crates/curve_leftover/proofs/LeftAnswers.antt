@@ -12,12 +12,12 @@ use Rattle.rational.proofs.Laws.{le_or_lt, le_refl, le_trans, le_of_lt}
 use Rattle.rational.proofs.MinMax.{max_q_ge_left}
 use Rattle.affine_segment.specs.declared.line.Piece.{Piece}
 use Rattle.upp_curve.specs.Curve.{SpecCurve, value_at, repeated}
-use Rattle.upp_curve.specs.Functions.{zero_q}
+use Rattle.min_plus.specs.Functions.{zero_q}
 use Rattle.upp_curve.specs.Normal.{Each, StartsAtZero}
 use Rattle.upp_curve.specs.Normalising.{HasValues}
-use Rattle.upp_curve.specs.Pointwise.{excess}
+use Rattle.min_plus.specs.Pointwise.{excess}
 use Rattle.upp_curve.specs.Reading.{read}
-use Rattle.upp_curve.specs.Running.{left_after, IsRunningInfimum, IsFifoLeftover}
+use Rattle.min_plus.specs.Running.{left_after, IsRunningInfimum, IsFifoLeftover}
 use Rattle.upp_curve.specs.Steady.{Repeats, rise_over}
 use Rattle.upp_curve.specs.Sized.{grid_of, times_largest}
 use Rattle.upp_curve.specs.Unrolled.{unroll}

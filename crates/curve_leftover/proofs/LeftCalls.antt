@@ -15,11 +15,11 @@ use Rattle.upp_curve.specs.declared.op_kind.OpKind.{OpKind}
 use Rattle.upp_curve.specs.declared.op_kind.OpKind.TheVariants.{FifoLeft}
 use Rattle.upp_curve.specs.Curve.{SpecCurve, value_at}
 use Rattle.upp_curve.specs.Curves.{IsCurve}
-use Rattle.upp_curve.specs.Functions.{zero_q}
+use Rattle.min_plus.specs.Functions.{zero_q}
 use Rattle.upp_curve.specs.Steady.{Repeats, steady, rate, rise_over}
 use Rattle.upp_curve.specs.Periods.{common_period, moved_steady, periods_after}
-use Rattle.upp_curve.specs.Pointwise.{excess}
-use Rattle.upp_curve.specs.Running.{left_after}
+use Rattle.min_plus.specs.Pointwise.{excess}
+use Rattle.min_plus.specs.Running.{left_after}
 use Rattle.upp_curve.specs.Windows.{window_at, IsBelowFor}
 use Rattle.upp_curve.specs.Limits.{Sizes, sizes_of}
 use Rattle.upp_curve.specs.Gauges.{numbers_over, gauge_over, gauge_at}

@@ -14,10 +14,10 @@ use Rattle.rational.proofs.ExtendedOrder.{same_le_ext, fin_same}
 use Rattle.affine_segment.specs.declared.line.Line.{Line}
 use Rattle.affine_segment.specs.declared.line.Piece.{Piece}
 use Rattle.affine_segment.specs.Values.{line_at, line_value}
-use Rattle.upp_curve.specs.Functions.{zero_q}
-use Rattle.upp_curve.specs.Pointwise.{excess}
+use Rattle.min_plus.specs.Functions.{zero_q}
+use Rattle.min_plus.specs.Pointwise.{excess}
 use Rattle.upp_curve.specs.Reading.{read, piece_value}
-use Rattle.upp_curve.specs.Running.{left_after}
+use Rattle.min_plus.specs.Running.{left_after}
 use Rattle.upp_curve.proofs.FirstStretch.{value_past, value_at_start}
 use Rattle.curve_window.specs.declared.stretch.Both.{Both}
 use Rattle.curve_window.specs.Stretches.{lefts, rights, EachBoth, IsBothOf, IsOverlay}

@@ -19,11 +19,11 @@ use Rattle.rational.proofs.ExtendedOrder.{fin_same, le_ext_refl, le_ext_trans, s
 use Rattle.affine_segment.specs.declared.line.Line.{Line}
 use Rattle.affine_segment.specs.declared.line.Piece.{Piece}
 use Rattle.affine_segment.specs.Values.{line_at, line_value}
-use Rattle.upp_curve.specs.Functions.{zero_q, From}
+use Rattle.min_plus.specs.Functions.{zero_q, From}
 use Rattle.upp_curve.specs.Normal.{Each, StartsAtZero}
 use Rattle.upp_curve.specs.Reading.{read, piece_value}
 use Rattle.upp_curve.specs.Room.{PieceHasRoom}
-use Rattle.upp_curve.specs.Running.{IsRunningInfimum}
+use Rattle.min_plus.specs.Running.{IsRunningInfimum}
 use Rattle.upp_curve.specs.Steady.{Repeats, last_line, last_of}
 use Rattle.upp_curve.specs.Limits.{Sizes}
 use Rattle.upp_curve.specs.Sized.{grid_of, times_largest}

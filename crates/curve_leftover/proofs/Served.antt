@@ -15,8 +15,8 @@ use Rattle.rational.proofs.Stretch.{line_infimum}
 use Rattle.rational.proofs.ExtendedOrder.{le_ext_trans, le_lt_ext, same_le_ext, fin_same, finite_below}
 use Rattle.affine_segment.specs.declared.line.Line.{Line}
 use Rattle.affine_segment.specs.Values.{line_at, line_value}
-use Rattle.upp_curve.specs.Functions.{zero_q, IsFinite, Time}
-use Rattle.upp_curve.specs.Deviations.{Lag}
+use Rattle.min_plus.specs.Functions.{zero_q, IsFinite, Time}
+use Rattle.min_plus.specs.Deviations.{Lag}
 use Rattle.upp_curve.specs.Steady.{Repeats}
 use Rattle.curve_least.proofs.Shifts.{later_value}
 use Rattle.curve_leftover.specs.Behind.{IsServed}

@@ -9,10 +9,10 @@ use Rattle.rational.proofs.Integers.{int_add, int_mul, nat_le, nat_lt, nat_nonne
 use Rattle.rational.proofs.Laws.{mul_nonneg, not_zero}
 use Rattle.rational.proofs.MinMax.{max_q_ge_left}
 use Rattle.rational.proofs.Quotients.{div_unique}
-use Rattle.upp_curve.specs.Deviations.{IsHorizontalDeviation}
-use Rattle.upp_curve.specs.Functions.{zero_q, IsFinite, IsNonnegative}
-use Rattle.upp_curve.specs.Kinds.{bucket_value, rate_latency_value}
-use Rattle.upp_curve.proofs.BucketDelay.{horizontal_finite, horizontal_infinite}
+use Rattle.min_plus.specs.Deviations.{IsHorizontalDeviation}
+use Rattle.min_plus.specs.Functions.{zero_q, IsFinite, IsNonnegative}
+use Rattle.min_plus.specs.Formulas.{bucket_value, rate_latency_value}
+use Rattle.min_plus.proofs.BucketDelay.{horizontal_finite, horizontal_infinite}
 
 -- ---- the service and the flow
 abbrev pub IsTestService : (ℚ → Ext) → Type 0

@@ -5,8 +5,8 @@ use Rattle.rational.specs.Grid.{Whole}
 use Rattle.rational.specs.Extended.{Ext, ◌+ₑ◌}
 use Rattle.rational.specs.declared.Extended.TheVariants.{Fin}
 use Rattle.upp_curve.specs.Curve.{SpecCurve, value_at}
-use Rattle.upp_curve.specs.Functions.{zero_q, IsFinite, IsRising, IsNonnegative}
-use Rattle.upp_curve.specs.Deviations.{IsHorizontalDeviation}
+use Rattle.min_plus.specs.Functions.{zero_q, IsFinite, IsRising, IsNonnegative}
+use Rattle.min_plus.specs.Deviations.{IsHorizontalDeviation}
 use Rattle.upp_curve.specs.Limits.{Sizes}
 use Rattle.upp_curve.specs.Ahead.{HasWindow, IsTimeIn}
 use Rattle.curve_least.specs.Gaps.{InWindow, IsWithin}

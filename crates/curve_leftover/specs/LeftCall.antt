@@ -9,8 +9,8 @@ use Rattle.affine_segment.specs.declared.line.Piece.{Piece}
 use Rattle.upp_curve.specs.declared.op_kind.OpKind.TheVariants.{FifoLeft}
 use Rattle.upp_curve.specs.Curve.{SpecCurve, value_at}
 use Rattle.upp_curve.specs.Curves.{IsCurve}
-use Rattle.upp_curve.specs.Functions.{zero_q}
-use Rattle.upp_curve.specs.Running.{IsFifoLeftover}
+use Rattle.min_plus.specs.Functions.{zero_q}
+use Rattle.min_plus.specs.Running.{IsFifoLeftover}
 use Rattle.upp_curve.specs.Steady.{steady, rate, IsWholePeriods}
 use Rattle.upp_curve.specs.Periods.{periods_after}
 use Rattle.upp_curve.specs.Windows.{IsBelowFor}

@@ -6,7 +6,7 @@ use Rattle.rational.specs.Ratio.{IsSmall, SumFits}
 use Rattle.rational.specs.declared.Extended.TheVariants.{Inf}
 use Rattle.affine_segment.specs.declared.line.Line.{Line}
 use Rattle.affine_segment.specs.declared.line.Piece.{Piece}
-use Rattle.upp_curve.specs.Functions.{zero_q}
+use Rattle.min_plus.specs.Functions.{zero_q}
 use Rattle.upp_curve.specs.Unrolled.{upto}
 
 abbrev pub moved_line : ℚ → Option Line → Option Line

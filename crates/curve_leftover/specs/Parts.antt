@@ -2,7 +2,7 @@
 -- the two values. No line is infinity, and where the second is infinite nothing is left. (The residual service of first
 -- in, first out, Le Boudec and Thiran, chapter 6; the pieces are our own choice.)
 use Rattle.affine_segment.specs.declared.line.Piece.{Piece}
-use Rattle.upp_curve.specs.Pointwise.{excess}
+use Rattle.min_plus.specs.Pointwise.{excess}
 use Rattle.curve_window.specs.declared.stretch.Both.{Both}
 use Rattle.curve_window.specs.Made.{line_apart, ValueApartFits, LineApartFits}
 

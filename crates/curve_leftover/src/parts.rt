@@ -1,7 +1,7 @@
 //! What is left on each stretch.
 
 ghost use Rattle.std.specs.Prelude.{◌≡◌, IfOk};
-ghost use Rattle.upp_curve.specs.Pointwise.{excess};
+ghost use Rattle.min_plus.specs.Pointwise.{excess};
 ghost use Rattle.curve_window.specs.Stretches.{EachBoth};
 ghost use Rattle.curve_window.specs.Pointwise.{mapped};
 ghost use Rattle.curve_window.specs.Made.{line_apart, ValueApartFits, LineApartFits};

@@ -3,8 +3,8 @@
 ghost use Rattle.std.specs.Prelude.{◌≡◌, ◌<◌, pos, IfOk};
 ghost use Rattle.rational.specs.Rational.{ℚ, int, ◌≤ℚ◌};
 ghost use Rattle.upp_curve.specs.Curve.{value_at};
-ghost use Rattle.upp_curve.specs.Deviations.{IsHorizontalDeviation};
-ghost use Rattle.upp_curve.specs.Kinds.{bucket_value, rate_latency_value};
+ghost use Rattle.min_plus.specs.Deviations.{IsHorizontalDeviation};
+ghost use Rattle.min_plus.specs.Formulas.{bucket_value, rate_latency_value};
 
 use crate::fifo_left;
 use curve_library::{bucket, rate_latency};

@@ -9,7 +9,7 @@ use Rattle.rational.proofs.Linear.{with2}
 use Rattle.rational.proofs.Laws.{antisym, le_of_lt, le_or_lt, le_refl, lt_irrefl, lt_le_trans}
 use Rattle.rational.proofs.MinMax.{le_q_not}
 use Rattle.rational.proofs.Over.{le_q_out}
-use Rattle.upp_curve.specs.Functions.{zero_q}
+use Rattle.min_plus.specs.Functions.{zero_q}
 use Rattle.upp_curve.specs.Normal.{IsNormal}
 use Rattle.upp_curve.specs.Kinds.{flat, piece, bucket, gated, gate}
 use Rattle.upp_curve.specs.Spans.{spans}

@@ -6,7 +6,7 @@ use Rattle.rational.specs.Ratio.{IsSmall}
 use Rattle.rational.proofs.Laws.{le_of_lt, le_or_lt}
 use Rattle.rational.proofs.MinMax.{le_q_not}
 use Rattle.rational.proofs.Over.{le_q_out}
-use Rattle.upp_curve.specs.Functions.{zero_q}
+use Rattle.min_plus.specs.Functions.{zero_q}
 use Rattle.upp_curve.specs.Kinds.{flat, piece, bucket, after_latency, rate_latency}
 use Rattle.upp_curve.specs.Spans.{spans}
 use Rattle.upp_curve.specs.Limits.{own_gauge, own_sizes, own_tally}

@@ -17,8 +17,8 @@ use Rattle.upp_curve.specs.declared.own_limits.OverLimit.{OverLimit}
 use Rattle.upp_curve.specs.declared.own_limits.OverLimit.TheVariants.{TooMany, TooWide}
 use Rattle.upp_curve.specs.Reading.{read}
 use Rattle.upp_curve.specs.Curve.{SpecCurve, value_at, HasSameValues}
-use Rattle.upp_curve.specs.Continuity.{AreNear, IsContinuous}
-use Rattle.upp_curve.specs.Functions.{zero_q, IsRising}
+use Rattle.min_plus.specs.Continuity.{AreNear, IsContinuous}
+use Rattle.min_plus.specs.Functions.{zero_q, IsRising}
 use Rattle.upp_curve.specs.Normal.{Each, IsRaw, IsNormal, RisesFrom}
 use Rattle.upp_curve.specs.Limits.{own_gauge, own_sizes, own_end}
 use Rattle.upp_curve.specs.OwnLimits.{IsOver, IsWithinOwn}

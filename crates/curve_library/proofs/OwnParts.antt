@@ -9,7 +9,7 @@ use Rattle.rational.proofs.Sizes.{largest_part, difference_on_grid}
 use Rattle.rational.proofs.Integers.{int_mul, int_add, nat_le}
 use Rattle.rational.proofs.Laws.{le_trans, one_mul}
 use Rattle.upp_curve.specs.Curve.{SpecCurve}
-use Rattle.upp_curve.specs.Functions.{zero_q}
+use Rattle.min_plus.specs.Functions.{zero_q}
 use Rattle.upp_curve.specs.Normal.{IsRaw}
 use Rattle.upp_curve.specs.Limits.{own_end, own_sizes, own_gauge}
 use Rattle.upp_curve.specs.Sized.{IsValue, IsSlope, AreSizes, CurveStands}

@@ -16,7 +16,7 @@ use Rattle.rational.proofs.Integers.{int_mul, int_add, nat_le, nat_lt, nat_lt_ou
 use Rattle.rational.proofs.Quotients.{frac_is_div}
 use Rattle.rational.proofs.Multiples.{lcm_left, lcm_right, lcm_pos}
 use Rattle.rational.proofs.Gauges.{den_pos}
-use Rattle.upp_curve.specs.Functions.{zero_q}
+use Rattle.min_plus.specs.Functions.{zero_q}
 use Rattle.upp_curve.proofs.StairValues.{whole_ratio}
 use Rattle.curve_library.specs.Shares.{IsQuotient, SharesFit, AreShares}
 

@@ -16,7 +16,7 @@ use Rattle.rational.proofs.Multiples.{lcm_right, lcm_least}
 use Rattle.rational.proofs.Gauges.{den_pos}
 use Rattle.upp_curve.specs.declared.curve.Tail.TheVariants.{Periodic}
 use Rattle.upp_curve.specs.Curve.{SpecCurve}
-use Rattle.upp_curve.specs.Functions.{zero_q}
+use Rattle.min_plus.specs.Functions.{zero_q}
 use Rattle.upp_curve.specs.Normal.{IsNormal, IsRaw}
 use Rattle.upp_curve.specs.Kinds.{flat, bucket, steps, stair}
 use Rattle.upp_curve.specs.Spans.{spans}

@@ -12,8 +12,8 @@ use Rattle.upp_curve.specs.declared.curve.Tail.TheVariants.{Periodic, Affine}
 use Rattle.upp_curve.specs.declared.own_limits.OverLimit.{OverLimit}
 use Rattle.upp_curve.specs.declared.own_limits.OverLimit.TheVariants.{TooMany, TooWide}
 use Rattle.upp_curve.specs.Curve.{SpecCurve, value_at, HasSameValues}
-use Rattle.upp_curve.specs.Continuity.{IsContinuous}
-use Rattle.upp_curve.specs.Functions.{zero_q, IsRising}
+use Rattle.min_plus.specs.Continuity.{IsContinuous}
+use Rattle.min_plus.specs.Functions.{zero_q, IsRising}
 use Rattle.upp_curve.specs.Normal.{StartsAtZero}
 use Rattle.upp_curve.specs.OwnLimits.{IsOver, IsWithinOwn}
 use Rattle.curve_library.specs.declared.texts.PieceText.{PieceText}

@@ -3,8 +3,9 @@
 ghost use Rattle.std.specs.Prelude.{◌≡◌, ◌⊎◌, ◌↔◌, IfOk, IfErr, Err};
 ghost use Rattle.rational.specs.Rational.{ℚ, ◌≤ℚ◌};
 ghost use Rattle.upp_curve.specs.Curve.{value_at};
-ghost use Rattle.upp_curve.specs.Functions.{zero_q};
-ghost use Rattle.upp_curve.specs.Kinds.{bucket, bucket_value};
+ghost use Rattle.min_plus.specs.Functions.{zero_q};
+ghost use Rattle.upp_curve.specs.Kinds.{bucket};
+ghost use Rattle.min_plus.specs.Formulas.{bucket_value};
 ghost use Rattle.curve_library.specs.Causes.{OneNegative};
 
 use crate::fault::CurveFault;

@@ -2,7 +2,7 @@
 
 ghost use Rattle.std.specs.Prelude.{◌≡◌, MatchResult};
 ghost use Rattle.upp_curve.specs.Curve.{SpecCurve};
-ghost use Rattle.upp_curve.specs.Functions.{zero_q};
+ghost use Rattle.min_plus.specs.Functions.{zero_q};
 ghost use Rattle.upp_curve.specs.Kinds.{piece, flat, bucket};
 ghost use Rattle.upp_curve.specs.Normal.{IsNormal};
 ghost use Rattle.upp_curve.specs.Normalising.{raw_curve};

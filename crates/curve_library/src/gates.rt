@@ -3,8 +3,9 @@
 ghost use Rattle.std.specs.Prelude.{◌≡◌, ◌≢◌, ◌≤◌, ◌^◌, IfOk, Err, MatchOption};
 ghost use Rattle.rational.specs.Rational.{ℚ, ◌≤ℚ◌, ◌<ℚ◌};
 ghost use Rattle.upp_curve.specs.Curve.{value_at};
-ghost use Rattle.upp_curve.specs.Functions.{zero_q};
-ghost use Rattle.upp_curve.specs.Kinds.{gated, gate, gate_value};
+ghost use Rattle.min_plus.specs.Functions.{zero_q};
+ghost use Rattle.upp_curve.specs.Kinds.{gated, gate};
+ghost use Rattle.min_plus.specs.Formulas.{gate_value};
 ghost use Rattle.upp_curve.specs.Limits.{own_gauge};
 ghost use Rattle.upp_curve.specs.declared.own_limits.OverLimit.TheVariants.{TooMany};
 ghost use Rattle.curve_library.specs.Causes.{OneNegative, NoSlot, KeepsOwnLimits, KeepsCauses, AnswersFirst};

@@ -3,8 +3,9 @@
 ghost use Rattle.std.specs.Prelude.{◌≡◌, ◌≢◌, IfOk, Err};
 ghost use Rattle.rational.specs.Rational.{ℚ, ◌≤ℚ◌, ◌<ℚ◌};
 ghost use Rattle.upp_curve.specs.Curve.{value_at};
-ghost use Rattle.upp_curve.specs.Functions.{zero_q};
-ghost use Rattle.upp_curve.specs.Kinds.{after_latency, rate_latency, rate_latency_value};
+ghost use Rattle.min_plus.specs.Functions.{zero_q};
+ghost use Rattle.upp_curve.specs.Kinds.{after_latency, rate_latency};
+ghost use Rattle.min_plus.specs.Formulas.{rate_latency_value};
 ghost use Rattle.upp_curve.specs.declared.own_limits.OverLimit.TheVariants.{TooMany};
 ghost use Rattle.curve_library.specs.Causes.{OneNegative, KeepsOwnLimits, KeepsCauses, AnswersFirst};
 

@@ -3,7 +3,7 @@
 
 ghost use Rattle.std.specs.Prelude.{◌≡◌, ◌+◌, ◌*◌, ◌/◌, ◌-◌, ◌<◌, ◌≤◌, ◌^◌, pos, nat_abs, MatchOption};
 ghost use Rattle.rational.specs.Rational.{int, den, ◌*ℚ◌, ◌≤ℚ◌, ◌<ℚ◌};
-ghost use Rattle.upp_curve.specs.Functions.{zero_q};
+ghost use Rattle.min_plus.specs.Functions.{zero_q};
 ghost use Rattle.curve_library.specs.Shares.{IsQuotient, SharesFit, AreShares};
 
 use fraction128::{Frac, least_common_multiple};

@@ -2,7 +2,7 @@
 
 ghost use Rattle.std.specs.Prelude.{◌↔◌, IsTrue};
 ghost use Rattle.rational.specs.Rational.{◌<ℚ◌};
-ghost use Rattle.upp_curve.specs.Functions.{zero_q};
+ghost use Rattle.min_plus.specs.Functions.{zero_q};
 
 use fraction128::Frac;
 use std::cmp::Ordering;

@@ -3,8 +3,9 @@
 ghost use Rattle.std.specs.Prelude.{◌≡◌, ◌≢◌, suc, ◌+◌, ◌*◌, ◌<◌, ◌≤◌, ◌^◌, pos, IfOk, Err, MatchOption};
 ghost use Rattle.rational.specs.Rational.{ℚ, int, ◌+ℚ◌, ◌-ℚ◌, ◌*ℚ◌, ◌≤ℚ◌, ◌<ℚ◌};
 ghost use Rattle.upp_curve.specs.Curve.{value_at};
-ghost use Rattle.upp_curve.specs.Functions.{zero_q};
-ghost use Rattle.upp_curve.specs.Kinds.{flat, steps, stair, stair_value};
+ghost use Rattle.min_plus.specs.Functions.{zero_q};
+ghost use Rattle.upp_curve.specs.Kinds.{flat, steps, stair};
+ghost use Rattle.min_plus.specs.Formulas.{stair_value};
 ghost use Rattle.upp_curve.specs.Normal.{IsNormal};
 ghost use Rattle.upp_curve.specs.declared.own_limits.OverLimit.TheVariants.{TooMany};
 ghost use Rattle.curve_library.specs.Causes.{KeepsOwnLimits, KeepsCauses, AnswersFirst};

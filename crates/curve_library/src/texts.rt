@@ -3,7 +3,7 @@
 ghost use Rattle.std.specs.Prelude.{◌≡◌, ◌↔◌, IsTrue};
 ghost use Rattle.std.specs.List.{AllByRecursion};
 ghost use Rattle.rational.specs.Rational.{◌+ℚ◌, ◌≤ℚ◌, ◌<ℚ◌};
-ghost use Rattle.upp_curve.specs.Functions.{zero_q};
+ghost use Rattle.min_plus.specs.Functions.{zero_q};
 ghost use Rattle.upp_curve.specs.Normal.{RisesFrom, StartsAtZero};
 ghost use Rattle.curve_library.specs.Listed.{IsNonnegText, IsNonnegTail, HasLength, StartsBelow, text_pieces};
 

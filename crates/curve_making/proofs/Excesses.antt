@@ -8,8 +8,8 @@ use Rattle.rational.specs.declared.Extended.TheVariants.{Fin, Inf}
 use Rattle.rational.proofs.Laws.{le_refl}
 use Rattle.rational.proofs.Linear.{with1, with2, with3}
 use Rattle.rational.proofs.MinMax.{max_q_ge_left, max_q_is_left, max_q_le, max_q_mono}
-use Rattle.upp_curve.specs.Functions.{zero_q}
-use Rattle.upp_curve.specs.Pointwise.{excess}
+use Rattle.min_plus.specs.Functions.{zero_q}
+use Rattle.min_plus.specs.Pointwise.{excess}
 
 pub finite_excess : (v w : Ext) (x : ℚ) → v ≡ Fin x → (level : ℚ) × (excess v w ≡ Fin level)
 finite_excess v Inf x e = (zero_q, refl)

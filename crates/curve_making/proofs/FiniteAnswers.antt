@@ -12,9 +12,9 @@ use Rattle.rational.proofs.Linear.{with2}
 use Rattle.rational.proofs.MinMax.{le_q_not}
 use Rattle.rational.proofs.Over.{le_q_out}
 use Rattle.upp_curve.specs.declared.op_kind.OpKind.TheVariants.{Sum, Min, Max, PosDiff, PosMinus, Scale, Shift, RunSup, RunInf, FifoLeft, Convolve, Deconvolve, Horizontal, Vertical, Itself}
-use Rattle.upp_curve.specs.Functions.{zero_q, UpTo, IsFinite}
-use Rattle.upp_curve.specs.Pointwise.{excess, scaled}
-use Rattle.upp_curve.specs.Running.{left_after, IsRunningSupremum, IsRunningInfimum}
+use Rattle.min_plus.specs.Functions.{zero_q, UpTo, IsFinite}
+use Rattle.min_plus.specs.Pointwise.{excess, scaled}
+use Rattle.min_plus.specs.Running.{left_after, IsRunningSupremum, IsRunningInfimum}
 use Rattle.curve_making.specs.Finite.{IsBounded, AnswersAreFinite}
 use Rattle.curve_making.proofs.Excesses.{finite_excess}
 

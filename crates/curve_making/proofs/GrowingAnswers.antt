@@ -10,10 +10,10 @@ use Rattle.rational.proofs.Laws.{le_refl, le_trans, le_of_lt, le_or_lt, antisym,
 use Rattle.rational.proofs.Linear.{with2, with4}
 use Rattle.rational.proofs.MinMax.{min_q_self, max_q_self}
 use Rattle.upp_curve.specs.declared.op_kind.OpKind.TheVariants.{Sum, Min, Max, PosDiff, PosMinus, Scale, Shift, RunSup, RunInf, FifoLeft, Convolve, Deconvolve, Horizontal, Vertical, Itself}
-use Rattle.upp_curve.specs.Functions.{zero_q, UpTo, From, IsFinite, IsRising}
-use Rattle.upp_curve.specs.Pointwise.{excess, scaled}
-use Rattle.upp_curve.specs.Convolution.{Split, IsConvolution}
-use Rattle.upp_curve.specs.Running.{left_after, IsRunningSupremum, IsRunningInfimum}
+use Rattle.min_plus.specs.Functions.{zero_q, UpTo, From, IsFinite, IsRising}
+use Rattle.min_plus.specs.Pointwise.{excess, scaled}
+use Rattle.min_plus.specs.Convolution.{Split, IsConvolution}
+use Rattle.min_plus.specs.Running.{left_after, IsRunningSupremum, IsRunningInfimum}
 use Rattle.curve_making.specs.Growth.{GrowsFromZero, StartsAtNothing, IsBoundedFromZero, AnswersGrow}
 use Rattle.curve_making.proofs.Excesses.{excess_nonneg, excess_mono, excess_nothing}
 use Rattle.curve_making.proofs.FiniteAnswers.{early_left, late_left, left_finite, supremum_finite, infimum_finite, finite_answers}

@@ -7,10 +7,10 @@ use Rattle.upp_curve.specs.declared.op_kind.OpKind.{OpKind}
 use Rattle.upp_curve.specs.declared.op_kind.OpKind.TheVariants.{Sum, Min, Max, PosDiff, PosMinus, Scale, Shift, RunSup, RunInf, FifoLeft, Convolve, Deconvolve, Horizontal, Vertical, Itself}
 use Rattle.upp_curve.specs.Curve.{SpecCurve, value_at}
 use Rattle.upp_curve.specs.Curves.{IsCurve}
-use Rattle.upp_curve.specs.Functions.{zero_q}
-use Rattle.upp_curve.specs.Pointwise.{IsSum, IsMinimum, IsMaximum, IsPositiveDifference, IsPositiveMinus, IsScaled, IsShift}
-use Rattle.upp_curve.specs.Running.{IsRunningSupremum, IsRunningInfimum, IsFifoLeftover}
-use Rattle.upp_curve.specs.Convolution.{IsConvolution, IsDeconvolution}
+use Rattle.min_plus.specs.Functions.{zero_q}
+use Rattle.min_plus.specs.Pointwise.{IsSum, IsMinimum, IsMaximum, IsPositiveDifference, IsPositiveMinus, IsScaled, IsShift}
+use Rattle.min_plus.specs.Running.{IsRunningSupremum, IsRunningInfimum, IsFifoLeftover}
+use Rattle.min_plus.specs.Convolution.{IsConvolution, IsDeconvolution}
 
 -- v is the answer at t for the operands f and g; the last three kinds make no curve
 abbrev pub IsAnswer : OpKind → (ℚ → Ext) → (ℚ → Ext) → ℚ → Ext → Type 0

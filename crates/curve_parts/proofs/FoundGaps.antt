@@ -9,8 +9,8 @@ use Rattle.rational.proofs.Laws.{le_refl, le_trans, le_or_lt, antisym, sub_add}
 use Rattle.rational.proofs.Linear.{with4, with5}
 use Rattle.affine_segment.specs.Values.{line_value}
 use Rattle.upp_curve.specs.Curve.{SpecCurve, value_at}
-use Rattle.upp_curve.specs.Convolution.{Split}
-use Rattle.upp_curve.specs.Functions.{IsFinite}
+use Rattle.min_plus.specs.Convolution.{Split}
+use Rattle.min_plus.specs.Functions.{IsFinite}
 use Rattle.upp_curve.specs.Limits.{Sizes}
 use Rattle.upp_curve.specs.Operand.{AreLimited}
 use Rattle.upp_curve.specs.Sized.{times_largest}

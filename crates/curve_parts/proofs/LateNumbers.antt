@@ -16,7 +16,7 @@ use Rattle.rational.proofs.Sizes.{quotient_on_grid}
 use Rattle.rational.proofs.ExtendedOrder.{finite_sum, same_le_ext}
 use Rattle.rational.proofs.Bounds.{infimum_unique, same_infimum}
 use Rattle.upp_curve.specs.Curve.{SpecCurve, value_at}
-use Rattle.upp_curve.specs.Convolution.{Split, IsConvolution}
+use Rattle.min_plus.specs.Convolution.{Split, IsConvolution}
 use Rattle.upp_curve.specs.Limits.{Sizes}
 use Rattle.upp_curve.specs.Sized.{grid_of, times_largest}
 use Rattle.upp_curve.specs.Operand.{AreLimited}

@@ -11,7 +11,7 @@ use Rattle.rational.proofs.Integers.{nat_le, int_mul}
 use Rattle.rational.proofs.Laws.{le_trans}
 use Rattle.rational.proofs.Quotients.{div_le}
 use Rattle.upp_curve.specs.Curve.{SpecCurve, value_at}
-use Rattle.upp_curve.specs.Functions.{IsFinite}
+use Rattle.min_plus.specs.Functions.{IsFinite}
 use Rattle.upp_curve.specs.Limits.{Sizes, gauge_of}
 use Rattle.upp_curve.specs.Sized.{AreSizes, grid_of, times_largest}
 use Rattle.upp_curve.specs.Steady.{rate, rise_over}

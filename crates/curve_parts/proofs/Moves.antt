@@ -10,7 +10,7 @@ use Rattle.rational.proofs.ExtendedOrder.{same_le_ext, le_inf, le_ext_trans, le_
 use Rattle.rational.proofs.Bounds.{infimum_shift}
 use Rattle.upp_curve.specs.Steady.{Repeats}
 use Rattle.upp_curve.proofs.Repeats.{tail_lemma}
-use Rattle.upp_curve.specs.Convolution.{Split, IsConvolution}
+use Rattle.min_plus.specs.Convolution.{Split, IsConvolution}
 use Rattle.upp_curve.specs.Windows.{IsLateLeast}
 use Rattle.curve_parts.specs.Parts.{PartSplit, part_sum, IsPart, FirstLate, FirstEarly}
 

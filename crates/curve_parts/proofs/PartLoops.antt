@@ -17,7 +17,7 @@ use Rattle.upp_curve.specs.Curve.{SpecCurve, value_at}
 use Rattle.upp_curve.specs.Limits.{Sizes}
 use Rattle.upp_curve.specs.Operand.{AreLimited, OperandLineAt}
 use Rattle.upp_curve.specs.Ahead.{GoesOn, IsBeforeNext, AtNext, HasWindow, IsTimeIn, TimesStand, GridValue}
-use Rattle.upp_curve.specs.Convolution.{Split}
+use Rattle.min_plus.specs.Convolution.{Split}
 use Rattle.upp_curve.proofs.StretchSizes.{times_stand, times_fit}
 use Rattle.curve_conv.specs.ElementRoom.{WindowTime, WindowEnd}
 use Rattle.curve_conv.proofs.Members.{Matched}

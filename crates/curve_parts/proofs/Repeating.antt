@@ -11,7 +11,7 @@ use Rattle.rational.proofs.Bounds.{same_infimum}
 use Rattle.upp_curve.specs.Curve.{SpecCurve, repeated, value_at}
 use Rattle.upp_curve.specs.Curves.{IsCurve}
 use Rattle.upp_curve.specs.Steady.{Repeats, steady, rate, rise_over, IsWholePeriods}
-use Rattle.upp_curve.specs.Convolution.{Split, IsConvolution}
+use Rattle.min_plus.specs.Convolution.{Split, IsConvolution}
 use Rattle.upp_curve.specs.Normalising.{HasValues}
 use Rattle.upp_curve.specs.Windows.{IsLateLeast}
 use Rattle.upp_curve.proofs.Steady.{steady_rule}

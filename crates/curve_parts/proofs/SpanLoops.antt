@@ -20,7 +20,7 @@ use Rattle.upp_curve.specs.Limits.{Sizes}
 use Rattle.upp_curve.specs.Reading.{read}
 use Rattle.upp_curve.specs.Operand.{AreLimited, OperandLineAt}
 use Rattle.upp_curve.specs.Ahead.{GoesOn, IsBeforeNext, AtNext, HasWindow, IsTimeIn, TimesStand, GridValue}
-use Rattle.upp_curve.specs.Convolution.{Split}
+use Rattle.min_plus.specs.Convolution.{Split}
 use Rattle.upp_curve.proofs.StretchSizes.{times_stand}
 use Rattle.curve_conv.specs.PieceElements.{Among, ElementAt}
 use Rattle.curve_conv.specs.ElementRoom.{WindowTime, OperandElement}

@@ -4,7 +4,7 @@
 use Rattle.rational.specs.Rational.{ℚ, ◌≤ℚ◌, ◌<ℚ◌}
 use Rattle.rational.specs.Extended.{Ext, ◌+ₑ◌}
 use Rattle.rational.specs.Bounds.{IsInfimum}
-use Rattle.upp_curve.specs.Convolution.{Split}
+use Rattle.min_plus.specs.Convolution.{Split}
 
 -- a split of t whose two sides are as P says
 pub record PartSplit (P : ℚ → ℚ → Type 0) (t : ℚ) : Type 0 where

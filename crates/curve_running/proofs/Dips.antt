@@ -10,7 +10,7 @@ use Rattle.rational.proofs.Linear.{with1}
 use Rattle.affine_segment.specs.declared.line.Piece.{Piece}
 use Rattle.upp_curve.specs.declared.curve.Tail.TheVariants.{Affine}
 use Rattle.upp_curve.specs.Curve.{SpecCurve, value_at, HasSameValues}
-use Rattle.upp_curve.specs.Functions.{zero_q, IsFinite, IsNonnegative}
+use Rattle.min_plus.specs.Functions.{zero_q, IsFinite, IsNonnegative}
 use Rattle.upp_curve.specs.Normal.{IsRaw}
 use Rattle.upp_curve.specs.WorkedRows.{whole, dip}
 use Rattle.upp_curve.proofs.WorkedRunning.{dip_early, dip_late}

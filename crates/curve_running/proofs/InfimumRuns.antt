@@ -14,11 +14,11 @@ use Rattle.affine_segment.specs.declared.line.Piece.{Piece}
 use Rattle.upp_curve.specs.declared.op_kind.OpKind.TheVariants.{RunInf}
 use Rattle.upp_curve.specs.Reading.{read}
 use Rattle.upp_curve.specs.Curve.{SpecCurve, value_at, repeated}
-use Rattle.upp_curve.specs.Functions.{zero_q, IsFinite, IsNonnegative}
+use Rattle.min_plus.specs.Functions.{zero_q, IsFinite, IsNonnegative}
 use Rattle.upp_curve.specs.Normal.{Each, StartsAtZero}
 use Rattle.upp_curve.specs.Normalising.{HasValues}
 use Rattle.upp_curve.specs.Room.{PieceHasRoom}
-use Rattle.upp_curve.specs.Running.{IsRunningInfimum}
+use Rattle.min_plus.specs.Running.{IsRunningInfimum}
 use Rattle.upp_curve.specs.Steady.{Repeats, rise_over}
 use Rattle.upp_curve.specs.Periods.{own_period, periods_after}
 use Rattle.upp_curve.specs.Limits.{Sizes}

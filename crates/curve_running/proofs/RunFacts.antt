@@ -13,7 +13,7 @@ use Rattle.upp_curve.specs.declared.op_kind.OpKind.TheVariants.{RunSup, RunInf}
 use Rattle.upp_curve.specs.Reading.{read, piece_in, piece_value}
 use Rattle.upp_curve.specs.Curve.{SpecCurve, value_at}
 use Rattle.upp_curve.specs.Curves.{IsCurve}
-use Rattle.upp_curve.specs.Functions.{zero_q, IsFinite, IsNonnegative}
+use Rattle.min_plus.specs.Functions.{zero_q, IsFinite, IsNonnegative}
 use Rattle.upp_curve.specs.Gauges.{numbers_over, gauge_at}
 use Rattle.upp_curve.specs.Normal.{Each, StartsAtZero}
 use Rattle.upp_curve.specs.Shapes.{IsFinitePiece, IsNumber}

@@ -10,9 +10,9 @@ use Rattle.rational.proofs.Integers.{nat_next}
 use Rattle.rational.proofs.ExtendedOrder.{le_ext_refl, le_ext_trans, lt_le_ext, same_le_ext, add_le_ext, add_zero_ext, gt_add_in, gt_add_out}
 use Rattle.rational.proofs.Bounds.{infimum_shift, same_infimum, supremum_shift}
 use Rattle.upp_curve.specs.Steady.{Repeats}
-use Rattle.upp_curve.specs.Functions.{zero_q, UpTo, From}
-use Rattle.upp_curve.specs.Running.{IsRunningSupremum, IsRunningInfimum}
-use Rattle.upp_curve.proofs.Rules.{enough}
+use Rattle.min_plus.specs.Functions.{zero_q, UpTo, From}
+use Rattle.min_plus.specs.Running.{IsRunningSupremum, IsRunningInfimum}
+use Rattle.min_plus.proofs.Rates.{enough}
 use Rattle.upp_curve.proofs.Repeats.{repeats_times}
 use Rattle.curve_running.specs.Scans.{Until, IsInfimumUntil, IsSupremumIn}
 

@@ -13,7 +13,7 @@ use Rattle.rational.proofs.MinMax.{max_q_one, max_q_ge_left, max_q_ge_right}
 use Rattle.rational.proofs.Stretch.{line_supremum}
 use Rattle.affine_segment.specs.declared.line.Line.{Line}
 use Rattle.affine_segment.specs.Values.{line_at}
-use Rattle.upp_curve.specs.Functions.{zero_q, UpTo}
+use Rattle.min_plus.specs.Functions.{zero_q, UpTo}
 use Rattle.curve_running.specs.Bends.{risen}
 use Rattle.curve_running.proofs.Levels.{line_top}
 

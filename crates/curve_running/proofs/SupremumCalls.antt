@@ -21,7 +21,7 @@ use Rattle.upp_curve.specs.declared.curve.Tail.{Tail}
 use Rattle.upp_curve.specs.declared.curve.Tail.TheVariants.{Periodic, Affine, Infinite}
 use Rattle.upp_curve.specs.Reading.{read}
 use Rattle.upp_curve.specs.Curve.{SpecCurve, value_at}
-use Rattle.upp_curve.specs.Functions.{zero_q, IsFinite}
+use Rattle.min_plus.specs.Functions.{zero_q, IsFinite}
 use Rattle.upp_curve.specs.Normal.{Each, IsNormal}
 use Rattle.upp_curve.specs.Spans.{spans}
 use Rattle.upp_curve.specs.Steady.{Repeats, steady, rise_over, IsWholePeriods}

@@ -10,7 +10,7 @@ use Rattle.affine_segment.specs.declared.line.Line.{Line}
 use Rattle.affine_segment.specs.declared.line.Piece.{Piece}
 use Rattle.upp_curve.specs.Reading.{read}
 use Rattle.upp_curve.specs.Normal.{Each, StartsAtZero}
-use Rattle.upp_curve.specs.Running.{IsRunningSupremum}
+use Rattle.min_plus.specs.Running.{IsRunningSupremum}
 use Rattle.curve_window.proofs.Surgery.{one_more}
 use Rattle.curve_running.specs.declared.stretch.Stretch.{Stretch}
 use Rattle.curve_running.specs.declared.bend.Bend.{Bend}

@@ -18,10 +18,10 @@ use Rattle.affine_segment.specs.declared.line.Piece.{Piece}
 use Rattle.upp_curve.specs.declared.op_kind.OpKind.TheVariants.{RunSup}
 use Rattle.upp_curve.specs.Reading.{read}
 use Rattle.upp_curve.specs.Curve.{SpecCurve, value_at, repeated}
-use Rattle.upp_curve.specs.Functions.{zero_q, UpTo, IsFinite, IsNonnegative}
+use Rattle.min_plus.specs.Functions.{zero_q, UpTo, IsFinite, IsNonnegative}
 use Rattle.upp_curve.specs.Normal.{Each}
 use Rattle.upp_curve.specs.Normalising.{HasValues}
-use Rattle.upp_curve.specs.Running.{IsRunningSupremum}
+use Rattle.min_plus.specs.Running.{IsRunningSupremum}
 use Rattle.upp_curve.specs.Steady.{Repeats, steady, rise_over}
 use Rattle.upp_curve.specs.Periods.{own_period, periods_after}
 use Rattle.upp_curve.specs.Limits.{Sizes}

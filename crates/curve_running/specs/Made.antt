@@ -8,7 +8,7 @@ use Rattle.affine_segment.specs.Values.{line_at}
 use Rattle.upp_curve.specs.Bends.{SlopeTurns}
 use Rattle.upp_curve.specs.Reading.{read}
 use Rattle.upp_curve.specs.Normal.{Each, HasStart, StartsAtZero}
-use Rattle.upp_curve.specs.Running.{IsRunningSupremum}
+use Rattle.min_plus.specs.Running.{IsRunningSupremum}
 use Rattle.curve_running.specs.declared.stretch.Stretch.{Stretch}
 use Rattle.curve_running.specs.declared.bend.Bend.{Bend}
 use Rattle.curve_running.specs.Scans.{flat, IsLevel, HasLine, IsInfimumUntil}

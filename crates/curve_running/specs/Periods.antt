@@ -9,7 +9,7 @@ use Rattle.affine_segment.specs.declared.line.Piece.{Piece}
 use Rattle.upp_curve.specs.Reading.{read}
 use Rattle.upp_curve.specs.Curve.{SpecCurve, value_at}
 use Rattle.upp_curve.specs.Curves.{IsCurve}
-use Rattle.upp_curve.specs.Functions.{zero_q, IsFinite, IsNonnegative}
+use Rattle.min_plus.specs.Functions.{zero_q, IsFinite, IsNonnegative}
 use Rattle.upp_curve.specs.Steady.{steady, rise_over}
 use Rattle.upp_curve.specs.Periods.{own_period, periods_after}
 use Rattle.upp_curve.specs.Limits.{Sizes, curve_numbers}

@@ -3,7 +3,7 @@
 ghost use Rattle.std.specs.Prelude.{◌≡◌, ◌+◌, IfOk};
 ghost use Rattle.upp_curve.specs.declared.op_kind.OpKind.TheVariants.{RunInf};
 ghost use Rattle.upp_curve.specs.Curve.{value_at};
-ghost use Rattle.upp_curve.specs.Functions.{IsFinite, IsNonnegative};
+ghost use Rattle.min_plus.specs.Functions.{IsFinite, IsNonnegative};
 ghost use Rattle.upp_curve.specs.Outcome.{KeepsLimits};
 ghost use Rattle.curve_frame.specs.Frames.{IsFrame};
 ghost use Rattle.curve_running.specs.Runs.{RunsFrom, IsFrontBefore};

@@ -6,7 +6,7 @@ ghost use Rattle.rational.specs.Ratio.{SumFits};
 ghost use Rattle.upp_curve.specs.declared.op_kind.OpKind.TheVariants.{RunSup};
 ghost use Rattle.upp_curve.specs.Curve.{value_at};
 ghost use Rattle.upp_curve.specs.Curves.{IsCurve};
-ghost use Rattle.upp_curve.specs.Functions.{IsFinite, IsNonnegative};
+ghost use Rattle.min_plus.specs.Functions.{IsFinite, IsNonnegative};
 ghost use Rattle.upp_curve.specs.Gauges.{gauge_at};
 ghost use Rattle.upp_curve.specs.Outcome.{KeepsLimits};
 ghost use Rattle.curve_frame.specs.Frames.{IsFrame};

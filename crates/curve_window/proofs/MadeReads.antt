@@ -14,7 +14,7 @@ use Rattle.affine_segment.specs.declared.line.Piece.{Piece}
 use Rattle.affine_segment.specs.Values.{line_at, line_value}
 use Rattle.upp_curve.specs.Reading.{read, piece_value}
 use Rattle.upp_curve.specs.Normal.{RisesFrom, StartsAtZero}
-use Rattle.upp_curve.specs.Pointwise.{excess}
+use Rattle.min_plus.specs.Pointwise.{excess}
 use Rattle.upp_curve.proofs.FirstStretch.{value_past, value_at_start}
 use Rattle.curve_window.specs.declared.stretch.Both.{Both}
 use Rattle.curve_window.specs.declared.made.Made.{Made}

@@ -2,7 +2,7 @@
 
 ghost use Rattle.std.specs.Prelude.{true, false, IfOk};
 ghost use Rattle.rational.specs.Extended.{min_ext, max_ext};
-ghost use Rattle.upp_curve.specs.Pointwise.{excess};
+ghost use Rattle.min_plus.specs.Pointwise.{excess};
 ghost use Rattle.curve_window.specs.Made.{made_value, made_rises};
 ghost use Rattle.curve_window.specs.Operands.{HaveSizes, IsMadeOf};
 

@@ -5,7 +5,7 @@ ghost use Rattle.rational.specs.Rational.{◌-ℚ◌, ◌≤ℚ◌, ◌<ℚ◌, 
 ghost use Rattle.rational.specs.Ratio.{SumFits};
 ghost use Rattle.rational.specs.MinMax.{min_q, max_q};
 ghost use Rattle.rational.specs.Extended.{min_ext, max_ext};
-ghost use Rattle.upp_curve.specs.Pointwise.{excess};
+ghost use Rattle.min_plus.specs.Pointwise.{excess};
 ghost use Rattle.curve_window.specs.Stretches.{EachBoth};
 ghost use Rattle.curve_window.specs.Made.{made_value, made_line, line_apart, zero_line, first_piece, next_start, IsParts, AreMade, ValueApartFits, LineApartFits, StretchMadeFits};
 

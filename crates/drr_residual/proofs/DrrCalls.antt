@@ -9,8 +9,8 @@ use Rattle.upp_curve.specs.declared.op_kind.OpKind.TheVariants.{Scale, PosMinus}
 use Rattle.upp_curve.specs.declared.op_kind.OpFault.{OpFault}
 use Rattle.upp_curve.specs.Curve.{SpecCurve, value_at}
 use Rattle.upp_curve.specs.Curves.{IsCurve}
-use Rattle.upp_curve.specs.Functions.{IsFinite}
-use Rattle.upp_curve.specs.Pointwise.{excess, scaled}
+use Rattle.min_plus.specs.Functions.{IsFinite}
+use Rattle.min_plus.specs.Pointwise.{excess, scaled}
 use Rattle.curve_making.specs.Answers.{IsMadeBy}
 use Rattle.curve_making.specs.Calls.{AppliesTo, goes_on, stops}
 use Rattle.curve_making.proofs.InTurn.{applies_determined, then_determined}

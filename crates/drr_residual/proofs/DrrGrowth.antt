@@ -9,8 +9,8 @@ use Rattle.rational.proofs.Integers.{nat_lt}
 use Rattle.rational.proofs.Quotients.{div_nonneg}
 use Rattle.upp_curve.specs.declared.op_kind.OpKind.TheVariants.{Scale, PosMinus}
 use Rattle.upp_curve.specs.Curve.{value_at}
-use Rattle.upp_curve.specs.Functions.{zero_q}
-use Rattle.upp_curve.specs.Pointwise.{scaled}
+use Rattle.min_plus.specs.Functions.{zero_q}
+use Rattle.min_plus.specs.Pointwise.{scaled}
 use Rattle.run_laws.specs.Cards.{whole}
 use Rattle.run_laws.proofs.Sizes.{whole_nonneg}
 use Rattle.curve_making.specs.Growth.{GrowsFromZero}

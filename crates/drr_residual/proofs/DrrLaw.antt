@@ -12,7 +12,7 @@ use Rattle.rational.proofs.ExtendedOrder.{le_ext_trans, le_ext_refl, add_le_ext}
 use Rattle.rational.proofs.Over.{mul_frac}
 use Rattle.rational.proofs.Whole.{le_of_mul}
 use Rattle.rational.proofs.Linear.{with1, with2, with3, with4, with5, with6, with7, with8}
-use Rattle.upp_curve.specs.Pointwise.{excess, scaled}
+use Rattle.min_plus.specs.Pointwise.{excess, scaled}
 use Rattle.run_laws.specs.Cards.{Class, all, of_queue, before_queue, AreParts, whole, ServerStep, Arrives, Works, Leaves, Visits}
 use Rattle.run_laws.specs.Servers.{Drr, queue_count, Server, ServerState, start}
 use Rattle.run_laws.specs.Next.{next}

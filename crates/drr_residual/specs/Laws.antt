@@ -3,7 +3,7 @@ use Rattle.std.specs.Prelude.{◌≡◌, ◌≤◌, ◌<◌, ℕ, pos, List, len
 use Rattle.rational.specs.Rational.{ℚ, int, ◌+ℚ◌, ◌-ℚ◌, ◌*ℚ◌, ◌/ℚ◌, ◌≤ℚ◌}
 use Rattle.rational.specs.Extended.{Ext}
 use Rattle.rational.specs.declared.Extended.TheVariants.{Fin}
-use Rattle.upp_curve.specs.Pointwise.{excess, scaled}
+use Rattle.min_plus.specs.Pointwise.{excess, scaled}
 use Rattle.run_laws.specs.Cards.{whole, of_queue, ServerStep}
 use Rattle.run_laws.specs.Servers.{Drr, Server}
 use Rattle.run_laws.specs.Allows.{IsLawfulView}

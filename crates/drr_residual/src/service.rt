@@ -2,7 +2,7 @@
 
 ghost use Rattle.std.specs.Prelude.{◌≡◌, ◌+◌, ◌<◌, ◌≤◌, length, IfOk};
 ghost use Rattle.upp_curve.specs.Curve.{value_at};
-ghost use Rattle.upp_curve.specs.Functions.{IsFinite};
+ghost use Rattle.min_plus.specs.Functions.{IsFinite};
 ghost use Rattle.drr_residual.specs.Calls.{AreQueues, MakesDrr};
 ghost use Rattle.drr_residual.specs.Laws.{IsDrrService};
 

@@ -9,8 +9,8 @@ use Rattle.rational.proofs.MinMax.{le_q_not, max_q_left, max_q_right}
 use Rattle.rational.proofs.Laws.{le_refl, le_trans, le_of_lt, le_or_lt}
 use Rattle.rational.proofs.ExtendedOrder.{le_ext_refl, le_ext_trans, add_le_ext}
 use Rattle.rational.proofs.Linear.{with2, with3, with4, with5, with6, with7, with8}
-use Rattle.upp_curve.specs.Pointwise.{excess}
-use Rattle.upp_curve.specs.Running.{left_after}
+use Rattle.min_plus.specs.Pointwise.{excess}
+use Rattle.min_plus.specs.Running.{left_after}
 use Rattle.run_laws.specs.Cards.{size, Class, IsOfQueue, IsPart, AreParts, ServerStep}
 use Rattle.run_laws.specs.Servers.{Server}
 use Rattle.run_laws.specs.Allows.{IsLawfulView}

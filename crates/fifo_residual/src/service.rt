@@ -3,8 +3,8 @@
 ghost use Rattle.std.specs.Prelude.{◌≡◌, ◌+◌, IfOk};
 ghost use Rattle.upp_curve.specs.declared.op_kind.OpKind.TheVariants.{FifoLeft};
 ghost use Rattle.upp_curve.specs.Curve.{value_at};
-ghost use Rattle.upp_curve.specs.Deviations.{IsHorizontalDeviation};
-ghost use Rattle.upp_curve.specs.Functions.{IsFinite, IsRising, IsNonnegative};
+ghost use Rattle.min_plus.specs.Deviations.{IsHorizontalDeviation};
+ghost use Rattle.min_plus.specs.Functions.{IsFinite, IsRising, IsNonnegative};
 ghost use Rattle.curve_making.specs.Calls.{Applies};
 ghost use Rattle.fifo_residual.specs.Laws.{IsResidual};
 

@@ -7,9 +7,9 @@ use Rattle.rational.specs.declared.Extended.TheVariants.{Fin}
 use Rattle.rational.proofs.Linear.{with1, with3}
 use Rattle.upp_curve.specs.declared.op_kind.OpKind.TheVariants.{PosMinus, Convolve}
 use Rattle.upp_curve.specs.Curve.{value_at}
-use Rattle.upp_curve.specs.Functions.{zero_q, IsNonnegative}
-use Rattle.upp_curve.specs.Pointwise.{packetised}
-use Rattle.upp_curve.specs.Convolution.{IsConvolution}
+use Rattle.min_plus.specs.Functions.{zero_q, IsNonnegative}
+use Rattle.min_plus.specs.Pointwise.{packetised}
+use Rattle.min_plus.specs.Convolution.{IsConvolution}
 use Rattle.curve_making.specs.Growth.{GrowsFromZero}
 use Rattle.curve_making.specs.Answers.{IsMadeBy}
 use Rattle.curve_making.proofs.GrowingAnswers.{growing_answers}

@@ -8,7 +8,7 @@ use Rattle.rational.specs.Extended.{Ext, ◌≤ₑ◌}
 use Rattle.rational.specs.declared.Extended.TheVariants.{Fin}
 use Rattle.rational.proofs.ExtendedOrder.{le_ext_trans}
 use Rattle.rational.proofs.Linear.{with1, with2}
-use Rattle.upp_curve.specs.Functions.{zero_q, IsNonnegative}
+use Rattle.min_plus.specs.Functions.{zero_q, IsNonnegative}
 use Rattle.run_laws.specs.Runs.{SpecRun}
 use Rattle.run_laws.specs.Cards.{Card, Class, of_flow, ServerStep, Arrives, Works, Leaves, Visits}
 use Rattle.run_laws.specs.Counts.{arrives, within, arrived_in}

@@ -9,7 +9,7 @@ use Rattle.rational.proofs.Laws.{mul_zero, mul_comm, add_zero}
 use Rattle.upp_curve.specs.declared.op_kind.OpKind.{OpKind}
 use Rattle.upp_curve.specs.declared.op_kind.OpKind.TheVariants.{Sum}
 use Rattle.upp_curve.specs.Curve.{SpecCurve, value_at}
-use Rattle.upp_curve.specs.Functions.{zero_q}
+use Rattle.min_plus.specs.Functions.{zero_q}
 use Rattle.upp_curve.proofs.KindValues.{bucket_is}
 use Rattle.curve_making.specs.Answers.{IsAnswer, IsMadeBy}
 use Rattle.net_cells.specs.declared.cell.Cell.{Cell}

@@ -5,7 +5,7 @@ use Rattle.std.proofs.lemmas.Bool.{and_from}
 use Rattle.rational.specs.Extended.{Ext, ◌+ₑ◌, min_ext}
 use Rattle.rational.specs.declared.Extended.TheVariants.{Fin}
 use Rattle.rational.proofs.ExtendedOrder.{min_one}
-use Rattle.upp_curve.specs.Deviations.{IsHorizontalDeviation}
+use Rattle.min_plus.specs.Deviations.{IsHorizontalDeviation}
 use Rattle.run_laws.specs.Runs.{SpecRun}
 use Rattle.run_laws.specs.Cards.{of_flow}
 use Rattle.run_laws.specs.Premises.{KeepsArrivals}

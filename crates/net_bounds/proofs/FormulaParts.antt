@@ -5,10 +5,10 @@ use Rattle.rational.specs.Rational.{ℚ}
 use Rattle.rational.specs.Extended.{Ext}
 use Rattle.upp_curve.specs.declared.op_kind.OpKind.TheVariants.{PosMinus}
 use Rattle.upp_curve.specs.Curve.{value_at}
-use Rattle.upp_curve.specs.Functions.{FiniteTime}
-use Rattle.upp_curve.specs.Pointwise.{packetised}
-use Rattle.upp_curve.specs.Convolution.{IsDeconvolution}
-use Rattle.upp_curve.specs.Deviations.{IsVerticalDeviation}
+use Rattle.min_plus.specs.Functions.{FiniteTime}
+use Rattle.min_plus.specs.Pointwise.{packetised}
+use Rattle.min_plus.specs.Convolution.{IsDeconvolution}
+use Rattle.min_plus.specs.Deviations.{IsVerticalDeviation}
 use Rattle.curve_making.specs.Answers.{IsMadeBy}
 use Rattle.run_laws.specs.Cards.{whole}
 use Rattle.net_cells.specs.declared.cell.Cell.{Cell}

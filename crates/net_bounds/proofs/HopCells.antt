@@ -6,11 +6,11 @@ use Rattle.rational.specs.Rational.{ℚ, ◌≤ℚ◌}
 use Rattle.rational.specs.Extended.{Ext, min_ext}
 use Rattle.upp_curve.specs.declared.op_kind.OpKind.TheVariants.{Min, Shift, FifoLeft, Deconvolve}
 use Rattle.upp_curve.specs.Curve.{value_at}
-use Rattle.upp_curve.specs.Functions.{zero_q}
-use Rattle.upp_curve.specs.Pointwise.{packetised, shifted}
-use Rattle.upp_curve.specs.Running.{IsFifoLeftover}
-use Rattle.upp_curve.specs.Convolution.{IsDeconvolution}
-use Rattle.upp_curve.specs.Deviations.{IsHorizontalDeviation}
+use Rattle.min_plus.specs.Functions.{zero_q}
+use Rattle.min_plus.specs.Pointwise.{packetised, shifted}
+use Rattle.min_plus.specs.Running.{IsFifoLeftover}
+use Rattle.min_plus.specs.Convolution.{IsDeconvolution}
+use Rattle.min_plus.specs.Deviations.{IsHorizontalDeviation}
 use Rattle.curve_making.specs.Answers.{IsMadeBy}
 use Rattle.run_laws.specs.Cards.{whole}
 use Rattle.net_model.specs.Networks.{Net}

@@ -8,10 +8,10 @@ use Rattle.rational.specs.Extended.{Ext, ◌≤ₑ◌, min_ext}
 use Rattle.rational.specs.declared.Extended.TheVariants.{Fin}
 use Rattle.rational.proofs.ExtendedOrder.{min_greatest}
 use Rattle.rational.proofs.Linear.{with2}
-use Rattle.upp_curve.specs.Functions.{zero_q}
-use Rattle.upp_curve.specs.Pointwise.{shifted}
-use Rattle.upp_curve.specs.Running.{IsFifoLeftover}
-use Rattle.upp_curve.proofs.DeviationSigns.{horizontals_are_nonnegative}
+use Rattle.min_plus.specs.Functions.{zero_q}
+use Rattle.min_plus.specs.Pointwise.{shifted}
+use Rattle.min_plus.specs.Running.{IsFifoLeftover}
+use Rattle.min_plus.proofs.DeviationSigns.{horizontals_are_nonnegative}
 use Rattle.curve_making.specs.Growth.{GrowsFromZero}
 use Rattle.run_laws.specs.Runs.{SpecRun}
 use Rattle.run_laws.specs.Cards.{Card, Class, of_flow, of_queue}

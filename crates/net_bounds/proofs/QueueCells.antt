@@ -6,8 +6,8 @@ use Rattle.std.proofs.lemmas.Bool.{lt-ltb}
 use Rattle.rational.specs.Rational.{ℚ}
 use Rattle.rational.specs.Extended.{Ext, ◌+ₑ◌}
 use Rattle.upp_curve.specs.Curve.{value_at}
-use Rattle.upp_curve.specs.Pointwise.{packetised}
-use Rattle.upp_curve.specs.Deviations.{IsHorizontalDeviation, IsVerticalDeviation}
+use Rattle.min_plus.specs.Pointwise.{packetised}
+use Rattle.min_plus.specs.Deviations.{IsHorizontalDeviation, IsVerticalDeviation}
 use Rattle.run_laws.specs.Cards.{whole}
 use Rattle.run_laws.specs.Servers.{Discipline, Fifo, Priority, Drr}
 use Rattle.priority_residual.specs.Laws.{IsPriorityService}

@@ -6,8 +6,8 @@ use Rattle.rational.specs.Extended.{Ext, ◌≤ₑ◌, ◌+ₑ◌}
 use Rattle.rational.proofs.ExtendedOrder.{le_ext_trans, le_ext_refl, same_le_ext, add_le_ext, add_ext_assoc, add_zero_ext, zero_add_ext}
 use Rattle.rational.proofs.Laws.{le_refl, add_zero}
 use Rattle.rational.proofs.Linear.{with1, with2, with3}
-use Rattle.upp_curve.specs.Functions.{zero_q}
-use Rattle.upp_curve.specs.Convolution.{Split, AllNonneg, sum_of}
+use Rattle.min_plus.specs.Functions.{zero_q}
+use Rattle.min_plus.specs.Convolution.{Split, AllNonneg, sum_of}
 use Rattle.net_laws.specs.Paths.{IsWithinSplits, sum_of_values}
 
 -- ---- the last of some times

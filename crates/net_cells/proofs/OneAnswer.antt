@@ -8,9 +8,9 @@ use Rattle.upp_curve.specs.declared.op_kind.OpKind.TheVariants.{Shift, FifoLeft,
 use Rattle.upp_curve.specs.declared.op_kind.OpFault.{OpFault}
 use Rattle.upp_curve.specs.declared.op_kind.OpFault.TheVariants.{TooMany, TooWide, NoMemory}
 use Rattle.upp_curve.specs.Curve.{SpecCurve, value_at}
-use Rattle.upp_curve.specs.Deviations.{IsHorizontalDeviation, IsVerticalDeviation}
+use Rattle.min_plus.specs.Deviations.{IsHorizontalDeviation, IsVerticalDeviation}
 use Rattle.upp_curve.specs.Outcome.{IsWithin, IsCauseOf}
-use Rattle.upp_curve.proofs.Unambiguous.{deviations_are_unique}
+use Rattle.min_plus.proofs.Unambiguous.{deviations_are_unique}
 use Rattle.curve_making.specs.Again.{IsAgain, again_determined}
 use Rattle.curve_making.specs.Calls.{Applies, AppliesTo}
 use Rattle.curve_making.specs.Determined.{IsDetermined}

@@ -5,9 +5,9 @@ use Rattle.rational.specs.Extended.{Ext, min_ext}
 use Rattle.rational.proofs.Bounds.{supremum_unique}
 use Rattle.upp_curve.specs.declared.op_kind.OpKind.TheVariants.{Shift, FifoLeft}
 use Rattle.upp_curve.specs.Curve.{SpecCurve, value_at}
-use Rattle.upp_curve.specs.Deviations.{IsHorizontalDeviation, IsVerticalDeviation}
+use Rattle.min_plus.specs.Deviations.{IsHorizontalDeviation, IsVerticalDeviation}
 use Rattle.upp_curve.proofs.OneForm.{normal_unique}
-use Rattle.upp_curve.proofs.Unambiguous.{deviations_are_unique}
+use Rattle.min_plus.proofs.Unambiguous.{deviations_are_unique}
 use Rattle.curve_making.specs.Answers.{IsMadeBy}
 use Rattle.curve_making.proofs.SameAnswers.{made_unique}
 use Rattle.net_cells.specs.declared.cell.Cell.{Cell}

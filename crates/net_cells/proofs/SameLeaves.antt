@@ -4,7 +4,7 @@ use Rattle.std.specs.Prelude.{Ok, Err}
 use Rattle.rational.specs.Extended.{Ext, min_ext}
 use Rattle.upp_curve.specs.declared.op_kind.OpKind.TheVariants.{Shift, FifoLeft, Horizontal, Vertical}
 use Rattle.upp_curve.specs.Curve.{SpecCurve, value_at}
-use Rattle.upp_curve.specs.Deviations.{IsHorizontalDeviation, IsVerticalDeviation}
+use Rattle.min_plus.specs.Deviations.{IsHorizontalDeviation, IsVerticalDeviation}
 use Rattle.curve_making.specs.Answers.{IsMadeBy}
 use Rattle.curve_making.specs.Calls.{Applies, AppliesTo, goes_on, stops}
 use Rattle.priority_residual.specs.Calls.{MakesPriority}

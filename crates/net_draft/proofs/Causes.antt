@@ -4,8 +4,8 @@ use Rattle.std.proofs.Common.{sym, subst, refl, inl, inr}
 use Rattle.rational.specs.Rational.{ℚ, int, ◌≤ℚ◌, ◌<ℚ◌}
 use Rattle.rational.specs.declared.Extended.TheVariants.{Fin}
 use Rattle.upp_curve.specs.Curve.{SpecCurve, value_at}
-use Rattle.upp_curve.specs.Functions.{zero_q, IsRising}
-use Rattle.upp_curve.specs.Continuity.{IsContinuous}
+use Rattle.min_plus.specs.Functions.{zero_q, IsRising}
+use Rattle.min_plus.specs.Continuity.{IsContinuous}
 use Rattle.upp_curve.specs.Kinds.{stair, rate_latency, gate}
 use Rattle.upp_curve.specs.OwnLimits.{IsWithinOwn}
 use Rattle.curve_library.specs.declared.texts.PieceText.{PieceText}

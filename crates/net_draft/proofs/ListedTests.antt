@@ -11,10 +11,11 @@ use Rattle.affine_segment.specs.Values.{line_value}
 use Rattle.upp_curve.specs.declared.curve.Tail.{Tail}
 use Rattle.upp_curve.specs.declared.curve.Tail.TheVariants.{Periodic, Affine, Infinite}
 use Rattle.upp_curve.specs.Curve.{SpecCurve, value_at}
-use Rattle.upp_curve.specs.Functions.{zero_q, IsRising}
+use Rattle.min_plus.specs.Functions.{zero_q, IsRising}
 use Rattle.upp_curve.specs.Normal.{RisesFrom, StartsAtZero, IsRaw}
 use Rattle.upp_curve.specs.Shapes.{LineRises, EndsBelow, PieceRises, PiecesRise}
-use Rattle.upp_curve.specs.Continuity.{IsContinuous, EndsAtValue, PieceJoins, PiecesJoin}
+use Rattle.min_plus.specs.Continuity.{IsContinuous}
+use Rattle.upp_curve.specs.JoinedPieces.{EndsAtValue, PieceJoins, PiecesJoin}
 use Rattle.upp_curve.specs.Limits.{own_gauge, own_tally}
 use Rattle.upp_curve.specs.OwnLimits.{IsWithinOwn}
 use Rattle.upp_curve.proofs.RisingCurves.{GoesOn}

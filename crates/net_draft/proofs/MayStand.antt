@@ -10,8 +10,8 @@ use Rattle.rational.proofs.Integers.{nat_nonneg}
 use Rattle.rational.proofs.ExtendedOrder.{le_ext_trans}
 use Rattle.affine_segment.specs.declared.line.Piece.{Piece}
 use Rattle.upp_curve.specs.Curve.{SpecCurve, value_at, HasSameValues}
-use Rattle.upp_curve.specs.Continuity.{IsContinuous}
-use Rattle.upp_curve.specs.Functions.{zero_q, IsFinite, IsRising, IsNonnegative}
+use Rattle.min_plus.specs.Continuity.{IsContinuous}
+use Rattle.min_plus.specs.Functions.{zero_q, IsFinite, IsRising, IsNonnegative}
 use Rattle.upp_curve.specs.Kinds.{bucket, stair, rate_latency, gate}
 use Rattle.upp_curve.specs.Normal.{Each, RisesFrom}
 use Rattle.upp_curve.specs.Reading.{read}

@@ -11,10 +11,10 @@ use Rattle.rational.proofs.MinMax.{max_q_ge_left, max_q_ge_right, max_q_le, max_
 use Rattle.rational.proofs.Quotients.{div_mono, div_le, div_nonneg, zero_div}
 use Rattle.rational.proofs.Whole.{whole_le, whole_gt, whole_small}
 use Rattle.rational.proofs.Linear.{with2, with3, with5, with6, with8}
-use Rattle.upp_curve.specs.Functions.{zero_q}
+use Rattle.min_plus.specs.Functions.{zero_q}
 use Rattle.upp_curve.specs.Curve.{value_at}
 use Rattle.upp_curve.specs.Kinds.{gate}
-use Rattle.upp_curve.specs.Unrolled.{whole_up}
+use Rattle.min_plus.specs.WholeUp.{whole_up}
 use Rattle.upp_curve.proofs.Rounding.{whole_up_least, whole_up_most}
 use Rattle.upp_curve.proofs.StairValues.{ratio_low}
 use Rattle.upp_curve.proofs.GateValues.{gate_is}

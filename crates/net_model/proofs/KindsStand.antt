@@ -8,7 +8,7 @@ use Rattle.rational.proofs.Laws.{le_refl, mul_le_mul, mul_nonneg, mul_zero}
 use Rattle.rational.proofs.Integers.{nat_le, nat_nonneg}
 use Rattle.rational.proofs.MinMax.{max_q_is_left}
 use Rattle.rational.proofs.Linear.{with3, with4}
-use Rattle.upp_curve.specs.Functions.{zero_q}
+use Rattle.min_plus.specs.Functions.{zero_q}
 use Rattle.upp_curve.specs.Curve.{SpecCurve, value_at}
 use Rattle.upp_curve.specs.Kinds.{rate_latency, bucket, gate, stair}
 use Rattle.upp_curve.proofs.KindValues.{service_is, bucket_is}

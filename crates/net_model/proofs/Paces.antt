@@ -8,11 +8,11 @@ use Rattle.rational.proofs.Laws.{le_or_lt, le_of_lt, le_refl, mul_le_mul, mul_co
 use Rattle.rational.proofs.MinMax.{max_q_mono, max_q_ge_left, max_q_ge_right, max_q_le}
 use Rattle.rational.proofs.Quotients.{div_pos}
 use Rattle.rational.proofs.Linear.{with3, with4, with5, with6}
-use Rattle.upp_curve.specs.Functions.{zero_q, IsFinite, IsRising}
+use Rattle.min_plus.specs.Functions.{zero_q, IsFinite, IsRising}
 use Rattle.upp_curve.specs.Curve.{value_at}
 use Rattle.upp_curve.specs.Kinds.{rate_latency, bucket}
 use Rattle.upp_curve.proofs.KindValues.{service_is, bucket_is}
-use Rattle.upp_curve.specs.Continuity.{AreNear, IsContinuous}
+use Rattle.min_plus.specs.Continuity.{AreNear, IsContinuous}
 
 -- f is v, which rises by at most `rate` in a unit of time
 pub record HasPace (f : ℚ → Ext) (rate : ℚ) : Type 0 where

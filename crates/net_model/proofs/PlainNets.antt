@@ -18,7 +18,7 @@ use Rattle.rational.proofs.Linear.{with2}
 use Rattle.std.proofs.Common.{eq-eqb}
 use Rattle.std.proofs.lemmas.Bool.{not-true}
 use Rattle.rational.proofs.Laws.{le_refl, le_of_lt}
-use Rattle.upp_curve.specs.Functions.{zero_q}
+use Rattle.min_plus.specs.Functions.{zero_q}
 use Rattle.net_model.specs.Networks.{NetServer, NetFlow}
 use Rattle.net_model.specs.Names.{IsName, is_name_byte, DifferInName}
 use Rattle.net_model.specs.Accepted.{IsServer, IsFlow, IsHop, IsAccepted}

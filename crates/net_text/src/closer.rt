@@ -2,7 +2,7 @@
 
 ghost use Rattle.std.specs.Prelude.{◌≤◌, ◌+◌, ℕ};
 ghost use Rattle.upp_curve.specs.Curve.{SpecCurve, value_at};
-ghost use Rattle.upp_curve.specs.Functions.{IsFinite, IsNonnegative};
+ghost use Rattle.min_plus.specs.Functions.{IsFinite, IsNonnegative};
 ghost use Rattle.upp_curve.specs.declared.own_limits.OverLimit.{OverLimit};
 ghost use Rattle.net_text.specs.Closing.{KeepsClosing, HasOneLimit};
 

@@ -6,12 +6,11 @@ use Rattle.rational.specs.declared.Extended.TheVariants.{Fin, Inf}
 use Rattle.rational.proofs.ExtendedOrder.{min_left, le_ext_trans, antisym_ext}
 use Rattle.rational.proofs.Linear.{with1}
 use Rattle.upp_curve.specs.Curve.{SpecCurve, value_at}
-use Rattle.upp_curve.specs.Deviations.{IsHorizontalDeviation}
-use Rattle.upp_curve.proofs.Unambiguous.{deviations_are_unique}
+use Rattle.min_plus.specs.Deviations.{IsHorizontalDeviation}
+use Rattle.min_plus.proofs.Unambiguous.{deviations_are_unique}
 use Rattle.run_laws.specs.Cards.{whole}
 use Rattle.run_laws.specs.Delays.{AreAtMost}
 use Rattle.run_laws.specs.Examples.{one_packet}
-use Rattle.run_laws.proofs.OnePacket.{one_packet_reaches_its_bound}
 use Rattle.net_cells.specs.declared.cell.Cell.{Cell}
 use Rattle.net_cells.specs.declared.cell.Kind.TheVariants.{In, Total, QueueService, QueueDelay, HopDelay, Tfa, Bound}
 use Rattle.net_cells.specs.Cells.{cell_of}
@@ -21,7 +20,7 @@ use Rattle.net_cells.specs.Means.{HaveNumbers, with_links}
 use Rattle.net_cells.specs.NumberSums.{total}
 use Rattle.net_bounds.proofs.Kept.{table_bounds_every_run}
 use Rattle.netcalc_cli.specs.Example.{its_server, its_flow, one_flow, OneFlowReachesItsBound}
-use Rattle.netcalc_cli.proofs.ExampleNet.{accepted, ordered, is_run}
+use Rattle.netcalc_cli.proofs.ExampleNet.{accepted, ordered, reached, is_run}
 
 -- ---- curves
 arrival_is : (at : CellTable) → MeetsEquations one_flow at → at (cell_of In 0 0) ≡ Some (curve its_flow.arrival)
@@ -50,7 +49,7 @@ deviation_is (curve f) h = absurd h
 deviation_is (number x) h =
     ap number
     ((deviations_are_unique (value_at its_flow.arrival) (value_at its_server.service) x (Fin (whole 130))).0 h
-    one_packet_reaches_its_bound.its_bound)
+    reached.its_bound)
 
 queue_delay_is : (at : CellTable) → MeetsEquations one_flow at
     → at (cell_of QueueDelay 0 0) ≡ Some (number (Fin (whole 130)))
@@ -123,7 +122,7 @@ its_bound at m =
     let kept = (all.paths 0 refl).bound in
     let most = bound_at_most at m in
     let same = same_number at (cell_of Bound 0 0) kept.value most.value kept.is most.is in
-    let seen = subst (λ (ds : List ℚ). AreAtMost kept.value ds) one_packet_reaches_its_bound.its_delay kept.holds in
+    let seen = subst (λ (ds : List ℚ). AreAtMost kept.value ds) reached.its_delay kept.holds in
     let above : Fin (whole 130) ≤ₑ kept.value = seen.0 in
     let below : kept.value ≤ₑ Fin (whole 130) = subst (λ z. z ≤ₑ Fin (whole 130)) (sym same) most.most in
     kept.is ∙ ap (λ (x : Ext). Some (number x)) (antisym_ext kept.value (Fin (whole 130)) below above)
@@ -133,6 +132,6 @@ one_flow_reaches_its_bound = record {
   accepted = accepted;
   ordered = ordered;
   is_run = is_run;
-  its_delay = one_packet_reaches_its_bound.its_delay;
+  its_delay = reached.its_delay;
   its_bound = its_bound;
 }

@@ -8,8 +8,9 @@ use Rattle.rational.specs.declared.Extended.TheVariants.{Fin}
 use Rattle.rational.proofs.Integers.{nat_lt, nat_nonneg}
 use Rattle.upp_curve.specs.Curve.{value_at}
 use Rattle.upp_curve.specs.Windows.{IsLeast}
+use Rattle.upp_curve.proofs.KindValues.{bucket_is, service_is}
 use Rattle.run_laws.specs.Cards.{whole}
-use Rattle.run_laws.specs.Examples.{one_packet}
+use Rattle.run_laws.specs.Examples.{one_packet, ReachesItsBound}
 use Rattle.run_laws.specs.Premises.{KeepsService}
 use Rattle.run_laws.specs.Routes.{route_of}
 use Rattle.run_laws.specs.RunPremises.{EnterSizes, entered_in}
@@ -110,6 +111,13 @@ ordered = record { all = refl; each = each }
     each (suc place) within = absurd (omega (arith, within))
 
 -- ---- the run
+-- with the curves of the example
+pub reached : ReachesItsBound (value_at its_flow.arrival) (value_at its_server.service)
+reached = one_packet_reaches_its_bound (value_at its_flow.arrival) (value_at its_server.service) record {
+  bucket = bucket_is (whole 12000) (whole 10);
+  latency = service_is (whole 100) (whole 10) (nat_nonneg 100) (nat_nonneg 10);
+}
+
 -- flow 0 is the only live one
 only_flow : (flow : ℕ) → (route_of (routes_of one_flow) flow).live ≡ true → 0 ≡ flow
 only_flow zero live = refl
@@ -117,14 +125,14 @@ only_flow (suc flow) live = let bad : false ≡ true = live in absurd (cc)
 
 keeps_service : (server : ℕ) → server < 1
     → KeepsService (value_at (service one_flow server)) one_packet.end (view (routes_of one_flow) one_packet server)
-keeps_service zero within = one_packet_reaches_its_bound.keeps.service 0 (omega arith)
+keeps_service zero within = reached.keeps.service 0 (omega arith)
 keeps_service (suc server) within = absurd (omega (arith, within))
 
 pub is_run : IsRunOf one_flow one_packet
 is_run =
-    let keeps = one_packet_reaches_its_bound.keeps in
+    let keeps = reached.keeps in
     record {
-      lawful = one_packet_reaches_its_bound.is_lawful;
+      lawful = reached.is_lawful;
       keeps = record {
         sizes = λ flow live. subst (λ i. EnterSizes i (packet one_flow i) one_packet.steps) (only_flow flow live)
             (keeps.sizes 0 refl);

@@ -2,7 +2,7 @@
 use Rattle.std.specs.Prelude.{◌≡◌, Result, Ok, Err}
 use Rattle.upp_curve.specs.Curve.{SpecCurve, value_at}
 use Rattle.upp_curve.specs.Curves.{IsCurve}
-use Rattle.upp_curve.specs.Functions.{IsFinite, IsNonnegative}
+use Rattle.min_plus.specs.Functions.{IsFinite, IsNonnegative}
 use Rattle.upp_curve.specs.declared.own_limits.OverLimit.{OverLimit}
 use Rattle.upp_curve.specs.declared.own_limits.OverLimit.TheVariants as limits
 use Rattle.upp_curve.specs.declared.op_kind.OpFault.{OpFault}

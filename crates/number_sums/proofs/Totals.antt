@@ -17,7 +17,7 @@ use Rattle.rational.proofs.Integers.{nat_le, int_add, int_mul}
 use Rattle.rational.proofs.Laws.{le_refl, le_trans, le_or_lt, add_assoc, add_comm, add_zero}
 use Rattle.rational.proofs.MinMax.{max_q_ge_left, max_q_ge_right, max_q_one, max_q_right, max_q_is_left}
 use Rattle.rational.proofs.Linear.{with1, with2}
-use Rattle.upp_curve.specs.Functions.{zero_q}
+use Rattle.min_plus.specs.Functions.{zero_q}
 use Rattle.upp_curve.proofs.CommonDen.{common_den_each, common_den_least, common_den_pos, size_up_within}
 use Rattle.upp_curve.proofs.Gathering.{den_more}
 use Rattle.net_cells.specs.NumberSums.{total, has_infinite, finite, sizes, sum_gauge, sum_tally, Sums}

@@ -3,7 +3,7 @@ use Rattle.std.specs.Prelude.{◌≡◌, ℕ, ◌*◌, ◌^◌, ◌<◌, max, Li
 use Rattle.rational.specs.Rational.{ℚ, ◌+ℚ◌, neg_ℚ}
 use Rattle.rational.specs.MinMax.{max_q}
 use Rattle.rational.specs.Gauge.{common_den, size_up}
-use Rattle.upp_curve.specs.Functions.{zero_q}
+use Rattle.min_plus.specs.Functions.{zero_q}
 use Rattle.rational.specs.Extended.{Ext}
 use Rattle.net_cells.specs.NumberSums.{sizes, has_infinite, finite}
 use Rattle.number_sums.specs.declared.numbers.Tally.{Tally}

@@ -4,8 +4,8 @@ use Rattle.rational.specs.Rational.{ℚ, ◌≤ℚ◌}
 use Rattle.rational.specs.Extended.{Ext}
 use Rattle.upp_curve.specs.declared.op_kind.OpKind.TheVariants.{PosMinus}
 use Rattle.upp_curve.specs.Curve.{SpecCurve, value_at}
-use Rattle.upp_curve.specs.Functions.{zero_q}
-use Rattle.upp_curve.specs.Pointwise.{IsPositiveMinus}
+use Rattle.min_plus.specs.Functions.{zero_q}
+use Rattle.min_plus.specs.Pointwise.{IsPositiveMinus}
 use Rattle.curve_making.specs.Calls.{AppliesTo}
 use Rattle.curve_making.specs.Growth.{GrowsFromZero, IsServiceCurve}
 

@@ -4,8 +4,8 @@ ghost use Rattle.std.specs.Prelude.{◌≡◌, ◌+◌, IfOk};
 ghost use Rattle.rational.specs.Rational.{ℚ, ◌≤ℚ◌};
 ghost use Rattle.upp_curve.specs.declared.op_kind.OpKind.TheVariants.{PosMinus};
 ghost use Rattle.upp_curve.specs.Curve.{value_at};
-ghost use Rattle.upp_curve.specs.Functions.{zero_q, IsFinite};
-ghost use Rattle.upp_curve.specs.Pointwise.{IsPositiveMinus};
+ghost use Rattle.min_plus.specs.Functions.{zero_q, IsFinite};
+ghost use Rattle.min_plus.specs.Pointwise.{IsPositiveMinus};
 ghost use Rattle.curve_making.specs.Calls.{AppliesTo};
 
 use curve_envelope::pos_minus;

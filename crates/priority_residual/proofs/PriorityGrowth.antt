@@ -7,8 +7,8 @@ use Rattle.rational.specs.declared.Extended.TheVariants.{Fin}
 use Rattle.rational.proofs.ExtendedOrder.{le_ext_trans, same_le_ext}
 use Rattle.rational.proofs.Laws.{le_refl}
 use Rattle.upp_curve.specs.Curve.{value_at}
-use Rattle.upp_curve.specs.Functions.{zero_q, IsNonnegative}
-use Rattle.upp_curve.specs.Pointwise.{excess}
+use Rattle.min_plus.specs.Functions.{zero_q, IsNonnegative}
+use Rattle.min_plus.specs.Pointwise.{excess}
 use Rattle.run_laws.specs.Cards.{whole}
 use Rattle.run_laws.proofs.Sizes.{whole_nonneg}
 use Rattle.curve_making.specs.Growth.{GrowsFromZero, IsBoundedFromZero}

@@ -12,7 +12,7 @@ use Rattle.rational.proofs.Bounds.{smallest}
 use Rattle.rational.proofs.ExtendedOrder.{le_ext_trans, le_ext_refl, add_le_ext}
 use Rattle.rational.proofs.Laws.{le_refl, le_trans, le_of_lt, le_or_lt, antisym}
 use Rattle.rational.proofs.Linear.{with1, with2, with3, with4, with6, with7, with8}
-use Rattle.upp_curve.specs.Pointwise.{excess}
+use Rattle.min_plus.specs.Pointwise.{excess}
 use Rattle.run_laws.specs.Cards.{Card, whole, Class, all, of_queue, before_queue, upto_queue, after_queue, AreParts, ServerStep, Works, time_of}
 use Rattle.run_laws.specs.Servers.{Discipline, Priority, Server, Round, ServerState, head_of, start}
 use Rattle.run_laws.specs.Next.{next, after}

@@ -3,8 +3,8 @@ use Rattle.std.specs.Prelude.{◌≡◌, ℕ, pos, List}
 use Rattle.rational.specs.Rational.{ℚ, int, ◌≤ℚ◌}
 use Rattle.rational.specs.Extended.{Ext}
 use Rattle.rational.specs.declared.Extended.TheVariants.{Fin}
-use Rattle.upp_curve.specs.Pointwise.{excess}
-use Rattle.upp_curve.specs.Running.{IsRunningSupremum}
+use Rattle.min_plus.specs.Pointwise.{excess}
+use Rattle.min_plus.specs.Running.{IsRunningSupremum}
 use Rattle.run_laws.specs.Cards.{whole, of_queue, before_queue, after_queue, ServerStep}
 use Rattle.run_laws.specs.Servers.{Priority, Server}
 use Rattle.run_laws.specs.Allows.{IsLawfulView}

@@ -2,7 +2,7 @@
 
 ghost use Rattle.std.specs.Prelude.{◌≡◌, ◌+◌, ◌≤◌, IfOk};
 ghost use Rattle.upp_curve.specs.Curve.{value_at};
-ghost use Rattle.upp_curve.specs.Functions.{IsFinite};
+ghost use Rattle.min_plus.specs.Functions.{IsFinite};
 ghost use Rattle.run_laws.specs.Cards.{whole};
 ghost use Rattle.priority_residual.specs.Calls.{LeavesPriority, MakesPriority};
 ghost use Rattle.priority_residual.specs.Laws.{IsPriorityService};

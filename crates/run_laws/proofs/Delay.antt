@@ -13,12 +13,12 @@ use Rattle.run_laws.specs.Next.{next, after}
 use Rattle.run_laws.specs.Allows.{AllAllowed, IsLawfulView}
 use Rattle.run_laws.specs.Counts.{total, arrives, upto, arrived, arrived_upto, arrived_in, worked, departed}
 use Rattle.run_laws.specs.Premises.{KeepsArrivals}
-use Rattle.upp_curve.specs.Functions.{IsRising}
+use Rattle.min_plus.specs.Functions.{IsRising}
 use Rattle.run_laws.specs.Delays.{gone_at, kept, hop_delays, AreAtMost}
-use Rattle.run_laws.proofs.Deviations.{Within, within_deviation, deviation_nonneg}
+use Rattle.min_plus.proofs.Deviations.{Within, within_deviation, deviation_nonneg}
 use Rattle.run_laws.proofs.Levels.{finite_below}
 use Rattle.rational.proofs.ExtendedOrder.{le_ext_trans}
-use Rattle.upp_curve.specs.Deviations.{IsHorizontalDeviation}
+use Rattle.min_plus.specs.Deviations.{IsHorizontalDeviation}
 use Rattle.run_laws.specs.Serves.{Serves}
 use Rattle.rational.proofs.Over.{le_q_out}
 use Rattle.run_laws.proofs.Sums.{when_true, total-append}

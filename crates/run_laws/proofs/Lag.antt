@@ -22,7 +22,7 @@ use Rattle.run_laws.proofs.Cuts.{upto_edge, IsBefore, at_time}
 use Rattle.run_laws.proofs.Gone.{complete_leaves, first_left, left_nonneg, after-append}
 use Rattle.run_laws.proofs.Waiting.{of_class, bits_of, class-append, sum_class, NotOver, done_below, allowed-append, all_upto, combine, bits_nonneg}
 use Rattle.run_laws.proofs.Delay.{stay_at_most}
-use Rattle.run_laws.proofs.Deviations.{Within}
+use Rattle.min_plus.proofs.Deviations.{Within}
 use Rattle.run_laws.proofs.Oldest.{departures_of, arrivals_of, queue_order, left_part, oldest}
 use Rattle.run_laws.proofs.Sizes.{size_pos}
 

@@ -1,6 +1,5 @@
 pub mod Sizes
 pub mod Levels
-pub mod Deviations
 pub mod Clips
 pub mod Sums
 pub mod Counts

@@ -6,13 +6,13 @@ use Rattle.std.proofs.lemmas.Bool.{cases_Bool, eq-eqb}
 use Rattle.rational.specs.Rational.{ℚ, ◌-ℚ◌}
 use Rattle.rational.specs.Extended.{Ext, ◌≤ₑ◌, ◌+ₑ◌}
 use Rattle.rational.specs.declared.Extended.TheVariants.{Fin}
-use Rattle.upp_curve.specs.Deviations.{IsHorizontalDeviation, IsVerticalDeviation}
-use Rattle.upp_curve.specs.Pointwise.{packetised}
+use Rattle.min_plus.specs.Deviations.{IsHorizontalDeviation, IsVerticalDeviation}
+use Rattle.min_plus.specs.Pointwise.{packetised}
 use Rattle.run_laws.specs.Runs.{SpecRun}
 use Rattle.run_laws.specs.Cards.{Card, whole, of_queue, of_flow}
 use Rattle.run_laws.specs.Counts.{within}
 use Rattle.run_laws.specs.Premises.{EachArrival, KeepsArrivals, IsZeroAtStart}
-use Rattle.upp_curve.specs.Functions.{IsRising}
+use Rattle.min_plus.specs.Functions.{IsRising}
 use Rattle.run_laws.specs.Routes.{Routes, link_at, route_of, queue_at, first_server, server_after}
 use Rattle.run_laws.specs.Views.{view}
 use Rattle.run_laws.specs.Lawful.{run_start, IsLawful}

@@ -3,14 +3,14 @@ use Rattle.std.specs.Prelude.{◌≡◌, ◌<◌, ℕ, zero, suc, true, ◌==◌
 use Rattle.std.proofs.Common.{arith, ap, ◌∙◌, refl, subst, inl, inr}
 use Rattle.rational.specs.Rational.{ℚ, ◌+ℚ◌, ◌-ℚ◌, ◌*ℚ◌, ◌/ℚ◌, ◌≤ℚ◌, ◌<ℚ◌, lt_q}
 use Rattle.rational.specs.MinMax.{max_q}
-use Rattle.rational.specs.Extended.{◌≤ₑ◌}
+use Rattle.rational.specs.Extended.{Ext, ◌≤ₑ◌}
 use Rattle.rational.specs.declared.Extended.TheVariants.{Fin}
 use Rattle.rational.proofs.MinMax.{max_q_left, max_q_right, lt_q_not, le_q_not}
 use Rattle.rational.proofs.Laws.{le_refl, le_or_lt, between, mul_sub, mul_comm}
 use Rattle.rational.proofs.Linear.{with1, with2, with3, with4, with5}
-use Rattle.upp_curve.specs.Deviations.{IsHorizontalDeviation}
-use Rattle.upp_curve.proofs.KindValues.{bucket_is, service_is}
-use Rattle.upp_curve.proofs.BucketDeviations.{delay}
+use Rattle.min_plus.specs.Deviations.{IsHorizontalDeviation}
+use Rattle.min_plus.specs.Formulas.{IsBucket, IsService}
+use Rattle.min_plus.proofs.BucketDelay.{horizontal_finite}
 use Rattle.run_laws.specs.Cards.{whole, all, ServerStep}
 use Rattle.run_laws.specs.Servers.{clip}
 use Rattle.run_laws.specs.Counts.{when, within, arrived, worked}
@@ -18,7 +18,7 @@ use Rattle.run_laws.specs.Premises.{KeepsService, IsBusy}
 use Rattle.run_laws.specs.Routes.{route_of, PassesServer}
 use Rattle.run_laws.specs.Views.{view}
 use Rattle.run_laws.specs.RunPremises.{entered_in}
-use Rattle.run_laws.specs.Examples.{one_server, one_packet, its_arrivals, its_service, OnePacketReachesItsBound}
+use Rattle.run_laws.specs.Examples.{one_server, one_packet, OnePacketReachesItsBound}
 use Rattle.rational.proofs.Over.{le_q_out}
 use Rattle.run_laws.proofs.Sums.{when_true, when_false, when_most}
 use Rattle.run_laws.proofs.Clips.{clip_early, quotient}
@@ -81,9 +81,6 @@ from_0 a b l busy = elim (le_or_lt (whole 0) a) [
         upto x b h k = with2 x b (λ c. omega (arith, c.le, c.lt, c.same))
 
 -- ---- it keeps the service curve
-service_at : (x : ℚ) → whole 0 ≤ℚ x → its_service 0 x ≡ Fin (whole 100 *ℚ max_q (whole 0) (x -ℚ whole 10))
-service_at x on = (service_is (whole 100) (whole 10) (le_t 0 100 refl) (le_t 0 10 refl)).is x on
-
 -- work of x before, and y after, a window of which less than 10 or more is busy
 enough : (a b x y : ℚ) → x ≤ℚ y → x +ℚ whole 100 *ℚ (b -ℚ a -ℚ whole 10) ≤ℚ y → x +ℚ whole 100 *ℚ max_q (whole 0) (b -ℚ a -ℚ whole 10) ≤ℚ y
 enough a b x y h k = elim (le_or_lt (whole 0) (b -ℚ a -ℚ whole 10)) [
@@ -126,29 +123,30 @@ window a b l end busy =
         → x +ℚ whole 100 *ℚ max_q (whole 0) (b -ℚ a -ℚ whole 10) ≤ℚ y
     both a b x y e f h = enough a b x y (with4 a b x y (λ c. omega (arith, c.le, c.lt, c.same))) (with4 a b x y (λ c. omega (arith, c.le, c.lt, c.same)))
 
-keeps_service : KeepsService (its_service 0) (whole 130) steps
-keeps_service a b l end busy =
+keeps_service : (g : ℚ → Ext) → IsService (whole 100) (whole 10) g → KeepsService g (whole 130) steps
+keeps_service g G a b l end busy =
     let on : whole 0 ≤ℚ b -ℚ a = with2 a b (λ c. omega (arith, c.le, c.lt, c.same)) in
-    rw (service_at (b -ℚ a) on) (window a b l end busy)
+    rw (G.is (b -ℚ a) on) (window a b l end busy)
 
-by_server : (s : ℕ) → s < 1 → KeepsService (its_service s) (whole 130) (view one_server one_packet s)
-by_server zero h = keeps_service
-by_server (suc n) h = absurd (omega arith)
+by_server : (g : ℚ → Ext) → IsService (whole 100) (whole 10) g → (s : ℕ) → s < 1 → KeepsService g (whole 130) (view one_server one_packet s)
+by_server g G zero h = keeps_service g G
+by_server g G (suc n) h = absurd (omega arith)
 
 -- ---- it keeps the arrival curve
-keeps_arrivals : (flow : ℕ) (s u : ℚ) → s ≤ℚ u → Fin (entered_in flow s u one_packet.steps) ≤ₑ its_arrivals flow (u -ℚ s)
-keeps_arrivals flow s u l =
+keeps_arrivals : (f : ℚ → Ext) → IsBucket (whole 12000) (whole 10) f → (flow : ℕ) (s u : ℚ) → s ≤ℚ u
+    → Fin (entered_in flow s u one_packet.steps) ≤ₑ f (u -ℚ s)
+keeps_arrivals f F flow s u l =
     let on : whole 0 ≤ℚ u -ℚ s = with2 s u (λ c. omega (arith, c.le, c.lt, c.same)) in
     let k = when_most ((0 == flow) && within s u (whole 0)) (whole 12000) (le_t 0 12000 refl) in
-    rw ((bucket_is (whole 12000) (whole 10)).is (u -ℚ s) on) (with3 (when ((0 == flow) && within s u (whole 0)) (whole 12000)) s u (λ c. omega (arith, c.le, c.lt, c.same)))
+    rw (F.is (u -ℚ s) on) (with3 (when ((0 == flow) && within s u (whole 0)) (whole 12000)) s u (λ c. omega (arith, c.le, c.lt, c.same)))
 
 -- ---- its bound
-bound_is : IsHorizontalDeviation (its_arrivals 0) (its_service 0) (Fin (whole 130))
-bound_is =
+bound_is : (f g : ℚ → Ext) → IsBucket (whole 12000) (whole 10) f → IsService (whole 100) (whole 10) g → IsHorizontalDeviation f g (Fin (whole 130))
+bound_is f g F G =
     let e = quotient (whole 12000) (whole 100) (lt_t 0 100 refl) in
     let sum : whole 10 +ℚ whole 12000 /ℚ whole 100 ≡ whole 130 = ten_more (whole 12000 /ℚ whole 100) e (mul_comm (whole 12000 /ℚ whole 100) (whole 100)) in
-    subst (λ (x : ℚ). IsHorizontalDeviation (its_arrivals 0) (its_service 0) (Fin x)) sum
-    (delay (whole 12000) (whole 10) (whole 100) (whole 10) (le_t 0 12000 refl) (le_t 0 10 refl) (lt_t 0 100 refl) (le_t 0 10 refl) (le_t 10 100 refl) (inl (lt_t 0 12000 refl)))
+    subst (λ (x : ℚ). IsHorizontalDeviation f g (Fin x)) sum
+    (horizontal_finite (whole 12000) (whole 10) (whole 100) (whole 10) f g (le_t 0 12000 refl) (le_t 0 10 refl) (lt_t 0 100 refl) (le_t 0 10 refl) (le_t 10 100 refl) (inl (lt_t 0 12000 refl)) F G)
   where
     ten_more : (q : ℚ) → q *ℚ whole 100 ≡ whole 12000 → q *ℚ whole 100 ≡ whole 100 *ℚ q → whole 10 +ℚ q ≡ whole 130
     ten_more q e f = with2 q (q *ℚ whole 100) (λ c. omega (arith, c.le, c.lt, c.same))
@@ -158,17 +156,17 @@ only_flow zero live passes = refl
 only_flow (suc j) live passes = absurd passes
 
 pub one_packet_reaches_its_bound : OnePacketReachesItsBound
-one_packet_reaches_its_bound = record {
+one_packet_reaches_its_bound f g h = record {
   is_alone = record { known = omega arith; is_fifo = refl; is_live = refl; one_hop = record { path = refl; link_on = le_t 0 0 refl }; alone = only_flow };
-  from_zero = latency_is_zero_at_start (whole 100) (whole 10) (le_t 0 100 refl) (le_t 0 10 refl);
-  rises = latency_rises (whole 100) (whole 10) (le_t 0 100 refl) (le_t 0 10 refl);
+  from_zero = latency_is_zero_at_start (whole 100) (whole 10) g (le_t 0 10 refl) h.latency;
+  rises = latency_rises (whole 100) (whole 10) g (le_t 0 100 refl) h.latency;
   is_lawful = one_packet_is_lawful;
   keeps = record {
     sizes = λ flow live. (λ e. omega arith, tt);
-    arrivals = λ flow live s u l. keeps_arrivals flow s u l;
-    service = by_server;
+    arrivals = λ flow live s u l. keeps_arrivals f h.bucket flow s u l;
+    service = by_server g h.latency;
   };
   its_delay = ap (λ (x : ℚ). x ∷ []) (with1 (whole 0) (λ c. omega (arith, c.le, c.lt, c.same)));
   its_hop_delay = ap (λ (x : ℚ). x ∷ []) (with1 (whole 0) (λ c. omega (arith, c.le, c.lt, c.same)));
-  its_bound = bound_is;
+  its_bound = bound_is f g h.bucket h.latency;
 }

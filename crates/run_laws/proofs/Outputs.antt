@@ -8,8 +8,8 @@ use Rattle.rational.specs.declared.Extended.TheVariants.{Fin}
 use Rattle.rational.proofs.Laws.{le_refl, le_trans, le_of_lt, le_or_lt}
 use Rattle.rational.proofs.ExtendedOrder.{le_ext_trans}
 use Rattle.rational.proofs.Linear.{with1, with2, with3, with4, with7}
-use Rattle.upp_curve.specs.Pointwise.{packetised}
-use Rattle.upp_curve.specs.Convolution.{IsDeconvolution}
+use Rattle.min_plus.specs.Pointwise.{packetised}
+use Rattle.min_plus.specs.Convolution.{IsDeconvolution}
 use Rattle.run_laws.specs.Cards.{size, whole, Class, ServerStep, Arrives, Works, Leaves, Visits, time_of}
 use Rattle.run_laws.specs.Servers.{Server, ServerState, start}
 use Rattle.run_laws.specs.Next.{next}

@@ -8,7 +8,7 @@ use Rattle.rational.specs.declared.Extended.TheVariants.{Fin}
 use Rattle.rational.proofs.MinMax.{max_q_left, max_q_right}
 use Rattle.rational.proofs.Laws.{le_refl, le_trans, le_of_lt, le_or_lt}
 use Rattle.rational.proofs.Linear.{with1, with2, with5}
-use Rattle.upp_curve.specs.Pointwise.{packetised}
+use Rattle.min_plus.specs.Pointwise.{packetised}
 use Rattle.run_laws.specs.Cards.{Class, all, whole, ServerStep}
 use Rattle.run_laws.specs.Servers.{Server}
 use Rattle.run_laws.specs.Allows.{IsLawfulView}

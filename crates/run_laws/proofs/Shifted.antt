@@ -8,9 +8,9 @@ use Rattle.rational.specs.declared.Extended.TheVariants.{Fin, Inf}
 use Rattle.rational.proofs.Laws.{le_refl, le_trans, le_or_lt}
 use Rattle.rational.proofs.ExtendedOrder.{le_ext_trans}
 use Rattle.rational.proofs.Linear.{with1, with2, with3, with4, with5, with6, with8}
-use Rattle.upp_curve.specs.Pointwise.{shifted}
-use Rattle.upp_curve.specs.Functions.{IsRising}
-use Rattle.upp_curve.specs.Deviations.{IsHorizontalDeviation}
+use Rattle.min_plus.specs.Pointwise.{shifted}
+use Rattle.min_plus.specs.Functions.{IsRising}
+use Rattle.min_plus.specs.Deviations.{IsHorizontalDeviation}
 use Rattle.run_laws.specs.Cards.{Card, size, Class, IsOfQueue, IsPart, ServerStep, Arrives, Works, Leaves, Visits}
 use Rattle.run_laws.specs.Servers.{Server, ServerState, Under, start}
 use Rattle.run_laws.specs.Next.{next, after}
@@ -28,7 +28,7 @@ use Rattle.run_laws.proofs.Orders.{at_before}
 use Rattle.run_laws.proofs.Gone.{left_nonneg}
 use Rattle.run_laws.proofs.Waiting.{allowed-append}
 use Rattle.run_laws.proofs.Delay.{kept_first, kept_rest}
-use Rattle.run_laws.proofs.Deviations.{within_deviation, deviation_nonneg}
+use Rattle.min_plus.proofs.Deviations.{within_deviation, deviation_nonneg}
 use Rattle.run_laws.proofs.Oldest.{Oldest, oldest}
 use Rattle.run_laws.proofs.Arrivals.{none_arrive, arrivals_map}
 use Rattle.run_laws.proofs.Outputs.{departed_in_is, left_came, nothing_leaves}

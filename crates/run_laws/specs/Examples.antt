@@ -3,10 +3,9 @@ use Rattle.std.specs.Prelude.{None, ◌≡◌, ℕ, true, false, List, [], ◌�
 use Rattle.rational.specs.Rational.{ℚ, ◌+ℚ◌}
 use Rattle.rational.specs.Extended.{Ext}
 use Rattle.rational.specs.declared.Extended.TheVariants.{Fin}
-use Rattle.upp_curve.specs.Curve.{value_at}
-use Rattle.upp_curve.specs.Functions.{IsRising}
-use Rattle.upp_curve.specs.Kinds.{bucket, rate_latency}
-use Rattle.upp_curve.specs.Deviations.{IsHorizontalDeviation}
+use Rattle.min_plus.specs.Functions.{IsRising}
+use Rattle.min_plus.specs.Formulas.{IsBucket, IsService}
+use Rattle.min_plus.specs.Deviations.{IsHorizontalDeviation}
 use Rattle.run_laws.specs.declared.steps.Step.{Step}
 use Rattle.run_laws.specs.declared.steps.Step.TheVariants.{Enter, Reach, Work, Leave, Visit}
 use Rattle.run_laws.specs.Runs.{SpecRun}
@@ -44,23 +43,26 @@ one_packet =
     (Enter 0 0 (whole 0) 12000 ∷ Work 0 0 (whole 10) (whole 130) (whole 12000) ∷ Leave 0 0 (whole 130) ∷ [])
 
 -- a burst of 12000 bits and 10 per time; 100 per time after 10
-abbrev pub its_arrivals : ℕ → ℚ → Ext
-its_arrivals flow = value_at (bucket (whole 12000) (whole 10))
-
-abbrev pub its_service : ℕ → ℚ → Ext
-its_service s = value_at (rate_latency (whole 100) (whole 10))
+pub record AreItsCurves (arrivals service : ℚ → Ext) : Type 0 where
+  pub bucket : IsBucket (whole 12000) (whole 10) arrivals
+  pub latency : IsService (whole 100) (whole 10) service
 
 -- the run meets all that is asked of one flow over one server, and its delay is the horizontal deviation of its
 -- curves, 130
-pub record OnePacketReachesItsBound : Type 0 where
+pub record ReachesItsBound (arrivals service : ℚ → Ext) : Type 0 where
   pub is_alone : IsOnlyFlow one_server 0 0
-  pub from_zero : IsZeroAtStart (its_service 0)
-  pub rises : IsRising (its_service 0)
+  pub from_zero : IsZeroAtStart service
+  pub rises : IsRising service
   pub is_lawful : IsLawful one_server one_packet
-  pub keeps : KeepsPremises one_server (λ flow. 12000) its_arrivals its_service one_packet
+  pub keeps : KeepsPremises one_server (λ flow. 12000) (λ flow. arrivals) (λ s. service) one_packet
   pub its_delay : delays one_server one_packet 0 ≡ whole 130 ∷ []
   pub its_hop_delay : hop_delays (of_queue 0) (whole 130) (view one_server one_packet 0) ≡ whole 130 ∷ []
-  pub its_bound : IsHorizontalDeviation (its_arrivals 0) (its_service 0) (Fin (whole 130))
+  pub its_bound : IsHorizontalDeviation arrivals service (Fin (whole 130))
+
+-- with all functions that have the values of its curves from 0 on
+abbrev pub OnePacketReachesItsBound : Type 0
+OnePacketReachesItsBound = (arrivals service : ℚ → Ext) → AreItsCurves arrivals service
+    → ReachesItsBound arrivals service
 
 -- ---- a run that ends in the middle of work: 6000 of 12000 bits are done from 10 to 70
 abbrev pub cut_in_work : SpecRun

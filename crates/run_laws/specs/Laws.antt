@@ -4,16 +4,16 @@ use Rattle.std.specs.Prelude.{◌≡◌, ◌<◌, ◌≤◌, ℕ, pos, true, Lis
 use Rattle.rational.specs.Rational.{ℚ, int, ◌-ℚ◌, ◌≤ℚ◌}
 use Rattle.rational.specs.Extended.{Ext, ◌≤ₑ◌, ◌+ₑ◌}
 use Rattle.rational.specs.declared.Extended.TheVariants.{Fin}
-use Rattle.upp_curve.specs.Convolution.{IsDeconvolution}
-use Rattle.upp_curve.specs.Deviations.{IsHorizontalDeviation, IsVerticalDeviation}
-use Rattle.upp_curve.specs.Pointwise.{packetised, shifted}
+use Rattle.min_plus.specs.Convolution.{IsDeconvolution}
+use Rattle.min_plus.specs.Deviations.{IsHorizontalDeviation, IsVerticalDeviation}
+use Rattle.min_plus.specs.Pointwise.{packetised, shifted}
 use Rattle.run_laws.specs.Runs.{SpecRun}
 use Rattle.run_laws.specs.Cards.{Class, all, of_queue, whole, IsOfQueue, IsPart, ServerStep}
 use Rattle.run_laws.specs.Servers.{Fifo, Server}
 use Rattle.run_laws.specs.Allows.{IsLawfulView}
 use Rattle.run_laws.specs.Counts.{departed_in}
 use Rattle.run_laws.specs.Premises.{KeepsSizes, KeepsArrivals, KeepsService, IsZeroAtStart, NoneTwice}
-use Rattle.upp_curve.specs.Functions.{IsRising}
+use Rattle.min_plus.specs.Functions.{IsRising}
 use Rattle.run_laws.specs.Serves.{Serves, ServesPackets}
 use Rattle.run_laws.specs.Delays.{hop_delays, AreAtMost, backlog}
 use Rattle.run_laws.specs.Routes.{Routes, server_at, link_at}

@@ -3,9 +3,9 @@ use Rattle.std.specs.Prelude.{Result, Ok, Err, IfOk}
 use Rattle.rational.specs.Rational.{ℚ, ◌≤ℚ◌}
 use Rattle.upp_curve.specs.declared.op_kind.OpFault.{OpFault}
 use Rattle.upp_curve.specs.Curve.{SpecCurve, value_at}
-use Rattle.upp_curve.specs.Functions.{zero_q, IsFinite, IsNonnegative}
+use Rattle.min_plus.specs.Functions.{zero_q, IsFinite, IsNonnegative}
 use Rattle.upp_curve.specs.Normal.{IsNormal}
-use Rattle.upp_curve.specs.Convolution.{IsSubadditiveClosure}
+use Rattle.min_plus.specs.Convolution.{IsSubadditiveClosure}
 use Rattle.closure_laws.specs.ClosureLaws.{ClosureKeeps}
 use Rattle.closure_laws.proofs.KeptShapes.{closures_keep}
 use Rattle.closure_fold.specs.Folds.{CloseAnswer}

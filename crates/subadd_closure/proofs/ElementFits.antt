@@ -22,7 +22,7 @@ use Rattle.upp_curve.specs.declared.curve.Tail.{Tail}
 use Rattle.upp_curve.specs.declared.curve.Tail.TheVariants.{Periodic, Affine, Infinite}
 use Rattle.upp_curve.specs.Curve.{SpecCurve, value_at}
 use Rattle.upp_curve.specs.Curves.{IsCurve}
-use Rattle.upp_curve.specs.Functions.{zero_q, IsFinite, IsNonnegative}
+use Rattle.min_plus.specs.Functions.{zero_q, IsFinite, IsNonnegative}
 use Rattle.upp_curve.specs.Normal.{TailFits, IsNormal}
 use Rattle.upp_curve.specs.Readable.{EachFits, LineFitsAt, TailReadable}
 use Rattle.curve_conv.specs.PieceElements.{next_start, elements_of, Among}

@@ -16,7 +16,7 @@ use Rattle.affine_segment.specs.declared.element.Element.TheVariants.{Open}
 use Rattle.upp_curve.specs.declared.curve.Tail.{Tail}
 use Rattle.upp_curve.specs.declared.curve.Tail.TheVariants.{Periodic, Affine, Infinite}
 use Rattle.upp_curve.specs.Curve.{SpecCurve}
-use Rattle.upp_curve.specs.Functions.{zero_q}
+use Rattle.min_plus.specs.Functions.{zero_q}
 use Rattle.upp_curve.specs.Normal.{Each, StartsAtZero, IsRaw, IsNormal}
 use Rattle.upp_curve.specs.Steady.{rank_of, steady}
 use Rattle.upp_curve.specs.Periods.{own_period}

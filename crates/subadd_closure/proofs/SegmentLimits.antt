@@ -17,7 +17,7 @@ use Rattle.upp_curve.specs.declared.op_kind.OpKind.TheVariants.{Itself}
 use Rattle.upp_curve.specs.declared.op_kind.OpFault.{OpFault}
 use Rattle.upp_curve.specs.declared.op_kind.OpFault.TheVariants.{TooMany, TooWide, NoMemory}
 use Rattle.upp_curve.specs.Curve.{SpecCurve}
-use Rattle.upp_curve.specs.Functions.{zero_q}
+use Rattle.min_plus.specs.Functions.{zero_q}
 use Rattle.upp_curve.specs.Limits.{gauge_of, sizes_of, own_end, own_sizes, own_gauge}
 use Rattle.upp_curve.specs.Windows.{window_at}
 use Rattle.upp_curve.specs.Gauges.{numbers_over, gauge_over, gauge_at}

@@ -3,9 +3,9 @@
 ghost use Rattle.std.specs.Prelude.{◌≡◌, ◌+◌, ◌<◌, ◌≤◌, map, length, All, IfOk};
 ghost use Rattle.rational.specs.Rational.{ℚ, ◌≤ℚ◌};
 ghost use Rattle.upp_curve.specs.Curve.{value_at};
-ghost use Rattle.upp_curve.specs.Convolution.{IsSubadditiveClosure};
+ghost use Rattle.min_plus.specs.Convolution.{IsSubadditiveClosure};
 ghost use Rattle.upp_curve.specs.Curves.{IsCurve};
-ghost use Rattle.upp_curve.specs.Functions.{IsFinite, IsNonnegative, zero_q};
+ghost use Rattle.min_plus.specs.Functions.{IsFinite, IsNonnegative, zero_q};
 ghost use Rattle.upp_curve.specs.declared.op_kind.OpKind.TheVariants.{Convolve};
 ghost use Rattle.curve_conv.specs.PieceElements.{elements_of};
 ghost use Rattle.curve_making.specs.Calls.{Applies, Then};

@@ -2,7 +2,7 @@
 
 ghost use Rattle.std.specs.Prelude.{◌≡◌, ◌+◌, ◌≤◌, IfOk};
 ghost use Rattle.upp_curve.specs.Curve.{value_at};
-ghost use Rattle.upp_curve.specs.Functions.{IsFinite, IsNonnegative};
+ghost use Rattle.min_plus.specs.Functions.{IsFinite, IsNonnegative};
 ghost use Rattle.closure_fold.specs.CurveParts.{part_of};
 ghost use Rattle.closure_fold.specs.Folds.{PartAnswer};
 ghost use Rattle.subadd_closure.specs.FoldWork.{part_work};

@@ -2,7 +2,7 @@
 
 ghost use Rattle.std.specs.Prelude.{◌≡◌, ◌+◌, ◌≤◌, ◌↔◌, IfOk, IsTrue};
 ghost use Rattle.upp_curve.specs.Curve.{value_at};
-ghost use Rattle.upp_curve.specs.Convolution.{IsSubadditive};
+ghost use Rattle.min_plus.specs.Convolution.{IsSubadditive};
 ghost use Rattle.subadd_closure.specs.Tests.{TestsSubadditive};
 
 use curve_convolution::convolve;

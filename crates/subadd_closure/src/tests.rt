@@ -3,7 +3,7 @@
 ghost use Rattle.std.specs.Prelude.{◌≡◌, ◌<◌, IsTrue};
 ghost use Rattle.rational.specs.Extended.{◌≤ₑ◌};
 ghost use Rattle.upp_curve.specs.Curve.{value_at};
-ghost use Rattle.upp_curve.specs.Functions.{zero_q};
+ghost use Rattle.min_plus.specs.Functions.{zero_q};
 
 use crate::{close, is_subadditive};
 use affine_segment::{Line, Piece};

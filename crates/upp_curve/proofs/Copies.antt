@@ -14,7 +14,8 @@ use Rattle.rational.proofs.MinMax.{le_q_not}
 use Rattle.rational.proofs.Whole.{mul_lt_mul_right, lt_of_mul, not_zero, whole_le, whole_gt, whole_small}
 use Rattle.affine_segment.specs.declared.line.Line.{Line}
 use Rattle.affine_segment.specs.declared.line.Piece.{Piece}
-use Rattle.upp_curve.specs.Unrolled.{line_later, whole_up, copies_below}
+use Rattle.upp_curve.specs.Unrolled.{line_later, copies_below}
+use Rattle.min_plus.specs.WholeUp.{whole_up}
 use Rattle.upp_curve.specs.Spans.{Span, next_later, copy_of, copies_of}
 use Rattle.std.proofs.lemmas.Bool.{cases_lt}
 

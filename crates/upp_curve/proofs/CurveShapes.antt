@@ -11,7 +11,7 @@ use Rattle.upp_curve.specs.declared.shape.End.{End}
 use Rattle.upp_curve.specs.Reading.{read}
 use Rattle.upp_curve.specs.Curve.{SpecCurve, value_at}
 use Rattle.upp_curve.specs.Curves.{IsCurve}
-use Rattle.upp_curve.specs.Functions.{IsFinite, IsRising}
+use Rattle.min_plus.specs.Functions.{IsFinite, IsRising}
 use Rattle.upp_curve.specs.Normal.{Each}
 use Rattle.upp_curve.specs.Readable.{EachFits, TailReadable}
 use Rattle.upp_curve.specs.Shapes.{IsFinitePiece, PiecesRise}

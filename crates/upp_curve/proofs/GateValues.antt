@@ -15,9 +15,10 @@ use Rattle.rational.proofs.Whole.{periods_low, periods_high}
 use Rattle.affine_segment.specs.declared.line.Piece.{Piece}
 use Rattle.upp_curve.specs.Reading.{read, piece_in}
 use Rattle.upp_curve.specs.Curve.{value_at, repeated}
-use Rattle.upp_curve.specs.Functions.{zero_q}
-use Rattle.upp_curve.specs.Unrolled.{whole_up}
-use Rattle.upp_curve.specs.Kinds.{flat, piece, bucket, gated, gate, gate_value}
+use Rattle.min_plus.specs.Functions.{zero_q}
+use Rattle.min_plus.specs.WholeUp.{whole_up}
+use Rattle.upp_curve.specs.Kinds.{flat, piece, bucket, gated, gate}
+use Rattle.min_plus.specs.Formulas.{gate_value}
 use Rattle.upp_curve.proofs.KindValues.{on_line, bucket_is}
 use Rattle.upp_curve.proofs.StairValues.{whole_ratio, ratio_low}
 

@@ -12,7 +12,7 @@ use Rattle.rational.proofs.Integers.{mul_whole}
 use Rattle.rational.proofs.Laws.{num_nonneg}
 use Rattle.rational.proofs.Grid.{den_bound}
 use Rattle.upp_curve.specs.declared.gathered.Gathered.{Gathered}
-use Rattle.upp_curve.specs.Unrolled.{whole_up}
+use Rattle.min_plus.specs.WholeUp.{whole_up}
 use Rattle.upp_curve.specs.Limits.{Numbers, Sizes, joined, time_alone, twice, sizes_of, gauge_of}
 use Rattle.upp_curve.specs.Sized.{AreSizes}
 use Rattle.upp_curve.specs.Gathered.{Gathers}

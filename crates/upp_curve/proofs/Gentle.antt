@@ -17,9 +17,10 @@ use Rattle.affine_segment.specs.Values.{line_value}
 use Rattle.upp_curve.specs.declared.shape.End.{End}
 use Rattle.upp_curve.specs.Reading.{piece_value}
 use Rattle.upp_curve.specs.Curve.{repeated}
-use Rattle.upp_curve.specs.Functions.{IsRising, zero_q}
+use Rattle.min_plus.specs.Functions.{IsRising, zero_q}
 use Rattle.upp_curve.specs.Normal.{Each, RisesFrom}
-use Rattle.upp_curve.specs.Continuity.{IsContinuous, PiecesJoin}
+use Rattle.min_plus.specs.Continuity.{IsContinuous}
+use Rattle.upp_curve.specs.JoinedPieces.{PiecesJoin}
 use Rattle.upp_curve.proofs.PieceIn.{piece_in_end, piece_in_go, piece_in_stop}
 use Rattle.upp_curve.proofs.FirstStretch.{read_in, value_past, value_at_start, at_start}
 use Rattle.upp_curve.proofs.Repeats.{repeated_first, repeated_next}

@@ -5,7 +5,7 @@ use Rattle.affine_segment.specs.declared.line.Piece.{Piece}
 use Rattle.upp_curve.specs.declared.shape.End.{End}
 use Rattle.upp_curve.specs.Readable.{LineFitsAt, LineFitsTo, EachFits}
 use Rattle.upp_curve.specs.Shapes.{end_time}
-use Rattle.upp_curve.specs.Continuity.{PieceJoins, PiecesJoin}
+use Rattle.upp_curve.specs.JoinedPieces.{PieceJoins, PiecesJoin}
 use Rattle.upp_curve.proofs.PieceLoops.{next_piece}
 
 none_left : (rest : List Piece) (j : ℕ) → length rest ≤ j → drop j rest ≡ []

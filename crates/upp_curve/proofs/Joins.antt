@@ -18,10 +18,11 @@ use Rattle.upp_curve.specs.declared.curve.Tail.TheVariants.{Periodic, Affine, In
 use Rattle.upp_curve.specs.declared.shape.End.{End}
 use Rattle.upp_curve.specs.Reading.{piece_value, read}
 use Rattle.upp_curve.specs.Curve.{SpecCurve, value_at, repeated}
-use Rattle.upp_curve.specs.Functions.{IsRising, zero_q}
+use Rattle.min_plus.specs.Functions.{IsRising, zero_q}
 use Rattle.upp_curve.specs.Normal.{Each, RisesFrom, StartsAtZero, IsNormal, FitsPeriod}
 use Rattle.upp_curve.specs.Shapes.{LineRises, PieceRises, PiecesRise}
-use Rattle.upp_curve.specs.Continuity.{IsContinuous, PieceJoins, PiecesJoin}
+use Rattle.min_plus.specs.Continuity.{IsContinuous}
+use Rattle.upp_curve.specs.JoinedPieces.{PieceJoins, PiecesJoin}
 use Rattle.upp_curve.proofs.PieceIn.{piece_in_end, piece_in_go, piece_in_stop}
 use Rattle.upp_curve.proofs.FirstStretch.{read_in, value_past, at_start}
 use Rattle.upp_curve.proofs.Repeats.{repeated_first, repeated_next}

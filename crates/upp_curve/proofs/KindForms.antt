@@ -17,7 +17,7 @@ use Rattle.affine_segment.specs.declared.line.Piece.{Piece}
 use Rattle.affine_segment.specs.Values.{line_value}
 use Rattle.upp_curve.specs.Reading.{read}
 use Rattle.upp_curve.specs.Curve.{value_at}
-use Rattle.upp_curve.specs.Functions.{zero_q}
+use Rattle.min_plus.specs.Functions.{zero_q}
 use Rattle.upp_curve.specs.Normal.{Each, IsNormal, IsLeastPeriodic}
 use Rattle.upp_curve.specs.Steady.{Repeats}
 use Rattle.upp_curve.specs.Kinds.{flat, after_latency, rate_latency, steps, stair, gated, gate}
@@ -26,7 +26,7 @@ use Rattle.upp_curve.proofs.Unique.{lines_at_two}
 use Rattle.upp_curve.proofs.Normal.{periodic, periodic_rule}
 use Rattle.upp_curve.proofs.GateValues.{gate_pieces, closed_value, open_value}
 use Rattle.upp_curve.proofs.StairValues.{one_step, first_step, step_pieces, steps_is, ratio_high}
-use Rattle.upp_curve.proofs.FiniteValues.{Fin_inj}
+use Rattle.min_plus.proofs.FiniteValues.{Fin_inj}
 use Rattle.upp_curve.proofs.Repeats.{repeated_first}
 
 -- ---- lines that differ

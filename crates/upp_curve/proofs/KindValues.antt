@@ -2,29 +2,17 @@
 use Rattle.rational.proofs.MinMax.{max_q_left, max_q_right, le_q_not}
 use Rattle.std.specs.Prelude.{◌≡◌}
 use Rattle.std.proofs.Common.{arith, sym, ap, ◌∙◌, refl, subst, inl, inr}
-use Rattle.rational.specs.Rational.{ℚ, ◌+ℚ◌, ◌-ℚ◌, ◌*ℚ◌, ◌/ℚ◌, ◌≤ℚ◌, ◌<ℚ◌, neg_ℚ}
+use Rattle.rational.specs.Rational.{ℚ, ◌+ℚ◌, ◌-ℚ◌, ◌*ℚ◌, ◌≤ℚ◌, ◌<ℚ◌, neg_ℚ}
 use Rattle.rational.proofs.Linear.{with1, with2, with3, with4}
 use Rattle.rational.proofs.Over.{le_q_out}
-use Rattle.rational.proofs.Laws.{mul_comm, mul_sub, sub_mul, mul_zero, div_mul, le_or_lt, antisym}
-use Rattle.rational.specs.Extended.{Ext}
+use Rattle.rational.proofs.Laws.{mul_comm, mul_sub, mul_zero, le_or_lt, antisym}
 use Rattle.rational.specs.declared.Extended.TheVariants.{Fin}
 use Rattle.rational.specs.MinMax.{max_q}
-use Rattle.upp_curve.specs.Functions.{zero_q}
-use Rattle.upp_curve.specs.Pointwise.{excess}
-use Rattle.rational.proofs.Whole.{le_of_mul, lt_of_mul, not_zero}
+use Rattle.min_plus.specs.Functions.{zero_q}
 use Rattle.upp_curve.specs.Curve.{value_at}
 use Rattle.upp_curve.specs.Reading.{read, piece_in, piece_value}
-use Rattle.upp_curve.specs.Kinds.{piece, bucket, after_latency, rate_latency, bucket_value, rate_latency_value}
-
--- ---- a bucket and a service
-pub record IsBucket (b r : ℚ) (f : ℚ → Ext) : Type 0 where
-  pub is : (t : ℚ) → zero_q ≤ℚ t → f t ≡ bucket_value b r t
-
-pub record IsService (R T : ℚ) (g : ℚ → Ext) : Type 0 where
-  pub is : (t : ℚ) → zero_q ≤ℚ t → g t ≡ rate_latency_value R T t
-
-pub record IsPacketised (R T l : ℚ) (p : ℚ → Ext) : Type 0 where
-  pub is : (t : ℚ) → zero_q ≤ℚ t → p t ≡ excess (rate_latency_value R T t) (Fin l)
+use Rattle.upp_curve.specs.Kinds.{piece, bucket, after_latency, rate_latency}
+use Rattle.min_plus.specs.Formulas.{IsBucket, IsService}
 
 -- a piece whose value is its line's reads as its line from its start on
 pub on_line : (x v k r t : ℚ) → v ≡ k +ℚ r *ℚ x → x ≤ℚ t → piece_value (piece x v k r) t ≡ Fin (k +ℚ r *ℚ t)
@@ -101,21 +89,3 @@ service_is R T some h = elim (le_or_lt T zero_q) [
     | inr k ↦ rw (le_q_not T zero_q l, le_q_not R zero_q k) (late_is R T l)
   ]
 ]
-
--- ---- helpers of the deviations
-pub burst_nonneg : (b R : ℚ) → zero_q <ℚ R → zero_q ≤ℚ b → zero_q ≤ℚ b /ℚ R
-burst_nonneg b R some h =
-    let o : zero_q *ℚ R ≡ zero_q = mul_comm zero_q R ∙ mul_zero R in
-    le_of_mul R zero_q (b /ℚ R) some (rw (o, div_mul b R (not_zero R some)) h)
-
--- a time at which (r - R) t is k
-pub reach : (r R k : ℚ) → R <ℚ r → zero_q <ℚ k → (t : ℚ) × (zero_q <ℚ t) × (r *ℚ t ≡ R *ℚ t +ℚ k)
-reach r R k h some =
-    let gap = r -ℚ R in
-    let gap_pos : zero_q <ℚ gap = with2 r R (λ c. omega (arith, c.le, c.lt, c.same)) in
-    let t = k /ℚ gap in
-    let e : t *ℚ gap ≡ k = div_mul k gap (not_zero gap gap_pos) in
-    let x : t *ℚ gap ≡ r *ℚ t -ℚ R *ℚ t = mul_comm t gap ∙ sub_mul r R t in
-    let o : zero_q *ℚ gap ≡ zero_q = mul_comm zero_q gap ∙ mul_zero gap in
-    let pos_t : zero_q <ℚ t = lt_of_mul gap zero_q t gap_pos (rw (o, e) some) in
-    (t, pos_t, with4 (r *ℚ t) (R *ℚ t) k (t *ℚ gap) (λ c. omega (arith, c.le, c.lt, c.same)))

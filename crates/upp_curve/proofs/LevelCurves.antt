@@ -20,7 +20,7 @@ use Rattle.upp_curve.specs.Curve.{SpecCurve, value_at}
 use Rattle.upp_curve.specs.Steady.{last_line, rate, slope_of, Repeats}
 use Rattle.upp_curve.specs.Normal.{Each}
 use Rattle.upp_curve.specs.Curves.{IsCurve}
-use Rattle.upp_curve.specs.Functions.{zero_q, IsRising}
+use Rattle.min_plus.specs.Functions.{zero_q, IsRising}
 use Rattle.upp_curve.specs.Levels.{icept_of, level_of, IsLevelAbove}
 use Rattle.upp_curve.specs.Gauges.{ValueAbove, EndsAbove}
 use Rattle.upp_curve.proofs.Steady.{read_past}

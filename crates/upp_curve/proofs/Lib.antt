@@ -1,5 +1,4 @@
 pub mod Refusals
-pub mod FiniteValues
 pub mod Repeats
 pub mod PieceIn
 pub mod ByTail
@@ -12,14 +11,8 @@ pub mod OneForm
 pub mod Unrolled
 pub mod Below
 pub mod Crossing
-pub mod Unambiguous
-pub mod DeviationSigns
 pub mod KindValues
 pub mod ReadableKinds
-pub mod BucketDelay
-pub mod BucketBacklog
-pub mod BucketDeviations
-pub mod BucketConvolution
 pub mod Worked
 pub mod WorkedOperators
 pub mod WorkedStairs

@@ -1,12 +1,12 @@
 -- The spans of a curve in normal form end where its next unrolled pieces start.
-use Rattle.std.specs.Prelude.{◌≡◌, ◌⊎◌, ℕ, zero, suc, ◌<◌, ◌≤◌, pos, Bool, cond, List, [], ◌∷◌, length, map, Contains, Option, Some, None}
-use Rattle.std.proofs.Common.{arith, sym, ap, ◌∙◌, refl, subst, inl, inr, get_or}
+use Rattle.std.specs.Prelude.{◌≡◌, ◌⊎◌, ℕ, zero, suc, ◌<◌, ◌≤◌, pos, Bool, cond, List, [], ◌∷◌, Contains, Option, Some, None}
+use Rattle.std.proofs.Common.{arith, sym, ap, ◌∙◌, refl, subst, inl, inr}
 use Rattle.std.proofs.lemmas.Bool.{cases_lt}
 use Rattle.std.specs.List.{AllByRecursion}
 use Rattle.rational.specs.Rational.{ℚ, ◌+ℚ◌, ◌-ℚ◌, ◌*ℚ◌, ◌≤ℚ◌, ◌<ℚ◌, int}
 use Rattle.rational.proofs.Integers.{nat_le, nat_nonneg}
 use Rattle.rational.proofs.Laws.{add_lt_add, antisym, le_lt_trans, le_of_lt, le_or_lt, le_refl, le_trans, lt_irrefl, lt_le_trans, mul_le_mul_right, mul_nonneg}
-use Rattle.rational.proofs.Linear.{with3, with4, with5, with6}
+use Rattle.rational.proofs.Linear.{with3, with4, with6}
 use Rattle.rational.proofs.MinMax.{lt_q_not}
 use Rattle.rational.proofs.Over.{lt_q_out}
 use Rattle.rational.proofs.Whole.{one_more_times}

@@ -18,10 +18,11 @@ use Rattle.upp_curve.specs.Steady.{last_line, Repeats, slope_times}
 use Rattle.upp_curve.proofs.Repeats.{repeats_times}
 use Rattle.rational.proofs.Whole.{nat_nonneg}
 use Rattle.upp_curve.proofs.Steady.{line_rule, read_past, cut_past}
-use Rattle.upp_curve.proofs.FiniteValues.{no_inf, Fin_inj}
+use Rattle.min_plus.proofs.FiniteValues.{no_inf, Fin_inj}
 use Rattle.rational.proofs.MinMax.{max_q_ge_left, max_q_ge_right, le_q_not}
 use Rattle.rational.specs.MinMax.{max_q}
-use Rattle.upp_curve.proofs.Rules.{enough, add_cancel_ext}
+use Rattle.min_plus.proofs.Rates.{enough}
+use Rattle.upp_curve.proofs.Rules.{add_cancel_ext}
 use Rattle.rational.proofs.Over.{le_q_out}
 use Rattle.upp_curve.proofs.Normal.{lists_read, upto_all, each_at, periodic, periodic_rule, periodic_unique, backward}
 

@@ -15,7 +15,7 @@ use Rattle.affine_segment.specs.Values.{line_value}
 use Rattle.upp_curve.specs.declared.shape.End.{End}
 use Rattle.upp_curve.specs.Reading.{piece_value}
 use Rattle.upp_curve.specs.Curve.{repeated}
-use Rattle.upp_curve.specs.Functions.{IsRising}
+use Rattle.min_plus.specs.Functions.{IsRising}
 use Rattle.upp_curve.specs.Normal.{Each, RisesFrom}
 use Rattle.upp_curve.specs.Shapes.{LineRises, PiecesRise}
 use Rattle.upp_curve.proofs.PieceIn.{piece_in_end, piece_in_go, piece_in_stop}

@@ -12,14 +12,14 @@ use Rattle.upp_curve.specs.declared.curve.Tail.TheVariants.{Periodic, Affine, In
 use Rattle.upp_curve.specs.declared.shape.End.{End}
 use Rattle.upp_curve.specs.Reading.{piece_value, piece_in, read}
 use Rattle.upp_curve.specs.Curve.{value_at, repeated}
-use Rattle.upp_curve.specs.Functions.{IsRising, IsFinite}
+use Rattle.min_plus.specs.Functions.{IsRising, IsFinite}
 use Rattle.upp_curve.specs.Normal.{Each, HasStart, RisesFrom, StartsAtZero, IsNormal, FitsPeriod}
 use Rattle.upp_curve.specs.Shapes.{IsNumber, IsFinitePiece, PiecesRise}
 use Rattle.upp_curve.proofs.PieceIn.{piece_in_end, piece_in_go, piece_in_stop}
 use Rattle.upp_curve.proofs.FirstStretch.{read_in, value_at_start}
 use Rattle.upp_curve.proofs.Repeats.{repeated_first, repeated_next}
 use Rattle.upp_curve.proofs.OneForm.{infinite_value, infinite_past}
-use Rattle.upp_curve.proofs.FiniteValues.{no_inf}
+use Rattle.min_plus.proofs.FiniteValues.{no_inf}
 use Rattle.upp_curve.proofs.Rising.{list_rises, list_ends, repeated_rises}
 use Rattle.upp_curve.proofs.RisingFrom.{IsBefore, pieces_rise}
 use Rattle.upp_curve.proofs.Finite.{level_of, number_of, read_number, repeated_number, pieces_finite}

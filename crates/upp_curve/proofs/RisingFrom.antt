@@ -15,7 +15,7 @@ use Rattle.affine_segment.specs.declared.line.Piece.{Piece}
 use Rattle.affine_segment.specs.Values.{line_at, line_value}
 use Rattle.upp_curve.specs.declared.shape.End.{End}
 use Rattle.upp_curve.specs.Reading.{piece_value}
-use Rattle.upp_curve.specs.Functions.{zero_q}
+use Rattle.min_plus.specs.Functions.{zero_q}
 use Rattle.upp_curve.specs.Normal.{Each, RisesFrom}
 use Rattle.upp_curve.specs.Shapes.{LineRises, PieceRises, PiecesRise}
 use Rattle.upp_curve.proofs.PieceIn.{piece_in_end, piece_in_go, piece_in_stop}

@@ -12,7 +12,7 @@ use Rattle.rational.proofs.Laws.{lt_irrefl, le_lt_trans, le_of_lt, le_or_lt, mul
 use Rattle.rational.proofs.Integers.{nat_nonneg, mul_whole}
 use Rattle.rational.proofs.Grid.{within_nonneg}
 use Rattle.affine_segment.specs.declared.line.Piece.{Piece}
-use Rattle.upp_curve.specs.Unrolled.{whole_up}
+use Rattle.min_plus.specs.WholeUp.{whole_up}
 use Rattle.upp_curve.proofs.CommonDen.{size_up_within, size_up_least, within_parts, within_parts_out}
 use Rattle.upp_curve.proofs.Copies.{whole_up_in, whole_up_out, copies_in, copies_out}
 

@@ -10,14 +10,15 @@ use Rattle.rational.specs.Fractions.{frac_self, frac-same}
 use Rattle.rational.proofs.Over.{lt_frac}
 use Rattle.rational.proofs.Over.{mul_frac, both_is, add_over, lt_over}
 use Rattle.rational.proofs.Linear.{with1, with2, with3, with4}
-use Rattle.rational.proofs.Laws.{above, antisym, add_comm, add_mul, mul_assoc, mul_comm, mul_cancel, div_mul, le_or_lt, le_of_lt, num_nonneg, mul_nonneg}
+use Rattle.rational.proofs.Laws.{antisym, add_comm, add_mul, mul_assoc, mul_comm, mul_cancel, div_mul, le_or_lt, le_of_lt, num_nonneg, mul_nonneg}
 use Rattle.rational.specs.Extended.{Ext, ◌+ₑ◌}
 use Rattle.rational.specs.declared.Extended.TheVariants.{Fin, Inf}
 use Rattle.upp_curve.specs.Steady.{Repeats}
 use Rattle.rational.proofs.ExtendedOrder.{add_assoc_ext}
-use Rattle.rational.proofs.Whole.{not_zero, mul_lt_mul_right, lt_of_mul, nat_nonneg}
+use Rattle.rational.proofs.Whole.{not_zero, lt_of_mul, nat_nonneg}
 use Rattle.upp_curve.proofs.Repeats.{repeats_times}
-use Rattle.upp_curve.proofs.FiniteValues.{Fin_inj, no_inf}
+use Rattle.min_plus.proofs.FiniteValues.{Fin_inj, no_inf}
+use Rattle.min_plus.proofs.Rates.{enough}
 
 pub add_cancel_ext : (x y : Ext) (c : ℚ) → x +ₑ Fin c ≡ y +ₑ Fin c → x ≡ y
 add_cancel_ext Inf Inf c e = refl
@@ -27,18 +28,6 @@ add_cancel_ext (Fin x) (Fin y) c e = let f = Fin_inj e in ap Fin (with3 x y c (�
 
 swap_ext : (x : Ext) (a b : ℚ) → (x +ₑ Fin a) +ₑ Fin b ≡ (x +ₑ Fin b) +ₑ Fin a
 swap_ext x a b = add_assoc_ext x a b ∙ ap (λ y. x +ₑ Fin y) (add_comm a b) ∙ sym (add_assoc_ext x b a)
-
--- enough periods pass s
-pub enough : (t s d : ℚ) → int (pos 0) <ℚ d → (n : ℕ) × (s ≤ℚ t +ℚ int (pos n) *ℚ d)
-enough t s d h =
-    let x = (s -ℚ t) /ℚ d in
-    let e : x *ℚ d ≡ s -ℚ t = div_mul (s -ℚ t) d (not_zero d h) in
-    let (n, l) = above x in
-    let m = mul_lt_mul_right d h l in
-    (n, far s t d n x e m)
-  where
-    far : (s t d : ℚ) (n : ℕ) (x : ℚ) → x *ℚ d ≡ s -ℚ t → x *ℚ d <ℚ int (pos n) *ℚ d → s ≤ℚ t +ℚ int (pos n) *ℚ d
-    far s t d n x e m = with4 s t (x *ℚ d) (int (pos n) *ℚ d) (λ c. omega (arith, c.le, c.lt, c.same))
 
 -- a rule that holds from s on holds from r on, where another does
 pub rule_extends : (f : ℚ → Ext) (r d c s p q : ℚ) → Repeats f r d c → Repeats f s p q → int (pos 0) <ℚ d → int (pos 0) ≤ℚ p → Repeats f r p q

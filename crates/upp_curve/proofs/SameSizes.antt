@@ -6,7 +6,7 @@ use Rattle.rational.specs.Rational.{ℚ, ◌*ℚ◌, int}
 use Rattle.rational.specs.Grid.{Whole, Within}
 use Rattle.rational.specs.Gauge.{common_den, bound_of}
 use Rattle.upp_curve.specs.Curve.{SpecCurve}
-use Rattle.upp_curve.specs.Unrolled.{whole_up}
+use Rattle.min_plus.specs.WholeUp.{whole_up}
 use Rattle.upp_curve.specs.Limits.{Numbers, Sizes, joined, twice, curve_numbers, sizes_of, gauge_of}
 use Rattle.upp_curve.specs.ClosedForm.{closed_numbers}
 use Rattle.upp_curve.proofs.Every.{every_map, every_map_out}

@@ -15,7 +15,7 @@ use Rattle.upp_curve.specs.declared.curve.Tail.{Tail}
 use Rattle.upp_curve.specs.declared.curve.Tail.TheVariants.{Periodic, Affine, Infinite}
 use Rattle.upp_curve.specs.Curve.{SpecCurve}
 use Rattle.upp_curve.specs.Normal.{StartsAtZero, RisesFrom}
-use Rattle.upp_curve.specs.Pointwise.{scaled}
+use Rattle.min_plus.specs.Pointwise.{scaled}
 use Rattle.upp_curve.specs.Periods.{HasPeriod}
 use Rattle.upp_curve.specs.Spans.{Span, end_of, line_read, start_after, spans}
 use Rattle.upp_curve.specs.Limits.{Numbers, Sizes, no_numbers, joined, curve_numbers, gauge_of}

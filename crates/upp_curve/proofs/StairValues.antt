@@ -14,8 +14,9 @@ use Rattle.rational.proofs.Whole.{periods_low, periods_high, periods_unique}
 use Rattle.affine_segment.specs.declared.line.Piece.{Piece}
 use Rattle.upp_curve.specs.Reading.{read, piece_in, piece_value}
 use Rattle.upp_curve.specs.Curve.{value_at, repeated}
-use Rattle.upp_curve.specs.Functions.{zero_q}
-use Rattle.upp_curve.specs.Kinds.{flat, bucket, steps, stair, stair_value}
+use Rattle.min_plus.specs.Functions.{zero_q}
+use Rattle.upp_curve.specs.Kinds.{flat, bucket, steps, stair}
+use Rattle.min_plus.specs.Formulas.{stair_value}
 use Rattle.upp_curve.proofs.KindValues.{on_line, bucket_is}
 
 -- ---- how many periods fit into a time

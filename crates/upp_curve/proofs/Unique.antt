@@ -16,7 +16,7 @@ use Rattle.upp_curve.specs.Normal.{RisesFrom, NoneContinues}
 use Rattle.upp_curve.specs.Unrolled.{upto}
 use Rattle.rational.proofs.Whole.{not_zero}
 use Rattle.upp_curve.proofs.FirstStretch.{end_of, end_at_most, start_before, read_in, on_stretch, at_start}
-use Rattle.upp_curve.proofs.FiniteValues.{Fin_inj, no_inf}
+use Rattle.min_plus.proofs.FiniteValues.{Fin_inj, no_inf}
 use Rattle.upp_curve.proofs.PieceIn.{piece_in_go}
 
 -- ---- two values fix a line

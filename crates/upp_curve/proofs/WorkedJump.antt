@@ -9,13 +9,14 @@ use Rattle.rational.proofs.Linear.{with1, with2}
 use Rattle.rational.proofs.Laws.{le_or_lt, mul_zero}
 use Rattle.rational.proofs.MinMax.{max_q_is_left, max_q_ge_left, max_q_ge_right}
 use Rattle.rational.proofs.Integers.{nat_nonneg}
-use Rattle.upp_curve.specs.Functions.{zero_q}
+use Rattle.min_plus.specs.Functions.{zero_q}
 use Rattle.upp_curve.specs.Curve.{value_at}
 use Rattle.upp_curve.specs.Kinds.{rate_latency}
 use Rattle.upp_curve.specs.WorkedRows.{whole, dip}
 use Rattle.upp_curve.specs.WorkedStairs.{JumpLeaves}
-use Rattle.upp_curve.proofs.FiniteValues.{Fin_inj}
-use Rattle.upp_curve.proofs.KindValues.{service_is, IsService}
+use Rattle.min_plus.proofs.FiniteValues.{Fin_inj}
+use Rattle.upp_curve.proofs.KindValues.{service_is}
+use Rattle.min_plus.specs.Formulas.{IsService}
 use Rattle.upp_curve.proofs.WorkedRunning.{dip_early, dip_late, close}
 
 late : IsService (whole 1) (whole 1) (value_at (rate_latency (whole 1) (whole 1)))

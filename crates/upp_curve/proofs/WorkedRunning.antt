@@ -12,8 +12,8 @@ use Rattle.rational.proofs.Bounds.{least_member, largest_member}
 use Rattle.rational.proofs.Whole.{not_zero}
 use Rattle.upp_curve.specs.Reading.{read, piece_in}
 use Rattle.upp_curve.specs.Curve.{value_at}
-use Rattle.upp_curve.specs.Functions.{zero_q, UpTo, From}
-use Rattle.upp_curve.specs.Running.{IsRunningSupremum, IsRunningInfimum}
+use Rattle.min_plus.specs.Functions.{zero_q, UpTo, From}
+use Rattle.min_plus.specs.Running.{IsRunningSupremum, IsRunningInfimum}
 use Rattle.upp_curve.specs.WorkedRows.{whole, dip, RunningRows}
 use Rattle.upp_curve.proofs.KindValues.{on_line}
 use Rattle.upp_curve.proofs.Worked.{half_twice}

@@ -11,8 +11,8 @@ use Rattle.rational.proofs.MinMax.{le_q_not, max_q_right, max_q_is_left}
 use Rattle.rational.proofs.Over.{le_q_out}
 use Rattle.rational.proofs.Bounds.{least_member}
 use Rattle.rational.proofs.Integers.{nat_nonneg}
-use Rattle.upp_curve.specs.Functions.{zero_q, From}
-use Rattle.upp_curve.specs.Running.{IsRunningInfimum, left_after}
+use Rattle.min_plus.specs.Functions.{zero_q, From}
+use Rattle.min_plus.specs.Running.{IsRunningInfimum, left_after}
 use Rattle.upp_curve.specs.Curve.{value_at, cut}
 use Rattle.upp_curve.specs.Kinds.{bucket, rate_latency}
 use Rattle.upp_curve.specs.WorkedRows.{whole}

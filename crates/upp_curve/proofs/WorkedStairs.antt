@@ -15,15 +15,16 @@ use Rattle.rational.proofs.Over.{le_q_out}
 use Rattle.rational.proofs.Bounds.{least_member, largest_member}
 use Rattle.rational.proofs.Integers.{nat_next, nat_lt, nat_lt_out, nat_le}
 use Rattle.rational.proofs.Whole.{nat_nonneg, not_zero, lt_of_mul, whole_small, periods_low, periods_high}
-use Rattle.upp_curve.specs.Functions.{zero_q, FiniteTime}
-use Rattle.upp_curve.specs.Convolution.{IsDeconvolution, Split, IsConvolution}
+use Rattle.min_plus.specs.Functions.{zero_q, FiniteTime}
+use Rattle.min_plus.specs.Convolution.{IsDeconvolution, Split, IsConvolution}
 use Rattle.upp_curve.specs.Reading.{read, piece_in}
 use Rattle.upp_curve.specs.Curve.{value_at, repeated}
 use Rattle.upp_curve.specs.Kinds.{stair, rate_latency}
 use Rattle.upp_curve.specs.WorkedRows.{whole}
 use Rattle.upp_curve.specs.WorkedStairs.{StairFormula, TwoStairs, StairLeaves}
-use Rattle.upp_curve.proofs.FiniteValues.{Fin_inj}
-use Rattle.upp_curve.proofs.KindValues.{on_line, service_is, IsService}
+use Rattle.min_plus.proofs.FiniteValues.{Fin_inj}
+use Rattle.upp_curve.proofs.KindValues.{on_line, service_is}
+use Rattle.min_plus.specs.Formulas.{IsService}
 use Rattle.upp_curve.proofs.Rules.{int_add, int_mul}
 use Rattle.upp_curve.proofs.Worked.{computing}
 

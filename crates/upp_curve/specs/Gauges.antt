@@ -14,12 +14,12 @@ use Rattle.upp_curve.specs.declared.op_kind.OpKind.TheVariants.{Vertical, Itself
 use Rattle.upp_curve.specs.Curve.{SpecCurve, value_at}
 use Rattle.upp_curve.specs.Steady.{rate}
 use Rattle.upp_curve.specs.Unrolled.{count}
-use Rattle.upp_curve.specs.Functions.{zero_q, IsFinite, IsRising}
+use Rattle.min_plus.specs.Functions.{zero_q, IsFinite, IsRising}
 use Rattle.upp_curve.specs.declared.op_kind.Tallied.{Tallied}
 use Rattle.upp_curve.specs.declared.op_kind.Tallied.TheVariants.{FirstAlone, FirstAndOne, SumOfBoth, ProductOfBoth}
 use Rattle.upp_curve.specs.declared.op_kind.Operands.{Operands}
 use Rattle.upp_curve.specs.declared.op_kind.Operands.TheVariants.{First, Both, FirstScaled}
-use Rattle.upp_curve.specs.Pointwise.{scaled}
+use Rattle.min_plus.specs.Pointwise.{scaled}
 use Rattle.upp_curve.specs.Limits.{Numbers, no_numbers, joined, curve_numbers, sizes_of, gauge_of}
 use Rattle.upp_curve.specs.Windows.{window_at, IsLeastPeriods}
 

@@ -1,38 +1,14 @@
--- The four kinds of curve that a formula gives, each by its value at a time from 0 on and as a curve in normal form.
+-- The four kinds of curve that a formula gives, each as a curve in normal form.
 -- (Le Boudec and Thiran: token bucket, stair and rate-latency functions. The gate is our own.)
 use Rattle.std.specs.Prelude.{pos, suc, [], ◌∷◌, Some, cond, ◌||◌}
 use Rattle.rational.specs.Rational.{ℚ, ◌+ℚ◌, ◌-ℚ◌, ◌*ℚ◌, ◌/ℚ◌, int, le_q, neg_ℚ}
-use Rattle.rational.specs.MinMax.{max_q}
 use Rattle.rational.specs.Whole.{whole_part}
-use Rattle.rational.specs.Extended.{Ext}
 use Rattle.rational.specs.declared.Extended.TheVariants.{Fin}
 use Rattle.affine_segment.specs.declared.line.Piece.{Piece}
 use Rattle.upp_curve.specs.declared.curve.Tail.TheVariants.{Periodic, Affine}
 use Rattle.upp_curve.specs.Curve.{SpecCurve}
-use Rattle.upp_curve.specs.Functions.{zero_q}
-use Rattle.upp_curve.specs.Unrolled.{whole_up}
+use Rattle.min_plus.specs.Functions.{zero_q}
 
--- ---- formulas
--- a token bucket: burst + rate t
-abbrev pub bucket_value : ℚ → ℚ → ℚ → Ext
-bucket_value burst rate t = Fin (burst +ℚ rate *ℚ t)
-
--- one packet each period, each up to the jitter early: packet (floor ((t + jitter) / period) + 1)
-abbrev pub stair_value : ℚ → ℚ → ℚ → ℚ → Ext
-stair_value packet period jitter t = Fin (packet *ℚ int (pos (suc (whole_part ((t +ℚ jitter) /ℚ period)))))
-
--- a rate after a latency: rate max (0, t - latency)
-abbrev pub rate_latency_value : ℚ → ℚ → ℚ → Ext
-rate_latency_value rate latency t = Fin (rate *ℚ max_q zero_q (t -ℚ latency))
-
--- a rate while a gate is open, for one slot at the end of each cycle:
--- rate max (floor (t / cycle) slot, t - ceil (t / cycle) (cycle - slot))
-abbrev pub gate_value : ℚ → ℚ → ℚ → ℚ → Ext
-gate_value rate cycle slot t =
-    Fin (rate *ℚ max_q (int (pos (whole_part (t /ℚ cycle))) *ℚ slot)
-    (t -ℚ int (pos (whole_up (t /ℚ cycle))) *ℚ (cycle -ℚ slot)))
-
--- ---- curves
 -- a piece at x with a value and a line
 abbrev pub piece : ℚ → ℚ → ℚ → ℚ → Piece
 piece x v icept slope = record { x = x; at = Fin v; line = Some record { icept = icept; slope = slope } }

@@ -7,15 +7,8 @@ pub mod Readable
 pub mod Curves
 pub mod Steps
 pub mod Shapes
-pub mod Functions
-pub mod Pointwise
-pub mod Running
-pub mod Convolution
-pub mod Deviations
-pub mod DeviationSigns
 pub mod Kinds
 pub mod Service
-pub mod BucketBounds
 pub mod KindLaws
 pub mod WorkedRows
 pub mod WorkedStairs
@@ -48,5 +41,5 @@ pub mod Repeating
 pub mod GaugeLaws
 pub mod Bends
 pub mod Given
-pub mod Continuity
+pub mod JoinedPieces
 pub mod PieceLaws

@@ -12,7 +12,8 @@ use Rattle.upp_curve.specs.declared.curve.Tail.TheVariants.{Periodic, Affine, In
 use Rattle.upp_curve.specs.Curve.{SpecCurve}
 use Rattle.affine_segment.specs.Values.{line_value}
 use Rattle.upp_curve.specs.Steady.{rank_of, steady}
-use Rattle.upp_curve.specs.Unrolled.{whole_up, count}
+use Rattle.min_plus.specs.WholeUp.{whole_up}
+use Rattle.upp_curve.specs.Unrolled.{count}
 use Rattle.upp_curve.specs.Periods.{own_period}
 use Rattle.upp_curve.specs.Spans.{Span, spans_below}
 

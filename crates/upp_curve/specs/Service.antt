@@ -3,7 +3,7 @@
 use Rattle.rational.specs.Rational.{ℚ}
 use Rattle.rational.specs.Extended.{Ext}
 use Rattle.upp_curve.specs.Curve.{SpecCurve, value_at}
-use Rattle.upp_curve.specs.Kinds.{rate_latency_value, gate_value}
+use Rattle.min_plus.specs.Formulas.{rate_latency_value, gate_value}
 
 -- how the service of a server is given
 pub data ServiceForm : Type 0 where

@@ -1,13 +1,14 @@
 -- The pieces of a curve that start before a time, its periods written out, and their number. Own choice.
-use Rattle.std.specs.Prelude.{ℕ, zero, suc, ◌+◌, pos, cond, List, [], ◌∷◌, ◌++◌, length, Option, Some, None, sum_by}
-use Rattle.rational.specs.Rational.{ℚ, ◌+ℚ◌, ◌-ℚ◌, ◌*ℚ◌, ◌/ℚ◌, int, le_q, lt_q}
-use Rattle.rational.specs.Whole.{whole_part, periods}
+use Rattle.std.specs.Prelude.{ℕ, zero, suc, ◌+◌, cond, List, [], ◌∷◌, ◌++◌, length, Option, Some, None, sum_by}
+use Rattle.rational.specs.Rational.{ℚ, ◌+ℚ◌, ◌-ℚ◌, ◌*ℚ◌, ◌/ℚ◌, lt_q}
+use Rattle.rational.specs.Whole.{periods}
 use Rattle.rational.specs.Extended.{◌+ₑ◌}
 use Rattle.rational.specs.declared.Extended.TheVariants.{Fin}
 use Rattle.affine_segment.specs.declared.line.Line.{Line}
 use Rattle.affine_segment.specs.declared.line.Piece.{Piece}
 use Rattle.upp_curve.specs.declared.curve.Tail.{Tail}
 use Rattle.upp_curve.specs.declared.curve.Tail.TheVariants.{Periodic, Affine, Infinite}
+use Rattle.min_plus.specs.WholeUp.{whole_up}
 use Rattle.upp_curve.specs.Curve.{SpecCurve}
 
 -- ---- a copy of a piece, a whole number of periods later
@@ -51,10 +52,6 @@ unfoldable pub unroll : SpecCurve → ℚ → List Piece
 unroll c end = unrolled c.pieces c.tail end
 
 -- ---- their number, without unrolling
--- the least whole number at least x, and 0 below 0
-abbrev pub whole_up : ℚ → ℕ
-whole_up x = cond (le_q x (int (pos (whole_part x)))) (whole_part x) (suc (whole_part x))
-
 -- how many copies of p start before `end`
 abbrev pub copies_below : ℚ → ℚ → Piece → ℕ
 copies_below period end p = whole_up ((end -ℚ p.x) /ℚ period)

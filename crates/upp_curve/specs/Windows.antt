@@ -12,8 +12,8 @@ use Rattle.upp_curve.specs.Curve.{SpecCurve, value_at}
 use Rattle.upp_curve.specs.Steady.{steady, rise_over, rate}
 use Rattle.upp_curve.specs.Periods.{period_of, common_period, own_period, period_or, both_steady, moved_steady}
 use Rattle.upp_curve.specs.Periods.{periods_after}
-use Rattle.upp_curve.specs.Functions.{zero_q}
-use Rattle.upp_curve.specs.Convolution.{Split}
+use Rattle.min_plus.specs.Functions.{zero_q}
+use Rattle.min_plus.specs.Convolution.{Split}
 
 -- ---- the window's end
 -- for the number k of periods, and for the horizontal deviation also a second number m

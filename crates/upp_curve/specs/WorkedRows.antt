@@ -5,11 +5,12 @@ use Rattle.rational.specs.declared.Extended.TheVariants.{Fin}
 use Rattle.upp_curve.specs.declared.curve.Tail.TheVariants.{Affine}
 use Rattle.upp_curve.specs.Curve.{SpecCurve, value_at}
 use Rattle.upp_curve.specs.Unrolled.{count, unroll}
-use Rattle.upp_curve.specs.Functions.{zero_q}
-use Rattle.upp_curve.specs.Pointwise.{IsMinimum, IsMaximum, IsSum, IsPositiveDifference}
-use Rattle.upp_curve.specs.Running.{IsRunningSupremum, IsRunningInfimum}
-use Rattle.upp_curve.specs.Convolution.{IsConvolution, IsDeconvolution, IsSubadditiveClosure, IsSubadditive}
-use Rattle.upp_curve.specs.Kinds.{piece, stair, gate, bucket, rate_latency, stair_value, gate_value}
+use Rattle.min_plus.specs.Functions.{zero_q}
+use Rattle.min_plus.specs.Pointwise.{IsMinimum, IsMaximum, IsSum, IsPositiveDifference}
+use Rattle.min_plus.specs.Running.{IsRunningSupremum, IsRunningInfimum}
+use Rattle.min_plus.specs.Convolution.{IsConvolution, IsDeconvolution, IsSubadditiveClosure, IsSubadditive}
+use Rattle.upp_curve.specs.Kinds.{piece, stair, gate, bucket, rate_latency}
+use Rattle.min_plus.specs.Formulas.{stair_value, gate_value}
 
 abbrev pub whole : ℕ → ℚ
 whole n = int (pos n)

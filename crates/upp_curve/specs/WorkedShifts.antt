@@ -5,9 +5,9 @@ use Rattle.rational.specs.Rational.{ℚ, ◌≤ℚ◌, frac}
 use Rattle.rational.specs.declared.Extended.TheVariants.{Fin, Inf}
 use Rattle.upp_curve.specs.declared.curve.Tail.TheVariants.{Infinite}
 use Rattle.upp_curve.specs.Curve.{SpecCurve, value_at}
-use Rattle.upp_curve.specs.Functions.{zero_q}
-use Rattle.upp_curve.specs.Pointwise.{IsShift, IsScaled, IsPositiveMinus, IsPositiveDifference}
-use Rattle.upp_curve.specs.Running.{IsFifoLeftover}
+use Rattle.min_plus.specs.Functions.{zero_q}
+use Rattle.min_plus.specs.Pointwise.{IsShift, IsScaled, IsPositiveMinus, IsPositiveDifference}
+use Rattle.min_plus.specs.Running.{IsFifoLeftover}
 use Rattle.upp_curve.specs.Kinds.{flat, stair, bucket, rate_latency}
 use Rattle.upp_curve.specs.WorkedRows.{whole}
 

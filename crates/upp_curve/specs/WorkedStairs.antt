@@ -4,9 +4,10 @@ use Rattle.std.specs.Prelude.{◌≡◌}
 use Rattle.rational.specs.Rational.{ℚ, ◌≤ℚ◌, ◌<ℚ◌}
 use Rattle.rational.specs.declared.Extended.TheVariants.{Fin}
 use Rattle.upp_curve.specs.Curve.{value_at}
-use Rattle.upp_curve.specs.Functions.{zero_q}
-use Rattle.upp_curve.specs.Convolution.{IsConvolution, IsDeconvolution}
-use Rattle.upp_curve.specs.Kinds.{stair, rate_latency, stair_value}
+use Rattle.min_plus.specs.Functions.{zero_q}
+use Rattle.min_plus.specs.Convolution.{IsConvolution, IsDeconvolution}
+use Rattle.upp_curve.specs.Kinds.{stair, rate_latency}
+use Rattle.min_plus.specs.Formulas.{stair_value}
 use Rattle.upp_curve.specs.WorkedRows.{whole, dip}
 
 -- at each time from 0 on the curve's value is that of the formula: packet (floor (t / period) + 1)

@@ -4,7 +4,7 @@ ghost use Rattle.std.specs.Prelude.{◌≡◌, ◌↔◌, pos, length, IsOk, IfO
 ghost use Rattle.rational.specs.Rational.{int, ◌≤ℚ◌};
 ghost use Rattle.upp_curve.specs.Curve.{SpecCurve, value_at, HasSameValues};
 ghost use Rattle.upp_curve.specs.Curves.{IsCurve};
-ghost use Rattle.upp_curve.specs.Functions.{IsFinite, IsRising};
+ghost use Rattle.min_plus.specs.Functions.{IsFinite, IsRising};
 ghost use Rattle.upp_curve.specs.Steady.{rate};
 ghost use Rattle.upp_curve.specs.Steps.{IsWideValueAt};
 

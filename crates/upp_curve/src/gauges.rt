@@ -3,7 +3,7 @@
 ghost use Rattle.std.specs.Prelude.{ℕ, ◌≡◌, ◌<◌, ◌≤◌, ◌*◌, ◌^◌, pos, nat_abs, IfSome, IfNone, MatchOption};
 ghost use Rattle.rational.specs.Rational.{ℚ, int, ◌*ℚ◌, ◌≤ℚ◌};
 ghost use Rattle.rational.specs.Gauge.{Kept};
-ghost use Rattle.upp_curve.specs.Unrolled.{whole_up};
+ghost use Rattle.min_plus.specs.WholeUp.{whole_up};
 ghost use Rattle.upp_curve.specs.Limits.{Numbers, joined, time_alone, sizes_of, gauge_of};
 ghost use Rattle.upp_curve.specs.Gathered.{Gathers};
 

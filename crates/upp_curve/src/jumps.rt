@@ -3,10 +3,11 @@
 ghost use Rattle.std.specs.Prelude.{◌≡◌, ◌↔◌, ◌∷◌, IsTrue};
 ghost use Rattle.affine_segment.specs.Values.{line_value};
 ghost use Rattle.upp_curve.specs.Curve.{value_at};
-ghost use Rattle.upp_curve.specs.Functions.{IsRising};
+ghost use Rattle.min_plus.specs.Functions.{IsRising};
 ghost use Rattle.upp_curve.specs.Readable.{LineFitsAt, LineFitsTo, EachFits};
 ghost use Rattle.upp_curve.specs.Shapes.{end_time};
-ghost use Rattle.upp_curve.specs.Continuity.{IsContinuous, PieceJoins, PiecesJoin};
+ghost use Rattle.min_plus.specs.Continuity.{IsContinuous};
+ghost use Rattle.upp_curve.specs.JoinedPieces.{PieceJoins, PiecesJoin};
 
 use crate::curve::{Curve, Tail};
 use crate::fitting::readable_value;

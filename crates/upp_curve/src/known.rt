@@ -6,7 +6,7 @@ ghost use Rattle.upp_curve.specs.Steady.{rate, last_line};
 ghost use Rattle.upp_curve.specs.Levels.{icept_of, level_of, IsLevelAbove};
 ghost use Rattle.upp_curve.specs.Curve.{value_at};
 ghost use Rattle.upp_curve.specs.Curves.{IsCurve};
-ghost use Rattle.upp_curve.specs.Functions.{IsFinite};
+ghost use Rattle.min_plus.specs.Functions.{IsFinite};
 ghost use Rattle.rational.specs.Rational.{int};
 ghost use Rattle.upp_curve.specs.Gauges.{EndsAbove, IsKnownAtOnce};
 

@@ -3,9 +3,6 @@
 ghost use Rattle.upp_curve.specs.Normal.{NormalFormIsUnique};
 ghost use Rattle.upp_curve.specs.PieceLaws.{PiecesAreCounted, SpansAreUnrolled};
 ghost use Rattle.upp_curve.specs.GaugeLaws.{GaugeNeverFalls};
-ghost use Rattle.upp_curve.specs.Deviations.{DeviationsAreUnique};
-ghost use Rattle.upp_curve.specs.DeviationSigns.{HorizontalsAreNonnegative, VerticalsAreNonnegative};
-ghost use Rattle.upp_curve.specs.BucketBounds.{BucketDeviations};
 ghost use Rattle.upp_curve.specs.WorkedRows.{StairRows, GateRows, BucketRows, RateLatencyRows, MinimumRows};
 ghost use Rattle.upp_curve.specs.WorkedRows.{RunningRows, ConvolutionRows};
 ghost use Rattle.upp_curve.specs.WorkedStairs.{StairFormula, TwoStairs, StairLeaves, JumpLeaves};
@@ -28,23 +25,6 @@ pub fn unrolled_pieces_are_counted()
 /// times.
 pub fn gauge_never_falls()
     ensures { GaugeNeverFalls }
-{}
-
-/// Two functions have one horizontal and one vertical deviation.
-pub fn deviations_are_unique()
-    ensures { DeviationsAreUnique }
-{}
-
-/// A horizontal deviation of any two functions is at least 0; and so is a vertical one of a first function that at 0 is
-/// at least the second.
-pub fn deviations_are_nonnegative()
-    ensures horizontal { HorizontalsAreNonnegative }
-    ensures vertical { VerticalsAreNonnegative }
-{}
-
-/// The delay and the backlog of a token bucket at a rate after a latency, by their formulas.
-pub fn bucket_deviations()
-    ensures { BucketDeviations }
 {}
 
 /// Values of the kinds of curve that were worked out by hand.

@@ -51,9 +51,8 @@ pub use fitting::{difference, product, quotient, sum};
 pub use jumps::is_continuous;
 pub use kind_laws::kinds_are_curves;
 pub use laws::{
-    bucket_deviations, deviations_are_nonnegative, deviations_are_unique, gauge_never_falls,
-    normal_form_is_unique, unrolled_pieces_are_counted, worked_kinds, worked_operators,
-    worked_shifts, worked_stairs,
+    gauge_never_falls, normal_form_is_unique, unrolled_pieces_are_counted, worked_kinds,
+    worked_operators, worked_shifts, worked_stairs,
 };
 pub use limits::{gauge, tally, tally_over};
 pub use op_kind::{OpFault, OpKind, Window};

@@ -4,7 +4,7 @@ ghost use Rattle.std.specs.Prelude.{◌≡◌, pos, IfSome, IsSome, map, Some};
 ghost use Rattle.std.specs.List.{AllByRecursion};
 ghost use Rattle.rational.specs.Rational.{ℚ, int, ◌≤ℚ◌, ◌*ℚ◌};
 ghost use Rattle.rational.specs.Ratio.{IsSmall};
-ghost use Rattle.upp_curve.specs.Pointwise.{scaled};
+ghost use Rattle.min_plus.specs.Pointwise.{scaled};
 ghost use Rattle.upp_curve.specs.Curve.{SpecCurve};
 ghost use Rattle.upp_curve.specs.Normal.{StartsAtZero};
 ghost use Rattle.upp_curve.specs.Periods.{HasPeriod};

@@ -3,7 +3,7 @@
 ghost use Rattle.std.specs.Prelude.{ℕ, ◌≡◌, ◌<◌, pos, IfSome};
 ghost use Rattle.rational.specs.Rational.{ℚ, int, ◌-ℚ◌, ◌/ℚ◌, ◌≤ℚ◌, ◌<ℚ◌};
 ghost use Rattle.rational.specs.Gauge.{cap};
-ghost use Rattle.upp_curve.specs.Unrolled.{whole_up};
+ghost use Rattle.min_plus.specs.WholeUp.{whole_up};
 
 use crate::starts::{is_before, is_less};
 use fraction128::Frac;

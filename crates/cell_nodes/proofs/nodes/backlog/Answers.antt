@@ -1,7 +1,7 @@
 use Rattle.std.proofs.Common.{sym, ap, ◌∙◌, subst}
 use Rattle.std.specs.Prelude.{Some}
 use Rattle.upp_curve.specs.declared.op_kind.OpKind.TheVariants.{PosMinus, Vertical}
-use Rattle.upp_curve.specs.Deviations.{IsVerticalDeviation}
+use Rattle.min_plus.specs.Deviations.{IsVerticalDeviation}
 use Rattle.run_laws.specs.Cards.{whole}
 use Rattle.curve_making.specs.Calls.{AppliesTo}
 use Rattle.net_cells.specs.Meanings.{curve, number}

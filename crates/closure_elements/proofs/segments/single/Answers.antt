@@ -1,6 +1,6 @@
 use Rattle.std.proofs.Common.{subst, sym, ◌∙◌}
 use Rattle.upp_curve.specs.Curves.{IsCurve}
-use Rattle.upp_curve.specs.Functions.{zero_q}
+use Rattle.min_plus.specs.Functions.{zero_q}
 use Rattle.closure_elements.specs.ElementCurves.{level_closure}
 use Rattle.closure_elements.proofs.SegmentAnswers.{formed, single_is, single_made}
 use Rattle.closure_elements.proofs.segments.single.Goals as goal

@@ -1,7 +1,7 @@
 use Rattle.std.proofs.Common.{arith, subst, sym}
 use Rattle.rational.specs.Rational.{◌≤ℚ◌}
 use Rattle.rational.proofs.Integers.{nat_le}
-use Rattle.upp_curve.specs.Functions.{zero_q}
+use Rattle.min_plus.specs.Functions.{zero_q}
 use Rattle.curve_envelope.proofs.operator_tests.later.Goals as goal
 
 pub shift-requires : goal.shift-requires

@@ -1,7 +1,7 @@
 use Rattle.std.proofs.Common.{pos, IfOk, sym, subst}
 use Rattle.rational.specs.Rational.{ℚ, ◌≤ℚ◌, int}
 use Rattle.upp_curve.specs.Curve.{value_at}
-use Rattle.upp_curve.specs.Running.{IsFifoLeftover}
+use Rattle.min_plus.specs.Running.{IsFifoLeftover}
 use Rattle.curve_leftover.proofs.leftover.fifo_left.Goals as goal
 
 pub returns-in-Fin-clause-value : goal.returns-in-Fin-clause-value

@@ -5,7 +5,7 @@ use Rattle.rational.specs.declared.Extended.TheVariants.{Fin}
 use Rattle.upp_curve.specs.Curve.{value_at, repeated}
 use Rattle.upp_curve.specs.Normalising.{HasValues}
 use Rattle.upp_curve.specs.Reading.{read}
-use Rattle.upp_curve.specs.Running.{IsFifoLeftover}
+use Rattle.min_plus.specs.Running.{IsFifoLeftover}
 use Rattle.upp_curve.specs.Steady.{rise_over}
 use Rattle.curve_window.proofs.Results.{ok_map}
 use Rattle.curve_leftover.proofs.LeftAnswers.{LeftScan, rises_fit, rise_steps, ends_fit, scan_call, left_answer, left_value}

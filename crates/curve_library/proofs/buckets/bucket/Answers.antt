@@ -2,8 +2,9 @@ use Rattle.std.proofs.Common.{subst, sym}
 use Rattle.std.specs.Prelude.{◌≡◌}
 use Rattle.rational.specs.Rational.{ℚ, ◌≤ℚ◌}
 use Rattle.upp_curve.specs.Curve.{value_at}
-use Rattle.upp_curve.specs.Functions.{zero_q}
-use Rattle.upp_curve.specs.Kinds.{bucket, bucket_value}
+use Rattle.min_plus.specs.Functions.{zero_q}
+use Rattle.upp_curve.specs.Kinds.{bucket}
+use Rattle.min_plus.specs.Formulas.{bucket_value}
 use Rattle.upp_curve.proofs.KindValues.{bucket_is}
 use Rattle.upp_curve.proofs.NormaliseForm.{ok_map}
 use Rattle.curve_library.proofs.buckets.bucket.Goals as goal

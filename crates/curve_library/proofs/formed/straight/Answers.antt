@@ -1,4 +1,4 @@
-use Rattle.upp_curve.specs.Functions.{zero_q}
+use Rattle.min_plus.specs.Functions.{zero_q}
 use Rattle.upp_curve.proofs.ByTail.{bucket_normal}
 use Rattle.curve_library.proofs.formed.straight.Goals as goal
 

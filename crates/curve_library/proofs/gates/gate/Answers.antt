@@ -3,8 +3,9 @@ use Rattle.std.proofs.Common.{inl, inr}
 use Rattle.rational.specs.Rational.{ℚ, ◌≤ℚ◌}
 use Rattle.rational.proofs.Laws.{le_of_not_lt}
 use Rattle.upp_curve.specs.Curve.{value_at}
-use Rattle.upp_curve.specs.Functions.{zero_q}
-use Rattle.upp_curve.specs.Kinds.{gate, gate_value}
+use Rattle.min_plus.specs.Functions.{zero_q}
+use Rattle.upp_curve.specs.Kinds.{gate}
+use Rattle.min_plus.specs.Formulas.{gate_value}
 use Rattle.upp_curve.proofs.GateValues.{gate_is}
 use Rattle.curve_library.specs.Causes.{OneNegative, NoSlot}
 use Rattle.curve_library.proofs.Answering.{first_of, made_of, never_many}

@@ -1,6 +1,6 @@
 use Rattle.std.proofs.Common.{subst, sym, ap, ◌∙◌, pos}
 use Rattle.rational.specs.Rational.{int, ◌≤ℚ◌, ◌<ℚ◌}
-use Rattle.upp_curve.specs.Functions.{zero_q}
+use Rattle.min_plus.specs.Functions.{zero_q}
 use Rattle.upp_curve.specs.Kinds.{bucket, stair}
 use Rattle.curve_library.specs.Causes.{KeepsOwnLimits}
 use Rattle.curve_library.proofs.Answering.{causes_of}

@@ -1,5 +1,5 @@
 use Rattle.std.proofs.Common.{true≢false, sym, subst}
-use Rattle.upp_curve.specs.Functions.{zero_q}
+use Rattle.min_plus.specs.Functions.{zero_q}
 use Rattle.curve_library.specs.Listed.{IsNonnegTail}
 use Rattle.curve_library.proofs.SignTests.{not_below, nonneg_out, nonneg_test}
 use Rattle.curve_library.proofs.texts.is_nonneg_tail.Goals as goal

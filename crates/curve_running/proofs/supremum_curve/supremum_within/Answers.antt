@@ -3,7 +3,7 @@ use Rattle.std.proofs.Common.{◌∙◌, sym, subst}
 use Rattle.upp_curve.specs.declared.op_kind.OpKind.TheVariants.{RunSup}
 use Rattle.upp_curve.specs.Reading.{read}
 use Rattle.upp_curve.specs.Curve.{value_at, repeated}
-use Rattle.upp_curve.specs.Functions.{IsFinite}
+use Rattle.min_plus.specs.Functions.{IsFinite}
 use Rattle.upp_curve.specs.Normalising.{HasValues}
 use Rattle.curve_frame.specs.Frames.{sizes_at}
 use Rattle.curve_window.proofs.Results.{ok_map}

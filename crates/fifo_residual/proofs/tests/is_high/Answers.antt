@@ -3,7 +3,7 @@ use Rattle.rational.specs.Rational.{◌≤ℚ◌}
 use Rattle.rational.specs.Extended.{◌≤ₑ◌}
 use Rattle.rational.specs.declared.Extended.TheVariants.{Fin}
 use Rattle.affine_segment.proofs.Compared.{not_less}
-use Rattle.upp_curve.specs.Functions.{zero_q}
+use Rattle.min_plus.specs.Functions.{zero_q}
 use Rattle.fifo_residual.proofs.tests.is_high.Goals as goal
 
 pub returns-in_default : goal.returns-in_default

@@ -6,7 +6,7 @@ use Rattle.std.proofs.lemmas.Result.{err_from_is_err_and}
 use Rattle.rational.specs.Extended.{◌≤ₑ◌}
 use Rattle.rational.specs.declared.Extended.TheVariants.{Fin}
 use Rattle.rational.proofs.Laws.{le_refl}
-use Rattle.upp_curve.specs.Functions.{zero_q}
+use Rattle.min_plus.specs.Functions.{zero_q}
 use Rattle.closure_fold.specs.CurveParts.{part_of}
 use Rattle.subadd_closure.specs.FoldWork.{parts_work, fold_work}
 use Rattle.subadd_closure.specs.SegmentLimits.{IsElementOf}

@@ -7,7 +7,7 @@ use Rattle.rational.proofs.Laws.{le_of_lt, not_zero}
 use Rattle.rational.proofs.Linear.{with2}
 use Rattle.rational.proofs.Quotients.{div_nonneg}
 use Rattle.rational.proofs.Whole.{whole_floor}
-use Rattle.upp_curve.specs.Functions.{zero_q}
+use Rattle.min_plus.specs.Functions.{zero_q}
 use Rattle.subadd_closure.proofs.overlaps.lengths_before.Goals as goal
 
 pub quotient-requires-clause-some : goal.quotient-requires-clause-some

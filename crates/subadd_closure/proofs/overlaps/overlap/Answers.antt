@@ -3,7 +3,7 @@ use Rattle.std.specs.Prelude.{IfOk}
 use Rattle.rational.specs.Rational.{◌≤ℚ◌, ◌<ℚ◌}
 use Rattle.rational.specs.declared.Extended.TheVariants.{Fin}
 use Rattle.affine_segment.specs.declared.element.Element.TheVariants.{Open}
-use Rattle.upp_curve.specs.Functions.{zero_q}
+use Rattle.min_plus.specs.Functions.{zero_q}
 use Rattle.upp_curve.proofs.Compared.{not_less_out}
 use Rattle.closure_elements.proofs.MeetNumbers.{stretches_meet}
 use Rattle.subadd_closure.specs.SegmentLimits.{IsElementOf, IsOverlap, IsOwnGauge}

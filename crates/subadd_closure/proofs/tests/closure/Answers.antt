@@ -2,7 +2,7 @@ use Rattle.rational.specs.declared.Extended.TheVariants.{Fin}
 use Rattle.rational.proofs.Laws.{le_refl}
 use Rattle.rational.proofs.ExtendedOrder.{le_ext_trans}
 use Rattle.upp_curve.specs.Curve.{value_at}
-use Rattle.upp_curve.specs.Functions.{zero_q}
+use Rattle.min_plus.specs.Functions.{zero_q}
 use Rattle.subadd_closure.proofs.tests.closure.Goals as goal
 
 pub close-requires-clause-finite : goal.close-requires-clause-finite

@@ -5,7 +5,7 @@ use Rattle.rational.specs.Extended.{◌≤ₑ◌}
 use Rattle.rational.specs.declared.Extended.TheVariants.{Fin}
 use Rattle.rational.proofs.Laws.{le_refl}
 use Rattle.upp_curve.specs.Curve.{value_at}
-use Rattle.upp_curve.specs.Functions.{zero_q}
+use Rattle.min_plus.specs.Functions.{zero_q}
 use Rattle.upp_curve.proofs.Compared.{not_less_out}
 use Rattle.subadd_closure.proofs.tests.starts_high.Goals as goal
 

@@ -3,7 +3,7 @@ use Rattle.rational.specs.Extended.{◌+ₑ◌}
 use Rattle.rational.specs.declared.Extended.TheVariants.{Fin}
 use Rattle.upp_curve.specs.Reading.{read}
 use Rattle.upp_curve.specs.Readable.{EachFits}
-use Rattle.upp_curve.specs.Continuity.{PiecesJoin}
+use Rattle.upp_curve.specs.JoinedPieces.{PiecesJoin}
 use Rattle.upp_curve.proofs.RisingCurves.{IsEnd}
 use Rattle.upp_curve.proofs.CurveShapes.{free_fits, free_end, end_is}
 use Rattle.upp_curve.proofs.Joins.{continuous_answer}

@@ -5,8 +5,8 @@ use Rattle.rational.specs.Extended.{Ext, ◌≤ₑ◌}
 use Rattle.rational.specs.declared.Extended.TheVariants.{Fin}
 use Rattle.rational.proofs.Bounds.{infimum_unique, supremum_unique, smallest}
 use Rattle.rational.proofs.ExtendedOrder.{antisym_ext, same_le_ext, le_ext_trans}
-use Rattle.upp_curve.specs.Functions.{Time, FiniteTime}
-use Rattle.upp_curve.specs.Deviations.{Lag, IsHorizontalDeviation, DeviationsAreUnique}
+use Rattle.min_plus.specs.Functions.{Time, FiniteTime}
+use Rattle.min_plus.specs.Deviations.{Lag, IsHorizontalDeviation, DeviationsAreUnique}
 
 lags_same : (f g : ℚ → Ext) (x y : Ext) (A : IsHorizontalDeviation f g x) (B : IsHorizontalDeviation f g y) (t : Time) → A.lag t ≡ B.lag t
 lags_same f g x y A B t = infimum_unique {I = Lag f g t.at} (λ a. Fin a.after) (A.lag t) (B.lag t) (A.is_lag t) (B.is_lag t)

@@ -5,7 +5,7 @@ use Rattle.rational.specs.Rational.{ℚ, ◌+ℚ◌, ◌≤ℚ◌}
 use Rattle.rational.specs.Extended.{Ext, ◌≤ₑ◌, ◌-ₑ◌}
 use Rattle.rational.specs.Bounds.{IsInfimum, IsSupremum}
 use Rattle.rational.specs.declared.Extended.TheVariants.{Fin}
-use Rattle.upp_curve.specs.Functions.{zero_q, Time, FiniteTime}
+use Rattle.min_plus.specs.Functions.{zero_q, Time, FiniteTime}
 
 -- v is the supremum of f - g over the times from 0 on at which g is finite
 abbrev pub IsVerticalDeviation : (ℚ → Ext) → (ℚ → Ext) → Ext → Type 0

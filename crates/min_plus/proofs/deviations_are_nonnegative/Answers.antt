@@ -1,5 +1,5 @@
-use Rattle.upp_curve.proofs.DeviationSigns.{horizontals_are_nonnegative, verticals_are_nonnegative}
-use Rattle.upp_curve.proofs.laws.deviations_are_nonnegative.Goals as goal
+use Rattle.min_plus.proofs.DeviationSigns.{horizontals_are_nonnegative, verticals_are_nonnegative}
+use Rattle.min_plus.proofs.deviations_are_nonnegative.Goals as goal
 
 pub returns-clause-horizontal : goal.returns-clause-horizontal
 returns-clause-horizontal c = horizontals_are_nonnegative

@@ -5,7 +5,7 @@ use Rattle.rational.specs.Rational.{ℚ, ◌+ℚ◌, ◌≤ℚ◌}
 use Rattle.rational.specs.Extended.{Ext, ◌≤ₑ◌, ◌+ₑ◌, ◌-ₑ◌}
 use Rattle.rational.specs.Bounds.{IsInfimum, IsSupremum}
 use Rattle.rational.specs.declared.Extended.TheVariants.{Fin}
-use Rattle.upp_curve.specs.Functions.{zero_q, FiniteTime}
+use Rattle.min_plus.specs.Functions.{zero_q, FiniteTime}
 
 -- ---- convolution
 -- two times from 0 on whose sum is t

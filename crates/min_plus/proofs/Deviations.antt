@@ -7,8 +7,8 @@ use Rattle.rational.specs.declared.Extended.TheVariants.{Fin, Inf}
 use Rattle.rational.proofs.Laws.{le_refl, le_trans, le_or_lt}
 use Rattle.rational.proofs.ExtendedOrder.{le_ext_trans}
 use Rattle.rational.proofs.Linear.{with2, with3}
-use Rattle.upp_curve.specs.Deviations.{IsLag, IsHorizontalDeviation}
-use Rattle.upp_curve.specs.Functions.{Time, IsRising}
+use Rattle.min_plus.specs.Deviations.{IsLag, IsHorizontalDeviation}
+use Rattle.min_plus.specs.Functions.{Time, IsRising}
 
 abbrev pub Within : (ℚ → Ext) → (ℚ → Ext) → ℚ → Type 0
 Within α γ delay = (x d : ℚ) → int (pos 0) ≤ℚ x → delay <ℚ d → α x ≤ₑ γ (x +ℚ d)

@@ -9,11 +9,12 @@ use Rattle.rational.proofs.Laws.{mul_comm, mul_le_mul_right, mul_nonneg, mul_pos
 use Rattle.rational.specs.Extended.{Ext, ◌≤ₑ◌}
 use Rattle.rational.specs.declared.Extended.TheVariants.{Fin, Inf}
 use Rattle.rational.specs.MinMax.{max_q}
-use Rattle.upp_curve.specs.Functions.{zero_q, Time}
-use Rattle.upp_curve.specs.Deviations.{Lag, IsLag, IsHorizontalDeviation}
+use Rattle.min_plus.specs.Functions.{zero_q, Time}
+use Rattle.min_plus.specs.Deviations.{Lag, IsLag, IsHorizontalDeviation}
 use Rattle.rational.proofs.Bounds.{least_member, unbounded}
 use Rattle.rational.proofs.Whole.{le_of_mul, lt_of_mul, not_zero}
-use Rattle.upp_curve.proofs.KindValues.{IsBucket, IsService, reach, burst_nonneg}
+use Rattle.min_plus.specs.Formulas.{IsBucket, IsService}
+use Rattle.min_plus.proofs.Rates.{reach, burst_nonneg}
 
 -- what is above 0 and at most max(0, y) is at most y
 pub below_positive : (z y : ℚ) → zero_q <ℚ z → z ≤ℚ max_q zero_q y → z ≤ℚ y

@@ -5,7 +5,7 @@ use Rattle.rational.specs.Rational.{ℚ, ◌+ℚ◌, ◌-ℚ◌, ◌*ℚ◌}
 use Rattle.rational.specs.MinMax.{max_q}
 use Rattle.rational.specs.Extended.{Ext, ◌+ₑ◌, min_ext, max_ext}
 use Rattle.rational.specs.declared.Extended.TheVariants.{Fin, Inf}
-use Rattle.upp_curve.specs.Functions.{zero_q}
+use Rattle.min_plus.specs.Functions.{zero_q}
 
 -- the sum of the two values; infinite where one is
 abbrev pub IsSum : (ℚ → Ext) → (ℚ → Ext) → ℚ → Ext → Type 0

@@ -5,8 +5,8 @@ use Rattle.rational.specs.Rational.{ℚ, ◌-ℚ◌, le_q}
 use Rattle.rational.specs.Extended.{Ext}
 use Rattle.rational.specs.Bounds.{IsInfimum, IsSupremum}
 use Rattle.rational.specs.declared.Extended.TheVariants.{Fin, Inf}
-use Rattle.upp_curve.specs.Functions.{zero_q, UpTo, From}
-use Rattle.upp_curve.specs.Pointwise.{excess}
+use Rattle.min_plus.specs.Functions.{zero_q, UpTo, From}
+use Rattle.min_plus.specs.Pointwise.{excess}
 
 -- v is the supremum of f over the times from 0 to t, t included
 abbrev pub IsRunningSupremum : (ℚ → Ext) → ℚ → Ext → Type 0

@@ -8,12 +8,13 @@ use Rattle.rational.proofs.Laws.{mul_comm, mul_le_mul, mul_le_mul_right, mul_non
 use Rattle.rational.specs.Extended.{Ext, ◌≤ₑ◌, ◌<ₑ◌, ◌-ₑ◌}
 use Rattle.rational.specs.declared.Extended.TheVariants.{Fin, Inf}
 use Rattle.rational.specs.MinMax.{max_q}
-use Rattle.upp_curve.specs.Functions.{zero_q, FiniteTime}
-use Rattle.upp_curve.specs.Deviations.{IsVerticalDeviation}
+use Rattle.min_plus.specs.Functions.{zero_q, FiniteTime}
+use Rattle.min_plus.specs.Deviations.{IsVerticalDeviation}
 use Rattle.rational.proofs.Bounds.{largest_member, unbounded}
 use Rattle.rational.proofs.Whole.{not_zero}
-use Rattle.upp_curve.proofs.FiniteValues.{Fin_inj}
-use Rattle.upp_curve.proofs.KindValues.{IsBucket, IsPacketised, reach, burst_nonneg}
+use Rattle.min_plus.proofs.FiniteValues.{Fin_inj}
+use Rattle.min_plus.specs.Formulas.{IsBucket, IsPacketised}
+use Rattle.min_plus.proofs.Rates.{reach, burst_nonneg}
 
 -- when the packet is through: T + l / R
 abbrev pub turn : ℚ → ℚ → ℚ → ℚ

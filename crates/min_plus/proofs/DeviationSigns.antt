@@ -1,14 +1,12 @@
 -- A deviation is at least that at the time 0, which is at least 0.
-use Rattle.std.specs.Prelude.{◌≡◌}
-use Rattle.rational.specs.Rational.{ℚ}
-use Rattle.rational.specs.Extended.{Ext, ◌≤ₑ◌, ◌-ₑ◌}
+use Rattle.rational.specs.Extended.{◌-ₑ◌}
 use Rattle.rational.specs.declared.Extended.TheVariants.{Fin}
 use Rattle.rational.proofs.Bounds.{greatest}
 use Rattle.rational.proofs.ExtendedOrder.{le_ext_trans}
 use Rattle.rational.proofs.Laws.{le_refl}
-use Rattle.upp_curve.specs.Functions.{zero_q, FiniteTime, Time}
-use Rattle.upp_curve.specs.Deviations.{Lag}
-use Rattle.upp_curve.specs.DeviationSigns.{HorizontalsAreNonnegative, VerticalsAreNonnegative}
+use Rattle.min_plus.specs.Functions.{zero_q, FiniteTime, Time}
+use Rattle.min_plus.specs.Deviations.{Lag}
+use Rattle.min_plus.specs.DeviationSigns.{HorizontalsAreNonnegative, VerticalsAreNonnegative}
 
 start : Time
 start = record { at = zero_q; nonneg = le_refl zero_q }

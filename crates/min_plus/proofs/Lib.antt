@@ -1,0 +1,9 @@
+pub mod FiniteValues
+pub mod Rates
+pub mod BucketDelay
+pub mod BucketBacklog
+pub mod BucketOperators
+pub mod Unambiguous
+pub mod DeviationSigns
+pub mod Deviations
+pub mod BucketDeviations
