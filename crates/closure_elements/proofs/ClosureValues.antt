@@ -16,7 +16,7 @@ use Rattle.min_plus.specs.Functions.{zero_q}
 use Rattle.upp_curve.specs.Reading.{read, piece_value}
 use Rattle.upp_curve.specs.Curve.{repeated, value_at}
 use Rattle.upp_curve.proofs.Repeats.{repeated_first}
-use Rattle.closure_laws.specs.ElementClosures.{Turn, IsSegmentClosure}
+use Rattle.closure_elements.specs.ElementClosures.{Turn, IsSegmentClosure}
 use Rattle.closure_elements.specs.ElementCurves.{nat_times, stretch, turn, line_times, all_stretches, stretches, from_zero, gap, level_closure, rising_closure, falling_closure}
 use Rattle.closure_elements.proofs.PieceReads.{value_past, value_here, read_stop, read_go, read_end, opening_past, opening_here, early_start, late_start, gap_value}
 use Rattle.closure_elements.proofs.TurnNumbers.{fewer, more, least_turn, no_turn, least_up, least_down}

@@ -12,7 +12,7 @@ use Rattle.rational.proofs.ExtendedOrder.{le_ext_trans}
 use Rattle.affine_segment.specs.declared.line.Line.{Line}
 use Rattle.min_plus.specs.Functions.{zero_q}
 use Rattle.upp_curve.specs.Curve.{value_at}
-use Rattle.closure_laws.specs.ElementClosures.{Turn, IsSegmentClosure}
+use Rattle.closure_elements.specs.ElementClosures.{Turn, IsSegmentClosure}
 use Rattle.closure_elements.specs.ElementCurves.{nat_times, falling_closure, stretches}
 use Rattle.closure_elements.proofs.TurnNumbers.{fewer, turn_above, turn_in, least_down}
 use Rattle.closure_elements.proofs.ClosureValues.{left_of, falling_values}

@@ -16,3 +16,4 @@ pub mod PointAnswers
 pub mod MeetNumbers
 pub mod HeavyCalls
 pub mod LatticeCurves
+pub mod ElementSums

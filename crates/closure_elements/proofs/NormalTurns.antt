@@ -18,7 +18,7 @@ use Rattle.upp_curve.specs.Curve.{SpecCurve, value_at}
 use Rattle.upp_curve.specs.Steady.{Repeats}
 use Rattle.upp_curve.specs.Normal.{Each, IsNormal}
 use Rattle.upp_curve.proofs.Normal.{periodic_rule}
-use Rattle.closure_laws.specs.ElementClosures.{Turn, IsSegmentClosure}
+use Rattle.closure_elements.specs.ElementClosures.{Turn, IsSegmentClosure}
 use Rattle.closure_elements.specs.ElementCurves.{nat_times, turn, line_times, all_stretches, rising_closure, falling_closure}
 use Rattle.closure_elements.proofs.TurnNumbers.{turn_in, more}
 use Rattle.closure_elements.proofs.StretchReads.{IsLate, first_late, none_at_start}

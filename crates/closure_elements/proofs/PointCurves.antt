@@ -20,7 +20,7 @@ use Rattle.upp_curve.specs.Curve.{value_at, repeated, cut}
 use Rattle.upp_curve.specs.Steady.{Repeats}
 use Rattle.upp_curve.specs.Normal.{IsNormal}
 use Rattle.upp_curve.proofs.Repeats.{repeated_first}
-use Rattle.closure_laws.specs.ElementClosures.{Multiple, IsPointClosure}
+use Rattle.closure_elements.specs.ElementClosures.{Multiple, IsPointClosure}
 use Rattle.closure_elements.specs.ElementCurves.{nat_times, gap, point_closure, point_at_zero}
 use Rattle.closure_elements.proofs.PieceReads.{value_past, value_here, read_stop, read_go, read_end, gap_value}
 use Rattle.closure_elements.proofs.TurnNumbers.{le_or_more}

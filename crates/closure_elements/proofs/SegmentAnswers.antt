@@ -26,8 +26,8 @@ use Rattle.upp_curve.proofs.Normal.{each_at}
 use Rattle.upp_curve.specs.Readable.{LineFitsAt, EachFits}
 use Rattle.upp_curve.specs.Limits.{Sizes, own_gauge, own_tally}
 use Rattle.min_plus.specs.Convolution.{IsSubadditiveClosure}
-use Rattle.closure_laws.proofs.ElementSums.{closure_of_segment}
-use Rattle.closure_laws.specs.ElementClosures.{IsSegmentClosure}
+use Rattle.closure_elements.proofs.ElementSums.{closure_of_segment}
+use Rattle.closure_elements.specs.ElementClosures.{IsSegmentClosure}
 use Rattle.closure_elements.specs.ElementCurves.{nat_times, opening, line_times, from_zero, turn, stretches, all_stretches, level_closure, rising_closure, falling_closure}
 use Rattle.closure_elements.specs.PieceFits.{PieceFits, IsUnfit, IsMade, SlopesRead, Turns}
 use Rattle.closure_elements.specs.ElementAnswers.{IsElementClosure, ClosureAnswer, IsOpenPart}

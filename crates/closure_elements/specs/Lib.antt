@@ -5,3 +5,4 @@ pub mod ElementAnswers
 pub mod MeetLaws
 pub mod HeavyLaws
 pub mod Lattices
+pub mod ElementClosures

@@ -1,9 +1,16 @@
-//! What is known of the stretches of a closure, and of a closure that is refused. Each function is a theorem: its
-//! contract is the law, its body is empty.
+//! The closures of elements, and what is known of their stretches and of a closure that is refused. Each function is a
+//! theorem: its contract is the law, its body is empty.
 
+ghost use Rattle.closure_elements.specs.ElementClosures.{ClosureOfPoint, ClosureOfSegment};
 ghost use Rattle.closure_elements.specs.HeavyLaws.{HeavyIsRefused};
 ghost use Rattle.closure_elements.specs.Lattices.{LatticeValues};
 ghost use Rattle.closure_elements.specs.MeetLaws.{StretchesMeet};
+
+/// The closures of a point and of a line on an open stretch.
+pub fn elements_close()
+    ensures point { ClosureOfPoint }
+    ensures segment { ClosureOfSegment }
+{}
 
 /// As many stretches end before the next begins as the length of one goes whole times into its start.
 pub fn stretches_meet()

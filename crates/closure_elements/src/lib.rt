@@ -11,6 +11,6 @@ mod stretches;
 mod tests;
 
 pub use lattices::{lattice, origin};
-pub use laws::{heavy_is_refused, lattice_values, stretches_meet};
+pub use laws::{elements_close, heavy_is_refused, lattice_values, stretches_meet};
 pub use points::point_closure;
 pub use segments::segment_closure;

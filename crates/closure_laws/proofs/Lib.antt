@@ -2,4 +2,3 @@ pub mod TimeLists
 pub mod StarSums
 pub mod CopiedParts
 pub mod KeptShapes
-pub mod ElementSums

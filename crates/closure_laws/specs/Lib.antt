@@ -1,3 +1,2 @@
 pub mod Star
 pub mod ClosureLaws
-pub mod ElementClosures

@@ -4,7 +4,6 @@
 
 ghost use Rattle.closure_laws.specs.ClosureLaws.{StarOfLesser, StarOfClosure, ClosureOfStar, StarsAreOfValues};
 ghost use Rattle.closure_laws.specs.ClosureLaws.{ClosureOfCopies, ClosuresKeep};
-ghost use Rattle.closure_laws.specs.ElementClosures.{ClosureOfPoint, ClosureOfSegment};
 
 /// The star, which is the closure with the sum of no value too: that of the lesser of two functions is the convolution
 /// of theirs, and it follows from the closure and the closure from it.
@@ -23,10 +22,4 @@ pub fn copies()
 /// A closure is finite, nowhere below 0, and rising where the function is.
 pub fn closures_keep()
     ensures { ClosuresKeep }
-{}
-
-/// The closures of a point and of a line on an open stretch.
-pub fn elements()
-    ensures point { ClosureOfPoint }
-    ensures segment { ClosureOfSegment }
 {}

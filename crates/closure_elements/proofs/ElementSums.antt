@@ -17,7 +17,7 @@ use Rattle.affine_segment.proofs.ElementValues.{value_in, value_cases}
 use Rattle.affine_segment.specs.Cuts.{IsWithin}
 use Rattle.min_plus.specs.Functions.{zero_q}
 use Rattle.min_plus.specs.Convolution.{Parts, AllNonneg, sum_of, sum_at}
-use Rattle.closure_laws.specs.ElementClosures.{Multiple, Turn, ClosureOfPoint, ClosureOfSegment}
+use Rattle.closure_elements.specs.ElementClosures.{Multiple, Turn, ClosureOfPoint, ClosureOfSegment}
 
 abbrev pub nat_times : ℕ → ℚ → ℚ
 nat_times n d = int (pos n) *ℚ d

@@ -1,5 +1,5 @@
-use Rattle.closure_laws.proofs.ElementSums.{closure_of_point, closure_of_segment}
-use Rattle.closure_laws.proofs.elements.Goals as goal
+use Rattle.closure_elements.proofs.ElementSums.{closure_of_point, closure_of_segment}
+use Rattle.closure_elements.proofs.laws.elements_close.Goals as goal
 
 pub returns-clause-point : goal.returns-clause-point
 returns-clause-point c = closure_of_point
