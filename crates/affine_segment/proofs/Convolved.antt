@@ -17,15 +17,12 @@ use Rattle.affine_segment.specs.Values.{line_at}
 use Rattle.affine_segment.specs.Cuts.{IsWithin}
 use Rattle.affine_segment.specs.Elements.{level, PairSplit, pair_sum, joined_value, Bends, IsConvolved}
 use Rattle.affine_segment.specs.Segments.{IsThrough}
+use Rattle.affine_segment.specs.MadeParts.{alone_part}
 use Rattle.affine_segment.proofs.ElementValues.{read_joined, read_alone}
 use Rattle.affine_segment.proofs.Splits.{one_value, hi_of, split_past, split_before, segment_infimum, hi_short, hi_full, moved_line, parallel_sum}
 
--- one part
-abbrev pub one_part : Element → Joined
-one_part e = record { first = e; join = None; second = None }
-
 -- ---- two points
-pub points_convolved : (x v y u z w : ℚ) → z ≡ x +ℚ y → w ≡ v +ℚ u → IsConvolved (Point x v) (Point y u) (one_part (Point z w))
+pub points_convolved : (x v y u z w : ℚ) → z ≡ x +ℚ y → w ≡ v +ℚ u → IsConvolved (Point x v) (Point y u) (alone_part (Point z w))
 points_convolved x v y u z w e f = record {
   value = λ t.
       read_alone (pair_sum (Point x v) (Point y u) t) (Point z w) t
@@ -59,7 +56,7 @@ moved_proper x from (Fin e) h = with3 x from e (λ c. omega (arith, c.le, c.lt, 
 
 moved_here : (x v from : ℚ) (to : Ext) (line n : Line) → Fin from <ₑ to
     → IsThrough line.slope (x +ℚ from) (v +ℚ line_at line from) n
-    → IsConvolved (Point x v) (Open from to line) (one_part (Open (x +ℚ from) (Fin x +ₑ to) n))
+    → IsConvolved (Point x v) (Open from to line) (alone_part (Open (x +ℚ from) (Fin x +ₑ to) n))
 moved_here x v from to line n proper through = record {
   value = λ t.
       read_alone (pair_sum (Point x v) (Open from to line) t) (Open (x +ℚ from) (Fin x +ₑ to) n) t
@@ -84,10 +81,10 @@ moved_here x v from to line n proper through = record {
 
 pub moved_convolved : (x v from : ℚ) (to : Ext) (line : Line) (at start after : ℚ) (end : Ext) (n : Line) → Fin from <ₑ to
     → at ≡ x +ℚ from → end ≡ Fin x +ₑ to → start ≡ line_at line from → after ≡ v +ℚ start → IsThrough line.slope at after n
-    → IsConvolved (Point x v) (Open from to line) (one_part (Open at end n))
+    → IsConvolved (Point x v) (Open from to line) (alone_part (Open at end n))
 moved_convolved x v from to line at start after end n proper e f g h through =
-    subst (λ a. IsConvolved (Point x v) (Open from to line) (one_part (Open a end n))) (sym e)
-    (subst (λ z. IsConvolved (Point x v) (Open from to line) (one_part (Open (x +ℚ from) z n))) (sym f)
+    subst (λ a. IsConvolved (Point x v) (Open from to line) (alone_part (Open a end n))) (sym e)
+    (subst (λ z. IsConvolved (Point x v) (Open from to line) (alone_part (Open (x +ℚ from) z n))) (sym f)
     (moved_here x v from to line n proper record { slope = through.slope; value = ap (line_at n) (sym e) ∙ through.value ∙ h ∙ ap (λ q. v +ℚ q) g }))
 
 -- ---- two segments
@@ -109,10 +106,10 @@ at_start l m n f g t hi e s v =
 -- of one slope
 pub straight_convolved : (f : ℚ) (to : Ext) (l : Line) (g : ℚ) (end : Ext) (m n : Line) (at : ℚ) (until : Ext)
     → Fin f <ₑ to → Fin g <ₑ end → l.slope ≡ m.slope → at ≡ f +ℚ g → until ≡ to +ₑ end → IsThrough l.slope at (line_at l f +ℚ line_at m g) n
-    → IsConvolved (Open f to l) (Open g end m) (one_part (Open at until n))
+    → IsConvolved (Open f to l) (Open g end m) (alone_part (Open at until n))
 straight_convolved f to l g end m n at until p q same e u through =
-    subst (λ a. IsConvolved (Open f to l) (Open g end m) (one_part (Open a until n))) (sym e)
-    (subst (λ z. IsConvolved (Open f to l) (Open g end m) (one_part (Open (f +ℚ g) z n))) (sym u) record {
+    subst (λ a. IsConvolved (Open f to l) (Open g end m) (alone_part (Open a until n))) (sym e)
+    (subst (λ z. IsConvolved (Open f to l) (Open g end m) (alone_part (Open (f +ℚ g) z n))) (sym u) record {
       value = λ t.
           read_alone (pair_sum (Open f to l) (Open g end m) t) (Open (f +ℚ g) (to +ₑ end) n) t
           (λ w.
@@ -139,9 +136,9 @@ straight_convolved f to l g end m n at until p q same e u through =
 -- of different slopes, the first without an end
 pub endless_convolved : (f : ℚ) (l : Line) (g : ℚ) (end : Ext) (m n : Line) (at : ℚ)
     → Fin g <ₑ end → l.slope <ℚ m.slope → at ≡ f +ℚ g → IsThrough l.slope at (line_at l f +ℚ line_at m g) n
-    → IsConvolved (Open f Inf l) (Open g end m) (one_part (Open at Inf n))
+    → IsConvolved (Open f Inf l) (Open g end m) (alone_part (Open at Inf n))
 endless_convolved f l g end m n at q less e through =
-    subst (λ a. IsConvolved (Open f Inf l) (Open g end m) (one_part (Open a Inf n))) (sym e) record {
+    subst (λ a. IsConvolved (Open f Inf l) (Open g end m) (alone_part (Open a Inf n))) (sym e) record {
       value = λ t.
           read_alone (pair_sum (Open f Inf l) (Open g end m) t) (Open (f +ℚ g) Inf n) t
           (λ w.
@@ -170,10 +167,6 @@ at_end l m n e g t hi h s v =
     ∙ sym (moved_line m n g e (line_at l e) t s (ap (line_at n) (add_comm g e) ∙ v ∙ add_comm (line_at l e) (line_at m g)))
 
 -- past the first's end and the second's start
-turn_proper : (e g : ℚ) (end : Ext) → Fin g <ₑ end → Fin (e +ℚ g) <ₑ Fin e +ₑ end
-turn_proper e g Inf h = tt
-turn_proper e g (Fin d) h = with3 e g d (λ c. omega (arith, c.le, c.lt, c.same))
-
 before_turn : (e g t : ℚ) (end : Ext) → Fin g <ₑ end → t ≤ℚ e +ℚ g → Fin t <ₑ Fin e +ₑ end
 before_turn e g t Inf h k = tt
 before_turn e g t (Fin d) h k = with4 e g t d (λ c. omega (arith, c.le, c.lt, c.same))
@@ -198,7 +191,7 @@ bent_here f e l g end m n k p q less start turn = record {
       (λ w. reach t (line_at k t) (past_turn t (le_of_lt w.past)) w.before (at_second t (le_of_lt w.past)))
       (λ s. some t (split_past f (Fin e) l g end m t s) (split_before f (Fin e) l g end m t s));
   start = refl;
-  adjoined = (refl, refl, with3 f e g (λ c. omega (arith, c.le, c.lt, c.same)), turn_proper e g end q);
+  adjoined = (refl, refl, with3 f e g (λ c. omega (arith, c.le, c.lt, c.same)), moved_proper e g end q);
   bend = (λ h. inl (less, tt), λ h. refl);
 }
   where

@@ -1,5 +1,7 @@
-pub mod Compared
 pub mod Meeting
+pub mod PieceIn
+pub mod NextPiece
+pub mod PieceOrder
 pub mod Lower
 pub mod ElementValues
 pub mod Splits

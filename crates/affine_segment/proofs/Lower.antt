@@ -7,7 +7,7 @@ use Rattle.rational.specs.Extended.{Ext, ◌<ₑ◌}
 use Rattle.rational.specs.declared.Extended.TheVariants.{Fin, Inf}
 use Rattle.rational.proofs.Linear.{with2, with3, with4, with8}
 use Rattle.rational.proofs.Laws.{le_or_lt, le_of_lt, mul_sub, mul_le_mul_right, antisym}
-use Rattle.rational.proofs.MinMax.{min_q_left, min_q_right}
+use Rattle.rational.proofs.MinMax.{min_q_left, min_q_right, min_q_comm}
 use Rattle.affine_segment.specs.declared.line.Line.{Line}
 use Rattle.affine_segment.specs.declared.cut.Cut.{Cut}
 use Rattle.affine_segment.specs.Values.{line_at}
@@ -97,12 +97,6 @@ uncrossed_cut a b x from to h e none =
     end (Fin y) t b none = elim (le_or_lt y x) [ inl l ↦ with3 x y t (λ c. omega (arith, c.le, c.lt, c.same)) | inr l ↦ absurd (none l) ]
 
 -- ---- the same cut with the lines the other way round
-min_turned : (x y : ℚ) → min_q x y ≡ min_q y x
-min_turned x y = elim (le_or_lt x y) [
-  | inl l ↦ min_q_left x y l ∙ right_low y x l
-  | inr l ↦ min_q_right x y l ∙ sym (min_q_left y x (le_of_lt l))
-]
-
 pub turned : (a b : Line) (from : ℚ) (to : Ext) (cut : Cut) → IsLowerCut a b from to cut → IsLowerCut b a from to cut
 turned a b from to cut c = record { low = other c.low; after = other c.after; lower = by cut.at c.lower; turns = crossed cut.at c.turns }
   where
@@ -111,7 +105,7 @@ turned a b from to cut c = record { low = other c.low; after = other c.after; lo
     other (inr e) = inl e
 
     at_time : (m : Line) (t : ℚ) → IsLowerAt a b m t → IsLowerAt b a m t
-    at_time m t e = e ∙ min_turned (line_at a t) (line_at b t)
+    at_time m t e = e ∙ min_q_comm (line_at a t) (line_at b t)
 
     by : (at : Option ℚ) → CutsAt a b from to cut.low at cut.after → CutsAt b a from to cut.low at cut.after
     by None h = (h.0, λ t w. at_time cut.low t (h.1 t w))

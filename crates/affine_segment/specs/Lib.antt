@@ -1,4 +1,7 @@
 pub mod Values
+pub mod Pieces
+pub mod Reading
+pub mod Fits
 pub mod Steps
 pub mod Cuts
 pub mod Elements

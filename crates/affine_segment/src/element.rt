@@ -1,5 +1,8 @@
 //! The elements of a curve, and what two of them make.
 
+ghost use Rattle.std.specs.Prelude.{◌≡◌};
+ghost use Rattle.affine_segment.specs.Elements.{start_of};
+
 use crate::line::Line;
 use fraction128::{Ext, Frac};
 
@@ -21,4 +24,18 @@ pub struct Joined {
     pub join: Option<Element>,
     /// The part after that point.
     pub second: Option<Element>,
+}
+
+/// Where an element starts.
+pub fn start_of(e: &Element) -> Frac
+    ensures { result ≡ start_of e.now }
+{
+    match *e {
+        Element::Point { x, v: _ } => x,
+        Element::Open {
+            from,
+            to: _,
+            line: _,
+        } => from,
+    }
 }

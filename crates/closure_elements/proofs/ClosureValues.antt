@@ -13,7 +13,7 @@ use Rattle.rational.proofs.Whole.{one_more_times, periods_low, periods_high}
 use Rattle.affine_segment.specs.declared.line.Line.{Line}
 use Rattle.affine_segment.specs.Values.{line_at}
 use Rattle.min_plus.specs.Functions.{zero_q}
-use Rattle.upp_curve.specs.Reading.{read, piece_value}
+use Rattle.affine_segment.specs.Reading.{read, piece_value}
 use Rattle.upp_curve.specs.Curve.{repeated, value_at}
 use Rattle.upp_curve.proofs.Repeats.{repeated_first}
 use Rattle.closure_elements.specs.ElementClosures.{Turn, IsSegmentClosure}

@@ -15,7 +15,7 @@ use Rattle.upp_curve.specs.Curve.{SpecCurve}
 use Rattle.min_plus.specs.Functions.{zero_q}
 use Rattle.upp_curve.specs.Steady.{steady}
 use Rattle.upp_curve.specs.Periods.{own_period}
-use Rattle.upp_curve.specs.Normal.{StartsAtZero}
+use Rattle.affine_segment.specs.Pieces.{StartsAtZero}
 use Rattle.upp_curve.specs.Unrolled.{copies_below}
 use Rattle.upp_curve.specs.Spans.{once, number_below}
 use Rattle.upp_curve.specs.Limits.{own_end, own_tally}

@@ -10,10 +10,11 @@ use Rattle.rational.specs.Ratio.{IsSmall, SumFits, PartsFit}
 use Rattle.rational.proofs.Laws.{mul_zero, le_or_lt}
 use Rattle.affine_segment.specs.declared.line.Line.{Line}
 use Rattle.affine_segment.specs.declared.line.Piece.{Piece}
-use Rattle.upp_curve.proofs.PieceLoops.{next_piece}
+use Rattle.affine_segment.proofs.NextPiece.{next_piece}
 use Rattle.min_plus.specs.Functions.{zero_q}
-use Rattle.upp_curve.specs.Normal.{Each}
-use Rattle.upp_curve.specs.Readable.{LineFitsAt, LineFitsTo, EachFits, start_after}
+use Rattle.affine_segment.specs.Pieces.{Each, start_after}
+use Rattle.affine_segment.specs.Fits.{LineFitsAt}
+use Rattle.upp_curve.specs.Readable.{LineFitsTo, EachFits}
 use Rattle.closure_elements.specs.ElementCurves.{nat_times, stretch, stretches, all_stretches}
 use Rattle.closure_elements.specs.PieceFits.{SlopeFitsAt, SlopesRead}
 use Rattle.closure_elements.proofs.PieceReads.{gap_kept, gap_left, late_start, early_start}

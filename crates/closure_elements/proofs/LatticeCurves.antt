@@ -20,7 +20,7 @@ use Rattle.upp_curve.specs.Curves.{IsCurve}
 use Rattle.min_plus.specs.Functions.{zero_q}
 use Rattle.upp_curve.specs.Normal.{IsNormal}
 use Rattle.upp_curve.specs.Readable.{SumFitsAt}
-use Rattle.upp_curve.specs.Reading.{read}
+use Rattle.affine_segment.specs.Reading.{read}
 use Rattle.upp_curve.specs.Steady.{Repeats}
 use Rattle.upp_curve.proofs.Repeats.{repeated_first}
 use Rattle.closure_laws.specs.Star.{origin}

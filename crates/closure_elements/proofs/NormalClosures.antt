@@ -13,7 +13,8 @@ use Rattle.affine_segment.specs.declared.line.Piece.{Piece}
 use Rattle.affine_segment.specs.Values.{line_at, line_value}
 use Rattle.min_plus.specs.Functions.{zero_q}
 use Rattle.upp_curve.specs.Steady.{Repeats, last_line}
-use Rattle.upp_curve.specs.Normal.{Each, HasStart, RisesFrom, StartsAtZero, Continues, NoneContinues, NoMerge, IsNormal}
+use Rattle.affine_segment.specs.Pieces.{Each, HasStart, RisesFrom, StartsAtZero}
+use Rattle.upp_curve.specs.Normal.{Continues, NoneContinues, NoMerge, IsNormal}
 use Rattle.upp_curve.proofs.Unique.{lines_at_two}
 use Rattle.closure_elements.specs.ElementCurves.{nat_times, gap, stretch, line_times, stretches, all_stretches, level_closure}
 use Rattle.closure_elements.proofs.PieceReads.{gap_kept, gap_left, late_start, early_start}

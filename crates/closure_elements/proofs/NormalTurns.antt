@@ -16,7 +16,8 @@ use Rattle.upp_curve.specs.declared.curve.Tail.TheVariants.{Periodic}
 use Rattle.min_plus.specs.Functions.{zero_q}
 use Rattle.upp_curve.specs.Curve.{SpecCurve, value_at}
 use Rattle.upp_curve.specs.Steady.{Repeats}
-use Rattle.upp_curve.specs.Normal.{Each, IsNormal}
+use Rattle.affine_segment.specs.Pieces.{Each}
+use Rattle.upp_curve.specs.Normal.{IsNormal}
 use Rattle.upp_curve.proofs.Normal.{periodic_rule}
 use Rattle.closure_elements.specs.ElementClosures.{Turn, IsSegmentClosure}
 use Rattle.closure_elements.specs.ElementCurves.{nat_times, turn, line_times, all_stretches, rising_closure, falling_closure}

@@ -15,7 +15,7 @@ use Rattle.affine_segment.specs.declared.line.Line.{Line}
 use Rattle.affine_segment.specs.declared.line.Piece.{Piece}
 use Rattle.affine_segment.specs.Values.{line_value}
 use Rattle.min_plus.specs.Functions.{zero_q}
-use Rattle.upp_curve.specs.Reading.{read}
+use Rattle.affine_segment.specs.Reading.{read}
 use Rattle.upp_curve.specs.Curve.{value_at, repeated, cut}
 use Rattle.upp_curve.specs.Steady.{Repeats}
 use Rattle.upp_curve.specs.Normal.{IsNormal}

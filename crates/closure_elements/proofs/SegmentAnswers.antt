@@ -20,10 +20,12 @@ use Rattle.upp_curve.specs.declared.op_kind.OpFault.TheVariants.{TooMany, TooWid
 use Rattle.upp_curve.specs.Curve.{SpecCurve, value_at, HasSameValues}
 use Rattle.upp_curve.specs.Curves.{IsCurve}
 use Rattle.min_plus.specs.Functions.{zero_q}
-use Rattle.upp_curve.specs.Normal.{Each, IsRaw, IsNormal}
+use Rattle.affine_segment.specs.Pieces.{Each}
+use Rattle.upp_curve.specs.Normal.{IsRaw, IsNormal}
 use Rattle.upp_curve.specs.Steady.{rank_of}
 use Rattle.upp_curve.proofs.Normal.{each_at}
-use Rattle.upp_curve.specs.Readable.{LineFitsAt, EachFits}
+use Rattle.affine_segment.specs.Fits.{LineFitsAt}
+use Rattle.upp_curve.specs.Readable.{EachFits}
 use Rattle.upp_curve.specs.Limits.{Sizes, own_gauge, own_tally}
 use Rattle.min_plus.specs.Convolution.{IsSubadditiveClosure}
 use Rattle.closure_elements.proofs.ElementSums.{closure_of_segment}

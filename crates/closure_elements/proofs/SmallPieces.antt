@@ -16,8 +16,10 @@ use Rattle.upp_curve.specs.declared.curve.Tail.{Tail}
 use Rattle.upp_curve.specs.declared.curve.Tail.TheVariants.{Periodic, Affine, Infinite}
 use Rattle.upp_curve.specs.Curve.{SpecCurve}
 use Rattle.min_plus.specs.Functions.{zero_q}
-use Rattle.upp_curve.specs.Readable.{LineFitsAt, LineFitsTo, EachFits, start_after}
-use Rattle.upp_curve.specs.Normal.{Each, IsRaw}
+use Rattle.affine_segment.specs.Fits.{LineFitsAt}
+use Rattle.upp_curve.specs.Readable.{LineFitsTo, EachFits}
+use Rattle.affine_segment.specs.Pieces.{start_after, Each}
+use Rattle.upp_curve.specs.Normal.{IsRaw}
 use Rattle.upp_curve.specs.Spans.{spans}
 use Rattle.upp_curve.specs.Ahead.{IsOverBy}
 use Rattle.upp_curve.specs.Seen.{NextFits}

@@ -8,7 +8,7 @@ use Rattle.rational.proofs.Laws.{le_trans, lt_le_trans, le_refl, le_of_lt, le_or
 use Rattle.affine_segment.specs.declared.line.Line.{Line}
 use Rattle.affine_segment.specs.declared.line.Piece.{Piece}
 use Rattle.min_plus.specs.Functions.{zero_q}
-use Rattle.upp_curve.specs.Reading.{read}
+use Rattle.affine_segment.specs.Reading.{read}
 use Rattle.closure_elements.specs.ElementClosures.{Turn, IsSegmentClosure}
 use Rattle.closure_elements.specs.ElementCurves.{nat_times, gap, stretch, line_times, stretches, all_stretches}
 use Rattle.closure_elements.proofs.PieceReads.{read_stop, read_go, opening_here, opening_past, over_gap, before_gap, in_gap, late_start, early_start, gap_value}

@@ -11,7 +11,7 @@ use Rattle.affine_segment.specs.declared.line.Line.{Line}
 use Rattle.affine_segment.specs.declared.line.Piece.{Piece}
 use Rattle.affine_segment.specs.Values.{line_at}
 use Rattle.min_plus.specs.Functions.{zero_q}
-use Rattle.upp_curve.specs.Normal.{Each}
+use Rattle.affine_segment.specs.Pieces.{Each}
 use Rattle.closure_elements.specs.ElementCurves.{nat_times, line_times, gap, stretch, turn, after_gap, from_zero, stretches, all_stretches}
 use Rattle.closure_elements.specs.PieceFits.{PieceFits}
 use Rattle.closure_elements.proofs.PieceReads.{gap_kept, gap_left, late_start, early_start}

@@ -13,8 +13,8 @@ use Rattle.upp_curve.specs.declared.op_kind.OpFault.{OpFault}
 use Rattle.upp_curve.specs.declared.op_kind.OpFault.TheVariants.{TooMany, TooWide, NoMemory}
 use Rattle.upp_curve.specs.Curve.{SpecCurve, HasSameValues}
 use Rattle.upp_curve.specs.Curves.{IsCurve}
-use Rattle.upp_curve.specs.Normal.{Each}
-use Rattle.upp_curve.specs.Readable.{LineFitsAt}
+use Rattle.affine_segment.specs.Pieces.{Each}
+use Rattle.affine_segment.specs.Fits.{LineFitsAt}
 use Rattle.closure_elements.specs.Heavy.{IsHeavy}
 
 abbrev pub AtFits : Ext → Type 0

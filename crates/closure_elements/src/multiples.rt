@@ -4,7 +4,7 @@ ghost use Rattle.std.specs.Prelude.{◌≡◌, ◌<◌, ◌^◌, suc, Some, IfSo
 ghost use Rattle.rational.specs.Rational.{◌-ℚ◌, neg_ℚ};
 ghost use Rattle.rational.specs.Ratio.{IsSmall, SumFits};
 ghost use Rattle.affine_segment.specs.Values.{line_at};
-ghost use Rattle.upp_curve.specs.Readable.{LineFitsAt};
+ghost use Rattle.affine_segment.specs.Fits.{LineFitsAt};
 ghost use Rattle.closure_elements.specs.ElementCurves.{nat_times, line_times, stretch, turn};
 ghost use Rattle.closure_elements.specs.PieceFits.{PieceFits};
 

@@ -9,10 +9,10 @@ ghost use Rattle.closure_elements.specs.PieceFits.{IsMade};
 
 use crate::segments::made;
 use affine_segment::Piece;
-use fraction128::Frac;
+use fraction128::{Frac, is_less};
 use rational::Extended;
 use std::alloc::Global;
-use upp_curve::{Curve, OpFault, RawCurve, Tail, is_less};
+use upp_curve::{Curve, OpFault, RawCurve, Tail};
 
 // n v at n x, x after 0.
 fn repeating(alloc: Global, x: Frac, v: Frac) -> Result<Curve, OpFault>

@@ -1,7 +1,7 @@
 //! The closure of a line on an open stretch.
 
 ghost use Rattle.std.specs.Prelude.{◌≡◌, ◌≤◌, ◌+◌, ◌^◌, ℕ, suc, Some};
-ghost use Rattle.upp_curve.specs.Readable.{LineFitsAt};
+ghost use Rattle.affine_segment.specs.Fits.{LineFitsAt};
 ghost use Rattle.rational.specs.Rational.{◌≤ℚ◌, ◌<ℚ◌};
 ghost use Rattle.affine_segment.specs.declared.element.Element.TheVariants.{Open};
 ghost use Rattle.min_plus.specs.Functions.{zero_q};
@@ -15,11 +15,11 @@ ghost use Rattle.closure_elements.specs.ElementAnswers.{ClosureAnswer, IsOpenPar
 use crate::multiples::{falling_turn, rising_turn, value_on, whole_times};
 use crate::stretches::{all_stretches, slopes_read, started, with_last};
 use affine_segment::{Line, Piece};
-use fraction128::{Ext, Frac};
+use fraction128::{Ext, Frac, is_less};
 use rational::Extended;
 use std::alloc::Global;
 use std::cmp::Ordering;
-use upp_curve::{Curve, OpFault, RawCurve, Tail, is_less, normalise};
+use upp_curve::{Curve, OpFault, RawCurve, Tail, normalise};
 
 /// The normal form of a curve with few pieces that repeats.
 pub(crate) fn made(raw: RawCurve) -> Result<Curve, OpFault>

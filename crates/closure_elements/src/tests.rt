@@ -1,12 +1,12 @@
 //! Closures worked out by hand.
 
 use crate::point_closure;
-use fraction128::Frac;
+use fraction128::{Frac, is_less};
 use rational::Extended;
 use std::alloc::Global;
 use std::cmp::Ordering;
 use std::test::Fail;
-use upp_curve::{Curve, OpFault, is_less};
+use upp_curve::{Curve, OpFault};
 
 fn whole(n: i128) -> Frac {
     match Frac::new(n, 1) {

@@ -19,7 +19,8 @@ use Rattle.upp_curve.specs.declared.curve.Tail.{Tail}
 use Rattle.upp_curve.specs.declared.curve.Tail.TheVariants.{Periodic, Affine, Infinite}
 use Rattle.upp_curve.specs.Curve.{SpecCurve, repeated}
 use Rattle.min_plus.specs.Functions.{zero_q}
-use Rattle.upp_curve.specs.Normal.{Each, StartsAtZero, TailFits, IsNormal}
+use Rattle.affine_segment.specs.Pieces.{Each, StartsAtZero}
+use Rattle.upp_curve.specs.Normal.{TailFits, IsNormal}
 use Rattle.curve_conv.specs.PieceElements.{elements_of, StartBefore, Among}
 use Rattle.curve_conv.proofs.Cover.{cover, element_times}
 use Rattle.closure_laws.specs.ClosureLaws.{IsCopy, HasCopies}

@@ -9,7 +9,7 @@ use Rattle.affine_segment.specs.declared.line.Piece.{Piece}
 use Rattle.affine_segment.specs.declared.element.Element.{Element}
 use Rattle.affine_segment.specs.declared.element.Element.TheVariants.{Point, Open}
 use Rattle.affine_segment.specs.Elements.{Covers, start_of}
-use Rattle.upp_curve.specs.Normal.{RisesFrom, StartsAtZero, HasStart}
+use Rattle.affine_segment.specs.Pieces.{RisesFrom, StartsAtZero, HasStart}
 use Rattle.curve_conv.specs.PieceElements.{next_start, elements_of, Among}
 use Rattle.curve_conv.proofs.Members.{among_cases}
 use Rattle.curve_conv.proofs.Cover.{head, head_cases}

@@ -18,9 +18,10 @@ use Rattle.affine_segment.proofs.ElementValues.{value_in, value_cases}
 use Rattle.upp_curve.specs.declared.curve.Tail.{Tail}
 use Rattle.upp_curve.specs.declared.curve.Tail.TheVariants.{Periodic, Affine, Infinite}
 use Rattle.upp_curve.specs.Curve.{SpecCurve, repeated, cut, with_tail, value_at}
-use Rattle.upp_curve.specs.Reading.{read}
+use Rattle.affine_segment.specs.Reading.{read}
 use Rattle.min_plus.specs.Functions.{zero_q, IsFinite}
-use Rattle.upp_curve.specs.Normal.{HasStart, StartsAtZero, TailFits, IsNormal}
+use Rattle.affine_segment.specs.Pieces.{HasStart, StartsAtZero}
+use Rattle.upp_curve.specs.Normal.{TailFits, IsNormal}
 use Rattle.upp_curve.specs.Steady.{rank_of}
 use Rattle.upp_curve.proofs.Repeats.{repeated_first}
 use Rattle.curve_conv.specs.PieceElements.{elements_of, Among, ElementAt}

@@ -14,10 +14,11 @@ use Rattle.upp_curve.specs.declared.curve.Tail.{Tail}
 use Rattle.upp_curve.specs.declared.curve.Tail.TheVariants.{Periodic, Affine, Infinite}
 use Rattle.upp_curve.specs.Curve.{SpecCurve, value_at, with_tail}
 use Rattle.upp_curve.specs.Curves.{IsCurve}
-use Rattle.upp_curve.specs.Reading.{read}
+use Rattle.affine_segment.specs.Reading.{read}
 use Rattle.min_plus.specs.Functions.{zero_q}
 use Rattle.upp_curve.specs.Steady.{Repeats, rank_of}
-use Rattle.upp_curve.specs.Normal.{Each, RisesFrom, StartsAtZero, TailFits, TailNormal, IsLeastPeriodic, IsNormal}
+use Rattle.affine_segment.specs.Pieces.{Each, RisesFrom, StartsAtZero}
+use Rattle.upp_curve.specs.Normal.{TailFits, TailNormal, IsLeastPeriodic, IsNormal}
 use Rattle.upp_curve.specs.Readable.{PeriodFits, SumFitsAt, TailReadable}
 use Rattle.closure_fold.specs.Starting.{first_at, started_at, KeepsTail, IsStartedAt}
 use Rattle.closure_fold.proofs.Starts.{read_past, read_zero, starts_kept, each_kept, start_kept, merge_kept, line_kept, fits_kept, repeated_past, repeated_zero, repeats_on}

@@ -15,12 +15,13 @@ use Rattle.upp_curve.specs.declared.curve.Tail.{Tail}
 use Rattle.upp_curve.specs.declared.curve.Tail.TheVariants.{Periodic, Affine, Infinite}
 use Rattle.upp_curve.specs.Curve.{SpecCurve, value_at, with_tail, repeated}
 use Rattle.upp_curve.specs.Curves.{IsCurve}
-use Rattle.upp_curve.specs.Reading.{read, piece_value}
+use Rattle.affine_segment.specs.Reading.{read, piece_value}
 use Rattle.min_plus.specs.Functions.{zero_q}
 use Rattle.upp_curve.specs.Steady.{Repeats, rank_of, last_line, last_of}
-use Rattle.upp_curve.specs.Normal.{Each, HasStart, RisesFrom, StartsAtZero, TailFits, NoMerge, TailNormal, IsLeastPeriodic, IsNormal}
+use Rattle.affine_segment.specs.Pieces.{Each, HasStart, RisesFrom, StartsAtZero}
+use Rattle.upp_curve.specs.Normal.{TailFits, NoMerge, TailNormal, IsLeastPeriodic, IsNormal}
 use Rattle.upp_curve.specs.Readable.{EachFits, PeriodFits, SumFitsAt, TailReadable, IsReadable}
-use Rattle.upp_curve.proofs.FirstStretch.{value_past}
+use Rattle.affine_segment.proofs.PieceIn.{value_past}
 use Rattle.upp_curve.proofs.Repeats.{repeated_first}
 use Rattle.curve_conv.proofs.Cover.{read_one, read_stop, read_go, value_here}
 use Rattle.closure_fold.specs.Starting.{first_at, started_at, KeepsTail, IsStartedAt}

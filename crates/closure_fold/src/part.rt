@@ -9,10 +9,10 @@ ghost use Rattle.curve_conv.specs.PieceElements.{elements_of};
 
 use affine_segment::Element;
 use curve_conv::cut;
-use fraction128::{Ext, Frac};
+use fraction128::{Ext, Frac, is_less};
 use rational::Extended;
 use std::alloc::{AllocError, Global};
-use upp_curve::{Curve, Tail, is_less};
+use upp_curve::{Curve, Tail};
 
 /// Copies, each a period later and a rise higher than the one before.
 #[derive(Debug, Clone, Copy)]

@@ -14,8 +14,9 @@ use Rattle.upp_curve.specs.declared.curve.Tail.{Tail}
 use Rattle.upp_curve.specs.declared.curve.Tail.TheVariants.{Periodic, Affine, Infinite}
 use Rattle.upp_curve.specs.Curve.{SpecCurve, value_at, with_tail, repeated, cut}
 use Rattle.min_plus.specs.Functions.{zero_q}
-use Rattle.upp_curve.specs.Normal.{StartsAtZero, TailFits, IsNormal}
-use Rattle.upp_curve.specs.Reading.{read}
+use Rattle.affine_segment.specs.Pieces.{StartsAtZero}
+use Rattle.upp_curve.specs.Normal.{TailFits, IsNormal}
+use Rattle.affine_segment.specs.Reading.{read}
 use Rattle.upp_curve.specs.Steady.{Repeats}
 use Rattle.upp_curve.proofs.Repeats.{repeated_next, repeats_times}
 use Rattle.closure_fold.specs.Starting.{first_at, started_at, KeepsTail}

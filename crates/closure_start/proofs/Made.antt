@@ -16,14 +16,15 @@ use Rattle.upp_curve.specs.declared.op_kind.OpKind.TheVariants.{Convolve}
 use Rattle.min_plus.specs.Convolution.{IsConvolution, Split}
 use Rattle.upp_curve.specs.Curve.{SpecCurve, value_at, repeated}
 use Rattle.upp_curve.specs.Curves.{IsCurve}
-use Rattle.upp_curve.specs.Fitting.{ReadFits}
+use Rattle.affine_segment.specs.Fits.{ReadFits}
 use Rattle.min_plus.specs.Functions.{zero_q, IsNonnegative}
 use Rattle.upp_curve.specs.Limits.{Sizes}
-use Rattle.upp_curve.specs.Normal.{StartsAtZero, IsNormal}
+use Rattle.affine_segment.specs.Pieces.{StartsAtZero}
+use Rattle.upp_curve.specs.Normal.{IsNormal}
 use Rattle.upp_curve.specs.Normalising.{HasValues}
 use Rattle.upp_curve.specs.Operand.{answer_room}
 use Rattle.upp_curve.specs.Readable.{SumFitsAt}
-use Rattle.upp_curve.specs.Reading.{read}
+use Rattle.affine_segment.specs.Reading.{read}
 use Rattle.upp_curve.specs.Room.{ValueHasRoom}
 use Rattle.upp_curve.specs.Sized.{grid_of, times_largest}
 use Rattle.upp_curve.specs.Steady.{Repeats}
@@ -40,8 +41,7 @@ use Rattle.curve_least.proofs.LeastNumber.{ext_cases}
 use Rattle.closure_fold.specs.Starting.{first_at, started_at, KeepsTail, IsStartedAt}
 use Rattle.closure_fold.proofs.Starts.{repeated_past, repeated_zero, repeats_on}
 use Rattle.closure_start.specs.StartsAt.{ConvolvesFinitely, ConvolvesPastZero, StartsAt}
-use Rattle.closure_start.proofs.Windowed.{IsConvolved, stands_of, from_some, period_in, period_start}
-use Rattle.closure_start.proofs.Windowed.{ends_at, convolved_at}
+use Rattle.closure_start.proofs.Windowed.{IsConvolved, stands_of, from_some, period_in, period_start, ends_at, convolved_at}
 use Rattle.closure_start.proofs.Started.{rise_room}
 use Rattle.closure_start.proofs.Risen.{convolution_nonneg, rise_nonneg}
 use Rattle.closure_start.proofs.Kept.{StartsAnew, keeps_tail}

@@ -8,15 +8,15 @@ use Rattle.rational.proofs.Grid.{within_weaken}
 use Rattle.rational.proofs.Linear.{with3}
 use Rattle.rational.proofs.Laws.{le_refl, le_of_lt}
 use Rattle.affine_segment.specs.declared.line.Piece.{Piece}
-use Rattle.upp_curve.specs.Reading.{read}
+use Rattle.affine_segment.specs.Reading.{read}
 use Rattle.upp_curve.specs.Curve.{SpecCurve}
 use Rattle.min_plus.specs.Functions.{zero_q}
 use Rattle.upp_curve.specs.Limits.{Sizes}
-use Rattle.upp_curve.specs.Normal.{Each, StartsAtZero}
+use Rattle.affine_segment.specs.Pieces.{Each, StartsAtZero}
 use Rattle.upp_curve.specs.Sized.{grid_of, times_largest}
 use Rattle.upp_curve.specs.Steady.{rate, rise_over}
 use Rattle.upp_curve.proofs.AnswerRoom.{more_largest}
-use Rattle.upp_curve.proofs.NormaliseLists.{each_map}
+use Rattle.affine_segment.proofs.PieceOrder.{each_map}
 use Rattle.curve_window.proofs.TailGrids.{TailOf}
 use Rattle.curve_frame.specs.declared.frame.Frame.{Frame}
 use Rattle.curve_frame.specs.Answering.{IsAnswer}

@@ -9,7 +9,7 @@ use Rattle.rational.proofs.Laws.{le_of_lt, mul_pos}
 use Rattle.rational.proofs.Integers.{nat_lt}
 use Rattle.affine_segment.specs.declared.line.Piece.{Piece}
 use Rattle.upp_curve.specs.declared.curve.Tail.TheVariants.{Periodic}
-use Rattle.upp_curve.specs.Reading.{read}
+use Rattle.affine_segment.specs.Reading.{read}
 use Rattle.upp_curve.specs.Curve.{SpecCurve, repeated, value_at}
 use Rattle.min_plus.specs.Convolution.{IsConvolution}
 use Rattle.min_plus.specs.Functions.{zero_q}

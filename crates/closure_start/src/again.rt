@@ -15,9 +15,9 @@ use affine_segment::Piece;
 use curve_conv::window_convolution;
 use curve_frame::{Frame, first_window, rise_over, within};
 use curve_parts::{is_slower_curve, late_periods};
-use fraction128::Frac;
+use fraction128::{Frac, difference};
 use std::alloc::{AllocError, Global};
-use upp_curve::{Curve, OpFault, OpKind, difference};
+use upp_curve::{Curve, OpFault, OpKind};
 
 /// The frame of the call, with the least number of periods that is enough for the slower curve's part to have the least
 /// sums. Refused with TooWide or TooMany where the call is over that limit, and with nothing else.

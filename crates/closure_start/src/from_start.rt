@@ -15,12 +15,12 @@ use closure_fold::with_start;
 use curve_convolution::convolve;
 use curve_frame::{Frame, answer};
 use curve_making::seen;
-use fraction128::Frac;
+use fraction128::{Frac, difference};
 use rational::Extended;
 use std::alloc::{AllocError, Global};
 use std::sync::ledger::Ledger;
 use steps::Steps;
-use upp_curve::{Curve, OpFault, difference};
+use upp_curve::{Curve, OpFault};
 
 // Whether the value at 0 is known to be `start`.
 fn begins_at(c: &Curve, start: Frac) -> bool

@@ -3,17 +3,16 @@
 ghost use Rattle.std.specs.Prelude.{◌≡◌, pos, List, ◌∷◌, IsTrue, ◌↔◌};
 ghost use Rattle.rational.specs.Rational.{ℚ, int, ◌+ℚ◌, ◌≤ℚ◌, ◌<ℚ◌, neg_ℚ, le_q};
 ghost use Rattle.affine_segment.specs.Values.{line_value};
-ghost use Rattle.upp_curve.specs.Fitting.{ReadFits};
-ghost use Rattle.upp_curve.specs.Normal.{StartsAtZero};
-ghost use Rattle.upp_curve.specs.Readable.{LineFitsAt, SumFitsAt};
-ghost use Rattle.upp_curve.specs.Reading.{piece_in, piece_value, read};
+ghost use Rattle.affine_segment.specs.Fits.{ReadFits, LineFitsAt};
+ghost use Rattle.affine_segment.specs.Pieces.{StartsAtZero};
+ghost use Rattle.upp_curve.specs.Readable.{SumFitsAt};
+ghost use Rattle.affine_segment.specs.Reading.{piece_in, piece_value, read};
 ghost use Rattle.closure_fold.specs.Starting.{first_at};
 
 use affine_segment::{Line, Piece};
-use fraction128::{Ext, Frac};
+use fraction128::{Ext, Frac, difference, product, sum};
 use rational::Extended;
 use std::cmp::Ordering;
-use upp_curve::{difference, product, sum};
 
 fn starts_by(p: &Piece, t: Frac) -> bool
     ensures { result ≡ le_q p.now.x t }

@@ -6,39 +6,36 @@ use Prim.Native.Nat.{◌∣◌}
 use native.Mathlib.Nat.{mul_comm as nat_comm}
 use Rattle.rational.specs.Rational.{ℚ, ◌+ℚ◌, ◌-ℚ◌, ◌*ℚ◌, ◌/ℚ◌, ◌≤ℚ◌, ◌<ℚ◌, int}
 use Rattle.rational.specs.Grid.{Whole}
-use Rattle.rational.specs.Whole.{whole_part}
+use Rattle.rational.specs.Whole.{whole_part, periods}
 use Rattle.rational.specs.Extended.{Ext, ◌≤ₑ◌, ◌+ₑ◌}
 use Rattle.rational.specs.declared.Extended.TheVariants.{Fin, Inf}
 use Rattle.rational.proofs.Linear.{with1, with2, with3, with4, with5, with7}
-use Rattle.rational.proofs.Laws.{le_or_lt, lt_cases, le_refl, le_trans, le_of_lt, between, half, half_is, half_pos, mul_add, mul_sub, div_mul, mul_nonneg, mul_lt_mul_right, le_of_mul, lt_of_mul, not_zero}
+use Rattle.rational.proofs.Laws.{le_or_lt, lt_cases, le_refl, le_trans, le_of_lt, between, half, half_is, half_pos, mul_add, mul_sub, div_mul, mul_nonneg, mul_lt_mul_right, le_of_mul, lt_of_mul, not_zero, lt_trans}
 use Rattle.rational.proofs.Integers.{nat_nonneg, nat_lt, int_lt_out}
 use Rattle.rational.proofs.Whole.{whole_le, whole_gt}
 use Rattle.affine_segment.specs.declared.line.Line.{Line}
 use Rattle.affine_segment.specs.declared.line.Piece.{Piece}
 use Rattle.affine_segment.specs.Values.{line_at, line_value}
-use Rattle.upp_curve.specs.Reading.{read}
-use Rattle.upp_curve.specs.Normal.{Each, RisesFrom, Continues, NoneContinues}
+use Rattle.affine_segment.specs.Reading.{read}
+use Rattle.affine_segment.specs.Pieces.{Each, RisesFrom}
+use Rattle.upp_curve.specs.Normal.{Continues, NoneContinues, FitsPeriod}
 use Rattle.curve_conv.specs.Arches.{IsBare, IsAround, Arches}
-use Rattle.rational.specs.Whole.{periods}
 use Rattle.std.proofs.lemmas.Nat.Gcd.{dvd_refl}
 use native.Mathlib.Nat.{dvd-mul_left}
-use Rattle.rational.proofs.Laws.{lt_trans}
 use Rattle.rational.proofs.Grid.{whole_int, whole_weaken}
 use Rattle.upp_curve.specs.Curve.{repeated}
 use Rattle.upp_curve.specs.Steady.{Repeats}
-use Rattle.upp_curve.specs.Normal.{FitsPeriod}
 use Rattle.upp_curve.specs.Limits.{Sizes}
 use Rattle.upp_curve.specs.Sized.{grid_of}
 use Rattle.upp_curve.specs.Operand.{AreLimited}
 use Rattle.upp_curve.specs.Bends.{ValueOn, LineOn, SlopeTurns, BendAfter, OnlyBend}
 use Rattle.upp_curve.specs.Normalising.{IsMerged, OnGridsUnlessLine}
 use Rattle.upp_curve.proofs.Bends.{bends_on}
-use Rattle.upp_curve.proofs.FirstStretch.{value_past, value_at_start}
+use Rattle.affine_segment.proofs.PieceIn.{value_past, value_at_start, read_first, read_stop, read_go, read_one}
 use Rattle.upp_curve.proofs.NarrowSizes.{slope_time_divides}
 use Rattle.upp_curve.proofs.NormaliseForm.{each_part}
 use Rattle.upp_curve.proofs.NormaliseGrids.{merge_of}
-use Rattle.upp_curve.proofs.NormaliseLists.{each_map}
-use Rattle.upp_curve.proofs.NormaliseMerge.{read_first, read_stop, read_go, read_one}
+use Rattle.affine_segment.proofs.PieceOrder.{each_map}
 use Rattle.curve_window.proofs.TailGrids.{TailOf}
 use Rattle.curve_conv.specs.SumWindows.{SumValueAt, SumLineAt, SumPiece, SumWindow}
 

@@ -13,10 +13,9 @@ use Rattle.affine_segment.specs.declared.element.Element.{Element}
 use Rattle.affine_segment.specs.declared.element.Element.TheVariants.{Point, Open}
 use Rattle.affine_segment.specs.Values.{line_value}
 use Rattle.affine_segment.specs.Elements.{IsProper, Covers, level}
-use Rattle.upp_curve.specs.Reading.{piece_value, read}
-use Rattle.upp_curve.specs.Normal.{RisesFrom, StartsAtZero}
-use Rattle.upp_curve.proofs.FirstStretch.{value_past}
-use Rattle.upp_curve.proofs.PieceIn.{piece_in_stop, piece_in_go, piece_in_end}
+use Rattle.affine_segment.specs.Reading.{piece_value, read}
+use Rattle.affine_segment.specs.Pieces.{RisesFrom, StartsAtZero}
+use Rattle.affine_segment.proofs.PieceIn.{value_past, piece_in_stop, piece_in_go, piece_in_end}
 use Rattle.curve_conv.specs.PieceElements.{point_of, segment_of, elements_of, StartBefore, Among, ElementAt}
 use Rattle.curve_conv.specs.ConvolutionLaws.{ElementsCover}
 use Rattle.curve_conv.proofs.Members.{among_left, among_right, among_cases}

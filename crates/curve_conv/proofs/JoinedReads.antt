@@ -16,9 +16,9 @@ use Rattle.affine_segment.specs.declared.element.Joined.{Joined}
 use Rattle.affine_segment.specs.Values.{line_at}
 use Rattle.affine_segment.specs.Elements.{start_of, joined_value, AreAdjoined}
 use Rattle.affine_segment.proofs.ElementReading.{joined_read}
-use Rattle.upp_curve.specs.Reading.{piece_value, read}
-use Rattle.upp_curve.specs.Normal.{RisesFrom, StartsAtZero}
-use Rattle.upp_curve.proofs.FirstStretch.{value_past}
+use Rattle.affine_segment.specs.Reading.{piece_value, read}
+use Rattle.affine_segment.specs.Pieces.{RisesFrom, StartsAtZero}
+use Rattle.affine_segment.proofs.PieceIn.{value_past}
 use Rattle.curve_conv.specs.JoinedWindows.{nothing_at, after_end, part_pieces, joined_list, lead_of, window_of, IsWindowOf}
 use Rattle.curve_conv.proofs.Cover.{value_here, read_one, read_stop, read_go}
 

@@ -7,7 +7,7 @@ use Rattle.rational.proofs.Laws.{le_of_lt}
 use Rattle.affine_segment.specs.declared.line.Piece.{Piece}
 use Rattle.affine_segment.specs.declared.element.Element.{Element}
 use Rattle.upp_curve.specs.Limits.{Sizes}
-use Rattle.upp_curve.specs.Normal.{Each}
+use Rattle.affine_segment.specs.Pieces.{Each}
 use Rattle.upp_curve.specs.Ahead.{GridValue}
 use Rattle.upp_curve.proofs.AnswerRoom.{stands_operand_value}
 use Rattle.upp_curve.proofs.StretchSizes.{grid_value}

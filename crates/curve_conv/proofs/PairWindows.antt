@@ -15,8 +15,8 @@ use Rattle.affine_segment.specs.declared.element.Element.TheVariants.{Point, Ope
 use Rattle.affine_segment.specs.declared.element.Joined.{Joined}
 use Rattle.affine_segment.specs.Elements.{start_of, joined_value, IsConvolved}
 use Rattle.affine_segment.specs.MadeParts.{AreParts}
-use Rattle.upp_curve.specs.Normal.{Each}
-use Rattle.upp_curve.specs.Reading.{read}
+use Rattle.affine_segment.specs.Pieces.{Each}
+use Rattle.affine_segment.specs.Reading.{read}
 use Rattle.upp_curve.specs.Limits.{Sizes}
 use Rattle.upp_curve.specs.Sized.{times_largest}
 use Rattle.upp_curve.proofs.AnswerRoom.{more_largest}

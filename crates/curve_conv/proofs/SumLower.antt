@@ -19,14 +19,14 @@ use Rattle.affine_segment.specs.declared.line.Line.{Line}
 use Rattle.affine_segment.specs.declared.line.Piece.{Piece}
 use Rattle.affine_segment.specs.Values.{line_at}
 use Rattle.affine_segment.specs.Steps.{IsWideCross}
-use Rattle.upp_curve.specs.Reading.{read}
+use Rattle.affine_segment.specs.Reading.{read}
 use Rattle.upp_curve.specs.Limits.{Sizes}
 use Rattle.upp_curve.specs.Sized.{IsSlope, grid_of, times_largest}
 use Rattle.upp_curve.specs.Operand.{AreLimited, answer_room}
-use Rattle.upp_curve.specs.Readable.{LineFitsAt}
+use Rattle.affine_segment.specs.Fits.{LineFitsAt}
 use Rattle.upp_curve.specs.Room.{top, many, LineInRoom, TimeHasRoom}
 use Rattle.upp_curve.proofs.NormaliseGrids.{q_same_or}
-use Rattle.upp_curve.proofs.NormaliseLists.{each_map}
+use Rattle.affine_segment.proofs.PieceOrder.{each_map}
 use Rattle.upp_curve.proofs.NormaliseRoom.{line_fits}
 use Rattle.upp_curve.proofs.NarrowSizes.{grid_pos, small_number, small_sum}
 use Rattle.upp_curve.proofs.AnswerRoom.{AnswerLine, IsCrossing, tight, wide_narrow, answer_is_room, line_in_room, halves_apart, crossing_from}

@@ -5,7 +5,7 @@ use Rattle.rational.specs.Rational.{ℚ}
 use Rattle.rational.specs.declared.Extended.TheVariants.{Inf}
 use Rattle.affine_segment.specs.declared.line.Piece.{Piece}
 use Rattle.affine_segment.specs.declared.element.Element.{Element}
-use Rattle.upp_curve.specs.Reading.{read}
+use Rattle.affine_segment.specs.Reading.{read}
 use Rattle.curve_conv.specs.PieceElements.{elements_of, StartBefore}
 use Rattle.curve_conv.specs.EnvelopeWindows.{EnvelopeRoom, IsEnvelopeWindow}
 use Rattle.curve_conv.specs.ConvolutionWindows.{OperandWindows, IsConvolutionWindow}

@@ -10,12 +10,12 @@ use Rattle.rational.proofs.ExtendedOrder.{same_le_ext, lt_le_ext, le_lt_ext, fin
 use Rattle.rational.proofs.Bounds.{same_infimum}
 use Rattle.affine_segment.specs.declared.line.Piece.{Piece}
 use Rattle.upp_curve.specs.Curve.{SpecCurve, value_at}
-use Rattle.upp_curve.specs.Normal.{StartsAtZero}
-use Rattle.upp_curve.specs.Reading.{read}
+use Rattle.affine_segment.specs.Pieces.{StartsAtZero}
+use Rattle.affine_segment.specs.Reading.{read}
 use Rattle.min_plus.specs.Convolution.{Split, IsConvolution}
 use Rattle.upp_curve.specs.Unrolled.{unroll}
 use Rattle.upp_curve.proofs.Below.{unroll_reads}
-use Rattle.upp_curve.proofs.NormaliseLists.{each_map}
+use Rattle.affine_segment.proofs.PieceOrder.{each_map}
 use Rattle.upp_curve.proofs.UnrolledPieces.{unroll_starts, unroll_before}
 use Rattle.curve_conv.specs.PieceElements.{elements_of, StartBefore}
 use Rattle.curve_conv.specs.Envelopes.{ListSplit, list_sum}

@@ -8,8 +8,9 @@ use Rattle.affine_segment.specs.declared.element.Element.{Element}
 use Rattle.affine_segment.specs.declared.element.Joined.{Joined}
 use Rattle.affine_segment.specs.Elements.{IsProper, level, joined_value, IsConvolved}
 use Rattle.upp_curve.specs.Curve.{SpecCurve, value_at}
-use Rattle.upp_curve.specs.Normal.{StartsAtZero, IsNormal}
-use Rattle.upp_curve.specs.Reading.{read}
+use Rattle.affine_segment.specs.Pieces.{StartsAtZero}
+use Rattle.upp_curve.specs.Normal.{IsNormal}
+use Rattle.affine_segment.specs.Reading.{read}
 use Rattle.min_plus.specs.Convolution.{IsConvolution}
 use Rattle.upp_curve.specs.Unrolled.{unroll}
 use Rattle.curve_conv.specs.PieceElements.{elements_of, StartBefore, Among, ElementAt}

@@ -8,7 +8,7 @@ use Rattle.rational.specs.Grid.{Whole, Within}
 use Rattle.affine_segment.specs.declared.line.Line.{Line}
 use Rattle.affine_segment.specs.declared.line.Piece.{Piece}
 use Rattle.upp_curve.specs.Limits.{Sizes}
-use Rattle.upp_curve.specs.Normal.{Each, StartsAtZero}
+use Rattle.affine_segment.specs.Pieces.{Each, StartsAtZero}
 use Rattle.upp_curve.specs.Sized.{times_largest}
 use Rattle.upp_curve.proofs.AnswerRoom.{IsCrossing}
 use Rattle.curve_conv.specs.ElementRoom.{SumLine}

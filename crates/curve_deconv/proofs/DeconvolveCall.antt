@@ -17,12 +17,12 @@ use Rattle.affine_segment.specs.Values.{line_value}
 use Rattle.upp_curve.specs.declared.curve.Tail.{Tail}
 use Rattle.upp_curve.specs.declared.curve.Tail.TheVariants.{Periodic, Affine, Infinite}
 use Rattle.upp_curve.specs.declared.op_kind.OpKind.TheVariants.{Deconvolve}
-use Rattle.upp_curve.specs.Reading.{read}
+use Rattle.affine_segment.specs.Reading.{read}
 use Rattle.upp_curve.specs.Curve.{SpecCurve, repeated, value_at}
 use Rattle.upp_curve.specs.Curves.{IsCurve}
 use Rattle.min_plus.specs.Convolution.{IsDeconvolution}
 use Rattle.min_plus.specs.Functions.{IsFinite}
-use Rattle.upp_curve.specs.Normal.{Each}
+use Rattle.affine_segment.specs.Pieces.{Each}
 use Rattle.upp_curve.specs.Normalising.{HasValues}
 use Rattle.upp_curve.specs.Unrolled.{unroll}
 use Rattle.upp_curve.specs.Steady.{Repeats, steady, rate, rise_over, IsWholePeriods}
@@ -36,7 +36,7 @@ use Rattle.upp_curve.specs.Operand.{AreLimited}
 use Rattle.upp_curve.proofs.AnswerRoom.{more_largest}
 use Rattle.upp_curve.proofs.Below.{unroll_reads}
 use Rattle.upp_curve.proofs.NarrowSizes.{narrow_gauge}
-use Rattle.upp_curve.proofs.NormaliseLists.{each_map}
+use Rattle.affine_segment.proofs.PieceOrder.{each_map}
 use Rattle.upp_curve.proofs.Steady.{steady_rule}
 use Rattle.upp_curve.proofs.UnrolledPieces.{PieceStands, pieces_stand, unroll_each}
 use Rattle.curve_window.proofs.TailGrids.{TailOf}

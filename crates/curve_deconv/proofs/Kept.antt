@@ -15,11 +15,11 @@ use Rattle.rational.proofs.Bounds.{smallest}
 use Rattle.affine_segment.specs.declared.line.Line.{Line}
 use Rattle.affine_segment.specs.declared.line.Piece.{Piece}
 use Rattle.affine_segment.specs.Values.{line_at, line_value}
-use Rattle.upp_curve.specs.Reading.{read, piece_in, piece_value}
+use Rattle.affine_segment.specs.Reading.{read, piece_in, piece_value}
 use Rattle.upp_curve.specs.Curve.{SpecCurve, value_at}
 use Rattle.upp_curve.specs.Curves.{IsCurve}
 use Rattle.min_plus.specs.Functions.{zero_q, IsRising, IsNonnegative, FiniteTime}
-use Rattle.upp_curve.specs.Normal.{Each, StartsAtZero}
+use Rattle.affine_segment.specs.Pieces.{Each, StartsAtZero}
 use Rattle.upp_curve.specs.Steady.{steady, rise_over}
 use Rattle.upp_curve.specs.Periods.{common_period, both_steady}
 use Rattle.upp_curve.specs.Unrolled.{unroll}
@@ -28,7 +28,7 @@ use Rattle.upp_curve.specs.Limits.{Sizes, curve_numbers, sizes_of}
 use Rattle.upp_curve.specs.Sized.{AreSizes, LineStands, Stands, ValueStands}
 use Rattle.upp_curve.proofs.Below.{unroll_reads}
 use Rattle.upp_curve.proofs.CurveStands.{are_sizes}
-use Rattle.upp_curve.proofs.FirstStretch.{value_past}
+use Rattle.affine_segment.proofs.PieceIn.{value_past}
 use Rattle.upp_curve.proofs.NarrowSizes.{run_within}
 use Rattle.upp_curve.proofs.NormaliseRoomy.{each_in, found_early}
 use Rattle.upp_curve.proofs.Stands.{sizes_stand, stands_left, stands_right}

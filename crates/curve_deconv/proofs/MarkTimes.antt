@@ -9,9 +9,9 @@ use Rattle.rational.proofs.Laws.{le_or_lt, le_refl, le_trans, le_of_lt, lt_irref
 use Rattle.affine_segment.specs.declared.line.Line.{Line}
 use Rattle.affine_segment.specs.declared.line.Piece.{Piece}
 use Rattle.affine_segment.specs.Values.{line_at, line_value}
-use Rattle.upp_curve.specs.Reading.{read, piece_value}
-use Rattle.upp_curve.specs.Normal.{Each, RisesFrom, StartsAtZero}
-use Rattle.upp_curve.proofs.FirstStretch.{value_past}
+use Rattle.affine_segment.specs.Reading.{read, piece_value}
+use Rattle.affine_segment.specs.Pieces.{Each, RisesFrom, StartsAtZero}
+use Rattle.affine_segment.proofs.PieceIn.{value_past}
 use Rattle.curve_conv.proofs.Cover.{value_here, read_one, read_stop, read_go}
 use Rattle.curve_deconv.specs.declared.marks.Last.{Last}
 use Rattle.curve_deconv.specs.Marks.{first_last, last_by, last_step, last_of, next_time}

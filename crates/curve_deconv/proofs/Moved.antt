@@ -15,8 +15,8 @@ use Rattle.rational.proofs.Laws.{le_refl, le_trans, le_of_lt, le_or_lt, mul_le_m
 use Rattle.affine_segment.specs.declared.line.Line.{Line}
 use Rattle.affine_segment.specs.declared.line.Piece.{Piece}
 use Rattle.affine_segment.specs.Values.{line_at, line_value}
-use Rattle.upp_curve.specs.Reading.{read, piece_value}
-use Rattle.upp_curve.specs.Normal.{Each, RisesFrom, StartsAtZero}
+use Rattle.affine_segment.specs.Reading.{read, piece_value}
+use Rattle.affine_segment.specs.Pieces.{Each, RisesFrom, StartsAtZero}
 use Rattle.upp_curve.specs.Normalising.{cut_at, past}
 use Rattle.upp_curve.specs.Curve.{repeated}
 use Rattle.upp_curve.specs.Limits.{Sizes}
@@ -24,9 +24,8 @@ use Rattle.upp_curve.specs.Operand.{AreLimited, answer_room}
 use Rattle.upp_curve.specs.Sized.{grid_of, times_largest}
 use Rattle.upp_curve.specs.Room.{TimeHasRoom, ValueHasRoom, LineHasRoom, PieceHasRoom, top}
 use Rattle.upp_curve.proofs.AnswerRoom.{IsCrossing, line_in_room, line_value_in, value_in_room, steep_run}
-use Rattle.upp_curve.proofs.FirstStretch.{value_past}
-use Rattle.upp_curve.proofs.NormaliseLists.{each_map}
-use Rattle.upp_curve.proofs.NormaliseCopies.{read_is}
+use Rattle.affine_segment.proofs.PieceIn.{value_past, read_is}
+use Rattle.affine_segment.proofs.PieceOrder.{each_map}
 use Rattle.curve_envelope.specs.Shifting.{left_line, left_piece, moved_left, LeftFits}
 use Rattle.curve_envelope.proofs.LeftWindow.{left_reads, left_starts, each_past, each_moved}
 use Rattle.curve_conv.specs.SumWindows.{SumStart, SumValueAt, SumLineAt, SumPiece, SumWindow}

@@ -12,8 +12,8 @@ use Rattle.rational.proofs.Bounds.{same_infimum}
 use Rattle.affine_segment.specs.declared.line.Piece.{Piece}
 use Rattle.affine_segment.specs.declared.element.Element.{Element}
 use Rattle.affine_segment.specs.Elements.{Covers, level}
-use Rattle.upp_curve.specs.Reading.{read}
-use Rattle.upp_curve.specs.Normal.{Each, StartsAtZero}
+use Rattle.affine_segment.specs.Reading.{read}
+use Rattle.affine_segment.specs.Pieces.{Each, StartsAtZero}
 use Rattle.curve_conv.specs.PieceElements.{elements_of, StartBefore, Among}
 use Rattle.curve_conv.specs.Envelopes.{ListSplit, list_sum, IsEnvelope}
 use Rattle.curve_conv.proofs.Cover.{cover, element_times}

@@ -10,8 +10,8 @@ use Rattle.affine_segment.specs.declared.element.Element.{Element}
 use Rattle.affine_segment.specs.Elements.{IsProper}
 use Rattle.affine_segment.specs.Values.{line_value}
 use Rattle.curve_conv.specs.ElementRoom.{OperandElement}
-use Rattle.upp_curve.specs.Reading.{read}
-use Rattle.upp_curve.specs.Normal.{Each}
+use Rattle.affine_segment.specs.Reading.{read}
+use Rattle.affine_segment.specs.Pieces.{Each}
 use Rattle.upp_curve.specs.Sized.{ValueStands}
 use Rattle.upp_curve.specs.Operand.{OperandPiece}
 use Rattle.upp_curve.proofs.UnrolledPieces.{each_with}

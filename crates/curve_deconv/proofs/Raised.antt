@@ -11,11 +11,11 @@ use Rattle.rational.proofs.Linear.{with2, with3}
 use Rattle.rational.proofs.Laws.{le_or_lt, le_of_lt, antisym}
 use Rattle.rational.proofs.ExtendedOrder.{add_zero_ext}
 use Rattle.affine_segment.specs.declared.line.Piece.{Piece}
-use Rattle.upp_curve.specs.Reading.{read}
-use Rattle.upp_curve.specs.Normal.{Each, StartsAtZero}
+use Rattle.affine_segment.specs.Reading.{read}
+use Rattle.affine_segment.specs.Pieces.{Each, StartsAtZero}
 use Rattle.upp_curve.specs.Operand.{OperandPiece}
 use Rattle.upp_curve.proofs.NarrowSizes.{narrow_gauge}
-use Rattle.upp_curve.proofs.NormaliseLists.{each_map}
+use Rattle.affine_segment.proofs.PieceOrder.{each_map}
 use Rattle.curve_window.specs.Stretches.{CutsFit}
 use Rattle.curve_window.specs.Pointwise.{SumsFit, IsWindowSum}
 use Rattle.curve_frame.proofs.CurveTimes.{sum_fits, time_within}

@@ -8,10 +8,10 @@ use Rattle.rational.specs.Bounds.{IsInfimum, IsSupremum}
 use Rattle.affine_segment.specs.declared.line.Piece.{Piece}
 use Rattle.affine_segment.specs.Values.{line_value}
 use Rattle.upp_curve.specs.Limits.{Sizes}
-use Rattle.upp_curve.specs.Normal.{Each, StartsAtZero}
+use Rattle.affine_segment.specs.Pieces.{Each, StartsAtZero}
 use Rattle.upp_curve.specs.Normalising.{OnGridsUnlessLine}
 use Rattle.upp_curve.specs.Operand.{AreLimited, OperandPieces, answer_room}
-use Rattle.upp_curve.specs.Reading.{read}
+use Rattle.affine_segment.specs.Reading.{read}
 use Rattle.upp_curve.specs.Curve.{repeated}
 use Rattle.upp_curve.specs.Room.{PieceHasRoom}
 use Rattle.upp_curve.specs.Sized.{ValueStands, grid_of}

@@ -5,11 +5,10 @@ ghost use Rattle.rational.specs.Ratio.{SumFits};
 ghost use Rattle.curve_deconv.specs.Marks.{last_step, last_of, first_last, next_time, after_pieces, mark_pieces};
 
 use affine_segment::{Line, Piece};
-use fraction128::{Ext, Frac};
+use fraction128::{Ext, Frac, sum};
 use rational::Extended;
 use std::alloc::{AllocError, Global};
 use std::cmp::Ordering;
-use upp_curve::sum;
 
 /// Until when a function is infinite at some later time.
 #[derive(Debug, Clone, Copy)]

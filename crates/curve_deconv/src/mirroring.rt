@@ -1,15 +1,13 @@
 //! Elements turned over, and mirrored in time.
 
 ghost use Rattle.std.specs.Prelude.{◌≡◌, map, Some, IfOk};
-ghost use Rattle.upp_curve.specs.Readable.{LineFitsAt};
-ghost use Rattle.curve_deconv.specs.Mirrored.{neg_ext, neg_line, neg_option, neg_element, neg_piece};
-ghost use Rattle.curve_deconv.specs.Mirrored.{back, mirror_line, mirror, MirrorFits, BackFits, EachElement};
+ghost use Rattle.affine_segment.specs.Fits.{LineFitsAt};
+ghost use Rattle.curve_deconv.specs.Mirrored.{neg_ext, neg_line, neg_option, neg_element, neg_piece, back, mirror_line, mirror, MirrorFits, BackFits, EachElement};
 
 use affine_segment::{Element, Line, Piece, value};
-use fraction128::{Ext, Frac};
+use fraction128::{Ext, Frac, difference};
 use rational::Extended;
 use std::alloc::{AllocError, Global};
-use upp_curve::difference;
 
 fn negated_line(line: Line) -> Line
     ensures { result ≡ neg_line line }

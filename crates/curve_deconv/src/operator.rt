@@ -18,11 +18,11 @@ use crate::window::window_deconvolution;
 use curve_envelope::infinite_curve;
 use curve_frame::{Frame, answer, rise_over, steady_time, within};
 use curve_least::{Side, is_slower};
-use fraction128::Frac;
+use fraction128::{Frac, difference};
 use std::alloc::{AllocError, Global};
 use std::sync::ledger::Ledger;
 use steps::Steps;
-use upp_curve::{Curve, OpFault, OpKind, Tail, difference};
+use upp_curve::{Curve, OpFault, OpKind, Tail};
 
 // From when on a curve repeats.
 fn begin(c: &Curve) -> Frac

@@ -9,10 +9,11 @@ use Rattle.rational.proofs.Laws.{le_trans, le_of_lt}
 use Rattle.affine_segment.specs.declared.line.Piece.{Piece}
 use Rattle.upp_curve.specs.declared.curve.Tail.{Tail}
 use Rattle.upp_curve.specs.declared.curve.Tail.TheVariants.{Periodic, Affine, Infinite}
-use Rattle.upp_curve.specs.Reading.{read}
+use Rattle.affine_segment.specs.Reading.{read}
 use Rattle.upp_curve.specs.Curve.{SpecCurve, value_at, with_tail, repeated}
 use Rattle.upp_curve.specs.Curves.{IsCurve}
-use Rattle.upp_curve.specs.Normal.{StartsAtZero, Each, TailFits}
+use Rattle.affine_segment.specs.Pieces.{StartsAtZero, Each}
+use Rattle.upp_curve.specs.Normal.{TailFits}
 use Rattle.upp_curve.specs.Shapes.{IsFinitePiece, IsNumber}
 use Rattle.min_plus.specs.Functions.{IsFinite}
 use Rattle.upp_curve.specs.Steady.{Repeats, rise_over, rate}

@@ -15,19 +15,18 @@ use Rattle.rational.proofs.ExtendedOrder.{le_ext_trans, le_lt_ext, le_or_lt_ext}
 use Rattle.affine_segment.specs.declared.line.Line.{Line}
 use Rattle.affine_segment.specs.declared.line.Piece.{Piece}
 use Rattle.affine_segment.specs.Values.{line_at, line_value}
-use Rattle.upp_curve.specs.Reading.{read, piece_value}
-use Rattle.upp_curve.specs.Normal.{RisesFrom, StartsAtZero}
+use Rattle.affine_segment.specs.Reading.{read, piece_value}
+use Rattle.affine_segment.specs.Pieces.{RisesFrom, StartsAtZero}
 use Rattle.upp_curve.specs.Curve.{SpecCurve, value_at}
 use Rattle.upp_curve.specs.Curves.{IsCurve}
 use Rattle.min_plus.specs.Functions.{IsFinite, IsRising}
 use Rattle.upp_curve.specs.Steady.{Repeats}
 use Rattle.upp_curve.specs.Unrolled.{unroll}
 use Rattle.min_plus.proofs.FiniteValues.{no_inf}
-use Rattle.upp_curve.proofs.PieceIn.{piece_in_stop, piece_in_go, piece_in_end}
-use Rattle.upp_curve.proofs.FirstStretch.{read_in, value_past}
+use Rattle.affine_segment.proofs.PieceIn.{piece_in_stop, piece_in_go, piece_in_end, value_past, read_is}
+use Rattle.upp_curve.proofs.FirstStretch.{read_in}
 use Rattle.upp_curve.proofs.Below.{unroll_reads}
 use Rattle.upp_curve.proofs.UnrolledPieces.{unroll_starts}
-use Rattle.upp_curve.proofs.NormaliseCopies.{read_is}
 use Rattle.curve_least.proofs.Shifts.{later_value}
 use Rattle.curve_lag.specs.Rises.{RisesOn}
 use Rattle.curve_lag.proofs.CellLag.{rises, rises_more, later, gets_higher, before_both}

@@ -11,14 +11,14 @@ use Rattle.rational.proofs.Quotients.{times_above}
 use Rattle.affine_segment.specs.declared.line.Line.{Line}
 use Rattle.affine_segment.specs.declared.line.Piece.{Piece}
 use Rattle.affine_segment.specs.Values.{line_value}
-use Rattle.upp_curve.specs.Reading.{piece_value}
-use Rattle.upp_curve.specs.Normal.{RisesFrom, Each}
+use Rattle.affine_segment.specs.Reading.{piece_value}
+use Rattle.affine_segment.specs.Pieces.{RisesFrom, Each}
 use Rattle.upp_curve.specs.Shapes.{IsFinitePiece, IsNumber, IsLine}
 use Rattle.min_plus.specs.Functions.{IsFinite}
 use Rattle.upp_curve.specs.Steady.{Repeats}
 use Rattle.min_plus.specs.Deviations.{IsVerticalDeviation}
-use Rattle.upp_curve.proofs.PieceIn.{piece_in_stop, piece_in_go, piece_in_end}
-use Rattle.upp_curve.proofs.FirstStretch.{read_in, value_past, at_start}
+use Rattle.affine_segment.proofs.PieceIn.{piece_in_stop, piece_in_go, piece_in_end, value_past}
+use Rattle.upp_curve.proofs.FirstStretch.{read_in, at_start}
 use Rattle.curve_least.proofs.Shifts.{later_value}
 use Rattle.upp_curve.specs.Ahead.{IsBeforeNext}
 

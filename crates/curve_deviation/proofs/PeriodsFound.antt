@@ -19,8 +19,8 @@ use Rattle.upp_curve.specs.declared.op_kind.OpKind.TheVariants.{Horizontal}
 use Rattle.upp_curve.specs.declared.op_kind.OpFault.{OpFault}
 use Rattle.upp_curve.specs.declared.op_kind.OpFault.TheVariants.{TooMany, TooWide, NoMemory}
 use Rattle.upp_curve.specs.Steps.{IsWideLine, IsWideRead, IsWideAt, IsWideValueAt}
-use Rattle.upp_curve.specs.Readable.{LineFitsAt}
-use Rattle.upp_curve.specs.Reading.{piece_in}
+use Rattle.affine_segment.specs.Fits.{LineFitsAt}
+use Rattle.affine_segment.specs.Reading.{piece_in, line_in}
 use Rattle.upp_curve.specs.Curve.{SpecCurve, value_at}
 use Rattle.upp_curve.specs.Curves.{IsCurve}
 use Rattle.min_plus.specs.Functions.{IsFinite, IsRising}
@@ -28,7 +28,7 @@ use Rattle.upp_curve.specs.Steady.{steady, steady_in, rise_over, rate}
 use Rattle.upp_curve.specs.Periods.{common_period, periods_after}
 use Rattle.upp_curve.specs.Windows.{window_at, IsConstantFrom, IsLeastPeriods, Reaches, Meets}
 use Rattle.upp_curve.specs.Limits.{Sizes}
-use Rattle.upp_curve.specs.Ahead.{IsTimeIn, line_in}
+use Rattle.upp_curve.specs.Ahead.{IsTimeIn}
 use Rattle.upp_curve.specs.Gauges.{IsKnownAtOnce, gauge_at, IsTooWide}
 use Rattle.upp_curve.specs.Outcome.{IsWithin, IsCauseOf}
 use Rattle.upp_curve.proofs.AnswerRoom.{operand_line_fits}

@@ -11,8 +11,8 @@ use Rattle.rational.proofs.Linear.{with1, with2, with3}
 use Rattle.rational.proofs.Laws.{le_of_lt, le_or_lt, add_zero, mul_neg}
 use Rattle.affine_segment.specs.declared.line.Line.{Line}
 use Rattle.affine_segment.specs.declared.line.Piece.{Piece}
-use Rattle.upp_curve.specs.Reading.{read}
-use Rattle.upp_curve.specs.Normal.{Each, RisesFrom, StartsAtZero}
+use Rattle.affine_segment.specs.Reading.{read}
+use Rattle.affine_segment.specs.Pieces.{Each, RisesFrom, StartsAtZero}
 use Rattle.upp_curve.specs.Normalising.{past, cut_at}
 use Rattle.upp_curve.specs.Unrolled.{line_later, later, each_later}
 use Rattle.upp_curve.proofs.Unrolled.{read_later}

@@ -11,7 +11,8 @@ use Rattle.upp_curve.specs.declared.curve.Tail.TheVariants.{Periodic, Affine, In
 use Rattle.upp_curve.specs.declared.op_kind.OpKind.TheVariants.{Scale}
 use Rattle.upp_curve.specs.Curve.{SpecCurve, value_at, HasSameValues}
 use Rattle.upp_curve.specs.Curves.{IsCurve}
-use Rattle.upp_curve.specs.Normal.{Each, IsNormal, IsRaw}
+use Rattle.affine_segment.specs.Pieces.{Each}
+use Rattle.upp_curve.specs.Normal.{IsNormal, IsRaw}
 use Rattle.upp_curve.specs.Steady.{steady}
 use Rattle.upp_curve.specs.Periods.{own_period}
 use Rattle.min_plus.specs.Pointwise.{IsScaled}
@@ -25,7 +26,7 @@ use Rattle.upp_curve.proofs.Every.{every_weaken}
 use Rattle.upp_curve.proofs.Operands.{held_scaled}
 use Rattle.upp_curve.proofs.CurveStands.{starts_below_own_end}
 use Rattle.upp_curve.proofs.UnrolledPieces.{each_of_spans, each_with, all_read}
-use Rattle.upp_curve.proofs.NormaliseLists.{each_map}
+use Rattle.affine_segment.proofs.PieceOrder.{each_map}
 use Rattle.upp_curve.proofs.NormaliseOwn.{EndsBy, Found, limited_found}
 use Rattle.curve_frame.specs.declared.frame.Frame.{Frame}
 use Rattle.curve_frame.specs.Frames.{IsFrame, sizes_at}

@@ -11,12 +11,13 @@ use Rattle.affine_segment.specs.declared.line.Piece.{Piece}
 use Rattle.affine_segment.specs.Values.{line_value}
 use Rattle.upp_curve.specs.declared.curve.Tail.{Tail}
 use Rattle.upp_curve.specs.declared.curve.Tail.TheVariants.{Periodic, Affine, Infinite}
-use Rattle.upp_curve.specs.Reading.{read, piece_in, piece_value}
+use Rattle.affine_segment.specs.Reading.{read, piece_in, piece_value}
 use Rattle.upp_curve.specs.Curve.{SpecCurve, repeated, cut, with_tail, value_at}
-use Rattle.upp_curve.specs.Normal.{Each, RisesFrom, StartsAtZero, TailFits, IsRaw}
+use Rattle.affine_segment.specs.Pieces.{Each, RisesFrom, StartsAtZero}
+use Rattle.upp_curve.specs.Normal.{TailFits, IsRaw}
 use Rattle.min_plus.specs.Pointwise.{scaled}
 use Rattle.upp_curve.specs.Gauges.{scaled_line, scaled_piece, scaled_tail, scaled_curve}
-use Rattle.upp_curve.proofs.PieceIn.{piece_in_stop, piece_in_go, piece_in_end}
+use Rattle.affine_segment.proofs.PieceIn.{piece_in_stop, piece_in_go, piece_in_end}
 
 -- ---- values
 scaled_value : (q t : ℚ) (l : Option Line) → line_value (scaled_line q l) t ≡ scaled q (line_value l t)

@@ -14,12 +14,12 @@ use Rattle.affine_segment.specs.declared.line.Line.{Line}
 use Rattle.affine_segment.specs.declared.line.Piece.{Piece}
 use Rattle.upp_curve.specs.declared.op_kind.OpKind.{OpKind}
 use Rattle.upp_curve.specs.declared.op_kind.OpKind.TheVariants.{Shift}
-use Rattle.upp_curve.specs.Reading.{read, piece_in}
+use Rattle.affine_segment.specs.Reading.{read, piece_in}
 use Rattle.upp_curve.specs.Curve.{SpecCurve, repeated, value_at}
 use Rattle.upp_curve.specs.Curves.{IsCurve}
-use Rattle.upp_curve.specs.Normal.{Each, StartsAtZero}
+use Rattle.affine_segment.specs.Pieces.{Each, StartsAtZero}
 use Rattle.upp_curve.specs.Normalising.{HasValues, cut_at, past}
-use Rattle.upp_curve.specs.Readable.{LineFitsAt}
+use Rattle.affine_segment.specs.Fits.{LineFitsAt}
 use Rattle.upp_curve.specs.Unrolled.{unroll}
 use Rattle.upp_curve.specs.Steady.{steady, rise_over, IsWholePeriods}
 use Rattle.upp_curve.specs.Windows.{window_at}
@@ -30,8 +30,8 @@ use Rattle.upp_curve.specs.Operand.{AreLimited, OperandPiece, OperandPieces, Ope
 use Rattle.upp_curve.specs.Room.{PieceHasRoom, LineHasRoom}
 use Rattle.upp_curve.proofs.NarrowSizes.{narrow_gauge, slope_time_divides}
 use Rattle.upp_curve.proofs.NormaliseGrids.{PieceOn, ValueOn, LineOn, raw_on}
-use Rattle.upp_curve.proofs.NormaliseLists.{each_map}
-use Rattle.upp_curve.proofs.NormaliseCopies.{read_is}
+use Rattle.affine_segment.proofs.PieceOrder.{each_map}
+use Rattle.affine_segment.proofs.PieceIn.{read_is}
 use Rattle.upp_curve.proofs.Finite.{each_in}
 use Rattle.upp_curve.proofs.Steady.{steady_rule}
 use Rattle.upp_curve.proofs.Below.{unroll_reads}

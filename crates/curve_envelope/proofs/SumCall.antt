@@ -14,10 +14,10 @@ use Rattle.rational.proofs.Grid.{whole_add, within_add, within_weaken}
 use Rattle.rational.proofs.Integers.{nat_nonneg}
 use Rattle.affine_segment.specs.declared.line.Piece.{Piece}
 use Rattle.upp_curve.specs.declared.op_kind.OpKind.TheVariants.{Sum}
-use Rattle.upp_curve.specs.Reading.{read}
+use Rattle.affine_segment.specs.Reading.{read}
 use Rattle.upp_curve.specs.Curve.{SpecCurve, repeated, value_at}
 use Rattle.upp_curve.specs.Curves.{IsCurve}
-use Rattle.upp_curve.specs.Normal.{Each}
+use Rattle.affine_segment.specs.Pieces.{Each}
 use Rattle.upp_curve.specs.Normalising.{HasValues}
 use Rattle.upp_curve.specs.Unrolled.{unroll}
 use Rattle.upp_curve.specs.Steady.{steady, rise_over, IsWholePeriods}
@@ -29,7 +29,7 @@ use Rattle.upp_curve.specs.Operand.{OperandPieces, answer_room}
 use Rattle.upp_curve.specs.Room.{PieceHasRoom}
 use Rattle.upp_curve.proofs.NarrowSizes.{narrow_gauge, small_sum, slope_time_divides}
 use Rattle.upp_curve.proofs.NormaliseGrids.{PieceOn, raw_on}
-use Rattle.upp_curve.proofs.NormaliseLists.{each_map}
+use Rattle.affine_segment.proofs.PieceOrder.{each_map}
 use Rattle.upp_curve.proofs.Steady.{steady_rule}
 use Rattle.upp_curve.proofs.Below.{unroll_reads}
 use Rattle.curve_window.specs.Pointwise.{IsWindowSum, IsSumPiece}

@@ -3,7 +3,7 @@
 ghost use Rattle.std.specs.Prelude.{◌≡◌, ◌+◌, pos, map, IfOk};
 ghost use Rattle.rational.specs.Rational.{ℚ, int, ◌≤ℚ◌};
 ghost use Rattle.upp_curve.specs.Curve.{value_at};
-ghost use Rattle.upp_curve.specs.Normal.{Each};
+ghost use Rattle.affine_segment.specs.Pieces.{Each};
 ghost use Rattle.min_plus.specs.Pointwise.{IsScaled};
 ghost use Rattle.upp_curve.specs.Gauges.{scaled_piece, scaled_tail};
 ghost use Rattle.upp_curve.specs.ClosedOperands.{PieceScales, TailScales};

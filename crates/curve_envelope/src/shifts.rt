@@ -5,10 +5,10 @@ ghost use Rattle.rational.specs.Rational.{ℚ, int, ◌-ℚ◌, ◌≤ℚ◌, le
 ghost use Rattle.rational.specs.Ratio.{SumFits};
 ghost use Rattle.rational.specs.declared.Extended.TheVariants.{Fin, Inf};
 ghost use Rattle.affine_segment.specs.Values.{line_value};
-ghost use Rattle.upp_curve.specs.Reading.{piece_in, piece_value};
+ghost use Rattle.affine_segment.specs.Reading.{piece_in, piece_value};
 ghost use Rattle.upp_curve.specs.Curve.{value_at};
-ghost use Rattle.upp_curve.specs.Normal.{Each, StartsAtZero};
-ghost use Rattle.upp_curve.specs.Readable.{LineFitsAt};
+ghost use Rattle.affine_segment.specs.Pieces.{Each, StartsAtZero};
+ghost use Rattle.affine_segment.specs.Fits.{LineFitsAt};
 ghost use Rattle.min_plus.specs.Pointwise.{IsShift};
 ghost use Rattle.upp_curve.specs.Outcome.{KeepsLimits};
 ghost use Rattle.curve_frame.specs.Frames.{IsFrame};
@@ -16,13 +16,13 @@ ghost use Rattle.curve_envelope.specs.Shifting.{left_line, left_piece, moved_lef
 
 use affine_segment::{Line, Piece, value};
 use curve_frame::{Frame, answer, rise_over, within};
-use fraction128::{Ext, Frac};
+use fraction128::{Ext, Frac, difference};
 use rational::Extended;
 use std::alloc::{AllocError, Global};
 use std::cmp::Ordering;
 use std::sync::ledger::Ledger;
 use steps::Steps;
-use upp_curve::{Curve, OpFault, OpKind, Tail, difference};
+use upp_curve::{Curve, OpFault, OpKind, Tail};
 
 // A line that may be missing, moved left by x.
 fn left_line(line: Option<Line>, x: Frac) -> Option<Line>

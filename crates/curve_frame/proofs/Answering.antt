@@ -9,7 +9,7 @@ use Rattle.rational.proofs.Laws.{le_of_lt}
 use Rattle.rational.proofs.Grid.{within_weaken}
 use Rattle.affine_segment.specs.declared.line.Piece.{Piece}
 use Rattle.upp_curve.specs.declared.curve.Tail.TheVariants.{Periodic, Infinite}
-use Rattle.upp_curve.specs.Reading.{read}
+use Rattle.affine_segment.specs.Reading.{read}
 use Rattle.upp_curve.specs.Curve.{SpecCurve, repeated, cut, value_at}
 use Rattle.upp_curve.specs.Normalising.{HasValues, OnGridsUnlessLine}
 use Rattle.upp_curve.specs.Room.{TailHasRoom, TurnHasRoom}

@@ -21,19 +21,19 @@ use Rattle.affine_segment.specs.declared.line.Piece.{Piece}
 use Rattle.affine_segment.specs.Values.{line_at, line_value}
 use Rattle.upp_curve.specs.declared.curve.Tail.{Tail}
 use Rattle.upp_curve.specs.declared.curve.Tail.TheVariants.{Periodic, Affine, Infinite}
-use Rattle.upp_curve.specs.Reading.{read, piece_in, piece_value}
+use Rattle.affine_segment.specs.Reading.{read, piece_in, piece_value}
 use Rattle.upp_curve.specs.Curve.{SpecCurve, repeated, value_at}
 use Rattle.upp_curve.specs.Curves.{IsCurve}
-use Rattle.upp_curve.specs.Normal.{Each, HasStart, RisesFrom, StartsAtZero}
+use Rattle.affine_segment.specs.Pieces.{Each, HasStart, RisesFrom, StartsAtZero}
 use Rattle.upp_curve.specs.Steady.{rank_of, last_of, slope_times, rise_over, IsWholePeriods, steady}
 use Rattle.upp_curve.specs.Periods.{HasPeriod, period_of, common_of, common_period, own_period}
 use Rattle.upp_curve.specs.Spans.{Span, spans, span_below, spans_below, copies_of, once_below}
 use Rattle.upp_curve.specs.Unrolled.{copies_below}
 use Rattle.upp_curve.specs.Limits.{Sizes, curve_numbers}
 use Rattle.upp_curve.specs.Sized.{IsValue, AreSizes, Stands, ValueStands, LineStands, SpanStands, grid_of, times_largest}
-use Rattle.upp_curve.proofs.PieceIn.{piece_in_stop, piece_in_go, piece_in_end}
+use Rattle.affine_segment.proofs.PieceIn.{piece_in_stop, piece_in_go, piece_in_end}
 use Rattle.upp_curve.proofs.Normal.{past_start}
-use Rattle.upp_curve.proofs.NormaliseLists.{each_map}
+use Rattle.affine_segment.proofs.PieceOrder.{each_map}
 use Rattle.upp_curve.proofs.Finite.{each_in}
 use Rattle.upp_curve.proofs.Repeats.{tail_lemma}
 use Rattle.upp_curve.proofs.Copies.{copies_out, copy_zero, copy_among}

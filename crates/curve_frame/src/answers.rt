@@ -1,7 +1,7 @@
 //! The curve of a call's answer, from its pieces in a window.
 
 ghost use Rattle.std.specs.Prelude.{IfOk};
-ghost use Rattle.upp_curve.specs.Reading.{read};
+ghost use Rattle.affine_segment.specs.Reading.{read};
 ghost use Rattle.upp_curve.specs.Curve.{repeated, cut};
 ghost use Rattle.upp_curve.specs.Normalising.{HasValues};
 ghost use Rattle.curve_frame.specs.Answering.{IsAnswer, IsInfiniteAnswer};

@@ -7,8 +7,8 @@ ghost use Rattle.upp_curve.specs.Steady.{last_line, rise_over, slope_times};
 ghost use Rattle.curve_frame.specs.Rises.{CurveRiseFits, SlopeTimesFits};
 
 use affine_segment::Piece;
-use fraction128::Frac;
-use upp_curve::{Curve, Tail, product, quotient};
+use fraction128::{Frac, product, quotient};
+use upp_curve::{Curve, Tail};
 
 // By how much the last line rises over d.
 fn last_rise(pieces: &[Piece], d: Frac) -> Frac

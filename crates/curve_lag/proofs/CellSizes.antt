@@ -12,7 +12,7 @@ use Rattle.rational.proofs.Linear.{with2}
 use Rattle.rational.proofs.Laws.{div_mul, not_zero, le_of_not_lt}
 use Rattle.affine_segment.specs.declared.line.Line.{Line}
 use Rattle.affine_segment.specs.Values.{line_at}
-use Rattle.upp_curve.specs.Readable.{LineFits}
+use Rattle.affine_segment.specs.Fits.{LineFits}
 use Rattle.upp_curve.specs.Limits.{Sizes}
 use Rattle.upp_curve.specs.Sized.{grid_of, times_largest, IsSlope}
 use Rattle.upp_curve.specs.Operand.{AreLimited, OperandLine}

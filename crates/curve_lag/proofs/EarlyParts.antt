@@ -14,19 +14,20 @@ use Rattle.affine_segment.specs.Values.{line_value}
 use Rattle.upp_curve.specs.declared.curve.Tail.{Tail}
 use Rattle.upp_curve.specs.declared.curve.Tail.TheVariants.{Periodic, Affine, Infinite}
 use Rattle.upp_curve.specs.declared.ahead.Stretch.{Stretch}
-use Rattle.upp_curve.specs.Reading.{read, piece_in, piece_value}
+use Rattle.affine_segment.specs.Reading.{read, piece_in, piece_value, next_in, line_in}
 use Rattle.upp_curve.specs.Curve.{SpecCurve, value_at, with_tail}
 use Rattle.upp_curve.specs.Curves.{IsCurve}
 use Rattle.min_plus.specs.Functions.{IsFinite}
-use Rattle.upp_curve.specs.Normal.{Each, StartsAtZero, IsNormal, TailFits}
-use Rattle.upp_curve.specs.Fitting.{ReadFits}
-use Rattle.upp_curve.specs.Readable.{LineFitsAt, TailReadable}
+use Rattle.affine_segment.specs.Pieces.{Each, StartsAtZero}
+use Rattle.upp_curve.specs.Normal.{IsNormal, TailFits}
+use Rattle.affine_segment.specs.Fits.{ReadFits, LineFitsAt}
+use Rattle.upp_curve.specs.Readable.{TailReadable}
 use Rattle.rational.specs.Ratio.{SumFits}
 use Rattle.upp_curve.specs.Limits.{Sizes}
 use Rattle.upp_curve.specs.Spans.{spans, piece_read}
 use Rattle.upp_curve.specs.Sized.{SpanStands}
 use Rattle.upp_curve.specs.Operand.{AreLimited, OperandLineAt}
-use Rattle.upp_curve.specs.Ahead.{IsBeforeNext, GoesOn, AtNext, TimesStand, HasWindow, IsOverBy, IsTimeIn, GridValue, next_in, line_in}
+use Rattle.upp_curve.specs.Ahead.{IsBeforeNext, GoesOn, AtNext, TimesStand, HasWindow, IsOverBy, IsTimeIn, GridValue}
 use Rattle.upp_curve.proofs.PieceLists.{spans_some}
 use Rattle.upp_curve.proofs.Repeats.{repeated_first}
 use Rattle.upp_curve.proofs.RisingCurves.{infinite_is_not_finite}

@@ -4,7 +4,7 @@ ghost use Rattle.std.specs.Prelude.{◌≡◌, ◌≢◌, ◌↔◌, IsTrue, pos
 ghost use Rattle.rational.specs.Rational.{ℚ, int, ◌-ℚ◌, ◌*ℚ◌, ◌/ℚ◌, ◌<ℚ◌, ◌≤ℚ◌, neg_ℚ};
 ghost use Rattle.rational.specs.Ratio.{IsSmall, SumFits};
 ghost use Rattle.affine_segment.specs.Values.{line_at};
-ghost use Rattle.upp_curve.specs.Readable.{LineFits};
+ghost use Rattle.affine_segment.specs.Fits.{LineFits};
 ghost use Rattle.upp_curve.specs.Limits.{Sizes};
 ghost use Rattle.upp_curve.specs.Sized.{IsSlope};
 ghost use Rattle.curve_lag.specs.Cells.{RisingCell, CellSizes, IsTimeTo, IsCellLag};

@@ -5,14 +5,13 @@ ghost use Rattle.rational.specs.Rational.{ℚ, int, ◌+ℚ◌, ◌≤ℚ◌, �
 ghost use Rattle.rational.specs.MinMax.{min_q};
 ghost use Rattle.rational.specs.Ratio.{SumFits};
 ghost use Rattle.affine_segment.specs.Values.{line_value};
-ghost use Rattle.upp_curve.specs.Reading.{piece_in, piece_value, read};
-ghost use Rattle.upp_curve.specs.Normal.{StartsAtZero};
+ghost use Rattle.affine_segment.specs.Reading.{piece_in, piece_value, read, next_in, line_in};
+ghost use Rattle.affine_segment.specs.Pieces.{StartsAtZero};
 ghost use Rattle.upp_curve.specs.Curve.{value_at};
 ghost use Rattle.upp_curve.specs.Curves.{IsCurve};
-ghost use Rattle.upp_curve.specs.Readable.{LineFitsAt};
-ghost use Rattle.upp_curve.specs.Fitting.{ReadFits};
+ghost use Rattle.affine_segment.specs.Fits.{LineFitsAt, ReadFits};
 ghost use Rattle.upp_curve.specs.Limits.{Sizes};
-ghost use Rattle.upp_curve.specs.Ahead.{IsOverBy, IsTimeIn, next_in, line_in};
+ghost use Rattle.upp_curve.specs.Ahead.{IsOverBy, IsTimeIn};
 ghost use Rattle.curve_lag.specs.Parts.{IsSeen, GoesTo, PartStands, IsEarlyBy, until_of};
 
 use crate::cells::{is_less, line_at};

@@ -10,10 +10,10 @@ use Rattle.rational.proofs.Linear.{with1, with3}
 use Rattle.rational.proofs.Laws.{le_refl, le_trans, le_of_lt, mul_le_mul_right}
 use Rattle.rational.proofs.Integers.{nat_le, nat_nonneg, int_mul}
 use Rattle.affine_segment.specs.declared.line.Piece.{Piece}
-use Rattle.upp_curve.specs.Reading.{read}
+use Rattle.affine_segment.specs.Reading.{read}
 use Rattle.upp_curve.specs.Curve.{SpecCurve, repeated, value_at}
 use Rattle.min_plus.specs.Pointwise.{excess}
-use Rattle.upp_curve.specs.Normal.{Each}
+use Rattle.affine_segment.specs.Pieces.{Each}
 use Rattle.upp_curve.specs.Normalising.{HasValues}
 use Rattle.upp_curve.specs.Unrolled.{unroll}
 use Rattle.upp_curve.specs.Steady.{rate, rise_over}

@@ -16,11 +16,11 @@ use affine_segment::Piece;
 use curve_frame::{Frame, answer, first_window, rise_over, within};
 use curve_least::{Side, least_periods};
 use curve_window::{window_excess, window_max, window_min};
-use fraction128::Frac;
+use fraction128::{Frac, difference};
 use std::alloc::{AllocError, Global};
 use std::sync::ledger::Ledger;
 use steps::Steps;
-use upp_curve::{Curve, OpFault, OpKind, difference};
+use upp_curve::{Curve, OpFault, OpKind};
 
 /// What is made of two curves.
 #[derive(Debug, Clone, Copy)]

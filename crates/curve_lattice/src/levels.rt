@@ -19,12 +19,12 @@ use affine_segment::{Line, Piece};
 use curve_frame::{Frame, answer, first_window, rise_over, within};
 use curve_least::{Side, is_slower, side_periods};
 use curve_window::window_excess;
-use fraction128::Frac;
+use fraction128::{Frac, difference};
 use rational::Extended;
 use std::alloc::{AllocError, Global};
 use std::sync::ledger::Ledger;
 use steps::Steps;
-use upp_curve::{Curve, OpFault, OpKind, difference};
+use upp_curve::{Curve, OpFault, OpKind};
 
 // The piece of a level.
 fn level_pieces(alloc: Global, l: Frac) -> Result<Vec<Piece>, AllocError>

@@ -10,7 +10,7 @@ use Rattle.rational.proofs.Laws.{le_of_lt, le_of_not_lt}
 use Rattle.rational.proofs.MinMax.{max_q_one, max_q_right, max_q_is_left, min_q_left, min_q_right}
 use Rattle.affine_segment.specs.Values.{line_value}
 use Rattle.upp_curve.specs.declared.ahead.Stretch.{Stretch}
-use Rattle.upp_curve.specs.Readable.{LineFitsAt}
+use Rattle.affine_segment.specs.Fits.{LineFitsAt}
 use Rattle.upp_curve.specs.Limits.{Sizes}
 use Rattle.upp_curve.specs.Operand.{AreLimited}
 use Rattle.upp_curve.specs.Ahead.{GridValue}

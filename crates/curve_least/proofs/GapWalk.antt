@@ -17,7 +17,7 @@ use Rattle.affine_segment.specs.declared.line.Piece.{Piece}
 use Rattle.upp_curve.specs.declared.curve.Tail.{Tail}
 use Rattle.upp_curve.specs.declared.curve.Tail.TheVariants.{Periodic, Affine, Infinite}
 use Rattle.upp_curve.specs.Curve.{SpecCurve, value_at}
-use Rattle.upp_curve.specs.Normal.{Each}
+use Rattle.affine_segment.specs.Pieces.{Each}
 use Rattle.upp_curve.specs.Steady.{rank_of}
 use Rattle.upp_curve.specs.Periods.{period_of}
 use Rattle.upp_curve.specs.Limits.{Sizes, stored_period}

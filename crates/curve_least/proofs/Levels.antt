@@ -7,7 +7,7 @@ use Rattle.rational.specs.Extended.{Ext}
 use Rattle.rational.specs.declared.Extended.TheVariants.{Fin, Inf}
 use Rattle.rational.proofs.Grid.{whole_int, within_nonneg, within_weaken}
 use Rattle.rational.proofs.Integers.{nat_nonneg, nat_le, int_mul}
-use Rattle.rational.proofs.Laws.{le_refl, le_lt_trans, zero_mul, add_zero, mul_le_mul_right}
+use Rattle.rational.proofs.Laws.{le_refl, le_lt_trans, zero_mul, add_zero, mul_le_mul_right, le_or_lt, le_of_lt, antisym}
 use Rattle.affine_segment.specs.declared.line.Line.{Line}
 use Rattle.affine_segment.specs.declared.line.Piece.{Piece}
 use Rattle.upp_curve.specs.declared.ahead.Stretch.{Stretch}
@@ -18,11 +18,9 @@ use Rattle.upp_curve.specs.Sized.{IsValue, grid_of, times_largest}
 use Rattle.upp_curve.specs.Operand.{OperandLine, OperandLineAt}
 use Rattle.upp_curve.specs.Ahead.{GoesOn, HasWindow, IsTimeIn, GridValue}
 use Rattle.upp_curve.specs.declared.curve.Tail.TheVariants.{Affine}
-use Rattle.upp_curve.specs.Reading.{read, piece_in, piece_value}
+use Rattle.affine_segment.specs.Reading.{read, piece_in, piece_value}
 use Rattle.upp_curve.specs.Spans.{spans}
-use Rattle.upp_curve.proofs.PieceIn.{piece_in_end}
-use Rattle.upp_curve.proofs.FirstStretch.{value_past, value_at_start}
-use Rattle.rational.proofs.Laws.{le_or_lt, le_of_lt, antisym}
+use Rattle.affine_segment.proofs.PieceIn.{piece_in_end, value_past, value_at_start}
 use Rattle.upp_curve.proofs.NarrowSizes.{value_whole, value_within}
 use Rattle.upp_curve.proofs.CurveStands.{curve_stands}
 use Rattle.curve_least.specs.Levels.{level_curve}

@@ -21,9 +21,10 @@ use Rattle.affine_segment.specs.declared.line.Piece.{Piece}
 use Rattle.affine_segment.specs.Values.{line_at, line_value}
 use Rattle.upp_curve.specs.declared.curve.Tail.{Tail}
 use Rattle.upp_curve.specs.declared.curve.Tail.TheVariants.{Periodic, Affine, Infinite}
-use Rattle.upp_curve.specs.Reading.{piece_in, piece_value, read}
+use Rattle.affine_segment.specs.Reading.{piece_in, piece_value, read}
 use Rattle.upp_curve.specs.Curve.{SpecCurve, value_at}
-use Rattle.upp_curve.specs.Normal.{Each, HasStart, StartsAtZero, FitsPeriod}
+use Rattle.affine_segment.specs.Pieces.{Each, HasStart, StartsAtZero}
+use Rattle.upp_curve.specs.Normal.{FitsPeriod}
 use Rattle.upp_curve.specs.Steady.{rank_of, last_of, last_line, slope_times, rise_in, rise_over, IsWholePeriods}
 use Rattle.upp_curve.specs.Spans.{Span, span_below, spans}
 use Rattle.upp_curve.specs.Limits.{Sizes}

@@ -7,7 +7,7 @@ ghost use Rattle.rational.specs.MinMax.{max_q, min_q};
 ghost use Rattle.rational.specs.Extended.{Ext};
 ghost use Rattle.affine_segment.specs.Values.{line_value};
 ghost use Rattle.upp_curve.specs.Curve.{value_at};
-ghost use Rattle.upp_curve.specs.Readable.{LineFitsAt};
+ghost use Rattle.affine_segment.specs.Fits.{LineFitsAt};
 ghost use Rattle.upp_curve.specs.Limits.{Sizes};
 ghost use Rattle.upp_curve.specs.Ahead.{GoesOn, HasWindow, IsTimeIn};
 ghost use Rattle.curve_least.specs.Gaps.{InWindow, IsGap};
@@ -23,9 +23,9 @@ ghost use Rattle.curve_least.specs.GapSteps.{
 
 use crate::sides::Side;
 use affine_segment::{Line, value};
-use fraction128::{Ext, Frac};
+use fraction128::{Ext, Frac, difference, is_less};
 use rational::Extended;
-use upp_curve::{Curve, Stretch, difference, is_less};
+use upp_curve::{Curve, Stretch};
 
 /// By how much one function is above another over some times, where the other is finite.
 #[derive(Debug, Clone, Copy)]

@@ -15,9 +15,9 @@ ghost use Rattle.curve_least.specs.Compared.{AreCompared};
 
 use crate::gaps::{Gap, side_gap};
 use crate::sides::Side;
-use fraction128::Frac;
+use fraction128::{Frac, difference, is_less, product, quotient, sum};
 use rational::Extended;
-use upp_curve::{Curve, difference, is_less, product, quotient, sum};
+use upp_curve::Curve;
 
 /// By how much a curve rises over d.
 fn rise_of(c: &Side, d: Frac) -> Frac

@@ -7,11 +7,11 @@ ghost use Rattle.upp_curve.specs.Steady.{steady, IsWholePeriods};
 
 use crate::least_periods;
 use affine_segment::{Line, Piece};
-use fraction128::Frac;
+use fraction128::{Frac, is_less};
 use rational::Extended;
 use std::alloc::{AllocError, Global};
 use std::test::Fail;
-use upp_curve::{Curve, OpKind, RawCurve, Tail, gauge, is_less, normalise, steady_time};
+use upp_curve::{Curve, OpKind, RawCurve, Tail, gauge, normalise, steady_time};
 
 fn ratio(num: i128, den: i128) -> Frac {
     match Frac::new(num, den) {

@@ -13,10 +13,10 @@ use Rattle.rational.proofs.MinMax.{max_q_ge_left}
 use Rattle.affine_segment.specs.declared.line.Piece.{Piece}
 use Rattle.upp_curve.specs.Curve.{SpecCurve, value_at, repeated}
 use Rattle.min_plus.specs.Functions.{zero_q}
-use Rattle.upp_curve.specs.Normal.{Each, StartsAtZero}
+use Rattle.affine_segment.specs.Pieces.{Each, StartsAtZero}
 use Rattle.upp_curve.specs.Normalising.{HasValues}
 use Rattle.min_plus.specs.Pointwise.{excess}
-use Rattle.upp_curve.specs.Reading.{read}
+use Rattle.affine_segment.specs.Reading.{read}
 use Rattle.min_plus.specs.Running.{left_after, IsRunningInfimum, IsFifoLeftover}
 use Rattle.upp_curve.specs.Steady.{Repeats, rise_over}
 use Rattle.upp_curve.specs.Sized.{grid_of, times_largest}
@@ -25,7 +25,7 @@ use Rattle.upp_curve.specs.Unrolling.{IsOperandTo}
 use Rattle.upp_curve.specs.Operand.{OperandPieces}
 use Rattle.upp_curve.proofs.Below.{unroll_reads}
 use Rattle.upp_curve.proofs.Finite.{number_of}
-use Rattle.upp_curve.proofs.NormaliseLists.{each_map}
+use Rattle.affine_segment.proofs.PieceOrder.{each_map}
 use Rattle.upp_curve.proofs.StretchSizes.{times_fit}
 use Rattle.curve_frame.specs.declared.frame.Frame.{Frame}
 use Rattle.curve_frame.specs.Answering.{IsAnswer}

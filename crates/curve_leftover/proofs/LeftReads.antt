@@ -16,9 +16,9 @@ use Rattle.affine_segment.specs.declared.line.Piece.{Piece}
 use Rattle.affine_segment.specs.Values.{line_at, line_value}
 use Rattle.min_plus.specs.Functions.{zero_q}
 use Rattle.min_plus.specs.Pointwise.{excess}
-use Rattle.upp_curve.specs.Reading.{read, piece_value}
+use Rattle.affine_segment.specs.Reading.{read, piece_value}
 use Rattle.min_plus.specs.Running.{left_after}
-use Rattle.upp_curve.proofs.FirstStretch.{value_past, value_at_start}
+use Rattle.affine_segment.proofs.PieceIn.{value_past, value_at_start}
 use Rattle.curve_window.specs.declared.stretch.Both.{Both}
 use Rattle.curve_window.specs.Stretches.{lefts, rights, EachBoth, IsBothOf, IsOverlay}
 use Rattle.curve_window.specs.Pointwise.{mapped}

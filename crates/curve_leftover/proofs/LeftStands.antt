@@ -14,9 +14,9 @@ use Rattle.affine_segment.specs.declared.line.Line.{Line}
 use Rattle.affine_segment.specs.declared.line.Piece.{Piece}
 use Rattle.affine_segment.specs.Values.{line_value}
 use Rattle.min_plus.specs.Functions.{zero_q}
-use Rattle.upp_curve.specs.Normal.{Each, StartsAtZero}
+use Rattle.affine_segment.specs.Pieces.{Each, StartsAtZero}
 use Rattle.min_plus.specs.Pointwise.{excess}
-use Rattle.upp_curve.specs.Reading.{read}
+use Rattle.affine_segment.specs.Reading.{read}
 use Rattle.upp_curve.specs.Shapes.{IsFinitePiece, IsNumber, IsLine}
 use Rattle.upp_curve.specs.Steady.{last_line}
 use Rattle.upp_curve.specs.Limits.{Sizes}

@@ -15,17 +15,18 @@ use Rattle.affine_segment.specs.declared.line.Line.{Line}
 use Rattle.affine_segment.specs.declared.line.Piece.{Piece}
 use Rattle.affine_segment.specs.Values.{line_value}
 use Rattle.min_plus.specs.Functions.{zero_q}
-use Rattle.upp_curve.specs.Normal.{Each, StartsAtZero}
-use Rattle.upp_curve.specs.Reading.{read, piece_in, piece_value}
-use Rattle.upp_curve.specs.Readable.{LineFitsAt}
+use Rattle.affine_segment.specs.Pieces.{Each, StartsAtZero}
+use Rattle.affine_segment.specs.Reading.{read, piece_in, piece_value}
+use Rattle.affine_segment.specs.Fits.{LineFitsAt}
 use Rattle.upp_curve.specs.Shapes.{IsFinitePiece, IsNumber, IsLine}
 use Rattle.upp_curve.specs.Steady.{last_line}
 use Rattle.upp_curve.specs.Limits.{Sizes}
 use Rattle.upp_curve.specs.Sized.{grid_of, times_largest}
 use Rattle.upp_curve.specs.Operand.{AreLimited}
 use Rattle.upp_curve.proofs.Finite.{each_in}
-use Rattle.upp_curve.proofs.FirstStretch.{value_past}
-use Rattle.upp_curve.proofs.NormaliseLists.{each_append, each_map, last_in, rises_append}
+use Rattle.affine_segment.proofs.PieceIn.{value_past}
+use Rattle.affine_segment.proofs.PieceOrder.{each_append, each_map, rises_append}
+use Rattle.upp_curve.proofs.NormaliseLists.{last_in}
 use Rattle.curve_running.specs.Scans.{IsWindow, ScanFits, IsInfimumUntil, IsLevel, HasLine, flat}
 use Rattle.curve_running.specs.Made.{IsMade, IsInfimumScan}
 use Rattle.curve_running.specs.Runs.{IsFrontBefore}

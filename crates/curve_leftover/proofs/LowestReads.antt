@@ -20,8 +20,8 @@ use Rattle.affine_segment.specs.declared.line.Line.{Line}
 use Rattle.affine_segment.specs.declared.line.Piece.{Piece}
 use Rattle.affine_segment.specs.Values.{line_at, line_value}
 use Rattle.min_plus.specs.Functions.{zero_q, From}
-use Rattle.upp_curve.specs.Normal.{Each, StartsAtZero}
-use Rattle.upp_curve.specs.Reading.{read, piece_value}
+use Rattle.affine_segment.specs.Pieces.{Each, StartsAtZero}
+use Rattle.affine_segment.specs.Reading.{read, piece_value}
 use Rattle.upp_curve.specs.Room.{PieceHasRoom}
 use Rattle.min_plus.specs.Running.{IsRunningInfimum}
 use Rattle.upp_curve.specs.Steady.{Repeats, last_line, last_of}
@@ -29,9 +29,9 @@ use Rattle.upp_curve.specs.Limits.{Sizes}
 use Rattle.upp_curve.specs.Sized.{grid_of, times_largest}
 use Rattle.upp_curve.specs.Operand.{answer_room}
 use Rattle.upp_curve.proofs.Bends.{bends_on}
-use Rattle.upp_curve.proofs.FirstStretch.{value_past}
-use Rattle.upp_curve.proofs.NormaliseLists.{each_map, last_is_last, last_in}
-use Rattle.upp_curve.proofs.PieceIn.{piece_in_end}
+use Rattle.affine_segment.proofs.PieceIn.{value_past, piece_in_end}
+use Rattle.affine_segment.proofs.PieceOrder.{each_map}
+use Rattle.upp_curve.proofs.NormaliseLists.{last_is_last, last_in}
 use Rattle.upp_curve.proofs.Repeats.{repeats_times}
 use Rattle.upp_curve.proofs.Steady.{read_past}
 use Rattle.upp_curve.proofs.Unrolled.{read_before, read_past_list}

@@ -3,9 +3,9 @@ use Rattle.std.specs.Prelude.{◌≡◌, ℕ, ◌+◌, ◌<◌, ◌≤◌, List,
 use Rattle.std.proofs.Common.{get_or, drop, drop_of_length-le, append-nil, sym, ap, ap₂, ◌∙◌, refl, subst}
 use Rattle.rational.specs.Rational.{ℚ, ◌≤ℚ◌, ◌<ℚ◌}
 use Rattle.affine_segment.specs.declared.line.Piece.{Piece}
-use Rattle.upp_curve.specs.Normal.{Each}
+use Rattle.affine_segment.specs.Pieces.{Each}
 use Rattle.upp_curve.specs.Unrolled.{upto}
-use Rattle.upp_curve.proofs.NormaliseLoops.{next_piece}
+use Rattle.affine_segment.proofs.NextPiece.{next_piece}
 use Rattle.upp_curve.proofs.Unique.{upto_none, upto_some, upto_end}
 use Rattle.curve_window.proofs.Surgery.{one_more}
 use Rattle.curve_leftover.specs.Moved.{moved_piece, silence, moved_right, PieceMoves}

@@ -11,12 +11,11 @@ use Rattle.affine_segment.specs.declared.line.Line.{Line}
 use Rattle.affine_segment.specs.declared.line.Piece.{Piece}
 use Rattle.affine_segment.specs.Values.{line_value}
 use Rattle.min_plus.specs.Functions.{zero_q}
-use Rattle.upp_curve.specs.Normal.{RisesFrom, StartsAtZero}
-use Rattle.upp_curve.specs.Reading.{read, piece_in, piece_value}
+use Rattle.affine_segment.specs.Pieces.{RisesFrom, StartsAtZero}
+use Rattle.affine_segment.specs.Reading.{read, piece_in, piece_value}
 use Rattle.upp_curve.specs.Unrolled.{upto}
-use Rattle.upp_curve.proofs.FirstStretch.{value_past}
+use Rattle.affine_segment.proofs.PieceIn.{value_past, piece_in_end, piece_in_go, piece_in_stop}
 use Rattle.upp_curve.proofs.NormaliseLists.{rises_upto}
-use Rattle.upp_curve.proofs.PieceIn.{piece_in_end, piece_in_go, piece_in_stop}
 use Rattle.upp_curve.proofs.Unique.{upto_none, upto_some, upto_end}
 use Rattle.curve_leftover.specs.Moved.{moved_line, moved_piece, silence, moved_right}
 use Rattle.curve_leftover.proofs.Basics.{read_is, up_to}

@@ -14,14 +14,15 @@ use Rattle.affine_segment.specs.Values.{line_value}
 use Rattle.upp_curve.specs.Curve.{SpecCurve}
 use Rattle.upp_curve.specs.Curves.{IsCurve}
 use Rattle.min_plus.specs.Functions.{zero_q}
-use Rattle.upp_curve.specs.Normal.{Each}
+use Rattle.affine_segment.specs.Pieces.{Each}
 use Rattle.upp_curve.specs.Limits.{Sizes, curve_numbers}
 use Rattle.upp_curve.specs.Sized.{Stands, ValueStands, LineStands, grid_of, times_largest}
 use Rattle.upp_curve.specs.Operand.{AreLimited, OperandLineAt, OperandPiece, OperandPieces}
 use Rattle.upp_curve.specs.Unrolled.{unroll, upto}
 use Rattle.upp_curve.proofs.AnswerRoom.{wide_narrow}
 use Rattle.upp_curve.proofs.NarrowSizes.{small_number, small_sum, run_whole, run_within}
-use Rattle.upp_curve.proofs.NormaliseLists.{each_append, each_map, each_upto, upto_before}
+use Rattle.affine_segment.proofs.PieceOrder.{each_append, each_map}
+use Rattle.upp_curve.proofs.NormaliseLists.{each_upto, upto_before}
 use Rattle.upp_curve.proofs.PieceLists.{starts_nonneg}
 use Rattle.upp_curve.proofs.UnrolledPieces.{each_with, each_nonneg, unroll_each, unroll_starts, PieceStands, pieces_stand, operand_line, operand_pieces}
 use Rattle.upp_curve.proofs.UnrollSteps.{time_whole, time_within}

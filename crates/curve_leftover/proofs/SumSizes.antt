@@ -18,8 +18,9 @@ use Rattle.affine_segment.specs.declared.line.Piece.{Piece}
 use Rattle.affine_segment.specs.Values.{line_at, line_value}
 use Rattle.upp_curve.specs.Bends.{LineOn, NumbersOn, SlopeTurns, BendAfter, OnlyBend}
 use Rattle.min_plus.specs.Functions.{zero_q}
-use Rattle.upp_curve.specs.Normal.{Each, HasStart}
-use Rattle.upp_curve.specs.Readable.{EachFits, LineFits, LineFitsAt, LineFitsTo, start_after}
+use Rattle.affine_segment.specs.Pieces.{Each, HasStart, start_after}
+use Rattle.upp_curve.specs.Readable.{EachFits, LineFitsTo}
+use Rattle.affine_segment.specs.Fits.{LineFits, LineFitsAt}
 use Rattle.upp_curve.specs.Limits.{Sizes}
 use Rattle.upp_curve.specs.Sized.{grid_of, times_largest}
 use Rattle.upp_curve.specs.Operand.{AreLimited, answer_room}

@@ -4,12 +4,12 @@ use Rattle.std.proofs.Common.{sym, ◌∙◌, refl, subst}
 use Rattle.rational.specs.Rational.{ℚ}
 use Rattle.rational.specs.Extended.{Ext}
 use Rattle.affine_segment.specs.declared.line.Piece.{Piece}
-use Rattle.upp_curve.specs.Normal.{Each, StartsAtZero}
-use Rattle.upp_curve.specs.Readable.{LineFitsAt}
-use Rattle.upp_curve.specs.Reading.{read, piece_in, piece_value}
+use Rattle.affine_segment.specs.Pieces.{Each, StartsAtZero}
+use Rattle.affine_segment.specs.Fits.{LineFitsAt}
+use Rattle.affine_segment.specs.Reading.{read, piece_in, piece_value}
 use Rattle.upp_curve.specs.Shapes.{IsNumber}
 use Rattle.upp_curve.proofs.Finite.{each_in}
-use Rattle.upp_curve.proofs.PieceIn.{read_found}
+use Rattle.affine_segment.proofs.PieceIn.{read_found}
 
 abbrev IsFound : List Piece → ℚ → Piece → Type 0
 IsFound pieces t found = (p : Piece) (ps : List Piece) → pieces ≡ p ∷ ps → found ≡ piece_in p ps t

@@ -13,8 +13,8 @@ ghost use Rattle.curve_leftover.specs.LeftCall.{IsLeftGate};
 
 use crate::numbers::{greater, number_of};
 use curve_frame::{CallWindow, rise_over};
-use fraction128::Frac;
-use upp_curve::{Curve, difference, is_less, quotient, stretch_at};
+use fraction128::{Frac, difference, is_less, quotient};
+use upp_curve::{Curve, stretch_at};
 
 // The earlier of a time and another that may be missing.
 fn earlier(t: Frac, next: &Option<Frac>) -> Frac

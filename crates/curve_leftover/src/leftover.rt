@@ -19,12 +19,12 @@ use crate::parts::left_pieces;
 use affine_segment::{Line, Piece};
 use curve_frame::{Frame, answer, first_window, rise_over, within};
 use curve_window::overlay;
-use fraction128::{Ext, Frac};
+use fraction128::{Ext, Frac, difference, sum};
 use rational::Extended;
 use std::alloc::{AllocError, Global};
 use std::sync::ledger::Ledger;
 use steps::Steps;
-use upp_curve::{Curve, OpFault, OpKind, Tail, difference, sum};
+use upp_curve::{Curve, OpFault, OpKind, Tail};
 
 // The pieces of what is left in a call's window.
 fn left_window(

@@ -5,9 +5,9 @@ ghost use Rattle.rational.specs.Rational.{int, ◌≤ℚ◌, le_q};
 ghost use Rattle.rational.specs.declared.Extended.TheVariants.{Fin};
 ghost use Rattle.affine_segment.specs.Values.{line_at, line_value};
 ghost use Rattle.upp_curve.specs.Limits.{Sizes};
-ghost use Rattle.upp_curve.specs.Normal.{Each, StartsAtZero};
-ghost use Rattle.upp_curve.specs.Readable.{LineFits, LineFitsAt};
-ghost use Rattle.upp_curve.specs.Reading.{piece_in, piece_value, read};
+ghost use Rattle.affine_segment.specs.Pieces.{Each, StartsAtZero};
+ghost use Rattle.affine_segment.specs.Fits.{LineFits, LineFitsAt};
+ghost use Rattle.affine_segment.specs.Reading.{piece_in, piece_value, read};
 ghost use Rattle.upp_curve.specs.Shapes.{IsFinitePiece, IsLine, IsNumber};
 ghost use Rattle.upp_curve.specs.Steady.{last_line};
 ghost use Rattle.curve_leftover.specs.Lowest.{level_piece, IsLowestCall, IsLowest};
@@ -15,11 +15,10 @@ ghost use Rattle.curve_leftover.specs.Lowest.{level_piece, IsLowestCall, IsLowes
 use crate::numbers::{lesser, number_of};
 use affine_segment::{Line, Piece, value};
 use curve_running::{front_before, infimum_scan};
-use fraction128::{Ext, Frac};
+use fraction128::{Ext, Frac, sum};
 use rational::Extended;
 use std::alloc::{AllocError, Global};
 use std::cmp::Ordering;
-use upp_curve::sum;
 
 fn starts_by(p: &Piece, t: Frac) -> bool
     ensures { result ≡ le_q p.now.x t }

@@ -2,14 +2,13 @@
 
 ghost use Rattle.std.specs.Prelude.{◌≡◌, pos, IfOk};
 ghost use Rattle.rational.specs.Rational.{int};
-ghost use Rattle.upp_curve.specs.Normal.{Each};
+ghost use Rattle.affine_segment.specs.Pieces.{Each};
 ghost use Rattle.curve_leftover.specs.Moved.{moved_line, moved_piece, silence, moved_right, LineMoves, PieceMoves};
 
 use affine_segment::{Line, Piece};
-use fraction128::{Ext, Frac};
+use fraction128::{Ext, Frac, difference, is_less, product, sum};
 use rational::Extended;
 use std::alloc::{AllocError, Global};
-use upp_curve::{difference, is_less, product, sum};
 
 // A line that may be missing, moved right by theta.
 fn moved_line(line: Option<Line>, theta: Frac) -> Option<Line>

@@ -10,10 +10,9 @@ ghost use Rattle.curve_leftover.specs.Parts.{left_piece, StretchLeftFits};
 use crate::numbers::greater;
 use affine_segment::{Line, Piece};
 use curve_window::Both;
-use fraction128::{Ext, Frac};
+use fraction128::{Ext, Frac, difference};
 use rational::Extended;
 use std::alloc::{AllocError, Global};
-use upp_curve::difference;
 
 // What a has above b; 0 where it has nothing, or b is infinite.
 fn excess_value(a: Ext, b: Ext) -> Ext

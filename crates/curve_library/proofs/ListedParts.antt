@@ -15,11 +15,12 @@ use Rattle.upp_curve.specs.declared.curve.Tail.{Tail}
 use Rattle.upp_curve.specs.declared.curve.Tail.TheVariants.{Periodic, Affine, Infinite}
 use Rattle.upp_curve.specs.declared.own_limits.OverLimit.{OverLimit}
 use Rattle.upp_curve.specs.declared.own_limits.OverLimit.TheVariants.{TooMany, TooWide}
-use Rattle.upp_curve.specs.Reading.{read}
+use Rattle.affine_segment.specs.Reading.{read}
 use Rattle.upp_curve.specs.Curve.{SpecCurve, value_at, HasSameValues}
 use Rattle.min_plus.specs.Continuity.{AreNear, IsContinuous}
 use Rattle.min_plus.specs.Functions.{zero_q, IsRising}
-use Rattle.upp_curve.specs.Normal.{Each, IsRaw, IsNormal, RisesFrom}
+use Rattle.affine_segment.specs.Pieces.{Each, RisesFrom}
+use Rattle.upp_curve.specs.Normal.{IsRaw, IsNormal}
 use Rattle.upp_curve.specs.Limits.{own_gauge, own_sizes, own_end}
 use Rattle.upp_curve.specs.OwnLimits.{IsOver, IsWithinOwn}
 use Rattle.upp_curve.specs.Sized.{SpanStands, ValueStands, LineStands, IsValue}

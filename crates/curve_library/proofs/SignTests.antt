@@ -5,7 +5,7 @@ use Rattle.rational.specs.Rational.{ℚ, ◌≤ℚ◌, ◌<ℚ◌, neg_ℚ}
 use Rattle.rational.proofs.Linear.{with2}
 use Rattle.rational.proofs.Laws.{lt_irrefl, lt_le_trans}
 use Rattle.min_plus.specs.Functions.{zero_q}
-use Rattle.upp_curve.proofs.Compared.{not_less_out}
+use Rattle.rational.proofs.Compared.{not_less_out}
 use Rattle.curve_library.specs.Causes.{OneNegative}
 
 -- a test that is false leaves 0 or more

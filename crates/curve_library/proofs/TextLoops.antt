@@ -4,7 +4,7 @@ use Rattle.std.specs.List.{AllByRecursion}
 use Rattle.std.proofs.Common.{arith, get_or, drop, drop-cons, drop_of_length-le, append-nil, append_assoc, sym, ap, ap₂, ◌∙◌, refl, subst}
 use Rattle.rational.specs.Rational.{ℚ, ◌<ℚ◌}
 use Rattle.affine_segment.specs.declared.line.Piece.{Piece}
-use Rattle.upp_curve.specs.Normal.{RisesFrom}
+use Rattle.affine_segment.specs.Pieces.{RisesFrom}
 use Rattle.curve_library.specs.declared.texts.PieceText.{PieceText}
 use Rattle.curve_library.specs.Listed.{text_piece, text_pieces, TextFits, LineFits, last_from, last_start}
 

@@ -14,7 +14,7 @@ use Rattle.upp_curve.specs.declared.own_limits.OverLimit.TheVariants.{TooMany, T
 use Rattle.upp_curve.specs.Curve.{SpecCurve, value_at, HasSameValues}
 use Rattle.min_plus.specs.Continuity.{IsContinuous}
 use Rattle.min_plus.specs.Functions.{zero_q, IsRising}
-use Rattle.upp_curve.specs.Normal.{StartsAtZero}
+use Rattle.affine_segment.specs.Pieces.{StartsAtZero}
 use Rattle.upp_curve.specs.OwnLimits.{IsOver, IsWithinOwn}
 use Rattle.curve_library.specs.declared.texts.PieceText.{PieceText}
 use Rattle.curve_library.specs.declared.texts.TailText.{TailText}

@@ -5,10 +5,9 @@ ghost use Rattle.std.specs.List.{AllByRecursion};
 ghost use Rattle.rational.specs.Ratio.{IsSmall};
 ghost use Rattle.upp_curve.specs.Curve.{SpecCurve, value_at};
 ghost use Rattle.min_plus.specs.Functions.{zero_q, IsRising};
-ghost use Rattle.upp_curve.specs.Normal.{IsRaw, StartsAtZero};
-ghost use Rattle.curve_library.specs.Listed.{text_line, text_pieces, text_tail, last_start, listed_curve};
-ghost use Rattle.curve_library.specs.Listed.{TextFits, LineFits, IsPiecesFault, IsWellFormed, KeepsMade, KeepsShape};
-ghost use Rattle.curve_library.specs.Listed.{KeepsBoth, KeepsListed, ListsFirst};
+ghost use Rattle.upp_curve.specs.Normal.{IsRaw};
+ghost use Rattle.affine_segment.specs.Pieces.{StartsAtZero};
+ghost use Rattle.curve_library.specs.Listed.{text_line, text_pieces, text_tail, last_start, listed_curve, TextFits, LineFits, IsPiecesFault, IsWellFormed, KeepsMade, KeepsShape, KeepsBoth, KeepsListed, ListsFirst};
 ghost use Rattle.curve_library.specs.declared.texts.UseAs.TheVariants.{Service};
 
 use crate::fault::CurveFault;

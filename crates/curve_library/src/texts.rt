@@ -4,7 +4,7 @@ ghost use Rattle.std.specs.Prelude.{◌≡◌, ◌↔◌, IsTrue};
 ghost use Rattle.std.specs.List.{AllByRecursion};
 ghost use Rattle.rational.specs.Rational.{◌+ℚ◌, ◌≤ℚ◌, ◌<ℚ◌};
 ghost use Rattle.min_plus.specs.Functions.{zero_q};
-ghost use Rattle.upp_curve.specs.Normal.{RisesFrom, StartsAtZero};
+ghost use Rattle.affine_segment.specs.Pieces.{RisesFrom, StartsAtZero};
 ghost use Rattle.curve_library.specs.Listed.{IsNonnegText, IsNonnegTail, HasLength, StartsBelow, text_pieces};
 
 use crate::signs::{is_less, is_negative, is_positive};

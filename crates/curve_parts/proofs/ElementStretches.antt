@@ -14,7 +14,7 @@ use Rattle.affine_segment.specs.Elements.{Covers, element_value}
 use Rattle.affine_segment.proofs.ElementValues.{value_in, value_cases}
 use Rattle.upp_curve.specs.Limits.{Sizes}
 use Rattle.upp_curve.specs.Ahead.{GoesOn, IsBeforeNext, AtNext}
-use Rattle.upp_curve.specs.Readable.{LineFits}
+use Rattle.affine_segment.specs.Fits.{LineFits}
 use Rattle.curve_conv.specs.ElementRoom.{SumEnd, SumPoint, SumSegment}
 use Rattle.curve_conv.specs.SumWindows.{SumValueAt}
 use Rattle.curve_conv.proofs.PairWindows.{sum_value_on}

@@ -15,9 +15,9 @@ use Rattle.upp_curve.specs.declared.curve.Tail.{Tail}
 use Rattle.upp_curve.specs.declared.curve.Tail.TheVariants.{Periodic, Affine, Infinite}
 use Rattle.upp_curve.specs.Curve.{SpecCurve, value_at}
 use Rattle.upp_curve.specs.Limits.{Sizes}
-use Rattle.upp_curve.specs.Reading.{read}
+use Rattle.affine_segment.specs.Reading.{read, next_in, line_in}
 use Rattle.upp_curve.specs.Operand.{OperandLineAt}
-use Rattle.upp_curve.specs.Ahead.{GoesOn, IsBeforeNext, AtNext, HasWindow, IsTimeIn, TimesStand, GridValue, next_in, line_in}
+use Rattle.upp_curve.specs.Ahead.{GoesOn, IsBeforeNext, AtNext, HasWindow, IsTimeIn, TimesStand, GridValue}
 use Rattle.curve_conv.specs.ElementRoom.{WindowTime}
 use Rattle.curve_conv.specs.SumWindows.{SumStart}
 use Rattle.curve_parts.specs.Parts.{PartSplit, part_sum}

@@ -7,11 +7,11 @@ use Rattle.affine_segment.specs.declared.line.Piece.{Piece}
 use Rattle.affine_segment.specs.Values.{line_value}
 use Rattle.upp_curve.specs.declared.ahead.Stretch.{Stretch}
 use Rattle.upp_curve.specs.Limits.{Sizes}
-use Rattle.upp_curve.specs.Normal.{StartsAtZero}
-use Rattle.upp_curve.specs.Reading.{read, piece_in}
-use Rattle.upp_curve.specs.Readable.{LineFitsAt}
-use Rattle.upp_curve.specs.Ahead.{GoesOn, IsBeforeNext, AtNext, next_in, line_in}
-use Rattle.upp_curve.proofs.NormaliseLists.{each_map}
+use Rattle.affine_segment.specs.Pieces.{StartsAtZero}
+use Rattle.affine_segment.specs.Reading.{read, piece_in, next_in, line_in}
+use Rattle.affine_segment.specs.Fits.{LineFitsAt}
+use Rattle.upp_curve.specs.Ahead.{GoesOn, IsBeforeNext, AtNext}
+use Rattle.affine_segment.proofs.PieceOrder.{each_map}
 use Rattle.upp_curve.proofs.StretchPieces.{reads_on, next_past, next_all}
 use Rattle.curve_conv.specs.SumWindows.{SumValueAt, SumLineAt, SumPiece, SumWindow}
 use Rattle.curve_conv.proofs.SumSteps.{sum_read, sum_line_in, line_fits_at}

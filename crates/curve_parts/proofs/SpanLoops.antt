@@ -17,7 +17,7 @@ use Rattle.affine_segment.specs.Values.{line_value, line_at}
 use Rattle.upp_curve.specs.declared.ahead.Stretch.{Stretch}
 use Rattle.upp_curve.specs.Curve.{SpecCurve, value_at}
 use Rattle.upp_curve.specs.Limits.{Sizes}
-use Rattle.upp_curve.specs.Reading.{read}
+use Rattle.affine_segment.specs.Reading.{read}
 use Rattle.upp_curve.specs.Operand.{AreLimited, OperandLineAt}
 use Rattle.upp_curve.specs.Ahead.{GoesOn, IsBeforeNext, AtNext, HasWindow, IsTimeIn, TimesStand, GridValue}
 use Rattle.min_plus.specs.Convolution.{Split}

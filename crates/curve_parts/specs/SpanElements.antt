@@ -8,7 +8,7 @@ use Rattle.affine_segment.specs.declared.line.Piece.{Piece}
 use Rattle.affine_segment.specs.declared.element.Element.{Element}
 use Rattle.affine_segment.specs.Elements.{IsProper, Covers, level}
 use Rattle.upp_curve.specs.Limits.{Sizes}
-use Rattle.upp_curve.specs.Reading.{read}
+use Rattle.affine_segment.specs.Reading.{read}
 use Rattle.upp_curve.specs.Ahead.{IsBeforeNext}
 use Rattle.curve_conv.specs.PieceElements.{Among, ElementAt}
 use Rattle.curve_conv.specs.ElementRoom.{OperandElement}

@@ -4,14 +4,12 @@ ghost use Rattle.std.specs.Prelude.{◌≡◌, ◌↔◌, IsTrue};
 ghost use Rattle.rational.specs.Rational.{ℚ, ◌<ℚ◌};
 ghost use Rattle.rational.specs.Extended.{◌<ₑ◌};
 ghost use Rattle.affine_segment.specs.Values.{line_at};
-ghost use Rattle.affine_segment.specs.Elements.{IsProper, element_value, part_value, joined_value, PairSplit};
-ghost use Rattle.affine_segment.specs.Elements.{pair_sum, AreAdjoined};
+ghost use Rattle.affine_segment.specs.Elements.{IsProper, element_value, part_value, joined_value, PairSplit, pair_sum, AreAdjoined};
 ghost use Rattle.upp_curve.specs.Limits.{Sizes};
 ghost use Rattle.upp_curve.specs.Ahead.{GoesOn};
-ghost use Rattle.upp_curve.specs.Readable.{LineFits};
+ghost use Rattle.affine_segment.specs.Fits.{LineFits};
 ghost use Rattle.curve_conv.specs.ElementRoom.{OperandElement, SumElement, SumPart, SumJoined, HaveRoom};
-ghost use Rattle.curve_parts.specs.Stretches.{SumStretch, SumTimeIn, IsAhead, end_time, until_time, point_at};
-ghost use Rattle.curve_parts.specs.Stretches.{open_at, PartPair, part_pair_sum, IsProperPart, OperandPart};
+ghost use Rattle.curve_parts.specs.Stretches.{SumStretch, SumTimeIn, IsAhead, end_time, until_time, point_at, open_at, PartPair, part_pair_sum, IsProperPart, OperandPart};
 
 use crate::lower::{is_less, lower};
 use affine_segment::{Element, Joined, Line, value};

@@ -3,11 +3,11 @@
 ghost use Rattle.std.specs.Prelude.{◌≡◌, pos, List, ◌∷◌, None};
 ghost use Rattle.rational.specs.Rational.{ℚ, int, ◌≤ℚ◌, le_q};
 ghost use Rattle.affine_segment.specs.Values.{line_value};
-ghost use Rattle.upp_curve.specs.Reading.{piece_in, piece_value, read};
-ghost use Rattle.upp_curve.specs.Normal.{StartsAtZero};
-ghost use Rattle.upp_curve.specs.Readable.{LineFitsAt};
+ghost use Rattle.affine_segment.specs.Reading.{piece_in, piece_value, read, next_in};
+ghost use Rattle.affine_segment.specs.Pieces.{StartsAtZero};
+ghost use Rattle.affine_segment.specs.Fits.{LineFitsAt};
 ghost use Rattle.upp_curve.specs.Limits.{Sizes};
-ghost use Rattle.upp_curve.specs.Ahead.{GoesOn, next_in};
+ghost use Rattle.upp_curve.specs.Ahead.{GoesOn};
 ghost use Rattle.curve_conv.specs.SumWindows.{SumWindow};
 ghost use Rattle.curve_parts.specs.Stretches.{SumStretch, SumTimeIn};
 

@@ -6,10 +6,9 @@ use Rattle.rational.specs.Extended.{Ext}
 use Rattle.rational.proofs.Laws.{antisym, le_or_lt, lt_irrefl, lt_le_trans, lt_trans}
 use Rattle.affine_segment.specs.declared.line.Piece.{Piece}
 use Rattle.affine_segment.specs.Values.{line_value}
-use Rattle.upp_curve.specs.Reading.{read, piece_in, piece_value}
-use Rattle.upp_curve.specs.Normal.{Each, RisesFrom, StartsAtZero}
-use Rattle.upp_curve.proofs.PieceIn.{piece_in_end, piece_in_go, piece_in_stop}
-use Rattle.upp_curve.proofs.FirstStretch.{value_past, value_at_start}
+use Rattle.affine_segment.specs.Reading.{read, piece_in, piece_value}
+use Rattle.affine_segment.specs.Pieces.{Each, RisesFrom, StartsAtZero}
+use Rattle.affine_segment.proofs.PieceIn.{piece_in_end, piece_in_go, piece_in_stop, value_past, value_at_start}
 use Rattle.curve_window.proofs.Surgery.{read_middle}
 
 -- ---- appended

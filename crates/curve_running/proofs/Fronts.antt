@@ -5,9 +5,9 @@ use Rattle.rational.specs.Rational.{ℚ, ◌≤ℚ◌, ◌<ℚ◌, int}
 use Rattle.rational.proofs.Laws.{le_or_lt, lt_irrefl, lt_le_trans, le_lt_trans}
 use Rattle.affine_segment.specs.declared.line.Piece.{Piece}
 use Rattle.upp_curve.specs.Bends.{OnlyBend, BendAfter}
-use Rattle.upp_curve.specs.Reading.{read, piece_in, piece_value}
-use Rattle.upp_curve.specs.Normal.{Each, RisesFrom, StartsAtZero}
-use Rattle.upp_curve.proofs.PieceIn.{piece_in_end, piece_in_go, piece_in_stop}
+use Rattle.affine_segment.specs.Reading.{read, piece_in, piece_value}
+use Rattle.affine_segment.specs.Pieces.{Each, RisesFrom, StartsAtZero}
+use Rattle.affine_segment.proofs.PieceIn.{piece_in_end, piece_in_go, piece_in_stop}
 use Rattle.curve_window.proofs.Surgery.{one_more}
 use Rattle.curve_running.specs.Runs.{IsFrontBefore}
 

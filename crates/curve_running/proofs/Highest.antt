@@ -12,8 +12,8 @@ use Rattle.rational.proofs.Stretch.{line_supremum}
 use Rattle.affine_segment.specs.declared.line.Line.{Line}
 use Rattle.affine_segment.specs.declared.line.Piece.{Piece}
 use Rattle.affine_segment.specs.Values.{line_at}
-use Rattle.upp_curve.specs.Reading.{read}
-use Rattle.upp_curve.specs.Readable.{LineFits}
+use Rattle.affine_segment.specs.Reading.{read}
+use Rattle.affine_segment.specs.Fits.{LineFits}
 use Rattle.curve_running.specs.declared.stretch.Stretch.{Stretch}
 use Rattle.curve_running.specs.Scans.{start_or, Until, IsStretch, IsWindow, IsLevel, IsSupremumIn}
 use Rattle.curve_running.specs.Between.{FitsAtBoth, IsLevelBetween, Above, IsHighestIn}

@@ -16,8 +16,8 @@ use Rattle.affine_segment.specs.declared.line.Line.{Line}
 use Rattle.affine_segment.specs.declared.line.Piece.{Piece}
 use Rattle.affine_segment.specs.Values.{line_at, line_value}
 use Rattle.upp_curve.specs.Bends.{LineOn, NumbersOn, SlopeTurns, BendAfter, OnlyBend}
-use Rattle.upp_curve.specs.Normal.{Each, HasStart, StartsAtZero, RisesFrom}
-use Rattle.upp_curve.specs.Readable.{EachFits, LineFitsTo, start_after}
+use Rattle.affine_segment.specs.Pieces.{Each, HasStart, StartsAtZero, RisesFrom, start_after}
+use Rattle.upp_curve.specs.Readable.{EachFits, LineFitsTo}
 use Rattle.upp_curve.specs.Limits.{Sizes}
 use Rattle.upp_curve.specs.Sized.{grid_of, times_largest, IsSlope, AreSizes}
 use Rattle.upp_curve.specs.Operand.{AreLimited, OperandLine, OperandLineAt, OperandPiece, OperandPieces, answer_room}

@@ -7,11 +7,12 @@ use Rattle.rational.proofs.Laws.{le_refl, le_of_lt}
 use Rattle.affine_segment.specs.declared.line.Line.{Line}
 use Rattle.affine_segment.specs.declared.line.Piece.{Piece}
 use Rattle.affine_segment.specs.Values.{line_at, line_value}
-use Rattle.upp_curve.specs.Reading.{read}
-use Rattle.upp_curve.specs.Normal.{Each, HasStart, RisesFrom, StartsAtZero}
-use Rattle.upp_curve.specs.Readable.{EachFits, LineFitsAt, LineFits, LineFitsTo, start_after}
+use Rattle.affine_segment.specs.Reading.{read}
+use Rattle.affine_segment.specs.Pieces.{Each, HasStart, RisesFrom, StartsAtZero, start_after}
+use Rattle.upp_curve.specs.Readable.{EachFits, LineFitsTo}
+use Rattle.affine_segment.specs.Fits.{LineFitsAt, LineFits}
 use Rattle.upp_curve.specs.Shapes.{IsFinitePiece}
-use Rattle.upp_curve.proofs.FirstStretch.{value_past, value_at_start}
+use Rattle.affine_segment.proofs.PieceIn.{value_past, value_at_start}
 use Rattle.curve_window.proofs.Surgery.{BeforeNext, read_middle, rest_rises, start_nonneg, before_own}
 use Rattle.curve_running.specs.Scans.{start_or, IsWindow, ScanFits, IsLevel, HasLine, IsStretch}
 

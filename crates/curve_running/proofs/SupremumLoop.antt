@@ -8,8 +8,8 @@ use Rattle.rational.specs.declared.Extended.TheVariants.{Fin}
 use Rattle.rational.proofs.Laws.{lt_trans}
 use Rattle.affine_segment.specs.declared.line.Line.{Line}
 use Rattle.affine_segment.specs.declared.line.Piece.{Piece}
-use Rattle.upp_curve.specs.Reading.{read}
-use Rattle.upp_curve.specs.Normal.{Each, StartsAtZero}
+use Rattle.affine_segment.specs.Reading.{read}
+use Rattle.affine_segment.specs.Pieces.{Each, StartsAtZero}
 use Rattle.min_plus.specs.Running.{IsRunningSupremum}
 use Rattle.curve_window.proofs.Surgery.{one_more}
 use Rattle.curve_running.specs.declared.stretch.Stretch.{Stretch}

@@ -16,10 +16,10 @@ use Rattle.rational.proofs.Bounds.{same_supremum}
 use Rattle.rational.proofs.ExtendedOrder.{same_le_ext}
 use Rattle.affine_segment.specs.declared.line.Piece.{Piece}
 use Rattle.upp_curve.specs.declared.op_kind.OpKind.TheVariants.{RunSup}
-use Rattle.upp_curve.specs.Reading.{read}
+use Rattle.affine_segment.specs.Reading.{read}
 use Rattle.upp_curve.specs.Curve.{SpecCurve, value_at, repeated}
 use Rattle.min_plus.specs.Functions.{zero_q, UpTo, IsFinite, IsNonnegative}
-use Rattle.upp_curve.specs.Normal.{Each}
+use Rattle.affine_segment.specs.Pieces.{Each}
 use Rattle.upp_curve.specs.Normalising.{HasValues}
 use Rattle.min_plus.specs.Running.{IsRunningSupremum}
 use Rattle.upp_curve.specs.Steady.{Repeats, steady, rise_over}

@@ -6,7 +6,7 @@ use Rattle.rational.specs.declared.Extended.TheVariants.{Fin}
 use Rattle.affine_segment.specs.declared.line.Line.{Line}
 use Rattle.affine_segment.specs.declared.line.Piece.{Piece}
 use Rattle.affine_segment.specs.Values.{line_at}
-use Rattle.upp_curve.specs.Readable.{LineFits}
+use Rattle.affine_segment.specs.Fits.{LineFits}
 use Rattle.curve_running.specs.Scans.{IsLevel, HasLine}
 
 -- each line is readable at both times

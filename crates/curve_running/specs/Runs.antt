@@ -5,7 +5,7 @@ use Rattle.affine_segment.specs.declared.line.Piece.{Piece}
 use Rattle.upp_curve.specs.declared.op_kind.OpKind.TheVariants.{RunSup}
 use Rattle.upp_curve.specs.Curve.{SpecCurve, value_at}
 use Rattle.min_plus.specs.Functions.{zero_q}
-use Rattle.upp_curve.specs.Normal.{Each}
+use Rattle.affine_segment.specs.Pieces.{Each}
 use Rattle.upp_curve.specs.Periods.{own_period}
 use Rattle.min_plus.specs.Running.{IsRunningSupremum, IsRunningInfimum}
 use Rattle.upp_curve.specs.Steady.{steady, rise_over}

@@ -10,9 +10,10 @@ use Rattle.affine_segment.specs.declared.line.Piece.{Piece}
 use Rattle.fraction128.specs.declared.fault.Wide.{Wide}
 use Rattle.affine_segment.specs.Values.{line_at, line_value}
 use Rattle.affine_segment.specs.Steps.{IsWideCross}
-use Rattle.upp_curve.specs.Reading.{read}
-use Rattle.upp_curve.specs.Normal.{Each, HasStart, StartsAtZero}
-use Rattle.upp_curve.specs.Readable.{EachFits, LineFits}
+use Rattle.affine_segment.specs.Reading.{read}
+use Rattle.affine_segment.specs.Pieces.{Each, HasStart, StartsAtZero}
+use Rattle.upp_curve.specs.Readable.{EachFits}
+use Rattle.affine_segment.specs.Fits.{LineFits}
 use Rattle.upp_curve.specs.Shapes.{IsFinitePiece}
 use Rattle.curve_running.specs.declared.stretch.Stretch.{Stretch}
 

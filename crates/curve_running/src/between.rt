@@ -4,7 +4,7 @@ ghost use Rattle.std.specs.Prelude.{◌≡◌, ◌+◌, ◌<◌, pos, length, dr
 ghost use Rattle.rational.specs.Rational.{ℚ, int, ◌≤ℚ◌, ◌<ℚ◌};
 ghost use Rattle.rational.specs.Extended.{◌≤ₑ◌};
 ghost use Rattle.rational.specs.declared.Extended.TheVariants.{Fin};
-ghost use Rattle.upp_curve.specs.Reading.{read};
+ghost use Rattle.affine_segment.specs.Reading.{read};
 ghost use Rattle.curve_running.specs.Scans.{start_or, IsWindow, ScanFits, IsSupremumIn};
 ghost use Rattle.curve_running.specs.Between.{FitsAtBoth, IsLevelBetween, IsHighestIn};
 

@@ -11,12 +11,12 @@ ghost use Rattle.curve_running.specs.Runs.{RunsFrom, IsFrontBefore};
 use crate::infimum::infimum_scan;
 use affine_segment::Piece;
 use curve_frame::{Frame, answer, rise_over, within};
-use fraction128::Frac;
+use fraction128::{Frac, sum};
 use std::alloc::{AllocError, Global};
 use std::cmp::Ordering;
 use std::sync::ledger::Ledger;
 use steps::Steps;
-use upp_curve::{Curve, OpFault, OpKind, sum};
+use upp_curve::{Curve, OpFault, OpKind};
 
 /// The pieces up to the first that starts at `end` or later.
 pub fn front_before(alloc: Global, pieces: &[Piece], end: Frac) -> Result<Vec<Piece>, AllocError>

@@ -4,15 +4,15 @@ ghost use Rattle.std.specs.Prelude.{◌≡◌, ◌<◌, pos};
 ghost use Rattle.rational.specs.Rational.{int, ◌<ℚ◌, ◌+ℚ◌};
 ghost use Rattle.rational.specs.Ratio.{SumFits};
 ghost use Rattle.upp_curve.specs.declared.op_kind.OpKind.TheVariants.{RunSup};
-ghost use Rattle.upp_curve.specs.Reading.{read};
+ghost use Rattle.affine_segment.specs.Reading.{read};
 ghost use Rattle.upp_curve.specs.Windows.{IsLeast, Meets};
 ghost use Rattle.curve_running.specs.Periods.{IsCover, CoverFits, IsFirstPeriod, IsCovering, IsSupremumCall, IsCoveredAfter};
 
 use crate::between::supremum_between;
 use affine_segment::Piece;
-use fraction128::Frac;
+use fraction128::{Frac, sum};
 use std::cmp::Ordering;
-use upp_curve::{Curve, sum};
+use upp_curve::Curve;
 
 // The least number of rises that take `once` up to `early`.
 fn cover(early: Frac, once: Frac, rise: Frac) -> u128

@@ -4,7 +4,7 @@ ghost use Rattle.std.specs.Prelude.{◌≡◌, ◌<◌, length, drop, Some};
 ghost use Rattle.rational.specs.MinMax.{min_q, max_q};
 ghost use Rattle.rational.specs.declared.Extended.TheVariants.{Fin};
 ghost use Rattle.affine_segment.specs.Values.{line_at};
-ghost use Rattle.upp_curve.specs.Readable.{LineFits};
+ghost use Rattle.affine_segment.specs.Fits.{LineFits};
 ghost use Rattle.upp_curve.specs.Shapes.{IsNumber, IsLine};
 ghost use Rattle.curve_running.specs.Scans.{start_or, IsWindow, ScanFits, IsStretch};
 

@@ -15,11 +15,11 @@ ghost use Rattle.curve_running.specs.Runs.{RunsUpTo, IsNumberOf};
 use crate::periods::supremum_periods;
 use crate::supremum::supremum_scan;
 use curve_frame::{Frame, answer, first_window, rise_over, within};
-use fraction128::Frac;
+use fraction128::{Frac, difference};
 use std::alloc::{AllocError, Global};
 use std::sync::ledger::Ledger;
 use steps::Steps;
-use upp_curve::{Curve, OpFault, OpKind, difference};
+use upp_curve::{Curve, OpFault, OpKind};
 
 // The least number of periods of the call; none where already the window without any period is too wide.
 fn least_number(f: &Curve) -> Option<u128>

@@ -12,10 +12,10 @@ use Rattle.rational.proofs.ExtendedOrder.{min_ext_of_le, min_ext_comm, max_ext_o
 use Rattle.affine_segment.specs.declared.line.Line.{Line}
 use Rattle.affine_segment.specs.declared.line.Piece.{Piece}
 use Rattle.affine_segment.specs.Values.{line_at, line_value}
-use Rattle.upp_curve.specs.Reading.{read, piece_value}
-use Rattle.upp_curve.specs.Normal.{RisesFrom, StartsAtZero}
+use Rattle.affine_segment.specs.Reading.{read, piece_value}
+use Rattle.affine_segment.specs.Pieces.{RisesFrom, StartsAtZero}
 use Rattle.min_plus.specs.Pointwise.{excess}
-use Rattle.upp_curve.proofs.FirstStretch.{value_past, value_at_start}
+use Rattle.affine_segment.proofs.PieceIn.{value_past, value_at_start}
 use Rattle.curve_window.specs.declared.stretch.Both.{Both}
 use Rattle.curve_window.specs.declared.made.Made.{Made}
 use Rattle.curve_window.specs.declared.made.Made.TheVariants.{Lower, Upper, Excess}

@@ -3,7 +3,7 @@ use Rattle.std.specs.Prelude.{◌≡◌, pos, List, [], ◌∷◌}
 use Rattle.std.proofs.Common.{arith, sym, ap₂, ◌∙◌, subst}
 use Rattle.rational.specs.Rational.{ℚ, ◌≤ℚ◌, ◌<ℚ◌, int}
 use Rattle.affine_segment.specs.declared.line.Piece.{Piece}
-use Rattle.upp_curve.specs.Reading.{read}
+use Rattle.affine_segment.specs.Reading.{read}
 use Rattle.upp_curve.specs.Limits.{Sizes}
 use Rattle.curve_window.specs.declared.stretch.Both.{Both}
 use Rattle.curve_window.specs.declared.made.Made.{Made}

@@ -4,9 +4,9 @@ use Rattle.std.proofs.Common.{arith, get_or, drop, sym, ap, ◌∙◌, refl, sub
 use Rattle.rational.specs.Rational.{ℚ, ◌<ℚ◌}
 use Rattle.rational.proofs.Laws.{le_of_lt, le_trans}
 use Rattle.affine_segment.specs.declared.line.Piece.{Piece}
-use Rattle.upp_curve.specs.Normal.{HasStart, RisesFrom, StartsAtZero}
-use Rattle.upp_curve.specs.Readable.{LineFitsAt}
-use Rattle.upp_curve.specs.Reading.{read}
+use Rattle.affine_segment.specs.Pieces.{HasStart, RisesFrom, StartsAtZero}
+use Rattle.affine_segment.specs.Fits.{LineFitsAt}
+use Rattle.affine_segment.specs.Reading.{read}
 use Rattle.curve_window.specs.declared.stretch.Both.{Both}
 use Rattle.curve_window.specs.declared.stretch.Walk.{Walk}
 use Rattle.curve_window.specs.Stretches.{cut_at, lefts, rights, EachBoth, IsBothOf, IsOverlay, CutsFit}

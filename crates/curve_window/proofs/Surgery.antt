@@ -5,10 +5,9 @@ use Rattle.rational.specs.Rational.{ℚ, ◌≤ℚ◌, ◌<ℚ◌, int}
 use Rattle.rational.proofs.Linear.{with3}
 use Rattle.rational.proofs.Laws.{antisym, le_refl, le_of_lt, le_or_lt, le_trans, lt_le_trans}
 use Rattle.affine_segment.specs.declared.line.Piece.{Piece}
-use Rattle.upp_curve.specs.Reading.{read, piece_in, piece_value}
-use Rattle.upp_curve.specs.Normal.{RisesFrom, StartsAtZero}
-use Rattle.upp_curve.proofs.PieceIn.{piece_in_end, piece_in_go, piece_in_stop}
-use Rattle.upp_curve.proofs.FirstStretch.{value_past, value_at_start}
+use Rattle.affine_segment.specs.Reading.{read, piece_in, piece_value}
+use Rattle.affine_segment.specs.Pieces.{RisesFrom, StartsAtZero}
+use Rattle.affine_segment.proofs.PieceIn.{piece_in_end, piece_in_go, piece_in_stop, value_past, value_at_start}
 use Rattle.curve_window.specs.Stretches.{cut_at, line_in}
 
 -- ---- appending

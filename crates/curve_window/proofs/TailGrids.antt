@@ -7,15 +7,16 @@ use Rattle.rational.specs.Rational.{ℚ, ◌+ℚ◌, ◌≤ℚ◌, ◌<ℚ◌, i
 use Rattle.rational.specs.Grid.{Whole}
 use Rattle.rational.specs.Extended.{Ext}
 use Rattle.affine_segment.specs.declared.line.Piece.{Piece}
-use Rattle.upp_curve.specs.Reading.{read}
+use Rattle.affine_segment.specs.Reading.{read}
 use Rattle.upp_curve.specs.Curve.{repeated}
-use Rattle.upp_curve.specs.Normal.{Each, FitsPeriod}
+use Rattle.affine_segment.specs.Pieces.{Each}
+use Rattle.upp_curve.specs.Normal.{FitsPeriod}
 use Rattle.upp_curve.specs.Normalising.{OnGridsUnlessLine}
 use Rattle.upp_curve.specs.Limits.{Sizes}
 use Rattle.upp_curve.specs.Sized.{grid_of}
 use Rattle.upp_curve.proofs.NarrowSizes.{slope_time_divides}
 use Rattle.upp_curve.proofs.NormaliseGrids.{PieceOn, raw_on}
-use Rattle.upp_curve.proofs.NormaliseLists.{each_map}
+use Rattle.affine_segment.proofs.PieceOrder.{each_map}
 use Rattle.upp_curve.proofs.Bends.{bends_on}
 use Rattle.curve_window.specs.Pointwise.{IsSumPiece, IsWindowSum}
 use Rattle.curve_window.specs.Operands.{AreOperands, IsMadeOf}

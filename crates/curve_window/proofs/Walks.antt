@@ -4,9 +4,9 @@ use Rattle.std.proofs.Common.{sym, ap, ◌∙◌, refl, subst}
 use Rattle.rational.specs.Rational.{ℚ, ◌≤ℚ◌, ◌<ℚ◌, int}
 use Rattle.rational.proofs.Laws.{le_refl}
 use Rattle.affine_segment.specs.declared.line.Piece.{Piece}
-use Rattle.upp_curve.specs.Reading.{read}
-use Rattle.upp_curve.specs.Normal.{StartsAtZero}
-use Rattle.upp_curve.proofs.FirstStretch.{value_at_start}
+use Rattle.affine_segment.specs.Reading.{read}
+use Rattle.affine_segment.specs.Pieces.{StartsAtZero}
+use Rattle.affine_segment.proofs.PieceIn.{value_at_start}
 use Rattle.curve_window.specs.Stretches.{cut_at, line_in, IsPieceOf}
 use Rattle.curve_window.proofs.Surgery.{one_more, BeforeNext, read_middle, line_middle, rest_rises, start_nonneg, before_own, cut_reads, cut_lines, cut_rises}
 

@@ -5,9 +5,9 @@ use Rattle.rational.specs.Rational.{ℚ, ◌≤ℚ◌, int}
 use Rattle.affine_segment.specs.declared.line.Line.{Line}
 use Rattle.affine_segment.specs.declared.line.Piece.{Piece}
 use Rattle.affine_segment.specs.Values.{line_value}
-use Rattle.upp_curve.specs.Reading.{read, piece_in}
-use Rattle.upp_curve.specs.Normal.{HasStart, StartsAtZero}
-use Rattle.upp_curve.specs.Readable.{LineFitsAt}
+use Rattle.affine_segment.specs.Reading.{read, piece_in}
+use Rattle.affine_segment.specs.Pieces.{HasStart, StartsAtZero}
+use Rattle.affine_segment.specs.Fits.{LineFitsAt}
 use Rattle.curve_window.specs.declared.stretch.Both.{Both}
 
 -- a piece cut at x: from there on it goes on with its line

@@ -2,7 +2,7 @@
 use Rattle.std.specs.Prelude.{◌≡◌, ℕ, ◌+◌, List, ◌⊎◌, Some, IfSome, slice_get}
 use Rattle.rational.specs.Rational.{ℚ, ◌<ℚ◌}
 use Rattle.affine_segment.specs.declared.line.Piece.{Piece}
-use Rattle.upp_curve.specs.Readable.{LineFitsAt}
+use Rattle.affine_segment.specs.Fits.{LineFitsAt}
 use Rattle.curve_window.specs.declared.stretch.Walk.{Walk}
 use Rattle.curve_window.specs.Stretches.{cut_at}
 

@@ -1,7 +1,7 @@
 //! The lower of two windows of any pieces.
 
 ghost use Rattle.std.specs.Prelude.{IfOk};
-ghost use Rattle.upp_curve.specs.Normal.{StartsAtZero};
+ghost use Rattle.affine_segment.specs.Pieces.{StartsAtZero};
 ghost use Rattle.curve_window.specs.Stretches.{CutsFit};
 ghost use Rattle.curve_window.specs.Lower.{LowerFits, IsLowerOf};
 

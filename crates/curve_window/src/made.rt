@@ -12,11 +12,10 @@ ghost use Rattle.curve_window.specs.Made.{made_value, made_line, line_apart, zer
 use crate::lie::lie_of;
 use crate::stretch::{Both, cut};
 use affine_segment::{Line, Piece};
-use fraction128::{Ext, Frac};
+use fraction128::{Ext, Frac, difference};
 use rational::Extended;
 use std::alloc::{AllocError, Global};
 use std::cmp::Ordering;
-use upp_curve::difference;
 
 /// What is made of two windows.
 #[derive(Debug, Clone, Copy)]

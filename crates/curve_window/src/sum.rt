@@ -4,17 +4,16 @@ ghost use Rattle.std.specs.Prelude.{◌≡◌, ◌+◌, ◌≤◌, pos, length, 
 ghost use Rattle.rational.specs.Rational.{ℚ, int, ◌≤ℚ◌, ◌+ℚ◌};
 ghost use Rattle.rational.specs.Ratio.{SumFits};
 ghost use Rattle.rational.specs.Extended.{◌+ₑ◌};
-ghost use Rattle.upp_curve.specs.Reading.{read};
-ghost use Rattle.upp_curve.specs.Normal.{StartsAtZero};
+ghost use Rattle.affine_segment.specs.Reading.{read};
+ghost use Rattle.affine_segment.specs.Pieces.{StartsAtZero};
 ghost use Rattle.curve_window.specs.Stretches.{CutsFit, EachBoth};
 ghost use Rattle.curve_window.specs.Pointwise.{mapped, sum_line, sum_piece, ValueSumFits, LineSumFits, StretchSumFits, SumsFit, IsWindowSum};
 
 use crate::stretch::{Both, overlay};
 use affine_segment::{Line, Piece};
-use fraction128::Ext;
+use fraction128::{Ext, sum};
 use rational::Extended;
 use std::alloc::{AllocError, Global};
-use upp_curve::sum;
 
 fn sum_values(a: Ext, b: Ext) -> Ext
     requires { ValueSumFits a b }

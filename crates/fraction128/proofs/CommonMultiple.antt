@@ -17,7 +17,8 @@ use Rattle.rational.proofs.Multiples.{lcm_pos, lcm_left, lcm_right, lcm_least}
 use Rattle.fraction128.specs.Parts.{AreLowest}
 use Rattle.fraction128.specs.Multiple.{IsMultiple, IsLeastMultiple, common_multiple}
 use Rattle.fraction128.proofs.Coprime.{coprime_in, coprime_out, coprime_parts, coprime_turned, divides_rest, part_divides}
-use Rattle.fraction128.proofs.Values.{value_parts, parts_of, num_above_q}
+use Rattle.fraction128.proofs.Values.{value_parts, parts_of}
+use Rattle.rational.proofs.Laws.{num_pos}
 
 -- the least common multiple of the numerators has nothing in common with the common divisor of the denominators
 pub multiple_lowest : (p q r s : ℕ) → gcd p q ≡ 1 → gcd r s ≡ 1 → gcd (lcm p r) (gcd q s) ≡ 1
@@ -132,7 +133,7 @@ pub common_multiple_least : (x y : ℚ) → int (pos 0) <ℚ x → int (pos 0) <
 unfolding common_multiple
 common_multiple_least x y h k =
     let m = over (pos (lcm (nat_abs x.num) (nat_abs y.num))) (gcd (den x) (den y)) in
-    let by_numbers = numbers_least x.num y.num x.pre y.pre _ x.lowest y.lowest (num_above_q x h) (num_above_q y k) refl in
+    let by_numbers = numbers_least x.num y.num x.pre y.pre _ x.lowest y.lowest (num_pos x h) (num_pos y k) refl in
     subst (λ v. IsLeastMultiple x v m) (sym (frac_self y)) (subst (λ v. IsLeastMultiple v (frac y.num y.pre) m) (sym (frac_self x)) by_numbers)
 
 pub multiple_as_lowest : (p q r s t g : ℕ) → AreLowest (pos p) q → AreLowest (pos r) s → t ≡ lcm p r → g ≡ gcd q s → t < 2 ^ 127 → AreLowest (pos t) g

@@ -9,7 +9,7 @@ use Rattle.rational.specs.MinMax.{min_q, max_q}
 use Rattle.rational.proofs.Laws.{le_refl, le_of_lt}
 use Rattle.rational.proofs.Comparison.{cmp_ranks, cmp_self}
 use Rattle.rational.proofs.MinMax.{min_q_left, min_q_right, max_q_left, max_q_right}
-use Rattle.fraction128.specs.Order.{same_q}
+use Rattle.fraction128.specs.Order.{same_q, same_out}
 
 -- the order of two, as one of three facts
 abbrev Ranked : Ordering → ℚ → ℚ → Type 0
@@ -84,14 +84,6 @@ pub not_at_least_out : (x y : ℚ) → is_ge (cmp_q x y) ≡ false → x <ℚ y
 not_at_least_out x y e = ge_false (cmp_q x y) x y (cmp_ranks x y) e
 
 -- ---- `==`
-pub same_out : (x y : ℚ) → same_q x y ≡ true → x ≡ y
-same_out x y e = go (cmp_q x y) (cmp_ranks x y) e
-  where
-    go : (r : Ordering) → Ranked r x y → is_eq r ≡ true → x ≡ y
-    go Less h e = absurd (true≢false (sym e))
-    go Equal h e = h
-    go Greater h e = absurd (true≢false (sym e))
-
 pub other_out : (x y : ℚ) → same_q x y ≡ false → x ≢ y
 other_out x y e h = true≢false (sym (ap is_eq (cmp_self x)) ∙ ap (same_q x) h ∙ e)
 

@@ -9,7 +9,7 @@ use Rattle.rational.specs.Rational.{ℚ, den, int, ◌<ℚ◌}
 use Rattle.rational.specs.Fractions.{frac_self}
 use Rattle.rational.specs.Ratio.{ratio, with_sign, IsSmall}
 use Rattle.rational.proofs.Over.{lt_frac}
-use Rattle.rational.proofs.Laws.{num_some as num_some_q}
+use Rattle.rational.proofs.Laws.{num_some as num_some_q, num_pos}
 use Rattle.rational.proofs.Parts.{lowest_parts}
 use Rattle.fraction128.specs.Parts.{AreLowest}
 use Rattle.fraction128.proofs.Coprime.{gcd_one}
@@ -50,11 +50,8 @@ one_sign (negsuc t) m n = refl
 pub num_some : (n : ℤ) (d : ℕ) (x : ℚ) → AreLowest n d → ratio n (pos d) ≡ x → x ≢ int (pos 0) → n ≢ pos 0
 num_some n d x h e some p = num_some_q x some ((parts_of n d x h e).0 ∙ p)
 
-pub num_above_q : (x : ℚ) → int (pos 0) <ℚ x → pos 0 <ℤ x.num
-num_above_q x l = let r = (lt_frac (pos 0) 0 x.num x.pre).0 (subst (λ y. int (pos 0) <ℚ y) (frac_self x) l) in omega (arith, ints)
-
 pub num_above : (n : ℤ) (d : ℕ) (x : ℚ) → AreLowest n d → ratio n (pos d) ≡ x → int (pos 0) <ℚ x → pos 0 <ℤ n
-num_above n d x h e l = subst (λ z. pos 0 <ℤ z) (parts_of n d x h e).0 (num_above_q x l)
+num_above n d x h e l = subst (λ z. pos 0 <ℤ z) (parts_of n d x h e).0 (num_pos x l)
 
 -- the numerator is one of the code's numbers
 pub num_fits : {n : ℤ} {d : ℕ} → AreLowest n d → SFits w128 n

@@ -37,17 +37,17 @@ cmp_q_total = record {
   congr = λ x y z p. ap (λ v. cmp_q v z) (cmp_equal x y p);
 }
 
-same_in : (x y : ℚ) → same_q x y ≡ true → x ≡ y
-same_in x y e = cmp_equal x y ((Equal-is (cmp_q x y)).0 e)
+pub same_out : (x y : ℚ) → same_q x y ≡ true → x ≡ y
+same_out x y e = cmp_equal x y ((Equal-is (cmp_q x y)).0 e)
 
 turn : (x y : ℚ) → same_q x y ≡ true → same_q y x ≡ true
-turn x y e = subst (λ z. same_q z x ≡ true) (same_in x y e) (ap is_eq (cmp_self x))
+turn x y e = subst (λ z. same_q z x ≡ true) (same_out x y e) (ap is_eq (cmp_self x))
 
 pub same_q_equivalence : IsEquivalence same_q
 same_q_equivalence = record {
   refl = λ x. ap is_eq (cmp_self x);
   symm = λ x y. both_ways (same_q x y) (same_q y x) (turn x y) (turn y x);
-  congr = λ x y z e. ap (λ v. same_q v z) (same_in x y e);
+  congr = λ x y z e. ap (λ v. same_q v z) (same_out x y e);
 }
 
 pub same_q_partial : IsPartialEquivalence same_q

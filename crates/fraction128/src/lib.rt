@@ -3,16 +3,21 @@
 
 mod division;
 mod fault;
+mod fitting;
 mod fraction;
 pub mod laws;
 mod multiple;
 mod order;
-mod product;
-mod sum;
+mod products;
+mod sums;
 #[cfg(test)]
 mod tests;
 mod text;
 
 pub use division::{gcd_of, least_common_multiple};
 pub use fault::{FracFault, FracText, Op, Wide};
+pub use fitting::{
+    difference, greater, greater_value, is_less, lesser, lesser_value, product, quotient, sum,
+};
 pub use fraction::{Ext, Frac};
+pub use text::read_digits;

@@ -9,7 +9,7 @@ ghost use Rattle.fraction128.specs.Parts.{AreLowest};
 
 use crate::division::{gcd_of, quotient};
 use crate::fraction::Frac;
-use crate::product::product;
+use crate::products::product;
 
 /// The least number above 0 that is a whole multiple of both p / q and r / s, which are in lowest terms:
 /// the least common multiple of the numerators over the greatest common divisor of the denominators.

@@ -78,7 +78,7 @@ fn find_slash(bytes: &[u8]) -> Option<usize>
 
 /// The number that digits write, or 2^128 - 1 where it is above that; `None` where something else than
 /// digits is there, or nothing.
-fn read_digits(digits: &[u8]) -> Option<u128>
+pub fn read_digits(digits: &[u8]) -> Option<u128>
     ensures { MatchOption result (is_numeral digits.now ≡ false)
         (λ n. (is_numeral digits.now ≡ true) × (n ≡ cap (digits_value 10 digits.now))) }
 {

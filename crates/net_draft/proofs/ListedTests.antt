@@ -12,7 +12,8 @@ use Rattle.upp_curve.specs.declared.curve.Tail.{Tail}
 use Rattle.upp_curve.specs.declared.curve.Tail.TheVariants.{Periodic, Affine, Infinite}
 use Rattle.upp_curve.specs.Curve.{SpecCurve, value_at}
 use Rattle.min_plus.specs.Functions.{zero_q, IsRising}
-use Rattle.upp_curve.specs.Normal.{RisesFrom, StartsAtZero, IsRaw}
+use Rattle.affine_segment.specs.Pieces.{RisesFrom, StartsAtZero}
+use Rattle.upp_curve.specs.Normal.{IsRaw}
 use Rattle.upp_curve.specs.Shapes.{LineRises, EndsBelow, PieceRises, PiecesRise}
 use Rattle.min_plus.specs.Continuity.{IsContinuous}
 use Rattle.upp_curve.specs.JoinedPieces.{EndsAtValue, PieceJoins, PiecesJoin}

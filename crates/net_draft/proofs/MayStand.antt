@@ -13,8 +13,8 @@ use Rattle.upp_curve.specs.Curve.{SpecCurve, value_at, HasSameValues}
 use Rattle.min_plus.specs.Continuity.{IsContinuous}
 use Rattle.min_plus.specs.Functions.{zero_q, IsFinite, IsRising, IsNonnegative}
 use Rattle.upp_curve.specs.Kinds.{bucket, stair, rate_latency, gate}
-use Rattle.upp_curve.specs.Normal.{Each, RisesFrom}
-use Rattle.upp_curve.specs.Reading.{read}
+use Rattle.affine_segment.specs.Pieces.{Each, RisesFrom}
+use Rattle.affine_segment.specs.Reading.{read}
 use Rattle.upp_curve.specs.Shapes.{IsNumber, IsFinitePiece}
 use Rattle.upp_curve.proofs.Finite.{level_of, read_number, repeated_number}
 use Rattle.upp_curve.proofs.FirstStretch.{read_in, at_start}

@@ -16,15 +16,16 @@ use Rattle.affine_segment.specs.declared.line.Piece.{Piece}
 use Rattle.affine_segment.specs.Values.{line_value}
 use Rattle.upp_curve.specs.declared.curve.Tail.{Tail}
 use Rattle.upp_curve.specs.declared.curve.Tail.TheVariants.{Periodic, Affine, Infinite}
-use Rattle.upp_curve.specs.Reading.{piece_value, read}
+use Rattle.affine_segment.specs.Reading.{piece_value, read}
 use Rattle.upp_curve.specs.Curve.{SpecCurve, value_at, repeated}
 use Rattle.min_plus.specs.Functions.{IsRising, zero_q}
-use Rattle.upp_curve.specs.Normal.{Each, RisesFrom, StartsAtZero, IsRaw, FitsPeriod}
+use Rattle.affine_segment.specs.Pieces.{Each, RisesFrom, StartsAtZero}
+use Rattle.upp_curve.specs.Normal.{IsRaw, FitsPeriod}
 use Rattle.upp_curve.specs.Shapes.{LineRises, EndsBelow, PieceRises, PiecesRise}
 use Rattle.min_plus.specs.Continuity.{IsContinuous}
 use Rattle.upp_curve.specs.JoinedPieces.{EndsAtValue, PieceJoins, PiecesJoin}
-use Rattle.upp_curve.proofs.PieceIn.{piece_in_end, piece_in_go, piece_in_stop}
-use Rattle.upp_curve.proofs.FirstStretch.{read_in, value_past, at_start}
+use Rattle.affine_segment.proofs.PieceIn.{piece_in_end, piece_in_go, piece_in_stop, value_past}
+use Rattle.upp_curve.proofs.FirstStretch.{read_in, at_start}
 use Rattle.upp_curve.proofs.Repeats.{repeated_first, repeated_next}
 use Rattle.upp_curve.proofs.Rising.{list_rises, list_ends, repeated_rises}
 use Rattle.upp_curve.proofs.RisingFrom.{IsBefore, pieces_rise}

@@ -1,7 +1,6 @@
 -- Why the text of a curve is refused, as tests of its numbers: the first cause that is there. A curve that is over a
 -- limit by itself is not refused here, and its shape is not looked at. Own choice.
-use Rattle.std.specs.Prelude.{◌^◌, Bool, true, false, not, ◌&&◌, ◌||◌, nat_lt, nat_le, if◌then◌else◌}
-use Rattle.std.specs.Prelude.{List, [], ◌∷◌, Option, Some, None}
+use Rattle.std.specs.Prelude.{◌^◌, Bool, true, false, not, ◌&&◌, ◌||◌, nat_lt, nat_le, if◌then◌else◌, List, [], ◌∷◌, Option, Some, None}
 use Rattle.std.specs.Ordering.{is_eq}
 use Rattle.rational.specs.Rational.{ℚ, ◌+ℚ◌}
 use Rattle.rational.specs.Ratio.{cmp_q}
@@ -15,15 +14,14 @@ use Rattle.upp_curve.specs.declared.curve.Tail.TheVariants.{Periodic, Affine, In
 use Rattle.upp_curve.specs.Curve.{SpecCurve, value_at}
 use Rattle.min_plus.specs.Functions.{zero_q}
 use Rattle.upp_curve.specs.Limits.{own_gauge, own_tally}
-use Rattle.upp_curve.specs.Reading.{read}
+use Rattle.affine_segment.specs.Reading.{read}
 use Rattle.curve_library.specs.declared.texts.PieceText.{PieceText}
 use Rattle.curve_library.specs.declared.texts.TailText.{TailText}
 use Rattle.curve_library.specs.declared.texts.UseAs.{UseAs}
 use Rattle.curve_library.specs.declared.texts.UseAs.TheVariants.{Arrival, Service}
 use Rattle.curve_library.specs.Listed.{listed_curve}
 use Rattle.net_model.specs.declared.fault.CurveRefusal.{CurveRefusal}
-use Rattle.net_model.specs.declared.fault.CurveRefusal.TheVariants.{Negative, ZeroPeriod, NotRising}
-use Rattle.net_model.specs.declared.fault.CurveRefusal.TheVariants.{NotContinuous, NotZeroAtStart}
+use Rattle.net_model.specs.declared.fault.CurveRefusal.TheVariants.{Negative, ZeroPeriod, NotRising, NotContinuous, NotZeroAtStart}
 use Rattle.net_draft.specs.Texts.{CurveText, Bucket, Stair, RateLatency, Gate, Listed}
 use Rattle.net_draft.specs.Values.{less}
 

@@ -13,6 +13,7 @@ pub mod Bounds
 pub mod Quotients
 pub mod Comparison
 pub mod MinMax
+pub mod Compared
 pub mod ExtendedOrder
 pub mod Whole
 pub mod Stretch

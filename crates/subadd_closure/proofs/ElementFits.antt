@@ -5,8 +5,7 @@ use Rattle.rational.specs.Rational.{ℚ, ◌+ℚ◌, ◌*ℚ◌, ◌/ℚ◌, ◌
 use Rattle.rational.specs.Extended.{Ext, ◌≤ₑ◌, ◌<ₑ◌, ◌+ₑ◌}
 use Rattle.rational.specs.declared.Extended.TheVariants.{Fin, Inf}
 use Rattle.rational.proofs.Linear.{with1, with2, with3}
-use Rattle.rational.proofs.Laws.{le_or_lt, lt_irrefl, lt_trans, le_lt_trans, antisym, between, half, half_is}
-use Rattle.rational.proofs.Laws.{half_pos, div_mul, not_zero, lt_of_mul, mul_lt_mul_right, mul_assoc, mul_comm, one_mul, zero_mul}
+use Rattle.rational.proofs.Laws.{le_or_lt, lt_irrefl, lt_trans, le_lt_trans, antisym, between, half, half_is, half_pos, div_mul, not_zero, lt_of_mul, mul_lt_mul_right, mul_assoc, mul_comm, one_mul, zero_mul}
 use Rattle.rational.proofs.Over.{le_q_out}
 use Rattle.rational.proofs.MinMax.{le_q_not}
 use Rattle.rational.proofs.ExtendedOrder.{le_ext_trans, same_le_ext, add_zero_ext}
@@ -24,7 +23,8 @@ use Rattle.upp_curve.specs.Curve.{SpecCurve, value_at}
 use Rattle.upp_curve.specs.Curves.{IsCurve}
 use Rattle.min_plus.specs.Functions.{zero_q, IsFinite, IsNonnegative}
 use Rattle.upp_curve.specs.Normal.{TailFits, IsNormal}
-use Rattle.upp_curve.specs.Readable.{EachFits, LineFitsAt, TailReadable}
+use Rattle.upp_curve.specs.Readable.{EachFits, TailReadable}
+use Rattle.affine_segment.specs.Fits.{LineFitsAt}
 use Rattle.curve_conv.specs.PieceElements.{next_start, elements_of, Among}
 use Rattle.curve_conv.proofs.Members.{among_cases}
 use Rattle.curve_conv.proofs.Cover.{head, head_cases, cover, element_times}

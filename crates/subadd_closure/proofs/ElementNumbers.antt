@@ -17,7 +17,8 @@ use Rattle.upp_curve.specs.declared.curve.Tail.{Tail}
 use Rattle.upp_curve.specs.declared.curve.Tail.TheVariants.{Periodic, Affine, Infinite}
 use Rattle.upp_curve.specs.Curve.{SpecCurve}
 use Rattle.min_plus.specs.Functions.{zero_q}
-use Rattle.upp_curve.specs.Normal.{Each, StartsAtZero, IsRaw, IsNormal}
+use Rattle.affine_segment.specs.Pieces.{Each, StartsAtZero}
+use Rattle.upp_curve.specs.Normal.{IsRaw, IsNormal}
 use Rattle.upp_curve.specs.Steady.{rank_of, steady}
 use Rattle.upp_curve.specs.Periods.{own_period}
 use Rattle.upp_curve.specs.Spans.{spans}

@@ -14,10 +14,11 @@ use Rattle.affine_segment.specs.Values.{line_value}
 use Rattle.upp_curve.specs.declared.curve.Tail.{Tail}
 use Rattle.upp_curve.specs.declared.curve.Tail.TheVariants.{Periodic, Affine, Infinite}
 use Rattle.upp_curve.specs.Curve.{SpecCurve, with_tail, value_at}
-use Rattle.upp_curve.specs.Reading.{read}
+use Rattle.affine_segment.specs.Reading.{read}
 use Rattle.min_plus.specs.Functions.{zero_q, IsFinite}
-use Rattle.upp_curve.specs.Normal.{RisesFrom, StartsAtZero, TailFits, IsRaw}
-use Rattle.upp_curve.proofs.FirstStretch.{value_past}
+use Rattle.affine_segment.specs.Pieces.{RisesFrom, StartsAtZero}
+use Rattle.upp_curve.specs.Normal.{TailFits, IsRaw}
+use Rattle.affine_segment.proofs.PieceIn.{value_past}
 use Rattle.upp_curve.proofs.Repeats.{repeated_first}
 use Rattle.curve_conv.specs.PieceElements.{point_of, segment_of, next_start, elements_of, StartBefore}
 use Rattle.curve_conv.proofs.Cover.{read_one, read_stop, value_here}

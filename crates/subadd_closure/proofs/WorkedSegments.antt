@@ -8,7 +8,7 @@ use Rattle.rational.specs.declared.Extended.TheVariants.{Fin, Inf}
 use Rattle.rational.proofs.Linear.{with1}
 use Rattle.affine_segment.specs.declared.line.Line.{Line}
 use Rattle.min_plus.specs.Functions.{zero_q}
-use Rattle.upp_curve.specs.Readable.{LineFitsAt}
+use Rattle.affine_segment.specs.Fits.{LineFitsAt}
 use Rattle.closure_elements.specs.ElementCurves.{IsStretch}
 use Rattle.closure_elements.specs.ElementAnswers.{IsOpenPart}
 use Rattle.closure_elements.proofs.MeetNumbers.{stretches_meet}

@@ -11,9 +11,9 @@ ghost use Rattle.subadd_closure.specs.SegmentLimits.{IsElementOf, IsOwnGauge, Le
 
 use affine_segment::Line;
 use curve_frame::first_window;
-use fraction128::{Ext, Frac};
+use fraction128::{Ext, Frac, difference, is_less, quotient};
 use rational::Extended;
-use upp_curve::{Curve, OpFault, OpKind, call_numbers, difference, is_less, quotient};
+use upp_curve::{Curve, OpFault, OpKind, call_numbers};
 
 /// The gauge of a curve by itself; None where it is 2^120 or more. No memory is taken.
 pub(crate) fn own_gauge(f: &Curve) -> Option<u128>

@@ -7,14 +7,14 @@ ghost use Rattle.min_plus.specs.Functions.{zero_q};
 
 use crate::{close, is_subadditive};
 use affine_segment::{Line, Piece};
-use fraction128::{Ext, Frac};
+use fraction128::{Ext, Frac, is_less};
 use rational::Extended;
 use std::alloc::Global;
 use std::marker::Brand;
 use std::sync::ledger::{Blank, Ledger};
 use std::test::Fail;
 use steps::Steps;
-use upp_curve::{Curve, OpFault, RawCurve, Tail, equal, is_less, normalise};
+use upp_curve::{Curve, OpFault, RawCurve, Tail, equal, normalise};
 
 pub(crate) fn whole(n: i128) -> Frac {
     match Frac::new(n, 1) {

@@ -23,7 +23,7 @@ use Rattle.affine_segment.specs.declared.line.Line.{Line}
 use Rattle.affine_segment.specs.declared.line.Piece.{Piece}
 use Rattle.affine_segment.specs.Values.{line_at, line_value}
 use Rattle.upp_curve.specs.Limits.{Sizes, gauge_of}
-use Rattle.upp_curve.specs.Readable.{LineFitsAt}
+use Rattle.affine_segment.specs.Fits.{LineFitsAt}
 use Rattle.upp_curve.specs.Sized.{grid_of, times_largest, ValueStands}
 use Rattle.upp_curve.specs.Operand.{AreLimited, OperandLine, OperandLineAt, OperandPiece, answer_room}
 use Rattle.upp_curve.specs.Room.{top, IsRoom, TimeHasRoom, many, ValueInRoom, ValueHasRoom, LineInRoom, LineHasRoom, PieceHasRoom}
@@ -174,7 +174,7 @@ line_in_room z end k l A h L =
     swapped : (s n w : ℚ) → n *ℚ (s *ℚ w) ≡ s *ℚ (n *ℚ w)
     swapped s n w = sym (mul_assoc n s w) ∙ ap (λ y. y *ℚ w) (mul_comm n s) ∙ mul_assoc s n w
 
-many_more : (z : Sizes) (k j : ℕ) → times_largest k z +ℚ times_largest j z ≡ times_largest (k + j) z
+pub many_more : (z : Sizes) (k j : ℕ) → times_largest k z +ℚ times_largest j z ≡ times_largest (k + j) z
 many_more z k j = sym (add_mul (int (pos k)) (int (pos j)) (int (pos z.largest))) ∙ ap (λ x. x *ℚ int (pos z.largest)) (int_add (pos k) (pos j))
 
 -- its value at a time of any grid

@@ -11,7 +11,7 @@ use Rattle.rational.proofs.MinMax.{le_q_not}
 use Rattle.affine_segment.specs.declared.line.Line.{Line}
 use Rattle.affine_segment.specs.declared.line.Piece.{Piece}
 use Rattle.affine_segment.specs.Values.{line_value}
-use Rattle.upp_curve.specs.Reading.{piece_value}
+use Rattle.affine_segment.specs.Reading.{piece_value}
 use Rattle.upp_curve.specs.Steady.{same_ext}
 use Rattle.upp_curve.proofs.Steady.{same_out}
 

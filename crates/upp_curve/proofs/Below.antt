@@ -12,13 +12,14 @@ use Rattle.affine_segment.specs.declared.line.Piece.{Piece}
 use Rattle.upp_curve.specs.declared.curve.Tail.{Tail}
 use Rattle.upp_curve.specs.declared.curve.Tail.TheVariants.{Periodic, Affine, Infinite}
 use Rattle.upp_curve.specs.Curve.{SpecCurve, value_at, repeated}
-use Rattle.upp_curve.specs.Normal.{IsNormal, Each, HasStart, RisesFrom, StartsAtZero}
+use Rattle.upp_curve.specs.Normal.{IsNormal}
+use Rattle.affine_segment.specs.Pieces.{Each, HasStart, RisesFrom, StartsAtZero}
 use Rattle.upp_curve.specs.Unrolled.{unroll, unrolled, copies, each_later, upto, from}
-use Rattle.upp_curve.specs.Reading.{piece_in, piece_value, read}
+use Rattle.affine_segment.specs.Reading.{piece_in, piece_value, read}
 use Rattle.upp_curve.proofs.OneForm.{infinite_value}
 use Rattle.rational.proofs.MinMax.{lt_q_not}
 use Rattle.rational.proofs.Whole.{periods_low, periods_high, one_more_times}
-use Rattle.upp_curve.proofs.PieceIn.{piece_in_stop}
+use Rattle.affine_segment.proofs.PieceIn.{piece_in_stop}
 use Rattle.upp_curve.proofs.Unique.{upto_none, upto_some, upto_end}
 use Rattle.upp_curve.proofs.Repeats.{repeated_first}
 use Rattle.upp_curve.proofs.Unrolled.{copies_read, copies_some, read_before, read_past_list}

@@ -16,21 +16,22 @@ use Rattle.rational.specs.declared.Extended.TheVariants.{Fin, Inf}
 use Rattle.affine_segment.specs.declared.line.Line.{Line}
 use Rattle.affine_segment.specs.declared.line.Piece.{Piece}
 use Rattle.affine_segment.specs.Values.{line_value}
-use Rattle.upp_curve.specs.Reading.{read, piece_in, piece_value}
+use Rattle.affine_segment.specs.Reading.{read, piece_in, piece_value}
 use Rattle.upp_curve.specs.Curve.{repeated}
 use Rattle.upp_curve.specs.Steady.{Repeats}
 use Rattle.upp_curve.specs.Unrolled.{line_later, later, each_later, copies, upto}
-use Rattle.upp_curve.specs.Normal.{Each, RisesFrom, StartsAtZero, FitsPeriod}
+use Rattle.affine_segment.specs.Pieces.{Each, RisesFrom, StartsAtZero}
+use Rattle.upp_curve.specs.Normal.{FitsPeriod}
 use Rattle.upp_curve.specs.Normalising.{IsMerged, IsTwoPeriods, IsOneLine, Turned, OnGridsUnlessLine, cut_at, past, first_start, second_copy}
 use Rattle.upp_curve.specs.Bends.{ValueOn, LineOn, NumbersOn, SlopeTurns, BendAfter, OnlyBend}
 use Rattle.upp_curve.proofs.Unique.{upto_some, upto_none, upto_end}
-use Rattle.upp_curve.proofs.FirstStretch.{value_past, value_at_start}
-use Rattle.upp_curve.proofs.PieceIn.{piece_in_go, piece_in_stop}
+use Rattle.affine_segment.proofs.PieceIn.{value_past, value_at_start, piece_in_go, piece_in_stop}
 use Rattle.upp_curve.proofs.Unrolled.{copies_some}
 use Rattle.upp_curve.proofs.Repeats.{repeated_rule, repeated_first}
 use Rattle.upp_curve.proofs.Normal.{transfer, rises as starts_rise}
 use Rattle.upp_curve.proofs.NormaliseLoops.{later_none, later_some, past_go, past_stop, past_none}
-use Rattle.upp_curve.proofs.NormaliseLists.{rises_down, past_all, each_map}
+use Rattle.affine_segment.proofs.PieceOrder.{rises_down, each_map}
+use Rattle.upp_curve.proofs.NormaliseLists.{past_all}
 use Rattle.upp_curve.proofs.NormaliseCuts.{none_past, start_none, start_some, upto_early}
 use Rattle.upp_curve.proofs.NormaliseMerge.{merged_none, merged_skip, merged_keep}
 use Rattle.upp_curve.proofs.NormalisePeriods.{two_periods_are, agree_from, repeats_after}
@@ -77,7 +78,7 @@ of_line rises T S D p q (z ∷ zs) e B = (first B.0, B.1, B.2)
     first (inl w) = inl w
     first (inr t) = inr (subst (λ l. SlopeTurns rises l z.line) e t)
 
-bend_front : (rises : Bool) (T S D : ℕ) (p : Piece) (ps qs : List Piece) → BendAfter rises T S D p (ps ++ qs) → BendAfter rises T S D p ps
+pub bend_front : (rises : Bool) (T S D : ℕ) (p : Piece) (ps qs : List Piece) → BendAfter rises T S D p (ps ++ qs) → BendAfter rises T S D p ps
 bend_front rises T S D p [] qs B = tt
 bend_front rises T S D p (z ∷ zs) qs B = (B.0, B.1, bend_front rises T S D z zs qs B.2)
 

@@ -76,7 +76,7 @@ copies_out d end p n some h =
 zero_times : (d : ℚ) → int (pos 0) *ℚ d ≡ int (pos 0)
 zero_times d = mul_comm (int (pos 0)) d ∙ mul_zero d
 
-plus_zero : (x d : ℚ) → x +ℚ int (pos 0) *ℚ d ≡ x
+pub plus_zero : (x d : ℚ) → x +ℚ int (pos 0) *ℚ d ≡ x
 plus_zero x d = let e = zero_times d in with2 x (int (pos 0) *ℚ d) (λ c. omega (arith, c.le, c.lt, c.same))
 
 value_zero : (v : Ext) (c : ℚ) → v +ₑ Fin (int (pos 0) *ℚ c) ≡ v

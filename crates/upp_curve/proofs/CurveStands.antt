@@ -18,7 +18,8 @@ use Rattle.upp_curve.specs.Steady.{rank_of, steady, steady_in, later_unless}
 use Rattle.upp_curve.specs.Periods.{HasPeriod, own_period}
 use Rattle.upp_curve.specs.Unrolled.{copies_below}
 use Rattle.min_plus.specs.WholeUp.{whole_up}
-use Rattle.upp_curve.specs.Normal.{Each, IsRaw, TailFits}
+use Rattle.affine_segment.specs.Pieces.{Each}
+use Rattle.upp_curve.specs.Normal.{IsRaw, TailFits}
 use Rattle.upp_curve.specs.Spans.{Span, spans, copies_of, once_below, span_below, spans_below}
 use Rattle.upp_curve.specs.Limits.{Numbers, Sizes, sizes_of, curve_numbers, span_values, span_slopes, own_end, own_sizes}
 use Rattle.upp_curve.specs.Sized.{IsValue, IsSlope, Stands, AreSizes, SpanStands, TailStands, CurveStands}

@@ -12,13 +12,13 @@ use Rattle.affine_segment.specs.declared.line.Line.{Line}
 use Rattle.affine_segment.specs.declared.line.Piece.{Piece}
 use Rattle.affine_segment.specs.Values.{line_value}
 use Rattle.upp_curve.specs.declared.shape.End.{End}
-use Rattle.upp_curve.specs.Reading.{piece_in, piece_value}
+use Rattle.affine_segment.specs.Reading.{piece_in, piece_value}
 use Rattle.rational.specs.Whole.{periods}
 use Rattle.upp_curve.specs.Curve.{repeated}
-use Rattle.upp_curve.specs.Normal.{Each, RisesFrom}
+use Rattle.affine_segment.specs.Pieces.{Each, RisesFrom}
 use Rattle.upp_curve.specs.Shapes.{IsNumber, IsLine, IsFinitePiece}
-use Rattle.upp_curve.proofs.PieceIn.{piece_in_end, piece_in_go, piece_in_stop}
-use Rattle.upp_curve.proofs.FirstStretch.{read_in, value_past, at_start}
+use Rattle.affine_segment.proofs.PieceIn.{piece_in_end, piece_in_go, piece_in_stop, value_past}
+use Rattle.upp_curve.proofs.FirstStretch.{read_in, at_start}
 use Rattle.upp_curve.proofs.RisingFrom.{IsBefore}
 
 -- ---- numbers
@@ -29,7 +29,7 @@ level_of (Fin x) h = (x, refl)
 pub number_of : (v : Ext) (level : ℚ) → v ≡ Fin level → IsNumber v
 number_of v level e = subst IsNumber (sym e) tt
 
-line_number : (l : Option Line) (t : ℚ) → IsLine l → IsNumber (line_value l t)
+pub line_number : (l : Option Line) (t : ℚ) → IsLine l → IsNumber (line_value l t)
 line_number None t h = absurd h
 line_number (Some l) t h = tt
 
@@ -45,7 +45,7 @@ each_in P p (q ∷ qs) t h = elim (le_or_lt q.x t) [
   | inr l ↦ subst P (sym (piece_in_stop p q qs t l)) h.0
 ]
 
-value_number : (p : Piece) (t : ℚ) → IsFinitePiece p → IsNumber (piece_value p t)
+pub value_number : (p : Piece) (t : ℚ) → IsFinitePiece p → IsNumber (piece_value p t)
 unfolding piece_value
 value_number p t h = elim (le_or_lt t p.x) [
   | inl l ↦ rw (le_q_out t p.x l) h.at

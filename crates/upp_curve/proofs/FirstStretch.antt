@@ -8,10 +8,10 @@ use Rattle.rational.proofs.Laws.{le_refl}
 use Rattle.rational.specs.Extended.{Ext}
 use Rattle.affine_segment.specs.declared.line.Piece.{Piece}
 use Rattle.rational.specs.MinMax.{min_q}
-use Rattle.upp_curve.specs.Reading.{piece_in, piece_value}
+use Rattle.affine_segment.specs.Reading.{piece_in, piece_value}
 use Rattle.affine_segment.specs.Values.{line_value}
-use Rattle.upp_curve.specs.Normal.{RisesFrom}
-use Rattle.upp_curve.proofs.PieceIn.{piece_in_stop, piece_in_end}
+use Rattle.affine_segment.specs.Pieces.{RisesFrom}
+use Rattle.affine_segment.proofs.PieceIn.{piece_in_stop, piece_in_end, value_past, value_at_start}
 
 abbrev pub end_of : ℚ → List Piece → ℚ
 end_of X [] = X
@@ -27,14 +27,6 @@ start_before x X (p ∷ ps) h r = below_min_in X p.x x h r.0
 
 abbrev pub read_in : Piece → List Piece → ℚ → Ext
 read_in p ps t = piece_value (piece_in p ps t) t
-
-pub value_past : (p : Piece) (t : ℚ) → p.x <ℚ t → piece_value p t ≡ line_value p.line t
-unfolding piece_value
-value_past p t h = rw (le_q_not t p.x h) refl
-
-pub value_at_start : (p : Piece) → piece_value p p.x ≡ p.at
-unfolding piece_value
-value_at_start p = rw (le_q_out p.x p.x (le_refl p.x)) refl
 
 pub on_stretch : (p : Piece) (ps : List Piece) (X t : ℚ) → p.x <ℚ t → t <ℚ end_of X ps → read_in p ps t ≡ line_value p.line t
 on_stretch p [] X t h k = ap (λ q. piece_value q t) (piece_in_end p t) ∙ value_past p t h

@@ -13,7 +13,7 @@ use Rattle.rational.proofs.MinMax.{le_q_not, max_q_right, max_q_ge_left, max_q_l
 use Rattle.rational.proofs.Over.{le_q_out}
 use Rattle.rational.proofs.Whole.{periods_low, periods_high}
 use Rattle.affine_segment.specs.declared.line.Piece.{Piece}
-use Rattle.upp_curve.specs.Reading.{read, piece_in}
+use Rattle.affine_segment.specs.Reading.{read, piece_in}
 use Rattle.upp_curve.specs.Curve.{value_at, repeated}
 use Rattle.min_plus.specs.Functions.{zero_q}
 use Rattle.min_plus.specs.WholeUp.{whole_up}

@@ -4,10 +4,12 @@ use Rattle.std.proofs.Common.{sym, ap, ◌∙◌, refl, subst}
 use Rattle.rational.specs.Rational.{ℚ, ◌+ℚ◌, ◌*ℚ◌, ◌≤ℚ◌, ◌<ℚ◌, int}
 use Rattle.rational.proofs.Laws.{le_lt_trans, le_trans, not_le_of_lt, one_mul}
 use Rattle.affine_segment.specs.declared.line.Piece.{Piece}
-use Rattle.upp_curve.specs.Normal.{FitsPeriod, FitsRank, StartsAtZero}
+use Rattle.upp_curve.specs.Normal.{FitsPeriod, FitsRank}
+use Rattle.affine_segment.specs.Pieces.{StartsAtZero}
 use Rattle.upp_curve.specs.Steady.{last_of}
-use Rattle.upp_curve.proofs.Compared.{iff_none, iff_some, not_less_out}
-use Rattle.upp_curve.proofs.NormaliseLists.{each_map, last_is_last}
+use Rattle.rational.proofs.Compared.{iff_none, iff_some, not_less_out}
+use Rattle.affine_segment.proofs.PieceOrder.{each_map}
+use Rattle.upp_curve.proofs.NormaliseLists.{last_is_last}
 use Rattle.upp_curve.proofs.OwnGauge.{last_each, last_is}
 
 -- a rank below 0

@@ -3,13 +3,11 @@ use Rattle.std.specs.Prelude.{◌≡◌, ◌↔◌, ℕ, ◌+◌, ◌<◌, ◌�
 use Rattle.std.proofs.Common.{get_or, drop, drop_of_length-le, sym, refl, subst}
 use Rattle.affine_segment.specs.declared.line.Piece.{Piece}
 use Rattle.upp_curve.specs.declared.shape.End.{End}
-use Rattle.upp_curve.specs.Readable.{LineFitsAt, LineFitsTo, EachFits}
+use Rattle.affine_segment.specs.Fits.{LineFitsAt}
+use Rattle.upp_curve.specs.Readable.{LineFitsTo, EachFits}
 use Rattle.upp_curve.specs.Shapes.{end_time}
 use Rattle.upp_curve.specs.JoinedPieces.{PieceJoins, PiecesJoin}
-use Rattle.upp_curve.proofs.PieceLoops.{next_piece}
-
-none_left : (rest : List Piece) (j : ℕ) → length rest ≤ j → drop j rest ≡ []
-none_left rest j h = drop_of_length-le rest h
+use Rattle.affine_segment.proofs.NextPiece.{next_piece, none_left}
 
 -- ---- each piece against the next one
 pub record JoinLoop (end : Option End) (first : Piece) (rest : List Piece) (last : Piece) (left : List Piece) : Type 0 where

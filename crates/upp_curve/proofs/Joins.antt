@@ -16,25 +16,23 @@ use Rattle.affine_segment.specs.Values.{line_value}
 use Rattle.upp_curve.specs.declared.curve.Tail.{Tail}
 use Rattle.upp_curve.specs.declared.curve.Tail.TheVariants.{Periodic, Affine, Infinite}
 use Rattle.upp_curve.specs.declared.shape.End.{End}
-use Rattle.upp_curve.specs.Reading.{piece_value, read}
+use Rattle.affine_segment.specs.Reading.{piece_value, read}
 use Rattle.upp_curve.specs.Curve.{SpecCurve, value_at, repeated}
 use Rattle.min_plus.specs.Functions.{IsRising, zero_q}
-use Rattle.upp_curve.specs.Normal.{Each, RisesFrom, StartsAtZero, IsNormal, FitsPeriod}
+use Rattle.affine_segment.specs.Pieces.{Each, RisesFrom, StartsAtZero}
+use Rattle.upp_curve.specs.Normal.{IsNormal, FitsPeriod}
 use Rattle.upp_curve.specs.Shapes.{LineRises, PieceRises, PiecesRise}
 use Rattle.min_plus.specs.Continuity.{IsContinuous}
 use Rattle.upp_curve.specs.JoinedPieces.{PieceJoins, PiecesJoin}
-use Rattle.upp_curve.proofs.PieceIn.{piece_in_end, piece_in_go, piece_in_stop}
-use Rattle.upp_curve.proofs.FirstStretch.{read_in, value_past, at_start}
+use Rattle.affine_segment.proofs.PieceIn.{piece_in_end, piece_in_go, piece_in_stop, value_past}
+use Rattle.upp_curve.proofs.FirstStretch.{read_in, at_start}
 use Rattle.upp_curve.proofs.Repeats.{repeated_first, repeated_next}
 use Rattle.upp_curve.proofs.OneForm.{infinite_value}
 use Rattle.upp_curve.proofs.RisingFrom.{IsBefore}
 use Rattle.upp_curve.proofs.RisingCurves.{IsEnd, period_end, pieces_by_tail}
 use Rattle.upp_curve.proofs.Gentle.{steepest, list_gentle, end_gentle, repeated_gentle, gentle_continuous}
 use Rattle.upp_curve.proofs.CurveShapes.{curve}
-
-read_is : (p : Piece) (ps : List Piece) (t : ℚ) → read (p ∷ ps) t ≡ read_in p ps t
-unfolding read
-read_is p ps t = refl
+use Rattle.affine_segment.proofs.PieceIn.{read_is}
 
 -- ---- from pieces that join
 pub plain_continuous : (ps : List Piece) (f : ℚ → Ext) → StartsAtZero ps → ((t : ℚ) → zero_q ≤ℚ t → read ps t ≡ f t) → PiecesJoin None ps → IsRising f → IsContinuous f

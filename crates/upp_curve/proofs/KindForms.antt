@@ -15,10 +15,11 @@ use Rattle.rational.proofs.Over.{le_q_out}
 use Rattle.affine_segment.specs.declared.line.Line.{Line}
 use Rattle.affine_segment.specs.declared.line.Piece.{Piece}
 use Rattle.affine_segment.specs.Values.{line_value}
-use Rattle.upp_curve.specs.Reading.{read}
+use Rattle.affine_segment.specs.Reading.{read}
 use Rattle.upp_curve.specs.Curve.{value_at}
 use Rattle.min_plus.specs.Functions.{zero_q}
-use Rattle.upp_curve.specs.Normal.{Each, IsNormal, IsLeastPeriodic}
+use Rattle.affine_segment.specs.Pieces.{Each}
+use Rattle.upp_curve.specs.Normal.{IsNormal, IsLeastPeriodic}
 use Rattle.upp_curve.specs.Steady.{Repeats}
 use Rattle.upp_curve.specs.Kinds.{flat, after_latency, rate_latency, steps, stair, gated, gate}
 use Rattle.upp_curve.proofs.ByTail.{bucket_normal, some_is}
@@ -335,7 +336,7 @@ gated_closed R c s t low high some up slot = elim (le_or_lt (c -ℚ s) t) [
       ∙ open_value R c s t k ∙ ap Fin (ap (λ u. neg_ℚ (R *ℚ (c -ℚ s)) +ℚ R *ℚ u) same ∙ with1 (R *ℚ (c -ℚ s)) (λ c. omega (arith, c.le, c.lt, c.same)))
 ]
 
-gated_normal : (R c s : ℚ) → zero_q <ℚ R → zero_q <ℚ s → s <ℚ c → IsNormal (gated R c s)
+pub gated_normal : (R c s : ℚ) → zero_q <ℚ R → zero_q <ℚ s → s <ℚ c → IsNormal (gated R c s)
 gated_normal R c s rate slot short = record {
   raw = record {
     starts = (refl, (up, tt));

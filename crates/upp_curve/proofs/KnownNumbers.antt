@@ -19,8 +19,8 @@ use Rattle.affine_segment.specs.Values.{line_value}
 use Rattle.upp_curve.specs.declared.curve.Tail.{Tail}
 use Rattle.upp_curve.specs.declared.curve.Tail.TheVariants.{Periodic, Affine, Infinite}
 use Rattle.upp_curve.specs.Curve.{SpecCurve}
-use Rattle.upp_curve.specs.Readable.{LineFitsAt}
-use Rattle.upp_curve.specs.Normal.{StartsAtZero}
+use Rattle.affine_segment.specs.Fits.{LineFitsAt}
+use Rattle.affine_segment.specs.Pieces.{StartsAtZero}
 use Rattle.upp_curve.specs.Unrolled.{copies_below}
 use Rattle.upp_curve.specs.Periods.{HasPeriod}
 use Rattle.upp_curve.specs.Spans.{Span, copy_of, copies_of, once_below, span_below, spans, spans_below}
@@ -84,7 +84,7 @@ span_fits z end s a n some h t = record {
 risen_is : (v y : ℚ) → (v +ℚ y) -ℚ v ≡ y
 risen_is v y = with2 v y (λ c. omega (arith, c.le, c.lt, c.same))
 
-two_ones : (v : ℚ) → int (pos 1) *ℚ v +ℚ int (pos 1) *ℚ v ≡ int (pos 2) *ℚ v
+pub two_ones : (v : ℚ) → int (pos 1) *ℚ v +ℚ int (pos 1) *ℚ v ≡ int (pos 2) *ℚ v
 two_ones v = with1 v (λ c. omega (arith, c.le, c.lt, c.same))
 
 pub value_rises : (z : Sizes) (end : ℚ) (v : Ext) (n rise : ℚ) → AreSizes z end → IsNarrow z (2 ^ 122) → ValueStands z v → ValueStands z (v +ₑ Fin (n *ℚ rise)) → ValueRises v n rise

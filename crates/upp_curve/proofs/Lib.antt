@@ -1,6 +1,5 @@
 pub mod Refusals
 pub mod Repeats
-pub mod PieceIn
 pub mod ByTail
 pub mod Steady
 pub mod FirstStretch
@@ -25,7 +24,6 @@ pub mod CurveStands
 pub mod PieceCounts
 pub mod LongProducts
 pub mod LongCrosses
-pub mod Compared
 pub mod Rounding
 pub mod WorkedRunning
 pub mod WorkedJump

@@ -53,7 +53,7 @@ times_is : (a : ℕ) (b : ℕ) (n : ℕ) (p : ℕ) (q : ℕ) → frac (pos a) b 
 times_is a b n p q =
     ap (λ z. frac (pos a) b +ℚ z) (mul_whole (pos n) (pos p) q) ∙ add_frac (pos a) b (pos (n * p)) q
 
-nat_of : (z : ℤ) → pos 0 ≤ℤ z → z ≡ pos (nat_abs z)
+pub nat_of : (z : ℤ) → pos 0 ≤ℤ z → z ≡ pos (nat_abs z)
 nat_of (pos n) h = refl
 nat_of (negsuc n) h = absurd (omega (arith, ints))
 

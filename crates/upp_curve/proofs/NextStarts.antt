@@ -14,14 +14,16 @@ use Rattle.affine_segment.specs.declared.line.Piece.{Piece}
 use Rattle.upp_curve.specs.declared.curve.Tail.{Tail}
 use Rattle.upp_curve.specs.declared.curve.Tail.TheVariants.{Periodic, Affine, Infinite}
 use Rattle.upp_curve.specs.Curve.{SpecCurve}
-use Rattle.upp_curve.specs.Normal.{Each, HasStart, IsNormal, RisesFrom, StartsAtZero}
+use Rattle.affine_segment.specs.Pieces.{Each, HasStart, RisesFrom, StartsAtZero, start_after}
+use Rattle.upp_curve.specs.Normal.{IsNormal}
 use Rattle.upp_curve.specs.PieceLaws.{IsNext, IsNextStart, SpansAreUnrolled}
-use Rattle.upp_curve.specs.Spans.{Span, copies_of, end_of, next_later, once_below, span_below, spans, spans_below, start_after}
+use Rattle.upp_curve.specs.Spans.{Span, copies_of, end_of, next_later, once_below, span_below, spans, spans_below}
 use Rattle.upp_curve.specs.Unrolled.{copies_below, later, unroll, unrolled, upto}
 use Rattle.upp_curve.proofs.Copies.{every_copy}
 use Rattle.upp_curve.proofs.Every.{every_flat, every_weaken}
 use Rattle.upp_curve.proofs.Normal.{rises}
-use Rattle.upp_curve.proofs.NormaliseLists.{each_map, each_upto}
+use Rattle.affine_segment.proofs.PieceOrder.{each_map}
+use Rattle.upp_curve.proofs.NormaliseLists.{each_upto}
 use Rattle.upp_curve.proofs.SamePieces.{each_at, each_contained, each_whole, once_in, periodic_given, same_pieces}
 use Rattle.upp_curve.proofs.UnrolledPieces.{IsGiven, each_with, no_later, periodic_each}
 

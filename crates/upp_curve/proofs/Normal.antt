@@ -10,8 +10,9 @@ use Rattle.affine_segment.specs.declared.line.Piece.{Piece}
 use Rattle.upp_curve.specs.declared.curve.Tail.TheVariants.{Periodic}
 use Rattle.rational.specs.MinMax.{min_q}
 use Rattle.upp_curve.specs.Curve.{SpecCurve, value_at, with_tail, HasSameValues}
-use Rattle.upp_curve.specs.Reading.{read}
-use Rattle.upp_curve.specs.Normal.{IsNormal, Each, HasStart, StartsAtZero, RisesFrom, NoMerge}
+use Rattle.affine_segment.specs.Reading.{read}
+use Rattle.upp_curve.specs.Normal.{IsNormal, NoMerge}
+use Rattle.affine_segment.specs.Pieces.{Each, HasStart, StartsAtZero, RisesFrom}
 use Rattle.upp_curve.specs.Unrolled.{upto}
 use Rattle.upp_curve.specs.Steady.{Repeats}
 use Rattle.rational.proofs.MinMax.{min_q_left, min_q_right, below_min_in}

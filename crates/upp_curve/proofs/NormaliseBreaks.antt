@@ -8,10 +8,11 @@ use Rattle.rational.specs.Extended.{Ext, ◌+ₑ◌}
 use Rattle.rational.specs.declared.Extended.TheVariants.{Fin}
 use Rattle.affine_segment.specs.declared.line.Line.{Line}
 use Rattle.affine_segment.specs.declared.line.Piece.{Piece}
-use Rattle.upp_curve.specs.Reading.{read}
+use Rattle.affine_segment.specs.Reading.{read}
 use Rattle.affine_segment.specs.Values.{line_value}
 use Rattle.upp_curve.specs.Unrolled.{line_later, later, upto}
-use Rattle.upp_curve.specs.Normal.{RisesFrom, Each, Continues, NoneContinues}
+use Rattle.affine_segment.specs.Pieces.{RisesFrom, Each}
+use Rattle.upp_curve.specs.Normal.{Continues, NoneContinues}
 use Rattle.upp_curve.specs.Steady.{Repeats, last_of, last_line}
 use Rattle.upp_curve.specs.Normalising.{past}
 use Rattle.upp_curve.proofs.Steady.{line_rule, read_past}
@@ -19,11 +20,11 @@ use Rattle.upp_curve.proofs.OneForm.{rise_is}
 use Rattle.upp_curve.proofs.Rules.{add_cancel_ext}
 use Rattle.upp_curve.proofs.Unrolled.{line_value_later}
 use Rattle.upp_curve.proofs.Unique.{lines_same, upto_some}
-use Rattle.upp_curve.proofs.FirstStretch.{value_past}
+use Rattle.affine_segment.proofs.PieceIn.{value_past, read_stop, read_go}
 use Rattle.upp_curve.proofs.Below.{read_upto}
 use Rattle.upp_curve.proofs.NormaliseLoops.{past_go, past_none}
-use Rattle.upp_curve.proofs.NormaliseLists.{past_all, last_is_last, last_in, rises_upto, upto_before, continues_back, heads_same, nil_not_cons}
-use Rattle.upp_curve.proofs.NormaliseMerge.{read_stop, read_go}
+use Rattle.upp_curve.proofs.NormaliseLists.{past_all, last_is_last, last_in, rises_upto, upto_before, continues_back}
+use Rattle.affine_segment.proofs.PieceOrder.{heads_same, nil_not_cons}
 use Rattle.upp_curve.proofs.NormalisePeriods.{agree_from}
 
 -- ---- one line

@@ -11,11 +11,12 @@ use Rattle.rational.specs.Extended.{Ext, ◌+ₑ◌}
 use Rattle.rational.specs.declared.Extended.TheVariants.{Fin}
 use Rattle.affine_segment.specs.declared.line.Piece.{Piece}
 use Rattle.affine_segment.specs.Values.{line_value}
-use Rattle.upp_curve.specs.Reading.{read, piece_in, piece_value}
+use Rattle.affine_segment.specs.Reading.{read, piece_in, piece_value}
 use Rattle.upp_curve.specs.Curve.{repeated}
 use Rattle.upp_curve.specs.Steady.{Repeats, last_of}
 use Rattle.upp_curve.specs.Unrolled.{line_later, later, each_later, copies, upto}
-use Rattle.upp_curve.specs.Normal.{RisesFrom, Each, Continues, NoneContinues}
+use Rattle.affine_segment.specs.Pieces.{RisesFrom, Each}
+use Rattle.upp_curve.specs.Normal.{Continues, NoneContinues}
 use Rattle.upp_curve.specs.Normalising.{GoesOn}
 use Rattle.upp_curve.proofs.Repeats.{repeated_first, repeated_rule, repeats_times}
 use Rattle.upp_curve.proofs.Steady.{read_past}
@@ -24,9 +25,11 @@ use Rattle.upp_curve.proofs.Normal.{upto_all}
 use Rattle.upp_curve.proofs.Unrolled.{copies_read, copies_some, line_value_later}
 use Rattle.upp_curve.proofs.Below.{read_upto}
 use Rattle.upp_curve.proofs.NormaliseLoops.{later_none, later_some}
-use Rattle.upp_curve.proofs.NormaliseLists.{each_map, each_append, upto_before, each_moved, rises_upto, rises_append, rises_moved, last_in, last_is_last, none_upto, none_append, none_moved, line_later_twice}
+use Rattle.affine_segment.proofs.PieceOrder.{each_map, each_append, rises_append}
+use Rattle.upp_curve.proofs.NormaliseLists.{upto_before, each_moved, rises_upto, rises_moved, last_in, last_is_last, none_upto, none_append, none_moved, line_later_twice}
 use Rattle.upp_curve.proofs.NormalisePeriods.{agree_from}
 use Rattle.upp_curve.proofs.NormaliseBreaks.{lines_apart, reads_last}
+use Rattle.affine_segment.proofs.PieceIn.{read_is}
 
 -- ---- moved pieces
 pub later_twice : (a b c e : ℚ) (p : Piece) → later b e (later a c p) ≡ later (a +ℚ b) (c +ℚ e) p
@@ -95,10 +98,6 @@ copied (suc k) e u q qs some rise none inside break =
     }
 
 -- ---- where a fraction of the period is a period, the pieces are copies
-pub read_is : (p : Piece) (ps : List Piece) (t : ℚ) → read (p ∷ ps) t ≡ piece_value (piece_in p ps t) t
-unfolding read
-read_is p ps t = refl
-
 -- a period of f from q on, whose pieces are q and qs, and which ends in a break
 pub record Period (f : ℚ → Ext) (d c : ℚ) (q : Piece) (qs : List Piece) : Type 0 where
   pub rises : RisesFrom q.x qs

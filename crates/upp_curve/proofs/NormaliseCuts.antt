@@ -6,13 +6,15 @@ use Rattle.rational.specs.Rational.{ℚ, ◌≤ℚ◌, ◌<ℚ◌, int}
 use Rattle.rational.proofs.Laws.{le_or_lt, le_refl, lt_le_trans, le_lt_trans}
 use Rattle.affine_segment.specs.declared.line.Piece.{Piece}
 use Rattle.upp_curve.specs.Unrolled.{upto, from}
-use Rattle.upp_curve.specs.Normal.{RisesFrom, StartsAtZero, Each, HasStart, NoMerge}
+use Rattle.affine_segment.specs.Pieces.{RisesFrom, StartsAtZero, Each, HasStart}
+use Rattle.upp_curve.specs.Normal.{NoMerge}
 use Rattle.upp_curve.specs.Steady.{last_of}
 use Rattle.upp_curve.specs.Normalising.{past, first_start, IsFront}
 use Rattle.upp_curve.proofs.Unique.{upto_none, upto_some, upto_end}
 use Rattle.upp_curve.proofs.Below.{from_past, from_before}
 use Rattle.upp_curve.proofs.NormaliseLoops.{past_go, past_stop, past_none}
-use Rattle.upp_curve.proofs.NormaliseLists.{each_left, past_all, rises_upto, none_upto, heads_same, nil_not_cons}
+use Rattle.affine_segment.proofs.PieceOrder.{each_left, heads_same, nil_not_cons}
+use Rattle.upp_curve.proofs.NormaliseLists.{past_all, rises_upto, none_upto}
 
 pub from_end : (x : ℚ) → from x [] ≡ []
 unfolding from

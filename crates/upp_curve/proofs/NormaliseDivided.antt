@@ -13,11 +13,12 @@ use Rattle.rational.specs.declared.Extended.TheVariants.{Fin}
 use Rattle.affine_segment.specs.declared.line.Line.{Line}
 use Rattle.affine_segment.specs.declared.line.Piece.{Piece}
 use Rattle.affine_segment.specs.Values.{line_value}
-use Rattle.upp_curve.specs.Reading.{read}
+use Rattle.affine_segment.specs.Reading.{read}
 use Rattle.upp_curve.specs.Curve.{repeated}
 use Rattle.upp_curve.specs.Steady.{Repeats, last_of}
 use Rattle.upp_curve.specs.Unrolled.{line_later, later, each_later, copies, upto, from}
-use Rattle.upp_curve.specs.Normal.{RisesFrom, StartsAtZero, Each, NoMerge, Continues, NoneContinues}
+use Rattle.affine_segment.specs.Pieces.{RisesFrom, StartsAtZero, Each}
+use Rattle.upp_curve.specs.Normal.{NoMerge, Continues, NoneContinues}
 use Rattle.upp_curve.specs.Normalising.{IsCycle, EndsInBreak, Turned, GoesOn}
 use Rattle.upp_curve.proofs.Repeats.{repeated_first, repeated_rule, repeats_times}
 use Rattle.upp_curve.proofs.Steady.{read_past}
@@ -26,11 +27,13 @@ use Rattle.upp_curve.proofs.FirstStretch.{on_stretch, at_start, end_of, start_be
 use Rattle.upp_curve.proofs.Normal.{rises, upto_all}
 use Rattle.upp_curve.proofs.Unrolled.{copies_some, line_value_later}
 use Rattle.upp_curve.proofs.Below.{Cut, cut_at_start, read_from_cut, from_past, from_before, parts_read}
-use Rattle.upp_curve.proofs.NormaliseLists.{each_map, each_append, rises_left, none_left, none_between, last_is_last, last_in, heads_same, tails_same}
+use Rattle.affine_segment.proofs.PieceOrder.{each_map, each_append, rises_left, heads_same, tails_same, rises_split, has_mid}
+use Rattle.upp_curve.proofs.NormaliseLists.{none_left, none_between, last_is_last, last_in}
 use Rattle.upp_curve.proofs.NormaliseCuts.{each_right}
 use Rattle.upp_curve.proofs.NormalisePeriods.{agree}
-use Rattle.upp_curve.proofs.NormaliseRank.{rises_split, has_mid, upto_mid}
-use Rattle.upp_curve.proofs.NormaliseCopies.{Period, are_copies, more_copies, next_copies, copies_go_on, from_go_on, length-copies, read_is}
+use Rattle.upp_curve.proofs.NormaliseRank.{upto_mid}
+use Rattle.upp_curve.proofs.NormaliseCopies.{Period, are_copies, more_copies, next_copies, copies_go_on, from_go_on, length-copies}
+use Rattle.affine_segment.proofs.PieceIn.{read_is}
 
 -- ---- the right part of a list, and its front
 none_after : (p : Piece) (es : List Piece) (q : Piece) (bs : List Piece) → NoneContinues p (es ++ q ∷ bs) → NoneContinues q bs

@@ -13,26 +13,27 @@ use Rattle.affine_segment.specs.declared.line.Line.{Line}
 use Rattle.affine_segment.specs.declared.line.Piece.{Piece}
 use Rattle.affine_segment.specs.Values.{line_value}
 use Rattle.upp_curve.specs.declared.cycle.Cycle.{Cycle}
-use Rattle.upp_curve.specs.Reading.{read, piece_value}
+use Rattle.affine_segment.specs.Reading.{read, piece_value}
 use Rattle.upp_curve.specs.Curve.{SpecCurve, repeated, cut, value_at}
 use Rattle.upp_curve.specs.Steady.{Repeats, last_line}
 use Rattle.upp_curve.specs.Unrolled.{upto}
-use Rattle.upp_curve.specs.Normal.{StartsAtZero, Each, HasStart, NoMerge}
+use Rattle.affine_segment.specs.Pieces.{StartsAtZero, Each, HasStart}
+use Rattle.upp_curve.specs.Normal.{NoMerge}
 use Rattle.upp_curve.specs.Normalising.{IsPart, IsMerged, IsTwoPeriods, IsTurning, IsLowest, IsLeast, IsFormOf, IsOneLine, OnGrids, OnGridsUnlessLine, cycle_values, second_copy, ended}
 use Rattle.upp_curve.proofs.Steady.{cut_past}
 use Rattle.upp_curve.proofs.Unique.{upto_none, upto_some}
-use Rattle.upp_curve.proofs.FirstStretch.{value_at_start, value_past}
+use Rattle.affine_segment.proofs.PieceIn.{value_at_start, value_past, read_one}
 use Rattle.upp_curve.proofs.Normal.{transfer, periodic}
 use Rattle.upp_curve.proofs.OneForm.{affine, infinite, affine_value, infinite_value}
 use Rattle.upp_curve.proofs.Rules.{rule_extends}
 use Rattle.upp_curve.proofs.Repeats.{repeated_first, repeated_rule}
 use Rattle.upp_curve.proofs.Unrolled.{read_before}
 use Rattle.upp_curve.proofs.Below.{read_from_cut, plain_upto}
-use Rattle.upp_curve.proofs.NormaliseLists.{each_map, each_append, upto_before, rises_upto, rises_append}
+use Rattle.affine_segment.proofs.PieceOrder.{each_map, each_append, rises_append, has_mid, zero_some}
+use Rattle.upp_curve.proofs.NormaliseLists.{upto_before, rises_upto}
 use Rattle.upp_curve.proofs.NormaliseCuts.{last_append}
-use Rattle.upp_curve.proofs.NormaliseMerge.{read_one}
 use Rattle.upp_curve.proofs.NormalisePeriods.{two_periods_are, repeats_after}
-use Rattle.upp_curve.proofs.NormaliseRank.{Last, last_is, has_mid}
+use Rattle.upp_curve.proofs.NormaliseRank.{Last, last_is}
 use Rattle.upp_curve.proofs.NormaliseDivided.{cut_of, period_is, not_one_line}
 use Rattle.upp_curve.proofs.NormaliseLeast.{own_turning, share_some}
 
@@ -270,10 +271,6 @@ last_read ps last n zero none e some is =
 pub ok_map : {A E : Type 0} (r : Result A E) (P Q : A → Type 0) → ((x : A) → P x → Q x) → IfOk r P → IfOk r Q
 ok_map (Ok x) P Q f h = f x h
 ok_map (Err e) P Q f h = h
-
-pub zero_some : (ps : List Piece) → StartsAtZero ps → 0 < length ps
-zero_some [] h = absurd h
-zero_some (p ∷ ps) h = omega arith
 
 pub grids_through : (times values : ℕ) (f g : ℚ → Ext) (r d u : ℚ) → ((t : ℚ) → f t ≡ g t) → OnGridsUnlessLine times values g r d u → OnGridsUnlessLine times values f r d u
 grids_through times values f g r d u same G bent =

@@ -14,26 +14,28 @@ use Rattle.affine_segment.specs.declared.line.Line.{Line}
 use Rattle.affine_segment.specs.declared.line.Piece.{Piece}
 use Rattle.affine_segment.specs.Values.{line_value}
 pub use Rattle.upp_curve.specs.Bends.{ValueOn, LineOn}
-use Rattle.upp_curve.specs.Reading.{read, piece_in, piece_value}
+use Rattle.affine_segment.specs.Reading.{read, piece_in, piece_value}
 use Rattle.upp_curve.specs.Curve.{repeated}
 use Rattle.upp_curve.specs.Steady.{Repeats, last_line}
 use Rattle.upp_curve.specs.Unrolled.{line_later, later, each_later, copies, upto}
-use Rattle.upp_curve.specs.Normal.{Each, RisesFrom, StartsAtZero, FitsPeriod, Continues}
+use Rattle.affine_segment.specs.Pieces.{Each, RisesFrom, StartsAtZero}
+use Rattle.upp_curve.specs.Normal.{FitsPeriod, Continues}
 use Rattle.upp_curve.specs.Normalising.{IsMerged, IsTwoPeriods, IsLine, IsOneLine, Turned, OnGrids, OnGridsUnlessLine, cut_at, past, first_start, second_copy}
 use Rattle.upp_curve.proofs.Unique.{upto_some}
-use Rattle.upp_curve.proofs.FirstStretch.{value_past, value_at_start}
+use Rattle.affine_segment.proofs.PieceIn.{value_past, value_at_start, read_is}
 use Rattle.upp_curve.proofs.Steady.{read_past}
 use Rattle.upp_curve.proofs.Unrolled.{copies_some}
 use Rattle.upp_curve.proofs.Repeats.{repeated_rule}
 use Rattle.upp_curve.proofs.Normal.{transfer, rises}
 use Rattle.upp_curve.proofs.NormaliseLoops.{later_none, later_some}
-use Rattle.upp_curve.proofs.NormaliseLists.{each_append, each_left, each_past, each_upto, rises_down}
+use Rattle.affine_segment.proofs.PieceOrder.{each_append, each_left, rises_down}
+use Rattle.upp_curve.proofs.NormaliseLists.{each_past, each_upto}
 use Rattle.upp_curve.proofs.NormaliseCuts.{each_right, none_past, start_none, start_some, upto_early}
 use Rattle.upp_curve.proofs.NormaliseMerge.{merged_none, merged_skip, merged_keep}
 use Rattle.upp_curve.proofs.NormalisePeriods.{two_periods_are, agree_from, repeats_after}
 use Rattle.upp_curve.proofs.NormaliseBreaks.{one_line}
 use Rattle.upp_curve.proofs.NormaliseShape.{line_for_ever, line_before, turns_at, start_late}
-use Rattle.upp_curve.proofs.NormaliseCopies.{copies_zero, Period, are_copies, read_is}
+use Rattle.upp_curve.proofs.NormaliseCopies.{copies_zero, Period, are_copies}
 use Rattle.upp_curve.proofs.NormaliseDivided.{cut_of, period_is, not_one_line}
 use Rattle.upp_curve.proofs.NormaliseLeast.{share_back, share_some}
 use Rattle.upp_curve.proofs.NormaliseForm.{each_part, merged_cons, two_periods_of, grids_through}

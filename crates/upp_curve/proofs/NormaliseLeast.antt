@@ -15,12 +15,12 @@ use Rattle.rational.proofs.Linear.{with1}
 use Rattle.rational.proofs.Whole.{lt_of_mul}
 use Rattle.rational.specs.Extended.{Ext}
 use Rattle.affine_segment.specs.declared.line.Piece.{Piece}
-use Rattle.upp_curve.specs.Reading.{read}
+use Rattle.affine_segment.specs.Reading.{read}
 use Rattle.upp_curve.specs.Steady.{Repeats}
 use Rattle.upp_curve.specs.Unrolled.{upto, from}
 use Rattle.upp_curve.specs.declared.cycle.Cycle.{Cycle}
 use Rattle.upp_curve.specs.Normalising.{IsCycle, Turned, GoesOn, IsTurning, cycle_values, turn_count, OnGrids, StaysWhole, IsCut, IsDivided, IsLeast, IsFront, SharesFit}
-use Rattle.upp_curve.specs.Normal.{Each}
+use Rattle.affine_segment.specs.Pieces.{Each}
 use Rattle.upp_curve.specs.Fitting.{LaterFits}
 use Rattle.upp_curve.proofs.Repeats.{repeats_times, repeated_rule}
 use Rattle.upp_curve.proofs.Rules.{int_mul}

@@ -10,36 +10,17 @@ use Rattle.affine_segment.specs.declared.line.Line.{Line}
 use Rattle.affine_segment.specs.declared.line.Piece.{Piece}
 use Rattle.affine_segment.specs.Values.{line_value}
 use Rattle.upp_curve.specs.Unrolled.{line_later, later, each_later, upto}
-use Rattle.upp_curve.specs.Normal.{RisesFrom, Each, Continues, NoneContinues}
+use Rattle.affine_segment.specs.Pieces.{RisesFrom, Each}
+use Rattle.upp_curve.specs.Normal.{Continues, NoneContinues}
 use Rattle.upp_curve.specs.Steady.{last_of}
 use Rattle.upp_curve.specs.Normalising.{past}
 use Rattle.upp_curve.proofs.Unrolled.{line_value_later}
 use Rattle.upp_curve.proofs.Rules.{add_cancel_ext}
 use Rattle.upp_curve.proofs.Unique.{upto_none, upto_some, upto_end, lines_at_two}
 use Rattle.upp_curve.proofs.NormaliseLoops.{past_go, past_stop, past_none, later_none, later_some}
-
-pub heads_same : (p q : Piece) (ps qs : List Piece) → p ∷ ps ≡ q ∷ qs → p ≡ q
-heads_same p q ps qs e = cc
-
-pub tails_same : (p q : Piece) (ps qs : List Piece) → p ∷ ps ≡ q ∷ qs → ps ≡ qs
-tails_same p q ps qs e = cc
-
-pub nil_not_cons : (q : Piece) (qs : List Piece) → [] ≡ q ∷ qs → ⊥
-nil_not_cons q qs e = cc
+use Rattle.affine_segment.proofs.PieceOrder.{each_map, each_append, rises_down, rises_append}
 
 -- ---- what holds of each piece
-pub each_map : (P Q : Piece → Type 0) → ((p : Piece) → P p → Q p) → (ps : List Piece) → Each P ps → Each Q ps
-each_map P Q f [] h = tt
-each_map P Q f (p ∷ ps) h = (f p h.0, each_map P Q f ps h.1)
-
-pub each_append : (P : Piece → Type 0) (ps qs : List Piece) → Each P ps → Each P qs → Each P (ps ++ qs)
-each_append P [] qs h k = k
-each_append P (p ∷ ps) qs h k = (h.0, each_append P ps qs h.1 k)
-
-pub each_left : (P : Piece → Type 0) (ps qs : List Piece) → Each P (ps ++ qs) → Each P ps
-each_left P [] qs h = tt
-each_left P (p ∷ ps) qs h = (h.0, each_left P ps qs h.1)
-
 pub each_past : (P : Piece → Type 0) (t : ℚ) (ps : List Piece) → Each P ps → Each P (past t ps)
 each_past P t [] h = subst (Each P) (sym (past_none t)) tt
 each_past P t (p ∷ ps) h = elim (le_or_lt p.x t) [
@@ -70,18 +51,6 @@ each_moved x d c (p ∷ ps) h =
     subst (Each (λ p. p.x <ℚ x +ℚ d)) (sym (later_some d c p ps)) (with3 y x d (λ c. omega (arith, c.le, c.lt, c.same)), each_moved x d c ps h.1)
 
 -- ---- the order of starts
-pub rises_down : (x y : ℚ) (ps : List Piece) → x ≤ℚ y → RisesFrom y ps → RisesFrom x ps
-rises_down x y [] h r = tt
-rises_down x y (p ∷ ps) h r = (le_lt_trans h r.0, r.1)
-
-pub rises_append : (x : ℚ) (ps : List Piece) (q : Piece) (qs : List Piece) → RisesFrom x ps → x <ℚ q.x → Each (λ p. p.x <ℚ q.x) ps → RisesFrom q.x qs → RisesFrom x (ps ++ q ∷ qs)
-rises_append x [] q qs h l e k = (l, k)
-rises_append x (p ∷ ps) q qs h l e k = (h.0, rises_append p.x ps q qs h.1 e.0 e.1 k)
-
-pub rises_left : (x : ℚ) (ps qs : List Piece) → RisesFrom x (ps ++ qs) → RisesFrom x ps
-rises_left x [] qs h = tt
-rises_left x (p ∷ ps) qs h = (h.0, rises_left p.x ps qs h.1)
-
 pub rises_upto : (x y : ℚ) (ps : List Piece) → RisesFrom x ps → RisesFrom x (upto y ps)
 rises_upto x y [] h = subst (RisesFrom x) (sym (upto_end y)) tt
 rises_upto x y (p ∷ ps) h = elim (le_or_lt y p.x) [

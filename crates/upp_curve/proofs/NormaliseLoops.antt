@@ -9,6 +9,7 @@ use Rattle.rational.proofs.Laws.{le_refl, le_of_lt}
 use Rattle.std.specs.Ordering.{MatchOrdering}
 use Rattle.rational.proofs.MinMax.{le_q_not}
 use Rattle.affine_segment.specs.declared.line.Piece.{Piece}
+use Rattle.affine_segment.proofs.NextPiece.{next_piece}
 use Rattle.upp_curve.specs.Unrolled.{later, each_later, upto}
 use Rattle.upp_curve.specs.Normalising.{past, first_start}
 use Rattle.upp_curve.proofs.Unique.{upto_none, upto_some, upto_end}
@@ -20,12 +21,6 @@ cmp_not_less x y n = go (cmp_q x y) refl (cmp_ranks x y)
     go Less e h = absurd (n e)
     go Equal e h = subst (λ v. v ≤ℚ x) h (le_refl x)
     go Greater e h = le_of_lt h
-
--- the piece that a loop looks at, and those after it
-pub next_piece : (p : Piece) (ps : List Piece) (i : ℕ) → i < length ps → p ≡ get_or ps i p → drop i ps ≡ p ∷ drop (i + 1) ps
-next_piece p ps i h e =
-    let k : suc i ≡ i + 1 = omega arith in
-    drop-cons ps i p h ∙ ap₂ (λ (q : Piece) (n : ℕ). q ∷ drop n ps) (sym e) k
 
 -- ---- the pieces past a time
 pub past_go : (t : ℚ) (p : Piece) (ps : List Piece) → p.x ≤ℚ t → past t (p ∷ ps) ≡ past t ps

@@ -4,32 +4,14 @@ use Rattle.std.proofs.Common.{sym, ap, ◌∙◌, refl, subst, inl, inr, append_
 use Rattle.rational.specs.Rational.{ℚ, ◌≤ℚ◌, ◌<ℚ◌}
 use Rattle.rational.proofs.Laws.{antisym, lt_le_trans, le_lt_trans, le_or_lt, le_of_lt}
 use Rattle.affine_segment.specs.declared.line.Piece.{Piece}
-use Rattle.upp_curve.specs.Reading.{read, piece_value}
+use Rattle.affine_segment.specs.Reading.{read, piece_value}
 use Rattle.affine_segment.specs.Values.{line_value}
-use Rattle.upp_curve.specs.Normal.{RisesFrom, Continues}
+use Rattle.affine_segment.specs.Pieces.{RisesFrom}
+use Rattle.upp_curve.specs.Normal.{Continues}
 use Rattle.upp_curve.specs.Normalising.{IsMerged}
-use Rattle.upp_curve.proofs.PieceIn.{piece_in_go, piece_in_stop, piece_in_end}
-use Rattle.upp_curve.proofs.FirstStretch.{value_past, value_at_start}
-use Rattle.upp_curve.proofs.NormaliseLists.{rises_down}
-
--- ---- reading, one piece at a time
--- before all later starts the first piece is read
-pub read_first : (p : Piece) (ps : List Piece) (x t : ℚ) → RisesFrom x ps → t ≤ℚ x → read (p ∷ ps) t ≡ piece_value p t
-unfolding read
-read_first p [] x t h l = ap (λ z. piece_value z t) (piece_in_end p t)
-read_first p (q ∷ qs) x t h l = ap (λ z. piece_value z t) (piece_in_stop p q qs t (le_lt_trans l h.0))
-
-pub read_stop : (p q : Piece) (qs : List Piece) (t : ℚ) → t <ℚ q.x → read (p ∷ q ∷ qs) t ≡ piece_value p t
-unfolding read
-read_stop p q qs t l = ap (λ z. piece_value z t) (piece_in_stop p q qs t l)
-
-pub read_go : (p q : Piece) (qs : List Piece) (t : ℚ) → q.x ≤ℚ t → read (p ∷ q ∷ qs) t ≡ read (q ∷ qs) t
-unfolding read
-read_go p q qs t l = ap (λ z. piece_value z t) (piece_in_go p q qs t l)
-
-pub read_one : (p : Piece) (t : ℚ) → read (p ∷ []) t ≡ piece_value p t
-unfolding read
-read_one p t = ap (λ z. piece_value z t) (piece_in_end p t)
+use Rattle.affine_segment.proofs.PieceIn.{piece_in_go, piece_in_stop, piece_in_end, value_past, value_at_start}
+use Rattle.affine_segment.proofs.PieceIn.{read_first, read_stop, read_go, read_one}
+use Rattle.affine_segment.proofs.PieceOrder.{rises_down}
 
 -- ---- one piece left out
 -- a piece that goes on with p's line has p's values

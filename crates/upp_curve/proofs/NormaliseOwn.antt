@@ -17,12 +17,13 @@ use Rattle.affine_segment.specs.declared.line.Piece.{Piece}
 use Rattle.affine_segment.specs.Values.{line_value}
 use Rattle.upp_curve.specs.declared.curve.Tail.{Tail}
 use Rattle.upp_curve.specs.declared.curve.Tail.TheVariants.{Periodic, Affine, Infinite}
-use Rattle.upp_curve.specs.Reading.{read}
+use Rattle.affine_segment.specs.Reading.{read}
 use Rattle.upp_curve.specs.Curve.{SpecCurve, repeated, value_at}
 use Rattle.upp_curve.specs.Steady.{steady, later_unless, rank_of}
 use Rattle.upp_curve.specs.Periods.{own_period}
-use Rattle.upp_curve.specs.Normal.{Each, StartsAtZero, IsRaw, TailFits}
-use Rattle.upp_curve.specs.Spans.{Span, spans, piece_read, start_after, end_of}
+use Rattle.affine_segment.specs.Pieces.{Each, StartsAtZero, start_after}
+use Rattle.upp_curve.specs.Normal.{IsRaw, TailFits}
+use Rattle.upp_curve.specs.Spans.{Span, spans, piece_read, end_of}
 use Rattle.upp_curve.specs.Limits.{Sizes, curve_numbers, own_end, own_sizes, own_gauge}
 use Rattle.upp_curve.specs.declared.own_window.OwnNumbers.{OwnNumbers}
 use Rattle.upp_curve.specs.OwnWindow.{AreNumbers}
@@ -36,7 +37,7 @@ use Rattle.upp_curve.proofs.NarrowSizes.{grids_narrow, IsNarrow, narrow_limit, g
 use Rattle.upp_curve.proofs.PieceLists.{starts_nonneg}
 use Rattle.upp_curve.proofs.OwnGauge.{end_within}
 use Rattle.upp_curve.proofs.CurveStands.{curve_stands, own_are_sizes, own_stands, starts_below_own_end}
-use Rattle.upp_curve.proofs.NormaliseLists.{each_map}
+use Rattle.affine_segment.proofs.PieceOrder.{each_map}
 use Rattle.upp_curve.proofs.NormaliseForm.{grids_through}
 use Rattle.upp_curve.proofs.NormaliseGrids.{ValueOn, LineOn, PieceOn, raw_on}
 

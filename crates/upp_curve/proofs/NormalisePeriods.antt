@@ -9,19 +9,18 @@ use Rattle.rational.proofs.Whole.{periods_low, periods_high}
 use Rattle.rational.specs.Extended.{Ext, ◌+ₑ◌}
 use Rattle.rational.specs.declared.Extended.TheVariants.{Fin}
 use Rattle.affine_segment.specs.declared.line.Piece.{Piece}
-use Rattle.upp_curve.specs.Reading.{read, piece_in, piece_value}
+use Rattle.affine_segment.specs.Reading.{read, piece_in, piece_value}
 use Rattle.upp_curve.specs.Curve.{repeated}
 use Rattle.upp_curve.specs.Unrolled.{each_later, later}
-use Rattle.upp_curve.specs.Normal.{RisesFrom, Each}
+use Rattle.affine_segment.specs.Pieces.{RisesFrom, Each}
 use Rattle.upp_curve.specs.Steady.{Repeats}
 use Rattle.upp_curve.specs.Normalising.{cut_at, past, second_copy}
-use Rattle.upp_curve.proofs.PieceIn.{piece_in_go, piece_in_stop, piece_in_end}
+use Rattle.affine_segment.proofs.PieceIn.{piece_in_go, piece_in_stop, piece_in_end, value_past, value_at_start, read_stop, read_go, read_one}
 use Rattle.upp_curve.proofs.Repeats.{repeats_times, repeated_first, repeated_next}
-use Rattle.upp_curve.proofs.FirstStretch.{value_past, value_at_start}
 use Rattle.upp_curve.proofs.Unrolled.{read_later, read_before, read_past_list}
 use Rattle.upp_curve.proofs.NormaliseLoops.{past_go, past_none, later_some}
-use Rattle.upp_curve.proofs.NormaliseLists.{each_map, each_append, each_past, each_moved, rises_append, rises_past, rises_moved, past_all}
-use Rattle.upp_curve.proofs.NormaliseMerge.{read_stop, read_go, read_one}
+use Rattle.affine_segment.proofs.PieceOrder.{each_map, each_append, rises_append}
+use Rattle.upp_curve.proofs.NormaliseLists.{each_past, each_moved, rises_past, rises_moved, past_all}
 
 -- ---- one rule
 pub agree_from : (f g : ℚ → Ext) (r d c : ℚ) → int (pos 0) <ℚ d → Repeats f r d c → Repeats g r d c → ((t : ℚ) → r ≤ℚ t → t <ℚ r +ℚ d → f t ≡ g t)

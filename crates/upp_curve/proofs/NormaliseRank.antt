@@ -10,46 +10,29 @@ use Rattle.rational.proofs.Linear.{with2, with3, with4}
 use Rattle.rational.specs.Extended.{Ext, ◌+ₑ◌}
 use Rattle.rational.specs.declared.Extended.TheVariants.{Fin}
 use Rattle.affine_segment.specs.declared.line.Piece.{Piece}
-use Rattle.upp_curve.specs.Readable.{LineFitsAt}
-use Rattle.upp_curve.specs.Reading.{read, piece_value}
+use Rattle.affine_segment.specs.Fits.{LineFitsAt}
+use Rattle.affine_segment.specs.Reading.{read, piece_value}
 use Rattle.affine_segment.specs.Values.{line_value}
 use Rattle.upp_curve.specs.Unrolled.{line_later, later, upto, from}
 use Rattle.upp_curve.specs.Curve.{repeated}
-use Rattle.upp_curve.specs.Normal.{RisesFrom, StartsAtZero, Each, HasStart, NoMerge, Continues}
+use Rattle.affine_segment.specs.Pieces.{RisesFrom, StartsAtZero, Each, HasStart}
+use Rattle.upp_curve.specs.Normal.{NoMerge, Continues}
 use Rattle.upp_curve.specs.Steady.{Repeats, last_of}
 use Rattle.upp_curve.specs.Normalising.{IsCycle, IsFront, IsLowest, RepeatsIn, cut_last, Lowers, MoveReads, StepFits, StepsFit}
 use Rattle.upp_curve.proofs.Unrolled.{line_value_later, read_before}
 use Rattle.upp_curve.proofs.Unique.{upto_none, upto_some}
-use Rattle.upp_curve.proofs.FirstStretch.{value_past, value_at_start}
+use Rattle.affine_segment.proofs.PieceIn.{value_past, value_at_start, read_stop, read_one}
 use Rattle.upp_curve.proofs.Steady.{read_past}
 use Rattle.upp_curve.proofs.Below.{read_from_cut, from_past, from_before, plain_upto}
 use Rattle.upp_curve.proofs.Normal.{rises, start_in_upto, upto_all}
 use Rattle.upp_curve.proofs.Repeats.{repeated_first, repeated_rule}
-use Rattle.upp_curve.proofs.NormaliseLists.{each_map, each_append, upto_before, rises_left, last_is_last, last_in, none_between}
+use Rattle.affine_segment.proofs.PieceOrder.{each_map, each_append, rises_left, rises_split, each_mid, has_mid}
+use Rattle.upp_curve.proofs.NormaliseLists.{upto_before, last_is_last, last_in, none_between}
 use Rattle.upp_curve.proofs.NormaliseCuts.{from_end, split_is, take_upto, drop_upto, zero_upto, no_merge_upto, upto_upto, front_self, front_upto, front_trans, each_front}
-use Rattle.upp_curve.proofs.NormaliseMerge.{read_stop, read_one}
 use Rattle.upp_curve.proofs.NormalisePeriods.{agree, repeats_after}
 use Rattle.upp_curve.proofs.NormaliseBreaks.{lines_apart}
 
 -- ---- a list about one of its pieces
-pub rises_split : (x : ℚ) (es : List Piece) (p : Piece) (bs : List Piece) → RisesFrom x (es ++ p ∷ bs) → Each (λ z. z.x <ℚ p.x) es × (x <ℚ p.x) × RisesFrom p.x bs
-rises_split x [] p bs h = (tt, h.0, h.1)
-rises_split x (a ∷ es) p bs h =
-    let k = rises_split a.x es p bs h.1 in
-    let y = a.x in
-    let z = p.x in
-    let l = h.0 in
-    let m = k.1 in
-    ((m, k.0), with3 x y z (λ c. omega (arith, c.le, c.lt, c.same)), k.2)
-
-pub each_mid : (P : Piece → Type 0) (es : List Piece) (p : Piece) (bs : List Piece) → Each P (es ++ p ∷ bs) → P p
-each_mid P [] p bs h = h.0
-each_mid P (a ∷ es) p bs h = each_mid P es p bs h.1
-
-pub has_mid : (es : List Piece) (p : Piece) (bs : List Piece) → HasStart p.x (es ++ p ∷ bs)
-has_mid [] p bs = inl refl
-has_mid (a ∷ es) p bs = inr (has_mid es p bs)
-
 pub upto_mid : (x : ℚ) (es : List Piece) (p : Piece) (bs : List Piece) → Each (λ z. z.x <ℚ x) es → x ≤ℚ p.x → upto x (es ++ p ∷ bs) ≡ es
 upto_mid x [] p bs h l = upto_none x p bs l
 upto_mid x (a ∷ es) p bs h l = upto_some x a (es ++ p ∷ bs) h.0 ∙ ap (λ zs. a ∷ zs) (upto_mid x es p bs h.1 l)

@@ -18,7 +18,8 @@ use Rattle.affine_segment.specs.declared.line.Line.{Line}
 use Rattle.affine_segment.specs.declared.line.Piece.{Piece}
 use Rattle.affine_segment.specs.Values.{line_value}
 use Rattle.upp_curve.specs.Unrolled.{line_later, later}
-use Rattle.upp_curve.specs.Readable.{LineFitsAt, SumFitsAt}
+use Rattle.affine_segment.specs.Fits.{LineFitsAt}
+use Rattle.upp_curve.specs.Readable.{SumFitsAt}
 use Rattle.upp_curve.specs.Fitting.{LineLaterFits, LaterFits}
 use Rattle.upp_curve.specs.Room.{top, Room, IsRoom, TimeHasRoom, many, ValueHasRoom, LineHasRoom, PieceHasRoom, IsMove}
 

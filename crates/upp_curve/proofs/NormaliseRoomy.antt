@@ -10,24 +10,24 @@ use Rattle.rational.proofs.Grid.{within_some}
 use Rattle.affine_segment.specs.declared.line.Line.{Line}
 use Rattle.affine_segment.specs.declared.line.Piece.{Piece}
 use Rattle.upp_curve.specs.declared.cycle.Cycle.{Cycle}
-use Rattle.upp_curve.specs.Reading.{read, piece_in, piece_value}
+use Rattle.affine_segment.specs.Reading.{read, piece_in, piece_value}
 use Rattle.upp_curve.specs.Steady.{last_line}
 use Rattle.upp_curve.specs.Unrolled.{line_later, each_later}
-use Rattle.upp_curve.specs.Normal.{Each, RisesFrom}
-use Rattle.upp_curve.specs.Readable.{LineFitsAt, LineFitsTo, SumFitsAt, EachFits, PeriodFits, start_after}
-use Rattle.upp_curve.specs.Fitting.{LaterFits, ReadFits}
+use Rattle.affine_segment.specs.Pieces.{Each, RisesFrom, start_after}
+use Rattle.affine_segment.specs.Fits.{LineFitsAt, ReadFits}
+use Rattle.upp_curve.specs.Readable.{LineFitsTo, SumFitsAt, EachFits, PeriodFits}
+use Rattle.upp_curve.specs.Fitting.{LaterFits}
 use Rattle.upp_curve.specs.Normalising.{IsCycle, IsFront, IsLeast, SharesFit, StepsFit, MoveReads, cut_at, past, second_copy}
 use Rattle.upp_curve.specs.Room.{Room, IsRoom, TimeHasRoom, many, ValueHasRoom, LineHasRoom, PieceHasRoom, IsMove, PiecesHaveRoom, TurnHasRoom, CycleHasRoom}
-use Rattle.upp_curve.proofs.FirstStretch.{value_past, value_at_start}
+use Rattle.affine_segment.proofs.PieceIn.{value_past, value_at_start, piece_in_go, piece_in_stop, piece_in_end, read_first}
 use Rattle.upp_curve.proofs.Normal.{each_at}
-use Rattle.upp_curve.proofs.PieceIn.{piece_in_go, piece_in_stop, piece_in_end}
 use Rattle.upp_curve.proofs.Below.{read_from_cut}
 use Rattle.upp_curve.proofs.NormaliseLoops.{later_none, later_some}
-use Rattle.upp_curve.proofs.NormaliseLists.{each_map, each_append, each_past}
+use Rattle.affine_segment.proofs.PieceOrder.{each_map, each_append}
+use Rattle.upp_curve.proofs.NormaliseLists.{each_past}
 use Rattle.upp_curve.proofs.NormaliseCuts.{each_front}
 use Rattle.upp_curve.proofs.NormaliseLeast.{share_some, share_back}
 use Rattle.upp_curve.proofs.NormaliseDivided.{cut_of}
-use Rattle.upp_curve.proofs.NormaliseMerge.{read_first}
 use Rattle.upp_curve.proofs.NormaliseRoom.{line_fits, line_value_room, time_moved, start_fits, at_fits, later_fits, later_room, piece_weaken, rate_fits}
 
 -- ---- each of two

@@ -5,17 +5,19 @@ use Rattle.rational.specs.Rational.{ℚ, ◌+ℚ◌, ◌≤ℚ◌, ◌<ℚ◌, i
 use Rattle.rational.proofs.Laws.{le_of_lt}
 use Rattle.rational.proofs.Linear.{with2, with3, with4}
 use Rattle.affine_segment.specs.declared.line.Piece.{Piece}
-use Rattle.upp_curve.specs.Reading.{read}
+use Rattle.affine_segment.specs.Reading.{read}
 use Rattle.upp_curve.specs.Curve.{repeated}
 use Rattle.upp_curve.specs.Unrolled.{later, upto, from}
-use Rattle.upp_curve.specs.Normal.{Each, HasStart, Continues}
+use Rattle.affine_segment.specs.Pieces.{Each, HasStart}
+use Rattle.upp_curve.specs.Normal.{Continues}
 use Rattle.upp_curve.specs.Steady.{last_of}
 use Rattle.upp_curve.specs.Normalising.{past, first_start, IsTwoPeriods, EndsInBreak, IsLine, Turned}
 use Rattle.upp_curve.proofs.Unique.{upto_some}
 use Rattle.upp_curve.proofs.Below.{plain_upto}
 use Rattle.upp_curve.proofs.Normal.{each_at, start_in_upto, rises}
 use Rattle.upp_curve.proofs.Repeats.{repeated_first, repeated_rule}
-use Rattle.upp_curve.proofs.NormaliseLists.{upto_before, heads_same, tails_same}
+use Rattle.upp_curve.proofs.NormaliseLists.{upto_before}
+use Rattle.affine_segment.proofs.PieceOrder.{heads_same, tails_same}
 use Rattle.upp_curve.proofs.NormaliseCuts.{split_is, take_upto, from_upto, from_is_past, upto_upto, upto_early, first_late, none_past, past_has, start_none, start_some, zero_upto, no_merge_upto, last_append}
 use Rattle.upp_curve.proofs.NormalisePeriods.{agree, repeats_after}
 use Rattle.upp_curve.proofs.NormaliseBreaks.{one_line_reads, Break, break_at, ends_in_break}

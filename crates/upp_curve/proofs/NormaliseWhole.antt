@@ -11,20 +11,23 @@ use Rattle.upp_curve.specs.declared.curve.Tail.{Tail}
 use Rattle.upp_curve.specs.declared.curve.Tail.TheVariants.{Infinite}
 use Rattle.upp_curve.specs.Spans.{piece_read}
 use Rattle.rational.proofs.Over.{lt_q_out}
-use Rattle.upp_curve.proofs.FirstStretch.{value_at_start}
+use Rattle.affine_segment.proofs.PieceIn.{value_at_start}
 use Rattle.upp_curve.specs.declared.cycle.Cycle.{Cycle}
-use Rattle.upp_curve.specs.Reading.{read, piece_in, piece_value}
+use Rattle.affine_segment.specs.Reading.{read, piece_in, piece_value}
 use Rattle.upp_curve.specs.Curve.{SpecCurve}
 use Rattle.upp_curve.specs.Curves.{IsCurve}
 use Rattle.upp_curve.specs.Unrolled.{upto}
-use Rattle.upp_curve.specs.Normal.{Each, StartsAtZero, NoMerge, FitsPeriod}
+use Rattle.affine_segment.specs.Pieces.{Each, StartsAtZero}
+use Rattle.upp_curve.specs.Normal.{NoMerge, FitsPeriod}
 use Rattle.upp_curve.specs.Readable.{EachFits}
-use Rattle.upp_curve.specs.Fitting.{LaterFits, ReadFits}
+use Rattle.upp_curve.specs.Fitting.{LaterFits}
+use Rattle.affine_segment.specs.Fits.{ReadFits}
 use Rattle.upp_curve.specs.Normalising.{IsMerged, IsFront, IsTwoPeriods, IsLeast, IsLowest, second_copy, cycle_values, ended}
 use Rattle.upp_curve.specs.Room.{Room, PieceHasRoom, PiecesHaveRoom, EndHasRoom, TurnHasRoom, TwoHaveRoom, CycleHasRoom}
 use Rattle.upp_curve.proofs.OneForm.{affine, infinite}
 use Rattle.upp_curve.proofs.Normal.{periodic}
-use Rattle.upp_curve.proofs.NormaliseLists.{each_map, each_append, each_upto, upto_before}
+use Rattle.affine_segment.proofs.PieceOrder.{each_map, each_append}
+use Rattle.upp_curve.proofs.NormaliseLists.{each_upto, upto_before}
 use Rattle.upp_curve.proofs.NormaliseCuts.{each_front}
 use Rattle.upp_curve.proofs.NormalisePeriods.{two_periods_are}
 use Rattle.upp_curve.proofs.NormaliseRank.{Last}

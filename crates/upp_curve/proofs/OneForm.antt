@@ -11,9 +11,10 @@ use Rattle.affine_segment.specs.declared.line.Piece.{Piece}
 use Rattle.upp_curve.specs.declared.curve.Tail.{Tail}
 use Rattle.upp_curve.specs.declared.curve.Tail.TheVariants.{Periodic, Affine, Infinite}
 use Rattle.upp_curve.specs.Curve.{SpecCurve, value_at, cut, HasSameValues}
-use Rattle.upp_curve.specs.Reading.{read}
+use Rattle.affine_segment.specs.Reading.{read}
 use Rattle.affine_segment.specs.Values.{line_value}
-use Rattle.upp_curve.specs.Normal.{IsNormal, Each, HasStart, NoMerge, StartsAtZero}
+use Rattle.upp_curve.specs.Normal.{IsNormal, NoMerge}
+use Rattle.affine_segment.specs.Pieces.{Each, HasStart, StartsAtZero}
 use Rattle.upp_curve.specs.Steady.{last_line, Repeats, slope_times}
 use Rattle.upp_curve.proofs.Repeats.{repeats_times}
 use Rattle.rational.proofs.Whole.{nat_nonneg}

@@ -17,11 +17,12 @@ use Rattle.affine_segment.specs.declared.line.Piece.{Piece}
 use Rattle.affine_segment.specs.Values.{line_value}
 use Rattle.upp_curve.specs.declared.curve.Tail.{Tail}
 use Rattle.upp_curve.specs.declared.curve.Tail.TheVariants.{Periodic, Affine, Infinite}
-use Rattle.upp_curve.specs.Reading.{read, piece_value}
+use Rattle.affine_segment.specs.Reading.{read, piece_value}
 use Rattle.upp_curve.specs.Curve.{SpecCurve}
 use Rattle.upp_curve.specs.Steady.{last_of, same_ext, later_unless, steady}
-use Rattle.upp_curve.specs.Readable.{LineFitsAt}
-use Rattle.upp_curve.specs.Normal.{Each, IsRaw, StartsAtZero, TailFits}
+use Rattle.affine_segment.specs.Fits.{LineFitsAt}
+use Rattle.affine_segment.specs.Pieces.{Each, StartsAtZero}
+use Rattle.upp_curve.specs.Normal.{IsRaw, TailFits}
 use Rattle.upp_curve.specs.Periods.{HasPeriod, own_period}
 use Rattle.upp_curve.specs.Spans.{Span, piece_read, end_of, spans}
 use Rattle.upp_curve.specs.Limits.{Sizes, sizes_of, curve_numbers, gauge_of, own_end, own_sizes, own_gauge}

@@ -15,7 +15,8 @@ use Rattle.upp_curve.specs.declared.curve.Tail.{Tail}
 use Rattle.upp_curve.specs.declared.curve.Tail.TheVariants.{Periodic, Affine, Infinite}
 use Rattle.upp_curve.specs.Curve.{SpecCurve}
 use Rattle.upp_curve.specs.Unrolled.{later, each_later, copies, upto, from, unroll, copies_below, count}
-use Rattle.upp_curve.specs.Normal.{Each, RisesFrom, StartsAtZero, IsRaw, TailFits}
+use Rattle.affine_segment.specs.Pieces.{Each, RisesFrom, StartsAtZero}
+use Rattle.upp_curve.specs.Normal.{IsRaw, TailFits}
 use Rattle.upp_curve.specs.Spans.{once, number_below}
 use Rattle.upp_curve.proofs.Copies.{copies_in, copies_out}
 

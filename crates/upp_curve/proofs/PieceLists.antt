@@ -6,8 +6,8 @@ use Rattle.rational.specs.Rational.{ℚ, ◌≤ℚ◌, int}
 use Rattle.rational.proofs.Laws.{le_refl, le_of_lt, le_trans}
 use Rattle.affine_segment.specs.declared.line.Piece.{Piece}
 use Rattle.upp_curve.specs.declared.curve.Tail.{Tail}
-use Rattle.upp_curve.specs.Normal.{RisesFrom, StartsAtZero}
-use Rattle.upp_curve.specs.Spans.{Span, piece_read, start_after, end_of, spans}
+use Rattle.affine_segment.specs.Pieces.{RisesFrom, StartsAtZero, start_after}
+use Rattle.upp_curve.specs.Spans.{Span, piece_read, end_of, spans}
 use Rattle.upp_curve.specs.Limits.{Numbers, no_numbers, joined}
 use Rattle.upp_curve.specs.ClosedForm.{closed_span, closed_spans}
 use Rattle.upp_curve.proofs.JoinedNumbers.{joined_assoc, joined_nothing}

@@ -2,20 +2,13 @@
 use Rattle.std.specs.Prelude.{◌≡◌, ◌↔◌, ℕ, zero, suc, ◌+◌, ◌-◌, ◌<◌, ◌≤◌, List, [], ◌∷◌, length, slice_get, Option, Some, None}
 use Rattle.std.proofs.Common.{arith, get_or, drop, drop-cons, drop_of_length-le, sym, ap, ap₂, ◌∙◌, refl, subst}
 use Rattle.affine_segment.specs.declared.line.Piece.{Piece}
+use Rattle.affine_segment.proofs.NextPiece.{next_piece, none_left}
 use Rattle.upp_curve.specs.declared.shape.End.{End}
-use Rattle.upp_curve.specs.Normal.{Each}
-use Rattle.upp_curve.specs.Readable.{LineFitsAt, LineFitsTo, EachFits}
+use Rattle.affine_segment.specs.Pieces.{Each}
+use Rattle.affine_segment.specs.Fits.{LineFitsAt}
+use Rattle.upp_curve.specs.Readable.{LineFitsTo, EachFits}
 use Rattle.upp_curve.specs.Steady.{last_of, last_line}
 use Rattle.upp_curve.specs.Shapes.{PieceRises, PiecesRise, end_time}
-
--- the next piece is the first of those that are left
-pub next_piece : (p : Piece) (rest : List Piece) (j : ℕ) → j < length rest → p ≡ get_or rest j p → drop j rest ≡ p ∷ drop (j + 1) rest
-next_piece p rest j h e =
-    let k : suc j ≡ j + 1 = omega arith in
-    drop-cons rest j p h ∙ ap₂ (λ (q : Piece) (n : ℕ). q ∷ drop n rest) (sym e) k
-
-none_left : (rest : List Piece) (j : ℕ) → length rest ≤ j → drop j rest ≡ []
-none_left rest j h = drop_of_length-le rest h
 
 -- ---- a test of each piece
 pub each_on : (P : Piece → Type 0) (ps : List Piece) (j : ℕ) (p : Piece) → (Each P ps ↔ Each P (drop j ps)) → j < length ps → p ≡ get_or ps j p → P p

@@ -10,7 +10,7 @@ use Rattle.rational.specs.Ratio.{IsSmall, SumFits, PartsFit}
 use Rattle.rational.proofs.Laws.{mul_zero}
 use Rattle.upp_curve.specs.Curves.{IsCurve}
 use Rattle.upp_curve.specs.Kinds.{bucket}
-use Rattle.upp_curve.specs.Readable.{LineFits}
+use Rattle.affine_segment.specs.Fits.{LineFits}
 use Rattle.upp_curve.proofs.ByTail.{bucket_normal}
 
 -- ---- a sum with 0 fits
@@ -43,18 +43,18 @@ parts_with_zero n d h k = record {
     more : n ≡ n +ℤ pos 0
     more = omega (arith, ints)
 
-zero_num : (int (pos 0)).num ≡ pos 0
+pub zero_num : (int (pos 0)).num ≡ pos 0
 unfolding frac gcd gcd_steps
 zero_num = refl
 
-zero_den : den (int (pos 0)) ≡ 1
+pub zero_den : den (int (pos 0)) ≡ 1
 unfolding frac gcd gcd_steps
 zero_den = refl
 
 sum_with_zero : (x : ℚ) → IsSmall x → SumFits x (int (pos 0))
 sum_with_zero x h = rw (zero_num, zero_den) (parts_with_zero x.num (den x) h.top h.bottom)
 
-zero_small : IsSmall (int (pos 0))
+pub zero_small : IsSmall (int (pos 0))
 zero_small = record { top = rw zero_num (omega arith); bottom = rw zero_den (omega arith) }
 
 -- a line is readable at 0

@@ -10,13 +10,14 @@ use Rattle.affine_segment.specs.declared.line.Piece.{Piece}
 use Rattle.upp_curve.specs.declared.curve.Tail.{Tail}
 use Rattle.upp_curve.specs.declared.curve.Tail.TheVariants.{Periodic, Affine, Infinite}
 use Rattle.upp_curve.specs.declared.shape.End.{End}
-use Rattle.upp_curve.specs.Reading.{piece_value, piece_in, read}
+use Rattle.affine_segment.specs.Reading.{piece_value, piece_in, read}
 use Rattle.upp_curve.specs.Curve.{value_at, repeated}
 use Rattle.min_plus.specs.Functions.{IsRising, IsFinite}
-use Rattle.upp_curve.specs.Normal.{Each, HasStart, RisesFrom, StartsAtZero, IsNormal, FitsPeriod}
+use Rattle.affine_segment.specs.Pieces.{Each, HasStart, RisesFrom, StartsAtZero}
+use Rattle.upp_curve.specs.Normal.{IsNormal, FitsPeriod}
 use Rattle.upp_curve.specs.Shapes.{IsNumber, IsFinitePiece, PiecesRise}
-use Rattle.upp_curve.proofs.PieceIn.{piece_in_end, piece_in_go, piece_in_stop}
-use Rattle.upp_curve.proofs.FirstStretch.{read_in, value_at_start}
+use Rattle.affine_segment.proofs.PieceIn.{piece_in_end, piece_in_go, piece_in_stop, value_at_start}
+use Rattle.upp_curve.proofs.FirstStretch.{read_in}
 use Rattle.upp_curve.proofs.Repeats.{repeated_first, repeated_next}
 use Rattle.upp_curve.proofs.OneForm.{infinite_value, infinite_past}
 use Rattle.min_plus.proofs.FiniteValues.{no_inf}

@@ -14,12 +14,12 @@ use Rattle.affine_segment.specs.declared.line.Line.{Line}
 use Rattle.affine_segment.specs.declared.line.Piece.{Piece}
 use Rattle.affine_segment.specs.Values.{line_at, line_value}
 use Rattle.upp_curve.specs.declared.shape.End.{End}
-use Rattle.upp_curve.specs.Reading.{piece_value}
+use Rattle.affine_segment.specs.Reading.{piece_value}
 use Rattle.min_plus.specs.Functions.{zero_q}
-use Rattle.upp_curve.specs.Normal.{Each, RisesFrom}
+use Rattle.affine_segment.specs.Pieces.{Each, RisesFrom}
 use Rattle.upp_curve.specs.Shapes.{LineRises, PieceRises, PiecesRise}
-use Rattle.upp_curve.proofs.PieceIn.{piece_in_end, piece_in_go, piece_in_stop}
-use Rattle.upp_curve.proofs.FirstStretch.{read_in, value_past, at_start}
+use Rattle.affine_segment.proofs.PieceIn.{piece_in_end, piece_in_go, piece_in_stop, value_past}
+use Rattle.upp_curve.proofs.FirstStretch.{read_in, at_start}
 
 -- ---- a line on an open stretch
 rising_slope : (l : Option Line) (x e : ℚ) → x <ℚ e → ((s t : ℚ) → x <ℚ s → s ≤ℚ t → t <ℚ e → line_value l s ≤ₑ line_value l t) → LineRises l

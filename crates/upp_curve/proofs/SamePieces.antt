@@ -17,16 +17,17 @@ use Rattle.affine_segment.specs.declared.line.Piece.{Piece}
 use Rattle.upp_curve.specs.declared.curve.Tail.{Tail}
 use Rattle.upp_curve.specs.declared.curve.Tail.TheVariants.{Periodic, Affine, Infinite}
 use Rattle.upp_curve.specs.Curve.{SpecCurve}
-use Rattle.upp_curve.specs.Normal.{Each, IsNormal, RisesFrom}
+use Rattle.affine_segment.specs.Pieces.{Each, RisesFrom, start_after}
+use Rattle.upp_curve.specs.Normal.{IsNormal}
 use Rattle.upp_curve.specs.PieceLaws.{HaveSamePieces, PiecesAreCounted}
-use Rattle.upp_curve.specs.Spans.{Span, copies_of, end_of, number_below, once, once_below, piece_read, span_below, spans, spans_below, start_after}
+use Rattle.upp_curve.specs.Spans.{Span, copies_of, end_of, number_below, once, once_below, piece_read, span_below, spans, spans_below}
 use Rattle.upp_curve.specs.Unrolled.{copies, copies_below, each_later, from, later, unroll, unrolled, upto}
 use Rattle.upp_curve.proofs.Copies.{copies_in, every_copy}
 use Rattle.upp_curve.proofs.Every.{every_flat, every_map, every_map_out, every_weaken}
 use Rattle.upp_curve.proofs.Normal.{rises}
 use Rattle.upp_curve.proofs.NormaliseCopies.{copies_next, later_twice}
 use Rattle.upp_curve.proofs.NormaliseCuts.{each_right}
-use Rattle.upp_curve.proofs.NormaliseLists.{each_left, each_map}
+use Rattle.affine_segment.proofs.PieceOrder.{each_left, each_map}
 use Rattle.upp_curve.proofs.NormaliseLoops.{later_some}
 use Rattle.upp_curve.proofs.PieceCounts.{count_is_length, count_is_sum, from_none, from_some, upto_some}
 use Rattle.upp_curve.proofs.UnrolledPieces.{IsGiven, all_read, each_with, no_later, periodic_starts, unroll_each}

@@ -14,10 +14,10 @@ use Rattle.affine_segment.specs.Values.{line_value}
 use Rattle.upp_curve.specs.declared.curve.Tail.{Tail}
 use Rattle.upp_curve.specs.declared.curve.Tail.TheVariants.{Periodic, Affine, Infinite}
 use Rattle.upp_curve.specs.Curve.{SpecCurve}
-use Rattle.upp_curve.specs.Normal.{StartsAtZero, RisesFrom}
+use Rattle.affine_segment.specs.Pieces.{StartsAtZero, RisesFrom, start_after}
 use Rattle.min_plus.specs.Pointwise.{scaled}
 use Rattle.upp_curve.specs.Periods.{HasPeriod}
-use Rattle.upp_curve.specs.Spans.{Span, end_of, line_read, start_after, spans}
+use Rattle.upp_curve.specs.Spans.{Span, end_of, line_read, spans}
 use Rattle.upp_curve.specs.Limits.{Numbers, Sizes, no_numbers, joined, curve_numbers, gauge_of}
 use Rattle.upp_curve.specs.Sized.{AreSizes, Stands, ValueStands, LineStands, SpanStands, TailStands}
 use Rattle.upp_curve.specs.Seen.{Knows}

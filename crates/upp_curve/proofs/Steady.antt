@@ -12,13 +12,14 @@ use Rattle.affine_segment.specs.declared.line.Piece.{Piece}
 use Rattle.upp_curve.specs.declared.curve.Tail.{Tail}
 use Rattle.upp_curve.specs.declared.curve.Tail.TheVariants.{Periodic, Affine, Infinite}
 use Rattle.upp_curve.specs.Curve.{SpecCurve, value_at, with_tail, repeated, cut}
-use Rattle.upp_curve.specs.Reading.{read, piece_in, piece_value}
+use Rattle.affine_segment.specs.Reading.{read, piece_in, piece_value}
 use Rattle.affine_segment.specs.Values.{line_value}
-use Rattle.upp_curve.specs.Normal.{IsRaw, Each, TailFits}
+use Rattle.upp_curve.specs.Normal.{IsRaw, TailFits}
+use Rattle.affine_segment.specs.Pieces.{Each}
 use Rattle.upp_curve.specs.Steady.{last_of, last_line, same_ext, later_unless, steady_in, steady, slope_times, rise_in, rise_over, IsWholePeriods, Repeats}
 use Rattle.rational.proofs.MinMax.{le_q_not}
 use Rattle.rational.proofs.Whole.{not_zero}
-use Rattle.upp_curve.proofs.PieceIn.{piece_in_go, piece_in_end}
+use Rattle.affine_segment.proofs.PieceIn.{piece_in_go, piece_in_end}
 use Rattle.upp_curve.proofs.Repeats.{repeated_rule, repeats_times}
 
 -- ---- the test of two values

@@ -11,7 +11,8 @@ use Rattle.upp_curve.specs.Curve.{SpecCurve}
 use Rattle.upp_curve.specs.Curves.{IsCurve}
 use Rattle.upp_curve.specs.Normal.{IsRaw}
 use Rattle.upp_curve.specs.Periods.{own_period}
-use Rattle.upp_curve.specs.Readable.{EachFits, LineFitsAt}
+use Rattle.upp_curve.specs.Readable.{EachFits}
+use Rattle.affine_segment.specs.Fits.{LineFitsAt}
 use Rattle.upp_curve.specs.Seen.{RankLineFits}
 use Rattle.upp_curve.specs.Steady.{last_of, later_unless, rank_of, steady}
 use Rattle.upp_curve.specs.Limits.{own_end}

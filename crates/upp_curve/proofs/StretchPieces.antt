@@ -10,43 +10,17 @@ use Rattle.rational.proofs.MinMax.{le_q_not}
 use Rattle.affine_segment.specs.declared.line.Piece.{Piece}
 use Rattle.affine_segment.specs.Values.{line_value}
 use Rattle.upp_curve.specs.declared.curve.Tail.{Tail}
-use Rattle.upp_curve.specs.Reading.{piece_in, piece_value, read}
+use Rattle.affine_segment.specs.Reading.{piece_in, piece_value, read, next_in, line_in}
 use Rattle.upp_curve.specs.Curve.{cut}
-use Rattle.upp_curve.specs.Normal.{Each, HasStart, RisesFrom, StartsAtZero, FitsRank}
+use Rattle.affine_segment.specs.Pieces.{Each, HasStart, RisesFrom, StartsAtZero, start_after}
+use Rattle.upp_curve.specs.Normal.{FitsRank}
 use Rattle.upp_curve.specs.Steady.{last_line}
-use Rattle.upp_curve.specs.Spans.{Span, spans, end_of, piece_read, start_after}
-use Rattle.upp_curve.specs.Ahead.{IsBeforeNext, AtNext, next_in, line_in}
-use Rattle.upp_curve.proofs.PieceIn.{piece_in_stop, piece_in_go, piece_in_end, IsPointAt}
-use Rattle.upp_curve.proofs.FirstStretch.{value_past}
+use Rattle.upp_curve.specs.Spans.{Span, spans, end_of, piece_read}
+use Rattle.upp_curve.specs.Ahead.{IsBeforeNext, AtNext}
+use Rattle.affine_segment.proofs.NextPiece.{next_go, next_stop, next_none, next_piece}
+use Rattle.affine_segment.proofs.PieceIn.{piece_in_stop, piece_in_go, piece_in_end, IsPointAt, value_past}
 use Rattle.upp_curve.proofs.Normal.{past_start}
 use Rattle.upp_curve.proofs.Steady.{read_past}
-use Rattle.upp_curve.proofs.PieceLoops.{next_piece}
-
--- ---- where the next piece starts
-pub next_go : (p : Piece) (ps : List Piece) (t : ℚ) (after : Option ℚ) → p.x ≤ℚ t → next_in (p ∷ ps) t after ≡ next_in ps t after
-unfolding next_in
-next_go p ps t after h = ap (λ b. cond b (next_in ps t after) (Some p.x)) (le_q_out p.x t h)
-
-pub next_stop : (p : Piece) (ps : List Piece) (t : ℚ) (after : Option ℚ) → t <ℚ p.x → next_in (p ∷ ps) t after ≡ Some p.x
-unfolding next_in
-next_stop p ps t after h = ap (λ b. cond b (next_in ps t after) (Some p.x)) (le_q_not p.x t h)
-
-pub next_none : (t : ℚ) (after : Option ℚ) → next_in [] t after ≡ after
-unfolding next_in
-next_none t after = refl
-
-none_left : (n : ℕ) → drop {A = Piece} n [] ≡ []
-none_left zero = refl
-none_left (suc n) = refl
-
--- as a search finds it: the first n pieces start at t or before, the others after it
-pub next_found : (ps : List Piece) (t : ℚ) (n : ℕ) (after : Option ℚ) → IsPointAt t ps n → start_after (drop n ps) after ≡ next_in ps t after
-unfolding next_in
-next_found [] t n after point = ap (λ xs. start_after xs after) (none_left n)
-next_found (p ∷ ps) t zero after point = sym (ap (λ b. cond b (next_in ps t after) (Some p.x)) (point.1 0 p (omega arith) (omega arith)))
-next_found (p ∷ ps) t (suc n) after point =
-    next_found ps t n after (λ k d l m. point.0 (suc k) d (omega arith) (omega arith), λ k d l m. point.1 (suc k) d (omega arith) (omega arith))
-    ∙ sym (ap (λ b. cond b (next_in ps t after) (Some p.x)) (point.0 0 p (omega arith) (omega arith)))
 
 -- ---- the next start is past the time, and what holds of all starts holds of it
 pub next_past : (ps : List Piece) (t : ℚ) (after : Option ℚ) → IsBeforeNext t after → IsBeforeNext t (next_in ps t after)
@@ -135,10 +109,3 @@ line_at_rank p (q ∷ qs) rank t r h none l = elim (le_or_lt q.x t) [
   | inl k ↦ ap (λ z. z.line) (piece_in_go p q qs t k) ∙ line_at_rank q qs rank t r.1 h.1 none (subst (λ z. rank ≤ℚ z.x) (piece_in_go p q qs t k) l)
   | inr k ↦ absurd (not_le_of_lt (lt_le_trans r.0 h.0) (subst (λ z. rank ≤ℚ z.x) (piece_in_stop p q qs t k) l))
 ]
-
--- ---- the next start, as it is looked up
-pub next_ends : (ps : List Piece) (t : ℚ) (n : ℕ) (after : Option ℚ) → IsPointAt t ps n → length ps ≤ n → after ≡ next_in ps t after
-next_ends ps t n after point h = sym (ap (λ xs. start_after xs after) (drop_of_length-le ps h)) ∙ next_found ps t n after point
-
-pub next_is : (ps : List Piece) (t : ℚ) (n : ℕ) (after : Option ℚ) (q : Piece) → IsPointAt t ps n → n < length ps → q ≡ get_or ps n q → Some q.x ≡ next_in ps t after
-next_is ps t n after q point h e = sym (ap (λ xs. start_after xs after) (next_piece q ps n h e)) ∙ next_found ps t n after point

@@ -23,11 +23,12 @@ use Rattle.upp_curve.specs.declared.curve.Tail.{Tail}
 use Rattle.upp_curve.specs.declared.curve.Tail.TheVariants.{Periodic, Affine, Infinite}
 use Rattle.upp_curve.specs.Curve.{SpecCurve}
 use Rattle.upp_curve.specs.Curves.{IsCurve}
-use Rattle.upp_curve.specs.Reading.{piece_in}
+use Rattle.affine_segment.specs.Reading.{piece_in}
 use Rattle.upp_curve.specs.Steady.{rank_of}
 use Rattle.upp_curve.specs.Periods.{period_of}
-use Rattle.upp_curve.specs.Normal.{Each, HasStart, StartsAtZero, FitsPeriod, TailFits}
-use Rattle.upp_curve.specs.Readable.{LineFitsAt}
+use Rattle.affine_segment.specs.Pieces.{Each, HasStart, StartsAtZero}
+use Rattle.upp_curve.specs.Normal.{FitsPeriod, TailFits}
+use Rattle.affine_segment.specs.Fits.{LineFitsAt}
 use Rattle.upp_curve.specs.Unrolled.{copies_below, line_later}
 use Rattle.upp_curve.specs.Spans.{Span, copy_of, copies_of, once_below, span_below, spans, spans_below}
 use Rattle.upp_curve.specs.Limits.{Sizes, curve_numbers}

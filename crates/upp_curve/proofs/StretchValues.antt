@@ -21,22 +21,24 @@ use Rattle.upp_curve.specs.declared.curve.Tail.{Tail}
 use Rattle.upp_curve.specs.declared.curve.Tail.TheVariants.{Periodic, Affine, Infinite}
 use Rattle.upp_curve.specs.Curve.{SpecCurve, value_at, with_tail, repeated}
 use Rattle.upp_curve.specs.Curves.{IsCurve}
-use Rattle.upp_curve.specs.Reading.{piece_in, piece_value, read}
-use Rattle.upp_curve.specs.Normal.{Each, RisesFrom, StartsAtZero, FitsPeriod, TailFits, TailNormal}
-use Rattle.upp_curve.specs.Fitting.{ReadFits}
+use Rattle.affine_segment.specs.Reading.{piece_in, piece_value, read, next_in, line_in}
+use Rattle.affine_segment.specs.Pieces.{Each, RisesFrom, StartsAtZero}
+use Rattle.upp_curve.specs.Normal.{FitsPeriod, TailFits, TailNormal}
+use Rattle.affine_segment.specs.Fits.{ReadFits}
 use Rattle.upp_curve.specs.Unrolled.{line_later}
 use Rattle.upp_curve.specs.Steady.{rank_of}
 use Rattle.upp_curve.specs.Periods.{period_of}
 use Rattle.upp_curve.specs.Spans.{next_later, piece_read, spans}
 use Rattle.upp_curve.specs.Limits.{Sizes}
 use Rattle.upp_curve.specs.Operand.{AreLimited, OperandLineAt}
-use Rattle.upp_curve.specs.Ahead.{IsBeforeNext, GoesOn, AtNext, next_in, line_in, TimesStand, HasWindow, IsTimeIn, GridValue}
+use Rattle.upp_curve.specs.Ahead.{IsBeforeNext, GoesOn, AtNext, TimesStand, HasWindow, IsTimeIn, GridValue}
 use Rattle.upp_curve.specs.Copied.{IsTurn, NextMoves}
 use Rattle.upp_curve.specs.Sized.{SpanStands}
 use Rattle.upp_curve.proofs.Unrolled.{line_value_later}
 use Rattle.upp_curve.proofs.AnswerRoom.{operand_line_fits, operand_line_value, stands_operand_value}
 use Rattle.upp_curve.proofs.CurveStands.{each_stands, has_period, unrolled_stand}
-use Rattle.upp_curve.proofs.StretchPieces.{next_go, next_stop, next_none, next_past, next_all, found_early, found_late, span_in, line_at_rank, reads_on, cut_plain}
+use Rattle.affine_segment.proofs.NextPiece.{next_go, next_stop, next_none}
+use Rattle.upp_curve.proofs.StretchPieces.{next_past, next_all, found_early, found_late, span_in, line_at_rank, reads_on, cut_plain}
 use Rattle.upp_curve.proofs.StretchTurns.{Turned, turned, same_turn, repeated_at}
 use Rattle.upp_curve.proofs.StretchSizes.{copies_stand, tail_times, some_period, times_fit, times_stand, span_line, grid_value, CopySteps, copy_steps}
 

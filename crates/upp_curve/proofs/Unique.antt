@@ -10,14 +10,15 @@ use Rattle.rational.specs.Extended.{Ext}
 use Rattle.affine_segment.specs.declared.line.Line.{Line}
 use Rattle.affine_segment.specs.declared.line.Piece.{Piece}
 use Rattle.rational.specs.MinMax.{min_q}
-use Rattle.upp_curve.specs.Reading.{piece_value}
+use Rattle.affine_segment.specs.Reading.{piece_value}
 use Rattle.affine_segment.specs.Values.{line_value}
-use Rattle.upp_curve.specs.Normal.{RisesFrom, NoneContinues}
+use Rattle.affine_segment.specs.Pieces.{RisesFrom}
+use Rattle.upp_curve.specs.Normal.{NoneContinues}
 use Rattle.upp_curve.specs.Unrolled.{upto}
 use Rattle.rational.proofs.Whole.{not_zero}
 use Rattle.upp_curve.proofs.FirstStretch.{end_of, end_at_most, start_before, read_in, on_stretch, at_start}
 use Rattle.min_plus.proofs.FiniteValues.{Fin_inj, no_inf}
-use Rattle.upp_curve.proofs.PieceIn.{piece_in_go}
+use Rattle.affine_segment.proofs.PieceIn.{piece_in_go}
 
 -- ---- two values fix a line
 -- two lines that meet at two times have one slope

@@ -10,12 +10,13 @@ use Rattle.rational.proofs.Integers.{nat_nonneg}
 use Rattle.rational.proofs.Linear.{with3, with4, with5}
 use Rattle.rational.proofs.Whole.{one_more_times, periods_high}
 use Rattle.affine_segment.specs.declared.line.Piece.{Piece}
-use Rattle.upp_curve.specs.Normal.{Each}
+use Rattle.affine_segment.specs.Pieces.{Each}
 use Rattle.upp_curve.specs.Unrolled.{copies, each_later, later, upto}
 use Rattle.min_plus.specs.WholeUp.{whole_up}
 use Rattle.upp_curve.proofs.Normal.{upto_all}
 use Rattle.upp_curve.proofs.NormaliseCopies.{copies_next, copies_zero, later_twice, moved-append}
-use Rattle.upp_curve.proofs.NormaliseLists.{each_append, each_map, each_moved}
+use Rattle.affine_segment.proofs.PieceOrder.{each_append, each_map}
+use Rattle.upp_curve.proofs.NormaliseLists.{each_moved}
 use Rattle.upp_curve.proofs.NormaliseLoops.{later_none, later_some}
 use Rattle.upp_curve.proofs.Rounding.{before_count}
 use Rattle.upp_curve.proofs.Unique.{upto_end, upto_none, upto_some}

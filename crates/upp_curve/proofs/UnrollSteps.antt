@@ -24,9 +24,10 @@ use Rattle.upp_curve.specs.Curve.{SpecCurve, repeated, value_at}
 use Rattle.upp_curve.specs.Curves.{IsCurve}
 use Rattle.upp_curve.specs.Fitting.{LaterFits, LineLaterFits}
 use Rattle.upp_curve.specs.Limits.{Sizes}
-use Rattle.upp_curve.specs.Normal.{Each, HasStart, IsNormal, StartsAtZero}
+use Rattle.affine_segment.specs.Pieces.{Each, HasStart, StartsAtZero}
+use Rattle.upp_curve.specs.Normal.{IsNormal}
 use Rattle.upp_curve.specs.Readable.{SumFitsAt}
-use Rattle.upp_curve.specs.Reading.{piece_in, piece_value, read}
+use Rattle.affine_segment.specs.Reading.{piece_in, piece_value, read}
 use Rattle.upp_curve.specs.Sized.{AreSizes, IsValue, LineStands, PeriodStands, ValueStands, grid_of, times_largest}
 use Rattle.upp_curve.specs.Unrolled.{from, later, unroll, unrolled, upto}
 use Rattle.upp_curve.specs.Unrolling.{IsOperandTo, TurnFits, TurnsFit}
@@ -35,7 +36,7 @@ use Rattle.upp_curve.proofs.CurveStands.{tail_stands}
 use Rattle.upp_curve.proofs.NarrowSizes.{IsNarrow, narrow_gauge, run_whole, run_within, slope_time_divides, small_number, small_sum, value_whole, value_within}
 use Rattle.upp_curve.proofs.Normal.{rises}
 use Rattle.upp_curve.proofs.NormaliseCuts.{each_from}
-use Rattle.upp_curve.proofs.NormaliseLists.{each_map}
+use Rattle.affine_segment.proofs.PieceOrder.{each_map}
 use Rattle.upp_curve.proofs.NormaliseRank.{from_late}
 use Rattle.upp_curve.proofs.OwnGauge.{end_within}
 use Rattle.upp_curve.proofs.PieceLists.{starts_nonneg}
@@ -97,7 +98,7 @@ IsNowhere p = (p.at ≡ Inf) × (p.line ≡ None)
 abbrev IsSomewhere : Piece → Type 0
 IsSomewhere p = ((v : ℚ) × (p.at ≡ Fin v)) ⊎ ((l : Line) × (p.line ≡ Some l))
 
-ext_cases : (x : Ext) → (x ≡ Inf) ⊎ ((v : ℚ) × (x ≡ Fin v))
+pub ext_cases : (x : Ext) → (x ≡ Inf) ⊎ ((v : ℚ) × (x ≡ Fin v))
 ext_cases Inf = inl refl
 ext_cases (Fin v) = inr (v, refl)
 

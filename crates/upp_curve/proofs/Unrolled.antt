@@ -9,13 +9,13 @@ use Rattle.rational.specs.Extended.{Ext, ◌+ₑ◌}
 use Rattle.rational.specs.declared.Extended.TheVariants.{Fin}
 use Rattle.affine_segment.specs.declared.line.Line.{Line}
 use Rattle.affine_segment.specs.declared.line.Piece.{Piece}
-use Rattle.upp_curve.specs.Reading.{piece_in, piece_value, read}
+use Rattle.affine_segment.specs.Reading.{piece_in, piece_value, read}
 use Rattle.affine_segment.specs.Values.{line_value}
 use Rattle.upp_curve.specs.Unrolled.{line_later, later, each_later, copies}
 use Rattle.upp_curve.specs.Curve.{repeated}
-use Rattle.upp_curve.specs.Normal.{Each}
+use Rattle.affine_segment.specs.Pieces.{Each}
 use Rattle.rational.proofs.MinMax.{le_q_not}
-use Rattle.upp_curve.proofs.PieceIn.{piece_in_go, piece_in_stop}
+use Rattle.affine_segment.proofs.PieceIn.{piece_in_go, piece_in_stop}
 use Rattle.upp_curve.proofs.Repeats.{repeated_first, repeated_next}
 use Rattle.rational.proofs.Whole.{one_more_times}
 

@@ -18,7 +18,8 @@ use Rattle.upp_curve.specs.declared.curve.Tail.TheVariants.{Periodic, Affine, In
 use Rattle.upp_curve.specs.Curve.{SpecCurve}
 use Rattle.upp_curve.specs.Curves.{IsCurve}
 use Rattle.upp_curve.specs.Limits.{Sizes, curve_numbers}
-use Rattle.upp_curve.specs.Normal.{Each, HasStart, IsNormal, RisesFrom, StartsAtZero}
+use Rattle.affine_segment.specs.Pieces.{Each, HasStart, RisesFrom, StartsAtZero}
+use Rattle.upp_curve.specs.Normal.{IsNormal}
 use Rattle.upp_curve.specs.Operand.{AreLimited, OperandLineAt, OperandPiece, OperandPieces}
 use Rattle.upp_curve.specs.Sized.{AreSizes, LineStands, SpanStands, Stands, ValueStands}
 use Rattle.upp_curve.specs.Spans.{Span, copies_of, once_below, piece_read, span_below, spans, spans_below}
@@ -32,7 +33,8 @@ use Rattle.upp_curve.proofs.NarrowSizes.{line_parts}
 use Rattle.upp_curve.proofs.Normal.{rises}
 use Rattle.upp_curve.proofs.NormaliseCopies.{copies_zero, later_twice}
 use Rattle.upp_curve.proofs.NormaliseCuts.{each_from, zero_upto}
-use Rattle.upp_curve.proofs.NormaliseLists.{each_append, each_map, each_upto, rises_append, rises_left, rises_moved, upto_before}
+use Rattle.affine_segment.proofs.PieceOrder.{each_append, each_map, rises_append, rises_left}
+use Rattle.upp_curve.proofs.NormaliseLists.{each_upto, rises_moved, upto_before}
 use Rattle.upp_curve.proofs.NormaliseLoops.{later_none, later_some}
 use Rattle.upp_curve.proofs.NormaliseRank.{from_late}
 use Rattle.upp_curve.proofs.PieceLists.{starts_nonneg}

@@ -12,8 +12,8 @@ use Rattle.upp_curve.specs.declared.curve.Tail.{Tail}
 use Rattle.upp_curve.specs.declared.curve.Tail.TheVariants.{Periodic, Affine, Infinite}
 use Rattle.upp_curve.specs.Curve.{SpecCurve}
 use Rattle.upp_curve.specs.Curves.{IsCurve}
-use Rattle.upp_curve.specs.Reading.{piece_in}
-use Rattle.upp_curve.specs.Normal.{Each}
+use Rattle.affine_segment.specs.Reading.{piece_in}
+use Rattle.affine_segment.specs.Pieces.{Each}
 use Rattle.upp_curve.specs.Steady.{rank_of}
 use Rattle.upp_curve.specs.Periods.{period_of}
 use Rattle.upp_curve.specs.Limits.{Sizes, curve_numbers}
@@ -36,16 +36,6 @@ pub record GoesOn (f : ℚ → Ext) (t : ℚ) (s : Stretch) : Type 0 where
 abbrev pub AtNext : (ℚ → Type 0) → Option ℚ → Type 0
 AtNext P None = Unit {0}
 AtNext P (Some e) = P e
-
--- where the first piece after t starts, and `after` where none does
-unfoldable pub next_in : List Piece → ℚ → Option ℚ → Option ℚ
-next_in [] t after = after
-next_in (p ∷ ps) t after = cond (le_q p.x t) (next_in ps t after) (Some p.x)
-
--- the line of the last piece that starts at t or before
-abbrev pub line_in : List Piece → ℚ → Option Line
-line_in [] t = None
-line_in (p ∷ ps) t = (piece_in p ps t).line
 
 -- ---- the grids
 -- the rank, the period and all starts of a curve are whole multiples of 1 / d

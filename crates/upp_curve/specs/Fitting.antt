@@ -4,8 +4,9 @@ use Rattle.rational.specs.Rational.{ℚ, ◌+ℚ◌, ◌*ℚ◌, ◌<ℚ◌, neg
 use Rattle.rational.specs.Ratio.{IsSmall, SumFits}
 use Rattle.affine_segment.specs.declared.line.Line.{Line}
 use Rattle.affine_segment.specs.declared.line.Piece.{Piece}
-use Rattle.upp_curve.specs.Reading.{piece_in}
-use Rattle.upp_curve.specs.Readable.{LineFitsAt, SumFitsAt}
+use Rattle.affine_segment.specs.Reading.{piece_in}
+use Rattle.affine_segment.specs.Fits.{LineFitsAt}
+use Rattle.upp_curve.specs.Readable.{SumFitsAt}
 
 -- the value at 0 of a line moved by `by` and `rise`: icept + rise - slope by
 pub record MoveFits (by rise : ℚ) (l : Line) : Type 0 where
@@ -22,8 +23,3 @@ pub record LaterFits (by rise : ℚ) (p : Piece) : Type 0 where
   pub start : SumFits p.x by
   pub at : SumFitsAt p.at rise
   pub line : LineLaterFits by rise p.line
-
--- the value that is read at t
-abbrev pub ReadFits : List Piece → ℚ → Type 0
-ReadFits [] t = Unit {0}
-ReadFits (p ∷ ps) t = (piece_in p ps t).x <ℚ t → LineFitsAt t (piece_in p ps t).line

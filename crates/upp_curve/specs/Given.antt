@@ -2,7 +2,7 @@
 use Rattle.std.specs.Prelude.{◌≡◌, pos, List, Option, Some, None}
 use Rattle.rational.specs.Rational.{ℚ, ◌<ℚ◌, int}
 use Rattle.affine_segment.specs.declared.line.Piece.{Piece}
-use Rattle.upp_curve.specs.Normal.{RisesFrom, StartsAtZero}
+use Rattle.affine_segment.specs.Pieces.{RisesFrom, StartsAtZero}
 
 -- a start may come after the one before; the first is 0
 abbrev pub Follows : Option ℚ → ℚ → Type 0

@@ -1,4 +1,3 @@
-pub mod Reading
 pub mod Curve
 pub mod Steady
 pub mod Unrolled

@@ -5,32 +5,14 @@ use Rattle.rational.specs.Rational.{ℚ, ◌+ℚ◌, ◌/ℚ◌, ◌≤ℚ◌, �
 use Rattle.rational.specs.Extended.{Ext}
 use Rattle.affine_segment.specs.declared.line.Line.{Line}
 use Rattle.affine_segment.specs.declared.line.Piece.{Piece}
+use Rattle.affine_segment.specs.Pieces.{Each, HasStart, StartsAtZero}
 use Rattle.affine_segment.specs.Values.{line_value}
 use Rattle.upp_curve.specs.declared.curve.Tail.{Tail}
 use Rattle.upp_curve.specs.declared.curve.Tail.TheVariants.{Periodic, Affine, Infinite}
 use Rattle.upp_curve.specs.Curve.{SpecCurve, value_at, HasSameValues}
 use Rattle.upp_curve.specs.Steady.{Repeats, rank_of, last_line}
 
--- P holds of each piece
-abbrev pub Each : (Piece → Type 0) → List Piece → Type 0
-Each P [] = Unit {0}
-Each P (p ∷ ps) = P p × Each P ps
-
--- some piece starts at x
-abbrev pub HasStart : ℚ → List Piece → Type 0
-HasStart x [] = ⊥
-HasStart x (p ∷ ps) = (p.x ≡ x) ⊎ HasStart x ps
-
 -- ---- any curve: pieces from 0 on in the order of their starts, and a tail for them
--- each start is past x and past those before it
-abbrev pub RisesFrom : ℚ → List Piece → Type 0
-RisesFrom x [] = Unit {0}
-RisesFrom x (p ∷ ps) = (x <ℚ p.x) × RisesFrom p.x ps
-
-abbrev pub StartsAtZero : List Piece → Type 0
-StartsAtZero [] = ⊥
-StartsAtZero (p ∷ ps) = (p.x ≡ int (pos 0)) × RisesFrom p.x ps
-
 -- all starts of a periodic tail's curve are before rank + period
 pub record FitsPeriod (ps : List Piece) (rank period : ℚ) : Type 0 where
   pub nonneg : int (pos 0) ≤ℚ rank

@@ -5,7 +5,7 @@ use Rattle.rational.specs.Rational.{ℚ, ◌*ℚ◌, ◌≤ℚ◌, ◌<ℚ◌, i
 use Rattle.rational.specs.Grid.{Whole, Within}
 use Rattle.affine_segment.specs.declared.line.Line.{Line}
 use Rattle.affine_segment.specs.declared.line.Piece.{Piece}
-use Rattle.upp_curve.specs.Normal.{Each, StartsAtZero}
+use Rattle.affine_segment.specs.Pieces.{Each, StartsAtZero}
 use Rattle.upp_curve.specs.Limits.{Sizes, gauge_of}
 use Rattle.upp_curve.specs.Sized.{IsSlope, AreSizes, ValueStands, grid_of, times_largest}
 use Rattle.upp_curve.specs.Room.{Room}

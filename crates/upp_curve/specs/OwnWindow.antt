@@ -7,7 +7,7 @@ use Rattle.affine_segment.specs.declared.line.Piece.{Piece}
 use Rattle.affine_segment.specs.Values.{line_value}
 use Rattle.upp_curve.specs.declared.curve.Tail.{Tail}
 use Rattle.upp_curve.specs.declared.curve.Tail.TheVariants.{Periodic, Affine, Infinite}
-use Rattle.upp_curve.specs.Reading.{piece_value}
+use Rattle.affine_segment.specs.Reading.{piece_value}
 use Rattle.upp_curve.specs.Steady.{same_ext, later_unless}
 use Rattle.upp_curve.specs.Seen.{RankLineFits}
 use Rattle.upp_curve.specs.Limits.{Sizes, gauge_of}

@@ -9,22 +9,10 @@ use Rattle.affine_segment.specs.declared.line.Line.{Line}
 use Rattle.affine_segment.specs.declared.line.Piece.{Piece}
 use Rattle.upp_curve.specs.declared.curve.Tail.{Tail}
 use Rattle.upp_curve.specs.declared.curve.Tail.TheVariants.{Periodic, Affine, Infinite}
-use Rattle.upp_curve.specs.Reading.{read}
+use Rattle.affine_segment.specs.Pieces.{start_after}
+use Rattle.affine_segment.specs.Fits.{LineFitsAt}
+use Rattle.affine_segment.specs.Reading.{read}
 use Rattle.upp_curve.specs.Curve.{SpecCurve}
-
--- the steps of the line's value at x fit
-pub record LineFits (x : ℚ) (l : Line) : Type 0 where
-  pub product : IsSmall (l.slope *ℚ x)
-  pub sum : SumFits l.icept (l.slope *ℚ x)
-
-abbrev pub LineFitsAt : ℚ → Option Line → Type 0
-LineFitsAt x None = Unit {0}
-LineFitsAt x (Some l) = LineFits x l
-
--- where the first of some pieces starts, and `end` where there is none
-abbrev pub start_after : List Piece → Option ℚ → Option ℚ
-start_after [] end = end
-start_after (q ∷ qs) end = Some q.x
 
 abbrev pub LineFitsTo : Option ℚ → Option Line → Type 0
 LineFitsTo None l = Unit {0}

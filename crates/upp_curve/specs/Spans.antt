@@ -8,8 +8,7 @@ use Rattle.upp_curve.specs.declared.curve.Tail.{Tail}
 use Rattle.upp_curve.specs.declared.curve.Tail.TheVariants.{Periodic, Affine, Infinite}
 use Rattle.upp_curve.specs.Curve.{SpecCurve}
 use Rattle.upp_curve.specs.Unrolled.{later, copies_below}
--- where the first of some pieces starts, and another time where there is none
-pub use Rattle.upp_curve.specs.Readable.{start_after}
+use Rattle.affine_segment.specs.Pieces.{start_after}
 
 -- a piece, and where the next one starts: nowhere after a last piece that goes on for ever
 pub record Span : Type 0 where

@@ -10,7 +10,7 @@ use Rattle.affine_segment.specs.declared.line.Piece.{Piece}
 use Rattle.affine_segment.specs.Steps.{IsWideSum, IsWideDifference, IsWideProduct, IsWideQuotient, IsWideValue}
 use Rattle.upp_curve.specs.declared.curve.Tail.{Tail}
 use Rattle.upp_curve.specs.declared.curve.Tail.TheVariants.{Periodic, Affine, Infinite}
-use Rattle.upp_curve.specs.Reading.{read, piece_in}
+use Rattle.affine_segment.specs.Reading.{read, piece_in}
 use Rattle.upp_curve.specs.Curve.{SpecCurve}
 
 -- w is a step of the line's value at t; where there is no line there is no step

@@ -4,7 +4,7 @@ use Rattle.rational.specs.Rational.{ℚ, ◌+ℚ◌, ◌-ℚ◌, ◌*ℚ◌, ◌
 use Rattle.rational.specs.Ratio.{IsSmall, SumFits}
 use Rattle.affine_segment.specs.declared.line.Piece.{Piece}
 use Rattle.upp_curve.specs.Curve.{SpecCurve}
-use Rattle.upp_curve.specs.Normal.{Each}
+use Rattle.affine_segment.specs.Pieces.{Each}
 use Rattle.upp_curve.specs.Unrolled.{from}
 use Rattle.upp_curve.specs.Fitting.{LaterFits}
 use Rattle.upp_curve.specs.Limits.{Sizes, curve_numbers}

@@ -6,26 +6,23 @@ ghost use Rattle.rational.specs.Grid.{Whole};
 ghost use Rattle.rational.specs.Whole.{periods};
 ghost use Rattle.rational.specs.Extended.{◌+ₑ◌};
 ghost use Rattle.affine_segment.specs.Values.{line_value};
-ghost use Rattle.upp_curve.specs.Reading.{read};
+ghost use Rattle.affine_segment.specs.Reading.{read, next_in, line_in};
 ghost use Rattle.upp_curve.specs.Curve.{value_at};
 ghost use Rattle.upp_curve.specs.Curves.{IsCurve};
-ghost use Rattle.upp_curve.specs.Normal.{StartsAtZero};
-ghost use Rattle.upp_curve.specs.Fitting.{ReadFits};
+ghost use Rattle.affine_segment.specs.Pieces.{StartsAtZero};
+ghost use Rattle.affine_segment.specs.Fits.{ReadFits, LineFitsAt};
 ghost use Rattle.upp_curve.specs.Unrolled.{line_later};
 ghost use Rattle.upp_curve.specs.Seen.{ValueRises};
 ghost use Rattle.upp_curve.specs.Limits.{Sizes};
 ghost use Rattle.upp_curve.specs.Operand.{OperandLineAt};
-ghost use Rattle.upp_curve.specs.Ahead.{GoesOn, AtNext, next_in, line_in, TimesStand, HasWindow, IsTimeIn, GridValue};
+ghost use Rattle.upp_curve.specs.Ahead.{GoesOn, AtNext, TimesStand, HasWindow, IsTimeIn, GridValue};
 ghost use Rattle.upp_curve.specs.Spans.{next_later};
-ghost use Rattle.upp_curve.specs.Readable.{LineFitsAt};
 ghost use Rattle.upp_curve.specs.Copied.{LineRises, IsTurn, NextMoves};
 
 use crate::curve::{Curve, Tail};
-use crate::fitting::{difference, line_later, line_value, piece_value, product, quotient, sum};
-use crate::reading::{piece_at, starts_by};
-use crate::starts::is_less;
-use affine_segment::{Line, Piece};
-use fraction128::{Ext, Frac};
+use crate::fitting::line_later;
+use affine_segment::{Line, Piece, line_value, next_start, piece_at, piece_value};
+use fraction128::{Ext, Frac, difference, is_less, product, quotient, sum};
 use rational::Extended;
 
 /// How a curve goes on from a time.
@@ -37,18 +34,6 @@ pub struct Stretch {
     pub line: Option<Line>,
     /// Until when, not including it; none is for ever.
     pub next: Option<Frac>,
-}
-
-/// Where the first piece after t starts, and `after` where none does.
-fn next_start(pieces: &[Piece], t: Frac, after: Option<Frac>) -> Option<Frac>
-    requires { StartsAtZero pieces.now }
-    ensures { result ≡ next_in pieces.now t after }
-{
-    let count = pieces.partition_point(|p| starts_by(p, t));
-    match pieces.get(count) {
-        None => after,
-        Some(p) => Some(p.x),
-    }
 }
 
 /// How pieces that go on with their last line do so from t.

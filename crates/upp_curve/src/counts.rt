@@ -3,16 +3,15 @@
 ghost use Rattle.std.specs.Prelude.{ℕ, ◌≡◌, ◌-◌, ◌^◌, min, pos, sum_by};
 ghost use Rattle.rational.specs.Rational.{ℚ, int, ◌≤ℚ◌};
 ghost use Rattle.upp_curve.specs.Curve.{SpecCurve};
-ghost use Rattle.upp_curve.specs.Normal.{StartsAtZero};
+ghost use Rattle.affine_segment.specs.Pieces.{StartsAtZero};
 ghost use Rattle.upp_curve.specs.Unrolled.{count};
 ghost use Rattle.upp_curve.specs.Periods.{HasPeriod};
 ghost use Rattle.upp_curve.specs.Spans.{once, number_below};
 
 use crate::curve::Tail;
 use crate::start_counts::count_before;
-use crate::starts::is_less;
 use affine_segment::Piece;
-use fraction128::Frac;
+use fraction128::{Frac, is_less};
 
 /// 1 where the piece starts before `end`, else 0.
 fn once(piece: &Piece, end: Frac) -> u64

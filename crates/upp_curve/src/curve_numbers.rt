@@ -3,22 +3,20 @@
 ghost use Rattle.std.specs.Prelude.{ℕ, ◌≡◌, ◌<◌, ◌+◌, ◌^◌, pos, IfSome, IsSome, length, drop};
 ghost use Rattle.std.specs.List.{AllByRecursion};
 ghost use Rattle.rational.specs.Rational.{ℚ, int, ◌*ℚ◌, ◌≤ℚ◌, ◌<ℚ◌};
-ghost use Rattle.upp_curve.specs.Normal.{StartsAtZero};
-ghost use Rattle.upp_curve.specs.Spans.{Span, end_of, piece_read, start_after, spans};
+ghost use Rattle.affine_segment.specs.Pieces.{StartsAtZero, start_after};
+ghost use Rattle.upp_curve.specs.Spans.{Span, end_of, piece_read, spans};
 ghost use Rattle.upp_curve.specs.Limits.{Numbers, joined};
 ghost use Rattle.upp_curve.specs.Gathered.{Gathers};
 ghost use Rattle.upp_curve.specs.Seen.{seen_of, SpanFits, SeenRises, CopiesFit, Knows};
-ghost use Rattle.upp_curve.specs.ClosedForm.{span_numbers, last_numbers, copies_numbers, once_numbers, closed_span};
-ghost use Rattle.upp_curve.specs.ClosedForm.{closed_spans, tail_numbers, closed_numbers};
+ghost use Rattle.upp_curve.specs.ClosedForm.{span_numbers, last_numbers, copies_numbers, once_numbers, closed_span, closed_spans, tail_numbers, closed_numbers};
 ghost use Rattle.upp_curve.specs.Curve.{SpecCurve};
 ghost use Rattle.upp_curve.specs.Periods.{HasPeriod};
 
 use crate::curve::Tail;
 use crate::gathered::Gathered;
 use crate::start_counts::count_before;
-use crate::starts::is_less;
 use affine_segment::Piece;
-use fraction128::Frac;
+use fraction128::{Frac, is_less};
 
 /// A whole number as a fraction.
 fn whole(n: u128) -> Option<Frac>

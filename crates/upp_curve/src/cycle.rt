@@ -2,13 +2,12 @@
 
 ghost use Rattle.rational.specs.Rational.{◌+ℚ◌, ◌≤ℚ◌};
 ghost use Rattle.rational.specs.Ratio.{SumFits};
-ghost use Rattle.upp_curve.specs.Normal.{Each};
+ghost use Rattle.affine_segment.specs.Pieces.{Each};
 ghost use Rattle.upp_curve.specs.Normalising.{IsTwoPeriods, IsShape};
 
-use crate::fitting::sum;
 use crate::two_periods::{count_before, first_past};
 use affine_segment::Piece;
-use fraction128::Frac;
+use fraction128::{Frac, sum};
 use std::cmp::Ordering;
 
 /// A periodic curve none of whose pieces goes on with the one before it: `first` pieces start before the rank, and one

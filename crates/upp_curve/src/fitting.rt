@@ -1,63 +1,14 @@
-//! Steps of arithmetic that are known to fit, so that none is refused.
+//! A piece moved in time and height, where each step is known to fit.
 
-ghost use Rattle.std.specs.Prelude.{◌≡◌, ◌≢◌, pos};
-ghost use Rattle.rational.specs.Rational.{int, ◌+ℚ◌, ◌-ℚ◌, ◌*ℚ◌, ◌/ℚ◌, ◌≤ℚ◌, ◌<ℚ◌, neg_ℚ};
-ghost use Rattle.rational.specs.Ratio.{IsSmall, SumFits};
+ghost use Rattle.std.specs.Prelude.{◌≡◌};
 ghost use Rattle.rational.specs.Extended.{◌+ₑ◌};
-ghost use Rattle.affine_segment.specs.Values.{line_at, line_value};
-ghost use Rattle.upp_curve.specs.Reading.{read, piece_value};
-ghost use Rattle.upp_curve.specs.Normal.{StartsAtZero};
-ghost use Rattle.upp_curve.specs.Readable.{LineFits, LineFitsAt, SumFitsAt};
+ghost use Rattle.upp_curve.specs.Readable.{SumFitsAt};
 ghost use Rattle.upp_curve.specs.Unrolled.{line_later, later};
-ghost use Rattle.upp_curve.specs.Fitting.{LaterFits, LineLaterFits, ReadFits};
+ghost use Rattle.upp_curve.specs.Fitting.{LaterFits, LineLaterFits};
 
-use crate::reading;
-use crate::reading::piece_at;
-use affine_segment::{Line, Piece, value};
-use fraction128::{Ext, Frac};
+use affine_segment::{Line, Piece};
+use fraction128::{Ext, Frac, difference, product, sum};
 use rational::Extended;
-use std::cmp::Ordering;
-
-/// a + b, where it fits.
-pub fn sum(a: Frac, b: Frac) -> Frac
-    requires { SumFits a b }
-    ensures { result ≡ a +ℚ b }
-{
-    Frac::add(a, b).unwrap()
-}
-
-/// a - b, where it fits.
-pub fn difference(a: Frac, b: Frac) -> Frac
-    requires { SumFits a (neg_ℚ b) }
-    ensures { result ≡ a -ℚ b }
-{
-    Frac::sub(a, b).unwrap()
-}
-
-/// a b, where it fits.
-pub fn product(a: Frac, b: Frac) -> Frac
-    requires { IsSmall (a *ℚ b) }
-    ensures { result ≡ a *ℚ b }
-{
-    Frac::mul(a, b).unwrap()
-}
-
-/// a / b, where b is not 0 and it fits.
-pub fn quotient(a: Frac, b: Frac) -> Frac
-    requires some { b ≢ int (pos 0) }
-    requires fits { IsSmall (a /ℚ b) }
-    ensures { result ≡ a /ℚ b }
-{
-    Frac::div(a, b).unwrap()
-}
-
-/// The value at t of a line whose steps there fit.
-pub(crate) fn readable_value(line: &Line, t: Frac) -> Frac
-    requires { LineFits t line.now }
-    ensures { result ≡ line_at line.now t }
-{
-    value(line, t).unwrap()
-}
 
 /// A value, risen.
 pub(crate) fn raised(v: Ext, by: Frac) -> Ext
@@ -68,35 +19,6 @@ pub(crate) fn raised(v: Ext, by: Frac) -> Ext
         Extended::Inf => Extended::Inf,
         Extended::Fin(x) => Extended::Fin(sum(x, by)),
     }
-}
-
-/// The value at t of a line that may be missing.
-pub(crate) fn line_value(line: Option<Line>, t: Frac) -> Ext
-    requires { LineFitsAt t line }
-    ensures { result ≡ line_value line t }
-{
-    reading::line_value(line, t).unwrap()
-}
-
-/// The value of a piece at t.
-pub(crate) fn piece_value(p: &Piece, t: Frac) -> Ext
-    requires { p.now.x <ℚ t → LineFitsAt t p.now.line }
-    ensures { result ≡ piece_value p.now t }
-{
-    match t.cmp(&p.x) {
-        Ordering::Greater => line_value(p.line, t),
-        _ => p.at,
-    }
-}
-
-/// The value of pieces at t.
-pub(crate) fn read(pieces: &[Piece], t: Frac) -> Ext
-    requires starts { StartsAtZero pieces.now }
-    requires time { int (pos 0) ≤ℚ t }
-    requires fits { ReadFits pieces.now t }
-    ensures { result ≡ read pieces.now t }
-{
-    piece_value(&piece_at(pieces, t), t)
 }
 
 // The line, `by` later and `rise` higher.

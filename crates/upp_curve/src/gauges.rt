@@ -8,8 +8,8 @@ ghost use Rattle.upp_curve.specs.Limits.{Numbers, joined, time_alone, sizes_of, 
 ghost use Rattle.upp_curve.specs.Gathered.{Gathers};
 
 use crate::gathered::Gathered;
-use crate::starts::{is_less, sizes};
-use fraction128::Frac;
+use crate::starts::sizes;
+use fraction128::{Frac, is_less};
 
 /// steepness times `end`, rounded up, and 0 below 0. None where it is past the largest number before it is divided.
 fn reach(steepness: u128, end: Frac) -> Option<u128>

@@ -3,14 +3,15 @@
 ghost use Rattle.std.specs.Prelude.{◌≡◌, ◌↔◌, pos, IsTrue};
 ghost use Rattle.rational.specs.Rational.{int, ◌+ℚ◌, ◌≤ℚ◌, ◌<ℚ◌};
 ghost use Rattle.upp_curve.specs.Given.{Follows};
-ghost use Rattle.upp_curve.specs.Normal.{FitsPeriod, FitsRank, IsRaw, StartsAtZero, TailFits};
+ghost use Rattle.upp_curve.specs.Normal.{FitsPeriod, FitsRank, IsRaw, TailFits};
+ghost use Rattle.affine_segment.specs.Pieces.{StartsAtZero};
 ghost use Rattle.upp_curve.specs.Normalising.{raw_curve};
 
 use crate::curve::Tail;
 use crate::raw_curve::RawCurve;
-use crate::starts::{is_after, is_less};
+use crate::starts::is_after;
 use affine_segment::Piece;
-use fraction128::Frac;
+use fraction128::{Frac, is_less};
 
 // Whether a start may come after the one before; the first is 0.
 fn follows(before: &Option<Frac>, x: Frac) -> bool

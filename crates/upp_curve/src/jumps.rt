@@ -4,15 +4,15 @@ ghost use Rattle.std.specs.Prelude.{◌≡◌, ◌↔◌, ◌∷◌, IsTrue};
 ghost use Rattle.affine_segment.specs.Values.{line_value};
 ghost use Rattle.upp_curve.specs.Curve.{value_at};
 ghost use Rattle.min_plus.specs.Functions.{IsRising};
-ghost use Rattle.upp_curve.specs.Readable.{LineFitsAt, LineFitsTo, EachFits};
+ghost use Rattle.affine_segment.specs.Fits.{LineFitsAt};
+ghost use Rattle.upp_curve.specs.Readable.{LineFitsTo, EachFits};
 ghost use Rattle.upp_curve.specs.Shapes.{end_time};
 ghost use Rattle.min_plus.specs.Continuity.{IsContinuous};
 ghost use Rattle.upp_curve.specs.JoinedPieces.{PieceJoins, PiecesJoin};
 
 use crate::curve::{Curve, Tail};
-use crate::fitting::readable_value;
 use crate::shape::{End, period_end};
-use affine_segment::{Line, Piece};
+use affine_segment::{Line, Piece, line_at};
 use fraction128::{Ext, Frac};
 use rational::Extended;
 
@@ -28,7 +28,7 @@ fn line_reaches(line: Option<Line>, x: Frac, at: Ext) -> bool
         },
         Some(l) => match at {
             Extended::Inf => false,
-            Extended::Fin(v) => readable_value(&l, x) == v,
+            Extended::Fin(v) => line_at(&l, x) == v,
         },
     }
 }

@@ -12,9 +12,8 @@ ghost use Rattle.upp_curve.specs.Gauges.{EndsAbove, IsKnownAtOnce};
 
 use crate::curve::{Curve, Tail};
 use crate::op_kind::OpKind;
-use crate::starts::is_less;
 use affine_segment::Piece;
-use fraction128::{Ext, Frac};
+use fraction128::{Ext, Frac, is_less};
 use rational::Extended;
 
 /// The long-run rate.
@@ -69,7 +68,7 @@ fn level_of(c: &Curve) -> Option<Frac>
 }
 
 /// Whether the rate is 0.
-fn is_level(c: &Curve) -> bool
+pub fn is_level(c: &Curve) -> bool
     ensures { IsTrue result ↔ (rate c.now ≡ Extended.Fin (int (pos 0))) }
 {
     match rate_of(c) {
@@ -79,7 +78,7 @@ fn is_level(c: &Curve) -> bool
 }
 
 /// Whether the level of f, where it has one, is above that of g.
-fn is_level_above(f: &Curve, g: &Curve) -> bool
+pub fn is_level_above(f: &Curve, g: &Curve) -> bool
     ensures above { IsTrue result ↔ IsLevelAbove (level_of f.now) (level_of g.now) }
     ensures kept { IsCurve f.now × IsCurve g.now }
 {

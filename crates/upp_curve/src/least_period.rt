@@ -4,10 +4,9 @@ ghost use Rattle.std.specs.Prelude.{◌≡◌, ◌↔◌, ◌<◌, ◌≤◌, �
 ghost use Prim.Native.Nat.{◌∣◌};
 ghost use Rattle.rational.specs.Rational.{int, ◌/ℚ◌};
 ghost use Rattle.rational.specs.Grid.{Whole};
-ghost use Rattle.upp_curve.specs.Normal.{Each};
+ghost use Rattle.affine_segment.specs.Pieces.{Each};
 ghost use Rattle.upp_curve.specs.Fitting.{LaterFits};
-ghost use Rattle.upp_curve.specs.Normalising.{GoesOn, IsTurning, IsDivided, IsLeast, OnGrids, SharesFit, cycle_values};
-ghost use Rattle.upp_curve.specs.Normalising.{turn_count};
+ghost use Rattle.upp_curve.specs.Normalising.{GoesOn, IsTurning, IsDivided, IsLeast, OnGrids, SharesFit, cycle_values, turn_count};
 
 use crate::cycle::Cycle;
 use crate::fitting::later;

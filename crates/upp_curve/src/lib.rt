@@ -47,9 +47,9 @@ mod value_tests;
 pub use ahead::{Stretch, stretch_at};
 pub use call_sizes::{CallNumbers, call_numbers};
 pub use curve::{Curve, Tail, equal};
-pub use fitting::{difference, product, quotient, sum};
 pub use jumps::is_continuous;
 pub use kind_laws::kinds_are_curves;
+pub use known::{is_level, is_level_above};
 pub use laws::{
     gauge_never_falls, normal_form_is_unique, unrolled_pieces_are_counted, worked_kinds,
     worked_operators, worked_shifts, worked_stairs,
@@ -59,5 +59,6 @@ pub use op_kind::{OpFault, OpKind, Window};
 pub use own_limits::{OverLimit, over_own_limit};
 pub use raw_curve::{RawCurve, normalise, normalise_on};
 pub use scaled_numbers::{scaled_piece, scaled_tail};
-pub use starts::{is_after, is_before, is_less};
+pub use starts::{is_after, is_before};
 pub use steadiness::steady_time;
+pub use two_periods::count_before;

@@ -3,17 +3,17 @@
 ghost use Rattle.std.specs.Prelude.{◌≡◌, ◌<◌, ◌≤◌, MatchOption, length};
 ghost use Rattle.rational.specs.Rational.{◌+ℚ◌};
 ghost use Rattle.affine_segment.specs.declared.line.Piece.{Piece};
-ghost use Rattle.upp_curve.specs.Reading.{read};
+ghost use Rattle.affine_segment.specs.Reading.{read};
 ghost use Rattle.upp_curve.specs.Curve.{repeated};
 ghost use Rattle.upp_curve.specs.Unrolled.{line_later, upto};
-ghost use Rattle.upp_curve.specs.Readable.{LineFitsAt};
+ghost use Rattle.affine_segment.specs.Fits.{LineFitsAt};
 ghost use Rattle.upp_curve.specs.Fitting.{LaterFits};
 ghost use Rattle.upp_curve.specs.Normalising.{IsCycle, IsLowest, Lowers, RepeatsIn, StepFits, StepsFit, cut_last};
 
 use crate::cycle::Cycle;
-use crate::fitting::{later, piece_value};
+use crate::fitting::later;
 use crate::same::{same_ext, same_lines};
-use affine_segment::Piece;
+use affine_segment::{Piece, piece_value};
 use fraction128::Frac;
 use std::cmp::Ordering;
 

@@ -1,13 +1,13 @@
 //! Neighbours that are one piece, joined.
 
 ghost use Rattle.std.specs.Prelude.{◌≡◌, ◌↔◌, IfOk, IsTrue, List, ◌∷◌};
-ghost use Rattle.upp_curve.specs.Normal.{Continues, Each, RisesFrom, StartsAtZero};
-ghost use Rattle.upp_curve.specs.Readable.{LineFitsAt};
+ghost use Rattle.upp_curve.specs.Normal.{Continues};
+ghost use Rattle.affine_segment.specs.Pieces.{Each, RisesFrom, StartsAtZero};
+ghost use Rattle.affine_segment.specs.Fits.{LineFitsAt};
 ghost use Rattle.upp_curve.specs.Normalising.{IsMerged};
 
-use crate::fitting::line_value;
 use crate::same::{same_ext, same_lines};
-use affine_segment::Piece;
+use affine_segment::{Piece, line_value};
 use std::alloc::{AllocError, Global};
 
 // Whether q goes on with p's line, so that the two are one piece.

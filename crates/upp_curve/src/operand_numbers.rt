@@ -11,11 +11,10 @@ ghost use Rattle.upp_curve.specs.ClosedOperands.{closed_operands};
 
 use crate::curve::{Curve, Tail};
 use crate::curve_numbers::with_curve;
-use crate::fitting::sum;
 use crate::gathered::Gathered;
 use crate::op_kind::Operands;
 use crate::scaled_numbers::with_scaled;
-use fraction128::Frac;
+use fraction128::{Frac, sum};
 
 /// Where the next piece starts after the last one: a period after the rank, or at the rank of an infinite tail.
 fn after_last(c: &Curve) -> Option<Frac>

@@ -4,17 +4,17 @@ ghost use Rattle.std.specs.Prelude.{◌≡◌, ◌^◌, ◌≤◌, pos, false, I
 ghost use Rattle.rational.specs.Rational.{ℚ, int, ◌+ℚ◌, ◌≤ℚ◌};
 ghost use Rattle.rational.specs.declared.Extended.TheVariants.{Inf};
 ghost use Rattle.affine_segment.specs.Values.{line_value};
-ghost use Rattle.upp_curve.specs.Reading.{piece_value};
+ghost use Rattle.affine_segment.specs.Reading.{piece_value};
 ghost use Rattle.upp_curve.specs.Curve.{SpecCurve};
 ghost use Rattle.upp_curve.specs.Steady.{same_ext, later_unless};
 ghost use Rattle.upp_curve.specs.OwnWindow.{LastBy, end_from, EndFits, EndsAt, AreNumbers};
 ghost use Rattle.upp_curve.specs.Periods.{HasPeriod};
 ghost use Rattle.upp_curve.specs.Spans.{end_of};
 ghost use Rattle.rational.specs.Ratio.{SumFits};
-ghost use Rattle.upp_curve.specs.Normal.{IsRaw, StartsAtZero};
+ghost use Rattle.upp_curve.specs.Normal.{IsRaw};
+ghost use Rattle.affine_segment.specs.Pieces.{StartsAtZero};
 ghost use Rattle.upp_curve.specs.Gathered.{Gathers};
-ghost use Rattle.upp_curve.specs.Limits.{Numbers, joined, time_alone, own_end, own_gauge, own_sizes, gauge_of};
-ghost use Rattle.upp_curve.specs.Limits.{sizes_of, curve_numbers};
+ghost use Rattle.upp_curve.specs.Limits.{Numbers, joined, time_alone, own_end, own_gauge, own_sizes, gauge_of, sizes_of, curve_numbers};
 ghost use Rattle.upp_curve.specs.Seen.{RankLineFits};
 
 use crate::curve::Tail;
@@ -23,9 +23,8 @@ use crate::gathered::Gathered;
 use crate::gauges::gauge_of;
 use crate::same::same_ext;
 use crate::seen::line_value;
-use crate::starts::is_less;
 use affine_segment::Piece;
-use fraction128::{Ext, Frac};
+use fraction128::{Ext, Frac, is_less};
 use rational::Extended;
 
 /// Whether the value at the rank, of a last piece that starts at it or before, is that of the piece's line.

@@ -1,13 +1,13 @@
 //! The normal form of any curve.
 
 ghost use Rattle.std.specs.Prelude.{◌≡◌, ◌<◌, ◌≤◌, ◌^◌, IfOk, IfErr, Err};
-ghost use Rattle.upp_curve.specs.Reading.{read};
+ghost use Rattle.affine_segment.specs.Reading.{read};
 ghost use Rattle.upp_curve.specs.Curve.{repeated, value_at, HasSameValues};
-ghost use Rattle.upp_curve.specs.Normal.{StartsAtZero, NoMerge, FitsPeriod, IsRaw};
+ghost use Rattle.affine_segment.specs.Pieces.{StartsAtZero};
+ghost use Rattle.upp_curve.specs.Normal.{NoMerge, FitsPeriod, IsRaw};
 ghost use Rattle.upp_curve.specs.Readable.{EachFits};
 ghost use Rattle.upp_curve.specs.Limits.{own_gauge, own_tally};
-ghost use Rattle.upp_curve.specs.Normalising.{HasValues, IsTwoPeriods, IsTurning, OnGrids, OnGridsUnlessLine};
-ghost use Rattle.upp_curve.specs.Normalising.{TailOnGrids, cycle_values, raw_curve};
+ghost use Rattle.upp_curve.specs.Normalising.{HasValues, IsTwoPeriods, IsTurning, OnGrids, OnGridsUnlessLine, TailOnGrids, cycle_values, raw_curve};
 ghost use Rattle.upp_curve.specs.Room.{Room, PiecesHaveRoom, TwoHaveRoom, CycleHasRoom, TurnHasRoom, TailHasRoom};
 
 use crate::curve::{Curve, Tail};

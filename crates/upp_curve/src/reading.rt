@@ -5,12 +5,12 @@ ghost use Rattle.rational.specs.Rational.{ℚ, int, ◌≤ℚ◌, ◌<ℚ◌, le
 ghost use Rattle.rational.specs.Extended.{◌+ₑ◌};
 ghost use Rattle.rational.specs.Whole.{periods};
 ghost use Rattle.affine_segment.specs.Values.{line_value};
-ghost use Rattle.upp_curve.specs.Reading.{piece_in, piece_value, read};
+ghost use Rattle.affine_segment.specs.Reading.{piece_in, piece_value, read};
 ghost use Rattle.upp_curve.specs.Curve.{repeated};
-ghost use Rattle.upp_curve.specs.Normal.{StartsAtZero};
+ghost use Rattle.affine_segment.specs.Pieces.{StartsAtZero};
 ghost use Rattle.upp_curve.specs.Steps.{IsWideLine, IsWideRead, IsWideRise, IsWidePeriods, IsWidePast};
 
-use affine_segment::{Line, Piece, value};
+use affine_segment::{Line, Piece, piece_at, value};
 use fraction128::{Ext, Frac, Wide};
 use rational::Extended;
 use std::cmp::Ordering;
@@ -24,22 +24,6 @@ pub(crate) fn line_value(line: Option<Line>, t: Frac) -> Result<Ext, Wide>
         None => Ok(Extended::Inf),
         Some(l) => Ok(Extended::Fin(value(&l, t)?)),
     }
-}
-
-pub(crate) fn starts_by(p: &Piece, t: Frac) -> bool
-    ensures { result ≡ le_q p.now.x t }
-{
-    p.x <= t
-}
-
-// The last piece that starts at t or before.
-pub(crate) fn piece_at(pieces: &[Piece], t: Frac) -> Piece
-    requires starts { StartsAtZero pieces.now }
-    requires time { int (pos 0) ≤ℚ t }
-    ensures { (p : Piece) (ps : List Piece) → pieces.now ≡ p ∷ ps → result ≡ piece_in p ps t }
-{
-    let count = pieces.partition_point(|p| starts_by(p, t));
-    pieces[count - 1]
 }
 
 pub(crate) fn piece_value(p: &Piece, t: Frac) -> Result<Ext, Wide>

@@ -6,7 +6,7 @@ ghost use Rattle.rational.specs.Rational.{ℚ, int, ◌≤ℚ◌, ◌*ℚ◌};
 ghost use Rattle.rational.specs.Ratio.{IsSmall};
 ghost use Rattle.min_plus.specs.Pointwise.{scaled};
 ghost use Rattle.upp_curve.specs.Curve.{SpecCurve};
-ghost use Rattle.upp_curve.specs.Normal.{StartsAtZero};
+ghost use Rattle.affine_segment.specs.Pieces.{StartsAtZero};
 ghost use Rattle.upp_curve.specs.Periods.{HasPeriod};
 ghost use Rattle.upp_curve.specs.Spans.{Span, end_of, spans};
 ghost use Rattle.upp_curve.specs.Limits.{Numbers, joined};
@@ -14,15 +14,13 @@ ghost use Rattle.upp_curve.specs.Gathered.{Gathers};
 ghost use Rattle.upp_curve.specs.Seen.{Knows};
 ghost use Rattle.upp_curve.specs.ClosedForm.{closed_span, closed_spans, closed_numbers};
 ghost use Rattle.upp_curve.specs.Gauges.{scaled_line, scaled_piece, scaled_tail, scaled_curve};
-ghost use Rattle.upp_curve.specs.ClosedOperands.{ValueScales, LineScales, PieceScales, TailScales, scaled_span};
-ghost use Rattle.upp_curve.specs.ClosedOperands.{KnowsTimes, KnowsScaled};
+ghost use Rattle.upp_curve.specs.ClosedOperands.{ValueScales, LineScales, PieceScales, TailScales, scaled_span, KnowsTimes, KnowsScaled};
 
 use crate::curve::Tail;
 use crate::curve_numbers::{next_start, piece_read, with_below, with_tail};
 use crate::gathered::Gathered;
-use crate::starts::is_less;
 use affine_segment::{Line, Piece};
-use fraction128::{Ext, Frac};
+use fraction128::{Ext, Frac, is_less};
 use rational::Extended;
 
 /// A value times a factor.

@@ -4,7 +4,7 @@ ghost use Rattle.std.specs.Prelude.{◌≡◌, ◌<◌, ◌^◌, pos, IfSome, Is
 ghost use Rattle.rational.specs.Rational.{ℚ, int, ◌*ℚ◌};
 ghost use Rattle.rational.specs.Extended.{◌+ₑ◌};
 ghost use Rattle.affine_segment.specs.Values.{line_value};
-ghost use Rattle.upp_curve.specs.Readable.{LineFitsAt};
+ghost use Rattle.affine_segment.specs.Fits.{LineFitsAt};
 ghost use Rattle.upp_curve.specs.Spans.{Span};
 ghost use Rattle.upp_curve.specs.Limits.{limit_before};
 ghost use Rattle.upp_curve.specs.Seen.{seen_of, seen_risen, NextFits, SpanFits, ValueRises, SeenRises};

@@ -4,16 +4,16 @@ ghost use Rattle.std.specs.Prelude.{◌≡◌, ◌↔◌, pos, ◌∷◌, IsTrue
 ghost use Rattle.rational.specs.Rational.{int, ◌+ℚ◌, ◌≤ℚ◌};
 ghost use Rattle.rational.specs.Ratio.{SumFits};
 ghost use Rattle.rational.specs.Extended.{◌≤ₑ◌, ◌+ₑ◌};
-ghost use Rattle.upp_curve.specs.Reading.{read};
-ghost use Rattle.upp_curve.specs.Normal.{Each, HasStart, StartsAtZero};
-ghost use Rattle.upp_curve.specs.Readable.{LineFits, LineFitsAt, LineFitsTo, EachFits, SumFitsAt};
+ghost use Rattle.affine_segment.specs.Reading.{read};
+ghost use Rattle.affine_segment.specs.Pieces.{Each, HasStart, StartsAtZero};
+ghost use Rattle.affine_segment.specs.Fits.{LineFits, LineFitsAt};
+ghost use Rattle.upp_curve.specs.Readable.{LineFitsTo, EachFits, SumFitsAt};
 ghost use Rattle.upp_curve.specs.Steady.{slope_of, last_line};
 ghost use Rattle.upp_curve.specs.Shapes.{IsFinitePiece, EndsBelow, PieceRises, PiecesRise, end_time};
 
-use crate::fitting::{raised, readable_value, sum};
-use crate::reading::piece_at;
-use affine_segment::{Line, Piece};
-use fraction128::{Ext, Frac};
+use crate::fitting::raised;
+use affine_segment::{Line, Piece, line_at, piece_at};
+use fraction128::{Ext, Frac, sum};
 use rational::Extended;
 use std::cmp::Ordering;
 
@@ -67,7 +67,7 @@ fn ends_below(line: &Line, next: Option<End>) -> bool
 {
     match next {
         None => true,
-        Some(end) => at_most(Extended::Fin(readable_value(line, end.x)), end.at),
+        Some(end) => at_most(Extended::Fin(line_at(line, end.x)), end.at),
     }
 }
 
@@ -81,7 +81,7 @@ fn line_rises(p: &Piece, line: &Line, next: Option<End>) -> bool
         Ordering::Less => return false,
         _ => {}
     }
-    if !at_most(p.at, Extended::Fin(readable_value(line, p.x))) {
+    if !at_most(p.at, Extended::Fin(line_at(line, p.x))) {
         return false;
     }
     ends_below(line, next)

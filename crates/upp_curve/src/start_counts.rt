@@ -5,8 +5,8 @@ ghost use Rattle.rational.specs.Rational.{ℚ, int, ◌-ℚ◌, ◌/ℚ◌, ◌�
 ghost use Rattle.rational.specs.Gauge.{cap};
 ghost use Rattle.min_plus.specs.WholeUp.{whole_up};
 
-use crate::starts::{is_before, is_less};
-use fraction128::Frac;
+use crate::starts::is_before;
+use fraction128::{Frac, is_less};
 
 /// The least whole number that is at least x, and 0 below 0.
 pub(crate) fn whole_up(x: Frac) -> u128

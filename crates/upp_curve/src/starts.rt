@@ -5,8 +5,7 @@ ghost use Rattle.rational.specs.Rational.{ℚ, den, int, ◌+ℚ◌, ◌*ℚ◌,
 ghost use Rattle.upp_curve.specs.Long.{long_value};
 
 use crate::long::Long;
-use fraction128::Frac;
-use std::cmp::Ordering;
+use fraction128::{Frac, is_less};
 
 /// a / b + n p / q over the denominator b q, times v.
 fn cross_sum(a: u128, b: u128, n: u128, p: u128, q: u128, v: u128) -> Long
@@ -29,18 +28,6 @@ fn cross_end(u: u128, b: u128, q: u128) -> Long
     ensures { long_value result ≡ u * b * q }
 {
     Long::of(u).times(b).times(q)
-}
-
-/// Whether a is less than b.
-#[inline]
-pub fn is_less(a: Frac, b: Frac) -> bool
-    ensures test { result ≡ lt_q a b }
-    ensures less { IsTrue result ↔ (a <ℚ b) }
-{
-    match a.cmp(&b) {
-        Ordering::Less => true,
-        _ => false,
-    }
 }
 
 /// The size of the numerator, and the denominator.

@@ -2,15 +2,14 @@
 
 ghost use Rattle.std.specs.Prelude.{◌≡◌, ◌++◌, ◌∷◌, pos, IfOk, List, length};
 ghost use Rattle.rational.specs.Rational.{int, ◌≤ℚ◌, ◌<ℚ◌};
-ghost use Rattle.upp_curve.specs.Normal.{StartsAtZero};
+ghost use Rattle.affine_segment.specs.Pieces.{StartsAtZero, Each};
 ghost use Rattle.upp_curve.specs.Unrolled.{upto};
-ghost use Rattle.upp_curve.specs.Normal.{Each};
-ghost use Rattle.upp_curve.specs.Fitting.{LaterFits, ReadFits};
+ghost use Rattle.upp_curve.specs.Fitting.{LaterFits};
+ghost use Rattle.affine_segment.specs.Fits.{ReadFits};
 ghost use Rattle.upp_curve.specs.Normalising.{cut_at, second_copy, ended, past, first_start};
 
-use crate::fitting::{later, piece_value, read};
-use crate::reading::piece_at;
-use affine_segment::Piece;
+use crate::fitting::later;
+use affine_segment::{Piece, piece_at, piece_value, read};
 use fraction128::Frac;
 use std::alloc::{AllocError, Global};
 use std::cmp::Ordering;
@@ -97,7 +96,7 @@ pub(crate) fn first_past(pieces: &[Piece], t: Frac) -> Option<Frac>
 }
 
 /// How many of the pieces start before t, of pieces whose starts rise.
-pub(crate) fn count_before(pieces: &[Piece], t: Frac) -> usize
+pub fn count_before(pieces: &[Piece], t: Frac) -> usize
     ensures { result ≡ length (upto t pieces.now) }
 {
     for (i, p) in pieces.iter().enumerate() {

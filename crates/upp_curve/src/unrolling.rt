@@ -3,24 +3,24 @@
 ghost use Rattle.std.specs.Prelude.{◌≡◌, ◌<◌, ◌≤◌, ◌^◌, ◌++◌, [], length, pos, OnOk, IfOk, IfErr, Err};
 ghost use Rattle.rational.specs.Rational.{ℚ, int, ◌*ℚ◌, ◌≤ℚ◌, ◌<ℚ◌};
 ghost use Rattle.upp_curve.specs.declared.curve.Tail.TheVariants.{Periodic};
-ghost use Rattle.upp_curve.specs.Reading.{read};
+ghost use Rattle.affine_segment.specs.Reading.{read};
 ghost use Rattle.upp_curve.specs.Curve.{value_at};
-ghost use Rattle.upp_curve.specs.Normal.{StartsAtZero, FitsPeriod};
+ghost use Rattle.affine_segment.specs.Pieces.{StartsAtZero};
+ghost use Rattle.upp_curve.specs.Normal.{FitsPeriod};
 ghost use Rattle.upp_curve.specs.Unrolled.{each_later, from, unroll, unrolled, upto};
 ghost use Rattle.upp_curve.specs.Gauges.{gauge_over, tally_over};
 ghost use Rattle.upp_curve.specs.Unrolling.{IsOperandTo, TurnFits, TurnsFit};
 
 use crate::curve::{Curve, Tail};
-use crate::fitting::{difference, later, product};
+use crate::fitting::later;
 use crate::least_period::turn_of;
 use crate::limits::{gauge, tally};
 use crate::op_kind::{OpFault, OpKind};
 use crate::own_limits::within_limits;
 use crate::start_counts;
-use crate::starts::is_less;
 use crate::two_periods::count_before;
 use affine_segment::Piece;
-use fraction128::Frac;
+use fraction128::{Frac, difference, is_less, product};
 use std::alloc::{AllocError, Global};
 
 // The pieces that start before x, of pieces whose starts rise.

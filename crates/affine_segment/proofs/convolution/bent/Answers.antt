@@ -8,8 +8,8 @@ use Rattle.affine_segment.specs.declared.element.Joined.{Joined}
 use Rattle.affine_segment.specs.Segments.{open_of}
 use Rattle.affine_segment.specs.Corners.{segment_of}
 use Rattle.affine_segment.specs.Elements.{IsConvolved}
-use Rattle.affine_segment.proofs.Convolved.{endless_convolved, bent_convolved, one_part}
-use Rattle.affine_segment.specs.MadeParts.{BentParts}
+use Rattle.affine_segment.proofs.Convolved.{endless_convolved, bent_convolved}
+use Rattle.affine_segment.specs.MadeParts.{alone_part, BentParts}
 use Rattle.affine_segment.proofs.Made.{one_part_made, two_parts_made}
 use Rattle.affine_segment.proofs.convolution.bent.Goals as goal
 
@@ -35,7 +35,7 @@ returns-in_default-clause-convolved c =
     let start = c.in_ok-start.start in
     let corner = c.in_ok-start.ensures.corner in
     rw c.alone.ensures
-    (subst (λ z. IsConvolved (Open low.from z low.line) (open_of high) (one_part (Open start.at Inf start.line))) (sym (endless low.to c.in_default.not-Fin))
+    (subst (λ z. IsConvolved (Open low.from z low.line) (open_of high) (alone_part (Open start.at Inf start.line))) (sym (endless low.to c.in_default.not-Fin))
     (endless_convolved low.from low.line high.from high.to high.line start.line start.at c.requires.right c.requires.slopes
     corner.at record { slope = corner.line.slope; value = corner.line.value ∙ corner.v }))
 

@@ -1,7 +1,7 @@
 use Rattle.std.proofs.Common.{subst}
 use Rattle.rational.specs.Rational.{◌<ℚ◌, ◌≤ℚ◌}
 use Rattle.affine_segment.specs.declared.element.Element.TheVariants.{Point}
-use Rattle.upp_curve.proofs.Compared.{not_less_out}
+use Rattle.rational.proofs.Compared.{not_less_out}
 use Rattle.closure_elements.specs.ElementCurves.{point_closure, point_at_zero}
 use Rattle.closure_elements.proofs.PointAnswers.{ready_point, ready_zero}
 use Rattle.closure_elements.proofs.SegmentAnswers.{ready_answer}

@@ -3,7 +3,7 @@ use Rattle.rational.specs.Rational.{◌<ℚ◌, ◌≤ℚ◌}
 use Rattle.rational.specs.declared.Extended.TheVariants.{Inf}
 use Rattle.affine_segment.specs.declared.element.Element.TheVariants.{Open}
 use Rattle.min_plus.specs.Functions.{zero_q}
-use Rattle.upp_curve.proofs.Compared.{not_less_out}
+use Rattle.rational.proofs.Compared.{not_less_out}
 use Rattle.closure_elements.specs.ElementCurves.{level_closure, falling_closure}
 use Rattle.closure_elements.proofs.SegmentAnswers.{ready_answer, ready_endless_level, ready_endless_falling, endless_some}
 use Rattle.closure_elements.proofs.segments.endless.Goals as goal

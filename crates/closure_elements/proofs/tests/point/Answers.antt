@@ -1,6 +1,6 @@
 use Rattle.std.proofs.Common.{subst}
 use Rattle.rational.specs.Rational.{◌≤ℚ◌}
-use Rattle.upp_curve.proofs.Compared.{not_less_out}
+use Rattle.rational.proofs.Compared.{not_less_out}
 use Rattle.closure_elements.proofs.tests.point.Goals as goal
 
 pub point_closure-requires-clause-time : goal.point_closure-requires-clause-time

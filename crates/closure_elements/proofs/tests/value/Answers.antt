@@ -1,6 +1,6 @@
 use Rattle.std.proofs.Common.{subst}
 use Rattle.rational.specs.Rational.{◌≤ℚ◌}
-use Rattle.affine_segment.proofs.Compared.{not_less}
+use Rattle.rational.proofs.Compared.{not_less}
 use Rattle.closure_elements.proofs.tests.value.Goals as goal
 
 pub value_at-requires : goal.value_at-requires

@@ -3,9 +3,9 @@ use Rattle.std.proofs.Common.{sym, refl, subst, true≢false}
 use Rattle.rational.specs.Rational.{◌+ℚ◌, neg_ℚ}
 use Rattle.rational.specs.declared.Extended.TheVariants.{Fin, Inf}
 use Rattle.rational.proofs.Laws.{le_of_lt}
-use Rattle.upp_curve.specs.Fitting.{ReadFits}
+use Rattle.affine_segment.specs.Fits.{ReadFits}
 use Rattle.upp_curve.specs.Readable.{SumFitsAt}
-use Rattle.upp_curve.specs.Reading.{read}
+use Rattle.affine_segment.specs.Reading.{read}
 use Rattle.upp_curve.specs.Curve.{repeated}
 use Rattle.upp_curve.specs.Normalising.{HasValues}
 use Rattle.upp_curve.proofs.NormaliseForm.{ok_map}
@@ -13,8 +13,7 @@ use Rattle.curve_frame.specs.Answering.{IsAnswer}
 use Rattle.curve_lattice.proofs.LatticeCalls.{from_fits}
 use Rattle.closure_start.proofs.Started.{started_answer}
 use Rattle.closure_start.proofs.Windowed.{IsConvolved}
-use Rattle.closure_start.proofs.Made.{period_reads, rise_less, start_room, started_convolves}
-use Rattle.closure_start.proofs.Made.{open_keeps, open_convolves}
+use Rattle.closure_start.proofs.Made.{period_reads, rise_less, start_room, started_convolves, open_keeps, open_convolves}
 use Rattle.closure_start.proofs.from_start.started_within.Goals as goal
 
 pub difference-from-requires : goal.difference-from-requires

@@ -1,5 +1,5 @@
 use Rattle.std.proofs.Common.{◌∙◌, sym}
-use Rattle.upp_curve.proofs.PieceIn.{value_later, value_start}
+use Rattle.affine_segment.proofs.PieceIn.{value_later, value_start}
 use Rattle.closure_start.proofs.parts.piece_value.Goals as goal
 
 pub returns-in-Greater : goal.returns-in-Greater

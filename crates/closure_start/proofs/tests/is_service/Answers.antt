@@ -2,7 +2,7 @@ use Rattle.std.specs.Prelude.{pos}
 use Rattle.std.proofs.Common.{sym, refl, ap, subst, ◌∙◌}
 use Rattle.rational.specs.Rational.{◌≤ℚ◌, int}
 use Rattle.rational.proofs.Laws.{le_refl}
-use Rattle.affine_segment.proofs.Compared.{not_less}
+use Rattle.rational.proofs.Compared.{not_less}
 use Rattle.upp_curve.specs.Curve.{value_at}
 use Rattle.closure_start.proofs.TestCurves.{rising_nonneg}
 use Rattle.closure_start.proofs.tests.is_service.Goals as goal

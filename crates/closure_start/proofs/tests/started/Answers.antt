@@ -1,6 +1,6 @@
 use Rattle.std.proofs.Common.{refl, subst}
 use Rattle.rational.specs.Rational.{◌≤ℚ◌}
-use Rattle.affine_segment.proofs.Compared.{not_less}
+use Rattle.rational.proofs.Compared.{not_less}
 use Rattle.upp_curve.specs.Curve.{value_at}
 use Rattle.closure_start.proofs.TestCurves.{finite_convolves}
 use Rattle.closure_start.proofs.tests.started.Goals as goal

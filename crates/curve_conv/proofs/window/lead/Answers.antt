@@ -1,7 +1,7 @@
 use Rattle.std.proofs.Common.{List, [], ◌∷◌, ◌++◌, sym, ap₂, subst, ◌∙◌}
 use Rattle.rational.specs.Rational.{ℚ, ◌≤ℚ◌, ◌<ℚ◌}
 use Rattle.affine_segment.specs.declared.line.Piece.{Piece}
-use Rattle.affine_segment.proofs.Compared.{is_greater, not_greater}
+use Rattle.rational.proofs.Compared.{is_greater, not_greater}
 use Rattle.curve_conv.specs.JoinedWindows.{nothing_at}
 use Rattle.curve_conv.proofs.JoinedReads.{lead_empty, lead_one}
 use Rattle.curve_conv.proofs.window.lead.Goals as goal

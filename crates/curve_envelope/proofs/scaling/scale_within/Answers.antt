@@ -3,7 +3,7 @@ use Rattle.std.specs.Prelude.{List, map}
 use Rattle.affine_segment.specs.declared.line.Piece.{Piece}
 use Rattle.upp_curve.specs.declared.op_kind.OpKind.TheVariants.{Scale}
 use Rattle.upp_curve.specs.declared.curve.Tail.{Tail}
-use Rattle.upp_curve.specs.Normal.{Each}
+use Rattle.affine_segment.specs.Pieces.{Each}
 use Rattle.upp_curve.specs.Gauges.{scaled_piece, scaled_tail}
 use Rattle.upp_curve.specs.ClosedOperands.{PieceScales, TailScales}
 use Rattle.upp_curve.proofs.NormaliseForm.{ok_map}

@@ -1,5 +1,5 @@
 use Rattle.std.proofs.Common.{◌∙◌}
-use Rattle.upp_curve.proofs.PieceIn.{le_test}
+use Rattle.affine_segment.proofs.PieceIn.{le_test}
 use Rattle.curve_envelope.proofs.shifts.starts_by.Goals as goal
 
 pub returns : goal.returns

@@ -1,8 +1,7 @@
 use Rattle.std.proofs.Common.{ap, ◌∙◌, subst, sym}
-use Rattle.upp_curve.specs.Normal.{StartsAtZero}
-use Rattle.upp_curve.specs.Fitting.{ReadFits}
-use Rattle.upp_curve.specs.Reading.{read}
-use Rattle.upp_curve.specs.Ahead.{line_in}
+use Rattle.affine_segment.specs.Pieces.{StartsAtZero}
+use Rattle.affine_segment.specs.Fits.{ReadFits}
+use Rattle.affine_segment.specs.Reading.{read, line_in}
 use Rattle.curve_lag.proofs.EarlyParts.{early_here, early_goes, early_stands, as_until}
 use Rattle.curve_lag.proofs.parts.early_part.Goals as goal
 

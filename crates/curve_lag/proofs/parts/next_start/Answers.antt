@@ -1,7 +1,7 @@
 use Rattle.std.proofs.Common.{rules, None}
 use Rattle.std.proofs.lemmas.List.Sorted.{IsPartitionPoint-from_clause}
-use Rattle.upp_curve.proofs.PieceIn.{starts_by, parted}
-use Rattle.upp_curve.proofs.StretchPieces.{next_ends, next_is}
+use Rattle.affine_segment.proofs.PieceIn.{starts_by, parted}
+use Rattle.affine_segment.proofs.NextPiece.{next_ends, next_is}
 use Rattle.curve_lag.proofs.parts.next_start.Goals as goal
 
 pub returns-in-None : goal.returns-in-None

@@ -1,6 +1,6 @@
 use Rattle.std.proofs.Common.{refl, sym, ◌∙◌}
 use Rattle.curve_lag.proofs.CellSizes.{not_less}
-use Rattle.upp_curve.proofs.FirstStretch.{value_past}
+use Rattle.affine_segment.proofs.PieceIn.{value_past}
 use Rattle.curve_lag.proofs.EarlyParts.{value_by}
 use Rattle.curve_lag.proofs.parts.piece_value.Goals as goal
 

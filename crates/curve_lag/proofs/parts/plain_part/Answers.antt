@@ -1,5 +1,5 @@
 use Rattle.std.proofs.Common.{◌∙◌, ap}
-use Rattle.upp_curve.proofs.PieceIn.{read_found}
+use Rattle.affine_segment.proofs.PieceIn.{read_found}
 use Rattle.curve_lag.specs.Parts.{until_of}
 use Rattle.curve_lag.proofs.EarlyParts.{fits_found, line_found}
 use Rattle.curve_lag.proofs.parts.plain_part.Goals as goal

@@ -1,5 +1,5 @@
 use Rattle.std.proofs.Common.{◌≡◌, sym, ap, ◌∙◌, subst}
-use Rattle.upp_curve.specs.Normal.{Each, StartsAtZero}
+use Rattle.affine_segment.specs.Pieces.{Each, StartsAtZero}
 use Rattle.upp_curve.specs.Operand.{OperandPieces}
 use Rattle.curve_window.proofs.OperandWindows.{cuts_fit}
 use Rattle.curve_window.specs.Stretches.{EachBoth}

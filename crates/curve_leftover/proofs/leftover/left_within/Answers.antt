@@ -4,7 +4,7 @@ use Rattle.rational.specs.Ratio.{SumFits}
 use Rattle.rational.specs.declared.Extended.TheVariants.{Fin}
 use Rattle.upp_curve.specs.Curve.{value_at, repeated}
 use Rattle.upp_curve.specs.Normalising.{HasValues}
-use Rattle.upp_curve.specs.Reading.{read}
+use Rattle.affine_segment.specs.Reading.{read}
 use Rattle.min_plus.specs.Running.{IsFifoLeftover}
 use Rattle.upp_curve.specs.Steady.{rise_over}
 use Rattle.curve_window.proofs.Results.{ok_map}

@@ -3,9 +3,9 @@ use Rattle.rational.specs.Rational.{◌+ℚ◌}
 use Rattle.rational.specs.MinMax.{min_q}
 use Rattle.rational.specs.declared.Extended.TheVariants.{Fin}
 use Rattle.affine_segment.specs.Values.{line_value}
-use Rattle.upp_curve.specs.Normal.{Each}
-use Rattle.upp_curve.specs.Readable.{LineFitsAt}
-use Rattle.upp_curve.specs.Reading.{read}
+use Rattle.affine_segment.specs.Pieces.{Each}
+use Rattle.affine_segment.specs.Fits.{LineFitsAt}
+use Rattle.affine_segment.specs.Reading.{read}
 use Rattle.upp_curve.specs.Shapes.{IsNumber}
 use Rattle.upp_curve.specs.Steady.{last_line}
 use Rattle.curve_window.proofs.Results.{ok_map}

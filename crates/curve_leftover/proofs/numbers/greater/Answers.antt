@@ -1,6 +1,6 @@
 use Rattle.std.proofs.Common.{sym}
 use Rattle.rational.proofs.MinMax.{max_q_left, max_q_right}
-use Rattle.affine_segment.proofs.Compared.{is_greater, not_greater}
+use Rattle.rational.proofs.Compared.{is_greater, not_greater}
 use Rattle.curve_leftover.proofs.numbers.greater.Goals as goal
 
 pub returns-in-Greater : goal.returns-in-Greater

@@ -1,6 +1,6 @@
 use Rattle.std.proofs.Common.{sym}
 use Rattle.rational.proofs.MinMax.{min_q_left, min_q_right}
-use Rattle.affine_segment.proofs.Compared.{is_greater, not_greater}
+use Rattle.rational.proofs.Compared.{is_greater, not_greater}
 use Rattle.curve_leftover.proofs.numbers.lesser.Goals as goal
 
 pub returns-in-Greater : goal.returns-in-Greater

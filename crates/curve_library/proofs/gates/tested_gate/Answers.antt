@@ -1,6 +1,6 @@
 use Rattle.std.proofs.Common.{inl, inr}
 use Rattle.rational.proofs.Laws.{antisym}
-use Rattle.upp_curve.proofs.Compared.{not_less_out}
+use Rattle.rational.proofs.Compared.{not_less_out}
 use Rattle.upp_curve.specs.Kinds.{gate}
 use Rattle.curve_library.specs.Causes.{OneNegative, NoSlot}
 use Rattle.curve_library.proofs.Answering.{causes_of}

@@ -4,7 +4,7 @@ use Rattle.rational.specs.declared.Extended.TheVariants.{Inf}
 use Rattle.affine_segment.specs.declared.element.Element.TheVariants.{Open}
 use Rattle.affine_segment.specs.Elements.{element_value}
 use Rattle.upp_curve.specs.Ahead.{GoesOn}
-use Rattle.affine_segment.proofs.Compared.{is_less}
+use Rattle.rational.proofs.Compared.{is_less}
 use Rattle.curve_parts.specs.Stretches.{SumStretch}
 use Rattle.curve_parts.proofs.ElementStretches.{open_before, open_here, here_stands}
 use Rattle.curve_parts.proofs.elements.open_stretch.Goals as goal

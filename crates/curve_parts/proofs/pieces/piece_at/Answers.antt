@@ -1,6 +1,6 @@
 use Rattle.std.proofs.Common.{rules}
 use Rattle.std.proofs.lemmas.List.Sorted.{IsPartitionPoint-from_clause}
-use Rattle.upp_curve.proofs.PieceIn.{starts_by, parted, some_start, last_start}
+use Rattle.affine_segment.proofs.PieceIn.{starts_by, parted, some_start, last_start}
 use Rattle.curve_parts.proofs.pieces.piece_at.Goals as goal
 
 pub overflow_sub-result : goal.overflow_sub-result

@@ -1,6 +1,6 @@
 use Rattle.std.proofs.Common.{◌∙◌, sym, subst}
 use Rattle.upp_curve.specs.declared.op_kind.OpKind.TheVariants.{RunInf}
-use Rattle.upp_curve.specs.Reading.{read}
+use Rattle.affine_segment.specs.Reading.{read}
 use Rattle.upp_curve.specs.Curve.{repeated}
 use Rattle.upp_curve.specs.Normalising.{HasValues}
 use Rattle.curve_frame.specs.Frames.{sizes_at}

@@ -3,7 +3,7 @@ use Rattle.rational.specs.Rational.{◌≤ℚ◌, ◌<ℚ◌}
 use Rattle.rational.specs.declared.Extended.TheVariants.{Fin}
 use Rattle.rational.proofs.Laws.{le_refl, le_of_lt}
 use Rattle.min_plus.specs.Functions.{zero_q}
-use Rattle.upp_curve.specs.Reading.{read}
+use Rattle.affine_segment.specs.Reading.{read}
 use Rattle.curve_running.specs.Scans.{IsSupremumIn}
 use Rattle.curve_running.specs.Between.{IsLevelBetween}
 use Rattle.curve_running.proofs.Covers.{later_end}

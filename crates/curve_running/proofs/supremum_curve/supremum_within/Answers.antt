@@ -1,7 +1,7 @@
 use Rattle.std.specs.Prelude.{true}
 use Rattle.std.proofs.Common.{◌∙◌, sym, subst}
 use Rattle.upp_curve.specs.declared.op_kind.OpKind.TheVariants.{RunSup}
-use Rattle.upp_curve.specs.Reading.{read}
+use Rattle.affine_segment.specs.Reading.{read}
 use Rattle.upp_curve.specs.Curve.{value_at, repeated}
 use Rattle.min_plus.specs.Functions.{IsFinite}
 use Rattle.upp_curve.specs.Normalising.{HasValues}

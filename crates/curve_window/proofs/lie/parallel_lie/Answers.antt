@@ -1,7 +1,7 @@
 use Rattle.std.proofs.Common.{sym, subst}
 use Rattle.std.specs.Prelude.{Some}
 use Rattle.rational.proofs.Laws.{le_of_lt}
-use Rattle.affine_segment.proofs.Compared.{is_greater, not_greater}
+use Rattle.rational.proofs.Compared.{is_greater, not_greater}
 use Rattle.curve_window.specs.Lies.{IsLie}
 use Rattle.curve_window.proofs.LinesLie.{parallel_lines}
 use Rattle.curve_window.proofs.lie.parallel_lie.Goals as goal

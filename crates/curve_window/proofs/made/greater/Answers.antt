@@ -1,5 +1,5 @@
 use Rattle.std.proofs.Common.{sym}
-use Rattle.affine_segment.proofs.Compared.{is_greater, not_greater}
+use Rattle.rational.proofs.Compared.{is_greater, not_greater}
 use Rattle.rational.proofs.MinMax.{max_q_left, max_q_right}
 use Rattle.curve_window.proofs.made.greater.Goals as goal
 

@@ -2,7 +2,7 @@ use Rattle.std.proofs.Common.{subst, sym}
 use Rattle.rational.specs.Rational.{◌≤ℚ◌}
 use Rattle.rational.specs.Extended.{◌≤ₑ◌}
 use Rattle.rational.specs.declared.Extended.TheVariants.{Fin}
-use Rattle.affine_segment.proofs.Compared.{not_less}
+use Rattle.rational.proofs.Compared.{not_less}
 use Rattle.min_plus.specs.Functions.{zero_q}
 use Rattle.fifo_residual.proofs.tests.is_high.Goals as goal
 

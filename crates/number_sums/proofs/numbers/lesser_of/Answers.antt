@@ -1,5 +1,5 @@
 use Rattle.std.proofs.Common.{sym}
-use Rattle.affine_segment.proofs.Compared.{is_greater, not_greater}
+use Rattle.rational.proofs.Compared.{is_greater, not_greater}
 use Rattle.rational.proofs.MinMax.{min_q_left, min_q_right}
 use Rattle.number_sums.proofs.numbers.lesser_of.Goals as goal
 

@@ -1,6 +1,6 @@
 use Rattle.std.proofs.Common.{sym, ◌∙◌, subst}
 use Rattle.rational.specs.Rational.{◌≤ℚ◌, ◌<ℚ◌}
-use Rattle.affine_segment.proofs.Compared.{is_greater, not_greater}
+use Rattle.rational.proofs.Compared.{is_greater, not_greater}
 use Rattle.number_sums.proofs.Totals.{size_below, size_from}
 use Rattle.number_sums.proofs.numbers.size.Goals as goal
 

@@ -4,7 +4,7 @@ use Rattle.rational.specs.Rational.{◌≤ℚ◌, ◌<ℚ◌}
 use Rattle.rational.specs.declared.Extended.TheVariants.{Fin}
 use Rattle.affine_segment.specs.declared.element.Element.TheVariants.{Open}
 use Rattle.min_plus.specs.Functions.{zero_q}
-use Rattle.upp_curve.proofs.Compared.{not_less_out}
+use Rattle.rational.proofs.Compared.{not_less_out}
 use Rattle.closure_elements.proofs.MeetNumbers.{stretches_meet}
 use Rattle.subadd_closure.specs.SegmentLimits.{IsElementOf, IsOverlap, IsOwnGauge}
 use Rattle.subadd_closure.proofs.SegmentLimits.{early_stretch, endless_overlap, early_overlap, found_overlap}

@@ -6,7 +6,7 @@ use Rattle.rational.specs.declared.Extended.TheVariants.{Fin}
 use Rattle.rational.proofs.Laws.{le_refl}
 use Rattle.upp_curve.specs.Curve.{value_at}
 use Rattle.min_plus.specs.Functions.{zero_q}
-use Rattle.upp_curve.proofs.Compared.{not_less_out}
+use Rattle.rational.proofs.Compared.{not_less_out}
 use Rattle.subadd_closure.proofs.tests.starts_high.Goals as goal
 
 at_least : (less : Bool) (v z : ℚ) → (IsTrue less ↔ (v <ℚ z)) → IsTrue (not less) → z ≤ℚ v

@@ -1,5 +1,5 @@
 use Rattle.std.proofs.Common.{◌∙◌}
-use Rattle.upp_curve.proofs.PieceIn.{read_found}
+use Rattle.affine_segment.proofs.PieceIn.{read_found}
 use Rattle.upp_curve.proofs.ahead.plain_stretch.Goals as goal
 
 pub returns-clause-at : goal.returns-clause-at

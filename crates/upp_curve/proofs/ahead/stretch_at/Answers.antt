@@ -1,10 +1,9 @@
-use Rattle.std.proofs.Common.{subst, sym, ap, ◌∙◌}
-use Rattle.upp_curve.specs.Normal.{StartsAtZero}
-use Rattle.upp_curve.specs.Reading.{read}
-use Rattle.upp_curve.specs.Fitting.{ReadFits}
+use Rattle.std.proofs.Common.{subst, sym, ap, ◌∙◌, None}
+use Rattle.affine_segment.specs.Pieces.{StartsAtZero}
+use Rattle.affine_segment.specs.Reading.{read, line_in, next_in}
+use Rattle.affine_segment.specs.Fits.{ReadFits}
 use Rattle.upp_curve.specs.Operand.{OperandLineAt}
-use Rattle.upp_curve.specs.Ahead.{line_in, next_in, GridValue}
-use Rattle.std.proofs.Common.{None}
+use Rattle.upp_curve.specs.Ahead.{GridValue}
 use Rattle.upp_curve.proofs.StretchValues.{IsPlain, is_plain, plain_here, plain_goes, plain_times}
 use Rattle.upp_curve.proofs.ahead.stretch_at.Goals as goal
 

@@ -1,4 +1,4 @@
-use Rattle.upp_curve.proofs.Compared.{not_less_out}
+use Rattle.rational.proofs.Compared.{not_less_out}
 use Rattle.upp_curve.proofs.CountSums.{copies_number}
 use Rattle.upp_curve.proofs.counts.number_below.Goals as goal
 

@@ -3,7 +3,7 @@ use Rattle.std.proofs.Common.{pos, subst, sym}
 use Rattle.rational.specs.Rational.{◌+ℚ◌, ◌*ℚ◌, ◌≤ℚ◌, ◌<ℚ◌, int}
 use Rattle.affine_segment.specs.declared.line.Piece.{Piece}
 use Rattle.rational.proofs.Laws.{le_of_lt}
-use Rattle.upp_curve.proofs.Compared.{not_less_out}
+use Rattle.rational.proofs.Compared.{not_less_out}
 use Rattle.upp_curve.proofs.GivenCurves.{no_period, period_told}
 use Rattle.upp_curve.proofs.given.fits_period.Goals as goal
 

@@ -1,7 +1,7 @@
 use Rattle.std.proofs.Common.{drop}
 use Rattle.std.specs.Prelude.{◌↔◌}
 use Rattle.upp_curve.specs.Given.{GoOn}
-use Rattle.upp_curve.specs.Normal.{StartsAtZero}
+use Rattle.affine_segment.specs.Pieces.{StartsAtZero}
 use Rattle.upp_curve.proofs.given.starts_at_zero.Given as goal
 
 abbrev pub invariant-loop-p : goal.invariant-loop-p

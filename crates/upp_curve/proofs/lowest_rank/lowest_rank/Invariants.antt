@@ -1,4 +1,4 @@
-use Rattle.upp_curve.specs.Reading.{read}
+use Rattle.affine_segment.specs.Reading.{read}
 use Rattle.upp_curve.specs.Curve.{repeated}
 use Rattle.upp_curve.proofs.NormaliseRank.{LowersOn}
 use Rattle.upp_curve.proofs.lowest_rank.lowest_rank.Given as goal

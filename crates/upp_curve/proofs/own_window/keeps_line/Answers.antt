@@ -1,7 +1,7 @@
 use Rattle.std.proofs.Common.{◌∙◌, sym}
 use Rattle.affine_segment.specs.Values.{line_value}
-use Rattle.upp_curve.specs.Reading.{piece_value}
-use Rattle.upp_curve.proofs.Compared.{not_less_out}
+use Rattle.affine_segment.specs.Reading.{piece_value}
+use Rattle.rational.proofs.Compared.{not_less_out}
 use Rattle.upp_curve.proofs.AtRank.{past_rank, at_rank, same_test, same_by, same_values}
 use Rattle.upp_curve.proofs.own_window.keeps_line.Goals as goal
 

@@ -1,8 +1,9 @@
 use Rattle.std.proofs.Common.{ap, sym, subst, refl, ◌∙◌}
 use Rattle.upp_curve.specs.declared.curve.Tail.TheVariants.{Periodic, Affine, Infinite}
-use Rattle.upp_curve.specs.Reading.{read}
+use Rattle.affine_segment.specs.Reading.{read}
 use Rattle.upp_curve.specs.Curve.{repeated, value_at, HasSameValues}
-use Rattle.upp_curve.specs.Normal.{StartsAtZero, TailFits}
+use Rattle.affine_segment.specs.Pieces.{StartsAtZero}
+use Rattle.upp_curve.specs.Normal.{TailFits}
 use Rattle.upp_curve.specs.Normalising.{raw_curve, HasValues, TailOnGrids, ended}
 use Rattle.upp_curve.specs.Room.{PiecesHaveRoom, TailHasRoom, TurnHasRoom}
 use Rattle.upp_curve.proofs.ByTail.{value_of}

@@ -1,6 +1,6 @@
 use Rattle.std.proofs.Common.{arith, ◌∙◌, ◌≡◌, List, ◌∷◌}
 use Rattle.affine_segment.specs.declared.line.Piece.{Piece}
-use Rattle.upp_curve.specs.Reading.{read}
+use Rattle.affine_segment.specs.Reading.{read}
 use Rattle.upp_curve.specs.Curve.{repeated}
 use Rattle.upp_curve.proofs.NormaliseForm.{merged_list, grids_through, two_periods_list, two_periods_start}
 use Rattle.upp_curve.proofs.NormaliseRoomy.{lines_fit}

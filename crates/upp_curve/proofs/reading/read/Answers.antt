@@ -1,7 +1,7 @@
 use Rattle.std.proofs.Common.{◌≡◌, subst, IfOk}
 use Rattle.upp_curve.specs.Steps.{IsWideLine, IsWideRead}
-use Rattle.upp_curve.proofs.PieceIn.{read_found, wide_found}
-use Rattle.upp_curve.proofs.Refusals.{err_map}
+use Rattle.affine_segment.proofs.PieceIn.{read_found}
+use Rattle.upp_curve.proofs.Refusals.{wide_found, err_map}
 use Rattle.upp_curve.proofs.reading.read.Goals as goal
 
 pub returns-clause-value : goal.returns-clause-value

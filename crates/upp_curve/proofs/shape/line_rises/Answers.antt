@@ -1,6 +1,6 @@
 use Rattle.std.proofs.Common.{sym, true≢false, subst}
 use Rattle.rational.specs.Rational.{◌≤ℚ◌}
-use Rattle.affine_segment.proofs.Compared.{is_less, not_less}
+use Rattle.rational.proofs.Compared.{is_less, not_less}
 use Rattle.upp_curve.proofs.LineRising.{rises_by_tests, falls}
 use Rattle.upp_curve.proofs.shape.line_rises.Goals as goal
 
@@ -13,5 +13,5 @@ returns-in-Less c = (
 pub returns : goal.returns
 returns c =
     let up = subst (λ z. z ≤ℚ c.args.line.now.slope) c.zero.ensures (not_less c.cmp.result c.cmp.ensures.ranks c.in_default.not-Less) in
-    let same = rises_by_tests c.args.p.now c.args.line.now c.args.next c.readable_value.result c.requires.line c.readable_value.ensures up (c.at_most.ensures.0 c.if-not-at_most.false) in
+    let same = rises_by_tests c.args.p.now c.args.line.now c.args.next c.line_at.result c.requires.line c.line_at.ensures up (c.at_most.ensures.0 c.if-not-at_most.false) in
     (λ h. same.0 (c.ends_below.ensures.0 h), λ h. c.ends_below.ensures.1 (same.1 h))

@@ -1,6 +1,6 @@
 use Rattle.std.proofs.Common.{subst, ◌∙◌}
 use Rattle.rational.specs.Rational.{◌<ℚ◌, ◌≤ℚ◌}
-use Rattle.upp_curve.proofs.Compared.{not_less_out}
+use Rattle.rational.proofs.Compared.{not_less_out}
 use Rattle.upp_curve.proofs.Rounding.{whole_up_neg, whole_up_size}
 use Rattle.upp_curve.proofs.start_counts.whole_up.Goals as goal
 

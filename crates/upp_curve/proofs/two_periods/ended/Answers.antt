@@ -2,7 +2,8 @@ use Rattle.std.proofs.Common.{◌≡◌, ◌+◌, ◌++◌, ◌∙◌, List, [],
 use Rattle.rational.specs.Extended.{Ext}
 use Rattle.affine_segment.specs.declared.line.Piece.{Piece}
 use Rattle.upp_curve.specs.Unrolled.{upto}
-use Rattle.upp_curve.proofs.NormaliseLoops.{next_piece, upto_more, upto_stops, upto_ends}
+use Rattle.affine_segment.proofs.NextPiece.{next_piece}
+use Rattle.upp_curve.proofs.NormaliseLoops.{upto_more, upto_stops, upto_ends}
 use Rattle.upp_curve.proofs.two_periods.ended.Goals as goal
 use Rattle.upp_curve.proofs.two_periods.ended.Goals.{else-loop-p-test, then-loop-p-test+in_default}
 

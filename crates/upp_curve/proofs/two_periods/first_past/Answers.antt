@@ -1,6 +1,7 @@
 use Rattle.std.proofs.Common.{◌+◌, ap, sym, drop, drop_of_length-le}
 use Rattle.upp_curve.specs.Normalising.{past, first_start}
-use Rattle.upp_curve.proofs.NormaliseLoops.{next_piece, past_skips, past_found, past_ends}
+use Rattle.affine_segment.proofs.NextPiece.{next_piece}
+use Rattle.upp_curve.proofs.NormaliseLoops.{past_skips, past_found, past_ends}
 use Rattle.upp_curve.proofs.two_periods.first_past.Goals as goal
 
 pub returns-in-Greater : goal.returns-in-Greater

@@ -6,8 +6,8 @@ use Rattle.rational.specs.Rational.{◌-ℚ◌, ◌*ℚ◌, ◌≤ℚ◌, ◌<�
 use Rattle.affine_segment.specs.declared.line.Piece.{Piece}
 use Rattle.upp_curve.specs.Fitting.{LaterFits}
 use Rattle.upp_curve.specs.Unrolled.{each_later, upto}
-use Rattle.upp_curve.proofs.Compared.{not_less_out}
-use Rattle.upp_curve.proofs.NormaliseLoops.{next_piece}
+use Rattle.rational.proofs.Compared.{not_less_out}
+use Rattle.affine_segment.proofs.NextPiece.{next_piece}
 use Rattle.upp_curve.proofs.NormaliseRank.{each_index}
 use Rattle.upp_curve.proofs.UnrollLoops.{push_ends, push_more, push_stops, pushed}
 use Rattle.upp_curve.proofs.unrolling.push_copies.Goals as goal

@@ -3,7 +3,7 @@ use Rattle.rational.specs.Rational.{◌<ℚ◌, ◌≤ℚ◌, int}
 use Rattle.rational.proofs.Laws.{le_of_lt}
 use Rattle.upp_curve.specs.declared.op_kind.OpKind.TheVariants.{Itself}
 use Rattle.upp_curve.specs.Gauges.{gauge_over}
-use Rattle.upp_curve.proofs.Compared.{not_less_out}
+use Rattle.rational.proofs.Compared.{not_less_out}
 use Rattle.upp_curve.proofs.GaugeRises.{first_operand}
 use Rattle.upp_curve.proofs.UnrolledPieces.{unroll_none}
 use Rattle.upp_curve.proofs.UnrolledCounts.{number_of}

@@ -1,7 +1,0 @@
-use Rattle.upp_curve.proofs.Compared.{less_not, not_less_test}
-use Rattle.upp_curve.proofs.starts.is_less.Goals as goal
-
-pub returns-in_default : goal.returns-in_default
-returns-in_default c =
-    let t = not_less_test c.args.a c.args.b (less_not c.cmp.result c.args.a c.args.b c.cmp.ensures.ranks c.in_default.not-Less) in
-    record { test = t.0; less = t.1 }

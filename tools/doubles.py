@@ -1,0 +1,215 @@
+#!/usr/bin/env python3
+"""Finds what stands twice in this repository: functions of the same contract and body but for names, and statements of
+specs and proofs that say the same.
+
+Of a function the names are compared that come from outside (types, fields, called functions, words of the specs); its
+own name, its parameters, its variables and the names of its clauses are not. Of a statement (the type of a lemma; an
+abbreviation with its equations; a record with its fields) the bound names and its own name are not compared.
+
+    tools/doubles.py [FOLDER ..]    folders below crates/, as curve_lag; without one, all
+
+Prints each group with file and line, and how many there are; the status is 1 where something is found."""
+import pathlib
+import re
+import sys
+
+TOP = pathlib.Path(__file__).resolve().parent.parent / 'crates'
+SHORT_FUNCTION = 24  # words of a function, and of a statement, below which nothing is compared
+SHORT_STATEMENT = 12
+
+WORD = re.compile(r"[^\W\d]['\w≢≡≤-]*|\d+|\S", re.U)
+KEYWORDS = set('fn let mut match if else for in while loop return pub crate self Self as ref move true false break '
+               'continue where impl requires ensures ghost λ'.split())
+
+
+class Names:
+    """Gives the names of one text the same new names in the order in which they come."""
+
+    def __init__(self):
+        self.known = {}
+
+    def bind(self, name):
+        if name not in KEYWORDS and name != '_':
+            self.known.setdefault(name, f'#{len(self.known)}')
+
+    def of(self, word):
+        return self.known.get(word, word)
+
+
+# ---- functions
+FUNCTION = re.compile(r'^[ ]*(?:pub(?:\(crate\))? )?fn (\w+)', re.M)
+CLAUSE = re.compile(r'\b(requires|ensures)\s+(?:\w+\s+)?\{')
+BOUND = [
+    re.compile(r'\blet (?:mut )?(\w+)\b'),
+    re.compile(r'\b(?:let|for|Some|Ok|Err|Fin)\s*\(?\s*\(?([\w, ]+)\)'),
+    re.compile(r'\bfor (\w+) in'),
+    re.compile(r'\|([\w, ]+)\|'),
+    re.compile(r'\bλ ([\w ]+)\.'),
+    re.compile(r'\((?:mut )?([a-z]\w*(?: \w+)*) :'),
+    re.compile(r'[{,]\s*([a-z]\w*)(?=\s*[,}])'),
+    re.compile(r'\b[a-z]\w*:\s+([a-z]\w*)\s*[,}]'),
+]
+
+
+def without_comments(text):
+    return re.sub(r'//[^\n]*', lambda m: ' ' * len(m.group(0)), text)
+
+
+def closing(text, start, pair):
+    """Where the bracket that opens at `start` closes."""
+    depth = 0
+    for i in range(start, len(text)):
+        if text[i] == pair[0]:
+            depth += 1
+        elif text[i] == pair[1]:
+            depth -= 1
+            if depth == 0:
+                return i + 1
+    return len(text)
+
+
+def body_start(text, i):
+    """Where the body of a function begins: the first brace that no clause has."""
+    while i < len(text):
+        clause = CLAUSE.match(text, i)
+        if clause:
+            i = closing(text, clause.end() - 1, '{}')
+        elif text[i] == '{':
+            return i
+        elif text[i] == ';':
+            return None
+        else:
+            i += 1
+    return None
+
+
+def function_key(name, head, body):
+    names = Names()
+    names.bind(name)
+    for parameter in re.findall(r'(?:[(,<]|\n)\s*(?:mut )?([a-z]\w*)\s*:(?!:)', head):
+        names.bind(parameter)
+    whole = head + body
+    for pattern in BOUND:
+        for found in pattern.findall(whole):
+            for word in re.findall(r'\b[a-z]\w*\b', found):
+                names.bind(word)
+    whole = CLAUSE.sub(r'\1 {', whole)
+    words = WORD.findall(whole)
+    fields = [i > 0 and words[i - 1] == '.' for i in range(len(words))]
+    return tuple(w if field else names.of(w) for w, field in zip(words, fields) if w != ',')
+
+
+def functions(path):
+    text = without_comments(path.read_text())
+    for found in FUNCTION.finditer(text):
+        start = body_start(text, found.end())
+        if start is None or '#[test]' in text[max(0, found.start() - 60):found.start()]:
+            continue
+        head, body = text[found.end():start], text[start:closing(text, start, '{}')]
+        key = function_key(found.group(1), head, body)
+        if len(key) >= SHORT_FUNCTION:
+            yield key, found.group(1), text.count('\n', 0, found.start(1)) + 1
+
+
+# ---- statements
+SIGNATURE = re.compile(r'^(?:pub )?([^\s:()]+) : ')
+ABBREV = re.compile(r'^(?:abbrev|unfoldable) (?:pub )?(\S+) : ')
+RECORD = re.compile(r'^(?:pub )?record (\S+)')
+BINDER = re.compile(r'[({]([^\W\d][^\s(){}:]*(?: [^\s(){}:]+)*) : ')
+LAMBDA = re.compile(r'λ ([^.()]+)\.')
+
+
+def blocks(path):
+    """The top level entries of a file with the lines that go on with them, and where each begins."""
+    block, first = [], 0
+    for number, line in enumerate(path.read_text().split('\n'), 1):
+        line = re.sub(r'(^|\s)--.*', '', line).rstrip()
+        if line and not line[0].isspace() and line[0] not in ')]}':
+            if block:
+                yield '\n'.join(block), first
+            block, first = [line], number
+        elif line:
+            block.append(line)
+    if block:
+        yield '\n'.join(block), first
+
+
+def statement_key(name, text, bound=()):
+    text = text.replace('{', '(').replace('}', ')')
+    # one group a name: (x y : A) is (x : A) (y : A), and an arrow after a group says nothing
+    names = Names()
+    names.bind(name)
+    for word in bound:
+        names.bind(word)
+    for pattern in (BINDER, LAMBDA):
+        for found in pattern.findall(text):
+            for word in found.split():
+                names.bind(word)
+    text = re.sub(r'\)\s*→\s*(?=\([^()]* : )', ') ', text)
+    words = re.findall(r"[().,;:=]|[^\s().,;:=]+", text)
+    order = Names()
+    out = []
+    for word, before in zip(words, [''] + words):
+        if before != '.' and word in names.known:
+            order.bind(word)
+            word = order.of(word)
+        out.append(word)
+    return tuple(out)
+
+
+def equations(entries, i, name):
+    """The equations of an abbreviation, which stand below its type."""
+    lines = []
+    for text, _ in entries[i + 1:]:
+        first = text.split()[0]
+        if first not in (name, 'unfolding') or re.match(r'^\S+ : ', text):
+            break
+        if first == name:
+            lines.append(text)
+    return lines
+
+
+def statements(path):
+    entries = list(blocks(path))
+    for i, (text, line) in enumerate(entries):
+        abbrev, record, lemma = ABBREV.match(text), RECORD.match(text), SIGNATURE.match(text)
+        if abbrev:
+            name = abbrev.group(1)
+            lines = equations(entries, i, name)
+            bound = [w for l in lines for w in re.findall(r"\b[a-z]\w*\b", l.split(' = ')[0])]
+            key = statement_key(name, '\n'.join([text[abbrev.end():]] + lines), bound)
+        elif record:
+            name = record.group(1)
+            key = statement_key(name, text[record.end(1):])
+        elif lemma and 'goal.' not in text.split('\n')[0]:
+            name = lemma.group(1)
+            key = statement_key(name, text[lemma.end():])
+        else:
+            continue
+        if len(key) >= SHORT_STATEMENT:
+            yield key, name, line
+
+
+def main():
+    chosen = sys.argv[1:]
+    groups = {}
+    for path in sorted(TOP.glob('**/*')):
+        place = path.relative_to(TOP)
+        if path.suffix not in ('.rt', '.antt') or 'out' in place.parts or (chosen and place.parts[0] not in chosen):
+            continue
+        if path.suffix == '.antt' and len(place.parts) > 3:
+            continue  # the proof of one function
+        found = functions(path) if path.suffix == '.rt' else statements(path)
+        for key, name, line in found:
+            groups.setdefault((path.suffix, key), []).append(f'{place}:{line} {name}')
+    counts = {'.rt': 0, '.antt': 0}
+    for (kind, key), places in sorted(groups.items(), key=lambda g: (g[0][0] == '.antt', g[1])):
+        if len(places) > 1:
+            counts[kind] += 1
+            print('\n'.join(places), end='\n\n')
+    print(f'{counts[".rt"]} functions and {counts[".antt"]} statements stand more than once')
+    return 1 if any(counts.values()) else 0
+
+
+if __name__ == '__main__':
+    sys.exit(main())
