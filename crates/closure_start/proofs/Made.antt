@@ -37,7 +37,7 @@ use Rattle.curve_conv.proofs.SumRoom.{pieces_room}
 use Rattle.curve_conv.proofs.SumSteps.{sum_read}
 use Rattle.curve_frame.specs.declared.frame.Frame.{Frame}
 use Rattle.curve_making.specs.Calls.{IsApplied}
-use Rattle.curve_least.proofs.LeastNumber.{ext_cases}
+use Rattle.upp_curve.proofs.UnrollSteps.{ext_cases}
 use Rattle.closure_fold.specs.Starting.{first_at, started_at, KeepsTail, IsStartedAt}
 use Rattle.closure_fold.proofs.Starts.{repeated_past, repeated_zero, repeats_on}
 use Rattle.closure_start.specs.StartsAt.{ConvolvesFinitely, ConvolvesPastZero, StartsAt}

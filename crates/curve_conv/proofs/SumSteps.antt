@@ -9,7 +9,7 @@ use Rattle.rational.proofs.Linear.{with2}
 use Rattle.affine_segment.specs.declared.line.Line.{Line}
 use Rattle.affine_segment.specs.declared.line.Piece.{Piece}
 use Rattle.affine_segment.specs.Values.{line_value}
-use Rattle.affine_segment.specs.Reading.{read, piece_in, piece_value}
+use Rattle.affine_segment.specs.Reading.{read, piece_in, piece_value, line_in}
 use Rattle.affine_segment.specs.Pieces.{Each, HasStart}
 use Rattle.upp_curve.specs.Limits.{Sizes}
 use Rattle.upp_curve.specs.Operand.{AreLimited, answer_room}
@@ -19,7 +19,7 @@ use Rattle.affine_segment.proofs.PieceIn.{value_past, value_at_start}
 use Rattle.affine_segment.proofs.PieceOrder.{each_map}
 use Rattle.upp_curve.proofs.NormaliseRoomy.{each_in, found_early}
 use Rattle.upp_curve.proofs.AnswerRoom.{AnswerLine, IsCrossing, room_at_start, crossing_room, line_in_room, line_fits_in, line_value_in, steep_run}
-use Rattle.curve_window.specs.Stretches.{line_in, CutsFit}
+use Rattle.curve_window.specs.Stretches.{CutsFit}
 use Rattle.curve_conv.specs.ElementRoom.{SumLine}
 use Rattle.curve_conv.specs.SumWindows.{SumStart, SumValueAt, SumLineAt, SumPiece, SumWindow}
 use Rattle.curve_conv.proofs.ElementSizes.{sum_within}

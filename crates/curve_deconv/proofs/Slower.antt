@@ -1,10 +1,9 @@
 -- Two curves of which the second is finite: by how much they rise, and the deconvolution where the first is the faster.
 use Rattle.std.specs.Prelude.{◌≡◌, pos}
-use Rattle.std.proofs.Common.{sym, ◌∙◌, subst, inl, inr}
+use Rattle.std.proofs.Common.{sym, ◌∙◌, subst, inl, inr, arith}
 use Rattle.rational.specs.Rational.{ℚ, ◌+ℚ◌, ◌*ℚ◌, ◌≤ℚ◌, ◌<ℚ◌, int}
 use Rattle.rational.specs.Extended.{◌<ₑ◌}
 use Rattle.rational.specs.declared.Extended.TheVariants.{Fin, Inf}
-use Rattle.std.proofs.Common.{arith}
 use Rattle.rational.proofs.Linear.{with3}
 use Rattle.rational.proofs.MinMax.{max_q_ge_left, max_q_ge_right}
 use Rattle.rational.proofs.Laws.{le_refl, le_trans, le_of_lt, le_of_not_lt, mul_le_mul_right}
@@ -22,7 +21,8 @@ use Rattle.upp_curve.proofs.Stands.{sizes_stand, stands_left, stands_right}
 use Rattle.upp_curve.proofs.Steady.{steady_rule}
 use Rattle.curve_frame.proofs.CurveTimes.{both_on, steady_nonneg}
 use Rattle.curve_frame.proofs.CurveRises.{common_first, common_second}
-use Rattle.curve_least.proofs.LeastNumber.{ext_cases, gains}
+use Rattle.upp_curve.proofs.UnrollSteps.{ext_cases}
+use Rattle.curve_least.proofs.LeastNumber.{gains}
 use Rattle.curve_least.proofs.Rises.{rate_rise, infinite_value}
 use Rattle.curve_deconv.proofs.Reduced.{gaining}
 

@@ -22,7 +22,7 @@ use Rattle.curve_frame.specs.declared.frame.Frame.{Frame}
 use Rattle.curve_frame.specs.Frames.{IsFrame, sizes_at}
 use Rattle.curve_frame.proofs.CurveTimes.{steady_nonneg}
 use Rattle.rational.proofs.Grid.{whole_add, whole_times}
-use Rattle.curve_least.proofs.LeastNumber.{ext_cases}
+use Rattle.upp_curve.proofs.UnrollSteps.{ext_cases}
 use Rattle.curve_least.proofs.Rises.{rate_rise, infinite_value}
 use Rattle.curve_lag.specs.Parts.{IsSeen}
 use Rattle.curve_lag.specs.Lags.{IsLongestLag}

@@ -26,7 +26,8 @@ use Rattle.curve_frame.proofs.CurveTimes.{both_on, steady_nonneg}
 use Rattle.curve_frame.proofs.CurveRises.{common_first, common_second}
 use Rattle.curve_least.specs.Ever.{RepeatsBy}
 use Rattle.curve_least.proofs.Shifts.{later_value}
-use Rattle.curve_least.proofs.LeastNumber.{gains, ext_cases}
+use Rattle.curve_least.proofs.LeastNumber.{gains}
+use Rattle.upp_curve.proofs.UnrollSteps.{ext_cases}
 use Rattle.curve_lag.specs.Lags.{LagsBy}
 use Rattle.curve_deviation.proofs.AtOnce.{infinite_somewhere, repeats_by}
 use Rattle.curve_deviation.proofs.FirstReach.{reached_or}

@@ -39,7 +39,7 @@ use Rattle.curve_frame.proofs.CurveTimes.{steady_whole, steady_nonneg, one_later
 use Rattle.curve_frame.proofs.FirstGate.{gauge_grows}
 use Rattle.curve_frame.proofs.Limited.{least_unique, refused_cause, frame_within}
 use Rattle.curve_least.proofs.Shifts.{later_value}
-use Rattle.curve_least.proofs.LeastNumber.{ext_cases}
+use Rattle.upp_curve.proofs.UnrollSteps.{ext_cases}
 use Rattle.curve_least.proofs.Rises.{rate_rise, infinite_value}
 use Rattle.upp_curve.proofs.StretchSizes.{narrow}
 use Rattle.curve_lag.specs.Parts.{IsSeen}

@@ -21,7 +21,8 @@ use Rattle.curve_least.specs.Gaps.{InWindow, IsWithin, IsEndless, IsLargest}
 use Rattle.curve_least.specs.Compared.{RepeatsIn, AreCompared}
 use Rattle.curve_least.proofs.Shifts.{later_value}
 use Rattle.curve_least.proofs.Rises.{rate_rise, infinite_value, from_low}
-use Rattle.curve_least.proofs.LeastNumber.{ext_cases, repeats_from, compared_window}
+use Rattle.upp_curve.proofs.UnrollSteps.{ext_cases}
+use Rattle.curve_least.proofs.LeastNumber.{repeats_from, compared_window}
 
 -- ---- later times add nothing
 swapped : (x : Ext) (p q : ℚ) → (x +ₑ Fin p) +ₑ Fin q ≡ (x +ₑ Fin q) +ₑ Fin p

@@ -90,7 +90,7 @@ pub record IsUnion (S A B : ℚ → Type 0) : Type 0 where
 within_more : (A : ℚ → Type 0) (f g : ℚ → Ext) (p q : ℚ) → p ≤ℚ q → IsWithin A f g p → IsWithin A f g q
 within_more A f g p q h w u i = le_ext_trans (f u) (g u +ₑ Fin p) (g u +ₑ Fin q) (w u i) (add_le_ext (g u) (g u) (Fin p) (Fin q) (le_ext_refl (g u)) h)
 
-within_none : (A : ℚ → Type 0) (f g : ℚ → Ext) (q : ℚ) → ((u : ℚ) → A u → g u ≡ Inf) → IsWithin A f g q
+pub within_none : (A : ℚ → Type 0) (f g : ℚ → Ext) (q : ℚ) → ((u : ℚ) → A u → g u ≡ Inf) → IsWithin A f g q
 within_none A f g q none u i = subst (λ v. f u ≤ₑ v +ₑ Fin q) (sym (none u i)) tt
 
 more_in : (S A : ℚ → Type 0) (f g : ℚ → Ext) (y : ℚ) → ((u : ℚ) → A u → S u) → IsMore A f g y → IsMore S f g y
@@ -135,7 +135,7 @@ first_and_rest t end some = record {
   second = λ u i. record { start = le_of_lt i.past; before = i.before };
 }
 
-before_next : (u end : ℚ) (next : Option ℚ) → u <ℚ end → IsUntil end next → IsBeforeNext u next
+pub before_next : (u end : ℚ) (next : Option ℚ) → u <ℚ end → IsUntil end next → IsBeforeNext u next
 before_next u end None h k = tt
 before_next u end (Some e) h k = lt_le_trans h k
 

@@ -8,7 +8,7 @@ use Rattle.rational.specs.Gauge.{size_up}
 use Rattle.rational.specs.Extended.{Ext, ◌≤ₑ◌, ◌<ₑ◌, ◌+ₑ◌}
 use Rattle.rational.specs.declared.Extended.TheVariants.{Fin, Inf}
 use Rattle.rational.proofs.Linear.{with1, with2}
-use Rattle.rational.proofs.Laws.{le_trans, le_of_lt, not_zero, mul_lt_mul_right}
+use Rattle.rational.proofs.Laws.{le_trans, le_of_lt, not_zero, mul_lt_mul_right, zero_mul}
 use Rattle.rational.proofs.Quotients.{div_le, div_nonneg}
 use Rattle.rational.proofs.Grid.{whole_sub, whole_neg, within_nonneg, within_neg, within_sub}
 use Rattle.rational.proofs.ExtendedOrder.{same_le_ext, finite_below, finite_sum}
@@ -28,16 +28,16 @@ use Rattle.upp_curve.proofs.StretchSizes.{narrow, times_fit, small_quotient}
 use Rattle.curve_least.specs.Gaps.{InWindow, IsWithin, IsEndless, IsLargest}
 use Rattle.curve_least.specs.GapSteps.{IsGapValue}
 use Rattle.curve_least.specs.Compared.{RepeatsIn, AreCompared}
-use Rattle.curve_least.proofs.Shifts.{below_in, below_out, largest_bounds, none_bounds, endless_bounds, same_least, least_zero}
+use Rattle.curve_least.proofs.Shifts.{below_in, below_out, largest_bounds, endless_bounds, same_least, least_zero}
+use Rattle.curve_least.proofs.GapParts.{within_none}
 use Rattle.curve_least.proofs.Rises.{rate_rise, infinite_value, rank_early, has_window, from_low}
 use Rattle.curve_least.proofs.RiseSizes.{RiseStands, rise_stands}
+use Rattle.upp_curve.proofs.UnrollSteps.{ext_cases}
 
 -- ---- the number
-zero_lead : (e : ℚ) → int (pos 0) *ℚ e ≡ int (pos 0)
-zero_lead e = with1 e (λ c. omega (arith, c.le, c.lt, c.same))
 
 pub number_zero : (q e : ℚ) → q ≤ℚ int (pos 0) → IsLeast (λ k. q ≤ℚ int (pos k) *ℚ e) 0
-number_zero q e h = least_zero (λ k. q ≤ℚ int (pos k) *ℚ e) (subst (λ y. q ≤ℚ y) (sym (zero_lead e)) h)
+number_zero q e h = least_zero (λ k. q ≤ℚ int (pos k) *ℚ e) (subst (λ y. q ≤ℚ y) (sym (zero_mul e)) h)
 
 pub number_least : (q e : ℚ) → int (pos 0) <ℚ q → int (pos 0) <ℚ e → IsLeast (λ k. q ≤ℚ int (pos k) *ℚ e) (size_up (q /ℚ e))
 number_least q e some lead = record {
@@ -52,10 +52,6 @@ number_least q e some lead = record {
 finite_less : (x y : Ext) → x <ₑ y → (v : ℚ) × (x ≡ Fin v)
 finite_less Inf y h = absurd h
 finite_less (Fin v) y h = (v, refl)
-
-pub ext_cases : (x : Ext) → (x ≡ Inf) ⊎ ((v : ℚ) × (x ≡ Fin v))
-ext_cases Inf = inl refl
-ext_cases (Fin v) = inr (v, refl)
 
 record BothFinite (f g : ℚ → Ext) (from end : ℚ) : Type 0 where
   at : ℚ
@@ -165,7 +161,7 @@ after_out z from d slow fast k F G C w =
 pub least_none : (z : Sizes) (from d : ℚ) (slow fast : SpecCurve) → IsCurve slow → IsCurve fast → AreCompared z from d slow fast
     → ((t : ℚ) → InWindow from (from +ℚ d) t → value_at fast t ≡ Inf) → IsLeast (IsBelowAfter slow fast from d) 0
 least_none z from d slow fast F G C none =
-    least_zero (IsBelowAfter slow fast from d) (after_in z from d slow fast 0 F G C (none_bounds (InWindow from (from +ℚ d)) (value_at slow) (value_at fast) _ none))
+    least_zero (IsBelowAfter slow fast from d) (after_in z from d slow fast 0 F G C (within_none (InWindow from (from +ℚ d)) (value_at slow) (value_at fast) _ none))
 
 pub least_endless : (z : Sizes) (from d : ℚ) (slow fast : SpecCurve) → IsCurve slow → IsCurve fast → AreCompared z from d slow fast
     → IsEndless (InWindow from (from +ℚ d)) (value_at slow) (value_at fast) → (k : ℕ) → ¬ (IsBelowAfter slow fast from d k)

@@ -24,9 +24,7 @@ use Rattle.affine_segment.proofs.PieceIn.{piece_in_end, value_past, value_at_sta
 use Rattle.upp_curve.proofs.NarrowSizes.{value_whole, value_within}
 use Rattle.upp_curve.proofs.CurveStands.{curve_stands}
 use Rattle.curve_least.specs.Levels.{level_curve}
-
-level_line : (l t : ℚ) → l +ℚ int (pos 0) *ℚ t ≡ l
-level_line l t = ap (λ y. l +ℚ y) (zero_mul t) ∙ add_zero l
+use Rattle.upp_curve.proofs.Copies.{plus_zero}
 
 pub level_value : (l t : ℚ) → int (pos 0) ≤ℚ t → value_at (level_curve l) t ≡ Fin l
 unfolding value_at read
@@ -36,7 +34,7 @@ level_value l t low = elim (le_or_lt t (int (pos 0))) [
       ap (λ q. piece_value q t) (piece_in_end p t) ∙ ap (piece_value p) (antisym (h, low)) ∙ value_at_start p
   | inr h ↦
       let p : Piece = record { x = int (pos 0); at = Fin l; line = Some record { icept = l; slope = int (pos 0) } } in
-      ap (λ q. piece_value q t) (piece_in_end p t) ∙ value_past p t h ∙ ap Fin (level_line l t)
+      ap (λ q. piece_value q t) (piece_in_end p t) ∙ value_past p t h ∙ ap Fin (plus_zero l t)
 ]
 
 pub level_rate : (c : SpecCurve) (l z : ℚ) → c ≡ level_curve l → z ≡ int (pos 0) → Fin z ≡ rate c
@@ -47,7 +45,7 @@ pub level_goes : (c : SpecCurve) (l t z : ℚ) → c ≡ level_curve l → z ≡
     → GoesOn (value_at c) t record { at = Fin l; line = Some record { icept = l; slope = z }; next = None }
 level_goes c l t z e h low = rw (e, h) record {
   at = sym (level_value l t low);
-  line = λ u past k. level_value l u (le_of_lt (le_lt_trans low past)) ∙ ap Fin (sym (level_line l u));
+  line = λ u past k. level_value l u (le_of_lt (le_lt_trans low past)) ∙ ap Fin (sym (plus_zero l u));
   next = tt;
 }
 

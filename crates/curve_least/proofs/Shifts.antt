@@ -12,6 +12,7 @@ use Rattle.upp_curve.specs.Periods.{periods_after}
 use Rattle.upp_curve.specs.Windows.{IsBelowFor, IsLeast}
 use Rattle.upp_curve.proofs.Repeats.{repeats_times}
 use Rattle.curve_least.specs.Gaps.{InWindow, IsWithin, IsEndless, IsLargest}
+use Rattle.curve_least.proofs.GapParts.{within_none}
 
 -- ---- both sides risen
 shift_in : (x y : Ext) (p q : ℚ) → x ≤ₑ y +ₑ Fin (q -ℚ p) → x +ₑ Fin p ≤ₑ y +ₑ Fin q
@@ -61,9 +62,6 @@ largest_bounds S f g q y L = (
   ],
   λ h u i. le_ext_trans (f u) (g u +ₑ Fin q) (g u +ₑ Fin y) (L.above u i) (add_le_ext (g u) (g u) (Fin q) (Fin y) (le_ext_refl (g u)) h),
 )
-
-pub none_bounds : (S : ℚ → Type 0) (f g : ℚ → Ext) (y : ℚ) → ((t : ℚ) → S t → g t ≡ Inf) → IsWithin S f g y
-none_bounds S f g y none u i = subst (λ v. f u ≤ₑ v +ₑ Fin y) (sym (none u i)) tt
 
 pub endless_bounds : (S : ℚ → Type 0) (f g : ℚ → Ext) (y : ℚ) → IsEndless S f g → ¬ (IsWithin S f g y)
 endless_bounds S f g y E w =

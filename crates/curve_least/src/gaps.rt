@@ -22,8 +22,8 @@ ghost use Rattle.curve_least.specs.GapSteps.{
 };
 
 use crate::sides::Side;
-use affine_segment::{Line, value};
-use fraction128::{Ext, Frac, difference, is_less};
+use affine_segment::line_value;
+use fraction128::{Ext, Frac, difference, greater, is_less};
 use rational::Extended;
 use upp_curve::{Curve, Stretch};
 
@@ -38,19 +38,8 @@ pub enum Gap {
     Is(Frac),
 }
 
-/// The value at t of a line that may be missing.
-fn line_value(line: &Option<Line>, t: Frac) -> Ext
-    requires { LineFitsAt t line.now }
-    ensures { result ≡ line_value line.now t }
-{
-    match line {
-        None => Extended::Inf,
-        Some(l) => Extended::Fin(value(l, t).unwrap()),
-    }
-}
-
 /// By how much a is above b.
-fn gap_of(a: Ext, b: Ext) -> Gap
+pub fn gap_of(a: Ext, b: Ext) -> Gap
     requires { DifferenceFits a b }
     ensures { result ≡ gap_of a b }
 {
@@ -63,15 +52,8 @@ fn gap_of(a: Ext, b: Ext) -> Gap
     }
 }
 
-/// The larger of two numbers.
-fn greater(a: Frac, b: Frac) -> Frac
-    ensures { result ≡ max_q a b }
-{
-    if is_less(b, a) { a } else { b }
-}
-
 /// The larger of two gaps.
-fn larger(a: Gap, b: Gap) -> Gap
+pub fn larger(a: Gap, b: Gap) -> Gap
     ensures { result ≡ larger a b }
 {
     match a {
@@ -94,13 +76,13 @@ fn stretch_gap(f: &Stretch, g: &Stretch, t: Frac, end: Frac) -> Gap
         → IsGap (InWindow t end) slow fast result }
 {
     let start = gap_of(f.at, g.at);
-    let after = gap_of(line_value(&f.line, t), line_value(&g.line, t));
-    let before = gap_of(line_value(&f.line, end), line_value(&g.line, end));
+    let after = gap_of(line_value(f.line, t), line_value(g.line, t));
+    let before = gap_of(line_value(f.line, end), line_value(g.line, end));
     larger(start, larger(after, before))
 }
 
 /// The earlier of a time and another that may be missing.
-fn earlier(t: Frac, next: &Option<Frac>) -> Frac
+pub fn earlier(t: Frac, next: &Option<Frac>) -> Frac
     ensures { result ≡ earlier_of t next.now }
 {
     match next {

@@ -8,7 +8,7 @@ mod sides;
 #[cfg(test)]
 mod tests;
 
-pub use gaps::{Gap, side_gap, window_gap};
+pub use gaps::{Gap, earlier, gap_of, larger, side_gap, window_gap};
 pub use laws::below_ever_after;
 pub use least::{is_slower, least_below, least_periods, side_periods};
 pub use sides::Side;

@@ -16,7 +16,7 @@ use Rattle.affine_segment.specs.Values.{line_value}
 use Rattle.min_plus.specs.Functions.{zero_q}
 use Rattle.affine_segment.specs.Pieces.{Each, StartsAtZero}
 use Rattle.min_plus.specs.Pointwise.{excess}
-use Rattle.affine_segment.specs.Reading.{read}
+use Rattle.affine_segment.specs.Reading.{read, line_in}
 use Rattle.upp_curve.specs.Shapes.{IsFinitePiece, IsNumber, IsLine}
 use Rattle.upp_curve.specs.Steady.{last_line}
 use Rattle.upp_curve.specs.Limits.{Sizes}
@@ -26,7 +26,7 @@ use Rattle.upp_curve.proofs.AnswerRoom.{OperandValueAt, difference_of_lines, val
 use Rattle.upp_curve.proofs.Finite.{pieces_finite, each_in}
 use Rattle.upp_curve.proofs.NormaliseLists.{last_in}
 use Rattle.curve_window.specs.declared.stretch.Both.{Both}
-use Rattle.curve_window.specs.Stretches.{EachBoth, IsBothOf, IsOverlay, line_in}
+use Rattle.curve_window.specs.Stretches.{EachBoth, IsBothOf, IsOverlay}
 use Rattle.curve_window.specs.Pointwise.{mapped}
 use Rattle.curve_window.specs.Made.{line_apart, zero_line, ValueApartFits, LineApartFits}
 use Rattle.curve_window.proofs.Mapped.{each_map, starts_mapped}

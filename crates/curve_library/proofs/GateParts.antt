@@ -16,7 +16,7 @@ use Rattle.upp_curve.specs.Spans.{spans}
 use Rattle.upp_curve.specs.Limits.{own_gauge, own_sizes, own_tally, own_end}
 use Rattle.upp_curve.specs.Sized.{IsSlope, IsValue}
 use Rattle.upp_curve.proofs.CurveStands.{starts_below_own_end}
-use Rattle.upp_curve.proofs.KindForms.{gate_normal}
+use Rattle.upp_curve.proofs.KindForms.{gate_normal, gated_normal}
 use Rattle.curve_library.specs.Causes.{NoSlot}
 use Rattle.curve_library.proofs.FewPieces.{end_is, periodic_few}
 use Rattle.curve_library.proofs.LateParts.{line_few}
@@ -31,9 +31,6 @@ never_closed R c s h k = rw (le_q_not R zero_q h, le_q_out c s k) refl
 
 pub is_gated : (R c s : ℚ) → zero_q <ℚ R → s <ℚ c → gated R c s ≡ gate R c s
 is_gated R c s h k = rw (le_q_not R zero_q h, le_q_not c s k) refl
-
-pub gated_normal : (R c s : ℚ) → zero_q <ℚ R → zero_q <ℚ s → s <ℚ c → IsNormal (gated R c s)
-gated_normal R c s rate slot closes = subst IsNormal (sym (is_gated R c s rate closes)) (gate_normal R c s (le_of_lt rate) slot (le_of_lt closes))
 
 -- ---- its numbers
 record GateStands (R c s : ℚ) : Type 0 where

@@ -8,7 +8,7 @@ use Rattle.rational.specs.Grid.{Whole, Within}
 use Rattle.rational.specs.Extended.{Ext, ◌≤ₑ◌}
 use Rattle.rational.proofs.Grid.{whole_neg, within_neg, whole_add, within_add}
 use Rattle.rational.proofs.Linear.{with1, with2}
-use Rattle.rational.proofs.Laws.{le_refl, le_of_lt, le_trans, one_mul}
+use Rattle.rational.proofs.Laws.{le_refl, le_of_lt, le_trans, one_mul, sub_add}
 use Rattle.affine_segment.specs.declared.line.Piece.{Piece}
 use Rattle.affine_segment.specs.Values.{line_value}
 use Rattle.upp_curve.specs.declared.curve.Tail.{Tail}
@@ -39,6 +39,8 @@ use Rattle.curve_library.specs.declared.fault.CurveFault.TheVariants.{Negative, 
 use Rattle.curve_library.specs.Listed.{text_line, text_piece, text_pieces, text_tail, last_from, listed_curve, LineFits, IsNonnegText, IsWellFormed, HasShape, Jumps, StartsAboveZero, KeepsShape, KeepsBoth, KeepsListed, ListsFirst, TextFits, IsPiecesFault}
 use Rattle.curve_library.proofs.Answering.{over_within, one_limit}
 use Rattle.curve_library.proofs.OwnParts.{Held, held, too_wide, run_small}
+use Rattle.upp_curve.proofs.KnownNumbers.{two_ones}
+use Rattle.affine_segment.proofs.PieceIn.{read_is}
 
 -- ---- a well-formed list is a curve in some form
 last_most : (p : PieceText) (ps : List PieceText) → RisesFrom p.x (text_pieces ps) → (p.x ≤ℚ last_from p ps) × Each (λ q. q.x ≤ℚ last_from p ps) (text_pieces ps)
@@ -65,16 +67,11 @@ raw_of (p ∷ ps) None w =
     }
 
 -- ---- its numbers fit where its gauge is below the limit
-put_back : (a y : ℚ) → (a -ℚ y) +ℚ y ≡ a
-put_back a y = with2 a y (λ c. omega (arith, c.le, c.lt, c.same))
 
 -- the steps to a line fit, and the line
 record BothFit (p : PieceText) : Type 0 where
   steps : TextFits p
   line : LineFits p
-
-two_of : (V : ℚ) → int (pos 1) *ℚ V +ℚ int (pos 1) *ℚ V ≡ int (pos 2) *ℚ V
-two_of V = with1 V (λ c. omega (arith, c.le, c.lt, c.same))
 
 one_fits : (k : SpecCurve) (p : PieceText) → Held k → Whole (own_sizes k).dt p.x → LineStands (own_sizes k) (Some (text_line p)) → ValueStands (own_sizes k) (line_value (Some (text_line p)) p.x)
     → zero_q ≤ℚ p.x → p.x ≤ℚ own_end k → BothFit p
@@ -84,14 +81,14 @@ one_fits k p H start slope after low early =
     let run = p.slope *ℚ p.x in
     let V = int (pos z.largest) in
     let g = z.dv * z.dt * z.ds in
-    let value : IsValue z p.after = subst (λ v. IsValue z v) (put_back p.after run) after in
+    let value : IsValue z p.after = subst (λ v. IsValue z v) (sub_add p.after run) after in
     let near : Within (int (pos 1) *ℚ V) run = subst (λ m. Within m run) (sym (one_mul V)) (run_within z (own_end k) p.slope p.x H.sizes slope low early) in
     let whole = whole_neg g run (run_whole z p.slope p.x slope start) in
     let back = within_neg (int (pos 1) *ℚ V) run near in
     let small = run_small k p.slope p.x H slope start low early in
     let icept : IsSmall (p.after -ℚ run) =
     small_number z (own_end k) 2 (p.after -ℚ run) H.sizes H.narrow (omega arith) (whole_add g p.after (neg_ℚ run) (value_whole z p.after value) whole)
-    (subst (λ m. Within m (p.after -ℚ run)) (two_of V)
+    (subst (λ m. Within m (p.after -ℚ run)) (two_ones V)
     (within_add (int (pos 1) *ℚ V) (int (pos 1) *ℚ V) p.after (neg_ℚ run) (value_within z p.after value) back)) in
     record {
       steps = record { run = small; icept = small_sum z (own_end k) 1 1 p.after (neg_ℚ run) H.sizes H.narrow (omega arith) (value_whole z p.after value) whole (value_within z p.after value) back };
@@ -139,9 +136,6 @@ pieces_fault ps tail u (Op TooWide) w h = lines_wide ps tail w h
 pieces_fault ps tail u NoMemory w h = tt
 
 -- ---- the value at 0
-read_is : (p : Piece) (ps : List Piece) (t : ℚ) → read (p ∷ ps) t ≡ read_in p ps t
-unfolding read
-read_is p ps t = refl
 
 read_first : (q : Piece) (qs : List Piece) → q.x ≡ zero_q → RisesFrom q.x qs → read (q ∷ qs) zero_q ≡ q.at
 read_first q qs e r = read_is q qs zero_q ∙ ap (read_in q qs) (sym e) ∙ at_start q qs r

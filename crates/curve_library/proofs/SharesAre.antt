@@ -19,6 +19,7 @@ use Rattle.rational.proofs.Gauges.{den_pos}
 use Rattle.min_plus.specs.Functions.{zero_q}
 use Rattle.upp_curve.proofs.StairValues.{whole_ratio}
 use Rattle.curve_library.specs.Shares.{IsQuotient, SharesFit, AreShares}
+use Rattle.upp_curve.proofs.LongCrosses.{nat_of}
 
 nat_some : (n : ℕ) → 0 < n → zero_q <ℚ int (pos n)
 nat_some n h = nat_lt 0 n h
@@ -36,13 +37,9 @@ on_multiple q k g e =
     ap (λ n. q *ℚ int (pos n)) (sym swapped) ∙ ap (λ x. q *ℚ x) (sym (int_mul (pos (den q)) (pos k))) ∙ sym (mul_assoc q (int (pos (den q))) (int (pos k)))
     ∙ ap (λ x. x *ℚ int (pos k)) (times_den q) ∙ int_mul q.num (pos k)
 
-abs_of : (z : ℤ) → pos 0 ≤ℤ z → z ≡ pos (nat_abs z)
-abs_of (pos n) h = refl
-abs_of (negsuc n) h = absurd (omega (arith, ints, h))
-
 -- a number from 0 on, in steps of 1 / g
 pub steps_on : (q : ℚ) (g : ℕ) → zero_q ≤ℚ q → den q ∣ g → q *ℚ int (pos g) ≡ int (pos (nat_abs q.num * (g / den q)))
-steps_on q g h d = on_multiple q (g / den q) g (div-mul_cancel (den q) d) ∙ ap (λ z. int (z *ℤ pos (g / den q))) (abs_of q.num (num_nonneg q h))
+steps_on q g h d = on_multiple q (g / den q) g (div-mul_cancel (den q) d) ∙ ap (λ z. int (z *ℤ pos (g / den q))) (nat_of q.num (num_nonneg q h))
 
 -- ---- a time and a period on one grid
 pub record OnOneGrid (J P : ℚ) (g A B : ℕ) : Type 0 where

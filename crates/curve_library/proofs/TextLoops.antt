@@ -7,21 +7,17 @@ use Rattle.affine_segment.specs.declared.line.Piece.{Piece}
 use Rattle.affine_segment.specs.Pieces.{RisesFrom}
 use Rattle.curve_library.specs.declared.texts.PieceText.{PieceText}
 use Rattle.curve_library.specs.Listed.{text_piece, text_pieces, TextFits, LineFits, last_from, last_start}
-
-next_item : {A : Type 0} (x : A) (xs : List A) (j : ℕ) → j < length xs → x ≡ get_or xs j x → drop j xs ≡ x ∷ drop (j + 1) xs
-next_item {A} x xs j h e =
-    let k : suc j ≡ j + 1 = omega arith in
-    drop-cons xs j x h ∙ ap₂ (λ (y : A) (n : ℕ). y ∷ drop n xs) (sym e) k
+use Rattle.affine_segment.proofs.NextPiece.{next_piece}
 
 -- ---- a test of each
 pub all_on : {A : Type 0} (P : A → Type 0) (xs : List A) (j : ℕ) (x : A) → (AllByRecursion P xs ↔ AllByRecursion P (drop j xs)) → j < length xs → x ≡ get_or xs j x → P x
     → (AllByRecursion P xs ↔ AllByRecursion P (drop (j + 1) xs))
 all_on P xs j x inv h e holds =
-    let shape = next_item x xs j h e in
+    let shape = next_piece x xs j h e in
     (λ all. (subst (AllByRecursion P) shape (inv.0 all)).1, λ rest. inv.1 (subst (AllByRecursion P) (sym shape) (holds, rest)))
 
 pub all_off : {A : Type 0} (P : A → Type 0) (xs : List A) (j : ℕ) (x : A) → (AllByRecursion P xs ↔ AllByRecursion P (drop j xs)) → j < length xs → x ≡ get_or xs j x → ¬ (P x) → ¬ (AllByRecursion P xs)
-all_off P xs j x inv h e fails all = fails (subst (AllByRecursion P) (next_item x xs j h e) (inv.0 all)).0
+all_off P xs j x inv h e fails all = fails (subst (AllByRecursion P) (next_piece x xs j h e) (inv.0 all)).0
 
 pub all_end : {A : Type 0} (P : A → Type 0) (xs : List A) (j : ℕ) → (AllByRecursion P xs ↔ AllByRecursion P (drop j xs)) → length xs ≤ j → AllByRecursion P xs
 all_end P xs j inv h = inv.1 (subst (AllByRecursion P) (sym (drop_of_length-le xs h)) tt)
@@ -30,12 +26,12 @@ all_end P xs j inv h = inv.1 (subst (AllByRecursion P) (sym (drop_of_length-le x
 pub rise_on : (first last : ℚ) (ps : List PieceText) (j : ℕ) (p : PieceText) → (RisesFrom first (text_pieces ps) ↔ RisesFrom last (text_pieces (drop j ps))) → j < length ps → p ≡ get_or ps j p
     → last <ℚ p.x → (RisesFrom first (text_pieces ps) ↔ RisesFrom p.x (text_pieces (drop (j + 1) ps)))
 rise_on first last ps j p inv h e holds =
-    let shape = next_item p ps j h e in
+    let shape = next_piece p ps j h e in
     (λ all. (subst (λ z. RisesFrom last (text_pieces z)) shape (inv.0 all)).1, λ rest. inv.1 (subst (λ z. RisesFrom last (text_pieces z)) (sym shape) (holds, rest)))
 
 pub rise_off : (first last : ℚ) (ps : List PieceText) (j : ℕ) (p : PieceText) → (RisesFrom first (text_pieces ps) ↔ RisesFrom last (text_pieces (drop j ps))) → j < length ps → p ≡ get_or ps j p
     → ¬ (last <ℚ p.x) → ¬ (RisesFrom first (text_pieces ps))
-rise_off first last ps j p inv h e fails all = fails (subst (λ z. RisesFrom last (text_pieces z)) (next_item p ps j h e) (inv.0 all)).0
+rise_off first last ps j p inv h e fails all = fails (subst (λ z. RisesFrom last (text_pieces z)) (next_piece p ps j h e) (inv.0 all)).0
 
 pub rise_end : (first last : ℚ) (ps : List PieceText) (j : ℕ) → (RisesFrom first (text_pieces ps) ↔ RisesFrom last (text_pieces (drop j ps))) → length ps ≤ j → RisesFrom first (text_pieces ps)
 rise_end first last ps j inv h = inv.1 (subst (λ z. RisesFrom last (text_pieces z)) (sym (drop_of_length-le ps h)) tt)
@@ -52,12 +48,12 @@ text_start ps = record { fits = λ h. subst (AllByRecursion TextFits) (sym none)
     none = refl
 
 pub text_fits : (ps : List PieceText) (out : List Piece) (j : ℕ) (p : PieceText) → TextLoop ps (drop j ps) out → j < length ps → p ≡ get_or ps j p → ¬ (TextFits p) → ¬ (AllByRecursion TextFits ps)
-text_fits ps out j p L h e fails all = fails (subst (AllByRecursion TextFits) (next_item p ps j h e) (L.fits all)).0
+text_fits ps out j p L h e fails all = fails (subst (AllByRecursion TextFits) (next_piece p ps j h e) (L.fits all)).0
 
 pub text_step : (ps : List PieceText) (out : List Piece) (j : ℕ) (p : PieceText) (q : Piece) → TextLoop ps (drop j ps) out → j < length ps → p ≡ get_or ps j p → q ≡ text_piece p
     → TextLoop ps (drop (j + 1) ps) (out ++ q ∷ [])
 text_step ps out j p q L h e is =
-    let shape = next_item p ps j h e in
+    let shape = next_piece p ps j h e in
     record {
       fits = λ all. (subst (AllByRecursion TextFits) shape (L.fits all)).1;
       same = append_assoc out (q ∷ []) (text_pieces (drop (j + 1) ps)) ∙ ap (λ z. out ++ (z ∷ text_pieces (drop (j + 1) ps))) is ∙ ap (λ z. out ++ text_pieces z) (sym shape) ∙ L.same;
@@ -73,11 +69,11 @@ pub record LinesLoop (ps left : List PieceText) : Type 0 where
   pub lines : AllByRecursion LineFits left → AllByRecursion LineFits ps
 
 pub lines_off : (ps : List PieceText) (j : ℕ) (p : PieceText) → LinesLoop ps (drop j ps) → j < length ps → p ≡ get_or ps j p → ¬ (TextFits p) → ¬ (AllByRecursion TextFits ps)
-lines_off ps j p L h e fails all = fails (subst (AllByRecursion TextFits) (next_item p ps j h e) (L.fits all)).0
+lines_off ps j p L h e fails all = fails (subst (AllByRecursion TextFits) (next_piece p ps j h e) (L.fits all)).0
 
 pub lines_on : (ps : List PieceText) (j : ℕ) (p : PieceText) → LinesLoop ps (drop j ps) → j < length ps → p ≡ get_or ps j p → LineFits p → LinesLoop ps (drop (j + 1) ps)
 lines_on ps j p L h e line =
-    let shape = next_item p ps j h e in
+    let shape = next_piece p ps j h e in
     record {
       fits = λ all. (subst (AllByRecursion TextFits) shape (L.fits all)).1;
       lines = λ rest. L.lines (subst (AllByRecursion LineFits) (sym shape) (line, rest));

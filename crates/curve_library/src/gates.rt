@@ -13,8 +13,8 @@ ghost use Rattle.curve_library.specs.Parts.{AreGateNumbers};
 
 use crate::fault::CurveFault;
 use crate::formed::{flat, of_normal, piece, straight};
-use crate::signs::{is_less, is_negative, is_positive};
-use fraction128::Frac;
+use crate::signs::{is_negative, is_positive};
+use fraction128::{Frac, is_less};
 use std::alloc::Global;
 use upp_curve::{Curve, OverLimit, Tail};
 

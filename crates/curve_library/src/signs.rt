@@ -1,11 +1,10 @@
-//! The order of two numbers, and on which side of 0 one lies.
+//! On which side of 0 a number lies.
 
 ghost use Rattle.std.specs.Prelude.{◌↔◌, IsTrue};
 ghost use Rattle.rational.specs.Rational.{◌<ℚ◌};
 ghost use Rattle.min_plus.specs.Functions.{zero_q};
 
-use fraction128::Frac;
-use std::cmp::Ordering;
+use fraction128::{Frac, is_less};
 
 /// Whether it is below 0.
 pub(crate) fn is_negative(x: Frac) -> bool
@@ -19,14 +18,4 @@ pub(crate) fn is_positive(x: Frac) -> bool
     ensures { IsTrue result ↔ (zero_q <ℚ x) }
 {
     is_negative(x.negated())
-}
-
-/// Whether a is less than b.
-pub(crate) fn is_less(a: Frac, b: Frac) -> bool
-    ensures { IsTrue result ↔ (a <ℚ b) }
-{
-    match a.cmp(&b) {
-        Ordering::Less => true,
-        _ => false,
-    }
 }

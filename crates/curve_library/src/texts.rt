@@ -7,8 +7,8 @@ ghost use Rattle.min_plus.specs.Functions.{zero_q};
 ghost use Rattle.affine_segment.specs.Pieces.{RisesFrom, StartsAtZero};
 ghost use Rattle.curve_library.specs.Listed.{IsNonnegText, IsNonnegTail, HasLength, StartsBelow, text_pieces};
 
-use crate::signs::{is_less, is_negative, is_positive};
-use fraction128::Frac;
+use crate::signs::{is_negative, is_positive};
+use fraction128::{Frac, is_less};
 use upp_curve::is_after;
 
 /// A piece: its start, the value at it, the value just after it, and the slope from there to the next start.

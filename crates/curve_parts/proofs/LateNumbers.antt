@@ -31,7 +31,8 @@ use Rattle.curve_frame.proofs.CurveRises.{IsRise, rise_is}
 use Rattle.curve_frame.proofs.CurveTimes.{steady_nonneg, steady_whole}
 use Rattle.curve_least.specs.Gaps.{InWindow, IsWithin, IsEndless, IsLargest}
 use Rattle.curve_least.proofs.LeastNumber.{gains}
-use Rattle.curve_least.proofs.Shifts.{largest_bounds, none_bounds, endless_bounds, same_least, least_zero}
+use Rattle.curve_least.proofs.Shifts.{largest_bounds, endless_bounds, same_least, least_zero}
+use Rattle.curve_least.proofs.GapParts.{within_none}
 use Rattle.curve_conv.specs.ElementRoom.{WindowTime}
 use Rattle.curve_conv.proofs.ElementSizes.{gap_within}
 use Rattle.curve_parts.specs.Parts.{PartSplit, part_sum, IsPart, FirstLate, FirstEarly}
@@ -243,7 +244,7 @@ pub number_none : (slow fast : SpecCurve) (from d end : ℚ) (C : IsLateCall slo
 number_none slow fast from d end C V none =
     let P = of_period slow fast from d end C V in
     let here = in_after slow fast from d end (late_of slow fast from end V) (soon_of slow fast from end V) 0 C P
-    (none_bounds (InWindow from (from +ℚ d)) (late_of slow fast from end V) (soon_of slow fast from end V) _ (λ t i. none t (subst (λ e. InWindow from e t) (sym C.end_is) i))) in
+    (within_none (InWindow from (from +ℚ d)) (late_of slow fast from end V) (soon_of slow fast from end V) _ (λ t i. none t (subst (λ e. InWindow from e t) (sym C.end_is) i))) in
     record { least = least_zero (IsLateAfter slow fast from d) here; late = late_in slow fast from d end 0 C V here }
 
 pub number_endless : (slow fast : SpecCurve) (from d end : ℚ) (C : IsLateCall slow fast from d end) (V : Values slow fast from end)

@@ -15,7 +15,7 @@ use Rattle.affine_segment.specs.Values.{line_at, line_value}
 use Rattle.affine_segment.specs.Reading.{read, piece_value}
 use Rattle.affine_segment.specs.Pieces.{RisesFrom, StartsAtZero}
 use Rattle.min_plus.specs.Pointwise.{excess}
-use Rattle.affine_segment.proofs.PieceIn.{value_past, value_at_start}
+use Rattle.affine_segment.proofs.PieceIn.{value_past, value_at_start, read_go}
 use Rattle.curve_window.specs.declared.stretch.Both.{Both}
 use Rattle.curve_window.specs.declared.made.Made.{Made}
 use Rattle.curve_window.specs.declared.made.Made.TheVariants.{Lower, Upper, Excess}
@@ -23,7 +23,7 @@ use Rattle.curve_window.specs.declared.made.Parts.{Parts}
 use Rattle.curve_window.specs.Stretches.{lefts, rights, EachBoth, StartTogether}
 use Rattle.curve_window.specs.Lies.{IsOrdered, LiesBy}
 use Rattle.curve_window.specs.Made.{made_value, made_line, zero_line, line_apart, first_piece, turn_piece, parts_by, parts_of, IsParts, turn_listed, listed, AreMade}
-use Rattle.curve_window.proofs.Surgery.{BeforeNext, read_first, read_skip}
+use Rattle.curve_window.proofs.Surgery.{BeforeNext, read_first}
 use Rattle.curve_window.proofs.LinesLie.{before_crossing, after_crossing}
 
 -- ---- of two ordered lines
@@ -36,7 +36,7 @@ nothing_above x y h = sym (max_q_is_left (int (pos 0)) (x -ℚ y) (with2 x y (λ
 above_by : (x y : ℚ) → y ≤ℚ x → x -ℚ y ≡ max_q (int (pos 0)) (x -ℚ y)
 above_by x y h = sym (max_q_right (int (pos 0)) (x -ℚ y) (with2 x y (λ c. omega (arith, c.le, c.lt, c.same))))
 
-apart_at : (l m : Line) (t : ℚ) → line_at record { icept = l.icept -ℚ m.icept; slope = l.slope -ℚ m.slope } t ≡ line_at l t -ℚ line_at m t
+pub apart_at : (l m : Line) (t : ℚ) → line_at record { icept = l.icept -ℚ m.icept; slope = l.slope -ℚ m.slope } t ≡ line_at l t -ℚ line_at m t
 apart_at l m t =
     let i = l.icept in
     let j = m.icept in
@@ -106,7 +106,7 @@ by_reads k b to below (Some x) rest t L e low high next = elim (le_or_lt x t) [
       read_first (first_piece k below b) (turn_piece k (not below) b x ∷ rest) t early
       ∙ first_reads k below b t e low (λ h. before_crossing below b.left.line b.right.line x t L.meets (le_of_lt early))
   | inl late ↦
-      read_skip (first_piece k below b) (turn_piece k (not below) b x) rest t late ∙ read_first (turn_piece k (not below) b x) rest t next
+      read_go (first_piece k below b) (turn_piece k (not below) b x) rest t late ∙ read_first (turn_piece k (not below) b x) rest t next
       ∙ turn_reads k (not below) b x t e L.past late (after_crossing below b.left.line b.right.line x t L.meets late)
 ]
 
@@ -136,9 +136,9 @@ before_first x t ps S h = subst (BeforeNext t) (sym S.is) (subst (λ y. t <ℚ y
 -- past the next start the pieces of a stretch are read no more
 skip_by : (k : Made) (b : Both) (to : ℚ) (below : Bool) (turn : Option ℚ) (q : Piece) (qs : List Piece) (t : ℚ) → LiesBy below b.left.line b.right.line b.left.x to turn → q.x ≤ℚ t → to ≤ℚ t
     → read (listed (parts_by k b below turn) (q ∷ qs)) t ≡ read (q ∷ qs) t
-skip_by k b to below None q qs t L h l = read_skip (first_piece k below b) q qs t h
+skip_by k b to below None q qs t L h l = read_go (first_piece k below b) q qs t h
 skip_by k b to below (Some x) q qs t L h l =
-    read_skip (first_piece k below b) (turn_piece k (not below) b x) (q ∷ qs) t (le_trans (le_of_lt L.before) l) ∙ read_skip (turn_piece k (not below) b x) q qs t h
+    read_go (first_piece k below b) (turn_piece k (not below) b x) (q ∷ qs) t (le_trans (le_of_lt L.before) l) ∙ read_go (turn_piece k (not below) b x) q qs t h
 
 skip_parts : (k : Made) (b : Both) (to : ℚ) (parts : Parts) (rest : List Piece) (t : ℚ) → IsParts k b to parts → StartsWith to rest → to ≤ℚ t → read (listed parts rest) t ≡ read rest t
 skip_parts k b to parts rest t P S h =
@@ -156,7 +156,7 @@ made_reads k b (c ∷ cs) end ps t (parts, P, (rest, e, M)) R T low high = elim 
       ∙ ap₂ (made_value k) (sym (read_first b.left (c.left ∷ lefts cs) t early)) (sym (read_first b.right (c.right ∷ rights cs) t (subst (λ y. t <ℚ y) T.1.0 early)))
   | inl late ↦
       ap (λ z. read z t) e ∙ skip_parts k b c.left.x parts rest t P (made_first k c cs end rest M) late ∙ made_reads k c cs end rest t M R.1 T.1 late high
-      ∙ ap₂ (made_value k) (sym (read_skip b.left c.left (lefts cs) t late)) (sym (read_skip b.right c.right (rights cs) t (subst (λ y. y ≤ℚ t) T.1.0 late)))
+      ∙ ap₂ (made_value k) (sym (read_go b.left c.left (lefts cs) t late)) (sym (read_go b.right c.right (rights cs) t (subst (λ y. y ≤ℚ t) T.1.0 late)))
 ]
 
 -- ---- their starts

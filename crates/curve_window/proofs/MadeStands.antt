@@ -47,7 +47,7 @@ wider_line z (Some l) L =
     let A = operand_line z l L in
     record { icept = A.icept; within = within_weaken (times_largest 2 z) (times_largest 4 z) l.icept (more_largest z 2 4 (omega arith)) A.within; slope = A.slope; steep = A.steep }
 
-some_largest : (z : Sizes) (k : ℕ) → int (pos 0) ≤ℚ times_largest k z
+pub some_largest : (z : Sizes) (k : ℕ) → int (pos 0) ≤ℚ times_largest k z
 some_largest z k = subst (λ y. int (pos 0) ≤ℚ y) (sym (int_mul (pos k) (pos z.largest))) (nat_nonneg (k * z.largest))
 
 zero_value : (z : Sizes) (k : ℕ) → AnswerValue z k (int (pos 0))

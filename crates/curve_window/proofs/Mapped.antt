@@ -9,6 +9,7 @@ use Rattle.affine_segment.specs.Pieces.{RisesFrom, StartsAtZero}
 use Rattle.curve_window.specs.declared.stretch.Both.{Both}
 use Rattle.curve_window.specs.Stretches.{lefts, rights, EachBoth, IsBothOf, IsOverlay}
 use Rattle.curve_window.specs.Pointwise.{mapped}
+use Rattle.affine_segment.proofs.PieceIn.{read_is}
 
 -- the last stretch that starts at t or before
 unfoldable pub both_in : Both → List Both → ℚ → Both
@@ -37,11 +38,11 @@ unfolding both_in
 each_both_in P b [] t h k = h
 each_both_in P b (c ∷ cs) t h k = cond_holds P (le_q c.left.x t) (both_in c cs t) b (each_both_in P c cs t k.0 k.1) h
 
-lefts_mapped : (bs : List Both) → lefts bs ≡ mapped (λ b. b.left) bs
+pub lefts_mapped : (bs : List Both) → lefts bs ≡ mapped (λ b. b.left) bs
 lefts_mapped [] = refl
 lefts_mapped (b ∷ bs) = ap (λ z. b.left ∷ z) (lefts_mapped bs)
 
-rights_mapped : (bs : List Both) → rights bs ≡ mapped (λ b. b.right) bs
+pub rights_mapped : (bs : List Both) → rights bs ≡ mapped (λ b. b.right) bs
 rights_mapped [] = refl
 rights_mapped (b ∷ bs) = ap (λ z. b.right ∷ z) (rights_mapped bs)
 
@@ -53,11 +54,7 @@ pub each_of : (P : Both → Type 0) (bs : List Both) → ((b : Both) → P b) �
 each_of P [] f = tt
 each_of P (b ∷ bs) f = (f b, each_of P bs f)
 
-read_is : (p : Piece) (ps : List Piece) (t : ℚ) → read (p ∷ ps) t ≡ piece_value (piece_in p ps t) t
-unfolding read
-read_is p ps t = refl
-
-read_mapped : (m : Both → Piece) (b : Both) (bs : List Both) (t : ℚ) → EachBoth (StartsAt m) bs → read (mapped m (b ∷ bs)) t ≡ piece_value (m (both_in b bs t)) t
+pub read_mapped : (m : Both → Piece) (b : Both) (bs : List Both) (t : ℚ) → EachBoth (StartsAt m) bs → read (mapped m (b ∷ bs)) t ≡ piece_value (m (both_in b bs t)) t
 read_mapped m b bs t h = read_is (m b) (mapped m bs) t ∙ ap (λ z. piece_value z t) (mapped_in m b bs t h)
 
 -- a relation of values that holds on each stretch holds of the windows

@@ -8,7 +8,7 @@ use Rattle.rational.specs.Extended.{Ext, ◌+ₑ◌}
 use Rattle.rational.specs.declared.Extended.TheVariants.{Fin, Inf}
 use Rattle.affine_segment.specs.declared.line.Line.{Line}
 use Rattle.affine_segment.specs.declared.line.Piece.{Piece}
-use Rattle.affine_segment.specs.Reading.{read, piece_in, piece_value}
+use Rattle.affine_segment.specs.Reading.{read, piece_in, piece_value, line_in}
 use Rattle.affine_segment.specs.Pieces.{Each, HasStart}
 use Rattle.upp_curve.specs.Limits.{Sizes}
 use Rattle.upp_curve.specs.Sized.{grid_of}
@@ -21,7 +21,7 @@ use Rattle.upp_curve.proofs.AnswerRoom.{OperandValueAt, stands_operand_value, op
 use Rattle.upp_curve.specs.Room.{ValueHasRoom, LineHasRoom, PieceHasRoom}
 use Prim.Native.Nat.{◌∣◌}
 use Rattle.curve_window.specs.declared.stretch.Both.{Both}
-use Rattle.curve_window.specs.Stretches.{line_in, IsBothOf, CutsFit}
+use Rattle.curve_window.specs.Stretches.{IsBothOf, CutsFit}
 use Rattle.curve_window.specs.Pointwise.{sum_line, ValueSumFits, LineSumFits, SumsFit, IsSumPiece}
 
 -- a time at which some operand's piece may start

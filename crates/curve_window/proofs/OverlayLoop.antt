@@ -13,6 +13,7 @@ use Rattle.curve_window.specs.Stretches.{cut_at, lefts, rights, EachBoth, IsBoth
 use Rattle.curve_window.specs.Walk.{IsBeforeAt, TakesLeft, TakesRight, TakesBoth, IsStep, NextFits}
 use Rattle.curve_window.proofs.Surgery.{BeforeNext, rest_rises, start_nonneg}
 use Rattle.curve_window.proofs.Walks.{WalkOf, walk_start, walk_take, walk_cut, walk_piece, walk_line}
+use Rattle.affine_segment.proofs.NextPiece.{none_left}
 
 -- ---- the pieces that are left
 drop_got : (ps : List Piece) (i : ℕ) (p : Piece) → slice_get ps i ≡ Some p → drop i ps ≡ p ∷ drop (i + 1) ps
@@ -65,12 +66,6 @@ before_next x [] zero h = tt
 before_next x [] (suc i) h = tt
 before_next x (q ∷ qs) zero h = h
 before_next x (q ∷ qs) (suc i) h = before_next x qs i h
-
-none_left : (ps : List Piece) (i : ℕ) → length ps ≤ i → drop i ps ≡ []
-none_left [] zero h = refl
-none_left [] (suc i) h = refl
-none_left (q ∷ qs) zero h = absurd (omega arith)
-none_left (q ∷ qs) (suc i) h = none_left qs i (omega arith)
 
 -- ---- appended stretches
 lefts_more : (bs : List Both) (b : Both) → lefts (bs ++ b ∷ []) ≡ lefts bs ++ b.left ∷ []

@@ -2,10 +2,7 @@
 use Rattle.std.specs.Prelude.{Result, Ok, Err, IfOk, IfErr}
 use Rattle.std.proofs.Common.{refl}
 use Rattle.std.specs.Result.{IsOk}
-
-pub ok_map : {A E : Type 0} (r : Result A E) (P Q : A → Type 0) → ((x : A) → P x → Q x) → IfOk r P → IfOk r Q
-ok_map (Ok x) P Q f h = f x h
-ok_map (Err e) P Q f h = h
+use Rattle.upp_curve.proofs.NormaliseForm.{ok_map}
 
 -- each refusal is ruled out
 pub ok_of_none : {A E : Type 0} (r : Result A E) (P : E → Type 0) → IfErr r P → ((e : E) → ¬ (P e)) → IsOk r

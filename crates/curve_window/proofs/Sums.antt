@@ -11,10 +11,10 @@ use Rattle.rational.proofs.MinMax.{le_q_not}
 use Rattle.affine_segment.specs.declared.line.Line.{Line}
 use Rattle.affine_segment.specs.declared.line.Piece.{Piece}
 use Rattle.affine_segment.specs.Values.{line_value}
-use Rattle.affine_segment.specs.Reading.{read, piece_value}
+use Rattle.affine_segment.specs.Reading.{read, piece_value, line_in}
 use Rattle.affine_segment.specs.Pieces.{Each}
 use Rattle.curve_window.specs.declared.stretch.Both.{Both}
-use Rattle.curve_window.specs.Stretches.{IsBothOf, IsOverlay, EachBoth, line_in}
+use Rattle.curve_window.specs.Stretches.{IsBothOf, IsOverlay, EachBoth}
 use Rattle.curve_window.specs.Pointwise.{mapped, sum_line, sum_piece, StretchSumFits, SumsFit, IsSumPiece, IsWindowSum}
 use Rattle.curve_window.proofs.Mapped.{pointwise, starts_mapped, length_mapped, each_map}
 

@@ -5,10 +5,10 @@ use Rattle.rational.specs.Rational.{ℚ, ◌≤ℚ◌, ◌<ℚ◌, int}
 use Rattle.rational.proofs.Linear.{with3}
 use Rattle.rational.proofs.Laws.{antisym, le_refl, le_of_lt, le_or_lt, le_trans, lt_le_trans}
 use Rattle.affine_segment.specs.declared.line.Piece.{Piece}
-use Rattle.affine_segment.specs.Reading.{read, piece_in, piece_value}
+use Rattle.affine_segment.specs.Reading.{read, piece_in, piece_value, line_in}
 use Rattle.affine_segment.specs.Pieces.{RisesFrom, StartsAtZero}
-use Rattle.affine_segment.proofs.PieceIn.{piece_in_end, piece_in_go, piece_in_stop, value_past, value_at_start}
-use Rattle.curve_window.specs.Stretches.{cut_at, line_in}
+use Rattle.affine_segment.proofs.PieceIn.{piece_in_end, piece_in_go, piece_in_stop, value_past, value_at_start, read_go, read_is}
+use Rattle.curve_window.specs.Stretches.{cut_at}
 
 -- ---- appending
 pub one_more : {A : Type 0} (xs : List A) (x : A) (ys : List A) → (xs ++ x ∷ []) ++ ys ≡ xs ++ x ∷ ys
@@ -36,16 +36,9 @@ mid_later b [] p rest t r h k = piece_in_go b p rest t h ∙ mid_first p rest t 
 mid_later b (c ∷ cs) p rest t r h k =
     piece_in_go b c (cs ++ p ∷ rest) t (le_trans (le_of_lt (past_start c.x cs p rest r.1)) h) ∙ mid_later c cs p rest t r.1 h k
 
-read_is : (p : Piece) (ps : List Piece) (t : ℚ) → read (p ∷ ps) t ≡ piece_value (piece_in p ps t) t
-unfolding read
-read_is p ps t = refl
-
 -- the first piece, before the next one, and from there on
 pub read_first : (p : Piece) (rest : List Piece) (t : ℚ) → BeforeNext t rest → read (p ∷ rest) t ≡ piece_value p t
 read_first p rest t h = read_is p rest t ∙ ap (λ z. piece_value z t) (mid_first p rest t h)
-
-pub read_skip : (p q : Piece) (rest : List Piece) (t : ℚ) → q.x ≤ℚ t → read (p ∷ q ∷ rest) t ≡ read (q ∷ rest) t
-read_skip p q rest t h = read_is p (q ∷ rest) t ∙ ap (λ z. piece_value z t) (piece_in_go p q rest t h) ∙ sym (read_is q rest t)
 
 pub read_middle : (bs : List Piece) (p : Piece) (rest : List Piece) (t : ℚ) → StartsAtZero (bs ++ p ∷ rest) → p.x ≤ℚ t → BeforeNext t rest
     → read (bs ++ p ∷ rest) t ≡ piece_value p t

@@ -31,7 +31,7 @@ pub record TailOf (z : Sizes) (end from period rise : ℚ) : Type 0 where
   pub whole : Whole z.dt period
   pub value : Whole (grid_of z) rise
 
-grids_nest : (z : Sizes) → z.dt * z.ds ∣ grid_of z
+pub grids_nest : (z : Sizes) → z.dt * z.ds ∣ grid_of z
 grids_nest z = subst (λ n. n ∣ grid_of z) (mul_comm z.ds z.dt) (slope_time_divides z)
 
 fits_period : (z : Sizes) (end from period rise : ℚ) (ps : List Piece) → TailOf z end from period rise → Each (λ p. p.x <ℚ end) ps → FitsPeriod ps from period

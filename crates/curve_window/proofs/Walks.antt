@@ -4,10 +4,10 @@ use Rattle.std.proofs.Common.{sym, ap, ◌∙◌, refl, subst}
 use Rattle.rational.specs.Rational.{ℚ, ◌≤ℚ◌, ◌<ℚ◌, int}
 use Rattle.rational.proofs.Laws.{le_refl}
 use Rattle.affine_segment.specs.declared.line.Piece.{Piece}
-use Rattle.affine_segment.specs.Reading.{read}
+use Rattle.affine_segment.specs.Reading.{read, line_in}
 use Rattle.affine_segment.specs.Pieces.{StartsAtZero}
 use Rattle.affine_segment.proofs.PieceIn.{value_at_start}
-use Rattle.curve_window.specs.Stretches.{cut_at, line_in, IsPieceOf}
+use Rattle.curve_window.specs.Stretches.{cut_at, IsPieceOf}
 use Rattle.curve_window.proofs.Surgery.{one_more, BeforeNext, read_middle, line_middle, rest_rises, start_nonneg, before_own, cut_reads, cut_lines, cut_rises}
 
 pub record WalkOf (f : List Piece) (done : List Piece) (p : Piece) (rest : List Piece) : Type 0 where

@@ -6,10 +6,10 @@ use Rattle.rational.specs.Extended.{Ext, ◌+ₑ◌}
 use Rattle.rational.specs.declared.Extended.TheVariants.{Fin, Inf}
 use Rattle.affine_segment.specs.declared.line.Line.{Line}
 use Rattle.affine_segment.specs.declared.line.Piece.{Piece}
-use Rattle.affine_segment.specs.Reading.{read}
+use Rattle.affine_segment.specs.Reading.{read, line_in}
 use Rattle.affine_segment.specs.Pieces.{Each, HasStart, StartsAtZero}
 use Rattle.curve_window.specs.declared.stretch.Both.{Both}
-use Rattle.curve_window.specs.Stretches.{IsBothOf, line_in}
+use Rattle.curve_window.specs.Stretches.{IsBothOf}
 
 -- one piece of each stretch
 abbrev pub mapped : (Both → Piece) → List Both → List Piece

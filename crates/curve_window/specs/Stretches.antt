@@ -5,7 +5,7 @@ use Rattle.rational.specs.Rational.{ℚ, ◌≤ℚ◌, int}
 use Rattle.affine_segment.specs.declared.line.Line.{Line}
 use Rattle.affine_segment.specs.declared.line.Piece.{Piece}
 use Rattle.affine_segment.specs.Values.{line_value}
-use Rattle.affine_segment.specs.Reading.{read, piece_in}
+use Rattle.affine_segment.specs.Reading.{read, piece_in, line_in}
 use Rattle.affine_segment.specs.Pieces.{HasStart, StartsAtZero}
 use Rattle.affine_segment.specs.Fits.{LineFitsAt}
 use Rattle.curve_window.specs.declared.stretch.Both.{Both}
@@ -29,11 +29,6 @@ EachBoth P (b ∷ bs) = P b × EachBoth P bs
 
 abbrev pub StartTogether : Both → Type 0
 StartTogether b = b.left.x ≡ b.right.x
-
--- the line that pieces go on with at t
-abbrev pub line_in : List Piece → ℚ → Option Line
-line_in [] t = None
-line_in (p ∷ ps) t = (piece_in p ps t).line
 
 -- a piece with the value and the line of f at its start
 pub record IsPieceOf (f : List Piece) (p : Piece) : Type 0 where

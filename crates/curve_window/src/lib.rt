@@ -13,5 +13,6 @@ mod tests;
 
 pub use compared::{window_excess, window_max, window_min};
 pub use lower::window_lower;
+pub use made::{excess_value, lines_apart};
 pub use stretch::{Both, overlay};
 pub use sum::window_sum;

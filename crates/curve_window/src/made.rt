@@ -12,10 +12,9 @@ ghost use Rattle.curve_window.specs.Made.{made_value, made_line, line_apart, zer
 use crate::lie::lie_of;
 use crate::stretch::{Both, cut};
 use affine_segment::{Line, Piece};
-use fraction128::{Ext, Frac, difference};
+use fraction128::{Ext, Frac, difference, greater, greater_value, lesser_value};
 use rational::Extended;
 use std::alloc::{AllocError, Global};
-use std::cmp::Ordering;
 
 /// What is made of two windows.
 #[derive(Debug, Clone, Copy)]
@@ -35,49 +34,8 @@ struct Parts {
     turn: Option<Piece>,
 }
 
-fn lesser(x: Frac, y: Frac) -> Frac
-    ensures { result ≡ min_q x y }
-{
-    match x.cmp(&y) {
-        Ordering::Greater => y,
-        _ => x,
-    }
-}
-
-fn greater(x: Frac, y: Frac) -> Frac
-    ensures { result ≡ max_q x y }
-{
-    match x.cmp(&y) {
-        Ordering::Greater => x,
-        _ => y,
-    }
-}
-
-fn lower_value(a: Ext, b: Ext) -> Ext
-    ensures { result ≡ min_ext a b }
-{
-    match a {
-        Extended::Inf => b,
-        Extended::Fin(x) => match b {
-            Extended::Inf => a,
-            Extended::Fin(y) => Extended::Fin(lesser(x, y)),
-        },
-    }
-}
-
-fn upper_value(a: Ext, b: Ext) -> Ext
-    ensures { result ≡ max_ext a b }
-{
-    match a {
-        Extended::Inf => Extended::Inf,
-        Extended::Fin(x) => match b {
-            Extended::Inf => Extended::Inf,
-            Extended::Fin(y) => Extended::Fin(greater(x, y)),
-        },
-    }
-}
-
-fn excess_value(a: Ext, b: Ext) -> Ext
+/// What a has above b; 0 where it has nothing, or b is infinite.
+pub fn excess_value(a: Ext, b: Ext) -> Ext
     requires { ValueApartFits a b }
     ensures { result ≡ excess a b }
 {
@@ -95,13 +53,14 @@ fn made_values(made: Made, a: Ext, b: Ext) -> Ext
     ensures { result ≡ made_value made a b }
 {
     match made {
-        Made::Lower => lower_value(a, b),
-        Made::Upper => upper_value(a, b),
+        Made::Lower => lesser_value(a, b),
+        Made::Upper => greater_value(a, b),
         Made::Excess => excess_value(a, b),
     }
 }
 
-fn lines_apart(a: Option<Line>, b: Option<Line>) -> Option<Line>
+/// The first line less the second; 0 where the second is infinite.
+pub fn lines_apart(a: Option<Line>, b: Option<Line>) -> Option<Line>
     requires { LineApartFits a b }
     ensures { result ≡ line_apart a b }
 {

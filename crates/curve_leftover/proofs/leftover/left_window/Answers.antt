@@ -4,7 +4,7 @@ use Rattle.upp_curve.specs.Operand.{OperandPieces}
 use Rattle.curve_window.proofs.OperandWindows.{cuts_fit}
 use Rattle.curve_window.specs.Stretches.{EachBoth}
 use Rattle.curve_window.specs.Pointwise.{mapped}
-use Rattle.curve_window.proofs.Results.{ok_map}
+use Rattle.upp_curve.proofs.NormaliseForm.{ok_map}
 use Rattle.curve_leftover.specs.Moved.{moved_right, PieceMoves}
 use Rattle.curve_leftover.specs.Parts.{left_piece, StretchLeftFits}
 use Rattle.curve_leftover.specs.LeftCall.{IsLeftWindow}

@@ -7,7 +7,7 @@ use Rattle.upp_curve.specs.Normalising.{HasValues}
 use Rattle.affine_segment.specs.Reading.{read}
 use Rattle.min_plus.specs.Running.{IsFifoLeftover}
 use Rattle.upp_curve.specs.Steady.{rise_over}
-use Rattle.curve_window.proofs.Results.{ok_map}
+use Rattle.upp_curve.proofs.NormaliseForm.{ok_map}
 use Rattle.curve_leftover.proofs.LeftAnswers.{LeftScan, rises_fit, rise_steps, ends_fit, scan_call, left_answer, left_value}
 use Rattle.curve_leftover.proofs.leftover.left_within.Goals as goal
 

@@ -15,11 +15,11 @@ returns-then-not-is_less c =
     let R = c.args.rate in
     subst (λ k. KeepsOwnLimits k c.straight-then-not-is_less.result)
     (never_closed R c.args.cycle c.args.slot (positive_out c.is_positive.result R c.is_positive.ensures c.if-not-is_positive.false)
-    (not_less_out c.is_less.result c.args.slot c.args.cycle c.is_less.ensures c.if-not-is_less.true))
+    (not_less_out c.is_less.result c.args.slot c.args.cycle c.is_less.ensures.less c.if-not-is_less.true))
     c.straight-then-not-is_less.ensures
 
 pub returns : goal.returns
 returns c =
     let R = c.args.rate in
     subst (λ k. KeepsOwnLimits k c.gated.result)
-    (is_gated R c.args.cycle c.args.slot (positive_out c.is_positive.result R c.is_positive.ensures c.if-not-is_positive.false) (c.is_less.ensures.0 c.if-not-is_less.false)) c.gated.ensures
+    (is_gated R c.args.cycle c.args.slot (positive_out c.is_positive.result R c.is_positive.ensures c.if-not-is_positive.false) (c.is_less.ensures.less.0 c.if-not-is_less.false)) c.gated.ensures

@@ -24,13 +24,13 @@ pub returns-then-is_less : goal.returns-then-is_less
 returns-then-is_less c =
     let R = nonneg_out c.is_negative.result c.args.rate c.is_negative.ensures c.if-is_negative.false in
     let s = nonneg_out c.is_negative-2.result c.args.slot c.is_negative-2.ensures c.if-is_negative-2.false in
-    (none_negative c.args.rate c.args.slot R s, inr (inr (c.is_less.ensures.0 c.if-is_less.true)))
+    (none_negative c.args.rate c.args.slot R s, inr (inr (c.is_less.ensures.less.0 c.if-is_less.true)))
 
 pub nonneg_gate-requires-clause-rate : goal.nonneg_gate-requires-clause-rate
 nonneg_gate-requires-clause-rate c = nonneg_out c.is_negative.result c.args.rate c.is_negative.ensures c.if-is_negative.false
 
 pub nonneg_gate-requires-clause-fits : goal.nonneg_gate-requires-clause-fits
-nonneg_gate-requires-clause-fits c = not_less_out c.is_less.result c.args.cycle c.args.slot c.is_less.ensures c.if-is_less.false
+nonneg_gate-requires-clause-fits c = not_less_out c.is_less.result c.args.cycle c.args.slot c.is_less.ensures.less c.if-is_less.false
 
 pub returns : goal.returns
 returns c =
@@ -38,6 +38,6 @@ returns c =
     let s = nonneg_out c.is_negative-2.result c.args.slot c.is_negative-2.ensures c.if-is_negative-2.false in
     let up = positive_out c.is_positive.result c.args.cycle c.is_positive.ensures c.if-not-is_positive.false in
     let some = positive_out c.is_positive-2.result c.args.slot c.is_positive-2.ensures c.if-not-is_positive-2.false in
-    let fits = not_less_out c.is_less.result c.args.cycle c.args.slot c.is_less.ensures c.if-is_less.false in
+    let fits = not_less_out c.is_less.result c.args.cycle c.args.slot c.is_less.ensures.less c.if-is_less.false in
     causes_of (OneNegative c.args.rate c.args.slot) (NoSlot c.args.cycle c.args.slot) (gate c.args.rate c.args.cycle c.args.slot) c.nonneg_gate.result
     record { nonneg = none_negative c.args.rate c.args.slot R s; period = slot_fits c.args.cycle c.args.slot up some fits } c.nonneg_gate.ensures

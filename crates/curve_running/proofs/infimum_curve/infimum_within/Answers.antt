@@ -4,7 +4,7 @@ use Rattle.affine_segment.specs.Reading.{read}
 use Rattle.upp_curve.specs.Curve.{repeated}
 use Rattle.upp_curve.specs.Normalising.{HasValues}
 use Rattle.curve_frame.specs.Frames.{sizes_at}
-use Rattle.curve_window.proofs.Results.{ok_map}
+use Rattle.upp_curve.proofs.NormaliseForm.{ok_map}
 use Rattle.curve_running.specs.Scans.{IsWindow, ScanFits}
 use Rattle.curve_running.specs.Runs.{RunsFrom, IsFrontBefore}
 use Rattle.curve_running.proofs.RunFacts.{inf_facts, operand_to, run_window, run_fits, run_rise, sum_fits}

@@ -6,7 +6,7 @@ use Rattle.upp_curve.specs.Curve.{value_at, repeated}
 use Rattle.min_plus.specs.Functions.{IsFinite}
 use Rattle.upp_curve.specs.Normalising.{HasValues}
 use Rattle.curve_frame.specs.Frames.{sizes_at}
-use Rattle.curve_window.proofs.Results.{ok_map}
+use Rattle.upp_curve.proofs.NormaliseForm.{ok_map}
 use Rattle.curve_running.specs.Scans.{IsWindow, ScanFits}
 use Rattle.curve_running.specs.Runs.{RunsUpTo}
 use Rattle.curve_running.proofs.RunFacts.{sup_facts, operand_to, run_window, run_fits, run_rise, difference_fits}

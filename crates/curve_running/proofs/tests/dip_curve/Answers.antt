@@ -1,4 +1,4 @@
-use Rattle.curve_window.proofs.Results.{ok_map}
+use Rattle.upp_curve.proofs.NormaliseForm.{ok_map}
 use Rattle.upp_curve.specs.Curve.{HasSameValues}
 use Rattle.upp_curve.specs.declared.curve.Tail.TheVariants.{Affine}
 use Rattle.upp_curve.specs.WorkedRows.{dip}
