@@ -6,7 +6,7 @@ Of a function the names are compared that come from outside (types, fields, call
 own name, its parameters, its variables and the names of its clauses are not. Of a statement (the type of a lemma; an
 abbreviation with its equations; a record with its fields) the bound names and its own name are not compared.
 
-    tools/doubles.py [FOLDER ..]    folders below crates/, as curve_lag; without one, all
+    tools/doubles.py [FOLDER ..]    folders below crates/, as curve_least; without one, all
 
 Prints each group with file and line, and how many there are; the status is 1 where something is found."""
 import pathlib
