@@ -116,6 +116,7 @@ SIGNATURE = re.compile(r'^(?:pub )?([^\s:()]+) : ')
 ABBREV = re.compile(r'^(?:abbrev|unfoldable) (?:pub )?(\S+) : ')
 RECORD = re.compile(r'^(?:pub )?record (\S+)')
 BINDER = re.compile(r'[({]([^\W\d][^\s(){}:]*(?: [^\s(){}:]+)*) : ')
+IMPORT = re.compile(r'^(?:pub )?use Rattle\.([\w.]+)\.\{([^}]*)\}', re.M)
 LAMBDA = re.compile(r'λ ([^.()]+)\.')
 
 
@@ -169,9 +170,35 @@ def equations(entries, i, name):
     return lines
 
 
-def statements(path):
+def module_of(path):
+    """The name of a file of specs or proofs, as an import gives it."""
+    crate, kind, name = path.parts[-3:]
+    return f'{crate}.{kind}.{name.removesuffix(".antt")}'
+
+
+def definitions(paths):
+    """What each definition of each module says."""
+    return {(module_of(path), name): hash(key) for path in paths
+            for key, name, line, kind in named_statements(path) if kind == 'definition'}
+
+
+def statements(path, defined):
+    """The statements of a file; a word that is defined here counts by its definition, and not by its name."""
+    known = {name: value for (module, name), value in defined.items() if module == module_of(path)}
+    for module, names in IMPORT.findall(path.read_text()):
+        for name in names.replace('\n', ' ').split(','):
+            if (module, name.strip()) in defined:
+                known[name.strip()] = defined[module, name.strip()]
+    for key, name, line, kind in named_statements(path):
+        key = tuple(known.get(word, word) for word in key)
+        if len(key) >= SHORT_STATEMENT:
+            yield key, name, line
+
+
+def named_statements(path):
     entries = list(blocks(path))
     for i, (text, line) in enumerate(entries):
+        kind = 'definition'
         abbrev, record, lemma = ABBREV.match(text), RECORD.match(text), SIGNATURE.match(text)
         if abbrev:
             name = abbrev.group(1)
@@ -182,24 +209,24 @@ def statements(path):
             name = record.group(1)
             key = statement_key(name, text[record.end(1):])
         elif lemma and 'goal.' not in text.split('\n')[0]:
-            name = lemma.group(1)
+            name, kind = lemma.group(1), 'lemma'
             key = statement_key(name, text[lemma.end():])
         else:
             continue
-        if len(key) >= SHORT_STATEMENT:
-            yield key, name, line
+        yield key, name, line, kind
 
 
 def main():
     chosen = sys.argv[1:]
     groups = {}
-    for path in sorted(TOP.glob('**/*')):
+    paths = [p for p in sorted(TOP.glob('**/*')) if p.suffix in ('.rt', '.antt')
+             and 'out' not in p.relative_to(TOP).parts and (p.suffix == '.rt' or len(p.relative_to(TOP).parts) == 3)]
+    defined = definitions([p for p in paths if p.suffix == '.antt'])
+    for path in paths:
         place = path.relative_to(TOP)
-        if path.suffix not in ('.rt', '.antt') or 'out' in place.parts or (chosen and place.parts[0] not in chosen):
+        if chosen and place.parts[0] not in chosen:
             continue
-        if path.suffix == '.antt' and len(place.parts) > 3:
-            continue  # the proof of one function
-        found = functions(path) if path.suffix == '.rt' else statements(path)
+        found = functions(path) if path.suffix == '.rt' else statements(path, defined)
         for key, name, line in found:
             groups.setdefault((path.suffix, key), []).append(f'{place}:{line} {name}')
     counts = {'.rt': 0, '.antt': 0}
