@@ -120,7 +120,7 @@ lattice_answer of f g r ls rs ps from rise F el er M ef R =
 
 -- ---- its values
 -- curves of one rate rise by as much
-same_rises : (f g : SpecCurve) (d : ℚ) → rate f ≡ rate g → rise_over f d ≡ rise_over g d
+pub same_rises : (f g : SpecCurve) (d : ℚ) → rate f ≡ rate g → rise_over f d ≡ rise_over g d
 same_rises f g d e = by (rate f) refl
   where
     by : (x : Ext) → rate f ≡ x → rise_over f d ≡ rise_over g d

@@ -143,7 +143,7 @@ operands f g s p e k z ls rs L a b =
     let some = some_end f g s p e k z L in
     record { limited = L.limited; left = unrolled_pieces z e f ls L.first L.limited some L.left a; right = unrolled_pieces z e g rs L.second L.limited some L.right b }
 
-earlier : (a s p e : ℚ) → a ≤ℚ s → s +ℚ p ≤ℚ e → a +ℚ p ≤ℚ e
+pub earlier : (a s p e : ℚ) → a ≤ℚ s → s +ℚ p ≤ℚ e → a +ℚ p ≤ℚ e
 earlier a s p e l m = with4 a s p e (λ c. omega (arith, c.le, c.lt, c.same))
 
 pub left_rise : (f g : SpecCurve) (s p e : ℚ) (k : ℕ) (z : Sizes) → LatticeCall f g s p e k z → IsRise z f p

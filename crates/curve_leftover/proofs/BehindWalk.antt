@@ -24,7 +24,7 @@ use Rattle.upp_curve.specs.Ahead.{GoesOn, AtNext, IsBeforeNext, TimesStand, IsTi
 use Rattle.upp_curve.proofs.AnswerRoom.{values_fit}
 use Rattle.upp_curve.proofs.Finite.{number_of}
 use Rattle.upp_curve.proofs.StretchSizes.{times_fit}
-use Rattle.curve_running.proofs.LevelSizes.{added}
+use Rattle.upp_curve.proofs.AnswerRoom.{many_more}
 use Rattle.curve_least.specs.declared.gaps.Gap.{Gap}
 use Rattle.curve_least.specs.declared.gaps.Gap.TheVariants.{NoTime, Is}
 use Rattle.curve_least.specs.Gaps.{InWindow, IsWithin, IsGap}
@@ -32,7 +32,9 @@ use Rattle.curve_least.specs.GapSteps.{larger, IsUntil, earlier_of, IsGapValue}
 use Rattle.curve_least.proofs.GapWalk.{GapWalk, NextTime, next_time, steps_left, walk_time, walk_start, walk_step, walk_fewer, next_found, next_past}
 use Rattle.curve_leftover.specs.Behind.{moved, IsServed, IsBehindCall, IsBehindAt, IsMostBehind, IsMost}
 use Rattle.curve_leftover.proofs.Served.{caught_up, other_finite}
-use Rattle.curve_leftover.proofs.Basics.{raised, some_times}
+use Rattle.curve_running.proofs.Shifts.{raised}
+use Rattle.curve_window.proofs.MadeStands.{some_largest}
+use Rattle.curve_least.proofs.GapParts.{before_next}
 
 -- ---- the walk
 pub record BehindWalk (f g : SpecCurve) (theta from end t most : ℚ) : Type 0 where
@@ -42,7 +44,7 @@ pub record BehindWalk (f g : SpecCurve) (theta from end t most : ℚ) : Type 0 w
   pub sizes : (z : Sizes) → IsBehindCall z f g theta from end → IsGapValue z most
 
 zero_gap : (z : Sizes) → IsGapValue z zero_q
-zero_gap z = record { whole = whole_int (grid_of z) (pos 0); within = within_nonneg (times_largest 6 z) zero_q (le_refl zero_q) (some_times z 6) }
+zero_gap z = record { whole = whole_int (grid_of z) (pos 0); within = within_nonneg (times_largest 6 z) zero_q (le_refl zero_q) (some_largest z 6) }
 
 -- no time lies in an empty window
 none_behind : (f g : ℚ → Ext) (from : ℚ) → IsMostBehind f g from from zero_q
@@ -111,13 +113,10 @@ gap_value z x y u v a b h k =
     let V = grid_value z y v b k in
     record {
       whole = whole_sub (grid_of z) v u V.whole U.whole;
-      within = subst (λ m. Within m (v -ℚ u)) (added z 3 3) (within_sub (times_largest 3 z) (times_largest 3 z) v u V.within U.within);
+      within = subst (λ m. Within m (v -ℚ u)) (many_more z 3 3) (within_sub (times_largest 3 z) (times_largest 3 z) v u V.within U.within);
     }
 
 -- ---- one step
-before_next : (u next : ℚ) (a : Option ℚ) → u <ℚ next → IsUntil next a → IsBeforeNext u a
-before_next u next None h k = tt
-before_next u next (Some e) h k = lt_le_trans h k
 
 most_step : (f g : SpecCurve) (theta from t next most u v : ℚ) (ahead served : Stretch) → IsServed (value_at f) (value_at g) theta → theta ≤ℚ from → from ≤ℚ t → t <ℚ next
     → FoundAt f g theta t ahead served u v → IsUntil next ahead.next

@@ -34,7 +34,7 @@ use Rattle.curve_frame.proofs.Answering.{answer_relation}
 use Rattle.curve_window.specs.declared.stretch.Both.{Both}
 use Rattle.curve_window.specs.Pointwise.{mapped}
 use Rattle.curve_window.specs.Stretches.{IsOverlay}
-use Rattle.curve_running.proofs.LevelSizes.{added}
+use Rattle.upp_curve.proofs.AnswerRoom.{many_more}
 use Rattle.curve_running.proofs.Shifts.{infimum_repeats}
 use Rattle.curve_leftover.specs.Behind.{IsServed}
 use Rattle.curve_leftover.specs.LeftCall.{IsLeftFrame, IsLeftWindow}
@@ -119,7 +119,7 @@ rise_stands f g theta r F =
     let y = rise_over g r.period in
     record {
       whole = whole_sub (grid_of z) x y a.whole b.whole;
-      within = subst (λ m. Within m (x -ℚ y)) (added z 3 3) (within_sub (times_largest 3 z) (times_largest 3 z) x y a.within b.within);
+      within = subst (λ m. Within m (x -ℚ y)) (many_more z 3 3) (within_sub (times_largest 3 z) (times_largest 3 z) x y a.within b.within);
     }
 
 rise_low : (f g : SpecCurve) (theta : ℚ) (r : Frame) → IsLeftFrame f g theta r → IsServed (value_at f) (value_at g) theta → zero_q ≤ℚ rise_over f r.period -ℚ rise_over g r.period

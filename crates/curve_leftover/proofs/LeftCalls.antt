@@ -46,6 +46,8 @@ use Rattle.curve_leftover.specs.Moved.{moved_right}
 use Rattle.curve_leftover.proofs.LeftReads.{IsLeftOf, left_past}
 use Rattle.curve_leftover.proofs.MovedReads.{moved_past, moved_up_to}
 use Rattle.curve_leftover.proofs.Served.{no_faster, other_finite}
+use Rattle.curve_lattice.proofs.LatticeAnswers.{same_rises}
+use Rattle.curve_lattice.proofs.LatticeCalls.{earlier}
 
 -- ---- from a kind of call
 pub left_call : (f g : SpecCurve) (theta : ℚ) (k : ℕ) → IsCurve f → IsCurve g → zero_q ≤ℚ theta → gauge_at (FifoLeft (Fin theta)) f g k 0 < 2 ^ 120
@@ -158,19 +160,16 @@ end_some theta s p e k T = le_lt_trans T.theta_low (theta_before theta s p e k T
 pub left_pieces : (f g : SpecCurve) (theta s p e : ℚ) (k : ℕ) (z : Sizes) → LeftCall f g theta s p e k z → OperandPieces z e (unroll f e)
 left_pieces f g theta s p e k z L = operand_pieces z e f L.first L.limited (end_some theta s p e k (left_times f g theta s p e k z L)) L.left
 
-sooner : (a s p e : ℚ) → a ≤ℚ s → s +ℚ p ≤ℚ e → a +ℚ p ≤ℚ e
-sooner a s p e l m = with4 a s p e (λ c. omega (arith, c.le, c.lt, c.same))
-
 right_by : (f g : SpecCurve) (theta s p e : ℚ) (k : ℕ) (z : Sizes) → LeftCall f g theta s p e k z → steady g ≤ℚ s
 right_by f g theta s p e k z L = let r = L.right_steady in let low = L.theta_low in let x = steady g in with3 x theta s (λ c. omega (arith, c.le, c.lt, c.same))
 
 pub left_rise : (f g : SpecCurve) (theta s p e : ℚ) (k : ℕ) (z : Sizes) → LeftCall f g theta s p e k z → IsRise z f p
 left_rise f g theta s p e k z L =
-    rise_is z e f p L.limited L.first L.left L.left_periods L.period_whole L.above (sooner (steady f) s p e L.left_steady (start_early theta s p e k (left_times f g theta s p e k z L)))
+    rise_is z e f p L.limited L.first L.left L.left_periods L.period_whole L.above (earlier (steady f) s p e L.left_steady (start_early theta s p e k (left_times f g theta s p e k z L)))
 
 pub right_rise : (f g : SpecCurve) (theta s p e : ℚ) (k : ℕ) (z : Sizes) → LeftCall f g theta s p e k z → IsRise z g p
 right_rise f g theta s p e k z L =
-    rise_is z e g p L.limited L.second L.right L.right_periods L.period_whole L.above (sooner (steady g) s p e (right_by f g theta s p e k z L) (start_early theta s p e k (left_times f g theta s p e k z L)))
+    rise_is z e g p L.limited L.second L.right L.right_periods L.period_whole L.above (earlier (steady g) s p e (right_by f g theta s p e k z L) (start_early theta s p e k (left_times f g theta s p e k z L)))
 
 pub rise_sum : (z : Sizes) (c : SpecCurve) (p : ℚ) → IsRise z c p → SumValue z 3 (rise_over c p)
 rise_sum z c p R = record { whole = R.whole; within = R.within }
@@ -196,13 +195,6 @@ moved_moves f g theta s p e k z L = record {
 pub rises_less : (f g : SpecCurve) (theta s p e : ℚ) (k : ℕ) (z : Sizes) → LeftCall f g theta s p e k z → IsServed (value_at f) (value_at g) theta → rise_over g p ≤ℚ rise_over f p
 rises_less f g theta s p e k z L S =
     no_faster (value_at f) (value_at g) theta s p (rise_over f p) (rise_over g p) S L.nonneg (le_of_lt L.above) (left_moves f g theta s p e k z L) (right_moves f g theta s p e k z L)
-
-same_rises : (f g : SpecCurve) (d : ℚ) → rate f ≡ rate g → rise_over f d ≡ rise_over g d
-same_rises f g d e = by (rate f) refl
-  where
-    by : (x : Ext) → rate f ≡ x → rise_over f d ≡ rise_over g d
-    by Inf h = sym (rate_none f d h) ∙ rate_none g d (sym e ∙ h)
-    by (Fin q) h = sym (rate_rise f d q h) ∙ rate_rise g d q (sym e ∙ h)
 
 pub not_slower : (f g : SpecCurve) (theta s p e : ℚ) (k : ℕ) (z : Sizes) → LeftCall f g theta s p e k z → IsServed (value_at f) (value_at g) theta → ¬ (rate f <ₑ rate g)
 not_slower f g theta s p e k z L S h =

@@ -23,23 +23,13 @@ use Rattle.curve_window.specs.declared.stretch.Both.{Both}
 use Rattle.curve_window.specs.Stretches.{lefts, rights, EachBoth, IsBothOf, IsOverlay}
 use Rattle.curve_window.specs.Pointwise.{mapped}
 use Rattle.curve_window.specs.Made.{line_apart, zero_line}
-use Rattle.curve_window.proofs.Mapped.{both_in, StartsAt, mapped_in, each_both_in, each_map, each_of}
+use Rattle.curve_window.proofs.Mapped.{both_in, StartsAt, mapped_in, each_both_in, each_map, each_of, lefts_mapped, rights_mapped, read_mapped}
 use Rattle.curve_leftover.specs.Behind.{IsServed}
 use Rattle.curve_leftover.specs.Parts.{left_piece}
 use Rattle.curve_leftover.proofs.Served.{caught_up}
+use Rattle.curve_window.proofs.MadeReads.{apart_at}
 
 -- ---- the stretch of a time
-lefts_mapped : (bs : List Both) → lefts bs ≡ mapped (λ b. b.left) bs
-lefts_mapped [] = refl
-lefts_mapped (b ∷ bs) = ap (λ z. b.left ∷ z) (lefts_mapped bs)
-
-rights_mapped : (bs : List Both) → rights bs ≡ mapped (λ b. b.right) bs
-rights_mapped [] = refl
-rights_mapped (b ∷ bs) = ap (λ z. b.right ∷ z) (rights_mapped bs)
-
-read_mapped : (m : Both → Piece) (b : Both) (bs : List Both) (t : ℚ) → EachBoth (StartsAt m) bs → read (mapped m (b ∷ bs)) t ≡ piece_value (m (both_in b bs t)) t
-unfolding read
-read_mapped m b bs t h = ap (λ z. piece_value z t) (mapped_in m b bs t h)
 
 both_go : (b c : Both) (cs : List Both) (t : ℚ) → c.left.x ≤ℚ t → both_in b (c ∷ cs) t ≡ both_in c cs t
 unfolding both_in
@@ -105,15 +95,6 @@ both_at f g m (b ∷ bs) t O s low =
     }
 
 -- ---- the excess on a stretch
-difference_value : (l m : Line) (t : ℚ) → line_at record { icept = l.icept -ℚ m.icept; slope = l.slope -ℚ m.slope } t ≡ line_at l t -ℚ line_at m t
-difference_value l m t =
-    let e = sub_mul l.slope m.slope t in
-    let a = l.icept in
-    let b = m.icept in
-    let p = l.slope *ℚ t in
-    let q = m.slope *ℚ t in
-    let r = (l.slope -ℚ m.slope) *ℚ t in
-    with5 a b p q r (λ c. omega (arith, c.le, c.lt, c.same))
 
 zero_value : (t : ℚ) → line_at zero_line t ≡ zero_q
 zero_value t = ap (λ y. zero_q +ℚ y) (zero_mul t) ∙ add_zero zero_q
@@ -130,7 +111,7 @@ apart_value (Some l) (Some m) t v e h =
     let p = line_at l t in
     let q = line_at m t in
     let less : q ≤ℚ p = subst (λ x. q ≤ℚ x) (sym (fin_same e)) (h q refl) in
-    ap Fin (difference_value l m t ∙ sym (max_q_right zero_q (p -ℚ q) (with2 p q (λ c. omega (arith, c.le, c.lt, c.same)))))
+    ap Fin (apart_at l m t ∙ sym (max_q_right zero_q (p -ℚ q) (with2 p q (λ c. omega (arith, c.le, c.lt, c.same)))))
 
 -- ---- what is read
 -- f and g are those of the curves up to the end, g moved right by theta and infinite up to it

@@ -34,11 +34,12 @@ use Rattle.curve_window.proofs.OperandWindows.{operand_both}
 use Rattle.curve_leftover.specs.Lowest.{SumValue, SumLine, SumPiece}
 use Rattle.curve_leftover.specs.Parts.{left_piece, StretchLeftFits}
 use Rattle.curve_leftover.proofs.SumSizes.{sum_weaken, near_of, value_near}
-use Rattle.curve_leftover.proofs.Basics.{read_is, some_times}
+use Rattle.affine_segment.proofs.PieceIn.{read_is}
+use Rattle.curve_window.proofs.MadeStands.{some_largest}
 
 -- ---- one stretch
 zero_sum : (z : Sizes) (k : ℕ) → SumValue z k zero_q
-zero_sum z k = record { whole = whole_int (grid_of z) (pos 0); within = within_nonneg (times_largest k z) zero_q (le_refl zero_q) (some_times z k) }
+zero_sum z k = record { whole = whole_int (grid_of z) (pos 0); within = within_nonneg (times_largest k z) zero_q (le_refl zero_q) (some_largest z k) }
 
 excess_sum : (z : Sizes) (v w : Ext) → IsNumber v → OperandValueAt z v → OperandValueAt z w → (y : ℚ) × (excess v w ≡ Fin y) × SumValue z 6 y
 excess_sum z Inf w n V W = absurd n
@@ -134,9 +135,6 @@ pub lefts_stand : (z : Sizes) (end : ℚ) (ls rs : List Piece) (bs : List Both) 
 lefts_stand z end ls rs bs A F G finite O = (starts_mapped left_piece bs (λ b. refl) O.starts, each_left z end ls rs bs A F G finite O.each)
 
 -- ---- the limit at the end
-same_line : {l m : Line} → Some l ≡ Some m → l ≡ m
-same_line e = cc
-
 pub last_value : (z : Sizes) (end : ℚ) (ps : List Piece) (v : ℚ) → AreLimited z end → Each (LeftStands z end) ps → line_value (last_line ps) end ≡ Fin v → SumValue z 6 v
 last_value z end [] v A h e = absurd (same_none e)
   where

@@ -1,4 +1,3 @@
-pub mod Basics
 pub mod MovedLoop
 pub mod Served
 pub mod SumSizes

@@ -23,8 +23,8 @@ use Rattle.upp_curve.specs.Steady.{last_line}
 use Rattle.upp_curve.specs.Limits.{Sizes}
 use Rattle.upp_curve.specs.Sized.{grid_of, times_largest}
 use Rattle.upp_curve.specs.Operand.{AreLimited}
-use Rattle.upp_curve.proofs.Finite.{each_in}
-use Rattle.affine_segment.proofs.PieceIn.{value_past}
+use Rattle.upp_curve.proofs.Finite.{each_in, line_number, value_number}
+use Rattle.affine_segment.proofs.PieceIn.{value_past, read_is, value_by}
 use Rattle.affine_segment.proofs.PieceOrder.{each_append, each_map, rises_append}
 use Rattle.upp_curve.proofs.NormaliseLists.{last_in}
 use Rattle.curve_running.specs.Scans.{IsWindow, ScanFits, IsInfimumUntil, IsLevel, HasLine, flat}
@@ -32,7 +32,7 @@ use Rattle.curve_running.specs.Made.{IsMade, IsInfimumScan}
 use Rattle.curve_running.specs.Runs.{IsFrontBefore}
 use Rattle.curve_leftover.specs.Lowest.{SumValue, SumPiece, level_piece, IsLowestCall, IsLowest}
 use Rattle.curve_leftover.proofs.SumSizes.{EachSum, IsNear, near_of, sum_weaken, sums_fit, flat_line, line_near, value_near, level_value, made_sum, scan_fits, scan_lines}
-use Rattle.curve_leftover.proofs.Basics.{read_is, up_to}
+use Rattle.curve_running.proofs.FiniteRuns.{list_number, made_finite}
 
 -- ---- finite pieces
 sum_finite : (z : Sizes) (end : ℚ) (p : Piece) → SumPiece z end p → IsFinitePiece p
@@ -41,36 +41,15 @@ sum_finite z end p P = record { at = subst IsNumber (sym P.at) tt; line = subst 
 pub sums_finite : (z : Sizes) (end : ℚ) (ps : List Piece) → EachSum z end ps → Each IsFinitePiece ps
 sums_finite z end ps h = each_map (SumPiece z end) IsFinitePiece (λ p P. sum_finite z end p P) ps h
 
-line_number : (l : Option Line) (t : ℚ) → IsLine l → IsNumber (line_value l t)
-line_number None t h = absurd h
-line_number (Some l) t h = tt
-
-finite_value : (p : Piece) (t : ℚ) → IsFinitePiece p → IsNumber (piece_value p t)
-finite_value p t h = elim (le_or_lt t p.x) [
-  | inl l ↦ subst IsNumber (sym (up_to p t l)) h.at
-  | inr l ↦ subst IsNumber (sym (value_past p t l)) (line_number p.line t h.line)
-]
-
-pub finite_read : (ps : List Piece) (t : ℚ) → StartsAtZero ps → Each IsFinitePiece ps → IsNumber (read ps t)
-finite_read [] t s h = absurd s
-finite_read (p ∷ ps) t s h = subst IsNumber (sym (read_is p ps t)) (finite_value (piece_in p ps t) t (each_in IsFinitePiece p ps t h))
-
-made_finite : (far : ℚ) (ps : List Piece) (q : Piece) → IsMade far ps q → IsFinitePiece q
-made_finite far ps q m = record { at = let (v, e, k) = m.at in subst IsNumber (sym e) tt; line = by_line m.line }
-  where
-    by_line : (((l : Line) × (q.line ≡ Some l) × HasLine l ps) ⊎ ((v : ℚ) × (q.line ≡ Some (flat v)) × IsLevel far ps v)) → IsLine q.line
-    by_line (inl (l, e, k)) = subst IsLine (sym e) tt
-    by_line (inr (v, e, k)) = subst IsLine (sym e) tt
-
 pub scan_read : (far : ℚ) (ps qs : List Piece) (t : ℚ) → StartsAtZero qs → Each (IsMade far ps) qs → IsNumber (read qs t)
-scan_read far ps qs t s m = finite_read qs t s (each_map (IsMade far ps) IsFinitePiece (λ q h. made_finite far ps q h) qs m)
+scan_read far ps qs t s m = list_number qs t s (each_map (IsMade far ps) IsFinitePiece (λ q h. made_finite far ps q h) qs m)
 
 -- ---- what a scan reads
 made_value : (z : Sizes) (end far x v : ℚ) (ps : List Piece) (q : Piece) → AreLimited z end → IsNear z end far → EachSum z end ps → IsNear z end x → IsMade far ps q → piece_value q x ≡ Fin v → SumValue z 10 v
 made_value z end far x v ps q A F O N m e = elim (le_or_lt x q.x) [
   | inl l ↦
       let (w, k, level) = m.at in
-      subst (SumValue z 10) (fin_same (sym (up_to q x l ∙ k) ∙ e)) (sum_weaken z 8 10 w (omega arith) (level_value z end far ps w A F O level))
+      subst (SumValue z 10) (fin_same (sym (value_by q x l ∙ k) ∙ e)) (sum_weaken z 8 10 w (omega arith) (level_value z end far ps w A F O level))
   | inr l ↦
       let (n, k, L) = made_sum z end far ps q.line A F O m.line in
       subst (SumValue z 10) (fin_same (sym (value_past q x l ∙ ap (λ i. line_value i x) k) ∙ e)) (value_near z end x 8 n A L N)

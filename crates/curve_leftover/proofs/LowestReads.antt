@@ -29,7 +29,7 @@ use Rattle.upp_curve.specs.Limits.{Sizes}
 use Rattle.upp_curve.specs.Sized.{grid_of, times_largest}
 use Rattle.upp_curve.specs.Operand.{answer_room}
 use Rattle.upp_curve.proofs.Bends.{bends_on}
-use Rattle.affine_segment.proofs.PieceIn.{value_past, piece_in_end}
+use Rattle.affine_segment.proofs.PieceIn.{value_past, piece_in_end, read_is, value_by}
 use Rattle.affine_segment.proofs.PieceOrder.{each_map}
 use Rattle.upp_curve.proofs.NormaliseLists.{last_is_last, last_in}
 use Rattle.upp_curve.proofs.Repeats.{repeats_times}
@@ -38,12 +38,13 @@ use Rattle.upp_curve.proofs.Unrolled.{read_before, read_past_list}
 use Rattle.curve_frame.specs.Answering.{IsAnswer}
 use Rattle.curve_running.specs.Scans.{Until, IsInfimumUntil}
 use Rattle.curve_running.proofs.Fronts.{kept_each, kept_starts, kept_reads, kept_bends}
-use Rattle.curve_running.proofs.Shifts.{infimum_repeats}
-use Rattle.curve_running.proofs.SupremumRuns.{grids_nested}
+use Rattle.curve_running.proofs.Shifts.{infimum_repeats, raised}
+use Rattle.curve_window.proofs.TailGrids.{grids_nest}
 use Rattle.curve_leftover.specs.Lowest.{level_piece, IsLowestCall, IsLowest}
-use Rattle.curve_leftover.proofs.SumSizes.{IsNear, EachSum, more, scan_room, only_bend}
+use Rattle.curve_leftover.proofs.SumSizes.{IsNear, EachSum, scan_room, only_bend}
+use Rattle.upp_curve.proofs.AnswerRoom.{more_largest}
 use Rattle.curve_leftover.proofs.LowestCalls.{call_far, all_sums}
-use Rattle.curve_leftover.proofs.Basics.{raised, read_is, up_to}
+use Rattle.curve_running.proofs.InfimumRuns.{same_until}
 
 -- ---- one period from `r` on is enough
 until_period : (f : ℚ → Ext) (r d c t : ℚ) (v : Ext) → int (pos 0) <ℚ d → zero_q ≤ℚ c → Repeats f r d c → t ≤ℚ r → IsInfimumUntil f (r +ℚ d) t v → IsRunningInfimum f t v
@@ -69,17 +70,12 @@ until_period f r d c t v some rise F early k =
           (record { at = u; least = le_trans early low; early = high }, subst (λ z. f u ≤ₑ z) (sym same) (raised (f u) (int (pos n) *ℚ c) high_by))
     ]
 
-same_until : (f g : ℚ → Ext) (end t : ℚ) (v : Ext) → ((s : ℚ) → t ≤ℚ s → s <ℚ end → f s ≡ g s) → IsInfimumUntil g end t v → IsInfimumUntil f end t v
-same_until f g end t v same h =
-    same_infimum {I = Until t end} {J = Until t end} (λ s. g s.at) (λ s. f s.at) v (λ s. (s, same_le_ext (same s.at s.least s.early)))
-    (λ s. (s, same_le_ext (sym (same s.at s.least s.early)))) h
-
 -- ---- the pieces and the level
 level_reads : (x w t : ℚ) → read (level_piece x w ∷ []) t ≡ Fin w
 level_reads x w t =
     read_is (level_piece x w) [] t ∙ ap (λ z. piece_value z t) (piece_in_end (level_piece x w) t)
     ∙ elim (le_or_lt t x) [
-      | inl l ↦ up_to (level_piece x w) t l
+      | inl l ↦ value_by (level_piece x w) t l
       | inr l ↦ value_past (level_piece x w) t l ∙ ap Fin (ap (λ y. w +ℚ y) (zero_mul t) ∙ add_zero w)
     ]
 
@@ -207,8 +203,8 @@ lowest_answer z ps qs from period end far rise times values C K t v on some ends
   above = some;
   early = subst (λ x. x ≤ℚ end) (sym ends) (le_refl end);
   rise_whole = C.rise_stands.whole;
-  rise_within = within_weaken (times_largest 6 z) (times_largest 8 z) rise (more z 6 8 (omega arith)) C.rise_stands.within;
-  grids = bends_on false z.dt z.ds (grid_of z) qs from period rise (grids_nested z) starts record { nonneg = C.from_low; some = some; starts = before }
+  rise_within = within_weaken (times_largest 6 z) (times_largest 8 z) rise (more_largest z 6 8 (omega arith)) C.rise_stands.within;
+  grids = bends_on false z.dt z.ds (grid_of z) qs from period rise (grids_nest z) starts record { nonneg = C.from_low; some = some; starts = before }
       (kept_bends false z.dt z.ds (grid_of z) K.scanned end qs K.front (only_bend false z end far all K.scanned C.limited F O K.scan.scan.made K.scan.scan.turns))
       C.from_whole on C.rise_stands.whole;
 }

@@ -14,11 +14,10 @@ use Rattle.min_plus.specs.Functions.{zero_q}
 use Rattle.affine_segment.specs.Pieces.{RisesFrom, StartsAtZero}
 use Rattle.affine_segment.specs.Reading.{read, piece_in, piece_value}
 use Rattle.upp_curve.specs.Unrolled.{upto}
-use Rattle.affine_segment.proofs.PieceIn.{value_past, piece_in_end, piece_in_go, piece_in_stop}
+use Rattle.affine_segment.proofs.PieceIn.{value_past, piece_in_end, piece_in_go, piece_in_stop, read_is, value_by}
 use Rattle.upp_curve.proofs.NormaliseLists.{rises_upto}
 use Rattle.upp_curve.proofs.Unique.{upto_none, upto_some, upto_end}
 use Rattle.curve_leftover.specs.Moved.{moved_line, moved_piece, silence, moved_right}
-use Rattle.curve_leftover.proofs.Basics.{read_is, up_to}
 
 -- ---- one piece
 pub moved_line_value : (theta t : ℚ) (l : Option Line) → line_value (moved_line theta l) t ≡ line_value l (t -ℚ theta)
@@ -42,7 +41,7 @@ moved_value theta t p past = elim (le_or_lt t (p.x +ℚ theta)) [
   | inl l ↦
       let x = p.x in
       let some : zero_q <ℚ x = with3 x theta t (λ c. omega (arith, c.le, c.lt, c.same)) in
-      up_to (moved_piece theta p) t l ∙ at_past_zero theta p some ∙ sym (up_to p (t -ℚ theta) (with3 x theta t (λ c. omega (arith, c.le, c.lt, c.same))))
+      value_by (moved_piece theta p) t l ∙ at_past_zero theta p some ∙ sym (value_by p (t -ℚ theta) (with3 x theta t (λ c. omega (arith, c.le, c.lt, c.same))))
   | inr l ↦
       let x = p.x in
       value_past (moved_piece theta p) t l ∙ moved_line_value theta t p.line ∙ sym (value_past p (t -ℚ theta) (with3 x theta t (λ c. omega (arith, c.le, c.lt, c.same))))
@@ -147,7 +146,7 @@ body_at : (theta end : ℚ) (p : Piece) (ps : List Piece) → p.x ≡ zero_q →
     → piece_value (piece_in (moved_piece theta p) (upto end (map (moved_piece theta) ps)) theta) theta ≡ Inf
 body_at theta end p ps e r =
     ap (λ z. piece_value z theta) (alone_at theta end p ps e r)
-    ∙ up_to (moved_piece theta p) theta (subst (λ x. theta ≤ℚ x) (sym (first_at theta p e)) (le_refl theta))
+    ∙ value_by (moved_piece theta p) theta (subst (λ x. theta ≤ℚ x) (sym (first_at theta p e)) (le_refl theta))
     ∙ at_zero theta p (subst (λ x. x ≤ℚ zero_q) (sym e) (le_refl zero_q))
 
 reads_up_to : (theta end t : ℚ) (p : Piece) (ps : List Piece) → p.x ≡ zero_q → RisesFrom p.x ps → theta <ℚ end → zero_q ≤ℚ t → t ≤ℚ theta → read (moved_right theta end (p ∷ ps)) t ≡ Inf

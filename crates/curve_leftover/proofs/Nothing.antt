@@ -10,7 +10,7 @@ use Rattle.upp_curve.specs.declared.curve.Tail.TheVariants.{Affine}
 use Rattle.upp_curve.specs.Curve.{SpecCurve, value_at}
 use Rattle.upp_curve.specs.Curves.{IsCurve}
 use Rattle.min_plus.specs.Functions.{zero_q}
-use Rattle.upp_curve.proofs.ReadableKinds.{bucket_curve}
+use Rattle.upp_curve.proofs.ReadableKinds.{bucket_curve, zero_num, zero_den, zero_small}
 use Rattle.curve_least.specs.Levels.{level_curve}
 use Rattle.curve_least.proofs.Levels.{level_value}
 
@@ -20,17 +20,6 @@ IsNothing items rank = (items ≡ record { x = zero_q; at = Fin zero_q; line = S
 pub nothing_is : (items none : List Piece) (a b c d rank : ℚ) → none ≡ [] → items ≡ none ++ record { x = a; at = Fin b; line = Some record { icept = c; slope = d } } ∷ [] → a ≡ zero_q → b ≡ zero_q → c ≡ zero_q → d ≡ zero_q
     → rank ≡ zero_q → IsNothing items rank
 nothing_is items none a b c d rank n e ha hb hc hd hr = (rw (e, n, ha, hb, hc, hd) refl, hr)
-
-zero_num : (int (pos 0)).num ≡ pos 0
-unfolding frac gcd gcd_steps
-zero_num = refl
-
-zero_den : den (int (pos 0)) ≡ 1
-unfolding frac gcd gcd_steps
-zero_den = refl
-
-pub zero_small : IsSmall (int (pos 0))
-zero_small = record { top = rw zero_num (omega arith); bottom = rw zero_den (omega arith) }
 
 -- as the code makes it
 unfoldable made : List Piece → ℚ → SpecCurve

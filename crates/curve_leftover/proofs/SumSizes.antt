@@ -27,18 +27,21 @@ use Rattle.upp_curve.specs.Operand.{AreLimited, answer_room}
 use Rattle.upp_curve.specs.Room.{top, LineInRoom, LineHasRoom, PieceHasRoom, TimeHasRoom, ValueHasRoom}
 use Rattle.upp_curve.proofs.NarrowSizes.{grid_pos, small_sum, slope_time_divides}
 use Rattle.upp_curve.proofs.NormaliseRoom.{line_fits}
-use Rattle.upp_curve.proofs.AnswerRoom.{tight, wide_narrow, answer_is_room, AnswerLine, line_in_room, answer_value_room, IsCrossing, crossing_from, crossing_room, room_at_start}
+use Rattle.upp_curve.proofs.AnswerRoom.{tight, wide_narrow, answer_is_room, AnswerLine, line_in_room, answer_value_room, IsCrossing, crossing_from, crossing_room, room_at_start, more_largest}
 use Rattle.curve_running.specs.Scans.{start_or, flat, IsLevel, HasLine, MeetingFits, ScanFits}
 use Rattle.curve_running.specs.Made.{IsMeeting, IsMade, TurnsAfter, IsScan}
-use Rattle.curve_running.proofs.LevelSizes.{added, all_low}
+use Rattle.curve_running.proofs.LevelSizes.{all_low, not_flat, some_none}
+use Rattle.upp_curve.proofs.AnswerRoom.{many_more}
 use Rattle.curve_leftover.specs.Lowest.{SumValue, SumLine, SumPiece}
+use Rattle.curve_running.proofs.Makings.{LineIsMade}
+
+pub same_line : {l m : Line} → Some l ≡ Some m → l ≡ m
+same_line e = cc
 
 -- ---- values
-pub more : (z : Sizes) (k j : ℕ) → k ≤ j → times_largest k z ≤ℚ times_largest j z
-more z k j h = mul_le_mul_right (int (pos z.largest)) (nat_nonneg z.largest) (nat_le k j h)
 
 pub sum_weaken : (z : Sizes) (k j : ℕ) (v : ℚ) → k ≤ j → SumValue z k v → SumValue z j v
-sum_weaken z k j v h V = record { whole = V.whole; within = within_weaken (times_largest k z) (times_largest j z) v (more z k j h) V.within }
+sum_weaken z k j v h V = record { whole = V.whole; within = within_weaken (times_largest k z) (times_largest j z) v (more_largest z k j h) V.within }
 
 pub sums_fit : (z : Sizes) (end : ℚ) (k j : ℕ) (v w : ℚ) → AreLimited z end → k + j ≤ 31 → SumValue z k v → SumValue z j w → SumFits v w × SumFits v (neg_ℚ w)
 sums_fit z end k j v w A h V W =
@@ -93,7 +96,7 @@ run_near z end s x A h N =
 pub value_near : (z : Sizes) (end x : ℚ) (k : ℕ) (l : Line) → AreLimited z end → SumLine z k l → IsNear z end x → SumValue z (k + 2) (line_at l x)
 value_near z end x k l A L N = record {
   whole = whole_add (grid_of z) l.icept (l.slope *ℚ x) L.icept.whole (whole_weaken (z.ds * z.dt) (grid_of z) (l.slope *ℚ x) (slope_time_divides z) (whole_mul z.ds z.dt l.slope x L.slope N.whole));
-  within = subst (λ m. Within m (line_at l x)) (added z k 2) (within_add (times_largest k z) (times_largest 2 z) l.icept (l.slope *ℚ x) L.icept.within (run_near z end l.slope x A L.steep N));
+  within = subst (λ m. Within m (line_at l x)) (many_more z k 2) (within_add (times_largest k z) (times_largest 2 z) l.icept (l.slope *ℚ x) L.icept.within (run_near z end l.slope x A L.steep N));
 }
 
 -- ---- a line against a level
@@ -109,7 +112,7 @@ less_zero s = with1 s (λ c. omega (arith, c.le, c.lt, c.same))
 level_apart : (z : Sizes) (v : ℚ) (l : Line) → SumLine z 6 l → SumValue z 8 v → Apart z (v -ℚ l.icept) (l.slope -ℚ int (pos 0))
 level_apart z v l L V = record {
   up_whole = whole_sub (grid_of z) v l.icept V.whole L.icept.whole;
-  up_within = subst (λ m. Within m (v -ℚ l.icept)) (added z 8 6) (within_sub (times_largest 8 z) (times_largest 6 z) v l.icept V.within L.icept.within);
+  up_within = subst (λ m. Within m (v -ℚ l.icept)) (many_more z 8 6) (within_sub (times_largest 8 z) (times_largest 6 z) v l.icept V.within L.icept.within);
   down_whole = subst (Whole z.ds) (sym (less_zero l.slope)) L.slope;
   down_within = subst (Within (int (pos z.steepness))) (sym (less_zero l.slope)) L.steep;
 }
@@ -128,9 +131,6 @@ level_small z end up down A h a =
     quotient_on_grid d (times_largest 14 z) (int (pos z.steepness)) up down (grid_pos z end A.sizes) h wide steep a.up_whole
     (whole_weaken z.ds d down (dvd-mul_left z.ds (z.dv * z.dt)) a.down_whole)
     a.up_within a.down_within
-
-not_flat : (s : ℚ) → int (pos 0) <ℚ s → s -ℚ int (pos 0) ≢ int (pos 0)
-not_flat s h e = lt_irrefl (int (pos 0)) (subst (λ x. int (pos 0) <ℚ x) (sym (less_zero s) ∙ e) h)
 
 slope_fits : (z : Sizes) (end s : ℚ) → AreLimited z end → Whole z.ds s → Within (int (pos z.steepness)) s → SumFits s (neg_ℚ (int (pos 0)))
 slope_fits z end s A w i =
@@ -190,12 +190,9 @@ level_value z end far (p ∷ ps) v A F h (inr (inl e)) = on_line z end p.x v p A
 level_value z end far (p ∷ ps) v A F h (inr (inr (inl e))) = on_line z end (start_or far ps) v p A h.0 (next_near z end far ps A F h.1) e
 level_value z end far (p ∷ ps) v A F h (inr (inr (inr k))) = level_value z end far ps v A F h.1 k
 
-line_same : {l m : Line} → Some l ≡ Some m → l ≡ m
-line_same e = cc
-
 pub line_sum : (z : Sizes) (end : ℚ) (ps : List Piece) (l : Line) → EachSum z end ps → HasLine l ps → SumLine z 6 l
 line_sum z end [] l h k = absurd k
-line_sum z end (p ∷ ps) l h (inl e) = subst (SumLine z 6) (line_same (sym h.0.line ∙ e)) h.0.line_stands
+line_sum z end (p ∷ ps) l h (inl e) = subst (SumLine z 6) (same_line (sym h.0.line ∙ e)) h.0.line_stands
 line_sum z end (p ∷ ps) l h (inr k) = line_sum z end ps l h.1 k
 
 pub start_sum : (z : Sizes) (end : ℚ) (ps : List Piece) (x : ℚ) → EachSum z end ps → HasStart x ps → Whole z.dt x
@@ -222,9 +219,6 @@ scan_fits z end far ps A F O = record {
 }
 
 -- ---- room for what comes out
-abbrev LineIsMade : ℚ → List Piece → Option Line → Type 0
-LineIsMade far ps line = ((l : Line) × (line ≡ Some l) × HasLine l ps) ⊎ ((v : ℚ) × (line ≡ Some (flat v)) × IsLevel far ps v)
-
 -- the line of a piece that comes out
 pub made_sum : (z : Sizes) (end far : ℚ) (ps : List Piece) (line : Option Line) → AreLimited z end → IsNear z end far → EachSum z end ps → LineIsMade far ps line
     → (l : Line) × (line ≡ Some l) × SumLine z 8 l
@@ -269,8 +263,6 @@ scan_lines z end far x ps (q ∷ qs) A F O N m =
     (subst (LineFitsAt x) (sym e) (line_near z end x 8 l A (omega arith) L N), scan_lines z end far x ps qs A F O N m.1)
 
 -- ---- each start is on the grid of times, or all turns go one way
-some_none : {l : Line} → Some l ≡ None → ⊥
-some_none e = cc
 
 numbers_on : (z : Sizes) (end far : ℚ) (ps : List Piece) (q : Piece) → AreLimited z end → IsNear z end far → EachSum z end ps → IsMade far ps q → NumbersOn z.ds (grid_of z) q
 numbers_on z end far ps q A F O m =

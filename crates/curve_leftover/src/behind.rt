@@ -11,20 +11,11 @@ ghost use Rattle.curve_least.specs.GapSteps.{earlier_of};
 ghost use Rattle.curve_leftover.specs.Behind.{moved, IsBehindCall, IsMost};
 ghost use Rattle.curve_leftover.specs.LeftCall.{IsLeftGate};
 
-use crate::numbers::{greater, number_of};
+use crate::numbers::number_of;
 use curve_frame::{CallWindow, rise_over};
-use fraction128::{Frac, difference, is_less, quotient};
+use curve_least::earlier;
+use fraction128::{Frac, difference, greater, is_less, quotient};
 use upp_curve::{Curve, stretch_at};
-
-// The earlier of a time and another that may be missing.
-fn earlier(t: Frac, next: &Option<Frac>) -> Frac
-    ensures { result ≡ earlier_of t next.now }
-{
-    match next {
-        None => t,
-        Some(e) => { if is_less(*e, t) { *e } else { t } }
-    }
-}
 
 /// By how much cross, served theta later, is above beta at its worst over [from, end); 0 where it never is. Only the
 /// starts of beta's pieces are looked at: elsewhere beta goes on from its value, and has caught up by then.

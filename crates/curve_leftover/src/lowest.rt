@@ -1,63 +1,23 @@
 //! The lowest of some pieces from each time on, where they go on for ever by repeating.
 
-ghost use Rattle.std.specs.Prelude.{◌≡◌, pos, List, ◌∷◌, IfOk};
-ghost use Rattle.rational.specs.Rational.{int, ◌≤ℚ◌, le_q};
+ghost use Rattle.std.specs.Prelude.{◌≡◌, pos, IfOk};
+ghost use Rattle.rational.specs.Rational.{int, ◌≤ℚ◌};
 ghost use Rattle.rational.specs.declared.Extended.TheVariants.{Fin};
-ghost use Rattle.affine_segment.specs.Values.{line_at, line_value};
+ghost use Rattle.affine_segment.specs.Values.{line_value};
 ghost use Rattle.upp_curve.specs.Limits.{Sizes};
 ghost use Rattle.affine_segment.specs.Pieces.{Each, StartsAtZero};
-ghost use Rattle.affine_segment.specs.Fits.{LineFits, LineFitsAt};
-ghost use Rattle.affine_segment.specs.Reading.{piece_in, piece_value, read};
+ghost use Rattle.affine_segment.specs.Fits.{LineFitsAt};
+ghost use Rattle.affine_segment.specs.Reading.{read};
 ghost use Rattle.upp_curve.specs.Shapes.{IsFinitePiece, IsLine, IsNumber};
 ghost use Rattle.upp_curve.specs.Steady.{last_line};
 ghost use Rattle.curve_leftover.specs.Lowest.{level_piece, IsLowestCall, IsLowest};
 
-use crate::numbers::{lesser, number_of};
-use affine_segment::{Line, Piece, value};
+use crate::numbers::number_of;
+use affine_segment::{Line, Piece, line_value, piece_at, piece_value};
 use curve_running::{front_before, infimum_scan};
-use fraction128::{Ext, Frac, sum};
+use fraction128::{Ext, Frac, lesser, sum};
 use rational::Extended;
 use std::alloc::{AllocError, Global};
-use std::cmp::Ordering;
-
-fn starts_by(p: &Piece, t: Frac) -> bool
-    ensures { result ≡ le_q p.now.x t }
-{
-    p.x <= t
-}
-
-// The last piece that starts at t or before.
-fn piece_at(pieces: &[Piece], t: Frac) -> Piece
-    requires starts { StartsAtZero pieces.now }
-    requires time { int (pos 0) ≤ℚ t }
-    ensures { (p : Piece) (ps : List Piece) → pieces.now ≡ p ∷ ps → result ≡ piece_in p ps t }
-{
-    let count = pieces.partition_point(|p| starts_by(p, t));
-    pieces[count - 1]
-}
-
-fn line_value(line: Option<Line>, t: Frac) -> Ext
-    requires { LineFitsAt t line }
-    ensures { result ≡ line_value line t }
-{
-    match line {
-        None => Extended::Inf,
-        Some(l) => match value(&l, t) {
-            Ok(v) => Extended::Fin(v),
-            Err(_) => Extended::Inf,
-        },
-    }
-}
-
-fn piece_value(p: &Piece, t: Frac) -> Ext
-    requires { LineFitsAt t p.now.line }
-    ensures { result ≡ piece_value p.now t }
-{
-    match t.cmp(&p.x) {
-        Ordering::Greater => line_value(p.line, t),
-        _ => p.at,
-    }
-}
 
 // The value of finite pieces at t.
 fn value_in(pieces: &[Piece], t: Frac) -> Frac

@@ -8,7 +8,7 @@ use Rattle.affine_segment.specs.declared.line.Piece.{Piece}
 use Rattle.affine_segment.specs.Values.{line_value}
 use Rattle.affine_segment.specs.Reading.{read, piece_in, piece_value}
 use Rattle.affine_segment.specs.Pieces.{Each, RisesFrom, StartsAtZero}
-use Rattle.affine_segment.proofs.PieceIn.{piece_in_end, piece_in_go, piece_in_stop, value_past, value_at_start}
+use Rattle.affine_segment.proofs.PieceIn.{piece_in_end, piece_in_go, piece_in_stop, value_past, value_at_start, read_stop, read_go, read_one}
 use Rattle.curve_window.proofs.Surgery.{read_middle}
 
 -- ---- appended
@@ -110,18 +110,6 @@ front_value P a b q e at on t l early = elim (le_or_lt t a) [
   | inr m ↦ subst (P t) (sym (value_past q t (subst (λ z. z <ℚ t) (sym e) m))) (on t m early)
 ]
 
-first_only : (q : Piece) (t : ℚ) → read (q ∷ []) t ≡ piece_value q t
-unfolding read
-first_only q t = ap (λ z. piece_value z t) (piece_in_end q t)
-
-first_on : (q r : Piece) (rs : List Piece) (t : ℚ) → t <ℚ r.x → read (q ∷ r ∷ rs) t ≡ piece_value q t
-unfolding read
-first_on q r rs t h = ap (λ z. piece_value z t) (piece_in_stop q r rs t h)
-
-second_on : (q r : Piece) (rs : List Piece) (t : ℚ) → r.x ≤ℚ t → read (q ∷ r ∷ rs) t ≡ read (r ∷ rs) t
-unfolding read
-second_on q r rs t h = ap (λ z. piece_value z t) (piece_in_go q r rs t h)
-
 pub back_more : (P : ℚ → Ext → Type 0) (a b end : ℚ) (q : Piece) (out : List Piece) → BuiltBack P b end out → q.x ≡ a → a <ℚ b → b ≤ℚ end → P a q.at
     → ((t : ℚ) → a <ℚ t → t <ℚ b → P t (line_value q.line t)) → BuiltBack P a end (q ∷ out)
 back_more P a b end q [] B e some most at on = record {
@@ -129,7 +117,7 @@ back_more P a b end q [] B e some most at on = record {
   rises = tt;
   before = (subst (λ z. z <ℚ end) (sym e) (lt_le_trans some most), tt);
   holds = λ t l early.
-      subst (P t) (sym (first_only q t)) (front_value P a b q e at on t l (subst (λ z. t <ℚ z) (sym B) early));
+      subst (P t) (sym (read_one q t)) (front_value P a b q e at on t l (subst (λ z. t <ℚ z) (sym B) early));
 }
 back_more P a b end q (r ∷ rs) B e some most at on =
     let less : q.x <ℚ r.x = subst (λ z. z <ℚ r.x) (sym e) (subst (λ z. a <ℚ z) (sym B.first) some) in
@@ -138,7 +126,7 @@ back_more P a b end q (r ∷ rs) B e some most at on =
       rises = (less, B.rises);
       before = (subst (λ z. z <ℚ end) (sym e) (lt_le_trans some most), B.before);
       holds = λ t l early. elim (le_or_lt b t) [
-        | inl m ↦ subst (P t) (sym (second_on q r rs t (subst (λ z. z ≤ℚ t) (sym B.first) m))) (B.holds t m early)
-        | inr m ↦ subst (P t) (sym (first_on q r rs t (subst (λ z. t <ℚ z) (sym B.first) m))) (front_value P a b q e at on t l m)
+        | inl m ↦ subst (P t) (sym (read_go q r rs t (subst (λ z. z ≤ℚ t) (sym B.first) m))) (B.holds t m early)
+        | inr m ↦ subst (P t) (sym (read_stop q r rs t (subst (λ z. t <ℚ z) (sym B.first) m))) (front_value P a b q e at on t l m)
       ];
     }

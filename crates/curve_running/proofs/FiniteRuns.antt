@@ -17,12 +17,14 @@ use Rattle.upp_curve.proofs.FirstStretch.{read_in}
 use Rattle.upp_curve.proofs.Finite.{level_of, number_of, read_number, repeated_number}
 use Rattle.curve_running.specs.Made.{IsMade, IsScan}
 use Rattle.curve_running.specs.Runs.{RunsFrom}
+use Rattle.affine_segment.proofs.PieceIn.{read_is}
+use Rattle.rational.proofs.ExtendedOrder.{finite_below}
 
 -- ---- the supremum
 some_line : (line : Option Line) (l : Line) → line ≡ Some l → IsLine line
 some_line line l e = subst IsLine (sym e) tt
 
-made_finite : (end : ℚ) (ps : List Piece) (q : Piece) → IsMade end ps q → IsFinitePiece q
+pub made_finite : (end : ℚ) (ps : List Piece) (q : Piece) → IsMade end ps q → IsFinitePiece q
 made_finite end ps q m = record {
   at = number_of q.at m.at.0 m.at.1;
   line = elim m.line [ inl h ↦ some_line q.line h.0 h.1 | inr h ↦ some_line q.line _ h.1 ];
@@ -32,11 +34,7 @@ each_made_finite : (end : ℚ) (ps qs : List Piece) → Each (IsMade end ps) qs 
 each_made_finite end ps [] h = tt
 each_made_finite end ps (q ∷ qs) h = (made_finite end ps q h.0, each_made_finite end ps qs h.1)
 
-read_is : (p : Piece) (ps : List Piece) (t : ℚ) → read (p ∷ ps) t ≡ read_in p ps t
-unfolding read
-read_is p ps t = refl
-
-list_number : (qs : List Piece) (t : ℚ) → StartsAtZero qs → Each IsFinitePiece qs → IsNumber (read qs t)
+pub list_number : (qs : List Piece) (t : ℚ) → StartsAtZero qs → Each IsFinitePiece qs → IsNumber (read qs t)
 list_number [] t starts each = absurd starts
 list_number (q ∷ qs) t starts each = subst IsNumber (sym (read_is q qs t)) (read_number q qs t each)
 
@@ -49,12 +47,9 @@ scan_finite rises ps qs end from d rise c S V t low =
     (found.0, V t low ∙ found.1)
 
 -- ---- the infimum
-below_number : (v : Ext) (level : ℚ) → v ≤ₑ Fin level → (x : ℚ) × (v ≡ Fin x)
-below_number Inf level h = absurd h
-below_number (Fin x) level h = (x, refl)
 
 -- it is at most the value at the time itself
 pub infimum_finite : (f c : SpecCurve) → IsFinite (value_at f) → RunsFrom f c → IsFinite (value_at c)
 infimum_finite f c finite h t low =
     let found = finite t low in
-    below_number (value_at c t) found.0 (subst (λ (v : Ext). value_at c t ≤ₑ v) found.1 ((h t low).below record { at = t; least = le_refl t }))
+    finite_below (value_at c t) found.0 (subst (λ (v : Ext). value_at c t ≤ₑ v) found.1 ((h t low).below record { at = t; least = le_refl t }))

@@ -10,6 +10,8 @@ use Rattle.affine_segment.specs.Pieces.{Each, RisesFrom, StartsAtZero}
 use Rattle.affine_segment.proofs.PieceIn.{piece_in_end, piece_in_go, piece_in_stop}
 use Rattle.curve_window.proofs.Surgery.{one_more}
 use Rattle.curve_running.specs.Runs.{IsFrontBefore}
+use Rattle.affine_segment.proofs.PieceOrder.{heads_same, nil_not_cons, each_left, rises_left}
+use Rattle.upp_curve.proofs.Bends.{bend_front}
 
 -- ---- the loop
 pub record FrontLoop (ps : List Piece) (end : ℚ) (i : ℕ) (front : List Piece) : Type 0 where
@@ -35,19 +37,13 @@ front_step ps end i front p L h e early = record {
   whole = one_more front p (drop (i + 1) ps) ∙ ap (λ z. front ++ z) (sym (next_piece p ps i h e)) ∙ L.whole;
 }
 
-head_of : (p q : Piece) (ps qs : List Piece) → p ∷ ps ≡ q ∷ qs → p ≡ q
-head_of p q ps qs e = cc
-
-none_of : (p : Piece) (ps : List Piece) → [] ≡ p ∷ ps → ⊥
-none_of p ps e = cc
-
 pub front_stop : (ps : List Piece) (end : ℚ) (i : ℕ) (front : List Piece) (p : Piece) → FrontLoop ps end i front → i < length ps → p ≡ get_or ps i p → end ≤ℚ p.x
     → IsFrontBefore ps end front
 front_stop ps end i front p L h e late = record {
   before = L.before;
   rest = drop i ps;
   whole = L.whole;
-  late = λ q more k. subst (λ z. end ≤ℚ z.x) (head_of p q (drop (i + 1) ps) more (sym (next_piece p ps i h e) ∙ k)) late;
+  late = λ q more k. subst (λ z. end ≤ℚ z.x) (heads_same p q (drop (i + 1) ps) more (sym (next_piece p ps i h e) ∙ k)) late;
 }
 
 pub front_all : (ps : List Piece) (end : ℚ) (i : ℕ) (front : List Piece) → FrontLoop ps end i front → length ps ≤ i → IsFrontBefore ps end front
@@ -55,25 +51,18 @@ front_all ps end i front L done = record {
   before = L.before;
   rest = drop i ps;
   whole = L.whole;
-  late = λ q more k. absurd (none_of q more (sym (drop_of_length-le ps done) ∙ k));
+  late = λ q more k. absurd (nil_not_cons q more (sym (drop_of_length-le ps done) ∙ k));
 }
 
 -- ---- what a front keeps
-front_each : (P : Piece → Type 0) (xs ys : List Piece) → Each P (xs ++ ys) → Each P xs
-front_each P [] ys h = tt
-front_each P (x ∷ xs) ys h = (h.0, front_each P xs ys h.1)
 
 pub kept_each : (P : Piece → Type 0) (ps : List Piece) (end : ℚ) (front : List Piece) → IsFrontBefore ps end front → Each P ps → Each P front
-kept_each P ps end front F h = front_each P front F.rest (subst (Each P) (sym F.whole) h)
-
-front_rises : (x : ℚ) (xs ys : List Piece) → RisesFrom x (xs ++ ys) → RisesFrom x xs
-front_rises x [] ys h = tt
-front_rises x (q ∷ qs) ys h = (h.0, front_rises q.x qs ys h.1)
+kept_each P ps end front F h = each_left P front F.rest (subst (Each P) (sym F.whole) h)
 
 front_starts : (xs ys : List Piece) (end : ℚ) → int (pos 0) <ℚ end → ((p : Piece) (more : List Piece) → ys ≡ p ∷ more → end ≤ℚ p.x) → StartsAtZero (xs ++ ys) → StartsAtZero xs
 front_starts [] [] end some late h = absurd h
 front_starts [] (y ∷ ys) end some late h = absurd (lt_irrefl end (le_lt_trans (subst (λ z. end ≤ℚ z) h.0 (late y ys refl)) some))
-front_starts (x ∷ xs) ys end some late h = (h.0, front_rises x.x xs ys h.1)
+front_starts (x ∷ xs) ys end some late h = (h.0, rises_left x.x xs ys h.1)
 
 pub kept_starts : (ps : List Piece) (end : ℚ) (front : List Piece) → IsFrontBefore ps end front → int (pos 0) <ℚ end → StartsAtZero ps → StartsAtZero front
 kept_starts ps end front F some h = front_starts front F.rest end some F.late (subst StartsAtZero (sym F.whole) h)
@@ -95,13 +84,9 @@ front_reads (x ∷ xs) ys end t late s h = ap (λ z. piece_value z t) (found x x
 pub kept_reads : (ps : List Piece) (end : ℚ) (front : List Piece) (t : ℚ) → IsFrontBefore ps end front → StartsAtZero front → t <ℚ end → read front t ≡ read ps t
 kept_reads ps end front t F s h = sym (front_reads front F.rest end t F.late s h) ∙ ap (λ z. read z t) F.whole
 
-front_after : (rises : Bool) (T S D : ℕ) (p : Piece) (xs ys : List Piece) → BendAfter rises T S D p (xs ++ ys) → BendAfter rises T S D p xs
-front_after rises T S D p [] ys h = tt
-front_after rises T S D p (x ∷ xs) ys h = (h.0, h.1, front_after rises T S D x xs ys h.2)
-
 front_bends : (rises : Bool) (T S D : ℕ) (xs ys : List Piece) → OnlyBend rises T S D (xs ++ ys) → OnlyBend rises T S D xs
 front_bends rises T S D [] ys h = tt
-front_bends rises T S D (x ∷ xs) ys h = (h.0, front_after rises T S D x xs ys h.1)
+front_bends rises T S D (x ∷ xs) ys h = (h.0, bend_front rises T S D x xs ys h.1)
 
 pub kept_bends : (rises : Bool) (T S D : ℕ) (ps : List Piece) (end : ℚ) (front : List Piece) → IsFrontBefore ps end front → OnlyBend rises T S D ps → OnlyBend rises T S D front
 kept_bends rises T S D ps end front F h = front_bends rises T S D front F.rest (subst (OnlyBend rises T S D) (sym F.whole) h)

@@ -20,7 +20,8 @@ use Rattle.curve_running.specs.Made.{IsMadeOf, IsMade, TurnsAfter, IsInfimumScan
 use Rattle.curve_running.proofs.Suprema.{IsLineOn}
 use Rattle.curve_running.proofs.Infima.{IsLate, late_start, late_line, late_value, late_end}
 use Rattle.curve_running.proofs.Building.{BuiltBack, back_more}
-use Rattle.curve_running.proofs.Makings.{lesser_level, bent_made, bent_turns, each_join, turns_join}
+use Rattle.curve_running.proofs.Makings.{lesser_level, bent_made, bent_turns, turns_join}
+use Rattle.affine_segment.proofs.PieceOrder.{each_append}
 use Rattle.curve_running.proofs.SupremumLoop.{first_start}
 
 -- w is the limit at the end of the last line
@@ -122,7 +123,7 @@ infimum_step ps end i level out more s both deep next b L S f m h d n e =
           (subst (BuiltBack (R ps end) s.from end) (sym turned)
           (bent_built ps (reverse out) end s next level b.line b.turn S.some S.most (subst (λ z. BuiltBack (R ps end) z end (reverse out)) (sym S.to) L.built) at on f));
       count = subst (λ z. length z + 2 * i ≤ 2 * length ps) (sym e) (omega (arith, length-append out (bent_back s.from next b.line b.turn)));
-      made = subst (Each (IsMade end ps)) (sym turned) (each_join (IsMade end ps) (bent s.from next b.line b.turn) (reverse out)
+      made = subst (Each (IsMade end ps)) (sym turned) (each_append (IsMade end ps) (bent s.from next b.line b.turn) (reverse out)
           (bent_made false ps end i level next s b S L.known next_known m) L.made);
       turns = subst (TurnsAfter false ps None) (sym turned) (turns_join false ps None (bent s.from next b.line b.turn) (reverse out)
           (bent_turns false ps end i level next s b S m) L.turns);

@@ -39,7 +39,7 @@ use Rattle.curve_running.proofs.Fronts.{kept_each, kept_starts, kept_reads, kept
 use Rattle.curve_running.proofs.LevelSizes.{scan_room, only_bend}
 use Rattle.curve_running.proofs.RunFacts.{RunFacts, inf_facts, run_pieces, run_reads, run_rise, run_repeats, run_low}
 use Rattle.curve_running.proofs.Shifts.{infimum_repeats, infimum_until}
-use Rattle.curve_running.proofs.SupremumRuns.{grids_nested}
+use Rattle.curve_window.proofs.TailGrids.{grids_nest}
 
 inf_end : (f : SpecCurve) (r : Frame) → IsFrame RunInf f f 0 0 r → r.end ≡ r.start +ℚ int (pos 2) *ℚ r.period
 unfolding window_at
@@ -73,7 +73,7 @@ inf_answer f r to rise ps qs front h e g u S K = record {
   early = F.both;
   rise_whole = rise_whole;
   rise_within = subst (Within (times_largest 8 z)) (sym g) (within_weaken (times_largest 3 z) (times_largest 8 z) (rise_over f r.period) more R.within);
-  grids = bends_on false z.dt z.ds (grid_of z) front r.start r.period rise (grids_nested z) starts record { nonneg = F.low; some = F.some; starts = before }
+  grids = bends_on false z.dt z.ds (grid_of z) front r.start r.period rise (grids_nest z) starts record { nonneg = F.low; some = F.some; starts = before }
       (kept_bends false z.dt z.ds (grid_of z) qs to front K
       (only_bend false z r.end (unroll f r.end) qs F.limited O.each (subst (λ p. Each (IsMade r.end p) qs) u S.scan.made)
       (subst (λ p. TurnsAfter false p None qs) u S.scan.turns)))
@@ -108,7 +108,7 @@ inf_answer f r to rise ps qs front h e g u S K = record {
     more = mul_le_mul_right (int (pos z.largest)) (nat_nonneg z.largest) (nat_le 3 8 (omega arith))
 
 -- ---- the value
-same_until : (f g : ℚ → Ext) (end t : ℚ) (v : Ext) → ((s : ℚ) → t ≤ℚ s → s <ℚ end → f s ≡ g s) → IsInfimumUntil g end t v → IsInfimumUntil f end t v
+pub same_until : (f g : ℚ → Ext) (end t : ℚ) (v : Ext) → ((s : ℚ) → t ≤ℚ s → s <ℚ end → f s ≡ g s) → IsInfimumUntil g end t v → IsInfimumUntil f end t v
 same_until f g end t v same h =
     same_infimum {I = Until t end} {J = Until t end} (λ s. g s.at) (λ s. f s.at) v (λ s. (s, same_le_ext (same s.at s.least s.early)))
     (λ s. (s, same_le_ext (sym (same s.at s.least s.early)))) h

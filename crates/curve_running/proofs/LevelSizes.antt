@@ -23,7 +23,7 @@ use Rattle.upp_curve.specs.Sized.{grid_of, times_largest, IsSlope, AreSizes}
 use Rattle.upp_curve.specs.Operand.{AreLimited, OperandLine, OperandLineAt, OperandPiece, OperandPieces, answer_room}
 use Rattle.upp_curve.specs.Room.{top, LineHasRoom, PieceHasRoom, TimeHasRoom}
 use Rattle.upp_curve.proofs.NarrowSizes.{grid_pos}
-use Rattle.upp_curve.proofs.AnswerRoom.{tight, AnswerLine, line_in_room, operand_line_room, operand_line_fits, OperandValue, OperandValueAt, stands_operand_value, operand_line_value, values_fit, operand_value_room, operand_lines_fit, halves_apart, IsCrossing, crossing_from, crossing_room, room_at_start}
+use Rattle.upp_curve.proofs.AnswerRoom.{tight, AnswerLine, line_in_room, operand_line_room, operand_line_fits, OperandValue, OperandValueAt, stands_operand_value, operand_line_value, values_fit, operand_value_room, operand_lines_fit, halves_apart, IsCrossing, crossing_from, crossing_room, room_at_start, many_more, more_largest}
 use Rattle.curve_running.specs.Scans.{start_or, flat, IsLevel, HasLine, MeetingFits, ScanFits}
 use Rattle.curve_running.specs.Made.{IsMeeting, IsMade, TurnsAfter, IsScan}
 
@@ -45,14 +45,8 @@ zero_line z end S = record {
       (subst (λ y. int (pos 0) ≤ℚ y) (sym (int_mul (pos 2) (pos z.largest))) (nat_nonneg (2 * z.largest)));
 }
 
-more : (z : Sizes) (k j : ℕ) → k ≤ j → times_largest k z ≤ℚ times_largest j z
-more z k j h = mul_le_mul_right (int (pos z.largest)) (nat_nonneg z.largest) (nat_le k j h)
-
-pub added : (z : Sizes) (k j : ℕ) → times_largest k z +ℚ times_largest j z ≡ times_largest (k + j) z
-added z k j = sym (add_mul (int (pos k)) (int (pos j)) (int (pos z.largest))) ∙ ap (λ x. x *ℚ int (pos z.largest)) (int_add (pos k) (pos j))
-
 icept_value : (z : Sizes) (l : Line) → OperandLine z l → OperandValue z l.icept
-icept_value z l L = record { whole = L.icept; within = within_weaken (times_largest 2 z) (times_largest 3 z) l.icept (more z 2 3 (omega arith)) L.within }
+icept_value z l L = record { whole = L.icept; within = within_weaken (times_largest 2 z) (times_largest 3 z) l.icept (more_largest z 2 3 (omega arith)) L.within }
 
 -- the level less the line's value at 0
 record Apart (z : Sizes) (up down : ℚ) : Type 0 where
@@ -66,7 +60,7 @@ level_apart z end v l A L V =
     let zero = zero_slope z end A.sizes in
     record {
       up_whole = whole_sub (grid_of z) v l.icept V.whole L.icept;
-      up_within = subst (λ m. Within m (v -ℚ l.icept)) (added z 3 2) (within_sub (times_largest 3 z) (times_largest 2 z) v l.icept V.within L.within);
+      up_within = subst (λ m. Within m (v -ℚ l.icept)) (many_more z 3 2) (within_sub (times_largest 3 z) (times_largest 2 z) v l.icept V.within L.within);
       down_whole = whole_sub z.ds l.slope (int (pos 0)) L.slope.whole zero.whole;
       down_within = halves_apart (int (pos z.steepness)) l.slope (int (pos 0)) L.slope.within zero.within;
     }
@@ -86,7 +80,7 @@ level_small z end up down A h a =
     (whole_weaken z.ds d down (dvd-mul_left z.ds (z.dv * z.dt)) a.down_whole)
     a.up_within a.down_within
 
-not_flat : (s : ℚ) → int (pos 0) <ℚ s → s -ℚ int (pos 0) ≢ int (pos 0)
+pub not_flat : (s : ℚ) → int (pos 0) <ℚ s → s -ℚ int (pos 0) ≢ int (pos 0)
 not_flat s h e = lt_irrefl (int (pos 0)) (subst (λ x. int (pos 0) <ℚ x) (with1 s (λ c. omega (arith, c.le, c.lt, c.same))) h)
 
 -- where a line that rises comes to a level no step is too wide
@@ -211,7 +205,7 @@ pub scan_room : (rises : Bool) (z : Sizes) (end : ℚ) (ps qs : List Piece) → 
     → Each (PieceHasRoom (answer_room z end) 1) qs
 scan_room rises z end ps qs A O s = each_room z end ps qs A O.each (all_low qs s.starts) s.made
 
-some_none : {l : Line} → Some l ≡ None → ⊥
+pub some_none : {l : Line} → Some l ≡ None → ⊥
 some_none e = cc
 
 -- ---- each start is on the grid of times, or all turns go one way

@@ -14,6 +14,7 @@ use Rattle.curve_running.specs.declared.bend.Bend.{Bend}
 use Rattle.curve_running.specs.Scans.{flat, IsLevel, HasLine, IsStretch}
 use Rattle.curve_running.specs.Bends.{bent}
 use Rattle.curve_running.specs.Made.{IsOneOf, IsTurn, IsMadeOf, IsMade, TurnsAfter}
+use Rattle.affine_segment.proofs.PieceOrder.{each_append}
 
 -- the greater and the lesser of two levels are levels
 pub greater_level : (end : ℚ) (ps : List Piece) (v w : ℚ) → IsLevel end ps v → IsLevel end ps w → IsLevel end ps (max_q v w)
@@ -34,7 +35,7 @@ one_of ps end level s v h r l (inl e) = subst (IsLevel end ps) (sym e) h
 one_of ps end level s v h r l (inr (inl e)) = subst (IsLevel end ps) (sym e) r
 one_of ps end level s v h r l (inr (inr e)) = subst (IsLevel end ps) (sym e) l
 
-abbrev LineIsMade : ℚ → List Piece → Option Line → Type 0
+abbrev pub LineIsMade : ℚ → List Piece → Option Line → Type 0
 LineIsMade end ps line = ((l : Line) × (line ≡ Some l) × HasLine l ps) ⊎ ((v : ℚ) × (line ≡ Some (flat v)) × IsLevel end ps v)
 
 first_line : (ps : List Piece) (end : ℚ) (i : ℕ) (level : ℚ) (s : Stretch) (l : Line) → IsStretch ps end i s → IsLevel end ps level
@@ -60,10 +61,6 @@ turn_made ps end i level s q S h t = record {
   line = turn_line ps end i level s q.line S h t.line;
   start = inr (level, s.line, h, S.line, t.meets);
 }
-
-pub each_join : (P : Piece → Type 0) (xs ys : List Piece) → Each P xs → Each P ys → Each P (xs ++ ys)
-each_join P [] ys h k = k
-each_join P (x ∷ xs) ys h k = (h.0, each_join P xs ys h.1 k)
 
 pub bent_made : (rises : Bool) (ps : List Piece) (end : ℚ) (i : ℕ) (level v : ℚ) (s : Stretch) (b : Bend) → IsStretch ps end i s → IsLevel end ps level → IsLevel end ps v
     → IsMadeOf rises level s b

@@ -15,6 +15,7 @@ use Rattle.upp_curve.specs.Shapes.{IsFinitePiece}
 use Rattle.affine_segment.proofs.PieceIn.{value_past, value_at_start}
 use Rattle.curve_window.proofs.Surgery.{BeforeNext, read_middle, rest_rises, start_nonneg, before_own}
 use Rattle.curve_running.specs.Scans.{start_or, IsWindow, ScanFits, IsLevel, HasLine, IsStretch}
+use Rattle.affine_segment.proofs.PieceOrder.{each_mid, has_mid}
 
 -- the list falls into what comes before the i-th piece, that piece, and what comes after it
 pub record Parts (ps : List Piece) (i : ℕ) (p : Piece) : Type 0 where
@@ -37,9 +38,6 @@ parts ps i p h e =
     }
 
 -- ---- facts of the piece in the middle
-each_middle : (P : Piece → Type 0) (bs : List Piece) (p : Piece) (rest : List Piece) → Each P (bs ++ p ∷ rest) → P p
-each_middle P [] p rest h = h.0
-each_middle P (b ∷ bs) p rest h = each_middle P bs p rest h.1
 
 each_after : (P : Piece → Type 0) (bs : List Piece) (p : Piece) (rest : List Piece) → Each P (bs ++ p ∷ rest) → Each P rest
 each_after P [] p rest h = h.1
@@ -60,10 +58,6 @@ line_to end (q ∷ qs) l h = h
 pub has_line : (l : Line) (bs : List Piece) (p : Piece) (rest : List Piece) → p.line ≡ Some l → HasLine l (bs ++ p ∷ rest)
 has_line l [] p rest e = inl e
 has_line l (b ∷ bs) p rest e = inr (has_line l bs p rest e)
-
-pub has_start : (bs : List Piece) (p : Piece) (rest : List Piece) → HasStart p.x (bs ++ p ∷ rest)
-has_start [] p rest = inl refl
-has_start (b ∷ bs) p rest = inr (has_start bs p rest)
 
 pub level_at : (end : ℚ) (bs : List Piece) (p : Piece) (rest : List Piece) (v : ℚ) → p.at ≡ Fin v → IsLevel end (bs ++ p ∷ rest) v
 level_at end [] p rest v e = inl e
@@ -92,7 +86,7 @@ before_next end t (q ∷ qs) h = h
 
 pub finite_at : (ps : List Piece) (i : ℕ) (p : Piece) (end : ℚ) → IsWindow end ps → i < length ps → p ≡ get_or ps i p → IsFinitePiece p
 finite_at ps i p end W h e =
-    let a = parts ps i p h e in each_middle IsFinitePiece a.before p a.after (subst (Each IsFinitePiece) (sym a.whole) W.finite)
+    let a = parts ps i p h e in each_mid IsFinitePiece a.before p a.after (subst (Each IsFinitePiece) (sym a.whole) W.finite)
 
 fits_at : (ps : List Piece) (i : ℕ) (p : Piece) (end : ℚ) → ScanFits end ps → (a : Parts ps i p) → PieceFits (Some end) p a.after
 fits_at ps i p end F a = fits_middle (Some end) a.before p a.after (subst (EachFits (Some end)) (sym a.whole) F.lines)
@@ -125,7 +119,7 @@ stretch_is ps i p end v to right left l W h e at line is r q m n = record {
   left = q;
   right_fits = m;
   left_fits = n;
-  start = subst (HasStart p.x) a.whole (has_start a.before p a.after);
+  start = subst (HasStart p.x) a.whole (has_mid a.before p a.after);
   line = subst (HasLine l) a.whole (has_line l a.before p a.after line);
   at_level = subst (λ z. IsLevel end z v) a.whole (level_at end a.before p a.after v at);
   right_level = subst (λ z. IsLevel end z right) a.whole (level_right end a.before p a.after right (ap (λ z. line_value z p.x) line ∙ ap Fin (sym r)));
@@ -146,7 +140,7 @@ stretch_is ps i p end v to right left l W h e at line is r q m n = record {
     early = subst (Each (λ z. z.x <ℚ end)) (sym a.whole) W.before
 
     soon : p.x <ℚ end
-    soon = each_middle (λ z. z.x <ℚ end) a.before p a.after early
+    soon = each_mid (λ z. z.x <ℚ end) a.before p a.after early
 
     rises : RisesFrom p.x a.after
     rises = rest_rises a.before p a.after starts

@@ -46,6 +46,7 @@ use Rattle.curve_running.specs.Scans.{IsWindow, ScanFits}
 use Rattle.curve_running.specs.Periods.{IsSupremumCall}
 use Rattle.curve_running.proofs.Covers.{no_fall}
 use Rattle.curve_running.proofs.LevelSizes.{scan_fits}
+use Rattle.affine_segment.proofs.PieceIn.{read_is}
 
 pub record RunFacts (f : SpecCurve) (start period end : ℚ) (z : Sizes) : Type 0 where
   pub curve : IsCurve f
@@ -163,10 +164,6 @@ run_pieces f start period end z F = operand_pieces z end f F.curve F.limited (en
 
 pub run_reads : (f : SpecCurve) (start period end : ℚ) (z : Sizes) → RunFacts f start period end z → (t : ℚ) → zero_q ≤ℚ t → t <ℚ end → read (unroll f end) t ≡ value_at f t
 run_reads f start period end z F t low early = unroll_reads f end t F.curve.normal low early
-
-read_is : (p : Piece) (ps : List Piece) (t : ℚ) → read (p ∷ ps) t ≡ piece_value (piece_in p ps t) t
-unfolding read
-read_is p ps t = refl
 
 each_finite : (end : ℚ) (ps : List Piece) → StartsAtZero ps → Each (λ p. p.x <ℚ end) ps → ((t : ℚ) → zero_q ≤ℚ t → t <ℚ end → IsNumber (read ps t)) → Each IsFinitePiece ps
 each_finite end [] s b h = absurd s

@@ -16,7 +16,7 @@ use Rattle.min_plus.proofs.Rates.{enough}
 use Rattle.upp_curve.proofs.Repeats.{repeats_times}
 use Rattle.curve_running.specs.Scans.{Until, IsInfimumUntil, IsSupremumIn}
 
-raised : (v : Ext) (c : ℚ) → zero_q ≤ℚ c → v ≤ₑ v +ₑ Fin c
+pub raised : (v : Ext) (c : ℚ) → zero_q ≤ℚ c → v ≤ₑ v +ₑ Fin c
 raised Inf c h = tt
 raised (Fin v) c h = with2 v c (λ k. omega (arith, k.le, k.lt, k.same))
 

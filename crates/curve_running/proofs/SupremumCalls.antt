@@ -44,7 +44,8 @@ use Rattle.curve_frame.proofs.CurveRises.{IsRise, rise_is, own_whole}
 use Rattle.curve_running.specs.Scans.{IsWindow, IsSupremumIn, Until}
 use Rattle.curve_running.specs.Between.{FitsAtBoth, IsLevelBetween}
 use Rattle.curve_running.specs.Periods.{CoverFits, IsFirstPeriod, IsCovering, IsSupremumCall, IsCoveredAfter}
-use Rattle.curve_running.proofs.LevelSizes.{EachOperand, added, level_value, line_operand, scan_fits}
+use Rattle.curve_running.proofs.LevelSizes.{EachOperand, level_value, line_operand, scan_fits}
+use Rattle.upp_curve.proofs.AnswerRoom.{many_more}
 use Rattle.curve_running.proofs.Covers.{no_fall, least_by_cover, covered_by_cover, least_flat, least_from_zero}
 
 -- sizes hold a shorter window
@@ -213,7 +214,7 @@ cover_fits z end v w rise A V W whole within rises = record {
   gap = (values_fit z end v w A V W).1;
   number = quotient_on_grid (grid_of z) (times_largest 6 z) (times_largest 3 z) (v -ℚ w) rise (grid_pos z end A.sizes) (not_zero rise rises) (room 6 (omega arith))
       (room 3 (omega arith))
-      (whole_sub (grid_of z) v w V.whole W.whole) whole (subst (λ m. Within m (v -ℚ w)) (added z 3 3)
+      (whole_sub (grid_of z) v w V.whole W.whole) whole (subst (λ m. Within m (v -ℚ w)) (many_more z 3 3)
       (within_sub (times_largest 3 z) (times_largest 3 z) v w V.within W.within)) within;
 }
   where

@@ -19,7 +19,8 @@ use Rattle.curve_running.specs.Bends.{risen, Follows, bent}
 use Rattle.curve_running.specs.Made.{IsMadeOf, IsMade, TurnsAfter, IsSupremumScan}
 use Rattle.curve_running.proofs.Suprema.{IsEarly, IsUpTo, early_start, upto_value, upto_line, early_line}
 use Rattle.curve_running.proofs.Building.{Built, built_none, built_more, built_whole}
-use Rattle.curve_running.proofs.Makings.{greater_level, bent_made, bent_turns, each_join, turns_join}
+use Rattle.curve_running.proofs.Makings.{greater_level, bent_made, bent_turns, turns_join}
+use Rattle.affine_segment.proofs.PieceOrder.{each_append, zero_some}
 
 -- the pieces before the i-th are scanned: `level` is the supremum before its start
 pub record SupremumLoop (ps : List Piece) (end : ℚ) (i : ℕ) (level : ℚ) (out : List Piece) : Type 0 where
@@ -33,10 +34,6 @@ pub record SupremumLoop (ps : List Piece) (end : ℚ) (i : ℕ) (level : ℚ) (o
 pub first_start : (end : ℚ) (ps : List Piece) → StartsAtZero ps → start_or end ps ≡ int (pos 0)
 first_start end [] h = absurd h
 first_start end (p ∷ ps) h = h.0
-
-pub some_pieces : (ps : List Piece) → StartsAtZero ps → 0 < length ps
-some_pieces [] h = absurd h
-some_pieces (p ∷ ps) h = omega arith
 
 pub supremum_start : (ps : List Piece) (end : ℚ) (s : Stretch) → IsWindow end ps → IsStretch ps end 0 s → SupremumLoop ps end 0 s.at []
 supremum_start ps end s W S =
@@ -91,7 +88,7 @@ supremum_step ps end i level out more s top high next b L S t f m e h n =
       built = subst (λ z. Built (R ps) z more) S.to
           (subst (Built (R ps) s.to) (sym e) (bent_built ps out s top b.line b.turn S.some (subst (λ z. Built (R ps) z out) (sym S.from) L.built) at on f));
       count = subst (λ z. length z ≤ 2 * (i + 1)) (sym e) (omega (arith, length-append out (bent s.from top b.line b.turn)));
-      made = subst (Each (IsMade end ps)) (sym e) (each_join (IsMade end ps) out (bent s.from top b.line b.turn) L.made
+      made = subst (Each (IsMade end ps)) (sym e) (each_append (IsMade end ps) out (bent s.from top b.line b.turn) L.made
           (bent_made true ps end i top top s b S top_known top_known m));
       turns = subst (TurnsAfter true ps None) (sym e) (turns_join true ps None out (bent s.from top b.line b.turn) L.turns (bent_turns true ps end i top top s b S m));
     }

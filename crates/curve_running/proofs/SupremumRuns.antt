@@ -41,6 +41,7 @@ use Rattle.curve_running.specs.Runs.{RunsUpTo, IsNumberOf}
 use Rattle.curve_running.proofs.LevelSizes.{scan_room, only_bend}
 use Rattle.curve_running.proofs.RunFacts.{RunFacts, sup_facts, run_pieces, run_reads, run_rise, run_repeats, run_low}
 use Rattle.curve_running.proofs.Shifts.{supremum_repeats, supremum_from_start, supremum_constant}
+use Rattle.curve_window.proofs.TailGrids.{grids_nest}
 
 -- ---- the window: k periods, and two more
 pub two_more : (start d : ℚ) (k : ℕ) → periods_after start (k + 2) d ≡ periods_after start k d +ℚ d +ℚ d
@@ -66,12 +67,6 @@ later_start start d k some =
     let far = int (pos k) *ℚ d in
     let up : zero_q ≤ℚ far = subst (λ x. x ≤ℚ far) (zero_mul d) (mul_le_mul_right d (le_of_lt some) (nat_nonneg k)) in
     with2 start far (λ c. omega (arith, c.le, c.lt, c.same))
-
-pub grids_nested : (z : Sizes) → z.dt * z.ds ∣ grid_of z
-grids_nested z = subst (λ n. z.dt * z.ds ∣ n) (regroup z.dv z.dt z.ds) (dvd-mul_right (z.dt * z.ds) z.dv)
-  where
-    regroup : (v t s : ℕ) → t * s * v ≡ v * t * s
-    regroup v t s = omega arith
 
 pub record SupAnswer (f : SpecCurve) (k : ℕ) (r : Frame) (from : ℚ) : Type 0 where
   pub late : from ≡ periods_after r.start k r.period +ℚ r.period
@@ -115,7 +110,7 @@ sup_answer f k r from rise ps qs h e g u S = record {
   early = subst (λ x. x ≤ℚ r.end) (sym A.ends) (le_refl r.end);
   rise_whole = rise_whole;
   rise_within = subst (Within (times_largest 8 z)) (sym g) (within_weaken (times_largest 3 z) (times_largest 8 z) (rise_over f r.period) more R.within);
-  grids = bends_on true z.dt z.ds (grid_of z) qs from r.period rise (grids_nested z) S.scan.starts record { nonneg = A.low; some = F.some; starts = before }
+  grids = bends_on true z.dt z.ds (grid_of z) qs from r.period rise (grids_nest z) S.scan.starts record { nonneg = A.low; some = F.some; starts = before }
       (only_bend true z r.end (unroll f r.end) qs F.limited O.each (subst (λ p. Each (IsMade r.end p) qs) u S.scan.made)
       (subst (λ p. TurnsAfter true p None qs) u S.scan.turns)) from_whole F.period_whole rise_whole;
 }

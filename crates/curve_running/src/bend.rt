@@ -7,9 +7,9 @@ ghost use Rattle.curve_running.specs.Scans.{flat, MeetingFits};
 ghost use Rattle.curve_running.specs.Bends.{risen, sunk, Follows, bent, bent_back};
 ghost use Rattle.curve_running.specs.Made.{IsMeeting, IsMadeOf};
 
-use crate::stretch::{Stretch, greater, lesser};
+use crate::stretch::Stretch;
 use affine_segment::{Line, Piece, cross};
-use fraction128::Frac;
+use fraction128::{Frac, greater, lesser};
 use rational::Extended;
 use std::alloc::AllocError;
 use std::cmp::Ordering;

@@ -8,9 +8,9 @@ ghost use Rattle.affine_segment.specs.Reading.{read};
 ghost use Rattle.curve_running.specs.Scans.{start_or, IsWindow, ScanFits, IsSupremumIn};
 ghost use Rattle.curve_running.specs.Between.{FitsAtBoth, IsLevelBetween, IsHighestIn};
 
-use crate::stretch::{fitting_value, greater, lesser, stretch_at};
-use affine_segment::Piece;
-use fraction128::Frac;
+use crate::stretch::stretch_at;
+use affine_segment::{Piece, line_at};
+use fraction128::{Frac, greater, lesser};
 use std::cmp::Ordering;
 
 // What the i-th piece has between two times: 0 where it has none of them.
@@ -28,8 +28,8 @@ fn highest_in(ps: &[Piece], i: usize, end: Frac, from: Frac, to: Frac) -> Frac
     let high = lesser(s.to, to);
     match low.cmp(&high) {
         Ordering::Less => {
-            let first = fitting_value(&s.line, low);
-            let last = fitting_value(&s.line, high);
+            let first = line_at(&s.line, low);
+            let last = line_at(&s.line, high);
             match from.cmp(&s.from) {
                 Ordering::Greater => greater(first, last),
                 _ => greater(s.at, greater(first, last)),

@@ -5,9 +5,9 @@ ghost use Rattle.curve_running.specs.Scans.{IsWindow, ScanFits};
 ghost use Rattle.curve_running.specs.Made.{IsInfimumScan};
 
 use crate::bend::{lowest, push_back};
-use crate::stretch::{lesser, stretch_at};
+use crate::stretch::stretch_at;
 use affine_segment::Piece;
-use fraction128::Frac;
+use fraction128::{Frac, lesser};
 use std::alloc::{AllocError, Global};
 
 /// The infimum of a window over the times from each time on that are before `end`. A limit that is not taken counts.

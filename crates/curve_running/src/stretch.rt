@@ -1,17 +1,15 @@
 //! One finite piece of a window, with its end.
 
 ghost use Rattle.std.specs.Prelude.{◌≡◌, ◌<◌, length, drop, Some};
-ghost use Rattle.rational.specs.MinMax.{min_q, max_q};
 ghost use Rattle.rational.specs.declared.Extended.TheVariants.{Fin};
 ghost use Rattle.affine_segment.specs.Values.{line_at};
 ghost use Rattle.affine_segment.specs.Fits.{LineFits};
 ghost use Rattle.upp_curve.specs.Shapes.{IsNumber, IsLine};
 ghost use Rattle.curve_running.specs.Scans.{start_or, IsWindow, ScanFits, IsStretch};
 
-use affine_segment::{Line, Piece, value};
+use affine_segment::{Line, Piece, line_at};
 use fraction128::{Ext, Frac};
 use rational::Extended;
-use std::cmp::Ordering;
 
 /// A piece with a number at its start and a line after it, the time at which it ends, and the limits of the line:
 /// the right one at its start, the left one at its end.
@@ -23,37 +21,6 @@ pub(crate) struct Stretch {
     pub(crate) to: Frac,
     pub(crate) right: Frac,
     pub(crate) left: Frac,
-}
-
-/// The greater of two.
-pub(crate) fn greater(a: Frac, b: Frac) -> Frac
-    ensures { result ≡ max_q a b }
-{
-    match a.cmp(&b) {
-        Ordering::Greater => a,
-        _ => b,
-    }
-}
-
-/// The lesser of two.
-pub(crate) fn lesser(a: Frac, b: Frac) -> Frac
-    ensures { result ≡ min_q a b }
-{
-    match a.cmp(&b) {
-        Ordering::Greater => b,
-        _ => a,
-    }
-}
-
-/// The value of a line, where its steps fit.
-pub(crate) fn fitting_value(line: &Line, t: Frac) -> Frac
-    requires { LineFits t line.now }
-    ensures { result ≡ line_at line.now t }
-{
-    match value(line, t) {
-        Ok(v) => v,
-        Err(_) => t,
-    }
 }
 
 fn number_of(v: &Ext) -> Frac
@@ -104,7 +71,7 @@ pub(crate) fn stretch_at(ps: &[Piece], i: usize, end: Frac) -> Stretch
         at: number_of(&p.at),
         line,
         to,
-        right: fitting_value(&line, p.x),
-        left: fitting_value(&line, to),
+        right: line_at(&line, p.x),
+        left: line_at(&line, to),
     }
 }

@@ -5,9 +5,9 @@ ghost use Rattle.curve_running.specs.Scans.{IsWindow, ScanFits};
 ghost use Rattle.curve_running.specs.Made.{IsSupremumScan};
 
 use crate::bend::{highest, push_bent};
-use crate::stretch::{greater, stretch_at};
+use crate::stretch::stretch_at;
 use affine_segment::Piece;
-use fraction128::Frac;
+use fraction128::{Frac, greater};
 use std::alloc::{AllocError, Global};
 
 /// The supremum of a window over the times up to each time before `end`. A limit that is not taken counts.

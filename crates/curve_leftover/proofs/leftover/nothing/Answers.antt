@@ -1,4 +1,5 @@
-use Rattle.curve_leftover.proofs.Nothing.{nothing_is, nothing_curve, nothing_value, zero_small}
+use Rattle.curve_leftover.proofs.Nothing.{nothing_is, nothing_curve, nothing_value}
+use Rattle.upp_curve.proofs.ReadableKinds.{zero_small}
 use Rattle.curve_leftover.proofs.leftover.nothing.Goals as goal
 
 pub from_normal-requires : goal.from_normal-requires

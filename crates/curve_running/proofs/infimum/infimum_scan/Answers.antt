@@ -1,11 +1,12 @@
 use Rattle.std.proofs.Common.{◌≡◌, ◌<◌, ◌+◌, ◌-◌, arith, length, subst}
-use Rattle.curve_running.proofs.SupremumLoop.{some_pieces, window_end}
+use Rattle.curve_running.proofs.SupremumLoop.{window_end}
+use Rattle.affine_segment.proofs.PieceOrder.{zero_some}
 use Rattle.curve_running.proofs.InfimumLoop.{InfimumLoop, infimum_start, infimum_next, infimum_end}
 use Rattle.curve_running.proofs.infimum.infimum_scan.Goals as goal
 
 pub loop-i-init : goal.loop-i-init
 loop-i-init c =
-    let some : 0 < length c.args.ps.now = some_pieces c.args.ps.now c.requires.window.starts in
+    let some : 0 < length c.args.ps.now = zero_some c.args.ps.now c.requires.window.starts in
     let last : length c.args.ps.now - 1 + 1 ≡ length c.args.ps.now = omega arith in
     rw c.new-out.ensures.items (infimum_start c.args.ps.now c.args.end (length c.args.ps.now - 1) c.stretch_at-level.result last c.stretch_at-level.ensures)
 
