@@ -18,22 +18,7 @@ import tempfile
 import time
 from fractions import Fraction
 
-CRATES = {
-    "rational": "",
-    "fraction128": "rational itoa",
-    "steps": "",
-    "affine_segment": "rational fraction128",
-    "upp_curve": "rational fraction128 affine_segment",
-    "curve_window": "rational fraction128 affine_segment upp_curve",
-    "curve_frame": "rational fraction128 affine_segment upp_curve",
-    "curve_least": "rational fraction128 affine_segment upp_curve",
-    "curve_lattice": "rational fraction128 affine_segment upp_curve curve_window curve_frame curve_least steps",
-    "curve_running": "rational fraction128 affine_segment upp_curve curve_window curve_frame steps",
-    "curve_leftover": "rational fraction128 affine_segment upp_curve curve_library curve_window curve_frame"
-    " curve_least curve_lattice curve_running steps",
-    "curve_library": "rational fraction128 affine_segment upp_curve",
-    "curve_envelope": "rational fraction128 affine_segment upp_curve curve_window curve_frame curve_lattice"
-    " curve_running curve_leftover steps",
+BENCH = {
     "bench_curves": "rational fraction128 affine_segment upp_curve",
     "bench": "fraction128 upp_curve steps curve_envelope bench_curves",
 }
@@ -265,14 +250,31 @@ def least(f, g):
 PYTHON = {"sum": summed, "min": least}
 
 
+def below(top, wanted):
+    """The repository's crates by name, with their dependencies: the wanted ones and all below them."""
+    lines = {}
+    with open(os.path.join(top, "crates.txt"), encoding="utf-8") as file:
+        for line in file:
+            name, colon, deps = line.partition("#")[0].partition(":")
+            if colon:
+                lines[name.split()[0]] = deps.split()
+    found, left = {}, list(wanted)
+    while left:
+        name = left.pop()
+        if name in lines and name not in found:
+            found[name] = lines[name]
+            left += lines[name]
+    return found
+
+
 def built(thousands):
     """The lines that the proved program prints."""
     top = os.path.dirname(os.path.dirname(os.path.abspath(__file__)))
     folder = tempfile.mkdtemp(prefix="operators_bench_")
     try:
-        for name in CRATES:
-            if not name.startswith("bench"):
-                shutil.copytree(os.path.join(top, "crates", name), os.path.join(folder, "crates", name))
+        crates = below(top, " ".join(BENCH.values()).split())
+        for name in crates:
+            shutil.copytree(os.path.join(top, "crates", name), os.path.join(folder, "crates", name))
         program = PROGRAM
         for n in reversed(SIZES):
             program = program.replace(f"TIMES_{n}", str(max(thousands * 1_000 // n, 1)))
@@ -280,7 +282,8 @@ def built(thousands):
             "crates/bench_curves/src/lib.rt": LIBRARY,
             "crates/bench/src/main.rt": program,
             "crates/bench/proofs/repeated/Invariants.antt": INVARIANTS,
-            "crates.txt": "".join(f"{name}: {needs}\n" for name, needs in CRATES.items()),
+            "crates.txt": "".join(f"{name}: {' '.join(needs)}\n" for name, needs in crates.items())
+            + "".join(f"{name}: {needs}\n" for name, needs in BENCH.items()),
             "HANDLES": "Handles allowed: none.\n",
         }
         for path, text in written.items():

@@ -23,7 +23,7 @@ use Rattle.net_cells.specs.NumberSums.{Sums}
 use Rattle.net_cells.specs.Answers.{Answers, MakesNumber}
 use Rattle.net_cells.proofs.Lists.{Has, map_has, range_has}
 use Rattle.net_cells.proofs.Stored.{few_hops}
-use Rattle.curve_making.specs.Calls.{goes_on, stops}
+use Rattle.curve_call.specs.Calls.{goes_on, stops}
 use Rattle.cell_table.specs.Values.{answer_of}
 use Rattle.cell_nodes.specs.TableValues.{IsNumberAt}
 use Rattle.number_sums.specs.declared.numbers.Added.{Added}

@@ -10,8 +10,8 @@ use Rattle.upp_curve.specs.Curve.{SpecCurve, value_at}
 use Rattle.upp_curve.specs.declared.op_kind.OpKind.TheVariants.{PosMinus, Deconvolve, Vertical}
 use Rattle.min_plus.specs.Functions.{IsFinite}
 use Rattle.upp_curve.specs.Outcome.{KeepsLimits}
-use Rattle.curve_making.specs.Again.{IsAgain}
-use Rattle.curve_making.specs.Calls.{Applies, AppliesTo, Then, goes_on, stops}
+use Rattle.curve_call.specs.Again.{IsAgain}
+use Rattle.curve_call.specs.Calls.{Applies, AppliesTo, Then, goes_on, stops}
 use Rattle.priority_residual.specs.Calls.{MakesPriority}
 use Rattle.priority_residual.proofs.PriorityCalls.{above_finite}
 use Rattle.drr_residual.specs.Calls.{MakesDrr}

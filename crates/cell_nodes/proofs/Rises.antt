@@ -15,10 +15,10 @@ use Rattle.min_plus.specs.Functions.{zero_q, UpTo, FiniteTime, IsRising}
 use Rattle.min_plus.specs.Pointwise.{excess, shifted}
 use Rattle.run_laws.specs.Cards.{whole}
 use Rattle.run_laws.proofs.Sizes.{whole_nonneg}
-use Rattle.curve_making.specs.Answers.{IsMadeBy}
-use Rattle.curve_making.specs.Growth.{GrowsFromZero}
-use Rattle.curve_making.proofs.Excesses.{finite_excess, excess_nonneg, excess_mono, excess_most}
-use Rattle.curve_making.proofs.FiniteAnswers.{supremum_finite}
+use Rattle.curve_call.specs.Answers.{IsMadeBy}
+use Rattle.curve_call.specs.Growth.{GrowsFromZero}
+use Rattle.curve_call.proofs.Excesses.{finite_excess, excess_nonneg, excess_mono, excess_most}
+use Rattle.curve_call.proofs.FiniteAnswers.{supremum_finite}
 use Rattle.priority_residual.specs.Laws.{IsPriorityService, priority_left}
 use Rattle.cell_nodes.specs.Shapes.{IsServed}
 

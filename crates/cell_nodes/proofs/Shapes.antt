@@ -19,8 +19,8 @@ use Rattle.min_plus.proofs.DeviationSigns.{horizontals_are_nonnegative}
 use Rattle.run_laws.specs.Cards.{whole}
 use Rattle.run_laws.specs.Servers.{Discipline, Fifo, Priority, Drr, queue_count}
 use Rattle.run_laws.proofs.Sizes.{whole_nonneg}
-use Rattle.curve_making.specs.Answers.{IsMadeBy}
-use Rattle.curve_making.proofs.GrowingAnswers.{grown, growing_answers}
+use Rattle.curve_call.specs.Answers.{IsMadeBy}
+use Rattle.curve_call.proofs.GrowingAnswers.{grown, growing_answers}
 use Rattle.fifo_residual.proofs.FifoGrowth as fifo
 use Rattle.drr_residual.proofs.DrrGrowth as drr
 use Rattle.net_model.specs.Networks.{Net, NetServer, NetFlow}

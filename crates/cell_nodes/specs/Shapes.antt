@@ -4,7 +4,7 @@ use Rattle.rational.specs.Extended.{Ext, ◌≤ₑ◌}
 use Rattle.rational.specs.declared.Extended.TheVariants.{Fin}
 use Rattle.upp_curve.specs.Curve.{SpecCurve, value_at}
 use Rattle.min_plus.specs.Functions.{zero_q, IsFinite, IsRising, IsNonnegative}
-use Rattle.curve_making.specs.Growth.{GrowsFromZero}
+use Rattle.curve_call.specs.Growth.{GrowsFromZero}
 
 -- finite, rising, and nowhere below 0; it need not be 0 at 0
 pub record IsServed (f : ℚ → Ext) : Type 0 where

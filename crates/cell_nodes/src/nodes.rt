@@ -5,7 +5,7 @@ ghost use Rattle.upp_curve.specs.declared.op_kind.OpKind.TheVariants.{Min, PosMi
 ghost use Rattle.upp_curve.specs.Curve.{value_at};
 ghost use Rattle.min_plus.specs.Functions.{IsFinite};
 ghost use Rattle.run_laws.specs.Cards.{whole};
-ghost use Rattle.curve_making.specs.Calls.{AppliesTo};
+ghost use Rattle.curve_call.specs.Calls.{AppliesTo};
 ghost use Rattle.net_cells.specs.Meanings.{number};
 ghost use Rattle.net_cells.specs.Formulas.{value_of, made, moved, leftover, horizontal, vertical};
 ghost use Rattle.net_cells.specs.CellFormulas.{less};
@@ -17,10 +17,10 @@ ghost use Rattle.cell_nodes.specs.TableValues.{HasCurve, HasNumber, IsCurveAt, D
 use crate::reading::{curve_at, number_at};
 use crate::sharing::shared;
 use cell_table::{Table, Value};
+use curve_call::seen;
 use curve_deconv::deconvolve;
 use curve_deviation::{horizontal, vertical};
 use curve_envelope::{min, shift};
-use curve_making::seen;
 use fifo_residual::fifo_service;
 use fraction128::{Ext, Frac};
 use net_cells::Cell;

@@ -1,6 +1,6 @@
 //! Curves that are shared.
 
-ghost use Rattle.curve_making.specs.Again.{IsAgain};
+ghost use Rattle.curve_call.specs.Again.{IsAgain};
 ghost use Rattle.net_cells.specs.Formulas.{value_of};
 ghost use Rattle.cell_table.specs.Gives.{Gives};
 ghost use Rattle.cell_table.specs.Values.{answer_of, meaning_of};

@@ -6,7 +6,7 @@ use Rattle.upp_curve.specs.declared.op_kind.OpKind.TheVariants.{PosMinus, Convol
 use Rattle.upp_curve.specs.declared.op_kind.OpFault.{OpFault}
 use Rattle.upp_curve.specs.Curve.{SpecCurve}
 use Rattle.run_laws.specs.Cards.{whole}
-use Rattle.curve_making.specs.Calls.{Applies, AppliesTo, goes_on, stops}
+use Rattle.curve_call.specs.Calls.{Applies, AppliesTo, goes_on, stops}
 use Rattle.net_model.specs.Networks.{Net}
 use Rattle.net_cells.specs.declared.cell.Cell.{Cell}
 use Rattle.net_cells.specs.declared.cell.Kind.TheVariants.{Residual}

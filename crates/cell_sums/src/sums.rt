@@ -2,7 +2,7 @@
 
 ghost use Rattle.std.specs.Prelude.{◌≡◌, ◌<◌, ℕ, List, [], ◌∷◌, length, map, Some, IfOk};
 ghost use Rattle.std.specs.List.{range_with_len};
-ghost use Rattle.curve_making.specs.Again.{IsAgain};
+ghost use Rattle.curve_call.specs.Again.{IsAgain};
 ghost use Rattle.net_cells.specs.declared.cell.Cell.{Cell};
 ghost use Rattle.net_cells.specs.declared.cell.Kind.TheVariants.{In, Total};
 ghost use Rattle.net_cells.specs.Numbered.{zero_curve};
@@ -19,9 +19,9 @@ ghost use Rattle.cell_nodes.specs.TableValues.{IsCurveAt};
 use crate::places::{Pick, chosen_at};
 use cell_nodes::{again, curve_at, shared};
 use cell_table::{Table, Value};
+use curve_call::seen;
 use curve_envelope::sum;
 use curve_library::bucket;
-use curve_making::seen;
 use fraction128::Frac;
 use net_cells::{Cell, Kind};
 use net_model::Network;

@@ -11,8 +11,8 @@ use Rattle.upp_curve.specs.Curve.{SpecCurve, value_at}
 use Rattle.min_plus.specs.Functions.{zero_q, IsFinite, IsNonnegative}
 use Rattle.upp_curve.specs.Normal.{IsNormal}
 use Rattle.min_plus.specs.Convolution.{IsSubadditiveClosure}
-use Rattle.curve_making.specs.Answers.{IsMadeBy}
-use Rattle.curve_making.specs.Calls.{Applies, Then, goes_on, stops}
+use Rattle.curve_call.specs.Answers.{IsMadeBy}
+use Rattle.curve_call.specs.Calls.{Applies, Then, goes_on, stops}
 use Rattle.closure_laws.specs.Star.{IsStar, AreStars, origin, least_of}
 use Rattle.closure_laws.proofs.StarSums.{star_of_closure, stars_of_values}
 use Rattle.closure_laws.proofs.CopiedParts.{closure_of_copies}

@@ -11,9 +11,9 @@ use Rattle.upp_curve.specs.declared.op_kind.OpFault.TheVariants.{TooMany, TooWid
 use Rattle.upp_curve.specs.Curve.{SpecCurve, value_at}
 use Rattle.min_plus.specs.Functions.{zero_q}
 use Rattle.upp_curve.proofs.OneForm.{normal_unique}
-use Rattle.curve_making.specs.Calls.{Applies, Then}
-use Rattle.curve_making.specs.Determined.{IsDetermined}
-use Rattle.curve_making.proofs.InTurn.{applies_determined, then_determined}
+use Rattle.curve_call.specs.Calls.{Applies, Then}
+use Rattle.curve_call.specs.Determined.{IsDetermined}
+use Rattle.curve_call.proofs.InTurn.{applies_determined, then_determined}
 use Rattle.closure_elements.specs.ElementAnswers.{IsElementClosure}
 use Rattle.closure_fold.specs.CurveParts.{parts_of}
 use Rattle.closure_fold.specs.declared.part.Copies.{Copies}

@@ -5,7 +5,7 @@ use Rattle.upp_curve.specs.Curve.{SpecCurve, value_at}
 use Rattle.min_plus.specs.Functions.{zero_q, IsFinite, IsNonnegative}
 use Rattle.upp_curve.specs.Normal.{IsNormal}
 use Rattle.min_plus.specs.Convolution.{IsSubadditiveClosure}
-use Rattle.curve_making.specs.Determined.{IsDetermined}
+use Rattle.curve_call.specs.Determined.{IsDetermined}
 use Rattle.closure_laws.specs.Star.{AreStars}
 use Rattle.closure_fold.specs.CurveParts.{part_value}
 use Rattle.closure_fold.specs.declared.part.Part.{Part}

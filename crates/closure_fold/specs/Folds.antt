@@ -15,7 +15,7 @@ use Rattle.upp_curve.specs.Curve.{SpecCurve, value_at}
 use Rattle.upp_curve.specs.Curves.{IsCurve}
 use Rattle.min_plus.specs.Functions.{zero_q}
 use Rattle.upp_curve.specs.Limits.{own_gauge}
-use Rattle.curve_making.specs.Calls.{Applies, Then}
+use Rattle.curve_call.specs.Calls.{Applies, Then}
 use Rattle.closure_elements.specs.ElementAnswers.{IsElementClosure}
 use Rattle.closure_elements.specs.Lattices.{lattice_curve, origin_curve}
 use Rattle.closure_fold.specs.CurveParts.{parts_of}

@@ -35,8 +35,8 @@ use Rattle.upp_curve.proofs.Repeats.{repeated_first, repeated_rule}
 use Rattle.curve_conv.specs.SumWindows.{SumValueAt}
 use Rattle.curve_conv.proofs.SumRoom.{pieces_room}
 use Rattle.curve_conv.proofs.SumSteps.{sum_read}
-use Rattle.curve_frame.specs.declared.frame.Frame.{Frame}
-use Rattle.curve_making.specs.Calls.{IsApplied}
+use Rattle.curve_call.specs.declared.frame.Frame.{Frame}
+use Rattle.curve_call.specs.Calls.{IsApplied}
 use Rattle.upp_curve.proofs.UnrollSteps.{ext_cases}
 use Rattle.closure_fold.specs.Starting.{first_at, started_at, KeepsTail, IsStartedAt}
 use Rattle.closure_fold.proofs.Starts.{repeated_past, repeated_zero, repeats_on}

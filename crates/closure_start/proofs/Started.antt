@@ -18,12 +18,12 @@ use Rattle.upp_curve.specs.Steady.{rate, rise_over}
 use Rattle.upp_curve.proofs.AnswerRoom.{more_largest}
 use Rattle.affine_segment.proofs.PieceOrder.{each_map}
 use Rattle.curve_window.proofs.TailGrids.{TailOf}
-use Rattle.curve_frame.specs.declared.frame.Frame.{Frame}
-use Rattle.curve_frame.specs.Answering.{IsAnswer}
-use Rattle.curve_frame.proofs.CurveRises.{IsRise}
+use Rattle.curve_call.specs.declared.frame.Frame.{Frame}
+use Rattle.curve_call.specs.Answering.{IsAnswerWindow}
+use Rattle.curve_call.proofs.CurveRises.{IsRise}
 use Rattle.curve_lattice.specs.Lattice.{RisesBy}
 use Rattle.curve_lattice.proofs.LatticeCalls.{from_whole, left_rise, right_rise}
-use Rattle.curve_lattice.proofs.TailMoves.{rates_compared, not_both, not_same}
+use Rattle.curve_call.proofs.TailMoves.{rates_compared, not_both, not_same}
 use Rattle.curve_conv.specs.SumWindows.{SumValueAt, SumPiece, SumWindow}
 use Rattle.curve_conv.specs.Arches.{Arches}
 use Rattle.curve_conv.proofs.SumRoom.{pieces_room}
@@ -93,7 +93,7 @@ rise_room f g r rise F R = by (slower_or_not (rate g) (rate f))
 -- ---- the answer
 pub started_answer : (f g : SpecCurve) (r : Frame) (ps : List Piece) (from rise : ℚ) (v : Ext)
     (C : IsConvolved f g r ps from rise)
-    → SumValueAt C.frame.sizes zero_q v → IsAnswer (first_at v ps) from r.period rise r.times r.values
+    → SumValueAt C.frame.sizes zero_q v → IsAnswerWindow (first_at v ps) from r.period rise r.times r.values
 started_answer f g r ps from rise v C V =
     let F = C.frame in
     let L = F.call in

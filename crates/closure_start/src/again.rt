@@ -12,8 +12,8 @@ ghost use Rattle.curve_convolution.specs.ConvolveCall.{IsConvolveFrame};
 ghost use Rattle.curve_lattice.specs.Lattice.{RisesBy};
 
 use affine_segment::Piece;
+use curve_call::{Frame, first_window, rise_over, within};
 use curve_conv::window_convolution;
-use curve_frame::{Frame, first_window, rise_over, within};
 use curve_parts::{is_slower_curve, late_periods};
 use fraction128::{Frac, difference};
 use std::alloc::{AllocError, Global};

@@ -6,15 +6,14 @@ ghost use Rattle.upp_curve.specs.Curve.{value_at};
 ghost use Rattle.min_plus.specs.Functions.{IsNonnegative, zero_q};
 ghost use Rattle.upp_curve.specs.declared.op_kind.OpKind.TheVariants.{Convolve};
 ghost use Rattle.curve_convolution.specs.ConvolveCall.{IsConvolveFrame};
-ghost use Rattle.curve_making.specs.Calls.{Applies, Then};
+ghost use Rattle.curve_call.specs.Calls.{Applies, Then};
 ghost use Rattle.closure_start.specs.StartsAt.{ConvolvesFinitely, ConvolvesPastZero, StartsAt};
 
 use crate::again::{frame_of, slower_rise, window_of};
 use crate::parts::{repeats_start, with_first};
 use closure_fold::with_start;
+use curve_call::{Frame, answer, seen};
 use curve_convolution::convolve;
-use curve_frame::{Frame, answer};
-use curve_making::seen;
 use fraction128::{Frac, difference};
 use rational::Extended;
 use std::alloc::{AllocError, Global};

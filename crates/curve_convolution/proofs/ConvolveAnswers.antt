@@ -24,12 +24,12 @@ use Rattle.upp_curve.proofs.AnswerRoom.{more_largest}
 use Rattle.upp_curve.proofs.Below.{unroll_reads}
 use Rattle.affine_segment.proofs.PieceOrder.{each_map}
 use Rattle.curve_window.proofs.TailGrids.{TailOf}
-use Rattle.curve_frame.specs.declared.frame.Frame.{Frame}
-use Rattle.curve_frame.specs.Answering.{IsAnswer}
-use Rattle.curve_frame.proofs.CurveRises.{IsRise}
+use Rattle.curve_call.specs.declared.frame.Frame.{Frame}
+use Rattle.curve_call.specs.Answering.{IsAnswerWindow}
+use Rattle.curve_call.proofs.CurveRises.{IsRise}
 use Rattle.curve_lattice.specs.Lattice.{RisesBy}
 use Rattle.curve_lattice.proofs.LatticeCalls.{operands, from_is, from_late, from_whole, left_rise, right_rise, some_end}
-use Rattle.curve_lattice.proofs.TailMoves.{rates_compared, not_both, not_same}
+use Rattle.curve_call.proofs.TailMoves.{rates_compared, not_both, not_same}
 use Rattle.curve_conv.specs.ConvolutionWindows.{OperandWindows, IsConvolutionWindow}
 use Rattle.curve_conv.specs.SumWindows.{SumPiece}
 use Rattle.curve_conv.proofs.Windows.{agreeing}
@@ -71,7 +71,7 @@ ends_at : (e p from : ℚ) → from ≡ e -ℚ p → from +ℚ p ≡ e
 ends_at e p from h = with3 e p from (λ c. omega (arith, c.le, c.lt, c.same))
 
 pub convolved_answer : (f g : SpecCurve) (r : Frame) (ls rs ps : List Piece) (from rise : ℚ) → IsConvolveFrame f g r → ls ≡ unroll f r.end → rs ≡ unroll g r.end → IsConvolutionWindow ls rs r.end ps
-    → from ≡ r.end -ℚ r.period → RisesBy (rate g <ₑ rate f) (rise_over g r.period) (rise_over f r.period) rise → IsAnswer ps from r.period rise r.times r.values
+    → from ≡ r.end -ℚ r.period → RisesBy (rate g <ₑ rate f) (rise_over g r.period) (rise_over f r.period) rise → IsAnswerWindow ps from r.period rise r.times r.values
 unfolding windows
 convolved_answer f g r ls rs ps from rise F el er M ef R =
     let L = F.call in

@@ -24,19 +24,19 @@ use Rattle.upp_curve.specs.Operand.{AreLimited}
 use Rattle.upp_curve.specs.Ahead.{HasWindow}
 use Rattle.upp_curve.proofs.CurveStands.{are_sizes}
 use Rattle.upp_curve.proofs.Stands.{sizes_stand}
-use Rattle.curve_frame.specs.declared.frame.Frame.{Frame}
-use Rattle.curve_frame.specs.declared.windows.CallWindow.{CallWindow}
-use Rattle.curve_frame.specs.Frames.{IsFrame, IsRefusedAt, sizes_at}
-use Rattle.curve_frame.proofs.CallTimes.{first_stands, second_stands, IsCall, start_on, period_on, window_is}
-use Rattle.curve_frame.proofs.CallFits.{call_early}
-use Rattle.curve_frame.proofs.CurveRises.{common_first, common_second}
-use Rattle.curve_frame.proofs.CurveTimes.{steady_nonneg}
-use Rattle.curve_frame.proofs.FirstGate.{first_gate, gauge_grows}
-use Rattle.curve_frame.proofs.Limited.{refused_cause, frame_within, convolve_least, many_at_least}
+use Rattle.curve_call.specs.declared.frame.Frame.{Frame}
+use Rattle.curve_call.specs.declared.windows.CallWindow.{CallWindow}
+use Rattle.curve_call.specs.Frames.{IsFrame, IsRefusedAt, sizes_at}
+use Rattle.curve_call.proofs.CallTimes.{first_stands, second_stands, IsCall, start_on, period_on, window_is}
+use Rattle.curve_call.proofs.CallFits.{call_early}
+use Rattle.curve_call.proofs.CurveRises.{common_first, common_second}
+use Rattle.curve_call.proofs.CurveTimes.{steady_nonneg}
+use Rattle.curve_call.proofs.FirstGate.{first_gate, gauge_grows}
+use Rattle.curve_call.proofs.Limited.{refused_cause, frame_within, convolve_least, many_at_least}
 use Rattle.curve_least.proofs.Rises.{has_window}
 use Rattle.curve_least.proofs.Shifts.{same_least}
 use Rattle.curve_lattice.specs.LatticeCall.{LatticeCall}
-use Rattle.curve_frame.specs.FirstWindows.{IsFirstWindow, IsWideAtFirst}
+use Rattle.curve_call.specs.FirstWindows.{IsFirstWindow, IsWideAtFirst}
 use Rattle.curve_lattice.proofs.LatticeCalls.{at_times, from_is, from_fits}
 use Rattle.curve_parts.specs.Scans.{sizes_in}
 use Rattle.curve_parts.specs.Late.{IsSlowerLate, IsSlowerAfter, IsSlowerNumber, IsSlowerMost, IsPartsCall}

@@ -5,7 +5,7 @@ use Rattle.upp_curve.specs.Curve.{SpecCurve}
 use Rattle.upp_curve.specs.Limits.{Sizes}
 use Rattle.upp_curve.specs.Sized.{grid_of}
 use Rattle.upp_curve.specs.Steady.{steady}
-use Rattle.curve_frame.specs.declared.frame.Frame.{Frame}
+use Rattle.curve_call.specs.declared.frame.Frame.{Frame}
 use Rattle.curve_lattice.specs.LatticeCall.{LatticeCall}
 use Rattle.curve_parts.specs.Late.{IsSlowerLate}
 

@@ -11,13 +11,13 @@ ghost use Rattle.upp_curve.specs.Curves.{IsCurve};
 ghost use Rattle.upp_curve.specs.Gauges.{IsTooMany};
 ghost use Rattle.upp_curve.specs.Outcome.{KeepsLimits};
 ghost use Rattle.upp_curve.specs.declared.op_kind.OpKind.TheVariants.{Convolve};
-ghost use Rattle.curve_frame.specs.FirstWindows.{IsFirstWindow};
-ghost use Rattle.curve_frame.specs.Rises.{CurveRiseFits};
+ghost use Rattle.curve_call.specs.FirstWindows.{IsFirstWindow};
+ghost use Rattle.curve_call.specs.Rises.{CurveRiseFits};
 ghost use Rattle.curve_lattice.specs.Lattice.{RisesBy};
 ghost use Rattle.curve_convolution.specs.ConvolveCall.{IsConvolveFrame};
 
+use curve_call::{CallWindow, Frame, answer, first_window, rise_over, within};
 use curve_conv::window_convolution;
-use curve_frame::{CallWindow, Frame, answer, first_window, rise_over, within};
 use curve_parts::{is_slower_curve, late_periods, most_periods};
 use fraction128::Frac;
 use std::alloc::{AllocError, Global};

@@ -40,16 +40,16 @@ use Rattle.affine_segment.proofs.PieceOrder.{each_map}
 use Rattle.upp_curve.proofs.Steady.{steady_rule}
 use Rattle.upp_curve.proofs.UnrolledPieces.{PieceStands, pieces_stand, unroll_each}
 use Rattle.curve_window.proofs.TailGrids.{TailOf}
-use Rattle.curve_frame.specs.declared.frame.Frame.{Frame}
-use Rattle.curve_frame.specs.Answering.{IsAnswer}
-use Rattle.curve_frame.specs.Frames.{IsFrame, sizes_at}
-use Rattle.curve_frame.specs.Times.{OneLaterFits}
-use Rattle.curve_frame.proofs.Answering.{answer_relation}
-use Rattle.curve_frame.proofs.CallTimes.{first_stands, second_stands}
-use Rattle.curve_frame.proofs.CurveTimes.{IsPeriod, one_later, own_or_on, steady_nonneg, steady_whole}
-use Rattle.curve_frame.proofs.CurveRises.{IsRise, rise_is, common_first, common_second}
-use Rattle.curve_frame.proofs.FrameFacts.{frame_facts}
-use Rattle.curve_frame.proofs.Operands.{unrolled_pieces}
+use Rattle.curve_call.specs.declared.frame.Frame.{Frame}
+use Rattle.curve_call.specs.Answering.{IsAnswerWindow}
+use Rattle.curve_call.specs.Frames.{IsFrame, sizes_at}
+use Rattle.curve_call.specs.Times.{OneLaterFits}
+use Rattle.curve_call.proofs.Answering.{answer_relation}
+use Rattle.curve_call.proofs.CallTimes.{first_stands, second_stands}
+use Rattle.curve_call.proofs.CurveTimes.{IsPeriod, one_later, own_or_on, steady_nonneg, steady_whole}
+use Rattle.curve_call.proofs.CurveRises.{IsRise, rise_is, common_first, common_second}
+use Rattle.curve_call.proofs.FrameFacts.{frame_facts}
+use Rattle.curve_call.proofs.Operands.{unrolled_pieces}
 use Rattle.curve_deconv.specs.DeconvolutionWindows.{OperandWindows, IsDeconvolutionWindow, IsReached}
 use Rattle.curve_deconv.proofs.MirroredRoom.{back_fits}
 use Rattle.curve_deconv.proofs.Reduced.{AreRepeating, reduced, moves}
@@ -217,7 +217,7 @@ ends_by : (e s p reach : ℚ) → reach ≡ (e -ℚ s) -ℚ p → s +ℚ reach +
 ends_by e s p reach h = with4 e s p reach (λ c. omega (arith, c.le, c.lt, c.same))
 
 pub deconvolve_answer : (f g : SpecCurve) (r : Frame) (z : Sizes) (ls rs ps : List Piece) → DeconvolveCall f g r z → IsFinite (value_at g) → ls ≡ unroll f r.end → rs ≡ unroll g r.end
-    → IsDeconvolutionWindow r.end (reach_of f g r) ls rs ps → IsAnswer ps (steady f) (answer_period f g) (rise_over f (answer_period f g)) r.times r.values
+    → IsDeconvolutionWindow r.end (reach_of f g r) ls rs ps → IsAnswerWindow ps (steady f) (answer_period f g) (rise_over f (answer_period f g)) r.times r.values
 unfolding windows
 deconvolve_answer f g r z ls rs ps h finite el er D =
     let W = windows f g r z ls rs h finite el er in
@@ -262,12 +262,12 @@ deconvolve_answer f g r z ls rs ps h finite el er D =
 -- under the names of the code
 pub deconvolve_answer_by : (f g : SpecCurve) (r : Frame) (z : Sizes) (ls rs ps : List Piece) (from period reach rise : ℚ) → DeconvolveCall f g r z → IsFinite (value_at g) → ls ≡ unroll f r.end
     → rs ≡ unroll g r.end → from ≡ steady f → period ≡ answer_period f g → reach ≡ reach_of f g r → rise ≡ rise_over f period → IsDeconvolutionWindow r.end reach ls rs ps
-    → IsAnswer ps from period rise r.times r.values
+    → IsAnswerWindow ps from period rise r.times r.values
 deconvolve_answer_by f g r z ls rs ps from period reach rise h finite el er ef ep ex ec D =
     let rise_is : rise ≡ rise_over f (answer_period f g) = ec ∙ ap (rise_over f) ep in
-    subst (λ y. IsAnswer ps y period rise r.times r.values) (sym ef)
-    (subst (λ y. IsAnswer ps (steady f) y rise r.times r.values) (sym ep)
-    (subst (λ y. IsAnswer ps (steady f) (answer_period f g) y r.times r.values) (sym rise_is)
+    subst (λ y. IsAnswerWindow ps y period rise r.times r.values) (sym ef)
+    (subst (λ y. IsAnswerWindow ps (steady f) y rise r.times r.values) (sym ep)
+    (subst (λ y. IsAnswerWindow ps (steady f) (answer_period f g) y r.times r.values) (sym rise_is)
     (deconvolve_answer f g r z ls rs ps h finite el er (subst (λ y. IsDeconvolutionWindow r.end y ls rs ps) ex D))))
 
 pub windows_by : (f g : SpecCurve) (r : Frame) (z : Sizes) (ls rs : List Piece) (reach : ℚ) → DeconvolveCall f g r z → IsFinite (value_at g) → ls ≡ unroll f r.end → rs ≡ unroll g r.end

@@ -34,8 +34,8 @@ use Rattle.upp_curve.proofs.NormaliseRoomy.{each_in, found_early}
 use Rattle.upp_curve.proofs.Stands.{sizes_stand, stands_left, stands_right}
 use Rattle.upp_curve.proofs.UnrolledPieces.{PieceStands, each_nonneg, each_with, pieces_stand, unroll_each, unroll_starts}
 use Rattle.upp_curve.proofs.PieceLists.{starts_nonneg}
-use Rattle.curve_frame.proofs.CurveTimes.{steady_nonneg}
-use Rattle.curve_frame.proofs.CurveRises.{common_first, common_second}
+use Rattle.curve_call.proofs.CurveTimes.{steady_nonneg}
+use Rattle.curve_call.proofs.CurveRises.{common_first, common_second}
 use Rattle.curve_conv.proofs.Cover.{value_here}
 use Rattle.curve_deconv.specs.DeconvolutionLaws.{IsDeconvolved, DeconvolutionKeeps, DeconvolutionIsFinite}
 use Rattle.curve_deconv.proofs.Reduced.{AreRepeating, early}

@@ -21,7 +21,7 @@ use Rattle.upp_curve.specs.Ahead.{IsGridValue, GridValue}
 use Rattle.upp_curve.specs.Operand.{AreLimited, OperandLine, OperandLineAt, OperandPiece}
 use Rattle.upp_curve.proofs.NarrowSizes.{narrow_gauge}
 use Rattle.upp_curve.proofs.AnswerRoom.{operand_line, operand_line_fits, operand_line_value, stands_operand_value, steep_run, OperandValueAt}
-use Rattle.curve_frame.proofs.CurveTimes.{sum_fits, time_within}
+use Rattle.curve_call.proofs.CurveTimes.{sum_fits, time_within}
 use Rattle.curve_conv.specs.PieceElements.{next_start, elements_of, Among}
 use Rattle.curve_conv.specs.ElementRoom.{OperandElement}
 use Rattle.curve_conv.proofs.Members.{among_cases}

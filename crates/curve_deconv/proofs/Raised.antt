@@ -18,7 +18,7 @@ use Rattle.upp_curve.proofs.NarrowSizes.{narrow_gauge}
 use Rattle.affine_segment.proofs.PieceOrder.{each_map}
 use Rattle.curve_window.specs.Stretches.{CutsFit}
 use Rattle.curve_window.specs.Pointwise.{SumsFit, IsWindowSum}
-use Rattle.curve_frame.proofs.CurveTimes.{sum_fits, time_within}
+use Rattle.curve_call.proofs.CurveTimes.{sum_fits, time_within}
 use Rattle.curve_conv.proofs.Arching.{same_arches}
 use Rattle.curve_conv.proofs.SumSteps.{sum_cuts_fit}
 use Rattle.curve_deconv.specs.declared.marks.Last.{Last}

@@ -19,8 +19,8 @@ use Rattle.upp_curve.specs.Gauges.{both_numbers}
 use Rattle.min_plus.specs.Convolution.{IsDeconvolution}
 use Rattle.upp_curve.proofs.Stands.{sizes_stand, stands_left, stands_right}
 use Rattle.upp_curve.proofs.Steady.{steady_rule}
-use Rattle.curve_frame.proofs.CurveTimes.{both_on, steady_nonneg}
-use Rattle.curve_frame.proofs.CurveRises.{common_first, common_second}
+use Rattle.curve_call.proofs.CurveTimes.{both_on, steady_nonneg}
+use Rattle.curve_call.proofs.CurveRises.{common_first, common_second}
 use Rattle.upp_curve.proofs.UnrollSteps.{ext_cases}
 use Rattle.curve_least.proofs.LeastNumber.{gains}
 use Rattle.curve_least.proofs.Rises.{rate_rise, infinite_value}

@@ -11,12 +11,12 @@ ghost use Rattle.upp_curve.specs.Periods.{period_of, period_or};
 ghost use Rattle.upp_curve.specs.Steady.{rate, steady};
 ghost use Rattle.upp_curve.specs.Outcome.{KeepsLimits};
 ghost use Rattle.upp_curve.specs.declared.op_kind.OpKind.TheVariants.{Deconvolve};
-ghost use Rattle.curve_frame.specs.Frames.{IsFrame};
-ghost use Rattle.curve_frame.specs.Times.{OneLaterFits};
+ghost use Rattle.curve_call.specs.Frames.{IsFrame};
+ghost use Rattle.curve_call.specs.Times.{OneLaterFits};
 
 use crate::window::window_deconvolution;
+use curve_call::{Frame, answer, rise_over, steady_time, within};
 use curve_envelope::infinite_curve;
-use curve_frame::{Frame, answer, rise_over, steady_time, within};
 use curve_least::{Side, is_slower};
 use fraction128::{Frac, difference};
 use std::alloc::{AllocError, Global};

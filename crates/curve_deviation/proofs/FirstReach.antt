@@ -28,9 +28,9 @@ use Rattle.upp_curve.proofs.FirstStretch.{read_in}
 use Rattle.upp_curve.proofs.Below.{unroll_reads}
 use Rattle.upp_curve.proofs.UnrolledPieces.{unroll_starts}
 use Rattle.curve_least.proofs.Shifts.{later_value}
-use Rattle.curve_lag.specs.Rises.{RisesOn}
-use Rattle.curve_lag.proofs.CellLag.{rises, rises_more, later, gets_higher, before_both}
-use Rattle.curve_lag.proofs.RisingParts.{rises_on}
+use Rattle.curve_deviation.specs.Rises.{RisesOn}
+use Rattle.curve_deviation.proofs.CellLag.{rises, rises_more, later, gets_higher, before_both}
+use Rattle.curve_deviation.proofs.RisingParts.{rises_on}
 
 -- x is the first time from t on at which g has reached v, or the limit of such times
 pub record IsReached (g : ℚ → Ext) (v t x : ℚ) : Type 0 where

@@ -18,14 +18,14 @@ use Rattle.upp_curve.specs.Limits.{Sizes, sizes_of}
 use Rattle.upp_curve.specs.Ahead.{IsTimeIn}
 use Rattle.upp_curve.specs.Gauges.{IsKnownAtOnce, numbers_over}
 use Rattle.min_plus.specs.Deviations.{IsHorizontalDeviation}
-use Rattle.curve_frame.specs.declared.frame.Frame.{Frame}
-use Rattle.curve_frame.specs.Frames.{IsFrame, sizes_at}
-use Rattle.curve_frame.proofs.CurveTimes.{steady_nonneg}
+use Rattle.curve_call.specs.declared.frame.Frame.{Frame}
+use Rattle.curve_call.specs.Frames.{IsFrame, sizes_at}
+use Rattle.curve_call.proofs.CurveTimes.{steady_nonneg}
 use Rattle.rational.proofs.Grid.{whole_add, whole_times}
 use Rattle.upp_curve.proofs.UnrollSteps.{ext_cases}
 use Rattle.curve_least.proofs.Rises.{rate_rise, infinite_value}
-use Rattle.curve_lag.specs.Parts.{IsSeen}
-use Rattle.curve_lag.specs.Lags.{IsLongestLag}
+use Rattle.curve_deviation.specs.Parts.{IsSeen}
+use Rattle.curve_deviation.specs.Lags.{IsLongestLag}
 use Rattle.curve_deviation.specs.declared.horizontals.Periods.{Periods}
 use Rattle.curve_deviation.specs.Stages.{AreFinite, settled, AreFound}
 use Rattle.curve_deviation.proofs.KnownLags.{common_above, first_repeats, second_repeats, reaches}

@@ -22,13 +22,13 @@ use Rattle.upp_curve.specs.Outcome.{IsWithin}
 use Rattle.min_plus.specs.Deviations.{IsHorizontalDeviation}
 use Rattle.upp_curve.proofs.Stands.{sizes_stand, stands_left, stands_right}
 use Rattle.upp_curve.proofs.Steady.{steady_rule}
-use Rattle.curve_frame.proofs.CurveTimes.{both_on, steady_nonneg}
-use Rattle.curve_frame.proofs.CurveRises.{common_first, common_second}
+use Rattle.curve_call.proofs.CurveTimes.{both_on, steady_nonneg}
+use Rattle.curve_call.proofs.CurveRises.{common_first, common_second}
 use Rattle.curve_least.specs.Ever.{RepeatsBy}
 use Rattle.curve_least.proofs.Shifts.{later_value}
 use Rattle.curve_least.proofs.LeastNumber.{gains}
 use Rattle.upp_curve.proofs.UnrollSteps.{ext_cases}
-use Rattle.curve_lag.specs.Lags.{LagsBy}
+use Rattle.curve_deviation.specs.Lags.{LagsBy}
 use Rattle.curve_deviation.proofs.AtOnce.{infinite_somewhere, repeats_by}
 use Rattle.curve_deviation.proofs.FirstReach.{reached_or}
 use Rattle.curve_deviation.proofs.Lagging.{ReachesOr, endless_is, never_reached}

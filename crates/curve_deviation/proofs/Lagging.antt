@@ -13,7 +13,7 @@ use Rattle.rational.proofs.ExtendedOrder.{le_ext_trans, le_lt_ext, lt_le_ext, le
 use Rattle.min_plus.specs.Functions.{Time, IsFinite, IsRising}
 use Rattle.min_plus.specs.Deviations.{Lag, IsLag, IsHorizontalDeviation}
 use Rattle.upp_curve.proofs.UnrollSteps.{ext_cases}
-use Rattle.curve_lag.specs.Lags.{IsBehindAt, LagsBy, IsLongestLag}
+use Rattle.curve_deviation.specs.Lags.{IsBehindAt, LagsBy, IsLongestLag}
 use Rattle.curve_deviation.proofs.FirstReach.{IsReached, StaysBelow}
 
 -- ---- the lag at a time

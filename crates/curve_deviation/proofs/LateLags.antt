@@ -14,7 +14,7 @@ use Rattle.min_plus.specs.Functions.{IsFinite, IsRising}
 use Rattle.upp_curve.specs.Steady.{Repeats, steady}
 use Rattle.upp_curve.specs.Windows.{IsConstantFrom}
 use Rattle.curve_least.proofs.Shifts.{later_value}
-use Rattle.curve_lag.specs.Lags.{IsBehindAt, IsLongestLag}
+use Rattle.curve_deviation.specs.Lags.{IsBehindAt, IsLongestLag}
 use Rattle.curve_deviation.proofs.Lagging.{Always}
 
 -- ---- f is constant

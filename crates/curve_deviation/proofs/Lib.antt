@@ -1,3 +1,8 @@
+pub mod CellLag
+pub mod CellSizes
+pub mod EarlyParts
+pub mod RisingParts
+pub mod Walk
 pub mod WholeGap
 pub mod Infinite
 pub mod AtOnce

@@ -32,18 +32,18 @@ use Rattle.upp_curve.specs.Ahead.{IsTimeIn}
 use Rattle.upp_curve.specs.Gauges.{IsKnownAtOnce, gauge_at, IsTooWide}
 use Rattle.upp_curve.specs.Outcome.{IsWithin, IsCauseOf}
 use Rattle.upp_curve.proofs.AnswerRoom.{operand_line_fits}
-use Rattle.curve_frame.specs.declared.frame.Frame.{Frame}
-use Rattle.curve_frame.specs.Frames.{IsFrame, IsRefusedAt, sizes_at}
-use Rattle.curve_frame.specs.Times.{OneLaterFits}
-use Rattle.curve_frame.proofs.CurveTimes.{steady_whole, steady_nonneg, one_later}
-use Rattle.curve_frame.proofs.FirstGate.{gauge_grows}
-use Rattle.curve_frame.proofs.Limited.{least_unique, refused_cause, frame_within}
+use Rattle.curve_call.specs.declared.frame.Frame.{Frame}
+use Rattle.curve_call.specs.Frames.{IsFrame, IsRefusedAt, sizes_at}
+use Rattle.curve_call.specs.Times.{OneLaterFits}
+use Rattle.curve_call.proofs.CurveTimes.{steady_whole, steady_nonneg, one_later}
+use Rattle.curve_call.proofs.FirstGate.{gauge_grows}
+use Rattle.curve_call.proofs.Limited.{least_unique, refused_cause, frame_within}
 use Rattle.curve_least.proofs.Shifts.{later_value}
 use Rattle.upp_curve.proofs.UnrollSteps.{ext_cases}
 use Rattle.curve_least.proofs.Rises.{rate_rise, infinite_value}
 use Rattle.upp_curve.proofs.StretchSizes.{narrow}
-use Rattle.curve_lag.specs.Parts.{IsSeen}
-use Rattle.curve_lag.proofs.EarlyParts.{IsEndless, endless, early_here}
+use Rattle.curve_deviation.specs.Parts.{IsSeen}
+use Rattle.curve_deviation.proofs.EarlyParts.{IsEndless, endless, early_here}
 use Rattle.curve_deviation.specs.declared.horizontals.Periods.{Periods}
 use Rattle.curve_deviation.specs.Stages.{AreFinite, HasLeft, HasReached, settled, IsPast, IsWideCall, IsFirst, AreFound}
 use Rattle.curve_deviation.proofs.KnownLags.{common_above, first_repeats}

@@ -22,12 +22,12 @@ use Rattle.upp_curve.specs.Gauges.{IsKnownAtOnce, both_numbers}
 use Rattle.upp_curve.specs.Outcome.{IsWithin}
 use Rattle.min_plus.specs.Deviations.{IsVerticalDeviation}
 use Rattle.upp_curve.proofs.Stands.{sizes_stand, stands_left, stands_right}
-use Rattle.curve_frame.specs.declared.frame.Frame.{Frame}
-use Rattle.curve_frame.specs.Frames.{IsFrame, IsRefusedAt, sizes_at}
-use Rattle.curve_frame.proofs.CallTimes.{first_stands, second_stands}
-use Rattle.curve_frame.proofs.CurveTimes.{both_on}
-use Rattle.curve_frame.proofs.CurveRises.{common_first, common_second}
-use Rattle.curve_frame.proofs.FrameFacts.{frame_facts}
+use Rattle.curve_call.specs.declared.frame.Frame.{Frame}
+use Rattle.curve_call.specs.Frames.{IsFrame, IsRefusedAt, sizes_at}
+use Rattle.curve_call.proofs.CallTimes.{first_stands, second_stands}
+use Rattle.curve_call.proofs.CurveTimes.{both_on}
+use Rattle.curve_call.proofs.CurveRises.{common_first, common_second}
+use Rattle.curve_call.proofs.FrameFacts.{frame_facts}
 use Rattle.curve_least.specs.Compared.{AreCompared}
 use Rattle.curve_least.specs.Ever.{RepeatsBy}
 use Rattle.curve_least.proofs.Rises.{repeat_low}

@@ -26,11 +26,11 @@ use Rattle.upp_curve.proofs.KnownNumbers.{few_periods}
 use Rattle.upp_curve.proofs.NarrowSizes.{narrow_limit}
 use Rattle.upp_curve.proofs.Stands.{sizes_stand}
 use Rattle.upp_curve.proofs.StretchSizes.{times_fit}
-use Rattle.curve_frame.specs.declared.windows.CallWindow.{CallWindow}
-use Rattle.curve_frame.specs.Frames.{sizes_at}
-use Rattle.curve_frame.proofs.CallTimes.{first_stands, second_stands}
-use Rattle.curve_frame.proofs.CurveTimes.{IsPeriod, both_on, steady_whole, steady_nonneg}
-use Rattle.curve_lag.specs.Parts.{IsSeen}
+use Rattle.curve_call.specs.declared.windows.CallWindow.{CallWindow}
+use Rattle.curve_call.specs.Frames.{sizes_at}
+use Rattle.curve_call.proofs.CallTimes.{first_stands, second_stands}
+use Rattle.curve_call.proofs.CurveTimes.{IsPeriod, both_on, steady_whole, steady_nonneg}
+use Rattle.curve_deviation.specs.Parts.{IsSeen}
 use Rattle.curve_deviation.specs.Stages.{IsNarrowWindow, AreFinite, settled}
 use Rattle.curve_deviation.proofs.KnownLags.{common_above}
 

@@ -1,1 +1,5 @@
+pub mod Cells
+pub mod Parts
+pub mod Rises
+pub mod Lags
 pub mod Stages

@@ -12,8 +12,8 @@ use Rattle.upp_curve.specs.Windows.{IsLeastPeriods, Reaches, Meets as KindMeets}
 use Rattle.upp_curve.specs.Gauges.{gauge_at}
 use Rattle.curve_deviation.specs.declared.horizontals.Periods.{Periods}
 use Rattle.curve_deviation.specs.declared.horizontals.Turn.{Turn}
-use Rattle.curve_frame.specs.declared.windows.CallWindow.{CallWindow}
-use Rattle.curve_frame.specs.CallWindows.{IsWindow}
+use Rattle.curve_call.specs.declared.windows.CallWindow.{CallWindow}
+use Rattle.curve_call.specs.CallWindows.{IsWindow}
 use Rattle.curve_deviation.specs.declared.search.Stage.{Stage}
 use Rattle.curve_deviation.specs.declared.search.Stage.TheVariants.{First, Second}
 

@@ -9,14 +9,14 @@ ghost use Rattle.upp_curve.specs.Limits.{Sizes};
 ghost use Rattle.upp_curve.specs.Gauges.{IsKnownAtOnce, gauge_at};
 ghost use Rattle.min_plus.specs.Deviations.{IsHorizontalDeviation};
 ghost use Rattle.upp_curve.specs.Outcome.{KeepsLimits};
-ghost use Rattle.curve_frame.specs.Frames.{IsFrame};
-ghost use Rattle.curve_lag.specs.Parts.{IsSeen};
+ghost use Rattle.curve_call.specs.Frames.{IsFrame};
+ghost use Rattle.curve_deviation.specs.Parts.{IsSeen};
 ghost use Rattle.curve_deviation.specs.Stages.{AreFinite, IsWideCall, IsFirst, IsTurn, AreFound};
 
 use crate::known::{is_known, is_level};
 use crate::search::{Stage, difference, least_past, narrow_window, value_in};
-use curve_frame::{Frame, within_both};
-use curve_lag::longest_lag;
+use crate::walks::longest_lag;
+use curve_call::{Frame, within_both};
 use fraction128::{Ext, Frac};
 use rational::Extended;
 use std::sync::ledger::Ledger;

@@ -2,12 +2,15 @@
 //! unrolling either curve.
 #![tactic(auto)]
 
+mod cells;
 mod horizontals;
 mod known;
+mod parts;
 mod search;
 #[cfg(test)]
 mod tests;
 mod verticals;
+mod walks;
 
 pub use horizontals::horizontal;
-pub use verticals::{vertical, vertical_within};
+pub use verticals::vertical;

@@ -9,12 +9,12 @@ ghost use Rattle.upp_curve.specs.Curves.{IsCurve};
 ghost use Rattle.upp_curve.specs.Limits.{Sizes};
 ghost use Rattle.upp_curve.specs.Ahead.{IsTimeIn};
 ghost use Rattle.upp_curve.specs.Gauges.{gauge_at};
-ghost use Rattle.curve_lag.specs.Parts.{IsSeen};
+ghost use Rattle.curve_deviation.specs.Parts.{IsSeen};
 ghost use Rattle.curve_deviation.specs.Stages.{IsNarrowWindow, AreFinite, HasLeft, HasReached, Meets, stage_gauge, IsBefore, IsPast};
 
 use crate::known::is_less;
-use curve_frame::{CallWindow, call_window};
-use curve_lag::part_at;
+use crate::parts::part_at;
+use curve_call::{CallWindow, call_window};
 use fraction128::Frac;
 use rational::Extended;
 use upp_curve::{Curve, OpKind, call_numbers};

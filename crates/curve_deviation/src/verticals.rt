@@ -11,10 +11,10 @@ ghost use Rattle.upp_curve.specs.Limits.{Sizes};
 ghost use Rattle.min_plus.specs.Deviations.{IsVerticalDeviation};
 ghost use Rattle.upp_curve.specs.Curves.{IsCurve};
 ghost use Rattle.upp_curve.specs.Outcome.{KeepsLimits};
-ghost use Rattle.curve_frame.specs.Frames.{IsFrame};
+ghost use Rattle.curve_call.specs.Frames.{IsFrame};
 ghost use Rattle.curve_least.specs.Compared.{AreCompared};
 
-use curve_frame::{Frame, within};
+use curve_call::{Frame, within};
 use curve_least::{Gap, Side, is_slower, window_gap};
 use fraction128::{Ext, Frac};
 use rational::Extended;
@@ -34,7 +34,7 @@ fn sum(a: Frac, b: Frac) -> Frac
 /// over all times from 0 on, read off the times below from + period alone. Both repeat from `from` on with the period,
 /// and their numbers below from + period have the sizes z of a gauge below 2^120. No memory is taken and nothing is
 /// unrolled.
-pub fn vertical_within(f: &Curve, g: &Curve, from: Frac, period: Frac) -> Ext
+fn vertical_within(f: &Curve, g: &Curve, from: Frac, period: Frac) -> Ext
     requires window { (z : Sizes) × AreCompared z from period f.now g.now }
     requires first { IsFinite (value_at f.now) }
     requires second { IsFinite (value_at g.now) }

@@ -28,10 +28,10 @@ use Rattle.upp_curve.proofs.CurveStands.{starts_below_own_end}
 use Rattle.upp_curve.proofs.UnrolledPieces.{each_of_spans, each_with, all_read}
 use Rattle.affine_segment.proofs.PieceOrder.{each_map}
 use Rattle.upp_curve.proofs.NormaliseOwn.{EndsBy, Found, limited_found}
-use Rattle.curve_frame.specs.declared.frame.Frame.{Frame}
-use Rattle.curve_frame.specs.Frames.{IsFrame, sizes_at}
-use Rattle.curve_frame.proofs.CurveTimes.{rank_early}
-use Rattle.curve_frame.proofs.FrameFacts.{FrameFacts, frame_facts}
+use Rattle.curve_call.specs.declared.frame.Frame.{Frame}
+use Rattle.curve_call.specs.Frames.{IsFrame, sizes_at}
+use Rattle.curve_call.proofs.CurveTimes.{rank_early}
+use Rattle.curve_call.proofs.FrameFacts.{FrameFacts, frame_facts}
 use Rattle.curve_envelope.proofs.ScaledValues.{curve_scaled, each_start, raw_scaled}
 
 -- ---- what the frame gives

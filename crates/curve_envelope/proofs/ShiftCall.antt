@@ -37,15 +37,15 @@ use Rattle.upp_curve.proofs.Steady.{steady_rule}
 use Rattle.upp_curve.proofs.Below.{unroll_reads}
 use Rattle.upp_curve.proofs.AnswerRoom.{room_at_start, line_in_room, operand_line, operand_line_fits, OperandValueAt, stands_operand_value, operand_line_value, operand_value_room, more_largest}
 use Rattle.curve_window.proofs.OperandWindows.{StartTime, operand_line_in, operand_read}
-use Rattle.curve_frame.specs.declared.frame.Frame.{Frame}
-use Rattle.curve_frame.specs.Frames.{IsFrame, sizes_at}
-use Rattle.curve_frame.specs.Answering.{IsAnswer}
-use Rattle.curve_frame.proofs.CurveTimes.{sum_fits, time_within, steady_nonneg, steady_whole}
-use Rattle.curve_frame.proofs.CallTimes.{first_stands}
-use Rattle.curve_frame.proofs.FrameFacts.{FrameFacts, frame_facts}
-use Rattle.curve_frame.proofs.Operands.{some_end, unrolled_pieces}
-use Rattle.curve_frame.proofs.CurveRises.{IsRise, rise_is, own_whole}
-use Rattle.curve_frame.proofs.Answering.{answer_relation}
+use Rattle.curve_call.specs.declared.frame.Frame.{Frame}
+use Rattle.curve_call.specs.Frames.{IsFrame, sizes_at}
+use Rattle.curve_call.specs.Answering.{IsAnswerWindow}
+use Rattle.curve_call.proofs.CurveTimes.{sum_fits, time_within, steady_nonneg, steady_whole}
+use Rattle.curve_call.proofs.CallTimes.{first_stands}
+use Rattle.curve_call.proofs.FrameFacts.{FrameFacts, frame_facts}
+use Rattle.curve_call.proofs.Operands.{some_end, unrolled_pieces}
+use Rattle.curve_call.proofs.CurveRises.{IsRise, rise_is, own_whole}
+use Rattle.curve_call.proofs.Answering.{answer_relation}
 use Rattle.curve_envelope.specs.Shifting.{left_line, left_piece, moved_left, LeftFits}
 use Rattle.curve_envelope.proofs.LeftWindow.{left_reads, left_starts, each_past, each_moved}
 
@@ -163,7 +163,7 @@ left_rooms x f r z p ps h P =
 
 -- ---- the answer
 shift_at : (x : ℚ) (f : SpecCurve) (r : Frame) (z : Sizes) (p : Piece) (ps ws : List Piece) → ShiftCall x f r z → OperandPieces z r.end (p ∷ ps) → ws ≡ moved_left x p ps
-    → IsAnswer ws (steady f) r.period (rise_over f r.period) r.times r.values
+    → IsAnswerWindow ws (steady f) r.period (rise_over f r.period) r.times r.values
 shift_at x f r z p ps ws h P e =
     let facts = h.facts in
     let s = steady f in
@@ -207,11 +207,11 @@ abbrev pub IsLeftOf : ℚ → List Piece → List Piece → Type 0
 IsLeftOf x ls ws = (p : Piece) (ps : List Piece) → ls ≡ p ∷ ps → ws ≡ moved_left x p ps
 
 pub shift_answer : (x : ℚ) (f : SpecCurve) (r : Frame) (z : Sizes) (ls ws : List Piece) (from rise : ℚ) → ShiftCall x f r z → OperandPieces z r.end ls → IsLeftOf x ls ws
-    → from ≡ r.start -ℚ x → rise ≡ rise_over f r.period → IsAnswer ws from r.period rise r.times r.values
+    → from ≡ r.start -ℚ x → rise ≡ rise_over f r.period → IsAnswerWindow ws from r.period rise r.times r.values
 shift_answer x f r z [] ws from rise h P m ef er = absurd P.starts
 shift_answer x f r z (p ∷ ps) ws from rise h P m ef er =
-    subst (λ y. IsAnswer ws y r.period rise r.times r.values) (sym (ef ∙ h.start))
-    (subst (λ y. IsAnswer ws (steady f) r.period y r.times r.values) (sym er) (shift_at x f r z p ps ws h P (m p ps refl)))
+    subst (λ y. IsAnswerWindow ws y r.period rise r.times r.values) (sym (ef ∙ h.start))
+    (subst (λ y. IsAnswerWindow ws (steady f) r.period y r.times r.values) (sym er) (shift_at x f r z p ps ws h P (m p ps refl)))
 
 -- ---- its values
 again : (t d x : ℚ) → t +ℚ x +ℚ d ≡ t +ℚ d +ℚ x

@@ -34,14 +34,14 @@ use Rattle.upp_curve.proofs.Steady.{steady_rule}
 use Rattle.upp_curve.proofs.Below.{unroll_reads}
 use Rattle.curve_window.specs.Pointwise.{IsWindowSum, IsSumPiece}
 use Rattle.curve_window.proofs.OperandWindows.{StartsWithRoom, sum_room}
-use Rattle.curve_frame.specs.declared.frame.Frame.{Frame}
-use Rattle.curve_frame.specs.Frames.{IsFrame, sizes_at}
-use Rattle.curve_frame.specs.Answering.{IsAnswer}
-use Rattle.curve_frame.proofs.CallTimes.{first_stands, second_stands}
-use Rattle.curve_frame.proofs.FrameFacts.{FrameFacts, frame_facts}
-use Rattle.curve_frame.proofs.Operands.{some_end, unrolled_pieces}
-use Rattle.curve_frame.proofs.CurveRises.{IsRise, rise_is, common_first, common_second}
-use Rattle.curve_frame.proofs.Answering.{answer_relation}
+use Rattle.curve_call.specs.declared.frame.Frame.{Frame}
+use Rattle.curve_call.specs.Frames.{IsFrame, sizes_at}
+use Rattle.curve_call.specs.Answering.{IsAnswerWindow}
+use Rattle.curve_call.proofs.CallTimes.{first_stands, second_stands}
+use Rattle.curve_call.proofs.FrameFacts.{FrameFacts, frame_facts}
+use Rattle.curve_call.proofs.Operands.{some_end, unrolled_pieces}
+use Rattle.curve_call.proofs.CurveRises.{IsRise, rise_is, common_first, common_second}
+use Rattle.curve_call.proofs.Answering.{answer_relation}
 
 -- ---- what the frame gives
 pub record SumCall (f g : SpecCurve) (r : Frame) (z : Sizes) : Type 0 where
@@ -109,7 +109,7 @@ three_and_three z = let V = int (pos z.largest) in let some = nat_nonneg z.large
 
 -- ---- the answer
 pub sum_answer : (f g : SpecCurve) (r : Frame) (z : Sizes) (ls rs ps : List Piece) (rise : ℚ) → SumCall f g r z → ls ≡ unroll f r.end → rs ≡ unroll g r.end → IsWindowSum ls rs ps
-    → rise ≡ rise_over f r.period +ℚ rise_over g r.period → IsAnswer ps r.start r.period rise r.times r.values
+    → rise ≡ rise_over f r.period +ℚ rise_over g r.period → IsAnswerWindow ps r.start r.period rise r.times r.values
 sum_answer f g r z ls rs ps rise h el er sum e =
     let facts = h.facts in
     let a = facts.limited in

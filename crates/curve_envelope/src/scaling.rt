@@ -8,10 +8,10 @@ ghost use Rattle.min_plus.specs.Pointwise.{IsScaled};
 ghost use Rattle.upp_curve.specs.Gauges.{scaled_piece, scaled_tail};
 ghost use Rattle.upp_curve.specs.ClosedOperands.{PieceScales, TailScales};
 ghost use Rattle.upp_curve.specs.Outcome.{KeepsLimits};
-ghost use Rattle.curve_frame.specs.Frames.{IsFrame};
+ghost use Rattle.curve_call.specs.Frames.{IsFrame};
 
 use affine_segment::Piece;
-use curve_frame::{Frame, within};
+use curve_call::{Frame, within};
 use fraction128::Frac;
 use std::alloc::{AllocError, Global};
 use std::sync::ledger::Ledger;

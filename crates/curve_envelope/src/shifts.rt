@@ -11,11 +11,11 @@ ghost use Rattle.affine_segment.specs.Pieces.{Each, StartsAtZero};
 ghost use Rattle.affine_segment.specs.Fits.{LineFitsAt};
 ghost use Rattle.min_plus.specs.Pointwise.{IsShift};
 ghost use Rattle.upp_curve.specs.Outcome.{KeepsLimits};
-ghost use Rattle.curve_frame.specs.Frames.{IsFrame};
+ghost use Rattle.curve_call.specs.Frames.{IsFrame};
 ghost use Rattle.curve_envelope.specs.Shifting.{left_line, left_piece, moved_left, LeftFits, IsAhead};
 
 use affine_segment::{Line, Piece, value};
-use curve_frame::{Frame, answer, rise_over, within};
+use curve_call::{Frame, answer, rise_over, within};
 use fraction128::{Ext, Frac, difference};
 use rational::Extended;
 use std::alloc::{AllocError, Global};

@@ -6,9 +6,9 @@ ghost use Rattle.rational.specs.Ratio.{SumFits};
 ghost use Rattle.upp_curve.specs.Curve.{value_at};
 ghost use Rattle.min_plus.specs.Pointwise.{IsSum};
 ghost use Rattle.upp_curve.specs.Outcome.{KeepsLimits};
-ghost use Rattle.curve_frame.specs.Frames.{IsFrame};
+ghost use Rattle.curve_call.specs.Frames.{IsFrame};
 
-use curve_frame::{Frame, answer, rise_over, within};
+use curve_call::{Frame, answer, rise_over, within};
 use curve_window::window_sum;
 use std::alloc::{AllocError, Global};
 use std::sync::ledger::Ledger;

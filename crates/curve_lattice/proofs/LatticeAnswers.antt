@@ -24,9 +24,9 @@ use Rattle.upp_curve.proofs.Steady.{steady_rule}
 use Rattle.upp_curve.proofs.Below.{unroll_reads}
 use Rattle.curve_window.specs.Operands.{IsMadeOf}
 use Rattle.curve_window.proofs.TailGrids.{TailOf, made_on_grids}
-use Rattle.curve_frame.specs.declared.frame.Frame.{Frame}
-use Rattle.curve_frame.specs.Answering.{IsAnswer}
-use Rattle.curve_frame.proofs.Answering.{answer_relation}
+use Rattle.curve_call.specs.declared.frame.Frame.{Frame}
+use Rattle.curve_call.specs.Answering.{IsAnswerWindow}
+use Rattle.curve_call.proofs.Answering.{answer_relation}
 use Rattle.curve_least.specs.Ever.{IsSlowerBelowFrom, RepeatsBy}
 use Rattle.curve_least.proofs.Rises.{rate_rise, rate_none}
 use Rattle.curve_least.proofs.EverAfter.{ever_after}
@@ -34,7 +34,7 @@ use Rattle.curve_lattice.specs.declared.lattice.Lattice.{Lattice}
 use Rattle.curve_lattice.specs.declared.lattice.Lattice.TheVariants.{Lower, Upper, Excess}
 use Rattle.curve_lattice.specs.Lattice.{made_of, rises_of, FiniteFor, RisesBy, IsTailRise}
 use Rattle.curve_lattice.specs.LatticeCall.{LatticeCall, IsLatticeFrame}
-use Rattle.curve_lattice.proofs.TailMoves.{rates_compared, not_both, not_same, lower_first, lower_second, lower_both, upper_first, upper_second, upper_both, excess_below, excess_both, excess_above}
+use Rattle.curve_call.proofs.TailMoves.{rates_compared, not_both, not_same, lower_first, lower_second, lower_both, upper_first, upper_second, upper_both, excess_below, excess_both, excess_above}
 use Rattle.curve_lattice.proofs.LatticeCalls.{operands, from_is, from_late, from_whole, left_rise, right_rise}
 
 -- ---- the rise stands
@@ -88,7 +88,7 @@ back e p from h = with3 e p from (λ c. omega (arith, c.le, c.lt, c.same))
 
 pub lattice_answer : (of : Lattice) (f g : SpecCurve) (r : Frame) (ls rs ps : List Piece) (from rise : ℚ) → IsLatticeFrame f g r → ls ≡ unroll f r.end → rs ≡ unroll g r.end
     → IsMadeOf (made_of of) (rises_of of) ls rs r.end ps → from ≡ r.end -ℚ r.period → IsTailRise of f g (rise_over f r.period) (rise_over g r.period) rise
-    → IsAnswer ps from r.period rise r.times r.values
+    → IsAnswerWindow ps from r.period rise r.times r.values
 lattice_answer of f g r ls rs ps from rise F el er M ef R =
     let L = F.call in
     let z = F.sizes in

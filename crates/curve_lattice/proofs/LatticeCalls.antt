@@ -27,19 +27,19 @@ use Rattle.upp_curve.proofs.NarrowSizes.{IsNarrow, narrow_gauge, small_sum}
 use Rattle.upp_curve.proofs.CurveStands.{are_sizes}
 use Rattle.upp_curve.proofs.Stands.{sizes_stand}
 use Rattle.curve_window.specs.Operands.{AreOperands}
-use Rattle.curve_frame.specs.declared.windows.CallWindow.{CallWindow}
-use Rattle.curve_frame.specs.CallWindows.{IsForward, SecondIsCurve, start_of, number_of, period_in}
-use Rattle.curve_frame.specs.Frames.{sizes_at}
-use Rattle.curve_frame.proofs.CurveTimes.{sum_fits, time_within}
-use Rattle.curve_frame.proofs.CallTimes.{first_stands, second_stands, IsCall, start_on, period_on, window_is}
-use Rattle.curve_frame.proofs.CallFits.{call_early}
-use Rattle.curve_frame.proofs.CurveRises.{IsRise, rise_is, common_first, common_second}
-use Rattle.curve_frame.proofs.Operands.{unrolled_pieces}
+use Rattle.curve_call.specs.declared.windows.CallWindow.{CallWindow}
+use Rattle.curve_call.specs.CallWindows.{IsForward, SecondIsCurve, start_of, number_of, period_in}
+use Rattle.curve_call.specs.Frames.{sizes_at}
+use Rattle.curve_call.proofs.CurveTimes.{sum_fits, time_within}
+use Rattle.curve_call.proofs.CallTimes.{first_stands, second_stands, IsCall, start_on, period_on, window_is}
+use Rattle.curve_call.proofs.CallFits.{call_early}
+use Rattle.curve_call.proofs.CurveRises.{IsRise, rise_is, common_first, common_second}
+use Rattle.curve_call.proofs.Operands.{unrolled_pieces}
 use Rattle.curve_least.specs.Compared.{AreCompared}
 use Rattle.curve_lattice.specs.declared.lattice.Lattice.{Lattice}
 use Rattle.curve_lattice.specs.declared.lattice.Lattice.TheVariants.{Lower, Upper, Excess}
 use Rattle.curve_lattice.specs.Lattice.{kind_of}
-use Rattle.curve_frame.specs.FirstWindows.{IsFirstWindow}
+use Rattle.curve_call.specs.FirstWindows.{IsFirstWindow}
 use Rattle.curve_lattice.specs.LatticeCall.{LatticeCall}
 
 -- ---- from a kind of call

@@ -33,14 +33,14 @@ use Rattle.upp_curve.proofs.CurveStands.{are_sizes}
 use Rattle.upp_curve.proofs.Stands.{sizes_stand}
 use Rattle.upp_curve.proofs.NarrowSizes.{narrow_gauge, small_number, value_whole, value_within}
 use Rattle.upp_curve.proofs.ReadableKinds.{bucket_curve}
-use Rattle.curve_frame.specs.declared.frame.Frame.{Frame}
-use Rattle.curve_frame.specs.declared.windows.CallWindow.{CallWindow}
-use Rattle.curve_frame.specs.Frames.{IsFrame, IsRefusedAt, sizes_at}
-use Rattle.curve_frame.proofs.CallTimes.{IsCall, start_on, period_on}
-use Rattle.curve_frame.proofs.CallFits.{call_early}
-use Rattle.curve_frame.proofs.CurveRises.{own_whole}
-use Rattle.curve_frame.proofs.Limited.{refused_cause, frame_within, pos_minus_least}
-use Rattle.curve_frame.proofs.FirstGate.{first_gate}
+use Rattle.curve_call.specs.declared.frame.Frame.{Frame}
+use Rattle.curve_call.specs.declared.windows.CallWindow.{CallWindow}
+use Rattle.curve_call.specs.Frames.{IsFrame, IsRefusedAt, sizes_at}
+use Rattle.curve_call.proofs.CallTimes.{IsCall, start_on, period_on}
+use Rattle.curve_call.proofs.CallFits.{call_early}
+use Rattle.curve_call.proofs.CurveRises.{own_whole}
+use Rattle.curve_call.proofs.Limited.{refused_cause, frame_within, pos_minus_least}
+use Rattle.curve_call.proofs.FirstGate.{first_gate}
 use Rattle.curve_least.specs.Levels.{level_curve}
 use Rattle.curve_least.specs.Compared.{AreCompared}
 use Rattle.curve_least.proofs.Levels.{level_value}
@@ -48,7 +48,7 @@ use Rattle.curve_least.proofs.Rises.{rate_rise}
 use Rattle.curve_least.proofs.Shifts.{same_least}
 use Rattle.curve_lattice.specs.declared.lattice.Lattice.TheVariants.{Excess}
 use Rattle.curve_lattice.specs.Lattice.{RisesBy, IsTailRise}
-use Rattle.curve_frame.specs.FirstWindows.{IsFirstWindow, IsWideAtFirst}
+use Rattle.curve_call.specs.FirstWindows.{IsFirstWindow, IsWideAtFirst}
 use Rattle.curve_lattice.specs.LatticeCall.{LatticeCall, IsLatticeFrame}
 use Rattle.curve_lattice.proofs.LatticeCalls.{call_from, at_times, compared}
 

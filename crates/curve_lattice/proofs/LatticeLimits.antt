@@ -12,19 +12,19 @@ use Rattle.upp_curve.specs.Periods.{common_period, both_steady, periods_after}
 use Rattle.upp_curve.specs.Windows.{window_at, Meets, IsLeast, IsLeastPeriods, IsSlowerBelow}
 use Rattle.upp_curve.specs.Gauges.{IsKnownAtOnce, IsTooWide}
 use Rattle.upp_curve.specs.Outcome.{IsWithin, IsCauseOf}
-use Rattle.curve_frame.specs.declared.frame.Frame.{Frame}
-use Rattle.curve_frame.specs.CallWindows.{IsForward, SecondIsCurve, start_of, period_in}
-use Rattle.curve_frame.specs.Frames.{IsFrame, IsRefusedAt, sizes_at}
-use Rattle.curve_frame.proofs.Limited.{refused_cause, frame_within, min_least, max_least, pos_diff_least}
-use Rattle.curve_frame.proofs.FirstGate.{first_gate}
+use Rattle.curve_call.specs.declared.frame.Frame.{Frame}
+use Rattle.curve_call.specs.CallWindows.{IsForward, SecondIsCurve, start_of, period_in}
+use Rattle.curve_call.specs.Frames.{IsFrame, IsRefusedAt, sizes_at}
+use Rattle.curve_call.proofs.Limited.{refused_cause, frame_within, min_least, max_least, pos_diff_least}
+use Rattle.curve_call.proofs.FirstGate.{first_gate}
 use Rattle.curve_least.proofs.EitherOrder.{enough_meets}
 use Rattle.curve_lattice.specs.declared.lattice.Lattice.{Lattice}
 use Rattle.curve_lattice.specs.declared.lattice.Lattice.TheVariants.{Lower, Upper, Excess}
 use Rattle.curve_lattice.specs.Lattice.{kind_of}
-use Rattle.curve_frame.specs.declared.windows.CallWindow.{CallWindow}
+use Rattle.curve_call.specs.declared.windows.CallWindow.{CallWindow}
 use Rattle.upp_curve.specs.Limits.{Sizes}
 use Rattle.curve_least.specs.Compared.{AreCompared}
-use Rattle.curve_frame.specs.FirstWindows.{IsFirstWindow, IsWideAtFirst}
+use Rattle.curve_call.specs.FirstWindows.{IsFirstWindow, IsWideAtFirst}
 use Rattle.curve_lattice.specs.LatticeCall.{IsLatticeFrame}
 use Rattle.curve_lattice.proofs.LatticeCalls.{lattice_call, at_times, kind_start, kind_period, first_compared}
 

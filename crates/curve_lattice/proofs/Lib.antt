@@ -1,4 +1,3 @@
-pub mod TailMoves
 pub mod LatticeCalls
 pub mod LatticeLimits
 pub mod LatticeAnswers

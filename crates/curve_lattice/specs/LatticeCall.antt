@@ -10,7 +10,7 @@ use Rattle.upp_curve.specs.Windows.{IsSlowerBelow}
 use Rattle.upp_curve.specs.Limits.{Sizes, curve_numbers}
 use Rattle.upp_curve.specs.Sized.{Stands, grid_of}
 use Rattle.upp_curve.specs.Operand.{AreLimited}
-use Rattle.curve_frame.specs.declared.frame.Frame.{Frame}
+use Rattle.curve_call.specs.declared.frame.Frame.{Frame}
 
 -- both repeat from `start` on with the period, and their numbers up to `end`, k + 1 periods later, have the sizes z
 pub record LatticeCall (f g : SpecCurve) (start period end : ℚ) (k : ℕ) (z : Sizes) : Type 0 where

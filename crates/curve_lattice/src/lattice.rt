@@ -8,12 +8,12 @@ ghost use Rattle.upp_curve.specs.Curve.{value_at};
 ghost use Rattle.upp_curve.specs.Steady.{rate, rise_over};
 ghost use Rattle.upp_curve.specs.Outcome.{KeepsLimits};
 ghost use Rattle.curve_window.specs.Operands.{HaveSizes, IsMadeOf};
-ghost use Rattle.curve_frame.specs.Rises.{CurveRiseFits};
+ghost use Rattle.curve_call.specs.Rises.{CurveRiseFits};
 ghost use Rattle.curve_lattice.specs.Lattice.{kind_of, made_of, rises_of, FiniteFor, RisesBy, IsTailRise};
 ghost use Rattle.curve_lattice.specs.LatticeCall.{IsLatticeFrame};
 
 use affine_segment::Piece;
-use curve_frame::{Frame, answer, first_window, rise_over, within};
+use curve_call::{Frame, answer, first_window, rise_over, within};
 use curve_least::{Side, least_periods};
 use curve_window::{window_excess, window_max, window_min};
 use fraction128::{Frac, difference};

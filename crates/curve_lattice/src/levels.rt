@@ -10,13 +10,13 @@ ghost use Rattle.upp_curve.specs.Steady.{rate, rise_over};
 ghost use Rattle.min_plus.specs.Pointwise.{IsPositiveMinus};
 ghost use Rattle.upp_curve.specs.Outcome.{KeepsLimits};
 ghost use Rattle.upp_curve.specs.declared.op_kind.OpKind.TheVariants.{PosMinus};
-ghost use Rattle.curve_frame.specs.Rises.{CurveRiseFits};
+ghost use Rattle.curve_call.specs.Rises.{CurveRiseFits};
 ghost use Rattle.curve_least.specs.Levels.{level_curve};
 ghost use Rattle.curve_lattice.specs.Lattice.{RisesBy};
 ghost use Rattle.curve_lattice.specs.LatticeCall.{IsLatticeFrame};
 
 use affine_segment::{Line, Piece};
-use curve_frame::{Frame, answer, first_window, rise_over, within};
+use curve_call::{Frame, answer, first_window, rise_over, within};
 use curve_least::{Side, is_slower, side_periods};
 use curve_window::window_excess;
 use fraction128::{Frac, difference};

@@ -20,10 +20,10 @@ use Rattle.upp_curve.specs.Windows.{IsBelowFor, IsLeast, Meets}
 use Rattle.upp_curve.specs.Limits.{Sizes, curve_numbers}
 use Rattle.upp_curve.specs.Sized.{Stands}
 use Rattle.upp_curve.specs.Operand.{AreLimited}
-use Rattle.curve_frame.specs.Rises.{CurveRiseFits}
+use Rattle.curve_call.specs.Rises.{CurveRiseFits}
 use Rattle.upp_curve.specs.Ahead.{HasWindow}
-use Rattle.curve_frame.specs.Frames.{sizes_at}
-use Rattle.curve_frame.specs.declared.windows.CallWindow.{CallWindow}
+use Rattle.curve_call.specs.Frames.{sizes_at}
+use Rattle.curve_call.specs.declared.windows.CallWindow.{CallWindow}
 use Rattle.curve_least.specs.Compared.{RepeatsIn}
 use Rattle.curve_least.specs.Gaps.{InWindow, IsWithin}
 use Rattle.curve_least.specs.GapSteps.{IsGapValue}

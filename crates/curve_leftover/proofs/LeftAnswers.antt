@@ -27,10 +27,10 @@ use Rattle.upp_curve.proofs.Below.{unroll_reads}
 use Rattle.upp_curve.proofs.Finite.{number_of}
 use Rattle.affine_segment.proofs.PieceOrder.{each_map}
 use Rattle.upp_curve.proofs.StretchSizes.{times_fit}
-use Rattle.curve_frame.specs.declared.frame.Frame.{Frame}
-use Rattle.curve_frame.specs.Answering.{IsAnswer}
-use Rattle.curve_frame.specs.Rises.{CurveRiseFits}
-use Rattle.curve_frame.proofs.Answering.{answer_relation}
+use Rattle.curve_call.specs.declared.frame.Frame.{Frame}
+use Rattle.curve_call.specs.Answering.{IsAnswerWindow}
+use Rattle.curve_call.specs.Rises.{CurveRiseFits}
+use Rattle.curve_call.proofs.Answering.{answer_relation}
 use Rattle.curve_window.specs.declared.stretch.Both.{Both}
 use Rattle.curve_window.specs.Pointwise.{mapped}
 use Rattle.curve_window.specs.Stretches.{IsOverlay}
@@ -193,7 +193,7 @@ scan_of f g theta r ps from far rise C =
 
 -- ---- the answer
 pub left_answer : (f g : SpecCurve) (theta : ℚ) (r : Frame) (ps qs : List Piece) (from far rise : ℚ) → LeftScan f g theta r ps from far rise → IsLowest ps from r.end far rise qs
-    → IsAnswer qs from r.period rise r.times r.values
+    → IsAnswerWindow qs from r.period rise r.times r.values
 left_answer f g theta r ps qs from far rise C K =
     let F = C.frame in
     lowest_answer F.sizes ps qs from r.period r.end far rise r.times r.values (scan_call f g theta r ps from far rise C) K F.times F.values F.call.period_whole F.call.above (ends_at from r.end r.period C.from_is)

@@ -31,14 +31,14 @@ use Rattle.upp_curve.proofs.Repeats.{repeats_times}
 use Rattle.upp_curve.proofs.Stands.{sizes_stand}
 use Rattle.upp_curve.proofs.Steady.{steady_rule}
 use Rattle.upp_curve.proofs.UnrolledPieces.{operand_pieces, unroll_starts}
-use Rattle.curve_frame.specs.Frames.{sizes_at}
-use Rattle.curve_frame.proofs.CallTimes.{first_stands, second_stands, IsCall, start_on, period_on, window_is}
-use Rattle.curve_frame.proofs.CallFits.{call_early}
-use Rattle.curve_frame.proofs.CurveRises.{IsRise, rise_is, common_first, common_second}
-use Rattle.curve_frame.proofs.CurveTimes.{steady_nonneg}
+use Rattle.curve_call.specs.Frames.{sizes_at}
+use Rattle.curve_call.proofs.CallTimes.{first_stands, second_stands, IsCall, start_on, period_on, window_is}
+use Rattle.curve_call.proofs.CallFits.{call_early}
+use Rattle.curve_call.proofs.CurveRises.{IsRise, rise_is, common_first, common_second}
+use Rattle.curve_call.proofs.CurveTimes.{steady_nonneg}
 use Rattle.curve_least.proofs.LeastNumber.{gains}
 use Rattle.curve_least.proofs.Rises.{rate_rise, rate_none}
-use Rattle.curve_lattice.proofs.TailMoves.{rates_compared, excess_above, excess_both}
+use Rattle.curve_call.proofs.TailMoves.{rates_compared, excess_above, excess_both}
 use Rattle.curve_leftover.specs.Behind.{moved, IsServed}
 use Rattle.curve_leftover.specs.LeftCall.{LeftCall}
 use Rattle.curve_leftover.specs.Lowest.{SumValue}

@@ -11,11 +11,11 @@ use Rattle.upp_curve.specs.Curves.{IsCurve}
 use Rattle.upp_curve.specs.Periods.{common_period, moved_steady}
 use Rattle.upp_curve.specs.Windows.{window_at, Meets, IsLeast}
 use Rattle.upp_curve.specs.Outcome.{IsWithin, IsCauseOf}
-use Rattle.curve_frame.specs.declared.frame.Frame.{Frame}
-use Rattle.curve_frame.specs.Frames.{IsFrame, IsRefusedAt, sizes_at}
-use Rattle.curve_frame.proofs.FirstGate.{first_gate}
-use Rattle.curve_frame.proofs.Limited.{refused_cause, frame_within, fifo_left_least}
-use Rattle.curve_frame.specs.FirstWindows.{IsWideAtFirst}
+use Rattle.curve_call.specs.declared.frame.Frame.{Frame}
+use Rattle.curve_call.specs.Frames.{IsFrame, IsRefusedAt, sizes_at}
+use Rattle.curve_call.proofs.FirstGate.{first_gate}
+use Rattle.curve_call.proofs.Limited.{refused_cause, frame_within, fifo_left_least}
+use Rattle.curve_call.specs.FirstWindows.{IsWideAtFirst}
 use Rattle.curve_leftover.specs.Behind.{IsServed}
 use Rattle.curve_leftover.specs.LeftCall.{IsLeftFrame}
 use Rattle.curve_leftover.proofs.LeastBehind.{from_meets}

@@ -35,7 +35,7 @@ use Rattle.upp_curve.proofs.NormaliseLists.{last_is_last, last_in}
 use Rattle.upp_curve.proofs.Repeats.{repeats_times}
 use Rattle.upp_curve.proofs.Steady.{read_past}
 use Rattle.upp_curve.proofs.Unrolled.{read_before, read_past_list}
-use Rattle.curve_frame.specs.Answering.{IsAnswer}
+use Rattle.curve_call.specs.Answering.{IsAnswerWindow}
 use Rattle.curve_running.specs.Scans.{Until, IsInfimumUntil}
 use Rattle.curve_running.proofs.Fronts.{kept_each, kept_starts, kept_reads, kept_bends}
 use Rattle.curve_running.proofs.Shifts.{infimum_repeats, raised}
@@ -187,7 +187,7 @@ lowest_runs f ps qs from period end far rise t L K low early =
 
 -- ---- the answer
 pub lowest_answer : (z : Sizes) (ps qs : List Piece) (from period end far rise : ℚ) (times values : ℕ) → IsLowestCall z ps from end far rise → IsLowest ps from end far rise qs → times ≡ z.dt → values ≡ grid_of z
-    → Whole z.dt period → zero_q <ℚ period → from +ℚ period ≡ end → IsAnswer qs from period rise times values
+    → Whole z.dt period → zero_q <ℚ period → from +ℚ period ≡ end → IsAnswerWindow qs from period rise times values
 lowest_answer z ps qs from period end far rise times values C K t v on some ends = record {
   sizes = z;
   end = end;

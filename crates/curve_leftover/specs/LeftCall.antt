@@ -21,9 +21,9 @@ use Rattle.upp_curve.specs.Unrolled.{unroll}
 use Rattle.curve_window.specs.declared.stretch.Both.{Both}
 use Rattle.curve_window.specs.Stretches.{IsOverlay}
 use Rattle.curve_window.specs.Pointwise.{mapped}
-use Rattle.curve_frame.specs.declared.frame.Frame.{Frame}
-use Rattle.curve_frame.specs.declared.windows.CallWindow.{CallWindow}
-use Rattle.curve_frame.specs.FirstWindows.{IsFirstWindow}
+use Rattle.curve_call.specs.declared.frame.Frame.{Frame}
+use Rattle.curve_call.specs.declared.windows.CallWindow.{CallWindow}
+use Rattle.curve_call.specs.FirstWindows.{IsFirstWindow}
 use Rattle.curve_leftover.specs.Behind.{moved, IsServed}
 use Rattle.curve_leftover.specs.Moved.{moved_right}
 use Rattle.curve_leftover.specs.Parts.{left_piece}

@@ -12,7 +12,7 @@ ghost use Rattle.curve_leftover.specs.Behind.{moved, IsBehindCall, IsMost};
 ghost use Rattle.curve_leftover.specs.LeftCall.{IsLeftGate};
 
 use crate::numbers::number_of;
-use curve_frame::{CallWindow, rise_over};
+use curve_call::{CallWindow, rise_over};
 use curve_least::earlier;
 use fraction128::{Frac, difference, greater, is_less, quotient};
 use upp_curve::{Curve, stretch_at};

@@ -17,7 +17,7 @@ use crate::lowest::lowest_pieces;
 use crate::moved::moved_right;
 use crate::parts::left_pieces;
 use affine_segment::{Line, Piece};
-use curve_frame::{Frame, answer, first_window, rise_over, within};
+use curve_call::{Frame, answer, first_window, rise_over, within};
 use curve_window::overlay;
 use fraction128::{Ext, Frac, difference, sum};
 use rational::Extended;

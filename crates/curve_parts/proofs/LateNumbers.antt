@@ -27,8 +27,8 @@ use Rattle.upp_curve.specs.Windows.{IsLeast}
 use Rattle.upp_curve.proofs.NarrowSizes.{small_sum}
 use Rattle.upp_curve.proofs.StretchSizes.{narrow}
 use Rattle.upp_curve.proofs.Steady.{steady_rule}
-use Rattle.curve_frame.proofs.CurveRises.{IsRise, rise_is}
-use Rattle.curve_frame.proofs.CurveTimes.{steady_nonneg, steady_whole}
+use Rattle.curve_call.proofs.CurveRises.{IsRise, rise_is}
+use Rattle.curve_call.proofs.CurveTimes.{steady_nonneg, steady_whole}
 use Rattle.curve_least.specs.Gaps.{InWindow, IsWithin, IsEndless, IsLargest}
 use Rattle.curve_least.proofs.LeastNumber.{gains}
 use Rattle.curve_least.proofs.Shifts.{largest_bounds, endless_bounds, same_least, least_zero}

@@ -15,8 +15,8 @@ use Rattle.upp_curve.specs.Steady.{steady, rate}
 use Rattle.upp_curve.specs.Ahead.{HasWindow}
 use Rattle.upp_curve.proofs.SameSizes.{Equals, same_sizes, equals_self, equals_joined}
 use Rattle.upp_curve.proofs.StretchSizes.{narrow}
-use Rattle.curve_frame.specs.Times.{OneLaterFits}
-use Rattle.curve_frame.proofs.CurveTimes.{one_later, steady_nonneg}
+use Rattle.curve_call.specs.Times.{OneLaterFits}
+use Rattle.curve_call.proofs.CurveTimes.{one_later, steady_nonneg}
 use Rattle.curve_least.proofs.Shifts.{same_least, least_zero}
 use Rattle.curve_parts.specs.Scans.{sizes_in, IsScan}
 use Rattle.curve_parts.specs.Late.{IsLateAfter, IsLateNumber, IsLateCall, IsSlowerAfter, IsSlowerNumber, IsPartsCall}

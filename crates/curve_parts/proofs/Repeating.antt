@@ -15,8 +15,8 @@ use Rattle.min_plus.specs.Convolution.{Split, IsConvolution}
 use Rattle.upp_curve.specs.Normalising.{HasValues}
 use Rattle.upp_curve.specs.Windows.{IsLateLeast}
 use Rattle.upp_curve.proofs.Steady.{steady_rule}
-use Rattle.curve_frame.proofs.Answering.{answer_relation}
-use Rattle.curve_frame.proofs.CurveTimes.{steady_nonneg}
+use Rattle.curve_call.proofs.Answering.{answer_relation}
+use Rattle.curve_call.proofs.CurveTimes.{steady_nonneg}
 use Rattle.upp_curve.proofs.UnrollSteps.{ext_cases}
 use Rattle.curve_least.proofs.Rises.{rate_rise, rate_none, infinite_value}
 use Rattle.curve_parts.specs.Parts.{IsPart, FirstLate}

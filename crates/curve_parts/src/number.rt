@@ -11,7 +11,7 @@ use crate::gaps::part_gap;
 use crate::lower::is_less;
 use crate::made::made_part;
 use crate::rows::{Scan, difference};
-use curve_frame::rise_over;
+use curve_call::rise_over;
 use curve_least::Gap;
 use fraction128::Frac;
 use std::alloc::Global;

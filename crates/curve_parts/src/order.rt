@@ -3,12 +3,12 @@
 ghost use Rattle.std.specs.Prelude.{ℕ, ◌≡◌, ◌↔◌, IsTrue, MatchOption};
 ghost use Rattle.rational.specs.Extended.{◌<ₑ◌};
 ghost use Rattle.upp_curve.specs.Steady.{steady, rate};
-ghost use Rattle.curve_frame.specs.Times.{OneLaterFits};
+ghost use Rattle.curve_call.specs.Times.{OneLaterFits};
 ghost use Rattle.curve_parts.specs.Late.{IsSlowerAfter, IsSlowerNumber, IsPartsCall};
 
 use crate::number::late_number;
 use crate::rows::Scan;
-use curve_frame::steady_time;
+use curve_call::steady_time;
 use curve_least::{Side, is_slower};
 use fraction128::Frac;
 use std::alloc::Global;

@@ -27,11 +27,11 @@ use Rattle.upp_curve.specs.Operand.{OperandPieces, answer_room}
 use Rattle.upp_curve.specs.Unrolled.{unroll}
 use Rattle.upp_curve.specs.Windows.{window_at}
 use Rattle.upp_curve.proofs.Bends.{bends_on}
-use Rattle.curve_frame.specs.declared.frame.Frame.{Frame}
-use Rattle.curve_frame.specs.Answering.{IsAnswer}
-use Rattle.curve_frame.specs.Frames.{IsFrame, sizes_at}
-use Rattle.curve_frame.proofs.Answering.{answer_relation}
-use Rattle.curve_frame.proofs.CurveRises.{IsRise}
+use Rattle.curve_call.specs.declared.frame.Frame.{Frame}
+use Rattle.curve_call.specs.Answering.{IsAnswerWindow}
+use Rattle.curve_call.specs.Frames.{IsFrame, sizes_at}
+use Rattle.curve_call.proofs.Answering.{answer_relation}
+use Rattle.curve_call.proofs.CurveRises.{IsRise}
 use Rattle.curve_running.specs.Made.{IsMade, TurnsAfter, IsScan, IsInfimumScan}
 use Rattle.curve_running.specs.Runs.{RunsFrom, IsFrontBefore}
 use Rattle.curve_running.specs.Scans.{Until, IsInfimumUntil}
@@ -56,7 +56,7 @@ first_some f r h =
 
 pub inf_answer : (f : SpecCurve) (r : Frame) (to rise : ℚ) (ps qs front : List Piece) → IsFrame RunInf f f 0 0 r → to ≡ r.start +ℚ r.period → rise ≡ rise_over f r.period
     → ps ≡ unroll f r.end
-    → IsInfimumScan ps r.end qs → IsFrontBefore qs to front → IsAnswer front r.start r.period rise r.times r.values
+    → IsInfimumScan ps r.end qs → IsFrontBefore qs to front → IsAnswerWindow front r.start r.period rise r.times r.values
 inf_answer f r to rise ps qs front h e g u S K = record {
   sizes = z;
   end = r.end;

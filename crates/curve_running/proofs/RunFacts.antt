@@ -34,14 +34,14 @@ use Rattle.upp_curve.proofs.Stands.{sizes_stand}
 use Rattle.upp_curve.proofs.Steady.{steady_rule}
 use Rattle.upp_curve.proofs.UnrolledPieces.{operand_pieces, unroll_starts, unroll_before}
 use Rattle.upp_curve.proofs.UnrollSteps.{time_whole, time_within}
-use Rattle.curve_frame.specs.declared.frame.Frame.{Frame}
-use Rattle.curve_frame.specs.declared.windows.CallWindow.{CallWindow}
-use Rattle.curve_frame.specs.CallWindows.{IsWindow as IsCallWindow}
-use Rattle.curve_frame.specs.Frames.{IsFrame, sizes_at}
-use Rattle.curve_frame.proofs.CallFits.{call_early}
-use Rattle.curve_frame.proofs.CallTimes.{IsCall, period_on, start_on, first_stands}
-use Rattle.curve_frame.proofs.CurveRises.{IsRise, rise_is, own_whole}
-use Rattle.curve_frame.proofs.FrameFacts.{frame_facts}
+use Rattle.curve_call.specs.declared.frame.Frame.{Frame}
+use Rattle.curve_call.specs.declared.windows.CallWindow.{CallWindow}
+use Rattle.curve_call.specs.CallWindows.{IsWindow as IsCallWindow}
+use Rattle.curve_call.specs.Frames.{IsFrame, sizes_at}
+use Rattle.curve_call.proofs.CallFits.{call_early}
+use Rattle.curve_call.proofs.CallTimes.{IsCall, period_on, start_on, first_stands}
+use Rattle.curve_call.proofs.CurveRises.{IsRise, rise_is, own_whole}
+use Rattle.curve_call.proofs.FrameFacts.{frame_facts}
 use Rattle.curve_running.specs.Scans.{IsWindow, ScanFits}
 use Rattle.curve_running.specs.Periods.{IsSupremumCall}
 use Rattle.curve_running.proofs.Covers.{no_fall}

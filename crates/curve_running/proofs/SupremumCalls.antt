@@ -40,7 +40,7 @@ use Rattle.upp_curve.proofs.Repeats.{repeated_first}
 use Rattle.upp_curve.proofs.RisingCurves.{GoesOn, finite_pieces_by_tail, infinite_is_not_finite}
 use Rattle.upp_curve.proofs.Steady.{steady_rule}
 use Rattle.upp_curve.proofs.AnswerRoom.{tight, OperandValue, operand_line_fits, operand_line_value, values_fit}
-use Rattle.curve_frame.proofs.CurveRises.{IsRise, rise_is, own_whole}
+use Rattle.curve_call.proofs.CurveRises.{IsRise, rise_is, own_whole}
 use Rattle.curve_running.specs.Scans.{IsWindow, IsSupremumIn, Until}
 use Rattle.curve_running.specs.Between.{FitsAtBoth, IsLevelBetween}
 use Rattle.curve_running.specs.Periods.{CoverFits, IsFirstPeriod, IsCovering, IsSupremumCall, IsCoveredAfter}

@@ -30,11 +30,11 @@ use Rattle.upp_curve.specs.Operand.{OperandPieces}
 use Rattle.upp_curve.specs.Unrolled.{unroll}
 use Rattle.upp_curve.specs.Windows.{window_at}
 use Rattle.upp_curve.proofs.Bends.{bends_on}
-use Rattle.curve_frame.specs.declared.frame.Frame.{Frame}
-use Rattle.curve_frame.specs.Answering.{IsAnswer}
-use Rattle.curve_frame.specs.Frames.{IsFrame, sizes_at}
-use Rattle.curve_frame.proofs.Answering.{answer_relation}
-use Rattle.curve_frame.proofs.CurveRises.{IsRise}
+use Rattle.curve_call.specs.declared.frame.Frame.{Frame}
+use Rattle.curve_call.specs.Answering.{IsAnswerWindow}
+use Rattle.curve_call.specs.Frames.{IsFrame, sizes_at}
+use Rattle.curve_call.proofs.Answering.{answer_relation}
+use Rattle.curve_call.proofs.CurveRises.{IsRise}
 use Rattle.curve_running.specs.Made.{IsMade, TurnsAfter, IsScan, IsSupremumScan}
 use Rattle.curve_running.specs.Periods.{IsCoveredAfter}
 use Rattle.curve_running.specs.Runs.{RunsUpTo, IsNumberOf}
@@ -93,7 +93,7 @@ sup_from f k r from h e =
     }
 
 pub sup_answer : (f : SpecCurve) (k : ℕ) (r : Frame) (from rise : ℚ) (ps qs : List Piece) → IsFrame RunSup f f k 0 r → from ≡ r.end -ℚ r.period → rise ≡ rise_over f r.period
-    → ps ≡ unroll f r.end → IsSupremumScan ps r.end qs → IsAnswer qs from r.period rise r.times r.values
+    → ps ≡ unroll f r.end → IsSupremumScan ps r.end qs → IsAnswerWindow qs from r.period rise r.times r.values
 sup_answer f k r from rise ps qs h e g u S = record {
   sizes = z;
   end = r.end;

@@ -5,12 +5,12 @@ ghost use Rattle.upp_curve.specs.declared.op_kind.OpKind.TheVariants.{RunInf};
 ghost use Rattle.upp_curve.specs.Curve.{value_at};
 ghost use Rattle.min_plus.specs.Functions.{IsFinite, IsNonnegative};
 ghost use Rattle.upp_curve.specs.Outcome.{KeepsLimits};
-ghost use Rattle.curve_frame.specs.Frames.{IsFrame};
+ghost use Rattle.curve_call.specs.Frames.{IsFrame};
 ghost use Rattle.curve_running.specs.Runs.{RunsFrom, IsFrontBefore};
 
 use crate::infimum::infimum_scan;
 use affine_segment::Piece;
-use curve_frame::{Frame, answer, rise_over, within};
+use curve_call::{Frame, answer, rise_over, within};
 use fraction128::{Frac, sum};
 use std::alloc::{AllocError, Global};
 use std::cmp::Ordering;

@@ -9,12 +9,12 @@ ghost use Rattle.upp_curve.specs.Curves.{IsCurve};
 ghost use Rattle.min_plus.specs.Functions.{IsFinite, IsNonnegative};
 ghost use Rattle.upp_curve.specs.Gauges.{gauge_at};
 ghost use Rattle.upp_curve.specs.Outcome.{KeepsLimits};
-ghost use Rattle.curve_frame.specs.Frames.{IsFrame};
+ghost use Rattle.curve_call.specs.Frames.{IsFrame};
 ghost use Rattle.curve_running.specs.Runs.{RunsUpTo, IsNumberOf};
 
 use crate::periods::supremum_periods;
 use crate::supremum::supremum_scan;
-use curve_frame::{Frame, answer, first_window, rise_over, within};
+use curve_call::{Frame, answer, first_window, rise_over, within};
 use fraction128::{Frac, difference};
 use std::alloc::{AllocError, Global};
 use std::sync::ledger::Ledger;

@@ -11,9 +11,9 @@ use Rattle.upp_curve.specs.Curve.{SpecCurve, value_at}
 use Rattle.upp_curve.specs.Curves.{IsCurve}
 use Rattle.min_plus.specs.Functions.{IsFinite}
 use Rattle.min_plus.specs.Pointwise.{excess, scaled}
-use Rattle.curve_making.specs.Answers.{IsMadeBy}
-use Rattle.curve_making.specs.Calls.{AppliesTo, goes_on, stops}
-use Rattle.curve_making.proofs.InTurn.{applies_determined, then_determined}
+use Rattle.curve_call.specs.Answers.{IsMadeBy}
+use Rattle.curve_call.specs.Calls.{AppliesTo, goes_on, stops}
+use Rattle.curve_call.proofs.InTurn.{applies_determined, then_determined}
 use Rattle.drr_residual.specs.Calls.{IsQuantum, share_in, owed_in, MakesDrr, DrrCurveServes, DrrIsDetermined}
 use Rattle.drr_residual.specs.Laws.{IsDrrService}
 use Rattle.drr_residual.proofs.DrrLaw.{drr_serves}

@@ -13,8 +13,8 @@ use Rattle.min_plus.specs.Functions.{zero_q}
 use Rattle.min_plus.specs.Pointwise.{scaled}
 use Rattle.run_laws.specs.Cards.{whole}
 use Rattle.run_laws.proofs.Sizes.{whole_nonneg}
-use Rattle.curve_making.specs.Growth.{GrowsFromZero}
-use Rattle.curve_making.proofs.GrowingAnswers.{growing_answers}
+use Rattle.curve_call.specs.Growth.{GrowsFromZero}
+use Rattle.curve_call.proofs.GrowingAnswers.{growing_answers}
 use Rattle.drr_residual.specs.Calls.{IsQuantum}
 use Rattle.drr_residual.specs.Growth.{DrrServiceGrows, DrrCurveGrows}
 use Rattle.drr_residual.specs.Laws.{share, owed, drr_left}

@@ -11,8 +11,8 @@ use Rattle.run_laws.specs.Servers.{Drr, Server}
 use Rattle.run_laws.specs.Allows.{IsLawfulView}
 use Rattle.run_laws.specs.Premises.{KeepsService, KeepsSizes, IsZeroAtStart}
 use Rattle.run_laws.specs.Serves.{Serves}
-use Rattle.curve_making.specs.Calls.{AppliesTo, Then}
-use Rattle.curve_making.specs.Determined.{IsDetermined}
+use Rattle.curve_call.specs.Calls.{AppliesTo, Then}
+use Rattle.curve_call.specs.Determined.{IsDetermined}
 use Rattle.drr_residual.specs.Laws.{share, owed}
 
 -- ---- quanta

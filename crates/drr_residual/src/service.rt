@@ -7,8 +7,8 @@ ghost use Rattle.drr_residual.specs.Calls.{AreQueues, MakesDrr};
 ghost use Rattle.drr_residual.specs.Laws.{IsDrrService};
 
 use crate::turn::turn_of;
+use curve_call::seen;
 use curve_envelope::{pos_minus, scale};
-use curve_making::seen;
 use std::alloc::Global;
 use std::sync::ledger::Ledger;
 use steps::Steps;

@@ -7,8 +7,8 @@ use Rattle.rational.specs.declared.Extended.TheVariants.{Fin}
 use Rattle.upp_curve.specs.declared.op_kind.OpKind.TheVariants.{FifoLeft}
 use Rattle.upp_curve.specs.Curve.{SpecCurve, value_at}
 use Rattle.min_plus.specs.Functions.{zero_q, IsFinite}
-use Rattle.curve_making.specs.Calls.{Applies}
-use Rattle.curve_making.specs.Growth.{GrowsFromZero, IsServiceCurve}
+use Rattle.curve_call.specs.Calls.{Applies}
+use Rattle.curve_call.specs.Growth.{GrowsFromZero, IsServiceCurve}
 use Rattle.fifo_residual.specs.Laws.{IsResidual}
 
 -- R is what β leaves of the others' curve

@@ -5,11 +5,11 @@ ghost use Rattle.upp_curve.specs.declared.op_kind.OpKind.TheVariants.{FifoLeft};
 ghost use Rattle.upp_curve.specs.Curve.{value_at};
 ghost use Rattle.min_plus.specs.Deviations.{IsHorizontalDeviation};
 ghost use Rattle.min_plus.specs.Functions.{IsFinite, IsRising, IsNonnegative};
-ghost use Rattle.curve_making.specs.Calls.{Applies};
+ghost use Rattle.curve_call.specs.Calls.{Applies};
 ghost use Rattle.fifo_residual.specs.Laws.{IsResidual};
 
+use curve_call::seen;
 use curve_leftover::fifo_left;
-use curve_making::seen;
 use fraction128::Ext;
 use std::alloc::Global;
 use std::sync::ledger::Ledger;

@@ -10,10 +10,10 @@ use Rattle.upp_curve.specs.Curve.{value_at}
 use Rattle.min_plus.specs.Functions.{zero_q, IsNonnegative}
 use Rattle.min_plus.specs.Pointwise.{packetised}
 use Rattle.min_plus.specs.Convolution.{IsConvolution}
-use Rattle.curve_making.specs.Growth.{GrowsFromZero}
-use Rattle.curve_making.specs.Answers.{IsMadeBy}
-use Rattle.curve_making.proofs.GrowingAnswers.{growing_answers}
-use Rattle.curve_making.proofs.Excesses.{excess_nonneg}
+use Rattle.curve_call.specs.Growth.{GrowsFromZero}
+use Rattle.curve_call.specs.Answers.{IsMadeBy}
+use Rattle.curve_call.proofs.GrowingAnswers.{growing_answers}
+use Rattle.curve_call.proofs.Excesses.{excess_nonneg}
 use Rattle.run_laws.specs.Runs.{SpecRun}
 use Rattle.run_laws.specs.Cards.{whole, of_flow}
 use Rattle.run_laws.proofs.Sizes.{whole_nonneg}

@@ -11,7 +11,7 @@ use Rattle.upp_curve.specs.declared.op_kind.OpKind.TheVariants.{Sum}
 use Rattle.upp_curve.specs.Curve.{SpecCurve, value_at}
 use Rattle.min_plus.specs.Functions.{zero_q}
 use Rattle.upp_curve.proofs.KindValues.{bucket_is}
-use Rattle.curve_making.specs.Answers.{IsAnswer, IsMadeBy}
+use Rattle.curve_call.specs.Answers.{IsAnswer, IsMadeBy}
 use Rattle.net_cells.specs.declared.cell.Cell.{Cell}
 use Rattle.net_cells.specs.Numbered.{zero_curve}
 use Rattle.net_cells.specs.Meanings.{Meaning, curve, number, CellTable, IsCurveIn, IsNumberIn}

@@ -9,7 +9,7 @@ use Rattle.min_plus.specs.Functions.{FiniteTime}
 use Rattle.min_plus.specs.Pointwise.{packetised}
 use Rattle.min_plus.specs.Convolution.{IsDeconvolution}
 use Rattle.min_plus.specs.Deviations.{IsVerticalDeviation}
-use Rattle.curve_making.specs.Answers.{IsMadeBy}
+use Rattle.curve_call.specs.Answers.{IsMadeBy}
 use Rattle.run_laws.specs.Cards.{whole}
 use Rattle.net_cells.specs.declared.cell.Cell.{Cell}
 use Rattle.net_cells.specs.Meanings.{Meaning, curve, number, CellTable, IsCurveIn, IsNumberIn}

@@ -11,7 +11,7 @@ use Rattle.min_plus.specs.Pointwise.{packetised, shifted}
 use Rattle.min_plus.specs.Running.{IsFifoLeftover}
 use Rattle.min_plus.specs.Convolution.{IsDeconvolution}
 use Rattle.min_plus.specs.Deviations.{IsHorizontalDeviation}
-use Rattle.curve_making.specs.Answers.{IsMadeBy}
+use Rattle.curve_call.specs.Answers.{IsMadeBy}
 use Rattle.run_laws.specs.Cards.{whole}
 use Rattle.net_model.specs.Networks.{Net}
 use Rattle.net_cells.specs.declared.cell.Kind.TheVariants.{In, Cross, QueueService, Theta, Residual, QueueDelay, HopDelay, ShiftOut, DeconvOut, Out}

@@ -12,7 +12,7 @@ use Rattle.min_plus.specs.Functions.{zero_q}
 use Rattle.min_plus.specs.Pointwise.{shifted}
 use Rattle.min_plus.specs.Running.{IsFifoLeftover}
 use Rattle.min_plus.proofs.DeviationSigns.{horizontals_are_nonnegative}
-use Rattle.curve_making.specs.Growth.{GrowsFromZero}
+use Rattle.curve_call.specs.Growth.{GrowsFromZero}
 use Rattle.run_laws.specs.Runs.{SpecRun}
 use Rattle.run_laws.specs.Cards.{Card, Class, of_flow, of_queue}
 use Rattle.run_laws.specs.Counts.{departed_in}

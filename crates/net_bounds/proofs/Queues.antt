@@ -9,8 +9,8 @@ use Rattle.rational.specs.Rational.{ℚ}
 use Rattle.rational.specs.Extended.{Ext}
 use Rattle.rational.proofs.ExtendedOrder.{same_le_ext}
 use Rattle.upp_curve.specs.Curve.{value_at}
-use Rattle.curve_making.specs.Growth.{GrowsFromZero}
-use Rattle.curve_making.proofs.GrowingAnswers.{grown}
+use Rattle.curve_call.specs.Growth.{GrowsFromZero}
+use Rattle.curve_call.proofs.GrowingAnswers.{grown}
 use Rattle.run_laws.specs.Runs.{SpecRun}
 use Rattle.run_laws.specs.Cards.{Card, of_queue}
 use Rattle.run_laws.specs.Servers.{Discipline, Fifo, Priority, Drr, Server, queue_count}

@@ -8,9 +8,9 @@ use Rattle.upp_curve.specs.declared.op_kind.OpFault.{OpFault}
 use Rattle.upp_curve.specs.Curve.{SpecCurve, value_at}
 use Rattle.upp_curve.specs.Curves.{IsCurve}
 use Rattle.min_plus.specs.Deviations.{IsHorizontalDeviation, IsVerticalDeviation}
-use Rattle.curve_making.specs.Again.{IsAgain}
-use Rattle.curve_making.specs.Answers.{IsMadeBy}
-use Rattle.curve_making.specs.Calls.{Applies, AppliesTo, goes_on, stops}
+use Rattle.curve_call.specs.Again.{IsAgain}
+use Rattle.curve_call.specs.Answers.{IsMadeBy}
+use Rattle.curve_call.specs.Calls.{Applies, AppliesTo, goes_on, stops}
 use Rattle.priority_residual.specs.Calls.{MakesPriority}
 use Rattle.priority_residual.proofs.PriorityCalls as priority_calls
 use Rattle.drr_residual.specs.Calls.{MakesDrr}

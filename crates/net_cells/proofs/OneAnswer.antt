@@ -11,10 +11,10 @@ use Rattle.upp_curve.specs.Curve.{SpecCurve, value_at}
 use Rattle.min_plus.specs.Deviations.{IsHorizontalDeviation, IsVerticalDeviation}
 use Rattle.upp_curve.specs.Outcome.{IsWithin, IsCauseOf}
 use Rattle.min_plus.proofs.Unambiguous.{deviations_are_unique}
-use Rattle.curve_making.specs.Again.{IsAgain, again_determined}
-use Rattle.curve_making.specs.Calls.{Applies, AppliesTo}
-use Rattle.curve_making.specs.Determined.{IsDetermined}
-use Rattle.curve_making.proofs.InTurn.{applies_determined, then_determined}
+use Rattle.curve_call.specs.Again.{IsAgain, again_determined}
+use Rattle.curve_call.specs.Calls.{Applies, AppliesTo}
+use Rattle.curve_call.specs.Determined.{IsDetermined}
+use Rattle.curve_call.proofs.InTurn.{applies_determined, then_determined}
 use Rattle.priority_residual.specs.Calls.{MakesPriority}
 use Rattle.priority_residual.proofs.PriorityCalls as priority_calls
 use Rattle.drr_residual.specs.Calls.{MakesDrr}

@@ -8,8 +8,8 @@ use Rattle.upp_curve.specs.Curve.{SpecCurve, value_at}
 use Rattle.min_plus.specs.Deviations.{IsHorizontalDeviation, IsVerticalDeviation}
 use Rattle.upp_curve.proofs.OneForm.{normal_unique}
 use Rattle.min_plus.proofs.Unambiguous.{deviations_are_unique}
-use Rattle.curve_making.specs.Answers.{IsMadeBy}
-use Rattle.curve_making.proofs.SameAnswers.{made_unique}
+use Rattle.curve_call.specs.Answers.{IsMadeBy}
+use Rattle.curve_call.proofs.SameAnswers.{made_unique}
 use Rattle.net_cells.specs.declared.cell.Cell.{Cell}
 use Rattle.net_cells.specs.Meanings.{Meaning, curve, number, CellTable, IsCurveIn, IsNumberIn}
 use Rattle.net_cells.specs.NumberSums.{total}

@@ -5,8 +5,8 @@ use Rattle.rational.specs.Extended.{Ext, min_ext}
 use Rattle.upp_curve.specs.declared.op_kind.OpKind.TheVariants.{Shift, FifoLeft, Horizontal, Vertical}
 use Rattle.upp_curve.specs.Curve.{SpecCurve, value_at}
 use Rattle.min_plus.specs.Deviations.{IsHorizontalDeviation, IsVerticalDeviation}
-use Rattle.curve_making.specs.Answers.{IsMadeBy}
-use Rattle.curve_making.specs.Calls.{Applies, AppliesTo, goes_on, stops}
+use Rattle.curve_call.specs.Answers.{IsMadeBy}
+use Rattle.curve_call.specs.Calls.{Applies, AppliesTo, goes_on, stops}
 use Rattle.priority_residual.specs.Calls.{MakesPriority}
 use Rattle.net_cells.specs.declared.cell.Cell.{Cell}
 use Rattle.net_cells.specs.Meanings.{Meaning, curve, number, CellTable, IsCurveIn, IsNumberIn}

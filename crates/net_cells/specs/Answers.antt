@@ -10,8 +10,8 @@ use Rattle.upp_curve.specs.declared.op_kind.OpFault.TheVariants.{NoMemory}
 use Rattle.upp_curve.specs.Curve.{SpecCurve, value_at}
 use Rattle.min_plus.specs.Deviations.{IsHorizontalDeviation, IsVerticalDeviation}
 use Rattle.upp_curve.specs.Outcome.{IsWithin, IsCauseOf}
-use Rattle.curve_making.specs.Again.{IsAgain}
-use Rattle.curve_making.specs.Calls.{Applies, AppliesTo, Then}
+use Rattle.curve_call.specs.Again.{IsAgain}
+use Rattle.curve_call.specs.Calls.{Applies, AppliesTo, Then}
 use Rattle.priority_residual.specs.Calls.{MakesPriority}
 use Rattle.drr_residual.specs.Calls.{MakesDrr}
 use Rattle.net_cells.specs.declared.cell.Cell.{Cell}

@@ -8,7 +8,7 @@ use Rattle.upp_curve.specs.declared.op_kind.OpKind.TheVariants.{Shift, FifoLeft}
 use Rattle.upp_curve.specs.Curve.{SpecCurve, value_at}
 use Rattle.upp_curve.specs.Curves.{IsCurve}
 use Rattle.min_plus.specs.Deviations.{IsHorizontalDeviation, IsVerticalDeviation}
-use Rattle.curve_making.specs.Answers.{IsMadeBy}
+use Rattle.curve_call.specs.Answers.{IsMadeBy}
 use Rattle.priority_residual.specs.Laws.{IsPriorityService}
 use Rattle.drr_residual.specs.Laws.{IsDrrService}
 use Rattle.net_cells.specs.declared.cell.Cell.{Cell}

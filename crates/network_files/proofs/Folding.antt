@@ -7,7 +7,7 @@ use Rattle.upp_curve.specs.declared.own_limits.OverLimit.{OverLimit}
 use Rattle.upp_curve.specs.declared.own_limits.OverLimit.TheVariants as limits
 use Rattle.upp_curve.specs.declared.op_kind.OpFault.{OpFault}
 use Rattle.upp_curve.specs.declared.op_kind.OpFault.TheVariants.{TooMany, TooWide, NoMemory}
-use Rattle.curve_making.specs.Calls.{goes_on, stops}
+use Rattle.curve_call.specs.Calls.{goes_on, stops}
 use Rattle.closure_fold.specs.Folds.{CloseAnswer}
 use Rattle.closure_fold.proofs.FoldStars.{close_answer}
 use Rattle.closure_fold.proofs.OneFold.{close_once}

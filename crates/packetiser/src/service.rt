@@ -6,10 +6,10 @@ ghost use Rattle.upp_curve.specs.declared.op_kind.OpKind.TheVariants.{PosMinus};
 ghost use Rattle.upp_curve.specs.Curve.{value_at};
 ghost use Rattle.min_plus.specs.Functions.{zero_q, IsFinite};
 ghost use Rattle.min_plus.specs.Pointwise.{IsPositiveMinus};
-ghost use Rattle.curve_making.specs.Calls.{AppliesTo};
+ghost use Rattle.curve_call.specs.Calls.{AppliesTo};
 
+use curve_call::seen;
 use curve_envelope::pos_minus;
-use curve_making::seen;
 use fraction128::Frac;
 use std::alloc::Global;
 use std::sync::ledger::Ledger;

@@ -14,10 +14,10 @@ use Rattle.upp_curve.specs.Curves.{IsCurve}
 use Rattle.min_plus.specs.Functions.{zero_q, UpTo, IsFinite, IsNonnegative}
 use Rattle.min_plus.specs.Pointwise.{excess}
 use Rattle.run_laws.specs.Cards.{whole}
-use Rattle.curve_making.specs.Answers.{IsMadeBy}
-use Rattle.curve_making.specs.Calls.{Applies, AppliesTo, goes_on, stops}
-use Rattle.curve_making.proofs.Excesses.{finite_excess, excess_nonneg}
-use Rattle.curve_making.proofs.InTurn.{applies_determined, then_determined}
+use Rattle.curve_call.specs.Answers.{IsMadeBy}
+use Rattle.curve_call.specs.Calls.{Applies, AppliesTo, goes_on, stops}
+use Rattle.curve_call.proofs.Excesses.{finite_excess, excess_nonneg}
+use Rattle.curve_call.proofs.InTurn.{applies_determined, then_determined}
 use Rattle.priority_residual.specs.Calls.{LeavesPriority, MakesPriority, PriorityCurveServes, PriorityIsDetermined}
 use Rattle.priority_residual.specs.Laws.{priority_left, IsPriorityService}
 use Rattle.priority_residual.proofs.PriorityLaw.{priority_serves}

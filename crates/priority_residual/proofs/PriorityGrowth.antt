@@ -11,9 +11,9 @@ use Rattle.min_plus.specs.Functions.{zero_q, IsNonnegative}
 use Rattle.min_plus.specs.Pointwise.{excess}
 use Rattle.run_laws.specs.Cards.{whole}
 use Rattle.run_laws.proofs.Sizes.{whole_nonneg}
-use Rattle.curve_making.specs.Growth.{GrowsFromZero, IsBoundedFromZero}
-use Rattle.curve_making.proofs.Excesses.{excess_nonneg, excess_nothing, excess_most}
-use Rattle.curve_making.proofs.GrowingAnswers.{supremum_grows}
+use Rattle.curve_call.specs.Growth.{GrowsFromZero, IsBoundedFromZero}
+use Rattle.curve_call.proofs.Excesses.{excess_nonneg, excess_nothing, excess_most}
+use Rattle.curve_call.proofs.GrowingAnswers.{supremum_grows}
 use Rattle.priority_residual.specs.Growth.{PriorityServiceGrows, PriorityCurveGrows}
 use Rattle.priority_residual.specs.Laws.{priority_left}
 use Rattle.priority_residual.proofs.PriorityCalls.{made_curve, service_is}

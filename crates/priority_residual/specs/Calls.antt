@@ -11,8 +11,8 @@ use Rattle.run_laws.specs.Servers.{Priority, Server}
 use Rattle.run_laws.specs.Allows.{IsLawfulView}
 use Rattle.run_laws.specs.Premises.{KeepsArrivals, KeepsService, KeepsSizes, IsZeroAtStart}
 use Rattle.run_laws.specs.Serves.{Serves}
-use Rattle.curve_making.specs.Calls.{Applies, AppliesTo, Then}
-use Rattle.curve_making.specs.Determined.{IsDetermined}
+use Rattle.curve_call.specs.Calls.{Applies, AppliesTo, Then}
+use Rattle.curve_call.specs.Determined.{IsDetermined}
 
 -- the first two calls
 abbrev pub LeavesPriority : SpecCurve → SpecCurve → ℕ → Result SpecCurve OpFault → Type 0

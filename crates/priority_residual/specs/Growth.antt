@@ -5,7 +5,7 @@ use Rattle.rational.specs.Rational.{ℚ}
 use Rattle.rational.specs.Extended.{Ext}
 use Rattle.upp_curve.specs.Curve.{SpecCurve, value_at}
 use Rattle.min_plus.specs.Functions.{IsNonnegative}
-use Rattle.curve_making.specs.Growth.{GrowsFromZero, IsServiceCurve}
+use Rattle.curve_call.specs.Growth.{GrowsFromZero, IsServiceCurve}
 use Rattle.priority_residual.specs.Calls.{MakesPriority}
 use Rattle.priority_residual.specs.Laws.{IsPriorityService}
 

@@ -7,8 +7,8 @@ ghost use Rattle.run_laws.specs.Cards.{whole};
 ghost use Rattle.priority_residual.specs.Calls.{LeavesPriority, MakesPriority};
 ghost use Rattle.priority_residual.specs.Laws.{IsPriorityService};
 
+use curve_call::seen;
 use curve_envelope::{pos_diff, pos_minus, run_sup};
-use curve_making::seen;
 use fraction128::Frac;
 use std::alloc::Global;
 use std::sync::ledger::Ledger;

@@ -6,7 +6,7 @@ use Rattle.affine_segment.specs.declared.element.Element.{Element}
 use Rattle.upp_curve.specs.declared.op_kind.OpFault.{OpFault}
 use Rattle.upp_curve.specs.declared.op_kind.OpFault.TheVariants.{TooMany, TooWide, NoMemory}
 use Rattle.upp_curve.specs.Curve.{SpecCurve}
-use Rattle.curve_making.specs.Calls.{goes_on, stops}
+use Rattle.curve_call.specs.Calls.{goes_on, stops}
 use Rattle.closure_elements.specs.ElementAnswers.{IsElementClosure, ClosureAnswer}
 use Rattle.closure_elements.specs.Lattices.{lattice_curve, origin_curve}
 use Rattle.closure_elements.proofs.HeavyCalls.{heavy_is_refused}

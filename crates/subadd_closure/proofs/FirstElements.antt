@@ -24,7 +24,7 @@ use Rattle.curve_conv.specs.PieceElements.{point_of, segment_of, next_start, ele
 use Rattle.curve_conv.proofs.Cover.{read_one, read_stop, value_here}
 use Rattle.upp_curve.specs.declared.op_kind.OpFault.{OpFault}
 use Rattle.upp_curve.specs.declared.op_kind.OpFault.TheVariants.{NoMemory}
-use Rattle.curve_making.specs.Calls.{stops}
+use Rattle.curve_call.specs.Calls.{stops}
 use Rattle.closure_fold.specs.CurveParts.{pieces_end, part_of, parts_of}
 use Rattle.closure_fold.specs.Folds.{CloseAnswer}
 use Rattle.closure_fold.proofs.EachParts.{starts_before}

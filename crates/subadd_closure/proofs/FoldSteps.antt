@@ -7,7 +7,7 @@ use Rattle.upp_curve.specs.declared.op_kind.OpKind.TheVariants.{Convolve}
 use Rattle.upp_curve.specs.declared.op_kind.OpFault.{OpFault}
 use Rattle.upp_curve.specs.Curve.{SpecCurve, value_at}
 use Rattle.min_plus.specs.Functions.{zero_q}
-use Rattle.curve_making.specs.Calls.{Applies, Then, goes_on, stops}
+use Rattle.curve_call.specs.Calls.{Applies, Then, goes_on, stops}
 use Rattle.closure_fold.specs.declared.part.Part.{Part}
 use Rattle.closure_fold.specs.CurveParts.{parts_of}
 use Rattle.closure_fold.specs.Folds.{PartAnswer, FoldAnswer, PartsAnswer, SetBackAnswer, CloseAnswer}

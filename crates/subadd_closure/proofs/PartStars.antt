@@ -8,7 +8,7 @@ use Rattle.upp_curve.specs.declared.op_kind.OpKind.TheVariants.{Min, Convolve}
 use Rattle.upp_curve.specs.declared.op_kind.OpFault.{OpFault}
 use Rattle.upp_curve.specs.declared.op_kind.OpFault.TheVariants.{NoMemory}
 use Rattle.upp_curve.specs.Curve.{SpecCurve}
-use Rattle.curve_making.specs.Calls.{Applies, Then, goes_on, stops}
+use Rattle.curve_call.specs.Calls.{Applies, Then, goes_on, stops}
 use Rattle.closure_elements.specs.ElementAnswers.{IsElementClosure}
 use Rattle.closure_elements.specs.Lattices.{lattice_curve, origin_curve}
 use Rattle.closure_fold.specs.declared.part.Copies.{Copies}

@@ -23,8 +23,8 @@ use Rattle.upp_curve.specs.Windows.{window_at}
 use Rattle.upp_curve.specs.Gauges.{numbers_over, gauge_over, gauge_at}
 use Rattle.upp_curve.specs.declared.call_sizes.CallNumbers.{CallNumbers}
 use Rattle.upp_curve.specs.CallNumbers.{AreCallNumbers}
-use Rattle.curve_frame.specs.declared.windows.CallWindow.{CallWindow}
-use Rattle.curve_frame.specs.FirstWindows.{IsFirstWindow, IsWideAtFirst}
+use Rattle.curve_call.specs.declared.windows.CallWindow.{CallWindow}
+use Rattle.curve_call.specs.FirstWindows.{IsFirstWindow, IsWideAtFirst}
 use Rattle.closure_elements.specs.ElementCurves.{IsStretch}
 use Rattle.closure_elements.specs.MeetLaws.{StretchesMeet}
 use Rattle.closure_fold.specs.Folds.{segment_number, SegmentWithin, SegmentCause}

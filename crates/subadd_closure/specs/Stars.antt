@@ -9,7 +9,7 @@ use Rattle.upp_curve.specs.declared.op_kind.OpFault.{OpFault}
 use Rattle.upp_curve.specs.declared.op_kind.OpFault.TheVariants.{NoMemory}
 use Rattle.upp_curve.specs.Curve.{SpecCurve}
 use Rattle.min_plus.specs.Functions.{zero_q}
-use Rattle.curve_making.specs.Calls.{Applies, Then}
+use Rattle.curve_call.specs.Calls.{Applies, Then}
 use Rattle.closure_elements.specs.ElementAnswers.{IsElementClosure}
 use Rattle.closure_elements.specs.Lattices.{lattice_curve, origin_curve}
 

@@ -4,7 +4,7 @@ use Rattle.upp_curve.specs.declared.op_kind.OpKind.TheVariants.{Min, Convolve}
 use Rattle.upp_curve.specs.declared.op_kind.OpFault.{OpFault}
 use Rattle.upp_curve.specs.Curve.{SpecCurve}
 use Rattle.upp_curve.specs.Outcome.{KeepsLimits}
-use Rattle.curve_making.specs.Calls.{Applies, Then}
+use Rattle.curve_call.specs.Calls.{Applies, Then}
 
 -- the convolution of f with itself, and then the lesser of f and that: a refusal is the first one's that is over its
 -- limit

@@ -10,7 +10,7 @@ ghost use Rattle.closure_fold.specs.Folds.{segment_number, SegmentCause};
 ghost use Rattle.subadd_closure.specs.SegmentLimits.{IsElementOf, IsOwnGauge, LengthsFit, IsOverLimit, IsOverlap};
 
 use affine_segment::Line;
-use curve_frame::first_window;
+use curve_call::first_window;
 use fraction128::{Ext, Frac, difference, is_less, quotient};
 use rational::Extended;
 use upp_curve::{Curve, OpFault, OpKind, call_numbers};

@@ -12,9 +12,9 @@ ghost use Rattle.subadd_closure.specs.Stars.{Copies, IsTurn, Lowers, MakesStar, 
 
 use affine_segment::Line;
 use closure_elements::{lattice, origin, point_closure, segment_closure};
+use curve_call::seen;
 use curve_convolution::convolve;
 use curve_lattice::min;
-use curve_making::seen;
 use fraction128::{Ext, Frac};
 use std::alloc::Global;
 use std::sync::ledger::Ledger;

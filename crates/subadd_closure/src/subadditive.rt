@@ -5,9 +5,9 @@ ghost use Rattle.upp_curve.specs.Curve.{value_at};
 ghost use Rattle.min_plus.specs.Convolution.{IsSubadditive};
 ghost use Rattle.subadd_closure.specs.Tests.{TestsSubadditive};
 
+use curve_call::seen;
 use curve_convolution::convolve;
 use curve_lattice::min;
-use curve_making::seen;
 use std::alloc::Global;
 use std::sync::ledger::Ledger;
 use steps::Steps;

@@ -6,7 +6,7 @@ use Rattle.net_cells.specs.Means.{with_links}
 use Rattle.net_cells.specs.CellFormulas.{links_along}
 use Rattle.cell_paths.proofs.Counting.{counts_all}
 use Rattle.cell_kinds.proofs.Arms.{sfa_comes, sfa_served_by}
-use Rattle.curve_making.specs.Calls.{stops}
+use Rattle.curve_call.specs.Calls.{stops}
 use Rattle.std.proofs.Common.{refl}
 use Rattle.cell_delays.proofs.PathSums.{delayed_answer}
 use Rattle.cell_delays.proofs.kinds.sfa.Goals as goal

@@ -3,7 +3,7 @@ use Rattle.std.specs.Prelude.{Some}
 use Rattle.upp_curve.specs.declared.op_kind.OpKind.TheVariants.{PosMinus, Vertical}
 use Rattle.min_plus.specs.Deviations.{IsVerticalDeviation}
 use Rattle.run_laws.specs.Cards.{whole}
-use Rattle.curve_making.specs.Calls.{AppliesTo}
+use Rattle.curve_call.specs.Calls.{AppliesTo}
 use Rattle.net_cells.specs.Meanings.{curve, number}
 use Rattle.cell_table.specs.Values.{answer_of}
 use Rattle.cell_nodes.specs.Shapes.{Serving}

@@ -1,6 +1,6 @@
 use Rattle.std.proofs.Common.{subst}
 use Rattle.upp_curve.specs.declared.op_kind.OpKind.TheVariants.{PosMinus}
-use Rattle.curve_making.specs.Calls.{AppliesTo}
+use Rattle.curve_call.specs.Calls.{AppliesTo}
 use Rattle.cell_nodes.proofs.Handing.{packets_finite}
 use Rattle.cell_nodes.proofs.nodes.in_packets.Goals as goal
 

@@ -2,8 +2,8 @@ use Rattle.std.proofs.Common.{sym, ap, ◌∙◌, subst}
 use Rattle.std.specs.Prelude.{Some}
 use Rattle.upp_curve.specs.declared.op_kind.OpKind.TheVariants.{PosMinus, Deconvolve}
 use Rattle.run_laws.specs.Cards.{whole}
-use Rattle.curve_making.specs.Calls.{Applies, AppliesTo}
-use Rattle.curve_making.proofs.Applied.{applied_seen}
+use Rattle.curve_call.specs.Calls.{Applies, AppliesTo}
+use Rattle.curve_call.proofs.Applied.{applied_seen}
 use Rattle.net_cells.specs.Meanings.{curve}
 use Rattle.cell_table.specs.Values.{answer_of, meaning_of}
 use Rattle.cell_nodes.specs.Shapes.{Serving}

@@ -2,8 +2,8 @@ use Rattle.std.proofs.Common.{sym, ap, ◌∙◌, subst, arith}
 use Rattle.std.specs.Prelude.{Some, Ok, Err}
 use Rattle.upp_curve.specs.declared.op_kind.OpKind.TheVariants.{PosMinus, Convolve}
 use Rattle.run_laws.specs.Cards.{whole}
-use Rattle.curve_making.specs.Calls.{Applies, AppliesTo}
-use Rattle.curve_making.proofs.Applied.{applied_seen}
+use Rattle.curve_call.specs.Calls.{Applies, AppliesTo}
+use Rattle.curve_call.proofs.Applied.{applied_seen}
 use Rattle.net_cells.specs.Meanings.{curve}
 use Rattle.net_cells.specs.Formulas.{value_of}
 use Rattle.net_cells.specs.CellFormulas.{less}

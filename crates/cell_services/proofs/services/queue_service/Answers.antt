@@ -1,6 +1,6 @@
 use Rattle.std.proofs.Common.{◌≡◌, sym, ap, ◌∙◌, subst, length, map}
 use Rattle.std.specs.List.{range_with_len}
-use Rattle.curve_making.specs.Again.{IsAgain}
+use Rattle.curve_call.specs.Again.{IsAgain}
 use Rattle.net_model.specs.Views as views
 use Rattle.net_cells.specs.declared.cell.Kind.TheVariants.{Higher}
 use Rattle.net_cells.specs.Cells.{cell_of}

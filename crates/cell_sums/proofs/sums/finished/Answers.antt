@@ -1,5 +1,5 @@
 use Rattle.std.proofs.Common.{subst}
-use Rattle.curve_making.specs.Again.{IsAgain}
+use Rattle.curve_call.specs.Again.{IsAgain}
 use Rattle.net_cells.specs.Numbered.{zero_curve}
 use Rattle.cell_table.specs.Values.{answer_of, meaning_of}
 use Rattle.cell_sums.specs.Partial.{IsPartial}

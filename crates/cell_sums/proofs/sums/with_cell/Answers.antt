@@ -1,8 +1,8 @@
 use Rattle.std.proofs.Common.{sym, ap, ◌∙◌, subst}
 use Rattle.std.specs.Prelude.{Some}
 use Rattle.upp_curve.specs.declared.op_kind.OpKind.TheVariants.{Sum}
-use Rattle.curve_making.specs.Calls.{Applies}
-use Rattle.curve_making.proofs.Applied.{applied_seen}
+use Rattle.curve_call.specs.Calls.{Applies}
+use Rattle.curve_call.proofs.Applied.{applied_seen}
 use Rattle.net_cells.specs.Meanings.{curve}
 use Rattle.cell_sums.proofs.SumSteps.{adds_made, adds_refused}
 use Rattle.cell_sums.proofs.sums.with_cell.Goals as goal

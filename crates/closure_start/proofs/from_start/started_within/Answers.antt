@@ -9,7 +9,7 @@ use Rattle.affine_segment.specs.Reading.{read}
 use Rattle.upp_curve.specs.Curve.{repeated}
 use Rattle.upp_curve.specs.Normalising.{HasValues}
 use Rattle.upp_curve.proofs.NormaliseForm.{ok_map}
-use Rattle.curve_frame.specs.Answering.{IsAnswer}
+use Rattle.curve_call.specs.Answering.{IsAnswerWindow}
 use Rattle.curve_lattice.proofs.LatticeCalls.{from_fits}
 use Rattle.closure_start.proofs.Started.{started_answer}
 use Rattle.closure_start.proofs.Windowed.{IsConvolved}
@@ -72,7 +72,7 @@ answer-requires c =
     c.difference-from.result
     c.slower_rise-rise.result C
     c.args.start c.requires.nonneg.0 c.requires.nonneg.1 c.requires.finite c.requires.start at in
-    subst (λ ps. IsAnswer ps c.difference-from.result r.period c.slower_rise-rise.result r.times r.values)
+    subst (λ ps. IsAnswerWindow ps c.difference-from.result r.period c.slower_rise-rise.result r.times r.values)
     (sym c.with_first-started.ensures)
     (started_answer c.args.f.now c.args.g.now c.args.frame.now c.in_ok-pieces.pieces.items c.difference-from.result
     c.slower_rise-rise.result
@@ -109,7 +109,7 @@ answer-requires-2 c =
       rise_is = c.slower_rise-rise.ensures;
     } in
     let r = c.args.frame.now in
-    subst (λ ps. IsAnswer ps c.difference-from.result r.period c.slower_rise-rise.result r.times r.values)
+    subst (λ ps. IsAnswerWindow ps c.difference-from.result r.period c.slower_rise-rise.result r.times r.values)
     (sym c.with_first-open.ensures)
     (started_answer c.args.f.now c.args.g.now c.args.frame.now c.in_ok-pieces.pieces.items c.difference-from.result
     c.slower_rise-rise.result

@@ -1,7 +1,7 @@
 use Rattle.std.proofs.Common.{sym, subst, pos, ◌∙◌}
 use Rattle.rational.specs.Rational.{int, ◌≤ℚ◌}
 use Rattle.min_plus.proofs.FiniteValues.{no_inf}
-use Rattle.curve_frame.proofs.CurveTimes.{steady_nonneg}
+use Rattle.curve_call.proofs.CurveTimes.{steady_nonneg}
 use Rattle.curve_deviation.proofs.PeriodsFound.{steady_not_wide}
 use Rattle.curve_deviation.proofs.horizontals.value_then.Goals as goal
 

@@ -3,8 +3,8 @@ use Rattle.rational.specs.Rational.{◌-ℚ◌, neg_ℚ}
 use Rattle.rational.specs.Ratio.{SumFits}
 use Rattle.upp_curve.specs.Ahead.{IsTimeIn}
 use Rattle.upp_curve.specs.declared.op_kind.OpKind.TheVariants.{Horizontal}
-use Rattle.curve_frame.specs.Frames.{sizes_at}
-use Rattle.curve_lag.proofs.CellSizes.{not_less}
+use Rattle.curve_call.specs.Frames.{sizes_at}
+use Rattle.curve_deviation.proofs.CellSizes.{not_less}
 use Rattle.curve_deviation.proofs.WindowTimes.{window_times}
 use Rattle.curve_deviation.proofs.Searching.{left_is}
 use Rattle.curve_deviation.proofs.search.is_first_before.Goals as goal

@@ -7,7 +7,7 @@ use Rattle.affine_segment.specs.Pieces.{Each}
 use Rattle.upp_curve.specs.Gauges.{scaled_piece, scaled_tail}
 use Rattle.upp_curve.specs.ClosedOperands.{PieceScales, TailScales}
 use Rattle.upp_curve.proofs.NormaliseForm.{ok_map}
-use Rattle.curve_frame.specs.Frames.{sizes_at}
+use Rattle.curve_call.specs.Frames.{sizes_at}
 use Rattle.curve_envelope.proofs.ScaleCall.{IsMade, scale_call, pieces_scale, made_raw, made_found, made_values}
 use Rattle.curve_envelope.proofs.scaling.scale_within.Goals as goal
 

@@ -2,8 +2,8 @@ use Rattle.std.proofs.Common.{◌∙◌}
 use Rattle.rational.specs.declared.Extended.TheVariants.{Fin}
 use Rattle.upp_curve.specs.declared.op_kind.OpKind.TheVariants.{Shift}
 use Rattle.upp_curve.proofs.NormaliseForm.{ok_map}
-use Rattle.curve_frame.specs.Frames.{sizes_at}
-use Rattle.curve_frame.proofs.Operands.{operand_to}
+use Rattle.curve_call.specs.Frames.{sizes_at}
+use Rattle.curve_call.proofs.Operands.{operand_to}
 use Rattle.curve_envelope.proofs.ShiftCall.{shift_call, zero_fits, start_fits, window_pieces, pieces_fit, shift_answer, shift_values}
 use Rattle.curve_envelope.proofs.shifts.shift_within.Goals as goal
 

@@ -5,8 +5,8 @@ use Rattle.upp_curve.specs.Steady.{rise_over}
 use Rattle.upp_curve.specs.declared.op_kind.OpKind.TheVariants.{Sum}
 use Rattle.upp_curve.proofs.NormaliseForm.{ok_map}
 use Rattle.curve_window.proofs.OperandWindows.{cuts_fit, sums_fit}
-use Rattle.curve_frame.specs.Frames.{sizes_at}
-use Rattle.curve_frame.proofs.Operands.{operand_to}
+use Rattle.curve_call.specs.Frames.{sizes_at}
+use Rattle.curve_call.proofs.Operands.{operand_to}
 use Rattle.curve_envelope.proofs.SumCall.{sum_call, left_pieces, right_pieces, rises_fit, sum_answer, sum_values}
 use Rattle.curve_envelope.proofs.sums.sum_within.Goals as goal
 

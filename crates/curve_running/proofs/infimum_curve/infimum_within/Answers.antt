@@ -3,7 +3,7 @@ use Rattle.upp_curve.specs.declared.op_kind.OpKind.TheVariants.{RunInf}
 use Rattle.affine_segment.specs.Reading.{read}
 use Rattle.upp_curve.specs.Curve.{repeated}
 use Rattle.upp_curve.specs.Normalising.{HasValues}
-use Rattle.curve_frame.specs.Frames.{sizes_at}
+use Rattle.curve_call.specs.Frames.{sizes_at}
 use Rattle.upp_curve.proofs.NormaliseForm.{ok_map}
 use Rattle.curve_running.specs.Scans.{IsWindow, ScanFits}
 use Rattle.curve_running.specs.Runs.{RunsFrom, IsFrontBefore}

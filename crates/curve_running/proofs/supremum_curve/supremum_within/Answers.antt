@@ -5,7 +5,7 @@ use Rattle.affine_segment.specs.Reading.{read}
 use Rattle.upp_curve.specs.Curve.{value_at, repeated}
 use Rattle.min_plus.specs.Functions.{IsFinite}
 use Rattle.upp_curve.specs.Normalising.{HasValues}
-use Rattle.curve_frame.specs.Frames.{sizes_at}
+use Rattle.curve_call.specs.Frames.{sizes_at}
 use Rattle.upp_curve.proofs.NormaliseForm.{ok_map}
 use Rattle.curve_running.specs.Scans.{IsWindow, ScanFits}
 use Rattle.curve_running.specs.Runs.{RunsUpTo}

@@ -1,8 +1,8 @@
 use Rattle.std.proofs.Common.{refl, subst}
 use Rattle.std.proofs.lemmas.Result.{err_from_is_err_and}
 use Rattle.upp_curve.specs.declared.op_kind.OpKind.TheVariants.{PosDiff, PosMinus}
-use Rattle.curve_making.specs.Calls.{AppliesTo, goes_on, stops}
-use Rattle.curve_making.proofs.Applied.{applied_seen}
+use Rattle.curve_call.specs.Calls.{AppliesTo, goes_on, stops}
+use Rattle.curve_call.proofs.Applied.{applied_seen}
 use Rattle.priority_residual.proofs.PriorityCalls.{difference_finite}
 use Rattle.priority_residual.proofs.service.priority_left.Goals as goal
 

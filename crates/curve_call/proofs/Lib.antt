@@ -1,0 +1,16 @@
+pub mod CurveTimes
+pub mod CallTimes
+pub mod CallFits
+pub mod Limited
+pub mod FrameFacts
+pub mod Answering
+pub mod CurveRises
+pub mod FirstGate
+pub mod Operands
+pub mod Applied
+pub mod InTurn
+pub mod SameAnswers
+pub mod Excesses
+pub mod FiniteAnswers
+pub mod GrowingAnswers
+pub mod TailMoves

@@ -1,0 +1,20 @@
+-- The first look at a call: its window with no period, whose gauge no number of periods makes smaller. Own choice.
+use Rattle.std.specs.Prelude.{◌<◌, ◌≤◌, ◌^◌}
+use Rattle.upp_curve.specs.declared.op_kind.OpKind.{OpKind}
+use Rattle.upp_curve.specs.declared.op_kind.OpFault.{OpFault}
+use Rattle.upp_curve.specs.declared.op_kind.OpFault.TheVariants.{TooMany, TooWide, NoMemory}
+use Rattle.upp_curve.specs.Curve.{SpecCurve}
+use Rattle.upp_curve.specs.Gauges.{gauge_at}
+use Rattle.curve_call.specs.declared.windows.CallWindow.{CallWindow}
+use Rattle.curve_call.specs.CallWindows.{IsWindow}
+
+-- the window of a call with no period, whose gauge is within the limit
+pub record IsFirstWindow (op : OpKind) (f g : SpecCurve) (w : CallWindow) : Type 0 where
+  pub window : IsWindow op f g 0 0 w
+  pub gauge : gauge_at op f g 0 0 < 2 ^ 120
+
+-- the only refusal is for the gauge with no period
+abbrev pub IsWideAtFirst : OpKind → SpecCurve → SpecCurve → OpFault → Type 0
+IsWideAtFirst op f g TooMany = ⊥
+IsWideAtFirst op f g TooWide = 2 ^ 120 ≤ gauge_at op f g 0 0
+IsWideAtFirst op f g NoMemory = ⊥

@@ -1,0 +1,12 @@
+pub mod Times
+pub mod CallWindows
+pub mod FirstWindows
+pub mod Frames
+pub mod Rises
+pub mod Answering
+pub mod Again
+pub mod Answers
+pub mod Calls
+pub mod Determined
+pub mod Finite
+pub mod Growth

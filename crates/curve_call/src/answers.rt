@@ -1,0 +1,34 @@
+//! The curve of a call's answer, from its pieces in a window.
+
+ghost use Rattle.std.specs.Prelude.{IfOk};
+ghost use Rattle.affine_segment.specs.Reading.{read};
+ghost use Rattle.upp_curve.specs.Curve.{repeated};
+ghost use Rattle.upp_curve.specs.Normalising.{HasValues};
+ghost use Rattle.curve_call.specs.Answering.{IsAnswerWindow};
+
+use affine_segment::Piece;
+use fraction128::Frac;
+use std::alloc::{AllocError, Global};
+use upp_curve::{Curve, RawCurve, Tail, normalise_on};
+
+/// The curve that reads as the pieces below from + period, and from `from` on repeats: each `period` later it is `rise` higher.
+/// `times` and `values` are the grids of its call. Refused only for want of memory.
+pub fn answer(
+    alloc: Global,
+    pieces: Vec<Piece>,
+    from: Frac,
+    period: Frac,
+    rise: Frac,
+    times: u128,
+    values: u128,
+) -> Result<Curve, AllocError>
+    requires { IsAnswerWindow pieces.items from period rise times values }
+    ensures { IfOk result (λ c. HasValues c (repeated (read pieces.items) from period rise)) }
+{
+    let tail = Tail::Periodic {
+        rank: from,
+        period,
+        rise,
+    };
+    normalise_on(alloc, &RawCurve { pieces, tail }, times, values)
+}

@@ -1,0 +1,24 @@
+//! What every call on curves shares: its window and limits, and room for the pieces of its answer. And how calls follow one
+//! another: what one call answers, what a call and then another answers, and that such answers are determined.
+#![tactic(auto)]
+
+mod answers;
+mod frame;
+mod gate;
+mod kept;
+mod laws;
+mod rises;
+#[cfg(test)]
+mod tests;
+mod times;
+mod windows;
+
+pub use answers::answer;
+pub use frame::{Frame, within, within_both};
+pub use gate::first_window;
+pub use kept::seen;
+pub use laws::{Making, answers_are_determined, answers_are_finite, answers_grow, calls_in_turn};
+pub use rises::rise_over;
+pub use times::{common_period, own_period};
+pub use upp_curve::steady_time;
+pub use windows::{CallWindow, call_window};

@@ -1,0 +1,235 @@
+-- A curve up to the end of a window, as its kept pieces or as its stretches say: the values, and their sizes.
+use Rattle.std.specs.Prelude.{◌≡◌, ℕ, cond, pos, List, [], ◌∷◌, Option, Some, None}
+use Rattle.std.specs.List.{AllByRecursion}
+use Rattle.std.proofs.Common.{sym, ap, ◌∙◌, refl, subst, inl, inr}
+use Rattle.rational.specs.Rational.{ℚ, ◌+ℚ◌, ◌≤ℚ◌, ◌<ℚ◌, int}
+use Rattle.rational.specs.MinMax.{min_q}
+use Rattle.rational.specs.Grid.{Whole}
+use Rattle.rational.specs.Extended.{Ext}
+use Rattle.rational.proofs.Laws.{le_refl, le_trans, le_of_lt, le_or_lt, lt_le_trans, le_lt_trans}
+use Rattle.rational.proofs.MinMax.{min_q_left, min_q_right, min_q_le_left, min_q_le_right, below_min_in, le_q_not}
+use Rattle.rational.proofs.Over.{le_q_out}
+use Rattle.affine_segment.specs.declared.line.Piece.{Piece}
+use Rattle.affine_segment.specs.Values.{line_value}
+use Rattle.upp_curve.specs.declared.curve.Tail.{Tail}
+use Rattle.upp_curve.specs.declared.curve.Tail.TheVariants.{Periodic, Affine, Infinite}
+use Rattle.upp_curve.specs.declared.ahead.Stretch.{Stretch}
+use Rattle.affine_segment.specs.Reading.{read, piece_in, piece_value, next_in, line_in}
+use Rattle.upp_curve.specs.Curve.{SpecCurve, value_at, with_tail}
+use Rattle.upp_curve.specs.Curves.{IsCurve}
+use Rattle.min_plus.specs.Functions.{IsFinite}
+use Rattle.affine_segment.specs.Pieces.{Each, StartsAtZero}
+use Rattle.upp_curve.specs.Normal.{IsNormal, TailFits}
+use Rattle.affine_segment.specs.Fits.{ReadFits, LineFitsAt}
+use Rattle.upp_curve.specs.Readable.{TailReadable}
+use Rattle.rational.specs.Ratio.{SumFits}
+use Rattle.upp_curve.specs.Limits.{Sizes}
+use Rattle.upp_curve.specs.Spans.{spans, piece_read}
+use Rattle.upp_curve.specs.Sized.{SpanStands}
+use Rattle.upp_curve.specs.Operand.{AreLimited, OperandLineAt}
+use Rattle.upp_curve.specs.Ahead.{IsBeforeNext, GoesOn, AtNext, TimesStand, HasWindow, IsOverBy, IsTimeIn, GridValue}
+use Rattle.upp_curve.proofs.PieceLists.{spans_some}
+use Rattle.upp_curve.proofs.Repeats.{repeated_first}
+use Rattle.upp_curve.proofs.RisingCurves.{infinite_is_not_finite}
+use Rattle.upp_curve.proofs.CurveStands.{unrolled_stand, each_stands, has_period}
+use Rattle.upp_curve.proofs.StretchPieces.{next_past, next_all, reads_on, span_in, found_early, found_late}
+use Rattle.upp_curve.proofs.StretchSizes.{span_line, grid_value, times_stand}
+use Rattle.upp_curve.proofs.StretchValues.{with_pieces}
+use Rattle.upp_curve.proofs.AnswerRoom.{operand_line_fits, operand_line_value, stands_operand_value}
+use Rattle.curve_deviation.specs.declared.parts.Part.{Part}
+use Rattle.curve_deviation.specs.Parts.{IsSeen, GoesTo, PartStands, IsEarlyBy, until_of}
+
+-- ---- the earlier of two times
+pub earlier_right : (a b : ℚ) → b <ℚ a → b ≡ min_q a b
+earlier_right a b h = sym (min_q_right a b h)
+
+pub earlier_left : (a b : ℚ) → a ≤ℚ b → a ≡ min_q a b
+earlier_left a b h = sym (min_q_left a b h)
+
+until_past : (t end : ℚ) (next : Option ℚ) → t <ℚ end → IsBeforeNext t next → t <ℚ until_of end next
+until_past t end None h k = h
+until_past t end (Some e) h k = below_min_in end e t h k
+
+until_high : (end : ℚ) (next : Option ℚ) → until_of end next ≤ℚ end
+until_high end None = le_refl end
+until_high end (Some e) = min_q_le_left end e
+
+until_next : (u end : ℚ) (next : Option ℚ) → u <ℚ until_of end next → IsBeforeNext u next
+until_next u end None h = tt
+until_next u end (Some e) h = lt_le_trans h (min_q_le_right end e)
+
+-- a time that stands where it is before the end
+until_whole : (P : ℚ → Type 0) (end : ℚ) (next : Option ℚ) → P end → AtNext (λ x. x <ℚ end → P x) next → P (until_of end next)
+until_whole P end None h k = h
+until_whole P end (Some e) h k = elim (le_or_lt end e) [
+  | inl l ↦ subst P (earlier_left end e l) h
+  | inr l ↦ subst P (earlier_right end e l) (k l)
+]
+
+-- ---- a finite curve does not end
+abbrev pub IsEndless : Tail → Type 0
+IsEndless (Periodic rank period rise) = Unit {0}
+IsEndless (Affine rank) = Unit {0}
+IsEndless (Infinite rank) = ⊥
+
+pub endless : (c : SpecCurve) → IsCurve c → IsFinite (value_at c) → IsEndless c.tail
+endless c curve finite = by_tail c.pieces c.tail curve.normal finite
+  where
+    by_tail : (ps : List Piece) (tail : Tail) → IsNormal record { pieces = ps; tail = tail } → IsFinite (value_at record { pieces = ps; tail = tail }) → IsEndless tail
+    by_tail ps (Periodic rank period rise) N h = tt
+    by_tail ps (Affine rank) N h = tt
+    by_tail ps (Infinite rank) N h = infinite_is_not_finite ps rank N h
+
+read_as_kept : (tail : Tail) (p : Piece) → IsEndless tail → piece_read tail p ≡ p
+read_as_kept (Periodic rank period rise) p h = refl
+read_as_kept (Affine rank) p h = refl
+read_as_kept (Infinite rank) p h = absurd h
+
+-- ---- values
+pub value_early : (c : SpecCurve) (end u : ℚ) → IsCurve c → IsFinite (value_at c) → IsEarlyBy end c.tail → u <ℚ end → value_at c u ≡ read c.pieces u
+unfolding value_at
+value_early c end u curve finite early h = by_tail c.pieces c.tail curve.normal.raw.tail (endless c curve finite) early
+  where
+    by_tail : (ps : List Piece) (tail : Tail) → TailFits ps tail → IsEndless tail → IsEarlyBy end tail → with_tail (read ps) tail u ≡ read ps u
+    by_tail ps (Periodic rank period rise) fits k early = repeated_first (read ps) rank period rise u fits.some (lt_le_trans h early)
+    by_tail ps (Affine rank) fits k early = refl
+    by_tail ps (Infinite rank) fits k early = absurd k
+
+-- ---- the pieces that start before the end
+all_stand : (z : Sizes) (end : ℚ) (c : SpecCurve) → IsSeen z end c → AllByRecursion (λ s. s.piece.x <ℚ end → SpanStands z s) (spans c.tail c.pieces)
+all_stand z end c S = each_stands (SpanStands z) end c (has_period c.pieces c.tail S.curve.normal.raw.tail) (unrolled_stand z end c S.stands)
+
+each_start : (z : Sizes) (end : ℚ) (tail : Tail) (ps : List Piece) → AllByRecursion (λ s. s.piece.x <ℚ end → SpanStands z s) (spans tail ps) → Each (λ p. p.x <ℚ end → Whole z.dt p.x) ps
+each_start z end tail [] h = tt
+each_start z end tail (p ∷ ps) h =
+    let k = subst (AllByRecursion (λ s. s.piece.x <ℚ end → SpanStands z s)) (spans_some tail p ps) h in
+    ((λ l. (k.0 l).start), each_start z end tail ps k.1)
+
+-- what is read there fits, and has the sizes
+pub record EarlyHere (z : Sizes) (end : ℚ) (c : SpecCurve) (t : ℚ) : Type 0 where
+  pub fits : ReadFits c.pieces t
+  pub line : OperandLineAt z (line_in c.pieces t)
+  pub at : GridValue z (read c.pieces t)
+  pub next : Whole z.dt (until_of end (next_in c.pieces t None))
+
+early_of : (z : Sizes) (end t : ℚ) (p : Piece) (ps : List Piece) (next : Option ℚ) → AreLimited z end → IsTimeIn z end t → StartsAtZero (p ∷ ps)
+    → SpanStands z record { piece = piece_in p ps t; next = next } → ReadFits (p ∷ ps) t × OperandLineAt z (line_in (p ∷ ps) t) × GridValue z (read (p ∷ ps) t)
+unfolding read piece_value
+early_of z end t p ps next A time starts stands =
+    let q = piece_in p ps t in
+    let first : p.x ≤ℚ t = subst (λ x. x ≤ℚ t) (sym starts.0) time.nonneg in
+    let early : q.x ≤ℚ t = found_early p ps t first in
+    let low : int (pos 0) ≤ℚ q.x = subst (λ x. x ≤ℚ q.x) starts.0 (found_late p ps t starts.1) in
+    let high : t ≤ℚ end = le_of_lt time.before in
+    let line : OperandLineAt z q.line = span_line z end record { piece = q; next = next } A low (le_trans early high) stands in (
+      λ l. operand_line_fits z end t q.line A line time.whole time.nonneg high,
+      line,
+      elim (le_or_lt t q.x) [
+        | inl l ↦ subst (λ b. GridValue z (cond b q.at (line_value q.line t))) (sym (le_q_out t q.x l)) (grid_value z q.at (stands_operand_value z q.at stands.at))
+        | inr l ↦ subst (λ b. GridValue z (cond b q.at (line_value q.line t))) (sym (le_q_not t q.x l)) (grid_value z (line_value q.line t) (operand_line_value z end t q.line A line time.whole time.nonneg high))
+      ],
+    )
+
+pub early_here : (z : Sizes) (end : ℚ) (c : SpecCurve) (t : ℚ) → IsSeen z end c → IsTimeIn z end t → EarlyHere z end c t
+early_here z end c t S time =
+    with_pieces {G = EarlyHere z end c t} c.pieces S.curve.normal.raw.starts (λ p ps f.
+    let starts : StartsAtZero (p ∷ ps) = subst StartsAtZero f S.curve.normal.raw.starts in
+    let goes = endless c S.curve S.finite in
+    let all : AllByRecursion (λ s. s.piece.x <ℚ end → SpanStands z s) (spans c.tail (p ∷ ps)) =
+    subst (λ qs. AllByRecursion (λ s. s.piece.x <ℚ end → SpanStands z s) (spans c.tail qs)) f (all_stand z end c S) in
+    let (next, stands) = span_in (λ s. s.piece.x <ℚ end → SpanStands z s) c.tail p ps t all in
+    let first : p.x ≤ℚ t = subst (λ x. x ≤ℚ t) (sym starts.0) time.nonneg in
+    let here = subst (λ q. SpanStands z record { piece = q; next = next }) (read_as_kept c.tail (piece_in p ps t) goes) (stands (le_lt_trans (found_early p ps t first) time.before)) in
+    let found = early_of z end t p ps next S.limited time starts here in
+    record {
+      fits = subst (λ qs. ReadFits qs t) (sym f) found.0;
+      line = subst (λ qs. OperandLineAt z (line_in qs t)) (sym f) found.1;
+      at = subst (λ qs. GridValue z (read qs t)) (sym f) found.2;
+      next = until_whole (Whole z.dt) end (next_in c.pieces t None) S.limited.sizes.window
+          (next_all (λ x. x <ℚ end → Whole z.dt x) c.pieces t None (each_start z end c.tail c.pieces (all_stand z end c S)) tt);
+    })
+
+pub early_goes : (c : SpecCurve) (t end : ℚ) (p : Part) → IsCurve c → IsFinite (value_at c) → IsEarlyBy end c.tail → int (pos 0) ≤ℚ t → t <ℚ end → p.at ≡ read c.pieces t → p.line ≡ line_in c.pieces t
+    → p.until ≡ until_of end (next_in c.pieces t None) → GoesTo (value_at c) t end p
+early_goes c t end p curve finite early some before at line until =
+    let next = next_in c.pieces t None in
+    record {
+      at = at ∙ sym (value_early c end t curve finite early before);
+      line = λ u l k.
+          let m : u <ℚ until_of end next = subst (λ x. u <ℚ x) until k in
+          value_early c end u curve finite early (lt_le_trans m (until_high end next)) ∙ reads_on c.pieces t u None curve.normal.raw.starts some l (until_next u end next m) ∙ sym (ap (λ m. line_value m u) line);
+      past = subst (λ x. t <ℚ x) (sym until) (until_past t end next before (next_past c.pieces t None tt));
+      high = subst (λ x. x ≤ℚ end) (sym until) (until_high end next);
+    }
+
+pub early_stands : (z : Sizes) (end : ℚ) (c : SpecCurve) (t : ℚ) (p : Part) → IsSeen z end c → IsTimeIn z end t → p.at ≡ read c.pieces t → p.line ≡ line_in c.pieces t
+    → p.until ≡ until_of end (next_in c.pieces t None) → PartStands z p
+early_stands z end c t p S time at line until =
+    let here = early_here z end c t S time in
+    record { at = subst (GridValue z) (sym at) here.at; line = subst (OperandLineAt z) (sym line) here.line; until = subst (Whole z.dt) (sym until) here.next }
+
+-- ---- past the first period
+pub seen_window : (z : Sizes) (end : ℚ) (c : SpecCurve) → IsSeen z end c → IsOverBy end c.tail → HasWindow z end c
+seen_window z end c S over = record { curve = S.curve; limited = S.limited; stands = S.stands; over = over }
+
+pub late_goes : (f : ℚ → Ext) (t end : ℚ) (s : Stretch) (p : Part) → t <ℚ end → GoesOn f t s → p.at ≡ s.at → p.line ≡ s.line → p.until ≡ until_of end s.next → GoesTo f t end p
+late_goes f t end s p before goes at line until = record {
+  at = at ∙ goes.at;
+  line = λ u l k. goes.line u l (until_next u end s.next (subst (λ x. u <ℚ x) until k)) ∙ sym (ap (λ m. line_value m u) line);
+  past = subst (λ x. t <ℚ x) (sym until) (until_past t end s.next before goes.next);
+  high = subst (λ x. x ≤ℚ end) (sym until) (until_high end s.next);
+}
+
+pub late_stands : (z : Sizes) (end t : ℚ) (c : SpecCurve) (s : Stretch) (p : Part) → IsSeen z end c → IsOverBy end c.tail → IsTimeIn z end t
+    → ((d : ℕ) → TimesStand d c → AtNext (Whole d) s.next) → (HasWindow z end c → IsTimeIn z end t → OperandLineAt z s.line × GridValue z s.at)
+    → p.at ≡ s.at → p.line ≡ s.line → p.until ≡ until_of end s.next → PartStands z p
+late_stands z end t c s p S over time times sizes at line until =
+    let W = seen_window z end c S over in
+    let found = sizes W time in
+    record {
+      at = subst (GridValue z) (sym at) found.1;
+      line = subst (OperandLineAt z) (sym line) found.0;
+      until = subst (Whole z.dt) (sym until) (until_whole (Whole z.dt) end s.next S.limited.sizes.window (loosen s.next (times z.dt (times_stand z end c S.curve W))));
+    }
+  where
+    loosen : (next : Option ℚ) → AtNext (Whole z.dt) next → AtNext (λ x. x <ℚ end → Whole z.dt x) next
+    loosen None h = tt
+    loosen (Some e) h = λ l. h
+
+-- ---- the first period's end is readable
+pub end_fits : (c : SpecCurve) (tail : Tail) (rank period rise : ℚ) → IsCurve c → tail ≡ c.tail → tail ≡ Periodic rank period rise → SumFits rank period
+end_fits c tail rank period rise curve e f = (subst (TailReadable c.pieces) (sym e ∙ f) curve.readable).end
+
+pub early_tail : (c : SpecCurve) (tail : Tail) (rank period rise end first : ℚ) → tail ≡ c.tail → tail ≡ Periodic rank period rise → first ≡ rank +ℚ period → end ≤ℚ first → IsEarlyBy end c.tail
+early_tail c tail rank period rise end first e f g h =
+    let found : IsEarlyBy end (Periodic rank period rise) = subst (λ x. end ≤ℚ x) g h in
+    subst (IsEarlyBy end) (sym f ∙ e) found
+
+pub over_tail : (c : SpecCurve) (tail : Tail) (rank period rise end first : ℚ) → tail ≡ c.tail → tail ≡ Periodic rank period rise → first ≡ rank +ℚ period → first <ℚ end → IsOverBy end c.tail
+over_tail c tail rank period rise end first e f g h =
+    let found : IsOverBy end (Periodic rank period rise) = le_of_lt (subst (λ x. x <ℚ end) g h) in
+    subst (IsOverBy end) (sym f ∙ e) found
+
+pub other_tail : (c : SpecCurve) (tail : Tail) (end : ℚ) → tail ≡ c.tail → ((rank period rise : ℚ) → tail ≡ Periodic rank period rise → ⊥) → IsEarlyBy end c.tail
+other_tail c tail end e none = subst (IsEarlyBy end) e (by_tail tail none)
+  where
+    by_tail : (k : Tail) → ((rank period rise : ℚ) → k ≡ Periodic rank period rise → ⊥) → IsEarlyBy end k
+    by_tail (Periodic rank period rise) h = absurd (h rank period rise refl)
+    by_tail (Affine rank) h = tt
+    by_tail (Infinite rank) h = tt
+
+-- ---- the piece as it is found
+pub value_by : (p : Piece) (t : ℚ) → t ≤ℚ p.x → p.at ≡ piece_value p t
+unfolding piece_value
+value_by p t h = ap (λ b. cond b p.at (line_value p.line t)) (sym (le_q_out t p.x h))
+
+pub fits_found : (ps : List Piece) (t : ℚ) (found : Piece) → StartsAtZero ps → ReadFits ps t → ((p : Piece) (qs : List Piece) → ps ≡ p ∷ qs → found ≡ piece_in p qs t) → found.x <ℚ t → LineFitsAt t found.line
+fits_found [] t found starts fits is = absurd starts
+fits_found (p ∷ ps) t found starts fits is = subst (λ q. q.x <ℚ t → LineFitsAt t q.line) (sym (is p ps refl)) fits
+
+pub line_found : (ps : List Piece) (t : ℚ) (found : Piece) → StartsAtZero ps → ((p : Piece) (qs : List Piece) → ps ≡ p ∷ qs → found ≡ piece_in p qs t) → found.line ≡ line_in ps t
+line_found [] t found starts is = absurd starts
+line_found (p ∷ ps) t found starts is = ap (λ q. q.line) (is p ps refl)
+
+pub as_until : (qs ps : List Piece) (t end until : ℚ) → qs ≡ ps → until ≡ until_of end (next_in qs t None) → until ≡ until_of end (next_in ps t None)
+as_until qs ps t end until e f = f ∙ ap (λ rs. until_of end (next_in rs t None)) e

@@ -1,0 +1,127 @@
+//! How long one line lies behind another over a stretch of each.
+
+ghost use Rattle.std.specs.Prelude.{◌≡◌, ◌≢◌, ◌↔◌, IsTrue, pos};
+ghost use Rattle.rational.specs.Rational.{ℚ, int, ◌-ℚ◌, ◌*ℚ◌, ◌/ℚ◌, ◌<ℚ◌, ◌≤ℚ◌, neg_ℚ};
+ghost use Rattle.rational.specs.Ratio.{IsSmall, SumFits};
+ghost use Rattle.affine_segment.specs.Values.{line_at};
+ghost use Rattle.affine_segment.specs.Fits.{LineFits};
+ghost use Rattle.upp_curve.specs.Limits.{Sizes};
+ghost use Rattle.upp_curve.specs.Sized.{IsSlope};
+ghost use Rattle.curve_deviation.specs.Cells.{RisingCell, CellSizes, IsTimeTo, IsCellLag};
+
+use affine_segment::{Line, value};
+use fraction128::Frac;
+use std::cmp::Ordering;
+
+/// Two lines, each over its stretch.
+#[derive(Debug, Clone, Copy)]
+pub struct Cell {
+    /// The line that is to be reached.
+    pub first: Line,
+    /// Where its stretch starts.
+    pub start: Frac,
+    /// Where its stretch ends.
+    pub end: Frac,
+    /// The line that lies behind.
+    pub second: Line,
+    /// Where its stretch starts.
+    pub from: Frac,
+    /// Where its stretch ends.
+    pub until: Frac,
+}
+
+/// Whether a is less than b.
+pub(crate) fn is_less(a: Frac, b: Frac) -> bool
+    ensures { IsTrue result ↔ (a <ℚ b) }
+{
+    match a.cmp(&b) {
+        Ordering::Less => true,
+        _ => false,
+    }
+}
+
+/// The value of a line at t.
+pub(crate) fn line_at(line: &Line, t: Frac) -> Frac
+    requires { LineFits t line.now }
+    ensures { result ≡ line_at line.now t }
+{
+    value(line, t).unwrap()
+}
+
+/// a - b.
+fn difference(a: Frac, b: Frac) -> Frac
+    requires { SumFits a (neg_ℚ b) }
+    ensures { result ≡ a -ℚ b }
+{
+    Frac::sub(a, b).unwrap()
+}
+
+/// a / b.
+fn quotient(a: Frac, b: Frac) -> Frac
+    requires some { b ≢ int (pos 0) }
+    requires fits { IsSmall (a /ℚ b) }
+    ensures { result ≡ a /ℚ b }
+{
+    Frac::div(a, b).unwrap()
+}
+
+/// How far the first line is above the second at a time, divided by a slope above 0.
+fn gap_over(c: &Cell, at: Frac, slope: Frac) -> Frac
+    requires sizes { (z : Sizes) × (last : ℚ) × CellSizes z last c.now × IsTimeTo z last at × IsSlope z slope }
+    requires some { int (pos 0) <ℚ slope }
+    ensures { result *ℚ slope ≡ line_at c.now.first at -ℚ line_at c.now.second at }
+{
+    let gap = difference(line_at(&c.first, at), line_at(&c.second, at));
+    quotient(gap, slope)
+}
+
+/// The lag of a cell whose first line is the steeper one, and starts no higher than the second ends: where the one of the
+/// two that ends first does so.
+fn steep_lag(c: &Cell) -> Frac
+    requires sizes { (z : Sizes) × (last : ℚ) × CellSizes z last c.now }
+    requires rising { RisingCell c.now }
+    requires low { line_at c.now.first c.now.start ≤ℚ line_at c.now.second c.now.until }
+    requires steep { c.now.second.slope <ℚ c.now.first.slope }
+    ensures { IsCellLag c.now result }
+{
+    let high = line_at(&c.first, c.end);
+    if is_less(line_at(&c.second, c.until), high) {
+        return gap_over(c, c.until, c.first.slope);
+    }
+    if is_less(line_at(&c.second, c.from), high) {
+        return gap_over(c, c.end, c.second.slope);
+    }
+    Frac::zero()
+}
+
+/// The lag of a cell whose first line is not the steeper one, and starts no higher than the second ends: where the first
+/// starts.
+fn gentle_lag(c: &Cell) -> Frac
+    requires sizes { (z : Sizes) × (last : ℚ) × CellSizes z last c.now }
+    requires rising { RisingCell c.now }
+    requires low { line_at c.now.first c.now.start ≤ℚ line_at c.now.second c.now.until }
+    requires gentle { c.now.first.slope ≤ℚ c.now.second.slope }
+    ensures { IsCellLag c.now result }
+{
+    if is_less(line_at(&c.second, c.from), line_at(&c.first, c.start)) {
+        return gap_over(c, c.start, c.second.slope);
+    }
+    Frac::zero()
+}
+
+/// The lag of a cell: how much later at most the second line reaches a level that the first has left, each within its
+/// stretch; 0 where it never does so later. Made by one quotient of a difference of values by a slope.
+pub(crate) fn cell_lag(c: &Cell) -> Frac
+    requires sizes { (z : Sizes) × (last : ℚ) × CellSizes z last c.now }
+    requires rising { RisingCell c.now }
+    ensures { IsCellLag c.now result }
+{
+    if is_less(line_at(&c.second, c.until), line_at(&c.first, c.start)) {
+        return difference(c.until, c.start);
+    }
+    if is_less(c.second.slope, c.first.slope) {
+        steep_lag(c)
+    } else {
+        gentle_lag(c)
+    }
+}

@@ -1,0 +1,128 @@
+//! The longest lag of one curve behind another, by one walk over the stretches of both.
+
+ghost use Rattle.std.specs.Prelude.{◌≡◌, pos, Some};
+ghost use Rattle.rational.specs.Rational.{ℚ, int, ◌≤ℚ◌, ◌<ℚ◌};
+ghost use Rattle.rational.specs.MinMax.{max_q};
+ghost use Rattle.rational.specs.Extended.{◌≤ₑ◌};
+ghost use Rattle.affine_segment.specs.Values.{line_at};
+ghost use Rattle.upp_curve.specs.Curve.{value_at};
+ghost use Rattle.min_plus.specs.Functions.{IsRising};
+ghost use Rattle.upp_curve.specs.Limits.{Sizes};
+ghost use Rattle.upp_curve.specs.Shapes.{IsLine};
+ghost use Rattle.upp_curve.specs.Ahead.{IsTimeIn};
+ghost use Rattle.curve_deviation.specs.Cells.{RisingCell, CellSizes, IsTimeTo, IsCellLag};
+ghost use Rattle.curve_deviation.specs.Parts.{IsSeen};
+ghost use Rattle.curve_deviation.specs.Rises.{IsCellOf};
+ghost use Rattle.curve_deviation.specs.Lags.{IsLongestLag};
+
+use crate::cells::{Cell, cell_lag, is_less, line_at};
+use crate::parts::{Part, earlier, part_at};
+use affine_segment::Line;
+use fraction128::Frac;
+use upp_curve::Curve;
+
+/// Where the walk stands: all times of the first curve before `time` have been looked at, and all of the second up to
+/// `reached`.
+#[derive(Debug, Clone, Copy)]
+struct Walk {
+    time: Frac,
+    reached: Frac,
+    lag: Frac,
+}
+
+/// The line of a part of a finite curve.
+fn line_of(part: &Part) -> Line
+    requires { IsLine part.now.line }
+    ensures { part.now.line ≡ Some result }
+{
+    match part.line {
+        Some(line) => line,
+        None => Line {
+            icept: Frac::zero(),
+            slope: Frac::zero(),
+        },
+    }
+}
+
+/// The larger of two numbers.
+fn greater(a: Frac, b: Frac) -> Frac
+    ensures { result ≡ max_q a b }
+{
+    if is_less(b, a) { a } else { b }
+}
+
+/// How f goes on from `time`, up to `until`, and g from `reached`.
+fn cell_at(f: &Curve, g: &Curve, time: Frac, reached: Frac, until: Frac, end: Frac) -> Cell
+    ghost sizes: { Sizes }
+    requires first { IsSeen sizes end f.now × IsTimeIn sizes end time }
+    requires second { IsSeen sizes end g.now × IsTimeIn sizes end reached }
+    requires rising { IsRising (value_at f.now) × IsRising (value_at g.now) }
+    requires until { IsTimeTo sizes end until }
+    requires before { time <ℚ until }
+    ensures cell { IsCellOf (value_at f.now) (value_at g.now) time reached until end result }
+    ensures sizes { CellSizes sizes end result }
+{
+    let above = part_at(f, time, end);
+    let below = part_at(g, reached, end);
+    Cell {
+        first: line_of(&above),
+        start: time,
+        end: earlier(until, above.until),
+        second: line_of(&below),
+        from: reached,
+        until: below.until,
+    }
+}
+
+/// One step: past the second's stretch where it ends below the first's, else past the first's.
+fn step(cell: &Cell, lag: Frac) -> Walk
+    requires sizes { (z : Sizes) × (last : ℚ) × CellSizes z last cell.now }
+    requires rising { RisingCell cell.now }
+    ensures lag { (q : ℚ) × IsCellLag cell.now q × (result.lag ≡ max_q lag q) }
+    ensures second { line_at cell.now.second cell.now.until <ℚ line_at cell.now.first cell.now.end
+        → (result.time ≡ cell.now.start) × (result.reached ≡ cell.now.until) }
+    ensures first { line_at cell.now.first cell.now.end ≤ℚ line_at cell.now.second cell.now.until
+        → (result.time ≡ cell.now.end) × (result.reached ≡ cell.now.from) }
+{
+    let lag = greater(lag, cell_lag(cell));
+    if is_less(
+        line_at(&cell.second, cell.until),
+        line_at(&cell.first, cell.end),
+    ) {
+        Walk {
+            time: cell.start,
+            reached: cell.until,
+            lag,
+        }
+    } else {
+        Walk {
+            time: cell.end,
+            reached: cell.from,
+            lag,
+        }
+    }
+}
+
+/// The longest lag of g behind what f is before `until`, where both are finite and rise, and g reaches f's value at `until`
+/// before the window's end. Each step passes a stretch of one of the two below the window's end; nothing is unrolled, and
+/// no memory is taken. The window's sizes are those of a gauge below 2^120 over both curves' numbers.
+pub(crate) fn longest_lag(f: &Curve, g: &Curve, until: Frac, end: Frac) -> Frac
+    ghost sizes: { Sizes }
+    requires first { IsSeen sizes end f.now }
+    requires second { IsSeen sizes end g.now }
+    requires rising { IsRising (value_at f.now) × IsRising (value_at g.now) }
+    requires until { IsTimeIn sizes end until }
+    requires reached { (w : ℚ) × (int (pos 0) ≤ℚ w) × (w <ℚ end) × (value_at f.now until ≤ₑ value_at g.now w) }
+    ensures { IsLongestLag (λ s. s <ℚ until) (value_at f.now) (value_at g.now) result }
+{
+    let mut walk = Walk {
+        time: Frac::zero(),
+        reached: Frac::zero(),
+        lag: Frac::zero(),
+    };
+    while is_less(walk.time, until) {
+        let cell = cell_at(f, g, walk.time, walk.reached, until, end);
+        walk = step(&cell, walk.lag);
+    }
+    walk.lag
+}

@@ -1,9 +1,0 @@
-pub mod CurveTimes
-pub mod CallTimes
-pub mod CallFits
-pub mod Limited
-pub mod FrameFacts
-pub mod Answering
-pub mod CurveRises
-pub mod FirstGate
-pub mod Operands

@@ -1,4 +1,0 @@
-pub mod Cells
-pub mod Parts
-pub mod Rises
-pub mod Lags

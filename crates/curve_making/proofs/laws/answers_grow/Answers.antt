@@ -1,5 +1,0 @@
-use Rattle.curve_making.proofs.GrowingAnswers.{growing_answers}
-use Rattle.curve_making.proofs.laws.answers_grow.Goals as goal
-
-pub returns : goal.returns
-returns c = growing_answers
