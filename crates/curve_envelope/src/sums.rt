@@ -25,7 +25,7 @@ fn sum_within(alloc: Global, f: &Curve, g: &Curve, frame: &Frame) -> Result<Curv
     let pieces = window_sum(alloc, &left, &right)?;
     let first = rise_over(f, frame.period);
     let second = rise_over(g, frame.period);
-    let rise = upp_curve::sum(first, second);
+    let rise = fraction128::sum(first, second);
     answer(
         alloc,
         pieces,
