@@ -168,7 +168,7 @@ turn_start z end x rises b A B C past before = record {
 }
 
 -- ---- the line of one line less another
-zero_is : (z : Sizes) → SumLine z zero_line
+pub zero_is : (z : Sizes) → SumLine z zero_line
 zero_is z = record {
   slope = record { whole = whole_int z.ds (pos 0); within = still (int (pos z.steepness)) (nat_nonneg z.steepness) };
   icept = whole_int (grid_of z) (pos 0);

@@ -14,7 +14,7 @@ use Rattle.curve_conv.proofs.OperandElements.{elements_stand}
 use Rattle.curve_conv.proofs.Windows.{windows_convolve}
 
 -- every start is before infinity
-endless : (ps : List Piece) → StartBefore Inf ps
+pub endless : (ps : List Piece) → StartBefore Inf ps
 endless [] = tt
 endless (p ∷ ps) = (tt, endless ps)
 

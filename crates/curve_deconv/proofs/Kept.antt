@@ -78,7 +78,7 @@ deconvolution_keeps = record { rising = rises; above = above_first; nonnegative 
 one_more : (v : ℚ) → int (pos 0) ≤ℚ v → v ≤ℚ v +ℚ v
 one_more v h = with1 v (λ c. omega (arith, c.le, c.lt, c.same))
 
-line_from : (l : Line) (x t : ℚ) → line_at l t ≡ line_at l x +ℚ l.slope *ℚ (t -ℚ x)
+pub line_from : (l : Line) (x t : ℚ) → line_at l t ≡ line_at l x +ℚ l.slope *ℚ (t -ℚ x)
 line_from l x t =
     let i = l.icept in
     let a = l.slope *ℚ t in

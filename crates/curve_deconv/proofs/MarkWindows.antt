@@ -10,7 +10,7 @@ use Rattle.rational.specs.declared.Extended.TheVariants.{Fin, Inf}
 use Rattle.rational.proofs.Grid.{whole_int, within_nonneg}
 use Rattle.rational.proofs.Integers.{nat_nonneg, int_mul}
 use Rattle.rational.proofs.Linear.{with1, with3}
-use Rattle.rational.proofs.Laws.{le_or_lt, le_refl, le_of_lt, lt_le_trans, le_lt_trans, lt_trans, lt_irrefl, zero_mul}
+use Rattle.rational.proofs.Laws.{le_or_lt, le_refl, le_of_lt, lt_le_trans, le_lt_trans, lt_trans, lt_irrefl, zero_mul, add_zero}
 use Rattle.rational.proofs.MinMax.{lt_q_not}
 use Rattle.rational.proofs.Over.{lt_q_out}
 use Rattle.rational.proofs.ExtendedOrder.{add_zero_ext}
@@ -24,15 +24,16 @@ use Rattle.upp_curve.specs.Sized.{grid_of, times_largest}
 use Rattle.affine_segment.proofs.PieceIn.{value_past}
 use Rattle.affine_segment.proofs.PieceOrder.{each_map}
 use Rattle.curve_window.specs.Pointwise.{ValueSumFits, LineSumFits, SumsFit, IsSumPiece, IsWindowSum, sum_line}
-use Rattle.curve_window.specs.Made.{ValueApartFits, LineApartFits}
+use Rattle.curve_window.specs.Made.{ValueApartFits, LineApartFits, zero_line}
 use Rattle.curve_conv.specs.ElementRoom.{SumLine}
 use Rattle.curve_conv.specs.SumWindows.{SumStart, SumValueAt, SumLineAt, SumPiece, SumWindow}
 use Rattle.curve_conv.specs.Arches.{Arches}
 use Rattle.curve_conv.proofs.Cover.{value_here, read_one, read_stop, read_go}
 use Rattle.curve_conv.proofs.SumSteps.{start_in, sum_line_in, sum_read}
-use Rattle.curve_conv.proofs.SumLower.{values_apart, lines_apart}
+use Rattle.curve_conv.proofs.SumLower.{values_apart, lines_apart, zero_is}
 use Rattle.curve_deconv.specs.declared.marks.Last.{Last}
-use Rattle.curve_deconv.specs.Marks.{nothing_yet, zero_line, mark_after, after_pieces, mark_pieces}
+use Rattle.curve_deconv.specs.Marks.{nothing_yet, mark_after, after_pieces, mark_pieces}
+use Rattle.curve_window.proofs.MadeStands.{some_largest}
 
 -- ---- what they read
 zero_value : (t : ℚ) → line_value (Some zero_line) t ≡ Fin (int (pos 0))
@@ -105,11 +106,8 @@ pub record MarkStands (z : Sizes) (reach end : ℚ) (last : Last) : Type 0 where
   pub some : int (pos 0) <ℚ end
   pub at : IsMarkValue last.at
 
-many_some : (z : Sizes) (k : ℕ) → int (pos 0) ≤ℚ times_largest k z
-many_some z k = subst (λ y. int (pos 0) ≤ℚ y) (sym (int_mul (pos k) (pos z.largest))) (nat_nonneg (k * z.largest))
-
 zero_sum_value : (z : Sizes) (x : ℚ) → SumValueAt z x (Fin (int (pos 0)))
-zero_sum_value z x = record { whole = λ grid base on. whole_int (grid * z.ds) (pos 0); within = within_nonneg (times_largest 7 z) (int (pos 0)) (le_refl (int (pos 0))) (many_some z 7) }
+zero_sum_value z x = record { whole = λ grid base on. whole_int (grid * z.ds) (pos 0); within = within_nonneg (times_largest 7 z) (int (pos 0)) (le_refl (int (pos 0))) (some_largest z 7) }
 
 mark_value : (z : Sizes) (x : ℚ) (v : Ext) → IsMarkValue v → SumValueAt z x v
 mark_value z x v (inl e) = subst (SumValueAt z x) (sym e) tt
@@ -117,16 +115,6 @@ mark_value z x v (inr e) = subst (SumValueAt z x) (sym e) (zero_sum_value z x)
 
 twice_none : int (pos 2) *ℚ int (pos 0) ≡ int (pos 0)
 twice_none = with1 (int (pos 0)) (λ c. omega (arith, c.le, c.lt, c.same))
-
-zero_stands : (z : Sizes) → SumLine z zero_line
-zero_stands z = record {
-  slope = record {
-    whole = whole_int z.ds (pos 0);
-    within = subst (Within (int (pos z.steepness))) (sym twice_none) (within_nonneg (int (pos z.steepness)) (int (pos 0)) (le_refl (int (pos 0))) (nat_nonneg z.steepness));
-  };
-  icept = whole_int (grid_of z) (pos 0);
-  within = within_nonneg (times_largest 6 z) (int (pos 0)) (le_refl (int (pos 0))) (many_some z 6);
-}
 
 first_stands : (z : Sizes) (end : ℚ) → int (pos 0) <ℚ end → SumPiece z end nothing_yet
 first_stands z end some = record { start = record { place = inl (whole_int z.dt (pos 0)); nonneg = le_refl (int (pos 0)); before = some }; at = tt; line = tt }
@@ -140,7 +128,7 @@ marks_stand z reach end last M =
         starts = (refl, (M.past, tt));
         each = (
           first_stands z end M.some,
-          (record { start = record { place = inl M.whole; nonneg = M.low; before = h }; at = mark_value z x last.at M.at; line = zero_stands z }, tt),
+          (record { start = record { place = inl M.whole; nonneg = M.low; before = h }; at = mark_value z x last.at M.at; line = zero_is z }, tt),
         );
       }
     ]
@@ -220,12 +208,9 @@ sum_value z x v w (inr e) h = subst (λ y. SumValueAt z x (v +ₑ y)) (sym e) (s
 unfoldable make_line : ℚ → ℚ → Line
 make_line i s = record { icept = i; slope = s }
 
-none_more : (x : ℚ) → x +ℚ int (pos 0) ≡ x
-none_more x = with1 x (λ c. omega (arith, c.le, c.lt, c.same))
-
 same_sum : (l : Line) → sum_line (Some l) (Some zero_line) ≡ Some l
 unfolding make_line
-same_sum l = ap (λ i. Some (make_line i (l.slope +ℚ int (pos 0)))) (none_more l.icept) ∙ ap (λ s. Some (make_line l.icept s)) (none_more l.slope)
+same_sum l = ap (λ i. Some (make_line i (l.slope +ℚ int (pos 0)))) (add_zero l.icept) ∙ ap (λ s. Some (make_line l.icept s)) (add_zero l.slope)
 
 sum_line_stands : (z : Sizes) (l m : Option Line) → IsMarkLine m → SumLineAt z l → SumLineAt z (sum_line l m)
 sum_line_stands z None m M h = tt

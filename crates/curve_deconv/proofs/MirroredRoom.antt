@@ -27,6 +27,8 @@ use Rattle.curve_conv.specs.ElementRoom.{OperandElement}
 use Rattle.curve_conv.proofs.Members.{among_cases}
 use Rattle.curve_conv.proofs.Cover.{head, head_cases}
 use Rattle.curve_deconv.specs.Mirrored.{neg_element, neg_line, mirror, mirror_line, MirrorFits, EachElement}
+use Rattle.curve_deconv.proofs.Kept.{line_from}
+use Rattle.upp_curve.proofs.StretchSizes.{grid_value}
 
 -- ---- minus the values
 twice_back : (s : ℚ) → int (pos 2) *ℚ neg_ℚ s ≡ neg_ℚ (int (pos 2) *ℚ s)
@@ -80,10 +82,6 @@ pub record ReadyPiece (z : Sizes) (end reach : ℚ) (p : Piece) : Type 0 where
   pub before : p.x <ℚ reach
   pub after : ValueStands z (line_value p.line p.x)
 
-grid_value : (z : Sizes) (v : Ext) → OperandValueAt z v → GridValue z v
-grid_value z Inf h = tt
-grid_value z (Fin v) h = record { whole = h.whole; within = h.within }
-
 piece_time : (z : Sizes) (end reach : ℚ) (p : Piece) → ReadyPiece z end reach p → ReachTime z reach p.x
 piece_time z end reach p P = record { whole = P.piece.start; low = P.piece.nonneg; high = le_of_lt P.before }
 
@@ -121,15 +119,6 @@ elements_ready z end reach ps e h w low k = ready_in z end reach ps e h record {
 one_two : (z : Sizes) → int (pos z.largest) +ℚ times_largest 1 z ≡ times_largest 2 z
 one_two z = let v = int (pos z.largest) in with1 v (λ c. omega (arith, c.le, c.lt, c.same))
 
-far_line : (l : Line) (x reach : ℚ) → line_at l reach ≡ line_at l x +ℚ l.slope *ℚ (reach -ℚ x)
-far_line l x reach =
-    let i = l.icept in
-    let a = l.slope *ℚ reach in
-    let b = l.slope *ℚ x in
-    let c = l.slope *ℚ (reach -ℚ x) in
-    let e : c ≡ a -ℚ b = mul_sub l.slope reach x in
-    with4 i a b c (λ c. omega (arith, c.le, c.lt, c.same))
-
 mirror_operand_line : (z : Sizes) (end reach x : ℚ) (l : Line) → AreLimited z end → Whole z.dt reach → int (pos 0) ≤ℚ reach → reach ≤ℚ end → int (pos 0) ≤ℚ x → x ≤ℚ reach
     → OperandLine z l → IsValue z (line_at l x) → OperandLine z (mirror_line reach l)
 mirror_operand_line z end reach x l A w low high xl xh L V =
@@ -140,7 +129,7 @@ mirror_operand_line z end reach x l A w low high xl xh L V =
     record {
       slope = neg_slope z l.slope L.slope;
       icept = (operand_line_value z end reach (Some l) A L w low high).whole;
-      within = subst (Within (times_largest 2 z)) (sym (far_line l x reach))
+      within = subst (Within (times_largest 2 z)) (sym (line_from l x reach))
           (subst (λ m. Within m (line_at l x +ℚ l.slope *ℚ far)) (one_two z) (within_add (int (pos z.largest)) (times_largest 1 z) (line_at l x) (l.slope *ℚ far) V.within run));
     }
 

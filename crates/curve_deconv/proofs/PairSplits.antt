@@ -20,11 +20,7 @@ use Rattle.curve_conv.proofs.Cover.{cover, element_times}
 use Rattle.curve_deconv.specs.Mirrored.{neg_element, mirror}
 use Rattle.curve_deconv.specs.DeconvolutionWindows.{EarlyPair, IsLeastPair}
 use Rattle.curve_deconv.proofs.Mirrored.{among_made, made_of, neg_covers, neg_covers_out, neg_level, have_ends, mirror_covers, mirror_covers_out, mirror_level}
-
--- every start is before infinity
-pub endless : (ps : List Piece) → StartBefore Inf ps
-endless [] = tt
-endless (p ∷ ps) = (tt, endless ps)
+use Rattle.curve_conv.proofs.WindowConvolution.{endless}
 
 pub before_end : (ps : List Piece) (end : ℚ) → Each (λ p. p.x <ℚ end) ps → StartBefore (Fin end) ps
 before_end [] end h = tt

@@ -24,7 +24,8 @@ use Rattle.curve_conv.proofs.OperandElements.{elements_stand}
 use Rattle.curve_deconv.specs.Mirrored.{neg_element, mirror, MirrorFits, EachElement}
 use Rattle.curve_deconv.specs.DeconvolutionWindows.{OperandWindows, IsPairsWindow}
 use Rattle.curve_deconv.proofs.Mirrored.{made_of, neg_proper, mirror_proper, have_ends}
-use Rattle.curve_deconv.proofs.PairSplits.{AreRead, endless, before_end, splits_pair, pairs_agree}
+use Rattle.curve_deconv.proofs.PairSplits.{AreRead, before_end, splits_pair, pairs_agree}
+use Rattle.curve_conv.proofs.WindowConvolution.{endless}
 use Rattle.curve_deconv.proofs.MirroredRoom.{ReadyPiece, elements_ready, neg_stands, mirror_stands, mirror_fits, each_element}
 
 ready_front : (end reach : ℚ) (f g front : List Piece) (r : OperandWindows end reach f g) → IsFrontBefore g reach front → Each (ReadyPiece r.sizes end reach) front

@@ -7,6 +7,7 @@ use Rattle.rational.specs.declared.Extended.TheVariants.{Fin, Inf}
 use Rattle.affine_segment.specs.declared.line.Line.{Line}
 use Rattle.affine_segment.specs.declared.line.Piece.{Piece}
 use Rattle.curve_deconv.specs.declared.marks.Last.{Last}
+use Rattle.curve_window.specs.Made.{zero_line}
 
 -- nowhere yet
 abbrev pub first_last : Last
@@ -34,9 +35,6 @@ last_of (p ∷ ps) end last = last_of ps end (last_step last p (next_time ps end
 -- ---- pieces that are infinite that long
 abbrev pub nothing_yet : Piece
 nothing_yet = record { x = int (pos 0); at = Inf; line = None }
-
-abbrev pub zero_line : Line
-zero_line = record { icept = int (pos 0); slope = int (pos 0) }
 
 abbrev pub mark_after : ℚ → Ext → Piece
 mark_after x at = record { x = x; at = at; line = Some zero_line }
