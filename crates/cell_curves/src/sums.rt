@@ -1,7 +1,7 @@
 //! The value of a sum, with what it took.
 
 ghost use Rattle.std.specs.Prelude.{ℕ, ◌-◌, List, [], length, Result, IfOk};
-ghost use Rattle.upp_curve.specs.declared.op_kind.OpFault.{OpFault};
+ghost use Rattle.upp_limits.specs.declared.op_kind.OpFault.{OpFault};
 ghost use Rattle.net_cells.specs.declared.cell.Cell.{Cell};
 ghost use Rattle.net_cells.specs.CellFormulas.{sum_of};
 ghost use Rattle.cell_table.specs.Gives.{Gives};
@@ -12,7 +12,7 @@ ghost use Rattle.cell_paths.specs.Evaluates.{Counts};
 use cell_sums::{Partial, finished};
 use cell_table::{Table, Value};
 use std::alloc::Global;
-use upp_curve::OpFault;
+use upp_limits::OpFault;
 
 /// The value of a sum of cells that was made, which takes one operator less than it has terms; or its refusal.
 pub(crate) fn summed<T: Table<Value>>(

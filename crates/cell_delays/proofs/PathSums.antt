@@ -8,7 +8,7 @@ use Rattle.std.proofs.lemmas.List.FromFn.{length-map-range_with_len, map-range_w
 use Rattle.rational.specs.Rational.{ℚ}
 use Rattle.rational.specs.Extended.{Ext, min_ext}
 use Rattle.rational.specs.declared.Extended.TheVariants.{Fin}
-use Rattle.upp_curve.specs.declared.op_kind.OpFault.{OpFault}
+use Rattle.upp_limits.specs.declared.op_kind.OpFault.{OpFault}
 use Rattle.net_model.specs.Networks.{Net}
 use Rattle.net_model.specs.Accepted.{IsAccepted}
 use Rattle.net_cells.specs.declared.cell.Cell.{Cell}

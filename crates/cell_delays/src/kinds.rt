@@ -3,7 +3,7 @@
 ghost use Rattle.net_cells.specs.declared.cell.Cell.{Cell};
 ghost use Rattle.net_cells.specs.declared.cell.Kind.TheVariants.{HopDelay, Tfa, Sfa, Bound};
 ghost use Rattle.std.specs.Prelude.{◌<◌, ℕ, Result};
-ghost use Rattle.upp_curve.specs.declared.op_kind.OpFault.{OpFault};
+ghost use Rattle.upp_limits.specs.declared.op_kind.OpFault.{OpFault};
 ghost use Rattle.net_cells.specs.Cells.{cell_of};
 ghost use Rattle.cell_table.specs.Values.{answer_of, meaning_of};
 ghost use Rattle.cell_paths.specs.Evaluates.{MayBeMade, Evaluates};
@@ -17,7 +17,7 @@ use net_model::Network;
 use number_sums::{and, lesser_number, no_number, sum_of};
 use std::sync::ledger::Ledger;
 use steps::Steps;
-use upp_curve::OpFault;
+use upp_limits::OpFault;
 
 macro_rules! cell {
     ($kind:ident, $a:expr, $b:expr) => {

@@ -7,7 +7,7 @@ use net_model::Network;
 use std::alloc::Global;
 use std::sync::ledger::Ledger;
 use steps::Steps;
-use upp_curve::OpFault;
+use upp_limits::OpFault;
 
 /// Makes values by the definitions, and counts each operator on curves in the caller's counter.
 #[derive(Drop)]

@@ -6,7 +6,7 @@ ghost use Rattle.net_cells.specs.declared.cell.Kind.TheVariants.{Theta, Residual
 ghost use Rattle.net_cells.specs.declared.cell.Kind.TheVariants.{HopDelay, ShiftOut, DeconvOut, Out};
 ghost use Rattle.net_cells.specs.declared.cell.Kind.TheVariants.{PathService, Tfa, Sfa, Bound};
 ghost use Rattle.std.specs.Prelude.{◌≡◌, ◌+◌, ◌≤◌, ◌<◌, IsTrue, OnOk, Result};
-ghost use Rattle.upp_curve.specs.declared.op_kind.OpFault.{OpFault};
+ghost use Rattle.upp_limits.specs.declared.op_kind.OpFault.{OpFault};
 ghost use Rattle.net_cells.specs.Cells.{has_cell};
 ghost use Rattle.net_cells.specs.CellFormulas.{formula};
 ghost use Rattle.net_cells.specs.Equations.{MeetsBelow};
@@ -24,7 +24,7 @@ use net_model::Network;
 use std::alloc::Global;
 use std::sync::ledger::Ledger;
 use steps::Steps;
-use upp_curve::OpFault;
+use upp_limits::OpFault;
 
 // The value of a cell by its kind: each call makes the one that its name says.
 fn by_kind<T: Table<Value>, L: Ledger>(

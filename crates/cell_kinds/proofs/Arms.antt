@@ -4,7 +4,7 @@ use Rattle.std.specs.Prelude.{Option, None, Some, Ok, Err, Result, IfOk, is_some
 use Rattle.std.specs.List.{range_with_len}
 use Rattle.std.proofs.lemmas.Bool.{ltb-true, and_parts}
 use Rattle.rational.specs.Extended.{Ext}
-use Rattle.upp_curve.specs.declared.op_kind.OpFault.{OpFault}
+use Rattle.upp_limits.specs.declared.op_kind.OpFault.{OpFault}
 use Rattle.upp_curve.specs.Curve.{SpecCurve, value_at}
 use Rattle.min_plus.specs.Deviations.{IsHorizontalDeviation}
 use Rattle.run_laws.specs.Servers.{Discipline, Priority}

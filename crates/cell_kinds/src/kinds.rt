@@ -5,7 +5,7 @@ ghost use Rattle.net_cells.specs.declared.cell.Kind.TheVariants.{In, Cross, Tota
 ghost use Rattle.net_cells.specs.declared.cell.Kind.TheVariants.{QueueDelay, QueueBacklog, HopDelay, ShiftOut};
 ghost use Rattle.net_cells.specs.declared.cell.Kind.TheVariants.{DeconvOut, Out};
 ghost use Rattle.std.specs.Prelude.{◌<◌, Result};
-ghost use Rattle.upp_curve.specs.declared.op_kind.OpFault.{OpFault};
+ghost use Rattle.upp_limits.specs.declared.op_kind.OpFault.{OpFault};
 ghost use Rattle.net_cells.specs.Cells.{cell_of};
 ghost use Rattle.cell_table.specs.Values.{answer_of, meaning_of};
 ghost use Rattle.cell_paths.specs.Evaluates.{MayBeMade, Evaluates};
@@ -19,7 +19,7 @@ use net_model::Network;
 use std::alloc::Global;
 use std::sync::ledger::Ledger;
 use steps::Steps;
-use upp_curve::OpFault;
+use upp_limits::OpFault;
 
 macro_rules! cell {
     ($kind:ident, $a:expr, $b:expr) => {

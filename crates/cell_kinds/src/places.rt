@@ -2,7 +2,7 @@
 
 ghost use Rattle.std.specs.Prelude.{◌≡◌, ◌<◌, Result};
 ghost use Rattle.rational.specs.Extended.{Ext};
-ghost use Rattle.upp_curve.specs.declared.op_kind.OpFault.{OpFault};
+ghost use Rattle.upp_limits.specs.declared.op_kind.OpFault.{OpFault};
 ghost use Rattle.net_cells.specs.Numbered as at;
 ghost use Rattle.net_cells.specs.Meanings.{number};
 ghost use Rattle.cell_table.specs.Values.{answer_of, meaning_of};
@@ -11,7 +11,7 @@ use cell_table::Value;
 use fraction128::Ext;
 use net_cells::{queue_at, server_at};
 use net_model::Network;
-use upp_curve::OpFault;
+use upp_limits::OpFault;
 
 /// The server and the queue of a hop.
 pub fn place_of(net: &Network, flow: u32, hop: u32) -> (u32, u32)

@@ -3,13 +3,13 @@ use Rattle.std.proofs.Common.{◌≡◌, ℕ, List, refl, sym, subst}
 use Rattle.std.specs.Prelude.{Some, Result, Ok, Err, IfOk, IfErr}
 use Rattle.rational.specs.Rational.{ℚ}
 use Rattle.rational.specs.Extended.{Ext}
-use Rattle.upp_curve.specs.declared.op_kind.OpKind.{OpKind}
-use Rattle.upp_curve.specs.declared.op_kind.OpFault.{OpFault}
-use Rattle.upp_curve.specs.declared.op_kind.OpFault.TheVariants.{NoMemory}
+use Rattle.upp_limits.specs.declared.op_kind.OpKind.{OpKind}
+use Rattle.upp_limits.specs.declared.op_kind.OpFault.{OpFault}
+use Rattle.upp_limits.specs.declared.op_kind.OpFault.TheVariants.{NoMemory}
 use Rattle.upp_curve.specs.Curve.{SpecCurve, value_at}
-use Rattle.upp_curve.specs.declared.op_kind.OpKind.TheVariants.{PosMinus, Deconvolve, Vertical}
+use Rattle.upp_limits.specs.declared.op_kind.OpKind.TheVariants.{PosMinus, Deconvolve, Vertical}
 use Rattle.min_plus.specs.Functions.{IsFinite}
-use Rattle.upp_curve.specs.Outcome.{KeepsLimits}
+use Rattle.upp_limits.specs.Outcome.{KeepsLimits}
 use Rattle.curve_call.specs.Again.{IsAgain}
 use Rattle.curve_call.specs.Calls.{Applies, AppliesTo, Then, goes_on, stops}
 use Rattle.priority_residual.specs.Calls.{MakesPriority}

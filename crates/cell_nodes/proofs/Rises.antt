@@ -9,7 +9,7 @@ use Rattle.rational.proofs.ExtendedOrder.{le_ext_refl, le_ext_trans, same_le_ext
 use Rattle.rational.proofs.Laws.{le_refl, le_trans, add_le_add, add_zero}
 use Rattle.rational.proofs.Linear.{with3}
 use Rattle.rational.proofs.MinMax.{max_q_mono}
-use Rattle.upp_curve.specs.declared.op_kind.OpKind.TheVariants.{Sum, Min, Shift, Deconvolve}
+use Rattle.upp_limits.specs.declared.op_kind.OpKind.TheVariants.{Sum, Min, Shift, Deconvolve}
 use Rattle.upp_curve.specs.Curve.{SpecCurve, value_at}
 use Rattle.min_plus.specs.Functions.{zero_q, UpTo, FiniteTime, IsRising}
 use Rattle.min_plus.specs.Pointwise.{excess, shifted}

@@ -1,7 +1,7 @@
 //! What operators make of the values of cells.
 
 ghost use Rattle.std.specs.Prelude.{◌≡◌, ◌+◌, ◌≤◌, IfOk};
-ghost use Rattle.upp_curve.specs.declared.op_kind.OpKind.TheVariants.{Min, PosMinus, Deconvolve};
+ghost use Rattle.upp_limits.specs.declared.op_kind.OpKind.TheVariants.{Min, PosMinus, Deconvolve};
 ghost use Rattle.upp_curve.specs.Curve.{value_at};
 ghost use Rattle.min_plus.specs.Functions.{IsFinite};
 ghost use Rattle.run_laws.specs.Cards.{whole};
@@ -28,7 +28,8 @@ use packetiser::packetised;
 use std::alloc::Global;
 use std::sync::ledger::Ledger;
 use steps::Steps;
-use upp_curve::{Curve, OpFault};
+use upp_curve::Curve;
+use upp_limits::OpFault;
 
 /// A number of bits.
 pub fn whole(bits: u32) -> Frac

@@ -12,7 +12,8 @@ use cell_table::{Table, Value};
 use net_cells::Cell;
 use std::alloc::Global;
 use std::rc::Rc;
-use upp_curve::{Curve, OpFault};
+use upp_curve::Curve;
+use upp_limits::OpFault;
 
 /// A curve that was made, to be shared from now on; a refusal stays.
 pub fn shared(alloc: Global, made: Result<Curve, OpFault>) -> Result<Value, OpFault>

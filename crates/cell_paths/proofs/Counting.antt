@@ -1,7 +1,7 @@
 -- How operators are counted.
 use Rattle.std.proofs.Common.{◌≡◌, ℕ, ◌+◌, arith}
 use Rattle.std.specs.Prelude.{Ok, Err, Result, IfOk, OnOk}
-use Rattle.upp_curve.specs.declared.op_kind.OpFault.{OpFault}
+use Rattle.upp_limits.specs.declared.op_kind.OpFault.{OpFault}
 use Rattle.net_cells.specs.Meanings.{Meaning}
 use Rattle.net_cells.specs.Answers.{Answer}
 use Rattle.cell_table.specs.Values.{answer_of}

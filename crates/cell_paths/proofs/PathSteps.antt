@@ -2,8 +2,8 @@
 use Rattle.std.proofs.Common.{◌≡◌, ℕ, zero, suc, ◌+◌, ◌-◌, ◌≤◌, refl, sym, ◌∙◌, subst, arith, inl, inr}
 use Rattle.std.specs.Prelude.{Some, Result, Ok, Err}
 use Rattle.std.proofs.lemmas.Bool.{cases_lt}
-use Rattle.upp_curve.specs.declared.op_kind.OpKind.TheVariants.{PosMinus, Convolve}
-use Rattle.upp_curve.specs.declared.op_kind.OpFault.{OpFault}
+use Rattle.upp_limits.specs.declared.op_kind.OpKind.TheVariants.{PosMinus, Convolve}
+use Rattle.upp_limits.specs.declared.op_kind.OpFault.{OpFault}
 use Rattle.upp_curve.specs.Curve.{SpecCurve}
 use Rattle.run_laws.specs.Cards.{whole}
 use Rattle.curve_call.specs.Calls.{Applies, AppliesTo, goes_on, stops}

@@ -1,6 +1,6 @@
 -- A curve that is shared was made.
 use Rattle.std.specs.Prelude.{Result, Ok, Err, IfOk, OnOk}
-use Rattle.upp_curve.specs.declared.op_kind.OpFault.{OpFault}
+use Rattle.upp_limits.specs.declared.op_kind.OpFault.{OpFault}
 use Rattle.upp_curve.specs.Curve.{SpecCurve}
 use Rattle.net_cells.specs.Answers.{Answer}
 use Rattle.cell_nodes.specs.Sharing.{IsShared}

@@ -30,7 +30,8 @@ use priority_residual::priority_service;
 use std::alloc::Global;
 use std::sync::ledger::Ledger;
 use steps::Steps;
-use upp_curve::{Curve, OpFault};
+use upp_curve::Curve;
+use upp_limits::OpFault;
 
 // By priority.
 fn by_priority<T: Table<Value>, L: Ledger>(

@@ -28,7 +28,8 @@ use net_model::Network;
 use std::alloc::Global;
 use std::sync::ledger::Ledger;
 use steps::Steps;
-use upp_curve::{Curve, OpFault};
+use upp_curve::Curve;
+use upp_limits::OpFault;
 
 /// The sum of no cell, of one, or of more.
 #[derive(Drop)]

@@ -14,13 +14,13 @@ use Rattle.upp_curve.specs.declared.curve.Tail.TheVariants.{Periodic, Affine, In
 use Rattle.upp_curve.specs.Curve.{SpecCurve}
 use Rattle.min_plus.specs.Functions.{zero_q}
 use Rattle.upp_curve.specs.Steady.{steady}
-use Rattle.upp_curve.specs.Periods.{own_period}
+use Rattle.upp_limits.specs.Periods.{own_period}
 use Rattle.affine_segment.specs.Pieces.{StartsAtZero}
 use Rattle.upp_curve.specs.Unrolled.{copies_below}
-use Rattle.upp_curve.specs.Spans.{once, number_below}
-use Rattle.upp_curve.specs.Limits.{own_end, own_tally}
-use Rattle.upp_curve.proofs.PieceCounts.{count_is_sum}
-use Rattle.upp_curve.proofs.Rounding.{whole_up_most}
+use Rattle.upp_limits.specs.Spans.{once, number_below}
+use Rattle.upp_limits.specs.Limits.{own_end, own_tally}
+use Rattle.upp_limits.proofs.PieceCounts.{count_is_sum}
+use Rattle.upp_limits.proofs.Rounding.{whole_up_most}
 use Rattle.closure_elements.specs.ElementCurves.{nat_times, stretch, stretches, all_stretches}
 use Rattle.closure_elements.proofs.PieceReads.{gap_kept, gap_left, late_start, early_start}
 

@@ -11,18 +11,18 @@ use Rattle.fraction128.proofs.CommonMultiple.{common_multiple_least}
 use Rattle.affine_segment.specs.declared.line.Piece.{Piece}
 use Rattle.upp_curve.specs.declared.curve.Tail.{Tail}
 use Rattle.upp_curve.specs.declared.curve.Tail.TheVariants.{Periodic, Affine, Infinite}
-use Rattle.upp_curve.specs.declared.op_kind.OpKind.TheVariants.{Min, Convolve}
-use Rattle.upp_curve.specs.Ahead.{IsOverBy}
+use Rattle.upp_limits.specs.declared.op_kind.OpKind.TheVariants.{Min, Convolve}
+use Rattle.upp_normal.specs.Ahead.{IsOverBy}
 use Rattle.upp_curve.specs.Curve.{SpecCurve}
 use Rattle.min_plus.specs.Functions.{zero_q}
 use Rattle.upp_curve.specs.Normal.{IsRaw, TailFits}
-use Rattle.upp_curve.specs.Gauges.{gauge_at}
-use Rattle.upp_curve.specs.Periods.{period_of, common_of, common_period, both_steady, periods_after, HasPeriod}
+use Rattle.upp_limits.specs.Gauges.{gauge_at}
+use Rattle.upp_limits.specs.Periods.{period_of, common_of, common_period, both_steady, periods_after, HasPeriod}
 use Rattle.upp_curve.specs.Steady.{rank_of, steady, steady_in, later_unless}
-use Rattle.upp_curve.specs.Windows.{window_at}
-use Rattle.upp_curve.proofs.CurveStands.{has_period}
-use Rattle.upp_curve.proofs.GaugeRises.{first_operand}
-use Rattle.upp_curve.proofs.OwnGauge.{large}
+use Rattle.upp_limits.specs.Windows.{window_at}
+use Rattle.upp_limits.proofs.CurveStands.{has_period}
+use Rattle.upp_normal.proofs.GaugeRises.{first_operand}
+use Rattle.upp_limits.proofs.OwnGauge.{large}
 use Rattle.closure_elements.specs.HeavyLaws.{HeavyIsRefused}
 
 -- ---- when a curve begins to repeat

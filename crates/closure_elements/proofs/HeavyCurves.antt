@@ -13,14 +13,14 @@ use Rattle.rational.proofs.Laws.{le_or_lt, le_of_lt, le_trans, mul_le_mul, mul_l
 use Rattle.affine_segment.specs.declared.line.Piece.{Piece}
 use Rattle.upp_curve.specs.declared.curve.Tail.TheVariants.{Periodic}
 use Rattle.upp_curve.specs.Curve.{SpecCurve}
-use Rattle.upp_curve.specs.Limits.{Numbers, Sizes, curve_numbers, gauge_of, sizes_of, span_slopes, span_values, stored_period, stored_rise, twice, own_end, own_sizes, own_gauge}
-use Rattle.upp_curve.specs.Periods.{HasPeriod}
-use Rattle.upp_curve.specs.Sized.{AreSizes, IsSlope, IsValue, Stands}
-use Rattle.upp_curve.specs.Spans.{spans_below}
-use Rattle.upp_curve.proofs.CommonDen.{bound_least, common_den_least}
-use Rattle.upp_curve.proofs.Every.{every_append, every_flat, every_flat_out, every_left, every_map, every_map_out, every_right, every_weaken}
-use Rattle.upp_curve.proofs.Rounding.{whole_up_most}
-use Rattle.upp_curve.proofs.GaugeRises.{spans_earlier}
+use Rattle.upp_limits.specs.Limits.{Numbers, Sizes, curve_numbers, gauge_of, sizes_of, span_slopes, span_values, stored_period, stored_rise, twice, own_end, own_sizes, own_gauge}
+use Rattle.upp_limits.specs.Periods.{HasPeriod}
+use Rattle.upp_limits.specs.Sized.{AreSizes, IsSlope, IsValue, Stands}
+use Rattle.upp_limits.specs.Spans.{spans_below}
+use Rattle.upp_limits.proofs.CommonDen.{bound_least, common_den_least}
+use Rattle.upp_limits.proofs.Every.{every_append, every_flat, every_flat_out, every_left, every_map, every_map_out, every_right, every_weaken}
+use Rattle.upp_limits.proofs.Rounding.{whole_up_most}
+use Rattle.upp_normal.proofs.GaugeRises.{spans_earlier}
 use Rattle.closure_elements.specs.Heavy.{IsHeavy}
 use Rattle.closure_elements.proofs.FewCopies.{end_is}
 

@@ -10,7 +10,7 @@ use Rattle.upp_curve.specs.declared.curve.Tail.TheVariants.{Periodic, Infinite}
 use Rattle.upp_curve.specs.Curve.{SpecCurve, value_at}
 use Rattle.upp_curve.specs.Curves.{IsCurve}
 use Rattle.min_plus.specs.Functions.{zero_q}
-use Rattle.upp_curve.specs.Limits.{own_tally}
+use Rattle.upp_limits.specs.Limits.{own_tally}
 use Rattle.closure_elements.proofs.ElementSums.{closure_of_point}
 use Rattle.closure_elements.specs.ElementCurves.{gap, point_closure, point_at_zero}
 use Rattle.closure_elements.specs.ElementAnswers.{IsElementClosure}

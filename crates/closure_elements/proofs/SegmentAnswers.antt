@@ -15,8 +15,8 @@ use Rattle.affine_segment.specs.Elements.{element_value}
 use Rattle.affine_segment.specs.Values.{line_at}
 use Rattle.upp_curve.specs.declared.curve.Tail.{Tail}
 use Rattle.upp_curve.specs.declared.curve.Tail.TheVariants.{Periodic, Affine, Infinite}
-use Rattle.upp_curve.specs.declared.op_kind.OpFault.{OpFault}
-use Rattle.upp_curve.specs.declared.op_kind.OpFault.TheVariants.{TooMany, TooWide, NoMemory}
+use Rattle.upp_limits.specs.declared.op_kind.OpFault.{OpFault}
+use Rattle.upp_limits.specs.declared.op_kind.OpFault.TheVariants.{TooMany, TooWide, NoMemory}
 use Rattle.upp_curve.specs.Curve.{SpecCurve, value_at, HasSameValues}
 use Rattle.upp_curve.specs.Curves.{IsCurve}
 use Rattle.min_plus.specs.Functions.{zero_q}
@@ -26,7 +26,7 @@ use Rattle.upp_curve.specs.Steady.{rank_of}
 use Rattle.upp_curve.proofs.Normal.{each_at}
 use Rattle.affine_segment.specs.Fits.{LineFitsAt}
 use Rattle.upp_curve.specs.Readable.{EachFits}
-use Rattle.upp_curve.specs.Limits.{Sizes, own_gauge, own_tally}
+use Rattle.upp_limits.specs.Limits.{Sizes, own_gauge, own_tally}
 use Rattle.min_plus.specs.Convolution.{IsSubadditiveClosure}
 use Rattle.closure_elements.proofs.ElementSums.{closure_of_segment}
 use Rattle.closure_elements.specs.ElementClosures.{IsSegmentClosure}

@@ -20,19 +20,19 @@ use Rattle.affine_segment.specs.Fits.{LineFitsAt}
 use Rattle.upp_curve.specs.Readable.{LineFitsTo, EachFits}
 use Rattle.affine_segment.specs.Pieces.{start_after, Each}
 use Rattle.upp_curve.specs.Normal.{IsRaw}
-use Rattle.upp_curve.specs.Spans.{spans}
-use Rattle.upp_curve.specs.Ahead.{IsOverBy}
-use Rattle.upp_curve.specs.Seen.{NextFits}
-use Rattle.upp_curve.specs.Limits.{Sizes, curve_numbers}
-use Rattle.upp_curve.specs.Sized.{IsValue, IsSlope, AreSizes, ValueStands, LineStands, SpanStands, TailStands, CurveStands, Stands, grid_of, times_largest}
-use Rattle.upp_curve.specs.Operand.{AreLimited, OperandLineAt}
+use Rattle.upp_limits.specs.Spans.{spans}
+use Rattle.upp_normal.specs.Ahead.{IsOverBy}
+use Rattle.upp_limits.specs.Seen.{NextFits}
+use Rattle.upp_limits.specs.Limits.{Sizes, curve_numbers}
+use Rattle.upp_limits.specs.Sized.{IsValue, IsSlope, AreSizes, ValueStands, LineStands, SpanStands, TailStands, CurveStands, Stands, grid_of, times_largest}
+use Rattle.upp_normal.specs.Operand.{AreLimited, OperandLineAt}
 use Rattle.closure_elements.specs.Heavy.{IsHeavy}
 use Rattle.closure_elements.specs.PieceFits.{AtFits, LineFits, DropFits, PieceFits}
-use Rattle.upp_curve.proofs.NarrowSizes.{IsNarrow, narrow_gauge, small_number, small_sum, small_slope, value_whole, value_within, line_parts}
-use Rattle.upp_curve.proofs.KnownNumbers.{start_fits, span_fits}
-use Rattle.upp_curve.proofs.StretchSizes.{time_whole, time_within, starts_over}
-use Rattle.upp_curve.proofs.CurveStands.{curve_stands}
-use Rattle.upp_curve.proofs.PieceLists.{starts_nonneg}
+use Rattle.upp_limits.proofs.NarrowSizes.{IsNarrow, narrow_gauge, small_number, small_sum, small_slope, value_whole, value_within, line_parts}
+use Rattle.upp_limits.proofs.KnownNumbers.{start_fits, span_fits}
+use Rattle.upp_normal.proofs.StretchSizes.{time_whole, time_within, starts_over}
+use Rattle.upp_limits.proofs.CurveStands.{curve_stands}
+use Rattle.upp_limits.proofs.PieceLists.{starts_nonneg}
 
 -- ---- where pieces stand
 pub record PieceStands (z : Sizes) (end : ℚ) (p : Piece) : Type 0 where

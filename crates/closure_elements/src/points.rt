@@ -12,7 +12,9 @@ use affine_segment::Piece;
 use fraction128::{Frac, is_less};
 use rational::Extended;
 use std::alloc::Global;
-use upp_curve::{Curve, OpFault, RawCurve, Tail};
+use upp_curve::{Curve, Tail};
+use upp_limits::OpFault;
+use upp_normal::RawCurve;
 
 // n v at n x, x after 0.
 fn repeating(alloc: Global, x: Frac, v: Frac) -> Result<Curve, OpFault>

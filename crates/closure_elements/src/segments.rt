@@ -6,8 +6,8 @@ ghost use Rattle.rational.specs.Rational.{◌≤ℚ◌, ◌<ℚ◌};
 ghost use Rattle.affine_segment.specs.declared.element.Element.TheVariants.{Open};
 ghost use Rattle.min_plus.specs.Functions.{zero_q};
 ghost use Rattle.upp_curve.specs.Normal.{IsRaw, IsNormal};
-ghost use Rattle.upp_curve.specs.Normalising.{raw_curve};
-ghost use Rattle.upp_curve.specs.Limits.{own_tally};
+ghost use Rattle.upp_normal.specs.Normalising.{raw_curve};
+ghost use Rattle.upp_limits.specs.Limits.{own_tally};
 ghost use Rattle.closure_elements.specs.ElementCurves.{nat_times, level_closure, rising_closure, falling_closure};
 ghost use Rattle.closure_elements.specs.PieceFits.{IsMade, Turns};
 ghost use Rattle.closure_elements.specs.ElementAnswers.{ClosureAnswer, IsOpenPart};
@@ -19,7 +19,9 @@ use fraction128::{Ext, Frac, is_less};
 use rational::Extended;
 use std::alloc::Global;
 use std::cmp::Ordering;
-use upp_curve::{Curve, OpFault, RawCurve, Tail, normalise};
+use upp_curve::{Curve, Tail};
+use upp_limits::OpFault;
+use upp_normal::{RawCurve, normalise};
 
 /// The normal form of a curve with few pieces that repeats.
 pub(crate) fn made(raw: RawCurve) -> Result<Curve, OpFault>

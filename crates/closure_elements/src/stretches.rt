@@ -10,7 +10,7 @@ use affine_segment::{Line, Piece};
 use fraction128::{Frac, is_less};
 use rational::Extended;
 use std::alloc::{AllocError, Global};
-use upp_curve::OpFault;
+use upp_limits::OpFault;
 
 /// A piece at a, after a gap from 0 on where a is after 0.
 pub(crate) fn started(alloc: Global, a: Frac, first: Piece) -> Result<Vec<Piece>, AllocError>

@@ -6,7 +6,8 @@ use rational::Extended;
 use std::alloc::Global;
 use std::cmp::Ordering;
 use std::test::Fail;
-use upp_curve::{Curve, OpFault};
+use upp_curve::Curve;
+use upp_limits::OpFault;
 
 fn whole(n: i128) -> Frac {
     match Frac::new(n, 1) {

@@ -5,9 +5,9 @@ use Rattle.rational.specs.Rational.{ℚ, ◌≤ℚ◌}
 use Rattle.rational.proofs.Laws.{le_or_lt, antisym}
 use Rattle.rational.proofs.Bounds.{infimum_unique}
 use Rattle.affine_segment.specs.declared.element.Element.{Element}
-use Rattle.upp_curve.specs.declared.op_kind.OpKind.TheVariants.{Min, Convolve}
-use Rattle.upp_curve.specs.declared.op_kind.OpFault.{OpFault}
-use Rattle.upp_curve.specs.declared.op_kind.OpFault.TheVariants.{TooMany, TooWide, NoMemory}
+use Rattle.upp_limits.specs.declared.op_kind.OpKind.TheVariants.{Min, Convolve}
+use Rattle.upp_limits.specs.declared.op_kind.OpFault.{OpFault}
+use Rattle.upp_limits.specs.declared.op_kind.OpFault.TheVariants.{TooMany, TooWide, NoMemory}
 use Rattle.upp_curve.specs.Curve.{SpecCurve, value_at}
 use Rattle.min_plus.specs.Functions.{zero_q}
 use Rattle.upp_curve.proofs.OneForm.{normal_unique}

@@ -12,32 +12,32 @@ use Rattle.rational.proofs.Grid.{whole_sub, whole_neg, whole_weaken, within_nonn
 use Rattle.rational.proofs.Laws.{le_refl, le_of_lt, le_trans}
 use Rattle.rational.proofs.Linear.{with2, with3}
 use Rattle.affine_segment.specs.declared.line.Piece.{Piece}
-use Rattle.upp_curve.specs.declared.op_kind.OpKind.TheVariants.{Convolve}
+use Rattle.upp_limits.specs.declared.op_kind.OpKind.TheVariants.{Convolve}
 use Rattle.min_plus.specs.Convolution.{IsConvolution, Split}
 use Rattle.upp_curve.specs.Curve.{SpecCurve, value_at, repeated}
 use Rattle.upp_curve.specs.Curves.{IsCurve}
 use Rattle.affine_segment.specs.Fits.{ReadFits}
 use Rattle.min_plus.specs.Functions.{zero_q, IsNonnegative}
-use Rattle.upp_curve.specs.Limits.{Sizes}
+use Rattle.upp_limits.specs.Limits.{Sizes}
 use Rattle.affine_segment.specs.Pieces.{StartsAtZero}
 use Rattle.upp_curve.specs.Normal.{IsNormal}
-use Rattle.upp_curve.specs.Normalising.{HasValues}
-use Rattle.upp_curve.specs.Operand.{answer_room}
+use Rattle.upp_normal.specs.Normalising.{HasValues}
+use Rattle.upp_normal.specs.Operand.{answer_room}
 use Rattle.upp_curve.specs.Readable.{SumFitsAt}
 use Rattle.affine_segment.specs.Reading.{read}
-use Rattle.upp_curve.specs.Room.{ValueHasRoom}
-use Rattle.upp_curve.specs.Sized.{grid_of, times_largest}
+use Rattle.upp_normal.specs.Room.{ValueHasRoom}
+use Rattle.upp_limits.specs.Sized.{grid_of, times_largest}
 use Rattle.upp_curve.specs.Steady.{Repeats}
-use Rattle.upp_curve.proofs.AnswerRoom.{answer_is_room, room_at_start, largest_room, value_in_room}
-use Rattle.upp_curve.proofs.NormaliseRoom.{at_fits}
-use Rattle.upp_curve.proofs.NormaliseRoomy.{read_fits}
+use Rattle.upp_normal.proofs.AnswerRoom.{answer_is_room, room_at_start, largest_room, value_in_room}
+use Rattle.upp_normal.proofs.NormaliseRoom.{at_fits}
+use Rattle.upp_normal.proofs.NormaliseRoomy.{read_fits}
 use Rattle.upp_curve.proofs.Repeats.{repeated_first, repeated_rule}
 use Rattle.curve_conv.specs.SumWindows.{SumValueAt}
 use Rattle.curve_conv.proofs.SumRoom.{pieces_room}
 use Rattle.curve_conv.proofs.SumSteps.{sum_read}
 use Rattle.curve_call.specs.declared.frame.Frame.{Frame}
 use Rattle.curve_call.specs.Calls.{IsApplied}
-use Rattle.upp_curve.proofs.UnrollSteps.{ext_cases}
+use Rattle.upp_normal.proofs.UnrollSteps.{ext_cases}
 use Rattle.closure_fold.specs.Starting.{first_at, started_at, KeepsTail, IsStartedAt}
 use Rattle.closure_fold.proofs.Starts.{repeated_past, repeated_zero, repeats_on}
 use Rattle.closure_start.specs.StartsAt.{ConvolvesFinitely, ConvolvesPastZero, StartsAt}

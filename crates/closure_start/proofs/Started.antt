@@ -11,11 +11,11 @@ use Rattle.affine_segment.specs.declared.line.Piece.{Piece}
 use Rattle.affine_segment.specs.Reading.{read}
 use Rattle.upp_curve.specs.Curve.{SpecCurve}
 use Rattle.min_plus.specs.Functions.{zero_q}
-use Rattle.upp_curve.specs.Limits.{Sizes}
+use Rattle.upp_limits.specs.Limits.{Sizes}
 use Rattle.affine_segment.specs.Pieces.{Each, StartsAtZero}
-use Rattle.upp_curve.specs.Sized.{grid_of, times_largest}
+use Rattle.upp_limits.specs.Sized.{grid_of, times_largest}
 use Rattle.upp_curve.specs.Steady.{rate, rise_over}
-use Rattle.upp_curve.proofs.AnswerRoom.{more_largest}
+use Rattle.upp_normal.proofs.AnswerRoom.{more_largest}
 use Rattle.affine_segment.proofs.PieceOrder.{each_map}
 use Rattle.curve_window.proofs.TailGrids.{TailOf}
 use Rattle.curve_call.specs.declared.frame.Frame.{Frame}

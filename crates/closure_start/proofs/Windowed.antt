@@ -15,7 +15,7 @@ use Rattle.min_plus.specs.Convolution.{IsConvolution}
 use Rattle.min_plus.specs.Functions.{zero_q}
 use Rattle.upp_curve.specs.Unrolled.{unroll}
 use Rattle.upp_curve.specs.Steady.{rate, rise_over}
-use Rattle.upp_curve.specs.Periods.{periods_after}
+use Rattle.upp_limits.specs.Periods.{periods_after}
 use Rattle.curve_call.specs.declared.frame.Frame.{Frame}
 use Rattle.curve_lattice.specs.Lattice.{RisesBy}
 use Rattle.curve_lattice.proofs.LatticeCalls.{operands, from_is, some_end}

@@ -3,10 +3,10 @@
 
 ghost use Rattle.std.specs.Prelude.{IfOk, IfErr};
 ghost use Rattle.rational.specs.Extended.{◌<ₑ◌};
-ghost use Rattle.upp_curve.specs.Outcome.{IsCauseOf};
+ghost use Rattle.upp_limits.specs.Outcome.{IsCauseOf};
 ghost use Rattle.upp_curve.specs.Steady.{rate, rise_over};
 ghost use Rattle.upp_curve.specs.Unrolled.{unroll};
-ghost use Rattle.upp_curve.specs.declared.op_kind.OpKind.TheVariants.{Convolve};
+ghost use Rattle.upp_limits.specs.declared.op_kind.OpKind.TheVariants.{Convolve};
 ghost use Rattle.curve_conv.specs.ConvolutionWindows.{IsConvolutionWindow};
 ghost use Rattle.curve_convolution.specs.ConvolveCall.{IsConvolveFrame};
 ghost use Rattle.curve_lattice.specs.Lattice.{RisesBy};
@@ -17,7 +17,9 @@ use curve_conv::window_convolution;
 use curve_parts::{is_slower_curve, late_periods};
 use fraction128::{Frac, difference};
 use std::alloc::{AllocError, Global};
-use upp_curve::{Curve, OpFault, OpKind};
+use upp_curve::Curve;
+use upp_limits::{OpFault, OpKind};
+use upp_normal::unrolled;
 
 /// The frame of the call, with the least number of periods that is enough for the slower curve's part to have the least
 /// sums. Refused with TooWide or TooMany where the call is over that limit, and with nothing else.
@@ -45,8 +47,8 @@ pub(crate) fn window_of(
     ensures { IfOk result (λ ps. IsConvolutionWindow (unroll f.now frame.now.end) (unroll g.now frame.now.end)
         frame.now.end ps.items) }
 {
-    let left = f.unrolled(frame.end)?;
-    let right = g.unrolled(frame.end)?;
+    let left = unrolled(f, frame.end)?;
+    let right = unrolled(g, frame.end)?;
     window_convolution(alloc, &left, &right, frame.end)
 }
 

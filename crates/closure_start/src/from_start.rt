@@ -4,7 +4,7 @@ ghost use Rattle.std.specs.Prelude.{◌≡◌, ◌+◌, IfOk, IsTrue};
 ghost use Rattle.rational.specs.Rational.{◌≤ℚ◌};
 ghost use Rattle.upp_curve.specs.Curve.{value_at};
 ghost use Rattle.min_plus.specs.Functions.{IsNonnegative, zero_q};
-ghost use Rattle.upp_curve.specs.declared.op_kind.OpKind.TheVariants.{Convolve};
+ghost use Rattle.upp_limits.specs.declared.op_kind.OpKind.TheVariants.{Convolve};
 ghost use Rattle.curve_convolution.specs.ConvolveCall.{IsConvolveFrame};
 ghost use Rattle.curve_call.specs.Calls.{Applies, Then};
 ghost use Rattle.closure_start.specs.StartsAt.{ConvolvesFinitely, ConvolvesPastZero, StartsAt};
@@ -19,7 +19,8 @@ use rational::Extended;
 use std::alloc::{AllocError, Global};
 use std::sync::ledger::Ledger;
 use steps::Steps;
-use upp_curve::{Curve, OpFault};
+use upp_curve::Curve;
+use upp_limits::OpFault;
 
 // Whether the value at 0 is known to be `start`.
 fn begins_at(c: &Curve, start: Frac) -> bool

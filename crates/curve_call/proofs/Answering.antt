@@ -11,13 +11,13 @@ use Rattle.affine_segment.specs.declared.line.Piece.{Piece}
 use Rattle.upp_curve.specs.declared.curve.Tail.TheVariants.{Periodic}
 use Rattle.affine_segment.specs.Reading.{read}
 use Rattle.upp_curve.specs.Curve.{SpecCurve, repeated, value_at}
-use Rattle.upp_curve.specs.Normalising.{HasValues, OnGridsUnlessLine}
-use Rattle.upp_curve.specs.Room.{TailHasRoom, TurnHasRoom}
-use Rattle.upp_curve.specs.Limits.{Sizes}
-use Rattle.upp_curve.specs.Sized.{grid_of}
-use Rattle.upp_curve.specs.Operand.{AreLimited, answer_room}
-use Rattle.upp_curve.proofs.NarrowSizes.{narrow_limit, grids_narrow, grid_pos}
-use Rattle.upp_curve.proofs.AnswerRoom.{answer_is_room, room_at_start, largest_room}
+use Rattle.upp_normal.specs.Normalising.{HasValues, OnGridsUnlessLine}
+use Rattle.upp_normal.specs.Room.{TailHasRoom, TurnHasRoom}
+use Rattle.upp_limits.specs.Limits.{Sizes}
+use Rattle.upp_limits.specs.Sized.{grid_of}
+use Rattle.upp_normal.specs.Operand.{AreLimited, answer_room}
+use Rattle.upp_limits.proofs.NarrowSizes.{narrow_limit, grids_narrow, grid_pos}
+use Rattle.upp_normal.proofs.AnswerRoom.{answer_is_room, room_at_start, largest_room}
 use Rattle.upp_curve.proofs.Repeats.{tail_lemma}
 use Rattle.curve_call.specs.Answering.{IsAnswerWindow}
 

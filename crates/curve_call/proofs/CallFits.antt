@@ -10,17 +10,17 @@ use Rattle.rational.proofs.Linear.{with3}
 use Rattle.rational.proofs.Laws.{le_refl, le_of_lt, mul_le_mul_right, one_mul}
 use Rattle.rational.proofs.Integers.{nat_le}
 use Rattle.rational.proofs.Grid.{whole_add, whole_times}
-use Rattle.upp_curve.specs.declared.op_kind.OpKind.{OpKind}
-use Rattle.upp_curve.specs.declared.op_kind.OpKind.TheVariants.{Sum, Min, Max, PosDiff, PosMinus, Scale, Shift, RunSup, RunInf, FifoLeft, Convolve, Deconvolve, Horizontal, Vertical, Itself}
+use Rattle.upp_limits.specs.declared.op_kind.OpKind.{OpKind}
+use Rattle.upp_limits.specs.declared.op_kind.OpKind.TheVariants.{Sum, Min, Max, PosDiff, PosMinus, Scale, Shift, RunSup, RunInf, FifoLeft, Convolve, Deconvolve, Horizontal, Vertical, Itself}
 use Rattle.upp_curve.specs.Curve.{SpecCurve}
 use Rattle.upp_curve.specs.Curves.{IsCurve}
-use Rattle.upp_curve.specs.Periods.{periods_after}
-use Rattle.upp_curve.specs.Windows.{window_at}
-use Rattle.upp_curve.specs.Limits.{Sizes, sizes_of}
-use Rattle.upp_curve.specs.Gauges.{numbers_over, gauge_over, gauge_at}
-use Rattle.upp_curve.proofs.CurveStands.{are_sizes}
-use Rattle.upp_curve.proofs.Stands.{sizes_stand}
-use Rattle.upp_curve.proofs.NarrowSizes.{narrow_gauge}
+use Rattle.upp_limits.specs.Periods.{periods_after}
+use Rattle.upp_limits.specs.Windows.{window_at}
+use Rattle.upp_limits.specs.Limits.{Sizes, sizes_of}
+use Rattle.upp_limits.specs.Gauges.{numbers_over, gauge_over, gauge_at}
+use Rattle.upp_limits.proofs.CurveStands.{are_sizes}
+use Rattle.upp_limits.proofs.Stands.{sizes_stand}
+use Rattle.upp_limits.proofs.NarrowSizes.{narrow_gauge}
 use Rattle.curve_call.specs.Times.{PeriodsFit}
 use Rattle.curve_call.specs.CallWindows.{IsForward, SecondIsCurve, start_of, number_of, period_in, StartFits}
 use Rattle.curve_call.proofs.CurveTimes.{small_time, periods_fit}

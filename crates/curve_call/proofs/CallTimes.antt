@@ -11,19 +11,19 @@ use Rattle.rational.proofs.Laws.{le_refl, le_trans, le_of_lt, one_mul, zero_mul,
 use Rattle.rational.proofs.Integers.{int_add}
 use Rattle.rational.proofs.MinMax.{max_q_ge_left, max_q_ge_right}
 use Rattle.rational.proofs.Grid.{whole_int, whole_add}
-use Rattle.upp_curve.specs.declared.op_kind.OpKind.{OpKind}
-use Rattle.upp_curve.specs.declared.op_kind.OpKind.TheVariants.{Sum, Min, Max, PosDiff, PosMinus, Scale, Shift, RunSup, RunInf, FifoLeft, Convolve, Deconvolve, Horizontal, Vertical, Itself}
+use Rattle.upp_limits.specs.declared.op_kind.OpKind.{OpKind}
+use Rattle.upp_limits.specs.declared.op_kind.OpKind.TheVariants.{Sum, Min, Max, PosDiff, PosMinus, Scale, Shift, RunSup, RunInf, FifoLeft, Convolve, Deconvolve, Horizontal, Vertical, Itself}
 use Rattle.upp_curve.specs.Curve.{SpecCurve}
 use Rattle.upp_curve.specs.Curves.{IsCurve}
 use Rattle.min_plus.specs.Functions.{zero_q}
 use Rattle.upp_curve.specs.Steady.{steady}
-use Rattle.upp_curve.specs.Periods.{common_period, own_period, period_of, period_or, both_steady, periods_after}
-use Rattle.upp_curve.specs.Windows.{window_at}
-use Rattle.upp_curve.specs.Limits.{Sizes, joined, curve_numbers}
-use Rattle.upp_curve.specs.Gauges.{scaled_curve, both_numbers, kind_numbers, numbers_over}
-use Rattle.upp_curve.specs.Sized.{AreSizes, Stands}
-use Rattle.upp_curve.proofs.Stands.{stands_left, stands_right}
-use Rattle.upp_curve.proofs.NarrowSizes.{IsNarrow}
+use Rattle.upp_limits.specs.Periods.{common_period, own_period, period_of, period_or, both_steady, periods_after}
+use Rattle.upp_limits.specs.Windows.{window_at}
+use Rattle.upp_limits.specs.Limits.{Sizes, joined, curve_numbers}
+use Rattle.upp_limits.specs.Gauges.{scaled_curve, both_numbers, kind_numbers, numbers_over}
+use Rattle.upp_limits.specs.Sized.{AreSizes, Stands}
+use Rattle.upp_limits.proofs.Stands.{stands_left, stands_right}
+use Rattle.upp_limits.proofs.NarrowSizes.{IsNarrow}
 use Rattle.curve_call.specs.Times.{OneLaterFits, BothSteadyFit}
 use Rattle.curve_call.specs.CallWindows.{IsForward, SecondIsCurve, start_of, number_of, period_in, StartFits}
 use Rattle.curve_call.proofs.CurveTimes.{IsPeriod, sum_fits, time_within, small_time, steady_nonneg, steady_whole, one_later, own_on, both_on, own_or_on, max_whole, both_fit}

@@ -26,24 +26,24 @@ use Rattle.upp_curve.specs.Curve.{SpecCurve, repeated, value_at}
 use Rattle.upp_curve.specs.Curves.{IsCurve}
 use Rattle.affine_segment.specs.Pieces.{Each, HasStart, RisesFrom, StartsAtZero}
 use Rattle.upp_curve.specs.Steady.{rank_of, last_of, slope_times, rise_over, IsWholePeriods, steady}
-use Rattle.upp_curve.specs.Periods.{HasPeriod, period_of, common_of, common_period, own_period}
-use Rattle.upp_curve.specs.Spans.{Span, spans, span_below, spans_below, copies_of, once_below}
+use Rattle.upp_limits.specs.Periods.{HasPeriod, period_of, common_of, common_period, own_period}
+use Rattle.upp_limits.specs.Spans.{Span, spans, span_below, spans_below, copies_of, once_below}
 use Rattle.upp_curve.specs.Unrolled.{copies_below}
-use Rattle.upp_curve.specs.Limits.{Sizes, curve_numbers}
-use Rattle.upp_curve.specs.Sized.{IsValue, AreSizes, Stands, ValueStands, LineStands, SpanStands, grid_of, times_largest}
+use Rattle.upp_limits.specs.Limits.{Sizes, curve_numbers}
+use Rattle.upp_limits.specs.Sized.{IsValue, AreSizes, Stands, ValueStands, LineStands, SpanStands, grid_of, times_largest}
 use Rattle.affine_segment.proofs.PieceIn.{piece_in_stop, piece_in_go, piece_in_end}
 use Rattle.upp_curve.proofs.Normal.{past_start}
 use Rattle.affine_segment.proofs.PieceOrder.{each_map}
 use Rattle.upp_curve.proofs.Finite.{each_in}
 use Rattle.upp_curve.proofs.Repeats.{tail_lemma}
-use Rattle.upp_curve.proofs.Copies.{copies_out, copy_zero, copy_among}
-use Rattle.upp_curve.proofs.ClosedForms.{line_moved}
-use Rattle.upp_curve.proofs.NarrowSizes.{IsNarrow, narrow_gauge, small_number, value_whole, value_within, run_whole, run_within}
-use Rattle.upp_curve.proofs.Every.{every_flat_out}
-use Rattle.upp_curve.proofs.CurveStands.{unrolled_stand, tail_stands, curve_stands}
-use Rattle.upp_curve.proofs.KnownNumbers.{few_periods}
-use Rattle.upp_curve.specs.Operand.{AreLimited}
-use Rattle.upp_curve.proofs.Operands.{curve_period}
+use Rattle.upp_limits.proofs.Copies.{copies_out, copy_zero, copy_among}
+use Rattle.upp_limits.proofs.ClosedForms.{line_moved}
+use Rattle.upp_limits.proofs.NarrowSizes.{IsNarrow, narrow_gauge, small_number, value_whole, value_within, run_whole, run_within}
+use Rattle.upp_limits.proofs.Every.{every_flat_out}
+use Rattle.upp_limits.proofs.CurveStands.{unrolled_stand, tail_stands, curve_stands}
+use Rattle.upp_limits.proofs.KnownNumbers.{few_periods}
+use Rattle.upp_normal.specs.Operand.{AreLimited}
+use Rattle.upp_limits.proofs.Operands.{curve_period}
 use Rattle.fraction128.specs.Multiple.{common_multiple}
 use Rattle.fraction128.proofs.CommonMultiple.{common_multiple_least}
 use Rattle.curve_call.specs.Rises.{CurveRiseFits, SlopeTimesFits}

@@ -22,13 +22,13 @@ use Rattle.upp_curve.specs.Curve.{SpecCurve}
 use Rattle.upp_curve.specs.Curves.{IsCurve}
 use Rattle.upp_curve.specs.Normal.{TailFits}
 use Rattle.upp_curve.specs.Steady.{rank_of, later_unless, steady}
-use Rattle.upp_curve.specs.Periods.{HasPeriod, period_of, period_or, common_of, common_period, own_period, periods_after}
-use Rattle.upp_curve.specs.Limits.{Sizes, curve_numbers}
-use Rattle.upp_curve.specs.Sized.{AreSizes, Stands, TailStands}
-use Rattle.upp_curve.proofs.Operands.{curve_period}
-use Rattle.upp_curve.proofs.CurveStands.{tail_stands}
-use Rattle.upp_curve.proofs.NarrowSizes.{IsNarrow}
-use Rattle.upp_curve.proofs.OwnGauge.{end_within, twice_fits}
+use Rattle.upp_limits.specs.Periods.{HasPeriod, period_of, period_or, common_of, common_period, own_period, periods_after}
+use Rattle.upp_limits.specs.Limits.{Sizes, curve_numbers}
+use Rattle.upp_limits.specs.Sized.{AreSizes, Stands, TailStands}
+use Rattle.upp_limits.proofs.Operands.{curve_period}
+use Rattle.upp_limits.proofs.CurveStands.{tail_stands}
+use Rattle.upp_limits.proofs.NarrowSizes.{IsNarrow}
+use Rattle.upp_limits.proofs.OwnGauge.{end_within, twice_fits}
 use Rattle.curve_call.specs.Times.{OneLaterFits, BothSteadyFit, PeriodsFit}
 
 -- ---- steps of times up to the window's end

@@ -11,7 +11,7 @@ use Rattle.rational.proofs.Laws.{le_refl, le_or_lt, add_zero}
 use Rattle.rational.proofs.Linear.{with2}
 use Rattle.rational.proofs.MinMax.{le_q_not}
 use Rattle.rational.proofs.Over.{le_q_out}
-use Rattle.upp_curve.specs.declared.op_kind.OpKind.TheVariants.{Sum, Min, Max, PosDiff, PosMinus, Scale, Shift, RunSup, RunInf, FifoLeft, Convolve, Deconvolve, Horizontal, Vertical, Itself}
+use Rattle.upp_limits.specs.declared.op_kind.OpKind.TheVariants.{Sum, Min, Max, PosDiff, PosMinus, Scale, Shift, RunSup, RunInf, FifoLeft, Convolve, Deconvolve, Horizontal, Vertical, Itself}
 use Rattle.min_plus.specs.Functions.{zero_q, UpTo, IsFinite}
 use Rattle.min_plus.specs.Pointwise.{excess, scaled}
 use Rattle.min_plus.specs.Running.{left_after, IsRunningSupremum, IsRunningInfimum}

@@ -2,15 +2,15 @@
 use Rattle.std.specs.Prelude.{◌≡◌, ℕ}
 use Rattle.std.proofs.Common.{sym, subst}
 use Rattle.rational.proofs.Laws.{le_trans}
-use Rattle.upp_curve.specs.declared.op_kind.OpKind.{OpKind}
+use Rattle.upp_limits.specs.declared.op_kind.OpKind.{OpKind}
 use Rattle.upp_curve.specs.Curve.{SpecCurve}
-use Rattle.upp_curve.specs.Windows.{window_at}
-use Rattle.upp_curve.specs.Limits.{Sizes}
-use Rattle.upp_curve.specs.Gauges.{numbers_over, gauge_over}
-use Rattle.upp_curve.specs.Sized.{Stands, grid_of}
-use Rattle.upp_curve.specs.Operand.{AreLimited}
-use Rattle.upp_curve.proofs.CurveStands.{are_sizes}
-use Rattle.upp_curve.proofs.Stands.{sizes_stand}
+use Rattle.upp_limits.specs.Windows.{window_at}
+use Rattle.upp_limits.specs.Limits.{Sizes}
+use Rattle.upp_limits.specs.Gauges.{numbers_over, gauge_over}
+use Rattle.upp_limits.specs.Sized.{Stands, grid_of}
+use Rattle.upp_normal.specs.Operand.{AreLimited}
+use Rattle.upp_limits.proofs.CurveStands.{are_sizes}
+use Rattle.upp_limits.proofs.Stands.{sizes_stand}
 use Rattle.curve_call.specs.declared.frame.Frame.{Frame}
 use Rattle.curve_call.specs.CallWindows.{IsForward, start_of}
 use Rattle.curve_call.specs.Frames.{IsFrame, sizes_at}

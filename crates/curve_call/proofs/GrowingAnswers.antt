@@ -9,7 +9,7 @@ use Rattle.rational.proofs.ExtendedOrder.{le_ext_refl, le_ext_trans, same_le_ext
 use Rattle.rational.proofs.Laws.{le_refl, le_trans, le_of_lt, le_or_lt, antisym, add_zero, mul_le_mul, mul_zero}
 use Rattle.rational.proofs.Linear.{with2, with4}
 use Rattle.rational.proofs.MinMax.{min_q_self, max_q_self}
-use Rattle.upp_curve.specs.declared.op_kind.OpKind.TheVariants.{Sum, Min, Max, PosDiff, PosMinus, Scale, Shift, RunSup, RunInf, FifoLeft, Convolve, Deconvolve, Horizontal, Vertical, Itself}
+use Rattle.upp_limits.specs.declared.op_kind.OpKind.TheVariants.{Sum, Min, Max, PosDiff, PosMinus, Scale, Shift, RunSup, RunInf, FifoLeft, Convolve, Deconvolve, Horizontal, Vertical, Itself}
 use Rattle.min_plus.specs.Functions.{zero_q, UpTo, From, IsFinite, IsRising}
 use Rattle.min_plus.specs.Pointwise.{excess, scaled}
 use Rattle.min_plus.specs.Convolution.{Split, IsConvolution}

@@ -4,8 +4,8 @@ use Rattle.rational.specs.Rational.{ℚ}
 use Rattle.rational.specs.Extended.{Ext}
 use Rattle.rational.specs.declared.Extended.TheVariants.{Fin, Inf}
 use Rattle.rational.proofs.Bounds.{infimum_unique, supremum_unique}
-use Rattle.upp_curve.specs.declared.op_kind.OpKind.{OpKind}
-use Rattle.upp_curve.specs.declared.op_kind.OpKind.TheVariants.{Sum, Min, Max, PosDiff, PosMinus, Scale, Shift, RunSup, RunInf, FifoLeft, Convolve, Deconvolve, Horizontal, Vertical, Itself}
+use Rattle.upp_limits.specs.declared.op_kind.OpKind.{OpKind}
+use Rattle.upp_limits.specs.declared.op_kind.OpKind.TheVariants.{Sum, Min, Max, PosDiff, PosMinus, Scale, Shift, RunSup, RunInf, FifoLeft, Convolve, Deconvolve, Horizontal, Vertical, Itself}
 use Rattle.upp_curve.specs.Curve.{SpecCurve, value_at}
 use Rattle.upp_curve.proofs.OneForm.{normal_unique}
 use Rattle.curve_call.specs.Answers.{IsAnswer, IsMadeBy}

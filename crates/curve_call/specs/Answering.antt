@@ -6,11 +6,11 @@ use Rattle.affine_segment.specs.declared.line.Piece.{Piece}
 use Rattle.affine_segment.specs.Reading.{read}
 use Rattle.upp_curve.specs.Curve.{repeated}
 use Rattle.affine_segment.specs.Pieces.{Each, StartsAtZero}
-use Rattle.upp_curve.specs.Normalising.{OnGridsUnlessLine}
-use Rattle.upp_curve.specs.Room.{PieceHasRoom}
-use Rattle.upp_curve.specs.Limits.{Sizes}
-use Rattle.upp_curve.specs.Sized.{grid_of, times_largest}
-use Rattle.upp_curve.specs.Operand.{AreLimited, answer_room}
+use Rattle.upp_normal.specs.Normalising.{OnGridsUnlessLine}
+use Rattle.upp_normal.specs.Room.{PieceHasRoom}
+use Rattle.upp_limits.specs.Limits.{Sizes}
+use Rattle.upp_limits.specs.Sized.{grid_of, times_largest}
+use Rattle.upp_normal.specs.Operand.{AreLimited, answer_room}
 
 -- pieces from 0 on below from + period, which is no later than the end of a window; they and what repeats them have room by the window's sizes, and where the
 -- answer turns its true periods stand on their grids

@@ -1,10 +1,10 @@
 -- The first look at a call: its window with no period, whose gauge no number of periods makes smaller. Own choice.
 use Rattle.std.specs.Prelude.{◌<◌, ◌≤◌, ◌^◌}
-use Rattle.upp_curve.specs.declared.op_kind.OpKind.{OpKind}
-use Rattle.upp_curve.specs.declared.op_kind.OpFault.{OpFault}
-use Rattle.upp_curve.specs.declared.op_kind.OpFault.TheVariants.{TooMany, TooWide, NoMemory}
+use Rattle.upp_limits.specs.declared.op_kind.OpKind.{OpKind}
+use Rattle.upp_limits.specs.declared.op_kind.OpFault.{OpFault}
+use Rattle.upp_limits.specs.declared.op_kind.OpFault.TheVariants.{TooMany, TooWide, NoMemory}
 use Rattle.upp_curve.specs.Curve.{SpecCurve}
-use Rattle.upp_curve.specs.Gauges.{gauge_at}
+use Rattle.upp_limits.specs.Gauges.{gauge_at}
 use Rattle.curve_call.specs.declared.windows.CallWindow.{CallWindow}
 use Rattle.curve_call.specs.CallWindows.{IsWindow}
 

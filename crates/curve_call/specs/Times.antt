@@ -4,7 +4,7 @@ use Rattle.rational.specs.Rational.{ℚ, ◌+ℚ◌, ◌*ℚ◌, int}
 use Rattle.rational.specs.Ratio.{IsSmall, SumFits}
 use Rattle.upp_curve.specs.Curve.{SpecCurve}
 use Rattle.upp_curve.specs.Steady.{rank_of, steady}
-use Rattle.upp_curve.specs.Periods.{common_period, both_steady, period_of, period_or}
+use Rattle.upp_limits.specs.Periods.{common_period, both_steady, period_of, period_or}
 
 -- 1 later than the rank
 abbrev pub OneLaterFits : SpecCurve → Type 0

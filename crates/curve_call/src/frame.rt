@@ -6,7 +6,8 @@ ghost use Rattle.curve_call.specs.Frames.{IsFrame, IsRefusedAt, IsNarrowOver, Is
 
 use crate::windows::call_window;
 use fraction128::Frac;
-use upp_curve::{CallNumbers, Curve, OpFault, OpKind, call_numbers, tally_over};
+use upp_curve::Curve;
+use upp_limits::{CallNumbers, OpFault, OpKind, call_numbers, tally_over};
 
 /// A call within both limits: its window, and the grids of its times and of its values.
 #[derive(Debug, Clone, Copy)]

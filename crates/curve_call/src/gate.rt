@@ -7,7 +7,8 @@ ghost use Rattle.curve_call.specs.FirstWindows.{IsFirstWindow, IsWideAtFirst};
 
 use crate::frame::within;
 use crate::windows::{CallWindow, call_window};
-use upp_curve::{Curve, OpFault, OpKind};
+use upp_curve::Curve;
+use upp_limits::{OpFault, OpKind};
 
 /// The window of a call with no period. Refused with TooWide exactly where its gauge is 2^120 or more, however many pieces
 /// there are. No memory is taken.

@@ -8,7 +8,9 @@ use fraction128::Frac;
 use rational::Extended;
 use std::alloc::Global;
 use std::test::Fail;
-use upp_curve::{Curve, OpFault, RawCurve, Tail, equal, normalise};
+use upp_curve::{Curve, Tail, equal};
+use upp_limits::OpFault;
+use upp_normal::{RawCurve, normalise};
 
 // The curve again.
 #[derive(Drop)]

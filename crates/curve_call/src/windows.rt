@@ -3,7 +3,7 @@
 ghost use Rattle.std.specs.Prelude.{◌≡◌, ◌<◌, ◌≤◌, ◌^◌, IfSome, IsSome};
 ghost use Rattle.rational.specs.Ratio.{IsSmall};
 ghost use Rattle.upp_curve.specs.Curves.{IsCurve};
-ghost use Rattle.upp_curve.specs.Gauges.{gauge_at};
+ghost use Rattle.upp_limits.specs.Gauges.{gauge_at};
 ghost use Rattle.curve_call.specs.CallWindows.{IsForward, start_of, number_of, period_in, SecondIsCurve, StartFits, IsWindow};
 
 use crate::times::{
@@ -12,7 +12,9 @@ use crate::times::{
 };
 use fraction128::Frac;
 use rational::Extended;
-use upp_curve::{Curve, OpKind, steady_time};
+use upp_curve::Curve;
+use upp_limits::OpKind;
+use upp_normal::steady_time;
 
 /// The window of a call.
 #[derive(Debug, Clone, Copy)]

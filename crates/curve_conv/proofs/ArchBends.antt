@@ -25,16 +25,16 @@ use native.Mathlib.Nat.{dvd-mul_left}
 use Rattle.rational.proofs.Grid.{whole_int, whole_weaken}
 use Rattle.upp_curve.specs.Curve.{repeated}
 use Rattle.upp_curve.specs.Steady.{Repeats}
-use Rattle.upp_curve.specs.Limits.{Sizes}
-use Rattle.upp_curve.specs.Sized.{grid_of}
-use Rattle.upp_curve.specs.Operand.{AreLimited}
-use Rattle.upp_curve.specs.Bends.{ValueOn, LineOn, SlopeTurns, BendAfter, OnlyBend}
-use Rattle.upp_curve.specs.Normalising.{IsMerged, OnGridsUnlessLine}
-use Rattle.upp_curve.proofs.Bends.{bends_on}
+use Rattle.upp_limits.specs.Limits.{Sizes}
+use Rattle.upp_limits.specs.Sized.{grid_of}
+use Rattle.upp_normal.specs.Operand.{AreLimited}
+use Rattle.upp_normal.specs.Bends.{ValueOn, LineOn, SlopeTurns, BendAfter, OnlyBend}
+use Rattle.upp_normal.specs.Normalising.{IsMerged, OnGridsUnlessLine}
+use Rattle.upp_normal.proofs.Bends.{bends_on}
 use Rattle.affine_segment.proofs.PieceIn.{value_past, value_at_start, read_first, read_stop, read_go, read_one}
-use Rattle.upp_curve.proofs.NarrowSizes.{slope_time_divides}
-use Rattle.upp_curve.proofs.NormaliseForm.{each_part}
-use Rattle.upp_curve.proofs.NormaliseGrids.{merge_of}
+use Rattle.upp_limits.proofs.NarrowSizes.{slope_time_divides}
+use Rattle.upp_normal.proofs.NormaliseForm.{each_part}
+use Rattle.upp_normal.proofs.NormaliseGrids.{merge_of}
 use Rattle.affine_segment.proofs.PieceOrder.{each_map}
 use Rattle.curve_window.proofs.TailGrids.{TailOf}
 use Rattle.curve_conv.specs.SumWindows.{SumValueAt, SumLineAt, SumPiece, SumWindow}

@@ -15,7 +15,7 @@ use Rattle.affine_segment.specs.declared.element.Joined.{Joined}
 use Rattle.affine_segment.specs.Values.{line_at}
 use Rattle.affine_segment.specs.Elements.{Covers, element_value, part_value, joined_value}
 use Rattle.affine_segment.proofs.ElementValues.{value_in, value_cases}
-use Rattle.upp_curve.specs.Limits.{Sizes}
+use Rattle.upp_limits.specs.Limits.{Sizes}
 use Rattle.curve_conv.specs.ElementRoom.{SumEnd, SumElement, SumPart, SumJoined}
 use Rattle.curve_conv.specs.Arches.{IsBare, IsAround, Arches}
 

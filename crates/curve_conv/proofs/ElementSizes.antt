@@ -21,12 +21,12 @@ use Rattle.affine_segment.specs.Segments.{Segment, IsThrough}
 use Rattle.affine_segment.specs.Steps.{IsWideSum, IsWideValue}
 use Rattle.affine_segment.specs.MadeParts.{alone_part, IsFrom, MovedPart, OnePart, TwoParts, BentParts, AreParts}
 use Rattle.affine_segment.specs.WideConvolution.{IsWideThrough, IsWideEnd, IsWideEnds, IsWideCorner, IsWideMoved, IsWideStraight, IsWideSecond, IsWideBent, IsWideConvolution}
-use Rattle.upp_curve.specs.Limits.{Sizes}
-use Rattle.upp_curve.specs.Sized.{IsSlope, grid_of, times_largest}
-use Rattle.upp_curve.specs.Ahead.{IsGridValue}
-use Rattle.upp_curve.specs.Operand.{AreLimited, OperandLine}
-use Rattle.upp_curve.proofs.AnswerRoom.{OperandValue, operand_line_value, values_fit, value_sum_stands, more_largest}
-use Rattle.upp_curve.proofs.NarrowSizes.{IsNarrow, narrow_gauge, small_number, small_sum, run_whole, run_within}
+use Rattle.upp_limits.specs.Limits.{Sizes}
+use Rattle.upp_limits.specs.Sized.{IsSlope, grid_of, times_largest}
+use Rattle.upp_normal.specs.Ahead.{IsGridValue}
+use Rattle.upp_normal.specs.Operand.{AreLimited, OperandLine}
+use Rattle.upp_normal.proofs.AnswerRoom.{OperandValue, operand_line_value, values_fit, value_sum_stands, more_largest}
+use Rattle.upp_limits.proofs.NarrowSizes.{IsNarrow, narrow_gauge, small_number, small_sum, run_whole, run_within}
 use Rattle.curve_conv.specs.ElementRoom.{WindowTime, WindowEnd, OperandPoint, OperandSegment, OperandElement, SumTime, SumEnd, SumValue, SumLine, SumElement, SumJoined}
 
 -- ---- the sizes

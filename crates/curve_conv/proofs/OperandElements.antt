@@ -6,12 +6,12 @@ use Rattle.rational.specs.Extended.{Ext}
 use Rattle.rational.proofs.Laws.{le_of_lt}
 use Rattle.affine_segment.specs.declared.line.Piece.{Piece}
 use Rattle.affine_segment.specs.declared.element.Element.{Element}
-use Rattle.upp_curve.specs.Limits.{Sizes}
+use Rattle.upp_limits.specs.Limits.{Sizes}
 use Rattle.affine_segment.specs.Pieces.{Each}
-use Rattle.upp_curve.specs.Ahead.{GridValue}
-use Rattle.upp_curve.proofs.AnswerRoom.{stands_operand_value}
-use Rattle.upp_curve.proofs.StretchSizes.{grid_value}
-use Rattle.upp_curve.specs.Operand.{OperandPiece, OperandPieces, OperandLineAt}
+use Rattle.upp_normal.specs.Ahead.{GridValue}
+use Rattle.upp_normal.proofs.AnswerRoom.{stands_operand_value}
+use Rattle.upp_normal.proofs.StretchSizes.{grid_value}
+use Rattle.upp_normal.specs.Operand.{OperandPiece, OperandPieces, OperandLineAt}
 use Rattle.curve_conv.specs.PieceElements.{next_start, elements_of, Among}
 use Rattle.curve_conv.specs.ElementRoom.{WindowTime, WindowEnd, OperandElement}
 use Rattle.curve_conv.proofs.Members.{among_cases}

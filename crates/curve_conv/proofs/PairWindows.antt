@@ -17,14 +17,14 @@ use Rattle.affine_segment.specs.Elements.{start_of, joined_value, IsConvolved}
 use Rattle.affine_segment.specs.MadeParts.{AreParts}
 use Rattle.affine_segment.specs.Pieces.{Each}
 use Rattle.affine_segment.specs.Reading.{read}
-use Rattle.upp_curve.specs.Limits.{Sizes}
-use Rattle.upp_curve.specs.Sized.{times_largest}
-use Rattle.upp_curve.proofs.AnswerRoom.{more_largest}
+use Rattle.upp_limits.specs.Limits.{Sizes}
+use Rattle.upp_limits.specs.Sized.{times_largest}
+use Rattle.upp_normal.proofs.AnswerRoom.{more_largest}
 use Rattle.upp_curve.specs.Unrolled.{upto}
-use Rattle.upp_curve.proofs.Below.{plain_upto}
-use Rattle.upp_curve.proofs.NormaliseCuts.{zero_upto}
-use Rattle.upp_curve.proofs.NormaliseLists.{each_upto, upto_before}
-use Rattle.upp_curve.proofs.UnrolledPieces.{each_with}
+use Rattle.upp_normal.proofs.Below.{plain_upto}
+use Rattle.upp_normal.proofs.NormaliseCuts.{zero_upto}
+use Rattle.upp_normal.proofs.NormaliseLists.{each_upto, upto_before}
+use Rattle.upp_normal.proofs.UnrolledPieces.{each_with}
 use Rattle.curve_conv.specs.ElementRoom.{OperandElement, SumTime, SumEnd, SumValue, SumElement, SumPart, SumJoined, HaveRoom}
 use Rattle.curve_conv.specs.JoinedWindows.{nothing_at, after_end, part_pieces, first_pieces, turn_pieces, joined_list, lead_of, window_of, IsWindowOf}
 use Rattle.curve_conv.specs.SumWindows.{SumValueOn, SumValueAt, SumLineAt, SumPiece}

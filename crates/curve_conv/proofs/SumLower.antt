@@ -20,16 +20,16 @@ use Rattle.affine_segment.specs.declared.line.Piece.{Piece}
 use Rattle.affine_segment.specs.Values.{line_at}
 use Rattle.affine_segment.specs.Steps.{IsWideCross}
 use Rattle.affine_segment.specs.Reading.{read}
-use Rattle.upp_curve.specs.Limits.{Sizes}
-use Rattle.upp_curve.specs.Sized.{IsSlope, grid_of, times_largest}
-use Rattle.upp_curve.specs.Operand.{AreLimited, answer_room}
+use Rattle.upp_limits.specs.Limits.{Sizes}
+use Rattle.upp_limits.specs.Sized.{IsSlope, grid_of, times_largest}
+use Rattle.upp_normal.specs.Operand.{AreLimited, answer_room}
 use Rattle.affine_segment.specs.Fits.{LineFitsAt}
-use Rattle.upp_curve.specs.Room.{top, many, LineInRoom, TimeHasRoom}
-use Rattle.upp_curve.proofs.NormaliseGrids.{q_same_or}
+use Rattle.upp_normal.specs.Room.{top, many, LineInRoom, TimeHasRoom}
+use Rattle.upp_normal.proofs.NormaliseGrids.{q_same_or}
 use Rattle.affine_segment.proofs.PieceOrder.{each_map}
-use Rattle.upp_curve.proofs.NormaliseRoom.{line_fits}
-use Rattle.upp_curve.proofs.NarrowSizes.{grid_pos, small_number, small_sum}
-use Rattle.upp_curve.proofs.AnswerRoom.{AnswerLine, IsCrossing, tight, wide_narrow, answer_is_room, line_in_room, halves_apart, crossing_from}
+use Rattle.upp_normal.proofs.NormaliseRoom.{line_fits}
+use Rattle.upp_limits.proofs.NarrowSizes.{grid_pos, small_number, small_sum}
+use Rattle.upp_normal.proofs.AnswerRoom.{AnswerLine, IsCrossing, tight, wide_narrow, answer_is_room, line_in_room, halves_apart, crossing_from}
 use Rattle.curve_window.specs.declared.stretch.Both.{Both}
 use Rattle.curve_window.specs.Stretches.{IsBothOf}
 use Rattle.curve_window.specs.Lies.{MeetsAt, CrossesAt, CrossFits}

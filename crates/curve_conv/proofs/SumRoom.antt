@@ -5,11 +5,11 @@ use Rattle.rational.specs.Rational.{ℚ}
 use Rattle.rational.specs.Extended.{Ext}
 use Rattle.rational.specs.declared.Extended.TheVariants.{Fin, Inf}
 use Rattle.affine_segment.specs.declared.line.Piece.{Piece}
-use Rattle.upp_curve.specs.Limits.{Sizes}
+use Rattle.upp_limits.specs.Limits.{Sizes}
 use Rattle.affine_segment.specs.Pieces.{Each}
-use Rattle.upp_curve.specs.Operand.{AreLimited, answer_room}
-use Rattle.upp_curve.specs.Room.{TimeHasRoom, ValueHasRoom, PieceHasRoom}
-use Rattle.upp_curve.proofs.AnswerRoom.{value_in_room}
+use Rattle.upp_normal.specs.Operand.{AreLimited, answer_room}
+use Rattle.upp_normal.specs.Room.{TimeHasRoom, ValueHasRoom, PieceHasRoom}
+use Rattle.upp_normal.proofs.AnswerRoom.{value_in_room}
 use Rattle.affine_segment.proofs.PieceOrder.{each_map}
 use Rattle.curve_conv.specs.SumWindows.{SumValueAt, SumPiece, SumWindow}
 use Rattle.curve_conv.proofs.SumSteps.{time_room, line_room}

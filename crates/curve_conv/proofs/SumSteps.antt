@@ -11,14 +11,14 @@ use Rattle.affine_segment.specs.declared.line.Piece.{Piece}
 use Rattle.affine_segment.specs.Values.{line_value}
 use Rattle.affine_segment.specs.Reading.{read, piece_in, piece_value, line_in}
 use Rattle.affine_segment.specs.Pieces.{Each, HasStart}
-use Rattle.upp_curve.specs.Limits.{Sizes}
-use Rattle.upp_curve.specs.Operand.{AreLimited, answer_room}
+use Rattle.upp_limits.specs.Limits.{Sizes}
+use Rattle.upp_normal.specs.Operand.{AreLimited, answer_room}
 use Rattle.affine_segment.specs.Fits.{LineFitsAt}
-use Rattle.upp_curve.specs.Room.{TimeHasRoom, LineHasRoom}
+use Rattle.upp_normal.specs.Room.{TimeHasRoom, LineHasRoom}
 use Rattle.affine_segment.proofs.PieceIn.{value_past, value_at_start}
 use Rattle.affine_segment.proofs.PieceOrder.{each_map}
-use Rattle.upp_curve.proofs.NormaliseRoomy.{each_in, found_early}
-use Rattle.upp_curve.proofs.AnswerRoom.{AnswerLine, IsCrossing, room_at_start, crossing_room, line_in_room, line_fits_in, line_value_in, steep_run}
+use Rattle.upp_normal.proofs.NormaliseRoomy.{each_in, found_early}
+use Rattle.upp_normal.proofs.AnswerRoom.{AnswerLine, IsCrossing, room_at_start, crossing_room, line_in_room, line_fits_in, line_value_in, steep_run}
 use Rattle.curve_window.specs.Stretches.{CutsFit}
 use Rattle.curve_conv.specs.ElementRoom.{SumLine}
 use Rattle.curve_conv.specs.SumWindows.{SumStart, SumValueAt, SumLineAt, SumPiece, SumWindow}

@@ -14,9 +14,9 @@ use Rattle.affine_segment.specs.Pieces.{StartsAtZero}
 use Rattle.affine_segment.specs.Reading.{read}
 use Rattle.min_plus.specs.Convolution.{Split, IsConvolution}
 use Rattle.upp_curve.specs.Unrolled.{unroll}
-use Rattle.upp_curve.proofs.Below.{unroll_reads}
+use Rattle.upp_normal.proofs.Below.{unroll_reads}
 use Rattle.affine_segment.proofs.PieceOrder.{each_map}
-use Rattle.upp_curve.proofs.UnrolledPieces.{unroll_starts, unroll_before}
+use Rattle.upp_normal.proofs.UnrolledPieces.{unroll_starts, unroll_before}
 use Rattle.curve_conv.specs.PieceElements.{elements_of, StartBefore}
 use Rattle.curve_conv.specs.Envelopes.{ListSplit, list_sum}
 use Rattle.curve_conv.specs.ConvolutionLaws.{PairsConvolveWindows, PairsConvolveCurves}

@@ -3,9 +3,9 @@ use Rattle.std.specs.Prelude.{pos, List}
 use Rattle.rational.specs.Rational.{ℚ, ◌≤ℚ◌, ◌<ℚ◌, int}
 use Rattle.affine_segment.specs.declared.line.Piece.{Piece}
 use Rattle.min_plus.specs.Convolution.{IsConvolution}
-use Rattle.upp_curve.specs.Limits.{Sizes}
+use Rattle.upp_limits.specs.Limits.{Sizes}
 use Rattle.affine_segment.specs.Pieces.{StartsAtZero}
-use Rattle.upp_curve.specs.Operand.{AreLimited, OperandPieces}
+use Rattle.upp_normal.specs.Operand.{AreLimited, OperandPieces}
 use Rattle.affine_segment.specs.Reading.{read}
 use Rattle.curve_conv.specs.SumWindows.{SumWindow}
 use Rattle.curve_conv.specs.Arches.{Arches}

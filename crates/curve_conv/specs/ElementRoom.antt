@@ -8,10 +8,10 @@ use Rattle.affine_segment.specs.declared.line.Line.{Line}
 use Rattle.affine_segment.specs.declared.element.Element.{Element}
 use Rattle.affine_segment.specs.declared.element.Element.TheVariants.{Point, Open}
 use Rattle.affine_segment.specs.declared.element.Joined.{Joined}
-use Rattle.upp_curve.specs.Limits.{Sizes}
-use Rattle.upp_curve.specs.Sized.{IsSlope, grid_of, times_largest}
-use Rattle.upp_curve.specs.Ahead.{IsGridValue}
-use Rattle.upp_curve.specs.Operand.{AreLimited, OperandLine}
+use Rattle.upp_limits.specs.Limits.{Sizes}
+use Rattle.upp_limits.specs.Sized.{IsSlope, grid_of, times_largest}
+use Rattle.upp_normal.specs.Ahead.{IsGridValue}
+use Rattle.upp_normal.specs.Operand.{AreLimited, OperandLine}
 
 -- ---- of an operand
 -- a time of the window, on the grid of times

@@ -4,9 +4,9 @@ use Rattle.rational.specs.Rational.{ℚ, ◌≤ℚ◌, ◌<ℚ◌, int}
 use Rattle.affine_segment.specs.declared.line.Piece.{Piece}
 use Rattle.affine_segment.specs.declared.element.Element.{Element}
 use Rattle.affine_segment.specs.Elements.{IsProper}
-use Rattle.upp_curve.specs.Limits.{Sizes}
+use Rattle.upp_limits.specs.Limits.{Sizes}
 use Rattle.affine_segment.specs.Pieces.{StartsAtZero}
-use Rattle.upp_curve.specs.Operand.{AreLimited}
+use Rattle.upp_normal.specs.Operand.{AreLimited}
 use Rattle.affine_segment.specs.Reading.{read}
 use Rattle.curve_conv.specs.PieceElements.{Among}
 use Rattle.curve_conv.specs.ElementRoom.{OperandElement}

@@ -6,8 +6,8 @@ use Rattle.affine_segment.specs.declared.line.Piece.{Piece}
 use Rattle.affine_segment.specs.declared.element.Element.{Element}
 use Rattle.affine_segment.specs.declared.element.Joined.{Joined}
 use Rattle.affine_segment.specs.MadeParts.{AreParts}
-use Rattle.upp_curve.specs.Limits.{Sizes}
-use Rattle.upp_curve.specs.Operand.{AreLimited, OperandPieces}
+use Rattle.upp_limits.specs.Limits.{Sizes}
+use Rattle.upp_normal.specs.Operand.{AreLimited, OperandPieces}
 use Rattle.curve_conv.specs.PieceElements.{elements_of, Among}
 use Rattle.curve_conv.specs.ElementRoom.{WindowEnd, OperandElement, SumJoined}
 

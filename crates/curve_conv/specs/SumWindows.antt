@@ -7,10 +7,10 @@ use Rattle.rational.specs.declared.Extended.TheVariants.{Fin, Inf}
 use Rattle.rational.specs.Grid.{Whole, Within}
 use Rattle.affine_segment.specs.declared.line.Line.{Line}
 use Rattle.affine_segment.specs.declared.line.Piece.{Piece}
-use Rattle.upp_curve.specs.Limits.{Sizes}
+use Rattle.upp_limits.specs.Limits.{Sizes}
 use Rattle.affine_segment.specs.Pieces.{Each, StartsAtZero}
-use Rattle.upp_curve.specs.Sized.{times_largest}
-use Rattle.upp_curve.proofs.AnswerRoom.{IsCrossing}
+use Rattle.upp_limits.specs.Sized.{times_largest}
+use Rattle.upp_normal.proofs.AnswerRoom.{IsCrossing}
 use Rattle.curve_conv.specs.ElementRoom.{SumLine}
 
 -- a time of the window, on the grid of times or where two lines cross

@@ -2,8 +2,8 @@
 use Rattle.std.specs.Prelude.{List}
 use Rattle.rational.specs.Rational.{ℚ}
 use Rattle.affine_segment.specs.declared.line.Piece.{Piece}
-use Rattle.upp_curve.specs.Limits.{Sizes}
-use Rattle.upp_curve.specs.Operand.{AreLimited}
+use Rattle.upp_limits.specs.Limits.{Sizes}
+use Rattle.upp_normal.specs.Operand.{AreLimited}
 use Rattle.curve_window.specs.Stretches.{CutsFit}
 use Rattle.curve_window.specs.Lower.{LowerFits, IsLowerOf}
 use Rattle.curve_conv.specs.SumWindows.{SumWindow}

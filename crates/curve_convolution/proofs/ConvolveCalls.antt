@@ -8,22 +8,22 @@ use Rattle.rational.proofs.Linear.{with2, with3, with4, with5}
 use Rattle.rational.proofs.Laws.{le_trans, le_of_lt, one_mul, mul_le_mul_right}
 use Rattle.rational.proofs.Integers.{nat_le}
 use Rattle.rational.proofs.Whole.{one_more_times}
-use Rattle.upp_curve.specs.declared.op_kind.OpKind.TheVariants.{Convolve}
-use Rattle.upp_curve.specs.declared.op_kind.OpFault.{OpFault}
-use Rattle.upp_curve.specs.declared.op_kind.OpFault.TheVariants.{TooMany, TooWide, NoMemory}
+use Rattle.upp_limits.specs.declared.op_kind.OpKind.TheVariants.{Convolve}
+use Rattle.upp_limits.specs.declared.op_kind.OpFault.{OpFault}
+use Rattle.upp_limits.specs.declared.op_kind.OpFault.TheVariants.{TooMany, TooWide, NoMemory}
 use Rattle.upp_curve.specs.Curve.{SpecCurve}
 use Rattle.upp_curve.specs.Curves.{IsCurve}
 use Rattle.upp_curve.specs.Steady.{steady, IsWholePeriods}
-use Rattle.upp_curve.specs.Periods.{common_period, periods_after}
-use Rattle.upp_curve.specs.Windows.{window_at, Meets, IsLeastPeriods, IsSlowerLateLeast}
-use Rattle.upp_curve.specs.Limits.{Sizes, sizes_of, curve_numbers}
-use Rattle.upp_curve.specs.Gauges.{numbers_over, gauge_over, gauge_at, tally_over, IsTooWide, IsTooMany, IsKnownAtOnce}
-use Rattle.upp_curve.specs.Outcome.{IsWithin, IsCauseOf}
-use Rattle.upp_curve.specs.Sized.{Stands}
-use Rattle.upp_curve.specs.Operand.{AreLimited}
-use Rattle.upp_curve.specs.Ahead.{HasWindow}
-use Rattle.upp_curve.proofs.CurveStands.{are_sizes}
-use Rattle.upp_curve.proofs.Stands.{sizes_stand}
+use Rattle.upp_limits.specs.Periods.{common_period, periods_after}
+use Rattle.upp_limits.specs.Windows.{window_at, Meets, IsLeastPeriods, IsSlowerLateLeast}
+use Rattle.upp_limits.specs.Limits.{Sizes, sizes_of, curve_numbers}
+use Rattle.upp_limits.specs.Gauges.{numbers_over, gauge_over, gauge_at, tally_over, IsTooWide, IsTooMany, IsKnownAtOnce}
+use Rattle.upp_limits.specs.Outcome.{IsWithin, IsCauseOf}
+use Rattle.upp_limits.specs.Sized.{Stands}
+use Rattle.upp_normal.specs.Operand.{AreLimited}
+use Rattle.upp_normal.specs.Ahead.{HasWindow}
+use Rattle.upp_limits.proofs.CurveStands.{are_sizes}
+use Rattle.upp_limits.proofs.Stands.{sizes_stand}
 use Rattle.curve_call.specs.declared.frame.Frame.{Frame}
 use Rattle.curve_call.specs.declared.windows.CallWindow.{CallWindow}
 use Rattle.curve_call.specs.Frames.{IsFrame, IsRefusedAt, sizes_at}

@@ -11,14 +11,14 @@ use Rattle.rational.proofs.Quotients.{div_mono}
 use Rattle.affine_segment.specs.declared.line.Piece.{Piece}
 use Rattle.upp_curve.specs.declared.curve.Tail.{Tail}
 use Rattle.upp_curve.specs.declared.curve.Tail.TheVariants.{Periodic, Affine, Infinite}
-use Rattle.upp_curve.specs.declared.op_kind.OpKind.TheVariants.{Convolve}
+use Rattle.upp_limits.specs.declared.op_kind.OpKind.TheVariants.{Convolve}
 use Rattle.upp_curve.specs.Curve.{SpecCurve}
 use Rattle.upp_curve.specs.Curves.{IsCurve}
-use Rattle.upp_curve.specs.Gauges.{tally_over}
+use Rattle.upp_limits.specs.Gauges.{tally_over}
 use Rattle.upp_curve.specs.Unrolled.{upto, from, copies_below, counted, count}
 use Rattle.min_plus.specs.WholeUp.{whole_up}
-use Rattle.upp_curve.proofs.Rounding.{whole_up_least, whole_up_most}
-use Rattle.upp_curve.proofs.StretchSizes.{some_period}
+use Rattle.upp_limits.proofs.Rounding.{whole_up_least, whole_up_most}
+use Rattle.upp_normal.proofs.StretchSizes.{some_period}
 
 upto_grows : (x y : ℚ) (ps : List Piece) → x ≤ℚ y → length (upto x ps) ≤ length (upto y ps)
 unfolding upto

@@ -2,8 +2,8 @@
 use Rattle.std.specs.Prelude.{◌≡◌, ℕ, ◌+◌}
 use Rattle.rational.specs.Rational.{◌+ℚ◌, ◌-ℚ◌}
 use Rattle.upp_curve.specs.Curve.{SpecCurve}
-use Rattle.upp_curve.specs.Limits.{Sizes}
-use Rattle.upp_curve.specs.Sized.{grid_of}
+use Rattle.upp_limits.specs.Limits.{Sizes}
+use Rattle.upp_limits.specs.Sized.{grid_of}
 use Rattle.upp_curve.specs.Steady.{steady}
 use Rattle.curve_call.specs.declared.frame.Frame.{Frame}
 use Rattle.curve_lattice.specs.LatticeCall.{LatticeCall}

@@ -8,9 +8,9 @@ ghost use Rattle.upp_curve.specs.Curve.{value_at};
 ghost use Rattle.min_plus.specs.Convolution.{IsConvolution};
 ghost use Rattle.upp_curve.specs.Steady.{rate, rise_over};
 ghost use Rattle.upp_curve.specs.Curves.{IsCurve};
-ghost use Rattle.upp_curve.specs.Gauges.{IsTooMany};
-ghost use Rattle.upp_curve.specs.Outcome.{KeepsLimits};
-ghost use Rattle.upp_curve.specs.declared.op_kind.OpKind.TheVariants.{Convolve};
+ghost use Rattle.upp_limits.specs.Gauges.{IsTooMany};
+ghost use Rattle.upp_limits.specs.Outcome.{KeepsLimits};
+ghost use Rattle.upp_limits.specs.declared.op_kind.OpKind.TheVariants.{Convolve};
 ghost use Rattle.curve_call.specs.FirstWindows.{IsFirstWindow};
 ghost use Rattle.curve_call.specs.Rises.{CurveRiseFits};
 ghost use Rattle.curve_lattice.specs.Lattice.{RisesBy};
@@ -23,7 +23,9 @@ use fraction128::Frac;
 use std::alloc::{AllocError, Global};
 use std::sync::ledger::Ledger;
 use steps::Steps;
-use upp_curve::{Curve, OpFault, OpKind, tally_over};
+use upp_curve::Curve;
+use upp_limits::{OpFault, OpKind, tally_over};
+use upp_normal::unrolled;
 
 // a - b.
 fn difference(a: Frac, b: Frac) -> Frac
@@ -51,8 +53,8 @@ fn convolved_within(alloc: Global, f: &Curve, g: &Curve, frame: &Frame) -> Resul
     ensures { IfOk result (λ c. (t : ℚ) → int (pos 0) ≤ℚ t
         → IsConvolution (value_at f.now) (value_at g.now) t (value_at c t)) }
 {
-    let left = f.unrolled(frame.end)?;
-    let right = g.unrolled(frame.end)?;
+    let left = unrolled(f, frame.end)?;
+    let right = unrolled(g, frame.end)?;
     let pieces = window_convolution(alloc, &left, &right, frame.end)?;
     let rise = slower_rise(f, g, frame.period);
     let from = difference(frame.end, frame.period);

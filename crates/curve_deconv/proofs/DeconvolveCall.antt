@@ -16,29 +16,29 @@ use Rattle.affine_segment.specs.declared.line.Piece.{Piece}
 use Rattle.affine_segment.specs.Values.{line_value}
 use Rattle.upp_curve.specs.declared.curve.Tail.{Tail}
 use Rattle.upp_curve.specs.declared.curve.Tail.TheVariants.{Periodic, Affine, Infinite}
-use Rattle.upp_curve.specs.declared.op_kind.OpKind.TheVariants.{Deconvolve}
+use Rattle.upp_limits.specs.declared.op_kind.OpKind.TheVariants.{Deconvolve}
 use Rattle.affine_segment.specs.Reading.{read}
 use Rattle.upp_curve.specs.Curve.{SpecCurve, repeated, value_at}
 use Rattle.upp_curve.specs.Curves.{IsCurve}
 use Rattle.min_plus.specs.Convolution.{IsDeconvolution}
 use Rattle.min_plus.specs.Functions.{IsFinite}
 use Rattle.affine_segment.specs.Pieces.{Each}
-use Rattle.upp_curve.specs.Normalising.{HasValues}
+use Rattle.upp_normal.specs.Normalising.{HasValues}
 use Rattle.upp_curve.specs.Unrolled.{unroll}
 use Rattle.upp_curve.specs.Steady.{Repeats, steady, rate, rise_over, IsWholePeriods}
-use Rattle.upp_curve.specs.Periods.{common_period, both_steady, period_of, period_or}
-use Rattle.upp_curve.specs.Windows.{window_at}
-use Rattle.upp_curve.specs.Gauges.{IsKnownAtOnce}
-use Rattle.upp_curve.specs.Outcome.{IsWithin}
-use Rattle.upp_curve.specs.Limits.{Sizes, curve_numbers}
-use Rattle.upp_curve.specs.Sized.{Stands, ValueStands, grid_of}
-use Rattle.upp_curve.specs.Operand.{AreLimited}
-use Rattle.upp_curve.proofs.AnswerRoom.{more_largest}
-use Rattle.upp_curve.proofs.Below.{unroll_reads}
-use Rattle.upp_curve.proofs.NarrowSizes.{narrow_gauge}
+use Rattle.upp_limits.specs.Periods.{common_period, both_steady, period_of, period_or}
+use Rattle.upp_limits.specs.Windows.{window_at}
+use Rattle.upp_limits.specs.Gauges.{IsKnownAtOnce}
+use Rattle.upp_limits.specs.Outcome.{IsWithin}
+use Rattle.upp_limits.specs.Limits.{Sizes, curve_numbers}
+use Rattle.upp_limits.specs.Sized.{Stands, ValueStands, grid_of}
+use Rattle.upp_normal.specs.Operand.{AreLimited}
+use Rattle.upp_normal.proofs.AnswerRoom.{more_largest}
+use Rattle.upp_normal.proofs.Below.{unroll_reads}
+use Rattle.upp_limits.proofs.NarrowSizes.{narrow_gauge}
 use Rattle.affine_segment.proofs.PieceOrder.{each_map}
 use Rattle.upp_curve.proofs.Steady.{steady_rule}
-use Rattle.upp_curve.proofs.UnrolledPieces.{PieceStands, pieces_stand, unroll_each}
+use Rattle.upp_normal.proofs.UnrolledPieces.{PieceStands, pieces_stand, unroll_each}
 use Rattle.curve_window.proofs.TailGrids.{TailOf}
 use Rattle.curve_call.specs.declared.frame.Frame.{Frame}
 use Rattle.curve_call.specs.Answering.{IsAnswerWindow}

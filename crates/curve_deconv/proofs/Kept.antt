@@ -21,19 +21,19 @@ use Rattle.upp_curve.specs.Curves.{IsCurve}
 use Rattle.min_plus.specs.Functions.{zero_q, IsRising, IsNonnegative, FiniteTime}
 use Rattle.affine_segment.specs.Pieces.{Each, StartsAtZero}
 use Rattle.upp_curve.specs.Steady.{steady, rise_over}
-use Rattle.upp_curve.specs.Periods.{common_period, both_steady}
+use Rattle.upp_limits.specs.Periods.{common_period, both_steady}
 use Rattle.upp_curve.specs.Unrolled.{unroll}
-use Rattle.upp_curve.specs.Gauges.{both_numbers}
-use Rattle.upp_curve.specs.Limits.{Sizes, curve_numbers, sizes_of}
-use Rattle.upp_curve.specs.Sized.{AreSizes, LineStands, Stands, ValueStands}
-use Rattle.upp_curve.proofs.Below.{unroll_reads}
-use Rattle.upp_curve.proofs.CurveStands.{are_sizes}
+use Rattle.upp_limits.specs.Gauges.{both_numbers}
+use Rattle.upp_limits.specs.Limits.{Sizes, curve_numbers, sizes_of}
+use Rattle.upp_limits.specs.Sized.{AreSizes, LineStands, Stands, ValueStands}
+use Rattle.upp_normal.proofs.Below.{unroll_reads}
+use Rattle.upp_limits.proofs.CurveStands.{are_sizes}
 use Rattle.affine_segment.proofs.PieceIn.{value_past}
-use Rattle.upp_curve.proofs.NarrowSizes.{run_within}
-use Rattle.upp_curve.proofs.NormaliseRoomy.{each_in, found_early}
-use Rattle.upp_curve.proofs.Stands.{sizes_stand, stands_left, stands_right}
-use Rattle.upp_curve.proofs.UnrolledPieces.{PieceStands, each_nonneg, each_with, pieces_stand, unroll_each, unroll_starts}
-use Rattle.upp_curve.proofs.PieceLists.{starts_nonneg}
+use Rattle.upp_limits.proofs.NarrowSizes.{run_within}
+use Rattle.upp_normal.proofs.NormaliseRoomy.{each_in, found_early}
+use Rattle.upp_limits.proofs.Stands.{sizes_stand, stands_left, stands_right}
+use Rattle.upp_normal.proofs.UnrolledPieces.{PieceStands, each_nonneg, each_with, pieces_stand, unroll_each, unroll_starts}
+use Rattle.upp_limits.proofs.PieceLists.{starts_nonneg}
 use Rattle.curve_call.proofs.CurveTimes.{steady_nonneg}
 use Rattle.curve_call.proofs.CurveRises.{common_first, common_second}
 use Rattle.curve_conv.proofs.Cover.{value_here}

@@ -18,9 +18,9 @@ use Rattle.affine_segment.specs.declared.line.Line.{Line}
 use Rattle.affine_segment.specs.declared.line.Piece.{Piece}
 use Rattle.affine_segment.specs.Values.{line_value}
 use Rattle.affine_segment.specs.Reading.{read, piece_in, piece_value, line_in}
-use Rattle.upp_curve.specs.Limits.{Sizes}
-use Rattle.upp_curve.specs.Operand.{AreLimited}
-use Rattle.upp_curve.specs.Sized.{grid_of, times_largest}
+use Rattle.upp_limits.specs.Limits.{Sizes}
+use Rattle.upp_normal.specs.Operand.{AreLimited}
+use Rattle.upp_limits.specs.Sized.{grid_of, times_largest}
 use Rattle.affine_segment.proofs.PieceIn.{value_past}
 use Rattle.affine_segment.proofs.PieceOrder.{each_map}
 use Rattle.curve_window.specs.Pointwise.{ValueSumFits, LineSumFits, SumsFit, IsSumPiece, IsWindowSum, sum_line}

@@ -14,13 +14,13 @@ use Rattle.affine_segment.specs.declared.line.Piece.{Piece}
 use Rattle.affine_segment.specs.declared.element.Element.{Element}
 use Rattle.affine_segment.specs.declared.element.Element.TheVariants.{Point, Open}
 use Rattle.affine_segment.specs.Values.{line_at, line_value}
-use Rattle.upp_curve.specs.Limits.{Sizes}
+use Rattle.upp_limits.specs.Limits.{Sizes}
 use Rattle.affine_segment.specs.Pieces.{Each}
-use Rattle.upp_curve.specs.Sized.{IsSlope, IsValue, ValueStands, grid_of, times_largest}
-use Rattle.upp_curve.specs.Ahead.{IsGridValue, GridValue}
-use Rattle.upp_curve.specs.Operand.{AreLimited, OperandLine, OperandLineAt, OperandPiece}
-use Rattle.upp_curve.proofs.NarrowSizes.{narrow_gauge}
-use Rattle.upp_curve.proofs.AnswerRoom.{operand_line, operand_line_fits, operand_line_value, stands_operand_value, steep_run, OperandValueAt}
+use Rattle.upp_limits.specs.Sized.{IsSlope, IsValue, ValueStands, grid_of, times_largest}
+use Rattle.upp_normal.specs.Ahead.{IsGridValue, GridValue}
+use Rattle.upp_normal.specs.Operand.{AreLimited, OperandLine, OperandLineAt, OperandPiece}
+use Rattle.upp_limits.proofs.NarrowSizes.{narrow_gauge}
+use Rattle.upp_normal.proofs.AnswerRoom.{operand_line, operand_line_fits, operand_line_value, stands_operand_value, steep_run, OperandValueAt}
 use Rattle.curve_call.proofs.CurveTimes.{sum_fits, time_within}
 use Rattle.curve_conv.specs.PieceElements.{next_start, elements_of, Among}
 use Rattle.curve_conv.specs.ElementRoom.{OperandElement}
@@ -28,7 +28,7 @@ use Rattle.curve_conv.proofs.Members.{among_cases}
 use Rattle.curve_conv.proofs.Cover.{head, head_cases}
 use Rattle.curve_deconv.specs.Mirrored.{neg_element, neg_line, mirror, mirror_line, MirrorFits, EachElement}
 use Rattle.curve_deconv.proofs.Kept.{line_from}
-use Rattle.upp_curve.proofs.StretchSizes.{grid_value}
+use Rattle.upp_normal.proofs.StretchSizes.{grid_value}
 
 -- ---- minus the values
 twice_back : (s : ℚ) → int (pos 2) *ℚ neg_ℚ s ≡ neg_ℚ (int (pos 2) *ℚ s)

@@ -17,13 +17,13 @@ use Rattle.affine_segment.specs.declared.line.Piece.{Piece}
 use Rattle.affine_segment.specs.Values.{line_at, line_value}
 use Rattle.affine_segment.specs.Reading.{read, piece_value}
 use Rattle.affine_segment.specs.Pieces.{Each, RisesFrom, StartsAtZero}
-use Rattle.upp_curve.specs.Normalising.{cut_at, past}
+use Rattle.upp_normal.specs.Normalising.{cut_at, past}
 use Rattle.upp_curve.specs.Curve.{repeated}
-use Rattle.upp_curve.specs.Limits.{Sizes}
-use Rattle.upp_curve.specs.Operand.{AreLimited, answer_room}
-use Rattle.upp_curve.specs.Sized.{grid_of, times_largest}
-use Rattle.upp_curve.specs.Room.{TimeHasRoom, ValueHasRoom, LineHasRoom, PieceHasRoom, top}
-use Rattle.upp_curve.proofs.AnswerRoom.{IsCrossing, line_in_room, line_value_in, value_in_room, steep_run}
+use Rattle.upp_limits.specs.Limits.{Sizes}
+use Rattle.upp_normal.specs.Operand.{AreLimited, answer_room}
+use Rattle.upp_limits.specs.Sized.{grid_of, times_largest}
+use Rattle.upp_normal.specs.Room.{TimeHasRoom, ValueHasRoom, LineHasRoom, PieceHasRoom, top}
+use Rattle.upp_normal.proofs.AnswerRoom.{IsCrossing, line_in_room, line_value_in, value_in_room, steep_run}
 use Rattle.affine_segment.proofs.PieceIn.{value_past, read_is}
 use Rattle.affine_segment.proofs.PieceOrder.{each_map}
 use Rattle.curve_envelope.specs.Shifting.{left_line, left_piece, moved_left, LeftFits}

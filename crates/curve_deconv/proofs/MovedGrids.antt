@@ -14,8 +14,8 @@ use Rattle.affine_segment.specs.declared.line.Line.{Line}
 use Rattle.affine_segment.specs.Values.{line_at, line_value}
 use Rattle.upp_curve.specs.Curve.{repeated}
 use Rattle.upp_curve.specs.Steady.{Repeats}
-use Rattle.upp_curve.specs.Normalising.{IsOneLine, OnGridsUnlessLine}
-use Rattle.upp_curve.proofs.NormaliseLeast.{share_some}
+use Rattle.upp_normal.specs.Normalising.{IsOneLine, OnGridsUnlessLine}
+use Rattle.upp_normal.proofs.NormaliseLeast.{share_some}
 use Rattle.curve_deconv.specs.Mirrored.{neg_ext}
 
 -- ---- minus a value

@@ -12,9 +12,9 @@ use Rattle.affine_segment.specs.Values.{line_value}
 use Rattle.curve_conv.specs.ElementRoom.{OperandElement}
 use Rattle.affine_segment.specs.Reading.{read}
 use Rattle.affine_segment.specs.Pieces.{Each}
-use Rattle.upp_curve.specs.Sized.{ValueStands}
-use Rattle.upp_curve.specs.Operand.{OperandPiece}
-use Rattle.upp_curve.proofs.UnrolledPieces.{each_with}
+use Rattle.upp_limits.specs.Sized.{ValueStands}
+use Rattle.upp_normal.specs.Operand.{OperandPiece}
+use Rattle.upp_normal.proofs.UnrolledPieces.{each_with}
 use Rattle.curve_running.specs.Runs.{IsFrontBefore}
 use Rattle.curve_running.proofs.Fronts.{kept_each, kept_starts, kept_reads}
 use Rattle.curve_conv.specs.PieceElements.{elements_of}

@@ -13,8 +13,8 @@ use Rattle.rational.proofs.ExtendedOrder.{add_zero_ext}
 use Rattle.affine_segment.specs.declared.line.Piece.{Piece}
 use Rattle.affine_segment.specs.Reading.{read}
 use Rattle.affine_segment.specs.Pieces.{Each, StartsAtZero}
-use Rattle.upp_curve.specs.Operand.{OperandPiece}
-use Rattle.upp_curve.proofs.NarrowSizes.{narrow_gauge}
+use Rattle.upp_normal.specs.Operand.{OperandPiece}
+use Rattle.upp_limits.proofs.NarrowSizes.{narrow_gauge}
 use Rattle.affine_segment.proofs.PieceOrder.{each_map}
 use Rattle.curve_window.specs.Stretches.{CutsFit}
 use Rattle.curve_window.specs.Pointwise.{SumsFit, IsWindowSum}

@@ -7,14 +7,14 @@ use Rattle.rational.specs.declared.Extended.TheVariants.{Fin, Inf}
 use Rattle.rational.specs.Bounds.{IsInfimum, IsSupremum}
 use Rattle.affine_segment.specs.declared.line.Piece.{Piece}
 use Rattle.affine_segment.specs.Values.{line_value}
-use Rattle.upp_curve.specs.Limits.{Sizes}
+use Rattle.upp_limits.specs.Limits.{Sizes}
 use Rattle.affine_segment.specs.Pieces.{Each, StartsAtZero}
-use Rattle.upp_curve.specs.Normalising.{OnGridsUnlessLine}
-use Rattle.upp_curve.specs.Operand.{AreLimited, OperandPieces, answer_room}
+use Rattle.upp_normal.specs.Normalising.{OnGridsUnlessLine}
+use Rattle.upp_normal.specs.Operand.{AreLimited, OperandPieces, answer_room}
 use Rattle.affine_segment.specs.Reading.{read}
 use Rattle.upp_curve.specs.Curve.{repeated}
-use Rattle.upp_curve.specs.Room.{PieceHasRoom}
-use Rattle.upp_curve.specs.Sized.{ValueStands, grid_of}
+use Rattle.upp_normal.specs.Room.{PieceHasRoom}
+use Rattle.upp_limits.specs.Sized.{ValueStands, grid_of}
 use Rattle.curve_conv.specs.SumWindows.{SumWindow}
 use Rattle.curve_conv.specs.Arches.{Arches}
 use Rattle.curve_window.proofs.TailGrids.{TailOf}

@@ -7,10 +7,10 @@ ghost use Rattle.upp_curve.specs.Curve.{value_at};
 ghost use Rattle.upp_curve.specs.Curves.{IsCurve};
 ghost use Rattle.min_plus.specs.Convolution.{IsDeconvolution};
 ghost use Rattle.min_plus.specs.Functions.{IsFinite};
-ghost use Rattle.upp_curve.specs.Periods.{period_of, period_or};
+ghost use Rattle.upp_limits.specs.Periods.{period_of, period_or};
 ghost use Rattle.upp_curve.specs.Steady.{rate, steady};
-ghost use Rattle.upp_curve.specs.Outcome.{KeepsLimits};
-ghost use Rattle.upp_curve.specs.declared.op_kind.OpKind.TheVariants.{Deconvolve};
+ghost use Rattle.upp_limits.specs.Outcome.{KeepsLimits};
+ghost use Rattle.upp_limits.specs.declared.op_kind.OpKind.TheVariants.{Deconvolve};
 ghost use Rattle.curve_call.specs.Frames.{IsFrame};
 ghost use Rattle.curve_call.specs.Times.{OneLaterFits};
 
@@ -22,7 +22,9 @@ use fraction128::{Frac, difference};
 use std::alloc::{AllocError, Global};
 use std::sync::ledger::Ledger;
 use steps::Steps;
-use upp_curve::{Curve, OpFault, OpKind, Tail};
+use upp_curve::{Curve, Tail};
+use upp_limits::{OpFault, OpKind};
+use upp_normal::unrolled;
 
 // From when on a curve repeats.
 fn begin(c: &Curve) -> Frac
@@ -56,8 +58,8 @@ fn deconvolved_within(
     ensures value { IfOk result (λ c. (t : ℚ) → int (pos 0) ≤ℚ t → IsDeconvolution (value_at f.now) (value_at g.now) t (value_at c t)) }
     ensures finite { IsFinite (value_at f.now) → IfOk result (λ c. IsFinite (value_at c)) }
 {
-    let left = f.unrolled(frame.end)?;
-    let right = g.unrolled(frame.end)?;
+    let left = unrolled(f, frame.end)?;
+    let right = unrolled(g, frame.end)?;
     let from = begin(f);
     let period = period_or(f, frame.period);
     let past = difference(frame.end, from);

@@ -12,7 +12,9 @@ use std::marker::Brand;
 use std::sync::ledger::{Blank, Ledger};
 use std::test::Fail;
 use steps::Steps;
-use upp_curve::{Curve, OpFault, RawCurve, Tail, equal, normalise};
+use upp_curve::{Curve, Tail, equal};
+use upp_limits::OpFault;
+use upp_normal::{RawCurve, normalise};
 
 fn whole(n: i128) -> Frac {
     match Frac::new(n, 1) {

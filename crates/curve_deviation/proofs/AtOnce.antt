@@ -18,7 +18,7 @@ use Rattle.upp_curve.specs.Shapes.{IsFinitePiece, IsNumber}
 use Rattle.min_plus.specs.Functions.{IsFinite}
 use Rattle.upp_curve.specs.Steady.{Repeats, rise_over, rate}
 use Rattle.min_plus.specs.Deviations.{IsVerticalDeviation}
-use Rattle.upp_curve.specs.Ahead.{IsBeforeNext}
+use Rattle.upp_normal.specs.Ahead.{IsBeforeNext}
 use Rattle.upp_curve.proofs.Finite.{level_of, read_number, repeated_number}
 use Rattle.upp_curve.proofs.Repeats.{repeated_first}
 use Rattle.upp_curve.proofs.Steady.{cut_past, steady_rule}

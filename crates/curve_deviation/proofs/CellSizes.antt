@@ -13,12 +13,12 @@ use Rattle.rational.proofs.Laws.{div_mul, not_zero, le_of_not_lt}
 use Rattle.affine_segment.specs.declared.line.Line.{Line}
 use Rattle.affine_segment.specs.Values.{line_at}
 use Rattle.affine_segment.specs.Fits.{LineFits}
-use Rattle.upp_curve.specs.Limits.{Sizes}
-use Rattle.upp_curve.specs.Sized.{grid_of, times_largest, IsSlope}
-use Rattle.upp_curve.specs.Operand.{AreLimited, OperandLine}
-use Rattle.upp_curve.proofs.AnswerRoom.{OperandValue, operand_line_fits, operand_line_value, values_fit, value_difference_stands, tight}
-use Rattle.upp_curve.proofs.NarrowSizes.{grid_pos}
-use Rattle.upp_curve.proofs.StretchSizes.{times_fit}
+use Rattle.upp_limits.specs.Limits.{Sizes}
+use Rattle.upp_limits.specs.Sized.{grid_of, times_largest, IsSlope}
+use Rattle.upp_normal.specs.Operand.{AreLimited, OperandLine}
+use Rattle.upp_normal.proofs.AnswerRoom.{OperandValue, operand_line_fits, operand_line_value, values_fit, value_difference_stands, tight}
+use Rattle.upp_limits.proofs.NarrowSizes.{grid_pos}
+use Rattle.upp_normal.proofs.StretchSizes.{times_fit}
 use Rattle.curve_deviation.specs.Cells.{IsTimeTo}
 
 -- ---- values and their differences

@@ -13,7 +13,7 @@ use Rattle.affine_segment.specs.declared.line.Piece.{Piece}
 use Rattle.affine_segment.specs.Values.{line_value}
 use Rattle.upp_curve.specs.declared.curve.Tail.{Tail}
 use Rattle.upp_curve.specs.declared.curve.Tail.TheVariants.{Periodic, Affine, Infinite}
-use Rattle.upp_curve.specs.declared.ahead.Stretch.{Stretch}
+use Rattle.upp_normal.specs.declared.ahead.Stretch.{Stretch}
 use Rattle.affine_segment.specs.Reading.{read, piece_in, piece_value, next_in, line_in}
 use Rattle.upp_curve.specs.Curve.{SpecCurve, value_at, with_tail}
 use Rattle.upp_curve.specs.Curves.{IsCurve}
@@ -23,19 +23,19 @@ use Rattle.upp_curve.specs.Normal.{IsNormal, TailFits}
 use Rattle.affine_segment.specs.Fits.{ReadFits, LineFitsAt}
 use Rattle.upp_curve.specs.Readable.{TailReadable}
 use Rattle.rational.specs.Ratio.{SumFits}
-use Rattle.upp_curve.specs.Limits.{Sizes}
-use Rattle.upp_curve.specs.Spans.{spans, piece_read}
-use Rattle.upp_curve.specs.Sized.{SpanStands}
-use Rattle.upp_curve.specs.Operand.{AreLimited, OperandLineAt}
-use Rattle.upp_curve.specs.Ahead.{IsBeforeNext, GoesOn, AtNext, TimesStand, HasWindow, IsOverBy, IsTimeIn, GridValue}
-use Rattle.upp_curve.proofs.PieceLists.{spans_some}
+use Rattle.upp_limits.specs.Limits.{Sizes}
+use Rattle.upp_limits.specs.Spans.{spans, piece_read}
+use Rattle.upp_limits.specs.Sized.{SpanStands}
+use Rattle.upp_normal.specs.Operand.{AreLimited, OperandLineAt}
+use Rattle.upp_normal.specs.Ahead.{IsBeforeNext, GoesOn, AtNext, TimesStand, HasWindow, IsOverBy, IsTimeIn, GridValue}
+use Rattle.upp_limits.proofs.PieceLists.{spans_some}
 use Rattle.upp_curve.proofs.Repeats.{repeated_first}
 use Rattle.upp_curve.proofs.RisingCurves.{infinite_is_not_finite}
-use Rattle.upp_curve.proofs.CurveStands.{unrolled_stand, each_stands, has_period}
-use Rattle.upp_curve.proofs.StretchPieces.{next_past, next_all, reads_on, span_in, found_early, found_late}
-use Rattle.upp_curve.proofs.StretchSizes.{span_line, grid_value, times_stand}
-use Rattle.upp_curve.proofs.StretchValues.{with_pieces}
-use Rattle.upp_curve.proofs.AnswerRoom.{operand_line_fits, operand_line_value, stands_operand_value}
+use Rattle.upp_limits.proofs.CurveStands.{unrolled_stand, each_stands, has_period}
+use Rattle.upp_normal.proofs.StretchPieces.{next_past, next_all, reads_on, span_in, found_early, found_late}
+use Rattle.upp_normal.proofs.StretchSizes.{span_line, grid_value, times_stand}
+use Rattle.upp_normal.proofs.StretchValues.{with_pieces}
+use Rattle.upp_normal.proofs.AnswerRoom.{operand_line_fits, operand_line_value, stands_operand_value}
 use Rattle.curve_deviation.specs.declared.parts.Part.{Part}
 use Rattle.curve_deviation.specs.Parts.{IsSeen, GoesTo, PartStands, IsEarlyBy, until_of}
 

@@ -25,8 +25,8 @@ use Rattle.upp_curve.specs.Unrolled.{unroll}
 use Rattle.min_plus.proofs.FiniteValues.{no_inf}
 use Rattle.affine_segment.proofs.PieceIn.{piece_in_stop, piece_in_go, piece_in_end, value_past, read_is}
 use Rattle.upp_curve.proofs.FirstStretch.{read_in}
-use Rattle.upp_curve.proofs.Below.{unroll_reads}
-use Rattle.upp_curve.proofs.UnrolledPieces.{unroll_starts}
+use Rattle.upp_normal.proofs.Below.{unroll_reads}
+use Rattle.upp_normal.proofs.UnrolledPieces.{unroll_starts}
 use Rattle.curve_least.proofs.Shifts.{later_value}
 use Rattle.curve_deviation.specs.Rises.{RisesOn}
 use Rattle.curve_deviation.proofs.CellLag.{rises, rises_more, later, gets_higher, before_both}

@@ -20,7 +20,7 @@ use Rattle.min_plus.specs.Deviations.{IsVerticalDeviation}
 use Rattle.affine_segment.proofs.PieceIn.{piece_in_stop, piece_in_go, piece_in_end, value_past}
 use Rattle.upp_curve.proofs.FirstStretch.{read_in, at_start}
 use Rattle.curve_least.proofs.Shifts.{later_value}
-use Rattle.upp_curve.specs.Ahead.{IsBeforeNext}
+use Rattle.upp_normal.specs.Ahead.{IsBeforeNext}
 
 -- ---- a piece that is not finite gives a time
 pub record InfiniteTime (p : Piece) (ps : List Piece) (end : Option ℚ) : Type 0 where

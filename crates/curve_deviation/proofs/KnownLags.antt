@@ -9,25 +9,25 @@ use Rattle.rational.proofs.Laws.{le_refl, le_trans, le_of_lt, mul_nonneg, mul_su
 use Rattle.rational.proofs.Integers.{nat_nonneg}
 use Rattle.rational.proofs.Quotients.{times_above}
 use Rattle.rational.proofs.MinMax.{max_q_ge_left, max_q_ge_right}
-use Rattle.upp_curve.specs.declared.op_kind.OpKind.TheVariants.{Horizontal}
+use Rattle.upp_limits.specs.declared.op_kind.OpKind.TheVariants.{Horizontal}
 use Rattle.upp_curve.specs.Curve.{SpecCurve, value_at}
 use Rattle.upp_curve.specs.Curves.{IsCurve}
 use Rattle.min_plus.specs.Functions.{IsFinite, IsRising}
 use Rattle.upp_curve.specs.Steady.{Repeats, steady, rise_over, rate}
-use Rattle.upp_curve.specs.Periods.{common_period, both_steady}
-use Rattle.upp_curve.specs.Limits.{curve_numbers, sizes_of}
-use Rattle.upp_curve.specs.Sized.{Stands}
-use Rattle.upp_curve.specs.Gauges.{IsKnownAtOnce, both_numbers}
-use Rattle.upp_curve.specs.Outcome.{IsWithin}
+use Rattle.upp_limits.specs.Periods.{common_period, both_steady}
+use Rattle.upp_limits.specs.Limits.{curve_numbers, sizes_of}
+use Rattle.upp_limits.specs.Sized.{Stands}
+use Rattle.upp_limits.specs.Gauges.{IsKnownAtOnce, both_numbers}
+use Rattle.upp_limits.specs.Outcome.{IsWithin}
 use Rattle.min_plus.specs.Deviations.{IsHorizontalDeviation}
-use Rattle.upp_curve.proofs.Stands.{sizes_stand, stands_left, stands_right}
+use Rattle.upp_limits.proofs.Stands.{sizes_stand, stands_left, stands_right}
 use Rattle.upp_curve.proofs.Steady.{steady_rule}
 use Rattle.curve_call.proofs.CurveTimes.{both_on, steady_nonneg}
 use Rattle.curve_call.proofs.CurveRises.{common_first, common_second}
 use Rattle.curve_least.specs.Ever.{RepeatsBy}
 use Rattle.curve_least.proofs.Shifts.{later_value}
 use Rattle.curve_least.proofs.LeastNumber.{gains}
-use Rattle.upp_curve.proofs.UnrollSteps.{ext_cases}
+use Rattle.upp_normal.proofs.UnrollSteps.{ext_cases}
 use Rattle.curve_deviation.specs.Lags.{LagsBy}
 use Rattle.curve_deviation.proofs.AtOnce.{infinite_somewhere, repeats_by}
 use Rattle.curve_deviation.proofs.FirstReach.{reached_or}

@@ -15,9 +15,9 @@ use Rattle.affine_segment.specs.declared.line.Line.{Line}
 use Rattle.affine_segment.specs.declared.line.Piece.{Piece}
 use Rattle.upp_curve.specs.declared.curve.Tail.{Tail}
 use Rattle.upp_curve.specs.declared.curve.Tail.TheVariants.{Periodic, Affine, Infinite}
-use Rattle.upp_curve.specs.declared.op_kind.OpKind.TheVariants.{Horizontal}
-use Rattle.upp_curve.specs.declared.op_kind.OpFault.{OpFault}
-use Rattle.upp_curve.specs.declared.op_kind.OpFault.TheVariants.{TooMany, TooWide, NoMemory}
+use Rattle.upp_limits.specs.declared.op_kind.OpKind.TheVariants.{Horizontal}
+use Rattle.upp_limits.specs.declared.op_kind.OpFault.{OpFault}
+use Rattle.upp_limits.specs.declared.op_kind.OpFault.TheVariants.{TooMany, TooWide, NoMemory}
 use Rattle.upp_curve.specs.Steps.{IsWideLine, IsWideRead, IsWideAt, IsWideValueAt}
 use Rattle.affine_segment.specs.Fits.{LineFitsAt}
 use Rattle.affine_segment.specs.Reading.{piece_in, line_in}
@@ -25,13 +25,13 @@ use Rattle.upp_curve.specs.Curve.{SpecCurve, value_at}
 use Rattle.upp_curve.specs.Curves.{IsCurve}
 use Rattle.min_plus.specs.Functions.{IsFinite, IsRising}
 use Rattle.upp_curve.specs.Steady.{steady, steady_in, rise_over, rate}
-use Rattle.upp_curve.specs.Periods.{common_period, periods_after}
-use Rattle.upp_curve.specs.Windows.{window_at, IsConstantFrom, IsLeastPeriods, Reaches, Meets}
-use Rattle.upp_curve.specs.Limits.{Sizes}
-use Rattle.upp_curve.specs.Ahead.{IsTimeIn}
-use Rattle.upp_curve.specs.Gauges.{IsKnownAtOnce, gauge_at, IsTooWide}
-use Rattle.upp_curve.specs.Outcome.{IsWithin, IsCauseOf}
-use Rattle.upp_curve.proofs.AnswerRoom.{operand_line_fits}
+use Rattle.upp_limits.specs.Periods.{common_period, periods_after}
+use Rattle.upp_limits.specs.Windows.{window_at, IsConstantFrom, IsLeastPeriods, Reaches, Meets}
+use Rattle.upp_limits.specs.Limits.{Sizes}
+use Rattle.upp_normal.specs.Ahead.{IsTimeIn}
+use Rattle.upp_limits.specs.Gauges.{IsKnownAtOnce, gauge_at, IsTooWide}
+use Rattle.upp_limits.specs.Outcome.{IsWithin, IsCauseOf}
+use Rattle.upp_normal.proofs.AnswerRoom.{operand_line_fits}
 use Rattle.curve_call.specs.declared.frame.Frame.{Frame}
 use Rattle.curve_call.specs.Frames.{IsFrame, IsRefusedAt, sizes_at}
 use Rattle.curve_call.specs.Times.{OneLaterFits}
@@ -39,9 +39,9 @@ use Rattle.curve_call.proofs.CurveTimes.{steady_whole, steady_nonneg, one_later}
 use Rattle.curve_call.proofs.FirstGate.{gauge_grows}
 use Rattle.curve_call.proofs.Limited.{least_unique, refused_cause, frame_within}
 use Rattle.curve_least.proofs.Shifts.{later_value}
-use Rattle.upp_curve.proofs.UnrollSteps.{ext_cases}
+use Rattle.upp_normal.proofs.UnrollSteps.{ext_cases}
 use Rattle.curve_least.proofs.Rises.{rate_rise, infinite_value}
-use Rattle.upp_curve.proofs.StretchSizes.{narrow}
+use Rattle.upp_normal.proofs.StretchSizes.{narrow}
 use Rattle.curve_deviation.specs.Parts.{IsSeen}
 use Rattle.curve_deviation.proofs.EarlyParts.{IsEndless, endless, early_here}
 use Rattle.curve_deviation.specs.declared.horizontals.Periods.{Periods}

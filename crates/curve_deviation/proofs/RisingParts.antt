@@ -18,9 +18,9 @@ use Rattle.affine_segment.specs.Values.{line_at, line_value}
 use Rattle.upp_curve.specs.Curve.{SpecCurve, value_at}
 use Rattle.min_plus.specs.Functions.{IsFinite, IsRising}
 use Rattle.upp_curve.specs.Shapes.{IsLine}
-use Rattle.upp_curve.specs.Limits.{Sizes}
-use Rattle.upp_curve.specs.Operand.{OperandLine, OperandLineAt}
-use Rattle.upp_curve.specs.Ahead.{IsTimeIn}
+use Rattle.upp_limits.specs.Limits.{Sizes}
+use Rattle.upp_normal.specs.Operand.{OperandLine, OperandLineAt}
+use Rattle.upp_normal.specs.Ahead.{IsTimeIn}
 use Rattle.min_plus.proofs.FiniteValues.{no_inf, Fin_inj}
 use Rattle.curve_deviation.specs.declared.cells.Cell.{Cell}
 use Rattle.curve_deviation.specs.declared.parts.Part.{Part}

@@ -11,14 +11,14 @@ use Rattle.rational.proofs.ExtendedOrder.{le_ext_trans, lt_le_ext}
 use Rattle.upp_curve.specs.Curve.{SpecCurve, value_at}
 use Rattle.upp_curve.specs.Curves.{IsCurve}
 use Rattle.upp_curve.specs.Steady.{steady}
-use Rattle.upp_curve.specs.Periods.{common_period, periods_after}
+use Rattle.upp_limits.specs.Periods.{common_period, periods_after}
 use Rattle.curve_call.proofs.CurveTimes.{steady_nonneg}
 use Rattle.curve_deviation.specs.declared.search.Stage.{Stage}
 use Rattle.curve_deviation.specs.declared.search.Stage.TheVariants.{First, Second}
 use Rattle.curve_deviation.specs.Stages.{AreFinite, HasLeft, HasReached, settled, Meets, stage_gauge, IsBefore, IsPast}
 use Rattle.curve_deviation.proofs.KnownLags.{common_above}
 use Rattle.curve_deviation.proofs.WindowTimes.{WindowTimes, periods_low, few_within, twice_is}
-use Rattle.upp_curve.specs.Limits.{Sizes}
+use Rattle.upp_limits.specs.Limits.{Sizes}
 
 -- more periods are later
 later_periods : (T d : ℚ) (i k : ℕ) → int (pos 0) <ℚ d → i ≤ k → periods_after T i d ≤ℚ periods_after T k d

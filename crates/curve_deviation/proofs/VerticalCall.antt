@@ -6,22 +6,22 @@ use Rattle.rational.specs.Extended.{◌<ₑ◌}
 use Rattle.rational.specs.declared.Extended.TheVariants.{Inf}
 use Rattle.rational.proofs.MinMax.{max_q_ge_left, max_q_ge_right}
 use Rattle.rational.proofs.Laws.{le_trans}
-use Rattle.upp_curve.specs.declared.op_kind.OpKind.TheVariants.{Vertical}
-use Rattle.upp_curve.specs.declared.op_kind.OpFault.{OpFault}
-use Rattle.upp_curve.specs.declared.op_kind.OpFault.TheVariants.{NoMemory}
+use Rattle.upp_limits.specs.declared.op_kind.OpKind.TheVariants.{Vertical}
+use Rattle.upp_limits.specs.declared.op_kind.OpFault.{OpFault}
+use Rattle.upp_limits.specs.declared.op_kind.OpFault.TheVariants.{NoMemory}
 use Rattle.upp_curve.specs.Curve.{SpecCurve, value_at}
 use Rattle.upp_curve.specs.Curves.{IsCurve}
 use Rattle.min_plus.specs.Functions.{IsFinite}
 use Rattle.upp_curve.specs.Steady.{steady, rate, IsWholePeriods}
-use Rattle.upp_curve.specs.Periods.{common_period, both_steady}
-use Rattle.upp_curve.specs.Windows.{window_at}
-use Rattle.upp_curve.specs.Limits.{curve_numbers, sizes_of}
-use Rattle.upp_curve.specs.Sized.{Stands}
-use Rattle.upp_curve.specs.Operand.{AreLimited}
-use Rattle.upp_curve.specs.Gauges.{IsKnownAtOnce, both_numbers}
-use Rattle.upp_curve.specs.Outcome.{IsWithin}
+use Rattle.upp_limits.specs.Periods.{common_period, both_steady}
+use Rattle.upp_limits.specs.Windows.{window_at}
+use Rattle.upp_limits.specs.Limits.{curve_numbers, sizes_of}
+use Rattle.upp_limits.specs.Sized.{Stands}
+use Rattle.upp_normal.specs.Operand.{AreLimited}
+use Rattle.upp_limits.specs.Gauges.{IsKnownAtOnce, both_numbers}
+use Rattle.upp_limits.specs.Outcome.{IsWithin}
 use Rattle.min_plus.specs.Deviations.{IsVerticalDeviation}
-use Rattle.upp_curve.proofs.Stands.{sizes_stand, stands_left, stands_right}
+use Rattle.upp_limits.proofs.Stands.{sizes_stand, stands_left, stands_right}
 use Rattle.curve_call.specs.declared.frame.Frame.{Frame}
 use Rattle.curve_call.specs.Frames.{IsFrame, IsRefusedAt, sizes_at}
 use Rattle.curve_call.proofs.CallTimes.{first_stands, second_stands}

@@ -19,8 +19,8 @@ use Rattle.rational.proofs.ExtendedOrder.{le_ext_trans, le_lt_ext, lt_le_ext, lt
 use Rattle.affine_segment.specs.declared.line.Line.{Line}
 use Rattle.affine_segment.specs.Values.{line_at}
 use Rattle.min_plus.specs.Functions.{IsRising}
-use Rattle.upp_curve.specs.Limits.{Sizes}
-use Rattle.upp_curve.specs.Ahead.{IsTimeIn}
+use Rattle.upp_limits.specs.Limits.{Sizes}
+use Rattle.upp_normal.specs.Ahead.{IsTimeIn}
 use Rattle.curve_deviation.specs.declared.cells.Cell.{Cell}
 use Rattle.curve_deviation.specs.declared.walks.Walk.{Walk}
 use Rattle.curve_deviation.specs.Cells.{RisingCell, CellSizes, IsTimeTo, IsBehind, IsBehindEarlier, BehindBy, IsCellLag}

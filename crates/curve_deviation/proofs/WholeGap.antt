@@ -14,14 +14,14 @@ use Rattle.rational.proofs.ExtendedOrder.{add_le_ext, add_assoc_ext, same_le_ext
 use Rattle.upp_curve.specs.Curve.{SpecCurve, value_at}
 use Rattle.min_plus.specs.Functions.{IsFinite}
 use Rattle.upp_curve.specs.Steady.{Repeats, rise_over, rate}
-use Rattle.upp_curve.specs.Limits.{Sizes}
+use Rattle.upp_limits.specs.Limits.{Sizes}
 use Rattle.min_plus.specs.Deviations.{IsVerticalDeviation}
-use Rattle.upp_curve.specs.Ahead.{HasWindow, IsTimeIn}
+use Rattle.upp_normal.specs.Ahead.{HasWindow, IsTimeIn}
 use Rattle.curve_least.specs.Gaps.{InWindow, IsWithin, IsEndless, IsLargest}
 use Rattle.curve_least.specs.Compared.{RepeatsIn, AreCompared}
 use Rattle.curve_least.proofs.Shifts.{later_value}
 use Rattle.curve_least.proofs.Rises.{rate_rise, infinite_value, from_low}
-use Rattle.upp_curve.proofs.UnrollSteps.{ext_cases}
+use Rattle.upp_normal.proofs.UnrollSteps.{ext_cases}
 use Rattle.curve_least.proofs.LeastNumber.{repeats_from, compared_window}
 
 -- ---- later times add nothing

@@ -4,8 +4,8 @@ use Rattle.std.specs.Prelude.{pos, ◌⊎◌}
 use Rattle.rational.specs.Rational.{ℚ, ◌-ℚ◌, ◌≤ℚ◌, ◌<ℚ◌, int}
 use Rattle.rational.specs.Grid.{Whole}
 use Rattle.affine_segment.specs.Values.{line_at}
-use Rattle.upp_curve.specs.Limits.{Sizes}
-use Rattle.upp_curve.specs.Operand.{AreLimited, OperandLine}
+use Rattle.upp_limits.specs.Limits.{Sizes}
+use Rattle.upp_normal.specs.Operand.{AreLimited, OperandLine}
 use Rattle.curve_deviation.specs.declared.cells.Cell.{Cell}
 
 -- no line falls, and no stretch is empty

@@ -10,10 +10,10 @@ use Rattle.upp_curve.specs.declared.curve.Tail.TheVariants.{Periodic, Affine, In
 use Rattle.upp_curve.specs.Curve.{SpecCurve, value_at}
 use Rattle.upp_curve.specs.Curves.{IsCurve}
 use Rattle.min_plus.specs.Functions.{IsFinite}
-use Rattle.upp_curve.specs.Limits.{Sizes, curve_numbers}
-use Rattle.upp_curve.specs.Sized.{Stands}
-use Rattle.upp_curve.specs.Operand.{AreLimited, OperandLineAt}
-use Rattle.upp_curve.specs.Ahead.{GridValue}
+use Rattle.upp_limits.specs.Limits.{Sizes, curve_numbers}
+use Rattle.upp_limits.specs.Sized.{Stands}
+use Rattle.upp_normal.specs.Operand.{AreLimited, OperandLineAt}
+use Rattle.upp_normal.specs.Ahead.{GridValue}
 use Rattle.curve_deviation.specs.declared.parts.Part.{Part}
 
 -- a finite curve whose numbers up to `end` have the sizes z

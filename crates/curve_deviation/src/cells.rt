@@ -5,8 +5,8 @@ ghost use Rattle.rational.specs.Rational.{ℚ, int, ◌-ℚ◌, ◌*ℚ◌, ◌/
 ghost use Rattle.rational.specs.Ratio.{IsSmall, SumFits};
 ghost use Rattle.affine_segment.specs.Values.{line_at};
 ghost use Rattle.affine_segment.specs.Fits.{LineFits};
-ghost use Rattle.upp_curve.specs.Limits.{Sizes};
-ghost use Rattle.upp_curve.specs.Sized.{IsSlope};
+ghost use Rattle.upp_limits.specs.Limits.{Sizes};
+ghost use Rattle.upp_limits.specs.Sized.{IsSlope};
 ghost use Rattle.curve_deviation.specs.Cells.{RisingCell, CellSizes, IsTimeTo, IsCellLag};
 
 use affine_segment::{Line, value};

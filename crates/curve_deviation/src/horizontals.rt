@@ -5,10 +5,10 @@ ghost use Rattle.rational.specs.Rational.{ℚ, ◌<ℚ◌};
 ghost use Rattle.upp_curve.specs.Curve.{value_at};
 ghost use Rattle.min_plus.specs.Functions.{IsFinite, IsRising};
 ghost use Rattle.upp_curve.specs.Steady.{steady};
-ghost use Rattle.upp_curve.specs.Limits.{Sizes};
-ghost use Rattle.upp_curve.specs.Gauges.{IsKnownAtOnce, gauge_at};
+ghost use Rattle.upp_limits.specs.Limits.{Sizes};
+ghost use Rattle.upp_limits.specs.Gauges.{IsKnownAtOnce, gauge_at};
 ghost use Rattle.min_plus.specs.Deviations.{IsHorizontalDeviation};
-ghost use Rattle.upp_curve.specs.Outcome.{KeepsLimits};
+ghost use Rattle.upp_limits.specs.Outcome.{KeepsLimits};
 ghost use Rattle.curve_call.specs.Frames.{IsFrame};
 ghost use Rattle.curve_deviation.specs.Parts.{IsSeen};
 ghost use Rattle.curve_deviation.specs.Stages.{AreFinite, IsWideCall, IsFirst, IsTurn, AreFound};
@@ -21,7 +21,9 @@ use fraction128::{Ext, Frac};
 use rational::Extended;
 use std::sync::ledger::Ledger;
 use steps::Steps;
-use upp_curve::{Curve, OpFault, OpKind, steady_time};
+use upp_curve::Curve;
+use upp_limits::{OpFault, OpKind};
+use upp_normal::steady_time;
 
 /// A time and the first curve's value there.
 #[derive(Debug, Clone, Copy)]

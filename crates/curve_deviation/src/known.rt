@@ -6,15 +6,16 @@ ghost use Rattle.upp_curve.specs.Curve.{value_at};
 ghost use Rattle.upp_curve.specs.Curves.{IsCurve};
 ghost use Rattle.min_plus.specs.Functions.{IsFinite, IsRising};
 ghost use Rattle.upp_curve.specs.Steady.{rate, last_line};
-ghost use Rattle.upp_curve.specs.Levels.{icept_of, level_of, IsLevelAbove};
-ghost use Rattle.upp_curve.specs.Gauges.{EndsAbove, IsKnownAtOnce};
+ghost use Rattle.upp_limits.specs.Levels.{icept_of, level_of, IsLevelAbove};
+ghost use Rattle.upp_limits.specs.Gauges.{EndsAbove, IsKnownAtOnce};
 
 use crate::verticals::{is_faster, is_number};
 use affine_segment::Piece;
 use fraction128::{Ext, Frac};
 use rational::Extended;
 use std::cmp::Ordering;
-use upp_curve::{Curve, OpKind, Tail};
+use upp_curve::{Curve, Tail};
+use upp_limits::OpKind;
 
 /// Whether a is less than b.
 pub(crate) fn is_less(a: Frac, b: Frac) -> bool

@@ -10,15 +10,16 @@ ghost use Rattle.affine_segment.specs.Pieces.{StartsAtZero};
 ghost use Rattle.upp_curve.specs.Curve.{value_at};
 ghost use Rattle.upp_curve.specs.Curves.{IsCurve};
 ghost use Rattle.affine_segment.specs.Fits.{LineFitsAt, ReadFits};
-ghost use Rattle.upp_curve.specs.Limits.{Sizes};
-ghost use Rattle.upp_curve.specs.Ahead.{IsOverBy, IsTimeIn};
+ghost use Rattle.upp_limits.specs.Limits.{Sizes};
+ghost use Rattle.upp_normal.specs.Ahead.{IsOverBy, IsTimeIn};
 ghost use Rattle.curve_deviation.specs.Parts.{IsSeen, GoesTo, PartStands, IsEarlyBy, until_of};
 
 use crate::cells::{is_less, line_at};
 use affine_segment::{Line, Piece};
 use fraction128::{Ext, Frac};
 use rational::Extended;
-use upp_curve::{Curve, Tail, stretch_at};
+use upp_curve::{Curve, Tail};
+use upp_normal::stretch_at;
 
 /// How a curve goes on from a time of a window.
 #[derive(Debug, Clone, Copy)]

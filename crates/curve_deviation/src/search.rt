@@ -6,9 +6,9 @@ ghost use Rattle.rational.specs.Rational.{◌-ℚ◌, neg_ℚ};
 ghost use Rattle.rational.specs.Ratio.{SumFits};
 ghost use Rattle.upp_curve.specs.Curve.{value_at};
 ghost use Rattle.upp_curve.specs.Curves.{IsCurve};
-ghost use Rattle.upp_curve.specs.Limits.{Sizes};
-ghost use Rattle.upp_curve.specs.Ahead.{IsTimeIn};
-ghost use Rattle.upp_curve.specs.Gauges.{gauge_at};
+ghost use Rattle.upp_limits.specs.Limits.{Sizes};
+ghost use Rattle.upp_normal.specs.Ahead.{IsTimeIn};
+ghost use Rattle.upp_limits.specs.Gauges.{gauge_at};
 ghost use Rattle.curve_deviation.specs.Parts.{IsSeen};
 ghost use Rattle.curve_deviation.specs.Stages.{IsNarrowWindow, AreFinite, HasLeft, HasReached, Meets, stage_gauge, IsBefore, IsPast};
 
@@ -17,7 +17,8 @@ use crate::parts::part_at;
 use curve_call::{CallWindow, call_window};
 use fraction128::Frac;
 use rational::Extended;
-use upp_curve::{Curve, OpKind, call_numbers};
+use upp_curve::Curve;
+use upp_limits::{OpKind, call_numbers};
 
 /// What is looked for.
 #[derive(Debug, Clone, Copy)]

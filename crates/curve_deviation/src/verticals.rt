@@ -7,10 +7,10 @@ ghost use Rattle.rational.specs.Extended.{◌<ₑ◌};
 ghost use Rattle.upp_curve.specs.Curve.{value_at};
 ghost use Rattle.min_plus.specs.Functions.{IsFinite};
 ghost use Rattle.upp_curve.specs.Steady.{rate};
-ghost use Rattle.upp_curve.specs.Limits.{Sizes};
+ghost use Rattle.upp_limits.specs.Limits.{Sizes};
 ghost use Rattle.min_plus.specs.Deviations.{IsVerticalDeviation};
 ghost use Rattle.upp_curve.specs.Curves.{IsCurve};
-ghost use Rattle.upp_curve.specs.Outcome.{KeepsLimits};
+ghost use Rattle.upp_limits.specs.Outcome.{KeepsLimits};
 ghost use Rattle.curve_call.specs.Frames.{IsFrame};
 ghost use Rattle.curve_least.specs.Compared.{AreCompared};
 
@@ -20,7 +20,8 @@ use fraction128::{Ext, Frac};
 use rational::Extended;
 use std::sync::ledger::Ledger;
 use steps::Steps;
-use upp_curve::{Curve, OpFault, OpKind};
+use upp_curve::Curve;
+use upp_limits::{OpFault, OpKind};
 
 /// a + b.
 fn sum(a: Frac, b: Frac) -> Frac

@@ -13,12 +13,12 @@ use Rattle.affine_segment.specs.declared.line.Line.{Line}
 use Rattle.affine_segment.specs.declared.line.Piece.{Piece}
 use Rattle.affine_segment.specs.Reading.{read}
 use Rattle.affine_segment.specs.Pieces.{Each, RisesFrom, StartsAtZero}
-use Rattle.upp_curve.specs.Normalising.{past, cut_at}
+use Rattle.upp_normal.specs.Normalising.{past, cut_at}
 use Rattle.upp_curve.specs.Unrolled.{line_later, later, each_later}
-use Rattle.upp_curve.proofs.Unrolled.{read_later}
-use Rattle.upp_curve.proofs.NormaliseLoops.{past_go, past_stop, past_none, later_none, later_some}
-use Rattle.upp_curve.proofs.NormaliseLists.{past_all}
-use Rattle.upp_curve.proofs.NormalisePeriods.{cut_reads}
+use Rattle.upp_normal.proofs.UnrolledValues.{read_later}
+use Rattle.upp_normal.proofs.NormaliseLoops.{past_go, past_stop, past_none, later_none, later_some}
+use Rattle.upp_normal.proofs.NormaliseLists.{past_all}
+use Rattle.upp_normal.proofs.NormalisePeriods.{cut_reads}
 use Rattle.curve_envelope.specs.Shifting.{left_line, left_piece, moved_left}
 
 -- ---- the loop

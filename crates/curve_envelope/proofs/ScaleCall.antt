@@ -8,26 +8,26 @@ use Rattle.rational.proofs.Laws.{lt_le_trans}
 use Rattle.affine_segment.specs.declared.line.Piece.{Piece}
 use Rattle.upp_curve.specs.declared.curve.Tail.{Tail}
 use Rattle.upp_curve.specs.declared.curve.Tail.TheVariants.{Periodic, Affine, Infinite}
-use Rattle.upp_curve.specs.declared.op_kind.OpKind.TheVariants.{Scale}
+use Rattle.upp_limits.specs.declared.op_kind.OpKind.TheVariants.{Scale}
 use Rattle.upp_curve.specs.Curve.{SpecCurve, value_at, HasSameValues}
 use Rattle.upp_curve.specs.Curves.{IsCurve}
 use Rattle.affine_segment.specs.Pieces.{Each}
 use Rattle.upp_curve.specs.Normal.{IsNormal, IsRaw}
 use Rattle.upp_curve.specs.Steady.{steady}
-use Rattle.upp_curve.specs.Periods.{own_period}
+use Rattle.upp_limits.specs.Periods.{own_period}
 use Rattle.min_plus.specs.Pointwise.{IsScaled}
-use Rattle.upp_curve.specs.Spans.{piece_read, spans}
-use Rattle.upp_curve.specs.Limits.{Sizes, curve_numbers, own_end}
-use Rattle.upp_curve.specs.Sized.{Stands, HeldBy}
-use Rattle.upp_curve.specs.Gauges.{scaled_piece, scaled_tail, scaled_curve, kind_numbers}
-use Rattle.upp_curve.specs.ClosedOperands.{PieceScales, KnowsTimes, KnowsScaled}
-use Rattle.upp_curve.proofs.Stands.{stands_right}
-use Rattle.upp_curve.proofs.Every.{every_weaken}
-use Rattle.upp_curve.proofs.Operands.{held_scaled}
-use Rattle.upp_curve.proofs.CurveStands.{starts_below_own_end}
-use Rattle.upp_curve.proofs.UnrolledPieces.{each_of_spans, each_with, all_read}
+use Rattle.upp_limits.specs.Spans.{piece_read, spans}
+use Rattle.upp_limits.specs.Limits.{Sizes, curve_numbers, own_end}
+use Rattle.upp_limits.specs.Sized.{Stands, HeldBy}
+use Rattle.upp_limits.specs.Gauges.{scaled_piece, scaled_tail, scaled_curve, kind_numbers}
+use Rattle.upp_limits.specs.ClosedOperands.{PieceScales, KnowsTimes, KnowsScaled}
+use Rattle.upp_limits.proofs.Stands.{stands_right}
+use Rattle.upp_limits.proofs.Every.{every_weaken}
+use Rattle.upp_limits.proofs.Operands.{held_scaled}
+use Rattle.upp_limits.proofs.CurveStands.{starts_below_own_end}
+use Rattle.upp_normal.proofs.UnrolledPieces.{each_of_spans, each_with, all_read}
 use Rattle.affine_segment.proofs.PieceOrder.{each_map}
-use Rattle.upp_curve.proofs.NormaliseOwn.{EndsBy, Found, limited_found}
+use Rattle.upp_normal.proofs.NormaliseOwn.{EndsBy, Found, limited_found}
 use Rattle.curve_call.specs.declared.frame.Frame.{Frame}
 use Rattle.curve_call.specs.Frames.{IsFrame, sizes_at}
 use Rattle.curve_call.proofs.CurveTimes.{rank_early}

@@ -16,7 +16,7 @@ use Rattle.upp_curve.specs.Curve.{SpecCurve, repeated, cut, with_tail, value_at}
 use Rattle.affine_segment.specs.Pieces.{Each, RisesFrom, StartsAtZero}
 use Rattle.upp_curve.specs.Normal.{TailFits, IsRaw}
 use Rattle.min_plus.specs.Pointwise.{scaled}
-use Rattle.upp_curve.specs.Gauges.{scaled_line, scaled_piece, scaled_tail, scaled_curve}
+use Rattle.upp_limits.specs.Gauges.{scaled_line, scaled_piece, scaled_tail, scaled_curve}
 use Rattle.affine_segment.proofs.PieceIn.{piece_in_stop, piece_in_go, piece_in_end}
 
 -- ---- values

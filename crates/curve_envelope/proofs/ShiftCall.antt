@@ -12,30 +12,30 @@ use Rattle.rational.proofs.Laws.{le_of_lt, le_refl}
 use Rattle.rational.proofs.Grid.{whole_sub, whole_neg, within_neg, within_weaken}
 use Rattle.affine_segment.specs.declared.line.Line.{Line}
 use Rattle.affine_segment.specs.declared.line.Piece.{Piece}
-use Rattle.upp_curve.specs.declared.op_kind.OpKind.{OpKind}
-use Rattle.upp_curve.specs.declared.op_kind.OpKind.TheVariants.{Shift}
+use Rattle.upp_limits.specs.declared.op_kind.OpKind.{OpKind}
+use Rattle.upp_limits.specs.declared.op_kind.OpKind.TheVariants.{Shift}
 use Rattle.affine_segment.specs.Reading.{read, piece_in}
 use Rattle.upp_curve.specs.Curve.{SpecCurve, repeated, value_at}
 use Rattle.upp_curve.specs.Curves.{IsCurve}
 use Rattle.affine_segment.specs.Pieces.{Each, StartsAtZero}
-use Rattle.upp_curve.specs.Normalising.{HasValues, cut_at, past}
+use Rattle.upp_normal.specs.Normalising.{HasValues, cut_at, past}
 use Rattle.affine_segment.specs.Fits.{LineFitsAt}
 use Rattle.upp_curve.specs.Unrolled.{unroll}
 use Rattle.upp_curve.specs.Steady.{steady, rise_over, IsWholePeriods}
-use Rattle.upp_curve.specs.Windows.{window_at}
+use Rattle.upp_limits.specs.Windows.{window_at}
 use Rattle.min_plus.specs.Pointwise.{IsShift}
-use Rattle.upp_curve.specs.Limits.{Sizes, curve_numbers}
-use Rattle.upp_curve.specs.Sized.{Stands, grid_of}
-use Rattle.upp_curve.specs.Operand.{AreLimited, OperandPiece, OperandPieces, OperandLineAt, answer_room}
-use Rattle.upp_curve.specs.Room.{PieceHasRoom, LineHasRoom}
-use Rattle.upp_curve.proofs.NarrowSizes.{narrow_gauge, slope_time_divides}
-use Rattle.upp_curve.proofs.NormaliseGrids.{PieceOn, ValueOn, LineOn, raw_on}
+use Rattle.upp_limits.specs.Limits.{Sizes, curve_numbers}
+use Rattle.upp_limits.specs.Sized.{Stands, grid_of}
+use Rattle.upp_normal.specs.Operand.{AreLimited, OperandPiece, OperandPieces, OperandLineAt, answer_room}
+use Rattle.upp_normal.specs.Room.{PieceHasRoom, LineHasRoom}
+use Rattle.upp_limits.proofs.NarrowSizes.{narrow_gauge, slope_time_divides}
+use Rattle.upp_normal.proofs.NormaliseGrids.{PieceOn, ValueOn, LineOn, raw_on}
 use Rattle.affine_segment.proofs.PieceOrder.{each_map}
 use Rattle.affine_segment.proofs.PieceIn.{read_is}
 use Rattle.upp_curve.proofs.Finite.{each_in}
 use Rattle.upp_curve.proofs.Steady.{steady_rule}
-use Rattle.upp_curve.proofs.Below.{unroll_reads}
-use Rattle.upp_curve.proofs.AnswerRoom.{room_at_start, line_in_room, operand_line, operand_line_fits, OperandValueAt, stands_operand_value, operand_line_value, operand_value_room, more_largest}
+use Rattle.upp_normal.proofs.Below.{unroll_reads}
+use Rattle.upp_normal.proofs.AnswerRoom.{room_at_start, line_in_room, operand_line, operand_line_fits, OperandValueAt, stands_operand_value, operand_line_value, operand_value_room, more_largest}
 use Rattle.curve_window.proofs.OperandWindows.{StartTime, operand_line_in, operand_read}
 use Rattle.curve_call.specs.declared.frame.Frame.{Frame}
 use Rattle.curve_call.specs.Frames.{IsFrame, sizes_at}

@@ -13,25 +13,25 @@ use Rattle.rational.proofs.MinMax.{max_q_ge_left, max_q_ge_right}
 use Rattle.rational.proofs.Grid.{whole_add, within_add, within_weaken}
 use Rattle.rational.proofs.Integers.{nat_nonneg}
 use Rattle.affine_segment.specs.declared.line.Piece.{Piece}
-use Rattle.upp_curve.specs.declared.op_kind.OpKind.TheVariants.{Sum}
+use Rattle.upp_limits.specs.declared.op_kind.OpKind.TheVariants.{Sum}
 use Rattle.affine_segment.specs.Reading.{read}
 use Rattle.upp_curve.specs.Curve.{SpecCurve, repeated, value_at}
 use Rattle.upp_curve.specs.Curves.{IsCurve}
 use Rattle.affine_segment.specs.Pieces.{Each}
-use Rattle.upp_curve.specs.Normalising.{HasValues}
+use Rattle.upp_normal.specs.Normalising.{HasValues}
 use Rattle.upp_curve.specs.Unrolled.{unroll}
 use Rattle.upp_curve.specs.Steady.{steady, rise_over, IsWholePeriods}
-use Rattle.upp_curve.specs.Windows.{window_at}
+use Rattle.upp_limits.specs.Windows.{window_at}
 use Rattle.min_plus.specs.Pointwise.{IsSum}
-use Rattle.upp_curve.specs.Limits.{Sizes, curve_numbers}
-use Rattle.upp_curve.specs.Sized.{Stands, grid_of, times_largest}
-use Rattle.upp_curve.specs.Operand.{OperandPieces, answer_room}
-use Rattle.upp_curve.specs.Room.{PieceHasRoom}
-use Rattle.upp_curve.proofs.NarrowSizes.{narrow_gauge, small_sum, slope_time_divides}
-use Rattle.upp_curve.proofs.NormaliseGrids.{PieceOn, raw_on}
+use Rattle.upp_limits.specs.Limits.{Sizes, curve_numbers}
+use Rattle.upp_limits.specs.Sized.{Stands, grid_of, times_largest}
+use Rattle.upp_normal.specs.Operand.{OperandPieces, answer_room}
+use Rattle.upp_normal.specs.Room.{PieceHasRoom}
+use Rattle.upp_limits.proofs.NarrowSizes.{narrow_gauge, small_sum, slope_time_divides}
+use Rattle.upp_normal.proofs.NormaliseGrids.{PieceOn, raw_on}
 use Rattle.affine_segment.proofs.PieceOrder.{each_map}
 use Rattle.upp_curve.proofs.Steady.{steady_rule}
-use Rattle.upp_curve.proofs.Below.{unroll_reads}
+use Rattle.upp_normal.proofs.Below.{unroll_reads}
 use Rattle.curve_window.specs.Pointwise.{IsWindowSum, IsSumPiece}
 use Rattle.curve_window.proofs.OperandWindows.{StartsWithRoom, sum_room}
 use Rattle.curve_call.specs.declared.frame.Frame.{Frame}

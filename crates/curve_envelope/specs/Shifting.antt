@@ -9,7 +9,7 @@ use Rattle.affine_segment.specs.declared.line.Piece.{Piece}
 use Rattle.affine_segment.specs.Values.{line_at}
 use Rattle.min_plus.specs.Functions.{zero_q}
 use Rattle.affine_segment.specs.Fits.{LineFitsAt}
-use Rattle.upp_curve.specs.Normalising.{cut_at, past}
+use Rattle.upp_normal.specs.Normalising.{cut_at, past}
 
 -- a line moved left by x
 abbrev pub left_line : ℚ → Option Line → Option Line

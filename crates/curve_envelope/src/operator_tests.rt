@@ -18,7 +18,9 @@ use std::marker::Brand;
 use std::sync::ledger::{Blank, Ledger};
 use std::test::Fail;
 use steps::Steps;
-use upp_curve::{Curve, OpFault, RawCurve, Tail, normalise};
+use upp_curve::{Curve, Tail};
+use upp_limits::OpFault;
+use upp_normal::{RawCurve, normalise};
 
 fn whole(n: i128) -> Frac {
     match Frac::new(n, 1) {

@@ -5,9 +5,9 @@ ghost use Rattle.rational.specs.Rational.{ℚ, int, ◌≤ℚ◌};
 ghost use Rattle.upp_curve.specs.Curve.{value_at};
 ghost use Rattle.affine_segment.specs.Pieces.{Each};
 ghost use Rattle.min_plus.specs.Pointwise.{IsScaled};
-ghost use Rattle.upp_curve.specs.Gauges.{scaled_piece, scaled_tail};
-ghost use Rattle.upp_curve.specs.ClosedOperands.{PieceScales, TailScales};
-ghost use Rattle.upp_curve.specs.Outcome.{KeepsLimits};
+ghost use Rattle.upp_limits.specs.Gauges.{scaled_piece, scaled_tail};
+ghost use Rattle.upp_limits.specs.ClosedOperands.{PieceScales, TailScales};
+ghost use Rattle.upp_limits.specs.Outcome.{KeepsLimits};
 ghost use Rattle.curve_call.specs.Frames.{IsFrame};
 
 use affine_segment::Piece;
@@ -16,7 +16,9 @@ use fraction128::Frac;
 use std::alloc::{AllocError, Global};
 use std::sync::ledger::Ledger;
 use steps::Steps;
-use upp_curve::{Curve, OpFault, OpKind, RawCurve, Tail, normalise_on, scaled_piece, scaled_tail};
+use upp_curve::{Curve, Tail};
+use upp_limits::{OpFault, OpKind, scaled_piece, scaled_tail};
+use upp_normal::{RawCurve, normalise_on};
 
 // A piece times a number, where the products fit.
 fn fitting_piece(piece: &Piece, factor: Frac) -> Piece

@@ -10,7 +10,7 @@ ghost use Rattle.upp_curve.specs.Curve.{value_at};
 ghost use Rattle.affine_segment.specs.Pieces.{Each, StartsAtZero};
 ghost use Rattle.affine_segment.specs.Fits.{LineFitsAt};
 ghost use Rattle.min_plus.specs.Pointwise.{IsShift};
-ghost use Rattle.upp_curve.specs.Outcome.{KeepsLimits};
+ghost use Rattle.upp_limits.specs.Outcome.{KeepsLimits};
 ghost use Rattle.curve_call.specs.Frames.{IsFrame};
 ghost use Rattle.curve_envelope.specs.Shifting.{left_line, left_piece, moved_left, LeftFits, IsAhead};
 
@@ -22,7 +22,9 @@ use std::alloc::{AllocError, Global};
 use std::cmp::Ordering;
 use std::sync::ledger::Ledger;
 use steps::Steps;
-use upp_curve::{Curve, OpFault, OpKind, Tail};
+use upp_curve::{Curve, Tail};
+use upp_limits::{OpFault, OpKind};
+use upp_normal::unrolled;
 
 // A line that may be missing, moved left by x.
 fn left_line(line: Option<Line>, x: Frac) -> Option<Line>
@@ -117,7 +119,7 @@ fn shift_within(alloc: Global, f: &Curve, x: Frac, frame: &Frame) -> Result<Curv
     requires frame { IsFrame (OpKind.Shift (Fin x)) f.now f.now 0 0 frame.now }
     ensures { IfOk result (λ c. (t : ℚ) → int (pos 0) ≤ℚ t → IsShift (value_at f.now) (Fin x) t (value_at c t)) }
 {
-    let window = f.unrolled(frame.end)?;
+    let window = unrolled(f, frame.end)?;
     let pieces = left_window(alloc, &window, x)?;
     let from = difference(frame.start, x);
     let rise = rise_over(f, frame.period);

@@ -5,7 +5,7 @@ ghost use Rattle.rational.specs.Rational.{ℚ, int, ◌+ℚ◌, ◌≤ℚ◌};
 ghost use Rattle.rational.specs.Ratio.{SumFits};
 ghost use Rattle.upp_curve.specs.Curve.{value_at};
 ghost use Rattle.min_plus.specs.Pointwise.{IsSum};
-ghost use Rattle.upp_curve.specs.Outcome.{KeepsLimits};
+ghost use Rattle.upp_limits.specs.Outcome.{KeepsLimits};
 ghost use Rattle.curve_call.specs.Frames.{IsFrame};
 
 use curve_call::{Frame, answer, rise_over, within};
@@ -13,15 +13,17 @@ use curve_window::window_sum;
 use std::alloc::{AllocError, Global};
 use std::sync::ledger::Ledger;
 use steps::Steps;
-use upp_curve::{Curve, OpFault, OpKind};
+use upp_curve::Curve;
+use upp_limits::{OpFault, OpKind};
+use upp_normal::unrolled;
 
 // The sum of two curves whose call is within both limits.
 fn sum_within(alloc: Global, f: &Curve, g: &Curve, frame: &Frame) -> Result<Curve, AllocError>
     requires { IsFrame OpKind.Sum f.now g.now 0 0 frame.now }
     ensures { IfOk result (λ c. (t : ℚ) → int (pos 0) ≤ℚ t → IsSum (value_at f.now) (value_at g.now) t (value_at c t)) }
 {
-    let left = f.unrolled(frame.end)?;
-    let right = g.unrolled(frame.end)?;
+    let left = unrolled(f, frame.end)?;
+    let right = unrolled(g, frame.end)?;
     let pieces = window_sum(alloc, &left, &right)?;
     let first = rise_over(f, frame.period);
     let second = rise_over(g, frame.period);

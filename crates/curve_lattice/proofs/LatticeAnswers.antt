@@ -14,14 +14,14 @@ use Rattle.affine_segment.specs.Reading.{read}
 use Rattle.upp_curve.specs.Curve.{SpecCurve, repeated, value_at}
 use Rattle.min_plus.specs.Pointwise.{excess}
 use Rattle.affine_segment.specs.Pieces.{Each}
-use Rattle.upp_curve.specs.Normalising.{HasValues}
+use Rattle.upp_normal.specs.Normalising.{HasValues}
 use Rattle.upp_curve.specs.Unrolled.{unroll}
 use Rattle.upp_curve.specs.Steady.{rate, rise_over}
-use Rattle.upp_curve.specs.Periods.{periods_after}
-use Rattle.upp_curve.specs.Limits.{Sizes}
-use Rattle.upp_curve.specs.Sized.{grid_of, times_largest}
+use Rattle.upp_limits.specs.Periods.{periods_after}
+use Rattle.upp_limits.specs.Limits.{Sizes}
+use Rattle.upp_limits.specs.Sized.{grid_of, times_largest}
 use Rattle.upp_curve.proofs.Steady.{steady_rule}
-use Rattle.upp_curve.proofs.Below.{unroll_reads}
+use Rattle.upp_normal.proofs.Below.{unroll_reads}
 use Rattle.curve_window.specs.Operands.{IsMadeOf}
 use Rattle.curve_window.proofs.TailGrids.{TailOf, made_on_grids}
 use Rattle.curve_call.specs.declared.frame.Frame.{Frame}

@@ -11,21 +11,21 @@ use Rattle.rational.proofs.Integers.{nat_nonneg}
 use Rattle.rational.proofs.Whole.{one_more_times}
 use Rattle.rational.proofs.MinMax.{max_q_ge_left, max_q_ge_right}
 use Rattle.affine_segment.specs.declared.line.Piece.{Piece}
-use Rattle.upp_curve.specs.declared.op_kind.OpKind.{OpKind}
-use Rattle.upp_curve.specs.declared.op_kind.OpKind.TheVariants.{Min, Max, PosDiff}
+use Rattle.upp_limits.specs.declared.op_kind.OpKind.{OpKind}
+use Rattle.upp_limits.specs.declared.op_kind.OpKind.TheVariants.{Min, Max, PosDiff}
 use Rattle.upp_curve.specs.Curve.{SpecCurve}
 use Rattle.upp_curve.specs.Curves.{IsCurve}
 use Rattle.upp_curve.specs.Steady.{steady, rise_over, IsWholePeriods}
-use Rattle.upp_curve.specs.Periods.{common_period, both_steady, periods_after}
-use Rattle.upp_curve.specs.Windows.{window_at}
-use Rattle.upp_curve.specs.Limits.{Sizes, sizes_of, curve_numbers}
-use Rattle.upp_curve.specs.Gauges.{numbers_over, gauge_over, gauge_at}
-use Rattle.upp_curve.specs.Sized.{Stands, grid_of, times_largest}
+use Rattle.upp_limits.specs.Periods.{common_period, both_steady, periods_after}
+use Rattle.upp_limits.specs.Windows.{window_at}
+use Rattle.upp_limits.specs.Limits.{Sizes, sizes_of, curve_numbers}
+use Rattle.upp_limits.specs.Gauges.{numbers_over, gauge_over, gauge_at}
+use Rattle.upp_limits.specs.Sized.{Stands, grid_of, times_largest}
 use Rattle.upp_curve.specs.Unrolled.{unroll}
-use Rattle.upp_curve.specs.Operand.{AreLimited}
-use Rattle.upp_curve.proofs.NarrowSizes.{IsNarrow, narrow_gauge, small_sum}
-use Rattle.upp_curve.proofs.CurveStands.{are_sizes}
-use Rattle.upp_curve.proofs.Stands.{sizes_stand}
+use Rattle.upp_normal.specs.Operand.{AreLimited}
+use Rattle.upp_limits.proofs.NarrowSizes.{IsNarrow, narrow_gauge, small_sum}
+use Rattle.upp_limits.proofs.CurveStands.{are_sizes}
+use Rattle.upp_limits.proofs.Stands.{sizes_stand}
 use Rattle.curve_window.specs.Operands.{AreOperands}
 use Rattle.curve_call.specs.declared.windows.CallWindow.{CallWindow}
 use Rattle.curve_call.specs.CallWindows.{IsForward, SecondIsCurve, start_of, number_of, period_in}

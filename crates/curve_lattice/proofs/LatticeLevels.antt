@@ -12,26 +12,26 @@ use Rattle.rational.proofs.Over.{lt_q_out}
 use Rattle.rational.proofs.Linear.{with2, with3}
 use Rattle.rational.proofs.Laws.{le_refl, le_trans, le_of_lt, zero_mul, add_zero, mul_nonneg}
 use Rattle.affine_segment.specs.declared.line.Piece.{Piece}
-use Rattle.upp_curve.specs.declared.op_kind.OpKind.TheVariants.{PosMinus}
-use Rattle.upp_curve.specs.declared.op_kind.OpFault.{OpFault}
-use Rattle.upp_curve.specs.declared.op_kind.OpFault.TheVariants.{TooMany, TooWide, NoMemory}
+use Rattle.upp_limits.specs.declared.op_kind.OpKind.TheVariants.{PosMinus}
+use Rattle.upp_limits.specs.declared.op_kind.OpFault.{OpFault}
+use Rattle.upp_limits.specs.declared.op_kind.OpFault.TheVariants.{TooMany, TooWide, NoMemory}
 use Rattle.upp_curve.specs.Curve.{SpecCurve, value_at}
 use Rattle.upp_curve.specs.Curves.{IsCurve}
 use Rattle.upp_curve.specs.Steady.{steady, rate, rise_over, later_unless}
-use Rattle.upp_curve.specs.Periods.{own_period, periods_after}
-use Rattle.upp_curve.specs.Windows.{window_at, Meets, IsLeast, IsLeastPeriods, IsBelowFor, IsSlowerBelow}
-use Rattle.upp_curve.specs.Limits.{Sizes, sizes_of, curve_numbers}
-use Rattle.upp_curve.specs.Gauges.{numbers_over, gauge_at, gauge_over, IsTooWide}
-use Rattle.upp_curve.specs.Spans.{Span, spans, spans_below}
-use Rattle.upp_curve.specs.Sized.{Stands, IsValue}
+use Rattle.upp_limits.specs.Periods.{own_period, periods_after}
+use Rattle.upp_limits.specs.Windows.{window_at, Meets, IsLeast, IsLeastPeriods, IsBelowFor, IsSlowerBelow}
+use Rattle.upp_limits.specs.Limits.{Sizes, sizes_of, curve_numbers}
+use Rattle.upp_limits.specs.Gauges.{numbers_over, gauge_at, gauge_over, IsTooWide}
+use Rattle.upp_limits.specs.Spans.{Span, spans, spans_below}
+use Rattle.upp_limits.specs.Sized.{Stands, IsValue}
 use Rattle.upp_curve.specs.Unrolled.{unroll}
-use Rattle.upp_curve.specs.Outcome.{IsWithin, IsCauseOf}
+use Rattle.upp_limits.specs.Outcome.{IsWithin, IsCauseOf}
 use Rattle.min_plus.specs.Pointwise.{excess, IsPositiveMinus}
-use Rattle.upp_curve.proofs.AtRank.{same_by}
+use Rattle.upp_limits.proofs.AtRank.{same_by}
 use Rattle.upp_curve.proofs.Unique.{upto_some, upto_end}
-use Rattle.upp_curve.proofs.CurveStands.{are_sizes}
-use Rattle.upp_curve.proofs.Stands.{sizes_stand}
-use Rattle.upp_curve.proofs.NarrowSizes.{narrow_gauge, small_number, value_whole, value_within}
+use Rattle.upp_limits.proofs.CurveStands.{are_sizes}
+use Rattle.upp_limits.proofs.Stands.{sizes_stand}
+use Rattle.upp_limits.proofs.NarrowSizes.{narrow_gauge, small_number, value_whole, value_within}
 use Rattle.upp_curve.proofs.ReadableKinds.{bucket_curve}
 use Rattle.curve_call.specs.declared.frame.Frame.{Frame}
 use Rattle.curve_call.specs.declared.windows.CallWindow.{CallWindow}

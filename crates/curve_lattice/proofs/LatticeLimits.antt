@@ -2,16 +2,16 @@
 use Rattle.std.specs.Prelude.{◌≡◌, ℕ, Option, Some, None, MatchOption}
 use Rattle.std.proofs.Common.{sym, ◌∙◌, subst}
 use Rattle.rational.specs.Rational.{ℚ}
-use Rattle.upp_curve.specs.declared.op_kind.OpKind.{OpKind}
-use Rattle.upp_curve.specs.declared.op_kind.OpFault.{OpFault}
-use Rattle.upp_curve.specs.declared.op_kind.OpFault.TheVariants.{TooMany, TooWide, NoMemory}
+use Rattle.upp_limits.specs.declared.op_kind.OpKind.{OpKind}
+use Rattle.upp_limits.specs.declared.op_kind.OpFault.{OpFault}
+use Rattle.upp_limits.specs.declared.op_kind.OpFault.TheVariants.{TooMany, TooWide, NoMemory}
 use Rattle.upp_curve.specs.Curve.{SpecCurve, value_at}
 use Rattle.upp_curve.specs.Curves.{IsCurve}
 use Rattle.upp_curve.specs.Steady.{rate}
-use Rattle.upp_curve.specs.Periods.{common_period, both_steady, periods_after}
-use Rattle.upp_curve.specs.Windows.{window_at, Meets, IsLeast, IsLeastPeriods, IsSlowerBelow}
-use Rattle.upp_curve.specs.Gauges.{IsKnownAtOnce, IsTooWide}
-use Rattle.upp_curve.specs.Outcome.{IsWithin, IsCauseOf}
+use Rattle.upp_limits.specs.Periods.{common_period, both_steady, periods_after}
+use Rattle.upp_limits.specs.Windows.{window_at, Meets, IsLeast, IsLeastPeriods, IsSlowerBelow}
+use Rattle.upp_limits.specs.Gauges.{IsKnownAtOnce, IsTooWide}
+use Rattle.upp_limits.specs.Outcome.{IsWithin, IsCauseOf}
 use Rattle.curve_call.specs.declared.frame.Frame.{Frame}
 use Rattle.curve_call.specs.CallWindows.{IsForward, SecondIsCurve, start_of, period_in}
 use Rattle.curve_call.specs.Frames.{IsFrame, IsRefusedAt, sizes_at}
@@ -22,7 +22,7 @@ use Rattle.curve_lattice.specs.declared.lattice.Lattice.{Lattice}
 use Rattle.curve_lattice.specs.declared.lattice.Lattice.TheVariants.{Lower, Upper, Excess}
 use Rattle.curve_lattice.specs.Lattice.{kind_of}
 use Rattle.curve_call.specs.declared.windows.CallWindow.{CallWindow}
-use Rattle.upp_curve.specs.Limits.{Sizes}
+use Rattle.upp_limits.specs.Limits.{Sizes}
 use Rattle.curve_least.specs.Compared.{AreCompared}
 use Rattle.curve_call.specs.FirstWindows.{IsFirstWindow, IsWideAtFirst}
 use Rattle.curve_lattice.specs.LatticeCall.{IsLatticeFrame}

@@ -5,14 +5,15 @@ ghost use Rattle.rational.specs.Rational.{ℚ, int, ◌≤ℚ◌};
 ghost use Rattle.upp_curve.specs.Curve.{value_at};
 ghost use Rattle.min_plus.specs.Functions.{IsFinite};
 ghost use Rattle.min_plus.specs.Pointwise.{IsMinimum, IsMaximum, IsPositiveDifference};
-ghost use Rattle.upp_curve.specs.Outcome.{KeepsLimits};
-ghost use Rattle.upp_curve.specs.declared.op_kind.OpKind.TheVariants.{Min, Max, PosDiff};
+ghost use Rattle.upp_limits.specs.Outcome.{KeepsLimits};
+ghost use Rattle.upp_limits.specs.declared.op_kind.OpKind.TheVariants.{Min, Max, PosDiff};
 
 use crate::lattice::{Lattice, made_of_curves};
 use std::alloc::Global;
 use std::sync::ledger::Ledger;
 use steps::Steps;
-use upp_curve::{Curve, OpFault};
+use upp_curve::Curve;
+use upp_limits::OpFault;
 
 /// The lesser of two curves at each time from 0 on (Le Boudec and Thiran, chapter 3). One step is counted. Refused with TooWide
 /// or TooMany exactly where the call's gauge or tally is over that limit, or no number of periods orders the curves by their

@@ -6,7 +6,7 @@ ghost use Rattle.rational.specs.Ratio.{SumFits};
 ghost use Rattle.rational.specs.Extended.{◌<ₑ◌};
 ghost use Rattle.upp_curve.specs.Curve.{value_at};
 ghost use Rattle.upp_curve.specs.Steady.{rate, rise_over};
-ghost use Rattle.upp_curve.specs.Outcome.{KeepsLimits};
+ghost use Rattle.upp_limits.specs.Outcome.{KeepsLimits};
 ghost use Rattle.curve_window.specs.Operands.{HaveSizes, IsMadeOf};
 ghost use Rattle.curve_call.specs.Rises.{CurveRiseFits};
 ghost use Rattle.curve_lattice.specs.Lattice.{kind_of, made_of, rises_of, FiniteFor, RisesBy, IsTailRise};
@@ -20,7 +20,9 @@ use fraction128::{Frac, difference};
 use std::alloc::{AllocError, Global};
 use std::sync::ledger::Ledger;
 use steps::Steps;
-use upp_curve::{Curve, OpFault, OpKind};
+use upp_curve::Curve;
+use upp_limits::{OpFault, OpKind};
+use upp_normal::unrolled;
 
 /// What is made of two curves.
 #[derive(Debug, Clone, Copy)]
@@ -119,8 +121,8 @@ pub(crate) fn made_within(
     requires finite { FiniteFor of (value_at f.now) }
     ensures { IfOk result (λ c. (t : ℚ) → int (pos 0) ≤ℚ t → value_at c t ≡ made_of of (value_at f.now t) (value_at g.now t)) }
 {
-    let left = f.unrolled(frame.end)?;
-    let right = g.unrolled(frame.end)?;
+    let left = unrolled(f, frame.end)?;
+    let right = unrolled(g, frame.end)?;
     let pieces = window_of(alloc, of, &left, &right, frame.end)?;
     let rise = tail_rise(of, f, g, frame.period);
     let from = difference(frame.end, frame.period);

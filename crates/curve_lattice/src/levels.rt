@@ -8,8 +8,8 @@ ghost use Rattle.upp_curve.specs.Curve.{value_at};
 ghost use Rattle.min_plus.specs.Functions.{IsFinite};
 ghost use Rattle.upp_curve.specs.Steady.{rate, rise_over};
 ghost use Rattle.min_plus.specs.Pointwise.{IsPositiveMinus};
-ghost use Rattle.upp_curve.specs.Outcome.{KeepsLimits};
-ghost use Rattle.upp_curve.specs.declared.op_kind.OpKind.TheVariants.{PosMinus};
+ghost use Rattle.upp_limits.specs.Outcome.{KeepsLimits};
+ghost use Rattle.upp_limits.specs.declared.op_kind.OpKind.TheVariants.{PosMinus};
 ghost use Rattle.curve_call.specs.Rises.{CurveRiseFits};
 ghost use Rattle.curve_least.specs.Levels.{level_curve};
 ghost use Rattle.curve_lattice.specs.Lattice.{RisesBy};
@@ -24,7 +24,9 @@ use rational::Extended;
 use std::alloc::{AllocError, Global};
 use std::sync::ledger::Ledger;
 use steps::Steps;
-use upp_curve::{Curve, OpFault, OpKind};
+use upp_curve::Curve;
+use upp_limits::{OpFault, OpKind};
+use upp_normal::unrolled;
 
 // The piece of a level.
 fn level_pieces(alloc: Global, l: Frac) -> Result<Vec<Piece>, AllocError>
@@ -66,7 +68,7 @@ fn minus_within(alloc: Global, f: &Curve, l: Frac, frame: &Frame) -> Result<Curv
     requires finite { IsFinite (value_at f.now) }
     ensures { IfOk result (λ c. (t : ℚ) → int (pos 0) ≤ℚ t → IsPositiveMinus (value_at f.now) l t (value_at c t)) }
 {
-    let left = f.unrolled(frame.end)?;
+    let left = unrolled(f, frame.end)?;
     let right = level_pieces(alloc, l)?;
     let pieces = window_excess(alloc, &left, &right, frame.end)?;
     let rise = gain(is_gaining(f), f, frame.period);

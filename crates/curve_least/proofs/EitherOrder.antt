@@ -6,10 +6,10 @@ use Rattle.rational.specs.Extended.{Ext, ◌<ₑ◌}
 use Rattle.rational.proofs.ExtendedOrder.{lt_ext_trans, lt_ext_irrefl}
 use Rattle.upp_curve.specs.Curve.{SpecCurve, value_at}
 use Rattle.upp_curve.specs.Steady.{rate}
-use Rattle.upp_curve.specs.Periods.{periods_after, both_steady, common_period}
-use Rattle.upp_curve.specs.declared.op_kind.OpKind.TheVariants.{Min, Max, PosDiff}
-use Rattle.upp_curve.specs.Limits.{Sizes}
-use Rattle.upp_curve.specs.Windows.{IsSlowerBelow, IsLeast, Meets}
+use Rattle.upp_limits.specs.Periods.{periods_after, both_steady, common_period}
+use Rattle.upp_limits.specs.declared.op_kind.OpKind.TheVariants.{Min, Max, PosDiff}
+use Rattle.upp_limits.specs.Limits.{Sizes}
+use Rattle.upp_limits.specs.Windows.{IsSlowerBelow, IsLeast, Meets}
 use Rattle.curve_least.specs.Compared.{AreCompared}
 use Rattle.curve_least.proofs.Shifts.{same_least, least_zero}
 use Rattle.curve_least.proofs.LeastNumber.{IsBelowAfter}

@@ -12,12 +12,12 @@ use Rattle.rational.proofs.Whole.{periods_low, periods_high}
 use Rattle.rational.proofs.ExtendedOrder.{add_le_ext}
 use Rattle.upp_curve.specs.Curve.{SpecCurve, value_at}
 use Rattle.upp_curve.specs.Steady.{Repeats, rise_over, rate}
-use Rattle.upp_curve.specs.Windows.{IsBelowFor}
+use Rattle.upp_limits.specs.Windows.{IsBelowFor}
 use Rattle.upp_curve.proofs.Steady.{steady_rule}
 use Rattle.curve_least.specs.Ever.{IsBelowFrom, RepeatsBy, BelowEverAfter}
 use Rattle.curve_least.proofs.Shifts.{later_value}
 use Rattle.curve_least.proofs.LeastNumber.{gains}
-use Rattle.upp_curve.proofs.UnrollSteps.{ext_cases}
+use Rattle.upp_normal.proofs.UnrollSteps.{ext_cases}
 
 repeats_by : (from d : ℚ) (c : SpecCurve) → int (pos 0) <ℚ d → RepeatsBy from d c → Repeats (value_at c) from d (rise_over c d)
 repeats_by from d c some R = record { rule = λ t h. (steady_rule c d R.curve.normal.raw R.periods (le_of_lt some)).rule t (le_trans R.steady_by h) }

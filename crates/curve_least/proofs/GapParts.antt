@@ -13,8 +13,8 @@ use Rattle.rational.proofs.ExtendedOrder.{le_ext_trans, add_le_ext, le_ext_refl}
 use Rattle.rational.proofs.Stretch.{line_supremum}
 use Rattle.affine_segment.specs.declared.line.Line.{Line}
 use Rattle.affine_segment.specs.Values.{line_at, line_value}
-use Rattle.upp_curve.specs.declared.ahead.Stretch.{Stretch}
-use Rattle.upp_curve.specs.Ahead.{IsBeforeNext, GoesOn}
+use Rattle.upp_normal.specs.declared.ahead.Stretch.{Stretch}
+use Rattle.upp_normal.specs.Ahead.{IsBeforeNext, GoesOn}
 use Rattle.curve_least.specs.declared.gaps.Gap.{Gap}
 use Rattle.curve_least.specs.declared.gaps.Gap.TheVariants.{NoTime, Never, Is}
 use Rattle.curve_least.specs.Gaps.{InWindow, IsWithin, IsMore, IsEndless, IsGap}

@@ -9,12 +9,12 @@ use Rattle.rational.specs.declared.Extended.TheVariants.{Fin, Inf}
 use Rattle.rational.proofs.Laws.{le_of_lt, le_of_not_lt}
 use Rattle.rational.proofs.MinMax.{max_q_one, max_q_right, max_q_is_left, min_q_left, min_q_right}
 use Rattle.affine_segment.specs.Values.{line_value}
-use Rattle.upp_curve.specs.declared.ahead.Stretch.{Stretch}
+use Rattle.upp_normal.specs.declared.ahead.Stretch.{Stretch}
 use Rattle.affine_segment.specs.Fits.{LineFitsAt}
-use Rattle.upp_curve.specs.Limits.{Sizes}
-use Rattle.upp_curve.specs.Operand.{AreLimited}
-use Rattle.upp_curve.specs.Ahead.{GridValue}
-use Rattle.upp_curve.proofs.AnswerRoom.{OperandValueAt, operand_line_fits, operand_line_value, values_fit, value_difference_stands}
+use Rattle.upp_limits.specs.Limits.{Sizes}
+use Rattle.upp_normal.specs.Operand.{AreLimited}
+use Rattle.upp_normal.specs.Ahead.{GridValue}
+use Rattle.upp_normal.proofs.AnswerRoom.{OperandValueAt, operand_line_fits, operand_line_value, values_fit, value_difference_stands}
 use Rattle.curve_least.specs.declared.gaps.Gap.{Gap}
 use Rattle.curve_least.specs.declared.gaps.Gap.TheVariants.{NoTime, Never, Is}
 use Rattle.curve_least.specs.GapSteps.{gap_of, larger, DifferenceFits, StretchStands, IsGapValue, GapStands, StretchSizes}

@@ -19,14 +19,14 @@ use Rattle.upp_curve.specs.declared.curve.Tail.TheVariants.{Periodic, Affine, In
 use Rattle.upp_curve.specs.Curve.{SpecCurve, value_at}
 use Rattle.affine_segment.specs.Pieces.{Each}
 use Rattle.upp_curve.specs.Steady.{rank_of}
-use Rattle.upp_curve.specs.Periods.{period_of}
-use Rattle.upp_curve.specs.Limits.{Sizes, stored_period}
-use Rattle.upp_curve.specs.declared.ahead.Stretch.{Stretch}
-use Rattle.upp_curve.specs.Operand.{OperandLineAt}
-use Rattle.upp_curve.specs.Ahead.{IsBeforeNext, AtNext, TimesStand, HasWindow, IsTimeIn, GridValue}
-use Rattle.upp_curve.proofs.Every.{every_left, every_right, every_map_out}
-use Rattle.upp_curve.proofs.CommonDen.{common_den_each, common_den_pos}
-use Rattle.upp_curve.proofs.StretchSizes.{times_stand}
+use Rattle.upp_limits.specs.Periods.{period_of}
+use Rattle.upp_limits.specs.Limits.{Sizes, stored_period}
+use Rattle.upp_normal.specs.declared.ahead.Stretch.{Stretch}
+use Rattle.upp_normal.specs.Operand.{OperandLineAt}
+use Rattle.upp_normal.specs.Ahead.{IsBeforeNext, AtNext, TimesStand, HasWindow, IsTimeIn, GridValue}
+use Rattle.upp_limits.proofs.Every.{every_left, every_right, every_map_out}
+use Rattle.upp_limits.proofs.CommonDen.{common_den_each, common_den_pos}
+use Rattle.upp_normal.proofs.StretchSizes.{times_stand}
 use Rattle.curve_least.specs.declared.gaps.Gap.{Gap}
 use Rattle.curve_least.specs.declared.gaps.Gap.TheVariants.{NoTime}
 use Rattle.curve_least.specs.Gaps.{InWindow, IsGap}

@@ -6,17 +6,17 @@ use Rattle.rational.specs.Grid.{Whole}
 use Rattle.rational.proofs.Linear.{with2}
 use Rattle.rational.proofs.Laws.{one_mul}
 use Rattle.rational.proofs.Grid.{whole_int}
-use Rattle.upp_curve.specs.declared.op_kind.OpKind.TheVariants.{Min}
+use Rattle.upp_limits.specs.declared.op_kind.OpKind.TheVariants.{Min}
 use Rattle.upp_curve.specs.declared.curve.Tail.{Tail}
 use Rattle.upp_curve.specs.declared.curve.Tail.TheVariants.{Periodic, Affine, Infinite}
 use Rattle.upp_curve.specs.Curve.{SpecCurve}
 use Rattle.upp_curve.specs.Curves.{IsCurve}
 use Rattle.upp_curve.specs.Steady.{steady, IsWholePeriods}
-use Rattle.upp_curve.specs.Limits.{Sizes, no_numbers, joined, curve_numbers, sizes_of, gauge_of}
-use Rattle.upp_curve.specs.Sized.{Stands}
-use Rattle.upp_curve.specs.Gauges.{gauge_over, both_numbers, numbers_over}
-use Rattle.upp_curve.proofs.CurveStands.{are_sizes}
-use Rattle.upp_curve.proofs.Stands.{sizes_stand, stands_left, stands_right}
+use Rattle.upp_limits.specs.Limits.{Sizes, no_numbers, joined, curve_numbers, sizes_of, gauge_of}
+use Rattle.upp_limits.specs.Sized.{Stands}
+use Rattle.upp_limits.specs.Gauges.{gauge_over, both_numbers, numbers_over}
+use Rattle.upp_limits.proofs.CurveStands.{are_sizes}
+use Rattle.upp_limits.proofs.Stands.{sizes_stand, stands_left, stands_right}
 use Rattle.curve_least.specs.Compared.{RepeatsIn, AreCompared}
 
 pub min_sizes : SpecCurve → SpecCurve → ℚ → Sizes

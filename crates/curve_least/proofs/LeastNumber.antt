@@ -15,16 +15,16 @@ use Rattle.rational.proofs.ExtendedOrder.{same_le_ext, finite_below, finite_sum}
 use Rattle.upp_curve.specs.Curve.{SpecCurve, value_at}
 use Rattle.upp_curve.specs.Curves.{IsCurve}
 use Rattle.upp_curve.specs.Steady.{Repeats, steady, rise_over, rate}
-use Rattle.upp_curve.specs.Periods.{periods_after}
-use Rattle.upp_curve.specs.Limits.{Sizes}
-use Rattle.upp_curve.specs.Sized.{grid_of, times_largest}
-use Rattle.upp_curve.specs.Operand.{AreLimited}
-use Rattle.upp_curve.specs.Windows.{IsBelowFor, IsLeast}
-use Rattle.upp_curve.specs.Ahead.{HasWindow, IsTimeIn}
-use Rattle.upp_curve.proofs.CommonDen.{size_up_within, size_up_least}
-use Rattle.upp_curve.proofs.NarrowSizes.{small_number, small_sum}
+use Rattle.upp_limits.specs.Periods.{periods_after}
+use Rattle.upp_limits.specs.Limits.{Sizes}
+use Rattle.upp_limits.specs.Sized.{grid_of, times_largest}
+use Rattle.upp_normal.specs.Operand.{AreLimited}
+use Rattle.upp_limits.specs.Windows.{IsBelowFor, IsLeast}
+use Rattle.upp_normal.specs.Ahead.{HasWindow, IsTimeIn}
+use Rattle.upp_limits.proofs.CommonDen.{size_up_within, size_up_least}
+use Rattle.upp_limits.proofs.NarrowSizes.{small_number, small_sum}
 use Rattle.upp_curve.proofs.Steady.{steady_rule}
-use Rattle.upp_curve.proofs.StretchSizes.{narrow, times_fit, small_quotient}
+use Rattle.upp_normal.proofs.StretchSizes.{narrow, times_fit, small_quotient}
 use Rattle.curve_least.specs.Gaps.{InWindow, IsWithin, IsEndless, IsLargest}
 use Rattle.curve_least.specs.GapSteps.{IsGapValue}
 use Rattle.curve_least.specs.Compared.{RepeatsIn, AreCompared}
@@ -32,7 +32,7 @@ use Rattle.curve_least.proofs.Shifts.{below_in, below_out, largest_bounds, endle
 use Rattle.curve_least.proofs.GapParts.{within_none}
 use Rattle.curve_least.proofs.Rises.{rate_rise, infinite_value, rank_early, has_window, from_low}
 use Rattle.curve_least.proofs.RiseSizes.{RiseStands, rise_stands}
-use Rattle.upp_curve.proofs.UnrollSteps.{ext_cases}
+use Rattle.upp_normal.proofs.UnrollSteps.{ext_cases}
 
 -- ---- the number
 

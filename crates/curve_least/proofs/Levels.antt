@@ -10,21 +10,21 @@ use Rattle.rational.proofs.Integers.{nat_nonneg, nat_le, int_mul}
 use Rattle.rational.proofs.Laws.{le_refl, le_lt_trans, zero_mul, add_zero, mul_le_mul_right, le_or_lt, le_of_lt, antisym}
 use Rattle.affine_segment.specs.declared.line.Line.{Line}
 use Rattle.affine_segment.specs.declared.line.Piece.{Piece}
-use Rattle.upp_curve.specs.declared.ahead.Stretch.{Stretch}
+use Rattle.upp_normal.specs.declared.ahead.Stretch.{Stretch}
 use Rattle.upp_curve.specs.Curve.{SpecCurve, value_at}
 use Rattle.upp_curve.specs.Steady.{rate}
-use Rattle.upp_curve.specs.Limits.{Sizes}
-use Rattle.upp_curve.specs.Sized.{IsValue, grid_of, times_largest}
-use Rattle.upp_curve.specs.Operand.{OperandLine, OperandLineAt}
-use Rattle.upp_curve.specs.Ahead.{GoesOn, HasWindow, IsTimeIn, GridValue}
+use Rattle.upp_limits.specs.Limits.{Sizes}
+use Rattle.upp_limits.specs.Sized.{IsValue, grid_of, times_largest}
+use Rattle.upp_normal.specs.Operand.{OperandLine, OperandLineAt}
+use Rattle.upp_normal.specs.Ahead.{GoesOn, HasWindow, IsTimeIn, GridValue}
 use Rattle.upp_curve.specs.declared.curve.Tail.TheVariants.{Affine}
 use Rattle.affine_segment.specs.Reading.{read, piece_in, piece_value}
-use Rattle.upp_curve.specs.Spans.{spans}
+use Rattle.upp_limits.specs.Spans.{spans}
 use Rattle.affine_segment.proofs.PieceIn.{piece_in_end, value_past, value_at_start}
-use Rattle.upp_curve.proofs.NarrowSizes.{value_whole, value_within}
-use Rattle.upp_curve.proofs.CurveStands.{curve_stands}
+use Rattle.upp_limits.proofs.NarrowSizes.{value_whole, value_within}
+use Rattle.upp_limits.proofs.CurveStands.{curve_stands}
 use Rattle.curve_least.specs.Levels.{level_curve}
-use Rattle.upp_curve.proofs.Copies.{plus_zero}
+use Rattle.upp_limits.proofs.Copies.{plus_zero}
 
 pub level_value : (l t : ℚ) → int (pos 0) ≤ℚ t → value_at (level_curve l) t ≡ Fin l
 unfolding value_at read

@@ -26,18 +26,18 @@ use Rattle.upp_curve.specs.Curve.{SpecCurve, value_at}
 use Rattle.affine_segment.specs.Pieces.{Each, HasStart, StartsAtZero}
 use Rattle.upp_curve.specs.Normal.{FitsPeriod}
 use Rattle.upp_curve.specs.Steady.{rank_of, last_of, last_line, slope_times, rise_in, rise_over, IsWholePeriods}
-use Rattle.upp_curve.specs.Spans.{Span, span_below, spans}
-use Rattle.upp_curve.specs.Limits.{Sizes}
-use Rattle.upp_curve.specs.Sized.{IsValue, IsSlope, ValueStands, LineStands, SpanStands, PeriodStands, TailStands, CurveStands, grid_of, times_largest}
-use Rattle.upp_curve.specs.Operand.{AreLimited}
-use Rattle.upp_curve.specs.Ahead.{HasWindow}
-use Rattle.upp_curve.proofs.ClosedForms.{line_moved}
-use Rattle.upp_curve.proofs.CurveStands.{curve_stands, tail_stands}
-use Rattle.upp_curve.proofs.NarrowSizes.{value_whole, value_within, run_whole, run_within}
-use Rattle.upp_curve.proofs.StretchPieces.{span_in, found_from}
-use Rattle.upp_curve.proofs.StretchTurns.{repeated_at}
-use Rattle.upp_curve.proofs.StretchSizes.{CopiesStand, copies_of_span, each_below, some_period, starts_over, RiseParts, rise_parts}
-use Rattle.upp_curve.proofs.StretchValues.{value_periodic, with_pieces}
+use Rattle.upp_limits.specs.Spans.{Span, span_below, spans}
+use Rattle.upp_limits.specs.Limits.{Sizes}
+use Rattle.upp_limits.specs.Sized.{IsValue, IsSlope, ValueStands, LineStands, SpanStands, PeriodStands, TailStands, CurveStands, grid_of, times_largest}
+use Rattle.upp_normal.specs.Operand.{AreLimited}
+use Rattle.upp_normal.specs.Ahead.{HasWindow}
+use Rattle.upp_limits.proofs.ClosedForms.{line_moved}
+use Rattle.upp_limits.proofs.CurveStands.{curve_stands, tail_stands}
+use Rattle.upp_limits.proofs.NarrowSizes.{value_whole, value_within, run_whole, run_within}
+use Rattle.upp_normal.proofs.StretchPieces.{span_in, found_from}
+use Rattle.upp_normal.proofs.StretchTurns.{repeated_at}
+use Rattle.upp_normal.proofs.StretchSizes.{CopiesStand, copies_of_span, each_below, some_period, starts_over, RiseParts, rise_parts}
+use Rattle.upp_normal.proofs.StretchValues.{value_periodic, with_pieces}
 use Rattle.upp_curve.proofs.Finite.{each_in}
 use Rattle.curve_least.proofs.Rises.{some_periods}
 

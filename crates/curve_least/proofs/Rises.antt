@@ -18,9 +18,9 @@ use Rattle.upp_curve.specs.Curve.{SpecCurve, value_at, with_tail, cut}
 use Rattle.upp_curve.specs.Curves.{IsCurve}
 use Rattle.upp_curve.specs.Normal.{TailFits, TailNormal}
 use Rattle.upp_curve.specs.Steady.{rank_of, last_line, same_ext, later_unless, steady_in, steady, slope_times, rise_in, rise_over, IsWholePeriods, slope_of, rate_in, rate}
-use Rattle.upp_curve.specs.Limits.{Sizes}
-use Rattle.upp_curve.specs.Operand.{AreLimited}
-use Rattle.upp_curve.specs.Ahead.{IsOverBy, HasWindow}
+use Rattle.upp_limits.specs.Limits.{Sizes}
+use Rattle.upp_normal.specs.Operand.{AreLimited}
+use Rattle.upp_normal.specs.Ahead.{IsOverBy, HasWindow}
 use Rattle.upp_curve.proofs.Steady.{same_out, cut_past}
 use Rattle.curve_least.specs.Compared.{RepeatsIn}
 

@@ -8,8 +8,8 @@ use Rattle.rational.proofs.Linear.{with3, with4}
 use Rattle.rational.proofs.Laws.{le_or_lt, mul_sub, sub_add}
 use Rattle.rational.proofs.ExtendedOrder.{le_ext_trans, le_ext_refl, add_le_ext, lt_ext_not_le}
 use Rattle.upp_curve.specs.Steady.{Repeats}
-use Rattle.upp_curve.specs.Periods.{periods_after}
-use Rattle.upp_curve.specs.Windows.{IsBelowFor, IsLeast}
+use Rattle.upp_limits.specs.Periods.{periods_after}
+use Rattle.upp_limits.specs.Windows.{IsBelowFor, IsLeast}
 use Rattle.upp_curve.proofs.Repeats.{repeats_times}
 use Rattle.curve_least.specs.Gaps.{InWindow, IsWithin, IsEndless, IsLargest}
 use Rattle.curve_least.proofs.GapParts.{within_none}

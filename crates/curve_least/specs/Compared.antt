@@ -5,9 +5,9 @@ use Rattle.rational.specs.Grid.{Whole}
 use Rattle.upp_curve.specs.Curve.{SpecCurve}
 use Rattle.upp_curve.specs.Curves.{IsCurve}
 use Rattle.upp_curve.specs.Steady.{steady, IsWholePeriods}
-use Rattle.upp_curve.specs.Limits.{Sizes, curve_numbers}
-use Rattle.upp_curve.specs.Sized.{Stands}
-use Rattle.upp_curve.specs.Operand.{AreLimited}
+use Rattle.upp_limits.specs.Limits.{Sizes, curve_numbers}
+use Rattle.upp_limits.specs.Sized.{Stands}
+use Rattle.upp_normal.specs.Operand.{AreLimited}
 
 -- a curve that repeats from `from` on with the period d, and whose numbers below from + d have the sizes z
 pub record RepeatsIn (z : Sizes) (from d : ℚ) (c : SpecCurve) : Type 0 where

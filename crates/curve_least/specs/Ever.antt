@@ -6,8 +6,8 @@ use Rattle.rational.specs.Extended.{Ext, ◌≤ₑ◌, ◌<ₑ◌}
 use Rattle.upp_curve.specs.Curve.{SpecCurve, value_at}
 use Rattle.upp_curve.specs.Curves.{IsCurve}
 use Rattle.upp_curve.specs.Steady.{steady, rate, IsWholePeriods}
-use Rattle.upp_curve.specs.Periods.{periods_after}
-use Rattle.upp_curve.specs.Windows.{IsSlowerBelow}
+use Rattle.upp_limits.specs.Periods.{periods_after}
+use Rattle.upp_limits.specs.Windows.{IsSlowerBelow}
 
 -- f is at most g at each time from `from` on
 abbrev pub IsBelowFrom : (ℚ → Ext) → (ℚ → Ext) → ℚ → Type 0

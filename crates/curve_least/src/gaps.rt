@@ -8,8 +8,8 @@ ghost use Rattle.rational.specs.Extended.{Ext};
 ghost use Rattle.affine_segment.specs.Values.{line_value};
 ghost use Rattle.upp_curve.specs.Curve.{value_at};
 ghost use Rattle.affine_segment.specs.Fits.{LineFitsAt};
-ghost use Rattle.upp_curve.specs.Limits.{Sizes};
-ghost use Rattle.upp_curve.specs.Ahead.{GoesOn, HasWindow, IsTimeIn};
+ghost use Rattle.upp_limits.specs.Limits.{Sizes};
+ghost use Rattle.upp_normal.specs.Ahead.{GoesOn, HasWindow, IsTimeIn};
 ghost use Rattle.curve_least.specs.Gaps.{InWindow, IsGap};
 ghost use Rattle.curve_least.specs.GapSteps.{
   gap_of,
@@ -25,7 +25,8 @@ use crate::sides::Side;
 use affine_segment::line_value;
 use fraction128::{Ext, Frac, difference, greater, is_less};
 use rational::Extended;
-use upp_curve::{Curve, Stretch};
+use upp_curve::Curve;
+use upp_normal::Stretch;
 
 /// By how much one function is above another over some times, where the other is finite.
 #[derive(Debug, Clone, Copy)]

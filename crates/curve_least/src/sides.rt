@@ -4,9 +4,9 @@ ghost use Rattle.std.specs.Prelude.{ℕ, ◌≡◌, pos};
 ghost use Rattle.rational.specs.Rational.{ℚ};
 ghost use Rattle.rational.specs.Grid.{Whole};
 ghost use Rattle.upp_curve.specs.Curve.{value_at};
-ghost use Rattle.upp_curve.specs.Limits.{Sizes};
-ghost use Rattle.upp_curve.specs.Operand.{OperandLineAt};
-ghost use Rattle.upp_curve.specs.Ahead.{GoesOn, AtNext, TimesStand, HasWindow, IsTimeIn, GridValue};
+ghost use Rattle.upp_limits.specs.Limits.{Sizes};
+ghost use Rattle.upp_normal.specs.Operand.{OperandLineAt};
+ghost use Rattle.upp_normal.specs.Ahead.{GoesOn, AtNext, TimesStand, HasWindow, IsTimeIn, GridValue};
 ghost use Rattle.upp_curve.specs.Steady.{rate};
 ghost use Rattle.curve_least.specs.Levels.{level_curve};
 
@@ -14,7 +14,8 @@ use affine_segment::Line;
 use fraction128::{Ext, Frac};
 use rational::Extended;
 use std::marker::Model;
-use upp_curve::{Curve, Stretch, stretch_at};
+use upp_curve::Curve;
+use upp_normal::{Stretch, stretch_at};
 
 // What is looked at.
 #[derive(Clone, Copy)]

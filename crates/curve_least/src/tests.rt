@@ -11,7 +11,9 @@ use fraction128::{Frac, is_less};
 use rational::Extended;
 use std::alloc::{AllocError, Global};
 use std::test::Fail;
-use upp_curve::{Curve, OpKind, RawCurve, Tail, gauge, normalise, steady_time};
+use upp_curve::{Curve, Tail};
+use upp_limits::{OpKind, gauge};
+use upp_normal::{RawCurve, normalise, steady_time};
 
 fn ratio(num: i128, den: i128) -> Frac {
     match Frac::new(num, den) {

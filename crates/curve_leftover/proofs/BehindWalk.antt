@@ -13,18 +13,18 @@ use Rattle.rational.proofs.Laws.{le_or_lt, le_refl, le_of_lt, le_trans, lt_irref
 use Rattle.rational.proofs.MinMax.{max_q_one, max_q_ge_left, max_q_ge_right}
 use Rattle.rational.proofs.Grid.{whole_int, whole_sub, within_nonneg, within_sub}
 use Rattle.rational.proofs.ExtendedOrder.{le_ext_refl, le_ext_trans, add_le_ext}
-use Rattle.upp_curve.specs.declared.ahead.Stretch.{Stretch}
+use Rattle.upp_normal.specs.declared.ahead.Stretch.{Stretch}
 use Rattle.upp_curve.specs.Curve.{SpecCurve, value_at}
 use Rattle.min_plus.specs.Functions.{zero_q}
 use Rattle.upp_curve.specs.Shapes.{IsNumber}
-use Rattle.upp_curve.specs.Limits.{Sizes}
-use Rattle.upp_curve.specs.Sized.{grid_of, times_largest}
-use Rattle.upp_curve.specs.Operand.{AreLimited}
-use Rattle.upp_curve.specs.Ahead.{GoesOn, AtNext, IsBeforeNext, TimesStand, IsTimeIn, IsGridValue, GridValue}
-use Rattle.upp_curve.proofs.AnswerRoom.{values_fit}
+use Rattle.upp_limits.specs.Limits.{Sizes}
+use Rattle.upp_limits.specs.Sized.{grid_of, times_largest}
+use Rattle.upp_normal.specs.Operand.{AreLimited}
+use Rattle.upp_normal.specs.Ahead.{GoesOn, AtNext, IsBeforeNext, TimesStand, IsTimeIn, IsGridValue, GridValue}
+use Rattle.upp_normal.proofs.AnswerRoom.{values_fit}
 use Rattle.upp_curve.proofs.Finite.{number_of}
-use Rattle.upp_curve.proofs.StretchSizes.{times_fit}
-use Rattle.upp_curve.proofs.AnswerRoom.{many_more}
+use Rattle.upp_normal.proofs.StretchSizes.{times_fit}
+use Rattle.upp_normal.proofs.AnswerRoom.{many_more}
 use Rattle.curve_least.specs.declared.gaps.Gap.{Gap}
 use Rattle.curve_least.specs.declared.gaps.Gap.TheVariants.{NoTime, Is}
 use Rattle.curve_least.specs.Gaps.{InWindow, IsWithin, IsGap}

@@ -11,17 +11,17 @@ use Rattle.rational.proofs.Linear.{with1, with2, with3, with4, with5}
 use Rattle.rational.proofs.Laws.{le_or_lt, le_trans, le_of_lt, lt_irrefl, mul_nonneg}
 use Rattle.rational.proofs.Integers.{nat_nonneg}
 use Rattle.rational.proofs.ExtendedOrder.{add_le_ext, le_ext_refl, le_ext_trans}
-use Rattle.upp_curve.specs.declared.op_kind.OpKind.TheVariants.{FifoLeft}
+use Rattle.upp_limits.specs.declared.op_kind.OpKind.TheVariants.{FifoLeft}
 use Rattle.upp_curve.specs.Curve.{SpecCurve, value_at}
 use Rattle.min_plus.specs.Functions.{zero_q}
 use Rattle.upp_curve.specs.Steady.{Repeats, steady, rate, rise_over}
-use Rattle.upp_curve.specs.Periods.{common_period, moved_steady, periods_after}
-use Rattle.upp_curve.specs.Windows.{IsBelowFor, IsLeast, Meets}
-use Rattle.upp_curve.specs.Limits.{Sizes, curve_numbers}
-use Rattle.upp_curve.specs.Sized.{Stands}
-use Rattle.upp_curve.specs.Operand.{AreLimited}
+use Rattle.upp_limits.specs.Periods.{common_period, moved_steady, periods_after}
+use Rattle.upp_limits.specs.Windows.{IsBelowFor, IsLeast, Meets}
+use Rattle.upp_limits.specs.Limits.{Sizes, curve_numbers}
+use Rattle.upp_limits.specs.Sized.{Stands}
+use Rattle.upp_normal.specs.Operand.{AreLimited}
 use Rattle.curve_call.specs.Rises.{CurveRiseFits}
-use Rattle.upp_curve.specs.Ahead.{HasWindow}
+use Rattle.upp_normal.specs.Ahead.{HasWindow}
 use Rattle.curve_call.specs.Frames.{sizes_at}
 use Rattle.curve_call.specs.declared.windows.CallWindow.{CallWindow}
 use Rattle.curve_least.specs.Compared.{RepeatsIn}

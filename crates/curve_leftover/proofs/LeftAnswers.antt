@@ -14,19 +14,19 @@ use Rattle.affine_segment.specs.declared.line.Piece.{Piece}
 use Rattle.upp_curve.specs.Curve.{SpecCurve, value_at, repeated}
 use Rattle.min_plus.specs.Functions.{zero_q}
 use Rattle.affine_segment.specs.Pieces.{Each, StartsAtZero}
-use Rattle.upp_curve.specs.Normalising.{HasValues}
+use Rattle.upp_normal.specs.Normalising.{HasValues}
 use Rattle.min_plus.specs.Pointwise.{excess}
 use Rattle.affine_segment.specs.Reading.{read}
 use Rattle.min_plus.specs.Running.{left_after, IsRunningInfimum, IsFifoLeftover}
 use Rattle.upp_curve.specs.Steady.{Repeats, rise_over}
-use Rattle.upp_curve.specs.Sized.{grid_of, times_largest}
+use Rattle.upp_limits.specs.Sized.{grid_of, times_largest}
 use Rattle.upp_curve.specs.Unrolled.{unroll}
-use Rattle.upp_curve.specs.Unrolling.{IsOperandTo}
-use Rattle.upp_curve.specs.Operand.{OperandPieces}
-use Rattle.upp_curve.proofs.Below.{unroll_reads}
+use Rattle.upp_normal.specs.Unrolling.{IsOperandTo}
+use Rattle.upp_normal.specs.Operand.{OperandPieces}
+use Rattle.upp_normal.proofs.Below.{unroll_reads}
 use Rattle.upp_curve.proofs.Finite.{number_of}
 use Rattle.affine_segment.proofs.PieceOrder.{each_map}
-use Rattle.upp_curve.proofs.StretchSizes.{times_fit}
+use Rattle.upp_normal.proofs.StretchSizes.{times_fit}
 use Rattle.curve_call.specs.declared.frame.Frame.{Frame}
 use Rattle.curve_call.specs.Answering.{IsAnswerWindow}
 use Rattle.curve_call.specs.Rises.{CurveRiseFits}
@@ -34,7 +34,7 @@ use Rattle.curve_call.proofs.Answering.{answer_relation}
 use Rattle.curve_window.specs.declared.stretch.Both.{Both}
 use Rattle.curve_window.specs.Pointwise.{mapped}
 use Rattle.curve_window.specs.Stretches.{IsOverlay}
-use Rattle.upp_curve.proofs.AnswerRoom.{many_more}
+use Rattle.upp_normal.proofs.AnswerRoom.{many_more}
 use Rattle.curve_running.proofs.Shifts.{infimum_repeats}
 use Rattle.curve_leftover.specs.Behind.{IsServed}
 use Rattle.curve_leftover.specs.LeftCall.{IsLeftFrame, IsLeftWindow}

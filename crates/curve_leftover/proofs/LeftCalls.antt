@@ -11,26 +11,26 @@ use Rattle.rational.proofs.Integers.{nat_nonneg}
 use Rattle.rational.proofs.Whole.{one_more_times, periods_low, periods_high}
 use Rattle.rational.proofs.MinMax.{max_q_ge_left, max_q_ge_right}
 use Rattle.rational.proofs.ExtendedOrder.{add_le_ext}
-use Rattle.upp_curve.specs.declared.op_kind.OpKind.{OpKind}
-use Rattle.upp_curve.specs.declared.op_kind.OpKind.TheVariants.{FifoLeft}
+use Rattle.upp_limits.specs.declared.op_kind.OpKind.{OpKind}
+use Rattle.upp_limits.specs.declared.op_kind.OpKind.TheVariants.{FifoLeft}
 use Rattle.upp_curve.specs.Curve.{SpecCurve, value_at}
 use Rattle.upp_curve.specs.Curves.{IsCurve}
 use Rattle.min_plus.specs.Functions.{zero_q}
 use Rattle.upp_curve.specs.Steady.{Repeats, steady, rate, rise_over}
-use Rattle.upp_curve.specs.Periods.{common_period, moved_steady, periods_after}
+use Rattle.upp_limits.specs.Periods.{common_period, moved_steady, periods_after}
 use Rattle.min_plus.specs.Pointwise.{excess}
 use Rattle.min_plus.specs.Running.{left_after}
-use Rattle.upp_curve.specs.Windows.{window_at, IsBelowFor}
-use Rattle.upp_curve.specs.Limits.{Sizes, sizes_of}
-use Rattle.upp_curve.specs.Gauges.{numbers_over, gauge_over, gauge_at}
+use Rattle.upp_limits.specs.Windows.{window_at, IsBelowFor}
+use Rattle.upp_limits.specs.Limits.{Sizes, sizes_of}
+use Rattle.upp_limits.specs.Gauges.{numbers_over, gauge_over, gauge_at}
 use Rattle.upp_curve.specs.Unrolled.{unroll}
-use Rattle.upp_curve.specs.Operand.{OperandPieces}
-use Rattle.upp_curve.proofs.Below.{unroll_reads}
-use Rattle.upp_curve.proofs.CurveStands.{are_sizes}
+use Rattle.upp_normal.specs.Operand.{OperandPieces}
+use Rattle.upp_normal.proofs.Below.{unroll_reads}
+use Rattle.upp_limits.proofs.CurveStands.{are_sizes}
 use Rattle.upp_curve.proofs.Repeats.{repeats_times}
-use Rattle.upp_curve.proofs.Stands.{sizes_stand}
+use Rattle.upp_limits.proofs.Stands.{sizes_stand}
 use Rattle.upp_curve.proofs.Steady.{steady_rule}
-use Rattle.upp_curve.proofs.UnrolledPieces.{operand_pieces, unroll_starts}
+use Rattle.upp_normal.proofs.UnrolledPieces.{operand_pieces, unroll_starts}
 use Rattle.curve_call.specs.Frames.{sizes_at}
 use Rattle.curve_call.proofs.CallTimes.{first_stands, second_stands, IsCall, start_on, period_on, window_is}
 use Rattle.curve_call.proofs.CallFits.{call_early}

@@ -2,15 +2,15 @@
 use Rattle.std.specs.Prelude.{ℕ}
 use Rattle.rational.specs.Rational.{ℚ}
 use Rattle.rational.specs.declared.Extended.TheVariants.{Fin, Inf}
-use Rattle.upp_curve.specs.declared.op_kind.OpKind.{OpKind}
-use Rattle.upp_curve.specs.declared.op_kind.OpKind.TheVariants.{FifoLeft}
-use Rattle.upp_curve.specs.declared.op_kind.OpFault.{OpFault}
-use Rattle.upp_curve.specs.declared.op_kind.OpFault.TheVariants.{TooMany, TooWide, NoMemory}
+use Rattle.upp_limits.specs.declared.op_kind.OpKind.{OpKind}
+use Rattle.upp_limits.specs.declared.op_kind.OpKind.TheVariants.{FifoLeft}
+use Rattle.upp_limits.specs.declared.op_kind.OpFault.{OpFault}
+use Rattle.upp_limits.specs.declared.op_kind.OpFault.TheVariants.{TooMany, TooWide, NoMemory}
 use Rattle.upp_curve.specs.Curve.{SpecCurve, value_at}
 use Rattle.upp_curve.specs.Curves.{IsCurve}
-use Rattle.upp_curve.specs.Periods.{common_period, moved_steady}
-use Rattle.upp_curve.specs.Windows.{window_at, Meets, IsLeast}
-use Rattle.upp_curve.specs.Outcome.{IsWithin, IsCauseOf}
+use Rattle.upp_limits.specs.Periods.{common_period, moved_steady}
+use Rattle.upp_limits.specs.Windows.{window_at, Meets, IsLeast}
+use Rattle.upp_limits.specs.Outcome.{IsWithin, IsCauseOf}
 use Rattle.curve_call.specs.declared.frame.Frame.{Frame}
 use Rattle.curve_call.specs.Frames.{IsFrame, IsRefusedAt, sizes_at}
 use Rattle.curve_call.proofs.FirstGate.{first_gate}

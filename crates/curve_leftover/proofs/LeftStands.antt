@@ -19,12 +19,12 @@ use Rattle.min_plus.specs.Pointwise.{excess}
 use Rattle.affine_segment.specs.Reading.{read, line_in}
 use Rattle.upp_curve.specs.Shapes.{IsFinitePiece, IsNumber, IsLine}
 use Rattle.upp_curve.specs.Steady.{last_line}
-use Rattle.upp_curve.specs.Limits.{Sizes}
-use Rattle.upp_curve.specs.Sized.{grid_of, times_largest}
-use Rattle.upp_curve.specs.Operand.{AreLimited, OperandLineAt, OperandPiece, OperandPieces}
-use Rattle.upp_curve.proofs.AnswerRoom.{OperandValueAt, difference_of_lines, value_difference_stands, values_fit, operand_lines_fit}
+use Rattle.upp_limits.specs.Limits.{Sizes}
+use Rattle.upp_limits.specs.Sized.{grid_of, times_largest}
+use Rattle.upp_normal.specs.Operand.{AreLimited, OperandLineAt, OperandPiece, OperandPieces}
+use Rattle.upp_normal.proofs.AnswerRoom.{OperandValueAt, difference_of_lines, value_difference_stands, values_fit, operand_lines_fit}
 use Rattle.upp_curve.proofs.Finite.{pieces_finite, each_in}
-use Rattle.upp_curve.proofs.NormaliseLists.{last_in}
+use Rattle.upp_normal.proofs.NormaliseLists.{last_in}
 use Rattle.curve_window.specs.declared.stretch.Both.{Both}
 use Rattle.curve_window.specs.Stretches.{EachBoth, IsBothOf, IsOverlay}
 use Rattle.curve_window.specs.Pointwise.{mapped}

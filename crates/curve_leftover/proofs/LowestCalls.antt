@@ -20,13 +20,13 @@ use Rattle.affine_segment.specs.Reading.{read, piece_in, piece_value}
 use Rattle.affine_segment.specs.Fits.{LineFitsAt}
 use Rattle.upp_curve.specs.Shapes.{IsFinitePiece, IsNumber, IsLine}
 use Rattle.upp_curve.specs.Steady.{last_line}
-use Rattle.upp_curve.specs.Limits.{Sizes}
-use Rattle.upp_curve.specs.Sized.{grid_of, times_largest}
-use Rattle.upp_curve.specs.Operand.{AreLimited}
+use Rattle.upp_limits.specs.Limits.{Sizes}
+use Rattle.upp_limits.specs.Sized.{grid_of, times_largest}
+use Rattle.upp_normal.specs.Operand.{AreLimited}
 use Rattle.upp_curve.proofs.Finite.{each_in, line_number, value_number}
 use Rattle.affine_segment.proofs.PieceIn.{value_past, read_is, value_by}
 use Rattle.affine_segment.proofs.PieceOrder.{each_append, each_map, rises_append}
-use Rattle.upp_curve.proofs.NormaliseLists.{last_in}
+use Rattle.upp_normal.proofs.NormaliseLists.{last_in}
 use Rattle.curve_running.specs.Scans.{IsWindow, ScanFits, IsInfimumUntil, IsLevel, HasLine, flat}
 use Rattle.curve_running.specs.Made.{IsMade, IsInfimumScan}
 use Rattle.curve_running.specs.Runs.{IsFrontBefore}

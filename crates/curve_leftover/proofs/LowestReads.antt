@@ -22,19 +22,19 @@ use Rattle.affine_segment.specs.Values.{line_at, line_value}
 use Rattle.min_plus.specs.Functions.{zero_q, From}
 use Rattle.affine_segment.specs.Pieces.{Each, StartsAtZero}
 use Rattle.affine_segment.specs.Reading.{read, piece_value}
-use Rattle.upp_curve.specs.Room.{PieceHasRoom}
+use Rattle.upp_normal.specs.Room.{PieceHasRoom}
 use Rattle.min_plus.specs.Running.{IsRunningInfimum}
 use Rattle.upp_curve.specs.Steady.{Repeats, last_line, last_of}
-use Rattle.upp_curve.specs.Limits.{Sizes}
-use Rattle.upp_curve.specs.Sized.{grid_of, times_largest}
-use Rattle.upp_curve.specs.Operand.{answer_room}
-use Rattle.upp_curve.proofs.Bends.{bends_on}
+use Rattle.upp_limits.specs.Limits.{Sizes}
+use Rattle.upp_limits.specs.Sized.{grid_of, times_largest}
+use Rattle.upp_normal.specs.Operand.{answer_room}
+use Rattle.upp_normal.proofs.Bends.{bends_on}
 use Rattle.affine_segment.proofs.PieceIn.{value_past, piece_in_end, read_is, value_by}
 use Rattle.affine_segment.proofs.PieceOrder.{each_map}
-use Rattle.upp_curve.proofs.NormaliseLists.{last_is_last, last_in}
+use Rattle.upp_normal.proofs.NormaliseLists.{last_is_last, last_in}
 use Rattle.upp_curve.proofs.Repeats.{repeats_times}
 use Rattle.upp_curve.proofs.Steady.{read_past}
-use Rattle.upp_curve.proofs.Unrolled.{read_before, read_past_list}
+use Rattle.upp_normal.proofs.UnrolledValues.{read_before, read_past_list}
 use Rattle.curve_call.specs.Answering.{IsAnswerWindow}
 use Rattle.curve_running.specs.Scans.{Until, IsInfimumUntil}
 use Rattle.curve_running.proofs.Fronts.{kept_each, kept_starts, kept_reads, kept_bends}
@@ -42,7 +42,7 @@ use Rattle.curve_running.proofs.Shifts.{infimum_repeats, raised}
 use Rattle.curve_window.proofs.TailGrids.{grids_nest}
 use Rattle.curve_leftover.specs.Lowest.{level_piece, IsLowestCall, IsLowest}
 use Rattle.curve_leftover.proofs.SumSizes.{IsNear, EachSum, scan_room, only_bend}
-use Rattle.upp_curve.proofs.AnswerRoom.{more_largest}
+use Rattle.upp_normal.proofs.AnswerRoom.{more_largest}
 use Rattle.curve_leftover.proofs.LowestCalls.{call_far, all_sums}
 use Rattle.curve_running.proofs.InfimumRuns.{same_until}
 

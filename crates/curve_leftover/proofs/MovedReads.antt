@@ -15,7 +15,7 @@ use Rattle.affine_segment.specs.Pieces.{RisesFrom, StartsAtZero}
 use Rattle.affine_segment.specs.Reading.{read, piece_in, piece_value}
 use Rattle.upp_curve.specs.Unrolled.{upto}
 use Rattle.affine_segment.proofs.PieceIn.{value_past, piece_in_end, piece_in_go, piece_in_stop, read_is, value_by}
-use Rattle.upp_curve.proofs.NormaliseLists.{rises_upto}
+use Rattle.upp_normal.proofs.NormaliseLists.{rises_upto}
 use Rattle.upp_curve.proofs.Unique.{upto_none, upto_some, upto_end}
 use Rattle.curve_leftover.specs.Moved.{moved_line, moved_piece, silence, moved_right}
 

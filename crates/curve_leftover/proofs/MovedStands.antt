@@ -15,17 +15,17 @@ use Rattle.upp_curve.specs.Curve.{SpecCurve}
 use Rattle.upp_curve.specs.Curves.{IsCurve}
 use Rattle.min_plus.specs.Functions.{zero_q}
 use Rattle.affine_segment.specs.Pieces.{Each}
-use Rattle.upp_curve.specs.Limits.{Sizes, curve_numbers}
-use Rattle.upp_curve.specs.Sized.{Stands, ValueStands, LineStands, grid_of, times_largest}
-use Rattle.upp_curve.specs.Operand.{AreLimited, OperandLineAt, OperandPiece, OperandPieces}
+use Rattle.upp_limits.specs.Limits.{Sizes, curve_numbers}
+use Rattle.upp_limits.specs.Sized.{Stands, ValueStands, LineStands, grid_of, times_largest}
+use Rattle.upp_normal.specs.Operand.{AreLimited, OperandLineAt, OperandPiece, OperandPieces}
 use Rattle.upp_curve.specs.Unrolled.{unroll, upto}
-use Rattle.upp_curve.proofs.AnswerRoom.{wide_narrow}
-use Rattle.upp_curve.proofs.NarrowSizes.{small_number, small_sum, run_whole, run_within}
+use Rattle.upp_normal.proofs.AnswerRoom.{wide_narrow}
+use Rattle.upp_limits.proofs.NarrowSizes.{small_number, small_sum, run_whole, run_within}
 use Rattle.affine_segment.proofs.PieceOrder.{each_append, each_map}
-use Rattle.upp_curve.proofs.NormaliseLists.{each_upto, upto_before}
-use Rattle.upp_curve.proofs.PieceLists.{starts_nonneg}
-use Rattle.upp_curve.proofs.UnrolledPieces.{each_with, each_nonneg, unroll_each, unroll_starts, PieceStands, pieces_stand, operand_line, operand_pieces}
-use Rattle.upp_curve.proofs.UnrollSteps.{time_whole, time_within}
+use Rattle.upp_normal.proofs.NormaliseLists.{each_upto, upto_before}
+use Rattle.upp_limits.proofs.PieceLists.{starts_nonneg}
+use Rattle.upp_normal.proofs.UnrolledPieces.{each_with, each_nonneg, unroll_each, unroll_starts, PieceStands, pieces_stand, operand_line, operand_pieces}
+use Rattle.upp_normal.proofs.UnrollSteps.{time_whole, time_within}
 use Rattle.curve_leftover.specs.Moved.{moved_line, moved_piece, silence, moved_right, LineMoves, PieceMoves}
 use Rattle.curve_leftover.proofs.MovedReads.{moved_line_value, moved_starts}
 

@@ -16,22 +16,22 @@ use Rattle.rational.proofs.ExtendedOrder.{fin_same}
 use Rattle.affine_segment.specs.declared.line.Line.{Line}
 use Rattle.affine_segment.specs.declared.line.Piece.{Piece}
 use Rattle.affine_segment.specs.Values.{line_at, line_value}
-use Rattle.upp_curve.specs.Bends.{LineOn, NumbersOn, SlopeTurns, BendAfter, OnlyBend}
+use Rattle.upp_normal.specs.Bends.{LineOn, NumbersOn, SlopeTurns, BendAfter, OnlyBend}
 use Rattle.min_plus.specs.Functions.{zero_q}
 use Rattle.affine_segment.specs.Pieces.{Each, HasStart, start_after}
 use Rattle.upp_curve.specs.Readable.{EachFits, LineFitsTo}
 use Rattle.affine_segment.specs.Fits.{LineFits, LineFitsAt}
-use Rattle.upp_curve.specs.Limits.{Sizes}
-use Rattle.upp_curve.specs.Sized.{grid_of, times_largest}
-use Rattle.upp_curve.specs.Operand.{AreLimited, answer_room}
-use Rattle.upp_curve.specs.Room.{top, LineInRoom, LineHasRoom, PieceHasRoom, TimeHasRoom, ValueHasRoom}
-use Rattle.upp_curve.proofs.NarrowSizes.{grid_pos, small_sum, slope_time_divides}
-use Rattle.upp_curve.proofs.NormaliseRoom.{line_fits}
-use Rattle.upp_curve.proofs.AnswerRoom.{tight, wide_narrow, answer_is_room, AnswerLine, line_in_room, answer_value_room, IsCrossing, crossing_from, crossing_room, room_at_start, more_largest}
+use Rattle.upp_limits.specs.Limits.{Sizes}
+use Rattle.upp_limits.specs.Sized.{grid_of, times_largest}
+use Rattle.upp_normal.specs.Operand.{AreLimited, answer_room}
+use Rattle.upp_normal.specs.Room.{top, LineInRoom, LineHasRoom, PieceHasRoom, TimeHasRoom, ValueHasRoom}
+use Rattle.upp_limits.proofs.NarrowSizes.{grid_pos, small_sum, slope_time_divides}
+use Rattle.upp_normal.proofs.NormaliseRoom.{line_fits}
+use Rattle.upp_normal.proofs.AnswerRoom.{tight, wide_narrow, answer_is_room, AnswerLine, line_in_room, answer_value_room, IsCrossing, crossing_from, crossing_room, room_at_start, more_largest}
 use Rattle.curve_running.specs.Scans.{start_or, flat, IsLevel, HasLine, MeetingFits, ScanFits}
 use Rattle.curve_running.specs.Made.{IsMeeting, IsMade, TurnsAfter, IsScan}
 use Rattle.curve_running.proofs.LevelSizes.{all_low, not_flat, some_none}
-use Rattle.upp_curve.proofs.AnswerRoom.{many_more}
+use Rattle.upp_normal.proofs.AnswerRoom.{many_more}
 use Rattle.curve_leftover.specs.Lowest.{SumValue, SumLine, SumPiece}
 use Rattle.curve_running.proofs.Makings.{LineIsMade}
 

@@ -6,17 +6,17 @@ use Rattle.rational.specs.Grid.{Whole}
 use Rattle.rational.specs.Extended.{Ext, ◌<ₑ◌}
 use Rattle.rational.specs.declared.Extended.TheVariants.{Fin}
 use Rattle.affine_segment.specs.declared.line.Piece.{Piece}
-use Rattle.upp_curve.specs.declared.op_kind.OpKind.TheVariants.{FifoLeft}
+use Rattle.upp_limits.specs.declared.op_kind.OpKind.TheVariants.{FifoLeft}
 use Rattle.upp_curve.specs.Curve.{SpecCurve, value_at}
 use Rattle.upp_curve.specs.Curves.{IsCurve}
 use Rattle.min_plus.specs.Functions.{zero_q}
 use Rattle.min_plus.specs.Running.{IsFifoLeftover}
 use Rattle.upp_curve.specs.Steady.{steady, rate, IsWholePeriods}
-use Rattle.upp_curve.specs.Periods.{periods_after}
-use Rattle.upp_curve.specs.Windows.{IsBelowFor}
-use Rattle.upp_curve.specs.Limits.{Sizes, curve_numbers}
-use Rattle.upp_curve.specs.Sized.{Stands, grid_of}
-use Rattle.upp_curve.specs.Operand.{AreLimited}
+use Rattle.upp_limits.specs.Periods.{periods_after}
+use Rattle.upp_limits.specs.Windows.{IsBelowFor}
+use Rattle.upp_limits.specs.Limits.{Sizes, curve_numbers}
+use Rattle.upp_limits.specs.Sized.{Stands, grid_of}
+use Rattle.upp_normal.specs.Operand.{AreLimited}
 use Rattle.upp_curve.specs.Unrolled.{unroll}
 use Rattle.curve_window.specs.declared.stretch.Both.{Both}
 use Rattle.curve_window.specs.Stretches.{IsOverlay}

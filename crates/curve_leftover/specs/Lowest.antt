@@ -13,9 +13,9 @@ use Rattle.min_plus.specs.Functions.{zero_q}
 use Rattle.affine_segment.specs.Pieces.{Each, StartsAtZero}
 use Rattle.affine_segment.specs.Reading.{read}
 use Rattle.upp_curve.specs.Steady.{last_line}
-use Rattle.upp_curve.specs.Limits.{Sizes}
-use Rattle.upp_curve.specs.Sized.{grid_of, times_largest}
-use Rattle.upp_curve.specs.Operand.{AreLimited}
+use Rattle.upp_limits.specs.Limits.{Sizes}
+use Rattle.upp_limits.specs.Sized.{grid_of, times_largest}
+use Rattle.upp_normal.specs.Operand.{AreLimited}
 use Rattle.curve_running.specs.Scans.{flat, IsInfimumUntil}
 use Rattle.curve_running.specs.Made.{IsInfimumScan}
 use Rattle.curve_running.specs.Runs.{IsFrontBefore}

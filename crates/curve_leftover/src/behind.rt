@@ -3,10 +3,10 @@
 ghost use Rattle.std.specs.Prelude.{ℕ, ◌≡◌, pos};
 ghost use Rattle.rational.specs.Rational.{int};
 ghost use Rattle.rational.specs.declared.Extended.TheVariants.{Fin};
-ghost use Rattle.upp_curve.specs.declared.op_kind.OpKind.TheVariants.{FifoLeft};
+ghost use Rattle.upp_limits.specs.declared.op_kind.OpKind.TheVariants.{FifoLeft};
 ghost use Rattle.upp_curve.specs.Curve.{value_at};
-ghost use Rattle.upp_curve.specs.Limits.{Sizes};
-ghost use Rattle.upp_curve.specs.Windows.{IsLeast, Meets};
+ghost use Rattle.upp_limits.specs.Limits.{Sizes};
+ghost use Rattle.upp_limits.specs.Windows.{IsLeast, Meets};
 ghost use Rattle.curve_least.specs.GapSteps.{earlier_of};
 ghost use Rattle.curve_leftover.specs.Behind.{moved, IsBehindCall, IsMost};
 ghost use Rattle.curve_leftover.specs.LeftCall.{IsLeftGate};
@@ -15,7 +15,8 @@ use crate::numbers::number_of;
 use curve_call::{CallWindow, rise_over};
 use curve_least::earlier;
 use fraction128::{Frac, difference, greater, is_less, quotient};
-use upp_curve::{Curve, stretch_at};
+use upp_curve::Curve;
+use upp_normal::stretch_at;
 
 /// By how much cross, served theta later, is above beta at its worst over [from, end); 0 where it never is. Only the
 /// starts of beta's pieces are looked at: elsewhere beta goes on from its value, and has caught up by then.

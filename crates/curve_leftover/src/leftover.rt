@@ -4,11 +4,11 @@ ghost use Rattle.std.specs.Prelude.{◌≡◌, ◌+◌, pos, IfOk};
 ghost use Rattle.rational.specs.Rational.{ℚ, int, ◌≤ℚ◌};
 ghost use Rattle.rational.specs.Extended.{Ext};
 ghost use Rattle.rational.specs.declared.Extended.TheVariants.{Fin, Inf};
-ghost use Rattle.upp_curve.specs.declared.op_kind.OpKind.TheVariants.{FifoLeft};
+ghost use Rattle.upp_limits.specs.declared.op_kind.OpKind.TheVariants.{FifoLeft};
 ghost use Rattle.upp_curve.specs.Curve.{value_at};
 ghost use Rattle.min_plus.specs.Deviations.{IsHorizontalDeviation};
 ghost use Rattle.min_plus.specs.Functions.{IsFinite, IsRising, IsNonnegative};
-ghost use Rattle.upp_curve.specs.Outcome.{KeepsLimits};
+ghost use Rattle.upp_limits.specs.Outcome.{KeepsLimits};
 ghost use Rattle.curve_leftover.specs.Behind.{IsServed};
 ghost use Rattle.curve_leftover.specs.LeftCall.{IsLeftBeside, IsLeftFrame, IsLeftWindow};
 
@@ -24,7 +24,9 @@ use rational::Extended;
 use std::alloc::{AllocError, Global};
 use std::sync::ledger::Ledger;
 use steps::Steps;
-use upp_curve::{Curve, OpFault, OpKind, Tail};
+use upp_curve::{Curve, Tail};
+use upp_limits::{OpFault, OpKind};
+use upp_normal::unrolled;
 
 // The pieces of what is left in a call's window.
 fn left_window(
@@ -37,8 +39,8 @@ fn left_window(
     requires { IsLeftFrame beta.now cross.now theta frame.now }
     ensures { IfOk result (λ v. IsLeftWindow beta.now cross.now theta frame.now.end v.items) }
 {
-    let left = beta.unrolled(frame.end)?;
-    let right = cross.unrolled(frame.end)?;
+    let left = unrolled(beta, frame.end)?;
+    let right = unrolled(cross, frame.end)?;
     let moved = moved_right(alloc, &right, theta, frame.end)?;
     let stretches = overlay(alloc, &left, &moved)?;
     left_pieces(alloc, &stretches)

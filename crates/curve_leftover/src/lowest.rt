@@ -4,7 +4,7 @@ ghost use Rattle.std.specs.Prelude.{◌≡◌, pos, IfOk};
 ghost use Rattle.rational.specs.Rational.{int, ◌≤ℚ◌};
 ghost use Rattle.rational.specs.declared.Extended.TheVariants.{Fin};
 ghost use Rattle.affine_segment.specs.Values.{line_value};
-ghost use Rattle.upp_curve.specs.Limits.{Sizes};
+ghost use Rattle.upp_limits.specs.Limits.{Sizes};
 ghost use Rattle.affine_segment.specs.Pieces.{Each, StartsAtZero};
 ghost use Rattle.affine_segment.specs.Fits.{LineFitsAt};
 ghost use Rattle.affine_segment.specs.Reading.{read};

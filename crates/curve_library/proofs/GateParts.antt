@@ -12,11 +12,11 @@ use Rattle.rational.proofs.Over.{le_q_out}
 use Rattle.min_plus.specs.Functions.{zero_q}
 use Rattle.upp_curve.specs.Normal.{IsNormal}
 use Rattle.upp_curve.specs.Kinds.{flat, piece, bucket, gated, gate}
-use Rattle.upp_curve.specs.Spans.{spans}
-use Rattle.upp_curve.specs.Limits.{own_gauge, own_sizes, own_tally, own_end}
-use Rattle.upp_curve.specs.Sized.{IsSlope, IsValue}
-use Rattle.upp_curve.proofs.CurveStands.{starts_below_own_end}
-use Rattle.upp_curve.proofs.KindForms.{gate_normal, gated_normal}
+use Rattle.upp_limits.specs.Spans.{spans}
+use Rattle.upp_limits.specs.Limits.{own_gauge, own_sizes, own_tally, own_end}
+use Rattle.upp_limits.specs.Sized.{IsSlope, IsValue}
+use Rattle.upp_limits.proofs.CurveStands.{starts_below_own_end}
+use Rattle.upp_kinds.proofs.KindForms.{gate_normal, gated_normal}
 use Rattle.curve_library.specs.Causes.{NoSlot}
 use Rattle.curve_library.proofs.FewPieces.{end_is, periodic_few}
 use Rattle.curve_library.proofs.LateParts.{line_few}

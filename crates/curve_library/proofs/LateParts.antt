@@ -8,13 +8,13 @@ use Rattle.rational.proofs.MinMax.{le_q_not}
 use Rattle.rational.proofs.Over.{le_q_out}
 use Rattle.min_plus.specs.Functions.{zero_q}
 use Rattle.upp_curve.specs.Kinds.{flat, piece, bucket, after_latency, rate_latency}
-use Rattle.upp_curve.specs.Spans.{spans}
-use Rattle.upp_curve.specs.Limits.{own_gauge, own_sizes, own_tally}
-use Rattle.upp_curve.specs.Sized.{IsSlope}
+use Rattle.upp_limits.specs.Spans.{spans}
+use Rattle.upp_limits.specs.Limits.{own_gauge, own_sizes, own_tally}
+use Rattle.upp_limits.specs.Sized.{IsSlope}
 use Rattle.rational.specs.Grid.{Whole}
-use Rattle.upp_curve.proofs.CurveStands.{starts_below_own_end}
+use Rattle.upp_limits.proofs.CurveStands.{starts_below_own_end}
 use Rattle.upp_curve.proofs.ByTail.{bucket_normal}
-use Rattle.upp_curve.proofs.KindForms.{late_normal}
+use Rattle.upp_kinds.proofs.KindForms.{late_normal}
 use Rattle.curve_library.proofs.FewPieces.{affine_few}
 use Rattle.curve_library.proofs.OwnParts.{Held, held, too_wide, run_small}
 

@@ -13,21 +13,21 @@ use Rattle.affine_segment.specs.declared.line.Piece.{Piece}
 use Rattle.affine_segment.specs.Values.{line_value}
 use Rattle.upp_curve.specs.declared.curve.Tail.{Tail}
 use Rattle.upp_curve.specs.declared.curve.Tail.TheVariants.{Periodic, Affine, Infinite}
-use Rattle.upp_curve.specs.declared.own_limits.OverLimit.{OverLimit}
-use Rattle.upp_curve.specs.declared.own_limits.OverLimit.TheVariants.{TooMany, TooWide}
+use Rattle.upp_limits.specs.declared.own_limits.OverLimit.{OverLimit}
+use Rattle.upp_limits.specs.declared.own_limits.OverLimit.TheVariants.{TooMany, TooWide}
 use Rattle.affine_segment.specs.Reading.{read}
 use Rattle.upp_curve.specs.Curve.{SpecCurve, value_at, HasSameValues}
 use Rattle.min_plus.specs.Continuity.{AreNear, IsContinuous}
 use Rattle.min_plus.specs.Functions.{zero_q, IsRising}
 use Rattle.affine_segment.specs.Pieces.{Each, RisesFrom}
 use Rattle.upp_curve.specs.Normal.{IsRaw, IsNormal}
-use Rattle.upp_curve.specs.Limits.{own_gauge, own_sizes, own_end}
-use Rattle.upp_curve.specs.OwnLimits.{IsOver, IsWithinOwn}
-use Rattle.upp_curve.specs.Sized.{SpanStands, ValueStands, LineStands, IsValue}
-use Rattle.upp_curve.specs.Spans.{spans, line_read}
-use Rattle.upp_curve.proofs.CurveStands.{starts_below_own_end}
+use Rattle.upp_limits.specs.Limits.{own_gauge, own_sizes, own_end}
+use Rattle.upp_limits.specs.OwnLimits.{IsOver, IsWithinOwn}
+use Rattle.upp_limits.specs.Sized.{SpanStands, ValueStands, LineStands, IsValue}
+use Rattle.upp_limits.specs.Spans.{spans, line_read}
+use Rattle.upp_limits.proofs.CurveStands.{starts_below_own_end}
 use Rattle.upp_curve.proofs.FirstStretch.{read_in, at_start}
-use Rattle.upp_curve.proofs.NarrowSizes.{small_number, small_sum, value_whole, value_within, run_whole, run_within}
+use Rattle.upp_limits.proofs.NarrowSizes.{small_number, small_sum, value_whole, value_within, run_whole, run_within}
 use Rattle.upp_curve.proofs.OneForm.{infinite_value}
 use Rattle.upp_curve.proofs.Repeats.{repeated_first}
 use Rattle.curve_library.specs.declared.texts.PieceText.{PieceText}
@@ -39,7 +39,7 @@ use Rattle.curve_library.specs.declared.fault.CurveFault.TheVariants.{Negative, 
 use Rattle.curve_library.specs.Listed.{text_line, text_piece, text_pieces, text_tail, last_from, listed_curve, LineFits, IsNonnegText, IsWellFormed, HasShape, Jumps, StartsAboveZero, KeepsShape, KeepsBoth, KeepsListed, ListsFirst, TextFits, IsPiecesFault}
 use Rattle.curve_library.proofs.Answering.{over_within, one_limit}
 use Rattle.curve_library.proofs.OwnParts.{Held, held, too_wide, run_small}
-use Rattle.upp_curve.proofs.KnownNumbers.{two_ones}
+use Rattle.upp_limits.proofs.KnownNumbers.{two_ones}
 use Rattle.affine_segment.proofs.PieceIn.{read_is}
 
 -- ---- a well-formed list is a curve in some form

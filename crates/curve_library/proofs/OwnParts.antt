@@ -11,11 +11,11 @@ use Rattle.rational.proofs.Laws.{le_trans, one_mul}
 use Rattle.upp_curve.specs.Curve.{SpecCurve}
 use Rattle.min_plus.specs.Functions.{zero_q}
 use Rattle.upp_curve.specs.Normal.{IsRaw}
-use Rattle.upp_curve.specs.Limits.{own_end, own_sizes, own_gauge}
-use Rattle.upp_curve.specs.Sized.{IsValue, IsSlope, AreSizes, CurveStands}
-use Rattle.upp_curve.proofs.NarrowSizes.{IsNarrow, narrow_gauge, grids_narrow, small_number, value_whole, value_within, run_whole, run_within}
-use Rattle.upp_curve.proofs.OwnGauge.{large, end_within}
-use Rattle.upp_curve.proofs.CurveStands.{own_are_sizes, own_stands}
+use Rattle.upp_limits.specs.Limits.{own_end, own_sizes, own_gauge}
+use Rattle.upp_limits.specs.Sized.{IsValue, IsSlope, AreSizes, CurveStands}
+use Rattle.upp_limits.proofs.NarrowSizes.{IsNarrow, narrow_gauge, grids_narrow, small_number, value_whole, value_within, run_whole, run_within}
+use Rattle.upp_limits.proofs.OwnGauge.{large, end_within}
+use Rattle.upp_limits.proofs.CurveStands.{own_are_sizes, own_stands}
 
 -- the sizes of a curve with a small gauge, and that its numbers stand so
 pub record Held (c : SpecCurve) : Type 0 where

@@ -17,9 +17,9 @@ use Rattle.rational.proofs.Quotients.{frac_is_div}
 use Rattle.rational.proofs.Multiples.{lcm_left, lcm_right, lcm_pos}
 use Rattle.rational.proofs.Gauges.{den_pos}
 use Rattle.min_plus.specs.Functions.{zero_q}
-use Rattle.upp_curve.proofs.StairValues.{whole_ratio}
+use Rattle.upp_kinds.proofs.StairValues.{whole_ratio}
 use Rattle.curve_library.specs.Shares.{IsQuotient, SharesFit, AreShares}
-use Rattle.upp_curve.proofs.LongCrosses.{nat_of}
+use Rattle.upp_limits.proofs.LongCrosses.{nat_of}
 
 nat_some : (n : ℕ) → 0 < n → zero_q <ℚ int (pos n)
 nat_some n h = nat_lt 0 n h

@@ -19,13 +19,13 @@ use Rattle.upp_curve.specs.Curve.{SpecCurve}
 use Rattle.min_plus.specs.Functions.{zero_q}
 use Rattle.upp_curve.specs.Normal.{IsNormal, IsRaw}
 use Rattle.upp_curve.specs.Kinds.{flat, bucket, steps, stair}
-use Rattle.upp_curve.specs.Spans.{spans}
-use Rattle.upp_curve.specs.Limits.{own_gauge, own_sizes, own_tally, own_end}
-use Rattle.upp_curve.specs.Sized.{IsValue}
-use Rattle.upp_curve.proofs.NarrowSizes.{grids_narrow, small_sum, value_whole, value_within}
-use Rattle.upp_curve.proofs.OwnGauge.{end_within}
-use Rattle.upp_curve.proofs.StairValues.{ratio_low}
-use Rattle.upp_curve.proofs.KindForms.{stair_normal}
+use Rattle.upp_limits.specs.Spans.{spans}
+use Rattle.upp_limits.specs.Limits.{own_gauge, own_sizes, own_tally, own_end}
+use Rattle.upp_limits.specs.Sized.{IsValue}
+use Rattle.upp_limits.proofs.NarrowSizes.{grids_narrow, small_sum, value_whole, value_within}
+use Rattle.upp_limits.proofs.OwnGauge.{end_within}
+use Rattle.upp_kinds.proofs.StairValues.{ratio_low}
+use Rattle.upp_kinds.proofs.KindForms.{stair_normal}
 use Rattle.curve_library.specs.Parts.{SecondFits}
 use Rattle.curve_library.specs.Shares.{SharesFit}
 use Rattle.curve_library.proofs.FewPieces.{end_is, periodic_few}

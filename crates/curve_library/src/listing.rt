@@ -18,7 +18,9 @@ use affine_segment::{Line, Piece};
 use fraction128::{Ext, Frac};
 use rational::Extended;
 use std::alloc::Global;
-use upp_curve::{Curve, OpFault, OverLimit, RawCurve, Tail, is_continuous, normalise};
+use upp_curve::{Curve, Tail, is_continuous};
+use upp_limits::{OpFault, OverLimit};
+use upp_normal::{RawCurve, normalise};
 
 // A fraction, of which it is kept that its parts fit.
 fn kept(x: Frac) -> Frac

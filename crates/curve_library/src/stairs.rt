@@ -7,7 +7,7 @@ ghost use Rattle.min_plus.specs.Functions.{zero_q};
 ghost use Rattle.upp_curve.specs.Kinds.{flat, steps, stair};
 ghost use Rattle.min_plus.specs.Formulas.{stair_value};
 ghost use Rattle.upp_curve.specs.Normal.{IsNormal};
-ghost use Rattle.upp_curve.specs.declared.own_limits.OverLimit.TheVariants.{TooMany};
+ghost use Rattle.upp_limits.specs.declared.own_limits.OverLimit.TheVariants.{TooMany};
 ghost use Rattle.curve_library.specs.Causes.{KeepsOwnLimits, KeepsCauses, AnswersFirst};
 ghost use Rattle.curve_library.specs.Parts.{SecondFits};
 
@@ -18,7 +18,8 @@ use crate::signs::{is_negative, is_positive};
 use affine_segment::Piece;
 use fraction128::Frac;
 use std::alloc::Global;
-use upp_curve::{Curve, OverLimit, Tail};
+use upp_curve::{Curve, Tail};
+use upp_limits::OverLimit;
 
 /// The first packet and so many more that come early; None where that is 2^127 or more.
 fn packets(packet: u32, early: u128) -> Option<Frac>

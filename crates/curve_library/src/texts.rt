@@ -9,7 +9,7 @@ ghost use Rattle.curve_library.specs.Listed.{IsNonnegText, IsNonnegTail, HasLeng
 
 use crate::signs::{is_negative, is_positive};
 use fraction128::{Frac, is_less};
-use upp_curve::is_after;
+use upp_limits::is_after;
 
 /// A piece: its start, the value at it, the value just after it, and the slope from there to the next start.
 #[derive(Debug, Clone, Copy)]

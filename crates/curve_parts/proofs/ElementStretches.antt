@@ -12,8 +12,8 @@ use Rattle.affine_segment.specs.declared.element.Element.TheVariants.{Point, Ope
 use Rattle.affine_segment.specs.Values.{line_at}
 use Rattle.affine_segment.specs.Elements.{Covers, element_value}
 use Rattle.affine_segment.proofs.ElementValues.{value_in, value_cases}
-use Rattle.upp_curve.specs.Limits.{Sizes}
-use Rattle.upp_curve.specs.Ahead.{GoesOn, IsBeforeNext, AtNext}
+use Rattle.upp_limits.specs.Limits.{Sizes}
+use Rattle.upp_normal.specs.Ahead.{GoesOn, IsBeforeNext, AtNext}
 use Rattle.affine_segment.specs.Fits.{LineFits}
 use Rattle.curve_conv.specs.ElementRoom.{SumEnd, SumPoint, SumSegment}
 use Rattle.curve_conv.specs.SumWindows.{SumValueAt}

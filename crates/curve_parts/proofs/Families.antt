@@ -6,8 +6,8 @@ use Rattle.rational.specs.Extended.{Ext, min_ext}
 use Rattle.rational.specs.declared.Extended.TheVariants.{Inf}
 use Rattle.rational.specs.Families.{either}
 use Rattle.rational.proofs.Bounds.{infimum_union, all_infinite}
-use Rattle.upp_curve.specs.declared.ahead.Stretch.{Stretch}
-use Rattle.upp_curve.specs.Ahead.{GoesOn, IsBeforeNext}
+use Rattle.upp_normal.specs.declared.ahead.Stretch.{Stretch}
+use Rattle.upp_normal.specs.Ahead.{GoesOn, IsBeforeNext}
 use Rattle.curve_conv.proofs.Members.{Matched, matched_out}
 use Rattle.curve_parts.specs.Stretches.{IsAhead}
 

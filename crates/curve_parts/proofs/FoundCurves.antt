@@ -9,17 +9,17 @@ use Rattle.rational.specs.declared.Extended.TheVariants.{Fin}
 use Rattle.rational.proofs.Laws.{le_or_lt, lt_irrefl, le_lt_trans}
 use Rattle.affine_segment.specs.declared.line.Piece.{Piece}
 use Rattle.affine_segment.specs.Values.{line_value}
-use Rattle.upp_curve.specs.declared.ahead.Stretch.{Stretch}
+use Rattle.upp_normal.specs.declared.ahead.Stretch.{Stretch}
 use Rattle.upp_curve.specs.declared.curve.Tail.{Tail}
 use Rattle.upp_curve.specs.declared.curve.Tail.TheVariants.{Periodic, Affine, Infinite}
 use Rattle.upp_curve.specs.Curve.{SpecCurve, value_at}
-use Rattle.upp_curve.specs.Limits.{Sizes}
+use Rattle.upp_limits.specs.Limits.{Sizes}
 use Rattle.affine_segment.specs.Reading.{read, piece_in, next_in, line_in}
 use Rattle.upp_curve.specs.Unrolled.{line_later}
-use Rattle.upp_curve.specs.Spans.{next_later}
-use Rattle.upp_curve.specs.Operand.{OperandLineAt}
-use Rattle.upp_curve.specs.Ahead.{GoesOn, AtNext, HasWindow, IsTimeIn, TimesStand, GridValue}
-use Rattle.upp_curve.proofs.StretchValues.{IsPlain, is_plain, plain_here, plain_goes, plain_times, with_pieces, turn_at, Repeated, repeated_here, repeated_goes, repeated_sizes}
+use Rattle.upp_limits.specs.Spans.{next_later}
+use Rattle.upp_normal.specs.Operand.{OperandLineAt}
+use Rattle.upp_normal.specs.Ahead.{GoesOn, AtNext, HasWindow, IsTimeIn, TimesStand, GridValue}
+use Rattle.upp_normal.proofs.StretchValues.{IsPlain, is_plain, plain_here, plain_goes, plain_times, with_pieces, turn_at, Repeated, repeated_here, repeated_goes, repeated_sizes}
 
 pub record Here (z : Sizes) (c : SpecCurve) (t : ℚ) : Type 0 where
   pub stretch : Stretch

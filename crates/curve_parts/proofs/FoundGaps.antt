@@ -11,11 +11,11 @@ use Rattle.affine_segment.specs.Values.{line_value}
 use Rattle.upp_curve.specs.Curve.{SpecCurve, value_at}
 use Rattle.min_plus.specs.Convolution.{Split}
 use Rattle.min_plus.specs.Functions.{IsFinite}
-use Rattle.upp_curve.specs.Limits.{Sizes}
-use Rattle.upp_curve.specs.Operand.{AreLimited}
-use Rattle.upp_curve.specs.Sized.{times_largest}
+use Rattle.upp_limits.specs.Limits.{Sizes}
+use Rattle.upp_normal.specs.Operand.{AreLimited}
+use Rattle.upp_limits.specs.Sized.{times_largest}
 use Rattle.upp_curve.specs.Steady.{steady, rise_over}
-use Rattle.upp_curve.specs.Windows.{IsLeast}
+use Rattle.upp_limits.specs.Windows.{IsLeast}
 use Rattle.curve_conv.specs.ElementRoom.{WindowTime}
 use Rattle.curve_least.specs.declared.gaps.Gap.{Gap}
 use Rattle.curve_least.specs.declared.gaps.Gap.TheVariants.{NoTime, Never, Is}

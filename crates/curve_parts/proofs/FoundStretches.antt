@@ -16,9 +16,9 @@ use Rattle.affine_segment.specs.Values.{line_at}
 use Rattle.affine_segment.proofs.Through.{through}
 use Rattle.affine_segment.proofs.Meeting.{lines_meet}
 use Rattle.affine_segment.proofs.Convolved.{points_convolved, moved_convolved, straight_convolved, endless_convolved, bent_convolved, turned_convolved}
-use Rattle.upp_curve.specs.declared.ahead.Stretch.{Stretch}
-use Rattle.upp_curve.specs.Limits.{Sizes}
-use Rattle.upp_curve.specs.Ahead.{GoesOn, IsBeforeNext}
+use Rattle.upp_normal.specs.declared.ahead.Stretch.{Stretch}
+use Rattle.upp_limits.specs.Limits.{Sizes}
+use Rattle.upp_normal.specs.Ahead.{GoesOn, IsBeforeNext}
 use Rattle.curve_conv.specs.PieceElements.{Among}
 use Rattle.curve_conv.specs.ElementRoom.{OperandElement, SumElement, SumPart, SumJoined}
 use Rattle.curve_conv.specs.Envelopes.{ListSplit, list_sum}

@@ -8,10 +8,10 @@ use Rattle.rational.proofs.Grid.{whole_sub}
 use Rattle.rational.proofs.Laws.{le_of_lt}
 use Rattle.rational.proofs.MinMax.{max_q_one}
 use Rattle.affine_segment.specs.Values.{line_value}
-use Rattle.upp_curve.specs.declared.ahead.Stretch.{Stretch}
-use Rattle.upp_curve.specs.Limits.{Sizes}
-use Rattle.upp_curve.specs.Operand.{AreLimited, answer_room}
-use Rattle.upp_curve.specs.Room.{TimeHasRoom}
+use Rattle.upp_normal.specs.declared.ahead.Stretch.{Stretch}
+use Rattle.upp_limits.specs.Limits.{Sizes}
+use Rattle.upp_normal.specs.Operand.{AreLimited, answer_room}
+use Rattle.upp_normal.specs.Room.{TimeHasRoom}
 use Rattle.affine_segment.specs.Fits.{LineFitsAt}
 use Rattle.curve_window.specs.Made.{ValueApartFits}
 use Rattle.curve_least.specs.declared.gaps.Gap.{Gap}

@@ -8,9 +8,9 @@ use Rattle.rational.proofs.Bounds.{infimum_unique, same_infimum}
 use Rattle.rational.proofs.ExtendedOrder.{same_le_ext}
 use Rattle.rational.proofs.Laws.{le_refl, le_trans, le_of_lt, le_or_lt, lt_le_trans, le_lt_trans, antisym, le_of_not_lt, lt_irrefl}
 use Rattle.rational.proofs.MinMax.{min_q_one}
-use Rattle.upp_curve.specs.declared.ahead.Stretch.{Stretch}
-use Rattle.upp_curve.specs.Limits.{Sizes}
-use Rattle.upp_curve.specs.Ahead.{GoesOn, IsBeforeNext, AtNext}
+use Rattle.upp_normal.specs.declared.ahead.Stretch.{Stretch}
+use Rattle.upp_limits.specs.Limits.{Sizes}
+use Rattle.upp_normal.specs.Ahead.{GoesOn, IsBeforeNext, AtNext}
 use Rattle.curve_conv.specs.ElementRoom.{WindowTime}
 use Rattle.curve_conv.specs.SumWindows.{SumStart}
 use Rattle.curve_least.specs.declared.gaps.Gap.{Gap}

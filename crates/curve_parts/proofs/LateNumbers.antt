@@ -17,15 +17,15 @@ use Rattle.rational.proofs.ExtendedOrder.{finite_sum, same_le_ext}
 use Rattle.rational.proofs.Bounds.{infimum_unique, same_infimum}
 use Rattle.upp_curve.specs.Curve.{SpecCurve, value_at}
 use Rattle.min_plus.specs.Convolution.{Split, IsConvolution}
-use Rattle.upp_curve.specs.Limits.{Sizes}
-use Rattle.upp_curve.specs.Sized.{grid_of, times_largest}
-use Rattle.upp_curve.specs.Operand.{AreLimited}
-use Rattle.upp_curve.specs.Room.{top}
-use Rattle.upp_curve.specs.Periods.{periods_after}
+use Rattle.upp_limits.specs.Limits.{Sizes}
+use Rattle.upp_limits.specs.Sized.{grid_of, times_largest}
+use Rattle.upp_normal.specs.Operand.{AreLimited}
+use Rattle.upp_normal.specs.Room.{top}
+use Rattle.upp_limits.specs.Periods.{periods_after}
 use Rattle.upp_curve.specs.Steady.{steady, rise_over}
-use Rattle.upp_curve.specs.Windows.{IsLeast}
-use Rattle.upp_curve.proofs.NarrowSizes.{small_sum}
-use Rattle.upp_curve.proofs.StretchSizes.{narrow}
+use Rattle.upp_limits.specs.Windows.{IsLeast}
+use Rattle.upp_limits.proofs.NarrowSizes.{small_sum}
+use Rattle.upp_normal.proofs.StretchSizes.{narrow}
 use Rattle.upp_curve.proofs.Steady.{steady_rule}
 use Rattle.curve_call.proofs.CurveRises.{IsRise, rise_is}
 use Rattle.curve_call.proofs.CurveTimes.{steady_nonneg, steady_whole}

@@ -10,9 +10,9 @@ use Rattle.rational.proofs.Integers.{nat_nonneg}
 use Rattle.rational.proofs.Whole.{one_more_times}
 use Rattle.rational.proofs.ExtendedOrder.{le_inf, le_ext_trans, add_assoc_ext, add_zero_ext}
 use Rattle.rational.proofs.Bounds.{greatest}
-use Rattle.upp_curve.specs.Periods.{periods_after}
+use Rattle.upp_limits.specs.Periods.{periods_after}
 use Rattle.upp_curve.specs.Steady.{Repeats}
-use Rattle.upp_curve.specs.Windows.{IsLateLeast}
+use Rattle.upp_limits.specs.Windows.{IsLateLeast}
 use Rattle.curve_least.specs.Gaps.{InWindow, IsWithin}
 use Rattle.curve_parts.specs.Parts.{part_sum, IsPart, FirstLate, FirstEarly}
 use Rattle.curve_parts.specs.PartGaps.{ArePartValues, HavePartValues}

@@ -8,10 +8,10 @@ use Rattle.rational.proofs.Laws.{le_of_lt, le_trans, le_of_not_lt, lt_irrefl, lt
 use Rattle.rational.proofs.ExtendedOrder.{le_inf, min_ext_of_le, min_ext_comm}
 use Rattle.affine_segment.specs.declared.line.Line.{Line}
 use Rattle.affine_segment.specs.Values.{line_at, line_value}
-use Rattle.upp_curve.specs.declared.ahead.Stretch.{Stretch}
-use Rattle.upp_curve.specs.Limits.{Sizes}
-use Rattle.upp_curve.specs.Operand.{AreLimited}
-use Rattle.upp_curve.specs.Ahead.{GoesOn, IsBeforeNext, AtNext}
+use Rattle.upp_normal.specs.declared.ahead.Stretch.{Stretch}
+use Rattle.upp_limits.specs.Limits.{Sizes}
+use Rattle.upp_normal.specs.Operand.{AreLimited}
+use Rattle.upp_normal.specs.Ahead.{GoesOn, IsBeforeNext, AtNext}
 use Rattle.curve_window.specs.Lies.{CrossFits}
 use Rattle.curve_window.proofs.LinesLie.{before_turn, after_turn, parallel_lines}
 use Rattle.curve_conv.specs.SumWindows.{SumLineAt, SumValueAt}

@@ -6,14 +6,14 @@ use Rattle.std.proofs.Math.Nat.{le-div_iff_mul-le}
 use Rattle.rational.specs.Rational.{ℚ, ◌-ℚ◌, ◌*ℚ◌, ◌/ℚ◌, ◌≤ℚ◌, ◌<ℚ◌, int}
 use Rattle.rational.specs.Gauge.{size_up}
 use Rattle.rational.specs.Extended.{◌<ₑ◌}
-use Rattle.upp_curve.proofs.CommonDen.{size_up_within}
+use Rattle.upp_limits.proofs.CommonDen.{size_up_within}
 use Rattle.rational.proofs.Integers.{nat_le, int_mul}
 use Rattle.rational.proofs.Laws.{le_trans}
 use Rattle.rational.proofs.Quotients.{div_le}
 use Rattle.upp_curve.specs.Curve.{SpecCurve, value_at}
 use Rattle.min_plus.specs.Functions.{IsFinite}
-use Rattle.upp_curve.specs.Limits.{Sizes, gauge_of}
-use Rattle.upp_curve.specs.Sized.{AreSizes, grid_of, times_largest}
+use Rattle.upp_limits.specs.Limits.{Sizes, gauge_of}
+use Rattle.upp_limits.specs.Sized.{AreSizes, grid_of, times_largest}
 use Rattle.upp_curve.specs.Steady.{rate, rise_over}
 use Rattle.curve_parts.specs.Late.{IsLateCall, IsLateMost, IsSlowerMost}
 use Rattle.curve_parts.specs.Scans.{sizes_in}

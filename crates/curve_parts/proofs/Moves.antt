@@ -11,7 +11,7 @@ use Rattle.rational.proofs.Bounds.{infimum_shift}
 use Rattle.upp_curve.specs.Steady.{Repeats}
 use Rattle.upp_curve.proofs.Repeats.{tail_lemma}
 use Rattle.min_plus.specs.Convolution.{Split, IsConvolution}
-use Rattle.upp_curve.specs.Windows.{IsLateLeast}
+use Rattle.upp_limits.specs.Windows.{IsLateLeast}
 use Rattle.curve_parts.specs.Parts.{PartSplit, part_sum, IsPart, FirstLate, FirstEarly}
 
 -- ---- sums that rise on one side

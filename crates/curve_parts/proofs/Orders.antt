@@ -7,14 +7,14 @@ use Rattle.rational.specs.Extended.{Ext, ◌<ₑ◌}
 use Rattle.rational.proofs.ExtendedOrder.{lt_ext_trans, lt_ext_irrefl}
 use Rattle.rational.proofs.Linear.{with3, with5}
 use Rattle.upp_curve.specs.Curve.{SpecCurve}
-use Rattle.upp_curve.specs.declared.op_kind.OpKind.TheVariants.{Convolve}
-use Rattle.upp_curve.specs.Gauges.{numbers_over, kind_numbers}
-use Rattle.upp_curve.proofs.ClosedForms.{holds_joined, holds_left, holds_right}
-use Rattle.upp_curve.specs.Limits.{Numbers, joined, curve_numbers}
+use Rattle.upp_limits.specs.declared.op_kind.OpKind.TheVariants.{Convolve}
+use Rattle.upp_limits.specs.Gauges.{numbers_over, kind_numbers}
+use Rattle.upp_limits.proofs.ClosedForms.{holds_joined, holds_left, holds_right}
+use Rattle.upp_limits.specs.Limits.{Numbers, joined, curve_numbers}
 use Rattle.upp_curve.specs.Steady.{steady, rate}
-use Rattle.upp_curve.specs.Ahead.{HasWindow}
-use Rattle.upp_curve.proofs.SameSizes.{Equals, same_sizes, equals_self, equals_joined}
-use Rattle.upp_curve.proofs.StretchSizes.{narrow}
+use Rattle.upp_normal.specs.Ahead.{HasWindow}
+use Rattle.upp_limits.proofs.SameSizes.{Equals, same_sizes, equals_self, equals_joined}
+use Rattle.upp_normal.proofs.StretchSizes.{narrow}
 use Rattle.curve_call.specs.Times.{OneLaterFits}
 use Rattle.curve_call.proofs.CurveTimes.{one_later, steady_nonneg}
 use Rattle.curve_least.proofs.Shifts.{same_least, least_zero}

@@ -9,9 +9,9 @@ use Rattle.affine_segment.specs.declared.element.Element.{Element}
 use Rattle.affine_segment.specs.declared.element.Element.TheVariants.{Point, Open}
 use Rattle.affine_segment.specs.declared.element.Joined.{Joined}
 use Rattle.affine_segment.specs.Elements.{IsProper, PairSplit, pair_sum, joined_value, AreAdjoined, IsConvolved}
-use Rattle.upp_curve.specs.declared.ahead.Stretch.{Stretch}
-use Rattle.upp_curve.specs.Ahead.{GoesOn}
-use Rattle.upp_curve.specs.Limits.{Sizes}
+use Rattle.upp_normal.specs.declared.ahead.Stretch.{Stretch}
+use Rattle.upp_normal.specs.Ahead.{GoesOn}
+use Rattle.upp_limits.specs.Limits.{Sizes}
 use Rattle.curve_parts.specs.Stretches.{SumStretch, IsAhead, IsProperPart}
 
 -- parts one after another are proper

@@ -12,13 +12,13 @@ use Rattle.rational.proofs.Laws.{le_refl, le_trans, le_of_lt, le_lt_trans, lt_le
 use Rattle.rational.proofs.ExtendedOrder.{same_le_ext}
 use Rattle.affine_segment.specs.declared.line.Line.{Line}
 use Rattle.affine_segment.specs.Values.{line_value}
-use Rattle.upp_curve.specs.declared.ahead.Stretch.{Stretch}
+use Rattle.upp_normal.specs.declared.ahead.Stretch.{Stretch}
 use Rattle.upp_curve.specs.Curve.{SpecCurve, value_at}
-use Rattle.upp_curve.specs.Limits.{Sizes}
-use Rattle.upp_curve.specs.Operand.{AreLimited, OperandLineAt}
-use Rattle.upp_curve.specs.Ahead.{GoesOn, IsBeforeNext, AtNext, HasWindow, IsTimeIn, TimesStand, GridValue}
+use Rattle.upp_limits.specs.Limits.{Sizes}
+use Rattle.upp_normal.specs.Operand.{AreLimited, OperandLineAt}
+use Rattle.upp_normal.specs.Ahead.{GoesOn, IsBeforeNext, AtNext, HasWindow, IsTimeIn, TimesStand, GridValue}
 use Rattle.min_plus.specs.Convolution.{Split}
-use Rattle.upp_curve.proofs.StretchSizes.{times_stand, times_fit}
+use Rattle.upp_normal.proofs.StretchSizes.{times_stand, times_fit}
 use Rattle.curve_conv.specs.ElementRoom.{WindowTime, WindowEnd}
 use Rattle.curve_conv.proofs.Members.{Matched}
 use Rattle.curve_parts.specs.Parts.{PartSplit, part_sum}

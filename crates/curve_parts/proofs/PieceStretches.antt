@@ -5,14 +5,14 @@ use Rattle.rational.specs.Rational.{ℚ, ◌≤ℚ◌, int}
 use Rattle.affine_segment.specs.declared.line.Line.{Line}
 use Rattle.affine_segment.specs.declared.line.Piece.{Piece}
 use Rattle.affine_segment.specs.Values.{line_value}
-use Rattle.upp_curve.specs.declared.ahead.Stretch.{Stretch}
-use Rattle.upp_curve.specs.Limits.{Sizes}
+use Rattle.upp_normal.specs.declared.ahead.Stretch.{Stretch}
+use Rattle.upp_limits.specs.Limits.{Sizes}
 use Rattle.affine_segment.specs.Pieces.{StartsAtZero}
 use Rattle.affine_segment.specs.Reading.{read, piece_in, next_in, line_in}
 use Rattle.affine_segment.specs.Fits.{LineFitsAt}
-use Rattle.upp_curve.specs.Ahead.{GoesOn, IsBeforeNext, AtNext}
+use Rattle.upp_normal.specs.Ahead.{GoesOn, IsBeforeNext, AtNext}
 use Rattle.affine_segment.proofs.PieceOrder.{each_map}
-use Rattle.upp_curve.proofs.StretchPieces.{reads_on, next_past, next_all}
+use Rattle.upp_normal.proofs.StretchPieces.{reads_on, next_past, next_all}
 use Rattle.curve_conv.specs.SumWindows.{SumValueAt, SumLineAt, SumPiece, SumWindow}
 use Rattle.curve_conv.proofs.SumSteps.{sum_read, sum_line_in, line_fits_at}
 use Rattle.curve_parts.specs.Stretches.{SumPlace, SumStretch, SumTimeIn}

@@ -12,12 +12,12 @@ use Rattle.upp_curve.specs.Curve.{SpecCurve, repeated, value_at}
 use Rattle.upp_curve.specs.Curves.{IsCurve}
 use Rattle.upp_curve.specs.Steady.{Repeats, steady, rate, rise_over, IsWholePeriods}
 use Rattle.min_plus.specs.Convolution.{Split, IsConvolution}
-use Rattle.upp_curve.specs.Normalising.{HasValues}
-use Rattle.upp_curve.specs.Windows.{IsLateLeast}
+use Rattle.upp_normal.specs.Normalising.{HasValues}
+use Rattle.upp_limits.specs.Windows.{IsLateLeast}
 use Rattle.upp_curve.proofs.Steady.{steady_rule}
 use Rattle.curve_call.proofs.Answering.{answer_relation}
 use Rattle.curve_call.proofs.CurveTimes.{steady_nonneg}
-use Rattle.upp_curve.proofs.UnrollSteps.{ext_cases}
+use Rattle.upp_normal.proofs.UnrollSteps.{ext_cases}
 use Rattle.curve_least.proofs.Rises.{rate_rise, rate_none, infinite_value}
 use Rattle.curve_parts.specs.Parts.{IsPart, FirstLate}
 use Rattle.curve_parts.specs.Late.{IsSlowerLate}

@@ -15,12 +15,12 @@ use Rattle.affine_segment.specs.declared.element.Element.{Element}
 use Rattle.affine_segment.specs.declared.element.Element.TheVariants.{Point, Open}
 use Rattle.affine_segment.specs.Values.{line_value}
 use Rattle.affine_segment.specs.Elements.{Covers, level, start_of}
-use Rattle.upp_curve.specs.declared.ahead.Stretch.{Stretch}
+use Rattle.upp_normal.specs.declared.ahead.Stretch.{Stretch}
 use Rattle.upp_curve.specs.Curve.{SpecCurve, value_at}
-use Rattle.upp_curve.specs.Limits.{Sizes}
-use Rattle.upp_curve.specs.Operand.{AreLimited, OperandLineAt}
-use Rattle.upp_curve.specs.Ahead.{GoesOn, IsBeforeNext, AtNext, HasWindow, IsTimeIn, TimesStand, GridValue}
-use Rattle.upp_curve.proofs.StretchSizes.{times_stand, times_fit}
+use Rattle.upp_limits.specs.Limits.{Sizes}
+use Rattle.upp_normal.specs.Operand.{AreLimited, OperandLineAt}
+use Rattle.upp_normal.specs.Ahead.{GoesOn, IsBeforeNext, AtNext, HasWindow, IsTimeIn, TimesStand, GridValue}
+use Rattle.upp_normal.proofs.StretchSizes.{times_stand, times_fit}
 use Rattle.curve_conv.specs.ElementRoom.{OperandElement, WindowTime, WindowEnd}
 use Rattle.curve_conv.proofs.Members.{Matched}
 use Rattle.curve_parts.specs.Stretches.{SumStretch, IsAhead, IsSpan, until_time, point_at, open_at, PartPair, part_pair_sum, RowSplit, row_sum, IsProperPart, OperandPart}

@@ -14,14 +14,14 @@ use Rattle.affine_segment.specs.declared.element.Element.{Element}
 use Rattle.affine_segment.specs.declared.element.Element.TheVariants.{Point, Open}
 use Rattle.affine_segment.specs.Elements.{IsProper, Covers, level}
 use Rattle.affine_segment.specs.Values.{line_value, line_at}
-use Rattle.upp_curve.specs.declared.ahead.Stretch.{Stretch}
+use Rattle.upp_normal.specs.declared.ahead.Stretch.{Stretch}
 use Rattle.upp_curve.specs.Curve.{SpecCurve, value_at}
-use Rattle.upp_curve.specs.Limits.{Sizes}
+use Rattle.upp_limits.specs.Limits.{Sizes}
 use Rattle.affine_segment.specs.Reading.{read}
-use Rattle.upp_curve.specs.Operand.{AreLimited, OperandLineAt}
-use Rattle.upp_curve.specs.Ahead.{GoesOn, IsBeforeNext, AtNext, HasWindow, IsTimeIn, TimesStand, GridValue}
+use Rattle.upp_normal.specs.Operand.{AreLimited, OperandLineAt}
+use Rattle.upp_normal.specs.Ahead.{GoesOn, IsBeforeNext, AtNext, HasWindow, IsTimeIn, TimesStand, GridValue}
 use Rattle.min_plus.specs.Convolution.{Split}
-use Rattle.upp_curve.proofs.StretchSizes.{times_stand}
+use Rattle.upp_normal.proofs.StretchSizes.{times_stand}
 use Rattle.curve_conv.specs.PieceElements.{Among, ElementAt}
 use Rattle.curve_conv.specs.ElementRoom.{WindowTime, OperandElement}
 use Rattle.curve_conv.specs.Envelopes.{ListSplit, list_sum, IsEnvelope}

@@ -7,8 +7,8 @@ use Rattle.rational.specs.Extended.{Ext, ◌<ₑ◌}
 use Rattle.upp_curve.specs.Curve.{SpecCurve, value_at}
 use Rattle.min_plus.specs.Convolution.{IsConvolution}
 use Rattle.upp_curve.specs.Steady.{steady, rate, IsWholePeriods}
-use Rattle.upp_curve.specs.Periods.{periods_after}
-use Rattle.upp_curve.specs.Windows.{IsLateLeastFor, IsSlowerLateLeast, IsLeast}
+use Rattle.upp_limits.specs.Periods.{periods_after}
+use Rattle.upp_limits.specs.Windows.{IsLateLeastFor, IsSlowerLateLeast, IsLeast}
 use Rattle.curve_parts.specs.Parts.{IsPart, FirstLate}
 use Rattle.curve_parts.specs.Scans.{sizes_in, IsScan}
 

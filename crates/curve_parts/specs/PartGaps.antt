@@ -4,9 +4,9 @@ use Prim.Native.Nat.{◌∣◌}
 use Rattle.rational.specs.Rational.{ℚ, ◌≤ℚ◌, int}
 use Rattle.rational.specs.Grid.{Whole, Within}
 use Rattle.rational.specs.Extended.{Ext}
-use Rattle.upp_curve.specs.Limits.{Sizes}
-use Rattle.upp_curve.specs.Sized.{times_largest}
-use Rattle.upp_curve.specs.Room.{top}
+use Rattle.upp_limits.specs.Limits.{Sizes}
+use Rattle.upp_limits.specs.Sized.{times_largest}
+use Rattle.upp_normal.specs.Room.{top}
 use Rattle.curve_least.specs.declared.gaps.Gap.{Gap}
 use Rattle.curve_least.specs.declared.gaps.Gap.TheVariants.{NoTime, Never, Is}
 use Rattle.curve_least.specs.Gaps.{InWindow}

@@ -2,11 +2,11 @@
 -- choice.
 use Rattle.std.specs.Prelude.{◌≡◌, Bool, true, false, Option, Some, None}
 use Rattle.rational.specs.Rational.{ℚ, ◌≤ℚ◌, ◌<ℚ◌}
-use Rattle.upp_curve.specs.declared.op_kind.OpKind.TheVariants.{Convolve}
+use Rattle.upp_limits.specs.declared.op_kind.OpKind.TheVariants.{Convolve}
 use Rattle.upp_curve.specs.Curve.{SpecCurve}
-use Rattle.upp_curve.specs.Limits.{Sizes, sizes_of}
-use Rattle.upp_curve.specs.Gauges.{numbers_over}
-use Rattle.upp_curve.specs.Ahead.{HasWindow, IsBeforeNext, AtNext}
+use Rattle.upp_limits.specs.Limits.{Sizes, sizes_of}
+use Rattle.upp_limits.specs.Gauges.{numbers_over}
+use Rattle.upp_normal.specs.Ahead.{HasWindow, IsBeforeNext, AtNext}
 use Rattle.curve_parts.specs.Stretches.{IsSpan}
 
 -- the sizes of both curves' numbers up to the end

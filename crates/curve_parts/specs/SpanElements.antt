@@ -7,9 +7,9 @@ use Rattle.rational.specs.declared.Extended.TheVariants.{Fin}
 use Rattle.affine_segment.specs.declared.line.Piece.{Piece}
 use Rattle.affine_segment.specs.declared.element.Element.{Element}
 use Rattle.affine_segment.specs.Elements.{IsProper, Covers, level}
-use Rattle.upp_curve.specs.Limits.{Sizes}
+use Rattle.upp_limits.specs.Limits.{Sizes}
 use Rattle.affine_segment.specs.Reading.{read}
-use Rattle.upp_curve.specs.Ahead.{IsBeforeNext}
+use Rattle.upp_normal.specs.Ahead.{IsBeforeNext}
 use Rattle.curve_conv.specs.PieceElements.{Among, ElementAt}
 use Rattle.curve_conv.specs.ElementRoom.{OperandElement}
 use Rattle.curve_conv.specs.SumWindows.{SumWindow}

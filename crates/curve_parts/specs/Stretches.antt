@@ -10,11 +10,11 @@ use Rattle.affine_segment.specs.declared.element.Element.{Element}
 use Rattle.affine_segment.specs.declared.element.Element.TheVariants.{Point, Open}
 use Rattle.affine_segment.specs.Elements.{IsProper, Covers, level, PairSplit, pair_sum}
 use Rattle.affine_segment.specs.Values.{line_at, line_value}
-use Rattle.upp_curve.specs.declared.ahead.Stretch.{Stretch}
-use Rattle.upp_curve.specs.Limits.{Sizes}
-use Rattle.upp_curve.specs.Operand.{AreLimited}
-use Rattle.upp_curve.specs.Ahead.{GoesOn, IsBeforeNext, AtNext}
-use Rattle.upp_curve.proofs.AnswerRoom.{IsCrossing}
+use Rattle.upp_normal.specs.declared.ahead.Stretch.{Stretch}
+use Rattle.upp_limits.specs.Limits.{Sizes}
+use Rattle.upp_normal.specs.Operand.{AreLimited}
+use Rattle.upp_normal.specs.Ahead.{GoesOn, IsBeforeNext, AtNext}
+use Rattle.upp_normal.proofs.AnswerRoom.{IsCrossing}
 use Rattle.curve_conv.specs.ElementRoom.{OperandElement}
 use Rattle.curve_conv.specs.SumWindows.{SumStart, SumValueAt, SumLineAt}
 use Rattle.curve_parts.specs.declared.lower.Under.{Under}

@@ -5,8 +5,8 @@ ghost use Rattle.rational.specs.Rational.{ℚ, ◌<ℚ◌};
 ghost use Rattle.rational.specs.Extended.{◌<ₑ◌};
 ghost use Rattle.affine_segment.specs.Values.{line_at};
 ghost use Rattle.affine_segment.specs.Elements.{IsProper, element_value, part_value, joined_value, PairSplit, pair_sum, AreAdjoined};
-ghost use Rattle.upp_curve.specs.Limits.{Sizes};
-ghost use Rattle.upp_curve.specs.Ahead.{GoesOn};
+ghost use Rattle.upp_limits.specs.Limits.{Sizes};
+ghost use Rattle.upp_normal.specs.Ahead.{GoesOn};
 ghost use Rattle.affine_segment.specs.Fits.{LineFits};
 ghost use Rattle.curve_conv.specs.ElementRoom.{OperandElement, SumElement, SumPart, SumJoined, HaveRoom};
 ghost use Rattle.curve_parts.specs.Stretches.{SumStretch, SumTimeIn, IsAhead, end_time, until_time, point_at, open_at, PartPair, part_pair_sum, IsProperPart, OperandPart};
@@ -17,7 +17,7 @@ use curve_conv::joined;
 use fraction128::{Ext, Frac};
 use rational::Extended;
 use std::cmp::Ordering;
-use upp_curve::Stretch;
+use upp_normal::Stretch;
 
 /// Infinity, up to a time.
 pub(crate) fn nothing(next: Option<Frac>) -> Stretch

@@ -5,8 +5,8 @@ ghost use Rattle.rational.specs.Rational.{ℚ, ◌-ℚ◌, ◌<ℚ◌, int};
 ghost use Rattle.rational.specs.MinMax.{max_q};
 ghost use Rattle.rational.specs.Extended.{Ext};
 ghost use Rattle.upp_curve.specs.Curve.{value_at};
-ghost use Rattle.upp_curve.specs.Limits.{Sizes};
-ghost use Rattle.upp_curve.specs.Ahead.{GoesOn};
+ghost use Rattle.upp_limits.specs.Limits.{Sizes};
+ghost use Rattle.upp_normal.specs.Ahead.{GoesOn};
 ghost use Rattle.curve_least.specs.Gaps.{InWindow, IsGap};
 ghost use Rattle.curve_least.specs.GapSteps.{gap_of, larger, DifferenceFits, IsUntil, earlier_of};
 ghost use Rattle.curve_conv.specs.ElementRoom.{WindowTime};
@@ -23,7 +23,7 @@ use affine_segment::Piece;
 use curve_least::Gap;
 use fraction128::{Ext, Frac};
 use rational::Extended;
-use upp_curve::Stretch;
+use upp_normal::Stretch;
 
 // By how much a is above b.
 fn gap_of(a: Ext, b: Ext) -> Gap

@@ -5,8 +5,8 @@ ghost use Rattle.rational.specs.Rational.{ℚ, ◌<ℚ◌};
 ghost use Rattle.rational.specs.MinMax.{min_q};
 ghost use Rattle.rational.specs.Extended.{Ext, min_ext};
 ghost use Rattle.affine_segment.specs.Values.{line_at};
-ghost use Rattle.upp_curve.specs.Limits.{Sizes};
-ghost use Rattle.upp_curve.specs.Ahead.{GoesOn, IsBeforeNext};
+ghost use Rattle.upp_limits.specs.Limits.{Sizes};
+ghost use Rattle.upp_normal.specs.Ahead.{GoesOn, IsBeforeNext};
 ghost use Rattle.curve_window.specs.Lies.{CrossFits};
 ghost use Rattle.curve_parts.specs.Stretches.{SumStretch, SumTimeIn, IsUnder, IsEarliest};
 
@@ -14,7 +14,7 @@ use affine_segment::{Line, cross};
 use fraction128::{Ext, Frac};
 use rational::Extended;
 use std::cmp::Ordering;
-use upp_curve::Stretch;
+use upp_normal::Stretch;
 
 /// The lower of two lines just after a time.
 #[derive(Debug, Clone, Copy)]

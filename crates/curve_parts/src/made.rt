@@ -4,7 +4,7 @@
 ghost use Rattle.std.specs.Prelude.{◌≡◌, ◌++◌, pos, None, OnOk, IfOk, IfSome};
 ghost use Rattle.rational.specs.Rational.{int, ◌<ℚ◌};
 ghost use Rattle.upp_curve.specs.Curve.{value_at};
-ghost use Rattle.upp_curve.specs.Ahead.{AtNext, HasWindow};
+ghost use Rattle.upp_normal.specs.Ahead.{AtNext, HasWindow};
 ghost use Rattle.curve_conv.specs.ElementRoom.{WindowTime};
 ghost use Rattle.curve_conv.specs.SumWindows.{SumStart};
 ghost use Rattle.curve_parts.specs.Parts.{PartSplit, part_sum};
@@ -22,7 +22,9 @@ use curve_conv::envelope;
 use fraction128::{Ext, Frac};
 use rational::Extended;
 use std::alloc::{AllocError, Global};
-use upp_curve::{Curve, OpKind, Stretch, stretch_at, tally_over};
+use upp_curve::Curve;
+use upp_limits::{OpKind, tally_over};
+use upp_normal::{Stretch, stretch_at};
 
 // Appends the point at x, where the value there is a number, and the line after it up to a time that may be missing.
 fn push_elements(

@@ -9,7 +9,8 @@ use crate::number::lead;
 use crate::order::is_slower_curve;
 use crate::rows::Scan;
 use fraction128::Frac;
-use upp_curve::{Curve, OpKind, call_numbers};
+use upp_curve::Curve;
+use upp_limits::{OpKind, call_numbers};
 
 fn whole(n: u128) -> Frac
     requires { n < 2 ^ 126 }

@@ -4,7 +4,7 @@ ghost use Rattle.std.specs.Prelude.{ℕ, ◌≡◌, ◌≢◌, pos, MatchOption}
 ghost use Rattle.rational.specs.Rational.{ℚ, int, ◌-ℚ◌, ◌*ℚ◌, ◌/ℚ◌, ◌≤ℚ◌, ◌<ℚ◌};
 ghost use Rattle.rational.specs.Ratio.{IsSmall};
 ghost use Rattle.upp_curve.specs.Steady.{steady, rise_over};
-ghost use Rattle.upp_curve.specs.Windows.{IsLeast};
+ghost use Rattle.upp_limits.specs.Windows.{IsLeast};
 ghost use Rattle.curve_parts.specs.Late.{IsLateAfter, IsLateNumber, IsLateCall};
 
 use crate::gaps::part_gap;

@@ -5,7 +5,7 @@ ghost use Rattle.std.specs.Prelude.{◌≡◌, ◌⊎◌, Option, None};
 ghost use Rattle.rational.specs.Rational.{ℚ, ◌≤ℚ◌};
 ghost use Rattle.rational.specs.Families.{either};
 ghost use Rattle.upp_curve.specs.Curve.{value_at};
-ghost use Rattle.upp_curve.specs.Ahead.{AtNext};
+ghost use Rattle.upp_normal.specs.Ahead.{AtNext};
 ghost use Rattle.curve_conv.specs.ElementRoom.{WindowTime};
 ghost use Rattle.curve_conv.specs.SumWindows.{SumStart};
 ghost use Rattle.curve_parts.specs.Parts.{PartSplit, part_sum};
@@ -17,7 +17,7 @@ use crate::lower::{is_less, lower};
 use crate::rows::{Scan, difference, early, is_time, row, time_or};
 use affine_segment::Element;
 use fraction128::Frac;
-use upp_curve::{Stretch, stretch_at};
+use upp_normal::{Stretch, stretch_at};
 
 /// The first of two times that may be missing, where it is there.
 pub(crate) fn or_else(next: Option<Frac>, until: &Option<Frac>) -> Option<Frac>

@@ -6,8 +6,8 @@ ghost use Rattle.affine_segment.specs.Values.{line_value};
 ghost use Rattle.affine_segment.specs.Reading.{piece_in, piece_value, read, next_in};
 ghost use Rattle.affine_segment.specs.Pieces.{StartsAtZero};
 ghost use Rattle.affine_segment.specs.Fits.{LineFitsAt};
-ghost use Rattle.upp_curve.specs.Limits.{Sizes};
-ghost use Rattle.upp_curve.specs.Ahead.{GoesOn};
+ghost use Rattle.upp_limits.specs.Limits.{Sizes};
+ghost use Rattle.upp_normal.specs.Ahead.{GoesOn};
 ghost use Rattle.curve_conv.specs.SumWindows.{SumWindow};
 ghost use Rattle.curve_parts.specs.Stretches.{SumStretch, SumTimeIn};
 
@@ -15,7 +15,7 @@ use affine_segment::{Line, Piece, value};
 use fraction128::{Ext, Frac};
 use rational::Extended;
 use std::cmp::Ordering;
-use upp_curve::Stretch;
+use upp_normal::Stretch;
 
 /// The value at t of a line that may be missing.
 pub(crate) fn line_value(line: &Option<Line>, t: Frac) -> Ext

@@ -6,7 +6,7 @@ ghost use Rattle.rational.specs.Ratio.{SumFits};
 ghost use Rattle.rational.specs.Families.{either};
 ghost use Rattle.affine_segment.specs.Elements.{IsProper, start_of};
 ghost use Rattle.upp_curve.specs.Curve.{value_at};
-ghost use Rattle.upp_curve.specs.Limits.{Sizes};
+ghost use Rattle.upp_limits.specs.Limits.{Sizes};
 ghost use Rattle.curve_conv.specs.ElementRoom.{OperandElement, WindowTime};
 ghost use Rattle.curve_conv.specs.SumWindows.{SumStart};
 ghost use Rattle.curve_parts.specs.Scans.{sizes_in, IsScan, IsEarly, is_time, time_or};
@@ -18,7 +18,8 @@ use crate::elements::{nothing, open_at, part_pair, point_at};
 use crate::lower::{is_less, lower};
 use affine_segment::Element;
 use fraction128::Frac;
-use upp_curve::{Curve, Stretch, stretch_at};
+use upp_curve::Curve;
+use upp_normal::{Stretch, stretch_at};
 
 /// Two curves whose pairs of pieces are looked at, up to the end of a window.
 #[derive(Clone, Copy)]

@@ -11,13 +11,13 @@ use Rattle.rational.proofs.Laws.{le_refl, le_of_lt, le_or_lt, le_trans, lt_irref
 use Rattle.rational.proofs.Integers.{nat_nonneg}
 use Rattle.rational.proofs.ExtendedOrder.{le_ext_trans}
 use Rattle.rational.proofs.Bounds.{smallest}
-use Rattle.upp_curve.specs.declared.op_kind.OpKind.TheVariants.{RunSup}
+use Rattle.upp_limits.specs.declared.op_kind.OpKind.TheVariants.{RunSup}
 use Rattle.upp_curve.specs.Curve.{SpecCurve, value_at}
 use Rattle.min_plus.specs.Functions.{zero_q}
 use Rattle.upp_curve.specs.Steady.{Repeats, steady, rise_over}
-use Rattle.upp_curve.specs.Periods.{own_period, periods_after}
-use Rattle.upp_curve.specs.Windows.{IsCovered, IsLeast, Meets}
-use Rattle.upp_curve.proofs.CommonDen.{size_up_within, size_up_least}
+use Rattle.upp_limits.specs.Periods.{own_period, periods_after}
+use Rattle.upp_limits.specs.Windows.{IsCovered, IsLeast, Meets}
+use Rattle.upp_limits.proofs.CommonDen.{size_up_within, size_up_least}
 use Rattle.min_plus.proofs.Rates.{enough}
 use Rattle.upp_curve.proofs.Repeats.{repeats_times}
 use Rattle.curve_running.specs.Scans.{Until, IsSupremumIn}

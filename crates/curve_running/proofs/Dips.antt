@@ -12,8 +12,8 @@ use Rattle.upp_curve.specs.declared.curve.Tail.TheVariants.{Affine}
 use Rattle.upp_curve.specs.Curve.{SpecCurve, value_at, HasSameValues}
 use Rattle.min_plus.specs.Functions.{zero_q, IsFinite, IsNonnegative}
 use Rattle.upp_curve.specs.Normal.{IsRaw}
-use Rattle.upp_curve.specs.WorkedRows.{whole, dip}
-use Rattle.upp_curve.proofs.WorkedRunning.{dip_early, dip_late}
+use Rattle.upp_kinds.specs.WorkedRows.{whole, dip}
+use Rattle.upp_kinds.proofs.WorkedRunning.{dip_early, dip_late}
 
 dip_raw : IsRaw dip
 dip_raw = record {

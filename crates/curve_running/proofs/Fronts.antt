@@ -4,14 +4,14 @@ use Rattle.std.proofs.Common.{arith, get_or, drop-cons, drop_of_length-le, sym, 
 use Rattle.rational.specs.Rational.{ℚ, ◌≤ℚ◌, ◌<ℚ◌, int}
 use Rattle.rational.proofs.Laws.{le_or_lt, lt_irrefl, lt_le_trans, le_lt_trans}
 use Rattle.affine_segment.specs.declared.line.Piece.{Piece}
-use Rattle.upp_curve.specs.Bends.{OnlyBend, BendAfter}
+use Rattle.upp_normal.specs.Bends.{OnlyBend, BendAfter}
 use Rattle.affine_segment.specs.Reading.{read, piece_in, piece_value}
 use Rattle.affine_segment.specs.Pieces.{Each, RisesFrom, StartsAtZero}
 use Rattle.affine_segment.proofs.PieceIn.{piece_in_end, piece_in_go, piece_in_stop}
 use Rattle.curve_window.proofs.Surgery.{one_more}
 use Rattle.curve_running.specs.Runs.{IsFrontBefore}
 use Rattle.affine_segment.proofs.PieceOrder.{heads_same, nil_not_cons, each_left, rises_left}
-use Rattle.upp_curve.proofs.Bends.{bend_front}
+use Rattle.upp_normal.proofs.Bends.{bend_front}
 
 -- ---- the loop
 pub record FrontLoop (ps : List Piece) (end : ℚ) (i : ℕ) (front : List Piece) : Type 0 where

@@ -11,22 +11,22 @@ use Rattle.rational.proofs.Linear.{with2}
 use Rattle.rational.proofs.Bounds.{same_infimum}
 use Rattle.rational.proofs.ExtendedOrder.{same_le_ext}
 use Rattle.affine_segment.specs.declared.line.Piece.{Piece}
-use Rattle.upp_curve.specs.declared.op_kind.OpKind.TheVariants.{RunInf}
+use Rattle.upp_limits.specs.declared.op_kind.OpKind.TheVariants.{RunInf}
 use Rattle.affine_segment.specs.Reading.{read}
 use Rattle.upp_curve.specs.Curve.{SpecCurve, value_at, repeated}
 use Rattle.min_plus.specs.Functions.{zero_q, IsFinite, IsNonnegative}
 use Rattle.affine_segment.specs.Pieces.{Each, StartsAtZero}
-use Rattle.upp_curve.specs.Normalising.{HasValues}
-use Rattle.upp_curve.specs.Room.{PieceHasRoom}
+use Rattle.upp_normal.specs.Normalising.{HasValues}
+use Rattle.upp_normal.specs.Room.{PieceHasRoom}
 use Rattle.min_plus.specs.Running.{IsRunningInfimum}
 use Rattle.upp_curve.specs.Steady.{Repeats, rise_over}
-use Rattle.upp_curve.specs.Periods.{own_period, periods_after}
-use Rattle.upp_curve.specs.Limits.{Sizes}
-use Rattle.upp_curve.specs.Sized.{grid_of, times_largest}
-use Rattle.upp_curve.specs.Operand.{OperandPieces, answer_room}
+use Rattle.upp_limits.specs.Periods.{own_period, periods_after}
+use Rattle.upp_limits.specs.Limits.{Sizes}
+use Rattle.upp_limits.specs.Sized.{grid_of, times_largest}
+use Rattle.upp_normal.specs.Operand.{OperandPieces, answer_room}
 use Rattle.upp_curve.specs.Unrolled.{unroll}
-use Rattle.upp_curve.specs.Windows.{window_at}
-use Rattle.upp_curve.proofs.Bends.{bends_on}
+use Rattle.upp_limits.specs.Windows.{window_at}
+use Rattle.upp_normal.proofs.Bends.{bends_on}
 use Rattle.curve_call.specs.declared.frame.Frame.{Frame}
 use Rattle.curve_call.specs.Answering.{IsAnswerWindow}
 use Rattle.curve_call.specs.Frames.{IsFrame, sizes_at}

@@ -15,15 +15,15 @@ use Rattle.rational.proofs.Sizes.{quotient_on_grid}
 use Rattle.affine_segment.specs.declared.line.Line.{Line}
 use Rattle.affine_segment.specs.declared.line.Piece.{Piece}
 use Rattle.affine_segment.specs.Values.{line_at, line_value}
-use Rattle.upp_curve.specs.Bends.{LineOn, NumbersOn, SlopeTurns, BendAfter, OnlyBend}
+use Rattle.upp_normal.specs.Bends.{LineOn, NumbersOn, SlopeTurns, BendAfter, OnlyBend}
 use Rattle.affine_segment.specs.Pieces.{Each, HasStart, StartsAtZero, RisesFrom, start_after}
 use Rattle.upp_curve.specs.Readable.{EachFits, LineFitsTo}
-use Rattle.upp_curve.specs.Limits.{Sizes}
-use Rattle.upp_curve.specs.Sized.{grid_of, times_largest, IsSlope, AreSizes}
-use Rattle.upp_curve.specs.Operand.{AreLimited, OperandLine, OperandLineAt, OperandPiece, OperandPieces, answer_room}
-use Rattle.upp_curve.specs.Room.{top, LineHasRoom, PieceHasRoom, TimeHasRoom}
-use Rattle.upp_curve.proofs.NarrowSizes.{grid_pos}
-use Rattle.upp_curve.proofs.AnswerRoom.{tight, AnswerLine, line_in_room, operand_line_room, operand_line_fits, OperandValue, OperandValueAt, stands_operand_value, operand_line_value, values_fit, operand_value_room, operand_lines_fit, halves_apart, IsCrossing, crossing_from, crossing_room, room_at_start, many_more, more_largest}
+use Rattle.upp_limits.specs.Limits.{Sizes}
+use Rattle.upp_limits.specs.Sized.{grid_of, times_largest, IsSlope, AreSizes}
+use Rattle.upp_normal.specs.Operand.{AreLimited, OperandLine, OperandLineAt, OperandPiece, OperandPieces, answer_room}
+use Rattle.upp_normal.specs.Room.{top, LineHasRoom, PieceHasRoom, TimeHasRoom}
+use Rattle.upp_limits.proofs.NarrowSizes.{grid_pos}
+use Rattle.upp_normal.proofs.AnswerRoom.{tight, AnswerLine, line_in_room, operand_line_room, operand_line_fits, OperandValue, OperandValueAt, stands_operand_value, operand_line_value, values_fit, operand_value_room, operand_lines_fit, halves_apart, IsCrossing, crossing_from, crossing_room, room_at_start, many_more, more_largest}
 use Rattle.curve_running.specs.Scans.{start_or, flat, IsLevel, HasLine, MeetingFits, ScanFits}
 use Rattle.curve_running.specs.Made.{IsMeeting, IsMade, TurnsAfter, IsScan}
 

@@ -7,7 +7,7 @@ use Rattle.rational.specs.declared.Extended.TheVariants.{Fin}
 use Rattle.rational.proofs.MinMax.{max_q_one, min_q_one}
 use Rattle.affine_segment.specs.declared.line.Line.{Line}
 use Rattle.affine_segment.specs.declared.line.Piece.{Piece}
-use Rattle.upp_curve.specs.Bends.{SlopeTurns}
+use Rattle.upp_normal.specs.Bends.{SlopeTurns}
 use Rattle.affine_segment.specs.Pieces.{Each, HasStart}
 use Rattle.curve_running.specs.declared.stretch.Stretch.{Stretch}
 use Rattle.curve_running.specs.declared.bend.Bend.{Bend}

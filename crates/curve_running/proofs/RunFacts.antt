@@ -9,31 +9,31 @@ use Rattle.rational.proofs.Grid.{whole_neg, within_neg}
 use Rattle.rational.proofs.Laws.{le_refl, le_of_lt, le_trans}
 use Rattle.rational.proofs.Linear.{with3}
 use Rattle.affine_segment.specs.declared.line.Piece.{Piece}
-use Rattle.upp_curve.specs.declared.op_kind.OpKind.TheVariants.{RunSup, RunInf}
+use Rattle.upp_limits.specs.declared.op_kind.OpKind.TheVariants.{RunSup, RunInf}
 use Rattle.affine_segment.specs.Reading.{read, piece_in, piece_value}
 use Rattle.upp_curve.specs.Curve.{SpecCurve, value_at}
 use Rattle.upp_curve.specs.Curves.{IsCurve}
 use Rattle.min_plus.specs.Functions.{zero_q, IsFinite, IsNonnegative}
-use Rattle.upp_curve.specs.Gauges.{numbers_over, gauge_at}
+use Rattle.upp_limits.specs.Gauges.{numbers_over, gauge_at}
 use Rattle.affine_segment.specs.Pieces.{Each, StartsAtZero}
 use Rattle.upp_curve.specs.Shapes.{IsFinitePiece, IsNumber}
 use Rattle.upp_curve.specs.Steady.{Repeats, steady, rise_over, IsWholePeriods}
-use Rattle.upp_curve.specs.Periods.{own_period}
-use Rattle.upp_curve.specs.Limits.{Sizes, curve_numbers}
-use Rattle.upp_curve.specs.Sized.{Stands, grid_of, times_largest}
-use Rattle.upp_curve.specs.Operand.{AreLimited, OperandPieces}
+use Rattle.upp_limits.specs.Periods.{own_period}
+use Rattle.upp_limits.specs.Limits.{Sizes, curve_numbers}
+use Rattle.upp_limits.specs.Sized.{Stands, grid_of, times_largest}
+use Rattle.upp_normal.specs.Operand.{AreLimited, OperandPieces}
 use Rattle.upp_curve.specs.Unrolled.{unroll}
-use Rattle.upp_curve.specs.Unrolling.{IsOperandTo}
-use Rattle.upp_curve.specs.Windows.{window_at}
-use Rattle.upp_curve.proofs.AnswerRoom.{wide_narrow}
-use Rattle.upp_curve.proofs.Below.{unroll_reads}
+use Rattle.upp_normal.specs.Unrolling.{IsOperandTo}
+use Rattle.upp_limits.specs.Windows.{window_at}
+use Rattle.upp_normal.proofs.AnswerRoom.{wide_narrow}
+use Rattle.upp_normal.proofs.Below.{unroll_reads}
 use Rattle.upp_curve.proofs.Finite.{pieces_finite, number_of}
-use Rattle.upp_curve.proofs.GaugeRises.{limited_over}
-use Rattle.upp_curve.proofs.NarrowSizes.{small_sum}
-use Rattle.upp_curve.proofs.Stands.{sizes_stand}
+use Rattle.upp_normal.proofs.GaugeRises.{limited_over}
+use Rattle.upp_limits.proofs.NarrowSizes.{small_sum}
+use Rattle.upp_limits.proofs.Stands.{sizes_stand}
 use Rattle.upp_curve.proofs.Steady.{steady_rule}
-use Rattle.upp_curve.proofs.UnrolledPieces.{operand_pieces, unroll_starts, unroll_before}
-use Rattle.upp_curve.proofs.UnrollSteps.{time_whole, time_within}
+use Rattle.upp_normal.proofs.UnrolledPieces.{operand_pieces, unroll_starts, unroll_before}
+use Rattle.upp_normal.proofs.UnrollSteps.{time_whole, time_within}
 use Rattle.curve_call.specs.declared.frame.Frame.{Frame}
 use Rattle.curve_call.specs.declared.windows.CallWindow.{CallWindow}
 use Rattle.curve_call.specs.CallWindows.{IsWindow as IsCallWindow}

@@ -24,28 +24,28 @@ use Rattle.upp_curve.specs.Curve.{SpecCurve, value_at}
 use Rattle.min_plus.specs.Functions.{zero_q, IsFinite}
 use Rattle.affine_segment.specs.Pieces.{Each}
 use Rattle.upp_curve.specs.Normal.{IsNormal}
-use Rattle.upp_curve.specs.Spans.{spans}
+use Rattle.upp_limits.specs.Spans.{spans}
 use Rattle.upp_curve.specs.Steady.{Repeats, steady, rise_over, IsWholePeriods}
-use Rattle.upp_curve.specs.declared.op_kind.OpKind.TheVariants.{RunSup}
-use Rattle.upp_curve.specs.Periods.{own_period}
-use Rattle.upp_curve.specs.Windows.{IsLeast, Meets}
-use Rattle.upp_curve.specs.Limits.{Sizes, own_end}
-use Rattle.upp_curve.specs.Sized.{grid_of, times_largest, AreSizes, SpanStands, ValueStands, LineStands}
-use Rattle.upp_curve.specs.Operand.{AreLimited, OperandLine, OperandLineAt, OperandPieces}
-use Rattle.upp_curve.specs.Room.{top}
-use Rattle.upp_curve.proofs.CurveStands.{curve_stands, starts_below_own_end}
-use Rattle.upp_curve.proofs.NarrowSizes.{grid_pos, line_parts}
-use Rattle.upp_curve.proofs.PieceLists.{starts_nonneg}
+use Rattle.upp_limits.specs.declared.op_kind.OpKind.TheVariants.{RunSup}
+use Rattle.upp_limits.specs.Periods.{own_period}
+use Rattle.upp_limits.specs.Windows.{IsLeast, Meets}
+use Rattle.upp_limits.specs.Limits.{Sizes, own_end}
+use Rattle.upp_limits.specs.Sized.{grid_of, times_largest, AreSizes, SpanStands, ValueStands, LineStands}
+use Rattle.upp_normal.specs.Operand.{AreLimited, OperandLine, OperandLineAt, OperandPieces}
+use Rattle.upp_normal.specs.Room.{top}
+use Rattle.upp_limits.proofs.CurveStands.{curve_stands, starts_below_own_end}
+use Rattle.upp_limits.proofs.NarrowSizes.{grid_pos, line_parts}
+use Rattle.upp_limits.proofs.PieceLists.{starts_nonneg}
 use Rattle.upp_curve.proofs.Repeats.{repeated_first}
 use Rattle.upp_curve.proofs.RisingCurves.{GoesOn, finite_pieces_by_tail, infinite_is_not_finite}
 use Rattle.upp_curve.proofs.Steady.{steady_rule}
-use Rattle.upp_curve.proofs.AnswerRoom.{tight, OperandValue, operand_line_fits, operand_line_value, values_fit}
+use Rattle.upp_normal.proofs.AnswerRoom.{tight, OperandValue, operand_line_fits, operand_line_value, values_fit}
 use Rattle.curve_call.proofs.CurveRises.{IsRise, rise_is, own_whole}
 use Rattle.curve_running.specs.Scans.{IsWindow, IsSupremumIn, Until}
 use Rattle.curve_running.specs.Between.{FitsAtBoth, IsLevelBetween}
 use Rattle.curve_running.specs.Periods.{CoverFits, IsFirstPeriod, IsCovering, IsSupremumCall, IsCoveredAfter}
 use Rattle.curve_running.proofs.LevelSizes.{EachOperand, level_value, line_operand, scan_fits}
-use Rattle.upp_curve.proofs.AnswerRoom.{many_more}
+use Rattle.upp_normal.proofs.AnswerRoom.{many_more}
 use Rattle.curve_running.proofs.Covers.{no_fall, least_by_cover, covered_by_cover, least_flat, least_from_zero}
 
 -- sizes hold a shorter window

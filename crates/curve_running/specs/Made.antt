@@ -5,7 +5,7 @@ use Rattle.rational.specs.declared.Extended.TheVariants.{Fin}
 use Rattle.affine_segment.specs.declared.line.Line.{Line}
 use Rattle.affine_segment.specs.declared.line.Piece.{Piece}
 use Rattle.affine_segment.specs.Values.{line_at}
-use Rattle.upp_curve.specs.Bends.{SlopeTurns}
+use Rattle.upp_normal.specs.Bends.{SlopeTurns}
 use Rattle.affine_segment.specs.Reading.{read}
 use Rattle.affine_segment.specs.Pieces.{Each, HasStart, StartsAtZero}
 use Rattle.min_plus.specs.Running.{IsRunningSupremum}

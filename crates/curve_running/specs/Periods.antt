@@ -11,10 +11,10 @@ use Rattle.upp_curve.specs.Curve.{SpecCurve, value_at}
 use Rattle.upp_curve.specs.Curves.{IsCurve}
 use Rattle.min_plus.specs.Functions.{zero_q, IsFinite, IsNonnegative}
 use Rattle.upp_curve.specs.Steady.{steady, rise_over}
-use Rattle.upp_curve.specs.Periods.{own_period, periods_after}
-use Rattle.upp_curve.specs.Limits.{Sizes, curve_numbers}
-use Rattle.upp_curve.specs.Sized.{Stands}
-use Rattle.upp_curve.specs.Operand.{AreLimited}
+use Rattle.upp_limits.specs.Periods.{own_period, periods_after}
+use Rattle.upp_limits.specs.Limits.{Sizes, curve_numbers}
+use Rattle.upp_limits.specs.Sized.{Stands}
+use Rattle.upp_normal.specs.Operand.{AreLimited}
 use Rattle.curve_running.specs.Scans.{IsWindow, ScanFits, IsSupremumIn}
 use Rattle.curve_running.specs.Between.{FitsAtBoth, IsLevelBetween}
 

@@ -1,10 +1,10 @@
 //! The running infimum of a curve.
 
 ghost use Rattle.std.specs.Prelude.{◌≡◌, ◌+◌, IfOk};
-ghost use Rattle.upp_curve.specs.declared.op_kind.OpKind.TheVariants.{RunInf};
+ghost use Rattle.upp_limits.specs.declared.op_kind.OpKind.TheVariants.{RunInf};
 ghost use Rattle.upp_curve.specs.Curve.{value_at};
 ghost use Rattle.min_plus.specs.Functions.{IsFinite, IsNonnegative};
-ghost use Rattle.upp_curve.specs.Outcome.{KeepsLimits};
+ghost use Rattle.upp_limits.specs.Outcome.{KeepsLimits};
 ghost use Rattle.curve_call.specs.Frames.{IsFrame};
 ghost use Rattle.curve_running.specs.Runs.{RunsFrom, IsFrontBefore};
 
@@ -16,7 +16,9 @@ use std::alloc::{AllocError, Global};
 use std::cmp::Ordering;
 use std::sync::ledger::Ledger;
 use steps::Steps;
-use upp_curve::{Curve, OpFault, OpKind};
+use upp_curve::Curve;
+use upp_limits::{OpFault, OpKind};
+use upp_normal::unrolled;
 
 /// The pieces up to the first that starts at `end` or later.
 pub fn front_before(alloc: Global, pieces: &[Piece], end: Frac) -> Result<Vec<Piece>, AllocError>
@@ -39,7 +41,7 @@ fn infimum_within(alloc: Global, f: &Curve, frame: &Frame) -> Result<Curve, Allo
     requires frame { IsFrame RunInf f.now f.now 0 0 frame.now }
     ensures { IfOk result (RunsFrom f.now) }
 {
-    let pieces = f.unrolled(frame.end)?;
+    let pieces = unrolled(f, frame.end)?;
     let scanned = infimum_scan(alloc, &pieces, frame.end)?;
     let front = front_before(alloc, &scanned, sum(frame.start, frame.period))?;
     let rise = rise_over(f, frame.period);

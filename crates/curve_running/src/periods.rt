@@ -3,9 +3,9 @@
 ghost use Rattle.std.specs.Prelude.{◌≡◌, ◌<◌, pos};
 ghost use Rattle.rational.specs.Rational.{int, ◌<ℚ◌, ◌+ℚ◌};
 ghost use Rattle.rational.specs.Ratio.{SumFits};
-ghost use Rattle.upp_curve.specs.declared.op_kind.OpKind.TheVariants.{RunSup};
+ghost use Rattle.upp_limits.specs.declared.op_kind.OpKind.TheVariants.{RunSup};
 ghost use Rattle.affine_segment.specs.Reading.{read};
-ghost use Rattle.upp_curve.specs.Windows.{IsLeast, Meets};
+ghost use Rattle.upp_limits.specs.Windows.{IsLeast, Meets};
 ghost use Rattle.curve_running.specs.Periods.{IsCover, CoverFits, IsFirstPeriod, IsCovering, IsSupremumCall, IsCoveredAfter};
 
 use crate::between::supremum_between;

@@ -3,12 +3,12 @@
 ghost use Rattle.std.specs.Prelude.{◌≡◌, ◌+◌, ◌≤◌, ◌^◌, IfOk, MatchOption};
 ghost use Rattle.rational.specs.Rational.{◌-ℚ◌, neg_ℚ};
 ghost use Rattle.rational.specs.Ratio.{SumFits};
-ghost use Rattle.upp_curve.specs.declared.op_kind.OpKind.TheVariants.{RunSup};
+ghost use Rattle.upp_limits.specs.declared.op_kind.OpKind.TheVariants.{RunSup};
 ghost use Rattle.upp_curve.specs.Curve.{value_at};
 ghost use Rattle.upp_curve.specs.Curves.{IsCurve};
 ghost use Rattle.min_plus.specs.Functions.{IsFinite, IsNonnegative};
-ghost use Rattle.upp_curve.specs.Gauges.{gauge_at};
-ghost use Rattle.upp_curve.specs.Outcome.{KeepsLimits};
+ghost use Rattle.upp_limits.specs.Gauges.{gauge_at};
+ghost use Rattle.upp_limits.specs.Outcome.{KeepsLimits};
 ghost use Rattle.curve_call.specs.Frames.{IsFrame};
 ghost use Rattle.curve_running.specs.Runs.{RunsUpTo, IsNumberOf};
 
@@ -19,7 +19,9 @@ use fraction128::{Frac, difference};
 use std::alloc::{AllocError, Global};
 use std::sync::ledger::Ledger;
 use steps::Steps;
-use upp_curve::{Curve, OpFault, OpKind};
+use upp_curve::Curve;
+use upp_limits::{OpFault, OpKind};
+use upp_normal::unrolled;
 
 // The least number of periods of the call; none where already the window without any period is too wide.
 fn least_number(f: &Curve) -> Option<u128>
@@ -46,7 +48,7 @@ fn supremum_within(alloc: Global, f: &Curve, k: u128, frame: &Frame) -> Result<C
     ensures value { IfOk result (RunsUpTo f.now) }
     ensures finite { IfOk result (λ c. IsFinite (value_at c)) }
 {
-    let pieces = f.unrolled(frame.end)?;
+    let pieces = unrolled(f, frame.end)?;
     let scanned = supremum_scan(alloc, &pieces, frame.end)?;
     let rise = rise_over(f, frame.period);
     let from = difference(frame.end, frame.period);

@@ -3,7 +3,7 @@
 ghost use Rattle.std.specs.Prelude.{◌≡◌, ◌<◌, pos, Some, IfOk};
 ghost use Rattle.rational.specs.Rational.{int};
 ghost use Rattle.upp_curve.specs.Curve.{HasSameValues};
-ghost use Rattle.upp_curve.specs.WorkedRows.{dip};
+ghost use Rattle.upp_kinds.specs.WorkedRows.{dip};
 
 use crate::{run_inf, run_sup};
 use affine_segment::{Line, Piece};
@@ -15,7 +15,9 @@ use std::marker::Brand;
 use std::sync::ledger::{Blank, Ledger};
 use std::test::Fail;
 use steps::Steps;
-use upp_curve::{Curve, OpFault, RawCurve, Tail, normalise};
+use upp_curve::{Curve, Tail};
+use upp_limits::OpFault;
+use upp_normal::{RawCurve, normalise};
 
 fn whole(n: i128) -> Frac {
     match Frac::new(n, 1) {

@@ -14,13 +14,13 @@ use Rattle.rational.proofs.Linear.{with2}
 use Rattle.affine_segment.specs.declared.line.Line.{Line}
 use Rattle.affine_segment.specs.declared.line.Piece.{Piece}
 use Rattle.affine_segment.specs.Values.{line_at, line_value}
-use Rattle.upp_curve.specs.Limits.{Sizes}
-use Rattle.upp_curve.specs.Sized.{grid_of, times_largest}
+use Rattle.upp_limits.specs.Limits.{Sizes}
+use Rattle.upp_limits.specs.Sized.{grid_of, times_largest}
 use Rattle.affine_segment.specs.Pieces.{Each}
-use Rattle.upp_curve.specs.Room.{TimeHasRoom, ValueHasRoom, LineHasRoom, PieceHasRoom}
-use Rattle.upp_curve.specs.Operand.{AreLimited, OperandLineAt, answer_room}
-use Rattle.upp_curve.specs.Bends.{ValueOn, LineOn, NumbersOn, SlopeTurns, BendAfter, OnlyBend}
-use Rattle.upp_curve.proofs.AnswerRoom.{OperandValue, OperandValueAt, AnswerValue, AnswerLine, IsCrossing, values_fit, operand_lines_fit, crossing_not_wide, crossing_of_lines, crossing_room, line_fits_in, line_in_room, line_value_in, operand_line, difference_of_lines, value_difference_stands, answer_value_room, room_at_start, more_largest}
+use Rattle.upp_normal.specs.Room.{TimeHasRoom, ValueHasRoom, LineHasRoom, PieceHasRoom}
+use Rattle.upp_normal.specs.Operand.{AreLimited, OperandLineAt, answer_room}
+use Rattle.upp_normal.specs.Bends.{ValueOn, LineOn, NumbersOn, SlopeTurns, BendAfter, OnlyBend}
+use Rattle.upp_normal.proofs.AnswerRoom.{OperandValue, OperandValueAt, AnswerValue, AnswerLine, IsCrossing, values_fit, operand_lines_fit, crossing_not_wide, crossing_of_lines, crossing_room, line_fits_in, line_in_room, line_value_in, operand_line, difference_of_lines, value_difference_stands, answer_value_room, room_at_start, more_largest}
 use Rattle.curve_window.specs.declared.stretch.Both.{Both}
 use Rattle.curve_window.specs.declared.made.Made.{Made}
 use Rattle.curve_window.specs.declared.made.Made.TheVariants.{Lower, Upper, Excess}

@@ -10,15 +10,15 @@ use Rattle.affine_segment.specs.declared.line.Line.{Line}
 use Rattle.affine_segment.specs.declared.line.Piece.{Piece}
 use Rattle.affine_segment.specs.Reading.{read, piece_in, piece_value, line_in}
 use Rattle.affine_segment.specs.Pieces.{Each, HasStart}
-use Rattle.upp_curve.specs.Limits.{Sizes}
-use Rattle.upp_curve.specs.Sized.{grid_of}
-use Rattle.upp_curve.proofs.NormaliseGrids.{ValueOn, LineOn, PieceOn}
-use Rattle.upp_curve.specs.Operand.{answer_room, AreLimited, OperandLineAt, OperandPiece, OperandPieces}
+use Rattle.upp_limits.specs.Limits.{Sizes}
+use Rattle.upp_limits.specs.Sized.{grid_of}
+use Rattle.upp_normal.proofs.NormaliseGrids.{ValueOn, LineOn, PieceOn}
+use Rattle.upp_normal.specs.Operand.{answer_room, AreLimited, OperandLineAt, OperandPiece, OperandPieces}
 use Rattle.affine_segment.proofs.PieceIn.{value_past, value_at_start}
 use Rattle.affine_segment.proofs.PieceOrder.{each_map}
-use Rattle.upp_curve.proofs.NormaliseRoomy.{each_in, found_early}
-use Rattle.upp_curve.proofs.AnswerRoom.{OperandValueAt, stands_operand_value, operand_line_value, operand_line_fits, values_fit, operand_lines_fit, sum_of_lines, line_in_room, room_at_start, value_sum_stands, answer_value_room}
-use Rattle.upp_curve.specs.Room.{ValueHasRoom, LineHasRoom, PieceHasRoom}
+use Rattle.upp_normal.proofs.NormaliseRoomy.{each_in, found_early}
+use Rattle.upp_normal.proofs.AnswerRoom.{OperandValueAt, stands_operand_value, operand_line_value, operand_line_fits, values_fit, operand_lines_fit, sum_of_lines, line_in_room, room_at_start, value_sum_stands, answer_value_room}
+use Rattle.upp_normal.specs.Room.{ValueHasRoom, LineHasRoom, PieceHasRoom}
 use Prim.Native.Nat.{◌∣◌}
 use Rattle.curve_window.specs.declared.stretch.Both.{Both}
 use Rattle.curve_window.specs.Stretches.{IsBothOf, CutsFit}

@@ -11,13 +11,13 @@ use Rattle.affine_segment.specs.Reading.{read}
 use Rattle.upp_curve.specs.Curve.{repeated}
 use Rattle.affine_segment.specs.Pieces.{Each}
 use Rattle.upp_curve.specs.Normal.{FitsPeriod}
-use Rattle.upp_curve.specs.Normalising.{OnGridsUnlessLine}
-use Rattle.upp_curve.specs.Limits.{Sizes}
-use Rattle.upp_curve.specs.Sized.{grid_of}
-use Rattle.upp_curve.proofs.NarrowSizes.{slope_time_divides}
-use Rattle.upp_curve.proofs.NormaliseGrids.{PieceOn, raw_on}
+use Rattle.upp_normal.specs.Normalising.{OnGridsUnlessLine}
+use Rattle.upp_limits.specs.Limits.{Sizes}
+use Rattle.upp_limits.specs.Sized.{grid_of}
+use Rattle.upp_limits.proofs.NarrowSizes.{slope_time_divides}
+use Rattle.upp_normal.proofs.NormaliseGrids.{PieceOn, raw_on}
 use Rattle.affine_segment.proofs.PieceOrder.{each_map}
-use Rattle.upp_curve.proofs.Bends.{bends_on}
+use Rattle.upp_normal.proofs.Bends.{bends_on}
 use Rattle.curve_window.specs.Pointwise.{IsSumPiece, IsWindowSum}
 use Rattle.curve_window.specs.Operands.{AreOperands, IsMadeOf}
 use Rattle.curve_window.proofs.OperandWindows.{StartsWithRoom, sum_room}

@@ -8,8 +8,8 @@ use Rattle.rational.proofs.Grid.{whole_int, within_nonneg}
 use Rattle.rational.proofs.Integers.{int_mul, nat_le, nat_lt, nat_nonneg}
 use Rattle.rational.proofs.Laws.{le_refl}
 use Rattle.affine_segment.specs.declared.line.Piece.{Piece}
-use Rattle.upp_curve.specs.Limits.{Sizes, gauge_of}
-use Rattle.upp_curve.specs.Operand.{AreLimited, OperandPieces}
+use Rattle.upp_limits.specs.Limits.{Sizes, gauge_of}
+use Rattle.upp_normal.specs.Operand.{AreLimited, OperandPieces}
 use Rattle.curve_window.specs.Stretches.{CutsFit}
 use Rattle.curve_window.specs.Pointwise.{SumsFit}
 use Rattle.curve_window.specs.Operands.{AreOperands, HaveSizes}

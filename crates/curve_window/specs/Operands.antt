@@ -5,11 +5,11 @@ use Rattle.rational.specs.Extended.{Ext}
 use Rattle.affine_segment.specs.declared.line.Piece.{Piece}
 use Rattle.affine_segment.specs.Reading.{read}
 use Rattle.affine_segment.specs.Pieces.{Each, StartsAtZero}
-use Rattle.upp_curve.specs.Limits.{Sizes}
-use Rattle.upp_curve.specs.Sized.{grid_of}
-use Rattle.upp_curve.specs.Operand.{AreLimited, OperandPieces, answer_room}
-use Rattle.upp_curve.specs.Room.{PieceHasRoom}
-use Rattle.upp_curve.specs.Bends.{OnlyBend}
+use Rattle.upp_limits.specs.Limits.{Sizes}
+use Rattle.upp_limits.specs.Sized.{grid_of}
+use Rattle.upp_normal.specs.Operand.{AreLimited, OperandPieces, answer_room}
+use Rattle.upp_normal.specs.Room.{PieceHasRoom}
+use Rattle.upp_normal.specs.Bends.{OnlyBend}
 
 -- the unrolled pieces of two operands of one call, below the end of its window
 pub record AreOperands (z : Sizes) (end : ℚ) (f g : List Piece) : Type 0 where

@@ -12,7 +12,8 @@ use curve_envelope::{pos_minus, scale};
 use std::alloc::Global;
 use std::sync::ledger::Ledger;
 use steps::Steps;
-use upp_curve::{Curve, OpFault};
+use upp_curve::Curve;
+use upp_limits::OpFault;
 
 /// The service of one queue of a deficit round robin server whose curve is `beta`: with the queue's quantum Q, the
 /// sum F of the quanta, the queue's longest packet l and the sum L of all queues' longest packets, at each time the

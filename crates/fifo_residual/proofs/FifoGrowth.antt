@@ -1,5 +1,5 @@
 -- What first in, first out leaves of a finite service grows from zero.
-use Rattle.upp_curve.specs.declared.op_kind.OpKind.TheVariants.{FifoLeft}
+use Rattle.upp_limits.specs.declared.op_kind.OpKind.TheVariants.{FifoLeft}
 use Rattle.upp_curve.specs.Curve.{value_at}
 use Rattle.curve_call.proofs.GrowingAnswers.{growing_answers}
 use Rattle.fifo_residual.specs.Growth.{FifoServiceGrows, FifoCurveGrows}

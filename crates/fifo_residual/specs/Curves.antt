@@ -3,7 +3,7 @@ use Rattle.std.specs.Prelude.{ℕ, pos, List, Ok}
 use Rattle.rational.specs.Rational.{ℚ, int}
 use Rattle.rational.specs.Extended.{Ext, ◌≤ₑ◌}
 use Rattle.rational.specs.declared.Extended.TheVariants.{Fin}
-use Rattle.upp_curve.specs.declared.op_kind.OpKind.TheVariants.{FifoLeft}
+use Rattle.upp_limits.specs.declared.op_kind.OpKind.TheVariants.{FifoLeft}
 use Rattle.upp_curve.specs.Curve.{SpecCurve, value_at}
 use Rattle.run_laws.specs.Cards.{Class, IsOfQueue, AreParts, ServerStep}
 use Rattle.run_laws.specs.Servers.{Server}

@@ -4,7 +4,7 @@ use Rattle.std.specs.Prelude.{Ok}
 use Rattle.rational.specs.Rational.{ℚ}
 use Rattle.rational.specs.Extended.{Ext, ◌≤ₑ◌}
 use Rattle.rational.specs.declared.Extended.TheVariants.{Fin}
-use Rattle.upp_curve.specs.declared.op_kind.OpKind.TheVariants.{FifoLeft}
+use Rattle.upp_limits.specs.declared.op_kind.OpKind.TheVariants.{FifoLeft}
 use Rattle.upp_curve.specs.Curve.{SpecCurve, value_at}
 use Rattle.min_plus.specs.Functions.{zero_q, IsFinite}
 use Rattle.curve_call.specs.Calls.{Applies}

@@ -1,7 +1,7 @@
 //! What the other flows of a first in, first out queue leave to one.
 
 ghost use Rattle.std.specs.Prelude.{◌≡◌, ◌+◌, IfOk};
-ghost use Rattle.upp_curve.specs.declared.op_kind.OpKind.TheVariants.{FifoLeft};
+ghost use Rattle.upp_limits.specs.declared.op_kind.OpKind.TheVariants.{FifoLeft};
 ghost use Rattle.upp_curve.specs.Curve.{value_at};
 ghost use Rattle.min_plus.specs.Deviations.{IsHorizontalDeviation};
 ghost use Rattle.min_plus.specs.Functions.{IsFinite, IsRising, IsNonnegative};
@@ -14,7 +14,8 @@ use fraction128::Ext;
 use std::alloc::Global;
 use std::sync::ledger::Ledger;
 use steps::Steps;
-use upp_curve::{Curve, OpFault};
+use upp_curve::Curve;
+use upp_limits::OpFault;
 
 /// The service of a flow of a first in, first out queue that is served by `beta`, where the other flows of the queue
 /// keep the curve `cross`: what first in, first out leaves of beta, by the wait `theta` (Le Boudec and Thiran, chapter

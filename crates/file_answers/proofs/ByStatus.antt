@@ -1,6 +1,6 @@
 -- Which reply on a file has which status.
 use Rattle.std.proofs.Common.{◌≡◌, ℕ, List, inl, inr, ap}
-use Rattle.upp_curve.specs.declared.own_limits.OverLimit.TheVariants.{TooMany, TooWide}
+use Rattle.upp_limits.specs.declared.own_limits.OverLimit.TheVariants.{TooMany, TooWide}
 use Rattle.file_answers.specs.Replies.{Reply}
 use Rattle.file_answers.specs.OnFiles.{IsBroken, IsOverLimit, HasCycle, IsReport, IsReplyOn, Broken, CurveOver}
 use Rattle.file_answers.specs.OnFiles.{Cyclic, CellOver, Reported}

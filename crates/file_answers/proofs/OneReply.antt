@@ -1,8 +1,8 @@
 -- Two replies on one file are the same, but for the choice among cycles.
 use Rattle.std.proofs.Common.{◌≡◌, ℕ, List, ◌⊎◌, inl, inr, refl, sym, ap, ◌∙◌, subst}
-use Rattle.upp_curve.specs.LimitTest.{fault_of}
-use Rattle.upp_curve.specs.declared.own_limits.OverLimit.{OverLimit}
-use Rattle.upp_curve.specs.declared.own_limits.OverLimit.TheVariants.{TooMany, TooWide}
+use Rattle.upp_limits.specs.LimitTest.{fault_of}
+use Rattle.upp_limits.specs.declared.own_limits.OverLimit.{OverLimit}
+use Rattle.upp_limits.specs.declared.own_limits.OverLimit.TheVariants.{TooMany, TooWide}
 use Rattle.net_model.specs.Accepted.{IsAccepted}
 use Rattle.net_model.specs.Networks.{Net}
 use Rattle.net_model.specs.Orders.{IsOrder}

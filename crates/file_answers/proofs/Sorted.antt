@@ -1,7 +1,7 @@
 -- The replies on a file, sorted by what the file gives: a fault or a network; of a network, by cycle or order.
 use Rattle.std.proofs.Common.{◌≡◌, ℕ, List, map, ◌⊎◌, inl, inr, sym, ◌∙◌}
-use Rattle.upp_curve.specs.LimitTest.{fault_of}
-use Rattle.upp_curve.specs.declared.own_limits.OverLimit.{OverLimit}
+use Rattle.upp_limits.specs.LimitTest.{fault_of}
+use Rattle.upp_limits.specs.declared.own_limits.OverLimit.{OverLimit}
 use Rattle.net_model.specs.Networks.{Net}
 use Rattle.net_model.specs.Orders.{IsOrder}
 use Rattle.net_model.specs.Walks.{IsCycle}

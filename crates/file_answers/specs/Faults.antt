@@ -1,6 +1,6 @@
 -- The reply on the fault of a file, by its kind.
 use Rattle.std.specs.Prelude.{ℕ, List}
-use Rattle.upp_curve.specs.declared.own_limits.OverLimit.TheVariants as limits
+use Rattle.upp_limits.specs.declared.own_limits.OverLimit.TheVariants as limits
 use Rattle.net_model.specs.declared.fault.NetKind.{NetKind}
 use Rattle.net_model.specs.declared.fault.NetKind.TheVariants.{CurveTooMany, CurveTooWide}
 use Rattle.net_draft.specs.Faults.{Fault}

@@ -1,7 +1,7 @@
 -- What holds of the replies on a file.
 use Rattle.std.specs.Prelude.{◌≡◌, ◌≢◌, ℕ, List, Some, codes}
 use Rattle.rational.specs.declared.Extended.TheVariants.{Inf}
-use Rattle.upp_curve.specs.declared.op_kind.OpFault.{OpFault}
+use Rattle.upp_limits.specs.declared.op_kind.OpFault.{OpFault}
 use Rattle.net_model.specs.Networks.{Net}
 use Rattle.net_model.specs.Orders.{IsOrder}
 use Rattle.net_model.specs.Walks.{IsFeedForward}

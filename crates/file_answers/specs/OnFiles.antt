@@ -1,8 +1,8 @@
 -- What is answered on the bytes of a file: by its first fault, or by its network; by a cycle, or by the order of the
 -- servers; by the first cell over a limit, or by a table of all cells.
 use Rattle.std.specs.Prelude.{◌≡◌, ◌⊎◌, ℕ, List, map, Err}
-use Rattle.upp_curve.specs.LimitTest.{fault_of}
-use Rattle.upp_curve.specs.declared.own_limits.OverLimit.{OverLimit}
+use Rattle.upp_limits.specs.LimitTest.{fault_of}
+use Rattle.upp_limits.specs.declared.own_limits.OverLimit.{OverLimit}
 use Rattle.net_model.specs.Networks.{Net}
 use Rattle.net_model.specs.Accepted.{IsAccepted}
 use Rattle.net_model.specs.Orders.{IsOrder}

@@ -6,7 +6,7 @@ ghost use Rattle.net_draft.specs.Faults.{fault_of};
 ghost use Rattle.net_model.specs.declared.fault.NetKind.TheVariants as kinds;
 ghost use Rattle.report_text.specs.CellWords.{cell_words, server_name};
 ghost use Rattle.report_text.specs.Refusals.{refusal_line};
-ghost use Rattle.upp_curve.specs.declared.own_limits.OverLimit.TheVariants as limits;
+ghost use Rattle.upp_limits.specs.declared.own_limits.OverLimit.TheVariants as limits;
 ghost use Rattle.file_answers.specs.Faults.{fault_reply};
 ghost use Rattle.file_answers.specs.Replies as replies;
 ghost use Rattle.file_answers.specs.View.{code_of, reply_of};

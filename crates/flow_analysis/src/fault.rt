@@ -5,7 +5,7 @@ ghost use Rattle.flow_analysis.specs.Analyses.{fault_at};
 
 use cell_table::AnalysisFault;
 use net_cells::Cell;
-use upp_curve::OpFault;
+use upp_limits::OpFault;
 
 // Why there is no table, where this is why a cell has no value.
 pub(crate) fn refusal(cell: Cell, fault: OpFault) -> AnalysisFault

@@ -3,7 +3,7 @@ use Rattle.std.specs.Prelude.{◌≡◌, ℕ, Some}
 use Rattle.std.proofs.Common.{sym, ◌∙◌}
 use Rattle.rational.specs.Rational.{ℚ}
 use Rattle.rational.specs.Extended.{Ext}
-use Rattle.upp_curve.specs.declared.op_kind.OpKind.TheVariants.{PosMinus}
+use Rattle.upp_limits.specs.declared.op_kind.OpKind.TheVariants.{PosMinus}
 use Rattle.upp_curve.specs.Curve.{value_at}
 use Rattle.min_plus.specs.Functions.{FiniteTime}
 use Rattle.min_plus.specs.Pointwise.{packetised}

@@ -4,7 +4,7 @@ use Rattle.std.proofs.Common.{arith, sym, refl, subst}
 use Rattle.std.proofs.lemmas.Bool.{lt-ltb}
 use Rattle.rational.specs.Rational.{ℚ, ◌≤ℚ◌}
 use Rattle.rational.specs.Extended.{Ext, min_ext}
-use Rattle.upp_curve.specs.declared.op_kind.OpKind.TheVariants.{Min, Shift, FifoLeft, Deconvolve}
+use Rattle.upp_limits.specs.declared.op_kind.OpKind.TheVariants.{Min, Shift, FifoLeft, Deconvolve}
 use Rattle.upp_curve.specs.Curve.{value_at}
 use Rattle.min_plus.specs.Functions.{zero_q}
 use Rattle.min_plus.specs.Pointwise.{packetised, shifted}

@@ -3,7 +3,7 @@ use Rattle.std.proofs.Common.{◌≡◌, ℕ, List, [], ◌∷◌, refl, sym, ap
 use Rattle.std.specs.Prelude.{Some}
 use Rattle.rational.specs.Extended.{Ext, min_ext}
 use Rattle.rational.proofs.Bounds.{supremum_unique}
-use Rattle.upp_curve.specs.declared.op_kind.OpKind.TheVariants.{Shift, FifoLeft}
+use Rattle.upp_limits.specs.declared.op_kind.OpKind.TheVariants.{Shift, FifoLeft}
 use Rattle.upp_curve.specs.Curve.{SpecCurve, value_at}
 use Rattle.min_plus.specs.Deviations.{IsHorizontalDeviation, IsVerticalDeviation}
 use Rattle.upp_curve.proofs.OneForm.{normal_unique}

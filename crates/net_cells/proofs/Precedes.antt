@@ -4,7 +4,7 @@ use Rattle.std.specs.Prelude.{is_some, ◌&&◌, Option, Some, None, not, ◌==�
 use Rattle.std.specs.List.{flat_map, range_with_len}
 use Rattle.std.proofs.lemmas.Bool.{lt-ltb, ltb-true, eqb-true, and_parts}
 use Rattle.std.proofs.lemmas.List.{get_or_default}
-use Rattle.upp_curve.specs.declared.op_kind.OpKind.TheVariants.{Sum}
+use Rattle.upp_limits.specs.declared.op_kind.OpKind.TheVariants.{Sum}
 use Rattle.run_laws.specs.Servers.{Discipline, Fifo, Priority, Drr, queue_count}
 use Rattle.net_model.specs.Networks.{Net, NetServer, NetFlow}
 use Rattle.net_model.specs.Accepted.{IsAccepted}

@@ -2,7 +2,7 @@
 use Rattle.std.proofs.Common.{◌≡◌, List, [], ◌∷◌, ◌++◌, refl, sym, ◌∙◌, inl, inr}
 use Rattle.std.specs.Prelude.{Ok, Err}
 use Rattle.rational.specs.Extended.{Ext, min_ext}
-use Rattle.upp_curve.specs.declared.op_kind.OpKind.TheVariants.{Shift, FifoLeft, Horizontal, Vertical}
+use Rattle.upp_limits.specs.declared.op_kind.OpKind.TheVariants.{Shift, FifoLeft, Horizontal, Vertical}
 use Rattle.upp_curve.specs.Curve.{SpecCurve, value_at}
 use Rattle.min_plus.specs.Deviations.{IsHorizontalDeviation, IsVerticalDeviation}
 use Rattle.curve_call.specs.Answers.{IsMadeBy}

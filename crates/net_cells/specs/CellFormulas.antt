@@ -4,7 +4,7 @@
 use Rattle.std.specs.Prelude.{ℕ, zero, suc, ◌-◌, List, [], ◌∷◌, length, map}
 use Rattle.std.specs.List.{range_with_len}
 use Rattle.rational.specs.Rational.{ℚ}
-use Rattle.upp_curve.specs.declared.op_kind.OpKind.TheVariants.{Sum, Min, PosMinus, Convolve, Deconvolve}
+use Rattle.upp_limits.specs.declared.op_kind.OpKind.TheVariants.{Sum, Min, PosMinus, Convolve, Deconvolve}
 use Rattle.run_laws.specs.Cards.{whole}
 use Rattle.run_laws.specs.Servers.{Discipline, Fifo, Priority, Drr}
 use Rattle.net_model.specs.Networks.{Net}

@@ -2,7 +2,7 @@
 -- are made. (Own choice of the form; the operators are those of Le Boudec and Thiran.)
 use Rattle.std.specs.Prelude.{ℕ, ◌+◌, List, [], ◌∷◌, ◌++◌}
 use Rattle.rational.specs.Rational.{ℚ}
-use Rattle.upp_curve.specs.declared.op_kind.OpKind.{OpKind}
+use Rattle.upp_limits.specs.declared.op_kind.OpKind.{OpKind}
 use Rattle.upp_curve.specs.Curve.{SpecCurve}
 use Rattle.net_cells.specs.declared.cell.Cell.{Cell}
 

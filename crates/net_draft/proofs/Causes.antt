@@ -7,7 +7,7 @@ use Rattle.upp_curve.specs.Curve.{SpecCurve, value_at}
 use Rattle.min_plus.specs.Functions.{zero_q, IsRising}
 use Rattle.min_plus.specs.Continuity.{IsContinuous}
 use Rattle.upp_curve.specs.Kinds.{stair, rate_latency, gate}
-use Rattle.upp_curve.specs.OwnLimits.{IsWithinOwn}
+use Rattle.upp_limits.specs.OwnLimits.{IsWithinOwn}
 use Rattle.curve_library.specs.declared.texts.PieceText.{PieceText}
 use Rattle.curve_library.specs.declared.texts.TailText.{TailText}
 use Rattle.curve_library.specs.declared.texts.UseAs.{UseAs}

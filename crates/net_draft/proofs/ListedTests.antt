@@ -17,8 +17,8 @@ use Rattle.upp_curve.specs.Normal.{IsRaw}
 use Rattle.upp_curve.specs.Shapes.{LineRises, EndsBelow, PieceRises, PiecesRise}
 use Rattle.min_plus.specs.Continuity.{IsContinuous}
 use Rattle.upp_curve.specs.JoinedPieces.{EndsAtValue, PieceJoins, PiecesJoin}
-use Rattle.upp_curve.specs.Limits.{own_gauge, own_tally}
-use Rattle.upp_curve.specs.OwnLimits.{IsWithinOwn}
+use Rattle.upp_limits.specs.Limits.{own_gauge, own_tally}
+use Rattle.upp_limits.specs.OwnLimits.{IsWithinOwn}
 use Rattle.upp_curve.proofs.RisingCurves.{GoesOn}
 use Rattle.curve_library.specs.declared.texts.PieceText.{PieceText}
 use Rattle.curve_library.specs.declared.texts.TailText.{TailText}

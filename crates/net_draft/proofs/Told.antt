@@ -7,8 +7,8 @@ use Rattle.upp_curve.specs.Curve.{SpecCurve, value_at}
 use Rattle.min_plus.specs.Functions.{zero_q, IsRising}
 use Rattle.min_plus.specs.Continuity.{IsContinuous}
 use Rattle.upp_curve.specs.Kinds.{bucket, stair, rate_latency, gate}
-use Rattle.upp_curve.specs.OwnLimits.{IsOver, IsWithinOwn}
-use Rattle.upp_curve.specs.declared.own_limits.OverLimit.{OverLimit}
+use Rattle.upp_limits.specs.OwnLimits.{IsOver, IsWithinOwn}
+use Rattle.upp_limits.specs.declared.own_limits.OverLimit.{OverLimit}
 use Rattle.upp_curve.proofs.RisingCurves.{GoesOn}
 use Rattle.curve_library.specs.declared.texts.PieceText.{PieceText}
 use Rattle.curve_library.specs.declared.texts.TailText.{TailText}

@@ -1,7 +1,7 @@
 -- A network has one order at most.
 use Rattle.std.proofs.Common.{◌≡◌, ℕ, suc, zero, ◌<◌, ◌≤◌, ◌+◌, List, [], ◌∷◌, ◌++◌, length, get_or, take, refl, sym, ◌∙◌, ap, subst, arith, add-one}
 use Rattle.std.proofs.lemmas.List.{take_all, take_more}
-use Rattle.upp_curve.specs.Windows.{IsLeast}
+use Rattle.upp_limits.specs.Windows.{IsLeast}
 use Rattle.net_model.specs.Networks.{Net}
 use Rattle.net_model.specs.Orders.{IsReady, IsOrder}
 use Rattle.net_graph.specs.OrderLaws.{OneOrder}

@@ -7,7 +7,7 @@ use Rattle.std.proofs.lemmas.List.Elements.{All-contains}
 use Rattle.rational.specs.Rational.{ℚ, ◌≤ℚ◌, ◌<ℚ◌}
 use Rattle.upp_curve.specs.Curve.{SpecCurve, value_at}
 use Rattle.min_plus.specs.Functions.{zero_q}
-use Rattle.upp_curve.specs.declared.own_limits.OverLimit.{OverLimit}
+use Rattle.upp_limits.specs.declared.own_limits.OverLimit.{OverLimit}
 use Rattle.run_laws.specs.Servers.{Discipline, queue_count}
 use Rattle.closure_laws.proofs.KeptShapes.{closures_keep}
 use Rattle.net_model.specs.declared.server.ServiceKind.{ServiceKind}

@@ -2,7 +2,7 @@
 use Rattle.std.specs.Prelude.{IfOk, IfErr}
 use Rattle.std.proofs.Common.{◌≡◌, ℕ, Bool, true, false, List, Result, Ok, Err, subst, inr, true≢false, sym}
 use Rattle.upp_curve.specs.Curve.{SpecCurve}
-use Rattle.upp_curve.specs.declared.own_limits.OverLimit.{OverLimit}
+use Rattle.upp_limits.specs.declared.own_limits.OverLimit.{OverLimit}
 use Rattle.net_model.specs.Accepted.{IsArrivalCurve}
 use Rattle.net_draft.specs.declared.curve_draft.CurveDraft.{CurveDraft}
 use Rattle.net_draft.specs.declared.fault.DraftFault.{DraftFault}

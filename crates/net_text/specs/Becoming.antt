@@ -2,8 +2,8 @@
 use Rattle.std.specs.Prelude.{◌≡◌, ◌⊎◌, ℕ, List, Bool, true, false, Result, Ok, Err}
 use Rattle.upp_curve.specs.Curve.{SpecCurve}
 use Rattle.upp_curve.specs.Curves.{IsCurve}
-use Rattle.upp_curve.specs.declared.own_limits.OverLimit.{OverLimit}
-use Rattle.upp_curve.specs.declared.own_limits.OverLimit.TheVariants.{TooMany, TooWide}
+use Rattle.upp_limits.specs.declared.own_limits.OverLimit.{OverLimit}
+use Rattle.upp_limits.specs.declared.own_limits.OverLimit.TheVariants.{TooMany, TooWide}
 use Rattle.net_model.specs.declared.fault.NetKind.{NetKind}
 use Rattle.net_model.specs.declared.fault.NetKind.TheVariants.{CurveTooMany, CurveTooWide, NoMemory}
 use Rattle.net_model.specs.declared.fault.NetFault.{NetFault}

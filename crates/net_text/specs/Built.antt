@@ -2,7 +2,7 @@
 use Rattle.std.specs.Prelude.{◌≡◌, map, Option, Some, Ok}
 use Rattle.std.specs.List.{AllZip}
 use Rattle.upp_curve.specs.Curve.{SpecCurve}
-use Rattle.upp_curve.specs.declared.own_limits.OverLimit.{OverLimit}
+use Rattle.upp_limits.specs.declared.own_limits.OverLimit.{OverLimit}
 use Rattle.net_model.specs.Networks.{Net, NetServer, NetFlow}
 use Rattle.net_draft.specs.Laws.{kind_of}
 use Rattle.net_draft.specs.Texts.{ServerText, FlowText, DraftText}

@@ -18,7 +18,8 @@ use net_draft::{DraftFault, FlowDraft};
 use std::alloc::Global;
 use std::sync::ledger::Ledger;
 use steps::Steps;
-use upp_curve::{Curve, OpFault, OverLimit};
+use upp_curve::Curve;
+use upp_limits::{OpFault, OverLimit};
 
 /// The closure of the arrival curve of the flow of a number.
 fn closure_of<C: Closer, L: Ledger>(

@@ -3,12 +3,13 @@
 ghost use Rattle.std.specs.Prelude.{◌≤◌, ◌+◌, ℕ};
 ghost use Rattle.upp_curve.specs.Curve.{SpecCurve, value_at};
 ghost use Rattle.min_plus.specs.Functions.{IsFinite, IsNonnegative};
-ghost use Rattle.upp_curve.specs.declared.own_limits.OverLimit.{OverLimit};
+ghost use Rattle.upp_limits.specs.declared.own_limits.OverLimit.{OverLimit};
 ghost use Rattle.net_text.specs.Closing.{KeepsClosing, HasOneLimit};
 
 use std::sync::ledger::Ledger;
 use steps::Steps;
-use upp_curve::{Curve, OpFault};
+use upp_curve::Curve;
+use upp_limits::OpFault;
 
 /// What makes the subadditive closure of a curve, by a fold of operators on curves.
 pub trait Closer {

@@ -7,7 +7,7 @@ ghost use Rattle.net_text.specs.Becoming.{limit_kind};
 use net_draft::{DraftFault, fault_under, nth};
 use net_model::NetKind;
 use std::alloc::Global;
-use upp_curve::OverLimit;
+use upp_limits::OverLimit;
 
 /// The kind of fault of a curve that is over a limit.
 fn limit_kind(limit: OverLimit) -> NetKind

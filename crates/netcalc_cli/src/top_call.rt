@@ -1,7 +1,7 @@
 //! The top call.
 
 ghost use Rattle.std.specs.Prelude.{◌≡◌, ◌≢◌, ◌⊎◌, None, IfSome};
-ghost use Rattle.upp_curve.specs.declared.own_limits.OverLimit.TheVariants as limits;
+ghost use Rattle.upp_limits.specs.declared.own_limits.OverLimit.TheVariants as limits;
 ghost use Rattle.net_model.specs.Networks.{Net};
 ghost use Rattle.net_cells.specs.Meanings.{CellTable};
 ghost use Rattle.file_answers.specs.OnFiles.{IsBroken, IsOverLimit, HasCycle, IsReportOf};

@@ -3,10 +3,10 @@ use Rattle.std.specs.Prelude.{◌≡◌, Result, Ok, Err}
 use Rattle.upp_curve.specs.Curve.{SpecCurve, value_at}
 use Rattle.upp_curve.specs.Curves.{IsCurve}
 use Rattle.min_plus.specs.Functions.{IsFinite, IsNonnegative}
-use Rattle.upp_curve.specs.declared.own_limits.OverLimit.{OverLimit}
-use Rattle.upp_curve.specs.declared.own_limits.OverLimit.TheVariants as limits
-use Rattle.upp_curve.specs.declared.op_kind.OpFault.{OpFault}
-use Rattle.upp_curve.specs.declared.op_kind.OpFault.TheVariants.{TooMany, TooWide, NoMemory}
+use Rattle.upp_limits.specs.declared.own_limits.OverLimit.{OverLimit}
+use Rattle.upp_limits.specs.declared.own_limits.OverLimit.TheVariants as limits
+use Rattle.upp_limits.specs.declared.op_kind.OpFault.{OpFault}
+use Rattle.upp_limits.specs.declared.op_kind.OpFault.TheVariants.{TooMany, TooWide, NoMemory}
 use Rattle.curve_call.specs.Calls.{goes_on, stops}
 use Rattle.closure_fold.specs.Folds.{CloseAnswer}
 use Rattle.closure_fold.proofs.FoldStars.{close_answer}

@@ -9,7 +9,8 @@ use std::alloc::Global;
 use std::sync::ledger::Ledger;
 use steps::Steps;
 use subadd_closure::close;
-use upp_curve::{Curve, OpFault};
+use upp_curve::Curve;
+use upp_limits::OpFault;
 
 /// Closures by the fold of the closures of a curve's parts.
 #[derive(Drop)]

@@ -5,7 +5,7 @@ use Rattle.rational.specs.Rational.{ℚ, den, ◌+ℚ◌}
 use Rattle.rational.specs.Extended.{Ext}
 use Rattle.rational.specs.declared.Extended.TheVariants.{Fin, Inf}
 use Rattle.rational.specs.Gauge.{lcm}
-use Rattle.upp_curve.proofs.Gathering.{den_more}
+use Rattle.upp_limits.proofs.Gathering.{den_more}
 use Rattle.net_cells.specs.NumberSums.{has_infinite, finite}
 use Rattle.number_sums.specs.declared.numbers.Tally.{Tally}
 use Rattle.number_sums.specs.declared.numbers.Added.{Added}

@@ -3,7 +3,7 @@ use Rattle.std.proofs.Common.{◌≡◌, ℕ, zero, suc, ◌+◌, ◌*◌, ◌^�
 use Rattle.std.specs.Prelude.{Ok, Err}
 use Rattle.std.specs.List.{AllByRecursion}
 use Rattle.std.proofs.lemmas.Bool.{cases_lt}
-use Rattle.upp_curve.specs.declared.op_kind.OpFault.TheVariants.{TooMany, TooWide}
+use Rattle.upp_limits.specs.declared.op_kind.OpFault.TheVariants.{TooMany, TooWide}
 use Rattle.std.proofs.lemmas.Nat.Gcd.{le_of_dvd}
 use Rattle.rational.specs.Rational.{ℚ, int, den, ◌+ℚ◌, ◌*ℚ◌, ◌≤ℚ◌, ◌<ℚ◌, neg_ℚ}
 use Rattle.rational.specs.Extended.{Ext, ◌+ₑ◌}
@@ -18,8 +18,8 @@ use Rattle.rational.proofs.Laws.{le_refl, le_trans, le_or_lt, add_assoc, add_com
 use Rattle.rational.proofs.MinMax.{max_q_ge_left, max_q_ge_right, max_q_one, max_q_right, max_q_is_left}
 use Rattle.rational.proofs.Linear.{with1, with2}
 use Rattle.min_plus.specs.Functions.{zero_q}
-use Rattle.upp_curve.proofs.CommonDen.{common_den_each, common_den_least, common_den_pos, size_up_within}
-use Rattle.upp_curve.proofs.Gathering.{den_more}
+use Rattle.upp_limits.proofs.CommonDen.{common_den_each, common_den_least, common_den_pos, size_up_within}
+use Rattle.upp_limits.proofs.Gathering.{den_more}
 use Rattle.net_cells.specs.NumberSums.{total, has_infinite, finite, sizes, sum_gauge, sum_tally, Sums}
 use Rattle.number_sums.specs.Tallies.{size_of, plus, gauge_of, IsNarrow}
 

@@ -10,7 +10,7 @@ ghost use Rattle.number_sums.specs.Tallies.{Tallies, IsTallied, AreAdded, IsNarr
 use fraction128::{Ext, Frac, Wide, least_common_multiple};
 use rational::Extended;
 use std::cmp::Ordering;
-use upp_curve::OpFault;
+use upp_limits::OpFault;
 
 fn lesser_of(a: Frac, b: Frac) -> Frac
     ensures { result ≡ min_q a b }

@@ -2,7 +2,7 @@
 use Rattle.std.specs.Prelude.{Ok}
 use Rattle.rational.specs.Rational.{ℚ, ◌≤ℚ◌}
 use Rattle.rational.specs.Extended.{Ext}
-use Rattle.upp_curve.specs.declared.op_kind.OpKind.TheVariants.{PosMinus}
+use Rattle.upp_limits.specs.declared.op_kind.OpKind.TheVariants.{PosMinus}
 use Rattle.upp_curve.specs.Curve.{SpecCurve, value_at}
 use Rattle.min_plus.specs.Functions.{zero_q}
 use Rattle.min_plus.specs.Pointwise.{IsPositiveMinus}

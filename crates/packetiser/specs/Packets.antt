@@ -1,7 +1,7 @@
 -- The curve that serves whole packets, as a call makes it. (Le Boudec and Thiran, packetisers.)
 use Rattle.std.specs.Prelude.{ℕ, List, Ok}
 use Rattle.rational.specs.Rational.{ℚ}
-use Rattle.upp_curve.specs.declared.op_kind.OpKind.TheVariants.{PosMinus}
+use Rattle.upp_limits.specs.declared.op_kind.OpKind.TheVariants.{PosMinus}
 use Rattle.upp_curve.specs.Curve.{SpecCurve, value_at}
 use Rattle.run_laws.specs.Cards.{Class, whole, ServerStep}
 use Rattle.run_laws.specs.Servers.{Server}

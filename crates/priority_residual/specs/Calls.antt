@@ -3,8 +3,8 @@
 -- the order of the calls is own choice.)
 use Rattle.std.specs.Prelude.{◌≡◌, ℕ, List, Result, Ok}
 use Rattle.rational.specs.Rational.{ℚ}
-use Rattle.upp_curve.specs.declared.op_kind.OpKind.TheVariants.{PosDiff, PosMinus, RunSup}
-use Rattle.upp_curve.specs.declared.op_kind.OpFault.{OpFault}
+use Rattle.upp_limits.specs.declared.op_kind.OpKind.TheVariants.{PosDiff, PosMinus, RunSup}
+use Rattle.upp_limits.specs.declared.op_kind.OpFault.{OpFault}
 use Rattle.upp_curve.specs.Curve.{SpecCurve, value_at}
 use Rattle.run_laws.specs.Cards.{whole, of_queue, before_queue, after_queue, ServerStep}
 use Rattle.run_laws.specs.Servers.{Priority, Server}

@@ -13,7 +13,8 @@ use fraction128::Frac;
 use std::alloc::Global;
 use std::sync::ledger::Ledger;
 use steps::Steps;
-use upp_curve::{Curve, OpFault};
+use upp_curve::Curve;
+use upp_limits::OpFault;
 
 fn whole(bits: u32) -> Frac
     ensures { result ≡ whole bits }

@@ -20,13 +20,13 @@ use Rattle.min_plus.specs.Functions.{zero_q}
 use Rattle.affine_segment.specs.Pieces.{Each, StartsAtZero}
 use Rattle.upp_curve.specs.Normal.{IsRaw, IsNormal}
 use Rattle.upp_curve.specs.Steady.{rank_of, steady}
-use Rattle.upp_curve.specs.Periods.{own_period}
-use Rattle.upp_curve.specs.Spans.{spans}
-use Rattle.upp_curve.specs.Limits.{Sizes, own_end, own_sizes, own_gauge}
-use Rattle.upp_curve.specs.Sized.{TailStands, SpanStands, grid_of, times_largest}
-use Rattle.upp_curve.specs.Operand.{AreLimited}
-use Rattle.upp_curve.proofs.CurveStands.{own_are_sizes, own_stands, starts_below_own_end}
-use Rattle.upp_curve.proofs.StretchSizes.{time_whole, time_within, times_fit, small_quotient}
+use Rattle.upp_limits.specs.Periods.{own_period}
+use Rattle.upp_limits.specs.Spans.{spans}
+use Rattle.upp_limits.specs.Limits.{Sizes, own_end, own_sizes, own_gauge}
+use Rattle.upp_limits.specs.Sized.{TailStands, SpanStands, grid_of, times_largest}
+use Rattle.upp_normal.specs.Operand.{AreLimited}
+use Rattle.upp_limits.proofs.CurveStands.{own_are_sizes, own_stands, starts_below_own_end}
+use Rattle.upp_normal.proofs.StretchSizes.{time_whole, time_within, times_fit, small_quotient}
 use Rattle.curve_conv.specs.PieceElements.{next_start, elements_of, Among}
 use Rattle.curve_conv.proofs.Members.{among_cases}
 use Rattle.curve_conv.proofs.Cover.{head, head_cases, cover}

@@ -4,9 +4,9 @@ use Rattle.std.specs.Prelude.{◌≡◌, ℕ, Option, Some, None, Result, Ok, Er
 use Rattle.std.proofs.Common.{sym, refl, ap, ◌∙◌, subst}
 use Rattle.rational.specs.Rational.{ℚ}
 use Rattle.affine_segment.specs.declared.element.Element.{Element}
-use Rattle.upp_curve.specs.declared.op_kind.OpKind.TheVariants.{Min, Convolve}
-use Rattle.upp_curve.specs.declared.op_kind.OpFault.{OpFault}
-use Rattle.upp_curve.specs.declared.op_kind.OpFault.TheVariants.{NoMemory}
+use Rattle.upp_limits.specs.declared.op_kind.OpKind.TheVariants.{Min, Convolve}
+use Rattle.upp_limits.specs.declared.op_kind.OpFault.{OpFault}
+use Rattle.upp_limits.specs.declared.op_kind.OpFault.TheVariants.{NoMemory}
 use Rattle.upp_curve.specs.Curve.{SpecCurve}
 use Rattle.curve_call.specs.Calls.{Applies, Then, goes_on, stops}
 use Rattle.closure_elements.specs.ElementAnswers.{IsElementClosure}

@@ -6,10 +6,10 @@ use Rattle.rational.specs.Extended.{Ext}
 use Rattle.affine_segment.specs.declared.line.Line.{Line}
 use Rattle.affine_segment.specs.declared.element.Element.{Element}
 use Rattle.affine_segment.specs.declared.element.Element.TheVariants.{Open}
-use Rattle.upp_curve.specs.declared.op_kind.OpFault.{OpFault}
-use Rattle.upp_curve.specs.declared.op_kind.OpFault.TheVariants.{TooMany, TooWide, NoMemory}
+use Rattle.upp_limits.specs.declared.op_kind.OpFault.{OpFault}
+use Rattle.upp_limits.specs.declared.op_kind.OpFault.TheVariants.{TooMany, TooWide, NoMemory}
 use Rattle.upp_curve.specs.Curve.{SpecCurve}
-use Rattle.upp_curve.specs.Limits.{own_gauge}
+use Rattle.upp_limits.specs.Limits.{own_gauge}
 use Rattle.closure_elements.specs.ElementCurves.{IsStretch}
 use Rattle.closure_fold.specs.Folds.{segment_number, SegmentWithin}
 use Rattle.curve_conv.specs.PieceElements.{elements_of, Among}

@@ -6,7 +6,7 @@ ghost use Rattle.upp_curve.specs.Curve.{value_at};
 ghost use Rattle.min_plus.specs.Convolution.{IsSubadditiveClosure};
 ghost use Rattle.upp_curve.specs.Curves.{IsCurve};
 ghost use Rattle.min_plus.specs.Functions.{IsFinite, IsNonnegative, zero_q};
-ghost use Rattle.upp_curve.specs.declared.op_kind.OpKind.TheVariants.{Convolve};
+ghost use Rattle.upp_limits.specs.declared.op_kind.OpKind.TheVariants.{Convolve};
 ghost use Rattle.curve_conv.specs.PieceElements.{elements_of};
 ghost use Rattle.curve_call.specs.Calls.{Applies, Then};
 ghost use Rattle.closure_laws.specs.ClosureLaws.{ClosureKeeps};
@@ -27,7 +27,8 @@ use rational::Extended;
 use std::alloc::Global;
 use std::sync::ledger::Ledger;
 use steps::Steps;
-use upp_curve::{Curve, OpFault};
+use upp_curve::Curve;
+use upp_limits::OpFault;
 
 // What the parts so far make, convolved with the star of one more element.
 fn with_star<L: Ledger>(

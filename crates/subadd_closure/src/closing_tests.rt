@@ -7,7 +7,8 @@ use rational::Extended;
 use std::marker::Brand;
 use std::sync::ledger::Blank;
 use std::test::Fail;
-use upp_curve::{OpFault, Tail, equal};
+use upp_curve::{Tail, equal};
+use upp_limits::OpFault;
 
 // n / 4.
 fn quarter(n: i128) -> Frac {

@@ -13,7 +13,8 @@ use affine_segment::Line;
 use curve_call::first_window;
 use fraction128::{Ext, Frac, difference, is_less, quotient};
 use rational::Extended;
-use upp_curve::{Curve, OpFault, OpKind, call_numbers};
+use upp_curve::Curve;
+use upp_limits::{OpFault, OpKind, call_numbers};
 
 /// The gauge of a curve by itself; None where it is 2^120 or more. No memory is taken.
 pub(crate) fn own_gauge(f: &Curve) -> Option<u128>

@@ -17,7 +17,8 @@ use fraction128::Frac;
 use std::alloc::Global;
 use std::sync::ledger::Ledger;
 use steps::Steps;
-use upp_curve::{Curve, OpFault, Tail};
+use upp_curve::{Curve, Tail};
+use upp_limits::OpFault;
 
 // The period and the rise of the copies of an element of a curve with this tail.
 fn turn_of(tail: &Tail, e: &Element) -> Option<(Frac, Frac)>

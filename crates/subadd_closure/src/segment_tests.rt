@@ -7,7 +7,8 @@ use rational::Extended;
 use std::alloc::Global;
 use std::cmp::Ordering;
 use std::test::Fail;
-use upp_curve::{Curve, OpFault};
+use upp_curve::Curve;
+use upp_limits::OpFault;
 
 // n / 2.
 fn half(n: i128) -> Frac {

@@ -11,7 +11,8 @@ use curve_lattice::min;
 use std::alloc::Global;
 use std::sync::ledger::Ledger;
 use steps::Steps;
-use upp_curve::{Curve, OpFault, equal};
+use upp_curve::{Curve, equal};
+use upp_limits::OpFault;
 
 /// Whether f(s + u) is at most f(s) + f(u) for all times s and u from 0 on (Le Boudec and Thiran, chapter 3); f may be
 /// infinite anywhere. Two operators, one step each: the convolution of f with itself, and the lesser of f and that,

@@ -164,7 +164,7 @@ impl Curve {
 
     /// The allocator of the pieces.
     #[inline]
-    pub(crate) fn allocator(&self) -> Global
+    pub fn allocator(&self) -> Global
         ensures { IsCurve self.now }
     {
         *self.pieces.allocator()

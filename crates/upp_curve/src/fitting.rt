@@ -21,8 +21,8 @@ pub(crate) fn raised(v: Ext, by: Frac) -> Ext
     }
 }
 
-// The line, `by` later and `rise` higher.
-pub(crate) fn line_later(by: Frac, rise: Frac, line: Option<Line>) -> Option<Line>
+/// The line, `by` later and `rise` higher.
+pub fn line_later(by: Frac, rise: Frac, line: Option<Line>) -> Option<Line>
     requires { LineLaterFits by rise line }
     ensures { result ≡ line_later by rise line }
 {
@@ -40,7 +40,7 @@ pub(crate) fn line_later(by: Frac, rise: Frac, line: Option<Line>) -> Option<Lin
 }
 
 /// The piece, `by` later and `rise` higher.
-pub(crate) fn later(by: Frac, rise: Frac, p: &Piece) -> Piece
+pub fn later(by: Frac, rise: Frac, p: &Piece) -> Piece
     requires { LaterFits by rise p.now }
     ensures { result ≡ later by rise p.now }
 {

@@ -7,7 +7,8 @@ use affine_segment::{Line, Piece};
 use fraction128::Ext;
 use rational::Extended;
 
-pub(crate) fn same_ext(a: Ext, b: Ext) -> bool
+/// Whether two values are one.
+pub fn same_ext(a: Ext, b: Ext) -> bool
     ensures { IsTrue result ↔ (a ≡ b) }
 {
     match a {
@@ -28,7 +29,8 @@ fn same_line(a: Line, b: Line) -> bool
     a.icept == b.icept && a.slope == b.slope
 }
 
-pub(crate) fn same_lines(a: Option<Line>, b: Option<Line>) -> bool
+/// Whether two lines, or the want of them, are one.
+pub fn same_lines(a: Option<Line>, b: Option<Line>) -> bool
     ensures { IsTrue result ↔ (a ≡ b) }
 {
     match (a, b) {
@@ -38,7 +40,8 @@ pub(crate) fn same_lines(a: Option<Line>, b: Option<Line>) -> bool
     }
 }
 
-pub(crate) fn same_piece(a: Piece, b: Piece) -> bool
+/// Whether two pieces are stored alike.
+pub fn same_piece(a: Piece, b: Piece) -> bool
     ensures { IsTrue result ↔ (a ≡ b) }
 {
     a.x == b.x && same_ext(a.at, b.at) && same_lines(a.line, b.line)

@@ -11,7 +11,7 @@ use std::alloc::{AllocError, Global};
 use std::cmp::Ordering;
 use std::test::Fail;
 
-pub(crate) fn whole(n: i128) -> Frac {
+fn whole(n: i128) -> Frac {
     match Frac::new(n, 1) {
         Ok(f) => f,
         Err(_) => Frac::zero(),
@@ -34,7 +34,7 @@ fn bucket(alloc: Global, burst: Frac, rate: Frac) -> Result<Curve, AllocError>
     Ok(Curve::from_normal(pieces, Tail::Affine { rank: Frac::zero() }))
 }
 
-pub(crate) fn value(c: &Curve, t: Frac) -> Result<Option<Frac>, Wide> {
+fn value(c: &Curve, t: Frac) -> Result<Option<Frac>, Wide> {
     match t.cmp(&Frac::zero()) {
         Ordering::Less => Ok(None),
         _ => match c.value_at(t)? {

@@ -1,6 +1,6 @@
 use Rattle.std.proofs.Common.{sym, ap, ◌∙◌}
 use Rattle.std.specs.Prelude.{Some}
-use Rattle.upp_curve.specs.declared.op_kind.OpKind.TheVariants.{Horizontal}
+use Rattle.upp_limits.specs.declared.op_kind.OpKind.TheVariants.{Horizontal}
 use Rattle.min_plus.specs.Deviations.{IsHorizontalDeviation}
 use Rattle.net_cells.specs.Meanings.{curve, number}
 use Rattle.net_cells.specs.Answers.{MakesNumber, Deviates}

@@ -1,5 +1,5 @@
 use Rattle.std.proofs.Common.{subst}
-use Rattle.upp_curve.specs.declared.op_kind.OpKind.TheVariants.{PosMinus}
+use Rattle.upp_limits.specs.declared.op_kind.OpKind.TheVariants.{PosMinus}
 use Rattle.curve_call.specs.Calls.{AppliesTo}
 use Rattle.cell_nodes.proofs.Handing.{packets_finite}
 use Rattle.cell_nodes.proofs.nodes.in_packets.Goals as goal

@@ -1,6 +1,6 @@
 use Rattle.std.proofs.Common.{sym, ap, ◌∙◌}
 use Rattle.std.specs.Prelude.{Some}
-use Rattle.upp_curve.specs.declared.op_kind.OpKind.TheVariants.{Shift}
+use Rattle.upp_limits.specs.declared.op_kind.OpKind.TheVariants.{Shift}
 use Rattle.curve_call.specs.Calls.{AppliesTo}
 use Rattle.curve_call.proofs.Applied.{applied_seen}
 use Rattle.net_cells.specs.Meanings.{curve}

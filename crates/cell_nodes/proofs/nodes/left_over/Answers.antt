@@ -1,6 +1,6 @@
 use Rattle.std.proofs.Common.{sym, ap, ◌∙◌}
 use Rattle.std.specs.Prelude.{Some}
-use Rattle.upp_curve.specs.declared.op_kind.OpKind.TheVariants.{FifoLeft}
+use Rattle.upp_limits.specs.declared.op_kind.OpKind.TheVariants.{FifoLeft}
 use Rattle.curve_call.specs.Calls.{Applies}
 use Rattle.net_cells.specs.Meanings.{curve}
 use Rattle.net_cells.specs.Answers.{MakesCurve}

@@ -1,6 +1,6 @@
 use Rattle.std.proofs.Common.{sym, ap, ◌∙◌, subst}
 use Rattle.std.specs.Prelude.{Some}
-use Rattle.upp_curve.specs.declared.op_kind.OpKind.TheVariants.{PosMinus, Deconvolve}
+use Rattle.upp_limits.specs.declared.op_kind.OpKind.TheVariants.{PosMinus, Deconvolve}
 use Rattle.run_laws.specs.Cards.{whole}
 use Rattle.curve_call.specs.Calls.{Applies, AppliesTo}
 use Rattle.curve_call.proofs.Applied.{applied_seen}

@@ -1,6 +1,6 @@
 use Rattle.std.proofs.Common.{◌+◌, sym, ap, ◌∙◌, arith}
 use Rattle.std.specs.Prelude.{Some}
-use Rattle.upp_curve.specs.declared.op_kind.OpKind.TheVariants.{Convolve}
+use Rattle.upp_limits.specs.declared.op_kind.OpKind.TheVariants.{Convolve}
 use Rattle.curve_call.specs.Calls.{Applies}
 use Rattle.curve_call.proofs.Applied.{applied_seen}
 use Rattle.net_cells.specs.declared.cell.Kind.TheVariants.{Residual}

@@ -1,6 +1,6 @@
 use Rattle.std.proofs.Common.{sym, ap, ◌∙◌, subst, arith}
 use Rattle.std.specs.Prelude.{Some, Ok, Err}
-use Rattle.upp_curve.specs.declared.op_kind.OpKind.TheVariants.{PosMinus, Convolve}
+use Rattle.upp_limits.specs.declared.op_kind.OpKind.TheVariants.{PosMinus, Convolve}
 use Rattle.run_laws.specs.Cards.{whole}
 use Rattle.curve_call.specs.Calls.{Applies, AppliesTo}
 use Rattle.curve_call.proofs.Applied.{applied_seen}

@@ -1,6 +1,6 @@
 use Rattle.std.proofs.Common.{sym, ap, ◌∙◌, subst}
 use Rattle.std.specs.Prelude.{Some}
-use Rattle.upp_curve.specs.declared.op_kind.OpKind.TheVariants.{Sum}
+use Rattle.upp_limits.specs.declared.op_kind.OpKind.TheVariants.{Sum}
 use Rattle.curve_call.specs.Calls.{Applies}
 use Rattle.curve_call.proofs.Applied.{applied_seen}
 use Rattle.net_cells.specs.Meanings.{curve}

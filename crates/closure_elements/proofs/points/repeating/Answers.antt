@@ -1,6 +1,6 @@
 use Rattle.std.proofs.Common.{◌≤◌, ◌^◌, subst, sym}
 use Rattle.upp_curve.specs.Normal.{IsRaw}
-use Rattle.upp_curve.specs.Limits.{own_tally}
+use Rattle.upp_limits.specs.Limits.{own_tally}
 use Rattle.closure_elements.specs.PieceFits.{IsMade}
 use Rattle.closure_elements.proofs.PointCurves.{point_normal}
 use Rattle.closure_elements.proofs.PointAnswers.{later_is, later_few}

@@ -1,7 +1,7 @@
 use Rattle.std.proofs.Common.{arith, ◌≡◌, ◌∙◌, ◌+◌, ◌≤◌, ◌^◌, suc, subst, sym, ap}
 use Rattle.std.proofs.lemmas.Result.{err_from_is_err_and}
 use Rattle.upp_curve.specs.Normal.{IsRaw}
-use Rattle.upp_curve.specs.Limits.{own_tally}
+use Rattle.upp_limits.specs.Limits.{own_tally}
 use Rattle.closure_elements.specs.ElementCurves.{nat_times, turn}
 use Rattle.closure_elements.specs.PieceFits.{PieceFits, IsMade}
 use Rattle.closure_elements.proofs.SegmentAnswers.{turn_unfit, turn_wide, rise_wide, turn_few, turn_is, rising_q}

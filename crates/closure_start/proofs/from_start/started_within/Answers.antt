@@ -7,8 +7,8 @@ use Rattle.affine_segment.specs.Fits.{ReadFits}
 use Rattle.upp_curve.specs.Readable.{SumFitsAt}
 use Rattle.affine_segment.specs.Reading.{read}
 use Rattle.upp_curve.specs.Curve.{repeated}
-use Rattle.upp_curve.specs.Normalising.{HasValues}
-use Rattle.upp_curve.proofs.NormaliseForm.{ok_map}
+use Rattle.upp_normal.specs.Normalising.{HasValues}
+use Rattle.upp_normal.proofs.NormaliseForm.{ok_map}
 use Rattle.curve_call.specs.Answering.{IsAnswerWindow}
 use Rattle.curve_lattice.proofs.LatticeCalls.{from_fits}
 use Rattle.closure_start.proofs.Started.{started_answer}

@@ -1,7 +1,7 @@
 use Rattle.std.proofs.Common.{◌≡◌, ◌≤◌, ◌+◌, ◌∙◌, arith, sym, length, drop, drop_of_length-le}
 use Rattle.upp_curve.specs.Unrolled.{upto}
 use Rattle.affine_segment.proofs.NextPiece.{next_piece}
-use Rattle.upp_curve.proofs.NormaliseLoops.{count_more, count_stops, count_ends}
+use Rattle.upp_normal.proofs.NormaliseLoops.{count_more, count_stops, count_ends}
 use Rattle.curve_conv.proofs.least.count_before.Goals as goal
 
 pub returns-in_default : goal.returns-in_default

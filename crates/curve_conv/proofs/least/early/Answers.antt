@@ -1,5 +1,5 @@
 use Rattle.curve_conv.proofs.least.early.Goals as goal
-use Rattle.upp_curve.proofs.NormaliseShape.{taken_is}
+use Rattle.upp_normal.proofs.NormaliseShape.{taken_is}
 
 pub returns : goal.returns
 returns c =

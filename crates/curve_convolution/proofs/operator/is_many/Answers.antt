@@ -1,7 +1,7 @@
 use Rattle.std.specs.Prelude.{◌<◌, ◌^◌}
 use Rattle.std.proofs.Common.{arith, subst}
-use Rattle.upp_curve.specs.declared.op_kind.OpKind.TheVariants.{Convolve}
-use Rattle.upp_curve.specs.Gauges.{tally_over}
+use Rattle.upp_limits.specs.declared.op_kind.OpKind.TheVariants.{Convolve}
+use Rattle.upp_limits.specs.Gauges.{tally_over}
 use Rattle.curve_call.specs.Frames.{IsRefusedAt}
 use Rattle.curve_convolution.proofs.ConvolveCalls.{parts_call, many_by}
 use Rattle.curve_convolution.proofs.operator.is_many.Goals as goal

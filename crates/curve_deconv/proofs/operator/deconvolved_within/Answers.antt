@@ -1,7 +1,7 @@
 use Rattle.std.proofs.Common.{◌∙◌, ap, sym, subst}
-use Rattle.upp_curve.specs.Periods.{period_of, period_or}
-use Rattle.upp_curve.specs.declared.op_kind.OpKind.TheVariants.{Deconvolve}
-use Rattle.upp_curve.proofs.NormaliseForm.{ok_map}
+use Rattle.upp_limits.specs.Periods.{period_of, period_or}
+use Rattle.upp_limits.specs.declared.op_kind.OpKind.TheVariants.{Deconvolve}
+use Rattle.upp_normal.proofs.NormaliseForm.{ok_map}
 use Rattle.curve_call.specs.Rises.{CurveRiseFits}
 use Rattle.curve_call.specs.Frames.{sizes_at}
 use Rattle.curve_call.proofs.Operands.{operand_to}

@@ -1,5 +1,5 @@
 use Rattle.std.proofs.Common.{ap, sym, ◌∙◌}
-use Rattle.upp_curve.specs.Levels.{icept_of}
+use Rattle.upp_limits.specs.Levels.{icept_of}
 use Rattle.upp_curve.proofs.PieceLoops.{last_is}
 use Rattle.curve_deviation.proofs.known.last_icept.Goals as goal
 

@@ -1,6 +1,6 @@
 use Rattle.std.proofs.Common.{◌≡◌, ◌++◌, ◌∷◌, List, drop, map}
 use Rattle.affine_segment.specs.declared.line.Piece.{Piece}
-use Rattle.upp_curve.specs.Normalising.{past, cut_at}
+use Rattle.upp_normal.specs.Normalising.{past, cut_at}
 use Rattle.curve_envelope.specs.Shifting.{left_piece}
 use Rattle.curve_envelope.proofs.shifts.left_window.Given as goal
 

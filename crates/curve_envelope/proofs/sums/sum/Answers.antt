@@ -1,5 +1,5 @@
 use Rattle.std.proofs.lemmas.Result.{err_from_is_err_and}
-use Rattle.upp_curve.specs.declared.op_kind.OpKind.TheVariants.{Sum}
+use Rattle.upp_limits.specs.declared.op_kind.OpKind.TheVariants.{Sum}
 use Rattle.curve_call.proofs.Limited.{sum_least, frame_within}
 use Rattle.curve_envelope.proofs.sums.sum.Goals as goal
 

@@ -2,8 +2,8 @@ use Rattle.std.proofs.Common.{◌∙◌, sym, ap₂, subst}
 use Rattle.rational.specs.Rational.{ℚ, ◌+ℚ◌}
 use Rattle.rational.specs.Ratio.{SumFits}
 use Rattle.upp_curve.specs.Steady.{rise_over}
-use Rattle.upp_curve.specs.declared.op_kind.OpKind.TheVariants.{Sum}
-use Rattle.upp_curve.proofs.NormaliseForm.{ok_map}
+use Rattle.upp_limits.specs.declared.op_kind.OpKind.TheVariants.{Sum}
+use Rattle.upp_normal.proofs.NormaliseForm.{ok_map}
 use Rattle.curve_window.proofs.OperandWindows.{cuts_fit, sums_fit}
 use Rattle.curve_call.specs.Frames.{sizes_at}
 use Rattle.curve_call.proofs.Operands.{operand_to}

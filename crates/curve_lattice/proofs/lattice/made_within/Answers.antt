@@ -1,5 +1,5 @@
 use Rattle.std.proofs.Common.{◌∙◌}
-use Rattle.upp_curve.proofs.NormaliseForm.{ok_map}
+use Rattle.upp_normal.proofs.NormaliseForm.{ok_map}
 use Rattle.curve_lattice.proofs.LatticeCalls.{operands, left_rise, right_rise, rises_fit, from_fits}
 use Rattle.curve_lattice.proofs.LatticeAnswers.{lattice_answer, lattice_values}
 use Rattle.curve_lattice.proofs.lattice.made_within.Goals as goal

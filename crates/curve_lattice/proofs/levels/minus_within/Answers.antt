@@ -1,5 +1,5 @@
 use Rattle.std.proofs.Common.{◌∙◌}
-use Rattle.upp_curve.proofs.NormaliseForm.{ok_map}
+use Rattle.upp_normal.proofs.NormaliseForm.{ok_map}
 use Rattle.curve_least.specs.Levels.{level_curve}
 use Rattle.curve_lattice.specs.declared.lattice.Lattice.TheVariants.{Excess}
 use Rattle.curve_lattice.proofs.LatticeCalls.{operands, some_end, left_rise, from_fits}

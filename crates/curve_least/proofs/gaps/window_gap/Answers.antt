@@ -1,5 +1,5 @@
 use Rattle.std.proofs.Common.{sym, subst}
-use Rattle.upp_curve.specs.Ahead.{HasWindow}
+use Rattle.upp_normal.specs.Ahead.{HasWindow}
 use Rattle.curve_least.proofs.gaps.window_gap.Goals as goal
 
 pub returns-clause-sizes : goal.returns-clause-sizes

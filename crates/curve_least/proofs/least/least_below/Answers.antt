@@ -1,6 +1,6 @@
 use Rattle.std.proofs.Common.{sym, subst}
 use Rattle.upp_curve.specs.Curve.{value_at}
-use Rattle.upp_curve.specs.Ahead.{HasWindow, IsTimeIn}
+use Rattle.upp_normal.specs.Ahead.{HasWindow, IsTimeIn}
 use Rattle.curve_least.specs.declared.gaps.Gap.TheVariants.{NoTime, Never, Is}
 use Rattle.curve_least.specs.Gaps.{InWindow, IsGap}
 use Rattle.curve_least.proofs.LeastNumber.{end_fits, compared_window, least_none, least_endless, least_gap}

@@ -3,7 +3,7 @@ use Rattle.rational.specs.Rational.{ℚ, ◌+ℚ◌, ◌-ℚ◌, ◌*ℚ◌, ◌
 use Rattle.rational.specs.Ratio.{IsSmall, SumFits}
 use Rattle.rational.specs.Gauge.{size_up}
 use Rattle.rational.proofs.Laws.{le_of_not_lt, not_zero}
-use Rattle.upp_curve.specs.Windows.{IsLeast}
+use Rattle.upp_limits.specs.Windows.{IsLeast}
 use Rattle.upp_curve.specs.Steady.{rise_over}
 use Rattle.curve_least.proofs.LeastNumber.{lead_is, rise_small, lead_fits, number_fits, number_zero, number_least}
 use Rattle.curve_least.proofs.least.least_over.Goals as goal

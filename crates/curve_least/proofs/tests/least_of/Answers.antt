@@ -1,8 +1,8 @@
 use Rattle.std.proofs.Common.{refl, sym, subst, ◌<◌, ◌^◌, true≢false}
 use Rattle.rational.specs.Rational.{◌≤ℚ◌, ◌<ℚ◌, ◌+ℚ◌}
 use Rattle.rational.proofs.Laws.{le_of_not_lt}
-use Rattle.upp_curve.specs.Gauges.{gauge_over}
-use Rattle.upp_curve.specs.declared.op_kind.OpKind.TheVariants.{Min}
+use Rattle.upp_limits.specs.Gauges.{gauge_over}
+use Rattle.upp_limits.specs.declared.op_kind.OpKind.TheVariants.{Min}
 use Rattle.curve_least.proofs.KnownGauge.{min_sizes, known_compared}
 use Rattle.curve_least.proofs.tests.least_of.Goals as goal
 

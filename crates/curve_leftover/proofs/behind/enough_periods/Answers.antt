@@ -4,9 +4,9 @@ use Rattle.rational.specs.Ratio.{IsSmall, SumFits}
 use Rattle.rational.specs.Gauge.{size_up}
 use Rattle.rational.specs.declared.Extended.TheVariants.{Fin}
 use Rattle.rational.proofs.Laws.{le_of_not_lt, not_zero}
-use Rattle.upp_curve.specs.declared.op_kind.OpKind.TheVariants.{FifoLeft}
+use Rattle.upp_limits.specs.declared.op_kind.OpKind.TheVariants.{FifoLeft}
 use Rattle.upp_curve.specs.Steady.{rise_over}
-use Rattle.upp_curve.specs.Windows.{IsLeast, Meets}
+use Rattle.upp_limits.specs.Windows.{IsLeast, Meets}
 use Rattle.curve_leftover.proofs.LeastBehind.{gate_sizes, behind_call, first_fits, lead_fits, quotient_fits, least_none, least_same, least_behind}
 use Rattle.curve_leftover.proofs.behind.enough_periods.Goals as goal
 

@@ -2,7 +2,7 @@ use Rattle.std.proofs.Common.{◌∙◌, refl, sym, ap₂, subst, true≢false}
 use Rattle.rational.specs.Rational.{◌-ℚ◌}
 use Rattle.rational.specs.MinMax.{max_q}
 use Rattle.upp_curve.specs.Curve.{value_at}
-use Rattle.upp_curve.specs.Ahead.{GoesOn, IsTimeIn}
+use Rattle.upp_normal.specs.Ahead.{GoesOn, IsTimeIn}
 use Rattle.curve_leftover.proofs.BehindWalk.{BehindWalk, FoundAt, beta_time, cross_time, time_fits, beta_number, cross_number, values_apart, next_past_it, behind_start, behind_step, behind_fewer, behind_end}
 use Rattle.curve_leftover.proofs.behind.most_behind.Goals as goal
 

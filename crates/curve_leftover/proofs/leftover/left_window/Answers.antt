@@ -1,10 +1,10 @@
 use Rattle.std.proofs.Common.{◌≡◌, sym, ap, ◌∙◌, subst}
 use Rattle.affine_segment.specs.Pieces.{Each, StartsAtZero}
-use Rattle.upp_curve.specs.Operand.{OperandPieces}
+use Rattle.upp_normal.specs.Operand.{OperandPieces}
 use Rattle.curve_window.proofs.OperandWindows.{cuts_fit}
 use Rattle.curve_window.specs.Stretches.{EachBoth}
 use Rattle.curve_window.specs.Pointwise.{mapped}
-use Rattle.upp_curve.proofs.NormaliseForm.{ok_map}
+use Rattle.upp_normal.proofs.NormaliseForm.{ok_map}
 use Rattle.curve_leftover.specs.Moved.{moved_right, PieceMoves}
 use Rattle.curve_leftover.specs.Parts.{left_piece, StretchLeftFits}
 use Rattle.curve_leftover.specs.LeftCall.{IsLeftWindow}

@@ -3,11 +3,11 @@ use Rattle.rational.specs.Rational.{ℚ, ◌-ℚ◌, ◌≤ℚ◌, neg_ℚ, int}
 use Rattle.rational.specs.Ratio.{SumFits}
 use Rattle.rational.specs.declared.Extended.TheVariants.{Fin}
 use Rattle.upp_curve.specs.Curve.{value_at, repeated}
-use Rattle.upp_curve.specs.Normalising.{HasValues}
+use Rattle.upp_normal.specs.Normalising.{HasValues}
 use Rattle.affine_segment.specs.Reading.{read}
 use Rattle.min_plus.specs.Running.{IsFifoLeftover}
 use Rattle.upp_curve.specs.Steady.{rise_over}
-use Rattle.upp_curve.proofs.NormaliseForm.{ok_map}
+use Rattle.upp_normal.proofs.NormaliseForm.{ok_map}
 use Rattle.curve_leftover.proofs.LeftAnswers.{LeftScan, rises_fit, rise_steps, ends_fit, scan_call, left_answer, left_value}
 use Rattle.curve_leftover.proofs.leftover.left_within.Goals as goal
 

@@ -8,7 +8,7 @@ use Rattle.affine_segment.specs.Fits.{LineFitsAt}
 use Rattle.affine_segment.specs.Reading.{read}
 use Rattle.upp_curve.specs.Shapes.{IsNumber}
 use Rattle.upp_curve.specs.Steady.{last_line}
-use Rattle.upp_curve.proofs.NormaliseForm.{ok_map}
+use Rattle.upp_normal.proofs.NormaliseForm.{ok_map}
 use Rattle.curve_running.specs.Scans.{IsWindow, ScanFits}
 use Rattle.curve_running.specs.Made.{IsInfimumScan}
 use Rattle.curve_running.specs.Runs.{IsFrontBefore}

@@ -5,8 +5,8 @@ use Rattle.upp_curve.specs.Curve.{value_at}
 use Rattle.min_plus.specs.Functions.{zero_q}
 use Rattle.upp_curve.specs.Kinds.{bucket}
 use Rattle.min_plus.specs.Formulas.{bucket_value}
-use Rattle.upp_curve.proofs.KindValues.{bucket_is}
-use Rattle.upp_curve.proofs.NormaliseForm.{ok_map}
+use Rattle.upp_kinds.proofs.KindValues.{bucket_is}
+use Rattle.upp_normal.proofs.NormaliseForm.{ok_map}
 use Rattle.curve_library.proofs.buckets.bucket.Goals as goal
 
 pub returns-clause-value : goal.returns-clause-value

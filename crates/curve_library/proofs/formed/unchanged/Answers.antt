@@ -1,4 +1,4 @@
-use Rattle.upp_curve.specs.Normalising.{raw_curve}
+use Rattle.upp_normal.specs.Normalising.{raw_curve}
 use Rattle.upp_curve.proofs.OneForm.{normal_unique}
 use Rattle.curve_library.proofs.formed.unchanged.Goals as goal
 

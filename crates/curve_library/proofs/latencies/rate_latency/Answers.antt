@@ -5,7 +5,7 @@ use Rattle.upp_curve.specs.Curve.{value_at}
 use Rattle.min_plus.specs.Functions.{zero_q}
 use Rattle.upp_curve.specs.Kinds.{rate_latency}
 use Rattle.min_plus.specs.Formulas.{rate_latency_value}
-use Rattle.upp_curve.proofs.KindValues.{service_is}
+use Rattle.upp_kinds.proofs.KindValues.{service_is}
 use Rattle.std.proofs.Common.{inl, inr}
 use Rattle.curve_library.specs.Causes.{OneNegative}
 use Rattle.curve_library.proofs.Answering.{first_of, made_of, never_many}

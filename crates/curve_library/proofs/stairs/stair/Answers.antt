@@ -6,7 +6,7 @@ use Rattle.upp_curve.specs.Curve.{value_at}
 use Rattle.min_plus.specs.Functions.{zero_q}
 use Rattle.upp_curve.specs.Kinds.{stair}
 use Rattle.min_plus.specs.Formulas.{stair_value}
-use Rattle.upp_curve.proofs.StairValues.{stair_is}
+use Rattle.upp_kinds.proofs.StairValues.{stair_is}
 use Rattle.curve_library.proofs.Answering.{first_of, made_of, never_many}
 use Rattle.curve_library.proofs.StairParts.{stair_few}
 use Rattle.curve_library.proofs.stairs.stair.Goals as goal

@@ -3,7 +3,7 @@ use Rattle.std.proofs.Common.{refl, sym, subst, true≢false}
 use Rattle.rational.specs.declared.Extended.TheVariants.{Fin}
 use Rattle.affine_segment.specs.declared.element.Element.TheVariants.{Open}
 use Rattle.affine_segment.specs.Elements.{element_value}
-use Rattle.upp_curve.specs.Ahead.{GoesOn}
+use Rattle.upp_normal.specs.Ahead.{GoesOn}
 use Rattle.curve_parts.specs.Stretches.{SumStretch}
 use Rattle.curve_parts.proofs.ElementStretches.{open_within, open_after, within_stands}
 use Rattle.curve_parts.proofs.elements.begun_stretch.Goals as goal

@@ -3,7 +3,7 @@ use Rattle.std.proofs.Common.{sym, subst}
 use Rattle.rational.specs.declared.Extended.TheVariants.{Inf}
 use Rattle.affine_segment.specs.declared.element.Element.TheVariants.{Open}
 use Rattle.affine_segment.specs.Elements.{element_value}
-use Rattle.upp_curve.specs.Ahead.{GoesOn}
+use Rattle.upp_normal.specs.Ahead.{GoesOn}
 use Rattle.rational.proofs.Compared.{is_less}
 use Rattle.curve_parts.specs.Stretches.{SumStretch}
 use Rattle.curve_parts.proofs.ElementStretches.{open_before, open_here, here_stands}

@@ -1,7 +1,7 @@
 use Rattle.std.proofs.Common.{sym, subst}
 use Rattle.affine_segment.specs.declared.element.Element.TheVariants.{Point}
 use Rattle.affine_segment.specs.Elements.{element_value}
-use Rattle.upp_curve.specs.Ahead.{GoesOn}
+use Rattle.upp_normal.specs.Ahead.{GoesOn}
 use Rattle.rational.proofs.Compared.{is_less, is_greater}
 use Rattle.curve_parts.proofs.ElementStretches.{point_before, point_here, point_after, point_stands}
 use Rattle.curve_parts.proofs.elements.point_stretch.Goals as goal

@@ -5,7 +5,7 @@ use Rattle.rational.specs.Ratio.{IsSmall}
 use Rattle.upp_curve.specs.Curve.{SpecCurve, value_at}
 use Rattle.rational.specs.Extended.{Ext}
 use Rattle.upp_curve.specs.Steady.{steady, rise_over}
-use Rattle.upp_curve.specs.Windows.{IsLeast}
+use Rattle.upp_limits.specs.Windows.{IsLeast}
 use Rattle.curve_conv.specs.ElementRoom.{WindowTime}
 use Rattle.curve_least.specs.declared.gaps.Gap.{Gap}
 use Rattle.curve_least.specs.Gaps.{InWindow, IsGap}

@@ -2,7 +2,7 @@ use Rattle.std.proofs.Common.{pos, sym, subst, ap, ◌∙◌, refl, true≢false
 use Rattle.rational.specs.Rational.{◌*ℚ◌, ◌≤ℚ◌, ◌<ℚ◌, int}
 use Rattle.rational.specs.Gauge.{size_up}
 use Rattle.rational.proofs.Laws.{le_of_not_lt, not_zero}
-use Rattle.upp_curve.specs.Windows.{IsLeast}
+use Rattle.upp_limits.specs.Windows.{IsLeast}
 use Rattle.curve_least.proofs.LeastNumber.{number_zero, number_least}
 use Rattle.curve_parts.proofs.number.least_over.Goals as goal
 

@@ -1,4 +1,4 @@
-use Rattle.upp_curve.specs.declared.op_kind.OpKind.TheVariants.{RunSup}
+use Rattle.upp_limits.specs.declared.op_kind.OpKind.TheVariants.{RunSup}
 use Rattle.curve_call.specs.Frames.{sizes_at}
 use Rattle.curve_running.proofs.RunFacts.{window_facts, run_rise, run_call}
 use Rattle.curve_running.proofs.FirstWindows.{wide_gauge}

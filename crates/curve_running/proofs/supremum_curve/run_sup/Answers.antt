@@ -1,4 +1,4 @@
-use Rattle.upp_curve.specs.declared.op_kind.OpKind.TheVariants.{RunSup}
+use Rattle.upp_limits.specs.declared.op_kind.OpKind.TheVariants.{RunSup}
 use Rattle.curve_call.proofs.FirstGate.{first_gate}
 use Rattle.curve_running.proofs.supremum_curve.run_sup.Goals as goal
 

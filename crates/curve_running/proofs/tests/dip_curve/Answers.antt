@@ -1,7 +1,7 @@
-use Rattle.upp_curve.proofs.NormaliseForm.{ok_map}
+use Rattle.upp_normal.proofs.NormaliseForm.{ok_map}
 use Rattle.upp_curve.specs.Curve.{HasSameValues}
 use Rattle.upp_curve.specs.declared.curve.Tail.TheVariants.{Affine}
-use Rattle.upp_curve.specs.WorkedRows.{dip}
+use Rattle.upp_kinds.specs.WorkedRows.{dip}
 use Rattle.curve_running.proofs.Dips.{raw_by, same_by}
 use Rattle.curve_running.proofs.tests.dip_curve.Goals as goal
 

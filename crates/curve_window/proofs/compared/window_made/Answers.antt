@@ -2,7 +2,7 @@ use Rattle.std.proofs.Common.{subst, sym}
 use Rattle.curve_window.specs.Stretches.{EachBoth, IsOverlay}
 use Rattle.curve_window.specs.Made.{made_value, made_rises, AreMade, StretchMadeFits}
 use Rattle.curve_window.specs.Operands.{IsMadeOf}
-use Rattle.upp_curve.proofs.NormaliseForm.{ok_map}
+use Rattle.upp_normal.proofs.NormaliseForm.{ok_map}
 use Rattle.curve_window.proofs.MadeWindows.{sized_cuts, sized_fits, sized_early, made_is}
 use Rattle.rational.specs.Rational.{◌<ℚ◌}
 use Rattle.curve_window.proofs.compared.window_made.Goals as goal

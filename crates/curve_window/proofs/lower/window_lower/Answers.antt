@@ -4,7 +4,7 @@ use Rattle.curve_window.specs.declared.made.Made.TheVariants.{Lower}
 use Rattle.curve_window.specs.Stretches.{EachBoth, IsOverlay}
 use Rattle.curve_window.specs.Made.{AreMade, StretchMadeFits}
 use Rattle.curve_window.specs.Lower.{IsLowerOf}
-use Rattle.upp_curve.proofs.NormaliseForm.{ok_map}
+use Rattle.upp_normal.proofs.NormaliseForm.{ok_map}
 use Rattle.curve_window.proofs.LowerWindows.{lower_fits, lower_early, lower_is}
 use Rattle.curve_window.proofs.lower.window_lower.Goals as goal
 

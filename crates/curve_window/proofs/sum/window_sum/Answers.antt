@@ -1,6 +1,6 @@
 use Rattle.std.proofs.Common.{◌≡◌, ◌∙◌, ap}
 use Rattle.curve_window.specs.Pointwise.{mapped, sum_piece, IsWindowSum}
-use Rattle.upp_curve.proofs.NormaliseForm.{ok_map}
+use Rattle.upp_normal.proofs.NormaliseForm.{ok_map}
 use Rattle.curve_window.proofs.Sums.{sum_is}
 use Rattle.curve_window.proofs.sum.window_sum.Goals as goal
 

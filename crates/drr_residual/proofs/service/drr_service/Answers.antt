@@ -1,6 +1,6 @@
 use Rattle.std.proofs.Common.{Err, refl, subst}
 use Rattle.std.proofs.lemmas.Result.{err_from_is_err_and}
-use Rattle.upp_curve.specs.declared.op_kind.OpKind.TheVariants.{Scale, PosMinus}
+use Rattle.upp_limits.specs.declared.op_kind.OpKind.TheVariants.{Scale, PosMinus}
 use Rattle.curve_call.specs.Calls.{AppliesTo, stops}
 use Rattle.curve_call.proofs.Applied.{applied_seen}
 use Rattle.drr_residual.proofs.DrrCalls.{made, scaled_finite, ok_service}

@@ -1,4 +1,4 @@
-use Rattle.upp_curve.specs.declared.op_kind.OpKind.TheVariants.{FifoLeft}
+use Rattle.upp_limits.specs.declared.op_kind.OpKind.TheVariants.{FifoLeft}
 use Rattle.curve_call.proofs.Applied.{applied_seen}
 use Rattle.fifo_residual.proofs.service.fifo_service.Goals as goal
 

@@ -1,5 +1,5 @@
 use Rattle.std.proofs.lemmas.Result.{IfOk-weaker}
-use Rattle.upp_curve.specs.declared.own_limits.OverLimit.TheVariants.{TooMany, TooWide}
+use Rattle.upp_limits.specs.declared.own_limits.OverLimit.TheVariants.{TooMany, TooWide}
 use Rattle.report_text.specs.CellWords.{cell_words}
 use Rattle.file_answers.specs.Replies.{cell_over}
 use Rattle.file_answers.specs.View.{reply_of, status_of}

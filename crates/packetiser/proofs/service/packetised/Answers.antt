@@ -1,4 +1,4 @@
-use Rattle.upp_curve.specs.declared.op_kind.OpKind.TheVariants.{PosMinus}
+use Rattle.upp_limits.specs.declared.op_kind.OpKind.TheVariants.{PosMinus}
 use Rattle.curve_call.proofs.Applied.{applied_seen}
 use Rattle.packetiser.proofs.service.packetised.Goals as goal
 

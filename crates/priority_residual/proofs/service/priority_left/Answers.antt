@@ -1,6 +1,6 @@
 use Rattle.std.proofs.Common.{refl, subst}
 use Rattle.std.proofs.lemmas.Result.{err_from_is_err_and}
-use Rattle.upp_curve.specs.declared.op_kind.OpKind.TheVariants.{PosDiff, PosMinus}
+use Rattle.upp_limits.specs.declared.op_kind.OpKind.TheVariants.{PosDiff, PosMinus}
 use Rattle.curve_call.specs.Calls.{AppliesTo, goes_on, stops}
 use Rattle.curve_call.proofs.Applied.{applied_seen}
 use Rattle.priority_residual.proofs.PriorityCalls.{difference_finite}

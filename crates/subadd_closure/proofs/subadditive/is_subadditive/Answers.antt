@@ -1,6 +1,6 @@
 use Rattle.std.proofs.Common.{refl}
 use Rattle.std.proofs.lemmas.Result.{err_from_is_err_and}
-use Rattle.upp_curve.specs.declared.op_kind.OpKind.TheVariants.{Convolve}
+use Rattle.upp_limits.specs.declared.op_kind.OpKind.TheVariants.{Convolve}
 use Rattle.upp_curve.specs.Curve.{value_at}
 use Rattle.curve_call.specs.Calls.{goes_on, stops}
 use Rattle.curve_call.proofs.Applied.{applied_seen}

@@ -1,5 +1,5 @@
 use Rattle.std.proofs.Common.{◌∙◌, ap, sym, subst}
-use Rattle.upp_curve.specs.Ahead.{HasWindow}
+use Rattle.upp_normal.specs.Ahead.{HasWindow}
 use Rattle.curve_least.specs.Sides.{shown_curve}
 use Rattle.curve_least.proofs.Levels.{level_goes, level_sizes}
 use Rattle.curve_least.proofs.sides.Side.stretch.Goals as goal

@@ -1,5 +1,0 @@
-use Rattle.upp_curve.proofs.OneForm.{normal_unique}
-use Rattle.upp_curve.proofs.laws.normal_form_is_unique.Goals as goal
-
-pub returns : goal.returns
-returns c = normal_unique

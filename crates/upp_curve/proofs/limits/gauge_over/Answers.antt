@@ -1,6 +1,0 @@
-use Rattle.upp_curve.specs.Gauges.{gauge_over}
-use Rattle.upp_curve.proofs.limits.gauge_over.Goals as goal
-
-pub returns-in-Some : goal.returns-in-Some
-unfolding gauge_over
-returns-in-Some c = c.in-Some.ensures.gauge

@@ -1,5 +1,0 @@
-use Rattle.rational.proofs.Whole.{not_zero}
-use Rattle.upp_curve.proofs.start_counts.quick_count.Goals as goal
-
-pub div-requires : goal.div-requires
-div-requires c = not_zero c.args.period c.requires

@@ -1,0 +1,11 @@
+pub mod KindValues
+pub mod Worked
+pub mod WorkedOperators
+pub mod WorkedStairs
+pub mod WorkedShifts
+pub mod WorkedRunning
+pub mod WorkedJump
+pub mod StairValues
+pub mod GateValues
+pub mod KindForms
+pub mod KindsAre

@@ -1,0 +1,4 @@
+pub mod KindLaws
+pub mod WorkedRows
+pub mod WorkedStairs
+pub mod WorkedShifts

@@ -1,0 +1,10 @@
+use Rattle.std.proofs.Common.{subst}
+use Rattle.rational.specs.Gauge.{Kept, lcm, common_den}
+use Rattle.upp_limits.proofs.Gathering.{gathers_slope}
+use Rattle.upp_limits.proofs.gathered.Gathered.with_slope.Goals as goal
+
+pub returns : goal.returns
+returns c = λ n h.
+    gathers_slope c.args.self n c.args.x c.common_multiple.result c.twice_size_up.result c.max.result h
+    (subst (λ d. Kept c.common_multiple.result (lcm d (common_den n.slopes))) c.sizes-bottom.ensures.bottom (c.common_multiple.ensures (common_den n.slopes) h.ds))
+    c.twice_size_up.ensures c.twice_size_up.type_inv c.max.ensures

@@ -1,0 +1,17 @@
+pub mod Periods
+pub mod Spans
+pub mod Limits
+pub mod Sized
+pub mod Windows
+pub mod Gauges
+pub mod Long
+pub mod Gathered
+pub mod Seen
+pub mod ClosedForm
+pub mod OwnWindow
+pub mod Levels
+pub mod ClosedOperands
+pub mod Outcome
+pub mod CallNumbers
+pub mod LimitTest
+pub mod OwnLimits

@@ -1,0 +1,58 @@
+//! The numbers that limit a call over a known end of its window.
+
+ghost use Rattle.std.specs.Prelude.{◌^◌, ◌≤◌, MatchOption};
+ghost use Rattle.upp_limits.specs.Limits.{Numbers, joined, sizes_of};
+ghost use Rattle.upp_limits.specs.Gathered.{Gathers};
+ghost use Rattle.upp_limits.specs.Gauges.{gauge_over, kind_numbers, numbers_over};
+ghost use Rattle.upp_limits.specs.CallNumbers.{AreCallNumbers};
+
+use crate::gathered::Gathered;
+use crate::op_kind::OpKind;
+use crate::operand_numbers::with_operands;
+use crate::own_window::numbers_of;
+use fraction128::Frac;
+use rational::Extended;
+use upp_curve::Curve;
+
+/// The gauge of a call over a window's end, and the grids of its times and of its values.
+#[derive(Debug, Clone, Copy)]
+pub struct CallNumbers {
+    /// The gauge.
+    pub gauge: u128,
+    /// Each time of the call is a whole multiple of 1 / times.
+    pub times: u128,
+    /// Each sum of values, and of slopes times starts, is a whole multiple of 1 / values.
+    pub values: u128,
+}
+
+/// The numbers that belong to the kind itself more.
+fn with_kind(found: Gathered, op: &OpKind) -> Gathered
+    ensures { (n : Numbers) → Gathers found n → Gathers result (joined n (kind_numbers op.now)) }
+{
+    match op {
+        OpKind::PosMinus(value) => found.with_value(*value),
+        OpKind::Shift(Extended::Fin(time)) => found.with_time(*time),
+        OpKind::FifoLeft(Extended::Fin(time)) => found.with_time(*time),
+        _ => found,
+    }
+}
+
+/// The gauge and the grids of a call over the end of its window. None exactly where the gauge is 2^128 or more. No
+/// memory is taken and nothing is unrolled.
+pub fn call_numbers(op: &OpKind, f: &Curve, g: &Curve, end: Frac) -> Option<CallNumbers>
+    ensures { MatchOption result (2 ^ 128 ≤ gauge_over op.now f.now g.now end)
+        (AreCallNumbers (sizes_of end (numbers_over op.now f.now g.now end))) }
+{
+    let own = with_kind(Gathered::nothing().with_time(end), op);
+    match with_operands(own, op.operands(), f, g, end) {
+        Some(found) => match numbers_of(found, end) {
+            Some(numbers) => Some(CallNumbers {
+                gauge: numbers.gauge,
+                times: numbers.times,
+                values: numbers.values,
+            }),
+            None => None,
+        },
+        None => None,
+    }
+}

@@ -1,0 +1,28 @@
+//! The limits of every call on curves: its tally, its gauge, and the end of the times that it looks at.
+#![tactic(auto)]
+
+mod call_sizes;
+mod counts;
+mod curve_numbers;
+mod gathered;
+mod gauges;
+mod known;
+mod limits;
+mod long;
+pub mod op_kind;
+mod operand_numbers;
+mod own_limits;
+mod own_window;
+mod scaled_numbers;
+mod seen;
+pub mod start_counts;
+mod starts;
+
+pub use call_sizes::{CallNumbers, call_numbers};
+pub use known::{is_level, is_level_above};
+pub use limits::{gauge, tally, tally_over};
+pub use op_kind::{OpFault, OpKind, Window};
+pub use own_limits::{OverLimit, over_own_limit, own_within, within_limits};
+pub use own_window::{OwnNumbers, is_infinite_at, keeps_line, later_unless};
+pub use scaled_numbers::{scaled_piece, scaled_tail};
+pub use starts::{is_after, is_before};

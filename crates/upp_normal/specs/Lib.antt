@@ -1,0 +1,11 @@
+pub mod Normalising
+pub mod Room
+pub mod Operand
+pub mod Unrolling
+pub mod Ahead
+pub mod Copied
+pub mod Repeating
+pub mod GaugeLaws
+pub mod Bends
+pub mod Given
+pub mod PieceLaws

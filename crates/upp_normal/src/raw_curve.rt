@@ -1,0 +1,172 @@
+//! The normal form of any curve.
+
+ghost use Rattle.std.specs.Prelude.{◌≡◌, ◌<◌, ◌≤◌, ◌^◌, IfOk, IfErr, Err};
+ghost use Rattle.affine_segment.specs.Reading.{read};
+ghost use Rattle.upp_curve.specs.Curve.{repeated, value_at, HasSameValues};
+ghost use Rattle.affine_segment.specs.Pieces.{StartsAtZero};
+ghost use Rattle.upp_curve.specs.Normal.{NoMerge, FitsPeriod, IsRaw};
+ghost use Rattle.upp_curve.specs.Readable.{EachFits};
+ghost use Rattle.upp_limits.specs.Limits.{own_gauge, own_tally};
+ghost use Rattle.upp_normal.specs.Normalising.{HasValues, IsTwoPeriods, IsTurning, OnGrids, OnGridsUnlessLine, TailOnGrids, cycle_values, raw_curve};
+ghost use Rattle.upp_normal.specs.Room.{Room, PiecesHaveRoom, TwoHaveRoom, CycleHasRoom, TurnHasRoom, TailHasRoom};
+
+use crate::cycle::{Cycle, Shape, shape_of};
+use crate::least_period::least_period;
+use crate::lowest_rank::lowest_rank;
+use crate::merging::merged;
+use crate::two_periods::{ended, two_periods};
+use affine_segment::Piece;
+use fraction128::Frac;
+use std::alloc::{AllocError, Global};
+use upp_curve::{Curve, Tail};
+use upp_limits::{OpFault, own_within};
+
+/// A curve in any form: its first piece starts at 0, starts rise, and the rank is 0 or more. Of a periodic tail the
+/// period is above 0 and all starts are below rank + period; of any other tail all starts are at most the rank.
+#[derive(Drop)]
+pub struct RawCurve {
+    /// The pieces in the order of their starts.
+    pub pieces: Vec<Piece>,
+    /// What follows them.
+    pub tail: Tail,
+}
+
+// Pieces that go on with their last line.
+fn unending(pieces: Vec<Piece>) -> Curve
+    requires starts { StartsAtZero pieces.items }
+    requires none { NoMerge pieces.items }
+    requires fits { EachFits None pieces.items }
+    ensures { HasValues result (read pieces.items) }
+{
+    let last = pieces[pieces.len() - 1];
+    let tail = match last.line {
+        None => Tail::Infinite { rank: last.x },
+        Some(_) => Tail::Affine { rank: last.x },
+    };
+    Curve::from_normal(pieces, tail)
+}
+
+// The curve of pieces that go on with their last line.
+fn of_pieces(alloc: Global, pieces: &[Piece]) -> Result<Curve, AllocError>
+    requires starts { StartsAtZero pieces.now }
+    requires room { (m : Room) × PiecesHaveRoom m 4 pieces.now }
+    ensures { IfOk result (λ r. HasValues r (read pieces.now)) }
+{
+    let kept = merged(alloc, pieces)?;
+    Ok(unending(kept))
+}
+
+// A period between breaks, made the least, from the least rank on.
+fn repeating(cycle: Cycle, times: u128, values: u128) -> Curve
+    requires turning { IsTurning cycle (cycle_values cycle) }
+    requires some_times { 0 < times }
+    requires some_values { 0 < values }
+    requires times { times < 2 ^ 127 }
+    requires values { values < 2 ^ 127 }
+    requires grids { OnGrids times values (cycle_values cycle) cycle.rank cycle.period cycle.rise }
+    requires room { (m : Room) × CycleHasRoom m times values cycle.pieces.items cycle.rank cycle.period cycle.rise }
+    ensures { HasValues result (cycle_values cycle) }
+{
+    let found = lowest_rank(least_period(cycle, times, values));
+    let tail = Tail::Periodic {
+        rank: found.rank,
+        period: found.period,
+        rise: found.rise,
+    };
+    Curve::from_normal(found.pieces, tail)
+}
+
+// The periodic curve whose pieces are given below rank + 2 period.
+fn of_two_periods(
+    pieces: Vec<Piece>,
+    rank: Frac,
+    period: Frac,
+    rise: Frac,
+    times: u128,
+    values: u128,
+) -> Curve
+    requires two { IsTwoPeriods pieces.items rank period rise }
+    requires some_times { 0 < times }
+    requires some_values { 0 < values }
+    requires times { times < 2 ^ 127 }
+    requires values { values < 2 ^ 127 }
+    requires grids { OnGridsUnlessLine times values (repeated (read pieces.items) rank period rise) rank period rise }
+    requires room { (m : Room) × TwoHaveRoom m times values pieces.items rank period rise }
+    ensures { HasValues result (repeated (read pieces.items) rank period rise) }
+{
+    match shape_of(pieces, rank, period, rise) {
+        Shape::Straight(kept) => unending(kept),
+        Shape::Turns(cycle) => repeating(cycle, times, values),
+    }
+}
+
+// The periodic curve of pieces in any form.
+fn of_periodic(
+    alloc: Global,
+    given: &[Piece],
+    rank: Frac,
+    period: Frac,
+    rise: Frac,
+    times: u128,
+    values: u128,
+) -> Result<Curve, AllocError>
+    requires starts { StartsAtZero given.now }
+    requires tail { FitsPeriod given.now rank period }
+    requires some_times { 0 < times }
+    requires some_values { 0 < values }
+    requires times { times < 2 ^ 127 }
+    requires values { values < 2 ^ 127 }
+    requires grids { OnGridsUnlessLine times values (repeated (read given.now) rank period rise) rank period rise }
+    requires room { (m : Room) × TurnHasRoom m times values given.now rank period rise }
+    ensures { IfOk result (λ r. HasValues r (repeated (read given.now) rank period rise)) }
+{
+    let longer = two_periods(alloc, given, rank, period, rise)?;
+    let pieces = merged(alloc, &longer)?;
+    Ok(of_two_periods(pieces, rank, period, rise, times, values))
+}
+
+/// The normal form of a curve each of whose periods, unless its tail is one line, is a whole multiple of 1 / times, and
+/// its rise of 1 / values.
+pub fn normalise_on(
+    alloc: Global,
+    raw: &RawCurve,
+    times: u128,
+    values: u128,
+) -> Result<Curve, AllocError>
+    requires raw { IsRaw (raw_curve raw.now) }
+    requires some_times { 0 < times }
+    requires some_values { 0 < values }
+    requires times { times < 2 ^ 127 }
+    requires values { values < 2 ^ 127 }
+    requires grids { TailOnGrids times values raw.now.tail (value_at (raw_curve raw.now)) }
+    requires room { TailHasRoom times values raw.now.pieces.items raw.now.tail }
+    ensures { IfOk result (λ r. HasSameValues r (raw_curve raw.now)) }
+{
+    match raw.tail {
+        Tail::Affine { rank: _ } => of_pieces(alloc, &raw.pieces),
+        Tail::Infinite { rank } => {
+            let kept = ended(alloc, &raw.pieces, rank)?;
+            of_pieces(alloc, &kept)
+        }
+        Tail::Periodic { rank, period, rise } => {
+            of_periodic(alloc, &raw.pieces, rank, period, rise, times, values)
+        }
+    }
+}
+
+/// The normal form of a curve in any form: the one curve that has its values. Refused with TooWide exactly where the
+/// curve's gauge, by itself as it is given, is 2^120 or more, and with TooMany exactly where that is not so and its
+/// tally is above 2^20.
+pub fn normalise(raw: RawCurve) -> Result<Curve, OpFault>
+    requires { IsRaw (raw_curve raw) }
+    ensures kept { IfOk result (λ c. HasSameValues c (raw_curve raw)) }
+    ensures wide { 2 ^ 120 ≤ own_gauge (raw_curve raw) → result ≡ Err OpFault.TooWide }
+    ensures many { own_gauge (raw_curve raw) < 2 ^ 120 → 2 ^ 20 < own_tally (raw_curve raw)
+        → result ≡ Err OpFault.TooMany }
+    ensures inside { own_gauge (raw_curve raw) < 2 ^ 120 → own_tally (raw_curve raw) ≤ 2 ^ 20
+        → IfErr result (λ e. e ≡ OpFault.NoMemory) }
+{
+    let own = own_within(&raw.pieces, &raw.tail)?;
+    let alloc = *raw.pieces.allocator();
+    Ok(normalise_on(alloc, &raw, own.times, own.values)?)
+}

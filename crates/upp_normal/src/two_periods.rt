@@ -1,0 +1,109 @@
+//! The pieces of a curve as it is given, laid out so that only neighbours have to be compared after.
+
+ghost use Rattle.std.specs.Prelude.{◌≡◌, ◌++◌, ◌∷◌, pos, IfOk, List, length};
+ghost use Rattle.rational.specs.Rational.{int, ◌≤ℚ◌, ◌<ℚ◌};
+ghost use Rattle.affine_segment.specs.Pieces.{StartsAtZero, Each};
+ghost use Rattle.upp_curve.specs.Unrolled.{upto};
+ghost use Rattle.upp_curve.specs.Fitting.{LaterFits};
+ghost use Rattle.affine_segment.specs.Fits.{ReadFits};
+ghost use Rattle.upp_normal.specs.Normalising.{cut_at, second_copy, ended, past, first_start};
+
+use affine_segment::{Piece, piece_at, piece_value, read};
+use fraction128::Frac;
+use std::alloc::{AllocError, Global};
+use std::cmp::Ordering;
+use upp_curve::fitting::later;
+
+// The piece that starts at t where the one that is read there is cut.
+fn cut_at(pieces: &[Piece], t: Frac) -> Piece
+    requires starts { StartsAtZero pieces.now }
+    requires time { int (pos 0) ≤ℚ t }
+    requires fits { ReadFits pieces.now t }
+    ensures { (p : Piece) (ps : List Piece) → pieces.now ≡ p ∷ ps → result ≡ cut_at p ps t }
+{
+    let p = piece_at(pieces, t);
+    let at = piece_value(&p, t);
+    Piece {
+        x: t,
+        at,
+        line: p.line,
+    }
+}
+
+/// The pieces of a periodic curve below rank + 2 period: those given, and a second copy of what is read from the rank
+/// on.
+pub(crate) fn two_periods(
+    alloc: Global,
+    given: &[Piece],
+    rank: Frac,
+    period: Frac,
+    rise: Frac,
+) -> Result<Vec<Piece>, AllocError>
+    requires starts { StartsAtZero given.now }
+    requires rank { int (pos 0) ≤ℚ rank }
+    requires read { ReadFits given.now rank }
+    requires cut { (p : Piece) (ps : List Piece) → given.now ≡ p ∷ ps → LaterFits period rise (cut_at p ps rank) }
+    requires copies { Each (λ p. rank <ℚ p.x → LaterFits period rise p) given.now }
+    ensures { (p : Piece) (ps : List Piece) → given.now ≡ p ∷ ps
+        → IfOk result (λ v. v.items ≡ p ∷ (ps ++ second_copy p ps rank period rise)) }
+{
+    let cut = cut_at(given, rank);
+    let mut pieces = Vec::from_slice(alloc, given)?;
+    pieces.push(later(period, rise, &cut))?;
+    for p in given {
+        match p.x.cmp(&rank) {
+            Ordering::Greater => pieces.push(later(period, rise, p))?,
+            _ => {}
+        }
+    }
+    Ok(pieces)
+}
+
+/// The pieces of a curve that is infinite past its rank, with no line at the rank.
+pub(crate) fn ended(alloc: Global, pieces: &[Piece], rank: Frac) -> Result<Vec<Piece>, AllocError>
+    requires starts { StartsAtZero pieces.now }
+    requires rank { int (pos 0) ≤ℚ rank }
+    requires read { ReadFits pieces.now rank }
+    ensures { IfOk result (λ v. v.items ≡ ended pieces.now rank) }
+{
+    let at = read(pieces, rank);
+    let mut kept = Vec::new(alloc);
+    for p in pieces {
+        match p.x.cmp(&rank) {
+            Ordering::Less => kept.push(*p)?,
+            _ => break,
+        }
+    }
+    kept.push(Piece {
+        x: rank,
+        at,
+        line: None,
+    })?;
+    Ok(kept)
+}
+
+/// The first start past t.
+pub(crate) fn first_past(pieces: &[Piece], t: Frac) -> Option<Frac>
+    ensures { result ≡ first_start (past t pieces.now) }
+{
+    for p in pieces {
+        match p.x.cmp(&t) {
+            Ordering::Greater => return Some(p.x),
+            _ => {}
+        }
+    }
+    None
+}
+
+/// How many of the pieces start before t, of pieces whose starts rise.
+pub fn count_before(pieces: &[Piece], t: Frac) -> usize
+    ensures { result ≡ length (upto t pieces.now) }
+{
+    for (i, p) in pieces.iter().enumerate() {
+        match p.x.cmp(&t) {
+            Ordering::Less => {}
+            _ => return i,
+        }
+    }
+    pieces.len()
+}
