@@ -7,3 +7,4 @@ pub mod Orders
 pub mod CurveKinds
 pub mod Plain
 pub mod Traces
+pub mod NetRoutes
