@@ -8,7 +8,6 @@ use Rattle.run_laws.specs.Cards.{Card}
 use Rattle.run_laws.specs.Servers.{Round, Under, head_of}
 use Rattle.run_laws.specs.Next.{left_round, arrived_round, worked_round, visited_round}
 use Rattle.run_laws.specs.Allows.{visited_head}
-use Rattle.run_laws.specs.Rounds.{IsRound}
 use Rattle.run_laws.proofs.Heads.{same_some, head_push}
 use Rattle.run_laws.proofs.Rounds.{HasLeft, round_arrives, round_works, round_left, round_visits}
 use Rattle.queue_sched.specs.InTurn.{longest, quantum_of, IsInTurn}

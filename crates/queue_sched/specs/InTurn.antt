@@ -1,5 +1,5 @@
 -- Deficit round robin: what holds after every step, and what that gives a server with no packet under way.
-use Rattle.std.specs.Prelude.{Option, Some, None, ◌≡◌, ◌≤◌, ◌^◌, ℕ, List, [], get_or, length}
+use Rattle.std.specs.Prelude.{Option, Some, None, ◌≡◌, ◌≤◌, ◌^◌, ℕ, List, get_or, length}
 use Rattle.std.proofs.Common.{refl}
 use Rattle.run_laws.specs.Cards.{Card}
 use Rattle.run_laws.specs.Servers.{Round, Under, head_of}

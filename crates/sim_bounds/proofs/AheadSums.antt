@@ -1,12 +1,12 @@
 -- How many bits a server still has to see or to work off: of packets that have not entered, that are in servers, and
 -- that are on links; and what each step does to that sum.
-use Rattle.std.proofs.Common.{◌≡◌, ℕ, zero, suc, ◌<◌, ◌≤◌, ◌+◌, List, [], ◌∷◌, ◌++◌, length, get_or, set, map, drop, refl, sym, ap, ◌∙◌, subst, arith, inl, inr, ◌⊎◌, Some, None, Bool, true, false}
-use Rattle.std.specs.Prelude.{Option, ◌≢◌, ◌==◌, ◌&&◌}
+use Rattle.std.proofs.Common.{◌≡◌, ℕ, zero, suc, ◌<◌, ◌≤◌, ◌+◌, List, [], ◌∷◌, ◌++◌, length, get_or, set, map, drop, refl, ap, ◌∙◌, subst, arith, inl, inr, Some, None, Bool, true, false}
+use Rattle.std.specs.Prelude.{Option, ◌==◌, ◌&&◌}
 use Rattle.std.proofs.lemmas.Bool.{cases_Bool, eqb-true, eq-eqb}
 use Rattle.rational.specs.Rational.{ℚ, le_q}
 use Rattle.run_laws.specs.Cards.{Card}
 use Rattle.run_laws.specs.Servers.{Server, ServerState, head_of, without_head, start}
-use Rattle.run_laws.specs.Routes.{Hop, Routes, route_of}
+use Rattle.run_laws.specs.Routes.{Routes, route_of}
 use Rattle.run_laws.specs.Views.{Entry, entry_of, hops_of}
 use Rattle.run_laws.specs.Lawful.{Due, same_due, without, sent, RunState}
 use Rattle.run_laws.proofs.Heads.{same_some}

@@ -1,34 +1,33 @@
 -- What holds of the times of a state of a stated run, and how each step keeps it.
-use Rattle.std.proofs.Common.{◌≡◌, ℕ, zero, suc, ◌<◌, ◌≤◌, ◌+◌, List, [], ◌∷◌, ◌++◌, length, get_or, set, drop, refl, sym, ap, ◌∙◌, subst, arith, inl, inr, ◌⊎◌, Some, None}
+use Rattle.std.proofs.Common.{◌≡◌, ℕ, suc, ◌<◌, ◌≤◌, ◌+◌, List, [], ◌∷◌, ◌++◌, length, set, drop, refl, sym, ap, ◌∙◌, subst, arith, inl, inr, ◌⊎◌, Some, None}
 use Rattle.std.specs.Prelude.{Option, pos, ◌≢◌}
 use Rattle.std.proofs.lemmas.Bool.{cases_eq}
 use Rattle.std.proofs.lemmas.List.{get_or-map, length_push, get_or_push}
-use Rattle.rational.specs.Rational.{ℚ, int, ◌+ℚ◌, ◌-ℚ◌, ◌*ℚ◌, ◌/ℚ◌, ◌≤ℚ◌, ◌<ℚ◌}
+use Rattle.rational.specs.Rational.{ℚ, int, ◌+ℚ◌, ◌-ℚ◌, ◌*ℚ◌, ◌/ℚ◌, ◌≤ℚ◌}
 use Rattle.rational.specs.MinMax.{max_q}
-use Rattle.rational.proofs.Linear.{with1, with2, with3, with4, with5, with6, with7}
+use Rattle.rational.proofs.Linear.{with2, with3, with4, with7}
 use Rattle.rational.proofs.Laws.{le_trans}
 use Rattle.rational.proofs.Quotients.{div_nonneg}
 use Rattle.rational.proofs.MinMax.{max_q_ge_left, max_q_ge_right}
 use Rattle.run_laws.specs.declared.steps.Step.{Step}
 use Rattle.run_laws.specs.declared.steps.Step.TheVariants.{Enter, Reach, Work, Leave, Visit}
 use Rattle.run_laws.specs.Cards.{Card, whole, size, Arrives, Works, Leaves, Visits}
-use Rattle.run_laws.specs.Servers.{Discipline, Fifo, Priority, Drr, Server, Under, ServerState, done, done_so_far, head_of, without_head, start}
+use Rattle.run_laws.specs.Servers.{Discipline, Fifo, Priority, Drr, Server, Under, ServerState, done, done_so_far, head_of, start}
 use Rattle.run_laws.specs.Next.{next}
 use Rattle.run_laws.specs.Allows.{next_card, MayVisit}
-use Rattle.run_laws.specs.Routes.{Hop, Routes, server_at, link_at, route_of, PassesServer, first_server, server_after}
+use Rattle.run_laws.specs.Routes.{Routes, server_at, link_at, route_of, PassesServer, first_server, server_after}
 use Rattle.run_laws.specs.Views.{Entry, entry_of, hops_of, card_of, entered_after, server_of, seen}
 use Rattle.run_laws.specs.Lawful.{Due, RunState, sent, state_at, next_run, run_start}
 use Rattle.run_laws.proofs.Heads.{head_push, pick_is_head, same_some}
 use Rattle.run_laws.proofs.Sizes.{whole_le}
 use Rattle.stated_runs.specs.Setups.{Setup, IsSetup, IsFirstOpen, IsStretch, opening_of, packet_of, rate_of}
-use Rattle.stated_runs.specs.DueSteps.{IsLeaving, IsResumed, IsStarted, IsVisited, IsEntering, IsDue, step_time}
-use Rattle.stated_runs.specs.Simulated.{IsNext}
-use Rattle.stated_runs.proofs.Lists.{In, in_either, in_without, contains_in, head_in}
+use Rattle.stated_runs.specs.DueSteps.{IsLeaving, IsResumed, IsStarted, IsEntering, IsDue}
+use Rattle.stated_runs.proofs.Lists.{In, in_either, in_without, contains_in}
 use Rattle.stated_runs.proofs.GoodServers.{IsCardAt}
-use Rattle.stated_runs.proofs.Good.{IsGood, IsGoodStep, own_state, other_state, extends_push}
+use Rattle.stated_runs.proofs.Good.{IsGood, own_state, other_state, extends_push}
 use Rattle.stated_runs.proofs.GoodWork.{good_work_of}
 use Rattle.stated_runs.proofs.GoodSteps.{coming}
-use Rattle.sim_bounds.specs.Horizons.{path_bits, bits_through, load, work_span, IsRising, IsForward}
+use Rattle.sim_bounds.specs.Horizons.{path_bits, bits_through, load, IsRising, IsForward}
 use Rattle.sim_bounds.proofs.OpenTime.{open_time}
 use Rattle.sim_bounds.proofs.Spans.{come_by, left_by, enters_by, first_nonneg, first_is_first, next_later}
 use Rattle.sim_bounds.proofs.Ahead.{bits_from, bits_after, from_first, from_own, after_later, leave_other, leave_own}

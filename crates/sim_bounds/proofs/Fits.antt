@@ -1,5 +1,5 @@
 -- Where the gauge of a network and a trace is below 2 ^ 120, each number of their simulation is small.
-use Rattle.std.proofs.Common.{◌≡◌, ℕ, zero, suc, ◌<◌, ◌≤◌, ◌*◌, ◌^◌, List, [], ◌∷◌, ◌++◌, length, map, get_or, refl, sym, ap, ◌∙◌, subst, arith, inl, inr, Some, None}
+use Rattle.std.proofs.Common.{◌≡◌, ℕ, ◌<◌, ◌^◌, List, [], ◌∷◌, ◌++◌, length, map, refl, sym, subst, arith, inl, inr, Some, None}
 use Rattle.std.specs.Prelude.{Option, pos, nat_abs}
 use Rattle.std.specs.List.{flat_map, AllByRecursion}
 use Rattle.std.proofs.lemmas.Bool.{cases_lt}
@@ -9,13 +9,13 @@ use native.Mathlib.Nat.{dvd-mul_left}
 use Rattle.rational.specs.Rational.{ℚ, int, ◌*ℚ◌, ◌/ℚ◌, ◌≤ℚ◌, ◌<ℚ◌}
 use Rattle.rational.specs.Gauge.{common_den, bound_of}
 use Rattle.rational.specs.Grid.{Whole}
-use Rattle.rational.proofs.Linear.{with1, with2, with4}
+use Rattle.rational.proofs.Linear.{with1, with2}
 use Rattle.rational.proofs.Laws.{le_trans, le_of_lt, mul_le_mul_right, mul_one, one_mul, not_zero}
 use Rattle.rational.proofs.Quotients.{div_nonneg, div_unique}
 use Rattle.rational.proofs.Integers.{nat_le}
 use Rattle.rational.proofs.Grid.{whole_int, whole_weaken, whole_both}
 use Rattle.min_plus.specs.WholeUp.{whole_up}
-use Rattle.upp_curve.specs.Limits.{Sizes, twice, gauge_of}
+use Rattle.upp_curve.specs.Limits.{twice}
 use Rattle.upp_curve.proofs.CommonDen.{common_den_pos, common_den_each, bound_pos, bound_each}
 use Rattle.upp_curve.proofs.Rounding.{whole_up_least}
 use Rattle.run_laws.specs.declared.steps.Step.TheVariants.{Work}
@@ -27,21 +27,23 @@ use Rattle.net_model.specs.declared.trace.Stall.{Stall}
 use Rattle.net_model.specs.Networks.{Net, NetServer}
 use Rattle.net_model.specs.NetRoutes.{link_for, server_for}
 use Rattle.net_model.specs.Accepted.{IsAccepted}
-use Rattle.net_model.specs.Traces.{SpecTrace, IsTrace, IsStall, IsTracePacket}
-use Rattle.net_model.specs.Orders.{IsOrder}
-use Rattle.stated_runs.specs.Setups.{Entering, GateTimes, StallTimes, Opening, Setup, IsSetup, opening_of, rate_of, packet_of}
-use Rattle.stated_runs.specs.FromTraces.{gate_of, setup_of, openings_from, IsTraceOf}
-use Rattle.stated_runs.specs.TimeGrids.{IsTime, IsGateTime, IsOnGrid, RunFits}
+use Rattle.net_model.specs.Traces.{SpecTrace, IsTrace, IsStall}
+use Rattle.net_model.specs.Walks.{IsFeedForward}
+use Rattle.stated_runs.specs.Setups.{Entering, GateTimes, Opening, IsSetup, opening_of, rate_of, packet_of}
+use Rattle.stated_runs.specs.FromTraces.{gate_of, setup_of, IsTraceOf}
+use Rattle.stated_runs.specs.TimeGrids.{IsGateTime, IsOnGrid, RunFits}
 use Rattle.stated_runs.proofs.Lists.{In, in_contains}
 use Rattle.stated_runs.proofs.Routed.{place_of}
 use Rattle.stated_runs.proofs.MadeSetups.{traces_make_setups}
-use Rattle.sim_bounds.specs.Horizons.{horizon, first_time, IsForward}
+use Rattle.sim_bounds.specs.Horizons.{horizon, IsForward}
 use Rattle.sim_bounds.specs.Times.{IsGateWhole, IsGrid}
-use Rattle.sim_bounds.specs.Gauge.{gate_times, server_times, stall_times, trace_times, rates_of, common_num, total_bits, simulation_numbers, numbers_of_curves, curves_of, simulation_sizes, simulation_gauge, grid_of}
+use Rattle.sim_bounds.specs.Gauge.{gate_times, server_times, stall_times, trace_times, rates_of, common_num, total_bits, simulation_numbers, simulation_sizes, simulation_gauge, grid_of}
 use Rattle.sim_bounds.proofs.Spans.{first_nonneg, enters_by, stalls_by}
 use Rattle.sim_bounds.proofs.InTime.{first_in_time}
 use Rattle.sim_bounds.proofs.TimesOf.{due_in_time, due_on_grid, times_of}
-use Rattle.sim_bounds.proofs.MadeBounds.{in_left, in_right, in_map, in_flat, each_in, all_in, any_made, made_from, many_openings, stalls_of, gates_of, place_in, packet_in, made_forward}
+use Rattle.sim_bounds.proofs.Members.{in_left, in_right, in_map, in_flat, each_in, all_in, any_made, made_from}
+use Rattle.sim_bounds.proofs.Places.{place_of_server}
+use Rattle.sim_bounds.proofs.MadeBounds.{many_openings, stalls_of, gates_of, packet_in, made_forward}
 use Rattle.sim_bounds.proofs.Gauged.{AreSome, IsBelow, is_below, both_some, common_num_pos, common_num_each, time_whole, work_in, cycle_in, bits_in, gate_fits, stalls_fit, room_of, work_fits}
 
 -- ---- the grid
@@ -57,7 +59,7 @@ trace_whole net trace t h =
 server_whole : (net : Net) (trace : SpecTrace) (x : NetServer) (t : ℚ) → In net.servers x → In (server_times x) t → Whole (grid_of net trace) t
 server_whole net trace x t i h =
     times_whole net trace t (in_left (trace_times trace ++ flat_map server_times net.servers) _ t
-        (in_right (trace_times trace) (flat_map server_times net.servers) t (in_flat server_times net.servers x t i h)))
+    (in_right (trace_times trace) (flat_map server_times net.servers) t (in_flat server_times net.servers x t i h)))
 
 gate_whole : (d : ℕ) (g : Option GateTimes) → ((t : ℚ) → In (gate_times g) t → Whole d t) → IsGateWhole d g
 gate_whole d None h = tt
@@ -67,8 +69,8 @@ works_whole : (net : Net) (trace : SpecTrace) → IsAccepted net → (s n : ℕ)
 works_whole net trace ok s n =
     any_made (λ r. Whole (grid_of net trace) (whole n /ℚ r)) (λ (x : NetServer). x.rate) net.servers s (int (pos 1))
     (
-      let one : int (pos 0) <ℚ int (pos 1) = with1 (int (pos 0)) (λ c. omega (arith, c.le, c.lt, c.same)) in
-      subst (λ x. Whole (grid_of net trace) x) (sym (div_unique (whole n) (int (pos 1)) (whole n) (not_zero (int (pos 1)) one) (mul_one (whole n)))) (whole_int (grid_of net trace) (pos n)))
+    let one : int (pos 0) <ℚ int (pos 1) = with1 (int (pos 0)) (λ c. omega (arith, c.le, c.lt, c.same)) in
+    subst (λ x. Whole (grid_of net trace) x) (sym (div_unique (whole n) (int (pos 1)) (whole n) (not_zero (int (pos 1)) one) (mul_one (whole n)))) (whole_int (grid_of net trace) (pos n)))
     (λ x i.
     let own = time_whole x.rate n (ok.servers x (in_contains net.servers x i)).rate in
     let num = whole_weaken (nat_abs x.rate.num) (common_num (rates_of net)) (whole n /ℚ x.rate)
@@ -81,7 +83,7 @@ made_grid net trace ok = record {
       let x = packet_in net trace p h in
       subst (λ (e : Entering). Whole (grid_of net trace) e.time) (sym x.2)
       (trace_whole net trace x.0.time (in_left (map (λ (t : TracePacket). t.time) trace.packets) (flat_map stall_times trace.stalls) x.0.time
-          (in_map (λ (t : TracePacket). t.time) trace.packets x.0 x.1)));
+      (in_map (λ (t : TracePacket). t.time) trace.packets x.0 x.1)));
   links = λ s. any_made (Whole (grid_of net trace)) link_for net.servers s (int (pos 0)) (whole_int (grid_of net trace) (pos 0))
       (λ x i. server_whole net trace x x.link i (inl refl));
   gates = gates_of (IsGateWhole (grid_of net trace)) net trace tt
@@ -164,15 +166,15 @@ gauge_below : (net : Net) (trace : SpecTrace) → IsAccepted net → simulation_
 unfolding simulation_gauge
 gauge_below net trace ok small = is_below (simulation_sizes net trace) (sizes_some net trace ok) small
 
-on_grid_of : (net : Net) (trace : SpecTrace) (order : List ℕ) → IsAccepted net → IsTrace trace → IsTraceOf net trace → IsOrder net order
+on_grid_of : (net : Net) (trace : SpecTrace) → IsAccepted net → IsTrace trace → IsTraceOf net trace → IsFeedForward net
     → simulation_gauge net trace < 2 ^ 120 → IsOnGrid (setup_of net trace) (grid_of net trace) (horizon (setup_of net trace))
-on_grid_of net trace order ok fine named o small =
+on_grid_of net trace ok fine named free small =
     let S = setup_of net trace in
     let d = grid_of net trace in
     let e = horizon S in
     let setup = traces_make_setups net trace ok fine named in
-    let forward = made_forward net trace order ok fine named o in
-    let place = place_in order in
+    let forward = made_forward net trace ok fine named free in
+    let place = place_of_server net in
     let grid = made_grid net trace ok in
     let below = gauge_below net trace ok small in
     let reach = reach_of net trace place setup forward in
@@ -218,17 +220,17 @@ on_grid_of net trace order ok fine named o small =
           (work_fits (simulation_sizes net trace) e r.0.rate x below c.some c.on_grid c.most reach.reach t);
     }
 
-pub run_fits : (net : Net) (trace : SpecTrace) (order : List ℕ) → IsAccepted net → IsTrace trace → IsTraceOf net trace → IsOrder net order
+pub run_fits : (net : Net) (trace : SpecTrace) → IsAccepted net → IsTrace trace → IsTraceOf net trace → IsFeedForward net
     → simulation_gauge net trace < 2 ^ 120 → RunFits (setup_of net trace) (grid_of net trace) (horizon (setup_of net trace))
-run_fits net trace order ok fine named o small =
+run_fits net trace ok fine named free small =
     let S = setup_of net trace in
     let d = grid_of net trace in
     let setup = traces_make_setups net trace ok fine named in
-    let forward = made_forward net trace order ok fine named o in
-    let place = place_in order in
+    let forward = made_forward net trace ok fine named free in
+    let place = place_of_server net in
     let grid = made_grid net trace ok in
     record {
-      grid = on_grid_of net trace order ok fine named o small;
+      grid = on_grid_of net trace ok fine named free small;
       due = λ steps f y due.
           let t = due_in_time S place steps y setup forward f due in
           let w = due_on_grid S d steps y setup grid f due in

@@ -1,42 +1,33 @@
 -- Where the simulation gauge is below 2 ^ 120, the numbers of a stated run are small.
-use Rattle.std.proofs.Common.{◌≡◌, ℕ, zero, suc, ◌<◌, ◌≤◌, ◌+◌, ◌*◌, ◌-◌, ◌^◌, List, [], ◌∷◌, ◌++◌, length, map, get_or, refl, sym, ap, ◌∙◌, subst, arith, inl, inr, ◌⊎◌, Some, None}
-use Rattle.std.specs.Prelude.{Option, pos, negsuc, ◌≢◌, ℤ, ◌*ℤ◌, nat_abs, nat_lt, max, sum_by}
-use Rattle.std.specs.List.{flat_map, AllByRecursion}
+use Rattle.std.proofs.Common.{◌≡◌, ℕ, zero, suc, ◌<◌, ◌≤◌, ◌*◌, ◌-◌, ◌^◌, List, [], ◌∷◌, length, get_or, refl, sym, ap, ◌∙◌, subst, arith, inl, inr, Some, None}
+use Rattle.std.specs.Prelude.{Option, pos, negsuc, ℤ, nat_abs, nat_lt}
+use Rattle.std.specs.List.{AllByRecursion}
 use Prim.Native.Nat.{◌∣◌}
-use Rattle.std.proofs.lemmas.Bool.{cases_eq, cases_lt, eq-eqb, ne_eqb}
+use Rattle.std.proofs.lemmas.Bool.{cases_eq, eq-eqb, ne_eqb}
 use Rattle.std.proofs.lemmas.Int.{ints}
-use Rattle.std.proofs.lemmas.List.{get_or_past, length-map}
-use Rattle.std.proofs.Math.Nat.{le-max_left, le-max_right}
-use native.Mathlib.Nat.{dvd_trans, dvd-mul_left, one-dvd}
-use Rattle.rational.specs.Rational.{ℚ, int, den, frac, ◌+ℚ◌, ◌-ℚ◌, ◌*ℚ◌, ◌/ℚ◌, ◌≤ℚ◌, ◌<ℚ◌}
+use native.Mathlib.Nat.{dvd_trans}
+use Rattle.rational.specs.Rational.{ℚ, int, den, frac, ◌*ℚ◌, ◌/ℚ◌, ◌≤ℚ◌, ◌<ℚ◌}
 use Rattle.rational.specs.Fractions.{frac_self, frac-same}
-use Rattle.rational.specs.Gauge.{common_den, bound_of, lcm}
-use Rattle.rational.specs.Grid.{Whole, Within}
+use Rattle.rational.specs.Grid.{Whole}
 use Rattle.rational.specs.Ratio.{IsSmall}
-use Rattle.rational.proofs.Linear.{with1, with2, with3, with4, with5}
-use Rattle.rational.proofs.Laws.{le_refl, le_trans, le_of_lt, lt_le_trans, lt_irrefl, mul_le_mul, mul_le_mul_right, mul_nonneg, mul_comm, mul_one, one_mul, div_mul, not_zero, num_some}
-use Rattle.rational.proofs.Quotients.{div_nonneg, div_unique, div_mono}
+use Rattle.rational.proofs.Linear.{with1, with2, with4, with5}
+use Rattle.rational.proofs.Laws.{le_trans, le_of_lt, lt_le_trans, mul_le_mul, mul_le_mul_right, mul_nonneg, mul_comm, one_mul, not_zero, num_some}
+use Rattle.rational.proofs.Quotients.{div_nonneg, div_mono}
 use Rattle.rational.proofs.Integers.{mul_whole, int_mul, nat_le}
 use Rattle.rational.proofs.Multiples.{lcm_left, lcm_right, lcm_pos}
-use Rattle.rational.proofs.Grid.{whole_int, whole_weaken, whole_both, whole_mul, whole_div, whole_den, whole_divides, within_nonneg}
+use Rattle.rational.proofs.Grid.{whole_int, whole_mul, whole_div, within_nonneg}
 use Rattle.rational.proofs.Sizes.{largest_part, small_on_grid}
 use Rattle.rational.proofs.MinMax.{max_q_ge_left, max_q_ge_right}
-use Rattle.min_plus.specs.WholeUp.{whole_up}
-use Rattle.upp_curve.specs.Limits.{Numbers, Sizes, twice, gauge_of}
-use Rattle.upp_curve.proofs.CommonDen.{common_den_pos, common_den_each, bound_pos, bound_each}
-use Rattle.upp_curve.proofs.Rounding.{whole_up_least}
+use Rattle.upp_curve.specs.Limits.{Sizes, gauge_of}
 use Rattle.run_laws.specs.Cards.{whole}
 use Rattle.run_laws.specs.Routes.{Hop, PassesServer, link_at, route_of}
 use Rattle.run_laws.proofs.Sizes.{whole_le, whole_nonneg}
-use Rattle.net_model.specs.Networks.{Net, NetServer}
-use Rattle.net_model.specs.Traces.{SpecTrace}
 use Rattle.stated_runs.specs.Setups.{GateTimes, StallTimes, Entering, Setup, IsSetup, IsGateFor, opening_of, rate_of, packet_of}
 use Rattle.stated_runs.specs.TimeGrids.{HasRoom, IsTime, IsGateTime, AreStallTimes}
 use Rattle.sim_bounds.specs.Horizons.{latest_of, path_bits, bits_through, load, first_time, gate_ratio, gate_cycle, work_span, span, horizon, sum_below, IsForward}
-use Rattle.sim_bounds.specs.Times.{IsGateWhole, AreStallsWhole, IsGrid}
-use Rattle.sim_bounds.specs.Gauge.{common_num, sizes_from}
-use Rattle.sim_bounds.proofs.Spans.{counted_nonneg, first_nonneg, stalls_by, ratio_pos, cycle_nonneg, work_nonneg, span_most, span_nonneg, sum_nonneg, sum_all, before}
-use Rattle.sim_bounds.proofs.InTime.{first_in_time, left_before}
+use Rattle.sim_bounds.specs.Times.{IsGateWhole, AreStallsWhole}
+use Rattle.sim_bounds.specs.Gauge.{common_num}
+use Rattle.sim_bounds.proofs.Spans.{counted_nonneg, first_nonneg, ratio_pos, cycle_nonneg, work_nonneg, span_most, span_nonneg, sum_nonneg, sum_all, before}
 use Rattle.stated_runs.proofs.Lists.{In}
 
 -- ---- numbers of a gauge

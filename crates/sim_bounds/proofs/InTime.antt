@@ -1,23 +1,23 @@
 -- No step that is due is past the horizon.
-use Rattle.std.proofs.Common.{◌≡◌, ℕ, ◌<◌, ◌≤◌, List, [], ◌∷◌, length, refl, sym, ap, ◌∙◌, subst, arith, inl, inr, ◌⊎◌, Some, None}
-use Rattle.std.specs.Prelude.{Option, pos}
+use Rattle.std.proofs.Common.{◌≡◌, ℕ, ◌<◌, List, [], ◌∷◌, length, refl, sym, ap, ◌∙◌, subst, arith, Some}
+use Rattle.std.specs.Prelude.{pos}
 use Rattle.rational.specs.Rational.{ℚ, int, ◌+ℚ◌, ◌-ℚ◌, ◌*ℚ◌, ◌/ℚ◌, ◌≤ℚ◌, ◌<ℚ◌}
 use Rattle.rational.specs.MinMax.{max_q}
-use Rattle.rational.proofs.Linear.{with1, with2, with3, with4, with5, with6, with7}
+use Rattle.rational.proofs.Linear.{with2, with3, with4, with5, with7}
 use Rattle.rational.proofs.Laws.{le_refl, le_trans, le_of_lt, mul_le_mul, mul_comm, div_mul, not_zero, le_of_mul}
-use Rattle.rational.proofs.Quotients.{div_nonneg, zero_div}
+use Rattle.rational.proofs.Quotients.{zero_div}
 use Rattle.rational.proofs.MinMax.{max_q_ge_left, max_q_ge_right}
 use Rattle.run_laws.specs.declared.steps.Step.{Step}
 use Rattle.run_laws.specs.declared.steps.Step.TheVariants.{Enter, Reach, Work, Leave, Visit}
 use Rattle.run_laws.specs.Cards.{Card, whole, size}
-use Rattle.run_laws.specs.Servers.{Under, done, done_so_far, head_of}
-use Rattle.run_laws.specs.Routes.{server_at, link_at, route_of}
-use Rattle.run_laws.specs.Views.{card_of, hops_of, server_of}
+use Rattle.run_laws.specs.Servers.{done_so_far, head_of}
+use Rattle.run_laws.specs.Routes.{server_at, link_at}
+use Rattle.run_laws.specs.Views.{card_of, hops_of}
 use Rattle.run_laws.specs.Lawful.{Due, RunState, state_at, next_run, run_start, after_run}
 use Rattle.run_laws.proofs.Sizes.{whole_le, whole_nonneg}
-use Rattle.stated_runs.specs.Setups.{Setup, IsSetup, IsFirstOpen, IsStretch, opening_of, packet_of, rate_of}
-use Rattle.stated_runs.specs.DueSteps.{IsEntering, IsLeaving, IsVisited, IsDue, step_time}
-use Rattle.stated_runs.proofs.Lists.{In, contains_in}
+use Rattle.stated_runs.specs.Setups.{Setup, IsSetup, IsFirstOpen, opening_of, rate_of}
+use Rattle.stated_runs.specs.DueSteps.{IsDue, step_time}
+use Rattle.stated_runs.proofs.Lists.{contains_in}
 use Rattle.stated_runs.proofs.Routed.{place_of}
 use Rattle.stated_runs.proofs.Good.{IsGood, good_from_step}
 use Rattle.stated_runs.proofs.GoodWork.{good_work_of}
@@ -25,9 +25,9 @@ use Rattle.stated_runs.proofs.GoodSteps.{good_next}
 use Rattle.stated_runs.proofs.Lawfulness.{good_start}
 use Rattle.sim_bounds.specs.Horizons.{first_time, load, work_span, horizon, sum_below, span, IsForward}
 use Rattle.stated_runs.specs.Simulated.{FollowsSoFar}
-use Rattle.sim_bounds.specs.Times.{end_time, time_left, far_time, IsTimely}
+use Rattle.sim_bounds.specs.Times.{IsTimely}
 use Rattle.sim_bounds.proofs.OpenTime.{open_time}
-use Rattle.sim_bounds.proofs.Spans.{come_by, left_by, enters_by, first_nonneg, first_is_first, left_in_time, work_nonneg, span_nonneg, sum_nonneg}
+use Rattle.sim_bounds.proofs.Spans.{come_by, left_by, enters_by, first_nonneg, left_in_time, work_nonneg, span_nonneg, sum_nonneg}
 use Rattle.sim_bounds.proofs.AheadSums.{ahead}
 use Rattle.sim_bounds.proofs.Levels.{clock, clock_of, wait_flat, in_span}
 use Rattle.sim_bounds.proofs.Bounded.{IsBounded, late_at, inside_ahead, clock_in_time, bounded_start, bounded_next, next_head, stretch_from, idle_of}

@@ -1,20 +1,20 @@
 -- A server that has all its packets by a time A works, from A on, whenever it is open, until it has worked off all. So
 -- what is ahead of it falls as its open time grows.
-use Rattle.std.proofs.Common.{◌≡◌, ℕ, ◌<◌, ◌≤◌, ◌+◌, List, [], ◌∷◌, refl, sym, ap, ◌∙◌, subst, arith, inl, inr, ◌⊎◌, Some, None}
+use Rattle.std.proofs.Common.{◌≡◌, ℕ, ◌≤◌, ◌+◌, List, [], ◌∷◌, refl, sym, ap, ◌∙◌, subst, arith, inl, inr, Some, None}
 use Rattle.std.specs.Prelude.{Option, pos}
-use Rattle.rational.specs.Rational.{ℚ, int, ◌+ℚ◌, ◌-ℚ◌, ◌*ℚ◌, ◌/ℚ◌, ◌≤ℚ◌, ◌<ℚ◌}
+use Rattle.rational.specs.Rational.{ℚ, int, ◌+ℚ◌, ◌-ℚ◌, ◌*ℚ◌, ◌/ℚ◌, ◌≤ℚ◌}
 use Rattle.rational.specs.MinMax.{max_q}
-use Rattle.rational.proofs.Linear.{with1, with2, with3, with4, with5, with6, with7}
+use Rattle.rational.proofs.Linear.{with1, with3, with4, with5, with6, with7}
 use Rattle.rational.proofs.Laws.{le_refl, le_trans, le_of_lt, lt_le_trans, le_or_lt, lt_irrefl, mul_le_mul, mul_le_mul_right, mul_add, mul_comm, one_mul, div_mul, not_zero, le_of_mul}
 use Rattle.rational.proofs.Quotients.{div_nonneg}
 use Rattle.rational.proofs.MinMax.{max_q_is_left, max_q_right, max_q_le, max_q_ge_left, max_q_ge_right}
 use Rattle.run_laws.specs.Cards.{Card, whole, size, Arrives, Works, Leaves, Visits}
 use Rattle.run_laws.specs.Servers.{Discipline, Under, ServerState, done, done_so_far}
 use Rattle.run_laws.specs.Next.{next}
-use Rattle.run_laws.proofs.Sizes.{whole_le, whole_nonneg, whole_sum}
-use Rattle.stated_runs.specs.Setups.{Setup, IsSetup, GateTimes, StallTimes, Opening, IsGateOpen, IsStalled, IsOpen, IsFirstOpen, IsStretch, opening_of, rate_of}
+use Rattle.run_laws.proofs.Sizes.{whole_le, whole_sum}
+use Rattle.stated_runs.specs.Setups.{Setup, IsSetup, StallTimes, IsGateOpen, IsStalled, IsOpen, IsFirstOpen, IsStretch, opening_of, rate_of}
 use Rattle.sim_bounds.specs.Horizons.{latest_of, first_time, load, gate_ratio, gate_cycle, work_span}
-use Rattle.sim_bounds.proofs.OpenTime.{IsOpenTime, open_time, open_time_of}
+use Rattle.sim_bounds.proofs.OpenTime.{open_time, open_time_of}
 use Rattle.sim_bounds.proofs.Spans.{first_nonneg, stalls_by}
 
 -- ---- after the first time no stall is left

@@ -1,3 +1,4 @@
+pub mod Members
 pub mod OpenTime
 pub mod Spans
 pub mod Ahead
@@ -8,6 +9,7 @@ pub mod InTime
 pub mod OpenGrid
 pub mod OnGrid
 pub mod TimesOf
+pub mod Places
 pub mod MadeBounds
 pub mod Gauged
 pub mod Fits

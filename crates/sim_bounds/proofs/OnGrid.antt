@@ -1,30 +1,29 @@
 -- All times of a stated run are on the grid of its setup.
-use Rattle.std.proofs.Common.{◌≡◌, ℕ, ◌<◌, ◌≤◌, List, [], ◌∷◌, ◌++◌, length, refl, sym, ap, ◌∙◌, subst, arith, inl, inr, ◌⊎◌, Some, None}
+use Rattle.std.proofs.Common.{◌≡◌, ℕ, ◌<◌, List, [], ◌∷◌, ◌++◌, length, refl, sym, ap, ◌∙◌, subst, arith, inl, inr, Some, None}
 use Rattle.std.specs.Prelude.{Option, pos}
 use Rattle.std.proofs.lemmas.Bool.{cases_eq}
 use Rattle.std.proofs.lemmas.List.{get_or-map}
-use Rattle.rational.specs.Rational.{ℚ, int, ◌+ℚ◌, ◌-ℚ◌, ◌*ℚ◌, ◌/ℚ◌, ◌≤ℚ◌, ◌<ℚ◌}
+use Rattle.rational.specs.Rational.{ℚ, int, ◌+ℚ◌, ◌-ℚ◌, ◌*ℚ◌, ◌/ℚ◌, ◌≤ℚ◌}
 use Rattle.rational.specs.Grid.{Whole}
 use Rattle.rational.proofs.Laws.{le_trans, mul_comm, not_zero}
 use Rattle.rational.proofs.Grid.{whole_int, whole_add, whole_sub}
 use Rattle.rational.proofs.Quotients.{add_div, sub_div, zero_div, div_unique}
 use Rattle.run_laws.specs.declared.steps.Step.{Step}
 use Rattle.run_laws.specs.declared.steps.Step.TheVariants.{Enter, Reach, Work, Leave, Visit}
-use Rattle.run_laws.specs.Cards.{Card, whole, size, Arrives, Works, Leaves, Visits}
+use Rattle.run_laws.specs.Cards.{Card, size, Arrives, Works}
 use Rattle.run_laws.specs.Servers.{Fifo, Server, Under, ServerState, done, done_so_far, start}
 use Rattle.run_laws.specs.Next.{next}
 use Rattle.run_laws.specs.Routes.{server_at, link_at, route_of, first_server, server_after}
 use Rattle.run_laws.specs.Views.{hops_of, card_of, server_of, seen}
 use Rattle.run_laws.specs.Lawful.{Due, RunState, state_at, next_run, run_start, after_run}
-use Rattle.run_laws.proofs.Heads.{same_some}
-use Rattle.stated_runs.specs.Setups.{Setup, IsSetup, IsStretch, opening_of, rate_of}
+use Rattle.stated_runs.specs.Setups.{Setup, IsSetup, rate_of}
 use Rattle.stated_runs.specs.DueSteps.{IsDue, step_time}
 use Rattle.stated_runs.proofs.Lists.{In, in_without, contains_in}
 use Rattle.stated_runs.proofs.Good.{IsGood, own_state, other_state, good_from_step}
 use Rattle.stated_runs.proofs.GoodSteps.{good_next}
 use Rattle.stated_runs.proofs.Lawfulness.{good_start}
 use Rattle.stated_runs.specs.Simulated.{FollowsSoFar}
-use Rattle.sim_bounds.specs.Times.{end_time, time_left, far_time, IsGrid, IsStepOnGrid}
+use Rattle.sim_bounds.specs.Times.{time_left, IsGrid, IsStepOnGrid}
 use Rattle.sim_bounds.proofs.Levels.{clock, clock_of}
 use Rattle.sim_bounds.proofs.Bounded.{stretch_from, idle_of, sent_in}
 use Rattle.sim_bounds.proofs.OpenGrid.{first_open_whole, stretch_end_whole}

@@ -1,16 +1,16 @@
 -- How long a gate is open up to a time, and how that grows.
-use Rattle.std.proofs.Common.{◌≡◌, ℕ, suc, ◌<◌, ◌≤◌, ◌+◌, refl, sym, ap, ◌∙◌, subst, arith, inl, inr, ◌⊎◌, Some, None}
+use Rattle.std.proofs.Common.{◌≡◌, ℕ, suc, ◌≤◌, sym, ap, ◌∙◌, subst, arith, inl, inr, Some, None}
 use Rattle.std.specs.Prelude.{Option, pos}
 use Rattle.std.proofs.lemmas.Bool.{cases_order}
 use Rattle.rational.specs.Rational.{ℚ, int, ◌+ℚ◌, ◌-ℚ◌, ◌*ℚ◌, ◌/ℚ◌, ◌≤ℚ◌, ◌<ℚ◌}
 use Rattle.rational.specs.MinMax.{min_q}
 use Rattle.rational.specs.Whole.{whole_part}
 use Rattle.rational.proofs.Linear.{with1, with2, with3, with4, with5, with6, with7, with8}
-use Rattle.rational.proofs.Laws.{le_refl, le_trans, le_of_lt, lt_le_trans, le_lt_trans, le_or_lt, lt_irrefl, mul_le_mul, mul_le_mul_right, mul_lt_mul_right, mul_sub, mul_add, mul_comm, mul_assoc, one_mul, div_mul, not_zero, antisym}
+use Rattle.rational.proofs.Laws.{le_refl, le_trans, le_of_lt, lt_le_trans, le_or_lt, lt_irrefl, mul_le_mul, mul_le_mul_right, mul_lt_mul_right, mul_sub, mul_add, mul_comm, mul_assoc, one_mul, div_mul, not_zero, antisym}
 use Rattle.rational.proofs.Whole.{whole_le as part_le, whole_gt as part_gt, one_more_times}
 use Rattle.rational.proofs.MinMax.{min_q_one, min_q_le_left, min_q_le_right, min_q_ge}
 use Rattle.run_laws.specs.Cards.{whole}
-use Rattle.run_laws.proofs.Sizes.{whole_le, whole_nonneg}
+use Rattle.run_laws.proofs.Sizes.{whole_le}
 use Rattle.stated_runs.specs.Setups.{GateTimes, IsGate, IsGateFor, IsGateOpen}
 
 -- ---- cycles
@@ -148,7 +148,7 @@ gate_flat g ok x y from l closed = elim (le_or_lt y x) [
                   let p = a.goes_on in
                   let r = ok.some_slot in
                   absurd (closed (whole (suc m) *ℚ c) (with4 x c (whole m *ℚ c) (whole (suc m) *ℚ c) (λ o. omega (arith, o.le, o.lt, o.same))) h
-                      (suc m, le_refl (whole (suc m) *ℚ c), with2 (whole (suc m) *ℚ c) s (λ o. omega (arith, o.le, o.lt, o.same))))
+                  (suc m, le_refl (whole (suc m) *ℚ c), with2 (whole (suc m) *ℚ c) s (λ o. omega (arith, o.le, o.lt, o.same))))
             ] in
             let most = gate_most c s ok.some_slot ok.within y (le_trans from l) (suc m) to in
             let full : s ≤ℚ min_q (x -ℚ whole m *ℚ c) s = min_q_ge (x -ℚ whole m *ℚ c) s s (with3 x s (whole m *ℚ c) (λ o. omega (arith, o.le, o.lt, o.same))) (le_refl s) in

@@ -1,20 +1,18 @@
 -- The laws of times.
-use Rattle.std.proofs.Common.{◌≡◌, ℕ, ◌<◌, List, length, ap, subst, sym, Some}
-use Rattle.std.specs.Prelude.{pos}
-use Rattle.rational.specs.Rational.{int, ◌-ℚ◌, ◌/ℚ◌, ◌≤ℚ◌}
+use Rattle.std.proofs.Common.{◌≡◌, ℕ, List, ap, subst}
+use Rattle.rational.specs.Rational.{◌-ℚ◌, ◌/ℚ◌}
 use Rattle.rational.specs.Grid.{Whole}
 use Rattle.rational.proofs.Laws.{le_trans}
 use Rattle.run_laws.specs.declared.steps.Step.{Step}
 use Rattle.run_laws.specs.Cards.{size}
-use Rattle.run_laws.specs.Servers.{Under, done, done_so_far}
-use Rattle.run_laws.specs.Lawful.{RunState, state_at, run_start, after_run}
+use Rattle.run_laws.specs.Servers.{done, done_so_far}
+use Rattle.run_laws.specs.Lawful.{state_at, run_start, after_run}
 use Rattle.stated_runs.specs.Setups.{Setup, IsSetup, rate_of}
 use Rattle.stated_runs.specs.DueSteps.{IsDue}
-use Rattle.sim_bounds.specs.Horizons.{horizon, IsForward}
+use Rattle.sim_bounds.specs.Horizons.{IsForward}
 use Rattle.stated_runs.specs.Simulated.{FollowsSoFar}
 use Rattle.sim_bounds.specs.Times.{IsTimely, IsGrid, IsStepOnGrid, HasTimes}
-use Rattle.sim_bounds.proofs.Spans.{left_by}
-use Rattle.sim_bounds.proofs.Levels.{clock, clock_of}
+use Rattle.sim_bounds.proofs.Levels.{clock_of}
 use Rattle.sim_bounds.proofs.Bounded.{clock_in_time, left_in_time}
 use Rattle.sim_bounds.proofs.InTime.{reached, timely, left_before}
 use Rattle.sim_bounds.proofs.OnGrid.{gridded, on_grid, left_whole}

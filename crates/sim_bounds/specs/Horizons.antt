@@ -1,5 +1,5 @@
 -- How far the times of a stated run can go: a first time, and a span for each server. (Own choice.)
-use Rattle.std.specs.Prelude.{Option, Some, None, ℕ, zero, suc, pos, ◌+◌, ◌<◌, ◌==◌, nat_lt, List, [], ◌∷◌, length, if◌then◌else◌}
+use Rattle.std.specs.Prelude.{Option, Some, None, ℕ, zero, suc, pos, ◌+◌, ◌<◌, ◌==◌, List, [], ◌∷◌, length, if◌then◌else◌}
 use Rattle.std.specs.List.{AllByRecursion}
 use Rattle.rational.specs.Rational.{ℚ, int, ◌+ℚ◌, ◌-ℚ◌, ◌*ℚ◌, ◌/ℚ◌, ◌≤ℚ◌}
 use Rattle.rational.specs.MinMax.{max_q}

@@ -5,7 +5,7 @@ use Rattle.run_laws.specs.Lawful.{run_start, after_run}
 use Rattle.net_model.specs.Networks.{Net}
 use Rattle.net_model.specs.Accepted.{IsAccepted}
 use Rattle.net_model.specs.Traces.{SpecTrace, IsTrace}
-use Rattle.net_model.specs.Orders.{IsOrder}
+use Rattle.net_model.specs.Walks.{IsFeedForward}
 use Rattle.stated_runs.specs.Setups.{Setup, IsSetup}
 use Rattle.stated_runs.specs.FromTraces.{setup_of, IsTraceOf}
 use Rattle.stated_runs.specs.TimeGrids.{RunFits}
@@ -32,7 +32,7 @@ StatesHaveTimes = (S : Setup) (place : ℕ → ℕ) (d : ℕ) (xs : List Step) �
 
 -- where the simulation gauge is below 2 ^ 120, all numbers of a simulation have room: its times are multiples of 1 over the
 -- grid, from 0 up to the horizon, and 8 times the horizon, and what a server works in such a time, have parts of at most 127
--- bits. (An order of the servers is what a network without cycles has.)
+-- bits.
 abbrev pub SimulationsFit : Type 0
-SimulationsFit = (net : Net) (trace : SpecTrace) (order : List ℕ) → IsAccepted net → IsTrace trace → IsTraceOf net trace → IsOrder net order
+SimulationsFit = (net : Net) (trace : SpecTrace) → IsAccepted net → IsTrace trace → IsTraceOf net trace → IsFeedForward net
     → simulation_gauge net trace < 2 ^ 120 → RunFits (setup_of net trace) (grid_of net trace) (horizon (setup_of net trace))

@@ -1,5 +1,5 @@
 -- The times of the steps of a stated run, as far as it has come.
-use Rattle.std.specs.Prelude.{Option, Some, None, ◌≡◌, ℕ, pos, ◌<◌, List, [], ◌∷◌, length}
+use Rattle.std.specs.Prelude.{Option, Some, None, ◌≡◌, ℕ, pos, ◌<◌, List, length}
 use Rattle.std.specs.List.{AllByRecursion}
 use Rattle.rational.specs.Rational.{ℚ, int, ◌+ℚ◌, ◌-ℚ◌, ◌/ℚ◌, ◌≤ℚ◌}
 use Rattle.rational.specs.Grid.{Whole}

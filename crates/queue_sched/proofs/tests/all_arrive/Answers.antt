@@ -1,4 +1,4 @@
-use Rattle.std.proofs.Common.{◌≡◌, ℕ, ◌<◌, ◌+◌, List, [], ◌∷◌, ◌++◌, ◌⊎◌, inl, inr, refl, sym, ap, arith}
+use Rattle.std.proofs.Common.{◌≡◌, ℕ, List, [], ◌∷◌, ◌++◌, ◌⊎◌, inl, inr, refl, arith}
 use Rattle.std.specs.Prelude.{pos}
 use Rattle.rational.specs.Rational.{int}
 use Rattle.run_laws.specs.Cards.{Card, Arrives}

@@ -1,7 +1,7 @@
-use Rattle.std.proofs.Common.{◌≡◌, refl, subst, Some}
+use Rattle.std.proofs.Common.{refl, subst, Some}
 use Rattle.std.specs.Prelude.{pos}
 use Rattle.rational.specs.Rational.{int}
-use Rattle.run_laws.specs.Cards.{Works, Leaves}
+use Rattle.run_laws.specs.Cards.{Works}
 use Rattle.run_laws.specs.Next.{next}
 use Rattle.queue_sched.specs.Turns.{Starts}
 use Rattle.queue_sched.proofs.tests.one_turn.Goals as goal
