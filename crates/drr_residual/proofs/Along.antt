@@ -17,7 +17,8 @@ use Rattle.run_laws.proofs.Cuts.{IsBefore}
 use Rattle.run_laws.proofs.States.{IsSound, sound_next, leaving, if_true}
 use Rattle.run_laws.proofs.Orders.{AllSmall}
 use Rattle.run_laws.proofs.Places.{under_bits}
-use Rattle.drr_residual.proofs.Rounds.{presence, same_queue, count_of, IsRound, has_left, round_next, is_started, own_count, other_count, set_other, head_without, first_counts}
+use Rattle.run_laws.specs.Rounds.{presence, same_queue, count_of, IsRound}
+use Rattle.run_laws.proofs.Rounds.{has_left, round_next, is_started, own_count, other_count, set_other, head_without, first_counts}
 use Rattle.drr_residual.proofs.Turns.{IsTurn, started_of, turn_arrives, turn_works, turn_left, turn_visits}
 
 -- ---- what the steps do to the deficits

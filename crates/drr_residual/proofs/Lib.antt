@@ -1,4 +1,3 @@
-pub mod Rounds
 pub mod Turns
 pub mod Along
 pub mod Shares

@@ -25,7 +25,8 @@ use Rattle.run_laws.proofs.Orders.{at_upto, AllSmall, small_after}
 use Rattle.run_laws.proofs.Gone.{after-append}
 use Rattle.run_laws.proofs.Waiting.{allowed-append, all_upto}
 use Rattle.run_laws.proofs.Places.{somebody, inside_some, under_bits, done_under, past_edge}
-use Rattle.drr_residual.proofs.Rounds.{UnderIsVisited, IsRound, round_next, own_count, other_count, same_queue, under_size}
+use Rattle.run_laws.specs.Rounds.{UnderIsVisited, IsRound, same_queue, under_size}
+use Rattle.run_laws.proofs.Rounds.{round_next, own_count, other_count}
 use Rattle.drr_residual.proofs.Turns.{IsTurn}
 use Rattle.drr_residual.proofs.Along.{long_next, IsAlong, IsHere, along, visits_of, starts_of, moved}
 

@@ -7,7 +7,8 @@ use Rattle.run_laws.specs.Servers.{Drr, Round, Under, head_of}
 use Rattle.run_laws.specs.Next.{fits, to_tail, rotated, visit_on, left_round, arrived_round, worked_round, visited_round}
 use Rattle.run_laws.specs.Allows.{IsFirst, next_card}
 use Rattle.run_laws.proofs.Heads.{same_some}
-use Rattle.drr_residual.proofs.Rounds.{presence, same_queue, count_of, IsRound, is_started, own_count, other_count, first_counts, head_push_none, set_most, set_none, set_other}
+use Rattle.run_laws.specs.Rounds.{presence, same_queue, count_of, IsRound}
+use Rattle.run_laws.proofs.Rounds.{is_started, own_count, other_count, first_counts, head_push_none, set_most, set_none, set_other}
 
 -- queue i stands in the list before any j
 abbrev pub ahead : ℕ → ℕ → List ℕ → Bool

@@ -1,41 +1,12 @@
 -- The runs of a network. (Le Boudec and Thiran; that work may be at any pace is our own choice.)
-use Rattle.std.specs.Prelude.{ℕ, List, [], ◌∷◌, map, Option, Some, None, true, false}
-use Rattle.rational.specs.Rational.{ℚ}
 use Rattle.upp_curve.specs.Curve.{value_at}
 use Rattle.run_laws.specs.Runs.{SpecRun}
-use Rattle.run_laws.specs.Servers.{Server}
-use Rattle.run_laws.specs.Routes.{Hop, Route, Routes}
 use Rattle.run_laws.specs.Lawful.{IsLawful}
 use Rattle.run_laws.specs.RunPremises.{KeepsPremises}
-use Rattle.net_model.specs.Networks.{Net, NetServer, NetFlow}
+use Rattle.net_model.specs.Networks.{Net}
+pub use Rattle.net_model.specs.NetRoutes.{hops_along, route_for, server_for, link_for, routes_of}
 use Rattle.net_cells.specs.Numbered.{packet, arrival, service}
 
--- ---- what runs need to know of a network
--- a path: at each server the queue of the same place
-abbrev pub hops_along : (path queues : List ℕ) → List Hop
-hops_along [] queues = []
-hops_along (s ∷ path) [] = []
-hops_along (s ∷ path) (q ∷ queues) = record { server = s; queue = q } ∷ hops_along path queues
-
--- where there is no flow, no packet enters
-abbrev pub route_for : Option NetFlow → Route
-route_for None = record { live = false; hops = [] }
-route_for (Some f) = record { live = true; hops = hops_along f.path f.queues }
-
-abbrev pub server_for : NetServer → Server
-server_for s = record { discipline = s.discipline; pace = None }
-
-abbrev pub link_for : NetServer → ℚ
-link_for s = s.link
-
-abbrev pub routes_of : Net → Routes
-routes_of net = record {
-  servers = map server_for net.servers;
-  links = map link_for net.servers;
-  flows = map route_for net.flows;
-}
-
--- ---- a run of the network
 -- it is lawful, and keeps each flow's longest packet and arrival curve, and each server's service curve
 pub record IsRunOf (net : Net) (run : SpecRun) : Type 0 where
   pub lawful : IsLawful (routes_of net) run

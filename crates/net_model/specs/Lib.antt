@@ -6,3 +6,5 @@ pub mod Walks
 pub mod Orders
 pub mod CurveKinds
 pub mod Plain
+pub mod Traces
+pub mod NetRoutes

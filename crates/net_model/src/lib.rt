@@ -11,6 +11,7 @@ mod plain;
 mod server;
 #[cfg(test)]
 mod tests;
+mod trace;
 
 pub use fault::{CurveRefusal, NetFault, NetKind};
 pub use flow::Flow;
@@ -18,3 +19,4 @@ pub use laws::kinds_may_stand;
 pub use network::Network;
 pub use plain::plain_network;
 pub use server::{Discipline, Server, ServiceKind};
+pub use trace::{Stall, Trace, TracePacket};

@@ -35,3 +35,4 @@ pub mod Oldest
 pub mod Outputs
 pub mod Lag
 pub mod Shifted
+pub mod Rounds

@@ -3,6 +3,7 @@ pub mod Cards
 pub mod Servers
 pub mod Next
 pub mod Allows
+pub mod Rounds
 pub mod Counts
 pub mod Premises
 pub mod Serves

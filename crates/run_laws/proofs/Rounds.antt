@@ -1,4 +1,4 @@
--- Deficit round robin: what holds of the list of queues, the visit and the deficits after every step.
+-- Deficit round robin: what holds of the list of queues, the visit and the deficits is kept by every step.
 use Rattle.std.specs.Prelude.{Option, Some, None, ◌≡◌, ◌≢◌, ◌≤◌, ◌+◌, ◌-◌, ℕ, zero, suc, ◌==◌, nat_le, List, [], ◌∷◌, ◌++◌, get_or, set, drop, if◌then◌else◌}
 use Rattle.std.proofs.Common.{arith, sym, ap, ◌∙◌, refl, inl, inr, subst}
 use Rattle.std.proofs.lemmas.Bool.{cases_Bool, cases_eq, eqb-true, eq-eqb, ne_eqb, leb-true, leb-false}
@@ -8,43 +8,10 @@ use Rattle.run_laws.specs.Cards.{Card, ServerStep, Arrives, Works, Leaves, Visit
 use Rattle.run_laws.specs.Servers.{Discipline, Drr, Server, Round, Under, ServerState, head_of, without_head}
 use Rattle.run_laws.specs.Next.{next_inside, next_under, next_visits, fits, to_tail, left_round, arrived_round, worked_round, visited_round}
 use Rattle.run_laws.specs.Allows.{Allows, MayLeave, IsFirst, IsVisit, MayVisit, visited_head, next_card}
+use Rattle.run_laws.specs.Rounds.{presence, same_queue, count_of, VisitIsFirst, IsRound}
 use Rattle.run_laws.proofs.Heads.{same_some, head_push, head_queue}
 use Rattle.run_laws.proofs.States.{IsSoundFor, leaving}
 use Rattle.run_laws.proofs.Orders.{AllSmall, small_head}
-
-abbrev pub presence : Option Card → ℕ
-presence None = 0
-presence (Some c) = 1
-
-abbrev pub same_queue : ℕ → ℕ → ℕ
-same_queue k j = if k == j then 1 else 0
-
--- how often a queue stands in the list
-abbrev pub count_of : ℕ → List ℕ → ℕ
-count_of j [] = 0
-count_of j (k ∷ ks) = same_queue k j + count_of j ks
-
-abbrev pub VisitIsFirst : Option ℕ → List ℕ → Type 0
-VisitIsFirst None ks = Unit {0}
-VisitIsFirst (Some j) ks = IsFirst j ks
-
-abbrev pub UnderIsVisited : Option Under → Option ℕ → Type 0
-UnderIsVisited None v = Unit {0}
-UnderIsVisited (Some u) v = v ≡ Some u.card.queue
-
-abbrev pub under_size : Option Under → ℕ
-under_size None = 0
-under_size (Some u) = u.card.bits
-
--- Q and l: each queue's quantum and longest packet
-pub record IsRound (Q l : ℕ → ℕ) (cards : List Card) (under : Option Under) (r : Round) : Type 0 where
-  -- a queue stands once in the list if it has a packet, and else not
-  pub lists : (j : ℕ) → count_of j r.active ≡ presence (head_of j cards)
-  pub is_first : VisitIsFirst r.visited r.active
-  pub of_visit : UnderIsVisited under r.visited
-  pub empty : (j : ℕ) → head_of j cards ≡ None → get_or r.deficits j 0 ≡ 0
-  pub closed : (j : ℕ) → r.visited ≢ Some j → get_or r.deficits j 0 ≤ l j
-  pub opened : (j : ℕ) → r.visited ≡ Some j → get_or r.deficits j 0 + under_size under ≤ l j + Q j
 
 -- ---- lists of queues
 pub count-append : (j : ℕ) (ks ms : List ℕ) → count_of j (ks ++ ms) ≡ count_of j ks + count_of j ms
@@ -118,7 +85,7 @@ pub set_other : (xs : List ℕ) (i j v : ℕ) → j ≢ i → get_or (set xs i v
 set_other xs i j v h = get_or-set_other xs i j v 0 h
 
 -- ---- each step keeps it
-round_arrives : (Q l : ℕ → ℕ) (cards : List Card) (under : Option Under) (r : Round) (c : Card) (x : Option Card)
+pub round_arrives : (Q l : ℕ → ℕ) (cards : List Card) (under : Option Under) (r : Round) (c : Card) (x : Option Card)
     → head_of c.queue cards ≡ x → IsRound Q l cards under r → IsRound Q l (cards ++ c ∷ []) under (arrived_round x c.queue r)
 round_arrives Q l cards under r c None e h = record {
   lists = λ j. elim (cases_eq c.queue j) [
@@ -199,7 +166,7 @@ is_started r (Some q) cards c e h =
       fitting = subst (λ (i : ℕ). c.bits ≤ get_or r.deficits i 0) (sym own) k.1;
     }
 
-round_works : (Q l : ℕ → ℕ) (quanta : List ℕ) (cards : List Card) (under after : Option Under) (r : Round) (c : Card) (u : Under)
+pub round_works : (Q l : ℕ → ℕ) (quanta : List ℕ) (cards : List Card) (under after : Option Under) (r : Round) (c : Card) (u : Under)
     → after ≡ Some u → u.card ≡ c → next_card under (Drr quanta) cards r ≡ Some c → IsRound Q l cards under r
     → IsRound Q l cards (Some u) (worked_round under c r)
 round_works Q l quanta cards None after r c u e f n h =
@@ -267,7 +234,7 @@ none Q l cards r q c e h j k = elim (cases_eq j q) [
   | inr f ↦ h.empty j f k
 ]
 
-round_left : (Q l : ℕ → ℕ) (cards : List Card) (r : Round) (q : ℕ) (x : Option Card) → head_of q cards ≡ x
+pub round_left : (Q l : ℕ → ℕ) (cards : List Card) (r : Round) (q : ℕ) (x : Option Card) → head_of q cards ≡ x
     → ((c : Card) → head_of q cards ≡ Some c → c.bits ≤ l q) → HasLeft Q l cards r q → IsRound Q l cards None (left_round x q r)
 round_left Q l cards r q None e small h = record {
   lists = λ j. elim (cases_eq j q) [
@@ -342,7 +309,7 @@ has_left Q l cards busy (Some u) r c t s m h =
     }
 
 -- a visit
-round_visits : (Q l : ℕ → ℕ) (cards : List Card) (r : Round) (q : ℕ) (x : Option Card) → head_of q cards ≡ x
+pub round_visits : (Q l : ℕ → ℕ) (cards : List Card) (r : Round) (q : ℕ) (x : Option Card) → head_of q cards ≡ x
     → ((c : Card) → head_of q cards ≡ Some c → c.bits ≤ l q) → r.visited ≡ None → IsFirst q r.active → IsRound Q l cards None r
     → IsRound Q l cards None (visited_round (Q q) x q r)
 round_visits Q l cards r q None e small v f h =

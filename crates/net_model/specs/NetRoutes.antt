@@ -1,0 +1,30 @@
+-- What the laws of runs need to know of a network. (Le Boudec and Thiran; that work may be at any pace is our own choice.)
+use Rattle.std.specs.Prelude.{ℕ, List, [], ◌∷◌, map, Option, Some, None, true, false}
+use Rattle.rational.specs.Rational.{ℚ}
+use Rattle.run_laws.specs.Servers.{Server}
+use Rattle.run_laws.specs.Routes.{Hop, Route, Routes}
+use Rattle.net_model.specs.Networks.{Net, NetServer, NetFlow}
+
+-- a path: at each server the queue of the same place
+abbrev pub hops_along : (path queues : List ℕ) → List Hop
+hops_along [] queues = []
+hops_along (s ∷ path) [] = []
+hops_along (s ∷ path) (q ∷ queues) = record { server = s; queue = q } ∷ hops_along path queues
+
+-- where there is no flow, no packet enters
+abbrev pub route_for : Option NetFlow → Route
+route_for None = record { live = false; hops = [] }
+route_for (Some f) = record { live = true; hops = hops_along f.path f.queues }
+
+abbrev pub server_for : NetServer → Server
+server_for s = record { discipline = s.discipline; pace = None }
+
+abbrev pub link_for : NetServer → ℚ
+link_for s = s.link
+
+abbrev pub routes_of : Net → Routes
+routes_of net = record {
+  servers = map server_for net.servers;
+  links = map link_for net.servers;
+  flows = map route_for net.flows;
+}

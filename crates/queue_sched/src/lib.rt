@@ -1,0 +1,17 @@
+//! Schedulers of queues: which packet a server starts next, by its discipline. Each stands for the state of a server as
+//! the laws of runs define it, and moves as that state does.
+#![tactic(auto)]
+
+mod drr;
+mod fifo;
+mod priority;
+mod scheduler;
+#[cfg(test)]
+mod tests;
+mod turn;
+
+pub use drr::DrrSched;
+pub use fifo::FifoSched;
+pub use priority::PrioritySched;
+pub use scheduler::Scheduler;
+pub use turn::Turn;

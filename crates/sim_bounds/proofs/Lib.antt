@@ -1,0 +1,15 @@
+pub mod Members
+pub mod OpenTime
+pub mod Spans
+pub mod Ahead
+pub mod AheadSums
+pub mod Levels
+pub mod Bounded
+pub mod InTime
+pub mod OpenGrid
+pub mod OnGrid
+pub mod TimesOf
+pub mod Places
+pub mod MadeBounds
+pub mod Gauged
+pub mod Fits

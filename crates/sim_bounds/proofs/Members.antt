@@ -1,0 +1,48 @@
+-- Members of lists that are put together or made of others.
+use Rattle.std.proofs.Common.{◌≡◌, ℕ, zero, suc, ◌<◌, List, [], ◌∷◌, ◌++◌, length, map, get_or, refl, sym, ap, subst, arith, inl, inr}
+use Rattle.std.specs.Prelude.{All}
+use Rattle.std.specs.List.{flat_map, AllByRecursion}
+use Rattle.stated_runs.proofs.Lists.{In, in_contains}
+
+pub in_right : {X : Type 0} (xs ys : List X) (x : X) → In ys x → In (xs ++ ys) x
+in_right [] ys x h = h
+in_right (z ∷ zs) ys x h = inr (in_right zs ys x h)
+
+pub in_left : {X : Type 0} (xs ys : List X) (x : X) → In xs x → In (xs ++ ys) x
+in_left [] ys x h = absurd h
+in_left (z ∷ zs) ys x (inl e) = inl e
+in_left (z ∷ zs) ys x (inr h) = inr (in_left zs ys x h)
+
+pub in_map : {X Y : Type 0} (f : X → Y) (xs : List X) (x : X) → In xs x → In (map f xs) (f x)
+in_map f [] x h = absurd h
+in_map f (z ∷ zs) x (inl e) = inl (ap f e)
+in_map f (z ∷ zs) x (inr h) = inr (in_map f zs x h)
+
+pub in_flat : {X Y : Type 0} (f : X → List Y) (xs : List X) (x : X) (y : Y) → In xs x → In (f x) y → In (flat_map f xs) y
+in_flat f [] x y h k = absurd h
+in_flat f (z ∷ zs) x y (inl e) k = in_left (f z) (flat_map f zs) y (subst (λ t. In (f t) y) (sym e) k)
+in_flat f (z ∷ zs) x y (inr h) k = in_right (f z) (flat_map f zs) y (in_flat f zs x y h k)
+
+pub each_in : {X : Type 0} (P : X → Type 0) (xs : List X) → AllByRecursion P xs → (x : X) → In xs x → P x
+each_in P [] a x h = absurd h
+each_in P (z ∷ zs) a x (inl e) = subst P e a.0
+each_in P (z ∷ zs) a x (inr h) = each_in P zs a.1 x h
+
+pub all_in : {X : Type 0} (P : X → Type 0) (xs : List X) → All P xs → (x : X) → In xs x → P x
+all_in P xs a x h = let c = in_contains xs x h in subst P c.2 (a c.0 x c.1)
+
+pub at_in_list : {X : Type 0} (xs : List X) (k : ℕ) (d : X) → k < length xs → In xs (get_or xs k d)
+at_in_list [] k d h = absurd (omega (arith, h))
+at_in_list (x ∷ xs) zero d h = inl refl
+at_in_list (x ∷ xs) (suc k) d h = inr (at_in_list xs k d (omega (arith, h)))
+
+-- what is made of an element, or stands for one beyond the last
+pub any_made : {X Y : Type 0} (P : Y → Type 0) (f : X → Y) (xs : List X) (k : ℕ) (d : Y) → P d → ((x : X) → In xs x → P (f x)) → P (get_or (map f xs) k d)
+any_made P f [] k d none some = none
+any_made P f (x ∷ xs) zero d none some = some x (inl refl)
+any_made P f (x ∷ xs) (suc k) d none some = any_made P f xs k d none (λ y h. some y (inr h))
+
+pub made_from : {X Y : Type 0} (f : X → Y) (xs : List X) (k : ℕ) (d : Y) → k < length xs → (x : X) × In xs x × (get_or (map f xs) k d ≡ f x)
+made_from f [] k d h = absurd (omega (arith, h))
+made_from f (x ∷ xs) zero d h = (x, inl refl, refl)
+made_from f (x ∷ xs) (suc k) d h = let r = made_from f xs k d (omega (arith, h)) in (r.0, inr r.1, r.2)

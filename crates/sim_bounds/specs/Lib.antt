@@ -1,0 +1,4 @@
+pub mod Horizons
+pub mod Times
+pub mod Laws
+pub mod Gauge

@@ -1,0 +1,14 @@
+pub mod Lists
+pub mod Routed
+pub mod GoodServers
+pub mod GoodWork
+pub mod Good
+pub mod GoodSteps
+pub mod Lawfulness
+pub mod Unique
+pub mod Turning
+pub mod Progress
+pub mod Opens
+pub mod AllLeft
+pub mod Starting
+pub mod MadeSetups

@@ -1,0 +1,53 @@
+-- What is promised of stated runs.
+use Rattle.std.specs.Prelude.{◌≡◌, ◌≢◌, ◌⊎◌, ℕ, ◌<◌, List, [], ◌∷◌, ◌++◌, length, None}
+use Rattle.rational.specs.Rational.{ℚ, ◌≤ℚ◌}
+use Rattle.run_laws.specs.declared.steps.Step.{Step}
+use Rattle.run_laws.specs.declared.steps.Step.TheVariants.{Enter, Reach, Work, Leave, Visit}
+use Rattle.run_laws.specs.Runs.{SpecRun}
+use Rattle.run_laws.specs.Routes.{Routes}
+use Rattle.run_laws.specs.Views.{server_of}
+use Rattle.run_laws.specs.Lawful.{IsLawful, RunState, state_at, after_run, run_start}
+use Rattle.stated_runs.specs.Setups.{Setup, IsSetup, IsFirstOpen}
+use Rattle.stated_runs.specs.Simulated.{IsSimulated}
+
+-- the stated run is a lawful run of its network
+abbrev pub StatedRunsAreLawful : Type 0
+StatedRunsAreLawful = (S : Setup) (run : SpecRun) → IsSetup S → IsSimulated S run → IsLawful S.net run
+
+-- and there is only one
+abbrev pub StatedRunIsUnique : Type 0
+StatedRunIsUnique = (S : Setup) (a b : SpecRun) → IsSetup S → IsSimulated S a → IsSimulated S b → a ≡ b
+
+-- the state after the steps of a list, from the start
+abbrev pub state_after : Setup → List Step → RunState
+state_after S steps = after_run S.net (run_start S.net) steps
+
+-- all packets of the trace have entered, and none is at a server or on a link
+pub record HasAllLeft (S : Setup) (r : RunState) : Type 0 where
+  pub entered : length r.entered ≡ length S.packets
+  pub servers : (s : ℕ) → s < length S.net.servers → (state_at r s).inside ≡ []
+  pub links : r.due ≡ []
+
+-- at its end that is so
+abbrev pub EveryPacketLeaves : Type 0
+EveryPacketLeaves = (S : Setup) (run : SpecRun) → IsSetup S → IsSimulated S run → HasAllLeft S (state_after S run.steps)
+
+-- a packet that comes by time t, or a start at that very time
+abbrev pub ComesOrStarts : ℚ → Step → Type 0
+ComesOrStarts t (Enter f p u b) = u ≤ℚ t
+ComesOrStarts t (Reach s p u) = u ≤ℚ t
+ComesOrStarts t (Work s p a b w) = a ≡ t
+ComesOrStarts t (Leave s p u) = ⊥
+ComesOrStarts t (Visit s q u) = u ≡ t
+
+-- the list has a step of server s, and the first of them is such a one
+abbrev pub StartsBy : Routes → ℕ → ℚ → List Step → Type 0
+StartsBy net s t [] = ⊥
+StartsBy net s t (x ∷ xs) = ((server_of net x ≡ s) × ComesOrStarts t x) ⊎ ((server_of net x ≢ s) × StartsBy net s t xs)
+
+-- a server with packets of which none is under way, and that opens at t: unless another packet comes by then, it starts
+-- one at t
+abbrev pub OpenServersStart : Type 0
+OpenServersStart = (S : Setup) (run : SpecRun) → IsSetup S → IsSimulated S run → (before behind : List Step) → run.steps ≡ before ++ behind
+    → (s : ℕ) → s < length S.net.servers → (state_at (state_after S before) s).under ≡ None → (state_at (state_after S before) s).inside ≢ []
+    → (t : ℚ) → IsFirstOpen S s (state_at (state_after S before) s).now t → StartsBy S.net s t behind

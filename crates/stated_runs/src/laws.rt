@@ -1,0 +1,30 @@
+//! Laws of stated runs. A law is the contract of a function that does nothing.
+
+ghost use Rattle.stated_runs.specs.FromTraces.{TracesMakeSetups};
+ghost use Rattle.stated_runs.specs.Laws.{StatedRunsAreLawful, StatedRunIsUnique, EveryPacketLeaves, OpenServersStart};
+
+/// An accepted network, and a trace whose numbers are those of its servers and live flows, make a setup.
+pub fn traces_make_setups()
+    ensures { TracesMakeSetups }
+{}
+
+/// The stated run is a lawful run of its network.
+pub fn stated_runs_are_lawful()
+    ensures { StatedRunsAreLawful }
+{}
+
+/// A network and a trace have one stated run at most.
+pub fn stated_run_is_unique()
+    ensures { StatedRunIsUnique }
+{}
+
+/// At the end of a stated run all packets of the trace have entered, and none is at a server or on a link.
+pub fn every_packet_leaves()
+    ensures { EveryPacketLeaves }
+{}
+
+/// A server that has packets of which none is under way starts one at the first time at which it is neither stalled nor
+/// closed, unless another packet comes by then.
+pub fn open_servers_start()
+    ensures { OpenServersStart }
+{}

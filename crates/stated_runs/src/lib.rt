@@ -1,0 +1,9 @@
+//! The stated run of a network and a trace: what a simulation of them must give, and what every such run keeps.
+#![tactic(auto)]
+
+mod laws;
+
+pub use laws::{
+    every_packet_leaves, open_servers_start, stated_run_is_unique, stated_runs_are_lawful,
+    traces_make_setups,
+};
