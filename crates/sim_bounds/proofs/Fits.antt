@@ -15,9 +15,9 @@ use Rattle.rational.proofs.Quotients.{div_nonneg, div_unique}
 use Rattle.rational.proofs.Integers.{nat_le}
 use Rattle.rational.proofs.Grid.{whole_int, whole_weaken, whole_both}
 use Rattle.min_plus.specs.WholeUp.{whole_up}
-use Rattle.upp_curve.specs.Limits.{twice}
-use Rattle.upp_curve.proofs.CommonDen.{common_den_pos, common_den_each, bound_pos, bound_each}
-use Rattle.upp_curve.proofs.Rounding.{whole_up_least}
+use Rattle.upp_limits.specs.Limits.{twice}
+use Rattle.upp_limits.proofs.CommonDen.{common_den_pos, common_den_each, bound_pos, bound_each}
+use Rattle.upp_limits.proofs.Rounding.{whole_up_least}
 use Rattle.run_laws.specs.declared.steps.Step.TheVariants.{Work}
 use Rattle.run_laws.specs.Cards.{whole}
 use Rattle.run_laws.specs.Routes.{link_at, route_of}

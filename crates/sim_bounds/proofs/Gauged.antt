@@ -18,7 +18,7 @@ use Rattle.rational.proofs.Multiples.{lcm_left, lcm_right, lcm_pos}
 use Rattle.rational.proofs.Grid.{whole_int, whole_mul, whole_div, within_nonneg}
 use Rattle.rational.proofs.Sizes.{largest_part, small_on_grid}
 use Rattle.rational.proofs.MinMax.{max_q_ge_left, max_q_ge_right}
-use Rattle.upp_curve.specs.Limits.{Sizes, gauge_of}
+use Rattle.upp_limits.specs.Limits.{Sizes, gauge_of}
 use Rattle.run_laws.specs.Cards.{whole}
 use Rattle.run_laws.specs.Routes.{Hop, PassesServer, link_at, route_of}
 use Rattle.run_laws.proofs.Sizes.{whole_le, whole_nonneg}

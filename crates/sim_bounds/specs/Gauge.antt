@@ -6,8 +6,8 @@ use Rattle.rational.specs.Rational.{ℚ, int, ◌+ℚ◌, ◌*ℚ◌, le_q}
 use Rattle.rational.specs.Gauge.{common_den, bound_of, lcm}
 use Rattle.min_plus.specs.WholeUp.{whole_up}
 use Rattle.upp_curve.specs.Curve.{SpecCurve}
-use Rattle.upp_curve.specs.Spans.{Span, spans_below}
-use Rattle.upp_curve.specs.Limits.{Numbers, Sizes, no_numbers, joined, curve_numbers, span_values, span_slopes, twice, gauge_of}
+use Rattle.upp_limits.specs.Spans.{Span, spans_below}
+use Rattle.upp_limits.specs.Limits.{Numbers, Sizes, no_numbers, joined, curve_numbers, span_values, span_slopes, twice, gauge_of}
 use Rattle.net_model.specs.declared.trace.TracePacket.{TracePacket}
 use Rattle.net_model.specs.declared.trace.Stall.{Stall}
 use Rattle.net_model.specs.Networks.{Net, NetServer, NetFlow}
