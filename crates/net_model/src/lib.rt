@@ -1,6 +1,7 @@
 //! Networks: servers with a service curve and a discipline, and flows with an arrival curve and a path over them.
 #![tactic(auto)]
 
+mod breach;
 mod copies;
 mod fault;
 mod flow;
@@ -12,6 +13,7 @@ mod server;
 #[cfg(test)]
 mod tests;
 
+pub use breach::Breach;
 pub use fault::{CurveRefusal, NetFault, NetKind};
 pub use flow::Flow;
 pub use laws::kinds_may_stand;
