@@ -1,6 +1,7 @@
 //! Networks: servers with a service curve and a discipline, and flows with an arrival curve and a path over them.
 #![tactic(auto)]
 
+mod breach;
 mod copies;
 mod fault;
 mod flow;
@@ -13,6 +14,7 @@ mod server;
 mod tests;
 mod trace;
 
+pub use breach::Breach;
 pub use fault::{CurveRefusal, NetFault, NetKind};
 pub use flow::Flow;
 pub use laws::kinds_may_stand;

@@ -1,0 +1,145 @@
+-- The segments of a curve have its values.
+use Rattle.std.specs.Prelude.{◌≡◌, List, [], ◌∷◌, Some, None}
+use Rattle.std.proofs.Common.{arith, refl, sym, subst, ap, ◌∙◌, inl, inr}
+use Rattle.rational.specs.Rational.{ℚ, ◌+ℚ◌, ◌-ℚ◌, ◌*ℚ◌, ◌≤ℚ◌, ◌<ℚ◌}
+use Rattle.rational.specs.Extended.{Ext, ◌<ₑ◌, ◌+ₑ◌}
+use Rattle.rational.specs.declared.Extended.TheVariants.{Fin}
+use Rattle.rational.proofs.Laws.{le_refl, le_trans, le_or_lt, le_of_lt, lt_le_trans, lt_of_not_le, lt_irrefl}
+use Rattle.rational.proofs.Linear.{with2}
+use Rattle.affine_segment.specs.declared.line.Piece.{Piece}
+use Rattle.affine_segment.specs.Values.{line_value}
+use Rattle.upp_curve.specs.Curve.{value_at}
+use Rattle.min_plus.specs.Functions.{zero_q, IsFinite}
+use Rattle.min_plus.specs.Continuity.{IsContinuous}
+use Rattle.upp_curve.specs.Normal.{Each, StartsAtZero, RisesFrom}
+use Rattle.upp_curve.specs.Reading.{read, piece_value}
+use Rattle.upp_curve.specs.Unrolled.{unroll}
+use Rattle.upp_curve.proofs.PieceIn.{piece_in_stop, piece_in_go, piece_in_end}
+use Rattle.upp_curve.proofs.FirstStretch.{value_past, at_start}
+use Rattle.upp_normal.proofs.Below.{unroll_reads}
+use Rattle.upp_normal.proofs.UnrolledPieces.{unroll_starts, unroll_before}
+use Rattle.watch_laws.specs.declared.point.Point.{Point}
+use Rattle.watch_laws.specs.declared.point.Segment.{Segment}
+use Rattle.watch_laws.specs.Shorts.{HasSegment, IsPastEnd, segment_value, IsShortBy}
+use Rattle.watch_laws.specs.Segments.{number_at, slope_of, next_start, segments, SegmentsTell}
+use Rattle.watch_laws.proofs.Breaks.{one_line}
+use Rattle.watch_laws.proofs.Idle.{below_number, number_below}
+
+finite_number : (f : ℚ → Ext) (t : ℚ) → IsFinite f → zero_q ≤ℚ t → f t ≡ Fin (number_at (f t))
+finite_number f t fin h = let (v, e) = fin t h in e ∙ ap Fin (sym (ap number_at e))
+
+read_go : (p q : Piece) (qs : List Piece) (t : ℚ) → q.x ≤ℚ t → read (p ∷ q ∷ qs) t ≡ read (q ∷ qs) t
+unfolding read
+read_go p q qs t a = ap (λ z. piece_value z t) (piece_in_go p q qs t a)
+
+read_start : (p : Piece) (ps : List Piece) → RisesFrom p.x ps → read (p ∷ ps) p.x ≡ p.at
+unfolding read
+read_start p ps h = at_start p ps h
+
+read_last : (p : Piece) (t : ℚ) → p.x <ℚ t → read (p ∷ []) t ≡ line_value p.line t
+unfolding read
+read_last p t h = ap (λ z. piece_value z t) (piece_in_end p t) ∙ value_past p t h
+
+read_stop : (p q : Piece) (qs : List Piece) (t : ℚ) → p.x <ℚ t → t <ℚ q.x → read (p ∷ q ∷ qs) t ≡ line_value p.line t
+unfolding read
+read_stop p q qs t h k = ap (λ z. piece_value z t) (piece_in_stop p q qs t k) ∙ value_past p t h
+
+-- f is read from these pieces up to `far`
+record ReadsFrom (f : ℚ → Ext) (far : ℚ) (p : Piece) (ps : List Piece) : Type 0 where
+  starts : RisesFrom p.x ps
+  before : Each (λ q. q.x <ℚ far) (p ∷ ps)
+  low : zero_q ≤ℚ p.x
+  is : (t : ℚ) → p.x ≤ℚ t → t <ℚ far → read (p ∷ ps) t ≡ f t
+  finite : IsFinite f
+  smooth : IsContinuous f
+
+rest_reads : (f : ℚ → Ext) (far : ℚ) (p q : Piece) (qs : List Piece) → ReadsFrom f far p (q ∷ qs) → ReadsFrom f far q qs
+rest_reads f far p q qs R = record {
+  starts = R.starts.1;
+  before = R.before.1;
+  low = le_trans R.low (le_of_lt R.starts.0);
+  is = λ t a b. sym (read_go p q qs t a) ∙ R.is t (le_trans (le_of_lt R.starts.0) a) b;
+  finite = R.finite;
+  smooth = R.smooth;
+}
+
+-- the first segment goes with f
+first_value : (f : ℚ → Ext) (far : ℚ) (p : Piece) (ps : List Piece) → ReadsFrom f far p ps → number_at (f p.x) ≡ number_at p.at
+first_value f far p ps R = ap number_at (sym (R.is p.x (le_refl p.x) R.before.0) ∙ read_start p ps R.starts)
+
+first_line : (f : ℚ → Ext) (far : ℚ) (p : Piece) (ps : List Piece) (y : ℚ) → ReadsFrom f far p ps → p.x <ℚ y
+    → ((t : ℚ) → p.x <ℚ t → t <ℚ y → f t ≡ line_value p.line t)
+    → (d : ℚ) → p.x ≤ℚ d → d ≤ℚ y → number_at (f d) ≡ number_at p.at +ℚ slope_of p.line *ℚ (d -ℚ p.x)
+first_line f far p ps y R l is d a b =
+    subst (λ (v : ℚ). number_at (f d) ≡ v +ℚ slope_of p.line *ℚ (d -ℚ p.x)) (first_value f far p ps R) (one_line f p.line p.x y R.finite R.smooth R.low l is d a b)
+
+first_segment : (f : ℚ → Ext) (far : ℚ) (p : Piece) (ps : List Piece) → ReadsFrom f far p ps → (d : ℚ) → p.x ≤ℚ d → ¬ IsPastEnd (next_start ps) d → d ≤ℚ far
+    → number_at (f d) ≡ number_at p.at +ℚ slope_of p.line *ℚ (d -ℚ p.x)
+first_segment f far p [] R d a n b =
+    first_line f far p [] far R R.before.0 (λ t i j. sym (R.is t (le_of_lt i) j) ∙ read_last p t i) d a b
+first_segment f far p (q ∷ qs) R d a n b =
+    first_line f far p (q ∷ qs) q.x R R.starts.0 (λ t i j. sym (R.is t (le_of_lt i) (lt_le_trans j (le_of_lt R.before.1.0))) ∙ read_stop p q qs t i j) d a (le_of_lt (lt_of_not_le n))
+
+each_segment : (f : ℚ → Ext) (far : ℚ) (p : Piece) (ps : List Piece) → ReadsFrom f far p ps → (s : Segment) → HasSegment s (segments (p ∷ ps)) → (d : ℚ)
+    → s.start ≤ℚ d → ¬ IsPastEnd s.end d → d ≤ℚ far → number_at (f d) ≡ segment_value s d
+each_segment f far p [] R s h d a n b = elim h [
+  | inl e ↦ subst (λ (r : Segment). number_at (f d) ≡ segment_value r d) (sym e) (first_segment f far p [] R d (subst (λ (r : Segment). r.start ≤ℚ d) e a) (subst (λ (r : Segment). ¬ IsPastEnd r.end d) e n) b)
+  | inr k ↦ absurd k
+]
+each_segment f far p (q ∷ qs) R s h d a n b = elim h [
+  | inl e ↦ subst (λ (r : Segment). number_at (f d) ≡ segment_value r d) (sym e) (first_segment f far p (q ∷ qs) R d (subst (λ (r : Segment). r.start ≤ℚ d) e a) (subst (λ (r : Segment). ¬ IsPastEnd r.end d) e n) b)
+  | inr k ↦ each_segment f far q qs (rest_reads f far p q qs R) s k d a n b
+]
+
+-- and each time is one of a segment
+record Covers (d : ℚ) (s : Segment) : Type 0 where
+  from : s.start ≤ℚ d
+  upto : ¬ IsPastEnd s.end d
+
+covered : (p : Piece) (ps : List Piece) (d : ℚ) → p.x ≤ℚ d → (s : Segment) × HasSegment s (segments (p ∷ ps)) × Covers d s
+covered p [] d h = (record { start = p.x; end = None; value = number_at p.at; slope = slope_of p.line }, inl refl, record { from = h; upto = λ k. k })
+covered p (q ∷ qs) d h = elim (le_or_lt q.x d) [
+  | inl l ↦ let (s, has, is) = covered q qs d l in (s, inr has, is)
+  | inr l ↦ (record { start = p.x; end = Some q.x; value = number_at p.at; slope = slope_of p.line }, inl refl, record { from = h; upto = λ k. lt_irrefl d (lt_le_trans l k) })
+]
+
+-- ---- a curve
+tell : (f : ℚ → Ext) (far : ℚ) (ps : List Piece) (a b : Point) → StartsAtZero ps → Each (λ q. q.x <ℚ far) ps → ((t : ℚ) → zero_q ≤ℚ t → t <ℚ far → read ps t ≡ f t)
+    → IsFinite f → IsContinuous f → a.time ≤ℚ b.time → b.time -ℚ a.time ≤ℚ far
+    → (((s : Segment) × HasSegment s (segments ps) × IsShortBy s a b) → Fin b.work <ₑ (Fin a.work +ₑ f (b.time -ℚ a.time)))
+    × ((Fin b.work <ₑ (Fin a.work +ₑ f (b.time -ℚ a.time))) → (s : Segment) × HasSegment s (segments ps) × IsShortBy s a b)
+tell f far [] a b at0 before is fin smooth l m = absurd at0
+tell f far (p ∷ ps) a b at0 before is fin smooth l m =
+    let t = a.time in
+    let u = b.time in
+    let d = b.time -ℚ a.time in
+    let low : zero_q ≤ℚ d = with2 t u (λ c. omega (arith, c.le, c.lt, c.same)) in
+    let at_p : p.x ≤ℚ d = subst (λ x. x ≤ℚ d) (sym at0.0) low in
+    let R : ReadsFrom f far p ps = record {
+      starts = at0.1;
+      before = before;
+      low = subst (λ x. zero_q ≤ℚ x) (sym at0.0) (le_refl zero_q);
+      is = λ x i j. is x (subst (λ y. y ≤ℚ x) at0.0 i) j;
+      finite = fin;
+      smooth = smooth;
+    } in
+    let num = finite_number f d fin low in (
+      λ h.
+          let (s, has, short) = h in
+          number_below b.work a.work (f d) (number_at (f d)) num
+          (subst (λ v. b.work <ℚ a.work +ℚ v) (sym (each_segment f far p ps R s has d short.from short.upto m)) short.less),
+      λ h.
+          let (s, has, on) = covered p ps d at_p in (
+            s,
+            has,
+            record {
+              from = on.from;
+              upto = on.upto;
+              less = subst (λ v. b.work <ℚ a.work +ℚ v) (each_segment f far p ps R s has d on.from on.upto m) (below_number b.work a.work (f d) (number_at (f d)) num h);
+            },
+          ),
+    )
+
+pub segments_tell : SegmentsTell
+segments_tell c far a b h some l m =
+    tell (value_at c) far (unroll c far) a b (unroll_starts c far some h.normal) (unroll_before c far) (λ t i j. unroll_reads c far t h.normal i j) h.finite h.continuous l m

@@ -1,0 +1,14 @@
+pub mod Slides
+pub mod Windows
+pub mod Paces
+pub mod Breaks
+pub mod Stretches
+pub mod Idle
+pub mod Crowds
+pub mod Entered
+pub mod Order
+pub mod Premises
+pub mod MarkSizes
+pub mod CurveSegments
+pub mod Times
+pub mod UnrolledStarts
