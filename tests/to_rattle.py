@@ -1,0 +1,75 @@
+#!/usr/bin/env python3
+"""Writes the cases of this folder as tests of the top call, so that one list is the source of the quick check and of the gate's.
+
+`tests/to_rattle.py` writes crates/netcalc/src/cases.rt, one test function for each group; `tests/to_rattle.py --check` ends with 1
+where that file is not what it would write.
+"""
+
+import pathlib
+import re
+import sys
+
+HERE = pathlib.Path(__file__).resolve().parent
+TARGET = HERE.parent / "crates" / "netcalc" / "src" / "cases.rt"
+HEAD = """//! The cases of the folder tests/, written by tests/to_rattle.py: change them there.
+
+use crate::asking::check;
+use std::test::Fail;
+"""
+
+
+def literal(text):
+    """A literal of Rattle: raw, with its lines as they are, where it has more than one."""
+    if text.count("\n") < 2 and "\\" not in text:
+        return '"' + text.replace('"', '\\"').replace("\n", "\\n") + '"'
+    if '"#' in text or "\r" in text:
+        sys.exit("a case holds what a raw literal cannot")
+    return f'r#"{text}"#'
+
+
+def bare(text):
+    """The text without what a formatter may change: white space, and a comma before a bracket."""
+    return re.sub(r",(?=[)\]])", "", re.sub(r"\s+", "", text))
+
+
+def row(folder):
+    status = folder / "status"
+    files = sorted(it for it in folder.iterdir() if it.name not in ("words", "status", "stdout"))
+    pad = " " * 16
+    listed = ", ".join(f'(\n{pad}"{it.name}",\n{pad}{literal(it.read_text())},\n{" " * 12})' for it in files)
+    words = (folder / "words").read_text().rstrip("\n")
+    wanted = (folder / "stdout").read_text()
+    number = int(status.read_text()) if status.exists() else 0
+    line = f"netcalc {words}".rstrip()
+    inner = " " * 12
+    return (
+        f'        // {folder.name}\n        (\n{inner}"{line}",\n{inner}&[{listed}],\n{inner}{number},\n{inner}{literal(wanted)},\n        ),\n'
+    )
+
+
+def text():
+    parts = [HEAD]
+    for group in sorted(it for it in HERE.iterdir() if it.is_dir()):
+        cases = sorted(it for it in group.iterdir() if (it / "words").exists())
+        parts.append(
+            f"\n#[test]\nfn {group.name}(rt: HostRuntime) -> Result<(), Fail> {{\n    let alloc = rt.alloc();\n"
+            f"    let rows: [(&str, &[(&str, &str)], u8, &str); {len(cases)}] = [\n"
+            + "".join(row(it) for it in cases)
+            + "    ];\n    for (line, files, status, wanted) in rows {\n        check(&rt, alloc, line, files, status, wanted)?;\n    }\n    Ok(())\n}\n"
+        )
+    return "".join(parts)
+
+
+def main():
+    made = text()
+    if sys.argv[1:] == ["--check"]:
+        if not TARGET.exists() or bare(TARGET.read_text()) != bare(made):
+            print(f"{TARGET.name} is not what tests/to_rattle.py writes: run it", file=sys.stderr)
+            return 1
+        return 0
+    TARGET.write_text(made)
+    return 0
+
+
+if __name__ == "__main__":
+    sys.exit(main())
