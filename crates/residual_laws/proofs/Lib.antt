@@ -1,0 +1,11 @@
+pub mod PriorityCalls
+pub mod PriorityLaw
+pub mod PriorityGrowth
+pub mod Rounds
+pub mod Turns
+pub mod Along
+pub mod Shares
+pub mod DrrLaw
+pub mod DrrCalls
+pub mod Numbers
+pub mod DrrGrowth
