@@ -13,11 +13,12 @@ ghost use Rattle.net_cells.specs.Equations.{MeetsBelow};
 ghost use Rattle.net_cells.specs.Work.{work};
 ghost use Rattle.cell_table.specs.Gives.{Gives};
 ghost use Rattle.cell_table.specs.Values.{answer_of, meaning_of};
-ghost use Rattle.cell_paths.specs.Evaluates.{MayBeMade, Evaluates};
+ghost use Rattle.cell_operators.specs.Evaluates.{MayBeMade, Evaluates};
 
-use cell_curves::{arriving, cross, higher, path, serving, total};
-use cell_delays::{bound, hop_delay, sfa, tfa};
-use cell_kinds::{deconv_out, leaving, queue_backlog, queue_delay, residual, shift_out, theta};
+use cell_kinds::{
+    arriving, bound, cross, deconv_out, higher, hop_delay, leaving, path, queue_backlog,
+    queue_delay, residual, serving, sfa, shift_out, tfa, theta, total,
+};
 use cell_table::{Table, Value};
 use net_cells::{Cell, Kind};
 use net_model::Network;

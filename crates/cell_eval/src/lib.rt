@@ -4,5 +4,7 @@
 mod counted;
 mod each_kind;
 
+pub use cell_table::{Analysis, AnalysisFault, CellValue, Evaluator, Table, Value};
 pub use counted::Counted;
 pub use each_kind::eval;
+pub use net_cells::{Cell, Kind, cells, operands, work};

@@ -23,18 +23,19 @@ use Rattle.net_cells.specs.CellFormulas.{queue_service}
 use Rattle.net_cells.proofs.Lists.{Has, has_map, map_has, filter_has, has_flat, has_range, range_has}
 use Rattle.net_cells.proofs.Places.{flow_inside}
 use Rattle.net_cells.proofs.Stored.{flow_kept}
-use Rattle.cell_sums.specs.declared.places.Pick.{Pick}
-use Rattle.cell_sums.specs.declared.places.Pick.TheVariants.{InQueue}
-use Rattle.cell_sums.specs.declared.sums.Partial.{Partial}
-use Rattle.cell_sums.specs.Chosen.{flow_visits, visit_list, picks, is_other, picked, chosen, all_chosen}
-use Rattle.cell_sums.specs.Partial.{Adds}
-use Rattle.cell_paths.specs.Evaluates.{MayBeMade}
-use Rattle.cell_nodes.specs.Shapes.{Rises, Serving, Grows, Ahead}
-use Rattle.cell_nodes.specs.TableValues.{HasCurve, HasNumber, IsCurveAt, IsNumberAt, Deviate}
-use Rattle.cell_nodes.proofs.Rises.{grows_served}
-use Rattle.cell_nodes.proofs.Meeting.{InList, meets_below, operand, curve_map, number_map, curve_from, number_from, sum_leaf, served_leaf}
-use Rattle.cell_sums.proofs.Choosing.{queue_visits, other_visits}
-use Rattle.cell_nodes.proofs.Shapes.{in_rises, cross_rises, total_rises, higher_rises, queue_served, hop_served, residual_grows, path_grows, queue_delay_ahead, hop_delay_ahead}
+use Rattle.net_cells.proofs.Precedes.{some_hop}
+use Rattle.cell_operators.specs.declared.places.Pick.{Pick}
+use Rattle.cell_operators.specs.declared.places.Pick.TheVariants.{InQueue}
+use Rattle.cell_operators.specs.declared.sums.Partial.{Partial}
+use Rattle.cell_operators.specs.Chosen.{flow_visits, visit_list, picks, is_other, picked, chosen, all_chosen}
+use Rattle.cell_operators.specs.Partial.{Adds}
+use Rattle.cell_operators.specs.Evaluates.{MayBeMade}
+use Rattle.cell_operators.specs.Shapes.{Rises, Serving, Grows, Ahead}
+use Rattle.cell_operators.specs.TableValues.{HasCurve, HasNumber, IsCurveAt, IsNumberAt, Deviate}
+use Rattle.cell_operators.proofs.Rises.{grows_served}
+use Rattle.cell_operators.proofs.Meeting.{InList, meets_below, operand, curve_map, number_map, curve_from, number_from, sum_leaf, served_leaf}
+use Rattle.cell_operators.proofs.Choosing.{queue_visits, other_visits}
+use Rattle.cell_operators.proofs.Shapes.{in_rises, cross_rises, total_rises, higher_rises, queue_served, hop_served, residual_grows, path_grows, queue_delay_ahead, hop_delay_ahead}
 
 -- ---- what stands in the table
 some_curve : (at : CellTable) (c : Cell) (Q : SpecCurve → Type 0) → HasCurve at c Q → IsCurveAt at c
@@ -149,12 +150,9 @@ live_flow_hops : (net : Net) (i : ℕ) (o : Option NetFlow) → IsAccepted net �
 live_flow_hops net i None a e live = absurd (let bad : false ≡ true = live in cc)
 live_flow_hops net i (Some f) a e live = let some = (flow_kept net i f a e).some in omega (arith, some)
 
-pub live_hops : (net : Net) (i : ℕ) → IsAccepted net → is_live net i ≡ true → 0 < hops net i
-live_hops net i a live = live_flow_hops net i (flow_at net i) a refl live
-
 module _ (net : Net) (at : CellTable) (i : ℕ) where
   pub path_some : MayBeMade net at (cell_of PathService i 0) → 0 < hops net i
-  path_some m = live_hops net i m.accepted (and_parts (is_live net i) true m.exists).0
+  path_some m = some_hop net i m.accepted (and_parts (is_live net i) true m.exists).0
 
   pub path_serves : MayBeMade net at (cell_of PathService i 0) → (j : ℕ) → j < hops net i → HasCurve at (cell_of Residual i j) Serving
   path_serves m j h =
@@ -171,7 +169,7 @@ module _ (net : Net) (at : CellTable) (i : ℕ) where
   sfa_served_by m =
       serves at (cell_of PathService i 0)
       (path_grows net at (InList m.below.cells) (meets_below net at (cell_of Sfa i 0) m.below) m.accepted i 0
-      (live_hops net i m.accepted (and_parts (is_live net i) true m.exists).0)
+      (some_hop net i m.accepted (and_parts (is_live net i) true m.exists).0)
       (operand net at (cell_of Sfa i 0) (cell_of PathService i 0) m.below (inr (inl refl))))
 
   pub tfa_delays : MayBeMade net at (cell_of Tfa i 0) → (k : ℕ) → k < hops net i → IsNumberAt at (cell_of HopDelay i k)

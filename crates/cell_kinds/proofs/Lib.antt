@@ -1,1 +1,5 @@
 pub mod Arms
+pub mod Totals
+pub mod Tallying
+pub mod HaveNumbers
+pub mod PathSums

@@ -1,9 +1,14 @@
-//! The values of cells whose operators are one call each: what a queue's other flows leave, delays and backlogs of
-//! queues, and what leaves a hop.
+//! The values of cells by their kinds, from a table: curves beside numbers.
 #![tactic(auto)]
 
-mod kinds;
+mod bounds;
+mod curves;
+mod number_sums;
+mod numbers;
 mod places;
+mod sums;
 
-pub use kinds::{deconv_out, leaving, queue_backlog, queue_delay, residual, shift_out, theta};
-pub use places::{numbered, place_of};
+pub use curves::{
+    arriving, cross, deconv_out, higher, leaving, path, residual, serving, shift_out, total,
+};
+pub use numbers::{bound, hop_delay, queue_backlog, queue_delay, sfa, tfa, theta};

@@ -1,4 +1,4 @@
-//! Places of hops, and numbers as values.
+//! Cells by their kinds, places of hops, and numbers as values.
 
 ghost use Rattle.std.specs.Prelude.{◌≡◌, ◌<◌, Result};
 ghost use Rattle.rational.specs.Extended.{Ext};
@@ -12,6 +12,19 @@ use fraction128::Ext;
 use net_cells::{queue_at, server_at};
 use net_model::Network;
 use upp_limits::OpFault;
+
+/// The cell of a kind, and of its two numbers.
+macro_rules! cell {
+    ($kind:ident, $a:expr, $b:expr) => {
+        Cell {
+            kind: Kind::$kind,
+            a: $a,
+            b: $b,
+        }
+    };
+}
+
+pub(crate) use cell;
 
 /// The server and the queue of a hop.
 pub fn place_of(net: &Network, flow: u32, hop: u32) -> (u32, u32)

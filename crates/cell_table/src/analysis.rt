@@ -37,8 +37,10 @@ impl<V: CellValue + Drop> Analysis<V> {
     /// Gives a cell a value, in place of what it had; refused only where there is no memory, and then all is as it was.
     pub fn put(&mut self, cell: Cell, value: V) -> Result<(), AllocError>
         ensures put { OnOk result (⟦<Analysis<V> as Table<V>>⟧.at self.new cell ≡ Some (V.meaning value)) }
-        ensures others { OnOk result ((c : Cell) → c ≢ cell → ⟦<Analysis<V> as Table<V>>⟧.at self.new c ≡ ⟦<Analysis<V> as Table<V>>⟧.at self.old c) }
-        ensures kept { OnErr result ((c : Cell) → ⟦<Analysis<V> as Table<V>>⟧.at self.new c ≡ ⟦<Analysis<V> as Table<V>>⟧.at self.old c) }
+        ensures others { OnOk result ((c : Cell) → c ≢ cell →
+            ⟦<Analysis<V> as Table<V>>⟧.at self.new c ≡ ⟦<Analysis<V> as Table<V>>⟧.at self.old c) }
+        ensures kept { OnErr result
+            ((c : Cell) → ⟦<Analysis<V> as Table<V>>⟧.at self.new c ≡ ⟦<Analysis<V> as Table<V>>⟧.at self.old c) }
     {
         self.values.insert(cell, value)?;
         Ok(())

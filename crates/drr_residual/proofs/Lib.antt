@@ -1,7 +1,0 @@
-pub mod Turns
-pub mod Along
-pub mod Shares
-pub mod DrrLaw
-pub mod DrrCalls
-pub mod Numbers
-pub mod DrrGrowth

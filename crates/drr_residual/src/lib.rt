@@ -1,11 +1,10 @@
 //! The service of one queue of a deficit round robin server: its share of the server's service.
 #![tactic(auto)]
 
-mod laws;
 mod service;
 #[cfg(test)]
 mod tests;
 mod turn;
 
-pub use laws::{drr_curve_serves, drr_is_determined, drr_serves, drr_service_grows};
+pub use residual_laws::{drr_curve_serves, drr_is_determined, drr_serves, drr_service_grows};
 pub use service::drr_service;

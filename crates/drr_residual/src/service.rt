@@ -3,8 +3,8 @@
 ghost use Rattle.std.specs.Prelude.{◌≡◌, ◌+◌, ◌<◌, ◌≤◌, length, IfOk};
 ghost use Rattle.upp_curve.specs.Curve.{value_at};
 ghost use Rattle.min_plus.specs.Functions.{IsFinite};
-ghost use Rattle.drr_residual.specs.Calls.{AreQueues, MakesDrr};
-ghost use Rattle.drr_residual.specs.Laws.{IsDrrService};
+ghost use Rattle.residual_laws.specs.DrrCalls.{AreQueues, MakesDrr};
+ghost use Rattle.residual_laws.specs.DrrLaws.{IsDrrService};
 
 use crate::turn::turn_of;
 use curve_call::seen;

@@ -10,8 +10,8 @@ use Rattle.min_plus.specs.Pointwise.{packetised}
 use Rattle.min_plus.specs.Deviations.{IsHorizontalDeviation, IsVerticalDeviation}
 use Rattle.run_laws.specs.Cards.{whole}
 use Rattle.run_laws.specs.Servers.{Discipline, Fifo, Priority, Drr}
-use Rattle.priority_residual.specs.Laws.{IsPriorityService}
-use Rattle.drr_residual.specs.Laws.{IsDrrService}
+use Rattle.residual_laws.specs.PriorityLaws.{IsPriorityService}
+use Rattle.residual_laws.specs.DrrLaws.{IsDrrService}
 use Rattle.net_model.specs.Networks.{Net}
 use Rattle.net_cells.specs.declared.cell.Cell.{Cell}
 use Rattle.net_cells.specs.declared.cell.Kind.TheVariants.{In, Cross, Total, Higher, QueueService, QueueDelay, QueueBacklog}

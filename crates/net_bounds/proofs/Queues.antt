@@ -23,10 +23,10 @@ use Rattle.run_laws.proofs.Backlog.{backlog_from_service}
 use Rattle.run_laws.proofs.Delay.{delay_from_service}
 use Rattle.run_laws.proofs.FifoQueue.{fifo_queue_is_served}
 use Rattle.run_laws.proofs.Views.{views_are_lawful}
-use Rattle.priority_residual.proofs.PriorityLaw.{priority_serves}
-use Rattle.priority_residual.proofs.PriorityGrowth as priority
-use Rattle.drr_residual.proofs.DrrLaw.{drr_serves}
-use Rattle.drr_residual.proofs.DrrGrowth as drr
+use Rattle.residual_laws.proofs.PriorityLaw.{priority_serves}
+use Rattle.residual_laws.proofs.PriorityGrowth as priority
+use Rattle.residual_laws.proofs.DrrLaw.{drr_serves}
+use Rattle.residual_laws.proofs.DrrGrowth as drr
 use Rattle.net_model.specs.Networks.{Net, NetServer}
 use Rattle.net_model.specs.Accepted.{IsAccepted, HasFewQueues}
 use Rattle.net_cells.specs.declared.cell.Kind.TheVariants.{Total, Higher, QueueService, QueueDelay, QueueBacklog}

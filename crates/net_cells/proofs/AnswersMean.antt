@@ -11,10 +11,10 @@ use Rattle.min_plus.specs.Deviations.{IsHorizontalDeviation, IsVerticalDeviation
 use Rattle.curve_call.specs.Again.{IsAgain}
 use Rattle.curve_call.specs.Answers.{IsMadeBy}
 use Rattle.curve_call.specs.Calls.{Applies, AppliesTo, goes_on, stops}
-use Rattle.priority_residual.specs.Calls.{MakesPriority}
-use Rattle.priority_residual.proofs.PriorityCalls as priority_calls
-use Rattle.drr_residual.specs.Calls.{MakesDrr}
-use Rattle.drr_residual.proofs.DrrCalls as drr_calls
+use Rattle.residual_laws.specs.PriorityCalls.{MakesPriority}
+use Rattle.residual_laws.proofs.PriorityCalls as priority_calls
+use Rattle.residual_laws.specs.DrrCalls.{MakesDrr}
+use Rattle.residual_laws.proofs.DrrCalls as drr_calls
 use Rattle.net_cells.specs.Numbered.{zero_curve}
 use Rattle.net_cells.specs.Meanings.{Meaning, curve, number, CellTable, IsCurveIn, IsNumberIn}
 use Rattle.net_cells.specs.NumberSums.{Sums, total}

@@ -8,14 +8,14 @@ use Rattle.net_cells.specs.declared.cell.Cell.{Cell}
 use Rattle.net_cells.specs.declared.cell.Kind.{Kind}
 use Rattle.net_cells.specs.declared.cell.Kind.TheVariants.{In, Cross, Total, Higher, QueueService, Theta, Residual, QueueDelay, QueueBacklog, HopDelay, ShiftOut, DeconvOut, Out, PathService, Tfa, Sfa, Bound}
 use Rattle.net_cells.specs.Numbered.{hops, server_at, queue_at, discipline}
-use Rattle.net_cells.specs.Visits.{Visit, visit, visits, visits_in, others}
+use Rattle.net_cells.specs.Visits.{Visit, visits, visits_in, others}
 use Rattle.net_cells.specs.Cells.{cell_of}
 use Rattle.net_cells.specs.Order.{at_visit}
 use Rattle.net_cells.specs.Formulas.{leaves}
 use Rattle.net_cells.specs.CellFormulas.{formula, formula_of, sum_of, arriving, queue_service}
 use Rattle.net_cells.specs.Laws.{OperandsAreDifferent}
 use Rattle.net_cells.proofs.Lists.{Has, Apart, apart_pairs, apart_map, apart_filter, apart_range}
-use Rattle.net_cells.proofs.Places.{apart_visits}
+use Rattle.net_cells.proofs.Places.{apart_visits, at_visit_one, cell_of_one}
 use Rattle.net_cells.proofs.LeavesOf.{sum_leaves, served_leaves}
 
 -- ---- one, two, three
@@ -38,14 +38,8 @@ three_apart : (x y z : Cell) → (y.kind ≡ x.kind → ⊥) → (z.kind ≡ x.k
 three_apart x y z n m l = (not_in_two x y z n m, two_apart y z l)
 
 -- ---- many
-visit_one : (kind : Kind) (v w : Visit) → at_visit kind v ≡ at_visit kind w → v ≡ w
-visit_one kind v w e = ap (λ (c : Cell). visit c.a c.b) e
-
-number_one : (kind : Kind) (a p q : ℕ) → cell_of kind a p ≡ cell_of kind a q → p ≡ q
-number_one kind a p q e = ap (λ (c : Cell). c.b) e
-
 numbers_apart : (kind : Kind) (a n : ℕ) → Apart (map (cell_of kind a) (range_with_len 0 n))
-numbers_apart kind a n = apart_map (cell_of kind a) (range_with_len 0 n) (number_one kind a) (apart_range 0 n)
+numbers_apart kind a n = apart_map (cell_of kind a) (range_with_len 0 n) (cell_of_one kind a) (apart_range 0 n)
 
 in_apart : (net : Net) (s q : ℕ) → Apart (visits_in net s q)
 in_apart net s q = apart_filter (λ (v : Visit). queue_at net v.flow v.hop == q) (visits net s) (apart_visits net s)
@@ -69,11 +63,11 @@ of_kind net Cross i k =
     let s = server_at net i k in
     let q = queue_at net i k in
     sum_apart (map (at_visit In) (others net i s q))
-    (apart_map (at_visit In) (others net i s q) (visit_one In)
+    (apart_map (at_visit In) (others net i s q) (at_visit_one In)
     (apart_filter (λ (v : Visit). not (v.flow == i)) (visits_in net s q) (in_apart net s q)))
 of_kind net Total s q =
     sum_apart (map (at_visit In) (visits_in net s q))
-    (apart_map (at_visit In) (visits_in net s q) (visit_one In) (in_apart net s q))
+    (apart_map (at_visit In) (visits_in net s q) (at_visit_one In) (in_apart net s q))
 of_kind net Higher s q = sum_apart (map (cell_of Total s) (range_with_len 0 q)) (numbers_apart Total s q)
 of_kind net QueueService s q = of_service net s q (discipline net s)
 of_kind net Theta i k = two_apart (cell_of Cross i k) (cell_of QueueService (server_at net i k) (queue_at net i k))

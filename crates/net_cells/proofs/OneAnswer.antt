@@ -15,10 +15,10 @@ use Rattle.curve_call.specs.Again.{IsAgain, again_determined}
 use Rattle.curve_call.specs.Calls.{Applies, AppliesTo}
 use Rattle.curve_call.specs.Determined.{IsDetermined}
 use Rattle.curve_call.proofs.InTurn.{applies_determined, then_determined}
-use Rattle.priority_residual.specs.Calls.{MakesPriority}
-use Rattle.priority_residual.proofs.PriorityCalls as priority_calls
-use Rattle.drr_residual.specs.Calls.{MakesDrr}
-use Rattle.drr_residual.proofs.DrrCalls as drr_calls
+use Rattle.residual_laws.specs.PriorityCalls.{MakesPriority}
+use Rattle.residual_laws.proofs.PriorityCalls as priority_calls
+use Rattle.residual_laws.specs.DrrCalls.{MakesDrr}
+use Rattle.residual_laws.proofs.DrrCalls as drr_calls
 use Rattle.net_cells.specs.declared.cell.Cell.{Cell}
 use Rattle.net_cells.specs.Numbered.{zero_curve}
 use Rattle.net_cells.specs.Meanings.{Meaning, curve, number, CellTable}

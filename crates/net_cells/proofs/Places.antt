@@ -146,10 +146,10 @@ has_cells net s kind EachPriorityQueue a b h e n =
     (has_range 0 (levels net a) b (omega arith) (let l = ltb-true b (levels net a) h in omega (arith, l))))
 has_cells net s kind EachPath a b h e n = absurd (n refl)
 
-at_visit_one : (kind : Kind) (v w : Visit) → at_visit kind v ≡ at_visit kind w → v ≡ w
+pub at_visit_one : (kind : Kind) (v w : Visit) → at_visit kind v ≡ at_visit kind w → v ≡ w
 at_visit_one kind v w e = ap (λ (c : Cell). visit c.a c.b) e
 
-cell_of_one : (kind : Kind) (s p q : ℕ) → cell_of kind s p ≡ cell_of kind s q → p ≡ q
+pub cell_of_one : (kind : Kind) (s p q : ℕ) → cell_of kind s p ≡ cell_of kind s q → p ≡ q
 cell_of_one kind s p q e = ap (λ (c : Cell). c.b) e
 
 pub apart_cells : (net : Net) (s : ℕ) (kind : Kind) (scope : Scope) → Apart (cells_in_scope net s kind scope)

@@ -403,7 +403,7 @@ queue_backlog_first net order s q o h d m = here m
 
 -- ---- cells of whole paths
 -- a live flow has a hop
-some_hop : (net : Net) (i : ℕ) → IsAccepted net → is_live net i ≡ true → 0 < hops net i
+pub some_hop : (net : Net) (i : ℕ) → IsAccepted net → is_live net i ≡ true → 0 < hops net i
 some_hop net i a h = by (flow_at net i) refl
   where
     by : (f : Option NetFlow) → flow_at net i ≡ f → 0 < hops net i

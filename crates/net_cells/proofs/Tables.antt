@@ -86,7 +86,7 @@ split_at (c ∷ cs) d (inr h) = let found =
     split_at cs d h in (c ∷ found.0, found.1, ap (λ (xs : List Cell). c ∷ xs) found.2)
 
 -- what a cell of a front is made of is in the front
-closed_front : (net : Net) (order : List ℕ) (front : List Cell) (c : Cell) (back : List Cell) (d e : Cell)
+pub closed_front : (net : Net) (order : List ℕ) (front : List Cell) (c : Cell) (back : List Cell) (d e : Cell)
     → IsAccepted net
     → IsOrder net order → evaluation_order net order ≡ front ++ c ∷ back → Has front d → Has (leaves (formula net d)) e
     → Has front e

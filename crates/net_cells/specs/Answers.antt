@@ -12,8 +12,8 @@ use Rattle.min_plus.specs.Deviations.{IsHorizontalDeviation, IsVerticalDeviation
 use Rattle.upp_limits.specs.Outcome.{IsWithin, IsCauseOf}
 use Rattle.curve_call.specs.Again.{IsAgain}
 use Rattle.curve_call.specs.Calls.{Applies, AppliesTo, Then}
-use Rattle.priority_residual.specs.Calls.{MakesPriority}
-use Rattle.drr_residual.specs.Calls.{MakesDrr}
+use Rattle.residual_laws.specs.PriorityCalls.{MakesPriority}
+use Rattle.residual_laws.specs.DrrCalls.{MakesDrr}
 use Rattle.net_cells.specs.declared.cell.Cell.{Cell}
 use Rattle.net_cells.specs.Numbered.{zero_curve}
 use Rattle.net_cells.specs.Meanings.{Meaning, curve, number, CellTable, IsCurveIn, IsNumberIn}

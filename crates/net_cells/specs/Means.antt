@@ -9,8 +9,8 @@ use Rattle.upp_curve.specs.Curve.{SpecCurve, value_at}
 use Rattle.upp_curve.specs.Curves.{IsCurve}
 use Rattle.min_plus.specs.Deviations.{IsHorizontalDeviation, IsVerticalDeviation}
 use Rattle.curve_call.specs.Answers.{IsMadeBy}
-use Rattle.priority_residual.specs.Laws.{IsPriorityService}
-use Rattle.drr_residual.specs.Laws.{IsDrrService}
+use Rattle.residual_laws.specs.PriorityLaws.{IsPriorityService}
+use Rattle.residual_laws.specs.DrrLaws.{IsDrrService}
 use Rattle.net_cells.specs.declared.cell.Cell.{Cell}
 use Rattle.net_cells.specs.Numbered.{zero_curve}
 use Rattle.net_cells.specs.Meanings.{Meaning, curve, number, CellTable, IsCurveIn, IsNumberIn}

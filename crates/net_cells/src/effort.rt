@@ -36,7 +36,8 @@ fn count_hops(path: &[u32], lanes: &[u32], server: u32, queue: u32) -> u32
 // Of a flow, where it is live.
 fn count_flow(flow: &Option<Flow>, server: u32, queue: u32) -> u32
     requires { length (at.stored_path flow.now) ≤ 16 }
-    ensures count { (i : ℕ) → result ≡ length (hops_in i (at.stored_path flow.now) (at.stored_queues flow.now) server queue) }
+    ensures count { (i : ℕ) → result ≡ length
+        (hops_in i (at.stored_path flow.now) (at.stored_queues flow.now) server queue) }
     ensures few { result ≤ 16 }
 {
     match flow {

@@ -1,3 +1,0 @@
-pub mod PriorityCalls
-pub mod PriorityLaw
-pub mod PriorityGrowth

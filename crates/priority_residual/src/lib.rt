@@ -1,12 +1,11 @@
 //! The service of one queue of a priority server: what the queues before it leave, less one packet of those after it.
 #![tactic(auto)]
 
-mod laws;
 mod service;
 #[cfg(test)]
 mod tests;
 
-pub use laws::{
+pub use residual_laws::{
     priority_curve_serves, priority_is_determined, priority_serves, priority_service_grows,
 };
 pub use service::priority_service;

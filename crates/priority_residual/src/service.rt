@@ -4,8 +4,8 @@ ghost use Rattle.std.specs.Prelude.{◌≡◌, ◌+◌, ◌≤◌, IfOk};
 ghost use Rattle.upp_curve.specs.Curve.{value_at};
 ghost use Rattle.min_plus.specs.Functions.{IsFinite};
 ghost use Rattle.run_laws.specs.Cards.{whole};
-ghost use Rattle.priority_residual.specs.Calls.{LeavesPriority, MakesPriority};
-ghost use Rattle.priority_residual.specs.Laws.{IsPriorityService};
+ghost use Rattle.residual_laws.specs.PriorityCalls.{LeavesPriority, MakesPriority};
+ghost use Rattle.residual_laws.specs.PriorityLaws.{IsPriorityService};
 
 use curve_call::seen;
 use curve_envelope::{pos_diff, pos_minus, run_sup};

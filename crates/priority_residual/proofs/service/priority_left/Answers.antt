@@ -3,7 +3,7 @@ use Rattle.std.proofs.lemmas.Result.{err_from_is_err_and}
 use Rattle.upp_limits.specs.declared.op_kind.OpKind.TheVariants.{PosDiff, PosMinus}
 use Rattle.curve_call.specs.Calls.{AppliesTo, goes_on, stops}
 use Rattle.curve_call.proofs.Applied.{applied_seen}
-use Rattle.priority_residual.proofs.PriorityCalls.{difference_finite}
+use Rattle.residual_laws.proofs.PriorityCalls.{difference_finite}
 use Rattle.priority_residual.proofs.service.priority_left.Goals as goal
 
 pub returns-in_err-above-clause-answer : goal.returns-in_err-above-clause-answer

@@ -3,7 +3,7 @@ use Rattle.std.proofs.lemmas.Result.{err_from_is_err_and}
 use Rattle.upp_limits.specs.declared.op_kind.OpKind.TheVariants.{RunSup}
 use Rattle.curve_call.specs.Calls.{goes_on, stops}
 use Rattle.curve_call.proofs.Applied.{applied_seen, if_ok}
-use Rattle.priority_residual.proofs.PriorityCalls.{left_finite, left_nonneg, ok_service}
+use Rattle.residual_laws.proofs.PriorityCalls.{left_finite, left_nonneg, ok_service}
 use Rattle.priority_residual.proofs.service.priority_service.Goals as goal
 
 pub returns-in_err-left-clause-answer : goal.returns-in_err-left-clause-answer

@@ -1,2 +1,0 @@
-pub mod HaveNumbers
-pub mod PathSums

@@ -1,0 +1,44 @@
+use Rattle.std.proofs.Common.{[], ◌∷◌}
+use Rattle.net_cells.specs.declared.cell.Kind.TheVariants.{In, PathService}
+use Rattle.net_cells.specs.Cells.{cell_of}
+use Rattle.net_cells.specs.Formulas.{value_of, horizontal}
+use Rattle.net_cells.specs.Means.{with_links}
+use Rattle.net_cells.specs.CellFormulas.{links_along}
+use Rattle.cell_operators.proofs.Counting.{counts_all}
+use Rattle.cell_kinds.proofs.Arms.{sfa_comes, sfa_served_by}
+use Rattle.curve_call.specs.Calls.{stops}
+use Rattle.std.proofs.Common.{refl}
+use Rattle.cell_kinds.proofs.PathSums.{delayed_answer}
+use Rattle.cell_kinds.proofs.numbers.sfa.Goals as goal
+
+pub delay_between-requires-clause-rises : goal.delay_between-requires-clause-rises
+delay_between-requires-clause-rises g c =
+    sfa_comes c.args.net.now (g.T.Table.at c.args.table.now) c.args.flow c.requires
+
+pub delay_between-requires-clause-serves : goal.delay_between-requires-clause-serves
+delay_between-requires-clause-serves g c =
+    sfa_served_by c.args.net.now (g.T.Table.at c.args.table.now) c.args.flow c.requires
+
+pub returns-in-Ok : goal.returns-in-Ok
+returns-in-Ok g c =
+    let net = c.args.net.now in
+    let i = c.args.flow in
+    let at = g.T.Table.at c.args.table.now in
+    let x = c.in-Ok.delay in
+    record {
+      answer =
+          rw c.numbered.ensures
+          (delayed_answer net at (horizontal (value_of (cell_of In i 0)) (value_of (cell_of PathService i 0))) i x
+          c.sum_of.result c.requires.accepted
+          c.in-Ok.ensures.answer
+          (λ few.
+          c.sum_of.ensures (with_links (x ∷ []) (links_along net i)) few
+          (c.with_path.ensures (x ∷ []) (c.and.ensures [] c.no_number.ensures))));
+      counts = counts_all 1 c.args.steps.now _ _ c.in-Ok.ensures.count;
+    }
+
+pub returns-in-Err : goal.returns-in-Err
+returns-in-Err g c = record {
+  answer = stops c.in-Err.fault c.in-Err.ensures.answer refl;
+  counts = counts_all 1 c.args.steps.now _ _ c.in-Err.ensures.count;
+}

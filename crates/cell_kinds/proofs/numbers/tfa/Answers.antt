@@ -1,0 +1,23 @@
+use Rattle.cell_operators.proofs.Counting.{counts_none}
+use Rattle.cell_kinds.proofs.Arms.{tfa_delays}
+use Rattle.net_cells.specs.Means.{with_links}
+use Rattle.net_cells.specs.CellFormulas.{links_along}
+use Rattle.cell_kinds.proofs.PathSums.{path_answer}
+use Rattle.cell_kinds.proofs.numbers.tfa.Goals as goal
+
+pub delays-requires : goal.delays-requires
+delays-requires g c = tfa_delays c.args.net.now (g.T.Table.at c.args.table.now) c.args.flow c.requires
+
+pub returns : goal.returns
+returns g c = λ n.
+    let net = c.args.net.now in
+    let i = c.args.flow in
+    let at = g.T.Table.at c.args.table.now in
+    record {
+      answer =
+          rw c.numbered.ensures
+          (path_answer net at i c.sum_of.result c.requires.accepted (tfa_delays net at i c.requires)
+          (λ xs few are.
+          c.sum_of.ensures (with_links xs (links_along net i)) few (c.with_path.ensures xs (c.delays.ensures xs are))));
+      counts = counts_none n _;
+    }

@@ -1,0 +1,60 @@
+//! The numbers of hops and of whole paths.
+
+ghost use Rattle.std.specs.Prelude.{◌≡◌, ◌<◌, ℕ, List};
+ghost use Rattle.net_cells.specs.declared.cell.Kind.TheVariants.{HopDelay};
+ghost use Rattle.net_cells.specs.Numbered as at;
+ghost use Rattle.net_cells.specs.Cells.{cell_of};
+ghost use Rattle.net_cells.specs.CellFormulas.{hop_delays, links_along};
+ghost use Rattle.net_cells.specs.Means.{HaveNumbers, with_links};
+ghost use Rattle.rational.specs.Extended.{Ext};
+ghost use Rattle.cell_operators.specs.TableValues.{IsNumberAt};
+ghost use Rattle.cell_kinds.specs.Tallies.{AreAdded};
+
+use crate::number_sums::{Added, and, no_number};
+use cell_operators::number_at;
+use cell_table::{Table, Value};
+use fraction128::Frac;
+use net_cells::{Cell, Kind, hops, server, server_at};
+use net_model::Network;
+use rational::Extended;
+
+// How long a packet that leaves a server is on the way; 0 past the last server.
+fn link(net: &Network, number: u32) -> Frac
+    ensures { result ≡ at.link net.now number }
+{
+    match server(net, number) {
+        Some(found) => found.link,
+        None => Frac::zero(),
+    }
+}
+
+/// The delays of a flow's hops, added up.
+pub(crate) fn delays<T: Table<Value>>(table: &T, net: &Network, flow: u32) -> Added
+    requires { (k : ℕ) → k < at.hops net.now flow → IsNumberAt (T.at table.now) (cell_of HopDelay flow k) }
+    ensures { (xs : List Ext)
+        → HaveNumbers (T.at table.now) (hop_delays net.now flow) xs → AreAdded xs result }
+{
+    let mut all = no_number();
+    let count = hops(net, flow);
+    for hop in 0..count {
+        let cell = Cell {
+            kind: Kind::HopDelay,
+            a: flow,
+            b: hop,
+        };
+        all = and(all, number_at(table, cell));
+    }
+    all
+}
+
+/// Numbers and then the links along a flow's path, added up.
+pub(crate) fn with_path(numbers: Added, net: &Network, flow: u32) -> Added
+    ensures { (xs : List Ext) → AreAdded xs numbers → AreAdded (with_links xs (links_along net.now flow)) result }
+{
+    let mut all = numbers;
+    for hop in 0..hops(net, flow) {
+        let number = server_at(net, flow, hop);
+        all = and(all, Extended::Fin(link(net, number)));
+    }
+    all
+}

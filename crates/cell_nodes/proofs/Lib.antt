@@ -1,4 +1,0 @@
-pub mod Rises
-pub mod Meeting
-pub mod Shapes
-pub mod Handing

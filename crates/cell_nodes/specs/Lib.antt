@@ -1,3 +1,0 @@
-pub mod TableValues
-pub mod Shapes
-pub mod Sharing

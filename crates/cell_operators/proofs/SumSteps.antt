@@ -1,0 +1,163 @@
+-- Sums of cells' curves, one cell after the other.
+use Rattle.std.proofs.Common.{◌≡◌, ℕ, ◌+◌, ◌-◌, ◌≤◌, List, [], ◌∷◌, ◌++◌, length, refl, sym, ap, subst, arith, append_assoc, append-nil, length-append}
+use Rattle.std.specs.Prelude.{Some, Result, Ok, Err}
+use Rattle.upp_limits.specs.declared.op_kind.OpKind.TheVariants.{Sum}
+use Rattle.upp_limits.specs.declared.op_kind.OpFault.{OpFault}
+use Rattle.upp_limits.specs.declared.op_kind.OpFault.TheVariants.{NoMemory}
+use Rattle.upp_curve.specs.Curve.{SpecCurve}
+use Rattle.curve_call.specs.Calls.{Applies, goes_on, stops}
+use Rattle.net_cells.specs.declared.cell.Cell.{Cell}
+use Rattle.net_cells.specs.Meanings.{curve, CellTable}
+use Rattle.curve_call.specs.Again.{IsAgain}
+use Rattle.net_cells.specs.Numbered.{zero_curve}
+use Rattle.net_cells.specs.Formulas.{Formula, value_of, given, empty_sum, made, made_of, moved, leftover, priority, deficit, horizontal, vertical, smaller, along, delayed}
+use Rattle.net_cells.specs.CellFormulas.{sum_of, sum_from}
+use Rattle.net_cells.specs.Answers.{Answer, Answers, MakesCurve}
+use Rattle.cell_table.specs.Gives.{Gives}
+use Rattle.cell_operators.specs.declared.sums.Partial.{Partial}
+use Rattle.cell_operators.specs.declared.sums.Partial.TheVariants.{One, Made}
+use Rattle.cell_operators.specs.Sharing.{IsShared}
+use Rattle.cell_operators.specs.Partial.{IsSumOf, IsSummed, IsPartial, Fails, Adds}
+
+-- ---- formulas
+from_join : (F : Formula) (xs ys : List Cell) → sum_from F (xs ++ ys) ≡ sum_from (sum_from F xs) ys
+from_join F [] ys = refl
+from_join F (x ∷ xs) ys = from_join (made Sum F (value_of x)) xs ys
+
+sum_more : (x : Cell) (xs : List Cell) (y : Cell) → sum_of ((x ∷ xs) ++ y ∷ []) ≡ made Sum (sum_of (x ∷ xs)) (value_of y)
+sum_more x xs y = from_join (value_of x) xs (y ∷ [])
+
+-- a sum that is refused is refused whatever comes after
+left_over : (at : CellTable) (F : Formula) (rest : List Cell) (fault : OpFault) → Answers at F (Err fault)
+    → Answers at (sum_from F rest) (Err fault)
+left_over at F [] fault a = a
+left_over at F (c ∷ cs) fault a = left_over at (made Sum F (value_of c)) cs fault (stops fault a refl)
+
+pub fails : (at : CellTable) (cells : List Cell) (fault : OpFault) → 1 ≤ length cells → Answers at (sum_of cells) (Err fault) → Fails at cells fault
+fails at [] fault some a rest = absurd (omega (arith, some))
+fails at (x ∷ xs) fault some a rest =
+    subst (λ (F : Formula). Answers at F (Err fault)) (sym (from_join (value_of x) xs rest))
+    (left_over at (sum_from (value_of x) xs) rest fault a)
+
+pub fails_more : (at : CellTable) (cells more : List Cell) (fault : OpFault) → Fails at cells fault → Fails at (cells ++ more) fault
+fails_more at cells more fault f rest =
+    subst (λ (cs : List Cell). Answers at (sum_of cs) (Err fault)) (sym (append_assoc cells more rest)) (f (more ++ rest))
+
+-- ---- a cell more
+step : (at : CellTable) (cells : List Cell) (f g : SpecCurve) (cell : Cell) (r : Answer) → IsSummed at cells f → at cell ≡ Some (curve g)
+    → ((F : Formula) → Answers at F (Ok (curve f)) → Answers at (made Sum F (value_of cell)) r) → Answers at (sum_of (cells ++ cell ∷ [])) r
+step at [] f g cell r s is to = let some = s.some in absurd (omega (arith, some))
+step at (x ∷ xs) f g cell r s is to = subst (λ (F : Formula). Answers at F r) (sym (sum_more x xs cell)) (to (sum_of (x ∷ xs)) s.answers)
+
+longer : (cells : List Cell) (cell : Cell) → length (cells ++ cell ∷ []) ≡ length cells + 1
+longer cells cell = length-append cells (cell ∷ [])
+
+pub adds_made : (at : CellTable) (cells : List Cell) (f g h : SpecCurve) (cell : Cell) (old new : ℕ) → IsSummed at cells f
+    → at cell ≡ Some (curve g) → Applies Sum f g (Ok h) → new ≡ old + 1 → Adds at cells (cell ∷ []) old new (Ok (Made h))
+adds_made at cells f g h cell old new s is a count = (
+  record {
+    some = let some = s.some in let l = longer cells cell in omega (arith, some, l);
+    answers = step at cells f g cell (Ok (curve h)) s is (λ F p. goes_on (curve f) p (goes_on (curve g) is a));
+    lacks = step at cells f g cell (Err NoMemory) s is (λ F p. goes_on (curve f) p (goes_on (curve g) is a.within));
+  },
+  let some = s.some in let l = longer cells cell in omega (arith, some, l, count),
+)
+
+pub adds_refused : (at : CellTable) (cells : List Cell) (f g : SpecCurve) (fault : OpFault) (cell : Cell) (old new : ℕ) → IsSummed at cells f
+    → at cell ≡ Some (curve g) → Applies Sum f g (Err fault) → new ≡ old + 1 → Adds at cells (cell ∷ []) old new (Err fault)
+adds_refused at cells f g fault cell old new s is a count =
+    let some = s.some in
+    let l = longer cells cell in (
+      fails at (cells ++ cell ∷ []) fault (omega (arith, l))
+          (step at cells f g cell (Err fault) s is (λ F p. goes_on (curve f) p (goes_on (curve g) is a))),
+      omega (arith, count),
+      omega (arith, some, l, count),
+    )
+
+pub adds_first : (at : CellTable) (cells : List Cell) (cell : Cell) (old : ℕ) → cells ≡ [] → Adds at cells (cell ∷ []) old old (Ok (One cell))
+adds_first at cells cell old e = subst (λ (cs : List Cell). Adds at cs (cell ∷ []) old old (Ok (One cell))) (sym e) (refl, refl)
+
+pub one_summed : (at : CellTable) (cells : List Cell) (cell : Cell) (f : SpecCurve) → cells ≡ cell ∷ [] → at cell ≡ Some (curve f) → IsSummed at cells f
+one_summed at cells cell f e is =
+    subst (λ (cs : List Cell). IsSummed at cs f) (sym e) (record { some = omega arith; answers = is })
+
+pub made_summed : (at : CellTable) (cells : List Cell) (f : SpecCurve) → IsSumOf at cells f → IsSummed at cells f
+made_summed at cells f s = record { some = let some = s.some in omega (arith, some); answers = s.answers }
+
+-- ---- more cells
+pub adds_none : (at : CellTable) (cells : List Cell) (p : Partial) (old : ℕ) → IsPartial at cells p → Adds at cells [] old old (Ok p)
+adds_none at cells p old is = (
+  subst (λ (cs : List Cell). IsPartial at cs p) (sym (append-nil cells)) is,
+  ap (λ (cs : List Cell). old + (length cs - 1)) (sym (append-nil cells)),
+)
+
+pub adds_then : (at : CellTable) (cells more next : List Cell) (old mid new : ℕ) (p : Partial) (r : Result Partial OpFault)
+    → Adds at cells more old mid (Ok p) → Adds at (cells ++ more) next mid new r → Adds at cells (more ++ next) old new r
+adds_then at cells more next old mid new p (Ok q) a b =
+    let same = append_assoc cells more next in (
+      subst (λ (cs : List Cell). IsPartial at cs q) same b.0,
+      let e = ap (λ (cs : List Cell). length cs) same in let l = length-append cells more in let n = length-append (cells ++ more) next in
+          omega (arith, a.1, b.1, e, l, n),
+    )
+adds_then at cells more next old mid new p (Err fault) a b =
+    let same = append_assoc cells more next in
+    let e = ap (λ (cs : List Cell). length cs) same in
+    let l = length-append cells more in
+    let n = length-append (cells ++ more) next in (
+      subst (λ (cs : List Cell). Fails at cs fault) same b.0,
+      omega (arith, a.1, b.1, e, l, n),
+      omega (arith, a.1, b.1, b.2, e, l, n),
+    )
+
+pub adds_rest : (at : CellTable) (cells more rest : List Cell) (old new : ℕ) (fault : OpFault)
+    → Adds at cells more old new (Err fault) → Adds at cells (more ++ rest) old new (Err fault)
+adds_rest at cells more rest old new fault a =
+    let same = append_assoc cells more rest in
+    let e = ap (λ (cs : List Cell). length cs) same in
+    let n = length-append (cells ++ more) rest in (
+      subst (λ (cs : List Cell). Fails at cs fault) same (fails_more at (cells ++ more) rest fault a.0),
+      a.1,
+      omega (arith, a.2, e, n),
+    )
+
+-- ---- the value of a sum
+made_gives : (at : CellTable) (F G : Formula) (rest : List Cell) (r : Answer) → Answers at (sum_from (made Sum F G) rest) r
+    → Gives at (sum_from (made Sum F G) rest) r
+made_gives at F G [] r a = a
+made_gives at F G (c ∷ cs) r a = made_gives at (made Sum F G) (value_of c) cs r a
+
+sum_gives : (at : CellTable) (cells : List Cell) (r : Answer) → 2 ≤ length cells → Answers at (sum_of cells) r → Gives at (sum_of cells) r
+sum_gives at [] r h a = absurd (omega (arith, h))
+sum_gives at (x ∷ []) r h a = absurd (omega (arith, h))
+sum_gives at (x ∷ y ∷ cells) r h a = made_gives at (value_of x) (value_of y) cells r a
+
+pub none_given : (at : CellTable) (cells : List Cell) (r : Answer) → cells ≡ [] → MakesCurve (IsAgain zero_curve) r → Gives at (sum_of cells) r
+none_given at cells r e a = subst (λ (cs : List Cell). Gives at (sum_of cs) r) (sym e) a
+
+pub one_given : (at : CellTable) (cells : List Cell) (c : Cell) (r : Answer) → cells ≡ c ∷ [] → Gives at (value_of c) r → Gives at (sum_of cells) r
+one_given at cells c r e a = subst (λ (cs : List Cell). Gives at (sum_of cs) r) (sym e) a
+
+pub made_given : (at : CellTable) (cells : List Cell) (f : SpecCurve) (r : Answer) → IsSumOf at cells f → IsShared (Ok f) r → Gives at (sum_of cells) r
+made_given at cells f (Ok v) s e = sum_gives at cells (Ok v) s.some (subst (λ w. Answers at (sum_of cells) (Ok w)) (sym e) s.answers)
+made_given at cells f (Err fault) s e =
+    sum_gives at cells (Err fault) s.some (subst (λ d. Answers at (sum_of cells) (Err d)) (sym e) s.lacks)
+
+err_gives : (at : CellTable) (F : Formula) (fault : OpFault) → Answers at F (Err fault) → Gives at F (Err fault)
+err_gives at (value_of c) fault a = absurd a
+err_gives at (given f) fault a = a
+err_gives at empty_sum fault a = a
+err_gives at (made op F G) fault a = a
+err_gives at (made_of op F) fault a = a
+err_gives at (moved F T) fault a = a
+err_gives at (leftover F G T) fault a = a
+err_gives at (priority f F lower) fault a = a
+err_gives at (deficit f quanta longest queue) fault a = a
+err_gives at (horizontal F G) fault a = a
+err_gives at (vertical F G) fault a = a
+err_gives at (smaller F G) fault a = a
+err_gives at (along cells links) fault a = a
+err_gives at (delayed F links) fault a = a
+
+pub failed_given : (at : CellTable) (cells : List Cell) (fault : OpFault) → Fails at cells fault → Gives at (sum_of cells) (Err fault)
+failed_given at cells fault f =
+    err_gives at (sum_of cells) fault (subst (λ (cs : List Cell). Answers at (sum_of cs) (Err fault)) (append-nil cells) (f []))

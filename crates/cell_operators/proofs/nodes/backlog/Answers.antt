@@ -1,0 +1,35 @@
+use Rattle.std.proofs.Common.{sym, ap, ◌∙◌, subst}
+use Rattle.std.specs.Prelude.{Some}
+use Rattle.upp_limits.specs.declared.op_kind.OpKind.TheVariants.{PosMinus, Vertical}
+use Rattle.min_plus.specs.Deviations.{IsVerticalDeviation}
+use Rattle.run_laws.specs.Cards.{whole}
+use Rattle.curve_call.specs.Calls.{AppliesTo}
+use Rattle.net_cells.specs.Meanings.{curve, number}
+use Rattle.cell_table.specs.Values.{answer_of}
+use Rattle.cell_operators.specs.Shapes.{Serving}
+use Rattle.cell_operators.proofs.Meeting.{curve_holds}
+use Rattle.cell_operators.proofs.Handing.{deviates, backlog_made, backlog_refused}
+use Rattle.cell_operators.proofs.nodes.backlog.Goals as goal
+
+pub in_packets-requires : goal.in_packets-requires
+in_packets-requires g c =
+    (curve_holds (g.T.Table.at c.args.table.now) c.args.service Serving c.deref.result.now c.requires.serves
+    (c.curve_at.ensures ∙ ap (λ f. Some (curve f)) (sym c.deref.ensures))).finite
+
+pub returns-in-Ok-clause-answer : goal.returns-in-Ok-clause-answer
+returns-in-Ok-clause-answer g c =
+    let at = g.T.Table.at c.args.table.now in
+    let f = c.deref-in-Ok.result.now in
+    let k = c.in-Ok.packets in
+    let less = subst (AppliesTo (PosMinus (whole c.args.bits)) c.deref.result.now) c.in-Ok.is c.in_packets.ensures.answer in
+    backlog_made at c.args.from c.args.service f c.deref.result.now c.args.bits k (answer_of number c.vertical.result)
+    (c.curve_at-from.ensures ∙ ap (λ f. Some (curve f)) (sym c.deref-in-Ok.ensures))
+    (c.curve_at.ensures ∙ ap (λ f. Some (curve f)) (sym c.deref.ensures)) less
+    (deviates Vertical IsVerticalDeviation f k c.vertical.result c.vertical.ensures.limits c.vertical.ensures.value c.vertical.ensures.memory)
+
+pub returns-in-Err-clause-answer : goal.returns-in-Err-clause-answer
+returns-in-Err-clause-answer g c =
+    let at = g.T.Table.at c.args.table.now in
+    let less = subst (AppliesTo (PosMinus (whole c.args.bits)) c.deref.result.now) c.in-Err.is c.in_packets.ensures.answer in
+    backlog_refused at c.args.from c.args.service c.curve_at-from.result.now.value c.deref.result.now c.args.bits c.in-Err.fault c.curve_at-from.ensures
+    (c.curve_at.ensures ∙ ap (λ f. Some (curve f)) (sym c.deref.ensures)) less

@@ -1,0 +1,53 @@
+use Rattle.std.proofs.Common.{sym, ap, ◌∙◌, subst, arith}
+use Rattle.std.specs.Prelude.{Some, Ok, Err}
+use Rattle.upp_limits.specs.declared.op_kind.OpKind.TheVariants.{PosMinus, Convolve}
+use Rattle.run_laws.specs.Cards.{whole}
+use Rattle.curve_call.specs.Calls.{Applies, AppliesTo}
+use Rattle.curve_call.proofs.Applied.{applied_seen}
+use Rattle.net_cells.specs.Meanings.{curve}
+use Rattle.net_cells.specs.Formulas.{value_of}
+use Rattle.net_cells.specs.CellFormulas.{less}
+use Rattle.cell_table.specs.Values.{answer_of}
+use Rattle.cell_operators.specs.Shapes.{Serving}
+use Rattle.cell_operators.proofs.Counting.{counts_all}
+use Rattle.cell_operators.proofs.Meeting.{curve_holds}
+use Rattle.cell_operators.proofs.PathSteps.{made_answer, less_answer, joined_answer, second_fails}
+use Rattle.cell_operators.proofs.paths.with_hop.Goals as goal
+
+pub in_packets-requires : goal.in_packets-requires
+in_packets-requires g c =
+    (curve_holds (g.T.Table.at c.args.table.now) c.args.cell Serving c.deref.result.now c.requires
+    (c.curve_at.ensures ∙ ap (λ f. Some (curve f)) (sym c.deref.ensures))).finite
+
+pub returns-in-Ok-clause-answer : goal.returns-in-Ok-clause-answer
+returns-in-Ok-clause-answer g c = λ F p.
+    let at = g.T.Table.at c.args.table.now in
+    let f = c.args.so_far.now in
+    let n = c.in-Ok.next in
+    let is = c.curve_at.ensures ∙ ap (λ f. Some (curve f)) (sym c.deref.ensures) in
+    let one = subst (AppliesTo (PosMinus (whole c.args.bits)) c.deref.result.now) c.in-Ok.is c.in_packets.ensures.answer in
+    let call = applied_seen Convolve f n c.convolve.result c.seen.result c.seen.ensures.same c.convolve.ensures.value c.convolve.ensures.limits
+    c.seen.ensures.kept in
+    joined_answer at F (less (value_of c.args.cell) c.args.bits) f n (answer_of curve c.seen.result) p
+    (less_answer at c.args.cell c.deref.result.now c.args.bits (Ok n) is one)
+    (made_answer (Applies Convolve f n) c.seen.result call)
+
+pub returns-in-Err-clause-answer : goal.returns-in-Err-clause-answer
+returns-in-Err-clause-answer g c = λ F p.
+    let at = g.T.Table.at c.args.table.now in
+    let f = c.args.so_far.now in
+    let is = c.curve_at.ensures ∙ ap (λ f. Some (curve f)) (sym c.deref.ensures) in
+    let one = subst (AppliesTo (PosMinus (whole c.args.bits)) c.deref.result.now) c.in-Err.is c.in_packets.ensures.answer in
+    second_fails at F (less (value_of c.args.cell) c.args.bits) f c.in-Err.fault p
+    (less_answer at c.args.cell c.deref.result.now c.args.bits (Err c.in-Err.fault) is one)
+
+pub returns-in-Ok-clause-counts : goal.returns-in-Ok-clause-counts
+returns-in-Ok-clause-counts g c =
+    let one = c.in_packets.ensures.count in
+    let two = c.convolve.ensures.count in
+    counts_all 2 c.args.steps.now _ _ (omega (arith, one, two))
+
+pub returns-in-Err-clause-counts : goal.returns-in-Err-clause-counts
+returns-in-Err-clause-counts g c =
+    let one = c.in_packets.ensures.count in
+    record { exact = tt; least = omega (arith, one); most = omega (arith, one) }

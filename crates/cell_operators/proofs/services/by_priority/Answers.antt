@@ -1,0 +1,39 @@
+use Rattle.std.proofs.Common.{◌≡◌, ◌+◌, sym, ap, ◌∙◌, subst, arith}
+use Rattle.std.specs.Prelude.{Some}
+use Rattle.residual_laws.specs.PriorityCalls.{MakesPriority}
+use Rattle.net_cells.specs.declared.cell.Kind.TheVariants.{Higher}
+use Rattle.net_cells.specs.Cells.{cell_of}
+use Rattle.net_cells.specs.Visits.{longest_of}
+use Rattle.net_cells.specs.Meanings.{curve}
+use Rattle.net_cells.specs.Formulas.{value_of, priority}
+use Rattle.net_cells.specs.Answers.{Answers, MakesCurve}
+use Rattle.cell_table.specs.Values.{answer_of, meaning_of}
+use Rattle.cell_operators.proofs.Handing.{priority_out, shared_makes, on_cell}
+use Rattle.cell_operators.specs.declared.places.Pick.TheVariants.{AfterQueue}
+use Rattle.cell_operators.proofs.Choosing.{picked_are}
+use Rattle.cell_operators.proofs.SharedCounts.{shared_ok}
+use Rattle.cell_operators.proofs.services.by_priority.Goals as goal
+
+pub returns-clause-answer : goal.returns-clause-answer
+returns-clause-answer g c =
+    let at = g.T.Table.at c.args.table.now in
+    let net = c.args.net.now in
+    let β = c.args.service.now in
+    let above = cell_of Higher c.args.place.0 c.args.place.1 in
+    let f = c.deref.result.now in
+    let l = c.longest_at-lower.result in
+    let r = answer_of meaning_of c.shared.result in
+    let lower = c.longest_at-lower.ensures ∙ ap (longest_of net) (sym (picked_are net c.args.place.0 (AfterQueue c.args.place.1))) in
+    subst (λ n. Answers at (priority β (value_of above) n) r) lower
+    (on_cell at above f (λ k. MakesCurve (MakesPriority β k l)) r (c.curve_at.ensures ∙ ap (λ f. Some (curve f)) (sym c.deref.ensures))
+    (shared_makes (MakesPriority β f l) c.priority_service-made.result r (priority_out β f l) c.priority_service-made.ensures.answer c.shared.ensures))
+
+pub returns-clause-counts : goal.returns-clause-counts
+returns-clause-counts g c =
+    let low = c.priority_service-made.ensures.least in
+    record {
+      exact = shared_ok (c.priority_service-made.new.steps ≡ c.args.steps.now + 3) c.priority_service-made.result (answer_of meaning_of c.shared.result)
+          c.shared.ensures c.priority_service-made.ensures.all;
+      least = omega (arith, low);
+      most = c.priority_service-made.ensures.most;
+    }

@@ -1,0 +1,189 @@
+//! What operators make of the values of cells.
+
+ghost use Rattle.std.specs.Prelude.{◌≡◌, ◌+◌, ◌≤◌, IfOk};
+ghost use Rattle.upp_limits.specs.declared.op_kind.OpKind.TheVariants.{Min, PosMinus, Deconvolve};
+ghost use Rattle.upp_curve.specs.Curve.{value_at};
+ghost use Rattle.min_plus.specs.Functions.{IsFinite};
+ghost use Rattle.run_laws.specs.Cards.{whole};
+ghost use Rattle.curve_call.specs.Calls.{AppliesTo};
+ghost use Rattle.net_cells.specs.Meanings.{number};
+ghost use Rattle.net_cells.specs.Formulas.{value_of, made, moved, leftover, horizontal, vertical};
+ghost use Rattle.net_cells.specs.CellFormulas.{less};
+ghost use Rattle.net_cells.specs.Answers.{Answers};
+ghost use Rattle.cell_table.specs.Values.{answer_of, meaning_of};
+ghost use Rattle.cell_operators.specs.Shapes.{Rises, Serving, Ahead};
+ghost use Rattle.cell_operators.specs.TableValues.{HasCurve, HasNumber, IsCurveAt, Deviate};
+
+use crate::reading::{curve_at, number_at};
+use crate::sharing::shared;
+use cell_table::{Table, Value};
+use curve_call::seen;
+use curve_deconv::deconvolve;
+use curve_deviation::{horizontal, vertical};
+use curve_envelope::{min, shift};
+use fifo_residual::fifo_service;
+use fraction128::{Ext, Frac};
+use net_cells::Cell;
+use packetiser::packetised;
+use std::alloc::Global;
+use std::sync::ledger::Ledger;
+use steps::Steps;
+use upp_curve::Curve;
+use upp_limits::OpFault;
+
+/// A number of bits.
+pub fn whole(bits: u32) -> Frac
+    ensures { result ≡ whole bits }
+{
+    Frac::from_whole(i128::from(bits))
+}
+
+/// The horizontal deviation of a cell's curve, which rises, and another's, which serves. One step is counted; refused only
+/// where that call is over a limit.
+pub fn delay_between<T: Table<Value>, L: Ledger>(
+    table: &T,
+    from: Cell,
+    by: Cell,
+    steps: &mut Steps<L>,
+) -> Result<Ext, OpFault>
+    requires rises { HasCurve (T.at table.now) from Rises }
+    requires serves { HasCurve (T.at table.now) by Serving }
+    ensures answer { Answers (T.at table.now) (horizontal (value_of from) (value_of by)) (answer_of number result) }
+    ensures count { steps.new ≡ steps.old + 1 }
+{
+    horizontal(curve_at(table, from), curve_at(table, by), steps)
+}
+
+/// What a queue's service leaves to a flow of it.
+pub fn left_over<T: Table<Value>, L: Ledger>(
+    alloc: Global,
+    table: &T,
+    service: Cell,
+    cross: Cell,
+    theta: Cell,
+    steps: &mut Steps<L>,
+) -> Result<Value, OpFault>
+    requires serves { HasCurve (T.at table.now) service Serving }
+    requires cross { IsCurveAt (T.at table.now) cross }
+    requires theta { Deviate (T.at table.now) cross service theta }
+    ensures answer { Answers (T.at table.now) (leftover (value_of service) (value_of cross) (value_of theta))
+        (answer_of meaning_of result) }
+    ensures count { steps.new ≡ steps.old + 1 }
+{
+    let by = number_at(table, theta);
+    let made = fifo_service(
+        alloc,
+        curve_at(table, service),
+        curve_at(table, cross),
+        by,
+        steps,
+    );
+    shared(alloc, made)
+}
+
+/// A cell's curve later by another's number.
+pub fn later<T: Table<Value>, L: Ledger>(
+    alloc: Global,
+    table: &T,
+    from: Cell,
+    by: Cell,
+    steps: &mut Steps<L>,
+) -> Result<Value, OpFault>
+    requires curve { IsCurveAt (T.at table.now) from }
+    requires ahead { HasNumber (T.at table.now) by Ahead }
+    ensures answer { Answers (T.at table.now) (moved (value_of from) (value_of by)) (answer_of meaning_of result) }
+    ensures count { steps.new ≡ steps.old + 1 }
+{
+    let by = number_at(table, by);
+    let made = seen(shift(alloc, curve_at(table, from), by, steps));
+    shared(alloc, made)
+}
+
+/// The lesser of the curves of two cells.
+pub fn lesser<T: Table<Value>, L: Ledger>(
+    alloc: Global,
+    table: &T,
+    first: Cell,
+    second: Cell,
+    steps: &mut Steps<L>,
+) -> Result<Value, OpFault>
+    requires first { IsCurveAt (T.at table.now) first }
+    requires second { IsCurveAt (T.at table.now) second }
+    ensures answer { Answers (T.at table.now) (made Min (value_of first) (value_of second))
+        (answer_of meaning_of result) }
+    ensures count { steps.new ≡ steps.old + 1 }
+{
+    let made = seen(min(
+        alloc,
+        curve_at(table, first),
+        curve_at(table, second),
+        steps,
+    ));
+    shared(alloc, made)
+}
+
+/// A service less one packet.
+pub fn in_packets<L: Ledger>(
+    alloc: Global,
+    service: &Curve,
+    bits: u32,
+    steps: &mut Steps<L>,
+) -> Result<Curve, OpFault>
+    requires { IsFinite (value_at service.now) }
+    ensures answer { AppliesTo (PosMinus (whole bits)) service.now result }
+    ensures finite { IfOk result (λ c. IsFinite (value_at c)) }
+    ensures count { steps.new ≡ steps.old + 1 }
+{
+    packetised(alloc, service, whole(bits), steps)
+}
+
+/// With what curve one goes on that comes with a cell's curve and is served in whole packets by another's.
+pub fn spread<T: Table<Value>, L: Ledger>(
+    alloc: Global,
+    table: &T,
+    from: Cell,
+    service: Cell,
+    bits: u32,
+    steps: &mut Steps<L>,
+) -> Result<Value, OpFault>
+    requires curve { IsCurveAt (T.at table.now) from }
+    requires serves { HasCurve (T.at table.now) service Serving }
+    ensures answer { Answers (T.at table.now) (made Deconvolve (value_of from) (less (value_of service) bits))
+        (answer_of meaning_of result) }
+    ensures all { IfOk result (λ _. steps.new ≡ steps.old + 2) }
+    ensures least { steps.old ≤ steps.new }
+    ensures most { steps.new ≤ steps.old + 2 }
+{
+    let from = curve_at(table, from);
+    match in_packets(alloc, curve_at(table, service), bits, steps) {
+        Ok(packets) => {
+            let made = seen(deconvolve(alloc, from, &packets, steps));
+            shared(alloc, made)
+        }
+        Err(fault) => Err(fault),
+    }
+}
+
+/// How many bits are above a cell's service in whole packets.
+pub fn backlog<T: Table<Value>, L: Ledger>(
+    alloc: Global,
+    table: &T,
+    from: Cell,
+    service: Cell,
+    bits: u32,
+    steps: &mut Steps<L>,
+) -> Result<Ext, OpFault>
+    requires curve { IsCurveAt (T.at table.now) from }
+    requires serves { HasCurve (T.at table.now) service Serving }
+    ensures answer { Answers (T.at table.now) (vertical (value_of from) (less (value_of service) bits))
+        (answer_of number result) }
+    ensures all { IfOk result (λ _. steps.new ≡ steps.old + 2) }
+    ensures least { steps.old ≤ steps.new }
+    ensures most { steps.new ≤ steps.old + 2 }
+{
+    let from = curve_at(table, from);
+    match in_packets(alloc, curve_at(table, service), bits, steps) {
+        Ok(packets) => vertical(from, &packets, steps),
+        Err(fault) => Err(fault),
+    }
+}

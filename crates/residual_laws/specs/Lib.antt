@@ -1,0 +1,6 @@
+pub mod PriorityLaws
+pub mod PriorityCalls
+pub mod PriorityGrowth
+pub mod DrrLaws
+pub mod DrrCalls
+pub mod DrrGrowth
