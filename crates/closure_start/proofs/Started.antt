@@ -21,8 +21,8 @@ use Rattle.curve_window.proofs.TailGrids.{TailOf}
 use Rattle.curve_call.specs.declared.frame.Frame.{Frame}
 use Rattle.curve_call.specs.Answering.{IsAnswerWindow}
 use Rattle.curve_call.proofs.CurveRises.{IsRise}
-use Rattle.curve_lattice.specs.Lattice.{RisesBy}
-use Rattle.curve_lattice.proofs.LatticeCalls.{from_whole, left_rise, right_rise}
+use Rattle.curve_pointwise.specs.Lattice.{RisesBy}
+use Rattle.curve_pointwise.proofs.LatticeCalls.{from_whole, left_rise, right_rise}
 use Rattle.curve_call.proofs.TailMoves.{rates_compared, not_both, not_same}
 use Rattle.curve_conv.specs.SumWindows.{SumValueAt, SumPiece, SumWindow}
 use Rattle.curve_conv.specs.Arches.{Arches}

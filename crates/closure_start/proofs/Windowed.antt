@@ -17,8 +17,8 @@ use Rattle.upp_curve.specs.Unrolled.{unroll}
 use Rattle.upp_curve.specs.Steady.{rate, rise_over}
 use Rattle.upp_limits.specs.Periods.{periods_after}
 use Rattle.curve_call.specs.declared.frame.Frame.{Frame}
-use Rattle.curve_lattice.specs.Lattice.{RisesBy}
-use Rattle.curve_lattice.proofs.LatticeCalls.{operands, from_is, some_end}
+use Rattle.curve_pointwise.specs.Lattice.{RisesBy}
+use Rattle.curve_pointwise.proofs.LatticeCalls.{operands, from_is, some_end}
 use Rattle.curve_conv.specs.ConvolutionWindows.{OperandWindows, IsConvolutionWindow}
 use Rattle.curve_conv.specs.SumWindows.{SumStart, SumWindow}
 use Rattle.curve_conv.specs.Arches.{Arches}

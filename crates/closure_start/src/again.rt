@@ -9,7 +9,7 @@ ghost use Rattle.upp_curve.specs.Unrolled.{unroll};
 ghost use Rattle.upp_limits.specs.declared.op_kind.OpKind.TheVariants.{Convolve};
 ghost use Rattle.curve_conv.specs.ConvolutionWindows.{IsConvolutionWindow};
 ghost use Rattle.curve_convolution.specs.ConvolveCall.{IsConvolveFrame};
-ghost use Rattle.curve_lattice.specs.Lattice.{RisesBy};
+ghost use Rattle.curve_pointwise.specs.Lattice.{RisesBy};
 
 use affine_segment::Piece;
 use curve_call::{Frame, first_window, rise_over, within};

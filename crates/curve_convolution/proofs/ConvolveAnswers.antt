@@ -27,8 +27,8 @@ use Rattle.curve_window.proofs.TailGrids.{TailOf}
 use Rattle.curve_call.specs.declared.frame.Frame.{Frame}
 use Rattle.curve_call.specs.Answering.{IsAnswerWindow}
 use Rattle.curve_call.proofs.CurveRises.{IsRise}
-use Rattle.curve_lattice.specs.Lattice.{RisesBy}
-use Rattle.curve_lattice.proofs.LatticeCalls.{operands, from_is, from_late, from_whole, left_rise, right_rise, some_end}
+use Rattle.curve_pointwise.specs.Lattice.{RisesBy}
+use Rattle.curve_pointwise.proofs.LatticeCalls.{operands, from_is, from_late, from_whole, left_rise, right_rise, some_end}
 use Rattle.curve_call.proofs.TailMoves.{rates_compared, not_both, not_same}
 use Rattle.curve_conv.specs.ConvolutionWindows.{OperandWindows, IsConvolutionWindow}
 use Rattle.curve_conv.specs.SumWindows.{SumPiece}

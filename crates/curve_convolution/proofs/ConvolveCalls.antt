@@ -35,9 +35,9 @@ use Rattle.curve_call.proofs.FirstGate.{first_gate, gauge_grows}
 use Rattle.curve_call.proofs.Limited.{refused_cause, frame_within, convolve_least, many_at_least}
 use Rattle.curve_least.proofs.Rises.{has_window}
 use Rattle.curve_least.proofs.Shifts.{same_least}
-use Rattle.curve_lattice.specs.LatticeCall.{LatticeCall}
+use Rattle.curve_pointwise.specs.LatticeCall.{LatticeCall}
 use Rattle.curve_call.specs.FirstWindows.{IsFirstWindow, IsWideAtFirst}
-use Rattle.curve_lattice.proofs.LatticeCalls.{at_times, from_is, from_fits}
+use Rattle.curve_pointwise.proofs.LatticeCalls.{at_times, from_is, from_fits}
 use Rattle.curve_parts.specs.Scans.{sizes_in}
 use Rattle.curve_parts.specs.Late.{IsSlowerLate, IsSlowerAfter, IsSlowerNumber, IsSlowerMost, IsPartsCall}
 use Rattle.curve_convolution.specs.ConvolveCall.{IsConvolveFrame}

@@ -6,7 +6,7 @@ use Rattle.upp_limits.specs.Limits.{Sizes}
 use Rattle.upp_limits.specs.Sized.{grid_of}
 use Rattle.upp_curve.specs.Steady.{steady}
 use Rattle.curve_call.specs.declared.frame.Frame.{Frame}
-use Rattle.curve_lattice.specs.LatticeCall.{LatticeCall}
+use Rattle.curve_pointwise.specs.LatticeCall.{LatticeCall}
 use Rattle.curve_parts.specs.Late.{IsSlowerLate}
 
 -- its window ends k + 2 periods after the sum of the times from when on the curves repeat, and in the last of them

@@ -13,7 +13,7 @@ ghost use Rattle.upp_limits.specs.Outcome.{KeepsLimits};
 ghost use Rattle.upp_limits.specs.declared.op_kind.OpKind.TheVariants.{Convolve};
 ghost use Rattle.curve_call.specs.FirstWindows.{IsFirstWindow};
 ghost use Rattle.curve_call.specs.Rises.{CurveRiseFits};
-ghost use Rattle.curve_lattice.specs.Lattice.{RisesBy};
+ghost use Rattle.curve_pointwise.specs.Lattice.{RisesBy};
 ghost use Rattle.curve_convolution.specs.ConvolveCall.{IsConvolveFrame};
 
 use curve_call::{CallWindow, Frame, answer, first_window, rise_over, within};

@@ -8,7 +8,7 @@ use crate::marks::{last_infinite, mark_pieces};
 use crate::mirroring::{mirrored_elements, negated_elements, negated_pieces};
 use affine_segment::Piece;
 use curve_conv::{cut, envelope};
-use curve_envelope::left_window;
+use curve_pointwise::left_window;
 use curve_running::front_before;
 use curve_window::window_sum;
 use fraction128::Frac;

@@ -14,7 +14,7 @@ use affine_segment::Line;
 use closure_elements::{lattice, origin, point_closure, segment_closure};
 use curve_call::seen;
 use curve_convolution::convolve;
-use curve_lattice::min;
+use curve_pointwise::min;
 use fraction128::{Ext, Frac};
 use std::alloc::Global;
 use std::sync::ledger::Ledger;

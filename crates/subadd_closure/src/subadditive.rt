@@ -7,7 +7,7 @@ ghost use Rattle.subadd_closure.specs.Tests.{TestsSubadditive};
 
 use curve_call::seen;
 use curve_convolution::convolve;
-use curve_lattice::min;
+use curve_pointwise::min;
 use std::alloc::Global;
 use std::sync::ledger::Ledger;
 use steps::Steps;

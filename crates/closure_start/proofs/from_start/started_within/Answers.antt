@@ -10,7 +10,7 @@ use Rattle.upp_curve.specs.Curve.{repeated}
 use Rattle.upp_normal.specs.Normalising.{HasValues}
 use Rattle.upp_normal.proofs.NormaliseForm.{ok_map}
 use Rattle.curve_call.specs.Answering.{IsAnswerWindow}
-use Rattle.curve_lattice.proofs.LatticeCalls.{from_fits}
+use Rattle.curve_pointwise.proofs.LatticeCalls.{from_fits}
 use Rattle.closure_start.proofs.Started.{started_answer}
 use Rattle.closure_start.proofs.Windowed.{IsConvolved}
 use Rattle.closure_start.proofs.Made.{period_reads, rise_less, start_room, started_convolves, open_keeps, open_convolves}
