@@ -21,8 +21,8 @@ use Rattle.upp_curve.specs.Curve.{SpecCurve, repeated}
 use Rattle.min_plus.specs.Functions.{zero_q}
 use Rattle.affine_segment.specs.Pieces.{Each, StartsAtZero}
 use Rattle.upp_curve.specs.Normal.{TailFits, IsNormal}
-use Rattle.curve_conv.specs.PieceElements.{elements_of, StartBefore, Among}
-use Rattle.curve_conv.proofs.Cover.{cover, element_times}
+use Rattle.element_envelope.specs.PieceElements.{elements_of, StartBefore, Among}
+use Rattle.element_envelope.proofs.Cover.{cover, element_times}
 use Rattle.closure_laws.specs.ClosureLaws.{IsCopy, HasCopies}
 use Rattle.closure_fold.specs.CurveParts.{pieces_end, copies_of, part_of, parts_of, part_value}
 use Rattle.closure_fold.specs.declared.part.Part.{Part}

@@ -10,9 +10,9 @@ use Rattle.affine_segment.specs.declared.element.Element.{Element}
 use Rattle.affine_segment.specs.declared.element.Element.TheVariants.{Point, Open}
 use Rattle.affine_segment.specs.Elements.{Covers, start_of}
 use Rattle.affine_segment.specs.Pieces.{RisesFrom, StartsAtZero, HasStart}
-use Rattle.curve_conv.specs.PieceElements.{next_start, elements_of, Among}
-use Rattle.curve_conv.proofs.Members.{among_cases}
-use Rattle.curve_conv.proofs.Cover.{head, head_cases}
+use Rattle.element_envelope.specs.PieceElements.{next_start, elements_of, Among}
+use Rattle.element_envelope.proofs.Members.{among_cases}
+use Rattle.element_envelope.proofs.Cover.{head, head_cases}
 
 -- an element starts at its times or before
 pub start_low : (e : Element) (t : ℚ) → Covers e t → start_of e ≤ℚ t

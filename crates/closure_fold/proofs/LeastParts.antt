@@ -24,9 +24,9 @@ use Rattle.affine_segment.specs.Pieces.{HasStart, StartsAtZero}
 use Rattle.upp_curve.specs.Normal.{TailFits, IsNormal}
 use Rattle.upp_curve.specs.Steady.{rank_of}
 use Rattle.upp_curve.proofs.Repeats.{repeated_first}
-use Rattle.curve_conv.specs.PieceElements.{elements_of, Among, ElementAt}
-use Rattle.curve_conv.specs.ConvolutionLaws.{ElementsCover}
-use Rattle.curve_conv.proofs.Cover.{cover, element_times}
+use Rattle.element_envelope.specs.PieceElements.{elements_of, Among, ElementAt}
+use Rattle.element_envelope.specs.ConvolutionLaws.{ElementsCover}
+use Rattle.element_envelope.proofs.Cover.{cover, element_times}
 use Rattle.closure_laws.specs.Star.{least_of}
 use Rattle.closure_fold.specs.CurveParts.{pieces_end, part_of, parts_of, part_value}
 use Rattle.closure_fold.specs.declared.part.Part.{Part}

@@ -23,7 +23,7 @@ use Rattle.upp_curve.specs.Normal.{TailFits, NoMerge, TailNormal, IsLeastPeriodi
 use Rattle.upp_curve.specs.Readable.{EachFits, PeriodFits, SumFitsAt, TailReadable, IsReadable}
 use Rattle.affine_segment.proofs.PieceIn.{value_past}
 use Rattle.upp_curve.proofs.Repeats.{repeated_first}
-use Rattle.curve_conv.proofs.Cover.{read_one, read_stop, read_go, value_here}
+use Rattle.element_envelope.proofs.Cover.{read_one, read_stop, read_go, value_here}
 use Rattle.closure_fold.specs.Starting.{first_at, started_at, KeepsTail, IsStartedAt}
 use Rattle.closure_fold.proofs.EachParts.{repeated_at}
 

@@ -9,7 +9,7 @@ use Rattle.affine_segment.specs.Elements.{start_of, element_value}
 use Rattle.upp_curve.specs.declared.curve.Tail.{Tail}
 use Rattle.upp_curve.specs.declared.curve.Tail.TheVariants.{Periodic, Affine, Infinite}
 use Rattle.upp_curve.specs.Curve.{SpecCurve, repeated}
-use Rattle.curve_conv.specs.PieceElements.{elements_of}
+use Rattle.element_envelope.specs.PieceElements.{elements_of}
 use Rattle.closure_fold.specs.declared.part.Copies.{Copies}
 use Rattle.closure_fold.specs.declared.part.Part.{Part}
 

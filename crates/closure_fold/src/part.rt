@@ -5,10 +5,10 @@ ghost use Rattle.rational.specs.Rational.{◌+ℚ◌};
 ghost use Rattle.rational.specs.Ratio.{SumFits};
 ghost use Rattle.affine_segment.specs.Elements.{start_of};
 ghost use Rattle.closure_fold.specs.CurveParts.{pieces_end, copies_of, part_of};
-ghost use Rattle.curve_conv.specs.PieceElements.{elements_of};
+ghost use Rattle.element_envelope.specs.PieceElements.{elements_of};
 
 use affine_segment::Element;
-use curve_conv::cut;
+use element_envelope::cut;
 use fraction128::{Ext, Frac, is_less};
 use rational::Extended;
 use std::alloc::{AllocError, Global};

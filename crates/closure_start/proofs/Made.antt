@@ -32,9 +32,9 @@ use Rattle.upp_normal.proofs.AnswerRoom.{answer_is_room, room_at_start, largest_
 use Rattle.upp_normal.proofs.NormaliseRoom.{at_fits}
 use Rattle.upp_normal.proofs.NormaliseRoomy.{read_fits}
 use Rattle.upp_curve.proofs.Repeats.{repeated_first, repeated_rule}
-use Rattle.curve_conv.specs.SumWindows.{SumValueAt}
-use Rattle.curve_conv.proofs.SumRoom.{pieces_room}
-use Rattle.curve_conv.proofs.SumSteps.{sum_read}
+use Rattle.element_envelope.specs.SumWindows.{SumValueAt}
+use Rattle.element_envelope.proofs.SumRoom.{pieces_room}
+use Rattle.element_envelope.proofs.SumSteps.{sum_read}
 use Rattle.curve_call.specs.declared.frame.Frame.{Frame}
 use Rattle.curve_call.specs.Calls.{IsApplied}
 use Rattle.upp_normal.proofs.UnrollSteps.{ext_cases}

@@ -24,11 +24,11 @@ use Rattle.curve_call.proofs.CurveRises.{IsRise}
 use Rattle.curve_pointwise.specs.Lattice.{RisesBy}
 use Rattle.curve_pointwise.proofs.LatticeCalls.{from_whole, left_rise, right_rise}
 use Rattle.curve_call.proofs.TailMoves.{rates_compared, not_both, not_same}
-use Rattle.curve_conv.specs.SumWindows.{SumValueAt, SumPiece, SumWindow}
-use Rattle.curve_conv.specs.Arches.{Arches}
-use Rattle.curve_conv.proofs.SumRoom.{pieces_room}
-use Rattle.curve_conv.proofs.ArchBends.{sums_on_grids}
-use Rattle.curve_convolution.specs.ConvolveCall.{IsConvolveFrame}
+use Rattle.element_envelope.specs.SumWindows.{SumValueAt, SumPiece, SumWindow}
+use Rattle.element_envelope.specs.Arches.{Arches}
+use Rattle.element_envelope.proofs.SumRoom.{pieces_room}
+use Rattle.element_envelope.proofs.ArchBends.{sums_on_grids}
+use Rattle.curve_conv.specs.ConvolveCall.{IsConvolveFrame}
 use Rattle.closure_fold.specs.Starting.{first_at}
 use Rattle.closure_fold.proofs.Starts.{read_past}
 use Rattle.closure_start.proofs.Windowed.{IsConvolved, stands_of, arches_of, from_some, ends_at}

@@ -19,11 +19,11 @@ use Rattle.upp_limits.specs.Periods.{periods_after}
 use Rattle.curve_call.specs.declared.frame.Frame.{Frame}
 use Rattle.curve_pointwise.specs.Lattice.{RisesBy}
 use Rattle.curve_pointwise.proofs.LatticeCalls.{operands, from_is, some_end}
-use Rattle.curve_conv.specs.ConvolutionWindows.{OperandWindows, IsConvolutionWindow}
-use Rattle.curve_conv.specs.SumWindows.{SumStart, SumWindow}
-use Rattle.curve_conv.specs.Arches.{Arches}
-use Rattle.curve_convolution.specs.ConvolveCall.{IsConvolveFrame}
-use Rattle.curve_convolution.proofs.ConvolveAnswers.{convolved_values}
+use Rattle.element_envelope.specs.ConvolutionWindows.{OperandWindows, IsConvolutionWindow}
+use Rattle.element_envelope.specs.SumWindows.{SumStart, SumWindow}
+use Rattle.element_envelope.specs.Arches.{Arches}
+use Rattle.curve_conv.specs.ConvolveCall.{IsConvolveFrame}
+use Rattle.curve_conv.proofs.ConvolveAnswers.{convolved_values}
 
 -- the pieces, from when on they repeat, and by how much they rise over a period
 pub record IsConvolved (f g : SpecCurve) (r : Frame) (ps : List Piece) (from rise : ℚ) : Type 0 where

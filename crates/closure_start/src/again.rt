@@ -7,14 +7,14 @@ ghost use Rattle.upp_limits.specs.Outcome.{IsCauseOf};
 ghost use Rattle.upp_curve.specs.Steady.{rate, rise_over};
 ghost use Rattle.upp_curve.specs.Unrolled.{unroll};
 ghost use Rattle.upp_limits.specs.declared.op_kind.OpKind.TheVariants.{Convolve};
-ghost use Rattle.curve_conv.specs.ConvolutionWindows.{IsConvolutionWindow};
-ghost use Rattle.curve_convolution.specs.ConvolveCall.{IsConvolveFrame};
+ghost use Rattle.element_envelope.specs.ConvolutionWindows.{IsConvolutionWindow};
+ghost use Rattle.curve_conv.specs.ConvolveCall.{IsConvolveFrame};
 ghost use Rattle.curve_pointwise.specs.Lattice.{RisesBy};
 
 use affine_segment::Piece;
 use curve_call::{Frame, first_window, rise_over, within};
-use curve_conv::window_convolution;
-use curve_parts::{is_slower_curve, late_periods};
+use curve_conv::{is_slower_curve, late_periods};
+use element_envelope::window_convolution;
 use fraction128::{Frac, difference};
 use std::alloc::{AllocError, Global};
 use upp_curve::Curve;

@@ -5,7 +5,7 @@ ghost use Rattle.rational.specs.Rational.{◌≤ℚ◌};
 ghost use Rattle.upp_curve.specs.Curve.{value_at};
 ghost use Rattle.min_plus.specs.Functions.{IsNonnegative, zero_q};
 ghost use Rattle.upp_limits.specs.declared.op_kind.OpKind.TheVariants.{Convolve};
-ghost use Rattle.curve_convolution.specs.ConvolveCall.{IsConvolveFrame};
+ghost use Rattle.curve_conv.specs.ConvolveCall.{IsConvolveFrame};
 ghost use Rattle.curve_call.specs.Calls.{Applies, Then};
 ghost use Rattle.closure_start.specs.StartsAt.{ConvolvesFinitely, ConvolvesPastZero, StartsAt};
 
@@ -13,7 +13,7 @@ use crate::again::{frame_of, slower_rise, window_of};
 use crate::parts::{repeats_start, with_first};
 use closure_fold::with_start;
 use curve_call::{Frame, answer, seen};
-use curve_convolution::convolve;
+use curve_conv::convolve;
 use fraction128::{Frac, difference};
 use rational::Extended;
 use std::alloc::{AllocError, Global};

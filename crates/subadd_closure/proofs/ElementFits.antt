@@ -25,9 +25,9 @@ use Rattle.min_plus.specs.Functions.{zero_q, IsFinite, IsNonnegative}
 use Rattle.upp_curve.specs.Normal.{TailFits, IsNormal}
 use Rattle.upp_curve.specs.Readable.{EachFits, TailReadable}
 use Rattle.affine_segment.specs.Fits.{LineFitsAt}
-use Rattle.curve_conv.specs.PieceElements.{next_start, elements_of, Among}
-use Rattle.curve_conv.proofs.Members.{among_cases}
-use Rattle.curve_conv.proofs.Cover.{head, head_cases, cover, element_times}
+use Rattle.element_envelope.specs.PieceElements.{next_start, elements_of, Among}
+use Rattle.element_envelope.proofs.Members.{among_cases}
+use Rattle.element_envelope.proofs.Cover.{head, head_cases, cover, element_times}
 use Rattle.closure_fold.specs.declared.part.Copies.{Copies}
 use Rattle.closure_fold.specs.declared.part.Part.{Part}
 use Rattle.closure_fold.specs.CurveParts.{pieces_end, copies_of, part_of, part_value}

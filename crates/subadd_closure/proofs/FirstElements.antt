@@ -20,8 +20,8 @@ use Rattle.affine_segment.specs.Pieces.{RisesFrom, StartsAtZero}
 use Rattle.upp_curve.specs.Normal.{TailFits, IsRaw}
 use Rattle.affine_segment.proofs.PieceIn.{value_past}
 use Rattle.upp_curve.proofs.Repeats.{repeated_first}
-use Rattle.curve_conv.specs.PieceElements.{point_of, segment_of, next_start, elements_of, StartBefore}
-use Rattle.curve_conv.proofs.Cover.{read_one, read_stop, value_here}
+use Rattle.element_envelope.specs.PieceElements.{point_of, segment_of, next_start, elements_of, StartBefore}
+use Rattle.element_envelope.proofs.Cover.{read_one, read_stop, value_here}
 use Rattle.upp_limits.specs.declared.op_kind.OpFault.{OpFault}
 use Rattle.upp_limits.specs.declared.op_kind.OpFault.TheVariants.{NoMemory}
 use Rattle.curve_call.specs.Calls.{stops}

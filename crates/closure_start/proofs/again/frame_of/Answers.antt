@@ -3,7 +3,7 @@ use Rattle.upp_limits.specs.Outcome.{IsCauseOf}
 use Rattle.upp_limits.specs.declared.op_kind.OpKind.TheVariants.{Convolve}
 use Rattle.upp_normal.proofs.NormaliseForm.{ok_map}
 use Rattle.upp_curve.proofs.Refusals.{err_map}
-use Rattle.curve_convolution.proofs.ConvolveCalls.{wide_first, first_fits, parts_call, none_wide, refused_by, frame_by}
+use Rattle.curve_conv.proofs.ConvolveCalls.{wide_first, first_fits, parts_call, none_wide, refused_by, frame_by}
 use Rattle.closure_start.proofs.again.frame_of.Goals as goal
 
 pub returns-in_err-first-clause-refused : goal.returns-in_err-first-clause-refused

@@ -1,5 +1,5 @@
 use Rattle.std.proofs.Common.{◌∙◌}
-use Rattle.curve_convolution.proofs.ConvolveAnswers.{windows}
+use Rattle.curve_conv.proofs.ConvolveAnswers.{windows}
 use Rattle.closure_start.proofs.again.window_of.Goals as goal
 
 pub window_convolution-requires : goal.window_convolution-requires
