@@ -10,16 +10,16 @@ ghost use Rattle.upp_limits.specs.declared.op_kind.OpKind.TheVariants.{Convolve}
 ghost use Rattle.element_envelope.specs.PieceElements.{elements_of};
 ghost use Rattle.curve_call.specs.Calls.{Applies, Then};
 ghost use Rattle.closure_laws.specs.ClosureLaws.{ClosureKeeps};
-ghost use Rattle.closure_fold.specs.CurveParts.{pieces_end, part_of};
-ghost use Rattle.closure_fold.specs.Folds.{PartAnswer, PartsAnswer, CloseAnswer};
+ghost use Rattle.subadd_closure.specs.CurveParts.{pieces_end, part_of};
+ghost use Rattle.subadd_closure.specs.Folds.{PartAnswer, PartsAnswer, CloseAnswer};
 ghost use Rattle.subadd_closure.specs.FoldWork.{part_work, parts_work, fold_work};
 ghost use Rattle.subadd_closure.specs.SegmentLimits.{IsElementOf, IsOwnGauge};
 
+use crate::from_start::convolve_from;
 use crate::overlaps::own_gauge;
+use crate::part::elements;
 use crate::part_stars::element_star;
 use affine_segment::Element;
-use closure_fold::elements;
-use closure_start::convolve_from;
 use curve_call::seen;
 use curve_conv::convolve;
 use fraction128::Frac;
