@@ -21,7 +21,7 @@ PROGRAM = r"""
 ghost use Rattle.std.specs.Prelude.{◌≡◌, ◌<◌};
 
 use affine_segment::{Line, Piece};
-use curve_convolution::convolve;
+use curve_conv::convolve;
 use curve_call::window_end;
 use fraction128::Frac;
 use rational::Extended;
@@ -162,7 +162,7 @@ def measured():
     top = os.path.dirname(os.path.dirname(os.path.abspath(__file__)))
     folder = tempfile.mkdtemp(prefix="convolution_bench_")
     try:
-        uses = ["affine_segment", "curve_convolution", "curve_call", "fraction128", "rational", "steps", "upp_curve"]
+        uses = ["affine_segment", "curve_conv", "curve_call", "fraction128", "rational", "steps", "upp_curve"]
         crates = below(top, uses)
         for name, _ in crates:
             shutil.copytree(os.path.join(top, "crates", name), os.path.join(folder, "crates", name))

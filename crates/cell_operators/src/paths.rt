@@ -21,7 +21,7 @@ use crate::reading::curve_at;
 use crate::sharing::{again, shared};
 use cell_table::{Table, Value};
 use curve_call::seen;
-use curve_convolution::convolve;
+use curve_conv::convolve;
 use net_cells::{Cell, Kind, hops};
 use net_model::Network;
 use std::alloc::Global;

@@ -2,3 +2,4 @@ pub mod TimeLists
 pub mod StarSums
 pub mod CopiedParts
 pub mod KeptShapes
+pub mod StarFolding

@@ -1,2 +1,3 @@
 pub mod Star
 pub mod ClosureLaws
+pub mod StarFolds

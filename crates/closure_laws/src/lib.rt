@@ -4,6 +4,7 @@
 
 ghost use Rattle.closure_laws.specs.ClosureLaws.{StarOfLesser, StarOfClosure, ClosureOfStar, StarsAreOfValues};
 ghost use Rattle.closure_laws.specs.ClosureLaws.{ClosureOfCopies, ClosuresKeep};
+ghost use Rattle.closure_laws.specs.StarFolds.{StarOfLeast, ClosureOfSetBack};
 
 /// The star, which is the closure with the sum of no value too: that of the lesser of two functions is the convolution
 /// of theirs, and it follows from the closure and the closure from it.
@@ -22,4 +23,11 @@ pub fn copies()
 /// A closure is finite, nowhere below 0, and rising where the function is.
 pub fn closures_keep()
     ensures { ClosuresKeep }
+{}
+
+/// The star of the least of some functions is the convolution of their stars, one after another; and a function that is
+/// nowhere below 0 has its star past 0 and its own value at 0 for its closure.
+pub fn star_folds()
+    ensures least { StarOfLeast }
+    ensures closure { ClosureOfSetBack }
 {}

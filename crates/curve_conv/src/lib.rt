@@ -1,17 +1,22 @@
-//! Convolution of curves. Both operands are cut into elements; the convolution is the least of what their pairs make.
+//! The parts of a convolution of two curves, before and from the time on from which they repeat, and from which
+//! number of periods on the convolution is that of the parts that rise the least.
+//! The convolution of two curves.
 #![tactic(auto)]
 
-mod convolved;
-mod cutting;
-pub mod laws;
-mod least;
-mod pair;
+mod elements;
+mod gaps;
+mod lower;
+mod made;
+mod most;
+mod number;
+mod operator;
+mod order;
+mod parts;
+mod pieces;
+mod rows;
 #[cfg(test)]
 mod tests;
-mod window;
 
-pub use convolved::window_convolution;
-pub use cutting::cut;
-pub use least::envelope;
-pub use pair::joined;
-pub use window::joined_window;
+pub use most::most_periods;
+pub use operator::convolve;
+pub use order::{is_slower_curve, late_periods};

@@ -1,10 +1,20 @@
-//! Pieces cut into elements, and what two elements make as pieces, worked out by hand.
+//! Values worked out by hand.
 
-use crate::{cut, joined_window};
-use affine_segment::{Element, Joined, Line, Piece};
-use fraction128::Frac;
+ghost use Rattle.std.specs.Prelude.{◌≡◌, ◌<◌};
+
+use crate::convolve;
+use affine_segment::{Line, Piece};
+use fraction128::{Ext, Frac};
 use rational::Extended;
+use std::alloc::Global;
+use std::cmp::Ordering;
+use std::marker::Brand;
+use std::sync::ledger::{Blank, Ledger};
 use std::test::Fail;
+use steps::Steps;
+use upp_curve::{Curve, Tail, equal};
+use upp_limits::OpFault;
+use upp_normal::{RawCurve, normalise};
 
 fn whole(n: i128) -> Frac {
     match Frac::new(n, 1) {
@@ -13,77 +23,263 @@ fn whole(n: i128) -> Frac {
     }
 }
 
-fn line(icept: i128, slope: i128) -> Line {
-    Line {
-        icept: whole(icept),
-        slope: whole(slope),
+fn curve(alloc: Global, list: &[Piece], tail: Tail) -> Result<Curve, OpFault> {
+    let Ok(pieces) = Vec::from_slice(alloc, list) else {
+        return Err(OpFault::NoMemory);
+    };
+    let raw = RawCurve { pieces, tail };
+    if raw.is_raw() {
+        normalise(raw)
+    } else {
+        Err(OpFault::TooMany)
     }
 }
 
-// Of a point the time and the value.
-fn seen_point(e: &Element) -> Option<(Frac, Frac)> {
-    match *e {
-        Element::Point { x, v } => Some((x, v)),
-        Element::Open {
-            from: _,
-            to: _,
-            line: _,
-        } => None,
+// The pieces at 0 and at x: the first of one value and one line.
+fn piece(x: i128, at: Ext, line: Option<(i128, i128)>) -> Piece {
+    Piece {
+        x: whole(x),
+        at,
+        line: match line {
+            None => None,
+            Some((icept, slope)) => Some(Line {
+                icept: whole(icept),
+                slope: whole(slope),
+            }),
+        },
     }
 }
 
-// Of a segment the ends and the slope.
-fn seen_open(e: &Element) -> Option<(Frac, Option<Frac>, Frac)> {
-    match *e {
-        Element::Point { x: _, v: _ } => None,
-        Element::Open { from, to, line } => Some((from, to.finite(), line.slope)),
+// A curve that repeats from 0 on with one piece: the value 1 at 0 and the line `line` after it.
+fn repeating(
+    alloc: Global,
+    at: i128,
+    line: Option<(i128, i128)>,
+    period: i128,
+    rise: i128,
+) -> Result<Curve, OpFault> {
+    let list = [piece(0, Extended::Fin(whole(at)), line)];
+    let tail = Tail::Periodic {
+        rank: Frac::zero(),
+        period: whole(period),
+        rise: whole(rise),
+    };
+    curve(alloc, &list, tail)
+}
+
+// 0 up to the latency, and then the line.
+fn late(alloc: Global, latency: i128, icept: i128, slope: i128) -> Result<Curve, OpFault> {
+    let list = [
+        piece(0, Extended::Fin(Frac::zero()), Some((0, 0))),
+        piece(latency, Extended::Fin(Frac::zero()), Some((icept, slope))),
+    ];
+    curve(
+        alloc,
+        &list,
+        Tail::Affine {
+            rank: whole(latency),
+        },
+    )
+}
+
+// A burst, and then the rate.
+fn bucket(alloc: Global, burst: i128, rate: i128) -> Result<Curve, OpFault> {
+    let list = [piece(0, Extended::Fin(whole(burst)), Some((burst, rate)))];
+    curve(alloc, &list, Tail::Affine { rank: Frac::zero() })
+}
+
+// One value at a time, and none elsewhere.
+fn point(alloc: Global, x: i128, v: i128) -> Result<Curve, OpFault> {
+    let list = [
+        piece(0, Extended::Inf, None),
+        piece(x, Extended::Fin(whole(v)), None),
+    ];
+    curve(alloc, &list, Tail::Infinite { rank: whole(x) })
+}
+
+// 0 up to `open`, and then icept + 10 t, over and over from `rank` on.
+fn gate(
+    alloc: Global,
+    open: i128,
+    icept: i128,
+    rank: i128,
+    period: i128,
+    rise: i128,
+) -> Result<Curve, OpFault> {
+    let list = [
+        piece(0, Extended::Fin(Frac::zero()), Some((0, 0))),
+        piece(open, Extended::Fin(Frac::zero()), Some((icept, 10))),
+    ];
+    let tail = Tail::Periodic {
+        rank: whole(rank),
+        period: whole(period),
+        rise: whole(rise),
+    };
+    curve(alloc, &list, tail)
+}
+
+fn nothing(alloc: Global) -> Result<Curve, OpFault> {
+    let list = [piece(0, Extended::Inf, None)];
+    curve(alloc, &list, Tail::Infinite { rank: Frac::zero() })
+}
+
+// The value at a time from 0 on; nothing where it is infinite.
+fn value(c: &Curve, t: Frac) -> Option<Frac> {
+    match t.cmp(&Frac::zero()) {
+        Ordering::Less => None,
+        _ => match c.value_at(t) {
+            Ok(Extended::Fin(v)) => Some(v),
+            _ => None,
+        },
     }
 }
 
-// The value 3 at 0, 1 + t from there to 2, and 5 at 2 and later.
+// The rank, the period and the rise.
+fn repeats(c: &Curve) -> Option<(Frac, Frac, Frac)> {
+    match c.tail() {
+        Tail::Periodic { rank, period, rise } => Some((*rank, *period, *rise)),
+        _ => None,
+    }
+}
+
+fn convolved<L: Ledger>(alloc: Global, blank: Blank, f: &Curve, g: &Curve) -> Result<Curve, OpFault>
+    requires name { blank.name ≡ L.name }
+    requires parts { blank.parts ≡ L.parts }
+    requires one { 0 < blank.parts }
+{
+    let mut steps = Steps::<L>::new(blank);
+    convolve(alloc, f, g, &mut steps)
+}
+
+fn is_too_many(r: Result<Curve, OpFault>) -> bool {
+    match r {
+        Err(OpFault::TooMany) => true,
+        _ => false,
+    }
+}
+
+// Stairs of one packet and the periods 2 and 3.
 #[test]
-fn pieces_are_cut(rt: HostRuntime) -> Result<(), Fail> {
-    let pieces = vec![in rt.alloc();
-        Piece {
-            x: whole(0),
-            at: Extended::Fin(whole(3)),
-            line: Some(line(1, 1))
-        },
-        Piece {
-            x: whole(2),
-            at: Extended::Inf,
-            line: Some(line(5, 0))
-        },
-    ]?;
-    let elements = cut(rt.alloc(), &pieces, Extended::Inf)?;
-    assert_eq!(rt; elements.len(), 3);
-    assert_eq!(rt; seen_point(&elements[0]), Some((whole(0), whole(3))));
-    assert_eq!(rt;
-        seen_open(&elements[1]),
-        Some((whole(0), Some(whole(2)), whole(1)))
-    );
-    assert_eq!(rt; seen_open(&elements[2]), Some((whole(2), None, whole(0))));
+fn stairs(rt: HostRuntime) -> Result<(), Fail> {
+    let f = repeating(rt.alloc(), 1, Some((1, 0)), 2, 1)?;
+    let g = repeating(rt.alloc(), 1, Some((1, 0)), 3, 1)?;
+    let c = convolved::<Brand>(rt.alloc(), Blank::new(1), &f, &g)?;
+    for (t, v) in [(4, 2), (5, 3), (8, 4)] {
+        assert!(rt; value(&c, whole(t)) == Some(whole(v)), "at {t}");
+    }
+    assert!(rt; repeats(&c) == Some((whole(5), whole(3), whole(1))));
     Ok(())
 }
 
-// The line 3 + 2 t from 1 on, by itself: infinity at 0, and the line from 1 on.
+// Rate-latency curves of one rate: the latencies add up.
 #[test]
-fn a_late_segment_comes_after_infinity(rt: HostRuntime) -> Result<(), Fail> {
-    let j = Joined {
-        first: Element::Open {
-            from: Frac::one(),
-            to: Extended::Inf,
-            line: line(3, 2),
-        },
-        join: None,
-        second: None,
+fn latencies(rt: HostRuntime) -> Result<(), Fail> {
+    let f = late(rt.alloc(), 130, -13000, 100)?;
+    let g = late(rt.alloc(), 10, -1000, 100)?;
+    let sum = late(rt.alloc(), 140, -14000, 100)?;
+    let c = convolved::<Brand>(rt.alloc(), Blank::new(1), &f, &g)?;
+    assert!(rt; equal(&c, &sum));
+    Ok(())
+}
+
+// Buckets: the bursts add up, and the lesser rate is kept.
+#[test]
+fn buckets(rt: HostRuntime) -> Result<(), Fail> {
+    let f = bucket(rt.alloc(), 3, 2)?;
+    let g = bucket(rt.alloc(), 5, 1)?;
+    let sum = bucket(rt.alloc(), 8, 1)?;
+    let c = convolved::<Brand>(rt.alloc(), Blank::new(1), &f, &g)?;
+    assert!(rt; equal(&c, &sum));
+    let none = nothing(rt.alloc())?;
+    let d = convolved::<Brand>(rt.alloc(), Blank::new(1), &none, &f)?;
+    assert!(rt; equal(&d, &none));
+    Ok(())
+}
+
+// n at 2 n, and 2 n at 3 n.
+#[test]
+fn dots(rt: HostRuntime) -> Result<(), Fail> {
+    let f = repeating(rt.alloc(), 0, None, 2, 1)?;
+    let g = repeating(rt.alloc(), 0, None, 3, 2)?;
+    let c = convolved::<Brand>(rt.alloc(), Blank::new(1), &f, &g)?;
+    for (t, v) in [(0, 0), (2, 1), (3, 2), (5, 3)] {
+        assert!(rt; value(&c, whole(t)) == Some(whole(v)), "at {t}");
+    }
+    assert!(rt; value(&c, whole(1)).is_none());
+    let late = match Frac::new(11, 2) {
+        Ok(t) => t,
+        Err(_) => Frac::zero(),
     };
-    let pieces = joined_window(rt.alloc(), &j)?;
-    assert_eq!(rt; pieces.len(), 2);
-    assert_eq!(rt; pieces[0].x, Frac::zero());
-    assert!(rt; pieces[0].line.is_none());
-    assert_eq!(rt; pieces[1].x, Frac::one());
-    assert!(rt; pieces[1].at.is_infinite());
-    assert!(rt; pieces[1].line.is_some());
+    assert!(rt; value(&c, late).is_none());
+    assert!(rt; repeats(&c) == Some((whole(2), whole(2), whole(1))));
+    Ok(())
+}
+
+// One point each gives one point.
+#[test]
+fn points(rt: HostRuntime) -> Result<(), Fail> {
+    let f = point(rt.alloc(), 1, 2)?;
+    let g = point(rt.alloc(), 3, 4)?;
+    let sum = point(rt.alloc(), 4, 6)?;
+    let c = convolved::<Brand>(rt.alloc(), Blank::new(1), &f, &g)?;
+    assert!(rt; equal(&c, &sum));
+    Ok(())
+}
+
+// 0 before 1 and 10 from then on, with t: t - 1 up to 11, and then 10, so nine periods are needed.
+#[test]
+fn the_slower_takes_over_late(rt: HostRuntime) -> Result<(), Fail> {
+    let list = [
+        piece(0, Extended::Fin(Frac::zero()), Some((0, 0))),
+        piece(1, Extended::Fin(whole(10)), Some((10, 0))),
+    ];
+    let f = curve(rt.alloc(), &list, Tail::Affine { rank: Frac::one() })?;
+    let g = bucket(rt.alloc(), 0, 1)?;
+    let c = convolved::<Brand>(rt.alloc(), Blank::new(1), &f, &g)?;
+    let d = convolved::<Brand>(rt.alloc(), Blank::new(1), &g, &f)?;
+    for (t, v) in [(0, 0), (1, 0), (5, 4), (11, 10), (20, 10)] {
+        assert!(rt; value(&c, whole(t)) == Some(whole(v)), "at {t}");
+        assert!(rt;
+            value(&d, whole(t)) == Some(whole(v)),
+            "the other way round at {t}"
+        );
+    }
+    Ok(())
+}
+
+// Gates of cycles that have no divisor in common: the one of the smaller rate, as much later as the other is closed.
+#[test]
+fn gates(rt: HostRuntime) -> Result<(), Fail> {
+    let f = gate(rt.alloc(), 50, -500, 0, 100, 500)?;
+    let g = gate(rt.alloc(), 41, -410, 0, 101, 600)?;
+    let later = gate(rt.alloc(), 91, -910, 41, 100, 500)?;
+    let c = convolved::<Brand>(rt.alloc(), Blank::new(1), &f, &g)?;
+    assert!(rt; equal(&c, &later));
+    Ok(())
+}
+
+// The same gates, closed for a unit of time before they begin: what is needed of the number of periods is found in
+// memory.
+#[test]
+fn late_gates(rt: HostRuntime) -> Result<(), Fail> {
+    let f = gate(rt.alloc(), 51, -510, 1, 100, 500)?;
+    let g = gate(rt.alloc(), 42, -420, 1, 101, 600)?;
+    let later = gate(rt.alloc(), 93, -930, 43, 100, 500)?;
+    let c = convolved::<Brand>(rt.alloc(), Blank::new(1), &f, &g)?;
+    assert!(rt; equal(&c, &later));
+    Ok(())
+}
+
+// Too many pairs of pieces is answered at once: 16 million, both from 0 on and from later on.
+#[test]
+fn too_many(rt: HostRuntime) -> Result<(), Fail> {
+    let f = gate(rt.alloc(), 50, -500, 0, 1000, 9500)?;
+    let g = gate(rt.alloc(), 50, -500, 0, 1001, 9510)?;
+    let c = convolved::<Brand>(rt.alloc(), Blank::new(1), &f, &g);
+    assert!(rt; is_too_many(c), "from 0 on");
+    let later = gate(rt.alloc(), 51, -510, 1, 1000, 9500)?;
+    let last = gate(rt.alloc(), 51, -510, 1, 1001, 9510)?;
+    let d = convolved::<Brand>(rt.alloc(), Blank::new(1), &later, &last);
+    assert!(rt; is_too_many(d), "from later on");
     Ok(())
 }

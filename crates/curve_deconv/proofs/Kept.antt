@@ -36,7 +36,7 @@ use Rattle.upp_normal.proofs.UnrolledPieces.{PieceStands, each_nonneg, each_with
 use Rattle.upp_limits.proofs.PieceLists.{starts_nonneg}
 use Rattle.curve_call.proofs.CurveTimes.{steady_nonneg}
 use Rattle.curve_call.proofs.CurveRises.{common_first, common_second}
-use Rattle.curve_conv.proofs.Cover.{value_here}
+use Rattle.element_envelope.proofs.Cover.{value_here}
 use Rattle.curve_deconv.specs.DeconvolutionLaws.{IsDeconvolved, DeconvolutionKeeps, DeconvolutionIsFinite}
 use Rattle.curve_deconv.proofs.Reduced.{AreRepeating, early}
 use Rattle.curve_deconv.proofs.Slower.{slower_rise, repeats_from, common_some}

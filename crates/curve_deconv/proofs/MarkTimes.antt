@@ -12,7 +12,7 @@ use Rattle.affine_segment.specs.Values.{line_at, line_value}
 use Rattle.affine_segment.specs.Reading.{read, piece_value}
 use Rattle.affine_segment.specs.Pieces.{Each, RisesFrom, StartsAtZero}
 use Rattle.affine_segment.proofs.PieceIn.{value_past}
-use Rattle.curve_conv.proofs.Cover.{value_here, read_one, read_stop, read_go}
+use Rattle.element_envelope.proofs.Cover.{value_here, read_one, read_stop, read_go}
 use Rattle.curve_deconv.specs.declared.marks.Last.{Last}
 use Rattle.curve_deconv.specs.Marks.{first_last, last_by, last_step, last_of, next_time}
 use Rattle.curve_deconv.specs.DeconvolutionWindows.{IsInfiniteFrom, IsFiniteFrom}

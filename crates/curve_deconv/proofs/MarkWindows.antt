@@ -25,12 +25,12 @@ use Rattle.affine_segment.proofs.PieceIn.{value_past}
 use Rattle.affine_segment.proofs.PieceOrder.{each_map}
 use Rattle.curve_window.specs.Pointwise.{ValueSumFits, LineSumFits, SumsFit, IsSumPiece, IsWindowSum, sum_line}
 use Rattle.curve_window.specs.Made.{ValueApartFits, LineApartFits, zero_line}
-use Rattle.curve_conv.specs.ElementRoom.{SumLine}
-use Rattle.curve_conv.specs.SumWindows.{SumStart, SumValueAt, SumLineAt, SumPiece, SumWindow}
-use Rattle.curve_conv.specs.Arches.{Arches}
-use Rattle.curve_conv.proofs.Cover.{value_here, read_one, read_stop, read_go}
-use Rattle.curve_conv.proofs.SumSteps.{start_in, sum_line_in, sum_read}
-use Rattle.curve_conv.proofs.SumLower.{values_apart, lines_apart, zero_is}
+use Rattle.element_envelope.specs.ElementRoom.{SumLine}
+use Rattle.element_envelope.specs.SumWindows.{SumStart, SumValueAt, SumLineAt, SumPiece, SumWindow}
+use Rattle.element_envelope.specs.Arches.{Arches}
+use Rattle.element_envelope.proofs.Cover.{value_here, read_one, read_stop, read_go}
+use Rattle.element_envelope.proofs.SumSteps.{start_in, sum_line_in, sum_read}
+use Rattle.element_envelope.proofs.SumLower.{values_apart, lines_apart, zero_is}
 use Rattle.curve_deconv.specs.declared.marks.Last.{Last}
 use Rattle.curve_deconv.specs.Marks.{nothing_yet, mark_after, after_pieces, mark_pieces}
 use Rattle.curve_window.proofs.MadeStands.{some_largest}

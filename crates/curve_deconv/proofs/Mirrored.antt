@@ -11,9 +11,9 @@ use Rattle.affine_segment.specs.declared.element.Element.{Element}
 use Rattle.affine_segment.specs.declared.element.Element.TheVariants.{Point, Open}
 use Rattle.affine_segment.specs.Values.{line_at}
 use Rattle.affine_segment.specs.Elements.{IsProper, Covers, level}
-use Rattle.curve_conv.specs.PieceElements.{next_start, elements_of, Among}
-use Rattle.curve_conv.proofs.Members.{among_cases}
-use Rattle.curve_conv.proofs.Cover.{head, head_cases}
+use Rattle.element_envelope.specs.PieceElements.{next_start, elements_of, Among}
+use Rattle.element_envelope.proofs.Members.{among_cases}
+use Rattle.element_envelope.proofs.Cover.{head, head_cases}
 use Rattle.curve_deconv.specs.Mirrored.{neg_line, neg_element, mirror_line, mirror}
 
 -- ---- what is among the made ones

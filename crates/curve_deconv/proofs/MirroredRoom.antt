@@ -22,10 +22,10 @@ use Rattle.upp_normal.specs.Operand.{AreLimited, OperandLine, OperandLineAt, Ope
 use Rattle.upp_limits.proofs.NarrowSizes.{narrow_gauge}
 use Rattle.upp_normal.proofs.AnswerRoom.{operand_line, operand_line_fits, operand_line_value, stands_operand_value, steep_run, OperandValueAt}
 use Rattle.curve_call.proofs.CurveTimes.{sum_fits, time_within}
-use Rattle.curve_conv.specs.PieceElements.{next_start, elements_of, Among}
-use Rattle.curve_conv.specs.ElementRoom.{OperandElement}
-use Rattle.curve_conv.proofs.Members.{among_cases}
-use Rattle.curve_conv.proofs.Cover.{head, head_cases}
+use Rattle.element_envelope.specs.PieceElements.{next_start, elements_of, Among}
+use Rattle.element_envelope.specs.ElementRoom.{OperandElement}
+use Rattle.element_envelope.proofs.Members.{among_cases}
+use Rattle.element_envelope.proofs.Cover.{head, head_cases}
 use Rattle.curve_deconv.specs.Mirrored.{neg_element, neg_line, mirror, mirror_line, MirrorFits, EachElement}
 use Rattle.curve_deconv.proofs.Kept.{line_from}
 use Rattle.upp_normal.proofs.StretchSizes.{grid_value}

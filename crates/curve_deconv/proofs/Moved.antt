@@ -26,13 +26,13 @@ use Rattle.upp_normal.specs.Room.{TimeHasRoom, ValueHasRoom, LineHasRoom, PieceH
 use Rattle.upp_normal.proofs.AnswerRoom.{IsCrossing, line_in_room, line_value_in, value_in_room, steep_run}
 use Rattle.affine_segment.proofs.PieceIn.{value_past, read_is}
 use Rattle.affine_segment.proofs.PieceOrder.{each_map}
-use Rattle.curve_envelope.specs.Shifting.{left_line, left_piece, moved_left, LeftFits}
-use Rattle.curve_envelope.proofs.LeftWindow.{left_reads, left_starts, each_past, each_moved}
-use Rattle.curve_conv.specs.SumWindows.{SumStart, SumValueAt, SumLineAt, SumPiece, SumWindow}
-use Rattle.curve_conv.proofs.Cover.{value_here, read_one, read_stop, read_go}
-use Rattle.curve_conv.proofs.ElementSizes.{sum_within}
-use Rattle.curve_conv.proofs.SumSteps.{place_room, line_fits_to, sum_answer, sum_line_in, sum_read}
-use Rattle.curve_conv.proofs.ArchBends.{sums_on_grids}
+use Rattle.curve_pointwise.specs.Shifting.{left_line, left_piece, moved_left, LeftFits}
+use Rattle.curve_pointwise.proofs.LeftWindow.{left_reads, left_starts, each_past, each_moved}
+use Rattle.element_envelope.specs.SumWindows.{SumStart, SumValueAt, SumLineAt, SumPiece, SumWindow}
+use Rattle.element_envelope.proofs.Cover.{value_here, read_one, read_stop, read_go}
+use Rattle.element_envelope.proofs.ElementSizes.{sum_within}
+use Rattle.element_envelope.proofs.SumSteps.{place_room, line_fits_to, sum_answer, sum_line_in, sum_read}
+use Rattle.element_envelope.proofs.ArchBends.{sums_on_grids}
 use Rattle.curve_deconv.specs.Mirrored.{neg_ext, neg_line, neg_option, neg_piece}
 use Rattle.curve_deconv.specs.DeconvolutionWindows.{OperandWindows, IsRaisedWindow, IsDeconvolutionWindow, IsRaised, IsReached, IsFiniteFrom, IsLeastPair, IsNumberedSupremum, EarlyPair, EarlyTime}
 use Rattle.curve_deconv.proofs.MovedGrids.{IsTurned, turned_repeated, turned_grids}

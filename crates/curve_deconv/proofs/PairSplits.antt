@@ -14,13 +14,13 @@ use Rattle.affine_segment.specs.declared.element.Element.{Element}
 use Rattle.affine_segment.specs.Elements.{Covers, level}
 use Rattle.affine_segment.specs.Reading.{read}
 use Rattle.affine_segment.specs.Pieces.{Each, StartsAtZero}
-use Rattle.curve_conv.specs.PieceElements.{elements_of, StartBefore, Among}
-use Rattle.curve_conv.specs.Envelopes.{ListSplit, list_sum, IsEnvelope}
-use Rattle.curve_conv.proofs.Cover.{cover, element_times}
+use Rattle.element_envelope.specs.PieceElements.{elements_of, StartBefore, Among}
+use Rattle.element_envelope.specs.Envelopes.{ListSplit, list_sum, IsEnvelope}
+use Rattle.element_envelope.proofs.Cover.{cover, element_times}
 use Rattle.curve_deconv.specs.Mirrored.{neg_element, mirror}
 use Rattle.curve_deconv.specs.DeconvolutionWindows.{EarlyPair, IsLeastPair}
 use Rattle.curve_deconv.proofs.Mirrored.{among_made, made_of, neg_covers, neg_covers_out, neg_level, have_ends, mirror_covers, mirror_covers_out, mirror_level}
-use Rattle.curve_conv.proofs.WindowConvolution.{endless}
+use Rattle.element_envelope.proofs.WindowConvolution.{endless}
 
 pub before_end : (ps : List Piece) (end : ℚ) → Each (λ p. p.x <ℚ end) ps → StartBefore (Fin end) ps
 before_end [] end h = tt

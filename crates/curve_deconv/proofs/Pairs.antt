@@ -9,7 +9,7 @@ use Rattle.affine_segment.specs.declared.line.Piece.{Piece}
 use Rattle.affine_segment.specs.declared.element.Element.{Element}
 use Rattle.affine_segment.specs.Elements.{IsProper}
 use Rattle.affine_segment.specs.Values.{line_value}
-use Rattle.curve_conv.specs.ElementRoom.{OperandElement}
+use Rattle.element_envelope.specs.ElementRoom.{OperandElement}
 use Rattle.affine_segment.specs.Reading.{read}
 use Rattle.affine_segment.specs.Pieces.{Each}
 use Rattle.upp_limits.specs.Sized.{ValueStands}
@@ -17,15 +17,15 @@ use Rattle.upp_normal.specs.Operand.{OperandPiece}
 use Rattle.upp_normal.proofs.UnrolledPieces.{each_with}
 use Rattle.curve_running.specs.Runs.{IsFrontBefore}
 use Rattle.curve_running.proofs.Fronts.{kept_each, kept_starts, kept_reads}
-use Rattle.curve_conv.specs.PieceElements.{elements_of}
-use Rattle.curve_conv.specs.EnvelopeWindows.{EnvelopeRoom, IsEnvelopeWindow}
-use Rattle.curve_conv.proofs.Cover.{cover}
-use Rattle.curve_conv.proofs.OperandElements.{elements_stand}
+use Rattle.element_envelope.specs.PieceElements.{elements_of}
+use Rattle.element_envelope.specs.EnvelopeWindows.{EnvelopeRoom, IsEnvelopeWindow}
+use Rattle.element_envelope.proofs.Cover.{cover}
+use Rattle.element_envelope.proofs.OperandElements.{elements_stand}
 use Rattle.curve_deconv.specs.Mirrored.{neg_element, mirror, MirrorFits, EachElement}
 use Rattle.curve_deconv.specs.DeconvolutionWindows.{OperandWindows, IsPairsWindow}
 use Rattle.curve_deconv.proofs.Mirrored.{made_of, neg_proper, mirror_proper, have_ends}
 use Rattle.curve_deconv.proofs.PairSplits.{AreRead, before_end, splits_pair, pairs_agree}
-use Rattle.curve_conv.proofs.WindowConvolution.{endless}
+use Rattle.element_envelope.proofs.WindowConvolution.{endless}
 use Rattle.curve_deconv.proofs.MirroredRoom.{ReadyPiece, elements_ready, neg_stands, mirror_stands, mirror_fits, each_element}
 
 ready_front : (end reach : ℚ) (f g front : List Piece) (r : OperandWindows end reach f g) → IsFrontBefore g reach front → Each (ReadyPiece r.sizes end reach) front

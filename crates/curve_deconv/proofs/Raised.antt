@@ -19,8 +19,8 @@ use Rattle.affine_segment.proofs.PieceOrder.{each_map}
 use Rattle.curve_window.specs.Stretches.{CutsFit}
 use Rattle.curve_window.specs.Pointwise.{SumsFit, IsWindowSum}
 use Rattle.curve_call.proofs.CurveTimes.{sum_fits, time_within}
-use Rattle.curve_conv.proofs.Arching.{same_arches}
-use Rattle.curve_conv.proofs.SumSteps.{sum_cuts_fit}
+use Rattle.element_envelope.proofs.Arching.{same_arches}
+use Rattle.element_envelope.proofs.SumSteps.{sum_cuts_fit}
 use Rattle.curve_deconv.specs.declared.marks.Last.{Last}
 use Rattle.curve_deconv.specs.Marks.{first_last, last_of, mark_pieces}
 use Rattle.curve_deconv.specs.DeconvolutionWindows.{OperandWindows, IsPairsWindow, IsRaisedWindow, IsRaised, IsInfiniteFrom, IsFiniteFrom, IsLeastPair}

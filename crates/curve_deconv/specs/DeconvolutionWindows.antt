@@ -15,8 +15,8 @@ use Rattle.affine_segment.specs.Reading.{read}
 use Rattle.upp_curve.specs.Curve.{repeated}
 use Rattle.upp_normal.specs.Room.{PieceHasRoom}
 use Rattle.upp_limits.specs.Sized.{ValueStands, grid_of}
-use Rattle.curve_conv.specs.SumWindows.{SumWindow}
-use Rattle.curve_conv.specs.Arches.{Arches}
+use Rattle.element_envelope.specs.SumWindows.{SumWindow}
+use Rattle.element_envelope.specs.Arches.{Arches}
 use Rattle.curve_window.proofs.TailGrids.{TailOf}
 
 -- ---- pairs of times

@@ -16,8 +16,8 @@ ghost use Rattle.curve_call.specs.Times.{OneLaterFits};
 
 use crate::window::window_deconvolution;
 use curve_call::{Frame, answer, rise_over, steady_time, within};
-use curve_envelope::infinite_curve;
 use curve_least::{Side, is_slower};
+use curve_pointwise::infinite_curve;
 use fraction128::{Frac, difference};
 use std::alloc::{AllocError, Global};
 use std::sync::ledger::Ledger;

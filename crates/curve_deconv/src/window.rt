@@ -7,10 +7,10 @@ ghost use Rattle.curve_deconv.specs.DeconvolutionWindows.{IsDeconvolutionWindow}
 use crate::marks::{last_infinite, mark_pieces};
 use crate::mirroring::{mirrored_elements, negated_elements, negated_pieces};
 use affine_segment::Piece;
-use curve_conv::{cut, envelope};
-use curve_envelope::left_window;
+use curve_pointwise::left_window;
 use curve_running::front_before;
 use curve_window::window_sum;
+use element_envelope::{cut, envelope};
 use fraction128::Frac;
 use rational::Extended;
 use std::alloc::{AllocError, Global};

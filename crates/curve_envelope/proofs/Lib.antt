@@ -1,7 +1,17 @@
-pub mod SumCall
-pub mod ScaledValues
-pub mod ScaleCall
-pub mod LeftWindow
-pub mod ShiftCall
-pub mod Nowhere
-mod NotBelow
+pub mod MovedLoop
+pub mod Served
+pub mod SumSizes
+pub mod MovedReads
+pub mod MovedStands
+pub mod LeftReads
+pub mod LeftStands
+pub mod LowestCalls
+pub mod LowestReads
+pub mod LeftCalls
+pub mod LeftAnswers
+pub mod ValueIn
+pub mod BehindWalk
+pub mod LeastBehind
+pub mod LeftLimits
+pub mod Nothing
+pub mod TestWaits

@@ -1,1 +1,5 @@
-pub mod Shifting
+pub mod Moved
+pub mod Parts
+pub mod Lowest
+pub mod Behind
+pub mod LeftCall

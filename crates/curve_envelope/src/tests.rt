@@ -1,10 +1,14 @@
-//! Values worked out by hand.
+//! Values worked out by hand, of a server of rate 100 and latency 10 beside a flow of burst 6000: its wait is 70.
 
-ghost use Rattle.std.specs.Prelude.{◌≡◌, ◌<◌};
+ghost use Rattle.std.specs.Prelude.{◌≡◌, ◌<◌, pos, IfOk};
+ghost use Rattle.rational.specs.Rational.{ℚ, int, ◌≤ℚ◌};
+ghost use Rattle.upp_curve.specs.Curve.{value_at};
+ghost use Rattle.min_plus.specs.Deviations.{IsHorizontalDeviation};
+ghost use Rattle.min_plus.specs.Formulas.{bucket_value, rate_latency_value};
 
-use crate::{max, min, scale, shift, sum};
-use affine_segment::{Line, Piece};
-use fraction128::Frac;
+use crate::fifo_left;
+use curve_library::{bucket, rate_latency};
+use fraction128::{Ext, Frac};
 use rational::Extended;
 use std::alloc::Global;
 use std::cmp::Ordering;
@@ -12,9 +16,8 @@ use std::marker::Brand;
 use std::sync::ledger::{Blank, Ledger};
 use std::test::Fail;
 use steps::Steps;
-use upp_curve::{Curve, Tail};
+use upp_curve::Curve;
 use upp_limits::OpFault;
-use upp_normal::{RawCurve, normalise};
 
 fn whole(n: i128) -> Frac {
     match Frac::new(n, 1) {
@@ -23,28 +26,45 @@ fn whole(n: i128) -> Frac {
     }
 }
 
-fn point(x: i128, at: i128, icept: i128, slope: i128) -> Piece {
-    Piece {
-        x: whole(x),
-        at: Extended::Fin(whole(at)),
-        line: Some(Line {
-            icept: whole(icept),
-            slope: whole(slope),
-        }),
+fn service(alloc: Global) -> Result<Curve, OpFault>
+    ensures { IfOk result (λ c. (t : ℚ) → int (pos 0) ≤ℚ t
+        → value_at c t ≡ rate_latency_value (int (pos 100)) (int (pos 10)) t) }
+{
+    match rate_latency(alloc, Frac::from_whole(100), Frac::from_whole(10)) {
+        Ok(c) => Ok(c),
+        Err(_) => Err(OpFault::NoMemory),
     }
 }
 
-// Two pieces, and then the line of the second.
-fn curve(alloc: Global, first: Piece, second: Piece) -> Result<Curve, OpFault> {
-    let tail = Tail::Affine { rank: second.x };
-    let Ok(pieces) = Vec::from_slice(alloc, &[first, second]) else {
-        return Err(OpFault::NoMemory);
-    };
-    let raw = RawCurve { pieces, tail };
-    if raw.is_raw() {
-        normalise(raw)
+fn flow(alloc: Global, rate: Frac) -> Result<Curve, OpFault>
+    ensures { IfOk result (λ c. (t : ℚ) → int (pos 0) ≤ℚ t → value_at c t ≡ bucket_value (int (pos 6000)) rate t) }
+{
+    match bucket(alloc, Frac::from_whole(6000), rate) {
+        Ok(c) => Ok(c),
+        Err(_) => Err(OpFault::NoMemory),
+    }
+}
+
+// What is left of a server of that rate and latency.
+fn left<L: Ledger>(
+    alloc: Global,
+    beta: &Curve,
+    cross: &Curve,
+    theta: Ext,
+    blank: Blank,
+) -> Result<Curve, OpFault>
+    requires service { (t : ℚ) → int (pos 0) ≤ℚ t
+        → value_at beta.now t ≡ rate_latency_value (int (pos 100)) (int (pos 10)) t }
+    requires deviation { IsHorizontalDeviation (value_at cross.now) (value_at beta.now) theta }
+    requires name { blank.name ≡ L.name }
+    requires parts { blank.parts ≡ L.parts }
+    requires one { 0 < blank.parts }
+{
+    let mut steps = Steps::<L>::new(blank);
+    if beta.is_rising() {
+        fifo_left(alloc, beta, cross, theta, &mut steps)
     } else {
-        Err(OpFault::TooWide)
+        Err(OpFault::TooMany)
     }
 }
 
@@ -59,120 +79,25 @@ fn value(c: &Curve, t: Frac) -> Option<Frac> {
     }
 }
 
-// The sum of 1 with a spike of 7 at 2 and of 1 + t, three times the first, and the first a time 1 later, at t.
-fn answers<L: Ledger>(alloc: Global, blank: Blank, t: Frac) -> Result<[Option<Frac>; 3], OpFault>
-    requires name { blank.name ≡ L.name }
-    requires parts { blank.parts ≡ L.parts }
-    requires one { 0 < blank.parts }
-{
-    let mut steps = Steps::<L>::new(blank);
-    let f = curve(alloc, point(0, 1, 1, 0), point(2, 7, 1, 0))?;
-    let g = curve(alloc, point(0, 1, 1, 1), point(5, 6, 1, 1))?;
-    let total = sum(alloc, &f, &g, &mut steps)?;
-    let triple = scale(alloc, &f, whole(3), &mut steps)?;
-    let later = shift(alloc, &f, Extended::Fin(Frac::one()), &mut steps)?;
-    Ok([value(&total, t), value(&triple, t), value(&later, t)])
-}
-
 #[test]
-fn sums_multiples_and_shifts_keep_a_spike(rt: HostRuntime) -> Result<(), Fail> {
-    for (t, total, triple, later) in [(0, 2, 3, 1), (1, 3, 3, 7), (2, 10, 21, 1), (3, 5, 3, 1)] {
-        let [a, b, c] = answers::<Brand>(rt.alloc(), Blank::new(1), whole(t))?;
-        assert!(rt; a == Some(whole(total)), "the sum at {t}");
-        assert!(rt; b == Some(whole(triple)), "the multiple at {t}");
-        assert!(rt; c == Some(whole(later)), "the shift at {t}");
+fn a_flow_leaves_a_rate_after_its_wait(rt: HostRuntime) -> Result<(), Fail> {
+    let beta = service(rt.alloc())?;
+    let cross = flow(rt.alloc(), Frac::from_whole(5))?;
+    let wait = Extended::Fin(Frac::from_whole(70));
+    let left = left::<Brand>(rt.alloc(), &beta, &cross, wait, Blank::new(1))?;
+    for (t, v) in [(0, 0), (70, 0), (71, 95), (80, 950)] {
+        let found = value(&left, whole(t));
+        assert!(rt; found == Some(whole(v)), "at {t}");
     }
     Ok(())
 }
 
-// One step once a period, after a value of its own at the start.
-fn steps_of(alloc: Global, at: i128, period: Frac) -> Result<Curve, OpFault> {
-    let tail = Tail::Periodic {
-        rank: Frac::zero(),
-        period,
-        rise: Frac::one(),
-    };
-    let Ok(pieces) = Vec::from_slice(alloc, &[point(0, at, 1, 0)]) else {
-        return Err(OpFault::NoMemory);
-    };
-    let raw = RawCurve { pieces, tail };
-    if raw.is_raw() {
-        normalise(raw)
-    } else {
-        Err(OpFault::TooWide)
-    }
-}
-
-// The sum, the lesser and the greater of 1 + floor (t / 2) and 1 + floor (t / 3), which is 4 more at whole multiples of 3.
-fn of_steps<L: Ledger>(alloc: Global, blank: Blank, t: Frac) -> Result<[Option<Frac>; 3], OpFault>
-    requires name { blank.name ≡ L.name }
-    requires parts { blank.parts ≡ L.parts }
-    requires one { 0 < blank.parts }
-{
-    let mut steps = Steps::<L>::new(blank);
-    let f = steps_of(alloc, 1, whole(2))?;
-    let g = steps_of(alloc, 5, whole(3))?;
-    let total = sum(alloc, &f, &g, &mut steps)?;
-    let lower = min(alloc, &f, &g, &mut steps)?;
-    let upper = max(alloc, &f, &g, &mut steps)?;
-    Ok([value(&total, t), value(&lower, t), value(&upper, t)])
-}
-
 #[test]
-fn periods_of_two_and_three(rt: HostRuntime) -> Result<(), Fail> {
-    for (t, total, low, high) in [
-        (0, 6, 1, 5),
-        (6, 11, 4, 7),
-        (7, 7, 3, 4),
-        (30, 31, 15, 16),
-        (31, 27, 11, 16),
-    ] {
-        let [a, b, c] = of_steps::<Brand>(rt.alloc(), Blank::new(1), whole(t))?;
-        assert!(rt; a == Some(whole(total)), "the sum at {t}");
-        assert!(rt; b == Some(whole(low)), "the minimum at {t}");
-        assert!(rt; c == Some(whole(high)), "the maximum at {t}");
-    }
-    Ok(())
-}
-
-fn thousandths(n: i128) -> Frac {
-    match Frac::new(n, 1000) {
-        Ok(f) => f,
-        Err(_) => Frac::zero(),
-    }
-}
-
-// Whether the sum of steps of two periods is refused for too many pieces.
-fn is_too_many<L: Ledger>(
-    alloc: Global,
-    blank: Blank,
-    first: Frac,
-    second: Frac,
-) -> Result<bool, OpFault>
-    requires name { blank.name ≡ L.name }
-    requires parts { blank.parts ≡ L.parts }
-    requires one { 0 < blank.parts }
-{
-    let mut steps = Steps::<L>::new(blank);
-    let f = steps_of(alloc, 1, first)?;
-    let g = steps_of(alloc, 1, second)?;
-    match sum(alloc, &f, &g, &mut steps) {
-        Err(OpFault::TooMany) => Ok(true),
-        _ => Ok(false),
-    }
-}
-
-// The common period of 1000 and 1000001/1000 is 1000001000.
-#[test]
-fn periods_with_nothing_in_common_are_too_many(rt: HostRuntime) -> Result<(), Fail> {
-    for (second, refused) in [(1000001, true), (1000500, false)] {
-        let found = is_too_many::<Brand>(
-            rt.alloc(),
-            Blank::new(1),
-            whole(1000),
-            thousandths(second),
-        )?;
-        assert!(rt; found == refused, "at {second}");
-    }
+fn a_faster_flow_leaves_nothing(rt: HostRuntime) -> Result<(), Fail> {
+    let beta = service(rt.alloc())?;
+    let cross = flow(rt.alloc(), Frac::from_whole(101))?;
+    let left = left::<Brand>(rt.alloc(), &beta, &cross, Extended::Inf, Blank::new(1))?;
+    assert!(rt; value(&left, Frac::zero()) == Some(Frac::zero()));
+    assert!(rt; value(&left, whole(1000)) == Some(Frac::zero()));
     Ok(())
 }

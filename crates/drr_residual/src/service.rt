@@ -8,7 +8,7 @@ ghost use Rattle.residual_laws.specs.DrrLaws.{IsDrrService};
 
 use crate::turn::turn_of;
 use curve_call::seen;
-use curve_envelope::{pos_minus, scale};
+use curve_pointwise::{pos_minus, scale};
 use std::alloc::Global;
 use std::sync::ledger::Ledger;
 use steps::Steps;

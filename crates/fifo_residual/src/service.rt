@@ -9,7 +9,7 @@ ghost use Rattle.curve_call.specs.Calls.{Applies};
 ghost use Rattle.fifo_residual.specs.Laws.{IsResidual};
 
 use curve_call::seen;
-use curve_leftover::fifo_left;
+use curve_envelope::fifo_left;
 use fraction128::Ext;
 use std::alloc::Global;
 use std::sync::ledger::Ledger;

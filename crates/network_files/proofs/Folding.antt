@@ -8,9 +8,9 @@ use Rattle.upp_limits.specs.declared.own_limits.OverLimit.TheVariants as limits
 use Rattle.upp_limits.specs.declared.op_kind.OpFault.{OpFault}
 use Rattle.upp_limits.specs.declared.op_kind.OpFault.TheVariants.{TooMany, TooWide, NoMemory}
 use Rattle.curve_call.specs.Calls.{goes_on, stops}
-use Rattle.closure_fold.specs.Folds.{CloseAnswer}
-use Rattle.closure_fold.proofs.FoldStars.{close_answer}
-use Rattle.closure_fold.proofs.OneFold.{close_once}
+use Rattle.subadd_closure.specs.Folds.{CloseAnswer}
+use Rattle.subadd_closure.proofs.FoldStars.{close_answer}
+use Rattle.subadd_closure.proofs.OneFold.{close_once}
 use Rattle.net_text.specs.Closing.{KeepsClosing}
 use Rattle.network_files.specs.FoldLimits.{OverFold}
 

@@ -4,7 +4,7 @@ use Rattle.upp_curve.specs.Curve.{SpecCurve}
 use Rattle.upp_limits.specs.declared.own_limits.OverLimit.{OverLimit}
 use Rattle.upp_limits.specs.declared.own_limits.OverLimit.TheVariants as limits
 use Rattle.upp_limits.specs.declared.op_kind.OpFault.TheVariants as faults
-use Rattle.closure_fold.specs.Folds.{CloseAnswer}
+use Rattle.subadd_closure.specs.Folds.{CloseAnswer}
 
 -- the first operator of the fold that is over a limit is over this one
 abbrev pub OverFold : SpecCurve → OverLimit → Type 0

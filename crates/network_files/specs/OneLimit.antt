@@ -5,8 +5,8 @@ use Rattle.upp_curve.specs.Curve.{SpecCurve}
 use Rattle.upp_limits.specs.declared.own_limits.OverLimit.TheVariants as limits
 use Rattle.upp_limits.specs.declared.op_kind.OpFault.{OpFault}
 use Rattle.upp_limits.specs.declared.op_kind.OpFault.TheVariants as faults
-use Rattle.closure_fold.specs.Folds.{CloseAnswer}
-use Rattle.closure_fold.proofs.OneFold.{close_once}
+use Rattle.subadd_closure.specs.Folds.{CloseAnswer}
+use Rattle.subadd_closure.proofs.OneFold.{close_once}
 use Rattle.net_text.specs.Closing.{HasOneLimit}
 use Rattle.network_files.specs.FoldLimits.{OverFold}
 

@@ -9,7 +9,7 @@ ghost use Rattle.min_plus.specs.Pointwise.{IsPositiveMinus};
 ghost use Rattle.curve_call.specs.Calls.{AppliesTo};
 
 use curve_call::seen;
-use curve_envelope::pos_minus;
+use curve_pointwise::pos_minus;
 use fraction128::Frac;
 use std::alloc::Global;
 use std::sync::ledger::Ledger;

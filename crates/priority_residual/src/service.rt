@@ -8,7 +8,8 @@ ghost use Rattle.residual_laws.specs.PriorityCalls.{LeavesPriority, MakesPriorit
 ghost use Rattle.residual_laws.specs.PriorityLaws.{IsPriorityService};
 
 use curve_call::seen;
-use curve_envelope::{pos_diff, pos_minus, run_sup};
+use curve_pointwise::{pos_diff, pos_minus};
+use curve_running::run_sup;
 use fraction128::Frac;
 use std::alloc::Global;
 use std::sync::ledger::Ledger;

@@ -8,8 +8,8 @@ use Rattle.upp_curve.specs.Normal.{IsNormal}
 use Rattle.min_plus.specs.Convolution.{IsSubadditiveClosure}
 use Rattle.closure_laws.specs.ClosureLaws.{ClosureKeeps}
 use Rattle.closure_laws.proofs.KeptShapes.{closures_keep}
-use Rattle.closure_fold.specs.Folds.{CloseAnswer}
-use Rattle.closure_fold.proofs.FoldStars.{close_answer}
+use Rattle.subadd_closure.specs.Folds.{CloseAnswer}
+use Rattle.subadd_closure.proofs.FoldStars.{close_answer}
 
 module _ (f : SpecCurve) (normal : IsNormal f) (finite : IsFinite (value_at f)) (nonneg : IsNonnegative (value_at f)) where
   pub closed_value : (r : Result SpecCurve OpFault) → CloseAnswer f r

@@ -25,16 +25,16 @@ use Rattle.min_plus.specs.Functions.{zero_q, IsFinite, IsNonnegative}
 use Rattle.upp_curve.specs.Normal.{TailFits, IsNormal}
 use Rattle.upp_curve.specs.Readable.{EachFits, TailReadable}
 use Rattle.affine_segment.specs.Fits.{LineFitsAt}
-use Rattle.curve_conv.specs.PieceElements.{next_start, elements_of, Among}
-use Rattle.curve_conv.proofs.Members.{among_cases}
-use Rattle.curve_conv.proofs.Cover.{head, head_cases, cover, element_times}
-use Rattle.closure_fold.specs.declared.part.Copies.{Copies}
-use Rattle.closure_fold.specs.declared.part.Part.{Part}
-use Rattle.closure_fold.specs.CurveParts.{pieces_end, copies_of, part_of, part_value}
-use Rattle.closure_fold.specs.PartLaws.{EachPart, IsPart}
-use Rattle.closure_fold.proofs.ElementTimes.{starts_nonneg}
-use Rattle.closure_fold.proofs.EachParts.{starts_before, parts_are_parts}
-use Rattle.closure_fold.proofs.LeastParts.{least_below, parts_make_curve}
+use Rattle.element_envelope.specs.PieceElements.{next_start, elements_of, Among}
+use Rattle.element_envelope.proofs.Members.{among_cases}
+use Rattle.element_envelope.proofs.Cover.{head, head_cases, cover, element_times}
+use Rattle.subadd_closure.specs.declared.part.Copies.{Copies}
+use Rattle.subadd_closure.specs.declared.part.Part.{Part}
+use Rattle.subadd_closure.specs.CurveParts.{pieces_end, copies_of, part_of, part_value}
+use Rattle.subadd_closure.specs.PartLaws.{EachPart, IsPart}
+use Rattle.subadd_closure.proofs.ElementTimes.{starts_nonneg}
+use Rattle.subadd_closure.proofs.EachParts.{starts_before, parts_are_parts}
+use Rattle.subadd_closure.proofs.LeastParts.{least_below, parts_make_curve}
 use Rattle.subadd_closure.specs.Stars.{IsTurn, turn_work}
 use Rattle.subadd_closure.specs.FoldWork.{copies_work}
 use Rattle.subadd_closure.specs.PartStars.{turn_of}

@@ -27,12 +27,12 @@ use Rattle.upp_limits.specs.Sized.{TailStands, SpanStands, grid_of, times_larges
 use Rattle.upp_normal.specs.Operand.{AreLimited}
 use Rattle.upp_limits.proofs.CurveStands.{own_are_sizes, own_stands, starts_below_own_end}
 use Rattle.upp_normal.proofs.StretchSizes.{time_whole, time_within, times_fit, small_quotient}
-use Rattle.curve_conv.specs.PieceElements.{next_start, elements_of, Among}
-use Rattle.curve_conv.proofs.Members.{among_cases}
-use Rattle.curve_conv.proofs.Cover.{head, head_cases, cover}
-use Rattle.closure_fold.specs.CurveParts.{pieces_end}
-use Rattle.closure_fold.proofs.ElementTimes.{starts_nonneg}
-use Rattle.closure_fold.proofs.EachParts.{starts_before}
+use Rattle.element_envelope.specs.PieceElements.{next_start, elements_of, Among}
+use Rattle.element_envelope.proofs.Members.{among_cases}
+use Rattle.element_envelope.proofs.Cover.{head, head_cases, cover}
+use Rattle.subadd_closure.specs.CurveParts.{pieces_end}
+use Rattle.subadd_closure.proofs.ElementTimes.{starts_nonneg}
+use Rattle.subadd_closure.proofs.EachParts.{starts_before}
 use Rattle.subadd_closure.specs.SegmentLimits.{IsElementOf, LengthsFit}
 
 -- ---- times

@@ -20,15 +20,15 @@ use Rattle.affine_segment.specs.Pieces.{RisesFrom, StartsAtZero}
 use Rattle.upp_curve.specs.Normal.{TailFits, IsRaw}
 use Rattle.affine_segment.proofs.PieceIn.{value_past}
 use Rattle.upp_curve.proofs.Repeats.{repeated_first}
-use Rattle.curve_conv.specs.PieceElements.{point_of, segment_of, next_start, elements_of, StartBefore}
-use Rattle.curve_conv.proofs.Cover.{read_one, read_stop, value_here}
+use Rattle.element_envelope.specs.PieceElements.{point_of, segment_of, next_start, elements_of, StartBefore}
+use Rattle.element_envelope.proofs.Cover.{read_one, read_stop, value_here}
 use Rattle.upp_limits.specs.declared.op_kind.OpFault.{OpFault}
 use Rattle.upp_limits.specs.declared.op_kind.OpFault.TheVariants.{NoMemory}
 use Rattle.curve_call.specs.Calls.{stops}
-use Rattle.closure_fold.specs.CurveParts.{pieces_end, part_of, parts_of}
-use Rattle.closure_fold.specs.Folds.{CloseAnswer}
-use Rattle.closure_fold.proofs.EachParts.{starts_before}
-use Rattle.closure_fold.proofs.LeastParts.{not_finite}
+use Rattle.subadd_closure.specs.CurveParts.{pieces_end, part_of, parts_of}
+use Rattle.subadd_closure.specs.Folds.{CloseAnswer}
+use Rattle.subadd_closure.proofs.EachParts.{starts_before}
+use Rattle.subadd_closure.proofs.LeastParts.{not_finite}
 use Rattle.subadd_closure.proofs.ElementFits.{early_time}
 use Rattle.subadd_closure.proofs.FoldSteps.{first_stops, early_refusal}
 

@@ -8,9 +8,9 @@ use Rattle.std.proofs.lemmas.List.Sums.{sum_by_push, sum_by-append, sum_by-cons}
 use Rattle.affine_segment.specs.declared.element.Element.{Element}
 use Rattle.upp_curve.specs.declared.curve.Tail.{Tail}
 use Rattle.upp_curve.specs.Curve.{SpecCurve}
-use Rattle.curve_conv.specs.PieceElements.{elements_of, Among}
-use Rattle.closure_fold.specs.declared.part.Part.{Part}
-use Rattle.closure_fold.specs.CurveParts.{pieces_end, part_of, parts_of}
+use Rattle.element_envelope.specs.PieceElements.{elements_of, Among}
+use Rattle.subadd_closure.specs.declared.part.Part.{Part}
+use Rattle.subadd_closure.specs.CurveParts.{pieces_end, part_of, parts_of}
 use Rattle.subadd_closure.specs.FoldWork.{part_work, parts_work}
 use Rattle.subadd_closure.specs.SegmentLimits.{IsElementOf}
 

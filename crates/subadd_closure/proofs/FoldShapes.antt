@@ -15,13 +15,13 @@ use Rattle.upp_curve.specs.Normal.{IsNormal}
 use Rattle.min_plus.specs.Convolution.{AllNonneg, sum_at, IsConvolution}
 use Rattle.closure_laws.specs.Star.{Times, IsStar, AreStars, lesser, least_of}
 use Rattle.closure_laws.proofs.StarSums.{star_of_lesser, least_of_more}
-use Rattle.closure_fold.specs.declared.part.Part.{Part}
-use Rattle.closure_fold.specs.CurveParts.{parts_of, part_value}
-use Rattle.closure_fold.specs.PartLaws.{EachPart, IsPart}
-use Rattle.closure_fold.specs.Folds.{PartAnswer, PartsAnswer}
-use Rattle.closure_fold.proofs.EachParts.{parts_are_parts}
-use Rattle.closure_fold.proofs.LeastParts.{parts_make_curve}
-use Rattle.closure_fold.proofs.FoldStars.{part_star, parts_star}
+use Rattle.subadd_closure.specs.declared.part.Part.{Part}
+use Rattle.subadd_closure.specs.CurveParts.{parts_of, part_value}
+use Rattle.subadd_closure.specs.PartLaws.{EachPart, IsPart}
+use Rattle.subadd_closure.specs.Folds.{PartAnswer, PartsAnswer}
+use Rattle.subadd_closure.proofs.EachParts.{parts_are_parts}
+use Rattle.subadd_closure.proofs.LeastParts.{parts_make_curve}
+use Rattle.subadd_closure.proofs.FoldStars.{part_star, parts_star}
 
 -- ---- stars
 -- a star is nowhere below 0 where the function is

@@ -8,10 +8,10 @@ use Rattle.upp_limits.specs.declared.op_kind.OpFault.{OpFault}
 use Rattle.upp_curve.specs.Curve.{SpecCurve, value_at}
 use Rattle.min_plus.specs.Functions.{zero_q}
 use Rattle.curve_call.specs.Calls.{Applies, Then, goes_on, stops}
-use Rattle.closure_fold.specs.declared.part.Part.{Part}
-use Rattle.closure_fold.specs.CurveParts.{parts_of}
-use Rattle.closure_fold.specs.Folds.{PartAnswer, FoldAnswer, PartsAnswer, SetBackAnswer, CloseAnswer}
-use Rattle.closure_start.specs.StartsAt.{StartsAt}
+use Rattle.subadd_closure.specs.declared.part.Part.{Part}
+use Rattle.subadd_closure.specs.CurveParts.{parts_of}
+use Rattle.subadd_closure.specs.Folds.{PartAnswer, FoldAnswer, PartsAnswer, SetBackAnswer, CloseAnswer}
+use Rattle.subadd_closure.specs.StartsAt.{StartsAt}
 
 -- ---- more parts after an answer
 fold_more : (f s : SpecCurve) (ps qs : List Part) (c : SpecCurve) (r : Result SpecCurve OpFault)

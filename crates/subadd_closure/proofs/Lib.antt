@@ -1,3 +1,17 @@
+pub mod ElementTimes
+pub mod LeastParts
+pub mod EachParts
+pub mod FoldStars
+pub mod OneFold
+pub mod PartCopies
+pub mod Starts
+pub mod StartCurves
+pub mod Windowed
+pub mod Started
+pub mod Risen
+pub mod Kept
+pub mod Made
+pub mod TestCurves
 pub mod SameConvolution
 pub mod ElementStars
 pub mod PartStars

@@ -11,11 +11,11 @@ use Rattle.upp_curve.specs.Curve.{SpecCurve}
 use Rattle.curve_call.specs.Calls.{Applies, Then, goes_on, stops}
 use Rattle.closure_elements.specs.ElementAnswers.{IsElementClosure}
 use Rattle.closure_elements.specs.Lattices.{lattice_curve, origin_curve}
-use Rattle.closure_fold.specs.declared.part.Copies.{Copies}
-use Rattle.closure_fold.specs.declared.part.Part.{Part}
-use Rattle.closure_fold.specs.CurveParts.{copies_of, part_of}
-use Rattle.closure_fold.specs.Folds.{segment_number, SegmentWithin, SegmentCause}
-use Rattle.closure_fold.specs.Folds.{ElementAnswer, CopiedAnswer, LoweredAnswer, PartAnswer}
+use Rattle.subadd_closure.specs.declared.part.Copies.{Copies}
+use Rattle.subadd_closure.specs.declared.part.Part.{Part}
+use Rattle.subadd_closure.specs.CurveParts.{copies_of, part_of}
+use Rattle.subadd_closure.specs.Folds.{segment_number, SegmentWithin, SegmentCause}
+use Rattle.subadd_closure.specs.Folds.{ElementAnswer, CopiedAnswer, LoweredAnswer, PartAnswer}
 use Rattle.subadd_closure.specs.Stars.{OrWants, answers, wants, StarOf, MakesStar}
 use Rattle.subadd_closure.specs.PartStars.{turn_of}
 

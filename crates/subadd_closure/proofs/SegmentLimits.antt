@@ -27,7 +27,7 @@ use Rattle.curve_call.specs.declared.windows.CallWindow.{CallWindow}
 use Rattle.curve_call.specs.FirstWindows.{IsFirstWindow, IsWideAtFirst}
 use Rattle.closure_elements.specs.ElementCurves.{IsStretch}
 use Rattle.closure_elements.specs.MeetLaws.{StretchesMeet}
-use Rattle.closure_fold.specs.Folds.{segment_number, SegmentWithin, SegmentCause}
+use Rattle.subadd_closure.specs.Folds.{segment_number, SegmentWithin, SegmentCause}
 use Rattle.subadd_closure.specs.SegmentLimits.{IsOwnGauge, IsOverLimit, IsOverlap}
 
 -- the gauge of the call that looks at a curve alone is the curve's own

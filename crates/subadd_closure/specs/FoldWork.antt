@@ -2,9 +2,9 @@
 use Rattle.std.specs.Prelude.{ℕ, ◌+◌, ◌-◌, Option, Some, None, List, length}
 use Rattle.std.specs.List.{sum_by}
 use Rattle.upp_curve.specs.Curve.{SpecCurve}
-use Rattle.closure_fold.specs.declared.part.Copies.{Copies}
-use Rattle.closure_fold.specs.declared.part.Part.{Part}
-use Rattle.closure_fold.specs.CurveParts.{parts_of}
+use Rattle.subadd_closure.specs.declared.part.Copies.{Copies}
+use Rattle.subadd_closure.specs.declared.part.Part.{Part}
+use Rattle.subadd_closure.specs.CurveParts.{parts_of}
 
 -- the minimum with the point (0, 0), and of copies the convolution with their lattice
 abbrev pub copies_work : Option Copies → ℕ

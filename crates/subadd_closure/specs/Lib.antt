@@ -1,3 +1,9 @@
+pub mod CurveParts
+pub mod PartLaws
+pub mod Folds
+pub mod FoldLaws
+pub mod Starting
+pub mod StartsAt
 pub mod Tests
 pub mod Stars
 pub mod PartStars

@@ -11,9 +11,9 @@ use Rattle.upp_limits.specs.declared.op_kind.OpFault.TheVariants.{TooMany, TooWi
 use Rattle.upp_curve.specs.Curve.{SpecCurve}
 use Rattle.upp_limits.specs.Limits.{own_gauge}
 use Rattle.closure_elements.specs.ElementCurves.{IsStretch}
-use Rattle.closure_fold.specs.Folds.{segment_number, SegmentWithin}
-use Rattle.curve_conv.specs.PieceElements.{elements_of, Among}
-use Rattle.closure_fold.specs.CurveParts.{pieces_end}
+use Rattle.subadd_closure.specs.Folds.{segment_number, SegmentWithin}
+use Rattle.element_envelope.specs.PieceElements.{elements_of, Among}
+use Rattle.subadd_closure.specs.CurveParts.{pieces_end}
 
 -- e is a point or an open segment of f
 abbrev pub IsElementOf : SpecCurve → Element → Type 0

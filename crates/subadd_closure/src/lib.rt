@@ -1,17 +1,27 @@
-//! Subadditive curves, and the subadditive closure of a curve, made of the stars of its points and segments.
+//! Subadditive curves, and the subadditive closure of a curve: the fold of the closures of its points and segments, whose
+//! last step is a convolution with the value at 0 set to the curve's own.
 #![tactic(auto)]
 
+mod again;
 mod closing;
 #[cfg(test)]
 mod closing_tests;
+mod from_start;
+pub mod laws;
 mod overlaps;
+mod part;
 mod part_stars;
+mod parts;
 #[cfg(test)]
 mod segment_tests;
 mod stars;
+#[cfg(test)]
+mod start_tests;
+mod starting;
 mod subadditive;
 #[cfg(test)]
 mod tests;
 
 pub use closing::close;
+pub use from_start::convolve_from;
 pub use subadditive::is_subadditive;

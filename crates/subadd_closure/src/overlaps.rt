@@ -6,7 +6,7 @@ ghost use Rattle.rational.specs.Rational.{◌-ℚ◌, ◌/ℚ◌, ◌<ℚ◌};
 ghost use Rattle.rational.specs.Whole.{whole_part};
 ghost use Rattle.affine_segment.specs.declared.element.Element.TheVariants.{Open};
 ghost use Rattle.min_plus.specs.Functions.{zero_q};
-ghost use Rattle.closure_fold.specs.Folds.{segment_number, SegmentCause};
+ghost use Rattle.subadd_closure.specs.Folds.{segment_number, SegmentCause};
 ghost use Rattle.subadd_closure.specs.SegmentLimits.{IsElementOf, IsOwnGauge, LengthsFit, IsOverLimit, IsOverlap};
 
 use affine_segment::Line;

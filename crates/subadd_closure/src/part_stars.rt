@@ -3,16 +3,16 @@
 ghost use Rattle.std.specs.Prelude.{◌≡◌, ◌+◌, ◌≤◌, IfOk};
 ghost use Rattle.upp_curve.specs.Curve.{value_at};
 ghost use Rattle.min_plus.specs.Functions.{IsFinite, IsNonnegative};
-ghost use Rattle.closure_fold.specs.CurveParts.{part_of};
-ghost use Rattle.closure_fold.specs.Folds.{PartAnswer};
+ghost use Rattle.subadd_closure.specs.CurveParts.{part_of};
+ghost use Rattle.subadd_closure.specs.Folds.{PartAnswer};
 ghost use Rattle.subadd_closure.specs.FoldWork.{part_work};
 ghost use Rattle.subadd_closure.specs.PartStars.{turn_of};
 ghost use Rattle.subadd_closure.specs.SegmentLimits.{IsElementOf, IsOwnGauge};
 
 use crate::overlaps::overlap;
+use crate::part::part_of;
 use crate::stars::{point_star, segment_star};
 use affine_segment::Element;
-use closure_fold::part_of;
 use fraction128::Frac;
 use std::alloc::Global;
 use std::sync::ledger::Ledger;

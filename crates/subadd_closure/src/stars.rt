@@ -13,8 +13,8 @@ ghost use Rattle.subadd_closure.specs.Stars.{Copies, IsTurn, Lowers, MakesStar, 
 use affine_segment::Line;
 use closure_elements::{lattice, origin, point_closure, segment_closure};
 use curve_call::seen;
-use curve_convolution::convolve;
-use curve_lattice::min;
+use curve_conv::convolve;
+use curve_pointwise::min;
 use fraction128::{Ext, Frac};
 use std::alloc::Global;
 use std::sync::ledger::Ledger;

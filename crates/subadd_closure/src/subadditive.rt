@@ -6,8 +6,8 @@ ghost use Rattle.min_plus.specs.Convolution.{IsSubadditive};
 ghost use Rattle.subadd_closure.specs.Tests.{TestsSubadditive};
 
 use curve_call::seen;
-use curve_convolution::convolve;
-use curve_lattice::min;
+use curve_conv::convolve;
+use curve_pointwise::min;
 use std::alloc::Global;
 use std::sync::ledger::Ledger;
 use steps::Steps;

@@ -1,6 +1,6 @@
 use Rattle.std.proofs.Common.{◌∙◌, ap, map}
 use Rattle.rational.specs.declared.Extended.TheVariants.{Fin}
-use Rattle.curve_conv.specs.PieceElements.{elements_of}
+use Rattle.element_envelope.specs.PieceElements.{elements_of}
 use Rattle.curve_deconv.specs.Mirrored.{neg_element, mirror}
 use Rattle.curve_deconv.proofs.Pairs.{ArePaired, mirrors_fit, pairs_room, ok_pairs}
 use Rattle.curve_deconv.proofs.window.pairs_window.Goals as goal

@@ -1,4 +1,4 @@
-use Rattle.curve_envelope.proofs.NotBelow.{minus_not_below}
+use Rattle.curve_pointwise.proofs.NotBelow.{minus_not_below}
 use Rattle.curve_envelope.proofs.operator_tests.running.Goals as goal
 
 pub pos_minus-requires : goal.pos_minus-requires

@@ -1,8 +1,8 @@
 use Rattle.std.specs.Prelude.{Ok}
 use Rattle.std.proofs.Common.{◌+◌, map, take, drop, sym, ap, subst, arith}
 use Rattle.std.proofs.lemmas.Result.{err_from_is_err_and}
-use Rattle.closure_fold.specs.CurveParts.{part_of}
-use Rattle.closure_fold.specs.Folds.{PartsAnswer}
+use Rattle.subadd_closure.specs.CurveParts.{part_of}
+use Rattle.subadd_closure.specs.Folds.{PartsAnswer}
 use Rattle.subadd_closure.specs.FoldWork.{parts_work}
 use Rattle.subadd_closure.specs.SegmentLimits.{IsElementOf}
 use Rattle.subadd_closure.proofs.FoldSteps.{first_part, first_stops, next_part, next_stops}

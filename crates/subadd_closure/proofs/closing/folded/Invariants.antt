@@ -1,7 +1,7 @@
 use Rattle.std.proofs.Common.{◌≡◌, ◌+◌, map, take}
 use Rattle.std.specs.Prelude.{Ok}
-use Rattle.closure_fold.specs.CurveParts.{part_of}
-use Rattle.closure_fold.specs.Folds.{PartsAnswer}
+use Rattle.subadd_closure.specs.CurveParts.{part_of}
+use Rattle.subadd_closure.specs.Folds.{PartsAnswer}
 use Rattle.subadd_closure.specs.FoldWork.{parts_work}
 use Rattle.subadd_closure.proofs.closing.folded.Given as goal
 

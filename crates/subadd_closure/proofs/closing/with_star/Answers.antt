@@ -3,7 +3,7 @@ use Rattle.std.proofs.lemmas.Result.{err_from_is_err_and}
 use Rattle.upp_limits.specs.declared.op_kind.OpKind.TheVariants.{Convolve}
 use Rattle.curve_call.specs.Calls.{goes_on, stops}
 use Rattle.curve_call.proofs.Applied.{applied_seen}
-use Rattle.closure_fold.specs.CurveParts.{part_of}
+use Rattle.subadd_closure.specs.CurveParts.{part_of}
 use Rattle.subadd_closure.specs.FoldWork.{part_work}
 use Rattle.subadd_closure.proofs.FoldSteps.{always}
 use Rattle.subadd_closure.proofs.closing.with_star.Goals as goal

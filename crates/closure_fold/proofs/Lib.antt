@@ -1,9 +1,0 @@
-pub mod ElementTimes
-pub mod LeastParts
-pub mod EachParts
-pub mod StarFolding
-pub mod FoldStars
-pub mod OneFold
-pub mod PartCopies
-pub mod Starts
-pub mod StartCurves

@@ -1,0 +1,297 @@
+-- What elements make, as it goes on from a time, is there: found by proof alone, where no code runs.
+use Rattle.std.specs.Prelude.{◌≡◌, ◌⊎◌, pos, List, [], ◌∷◌, Option, Some, None}
+use Rattle.std.proofs.Common.{arith, sym, ap, ◌∙◌, refl, subst, inl, inr}
+use Rattle.rational.specs.Rational.{ℚ, ◌+ℚ◌, ◌-ℚ◌, ◌*ℚ◌, ◌/ℚ◌, ◌≤ℚ◌, ◌<ℚ◌, int}
+use Rattle.rational.specs.Extended.{Ext, ◌<ₑ◌, ◌+ₑ◌, min_ext}
+use Rattle.rational.specs.declared.Extended.TheVariants.{Fin, Inf}
+use Rattle.rational.proofs.Laws.{lt_cases, le_or_lt, lt_irrefl, le_lt_trans}
+use Rattle.affine_segment.specs.declared.line.Line.{Line}
+use Rattle.affine_segment.specs.declared.element.Element.{Element}
+use Rattle.affine_segment.specs.declared.element.Element.TheVariants.{Point, Open}
+use Rattle.affine_segment.specs.declared.element.Joined.{Joined}
+use Rattle.affine_segment.specs.Elements.{IsProper, element_value, part_value, joined_value, IsConvolved}
+use Rattle.affine_segment.specs.MadeParts.{alone_part, AreParts, BentParts}
+use Rattle.affine_segment.specs.Segments.{IsThrough}
+use Rattle.affine_segment.specs.Values.{line_at}
+use Rattle.affine_segment.proofs.Through.{through}
+use Rattle.affine_segment.proofs.Meeting.{lines_meet}
+use Rattle.affine_segment.proofs.Convolved.{points_convolved, moved_convolved, straight_convolved, endless_convolved, bent_convolved, turned_convolved}
+use Rattle.upp_normal.specs.declared.ahead.Stretch.{Stretch}
+use Rattle.upp_limits.specs.Limits.{Sizes}
+use Rattle.upp_normal.specs.Ahead.{GoesOn, IsBeforeNext}
+use Rattle.element_envelope.specs.PieceElements.{Among}
+use Rattle.element_envelope.specs.ElementRoom.{OperandElement, SumElement, SumPart, SumJoined}
+use Rattle.element_envelope.specs.Envelopes.{ListSplit, list_sum}
+use Rattle.element_envelope.proofs.ElementSizes.{parts_stand}
+use Rattle.element_envelope.proofs.Envelopes.{envelope_rules}
+use Rattle.element_envelope.specs.declared.lower.Under.{Under}
+use Rattle.curve_conv.specs.Stretches.{SumStretch, SumTimeIn, IsUnder, IsEarliest, IsAhead, end_time, IsProperPart}
+use Rattle.curve_conv.proofs.Lowers.{meeting_before, meeting_after, parallel_first, parallel_second, under_turned, under_none, under_left, earliest_first, earliest_second, lower_goes, lower_next, lower_stands}
+use Rattle.curve_conv.proofs.ElementStretches.{point_before, point_here, point_after, point_stands, open_before, open_here, open_within, open_after, here_stands, within_stands}
+use Rattle.curve_conv.proofs.PairStretches.{first_proper, join_proper, second_proper, none_stands}
+
+-- ---- what two elements make
+line_from : ℚ → ℚ → ℚ → Line
+line_from r x v = record { icept = v -ℚ r *ℚ x; slope = r }
+
+through_from : (r x v : ℚ) → IsThrough r x v (line_from r x v)
+unfolding line_from
+through_from r x v = through r x v (r *ℚ x) (v -ℚ r *ℚ x) refl refl
+
+record Made (a b : Element) : Type 0 where
+  joined : Joined
+  convolved : IsConvolved a b joined
+  parts : AreParts a b joined
+
+record Bent (f : ℚ) (to : Ext) (l : Line) (g : ℚ) (end : Ext) (m : Line) : Type 0 where
+  joined : Joined
+  convolved : IsConvolved (Open f to l) (Open g end m) joined
+  parts : BentParts record { from = f; to = to; line = l } to record { from = g; to = end; line = m } joined
+
+bent : (f : ℚ) (to : Ext) (l : Line) (g : ℚ) (end : Ext) (m : Line) → Fin f <ₑ to → Fin g <ₑ end → l.slope <ℚ m.slope → Bent f to l g end m
+bent f Inf l g end m p q h =
+    let n = line_from l.slope (f +ℚ g) (line_at l f +ℚ line_at m g) in
+    let th = through_from l.slope (f +ℚ g) (line_at l f +ℚ line_at m g) in
+    record {
+      joined = alone_part (Open (f +ℚ g) Inf n);
+      convolved = endless_convolved f l g end m n (f +ℚ g) q h refl th;
+      parts = record { line = n; through = th; parts = refl };
+    }
+bent f (Fin e) l g end m p q h =
+    let n = line_from l.slope (f +ℚ g) (line_at l f +ℚ line_at m g) in
+    let k = line_from m.slope (e +ℚ g) (line_at l e +ℚ line_at m g) in
+    let th = through_from l.slope (f +ℚ g) (line_at l f +ℚ line_at m g) in
+    let next = through_from m.slope (e +ℚ g) (line_at l e +ℚ line_at m g) in
+    record {
+      joined = record {
+        first = Open (f +ℚ g) (Fin (e +ℚ g)) n;
+        join = Some (Point (e +ℚ g) (line_at l e +ℚ line_at m g));
+        second = Some (Open (e +ℚ g) (Fin e +ₑ end) k);
+      };
+      convolved = bent_convolved f e l g end m n k (f +ℚ g) (e +ℚ g) (line_at l e +ℚ line_at m g) (Fin e +ₑ end) p q h refl refl refl refl th next;
+      parts = record { line = n; next = k; through = th; turned = next; parts = refl };
+    }
+
+made_of : (a b : Element) → IsProper a → IsProper b → Made a b
+made_of (Point x v) (Point y u) p q = record {
+  joined = alone_part (Point (x +ℚ y) (v +ℚ u));
+  convolved = points_convolved x v y u (x +ℚ y) (v +ℚ u) refl refl;
+  parts = refl;
+}
+made_of (Point x v) (Open from to l) p q =
+    let n = line_from l.slope (x +ℚ from) (v +ℚ line_at l from) in
+    let th = through_from l.slope (x +ℚ from) (v +ℚ line_at l from) in
+    record {
+      joined = alone_part (Open (x +ℚ from) (Fin x +ₑ to) n);
+      convolved = moved_convolved x v from to l (x +ℚ from) (line_at l from) (v +ℚ line_at l from) (Fin x +ₑ to) n q refl refl refl refl th;
+      parts = record { moved = n; through = th; parts = refl };
+    }
+made_of (Open from to l) (Point x v) p q =
+    let n = line_from l.slope (x +ℚ from) (v +ℚ line_at l from) in
+    let th = through_from l.slope (x +ℚ from) (v +ℚ line_at l from) in
+    record {
+      joined = alone_part (Open (x +ℚ from) (Fin x +ₑ to) n);
+      convolved = turned_convolved (Point x v) (Open from to l) (alone_part (Open (x +ℚ from) (Fin x +ₑ to) n))
+          (moved_convolved x v from to l (x +ℚ from) (line_at l from) (v +ℚ line_at l from) (Fin x +ₑ to) n p refl refl refl refl th);
+      parts = record { moved = n; through = th; parts = refl };
+    }
+made_of (Open f to l) (Open g end m) p q = elim (lt_cases l.slope m.slope) [
+  | inl h ↦ let B = bent f to l g end m p q h in record { joined = B.joined; convolved = B.convolved; parts = inl (h, B.parts) }
+  | inr (inl e) ↦
+      let n = line_from l.slope (f +ℚ g) (line_at l f +ℚ line_at m g) in
+      let th = through_from l.slope (f +ℚ g) (line_at l f +ℚ line_at m g) in
+      record {
+        joined = alone_part (Open (f +ℚ g) (to +ₑ end) n);
+        convolved = straight_convolved f to l g end m n (f +ℚ g) (to +ₑ end) p q e refl refl th;
+        parts = inr (inr (e, record { line = n; through = th; parts = refl }));
+      }
+  | inr (inr h) ↦
+      let B = bent g end m f to l q p h in
+      record { joined = B.joined; convolved = turned_convolved (Open g end m) (Open f to l) B.joined B.convolved; parts = inr (inl (h, B.parts)) }
+]
+
+-- ---- the lower of two
+not_same : (x y : ℚ) → x <ℚ y → x ≡ y → ⊥
+not_same x y h e = lt_irrefl y (subst (λ z. z <ℚ y) e h)
+
+abbrev IsUnderOf : Option Line → Option Line → ℚ → Type 0
+IsUnderOf l m t = (w : Under) × IsUnder l m t w
+
+meet : Line → Line → ℚ
+meet a b = (b.icept -ℚ a.icept) /ℚ (a.slope -ℚ b.slope)
+
+under_crossing : (steep shallow : Line) (t : ℚ) → shallow.slope <ℚ steep.slope → IsUnderOf (Some steep) (Some shallow) t
+unfolding meet
+under_crossing steep shallow t h =
+    let x = meet steep shallow in
+    let e : line_at steep x ≡ line_at shallow x =
+    lines_meet steep shallow (shallow.icept -ℚ steep.icept) (steep.slope -ℚ shallow.slope) x (λ k. not_same shallow.slope steep.slope h (sym k)) refl refl refl in
+    elim (le_or_lt x t) [
+      | inl k ↦ (record { line = Some shallow; turn = None }, meeting_after steep shallow x t h e (λ l. lt_irrefl x (le_lt_trans k l)))
+      | inr k ↦ (record { line = Some steep; turn = Some x }, meeting_before steep shallow x t h e k)
+    ]
+
+under_of : (l m : Option Line) (t : ℚ) → IsUnderOf l m t
+under_of None m t = (record { line = m; turn = None }, under_none m t)
+under_of (Some l) None t = (record { line = Some l; turn = None }, under_left (Some l) t)
+under_of (Some l) (Some m) t = elim (lt_cases l.slope m.slope) [
+  | inl h ↦ let (w, U) = under_crossing m l t h in (w, under_turned (Some m) (Some l) t w U)
+  | inr (inl e) ↦ elim (le_or_lt l.icept m.icept) [
+    | inl k ↦ (record { line = Some l; turn = None }, parallel_first l m t e (λ n. lt_irrefl l.icept (le_lt_trans k n)))
+    | inr k ↦ (record { line = Some m; turn = None }, parallel_second l m t e k)
+  ]
+  | inr (inr h) ↦ under_crossing l m t h
+]
+
+earliest_of : (a b : Option ℚ) → (e : Option ℚ) × IsEarliest a b e
+earliest_of None b = (b, record { both = λ u h. (tt, h); one = inr refl })
+earliest_of (Some x) None = (Some x, record { both = λ u h. (h, tt); one = inl refl })
+earliest_of (Some x) (Some y) = elim (le_or_lt x y) [
+  | inl h ↦ (Some x, earliest_first x y (λ k. lt_irrefl x (le_lt_trans h k)))
+  | inr h ↦ (Some y, earliest_second x y h)
+]
+
+record Lowered (z : Sizes) (t : ℚ) (s r : Stretch) : Type 0 where
+  stretch : Stretch
+  goes : (f g : ℚ → Ext) → GoesOn f t s → GoesOn g t r → GoesOn (λ u. min_ext (f u) (g u)) t stretch
+  next : (u : ℚ) → IsBeforeNext u stretch.next → IsBeforeNext u s.next × IsBeforeNext u r.next
+  stands : SumStretch z t stretch
+
+lowered : (z : Sizes) (end t : ℚ) (s r : Stretch) → SumTimeIn z end t → SumStretch z t s → SumStretch z t r → Lowered z t s r
+lowered z end t s r T S R =
+    let (w, U) = under_of s.line r.line t in
+    let (e, E) = earliest_of s.next r.next in
+    let (n, N) = earliest_of e w.turn in
+    let both : Stretch = record { at = min_ext s.at r.at; line = w.line; next = n } in
+    record {
+      stretch = both;
+      goes = λ f g F G. lower_goes f g t s r both w e F G U E refl refl N;
+      next = λ u h. lower_next u s.next r.next w.turn e n E N h;
+      stands = lower_stands z end t s r both w e T S R U E refl refl N;
+    }
+
+-- ---- one element
+record Going (z : Sizes) (f : ℚ → Ext) (t : ℚ) : Type 0 where
+  stretch : Stretch
+  goes : GoesOn f t stretch
+  stands : SumStretch z t stretch
+
+before_end : (t : ℚ) (to : Ext) → (Fin t <ₑ to) ⊎ ¬ (Fin t <ₑ to)
+before_end t Inf = inl tt
+before_end t (Fin e) = elim (le_or_lt e t) [ inl h ↦ inr (λ k. lt_irrefl e (le_lt_trans h k)) | inr h ↦ inl h ]
+
+element_goes : (z : Sizes) (end t : ℚ) (e : Element) → SumTimeIn z end t → SumElement z end e → IsProper e → Going z (element_value e) t
+element_goes z end t (Point x v) T S p = elim (lt_cases t x) [
+  | inl h ↦ record { stretch = record { at = Inf; line = None; next = Some x }; goes = point_before x v t h; stands = record { at = tt; line = tt; next = inl S.time.whole } }
+  | inr (inl e) ↦ record { stretch = record { at = Fin v; line = None; next = None }; goes = point_here x v t e; stands = point_stands z end x v t e S }
+  | inr (inr h) ↦ record { stretch = record { at = Inf; line = None; next = None }; goes = point_after x v t h; stands = none_stands z t }
+]
+element_goes z end t (Open from to l) T S p = elim (lt_cases t from) [
+  | inl h ↦ record { stretch = record { at = Inf; line = None; next = Some from }; goes = open_before from to l t h; stands = record { at = tt; line = tt; next = inl S.start.whole } }
+  | inr (inl e) ↦ record { stretch = record { at = Inf; line = Some l; next = end_time to }; goes = open_here from to l t p e; stands = here_stands z end from t to l S }
+  | inr (inr h) ↦ elim (before_end t to) [
+    | inl k ↦
+        record {
+          stretch = record { at = Fin (line_at l t); line = Some l; next = end_time to };
+          goes = open_within from to l t (line_at l t) h k refl;
+          stands = within_stands z end from t (line_at l t) to l T refl S;
+        }
+    | inr k ↦ record { stretch = record { at = Inf; line = None; next = None }; goes = open_after from to l t k; stands = none_stands z t }
+  ]
+]
+
+part_goes : (z : Sizes) (end t : ℚ) (o : Option Element) → SumTimeIn z end t → SumPart z end o → IsProperPart o → Going z (part_value o) t
+part_goes z end t None T S p = record {
+  stretch = record { at = Inf; line = None; next = None };
+  goes = record { at = refl; line = λ u past before. refl; next = tt };
+  stands = none_stands z t;
+}
+part_goes z end t (Some e) T S p = element_goes z end t e T S p
+
+-- ---- two elements
+joined_goes : (z : Sizes) (end t : ℚ) (a b : Element) → SumTimeIn z end t → OperandElement z end a → OperandElement z end b → (M : Made a b) → Going z (joined_value M.joined) t
+joined_goes z end t a b T A B M =
+    let j = M.joined in
+    let S = parts_stand z end a b j T.limited A B M.parts in
+    let F = element_goes z end t j.first T S.first (first_proper j.first j.join j.second M.convolved.adjoined) in
+    let J = part_goes z end t j.join T S.join (join_proper j.first j.join j.second M.convolved.adjoined) in
+    let N = part_goes z end t j.second T S.second (second_proper j.first j.join j.second M.convolved.adjoined) in
+    let R = lowered z end t J.stretch N.stretch T J.stands N.stands in
+    let W = lowered z end t F.stretch R.stretch T F.stands R.stands in
+    record {
+      stretch = W.stretch;
+      goes = W.goes (element_value j.first) (λ u. min_ext (part_value j.join u) (part_value j.second u)) F.goes (R.goes (part_value j.join) (part_value j.second) J.goes N.goes);
+      stands = W.stands;
+    }
+
+-- ---- all pairs
+-- what the pairs of two lists make, as it goes on from t
+pub record ListGoing (z : Sizes) (end t : ℚ) (xs ys : List Element) : Type 0 where
+  pub stretch : Stretch
+  pub ahead : IsAhead (ListSplit xs ys) (list_sum xs ys) end t stretch
+  pub stands : SumStretch z t stretch
+
+-- elements of an operand
+pub record AreOperand (z : Sizes) (end : ℚ) (es : List Element) : Type 0 where
+  pub proper : (e : Element) → Among e es → IsProper e
+  pub stands : (e : Element) → Among e es → OperandElement z end e
+
+rest_of : (z : Sizes) (end : ℚ) (e : Element) (es : List Element) → AreOperand z end (e ∷ es) → AreOperand z end es
+rest_of z end e es A = record { proper = λ d h. A.proper d (inr h); stands = λ d h. A.stands d (inr h) }
+
+nothing : Stretch
+nothing = record { at = Inf; line = None; next = None }
+
+row_goes : (z : Sizes) (end t : ℚ) (a : Element) (ys : List Element) → SumTimeIn z end t → IsProper a → OperandElement z end a → AreOperand z end ys → ListGoing z end t (a ∷ []) ys
+unfolding nothing
+row_goes z end t a [] T p A Y = record {
+  stretch = nothing;
+  ahead = record {
+    value = λ u. Inf;
+    is = λ u late early before. (envelope_rules.none (a ∷ []) u).1;
+    goes = record { at = refl; line = λ u past before. refl; next = tt };
+  };
+  stands = none_stands z t;
+}
+row_goes z end t a (b ∷ bs) T p A Y =
+    let M = made_of a b p (Y.proper b (inl refl)) in
+    let P = joined_goes z end t a b T A (Y.stands b (inl refl)) M in
+    let R = row_goes z end t a bs T p A (rest_of z end b bs Y) in
+    let W = lowered z end t P.stretch R.stretch T P.stands R.stands in
+    record {
+      stretch = W.stretch;
+      ahead = record {
+        value = λ u. min_ext (joined_value M.joined u) (R.ahead.value u);
+        is = λ u late early before.
+            envelope_rules.right (a ∷ []) (b ∷ []) bs u (joined_value M.joined u) (R.ahead.value u) (envelope_rules.pair a b M.joined u M.convolved) (R.ahead.is u late early (W.next u before).1);
+        goes = W.goes (joined_value M.joined) R.ahead.value P.goes R.ahead.goes;
+      };
+      stands = W.stands;
+    }
+
+pub lists_go : (z : Sizes) (end t : ℚ) (xs ys : List Element) → SumTimeIn z end t → AreOperand z end xs → AreOperand z end ys → ListGoing z end t xs ys
+unfolding nothing
+lists_go z end t [] ys T X Y = record {
+  stretch = nothing;
+  ahead = record {
+    value = λ u. Inf;
+    is = λ u late early before. (envelope_rules.none ys u).0;
+    goes = record { at = refl; line = λ u past before. refl; next = tt };
+  };
+  stands = none_stands z t;
+}
+lists_go z end t (x ∷ xs) ys T X Y =
+    let P = row_goes z end t x ys T (X.proper x (inl refl)) (X.stands x (inl refl)) Y in
+    let R = lists_go z end t xs ys T (rest_of z end x xs X) Y in
+    let W = lowered z end t P.stretch R.stretch T P.stands R.stands in
+    record {
+      stretch = W.stretch;
+      ahead = record {
+        value = λ u. min_ext (P.ahead.value u) (R.ahead.value u);
+        is = λ u late early before.
+            let n = W.next u before in
+            envelope_rules.left (x ∷ []) xs ys u (P.ahead.value u) (R.ahead.value u) (P.ahead.is u late early n.0) (R.ahead.is u late early n.1);
+        goes = W.goes P.ahead.value R.ahead.value P.ahead.goes R.ahead.goes;
+      };
+      stands = W.stands;
+    }

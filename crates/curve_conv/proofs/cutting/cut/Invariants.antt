@@ -1,6 +1,0 @@
-use Rattle.std.proofs.Common.{◌≡◌, ◌++◌, drop}
-use Rattle.curve_conv.specs.PieceElements.{elements_of}
-use Rattle.curve_conv.proofs.cutting.cut.Given as goal
-
-abbrev pub invariant-loop-i : goal.invariant-loop-i
-invariant-loop-i l = l.elements.items ++ elements_of (drop l.i l.pieces) l.end ≡ elements_of l.pieces l.end

@@ -1,5 +1,0 @@
-use Rattle.std.proofs.Common.{◌+◌, length}
-use Rattle.curve_conv.proofs.least.+envelope.Given as goal
-
-abbrev pub decreases-envelope : goal.decreases-envelope
-decreases-envelope l = length l.xs.now + length l.ys.now

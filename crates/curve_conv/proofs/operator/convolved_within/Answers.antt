@@ -1,0 +1,32 @@
+use Rattle.std.proofs.Common.{◌∙◌}
+use Rattle.std.specs.Prelude.{◌+◌}
+use Rattle.upp_normal.proofs.NormaliseForm.{ok_map}
+use Rattle.curve_pointwise.proofs.LatticeCalls.{left_rise, right_rise, from_fits}
+use Rattle.curve_conv.proofs.ConvolveAnswers.{windows, convolved_answer, convolved_values}
+use Rattle.curve_conv.proofs.operator.convolved_within.Goals as goal
+
+pub window_convolution-requires : goal.window_convolution-requires
+window_convolution-requires c =
+    windows c.args.f.now c.args.g.now c.args.frame.now c.deref.result.now c.deref-2.result.now c.requires (c.deref.ensures.value ∙ c.in_ok-left.ensures) (c.deref-2.ensures.value ∙ c.in_ok-right.ensures)
+
+pub slower_rise-rise-requires-clause-first : goal.slower_rise-rise-requires-clause-first
+slower_rise-rise-requires-clause-first c = let r = c.args.frame.now in let F = c.requires in (left_rise c.args.f.now c.args.g.now r.start r.period r.end (F.number + 1) F.sizes F.call).fits
+
+pub slower_rise-rise-requires-clause-second : goal.slower_rise-rise-requires-clause-second
+slower_rise-rise-requires-clause-second c = let r = c.args.frame.now in let F = c.requires in (right_rise c.args.f.now c.args.g.now r.start r.period r.end (F.number + 1) F.sizes F.call).fits
+
+pub difference-from-requires : goal.difference-from-requires
+difference-from-requires c = let r = c.args.frame.now in let F = c.requires in from_fits c.args.f.now c.args.g.now r.start r.period r.end (F.number + 1) F.sizes F.call
+
+pub answer-requires : goal.answer-requires
+answer-requires c =
+    convolved_answer c.args.f.now c.args.g.now c.args.frame.now c.deref.result.now c.deref-2.result.now c.in_ok-pieces.pieces.items c.difference-from.result c.slower_rise-rise.result c.requires
+    (c.deref.ensures.value ∙ c.in_ok-left.ensures) (c.deref-2.ensures.value ∙ c.in_ok-right.ensures) c.in_ok-pieces.ensures c.difference-from.ensures c.slower_rise-rise.ensures
+
+pub returns : goal.returns
+returns c =
+    ok_map c.answer.result _ _
+    (λ a h.
+    convolved_values c.args.f.now c.args.g.now c.args.frame.now c.deref.result.now c.deref-2.result.now c.in_ok-pieces.pieces.items c.difference-from.result c.slower_rise-rise.result a c.requires
+    (c.deref.ensures.value ∙ c.in_ok-left.ensures) (c.deref-2.ensures.value ∙ c.in_ok-right.ensures) c.in_ok-pieces.ensures c.difference-from.ensures c.slower_rise-rise.ensures h)
+    c.answer.ensures

@@ -1,3 +1,0 @@
-pub mod ConvolveCalls
-pub mod ConvolveAnswers
-pub mod Tallies

@@ -1,4 +1,0 @@
-pub mod LatticeCalls
-pub mod LatticeLimits
-pub mod LatticeAnswers
-pub mod LatticeLevels

@@ -1,0 +1,20 @@
+//! Operators on curves whose answer at a time is made of the operands' values at one time: sum, minimum, maximum, positive
+//! difference of two, also with a level, multiple and shift.
+#![tactic(auto)]
+
+mod extremes;
+mod lattice;
+#[cfg(test)]
+mod lattice_tests;
+mod levels;
+mod scaling;
+mod shifts;
+mod sums;
+#[cfg(test)]
+mod tests;
+
+pub use extremes::{max, min, pos_diff};
+pub use levels::pos_minus;
+pub use scaling::scale;
+pub use shifts::{infinite_curve, left_window, shift};
+pub use sums::sum;

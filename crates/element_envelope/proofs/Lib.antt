@@ -1,0 +1,15 @@
+pub mod Members
+pub mod Cover
+pub mod Envelopes
+pub mod Windows
+pub mod ElementSizes
+pub mod OperandElements
+pub mod JoinedReads
+pub mod SumSteps
+pub mod SumLower
+pub mod Arching
+pub mod PairWindows
+pub mod EnvelopeHalves
+pub mod WindowConvolution
+pub mod ArchBends
+pub mod SumRoom

@@ -1,0 +1,33 @@
+-- The least of all pairs of two lists of elements of operands, as pieces. Own choice.
+use Rattle.std.specs.Prelude.{pos, List}
+use Rattle.rational.specs.Rational.{ℚ, ◌≤ℚ◌, ◌<ℚ◌, int}
+use Rattle.affine_segment.specs.declared.line.Piece.{Piece}
+use Rattle.affine_segment.specs.declared.element.Element.{Element}
+use Rattle.affine_segment.specs.Elements.{IsProper}
+use Rattle.upp_limits.specs.Limits.{Sizes}
+use Rattle.affine_segment.specs.Pieces.{StartsAtZero}
+use Rattle.upp_normal.specs.Operand.{AreLimited}
+use Rattle.affine_segment.specs.Reading.{read}
+use Rattle.element_envelope.specs.PieceElements.{Among}
+use Rattle.element_envelope.specs.ElementRoom.{OperandElement}
+use Rattle.element_envelope.specs.Envelopes.{IsEnvelope}
+use Rattle.element_envelope.specs.SumWindows.{SumWindow}
+use Rattle.element_envelope.specs.Arches.{Arches}
+
+-- segments start before their ends, and all elements stand within one call's sizes, for a window that ends after 0
+pub record EnvelopeRoom (end : ℚ) (xs ys : List Element) : Type 0 where
+  pub sizes : Sizes
+  pub limited : AreLimited sizes end
+  pub some : int (pos 0) <ℚ end
+  pub left_proper : (e : Element) → Among e xs → IsProper e
+  pub right_proper : (e : Element) → Among e ys → IsProper e
+  pub left : (e : Element) → Among e xs → OperandElement sizes end e
+  pub right : (e : Element) → Among e ys → OperandElement sizes end e
+
+-- pieces from 0 on that read, before the end, as the least of all pairs; they stand where what elements make stands, and bend only
+-- downwards between the times of the grid
+pub record IsEnvelopeWindow (end : ℚ) (xs ys : List Element) (ps : List Piece) : Type 0 where
+  pub starts : StartsAtZero ps
+  pub reads : (t : ℚ) → int (pos 0) ≤ℚ t → t <ℚ end → IsEnvelope xs ys t (read ps t)
+  pub stands : (r : EnvelopeRoom end xs ys) → SumWindow r.sizes end ps
+  pub arches : (r : EnvelopeRoom end xs ys) → Arches r.sizes.dt end (read ps)

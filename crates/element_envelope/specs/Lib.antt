@@ -1,0 +1,11 @@
+pub mod PieceElements
+pub mod Envelopes
+pub mod ConvolutionLaws
+pub mod ElementRoom
+pub mod RoomLaws
+pub mod JoinedWindows
+pub mod SumWindows
+pub mod WindowLaws
+pub mod Arches
+pub mod EnvelopeWindows
+pub mod ConvolutionWindows

@@ -1,0 +1,38 @@
+//! What makes a convolution of curves out of those of elements: theorems, by their contracts.
+
+ghost use Rattle.element_envelope.specs.ConvolutionLaws.{PiecesAreCovered, EnvelopeRules};
+ghost use Rattle.element_envelope.specs.ConvolutionLaws.{PairsConvolveWindows, PairsConvolveCurves};
+ghost use Rattle.element_envelope.specs.WindowLaws.{SumCutsFit, SumLowerFits, SumLowerIsOne};
+ghost use Rattle.element_envelope.specs.RoomLaws.{ElementsStand, JoinedStand};
+
+/// The elements of pieces: each reads as the pieces at its times, and a time with a finite value is a time of exactly
+/// one of them.
+pub fn pieces_are_covered()
+    ensures { PiecesAreCovered }
+{}
+
+/// How the least of the pairs of two lists comes from those of parts of the lists, and of one pair.
+pub fn envelopes_join()
+    ensures { EnvelopeRules }
+{}
+
+/// Before the end of two windows, the least of all pairs of their elements is their convolution; and so for curves,
+/// with the pieces that start before that end.
+pub fn pairs_convolve()
+    ensures windows { PairsConvolveWindows }
+    ensures curves { PairsConvolveCurves }
+{}
+
+/// The elements of an operand's pieces stand on the grids of its call and within its sizes, and so does what two of them
+/// make.
+pub fn elements_have_room()
+    ensures elements { ElementsStand }
+    ensures joined { JoinedStand }
+{}
+
+/// Of two windows of what elements make no step of the cuts or of the lower is too wide, and the lower is one again.
+pub fn sum_windows_have_a_lower()
+    ensures cuts { SumCutsFit }
+    ensures steps { SumLowerFits }
+    ensures lower { SumLowerIsOne }
+{}

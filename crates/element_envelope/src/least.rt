@@ -1,0 +1,93 @@
+//! The least of what all pairs of two lists of elements make.
+
+ghost use Rattle.std.specs.Prelude.{◌≡◌, pos, [], ◌∷◌, length, IfOk};
+ghost use Rattle.rational.specs.Rational.{int};
+ghost use Rattle.upp_curve.specs.Unrolled.{upto};
+ghost use Rattle.element_envelope.specs.JoinedWindows.{nothing_at};
+ghost use Rattle.element_envelope.specs.EnvelopeWindows.{EnvelopeRoom, IsEnvelopeWindow};
+
+use crate::pair::joined;
+use crate::window::joined_window;
+use affine_segment::{Element, Piece};
+use curve_window::window_lower;
+use fraction128::Frac;
+use rational::Extended;
+use std::alloc::{AllocError, Global};
+use std::cmp::Ordering;
+
+// The window that is infinite throughout.
+fn nothing(alloc: Global) -> Result<Vec<Piece>, AllocError>
+    ensures { IfOk result (λ v. v.items ≡ nothing_at (int (pos 0)) ∷ []) }
+{
+    let mut pieces = Vec::new(alloc);
+    pieces.push(Piece {
+        x: Frac::zero(),
+        at: Extended::Inf,
+        line: None,
+    })?;
+    Ok(pieces)
+}
+
+// How many of the pieces start before t, of pieces whose starts rise.
+fn count_before(pieces: &[Piece], t: Frac) -> usize
+    ensures { result ≡ length (upto t pieces.now) }
+{
+    for (i, p) in pieces.iter().enumerate() {
+        match p.x.cmp(&t) {
+            Ordering::Less => {}
+            _ => return i,
+        }
+    }
+    pieces.len()
+}
+
+// Those of the pieces that start before `end`.
+fn early(pieces: Vec<Piece>, end: Frac) -> Vec<Piece>
+    ensures { result.items ≡ upto end pieces.items }
+{
+    let mut kept = pieces;
+    let count = count_before(&kept, end);
+    kept.truncate(count);
+    kept
+}
+
+// What two elements make, as pieces that start before `end`.
+fn pair_window(alloc: Global, a: &Element, b: &Element, end: Frac) -> Result<Vec<Piece>, AllocError>
+    requires { EnvelopeRoom end (a.now ∷ []) (b.now ∷ []) }
+    ensures { IfOk result (λ v. IsEnvelopeWindow end (a.now ∷ []) (b.now ∷ []) v.items) }
+{
+    let pieces = joined_window(alloc, &joined(a, b))?;
+    Ok(early(pieces, end))
+}
+
+/// The least of what all pairs of two lists of elements make, at each time from 0 on and before `end`, as pieces. The
+/// longer work is halved. Only a lack of memory is an error.
+pub fn envelope(
+    alloc: Global,
+    xs: &[Element],
+    ys: &[Element],
+    end: Frac,
+) -> Result<Vec<Piece>, AllocError>
+    requires { EnvelopeRoom end xs.now ys.now }
+    ensures { IfOk result (λ v. IsEnvelopeWindow end xs.now ys.now v.items) }
+{
+    if xs.len() == 0 {
+        return nothing(alloc);
+    }
+    if ys.len() == 0 {
+        return nothing(alloc);
+    }
+    if xs.len() > 1 {
+        let (front, back) = xs.split_at(xs.len() / 2);
+        let f = envelope(alloc, front, ys, end)?;
+        let g = envelope(alloc, back, ys, end)?;
+        return window_lower(alloc, &f, &g, end);
+    }
+    if ys.len() > 1 {
+        let (front, back) = ys.split_at(ys.len() / 2);
+        let f = envelope(alloc, xs, front, end)?;
+        let g = envelope(alloc, xs, back, end)?;
+        return window_lower(alloc, &f, &g, end);
+    }
+    pair_window(alloc, &xs[0], &ys[0], end)
+}

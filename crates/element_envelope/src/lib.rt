@@ -1,0 +1,17 @@
+//! Convolution of curves. Both operands are cut into elements; the convolution is the least of what their pairs make.
+#![tactic(auto)]
+
+mod convolved;
+mod cutting;
+pub mod laws;
+mod least;
+mod pair;
+#[cfg(test)]
+mod tests;
+mod window;
+
+pub use convolved::window_convolution;
+pub use cutting::cut;
+pub use least::envelope;
+pub use pair::joined;
+pub use window::joined_window;

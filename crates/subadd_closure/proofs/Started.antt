@@ -1,0 +1,129 @@
+-- A convolution's window with the value at 0 set to another that has room: it is an answer of the same call.
+use Rattle.std.specs.Prelude.{◌≡◌, ℕ, ◌+◌, List, [], ◌∷◌, ◌⊎◌}
+use Rattle.std.proofs.Common.{arith, sym, subst, inl, inr}
+use Rattle.rational.specs.Rational.{ℚ, ◌+ℚ◌, ◌-ℚ◌, ◌≤ℚ◌, ◌<ℚ◌}
+use Rattle.rational.specs.Grid.{Whole, Within}
+use Rattle.rational.specs.Extended.{Ext, ◌≤ₑ◌, ◌+ₑ◌, ◌<ₑ◌}
+use Rattle.rational.proofs.Grid.{within_weaken}
+use Rattle.rational.proofs.Linear.{with3}
+use Rattle.rational.proofs.Laws.{le_refl, le_of_lt}
+use Rattle.affine_segment.specs.declared.line.Piece.{Piece}
+use Rattle.affine_segment.specs.Reading.{read}
+use Rattle.upp_curve.specs.Curve.{SpecCurve}
+use Rattle.min_plus.specs.Functions.{zero_q}
+use Rattle.upp_limits.specs.Limits.{Sizes}
+use Rattle.affine_segment.specs.Pieces.{Each, StartsAtZero}
+use Rattle.upp_limits.specs.Sized.{grid_of, times_largest}
+use Rattle.upp_curve.specs.Steady.{rate, rise_over}
+use Rattle.upp_normal.proofs.AnswerRoom.{more_largest}
+use Rattle.affine_segment.proofs.PieceOrder.{each_map}
+use Rattle.curve_window.proofs.TailGrids.{TailOf}
+use Rattle.curve_call.specs.declared.frame.Frame.{Frame}
+use Rattle.curve_call.specs.Answering.{IsAnswerWindow}
+use Rattle.curve_call.proofs.CurveRises.{IsRise}
+use Rattle.curve_pointwise.specs.Lattice.{RisesBy}
+use Rattle.curve_pointwise.proofs.LatticeCalls.{from_whole, left_rise, right_rise}
+use Rattle.curve_call.proofs.TailMoves.{rates_compared, not_both, not_same}
+use Rattle.element_envelope.specs.SumWindows.{SumValueAt, SumPiece, SumWindow}
+use Rattle.element_envelope.specs.Arches.{Arches}
+use Rattle.element_envelope.proofs.SumRoom.{pieces_room}
+use Rattle.element_envelope.proofs.ArchBends.{sums_on_grids}
+use Rattle.curve_conv.specs.ConvolveCall.{IsConvolveFrame}
+use Rattle.subadd_closure.specs.Starting.{first_at}
+use Rattle.subadd_closure.proofs.Starts.{read_past}
+use Rattle.subadd_closure.proofs.Windowed.{IsConvolved, stands_of, arches_of, from_some, ends_at}
+
+-- ---- the window
+pub window_started : (z : Sizes) (end : ℚ) (v : Ext) (ps : List Piece) → SumWindow z end ps → SumValueAt z zero_q v
+    → SumWindow z end (first_at v ps)
+window_started z end v [] W V = W
+window_started z end v (p ∷ ps) W V =
+    let at : SumValueAt z p.x v = subst (λ x. SumValueAt z x v) (sym W.starts.0) V in
+    record { starts = W.starts; each = (record { start = W.each.0.start; at = at; line = W.each.0.line }, W.each.1) }
+
+-- it bends as before, since the values that count are past 0
+pub arches_started : (T : ℕ) (end : ℚ) (v : Ext) (ps : List Piece) → StartsAtZero ps → Arches T end (read ps)
+    → Arches T end (read (first_at v ps))
+arches_started T end v ps S A = λ low high y h W.
+    let zero = W.nonneg in
+    let before = W.before in
+    let some = W.some in
+    let early : zero_q <ℚ y -ℚ h = with3 low y h (λ c. omega (arith, c.le, c.lt, c.same)) in
+    let here : zero_q <ℚ y = with3 low y h (λ c. omega (arith, c.le, c.lt, c.same)) in
+    let late : zero_q <ℚ y +ℚ h = with3 low y h (λ c. omega (arith, c.le, c.lt, c.same)) in
+    same (read ps (y -ℚ h)) (read ps (y +ℚ h)) (read ps y)
+    (read (first_at v ps) (y -ℚ h)) (read (first_at v ps) (y +ℚ h)) (read (first_at v ps) y)
+    (read_past v ps (y -ℚ h) S early) (read_past v ps (y +ℚ h) S late) (read_past v ps y S here)
+    (A low high y h W)
+  where
+    same : (a b c d e k : Ext) → d ≡ a → e ≡ b → k ≡ c → a +ₑ b ≤ₑ c +ₑ c → d +ₑ e ≤ₑ k +ₑ k
+    same a b c d e k x y z h = rw (x, y, z) h
+
+-- ---- the rise stands
+slower_or_not : (x y : Ext) → (x <ₑ y) ⊎ ¬ (x <ₑ y)
+slower_or_not x y = elim (rates_compared x y) [
+  | inl l ↦ inl l
+  | inr (inl e) ↦ inr (not_same x y e)
+  | inr (inr l) ↦ inr (not_both y x l)
+]
+
+pub record RiseHasRoom (z : Sizes) (y : ℚ) : Type 0 where
+  pub whole : Whole (grid_of z) y
+  pub within : Within (times_largest 8 z) y
+
+rise_has_room : (z : Sizes) (c : SpecCurve) (d : ℚ) → IsRise z c d → RiseHasRoom z (rise_over c d)
+rise_has_room z c d R = record {
+  whole = R.whole;
+  within = within_weaken (times_largest 3 z) (times_largest 8 z) (rise_over c d) (more_largest z 3 8 (omega arith))
+      R.within;
+}
+
+pub rise_room : (f g : SpecCurve) (r : Frame) (rise : ℚ) (F : IsConvolveFrame f g r)
+    → RisesBy (rate g <ₑ rate f) (rise_over g r.period) (rise_over f r.period) rise → RiseHasRoom F.sizes rise
+rise_room f g r rise F R = by (slower_or_not (rate g) (rate f))
+  where
+    by : (rate g <ₑ rate f) ⊎ ¬ (rate g <ₑ rate f) → RiseHasRoom F.sizes rise
+    by (inl h) =
+        subst (RiseHasRoom F.sizes) (sym (R.so h))
+        (rise_has_room F.sizes g r.period (right_rise f g r.start r.period r.end (F.number + 1) F.sizes F.call))
+    by (inr h) =
+        subst (RiseHasRoom F.sizes) (sym (R.else h))
+        (rise_has_room F.sizes f r.period (left_rise f g r.start r.period r.end (F.number + 1) F.sizes F.call))
+
+-- ---- the answer
+pub started_answer : (f g : SpecCurve) (r : Frame) (ps : List Piece) (from rise : ℚ) (v : Ext)
+    (C : IsConvolved f g r ps from rise)
+    → SumValueAt C.frame.sizes zero_q v → IsAnswerWindow (first_at v ps) from r.period rise r.times r.values
+started_answer f g r ps from rise v C V =
+    let F = C.frame in
+    let L = F.call in
+    let z = F.sizes in
+    let W = stands_of f g r F ps C.window in
+    let U = window_started z r.end v ps W V in
+    let B = arches_started z.dt r.end v ps W.starts (arches_of f g r F ps C.window) in
+    let room = rise_room f g r rise F C.rise_is in
+    let whole : Whole z.dt from =
+    subst (Whole z.dt) (sym C.from_is) (from_whole f g r.start r.period r.end (F.number + 1) z L) in
+    let nonneg : zero_q ≤ℚ from = subst (λ y. zero_q ≤ℚ y) (sym C.from_is) (le_of_lt (from_some f g r F)) in
+    let ends = ends_at r.end r.period from C.from_is in
+    let tail : TailOf z r.end from r.period rise =
+    record { nonneg = nonneg; some = L.above; ends = ends; time = whole; whole = L.period_whole; value = room.whole } in
+    record {
+      sizes = z;
+      end = r.end;
+      limited = L.limited;
+      times_is = F.times;
+      values_is = F.values;
+      starts = U.starts;
+      before = subst (λ y. Each (λ p. p.x <ℚ y) (first_at v ps)) (sym ends)
+          (each_map (SumPiece z r.end) (λ p. p.x <ℚ r.end) (λ p P. P.start.before) (first_at v ps) U.each);
+      room = pieces_room z r.end (first_at v ps) L.limited U;
+      from_whole = whole;
+      nonneg = nonneg;
+      period_whole = L.period_whole;
+      above = L.above;
+      early = subst (λ y. from +ℚ r.period ≤ℚ y) ends (le_refl (from +ℚ r.period));
+      rise_whole = room.whole;
+      rise_within = room.within;
+      grids = sums_on_grids z r.end from r.period rise (first_at v ps) L.limited U B tail;
+    }
