@@ -14,11 +14,11 @@ use Rattle.affine_segment.specs.Values.{line_value}
 use Rattle.upp_curve.specs.Curve.{SpecCurve, value_at}
 use Rattle.min_plus.specs.Functions.{zero_q, IsFinite}
 use Rattle.min_plus.specs.Continuity.{IsContinuous}
-use Rattle.upp_curve.specs.Normal.{HasStart, StartsAtZero, IsNormal}
-use Rattle.upp_curve.specs.Reading.{read, piece_in, piece_value}
+use Rattle.affine_segment.specs.Pieces.{HasStart, StartsAtZero}
+use Rattle.upp_curve.specs.Normal.{IsNormal}
+use Rattle.affine_segment.specs.Reading.{read, piece_in, piece_value}
 use Rattle.upp_curve.specs.Unrolled.{unroll}
-use Rattle.upp_curve.proofs.PieceIn.{piece_in_stop, piece_in_go, piece_in_end}
-use Rattle.upp_curve.proofs.FirstStretch.{value_past}
+use Rattle.affine_segment.proofs.PieceIn.{piece_in_stop, piece_in_go, piece_in_end, value_past}
 use Rattle.upp_normal.proofs.Below.{unroll_reads}
 use Rattle.upp_normal.proofs.UnrolledPieces.{unroll_starts}
 use Rattle.watch_laws.specs.Affine.{IsLineOn, NoneInside, IsAffineOff, EachTime, IsPiecewise}

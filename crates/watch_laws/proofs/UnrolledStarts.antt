@@ -12,7 +12,8 @@ use Rattle.affine_segment.specs.declared.line.Piece.{Piece}
 use Rattle.upp_curve.specs.declared.curve.Tail.{Tail}
 use Rattle.upp_curve.specs.declared.curve.Tail.TheVariants.{Periodic, Affine, Infinite}
 use Rattle.upp_curve.specs.Curve.{SpecCurve}
-use Rattle.upp_curve.specs.Normal.{HasStart, IsNormal, RisesFrom}
+use Rattle.affine_segment.specs.Pieces.{HasStart, RisesFrom}
+use Rattle.upp_curve.specs.Normal.{IsNormal}
 use Rattle.upp_curve.specs.Unrolled.{each_later, copies, upto, from, unrolled, unroll}
 use Rattle.upp_normal.proofs.Below.{cut_at_start}
 use Rattle.upp_curve.proofs.Normal.{rises, start_in_upto}

@@ -6,7 +6,8 @@ use Rattle.rational.specs.declared.Extended.TheVariants.{Fin}
 use Rattle.upp_curve.specs.Curve.{SpecCurve, value_at}
 use Rattle.min_plus.specs.Functions.{IsFinite, IsRising, IsNonnegative}
 use Rattle.min_plus.specs.Continuity.{IsContinuous}
-use Rattle.upp_curve.specs.Normal.{HasStart, IsNormal}
+use Rattle.affine_segment.specs.Pieces.{HasStart}
+use Rattle.upp_curve.specs.Normal.{IsNormal}
 use Rattle.upp_curve.specs.Unrolled.{unroll}
 use Rattle.run_laws.specs.Runs.{SpecRun}
 use Rattle.run_laws.specs.Cards.{all, ServerStep}
