@@ -1,7 +1,13 @@
 #!/usr/bin/env python3
-"""Draws docs/port.svg: two flows through one port, and the two distances between the curves that netcalc prints."""
+"""Draws docs/port.svg: two flows through one port, and the two distances between the curves that netcalc prints; and
+docs/crates.svg: the groups of crates (the headings of docs/PROVED.md) with their crates, and which group stands on which
+(by crates.txt)."""
 
 import pathlib
+import re
+import textwrap
+
+DOCS = pathlib.Path(__file__).resolve().parent
 
 WIDTH, HEIGHT = 720, 430
 LEFT, RIGHT, TOP, BOTTOM = 70, 24, 24, 50
@@ -73,5 +79,111 @@ def picture():
     return "\n".join(parts) + "\n"
 
 
+def read_groups():
+    """The crates of each group, lowest first, and the groups that each group stands on."""
+    groups, group_of = {}, {}
+    for row in (DOCS / "PROVED.md").read_text().splitlines():
+        if row.startswith("## "):
+            heading = row[3:]
+        crate = re.match(r"- \[(\w+)\]\(", row)
+        if crate:
+            groups.setdefault(heading, []).append(crate[1])
+            group_of[crate[1]] = heading
+    stands_on = {heading: set() for heading in groups}
+    for row in (DOCS.parent / "crates.txt").read_text().splitlines():
+        crate, _, below = row.partition(":")
+        if crate in group_of:
+            stands_on[group_of[crate]] |= {group_of[b] for b in below.split() if b in group_of} - {group_of[crate]}
+    return groups, stands_on
+
+
+def ways(stands_on, upper):
+    """All groups that a group stands on, over others too."""
+    found = set(stands_on[upper])
+    for lower in stands_on[upper]:
+        found |= ways(stands_on, lower)
+    return found
+
+
+# What stands in the right column; the rest is in the left one, and what stands on nothing is as wide as both.
+RIGHT_COLUMN = ("Laws of runs", "Networks", "What is being built")
+COLUMN, GAP, ROW, MARGIN = 470, 60, 30, 20
+
+
+def ranks(stands_on):
+    """How many groups lie below each at most, and one more where its column has a group there."""
+    rank, taken = {}, set()
+    for heading in stands_on:
+        level = max((rank[lower] + 1 for lower in stands_on[heading]), default=0)
+        column = heading.startswith(RIGHT_COLUMN)
+        while (level, column) in taken:
+            level += 1
+        taken.add((level, column))
+        rank[heading] = level
+    return rank
+
+
+def place(groups, stands_on):
+    """Where each group's box is: left, top, width, height, and its lines."""
+    rank = ranks(stands_on)
+    lines = {heading: textwrap.wrap("  ".join(crates), 62 if rank[heading] else 120) for heading, crates in groups.items()}
+    boxes, top = {}, MARGIN
+    for level in sorted(set(rank.values()), reverse=True):
+        row = [heading for heading in groups if rank[heading] == level]
+        height = max(34 + 18 * len(lines[heading]) for heading in row)
+        for heading in row:
+            left = MARGIN + (COLUMN + GAP if heading.startswith(RIGHT_COLUMN) else 0)
+            boxes[heading] = (left, top, COLUMN if level else 2 * COLUMN + GAP, height, lines[heading])
+        top += height + ROW
+    return boxes, top - ROW + MARGIN
+
+
+def group_box(heading, box):
+    left, top, width, height, lines = box
+    dashes = ' stroke-dasharray="6 4"' if "being built" in heading else ""
+    parts = [
+        f'<rect x="{left}" y="{top}" width="{width}" height="{height}" rx="6" fill="#eef4fa" stroke="#1b5e9c"{dashes}/>',
+        f'<text x="{left + 12}" y="{top + 21}" font-weight="bold" fill="#1b5e9c">{heading}</text>',
+    ]
+    for number, text in enumerate(lines):
+        parts.append(f'<text x="{left + 12}" y="{top + 41 + 18 * number}" font-family="monospace" font-size="12">{text}</text>')
+    return parts
+
+
+def group_arrow(upper, lower, lane):
+    """Straight down in one column; else by a lane between the columns, from side to side."""
+    if lower[2] > COLUMN or upper[0] == lower[0]:
+        middle = upper[0] + upper[2] / 2
+        points = [(middle, upper[1] + upper[3]), (middle, lower[1])]
+    else:
+        start, end = (upper[0] + COLUMN, lower[0]) if upper[0] < lower[0] else (upper[0], lower[0] + COLUMN)
+        high, low = upper[1] + upper[3] / 2, lower[1] + lower[3] / 2 - 8 + 8 * (lane % 3)
+        between = MARGIN + COLUMN + GAP / 2 + 12 * (lane % 3 - 1)
+        points = [(start, high), (between, high), (between, low), (end, low)]
+    path = " ".join(f"{a:.0f},{b:.0f}" for a, b in points)
+    return f'<polyline points="{path}" fill="none" stroke="#555555" stroke-width="1.6" marker-end="url(#555555)"/>'
+
+
+def crates_picture():
+    groups, stands_on = read_groups()
+    boxes, height = place(groups, stands_on)
+    width = 2 * MARGIN + 2 * COLUMN + GAP
+    parts = [
+        f'<svg xmlns="http://www.w3.org/2000/svg" viewBox="0 0 {width} {height}" font-family="sans-serif" font-size="14">',
+        f'<rect width="{width}" height="{height}" fill="white"/>',
+        "<defs>" + head("#555555") + "</defs>",
+    ]
+    arrows = []
+    for upper, lowers in stands_on.items():
+        over_others = set().union(*(ways(stands_on, lower) for lower in lowers))
+        arrows += [(boxes[upper], boxes[lower]) for lower in groups if lower in lowers - over_others]
+    across = [arrow for arrow in arrows if arrow[0][0] != arrow[1][0] and arrow[1][2] == COLUMN]
+    parts += [group_arrow(*arrow, across.index(arrow) if arrow in across else 0) for arrow in arrows]
+    for heading, box in boxes.items():
+        parts += group_box(heading, box)
+    return "\n".join([*parts, "</svg>"]) + "\n"
+
+
 if __name__ == "__main__":
-    (pathlib.Path(__file__).resolve().parent / "port.svg").write_text(picture())
+    (DOCS / "port.svg").write_text(picture())
+    (DOCS / "crates.svg").write_text(crates_picture())
