@@ -1,5 +1,5 @@
 -- The state of a server in a stated run, as the simulator keeps it.
-use Rattle.std.specs.Prelude.{Some, None, ◌≡◌, ◌≢◌, ◌↔◌, ℕ, pos, ◌<◌, ◌^◌, [], length}
+use Rattle.std.specs.Prelude.{Option, Some, None, ◌≡◌, ◌≢◌, ◌↔◌, ℕ, pos, ◌<◌, ◌^◌, [], length}
 use Rattle.rational.specs.Rational.{ℚ, int, ◌+ℚ◌, ◌-ℚ◌, ◌*ℚ◌, ◌/ℚ◌, ◌≤ℚ◌, ◌<ℚ◌}
 use Rattle.run_laws.specs.Cards.{size}
 use Rattle.run_laws.specs.Servers.{queue_count, Under, ServerState, done}
@@ -7,6 +7,9 @@ use Rattle.run_laws.specs.Routes.{server_at}
 use Rattle.queue_sched.specs.Waiting.{HasPacket}
 use Rattle.stated_runs.specs.Setups as setups
 use Rattle.stated_runs.specs.Setups.{Setup, IsStalled, IsOpenAt, IsFirstOpen, IsFirstOpenAt, StaysTo, opening_of, rate_of}
+use Rattle.sim_servers.specs.declared.due.Due.{Due}
+use Rattle.sim_servers.specs.declared.due.DueKind.TheVariants as kinds
+use Rattle.sim_servers.specs.declared.station.Rest.{Rest}
 use Rattle.sim_servers.specs.declared.opening.Opening.{Opening}
 use Rattle.sim_servers.specs.declared.station.Next.{Next}
 use Rattle.sim_servers.specs.declared.station.Next.TheVariants.{Nothing, Start, Resume, Leave}
@@ -70,6 +73,20 @@ pub record IsStation (S : Setup) (s : ℕ) (σ : ServerState) (station : Station
   pub rate : station.rate ≡ rate_of S s
   pub inside : station.inside ≡ length σ.inside
   pub next : IsNextOf S s σ station.opening station.next
+
+-- as what is due next
+abbrev pub due_for : Next → ℕ → Option Due
+due_for Nothing server = None
+due_for (Start t) server = Some record { time = t; kind = kinds.Start; server = server; packet = 0 }
+due_for (Resume p t left) server = Some record { time = t; kind = kinds.Resume; server = server; packet = 0 }
+due_for (Leave p t) server = Some record { time = t; kind = kinds.Leave; server = server; packet = 0 }
+
+-- the work that goes on
+abbrev pub rest_for : Next → Option Rest
+rest_for Nothing = None
+rest_for (Start t) = None
+rest_for (Resume p t left) = Some record { packet = p; time = t; left = left }
+rest_for (Leave p t) = None
 
 -- ---- what the calls ask for
 -- the packet may arrive at the server whose state the station keeps

@@ -9,7 +9,8 @@ ghost use Rattle.run_laws.specs.Routes.{server_at};
 ghost use Rattle.queue_sched.specs.Turns.{IsCard};
 ghost use Rattle.stated_runs.specs.Setups.{Setup};
 ghost use Rattle.sim_servers.specs.Openings.{opening_for, IsInOrder, IsOver, HasOpened, IsSameOpening, OpeningRoom};
-ghost use Rattle.sim_servers.specs.Stations.{IsStation, MayTake, MayLose, IsBeforeStart, IsWorkOf, IsAfterWork, IsWithOneMore, IsWithOneLess, IsNextWork, WorkRoom};
+ghost use Rattle.sim_servers.specs.Queues.{room_of};
+ghost use Rattle.sim_servers.specs.Stations.{IsStation, due_for, rest_for, MayTake, MayLose, IsBeforeStart, IsWorkOf, IsAfterWork, IsWithOneMore, IsWithOneLess, IsNextWork, WorkRoom};
 
 use crate::due::{Due, DueKind};
 use crate::opening::Opening;
@@ -59,30 +60,41 @@ pub struct Station {
 }
 
 /// What is due at server `server`.
-pub fn due_of(next: &Next, server: u32) -> Option<Due> {
-    let (kind, time) = match next {
-        Next::Nothing => return None,
-        Next::Start { time } => (DueKind::Start, *time),
-        Next::Resume { time, .. } => (DueKind::Resume, *time),
-        Next::Leave { time, .. } => (DueKind::Leave, *time),
-    };
-    Some(Due {
+pub fn due_of(next: &Next, server: u32) -> Option<Due>
+    ensures { result ≡ due_for next.now server }
+{
+    match next {
+        Next::Nothing => None,
+        Next::Start { time } => Some(due_at(*time, DueKind::Start, server)),
+        Next::Resume { time, .. } => Some(due_at(*time, DueKind::Resume, server)),
+        Next::Leave { time, .. } => Some(due_at(*time, DueKind::Leave, server)),
+    }
+}
+
+fn due_at(time: Frac, kind: DueKind, server: u32) -> Due
+    ensures { result ≡ record { time = time; kind = kind; server = server; packet = 0 } }
+{
+    Due {
         time,
         kind,
         server,
         packet: 0,
-    })
+    }
 }
 
 /// The work that goes on, if that is due.
-pub fn rest_of(next: &Next) -> Option<Rest> {
+pub fn rest_of(next: &Next) -> Option<Rest>
+    ensures { result ≡ rest_for next.now }
+{
     match next {
+        Next::Nothing => None,
+        Next::Start { .. } => None,
         Next::Resume { packet, time, left } => Some(Rest {
             packet: *packet,
             time: *time,
             left: *left,
         }),
-        _ => None,
+        Next::Leave { .. } => None,
     }
 }
 
@@ -144,7 +156,8 @@ impl Station {
     pub fn arrive(&mut self, packet: u32, queue: u32, bits: u32, time: Frac)
         requires take { MayTake self.old packet queue time }
         requires room { OpeningRoom (opening_for self.old.opening) time }
-        ensures { (S : Setup) (s : ℕ) (σ : ServerState) (c : Card) → IsStation S s σ self.old → IsCard c packet queue bits → σ.now ≤ℚ time → IsBeforeStart self.old.next time
+        ensures room { room_of self.new.queues ≡ room_of self.old.queues }
+        ensures joined { (S : Setup) (s : ℕ) (σ : ServerState) (c : Card) → IsStation S s σ self.old → IsCard c packet queue bits → σ.now ≤ℚ time → IsBeforeStart self.old.next time
             → IsStation S s (next (server_at S.net s).discipline σ (Arrives c time)) self.new }
     {
         self.queues.arrive(packet, queue, bits);
@@ -156,7 +169,8 @@ impl Station {
     pub fn leave(&mut self, time: Frac) -> u32
         requires lose { MayLose self.old time }
         requires room { OpeningRoom (opening_for self.old.opening) time }
-        ensures { (S : Setup) (s : ℕ) (σ : ServerState) (u : Under) → IsStation S s σ self.old → σ.under ≡ Some u
+        ensures room { room_of self.new.queues ≡ room_of self.old.queues }
+        ensures left { (S : Setup) (s : ℕ) (σ : ServerState) (u : Under) → IsStation S s σ self.old → σ.under ≡ Some u
             → (u.card.packet ≡ result) × IsStation S s (next (server_at S.net s).discipline σ (Leaves u.card time)) self.new }
     {
         let packet = self.queues.finish();

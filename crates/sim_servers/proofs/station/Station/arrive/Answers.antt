@@ -17,8 +17,8 @@ next_with_one_more-self-requires-clause-over c = λ e k d h.
     let v : IsVacant t.state c.args.self.now.opening = subst (λ n. IsNextOf t.setup t.server t.state c.args.self.now.opening n) e t.keeps.next in
     le_trans (v.over k d h) t.in_time
 
-pub returns : goal.returns
-returns c = λ S s σ k keeps card now before. record {
+pub returns-clause-joined : goal.returns-clause-joined
+returns-clause-joined c = λ S s σ k keeps card now before. record {
   discipline = c.arrive.ensures.discipline ∙ keeps.discipline;
   queues = subst (λ d. StandFor c.arrive.new.self (next d σ (Arrives k c.args.time))) keeps.discipline
       (c.arrive.ensures.joined σ k c.args.time keeps.queues card);

@@ -31,8 +31,8 @@ next_with_one_less-self-requires-clause-over c =
     subst (λ n. IsNextOf l.setup l.server l.state c.args.self.now.opening n) l.due l.keeps.next in
     w.over
 
-pub returns : goal.returns
-returns c = λ S s σ u keeps e.
+pub returns-clause-left : goal.returns-clause-left
+returns-clause-left c = λ S s σ u keeps e.
     let f = c.finish-packet.ensures.left σ u keeps.queues e in
     let n = one_less u.card.queue σ.inside u.card (stand_head c.args.self.now.queues σ u keeps.queues e) in (
       f.packet_is,
