@@ -47,7 +47,7 @@ use Rattle.sim_bounds.proofs.MadeBounds.{many_openings, stalls_of, gates_of, pac
 use Rattle.sim_bounds.proofs.Gauged.{AreSome, IsBelow, is_below, both_some, common_num_pos, common_num_each, time_whole, work_in, cycle_in, bits_in, gate_fits, stalls_fit, room_of, work_fits}
 
 -- ---- the grid
-times_whole : (net : Net) (trace : SpecTrace) (t : ℚ) → In (simulation_numbers net trace).times t → Whole (grid_of net trace) t
+pub times_whole : (net : Net) (trace : SpecTrace) (t : ℚ) → In (simulation_numbers net trace).times t → Whole (grid_of net trace) t
 times_whole net trace t h =
     let all = horizon (setup_of net trace) ∷ (simulation_numbers net trace).times in
     whole_both (common_den all) (common_num (rates_of net)) t (each_in (Whole (common_den all)) all (common_den_each all) t (inr h))

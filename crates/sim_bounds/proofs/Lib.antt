@@ -13,3 +13,4 @@ pub mod Places
 pub mod MadeBounds
 pub mod Gauged
 pub mod Fits
+pub mod WayFits

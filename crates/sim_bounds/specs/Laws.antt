@@ -14,6 +14,7 @@ use Rattle.stated_runs.specs.Simulated.{FollowsSoFar}
 use Rattle.sim_bounds.specs.Horizons.{horizon, IsForward}
 use Rattle.sim_bounds.specs.Times.{IsTimely, IsGrid, IsStepOnGrid, HasTimes}
 use Rattle.sim_bounds.specs.Gauge.{simulation_gauge, grid_of}
+use Rattle.sim_bounds.specs.Way.{HorizonFits}
 
 -- however far a stated run has come, no step that is due is past the horizon
 abbrev pub DueStepsAreInTime : Type 0
@@ -36,3 +37,8 @@ StatesHaveTimes = (S : Setup) (place : ℕ → ℕ) (d : ℕ) (xs : List Step) �
 abbrev pub SimulationsFit : Type 0
 SimulationsFit = (net : Net) (trace : SpecTrace) → IsAccepted net → IsTrace trace → IsTraceOf net trace → IsFeedForward net
     → simulation_gauge net trace < 2 ^ 120 → RunFits (setup_of net trace) (grid_of net trace) (horizon (setup_of net trace))
+
+-- and so have the numbers on the way to the horizon: where a step there does not fit, the gauge is 2 ^ 120 or more
+abbrev pub HorizonsFit : Type 0
+HorizonsFit = (net : Net) (trace : SpecTrace) → IsAccepted net → IsTrace trace → IsTraceOf net trace → IsFeedForward net
+    → simulation_gauge net trace < 2 ^ 120 → HorizonFits (setup_of net trace) (grid_of net trace) (horizon (setup_of net trace))

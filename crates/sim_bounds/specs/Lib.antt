@@ -1,4 +1,5 @@
 pub mod Horizons
 pub mod Times
-pub mod Laws
 pub mod Gauge
+pub mod Way
+pub mod Laws

@@ -1,6 +1,6 @@
 //! Laws of the times of stated runs. A law is the contract of a function that does nothing.
 
-ghost use Rattle.sim_bounds.specs.Laws.{DueStepsAreInTime, DueStepsAreOnGrid, StatesHaveTimes, SimulationsFit};
+ghost use Rattle.sim_bounds.specs.Laws.{DueStepsAreInTime, DueStepsAreOnGrid, StatesHaveTimes, SimulationsFit, HorizonsFit};
 
 /// However far a stated run has come, no time that comes of a step that is due is past the horizon.
 pub fn due_steps_are_in_time()
@@ -20,4 +20,9 @@ pub fn states_have_times()
 /// Where the simulation gauge of a network and a trace is below 2^120, no number of their simulation is too wide.
 pub fn simulations_fit()
     ensures { SimulationsFit }
+{}
+
+/// Then no sum on the way to the horizon is too wide either: where one does not fit, the gauge is 2^120 or more.
+pub fn horizons_fit()
+    ensures { HorizonsFit }
 {}

@@ -3,4 +3,6 @@
 
 mod laws;
 
-pub use laws::{due_steps_are_in_time, due_steps_are_on_grid, simulations_fit, states_have_times};
+pub use laws::{
+    due_steps_are_in_time, due_steps_are_on_grid, horizons_fit, simulations_fit, states_have_times,
+};

@@ -1,0 +1,6 @@
+pub mod GridSteps
+pub mod Cycles
+pub mod Stalls
+pub mod Firsts
+pub mod Openings
+pub mod StationSteps

@@ -1,0 +1,4 @@
+pub mod Openings
+pub mod Queues
+pub mod Firsts
+pub mod Stations

@@ -1,0 +1,12 @@
+//! One server of a simulation: its queues, when it opens, its work, and what is due there next.
+#![tactic(auto)]
+
+mod due;
+mod opening;
+mod server_queues;
+mod station;
+
+pub use due::{Due, DueKind, first_of};
+pub use opening::{Gate, Opening, Span};
+pub use server_queues::ServerQueues;
+pub use station::{Next, Rest, Station, Stretch, due_of, rest_of};
