@@ -9,7 +9,7 @@ ghost use Rattle.file_answers.specs.View.{reply_of, status_of};
 use crate::answer::{Answer, Status};
 use crate::refusals::{cell_too_many, cell_too_wide, goes_round};
 use cell_table::AnalysisFault;
-use net_analysis::analyse;
+use flow_analysis::analyse;
 use net_graph::{GraphFault, order};
 use net_model::Network;
 use report_text::analysis_text;

@@ -1,4 +1,4 @@
-//! The analysis of a network.
+//! The analysis of a network by the program's evaluator.
 
 ghost use Rattle.std.specs.Prelude.{◌≡◌, ◌+◌, ◌≤◌, sum_by, IfOk, IfErr, OnOk};
 ghost use Rattle.net_model.specs.Orders.{IsOrder};
@@ -8,9 +8,9 @@ ghost use Rattle.net_cells.specs.Order.{evaluation_order};
 ghost use Rattle.net_cells.specs.Work.{work};
 ghost use Rattle.flow_analysis.specs.Analyses.{HasNothingElse, IsRefusal};
 
+use crate::in_order::analysed_in_order;
 use cell_eval::Counted;
 use cell_table::{Analysis, AnalysisFault, Table, Value};
-use flow_analysis::analysed_in_order;
 use net_model::Network;
 use std::alloc::Global;
 use std::sync::ledger::Ledger;
