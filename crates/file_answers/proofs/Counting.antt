@@ -7,7 +7,7 @@ use Rattle.net_graph.proofs.OneOrders.{one_order}
 use Rattle.net_graph.proofs.Returns.{order_or_cycle}
 use Rattle.net_text.specs.Folds.{StepsAtMost}
 use Rattle.net_text.specs.Reading.{IsNetworkOf}
-use Rattle.network_files.specs.FoldLimits.{OverFold}
+use Rattle.net_text.specs.FoldLimits.{OverFold}
 use Rattle.subadd_closure.specs.FoldWork.{fold_work}
 use Rattle.file_answers.specs.Counts.{work_of_cells, CountsOnNet, CountsOn}
 use Rattle.file_answers.proofs.FirstFaults.{says}

@@ -14,8 +14,8 @@ use Rattle.net_text.specs.Firsts.{PlacedCurve, FirstCurveOver, curves_of}
 use Rattle.net_text.specs.Laws.{EachFileSaysOneThing}
 use Rattle.net_text.specs.Reading.{CurveFault, FirstFault, IsAnswered}
 use Rattle.net_text.proofs.OneThing.{each_file_says_one_thing}
-use Rattle.network_files.specs.FoldLimits.{OverFold}
-use Rattle.network_files.specs.OneLimit.{fold_has_one_limit}
+use Rattle.net_text.specs.FoldLimits.{OverFold}
+use Rattle.net_text.proofs.OneLimit.{fold_has_one_limit}
 use Rattle.file_answers.specs.declared.answer.Answer.{Answer}
 use Rattle.file_answers.specs.Replies.{Reply, breaks_rule, curve_over}
 use Rattle.file_answers.specs.Faults.{reply_of_kind, fault_reply}

@@ -6,7 +6,7 @@ use Rattle.net_model.specs.Walks.{IsCycle}
 use Rattle.net_draft.specs.Faults.{Fault}
 use Rattle.net_text.specs.Folds.{StepsAtMost}
 use Rattle.net_text.specs.Reading.{IsNetworkOf, FirstFault}
-use Rattle.network_files.specs.FoldLimits.{OverFold}
+use Rattle.net_text.specs.FoldLimits.{OverFold}
 use Rattle.subadd_closure.specs.FoldWork.{fold_work}
 use Rattle.net_cells.specs.Order.{evaluation_order}
 use Rattle.net_cells.specs.Work.{work}

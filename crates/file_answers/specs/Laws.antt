@@ -6,7 +6,7 @@ use Rattle.net_model.specs.Networks.{Net}
 use Rattle.net_model.specs.Orders.{IsOrder}
 use Rattle.net_model.specs.Walks.{IsFeedForward}
 use Rattle.net_text.specs.Reading.{IsNetworkOf}
-use Rattle.network_files.specs.FoldLimits.{OverFold}
+use Rattle.net_text.specs.FoldLimits.{OverFold}
 use Rattle.net_cells.specs.declared.cell.Cell.{Cell}
 use Rattle.net_cells.specs.Meanings.{number, CellTable}
 use Rattle.net_cells.specs.FirstOver.{FirstOver}

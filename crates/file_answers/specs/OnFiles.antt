@@ -11,7 +11,7 @@ use Rattle.net_draft.specs.Drafts.{draft_of}
 use Rattle.net_draft.specs.Faults.{Fault}
 use Rattle.net_text.specs.Becoming.{limit_fault}
 use Rattle.net_text.specs.Reading.{IsNetworkOf, CurveFault}
-use Rattle.network_files.specs.FoldLimits.{OverFold}
+use Rattle.net_text.specs.FoldLimits.{OverFold}
 use Rattle.net_cells.specs.declared.cell.Cell.{Cell}
 use Rattle.net_cells.specs.Meanings.{CellTable}
 use Rattle.net_cells.specs.Equations.{MeetsEquations}

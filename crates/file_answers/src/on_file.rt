@@ -8,7 +8,7 @@ ghost use Rattle.file_answers.specs.View.{reply_of, status_of};
 use crate::answer::Answer;
 use crate::on_net::on_network;
 use crate::refusals::on_fault;
-use network_files::read_network;
+use net_text::read_network;
 use std::alloc::{AllocError, Global};
 use std::sync::ledger::Ledger;
 use steps::Steps;

@@ -12,7 +12,7 @@ use Rattle.closure_fold.specs.Folds.{CloseAnswer}
 use Rattle.closure_fold.proofs.FoldStars.{close_answer}
 use Rattle.closure_fold.proofs.OneFold.{close_once}
 use Rattle.net_text.specs.Closing.{KeepsClosing}
-use Rattle.network_files.specs.FoldLimits.{OverFold}
+use Rattle.net_text.specs.FoldLimits.{OverFold}
 
 apart : (c : SpecCurve) (fault : OpFault) → (let r : Result SpecCurve OpFault = Ok c in r) ≡ Err fault → ⊥
 apart c fault h = cc

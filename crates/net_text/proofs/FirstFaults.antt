@@ -9,8 +9,8 @@ use Rattle.net_draft.specs.Faults.{Fault}
 use Rattle.net_draft.proofs.KindsOfTables.{faults_are_of_tables}
 use Rattle.net_text.specs.Becoming.{limit_kind}
 use Rattle.net_text.specs.Firsts.{PlacedCurve, FirstCurveOver, curves_of}
-use Rattle.network_files.specs.FileLaws.{NoFaultIsWantOfMemory}
-use Rattle.network_files.specs.FoldLimits.{OverFold}
+use Rattle.net_text.specs.FileLaws.{NoFaultIsWantOfMemory}
+use Rattle.net_text.specs.FoldLimits.{OverFold}
 
 no_limit : (limit : OverLimit) → limit_kind limit ≡ NoMemory → ⊥
 no_limit TooMany h = cc

@@ -1,4 +1,4 @@
-use Rattle.network_files.proofs.tests.read.Given as goal
+use Rattle.net_text.proofs.tests.read.Given as goal
 
 abbrev pub ghosts-counted : goal.ghosts-counted
 ghosts-counted a = record { name = a.blank.name; parts = a.blank.parts }

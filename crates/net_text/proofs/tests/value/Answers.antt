@@ -1,7 +1,7 @@
 use Rattle.std.proofs.Common.{subst}
 use Rattle.rational.specs.Rational.{◌≤ℚ◌}
 use Rattle.rational.proofs.Compared.{not_less}
-use Rattle.network_files.proofs.tests.value.Goals as goal
+use Rattle.net_text.proofs.tests.value.Goals as goal
 
 pub value_at-requires : goal.value_at-requires
 value_at-requires c =

@@ -8,7 +8,7 @@ use Rattle.upp_limits.specs.declared.op_kind.OpFault.TheVariants as faults
 use Rattle.closure_fold.specs.Folds.{CloseAnswer}
 use Rattle.closure_fold.proofs.OneFold.{close_once}
 use Rattle.net_text.specs.Closing.{HasOneLimit}
-use Rattle.network_files.specs.FoldLimits.{OverFold}
+use Rattle.net_text.specs.FoldLimits.{OverFold}
 
 abbrev IsMany : Result SpecCurve OpFault → Type 0
 IsMany (Err faults.TooMany) = Unit {0}

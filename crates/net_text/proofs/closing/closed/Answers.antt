@@ -1,5 +1,5 @@
-use Rattle.network_files.proofs.Folding.{keeps_closing}
-use Rattle.network_files.proofs.fold.FoldCloser.close.Goals as goal
+use Rattle.net_text.proofs.Folding.{keeps_closing}
+use Rattle.net_text.proofs.closing.closed.Goals as goal
 
 pub returns-clause-answer : goal.returns-clause-answer
 returns-clause-answer g c =
