@@ -106,7 +106,7 @@ def ways(stands_on, upper):
 
 
 # What stands in the right column; the rest is in the left one, and what stands on nothing is as wide as both.
-RIGHT_COLUMN = ("Laws of runs", "Networks", "What is being built")
+RIGHT_COLUMN = ("Laws of runs", "Networks", "The simulator", "Breaches of a run")
 COLUMN, GAP, ROW, MARGIN = 470, 60, 30, 20
 
 
@@ -150,18 +150,26 @@ def group_box(heading, box):
     return parts
 
 
-def group_arrow(upper, lower, lane):
-    """Straight down in one column; else by a lane between the columns, from side to side."""
-    if lower[2] > COLUMN or upper[0] == lower[0]:
+def group_arrow(upper, lower, lane, is_over):
+    """Straight down in one column, or round its outer side where that is over a box; else by a lane between the columns."""
+    high, low = upper[1] + 0.72 * upper[3], lower[1] + 0.3 * lower[3]
+    if is_over:
+        side, outer = (upper[0] + COLUMN, 10) if upper[0] > MARGIN else (upper[0], -10)
+        points = [(side, high), (side + outer, high), (side + outer, low), (side, low)]
+    elif lower[2] > COLUMN or upper[0] == lower[0]:
         middle = upper[0] + upper[2] / 2
         points = [(middle, upper[1] + upper[3]), (middle, lower[1])]
     else:
         start, end = (upper[0] + COLUMN, lower[0]) if upper[0] < lower[0] else (upper[0], lower[0] + COLUMN)
-        high, low = upper[1] + upper[3] / 2, lower[1] + lower[3] / 2 - 8 + 8 * (lane % 3)
         between = MARGIN + COLUMN + GAP / 2 + 12 * (lane % 3 - 1)
         points = [(start, high), (between, high), (between, low), (end, low)]
     path = " ".join(f"{a:.0f},{b:.0f}" for a, b in points)
     return f'<polyline points="{path}" fill="none" stroke="#555555" stroke-width="1.6" marker-end="url(#555555)"/>'
+
+
+def is_over(upper, lower, boxes):
+    """Whether a third box lies between two of one column."""
+    return upper[0] == lower[0] and any(box[0] == upper[0] and upper[1] < box[1] < lower[1] for box in boxes)
 
 
 def crates_picture():
@@ -178,7 +186,9 @@ def crates_picture():
         over_others = set().union(*(ways(stands_on, lower) for lower in lowers))
         arrows += [(boxes[upper], boxes[lower]) for lower in groups if lower in lowers - over_others]
     across = [arrow for arrow in arrows if arrow[0][0] != arrow[1][0] and arrow[1][2] == COLUMN]
-    parts += [group_arrow(*arrow, across.index(arrow) if arrow in across else 0) for arrow in arrows]
+    for upper, lower in arrows:
+        lane = across.index((upper, lower)) if (upper, lower) in across else 0
+        parts.append(group_arrow(upper, lower, lane, is_over(upper, lower, boxes.values())))
     for heading, box in boxes.items():
         parts += group_box(heading, box)
     return "\n".join([*parts, "</svg>"]) + "\n"

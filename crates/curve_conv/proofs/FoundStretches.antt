@@ -24,7 +24,7 @@ use Rattle.element_envelope.specs.ElementRoom.{OperandElement, SumElement, SumPa
 use Rattle.element_envelope.specs.Envelopes.{ListSplit, list_sum}
 use Rattle.element_envelope.proofs.ElementSizes.{parts_stand}
 use Rattle.element_envelope.proofs.Envelopes.{envelope_rules}
-use Rattle.element_envelope.specs.declared.lower.Under.{Under}
+use Rattle.curve_conv.specs.declared.lower.Under.{Under}
 use Rattle.curve_conv.specs.Stretches.{SumStretch, SumTimeIn, IsUnder, IsEarliest, IsAhead, end_time, IsProperPart}
 use Rattle.curve_conv.proofs.Lowers.{meeting_before, meeting_after, parallel_first, parallel_second, under_turned, under_none, under_left, earliest_first, earliest_second, lower_goes, lower_next, lower_stands}
 use Rattle.curve_conv.proofs.ElementStretches.{point_before, point_here, point_after, point_stands, open_before, open_here, open_within, open_after, here_stands, within_stands}

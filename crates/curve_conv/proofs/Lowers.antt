@@ -16,7 +16,7 @@ use Rattle.curve_window.specs.Lies.{CrossFits}
 use Rattle.curve_window.proofs.LinesLie.{before_turn, after_turn, parallel_lines}
 use Rattle.element_envelope.specs.SumWindows.{SumLineAt, SumValueAt}
 use Rattle.element_envelope.proofs.SumLower.{cross_fits, is_crossing, lesser_stands}
-use Rattle.element_envelope.specs.declared.lower.Under.{Under}
+use Rattle.curve_conv.specs.declared.lower.Under.{Under}
 use Rattle.curve_conv.specs.Stretches.{SumPlace, SumStretch, SumTimeIn, MeetsAt, IsUnder, IsEarliest}
 
 -- ---- two lines

@@ -17,7 +17,7 @@ use Rattle.upp_normal.specs.Ahead.{GoesOn, IsBeforeNext, AtNext}
 use Rattle.upp_normal.proofs.AnswerRoom.{IsCrossing}
 use Rattle.element_envelope.specs.ElementRoom.{OperandElement}
 use Rattle.element_envelope.specs.SumWindows.{SumStart, SumValueAt, SumLineAt}
-use Rattle.element_envelope.specs.declared.lower.Under.{Under}
+use Rattle.curve_conv.specs.declared.lower.Under.{Under}
 
 -- on the grid of times, or where two lines cross
 abbrev pub SumPlace : Sizes → ℚ → Type 0

@@ -1,5 +1,5 @@
 -- The cells before one, where they are answered by a table: one more, and one that is refused.
-use Rattle.std.proofs.Common.{◌≡◌, ℕ, ◌<◌, ◌+◌, List, [], ◌∷◌, ◌++◌, length, get_or, take, drop, sym, ap, ◌∙◌, subst, inl, inr, drop-cons, add-one, append_assoc}
+use Rattle.std.proofs.Common.{◌≡◌, ℕ, ◌<◌, ◌+◌, List, [], ◌∷◌, ◌++◌, length, get_or, take, drop, sym, ap, ◌∙◌, subst, inl, inr, drop-cons, add-one}
 use Rattle.std.proofs.Math.Seq.{take-suc}
 use Rattle.std.proofs.lemmas.List.{take-append-drop}
 use Rattle.std.specs.Prelude.{◌≢◌, Some, None, Ok, Err, Contains}
@@ -11,7 +11,6 @@ use Rattle.net_model.specs.Orders.{IsOrder}
 use Rattle.net_cells.specs.declared.cell.Cell.{Cell}
 use Rattle.net_cells.specs.declared.cell.Kind.TheVariants.{In}
 use Rattle.net_cells.specs.Order.{evaluation_order}
-use Rattle.net_cells.specs.Formulas.{leaves}
 use Rattle.net_cells.specs.CellFormulas.{formula}
 use Rattle.net_cells.specs.Meanings.{Meaning, CellTable}
 use Rattle.net_cells.specs.FirstOver.{IsAnswered, AnswersAll}
@@ -19,6 +18,7 @@ use Rattle.net_cells.proofs.Lists.{Has, Apart, has_left, has_right, has_either, 
 use Rattle.net_cells.proofs.SameLeaves.{AgreeOn, answers_same}
 use Rattle.net_cells.proofs.Members.{apart_cells}
 use Rattle.net_cells.proofs.Precedes.{leaf_in_front}
+use Rattle.net_cells.proofs.Tables.{closed_front}
 use Rattle.cell_table.specs.declared.fault.AnalysisFault.{AnalysisFault}
 use Rattle.cell_table.specs.Gives.{Gives}
 use Rattle.cell_table.proofs.GivesAnswers.{gives_ok, gives_over}
@@ -30,12 +30,6 @@ not_in_front : (front : List Cell) (c : Cell) (back : List Cell) → Apart (fron
 not_in_front [] c back a h = h
 not_in_front (x ∷ xs) c back a (inl e) = a.0 (has_right xs (c ∷ back) x (inl (sym e)))
 not_in_front (x ∷ xs) c back a (inr h) = not_in_front xs c back a.1 h
-
-split_at : (front : List Cell) (d : Cell) → Has front d → (before after : List Cell) × (front ≡ before ++ d ∷ after)
-split_at [] d h = absurd h
-split_at (c ∷ cs) d (inl e) = ([], cs, ap (λ (x : Cell). x ∷ cs) e)
-split_at (c ∷ cs) d (inr h) =
-    let found = split_at cs d h in (c ∷ found.0, found.1, ap (λ (xs : List Cell). c ∷ xs) found.2)
 
 -- the element at a place, with those before and after it
 abbrev pub no_cell : Cell
@@ -57,16 +51,6 @@ take_more cells i h =
 
 -- ---- a front of the order
 -- what a cell of it is made of is in it
-closed : (net : Net) (order : List ℕ) (front : List Cell) (c : Cell) (back : List Cell) (d e : Cell) → IsAccepted net
-    → IsOrder net order → evaluation_order net order ≡ front ++ c ∷ back → Has front d → Has (leaves (formula net d)) e
-    → Has front e
-closed net order front c back d e a o is h m =
-    let part = split_at front d h in
-    let whole : evaluation_order net order ≡ part.0 ++ d ∷ (part.1 ++ c ∷ back) =
-    is ∙ ap (λ (xs : List Cell). xs ++ c ∷ back) part.2 ∙ append_assoc part.0 (d ∷ part.1) (c ∷ back) in
-    let found = leaf_in_front net order part.0 d (part.1 ++ c ∷ back) e a o whole m in
-    subst (λ (xs : List Cell). Has xs e) (sym part.2) (has_left part.0 (d ∷ part.1) e found)
-
 -- one more cell: a table that has its value, and else is as before
 pub grown : (net : Net) (order : List ℕ) (at more : CellTable) (front : List Cell) (c : Cell) (back : List Cell)
     (v : Meaning) → IsAccepted net → IsOrder net order → evaluation_order net order ≡ front ++ c ∷ back
@@ -88,7 +72,7 @@ grown net order at more front c back v a o is all gives put others d m =
           value = was.value;
           is = sym (same e h) ∙ was.is;
           answers = answers_same at more (formula net e) (Ok was.value)
-              (λ x k. same x (closed net order front c back e x a o is h k)) was.answers;
+              (λ x k. same x (closed_front net order front c back e x a o is h k)) was.answers;
         }
 
     here : IsAnswered net more c

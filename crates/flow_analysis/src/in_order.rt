@@ -25,10 +25,13 @@ pub fn analysed_in_order<V: CellValue + Drop, E: Evaluator<V>>(
 ) -> Result<Analysis<V>, AnalysisFault>
     requires { IsOrder net.now order.now }
     ensures meets { IfOk result (λ t. MeetsEquations net.now (⟦<Analysis<V> as Table<V>>⟧.at t)) }
-    ensures answers { IfOk result (λ t. AnswersAll net.now (⟦<Analysis<V> as Table<V>>⟧.at t) (evaluation_order net.now order.now)) }
-    ensures nothing { IfOk result (λ t. HasNothingElse (⟦<Analysis<V> as Table<V>>⟧.at t) (evaluation_order net.now order.now)) }
+    ensures answers { IfOk result (λ t. AnswersAll net.now (⟦<Analysis<V> as Table<V>>⟧.at t)
+        (evaluation_order net.now order.now)) }
+    ensures nothing { IfOk result (λ t. HasNothingElse (⟦<Analysis<V> as Table<V>>⟧.at t)
+        (evaluation_order net.now order.now)) }
     ensures refused { IfErr result (IsRefusal (FirstOver net.now order.now)) }
-    ensures exact { OnOk result (E.count eval.new ≡ E.count eval.old + sum_by (work net.now) (evaluation_order net.now order.now)) }
+    ensures exact { OnOk result
+        (E.count eval.new ≡ E.count eval.old + sum_by (work net.now) (evaluation_order net.now order.now)) }
     ensures rises { E.count eval.old ≤ E.count eval.new }
     ensures within { E.count eval.new ≤ E.count eval.old + sum_by (work net.now) (evaluation_order net.now order.now) }
     ensures same { E.counter eval.new ≡ E.counter eval.old }

@@ -1,9 +1,13 @@
 //! The analysis of a network: the values of all its cells, each made once, after those that it is made of.
 #![tactic(auto)]
 
+mod analyse_all;
 mod each_cell;
 mod fault;
 mod in_order;
+#[cfg(test)]
+mod tests;
 
+pub use analyse_all::analyse;
 pub use each_cell::analysed;
 pub use in_order::analysed_in_order;

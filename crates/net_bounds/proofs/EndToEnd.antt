@@ -1,10 +1,9 @@
 -- A flow from end to end: no packet takes longer than either of the two delays, nor than the bound.
 use Rattle.std.specs.Prelude.{◌≡◌, ℕ, ◌<◌, ◌≤◌, ◌+◌, ◌-◌, ◌==◌, ◌&&◌, true, List, [], ◌∷◌, length, map, Some}
-use Rattle.std.proofs.Common.{arith, sym, ap, ◌∙◌, refl, subst, inl, inr}
+use Rattle.std.proofs.Common.{arith, sym, ap, ◌∙◌, refl, subst}
 use Rattle.std.proofs.lemmas.Bool.{and_from}
-use Rattle.rational.specs.Extended.{Ext, ◌+ₑ◌, min_ext}
+use Rattle.rational.specs.Extended.{Ext, ◌+ₑ◌}
 use Rattle.rational.specs.declared.Extended.TheVariants.{Fin}
-use Rattle.rational.proofs.ExtendedOrder.{min_one}
 use Rattle.min_plus.specs.Deviations.{IsHorizontalDeviation}
 use Rattle.run_laws.specs.Runs.{SpecRun}
 use Rattle.run_laws.specs.Cards.{of_flow}
@@ -14,6 +13,7 @@ use Rattle.run_laws.specs.Bounds.{IsFlowBounded}
 use Rattle.net_laws.specs.Paths.{IsPath, StaysAtMost, IsServedAlong, sum_along, links_along}
 use Rattle.net_laws.proofs.Ends.{delay_from_hops, delay_from_path_service}
 use Rattle.net_laws.proofs.Paths.{path_is_served}
+use Rattle.net_laws.proofs.Queues.{of_lesser}
 use Rattle.net_model.specs.Networks.{Net}
 use Rattle.net_model.specs.Accepted.{IsAccepted}
 use Rattle.net_cells.specs.declared.cell.Kind.TheVariants.{In, PathService, Tfa, Sfa, Bound}
@@ -151,12 +151,6 @@ sfa_kept net at run i w =
     (subst (IsNumberIn (IsFlowBounded R run i)) (sym e.means.gives) (subst (IsFlowBounded R run i) is bounded))
 
 -- ---- and so by the lesser of the two
-of_lesser : (P : Ext → Type 0) (x y : Ext) → P x → P y → P (min_ext x y)
-of_lesser P x y h k = elim (min_one x y) [
-  | inl e ↦ subst P (sym e) h
-  | inr e ↦ subst P (sym e) k
-]
-
 pub path_kept : (net : Net) (at : CellTable) (run : SpecRun) (i : ℕ) → AlongPath net at run i → IsPathKept net at run i
 path_kept net at run i w =
     let R = routes_of net in

@@ -2,7 +2,7 @@
 use Rattle.std.specs.Prelude.{◌≡◌, ℕ, zero, suc, pos, ◌<◌, ◌≤◌, List, [], ◌∷◌, length, map, true, Option, Some, None, is_some, slice_get, Contains}
 use Rattle.std.proofs.Common.{arith, sym, ap, ◌∙◌, refl, subst, get_or}
 use Rattle.std.proofs.lemmas.List.{get_or_default, length-map}
-use Rattle.std.proofs.lemmas.Option.{slice_get_within, get_or_from_slice_get}
+use Rattle.std.proofs.lemmas.Option.{slice_get_within}
 use Rattle.rational.specs.Rational.{ℚ, int, ◌≤ℚ◌}
 use Rattle.rational.proofs.Laws.{le_refl}
 use Rattle.run_laws.specs.Servers.{Fifo, Server, queue_count}
@@ -15,6 +15,7 @@ use Rattle.net_cells.specs.Numbered.{flow_at, path_of, queues_of, path, hops, se
 use Rattle.net_cells.proofs.Lists.{Apart, at_has}
 use Rattle.net_cells.proofs.Places.{live_inside}
 use Rattle.net_cells.proofs.Members.{hop_kept}
+use Rattle.net_cells.proofs.Stored.{server_kept}
 use Rattle.net_bounds.specs.NetRuns.{hops_along, route_for, server_for, link_for, routes_of}
 use Rattle.net_bounds.proofs.Placed.{place_in, placed, apart_from}
 use Rattle.net_bounds.proofs.Paths.{is_path, passes_has, has_passes}
@@ -101,14 +102,10 @@ pub record IsServerAt (net : Net) (s : ℕ) : Type 0 where
   pub is : slice_get net.servers s ≡ Some server
   pub keeps : IsServer server
 
-kept_server : (net : Net) (s : ℕ) (x : NetServer) → IsAccepted net → slice_get net.servers s ≡ Some x → IsServer x
-kept_server net s x a is =
-    a.servers x (s, slice_get_within net.servers s x is, get_or_from_slice_get net.servers s x x is)
-
 pub known_server : (net : Net) (s : ℕ) → IsAccepted net → s < length net.servers → IsServerAt net s
 known_server net s a h =
     let it = server_of net.servers s h in
-    record { server = it.0; is = it.1; keeps = kept_server net s it.0 a it.1 }
+    record { server = it.0; is = it.1; keeps = server_kept net s it.0 a it.1 }
 
 pub servers_are : (net : Net) → length (routes_of net).servers ≡ length net.servers
 servers_are net = length-map net.servers server_for
@@ -144,7 +141,7 @@ link_nonneg net s a = one (slice_get net.servers s) refl
   where
     one : (o : Option NetServer) → slice_get net.servers s ≡ o → int (pos 0) ≤ℚ link_of o
     one None e = le_refl (int (pos 0))
-    one (Some x) e = (kept_server net s x a e).link
+    one (Some x) e = (server_kept net s x a e).link
 
 -- ---- hops
 pub hop_inside : (net : Net) (i k : ℕ) → IsAccepted net → k < hops net i → server_at net i k < length net.servers

@@ -18,24 +18,17 @@ use Rattle.net_draft.specs.Hops.{named_from}
 use Rattle.net_draft.specs.Tables.{server_names}
 use Rattle.net_draft.specs.Texts.{ServerText}
 use Rattle.net_draft.specs.Views.{server_text}
+use Rattle.net_draft.proofs.QuantaKept.{no_left, no_right}
 
 -- ---- new names
 other : (x name : List ℕ) → bytes_eq name x ≡ false → x ≢ name
 other x name h e = true≢false (sym ((bytes_eq-Decides name x).1 (sym e)) ∙ h)
 
-first_false : (a b : Bool) → (a || b) ≡ false → a ≡ false
-first_false true b h = absurd (true≢false h)
-first_false false b h = refl
-
-second_false : (a b : Bool) → (a || b) ≡ false → b ≡ false
-second_false true b h = absurd (true≢false h)
-second_false false b h = h
-
 pub all_other : (xs : List (List ℕ)) (name : List ℕ) → list_any (bytes_eq name) xs ≡ false → All (λ x. x ≢ name) xs
 all_other [] name h = All-nil (λ x. x ≢ name)
 all_other (x ∷ xs) name h =
-    All-cons (λ y. y ≢ name) x xs (other x name (first_false (bytes_eq name x) (list_any (bytes_eq name) xs) h))
-    (all_other xs name (second_false (bytes_eq name x) (list_any (bytes_eq name) xs) h))
+    All-cons (λ y. y ≢ name) x xs (other x name (no_left (bytes_eq name x) (list_any (bytes_eq name) xs) h))
+    (all_other xs name (no_right (bytes_eq name x) (list_any (bytes_eq name) xs) h))
 
 -- what holds of each seen part holds of each whole
 pub All-unmap : {X Y : Type 0} (P : Y → Type 0) (f : X → Y) (xs : List X) → All P (map f xs) → All (λ x. P (f x)) xs

@@ -13,11 +13,11 @@ use Rattle.net_draft.specs.Texts.{ServerText, FlowText, IsHopOf, IsWithinQuantum
 use Rattle.net_draft.specs.Drafts.{is_hop_to, is_longer, quanta_from, quanta_in, quanta_of_server, quanta_fit}
 
 -- ---- tests of lists
-no_left : (a b : Bool) → (a || b) ≡ false → a ≡ false
+pub no_left : (a b : Bool) → (a || b) ≡ false → a ≡ false
 no_left true b h = absurd (true≢false h)
 no_left false b h = refl
 
-no_right : (a b : Bool) → (a || b) ≡ false → b ≡ false
+pub no_right : (a b : Bool) → (a || b) ≡ false → b ≡ false
 no_right true b h = absurd (true≢false h)
 no_right false b h = h
 

@@ -7,14 +7,14 @@ ghost use Rattle.rational.specs.Rational.{int, ◌≤ℚ◌, ◌<ℚ◌};
 ghost use Rattle.toml.specs.View.{view, table_view};
 ghost use Rattle.toml.specs.Data.{get_member};
 ghost use Rattle.net_draft.specs.Faults.{Gives, placed};
-ghost use Rattle.net_draft.specs.Values.{at_key, required, optional, text_in, truth_in, table_in};
+ghost use Rattle.net_draft.specs.Values.{at_key, required, optional, truth_in, table_in};
 ghost use Rattle.net_draft.specs.Values.{number_in, positive_in, nonnegative_in, whole_in, list_in};
 ghost use Rattle.net_draft.specs.Keys.{only, texts_of};
 
 use crate::fault::DraftFault;
 use crate::places::{fault_at, fault_under};
 use crate::values::{
-    list_in, nonnegative_in, number_in, positive_in, table_in, text_in, truth_in, whole_in,
+    list_in, nonnegative_in, number_in, positive_in, table_in, truth_in, whole_in,
 };
 use fraction128::Frac;
 use net_model::NetKind;
@@ -67,23 +67,6 @@ pub(crate) fn table_at<'a>(
     match table_in(value) {
         Ok(table) => Ok(table),
         Err(kind) => Err(fault_at(alloc, kind, place)),
-    }
-}
-
-pub(crate) fn required_text<'a>(
-    alloc: Global,
-    table: &'a Table,
-    place: &str,
-    key: &str,
-) -> Result<&'a str, DraftFault>
-    ensures { Gives (λ s. s.now) result (at_key key.now (required text_in) place.now (table_view table.now)) }
-{
-    match field(table, key) {
-        None => Err(fault_under(alloc, NetKind::M2, place, key)),
-        Some(value) => match text_in(value) {
-            Ok(text) => Ok(text),
-            Err(kind) => Err(fault_under(alloc, kind, place, key)),
-        },
     }
 }
 

@@ -30,7 +30,7 @@ stays_of_part f Q end (Leaves c t ∷ V) most part h = stays_of_part f Q end V m
 stays_of_part f Q end (Visits q t ∷ V) most part h = stays_of_part f Q end V most part h
 
 -- what holds of two numbers holds of the lesser
-of_lesser : (P : Ext → Type 0) (x y : Ext) → P x → P y → P (min_ext x y)
+pub of_lesser : (P : Ext → Type 0) (x y : Ext) → P x → P y → P (min_ext x y)
 of_lesser P x y h k = elim (min_one x y) [
   | inl e ↦ subst P (sym e) h
   | inr e ↦ subst P (sym e) k

@@ -3,6 +3,7 @@
 
 mod breach;
 mod copies;
+mod edit;
 mod fault;
 mod flow;
 mod laws;
@@ -15,6 +16,7 @@ mod tests;
 mod trace;
 
 pub use breach::Breach;
+pub use edit::{Done, Edit, PathEntry};
 pub use fault::{CurveRefusal, NetFault, NetKind};
 pub use flow::Flow;
 pub use laws::kinds_may_stand;

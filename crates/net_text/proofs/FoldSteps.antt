@@ -1,20 +1,13 @@
 -- Steps of the closures of some flows, as a loop counts them.
-use Rattle.std.proofs.Common.{◌≡◌, ℕ, ◌+◌, ◌≤◌, Bool, true, false, List, ◌∷◌, Ok, Err, sym, ap, ◌∙◌, subst, arith, inl, inr, true≢false}
+use Rattle.std.proofs.Common.{◌≡◌, ℕ, ◌+◌, ◌≤◌, Bool, true, false, List, ◌∷◌, Ok, sym, ap, ◌∙◌, subst, arith, inl, inr, true≢false}
 use Rattle.upp_curve.specs.Curve.{SpecCurve}
 use Rattle.net_draft.specs.Drafts.{draft_of}
-use Rattle.net_draft.specs.Faults.{Fault, Read}
 use Rattle.net_draft.specs.Texts.{CurveText, FlowText, DraftText}
 use Rattle.net_text.specs.Becoming.{IsCurveOf}
 use Rattle.net_text.specs.Folds.{FoldOf, FoldsOf, IsSumOf, StepsAtMost}
-use Rattle.net_text.proofs.OneThing.{one_made, made_or_over}
+use Rattle.net_text.proofs.OneThing.{one_made, made_or_over, same_draft, draft_or_fault}
 
 -- ---- drafts
-same_draft : (d e : DraftText) → (let r : Read DraftText = Ok d in r) ≡ Ok e → d ≡ e
-same_draft d e h = cc
-
-draft_or_fault : (d : DraftText) (f : Fault) → (let r : Read DraftText = Ok d in r) ≡ Err f → ⊥
-draft_or_fault d f h = cc
-
 -- where the fold of a curve has so many operators
 module _ (operators : SpecCurve → ℕ) where
   -- the curve that was made is the one whose fold counts

@@ -5,3 +5,6 @@ pub mod OneThing
 pub mod Files
 pub mod ClosedArrivals
 pub mod FoldSteps
+pub mod Folding
+pub mod OneLimit
+pub mod FirstFaults

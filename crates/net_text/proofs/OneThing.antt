@@ -64,13 +64,13 @@ one_server t m n g h =
     λ i. record { name = name i; rate = rate i; kind = kind i; service = service i; link = link i; discipline = discipline i }
 
 -- ---- files
-same_draft : (d e : DraftText) → (let r : Read DraftText = Ok d in r) ≡ Ok e → d ≡ e
+pub same_draft : (d e : DraftText) → (let r : Read DraftText = Ok d in r) ≡ Ok e → d ≡ e
 same_draft d e h = cc
 
 same_fault : (f g : Fault) → (let r : Read DraftText = Err f in r) ≡ Err g → f ≡ g
 same_fault f g h = cc
 
-draft_or_fault : (d : DraftText) (f : Fault) → (let r : Read DraftText = Ok d in r) ≡ Err f → ⊥
+pub draft_or_fault : (d : DraftText) (f : Fault) → (let r : Read DraftText = Ok d in r) ≡ Err f → ⊥
 draft_or_fault d f h = cc
 
 -- where closures are made by folds of which Over says which limit they are over, one at most

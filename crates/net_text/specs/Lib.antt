@@ -5,3 +5,5 @@ pub mod Firsts
 pub mod Reading
 pub mod Laws
 pub mod Folds
+pub mod FoldLimits
+pub mod FileLaws

@@ -10,8 +10,10 @@ ghost use Rattle.net_text.specs.Becoming.{Becomes, FailsAt};
 ghost use Rattle.net_text.specs.Closing.{Closes};
 ghost use Rattle.net_text.specs.Folds.{FoldAtMost};
 ghost use Rattle.net_text.specs.Firsts.{arrival_place, FailsArrival};
+ghost use Rattle.net_text.specs.FoldLimits.{OverFold};
+ghost use Rattle.subadd_closure.specs.FoldWork.{fold_work};
 
-use crate::closer::Closer;
+use crate::closing::closed;
 use crate::limits::limit_fault;
 use crate::services::copy_of;
 use net_draft::{DraftFault, FlowDraft};
@@ -22,9 +24,8 @@ use upp_curve::Curve;
 use upp_limits::{OpFault, OverLimit};
 
 /// The closure of the arrival curve of the flow of a number.
-fn closure_of<C: Closer, L: Ledger>(
+fn closure_of<L: Ledger>(
     alloc: Global,
-    closer: &C,
     number: usize,
     curve: &Curve,
     steps: &mut Steps<L>,
@@ -32,13 +33,13 @@ fn closure_of<C: Closer, L: Ledger>(
     requires finite { IsFinite (value_at curve.now) }
     requires nonneg { IsNonnegative (value_at curve.now) }
     ensures own { IsCurve curve.now }
-    ensures closed { IfOk result (λ c. Closes C.over curve.now (Ok c)) }
-    ensures over { IfErr result (FailsAt (Closes C.over curve.now) (arrival_place number)) }
+    ensures closed { IfOk result (λ c. Closes OverFold curve.now (Ok c)) }
+    ensures over { IfErr result (FailsAt (Closes OverFold curve.now) (arrival_place number)) }
     ensures rises { steps.old ≤ steps.new }
-    ensures most { steps.new ≤ steps.old + C.operators curve.now }
+    ensures most { steps.new ≤ steps.old + fold_work curve.now }
 {
     let _pieces = curve.pieces();
-    match closer.close(curve, steps) {
+    match closed(alloc, curve, steps) {
         Ok(closed) => Ok(closed),
         Err(OpFault::TooMany) => Err(limit_fault(
             alloc,
@@ -59,23 +60,22 @@ fn closure_of<C: Closer, L: Ledger>(
 }
 
 /// The arrival curve of the flow of a number: what was made of its text, or the closure of that.
-pub(crate) fn arrival_of<C: Closer, L: Ledger>(
+pub(crate) fn arrival_of<L: Ledger>(
     alloc: Global,
-    closer: &C,
     number: usize,
     flow: &FlowDraft,
     steps: &mut Steps<L>,
 ) -> Result<Curve, DraftFault>
     requires { IsArrivalDraft flow.now.packet flow.now.arrival }
-    ensures becomes { IfOk result (λ c. Becomes C.over flow.now.closes (text_of flow.now.arrival.text) (Ok c)) }
-    ensures over { IfErr result (FailsArrival C.over flow.now.closes (text_of flow.now.arrival.text) number) }
+    ensures becomes { IfOk result (λ c. Becomes OverFold flow.now.closes (text_of flow.now.arrival.text) (Ok c)) }
+    ensures over { IfErr result (FailsArrival OverFold flow.now.closes (text_of flow.now.arrival.text) number) }
     ensures rises { steps.old ≤ steps.new }
-    ensures most { FoldAtMost C.operators flow.now.closes (text_of flow.now.arrival.text) steps.old steps.new }
+    ensures most { FoldAtMost fold_work flow.now.closes (text_of flow.now.arrival.text) steps.old steps.new }
 {
     match &flow.arrival.made {
         Ok(curve) => {
             if flow.closes {
-                closure_of(alloc, closer, number, curve, steps)
+                closure_of(alloc, number, curve, steps)
             } else {
                 Ok(copy_of(curve)?)
             }

@@ -9,9 +9,10 @@ ghost use Rattle.net_draft.specs.Views.{flow_text};
 ghost use Rattle.net_text.specs.Built.{IsFlowOf, IsLiveFlowOf};
 ghost use Rattle.net_text.specs.Folds.{FoldAtMost, FoldsOf};
 ghost use Rattle.net_text.specs.Firsts.{arrivals_from, FailsArrival, FailsFirst};
+ghost use Rattle.net_text.specs.FoldLimits.{OverFold};
+ghost use Rattle.subadd_closure.specs.FoldWork.{fold_work};
 
 use crate::arrivals::arrival_of;
-use crate::closer::Closer;
 use net_draft::{DraftFault, FlowDraft, Hop};
 use net_model::Flow;
 use std::alloc::{AllocError, Global};
@@ -30,20 +31,19 @@ fn queues_of(alloc: Global, hops: &[Hop]) -> Result<Vec<u32>, AllocError>
     hops.iter().map(|hop| hop.queue).collect(alloc)
 }
 
-fn flow_of<C: Closer, L: Ledger>(
+fn flow_of<L: Ledger>(
     alloc: Global,
-    closer: &C,
     number: usize,
     draft: &FlowDraft,
     steps: &mut Steps<L>,
 ) -> Result<Flow, DraftFault>
     requires { IsArrivalDraft draft.now.packet draft.now.arrival }
-    ensures built { IfOk result (λ f. IsFlowOf C.over (flow_text draft.now) (flow_of f)) }
-    ensures over { IfErr result (FailsArrival C.over draft.now.closes (text_of draft.now.arrival.text) number) }
+    ensures built { IfOk result (λ f. IsFlowOf OverFold (flow_text draft.now) (flow_of f)) }
+    ensures over { IfErr result (FailsArrival OverFold draft.now.closes (text_of draft.now.arrival.text) number) }
     ensures rises { steps.old ≤ steps.new }
-    ensures most { FoldAtMost C.operators draft.now.closes (text_of draft.now.arrival.text) steps.old steps.new }
+    ensures most { FoldAtMost fold_work draft.now.closes (text_of draft.now.arrival.text) steps.old steps.new }
 {
-    let arrival = arrival_of(alloc, closer, number, draft, steps)?;
+    let arrival = arrival_of(alloc, number, draft, steps)?;
     Ok(Flow {
         name: draft.name.clone()?,
         path: path_of(alloc, &draft.path)?,
@@ -54,21 +54,20 @@ fn flow_of<C: Closer, L: Ledger>(
 }
 
 /// The flows of a draft, or the fault of the first whose curve, or its closure, is over a limit.
-pub(crate) fn flows_of<C: Closer, L: Ledger>(
+pub(crate) fn flows_of<L: Ledger>(
     alloc: Global,
-    closer: &C,
     drafts: &[FlowDraft],
     steps: &mut Steps<L>,
 ) -> Result<Vec<Option<Flow>>, DraftFault>
     requires { All (λ f. IsArrivalDraft f.packet f.arrival) drafts.now }
-    ensures built { IfOk result (λ v. AllZip (IsLiveFlowOf C.over) (map flow_text drafts.now) (flows_of v.items)) }
-    ensures over { IfErr result (FailsFirst C.over (arrivals_from 0 (map flow_text drafts.now))) }
+    ensures built { IfOk result (λ v. AllZip (IsLiveFlowOf OverFold) (map flow_text drafts.now) (flows_of v.items)) }
+    ensures over { IfErr result (FailsFirst OverFold (arrivals_from 0 (map flow_text drafts.now))) }
     ensures rises { steps.old ≤ steps.new }
-    ensures most { (t : ℕ) → FoldsOf C.operators (map flow_text drafts.now) t → steps.new ≤ steps.old + t }
+    ensures most { (t : ℕ) → FoldsOf fold_work (map flow_text drafts.now) t → steps.new ≤ steps.old + t }
 {
     let mut flows = Vec::with_capacity(alloc, drafts.len())?;
     for (number, draft) in drafts.iter().enumerate() {
-        let flow = flow_of(alloc, closer, number, draft, steps)?;
+        let flow = flow_of(alloc, number, draft, steps)?;
         flows.push(Some(flow))?;
     }
     Ok(flows)

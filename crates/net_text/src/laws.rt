@@ -1,10 +1,15 @@
-//! What else is known of reading.
+//! What else is known of files. Each function is a theorem: its contract is the law, its body is empty.
 
 ghost use Rattle.net_text.specs.Laws.{EachFileSaysOneThing};
+ghost use Rattle.net_text.specs.FileLaws.{NoFaultIsWantOfMemory};
+ghost use Rattle.net_text.specs.FoldLimits.{OverFold};
 
-use crate::closer::Closer;
+/// A file says one thing: one network, or one first fault, and not both.
+pub fn each_file_says_one_thing()
+    ensures { EachFileSaysOneThing OverFold }
+{}
 
-/// A file says one thing, by what makes closures: one network, or one first fault, and not both.
-pub fn each_file_says_one_thing<C: Closer>()
-    ensures { EachFileSaysOneThing C.over }
+/// No first fault of a file has the kind `NoMemory`: so the reader's answer says whether an allocation was refused.
+pub fn no_fault_is_want_of_memory()
+    ensures { NoFaultIsWantOfMemory }
 {}

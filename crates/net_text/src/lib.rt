@@ -2,14 +2,15 @@
 #![tactic(auto)]
 
 mod arrivals;
-mod closer;
+mod closing;
 mod flows;
 mod laws;
 mod limits;
 mod reading;
 mod servers;
 mod services;
+#[cfg(test)]
+mod tests;
 
-pub use closer::Closer;
-pub use laws::each_file_says_one_thing;
+pub use laws::{each_file_says_one_thing, no_fault_is_want_of_memory};
 pub use reading::read_network;

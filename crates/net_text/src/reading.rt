@@ -4,8 +4,9 @@ ghost use Rattle.std.specs.Prelude.{◌≤◌, IfOk, IfErr};
 ghost use Rattle.net_text.specs.Becoming.{IsTold};
 ghost use Rattle.net_text.specs.Folds.{StepsAtMost};
 ghost use Rattle.net_text.specs.Reading.{IsNetworkOf, IsAnswered, FailsFile};
+ghost use Rattle.net_text.specs.FoldLimits.{OverFold};
+ghost use Rattle.subadd_closure.specs.FoldWork.{fold_work};
 
-use crate::closer::Closer;
 use crate::flows::flows_of;
 use crate::servers::servers_of;
 use net_draft::{DraftFault, read_draft};
@@ -26,39 +27,38 @@ fn told(alloc: Global, fault: DraftFault) -> NetFault
     }
 }
 
-fn network_of<C: Closer, L: Ledger>(
+fn network_of<L: Ledger>(
     alloc: Global,
-    closer: &C,
     text: &[u8],
     steps: &mut Steps<L>,
 ) -> Result<Network, DraftFault>
-    ensures network { IfOk result (IsNetworkOf C.over text.now) }
-    ensures fault { IfErr result (FailsFile C.over text.now) }
+    ensures network { IfOk result (IsNetworkOf OverFold text.now) }
+    ensures fault { IfErr result (FailsFile OverFold text.now) }
     ensures rises { steps.old ≤ steps.new }
-    ensures most { StepsAtMost C.operators text.now steps.old steps.new }
+    ensures most { StepsAtMost fold_work text.now steps.old steps.new }
 {
     let draft = read_draft(alloc, text)?;
-    let servers = servers_of::<C>(alloc, &draft.servers)?;
-    let flows = flows_of(alloc, closer, &draft.flows, steps)?;
+    let servers = servers_of(alloc, &draft.servers)?;
+    let flows = flows_of(alloc, &draft.flows, steps)?;
     Ok(Network::new(servers, flows))
 }
 
 /// The network that the bytes of a file give, or its first fault: of its tables in their order, and past them of the
-/// first curve that is over a limit, services of servers in order, then arrivals of flows, each before its closure.
-/// It takes at most the steps of the folds of the closures that the file asks for.
+/// first curve that is over a limit, services of servers in order, then arrivals of flows, each before its closure, which
+/// is over the limit that the first operator of its fold is over.
+/// It takes at most a step for each operator of the folds of the closures that the file asks for.
 /// Only where an allocation was refused the kind is `NoMemory`, with no place.
-pub fn read_network<C: Closer, L: Ledger>(
+pub fn read_network<L: Ledger>(
     alloc: Global,
-    closer: &C,
     text: &[u8],
     steps: &mut Steps<L>,
 ) -> Result<Network, NetFault>
-    ensures network { IfOk result (IsNetworkOf C.over text.now) }
-    ensures fault { IfErr result (IsAnswered C.over text.now) }
+    ensures network { IfOk result (IsNetworkOf OverFold text.now) }
+    ensures fault { IfErr result (IsAnswered OverFold text.now) }
     ensures rises { steps.old ≤ steps.new }
-    ensures most { StepsAtMost C.operators text.now steps.old steps.new }
+    ensures most { StepsAtMost fold_work text.now steps.old steps.new }
 {
-    match network_of(alloc, closer, text, steps) {
+    match network_of(alloc, text, steps) {
         Ok(network) => Ok(network),
         Err(fault) => Err(told(alloc, fault)),
     }

@@ -4,6 +4,10 @@
 ghost use Rattle.std.specs.Prelude.{◌≡◌, ◌<◌};
 
 #[cfg(test)]
+mod asking;
+#[cfg(test)]
+mod cases;
+#[cfg(test)]
 mod tests;
 
 use netcalc_cli::{Status, run};

@@ -1,4 +1,8 @@
+//! What whole commands answer beside the cases: where inputs and sinks fail, at the longest files, at the ends of ranges, and
+//! over a file of the machine.
+
 use super::*;
+use crate::asking::words_in;
 use outside::{MemInputs, MemSink};
 use std::alloc::Global;
 use std::fs;
@@ -7,15 +11,6 @@ use std::time::{SystemTime, UNIX_EPOCH};
 
 const USAGE: &str =
     "netcalc: usage: netcalc analyse NET [--json], edit NET EDITS [--json], simulate NET TRACE, exercise N\n";
-
-/// The words of a command line, which are separated by single spaces.
-fn words_in(alloc: Global, line: &str) -> Result<Vec<String>, Fail> {
-    let mut all = Vec::new(alloc);
-    for word in line.split(' ') {
-        all.push(String::from_str(alloc, word)?)?;
-    }
-    Ok(all)
-}
 
 /// What a call with these words does, where `n.toml` holds these bytes: the status, and what is written. So
 /// many first calls of the inputs and of the sink fail.
@@ -69,31 +64,6 @@ fn network(
 fn one_server_and_one_flow_have_these_bounds(rt: HostRuntime) -> Result<(), Fail> {
     let alloc = rt.alloc();
     for (rate, latency, packet, bucket, delay, backlog) in [
-        (
-            "100",
-            "10",
-            "12000",
-            "burst = 12000, rate = 10",
-            "130",
-            "13300",
-        ),
-        (
-            "100",
-            "10",
-            "12000",
-            "burst = 12000, rate = 100",
-            "130",
-            "25000",
-        ),
-        (
-            "100",
-            "10",
-            "12000",
-            "burst = 12000, rate = 101",
-            "unbounded",
-            "unbounded",
-        ),
-        ("100", "10", "12000", "burst = 0, rate = 0", "0", "0"),
         ("100", "10", "12000", "burst = 0, rate = 1", "10", "130"),
         ("7", "3", "5", "burst = 9, rate = 2", "30/7", "115/7"),
         (
@@ -132,22 +102,9 @@ fn words_files_and_sinks_are_refused(rt: HostRuntime) -> Result<(), Fail> {
     // A file of so many bytes of comment, or the good one; and how many calls of the inputs and of the sink fail.
     for (line, bytes, input_fails, sink_fails, status, text) in [
         ("", 0, 0, 0, 2, USAGE),
-        ("netcalc", 0, 0, 0, 2, USAGE),
-        ("netcalc analyse", 0, 0, 0, 2, USAGE),
         ("netcalc analyse n.toml --json", 0, 0, 0, 2, USAGE),
-        ("netcalc analyze n.toml", 0, 0, 0, 2, USAGE),
-        ("netcalc analyse -n.toml", 0, 0, 0, 2, USAGE),
         ("netcalc analyse ", 0, 0, 0, 2, USAGE),
-        ("netcalc --help", 0, 0, 0, 2, USAGE),
         ("netcalc analyse", 0, 0, 1, 4, ""),
-        (
-            "netcalc analyse nope.toml",
-            0,
-            0,
-            0,
-            3,
-            "netcalc: cannot read nope.toml\n",
-        ),
         (
             "netcalc analyse n.toml",
             0,

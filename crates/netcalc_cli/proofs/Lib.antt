@@ -1,3 +1,10 @@
 pub mod Replies
 pub mod ExampleNet
 pub mod ExampleBound
+pub mod FirstFaults
+pub mod Sorted
+pub mod OneReply
+pub mod Counting
+pub mod Unbounded
+pub mod ByStatus
+pub mod OnNets

@@ -8,12 +8,12 @@ use Rattle.upp_limits.specs.declared.own_limits.OverLimit.TheVariants.{TooMany, 
 use Rattle.net_model.specs.Networks.{Net}
 use Rattle.net_cells.specs.Meanings.{CellTable}
 use Rattle.net_bounds.proofs.Kept.{table_bounds_every_run}
-use Rattle.file_answers.specs.Counts.{CountsOn}
-use Rattle.file_answers.specs.Laws.{IsWithinLimits}
-use Rattle.file_answers.specs.Replies.{Reply, too_long}
-use Rattle.file_answers.specs.OnFiles.{IsBroken, IsOverLimit, HasCycle, IsReportOf, IsReport}
-use Rattle.file_answers.proofs.ByStatus.{IsByStatus, by_status}
-use Rattle.file_answers.proofs.OneReply as on_bytes
+use Rattle.netcalc_cli.specs.AnswerCounts.{CountsOn}
+use Rattle.netcalc_cli.specs.AnswerLaws.{IsWithinLimits}
+use Rattle.netcalc_cli.specs.Replies.{Reply, too_long}
+use Rattle.netcalc_cli.specs.OnFiles.{IsBroken, IsOverLimit, HasCycle, IsReportOf, IsReport}
+use Rattle.netcalc_cli.proofs.ByStatus.{IsByStatus, by_status}
+use Rattle.netcalc_cli.proofs.OneReply as on_bytes
 use Rattle.netcalc_cli.specs.Counts.{CountsOnFile}
 use Rattle.netcalc_cli.specs.Guarantee.{Guarantees}
 use Rattle.netcalc_cli.specs.Laws.{RepliesAreDetermined}

@@ -1,6 +1,6 @@
 -- How many steps a call takes.
 use Rattle.std.specs.Prelude.{◌≡◌, ◌≢◌, ◌≤◌, ◌⊎◌, ℕ, List, length, Option, Some, None}
-use Rattle.file_answers.specs.Counts.{CountsOn}
+use Rattle.netcalc_cli.specs.AnswerCounts.{CountsOn}
 use Rattle.netcalc_cli.specs.Reply.{most_bytes, MayHold}
 
 -- A file holds bytes that are not too many, and the steps are those of an answer on them.

@@ -1,7 +1,7 @@
 -- What holds of the replies on a file.
 use Rattle.std.specs.Prelude.{ℕ, List}
-use Rattle.file_answers.specs.Replies.{Reply}
-use Rattle.file_answers.specs.Laws.{AreSame}
+use Rattle.netcalc_cli.specs.Replies.{Reply}
+use Rattle.netcalc_cli.specs.AnswerLaws.{AreSame}
 use Rattle.netcalc_cli.specs.Reply.{IsReplyOnFile}
 
 -- status and bytes are determined by the file's name and by what it holds, but for the choice among cycles

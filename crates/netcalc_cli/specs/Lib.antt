@@ -4,3 +4,9 @@ pub mod Counts
 pub mod Guarantee
 pub mod Laws
 pub mod Example
+pub mod Replies
+pub mod View
+pub mod Faults
+pub mod OnFiles
+pub mod AnswerCounts
+pub mod AnswerLaws

@@ -3,9 +3,9 @@ use Rattle.std.specs.Prelude.{◌≡◌, ◌≤◌, ◌<◌, ◌⊎◌, ℕ, Lis
 use Rattle.std.specs.Io.KnownBytes.{Appends}
 use Rattle.outside.specs.Faults.{Rose}
 use Rattle.outside.specs.Written.{AppendsFront}
-use Rattle.file_answers.specs.Replies.{Reply, usage, cannot_read, too_long}
-use Rattle.file_answers.specs.OnFiles.{IsReplyOn}
-use Rattle.file_answers.specs.Laws.{IsWithinLimits}
+use Rattle.netcalc_cli.specs.Replies.{Reply, usage, cannot_read, too_long}
+use Rattle.netcalc_cli.specs.OnFiles.{IsReplyOn}
+use Rattle.netcalc_cli.specs.AnswerLaws.{IsWithinLimits}
 
 -- the commands that the usage line tells
 abbrev pub commands : List ℕ

@@ -1,11 +1,13 @@
 //! The answer on a file that is fetched.
 
 ghost use Rattle.std.specs.Prelude.{◌≡◌, IfOk};
-ghost use Rattle.file_answers.specs.View.{reply_of, status_of};
+ghost use Rattle.netcalc_cli.specs.View.{reply_of, status_of};
 ghost use Rattle.netcalc_cli.specs.Counts.{CountsOnFile};
 ghost use Rattle.netcalc_cli.specs.Reply.{MayReplyOn};
 
-use file_answers::{Answer, cannot_read, on_bytes, too_long};
+use crate::answer::Answer;
+use crate::on_file::on_bytes;
+use crate::refusals::{cannot_read, too_long};
 use outside::{FetchFault, Inputs, NoMemory};
 use std::alloc::Global;
 use std::sync::ledger::Ledger;

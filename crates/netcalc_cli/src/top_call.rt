@@ -4,18 +4,18 @@ ghost use Rattle.std.specs.Prelude.{◌≡◌, ◌≢◌, ◌⊎◌, None, IfSom
 ghost use Rattle.upp_limits.specs.declared.own_limits.OverLimit.TheVariants as limits;
 ghost use Rattle.net_model.specs.Networks.{Net};
 ghost use Rattle.net_cells.specs.Meanings.{CellTable};
-ghost use Rattle.file_answers.specs.OnFiles.{IsBroken, IsOverLimit, HasCycle, IsReportOf};
-ghost use Rattle.file_answers.specs.Replies.{Reply, usage, cannot_read, too_long};
-ghost use Rattle.file_answers.specs.View.{code_of};
+ghost use Rattle.netcalc_cli.specs.OnFiles.{IsBroken, IsOverLimit, HasCycle, IsReportOf};
+ghost use Rattle.netcalc_cli.specs.Replies.{Reply, usage, cannot_read, too_long};
+ghost use Rattle.netcalc_cli.specs.View.{code_of};
 ghost use Rattle.netcalc_cli.specs.Counts.{Counts};
 ghost use Rattle.netcalc_cli.specs.Guarantee.{Guarantees};
 ghost use Rattle.netcalc_cli.specs.Reply.{commands, MayReply, IsTooLong, FailedAt};
 ghost use Rattle.netcalc_cli.specs.Reply.{Gives, GivesOnTold, ReportsWithinLimits, Brings, FailsToGive};
 ghost use Rattle.netcalc_cli.specs.Words.{texts, net_word};
 
+use crate::answer::Status;
 use crate::fetching::answer_on;
 use crate::words::take_words;
-use file_answers::Status;
 use outside::{Inputs, Sink};
 use std::sync::ledger::Ledger;
 use steps::Steps;

@@ -1,4 +1,4 @@
-use Rattle.element_envelope.proofs.tests.stairs.Given as goal
+use Rattle.curve_conv.proofs.tests.stairs.Given as goal
 
 abbrev pub ghosts-convolved : goal.ghosts-convolved
 ghosts-convolved g a = record { name = a.blank.name; parts = a.blank.parts }

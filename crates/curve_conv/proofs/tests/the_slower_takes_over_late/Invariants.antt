@@ -1,4 +1,4 @@
-use Rattle.element_envelope.proofs.tests.the_slower_takes_over_late.Given as goal
+use Rattle.curve_conv.proofs.tests.the_slower_takes_over_late.Given as goal
 
 abbrev pub ghosts-convolved : goal.ghosts-convolved
 ghosts-convolved g a = record { name = a.blank.name; parts = a.blank.parts }

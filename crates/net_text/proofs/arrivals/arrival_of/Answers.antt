@@ -4,6 +4,8 @@ use Rattle.net_text.specs.Becoming.{IsCurveOf}
 use Rattle.net_text.specs.Firsts.{arrival_place}
 use Rattle.net_text.proofs.FoldSteps.{fold_is}
 use Rattle.net_text.proofs.ClosedArrivals.{made_is, arrival_stands, closed_ok, closed_err}
+use Rattle.net_text.specs.FoldLimits.{OverFold}
+use Rattle.subadd_closure.specs.FoldWork.{fold_work}
 use Rattle.net_text.proofs.arrivals.arrival_of.Goals as goal
 
 pub closure_of-requires-clause-finite : goal.closure_of-requires-clause-finite
@@ -16,18 +18,18 @@ pub returns-then-flow-clause-becomes : goal.returns-then-flow-clause-becomes
 returns-then-flow-clause-becomes g c =
     let f = c.args.flow.now in
     let is : IsCurveOf (text_of f.arrival.text) c.in-Ok.curve = record { curve = c.closure_of.ensures.own; made = made_is f.packet f.arrival c.in-Ok.curve c.requires c.in-Ok.is } in
-    closed_ok g.C.Closer.over f.closes (text_of f.arrival.text) c.in-Ok.curve c.closure_of.result c.if-flow.true is c.closure_of.ensures.closed
+    closed_ok OverFold f.closes (text_of f.arrival.text) c.in-Ok.curve c.closure_of.result c.if-flow.true is c.closure_of.ensures.closed
 
 pub returns-then-flow-clause-over : goal.returns-then-flow-clause-over
 returns-then-flow-clause-over g c =
     let f = c.args.flow.now in
     let is : IsCurveOf (text_of f.arrival.text) c.in-Ok.curve = record { curve = c.closure_of.ensures.own; made = made_is f.packet f.arrival c.in-Ok.curve c.requires c.in-Ok.is } in
-    closed_err g.C.Closer.over f.closes (text_of f.arrival.text) c.in-Ok.curve (arrival_place c.args.number) c.closure_of.result c.if-flow.true is c.closure_of.ensures.over
+    closed_err OverFold f.closes (text_of f.arrival.text) c.in-Ok.curve (arrival_place c.args.number) c.closure_of.result c.if-flow.true is c.closure_of.ensures.over
 
 pub returns-then-flow-clause-most : goal.returns-then-flow-clause-most
 returns-then-flow-clause-most g c = λ k h.
     let f = c.args.flow.now in
     let is : IsCurveOf (text_of f.arrival.text) c.in-Ok.curve = record { curve = c.closure_of.ensures.own; made = made_is f.packet f.arrival c.in-Ok.curve c.requires c.in-Ok.is } in
-    let same : k ≡ g.C.Closer.operators c.in-Ok.curve = fold_is g.C.Closer.operators f.closes (text_of f.arrival.text) c.in-Ok.curve k c.if-flow.true is h in
-    let most : c.closure_of.new.steps ≤ c.args.steps.now + g.C.Closer.operators c.in-Ok.curve = c.closure_of.ensures.most in
+    let same : k ≡ fold_work c.in-Ok.curve = fold_is fold_work f.closes (text_of f.arrival.text) c.in-Ok.curve k c.if-flow.true is h in
+    let most : c.closure_of.new.steps ≤ c.args.steps.now + fold_work c.in-Ok.curve = c.closure_of.ensures.most in
     omega (arith, same, most)

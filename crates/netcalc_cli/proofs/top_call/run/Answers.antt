@@ -1,6 +1,6 @@
 use Rattle.std.proofs.Common.{refl, sym, ◌∙◌}
-use Rattle.file_answers.specs.Replies.{usage}
-use Rattle.file_answers.specs.View.{reply_of}
+use Rattle.netcalc_cli.specs.Replies.{usage}
+use Rattle.netcalc_cli.specs.View.{reply_of}
 use Rattle.netcalc_cli.specs.Reply.{commands}
 use Rattle.netcalc_cli.proofs.Replies.{brought, told_given, reports_within, on_file_at}
 use Rattle.netcalc_cli.proofs.top_call.run.Goals as goal

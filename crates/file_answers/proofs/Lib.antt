@@ -1,7 +1,0 @@
-pub mod FirstFaults
-pub mod Sorted
-pub mod OneReply
-pub mod Counting
-pub mod Unbounded
-pub mod ByStatus
-pub mod OnNets

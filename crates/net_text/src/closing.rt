@@ -1,0 +1,32 @@
+//! The closures of files.
+
+ghost use Rattle.std.specs.Prelude.{◌≤◌, ◌+◌};
+ghost use Rattle.upp_curve.specs.Curve.{value_at};
+ghost use Rattle.min_plus.specs.Functions.{IsFinite, IsNonnegative};
+ghost use Rattle.net_text.specs.Closing.{KeepsClosing};
+ghost use Rattle.net_text.specs.FoldLimits.{OverFold};
+ghost use Rattle.subadd_closure.specs.FoldWork.{fold_work};
+
+use std::alloc::Global;
+use std::sync::ledger::Ledger;
+use steps::Steps;
+use subadd_closure::close;
+use upp_curve::Curve;
+use upp_limits::OpFault;
+
+/// The subadditive closure of a finite curve that is nowhere below 0, by the fold of the closures of its parts, and then
+/// that fold is over no limit; refused for the limit that the fold is over, or where there is no memory. It takes at
+/// most a step an operator of the fold.
+pub(crate) fn closed<L: Ledger>(
+    alloc: Global,
+    f: &Curve,
+    steps: &mut Steps<L>,
+) -> Result<Curve, OpFault>
+    requires finite { IsFinite (value_at f.now) }
+    requires nonneg { IsNonnegative (value_at f.now) }
+    ensures answer { KeepsClosing OverFold f.now result }
+    ensures rises { steps.old ≤ steps.new }
+    ensures most { steps.new ≤ steps.old + fold_work f.now }
+{
+    close(alloc, f, steps)
+}

@@ -1,3 +1,0 @@
-pub mod FoldLimits
-pub mod OneLimit
-pub mod FileLaws
