@@ -1,18 +1,21 @@
 -- What was made of an arrival's text, and what its closure becomes.
 use Rattle.std.specs.Prelude.{IfOk, IfErr}
-use Rattle.std.proofs.Common.{◌≡◌, ℕ, Bool, true, false, List, Result, Ok, Err, subst, inr, true≢false, sym}
+use Rattle.std.specs.String.{string_bytes}
+use Rattle.std.proofs.Common.{◌≡◌, refl, ℕ, Bool, true, false, List, Result, Ok, Err, subst, inr, true≢false, sym}
 use Rattle.upp_curve.specs.Curve.{SpecCurve}
 use Rattle.upp_limits.specs.declared.own_limits.OverLimit.{OverLimit}
 use Rattle.net_model.specs.Accepted.{IsArrivalCurve}
+use Rattle.net_model.specs.declared.fault.NetFault.{NetFault}
 use Rattle.net_draft.specs.declared.curve_draft.CurveDraft.{CurveDraft}
 use Rattle.net_draft.specs.declared.fault.DraftFault.{DraftFault}
 use Rattle.net_draft.specs.declared.fault.DraftFault.TheVariants as answers
+use Rattle.net_draft.specs.Faults.{IsFault, fault_of}
 use Rattle.net_draft.specs.CurveTexts.{text_of}
 use Rattle.net_draft.specs.Kept.{IsArrivalDraft}
 use Rattle.net_draft.specs.Made.{IsMade}
 use Rattle.net_draft.specs.Texts.{CurveText}
 use Rattle.net_draft.proofs.MayStand.{made_may_stand}
-use Rattle.net_text.specs.Becoming.{IsCurveOf, Becomes, FailsAt}
+use Rattle.net_text.specs.Becoming.{IsCurveOf, Becomes, FailsAt, limit_kind, limit_fault}
 use Rattle.net_text.specs.Closing.{Closes}
 
 pub made_is : (packet : ℕ) (d : CurveDraft) (c : SpecCurve) → IsArrivalDraft packet d → d.made ≡ Ok c → IsMade (text_of d.text) (Ok c)
@@ -20,6 +23,9 @@ made_is packet d c h is = subst (IsMade (text_of d.text)) is h.made
 
 pub arrival_stands : (packet : ℕ) (d : CurveDraft) (c : SpecCurve) → IsArrivalDraft packet d → d.made ≡ Ok c → IsArrivalCurve c
 arrival_stands packet d c h is = made_may_stand.arrival packet (text_of d.text) c h.own (made_is packet d c h is)
+
+fault_is : (g : NetFault) (limit : OverLimit) (place : List ℕ) → g.kind ≡ limit_kind limit → string_bytes g.place ≡ place → fault_of g ≡ limit_fault limit place
+fault_is g limit place kind at = rw (kind, at) refl
 
 -- where closures are made by folds of which Over says which limit they are over
 module _ (Over : SpecCurve → OverLimit → Type 0) where
@@ -39,3 +45,8 @@ module _ (Over : SpecCurve → OverLimit → Type 0) where
   pub closed_err : (closes : Bool) (text : CurveText) (c : SpecCurve) (place : List ℕ) (r : Result SpecCurve DraftFault) → closes ≡ true → IsCurveOf text c → IfErr r (FailsAt (Closes Over c) place) → IfErr r (FailsAt (Becomes Over closes text) place)
   closed_err closes text c place (Ok d) e is h = tt
   closed_err closes text c place (Err f) e is h = closed_fails closes text c place f e is h
+
+  -- a fault of the kind of the limit that a fold is over tells that limit
+  pub limit_fails : (f : SpecCurve) (limit : OverLimit) (place : List ℕ) (e : DraftFault) → IsFault (limit_kind limit) place e → Over f limit → FailsAt (Closes Over f) place e
+  limit_fails f limit place answers.NoMemory is over = tt
+  limit_fails f limit place (answers.Fault g) is over = record { limit = limit; over = over; is = fault_is g limit place is.0 is.1 }
