@@ -5,3 +5,4 @@ pub mod Firsts
 pub mod Kept
 pub mod Running
 pub mod Steps
+pub mod Taking

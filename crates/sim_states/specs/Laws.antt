@@ -1,10 +1,10 @@
 -- What the simulator's state is good for, and what keeps it.
-use Rattle.std.specs.Prelude.{Some, None, ◌≡◌, ℕ, ◌+◌, List, [], ◌∷◌, ◌++◌, length, set}
+use Rattle.std.specs.Prelude.{Some, None, ◌≡◌, ℕ, ◌+◌, List, [], ◌∷◌, ◌++◌, length, set, ◌<◌, ◌^◌, slice_get}
 use Rattle.rational.specs.Rational.{ℚ, ◌+ℚ◌}
 use Rattle.run_laws.specs.declared.steps.Step.{Step}
 use Rattle.run_laws.specs.declared.steps.Step.TheVariants.{Enter, Reach, Work, Leave, Visit}
 use Rattle.run_laws.specs.Next.{next}
-use Rattle.run_laws.specs.Routes.{server_at, link_at, server_after}
+use Rattle.run_laws.specs.Routes.{server_at, link_at, server_after, route_of, queue_at, first_server}
 use Rattle.run_laws.specs.Views.{hops_of, server_of, seen}
 use Rattle.run_laws.specs.Lawful.{state_at}
 use Rattle.index_links.specs.Chains.{Chains, list_at, unlinked, with_list}
@@ -16,7 +16,7 @@ use Rattle.sim_servers.specs.declared.due.Due.{Due}
 use Rattle.sim_servers.specs.declared.station.Station.{Station}
 use Rattle.sim_servers.specs.Queues.{room_of}
 use Rattle.sim_servers.specs.Firsts.{place_of}
-use Rattle.sim_servers.specs.Stations.{IsStation}
+use Rattle.sim_servers.specs.Stations.{IsStation, MayTake}
 use Rattle.sim_states.specs.declared.arrival.Arrival.{Arrival}
 use Rattle.sim_states.specs.Running.{IsRunning, IsFirstCandidate}
 
@@ -77,3 +77,17 @@ LastDeparturesKeep = (S : Setup) → IsSetup S → (stations : List Station) (li
     → IsRunning S stations links arrivals n xs → (s p : ℕ) (t : ℚ) → IsNext S (state_after S xs) (Leave s p t) → (new : Station)
     → IsAfter S xs (Leave s p t) new → server_after s (hops_of S.net (state_after S xs).entered p) ≡ None
     → IsRunning S (set stations s new) links arrivals n (xs ++ Leave s p t ∷ [])
+
+-- ---- what a station asks for
+-- a packet that enters next may be taken by the station of its flow's first server
+abbrev pub EntriesMayBeTaken : Type 0
+EntriesMayBeTaken = (S : Setup) → IsSetup S → (stations : List Station) (links : Chains) (arrivals : List Arrival) (n : ℕ) (xs : List Step)
+    → IsRunning S stations links arrivals n xs → length S.packets < 2 ^ 31 → (f p : ℕ) (t : ℚ) (b : ℕ) → IsNext S (state_after S xs) (Enter f p t b)
+    → (x : Station) → slice_get stations (first_server (route_of S.net f).hops) ≡ Some x
+    → MayTake x p (queue_at (first_server (route_of S.net f).hops) (route_of S.net f).hops) t
+
+-- and one that reaches a server next by that server's
+abbrev pub ArrivalsMayBeTaken : Type 0
+ArrivalsMayBeTaken = (S : Setup) → IsSetup S → (stations : List Station) (links : Chains) (arrivals : List Arrival) (n : ℕ) (xs : List Step)
+    → IsRunning S stations links arrivals n xs → length S.packets < 2 ^ 31 → (s p : ℕ) (t : ℚ) → IsNext S (state_after S xs) (Reach s p t)
+    → (x : Station) → slice_get stations s ≡ Some x → MayTake x p (queue_at s (hops_of S.net (state_after S xs).entered p)) t

@@ -1,6 +1,6 @@
 //! Laws of the simulator's state. A law is the contract of a function that does nothing.
 
-ghost use Rattle.sim_states.specs.Laws.{NothingIsLeft, FirstIsNext, EntriesKeep, ArrivalsKeep, WorkKeeps, VisitsKeep, DeparturesKeep, LastDeparturesKeep};
+ghost use Rattle.sim_states.specs.Laws.{NothingIsLeft, FirstIsNext, EntriesKeep, ArrivalsKeep, WorkKeeps, VisitsKeep, DeparturesKeep, LastDeparturesKeep, EntriesMayBeTaken, ArrivalsMayBeTaken};
 
 /// Where the simulator takes nothing for due, no step is due: the stated run has come to its end.
 pub fn nothing_is_left()
@@ -41,4 +41,14 @@ pub fn departures_keep_the_state()
 /// A packet that leaves its last server keeps it.
 pub fn last_departures_keep_the_state()
     ensures { LastDeparturesKeep }
+{}
+
+/// A packet that enters next may be taken by the station of its flow's first server.
+pub fn entries_may_be_taken()
+    ensures { EntriesMayBeTaken }
+{}
+
+/// A packet that reaches a server next may be taken by its station.
+pub fn arrivals_may_be_taken()
+    ensures { ArrivalsMayBeTaken }
 {}

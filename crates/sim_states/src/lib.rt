@@ -7,6 +7,7 @@ mod laws;
 
 pub use arrival::Arrival;
 pub use laws::{
-    arrivals_keep_the_state, departures_keep_the_state, entries_keep_the_state, first_is_next,
-    last_departures_keep_the_state, nothing_is_left, visits_keep_the_state, work_keeps_the_state,
+    arrivals_keep_the_state, arrivals_may_be_taken, departures_keep_the_state,
+    entries_keep_the_state, entries_may_be_taken, first_is_next, last_departures_keep_the_state,
+    nothing_is_left, visits_keep_the_state, work_keeps_the_state,
 };
