@@ -1,6 +1,6 @@
 //! Copies and names. What no clause says is that the words are the ones meant.
 
-use crate::{Discipline, Flow, Network, Server, Trace, plain_network};
+use crate::{Discipline, Flow, Network, Server, plain_network};
 use std::cmp::Ordering;
 use std::process::Abort;
 use std::test::Fail;
@@ -76,13 +76,5 @@ fn a_dropped_flow_has_no_name(rt: HostRuntime) -> Result<(), Fail> {
     assert_eq!(rt; net.flow_named("b"), None);
     assert_eq!(rt; net.flow_named("c"), Some(2));
     assert_eq!(rt; net.flows().len(), 3);
-    Ok(())
-}
-
-#[test]
-fn an_empty_trace_has_neither_packets_nor_stalls(rt: HostRuntime) -> Result<(), Fail> {
-    let trace = Trace::new(Vec::new(rt.alloc()), Vec::new(rt.alloc()));
-    assert_eq!(rt; trace.packets().len(), 0);
-    assert_eq!(rt; trace.stalls().len(), 0);
     Ok(())
 }
