@@ -1,9 +1,9 @@
 -- The first of some candidates, and of those of one server more.
-use Rattle.std.specs.Prelude.{Option, Some, None, ◌≡◌, ◌⊎◌, ℕ, zero, suc, ◌+◌, ◌<◌, ◌≤◌, List, [], ◌∷◌, length, get_or, map, slice_get}
+use Rattle.std.specs.Prelude.{Option, Some, None, ◌≡◌, ◌⊎◌, ℕ, zero, suc, ◌+◌, ◌<◌, List, [], ◌∷◌, length, get_or, slice_get}
 use Rattle.std.proofs.Common.{arith, refl, sym, ap, ◌∙◌, subst, inl, inr}
 use Rattle.std.proofs.lemmas.Bool.{cases_lt}
 use Rattle.index_links.specs.Chains.{Chains, list_at, Has, first_of}
-use Rattle.stated_runs.specs.Setups.{Entering, Setup}
+use Rattle.stated_runs.specs.Setups.{Setup}
 use Rattle.sim_servers.specs.declared.due.Due.{Due}
 use Rattle.sim_servers.specs.declared.station.Station.{Station}
 use Rattle.sim_servers.specs.Firsts.{IsNoLater, IsEither, IsFirstOf}
@@ -19,10 +19,13 @@ first_entry S stations links arrivals n None e = λ d c. elim c [
   | inl i ↦ absurd (let f : None ≡ Some d = e ∙ i in cc)
   | inr i ↦ absurd (omega (arith, i.1))
 ]
-first_entry S stations links arrivals n (Some d) e = (inl (sym e), λ c i. elim i [
-  | inl j ↦ let f : Some d ≡ Some c = e ∙ j in let g : d ≡ c = cc in subst (λ x. IsNoLater d x) g (no_later_refl d)
-  | inr j ↦ absurd (omega (arith, j.1))
-])
+first_entry S stations links arrivals n (Some d) e = (
+  inl (sym e),
+  λ c i. elim i [
+    | inl j ↦ let f : Some d ≡ Some c = e ∙ j in let g : d ≡ c = cc in subst (λ x. IsNoLater d x) g (no_later_refl d)
+    | inr j ↦ absurd (omega (arith, j.1))
+  ],
+)
 
 -- one server more: what is due there, and what comes over its link
 more : (S : Setup) (stations : List Station) (links : Chains) (arrivals : List Arrival) (n k : ℕ) (c : Due)
@@ -47,10 +50,14 @@ split S stations links arrivals n k x c at h = elim h [
 
 joined : (S : Setup) (stations : List Station) (links : Chains) (arrivals : List Arrival) (n k : ℕ) (x : Station) (c : Due) → slice_get stations k ≡ Some x
     → IsEither (due_for x.next k) (reach_first arrivals (first_of (list_at links k))) c → IsCandidate S stations links arrivals n (k + 1) c
-joined S stations links arrivals n k x c at h = inr (k, omega arith, elim h [
-  | inl j ↦ inl (ap (λ o. station_due o k) at ∙ j)
-  | inr j ↦ inr j
-])
+joined S stations links arrivals n k x c at h = inr (
+  k,
+  omega arith,
+  elim h [
+    | inl j ↦ inl (ap (λ o. station_due o k) at ∙ j)
+    | inr j ↦ inr j
+  ],
+)
 
 -- the first of both
 pub merged : (S : Setup) (stations : List Station) (links : Chains) (arrivals : List Arrival) (n k : ℕ) (x : Station) (before own after : Option Due)

@@ -91,7 +91,7 @@ may_take S stations links arrivals n xs h few sound s known x is p q t later in_
     let room = h.servers.rooms s x is in
     let many : s < length r.servers = omega (arith, known, sound.good.many) in
     let cards = few_cards n (state_at r s).inside (λ c i. let e = (g.cards c i).entered_one in omega (arith, e, h.entered_is))
-        (λ j. let a = at_most r j s many in let b = h.placed.few j in omega (arith, a, b)) in
+    (λ j. let a = at_most r j s many in let b = h.placed.few j in omega (arith, a, b)) in
     record {
       setup = S;
       server = s;

@@ -2,7 +2,6 @@ use Rattle.std.specs.Prelude.{Some, ◌≡◌, length, slice_get}
 use Rattle.std.proofs.Common.{arith, sym, ap, ◌∙◌, subst}
 use Rattle.index_links.specs.Chains.{list_at, first_of}
 use Rattle.sim_servers.specs.Firsts.{IsFirstOf}
-use Rattle.sim_servers.specs.Stations.{due_for}
 use Rattle.sim_states.specs.Running.{enter_first, reach_first, IsFirstCandidate}
 use Rattle.sim_loop.proofs.Merged.{first_entry, merged, found_at}
 use Rattle.sim_loop.proofs.candidates.first_due.Goals as goal
@@ -22,7 +21,7 @@ loop-server-preserved c = λ S e.
     merged S xs c.args.links.now c.args.arrivals.now c.args.entered k x c.loop-server.first c.first_of.result c.first_of-first.result
     (found_at xs k x c.loop-server-test.true ∙ ap (λ z. Some z) (sym c.index-stations-server.is)) (c.loop-server.invariant S e)
     (subst (λ o. IsFirstOf o comes c.first_of.result) c.due_of-here.ensures
-        (subst (λ o. IsFirstOf c.due_of-here.result o c.first_of.result) c.next_reach-comes.ensures c.first_of.ensures))
+    (subst (λ o. IsFirstOf c.due_of-here.result o c.first_of.result) c.next_reach-comes.ensures c.first_of.ensures))
     c.first_of-first.ensures
 
 pub returns : goal.returns

@@ -1,4 +1,4 @@
-use Rattle.std.specs.Prelude.{Some, ◌≡◌, ◌<◌, length, get_or}
+use Rattle.std.specs.Prelude.{Some, ◌<◌, length, get_or}
 use Rattle.std.proofs.Common.{arith, sym, ap, ◌∙◌}
 use Rattle.std.proofs.lemmas.List.{get_or_default}
 use Rattle.rational.specs.Rational.{int}

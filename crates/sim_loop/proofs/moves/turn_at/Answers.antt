@@ -1,4 +1,4 @@
-use Rattle.std.specs.Prelude.{◌≡◌, get_or}
+use Rattle.std.specs.Prelude.{get_or}
 use Rattle.std.proofs.Common.{refl}
 use Rattle.sim_loop.proofs.Merged.{found_at}
 use Rattle.sim_loop.proofs.moves.turn_at.Goals as goal

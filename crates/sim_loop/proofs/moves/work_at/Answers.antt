@@ -1,4 +1,4 @@
-use Rattle.std.specs.Prelude.{◌≡◌, get_or}
+use Rattle.std.specs.Prelude.{get_or}
 use Rattle.std.proofs.Common.{refl}
 use Rattle.sim_loop.proofs.Merged.{found_at}
 use Rattle.sim_loop.proofs.moves.work_at.Goals as goal
@@ -6,7 +6,7 @@ use Rattle.sim_loop.proofs.moves.work_at.Goals as goal
 pub work-requires : goal.work-requires
 work-requires c =
     let m = c.requires.may (get_or c.args.stations.now c.args.server c.index-stations-server.result)
-        (found_at c.args.stations.now c.args.server c.index-stations-server.result c.requires.known) in
+    (found_at c.args.stations.now c.args.server c.index-stations-server.result c.requires.known) in
     record { order = m.order; some = m.some; opened = m.opened; room = m.room }
 
 pub returns : goal.returns
