@@ -1,13 +1,13 @@
 -- A packet that arrives may be taken by the station of its server.
-use Rattle.std.specs.Prelude.{Some, ◌≡◌, ◌⊎◌, ℕ, zero, suc, pos, ◌+◌, ◌<◌, ◌≤◌, ◌^◌, List, [], ◌∷◌, length, slice_get}
+use Rattle.std.specs.Prelude.{Some, ◌≡◌, ℕ, zero, suc, ◌+◌, ◌<◌, ◌≤◌, ◌^◌, List, [], ◌∷◌, length, slice_get}
 use Rattle.std.proofs.Common.{arith, refl, sym, ap, ◌∙◌, subst, inl, inr}
-use Rattle.std.proofs.lemmas.Bool.{cases_eq, cases_lt}
-use Rattle.rational.specs.Rational.{ℚ, int, ◌≤ℚ◌}
+use Rattle.std.proofs.lemmas.Bool.{cases_eq}
+use Rattle.rational.specs.Rational.{ℚ, ◌≤ℚ◌}
 use Rattle.rational.proofs.Laws.{le_trans}
 use Rattle.run_laws.specs.declared.steps.Step.{Step}
 use Rattle.run_laws.specs.declared.steps.Step.TheVariants.{Enter, Reach}
 use Rattle.run_laws.specs.Cards.{Card}
-use Rattle.run_laws.specs.Servers.{Discipline, queue_count, ServerState}
+use Rattle.run_laws.specs.Servers.{queue_count}
 use Rattle.run_laws.specs.Routes.{server_at, route_of, queue_at, first_server}
 use Rattle.run_laws.specs.Views.{hops_of}
 use Rattle.run_laws.specs.Lawful as lawful
@@ -15,19 +15,18 @@ use Rattle.run_laws.specs.Lawful.{RunState, state_at}
 use Rattle.queue_sched.specs.Waiting.{HasPacket}
 use Rattle.index_links.specs.Chains.{Chains}
 use Rattle.stated_runs.specs.Setups.{Setup, IsSetup}
-use Rattle.stated_runs.specs.DueSteps.{IsEntering, step_time}
+use Rattle.stated_runs.specs.DueSteps.{IsEntering}
 use Rattle.stated_runs.specs.Simulated.{IsNext}
 use Rattle.stated_runs.specs.Laws.{state_after}
 use Rattle.stated_runs.proofs.Lists.{In, contains_in}
 use Rattle.stated_runs.proofs.Routed.{place_of}
 use Rattle.stated_runs.proofs.GoodSteps.{coming}
 use Rattle.sim_servers.specs.declared.station.Station.{Station}
-use Rattle.sim_servers.specs.Queues.{served_by}
 use Rattle.sim_servers.specs.Stations.{MayTake}
 use Rattle.sim_states.specs.declared.arrival.Arrival.{Arrival}
-use Rattle.sim_states.specs.Places.{one, cards_of, dues_of, at_server}
+use Rattle.sim_states.specs.Places.{one, cards_of, at_server}
 use Rattle.sim_states.specs.Running.{IsRunning}
-use Rattle.sim_states.proofs.Places.{one_same, one_other, card_counts, due_counts, at_most}
+use Rattle.sim_states.proofs.Places.{one_same, one_other, due_counts, at_most}
 use Rattle.sim_states.proofs.SoFar.{IsSound, sound_so_far}
 
 -- ---- there are no more cards than packets
