@@ -1,0 +1,17 @@
+pub mod Marks
+pub mod ShortMarks
+pub mod EntryLists
+pub mod RampLists
+pub mod SeenLists
+pub mod WatchedLists
+pub mod ViewSpans
+pub mod ViewStretches
+pub mod FoundStretches
+pub mod FoundTurns
+pub mod LeastFirst
+pub mod ShortWindows
+pub mod SortedPoints
+pub mod FoundTimes
+pub mod HeldSizes
+pub mod IdleIn
+pub mod HeldTimes

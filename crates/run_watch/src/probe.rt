@@ -1,0 +1,5 @@
+ghost use Rattle.std.specs.Prelude.{◌≤◌};
+
+pub fn probed()
+    ensures { 0 ≤ 0 }
+{}
