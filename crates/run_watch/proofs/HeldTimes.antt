@@ -60,7 +60,7 @@ pub stops_in_order : (w : Watched) (c : SpecCurve) (ts : List ℚ) → IsHeld w 
 stops_in_order w c ts h e = subst (TimesRise (int (pos 0))) (sym e) (stops_rise w (int (pos 0)) w.leaves.items h.rise)
 
 -- ---- where the times stand
-end_time : (z : Sizes) (end : ℚ) → AreLimited z end → IsTime z end end
+pub end_time : (z : Sizes) (end : ℚ) → AreLimited z end → IsTime z end end
 end_time z end A = record { whole = A.sizes.window; low = A.some; high = le_refl end }
 
 next_time : (P : ℚ → Type 0) (u end : ℚ) (ts : List ℚ) → P end → EachTime P ts → P (next_after u end ts)
@@ -70,10 +70,10 @@ next_time P u end (t ∷ ts) e h = elim (cases_Bool (lt_q u t)) [
   | inr is ↦ rw is (next_time P u end ts e h.1)
 ]
 
-stops_time : (w : Watched) (c : SpecCurve) (h : IsHeld w c) → EachTime (IsTime h.sizes w.end) (stops w)
+pub stops_time : (w : Watched) (c : SpecCurve) (h : IsHeld w c) → EachTime (IsTime h.sizes w.end) (stops w)
 stops_time w c h = stops_each (IsTime h.sizes w.end) w w.leaves.items (each_map (IsTime h.sizes w.end) _ (λ t k _. k) w.leaves.items h.leaves)
 
-ends_time : (w : Watched) (z : Sizes) (ts : List ℚ) (rs : List Ramp) → IsTime z w.end w.end → EachTime (IsTime z w.end) ts → EachRamp (IsHeldRamp z w.end) rs → EachTime (IsTime z w.end) (ends_of (stretches_in w ts rs))
+pub ends_time : (w : Watched) (z : Sizes) (ts : List ℚ) (rs : List Ramp) → IsTime z w.end w.end → EachTime (IsTime z w.end) ts → EachRamp (IsHeldRamp z w.end) rs → EachTime (IsTime z w.end) (ends_of (stretches_in w ts rs))
 ends_time w z ts [] e T h = tt
 ends_time w z ts (r ∷ rs) e T h = elim (cases_Bool (begins w r)) [
   | inl is ↦ rw is (h.0.start, (next_time (IsTime z w.end) r.span.start w.end ts e T, ends_time w z ts rs e T h.1))

@@ -15,3 +15,5 @@ pub mod FoundTimes
 pub mod HeldSizes
 pub mod IdleIn
 pub mod HeldTimes
+pub mod SightLaws
+pub mod FirstIdle

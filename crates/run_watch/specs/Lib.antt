@@ -7,3 +7,4 @@ pub mod Watching
 pub mod WatchTimes
 pub mod IdleWindows
 pub mod Held
+pub mod Sights

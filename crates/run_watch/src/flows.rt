@@ -42,7 +42,7 @@ fn entering_of(step: &Step, flow: u32) -> Option<Entering>
 }
 
 /// The packets of a flow as they enter, in their order.
-pub(crate) fn entries_of(
+pub fn entries_of(
     alloc: Global,
     steps: &[Step],
     flow: u32,
@@ -59,7 +59,7 @@ pub(crate) fn entries_of(
 }
 
 /// The number of the first packet that is longer.
-pub(crate) fn first_too_long(entries: &[Entering], longest: u32) -> Option<usize>
+pub fn first_too_long(entries: &[Entering], longest: u32) -> Option<usize>
     ensures { MatchOption result (NoneLonger longest entries.now) (IsFirstLonger longest entries.now) }
 {
     for (k, entering) in entries.iter().enumerate() {
@@ -105,7 +105,7 @@ fn least_first(entries: &[Entering], arrival: &Curve, last: usize) -> Option<usi
 
 /// The packets, first and last, between which too many bits enter: with the least last one, and of those with the least
 /// first one. It looks at each pair once.
-pub(crate) fn first_crowded(entries: &[Entering], arrival: &Curve) -> Option<(usize, usize)>
+pub fn first_crowded(entries: &[Entering], arrival: &Curve) -> Option<(usize, usize)>
     requires { FlowReads arrival.now entries.now }
     ensures { MatchOption result (NoneCrowded (value_at arrival.now) entries.now (length entries.now)) (λ p. IsFirstCrowded (value_at arrival.now) entries.now p.0 p.1) }
 {

@@ -1,9 +1,12 @@
-//! Where a run first breaks what it is taken to keep: the sizes and the arrival curves of its flows, and the service
-//! curves of its servers.
+//! Where a run first breaks what it is taken to keep: for each flow the first packet that is too long and the first pair of
+//! packets between which too many bits enter, for each server the first window in which it works less than its curve.
+//!
+//! A law is the contract of a function that does nothing: its body is empty, and its `ensures` is proved.
 #![tactic(auto)]
 
 mod flows;
 mod idle;
+mod laws;
 mod probe;
 mod ramps;
 mod scan;
@@ -11,9 +14,14 @@ mod seen;
 mod service;
 mod shorts;
 mod span;
+#[cfg(test)]
+mod tests;
 mod watched;
 mod windows;
 
+pub use flows::{entries_of, first_crowded, first_too_long};
+pub use laws::sights_are_views;
 pub use probe::probed;
-pub use scan::first_under;
-pub use shorts::first_end;
+pub use service::first_idle;
+pub use span::{Ramp, Span};
+pub use watched::{Stretch, Watched, watch};

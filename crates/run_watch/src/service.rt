@@ -15,7 +15,7 @@ use upp_curve::{Curve, is_less};
 
 /// The first window between two watch points of a stretch in which the server works less than its curve: with the
 /// least end, and of those with the least start.
-pub(crate) fn first_idle(
+pub fn first_idle(
     alloc: Global,
     w: &Watched,
     curve: &Curve,

@@ -33,7 +33,7 @@ pub struct Stretch {
 }
 
 /// What a server sees of the steps of a run. `firsts` has for each flow the first server of its path.
-pub(crate) fn watch(
+pub fn watch(
     alloc: Global,
     steps: &[Step],
     firsts: &[u32],
