@@ -53,7 +53,7 @@ around_after : (s : Stretch) (p x : ℚ) (qs : List Piece) → HasStart x qs →
 around_after s p x [] h a b = absurd h
 around_after s p x (q ∷ qs) h a b = elim h [
   | inl e ↦ among_left (p +ℚ x) (inside s (p +ℚ q.x) ++ inside s (p -ℚ q.x)) (around s p qs)
-    (among_left (p +ℚ x) (inside s (p +ℚ q.x)) (inside s (p -ℚ q.x)) (subst (λ y. Among (p +ℚ x) (inside s (p +ℚ y))) (sym e) (inside_in s (p +ℚ x) a b)))
+      (among_left (p +ℚ x) (inside s (p +ℚ q.x)) (inside s (p -ℚ q.x)) (subst (λ y. Among (p +ℚ x) (inside s (p +ℚ y))) (sym e) (inside_in s (p +ℚ x) a b)))
   | inr k ↦ among_right (p +ℚ x) (inside s (p +ℚ q.x) ++ inside s (p -ℚ q.x)) (around s p qs) (around_after s p x qs k a b)
 ]
 
@@ -61,7 +61,7 @@ around_before : (s : Stretch) (p x : ℚ) (qs : List Piece) → HasStart x qs �
 around_before s p x [] h a b = absurd h
 around_before s p x (q ∷ qs) h a b = elim h [
   | inl e ↦ among_left (p -ℚ x) (inside s (p +ℚ q.x) ++ inside s (p -ℚ q.x)) (around s p qs)
-    (among_right (p -ℚ x) (inside s (p +ℚ q.x)) (inside s (p -ℚ q.x)) (subst (λ y. Among (p -ℚ x) (inside s (p -ℚ y))) (sym e) (inside_in s (p -ℚ x) a b)))
+      (among_right (p -ℚ x) (inside s (p +ℚ q.x)) (inside s (p -ℚ q.x)) (subst (λ y. Among (p -ℚ x) (inside s (p -ℚ y))) (sym e) (inside_in s (p -ℚ x) a b)))
   | inr k ↦ among_right (p -ℚ x) (inside s (p +ℚ q.x) ++ inside s (p -ℚ q.x)) (around s p qs) (around_before s p x qs k a b)
 ]
 
@@ -176,10 +176,14 @@ found_watched end V c s ps t A h =
     let r = in_watched s (unroll c end) ps t h in
     let p = r.turn in
     let x = r.around_it.x in record {
-      watch = (p, A.are p r.has, elim r.around_it.is [
-        | inl e ↦ inr (inl (end, subst (λ y. HasStart y (unroll c end)) (after p x t e) r.around_it.start))
-        | inr e ↦ inr (inr (end, subst (λ y. HasStart y (unroll c end)) (before p x t e) r.around_it.start))
-      ]);
+      watch = (
+        p,
+        A.are p r.has,
+        elim r.around_it.is [
+          | inl e ↦ inr (inl (end, subst (λ y. HasStart y (unroll c end)) (after p x t e) r.around_it.start))
+          | inr e ↦ inr (inr (end, subst (λ y. HasStart y (unroll c end)) (before p x t e) r.around_it.start))
+        ],
+      );
       from = r.around_it.from;
       upto = r.around_it.upto;
     }

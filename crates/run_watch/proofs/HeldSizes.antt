@@ -204,8 +204,8 @@ time_fits z end t ps works A O H T =
           (λ s k. let f = keys_fit z end (amount (spans_of works) t) s.slope t A W k.slope T in record { product = f.product; difference = f.difference }) (segments ps) h;
       marks = segment_map (IsHeldSegment z end) (λ s. FitsRule (rule_of s) (mark_of s.slope (point_at works t)))
           (λ s k. marks_fit z end (rule_of s) (mark_of s.slope (point_at works t)) A
-            record { least = k.start; most = k.last; gap = (keys_fit z end s.value s.slope s.start A k.value k.slope k.start).is }
-            record { time = T; key = (keys_fit z end (amount (spans_of works) t) s.slope t A W k.slope T).is }) (segments ps) h;
+          record { least = k.start; most = k.last; gap = (keys_fit z end s.value s.slope s.start A k.value k.slope k.start).is }
+          record { time = T; key = (keys_fit z end (amount (spans_of works) t) s.slope t A W k.slope T).is }) (segments ps) h;
     }
 
 -- ---- moves by the start of a piece

@@ -98,8 +98,8 @@ pub turns_time : (w : Watched) (c : SpecCurve) (ps : List ℚ) (h : IsHeld w c) 
 turns_time w c ps h e =
     subst (EachTime (IsTime h.sizes w.end)) (sym e)
     (each_both (IsTime h.sizes w.end) (ends_of (stretches w)) (changes_in w w.works.items)
-      (ends_time w h.sizes (stops w) w.arrivals.items (end_time h.sizes w.end h.limited) (stops_time w c h) h.arrivals.each)
-      (changes_time w h.sizes w.works.items h.works.each))
+    (ends_time w h.sizes (stops w) w.arrivals.items (end_time h.sizes w.end h.limited) (stops_time w c h) h.arrivals.each)
+    (changes_time w h.sizes w.works.items h.works.each))
 
 -- ---- the curve
 pub operand_to : (w : Watched) (c : SpecCurve) → IsHeld w c → IsOperandTo w.end c
@@ -137,7 +137,7 @@ pub times_fit : (w : Watched) (c : SpecCurve) (ps : List ℚ) (qs : List Piece) 
 times_fit w c ps qs s h some e f low high =
     subst (λ (xs : List Piece). EachTime (TimeFits (segments xs) w.works.items) (watched_from s xs ps)) (sym f)
     (each_time_from (TimeFits (segments (unroll c w.end)) w.works.items) (watched_from s (unroll c w.end) ps)
-      (λ t k. time_fits h.sizes w.end t (unroll c w.end) w.works.items h.limited (pieces_stand w c h some) h.works (watched_time w c ps s h some e low high t k)))
+    (λ t k. time_fits h.sizes w.end t (unroll c w.end) w.works.items h.limited (pieces_stand w c h some) h.works (watched_time w c ps s h some e low high t k)))
 
 pub gaps_fit : (w : Watched) (c : SpecCurve) (qs : List Piece) → IsHeld w c → int (pos 0) <ℚ w.end → qs ≡ unroll c w.end → SegmentsFit (segments qs)
 gaps_fit w c qs h some f = subst (λ (xs : List Piece). SegmentsFit (segments xs)) (sym f) (segments_fit h.sizes w.end (unroll c w.end) h.limited (pieces_stand w c h some))

@@ -17,3 +17,5 @@ pub mod IdleIn
 pub mod HeldTimes
 pub mod SightLaws
 pub mod FirstIdle
+pub mod FirstOfTwo
+pub mod FirstFound

@@ -24,12 +24,12 @@ use Rattle.run_watch.specs.Seen.{at_once, arrival_spans, work_spans, work_in, wo
 use Rattle.run_watch.proofs.EntryLists.{next_item}
 
 -- ---- steps of the loops
-pub found_more : {A : Type 0} (x : A) (had now part rest all : List A) → now ≡ had ++ x ∷ [] → part ≡ x ∷ rest → had ++ part ≡ all → now ++ rest ≡ all
-found_more x had now part rest all pushed is h =
+pub found_more : {A : Type 0} (x : A) (had now part rest list : List A) → now ≡ had ++ x ∷ [] → part ≡ x ∷ rest → had ++ part ≡ list → now ++ rest ≡ list
+found_more x had now part rest list pushed is h =
     ap (λ (ys : List _). ys ++ rest) pushed ∙ append_assoc had (x ∷ []) rest ∙ ap (λ (ys : List _). had ++ ys) (sym is) ∙ h
 
-pub found_same : {A : Type 0} (had part rest all : List A) → part ≡ rest → had ++ part ≡ all → had ++ rest ≡ all
-found_same had part rest all is h = ap (λ (ys : List _). had ++ ys) (sym is) ∙ h
+pub found_same : {A : Type 0} (had part rest list : List A) → part ≡ rest → had ++ part ≡ list → had ++ rest ≡ list
+found_same had part rest list is h = ap (λ (ys : List _). had ++ ys) (sym is) ∙ h
 
 pub works_next : (s : ℕ) (x : Step) (steps : List Step) (i : ℕ) (o : Option Span) → i < length steps → x ≡ slice_index_or steps i x → work_in s x ≡ o
     → works_at s (drop i steps) ≡ option_to_list o ++ works_at s (drop (i + 1) steps)

@@ -194,8 +194,8 @@ first_short ss works xs ts ps k a b perm sorted e f g l is start =
                   let at_b : point_at works y ≡ b = ap (point_at works) (sym same) ∙ sym pb.1 in
                   inr (same, start.least (point_at works x) (has x w.from) (subst (λ (p : Point). IsShortTo ss (point_at works x) p) at_b w.short))
               | inr n ↦ absurd (none_in ss (take k ps) (point_at works x) (point_at works y) f.none
-                (early (point_at works x) (has x w.from) (le_lt_trans order n) (first_or_later ps k b (point_at works x) rise l is (has x w.from)))
-                (early (point_at works y) (has y w.to) n (first_or_later ps k b (point_at works y) rise l is (has y w.to))) w.short)
+                  (early (point_at works x) (has x w.from) (le_lt_trans order n) (first_or_later ps k b (point_at works x) rise l is (has x w.from)))
+                  (early (point_at works y) (has y w.to) n (first_or_later ps k b (point_at works y) rise l is (has y w.to))) w.short)
             ]
           ];
     }

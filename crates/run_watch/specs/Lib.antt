@@ -8,3 +8,4 @@ pub mod WatchTimes
 pub mod IdleWindows
 pub mod Held
 pub mod Sights
+pub mod FirstOf

@@ -42,11 +42,7 @@ fn entering_of(step: &Step, flow: u32) -> Option<Entering>
 }
 
 /// The packets of a flow as they enter, in their order.
-pub fn entries_of(
-    alloc: Global,
-    steps: &[Step],
-    flow: u32,
-) -> Result<Vec<Entering>, AllocError>
+pub fn entries_of(alloc: Global, steps: &[Step], flow: u32) -> Result<Vec<Entering>, AllocError>
     ensures { IfOk result (λ v. v.items ≡ entries flow steps.now) }
 {
     let mut found = Vec::new(alloc);

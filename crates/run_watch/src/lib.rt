@@ -5,9 +5,9 @@
 #![tactic(auto)]
 
 mod flows;
+mod found;
 mod idle;
 mod laws;
-mod probe;
 mod ramps;
 mod scan;
 mod seen;
@@ -20,8 +20,8 @@ mod watched;
 mod windows;
 
 pub use flows::{entries_of, first_crowded, first_too_long};
-pub use laws::sights_are_views;
-pub use probe::probed;
+pub use found::{Found, arrival_breach, earlier, service_breach, size_breach};
+pub use laws::{earlier_is_first, sights_are_views};
 pub use service::first_idle;
 pub use span::{Ramp, Span};
 pub use watched::{Stretch, Watched, watch};

@@ -35,11 +35,7 @@ fn work_of(step: &Step, server: u32) -> Option<Span>
 }
 
 /// The works of a server.
-pub(crate) fn works_of(
-    alloc: Global,
-    steps: &[Step],
-    server: u32,
-) -> Result<Vec<Span>, AllocError>
+pub(crate) fn works_of(alloc: Global, steps: &[Step], server: u32) -> Result<Vec<Span>, AllocError>
     ensures { IfOk result (λ v. v.items ≡ works_at server steps.now) }
 {
     let mut found = Vec::new(alloc);
@@ -60,23 +56,13 @@ fn leave_of(step: &Step, server: u32) -> Option<Frac>
             server: at,
             packet: _,
             time,
-        } => {
-            if *at == server {
-                Some(*time)
-            } else {
-                None
-            }
-        }
+        } => { if *at == server { Some(*time) } else { None } }
         _ => None,
     }
 }
 
 /// The times at which packets leave a server.
-pub(crate) fn leaves_of(
-    alloc: Global,
-    steps: &[Step],
-    server: u32,
-) -> Result<Vec<Frac>, AllocError>
+pub(crate) fn leaves_of(alloc: Global, steps: &[Step], server: u32) -> Result<Vec<Frac>, AllocError>
     ensures { IfOk result (λ v. v.items ≡ leaves_at server steps.now) }
 {
     let mut found = Vec::new(alloc);

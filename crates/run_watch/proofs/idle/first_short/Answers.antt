@@ -64,5 +64,5 @@ pub returns : goal.returns
 returns c =
     let near : c.in_ok-place.place < length c.in_ok-points.points.items = omega arith in
     absurd (some_start c.args.segments.now c.in_ok-points.points.items c.in_ok-place.place c.index.result.now
-      (first_end_of c.args.segments.now c.deref-2.result.now c.in_ok-points.points.items c.in_ok-place.place c.deref-2.ensures.value c.in_ok-place.ensures) near c.index.ensures
-      (no_start_of c.args.segments.now c.deref-3.result.now c.in_ok-points.points.items c.index.result.now c.deref-3.ensures.value c.in-None.ensures))
+    (first_end_of c.args.segments.now c.deref-2.result.now c.in_ok-points.points.items c.in_ok-place.place c.deref-2.ensures.value c.in_ok-place.ensures) near c.index.ensures
+    (no_start_of c.args.segments.now c.deref-3.result.now c.in_ok-points.points.items c.index.result.now c.deref-3.ensures.value c.in-None.ensures))

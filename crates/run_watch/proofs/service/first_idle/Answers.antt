@@ -70,8 +70,8 @@ loop-s-preserved c = λ server V S M.
     let gs_is : c.deref-in-loop-s-4.result.now ≡ segments (unroll c.args.curve.now c.args.w.now.end) = c.deref-in-loop-s-4.ensures.value ∙ c.in_ok-segments.ensures ∙ ap segments (c.deref-3.ensures.value ∙ c.in_ok-pieces.ensures) in
     none_idle_more c.args.w.now.end V c.args.curve.now c.deref-s-items.result.now c.loop-s.s-index c.s-item.result c.loop-s-test.true c.s-item.is (c.loop-s.invariant server V S M)
     (none_here server V c.args.w.now c.args.curve.now c.deref-in-loop-s-2.result.now c.deref-s-items.result.now c.loop-s.s-index c.s-item.result
-      (searched server V c.args.w.now c.args.curve.now c.deref-in-loop-s-2.result.now c.requires S M some ts_is) ss_is c.loop-s-test.true c.s-item.is
-      (same_find c.s-item.result (segments (unroll c.args.curve.now c.args.w.now.end)) c.deref-in-loop-s-4.result.now c.args.w.now.works.items c.deref-in-loop-s.result.now (unroll c.args.curve.now c.args.w.now.end) c.deref-in-loop-s-3.result.now c.deref-in-loop-s-2.result.now c.in_ok-found.field-0 None gs_is c.deref-in-loop-s.ensures.value qs_is c.in_default.is c.in_ok-found.ensures))
+    (searched server V c.args.w.now c.args.curve.now c.deref-in-loop-s-2.result.now c.requires S M some ts_is) ss_is c.loop-s-test.true c.s-item.is
+    (same_find c.s-item.result (segments (unroll c.args.curve.now c.args.w.now.end)) c.deref-in-loop-s-4.result.now c.args.w.now.works.items c.deref-in-loop-s.result.now (unroll c.args.curve.now c.args.w.now.end) c.deref-in-loop-s-3.result.now c.deref-in-loop-s-2.result.now c.in_ok-found.field-0 None gs_is c.deref-in-loop-s.ensures.value qs_is c.in_default.is c.in_ok-found.ensures))
 
 pub returns : goal.returns
 returns c = λ server V S M.

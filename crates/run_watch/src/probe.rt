@@ -1,5 +1,0 @@
-ghost use Rattle.std.specs.Prelude.{◌≤◌};
-
-pub fn probed()
-    ensures { 0 ≤ 0 }
-{}
