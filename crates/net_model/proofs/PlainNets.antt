@@ -93,7 +93,7 @@ each_passes p xs h k d within = by_value (p (get_or xs k d)) refl
     by_value true e = refl
     by_value false e = let f : true ≡ false = sym h ∙ list_all_at p xs k d within e in absurd cc
 
-differ : (xs : List ℕ) → all_differ xs ≡ true → AllPairs (λ s t. s ≢ t) xs
+pub differ : (xs : List ℕ) → all_differ xs ≡ true → AllPairs (λ s t. s ≢ t) xs
 differ [] h i j d before within = absurd (omega (arith, within))
 differ (x ∷ xs) h i zero d before within = absurd (omega (arith, before))
 differ (x ∷ xs) h zero (suc j) d before within =

@@ -2,6 +2,7 @@
 #![tactic(auto)]
 
 mod copies;
+mod edit;
 mod fault;
 mod flow;
 mod laws;
@@ -12,6 +13,7 @@ mod server;
 #[cfg(test)]
 mod tests;
 
+pub use edit::{Done, Edit, PathEntry};
 pub use fault::{CurveRefusal, NetFault, NetKind};
 pub use flow::Flow;
 pub use laws::kinds_may_stand;

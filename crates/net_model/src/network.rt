@@ -70,6 +70,15 @@ impl Network {
         self.version
     }
 
+    /// The servers and the flows of a network, by their numbers, each to keep.
+    pub fn into_parts(self) -> (Vec<Server>, Vec<Option<Flow>>)
+        ensures servers { servers_of result.0.items ≡ self.servers }
+        ensures flows { flows_of result.1.items ≡ self.flows }
+        ensures kept { IsAccepted self }
+    {
+        (self.servers, self.flows)
+    }
+
     /// The same network again.
     pub fn copy(&self) -> Result<Network, AllocError>
         ensures { IfOk result (λ n. n ≡ self.now) }
