@@ -18,7 +18,8 @@ use fraction128::Frac;
 use net_cells::{Cell, Kind};
 use net_model::{Server, ServiceKind};
 use std::alloc::Global;
-use upp_curve::{Curve, OverLimit};
+use upp_curve::Curve;
+use upp_limits::OverLimit;
 
 /// The curve that was made, or the limit that it is over, at the cell that it counts as.
 pub(crate) fn within_limits(made: Result<Curve, CurveFault>, cell: Cell) -> Result<Curve, EditFault>

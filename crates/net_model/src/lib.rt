@@ -15,10 +15,7 @@ mod server;
 mod tests;
 mod trace;
 
-<<<<<<< HEAD
 pub use breach::Breach;
-=======
->>>>>>> 329667a5c25890cff1ecdc9be4dcf97674c3754a
 pub use edit::{Done, Edit, PathEntry};
 pub use fault::{CurveRefusal, NetFault, NetKind};
 pub use flow::Flow;

@@ -8,9 +8,10 @@ use Rattle.rational.proofs.Over.{le_q_out, le_q_in}
 use Rattle.rational.proofs.Linear.{with2, with3, with4, with6}
 use Rattle.affine_segment.specs.declared.line.Piece.{Piece}
 use Rattle.upp_curve.specs.Curve.{SpecCurve}
-use Rattle.upp_curve.specs.Normal.{HasStart, IsNormal, StartsAtZero}
+use Rattle.affine_segment.specs.Pieces.{HasStart, StartsAtZero}
+use Rattle.upp_curve.specs.Normal.{IsNormal}
 use Rattle.upp_curve.specs.Unrolled.{unroll}
-use Rattle.upp_curve.proofs.UnrolledPieces.{unroll_starts}
+use Rattle.upp_normal.proofs.UnrolledPieces.{unroll_starts}
 use Rattle.run_laws.specs.Cards.{ServerStep}
 use Rattle.watch_laws.specs.Affine.{EachTime, Among}
 use Rattle.watch_laws.specs.Breaks.{IsBreak}

@@ -16,10 +16,10 @@ use Rattle.rational.proofs.MinMax.{lt_q_not}
 use Rattle.rational.proofs.Over.{lt_q_out}
 use Rattle.affine_segment.specs.declared.line.Line.{Line}
 use Rattle.affine_segment.specs.declared.line.Piece.{Piece}
-use Rattle.upp_curve.specs.Limits.{Sizes}
-use Rattle.upp_curve.specs.Normal.{Each, HasStart}
-use Rattle.upp_curve.specs.Sized.{IsSlope, IsValue, ValueStands, grid_of, times_largest}
-use Rattle.upp_curve.specs.Operand.{AreLimited, OperandLineAt, OperandPiece, OperandPieces}
+use Rattle.upp_limits.specs.Limits.{Sizes}
+use Rattle.affine_segment.specs.Pieces.{Each, HasStart}
+use Rattle.upp_limits.specs.Sized.{IsSlope, IsValue, ValueStands, grid_of, times_largest}
+use Rattle.upp_normal.specs.Operand.{AreLimited, OperandLineAt, OperandPiece, OperandPieces}
 use Rattle.run_laws.proofs.Sums.{add_nothing}
 use Rattle.watch_laws.specs.Affine.{EachTime, Among}
 use Rattle.watch_laws.specs.declared.point.Segment.{Segment}

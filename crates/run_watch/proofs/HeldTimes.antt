@@ -9,11 +9,11 @@ use Rattle.rational.specs.Grid.{Whole}
 use Rattle.rational.proofs.Grid.{whole_add, whole_sub}
 use Rattle.affine_segment.specs.declared.line.Piece.{Piece}
 use Rattle.upp_curve.specs.Curve.{SpecCurve}
-use Rattle.upp_curve.specs.Limits.{Sizes}
-use Rattle.upp_curve.specs.Operand.{AreLimited, OperandPieces}
+use Rattle.upp_limits.specs.Limits.{Sizes}
+use Rattle.upp_normal.specs.Operand.{AreLimited, OperandPieces}
 use Rattle.upp_curve.specs.Unrolled.{unroll}
-use Rattle.upp_curve.specs.Unrolling.{IsOperandTo}
-use Rattle.upp_curve.proofs.UnrolledPieces.{operand_pieces}
+use Rattle.upp_normal.specs.Unrolling.{IsOperandTo}
+use Rattle.upp_normal.proofs.UnrolledPieces.{operand_pieces}
 use Rattle.run_laws.specs.Cards.{ServerStep}
 use Rattle.run_laws.specs.Servers.{Server}
 use Rattle.watch_laws.specs.Affine.{EachTime, Among}

@@ -3,7 +3,7 @@ use Rattle.std.specs.Prelude.{◌≡◌, ℕ, ◌&&◌, List, [], ◌∷◌, ◌
 use Rattle.rational.specs.Rational.{ℚ, ◌+ℚ◌, ◌-ℚ◌, ◌≤ℚ◌, ◌<ℚ◌, le_q, neg_ℚ}
 use Rattle.rational.specs.Ratio.{SumFits}
 use Rattle.affine_segment.specs.declared.line.Piece.{Piece}
-use Rattle.upp_curve.specs.Normal.{Each}
+use Rattle.affine_segment.specs.Pieces.{Each}
 use Rattle.watch_laws.specs.Affine.{EachTime}
 use Rattle.watch_laws.specs.declared.point.Point.{Point}
 use Rattle.watch_laws.specs.declared.point.Segment.{Segment}

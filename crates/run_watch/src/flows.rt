@@ -10,11 +10,11 @@ ghost use Rattle.run_laws.specs.Cards.{whole};
 ghost use Rattle.watch_laws.specs.Entries.{entries};
 ghost use Rattle.run_watch.specs.Flows.{entering_in, NoneLonger, IsFirstLonger, FlowReads, FindsFirst, NoneCrowded, IsFirstCrowded};
 
-use fraction128::Frac;
+use fraction128::{Frac, difference, is_less};
 use rational::Extended;
 use run_laws::Step;
 use std::alloc::{AllocError, Global};
-use upp_curve::{Curve, difference, is_less};
+use upp_curve::Curve;
 use watch_laws::Entering;
 
 /// The packet that enters on a flow by a step, if one does.

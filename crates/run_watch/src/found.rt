@@ -14,10 +14,10 @@ ghost use Rattle.run_watch.specs.FirstOf.{earlier, IsBest, IsLongOn, IsCrowdOn, 
 use crate::flows::{first_crowded, first_too_long};
 use crate::service::first_idle;
 use crate::watched::Watched;
-use fraction128::Frac;
+use fraction128::{Frac, is_less};
 use net_model::Breach;
 use std::alloc::{AllocError, Global};
-use upp_curve::{Curve, is_less};
+use upp_curve::Curve;
 use watch_laws::Entering;
 
 /// A breach, with its time.

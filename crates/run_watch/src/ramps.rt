@@ -5,9 +5,8 @@ ghost use Rattle.rational.specs.Rational.{int, ◌≤ℚ◌, ◌<ℚ◌, lt_q, l
 ghost use Rattle.run_watch.specs.Ramps.{amount, rate_before, rate_after, pace_in, TakeTime, ramps_after, AreRamps, spans_of, part, all_done, paced_before, paced_after, PaceFits, RampsFit, PartFits, ReadsRamp, EachRamp};
 
 use crate::span::{Ramp, Span};
-use fraction128::Frac;
+use fraction128::{Frac, difference, is_less, product, quotient, sum};
 use std::alloc::{AllocError, Global};
-use upp_curve::{difference, is_less, product, quotient, sum};
 
 /// Whether a is at most b.
 pub(crate) fn is_at_most(a: Frac, b: Frac) -> bool

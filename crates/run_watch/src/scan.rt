@@ -4,10 +4,9 @@ ghost use Rattle.rational.specs.Ratio.{SumFits};
 ghost use Rattle.watch_laws.specs.Marks.{Each, TimesRise, IsPast, IsOver, IsUnderSome, MostFits, FitsRule};
 ghost use Rattle.run_watch.specs.Queue.{Scans, EndsAbove, StartsNear, IsNotFar, Lowered, Passed, FrontUnder};
 
-use fraction128::Frac;
+use fraction128::{Frac, is_less, sum};
 use std::alloc::{AllocError, Global};
 use std::collections::VecDeque;
-use upp_curve::{is_less, sum};
 use watch_laws::{Mark, Rule};
 
 /// Whether t is `most` after a, or later.

@@ -9,9 +9,10 @@ ghost use Rattle.run_watch.specs.Held.{IsSeen, IsHeld, FindsIdle};
 use crate::idle::first_short;
 use crate::watched::{Watched, stops_of, stretches_of, turns_of};
 use crate::windows::segments_of;
-use fraction128::Frac;
+use fraction128::{Frac, is_less};
 use std::alloc::{AllocError, Global};
-use upp_curve::{Curve, is_less};
+use upp_curve::Curve;
+use upp_normal::unrolled;
 
 /// The first window between two watch points of a stretch in which the server works less than its curve: with the
 /// least end, and of those with the least start.
@@ -30,7 +31,7 @@ pub fn first_idle(
     let stops = stops_of(alloc, w)?;
     let stretches = stretches_of(alloc, w, &stops)?;
     let turns = turns_of(alloc, w, &stretches)?;
-    let pieces = curve.unrolled(w.end)?;
+    let pieces = unrolled(curve, w.end)?;
     let segments = segments_of(alloc, &pieces)?;
     for s in &stretches {
         if let Some(found) = first_short(alloc, &w.works, s, &turns, &pieces, &segments)? {

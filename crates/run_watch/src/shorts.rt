@@ -4,9 +4,8 @@ ghost use Rattle.watch_laws.specs.Shorts.{EachPoint, PointsRise, NoneShort, IsSh
 ghost use Rattle.run_watch.specs.FirstEnds.{mark_of, rule_of, KeySteps, GapSteps, FitsSegments, FitsMarks, IsFirstBy, IsFirstEnd};
 
 use crate::scan::first_under;
-use fraction128::Frac;
+use fraction128::{Frac, difference, product};
 use std::alloc::{AllocError, Global};
-use upp_curve::{difference, product};
 use watch_laws::{Mark, Point, Rule, Segment};
 
 /// The mark of a point, by a slope.

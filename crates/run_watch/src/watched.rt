@@ -10,10 +10,9 @@ ghost use Rattle.run_watch.specs.Watching.{is_caught_up, ReadsAt, stops, TimesRi
 use crate::ramps::{amount_at, is_at_most, pace_after, pace_before, ramps_of};
 use crate::seen::{arrivals_of, leaves_of, works_of};
 use crate::span::Ramp;
-use fraction128::Frac;
+use fraction128::{Frac, is_less};
 use run_laws::Step;
 use std::alloc::{AllocError, Global};
-use upp_curve::is_less;
 
 /// What one server sees of a run that ends at `end`.
 #[derive(Drop)]

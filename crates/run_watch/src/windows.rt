@@ -2,7 +2,7 @@
 
 ghost use Rattle.std.specs.Prelude.{◌≡◌, ◌↔◌, [], ◌∷◌, ◌++◌, ◌<◌, length, drop, map, IfOk, OnOk, IsTrue, MatchOption};
 ghost use Rattle.affine_segment.specs.declared.line.Piece.{Piece};
-ghost use Rattle.upp_curve.specs.Normal.{Each};
+ghost use Rattle.affine_segment.specs.Pieces.{Each};
 ghost use Rattle.watch_laws.specs.Affine.{EachTime};
 ghost use Rattle.watch_laws.specs.Segments.{next_start, segment_of, segments};
 ghost use Rattle.watch_laws.specs.Shorts.{IsShortBy, EachPoint, PointsRise};
@@ -17,10 +17,9 @@ use crate::shorts::{mark_of, rule_of};
 use crate::span::Ramp;
 use crate::watched::Stretch;
 use affine_segment::Piece;
-use fraction128::Frac;
+use fraction128::{Frac, difference, is_less, sum};
 use rational::Extended;
 use std::alloc::{AllocError, Global};
-use upp_curve::{difference, is_less, sum};
 use watch_laws::{Point, Segment};
 
 /// One time more, where it is in the stretch.

@@ -1,5 +1,5 @@
 use Rattle.std.proofs.Common.{◌∙◌}
-use Rattle.upp_curve.proofs.PieceIn.{le_test}
+use Rattle.affine_segment.proofs.PieceIn.{le_test}
 use Rattle.run_watch.proofs.ramps.is_at_most.Goals as goal
 
 pub returns : goal.returns
