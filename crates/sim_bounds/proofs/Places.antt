@@ -1,8 +1,8 @@
 -- In a network in which no walk comes back each server has a place, which grows along every path: how many lengths the
 -- walks have that end at it.
-use Rattle.std.proofs.Common.{◌≡◌, ℕ, zero, suc, ◌<◌, ◌≤◌, ◌+◌, List, [], ◌∷◌, ◌++◌, length, get_or, refl, sym, ap, ◌∙◌, subst, arith, inl, inr, ◌⊎◌, Some, None, Bool, true, false, append_assoc, nat_eq}
-use Rattle.std.specs.Prelude.{Option, ◌==◌, ◌&&◌, ◌||◌, Contains, if◌then◌else◌}
-use Rattle.std.specs.List.{AllByRecursion, IsDistinct, list_any}
+use Rattle.std.proofs.Common.{◌≡◌, ℕ, zero, suc, ◌<◌, ◌≤◌, ◌+◌, List, [], ◌∷◌, ◌++◌, length, get_or, refl, sym, ap, subst, arith, inl, inr, ◌⊎◌, Some, None, Bool, true, false, append_assoc, nat_eq}
+use Rattle.std.specs.Prelude.{Option, ◌==◌, ◌&&◌, ◌||◌}
+use Rattle.std.specs.List.{AllByRecursion, IsDistinct}
 use Rattle.std.proofs.lemmas.Bool.{cases_Bool, cases_eq, eqb-true, eq-eqb, ne_eqb}
 use Rattle.std.proofs.lemmas.List.{length_push}
 use Rattle.std.proofs.lemmas.Map.Steps.{length-le_from_distinct_below}
@@ -11,7 +11,7 @@ use Rattle.net_model.specs.Accepted.{IsAccepted}
 use Rattle.net_model.specs.Walks.{IsStep, IsNext, Chain, IsClosed, IsFeedForward}
 use Rattle.net_graph.proofs.Chains.{front_of, rest_of, joined}
 use Rattle.net_graph.proofs.Members.{is_member}
-use Rattle.net_graph.proofs.Returns.{first_in_range, second_in_range}
+use Rattle.net_graph.proofs.Returns.{first_in_range}
 use Rattle.stated_runs.proofs.Lists.{In, in_contains, contains_in}
 use Rattle.sim_bounds.proofs.Members.{each_in}
 

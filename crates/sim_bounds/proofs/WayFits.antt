@@ -1,15 +1,15 @@
 -- Where the simulation gauge is below 2 ^ 120, the numbers on the way to the horizon are small.
-use Rattle.std.proofs.Common.{◌≡◌, ℕ, zero, suc, ◌<◌, ◌≤◌, ◌^◌, List, [], ◌∷◌, ◌++◌, length, map, get_or, refl, sym, ap, ◌∙◌, subst, arith, inl, inr, Some, None}
+use Rattle.std.proofs.Common.{◌≡◌, ℕ, zero, suc, ◌<◌, ◌≤◌, ◌^◌, List, [], ◌∷◌, ◌++◌, length, get_or, sym, ap, subst, arith, inl, inr, Some, None}
 use Rattle.std.specs.Prelude.{Option, pos}
 use Rattle.std.specs.List.{flat_map, AllByRecursion}
 use Rattle.std.proofs.lemmas.Bool.{cases_eq}
 use Rattle.std.proofs.lemmas.List.{length-map}
-use Rattle.rational.specs.Rational.{ℚ, int, ◌+ℚ◌, ◌-ℚ◌, ◌*ℚ◌, ◌/ℚ◌, ◌≤ℚ◌, ◌<ℚ◌}
+use Rattle.rational.specs.Rational.{ℚ, int, ◌+ℚ◌, ◌-ℚ◌, ◌*ℚ◌, ◌/ℚ◌, ◌≤ℚ◌}
 use Rattle.rational.specs.Grid.{Whole}
 use Rattle.rational.specs.Ratio.{IsSmall}
 use Rattle.rational.specs.MinMax.{max_q}
 use Rattle.rational.proofs.Linear.{with1, with2, with3, with4}
-use Rattle.rational.proofs.Laws.{le_refl, le_trans, le_of_lt, lt_le_trans, antisym, mul_nonneg, mul_le_mul_right, one_mul, not_zero}
+use Rattle.rational.proofs.Laws.{le_refl, le_trans, le_of_lt, lt_le_trans, antisym, mul_le_mul_right, one_mul, not_zero}
 use Rattle.rational.proofs.Quotients.{div_nonneg}
 use Rattle.rational.proofs.Integers.{nat_le, nat_nonneg}
 use Rattle.rational.proofs.Grid.{whole_int, whole_add, whole_sub, within_nonneg}
@@ -23,7 +23,7 @@ use Rattle.net_model.specs.NetRoutes.{server_for}
 use Rattle.net_model.specs.Accepted.{IsAccepted}
 use Rattle.net_model.specs.Traces.{SpecTrace, IsTrace}
 use Rattle.net_model.specs.Walks.{IsFeedForward}
-use Rattle.stated_runs.specs.Setups.{Entering, GateTimes, StallTimes, Opening, Setup, IsSetup, IsGateFor, opening_of, rate_of, packet_of}
+use Rattle.stated_runs.specs.Setups.{Entering, GateTimes, StallTimes, Opening, Setup, IsSetup, IsGateFor, opening_of, rate_of}
 use Rattle.stated_runs.specs.FromTraces.{setup_of, IsTraceOf}
 use Rattle.stated_runs.specs.TimeGrids.{HasRoom, IsTime, AreStallTimes}
 use Rattle.stated_runs.proofs.Lists.{In}
@@ -35,7 +35,7 @@ use Rattle.sim_bounds.specs.Way.{HorizonFits}
 use Rattle.sim_bounds.proofs.Members.{in_left, in_right}
 use Rattle.sim_bounds.proofs.Places.{place_of_server}
 use Rattle.sim_bounds.proofs.MadeBounds.{made_forward}
-use Rattle.sim_bounds.proofs.Spans.{sum_nonneg, first_nonneg, ratio_pos, cycle_nonneg, work_nonneg, span_most, span_nonneg}
+use Rattle.sim_bounds.proofs.Spans.{sum_nonneg, first_nonneg, ratio_pos, cycle_nonneg, work_nonneg, span_nonneg}
 use Rattle.sim_bounds.proofs.InTime.{first_in_time}
 use Rattle.sim_bounds.proofs.Gauged.{span_in, work_in, cycle_in}
 use Rattle.sim_bounds.proofs.Fits.{made_grid, times_whole, run_fits}

@@ -93,7 +93,7 @@ times_after x [] j h k = absurd (omega arith)
 times_after x (e ∷ es) zero h k = h.0
 times_after x (e ∷ es) (suc j) h k = le_trans h.0 (times_after e.time es j h.1 (omega arith))
 
-times_rise : (x : ℚ) (es : List Entering) (i j : ℕ) → EntersFrom x es → i ≤ j → j < length es → (entering es i).time ≤ℚ (entering es j).time
+pub times_rise : (x : ℚ) (es : List Entering) (i j : ℕ) → EntersFrom x es → i ≤ j → j < length es → (entering es i).time ≤ℚ (entering es j).time
 times_rise x [] i j h k l = absurd (omega arith)
 times_rise x (e ∷ es) zero zero h k l = le_refl e.time
 times_rise x (e ∷ es) zero (suc j) h k l = times_after e.time es j h.1 (omega arith)

@@ -20,10 +20,10 @@ use Rattle.watch_laws.specs.Marks.{MostFits}
 use Rattle.watch_laws.specs.MarkSizes.{IsTime, IsTimeIfAny, MarksFit, KeysFit}
 
 -- ---- the grid of sums
-grid_some : (z : Sizes) (end : ℚ) → AreLimited z end → 0 < grid_of z
+pub grid_some : (z : Sizes) (end : ℚ) → AreLimited z end → 0 < grid_of z
 grid_some z end A = mul-pos (mul-pos A.sizes.dv A.sizes.dt) A.sizes.ds
 
-grid_small : (z : Sizes) (end : ℚ) → AreLimited z end → grid_of z ≤ 2 ^ 127 - 1
+pub grid_small : (z : Sizes) (end : ℚ) → AreLimited z end → grid_of z ≤ 2 ^ 127 - 1
 grid_small z end A =
     let t = (tight z end A).sums in
     let l = A.sizes.largest in
@@ -31,7 +31,7 @@ grid_small z end A =
     omega (arith, t, more)
 
 -- k times the largest value over that grid, for k up to 8
-fits_times : (z : Sizes) (end : ℚ) (k : ℕ) → AreLimited z end → k ≤ 8 → times_largest k z *ℚ int (pos (grid_of z)) ≤ℚ int (pos (2 ^ 127 - 1))
+pub fits_times : (z : Sizes) (end : ℚ) (k : ℕ) → AreLimited z end → k ≤ 8 → times_largest k z *ℚ int (pos (grid_of z)) ≤ℚ int (pos (2 ^ 127 - 1))
 fits_times z end k A h =
     let t = (tight z end A).sums in
     let n = z.largest * grid_of z in
@@ -41,32 +41,32 @@ fits_times z end k A h =
     ap (λ x. x *ℚ int (pos (grid_of z))) (int_mul (pos k) (pos z.largest)) ∙ int_mul (pos (k * z.largest)) (pos (grid_of z)) in
     subst (λ x. x ≤ℚ int (pos (2 ^ 127 - 1))) (sym e) (nat_le (k * z.largest * grid_of z) (2 ^ 127 - 1) all)
 
-times_sum : (z : Sizes) (j k : ℕ) → times_largest j z +ℚ times_largest k z ≡ times_largest (j + k) z
+pub times_sum : (z : Sizes) (j k : ℕ) → times_largest j z +ℚ times_largest k z ≡ times_largest (j + k) z
 times_sum z j k =
     let V = z.largest in
     let e : j * V + k * V ≡ (j + k) * V = omega arith in
     ap (λ x. x +ℚ times_largest k z) (int_mul (pos j) (pos V)) ∙ ap (λ x. int (pos (j * V)) +ℚ x) (int_mul (pos k) (pos V)) ∙ int_add (pos (j * V)) (pos (k * V)) ∙ ap (λ (n : ℕ). int (pos n)) e
     ∙ sym (int_mul (pos (j + k)) (pos V))
 
-time_whole : (z : Sizes) (t : ℚ) → Whole z.dt t → Whole (grid_of z) t
+pub time_whole : (z : Sizes) (t : ℚ) → Whole z.dt t → Whole (grid_of z) t
 time_whole z t w = whole_weaken z.dt (grid_of z) t (let d : z.dv * z.dt ∣ z.dv * z.dt * z.ds = dvd-mul_right (z.dv * z.dt) z.ds in divides z.dt (z.dv * z.dt) (grid_of z) (dvd-mul_left z.dt z.dv) d) w
   where
     divides : (a b c : ℕ) → a ∣ b → b ∣ c → a ∣ c
     divides a b c h k = dvd_trans a h k
 
-time_within : (z : Sizes) (end t : ℚ) → AreLimited z end → IsTime z end t → Within (times_largest 1 z) t
+pub time_within : (z : Sizes) (end t : ℚ) → AreLimited z end → IsTime z end t → Within (times_largest 1 z) t
 time_within z end t A h =
     let e : int (pos z.largest) ≡ times_largest 1 z = let x = int (pos z.largest) in with1 x (λ c. omega (arith, c.le, c.lt, c.same)) in
     within_nonneg (times_largest 1 z) t h.low (subst (λ x. t ≤ℚ x) e (le_trans h.high (end_within z end A.sizes A.some)))
 
-sum_fits : (z : Sizes) (end : ℚ) (j k : ℕ) (a b : ℚ) → AreLimited z end → j + k ≤ 8 → Whole (grid_of z) a → Whole (grid_of z) b
+pub sum_fits : (z : Sizes) (end : ℚ) (j k : ℕ) (a b : ℚ) → AreLimited z end → j + k ≤ 8 → Whole (grid_of z) a → Whole (grid_of z) b
     → Within (times_largest j z) a → Within (times_largest k z) b → SumFits a b
 sum_fits z end j k a b A few wa wb ia ib =
     sum_on_grid (grid_of z) (times_largest j z) (times_largest k z) a b (grid_some z end A) (grid_small z end A)
     (subst (λ x. x *ℚ int (pos (grid_of z)) ≤ℚ int (pos (2 ^ 127 - 1))) (sym (times_sum z j k)) (fits_times z end (j + k) A few)) wa wb ia ib
 
 -- ---- marks
-most_fits : (z : Sizes) (end t : ℚ) (o : Option ℚ) → AreLimited z end → IsTime z end t → IsTimeIfAny z end o → MostFits o t
+pub most_fits : (z : Sizes) (end t : ℚ) (o : Option ℚ) → AreLimited z end → IsTime z end t → IsTimeIfAny z end o → MostFits o t
 most_fits z end t None A h k = tt
 most_fits z end t (Some y) A h k = sum_fits z end 1 1 t y A (omega arith) (time_whole z t h.whole) (time_whole z y k.whole) (time_within z end t A h) (time_within z end y A k)
 

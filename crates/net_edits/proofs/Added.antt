@@ -1,0 +1,113 @@
+-- What one flow more gives.
+use Rattle.std.proofs.Common.{◌≡◌, ◌≢◌, ℕ, ◌<◌, ◌≤◌, List, length, Option, Some, None, Bool, true, false, refl, sym, ap, ◌∙◌, subst, arith}
+use Rattle.std.specs.Prelude.{Ok, Err, ℤ, All, IsTrue, nat_le, nat_lt, ◌&&◌, not}
+use Rattle.std.specs.List.{list_all}
+use Rattle.std.proofs.lemmas.Bool.{and_parts, and_from, not_from_false, leb-true, lt-ltb, le-ltb}
+use Rattle.std.proofs.lemmas.List.Sums.{AllPass-from_list_all}
+use Rattle.rational.specs.Rational.{ℚ, ◌≤ℚ◌}
+use Rattle.min_plus.specs.Functions.{zero_q}
+use Rattle.net_model.specs.declared.edit.PathEntry.{PathEntry}
+use Rattle.net_model.specs.Networks.{Net, NetFlow}
+use Rattle.net_model.specs.Names.{IsName, is_name_byte}
+use Rattle.net_model.specs.Accepted.{IsLength, IsFlow, IsAccepted}
+use Rattle.net_model.proofs.KindsStand.{kinds_may_stand}
+use Rattle.net_edits.specs.Refusals.{Or, no_number_left, and_then, only_if}
+use Rattle.net_edits.specs.Lookups.{server_numbers, is_free}
+use Rattle.net_edits.specs.Values.{whole_that, is_length, is_name, entry_queues, may_be_path, fits_along, quanta_fit}
+use Rattle.net_edits.specs.Changed.{with_more}
+use Rattle.net_edits.specs.Edited.{Edited, is_negative, fitting, new_flow, only_if_free, only_if_left, add_edited}
+use Rattle.net_edits.proofs.Steps.{passed}
+use Rattle.net_edits.proofs.Signs.{nonneg_of}
+use Rattle.net_edits.proofs.Found.{free_differs}
+use Rattle.net_edits.proofs.Pathways.{way_of, hops_of}
+use Rattle.net_edits.proofs.Flows.{more_stands, more_fits}
+use Rattle.net_edits.proofs.FlowEdits.{bits_length, lanes_long}
+
+name_of : (name : List ℕ) → is_name name ≡ true → IsName name
+name_of name e =
+    let first = and_parts (nat_le 1 (length name)) (nat_le (length name) 32 && list_all is_name_byte name) e in
+    let second = and_parts (nat_le (length name) 32) (list_all is_name_byte name) first.1 in
+    record {
+      some = leb-true 1 (length name) first.0;
+      few = leb-true (length name) 32 second.0;
+      bytes = AllPass-from_list_all is_name_byte name second.1;
+    }
+
+module _ (net : Net) (name : List ℕ) (bits : ℤ) (b : ℕ) (burst rate : ℚ) (entries : List PathEntry) (path lanes : List ℕ)
+    (a : IsAccepted net) (servers : server_numbers net entries ≡ Ok path) (free : is_free net name ≡ true)
+    (named : is_name name ≡ true) (up : is_negative burst ≡ false) (on : is_negative rate ≡ false)
+    (size : whole_that is_length bits ≡ Ok b) (queues : lanes ≡ entry_queues entries) (way : may_be_path net path lanes ≡ true)
+    (fits : fits_along net.servers b path lanes ≡ true) where
+  is_flow : IsFlow net.servers (new_flow name b burst rate path lanes)
+  is_flow =
+      let w = way_of net path lanes way in
+      let pair = lanes_long net entries path lanes servers queues in
+      record {
+        name = name_of name named;
+        packet = bits_length bits b size;
+        some = w.some;
+        few = w.few;
+        paired = pair;
+        hops = hops_of net path lanes b w pair fits;
+        once = w.once;
+        arrival = kinds_may_stand.bucket burst rate (nonneg_of burst up) (nonneg_of rate on);
+      }
+
+  pub add_stands : length net.flows < 256 → IsAccepted (with_more (new_flow name b burst rate path lanes) net)
+  add_stands room =
+      more_stands net (new_flow name b burst rate path lanes) a room is_flow
+      (free_differs net (new_flow name b burst rate path lanes) free)
+
+  -- up to the numbers
+  added : add_edited net name bits burst rate entries
+      ≡ only_if_left (nat_lt (length net.flows) 256)
+      (record { net = with_more (new_flow name b burst rate path lanes) net; made = None })
+  added =
+      ap (λ (r : Or (List ℕ)). and_then r (λ ss.
+      only_if_free (is_free net name) name (
+      only_if (is_name name && (not (is_negative burst) && not (is_negative rate))) (
+      and_then (whole_that is_length bits) (λ m.
+      only_if (may_be_path net ss (entry_queues entries)) (
+      and_then (fitting (with_more (new_flow name m burst rate ss (entry_queues entries)) net) None)
+      (only_if_left (nat_lt (length net.flows) 256)))))))) servers
+      ∙ ap (λ (t : Bool). only_if_free t name (
+      only_if (is_name name && (not (is_negative burst) && not (is_negative rate))) (
+      and_then (whole_that is_length bits) (λ m.
+      only_if (may_be_path net path (entry_queues entries)) (
+      and_then (fitting (with_more (new_flow name m burst rate path (entry_queues entries)) net) None)
+      (only_if_left (nat_lt (length net.flows) 256))))))) free
+      ∙ passed (is_name name && (not (is_negative burst) && not (is_negative rate)))
+      (and_then (whole_that is_length bits) (λ m.
+      only_if (may_be_path net path (entry_queues entries)) (
+      and_then (fitting (with_more (new_flow name m burst rate path (entry_queues entries)) net) None)
+      (only_if_left (nat_lt (length net.flows) 256)))))
+      (and_from (is_name name) (not (is_negative burst) && not (is_negative rate)) named
+      (and_from (not (is_negative burst)) (not (is_negative rate)) (not_from_false (is_negative burst) up)
+      (not_from_false (is_negative rate) on)))
+      ∙ ap (λ (r : Or ℕ). and_then r (λ m.
+      only_if (may_be_path net path (entry_queues entries)) (
+      and_then (fitting (with_more (new_flow name m burst rate path (entry_queues entries)) net) None)
+      (only_if_left (nat_lt (length net.flows) 256))))) size
+      ∙ ap (λ (qs : List ℕ). only_if (may_be_path net path qs) (
+      and_then (fitting (with_more (new_flow name b burst rate path qs) net) None)
+      (only_if_left (nat_lt (length net.flows) 256)))) (sym queues)
+      ∙ passed (may_be_path net path lanes) (and_then (fitting (with_more (new_flow name b burst rate path lanes) net) None)
+      (only_if_left (nat_lt (length net.flows) 256))) way
+      ∙ ap (λ (r : Or Edited). and_then r (only_if_left (nat_lt (length net.flows) 256)))
+      (passed (quanta_fit (with_more (new_flow name b burst rate path lanes) net))
+      (Ok (record { net = with_more (new_flow name b burst rate path lanes) net; made = None }))
+      (more_fits net (new_flow name b burst rate path lanes) a ∙ fits))
+
+  pub add_edit : length net.flows < 256
+      → add_edited net name bits burst rate entries
+      ≡ Ok (record { net = with_more (new_flow name b burst rate path lanes) net; made = None })
+  add_edit room =
+      added
+      ∙ ap (λ (t : Bool). only_if_left t (record { net = with_more (new_flow name b burst rate path lanes) net; made = None }))
+      (lt-ltb (length net.flows) 256 room)
+
+  pub no_more : 256 ≤ length net.flows → add_edited net name bits burst rate entries ≡ Err no_number_left
+  no_more full =
+      added
+      ∙ ap (λ (t : Bool). only_if_left t (record { net = with_more (new_flow name b burst rate path lanes) net; made = None }))
+      (le-ltb (length net.flows) 256 full)

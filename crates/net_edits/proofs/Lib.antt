@@ -1,0 +1,14 @@
+pub mod Texts
+pub mod Places
+pub mod Steps
+pub mod Signs
+pub mod Found
+pub mod Fitting
+pub mod Pathways
+pub mod Standing
+pub mod Making
+pub mod ServerEdits
+pub mod Flows
+pub mod FlowEdits
+pub mod Added
+pub mod Replaced

@@ -1,0 +1,109 @@
+-- What edits of one server give.
+use Rattle.std.proofs.Common.{◌≡◌, ℕ, List, Option, Some, None, Bool, true, false, refl, sym, ap, ◌∙◌, subst}
+use Rattle.std.specs.Prelude.{Result, Ok, Err, slice_get, ℤ}
+use Rattle.rational.specs.Rational.{ℚ, ◌≤ℚ◌, ◌<ℚ◌}
+use Rattle.min_plus.specs.Functions.{zero_q}
+use Rattle.net_model.specs.Networks.{Net, NetServer}
+use Rattle.net_model.specs.Accepted.{IsLength, IsServer, IsAccepted}
+use Rattle.net_cells.specs.Numbered.{discipline, discipline_of}
+use Rattle.net_edits.specs.declared.fault.EditFault.{EditFault}
+use Rattle.net_edits.specs.declared.fault.EditFault.TheVariants.{UnknownName, NameTaken, BadValue, LimitReached, Cycle, TooMany, TooWide, NothingToUndo, NoMemory}
+use Rattle.net_edits.specs.Refusals.{Or, bad_value, and_then, only_if}
+use Rattle.net_edits.specs.Lookups.{server_number}
+use Rattle.net_edits.specs.Values.{whole_that, is_length, is_quantum_of, quanta_fit}
+use Rattle.net_edits.specs.Changed.{put_server, server_changed, at_server, with_rate, with_latency, with_link, with_quantum}
+use Rattle.net_edits.specs.Edited.{MadeCurve, Edited, fitting, quantum_edited}
+use Rattle.net_edits.specs.Replies.{Refuses, Tells, IsReply}
+use Rattle.net_edits.proofs.Steps.{then_ok, then_refused, passed, refused_reply}
+use Rattle.net_edits.proofs.Fitting.{accepted_fits}
+use Rattle.net_edits.proofs.Standing.{same_discipline, quanta_stand}
+use Rattle.net_edits.proofs.Making.{rate_server, latency_server, link_server, quantum_server, as_many}
+
+-- an edit whose test passes and that may stand
+pub server_edit : (net : Net) (name : List ℕ) (s : ℕ) (test : Option NetServer → Bool) (change : NetServer → NetServer)
+    (made : ℕ → Option NetServer → Option MadeCurve) (old : NetServer) → server_number net name ≡ Ok s
+    → slice_get net.servers s ≡ Some old → test (Some old) ≡ true → IsAccepted (put_server net s (change old))
+    → and_then (server_number net name)
+    (λ (n : ℕ). only_if (test (slice_get net.servers n)) (fitting (at_server change net n) (made n (slice_get net.servers n))))
+    ≡ Ok (record { net = put_server net s (change old); made = made s (Some old) })
+server_edit net name s test change made old found at passes stands =
+    then_ok (server_number net name)
+    (λ (n : ℕ). only_if (test (slice_get net.servers n)) (fitting (at_server change net n) (made n (slice_get net.servers n)))) s found
+    ∙ ap (λ (o : Option NetServer). only_if (test o) (fitting (server_changed change net s o) (made s o))) at
+    ∙ passed (test (Some old)) (fitting (put_server net s (change old)) (made s (Some old))) passes
+    ∙ passed (quanta_fit (put_server net s (change old))) (Ok (record { net = put_server net s (change old); made = made s (Some old) }))
+    (accepted_fits (put_server net s (change old)) stands)
+
+module _ (net : Net) (s : ℕ) (old : NetServer) (a : IsAccepted net) (at : slice_get net.servers s ≡ Some old) (is : IsServer old) where
+  pub rate_stands : (rate : ℚ) → zero_q <ℚ rate → IsAccepted (put_server net s (with_rate rate old))
+  rate_stands rate p = same_discipline net s old (with_rate rate old) a at (rate_server old rate p is) refl refl
+
+  pub latency_stands : (latency : ℚ) → zero_q ≤ℚ latency → IsAccepted (put_server net s (with_latency latency old))
+  latency_stands latency p = same_discipline net s old (with_latency latency old) a at (latency_server old latency p is) refl refl
+
+  pub link_stands : (link : ℚ) → zero_q ≤ℚ link → IsAccepted (put_server net s (with_link link old))
+  link_stands link p = same_discipline net s old (with_link link old) a at (link_server old link p is) refl refl
+
+  pub quantum_stands : (queue bits : ℕ) → IsLength bits → quanta_fit (put_server net s (with_quantum queue bits old)) ≡ true
+      → IsAccepted (put_server net s (with_quantum queue bits old))
+  quantum_stands queue bits is_length fits =
+      quanta_stand net s old (with_quantum queue bits old) a at (quantum_server old queue bits is_length is) refl
+      (as_many old.discipline queue bits) fits
+
+-- ---- a quantum
+-- at the server that was found
+pub quantum_found : (net : Net) (name : List ℕ) (s : ℕ) (queue bits : ℤ) (old : NetServer) → server_number net name ≡ Ok s
+    → slice_get net.servers s ≡ Some old
+    → quantum_edited net name queue bits
+    ≡ and_then (whole_that (is_quantum_of old.discipline) queue)
+    (λ q. and_then (whole_that is_length bits) (λ b. fitting (put_server net s (with_quantum q b old)) None))
+quantum_found net name s queue bits old found at =
+    ap (λ (r : Or ℕ). and_then r (λ n. and_then (whole_that (is_quantum_of (discipline net n)) queue) (λ q.
+    and_then (whole_that is_length bits) (λ b. fitting (at_server (with_quantum q b) net n) None)))) found
+    ∙ ap (λ (o : Option NetServer). and_then (whole_that (is_quantum_of (discipline_of o)) queue) (λ q.
+    and_then (whole_that is_length bits) (λ b. fitting (server_changed (with_quantum q b) net s o) None))) at
+
+pub quantum_edit : (net : Net) (name : List ℕ) (s : ℕ) (queue bits : ℤ) (q b : ℕ) (old : NetServer)
+    → server_number net name ≡ Ok s → slice_get net.servers s ≡ Some old
+    → whole_that (is_quantum_of old.discipline) queue ≡ Ok q → whole_that is_length bits ≡ Ok b
+    → quantum_edited net name queue bits ≡ fitting (put_server net s (with_quantum q b old)) None
+quantum_edit net name s queue bits q b old found at is_queue is_bits =
+    quantum_found net name s queue bits old found at
+    ∙ ap (λ (r : Or ℕ). and_then r (λ n. and_then (whole_that is_length bits) (λ m. fitting (put_server net s (with_quantum n m old)) None))) is_queue
+    ∙ ap (λ (r : Or ℕ). and_then r (λ m. fitting (put_server net s (with_quantum q m old)) None)) is_bits
+
+-- the network, or a bad value where quanta do not fit
+passes_fault : (after : Net) (r : Or Edited) (fault : EditFault) → Refuses {X = Net} (Ok after) fault → IsReply r (Err fault)
+passes_fault after r (UnknownName name) h = absurd (let bad : ⊥ = cc in bad)
+passes_fault after r (NameTaken name) h = absurd (let bad : ⊥ = cc in bad)
+passes_fault after r BadValue h = absurd (let bad : ⊥ = cc in bad)
+passes_fault after r LimitReached h = absurd (let bad : ⊥ = cc in bad)
+passes_fault after r (Cycle walk) h = absurd h
+passes_fault after r (TooMany cell) h = absurd h
+passes_fault after r (TooWide cell) h = absurd h
+passes_fault after r NothingToUndo h = absurd h
+passes_fault after r NoMemory h = tt
+
+stops_fault : (r : Or Edited) (fault : EditFault) → r ≡ Err bad_value → Refuses {X = Net} (Err bad_value) fault → IsReply r (Err fault)
+stops_fault r (UnknownName name) e h = absurd (let bad : ⊥ = cc in bad)
+stops_fault r (NameTaken name) e h = absurd (let bad : ⊥ = cc in bad)
+stops_fault r BadValue e h = e
+stops_fault r LimitReached e h = absurd (let bad : ⊥ = cc in bad)
+stops_fault r (Cycle walk) e h = absurd h
+stops_fault r (TooMany cell) e h = absurd h
+stops_fault r (TooWide cell) e h = absurd h
+stops_fault r NothingToUndo e h = absurd h
+stops_fault r NoMemory e h = tt
+
+by_test : (test : Bool) (after : Net) (r : Or Edited) (x : Result Net EditFault)
+    → r ≡ only_if test (Ok (record { net = after; made = None })) → Tells (only_if test (Ok after)) x → IsReply r x
+by_test true after r (Ok n) e h =
+    let same : after ≡ n = cc in
+    record { edited = record { net = after; made = None }; is = e; net = sym same; within = tt }
+by_test true after r (Err fault) e h = passes_fault after r fault h
+by_test false after r (Ok n) e h = absurd (let bad : ⊥ = cc in bad)
+by_test false after r (Err fault) e h = stops_fault r fault e h
+
+pub fitting_reply : (after : Net) (r : Or Edited) (x : Result Net EditFault) → r ≡ fitting after None
+    → Tells (only_if (quanta_fit after) (Ok after)) x → IsReply r x
+fitting_reply after r x e h = by_test (quanta_fit after) after r x e h

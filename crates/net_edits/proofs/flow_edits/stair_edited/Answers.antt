@@ -1,0 +1,68 @@
+use Rattle.std.proofs.Common.{◌≡◌, List, ℕ, Ok, pos, sym, ap, ◌∙◌, subst, Some, None, true, false, Option}
+use Rattle.std.specs.Prelude.{not, ◌&&◌}
+use Rattle.std.proofs.lemmas.Bool.{and_from, not_from_false}
+use Rattle.std.proofs.lemmas.Result.{err_from_is_err_and}
+use Rattle.rational.specs.Rational.{int}
+use Rattle.upp_curve.specs.Curve.{SpecCurve}
+use Rattle.upp_curve.specs.Kinds.{bucket, stair}
+use Rattle.net_model.specs.Accepted.{IsAccepted}
+use Rattle.net_model.specs.Networks.{Net, NetServer, NetFlow}
+use Rattle.net_model.specs.Views.{flow_of}
+use Rattle.net_edits.specs.Values.{fits_along, may_be_path}
+use Rattle.net_edits.specs.Changed.{put_flow, with_arrival, with_packet, with_path}
+use Rattle.net_edits.specs.Edited.{is_negative, is_positive, as_arrival, bucket_edited, stair_edited, packet_edited, route_edited, drop_edited}
+use Rattle.net_edits.proofs.Signs.{nonneg_of, positive_of}
+use Rattle.net_edits.proofs.Steps.{edited_reply, over_reply, passed}
+use Rattle.net_edits.proofs.Pathways.{way_of}
+use Rattle.net_edits.proofs.FlowEdits.{flow_edit, bucket_stands, stair_stands, stair_edit, dropped_stands, drop_edit, packet_found, packet_stands, route_found, path_stands, lanes_long, bits_length, no_fit, stands_fit}
+use Rattle.net_edits.proofs.flow_edits.stair_edited.Goals as goal
+
+pub stair_at-requires-clause-jitter : goal.stair_at-requires-clause-jitter
+stair_at-requires-clause-jitter c = nonneg_of c.args.jitter (sym c.is_negative.ensures ∙ c.if-is_negative.false)
+
+pub returns-in_err-arrival : goal.returns-in_err-arrival
+returns-in_err-arrival c =
+    let p = err_from_is_err_and c.from_residual-in_err-arrival.result c.from_residual-in_err-arrival.ensures.1 in
+    let net = c.args.net.now in
+    let name = c.args.name.now in
+    let i = c.in_ok-number.number in
+    let period = c.args.period in
+    let jitter = c.args.jitter in
+    let found = c.flow_of_number-old in
+    let old = flow_of found.result.now in
+    let curve = stair (int (pos old.packet)) period jitter in
+    rw (p.1, p.2)
+    (over_reply (stair_edited net name period jitter) (record { net = put_flow net i (with_arrival curve old); made = as_arrival i curve })
+    c.in_err-arrival.field-0.0
+    (stair_edit net name i period jitter old found.ensures.accepted c.in_ok-number.ensures.number found.ensures.flow found.ensures.kept
+    (sym c.is_positive.ensures ∙ c.if-not-is_positive.false) (sym c.is_negative.ensures ∙ c.if-is_negative.false))
+    c.in_err-arrival.ensures)
+
+pub with_flow-requires-clause-accepted : goal.with_flow-requires-clause-accepted
+with_flow-requires-clause-accepted c =
+    let net = c.args.net.now in
+    let i = c.in_ok-number.number in
+    let found = c.flow_of_number-old in
+    let old = flow_of found.result.now in
+    let same = c.in_ok-flow.ensures ∙ ap (λ (x : SpecCurve). with_arrival x old) c.in_ok-arrival.ensures.0 in
+    subst (λ (p : Option NetFlow). IsAccepted (put_flow net i p)) (sym same)
+    (stair_stands net i old found.ensures.accepted found.ensures.flow found.ensures.kept c.args.period c.args.jitter
+    (positive_of c.args.period (sym c.is_positive.ensures ∙ c.if-not-is_positive.false))
+    (nonneg_of c.args.jitter (sym c.is_negative.ensures ∙ c.if-is_negative.false)))
+
+pub returns : goal.returns
+returns c =
+    let net = c.args.net.now in
+    let name = c.args.name.now in
+    let i = c.in_ok-number.number in
+    let period = c.args.period in
+    let jitter = c.args.jitter in
+    let found = c.flow_of_number-old in
+    let old = flow_of found.result.now in
+    let curve = stair (int (pos old.packet)) period jitter in
+    let same = c.in_ok-flow.ensures ∙ ap (λ (x : SpecCurve). with_arrival x old) c.in_ok-arrival.ensures.0 in
+    edited_reply (stair_edited net name period jitter) (record { net = put_flow net i (with_arrival curve old); made = as_arrival i curve })
+    c.in_ok-with_flow.field-0
+    (stair_edit net name i period jitter old found.ensures.accepted c.in_ok-number.ensures.number found.ensures.flow found.ensures.kept
+    (sym c.is_positive.ensures ∙ c.if-not-is_positive.false) (sym c.is_negative.ensures ∙ c.if-is_negative.false))
+    (c.in_ok-with_flow.ensures ∙ ap (put_flow net i) same) c.in_ok-arrival.ensures.1

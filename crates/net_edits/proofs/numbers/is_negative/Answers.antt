@@ -1,0 +1,5 @@
+use Rattle.net_edits.proofs.Signs.{below_not}
+use Rattle.net_edits.proofs.numbers.is_negative.Goals as goal
+
+pub returns-in_default : goal.returns-in_default
+returns-in_default c = below_not c.cmp.result c.args.x c.zero.result c.cmp.ensures.ranks c.in_default.not-Less c.zero.ensures

@@ -1,0 +1,22 @@
+use Rattle.std.proofs.Common.{sym, ap, ◌∙◌, subst}
+use Rattle.net_model.specs.Networks.{Net}
+use Rattle.net_model.specs.Accepted.{IsAccepted}
+use Rattle.net_edits.proofs.Replaced.{server_replaced}
+use Rattle.net_edits.proofs.replacing.with_server.Goals as goal
+
+pub new-requires : goal.new-requires
+new-requires c =
+    let parts = c.into_parts-servers in
+    let version = ap (λ (n : Net). n.version) (sym c.in_ok-copy.ensures) ∙ parts.ensures.kept.version in
+    subst IsAccepted
+    (sym (server_replaced c.args.net.now c.in_ok-copy.field-0 parts.result.0.items parts.result.1.items c.args.number c.args.server c.in_ok-copy.ensures
+    version parts.ensures.servers parts.ensures.flows))
+    c.requires.accepted
+
+pub returns : goal.returns
+returns c =
+    let parts = c.into_parts-servers in
+    let version = ap (λ (n : Net). n.version) (sym c.in_ok-copy.ensures) ∙ parts.ensures.kept.version in
+    c.new.ensures
+    ∙ server_replaced c.args.net.now c.in_ok-copy.field-0 parts.result.0.items parts.result.1.items c.args.number c.args.server c.in_ok-copy.ensures
+    version parts.ensures.servers parts.ensures.flows

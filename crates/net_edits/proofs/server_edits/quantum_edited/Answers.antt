@@ -1,0 +1,77 @@
+use Rattle.std.proofs.Common.{w64, ◌≡◌, Ok, sym, ap, ◌∙◌, subst, Some, None, true, false}
+use Rattle.std.specs.Prelude.{ℤ, not, ◌&&◌}
+use Rattle.std.proofs.lemmas.Bool.{and_from, not_from_false}
+use Rattle.std.proofs.lemmas.Int.{to_z-of_z}
+use Rattle.std.proofs.lemmas.Result.{err_from_is_err_and}
+use Rattle.net_model.specs.Accepted.{IsAccepted}
+use Rattle.net_model.specs.Networks.{NetServer}
+use Rattle.net_model.specs.Views.{server_of}
+use Rattle.net_edits.specs.Refusals.{and_then}
+use Rattle.net_edits.specs.Values.{whole_that, is_length, is_quantum_of, quanta_fit}
+use Rattle.net_edits.specs.Changed.{put_server, with_latency, with_quantum}
+use Rattle.net_edits.specs.Edited.{is_negative, is_latency, has_latency, latency_made, latency_edited, fitting, quantum_edited}
+use Rattle.net_edits.specs.Replies.{Refuses}
+use Rattle.net_edits.proofs.Signs.{nonneg_of}
+use Rattle.net_edits.proofs.Steps.{edited_reply, over_reply, refused_reply, same_refused, then_refused}
+use Rattle.net_edits.proofs.FlowEdits.{bits_length}
+use Rattle.net_edits.proofs.ServerEdits.{server_edit, latency_stands, quantum_stands, quantum_found, quantum_edit, fitting_reply}
+use Rattle.net_edits.proofs.server_edits.quantum_edited.Goals as goal
+
+pub returns-in_err-queue : goal.returns-in_err-queue
+returns-in_err-queue c =
+    let p = err_from_is_err_and c.from_residual-in_err-queue.result c.from_residual-in_err-queue.ensures.1 in
+    let net = c.args.net.now in
+    let name = c.args.name.now in
+    let s = c.in_ok-number.number in
+    let found = c.server_at-old in
+    let old = server_of found.result.now in
+    let e = c.in_err-queue.field-0.0 in
+    rw (p.1, p.2)
+    (refused_reply (quantum_edited net name c.args.queue c.args.bits) e
+    (same_refused (quantum_edited net name c.args.queue c.args.bits)
+    (and_then (whole_that (is_quantum_of old.discipline) c.args.queue)
+    (λ q. and_then (whole_that is_length c.args.bits) (λ b. fitting (put_server net s (with_quantum q b old)) None)))
+    e (quantum_found net name s c.args.queue c.args.bits old c.in_ok-number.ensures.number found.ensures.server)
+    (then_refused (whole_that (is_quantum_of old.discipline) c.args.queue)
+    (λ q. and_then (whole_that is_length c.args.bits) (λ b. fitting (put_server net s (with_quantum q b old)) None)) e
+    (subst (λ (z : ℤ). Refuses (whole_that (is_quantum_of old.discipline) z) e) (to_z-of_z w64 c.args.queue c.ranges.queue)
+    c.in_err-queue.ensures))))
+
+pub with_fitting_server-requires-clause-accepted : goal.with_fitting_server-requires-clause-accepted
+with_fitting_server-requires-clause-accepted c =
+    let net = c.args.net.now in
+    let s = c.in_ok-number.number in
+    let found = c.server_at-old in
+    let old = server_of found.result.now in
+    let q = c.in_ok-queue.queue in
+    let b = c.in_ok-bits.bits in
+    let size : whole_that is_length c.args.bits ≡ Ok b =
+    subst (λ (z : ℤ). whole_that is_length z ≡ Ok b) (to_z-of_z w64 c.args.bits c.ranges.bits) c.in_ok-bits.ensures in
+    let numbered : whole_that (is_quantum_of old.discipline) c.args.queue ≡ Ok q =
+    subst (λ (z : ℤ). whole_that (is_quantum_of old.discipline) z ≡ Ok q) (to_z-of_z w64 c.args.queue c.ranges.queue) c.in_ok-queue.ensures in
+    λ fits.
+    let here : quanta_fit (put_server net s (with_quantum q b old)) ≡ true =
+    ap (λ (m : NetServer). quanta_fit (put_server net s m)) (sym c.in_ok-server.ensures) ∙ fits in
+    subst (λ (m : NetServer). IsAccepted (put_server net s m)) (sym c.in_ok-server.ensures)
+    (quantum_stands net s old found.ensures.accepted found.ensures.server found.ensures.kept q b
+    (bits_length c.args.bits b size) here)
+
+pub returns : goal.returns
+returns c =
+    let net = c.args.net.now in
+    let name = c.args.name.now in
+    let s = c.in_ok-number.number in
+    let found = c.server_at-old in
+    let old = server_of found.result.now in
+    let q = c.in_ok-queue.queue in
+    let b = c.in_ok-bits.bits in
+    let size : whole_that is_length c.args.bits ≡ Ok b =
+    subst (λ (z : ℤ). whole_that is_length z ≡ Ok b) (to_z-of_z w64 c.args.bits c.ranges.bits) c.in_ok-bits.ensures in
+    let numbered : whole_that (is_quantum_of old.discipline) c.args.queue ≡ Ok q =
+    subst (λ (z : ℤ). whole_that (is_quantum_of old.discipline) z ≡ Ok q) (to_z-of_z w64 c.args.queue c.ranges.queue) c.in_ok-queue.ensures in
+    fitting_reply (put_server net s (server_of c.in_ok-server.server)) (quantum_edited net name c.args.queue c.args.bits)
+    c.with_fitting_server.result
+    (quantum_edit net name s c.args.queue c.args.bits q b old c.in_ok-number.ensures.number found.ensures.server numbered
+    size
+    ∙ ap (λ (m : NetServer). fitting (put_server net s m) None) (sym c.in_ok-server.ensures))
+    c.with_fitting_server.ensures

@@ -1,0 +1,82 @@
+-- What calls that edit may answer. Own choice.
+use Rattle.std.specs.Prelude.{◌≡◌, ℕ, List, Option, Some, None, Result, Ok, Err, string_bytes}
+use Rattle.upp_limits.specs.declared.own_limits.OverLimit.{OverLimit}
+use Rattle.upp_limits.specs.declared.own_limits.OverLimit.TheVariants as limit
+use Rattle.upp_limits.specs.OwnLimits.{IsOver, IsWithinOwn}
+use Rattle.net_model.specs.Networks.{Net}
+use Rattle.net_cells.specs.declared.cell.Cell.{Cell}
+use Rattle.net_edits.specs.declared.fault.EditFault.{EditFault}
+use Rattle.net_edits.specs.declared.fault.EditFault.TheVariants.{UnknownName, NameTaken, BadValue, LimitReached, Cycle, TooMany, TooWide, NothingToUndo, NoMemory}
+use Rattle.net_edits.specs.Refusals.{Refusal, unknown_name, name_taken, bad_value, no_number_left, Or}
+use Rattle.net_edits.specs.Edited.{MadeCurve, Edited}
+
+-- ---- refusals
+-- the fault says this refusal; want of memory says nothing
+abbrev pub Refuses : {X : Type 0} → Or X → EditFault → Type 0
+Refuses r (UnknownName name) = r ≡ Err (unknown_name (string_bytes name))
+Refuses r (NameTaken name) = r ≡ Err (name_taken (string_bytes name))
+Refuses r BadValue = r ≡ Err bad_value
+Refuses r LimitReached = r ≡ Err no_number_left
+Refuses r (Cycle walk) = ⊥
+Refuses r (TooMany cell) = ⊥
+Refuses r (TooWide cell) = ⊥
+Refuses r NothingToUndo = ⊥
+Refuses r NoMemory = Unit {0}
+
+-- the value, or the refusal
+abbrev pub Tells : {X : Type 0} → Or X → Result X EditFault → Type 0
+Tells r (Ok x) = r ≡ Ok x
+Tells r (Err fault) = Refuses r fault
+
+-- ---- curves that are made
+-- the curve that was made is over no limit, or over this one, and the cell is the one that it counts as
+abbrev pub IsMadeWithin : Option MadeCurve → Type 0
+IsMadeWithin None = Unit {0}
+IsMadeWithin (Some made) = IsWithinOwn made.curve
+
+abbrev pub IsMadeOver : Option MadeCurve → Cell → OverLimit → Type 0
+IsMadeOver None cell over = ⊥
+IsMadeOver (Some made) cell over = (cell ≡ made.cell) × IsOver made.curve over
+
+abbrev pub MakesNone : Option MadeCurve → EditFault → Type 0
+MakesNone made (UnknownName name) = ⊥
+MakesNone made (NameTaken name) = ⊥
+MakesNone made BadValue = ⊥
+MakesNone made LimitReached = ⊥
+MakesNone made (Cycle walk) = ⊥
+MakesNone made (TooMany cell) = IsMadeOver made cell limit.TooMany
+MakesNone made (TooWide cell) = IsMadeOver made cell limit.TooWide
+MakesNone made NothingToUndo = ⊥
+MakesNone made NoMemory = Unit {0}
+
+-- something for which a curve was made
+abbrev pub Makes : {X : Type 0} → Option MadeCurve → (X → Type 0) → Result X EditFault → Type 0
+Makes made P (Ok x) = P x × IsMadeWithin made
+Makes made P (Err fault) = MakesNone made fault
+
+-- ---- networks
+-- the edited network, where its curve is over no limit
+pub record IsEdited (r : Or Edited) (given : Net) : Type 0 where
+  pub edited : Edited
+  pub is : r ≡ Ok edited
+  pub net : given ≡ edited.net
+  pub within : IsMadeWithin edited.made
+
+-- there would be an edited network, but its curve is over a limit
+pub record IsEditOver (r : Or Edited) (cell : Cell) (which : OverLimit) : Type 0 where
+  pub edited : Edited
+  pub is : r ≡ Ok edited
+  pub over : IsMadeOver edited.made cell which
+
+-- what an edit of one network answers: the network; the first refusal; or the limit that its curve is over
+abbrev pub IsReply : Or Edited → Result Net EditFault → Type 0
+IsReply r (Ok net) = IsEdited r net
+IsReply r (Err (UnknownName name)) = Refuses r (UnknownName name)
+IsReply r (Err (NameTaken name)) = Refuses r (NameTaken name)
+IsReply r (Err BadValue) = Refuses r BadValue
+IsReply r (Err LimitReached) = Refuses r LimitReached
+IsReply r (Err (Cycle walk)) = ⊥
+IsReply r (Err (TooMany cell)) = IsEditOver r cell limit.TooMany
+IsReply r (Err (TooWide cell)) = IsEditOver r cell limit.TooWide
+IsReply r (Err NothingToUndo) = ⊥
+IsReply r (Err NoMemory) = Unit {0}

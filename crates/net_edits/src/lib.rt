@@ -1,0 +1,19 @@
+//! Edits of networks: what each makes of a network, or why it is refused.
+#![tactic(auto)]
+
+mod add;
+mod all_kinds;
+mod fault;
+mod flow_edits;
+mod names;
+mod numbers;
+mod quanta;
+mod replacing;
+mod server_edits;
+mod service;
+#[cfg(test)]
+mod tests;
+mod ways;
+
+pub use all_kinds::edited_network;
+pub use fault::EditFault;

@@ -1,0 +1,98 @@
+//! Tests of the values of an edit.
+
+ghost use Rattle.std.specs.Prelude.{◌≡◌};
+ghost use Rattle.std.specs.List.{list_all};
+ghost use Rattle.net_model.specs.Accepted.{HasFewQueues};
+ghost use Rattle.net_model.specs.Names as naming;
+ghost use Rattle.net_model.specs.Views.{discipline_of};
+ghost use Rattle.net_edits.specs.Edited as spec;
+ghost use Rattle.net_edits.specs.Replies.{Tells};
+ghost use Rattle.net_edits.specs.Values as values;
+
+use crate::fault::EditFault;
+use fraction128::Frac;
+use net_model::Discipline;
+use std::cmp::Ordering;
+
+const MOST_BITS: i64 = 16_777_216;
+
+const MOST_LETTERS: usize = 32;
+
+/// Whether a number is below 0.
+pub(crate) fn is_negative(x: Frac) -> bool
+    ensures { result ≡ spec.is_negative x }
+{
+    match x.cmp(&Frac::zero()) {
+        Ordering::Less => true,
+        _ => false,
+    }
+}
+
+/// Whether a number is above 0.
+pub(crate) fn is_positive(x: Frac) -> bool
+    ensures { result ≡ spec.is_positive x }
+{
+    match Frac::zero().cmp(&x) {
+        Ordering::Less => true,
+        _ => false,
+    }
+}
+
+/// The bits of a packet or a quantum.
+pub(crate) fn length_of(bits: i64) -> Result<u32, EditFault>
+    ensures { Tells (values.whole_that values.is_length bits) result }
+{
+    if 1 <= bits && bits <= MOST_BITS {
+        Ok(bits as u32)
+    } else {
+        Err(EditFault::BadValue)
+    }
+}
+
+// Whether a queue has a quantum.
+fn has_quantum(discipline: &Discipline, queue: u64) -> bool
+    ensures { result ≡ values.is_quantum_of (discipline_of discipline.now) queue }
+{
+    match discipline {
+        Discipline::Fifo => false,
+        Discipline::Priority { .. } => false,
+        Discipline::Drr { quanta } => queue < quanta.len() as u64,
+    }
+}
+
+/// The number of a queue that has a quantum.
+pub(crate) fn quantum_of(discipline: &Discipline, queue: i64) -> Result<u32, EditFault>
+    requires { HasFewQueues (discipline_of discipline.now) }
+    ensures { Tells (values.whole_that (values.is_quantum_of (discipline_of discipline.now)) queue) result }
+{
+    if 0 <= queue && has_quantum(discipline, queue as u64) {
+        Ok(queue as u32)
+    } else {
+        Err(EditFault::BadValue)
+    }
+}
+
+fn is_name_byte(byte: u8) -> bool
+    ensures { result ≡ naming.is_name_byte byte }
+{
+    matches!(byte, b'a'..=b'z' | b'A'..=b'Z' | b'0'..=b'9' | b'_' | b'-')
+}
+
+fn are_name_bytes(bytes: &[u8]) -> bool
+    ensures { result ≡ list_all naming.is_name_byte bytes.now }
+{
+    bytes.iter().all(|byte| is_name_byte(*byte))
+}
+
+/// Whether a text is a name: 1 to 32 letters, digits, `_` and `-`.
+pub(crate) fn is_name(text: &str) -> bool
+    ensures { result ≡ values.is_name text.now }
+{
+    if text.is_empty() {
+        return false;
+    }
+    if text.len() > MOST_LETTERS {
+        return false;
+    }
+    are_name_bytes(text.as_bytes())
+}

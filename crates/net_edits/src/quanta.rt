@@ -1,0 +1,66 @@
+//! Whether packets are within the quanta of their queues.
+
+ghost use Rattle.std.specs.Prelude.{◌≡◌, slice_get};
+ghost use Rattle.std.specs.List.{list_all};
+ghost use Rattle.std.specs.Option.{option_map};
+ghost use Rattle.net_model.specs.Views.{discipline_of, flow_of, flows_of, servers_of};
+ghost use Rattle.net_cells.specs.Numbered as at;
+ghost use Rattle.net_edits.specs.Values as spec;
+
+use net_model::{Discipline, Flow, Server};
+
+fn is_in_quantum(discipline: &Discipline, queue: u32, bits: u32) -> bool
+    ensures { result ≡ spec.is_in_quantum (discipline_of discipline.now) queue bits }
+{
+    match discipline {
+        Discipline::Fifo => true,
+        Discipline::Priority { .. } => true,
+        Discipline::Drr { quanta } => match quanta.get(queue as usize) {
+            Some(quantum) => u64::from(bits) <= *quantum,
+            None => bits == 0,
+        },
+    }
+}
+
+fn is_taken(servers: &[Server], server: u32, queue: u32, bits: u32) -> bool
+    ensures { result ≡ spec.is_in_quantum (at.discipline_of (slice_get (servers_of servers.now) server)) queue bits }
+{
+    match servers.get(server as usize) {
+        Some(found) => is_in_quantum(&found.discipline, queue, bits),
+        None => true,
+    }
+}
+
+/// Whether a packet of so many bits is within the quanta of the queues along a path.
+pub(crate) fn fits_along(servers: &[Server], bits: u32, path: &[u32], lanes: &[u32]) -> bool
+    ensures { result ≡ spec.fits_along (servers_of servers.now) bits path.now lanes.now }
+{
+    let count = path.len().min(lanes.len());
+    for hop in 0..count {
+        if !is_taken(servers, path[hop], lanes[hop], bits) {
+            return false;
+        }
+    }
+    true
+}
+
+fn place_fits(servers: &[Server], place: &Option<Flow>) -> bool
+    ensures { result ≡ spec.place_fits (servers_of servers.now) (option_map flow_of place.now) }
+{
+    match place {
+        Some(flow) => fits_along(servers, flow.packet, &flow.path, &flow.queues),
+        None => true,
+    }
+}
+
+/// Whether no quantum is below the longest packet of the flows in its queue.
+pub(crate) fn all_fit(servers: &[Server], flows: &[Option<Flow>]) -> bool
+    ensures { result ≡ list_all (spec.place_fits (servers_of servers.now)) (flows_of flows.now) }
+{
+    for place in flows {
+        if !place_fits(servers, place) {
+            return false;
+        }
+    }
+    true
+}

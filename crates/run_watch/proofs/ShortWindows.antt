@@ -1,0 +1,122 @@
+-- A window is short by a segment where its two marks say so; and the first of some points from which one is.
+use Rattle.std.specs.Prelude.{◌≡◌, ◌⊎◌, ℕ, zero, suc, ◌+◌, ◌<◌, ◌≤◌, List, [], ◌∷◌, length, take, get_or}
+use Rattle.std.specs.List.{slice_index_or}
+use Rattle.std.proofs.Common.{arith, inl, inr, refl, sym, subst, ap, ◌∙◌, add-one}
+use Rattle.rational.specs.Rational.{ℚ, ◌+ℚ◌, ◌≤ℚ◌, ◌<ℚ◌}
+use Rattle.rational.proofs.Laws.{le_refl, le_trans, le_or_lt, lt_le_trans, lt_irrefl, le_of_not_lt}
+use Rattle.watch_laws.specs.declared.mark.Mark.{Mark}
+use Rattle.watch_laws.specs.declared.mark.Rule.{Rule}
+use Rattle.watch_laws.specs.declared.point.Point.{Point}
+use Rattle.watch_laws.specs.declared.point.Segment.{Segment}
+use Rattle.watch_laws.specs.Marks.{IsPast, IsUnder}
+use Rattle.watch_laws.specs.Shorts.{EachPoint, HasPoint, EachSegment, HasSegment, PointsRise, IsShortBy}
+use Rattle.run_watch.specs.FirstEnds.{mark_of, rule_of, FitsMarks, FitsSegments}
+use Rattle.run_watch.specs.WatchTimes.{IsShortTo, IsFirstStart}
+use Rattle.run_watch.proofs.ShortMarks.{short_under, under_short, has_segment}
+
+-- ---- one window
+pub record AreMarks (s : Segment) (a b : Point) (r : Rule) (x y : Mark) : Type 0 where
+  pub rule : r ≡ rule_of s
+  pub from : x ≡ mark_of s.slope a
+  pub to : y ≡ mark_of s.slope b
+
+pub marks : (s : Segment) (a b : Point) (r : Rule) (x y : Mark) → r ≡ rule_of s → x ≡ mark_of s.slope a → y ≡ mark_of s.slope b → AreMarks s a b r x y
+marks s a b r x y e f g = record { rule = e; from = f; to = g }
+
+as_under : (s : Segment) (a b : Point) (r : Rule) (x y : Mark) → AreMarks s a b r x y → IsShortBy s a b → IsUnder r x y
+as_under s a b r x y m h =
+    subst (λ (q : Rule). IsUnder q x y) (sym m.rule) (subst (λ (z : Mark). IsUnder (rule_of s) z y) (sym m.from) (subst (λ (z : Mark). IsUnder (rule_of s) (mark_of s.slope a) z) (sym m.to) (short_under s a b h)))
+
+as_short : (s : Segment) (a b : Point) (r : Rule) (x y : Mark) → AreMarks s a b r x y → IsUnder r x y → IsShortBy s a b
+as_short s a b r x y m h =
+    under_short s a b (subst (λ (z : Mark). IsUnder (rule_of s) (mark_of s.slope a) z) m.to (subst (λ (z : Mark). IsUnder (rule_of s) z y) m.from (subst (λ (q : Rule). IsUnder q x y) m.rule h)))
+
+pub too_near : (s : Segment) (a b : Point) (r : Rule) (x y : Mark) (q : ℚ) → AreMarks s a b r x y → q ≡ x.time +ℚ r.least → y.time <ℚ q → ¬ IsShortBy s a b
+too_near s a b r x y q m e l h = lt_irrefl y.time (lt_le_trans (subst (λ z. y.time <ℚ z) e l) (as_under s a b r x y m h).far)
+
+pub too_far : (s : Segment) (a b : Point) (r : Rule) (x y : Mark) → AreMarks s a b r x y → IsPast r.most x.time y.time → ¬ IsShortBy s a b
+too_far s a b r x y m p h = (as_under s a b r x y m h).near p
+
+pub short_here : (s : Segment) (a b : Point) (r : Rule) (x y : Mark) (q p : ℚ) → AreMarks s a b r x y → q ≡ x.time +ℚ r.least → ¬ (y.time <ℚ q) → ¬ IsPast r.most x.time y.time → p ≡ x.start_key +ℚ r.gap
+    → (y.end_key <ℚ p → IsShortBy s a b) × (IsShortBy s a b → y.end_key <ℚ p)
+short_here s a b r x y q p m e l n f = (
+  λ h. as_short s a b r x y m record {
+    far = subst (λ z. z ≤ℚ y.time) e (le_of_not_lt l);
+    near = n;
+    less = subst (λ z. y.end_key <ℚ z) f h;
+  },
+  λ h. subst (λ z. y.end_key <ℚ z) (sym f) (as_under s a b r x y m h).less,
+)
+
+-- ---- some segments
+pub segments_push : (P : Segment → Type 0) (ss : List Segment) (k : ℕ) (s : Segment) → k < length ss → s ≡ slice_index_or ss k s → EachSegment P (take k ss) → P s → EachSegment P (take (k + 1) ss)
+segments_push P ss k s l e h p = rw add-one (push ss k l e h)
+  where
+    push : (ss : List Segment) (k : ℕ) → k < length ss → s ≡ slice_index_or ss k s → EachSegment P (take k ss) → EachSegment P (take (suc k) ss)
+    push [] k l e h = absurd (omega arith)
+    push (r ∷ ss) zero l e h = (subst P e p, tt)
+    push (r ∷ ss) (suc k) l e h = (h.0, push ss k (omega arith) e h.1)
+
+pub none_of_all : (ss : List Segment) (k : ℕ) (a b : Point) → length ss ≤ k → EachSegment (λ s. ¬ IsShortBy s a b) (take k ss) → ¬ IsShortTo ss a b
+none_of_all ss k a b l h is = let (s, has, short) = is in go ss k l h has short
+  where
+    go : {s : Segment} (ss : List Segment) (k : ℕ) → length ss ≤ k → EachSegment (λ s. ¬ IsShortBy s a b) (take k ss) → HasSegment s ss → IsShortBy s a b → ⊥
+    go [] k l h has short = has
+    go (r ∷ ss) zero l h has short = absurd (omega arith)
+    go {s} (r ∷ ss) (suc k) l h has short = elim has [
+      | inl e ↦ h.0 (subst (λ (q : Segment). IsShortBy q a b) e short)
+      | inr m ↦ go {s = s} ss k (omega arith) h.1 m short
+    ]
+
+-- ---- some points
+pub points_push : (P : Point → Type 0) (ps : List Point) (k : ℕ) (p : Point) → k < length ps → p ≡ slice_index_or ps k p → EachPoint P (take k ps) → P p → EachPoint P (take (k + 1) ps)
+points_push P ps k p l e h is = rw add-one (push ps k l e h)
+  where
+    push : (ps : List Point) (k : ℕ) → k < length ps → p ≡ slice_index_or ps k p → EachPoint P (take k ps) → EachPoint P (take (suc k) ps)
+    push [] k l e h = absurd (omega arith)
+    push (r ∷ ps) zero l e h = (subst P e is, tt)
+    push (r ∷ ps) (suc k) l e h = (h.0, push ps k (omega arith) e h.1)
+
+pub point_has : (ps : List Point) (k : ℕ) (p : Point) → k < length ps → p ≡ slice_index_or ps k p → HasPoint p ps
+point_has [] k p l e = absurd (omega arith)
+point_has (q ∷ ps) zero p l e = inl e
+point_has (q ∷ ps) (suc k) p l e = inr (point_has ps k p (omega arith) e)
+
+pub each_point_has : (P : Point → Type 0) (ps : List Point) (p : Point) → EachPoint P ps → HasPoint p ps → P p
+each_point_has P [] p h k = absurd k
+each_point_has P (q ∷ ps) p h k = elim k [ inl e ↦ subst P (sym e) h.0 | inr l ↦ each_point_has P ps p h.1 l ]
+
+-- of points in order, one that is not among the first k is no earlier than the next
+pub first_or_later : (ps : List Point) (k : ℕ) (a p : Point) → PointsRise ps → k < length ps → a ≡ slice_index_or ps k a → HasPoint p ps → HasPoint p (take k ps) ⊎ (a.time ≤ℚ p.time)
+first_or_later [] k a p h l e has = absurd has
+first_or_later (q ∷ ps) zero a p h l e has = elim has [
+  | inl is ↦ inr (subst (λ (r : Point). a.time ≤ℚ r.time) (e ∙ sym is) (le_refl a.time))
+  | inr m ↦ inr (subst (λ (r : Point). r.time ≤ℚ p.time) (sym e) (each_point_has (λ r. q.time ≤ℚ r.time) ps p h.0 m))
+]
+first_or_later (q ∷ ps) (suc k) a p h l e has = elim has [
+  | inl is ↦ inl (inl is)
+  | inr m ↦ elim (first_or_later ps k a p h.1 (omega arith) e m) [ inl n ↦ inl (inr n) | inr n ↦ inr n ]
+]
+
+pub first_start_is : (ss : List Segment) (ps : List Point) (k : ℕ) (a b : Point) → PointsRise ps → k < length ps → a ≡ slice_index_or ps k a → EachPoint (λ p. ¬ IsShortTo ss p b) (take k ps) → IsShortTo ss a b
+    → IsFirstStart ss ps b a
+first_start_is ss ps k a b h l e none is = record {
+  one_of = point_has ps k a l e;
+  short = is;
+  least = λ p has short. elim (first_or_later ps k a p h l e has) [
+    | inl m ↦ absurd (each_point_has (λ p. ¬ IsShortTo ss p b) (take k ps) p none m short)
+    | inr m ↦ m
+  ];
+}
+
+-- ---- sizes
+pub fits_one : (ss : List Segment) (ps : List Point) (k : ℕ) (p : Point) → k < length ps → p ≡ slice_index_or ps k p → FitsSegments ps ss → FitsSegments (p ∷ []) ss
+fits_one [] ps k p l e h = tt
+fits_one (s ∷ ss) ps k p l e h = (
+  record {
+    keys = (each_point_has _ ps p h.0.keys (point_has ps k p l e), tt);
+    gap = h.0.gap;
+    marks = (each_point_has _ ps p h.0.marks (point_has ps k p l e), tt);
+  },
+  fits_one ss ps k p l e h.1,
+)

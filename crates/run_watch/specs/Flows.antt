@@ -1,0 +1,62 @@
+-- The packets of a flow, and the first that it breaks. Own choice.
+use Rattle.std.specs.Prelude.{ℕ, ◌<◌, ◌≤◌, ◌==◌, List, length, Option, Some, None, MatchOption, if◌then◌else◌}
+use Rattle.rational.specs.Rational.{ℚ, ◌-ℚ◌, ◌≤ℚ◌, neg_ℚ}
+use Rattle.rational.specs.Ratio.{SumFits}
+use Rattle.rational.specs.Extended.{Ext}
+use Rattle.fraction128.specs.declared.fault.Wide.{Wide}
+use Rattle.upp_curve.specs.Curve.{SpecCurve, value_at}
+use Rattle.upp_curve.specs.Steps.{IsWideValueAt}
+use Rattle.run_laws.specs.declared.steps.Step.{Step}
+use Rattle.run_laws.specs.declared.steps.Step.TheVariants.{Enter, Reach, Work, Leave, Visit}
+use Rattle.watch_laws.specs.declared.entering.Entering.{Entering}
+use Rattle.watch_laws.specs.Entries.{entering, IsCrowded}
+
+-- the packet that enters on the flow by this step, if one does
+abbrev pub entering_in : ℕ → Step → Option Entering
+entering_in flow (Enter f p t b) = if f == flow then Some record { time = t; bits = b } else None
+entering_in flow (Reach s p t) = None
+entering_in flow (Work s p a b w) = None
+entering_in flow (Leave s p t) = None
+entering_in flow (Visit s q t) = None
+
+-- ---- lengths
+abbrev pub NoneLonger : ℕ → List Entering → Type 0
+NoneLonger longest es = (k : ℕ) → k < length es → (entering es k).bits ≤ longest
+
+-- the first that is longer
+pub record IsFirstLonger (longest : ℕ) (es : List Entering) (k : ℕ) : Type 0 where
+  pub in_range : k < length es
+  pub more : longest < (entering es k).bits
+  pub before : (j : ℕ) → j < k → (entering es j).bits ≤ longest
+
+-- ---- windows
+-- the time from s to t fits, and the curve can be read there
+pub record WindowReads (c : SpecCurve) (s t : ℚ) : Type 0 where
+  pub forward : s ≤ℚ t
+  pub fits : SumFits t (neg_ℚ s)
+  pub reads : (w : Wide) → ¬ IsWideValueAt c (t -ℚ s) w
+
+-- so between each two packets
+abbrev pub FlowReads : SpecCurve → List Entering → Type 0
+FlowReads c es = (i j : ℕ) → i ≤ j → j < length es → WindowReads c (entering es i).time (entering es j).time
+
+-- no pair is crowded that ends with packet `last` and begins with packet `from` or a later one
+abbrev pub NoneCrowdedFrom : (ℚ → Ext) → List Entering → ℕ → ℕ → Type 0
+NoneCrowdedFrom α es from last = (i : ℕ) → from ≤ i → ¬ IsCrowded α es i last
+
+-- the first packet from `from` on with which such a pair begins
+pub record IsLeastFirst (α : ℚ → Ext) (es : List Entering) (from last first : ℕ) : Type 0 where
+  pub later : from ≤ first
+  pub crowded : IsCrowded α es first last
+  pub least : (i : ℕ) → from ≤ i → i < first → ¬ IsCrowded α es i last
+
+abbrev pub FindsFirst : (ℚ → Ext) → List Entering → ℕ → ℕ → Option ℕ → Type 0
+FindsFirst α es from last found = MatchOption found (NoneCrowdedFrom α es from last) (IsLeastFirst α es from last)
+
+-- no pair at all; the pair of the least last packet, and of those the least first one
+abbrev pub NoneCrowded : (ℚ → Ext) → List Entering → ℕ → Type 0
+NoneCrowded α es upto = (i j : ℕ) → j < upto → ¬ IsCrowded α es i j
+
+pub record IsFirstCrowded (α : ℚ → Ext) (es : List Entering) (first last : ℕ) : Type 0 where
+  pub first_of_it : IsLeastFirst α es 0 last first
+  pub none_before : NoneCrowded α es last

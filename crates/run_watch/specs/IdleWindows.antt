@@ -1,0 +1,43 @@
+-- The first window of a stretch that is short of work. Own choice.
+use Rattle.std.specs.Prelude.{◌≡◌, ◌⊎◌, List, Option, MatchOption, pos}
+use Rattle.rational.specs.Rational.{ℚ, int, ◌≤ℚ◌, ◌<ℚ◌}
+use Rattle.affine_segment.specs.declared.line.Piece.{Piece}
+use Rattle.watch_laws.specs.Affine.{EachTime, Among}
+use Rattle.watch_laws.specs.declared.point.Segment.{Segment}
+use Rattle.watch_laws.specs.Shorts.{EachSegment}
+use Rattle.run_watch.specs.declared.span.Ramp.{Ramp}
+use Rattle.run_watch.specs.declared.watched.Stretch.{Stretch}
+use Rattle.run_watch.specs.Ramps.{AreRamps, EachRamp, ReadsRamp}
+use Rattle.run_watch.specs.FirstEnds.{KeySteps, GapSteps, FitsMarks}
+use Rattle.run_watch.specs.WatchTimes.{watched_from, point_at, IsShortTo, TimesFit}
+use Rattle.watch_laws.specs.Marks.{FitsRule}
+use Rattle.run_watch.specs.FirstEnds.{mark_of, rule_of}
+
+-- between two of these times less is worked than the segments
+pub record IsShortWindow (ss : List Segment) (works : List Ramp) (ts : List ℚ) (a b : ℚ) : Type 0 where
+  pub from : Among a ts
+  pub to : Among b ts
+  pub short : IsShortTo ss (point_at works a) (point_at works b)
+
+abbrev pub NoneIsShort : List Segment → List Ramp → List ℚ → Type 0
+NoneIsShort ss works ts = (a b : ℚ) → ¬ IsShortWindow ss works ts a b
+
+-- the window with the least end, and of those the least start
+pub record IsFirstShort (ss : List Segment) (works : List Ramp) (ts : List ℚ) (a b : ℚ) : Type 0 where
+  pub is : IsShortWindow ss works ts a b
+  pub least : (x y : ℚ) → IsShortWindow ss works ts x y → (b <ℚ y) ⊎ ((b ≡ y) × (a ≤ℚ x))
+
+abbrev pub FindsShort : List Segment → List Ramp → List ℚ → Option (ℚ × ℚ) → Type 0
+FindsShort ss works ts found = MatchOption found (NoneIsShort ss works ts) (λ p. IsFirstShort ss works ts p.0 p.1)
+
+-- ---- sizes
+-- the steps at one time fit
+pub record TimeFits (ss : List Segment) (works : List Ramp) (t : ℚ) : Type 0 where
+  pub reads : EachRamp (ReadsRamp t) works
+  pub keys : EachSegment (λ s. KeySteps s.slope (point_at works t)) ss
+  pub marks : EachSegment (λ s. FitsRule (rule_of s) (mark_of s.slope (point_at works t))) ss
+
+-- so for the segments alone; they start at 0 or later
+pub record SegmentsFit (ss : List Segment) : Type 0 where
+  pub gaps : EachSegment GapSteps ss
+  pub starts : EachSegment (λ s. int (pos 0) ≤ℚ s.start) ss

@@ -1,0 +1,11 @@
+pub mod Queue
+pub mod FirstEnds
+pub mod Flows
+pub mod Ramps
+pub mod Seen
+pub mod Watching
+pub mod WatchTimes
+pub mod IdleWindows
+pub mod Held
+pub mod Sights
+pub mod FirstOf

@@ -1,0 +1,50 @@
+-- The watch points of a stretch, the segments of a curve, and the first start of a short window to a point. Own choice.
+use Rattle.std.specs.Prelude.{◌≡◌, ℕ, ◌&&◌, List, [], ◌∷◌, ◌++◌, map, if◌then◌else◌}
+use Rattle.rational.specs.Rational.{ℚ, ◌+ℚ◌, ◌-ℚ◌, ◌≤ℚ◌, ◌<ℚ◌, le_q, neg_ℚ}
+use Rattle.rational.specs.Ratio.{SumFits}
+use Rattle.affine_segment.specs.declared.line.Piece.{Piece}
+use Rattle.affine_segment.specs.Pieces.{Each}
+use Rattle.watch_laws.specs.Affine.{EachTime}
+use Rattle.watch_laws.specs.declared.point.Point.{Point}
+use Rattle.watch_laws.specs.declared.point.Segment.{Segment}
+use Rattle.watch_laws.specs.Shorts.{HasPoint, HasSegment, IsShortBy}
+use Rattle.run_watch.specs.declared.span.Ramp.{Ramp}
+use Rattle.run_watch.specs.declared.watched.Stretch.{Stretch}
+use Rattle.run_watch.specs.Ramps.{amount, spans_of}
+
+-- ---- times
+-- t, where it is in the stretch
+abbrev pub inside : Stretch → ℚ → List ℚ
+inside s t = if le_q s.start t && le_q t s.end then t ∷ [] else []
+
+-- the starts of the pieces after p and before it, as far as they are in the stretch
+abbrev pub around : Stretch → ℚ → List Piece → List ℚ
+around s p [] = []
+around s p (q ∷ qs) = inside s (p +ℚ q.x) ++ inside s (p -ℚ q.x) ++ around s p qs
+
+abbrev pub watched_from : Stretch → List Piece → List ℚ → List ℚ
+watched_from s qs [] = []
+watched_from s qs (p ∷ ps) = around s p qs ++ watched_from s qs ps
+
+-- the steps to them fit
+pub record AroundFits (p x : ℚ) : Type 0 where
+  pub after : SumFits p x
+  pub before : SumFits p (neg_ℚ x)
+
+abbrev pub TimesFit : List Piece → List ℚ → Type 0
+TimesFit qs ps = EachTime (λ p. Each (λ q. AroundFits p q.x) qs) ps
+
+-- ---- points
+abbrev pub point_at : List Ramp → ℚ → Point
+point_at works t = record { time = t; work = amount (spans_of works) t }
+
+-- ---- a window to b
+-- by one of the segments
+abbrev pub IsShortTo : List Segment → Point → Point → Type 0
+IsShortTo ss a b = (s : Segment) × HasSegment s ss × IsShortBy s a b
+
+-- the first of these points from which a window to b is short
+pub record IsFirstStart (ss : List Segment) (ps : List Point) (b a : Point) : Type 0 where
+  pub one_of : HasPoint a ps
+  pub short : IsShortTo ss a b
+  pub least : (p : Point) → HasPoint p ps → IsShortTo ss p b → a.time ≤ℚ p.time

@@ -1,0 +1,114 @@
+//! What a flow breaks: a packet that is longer than it allows, or too many bits between two of its packets.
+
+ghost use Rattle.std.specs.Prelude.{◌≡◌, ◌↔◌, ℕ, ◌<◌, ◌≤◌, ◌^◌, pos, length, IfOk, IsTrue, MatchOption};
+ghost use Rattle.rational.specs.Rational.{int, ◌≤ℚ◌};
+ghost use Rattle.rational.specs.Extended.{◌<ₑ◌};
+ghost use Rattle.fraction128.specs.declared.fault.Wide.{Wide};
+ghost use Rattle.upp_curve.specs.Curve.{value_at};
+ghost use Rattle.upp_curve.specs.Steps.{IsWideValueAt};
+ghost use Rattle.run_laws.specs.Cards.{whole};
+ghost use Rattle.watch_laws.specs.Entries.{entries};
+ghost use Rattle.run_watch.specs.Flows.{entering_in, NoneLonger, IsFirstLonger, FlowReads, FindsFirst, NoneCrowded, IsFirstCrowded};
+
+use fraction128::{Frac, difference, is_less};
+use rational::Extended;
+use run_laws::Step;
+use std::alloc::{AllocError, Global};
+use upp_curve::Curve;
+use watch_laws::Entering;
+
+/// The packet that enters on a flow by a step, if one does.
+fn entering_of(step: &Step, flow: u32) -> Option<Entering>
+    ensures { result ≡ entering_in flow step.now }
+{
+    match step {
+        Step::Enter {
+            flow: of,
+            packet: _,
+            time,
+            bits,
+        } => {
+            if *of == flow {
+                Some(Entering {
+                    time: *time,
+                    bits: *bits,
+                })
+            } else {
+                None
+            }
+        }
+        _ => None,
+    }
+}
+
+/// The packets of a flow as they enter, in their order.
+pub fn entries_of(alloc: Global, steps: &[Step], flow: u32) -> Result<Vec<Entering>, AllocError>
+    ensures { IfOk result (λ v. v.items ≡ entries flow steps.now) }
+{
+    let mut found = Vec::new(alloc);
+    for step in steps {
+        if let Some(entering) = entering_of(step, flow) {
+            found.push(entering)?;
+        }
+    }
+    Ok(found)
+}
+
+/// The number of the first packet that is longer.
+pub fn first_too_long(entries: &[Entering], longest: u32) -> Option<usize>
+    ensures { MatchOption result (NoneLonger longest entries.now) (IsFirstLonger longest entries.now) }
+{
+    for (k, entering) in entries.iter().enumerate() {
+        if entering.bits > longest {
+            return Some(k);
+        }
+    }
+    None
+}
+
+/// Whether so many bits are more than the curve at d.
+fn is_over(arrival: &Curve, d: Frac, bits: u128) -> bool
+    requires time { int (pos 0) ≤ℚ d }
+    requires reads { (w : Wide) → ¬ (IsWideValueAt arrival.now d w) }
+    requires bits { bits < 2 ^ 127 }
+    ensures { IsTrue result ↔ (value_at arrival.now d <ₑ Extended.Fin (whole bits)) }
+{
+    match arrival.value_at(d) {
+        Ok(Extended::Fin(value)) => is_less(value, Frac::from_whole(bits as i128)),
+        _ => false,
+    }
+}
+
+/// The first packet from which too many bits enter up to one.
+fn least_first(entries: &[Entering], arrival: &Curve, last: usize) -> Option<usize>
+    requires in_range { last < length entries.now }
+    requires reads { FlowReads arrival.now entries.now }
+    ensures { FindsFirst (value_at arrival.now) entries.now 0 last result }
+{
+    let end = entries[last].time;
+    let mut bits: u128 = 0;
+    let mut found = None;
+    for back in 0..last + 1 {
+        let first = last - back;
+        let entering = entries[first];
+        bits += entering.bits as u128;
+        if is_over(arrival, difference(end, entering.time), bits) {
+            found = Some(first);
+        }
+    }
+    found
+}
+
+/// The packets, first and last, between which too many bits enter: with the least last one, and of those with the least
+/// first one. It looks at each pair once.
+pub fn first_crowded(entries: &[Entering], arrival: &Curve) -> Option<(usize, usize)>
+    requires { FlowReads arrival.now entries.now }
+    ensures { MatchOption result (NoneCrowded (value_at arrival.now) entries.now (length entries.now)) (λ p. IsFirstCrowded (value_at arrival.now) entries.now p.0 p.1) }
+{
+    for last in 0..entries.len() {
+        if let Some(first) = least_first(entries, arrival, last) {
+            return Some((first, last));
+        }
+    }
+    None
+}

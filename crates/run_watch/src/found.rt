@@ -1,0 +1,113 @@
+//! The first of some breaches.
+
+ghost use Rattle.std.specs.Prelude.{◌≡◌, ◌≤◌, ◌^◌, List, length, IfOk};
+ghost use Rattle.upp_curve.specs.Curve.{value_at};
+ghost use Rattle.run_laws.specs.Cards.{ServerStep};
+ghost use Rattle.run_laws.specs.Runs.{SpecRun};
+ghost use Rattle.run_laws.specs.Servers as servers;
+ghost use Rattle.watch_laws.specs.Entries.{entries};
+ghost use Rattle.watch_laws.specs.Laws.{MayServe};
+ghost use Rattle.run_watch.specs.Flows.{FlowReads};
+ghost use Rattle.run_watch.specs.Held.{IsHeld, IsSeen};
+ghost use Rattle.run_watch.specs.FirstOf.{earlier, IsBest, IsLongOn, IsCrowdOn, IsIdleOn, EnterInOrder};
+
+use crate::flows::{first_crowded, first_too_long};
+use crate::service::first_idle;
+use crate::watched::Watched;
+use fraction128::{Frac, is_less};
+use net_model::Breach;
+use std::alloc::{AllocError, Global};
+use upp_curve::Curve;
+use watch_laws::Entering;
+
+/// A breach, with its time.
+#[derive(Debug, Clone, Copy)]
+pub struct Found {
+    pub time: Frac,
+    pub breach: Breach,
+}
+
+/// The earlier of two; the first where their times are one.
+pub fn earlier(best: Option<Found>, next: Option<Found>) -> Option<Found>
+    ensures { result ≡ earlier best next }
+{
+    match best {
+        None => next,
+        Some(f) => match next {
+            None => Some(f),
+            Some(g) => {
+                if is_less(g.time, f.time) {
+                    Some(g)
+                } else {
+                    Some(f)
+                }
+            }
+        },
+    }
+}
+
+/// The first packet of a flow that is longer than it allows.
+pub fn size_breach(packets: &[Entering], flow: u32, longest: u32) -> Option<Found>
+    requires { length packets.now ≤ 2 ^ 32 }
+    ensures { (run : SpecRun) → packets.now ≡ entries flow run.steps → EnterInOrder packets.now → IsBest (IsLongOn run flow longest) run result }
+{
+    match first_too_long(packets, longest) {
+        None => None,
+        Some(k) => {
+            let entering = packets[k];
+            Some(Found {
+                time: entering.time,
+                breach: Breach::Size {
+                    flow,
+                    packet: k as u32,
+                },
+            })
+        }
+    }
+}
+
+/// The first pair of packets of a flow between which too many bits enter.
+pub fn arrival_breach(packets: &[Entering], flow: u32, arrival: &Curve) -> Option<Found>
+    requires few { length packets.now ≤ 2 ^ 32 }
+    requires reads { FlowReads arrival.now packets.now }
+    ensures { (run : SpecRun) → packets.now ≡ entries flow run.steps → EnterInOrder packets.now → IsBest (IsCrowdOn run flow (value_at arrival.now)) run result }
+{
+    match first_crowded(packets, arrival) {
+        None => None,
+        Some((first, last)) => {
+            let entering = packets[last];
+            Some(Found {
+                time: entering.time,
+                breach: Breach::Arrival {
+                    flow,
+                    first: first as u32,
+                    last: last as u32,
+                },
+            })
+        }
+    }
+}
+
+/// The first window in which a server works less than its curve.
+pub fn service_breach(
+    alloc: Global,
+    w: &Watched,
+    server: u32,
+    curve: &Curve,
+) -> Result<Option<Found>, AllocError>
+    requires { IsHeld w.now curve.now }
+    ensures { (run : SpecRun) (s : servers.Server) (V : List ServerStep) → IsSeen s w.now.end V w.now → MayServe curve.now
+        → IfOk result (IsBest (IsIdleOn w.now.end V server curve.now) run) }
+{
+    match first_idle(alloc, w, curve)? {
+        None => Ok(None),
+        Some(window) => Ok(Some(Found {
+            time: window.1,
+            breach: Breach::Service {
+                server,
+                start: window.0,
+                end: window.1,
+            },
+        })),
+    }
+}

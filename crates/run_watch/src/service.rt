@@ -1,0 +1,42 @@
+//! The first window in which a server works less than its curve.
+
+ghost use Rattle.std.specs.Prelude.{List, IfOk};
+ghost use Rattle.run_laws.specs.Cards.{ServerStep};
+ghost use Rattle.run_laws.specs.Servers as servers;
+ghost use Rattle.watch_laws.specs.Laws.{MayServe};
+ghost use Rattle.run_watch.specs.Held.{IsSeen, IsHeld, FindsIdle};
+
+use crate::idle::first_short;
+use crate::watched::{Watched, stops_of, stretches_of, turns_of};
+use crate::windows::segments_of;
+use fraction128::{Frac, is_less};
+use std::alloc::{AllocError, Global};
+use upp_curve::Curve;
+use upp_normal::unrolled;
+
+/// The first window between two watch points of a stretch in which the server works less than its curve: with the
+/// least end, and of those with the least start.
+pub fn first_idle(
+    alloc: Global,
+    w: &Watched,
+    curve: &Curve,
+) -> Result<Option<(Frac, Frac)>, AllocError>
+    requires { IsHeld w.now curve.now }
+    ensures { (server : servers.Server) (V : List ServerStep) → IsSeen server w.now.end V w.now → MayServe curve.now
+        → IfOk result (FindsIdle w.now.end V curve.now) }
+{
+    if !is_less(Frac::zero(), w.end) {
+        return Ok(None);
+    }
+    let stops = stops_of(alloc, w)?;
+    let stretches = stretches_of(alloc, w, &stops)?;
+    let turns = turns_of(alloc, w, &stretches)?;
+    let pieces = unrolled(curve, w.end)?;
+    let segments = segments_of(alloc, &pieces)?;
+    for s in &stretches {
+        if let Some(found) = first_short(alloc, &w.works, s, &turns, &pieces, &segments)? {
+            return Ok(Some(found));
+        }
+    }
+    Ok(None)
+}

@@ -1,0 +1,164 @@
+//! The stretches through which a server has work, and its turns.
+
+ghost use Rattle.std.specs.Prelude.{◌≡◌, ◌++◌, ℕ, pos, [], length, IfOk, OnOk};
+ghost use Rattle.rational.specs.Rational.{ℚ, int, le_q};
+ghost use Rattle.watch_laws.specs.Affine.{EachTime};
+ghost use Rattle.run_watch.specs.Ramps.{EachRamp, RampsFit, AreRamps, TakeTime, spans_of};
+ghost use Rattle.run_watch.specs.Seen.{works_at, arrivals_at};
+ghost use Rattle.run_watch.specs.Watching.{is_caught_up, ReadsAt, stops, TimesRise, next_after, stretch_from, stretches_in, change_at, turns, Sees};
+
+use crate::ramps::{amount_at, is_at_most, pace_after, pace_before, ramps_of};
+use crate::seen::{arrivals_of, leaves_of, works_of};
+use crate::span::Ramp;
+use fraction128::{Frac, is_less};
+use run_laws::Step;
+use std::alloc::{AllocError, Global};
+
+/// What one server sees of a run that ends at `end`.
+#[derive(Drop)]
+pub struct Watched {
+    pub arrivals: Vec<Ramp>,
+    pub works: Vec<Ramp>,
+    /// When packets leave.
+    pub leaves: Vec<Frac>,
+    pub end: Frac,
+}
+
+/// From `start` to `end` the server has work all the time.
+#[derive(Debug, Clone, Copy)]
+pub struct Stretch {
+    pub start: Frac,
+    pub end: Frac,
+}
+
+/// What a server sees of the steps of a run. `firsts` has for each flow the first server of its path.
+pub fn watch(
+    alloc: Global,
+    steps: &[Step],
+    firsts: &[u32],
+    server: u32,
+    end: Frac,
+) -> Result<Watched, AllocError>
+    requires arrivals { RampsFit (int (pos 0)) (arrivals_at firsts.now server [] steps.now) }
+    requires works { RampsFit (int (pos 0)) (works_at server steps.now) }
+    ensures { IfOk result (λ w. Sees w firsts.now server steps.now end) }
+{
+    let arrivals = arrivals_of(alloc, steps, firsts, server)?;
+    let works = works_of(alloc, steps, server)?;
+    Ok(Watched {
+        arrivals: ramps_of(alloc, &arrivals)?,
+        works: ramps_of(alloc, &works)?,
+        leaves: leaves_of(alloc, steps, server)?,
+        end,
+    })
+}
+
+/// Whether all that arrived before t is worked.
+fn is_caught_up(w: &Watched, t: Frac) -> bool
+    requires { ReadsAt w.now t }
+    ensures { result ≡ is_caught_up w.now t }
+{
+    is_at_most(amount_at(&w.arrivals, t), amount_at(&w.works, t))
+}
+
+/// The times at which a packet leaves and all that arrived before is worked.
+pub(crate) fn stops_of(alloc: Global, w: &Watched) -> Result<Vec<Frac>, AllocError>
+    requires { EachTime (ReadsAt w.now) w.now.leaves.items }
+    ensures { IfOk result (λ v. v.items ≡ stops w.now) }
+{
+    let mut found = Vec::new(alloc);
+    for t in &w.leaves {
+        if is_caught_up(w, *t) {
+            found.push(*t)?;
+        }
+    }
+    Ok(found)
+}
+
+fn is_by(t: &Frac, u: Frac) -> bool
+    ensures { result ≡ le_q t.now u }
+{
+    is_at_most(*t, u)
+}
+
+/// The first of some times that is after u, or the end.
+fn stop_after(stops: &[Frac], u: Frac, end: Frac) -> Frac
+    requires { (from : ℚ) × TimesRise from stops.now }
+    ensures { result ≡ next_after u end stops.now }
+{
+    let past = stops.partition_point(|t| is_by(t, u));
+    if past < stops.len() {
+        return stops[past];
+    }
+    end
+}
+
+/// The stretch that begins with a packet, if one does.
+fn stretch_from(w: &Watched, stops: &[Frac], r: &Ramp) -> Option<Stretch>
+    requires reads { ReadsAt w.now r.now.span.start }
+    requires rise { (from : ℚ) × TimesRise from stops.now }
+    ensures { result ≡ stretch_from w.now stops.now r.now }
+{
+    let start = r.span.start;
+    if is_less(start, w.end) && is_at_most(r.before, amount_at(&w.works, start)) {
+        Some(Stretch {
+            start,
+            end: stop_after(stops, start, w.end),
+        })
+    } else {
+        None
+    }
+}
+
+/// The stretches, in their order.
+pub(crate) fn stretches_of(
+    alloc: Global,
+    w: &Watched,
+    stops: &[Frac],
+) -> Result<Vec<Stretch>, AllocError>
+    requires reads { EachRamp (λ r. ReadsAt w.now r.span.start) w.now.arrivals.items }
+    requires rise { (from : ℚ) × TimesRise from stops.now }
+    ensures { IfOk result (λ v. v.items ≡ stretches_in w.now stops.now w.now.arrivals.items) }
+{
+    let mut found = Vec::new(alloc);
+    for r in &w.arrivals {
+        if let Some(stretch) = stretch_from(w, stops, r) {
+            found.push(stretch)?;
+        }
+    }
+    Ok(found)
+}
+
+/// One time more, where the pace changes there.
+fn push_change(turns: &mut Vec<Frac>, w: &Watched, t: Frac) -> Result<(), AllocError>
+    requires ramps { AreRamps w.now.works.items }
+    requires time { TakeTime (spans_of w.now.works.items) }
+    ensures { OnOk result (turns.new.items ≡ turns.old.items ++ change_at w.now t) }
+{
+    if pace_before(&w.works, t) != pace_after(&w.works, t) {
+        turns.push(t)?;
+    }
+    Ok(())
+}
+
+/// The ends of the stretches and the times at which the pace changes.
+pub(crate) fn turns_of(
+    alloc: Global,
+    w: &Watched,
+    stretches: &[Stretch],
+) -> Result<Vec<Frac>, AllocError>
+    requires ramps { AreRamps w.now.works.items }
+    requires time { TakeTime (spans_of w.now.works.items) }
+    ensures { IfOk result (λ v. v.items ≡ turns w.now stretches.now) }
+{
+    let mut turns = Vec::new(alloc);
+    for s in stretches {
+        turns.push(s.start)?;
+        turns.push(s.end)?;
+    }
+    for r in &w.works {
+        push_change(&mut turns, w, r.span.start)?;
+        push_change(&mut turns, w, r.span.end)?;
+    }
+    Ok(turns)
+}

@@ -1,0 +1,175 @@
+//! The windows of a stretch that are looked at.
+
+ghost use Rattle.std.specs.Prelude.{◌≡◌, ◌↔◌, [], ◌∷◌, ◌++◌, ◌<◌, length, drop, map, IfOk, OnOk, IsTrue, MatchOption};
+ghost use Rattle.affine_segment.specs.declared.line.Piece.{Piece};
+ghost use Rattle.affine_segment.specs.Pieces.{Each};
+ghost use Rattle.watch_laws.specs.Affine.{EachTime};
+ghost use Rattle.watch_laws.specs.Segments.{next_start, segment_of, segments};
+ghost use Rattle.watch_laws.specs.Shorts.{IsShortBy, EachPoint, PointsRise};
+ghost use Rattle.watch_laws.specs.Marks.{FitsRule};
+ghost use Rattle.run_watch.specs.Ramps.{AreRamps, EachRamp, ReadsRamp};
+ghost use Rattle.run_watch.specs.FirstEnds.{FitsMarks, FitsSegments};
+ghost use Rattle.run_watch.specs.WatchTimes.{inside, around, watched_from, AroundFits, TimesFit, point_at, IsShortTo, IsFirstStart};
+
+use crate::ramps::{amount_at, is_at_most};
+use crate::scan::is_past;
+use crate::shorts::{mark_of, rule_of};
+use crate::span::Ramp;
+use crate::watched::Stretch;
+use affine_segment::Piece;
+use fraction128::{Frac, difference, is_less, sum};
+use rational::Extended;
+use std::alloc::{AllocError, Global};
+use watch_laws::{Point, Segment};
+
+/// One time more, where it is in the stretch.
+fn push_inside(times: &mut Vec<Frac>, s: &Stretch, t: Frac) -> Result<(), AllocError>
+    ensures { OnOk result (times.new.items ≡ times.old.items ++ inside s.now t) }
+{
+    if is_at_most(s.start, t) && is_at_most(t, s.end) {
+        times.push(t)?;
+    }
+    Ok(())
+}
+
+/// The starts of the pieces after p and before it more, as far as they are in the stretch.
+fn push_around(
+    times: &mut Vec<Frac>,
+    s: &Stretch,
+    p: Frac,
+    pieces: &[Piece],
+) -> Result<(), AllocError>
+    requires { Each (λ q. AroundFits p q.x) pieces.now }
+    ensures { OnOk result (times.new.items ≡ times.old.items ++ around s.now p pieces.now) }
+{
+    for q in pieces {
+        push_inside(times, s, sum(p, q.x))?;
+        push_inside(times, s, difference(p, q.x))?;
+    }
+    Ok(())
+}
+
+/// The watch points of a stretch: the turns, and each moved by the start of a piece of the curve.
+pub(crate) fn watch_times(
+    alloc: Global,
+    s: &Stretch,
+    turns: &[Frac],
+    pieces: &[Piece],
+) -> Result<Vec<Frac>, AllocError>
+    requires { TimesFit pieces.now turns.now }
+    ensures { IfOk result (λ v. v.items ≡ watched_from s.now pieces.now turns.now) }
+{
+    let mut times = Vec::new(alloc);
+    for p in turns {
+        push_around(&mut times, s, *p, pieces)?;
+    }
+    Ok(times)
+}
+
+/// The work done up to each of some times.
+pub(crate) fn points_of(
+    alloc: Global,
+    works: &[Ramp],
+    times: &[Frac],
+) -> Result<Vec<Point>, AllocError>
+    requires ramps { AreRamps works.now }
+    requires fits { EachTime (λ t. EachRamp (ReadsRamp t) works.now) times.now }
+    ensures { IfOk result (λ v. v.items ≡ map (point_at works.now) times.now) }
+{
+    let mut points = Vec::new(alloc);
+    for t in times {
+        points.push(Point {
+            time: *t,
+            work: amount_at(works, *t),
+        })?;
+    }
+    Ok(points)
+}
+
+/// Where the piece of a number starts, if there is one.
+fn next_start(pieces: &[Piece], i: usize) -> Option<Frac>
+    ensures { result ≡ next_start (drop i pieces.now) }
+{
+    match pieces.get(i) {
+        Some(p) => Some(p.x),
+        None => None,
+    }
+}
+
+/// A piece as a segment that ends where the next piece starts.
+fn segment_of(p: &Piece, end: Option<Frac>) -> Segment
+    ensures { result ≡ segment_of p.now end }
+{
+    let value = match p.at {
+        Extended::Fin(v) => v,
+        Extended::Inf => Frac::zero(),
+    };
+    let slope = match p.line {
+        Some(line) => line.slope,
+        None => Frac::zero(),
+    };
+    Segment {
+        start: p.x,
+        end,
+        value,
+        slope,
+    }
+}
+
+/// The segments of pieces.
+pub(crate) fn segments_of(alloc: Global, pieces: &[Piece]) -> Result<Vec<Segment>, AllocError>
+    ensures { IfOk result (λ v. v.items ≡ segments pieces.now) }
+{
+    let mut found = Vec::new(alloc);
+    for i in 0..pieces.len() {
+        found.push(segment_of(&pieces[i], next_start(pieces, i + 1)))?;
+    }
+    Ok(found)
+}
+
+/// Whether the window from a to b is short by a segment.
+fn is_short_by(s: &Segment, a: &Point, b: &Point) -> bool
+    requires a { FitsMarks (a.now ∷ []) s.now }
+    requires b { FitsMarks (b.now ∷ []) s.now }
+    ensures { IsTrue result ↔ IsShortBy s.now a.now b.now }
+{
+    let rule = rule_of(s);
+    let from = mark_of(s.slope, a);
+    let to = mark_of(s.slope, b);
+    if is_less(to.time, sum(from.time, rule.least)) {
+        return false;
+    }
+    if is_past(&rule.most, from.time, to.time) {
+        return false;
+    }
+    is_less(to.end_key, sum(from.start_key, rule.gap))
+}
+
+/// Whether it is by one of the segments.
+fn is_short(segments: &[Segment], a: &Point, b: &Point) -> bool
+    requires a { FitsSegments (a.now ∷ []) segments.now }
+    requires b { FitsSegments (b.now ∷ []) segments.now }
+    ensures { IsTrue result ↔ IsShortTo segments.now a.now b.now }
+{
+    for s in segments {
+        if is_short_by(s, a, b) {
+            return true;
+        }
+    }
+    false
+}
+
+/// The first of some points from which a window to b is short.
+pub(crate) fn first_start(points: &[Point], segments: &[Segment], b: &Point) -> Option<Point>
+    requires rise { PointsRise points.now }
+    requires fits { FitsSegments points.now segments.now }
+    requires b { FitsSegments (b.now ∷ []) segments.now }
+    ensures { MatchOption result (EachPoint (λ p. ¬ IsShortTo segments.now p b.now) points.now) (IsFirstStart segments.now points.now b.now) }
+{
+    for p in points {
+        if is_short(segments, p, b) {
+            return Some(*p);
+        }
+    }
+    None
+}

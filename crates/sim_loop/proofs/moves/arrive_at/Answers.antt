@@ -1,0 +1,16 @@
+use Rattle.std.specs.Prelude.{get_or}
+use Rattle.std.proofs.Common.{refl}
+use Rattle.sim_loop.proofs.Merged.{found_at}
+use Rattle.sim_loop.proofs.moves.arrive_at.Goals as goal
+
+pub returns : goal.returns
+returns c = record {
+  old = get_or c.args.stations.now c.args.server c.index-stations-server.result;
+  new = c.arrive.new.self;
+  moved = record {
+    was = found_at c.args.stations.now c.args.server c.index-stations-server.result c.requires.known;
+    is = refl;
+    room = c.arrive.ensures.room;
+  };
+  joined = c.arrive.ensures.joined;
+}
