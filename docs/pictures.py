@@ -106,7 +106,7 @@ def ways(stands_on, upper):
 
 
 # What stands in the right column; the rest is in the left one, and what stands on nothing is as wide as both.
-RIGHT_COLUMN = ("Laws of runs", "Networks", "The simulator", "Breaches of a run")
+RIGHT_COLUMN = ("Laws of runs", "Networks", "The simulator", "Breaches of a run", "The calculator")
 COLUMN, GAP, ROW, MARGIN = 470, 60, 30, 20
 
 
@@ -168,8 +168,8 @@ def group_arrow(upper, lower, lane, is_over):
 
 
 def is_over(upper, lower, boxes):
-    """Whether a third box lies between two of one column."""
-    return upper[0] == lower[0] and any(box[0] == upper[0] and upper[1] < box[1] < lower[1] for box in boxes)
+    """Whether a third box lies between two of one column, or between one and the box that is as wide as both."""
+    return (upper[0] == lower[0] or lower[2] > COLUMN) and any(box[0] == upper[0] and upper[1] < box[1] < lower[1] for box in boxes)
 
 
 def crates_picture():
