@@ -93,7 +93,7 @@ ends_proper f Inf g end p q = tt
 ends_proper f (Fin a) g Inf p q = tt
 ends_proper f (Fin a) g (Fin b) p q = with4 f a g b (λ c. omega (arith, c.le, c.lt, c.same))
 
-back : (t g : ℚ) → t -ℚ (t -ℚ g) ≡ g
+pub back : (t g : ℚ) → t -ℚ (t -ℚ g) ≡ g
 back t g = with2 t g (λ c. omega (arith, c.le, c.lt, c.same))
 
 -- where the second stays at its start

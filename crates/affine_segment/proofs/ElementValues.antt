@@ -18,7 +18,7 @@ use Rattle.affine_segment.specs.Elements.{Covers, level, is_early, is_time, elem
 both_true : {a b : Bool} → a ≡ true → b ≡ true → a && b ≡ true
 both_true p q = ap₂ (λ (x y : Bool). x && y) p q
 
-and_parts : (a b : Bool) → a && b ≡ true → (a ≡ true) × (b ≡ true)
+pub and_parts : (a b : Bool) → a && b ≡ true → (a ≡ true) × (b ≡ true)
 and_parts true b h = (refl, h)
 and_parts false b h = absurd (true≢false (sym h))
 

@@ -14,7 +14,7 @@ use Rattle.affine_segment.specs.Values.{line_at}
 use Rattle.affine_segment.specs.Cuts.{IsWithin, IsLowerAt, CutsAt, CrossAt, IsLowerCut, IsLowerThroughout}
 
 -- ---- the lesser of two values
-left_low : (x y : ℚ) → x ≤ℚ y → x ≡ min_q x y
+pub left_low : (x y : ℚ) → x ≤ℚ y → x ≡ min_q x y
 left_low x y h = sym (min_q_left x y h)
 
 right_low : (x y : ℚ) → y ≤ℚ x → y ≡ min_q x y

@@ -63,7 +63,7 @@ start_rises x (p ∷ ps) (suc i) (suc j) d r h l = start_rises p.x ps i j d r.1 
 abbrev pub starts_by : ℚ → Piece → Bool
 starts_by t p = le_q p.x t
 
-low_start : (ps : List Piece) → StartsAtZero ps → RisesFrom (int (pos 0) -ℚ int (pos 1)) ps
+pub low_start : (ps : List Piece) → StartsAtZero ps → RisesFrom (int (pos 0) -ℚ int (pos 1)) ps
 low_start [] h = absurd h
 low_start (p ∷ ps) h =
     (subst (λ z. int (pos 0) -ℚ int (pos 1) <ℚ z) (sym h.0) (with1 (int (pos 0)) (λ c. omega (arith, c.le, c.lt, c.same))), h.1)

@@ -18,9 +18,10 @@ use Rattle.upp_curve.specs.Curve.{repeated, value_at}
 use Rattle.upp_curve.proofs.Repeats.{repeated_first}
 use Rattle.closure_elements.specs.ElementClosures.{Turn, IsSegmentClosure}
 use Rattle.closure_elements.specs.ElementCurves.{nat_times, stretch, turn, line_times, all_stretches, stretches, from_zero, gap, level_closure, rising_closure, falling_closure}
-use Rattle.closure_elements.proofs.PieceReads.{value_past, value_here, read_stop, read_go, read_end, opening_past, opening_here, early_start, late_start, gap_value}
+use Rattle.closure_elements.proofs.PieceReads.{opening_past, opening_here, early_start, late_start, gap_value}
 use Rattle.closure_elements.proofs.TurnNumbers.{fewer, more, least_turn, no_turn, least_up, least_down}
 use Rattle.closure_elements.proofs.StretchReads.{IsLate, none_at_start, all_read}
+use Rattle.affine_segment.proofs.PieceIn.{read_go, read_one, read_stop, value_by, value_past}
 
 pub times_add : (n j i : ℕ) (k : ℚ) → i ≡ n + j → nat_times i k ≡ nat_times n k +ℚ nat_times j k
 times_add n j i k e =
@@ -123,7 +124,7 @@ module _ (a b : ℚ) (l : Line) (m : ℕ) (low : zero_q ≤ℚ a) (proper : a <�
         | inl past ↦
             let value : piece_value q t ≡ Fin (line_at (line_times (suc (suc m)) l) t) = turn_value R t past in
             let next = one_more_times (suc m) b in
-            subst (λ z. IsSegmentClosure a (Fin b) l t z) (sym (read_go p q [] t past ∙ read_end q t ∙ value))
+            subst (λ z. IsSegmentClosure a (Fin b) l t z) (sym (read_go p q [] t past ∙ read_one q t ∙ value))
             (least_at up (suc m) t (omega arith) past (subst (λ z. t <ℚ z) (sym next) high))
         | inr before ↦ subst (λ z. IsSegmentClosure a (Fin b) l t z) (sym (read_stop p q [] t before))
             (last_stretch t h before late (λ u. least_up l.icept (suc m) (suc u.less_one) up (late t h u)))
@@ -131,7 +132,7 @@ module _ (a b : ℚ) (l : Line) (m : ℕ) (low : zero_q ≤ℚ a) (proper : a <�
     where
       turn_value : (R t : ℚ) → R ≤ℚ t → piece_value (turn R l (suc (suc m)) (suc (suc m))) t ≡ Fin (line_at (line_times (suc (suc m)) l) t)
       turn_value R t h = elim (le_or_lt t R) [
-        | inl here ↦ value_here (turn R l (suc (suc m)) (suc (suc m))) t here ∙ ap (λ z. Fin (line_at (line_times (suc (suc m)) l) z)) (antisym (h, here))
+        | inl here ↦ value_by (turn R l (suc (suc m)) (suc (suc m))) t here ∙ ap (λ z. Fin (line_at (line_times (suc (suc m)) l) z)) (antisym (h, here))
         | inr past ↦ value_past (turn R l (suc (suc m)) (suc (suc m))) t past
       ]
 
@@ -187,7 +188,7 @@ module _ (a b : ℚ) (l : Line) (m : ℕ) (low : zero_q ≤ℚ a) (proper : a <�
       let p = stretch a l (suc m) in
       let q = turn R l (suc m) (suc (suc m)) in
       elim (le_or_lt R t) [
-        | inl past ↦ subst (λ z. IsSegmentClosure a (Fin b) l t z) (sym (read_go p q [] t past ∙ read_end q t)) (at_turn t past high)
+        | inl past ↦ subst (λ z. IsSegmentClosure a (Fin b) l t z) (sym (read_go p q [] t past ∙ read_one q t)) (at_turn t past high)
         | inr before ↦ subst (λ z. IsSegmentClosure a (Fin b) l t z) (sym (read_stop p q [] t before))
             (last_stretch t h (lt_trans before (joined (suc m) (omega arith))) late
             (λ u. let x = fewer a (Fin b) t (suc (suc m)) low (le_of_lt before) u in
@@ -206,7 +207,7 @@ module _ (a b : ℚ) (l : Line) (m : ℕ) (low : zero_q ≤ℚ a) (proper : a <�
                 let same : t ≡ R = antisym (here, h) in
                 let some : nat_times (suc m) a <ℚ t = stepped a (nat_times (suc m) a) R t next h high in
                 subst (λ z. IsSegmentClosure a (Fin b) l t z)
-                (sym (value_here q t here ∙ ap (λ z. Fin (line_at (line_times (suc m) l) z)) (sym same)))
+                (sym (value_by q t here ∙ ap (λ z. Fin (line_at (line_times (suc m) l) z)) (sym same)))
                 (greatest_at down m t (omega arith) some here)
             | inr past ↦ subst (λ z. IsSegmentClosure a (Fin b) l t z) (sym (value_past q t past))
                 (greatest_at down (suc m) t (omega arith) past (le_of_lt (subst (λ z. t <ℚ z) (sym after) high)))
@@ -277,7 +278,7 @@ module _ (a b : ℚ) (l : Line) (m : ℕ) (low : zero_q ≤ℚ a) (proper : a <�
   -- of the slope alone, one line from the last stretch on
   level_last : l.icept ≡ zero_q → (t : ℚ) → nat_times (suc m) a ≤ℚ t → IsLate a (Fin b) (suc m)
       → C t (read (stretch a l (suc m) ∷ []) t)
-  level_last flat t h late = subst (λ z. IsSegmentClosure a (Fin b) l t z) (sym (read_end (stretch a l (suc m)) t))
+  level_last flat t h late = subst (λ z. IsSegmentClosure a (Fin b) l t z) (sym (read_one (stretch a l (suc m)) t))
       (elim (le_or_lt (nat_times (suc m) b) t) [
         | inl past ↦
             let R = nat_times (suc m) b in
@@ -339,7 +340,7 @@ endless_values a l low up b t h =
         let p = stretch a l 1 in
         let one : nat_times 1 a ≡ a = one_mul a in
         let after : nat_times 1 a <ℚ t = subst (λ z. z <ℚ t) (sym one) late in
-        let read_p = read_end p t ∙ opening_past (nat_times 1 a) (line_times 1 l) t after in
+        let read_p = read_one p t ∙ opening_past (nat_times 1 a) (line_times 1 l) t after in
         elim (le_or_lt a zero_q) [
           | inl none ↦ ap (λ z. read z t) (early_start a (p ∷ []) none) ∙ read_p
           | inr some ↦ ap (λ z. read z t) (late_start a (p ∷ []) some) ∙ read_go (gap zero_q) p [] t (le_of_lt after) ∙ read_p
@@ -350,7 +351,7 @@ endless_values a l low up b t h =
         let p = stretch a l 1 in
         let one : nat_times 1 a ≡ a = one_mul a in
         let here : t ≤ℚ nat_times 1 a = subst (λ z. t ≤ℚ z) (sym one) early in
-        let read_p = read_end p t ∙ opening_here (nat_times 1 a) (line_times 1 l) t here in
+        let read_p = read_one p t ∙ opening_here (nat_times 1 a) (line_times 1 l) t here in
         elim (le_or_lt a zero_q) [
           | inl none ↦ ap (λ z. read z t) (early_start a (p ∷ []) none) ∙ read_p
           | inr some ↦ ap (λ z. read z t) (late_start a (p ∷ []) some)

@@ -18,6 +18,7 @@ use Rattle.upp_curve.specs.Readable.{LineFitsTo, EachFits}
 use Rattle.closure_elements.specs.ElementCurves.{nat_times, stretch, stretches, all_stretches}
 use Rattle.closure_elements.specs.PieceFits.{SlopeFitsAt, SlopesRead}
 use Rattle.closure_elements.proofs.PieceReads.{gap_kept, gap_left, late_start, early_start}
+use Rattle.upp_curve.proofs.ReadableKinds.{zero_num}
 
 -- ---- a sum with 0 fits
 gcd_of_one : (d : ℕ) → 0 < d → gcd 1 d ≡ 1
@@ -48,10 +49,6 @@ zero_parts n d some h k = record {
 
     more : n ≡ pos 0 +ℤ n
     more = omega (arith, ints)
-
-zero_num : (int (pos 0)).num ≡ pos 0
-unfolding frac gcd gcd_steps
-zero_num = refl
 
 zero_den : den (int (pos 0)) ≡ 1
 unfolding frac gcd gcd_steps

@@ -27,17 +27,17 @@ use Rattle.closure_laws.specs.Star.{origin}
 use Rattle.closure_laws.specs.ClosureLaws.{IsLattice}
 use Rattle.closure_elements.specs.ElementCurves.{nat_times}
 use Rattle.closure_elements.specs.Lattices.{lattice_curve, origin_curve, LatticeValues}
-use Rattle.closure_elements.proofs.PieceReads.{value_past, value_here, read_end}
 use Rattle.closure_elements.proofs.ClosureValues.{Left, left_of}
 use Rattle.closure_elements.proofs.FlatLines.{zero_sum}
 use Rattle.closure_elements.proofs.PointAnswers.{point_piece, zero_curve}
+use Rattle.affine_segment.proofs.PieceIn.{read_one, value_by, value_past}
 
 -- ---- how they read
 here : (t v : ℚ) → t ≤ℚ zero_q → read (point_piece zero_q v ∷ []) t ≡ Fin v
-here t v h = read_end (point_piece zero_q v) t ∙ value_here (point_piece zero_q v) t h
+here t v h = read_one (point_piece zero_q v) t ∙ value_by (point_piece zero_q v) t h
 
 past : (t v : ℚ) → zero_q <ℚ t → read (point_piece zero_q v ∷ []) t ≡ Inf
-past t v h = read_end (point_piece zero_q v) t ∙ value_past (point_piece zero_q v) t h
+past t v h = read_one (point_piece zero_q v) t ∙ value_past (point_piece zero_q v) t h
 
 no_fin : (q : ℚ) → Inf ≡ Fin q → ⊥
 no_fin q e = cc

@@ -25,10 +25,7 @@ use Rattle.closure_elements.proofs.TurnNumbers.{turn_in, more}
 use Rattle.closure_elements.proofs.StretchReads.{IsLate, first_late, none_at_start}
 use Rattle.closure_elements.proofs.ClosureValues.{rising_values, falling_values, least_at, greatest_at}
 use Rattle.closure_elements.proofs.NormalClosures.{IsTurn, no_share, not_one, all_each, all_start, all_has, all_unmerged, rest_start}
-
--- a rule holds from later times too
-later_rule : (f : ℚ → Ext) (x y d c : ℚ) → x ≤ℚ y → Repeats f x d c → Repeats f y d c
-later_rule f x y d c h r = record { rule = λ t k. r.rule t (le_trans h k) }
+use Rattle.upp_normal.proofs.NormalisePeriods.{repeats_after}
 
 -- infinity at y and a number a period later: no rule from a time up to y
 no_lower : (f : ℚ → Ext) (x y d c q : ℚ) → x ≤ℚ y → f y ≡ Inf → f (y +ℚ d) ≡ Fin q → ¬ (Repeats f x d c)

@@ -12,28 +12,8 @@ use Rattle.affine_segment.specs.declared.line.Line.{Line}
 use Rattle.affine_segment.specs.Values.{line_at, line_value}
 use Rattle.min_plus.specs.Functions.{zero_q}
 use Rattle.affine_segment.specs.Reading.{piece_value, read}
-use Rattle.affine_segment.proofs.PieceIn.{piece_in_stop, piece_in_go, piece_in_end}
+use Rattle.affine_segment.proofs.PieceIn.{piece_in_stop, piece_in_go, piece_in_end, read_go, read_one, read_stop, value_by, value_past}
 use Rattle.closure_elements.specs.ElementCurves.{gap, opening, after_gap, from_zero}
-
-pub value_past : (p : Piece) (t : ℚ) → p.x <ℚ t → piece_value p t ≡ line_value p.line t
-unfolding piece_value
-value_past p t h = rw (le_q_not t p.x h) refl
-
-pub value_here : (p : Piece) (t : ℚ) → t ≤ℚ p.x → piece_value p t ≡ p.at
-unfolding piece_value
-value_here p t h = rw (le_q_out t p.x h) refl
-
-pub read_stop : (p q : Piece) (qs : List Piece) (t : ℚ) → t <ℚ q.x → read (p ∷ q ∷ qs) t ≡ piece_value p t
-unfolding read
-read_stop p q qs t h = ap (λ z. piece_value z t) (piece_in_stop p q qs t h)
-
-pub read_go : (p q : Piece) (qs : List Piece) (t : ℚ) → q.x ≤ℚ t → read (p ∷ q ∷ qs) t ≡ read (q ∷ qs) t
-unfolding read
-read_go p q qs t h = ap (λ z. piece_value z t) (piece_in_go p q qs t h)
-
-pub read_end : (p : Piece) (t : ℚ) → read (p ∷ []) t ≡ piece_value p t
-unfolding read
-read_end p t = ap (λ z. piece_value z t) (piece_in_end p t)
 
 -- ---- gaps
 both_same : (x : Ext) (b : Bool) → cond b x x ≡ x
@@ -45,7 +25,7 @@ unfolding piece_value
 gap_value x t = both_same Inf (le_q t x)
 
 pub opening_here : (x : ℚ) (l : Line) (t : ℚ) → t ≤ℚ x → piece_value (opening x l) t ≡ Inf
-opening_here x l t h = value_here (opening x l) t h
+opening_here x l t h = value_by (opening x l) t h
 
 pub opening_past : (x : ℚ) (l : Line) (t : ℚ) → x <ℚ t → piece_value (opening x l) t ≡ Fin (line_at l t)
 opening_past x l t h = value_past (opening x l) t h

@@ -22,9 +22,10 @@ use Rattle.upp_curve.specs.Normal.{IsNormal}
 use Rattle.upp_curve.proofs.Repeats.{repeated_first}
 use Rattle.closure_elements.specs.ElementClosures.{Multiple, IsPointClosure}
 use Rattle.closure_elements.specs.ElementCurves.{nat_times, gap, point_closure, point_at_zero}
-use Rattle.closure_elements.proofs.PieceReads.{value_past, value_here, read_stop, read_go, read_end, gap_value}
+use Rattle.closure_elements.proofs.PieceReads.{gap_value}
 use Rattle.closure_elements.proofs.TurnNumbers.{le_or_more}
 use Rattle.closure_elements.proofs.ClosureValues.{Left, left_of, repeated_left}
+use Rattle.affine_segment.proofs.PieceIn.{read_go, read_one, read_stop, value_by, value_past}
 
 -- ---- the closure by a multiple
 -- where t is n and one times a, and no other number of times, or each gives as much
@@ -45,7 +46,7 @@ unfolding value_at cut
 zero_values v low t h = elim (le_or_lt t zero_q) [
   | inl here ↦
       let value : cut (read (record { x = zero_q; at = Fin v; line = None } ∷ [])) zero_q t ≡ Fin (nat_times 1 v) =
-      rw (le_q_out t zero_q here) (read_end record { x = zero_q; at = Fin v; line = None } t ∙ value_here record { x = zero_q; at = Fin v; line = None } t here ∙ ap Fin (sym (one_mul v))) in
+      rw (le_q_out t zero_q here) (read_one record { x = zero_q; at = Fin v; line = None } t ∙ value_by record { x = zero_q; at = Fin v; line = None } t here ∙ ap Fin (sym (one_mul v))) in
       subst (λ z. IsPointClosure zero_q v t z) (sym value)
       (least_multiple zero_q v t 0 (antisym (here, h) ∙ sym (mul_zero (int (pos 1)))) (λ m. mul_le_mul_right v low (nat_le 1 (suc m.less_one) (omega arith))))
   | inr past ↦
@@ -70,12 +71,12 @@ module _ (a v : ℚ) (some : zero_q <ℚ a) where
   point_read : (t : ℚ) → t ≤ℚ a → a ≤ℚ t → read (gap zero_q ∷ point ∷ []) t ≡ Fin v
   unfolding point
   point_read t h k = read_go (gap zero_q) record { x = a; at = Fin v; line = None } [] t k
-      ∙ read_end record { x = a; at = Fin v; line = None } t ∙ value_here record { x = a; at = Fin v; line = None } t h
+      ∙ read_one record { x = a; at = Fin v; line = None } t ∙ value_by record { x = a; at = Fin v; line = None } t h
 
   late_read : (t : ℚ) → a <ℚ t → read (gap zero_q ∷ point ∷ []) t ≡ Inf
   unfolding point
   late_read t h = read_go (gap zero_q) record { x = a; at = Fin v; line = None } [] t (le_of_lt h)
-      ∙ read_end record { x = a; at = Fin v; line = None } t ∙ value_past record { x = a; at = Fin v; line = None } t h
+      ∙ read_one record { x = a; at = Fin v; line = None } t ∙ value_past record { x = a; at = Fin v; line = None } t h
 
   early_read : (t : ℚ) → t <ℚ a → read (gap zero_q ∷ point ∷ []) t ≡ Inf
   unfolding point

@@ -40,11 +40,13 @@ use Rattle.closure_elements.proofs.PieceReads.{late_start, early_start}
 use Rattle.closure_elements.specs.Heavy.{IsHeavy}
 use Rattle.closure_elements.proofs.FewCopies.{periodic_few, few_pieces}
 use Rattle.closure_elements.proofs.TurnNumbers.{le_or_more}
-use Rattle.closure_elements.proofs.TurnSteps.{first_of_all, all_then, each_then}
+use Rattle.closure_elements.proofs.TurnSteps.{first_of_all, all_then}
 use Rattle.closure_elements.proofs.ClosureValues.{level_values, rising_values, falling_values, endless_values}
 use Rattle.closure_elements.proofs.EndlessFalling.{endless_falling, far, far_joined, far_later}
 use Rattle.closure_elements.proofs.NormalClosures.{level_normal}
 use Rattle.closure_elements.proofs.NormalTurns.{rising_normal, falling_normal}
+use Rattle.rational.proofs.Compared.{is_equal}
+use Rattle.upp_normal.proofs.Bends.{each_first}
 
 pub unfit_more : (a b : ℚ) (l : Line) (m : ℕ) (e : OpFault) → IsUnfit (stretches a b l 1 m []) e → IsUnfit (all_stretches a b l m []) e
 unfit_more a b l m TooMany h = h
@@ -170,7 +172,7 @@ module _ (a b : ℚ) (l : Line) (m : ℕ) (q : Piece) (d : ℚ) where
 
   parts_fit : (z : Sizes) (end : ℚ) → CallSizes with_turn z end → Each PieceFits (all_stretches a b l m []) × Each PieceFits (q ∷ [])
   parts_fit z end O =
-      each_then PieceFits (all_stretches a b l m []) (q ∷ []) (subst (Each PieceFits) (sym (all_then a b l m (q ∷ []))) (pieces_fit with_turn z end O))
+      each_first PieceFits (all_stretches a b l m []) (q ∷ []) (subst (Each PieceFits) (sym (all_then a b l m (q ∷ []))) (pieces_fit with_turn z end O))
 
   pub turn_unfit : IsNormal with_turn → (e : OpFault) → IsUnfit (all_stretches a b l m []) e → IsMade with_turn (Err e)
   turn_unfit normal TooMany h = h
@@ -266,7 +268,3 @@ ready_endless_falling a b l part down =
       normal = falling_normal a (far a) l 0 low (far_later a some) (λ i p q. absurd (omega arith)) (λ i p. far_joined a low i p) some down;
       closes = λ t k. closure_of_segment a Inf l t (value_at (falling_closure a b l 0) t) low (endless_falling a b l some (le_of_lt down) t k);
     }
-
--- what a comparison says of equal numbers
-pub is_equal : (r : Ordering) {x y : ℚ} → MatchOrdering r (x <ℚ y) (x ≡ y) (y <ℚ x) → r ≡ Equal → x ≡ y
-is_equal r {x} {y} h e = subst (λ z. MatchOrdering z (x <ℚ y) (x ≡ y) (y <ℚ x)) e h

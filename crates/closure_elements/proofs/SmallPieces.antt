@@ -33,6 +33,7 @@ use Rattle.upp_limits.proofs.KnownNumbers.{start_fits, span_fits}
 use Rattle.upp_normal.proofs.StretchSizes.{time_whole, time_within, starts_over}
 use Rattle.upp_limits.proofs.CurveStands.{curve_stands}
 use Rattle.upp_limits.proofs.PieceLists.{starts_nonneg}
+use Rattle.upp_curve.proofs.RisingCurves.{GoesOn}
 
 -- ---- where pieces stand
 pub record PieceStands (z : Sizes) (end : ℚ) (p : Piece) : Type 0 where
@@ -42,11 +43,6 @@ pub record PieceStands (z : Sizes) (end : ℚ) (p : Piece) : Type 0 where
   pub at : ValueStands z p.at
   pub after : ValueStands z (line_value p.line p.x)
   pub slope : LineStands z p.line
-
-abbrev pub GoesOn : Tail → Type 0
-GoesOn (Periodic rank period rise) = Unit {0}
-GoesOn (Affine rank) = Unit {0}
-GoesOn (Infinite rank) = ⊥
 
 pieces_stand : (z : Sizes) (end : ℚ) (tail : Tail) (ps : List Piece) → GoesOn tail → Each (λ p. p.x <ℚ end) ps
     → AllByRecursion (λ p. zero_q ≤ℚ p.x) ps → AllByRecursion (SpanStands z) (spans tail ps) → Each (PieceStands z end) ps

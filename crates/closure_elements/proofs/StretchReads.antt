@@ -11,8 +11,9 @@ use Rattle.min_plus.specs.Functions.{zero_q}
 use Rattle.affine_segment.specs.Reading.{read}
 use Rattle.closure_elements.specs.ElementClosures.{Turn, IsSegmentClosure}
 use Rattle.closure_elements.specs.ElementCurves.{nat_times, gap, stretch, line_times, stretches, all_stretches}
-use Rattle.closure_elements.proofs.PieceReads.{read_stop, read_go, opening_here, opening_past, over_gap, before_gap, in_gap, late_start, early_start, gap_value}
+use Rattle.closure_elements.proofs.PieceReads.{opening_here, opening_past, over_gap, before_gap, in_gap, late_start, early_start, gap_value}
 use Rattle.closure_elements.proofs.TurnNumbers.{fewer, more, least_turn, no_turn}
+use Rattle.affine_segment.proofs.PieceIn.{read_go, read_stop}
 
 -- from n a on each turn is n or more
 abbrev pub IsLate : ℚ → Ext → ℕ → Type 0

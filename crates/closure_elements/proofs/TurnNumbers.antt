@@ -13,18 +13,16 @@ use Rattle.affine_segment.specs.Values.{line_at}
 use Rattle.min_plus.specs.Functions.{zero_q}
 use Rattle.closure_elements.specs.ElementClosures.{Turn, IsSegmentClosure}
 use Rattle.closure_elements.specs.ElementCurves.{nat_times, line_times, ext_times}
-
-pub some_nat : (n : ℕ) → int (pos 0) <ℚ int (pos (suc n))
-some_nat n = nat_lt 0 (suc n) (omega arith)
+use Rattle.rational.proofs.Grain.{some_int}
 
 -- ---- the two forms of a turn
 pub share_back : (n : ℕ) (t : ℚ) → nat_times (suc n) (t /ℚ int (pos (suc n))) ≡ t
 share_back n t =
-    mul_comm (int (pos (suc n))) (t /ℚ int (pos (suc n))) ∙ div_mul t (int (pos (suc n))) (not_zero (int (pos (suc n))) (some_nat n))
+    mul_comm (int (pos (suc n))) (t /ℚ int (pos (suc n))) ∙ div_mul t (int (pos (suc n))) (not_zero (int (pos (suc n))) (some_int n))
 
 pub less_in : (n : ℕ) (x y : ℚ) → nat_times (suc n) x <ℚ nat_times (suc n) y → x <ℚ y
 less_in n x y h =
-    lt_of_mul (int (pos (suc n))) x y (some_nat n)
+    lt_of_mul (int (pos (suc n))) x y (some_int n)
     (subst (λ z. z <ℚ y *ℚ int (pos (suc n))) (mul_comm (int (pos (suc n))) x)
     (subst (λ z. nat_times (suc n) x <ℚ z) (mul_comm (int (pos (suc n))) y) h))
 
@@ -44,11 +42,11 @@ turn_in a b t n h k = record {
 
 pub turn_above : (a : ℚ) (b : Ext) (t : ℚ) (u : Turn a b t) → nat_times (suc u.less_one) a <ℚ t
 turn_above a b t u =
-    subst (λ z. nat_times (suc u.less_one) a <ℚ z) (sym u.is) (mul_lt_mul (int (pos (suc u.less_one))) (some_nat u.less_one) u.above)
+    subst (λ z. nat_times (suc u.less_one) a <ℚ z) (sym u.is) (mul_lt_mul (int (pos (suc u.less_one))) (some_int u.less_one) u.above)
 
 below_out : (b : Ext) (n : ℕ) (s : ℚ) → Fin s <ₑ b → Fin (nat_times (suc n) s) <ₑ ext_times (suc n) b
 below_out Inf n s h = tt
-below_out (Fin b) n s h = mul_lt_mul (int (pos (suc n))) (some_nat n) h
+below_out (Fin b) n s h = mul_lt_mul (int (pos (suc n))) (some_int n) h
 
 pub turn_below : (a : ℚ) (b : Ext) (t : ℚ) (u : Turn a b t) → Fin t <ₑ ext_times (suc u.less_one) b
 turn_below a b t u =
@@ -71,7 +69,7 @@ ext_more : (b : Ext) (m n : ℕ) (t : ℚ) → Fin zero_q ≤ₑ b → m ≤ n �
 ext_more Inf m n t low h k = tt
 ext_more (Fin b) m n t low h k = lt_le_trans k (mul_le_mul_right b low (nat_le m n h))
 
-not_past : (x : Ext) (t : ℚ) → x ≤ₑ Fin t → Fin t <ₑ x → ⊥
+pub not_past : (x : Ext) (t : ℚ) → x ≤ₑ Fin t → Fin t <ₑ x → ⊥
 not_past Inf t h k = h
 not_past (Fin x) t h k = lt_irrefl t (lt_le_trans k h)
 

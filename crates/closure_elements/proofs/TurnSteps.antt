@@ -15,6 +15,7 @@ use Rattle.affine_segment.specs.Pieces.{Each}
 use Rattle.closure_elements.specs.ElementCurves.{nat_times, line_times, gap, stretch, turn, after_gap, from_zero, stretches, all_stretches}
 use Rattle.closure_elements.specs.PieceFits.{PieceFits}
 use Rattle.closure_elements.proofs.PieceReads.{gap_kept, gap_left, late_start, early_start}
+use Rattle.upp_normal.proofs.Bends.{each_first}
 
 -- ---- a turn
 -- one more line is k more
@@ -108,10 +109,6 @@ each_zero P a q ps h = elim (le_or_lt a zero_q) [
 pub first_of_all : (P : Piece → Type 0) (a b : ℚ) (l : Line) (m : ℕ) (rest : List Piece) → Each P (all_stretches a b l m rest)
     → P (stretch a l 1) × Each P (stretches a b l 1 m rest)
 first_of_all P a b l m rest h = each_zero P a (stretch a l 1) (stretches a b l 1 m rest) h
-
-pub each_then : (P : Piece → Type 0) (ps qs : List Piece) → Each P (ps ++ qs) → Each P ps × Each P qs
-each_then P [] qs h = (tt, h)
-each_then P (p ∷ ps) qs h = let r = each_then P ps qs h.1 in ((h.0, r.0), r.1)
 
 -- what fits of one more stretch
 pub record StepFits (a b : ℚ) (l : Line) (n k : ℕ) : Type 0 where

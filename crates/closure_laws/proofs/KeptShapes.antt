@@ -30,7 +30,7 @@ finite_kept f F closed finite t n =
     let (q, e) = finite t n in
     finite_below (F t) q (le_ext_trans (F t) (f t) (Fin q) (closure_le f t (F t) n (closed t n)) (same_le_ext e))
 
-total_nonneg : (f : ℚ → Ext) (xs : List ℚ) → AllNonneg xs → IsNonnegative f → Fin zero_q ≤ₑ sum_at f xs
+pub total_nonneg : (f : ℚ → Ext) (xs : List ℚ) → AllNonneg xs → IsNonnegative f → Fin zero_q ≤ₑ sum_at f xs
 total_nonneg f [] n low = le_ext_refl (Fin zero_q)
 total_nonneg f (x ∷ xs) (p, n) low =
     le_ext_trans (Fin zero_q) (Fin zero_q +ₑ Fin zero_q) (f x +ₑ sum_at f xs)

@@ -23,8 +23,9 @@ use Rattle.upp_limits.proofs.Stands.{sizes_stand}
 use Rattle.upp_limits.proofs.NarrowSizes.{narrow_gauge}
 use Rattle.curve_call.specs.Times.{PeriodsFit}
 use Rattle.curve_call.specs.CallWindows.{IsForward, SecondIsCurve, start_of, number_of, period_in, StartFits}
-use Rattle.curve_call.proofs.CurveTimes.{small_time, periods_fit}
+use Rattle.curve_call.proofs.CurveTimes.{periods_fit}
 use Rattle.curve_call.proofs.CallTimes.{IsCall, IsNarrowCall, window_is, period_on, start_on, start_fits}
+use Rattle.upp_normal.proofs.UnrollSteps.{time_small}
 
 pub number_some : (op : OpKind) (k m : ℕ) → IsForward op → 1 ≤ number_of op k m
 number_some Sum k m h = omega arith
@@ -98,7 +99,7 @@ fits_at op f g k m z h =
     let p = period_on op f g z end h.call in
     let s = start_on op f g z end h.call in
     record {
-      period = small_time z end (period_in op f g) h.sizes h.narrow p.whole (le_of_lt p.above) e.period;
+      period = time_small z end (period_in op f g) h.sizes h.narrow p.whole (le_of_lt p.above) e.period;
       start = start_fits op f g z end h e.period e.start;
       end = periods_fit z end (start_of op f g) (period_in op f g) (number_of op k m) h.sizes h.narrow s.whole p.whole s.nonneg p.above
           (subst (λ x. x ≤ℚ end) (window_is op f g k m) (le_refl end));

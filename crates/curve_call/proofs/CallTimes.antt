@@ -26,7 +26,8 @@ use Rattle.upp_limits.proofs.Stands.{stands_left, stands_right}
 use Rattle.upp_limits.proofs.NarrowSizes.{IsNarrow}
 use Rattle.curve_call.specs.Times.{OneLaterFits, BothSteadyFit}
 use Rattle.curve_call.specs.CallWindows.{IsForward, SecondIsCurve, start_of, number_of, period_in, StartFits}
-use Rattle.curve_call.proofs.CurveTimes.{IsPeriod, sum_fits, time_within, small_time, steady_nonneg, steady_whole, one_later, own_on, both_on, own_or_on, max_whole, both_fit}
+use Rattle.curve_call.proofs.CurveTimes.{IsPeriod, sum_fits, time_within, steady_nonneg, steady_whole, one_later, own_on, both_on, own_or_on, max_whole, both_fit}
+use Rattle.upp_normal.proofs.UnrollSteps.{time_small}
 
 -- ---- the window's end as whole periods after the start
 one_more : (t d : ℚ) → t +ℚ d ≡ periods_after t 1 d
@@ -241,7 +242,7 @@ start_fits Deconvolve f g z end h p l =
     let sum = sum_start z.dt (steady f) ahead first by in
     record {
       both = fit_both Deconvolve f g z end h.call.first h.call.second h.sizes h.narrow h.call.stands (right_of_sum (steady f +ℚ ahead) (both_steady f g) end sum.nonneg l);
-      period = small_time z end (common_period f g) h.sizes h.narrow common.whole (le_of_lt common.above) p;
+      period = time_small z end (common_period f g) h.sizes h.narrow common.whole (le_of_lt common.above) p;
       first = fit_sum z end (steady f) ahead h.sizes h.narrow first by early;
       sum = fit_sum z end (steady f +ℚ ahead) (both_steady f g) h.sizes h.narrow sum both l;
     }

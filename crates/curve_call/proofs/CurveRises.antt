@@ -48,10 +48,10 @@ use Rattle.fraction128.specs.Multiple.{common_multiple}
 use Rattle.fraction128.proofs.CommonMultiple.{common_multiple_least}
 use Rattle.curve_call.specs.Rises.{CurveRiseFits, SlopeTimesFits}
 use Rattle.curve_call.proofs.CurveTimes.{rank_early}
+use Rattle.upp_normal.proofs.UnrollSteps.{IsSomewhere}
+use Rattle.upp_normal.proofs.StretchPieces.{found_from, found_late}
 
 -- ---- a piece with a value, or none
-abbrev HasLevel : Piece → Type 0
-HasLevel q = ((v : ℚ) × (q.at ≡ Fin v)) ⊎ ((l : Line) × (q.line ≡ Some l))
 
 record IsVoid (q : Piece) : Type 0 where
   at : q.at ≡ Inf
@@ -64,7 +64,7 @@ level_or Inf None = inr (refl, refl)
 
 -- from the rank on
 abbrev Found : (Piece → Type 0) → ℚ → Type 0
-Found Q rank = (q : Piece) × Q q × (rank ≤ℚ q.x) × HasLevel q
+Found Q rank = (q : Piece) × Q q × (rank ≤ℚ q.x) × IsSomewhere q
 
 find : (Q : Piece → Type 0) (rank : ℚ) (ps : List Piece) → Each Q ps → Found Q rank ⊎ Each (λ q. rank ≤ℚ q.x → IsVoid q) ps
 find Q rank [] h = inr tt
@@ -88,31 +88,15 @@ void_value q t h = ap (λ (v : Ext). cond (le_q t q.x) v (line_value q.line t)) 
     same true = refl
     same false = refl
 
-rises_in : (q : Piece) (qs : List Piece) (t : ℚ) → RisesFrom q.x qs → q.x ≤ℚ (piece_in q qs t).x
-rises_in q [] t h = subst (λ (p : Piece). q.x ≤ℚ p.x) (sym (piece_in_end q t)) (le_refl q.x)
-rises_in q (s ∷ ss) t h = elim (le_or_lt s.x t) [
-  | inl l ↦ subst (λ (p : Piece). q.x ≤ℚ p.x) (sym (piece_in_go q s ss t l)) (le_trans (le_of_lt h.0) (rises_in s ss t h.1))
-  | inr l ↦ subst (λ (p : Piece). q.x ≤ℚ p.x) (sym (piece_in_stop q s ss t l)) (le_refl q.x)
-]
-
-at_least : (q : Piece) (qs : List Piece) (rank : ℚ) → RisesFrom q.x qs → HasStart rank (q ∷ qs) → q.x ≤ℚ rank
+pub at_least : (q : Piece) (qs : List Piece) (rank : ℚ) → RisesFrom q.x qs → HasStart rank (q ∷ qs) → q.x ≤ℚ rank
 at_least q qs rank h (inl e) = subst (λ x. q.x ≤ℚ x) e (le_refl q.x)
 at_least q qs rank h (inr k) = le_of_lt (past_start q.x rank qs h k)
-
-found_late : (q : Piece) (qs : List Piece) (rank t : ℚ) → RisesFrom q.x qs → HasStart rank (q ∷ qs) → rank ≤ℚ t → rank ≤ℚ (piece_in q qs t).x
-found_late q [] rank t h (inl e) l = subst (λ (p : Piece). rank ≤ℚ p.x) (sym (piece_in_end q t)) (subst (λ x. rank ≤ℚ x) (sym e) (le_refl rank))
-found_late q [] rank t h (inr k) l = absurd k
-found_late q (s ∷ ss) rank t h (inl e) l = le_trans (subst (λ x. rank ≤ℚ x) (sym e) (le_refl rank)) (rises_in q (s ∷ ss) t h)
-found_late q (s ∷ ss) rank t h (inr k) l = elim (le_or_lt s.x t) [
-  | inl m ↦ subst (λ (p : Piece). rank ≤ℚ p.x) (sym (piece_in_go q s ss t m)) (found_late s ss rank t h.1 k l)
-  | inr m ↦ absurd (lt_irrefl t (lt_le_trans m (le_trans (at_least s ss rank h.1 k) l)))
-]
 
 read_void : (ps : List Piece) (rank t : ℚ) → StartsAtZero ps → HasStart rank ps → Each (λ q. rank ≤ℚ q.x → IsVoid q) ps → rank ≤ℚ t → read ps t ≡ Inf
 unfolding read
 read_void [] rank t starts has void l = refl
 read_void (p ∷ ps) rank t starts has void l =
-    void_value (piece_in p ps t) t (each_in (λ q. rank ≤ℚ q.x → IsVoid q) p ps t void (found_late p ps rank t starts.1 has l))
+    void_value (piece_in p ps t) t (each_in (λ q. rank ≤ℚ q.x → IsVoid q) p ps t void (found_from p ps rank t starts.1 has l))
 
 void_tail : (ps : List Piece) (rank period rise t : ℚ) → StartsAtZero ps → HasStart rank ps → int (pos 0) ≤ℚ rank → int (pos 0) <ℚ period → Each (λ q. rank ≤ℚ q.x → IsVoid q) ps
     → rank ≤ℚ t → repeated (read ps) rank period rise t ≡ Inf
@@ -170,7 +154,7 @@ level_bound z y v h k =
 number_bound : (z : Sizes) (y : ℚ) (x : Ext) (v : ℚ) → x ≡ Fin v → ValueStands z x → ValueStands z (x +ₑ Fin y) → Within (times_largest 2 z) y
 number_bound z y x v e h k = level_bound z y v (subst (ValueStands z) e h) (subst (λ (w : Ext). ValueStands z (w +ₑ Fin y)) e k)
 
-counted_bound : (z : Sizes) (rise : ℚ) (m : ℕ) (q : Piece) → Counted z rise m q → HasLevel q → Within (times_largest 2 z) (int (pos m) *ℚ rise)
+counted_bound : (z : Sizes) (rise : ℚ) (m : ℕ) (q : Piece) → Counted z rise m q → IsSomewhere q → Within (times_largest 2 z) (int (pos m) *ℚ rise)
 counted_bound z rise m q h (inl l) = number_bound z (int (pos m) *ℚ rise) q.at l.0 l.1 h.at h.at_late
 counted_bound z rise m q h (inr l) =
     number_bound z (int (pos m) *ℚ rise) (line_value q.line q.x) (line_at l.0 q.x) (ap (λ (o : Option Line). line_value o q.x) l.1) h.after h.after_late

@@ -26,10 +26,11 @@ use Rattle.upp_limits.specs.Periods.{HasPeriod, period_of, period_or, common_of,
 use Rattle.upp_limits.specs.Limits.{Sizes, curve_numbers}
 use Rattle.upp_limits.specs.Sized.{AreSizes, Stands, TailStands}
 use Rattle.upp_limits.proofs.Operands.{curve_period}
-use Rattle.upp_limits.proofs.CurveStands.{tail_stands}
+use Rattle.upp_limits.proofs.CurveStands.{tail_stands, later_at_least}
 use Rattle.upp_limits.proofs.NarrowSizes.{IsNarrow}
 use Rattle.upp_limits.proofs.OwnGauge.{end_within, twice_fits}
 use Rattle.curve_call.specs.Times.{OneLaterFits, BothSteadyFit, PeriodsFit}
+use Rattle.upp_normal.proofs.UnrollSteps.{time_small}
 
 -- ---- steps of times up to the window's end
 pub sum_fits : (z : Sizes) (end a b : ℚ) → AreSizes z end → IsNarrow z (2 ^ 122) → Whole z.dt a → Whole z.dt b → Within (int (pos z.largest)) a → Within (int (pos z.largest)) b → SumFits a b
@@ -44,13 +45,6 @@ time_within z end a s some l = within_nonneg (int (pos z.largest)) a some (le_tr
 
 one_within : (z : Sizes) (end : ℚ) → AreSizes z end → Within (int (pos z.largest)) (int (pos 1))
 one_within z end s = within_nonneg (int (pos z.largest)) (int (pos 1)) (nat_nonneg 1) (nat_le 1 z.largest s.largest)
-
-pub small_time : (z : Sizes) (end q : ℚ) → AreSizes z end → IsNarrow z (2 ^ 122) → Whole z.dt q → int (pos 0) ≤ℚ q → q ≤ℚ end → IsSmall q
-small_time z end q s n w some l =
-    let t = n.times in
-    let one : 1 * z.dt ≤ z.largest * z.dt = mul-le-mul_right z.dt s.largest in
-    small_on_grid z.dt (int (pos z.largest)) q s.dt (omega (arith, t, one))
-    (subst (λ x. x ≤ℚ int (pos largest_part)) (sym (mul_whole (pos z.largest) (pos z.dt) 0)) (nat_le (z.largest * z.dt) largest_part (omega (arith, t)))) w (time_within z end q s some l)
 
 -- a period on the grid is at least one step of it
 one_step : (d : ℕ) (p : ℚ) → 0 < d → Whole d p → int (pos 0) <ℚ p → int (pos 1) ≤ℚ p *ℚ int (pos d)
@@ -81,7 +75,7 @@ periods_fit z end t p n s narrow wt wp some above l =
     let times = narrow.times in
     record {
       few = omega (arith, few, times);
-      run = small_time z end run s narrow wr some_run run_in;
+      run = time_small z end run s narrow wr some_run run_in;
       sum = sum_fits z end t run s narrow wt wr (time_within z end t s some t_in) (time_within z end run s some_run run_in);
     }
 
@@ -89,10 +83,6 @@ periods_fit z end t p n s narrow wt wp some above l =
 later_whole : (d : ℕ) (b : Bool) (rank : ℚ) → Whole d rank → Whole d (later_unless b rank)
 later_whole d true rank w = w
 later_whole d false rank w = whole_add d rank (int (pos 1)) w (whole_int d (pos 1))
-
-later_least : (b : Bool) (rank : ℚ) → rank ≤ℚ later_unless b rank
-later_least true rank = le_refl rank
-later_least false rank = with1 rank (λ c. omega (arith, c.le, c.lt, c.same))
 
 steady_on : (d : ℕ) (ps : List Piece) (tail : Tail) → Whole d (rank_of tail) → Whole d (steady record { pieces = ps; tail = tail })
 unfolding steady
@@ -103,8 +93,8 @@ steady_on d ps (Infinite rank) w = later_whole d _ rank w
 rank_before : (ps : List Piece) (tail : Tail) → rank_of tail ≤ℚ steady record { pieces = ps; tail = tail }
 unfolding steady
 rank_before ps (Periodic rank period rise) = le_refl rank
-rank_before ps (Affine rank) = later_least _ rank
-rank_before ps (Infinite rank) = later_least _ rank
+rank_before ps (Affine rank) = later_at_least _ rank
+rank_before ps (Infinite rank) = later_at_least _ rank
 
 rank_nonneg : (ps : List Piece) (tail : Tail) → TailFits ps tail → int (pos 0) ≤ℚ rank_of tail
 rank_nonneg ps (Periodic rank period rise) h = h.nonneg

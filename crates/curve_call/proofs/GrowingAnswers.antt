@@ -28,7 +28,7 @@ grown h finite start rising = record {
 }
 
 -- where h has the values of m, which rises
-same_rising : (m h : ℚ → Ext) → ((t : ℚ) → zero_q ≤ℚ t → h t ≡ m t) → ((s t : ℚ) → zero_q ≤ℚ s → s ≤ℚ t → m s ≤ₑ m t) → IsRising h
+pub same_rising : (m h : ℚ → Ext) → ((t : ℚ) → zero_q ≤ℚ t → h t ≡ m t) → ((s t : ℚ) → zero_q ≤ℚ s → s ≤ℚ t → m s ≤ₑ m t) → IsRising h
 same_rising m h is up s t low more =
     let at = le_trans low more in
     le_ext_trans (h s) (m s) (h t) (same_le_ext (is s low)) (le_ext_trans (m s) (m t) (h t) (up s t low more) (same_le_ext (sym (is t at))))

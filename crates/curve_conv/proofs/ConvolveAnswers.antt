@@ -28,7 +28,7 @@ use Rattle.curve_call.specs.declared.frame.Frame.{Frame}
 use Rattle.curve_call.specs.Answering.{IsAnswerWindow}
 use Rattle.curve_call.proofs.CurveRises.{IsRise}
 use Rattle.curve_pointwise.specs.Lattice.{RisesBy}
-use Rattle.curve_pointwise.proofs.LatticeCalls.{operands, from_is, from_late, from_whole, left_rise, right_rise, some_end}
+use Rattle.curve_pointwise.proofs.LatticeCalls.{operands, from_is, from_late, from_whole, left_rise, right_rise, some_end, more_periods}
 use Rattle.curve_call.proofs.TailMoves.{rates_compared, not_both, not_same}
 use Rattle.element_envelope.specs.ConvolutionWindows.{OperandWindows, IsConvolutionWindow}
 use Rattle.element_envelope.specs.SumWindows.{SumPiece}
@@ -38,6 +38,7 @@ use Rattle.element_envelope.proofs.ArchBends.{sums_on_grids}
 use Rattle.curve_conv.specs.Late.{IsSlowerLate}
 use Rattle.curve_conv.proofs.Repeating.{ConvolvesFrom, convolution_repeats}
 use Rattle.curve_conv.specs.ConvolveCall.{IsConvolveFrame}
+use Rattle.curve_pointwise.proofs.LatticeAnswers.{RiseHasRoom, back, slower_or_not}
 
 -- ---- the operands
 pub windows : (f g : SpecCurve) (r : Frame) (ls rs : List Piece) (F : IsConvolveFrame f g r) → ls ≡ unroll f r.end → rs ≡ unroll g r.end → OperandWindows r.end ls rs
@@ -46,19 +47,9 @@ windows f g r ls rs F el er =
     record { sizes = F.sizes; limited = F.call.limited; some = some_end f g r.start r.period r.end (F.number + 1) F.sizes F.call; left = A.left; right = A.right }
 
 -- ---- the rise stands
-record RiseHasRoom (z : Sizes) (y : ℚ) : Type 0 where
-  whole : Whole (grid_of z) y
-  within : Within (times_largest 8 z) y
 
 rise_has_room : (z : Sizes) (c : SpecCurve) (d : ℚ) → IsRise z c d → RiseHasRoom z (rise_over c d)
 rise_has_room z c d R = record { whole = R.whole; within = within_weaken (times_largest 3 z) (times_largest 8 z) (rise_over c d) (more_largest z 3 8 (omega arith)) R.within }
-
-slower_or_not : (x y : Ext) → (x <ₑ y) ⊎ ¬ (x <ₑ y)
-slower_or_not x y = elim (rates_compared x y) [
-  | inl l ↦ inl l
-  | inr (inl e) ↦ inr (not_same x y e)
-  | inr (inr l) ↦ inr (not_both y x l)
-]
 
 rise_room : (f g : SpecCurve) (r : Frame) (rise : ℚ) (F : IsConvolveFrame f g r) → RisesBy (rate g <ₑ rate f) (rise_over g r.period) (rise_over f r.period) rise → RiseHasRoom F.sizes rise
 rise_room f g r rise F R = elim (slower_or_not (rate g) (rate f)) [
@@ -67,8 +58,6 @@ rise_room f g r rise F R = elim (slower_or_not (rate g) (rate f)) [
 ]
 
 -- ---- the answer
-ends_at : (e p from : ℚ) → from ≡ e -ℚ p → from +ℚ p ≡ e
-ends_at e p from h = with3 e p from (λ c. omega (arith, c.le, c.lt, c.same))
 
 pub convolved_answer : (f g : SpecCurve) (r : Frame) (ls rs ps : List Piece) (from rise : ℚ) → IsConvolveFrame f g r → ls ≡ unroll f r.end → rs ≡ unroll g r.end → IsConvolutionWindow ls rs r.end ps
     → from ≡ r.end -ℚ r.period → RisesBy (rate g <ₑ rate f) (rise_over g r.period) (rise_over f r.period) rise → IsAnswerWindow ps from r.period rise r.times r.values
@@ -82,7 +71,7 @@ convolved_answer f g r ls rs ps from rise F el er M ef R =
     let room = rise_room f g r rise F R in
     let whole : Whole z.dt from = subst (Whole z.dt) (sym ef) (from_whole f g r.start r.period r.end k z L) in
     let nonneg : int (pos 0) ≤ℚ from = subst (λ y. int (pos 0) ≤ℚ y) (sym ef) (le_trans L.nonneg (from_late f g r.start r.period r.end k z L)) in
-    let ends = ends_at r.end r.period from ef in
+    let ends = back r.end r.period from ef in
     let tail : TailOf z r.end from r.period rise = record { nonneg = nonneg; some = L.above; ends = ends; time = whole; whole = L.period_whole; value = room.whole } in
     record {
       sizes = z;
@@ -104,8 +93,6 @@ convolved_answer f g r ls rs ps from rise F el er M ef R =
     }
 
 -- ---- its values
-more_periods : (k : ℕ) (p : ℚ) → int (pos (k + 1)) *ℚ p ≡ int (pos k) *ℚ p +ℚ p
-more_periods k p = let e : k + 1 ≡ suc k = omega arith in ap (λ n. int (pos n) *ℚ p) e ∙ one_more_times k p
 
 late_by : (f g : SpecCurve) (r : Frame) (F : IsConvolveFrame f g r) → steady f +ℚ steady g +ℚ r.period ≤ℚ r.end -ℚ r.period
 late_by f g r F =
@@ -125,7 +112,7 @@ pub convolved_values : (f g : SpecCurve) (r : Frame) (ls rs ps : List Piece) (fr
     → (t : ℚ) → int (pos 0) ≤ℚ t → IsConvolution (value_at f) (value_at g) t (value_at c t)
 convolved_values f g r ls rs ps from rise c F el er M ef R same =
     let L = F.call in
-    let ends = ends_at r.end r.period from ef in
+    let ends = back r.end r.period from ef in
     let C : ConvolvesFrom f g r.period from = record {
       first = L.first;
       second = L.second;

@@ -44,7 +44,7 @@ use Rattle.curve_conv.specs.ConvolveCall.{IsConvolveFrame}
 use Rattle.curve_conv.proofs.Tallies.{tally_grows}
 
 -- ---- the call
-left_of : (x y : ℚ) → int (pos 0) ≤ℚ y → x ≤ℚ x +ℚ y
+pub left_of : (x y : ℚ) → int (pos 0) ≤ℚ y → x ≤ℚ x +ℚ y
 left_of x y h = with2 x y (λ c. omega (arith, c.le, c.lt, c.same))
 
 right_of : (x y : ℚ) → int (pos 0) ≤ℚ x → y ≤ℚ x +ℚ y

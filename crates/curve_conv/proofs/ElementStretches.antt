@@ -20,10 +20,9 @@ use Rattle.element_envelope.specs.SumWindows.{SumValueAt}
 use Rattle.element_envelope.proofs.PairWindows.{sum_value_on}
 use Rattle.element_envelope.proofs.SumSteps.{line_fits_at, line_value_on}
 use Rattle.curve_conv.specs.Stretches.{SumPlace, SumStretch, SumTimeIn, end_time}
+use Rattle.affine_segment.proofs.ElementReading.{value_out}
 
 -- ---- values
-value_none : (e : Element) (t : ℚ) → ¬ (Covers e t) → element_value e t ≡ Inf
-value_none e t n = elim (value_cases e t) [ inl h ↦ h | inr k ↦ absurd (n k) ]
 
 not_same : (x y : ℚ) → x <ℚ y → ¬ (x ≡ y)
 not_same x y h e = lt_irrefl y (subst (λ z. z <ℚ y) e h)
@@ -31,22 +30,22 @@ not_same x y h e = lt_irrefl y (subst (λ z. z <ℚ y) e h)
 -- ---- a point
 pub point_before : (x v t : ℚ) → t <ℚ x → GoesOn (element_value (Point x v)) t record { at = Inf; line = None; next = Some x }
 point_before x v t h = record {
-  at = sym (value_none (Point x v) t (not_same t x h));
-  line = λ u past before. value_none (Point x v) u (not_same u x before);
+  at = sym (value_out (Point x v) t (not_same t x h));
+  line = λ u past before. value_out (Point x v) u (not_same u x before);
   next = h;
 }
 
 pub point_here : (x v t : ℚ) → t ≡ x → GoesOn (element_value (Point x v)) t record { at = Fin v; line = None; next = None }
 point_here x v t e = record {
   at = sym (value_in (Point x v) t e);
-  line = λ u past before. value_none (Point x v) u (λ k. lt_irrefl x (subst (λ z. x <ℚ z) k (subst (λ z. z <ℚ u) e past)));
+  line = λ u past before. value_out (Point x v) u (λ k. lt_irrefl x (subst (λ z. x <ℚ z) k (subst (λ z. z <ℚ u) e past)));
   next = tt;
 }
 
 pub point_after : (x v t : ℚ) → x <ℚ t → GoesOn (element_value (Point x v)) t record { at = Inf; line = None; next = None }
 point_after x v t h = record {
-  at = sym (value_none (Point x v) t (λ k. not_same x t h (sym k)));
-  line = λ u past before. value_none (Point x v) u (λ k. not_same x u (lt_trans h past) (sym k));
+  at = sym (value_out (Point x v) t (λ k. not_same x t h (sym k)));
+  line = λ u past before. value_out (Point x v) u (λ k. not_same x u (lt_trans h past) (sym k));
   next = tt;
 }
 
@@ -64,14 +63,14 @@ to_before (Fin e) u h = h
 
 pub open_before : (from : ℚ) (to : Ext) (l : Line) (t : ℚ) → t <ℚ from → GoesOn (element_value (Open from to l)) t record { at = Inf; line = None; next = Some from }
 open_before from to l t h = record {
-  at = sym (value_none (Open from to l) t (λ k. lt_irrefl t (lt_trans h k.past)));
-  line = λ u past before. value_none (Open from to l) u (λ k. lt_irrefl u (lt_trans before k.past));
+  at = sym (value_out (Open from to l) t (λ k. lt_irrefl t (lt_trans h k.past)));
+  line = λ u past before. value_out (Open from to l) u (λ k. lt_irrefl u (lt_trans before k.past));
   next = h;
 }
 
 pub open_here : (from : ℚ) (to : Ext) (l : Line) (t : ℚ) → Fin from <ₑ to → t ≡ from → GoesOn (element_value (Open from to l)) t record { at = Inf; line = Some l; next = end_time to }
 open_here from to l t p e = record {
-  at = sym (value_none (Open from to l) t (λ k. not_same from t k.past (sym e)));
+  at = sym (value_out (Open from to l) t (λ k. not_same from t k.past (sym e)));
   line = λ u past before. value_in (Open from to l) u record { past = subst (λ y. y <ℚ u) e past; before = before_to to u before };
   next = to_before to t (subst (λ y. Fin y <ₑ to) (sym e) p);
 }
@@ -85,8 +84,8 @@ open_within from to l t v h k e = record {
 
 pub open_after : (from : ℚ) (to : Ext) (l : Line) (t : ℚ) → ¬ (Fin t <ₑ to) → GoesOn (element_value (Open from to l)) t record { at = Inf; line = None; next = None }
 open_after from to l t n = record {
-  at = sym (value_none (Open from to l) t (λ k. n k.before));
-  line = λ u past before. value_none (Open from to l) u (λ k. n (lt_ext_trans (Fin t) (Fin u) to past k.before));
+  at = sym (value_out (Open from to l) t (λ k. n k.before));
+  line = λ u past before. value_out (Open from to l) u (λ k. n (lt_ext_trans (Fin t) (Fin u) to past k.before));
   next = tt;
 }
 

@@ -17,7 +17,7 @@ use Rattle.curve_least.specs.declared.gaps.Gap.{Gap}
 use Rattle.curve_least.specs.declared.gaps.Gap.TheVariants.{NoTime, Never, Is}
 use Rattle.curve_least.specs.Gaps.{InWindow, IsGap}
 use Rattle.curve_least.specs.GapSteps.{larger, IsUntil, earlier_of}
-use Rattle.curve_least.proofs.GapParts.{window_more, window_none}
+use Rattle.curve_least.proofs.GapParts.{window_more, window_none, before_next}
 use Rattle.curve_least.proofs.GapWalk.{NextTime, next_is, next_found}
 use Rattle.curve_conv.specs.Parts.{PartSplit, part_sum, IsPart, FirstLate, FirstEarly}
 use Rattle.curve_conv.specs.PartGaps.{PartGapStands, SumTimeTo, ArePartValues, HavePartValues}
@@ -95,10 +95,6 @@ next_place z end t soonest next a b last h k l p q e f = record {
 pub next_to : (z : Sizes) (end t next : ℚ) (a b : Option ℚ) → int (pos 0) ≤ℚ t → NextPlace z end t next a b → SumTimeTo z end next
 next_to z end t next a b low N = record { place = N.place; nonneg = le_trans low (le_of_lt N.time.past); most = N.time.high }
 
-before_until : (u next : ℚ) (n : Option ℚ) → u <ℚ next → IsUntil next n → IsBeforeNext u n
-before_until u next None h k = tt
-before_until u next (Some e) h k = lt_le_trans h k
-
 pub walk_step : (z : Sizes) (f g : ℚ → Ext) (first second from end t next : ℚ) (gap more : Gap) (late soon : Stretch) → PartGapWalk z f g first second from end t gap
     → IsAhead (PartSplit (InPart first None None (int (pos 0)))) (part_sum f g (InPart first None None (int (pos 0)))) end t late
     → IsAhead (PartSplit (InPart (int (pos 0)) None (Some first) second)) (part_sum f g (InPart (int (pos 0)) None (Some first) second)) end t soon
@@ -130,10 +126,10 @@ walk_step z f g first second from end t next gap more late soon W A B N stretch 
     later u i = record { start = le_trans W.start i.start; before = i.before }
 
     late_at : (u : ℚ) → InWindow t next u → IsPart f g (FirstLate first) u (A.value u)
-    late_at u i = late_is f g first u (A.value u) (A.is u i.start (lt_le_trans i.before N.time.high) (before_until u next late.next i.before N.time.first))
+    late_at u i = late_is f g first u (A.value u) (A.is u i.start (lt_le_trans i.before N.time.high) (before_next u next late.next i.before N.time.first))
 
     soon_at : (u : ℚ) → InWindow t next u → IsPart f g (FirstEarly first second) u (B.value u)
-    soon_at u i = soon_is f g first second u (B.value u) (B.is u i.start (lt_le_trans i.before N.time.high) (before_until u next soon.next i.before N.time.second))
+    soon_at u i = soon_is f g first second u (B.value u) (B.is u i.start (lt_le_trans i.before N.time.high) (before_next u next soon.next i.before N.time.second))
 
 pub walk_fewer : (z : Sizes) (end t next : ℚ) (a b : Option ℚ) → 0 < z.dv → 0 < z.dt → SumPlace z t → NextPlace z end t next a b → steps_to (walk_grid z) end next < steps_to (walk_grid z) end t
 walk_fewer z end t next a b some more P N = fewer_steps (walk_grid z) end t next (grid_some z some more) (place_on z t P) (place_on z next N.place) N.time.past N.time.high

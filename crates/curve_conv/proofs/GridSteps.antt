@@ -10,22 +10,7 @@ use Rattle.rational.proofs.Integers.{nat_nonneg, nat_lt, nat_lt_out, nat_next, i
 use Rattle.rational.proofs.Laws.{mul_nonneg, mul_pos, sub_mul}
 use Rattle.rational.proofs.Linear.{with2, with4, with6}
 use Rattle.rational.proofs.Whole.{whole_le, whole_gt}
-
-one_step : (d : ℕ) (y : ℚ) → 0 < d → int (pos 0) <ℚ y → Whole d y → int (pos 1) ≤ℚ y *ℚ int (pos d)
-one_step d y some past w =
-    let p : int (pos 0) <ℚ y *ℚ int (pos d) = mul_pos past (nat_lt 0 d some) in
-    let l = int_lt_out (pos 0) w.steps (subst (λ v. int (pos 0) <ℚ v) w.is p) in
-    subst (λ v. int (pos 1) ≤ℚ v) (sym w.is) (int_le (pos 1) w.steps (omega (arith, ints, l)))
-
-fewer_whole : (x y : ℚ) → int (pos 0) ≤ℚ x → x +ℚ int (pos 1) ≤ℚ y → whole_part x < whole_part y
-fewer_whole x y some h =
-    let low = whole_le x some in
-    let high = whole_gt y in
-    let e = nat_next (whole_part x) in
-    let u = int (pos (whole_part x)) in
-    let v = int (pos (suc (whole_part y))) in
-    let l = nat_lt_out (suc (whole_part x)) (suc (whole_part y)) (subst (λ m. m <ℚ v) (sym e) (with4 u v x y (λ c. omega (arith, c.le, c.lt, c.same)))) in
-    omega (arith, l)
+use Rattle.curve_least.proofs.GapWalk.{fewer_whole, one_step}
 
 -- the steps of 1 / d from t to `end`
 pub steps_to : ℕ → ℚ → ℚ → ℕ

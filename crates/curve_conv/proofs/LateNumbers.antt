@@ -25,12 +25,11 @@ use Rattle.upp_limits.specs.Periods.{periods_after}
 use Rattle.upp_curve.specs.Steady.{steady, rise_over}
 use Rattle.upp_limits.specs.Windows.{IsLeast}
 use Rattle.upp_limits.proofs.NarrowSizes.{small_sum}
-use Rattle.upp_normal.proofs.StretchSizes.{narrow}
 use Rattle.upp_curve.proofs.Steady.{steady_rule}
 use Rattle.curve_call.proofs.CurveRises.{IsRise, rise_is}
 use Rattle.curve_call.proofs.CurveTimes.{steady_nonneg, steady_whole}
 use Rattle.curve_least.specs.Gaps.{InWindow, IsWithin, IsEndless, IsLargest}
-use Rattle.curve_least.proofs.LeastNumber.{gains}
+use Rattle.curve_least.proofs.LeastNumber.{gains, finite_less}
 use Rattle.curve_least.proofs.Shifts.{largest_bounds, endless_bounds, same_least, least_zero}
 use Rattle.curve_least.proofs.GapParts.{within_none}
 use Rattle.element_envelope.specs.ElementRoom.{WindowTime}
@@ -42,6 +41,9 @@ use Rattle.curve_conv.specs.Late.{IsLateIn, IsLateAfter, IsLateNumber, IsLateCal
 use Rattle.curve_conv.proofs.Moves.{late_only}
 use Rattle.curve_conv.proofs.Repeating.{are_rising}
 use Rattle.curve_conv.proofs.LateShifts.{AreParts, after_in, after_out, late_later, back, late_value, soon_value, values_are}
+use Rattle.upp_normal.proofs.AnswerRoom.{wide_narrow}
+use Rattle.element_envelope.proofs.Members.{number_below}
+use Rattle.rational.proofs.Stretch.{next}
 
 -- ---- times and rises
 pub record LateTimes (slow fast : SpecCurve) (from d end : ℚ) : Type 0 where
@@ -107,7 +109,7 @@ lead_fits slow fast from d end a b C ea eb =
     let T = late_times slow fast from d end C in
     let A = C.scan.first.limited in
     subst (λ x. SumFits x (neg_ℚ b)) (sym ea) (subst (λ y. SumFits (rise_over fast d) (neg_ℚ y)) (sym eb)
-    (small_sum z end 3 3 (rise_over fast d) (neg_ℚ (rise_over slow d)) A.sizes (narrow z end A) (omega arith) T.fast_rise.whole (whole_neg (grid_of z) (rise_over slow d) T.slow_rise.whole) T.fast_rise.within
+    (small_sum z end 3 3 (rise_over fast d) (neg_ℚ (rise_over slow d)) A.sizes (wide_narrow z end A) (omega arith) T.fast_rise.whole (whole_neg (grid_of z) (rise_over slow d) T.slow_rise.whole) T.fast_rise.within
     (within_neg (times_largest 3 z) (rise_over slow d) T.slow_rise.within)))
 
 pub are_parts : (slow fast : SpecCurve) (from d end : ℚ) → IsLateCall slow fast from d end → AreParts (value_at slow) (value_at fast) (steady slow) (steady fast) d (rise_over slow d) (rise_over fast d) from
@@ -139,29 +141,19 @@ quotient_fits z end q x y A Q wx wy ix iy some =
         subst (λ v. v ≤ℚ int (pos top)) (sym (ap (λ v. v *ℚ int (pos d)) (int_mul (pos k) (pos z.largest)) ∙ int_mul (pos (k * z.largest)) (pos d))) (nat_le (k * z.largest * d) top (omega (arith, m, room)))
 
 -- ---- the lead
-number_below : (x : Ext) (y : ℚ) → x <ₑ Fin y → (q : ℚ) × (x ≡ Fin q)
-number_below Inf y h = absurd h
-number_below (Fin q) y h = (q, refl)
-
-below_finite : (x y : Ext) → x <ₑ y → (q : ℚ) × (x ≡ Fin q)
-below_finite Inf y h = absurd h
-below_finite (Fin q) y h = (q, refl)
 
 above_one : (q : ℚ) → q -ℚ int (pos 1) <ℚ q
 above_one q = with1 q (λ c. omega (arith, c.le, c.lt, c.same))
-
-one_above : (q : ℚ) → q <ℚ q +ℚ int (pos 1)
-one_above q = with1 q (λ c. omega (arith, c.le, c.lt, c.same))
 
 -- where there is a largest gap, the faster curve is finite at some time, and so it gains
 pub some_lead : (slow fast : SpecCurve) (from d end q : ℚ) (a b : ℚ → Ext) → IsLateCall slow fast from d end → ArePartValues (value_at slow) (value_at fast) (steady slow) (steady fast) from end a b
     → IsLargest (InWindow from end) a b q → int (pos 0) <ℚ rise_over fast d -ℚ rise_over slow d
 some_lead slow fast from d end q a b C V L =
     let m = L.near (q -ℚ int (pos 1)) (above_one q) in
-    let (w, e) = below_finite (b m.at +ₑ Fin (q -ℚ int (pos 1))) (a m.at) m.more in
+    let (w, e) = finite_less (b m.at +ₑ Fin (q -ℚ int (pos 1))) (a m.at) m.more in
     let parts = finite_sum (b m.at) (Fin (q -ℚ int (pos 1))) w e in
     let P = subst (IsPart (value_at slow) (value_at fast) (FirstEarly (steady slow) (steady fast)) m.at) parts.2 (V.soon m.at m.among) in
-    let (i, k) = P.near (parts.0 +ℚ int (pos 1)) (one_above parts.0) in
+    let (i, k) = P.near (parts.0 +ℚ int (pos 1)) (next parts.0) in
     let (s, f) = number_below (part_sum (value_at slow) (value_at fast) (FirstEarly (steady slow) (steady fast)) m.at i) (parts.0 +ℚ int (pos 1)) k in
     let both = finite_sum (value_at slow i.split.first) (value_at fast i.split.second) s f in
     gains slow fast d i.split.second both.1 C.scan.second.curve C.some C.slower i.inside.1 both.3

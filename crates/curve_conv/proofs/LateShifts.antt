@@ -17,6 +17,7 @@ use Rattle.curve_least.specs.Gaps.{InWindow, IsWithin}
 use Rattle.curve_conv.specs.Parts.{part_sum, IsPart, FirstLate, FirstEarly}
 use Rattle.curve_conv.specs.PartGaps.{ArePartValues, HavePartValues}
 use Rattle.curve_conv.proofs.Moves.{AreRising, late_moves, early_moves}
+use Rattle.curve_least.proofs.Shifts.{shift_in, shift_out}
 
 -- ---- some periods later
 times_more : (n : ℕ) (t d : ℚ) → t +ℚ int (pos (suc n)) *ℚ d ≡ (t +ℚ int (pos n) *ℚ d) +ℚ d
@@ -64,15 +65,6 @@ early_later f g first second d slow fast from t v k P h r =
     (λ u w l q. early_moves f g first second d fast u w P.rising.some P.rising.second_low P.right (le_trans (sum_late f g first second d slow fast from P) l) q) r
 
 -- ---- what the gap bounds
-shift_in : (x y : Ext) (p q : ℚ) → x ≤ₑ y +ₑ Fin (q -ℚ p) → x +ₑ Fin p ≤ₑ y +ₑ Fin q
-shift_in x Inf p q h = le_inf (x +ₑ Fin p)
-shift_in Inf (Fin y) p q h = absurd h
-shift_in (Fin x) (Fin y) p q h = with4 x y p q (λ c. omega (arith, c.le, c.lt, c.same))
-
-shift_out : (x y : Ext) (p q : ℚ) → x +ₑ Fin p ≤ₑ y +ₑ Fin q → x ≤ₑ y +ₑ Fin (q -ℚ p)
-shift_out x Inf p q h = le_inf x
-shift_out Inf (Fin y) p q h = absurd h
-shift_out (Fin x) (Fin y) p q h = with4 x y p q (λ c. omega (arith, c.le, c.lt, c.same))
 
 by_bounds : (x z : Ext) → ((b : ℚ) → Fin b ≤ₑ x → Fin b ≤ₑ z) → x ≤ₑ z
 by_bounds x Inf h = le_inf x

@@ -19,16 +19,14 @@ use Rattle.curve_conv.specs.Late.{IsLateCall, IsLateMost, IsSlowerMost}
 use Rattle.curve_conv.specs.Scans.{sizes_in}
 use Rattle.curve_conv.proofs.FoundGaps.{number_found}
 use Rattle.curve_conv.proofs.Orders.{of_first, of_second}
+use Rattle.upp_limits.proofs.NarrowSizes.{grid_pos}
 
 pub over_up : (x e q : ℚ) (n : ℕ) → int (pos 0) <ℚ e → q ≡ x /ℚ e → n ≡ size_up q → x ≤ℚ int (pos n) *ℚ e
 over_up x e q n some h k =
     (div_le x e (int (pos n)) some).0 (subst (λ y. y ≤ℚ int (pos n)) h (subst (λ m. q ≤ℚ int (pos m)) (sym k) (size_up_within q).high))
 
-grid_some : (z : Sizes) (end : ℚ) → AreSizes z end → 0 < grid_of z
-grid_some z end A = mul-pos (mul-pos A.dv A.dt) A.ds
-
 pub values_some : (z : Sizes) (end : ℚ) (values : ℕ) → AreSizes z end → values ≡ grid_of z → 0 < values
-values_some z end values A e = subst (λ n. 0 < n) (sym e) (grid_some z end A)
+values_some z end values A e = subst (λ n. 0 < n) (sym e) (grid_pos z end A)
 
 within_gauge : (v s a b c : ℕ) → 0 < s → 0 < c → v * (a * b * c) * 64 ≤ 64 * (v * s * a * b * c * c)
 within_gauge v s a b c hs hc =
@@ -45,7 +43,7 @@ value_enough z end gauge values A e h =
     let l = within_gauge z.largest z.steepness z.dv z.dt z.ds some A.ds in
     let k : z.largest * grid_of z ≤ gauge_of z / 64 = (le-div_iff_mul-le {k = 64} {x = z.largest * grid_of z} {y = gauge_of z} (omega arith)).1 l in
     subst (λ n. z.largest ≤ n / 64 / values) (sym e) (subst (λ n. z.largest ≤ gauge_of z / 64 / n) (sym h)
-    ((le-div_iff_mul-le {k = grid_of z} {x = z.largest} {y = gauge_of z / 64} (grid_some z end A)).1 k))
+    ((le-div_iff_mul-le {k = grid_of z} {x = z.largest} {y = gauge_of z / 64} (grid_pos z end A)).1 k))
 
 pub most_found : (slow fast : SpecCurve) (from d end : ℚ) (r : Option ℕ) (value : ℕ) (lead : ℚ) → IsLateCall slow fast from d end → IsFinite (value_at slow) → IsFinite (value_at fast)
     → lead ≡ rise_over fast d -ℚ rise_over slow d → (sizes_in slow fast end).largest ≤ value → IfSome r (λ n. int (pos (14 * value)) ≤ℚ int (pos n) *ℚ lead) → IfSome r (IsLateMost slow fast from d)

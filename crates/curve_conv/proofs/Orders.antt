@@ -14,12 +14,13 @@ use Rattle.upp_limits.specs.Limits.{Numbers, joined, curve_numbers}
 use Rattle.upp_curve.specs.Steady.{steady, rate}
 use Rattle.upp_normal.specs.Ahead.{HasWindow}
 use Rattle.upp_limits.proofs.SameSizes.{Equals, same_sizes, equals_self, equals_joined}
-use Rattle.upp_normal.proofs.StretchSizes.{narrow}
 use Rattle.curve_call.specs.Times.{OneLaterFits}
 use Rattle.curve_call.proofs.CurveTimes.{one_later, steady_nonneg}
 use Rattle.curve_least.proofs.Shifts.{same_least, least_zero}
 use Rattle.curve_conv.specs.Scans.{sizes_in, IsScan}
 use Rattle.curve_conv.specs.Late.{IsLateAfter, IsLateNumber, IsLateCall, IsSlowerAfter, IsSlowerNumber, IsPartsCall}
+use Rattle.upp_normal.proofs.AnswerRoom.{wide_narrow}
+use Rattle.curve_least.proofs.EitherOrder.{apart}
 
 -- ---- the sizes of both orders are one
 swapped : (a b c : Numbers) → Equals (joined a (joined b c)) (joined a (joined c b))
@@ -72,11 +73,9 @@ begins_fit f g from d end C =
     let W = C.scan.second in
     let A = V.limited in
     let l = later_than (steady f) (steady g) d from end (steady_nonneg f V.curve) (steady_nonneg g W.curve) C.some C.from_is C.end_is in
-    (one_later z end f A.sizes (narrow z end A) V.curve V.stands l.0, one_later z end g A.sizes (narrow z end A) W.curve W.stands l.1)
+    (one_later z end f A.sizes (wide_narrow z end A) V.curve V.stands l.0, one_later z end g A.sizes (wide_narrow z end A) W.curve W.stands l.1)
 
 -- ---- numbers
-apart : (x y : Ext) → x <ₑ y → y <ₑ x → ⊥
-apart x y h k = lt_ext_irrefl x (lt_ext_trans x y x h k)
 
 pub of_first : (f g : SpecCurve) (from d : ℚ) (r : Option ℕ) → rate f <ₑ rate g → MatchOption r ((k : ℕ) → ¬ (IsLateAfter f g from d k)) (IsLateNumber f g from d)
     → MatchOption r ((k : ℕ) → ¬ (IsSlowerAfter f g from d k)) (IsSlowerNumber f g from d)

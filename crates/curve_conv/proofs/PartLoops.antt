@@ -26,7 +26,7 @@ use Rattle.curve_conv.specs.Stretches.{SumStretch, IsAhead, until_time, point_at
 use Rattle.curve_conv.specs.Scans.{IsEarly, IsLimit, InPart, or_else, is_time, time_or}
 use Rattle.curve_conv.proofs.Families.{both_ahead, same_ahead, empty_ahead}
 use Rattle.curve_conv.proofs.GridSteps.{steps_while, while_done, while_fewer}
-use Rattle.curve_conv.proofs.RowLoops.{at_of, before_until, until_before, early_before, early_after, early_at, early_limit, earlier, point_stands, open_stands, open_proper}
+use Rattle.curve_conv.proofs.RowLoops.{at_of, before_until, until_before, early_before, early_after, early_at, early_limit, earlier, point_stands, open_stands, open_proper, at_next}
 
 -- ---- the limit
 pub limit_all : (room : ℚ) → IsLimit room None room
@@ -249,9 +249,6 @@ part_facts z f g from until low room limit end t least x here next F T U e L W V
     }
 
 -- ---- one step
-pub at_next : (next : Option ℚ) (x : ℚ) → next ≡ at_of (is_time next) (time_or next x)
-at_next None x = refl
-at_next (Some y) x = refl
 
 pub walk_step : (z : Sizes) (f g : SpecCurve) (from : ℚ) (until : Option ℚ) (low room limit end t : ℚ) (least cell lesser : Stretch) (x : ℚ) (here : Stretch) (next : Option ℚ) (more : Bool) (y : ℚ)
     → WindowTime z end from → WindowTime z end low → room ≡ end -ℚ low → IsLimit room until limit → PartWalk z f g from until low limit end t least true x → GoesOn (value_at f) x here

@@ -22,6 +22,7 @@ use Rattle.curve_least.proofs.Rises.{rate_rise, rate_none, infinite_value}
 use Rattle.curve_conv.specs.Parts.{IsPart, FirstLate}
 use Rattle.curve_conv.specs.Late.{IsSlowerLate}
 use Rattle.curve_conv.proofs.Moves.{AreRising, late_moves, late_ever, late_only, alike_moves}
+use Rattle.curve_pointwise.proofs.LatticeAnswers.{same_rises}
 
 -- ---- functions
 -- the splits of the two the other way round
@@ -110,14 +111,6 @@ are_rising slow fast d F G p q some faster = record {
   left = steady_rule slow d F.normal.raw p (le_of_lt some);
   right = faster_rises slow fast d G q some faster;
 }
-
--- curves of one rate rise by as much
-pub same_rises : (f g : SpecCurve) (d : ℚ) → rate f ≡ rate g → rise_over f d ≡ rise_over g d
-same_rises f g d e = by (rate f) refl
-  where
-    by : (x : Ext) → rate f ≡ x → rise_over f d ≡ rise_over g d
-    by Inf h = sym (rate_none f d h) ∙ rate_none g d (sym e ∙ h)
-    by (Fin q) h = sym (rate_rise f d q h) ∙ rate_rise g d q (sym e ∙ h)
 
 -- two curves that repeat with a period, and from when on the convolution is that of the parts that rise the least
 pub record ConvolvesFrom (f g : SpecCurve) (d from : ℚ) : Type 0 where

@@ -28,16 +28,13 @@ use Rattle.curve_conv.specs.Scans.{IsEarly, is_time, time_or}
 use Rattle.curve_conv.proofs.Families.{both_ahead, same_ahead, empty_ahead}
 use Rattle.curve_conv.proofs.GridSteps.{steps_while, while_done, while_fewer}
 use Rattle.rational.proofs.Grid.{whole_sub}
+use Rattle.element_envelope.proofs.Envelopes.{from_start}
 
 -- ---- times
 -- the next time to look at, where more is to do
 abbrev pub at_of : Bool → ℚ → Option ℚ
 at_of true y = Some y
 at_of false y = None
-
-covers_start : (a : Element) (s : ℚ) → Covers a s → start_of a ≤ℚ s
-covers_start (Point x v) s h = subst (λ y. x ≤ℚ y) (sym h) (le_refl x)
-covers_start (Open from to l) s h = le_of_lt h.past
 
 pub before_until : (next : Option ℚ) (u : ℚ) → IsBeforeNext u next → Fin u <ₑ until_time next
 before_until None u h = tt
@@ -102,7 +99,7 @@ record Cell (g : ℚ → Ext) (a : Element) (low room end y : ℚ) (here : Stret
 in_room : (a : Element) (room end s u t : ℚ) → room ≡ end -ℚ start_of a → Covers a s → s +ℚ u ≡ t → t <ℚ end → u <ℚ room
 in_room a room end s u t e c w l =
     let x = start_of a in
-    let k = covers_start a s c in
+    let k = from_start a s c in
     subst (λ r. u <ℚ r) (sym e) (with5 x s u t end (λ c. omega (arith, c.le, c.lt, c.same)))
 
 abbrev CellFamily : Element → ℚ → ℚ → Stretch → Option ℚ → ℚ → Type 0
@@ -268,7 +265,7 @@ row_facts z g a low room end t least y here next E L e W V G times sizes N =
     cell_facts z g end room y here next V T (room_most z end room a E e) G times (sizes T) N
 
 -- ---- one step
-at_next : (next : Option ℚ) (y : ℚ) → next ≡ at_of (is_time next) (time_or next y)
+pub at_next : (next : Option ℚ) (y : ℚ) → next ≡ at_of (is_time next) (time_or next y)
 at_next None y = refl
 at_next (Some x) y = refl
 

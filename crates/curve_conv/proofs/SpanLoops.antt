@@ -31,8 +31,8 @@ use Rattle.curve_conv.specs.Parts.{PartSplit, part_sum, IsPart}
 use Rattle.curve_conv.specs.Stretches.{IsAhead, until_time, point_at, open_at, IsProperPart, OperandPart}
 use Rattle.curve_conv.specs.Scans.{IsEarly, IsLimit, InPart, or_else, is_time, time_or}
 use Rattle.curve_conv.specs.SpanElements.{listed, ReadsAs, AreSpanElements, IsPartWindow}
-use Rattle.curve_conv.proofs.RowLoops.{at_of, before_until, until_before, early_before, early_after, early_at, early_limit, point_stands, point_proper, open_stands, open_proper}
-use Rattle.curve_conv.proofs.PartLoops.{CellFacts, to_stands, before_or, or_next, or_until, at_next}
+use Rattle.curve_conv.proofs.RowLoops.{at_of, before_until, until_before, early_before, early_after, early_at, early_limit, point_stands, point_proper, open_stands, open_proper, at_next}
+use Rattle.curve_conv.proofs.PartLoops.{CellFacts, to_stands, before_or, or_next, or_until}
 
 -- ---- an element that may be missing
 listed_is : (o : Option Element) (e : Element) → Among e (listed o) → o ≡ Some e

@@ -28,7 +28,7 @@ use Rattle.upp_limits.specs.Limits.{Sizes, curve_numbers, sizes_of}
 use Rattle.upp_limits.specs.Sized.{AreSizes, LineStands, Stands, ValueStands}
 use Rattle.upp_normal.proofs.Below.{unroll_reads}
 use Rattle.upp_limits.proofs.CurveStands.{are_sizes}
-use Rattle.affine_segment.proofs.PieceIn.{value_past}
+use Rattle.affine_segment.proofs.PieceIn.{value_past, value_by}
 use Rattle.upp_limits.proofs.NarrowSizes.{run_within}
 use Rattle.upp_normal.proofs.NormaliseRoomy.{each_in, found_early}
 use Rattle.upp_limits.proofs.Stands.{sizes_stand, stands_left, stands_right}
@@ -36,13 +36,12 @@ use Rattle.upp_normal.proofs.UnrolledPieces.{PieceStands, each_nonneg, each_with
 use Rattle.upp_limits.proofs.PieceLists.{starts_nonneg}
 use Rattle.curve_call.proofs.CurveTimes.{steady_nonneg}
 use Rattle.curve_call.proofs.CurveRises.{common_first, common_second}
-use Rattle.element_envelope.proofs.Cover.{value_here}
 use Rattle.curve_deconv.specs.DeconvolutionLaws.{IsDeconvolved, DeconvolutionKeeps, DeconvolutionIsFinite}
 use Rattle.curve_deconv.proofs.Reduced.{AreRepeating, early}
 use Rattle.curve_deconv.proofs.Slower.{slower_rise, repeats_from, common_some}
 
 -- ---- of any functions
-sub_le : (x y : Ext) (c : ℚ) → x ≤ₑ y → x -ₑ c ≤ₑ y -ₑ c
+pub sub_le : (x y : Ext) (c : ℚ) → x ≤ₑ y → x -ₑ c ≤ₑ y -ₑ c
 sub_le Inf Inf c h = tt
 sub_le (Fin x) Inf c h = tt
 sub_le Inf (Fin y) c h = absurd h
@@ -111,7 +110,7 @@ value_bounded z (Fin w) v V e =
 
 piece_bounded : (z : Sizes) (end t v : ℚ) (p : Piece) → AreSizes z end → int (pos 0) ≤ℚ p.x → p.x ≤ℚ t → t ≤ℚ end → PieceStands z p → piece_value p t ≡ Fin v → Within (int (pos z.largest) +ℚ int (pos z.largest)) v
 piece_bounded z end t v p A low late high P e = elim (le_or_lt t p.x) [
-  | inl k ↦ value_bounded z p.at v P.at (sym (value_here p t k) ∙ e)
+  | inl k ↦ value_bounded z p.at v P.at (sym (value_by p t k) ∙ e)
   | inr k ↦ line_bounded z end p.x t v p.line A low late high P.after P.slope (sym (value_past p t k) ∙ e)
 ]
 

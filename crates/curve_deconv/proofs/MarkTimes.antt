@@ -11,8 +11,7 @@ use Rattle.affine_segment.specs.declared.line.Piece.{Piece}
 use Rattle.affine_segment.specs.Values.{line_at, line_value}
 use Rattle.affine_segment.specs.Reading.{read, piece_value}
 use Rattle.affine_segment.specs.Pieces.{Each, RisesFrom, StartsAtZero}
-use Rattle.affine_segment.proofs.PieceIn.{value_past}
-use Rattle.element_envelope.proofs.Cover.{value_here, read_one, read_stop, read_go}
+use Rattle.affine_segment.proofs.PieceIn.{value_past, read_go, read_one, read_stop, value_by}
 use Rattle.curve_deconv.specs.declared.marks.Last.{Last}
 use Rattle.curve_deconv.specs.Marks.{first_last, last_by, last_step, last_of, next_time}
 use Rattle.curve_deconv.specs.DeconvolutionWindows.{IsInfiniteFrom, IsFiniteFrom}
@@ -65,12 +64,12 @@ finite_line p l s e h = (line_at l s, value_past p s h ∙ ap (λ o. line_value 
 
 finite_piece : (p : Piece) (v : ℚ) (l : Line) (s : ℚ) → p.at ≡ Fin v → p.line ≡ Some l → IsLevel (piece_value p s)
 finite_piece p v l s ev eo = elim (le_or_lt s p.x) [
-  | inl k ↦ (v, value_here p s k ∙ ev)
+  | inl k ↦ (v, value_by p s k ∙ ev)
   | inr k ↦ finite_line p l s eo k
 ]
 
 start_top : (p : Piece) → p.at ≡ Inf → piece_value p p.x ≡ Inf
-start_top p ev = value_here p p.x (le_refl p.x) ∙ ev
+start_top p ev = value_by p p.x (le_refl p.x) ∙ ev
 
 -- ---- the last piece
 last_one : (p : Piece) (end : ℚ) (last : Last) → p.x <ℚ end → Found (piece_value p) p.x end last (last_step last p end)

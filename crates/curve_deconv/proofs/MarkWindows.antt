@@ -21,14 +21,13 @@ use Rattle.affine_segment.specs.Reading.{read, piece_in, piece_value, line_in}
 use Rattle.upp_limits.specs.Limits.{Sizes}
 use Rattle.upp_normal.specs.Operand.{AreLimited}
 use Rattle.upp_limits.specs.Sized.{grid_of, times_largest}
-use Rattle.affine_segment.proofs.PieceIn.{value_past}
+use Rattle.affine_segment.proofs.PieceIn.{value_past, read_go, read_one, read_stop, value_by}
 use Rattle.affine_segment.proofs.PieceOrder.{each_map}
 use Rattle.curve_window.specs.Pointwise.{ValueSumFits, LineSumFits, SumsFit, IsSumPiece, IsWindowSum, sum_line}
 use Rattle.curve_window.specs.Made.{ValueApartFits, LineApartFits, zero_line}
 use Rattle.element_envelope.specs.ElementRoom.{SumLine}
 use Rattle.element_envelope.specs.SumWindows.{SumStart, SumValueAt, SumLineAt, SumPiece, SumWindow}
 use Rattle.element_envelope.specs.Arches.{Arches}
-use Rattle.element_envelope.proofs.Cover.{value_here, read_one, read_stop, read_go}
 use Rattle.element_envelope.proofs.SumSteps.{start_in, sum_line_in, sum_read}
 use Rattle.element_envelope.proofs.SumLower.{values_apart, lines_apart, zero_is}
 use Rattle.curve_deconv.specs.declared.marks.Last.{Last}
@@ -44,7 +43,7 @@ zero_value t =
 
 nothing_value : (t : ℚ) → piece_value nothing_yet t ≡ Inf
 nothing_value t = elim (le_or_lt t (int (pos 0))) [
-  | inl k ↦ value_here nothing_yet t k
+  | inl k ↦ value_by nothing_yet t k
   | inr k ↦ value_past nothing_yet t k
 ]
 
@@ -64,7 +63,7 @@ two_before : (x : ℚ) (at : Ext) (t : ℚ) → t <ℚ x → read (nothing_yet �
 two_before x at t h = read_stop nothing_yet (mark_after x at) [] t h ∙ nothing_value t
 
 two_at : (x : ℚ) (at : Ext) → read (nothing_yet ∷ mark_after x at ∷ []) x ≡ at
-two_at x at = read_go nothing_yet (mark_after x at) [] x (le_refl x) ∙ read_one (mark_after x at) x ∙ value_here (mark_after x at) x (le_refl x)
+two_at x at = read_go nothing_yet (mark_after x at) [] x (le_refl x) ∙ read_one (mark_after x at) x ∙ value_by (mark_after x at) x (le_refl x)
 
 two_after : (x : ℚ) (at : Ext) (t : ℚ) → x <ℚ t → read (nothing_yet ∷ mark_after x at ∷ []) t ≡ Fin (int (pos 0))
 two_after x at t h = read_go nothing_yet (mark_after x at) [] t (le_of_lt h) ∙ read_one (mark_after x at) t ∙ value_past (mark_after x at) t h ∙ zero_value t
@@ -143,7 +142,7 @@ mark_reads_one last reach end t A =
         | inr k ↦ inl (two_before x last.at t k)
         | inl k ↦ elim (le_or_lt t x) [
           | inl m ↦
-              subst IsMarkValue (sym (read_go nothing_yet (mark_after x last.at) [] t k ∙ read_one (mark_after x last.at) t ∙ value_here (mark_after x last.at) t m)) A
+              subst IsMarkValue (sym (read_go nothing_yet (mark_after x last.at) [] t k ∙ read_one (mark_after x last.at) t ∙ value_by (mark_after x last.at) t m)) A
           | inr m ↦ inr (two_after x last.at t m)
         ]
       ])

@@ -20,7 +20,7 @@ use Rattle.upp_limits.specs.Sized.{IsSlope, IsValue, ValueStands, grid_of, times
 use Rattle.upp_normal.specs.Ahead.{IsGridValue, GridValue}
 use Rattle.upp_normal.specs.Operand.{AreLimited, OperandLine, OperandLineAt, OperandPiece}
 use Rattle.upp_limits.proofs.NarrowSizes.{narrow_gauge}
-use Rattle.upp_normal.proofs.AnswerRoom.{operand_line, operand_line_fits, operand_line_value, stands_operand_value, steep_run, OperandValueAt}
+use Rattle.upp_normal.proofs.AnswerRoom.{operand_line, operand_line_fits, operand_line_value, stands_operand_value, steep_run}
 use Rattle.curve_call.proofs.CurveTimes.{sum_fits, time_within}
 use Rattle.element_envelope.specs.PieceElements.{next_start, elements_of, Among}
 use Rattle.element_envelope.specs.ElementRoom.{OperandElement}

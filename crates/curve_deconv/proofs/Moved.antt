@@ -24,23 +24,23 @@ use Rattle.upp_normal.specs.Operand.{AreLimited, answer_room}
 use Rattle.upp_limits.specs.Sized.{grid_of, times_largest}
 use Rattle.upp_normal.specs.Room.{TimeHasRoom, ValueHasRoom, LineHasRoom, PieceHasRoom, top}
 use Rattle.upp_normal.proofs.AnswerRoom.{IsCrossing, line_in_room, line_value_in, value_in_room, steep_run}
-use Rattle.affine_segment.proofs.PieceIn.{value_past, read_is}
+use Rattle.affine_segment.proofs.PieceIn.{value_past, read_is, read_go, read_one, read_stop, value_by}
 use Rattle.affine_segment.proofs.PieceOrder.{each_map}
 use Rattle.curve_pointwise.specs.Shifting.{left_line, left_piece, moved_left, LeftFits}
 use Rattle.curve_pointwise.proofs.LeftWindow.{left_reads, left_starts, each_past, each_moved}
 use Rattle.element_envelope.specs.SumWindows.{SumStart, SumValueAt, SumLineAt, SumPiece, SumWindow}
-use Rattle.element_envelope.proofs.Cover.{value_here, read_one, read_stop, read_go}
 use Rattle.element_envelope.proofs.ElementSizes.{sum_within}
 use Rattle.element_envelope.proofs.SumSteps.{place_room, line_fits_to, sum_answer, sum_line_in, sum_read}
 use Rattle.element_envelope.proofs.ArchBends.{sums_on_grids}
 use Rattle.curve_deconv.specs.Mirrored.{neg_ext, neg_line, neg_option, neg_piece}
 use Rattle.curve_deconv.specs.DeconvolutionWindows.{OperandWindows, IsRaisedWindow, IsDeconvolutionWindow, IsRaised, IsReached, IsFiniteFrom, IsLeastPair, IsNumberedSupremum, EarlyPair, EarlyTime}
 use Rattle.curve_deconv.proofs.MovedGrids.{IsTurned, turned_repeated, turned_grids}
+use Rattle.curve_pointwise.proofs.ShiftCall.{IsLeftOf}
 
 -- ---- pieces turned over
 neg_value : (p : Piece) (t : ℚ) → piece_value (neg_piece p) t ≡ neg_ext (piece_value p t)
 neg_value p t = elim (le_or_lt t p.x) [
-  | inl k ↦ value_here (neg_piece p) t k ∙ sym (ap neg_ext (value_here p t k))
+  | inl k ↦ value_by (neg_piece p) t k ∙ sym (ap neg_ext (value_by p t k))
   | inr k ↦ value_past (neg_piece p) t k ∙ neg_line_value p.line t ∙ sym (ap neg_ext (value_past p t k))
 ]
   where
@@ -243,8 +243,6 @@ moved_rooms end reach f g p ps r W =
     )
 
 -- ---- the window
-abbrev pub IsLeftOf : ℚ → List Piece → List Piece → Type 0
-IsLeftOf reach ls ws = (p : Piece) (ps : List Piece) → ls ≡ p ∷ ps → ws ≡ moved_left reach p ps
 
 moved_turned : (reach : ℚ) (p : Piece) (ps : List Piece) → StartsAtZero (p ∷ ps) → int (pos 0) ≤ℚ reach → IsTurned (read (map neg_piece (moved_left reach p ps))) (read (p ∷ ps)) reach (int (pos 0))
 moved_turned reach p ps starts low t nonneg = neg_all_read (moved_left reach p ps) t ∙ ap neg_ext (left_reads reach t p ps starts low nonneg)

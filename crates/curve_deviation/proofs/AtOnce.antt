@@ -25,6 +25,7 @@ use Rattle.upp_curve.proofs.Steady.{cut_past, steady_rule}
 use Rattle.curve_least.specs.Ever.{RepeatsBy}
 use Rattle.curve_least.proofs.LeastNumber.{gains}
 use Rattle.curve_deviation.proofs.Infinite.{InfiniteTime, finite_or, infinite_deviation, gaining_deviation}
+use Rattle.curve_least.proofs.EverAfter.{repeats_by}
 
 -- ---- a curve that is not finite is infinite at some time
 pub record IsInfiniteSomewhere (f : ℚ → Ext) : Type 0 where
@@ -77,9 +78,6 @@ pub not_finite_deviation : (f g : SpecCurve) → IsCurve f → ¬ (IsFinite (val
 not_finite_deviation f g curve not finite =
     let found = infinite_somewhere f curve not in
     infinite_deviation (value_at f) (value_at g) found.at found.nonneg found.top finite
-
-pub repeats_by : (from d : ℚ) (c : SpecCurve) → int (pos 0) <ℚ d → RepeatsBy from d c → Repeats (value_at c) from d (rise_over c d)
-repeats_by from d c some R = record { rule = λ t h. (steady_rule c d R.curve.normal.raw R.periods (le_of_lt some)).rule t (le_trans R.steady_by h) }
 
 pub faster_deviation : (f g : SpecCurve) (from d : ℚ) → int (pos 0) <ℚ d → int (pos 0) ≤ℚ from → RepeatsBy from d f → RepeatsBy from d g → rate g <ₑ rate f
     → IsFinite (value_at f) → IsFinite (value_at g) → IsVerticalDeviation (value_at f) (value_at g) Inf

@@ -16,16 +16,17 @@ use Rattle.affine_segment.specs.Fits.{LineFits}
 use Rattle.upp_limits.specs.Limits.{Sizes}
 use Rattle.upp_limits.specs.Sized.{grid_of, times_largest, IsSlope}
 use Rattle.upp_normal.specs.Operand.{AreLimited, OperandLine}
-use Rattle.upp_normal.proofs.AnswerRoom.{OperandValue, operand_line_fits, operand_line_value, values_fit, value_difference_stands, tight}
+use Rattle.upp_normal.proofs.AnswerRoom.{operand_line_fits, operand_line_value, values_fit, value_difference_stands, tight}
 use Rattle.upp_limits.proofs.NarrowSizes.{grid_pos}
 use Rattle.upp_normal.proofs.StretchSizes.{times_fit}
 use Rattle.curve_deviation.specs.Cells.{IsTimeTo}
+use Rattle.upp_normal.specs.Ahead.{IsGridValue}
 
 -- ---- values and their differences
 pub value_fits : (z : Sizes) (last t : ℚ) (l : Line) → AreLimited z last → OperandLine z l → IsTimeTo z last t → LineFits t l
 value_fits z last t l A L T = operand_line_fits z last t (Some l) A L T.whole T.nonneg T.high
 
-value_of : (z : Sizes) (last t : ℚ) (l : Line) → AreLimited z last → OperandLine z l → IsTimeTo z last t → OperandValue z (line_at l t)
+value_of : (z : Sizes) (last t : ℚ) (l : Line) → AreLimited z last → OperandLine z l → IsTimeTo z last t → IsGridValue z (line_at l t)
 value_of z last t l A L T = operand_line_value z last t (Some l) A L T.whole T.nonneg T.high
 
 pub gap_fits : (z : Sizes) (last t : ℚ) (k l : Line) → AreLimited z last → OperandLine z k → OperandLine z l → IsTimeTo z last t → SumFits (line_at k t) (neg_ℚ (line_at l t))

@@ -30,29 +30,21 @@ use Rattle.upp_normal.specs.Operand.{AreLimited, OperandLineAt}
 use Rattle.upp_normal.specs.Ahead.{IsBeforeNext, GoesOn, AtNext, TimesStand, HasWindow, IsOverBy, IsTimeIn, GridValue}
 use Rattle.upp_limits.proofs.PieceLists.{spans_some}
 use Rattle.upp_curve.proofs.Repeats.{repeated_first}
-use Rattle.upp_curve.proofs.RisingCurves.{infinite_is_not_finite}
+use Rattle.upp_curve.proofs.RisingCurves.{infinite_is_not_finite, GoesOn as IsEndless}
 use Rattle.upp_limits.proofs.CurveStands.{unrolled_stand, each_stands, has_period}
-use Rattle.upp_normal.proofs.StretchPieces.{next_past, next_all, reads_on, span_in, found_early, found_late}
+use Rattle.upp_normal.proofs.StretchPieces.{next_past, next_all, reads_on, span_in, found_late}
 use Rattle.upp_normal.proofs.StretchSizes.{span_line, grid_value, times_stand}
 use Rattle.upp_normal.proofs.StretchValues.{with_pieces}
 use Rattle.upp_normal.proofs.AnswerRoom.{operand_line_fits, operand_line_value, stands_operand_value}
 use Rattle.curve_deviation.specs.declared.parts.Part.{Part}
 use Rattle.curve_deviation.specs.Parts.{IsSeen, GoesTo, PartStands, IsEarlyBy, until_of}
+use Rattle.affine_segment.proofs.Lower.{left_low}
+use Rattle.upp_normal.proofs.NormaliseRoomy.{found_early}
+use Rattle.curve_least.proofs.GapWalk.{earlier_high, earlier_past}
 
 -- ---- the earlier of two times
 pub earlier_right : (a b : ℚ) → b <ℚ a → b ≡ min_q a b
 earlier_right a b h = sym (min_q_right a b h)
-
-pub earlier_left : (a b : ℚ) → a ≤ℚ b → a ≡ min_q a b
-earlier_left a b h = sym (min_q_left a b h)
-
-until_past : (t end : ℚ) (next : Option ℚ) → t <ℚ end → IsBeforeNext t next → t <ℚ until_of end next
-until_past t end None h k = h
-until_past t end (Some e) h k = below_min_in end e t h k
-
-until_high : (end : ℚ) (next : Option ℚ) → until_of end next ≤ℚ end
-until_high end None = le_refl end
-until_high end (Some e) = min_q_le_left end e
 
 until_next : (u end : ℚ) (next : Option ℚ) → u <ℚ until_of end next → IsBeforeNext u next
 until_next u end None h = tt
@@ -62,15 +54,11 @@ until_next u end (Some e) h = lt_le_trans h (min_q_le_right end e)
 until_whole : (P : ℚ → Type 0) (end : ℚ) (next : Option ℚ) → P end → AtNext (λ x. x <ℚ end → P x) next → P (until_of end next)
 until_whole P end None h k = h
 until_whole P end (Some e) h k = elim (le_or_lt end e) [
-  | inl l ↦ subst P (earlier_left end e l) h
+  | inl l ↦ subst P (left_low end e l) h
   | inr l ↦ subst P (earlier_right end e l) (k l)
 ]
 
 -- ---- a finite curve does not end
-abbrev pub IsEndless : Tail → Type 0
-IsEndless (Periodic rank period rise) = Unit {0}
-IsEndless (Affine rank) = Unit {0}
-IsEndless (Infinite rank) = ⊥
 
 pub endless : (c : SpecCurve) → IsCurve c → IsFinite (value_at c) → IsEndless c.tail
 endless c curve finite = by_tail c.pieces c.tail curve.normal finite
@@ -157,9 +145,9 @@ early_goes c t end p curve finite early some before at line until =
       at = at ∙ sym (value_early c end t curve finite early before);
       line = λ u l k.
           let m : u <ℚ until_of end next = subst (λ x. u <ℚ x) until k in
-          value_early c end u curve finite early (lt_le_trans m (until_high end next)) ∙ reads_on c.pieces t u None curve.normal.raw.starts some l (until_next u end next m) ∙ sym (ap (λ m. line_value m u) line);
-      past = subst (λ x. t <ℚ x) (sym until) (until_past t end next before (next_past c.pieces t None tt));
-      high = subst (λ x. x ≤ℚ end) (sym until) (until_high end next);
+          value_early c end u curve finite early (lt_le_trans m (earlier_high end next)) ∙ reads_on c.pieces t u None curve.normal.raw.starts some l (until_next u end next m) ∙ sym (ap (λ m. line_value m u) line);
+      past = subst (λ x. t <ℚ x) (sym until) (earlier_past t end next before (next_past c.pieces t None tt));
+      high = subst (λ x. x ≤ℚ end) (sym until) (earlier_high end next);
     }
 
 pub early_stands : (z : Sizes) (end : ℚ) (c : SpecCurve) (t : ℚ) (p : Part) → IsSeen z end c → IsTimeIn z end t → p.at ≡ read c.pieces t → p.line ≡ line_in c.pieces t
@@ -176,8 +164,8 @@ pub late_goes : (f : ℚ → Ext) (t end : ℚ) (s : Stretch) (p : Part) → t <
 late_goes f t end s p before goes at line until = record {
   at = at ∙ goes.at;
   line = λ u l k. goes.line u l (until_next u end s.next (subst (λ x. u <ℚ x) until k)) ∙ sym (ap (λ m. line_value m u) line);
-  past = subst (λ x. t <ℚ x) (sym until) (until_past t end s.next before goes.next);
-  high = subst (λ x. x ≤ℚ end) (sym until) (until_high end s.next);
+  past = subst (λ x. t <ℚ x) (sym until) (earlier_past t end s.next before goes.next);
+  high = subst (λ x. x ≤ℚ end) (sym until) (earlier_high end s.next);
 }
 
 pub late_stands : (z : Sizes) (end t : ℚ) (c : SpecCurve) (s : Stretch) (p : Part) → IsSeen z end c → IsOverBy end c.tail → IsTimeIn z end t

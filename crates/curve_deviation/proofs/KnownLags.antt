@@ -29,9 +29,10 @@ use Rattle.curve_least.proofs.Shifts.{later_value}
 use Rattle.curve_least.proofs.LeastNumber.{gains}
 use Rattle.upp_normal.proofs.UnrollSteps.{ext_cases}
 use Rattle.curve_deviation.specs.Lags.{LagsBy}
-use Rattle.curve_deviation.proofs.AtOnce.{infinite_somewhere, repeats_by}
+use Rattle.curve_deviation.proofs.AtOnce.{infinite_somewhere}
 use Rattle.curve_deviation.proofs.FirstReach.{reached_or}
 use Rattle.curve_deviation.proofs.Lagging.{ReachesOr, endless_is, never_reached}
+use Rattle.curve_least.proofs.EverAfter.{repeats_by}
 
 -- ---- two curves have a period in common
 pub common_above : (f g : SpecCurve) → IsCurve f → IsCurve g → int (pos 0) <ℚ common_period f g

@@ -31,7 +31,7 @@ use Rattle.upp_limits.specs.Limits.{Sizes}
 use Rattle.upp_normal.specs.Ahead.{IsTimeIn}
 use Rattle.upp_limits.specs.Gauges.{IsKnownAtOnce, gauge_at, IsTooWide}
 use Rattle.upp_limits.specs.Outcome.{IsWithin, IsCauseOf}
-use Rattle.upp_normal.proofs.AnswerRoom.{operand_line_fits}
+use Rattle.upp_normal.proofs.AnswerRoom.{operand_line_fits, wide_narrow}
 use Rattle.curve_call.specs.declared.frame.Frame.{Frame}
 use Rattle.curve_call.specs.Frames.{IsFrame, IsRefusedAt, sizes_at}
 use Rattle.curve_call.specs.Times.{OneLaterFits}
@@ -41,13 +41,13 @@ use Rattle.curve_call.proofs.Limited.{least_unique, refused_cause, frame_within}
 use Rattle.curve_least.proofs.Shifts.{later_value}
 use Rattle.upp_normal.proofs.UnrollSteps.{ext_cases}
 use Rattle.curve_least.proofs.Rises.{rate_rise, infinite_value}
-use Rattle.upp_normal.proofs.StretchSizes.{narrow}
 use Rattle.curve_deviation.specs.Parts.{IsSeen}
-use Rattle.curve_deviation.proofs.EarlyParts.{IsEndless, endless, early_here}
+use Rattle.curve_deviation.proofs.EarlyParts.{endless, early_here}
 use Rattle.curve_deviation.specs.declared.horizontals.Periods.{Periods}
 use Rattle.curve_deviation.specs.Stages.{AreFinite, HasLeft, HasReached, settled, IsPast, IsWideCall, IsFirst, AreFound}
 use Rattle.curve_deviation.proofs.KnownLags.{common_above, first_repeats}
 use Rattle.curve_deviation.proofs.WindowTimes.{times_at, periods_low}
+use Rattle.upp_curve.proofs.RisingCurves.{GoesOn}
 
 -- ---- a curve of rate 0 is constant from when it repeats
 pub level_constant : (f g : SpecCurve) → IsCurve f → IsCurve g → IsFinite (value_at f) → IsRising (value_at f) → rate f ≡ Fin (int (pos 0)) → IsConstantFrom (value_at f) (steady f)
@@ -115,14 +115,14 @@ steady_not_wide z end time c w S e h wide =
     let fits = operand_line_fits z end T (line_in c.pieces T) S.limited here.line time_in.whole time_in.nonneg (le_of_lt h) in
     by_tail c.pieces c.tail (endless c S.curve S.finite) fits (subst (λ t. IsWideAt c.pieces c.tail t w) e wide)
   where
-    by_tail : (ps : List Piece) (tail : Tail) → IsEndless tail → LineFitsAt (steady_in ps tail) (line_in ps (steady_in ps tail)) → IsWideAt ps tail (steady_in ps tail) w → ⊥
+    by_tail : (ps : List Piece) (tail : Tail) → GoesOn tail → LineFitsAt (steady_in ps tail) (line_in ps (steady_in ps tail)) → IsWideAt ps tail (steady_in ps tail) w → ⊥
     by_tail ps (Periodic rank period rise) k fits (inl a) = read_not_wide ps rank w fits a.1
     by_tail ps (Periodic rank period rise) k fits (inr b) = lt_irrefl rank b.0
     by_tail ps (Affine rank) k fits a = read_not_wide ps (steady_in ps (Affine rank)) w fits a
     by_tail ps (Infinite rank) k fits a = k
 
 pub steady_one_later : (z : Sizes) (end : ℚ) (c : SpecCurve) → IsSeen z end c → steady c <ℚ end → OneLaterFits c
-steady_one_later z end c S h = one_later z end c S.limited.sizes (narrow z end S.limited) S.curve S.stands (le_of_lt h)
+steady_one_later z end c S h = one_later z end c S.limited.sizes (wide_narrow z end S.limited) S.curve S.stands (le_of_lt h)
 
 -- ---- the window of a call whose first curve is not constant ends after the second begins to repeat
 least_past_steady : (f g : SpecCurve) (k m : ℕ) → IsCurve f → IsCurve g → AreFinite f g → rate f ≢ Fin (int (pos 0)) → IsLeastPeriods Horizontal f g k m → gauge_at Horizontal f g k m < 2 ^ 120

@@ -12,7 +12,7 @@ use Rattle.rational.proofs.Laws.{le_refl, le_trans, le_of_lt, le_or_lt, lt_le_tr
 use Rattle.rational.proofs.Bounds.{greatest, smallest}
 use Rattle.rational.proofs.Stretch.{rising_infimum, rising_supremum}
 use Rattle.rational.proofs.MinMax.{min_q_le_left, min_q_le_right, min_q_one, below_min_in}
-use Rattle.rational.proofs.ExtendedOrder.{same_le_ext}
+use Rattle.rational.proofs.ExtendedOrder.{same_le_ext, fin_same}
 use Rattle.affine_segment.specs.declared.line.Line.{Line}
 use Rattle.affine_segment.specs.Values.{line_at, line_value}
 use Rattle.upp_curve.specs.Curve.{SpecCurve, value_at}
@@ -21,7 +21,7 @@ use Rattle.upp_curve.specs.Shapes.{IsLine}
 use Rattle.upp_limits.specs.Limits.{Sizes}
 use Rattle.upp_normal.specs.Operand.{OperandLine, OperandLineAt}
 use Rattle.upp_normal.specs.Ahead.{IsTimeIn}
-use Rattle.min_plus.proofs.FiniteValues.{no_inf, Fin_inj}
+use Rattle.min_plus.proofs.FiniteValues.{no_inf}
 use Rattle.curve_deviation.specs.declared.cells.Cell.{Cell}
 use Rattle.curve_deviation.specs.declared.parts.Part.{Part}
 use Rattle.curve_deviation.specs.Cells.{RisingCell, CellSizes, IsTimeTo}

@@ -28,6 +28,7 @@ use Rattle.curve_deviation.specs.Rises.{RisesOn, IsCellOf}
 use Rattle.curve_deviation.specs.Lags.{IsBehindAt, LagsBy, IsLongestLag}
 use Rattle.curve_deviation.proofs.CellLag.{rises}
 use Rattle.curve_deviation.proofs.RisingParts.{cell_rises}
+use Rattle.curve_least.proofs.GapWalk.{fewer_whole, one_step}
 
 -- what holds on the way: the pairs of times that are looked at have no longer lag
 pub record IsWalked (z : Sizes) (f g : ℚ → Ext) (until end : ℚ) (w : Walk) : Type 0 where
@@ -237,23 +238,6 @@ left_to d end t = whole_part ((end -ℚ t) *ℚ int (pos d))
 
 pub steps_left : Sizes → ℚ → ℚ → Walk → ℕ
 steps_left z until end w = left_to z.dt until w.time + left_to z.dt end w.reached
-
-one_step : (d : ℕ) (y : ℚ) → 0 < d → int (pos 0) <ℚ y → Whole d y → int (pos 1) ≤ℚ y *ℚ int (pos d)
-one_step d y some past w =
-    let p : int (pos 0) <ℚ y *ℚ int (pos d) = mul_pos past (nat_lt 0 d some) in
-    let l = int_lt_out (pos 0) w.steps (subst (λ v. int (pos 0) <ℚ v) w.is p) in
-    subst (λ v. int (pos 1) ≤ℚ v) (sym w.is) (int_le (pos 1) w.steps (omega (arith, ints, l)))
-
-fewer_whole : (x y : ℚ) → int (pos 0) ≤ℚ x → x +ℚ int (pos 1) ≤ℚ y → whole_part x < whole_part y
-fewer_whole x y some h =
-    let low = whole_le x some in
-    let high = whole_gt y in
-    let e = nat_next (whole_part x) in
-    let u = int (pos (whole_part x)) in
-    let v = int (pos (suc (whole_part y))) in
-    let w = int (pos (suc (whole_part x))) in
-    let l = nat_lt_out (suc (whole_part x)) (suc (whole_part y)) (subst (λ m. m <ℚ v) (sym e) (with4 u v x y (λ c. omega (arith, c.le, c.lt, c.same)))) in
-    omega (arith, l)
 
 fewer_left : (d : ℕ) (end t next : ℚ) → 0 < d → Whole d t → Whole d next → t <ℚ next → next ≤ℚ end → left_to d end next < left_to d end t
 unfolding left_to

@@ -23,10 +23,9 @@ use Rattle.curve_least.proofs.Shifts.{later_value}
 use Rattle.curve_least.proofs.Rises.{rate_rise, infinite_value, from_low}
 use Rattle.upp_normal.proofs.UnrollSteps.{ext_cases}
 use Rattle.curve_least.proofs.LeastNumber.{repeats_from, compared_window}
+use Rattle.upp_curve.proofs.Rules.{swap_ext}
 
 -- ---- later times add nothing
-swapped : (x : Ext) (p q : ℚ) → (x +ₑ Fin p) +ₑ Fin q ≡ (x +ₑ Fin q) +ₑ Fin p
-swapped x p q = add_assoc_ext x p q ∙ ap (λ s. x +ₑ Fin s) (add_comm p q) ∙ sym (add_assoc_ext x q p)
 
 pub dominated : (f g : ℚ → Ext) (from d a b q : ℚ) → int (pos 0) <ℚ d → Repeats f from d a → Repeats g from d b → a ≤ℚ b → int (pos 0) ≤ℚ from
     → IsWithin (InWindow (int (pos 0)) (from +ℚ d)) f g q → (t : ℚ) → int (pos 0) ≤ℚ t → f t ≤ₑ g t +ₑ Fin q
@@ -48,7 +47,7 @@ dominated f g from d a b q some F G less low within t h = elim (le_or_lt from t)
         let early : f u ≤ₑ g u +ₑ Fin q = within u record { start = le_trans low u_low; before = u_high } in
         let more : N *ℚ a ≤ℚ N *ℚ b = mul_le_mul N (nat_nonneg n) less in
         let both : f u +ₑ Fin (N *ℚ a) ≤ₑ (g u +ₑ Fin q) +ₑ Fin (N *ℚ b) = add_le_ext (f u) (g u +ₑ Fin q) (Fin (N *ℚ a)) (Fin (N *ℚ b)) early more in
-        let turned : f u +ₑ Fin (N *ℚ a) ≤ₑ (g u +ₑ Fin (N *ℚ b)) +ₑ Fin q = subst (λ v. f u +ₑ Fin (N *ℚ a) ≤ₑ v) (swapped (g u) q (N *ℚ b)) both in
+        let turned : f u +ₑ Fin (N *ℚ a) ≤ₑ (g u +ₑ Fin (N *ℚ b)) +ₑ Fin q = subst (λ v. f u +ₑ Fin (N *ℚ a) ≤ₑ v) (swap_ext (g u) q (N *ℚ b)) both in
         subst (λ s. f s ≤ₑ g s +ₑ Fin q) (sub_add t y)
         (subst (λ v. v ≤ₑ g (u +ℚ y) +ₑ Fin q) (sym (later_value f from d a u n (le_of_lt some) F u_low))
         (subst (λ v. f u +ₑ Fin (N *ℚ a) ≤ₑ v +ₑ Fin q) (sym (later_value g from d b u n (le_of_lt some) G u_low)) turned))

@@ -42,11 +42,13 @@ use Rattle.curve_envelope.specs.Lowest.{SumValue, SumPiece, IsLowestCall, IsLowe
 use Rattle.curve_envelope.specs.Moved.{moved_right}
 use Rattle.curve_envelope.specs.Parts.{left_piece}
 use Rattle.curve_envelope.proofs.LeftCalls.{LeftTimes, left_times, theta_before, from_past, period_early, left_pieces, left_rise, right_rise, rise_sum, rises_less, left_repeats, left_of}
-use Rattle.curve_envelope.proofs.LeftReads.{left_reads, left_up_to, left_past}
+use Rattle.curve_envelope.proofs.LeftReads.{left_reads}
 use Rattle.curve_envelope.proofs.LeftStands.{IsFiniteIn, LeftStands, lefts_stand, last_value}
 use Rattle.curve_envelope.proofs.LowestReads.{LowestOf, lowest_runs, lowest_answer}
 use Rattle.curve_envelope.proofs.MovedStands.{moved_pieces}
 use Rattle.curve_envelope.proofs.SumSizes.{sums_fit}
+use Rattle.curve_call.proofs.Excesses.{excess_nonneg}
+use Rattle.curve_call.proofs.FiniteAnswers.{early_left, late_left}
 
 -- ---- steps that fit
 pub rises_fit : (f g : SpecCurve) (theta : ℚ) (r : Frame) → IsLeftFrame f g theta r → SumFits (rise_over f r.period) (neg_ℚ (rise_over g r.period))
@@ -85,15 +87,10 @@ left_finite f g theta r F S t low early =
     let (level, e) = S.finite t low in
     number_of (read (unroll f r.end) t) level (unroll_reads f r.end t F.call.first.normal low early ∙ e)
 
-excess_low : (x y : Ext) → Fin zero_q ≤ₑ excess x y
-excess_low x Inf = le_refl zero_q
-excess_low Inf (Fin y) = tt
-excess_low (Fin x) (Fin y) = max_q_ge_left zero_q (x -ℚ y)
-
 left_low : (f g : ℚ → Ext) (theta t : ℚ) → Fin zero_q ≤ₑ left_after f g theta t
 left_low f g theta t = elim (le_or_lt t theta) [
-  | inl l ↦ subst (λ v. Fin zero_q ≤ₑ v) (sym (left_up_to f g theta t l)) (le_refl zero_q)
-  | inr l ↦ subst (λ v. Fin zero_q ≤ₑ v) (sym (left_past f g theta t l)) (excess_low (f t) (g (t -ℚ theta)))
+  | inl l ↦ subst (λ v. Fin zero_q ≤ₑ v) (sym (early_left f g theta t l)) (le_refl zero_q)
+  | inr l ↦ subst (λ v. Fin zero_q ≤ₑ v) (sym (late_left f g theta t l)) (excess_nonneg (f t) (g (t -ℚ theta)))
 ]
 
 pub window_reads : (f g : SpecCurve) (theta : ℚ) (r : Frame) (ps : List Piece) (t : ℚ) → IsLeftFrame f g theta r → IsServed (value_at f) (value_at g) theta → IsLeftWindow f g theta r.end ps → zero_q ≤ℚ t → t <ℚ r.end

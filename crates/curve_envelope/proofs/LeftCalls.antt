@@ -43,11 +43,12 @@ use Rattle.curve_envelope.specs.Behind.{moved, IsServed}
 use Rattle.curve_envelope.specs.LeftCall.{LeftCall}
 use Rattle.curve_envelope.specs.Lowest.{SumValue}
 use Rattle.curve_envelope.specs.Moved.{moved_right}
-use Rattle.curve_envelope.proofs.LeftReads.{IsLeftOf, left_past}
+use Rattle.curve_envelope.proofs.LeftReads.{IsLeftOf}
 use Rattle.curve_envelope.proofs.MovedReads.{moved_past, moved_up_to}
 use Rattle.curve_envelope.proofs.Served.{no_faster, other_finite}
 use Rattle.curve_pointwise.proofs.LatticeAnswers.{same_rises}
 use Rattle.curve_pointwise.proofs.LatticeCalls.{earlier}
+use Rattle.curve_call.proofs.FiniteAnswers.{late_left}
 
 -- ---- from a kind of call
 pub left_call : (f g : SpecCurve) (theta : ℚ) (k : ℕ) → IsCurve f → IsCurve g → zero_q ≤ℚ theta → gauge_at (FifoLeft (Fin theta)) f g k 0 < 2 ^ 120
@@ -290,7 +291,7 @@ left_repeats f g theta s p e k z L S enough = record { rule = rule }
               subst (λ y. excess (F t) (G t) +ₑ Fin y ≡ excess (F (t +ℚ p)) (G (t +ℚ p))) (sym (with2 a b (λ c. omega (arith, c.le, c.lt, c.same))))
               (excess_both (F t) (G t) (F (t +ℚ p)) (G (t +ℚ p)) a first (second ∙ ap (λ y. G t +ₑ Fin y) (sym h)))
         ] in
-        left_past (value_at f) (value_at g) theta (t +ℚ p) there ∙ sym moves ∙ ap (λ v. v +ₑ Fin (a -ℚ b)) (sym (left_past (value_at f) (value_at g) theta t here))
+        late_left (value_at f) (value_at g) theta (t +ℚ p) there ∙ sym moves ∙ ap (λ v. v +ₑ Fin (a -ℚ b)) (sym (late_left (value_at f) (value_at g) theta t here))
 
 -- ---- what is read in the window
 pub left_of : (f g : SpecCurve) (theta s p e : ℚ) (k : ℕ) (z : Sizes) → LeftCall f g theta s p e k z → IsServed (value_at f) (value_at g) theta

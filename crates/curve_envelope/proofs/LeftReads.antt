@@ -28,6 +28,7 @@ use Rattle.curve_envelope.specs.Behind.{IsServed}
 use Rattle.curve_envelope.specs.Parts.{left_piece}
 use Rattle.curve_envelope.proofs.Served.{caught_up}
 use Rattle.curve_window.proofs.MadeReads.{apart_at}
+use Rattle.curve_call.proofs.FiniteAnswers.{early_left, late_left}
 
 -- ---- the stretch of a time
 
@@ -153,17 +154,9 @@ excess_read f g theta end ls rs bs t L O low early =
           subst (λ x. Fin w ≤ₑ x) e (subst (λ x. x ≤ₑ f t) (sym (L.late t l early) ∙ k) bound)
     ]
 
-pub left_up_to : (f g : ℚ → Ext) (theta t : ℚ) → t ≤ℚ theta → left_after f g theta t ≡ Fin zero_q
-unfolding left_after
-left_up_to f g theta t h = ap (λ b. cond b (Fin zero_q) (excess (f t) (g (t -ℚ theta)))) (le_q_out t theta h)
-
-pub left_past : (f g : ℚ → Ext) (theta t : ℚ) → theta <ℚ t → left_after f g theta t ≡ excess (f t) (g (t -ℚ theta))
-unfolding left_after
-left_past f g theta t h = ap (λ b. cond b (Fin zero_q) (excess (f t) (g (t -ℚ theta)))) (le_q_not t theta h)
-
 pub left_reads : (f g : ℚ → Ext) (theta end : ℚ) (ls rs : List Piece) (bs : List Both) (t : ℚ) → IsLeftOf f g theta end ls rs → IsOverlay ls rs bs → zero_q ≤ℚ t → t <ℚ end
     → read (mapped left_piece bs) t ≡ left_after f g theta t
 left_reads f g theta end ls rs bs t L O low early = elim (le_or_lt t theta) [
-  | inl l ↦ excess_read f g theta end ls rs bs t L O low early ∙ ap (excess (read ls t)) (L.early t low l early) ∙ excess_none (read ls t) ∙ sym (left_up_to f g theta t l)
-  | inr l ↦ excess_read f g theta end ls rs bs t L O low early ∙ ap₂ excess (L.left t low early) (L.late t l early) ∙ sym (left_past f g theta t l)
+  | inl l ↦ excess_read f g theta end ls rs bs t L O low early ∙ ap (excess (read ls t)) (L.early t low l early) ∙ excess_none (read ls t) ∙ sym (early_left f g theta t l)
+  | inr l ↦ excess_read f g theta end ls rs bs t L O low early ∙ ap₂ excess (L.left t low early) (L.late t l early) ∙ sym (late_left f g theta t l)
 ]

@@ -22,7 +22,7 @@ use Rattle.upp_curve.specs.Steady.{last_line}
 use Rattle.upp_limits.specs.Limits.{Sizes}
 use Rattle.upp_limits.specs.Sized.{grid_of, times_largest}
 use Rattle.upp_normal.specs.Operand.{AreLimited, OperandLineAt, OperandPiece, OperandPieces}
-use Rattle.upp_normal.proofs.AnswerRoom.{OperandValueAt, difference_of_lines, value_difference_stands, values_fit, operand_lines_fit}
+use Rattle.upp_normal.proofs.AnswerRoom.{difference_of_lines, value_difference_stands, values_fit, operand_lines_fit}
 use Rattle.upp_curve.proofs.Finite.{pieces_finite, each_in}
 use Rattle.upp_normal.proofs.NormaliseLists.{last_in}
 use Rattle.curve_window.specs.declared.stretch.Both.{Both}
@@ -36,12 +36,13 @@ use Rattle.curve_envelope.specs.Parts.{left_piece, StretchLeftFits}
 use Rattle.curve_envelope.proofs.SumSizes.{sum_weaken, near_of, value_near}
 use Rattle.affine_segment.proofs.PieceIn.{read_is}
 use Rattle.curve_window.proofs.MadeStands.{some_largest}
+use Rattle.upp_normal.specs.Ahead.{GridValue}
 
 -- ---- one stretch
 zero_sum : (z : Sizes) (k : ℕ) → SumValue z k zero_q
 zero_sum z k = record { whole = whole_int (grid_of z) (pos 0); within = within_nonneg (times_largest k z) zero_q (le_refl zero_q) (some_largest z k) }
 
-excess_sum : (z : Sizes) (v w : Ext) → IsNumber v → OperandValueAt z v → OperandValueAt z w → (y : ℚ) × (excess v w ≡ Fin y) × SumValue z 6 y
+excess_sum : (z : Sizes) (v w : Ext) → IsNumber v → GridValue z v → GridValue z w → (y : ℚ) × (excess v w ≡ Fin y) × SumValue z 6 y
 excess_sum z Inf w n V W = absurd n
 excess_sum z (Fin v) Inf n V W = (zero_q, refl, zero_sum z 6)
 excess_sum z (Fin v) (Fin w) n V W =
@@ -146,7 +147,7 @@ last_value z end (p ∷ ps) v A h e =
     subst (SumValue z 6) (fin_same (sym (ap (λ l. line_value l end) L.is) ∙ e)) (value_near z end end 4 L.on A L.stands N)
 
 -- ---- the steps to them fit
-value_apart : (v w : Ext) (z : Sizes) (end : ℚ) → AreLimited z end → OperandValueAt z v → OperandValueAt z w → ValueApartFits v w
+value_apart : (v w : Ext) (z : Sizes) (end : ℚ) → AreLimited z end → GridValue z v → GridValue z w → ValueApartFits v w
 value_apart Inf w z end A V W = tt
 value_apart (Fin v) Inf z end A V W = tt
 value_apart (Fin v) (Fin w) z end A V W = (values_fit z end v w A V W).1

@@ -22,12 +22,14 @@ use Rattle.upp_curve.specs.Unrolled.{unroll, upto}
 use Rattle.upp_normal.proofs.AnswerRoom.{wide_narrow}
 use Rattle.upp_limits.proofs.NarrowSizes.{small_number, small_sum, run_whole, run_within}
 use Rattle.affine_segment.proofs.PieceOrder.{each_append, each_map}
-use Rattle.upp_normal.proofs.NormaliseLists.{each_upto, upto_before}
+use Rattle.upp_normal.proofs.NormaliseLists.{each_upto}
 use Rattle.upp_limits.proofs.PieceLists.{starts_nonneg}
 use Rattle.upp_normal.proofs.UnrolledPieces.{each_with, each_nonneg, unroll_each, unroll_starts, PieceStands, pieces_stand, operand_line, operand_pieces}
-use Rattle.upp_normal.proofs.UnrollSteps.{time_whole, time_within}
+use Rattle.upp_normal.proofs.UnrollSteps.{time_within}
 use Rattle.curve_envelope.specs.Moved.{moved_line, moved_piece, silence, moved_right, LineMoves, PieceMoves}
 use Rattle.curve_envelope.proofs.MovedReads.{moved_line_value, moved_starts}
+use Rattle.upp_limits.proofs.PieceCounts.{upto_early}
+use Rattle.upp_normal.proofs.StretchSizes.{time_whole}
 
 -- ---- where they stand
 at_stands : (z : Sizes) (b : Bool) (v : Ext) → ValueStands z v → ValueStands z (cond b v Inf)
@@ -80,7 +82,7 @@ moved_pieces z end theta c is A stands on low far =
       starts = moved_starts theta end ps low far starts;
       each = each_append (OperandPiece z end) (silence theta) (upto end (map (moved_piece theta) ps)) (silence_stands z end theta some)
           (each_with (λ q. q.x <ℚ end → OperandPiece z end q) (λ q. q.x <ℚ end) (OperandPiece z end) (λ q f l. f l) (upto end (map (moved_piece theta) ps))
-          (each_upto (λ q. q.x <ℚ end → OperandPiece z end q) end (map (moved_piece theta) ps) all) (upto_before end (map (moved_piece theta) ps)));
+          (each_upto (λ q. q.x <ℚ end → OperandPiece z end q) end (map (moved_piece theta) ps) all) (upto_early end (map (moved_piece theta) ps)));
     }
 
 -- ---- the steps fit

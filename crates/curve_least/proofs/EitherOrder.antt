@@ -20,7 +20,7 @@ IsEnough f g from d k = IsSlowerBelow (value_at f) (value_at g) (rate f) (rate g
 pub other_way : (z : Sizes) (from d : ℚ) (f g : SpecCurve) → AreCompared z from d f g → AreCompared z from d g f
 other_way z from d f g C = record { limited = C.limited; start = C.start; some = C.some; first = C.second; second = C.first }
 
-apart : (x y : Ext) → x <ₑ y → y <ₑ x → ⊥
+pub apart : (x y : Ext) → x <ₑ y → y <ₑ x → ⊥
 apart x y h k = lt_ext_irrefl x (lt_ext_trans x y x h k)
 
 first_in : (f g : SpecCurve) (from d : ℚ) (k : ℕ) → rate f <ₑ rate g → IsBelowAfter f g from d k → IsEnough f g from d k

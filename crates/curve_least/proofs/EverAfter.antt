@@ -19,7 +19,7 @@ use Rattle.curve_least.proofs.Shifts.{later_value}
 use Rattle.curve_least.proofs.LeastNumber.{gains}
 use Rattle.upp_normal.proofs.UnrollSteps.{ext_cases}
 
-repeats_by : (from d : ℚ) (c : SpecCurve) → int (pos 0) <ℚ d → RepeatsBy from d c → Repeats (value_at c) from d (rise_over c d)
+pub repeats_by : (from d : ℚ) (c : SpecCurve) → int (pos 0) <ℚ d → RepeatsBy from d c → Repeats (value_at c) from d (rise_over c d)
 repeats_by from d c some R = record { rule = λ t h. (steady_rule c d R.curve.normal.raw R.periods (le_of_lt some)).rule t (le_trans R.steady_by h) }
 
 -- n periods more

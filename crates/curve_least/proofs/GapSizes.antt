@@ -14,7 +14,7 @@ use Rattle.affine_segment.specs.Fits.{LineFitsAt}
 use Rattle.upp_limits.specs.Limits.{Sizes}
 use Rattle.upp_normal.specs.Operand.{AreLimited}
 use Rattle.upp_normal.specs.Ahead.{GridValue}
-use Rattle.upp_normal.proofs.AnswerRoom.{OperandValueAt, operand_line_fits, operand_line_value, values_fit, value_difference_stands}
+use Rattle.upp_normal.proofs.AnswerRoom.{operand_line_fits, operand_line_value, values_fit, value_difference_stands}
 use Rattle.curve_least.specs.declared.gaps.Gap.{Gap}
 use Rattle.curve_least.specs.declared.gaps.Gap.TheVariants.{NoTime, Never, Is}
 use Rattle.curve_least.specs.GapSteps.{gap_of, larger, DifferenceFits, StretchStands, IsGapValue, GapStands, StretchSizes}
@@ -33,11 +33,11 @@ pub earlier_right : (t : ℚ) (e : ℚ) → e <ℚ t → e ≡ min_q t e
 earlier_right t e h = sym (min_q_right t e h)
 
 -- ---- differences
-value_of : (z : Sizes) (v : Ext) → GridValue z v → OperandValueAt z v
+value_of : (z : Sizes) (v : Ext) → GridValue z v → GridValue z v
 value_of z Inf h = tt
 value_of z (Fin v) h = record { whole = h.whole; within = h.within }
 
-differ : (z : Sizes) (last : ℚ) (x y : Ext) → AreLimited z last → OperandValueAt z x → OperandValueAt z y → DifferenceFits x y
+differ : (z : Sizes) (last : ℚ) (x y : Ext) → AreLimited z last → GridValue z x → GridValue z y → DifferenceFits x y
 differ z last x Inf A h k = tt
 differ z last Inf (Fin y) A h k = tt
 differ z last (Fin x) (Fin y) A h k = (values_fit z last x y A h k).1
@@ -57,7 +57,7 @@ pub differ_as : (x y v w : Ext) → v ≡ x → w ≡ y → DifferenceFits x y �
 differ_as x y v w e f h = subst (λ s. DifferenceFits s w) (sym e) (subst (DifferenceFits x) (sym f) h)
 
 -- ---- the sizes of a gap
-gap_stands : (z : Sizes) (x y : Ext) → OperandValueAt z x → OperandValueAt z y → GapStands z (gap_of x y)
+gap_stands : (z : Sizes) (x y : Ext) → GridValue z x → GridValue z y → GapStands z (gap_of x y)
 gap_stands z x Inf h k = tt
 gap_stands z Inf (Fin y) h k = tt
 gap_stands z (Fin x) (Fin y) h k = let v = value_difference_stands z x y h k in record { whole = v.whole; within = v.within }

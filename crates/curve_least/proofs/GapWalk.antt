@@ -85,13 +85,13 @@ on_grid f g from end =
 pub steps_left : SpecCurve → SpecCurve → ℚ → ℚ → ℚ → ℕ
 steps_left f g from end t = whole_part ((end -ℚ t) *ℚ int (pos (walk_grid f g from end)))
 
-one_step : (d : ℕ) (y : ℚ) → 0 < d → int (pos 0) <ℚ y → Whole d y → int (pos 1) ≤ℚ y *ℚ int (pos d)
+pub one_step : (d : ℕ) (y : ℚ) → 0 < d → int (pos 0) <ℚ y → Whole d y → int (pos 1) ≤ℚ y *ℚ int (pos d)
 one_step d y some past w =
     let p : int (pos 0) <ℚ y *ℚ int (pos d) = mul_pos past (nat_lt 0 d some) in
     let l = int_lt_out (pos 0) w.steps (subst (λ v. int (pos 0) <ℚ v) w.is p) in
     subst (λ v. int (pos 1) ≤ℚ v) (sym w.is) (int_le (pos 1) w.steps (omega (arith, ints, l)))
 
-fewer_whole : (x y : ℚ) → int (pos 0) ≤ℚ x → x +ℚ int (pos 1) ≤ℚ y → whole_part x < whole_part y
+pub fewer_whole : (x y : ℚ) → int (pos 0) ≤ℚ x → x +ℚ int (pos 1) ≤ℚ y → whole_part x < whole_part y
 fewer_whole x y some h =
     let low = whole_le x some in
     let high = whole_gt y in
@@ -148,11 +148,11 @@ pub record NextTime (t end next : ℚ) (a b : Option ℚ) : Type 0 where
   pub first : IsUntil next a
   pub second : IsUntil next b
 
-earlier_past : (t end : ℚ) (a : Option ℚ) → t <ℚ end → IsBeforeNext t a → t <ℚ earlier_of end a
+pub earlier_past : (t end : ℚ) (a : Option ℚ) → t <ℚ end → IsBeforeNext t a → t <ℚ earlier_of end a
 earlier_past t end None h k = h
 earlier_past t end (Some e) h k = below_min_in end e t h k
 
-earlier_high : (end : ℚ) (a : Option ℚ) → earlier_of end a ≤ℚ end
+pub earlier_high : (end : ℚ) (a : Option ℚ) → earlier_of end a ≤ℚ end
 earlier_high end None = le_refl end
 earlier_high end (Some e) = min_q_le_left end e
 

@@ -20,19 +20,20 @@ use Rattle.upp_limits.specs.Limits.{Sizes}
 use Rattle.upp_limits.specs.Sized.{grid_of, times_largest}
 use Rattle.upp_normal.specs.Operand.{AreLimited}
 use Rattle.upp_limits.specs.Windows.{IsBelowFor, IsLeast}
-use Rattle.upp_normal.specs.Ahead.{HasWindow, IsTimeIn}
+use Rattle.upp_normal.specs.Ahead.{HasWindow, IsTimeIn, IsGridValue}
 use Rattle.upp_limits.proofs.CommonDen.{size_up_within, size_up_least}
 use Rattle.upp_limits.proofs.NarrowSizes.{small_number, small_sum}
 use Rattle.upp_curve.proofs.Steady.{steady_rule}
-use Rattle.upp_normal.proofs.StretchSizes.{narrow, times_fit, small_quotient}
+use Rattle.upp_normal.proofs.StretchSizes.{times_fit, small_quotient}
 use Rattle.curve_least.specs.Gaps.{InWindow, IsWithin, IsEndless, IsLargest}
 use Rattle.curve_least.specs.GapSteps.{IsGapValue}
 use Rattle.curve_least.specs.Compared.{RepeatsIn, AreCompared}
 use Rattle.curve_least.proofs.Shifts.{below_in, below_out, largest_bounds, endless_bounds, same_least, least_zero}
 use Rattle.curve_least.proofs.GapParts.{within_none}
 use Rattle.curve_least.proofs.Rises.{rate_rise, infinite_value, rank_early, has_window, from_low}
-use Rattle.curve_least.proofs.RiseSizes.{RiseStands, rise_stands}
+use Rattle.curve_least.proofs.RiseSizes.{rise_stands}
 use Rattle.upp_normal.proofs.UnrollSteps.{ext_cases}
+use Rattle.upp_normal.proofs.AnswerRoom.{wide_narrow}
 
 -- ---- the number
 
@@ -49,7 +50,7 @@ number_least q e some lead = record {
 }
 
 -- ---- a time at which both are finite
-finite_less : (x y : Ext) → x <ₑ y → (v : ℚ) × (x ≡ Fin v)
+pub finite_less : (x y : Ext) → x <ₑ y → (v : ℚ) × (x ≡ Fin v)
 finite_less Inf y h = absurd h
 finite_less (Fin v) y h = (v, refl)
 
@@ -74,8 +75,8 @@ both_finite f g from end q L =
 
 -- ---- what the faster one gains
 pub record Lead (z : Sizes) (slow fast : SpecCurve) (d : ℚ) : Type 0 where
-  pub first : RiseStands z (rise_over slow d)
-  pub second : RiseStands z (rise_over fast d)
+  pub first : IsGridValue z (rise_over slow d)
+  pub second : IsGridValue z (rise_over fast d)
   pub some : int (pos 0) <ℚ rise_over fast d -ℚ rise_over slow d
 
 pub gains : (slow fast : SpecCurve) (d : ℚ) (t v : ℚ) → IsCurve fast → int (pos 0) <ℚ d → rate slow <ₑ rate fast → steady fast ≤ℚ t → value_at fast t ≡ Fin v
@@ -105,17 +106,17 @@ lead_is z from d slow fast q faster C F G L =
     }
 
 -- ---- its steps fit
-pub rise_small : (z : Sizes) (end y : ℚ) → AreLimited z end → RiseStands z y → IsSmall y
-rise_small z end y A R = small_number z end 3 y A.sizes (narrow z end A) (omega arith) R.whole R.within
+pub rise_small : (z : Sizes) (end y : ℚ) → AreLimited z end → IsGridValue z y → IsSmall y
+rise_small z end y A R = small_number z end 3 y A.sizes (wide_narrow z end A) (omega arith) R.whole R.within
 
-pub lead_fits : (z : Sizes) (end x y : ℚ) → AreLimited z end → RiseStands z x → RiseStands z y → SumFits x (neg_ℚ y)
+pub lead_fits : (z : Sizes) (end x y : ℚ) → AreLimited z end → IsGridValue z x → IsGridValue z y → SumFits x (neg_ℚ y)
 lead_fits z end x y A R S =
-    small_sum z end 3 3 x (neg_ℚ y) A.sizes (narrow z end A) (omega arith) R.whole (whole_neg (grid_of z) y S.whole) R.within (within_neg (times_largest 3 z) y S.within)
+    small_sum z end 3 3 x (neg_ℚ y) A.sizes (wide_narrow z end A) (omega arith) R.whole (whole_neg (grid_of z) y S.whole) R.within (within_neg (times_largest 3 z) y S.within)
 
 six : (v : ℚ) → int (pos 3) *ℚ v +ℚ int (pos 3) *ℚ v ≡ int (pos 6) *ℚ v
 six v = with1 v (λ c. omega (arith, c.le, c.lt, c.same))
 
-pub number_fits : (z : Sizes) (end q x y : ℚ) → AreLimited z end → IsGapValue z q → RiseStands z x → RiseStands z y → int (pos 0) <ℚ x -ℚ y → IsSmall (q /ℚ (x -ℚ y))
+pub number_fits : (z : Sizes) (end q x y : ℚ) → AreLimited z end → IsGapValue z q → IsGridValue z x → IsGridValue z y → int (pos 0) <ℚ x -ℚ y → IsSmall (q /ℚ (x -ℚ y))
 number_fits z end q x y A Q R S some =
     small_quotient z end 6 6 q (x -ℚ y) A (omega arith) (omega arith) (not_zero (x -ℚ y) some) Q.whole (whole_sub (grid_of z) x y R.whole S.whole) Q.within
     (subst (λ m. Within m (x -ℚ y)) (six (int (pos z.largest))) (within_sub (times_largest 3 z) (times_largest 3 z) x y R.within S.within))

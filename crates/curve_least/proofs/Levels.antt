@@ -59,7 +59,7 @@ more_largest z = mul_le_mul_right (int (pos z.largest)) (nat_nonneg z.largest) (
 most_largest : (z : Sizes) → times_largest 1 z ≤ℚ times_largest 3 z
 most_largest z = mul_le_mul_right (int (pos z.largest)) (nat_nonneg z.largest) (nat_le 1 3 (omega arith))
 
-none_within : (n : ℕ) → Within (int (pos n)) (int (pos 2) *ℚ int (pos 0))
+pub none_within : (n : ℕ) → Within (int (pos n)) (int (pos 2) *ℚ int (pos 0))
 none_within n = subst (Within (int (pos n))) (sym (int_mul (pos 2) (pos 0))) (within_nonneg (int (pos n)) (int (pos 0)) (le_refl (int (pos 0))) (nat_nonneg n))
 
 pub level_operand : (z : Sizes) (l : ℚ) → IsValue z l → OperandLine z record { icept = l; slope = int (pos 0) }

@@ -30,7 +30,7 @@ use Rattle.upp_limits.specs.Spans.{Span, span_below, spans}
 use Rattle.upp_limits.specs.Limits.{Sizes}
 use Rattle.upp_limits.specs.Sized.{IsValue, IsSlope, ValueStands, LineStands, SpanStands, PeriodStands, TailStands, CurveStands, grid_of, times_largest}
 use Rattle.upp_normal.specs.Operand.{AreLimited}
-use Rattle.upp_normal.specs.Ahead.{HasWindow}
+use Rattle.upp_normal.specs.Ahead.{HasWindow, IsGridValue}
 use Rattle.upp_limits.proofs.ClosedForms.{line_moved}
 use Rattle.upp_limits.proofs.CurveStands.{curve_stands, tail_stands}
 use Rattle.upp_limits.proofs.NarrowSizes.{value_whole, value_within, run_whole, run_within}
@@ -40,10 +40,7 @@ use Rattle.upp_normal.proofs.StretchSizes.{CopiesStand, copies_of_span, each_bel
 use Rattle.upp_normal.proofs.StretchValues.{value_periodic, with_pieces}
 use Rattle.upp_curve.proofs.Finite.{each_in}
 use Rattle.curve_least.proofs.Rises.{some_periods}
-
-pub record RiseStands (z : Sizes) (y : ℚ) : Type 0 where
-  pub whole : Whole (grid_of z) y
-  pub within : Within (times_largest 3 z) y
+use Rattle.upp_normal.proofs.UnrollSteps.{IsSomewhere}
 
 many : (v : ℚ) → int (pos 0) ≤ℚ v → int (pos 1) *ℚ v ≤ℚ int (pos 3) *ℚ v
 many v h = with1 v (λ c. omega (arith, c.le, c.lt, c.same))
@@ -51,7 +48,7 @@ many v h = with1 v (λ c. omega (arith, c.le, c.lt, c.same))
 two_and_one : (v : ℚ) → int (pos 2) *ℚ v +ℚ int (pos 1) *ℚ v ≡ int (pos 3) *ℚ v
 two_and_one v = with1 v (λ c. omega (arith, c.le, c.lt, c.same))
 
-zero_stands : (z : Sizes) → RiseStands z (int (pos 0))
+zero_stands : (z : Sizes) → IsGridValue z (int (pos 0))
 zero_stands z =
     let V = int (pos z.largest) in
     let some = nat_nonneg z.largest in
@@ -61,7 +58,7 @@ zero_stands z =
     }
 
 -- ---- a line
-run_stands : (z : Sizes) (end s d : ℚ) → AreLimited z end → IsSlope z s → Whole z.dt d → int (pos 0) ≤ℚ d → d ≤ℚ end → RiseStands z (s *ℚ d)
+run_stands : (z : Sizes) (end s d : ℚ) → AreLimited z end → IsSlope z s → Whole z.dt d → int (pos 0) ≤ℚ d → d ≤ℚ end → IsGridValue z (s *ℚ d)
 run_stands z end s d A h on low high =
     let V = int (pos z.largest) in
     let one : int (pos 1) *ℚ V ≡ V = mul_comm (int (pos 1)) V ∙ mul_one V in
@@ -79,7 +76,7 @@ line_stands : (z : Sizes) (rank : ℚ) (ps : List Piece) → AllByRecursion (Spa
 line_stands z rank [] h = tt
 line_stands z rank (p ∷ ps) h = last_stands z rank p ps h
 
-slope_stands : (z : Sizes) (end d : ℚ) (l : Option Line) → AreLimited z end → LineStands z l → Whole z.dt d → int (pos 0) ≤ℚ d → d ≤ℚ end → RiseStands z (slope_times l d)
+slope_stands : (z : Sizes) (end d : ℚ) (l : Option Line) → AreLimited z end → LineStands z l → Whole z.dt d → int (pos 0) ≤ℚ d → d ≤ℚ end → IsGridValue z (slope_times l d)
 slope_stands z end d None A h on low high = zero_stands z
 slope_stands z end d (Some l) A h on low high = run_stands z end l.slope d A h on low high
 
@@ -88,10 +85,7 @@ finite_line : (l : Option Line) (t w : ℚ) → line_value l t ≡ Fin w → (m 
 finite_line None t w e = absurd (same_le_ext e)
 finite_line (Some m) t w e = (m, refl)
 
-abbrev IsFiniteHere : Piece → Type 0
-IsFiniteHere q = ((a : ℚ) × (q.at ≡ Fin a)) ⊎ ((m : Line) × (q.line ≡ Some m))
-
-finite_piece : (q : Piece) (t w : ℚ) → piece_value q t ≡ Fin w → IsFiniteHere q
+finite_piece : (q : Piece) (t w : ℚ) → piece_value q t ≡ Fin w → IsSomewhere q
 unfolding piece_value
 finite_piece q t w e = elim (le_or_lt t q.x) [
   | inl l ↦ inl (w, sym (ap (λ b. cond b q.at (line_value q.line t)) (le_q_out t q.x l)) ∙ e)
@@ -99,7 +93,7 @@ finite_piece q t w e = elim (le_or_lt t q.x) [
 ]
 
 -- ---- the rise up to the last copy
-up_to_last : (z : Sizes) (s : Span) (period rise : ℚ) (m : ℕ) → IsFiniteHere s.piece → CopiesStand z s period rise m → RiseParts z (int (pos m) *ℚ rise)
+up_to_last : (z : Sizes) (s : Span) (period rise : ℚ) (m : ℕ) → IsSomewhere s.piece → CopiesStand z s period rise m → RiseParts z (int (pos m) *ℚ rise)
 up_to_last z s period rise m (inl (a, e)) C =
     let y = int (pos m) *ℚ rise in
     rise_parts z a y (subst (ValueStands z) e C.first.at) (subst (λ v. ValueStands z (v +ₑ Fin y)) e C.present.at)
@@ -110,7 +104,7 @@ up_to_last z s period rise m (inr (l, e)) C =
     rise_parts z (line_at l x) y (subst (λ k. ValueStands z (line_value k x)) e C.first.after)
     (subst (λ k. ValueStands z (line_value k x +ₑ Fin y)) e (subst (ValueStands z) (line_moved s.piece.line d y x) C.present.after))
 
-one_more_rise : (z : Sizes) (m : ℕ) (rise : ℚ) → RiseParts z (int (pos m) *ℚ rise) → IsValue z rise → RiseStands z (int (pos (suc m)) *ℚ rise)
+one_more_rise : (z : Sizes) (m : ℕ) (rise : ℚ) → RiseParts z (int (pos m) *ℚ rise) → IsValue z rise → IsGridValue z (int (pos (suc m)) *ℚ rise)
 one_more_rise z m rise R h =
     let y = int (pos m) *ℚ rise in
     let V = int (pos z.largest) in
@@ -156,13 +150,13 @@ present_copies z from d c rank period rise t m p ps window e f whole early past 
 
 -- ---- a periodic curve
 periodic_stands : (z : Sizes) (from d : ℚ) (c : SpecCurve) (rank period rise t v : ℚ) (m : ℕ) → HasWindow z (from +ℚ d) c → c.tail ≡ Periodic rank period rise → d ≡ int (pos (suc m)) *ℚ period
-    → rank ≤ℚ from → from ≤ℚ t → value_at c t ≡ Fin v → RiseStands z (int (pos (suc m)) *ℚ rise)
+    → rank ≤ℚ from → from ≤ℚ t → value_at c t ≡ Fin v → IsGridValue z (int (pos (suc m)) *ℚ rise)
 unfolding read
 periodic_stands z from d c rank period rise t v m window e whole early h finite =
     let n = periods rank period t in
     let sooner = t -ℚ int (pos n) *ℚ period in
     let tail : PeriodStands z period rise = subst (TailStands z) e (tail_stands z (from +ℚ d) c.pieces c.tail window.stands) in
-    with_pieces {G = RiseStands z (int (pos (suc m)) *ℚ rise)} c.pieces window.curve.normal.raw.starts (λ p ps f.
+    with_pieces {G = IsGridValue z (int (pos (suc m)) *ℚ rise)} c.pieces window.curve.normal.raw.starts (λ p ps f.
     let (next, copies) = present_copies z from d c rank period rise t m p ps window e f whole early (le_trans early h) in
     let now : value_at c t ≡ piece_value (piece_in p ps sooner) sooner +ₑ Fin (int (pos n) *ℚ rise) =
     value_periodic c rank period rise t e ∙ repeated_at (read c.pieces) rank period rise t n refl ∙ ap (λ qs. read qs sooner +ₑ Fin (int (pos n) *ℚ rise)) f in
@@ -174,7 +168,7 @@ whole_rise n period rise d some e = ap (λ y. rise *ℚ (y /ℚ period)) e ∙ a
 
 -- ---- any curve
 pub rise_stands : (z : Sizes) (from d : ℚ) (c : SpecCurve) (t v : ℚ) → HasWindow z (from +ℚ d) c → Whole z.dt from → int (pos 0) ≤ℚ from → int (pos 0) <ℚ d → rank_of c.tail ≤ℚ from
-    → IsWholePeriods c.tail d → from ≤ℚ t → value_at c t ≡ Fin v → RiseStands z (rise_over c d)
+    → IsWholePeriods c.tail d → from ≤ℚ t → value_at c t ≡ Fin v → IsGridValue z (rise_over c d)
 unfolding rise_over
 rise_stands z from d c t v window on low some early whole h finite = by_tail c.tail refl whole
   where
@@ -187,15 +181,15 @@ rise_stands z from d c t v window on low some early whole h finite = by_tail c.t
     stands : CurveStands z c
     stands = curve_stands z (from +ℚ d) c window.curve.normal.raw (starts_over c.pieces c.tail (from +ℚ d) window.curve.normal.raw.tail window.over) window.stands
 
-    by_tail : (tail : Tail) → c.tail ≡ tail → IsWholePeriods tail d → RiseStands z (rise_in c.pieces c.tail d)
+    by_tail : (tail : Tail) → c.tail ≡ tail → IsWholePeriods tail d → IsGridValue z (rise_in c.pieces c.tail d)
     by_tail (Periodic rank period rise) e w =
         let (n, f) = w in
         let fits : FitsPeriod c.pieces rank period = some_period c rank period rise window.curve e in
         let (m, g) = some_periods n d period f some in
         let k : d ≡ int (pos (suc m)) *ℚ period = f ∙ ap (λ i. int (pos i) *ℚ period) g in
-        subst (λ y. RiseStands z y) (sym (ap (λ u. rise_in c.pieces u d) e ∙ whole_rise (suc m) period rise d fits.some k))
+        subst (λ y. IsGridValue z y) (sym (ap (λ u. rise_in c.pieces u d) e ∙ whole_rise (suc m) period rise d fits.some k))
         (periodic_stands z from d c rank period rise t v m window e k (subst (λ u. rank_of u ≤ℚ from) e early) h finite)
     by_tail (Affine rank) e w =
-        subst (λ u. RiseStands z (rise_in c.pieces u d)) (sym e)
+        subst (λ u. IsGridValue z (rise_in c.pieces u d)) (sym e)
         (slope_stands z (from +ℚ d) d (last_line c.pieces) window.limited (line_stands z rank c.pieces (subst (λ u. AllByRecursion (SpanStands z) (spans u c.pieces)) e stands.spans)) period_on (le_of_lt some) (with2 from d (λ c. omega (arith, c.le, c.lt, c.same))))
-    by_tail (Infinite rank) e w = subst (λ u. RiseStands z (rise_in c.pieces u d)) (sym e) (zero_stands z)
+    by_tail (Infinite rank) e w = subst (λ u. IsGridValue z (rise_in c.pieces u d)) (sym e) (zero_stands z)

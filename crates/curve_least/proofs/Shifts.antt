@@ -15,12 +15,12 @@ use Rattle.curve_least.specs.Gaps.{InWindow, IsWithin, IsEndless, IsLargest}
 use Rattle.curve_least.proofs.GapParts.{within_none}
 
 -- ---- both sides risen
-shift_in : (x y : Ext) (p q : ℚ) → x ≤ₑ y +ₑ Fin (q -ℚ p) → x +ₑ Fin p ≤ₑ y +ₑ Fin q
+pub shift_in : (x y : Ext) (p q : ℚ) → x ≤ₑ y +ₑ Fin (q -ℚ p) → x +ₑ Fin p ≤ₑ y +ₑ Fin q
 shift_in x Inf p q h = tt
 shift_in Inf (Fin y) p q h = absurd h
 shift_in (Fin x) (Fin y) p q h = with4 x y p q (λ c. omega (arith, c.le, c.lt, c.same))
 
-shift_out : (x y : Ext) (p q : ℚ) → x +ₑ Fin p ≤ₑ y +ₑ Fin q → x ≤ₑ y +ₑ Fin (q -ℚ p)
+pub shift_out : (x y : Ext) (p q : ℚ) → x +ₑ Fin p ≤ₑ y +ₑ Fin q → x ≤ₑ y +ₑ Fin (q -ℚ p)
 shift_out x Inf p q h = tt
 shift_out Inf (Fin y) p q h = absurd h
 shift_out (Fin x) (Fin y) p q h = with4 x y p q (λ c. omega (arith, c.le, c.lt, c.same))

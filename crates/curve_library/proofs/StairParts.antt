@@ -32,9 +32,7 @@ use Rattle.curve_library.proofs.FewPieces.{end_is, periodic_few}
 use Rattle.curve_library.proofs.LateParts.{line_few}
 use Rattle.curve_library.proofs.OwnParts.{Held, held, too_wide, gap_fits}
 use Rattle.curve_library.proofs.SharesAre.{steps_on}
-
-taken_back : (x y : ℚ) → x -ℚ (x -ℚ y) ≡ y
-taken_back x y = with2 x y (λ c. omega (arith, c.le, c.lt, c.same))
+use Rattle.affine_segment.proofs.Convolved.{back as taken_back}
 
 put_together : (x y : ℚ) → y +ℚ (x -ℚ y) ≡ x
 put_together x y = with2 x y (λ c. omega (arith, c.le, c.lt, c.same))

@@ -36,14 +36,12 @@ use Rattle.curve_pointwise.specs.Lattice.{made_of, rises_of, FiniteFor, RisesBy,
 use Rattle.curve_pointwise.specs.LatticeCall.{LatticeCall, IsLatticeFrame}
 use Rattle.curve_call.proofs.TailMoves.{rates_compared, not_both, not_same, lower_first, lower_second, lower_both, upper_first, upper_second, upper_both, excess_below, excess_both, excess_above}
 use Rattle.curve_pointwise.proofs.LatticeCalls.{operands, from_is, from_late, from_whole, left_rise, right_rise}
+use Rattle.upp_normal.proofs.AnswerRoom.{more_largest}
 
 -- ---- the rise stands
-record RiseHasRoom (z : Sizes) (y : ℚ) : Type 0 where
+pub record RiseHasRoom (z : Sizes) (y : ℚ) : Type 0 where
   whole : Whole (grid_of z) y
   within : Within (times_largest 8 z) y
-
-more_largest : (z : Sizes) (k j : ℕ) → k ≤ j → times_largest k z ≤ℚ times_largest j z
-more_largest z k j h = mul_le_mul_right (int (pos z.largest)) (nat_nonneg z.largest) (nat_le k j h)
 
 by_cases : (z : Sizes) (P : Type 0) (a b rise : ℚ) → RisesBy P a b rise → P ⊎ ¬ P → RiseHasRoom z a → RiseHasRoom z b → RiseHasRoom z rise
 by_cases z P a b rise R (inl h) A B = subst (RiseHasRoom z) (sym (R.so h)) A
@@ -55,14 +53,14 @@ zero_room z = record {
   within = within_nonneg (times_largest 8 z) (int (pos 0)) (le_refl (int (pos 0))) (subst (λ y. int (pos 0) ≤ℚ y) (sym (int_mul (pos 8) (pos z.largest))) (nat_nonneg (8 * z.largest)));
 }
 
-slower_or_not : (x y : Ext) → (x <ₑ y) ⊎ ¬ (x <ₑ y)
+pub slower_or_not : (x y : Ext) → (x <ₑ y) ⊎ ¬ (x <ₑ y)
 slower_or_not x y = elim (rates_compared x y) [
   | inl l ↦ inl l
   | inr (inl e) ↦ inr (not_same x y e)
   | inr (inr l) ↦ inr (not_both y x l)
 ]
 
-three_apart : (z : Sizes) → times_largest 3 z +ℚ times_largest 3 z ≤ℚ times_largest 8 z
+pub three_apart : (z : Sizes) → times_largest 3 z +ℚ times_largest 3 z ≤ℚ times_largest 8 z
 three_apart z = let V = int (pos z.largest) in let some = nat_nonneg z.largest in with1 V (λ c. omega (arith, c.le, c.lt, c.same))
 
 rise_room : (of : Lattice) (f g : SpecCurve) (s p e : ℚ) (k : ℕ) (z : Sizes) (rise : ℚ) → LatticeCall f g s p e k z → IsTailRise of f g (rise_over f p) (rise_over g p) rise → RiseHasRoom z rise
@@ -83,7 +81,7 @@ rise_room of f g s p e k z rise L R =
     by_kind Excess A B C R = by_cases z (rate g <ₑ rate f) (rise_over f p -ℚ rise_over g p) (int (pos 0)) rise R (slower_or_not (rate g) (rate f)) C (zero_room z)
 
 -- ---- the answer
-back : (e p from : ℚ) → from ≡ e -ℚ p → from +ℚ p ≡ e
+pub back : (e p from : ℚ) → from ≡ e -ℚ p → from +ℚ p ≡ e
 back e p from h = with3 e p from (λ c. omega (arith, c.le, c.lt, c.same))
 
 pub lattice_answer : (of : Lattice) (f g : SpecCurve) (r : Frame) (ls rs ps : List Piece) (from rise : ℚ) → IsLatticeFrame f g r → ls ≡ unroll f r.end → rs ≡ unroll g r.end

@@ -41,6 +41,7 @@ use Rattle.curve_pointwise.specs.declared.lattice.Lattice.TheVariants.{Lower, Up
 use Rattle.curve_pointwise.specs.Lattice.{kind_of}
 use Rattle.curve_call.specs.FirstWindows.{IsFirstWindow}
 use Rattle.curve_pointwise.specs.LatticeCall.{LatticeCall}
+use Rattle.upp_normal.proofs.AnswerRoom.{wide_narrow}
 
 -- ---- from a kind of call
 pub call_from : (op : OpKind) (f g h : SpecCurve) (k : ℕ) → IsCurve f → IsCurve h → SecondIsCurve op g → IsForward op → gauge_at op f g k 0 < 2 ^ 120 → number_of op k 0 ≡ k + 1
@@ -95,7 +96,7 @@ at_times f g s p e start period end k z L a b c =
     subst (λ x. LatticeCall f g x period end k z) (sym a) (subst (λ y. LatticeCall f g s y end k z) (sym b) (subst (λ w. LatticeCall f g s p w k z) (sym c) L))
 
 -- ---- its times
-more_periods : (k : ℕ) (p : ℚ) → int (pos (k + 1)) *ℚ p ≡ int (pos k) *ℚ p +ℚ p
+pub more_periods : (k : ℕ) (p : ℚ) → int (pos (k + 1)) *ℚ p ≡ int (pos k) *ℚ p +ℚ p
 more_periods k p = let e : k + 1 ≡ suc k = omega arith in ap (λ n. int (pos n) *ℚ p) e ∙ one_more_times k p
 
 -- from when on the answer repeats
@@ -121,9 +122,6 @@ some_end f g s p e k z L =
     let l = one_period f g s p e k z L in
     with3 s p e (λ c. omega (arith, c.le, c.lt, c.same))
 
-wide_sizes : (z : Sizes) (e : ℚ) → AreLimited z e → IsNarrow z (2 ^ 122)
-wide_sizes z e A = narrow_gauge z e A.sizes (let g = A.gauge in omega (arith, g))
-
 pub from_fits : (f g : SpecCurve) (s p e : ℚ) (k : ℕ) (z : Sizes) → LatticeCall f g s p e k z → SumFits e (neg_ℚ p)
 from_fits f g s p e k z L =
     let A = L.limited in
@@ -131,7 +129,7 @@ from_fits f g s p e k z L =
     let low = L.nonneg in
     let l = one_period f g s p e k z L in
     let early : p ≤ℚ e = with3 s p e (λ c. omega (arith, c.le, c.lt, c.same)) in
-    sum_fits z e e (neg_ℚ p) A.sizes (wide_sizes z e A) A.sizes.window (whole_neg z.dt p L.period_whole) (time_within z e e A.sizes A.some (le_refl e))
+    sum_fits z e e (neg_ℚ p) A.sizes (wide_narrow z e A) A.sizes.window (whole_neg z.dt p L.period_whole) (time_within z e e A.sizes A.some (le_refl e))
     (within_neg V p (time_within z e p A.sizes (le_of_lt L.above) early))
 
 pub from_whole : (f g : SpecCurve) (s p e : ℚ) (k : ℕ) (z : Sizes) → LatticeCall f g s p e k z → Whole z.dt (e -ℚ p)
@@ -158,7 +156,7 @@ pub rises_fit : (f g : SpecCurve) (s p e : ℚ) (k : ℕ) (z : Sizes) → Lattic
 rises_fit f g s p e k z L =
     let a = left_rise f g s p e k z L in
     let b = right_rise f g s p e k z L in
-    small_sum z e 3 3 (rise_over f p) (neg_ℚ (rise_over g p)) L.limited.sizes (wide_sizes z e L.limited) (omega arith) a.whole (whole_neg (grid_of z) (rise_over g p) b.whole) a.within
+    small_sum z e 3 3 (rise_over f p) (neg_ℚ (rise_over g p)) L.limited.sizes (wide_narrow z e L.limited) (omega arith) a.whole (whole_neg (grid_of z) (rise_over g p) b.whole) a.within
     (within_neg (times_largest 3 z) (rise_over g p) b.within)
 
 -- ---- with no period: what the number of periods is looked for in

@@ -43,7 +43,7 @@ use Rattle.curve_call.proofs.Limited.{refused_cause, frame_within, pos_minus_lea
 use Rattle.curve_call.proofs.FirstGate.{first_gate}
 use Rattle.curve_least.specs.Levels.{level_curve}
 use Rattle.curve_least.specs.Compared.{AreCompared}
-use Rattle.curve_least.proofs.Levels.{level_value}
+use Rattle.curve_least.proofs.Levels.{level_value, none_within}
 use Rattle.curve_least.proofs.Rises.{rate_rise}
 use Rattle.curve_least.proofs.Shifts.{same_least}
 use Rattle.curve_pointwise.specs.declared.lattice.Lattice.TheVariants.{Excess}
@@ -51,14 +51,14 @@ use Rattle.curve_pointwise.specs.Lattice.{RisesBy, IsTailRise}
 use Rattle.curve_call.specs.FirstWindows.{IsFirstWindow, IsWideAtFirst}
 use Rattle.curve_pointwise.specs.LatticeCall.{LatticeCall, IsLatticeFrame}
 use Rattle.curve_pointwise.proofs.LatticeCalls.{call_from, at_times, compared}
+use Rattle.curve_least.proofs.EitherOrder.{IsEnough}
+use Rattle.upp_limits.proofs.Copies.{plus_zero}
 
 -- ---- a level is steady from 0 on, and has one span
-level_line : (l t : ℚ) → l +ℚ int (pos 0) *ℚ t ≡ l
-level_line l t = ap (λ y. l +ℚ y) (zero_mul t) ∙ add_zero l
 
 level_steady : (l : ℚ) → steady (level_curve l) ≡ int (pos 0)
 unfolding steady value_at
-level_steady l = ap (λ b. later_unless b (int (pos 0))) (sym (same_by _ _ (level_value l (int (pos 0)) (le_refl (int (pos 0))) ∙ ap Fin (sym (level_line l (int (pos 0)))))))
+level_steady l = ap (λ b. later_unless b (int (pos 0))) (sym (same_by _ _ (level_value l (int (pos 0)) (le_refl (int (pos 0))) ∙ ap Fin (sym (plus_zero l (int (pos 0)))))))
 
 level_span : ℚ → Span
 level_span l = record { piece = record { x = int (pos 0); at = Fin l; line = Some record { icept = l; slope = int (pos 0) } }; next = None }
@@ -67,14 +67,11 @@ level_spans : (l end : ℚ) → int (pos 0) <ℚ end → spans_below (level_curv
 unfolding spans_below spans level_span
 level_spans l end h = rw (lt_q_out (int (pos 0)) end h) refl
 
-none_within : (n : ℕ) → Within (int (pos n)) (int (pos 2) *ℚ int (pos 0))
-none_within n = subst (Within (int (pos n))) (sym (int_mul (pos 2) (pos 0))) (within_nonneg (int (pos n)) (int (pos 0)) (le_refl (int (pos 0))) (nat_nonneg n))
-
 level_stands : (z : Sizes) (end l : ℚ) → int (pos 0) <ℚ end → IsValue z l → Stands z (curve_numbers end (level_curve l))
 unfolding level_span
 level_stands z end l h V =
     let e = level_spans l end h in
-    let W = subst (IsValue z) (sym (level_line l (int (pos 0)))) V in
+    let W = subst (IsValue z) (sym (plus_zero l (int (pos 0)))) V in
     let zero = whole_int z.dt (pos 0) in
     record {
       times = rw e (zero, (zero, tt));
@@ -225,18 +222,16 @@ pub minus_values : (l : ℚ) (f c : SpecCurve) → ((t : ℚ) → int (pos 0) �
 minus_values l f c h t low = h t low ∙ ap (excess (value_at f t)) (level_value l t low)
 
 -- ---- what was found of sides is so of the curves that they show
-abbrev pub SideEnough : SpecCurve → SpecCurve → ℚ → ℚ → ℕ → Type 0
-SideEnough f g from d k = IsSlowerBelow (value_at f) (value_at g) (rate f) (rate g) (periods_after from k d) d
 
 pub sides_compared : (f g x y : SpecCurve) (s p : ℚ) → x ≡ f → y ≡ g → (z : Sizes) × AreCompared z s p f g → (z : Sizes) × AreCompared z s p x y
 sides_compared f g x y s p a b (z, A) = (z, subst (λ v. AreCompared z s p v y) (sym a) (subst (λ w. AreCompared z s p f w) (sym b) A))
 
-pub sides_least : (f g x y : SpecCurve) (s p : ℚ) (k : ℕ) → x ≡ f → y ≡ g → IsLeast (SideEnough x y s p) k → IsLeast (SideEnough f g s p) k
-sides_least f g x y s p k a b h = subst (λ w. IsLeast (SideEnough f w s p) k) b (subst (λ v. IsLeast (SideEnough v y s p) k) a h)
+pub sides_least : (f g x y : SpecCurve) (s p : ℚ) (k : ℕ) → x ≡ f → y ≡ g → IsLeast (IsEnough x y s p) k → IsLeast (IsEnough f g s p) k
+sides_least f g x y s p k a b h = subst (λ w. IsLeast (IsEnough f w s p) k) b (subst (λ v. IsLeast (IsEnough v y s p) k) a h)
 
-pub sides_none : (f g x y : SpecCurve) (s p : ℚ) (r : Option ℕ) → x ≡ f → y ≡ g → MatchOption r ((k : ℕ) → ¬ (SideEnough x y s p k)) (IsLeast (SideEnough x y s p)) → r ≡ None
-    → (k : ℕ) → ¬ (SideEnough f g s p k)
-sides_none f g x y s p None a b h e = subst (λ w. (k : ℕ) → ¬ (SideEnough f w s p k)) b (subst (λ v. (k : ℕ) → ¬ (SideEnough v y s p k)) a h)
+pub sides_none : (f g x y : SpecCurve) (s p : ℚ) (r : Option ℕ) → x ≡ f → y ≡ g → MatchOption r ((k : ℕ) → ¬ (IsEnough x y s p k)) (IsLeast (IsEnough x y s p)) → r ≡ None
+    → (k : ℕ) → ¬ (IsEnough f g s p k)
+sides_none f g x y s p None a b h e = subst (λ w. (k : ℕ) → ¬ (IsEnough f w s p k)) b (subst (λ v. (k : ℕ) → ¬ (IsEnough v y s p k)) a h)
 sides_none f g x y s p (Some k) a b h e = absurd (some_none k e)
   where
     some_none : (k : ℕ) → Some k ≡ None → ⊥

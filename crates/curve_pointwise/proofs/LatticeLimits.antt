@@ -17,7 +17,7 @@ use Rattle.curve_call.specs.CallWindows.{IsForward, SecondIsCurve, start_of, per
 use Rattle.curve_call.specs.Frames.{IsFrame, IsRefusedAt, sizes_at}
 use Rattle.curve_call.proofs.Limited.{refused_cause, frame_within, min_least, max_least, pos_diff_least}
 use Rattle.curve_call.proofs.FirstGate.{first_gate}
-use Rattle.curve_least.proofs.EitherOrder.{enough_meets}
+use Rattle.curve_least.proofs.EitherOrder.{enough_meets, IsEnough}
 use Rattle.curve_pointwise.specs.declared.lattice.Lattice.{Lattice}
 use Rattle.curve_pointwise.specs.declared.lattice.Lattice.TheVariants.{Lower, Upper, Excess}
 use Rattle.curve_pointwise.specs.Lattice.{kind_of}
@@ -50,16 +50,14 @@ wide_first of f g TooWide F G h = first_gate (kind_of of) f g F G (forward_kind 
 wide_first of f g NoMemory F G h = absurd h
 
 -- ---- the least number of periods
-abbrev pub Enough : SpecCurve → SpecCurve → ℚ → ℚ → ℕ → Type 0
-Enough f g from d k = IsSlowerBelow (value_at f) (value_at g) (rate f) (rate g) (periods_after from k d) d
 
 meets_kind : (of : Lattice) (f g : SpecCurve) (from d : ℚ) (r : Option ℕ) → from ≡ both_steady f g → d ≡ common_period f g
-    → MatchOption r ((k : ℕ) → ¬ (Enough f g from d k)) (IsLeast (Enough f g from d)) → MatchOption r ((k : ℕ) → ¬ (Meets (kind_of of) f g k)) (IsLeast (Meets (kind_of of) f g))
+    → MatchOption r ((k : ℕ) → ¬ (IsEnough f g from d k)) (IsLeast (IsEnough f g from d)) → MatchOption r ((k : ℕ) → ¬ (Meets (kind_of of) f g k)) (IsLeast (Meets (kind_of of) f g))
 meets_kind Lower f g from d r a b h = (enough_meets f g from d r a b h).0
 meets_kind Upper f g from d r a b h = (enough_meets f g from d r a b h).1
 meets_kind Excess f g from d r a b h = (enough_meets f g from d r a b h).2
 
-pub none_wide : (of : Lattice) (f g : SpecCurve) (from d : ℚ) → from ≡ start_of (kind_of of) f g → d ≡ period_in (kind_of of) f g → ((k : ℕ) → ¬ (Enough f g from d k)) → IsTooWide (kind_of of) f g
+pub none_wide : (of : Lattice) (f g : SpecCurve) (from d : ℚ) → from ≡ start_of (kind_of of) f g → d ≡ period_in (kind_of of) f g → ((k : ℕ) → ¬ (IsEnough f g from d k)) → IsTooWide (kind_of of) f g
 none_wide of f g from d a b none =
     let meets = meets_kind of f g from d None (kind_start of f g from a) (kind_period of f g d b) none in
     record { looks = looks of f g; gauge = λ k m L. absurd (meets k L.first.meets) }
@@ -69,7 +67,7 @@ least_kind Lower f g k h = min_least f g k h
 least_kind Upper f g k h = max_least f g k h
 least_kind Excess f g k h = pos_diff_least f g k h
 
-pub some_least : (of : Lattice) (f g : SpecCurve) (from d : ℚ) (k : ℕ) → from ≡ start_of (kind_of of) f g → d ≡ period_in (kind_of of) f g → IsLeast (Enough f g from d) k → IsLeastPeriods (kind_of of) f g k 0
+pub some_least : (of : Lattice) (f g : SpecCurve) (from d : ℚ) (k : ℕ) → from ≡ start_of (kind_of of) f g → d ≡ period_in (kind_of of) f g → IsLeast (IsEnough f g from d) k → IsLeastPeriods (kind_of of) f g k 0
 some_least of f g from d k a b h = least_kind of f g k (meets_kind of f g from d (Some k) (kind_start of f g from a) (kind_period of f g d b) h)
 
 pub refused_kind : (of : Lattice) (f g : SpecCurve) (k : ℕ) (e : OpFault) → IsLeastPeriods (kind_of of) f g k 0 → IsRefusedAt (kind_of of) f g k 0 e → IsCauseOf (kind_of of) f g e
@@ -79,7 +77,7 @@ pub within_kind : (of : Lattice) (f g : SpecCurve) (k : ℕ) (r : Frame) → IsL
 within_kind of f g k r L h = frame_within (kind_of of) f g k 0 r L h
 
 -- ---- the frame
-pub lattice_frame : (of : Lattice) (f g : SpecCurve) (from d : ℚ) (k : ℕ) (r : Frame) → from ≡ start_of (kind_of of) f g → d ≡ period_in (kind_of of) f g → IsLeast (Enough f g from d) k
+pub lattice_frame : (of : Lattice) (f g : SpecCurve) (from d : ℚ) (k : ℕ) (r : Frame) → from ≡ start_of (kind_of of) f g → d ≡ period_in (kind_of of) f g → IsLeast (IsEnough f g from d) k
     → IsFrame (kind_of of) f g k 0 r → IsLatticeFrame f g r
 lattice_frame of f g from d k r a b L h =
     let z = sizes_at (kind_of of) f g k 0 in
@@ -90,7 +88,7 @@ lattice_frame of f g from d k r a b L h =
       call = at_times f g (both_steady f g) (common_period f g) (window_at (kind_of of) f g k 0) r.start r.period r.end k z call (kind_start of f g r.start h.start) (kind_period of f g r.period h.period) h.end;
       times = h.times;
       values = h.values;
-      enough = subst (λ s. Enough f g s r.period k) (a ∙ sym h.start) (subst (λ p. Enough f g from p k) (b ∙ sym h.period) L.meets);
+      enough = subst (λ s. IsEnough f g s r.period k) (a ∙ sym h.start) (subst (λ p. IsEnough f g from p k) (b ∙ sym h.period) L.meets);
     }
 
 -- ---- the same for a kind under another name, as the code has it
@@ -100,21 +98,21 @@ wide_by of op f g e same K h = wide_first of f g e K.0 (second_kind of g (subst 
 pub compared_by : (of : Lattice) (op : OpKind) (f g : SpecCurve) (w : CallWindow) → op ≡ kind_of of → IsCurve f × SecondIsCurve op g → IsFirstWindow op f g w → (z : Sizes) × AreCompared z w.start w.period f g
 compared_by of op f g w same K h = first_compared of f g w K.0 (second_kind of g (subst (λ o. SecondIsCurve o g) same K.1)) (subst (λ o. IsFirstWindow o f g w) same h)
 
-pub none_by : (of : Lattice) (op : OpKind) (f g : SpecCurve) (w : CallWindow) → op ≡ kind_of of → IsFirstWindow op f g w → ((k : ℕ) → ¬ (Enough f g w.start w.period k)) → IsTooWide (kind_of of) f g
+pub none_by : (of : Lattice) (op : OpKind) (f g : SpecCurve) (w : CallWindow) → op ≡ kind_of of → IsFirstWindow op f g w → ((k : ℕ) → ¬ (IsEnough f g w.start w.period k)) → IsTooWide (kind_of of) f g
 none_by of op f g w same h none = let W = (subst (λ o. IsFirstWindow o f g w) same h).window in none_wide of f g w.start w.period W.start W.period none
 
-least_by : (of : Lattice) (op : OpKind) (f g : SpecCurve) (w : CallWindow) (k : ℕ) → op ≡ kind_of of → IsFirstWindow op f g w → IsLeast (Enough f g w.start w.period) k → IsLeastPeriods (kind_of of) f g k 0
+least_by : (of : Lattice) (op : OpKind) (f g : SpecCurve) (w : CallWindow) (k : ℕ) → op ≡ kind_of of → IsFirstWindow op f g w → IsLeast (IsEnough f g w.start w.period) k → IsLeastPeriods (kind_of of) f g k 0
 least_by of op f g w k same h L = let W = (subst (λ o. IsFirstWindow o f g w) same h).window in some_least of f g w.start w.period k W.start W.period L
 
-pub refused_by : (of : Lattice) (op : OpKind) (f g : SpecCurve) (w : CallWindow) (k : ℕ) (e : OpFault) → op ≡ kind_of of → IsFirstWindow op f g w → IsLeast (Enough f g w.start w.period) k
+pub refused_by : (of : Lattice) (op : OpKind) (f g : SpecCurve) (w : CallWindow) (k : ℕ) (e : OpFault) → op ≡ kind_of of → IsFirstWindow op f g w → IsLeast (IsEnough f g w.start w.period) k
     → IsRefusedAt op f g k 0 e → IsCauseOf (kind_of of) f g e
 refused_by of op f g w k e same h L R = refused_kind of f g k e (least_by of op f g w k same h L) (subst (λ o. IsRefusedAt o f g k 0 e) same R)
 
-pub within_by : (of : Lattice) (op : OpKind) (f g : SpecCurve) (w : CallWindow) (k : ℕ) (r : Frame) → op ≡ kind_of of → IsFirstWindow op f g w → IsLeast (Enough f g w.start w.period) k
+pub within_by : (of : Lattice) (op : OpKind) (f g : SpecCurve) (w : CallWindow) (k : ℕ) (r : Frame) → op ≡ kind_of of → IsFirstWindow op f g w → IsLeast (IsEnough f g w.start w.period) k
     → IsFrame op f g k 0 r → IsWithin (kind_of of) f g
 within_by of op f g w k r same h L F = within_kind of f g k r (least_by of op f g w k same h L) (subst (λ o. IsFrame o f g k 0 r) same F)
 
-pub frame_by : (of : Lattice) (op : OpKind) (f g : SpecCurve) (w : CallWindow) (k : ℕ) (r : Frame) → op ≡ kind_of of → IsFirstWindow op f g w → IsLeast (Enough f g w.start w.period) k
+pub frame_by : (of : Lattice) (op : OpKind) (f g : SpecCurve) (w : CallWindow) (k : ℕ) (r : Frame) → op ≡ kind_of of → IsFirstWindow op f g w → IsLeast (IsEnough f g w.start w.period) k
     → IsFrame op f g k 0 r → IsLatticeFrame f g r
 frame_by of op f g w k r same h L F =
     let W = (subst (λ o. IsFirstWindow o f g w) same h).window in

@@ -17,9 +17,10 @@ use Rattle.upp_normal.specs.Normalising.{past, cut_at}
 use Rattle.upp_curve.specs.Unrolled.{line_later, later, each_later}
 use Rattle.upp_normal.proofs.UnrolledValues.{read_later}
 use Rattle.upp_normal.proofs.NormaliseLoops.{past_go, past_stop, past_none, later_none, later_some}
-use Rattle.upp_normal.proofs.NormaliseLists.{past_all}
+use Rattle.upp_normal.proofs.NormaliseLists.{past_all, rises_past}
 use Rattle.upp_normal.proofs.NormalisePeriods.{cut_reads}
 use Rattle.curve_pointwise.specs.Shifting.{left_line, left_piece, moved_left}
+use Rattle.rational.proofs.ExtendedOrder.{add_zero_ext}
 
 -- ---- the loop
 pub left_more : (x : ℚ) (p q : Piece) (todo more done done2 all : List Piece) (o : Ordering) → todo ≡ p ∷ more → o ≡ cmp_q p.x x → o ≡ Greater → q ≡ left_piece x p → done2 ≡ done ++ q ∷ []
@@ -69,9 +70,6 @@ each_left : (x : ℚ) (ps : List Piece) → map (left_piece x) ps ≡ each_later
 each_left x [] = sym (later_none (neg_ℚ x) (int (pos 0)))
 each_left x (p ∷ ps) = ap₂ (λ (q : Piece) (qs : List Piece). q ∷ qs) (left_is x p) (each_left x ps) ∙ sym (later_some (neg_ℚ x) (int (pos 0)) p ps)
 
-none_added : (v : Ext) → v +ₑ Fin (int (pos 0)) ≡ v
-none_added v = sym (same_at v)
-
 pub left_reads : (x t : ℚ) (p : Piece) (ps : List Piece) → StartsAtZero (p ∷ ps) → int (pos 0) ≤ℚ x → int (pos 0) ≤ℚ t → read (moved_left x p ps) t ≡ read (p ∷ ps) (t +ℚ x)
 left_reads x t p ps starts some low =
     let d = neg_ℚ x in
@@ -80,23 +78,17 @@ left_reads x t p ps starts some low =
     let e0 = starts.0 in
     let first : p.x ≤ℚ x = subst (λ a. a ≤ℚ x) (sym e0) some in
     let late : x ≤ℚ t +ℚ x = with2 t x (λ c. omega (arith, c.le, c.lt, c.same)) in
-    ap (λ us. read us t) (each_left x (cut_at p ps x ∷ past x ps)) ∙ read_later (cut_at p ps x ∷ past x ps) d z t ∙ none_added (read (cut_at p ps x ∷ past x ps) (t -ℚ d))
+    ap (λ us. read us t) (each_left x (cut_at p ps x ∷ past x ps)) ∙ read_later (cut_at p ps x ∷ past x ps) d z t ∙ add_zero_ext (read (cut_at p ps x ∷ past x ps) (t -ℚ d))
     ∙ ap (read (cut_at p ps x ∷ past x ps)) at ∙ cut_reads p ps x (t +ℚ x) first starts.1 late
 
 -- ---- the moved pieces start at 0 and rise
-past_rises : (x y : ℚ) (ps : List Piece) → RisesFrom y ps → RisesFrom x (past x ps)
-past_rises x y [] h = subst (RisesFrom x) (sym (past_none x)) tt
-past_rises x y (p ∷ ps) h = elim (le_or_lt p.x x) [
-  | inl l ↦ subst (RisesFrom x) (sym (past_go x p ps l)) (past_rises x p.x ps h.1)
-  | inr l ↦ subst (RisesFrom x) (sym (past_stop x p ps l)) (l, subst (RisesFrom p.x) (sym (past_all x p.x ps (le_of_lt l) h.1)) h.1)
-]
 
 rises_left : (x y : ℚ) (ps : List Piece) → RisesFrom y ps → RisesFrom (y -ℚ x) (map (left_piece x) ps)
 rises_left x y [] h = tt
 rises_left x y (p ∷ ps) h = let a = p.x in let l = h.0 in (with3 x y a (λ c. omega (arith, c.le, c.lt, c.same)), rises_left x p.x ps h.1)
 
 pub left_starts : (x : ℚ) (p : Piece) (ps : List Piece) → StartsAtZero (p ∷ ps) → StartsAtZero (moved_left x p ps)
-left_starts x p ps h = (with1 x (λ c. omega (arith, c.le, c.lt, c.same)), rises_left x x (past x ps) (past_rises x p.x ps h.1))
+left_starts x p ps h = (with1 x (λ c. omega (arith, c.le, c.lt, c.same)), rises_left x x (past x ps) (rises_past x p.x ps h.1))
 
 -- what holds of each piece holds of those past x
 pub each_past : (P : Piece → Type 0) (x : ℚ) (ps : List Piece) → Each P ps → Each (λ p. P p × (x <ℚ p.x)) (past x ps)

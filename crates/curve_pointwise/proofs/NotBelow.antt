@@ -9,11 +9,7 @@ use Rattle.rational.proofs.MinMax.{max_q_ge_left}
 use Rattle.upp_curve.specs.Curve.{SpecCurve, value_at}
 use Rattle.min_plus.specs.Functions.{IsNonnegative, zero_q}
 use Rattle.min_plus.specs.Pointwise.{excess, IsPositiveMinus}
-
-not_below : (x y : Ext) → Fin zero_q ≤ₑ excess x y
-not_below x Inf = le_refl zero_q
-not_below Inf (Fin y) = tt
-not_below (Fin x) (Fin y) = max_q_ge_left zero_q _
+use Rattle.curve_call.proofs.Excesses.{excess_nonneg}
 
 pub minus_not_below : (f c : SpecCurve) (l : ℚ) → ((t : ℚ) → int (pos 0) ≤ℚ t → IsPositiveMinus (value_at f) l t (value_at c t)) → IsNonnegative (value_at c)
-minus_not_below f c l h t low = subst (λ v. Fin zero_q ≤ₑ v) (sym (h t low)) (not_below (value_at f t) (Fin l))
+minus_not_below f c l h t low = subst (λ v. Fin zero_q ≤ₑ v) (sym (h t low)) (excess_nonneg (value_at f t) (Fin l))

@@ -18,6 +18,7 @@ use Rattle.upp_curve.specs.Normal.{TailFits, IsRaw}
 use Rattle.min_plus.specs.Pointwise.{scaled}
 use Rattle.upp_limits.specs.Gauges.{scaled_line, scaled_piece, scaled_tail, scaled_curve}
 use Rattle.affine_segment.proofs.PieceIn.{piece_in_stop, piece_in_go, piece_in_end}
+use Rattle.upp_limits.proofs.ScaledCurves.{starts_scaled}
 
 -- ---- values
 scaled_value : (q t : ℚ) (l : Option Line) → line_value (scaled_line q l) t ≡ scaled q (line_value l t)
@@ -72,14 +73,10 @@ rises_scaled : (q x : ℚ) (ps : List Piece) → RisesFrom x ps → RisesFrom x 
 rises_scaled q x [] h = tt
 rises_scaled q x (p ∷ ps) h = (h.0, rises_scaled q p.x ps h.1)
 
-zero_scaled : (q : ℚ) (ps : List Piece) → StartsAtZero ps → StartsAtZero (map (scaled_piece q) ps)
-zero_scaled q [] h = h
-zero_scaled q (p ∷ ps) h = (h.0, rises_scaled q p.x ps h.1)
-
 fits_scaled : (q : ℚ) (ps : List Piece) (tail : Tail) → TailFits ps tail → TailFits (map (scaled_piece q) ps) (scaled_tail q tail)
 fits_scaled q ps (Periodic rank period rise) h = record { nonneg = h.nonneg; some = h.some; starts = each_start (λ x. x <ℚ rank +ℚ period) q ps h.starts }
 fits_scaled q ps (Affine rank) h = record { nonneg = h.nonneg; starts = each_start (λ x. x ≤ℚ rank) q ps h.starts }
 fits_scaled q ps (Infinite rank) h = record { nonneg = h.nonneg; starts = each_start (λ x. x ≤ℚ rank) q ps h.starts }
 
 pub raw_scaled : (q : ℚ) (c : SpecCurve) → IsRaw c → IsRaw (scaled_curve q c)
-raw_scaled q c h = record { starts = zero_scaled q c.pieces h.starts; tail = fits_scaled q c.pieces c.tail h.tail }
+raw_scaled q c h = record { starts = starts_scaled q c.pieces h.starts; tail = fits_scaled q c.pieces c.tail h.tail }

@@ -35,8 +35,8 @@ use Rattle.affine_segment.proofs.PieceIn.{read_is}
 use Rattle.upp_curve.proofs.Finite.{each_in}
 use Rattle.upp_curve.proofs.Steady.{steady_rule}
 use Rattle.upp_normal.proofs.Below.{unroll_reads}
-use Rattle.upp_normal.proofs.AnswerRoom.{room_at_start, line_in_room, operand_line, operand_line_fits, OperandValueAt, stands_operand_value, operand_line_value, operand_value_room, more_largest}
-use Rattle.curve_window.proofs.OperandWindows.{StartTime, operand_line_in, operand_read}
+use Rattle.upp_normal.proofs.AnswerRoom.{room_at_start, line_in_room, operand_line, operand_line_fits, stands_operand_value, operand_line_value, operand_value_room, more_largest}
+use Rattle.curve_window.proofs.OperandWindows.{operand_line_in, operand_read}
 use Rattle.curve_call.specs.declared.frame.Frame.{Frame}
 use Rattle.curve_call.specs.Frames.{IsFrame, sizes_at}
 use Rattle.curve_call.specs.Answering.{IsAnswerWindow}
@@ -48,6 +48,7 @@ use Rattle.curve_call.proofs.CurveRises.{IsRise, rise_is, own_whole}
 use Rattle.curve_call.proofs.Answering.{answer_relation}
 use Rattle.curve_pointwise.specs.Shifting.{left_line, left_piece, moved_left, LeftFits}
 use Rattle.curve_pointwise.proofs.LeftWindow.{left_reads, left_starts, each_past, each_moved}
+use Rattle.upp_normal.specs.Ahead.{GridValue, IsTimeIn}
 
 -- the piece at x can be read there
 pub here_fits : (x : ℚ) (ps : List Piece) (here : Piece) → StartsAtZero ps → Each (LeftFits x) ps → ((p : Piece) (qs : List Piece) → ps ≡ p ∷ qs → here ≡ piece_in p qs x) → LineFitsAt x here.line
@@ -132,11 +133,11 @@ left_line_room z end x (Some l) A L on low early =
     let O = operand_line z l L in
     (line_in_room z end 3 _ A (omega arith) record { icept = V.whole; within = V.within; slope = O.slope; steep = O.steep }, (V.whole, O.slope))
 
-value_on : (z : Sizes) (v : Ext) → OperandValueAt z v → ValueOn (grid_of z) v
+value_on : (z : Sizes) (v : Ext) → GridValue z v → ValueOn (grid_of z) v
 value_on z Inf h = tt
 value_on z (Fin v) h = h.whole
 
-left_room : (z : Sizes) (end x : ℚ) (p : Piece) → AreLimited z end → Whole z.dt x → int (pos 0) ≤ℚ x → x ≤ℚ end → Whole z.dt p.x → x ≤ℚ p.x → p.x <ℚ end → OperandValueAt z p.at
+left_room : (z : Sizes) (end x : ℚ) (p : Piece) → AreLimited z end → Whole z.dt x → int (pos 0) ≤ℚ x → x ≤ℚ end → Whole z.dt p.x → x ≤ℚ p.x → p.x <ℚ end → GridValue z p.at
     → OperandLineAt z p.line → LeftRoom z end (end -ℚ x) (left_piece x p)
 left_room z end x p A wx low early wp late before v l =
     let a = p.x in
@@ -154,9 +155,9 @@ left_rooms : (x : ℚ) (f : SpecCurve) (r : Frame) (z : Sizes) (p : Piece) (ps :
 left_rooms x f r z p ps h P =
     let A = h.facts.limited in
     let early = le_of_lt h.before in
-    let time : StartTime z r.end x = record { whole = h.by; nonneg = h.low; before = h.before } in (
+    let time : IsTimeIn z r.end x = record { whole = h.by; nonneg = h.low; before = h.before } in (
       left_room z r.end x (cut_at p ps x) A h.by h.low early h.by (le_refl x) h.before
-          (subst (OperandValueAt z) (read_is p ps x) (operand_read z r.end x (p ∷ ps) A P time)) (operand_line_in z r.end x (p ∷ ps) P),
+          (subst (GridValue z) (read_is p ps x) (operand_read z r.end x (p ∷ ps) A P time)) (operand_line_in z r.end x (p ∷ ps) P),
       each_moved (λ q. OperandPiece z r.end q × (x <ℚ q.x)) (LeftRoom z r.end (r.end -ℚ x)) x (past x ps)
           (λ q k. left_room z r.end x q A h.by h.low early k.0.start (le_of_lt k.1) k.0.before (stands_operand_value z q.at k.0.at) k.0.line) (each_past (OperandPiece z r.end) x ps P.each.1),
     )

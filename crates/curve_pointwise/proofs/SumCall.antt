@@ -42,6 +42,7 @@ use Rattle.curve_call.proofs.FrameFacts.{FrameFacts, frame_facts}
 use Rattle.curve_call.proofs.Operands.{some_end, unrolled_pieces}
 use Rattle.curve_call.proofs.CurveRises.{IsRise, rise_is, common_first, common_second}
 use Rattle.curve_call.proofs.Answering.{answer_relation}
+use Rattle.curve_pointwise.proofs.LatticeAnswers.{three_apart}
 
 -- ---- what the frame gives
 pub record SumCall (f g : SpecCurve) (r : Frame) (z : Sizes) : Type 0 where
@@ -104,9 +105,6 @@ rises_fit f g r z h =
     small_sum z r.end 3 3 (rise_over f r.period) (rise_over g r.period) a.sizes (narrow_gauge z r.end a.sizes (omega arith)) (omega arith)
     h.left_rise.whole h.right_rise.whole h.left_rise.within h.right_rise.within
 
-three_and_three : (z : Sizes) → times_largest 3 z +ℚ times_largest 3 z ≤ℚ times_largest 8 z
-three_and_three z = let V = int (pos z.largest) in let some = nat_nonneg z.largest in with1 V (λ c. omega (arith, c.le, c.lt, c.same))
-
 -- ---- the answer
 pub sum_answer : (f g : SpecCurve) (r : Frame) (z : Sizes) (ls rs ps : List Piece) (rise : ℚ) → SumCall f g r z → ls ≡ unroll f r.end → rs ≡ unroll g r.end → IsWindowSum ls rs ps
     → rise ≡ rise_over f r.period +ℚ rise_over g r.period → IsAnswerWindow ps r.start r.period rise r.times r.values
@@ -120,7 +118,7 @@ sum_answer f g r z ls rs ps rise h el er sum e =
     let total = rise_over f r.period +ℚ rise_over g r.period in
     let whole : Whole (grid_of z) rise = subst (Whole (grid_of z)) (sym e) (whole_add (grid_of z) (rise_over f r.period) (rise_over g r.period) h.left_rise.whole h.right_rise.whole) in
     let within : Within (times_largest 8 z) total =
-    within_weaken _ _ total (three_and_three z) (within_add (times_largest 3 z) (times_largest 3 z) (rise_over f r.period) (rise_over g r.period) h.left_rise.within h.right_rise.within) in
+    within_weaken _ _ total (three_apart z) (within_add (times_largest 3 z) (times_largest 3 z) (rise_over f r.period) (rise_over g r.period) h.left_rise.within h.right_rise.within) in
     record {
       sizes = z;
       end = r.end;

@@ -23,9 +23,10 @@ use Rattle.upp_limits.specs.Sized.{grid_of, times_largest, IsSlope, AreSizes}
 use Rattle.upp_normal.specs.Operand.{AreLimited, OperandLine, OperandLineAt, OperandPiece, OperandPieces, answer_room}
 use Rattle.upp_normal.specs.Room.{top, LineHasRoom, PieceHasRoom, TimeHasRoom}
 use Rattle.upp_limits.proofs.NarrowSizes.{grid_pos}
-use Rattle.upp_normal.proofs.AnswerRoom.{tight, AnswerLine, line_in_room, operand_line_room, operand_line_fits, OperandValue, OperandValueAt, stands_operand_value, operand_line_value, values_fit, operand_value_room, operand_lines_fit, halves_apart, IsCrossing, crossing_from, crossing_room, room_at_start, many_more, more_largest}
+use Rattle.upp_normal.proofs.AnswerRoom.{tight, AnswerLine, line_in_room, operand_line_room, operand_line_fits, stands_operand_value, operand_line_value, values_fit, operand_value_room, operand_lines_fit, halves_apart, IsCrossing, crossing_from, crossing_room, room_at_start, many_more, more_largest}
 use Rattle.curve_running.specs.Scans.{start_or, flat, IsLevel, HasLine, MeetingFits, ScanFits}
 use Rattle.curve_running.specs.Made.{IsMeeting, IsMade, TurnsAfter, IsScan}
+use Rattle.upp_normal.specs.Ahead.{GridValue, IsGridValue}
 
 -- ---- an operand's line against a level
 zero_slope : (z : Sizes) (end : ℚ) → AreSizes z end → IsSlope z (int (pos 0))
@@ -45,7 +46,7 @@ zero_line z end S = record {
       (subst (λ y. int (pos 0) ≤ℚ y) (sym (int_mul (pos 2) (pos z.largest))) (nat_nonneg (2 * z.largest)));
 }
 
-icept_value : (z : Sizes) (l : Line) → OperandLine z l → OperandValue z l.icept
+icept_value : (z : Sizes) (l : Line) → OperandLine z l → IsGridValue z l.icept
 icept_value z l L = record { whole = L.icept; within = within_weaken (times_largest 2 z) (times_largest 3 z) l.icept (more_largest z 2 3 (omega arith)) L.within }
 
 -- the level less the line's value at 0
@@ -55,7 +56,7 @@ record Apart (z : Sizes) (up down : ℚ) : Type 0 where
   down_whole : Whole z.ds down
   down_within : Within (int (pos z.steepness)) down
 
-level_apart : (z : Sizes) (end v : ℚ) (l : Line) → AreLimited z end → OperandLine z l → OperandValue z v → Apart z (v -ℚ l.icept) (l.slope -ℚ int (pos 0))
+level_apart : (z : Sizes) (end v : ℚ) (l : Line) → AreLimited z end → OperandLine z l → IsGridValue z v → Apart z (v -ℚ l.icept) (l.slope -ℚ int (pos 0))
 level_apart z end v l A L V =
     let zero = zero_slope z end A.sizes in
     record {
@@ -84,12 +85,12 @@ pub not_flat : (s : ℚ) → int (pos 0) <ℚ s → s -ℚ int (pos 0) ≢ int (
 not_flat s h e = lt_irrefl (int (pos 0)) (subst (λ x. int (pos 0) <ℚ x) (with1 s (λ c. omega (arith, c.le, c.lt, c.same))) h)
 
 -- where a line that rises comes to a level no step is too wide
-pub level_fits : (z : Sizes) (end v : ℚ) (l : Line) → AreLimited z end → OperandLine z l → OperandValue z v → int (pos 0) <ℚ l.slope → MeetingFits v l
+pub level_fits : (z : Sizes) (end v : ℚ) (l : Line) → AreLimited z end → OperandLine z l → IsGridValue z v → int (pos 0) <ℚ l.slope → MeetingFits v l
 level_fits z end v l A L V rises w (inl a) = a.1 (values_fit z end v l.icept A V (icept_value z l L)).1
 level_fits z end v l A L V rises w (inr (inl b)) = b.1 (operand_lines_fit z end l (flat (int (pos 0))) A L (zero_line z end A.sizes)).closing
 level_fits z end v l A L V rises w (inr (inr c)) = c.1 (level_small z end (v -ℚ l.icept) (l.slope -ℚ int (pos 0)) A (not_flat l.slope rises) (level_apart z end v l A L V))
 
-pub level_crossing : (z : Sizes) (end v : ℚ) (l : Line) (t : ℚ) → AreLimited z end → OperandLine z l → OperandValue z v → IsMeeting v l t → IsCrossing z t
+pub level_crossing : (z : Sizes) (end v : ℚ) (l : Line) (t : ℚ) → AreLimited z end → OperandLine z l → IsGridValue z v → IsMeeting v l t → IsCrossing z t
 level_crossing z end v l t A L V m =
     let a = level_apart z end v l A L V in
     crossing_from z end (v -ℚ l.icept) (l.slope -ℚ int (pos 0)) t A a.up_whole a.down_whole a.down_within (not_flat l.slope m.rises) (reached m.is)
@@ -102,7 +103,7 @@ level_crossing z end v l t A L V m =
         let run : s *ℚ t ≡ v -ℚ i = let p = s *ℚ t in with3 p i v (λ c. omega (arith, c.le, c.lt, c.same)) in
         ap (λ x. t *ℚ x) same ∙ mul_comm t s ∙ run
 
-pub flat_line : (z : Sizes) (end v : ℚ) → AreLimited z end → OperandValue z v → AnswerLine z 3 (flat v)
+pub flat_line : (z : Sizes) (end v : ℚ) → AreLimited z end → IsGridValue z v → AnswerLine z 3 (flat v)
 flat_line z end v A V = record {
   icept = V.whole;
   within = V.within;
@@ -114,15 +115,15 @@ flat_line z end v A V = record {
 abbrev pub EachOperand : Sizes → ℚ → List Piece → Type 0
 EachOperand z end ps = Each (OperandPiece z end) ps
 
-value_of : (z : Sizes) (x : Ext) (v : ℚ) → x ≡ Fin v → OperandValueAt z x → OperandValue z v
-value_of z x v e h = subst (OperandValueAt z) e h
+value_of : (z : Sizes) (x : Ext) (v : ℚ) → x ≡ Fin v → GridValue z x → IsGridValue z v
+value_of z x v e h = subst (GridValue z) e h
 
 next_stands : (z : Sizes) (end : ℚ) (ps : List Piece) → AreLimited z end → EachOperand z end ps
     → Whole z.dt (start_or end ps) × (int (pos 0) ≤ℚ start_or end ps) × (start_or end ps ≤ℚ end)
 next_stands z end [] A h = (A.sizes.window, A.some, le_refl end)
 next_stands z end (q ∷ qs) A h = let Q = h.0 in (Q.start, Q.nonneg, le_of_lt Q.before)
 
-pub level_value : (z : Sizes) (end : ℚ) (ps : List Piece) (v : ℚ) → AreLimited z end → EachOperand z end ps → IsLevel end ps v → OperandValue z v
+pub level_value : (z : Sizes) (end : ℚ) (ps : List Piece) (v : ℚ) → AreLimited z end → EachOperand z end ps → IsLevel end ps v → IsGridValue z v
 level_value z end [] v A h k = absurd k
 level_value z end (p ∷ ps) v A h (inl e) = value_of z p.at v e (stands_operand_value z p.at h.0.at)
 level_value z end (p ∷ ps) v A h (inr (inl e)) =
@@ -179,7 +180,7 @@ made_room z end ps q A O low m =
     let (v, e, k) = m.at in
     record {
       time = T;
-      at = operand_value_room z end T.grid q.at T.base (subst (OperandValueAt z) (sym e) (level_value z end ps v A O k));
+      at = operand_value_room z end T.grid q.at T.base (subst (GridValue z) (sym e) (level_value z end ps v A O k));
       line = made_line z end ps q.line A O m.line;
     }
 

@@ -33,7 +33,7 @@ use Rattle.upp_limits.proofs.NarrowSizes.{small_sum}
 use Rattle.upp_limits.proofs.Stands.{sizes_stand}
 use Rattle.upp_curve.proofs.Steady.{steady_rule}
 use Rattle.upp_normal.proofs.UnrolledPieces.{operand_pieces, unroll_starts, unroll_before}
-use Rattle.upp_normal.proofs.UnrollSteps.{time_whole, time_within}
+use Rattle.upp_normal.proofs.UnrollSteps.{time_within}
 use Rattle.curve_call.specs.declared.frame.Frame.{Frame}
 use Rattle.curve_call.specs.declared.windows.CallWindow.{CallWindow}
 use Rattle.curve_call.specs.CallWindows.{IsWindow as IsCallWindow}
@@ -47,6 +47,7 @@ use Rattle.curve_running.specs.Periods.{IsSupremumCall}
 use Rattle.curve_running.proofs.Covers.{no_fall}
 use Rattle.curve_running.proofs.LevelSizes.{scan_fits}
 use Rattle.affine_segment.proofs.PieceIn.{read_is}
+use Rattle.upp_normal.proofs.StretchSizes.{time_whole}
 
 pub record RunFacts (f : SpecCurve) (start period end : ℚ) (z : Sizes) : Type 0 where
   pub curve : IsCurve f

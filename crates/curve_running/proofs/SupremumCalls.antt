@@ -39,7 +39,7 @@ use Rattle.upp_limits.proofs.PieceLists.{starts_nonneg}
 use Rattle.upp_curve.proofs.Repeats.{repeated_first}
 use Rattle.upp_curve.proofs.RisingCurves.{GoesOn, finite_pieces_by_tail, infinite_is_not_finite}
 use Rattle.upp_curve.proofs.Steady.{steady_rule}
-use Rattle.upp_normal.proofs.AnswerRoom.{tight, OperandValue, operand_line_fits, operand_line_value, values_fit}
+use Rattle.upp_normal.proofs.AnswerRoom.{tight, operand_line_fits, operand_line_value, values_fit}
 use Rattle.curve_call.proofs.CurveRises.{IsRise, rise_is, own_whole}
 use Rattle.curve_running.specs.Scans.{IsWindow, IsSupremumIn, Until}
 use Rattle.curve_running.specs.Between.{FitsAtBoth, IsLevelBetween}
@@ -47,6 +47,7 @@ use Rattle.curve_running.specs.Periods.{CoverFits, IsFirstPeriod, IsCovering, Is
 use Rattle.curve_running.proofs.LevelSizes.{EachOperand, level_value, line_operand, scan_fits}
 use Rattle.upp_normal.proofs.AnswerRoom.{many_more}
 use Rattle.curve_running.proofs.Covers.{no_fall, least_by_cover, covered_by_cover, least_flat, least_from_zero}
+use Rattle.upp_normal.specs.Ahead.{IsGridValue}
 
 -- sizes hold a shorter window
 pub limited_less : (z : Sizes) (end e : ℚ) → AreLimited z end → Whole z.dt e → zero_q ≤ℚ e → e ≤ℚ end → AreLimited z e
@@ -191,14 +192,14 @@ both_fit : (z : Sizes) (end from to : ℚ) (ps : List Piece) → AreLimited z en
 both_fit z end from to ps A O w low early v soon late l has =
     let L = line_operand z end ps l O has in (operand_line_fits z end from (Some l) A L w low early, operand_line_fits z end to (Some l) A L v soon late)
 
-line_level : (z : Sizes) (end x v : ℚ) (l : Line) → AreLimited z end → OperandLine z l → Whole z.dt x → zero_q ≤ℚ x → x ≤ℚ end → v ≡ line_at l x → OperandValue z v
-line_level z end x v l A L w low early e = subst (OperandValue z) (sym e) (operand_line_value z end x (Some l) A L w low early)
+line_level : (z : Sizes) (end x v : ℚ) (l : Line) → AreLimited z end → OperandLine z l → Whole z.dt x → zero_q ≤ℚ x → x ≤ℚ end → v ≡ line_at l x → IsGridValue z v
+line_level z end x v l A L w low early e = subst (IsGridValue z) (sym e) (operand_line_value z end x (Some l) A L w low early)
 
 between_value : (z : Sizes) (end from to : ℚ) (ps : List Piece) (v : ℚ) → AreLimited z end → EachOperand z end ps → Whole z.dt from → zero_q ≤ℚ from → from ≤ℚ end
     → Whole z.dt to → zero_q ≤ℚ to
-    → to ≤ℚ end → IsLevelBetween end from to ps v → OperandValue z v
+    → to ≤ℚ end → IsLevelBetween end from to ps v → IsGridValue z v
 between_value z end from to ps v A O w low early x soon late (inl e) =
-    subst (OperandValue z) (sym e)
+    subst (IsGridValue z) (sym e)
     record {
       whole = whole_int (grid_of z) (pos 0);
       within = within_nonneg (times_largest 3 z) zero_q (le_refl zero_q)
@@ -208,7 +209,7 @@ between_value z end from to ps v A O w low early x soon late (inr (inl k)) = lev
 between_value z end from to ps v A O w low early x soon late (inr (inr (l, has, inl e))) = line_level z end from v l A (line_operand z end ps l O has) w low early e
 between_value z end from to ps v A O w low early x soon late (inr (inr (l, has, inr e))) = line_level z end to v l A (line_operand z end ps l O has) x soon late e
 
-cover_fits : (z : Sizes) (end v w rise : ℚ) → AreLimited z end → OperandValue z v → OperandValue z w → Whole (grid_of z) rise → Within (times_largest 3 z) rise
+cover_fits : (z : Sizes) (end v w rise : ℚ) → AreLimited z end → IsGridValue z v → IsGridValue z w → Whole (grid_of z) rise → Within (times_largest 3 z) rise
     → zero_q <ℚ rise → CoverFits v w rise
 cover_fits z end v w rise A V W whole within rises = record {
   gap = (values_fit z end v w A V W).1;

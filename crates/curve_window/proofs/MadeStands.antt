@@ -20,7 +20,7 @@ use Rattle.affine_segment.specs.Pieces.{Each}
 use Rattle.upp_normal.specs.Room.{TimeHasRoom, ValueHasRoom, LineHasRoom, PieceHasRoom}
 use Rattle.upp_normal.specs.Operand.{AreLimited, OperandLineAt, answer_room}
 use Rattle.upp_normal.specs.Bends.{ValueOn, LineOn, NumbersOn, SlopeTurns, BendAfter, OnlyBend}
-use Rattle.upp_normal.proofs.AnswerRoom.{OperandValue, OperandValueAt, AnswerValue, AnswerLine, IsCrossing, values_fit, operand_lines_fit, crossing_not_wide, crossing_of_lines, crossing_room, line_fits_in, line_in_room, line_value_in, operand_line, difference_of_lines, value_difference_stands, answer_value_room, room_at_start, more_largest}
+use Rattle.upp_normal.proofs.AnswerRoom.{AnswerValue, AnswerLine, IsCrossing, values_fit, operand_lines_fit, crossing_not_wide, crossing_of_lines, crossing_room, line_fits_in, line_in_room, line_value_in, operand_line, difference_of_lines, value_difference_stands, answer_value_room, room_at_start, more_largest}
 use Rattle.curve_window.specs.declared.stretch.Both.{Both}
 use Rattle.curve_window.specs.declared.made.Made.{Made}
 use Rattle.curve_window.specs.declared.made.Made.TheVariants.{Lower, Upper, Excess}
@@ -28,6 +28,7 @@ use Rattle.curve_window.specs.Stretches.{EachBoth}
 use Rattle.curve_window.specs.Lies.{CrossFits, MeetsAt, CrossesAt, LiesBy}
 use Rattle.curve_window.specs.Made.{made_value, made_line, made_rises, zero_line, line_apart, first_piece, turn_piece, parts_by, listed, next_start, AreMade, ValueApartFits, LineApartFits, StretchMadeFits}
 use Rattle.curve_window.proofs.OperandWindows.{OperandBoth}
+use Rattle.upp_normal.specs.Ahead.{GridValue, IsGridValue}
 
 -- ---- the numbers of what is made
 abbrev pub AnswerValueAt : Sizes → ℕ → Ext → Type 0
@@ -38,7 +39,7 @@ abbrev pub AnswerLineAt : Sizes → ℕ → Option Line → Type 0
 AnswerLineAt z k None = Unit {0}
 AnswerLineAt z k (Some l) = AnswerLine z k l
 
-wider_value : (z : Sizes) (v : ℚ) → OperandValue z v → AnswerValue z 6 v
+wider_value : (z : Sizes) (v : ℚ) → IsGridValue z v → AnswerValue z 6 v
 wider_value z v V = record { whole = V.whole; within = within_weaken (times_largest 3 z) (times_largest 6 z) v (more_largest z 3 6 (omega arith)) V.within }
 
 wider_line : (z : Sizes) (l : Option Line) → OperandLineAt z l → AnswerLineAt z 4 l
@@ -65,7 +66,7 @@ one_of : (z : Sizes) (k : ℕ) (x y v : ℚ) → (v ≡ x) ⊎ (v ≡ y) → Ans
 one_of z k x y v (inl e) X Y = subst (AnswerValue z k) (sym e) X
 one_of z k x y v (inr e) X Y = subst (AnswerValue z k) (sym e) Y
 
-pub made_value_stands : (z : Sizes) (k : Made) (v w : Ext) → OperandValueAt z v → OperandValueAt z w → AnswerValueAt z 6 (made_value k v w)
+pub made_value_stands : (z : Sizes) (k : Made) (v w : Ext) → GridValue z v → GridValue z w → AnswerValueAt z 6 (made_value k v w)
 made_value_stands z Lower Inf Inf V W = tt
 made_value_stands z Lower Inf (Fin w) V W = wider_value z w W
 made_value_stands z Lower (Fin v) Inf V W = wider_value z v V
@@ -111,7 +112,7 @@ slopes_differ : (rises : Bool) (l m : Line) (x : ℚ) → MeetsAt rises l m x �
 slopes_differ true l m x M e = lt_irrefl m.slope (subst (λ s. m.slope <ℚ s) e M.0)
 slopes_differ false l m x M e = lt_irrefl m.slope (subst (λ s. s <ℚ m.slope) e M.0)
 
-they_meet : (rises : Bool) (l m : Line) (x : ℚ) → MeetsAt rises l m x → line_at l x ≡ line_at m x
+pub they_meet : (rises : Bool) (l m : Line) (x : ℚ) → MeetsAt rises l m x → line_at l x ≡ line_at m x
 they_meet true l m x M = M.1
 they_meet false l m x M = M.1
 
@@ -124,7 +125,7 @@ turn_time : (z : Sizes) (end x : ℚ) (rises : Bool) (b : Both) → AreLimited z
 turn_time z end x rises b A O C past = crossing_room z end x A (is_crossing z end x rises b.left.line b.right.line A O.left_line O.right_line C) (le_trans O.time.nonneg (le_of_lt past))
 
 -- ---- the steps fit
-value_apart_fits : (z : Sizes) (end : ℚ) (v w : Ext) → AreLimited z end → OperandValueAt z v → OperandValueAt z w → ValueApartFits v w
+value_apart_fits : (z : Sizes) (end : ℚ) (v w : Ext) → AreLimited z end → GridValue z v → GridValue z w → ValueApartFits v w
 value_apart_fits z end Inf w A V W = tt
 value_apart_fits z end (Fin v) Inf A V W = tt
 value_apart_fits z end (Fin v) (Fin w) A V W = (values_fit z end v w A V W).1

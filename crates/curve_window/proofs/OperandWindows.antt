@@ -17,25 +17,20 @@ use Rattle.upp_normal.specs.Operand.{answer_room, AreLimited, OperandLineAt, Ope
 use Rattle.affine_segment.proofs.PieceIn.{value_past, value_at_start}
 use Rattle.affine_segment.proofs.PieceOrder.{each_map}
 use Rattle.upp_normal.proofs.NormaliseRoomy.{each_in, found_early}
-use Rattle.upp_normal.proofs.AnswerRoom.{OperandValueAt, stands_operand_value, operand_line_value, operand_line_fits, values_fit, operand_lines_fit, sum_of_lines, line_in_room, room_at_start, value_sum_stands, answer_value_room}
+use Rattle.upp_normal.proofs.AnswerRoom.{stands_operand_value, operand_line_value, operand_line_fits, values_fit, operand_lines_fit, sum_of_lines, line_in_room, room_at_start, value_sum_stands, answer_value_room}
 use Rattle.upp_normal.specs.Room.{ValueHasRoom, LineHasRoom, PieceHasRoom}
 use Prim.Native.Nat.{◌∣◌}
 use Rattle.curve_window.specs.declared.stretch.Both.{Both}
 use Rattle.curve_window.specs.Stretches.{IsBothOf, CutsFit}
 use Rattle.curve_window.specs.Pointwise.{sum_line, ValueSumFits, LineSumFits, SumsFit, IsSumPiece}
+use Rattle.upp_normal.specs.Ahead.{GridValue, IsTimeIn}
 
--- a time at which some operand's piece may start
-pub record StartTime (z : Sizes) (end x : ℚ) : Type 0 where
-  pub whole : Whole z.dt x
-  pub nonneg : int (pos 0) ≤ℚ x
-  pub before : x <ℚ end
-
-start_time : (z : Sizes) (end x : ℚ) (ps : List Piece) → Each (OperandPiece z end) ps → HasStart x ps → StartTime z end x
+start_time : (z : Sizes) (end x : ℚ) (ps : List Piece) → Each (OperandPiece z end) ps → HasStart x ps → IsTimeIn z end x
 start_time z end x [] E h = absurd h
-start_time z end x (p ∷ ps) E (inl e) = subst (StartTime z end) e record { whole = E.0.start; nonneg = E.0.nonneg; before = E.0.before }
+start_time z end x (p ∷ ps) E (inl e) = subst (IsTimeIn z end) e record { whole = E.0.start; nonneg = E.0.nonneg; before = E.0.before }
 start_time z end x (p ∷ ps) E (inr h) = start_time z end x ps E.1 h
 
-pub both_time : (z : Sizes) (end x : ℚ) (f g : List Piece) → OperandPieces z end f → OperandPieces z end g → HasStart x f ⊎ HasStart x g → StartTime z end x
+pub both_time : (z : Sizes) (end x : ℚ) (f g : List Piece) → OperandPieces z end f → OperandPieces z end g → HasStart x f ⊎ HasStart x g → IsTimeIn z end x
 both_time z end x f g F G (inl h) = start_time z end x f F.each h
 both_time z end x f g F G (inr h) = start_time z end x g G.each h
 
@@ -44,7 +39,7 @@ pub operand_line_in : (z : Sizes) (end x : ℚ) (ps : List Piece) → OperandPie
 operand_line_in z end x [] P = tt
 operand_line_in z end x (p ∷ ps) P = each_in (λ q. OperandLineAt z q.line) p ps x P.each.0.line (each_map (OperandPiece z end) (λ q. OperandLineAt z q.line) (λ q h. h.line) ps P.each.1)
 
-pub operand_read : (z : Sizes) (end x : ℚ) (ps : List Piece) → AreLimited z end → OperandPieces z end ps → StartTime z end x → OperandValueAt z (read ps x)
+pub operand_read : (z : Sizes) (end x : ℚ) (ps : List Piece) → AreLimited z end → OperandPieces z end ps → IsTimeIn z end x → GridValue z (read ps x)
 unfolding read
 operand_read z end x [] A P T = tt
 operand_read z end x (p ∷ ps) A P T =
@@ -55,8 +50,8 @@ operand_read z end x (p ∷ ps) A P T =
     elim (le_or_lt x q.x) [
       | inl k ↦
           let same : q.x ≡ x = antisym (early, k) in
-          subst (OperandValueAt z) (sym (value_at_start q) ∙ ap (piece_value q) same) (stands_operand_value z q.at Q.at)
-      | inr k ↦ subst (OperandValueAt z) (sym (value_past q x k)) (operand_line_value z end x q.line A Q.line T.whole T.nonneg (le_of_lt T.before))
+          subst (GridValue z) (sym (value_at_start q) ∙ ap (piece_value q) same) (stands_operand_value z q.at Q.at)
+      | inr k ↦ subst (GridValue z) (sym (value_past q x k)) (operand_line_value z end x q.line A Q.line T.whole T.nonneg (le_of_lt T.before))
     ]
 
 -- ---- the cuts
@@ -69,9 +64,9 @@ cuts_fit z end f g A F G = record {
 -- ---- a stretch of both
 pub record OperandBoth (z : Sizes) (end : ℚ) (b : Both) : Type 0 where
   pub together : b.left.x ≡ b.right.x
-  pub time : StartTime z end b.left.x
-  pub left : OperandValueAt z b.left.at
-  pub right : OperandValueAt z b.right.at
+  pub time : IsTimeIn z end b.left.x
+  pub left : GridValue z b.left.at
+  pub right : GridValue z b.right.at
   pub left_line : OperandLineAt z b.left.line
   pub right_line : OperandLineAt z b.right.line
 
@@ -81,14 +76,14 @@ operand_both z end f g b A F G B =
     record {
       together = B.together;
       time = T;
-      left = subst (OperandValueAt z) (sym B.left.at) (operand_read z end b.left.x f A F T);
-      right = subst (OperandValueAt z) (sym B.right.at) (operand_read z end b.right.x g A G (subst (StartTime z end) B.together T));
+      left = subst (GridValue z) (sym B.left.at) (operand_read z end b.left.x f A F T);
+      right = subst (GridValue z) (sym B.right.at) (operand_read z end b.right.x g A G (subst (IsTimeIn z end) B.together T));
       left_line = subst (OperandLineAt z) (sym B.left.line) (operand_line_in z end b.left.x f F);
       right_line = subst (OperandLineAt z) (sym B.right.line) (operand_line_in z end b.right.x g G);
     }
 
 -- ---- sums
-value_sum : (z : Sizes) (end : ℚ) (v w : Ext) → AreLimited z end → OperandValueAt z v → OperandValueAt z w → ValueSumFits v w
+value_sum : (z : Sizes) (end : ℚ) (v w : Ext) → AreLimited z end → GridValue z v → GridValue z w → ValueSumFits v w
 value_sum z end Inf w A V W = tt
 value_sum z end (Fin v) Inf A V W = tt
 value_sum z end (Fin v) (Fin w) A V W = (values_fit z end v w A V W).0
@@ -104,7 +99,7 @@ sums_fit z end f g A F G b B =
     record { value = value_sum z end b.left.at b.right.at A O.left O.right; line = line_sum z end b.left.line b.right.line A O.left_line O.right_line }
 
 -- ---- the pieces of a sum have room
-value_sum_room : (z : Sizes) (end : ℚ) (grid : ℕ) (v w : Ext) → z.dv * z.dt ∣ grid → OperandValueAt z v → OperandValueAt z w → ValueHasRoom (answer_room z end) 1 grid (v +ₑ w)
+value_sum_room : (z : Sizes) (end : ℚ) (grid : ℕ) (v w : Ext) → z.dv * z.dt ∣ grid → GridValue z v → GridValue z w → ValueHasRoom (answer_room z end) 1 grid (v +ₑ w)
 value_sum_room z end grid Inf w base V W = tt
 value_sum_room z end grid (Fin v) Inf base V W = tt
 value_sum_room z end grid (Fin v) (Fin w) base V W = answer_value_room z end 6 grid (v +ℚ w) (omega arith) base (value_sum_stands z v w V W)
@@ -114,7 +109,7 @@ line_sum_room z end None m A L M = tt
 line_sum_room z end (Some l) None A L M = tt
 line_sum_room z end (Some l) (Some m) A L M = line_in_room z end 4 _ A (omega arith) (sum_of_lines z l m L M)
 
-value_sum_on : (z : Sizes) (v w : Ext) → OperandValueAt z v → OperandValueAt z w → ValueOn (grid_of z) (v +ₑ w)
+value_sum_on : (z : Sizes) (v w : Ext) → GridValue z v → GridValue z w → ValueOn (grid_of z) (v +ₑ w)
 value_sum_on z Inf w V W = tt
 value_sum_on z (Fin v) Inf V W = tt
 value_sum_on z (Fin v) (Fin w) V W = (value_sum_stands z v w V W).whole
@@ -127,7 +122,7 @@ line_sum_on z (Some l) (Some m) L M = let S = sum_of_lines z l m L M in (S.icept
 -- a piece of an answer that starts where one of an operand may: it has room, and stands on the grids
 pub record StartsWithRoom (z : Sizes) (end : ℚ) (p : Piece) : Type 0 where
   pub room : PieceHasRoom (answer_room z end) 1 p
-  pub time : StartTime z end p.x
+  pub time : IsTimeIn z end p.x
   pub on : PieceOn z.dt z.ds (grid_of z) p
 
 pub sum_room : (z : Sizes) (end : ℚ) (f g : List Piece) (p : Piece) → AreLimited z end → OperandPieces z end f → OperandPieces z end g → IsSumPiece f g p → StartsWithRoom z end p

@@ -36,7 +36,7 @@ use Rattle.upp_limits.proofs.NarrowSizes.{slope_time_divides}
 use Rattle.upp_normal.proofs.NormaliseForm.{each_part}
 use Rattle.upp_normal.proofs.NormaliseGrids.{merge_of}
 use Rattle.affine_segment.proofs.PieceOrder.{each_map}
-use Rattle.curve_window.proofs.TailGrids.{TailOf}
+use Rattle.curve_window.proofs.TailGrids.{TailOf, grids_nest}
 use Rattle.element_envelope.specs.SumWindows.{SumValueAt, SumLineAt, SumPiece, SumWindow}
 
 -- ---- where a time lies in a grid
@@ -450,9 +450,6 @@ same_grids T D f g from d c same F bent =
 same_repeated : (f g : ℚ → Ext) (from d c t : ℚ) → ((t : ℚ) → f t ≡ g t) → repeated f from d c t ≡ repeated g from d c t
 unfolding repeated
 same_repeated f g from d c t same = ap (λ v. v +ₑ Fin (int (pos (periods from d t)) *ℚ c)) (same (t -ℚ int (pos (periods from d t)) *ℚ d))
-
-grids_nest : (z : Sizes) → z.dt * z.ds ∣ grid_of z
-grids_nest z = subst (λ n. n ∣ grid_of z) (nat_comm z.ds z.dt) (slope_time_divides z)
 
 -- the periods of what repeats them stand on the grids
 pub sums_on_grids : (z : Sizes) (end from period rise : ℚ) (ps : List Piece) → AreLimited z end → SumWindow z end ps → Arches z.dt end (read ps) → TailOf z end from period rise

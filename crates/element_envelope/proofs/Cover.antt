@@ -15,10 +15,11 @@ use Rattle.affine_segment.specs.Values.{line_value}
 use Rattle.affine_segment.specs.Elements.{IsProper, Covers, level}
 use Rattle.affine_segment.specs.Reading.{piece_value, read}
 use Rattle.affine_segment.specs.Pieces.{RisesFrom, StartsAtZero}
-use Rattle.affine_segment.proofs.PieceIn.{value_past, piece_in_stop, piece_in_go, piece_in_end}
+use Rattle.affine_segment.proofs.PieceIn.{value_past, piece_in_stop, piece_in_go, piece_in_end, read_go, read_one, read_stop, value_by}
 use Rattle.element_envelope.specs.PieceElements.{point_of, segment_of, elements_of, StartBefore, Among, ElementAt}
 use Rattle.element_envelope.specs.ConvolutionLaws.{ElementsCover}
 use Rattle.element_envelope.proofs.Members.{among_left, among_right, among_cases}
+use Rattle.upp_normal.proofs.NormaliseGrids.{some_same}
 
 -- ---- one piece
 abbrev pub head : ℚ → Ext → Option Line → Ext → List Element
@@ -46,11 +47,6 @@ head_line x at line l next e = subst (λ z. Among (Open x next l) (head x at z n
     go Inf = inl refl
     go (Fin v) = inr (inl refl)
 
--- read at its start
-pub value_here : (p : Piece) (t : ℚ) → t ≤ℚ p.x → piece_value p t ≡ p.at
-unfolding piece_value
-value_here p t h = ap (λ b. cond b p.at (line_value p.line t)) (le_q_out t p.x h)
-
 -- where an element is, and what is read there
 record Found (e : Element) (x t : ℚ) (next : Ext) (value : Ext) : Type 0 where
   late : x ≤ℚ t
@@ -69,7 +65,7 @@ head_reads p next t e room h c = elim (head_cases p.x p.at p.line next e h) [
       subst (λ z. Found z p.x t next (piece_value p t)) (sym is) record {
         late = subst (λ z. p.x ≤ℚ z) (sym here) (le_refl p.x);
         early = subst (λ z. Fin z <ₑ next) (sym here) room;
-        reads = value_here p t (subst (λ z. z ≤ℚ p.x) (sym here) (le_refl p.x)) ∙ at;
+        reads = value_by p t (subst (λ z. z ≤ℚ p.x) (sym here) (le_refl p.x)) ∙ at;
       }
   | inr k ↦
       let (l, line, is) = k in
@@ -92,15 +88,11 @@ line_found (Some l) t v e = (l, refl)
 head_found : (p : Piece) (next : Ext) (t v : ℚ) → p.x ≤ℚ t → Fin t <ₑ next → piece_value p t ≡ Fin v
     → (e : Element) × Among e (head p.x p.at p.line next) × Covers e t
 head_found p next t v late early is = elim (le_or_lt t p.x) [
-  | inl h ↦ (Point p.x v, head_point p.x v p.at p.line next (sym (value_here p t h) ∙ is), antisym (h, late))
+  | inl h ↦ (Point p.x v, head_point p.x v p.at p.line next (sym (value_by p t h) ∙ is), antisym (h, late))
   | inr h ↦
       let (l, line) = line_found p.line t v (sym (value_past p t h) ∙ is) in
       (Open p.x next l, head_line p.x p.at p.line l next line, record { past = h; before = early })
 ]
-
--- no time is one of two
-same_line : (l m : Line) → Some l ≡ Some m → l ≡ m
-same_line l m e = cc
 
 head_one : (p : Piece) (next : Ext) (t : ℚ) (d e : Element) → Among d (head p.x p.at p.line next) → Among e (head p.x p.at p.line next)
     → Covers d t → Covers e t → d ≡ e
@@ -117,7 +109,7 @@ head_one p next t d e h k c b = go (head_cases p.x p.at p.line next d h) (head_c
         absurd (here v (covered_at d (Point p.x v) t is c) ((covered_at e (Open p.x next m) t is' b).past))
     go (inr (l, line, is)) (inl (w, at, is')) =
         absurd (here w (covered_at e (Point p.x w) t is' b) ((covered_at d (Open p.x next l) t is c).past))
-    go (inr (l, line, is)) (inr (m, line', is')) = is ∙ ap (λ z. Open p.x next z) (same_line l m (sym line ∙ line')) ∙ sym is'
+    go (inr (l, line, is)) (inr (m, line', is')) = is ∙ ap (λ z. Open p.x next z) (some_same l m (sym line ∙ line')) ∙ sym is'
 
 -- its segment starts before its end
 head_proper : (p : Piece) (next : Ext) (e : Element) → Fin p.x <ₑ next → Among e (head p.x p.at p.line next) → IsProper e
@@ -127,17 +119,6 @@ head_proper p next e room h = elim (head_cases p.x p.at p.line next e h) [
 ]
 
 -- ---- pieces
-pub read_one : (p : Piece) (t : ℚ) → read (p ∷ []) t ≡ piece_value p t
-unfolding read
-read_one p t = ap (λ q. piece_value q t) (piece_in_end p t)
-
-pub read_stop : (p q : Piece) (qs : List Piece) (t : ℚ) → t <ℚ q.x → read (p ∷ q ∷ qs) t ≡ piece_value p t
-unfolding read
-read_stop p q qs t h = ap (λ z. piece_value z t) (piece_in_stop p q qs t h)
-
-pub read_go : (p q : Piece) (qs : List Piece) (t : ℚ) → q.x ≤ℚ t → read (p ∷ q ∷ qs) t ≡ read (q ∷ qs) t
-unfolding read
-read_go p q qs t h = ap (λ z. piece_value z t) (piece_in_go p q qs t h)
 
 list_reads : (p : Piece) (ps : List Piece) (end : Ext) (t : ℚ) (e : Element) → RisesFrom p.x ps → StartBefore end (p ∷ ps)
     → Among e (elements_of (p ∷ ps) end) → Covers e t → Found e p.x t end (read (p ∷ ps) t)

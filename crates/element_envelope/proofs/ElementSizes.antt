@@ -25,16 +25,12 @@ use Rattle.upp_limits.specs.Limits.{Sizes}
 use Rattle.upp_limits.specs.Sized.{IsSlope, grid_of, times_largest}
 use Rattle.upp_normal.specs.Ahead.{IsGridValue}
 use Rattle.upp_normal.specs.Operand.{AreLimited, OperandLine}
-use Rattle.upp_normal.proofs.AnswerRoom.{OperandValue, operand_line_value, values_fit, value_sum_stands, more_largest}
+use Rattle.upp_normal.proofs.AnswerRoom.{operand_line_value, values_fit, value_sum_stands, more_largest, many_more, wide_narrow}
 use Rattle.upp_limits.proofs.NarrowSizes.{IsNarrow, narrow_gauge, small_number, small_sum, run_whole, run_within}
 use Rattle.element_envelope.specs.ElementRoom.{WindowTime, WindowEnd, OperandPoint, OperandSegment, OperandElement, SumTime, SumEnd, SumValue, SumLine, SumElement, SumJoined}
+use Rattle.upp_normal.proofs.StretchSizes.{end_at_most}
 
 -- ---- the sizes
-narrow : (z : Sizes) (end : ℚ) → AreLimited z end → IsNarrow z (2 ^ 122)
-narrow z end A = narrow_gauge z end A.sizes (let g = A.gauge in omega (arith, g))
-
-pub many_more : (z : Sizes) (k j : ℕ) → times_largest k z +ℚ times_largest j z ≡ times_largest (k + j) z
-many_more z k j = sym (add_mul (int (pos k)) (int (pos j)) (int (pos z.largest))) ∙ ap (λ x. x *ℚ int (pos z.largest)) (int_add (pos k) (pos j))
 
 -- sums on the grid of sums
 pub sum_within : (z : Sizes) (k j : ℕ) (p q : ℚ) → Within (times_largest k z) p → Within (times_largest j z) q → Within (times_largest (k + j) z) (p +ℚ q)
@@ -54,35 +50,31 @@ rise_within : (z : Sizes) (end s x : ℚ) → AreLimited z end → IsSlope z s �
 rise_within z end s x A h t = subst (λ m. Within m (s *ℚ x)) (one_largest z) (run_within z end s x A.sizes h t.nonneg t.early)
 
 -- ---- values of operands' lines
-line_value_stands : (z : Sizes) (end : ℚ) (l : Line) (x : ℚ) → AreLimited z end → OperandLine z l → WindowTime z end x → OperandValue z (line_at l x)
+line_value_stands : (z : Sizes) (end : ℚ) (l : Line) (x : ℚ) → AreLimited z end → OperandLine z l → WindowTime z end x → IsGridValue z (line_at l x)
 line_value_stands z end l x A L t = operand_line_value z end x (Some l) A L t.whole t.nonneg t.early
 
-point_value : (z : Sizes) (v : ℚ) → IsGridValue z v → OperandValue z v
+point_value : (z : Sizes) (v : ℚ) → IsGridValue z v → IsGridValue z v
 point_value z v h = record { whole = h.whole; within = h.within }
 
 value_not_wide : (z : Sizes) (end : ℚ) (l : Line) (x : ℚ) (w : Wide) → AreLimited z end → OperandLine z l → WindowTime z end x → ¬ (IsWideValue l x w)
 value_not_wide z end l x w A L t (inl h) =
-    h.1 (small_number z end 1 (l.slope *ℚ x) A.sizes (narrow z end A) (omega arith) (rise_whole z end l.slope x L.slope t) (rise_within z end l.slope x A L.slope t))
+    h.1 (small_number z end 1 (l.slope *ℚ x) A.sizes (wide_narrow z end A) (omega arith) (rise_whole z end l.slope x L.slope t) (rise_within z end l.slope x A L.slope t))
 value_not_wide z end l x w A L t (inr h) =
-    h.1 (small_sum z end 2 1 l.icept (l.slope *ℚ x) A.sizes (narrow z end A) (omega arith) L.icept (rise_whole z end l.slope x L.slope t) L.within (rise_within z end l.slope x A L.slope t))
+    h.1 (small_sum z end 2 1 l.icept (l.slope *ℚ x) A.sizes (wide_narrow z end A) (omega arith) L.icept (rise_whole z end l.slope x L.slope t) L.within (rise_within z end l.slope x A L.slope t))
 
-sum_not_wide : (z : Sizes) (end v u : ℚ) (w : Wide) → AreLimited z end → OperandValue z v → OperandValue z u → ¬ (IsWideSum v u w)
+sum_not_wide : (z : Sizes) (end v u : ℚ) (w : Wide) → AreLimited z end → IsGridValue z v → IsGridValue z u → ¬ (IsWideSum v u w)
 sum_not_wide z end v u w A V U h = h.1 (values_fit z end v u A V U).0
 
-sum_stands : (z : Sizes) (v u : ℚ) → OperandValue z v → OperandValue z u → SumValue z (v +ℚ u)
+sum_stands : (z : Sizes) (v u : ℚ) → IsGridValue z v → IsGridValue z u → SumValue z (v +ℚ u)
 sum_stands z v u V U = let s = value_sum_stands z v u V U in record { whole = s.whole; within = s.within }
 
 -- ---- times
 -- the window's end is at most the largest value
-end_least : (z : Sizes) (end : ℚ) → AreLimited z end → end ≤ℚ int (pos z.largest)
-end_least z end A =
-    le_trans (subst (λ y. y ≤ℚ int (pos z.steepness) *ℚ end) (mul_comm (int (pos 1)) end ∙ mul_one end) (mul_le_mul_right end A.some (nat_le 1 z.steepness A.sizes.steepness)))
-    A.sizes.reach
 
 time_sum_fits : (z : Sizes) (end x y : ℚ) → AreLimited z end → WindowTime z end x → WindowTime z end y → SumFits x y
 time_sum_fits z end x y A X Y =
     let V = int (pos z.largest) in
-    let n = (narrow z end A).times in
+    let n = (wide_narrow z end A).times in
     let v = A.sizes.largest in
     let one : 1 * z.dt ≤ z.largest * z.dt = mul-le-mul_right z.dt v in
     let e : (V +ℚ V) *ℚ int (pos z.dt) ≡ int (pos ((z.largest + z.largest) * z.dt)) =
@@ -92,7 +84,7 @@ time_sum_fits z end x y A X Y =
     X.whole Y.whole (in_window x X) (in_window y Y)
   where
     in_window : (t : ℚ) → WindowTime z end t → Within (int (pos z.largest)) t
-    in_window t T = within_nonneg (int (pos z.largest)) t T.nonneg (le_trans T.early (end_least z end A))
+    in_window t T = within_nonneg (int (pos z.largest)) t T.nonneg (le_trans T.early (end_at_most z end A))
 
 time_not_wide : (z : Sizes) (end x y : ℚ) (w : Wide) → AreLimited z end → WindowTime z end x → WindowTime z end y → ¬ (IsWideSum x y w)
 time_not_wide z end x y w A X Y h = h.1 (time_sum_fits z end x y A X Y)
@@ -136,10 +128,10 @@ through_not_wide : (z : Sizes) (end s x y v : ℚ) (w : Wide) → AreLimited z e
     → ¬ (IsWideThrough s (x +ℚ y) v w)
 through_not_wide z end s x y v w A h X Y V (inl k) =
     let r = long_rise z end s x y A h X Y in
-    k.1 (small_number z end 2 (s *ℚ (x +ℚ y)) A.sizes (narrow z end A) (omega arith) r.0 r.1)
+    k.1 (small_number z end 2 (s *ℚ (x +ℚ y)) A.sizes (wide_narrow z end A) (omega arith) r.0 r.1)
 through_not_wide z end s x y v w A h X Y V (inr k) =
     let r = long_rise z end s x y A h X Y in
-    k.1 (small_sum z end 6 2 v (neg_ℚ (s *ℚ (x +ℚ y))) A.sizes (narrow z end A) (omega arith) V.whole (whole_neg (grid_of z) (s *ℚ (x +ℚ y)) r.0) V.within (within_neg (times_largest 2 z) (s *ℚ (x +ℚ y)) r.1))
+    k.1 (small_sum z end 6 2 v (neg_ℚ (s *ℚ (x +ℚ y))) A.sizes (wide_narrow z end A) (omega arith) V.whole (whole_neg (grid_of z) (s *ℚ (x +ℚ y)) r.0) V.within (within_neg (times_largest 2 z) (s *ℚ (x +ℚ y)) r.1))
 
 -- where one line is at x and another at y
 corner_not_wide : (z : Sizes) (end : ℚ) (a : Line) (x : ℚ) (b : Line) (y s : ℚ) (w : Wide) → AreLimited z end → OperandLine z a → OperandLine z b → IsSlope z s

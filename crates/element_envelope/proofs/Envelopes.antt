@@ -87,7 +87,7 @@ right_parts xs ys zs t v w h k =
 
 -- ---- pairs that start late
 -- an element is from its start on
-from_start : (e : Element) (t : ℚ) → Covers e t → start_of e ≤ℚ t
+pub from_start : (e : Element) (t : ℚ) → Covers e t → start_of e ≤ℚ t
 from_start (Point x v) t h = subst (λ z. x ≤ℚ z) (sym h) (le_refl x)
 from_start (Open from to line) t h = le_of_lt h.past
 

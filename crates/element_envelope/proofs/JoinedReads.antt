@@ -18,13 +18,12 @@ use Rattle.affine_segment.specs.Elements.{start_of, joined_value, AreAdjoined}
 use Rattle.affine_segment.proofs.ElementReading.{joined_read}
 use Rattle.affine_segment.specs.Reading.{piece_value, read}
 use Rattle.affine_segment.specs.Pieces.{RisesFrom, StartsAtZero}
-use Rattle.affine_segment.proofs.PieceIn.{value_past}
+use Rattle.affine_segment.proofs.PieceIn.{value_past, read_go, read_one, read_stop, value_by}
 use Rattle.element_envelope.specs.JoinedWindows.{nothing_at, after_end, part_pieces, joined_list, lead_of, window_of, IsWindowOf}
-use Rattle.element_envelope.proofs.Cover.{value_here, read_one, read_stop, read_go}
 
 -- ---- pieces that end
 pub nothing_read : (x t : ℚ) → piece_value (nothing_at x) t ≡ Inf
-nothing_read x t = elim (le_or_lt t x) [ inl h ↦ value_here (nothing_at x) t h | inr h ↦ value_past (nothing_at x) t h ]
+nothing_read x t = elim (le_or_lt t x) [ inl h ↦ value_by (nothing_at x) t h | inr h ↦ value_past (nothing_at x) t h ]
 
 -- before its end a piece is read, and infinity from there on
 before_end : (p : Piece) (end : Ext) (t : ℚ) → Fin t <ₑ end → read (p ∷ after_end end) t ≡ piece_value p t
@@ -48,7 +47,7 @@ open_read : (from : ℚ) (line : Line) (to : Ext) (t : ℚ) → from ≤ℚ t �
     → (t ≡ from → Inf ≡ v) → (from <ℚ t → Fin (line_at line t) ≡ v)
     → piece_value record { x = from; at = Inf; line = Some line } t ≡ v
 open_read from line to t h v here past = elim (le_or_lt t from) [
-  | inl k ↦ value_here record { x = from; at = Inf; line = Some line } t k ∙ here (antisym (k, h))
+  | inl k ↦ value_by record { x = from; at = Inf; line = Some line } t k ∙ here (antisym (k, h))
   | inr k ↦ value_past record { x = from; at = Inf; line = Some line } t k ∙ past k
 ]
 
@@ -56,7 +55,7 @@ alone_reads : (e : Element) (t : ℚ) → AreAdjoined e None None → start_of e
 alone_reads (Point x v) t h late =
     let r = joined_read (Point x v) None None t h in
     read_one record { x = x; at = Fin v; line = None } t ∙ elim (le_or_lt t x) [
-      | inl k ↦ value_here record { x = x; at = Fin v; line = None } t k ∙ sym (r.first (antisym (k, late)))
+      | inl k ↦ value_by record { x = x; at = Fin v; line = None } t k ∙ sym (r.first (antisym (k, late)))
       | inr k ↦ value_past record { x = x; at = Fin v; line = None } t k ∙ sym (r.elsewhere (λ e. lt_irrefl x (subst (λ z. x <ℚ z) e k)) tt tt)
     ]
 alone_reads (Open from to line) t h late =
@@ -90,7 +89,7 @@ two_reads from x v line end next t long longer late =
           (λ k. sym (r.first record { past = k; before = early }))
       | inl past ↦ read_go p q (after_end end) t past ∙ elim (end_cases end t) [
         | inl b ↦ before_end q end t b ∙ elim (le_or_lt t x) [
-          | inl k ↦ value_here q t k ∙ sym (r.join (antisym (k, past)))
+          | inl k ↦ value_by q t k ∙ sym (r.join (antisym (k, past)))
           | inr k ↦ value_past q t k ∙ sym (r.second record { past = k; before = b })
         ]
         | inr m ↦

@@ -34,7 +34,7 @@ at_most_finite : (x y : Ext) → ((q : ℚ) → y ≡ Fin q → x ≤ₑ Fin q) 
 at_most_finite x Inf h = le_inf x
 at_most_finite x (Fin q) h = h q refl
 
-number_below : (x : Ext) (y : ℚ) → x <ₑ Fin y → (q : ℚ) × (x ≡ Fin q)
+pub number_below : (x : Ext) (y : ℚ) → x <ₑ Fin y → (q : ℚ) × (x ≡ Fin q)
 number_below Inf y h = absurd h
 number_below (Fin q) y h = (q, refl)
 

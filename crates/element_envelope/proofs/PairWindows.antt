@@ -23,7 +23,7 @@ use Rattle.upp_normal.proofs.AnswerRoom.{more_largest}
 use Rattle.upp_curve.specs.Unrolled.{upto}
 use Rattle.upp_normal.proofs.Below.{plain_upto}
 use Rattle.upp_normal.proofs.NormaliseCuts.{zero_upto}
-use Rattle.upp_normal.proofs.NormaliseLists.{each_upto, upto_before}
+use Rattle.upp_normal.proofs.NormaliseLists.{each_upto}
 use Rattle.upp_normal.proofs.UnrolledPieces.{each_with}
 use Rattle.element_envelope.specs.ElementRoom.{OperandElement, SumTime, SumEnd, SumValue, SumElement, SumPart, SumJoined, HaveRoom}
 use Rattle.element_envelope.specs.JoinedWindows.{nothing_at, after_end, part_pieces, first_pieces, turn_pieces, joined_list, lead_of, window_of, IsWindowOf}
@@ -33,6 +33,8 @@ use Rattle.element_envelope.specs.EnvelopeWindows.{EnvelopeRoom, IsEnvelopeWindo
 use Rattle.element_envelope.proofs.ElementSizes.{parts_stand}
 use Rattle.element_envelope.proofs.Envelopes.{envelope_rules}
 use Rattle.element_envelope.proofs.Arching.{same_arches, joined_arches}
+use Rattle.affine_segment.proofs.PieceOrder.{each_append}
+use Rattle.upp_limits.proofs.PieceCounts.{upto_early}
 
 -- ---- pieces that may start past the end
 record LatePiece (z : Sizes) (p : Piece) : Type 0 where
@@ -67,17 +69,13 @@ turn_stands z end (Point x v) (Open y to l) J S = (record { whole = J.time.whole
 turn_stands z end (Point x v) (Point y u) J S = tt
 turn_stands z end (Open y to l) second J S = tt
 
-each_both : (P : Piece → Type 0) (ps qs : List Piece) → Each P ps → Each P qs → Each P (ps ++ qs)
-each_both P [] qs h k = k
-each_both P (p ∷ ps) qs h k = (h.0, each_both P ps qs h.1 k)
-
 list_stands : (z : Sizes) (end : ℚ) (j : Joined) → SumJoined z end j → Each (LatePiece z) (joined_list j.first j.join j.second)
 list_stands z end j J = go j.first j.join j.second J.first J.join J.second
   where
     go : (first : Element) (join second : Option Element) → SumElement z end first → SumPart z end join → SumPart z end second → Each (LatePiece z) (joined_list first join second)
     go first None second F N S = part_stands z end first F
     go first (Some join) None F N S = part_stands z end first F
-    go first (Some join) (Some second) F N S = each_both (LatePiece z) (first_pieces first) (turn_pieces join second) (first_stands z end first F) (turn_stands z end join second N S)
+    go first (Some join) (Some second) F N S = each_append (LatePiece z) (first_pieces first) (turn_pieces join second) (first_stands z end first F) (turn_stands z end join second N S)
 
 lead_stands : (z : Sizes) (start : ℚ) → Each (LatePiece z) (lead_of start)
 lead_stands z start = by (le_q start (int (pos 0)))
@@ -87,7 +85,7 @@ lead_stands z start = by (le_q start (int (pos 0)))
     by false = (record { whole = whole_int z.dt (pos 0); nonneg = le_refl (int (pos 0)); at = tt; line = tt }, tt)
 
 window_stands : (z : Sizes) (end : ℚ) (j : Joined) → SumJoined z end j → Each (LatePiece z) (window_of j)
-window_stands z end j J = each_both (LatePiece z) (lead_of (start_of j.first)) (joined_list j.first j.join j.second) (lead_stands z (start_of j.first)) (list_stands z end j J)
+window_stands z end j J = each_append (LatePiece z) (lead_of (start_of j.first)) (joined_list j.first j.join j.second) (lead_stands z (start_of j.first)) (list_stands z end j J)
 
 -- ---- before the end
 early_piece : (z : Sizes) (end : ℚ) (p : Piece) → LatePiece z p → p.x <ℚ end → SumPiece z end p
@@ -104,7 +102,7 @@ pair_is end a b j ps some C P W = record {
       record {
         starts = zero_upto end ps some W.starts;
         each = each_with (LatePiece r.sizes) (λ p. p.x <ℚ end) (SumPiece r.sizes end) (λ p L e. early_piece r.sizes end p L e) (upto end ps)
-            (each_upto (LatePiece r.sizes) end ps (subst (Each (LatePiece r.sizes)) (sym W.pieces) (window_stands r.sizes end j J))) (upto_before end ps);
+            (each_upto (LatePiece r.sizes) end ps (subst (Each (LatePiece r.sizes)) (sym W.pieces) (window_stands r.sizes end j J))) (upto_early end ps);
       };
   arches = λ r.
       let J = parts_stand r.sizes end a b j r.limited (r.left a (inl refl)) (r.right b (inl refl)) P in

@@ -28,8 +28,8 @@ use Rattle.upp_normal.specs.Room.{top, many, LineInRoom, TimeHasRoom}
 use Rattle.upp_normal.proofs.NormaliseGrids.{q_same_or}
 use Rattle.affine_segment.proofs.PieceOrder.{each_map}
 use Rattle.upp_normal.proofs.NormaliseRoom.{line_fits}
-use Rattle.upp_limits.proofs.NarrowSizes.{grid_pos, small_number, small_sum}
-use Rattle.upp_normal.proofs.AnswerRoom.{AnswerLine, IsCrossing, tight, wide_narrow, answer_is_room, line_in_room, halves_apart, crossing_from}
+use Rattle.upp_limits.proofs.NarrowSizes.{grid_pos, small_number, small_sum, half_bound}
+use Rattle.upp_normal.proofs.AnswerRoom.{AnswerLine, IsCrossing, tight, wide_narrow, answer_is_room, line_in_room, halves_apart, crossing_from, many_more, meet_times, nothing_over}
 use Rattle.curve_window.specs.declared.stretch.Both.{Both}
 use Rattle.curve_window.specs.Stretches.{IsBothOf}
 use Rattle.curve_window.specs.Lies.{MeetsAt, CrossesAt, CrossFits}
@@ -37,8 +37,9 @@ use Rattle.curve_window.specs.Made.{zero_line, line_apart, ValueApartFits, LineA
 use Rattle.curve_window.specs.Lower.{LowerFits, IsLowerPiece, IsLowerOf}
 use Rattle.element_envelope.specs.ElementRoom.{SumLine}
 use Rattle.element_envelope.specs.SumWindows.{SumStart, SumValueOn, SumValueAt, SumLineAt, SumPiece, SumWindow}
-use Rattle.element_envelope.proofs.ElementSizes.{many_more, gap_within}
-use Rattle.element_envelope.proofs.SumSteps.{time_room, half, line_fits_at, line_value_on, start_in, sum_line_in, sum_read}
+use Rattle.element_envelope.proofs.ElementSizes.{gap_within}
+use Rattle.element_envelope.proofs.SumSteps.{time_room, line_fits_at, line_value_on, start_in, sum_line_in, sum_read}
+use Rattle.curve_window.proofs.MadeStands.{they_meet}
 
 -- ---- a stretch of both
 record SumBoth (z : Sizes) (end : ℚ) (b : Both) : Type 0 where
@@ -86,7 +87,7 @@ slopes_apart_fit z end s r A h k =
     let e : (V +ℚ V) *ℚ int (pos z.ds) ≡ int (pos ((S + S) * z.ds)) = ap (λ q. q *ℚ int (pos z.ds)) (int_add (pos S) (pos S)) ∙ int_mul (pos (S + S)) (pos z.ds) in
     sum_on_grid z.ds V V s (neg_ℚ r) A.sizes.ds (omega (arith, n, one))
     (subst (λ q. q ≤ℚ int (pos top)) (sym e) (nat_le ((S + S) * z.ds) top (omega (arith, n))))
-    h.whole (whole_neg z.ds r k.whole) (half V s (nat_nonneg S) h.within) (within_neg V r (half V r (nat_nonneg S) k.within))
+    h.whole (whole_neg z.ds r k.whole) (half_bound V s (nat_nonneg S) h.within) (within_neg V r (half_bound V r (nat_nonneg S) k.within))
 
 icepts_apart_fit : (z : Sizes) (end : ℚ) (l m : Line) → AreLimited z end → SumLine z l → SumLine z m → SumFits l.icept (neg_ℚ m.icept)
 icepts_apart_fit z end l m A L M =
@@ -98,9 +99,6 @@ lines_apart z end (Some l) None A L M = tt
 lines_apart z end (Some l) (Some m) A L M = (icepts_apart_fit z end l m A L M, slopes_apart_fit z end l.slope m.slope A L.slope M.slope)
 
 -- ---- crossings
-nothing_over : (up down : ℚ) → down ≡ int (pos 0) → up /ℚ down ≡ int (pos 0)
-unfolding ◌/ℚ◌ inv_ℚ frac gcd gcd_steps
-nothing_over up down e = ap (λ d. up /ℚ d) e ∙ mul_zero up
 
 icepts_within : (z : Sizes) (l m : Line) → SumLine z l → SumLine z m → Within (times_largest 12 z) (m.icept -ℚ l.icept)
 icepts_within z l m L M = gap_within z 6 6 m.icept l.icept M.within L.within
@@ -139,18 +137,6 @@ cross_fits z end (Some l) (Some m) A L M = λ w. crossing_not_wide z end l m w A
 slopes_differ : (rises : Bool) (l m : Line) (x : ℚ) → MeetsAt rises l m x → l.slope -ℚ m.slope ≢ int (pos 0)
 slopes_differ true l m x h e = let s = l.slope in let r = m.slope in let p = h.0 in with2 s r (λ c. omega (arith, c.le, c.lt, c.same))
 slopes_differ false l m x h e = let s = l.slope in let r = m.slope in let p = h.0 in with2 s r (λ c. omega (arith, c.le, c.lt, c.same))
-
-they_meet : (rises : Bool) (l m : Line) (x : ℚ) → MeetsAt rises l m x → line_at l x ≡ line_at m x
-they_meet true l m x h = h.1
-they_meet false l m x h = h.1
-
-meet_times : (l m : Line) (t : ℚ) → line_at l t ≡ line_at m t → t *ℚ (l.slope -ℚ m.slope) ≡ m.icept -ℚ l.icept
-meet_times l m t e =
-    let p = l.slope *ℚ t in
-    let q = m.slope *ℚ t in
-    let i = l.icept in
-    let j = m.icept in
-    mul_comm t (l.slope -ℚ m.slope) ∙ sub_mul l.slope m.slope t ∙ with4 p q i j (λ c. omega (arith, c.le, c.lt, c.same))
 
 pub is_crossing : (z : Sizes) (end x : ℚ) (rises : Bool) (l m : Option Line) → AreLimited z end → SumLineAt z l → SumLineAt z m → CrossesAt rises l m x → IsCrossing z x
 is_crossing z end x rises None m A L M C = absurd C

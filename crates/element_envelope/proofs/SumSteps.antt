@@ -23,23 +23,18 @@ use Rattle.curve_window.specs.Stretches.{CutsFit}
 use Rattle.element_envelope.specs.ElementRoom.{SumLine}
 use Rattle.element_envelope.specs.SumWindows.{SumStart, SumValueAt, SumLineAt, SumPiece, SumWindow}
 use Rattle.element_envelope.proofs.ElementSizes.{sum_within}
+use Rattle.upp_limits.proofs.NarrowSizes.{half_bound}
 
 -- ---- times and lines have room
 pub time_room : (z : Sizes) (end x : ℚ) → AreLimited z end → SumStart z end x → TimeHasRoom (answer_room z end) x
 time_room z end x A s = elim s.place [ inl w ↦ room_at_start z end x A w s.nonneg | inr k ↦ crossing_room z end x A k s.nonneg ]
-
-pub half : (v y : ℚ) → int (pos 0) ≤ℚ v → Within v (int (pos 2) *ℚ y) → Within v y
-half v y h w =
-    let l = w.low in
-    let u = w.high in
-    record { low = with2 v y (λ c. omega (arith, c.le, c.lt, c.same)); high = with2 v y (λ c. omega (arith, c.le, c.lt, c.same)) }
 
 pub sum_answer : (z : Sizes) (l : Line) → SumLine z l → AnswerLine z 6 l
 sum_answer z l L = record {
   icept = L.icept;
   within = L.within;
   slope = L.slope.whole;
-  steep = half (int (pos z.steepness)) l.slope (nat_nonneg z.steepness) L.slope.within;
+  steep = half_bound (int (pos z.steepness)) l.slope (nat_nonneg z.steepness) L.slope.within;
 }
 
 pub line_room : (z : Sizes) (end : ℚ) (l : Option Line) → AreLimited z end → SumLineAt z l → LineHasRoom (answer_room z end) 1 l

@@ -25,6 +25,7 @@ use Rattle.run_laws.proofs.Orders.{left_worked}
 use Rattle.run_laws.proofs.Sizes.{size_pos}
 use Rattle.run_laws.proofs.Oldest.{oldest, Oldest}
 use Rattle.fifo_residual.specs.Laws.{IsResidual}
+use Rattle.curve_call.proofs.FiniteAnswers.{late_left}
 
 -- ---- the parts
 left_is_part : (Q f g : Class) → AreParts Q f g → IsPart f Q
@@ -44,10 +45,6 @@ at_most_left β cross R θ x is on = (is x on).below record { at = x; least = le
 early_left : (β cross : ℚ → Ext) (θ x : ℚ) → x ≤ℚ θ → left_after β cross θ x ≡ Fin (int (pos 0))
 unfolding left_after
 early_left β cross θ x l = rw (le_q_out x θ l) refl
-
-late_left : (β cross : ℚ → Ext) (θ x : ℚ) → θ <ℚ x → left_after β cross θ x ≡ excess (β x) (cross (x -ℚ θ))
-unfolding left_after
-late_left β cross θ x l = rw (le_q_not x θ l) refl
 
 -- up to θ it is nothing
 nothing_yet : (β cross R : ℚ → Ext) (θ : Ext) (x : ℚ) → IsResidual β cross θ R → int (pos 0) ≤ℚ x → Fin x ≤ₑ θ → R x ≤ₑ Fin (int (pos 0))

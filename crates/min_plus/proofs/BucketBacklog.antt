@@ -12,9 +12,9 @@ use Rattle.min_plus.specs.Functions.{zero_q, FiniteTime}
 use Rattle.min_plus.specs.Deviations.{IsVerticalDeviation}
 use Rattle.rational.proofs.Bounds.{largest_member, unbounded}
 use Rattle.rational.proofs.Whole.{not_zero}
-use Rattle.min_plus.proofs.FiniteValues.{Fin_inj}
 use Rattle.min_plus.specs.Formulas.{IsBucket, IsPacketised}
 use Rattle.min_plus.proofs.Rates.{reach, burst_nonneg}
+use Rattle.rational.proofs.ExtendedOrder.{fin_same}
 
 -- when the packet is through: T + l / R
 abbrev pub turn : ℚ → ℚ → ℚ → ℚ
@@ -52,7 +52,7 @@ packet_ge R T l t y p some P start e =
     let m = turn R T l in
     let b = max_q zero_q (t -ℚ T) in
     let v = max_q zero_q (R *ℚ b -ℚ l) in
-    let is : v ≡ y = Fin_inj (sym (P.is t start) ∙ e) in
+    let is : v ≡ y = fin_same (sym (P.is t start) ∙ e) in
     let a0 = max_q_ge_left zero_q (R *ℚ b -ℚ l) in
     let a1 = max_q_ge_right zero_q (R *ℚ b -ℚ l) in
     let a2 = mul_le_mul R (le_of_lt some) (max_q_ge_right zero_q (t -ℚ T)) in

@@ -16,7 +16,7 @@ use Rattle.min_plus.specs.Convolution.{Parts, AllNonneg, sum_of, sum_at, IsDecon
 use Rattle.min_plus.specs.Running.{IsRunningSupremum, IsRunningInfimum}
 use Rattle.min_plus.specs.Formulas.{IsBucket, IsService, rate_latency_value}
 use Rattle.min_plus.proofs.Rates.{enough}
-use Rattle.min_plus.proofs.FiniteValues.{Fin_inj}
+use Rattle.rational.proofs.ExtendedOrder.{fin_same}
 
 -- a function that does not fall is its own running supremum and infimum
 pub rising_run_sup : (f : ℚ → Ext) (t : ℚ) → zero_q ≤ℚ t → ((s u : ℚ) → zero_q ≤ℚ s → s ≤ℚ u → f s ≤ₑ f u) → IsRunningSupremum f t (f t)
@@ -67,7 +67,7 @@ bucket_deconvolution b r R T t f g hr some hT fast start F G =
 
     under : (u : FiniteTime g) → f (t +ℚ u.at) -ₑ u.level ≤ₑ f (t +ℚ at_latency.at) -ₑ at_latency.level
     under u =
-        let e = Fin_inj (sym (G.is u.at u.nonneg) ∙ u.is) in
+        let e = fin_same (sym (G.is u.at u.nonneg) ∙ u.is) in
         let x = u.at in
         let h = u.nonneg in
         let s : zero_q ≤ℚ t +ℚ u.at = with2 t x (λ c. omega (arith, c.le, c.lt, c.same)) in

@@ -4,13 +4,7 @@ use Rattle.std.proofs.Common.{ap, true≢false}
 use Rattle.rational.specs.Rational.{ℚ}
 use Rattle.rational.specs.Extended.{Ext}
 use Rattle.rational.specs.declared.Extended.TheVariants.{Fin, Inf}
-
-pub Fin_inj : {x y : ℚ} → Fin x ≡ Fin y → x ≡ y
-Fin_inj {x} {y} e = ap (value_or x) e
-  where
-    value_or : ℚ → Ext → ℚ
-    value_or d (Fin v) = v
-    value_or d Inf = d
+use Rattle.rational.proofs.ExtendedOrder.{fin_same}
 
 pub no_inf : {x : ℚ} → Fin x ≡ Inf → ⊥
 no_inf {x} e = true≢false (ap is_fin e)

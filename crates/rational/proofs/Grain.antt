@@ -168,7 +168,7 @@ times_all n x =
 scaled : ℕ → ℚ → ℚ
 scaled d x = int (pos (suc d)) *ℚ x
 
-some_int : (d : ℕ) → int (pos 0) <ℚ int (pos (suc d))
+pub some_int : (d : ℕ) → int (pos 0) <ℚ int (pos (suc d))
 some_int d = (lt_over (pos 0) (pos (suc d)) 0).1 (omega (arith, ints))
 
 scaled_le : (d : ℕ) (x y : ℚ) → x ≤ℚ y → scaled d x ≤ℚ scaled d y

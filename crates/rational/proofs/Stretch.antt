@@ -112,7 +112,7 @@ line_supremum lo hi a r h = elim (le_or_lt (int (pos 0)) r) [
 ]
 
 -- ---- a stretch without an end
-next : (lo : ℚ) → lo <ℚ lo +ℚ int (pos 1)
+pub next : (lo : ℚ) → lo <ℚ lo +ℚ int (pos 1)
 next lo = with1 lo (λ c. omega (arith, c.le, c.lt, c.same))
 
 -- before each time after lo there is one in the first stretch after lo

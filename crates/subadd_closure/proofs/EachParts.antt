@@ -27,7 +27,8 @@ use Rattle.closure_laws.specs.ClosureLaws.{IsCopy, HasCopies}
 use Rattle.subadd_closure.specs.CurveParts.{pieces_end, copies_of, part_of, parts_of, part_value}
 use Rattle.subadd_closure.specs.declared.part.Part.{Part}
 use Rattle.subadd_closure.specs.PartLaws.{EachPart, IsCopied, IsPart, PartsAreParts}
-use Rattle.subadd_closure.proofs.ElementTimes.{start_low, starts_nonneg}
+use Rattle.subadd_closure.proofs.ElementTimes.{starts_nonneg}
+use Rattle.element_envelope.proofs.Envelopes.{from_start}
 
 -- ---- what is at t is n periods after what is at u
 pub repeated_at : (f : ℚ → Ext) (s d c t : ℚ) → repeated f s d c t ≡ f (t -ℚ int (pos (periods s d t)) *ℚ d) +ₑ Fin (int (pos (periods s d t)) *ℚ c)
@@ -41,7 +42,7 @@ copies_hold e d c some low short = record {
   at = λ n t h. elim (value_cases e t) [
     | inl is ↦ subst (λ z. repeated f s d c (t +ℚ int (pos n) *ℚ d) ≤ₑ z +ₑ Fin (int (pos n) *ℚ c)) (sym is) (le_inf (repeated f s d c (t +ℚ int (pos n) *ℚ d)))
     | inr k ↦
-        let from = start_low e t k in
+        let from = from_start e t k in
         let until = short t k in
         let u = t +ℚ int (pos n) *ℚ d in
         let N : periods s d u ≡ n = periods_unique s d u n some
@@ -72,7 +73,7 @@ copies_hold e d c some low short = record {
     one t v is (a, b, p, q) = record {
       number = periods s d t;
       time = t -ℚ int (pos (periods s d t)) *ℚ d;
-      nonneg = le_trans low (start_low e (t -ℚ int (pos (periods s d t)) *ℚ d) (covered (t -ℚ int (pos (periods s d t)) *ℚ d) a p));
+      nonneg = le_trans low (from_start e (t -ℚ int (pos (periods s d t)) *ℚ d) (covered (t -ℚ int (pos (periods s d t)) *ℚ d) a p));
       moved = antisym (with2 t (int (pos (periods s d t)) *ℚ d) (λ o. omega (arith, o.le, o.lt, o.same)));
       value = same_le_ext (sym (repeated_at f s d c t) ∙ is);
     }

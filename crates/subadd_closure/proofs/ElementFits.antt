@@ -39,6 +39,7 @@ use Rattle.subadd_closure.specs.Stars.{IsTurn, turn_work}
 use Rattle.subadd_closure.specs.FoldWork.{copies_work}
 use Rattle.subadd_closure.specs.PartStars.{turn_of}
 use Rattle.subadd_closure.specs.SegmentLimits.{IsElementOf}
+use Rattle.upp_limits.proofs.Copies.{plus_zero, value_zero}
 
 -- ---- values
 part_in : (P : Part → Type 0) (tail : Tail) (es : List Element) (e : Element) → EachPart P (map (part_of tail) es)
@@ -47,20 +48,14 @@ part_in P tail [] e h k = absurd k
 part_in P tail (d ∷ ds) e h (inl is) = subst (λ z. P (part_of tail z)) (sym is) h.0
 part_in P tail (d ∷ ds) e h (inr k) = part_in P tail ds e h.1 k
 
-none_later : (t d : ℚ) → t +ℚ int (pos 0) *ℚ d ≡ t
-none_later t d = antisym (with2 t d (λ o. omega (arith, o.le, o.lt, o.same)))
-
-none_higher : (x : Ext) (c : ℚ) → x +ₑ Fin (int (pos 0) *ℚ c) ≡ x
-none_higher x c = ap (λ y. x +ₑ Fin y) (zero_mul c) ∙ add_zero_ext x
-
 -- a part is at most its element
 part_under : (e : Element) (o : Option Copies) (t : ℚ) → IsPart record { element = e; copies = o } → zero_q ≤ℚ t
     → part_value record { element = e; copies = o } t ≤ₑ element_value e t
 part_under e None t p low = same_le_ext refl
 part_under e (Some k) t p low =
     let f = part_value record { element = e; copies = Some k } in
-    subst (λ x. x ≤ₑ element_value e t) (ap f (none_later t k.period))
-    (subst (λ x. f (t +ℚ int (pos 0) *ℚ k.period) ≤ₑ x) (none_higher (element_value e t) k.rise) (p.copied.1.at 0 t
+    subst (λ x. x ≤ₑ element_value e t) (ap f (plus_zero t k.period))
+    (subst (λ x. f (t +ℚ int (pos 0) *ℚ k.period) ≤ₑ x) (value_zero (element_value e t) k.rise) (p.copied.1.at 0 t
     low))
 
 element_low : (c : SpecCurve) (e : Element) (t : ℚ) → IsNormal c → IsFinite (value_at c) → IsNonnegative (value_at c)

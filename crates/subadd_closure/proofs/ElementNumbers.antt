@@ -34,6 +34,8 @@ use Rattle.subadd_closure.specs.CurveParts.{pieces_end}
 use Rattle.subadd_closure.proofs.ElementTimes.{starts_nonneg}
 use Rattle.subadd_closure.proofs.EachParts.{starts_before}
 use Rattle.subadd_closure.specs.SegmentLimits.{IsElementOf, LengthsFit}
+use Rattle.closure_elements.proofs.FewCopies.{end_is}
+use Rattle.upp_limits.proofs.KnownNumbers.{two_ones}
 
 -- ---- times
 -- on the grid of times, up to the end of a window
@@ -87,22 +89,14 @@ starts_to z w tail [] h k = tt
 starts_to z w tail (p ∷ ps) h k =
     (record { whole = h.0.start; by = le_of_lt k.0 }, starts_to z w tail ps h.1 k.1)
 
-period_end : (ps : List Piece) (rank period rise : ℚ)
-    → own_end record { pieces = ps; tail = Periodic rank period rise } ≡ rank +ℚ period
-unfolding own_end steady own_period
-period_end ps rank period rise = refl
-
 end_to : (z : Sizes) (ps : List Piece) (tail : Tail) → Whole z.dt (rank_of tail) → TailStands z tail
     → IsEndTo z (own_end record { pieces = ps; tail = tail }) (pieces_end tail)
 end_to z ps (Periodic rank period rise) w h = record {
   whole = whole_add z.dt rank period w h.whole;
-  by = subst (λ x. rank +ℚ period ≤ℚ x) (sym (period_end ps rank period rise)) (le_refl (rank +ℚ period));
+  by = subst (λ x. rank +ℚ period ≤ℚ x) (sym (end_is ps rank period rise)) (le_refl (rank +ℚ period));
 }
 end_to z ps (Affine rank) w h = tt
 end_to z ps (Infinite rank) w h = tt
-
-two_ones : (v : ℚ) → int (pos 1) *ℚ v +ℚ int (pos 1) *ℚ v ≡ int (pos 2) *ℚ v
-two_ones v = antisym (with1 v (λ c. omega (arith, c.le, c.lt, c.same)))
 
 pub segment_start : (c : SpecCurve) (a : ℚ) (b : Ext) (l : Line) → IsNormal c → IsElementOf c (Open a b l) → zero_q ≤ℚ a
 segment_start c a b l n k = starts_nonneg c.pieces (pieces_end c.tail) (Open a b l) n.raw.starts k

@@ -13,11 +13,8 @@ use Rattle.affine_segment.specs.Pieces.{RisesFrom, StartsAtZero, HasStart}
 use Rattle.element_envelope.specs.PieceElements.{next_start, elements_of, Among}
 use Rattle.element_envelope.proofs.Members.{among_cases}
 use Rattle.element_envelope.proofs.Cover.{head, head_cases}
-
--- an element starts at its times or before
-pub start_low : (e : Element) (t : ℚ) → Covers e t → start_of e ≤ℚ t
-start_low (Point x v) t h = subst (λ z. x ≤ℚ z) (sym h) (le_refl x)
-start_low (Open from to line) t h = le_of_lt h.past
+use Rattle.curve_call.proofs.CurveRises.{at_least}
+use Rattle.element_envelope.proofs.Envelopes.{from_start}
 
 -- ---- one piece
 head_start : (p : Piece) (next : Ext) (e : Element) → Among e (head p.x p.at p.line next) → start_of e ≡ p.x
@@ -56,11 +53,6 @@ pub starts_nonneg : (ps : List Piece) (end : Ext) (e : Element) → StartsAtZero
 starts_nonneg [] end e h k = absurd h
 starts_nonneg (p ∷ ps) end e h k = subst (λ z. z ≤ℚ start_of e) h.0 (list_start p ps end e h.1 k)
 
-first_low : (q : Piece) (qs : List Piece) (x : ℚ) → RisesFrom q.x qs → HasStart x (q ∷ qs) → q.x ≤ℚ x
-first_low q qs x r (inl e) = subst (λ z. q.x ≤ℚ z) e (le_refl q.x)
-first_low q [] x r (inr k) = absurd k
-first_low q (s ∷ ss) x r (inr k) = le_trans (le_of_lt r.0) (first_low s ss x r.1 k)
-
 -- an element that starts before a piece does has no time from there on
 list_before : (p : Piece) (ps : List Piece) (end : Ext) (e : Element) (x t : ℚ) → RisesFrom p.x ps → HasStart x (p ∷ ps)
     → Among e (elements_of (p ∷ ps) end) → start_of e <ℚ x → Covers e t → t <ℚ x
@@ -69,7 +61,7 @@ list_before p ps end e x t r (inl is) h low c =
 list_before p [] end e x t r (inr k) h low c = absurd k
 list_before p (q ∷ qs) end e x t r (inr k) h low c =
     elim (among_cases e (head p.x p.at p.line (Fin q.x)) (elements_of (q ∷ qs) end) h) [
-      | inl m ↦ lt_le_trans (head_early p q.x e t r.0 m c) (first_low q qs x r.1 k)
+      | inl m ↦ lt_le_trans (head_early p q.x e t r.0 m c) (at_least q qs x r.1 k)
       | inr m ↦ list_before q qs end e x t r.1 k m low c
     ]
 

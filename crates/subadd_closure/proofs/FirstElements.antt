@@ -18,10 +18,9 @@ use Rattle.affine_segment.specs.Reading.{read}
 use Rattle.min_plus.specs.Functions.{zero_q, IsFinite}
 use Rattle.affine_segment.specs.Pieces.{RisesFrom, StartsAtZero}
 use Rattle.upp_curve.specs.Normal.{TailFits, IsRaw}
-use Rattle.affine_segment.proofs.PieceIn.{value_past}
+use Rattle.affine_segment.proofs.PieceIn.{value_past, read_one, read_stop, value_by}
 use Rattle.upp_curve.proofs.Repeats.{repeated_first}
 use Rattle.element_envelope.specs.PieceElements.{point_of, segment_of, next_start, elements_of, StartBefore}
-use Rattle.element_envelope.proofs.Cover.{read_one, read_stop, value_here}
 use Rattle.upp_limits.specs.declared.op_kind.OpFault.{OpFault}
 use Rattle.upp_limits.specs.declared.op_kind.OpFault.TheVariants.{NoMemory}
 use Rattle.curve_call.specs.Calls.{stops}
@@ -47,9 +46,9 @@ value_read ps tail t fits finite early = by_tail ps tail t fits finite early
 
 -- ---- the first piece
 read_start : (p : Piece) (ps : List Piece) (t : ℚ) → RisesFrom p.x ps → t ≤ℚ p.x → read (p ∷ ps) t ≡ p.at
-read_start p [] t r h = read_one p t ∙ value_here p t h
+read_start p [] t r h = read_one p t ∙ value_by p t h
 read_start p (q ∷ qs) t r h =
-    read_stop p q qs t (le_lt_trans h r.0) ∙ value_here p t h
+    read_stop p q qs t (le_lt_trans h r.0) ∙ value_by p t h
 
 read_early : (p : Piece) (ps : List Piece) (end : Ext) (t : ℚ) → p.x <ℚ t → Fin t <ₑ next_start ps end
     → read (p ∷ ps) t ≡ line_value p.line t

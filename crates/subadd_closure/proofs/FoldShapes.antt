@@ -22,19 +22,14 @@ use Rattle.subadd_closure.specs.Folds.{PartAnswer, PartsAnswer}
 use Rattle.subadd_closure.proofs.EachParts.{parts_are_parts}
 use Rattle.subadd_closure.proofs.LeastParts.{parts_make_curve}
 use Rattle.subadd_closure.proofs.FoldStars.{part_star, parts_star}
+use Rattle.closure_laws.proofs.KeptShapes.{total_nonneg}
 
 -- ---- stars
 -- a star is nowhere below 0 where the function is
-sums_nonneg : (f : ℚ → Ext) (xs : List ℚ) → AllNonneg xs → IsNonnegative f → Fin zero_q ≤ₑ sum_at f xs
-sums_nonneg f [] n low = le_ext_refl (Fin zero_q)
-sums_nonneg f (x ∷ xs) (p, n) low =
-    le_ext_trans (Fin zero_q) (Fin zero_q +ₑ Fin zero_q) (f x +ₑ sum_at f xs)
-    (same_le_ext (sym (zero_add_ext (Fin zero_q))))
-    (add_le_ext (Fin zero_q) (f x) (Fin zero_q) (sum_at f xs) (low x p) (sums_nonneg f xs n low))
 
 stars_nonneg : (f F : ℚ → Ext) → AreStars f F → IsNonnegative f → IsNonnegative F
 stars_nonneg f F stars low t n =
-    greatest (λ (p : Times t). sum_at f p.times) (F t) (Fin zero_q) (stars t n) (λ p. sums_nonneg f p.times p.nonneg
+    greatest (λ (p : Times t). sum_at f p.times) (F t) (Fin zero_q) (stars t n) (λ p. total_nonneg f p.times p.nonneg
     low)
 
 -- and it is at most the function

@@ -21,6 +21,7 @@ use Rattle.upp_curve.specs.Steady.{Repeats}
 use Rattle.upp_curve.proofs.Repeats.{repeated_next, repeats_times}
 use Rattle.subadd_closure.specs.Starting.{first_at, started_at, KeepsTail}
 use Rattle.subadd_closure.proofs.Starts.{repeated_past, repeated_zero}
+use Rattle.upp_curve.proofs.Steady.{cut_past}
 
 -- g is infinite at 0, finite past 0, and from `from` > 0 on repeats with the period p and the rise y; at p it is not
 -- `start` and the rise
@@ -64,9 +65,6 @@ no_rule g h from p y start d c S e same some R =
     S.other (add_cancel_ext (g p) (Fin (start +ℚ y)) w (on_p ∙ on_x ∙ ap Fin swapped))
 
 -- ---- by the tail
-past_rank : (f : ℚ → Ext) (rank t : ℚ) → rank <ℚ t → cut f rank t ≡ Inf
-unfolding cut
-past_rank f rank t l = rw (le_q_not t rank l) refl
 
 late_rank : (f : ℚ → Ext) (rank d c : ℚ) → zero_q ≤ℚ rank → zero_q <ℚ d → repeated f rank d c zero_q ≡ Inf
     → ((t : ℚ) → zero_q <ℚ t → repeated f rank d c t ≢ Inf) → zero_q <ℚ rank
@@ -85,7 +83,7 @@ keeps_by qs (Infinite rank) from p y start Q T S =
     let low = T.nonneg in
     let later : rank <ℚ rank +ℚ int (pos 1) = with1 rank (λ o. omega (arith, o.le, o.lt, o.same)) in
     let past : zero_q <ℚ rank +ℚ int (pos 1) = with1 rank (λ o. omega (arith, o.le, o.lt, o.same)) in
-    S.finite (rank +ℚ int (pos 1)) past (past_rank (read qs) rank (rank +ℚ int (pos 1)) later)
+    S.finite (rank +ℚ int (pos 1)) past (cut_past (read qs) rank (rank +ℚ int (pos 1)) later)
 keeps_by qs (Periodic rank d c) from p y start Q T S =
     let late = late_rank (read qs) rank d c T.nonneg T.some S.zero S.finite in (
       late,

@@ -31,8 +31,9 @@ use Rattle.closure_laws.specs.Star.{least_of}
 use Rattle.subadd_closure.specs.CurveParts.{pieces_end, part_of, parts_of, part_value}
 use Rattle.subadd_closure.specs.declared.part.Part.{Part}
 use Rattle.subadd_closure.specs.PartLaws.{EachPart, PartsMakeCurve}
-use Rattle.subadd_closure.proofs.ElementTimes.{start_low, times_before}
+use Rattle.subadd_closure.proofs.ElementTimes.{times_before}
 use Rattle.subadd_closure.proofs.EachParts.{repeated_at, starts_before, each_part}
+use Rattle.element_envelope.proofs.Envelopes.{from_start}
 
 -- ---- the least of some parts
 least_above : (x : Ext) (t : ℚ) (ps : List Part) → EachPart (λ p. x ≤ₑ part_value p t) ps → x ≤ₑ least_of (map part_value ps) t
@@ -109,7 +110,7 @@ module _ (ps : List Piece) (rank d r : ℚ) (zeroth : StartsAtZero ps) (fits : T
       → (periods rank d t ≡ n) × (periods (start_of e) d t ≡ n)
   same_copy e n k late h =
       let some = fits.some in
-      let a = start_low e (t -ℚ int (pos n) *ℚ d) h in
+      let a = from_start e (t -ℚ int (pos n) *ℚ d) h in
       let b = before (t -ℚ int (pos n) *ℚ d) e k h in (
         periods_unique rank d t n some
             (with5 rank d t (int (pos n) *ℚ d) (start_of e) (λ o. omega (arith, o.le, o.lt, o.same)))
@@ -148,7 +149,7 @@ module _ (ps : List Piece) (rank d r : ℚ) (zeroth : StartsAtZero ps) (fits : T
       let some = fits.some in
       let soon : t <ℚ rank +ℚ d = with4 t rank d zero_q (λ o. omega (arith, o.le, o.lt, o.same)) in
       let a = covers_all.found t q low soon (sym (repeated_first (read ps) rank d r t some soon) ∙ is) in
-      let from = le_lt_trans (start_low a.element t a.covers) early in
+      let from = le_lt_trans (from_start a.element t a.covers) early in
       (a.element, a.among, once a.element from ∙ sym (first_value a.element a.among a.covers) ∙ is)
 
   some_later : (q : ℚ) → rank ≤ℚ t → repeated (read ps) rank d r t ≡ Fin q

@@ -41,10 +41,11 @@ use Rattle.upp_normal.proofs.UnrollSteps.{ext_cases}
 use Rattle.subadd_closure.specs.Starting.{first_at, started_at, KeepsTail, IsStartedAt}
 use Rattle.subadd_closure.proofs.Starts.{repeated_past, repeated_zero, repeats_on}
 use Rattle.subadd_closure.specs.StartsAt.{ConvolvesFinitely, ConvolvesPastZero, StartsAt}
-use Rattle.subadd_closure.proofs.Windowed.{IsConvolved, stands_of, from_some, period_in, period_start, ends_at, convolved_at}
+use Rattle.subadd_closure.proofs.Windowed.{IsConvolved, stands_of, from_some, period_in, period_start, convolved_at}
 use Rattle.subadd_closure.proofs.Started.{rise_room}
 use Rattle.subadd_closure.proofs.Risen.{convolution_nonneg, rise_nonneg}
 use Rattle.subadd_closure.proofs.Kept.{StartsAnew, keeps_tail}
+use Rattle.curve_pointwise.proofs.LatticeAnswers.{back}
 
 value_room : (z : Sizes) (end x : ℚ) (grid : ℕ) (v : Ext) → z.dv * z.dt ∣ grid → Whole grid x → SumValueAt z x v
     → ValueHasRoom (answer_room z end) 1 grid v
@@ -66,7 +67,7 @@ module _ (f g : SpecCurve) (r : Frame) (ps : List Piece) (from rise : ℚ) (C : 
   some = C.frame.call.above
 
   early : r.period <ℚ from +ℚ r.period
-  early = subst (λ x. r.period <ℚ x) (sym (ends_at r.end r.period from C.from_is)) (period_in f g r C.frame)
+  early = subst (λ x. r.period <ℚ x) (sym (back r.end r.period from C.from_is)) (period_in f g r C.frame)
 
   -- ---- what is read a period after 0
   pub period_reads : ReadFits ps r.period

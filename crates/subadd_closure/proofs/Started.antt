@@ -31,7 +31,8 @@ use Rattle.element_envelope.proofs.ArchBends.{sums_on_grids}
 use Rattle.curve_conv.specs.ConvolveCall.{IsConvolveFrame}
 use Rattle.subadd_closure.specs.Starting.{first_at}
 use Rattle.subadd_closure.proofs.Starts.{read_past}
-use Rattle.subadd_closure.proofs.Windowed.{IsConvolved, stands_of, arches_of, from_some, ends_at}
+use Rattle.subadd_closure.proofs.Windowed.{IsConvolved, stands_of, arches_of, from_some}
+use Rattle.curve_pointwise.proofs.LatticeAnswers.{back, slower_or_not}
 
 -- ---- the window
 pub window_started : (z : Sizes) (end : ℚ) (v : Ext) (ps : List Piece) → SumWindow z end ps → SumValueAt z zero_q v
@@ -60,12 +61,6 @@ arches_started T end v ps S A = λ low high y h W.
     same a b c d e k x y z h = rw (x, y, z) h
 
 -- ---- the rise stands
-slower_or_not : (x y : Ext) → (x <ₑ y) ⊎ ¬ (x <ₑ y)
-slower_or_not x y = elim (rates_compared x y) [
-  | inl l ↦ inl l
-  | inr (inl e) ↦ inr (not_same x y e)
-  | inr (inr l) ↦ inr (not_both y x l)
-]
 
 pub record RiseHasRoom (z : Sizes) (y : ℚ) : Type 0 where
   pub whole : Whole (grid_of z) y
@@ -105,7 +100,7 @@ started_answer f g r ps from rise v C V =
     let whole : Whole z.dt from =
     subst (Whole z.dt) (sym C.from_is) (from_whole f g r.start r.period r.end (F.number + 1) z L) in
     let nonneg : zero_q ≤ℚ from = subst (λ y. zero_q ≤ℚ y) (sym C.from_is) (le_of_lt (from_some f g r F)) in
-    let ends = ends_at r.end r.period from C.from_is in
+    let ends = back r.end r.period from C.from_is in
     let tail : TailOf z r.end from r.period rise =
     record { nonneg = nonneg; some = L.above; ends = ends; time = whole; whole = L.period_whole; value = room.whole } in
     record {

@@ -21,9 +21,8 @@ use Rattle.upp_curve.specs.Steady.{Repeats, rank_of, last_line, last_of}
 use Rattle.affine_segment.specs.Pieces.{Each, HasStart, RisesFrom, StartsAtZero}
 use Rattle.upp_curve.specs.Normal.{TailFits, NoMerge, TailNormal, IsLeastPeriodic, IsNormal}
 use Rattle.upp_curve.specs.Readable.{EachFits, PeriodFits, SumFitsAt, TailReadable, IsReadable}
-use Rattle.affine_segment.proofs.PieceIn.{value_past}
+use Rattle.affine_segment.proofs.PieceIn.{value_past, read_go, read_one, read_stop, value_by}
 use Rattle.upp_curve.proofs.Repeats.{repeated_first}
-use Rattle.element_envelope.proofs.Cover.{read_one, read_stop, read_go, value_here}
 use Rattle.subadd_closure.specs.Starting.{first_at, started_at, KeepsTail, IsStartedAt}
 use Rattle.subadd_closure.proofs.EachParts.{repeated_at}
 
@@ -49,10 +48,10 @@ pub read_zero : (v : Ext) (ps : List Piece) → StartsAtZero ps → read (first_
 read_zero v [] z = absurd z
 read_zero v (p ∷ []) z =
     read_one record { x = p.x; at = v; line = p.line } zero_q
-    ∙ value_here record { x = p.x; at = v; line = p.line } zero_q (subst (λ y. zero_q ≤ℚ y) (sym z.0) (le_refl zero_q))
+    ∙ value_by record { x = p.x; at = v; line = p.line } zero_q (subst (λ y. zero_q ≤ℚ y) (sym z.0) (le_refl zero_q))
 read_zero v (p ∷ q ∷ qs) z =
     read_stop record { x = p.x; at = v; line = p.line } q qs zero_q (subst (λ y. y <ℚ q.x) z.0 z.1.0)
-    ∙ value_here record { x = p.x; at = v; line = p.line } zero_q (subst (λ y. zero_q ≤ℚ y) (sym z.0) (le_refl zero_q))
+    ∙ value_by record { x = p.x; at = v; line = p.line } zero_q (subst (λ y. zero_q ≤ℚ y) (sym z.0) (le_refl zero_q))
 
 pub starts_kept : (v : Ext) (ps : List Piece) → StartsAtZero ps → StartsAtZero (first_at v ps)
 starts_kept v [] z = z

@@ -24,6 +24,7 @@ use Rattle.element_envelope.specs.SumWindows.{SumStart, SumWindow}
 use Rattle.element_envelope.specs.Arches.{Arches}
 use Rattle.curve_conv.specs.ConvolveCall.{IsConvolveFrame}
 use Rattle.curve_conv.proofs.ConvolveAnswers.{convolved_values}
+use Rattle.curve_pointwise.proofs.LatticeAnswers.{back}
 
 -- the pieces, from when on they repeat, and by how much they rise over a period
 pub record IsConvolved (f g : SpecCurve) (r : Frame) (ps : List Piece) (from rise : ℚ) : Type 0 where
@@ -78,9 +79,6 @@ module _ (f g : SpecCurve) (r : Frame) (F : IsConvolveFrame f g r) where
 
   pub period_start : SumStart F.sizes r.end r.period
   period_start = record { place = inl F.call.period_whole; nonneg = le_of_lt F.call.above; before = period_in }
-
-pub ends_at : (e p from : ℚ) → from ≡ e -ℚ p → from +ℚ p ≡ e
-ends_at e p from h = with3 e p from (λ c. omega (arith, c.le, c.lt, c.same))
 
 -- ---- what they read as
 pub convolved_at : (f g : SpecCurve) (r : Frame) (ps : List Piece) (from rise : ℚ) → IsConvolved f g r ps from rise

@@ -19,7 +19,7 @@ use Rattle.affine_segment.specs.Pieces.{Each, RisesFrom}
 use Rattle.upp_curve.specs.Shapes.{IsNumber, IsLine, IsFinitePiece}
 use Rattle.affine_segment.proofs.PieceIn.{piece_in_end, piece_in_go, piece_in_stop, value_past}
 use Rattle.upp_curve.proofs.FirstStretch.{read_in, at_start}
-use Rattle.upp_curve.proofs.RisingFrom.{IsBefore}
+use Rattle.upp_curve.proofs.RisingFrom.{IsBefore, before_later}
 
 -- ---- numbers
 pub level_of : (v : Ext) → IsNumber v → (level : ℚ) × (v ≡ Fin level)
@@ -71,10 +71,6 @@ rest_finite end p q qs h = record {
   early = h.early.1;
   finite = λ t a b. subst IsNumber (ap (λ z. piece_value z t) (piece_in_go p q qs t a)) (h.finite t (le_trans (le_of_lt h.starts.0) a) b);
 }
-
-before_later : (end : Option End) (s t : ℚ) → s <ℚ t → IsBefore t end → IsBefore s end
-before_later None s t h k = tt
-before_later (Some e) s t h k = let x = e.x in with3 s t x (λ c. omega (arith, c.le, c.lt, c.same))
 
 -- at its start, and at a time of its stretch
 first_finite : (f : ℚ → Ext) (p : Piece) (e : ℚ) → p.x <ℚ e → f p.x ≡ p.at → ((t : ℚ) → p.x <ℚ t → t <ℚ e → f t ≡ line_value p.line t)

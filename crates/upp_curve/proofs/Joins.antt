@@ -28,11 +28,12 @@ use Rattle.affine_segment.proofs.PieceIn.{piece_in_end, piece_in_go, piece_in_st
 use Rattle.upp_curve.proofs.FirstStretch.{read_in, at_start}
 use Rattle.upp_curve.proofs.Repeats.{repeated_first, repeated_next}
 use Rattle.upp_curve.proofs.OneForm.{infinite_value}
-use Rattle.upp_curve.proofs.RisingFrom.{IsBefore}
-use Rattle.upp_curve.proofs.RisingCurves.{IsEnd, period_end, pieces_by_tail}
+use Rattle.upp_curve.proofs.RisingFrom.{IsBefore, before_later}
+use Rattle.upp_curve.proofs.RisingCurves.{IsEnd, period_end, pieces_by_tail, each_at_most, each_before, each_free}
 use Rattle.upp_curve.proofs.Gentle.{steepest, list_gentle, end_gentle, repeated_gentle, gentle_continuous}
 use Rattle.upp_curve.proofs.CurveShapes.{curve}
 use Rattle.affine_segment.proofs.PieceIn.{read_is}
+use Rattle.upp_curve.proofs.Rising.{line_up}
 
 -- ---- from pieces that join
 pub plain_continuous : (ps : List Piece) (f : ℚ → Ext) → StartsAtZero ps → ((t : ℚ) → zero_q ≤ℚ t → read ps t ≡ f t) → PiecesJoin None ps → IsRising f → IsContinuous f
@@ -44,10 +45,6 @@ plain_continuous (p ∷ ps) f h same join rise =
           rw (← same s low, ← same t (le_trans low up), read_is p ps s, read_is p ps t)
           (list_gentle S.slope None p ps s t h.1 join S.each (subst (λ x. x ≤ℚ s) (sym h.0) low) up);
     }
-
-each_at_most : (x : ℚ) (ps : List Piece) → Each (λ z. z.x <ℚ x) ps → Each (λ z. z.x ≤ℚ x) ps
-each_at_most x [] h = tt
-each_at_most x (p ∷ ps) h = (le_of_lt h.0, each_at_most x ps h.1)
 
 pub periodic_continuous : (ps : List Piece) (r d c : ℚ) → StartsAtZero ps → FitsPeriod ps r d → PiecesJoin (Some (period_end ps r d c)) ps → IsRising (repeated (read ps) r d c) → IsContinuous (repeated (read ps) r d c)
 periodic_continuous [] r d c h fits join rise = absurd h
@@ -75,13 +72,6 @@ near_le (Fin x) (Fin y) f = elim (le_or_lt x y) [
   where
     apart : (x y e : ℚ) → e +ℚ e ≡ x -ℚ y → zero_q <ℚ e → x ≤ℚ y +ℚ e → ⊥
     apart x y e h some l = with3 x y e (λ c. omega (arith, c.le, c.lt, c.same, h, some, l))
-
-line_up : (l : Option Line) (s t : ℚ) → LineRises l → s ≤ℚ t → line_value l s ≤ₑ line_value l t
-line_up None s t h k = tt
-line_up (Some l) s t h k = up l.icept (l.slope *ℚ s) (l.slope *ℚ t) (mul_le_mul l.slope h k)
-  where
-    up : (a s t : ℚ) → s ≤ℚ t → a +ℚ s ≤ℚ a +ℚ t
-    up a s t h = with3 a s t (λ c. omega (arith, c.le, c.lt, c.same))
 
 -- f is read from the line of a piece strictly between x and y
 record OnLine (f : ℚ → Ext) (l : Option Line) (x y : ℚ) : Type 0 where
@@ -130,10 +120,6 @@ record ReadsTo (f : ℚ → Ext) (end : Option End) (p : Piece) (ps : List Piece
   is : (t : ℚ) → p.x ≤ℚ t → IsBefore t end → f t ≡ read_in p ps t
   end_is : EndsAs f end
   smooth : IsContinuous f
-
-before_later : (end : Option End) (s t : ℚ) → s <ℚ t → IsBefore t end → IsBefore s end
-before_later None s t h k = tt
-before_later (Some e) s t h k = let x = e.x in with3 s t x (λ c. omega (arith, c.le, c.lt, c.same))
 
 rest_reads : (f : ℚ → Ext) (end : Option End) (p q : Piece) (qs : List Piece) → ReadsTo f end p (q ∷ qs) → ReadsTo f end q qs
 rest_reads f end p q qs R = record {
@@ -188,14 +174,6 @@ all_join f (Some e) p [] R rise =
 all_join f end p (q ∷ qs) R rise =
     let S = rest_reads f end p q qs R in
     (joined f p q.x q.at (followed f end p q qs R rise.0.slope) (first_at f end p (q ∷ qs) R) (first_at f end q qs S) rise.0, all_join f end q qs S rise.1)
-
-each_before : (e : End) (ps : List Piece) → Each (λ z. z.x <ℚ e.x) ps → Each (λ z. IsBefore z.x (Some e)) ps
-each_before e [] h = tt
-each_before e (p ∷ ps) h = (h.0, each_before e ps h.1)
-
-each_free : (ps : List Piece) → Each (λ z. IsBefore z.x None) ps
-each_free [] = tt
-each_free (p ∷ ps) = (tt, each_free ps)
 
 pub plain_joins : (ps : List Piece) (f : ℚ → Ext) → StartsAtZero ps → ((t : ℚ) → zero_q ≤ℚ t → read ps t ≡ f t) → PiecesRise None ps → IsContinuous f → PiecesJoin None ps
 plain_joins [] f h same rise smooth = absurd h

@@ -19,6 +19,7 @@ use Rattle.rational.proofs.MinMax.{min_q_left, min_q_right, below_min_in}
 use Rattle.upp_curve.proofs.Repeats.{repeated_first, repeated_rule}
 use Rattle.upp_curve.proofs.Unique.{same_lists, upto_none, upto_some, upto_end}
 use Rattle.upp_curve.proofs.Rules.{rule_extends, no_shorter, one_rise}
+use Rattle.affine_segment.proofs.PieceIn.{low_start}
 
 -- ---- lists
 pub lists_read : (f : ℚ → Ext) (X : ℚ) (ps qs : List Piece) → StartsAtZero ps → NoMerge ps → StartsAtZero qs → NoMerge qs
@@ -28,8 +29,8 @@ lists_read f X [] qs a b c d F G = absurd a
 lists_read f X (p ∷ ps) [] a b c d F G = absurd c
 lists_read f X (p ∷ ps) (q ∷ qs) a b c d F G =
     same_lists f X p ps q qs
-    record { rises = a.1; none = b; is = λ t h k. F t (subst (λ x. x ≤ℚ t) a.0 h) k }
-    record { rises = c.1; none = d; is = λ t h k. G t (subst (λ x. x ≤ℚ t) c.0 h) k }
+    record { low_start = a.1; none = b; is = λ t h k. F t (subst (λ x. x ≤ℚ t) a.0 h) k }
+    record { low_start = c.1; none = d; is = λ t h k. G t (subst (λ x. x ≤ℚ t) c.0 h) k }
     (a.0 ∙ sym c.0)
 
 pub upto_all : (X : ℚ) (ps : List Piece) → Each (λ p. p.x <ℚ X) ps → upto X ps ≡ ps
@@ -49,7 +50,7 @@ start_in_upto y x X (p ∷ ps) r (inr h) l =
     let before : p.x <ℚ X = with3 p.x x X (λ c. omega (arith, c.le, c.lt, c.same)) in
     subst (HasStart x) (sym (upto_some X p ps before)) (inr (start_in_upto p.x x X ps r.1 h l))
 
-start_from_upto : (x X : ℚ) (ps : List Piece) → HasStart x (upto X ps) → HasStart x ps
+pub start_from_upto : (x X : ℚ) (ps : List Piece) → HasStart x (upto X ps) → HasStart x ps
 start_from_upto x X [] h = subst (HasStart x) (upto_end X) h
 start_from_upto x X (p ∷ ps) h = elim (le_or_lt X p.x) [
   | inl l ↦ absurd (subst (HasStart x) (upto_none X p ps l) h)
@@ -65,10 +66,6 @@ each_at P x [] h k = absurd k
 each_at P x (p ∷ ps) h (inl e) = subst P e h.0
 each_at P x (p ∷ ps) h (inr k) = each_at P x ps h.1 k
 
-pub rises : (ps : List Piece) → StartsAtZero ps → RisesFrom (int (pos 0) -ℚ int (pos 1)) ps
-rises [] h = absurd h
-rises (p ∷ ps) h = (subst (λ z. int (pos 0) -ℚ int (pos 1) <ℚ z) (sym h.0) (with1 (int (pos 0)) (λ c. omega (arith, c.le, c.lt, c.same))), h.1)
-
 -- ---- two periodic curves
 value_is : (c : SpecCurve) (t : ℚ) → value_at c t ≡ with_tail (read c.pieces) c.tail t
 unfolding value_at
@@ -81,7 +78,7 @@ rank_not_before : (ps qs : List Piece) (r d c s p q X : ℚ) (f : ℚ → Ext) �
 rank_not_before ps qs r d c s p q X f zero same inside start d_pos p_pos D P least = elim (le_or_lt s r) [
   | inl l ↦ l
   | inr l ↦
-      let there : HasStart r qs = start_from_upto r X qs (subst (HasStart r) same (start_in_upto _ r X ps (rises ps zero) start (inside l))) in
+      let there : HasStart r qs = start_from_upto r X qs (subst (HasStart r) same (start_in_upto _ r X ps (low_start ps zero) start (inside l))) in
       absurd (each_at (λ x. x <ℚ s → ¬ (Repeats f x p q)) r qs least there l (rule_extends f r d c s p q D P d_pos (le_of_lt p_pos)))
 ]
 
@@ -141,11 +138,11 @@ periodic_unique ps qs r d c s p q A B same =
     let PR : Repeats F r p q = subst (λ z. Repeats F z p q) (sym ranks) PF in
     let DS : Repeats G s d c = subst (λ z. Repeats G z d c) ranks DG in
     let periods : d ≡ p = antisym (no_longer ps r d c p q A b.some PR, no_longer qs s p q d c B a.some DS) in
-    let rises : c ≡ q = one_rise F r d c q D (subst (λ z. Repeats F r z q) (sym periods) PR) (A.tail.not_one_line None) in
+    let low_start : c ≡ q = one_rise F r d c q D (subst (λ z. Repeats F r z q) (sym periods) PR) (A.tail.not_one_line None) in
     let ends : r +ℚ d ≡ s +ℚ p = ap₂ (λ (x y : ℚ). x +ℚ y) ranks periods in
     let all = periodic_lists ps qs r d c s p q (r +ℚ d) A B same (le_refl (r +ℚ d)) (subst (λ z. r +ℚ d ≤ℚ z) ends (le_refl (r +ℚ d))) in
     let whole : ps ≡ qs = sym (upto_all (r +ℚ d) ps a.starts) ∙ all ∙ ap (λ z. upto z qs) ends ∙ upto_all (s +ℚ p) qs b.starts in
-    same_periodic ps qs r d c s p q whole ranks periods rises
+    same_periodic ps qs r d c s p q whole ranks periods low_start
   where
     least_le_left : (x y : ℚ) → min_q x y ≤ℚ x
     least_le_left x y = elim (le_or_lt x y) [ inl h ↦ rw (min_q_left x y h) (le_refl x) | inr l ↦ rw (min_q_right x y l) (le_of_lt l) ]

@@ -19,13 +19,13 @@ use Rattle.upp_curve.specs.Steady.{last_line, Repeats, slope_times}
 use Rattle.upp_curve.proofs.Repeats.{repeats_times}
 use Rattle.rational.proofs.Whole.{nat_nonneg}
 use Rattle.upp_curve.proofs.Steady.{line_rule, read_past, cut_past}
-use Rattle.min_plus.proofs.FiniteValues.{no_inf, Fin_inj}
+use Rattle.min_plus.proofs.FiniteValues.{no_inf}
 use Rattle.rational.proofs.MinMax.{max_q_ge_left, max_q_ge_right, le_q_not}
 use Rattle.rational.specs.MinMax.{max_q}
 use Rattle.min_plus.proofs.Rates.{enough}
-use Rattle.upp_curve.proofs.Rules.{add_cancel_ext}
 use Rattle.rational.proofs.Over.{le_q_out}
 use Rattle.upp_curve.proofs.Normal.{lists_read, upto_all, each_at, periodic, periodic_rule, periodic_unique, backward}
+use Rattle.rational.proofs.ExtendedOrder.{add_cancel_ext, fin_same}
 
 abbrev pub affine : List Piece → ℚ → SpecCurve
 affine ps r = record { pieces = ps; tail = Affine r }
@@ -54,7 +54,7 @@ pub rise_is : (l : Line) (f : ℚ → Ext) (t p q : ℚ) → f t ≡ line_value 
 rise_is l f t p q a b e =
     let v = l.icept +ℚ l.slope *ℚ t in
     let k : Fin (v +ℚ q) ≡ Fin (v +ℚ l.slope *ℚ p) = ap (λ z. z +ₑ Fin q) (sym a) ∙ sym e ∙ b ∙ line_rule (Some l) t p in
-    let m = Fin_inj k in
+    let m = fin_same k in
     with3 v q (l.slope *ℚ p) (λ c. omega (arith, c.le, c.lt, c.same))
 
 slope_whole : (l : Option Line) (n : ℕ) (p : ℚ) (q : ℚ) → slope_times l p ≡ q → slope_times l (int (pos n) *ℚ p) ≡ int (pos n) *ℚ q

@@ -23,7 +23,7 @@ use Rattle.upp_curve.proofs.FirstStretch.{read_in, at_start}
 use Rattle.upp_curve.proofs.Repeats.{repeated_first, repeated_next}
 
 -- ---- one piece
-line_up : (l : Option Line) (s t : ℚ) → LineRises l → s ≤ℚ t → line_value l s ≤ₑ line_value l t
+pub line_up : (l : Option Line) (s t : ℚ) → LineRises l → s ≤ℚ t → line_value l s ≤ₑ line_value l t
 line_up None s t h k = tt
 line_up (Some l) s t h k =
     let m = mul_le_mul l.slope h k in

@@ -25,19 +25,19 @@ use Rattle.upp_curve.proofs.Rising.{list_rises, list_ends, repeated_rises}
 use Rattle.upp_curve.proofs.RisingFrom.{IsBefore, pieces_rise}
 use Rattle.upp_curve.proofs.Finite.{level_of, number_of, read_number, repeated_number, pieces_finite}
 
-read_is : (p : Piece) (ps : List Piece) (t : ℚ) → read (p ∷ ps) t ≡ read_in p ps t
+pub read_is : (p : Piece) (ps : List Piece) (t : ℚ) → read (p ∷ ps) t ≡ read_in p ps t
 unfolding read
 read_is p ps t = refl
 
-each_before : (e : End) (ps : List Piece) → Each (λ z. z.x <ℚ e.x) ps → Each (λ z. IsBefore z.x (Some e)) ps
+pub each_before : (e : End) (ps : List Piece) → Each (λ z. z.x <ℚ e.x) ps → Each (λ z. IsBefore z.x (Some e)) ps
 each_before e [] h = tt
 each_before e (p ∷ ps) h = (h.0, each_before e ps h.1)
 
-each_free : (ps : List Piece) → Each (λ z. IsBefore z.x None) ps
+pub each_free : (ps : List Piece) → Each (λ z. IsBefore z.x None) ps
 each_free [] = tt
 each_free (p ∷ ps) = (tt, each_free ps)
 
-each_at_most : (x : ℚ) (ps : List Piece) → Each (λ z. z.x <ℚ x) ps → Each (λ z. z.x ≤ℚ x) ps
+pub each_at_most : (x : ℚ) (ps : List Piece) → Each (λ z. z.x <ℚ x) ps → Each (λ z. z.x ≤ℚ x) ps
 each_at_most x [] h = tt
 each_at_most x (p ∷ ps) h = (le_of_lt h.0, each_at_most x ps h.1)
 

@@ -89,7 +89,7 @@ pub record ListRises (end : Option End) (p : Piece) (ps : List Piece) : Type 0 w
   pub rises : (s t : ℚ) → p.x ≤ℚ s → s ≤ℚ t → IsBefore t end → read_in p ps s ≤ₑ read_in p ps t
   pub ends : (t : ℚ) → p.x ≤ℚ t → IsBefore t end → IsAtMostEnd (read_in p ps t) end
 
-before_later : (end : Option End) (s t : ℚ) → s <ℚ t → IsBefore t end → IsBefore s end
+pub before_later : (end : Option End) (s t : ℚ) → s <ℚ t → IsBefore t end → IsBefore s end
 before_later None s t h k = tt
 before_later (Some e) s t h k = let x = e.x in with3 s t x (λ c. omega (arith, c.le, c.lt, c.same))
 

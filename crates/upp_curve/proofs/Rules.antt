@@ -14,19 +14,14 @@ use Rattle.rational.proofs.Laws.{antisym, add_comm, add_mul, mul_assoc, mul_comm
 use Rattle.rational.specs.Extended.{Ext, ◌+ₑ◌}
 use Rattle.rational.specs.declared.Extended.TheVariants.{Fin, Inf}
 use Rattle.upp_curve.specs.Steady.{Repeats}
-use Rattle.rational.proofs.ExtendedOrder.{add_assoc_ext}
+use Rattle.rational.proofs.ExtendedOrder.{add_assoc_ext, add_cancel_ext, fin_same}
 use Rattle.rational.proofs.Whole.{not_zero, lt_of_mul, nat_nonneg}
 use Rattle.upp_curve.proofs.Repeats.{repeats_times}
-use Rattle.min_plus.proofs.FiniteValues.{Fin_inj, no_inf}
+use Rattle.min_plus.proofs.FiniteValues.{no_inf}
 use Rattle.min_plus.proofs.Rates.{enough}
+use Rattle.rational.proofs.Integers.{nat_lt_out}
 
-pub add_cancel_ext : (x y : Ext) (c : ℚ) → x +ₑ Fin c ≡ y +ₑ Fin c → x ≡ y
-add_cancel_ext Inf Inf c e = refl
-add_cancel_ext Inf (Fin y) c e = absurd (no_inf (sym e))
-add_cancel_ext (Fin x) Inf c e = absurd (no_inf e)
-add_cancel_ext (Fin x) (Fin y) c e = let f = Fin_inj e in ap Fin (with3 x y c (λ c. omega (arith, c.le, c.lt, c.same)))
-
-swap_ext : (x : Ext) (a b : ℚ) → (x +ₑ Fin a) +ₑ Fin b ≡ (x +ₑ Fin b) +ₑ Fin a
+pub swap_ext : (x : Ext) (a b : ℚ) → (x +ₑ Fin a) +ₑ Fin b ≡ (x +ₑ Fin b) +ₑ Fin a
 swap_ext x a b = add_assoc_ext x a b ∙ ap (λ y. x +ₑ Fin y) (add_comm a b) ∙ sym (add_assoc_ext x b a)
 
 -- a rule that holds from s on holds from r on, where another does
@@ -131,7 +126,7 @@ all_inf f r d c w C W n t h = go (f t) refl
     go Inf e = e
     go (Fin v) e =
         let k : Fin (v +ℚ c) ≡ Fin (v +ℚ w) = ap (λ z. z +ₑ Fin c) (sym e) ∙ sym (C.rule t h) ∙ W.rule t h ∙ ap (λ z. z +ₑ Fin w) e in
-        let l = Fin_inj k in
+        let l = fin_same k in
         absurd (n (with3 v c w (λ c. omega (arith, c.le, c.lt, c.same))))
 
 pub one_rise : (f : ℚ → Ext) (r d c w : ℚ) → Repeats f r d c → Repeats f r d w → (((t : ℚ) → r ≤ℚ t → f t ≡ Inf) → ⊥) → c ≡ w
@@ -142,9 +137,6 @@ one_rise f r d c w C W some = elim (le_or_lt c w) [
     | inl k ↦ antisym (h, k)
   ]
 ]
-
-int_less : (a b : ℕ) → int (pos a) <ℚ int (pos b) → a < b
-int_less a b h = let l = (lt_over (pos a) (pos b) 0).0 h in omega (arith, ints)
 
 parts_two : (k g a b : ℕ) → k * g ≡ a → g ≤ b → b < a → 2 ≤ k
 parts_two zero g a b e h l = absurd (omega arith)
@@ -182,8 +174,8 @@ no_shorter f r d c p q some less least finite D P =
         let A : Repeats f r (int (pos a) *ℚ e) c = subst (λ x. Repeats f r x c) da D in
         let B : Repeats f r (int (pos b) *ℚ e) q = subst (λ x. Repeats f r x q) pb P in
         let o : int (pos 0) *ℚ e ≡ int (pos 0) = with1 e (λ c. omega (arith, c.le, c.lt, c.same)) in
-        let b_pos : 0 < b = int_less 0 b (lt_of_mul e (int (pos 0)) (int (pos b)) e_pos (rw (o, ← pb) some)) in
-        let b_less : b < a = int_less b a (lt_of_mul e (int (pos b)) (int (pos a)) e_pos (rw (← pb, ← da) less)) in
+        let b_pos : 0 < b = nat_lt_out 0 b (lt_of_mul e (int (pos 0)) (int (pos b)) e_pos (rw (o, ← pb) some)) in
+        let b_less : b < a = nat_lt_out b a (lt_of_mul e (int (pos b)) (int (pos a)) e_pos (rw (← pb, ← da) less)) in
         let (w, G) = gcd_rule (suc b) a b f r e c q (le_of_lt e_pos) A B in
         let g = gcd a b in
         let k = a / g in

@@ -21,12 +21,9 @@ use Rattle.rational.proofs.MinMax.{le_q_not}
 use Rattle.rational.proofs.Whole.{not_zero}
 use Rattle.affine_segment.proofs.PieceIn.{piece_in_go, piece_in_end}
 use Rattle.upp_curve.proofs.Repeats.{repeated_rule, repeats_times}
+use Rattle.affine_segment.proofs.ElementValues.{and_parts}
 
 -- ---- the test of two values
-both_true : (a b : Bool) → a && b ≡ true → (a ≡ true) × (b ≡ true)
-both_true true true e = (refl, refl)
-both_true true false e = absurd (grind (arith, e))
-both_true false b e = absurd (grind (arith, e))
 
 pub same_out : (x y : Ext) → same_ext x y ≡ true → x ≡ y
 unfolding same_ext
@@ -34,7 +31,7 @@ same_out Inf Inf e = refl
 same_out Inf (Fin y) e = absurd (grind (arith, e))
 same_out (Fin x) Inf e = absurd (grind (arith, e))
 same_out (Fin x) (Fin y) e =
-    let h = both_true (le_q x y) (le_q y x) e in
+    let h = and_parts (le_q x y) (le_q y x) e in
     ap Fin (antisym (le_q_in x y h.0, le_q_in y x h.1))
 
 -- ---- past every start the last piece is read

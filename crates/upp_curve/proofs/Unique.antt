@@ -17,8 +17,9 @@ use Rattle.upp_curve.specs.Normal.{NoneContinues}
 use Rattle.upp_curve.specs.Unrolled.{upto}
 use Rattle.rational.proofs.Whole.{not_zero}
 use Rattle.upp_curve.proofs.FirstStretch.{end_of, end_at_most, start_before, read_in, on_stretch, at_start}
-use Rattle.min_plus.proofs.FiniteValues.{Fin_inj, no_inf}
+use Rattle.min_plus.proofs.FiniteValues.{no_inf}
 use Rattle.affine_segment.proofs.PieceIn.{piece_in_go}
+use Rattle.rational.proofs.ExtendedOrder.{fin_same}
 
 -- ---- two values fix a line
 -- two lines that meet at two times have one slope
@@ -43,8 +44,8 @@ lines_at_two None None s t h e f = refl
 lines_at_two None (Some m) s t h e f = absurd (no_inf (sym e))
 lines_at_two (Some l) None s t h e f = absurd (no_inf e)
 lines_at_two (Some l) (Some m) s t h e f =
-    let r : l.slope ≡ m.slope = slopes_same l.icept l.slope m.icept m.slope s t h (Fin_inj e) (Fin_inj f) in
-    let k : l.icept ≡ m.icept = starts_same l.icept l.slope m.icept m.slope s r (Fin_inj e) in
+    let r : l.slope ≡ m.slope = slopes_same l.icept l.slope m.icept m.slope s t h (fin_same e) (fin_same f) in
+    let k : l.icept ≡ m.icept = starts_same l.icept l.slope m.icept m.slope s r (fin_same e) in
     ap Some (lines_are l m k r)
   where
     lines_are : (l m : Line) → l.icept ≡ m.icept → l.slope ≡ m.slope → l ≡ m

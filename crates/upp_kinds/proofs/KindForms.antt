@@ -27,8 +27,8 @@ use Rattle.upp_curve.proofs.Unique.{lines_at_two}
 use Rattle.upp_curve.proofs.Normal.{periodic, periodic_rule}
 use Rattle.upp_kinds.proofs.GateValues.{gate_pieces, closed_value, open_value}
 use Rattle.upp_kinds.proofs.StairValues.{one_step, first_step, step_pieces, steps_is, ratio_high}
-use Rattle.min_plus.proofs.FiniteValues.{Fin_inj}
 use Rattle.upp_curve.proofs.Repeats.{repeated_first}
+use Rattle.rational.proofs.ExtendedOrder.{fin_same}
 
 -- ---- lines that differ
 abbrev slope_or : ℚ → Option Line → ℚ
@@ -99,7 +99,7 @@ pub record IsStair (f : ℚ → Ext) (P l y : ℚ) : Type 0 where
   pub repeats : Repeats f zero_q P l
 
 counted_twice : (l c : ℚ) (n a b : ℕ) (v w : Ext) → zero_q <ℚ l → 2 ≤ n → v ≡ Fin (l *ℚ int (pos a)) → w ≡ Fin (l *ℚ int (pos b)) → v ≡ w +ₑ Fin (l /ℚ int (pos n)) → ⊥
-counted_twice l c n a b v w some two p q e = no_shorter_stair l n a b some two (Fin_inj (sym p ∙ e ∙ ap (λ z. z +ₑ Fin (l /ℚ int (pos n))) q))
+counted_twice l c n a b v w some two p q e = no_shorter_stair l n a b some two (fin_same (sym p ∙ e ∙ ap (λ z. z +ₑ Fin (l /ℚ int (pos n))) q))
 
 no_share_repeats : (f : ℚ → Ext) (P l y : ℚ) (n : ℕ) → IsStair f P l y → 2 ≤ n → Repeats f zero_q (P /ℚ int (pos n)) (l /ℚ int (pos n)) → ⊥
 no_share_repeats f P l y n S two h =
@@ -124,7 +124,7 @@ no_line f P l y S m h =
     let is = lines_at_two m (Some record { icept = level; slope = zero_q }) zero_q s p here there in
     let past : zero_q ≤ℚ zero_q +ℚ P = let k = S.period in with1 P (λ c. omega (arith, c.le, c.lt, c.same)) in
     let end : f (zero_q +ℚ P) ≡ Fin level = h (zero_q +ℚ P) past ∙ ap (λ z. line_value z (zero_q +ℚ P)) is ∙ flat_line level (zero_q +ℚ P) in
-    apart l level (Fin_inj (sym end ∙ S.repeats.rule zero_q (le_refl zero_q) ∙ ap (λ z. z +ₑ Fin l) v)) S.packet
+    apart l level (fin_same (sym end ∙ S.repeats.rule zero_q (le_refl zero_q) ∙ ap (λ z. z +ₑ Fin l) v)) S.packet
   where
     flat_line : (k t : ℚ) → Fin (k +ℚ zero_q *ℚ t) ≡ Fin k
     flat_line k t = ap Fin (with2 k t (λ c. omega (arith, c.le, c.lt, c.same)))
@@ -195,7 +195,7 @@ steps_two l P J e late is packet some jitter q past short = record {
     };
   };
   rank_is_start = inl refl;
-  no_merge = (λ h. rises l v (P -ℚ late) packet (Fin_inj h.0), tt);
+  no_merge = (λ h. rises l v (P -ℚ late) packet (fin_same h.0), tt);
   tail = stair_tail ps (value_at (periodic ps zero_q P l)) P l (P -ℚ late) record {
     packet = packet;
     period = some;
@@ -257,7 +257,7 @@ no_gate_line f R c y w G m h =
     (sym (h y (le_of_lt G.closed)) ∙ G.none y (le_of_lt G.closed) (le_refl y) ∙ sym (flat_at y)) in
     let (t, p, q) = between y c G.opens in
     let start = le_of_lt (lt_le_trans G.closed (le_of_lt p)) in
-    let e = Fin_inj (sym (G.some t (le_of_lt p) q) ∙ h t start ∙ ap (λ z. line_value z t) is ∙ flat_at t) in
+    let e = fin_same (sym (G.some t (le_of_lt p) q) ∙ h t start ∙ ap (λ z. line_value z t) is ∙ flat_at t) in
     let k = mul_pos G.rate (gap y t p) in
     let d = mul_sub R t y in
     apart (R *ℚ y) (R *ℚ t) (R *ℚ (t -ℚ y)) e k d
@@ -278,7 +278,7 @@ no_shorter_gate f R c y w x v G pos_x short pos_v h = elim (le_or_lt x y) [
       -- nothing is done before the gate opens
       let low : zero_q ≤ℚ zero_q +ℚ x = with1 x (λ c. omega (arith, c.le, c.lt, c.same)) in
       let high : zero_q +ℚ x ≤ℚ y = with2 x y (λ c. omega (arith, c.le, c.lt, c.same)) in
-      let e = Fin_inj (sym (G.none (zero_q +ℚ x) low high) ∙ h.rule zero_q (le_refl zero_q) ∙ ap (λ z. z +ₑ Fin v) (G.none zero_q (le_refl zero_q) (le_of_lt G.closed))) in
+      let e = fin_same (sym (G.none (zero_q +ℚ x) low high) ∙ h.rule zero_q (le_refl zero_q) ∙ ap (λ z. z +ₑ Fin v) (G.none zero_q (le_refl zero_q) (le_of_lt G.closed))) in
       with1 v (λ c. omega (arith, c.le, c.lt, c.same, e))
   | inr l ↦
       -- a little later the gate is open and the share before is closed
@@ -290,8 +290,8 @@ no_shorter_gate f R c y w x v G pos_x short pos_v h = elim (le_or_lt x y) [
   where
     later : (t : ℚ) → zero_q <ℚ t → t <ℚ y → t <ℚ c -ℚ x → y <ℚ x → ⊥
     later t p early room opened =
-        let at0 = Fin_inj (sym (G.some (zero_q +ℚ x) (with2 x y (λ c. omega (arith, c.le, c.lt, c.same))) (with2 x c (λ c. omega (arith, c.le, c.lt, c.same)))) ∙ h.rule zero_q (le_refl zero_q) ∙ ap (λ z. z +ₑ Fin v) (G.none zero_q (le_refl zero_q) (le_of_lt G.closed))) in
-        let at_t = Fin_inj (sym (G.some (t +ℚ x) (with3 t x y (λ c. omega (arith, c.le, c.lt, c.same))) (with3 t x c (λ c. omega (arith, c.le, c.lt, c.same)))) ∙ h.rule t (le_of_lt p) ∙ ap (λ z. z +ₑ Fin v) (G.none t (le_of_lt p) (le_of_lt early))) in
+        let at0 = fin_same (sym (G.some (zero_q +ℚ x) (with2 x y (λ c. omega (arith, c.le, c.lt, c.same))) (with2 x c (λ c. omega (arith, c.le, c.lt, c.same)))) ∙ h.rule zero_q (le_refl zero_q) ∙ ap (λ z. z +ₑ Fin v) (G.none zero_q (le_refl zero_q) (le_of_lt G.closed))) in
+        let at_t = fin_same (sym (G.some (t +ℚ x) (with3 t x y (λ c. omega (arith, c.le, c.lt, c.same))) (with3 t x c (λ c. omega (arith, c.le, c.lt, c.same)))) ∙ h.rule t (le_of_lt p) ∙ ap (λ z. z +ₑ Fin v) (G.none t (le_of_lt p) (le_of_lt early))) in
         let a = mul_add R t x in
         let b = mul_add R zero_q x in
         let z = mul_zero R in

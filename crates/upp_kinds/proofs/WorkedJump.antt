@@ -14,10 +14,10 @@ use Rattle.upp_curve.specs.Curve.{value_at}
 use Rattle.upp_curve.specs.Kinds.{rate_latency}
 use Rattle.upp_kinds.specs.WorkedRows.{whole, dip}
 use Rattle.upp_kinds.specs.WorkedStairs.{JumpLeaves}
-use Rattle.min_plus.proofs.FiniteValues.{Fin_inj}
 use Rattle.upp_kinds.proofs.KindValues.{service_is}
 use Rattle.min_plus.specs.Formulas.{IsService}
 use Rattle.upp_kinds.proofs.WorkedRunning.{dip_early, dip_late, close}
+use Rattle.rational.proofs.ExtendedOrder.{fin_same}
 
 late : IsService (whole 1) (whole 1) (value_at (rate_latency (whole 1) (whole 1)))
 late = service_is (whole 1) (whole 1) (nat_nonneg 1) (nat_nonneg 1)
@@ -49,6 +49,6 @@ above s y h l k =
 
 pub jump_leaves : JumpLeaves
 jump_leaves = record {
-  above = λ u. at_most u.at u.level u.nonneg (Fin_inj (sym (late.is u.at u.nonneg) ∙ u.is));
+  above = λ u. at_most u.at u.level u.nonneg (fin_same (sym (late.is u.at u.nonneg) ∙ u.is));
   near = λ y l. let (s, h, k, m) = close y l in (record { at = s; nonneg = h; level = zero_q; is = none s h k }, above s y h k m);
 }

@@ -22,11 +22,11 @@ use Rattle.upp_curve.specs.Curve.{value_at, repeated}
 use Rattle.upp_curve.specs.Kinds.{stair, rate_latency}
 use Rattle.upp_kinds.specs.WorkedRows.{whole}
 use Rattle.upp_kinds.specs.WorkedStairs.{StairFormula, TwoStairs, StairLeaves}
-use Rattle.min_plus.proofs.FiniteValues.{Fin_inj}
 use Rattle.upp_kinds.proofs.KindValues.{on_line, service_is}
 use Rattle.min_plus.specs.Formulas.{IsService}
 use Rattle.upp_curve.proofs.Rules.{int_add, int_mul}
 use Rattle.upp_kinds.proofs.Worked.{computing}
+use Rattle.rational.proofs.ExtendedOrder.{fin_same}
 
 -- ---- the value at each time
 no_jitter : (d : ℚ) → zero_q <ℚ d → whole_part (zero_q /ℚ d) ≡ 0
@@ -148,7 +148,7 @@ leaves t v u level start high on is value =
     at_most : (x : FiniteTime g) → f (t +ℚ x.at) -ₑ x.level ≤ₑ Fin v
     at_most x =
         let S = steps_at 4000 1000 (t +ℚ x.at) (some_of 4000 (omega arith)) (some_of 1000 (omega arith)) (less x.at t x.nonneg start) in
-        let e = Fin_inj (sym (late.is x.at x.nonneg) ∙ x.is) in
+        let e = fin_same (sym (late.is x.at x.nonneg) ∙ x.is) in
         let m = max_q zero_q (x.at -ℚ whole 256) in
         rw (S.is, ← e) (under t v x.at m S.n high S.low (max_q_ge_left zero_q (x.at -ℚ whole 256)) (max_q_ge_right zero_q (x.at -ℚ whole 256)))
 

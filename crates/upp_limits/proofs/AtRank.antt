@@ -14,14 +14,7 @@ use Rattle.affine_segment.specs.Values.{line_value}
 use Rattle.affine_segment.specs.Reading.{piece_value}
 use Rattle.upp_curve.specs.Steady.{same_ext}
 use Rattle.upp_curve.proofs.Steady.{same_out}
-
-pub past_rank : (p : Piece) (rank : ℚ) → p.x <ℚ rank → piece_value p rank ≡ line_value p.line rank
-unfolding piece_value
-past_rank p rank h = ap (λ b. cond b p.at (line_value p.line rank)) (le_q_not rank p.x h)
-
-pub at_rank : (p : Piece) (rank : ℚ) → rank ≤ℚ p.x → piece_value p rank ≡ p.at
-unfolding piece_value
-at_rank p rank h = ap (λ b. cond b p.at (line_value p.line rank)) (le_q_out rank p.x h)
+use Rattle.affine_segment.proofs.PieceIn.{value_by, value_past}
 
 same_self : (x : Ext) → same_ext x x ≡ true
 unfolding same_ext
@@ -42,18 +35,18 @@ same_by x y e = sym (subst (λ z. same_ext x z ≡ true) e (same_self x))
 
 -- what is read at the rank: before it a line or none, at it a value
 pub none_past : (p : Piece) (rank : ℚ) → p.x <ℚ rank → p.line ≡ None → true ≡ same_ext (piece_value p rank) Inf
-none_past p rank h e = same_by (piece_value p rank) Inf (past_rank p rank h ∙ ap (λ l. line_value l rank) e)
+none_past p rank h e = same_by (piece_value p rank) Inf (value_past p rank h ∙ ap (λ l. line_value l rank) e)
 
 pub some_past : (p : Piece) (rank : ℚ) (l : Line) → p.x <ℚ rank → p.line ≡ Some l → false ≡ same_ext (piece_value p rank) Inf
 unfolding same_ext
-some_past p rank l h e = sym (ap (λ v. same_ext v Inf) (past_rank p rank h ∙ ap (λ m. line_value m rank) e))
+some_past p rank l h e = sym (ap (λ v. same_ext v Inf) (value_past p rank h ∙ ap (λ m. line_value m rank) e))
 
 pub infinite_at : (p : Piece) (rank : ℚ) → rank ≤ℚ p.x → p.at ≡ Inf → true ≡ same_ext (piece_value p rank) Inf
-infinite_at p rank h e = same_by (piece_value p rank) Inf (at_rank p rank h ∙ e)
+infinite_at p rank h e = same_by (piece_value p rank) Inf (value_by p rank h ∙ e)
 
 pub finite_at : (p : Piece) (rank v : ℚ) → rank ≤ℚ p.x → p.at ≡ Fin v → false ≡ same_ext (piece_value p rank) Inf
 unfolding same_ext
-finite_at p rank v h e = sym (ap (λ x. same_ext x Inf) (at_rank p rank h ∙ e))
+finite_at p rank v h e = sym (ap (λ x. same_ext x Inf) (value_by p rank h ∙ e))
 
 pub same_values : (x x' y y' : Ext) → x ≡ x' → y ≡ y' → same_ext x y ≡ same_ext x' y'
 same_values x x' y y' e f = ap (λ z. same_ext z y) e ∙ ap (λ z. same_ext x' z) f

@@ -7,7 +7,7 @@ use Rattle.rational.specs.Extended.{Ext, ◌+ₑ◌}
 use Rattle.rational.specs.declared.Extended.TheVariants.{Fin, Inf}
 use Rattle.rational.specs.Whole.{whole_part}
 use Rattle.rational.proofs.Linear.{with1, with2, with3, with4}
-use Rattle.rational.proofs.Laws.{le_or_lt, le_of_lt, lt_le_trans, le_lt_trans, mul_comm, mul_zero, div_mul}
+use Rattle.rational.proofs.Laws.{le_or_lt, le_of_lt, lt_le_trans, le_lt_trans, mul_comm, mul_zero, div_mul, zero_mul}
 use Rattle.rational.proofs.Integers.{nat_lt, nat_lt_out}
 use Rattle.rational.proofs.Over.{le_q_out}
 use Rattle.rational.proofs.MinMax.{le_q_not}
@@ -73,13 +73,11 @@ copies_out d end p n some h =
     whole_up_out q n (lt_of_mul d (int (pos n)) q some (with4 end x (q *ℚ d) (int (pos n) *ℚ d) (λ c. omega (arith, c.le, c.lt, c.same))))
 
 -- ---- copy 0 is the span itself
-zero_times : (d : ℚ) → int (pos 0) *ℚ d ≡ int (pos 0)
-zero_times d = mul_comm (int (pos 0)) d ∙ mul_zero d
 
 pub plus_zero : (x d : ℚ) → x +ℚ int (pos 0) *ℚ d ≡ x
-plus_zero x d = let e = zero_times d in with2 x (int (pos 0) *ℚ d) (λ c. omega (arith, c.le, c.lt, c.same))
+plus_zero x d = let e = zero_mul d in with2 x (int (pos 0) *ℚ d) (λ c. omega (arith, c.le, c.lt, c.same))
 
-value_zero : (v : Ext) (c : ℚ) → v +ₑ Fin (int (pos 0) *ℚ c) ≡ v
+pub value_zero : (v : Ext) (c : ℚ) → v +ₑ Fin (int (pos 0) *ℚ c) ≡ v
 value_zero Inf c = refl
 value_zero (Fin v) c = ap Fin (plus_zero v c)
 
@@ -89,8 +87,8 @@ line_zero (Some l) d c =
     let z = int (pos 0) *ℚ d in
     let s = l.slope in
     let k = l.icept in
-    let e : s *ℚ z ≡ int (pos 0) = ap (λ x. s *ℚ x) (zero_times d) ∙ mul_zero s in
-    let f = zero_times c in
+    let e : s *ℚ z ≡ int (pos 0) = ap (λ x. s *ℚ x) (zero_mul d) ∙ mul_zero s in
+    let f = zero_mul c in
     let same : k +ℚ int (pos 0) *ℚ c -ℚ s *ℚ z ≡ k = with3 k (int (pos 0) *ℚ c) (s *ℚ z) (λ c. omega (arith, c.le, c.lt, c.same)) in
     ap (λ i. Some (let m : Line = record { icept = i; slope = s } in m)) same
 

@@ -133,11 +133,11 @@ curve_stands z end c raw starts h = record {
 }
 
 -- ---- a curve by itself
-each_up : (ps : List Piece) (s t : ℚ) → s <ℚ t → Each (λ p. p.x ≤ℚ s) ps → Each (λ p. p.x <ℚ t) ps
+pub each_up : (ps : List Piece) (s t : ℚ) → s <ℚ t → Each (λ p. p.x ≤ℚ s) ps → Each (λ p. p.x <ℚ t) ps
 each_up [] s t l h = tt
 each_up (p ∷ ps) s t l h = (le_lt_trans h.0 l, each_up ps s t l h.1)
 
-later_at_least : (b : Bool) (r : ℚ) → r ≤ℚ later_unless b r
+pub later_at_least : (b : Bool) (r : ℚ) → r ≤ℚ later_unless b r
 later_at_least true r = with1 r (λ c. omega (arith, c.le, c.lt, c.same))
 later_at_least false r = with1 r (λ c. omega (arith, c.le, c.lt, c.same))
 

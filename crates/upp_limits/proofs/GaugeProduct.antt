@@ -17,36 +17,33 @@ use Rattle.upp_limits.specs.Limits.{Numbers, Sizes, joined, time_alone, twice, s
 use Rattle.upp_limits.specs.Sized.{AreSizes}
 use Rattle.upp_limits.specs.Gathered.{Gathers}
 use Rattle.upp_limits.proofs.Gathering.{kept_max}
-
--- with each factor at least 1, a product of some is at most that of all
-more : (a b : ℕ) → 0 < b → a ≤ a * b
-more a b h = le-mul_of_pos_right a h
+use Rattle.rational.proofs.Gauges.{le_times}
 
 grown : (m a b : ℕ) → m ≤ a → 0 < b → m ≤ a * b
-grown m a b h k = let l = more a b k in omega arith
+grown m a b h k = let l = le_times a b k in omega arith
 
 -- V dv dt ds ds S is the whole: what is at most V dv dt ds is at most the gauge's 64th part
 pub whole_part_of : (V S dv dt ds : ℕ) → 0 < S → 0 < ds → V * dv * dt * ds ≤ V * S * dv * dt * ds * ds
 whole_part_of V S dv dt ds s d =
-    let a : V * dv * dt * ds ≤ V * dv * dt * ds * S = more (V * dv * dt * ds) S s in
-    let b : V * dv * dt * ds * S ≤ V * dv * dt * ds * S * ds = more (V * dv * dt * ds * S) ds d in
+    let a : V * dv * dt * ds ≤ V * dv * dt * ds * S = le_times (V * dv * dt * ds) S s in
+    let b : V * dv * dt * ds * S ≤ V * dv * dt * ds * S * ds = le_times (V * dv * dt * ds * S) ds d in
     omega (arith, a, b)
 
 pub steep_part_of : (V S dv dt ds : ℕ) → 0 < V → 0 < dv → 0 < dt → 0 < ds → S ≤ V * S * dv * dt * ds * ds
 steep_part_of V S dv dt ds v a b c =
-    let h : S ≤ S * V = more S V v in
+    let h : S ≤ S * V = le_times S V v in
     grown S (V * S * dv * dt * ds) ds (grown S (V * S * dv * dt) ds (grown S (V * S * dv) dt (grown S (V * S) dv (omega (arith, h)) a) b) c) c
 
 pub time_part_of : (V S dv dt ds : ℕ) → 0 < S → 0 < dv → 0 < ds → V * dt ≤ V * S * dv * dt * ds * ds
 time_part_of V S dv dt ds s a c =
-    let h : V * dt ≤ V * dt * dv = more (V * dt) dv a in
-    let k : V * dt * dv ≤ V * dt * dv * ds = more (V * dt * dv) ds c in
+    let h : V * dt ≤ V * dt * dv = le_times (V * dt) dv a in
+    let k : V * dt * dv ≤ V * dt * dv * ds = le_times (V * dt * dv) ds c in
     let l = whole_part_of V S dv dt ds s c in
     omega (arith, h, k, l)
 
 pub slope_part_of : (V S dv dt ds : ℕ) → 0 < V → 0 < dv → 0 < dt → 0 < ds → S * ds ≤ V * S * dv * dt * ds * ds
 slope_part_of V S dv dt ds v a b c =
-    let h : S * ds ≤ S * ds * V = more (S * ds) V v in
+    let h : S * ds ≤ S * ds * V = le_times (S * ds) V v in
     let r = grown (S * ds) (V * S * ds * dv * dt) ds (grown (S * ds) (V * S * ds * dv) dt (grown (S * ds) (V * S * ds) dv (omega (arith, h)) a) b) c in
     omega (arith, r)
 

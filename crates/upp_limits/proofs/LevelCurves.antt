@@ -25,6 +25,7 @@ use Rattle.upp_limits.specs.Levels.{icept_of, level_of, IsLevelAbove}
 use Rattle.upp_limits.specs.Gauges.{ValueAbove, EndsAbove}
 use Rattle.upp_curve.proofs.Steady.{read_past}
 use Rattle.upp_curve.proofs.Repeats.{repeated_rule, repeats_times}
+use Rattle.rational.proofs.ExtendedOrder.{antisym_ext}
 
 -- f is nowhere above x, and is x from some time on
 pub record EndsAt (x : ℚ) (f : ℚ → Ext) : Type 0 where
@@ -102,12 +103,6 @@ slope_some (Some m) x e = (m, refl, fin_same m.slope x e)
 no_rise : (c d : ℚ) → zero_q <ℚ d → c /ℚ d ≡ zero_q → c ≡ zero_q
 no_rise c d some e = sym (div_mul c d (not_zero d some)) ∙ ap (λ x. x *ℚ d) e ∙ mul_comm zero_q d ∙ mul_zero d
 
-ext_antisym : (a b : Ext) → a ≤ₑ b → b ≤ₑ a → a ≡ b
-ext_antisym Inf Inf h k = refl
-ext_antisym Inf (Fin y) h k = absurd h
-ext_antisym (Fin x) Inf h k = absurd k
-ext_antisym (Fin x) (Fin y) h k = ap Fin (antisym (h, k))
-
 ext_zero : (v : Ext) (n : ℕ) → v +ₑ Fin (int (pos n) *ℚ zero_q) ≡ v
 ext_zero Inf n = refl
 ext_zero (Fin v) n =
@@ -122,7 +117,7 @@ flat f rank d t nonneg some rises rule h =
     let o = one_more_times (periods rank d t) d in
     let l : t ≤ℚ far = with4 rank d t (int (pos (periods rank d t)) *ℚ d) (λ c. omega (arith, c.le, c.lt, c.same)) in
     let same : f far ≡ f rank = (repeats_times f rank d zero_q n (le_of_lt some) rule).rule rank (le_refl rank) ∙ ext_zero (f rank) n in
-    ext_antisym (f t) (f rank) (subst (λ v. f t ≤ₑ v) same (rises t far (le_trans nonneg h) l)) (rises rank t nonneg h)
+    antisym_ext (f t) (f rank) (subst (λ v. f t ≤ₑ v) same (rises t far (le_trans nonneg h) l)) (rises rank t nonneg h)
 
 one_line : (f : ℚ → Ext) (rank : ℚ) (v : Ext) → ((t : ℚ) → rank ≤ℚ t → f t ≡ v) → (l : Option Line) × ((t : ℚ) → rank ≤ℚ t → f t ≡ line_value l t)
 one_line f rank Inf h = (None, h)

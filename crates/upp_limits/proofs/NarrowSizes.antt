@@ -7,7 +7,7 @@ use Rattle.rational.specs.Rational.{ℚ, ◌+ℚ◌, ◌-ℚ◌, ◌*ℚ◌, ◌
 use Rattle.rational.specs.Ratio.{IsSmall, SumFits}
 use Rattle.rational.specs.Grid.{Whole, Within}
 use Rattle.rational.proofs.Linear.{with1, with2, with3}
-use Rattle.rational.proofs.Laws.{le_trans, le_refl, mul_le_mul, add_mul, mul_one, mul_assoc as mul_assoc_q, mul_comm as mul_comm_q}
+use Rattle.rational.proofs.Laws.{le_trans, le_refl, mul_le_mul, add_mul, mul_one, mul_assoc as mul_assoc_q, mul_comm as mul_comm_q, one_mul}
 use Rattle.rational.proofs.Integers.{mul_whole, int_add, nat_le, nat_nonneg}
 use Rattle.rational.proofs.Grid.{whole_weaken, whole_sub, whole_mul, within_sub, within_mul, within_nonneg, within_weaken}
 use Rattle.rational.proofs.Sizes.{largest_part, small_on_grid, sum_on_grid}
@@ -80,21 +80,18 @@ slope_time_divides z = subst (λ n. z.ds * z.dt ∣ n) (regroup z.dv z.dt z.ds) 
     regroup : (v t s : ℕ) → v * (s * t) ≡ v * t * s
     regroup v t s = omega arith
 
-one_time : (v : ℚ) → int (pos 1) *ℚ v ≡ v
-one_time v = mul_comm_q (int (pos 1)) v ∙ mul_one v
-
 -- a value: on the grid, within the largest
 pub value_whole : (z : Sizes) (v : ℚ) → IsValue z v → Whole (grid_of z) v
 value_whole z v h = whole_weaken z.dv (grid_of z) v (value_divides z) h.whole
 
 pub value_within : (z : Sizes) (v : ℚ) → IsValue z v → Within (times_largest 1 z) v
-value_within z v h = subst (λ m. Within m v) (sym (one_time (int (pos z.largest)))) h.within
+value_within z v h = subst (λ m. Within m v) (sym (one_mul (int (pos z.largest)))) h.within
 
 -- a slope times a time up to the window's end
 pub run_whole : (z : Sizes) (s x : ℚ) → IsSlope z s → Whole z.dt x → Whole (grid_of z) (s *ℚ x)
 run_whole z s x h w = whole_weaken (z.ds * z.dt) (grid_of z) (s *ℚ x) (slope_time_divides z) (whole_mul z.ds z.dt s x h.whole w)
 
-half_bound : (v y : ℚ) → int (pos 0) ≤ℚ v → Within v (int (pos 2) *ℚ y) → Within v y
+pub half_bound : (v y : ℚ) → int (pos 0) ≤ℚ v → Within v (int (pos 2) *ℚ y) → Within v y
 half_bound v y h w =
     let l = w.low in
     let u = w.high in
@@ -120,7 +117,7 @@ pub record LineParts (z : Sizes) (k s x : ℚ) : Type 0 where
 difference_is : (k y v : ℚ) → k +ℚ y ≡ v → v -ℚ y ≡ k
 difference_is k y v e = with3 k y v (λ c. omega (arith, c.le, c.lt, c.same))
 
-two_times : (v : ℚ) → v +ℚ v ≡ int (pos 2) *ℚ v
+pub two_times : (v : ℚ) → v +ℚ v ≡ int (pos 2) *ℚ v
 two_times v = with1 v (λ c. omega (arith, c.le, c.lt, c.same))
 
 pub line_parts : (z : Sizes) (end k s x : ℚ) → AreSizes z end → IsSlope z s → Whole z.dt x → int (pos 0) ≤ℚ x → x ≤ℚ end → IsValue z (k +ℚ s *ℚ x) → LineParts z k s x
@@ -134,7 +131,7 @@ line_parts z end k s x a h w some l v =
       icept_whole = subst (λ q. Whole (grid_of z) q) e (whole_sub (grid_of z) (k +ℚ y) y (value_whole z (k +ℚ y) v) wy);
       icept_within = subst (λ m. Within m k) (two_times V) (subst (λ q. Within (V +ℚ V) q) e (within_sub V V (k +ℚ y) y v.within iy));
       run_whole = wy;
-      run_within = subst (λ m. Within m y) (sym (one_time V)) iy;
+      run_within = subst (λ m. Within m y) (sym (one_mul V)) iy;
     }
 
 -- a slope

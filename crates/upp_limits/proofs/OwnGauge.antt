@@ -32,8 +32,8 @@ use Rattle.upp_limits.specs.OwnWindow.{LastBy, end_from, affine_keeps, infinite_
 use Rattle.upp_curve.proofs.Steady.{last_found}
 use Rattle.upp_limits.proofs.PieceLists.{starts_nonneg}
 use Rattle.upp_limits.proofs.Stands.{sizes_stand}
-use Rattle.upp_limits.proofs.CurveStands.{are_sizes, own_are_sizes, own_stands}
-use Rattle.upp_limits.proofs.NarrowSizes.{IsNarrow, narrow_gauge}
+use Rattle.upp_limits.proofs.CurveStands.{are_sizes, own_are_sizes, own_stands, later_at_least}
+use Rattle.upp_limits.proofs.NarrowSizes.{IsNarrow, narrow_gauge, two_times}
 use Rattle.upp_limits.proofs.KnownNumbers.{start_fits, curve_known}
 
 -- ---- the last piece
@@ -80,9 +80,6 @@ end_within z end a h =
     let e1 : end ≤ℚ S *ℚ end = subst (λ y. y ≤ℚ S *ℚ end) (mul_comm (int (pos 1)) end ∙ mul_one end) (mul_le_mul_right end h (nat_le 1 z.steepness a.steepness)) in
     le_trans e1 a.reach
 
-double : (v : ℚ) → v +ℚ v ≡ int (pos 2) *ℚ v
-double v = with1 v (λ c. omega (arith, c.le, c.lt, c.same))
-
 pub twice_fits : (v d : ℕ) → v * d ≤ 2 ^ 122 → (int (pos v) +ℚ int (pos v)) *ℚ int (pos d) ≤ℚ int (pos largest_part)
 twice_fits v d h =
     let e : (int (pos v) +ℚ int (pos v)) *ℚ int (pos d) ≡ int (pos ((v + v) * d)) = ap (λ x. x *ℚ int (pos d)) (int_add (pos v) (pos v)) ∙ mul_whole (pos (v + v)) (pos d) 0 in
@@ -101,15 +98,11 @@ steady_whole : (z : Sizes) (b : Bool) (rank : ℚ) → Whole z.dt rank → Whole
 steady_whole z true rank w = w
 steady_whole z false rank w = whole_add z.dt rank (int (pos 1)) w (whole_int z.dt (pos 1))
 
-later_least : (b : Bool) (rank : ℚ) → rank ≤ℚ later_unless b rank
-later_least true rank = le_refl rank
-later_least false rank = with1 rank (λ c. omega (arith, c.le, c.lt, c.same))
-
 rank_fits : (z : Sizes) (end : ℚ) (b : Bool) (rank : ℚ) → AreSizes z end → IsNarrow z (2 ^ 122) → Whole z.dt rank → int (pos 0) ≤ℚ rank → end ≡ later_unless b rank +ℚ int (pos 1)
     → RankFits rank (later_unless b rank)
 rank_fits z end b rank a n w h e =
     let s = later_unless b rank in
-    let l : rank ≤ℚ s = later_least b rank in
+    let l : rank ≤ℚ s = later_at_least b rank in
     let one : Whole z.dt (int (pos 1)) = whole_int z.dt (pos 1) in
     let some : int (pos 0) ≤ℚ int (pos 1) = nat_nonneg 1 in
     let e1 : s ≤ℚ end = with2 s end (λ c. omega (arith, c.le, c.lt, c.same)) in
@@ -148,7 +141,7 @@ end_fits p ps (Affine rank) raw small =
     let b = affine_keeps (last_of p ps) rank in
     let end : own_end c ≡ later_unless b rank +ℚ int (pos 1) = sym (end_is p ps (Affine rank) h) in
     let s = later_unless b rank in
-    let l : rank ≤ℚ s = later_least b rank in
+    let l : rank ≤ℚ s = later_at_least b rank in
     let far : rank ≤ℚ own_end c = subst (λ y. rank ≤ℚ y) (sym end) (with2 rank s (λ c. omega (arith, c.le, c.lt, c.same))) in
     record {
       line = rank_line z (own_end c) (last_of p ps) rank None a n (last_by p ps (Affine rank) h) far

@@ -19,6 +19,7 @@ use Rattle.affine_segment.specs.Pieces.{Each, RisesFrom, StartsAtZero}
 use Rattle.upp_curve.specs.Normal.{IsRaw, TailFits}
 use Rattle.upp_limits.specs.Spans.{once, number_below}
 use Rattle.upp_limits.proofs.Copies.{copies_in, copies_out}
+use Rattle.upp_curve.proofs.Unique.{upto_none, upto_some}
 
 -- ---- which of two tests holds
 pub below_is : {A : Type 0} (p : Piece) (x : ℚ) (a b : A) → p.x <ℚ x → cond (lt_q p.x x) a b ≡ a
@@ -26,14 +27,6 @@ below_is p x a b h = ap (λ t. cond t a b) (lt_q_out p.x x h)
 
 pub not_below_is : {A : Type 0} (p : Piece) (x : ℚ) (a b : A) → x ≤ℚ p.x → cond (lt_q p.x x) a b ≡ b
 not_below_is p x a b h = ap (λ t. cond t a b) (lt_q_not p.x x h)
-
-pub upto_some : (x : ℚ) (p : Piece) (ps : List Piece) → p.x <ℚ x → upto x (p ∷ ps) ≡ p ∷ upto x ps
-unfolding upto
-upto_some x p ps h = below_is p x (p ∷ upto x ps) [] h
-
-pub upto_none : (x : ℚ) (p : Piece) (ps : List Piece) → x ≤ℚ p.x → upto x (p ∷ ps) ≡ []
-unfolding upto
-upto_none x p ps h = not_below_is p x (p ∷ upto x ps) [] h
 
 upto_empty : (x : ℚ) → upto x [] ≡ []
 unfolding upto
@@ -224,7 +217,7 @@ next_start n rank x d c qs ps late early =
     later_start x d c (copies n d c qs) (copies_start n rank (x -ℚ d) d c qs late l))
     early
 
-copies_next : (n : ℕ) (d c : ℚ) (ps : List Piece) → copies (suc n) d c ps ≡ ps ++ each_later d c (copies n d c ps)
+pub copies_next : (n : ℕ) (d c : ℚ) (ps : List Piece) → copies (suc n) d c ps ≡ ps ++ each_later d c (copies n d c ps)
 unfolding copies
 copies_next n d c ps = refl
 
@@ -252,7 +245,7 @@ rises_from y rank (p ∷ ps) h = elim (le_or_lt rank p.x) [
   | inr l ↦ let r = rises_from p.x rank ps h.1 in (r.0, subst (RisesFrom r.0) (sym (from_some rank p ps l)) r.1)
 ]
 
-each_from : (P : Piece → Type 0) (rank : ℚ) (ps : List Piece) → Each P ps → Each P (from rank ps)
+pub each_from : (P : Piece → Type 0) (rank : ℚ) (ps : List Piece) → Each P ps → Each P (from rank ps)
 each_from P rank [] h = subst (Each P) (sym (from_empty rank)) tt
 each_from P rank (p ∷ ps) h = elim (le_or_lt rank p.x) [
   | inl l ↦ subst (Each P) (sym (from_none rank p ps l)) h
@@ -270,7 +263,7 @@ from_late y rank (p ∷ ps) h = elim (le_or_lt rank p.x) [
   | inr l ↦ subst (Each (λ p. rank ≤ℚ p.x)) (sym (from_some rank p ps l)) (from_late p.x rank ps h.1)
 ]
 
-upto_early : (rank : ℚ) (ps : List Piece) → Each (λ p. p.x <ℚ rank) (upto rank ps)
+pub upto_early : (rank : ℚ) (ps : List Piece) → Each (λ p. p.x <ℚ rank) (upto rank ps)
 upto_early rank [] = subst (Each (λ p. p.x <ℚ rank)) (sym (upto_empty rank)) tt
 upto_early rank (p ∷ ps) = elim (le_or_lt rank p.x) [
   | inl l ↦ subst (Each (λ p. p.x <ℚ rank)) (sym (upto_none rank p ps l)) tt

@@ -145,7 +145,7 @@ tail_scales z end q (Periodic rank period rise) a n h = small_number z end 1 (q 
 tail_scales z end q (Affine rank) a n h = tt
 tail_scales z end q (Infinite rank) a n h = tt
 
-starts_scaled : (q : ℚ) (ps : List Piece) → StartsAtZero ps → StartsAtZero (map (scaled_piece q) ps)
+pub starts_scaled : (q : ℚ) (ps : List Piece) → StartsAtZero ps → StartsAtZero (map (scaled_piece q) ps)
 starts_scaled q [] h = h
 starts_scaled q (p ∷ ps) h = (h.0, rises_scaled q p.x ps h.1)
   where

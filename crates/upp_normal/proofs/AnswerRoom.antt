@@ -30,7 +30,8 @@ use Rattle.upp_normal.specs.Room.{top, IsRoom, TimeHasRoom, many, ValueInRoom, V
 use Rattle.upp_limits.proofs.OwnGauge.{end_within}
 use Rattle.upp_normal.proofs.NormaliseRoom.{line_fits}
 use Rattle.upp_normal.proofs.NormaliseGrids.{q_same_or}
-use Rattle.upp_limits.proofs.NarrowSizes.{IsNarrow, narrow_limit, narrow_gauge, grid_pos, value_whole, value_within, run_whole, small_number, small_sum}
+use Rattle.upp_limits.proofs.NarrowSizes.{IsNarrow, narrow_limit, narrow_gauge, grid_pos, value_whole, value_within, run_whole, small_number, small_sum, half_bound}
+use Rattle.upp_normal.specs.Ahead.{GridValue, IsGridValue}
 
 -- ---- the products that a gauge below 2 ^ 120 bounds
 -- the largest value over the finest grid of values, that of the crossing of two lines, and the steepness over the grid of sums
@@ -152,7 +153,7 @@ steep_run z end s x A h some l =
     let b : S *ℚ x ≤ℚ V = le_trans (mul_le_mul S (nat_nonneg z.steepness) l) A.sizes.reach in
     subst (λ m. Within m (s *ℚ x)) (sym one) (within_weaken (S *ℚ x) V (s *ℚ x) b (within_mul S x s x h (within_nonneg x x some (le_refl x))))
 
-thrice : (v y : ℚ) → Within v y → Within (int (pos 3) *ℚ v) (int (pos 3) *ℚ y)
+pub thrice : (v y : ℚ) → Within v y → Within (int (pos 3) *ℚ v) (int (pos 3) *ℚ y)
 thrice v y h =
     let l = h.low in
     let u = h.high in
@@ -188,18 +189,13 @@ line_value_in z end k grid l x A h L base on low early =
     (within_add (times_largest k z) (times_largest 1 z) l.icept (l.slope *ℚ x) L.within (steep_run z end l.slope x A L.steep low early)))
 
 -- ---- an operand's numbers
-half_within : (v y : ℚ) → int (pos 0) ≤ℚ v → Within v (int (pos 2) *ℚ y) → Within v y
-half_within v y h w =
-    let l = w.low in
-    let u = w.high in
-    record { low = with2 v y (λ c. omega (arith, c.le, c.lt, c.same)); high = with2 v y (λ c. omega (arith, c.le, c.lt, c.same)) }
 
 pub operand_line : (z : Sizes) (l : Line) → OperandLine z l → AnswerLine z 2 l
 operand_line z l L = record {
   icept = L.icept;
   within = L.within;
   slope = L.slope.whole;
-  steep = half_within (int (pos z.steepness)) l.slope (nat_nonneg z.steepness) L.slope.within;
+  steep = half_bound (int (pos z.steepness)) l.slope (nat_nonneg z.steepness) L.slope.within;
 }
 
 pub operand_line_room : (z : Sizes) (end : ℚ) (l : Option Line) → AreLimited z end → OperandLineAt z l → LineHasRoom (answer_room z end) 1 l
@@ -218,7 +214,7 @@ operand_has_room z end p A P =
     record { time = T; at = value_stands_room z end T.grid p.at T.base P.at; line = operand_line_room z end p.line A P.line }
 
 -- ---- what is read of lines fits
-far : (end x : ℚ) → int (pos 0) ≤ℚ end → x ≤ℚ end → x ≤ℚ int (pos 3) *ℚ end
+pub far : (end x : ℚ) → int (pos 0) ≤ℚ end → x ≤ℚ end → x ≤ℚ int (pos 3) *ℚ end
 far end x some h = with2 end x (λ c. omega (arith, c.le, c.lt, c.same))
 
 -- the value of a line with room, at a time with room
@@ -229,23 +225,14 @@ line_fits_in z end x l A L T early = line_fits (answer_room z end) 1 x l (answer
 pub operand_line_fits : (z : Sizes) (end x : ℚ) (l : Option Line) → AreLimited z end → OperandLineAt z l → Whole z.dt x → int (pos 0) ≤ℚ x → x ≤ℚ end → LineFitsAt x l
 operand_line_fits z end x l A L on low early = line_fits_in z end x l A (operand_line_room z end l A L) (room_at_start z end x A on low) early
 
--- a value of an operand's line: on the grid of sums, within three times the largest value
-pub record OperandValue (z : Sizes) (v : ℚ) : Type 0 where
-  pub whole : Whole (grid_of z) v
-  pub within : Within (times_largest 3 z) v
-
-abbrev pub OperandValueAt : Sizes → Ext → Type 0
-OperandValueAt z Inf = Unit {0}
-OperandValueAt z (Fin v) = OperandValue z v
-
 pub more_largest : (z : Sizes) (k j : ℕ) → k ≤ j → times_largest k z ≤ℚ times_largest j z
 more_largest z k j h = mul_le_mul_right (int (pos z.largest)) (nat_nonneg z.largest) (nat_le k j h)
 
-pub stands_operand_value : (z : Sizes) (v : Ext) → ValueStands z v → OperandValueAt z v
+pub stands_operand_value : (z : Sizes) (v : Ext) → ValueStands z v → GridValue z v
 stands_operand_value z Inf h = tt
 stands_operand_value z (Fin v) h = record { whole = value_whole z v h; within = within_weaken (times_largest 1 z) (times_largest 3 z) v (more_largest z 1 3 (omega arith)) (value_within z v h) }
 
-pub operand_line_value : (z : Sizes) (end x : ℚ) (l : Option Line) → AreLimited z end → OperandLineAt z l → Whole z.dt x → int (pos 0) ≤ℚ x → x ≤ℚ end → OperandValueAt z (line_value l x)
+pub operand_line_value : (z : Sizes) (end x : ℚ) (l : Option Line) → AreLimited z end → OperandLineAt z l → Whole z.dt x → int (pos 0) ≤ℚ x → x ≤ℚ end → GridValue z (line_value l x)
 operand_line_value z end x None A L on low early = tt
 operand_line_value z end x (Some l) A L on low early = record {
   whole = whole_add (grid_of z) l.icept (l.slope *ℚ x) L.icept (run_whole z l.slope x L.slope on);
@@ -255,7 +242,7 @@ operand_line_value z end x (Some l) A L on low early = record {
 }
 
 -- two values of operands
-pub values_fit : (z : Sizes) (end v w : ℚ) → AreLimited z end → OperandValue z v → OperandValue z w → SumFits v w × SumFits v (neg_ℚ w)
+pub values_fit : (z : Sizes) (end v w : ℚ) → AreLimited z end → IsGridValue z v → IsGridValue z w → SumFits v w × SumFits v (neg_ℚ w)
 values_fit z end v w A V W =
     let N = wide_narrow z end A in (
       small_sum z end 3 3 v w A.sizes N (omega arith) V.whole W.whole V.within W.within,
@@ -267,13 +254,13 @@ pub record AnswerValue (z : Sizes) (k : ℕ) (v : ℚ) : Type 0 where
   pub whole : Whole (grid_of z) v
   pub within : Within (times_largest k z) v
 
-pub value_sum_stands : (z : Sizes) (v w : ℚ) → OperandValue z v → OperandValue z w → AnswerValue z 6 (v +ℚ w)
+pub value_sum_stands : (z : Sizes) (v w : ℚ) → IsGridValue z v → IsGridValue z w → AnswerValue z 6 (v +ℚ w)
 value_sum_stands z v w V W = record {
   whole = whole_add (grid_of z) v w V.whole W.whole;
   within = subst (λ m. Within m (v +ℚ w)) (many_more z 3 3) (within_add (times_largest 3 z) (times_largest 3 z) v w V.within W.within);
 }
 
-pub value_difference_stands : (z : Sizes) (v w : ℚ) → OperandValue z v → OperandValue z w → AnswerValue z 6 (v -ℚ w)
+pub value_difference_stands : (z : Sizes) (v w : ℚ) → IsGridValue z v → IsGridValue z w → AnswerValue z 6 (v -ℚ w)
 value_difference_stands z v w V W = record {
   whole = whole_sub (grid_of z) v w V.whole W.whole;
   within = subst (λ m. Within m (v -ℚ w)) (many_more z 3 3) (within_sub (times_largest 3 z) (times_largest 3 z) v w V.within W.within);
@@ -283,7 +270,7 @@ pub answer_value_room : (z : Sizes) (end : ℚ) (k grid : ℕ) (v : ℚ) → k �
 answer_value_room z end k grid v h base V = value_in_room z end k grid v h (whole_weaken (grid_of z) (grid * z.ds) v (mul-dvd-mul_right (z.dv * z.dt) base z.ds) V.whole) V.within
 
 -- they are on the grid of any time
-pub operand_value_room : (z : Sizes) (end : ℚ) (grid : ℕ) (v : Ext) → z.dv * z.dt ∣ grid → OperandValueAt z v → ValueHasRoom (answer_room z end) 1 grid v
+pub operand_value_room : (z : Sizes) (end : ℚ) (grid : ℕ) (v : Ext) → z.dv * z.dt ∣ grid → GridValue z v → ValueHasRoom (answer_room z end) 1 grid v
 operand_value_room z end grid Inf base h = tt
 operand_value_room z end grid (Fin v) base h = value_in_room z end 3 grid v (omega arith) (whole_weaken (grid_of z) (grid * z.ds) v (mul-dvd-mul_right (z.dv * z.dt) base z.ds) h.whole) h.within
 
@@ -393,7 +380,7 @@ crossing_from z end up down t A wu wd id some e =
 slopes_apart : (s r : ℚ) → s ≢ r → s -ℚ r ≢ int (pos 0)
 slopes_apart s r h e = h (with2 s r (λ c. omega (arith, c.le, c.lt, c.same)))
 
-meet_times : (l m : Line) (t : ℚ) → line_at l t ≡ line_at m t → t *ℚ (l.slope -ℚ m.slope) ≡ m.icept -ℚ l.icept
+pub meet_times : (l m : Line) (t : ℚ) → line_at l t ≡ line_at m t → t *ℚ (l.slope -ℚ m.slope) ≡ m.icept -ℚ l.icept
 meet_times l m t e =
     let p = l.slope *ℚ t in
     let q = m.slope *ℚ t in
@@ -411,7 +398,7 @@ pub crossing_room : (z : Sizes) (end x : ℚ) → AreLimited z end → IsCrossin
 crossing_room z end x A C low = room_at_crossing z end C.apart x A C.some C.few C.whole low
 
 -- no step on the way there is too wide
-nothing_over : (up down : ℚ) → down ≡ int (pos 0) → up /ℚ down ≡ int (pos 0)
+pub nothing_over : (up down : ℚ) → down ≡ int (pos 0) → up /ℚ down ≡ int (pos 0)
 unfolding ◌/ℚ◌ inv_ℚ frac gcd gcd_steps
 nothing_over up down e = ap (λ d. up /ℚ d) e ∙ mul_zero up
 

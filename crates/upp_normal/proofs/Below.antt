@@ -22,7 +22,8 @@ use Rattle.rational.proofs.Whole.{periods_low, periods_high, one_more_times}
 use Rattle.affine_segment.proofs.PieceIn.{piece_in_stop}
 use Rattle.upp_curve.proofs.Unique.{upto_none, upto_some, upto_end}
 use Rattle.upp_curve.proofs.Repeats.{repeated_first}
-use Rattle.upp_normal.proofs.UnrolledValues.{copies_read, copies_some, read_before, read_past_list}
+use Rattle.upp_normal.proofs.UnrolledValues.{copies_read, copies_some, read_before, read_past_list, each_up}
+use Rattle.upp_limits.proofs.PieceCounts.{from_none, from_some}
 
 -- ---- dropping what starts at the end or after changes no reading before it
 piece_in_upto : (X : ℚ) (p : Piece) (ps : List Piece) (t : ℚ) → t <ℚ X → piece_in p (upto X ps) t ≡ piece_in p ps t
@@ -38,13 +39,6 @@ unfolding read
 read_upto X p ps t h l = ap (λ zs. read zs t) (upto_some X p ps l) ∙ ap (λ z. piece_value z t) (piece_in_upto X p ps t h)
 
 -- ---- the pieces before the rank and from it
-pub from_past : (x : ℚ) (p : Piece) (ps : List Piece) → x ≤ℚ p.x → from x (p ∷ ps) ≡ p ∷ ps
-unfolding from
-from_past x p ps h = ap (λ b. cond b (from x ps) (p ∷ ps)) (lt_q_not p.x x h)
-
-pub from_before : (x : ℚ) (p : Piece) (ps : List Piece) → p.x <ℚ x → from x (p ∷ ps) ≡ from x ps
-unfolding from
-from_before x p ps h = ap (λ b. cond b (from x ps) (p ∷ ps)) (lt_q_out p.x x h)
 
 -- a list whose starts rise and which has a piece at x is the pieces before x, that piece and the rest
 pub record Cut (x : ℚ) (ps : List Piece) : Type 0 where
@@ -65,7 +59,7 @@ cut_at_start y x (p ∷ ps) r (inl e) = record {
   first = p;
   rest = ps;
   upto_is = upto_none x p ps (subst (λ z. z ≤ℚ p.x) e (le_refl p.x));
-  from_is = from_past x p ps (subst (λ z. z ≤ℚ p.x) e (le_refl p.x));
+  from_is = from_none x p ps (subst (λ z. z ≤ℚ p.x) e (le_refl p.x));
   whole = refl;
   early = tt;
   at = e;
@@ -79,7 +73,7 @@ cut_at_start y x (p ∷ ps) r (inr h) =
       first = c.first;
       rest = c.rest;
       upto_is = upto_some x p ps l ∙ ap (λ zs. p ∷ zs) c.upto_is;
-      from_is = from_before x p ps l ∙ c.from_is;
+      from_is = from_some x p ps l ∙ c.from_is;
       whole = ap (λ zs. p ∷ zs) c.whole;
       early = (l, c.early);
       at = c.at;
@@ -90,10 +84,6 @@ cut_at_start y x (p ∷ ps) r (inr h) =
     past y x [] r h = absurd h
     past y x (p ∷ ps) r (inl e) = subst (λ z. y <ℚ z) e r.0
     past y x (p ∷ ps) r (inr h) = let l = past p.x x ps r.1 h in let k = r.0 in with3 y x p.x (λ c. omega (arith, c.le, c.lt, c.same))
-
-pub each_le : (ps : List Piece) (s t : ℚ) → s ≤ℚ t → Each (λ z. z.x <ℚ s) ps → Each (λ z. z.x ≤ℚ t) ps
-each_le [] s t l h = tt
-each_le (p ∷ ps) s t l h = (le_trans (le_of_lt h.0) l, each_le ps s t l h.1)
 
 -- the repeated function only reads f from the rank on, past the rank
 pub repeated_same : (f g : ℚ → Ext) (r d c t : ℚ) → int (pos 0) <ℚ d → r ≤ℚ t → ((u : ℚ) → r ≤ℚ u → f u ≡ g u) → repeated f r d c t ≡ repeated g r d c t
@@ -133,9 +123,9 @@ parts_read bs p rest k d c X t at0 some early starts start below high =
     ap (λ zs. read (upto X zs) t) shape ∙ read_upto_list bs p rest more X t at0 start below ∙ elim (le_or_lt p.x t) [
       | inr l ↦ early_same bs p rest more t at0 start l
           ∙ sym (repeated_first (read (bs ++ p ∷ rest)) p.x d c t some (with3 t x d (λ c. omega (arith, c.le, c.lt, c.same))))
-      | inl l ↦ read_from_cut bs p more t (each_le bs p.x t l early) l ∙ ap (λ zs. read zs t) (sym (copies_some k d c p rest))
+      | inl l ↦ read_from_cut bs p more t (each_up bs p.x t l early) l ∙ ap (λ zs. read zs t) (sym (copies_some k d c p rest))
           ∙ copies_read k p rest d c t some (each_rest bs p rest (p.x +ℚ d) starts) l high
-          ∙ repeated_same (read (p ∷ rest)) (read (bs ++ p ∷ rest)) p.x d c t some l (λ u h. sym (read_from_cut bs p rest u (each_le bs p.x u h early) h))
+          ∙ repeated_same (read (p ∷ rest)) (read (bs ++ p ∷ rest)) p.x d c t some l (λ u h. sym (read_from_cut bs p rest u (each_up bs p.x u h early) h))
     ]
 
 -- below its end an unrolled periodic curve reads as the curve

@@ -25,10 +25,10 @@ use Rattle.upp_curve.specs.Normal.{FitsPeriod}
 use Rattle.upp_normal.specs.Normalising.{IsMerged, IsTwoPeriods, IsOneLine, Turned, OnGridsUnlessLine, cut_at, past, first_start, second_copy}
 use Rattle.upp_normal.specs.Bends.{ValueOn, LineOn, NumbersOn, SlopeTurns, BendAfter, OnlyBend}
 use Rattle.upp_curve.proofs.Unique.{upto_some, upto_none, upto_end}
-use Rattle.affine_segment.proofs.PieceIn.{value_past, value_at_start, piece_in_go, piece_in_stop}
+use Rattle.affine_segment.proofs.PieceIn.{value_past, value_at_start, piece_in_go, piece_in_stop, low_start}
 use Rattle.upp_normal.proofs.UnrolledValues.{copies_some}
 use Rattle.upp_curve.proofs.Repeats.{repeated_rule, repeated_first}
-use Rattle.upp_curve.proofs.Normal.{transfer, rises as starts_rise}
+use Rattle.upp_curve.proofs.Normal.{transfer}
 use Rattle.upp_normal.proofs.NormaliseLoops.{later_none, later_some, past_go, past_stop, past_none}
 use Rattle.affine_segment.proofs.PieceOrder.{rises_down, each_map}
 use Rattle.upp_normal.proofs.NormaliseLists.{past_all}
@@ -38,10 +38,10 @@ use Rattle.upp_normal.proofs.NormalisePeriods.{two_periods_are, agree_from, repe
 use Rattle.upp_normal.proofs.NormaliseShape.{line_for_ever, line_before, turns_at, start_late}
 use Rattle.upp_normal.proofs.NormaliseCopies.{are_copies, moved-append}
 use Rattle.upp_normal.proofs.NormaliseDivided.{cut_of, period_is}
-use Rattle.upp_normal.proofs.NormaliseLeast.{share_back, share_some}
+use Rattle.upp_normal.proofs.NormaliseLeast.{share_back, share_some, whole_share}
 use Rattle.upp_normal.proofs.NormaliseForm.{merged_cons, two_periods_of}
 use Rattle.upp_normal.proofs.NormaliseRoomy.{each_in, found_early}
-use Rattle.upp_normal.proofs.NormaliseGrids.{at_later, line_later_on, continues_or, line_case, rise_by_value, rise_by_line, IsNothing, nothing_line, nothing_copies, share_one}
+use Rattle.upp_normal.proofs.NormaliseGrids.{at_later, line_later_on, continues_or, line_case, rise_by_value, rise_by_line, IsNothing, nothing_line, nothing_copies}
 
 -- ---- slopes
 turns_trans : (rises : Bool) (l m n : Option Line) → SlopeTurns rises l m → SlopeTurns rises m n → SlopeTurns rises l n
@@ -264,7 +264,7 @@ each_only : (rises : Bool) (T S D : ℕ) (ps : List Piece) → OnlyBend rises T 
 each_only rises T S D [] B = tt
 each_only rises T S D (p ∷ ps) B = (B.0, each_numbers rises T S D p ps B.1)
 
-each_first : (P : Piece → Type 0) (ps qs : List Piece) → Each P (ps ++ qs) → Each P ps × Each P qs
+pub each_first : (P : Piece → Type 0) (ps qs : List Piece) → Each P (ps ++ qs) → Each P ps × Each P qs
 each_first P [] qs E = (tt, E)
 each_first P (p ∷ ps) qs E = let F = each_first P ps qs E.1 in ((E.0, F.0), F.1)
 
@@ -334,7 +334,7 @@ two_share rises T S D ps r d c k h W B bent R = by_start (first_start (past r ps
       | inl l ↦ turns x s l
       | inr l ↦
           let (q, qs, past_is, at) = start_some (past r ps) x (sym s) in
-          let early = subst (λ z. Each (λ p. p.x ≤ℚ r) (upto z ps)) at (upto_early r (int (pos 0) -ℚ int (pos 1)) ps q qs (starts_rise ps W.starts) past_is) in
+          let early = subst (λ z. Each (λ p. p.x ≤ℚ r) (upto z ps)) at (upto_early r (int (pos 0) -ℚ int (pos 1)) ps q qs (low_start ps W.starts) past_is) in
           absurd (bent (line_case (upto x ps) g r d c W.nonneg W.some rule (line_before ps r d c x (r +ℚ d) (upto x ps) W s refl l refl) early))
     ]
 
@@ -414,5 +414,5 @@ bends_on rises T S D (p ∷ ps) r d c h starts F B wr wd wc bent = record {
   where
     share : (n : ℕ) → 1 ≤ n → Repeats (repeated (read (p ∷ ps)) r d c) r (d /ℚ int (pos n)) (c /ℚ int (pos n)) → IsShare T D d c n
     share zero a R = absurd (omega arith)
-    share (suc zero) a R = record { time = subst (Whole T) (sym (share_one d)) wd; value = subst (Whole D) (sym (share_one c)) wc }
+    share (suc zero) a R = record { time = subst (Whole T) (sym (whole_share d)) wd; value = subst (Whole D) (sym (whole_share c)) wc }
     share (suc (suc j)) a R = half_share rises T S D p ps r d c (suc (suc j)) h starts F B wr wd wc bent (omega arith) R

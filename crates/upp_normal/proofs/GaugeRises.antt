@@ -37,6 +37,7 @@ use Rattle.upp_limits.proofs.Rounding.{whole_up_most}
 use Rattle.upp_limits.proofs.ScaledCurves.{period_scaled}
 use Rattle.upp_limits.proofs.Stands.{sizes_stand, stands_left, stands_right}
 use Rattle.upp_normal.proofs.UnrollSteps.{time_small}
+use Rattle.upp_limits.proofs.Operands.{curve_period}
 
 -- ---- what starts below an end starts below a later one
 once_earlier : (P : Span → Type 0) (end far : ℚ) (s : Span) → end ≤ℚ far → AllByRecursion P (once_below far s) → AllByRecursion P (once_below end s)
@@ -70,7 +71,7 @@ spans_earlier P end far c some l h =
     (λ s k. span_earlier P end far c.tail s some l k) all (every_flat_out P (span_below c.tail far) all h))
 
 -- ---- numbers that hold a longer window's numbers hold a shorter one's
-curve_earlier : (z : Sizes) (end far : ℚ) (c : SpecCurve) → HasPeriod c.tail → end ≤ℚ far → Stands z (curve_numbers far c) → Stands z (curve_numbers end c)
+pub curve_earlier : (z : Sizes) (end far : ℚ) (c : SpecCurve) → HasPeriod c.tail → end ≤ℚ far → Stands z (curve_numbers far c) → Stands z (curve_numbers end c)
 curve_earlier z end far c some l h =
     let W = Whole z.dt in
     let rest = stored_period c.tail in
@@ -117,12 +118,12 @@ numbers_earlier z end far op f g some_f some_g l h =
     (operands_earlier z end far (operands_of op) f g some_f some_g l (stands_right z own (operand_numbers (operands_of op) far f g) h))
 
 -- ---- the sizes of numbers are the least that hold them
-product_grows : (a b c d e v w x y z : ℕ) → a ≤ v → b ≤ w → c ≤ x → d ≤ y → e ≤ z → 64 * (a * b * c * d * e * e) ≤ 64 * (v * w * x * y * z * z)
+pub product_grows : (a b c d e v w x y z : ℕ) → a ≤ v → b ≤ w → c ≤ x → d ≤ y → e ≤ z → 64 * (a * b * c * d * e * e) ≤ 64 * (v * w * x * y * z * z)
 product_grows a b c d e v w x y z ha hb hc hd he =
     let all = mul-le-mul (mul-le-mul (mul-le-mul (mul-le-mul (mul-le-mul ha hb) hc) hd) he) he in
     omega (arith, all)
 
-reach_within : (s t v : ℕ) (end far : ℚ) → s ≤ t → end ≤ℚ far → int (pos t) *ℚ far ≤ℚ int (pos v) → int (pos s) *ℚ end ≤ℚ int (pos v)
+pub reach_within : (s t v : ℕ) (end far : ℚ) → s ≤ t → end ≤ℚ far → int (pos t) *ℚ far ≤ℚ int (pos v) → int (pos s) *ℚ end ≤ℚ int (pos v)
 reach_within s t v end far steeper l reach = elim (le_or_lt (int (pos 0)) end) [
   | inl low ↦ le_trans (mul_le_mul_right end low (nat_le s t steeper)) (le_trans (mul_le_mul (int (pos t)) (nat_nonneg t) l) reach)
   | inr high ↦
@@ -133,7 +134,7 @@ reach_within s t v end far steeper l reach = elim (le_or_lt (int (pos 0)) end) [
       le_trans (subst (λ x. S *ℚ end ≤ℚ x) (mul_zero S) down) nonneg
 ]
 
-least_sizes : (z : Sizes) (end far : ℚ) (n : Numbers) → AreSizes z far → Stands z n → end ≤ℚ far → Whole z.dt end → gauge_of (sizes_of end n) ≤ gauge_of z
+pub least_sizes : (z : Sizes) (end far : ℚ) (n : Numbers) → AreSizes z far → Stands z n → end ≤ℚ far → Whole z.dt end → gauge_of (sizes_of end n) ≤ gauge_of z
 unfolding gauge_of
 least_sizes z end far n a h l on =
     let dv = le_of_dvd a.dv (common_den_least z.dv n.values (every_weaken (λ v k. k.whole) n.values h.values)) in
@@ -155,9 +156,6 @@ gauge_rises op f g end far some_f some_g l on =
     let n = numbers_over op f g far in
     let z = sizes_of far n in
     least_sizes z end far (numbers_over op f g end) (are_sizes far n) (numbers_earlier z end far op f g some_f some_g l (sizes_stand far n)) l on
-
-pub curve_period : (c : SpecCurve) → IsCurve c → HasPeriod c.tail
-curve_period c is = has_period c.pieces c.tail is.normal.raw.tail
 
 -- so too for curves, and an end on the grid of the longer window's other times
 pub curves_gauge_rises : (op : OpKind) (f g : SpecCurve) (end far : ℚ) → IsCurve f → IsCurve g → end ≤ℚ far → Whole (common_den (numbers_over op f g far).times) end

@@ -21,11 +21,12 @@ use Rattle.upp_limits.specs.Spans.{Span, copies_of, end_of, next_later, once_bel
 use Rattle.upp_curve.specs.Unrolled.{copies_below, later, unroll, unrolled, upto}
 use Rattle.upp_limits.proofs.Copies.{every_copy}
 use Rattle.upp_limits.proofs.Every.{every_flat, every_weaken}
-use Rattle.upp_curve.proofs.Normal.{rises}
 use Rattle.affine_segment.proofs.PieceOrder.{each_map}
 use Rattle.upp_normal.proofs.NormaliseLists.{each_upto}
 use Rattle.upp_normal.proofs.SamePieces.{each_at, each_contained, each_whole, once_in, periodic_given, same_pieces}
 use Rattle.upp_normal.proofs.UnrolledPieces.{IsGiven, each_with, no_later, periodic_each}
+use Rattle.affine_segment.proofs.PieceIn.{low_start}
+use Rattle.upp_normal.proofs.NormaliseRank.{rises_late}
 
 -- ---- where the next of a curve's own pieces starts
 -- the first start after x is e
@@ -47,15 +48,11 @@ record StepFrom (p : Piece) (qs : List Piece) (after : Option ℚ) (s : Span) : 
   has : HasStart s.piece.x (p ∷ qs)
   is : StepsTo (p ∷ qs) after s.piece.x s.next
 
-late : (x y : ℚ) (ps : List Piece) → x ≤ℚ y → RisesFrom y ps → Each (λ z. x ≤ℚ z.x) ps
-late x y [] l r = tt
-late x y (p ∷ ps) l r = let k : x ≤ℚ p.x = le_trans l (le_of_lt r.0) in (k, late x p.x ps k r.1)
-
 first_step : (p : Piece) (qs : List Piece) (after : Option ℚ) → RisesFrom p.x qs → StepsTo (p ∷ qs) after p.x (start_after qs after)
 first_step p [] after r = inr (refl, (le_refl p.x, tt))
 first_step p (q ∷ qs) after r =
     let rest : Each (λ z. p.x <ℚ z.x → q.x ≤ℚ z.x) qs =
-    each_map (λ z. q.x ≤ℚ z.x) (λ z. p.x <ℚ z.x → q.x ≤ℚ z.x) (λ z l h. l) qs (late q.x q.x qs (le_refl q.x) r.1) in
+    each_map (λ z. q.x ≤ℚ z.x) (λ z. p.x <ℚ z.x → q.x ≤ℚ z.x) (λ z l h. l) qs (rises_late q.x q.x qs (le_refl q.x) r.1) in
     inl (q.x, (refl, record { later = r.0; has = inr (inl refl); gap = (λ l. absurd (lt_irrefl p.x l), (λ l. le_refl q.x, rest)) }))
 
 one_more : (p q : Piece) (qs : List Piece) (after : Option ℚ) (s : Span) → p.x <ℚ q.x → StepFrom q qs after s → StepFrom p (q ∷ qs) after s
@@ -98,7 +95,7 @@ of_start F e ps h k = let w = at_start (λ q. F q.x) e ps h k in subst F w.1.0 w
 plain_there : (ps : List Piece) (e far : ℚ) → StartsAtZero ps → HasStart e ps → e <ℚ far → (p : Piece) × (Contains (upto far ps) p × (p.x ≡ e))
 plain_there ps e far at0 h l =
     let us = upto far ps in
-    let w = at_start (λ p. p.x <ℚ far → Contains us p) e ps h (each_whole (Contains us) far (int (pos 0) -ℚ int (pos 1)) ps (rises ps at0) (each_contained us)) in
+    let w = at_start (λ p. p.x <ℚ far → Contains us p) e ps h (each_whole (Contains us) far (int (pos 0) -ℚ int (pos 1)) ps (low_start ps at0) (each_contained us)) in
     (w.0, (w.1.1 (subst (λ x. x <ℚ far) (sym w.1.0) l), w.1.0))
 
 plain_first : (P : Piece → Type 0) (ps : List Piece) (far : ℚ) (p : Piece) → Each P ps → Contains (upto far ps) p → P p

@@ -17,15 +17,16 @@ use Rattle.upp_curve.specs.Steady.{Repeats, last_of, last_line}
 use Rattle.upp_normal.specs.Normalising.{past}
 use Rattle.upp_curve.proofs.Steady.{line_rule, read_past}
 use Rattle.upp_curve.proofs.OneForm.{rise_is}
-use Rattle.upp_curve.proofs.Rules.{add_cancel_ext}
 use Rattle.upp_normal.proofs.UnrolledValues.{line_value_later}
 use Rattle.upp_curve.proofs.Unique.{lines_same, upto_some}
 use Rattle.affine_segment.proofs.PieceIn.{value_past, read_stop, read_go}
 use Rattle.upp_normal.proofs.Below.{read_upto}
 use Rattle.upp_normal.proofs.NormaliseLoops.{past_go, past_none}
-use Rattle.upp_normal.proofs.NormaliseLists.{past_all, last_is_last, last_in, rises_upto, upto_before, continues_back}
+use Rattle.upp_normal.proofs.NormaliseLists.{past_all, last_is_last, last_in, rises_upto, continues_back}
 use Rattle.affine_segment.proofs.PieceOrder.{heads_same, nil_not_cons}
 use Rattle.upp_normal.proofs.NormalisePeriods.{agree_from}
+use Rattle.rational.proofs.ExtendedOrder.{add_cancel_ext}
+use Rattle.upp_limits.proofs.PieceCounts.{upto_early}
 
 -- ---- one line
 -- f is the line from r on, where it is so past r for more than a period
@@ -147,7 +148,7 @@ ends_in_break f p ps r d c q B some zero start F rise is C =
     let y = p.x in
     let begin : p.x <ℚ X = with4 y r x d (λ c. omega (arith, c.le, c.lt, c.same)) in
     let z = w.x in
-    let before : w.x <ℚ X = last_in (λ z. z.x <ℚ X) p (upto X ps) begin (upto_before X ps) in
+    let before : w.x <ℚ X = last_in (λ z. z.x <ℚ X) p (upto X ps) begin (upto_early X ps) in
     let room : z -ℚ d <ℚ x = with3 z x d (λ c. omega (arith, c.le, c.lt, c.same)) in
     let here = λ (t : ℚ) (a : r ≤ℚ t) (b : B.last.x <ℚ t) (e : t <ℚ x).
     let e2 : t <ℚ X = with3 t x d (λ c. omega (arith, c.le, c.lt, c.same)) in

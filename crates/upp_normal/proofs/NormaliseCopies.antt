@@ -22,14 +22,15 @@ use Rattle.upp_curve.proofs.Repeats.{repeated_first, repeated_rule, repeats_time
 use Rattle.upp_curve.proofs.Steady.{read_past}
 use Rattle.upp_curve.proofs.Unique.{Reads, same_lists, upto_some}
 use Rattle.upp_curve.proofs.Normal.{upto_all}
-use Rattle.upp_normal.proofs.UnrolledValues.{copies_read, copies_some, line_value_later}
+use Rattle.upp_normal.proofs.UnrolledValues.{copies_read, copies_some, line_value_later, copies_none}
 use Rattle.upp_normal.proofs.Below.{read_upto}
 use Rattle.upp_normal.proofs.NormaliseLoops.{later_none, later_some}
 use Rattle.affine_segment.proofs.PieceOrder.{each_map, each_append, rises_append}
-use Rattle.upp_normal.proofs.NormaliseLists.{upto_before, each_moved, rises_upto, rises_moved, last_in, last_is_last, none_upto, none_append, none_moved, line_later_twice}
+use Rattle.upp_normal.proofs.NormaliseLists.{each_moved, rises_upto, rises_moved, last_in, last_is_last, none_upto, none_append, none_moved, line_later_twice}
 use Rattle.upp_normal.proofs.NormalisePeriods.{agree_from}
 use Rattle.upp_normal.proofs.NormaliseBreaks.{lines_apart, reads_last}
 use Rattle.affine_segment.proofs.PieceIn.{read_is}
+use Rattle.upp_limits.proofs.PieceCounts.{copies_next, upto_early}
 
 -- ---- moved pieces
 pub later_twice : (a b c e : ℚ) (p : Piece) → later b e (later a c p) ≡ later (a +ℚ b) (c +ℚ e) p
@@ -121,7 +122,7 @@ part_break f k e u d c q qs some dk ck P R C =
     let early_last = last_of q (upto X qs) in
     let w = last_of q qs in
     let y = w.x in
-    let early_last_in : early_last.x <ℚ X = last_in (λ z. z.x <ℚ X) q (upto X qs) begin (upto_before X qs) in
+    let early_last_in : early_last.x <ℚ X = last_in (λ z. z.x <ℚ X) q (upto X qs) begin (upto_early X qs) in
     let w_in : y <ℚ x +ℚ d = last_in (λ z. z.x <ℚ x +ℚ d) q qs (with4 x d e s (λ c. omega (arith, c.le, c.lt, c.same))) P.inside in
     let back : y -ℚ s <ℚ X = with5 y x d e s (λ c. omega (arith, c.le, c.lt, c.same)) in
     let K = repeats_times f x e u k (le_of_lt some) R in
@@ -149,7 +150,7 @@ are_copies f k e u d c q qs some dk ck P R =
     let vs = upto X qs in
     let more = more_copies k e u q vs in
     let rise = rises_upto x X qs P.rises in
-    let inside = upto_before X qs in
+    let inside = upto_early X qs in
     let K : Copied k e u q vs = copied k e u q vs some rise (none_upto X q qs P.none) inside (part_break f k e u d c q qs some dk ck P R) in
     let part = λ (t : ℚ) (a : x ≤ℚ t) (b : t <ℚ X).
     ap (λ zs. read zs t) (sym (upto_some X q qs begin)) ∙ read_upto X q qs t b begin ∙ P.reads t a (with5 t x d e s (λ c. omega (arith, c.le, c.lt, c.same))) in
@@ -181,16 +182,8 @@ take-moved n d c ps = ap (take n) (each_later_map d c ps) ∙ take-map (later d 
 pub moved-append : (d c : ℚ) (ps qs : List Piece) → each_later d c (ps ++ qs) ≡ each_later d c ps ++ each_later d c qs
 moved-append d c ps qs = each_later_map d c (ps ++ qs) ∙ map-append (later d c) ps qs ∙ sym (ap₂ (λ (xs ys : List Piece). xs ++ ys) (each_later_map d c ps) (each_later_map d c qs))
 
-pub copies_next : (n : ℕ) (e u : ℚ) (ps : List Piece) → copies (suc n) e u ps ≡ ps ++ each_later e u (copies n e u ps)
-unfolding copies
-copies_next n e u ps = refl
-
-pub copies_zero : (e u : ℚ) (ps : List Piece) → copies zero e u ps ≡ []
-unfolding copies
-copies_zero e u ps = refl
-
 pub length-copies : (n : ℕ) (e u : ℚ) (ps : List Piece) → length (copies n e u ps) ≡ n * length ps
-length-copies zero e u ps = ap length (copies_zero e u ps) ∙ none (length ps)
+length-copies zero e u ps = ap length (copies_none e u ps) ∙ none (length ps)
   where
     none : (k : ℕ) → 0 ≡ 0 * k
     none k = omega arith
@@ -200,7 +193,7 @@ length-copies (suc n) e u ps =
 
 -- one more copy is at the end
 copies_end : (n : ℕ) (e u : ℚ) (ps : List Piece) → (last : List Piece) × (copies (suc n) e u ps ≡ copies n e u ps ++ last)
-copies_end zero e u ps = (copies 1 e u ps, sym (ap (λ zs. zs ++ copies 1 e u ps) (copies_zero e u ps)))
+copies_end zero e u ps = (copies 1 e u ps, sym (ap (λ zs. zs ++ copies 1 e u ps) (copies_none e u ps)))
 copies_end (suc n) e u ps =
     let (last, is) = copies_end n e u ps in (
       each_later e u last,
@@ -221,14 +214,14 @@ copies_go_on n e u ps =
 
 -- and back
 pub from_go_on : (n k : ℕ) (e u : ℚ) (ps : List Piece) → length ps ≡ n * k → GoesOn ps k e u → ps ≡ copies n e u (take k ps)
-from_go_on zero k e u ps len G = nothing ps len ∙ sym (copies_zero e u (take k ps))
+from_go_on zero k e u ps len G = nothing ps len ∙ sym (copies_none e u (take k ps))
   where
     nothing : (ps : List Piece) → length ps ≡ 0 * k → ps ≡ []
     nothing [] e = refl
     nothing (p ∷ ps) e = absurd (omega arith)
 from_go_on (suc zero) k e u ps len G =
     let all : take k ps ≡ ps = take_all k ps (omega (arith, len)) in
-    sym (copies_next zero e u (take k ps) ∙ ap (λ zs. take k ps ++ each_later e u zs) (copies_zero e u (take k ps)) ∙ ap (λ zs. take k ps ++ zs) (later_none e u) ∙ append-nil (take k ps) ∙ all)
+    sym (copies_next zero e u (take k ps) ∙ ap (λ zs. take k ps ++ each_later e u zs) (copies_none e u (take k ps)) ∙ ap (λ zs. take k ps ++ zs) (later_none e u) ∙ append-nil (take k ps) ∙ all)
 from_go_on (suc (suc n)) k e u ps len G =
     let m = suc n * k in
     let rest = take m ps in

@@ -11,10 +11,10 @@ use Rattle.upp_curve.specs.Normal.{NoMerge}
 use Rattle.upp_curve.specs.Steady.{last_of}
 use Rattle.upp_normal.specs.Normalising.{past, first_start, IsFront}
 use Rattle.upp_curve.proofs.Unique.{upto_none, upto_some, upto_end}
-use Rattle.upp_normal.proofs.Below.{from_past, from_before}
 use Rattle.upp_normal.proofs.NormaliseLoops.{past_go, past_stop, past_none}
 use Rattle.affine_segment.proofs.PieceOrder.{each_left, heads_same, nil_not_cons}
 use Rattle.upp_normal.proofs.NormaliseLists.{past_all, rises_upto, none_upto}
+use Rattle.upp_limits.proofs.PieceCounts.{each_from, from_none, from_some}
 
 pub from_end : (x : ℚ) → from x [] ≡ []
 unfolding from
@@ -23,8 +23,8 @@ from_end x = refl
 pub split_is : (x : ℚ) (ps : List Piece) → upto x ps ++ from x ps ≡ ps
 split_is x [] = ap (λ zs. zs ++ from x []) (upto_end x) ∙ from_end x
 split_is x (p ∷ ps) = elim (le_or_lt x p.x) [
-  | inl l ↦ ap (λ zs. zs ++ from x (p ∷ ps)) (upto_none x p ps l) ∙ from_past x p ps l
-  | inr l ↦ ap (λ zs. zs ++ from x (p ∷ ps)) (upto_some x p ps l) ∙ ap (λ zs. p ∷ (upto x ps ++ zs)) (from_before x p ps l) ∙ ap (λ zs. p ∷ zs) (split_is x ps)
+  | inl l ↦ ap (λ zs. zs ++ from x (p ∷ ps)) (upto_none x p ps l) ∙ from_none x p ps l
+  | inr l ↦ ap (λ zs. zs ++ from x (p ∷ ps)) (upto_some x p ps l) ∙ ap (λ zs. p ∷ (upto x ps ++ zs)) (from_some x p ps l) ∙ ap (λ zs. p ∷ zs) (split_is x ps)
 ]
 
 pub take_upto : (x : ℚ) (ps : List Piece) → take (length (upto x ps)) ps ≡ upto x ps
@@ -37,13 +37,13 @@ pub from_upto : (x y : ℚ) (ps : List Piece) → x ≤ℚ y → from x (upto y 
 from_upto x y [] h = ap (from x) (upto_end y) ∙ from_end x ∙ sym (ap (upto y) (from_end x) ∙ upto_end y)
 from_upto x y (p ∷ ps) h = elim (le_or_lt x p.x) [
   | inr l ↦
-      ap (from x) (upto_some y p ps (lt_le_trans l h)) ∙ from_before x p (upto y ps) l ∙ from_upto x y ps h
-      ∙ sym (ap (upto y) (from_before x p ps l))
+      ap (from x) (upto_some y p ps (lt_le_trans l h)) ∙ from_some x p (upto y ps) l ∙ from_upto x y ps h
+      ∙ sym (ap (upto y) (from_some x p ps l))
   | inl l ↦ elim (le_or_lt y p.x) [
-    | inl k ↦ ap (from x) (upto_none y p ps k) ∙ from_end x ∙ sym (ap (upto y) (from_past x p ps l) ∙ upto_none y p ps k)
+    | inl k ↦ ap (from x) (upto_none y p ps k) ∙ from_end x ∙ sym (ap (upto y) (from_none x p ps l) ∙ upto_none y p ps k)
     | inr k ↦
-        ap (from x) (upto_some y p ps k) ∙ from_past x p (upto y ps) l
-        ∙ sym (ap (upto y) (from_past x p ps l) ∙ upto_some y p ps k)
+        ap (from x) (upto_some y p ps k) ∙ from_none x p (upto y ps) l
+        ∙ sym (ap (upto y) (from_none x p ps l) ∙ upto_some y p ps k)
   ]
 ]
 
@@ -79,10 +79,10 @@ pub from_is_past : (t x : ℚ) (ps : List Piece) (q : Piece) (qs : List Piece) �
 from_is_past t x [] q qs r e = absurd (nil_not_cons q qs (sym (past_none t) ∙ e))
 from_is_past t x (p ∷ ps) q qs r e = elim (le_or_lt p.x t) [
   | inl l ↦
-      from_before q.x p ps (le_lt_trans l (first_late t (p ∷ ps) q qs e)) ∙ from_is_past t p.x ps q qs r.1 (sym (past_go t p ps l) ∙ e)
+      from_some q.x p ps (le_lt_trans l (first_late t (p ∷ ps) q qs e)) ∙ from_is_past t p.x ps q qs r.1 (sym (past_go t p ps l) ∙ e)
   | inr l ↦
       let whole : p ∷ ps ≡ q ∷ qs = sym (past_all t t (p ∷ ps) (le_refl t) (l, r.1)) ∙ e in
-      from_past q.x p ps (subst (λ z. q.x ≤ℚ z.x) (sym (heads_same p q ps qs whole)) (le_refl q.x)) ∙ whole
+      from_none q.x p ps (subst (λ z. q.x ≤ℚ z.x) (sym (heads_same p q ps qs whole)) (le_refl q.x)) ∙ whole
 ]
 
 pub upto_early : (t x : ℚ) (ps : List Piece) (q : Piece) (qs : List Piece) → RisesFrom x ps → past t ps ≡ q ∷ qs → Each (λ p. p.x ≤ℚ t) (upto q.x ps)
@@ -157,6 +157,3 @@ each_front P es ps F h = each_left P es F.more (subst (Each P) F.is h)
 pub each_right : (P : Piece → Type 0) (es bs : List Piece) → Each P (es ++ bs) → Each P bs
 each_right P [] bs h = h
 each_right P (a ∷ es) bs h = each_right P es bs h.1
-
-pub each_from : (P : Piece → Type 0) (x : ℚ) (ps : List Piece) → Each P ps → Each P (from x ps)
-each_from P x ps h = each_right P (upto x ps) (from x ps) (subst (Each P) (sym (split_is x ps)) h)

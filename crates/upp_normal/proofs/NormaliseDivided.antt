@@ -24,16 +24,17 @@ use Rattle.upp_curve.proofs.Repeats.{repeated_first, repeated_rule, repeats_time
 use Rattle.upp_curve.proofs.Steady.{read_past}
 use Rattle.upp_curve.proofs.Unique.{lines_same}
 use Rattle.upp_curve.proofs.FirstStretch.{on_stretch, at_start, end_of, start_before, end_at_most}
-use Rattle.upp_curve.proofs.Normal.{rises, upto_all}
+use Rattle.upp_curve.proofs.Normal.{upto_all}
 use Rattle.upp_normal.proofs.UnrolledValues.{copies_some, line_value_later}
-use Rattle.upp_normal.proofs.Below.{Cut, cut_at_start, read_from_cut, from_past, from_before, parts_read}
+use Rattle.upp_normal.proofs.Below.{Cut, cut_at_start, read_from_cut, parts_read}
 use Rattle.affine_segment.proofs.PieceOrder.{each_map, each_append, rises_left, heads_same, tails_same, rises_split, has_mid}
 use Rattle.upp_normal.proofs.NormaliseLists.{none_left, none_between, last_is_last, last_in}
 use Rattle.upp_normal.proofs.NormaliseCuts.{each_right}
 use Rattle.upp_normal.proofs.NormalisePeriods.{agree}
 use Rattle.upp_normal.proofs.NormaliseRank.{upto_mid}
 use Rattle.upp_normal.proofs.NormaliseCopies.{Period, are_copies, more_copies, next_copies, copies_go_on, from_go_on, length-copies}
-use Rattle.affine_segment.proofs.PieceIn.{read_is}
+use Rattle.affine_segment.proofs.PieceIn.{read_is, low_start}
+use Rattle.upp_limits.proofs.PieceCounts.{from_none, from_some}
 
 -- ---- the right part of a list, and its front
 none_after : (p : Piece) (es : List Piece) (q : Piece) (bs : List Piece) → NoneContinues p (es ++ q ∷ bs) → NoneContinues q bs
@@ -53,18 +54,18 @@ no_merge_front [] q bs more n = none_left q bs more n
 no_merge_front (a ∷ es) q bs more n = none_left a (es ++ q ∷ bs) more (subst (NoneContinues a) (sym (append_assoc es (q ∷ bs) more)) n)
 
 from_mid : (x : ℚ) (es : List Piece) (q : Piece) (bs : List Piece) → Each (λ z. z.x <ℚ x) es → x ≤ℚ q.x → from x (es ++ q ∷ bs) ≡ q ∷ bs
-from_mid x [] q bs h l = from_past x q bs l
-from_mid x (a ∷ es) q bs h l = from_before x a (es ++ q ∷ bs) h.0 ∙ from_mid x es q bs h.1 l
+from_mid x [] q bs h l = from_none x q bs l
+from_mid x (a ∷ es) q bs h l = from_some x a (es ++ q ∷ bs) h.0 ∙ from_mid x es q bs h.1 l
 
 -- ---- the period of a curve that begins and ends at a break
 pub cut_of : (ps : List Piece) (r d : ℚ) → IsCycle ps r d → Cut r ps
-cut_of ps r d C = cut_at_start (int (pos 0) -ℚ int (pos 1)) r ps (rises ps C.starts) C.has
+cut_of ps r d C = cut_at_start (int (pos 0) -ℚ int (pos 1)) r ps (low_start ps C.starts) C.has
 
 pub period_is : (ps : List Piece) (r d c : ℚ) → IsCycle ps r d → EndsInBreak ps r d c → (K : Cut r ps) → Period (repeated (read ps) r d c) d c K.first K.rest
 period_is ps r d c C E K =
     let inside = each_right (λ z. z.x <ℚ r +ℚ d) K.before (K.first ∷ K.rest) (subst (Each (λ z. z.x <ℚ r +ℚ d)) K.whole C.inside) in
     record {
-      rises = K.rises;
+      low_start = K.rises;
       none = none_right K.before K.first K.rest (subst NoMerge K.whole C.none);
       inside = subst (λ x. Each (λ z. z.x <ℚ x +ℚ d) K.rest) (sym K.at) inside.1;
       break = E K.first K.rest K.from_is;
@@ -144,7 +145,7 @@ divided_parts es q qs vs m first d c e u C early some dk ck are count =
     let shape : qs ≡ vs ++ s ∷ more = tails_same q q qs (vs ++ s ∷ more) (are ∙ two_copies m e u q vs) in
     let zero2 : StartsAtZero (es ++ q ∷ (vs ++ s ∷ more)) = subst (λ zs. StartsAtZero (es ++ q ∷ zs)) shape C.starts in
     let none2 : NoMerge (es ++ q ∷ (vs ++ s ∷ more)) = subst (λ zs. NoMerge (es ++ q ∷ zs)) shape C.none in
-    let rise2 = (rises_split _ es q (vs ++ s ∷ more) (rises (es ++ q ∷ (vs ++ s ∷ more)) zero2)).2 in
+    let rise2 = (rises_split _ es q (vs ++ s ∷ more) (low_start (es ++ q ∷ (vs ++ s ∷ more)) zero2)).2 in
     let vs_in : Each (λ z. z.x <ℚ x +ℚ e) vs = (rises_split x vs s more rise2).0 in
     let begin : x <ℚ x +ℚ e = with2 x e (λ c. omega (arith, c.le, c.lt, c.same)) in
     let es_in : Each (λ z. z.x <ℚ x +ℚ e) es = each_map (λ z. z.x <ℚ x) (λ z. z.x <ℚ x +ℚ e) (λ z h. let y = z.x in with3 y x e (λ c. omega (arith, c.le, c.lt, c.same))) es early in

@@ -30,12 +30,13 @@ use Rattle.upp_curve.proofs.Repeats.{repeated_first, repeated_rule}
 use Rattle.upp_normal.proofs.UnrolledValues.{read_before}
 use Rattle.upp_normal.proofs.Below.{read_from_cut, plain_upto}
 use Rattle.affine_segment.proofs.PieceOrder.{each_map, each_append, rises_append, has_mid, zero_some}
-use Rattle.upp_normal.proofs.NormaliseLists.{upto_before, rises_upto}
+use Rattle.upp_normal.proofs.NormaliseLists.{rises_upto}
 use Rattle.upp_normal.proofs.NormaliseCuts.{last_append}
 use Rattle.upp_normal.proofs.NormalisePeriods.{two_periods_are, repeats_after}
 use Rattle.upp_normal.proofs.NormaliseRank.{Last, last_is}
 use Rattle.upp_normal.proofs.NormaliseDivided.{cut_of, period_is, not_one_line}
 use Rattle.upp_normal.proofs.NormaliseLeast.{own_turning, share_some}
+use Rattle.upp_limits.proofs.PieceCounts.{upto_early}
 
 -- ---- a merge of a whole list
 pub each_part : (P : Piece → Type 0) (rs ps : List Piece) → IsPart rs ps → Each P ps → Each P rs
@@ -231,7 +232,7 @@ ended_starts (p ∷ ps) r zero h =
     by_time z e (inr l) =
         let first : p.x <ℚ r = subst (λ x. x <ℚ r) (sym zero.0) l in
         let some = upto_some r p ps first in
-        let rise = rises_append p.x (upto r ps) z [] (rises_upto p.x r ps zero.1) (subst (λ x. p.x <ℚ x) (sym e) first) (subst (λ x. Each (λ q. q.x <ℚ x) (upto r ps)) (sym e) (upto_before r ps)) tt in
+        let rise = rises_append p.x (upto r ps) z [] (rises_upto p.x r ps zero.1) (subst (λ x. p.x <ℚ x) (sym e) first) (subst (λ x. Each (λ q. q.x <ℚ x) (upto r ps)) (sym e) (upto_early r ps)) tt in
         subst (λ zs. StartsAtZero (zs ++ z ∷ [])) (sym some) (zero.0, rise)
 
 pub ended_reads : (ps : List Piece) (r t : ℚ) → StartsAtZero ps → int (pos 0) ≤ℚ t → read (ended ps r) t ≡ cut (read ps) r t
@@ -239,7 +240,7 @@ ended_reads ps r t zero h =
     let z : Piece = record { x = r; at = read ps r; line = None } in
     elim (le_or_lt r t) [
       | inl l ↦
-          let up : Each (λ q. q.x ≤ℚ t) (upto r ps) = each_map (λ q. q.x <ℚ r) (λ q. q.x ≤ℚ t) (λ q m. le_trans (le_of_lt m) l) (upto r ps) (upto_before r ps) in
+          let up : Each (λ q. q.x ≤ℚ t) (upto r ps) = each_map (λ q. q.x <ℚ r) (λ q. q.x ≤ℚ t) (λ q m. le_trans (le_of_lt m) l) (upto r ps) (upto_early r ps) in
           read_from_cut (upto r ps) z [] t up l ∙ read_one z t ∙ by_end z refl refl refl l (le_or_lt t r)
       | inr l ↦ before z refl l (upto r ps) (plain_upto ps r t zero h l) (some_before l) ∙ sym (cut_before (read ps) r t (le_of_lt l))
     ]

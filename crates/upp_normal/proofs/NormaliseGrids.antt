@@ -22,11 +22,11 @@ use Rattle.affine_segment.specs.Pieces.{Each, RisesFrom, StartsAtZero}
 use Rattle.upp_curve.specs.Normal.{FitsPeriod, Continues}
 use Rattle.upp_normal.specs.Normalising.{IsMerged, IsTwoPeriods, IsLine, IsOneLine, Turned, OnGrids, OnGridsUnlessLine, cut_at, past, first_start, second_copy}
 use Rattle.upp_curve.proofs.Unique.{upto_some}
-use Rattle.affine_segment.proofs.PieceIn.{value_past, value_at_start, read_is}
+use Rattle.affine_segment.proofs.PieceIn.{value_past, value_at_start, read_is, low_start}
 use Rattle.upp_curve.proofs.Steady.{read_past}
-use Rattle.upp_normal.proofs.UnrolledValues.{copies_some}
+use Rattle.upp_normal.proofs.UnrolledValues.{copies_some, copies_none}
 use Rattle.upp_curve.proofs.Repeats.{repeated_rule}
-use Rattle.upp_curve.proofs.Normal.{transfer, rises}
+use Rattle.upp_curve.proofs.Normal.{transfer}
 use Rattle.upp_normal.proofs.NormaliseLoops.{later_none, later_some}
 use Rattle.affine_segment.proofs.PieceOrder.{each_append, each_left, rises_down}
 use Rattle.upp_normal.proofs.NormaliseLists.{each_past, each_upto}
@@ -35,9 +35,9 @@ use Rattle.upp_normal.proofs.NormaliseMerge.{merged_none, merged_skip, merged_ke
 use Rattle.upp_normal.proofs.NormalisePeriods.{two_periods_are, agree_from, repeats_after}
 use Rattle.upp_normal.proofs.NormaliseBreaks.{one_line}
 use Rattle.upp_normal.proofs.NormaliseShape.{line_for_ever, line_before, turns_at, start_late}
-use Rattle.upp_normal.proofs.NormaliseCopies.{copies_zero, Period, are_copies}
+use Rattle.upp_normal.proofs.NormaliseCopies.{Period, are_copies}
 use Rattle.upp_normal.proofs.NormaliseDivided.{cut_of, period_is, not_one_line}
-use Rattle.upp_normal.proofs.NormaliseLeast.{share_back, share_some}
+use Rattle.upp_normal.proofs.NormaliseLeast.{share_back, share_some, whole_share}
 use Rattle.upp_normal.proofs.NormaliseForm.{each_part, merged_cons, two_periods_of, grids_through}
 use Rattle.upp_normal.proofs.NormaliseRoomy.{each_in, found_early}
 
@@ -116,7 +116,7 @@ ext_same_or (Fin x) (Fin y) = elim (q_same_or x y) [
   | inr n ↦ inr (λ e. n (fin_same x y e))
 ]
 
-some_same : (x y : Line) → Some x ≡ Some y → x ≡ y
+pub some_same : (x y : Line) → Some x ≡ Some y → x ≡ y
 some_same x y e = cc
 
 line_same_or : (l m : Option Line) → (l ≡ m) ⊎ ¬ (l ≡ m)
@@ -174,7 +174,7 @@ each_nothing_later e u [] E = subst (Each IsNothing) (sym (later_none e u)) tt
 each_nothing_later e u (p ∷ ps) E = subst (Each IsNothing) (sym (later_some e u p ps)) (nothing_later e u p E.0, each_nothing_later e u ps E.1)
 
 pub nothing_copies : (k : ℕ) (e u : ℚ) (p : Piece) (ps : List Piece) → Each IsNothing (p ∷ ps) → Each IsNothing (copies k e u (p ∷ ps))
-nothing_copies zero e u p ps E = subst (Each IsNothing) (sym (copies_zero e u (p ∷ ps))) tt
+nothing_copies zero e u p ps E = subst (Each IsNothing) (sym (copies_none e u (p ∷ ps))) tt
 nothing_copies (suc k) e u p ps E =
     subst (Each IsNothing) (sym (copies_some k e u p ps)) (each_append IsNothing (p ∷ ps) (each_later e u (copies k e u (p ∷ ps))) E
     (each_nothing_later e u (copies k e u (p ∷ ps)) (nothing_copies k e u p ps E)))
@@ -234,14 +234,11 @@ copied_on T S D k e u p ps h E =
     let a : Whole T e = subst (Whole T) (with2 x e (λ c. omega (arith, c.le, c.lt, c.same))) (whole_sub T (p.x +ℚ e) p.x moved.0.start first.0.start) in
     (a, rise_of_each T S D e u (p ∷ ps) h a first moved)
 
-pub share_one : (x : ℚ) → x /ℚ int (pos 1) ≡ x
-share_one x = let y = x /ℚ int (pos 1) in sym (share_back x 1 (omega arith) ∙ mul_comm_q (int (pos 1)) y ∙ mul_one y)
-
 -- a fraction of the period from a break is on the grids
 pub turn_on : (T S D : ℕ) (ks : List Piece) (first n : ℕ) (x d c : ℚ) (g : ℚ → Ext) → T * S ∣ D → Turned ks first x d c g → Each (PieceOn T S D) ks → Whole T d → Whole D c → 1 ≤ n
     → Repeats g x (d /ℚ int (pos n)) (c /ℚ int (pos n)) → Whole T (d /ℚ int (pos n)) × Whole D (c /ℚ int (pos n))
 turn_on T S D ks first zero x d c g h K E wd wc some_n R = absurd (omega arith)
-turn_on T S D ks first (suc zero) x d c g h K E wd wc some_n R = (subst (Whole T) (sym (share_one d)) wd, subst (Whole D) (sym (share_one c)) wc)
+turn_on T S D ks first (suc zero) x d c g h K E wd wc some_n R = (subst (Whole T) (sym (whole_share d)) wd, subst (Whole D) (sym (whole_share c)) wc)
 turn_on T S D ks first (suc (suc k)) x d c g h K E wd wc some_n R =
     let n = suc (suc k) in
     let e = d /ℚ int (pos n) in
@@ -293,7 +290,7 @@ two_on T S D ps r d c h W E wd wc bent = by_start (first_start (past r ps)) refl
       | inl l ↦ turns x s l
       | inr l ↦
           let (q, qs, past_is, at) = start_some (past r ps) x (sym s) in
-          let early = subst (λ z. Each (λ p. p.x ≤ℚ r) (upto z ps)) at (upto_early r (int (pos 0) -ℚ int (pos 1)) ps q qs (rises ps W.starts) past_is) in
+          let early = subst (λ z. Each (λ p. p.x ≤ℚ r) (upto z ps)) at (upto_early r (int (pos 0) -ℚ int (pos 1)) ps q qs (low_start ps W.starts) past_is) in
           absurd (bent (line_case (upto x ps) g r d c W.nonneg W.some rule (line_before ps r d c x (r +ℚ d) (upto x ps) W s refl l refl) early))
     ]
 

@@ -25,9 +25,10 @@ use Rattle.upp_curve.specs.Fitting.{LaterFits}
 use Rattle.upp_curve.proofs.Repeats.{repeats_times, repeated_rule}
 use Rattle.upp_curve.proofs.Rules.{int_mul}
 use Rattle.upp_curve.proofs.Normal.{transfer}
-use Rattle.upp_normal.proofs.NormaliseCuts.{split_is, drop_upto, front_self, front_take, front_trans, each_front, each_from}
+use Rattle.upp_normal.proofs.NormaliseCuts.{split_is, drop_upto, front_self, front_take, front_trans, each_front}
 use Rattle.upp_normal.proofs.NormaliseShare.{parts_some}
 use Rattle.upp_normal.proofs.NormaliseDivided.{cut_of, divides_count, goes_on_if, cut_turned}
+use Rattle.upp_limits.proofs.PieceCounts.{each_from}
 
 -- ---- shares
 pub share_back : (x : ℚ) (n : ℕ) → 0 < n → x ≡ int (pos n) *ℚ (x /ℚ int (pos n))
@@ -165,7 +166,7 @@ grids_cut times values parts c d G T k some e u = record {
         subst (λ x. Repeats (cycle_values c) c.rank x (c.rise /ℚ int (pos (parts * n)))) (shares d.period c.period e n h) (subst (λ y. Repeats (cycle_values c) c.rank (d.period /ℚ int (pos n)) y) (shares d.rise c.rise u n h)
         (to_values d (cycle_values c) c.rank (d.period /ℚ int (pos n)) (d.rise /ℚ int (pos n)) T k (le_of_lt (share_some d.period n h T.cycle.some)) R))
 
-whole_share : (x : ℚ) → x /ℚ int (pos 1) ≡ x
+pub whole_share : (x : ℚ) → x /ℚ int (pos 1) ≡ x
 whole_share x = mul_cancel (x /ℚ int (pos 1)) x (int (pos 1)) (parts_some 1 (omega arith)) (div_mul x (int (pos 1)) (parts_some 1 (omega arith)) ∙ sym (mul_one x))
 
 fits_kept : (times values : ℕ) (c d : Cycle) → SharesFit times values c.pieces.items c.period c.rise → IsFront d.pieces.items c.pieces.items → d.period ≡ c.period → d.rise ≡ c.rise

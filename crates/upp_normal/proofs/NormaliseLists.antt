@@ -15,10 +15,11 @@ use Rattle.upp_curve.specs.Normal.{Continues, NoneContinues}
 use Rattle.upp_curve.specs.Steady.{last_of}
 use Rattle.upp_normal.specs.Normalising.{past}
 use Rattle.upp_normal.proofs.UnrolledValues.{line_value_later}
-use Rattle.upp_curve.proofs.Rules.{add_cancel_ext}
 use Rattle.upp_curve.proofs.Unique.{upto_none, upto_some, upto_end, lines_at_two}
 use Rattle.upp_normal.proofs.NormaliseLoops.{past_go, past_stop, past_none, later_none, later_some}
 use Rattle.affine_segment.proofs.PieceOrder.{each_map, each_append, rises_down, rises_append}
+use Rattle.rational.proofs.ExtendedOrder.{add_cancel_ext}
+use Rattle.upp_limits.proofs.PieceCounts.{upto_early}
 
 -- ---- what holds of each piece
 pub each_past : (P : Piece → Type 0) (t : ℚ) (ps : List Piece) → Each P ps → Each P (past t ps)
@@ -33,14 +34,6 @@ each_upto P x [] h = subst (Each P) (sym (upto_end x)) tt
 each_upto P x (p ∷ ps) h = elim (le_or_lt x p.x) [
   | inl l ↦ subst (Each P) (sym (upto_none x p ps l)) tt
   | inr l ↦ subst (Each P) (sym (upto_some x p ps l)) (h.0, each_upto P x ps h.1)
-]
-
--- those before x start before it
-pub upto_before : (x : ℚ) (ps : List Piece) → Each (λ p. p.x <ℚ x) (upto x ps)
-upto_before x [] = subst (Each (λ p. p.x <ℚ x)) (sym (upto_end x)) tt
-upto_before x (p ∷ ps) = elim (le_or_lt x p.x) [
-  | inl l ↦ subst (Each (λ p. p.x <ℚ x)) (sym (upto_none x p ps l)) tt
-  | inr l ↦ subst (Each (λ p. p.x <ℚ x)) (sym (upto_some x p ps l)) (l, upto_before x ps)
 ]
 
 pub each_moved : (x d c : ℚ) (ps : List Piece) → Each (λ p. p.x <ℚ x) ps → Each (λ p. p.x <ℚ x +ℚ d) (each_later d c ps)

@@ -36,10 +36,12 @@ use Rattle.upp_curve.proofs.ByTail.{value_of}
 use Rattle.upp_limits.proofs.NarrowSizes.{grids_narrow, IsNarrow, narrow_limit, grid_pos, value_whole, run_within, line_parts, slope_time_divides}
 use Rattle.upp_limits.proofs.PieceLists.{starts_nonneg}
 use Rattle.upp_limits.proofs.OwnGauge.{end_within}
-use Rattle.upp_limits.proofs.CurveStands.{curve_stands, own_are_sizes, own_stands, starts_below_own_end}
+use Rattle.upp_limits.proofs.CurveStands.{curve_stands, own_are_sizes, own_stands, starts_below_own_end, later_at_least}
 use Rattle.affine_segment.proofs.PieceOrder.{each_map}
 use Rattle.upp_normal.proofs.NormaliseForm.{grids_through}
 use Rattle.upp_normal.proofs.NormaliseGrids.{ValueOn, LineOn, PieceOn, raw_on}
+use Rattle.upp_normal.proofs.AnswerRoom.{far, thrice}
+use Rattle.upp_normal.proofs.UnrolledPieces.{each_nonneg}
 
 -- ---- the room that the sizes give: times up to three times the window's end, values up to three times the largest
 abbrev room_of : Sizes → ℚ → Room
@@ -111,12 +113,6 @@ value_on : (z : Sizes) (v : Ext) → ValueStands z v → ValueOn (grid_of z) v
 value_on z Inf h = tt
 value_on z (Fin v) h = value_whole z v h
 
-thrice : (v y : ℚ) → Within v y → Within (int (pos 3) *ℚ v) (int (pos 3) *ℚ y)
-thrice v y h =
-    let l = h.low in
-    let u = h.high in
-    record { low = with2 v y (λ c. omega (arith, c.le, c.lt, c.same)); high = with2 v y (λ c. omega (arith, c.le, c.lt, c.same)) }
-
 swap : (s n w : ℚ) → n *ℚ (s *ℚ w) ≡ s *ℚ (n *ℚ w)
 swap s n w = sym (mul_assoc n s w) ∙ ap (λ y. y *ℚ w) (mul_comm n s) ∙ mul_assoc s n w
 
@@ -173,9 +169,6 @@ each_on z w tail (p ∷ ps) G h k =
     (piece_on z w record { piece = piece_read tail p; next = start_after ps (end_of tail) } G h.0 k.0.0 k.0.1, each_on z w tail ps G h.1 k.1)
 
 -- ---- the end of the curve's own window
-later_least : (b : Bool) (rank : ℚ) → rank ≤ℚ later_unless b rank
-later_least true rank = le_refl rank
-later_least false rank = with1 rank (λ c. omega (arith, c.le, c.lt, c.same))
 
 -- what ends at w: the first period, or the rank
 abbrev pub EndsBy : Tail → ℚ → Type 0
@@ -191,17 +184,14 @@ ends_by ps (Periodic rank period rise) F =
     ((le_refl (rank +ℚ period), F.some), with2 rank period (λ c. omega (arith, c.le, c.lt, c.same)))
 ends_by ps (Affine rank) F =
     let s = steady record { pieces = ps; tail = Affine rank } in
-    let l : rank ≤ℚ s = later_least _ rank in
+    let l : rank ≤ℚ s = later_at_least _ rank in
     let nonneg = F.nonneg in
     (with2 rank s (λ c. omega (arith, c.le, c.lt, c.same)), with2 rank s (λ c. omega (arith, c.le, c.lt, c.same)))
 ends_by ps (Infinite rank) F =
     let s = steady record { pieces = ps; tail = Infinite rank } in
-    let l : rank ≤ℚ s = later_least _ rank in
+    let l : rank ≤ℚ s = later_at_least _ rank in
     let nonneg = F.nonneg in
     (with2 rank s (λ c. omega (arith, c.le, c.lt, c.same)), with2 rank s (λ c. omega (arith, c.le, c.lt, c.same)))
-
-far : (w x : ℚ) → int (pos 0) ≤ℚ w → x ≤ℚ w → x ≤ℚ int (pos 3) *ℚ w
-far w x some h = with2 w x (λ c. omega (arith, c.le, c.lt, c.same))
 
 -- ---- the curve
 tail_room : (z : Sizes) (w : ℚ) (ps : List Piece) (tail : Tail) → Given z w → TailFits ps tail → EndsBy tail w → Whole z.dt (rank_of tail) → TailStands z tail
@@ -259,10 +249,6 @@ tail_grids z w ps (Periodic rank period rise) G zero_start F on S spans_stand in
 tail_grids z w ps (Affine rank) G zero_start F on S spans_stand inside = tt
 tail_grids z w ps (Infinite rank) G zero_start F on S spans_stand inside = tt
 
-low_starts : (ps : List Piece) → AllByRecursion (λ p. int (pos 0) ≤ℚ p.x) ps → Each (λ p. int (pos 0) ≤ℚ p.x) ps
-low_starts [] h = tt
-low_starts (p ∷ ps) h = (h.0, low_starts ps h.1)
-
 given : (c : SpecCurve) → IsRaw c → own_gauge c < 2 ^ 120 → Given (own_sizes c) (own_end c)
 given c raw small = record {
   sizes = own_are_sizes c;
@@ -271,7 +257,7 @@ given c raw small = record {
 }
 
 inside_own : (c : SpecCurve) → IsRaw c → Each (λ p. (int (pos 0) ≤ℚ p.x) × (p.x ≤ℚ own_end c)) c.pieces
-inside_own c raw = nonneg c.pieces (own_end c) (low_starts c.pieces (starts_nonneg c.pieces raw.starts)) (starts_below_own_end c raw)
+inside_own c raw = nonneg c.pieces (own_end c) (each_nonneg c.pieces (starts_nonneg c.pieces raw.starts)) (starts_below_own_end c raw)
 
 -- the numbers of a curve whose own gauge is below 2 ^ 120 have room
 own_room : (c : SpecCurve) → IsRaw c → own_gauge c < 2 ^ 120 → TailHasRoom (own_sizes c).dt (grid_of (own_sizes c)) c.pieces c.tail
@@ -325,7 +311,7 @@ limited_found z end c a raw before ends h =
     let narrow = narrow_limit z end a.sizes a.gauge in
     let G : Given z end = record { sizes = a.sizes; narrow = narrow; some = a.some } in
     let S = curve_stands z end c raw before h in
-    let inside = nonneg c.pieces end (low_starts c.pieces (starts_nonneg c.pieces raw.starts)) before in
+    let inside = nonneg c.pieces end (each_nonneg c.pieces (starts_nonneg c.pieces raw.starts)) before in
     let n = grids_narrow z end (2 ^ 114) a.sizes narrow in
     let n0 = n.0 in
     let n1 = n.1 in

@@ -21,31 +21,32 @@ use Rattle.upp_curve.specs.Steady.{Repeats, last_of}
 use Rattle.upp_normal.specs.Normalising.{IsCycle, IsFront, IsLowest, RepeatsIn, cut_last, Lowers, MoveReads, StepFits, StepsFit}
 use Rattle.upp_normal.proofs.UnrolledValues.{line_value_later, read_before}
 use Rattle.upp_curve.proofs.Unique.{upto_none, upto_some}
-use Rattle.affine_segment.proofs.PieceIn.{value_past, value_at_start, read_stop, read_one}
+use Rattle.affine_segment.proofs.PieceIn.{value_past, value_at_start, read_stop, read_one, low_start}
 use Rattle.upp_curve.proofs.Steady.{read_past}
-use Rattle.upp_normal.proofs.Below.{read_from_cut, from_past, from_before, plain_upto}
-use Rattle.upp_curve.proofs.Normal.{rises, start_in_upto, upto_all}
+use Rattle.upp_normal.proofs.Below.{read_from_cut, plain_upto}
+use Rattle.upp_curve.proofs.Normal.{start_in_upto, upto_all}
 use Rattle.upp_curve.proofs.Repeats.{repeated_first, repeated_rule}
 use Rattle.affine_segment.proofs.PieceOrder.{each_map, each_append, rises_left, rises_split, each_mid, has_mid}
-use Rattle.upp_normal.proofs.NormaliseLists.{upto_before, last_is_last, last_in, none_between}
+use Rattle.upp_normal.proofs.NormaliseLists.{last_is_last, last_in, none_between}
 use Rattle.upp_normal.proofs.NormaliseCuts.{from_end, split_is, take_upto, drop_upto, zero_upto, no_merge_upto, upto_upto, front_self, front_upto, front_trans, each_front}
 use Rattle.upp_normal.proofs.NormalisePeriods.{agree, repeats_after}
 use Rattle.upp_normal.proofs.NormaliseBreaks.{lines_apart}
+use Rattle.upp_limits.proofs.PieceCounts.{from_none, from_some, upto_early}
 
 -- ---- a list about one of its pieces
 pub upto_mid : (x : ℚ) (es : List Piece) (p : Piece) (bs : List Piece) → Each (λ z. z.x <ℚ x) es → x ≤ℚ p.x → upto x (es ++ p ∷ bs) ≡ es
 upto_mid x [] p bs h l = upto_none x p bs l
 upto_mid x (a ∷ es) p bs h l = upto_some x a (es ++ p ∷ bs) h.0 ∙ ap (λ zs. a ∷ zs) (upto_mid x es p bs h.1 l)
 
-rises_late : (x y : ℚ) (ps : List Piece) → x ≤ℚ y → RisesFrom y ps → Each (λ z. x ≤ℚ z.x) ps
+pub rises_late : (x y : ℚ) (ps : List Piece) → x ≤ℚ y → RisesFrom y ps → Each (λ z. x ≤ℚ z.x) ps
 rises_late x y [] h r = tt
 rises_late x y (p ∷ ps) h r = (le_trans h (le_of_lt r.0), rises_late x p.x ps (le_trans h (le_of_lt r.0)) r.1)
 
 pub from_late : (x y : ℚ) (ps : List Piece) → RisesFrom y ps → Each (λ z. x ≤ℚ z.x) (from x ps)
 from_late x y [] r = subst (Each (λ z. x ≤ℚ z.x)) (sym (from_end x)) tt
 from_late x y (p ∷ ps) r = elim (le_or_lt x p.x) [
-  | inl l ↦ subst (Each (λ z. x ≤ℚ z.x)) (sym (from_past x p ps l)) (l, rises_late x p.x ps l r.1)
-  | inr l ↦ subst (Each (λ z. x ≤ℚ z.x)) (sym (from_before x p ps l)) (from_late x p.x ps r.1)
+  | inl l ↦ subst (Each (λ z. x ≤ℚ z.x)) (sym (from_none x p ps l)) (l, rises_late x p.x ps l r.1)
+  | inr l ↦ subst (Each (λ z. x ≤ℚ z.x)) (sym (from_some x p ps l)) (from_late x p.x ps r.1)
 ]
 
 read_stays : (p : Piece) (ps : List Piece) (t : ℚ) → Each (λ z. t <ℚ z.x) ps → read (p ∷ ps) t ≡ piece_value p t
@@ -64,7 +65,7 @@ pub record Before (ps : List Piece) (rank : ℚ) (p : Piece) : Type 0 where
 before_parts : (rank : ℚ) (es : List Piece) (p : Piece) (bs : List Piece) → StartsAtZero (es ++ p ∷ bs) → p.x <ℚ rank → Each (λ z. rank ≤ℚ z.x) bs
     → upto rank (es ++ p ∷ bs) ≡ es ++ p ∷ [] → Before (es ++ p ∷ bs) rank p
 before_parts rank es p bs zero low late is =
-    let k = rises_split (int (pos 0) -ℚ int (pos 1)) es p bs (rises (es ++ p ∷ bs) zero) in
+    let k = rises_split (int (pos 0) -ℚ int (pos 1)) es p bs (low_start (es ++ p ∷ bs) zero) in
     let x = p.x in
     let early = k.0 in
     record {
@@ -103,8 +104,8 @@ before_is ps rank n z zero count some =
     let split2 : ps ≡ take i ps ++ p ∷ from rank ps = split ∙ ap (λ zs. take i ps ++ p ∷ zs) rest in
     let front : upto rank ps ≡ take i ps ++ p ∷ [] = sym (take_upto rank ps) ∙ ap (λ k. take k ps) (sym next) ∙ taken i p inside split2 in
     let zero2 : StartsAtZero (take i ps ++ p ∷ from rank ps) = subst StartsAtZero split2 zero in
-    let low : p.x <ℚ rank = each_mid (λ z. z.x <ℚ rank) (take i ps) p [] (subst (Each (λ z. z.x <ℚ rank)) front (upto_before rank ps)) in
-    let late = from_late rank _ ps (rises ps zero) in
+    let low : p.x <ℚ rank = each_mid (λ z. z.x <ℚ rank) (take i ps) p [] (subst (Each (λ z. z.x <ℚ rank)) front (upto_early rank ps)) in
+    let late = from_late rank _ ps (low_start ps zero) in
     subst (λ zs. Before zs rank p) (sym split2) (before_parts rank (take i ps) p (from rank ps) zero2 low late (sym (ap (upto rank) split2) ∙ front))
   where
     taken : (i : ℕ) (p : Piece) → i < length ps → ps ≡ take i ps ++ p ∷ from rank ps → take (suc i) ps ≡ take i ps ++ p ∷ []
@@ -145,7 +146,7 @@ last_is ps z zero n some =
     let split : ps ≡ take i ps ++ last ∷ [] = index_split ps i z inside ∙ ap (λ zs. take i ps ++ last ∷ zs) none in
     let zero2 = subst StartsAtZero split zero in
     let n2 = subst NoMerge split n in
-    let early = (rises_split _ (take i ps) last [] (rises _ zero2)).0 in
+    let early = (rises_split _ (take i ps) last [] (low_start _ zero2)).0 in
     record {
       before = take i ps;
       whole = split;
@@ -285,10 +286,10 @@ lowered_is ps new r d c p last C B L I e =
       cycle = record {
         starts = zero_upto end ps positive C.starts;
         none = no_merge_upto end ps C.none;
-        has = start_in_upto _ x end ps (rises ps C.starts) B.has after;
+        has = start_in_upto _ x end ps (low_start ps C.starts) B.has after;
         nonneg = nonneg;
         some = some;
-        inside = upto_before end ps;
+        inside = upto_early end ps;
       };
       count = B.count ∙ ap suc (ap length (sym (upto_upto x end ps (le_of_lt after))));
       same = agree (repeated (read (upto end ps)) x d c) f x d c some (repeated_rule (read (upto end ps)) x d c some) R
@@ -346,7 +347,7 @@ pub lowers_to_zero : (given ps : List Piece) (first : ℕ) (low d c rank : ℚ) 
 lowers_to_zero given ps first low d c rank f K e =
     let none : from low ps ≡ ps = none_before (upto low ps) (omega (arith, e, K.first_is)) (split_is low ps) in
     each_map (λ z. low ≤ℚ z.x) (λ z. z.x <ℚ low → ¬ (Repeats (repeated (read ps) low d c) z.x d c)) (λ z h l R. lt_irrefl low (le_lt_trans h l)) ps
-    (subst (Each (λ z. low ≤ℚ z.x)) none (from_late low _ ps (rises ps K.cycle.starts)))
+    (subst (Each (λ z. low ≤ℚ z.x)) none (from_late low _ ps (low_start ps K.cycle.starts)))
   where
     none_before : (before : List Piece) → length before ≡ 0 → before ++ from low ps ≡ ps → from low ps ≡ ps
     none_before [] e w = w

@@ -14,14 +14,15 @@ use Rattle.upp_curve.specs.Steady.{last_of}
 use Rattle.upp_normal.specs.Normalising.{past, first_start, IsTwoPeriods, EndsInBreak, IsLine, Turned}
 use Rattle.upp_curve.proofs.Unique.{upto_some}
 use Rattle.upp_normal.proofs.Below.{plain_upto}
-use Rattle.upp_curve.proofs.Normal.{each_at, start_in_upto, rises}
+use Rattle.upp_curve.proofs.Normal.{each_at, start_in_upto}
 use Rattle.upp_curve.proofs.Repeats.{repeated_first, repeated_rule}
-use Rattle.upp_normal.proofs.NormaliseLists.{upto_before}
 use Rattle.affine_segment.proofs.PieceOrder.{heads_same, tails_same}
 use Rattle.upp_normal.proofs.NormaliseCuts.{split_is, take_upto, from_upto, from_is_past, upto_upto, upto_early, first_late, none_past, past_has, start_none, start_some, zero_upto, no_merge_upto, last_append}
 use Rattle.upp_normal.proofs.NormalisePeriods.{agree, repeats_after}
 use Rattle.upp_normal.proofs.NormaliseBreaks.{one_line_reads, Break, break_at, ends_in_break}
 use Rattle.upp_normal.proofs.NormaliseLoops.{past_go}
+use Rattle.affine_segment.proofs.PieceIn.{low_start}
+use Rattle.upp_limits.proofs.PieceCounts.{upto_early as upto_before}
 
 -- ---- no break past the rank
 pub line_for_ever : (ps : List Piece) (r d c : ℚ) → IsTwoPeriods ps r d c → None ≡ first_start (past r ps) → IsLine ps (repeated (read ps) r d c)
@@ -46,7 +47,7 @@ line_before ps r d c x e kept T s end l k =
     by_first q qs past_is at =
         let f = repeated (read ps) r d c in
         let some = T.some in
-        let from_low = rises ps T.starts in
+        let from_low = low_start ps T.starts in
         let has = subst (λ z. HasStart z ps) at (past_has r ps q qs past_is) in
         let inside : x <ℚ r +ℚ d +ℚ d = each_at (λ z. z <ℚ r +ℚ d +ℚ d) x ps T.inside has in
         let room : r +ℚ d <ℚ x = subst (λ z. z <ℚ x) end l in
@@ -89,7 +90,7 @@ break_end (b ∷ bs) r d c q qs T e room p rest is =
     let last : last_of b (upto X bs) ≡ last_of p rest = last_of_cut x b (upto X bs) p rest shape in
     let after : x <ℚ X = with2 x d (λ c. omega (arith, c.le, c.lt, c.same)) in
     let first : p ∷ rest ≡ q ∷ upto X qs =
-    sym is ∙ from_upto x X (b ∷ bs) (le_of_lt after) ∙ ap (upto X) (from_is_past r _ (b ∷ bs) q qs (rises (b ∷ bs) T.starts) e) ∙ upto_some X q qs after in
+    sym is ∙ from_upto x X (b ∷ bs) (le_of_lt after) ∙ ap (upto X) (from_is_past r _ (b ∷ bs) q qs (low_start (b ∷ bs) T.starts) e) ∙ upto_some X q qs after in
     let same : p ≡ q = heads_same p q rest (upto X qs) first in
     let E = ends_in_break (repeated (read (b ∷ bs)) r d c) b bs r d c q B some zero start (repeated_rule (read (b ∷ bs)) r d c some) T.starts.1
     (λ t h l. T.again t (with4 t x r d (λ c. omega (arith, c.le, c.lt, c.same)))) in
@@ -119,7 +120,7 @@ turns_at ps r d c x e y first kept T s end l until count k =
           cycle = record {
             starts = zero_upto X ps positive T.starts;
             none = no_merge_upto X ps T.none;
-            has = start_in_upto _ x X ps (rises ps T.starts) has after;
+            has = start_in_upto _ x X ps (low_start ps T.starts) has after;
             nonneg = nonneg;
             some = some;
             inside = upto_before X ps;

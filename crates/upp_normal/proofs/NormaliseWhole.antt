@@ -27,13 +27,14 @@ use Rattle.upp_normal.specs.Room.{Room, PieceHasRoom, PiecesHaveRoom, EndHasRoom
 use Rattle.upp_curve.proofs.OneForm.{affine, infinite}
 use Rattle.upp_curve.proofs.Normal.{periodic}
 use Rattle.affine_segment.proofs.PieceOrder.{each_map, each_append}
-use Rattle.upp_normal.proofs.NormaliseLists.{each_upto, upto_before}
+use Rattle.upp_normal.proofs.NormaliseLists.{each_upto}
 use Rattle.upp_normal.proofs.NormaliseCuts.{each_front}
 use Rattle.upp_normal.proofs.NormalisePeriods.{two_periods_are}
 use Rattle.upp_normal.proofs.NormaliseRank.{Last}
 use Rattle.upp_normal.proofs.NormaliseForm.{each_part, ends_at, infinite_form, affine_form, repeating_form}
 use Rattle.upp_normal.proofs.NormaliseRoom.{start_fits, piece_weaken, line_fits}
 use Rattle.upp_normal.proofs.NormaliseRoomy.{CopyFits, copy_fits, read_fits, ends_fit, ends_nowhere, weaken_each, each_in, cut_piece, found_early, each_and, least_room, period_readable}
+use Rattle.upp_limits.proofs.PieceCounts.{upto_early}
 
 abbrev pub curve_of : List Piece → Tail → SpecCurve
 curve_of ps k = record { pieces = ps; tail = k }
@@ -170,13 +171,13 @@ both_room m times values given longer items r d c T R zero M = record {
 }
 
 -- ---- an infinite tail
-before_read : (r : ℚ) (p : Piece) → p.x <ℚ r → piece_read (Infinite r) p ≡ p
+pub before_read : (r : ℚ) (p : Piece) → p.x <ℚ r → piece_read (Infinite r) p ≡ p
 before_read r p l = rw (lt_q_out p.x r l) refl
 
 each_before : (m : Room) (ps : List Piece) (r : ℚ) → Each (λ p. PieceHasRoom m 1 (piece_read (Infinite r) p)) ps → Each (PieceHasRoom m 1) (upto r ps)
 each_before m ps r E =
     each_map (λ p. PieceHasRoom m 1 (piece_read (Infinite r) p) × (p.x <ℚ r)) (PieceHasRoom m 1) (λ p k. subst (PieceHasRoom m 1) (before_read r p k.1) k.0) (upto r ps)
-    (each_and (λ p. PieceHasRoom m 1 (piece_read (Infinite r) p)) (λ p. p.x <ℚ r) (upto r ps) (each_upto (λ p. PieceHasRoom m 1 (piece_read (Infinite r) p)) r ps E) (upto_before r ps))
+    (each_and (λ p. PieceHasRoom m 1 (piece_read (Infinite r) p)) (λ p. p.x <ℚ r) (upto r ps) (each_upto (λ p. PieceHasRoom m 1 (piece_read (Infinite r) p)) r ps E) (upto_early r ps))
 
 value_seen : (r : ℚ) (q : Piece) → q.x ≤ℚ r → piece_value (piece_read (Infinite r) q) r ≡ piece_value q r
 value_seen r q early = elim (le_or_lt r q.x) [
@@ -202,7 +203,7 @@ ended_room m (p ∷ ps) r E starts h =
     record {
       is = E.is;
       each = each_append (PieceHasRoom m 4) (upto r all) (z ∷ []) (weaken_each m 1 4 (upto r all) (omega arith) (each_before m all r E.each)) (piece_weaken m (1 + 1) 4 z (omega arith) last, tt);
-      early = each_append (λ z. z.x ≤ℚ m.end) (upto r all) (z ∷ []) (each_map (λ z. z.x <ℚ r) (λ z. z.x ≤ℚ m.end) (λ z l. le_trans (le_of_lt l) E.early) (upto r all) (upto_before r all)) (E.early, tt);
+      early = each_append (λ z. z.x ≤ℚ m.end) (upto r all) (z ∷ []) (each_map (λ z. z.x <ℚ r) (λ z. z.x ≤ℚ m.end) (λ z l. le_trans (le_of_lt l) E.early) (upto r all) (upto_early r all)) (E.early, tt);
     }
 
 pub end_read : (m : Room) (ps seen : List Piece) (r : ℚ) → seen ≡ ps → EndHasRoom m ps r → ReadFits seen r

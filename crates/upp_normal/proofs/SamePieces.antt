@@ -24,13 +24,14 @@ use Rattle.upp_limits.specs.Spans.{Span, copies_of, end_of, number_below, once, 
 use Rattle.upp_curve.specs.Unrolled.{copies, copies_below, each_later, from, later, unroll, unrolled, upto}
 use Rattle.upp_limits.proofs.Copies.{copies_in, every_copy}
 use Rattle.upp_limits.proofs.Every.{every_flat, every_map, every_map_out, every_weaken}
-use Rattle.upp_curve.proofs.Normal.{rises}
-use Rattle.upp_normal.proofs.NormaliseCopies.{copies_next, later_twice}
+use Rattle.upp_normal.proofs.NormaliseCopies.{later_twice}
 use Rattle.upp_normal.proofs.NormaliseCuts.{each_right}
 use Rattle.affine_segment.proofs.PieceOrder.{each_left, each_map}
 use Rattle.upp_normal.proofs.NormaliseLoops.{later_some}
-use Rattle.upp_limits.proofs.PieceCounts.{count_is_length, count_is_sum, from_none, from_some, upto_some}
+use Rattle.upp_limits.proofs.PieceCounts.{count_is_length, count_is_sum, from_none, from_some, copies_next}
 use Rattle.upp_normal.proofs.UnrolledPieces.{IsGiven, all_read, each_with, no_later, periodic_starts, unroll_each}
+use Rattle.affine_segment.proofs.PieceIn.{low_start}
+use Rattle.upp_curve.proofs.Unique.{upto_some}
 
 -- ---- their number
 two_lengths : (b : Bool) (xs ys : List Span) (m n : ℕ) → length xs ≡ m → length ys ≡ n → length (cond b xs ys) ≡ cond b m n
@@ -71,7 +72,7 @@ unfolding spans_below
 below_number c end = spans_length c.tail end c.pieces
 
 -- ---- what holds of the unrolled pieces holds of the spans
--- of a list that rises nothing starts before x past the cut there
+-- of a list that low_start nothing starts before x past the cut there
 none_before : (P : Piece → Type 0) (x y : ℚ) (ps : List Piece) → x ≤ℚ y → RisesFrom y ps → Each (λ p. p.x <ℚ x → P p) ps
 none_before P x y [] l r = tt
 none_before P x y (p ∷ ps) l r =
@@ -147,8 +148,8 @@ periodic_given P ps rank d c end n h =
     let Q = λ (p : Piece). p.x <ℚ end → P p in
     let R = λ (m : ℕ) (p : Piece). Q (later (int (pos m) *ℚ d) (int (pos m) *ℚ c) p) in
     let starts = periodic_starts ps rank d c k n.raw.starts n.rank_is_start some n.raw.tail.starts in
-    let all : Each Q (early ++ late) = each_whole P end start (early ++ late) (rises (early ++ late) starts) h in
-    let before : Each (λ p. p.x <ℚ rank → Q p) ps = each_whole Q rank start ps (rises ps n.raw.starts) (each_left Q early late all) in
+    let all : Each Q (early ++ late) = each_whole P end start (early ++ late) (low_start (early ++ late) starts) h in
+    let before : Each (λ p. p.x <ℚ rank → Q p) ps = each_whole Q rank start ps (low_start ps n.raw.starts) (each_left Q early late all) in
     let turns : Each (λ p. rank ≤ℚ p.x → (m : ℕ) → m < suc k → R m p) ps =
     each_late (λ p. (m : ℕ) → m < suc k → R m p) rank ps
     (each_number R (suc k) (from rank ps) (λ m l. each_turn Q d c (suc k) (from rank ps) (each_right Q early late all) m l)) in
@@ -187,14 +188,14 @@ spans_by_tail P ps (Affine rank) end n h =
     let F = λ (p : Piece). p.x <ℚ end → P p in
     every_weaken {P = λ s. F s.piece} {Q = λ s. AllByRecursion (λ s. P s.piece) (once_below end s)}
     (λ s g. once_in (λ s. P s.piece) end s g) (spans (Affine rank) ps)
-    (spans_all F (Affine rank) ps (each_whole P end (int (pos 0) -ℚ int (pos 1)) ps (rises ps n.raw.starts) h))
+    (spans_all F (Affine rank) ps (each_whole P end (int (pos 0) -ℚ int (pos 1)) ps (low_start ps n.raw.starts) h))
 spans_by_tail P ps (Infinite rank) end n h =
     let F = λ (p : Piece). p.x <ℚ end → P p in
     every_weaken {P = λ s. F s.piece} {Q = λ s. AllByRecursion (λ s. P s.piece) (once_below end s)}
     (λ s g. once_in (λ s. P s.piece) end s g) (spans (Infinite rank) ps)
     (spans_all F (Infinite rank) ps
     (each_with F (λ p. piece_read (Infinite rank) p ≡ p) (λ p. F (piece_read (Infinite rank) p)) (λ p f e. subst F (sym e) f) ps
-    (each_whole P end (int (pos 0) -ℚ int (pos 1)) ps (rises ps n.raw.starts) h)
+    (each_whole P end (int (pos 0) -ℚ int (pos 1)) ps (low_start ps n.raw.starts) h)
     (all_read rank ps n.raw.starts n.raw.tail.starts n.tail)))
 
 each_span : (P : Piece → Type 0) (c : SpecCurve) (end : ℚ) → IsNormal c → Each P (unroll c end) → AllByRecursion (λ s. P s.piece) (spans_below c end)

@@ -21,6 +21,7 @@ use Rattle.affine_segment.proofs.NextPiece.{next_go, next_stop, next_none, next_
 use Rattle.affine_segment.proofs.PieceIn.{piece_in_stop, piece_in_go, piece_in_end, IsPointAt, value_past}
 use Rattle.upp_curve.proofs.Normal.{past_start}
 use Rattle.upp_curve.proofs.Steady.{read_past}
+use Rattle.upp_normal.proofs.NormaliseRoomy.{found_early}
 
 -- ---- the next start is past the time, and what holds of all starts holds of it
 pub next_past : (ps : List Piece) (t : ℚ) (after : Option ℚ) → IsBeforeNext t after → IsBeforeNext t (next_in ps t after)
@@ -43,13 +44,6 @@ same_piece p [] t u after h k = piece_in_end p u ∙ sym (piece_in_end p t)
 same_piece p (q ∷ qs) t u after h k = elim (le_or_lt q.x t) [
   | inl l ↦ piece_in_go p q qs u (le_trans l h) ∙ same_piece q qs t u after h (subst (IsBeforeNext u) (next_go q qs t after l) k) ∙ sym (piece_in_go p q qs t l)
   | inr l ↦ piece_in_stop p q qs u (subst (IsBeforeNext u) (next_stop q qs t after l) k) ∙ sym (piece_in_stop p q qs t l)
-]
-
-pub found_early : (p : Piece) (ps : List Piece) (t : ℚ) → p.x ≤ℚ t → (piece_in p ps t).x ≤ℚ t
-found_early p [] t h = subst (λ q. q.x ≤ℚ t) (sym (piece_in_end p t)) h
-found_early p (q ∷ qs) t h = elim (le_or_lt q.x t) [
-  | inl l ↦ subst (λ r. r.x ≤ℚ t) (sym (piece_in_go p q qs t l)) (found_early q qs t l)
-  | inr l ↦ subst (λ r. r.x ≤ℚ t) (sym (piece_in_stop p q qs t l)) h
 ]
 
 -- and no piece starts before the first

@@ -41,11 +41,12 @@ use Rattle.upp_limits.proofs.Every.{every_flat_out}
 use Rattle.upp_limits.proofs.Copies.{copies_out, copy_zero, copy_among}
 use Rattle.upp_limits.proofs.ClosedForms.{line_moved}
 use Rattle.upp_limits.proofs.NarrowSizes.{IsNarrow, narrow_gauge, scaled_fits, grid_pos, line_parts, small_number, small_sum, value_whole, value_within, run_whole, run_within}
-use Rattle.upp_normal.proofs.AnswerRoom.{OperandValueAt, operand_line_fits, operand_line_value, stands_operand_value}
-use Rattle.upp_limits.proofs.CurveStands.{unrolled_stand, curve_stands, tail_stands, once_out, copies_first}
-use Rattle.upp_limits.proofs.KnownNumbers.{value_rises}
-use Rattle.upp_normal.proofs.StretchPieces.{span_in, found_early, found_from}
+use Rattle.upp_normal.proofs.AnswerRoom.{operand_line_fits, operand_line_value, stands_operand_value, wide_narrow}
+use Rattle.upp_limits.proofs.CurveStands.{unrolled_stand, curve_stands, tail_stands, once_out, copies_first, each_up}
+use Rattle.upp_limits.proofs.KnownNumbers.{value_rises, two_ones}
+use Rattle.upp_normal.proofs.StretchPieces.{span_in, found_from}
 use Rattle.upp_normal.proofs.StretchTurns.{Turned, turned}
+use Rattle.upp_normal.proofs.NormaliseRoomy.{found_early}
 
 -- ---- the first and the present copy of the piece at a time
 pub record CopiesStand (z : Sizes) (s : Span) (period rise : ℚ) (n : ℕ) : Type 0 where
@@ -101,16 +102,11 @@ copies_stand z end c rank period rise t p ps curve window time e f n count early
     (next, copies_of_span z end rank period rise t early record { piece = piece_in p ps early; next = next } n fits.some back turn.by (found_early p ps early first) time.before past all)
 
 -- ---- steps with times
-two_ones : (v : ℚ) → int (pos 1) *ℚ v +ℚ int (pos 1) *ℚ v ≡ int (pos 2) *ℚ v
-two_ones v = with1 v (λ c. omega (arith, c.le, c.lt, c.same))
-
-pub narrow : (z : Sizes) (end : ℚ) → AreLimited z end → IsNarrow z (2 ^ 122)
-narrow z end A = narrow_gauge z end A.sizes (let g = A.gauge in omega (arith, g))
 
 pub time_whole : (z : Sizes) (t : ℚ) → Whole z.dt t → Whole (grid_of z) t
 time_whole z t w = whole_both (z.dv * z.dt) z.ds t (whole_weaken z.dt (z.dv * z.dt) t (dvd-mul_left z.dt z.dv) w)
 
-end_at_most : (z : Sizes) (end : ℚ) → AreLimited z end → end ≤ℚ int (pos z.largest)
+pub end_at_most : (z : Sizes) (end : ℚ) → AreLimited z end → end ≤ℚ int (pos z.largest)
 end_at_most z end A =
     le_trans (subst (λ y. y ≤ℚ int (pos z.steepness) *ℚ end) (mul_comm (int (pos 1)) end ∙ mul_one end) (mul_le_mul_right end A.some (nat_le 1 z.steepness A.sizes.steepness))) A.sizes.reach
 
@@ -122,7 +118,7 @@ time_within z end t A low high =
 
 pub times_fit : (z : Sizes) (end t u : ℚ) → AreLimited z end → Whole z.dt t → Whole z.dt u → int (pos 0) ≤ℚ t → t ≤ℚ end → int (pos 0) ≤ℚ u → u ≤ℚ end → SumFits t u × SumFits t (neg_ℚ u)
 times_fit z end t u A v w low high early late =
-    let N = narrow z end A in
+    let N = wide_narrow z end A in
     let i = time_within z end t A low high in
     let j = time_within z end u A early late in (
       small_sum z end 1 1 t u A.sizes N (omega arith) (time_whole z t v) (time_whole z u w) i j,
@@ -131,7 +127,7 @@ times_fit z end t u A v w low high early late =
 
 many_fits : (z : Sizes) (end : ℚ) (k : ℕ) → AreLimited z end → k ≤ 31 → times_largest k z *ℚ int (pos (grid_of z)) ≤ℚ int (pos largest_part)
 many_fits z end k A h =
-    let g = (narrow z end A).grid in
+    let g = (wide_narrow z end A).grid in
     let m : k * (z.largest * grid_of z) ≤ 31 * (z.largest * grid_of z) = mul-le-mul_right (z.largest * grid_of z) h in
     scaled_fits k z.largest (grid_of z) largest_part (omega (arith, m, g))
 
@@ -173,7 +169,7 @@ pub turn_steps : (z : Sizes) (end : ℚ) (c : SpecCurve) (rank period rise t : �
 turn_steps z end c rank period rise t curve window time e n count =
     let T = tail_times z end c rank period rise curve window e in
     let A = window.limited in
-    let N = narrow z end A in
+    let N = wide_narrow z end A in
     let turn : Turned rank period t n = subst (Turned rank period t) (sym count) (turned rank period t T.nonneg T.some time.nonneg) in
     let y = int (pos n) *ℚ period in
     let rank_high : rank ≤ℚ end = (let l = T.over in let s = T.some in with3 rank period end (λ c. omega (arith, c.le, c.lt, c.same))) in
@@ -217,7 +213,7 @@ line_steps : (z : Sizes) (end x by n rise : ℚ) (l : Option Line) → AreLimite
     → LineStands z l → ValueStands z (line_value l x) → ValueStands z (line_value l x +ₑ Fin (n *ℚ rise)) → LineRises l by n rise
 line_steps z end x by n rise None A on low high on_by by_low by_high s v k = tt
 line_steps z end x by n rise (Some l) A on low high on_by by_low by_high s v k =
-    let N = narrow z end A in
+    let N = wide_narrow z end A in
     let y = n *ℚ rise in
     let back = l.slope *ℚ by in
     let V = int (pos z.largest) in
@@ -251,7 +247,7 @@ stands_line z end x (Some l) A on low high s v =
 pub span_line : (z : Sizes) (end : ℚ) (s : Span) → AreLimited z end → int (pos 0) ≤ℚ s.piece.x → s.piece.x ≤ℚ end → SpanStands z s → OperandLineAt z s.piece.line
 span_line z end s A low high h = stands_line z end s.piece.x s.piece.line A h.start low high h.slope h.after
 
-pub grid_value : (z : Sizes) (v : Ext) → OperandValueAt z v → GridValue z v
+pub grid_value : (z : Sizes) (v : Ext) → GridValue z v → GridValue z v
 grid_value z Inf h = tt
 grid_value z (Fin v) h = record { whole = h.whole; within = h.within }
 
@@ -281,7 +277,7 @@ copy_steps z end period rise t s n A time on some low by_low start C =
     let after : ValueStands z (line_value s.piece.line x +ₑ Fin y) = subst (ValueStands z) (line_moved s.piece.line by y x) present.after in
     let line_stands : OperandLineAt z later = stands_line z end (x +ℚ by) later A present.start moved_low moved_high present.slope present.after in
     record {
-      rises = value_rises z end s.piece.at (int (pos n)) rise A.sizes (narrow z end A) first.at present.at;
+      rises = value_rises z end s.piece.at (int (pos n)) rise A.sizes (wide_narrow z end A) first.at present.at;
       line = line_steps z end x by (int (pos n)) rise s.piece.line A first.start low x_high (whole_times z.dt (pos n) period on) by_low by_high first.slope first.after after;
       fits = operand_line_fits z end t later A line_stands time.whole time.nonneg early;
       line_stands = line_stands;
@@ -290,9 +286,6 @@ copy_steps z end period rise t s n A time on some low by_low start C =
     }
 
 -- ---- all starts stand
-each_by : (ps : List Piece) (s end : ℚ) → s <ℚ end → Each (λ p. p.x ≤ℚ s) ps → Each (λ p. p.x <ℚ end) ps
-each_by [] s end l h = tt
-each_by (p ∷ ps) s end l h = (le_lt_trans h.0 l, each_by ps s end l h.1)
 
 pub starts_over : (ps : List Piece) (tail : Tail) (end : ℚ) → TailFits ps tail → IsOverBy end tail → Each (λ p. p.x <ℚ end) ps
 starts_over ps (Periodic rank period rise) end fits over = each_before ps (rank +ℚ period) end over fits.starts
@@ -300,8 +293,8 @@ starts_over ps (Periodic rank period rise) end fits over = each_before ps (rank 
     each_before : (ps : List Piece) (s end : ℚ) → s ≤ℚ end → Each (λ p. p.x <ℚ s) ps → Each (λ p. p.x <ℚ end) ps
     each_before [] s end l h = tt
     each_before (p ∷ ps) s end l h = (lt_le_trans h.0 l, each_before ps s end l h.1)
-starts_over ps (Affine rank) end fits over = each_by ps rank end over fits.starts
-starts_over ps (Infinite rank) end fits over = each_by ps rank end over fits.starts
+starts_over ps (Affine rank) end fits over = each_up ps rank end over fits.starts
+starts_over ps (Infinite rank) end fits over = each_up ps rank end over fits.starts
 
 spans_start : (z : Sizes) (tail : Tail) (ps : List Piece) → AllByRecursion (SpanStands z) (spans tail ps) → Each (λ p. Whole z.dt p.x) ps
 unfolding spans

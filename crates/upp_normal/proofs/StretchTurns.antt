@@ -6,13 +6,10 @@ use Rattle.rational.specs.Whole.{periods, whole_part}
 use Rattle.rational.specs.Extended.{Ext, ◌+ₑ◌}
 use Rattle.rational.specs.declared.Extended.TheVariants.{Fin}
 use Rattle.rational.proofs.Linear.{with1, with2, with3, with4}
-use Rattle.rational.proofs.Laws.{le_or_lt, le_trans, le_of_lt, mul_nonneg}
+use Rattle.rational.proofs.Laws.{le_or_lt, le_trans, le_of_lt, mul_nonneg, zero_mul}
 use Rattle.rational.proofs.Whole.{periods_small, periods_low, periods_high, periods_unique}
 use Rattle.rational.proofs.Integers.{nat_nonneg}
 use Rattle.upp_curve.specs.Curve.{repeated}
-
-zero_times : (d : ℚ) → int (pos 0) *ℚ d ≡ int (pos 0)
-zero_times d = with1 d (λ c. omega (arith, c.le, c.lt, c.same))
 
 -- ---- how many periods
 -- the time in the first period: from 0 on, at the time or before it, before the period's end, and not before the rank once a period is taken off
@@ -47,7 +44,7 @@ turned rank period t r some h = elim (le_or_lt rank t) [
     early : t <ℚ rank → Turned rank period t 0
     early l =
         let y = int (pos 0) *ℚ period in
-        let e : y ≡ int (pos 0) = zero_times period in
+        let e : y ≡ int (pos 0) = zero_mul period in
         record {
           low = with2 y t (λ c. omega (arith, c.le, c.lt, c.same));
           by = with1 y (λ c. omega (arith, c.le, c.lt, c.same));
@@ -70,7 +67,7 @@ same_turn rank period t u some h k = elim (le_or_lt rank t) [
     small : (n : ℕ) → n ≡ 0 → u <ℚ rank +ℚ period +ℚ int (pos n) *ℚ period → periods rank period u ≡ n
     small n e k =
         let y = int (pos n) *ℚ period in
-        let z : y ≡ int (pos 0) = ap (λ m. int (pos m) *ℚ period) e ∙ zero_times period in
+        let z : y ≡ int (pos 0) = ap (λ m. int (pos m) *ℚ period) e ∙ zero_mul period in
         periods_small rank period u some (with4 rank period y u (λ c. omega (arith, c.le, c.lt, c.same))) ∙ sym e
 
 -- ---- the value

@@ -38,9 +38,10 @@ use Rattle.upp_normal.proofs.UnrolledValues.{line_value_later}
 use Rattle.upp_normal.proofs.AnswerRoom.{operand_line_fits, operand_line_value, stands_operand_value}
 use Rattle.upp_limits.proofs.CurveStands.{each_stands, has_period, unrolled_stand}
 use Rattle.affine_segment.proofs.NextPiece.{next_go, next_stop, next_none}
-use Rattle.upp_normal.proofs.StretchPieces.{next_past, next_all, found_early, found_late, span_in, line_at_rank, reads_on, cut_plain}
+use Rattle.upp_normal.proofs.StretchPieces.{next_past, next_all, found_late, span_in, line_at_rank, reads_on, cut_plain}
 use Rattle.upp_normal.proofs.StretchTurns.{Turned, turned, same_turn, repeated_at}
 use Rattle.upp_normal.proofs.StretchSizes.{copies_stand, tail_times, some_period, times_fit, times_stand, span_line, grid_value, CopySteps, copy_steps}
+use Rattle.upp_normal.proofs.NormaliseRoomy.{found_early}
 
 -- ---- a turn, by the number of its periods
 abbrev pub turn_at : ℚ → ℚ → ℕ → Turn

@@ -14,13 +14,15 @@ use Rattle.affine_segment.specs.Pieces.{Each}
 use Rattle.upp_curve.specs.Unrolled.{copies, each_later, later, upto}
 use Rattle.min_plus.specs.WholeUp.{whole_up}
 use Rattle.upp_curve.proofs.Normal.{upto_all}
-use Rattle.upp_normal.proofs.NormaliseCopies.{copies_next, copies_zero, later_twice, moved-append}
+use Rattle.upp_normal.proofs.NormaliseCopies.{later_twice, moved-append}
 use Rattle.affine_segment.proofs.PieceOrder.{each_append, each_map}
 use Rattle.upp_normal.proofs.NormaliseLists.{each_moved}
 use Rattle.upp_normal.proofs.NormaliseLoops.{later_none, later_some}
 use Rattle.upp_limits.proofs.Rounding.{before_count}
 use Rattle.upp_curve.proofs.Unique.{upto_end, upto_none, upto_some}
 use Rattle.upp_normal.proofs.UnrolledPieces.{no_later}
+use Rattle.upp_limits.proofs.PieceCounts.{copies_next}
+use Rattle.upp_normal.proofs.UnrolledValues.{copies_none}
 
 -- ---- what starts before a time, of two lists one after another
 pub upto_joined : (x : ℚ) (ps qs : List Piece) → Each (λ p. p.x <ℚ x) ps → upto x (ps ++ qs) ≡ ps ++ upto x qs
@@ -56,8 +58,8 @@ not_moved d c (p ∷ ps) =
 
 pub copies_more : (n : ℕ) (d c : ℚ) (ps : List Piece) → copies (suc n) d c ps ≡ copies n d c ps ++ each_later (int (pos n) *ℚ d) (int (pos n) *ℚ c) ps
 copies_more zero d c ps =
-    copies_next 0 d c ps ∙ ap (λ zs. ps ++ each_later d c zs) (copies_zero d c ps) ∙ ap (λ zs. ps ++ zs) (later_none d c) ∙ append-nil ps
-    ∙ sym (ap₂ (λ (xs ys : List Piece). xs ++ ys) (copies_zero d c ps) (not_moved d c ps))
+    copies_next 0 d c ps ∙ ap (λ zs. ps ++ each_later d c zs) (copies_none d c ps) ∙ ap (λ zs. ps ++ zs) (later_none d c) ∙ append-nil ps
+    ∙ sym (ap₂ (λ (xs ys : List Piece). xs ++ ys) (copies_none d c ps) (not_moved d c ps))
 copies_more (suc n) d c ps =
     let last = each_later (int (pos n) *ℚ d) (int (pos n) *ℚ c) ps in
     copies_next (suc n) d c ps ∙ ap (λ zs. ps ++ each_later d c zs) (copies_more n d c ps)
@@ -68,7 +70,7 @@ copies_more (suc n) d c ps =
 -- n copies of the pieces of [rank, rank + d) start before rank + n d
 pub copies_before : (n : ℕ) (rank d c : ℚ) (ps : List Piece) → int (pos 0) <ℚ d → Each (λ z. z.x <ℚ rank +ℚ d) ps
     → Each (λ z. z.x <ℚ rank +ℚ int (pos n) *ℚ d) (copies n d c ps)
-copies_before zero rank d c ps some h = subst (Each (λ z. z.x <ℚ rank +ℚ int (pos 0) *ℚ d)) (sym (copies_zero d c ps)) tt
+copies_before zero rank d c ps some h = subst (Each (λ z. z.x <ℚ rank +ℚ int (pos 0) *ℚ d)) (sym (copies_none d c ps)) tt
 copies_before (suc n) rank d c ps some h =
     let one = one_more_times n d in
     let nonneg : int (pos 0) ≤ℚ int (pos n) *ℚ d = mul_nonneg (nat_nonneg n) (le_of_lt some) in
@@ -132,7 +134,7 @@ counted_copies n before ps rank d c end some late reach =
 
 -- ---- the loop over copies
 pub no_copies_yet : (end rank d c : ℚ) (kept before ps : List Piece) → kept ≡ upto end before → kept ≡ upto end (before ++ copies 0 d c ps)
-no_copies_yet end rank d c kept before ps h = h ∙ sym (ap (λ zs. upto end (before ++ zs)) (copies_zero d c ps) ∙ ap (upto end) (append-nil before))
+no_copies_yet end rank d c kept before ps h = h ∙ sym (ap (λ zs. upto end (before ++ zs)) (copies_none d c ps) ∙ ap (upto end) (append-nil before))
 
 pub one_turn_more : (n : ℕ) (end rank d c : ℚ) (kept more before ps : List Piece) → int (pos 0) <ℚ d → rank +ℚ int (pos n) *ℚ d <ℚ end → Each (λ p. p.x <ℚ rank) before
     → Each (λ p. p.x <ℚ rank +ℚ d) ps → kept ≡ upto end (before ++ copies n d c ps) → more ≡ kept ++ upto end (each_later (int (pos n) *ℚ d) (int (pos n) *ℚ c) ps)

@@ -31,24 +31,23 @@ use Rattle.affine_segment.specs.Reading.{piece_in, piece_value, read}
 use Rattle.upp_limits.specs.Sized.{AreSizes, IsValue, LineStands, PeriodStands, ValueStands, grid_of, times_largest}
 use Rattle.upp_curve.specs.Unrolled.{from, later, unroll, unrolled, upto}
 use Rattle.upp_normal.specs.Unrolling.{IsOperandTo, TurnFits, TurnsFit}
-use Rattle.upp_normal.proofs.Below.{cut_at_start, each_le, read_from_cut}
+use Rattle.upp_normal.proofs.Below.{cut_at_start, read_from_cut}
 use Rattle.upp_limits.proofs.CurveStands.{tail_stands}
 use Rattle.upp_limits.proofs.NarrowSizes.{IsNarrow, narrow_gauge, run_whole, run_within, slope_time_divides, small_number, small_sum, value_whole, value_within}
-use Rattle.upp_curve.proofs.Normal.{rises}
-use Rattle.upp_normal.proofs.NormaliseCuts.{each_from}
 use Rattle.affine_segment.proofs.PieceOrder.{each_map}
 use Rattle.upp_normal.proofs.NormaliseRank.{from_late}
 use Rattle.upp_limits.proofs.OwnGauge.{end_within}
 use Rattle.upp_limits.proofs.PieceLists.{starts_nonneg}
-use Rattle.upp_normal.proofs.UnrolledValues.{line_value_later}
+use Rattle.upp_normal.proofs.UnrolledValues.{line_value_later, each_up}
 use Rattle.upp_normal.proofs.UnrolledPieces.{IsGiven, PieceStands, each_given, each_nonneg, each_span_out, each_with, no_later, operand_line, pieces_stand}
+use Rattle.affine_segment.proofs.PieceIn.{low_start}
+use Rattle.upp_limits.proofs.PieceCounts.{each_from}
+use Rattle.upp_normal.proofs.NormaliseGrids.{IsNothing}
+use Rattle.upp_normal.proofs.StretchSizes.{time_whole}
 
 -- ---- times of the window
 time_divides : (z : Sizes) → z.dt ∣ grid_of z
 time_divides z = dvd_trans z.dt (dvd-mul_left z.dt z.ds) (slope_time_divides z)
-
-pub time_whole : (z : Sizes) (x : ℚ) → Whole z.dt x → Whole (grid_of z) x
-time_whole z x w = whole_weaken z.dt (grid_of z) x (time_divides z) w
 
 pub time_within : (z : Sizes) (end x : ℚ) → AreSizes z end → int (pos 0) ≤ℚ x → x ≤ℚ end → Within (times_largest 1 z) x
 time_within z end x a low high =
@@ -76,7 +75,7 @@ few_times n d v q end grid w some inside reach =
     next s h = omega (arith, ints)
 
 -- ---- heights of copies
--- n rises are at most three times the largest value
+-- n low_start are at most three times the largest value
 height_between : (V v h : ℚ) → Within V v → Within V (v +ℚ h) → Within (int (pos 2) *ℚ V) h
 height_between V v h a b =
     let al = a.low in
@@ -91,11 +90,7 @@ height_of z w v h e a b =
     let second : IsValue z (v +ℚ h) = subst (λ x. ValueStands z (x +ₑ Fin h)) e b in
     height_between (int (pos z.largest)) v h first.within second.within
 
--- a piece without a finite value
-abbrev IsNowhere : Piece → Type 0
-IsNowhere p = (p.at ≡ Inf) × (p.line ≡ None)
-
-abbrev IsSomewhere : Piece → Type 0
+abbrev pub IsSomewhere : Piece → Type 0
 IsSomewhere p = ((v : ℚ) × (p.at ≡ Fin v)) ⊎ ((l : Line) × (p.line ≡ Some l))
 
 pub ext_cases : (x : Ext) → (x ≡ Inf) ⊎ ((v : ℚ) × (x ≡ Fin v))
@@ -106,7 +101,7 @@ line_cases : (l : Option Line) → (l ≡ None) ⊎ ((m : Line) × (l ≡ Some m
 line_cases None = inl refl
 line_cases (Some m) = inr (m, refl)
 
-piece_cases : (p : Piece) → IsNowhere p ⊎ IsSomewhere p
+piece_cases : (p : Piece) → IsNothing p ⊎ IsSomewhere p
 piece_cases p = elim (ext_cases p.at) [
   | inr v ↦ inr (inl v)
   | inl a ↦ elim (line_cases p.line) [
@@ -121,7 +116,7 @@ record Found (Q : Piece → Type 0) : Type 0 where
   has : Q piece
   some : IsSomewhere piece
 
-some_piece : (Q : Piece → Type 0) (ps : List Piece) → Each Q ps → Each IsNowhere ps ⊎ Found Q
+some_piece : (Q : Piece → Type 0) (ps : List Piece) → Each Q ps → Each IsNothing ps ⊎ Found Q
 some_piece Q [] h = inl tt
 some_piece Q (p ∷ ps) h = elim (piece_cases p) [
   | inr s ↦ inr record { piece = p; has = h.0; some = s }
@@ -131,7 +126,7 @@ some_piece Q (p ∷ ps) h = elim (piece_cases p) [
   ]
 ]
 
-value_nowhere : (p : Piece) (t : ℚ) → IsNowhere p → piece_value p t ≡ Inf
+value_nowhere : (p : Piece) (t : ℚ) → IsNothing p → piece_value p t ≡ Inf
 unfolding piece_value
 value_nowhere p t h = either (le_q t p.x) p.at (line_value p.line t) h.0 (ap (λ l. line_value l t) h.1)
   where
@@ -139,33 +134,33 @@ value_nowhere p t h = either (le_q t p.x) p.at (line_value p.line t) h.0 (ap (λ
     either true x y e f = e
     either false x y e f = f
 
-in_nowhere : (p : Piece) (ps : List Piece) (t : ℚ) → Each IsNowhere (p ∷ ps) → IsNowhere (piece_in p ps t)
+in_nowhere : (p : Piece) (ps : List Piece) (t : ℚ) → Each IsNothing (p ∷ ps) → IsNothing (piece_in p ps t)
 unfolding piece_in
 in_nowhere p [] t h = h.0
 in_nowhere p (q ∷ qs) t h = either (le_q q.x t) (piece_in q qs t) p (in_nowhere q qs t h.1) h.0
   where
-    either : (b : Bool) (x y : Piece) → IsNowhere x → IsNowhere y → IsNowhere (cond b x y)
+    either : (b : Bool) (x y : Piece) → IsNothing x → IsNothing y → IsNothing (cond b x y)
     either true x y e f = e
     either false x y e f = f
 
-read_nowhere : (p : Piece) (ps : List Piece) (t : ℚ) → Each IsNowhere (p ∷ ps) → read (p ∷ ps) t ≡ Inf
+read_nowhere : (p : Piece) (ps : List Piece) (t : ℚ) → Each IsNothing (p ∷ ps) → read (p ∷ ps) t ≡ Inf
 unfolding read
 read_nowhere p ps t h = value_nowhere (piece_in p ps t) t (in_nowhere p ps t h)
 
 -- a curve whose period has no finite value is infinite from its rank on
-repeats_nowhere : (ps : List Piece) (rank d c t : ℚ) → StartsAtZero ps → HasStart rank ps → int (pos 0) <ℚ d → Each IsNowhere (from rank ps) → rank ≤ℚ t
+repeats_nowhere : (ps : List Piece) (rank d c t : ℚ) → StartsAtZero ps → HasStart rank ps → int (pos 0) <ℚ d → Each IsNothing (from rank ps) → rank ≤ℚ t
     → value_at record { pieces = ps; tail = Periodic rank d c } t ≡ Inf
 unfolding value_at repeated
 repeats_nowhere ps rank d c t at0 has some none low =
-    let cut = cut_at_start (int (pos 0) -ℚ int (pos 1)) rank ps (rises ps at0) has in
+    let cut = cut_at_start (int (pos 0) -ℚ int (pos 1)) rank ps (low_start ps at0) has in
     let n = int (pos (periods rank d t)) in
     let u = t -ℚ n *ℚ d in
     let k = periods_low rank d t some low in
     let late : rank ≤ℚ u = with3 rank t (n *ℚ d) (λ c. omega (arith, c.le, c.lt, c.same)) in
     let reads : read ps u ≡ Inf =
     ap (λ zs. read zs u) cut.whole
-    ∙ read_from_cut cut.before cut.first cut.rest u (each_le cut.before rank u late cut.early) (subst (λ x. x ≤ℚ u) (sym cut.at) late)
-    ∙ read_nowhere cut.first cut.rest u (subst (Each IsNowhere) cut.from_is none) in
+    ∙ read_from_cut cut.before cut.first cut.rest u (each_up cut.before rank u late cut.early) (subst (λ x. x ≤ℚ u) (sym cut.at) late)
+    ∙ read_nowhere cut.first cut.rest u (subst (Each IsNothing) cut.from_is none) in
     ap (λ x. x +ₑ Fin (n *ℚ c)) reads
 
 -- what stands of a piece of the period, and of its copies that start below the end
@@ -259,7 +254,7 @@ turn_pieces : (z : Sizes) (ps : List Piece) (rank d c end : ℚ) → IsNormal re
     → Each (TurnPiece z rank d c end) (from rank ps)
 turn_pieces z ps rank d c end n h =
     let at0 = n.raw.starts in
-    let low = from_late rank (int (pos 0) -ℚ int (pos 1)) ps (rises ps at0) in
+    let low = from_late rank (int (pos 0) -ℚ int (pos 1)) ps (low_start ps at0) in
     let high = each_from (λ p. p.x <ℚ rank +ℚ d) rank ps n.raw.tail.starts in
     let nonneg = each_from (λ p. int (pos 0) ≤ℚ p.x) rank ps (each_nonneg ps (starts_nonneg ps at0)) in
     let given = each_from (IsGiven (PieceStands z) rank d c end) rank ps h in

@@ -25,21 +25,23 @@ use Rattle.upp_limits.specs.Sized.{AreSizes, LineStands, SpanStands, Stands, Val
 use Rattle.upp_limits.specs.Spans.{Span, copies_of, once_below, piece_read, span_below, spans, spans_below}
 use Rattle.upp_curve.specs.Steady.{last_line, last_of}
 use Rattle.upp_curve.specs.Unrolled.{copies, copies_below, each_later, from, later, unroll, unrolled, upto}
-use Rattle.upp_normal.proofs.Below.{cut_at_start}
+use Rattle.upp_normal.proofs.Below.{cut_at_start, each_rest}
 use Rattle.upp_limits.proofs.Copies.{copies_out, copy_among, copy_zero}
 use Rattle.upp_limits.proofs.CurveStands.{once_out, unrolled_stand}
 use Rattle.upp_limits.proofs.Every.{every_flat_out, every_weaken}
 use Rattle.upp_limits.proofs.NarrowSizes.{line_parts}
-use Rattle.upp_curve.proofs.Normal.{rises}
-use Rattle.upp_normal.proofs.NormaliseCopies.{copies_zero, later_twice}
-use Rattle.upp_normal.proofs.NormaliseCuts.{each_from, zero_upto}
+use Rattle.upp_normal.proofs.NormaliseCopies.{later_twice}
+use Rattle.upp_normal.proofs.NormaliseCuts.{zero_upto}
 use Rattle.affine_segment.proofs.PieceOrder.{each_append, each_map, rises_append, rises_left}
-use Rattle.upp_normal.proofs.NormaliseLists.{each_upto, rises_moved, upto_before}
+use Rattle.upp_normal.proofs.NormaliseLists.{each_upto, rises_moved}
 use Rattle.upp_normal.proofs.NormaliseLoops.{later_none, later_some}
 use Rattle.upp_normal.proofs.NormaliseRank.{from_late}
 use Rattle.upp_limits.proofs.PieceLists.{starts_nonneg}
 use Rattle.upp_curve.proofs.Unique.{upto_none}
-use Rattle.upp_normal.proofs.UnrolledValues.{copies_some}
+use Rattle.upp_normal.proofs.UnrolledValues.{copies_some, copies_none}
+use Rattle.affine_segment.proofs.PieceIn.{low_start}
+use Rattle.upp_limits.proofs.PieceCounts.{each_from, upto_early}
+use Rattle.upp_normal.proofs.NormaliseWhole.{before_read}
 
 -- ---- two facts of each piece
 pub each_with : (P Q R : Piece → Type 0) → ((p : Piece) → P p → Q p → R p) → (ps : List Piece) → Each P ps → Each Q ps → Each R ps
@@ -51,7 +53,7 @@ each_with P Q R f (p ∷ ps) h k = (f p h.0 k.0, each_with P Q R f ps h.1 k.1)
 copies_rise : (k : ℕ) (d c : ℚ) (p : Piece) (ps : List Piece) → int (pos 0) <ℚ d → RisesFrom p.x ps → Each (λ z. z.x <ℚ p.x +ℚ d) ps
     → RisesFrom p.x (ps ++ each_later d c (copies k d c (p ∷ ps)))
 copies_rise zero d c p ps some r e =
-    let none : each_later d c (copies zero d c (p ∷ ps)) ≡ [] = ap (each_later d c) (copies_zero d c (p ∷ ps)) ∙ later_none d c in
+    let none : each_later d c (copies zero d c (p ∷ ps)) ≡ [] = ap (each_later d c) (copies_none d c (p ∷ ps)) ∙ later_none d c in
     subst (λ zs. RisesFrom p.x (ps ++ zs)) (sym none) (rises_empty p.x ps r)
   where
     rises_empty : (x : ℚ) (ps : List Piece) → RisesFrom x ps → RisesFrom x (ps ++ [])
@@ -71,15 +73,11 @@ begins : (bs : List Piece) (p : Piece) (rest more : List Piece) → StartsAtZero
 begins [] p rest more h e r = (h.0, r)
 begins (b ∷ bs) p rest more h e r = (h.0, rises_append b.x bs p more (rises_left b.x bs (p ∷ rest) h.1) e.0 e.1 r)
 
-rest_of : (bs : List Piece) (p : Piece) (rest : List Piece) (x : ℚ) → Each (λ z. z.x <ℚ x) (bs ++ p ∷ rest) → Each (λ z. z.x <ℚ x) rest
-rest_of [] p rest x h = h.1
-rest_of (b ∷ bs) p rest x h = rest_of bs p rest x h.1
-
 pub periodic_starts : (ps : List Piece) (rank d c : ℚ) (k : ℕ) → StartsAtZero ps → HasStart rank ps → int (pos 0) <ℚ d → Each (λ z. z.x <ℚ rank +ℚ d) ps
     → StartsAtZero (upto rank ps ++ copies (suc k) d c (from rank ps))
 periodic_starts ps rank d c k at0 has some starts =
-    let cut = cut_at_start (int (pos 0) -ℚ int (pos 1)) rank ps (rises ps at0) has in
-    let early : Each (λ z. z.x <ℚ rank +ℚ d) cut.rest = rest_of cut.before cut.first cut.rest (rank +ℚ d) (subst (Each (λ z. z.x <ℚ rank +ℚ d)) cut.whole starts) in
+    let cut = cut_at_start (int (pos 0) -ℚ int (pos 1)) rank ps (low_start ps at0) has in
+    let early : Each (λ z. z.x <ℚ rank +ℚ d) cut.rest = each_rest cut.before cut.first cut.rest (rank +ℚ d) (subst (Each (λ z. z.x <ℚ rank +ℚ d)) cut.whole starts) in
     let late : Each (λ z. z.x <ℚ cut.first.x +ℚ d) cut.rest = subst (λ x. Each (λ z. z.x <ℚ x +ℚ d) cut.rest) (sym cut.at) early in
     let more = cut.rest ++ each_later d c (copies k d c (cut.first ∷ cut.rest)) in
     let shape : copies (suc k) d c (from rank ps) ≡ cut.first ∷ more = ap (copies (suc k) d c) cut.from_is ∙ copies_some k d c cut.first cut.rest in
@@ -116,9 +114,9 @@ unfolding unroll
 unroll_none c end l n = none_by_tail c.pieces c.tail end l n
 
 before_by_tail : (ps : List Piece) (tail : Tail) (end : ℚ) → Each (λ p. p.x <ℚ end) (unrolled ps tail end)
-before_by_tail ps (Periodic rank d c) end = upto_before end _
-before_by_tail ps (Affine rank) end = upto_before end _
-before_by_tail ps (Infinite rank) end = upto_before end _
+before_by_tail ps (Periodic rank d c) end = upto_early end _
+before_by_tail ps (Affine rank) end = upto_early end _
+before_by_tail ps (Infinite rank) end = upto_early end _
 
 -- and all start before the end
 pub unroll_before : (c : SpecCurve) (end : ℚ) → Each (λ p. p.x <ℚ end) (unroll c end)
@@ -132,7 +130,7 @@ each_of_spans F tail [] h = tt
 each_of_spans F tail (p ∷ ps) h = (h.0, each_of_spans F tail ps h.1)
 
 each_below : (P : Piece → Type 0) (end : ℚ) (ps : List Piece) → Each (λ p. p.x <ℚ end → P p) ps → Each P (upto end ps)
-each_below P end ps h = each_with (λ p. p.x <ℚ end → P p) (λ p. p.x <ℚ end) P (λ p f l. f l) (upto end ps) (each_upto (λ p. p.x <ℚ end → P p) end ps h) (upto_before end ps)
+each_below P end ps h = each_with (λ p. p.x <ℚ end → P p) (λ p. p.x <ℚ end) P (λ p f l. f l) (upto end ps) (each_upto (λ p. p.x <ℚ end → P p) end ps h) (upto_early end ps)
 
 -- what of a periodic curve's piece starts below the end
 pub record IsGiven (P : Piece → Type 0) (rank d c end : ℚ) (p : Piece) : Type 0 where
@@ -185,9 +183,9 @@ pub periodic_each : (P : Piece → Type 0) (ps : List Piece) (rank d c end : ℚ
 periodic_each P ps rank d c end at0 h =
     let Q = λ (p : Piece). p.x <ℚ end → P p in
     let G = IsGiven P rank d c end in
-    let early : Each Q (upto rank ps) = each_with G (λ p. p.x <ℚ rank) Q (λ p g l. g.once l) (upto rank ps) (each_upto G rank ps h) (upto_before rank ps) in
+    let early : Each Q (upto rank ps) = each_with G (λ p. p.x <ℚ rank) Q (λ p g l. g.once l) (upto rank ps) (each_upto G rank ps h) (upto_early rank ps) in
     let late = each_with G (λ p. rank ≤ℚ p.x) (λ p. (n : ℕ) → p.x +ℚ int (pos n) *ℚ d <ℚ end → P (later (int (pos n) *ℚ d) (int (pos n) *ℚ c) p)) (λ p g l. g.again l)
-    (from rank ps) (each_from G rank ps h) (from_late rank (int (pos 0) -ℚ int (pos 1)) ps (rises ps at0)) in
+    (from rank ps) (each_from G rank ps h) (from_late rank (int (pos 0) -ℚ int (pos 1)) ps (low_start ps at0)) in
     each_below P end (upto rank ps ++ copies (suc (periods rank d end)) d c (from rank ps))
     (each_append Q (upto rank ps) (copies (suc (periods rank d end)) d c (from rank ps)) early
     (each_copy_of Q d c (from rank ps) (suc (periods rank d end))
@@ -195,8 +193,6 @@ periodic_each P ps rank d c end at0 h =
     (λ p. Q (later (int (pos k) *ℚ d) (int (pos k) *ℚ c) p)) (λ p f. f k) (from rank ps) late)))
 
 -- ---- no line of a normal curve starts at the rank of an infinite tail
-read_before_rank : (rank : ℚ) (p : Piece) → p.x <ℚ rank → piece_read (Infinite rank) p ≡ p
-read_before_rank rank p l = ap (λ b. let q : Piece = record { x = p.x; at = p.at; line = cond b p.line None } in q) (lt_q_out p.x rank l)
 
 read_at_rank : (rank : ℚ) (p : Piece) → p.line ≡ None → rank ≤ℚ p.x → piece_read (Infinite rank) p ≡ p
 read_at_rank rank p e l =
@@ -207,9 +203,9 @@ read_whole : (rank : ℚ) (p : Piece) (ps : List Piece) → RisesFrom p.x ps →
     → Each (λ z. piece_read (Infinite rank) z ≡ z) (p ∷ ps)
 read_whole rank p [] r h e = elim (le_or_lt rank p.x) [
   | inl l ↦ (read_at_rank rank p e l, tt)
-  | inr l ↦ (read_before_rank rank p l, tt)
+  | inr l ↦ (before_read rank p l, tt)
 ]
-read_whole rank p (q ∷ qs) r h e = (read_before_rank rank p (lt_le_trans r.0 h.1.0), read_whole rank q qs r.1 h.1 e)
+read_whole rank p (q ∷ qs) r h e = (before_read rank p (lt_le_trans r.0 h.1.0), read_whole rank q qs r.1 h.1 e)
 
 pub all_read : (rank : ℚ) (ps : List Piece) → StartsAtZero ps → Each (λ z. z.x ≤ℚ rank) ps → last_line ps ≡ None → Each (λ z. piece_read (Infinite rank) z ≡ z) ps
 all_read rank [] s h e = tt

@@ -18,6 +18,7 @@ use Rattle.rational.proofs.MinMax.{le_q_not}
 use Rattle.affine_segment.proofs.PieceIn.{piece_in_go, piece_in_stop}
 use Rattle.upp_curve.proofs.Repeats.{repeated_first, repeated_next}
 use Rattle.rational.proofs.Whole.{one_more_times}
+use Rattle.upp_normal.proofs.NormaliseLoops.{later_none, later_some}
 
 -- tests that agree
 le_q_same : (a b c d : ℚ) → (a ≤ℚ b → c ≤ℚ d) → (b <ℚ a → d <ℚ c) → le_q a b ≡ le_q c d
@@ -81,7 +82,7 @@ pub read_past_list : (p : Piece) (ps : List Piece) (q : Piece) (qs : List Piece)
 unfolding read
 read_past_list p ps q qs t h k = ap (λ z. piece_value z t) (piece_in_past p ps q qs t h k)
 
-each_up : (ps : List Piece) (s t : ℚ) → s ≤ℚ t → Each (λ z. z.x <ℚ s) ps → Each (λ z. z.x ≤ℚ t) ps
+pub each_up : (ps : List Piece) (s t : ℚ) → s ≤ℚ t → Each (λ z. z.x <ℚ s) ps → Each (λ z. z.x ≤ℚ t) ps
 each_up [] s t l h = tt
 each_up (p ∷ ps) s t l h = (le_trans (le_of_lt h.0) l, each_up ps s t l h.1)
 
@@ -90,17 +91,9 @@ pub copies_some : (k : ℕ) (d c : ℚ) (p : Piece) (ps : List Piece) → copies
 unfolding copies
 copies_some k d c p ps = refl
 
-copies_none : (d c : ℚ) (ps : List Piece) → copies zero d c ps ≡ []
+pub copies_none : (d c : ℚ) (ps : List Piece) → copies zero d c ps ≡ []
 unfolding copies
 copies_none d c ps = refl
-
-each_later_none : (d c : ℚ) → each_later d c [] ≡ []
-unfolding each_later
-each_later_none d c = refl
-
-each_later_some : (d c : ℚ) (p : Piece) (ps : List Piece) → each_later d c (p ∷ ps) ≡ later d c p ∷ each_later d c ps
-unfolding each_later
-each_later_some d c p ps = refl
 
 -- k + 1 copies of a period's pieces, which start at the rank: they read as the repeated function below rank + (k + 1) period
 pub copies_read : (k : ℕ) (p : Piece) (ps : List Piece) (d c t : ℚ) → int (pos 0) <ℚ d → Each (λ z. z.x <ℚ p.x +ℚ d) ps
@@ -110,13 +103,13 @@ copies_read zero p ps d c t some starts low high =
     let r = p.x in
     let o = one_more_times 0 d in
     let inside : t <ℚ r +ℚ d = with4 r t d (int (pos 0) *ℚ d) (λ c. omega (arith, c.le, c.lt, c.same)) in
-    ap (λ zs. read zs t) (copies_some zero d c p ps ∙ ap (λ zs. p ∷ (ps ++ zs)) (ap (each_later d c) (copies_none d c (p ∷ ps)) ∙ each_later_none d c) ∙ ap (λ zs. p ∷ zs) (append-nil ps))
+    ap (λ zs. read zs t) (copies_some zero d c p ps ∙ ap (λ zs. p ∷ (ps ++ zs)) (ap (each_later d c) (copies_none d c (p ∷ ps)) ∙ later_none d c) ∙ ap (λ zs. p ∷ zs) (append-nil ps))
     ∙ sym (repeated_first (read (p ∷ ps)) r d c t some inside)
 copies_read (suc k) p ps d c t some starts low high =
     let r = p.x in
     let rest = ps ++ each_later d c (copies k d c (p ∷ ps)) in
     let shape : copies (suc (suc k)) d c (p ∷ ps) ≡ p ∷ (ps ++ later d c p ∷ each_later d c rest) =
-    copies_some (suc k) d c p ps ∙ ap (λ zs. p ∷ (ps ++ zs)) (ap (each_later d c) (copies_some k d c p ps) ∙ each_later_some d c p rest) in
+    copies_some (suc k) d c p ps ∙ ap (λ zs. p ∷ (ps ++ zs)) (ap (each_later d c) (copies_some k d c p ps) ∙ later_some d c p rest) in
     ap (λ zs. read zs t) shape ∙ elim (le_or_lt (r +ℚ d) t) [
       | inr l ↦ read_before p ps (later d c p) (each_later d c rest) t l ∙ sym (repeated_first (read (p ∷ ps)) r d c t some l)
       | inl l ↦
@@ -126,7 +119,7 @@ copies_read (suc k) p ps d c t some starts low high =
           let high_u : u <ℚ r +ℚ int (pos (suc k)) *ℚ d = with4 r d t (int (pos (suc k)) *ℚ d) (λ c. omega (arith, c.le, c.lt, c.same)) in
           let back : u +ℚ d ≡ t = with2 t d (λ c. omega (arith, c.le, c.lt, c.same)) in
           read_past_list p ps (later d c p) (each_later d c rest) t (each_up ps (r +ℚ d) t l starts) l
-          ∙ ap (λ zs. read zs t) (sym (ap (each_later d c) (copies_some k d c p ps) ∙ each_later_some d c p rest))
+          ∙ ap (λ zs. read zs t) (sym (ap (each_later d c) (copies_some k d c p ps) ∙ later_some d c p rest))
           ∙ read_later (copies (suc k) d c (p ∷ ps)) d c t
           ∙ ap (λ v. v +ₑ Fin c) (copies_read k p ps d c u some starts low_u high_u)
           ∙ sym (repeated_next (read (p ∷ ps)) r d c u some low_u)

@@ -16,8 +16,9 @@ use Rattle.affine_segment.specs.Pieces.{HasStart, RisesFrom}
 use Rattle.upp_curve.specs.Normal.{IsNormal}
 use Rattle.upp_curve.specs.Unrolled.{each_later, copies, upto, from, unrolled, unroll}
 use Rattle.upp_normal.proofs.Below.{cut_at_start}
-use Rattle.upp_curve.proofs.Normal.{rises, start_in_upto}
+use Rattle.upp_curve.proofs.Normal.{start_in_upto}
 use Rattle.upp_normal.proofs.UnrolledPieces.{periodic_starts}
+use Rattle.affine_segment.proofs.PieceIn.{low_start}
 
 start_parts : (x : ℚ) (ps qs : List Piece) → HasStart x (ps ++ qs) → HasStart x ps ⊎ HasStart x qs
 start_parts x [] qs h = inr h
@@ -129,7 +130,7 @@ start_by_tail ps (Periodic rank d c) end far x n h l =
     let low = int (pos 0) -ℚ int (pos 1) in
     let turn = from rank ps in
     let m = periods rank d end in
-    let cut = cut_at_start low rank ps (rises ps n.raw.starts) n.rank_is_start in
+    let cut = cut_at_start low rank ps (low_start ps n.raw.starts) n.rank_is_start in
     let seen = start_uncut x far (upto rank ps ++ copies (suc (periods rank d far)) d c turn) h in
     let whole : HasStart x (upto rank ps ++ copies (suc m) d c turn) = elim (start_parts x (upto rank ps) (copies (suc (periods rank d far)) d c turn) seen) [
       | inl k ↦ start_left x (upto rank ps) (copies (suc m) d c turn) k
@@ -140,11 +141,11 @@ start_by_tail ps (Periodic rank d c) end far x n h l =
           start_right x (upto rank ps) (copies (suc m) d c turn) (copy_in (suc m) d c x turn r.times (few_times rank d x end r.times n.raw.tail.some after_rank l) r.start)
     ] in
     start_in_upto low x end (upto rank ps ++ copies (suc m) d c turn)
-    (rises (upto rank ps ++ copies (suc m) d c turn) (periodic_starts ps rank d c m n.raw.starts n.rank_is_start n.raw.tail.some n.raw.tail.starts)) whole l
+    (low_start (upto rank ps ++ copies (suc m) d c turn) (periodic_starts ps rank d c m n.raw.starts n.rank_is_start n.raw.tail.some n.raw.tail.starts)) whole l
 start_by_tail ps (Affine rank) end far x n h l =
-    start_in_upto (int (pos 0) -ℚ int (pos 1)) x end ps (rises ps n.raw.starts) (start_uncut x far ps h) l
+    start_in_upto (int (pos 0) -ℚ int (pos 1)) x end ps (low_start ps n.raw.starts) (start_uncut x far ps h) l
 start_by_tail ps (Infinite rank) end far x n h l =
-    start_in_upto (int (pos 0) -ℚ int (pos 1)) x end ps (rises ps n.raw.starts) (start_uncut x far ps h) l
+    start_in_upto (int (pos 0) -ℚ int (pos 1)) x end ps (low_start ps n.raw.starts) (start_uncut x far ps h) l
 
 pub start_before : (c : SpecCurve) (end far x : ℚ) → IsNormal c → HasStart x (unroll c far) → x <ℚ end → HasStart x (unroll c end)
 unfolding unroll

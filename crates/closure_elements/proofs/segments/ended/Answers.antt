@@ -2,9 +2,9 @@ use Rattle.std.proofs.Common.{subst, ◌∙◌}
 use Rattle.rational.specs.Rational.{◌<ℚ◌}
 use Rattle.rational.specs.declared.Extended.TheVariants.{Fin}
 use Rattle.affine_segment.specs.declared.element.Element.TheVariants.{Open}
-use Rattle.rational.proofs.Compared.{is_less, is_greater}
+use Rattle.rational.proofs.Compared.{is_less, is_greater, is_equal}
 use Rattle.closure_elements.specs.ElementCurves.{level_closure, rising_closure, falling_closure}
-use Rattle.closure_elements.proofs.SegmentAnswers.{ready_answer, ready_level, ready_rising, ready_falling, some_a, some_b, is_equal}
+use Rattle.closure_elements.proofs.SegmentAnswers.{ready_answer, ready_level, ready_rising, ready_falling, some_a, some_b}
 use Rattle.closure_elements.proofs.segments.ended.Goals as goal
 
 pub falling-requires-clause-some : goal.falling-requires-clause-some

@@ -2,12 +2,11 @@ use Rattle.std.proofs.Common.{arith, ◌≡◌, ◌∙◌, ◌+◌, ◌++◌, su
 use Rattle.rational.specs.Rational.{◌-ℚ◌, ◌+ℚ◌, ◌<ℚ◌, int}
 use Rattle.upp_curve.specs.Unrolled.{copies, from, upto}
 use Rattle.upp_normal.specs.Unrolling.{TurnFits}
-use Rattle.upp_curve.proofs.Normal.{rises}
-use Rattle.upp_normal.proofs.NormaliseCuts.{each_from}
-use Rattle.upp_normal.proofs.NormaliseLists.{upto_before}
 use Rattle.upp_normal.proofs.NormaliseRank.{from_late}
 use Rattle.upp_normal.proofs.UnrollLoops.{counted_copies, counted_in, counted_out, no_copies_yet, one_turn_more, turn_kept}
 use Rattle.upp_normal.proofs.unrolling.with_copies.Goals as goal
+use Rattle.affine_segment.proofs.PieceIn.{low_start}
+use Rattle.upp_limits.proofs.PieceCounts.{each_from, upto_early}
 
 pub loop-n-init : goal.loop-n-init
 loop-n-init c =
@@ -31,7 +30,7 @@ loop-n-preserved c =
     let inside = counted_in a.rank a.period a.end n c.count_before-n-end.result c.requires.tail.some c.count_before-n-end.ensures c.loop-n-test.true in
     subst (λ k. c.push_copies.new.kept.items ≡ upto a.end (upto a.rank ps ++ copies k a.period a.rise (from a.rank ps))) next
     (one_turn_more n a.end a.rank a.period a.rise c.loop-n.kept.items c.push_copies.new.kept.items (upto a.rank ps) (from a.rank ps) c.requires.tail.some inside
-    (upto_before a.rank ps) (each_from (λ p. p.x <ℚ a.rank +ℚ a.period) a.rank ps c.requires.tail.starts) c.loop-n.invariant
+    (upto_early a.rank ps) (each_from (λ p. p.x <ℚ a.rank +ℚ a.period) a.rank ps c.requires.tail.starts) c.loop-n.invariant
     (turn_kept n a.end a.period a.rise c.loop-n.kept.items c.push_copies.new.kept.items c.from_start-turn.result.now (from a.rank ps) c.from_start-turn.ensures c.in_ok-push_copies.ensures))
 
 pub returns : goal.returns
@@ -40,6 +39,6 @@ returns c =
     let ps = a.pieces.now in
     let n = c.loop-n.n in
     let all : n ≡ c.count_before-n-end.result = omega arith in
-    let late = from_late a.rank (int (pos 0) -ℚ int (pos 1)) ps (rises ps c.requires.starts) in
+    let late = from_late a.rank (int (pos 0) -ℚ int (pos 1)) ps (low_start ps c.requires.starts) in
     c.loop-n.invariant ∙ counted_copies n (upto a.rank ps) (from a.rank ps) a.rank a.period a.rise a.end c.requires.tail.some late
     (counted_out a.rank a.period a.end n c.requires.tail.some (all ∙ c.count_before-n-end.ensures) (λ k inside. (c.requires.fits k inside).number))
