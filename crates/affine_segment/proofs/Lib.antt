@@ -9,3 +9,4 @@ pub mod Convolved
 pub mod Through
 pub mod ElementReading
 pub mod Made
+pub mod LineValues

@@ -9,9 +9,10 @@ use Rattle.rational.specs.Ratio.{cmp_q}
 use Rattle.rational.proofs.Comparison.{cmp_greater, cmp_not_greater, cmp_less, cmp_equal}
 use Rattle.rational.proofs.Over.{le_q_out, le_q_in}
 use Rattle.affine_segment.specs.declared.line.Piece.{Piece}
-use Rattle.affine_segment.specs.Reading.{piece_value, piece_in, read}
+use Rattle.affine_segment.specs.Reading.{piece_value, piece_in, read, nothing_at}
 use Rattle.affine_segment.specs.Values.{line_value}
 use Rattle.rational.proofs.MinMax.{le_q_not}
+use Rattle.rational.specs.declared.Extended.TheVariants.{Inf}
 
 pub value_later : (p : Piece) (t : ℚ) (r : Ordering) → r ≡ cmp_q t p.x → r ≡ Greater → piece_value p t ≡ line_value p.line t
 unfolding piece_value
@@ -28,6 +29,9 @@ value_past p t h = rw (le_q_not t p.x h) refl
 pub value_by : (p : Piece) (t : ℚ) → t ≤ℚ p.x → piece_value p t ≡ p.at
 unfolding piece_value
 value_by p t h = rw (le_q_out t p.x h) refl
+
+pub nothing_read : (x t : ℚ) → piece_value (nothing_at x) t ≡ Inf
+nothing_read x t = elim (le_or_lt t x) [ inl h ↦ value_by (nothing_at x) t h | inr h ↦ value_past (nothing_at x) t h ]
 
 pub value_at_start : (p : Piece) → piece_value p p.x ≡ p.at
 value_at_start p = value_by p p.x (le_refl p.x)

@@ -8,6 +8,10 @@ use Rattle.affine_segment.specs.declared.line.Line.{Line}
 use Rattle.affine_segment.specs.declared.line.Piece.{Piece}
 use Rattle.affine_segment.specs.Values.{line_value}
 
+-- infinity from x on
+abbrev pub nothing_at : ℚ → Piece
+nothing_at x = record { x = x; at = Inf; line = None }
+
 -- the value at t of a piece that starts at t or before
 unfoldable pub piece_value : Piece → ℚ → Ext
 piece_value p t = cond (le_q t p.x) p.at (line_value p.line t)

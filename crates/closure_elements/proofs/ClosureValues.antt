@@ -13,15 +13,15 @@ use Rattle.rational.proofs.Whole.{one_more_times, periods_low, periods_high}
 use Rattle.affine_segment.specs.declared.line.Line.{Line}
 use Rattle.affine_segment.specs.Values.{line_at}
 use Rattle.min_plus.specs.Functions.{zero_q}
-use Rattle.affine_segment.specs.Reading.{read, piece_value}
+use Rattle.affine_segment.specs.Reading.{read, piece_value, nothing_at}
 use Rattle.upp_curve.specs.Curve.{repeated, value_at}
 use Rattle.upp_curve.proofs.Repeats.{repeated_first}
 use Rattle.closure_elements.specs.ElementClosures.{Turn, IsSegmentClosure}
-use Rattle.closure_elements.specs.ElementCurves.{nat_times, stretch, turn, line_times, all_stretches, stretches, from_zero, gap, level_closure, rising_closure, falling_closure}
-use Rattle.closure_elements.proofs.PieceReads.{opening_past, opening_here, early_start, late_start, gap_value}
+use Rattle.closure_elements.specs.ElementCurves.{nat_times, stretch, turn, line_times, all_stretches, stretches, from_zero, level_closure, rising_closure, falling_closure}
+use Rattle.closure_elements.proofs.PieceReads.{opening_past, opening_here, early_start, late_start}
 use Rattle.closure_elements.proofs.TurnNumbers.{fewer, more, least_turn, no_turn, least_up, least_down}
 use Rattle.closure_elements.proofs.StretchReads.{IsLate, none_at_start, all_read}
-use Rattle.affine_segment.proofs.PieceIn.{read_go, read_one, read_stop, value_by, value_past}
+use Rattle.affine_segment.proofs.PieceIn.{read_go, read_one, read_stop, value_by, value_past, nothing_read}
 
 pub times_add : (n j i : ℕ) (k : ℚ) → i ≡ n + j → nat_times i k ≡ nat_times n k +ℚ nat_times j k
 times_add n j i k e =
@@ -343,7 +343,7 @@ endless_values a l low up b t h =
         let read_p = read_one p t ∙ opening_past (nat_times 1 a) (line_times 1 l) t after in
         elim (le_or_lt a zero_q) [
           | inl none ↦ ap (λ z. read z t) (early_start a (p ∷ []) none) ∙ read_p
-          | inr some ↦ ap (λ z. read z t) (late_start a (p ∷ []) some) ∙ read_go (gap zero_q) p [] t (le_of_lt after) ∙ read_p
+          | inr some ↦ ap (λ z. read z t) (late_start a (p ∷ []) some) ∙ read_go (nothing_at zero_q) p [] t (le_of_lt after) ∙ read_p
         ]
 
     before : (t : ℚ) → t ≤ℚ a → read (from_zero a (stretch a l 1 ∷ [])) t ≡ Inf
@@ -356,7 +356,7 @@ endless_values a l low up b t h =
           | inl none ↦ ap (λ z. read z t) (early_start a (p ∷ []) none) ∙ read_p
           | inr some ↦ ap (λ z. read z t) (late_start a (p ∷ []) some)
               ∙ elim (le_or_lt (nat_times 1 a) t) [
-                | inl reached ↦ read_go (gap zero_q) p [] t reached ∙ read_p
-                | inr not_yet ↦ read_stop (gap zero_q) p [] t not_yet ∙ gap_value zero_q t
+                | inl reached ↦ read_go (nothing_at zero_q) p [] t reached ∙ read_p
+                | inr not_yet ↦ read_stop (nothing_at zero_q) p [] t not_yet ∙ nothing_read zero_q t
               ]
         ]

@@ -24,20 +24,9 @@ use Rattle.upp_limits.proofs.CurveStands.{has_period}
 use Rattle.upp_normal.proofs.GaugeRises.{first_operand}
 use Rattle.upp_limits.proofs.OwnGauge.{large}
 use Rattle.closure_elements.specs.HeavyLaws.{HeavyIsRefused}
+use Rattle.upp_curve.proofs.SteadyTimes.{rank_early}
 
 -- ---- when a curve begins to repeat
-rank_early : (c : SpecCurve) → rank_of c.tail ≤ℚ steady c
-unfolding steady
-rank_early c = by_tail c.pieces c.tail
-  where
-    unless : (b : Bool) (rank : ℚ) → rank ≤ℚ later_unless b rank
-    unless true rank = le_refl rank
-    unless false rank = with1 rank (λ c. omega (arith, c.le, c.lt, c.same))
-
-    by_tail : (ps : List Piece) (tail : Tail) → rank_of tail ≤ℚ steady_in ps tail
-    by_tail ps (Periodic rank period rise) = le_refl rank
-    by_tail ps (Affine rank) = unless _ rank
-    by_tail ps (Infinite rank) = unless _ rank
 
 rank_low : (ps : List Piece) (tail : Tail) → TailFits ps tail → zero_q ≤ℚ rank_of tail
 rank_low ps (Periodic rank period rise) h = h.nonneg

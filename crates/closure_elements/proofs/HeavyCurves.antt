@@ -22,7 +22,7 @@ use Rattle.upp_limits.proofs.Every.{every_append, every_flat, every_flat_out, ev
 use Rattle.upp_limits.proofs.Rounding.{whole_up_most}
 use Rattle.upp_normal.proofs.GaugeRises.{spans_earlier, curve_earlier, least_sizes, product_grows, reach_within}
 use Rattle.closure_elements.specs.Heavy.{IsHeavy}
-use Rattle.closure_elements.proofs.FewCopies.{end_is}
+use Rattle.upp_limits.proofs.FewCopies.{end_is}
 
 -- ---- numbers that hold a longer window's numbers hold a shorter one's
 

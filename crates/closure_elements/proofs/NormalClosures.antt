@@ -16,8 +16,9 @@ use Rattle.upp_curve.specs.Steady.{Repeats, last_line}
 use Rattle.affine_segment.specs.Pieces.{Each, HasStart, RisesFrom, StartsAtZero}
 use Rattle.upp_curve.specs.Normal.{Continues, NoneContinues, NoMerge, IsNormal}
 use Rattle.upp_curve.proofs.Unique.{lines_at_two}
-use Rattle.closure_elements.specs.ElementCurves.{nat_times, gap, stretch, line_times, stretches, all_stretches, level_closure}
+use Rattle.closure_elements.specs.ElementCurves.{nat_times, stretch, line_times, stretches, all_stretches, level_closure}
 use Rattle.closure_elements.proofs.PieceReads.{gap_kept, gap_left, late_start, early_start}
+use Rattle.affine_segment.specs.Reading.{nothing_at}
 
 -- ---- the list
 -- where the stretches lie: they end before the next begins, or just there
@@ -31,7 +32,7 @@ module _ (a b : ℚ) (l : Line) (low : zero_q ≤ℚ a) (proper : a <ℚ b) wher
   -- what holds of the stretches, of the gaps between them and of the rest holds of each
   each_stretch : (P : Piece → Type 0) (rest : List Piece) (n m k : ℕ) → suc n + m ≡ k
       → ((i : ℕ) → suc n ≤ i → i ≤ k → P (stretch a l i))
-      → ((i : ℕ) → suc n ≤ i → suc i ≤ k → P (gap (nat_times i b))) → Each P rest
+      → ((i : ℕ) → suc n ≤ i → suc i ≤ k → P (nothing_at (nat_times i b))) → Each P rest
       → Each P (stretch a l (suc n) ∷ stretches a b l (suc n) m rest)
   unfolding stretches
   each_stretch P rest n zero k e opens shut last = (opens (suc n) (omega arith) (omega arith), last)
@@ -114,7 +115,7 @@ module _ (a b : ℚ) (l : Line) (low : zero_q ≤ℚ a) (proper : a <ℚ b) wher
       elim (le_or_lt y x) [
         | inl none ↦ subst (NoneContinues p) (sym (gap_left x y ps none)) (no_value p q (line_times (suc n) l) refl refl, more)
         | inr some ↦ subst (NoneContinues p) (sym (gap_kept x y ps some))
-            (no_value p (gap x) (line_times (suc n) l) refl refl, (no_line (gap x) q refl (λ e. absurd (is_some e)), more))
+            (no_value p (nothing_at x) (line_times (suc n) l) refl refl, (no_line (nothing_at x) q refl (λ e. absurd (is_some e)), more))
       ]
     where
       is_some : {m : Line} → Some m ≡ None → ⊥
@@ -135,9 +136,9 @@ module _ (a b : ℚ) (l : Line) (low : zero_q ≤ℚ a) (proper : a <ℚ b) wher
       ]
 
   -- ---- all of them, from 0 on
-  pub all_each : (P : Piece → Type 0) (rest : List Piece) (m : ℕ) → P (gap zero_q)
+  pub all_each : (P : Piece → Type 0) (rest : List Piece) (m : ℕ) → P (nothing_at zero_q)
       → ((i : ℕ) → 1 ≤ i → i ≤ suc m → P (stretch a l i))
-      → ((i : ℕ) → 1 ≤ i → suc i ≤ suc m → P (gap (nat_times i b))) → Each P rest → Each P (all_stretches a b l m rest)
+      → ((i : ℕ) → 1 ≤ i → suc i ≤ suc m → P (nothing_at (nat_times i b))) → Each P rest → Each P (all_stretches a b l m rest)
   all_each P rest m first opens shut last =
       let ps = stretch a l 1 ∷ stretches a b l 1 m rest in
       let more = each_stretch P rest 0 m (suc m) (omega arith) opens shut last in
@@ -171,7 +172,7 @@ module _ (a b : ℚ) (l : Line) (low : zero_q ≤ℚ a) (proper : a <ℚ b) wher
       let more = unmerged rest 0 m (suc m) (omega arith) last in
       elim (le_or_lt a zero_q) [
         | inl none ↦ subst NoMerge (sym (early_start a ps none)) more
-        | inr some ↦ subst NoMerge (sym (late_start a ps some)) (no_line (gap zero_q) p refl (λ e. absurd (is_some e)), more)
+        | inr some ↦ subst NoMerge (sym (late_start a ps some)) (no_line (nothing_at zero_q) p refl (λ e. absurd (is_some e)), more)
       ]
     where
       is_some : {m : Line} → Some m ≡ None → ⊥
@@ -240,8 +241,8 @@ no_share f R d K k r s T n two h =
     let over : r *ℚ t ≡ r *ℚ R +ℚ r *ℚ share = mul_add r R share in
     let first = T.rank_line in
     -- s + r share is the rise, so n s is k
-    let gap : s +ℚ r *ℚ share ≡ rise = apart s (r *ℚ share) rise K (r *ℚ t) (r *ℚ R) T.rank line over first in
-    let times : s *ℚ M +ℚ (r *ℚ share) *ℚ M ≡ k +ℚ r *ℚ d = sym (add_mul s (r *ℚ share) M) ∙ ap (λ z. z *ℚ M) gap ∙ back_rise in
+    let nothing_at : s +ℚ r *ℚ share ≡ rise = apart s (r *ℚ share) rise K (r *ℚ t) (r *ℚ R) T.rank line over first in
+    let times : s *ℚ M +ℚ (r *ℚ share) *ℚ M ≡ k +ℚ r *ℚ d = sym (add_mul s (r *ℚ share) M) ∙ ap (λ z. z *ℚ M) nothing_at ∙ back_rise in
     let same : (r *ℚ share) *ℚ M ≡ r *ℚ d = mul_assoc r share M ∙ ap (λ z. r *ℚ z) back in
     let whole : s *ℚ M ≡ k = left (s *ℚ M) ((r *ℚ share) *ℚ M) k (r *ℚ d) times same in
     elim T.below [

@@ -11,18 +11,14 @@ use Rattle.affine_segment.specs.declared.line.Piece.{Piece}
 use Rattle.affine_segment.specs.declared.line.Line.{Line}
 use Rattle.affine_segment.specs.Values.{line_at, line_value}
 use Rattle.min_plus.specs.Functions.{zero_q}
-use Rattle.affine_segment.specs.Reading.{piece_value, read}
-use Rattle.affine_segment.proofs.PieceIn.{piece_in_stop, piece_in_go, piece_in_end, read_go, read_one, read_stop, value_by, value_past}
-use Rattle.closure_elements.specs.ElementCurves.{gap, opening, after_gap, from_zero}
+use Rattle.affine_segment.specs.Reading.{piece_value, read, nothing_at}
+use Rattle.affine_segment.proofs.PieceIn.{piece_in_stop, piece_in_go, piece_in_end, read_go, read_one, read_stop, value_by, value_past, nothing_read}
+use Rattle.closure_elements.specs.ElementCurves.{opening, after_gap, from_zero}
 
 -- ---- gaps
 both_same : (x : Ext) (b : Bool) → cond b x x ≡ x
 both_same x true = refl
 both_same x false = refl
-
-pub gap_value : (x t : ℚ) → piece_value (gap x) t ≡ Inf
-unfolding piece_value
-gap_value x t = both_same Inf (le_q t x)
 
 pub opening_here : (x : ℚ) (l : Line) (t : ℚ) → t ≤ℚ x → piece_value (opening x l) t ≡ Inf
 opening_here x l t h = value_by (opening x l) t h
@@ -30,7 +26,7 @@ opening_here x l t h = value_by (opening x l) t h
 pub opening_past : (x : ℚ) (l : Line) (t : ℚ) → x <ℚ t → piece_value (opening x l) t ≡ Fin (line_at l t)
 opening_past x l t h = value_past (opening x l) t h
 
-pub gap_kept : (x y : ℚ) (ps : List Piece) → x <ℚ y → after_gap x y ps ≡ gap x ∷ ps
+pub gap_kept : (x y : ℚ) (ps : List Piece) → x <ℚ y → after_gap x y ps ≡ nothing_at x ∷ ps
 unfolding after_gap
 gap_kept x y ps h = rw (lt_q_out x y h) refl
 
@@ -38,7 +34,7 @@ pub gap_left : (x y : ℚ) (ps : List Piece) → y ≤ℚ x → after_gap x y ps
 unfolding after_gap
 gap_left x y ps h = rw (lt_q_not x y h) refl
 
-pub late_start : (a : ℚ) (ps : List Piece) → zero_q <ℚ a → from_zero a ps ≡ gap zero_q ∷ ps
+pub late_start : (a : ℚ) (ps : List Piece) → zero_q <ℚ a → from_zero a ps ≡ nothing_at zero_q ∷ ps
 unfolding from_zero
 late_start a ps h = rw (lt_q_out zero_q a h) refl
 
@@ -46,26 +42,26 @@ pub early_start : (a : ℚ) (ps : List Piece) → a ≤ℚ zero_q → from_zero 
 unfolding from_zero
 early_start a ps h = rw (lt_q_not zero_q a h) refl
 
--- past the end of a piece, over a gap up to the next
+-- past the end of a piece, over a nothing_at up to the next
 pub over_gap : (p : Piece) (x : ℚ) (q : Piece) (qs : List Piece) (t : ℚ) → q.x ≤ℚ t → x ≤ℚ q.x
     → read (p ∷ after_gap x q.x (q ∷ qs)) t ≡ read (q ∷ qs) t
 over_gap p x q qs t h k = elim (le_or_lt q.x x) [
   | inl l ↦ ap (λ z. read (p ∷ z) t) (gap_left x q.x (q ∷ qs) l) ∙ read_go p q qs t h
-  | inr l ↦ ap (λ z. read (p ∷ z) t) (gap_kept x q.x (q ∷ qs) l) ∙ read_go p (gap x) (q ∷ qs) t (le_trans k h)
-      ∙ read_go (gap x) q qs t h
+  | inr l ↦ ap (λ z. read (p ∷ z) t) (gap_kept x q.x (q ∷ qs) l) ∙ read_go p (nothing_at x) (q ∷ qs) t (le_trans k h)
+      ∙ read_go (nothing_at x) q qs t h
 ]
 
--- before the gap
+-- before the nothing_at
 pub before_gap : (p : Piece) (x : ℚ) (q : Piece) (qs : List Piece) (t : ℚ) → t <ℚ x → x ≤ℚ q.x
     → read (p ∷ after_gap x q.x (q ∷ qs)) t ≡ piece_value p t
 before_gap p x q qs t h k = elim (le_or_lt q.x x) [
   | inl l ↦ ap (λ z. read (p ∷ z) t) (gap_left x q.x (q ∷ qs) l) ∙ read_stop p q qs t (lt_le_trans h k)
-  | inr l ↦ ap (λ z. read (p ∷ z) t) (gap_kept x q.x (q ∷ qs) l) ∙ read_stop p (gap x) (q ∷ qs) t h
+  | inr l ↦ ap (λ z. read (p ∷ z) t) (gap_kept x q.x (q ∷ qs) l) ∙ read_stop p (nothing_at x) (q ∷ qs) t h
 ]
 
--- in the gap, from its start on
+-- in the nothing_at, from its start on
 pub in_gap : (p : Piece) (x : ℚ) (q : Piece) (qs : List Piece) (t : ℚ) → x ≤ℚ t → t <ℚ q.x
     → read (p ∷ after_gap x q.x (q ∷ qs)) t ≡ Inf
 in_gap p x q qs t h k =
-    ap (λ z. read (p ∷ z) t) (gap_kept x q.x (q ∷ qs) (le_lt_trans h k)) ∙ read_go p (gap x) (q ∷ qs) t h
-    ∙ read_stop (gap x) q qs t k ∙ gap_value x t
+    ap (λ z. read (p ∷ z) t) (gap_kept x q.x (q ∷ qs) (le_lt_trans h k)) ∙ read_go p (nothing_at x) (q ∷ qs) t h
+    ∙ read_stop (nothing_at x) q qs t k ∙ nothing_read x t

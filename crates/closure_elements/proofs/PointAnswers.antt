@@ -12,23 +12,24 @@ use Rattle.upp_curve.specs.Curves.{IsCurve}
 use Rattle.min_plus.specs.Functions.{zero_q}
 use Rattle.upp_limits.specs.Limits.{own_tally}
 use Rattle.closure_elements.proofs.ElementSums.{closure_of_point}
-use Rattle.closure_elements.specs.ElementCurves.{gap, point_closure, point_at_zero}
+use Rattle.closure_elements.specs.ElementCurves.{point_closure, point_at_zero}
 use Rattle.closure_elements.specs.ElementAnswers.{IsElementClosure}
-use Rattle.closure_elements.proofs.FewCopies.{periodic_few}
 use Rattle.closure_elements.proofs.PointCurves.{point_values, point_normal, zero_values, zero_normal}
+use Rattle.upp_limits.proofs.FewCopies.{periodic_few}
+use Rattle.affine_segment.specs.Reading.{nothing_at}
 
 abbrev pub point_piece : ℚ → ℚ → Piece
 point_piece x v = record { x = x; at = Fin v; line = None }
 
-pub later_is : (z x v : ℚ) (ps : List Piece) → z ≡ zero_q → ps ≡ gap z ∷ point_piece x v ∷ []
+pub later_is : (z x v : ℚ) (ps : List Piece) → z ≡ zero_q → ps ≡ nothing_at z ∷ point_piece x v ∷ []
     → (let c : SpecCurve = record { pieces = ps; tail = Periodic x x v } in c ≡ point_closure x v)
 later_is z x v ps e f =
     let first = λ (y : List Piece). let c : SpecCurve = record { pieces = y; tail = Periodic x x v } in c in
-    ap first (f ∙ ap (λ y. gap y ∷ point_piece x v ∷ []) e)
+    ap first (f ∙ ap (λ y. nothing_at y ∷ point_piece x v ∷ []) e)
 
 pub later_few : (x v : ℚ) → zero_q <ℚ x → own_tally (point_closure x v) ≤ 2 ^ 20
 later_few x v some =
-    let h = periodic_few (gap zero_q ∷ point_piece x v ∷ []) x x v some (point_normal x v some).raw.starts in
+    let h = periodic_few (nothing_at zero_q ∷ point_piece x v ∷ []) x x v some (point_normal x v some).raw.starts in
     omega (arith, h)
 
 pub zero_is : (z v : ℚ) (ps : List Piece) → z ≡ zero_q → ps ≡ point_piece z v ∷ []

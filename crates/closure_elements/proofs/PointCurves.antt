@@ -6,7 +6,7 @@ use Rattle.rational.specs.Extended.{Ext, ◌+ₑ◌}
 use Rattle.rational.specs.declared.Extended.TheVariants.{Fin, Inf}
 use Rattle.rational.proofs.Linear.{with1, with2, with3, with5, with6}
 use Rattle.rational.proofs.Laws.{le_trans, le_lt_trans, lt_le_trans, lt_irrefl, le_refl, le_of_lt, le_or_lt, antisym, mul_one, mul_zero, zero_mul, one_mul, mul_lt_mul, mul_lt_mul_right, mul_le_mul_right, lt_of_mul, div_mul, not_zero, between}
-use Rattle.rational.proofs.Integers.{nat_lt, nat_le}
+use Rattle.rational.proofs.Integers.{nat_lt, nat_le, le_or_more}
 use Rattle.rational.proofs.Whole.{one_more_times}
 use Rattle.rational.proofs.Bounds.{least_member, all_infinite}
 use Rattle.rational.proofs.Over.{le_q_out}
@@ -15,17 +15,15 @@ use Rattle.affine_segment.specs.declared.line.Line.{Line}
 use Rattle.affine_segment.specs.declared.line.Piece.{Piece}
 use Rattle.affine_segment.specs.Values.{line_value}
 use Rattle.min_plus.specs.Functions.{zero_q}
-use Rattle.affine_segment.specs.Reading.{read}
+use Rattle.affine_segment.specs.Reading.{read, nothing_at}
 use Rattle.upp_curve.specs.Curve.{value_at, repeated, cut}
 use Rattle.upp_curve.specs.Steady.{Repeats}
 use Rattle.upp_curve.specs.Normal.{IsNormal}
 use Rattle.upp_curve.proofs.Repeats.{repeated_first}
 use Rattle.closure_elements.specs.ElementClosures.{Multiple, IsPointClosure}
-use Rattle.closure_elements.specs.ElementCurves.{nat_times, gap, point_closure, point_at_zero}
-use Rattle.closure_elements.proofs.PieceReads.{gap_value}
-use Rattle.closure_elements.proofs.TurnNumbers.{le_or_more}
+use Rattle.closure_elements.specs.ElementCurves.{nat_times, point_closure, point_at_zero}
 use Rattle.closure_elements.proofs.ClosureValues.{Left, left_of, repeated_left}
-use Rattle.affine_segment.proofs.PieceIn.{read_go, read_one, read_stop, value_by, value_past}
+use Rattle.affine_segment.proofs.PieceIn.{read_go, read_one, read_stop, value_by, value_past, nothing_read}
 
 -- ---- the closure by a multiple
 -- where t is n and one times a, and no other number of times, or each gives as much
@@ -68,19 +66,19 @@ module _ (a v : ℚ) (some : zero_q <ℚ a) where
   point : Piece
   point = record { x = a; at = Fin v; line = None }
 
-  point_read : (t : ℚ) → t ≤ℚ a → a ≤ℚ t → read (gap zero_q ∷ point ∷ []) t ≡ Fin v
+  point_read : (t : ℚ) → t ≤ℚ a → a ≤ℚ t → read (nothing_at zero_q ∷ point ∷ []) t ≡ Fin v
   unfolding point
-  point_read t h k = read_go (gap zero_q) record { x = a; at = Fin v; line = None } [] t k
+  point_read t h k = read_go (nothing_at zero_q) record { x = a; at = Fin v; line = None } [] t k
       ∙ read_one record { x = a; at = Fin v; line = None } t ∙ value_by record { x = a; at = Fin v; line = None } t h
 
-  late_read : (t : ℚ) → a <ℚ t → read (gap zero_q ∷ point ∷ []) t ≡ Inf
+  late_read : (t : ℚ) → a <ℚ t → read (nothing_at zero_q ∷ point ∷ []) t ≡ Inf
   unfolding point
-  late_read t h = read_go (gap zero_q) record { x = a; at = Fin v; line = None } [] t (le_of_lt h)
+  late_read t h = read_go (nothing_at zero_q) record { x = a; at = Fin v; line = None } [] t (le_of_lt h)
       ∙ read_one record { x = a; at = Fin v; line = None } t ∙ value_past record { x = a; at = Fin v; line = None } t h
 
-  early_read : (t : ℚ) → t <ℚ a → read (gap zero_q ∷ point ∷ []) t ≡ Inf
+  early_read : (t : ℚ) → t <ℚ a → read (nothing_at zero_q ∷ point ∷ []) t ≡ Inf
   unfolding point
-  early_read t h = read_stop (gap zero_q) record { x = a; at = Fin v; line = None } [] t h ∙ gap_value zero_q t
+  early_read t h = read_stop (nothing_at zero_q) record { x = a; at = Fin v; line = None } [] t h ∙ nothing_read zero_q t
 
   repeated_none : (f : ℚ → Ext) (R d c t : ℚ) (s : Left R d t) → f s.left ≡ Inf → repeated f R d c t ≡ Inf
   unfolding repeated
@@ -101,7 +99,7 @@ module _ (a v : ℚ) (some : zero_q <ℚ a) where
   pub point_values : (t : ℚ) → zero_q ≤ℚ t → IsPointClosure a v t (value_at (point_closure a v) t)
   unfolding value_at point
   point_values t h =
-      let f = read (gap zero_q ∷ record { x = a; at = Fin v; line = None } ∷ []) in
+      let f = read (nothing_at zero_q ∷ record { x = a; at = Fin v; line = None } ∷ []) in
       elim (le_or_lt a t) [
         | inl past ↦
             let s = left_of a a t some past in
@@ -152,9 +150,9 @@ module _ (a v : ℚ) (some : zero_q <ℚ a) where
       ]
 
   -- the values at 0, at a and just after it
-  first_values : (t : ℚ) → zero_q ≤ℚ t → t <ℚ a +ℚ a → value_at (point_closure a v) t ≡ read (gap zero_q ∷ record { x = a; at = Fin v; line = None } ∷ []) t
+  first_values : (t : ℚ) → zero_q ≤ℚ t → t <ℚ a +ℚ a → value_at (point_closure a v) t ≡ read (nothing_at zero_q ∷ record { x = a; at = Fin v; line = None } ∷ []) t
   unfolding value_at
-  first_values t h k = repeated_first (read (gap zero_q ∷ record { x = a; at = Fin v; line = None } ∷ [])) a a v t some k
+  first_values t h k = repeated_first (read (nothing_at zero_q ∷ record { x = a; at = Fin v; line = None } ∷ [])) a a v t some k
 
   pub point_normal : IsNormal (point_closure a v)
   unfolding point

@@ -38,8 +38,7 @@ use Rattle.closure_elements.proofs.HeavyCurves.{own_heavy}
 use Rattle.closure_elements.proofs.FlatLines.{slopes_of, none_next, flat_each, flat_stretches}
 use Rattle.closure_elements.proofs.PieceReads.{late_start, early_start}
 use Rattle.closure_elements.specs.Heavy.{IsHeavy}
-use Rattle.closure_elements.proofs.FewCopies.{periodic_few, few_pieces}
-use Rattle.closure_elements.proofs.TurnNumbers.{le_or_more}
+use Rattle.closure_elements.proofs.FewCopies.{few_pieces}
 use Rattle.closure_elements.proofs.TurnSteps.{first_of_all, all_then}
 use Rattle.closure_elements.proofs.ClosureValues.{level_values, rising_values, falling_values, endless_values}
 use Rattle.closure_elements.proofs.EndlessFalling.{endless_falling, far, far_joined, far_later}
@@ -47,6 +46,8 @@ use Rattle.closure_elements.proofs.NormalClosures.{level_normal}
 use Rattle.closure_elements.proofs.NormalTurns.{rising_normal, falling_normal}
 use Rattle.rational.proofs.Compared.{is_equal}
 use Rattle.upp_normal.proofs.Bends.{each_first}
+use Rattle.upp_limits.proofs.FewCopies.{periodic_few}
+use Rattle.rational.proofs.Integers.{le_or_more}
 
 pub unfit_more : (a b : ℚ) (l : Line) (m : ℕ) (e : OpFault) → IsUnfit (stretches a b l 1 m []) e → IsUnfit (all_stretches a b l m []) e
 unfit_more a b l m TooMany h = h

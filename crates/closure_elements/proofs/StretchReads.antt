@@ -8,12 +8,12 @@ use Rattle.rational.proofs.Laws.{le_trans, lt_le_trans, le_refl, le_of_lt, le_or
 use Rattle.affine_segment.specs.declared.line.Line.{Line}
 use Rattle.affine_segment.specs.declared.line.Piece.{Piece}
 use Rattle.min_plus.specs.Functions.{zero_q}
-use Rattle.affine_segment.specs.Reading.{read}
+use Rattle.affine_segment.specs.Reading.{read, nothing_at}
 use Rattle.closure_elements.specs.ElementClosures.{Turn, IsSegmentClosure}
-use Rattle.closure_elements.specs.ElementCurves.{nat_times, gap, stretch, line_times, stretches, all_stretches}
-use Rattle.closure_elements.proofs.PieceReads.{opening_here, opening_past, over_gap, before_gap, in_gap, late_start, early_start, gap_value}
+use Rattle.closure_elements.specs.ElementCurves.{nat_times, stretch, line_times, stretches, all_stretches}
+use Rattle.closure_elements.proofs.PieceReads.{opening_here, opening_past, over_gap, before_gap, in_gap, late_start, early_start}
 use Rattle.closure_elements.proofs.TurnNumbers.{fewer, more, least_turn, no_turn}
-use Rattle.affine_segment.proofs.PieceIn.{read_go, read_stop}
+use Rattle.affine_segment.proofs.PieceIn.{read_go, read_stop, nothing_read}
 
 -- from n a on each turn is n or more
 abbrev pub IsLate : ℚ → Ext → ℕ → Type 0
@@ -87,8 +87,8 @@ all_read a b limit l m rest low end apart last t h high =
       | inl none ↦ subst (λ z. C (read z t)) (sym (early_start a (p ∷ ps) none)) (go (subst (λ z. z ≤ℚ t) (sym one) (le_trans none h)))
       | inr some ↦ subst (λ z. C (read z t)) (sym (late_start a (p ∷ ps) some))
           (elim (le_or_lt (nat_times 1 a) t) [
-            | inl past ↦ subst C (sym (read_go (gap zero_q) p ps t past)) (go past)
-            | inr early ↦ subst C (sym (read_stop (gap zero_q) p ps t early ∙ gap_value zero_q t))
+            | inl past ↦ subst C (sym (read_go (nothing_at zero_q) p ps t past)) (go past)
+            | inr early ↦ subst C (sym (read_stop (nothing_at zero_q) p ps t early ∙ nothing_read zero_q t))
                 (no_turn a (Fin b) l t (λ u. let x = fewer a (Fin b) t 1 low (le_of_lt early) u in omega arith))
           ])
     ]

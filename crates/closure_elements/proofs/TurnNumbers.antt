@@ -5,7 +5,7 @@ use Rattle.rational.specs.Rational.{ℚ, ◌+ℚ◌, ◌*ℚ◌, ◌/ℚ◌, ◌
 use Rattle.rational.specs.Extended.{Ext, ◌≤ₑ◌, ◌<ₑ◌}
 use Rattle.rational.specs.declared.Extended.TheVariants.{Fin, Inf}
 use Rattle.rational.proofs.Laws.{le_trans, le_lt_trans, lt_le_trans, lt_irrefl, le_or_lt, mul_comm, mul_le_mul_right, mul_lt_mul, lt_of_mul, div_mul, not_zero, mul_neg}
-use Rattle.rational.proofs.Integers.{nat_le, nat_le_out, nat_lt, nat_lt_out}
+use Rattle.rational.proofs.Integers.{nat_le, nat_le_out, nat_lt, nat_lt_out, le_or_more}
 use Rattle.rational.proofs.Bounds.{least_member, all_infinite}
 use Rattle.rational.proofs.Linear.{with1, with3, with4}
 use Rattle.affine_segment.specs.declared.line.Line.{Line}
@@ -53,8 +53,6 @@ turn_below a b t u =
     subst (λ z. Fin z <ₑ ext_times (suc u.less_one) b) (sym u.is) (below_out b u.less_one u.share u.below)
 
 -- ---- the order of numbers by their times
-pub le_or_more : (a b : ℕ) → (a ≤ b) ⊎ (suc b ≤ a)
-le_or_more a b = elim (le_or_lt (int (pos a)) (int (pos b))) [ inl h ↦ inl (nat_le_out a b h) | inr h ↦ inr (nat_lt_out b a h) ]
 
 -- up to n a there are turns below n alone
 pub fewer : (a : ℚ) (b : Ext) (t : ℚ) (n : ℕ) → zero_q ≤ℚ a → t ≤ℚ nat_times n a → (u : Turn a b t) → suc (suc u.less_one) ≤ n

@@ -12,10 +12,11 @@ use Rattle.affine_segment.specs.declared.line.Piece.{Piece}
 use Rattle.affine_segment.specs.Values.{line_at}
 use Rattle.min_plus.specs.Functions.{zero_q}
 use Rattle.affine_segment.specs.Pieces.{Each}
-use Rattle.closure_elements.specs.ElementCurves.{nat_times, line_times, gap, stretch, turn, after_gap, from_zero, stretches, all_stretches}
+use Rattle.closure_elements.specs.ElementCurves.{nat_times, line_times, stretch, turn, after_gap, from_zero, stretches, all_stretches}
 use Rattle.closure_elements.specs.PieceFits.{PieceFits}
 use Rattle.closure_elements.proofs.PieceReads.{gap_kept, gap_left, late_start, early_start}
 use Rattle.upp_normal.proofs.Bends.{each_first}
+use Rattle.affine_segment.specs.Reading.{nothing_at}
 
 -- ---- a turn
 -- one more line is k more
@@ -79,7 +80,7 @@ stretches_then a b l n (suc m) rest =
     elim (le_or_lt y x) [
       | inl none ↦ ap (λ z. z ++ rest) (gap_left x y (q ∷ stretches a b l (suc n) m []) none) ∙ ap (λ z. q ∷ z) more
           ∙ sym (gap_left x y (q ∷ stretches a b l (suc n) m rest) none)
-      | inr some ↦ ap (λ z. z ++ rest) (gap_kept x y (q ∷ stretches a b l (suc n) m []) some) ∙ ap (λ z. gap x ∷ q ∷ z) more
+      | inr some ↦ ap (λ z. z ++ rest) (gap_kept x y (q ∷ stretches a b l (suc n) m []) some) ∙ ap (λ z. nothing_at x ∷ q ∷ z) more
           ∙ sym (gap_kept x y (q ∷ stretches a b l (suc n) m rest) some)
     ]
 
@@ -195,18 +196,18 @@ next_fits a b l m i j k kept first inside ej ek meet g h = by_left g.left g.coun
         (subst (λ z. IsSmall (nat_times z b)) (sym ej) s.end, subst (λ z. PieceFits (stretch a l z)) (sym ek) s.next)
 
 -- ---- pieces that are pushed
-pub pushed_after : (ps v w : List Piece) (x : ℚ) (q : Piece) → x <ℚ q.x → v ≡ ps ++ (gap x ∷ []) → w ≡ v ++ (q ∷ [])
+pub pushed_after : (ps v w : List Piece) (x : ℚ) (q : Piece) → x <ℚ q.x → v ≡ ps ++ (nothing_at x ∷ []) → w ≡ v ++ (q ∷ [])
     → w ≡ ps ++ after_gap x q.x (q ∷ [])
 pushed_after ps v w x q h e f =
-    f ∙ ap (λ z. z ++ (q ∷ [])) e ∙ append_assoc ps (gap x ∷ []) (q ∷ []) ∙ ap (λ z. ps ++ z) (sym (gap_kept x q.x (q ∷ []) h))
+    f ∙ ap (λ z. z ++ (q ∷ [])) e ∙ append_assoc ps (nothing_at x ∷ []) (q ∷ []) ∙ ap (λ z. ps ++ z) (sym (gap_kept x q.x (q ∷ []) h))
 
 pub pushed_alone : (ps w : List Piece) (x : ℚ) (q : Piece) → q.x ≤ℚ x → w ≡ ps ++ (q ∷ []) → w ≡ ps ++ after_gap x q.x (q ∷ [])
 pushed_alone ps w x q h f = f ∙ ap (λ z. ps ++ z) (sym (gap_left x q.x (q ∷ []) h))
 
-pub started_late : (a z : ℚ) (u v w : List Piece) (q : Piece) → zero_q <ℚ a → z ≡ zero_q → u ≡ [] → v ≡ u ++ (gap z ∷ []) → w ≡ v ++ (q ∷ [])
+pub started_late : (a z : ℚ) (u v w : List Piece) (q : Piece) → zero_q <ℚ a → z ≡ zero_q → u ≡ [] → v ≡ u ++ (nothing_at z ∷ []) → w ≡ v ++ (q ∷ [])
     → w ≡ from_zero a (q ∷ [])
 started_late a z u v w q h e d f g =
-    g ∙ ap (λ y. y ++ (q ∷ [])) (f ∙ ap (λ y. y ++ (gap z ∷ [])) d ∙ ap (λ y. gap y ∷ []) e) ∙ sym (late_start a (q ∷ []) h)
+    g ∙ ap (λ y. y ++ (q ∷ [])) (f ∙ ap (λ y. y ++ (nothing_at z ∷ [])) d ∙ ap (λ y. nothing_at y ∷ []) e) ∙ sym (late_start a (q ∷ []) h)
 
 pub started_early : (a : ℚ) (u w : List Piece) (q : Piece) → a ≤ℚ zero_q → u ≡ [] → w ≡ u ++ (q ∷ []) → w ≡ from_zero a (q ∷ [])
 started_early a u w q h d g = g ∙ ap (λ y. y ++ (q ∷ [])) d ∙ sym (early_start a (q ∷ []) h)

@@ -10,14 +10,11 @@ use Rattle.affine_segment.specs.Values.{line_at}
 use Rattle.upp_curve.specs.declared.curve.Tail.TheVariants.{Periodic, Affine, Infinite}
 use Rattle.upp_curve.specs.Curve.{SpecCurve}
 use Rattle.min_plus.specs.Functions.{zero_q}
+use Rattle.affine_segment.specs.Reading.{nothing_at}
 
 -- ---- pieces
 abbrev pub nat_times : ℕ → ℚ → ℚ
 nat_times n x = int (pos n) *ℚ x
-
--- infinity from x on
-abbrev pub gap : ℚ → Piece
-gap x = record { x = x; at = Inf; line = None }
 
 -- infinity at x, and then a line
 abbrev pub opening : ℚ → Line → Piece
@@ -31,19 +28,19 @@ line_times n l = record { icept = nat_times n l.icept; slope = l.slope }
 abbrev pub stretch : ℚ → Line → ℕ → Piece
 stretch a l n = opening (nat_times n a) (line_times n l)
 
--- other pieces after a gap from x up to y, where there is one
+-- other pieces after a nothing_at from x up to y, where there is one
 unfoldable pub after_gap : ℚ → ℚ → List Piece → List Piece
-after_gap x y ps = cond (lt_q x y) (gap x ∷ ps) ps
+after_gap x y ps = cond (lt_q x y) (nothing_at x ∷ ps) ps
 
--- after the stretch from n a up to n b: the next m stretches, each after a gap, and then `rest`
+-- after the stretch from n a up to n b: the next m stretches, each after a nothing_at, and then `rest`
 unfoldable pub stretches : ℚ → ℚ → Line → ℕ → ℕ → List Piece → List Piece
 stretches a b l n zero rest = rest
 stretches a b l n (suc m) rest =
     after_gap (nat_times n b) (nat_times (suc n) a) (stretch a l (suc n) ∷ stretches a b l (suc n) m rest)
 
--- pieces from a on, after a gap from 0 on where a is after 0
+-- pieces from a on, after a nothing_at from 0 on where a is after 0
 unfoldable pub from_zero : ℚ → List Piece → List Piece
-from_zero a ps = cond (lt_q zero_q a) (gap zero_q ∷ ps) ps
+from_zero a ps = cond (lt_q zero_q a) (nothing_at zero_q ∷ ps) ps
 
 -- one stretch and m more, and then `rest`
 abbrev pub all_stretches : ℚ → ℚ → Line → ℕ → List Piece → List Piece
@@ -57,7 +54,7 @@ turn x l n N = record { x = x; at = Fin (line_at (line_times n l) x); line = Som
 -- n v at n a
 abbrev pub point_closure : ℚ → ℚ → SpecCurve
 point_closure a v = record {
-  pieces = gap zero_q ∷ record { x = a; at = Fin v; line = None } ∷ [];
+  pieces = nothing_at zero_q ∷ record { x = a; at = Fin v; line = None } ∷ [];
   tail = Periodic a a v;
 }
 

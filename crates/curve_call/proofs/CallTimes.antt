@@ -10,7 +10,7 @@ use Rattle.rational.proofs.Linear.{with2, with3}
 use Rattle.rational.proofs.Laws.{le_refl, le_trans, le_of_lt, one_mul, zero_mul, add_zero, add_assoc, add_mul}
 use Rattle.rational.proofs.Integers.{int_add}
 use Rattle.rational.proofs.MinMax.{max_q_ge_left, max_q_ge_right}
-use Rattle.rational.proofs.Grid.{whole_int, whole_add}
+use Rattle.rational.proofs.Grid.{whole_int, whole_add, max_whole}
 use Rattle.upp_limits.specs.declared.op_kind.OpKind.{OpKind}
 use Rattle.upp_limits.specs.declared.op_kind.OpKind.TheVariants.{Sum, Min, Max, PosDiff, PosMinus, Scale, Shift, RunSup, RunInf, FifoLeft, Convolve, Deconvolve, Horizontal, Vertical, Itself}
 use Rattle.upp_curve.specs.Curve.{SpecCurve}
@@ -26,8 +26,9 @@ use Rattle.upp_limits.proofs.Stands.{stands_left, stands_right}
 use Rattle.upp_limits.proofs.NarrowSizes.{IsNarrow}
 use Rattle.curve_call.specs.Times.{OneLaterFits, BothSteadyFit}
 use Rattle.curve_call.specs.CallWindows.{IsForward, SecondIsCurve, start_of, number_of, period_in, StartFits}
-use Rattle.curve_call.proofs.CurveTimes.{IsPeriod, sum_fits, time_within, steady_nonneg, steady_whole, one_later, own_on, both_on, own_or_on, max_whole, both_fit}
+use Rattle.curve_call.proofs.CurveTimes.{IsPeriod, sum_fits, time_within, steady_whole, one_later, own_on, both_on, own_or_on, both_fit}
 use Rattle.upp_normal.proofs.UnrollSteps.{time_small}
+use Rattle.upp_curve.proofs.SteadyTimes.{steady_nonneg}
 
 -- ---- the window's end as whole periods after the start
 one_more : (t d : ℚ) → t +ℚ d ≡ periods_after t 1 d

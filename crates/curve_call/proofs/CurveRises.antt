@@ -40,16 +40,16 @@ use Rattle.upp_limits.proofs.Copies.{copies_out, copy_zero, copy_among}
 use Rattle.upp_limits.proofs.ClosedForms.{line_moved}
 use Rattle.upp_limits.proofs.NarrowSizes.{IsNarrow, narrow_gauge, small_number, value_whole, value_within, run_whole, run_within}
 use Rattle.upp_limits.proofs.Every.{every_flat_out}
-use Rattle.upp_limits.proofs.CurveStands.{unrolled_stand, tail_stands, curve_stands}
+use Rattle.upp_limits.proofs.CurveStands.{unrolled_stand, tail_stands, curve_stands, last_slope}
 use Rattle.upp_limits.proofs.KnownNumbers.{few_periods}
 use Rattle.upp_normal.specs.Operand.{AreLimited}
 use Rattle.upp_limits.proofs.Operands.{curve_period}
 use Rattle.fraction128.specs.Multiple.{common_multiple}
 use Rattle.fraction128.proofs.CommonMultiple.{common_multiple_least}
 use Rattle.curve_call.specs.Rises.{CurveRiseFits, SlopeTimesFits}
-use Rattle.curve_call.proofs.CurveTimes.{rank_early}
 use Rattle.upp_normal.proofs.UnrollSteps.{IsSomewhere}
 use Rattle.upp_normal.proofs.StretchPieces.{found_from, found_late}
+use Rattle.upp_curve.proofs.SteadyTimes.{rank_early}
 
 -- ---- a piece with a value, or none
 
@@ -231,10 +231,6 @@ thrice : (z : Sizes) → int (pos z.largest) ≤ℚ times_largest 3 z
 thrice z = let V = int (pos z.largest) in let some = nat_nonneg z.largest in with1 V (λ c. omega (arith, c.le, c.lt, c.same))
 
 -- ---- an affine tail
-last_slope : (z : Sizes) (rank : ℚ) (p : Piece) (ps : List Piece) → AllByRecursion (SpanStands z) (spans (Affine rank) (p ∷ ps)) → LineStands z (last_of p ps).line
-unfolding spans
-last_slope z rank p [] h = h.0.slope
-last_slope z rank p (q ∷ qs) h = last_slope z rank q qs h.1
 
 line_rise : (z : Sizes) (end d : ℚ) (l : Option Line) → AreSizes z end → IsNarrow z (2 ^ 122) → LineStands z l → Whole z.dt d → int (pos 0) ≤ℚ d → d ≤ℚ end
     → SlopeTimesFits l d × Whole (grid_of z) (slope_times l d) × Within (times_largest 3 z) (slope_times l d)

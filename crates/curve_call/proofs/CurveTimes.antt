@@ -12,7 +12,7 @@ use Rattle.rational.proofs.Linear.{with1, with3}
 use Rattle.rational.proofs.Laws.{le_refl, le_trans, le_of_lt, mul_le_mul, mul_le_mul_right, mul_nonneg, mul_pos, mul_one, mul_assoc}
 use Rattle.rational.proofs.Integers.{nat_le, nat_le_out, nat_lt, nat_nonneg, int_le, int_lt_out, mul_whole}
 use Rattle.rational.proofs.MinMax.{max_q_one}
-use Rattle.rational.proofs.Grid.{whole_int, whole_add, whole_times, within_nonneg}
+use Rattle.rational.proofs.Grid.{whole_int, whole_add, whole_times, within_nonneg, max_whole}
 use Rattle.rational.proofs.Sizes.{largest_part, small_on_grid, sum_on_grid}
 use Rattle.fraction128.proofs.CommonMultiple.{common_multiple_least}
 use Rattle.affine_segment.specs.declared.line.Piece.{Piece}
@@ -23,14 +23,17 @@ use Rattle.upp_curve.specs.Curves.{IsCurve}
 use Rattle.upp_curve.specs.Normal.{TailFits}
 use Rattle.upp_curve.specs.Steady.{rank_of, later_unless, steady}
 use Rattle.upp_limits.specs.Periods.{HasPeriod, period_of, period_or, common_of, common_period, own_period, periods_after}
-use Rattle.upp_limits.specs.Limits.{Sizes, curve_numbers}
+use Rattle.upp_limits.specs.Limits.{Sizes, curve_numbers, sizes_of}
 use Rattle.upp_limits.specs.Sized.{AreSizes, Stands, TailStands}
 use Rattle.upp_limits.proofs.Operands.{curve_period}
-use Rattle.upp_limits.proofs.CurveStands.{tail_stands, later_at_least}
+use Rattle.upp_limits.proofs.CurveStands.{tail_stands}
 use Rattle.upp_limits.proofs.NarrowSizes.{IsNarrow}
 use Rattle.upp_limits.proofs.OwnGauge.{end_within, twice_fits}
 use Rattle.curve_call.specs.Times.{OneLaterFits, BothSteadyFit, PeriodsFit}
 use Rattle.upp_normal.proofs.UnrollSteps.{time_small}
+use Rattle.upp_curve.proofs.SteadyTimes.{later_at_least, steady_nonneg, curve_rank, rank_early, rank_nonneg}
+use Rattle.upp_limits.specs.Gauges.{both_numbers}
+use Rattle.upp_limits.proofs.Stands.{sizes_stand, stands_left, stands_right}
 
 -- ---- steps of times up to the window's end
 pub sum_fits : (z : Sizes) (end a b : ℚ) → AreSizes z end → IsNarrow z (2 ^ 122) → Whole z.dt a → Whole z.dt b → Within (int (pos z.largest)) a → Within (int (pos z.largest)) b → SumFits a b
@@ -90,26 +93,6 @@ steady_on d ps (Periodic rank period rise) w = w
 steady_on d ps (Affine rank) w = later_whole d _ rank w
 steady_on d ps (Infinite rank) w = later_whole d _ rank w
 
-rank_before : (ps : List Piece) (tail : Tail) → rank_of tail ≤ℚ steady record { pieces = ps; tail = tail }
-unfolding steady
-rank_before ps (Periodic rank period rise) = le_refl rank
-rank_before ps (Affine rank) = later_at_least _ rank
-rank_before ps (Infinite rank) = later_at_least _ rank
-
-rank_nonneg : (ps : List Piece) (tail : Tail) → TailFits ps tail → int (pos 0) ≤ℚ rank_of tail
-rank_nonneg ps (Periodic rank period rise) h = h.nonneg
-rank_nonneg ps (Affine rank) h = h.nonneg
-rank_nonneg ps (Infinite rank) h = h.nonneg
-
-pub curve_rank : (c : SpecCurve) → IsCurve c → int (pos 0) ≤ℚ rank_of c.tail
-curve_rank c is = rank_nonneg c.pieces c.tail is.normal.raw.tail
-
-pub rank_early : (c : SpecCurve) → rank_of c.tail ≤ℚ steady c
-rank_early c = rank_before c.pieces c.tail
-
-pub steady_nonneg : (c : SpecCurve) → IsCurve c → int (pos 0) ≤ℚ steady c
-steady_nonneg c is = le_trans (curve_rank c is) (rank_early c)
-
 pub steady_whole : (z : Sizes) (end : ℚ) (c : SpecCurve) → Stands z (curve_numbers end c) → Whole z.dt (steady c)
 steady_whole z end c h = steady_on z.dt c.pieces c.tail h.times.0
 
@@ -162,12 +145,15 @@ pub own_or_on : (z : Sizes) (end p : ℚ) (c : SpecCurve) → IsCurve c → Stan
 own_or_on z end p c is h k = or_on z.dt p (period_of c.tail) k (curve_some z end c is h)
 
 -- ---- two curves
-pub max_whole : (d : ℕ) (a b : ℚ) → Whole d a → Whole d b → Whole d (max_q a b)
-max_whole d a b wa wb = elim (max_q_one a b) [
-  | inl e ↦ subst (Whole d) (sym e) wa
-  | inr e ↦ subst (Whole d) (sym e) wb
-]
 
 pub both_fit : (z : Sizes) (end : ℚ) (f g : SpecCurve) → AreSizes z end → IsNarrow z (2 ^ 122) → IsCurve f → IsCurve g → Stands z (curve_numbers end f) → Stands z (curve_numbers end g)
     → steady f ≤ℚ end → steady g ≤ℚ end → BothSteadyFit f g
 both_fit z end f g s n is_f is_g h k l m = record { first = one_later z end f s n is_f h l; second = one_later z end g s n is_g k m }
+
+-- ---- two curves have a period in common
+pub common_some : (f g : SpecCurve) → IsCurve f → IsCurve g → int (pos 0) <ℚ common_period f g
+common_some f g F G =
+    let end = int (pos 0) in
+    let z = sizes_of end (both_numbers end f g) in
+    let all : Stands z (both_numbers end f g) = sizes_stand end (both_numbers end f g) in
+    (both_on z end f g F G (stands_left z (curve_numbers end f) (curve_numbers end g) all) (stands_right z (curve_numbers end f) (curve_numbers end g) all)).above

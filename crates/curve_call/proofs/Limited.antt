@@ -14,6 +14,7 @@ use Rattle.upp_limits.specs.Gauges.{IsKnownAtOnce, gauge_over, gauge_at, tally_a
 use Rattle.upp_limits.specs.Outcome.{IsWithin, IsCauseOf}
 use Rattle.curve_call.specs.declared.frame.Frame.{Frame}
 use Rattle.curve_call.specs.Frames.{IsFrame, IsRefusedAt, IsWideOver}
+use Rattle.upp_limits.proofs.LeastNumbers.{least_unique}
 
 -- ---- over a window's end that is the call's
 pub refused_at : (op : OpKind) (f g : SpecCurve) (k m : ℕ) (end : ℚ) (e : OpFault) → end ≡ window_at op f g k m → IsWideOver op f g end e → IsRefusedAt op f g k m e
@@ -28,14 +29,6 @@ pub tally_many : (op : OpKind) (f g : SpecCurve) (k m n : ℕ) (end : ℚ) → e
 tally_many op f g k m n end e h l = subst (λ x. 2 ^ 20 < tally_over op f g x) e (omega arith)
 
 -- ---- least numbers are unique
-pub least_unique : (P : ℕ → Type 0) (i j : ℕ) → IsLeast P i → IsLeast P j → i ≡ j
-least_unique P i j h k = elim (cases_lt i j) [
-  | inl l ↦ absurd (k.least i l h.meets)
-  | inr l ↦ elim (cases_lt j i) [
-    | inl m ↦ absurd (h.least j m k.meets)
-    | inr m ↦ omega arith
-  ]
-]
 
 same_second : (op : OpKind) (f g : SpecCurve) (k i m j : ℕ) → k ≡ i → IsLeast (Reaches op f g k) m → IsLeast (Reaches op f g i) j → m ≡ j
 same_second op f g k i m j e h l = least_unique (Reaches op f g i) m j (subst (λ n. IsLeast (Reaches op f g n) m) e h) l

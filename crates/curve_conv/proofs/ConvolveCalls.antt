@@ -30,7 +30,6 @@ use Rattle.curve_call.specs.Frames.{IsFrame, IsRefusedAt, sizes_at}
 use Rattle.curve_call.proofs.CallTimes.{first_stands, second_stands, IsCall, start_on, period_on, window_is}
 use Rattle.curve_call.proofs.CallFits.{call_early}
 use Rattle.curve_call.proofs.CurveRises.{common_first, common_second}
-use Rattle.curve_call.proofs.CurveTimes.{steady_nonneg}
 use Rattle.curve_call.proofs.FirstGate.{first_gate, gauge_grows}
 use Rattle.curve_call.proofs.Limited.{refused_cause, frame_within, convolve_least, many_at_least}
 use Rattle.curve_least.proofs.Rises.{has_window}
@@ -42,6 +41,7 @@ use Rattle.curve_conv.specs.Scans.{sizes_in}
 use Rattle.curve_conv.specs.Late.{IsSlowerLate, IsSlowerAfter, IsSlowerNumber, IsSlowerMost, IsPartsCall}
 use Rattle.curve_conv.specs.ConvolveCall.{IsConvolveFrame}
 use Rattle.curve_conv.proofs.Tallies.{tally_grows}
+use Rattle.upp_curve.proofs.SteadyTimes.{steady_nonneg}
 
 -- ---- the call
 pub left_of : (x y : ℚ) → int (pos 0) ≤ℚ y → x ≤ℚ x +ℚ y

@@ -27,7 +27,7 @@ use Rattle.upp_limits.specs.Windows.{IsLeast}
 use Rattle.upp_limits.proofs.NarrowSizes.{small_sum}
 use Rattle.upp_curve.proofs.Steady.{steady_rule}
 use Rattle.curve_call.proofs.CurveRises.{IsRise, rise_is}
-use Rattle.curve_call.proofs.CurveTimes.{steady_nonneg, steady_whole}
+use Rattle.curve_call.proofs.CurveTimes.{steady_whole}
 use Rattle.curve_least.specs.Gaps.{InWindow, IsWithin, IsEndless, IsLargest}
 use Rattle.curve_least.proofs.LeastNumber.{gains, finite_less}
 use Rattle.curve_least.proofs.Shifts.{largest_bounds, endless_bounds, same_least, least_zero}
@@ -44,6 +44,7 @@ use Rattle.curve_conv.proofs.LateShifts.{AreParts, after_in, after_out, late_lat
 use Rattle.upp_normal.proofs.AnswerRoom.{wide_narrow}
 use Rattle.element_envelope.proofs.Members.{number_below}
 use Rattle.rational.proofs.Stretch.{next}
+use Rattle.upp_curve.proofs.SteadyTimes.{steady_nonneg}
 
 -- ---- times and rises
 pub record LateTimes (slow fast : SpecCurve) (from d end : ℚ) : Type 0 where

@@ -15,12 +15,13 @@ use Rattle.upp_curve.specs.Steady.{steady, rate}
 use Rattle.upp_normal.specs.Ahead.{HasWindow}
 use Rattle.upp_limits.proofs.SameSizes.{Equals, same_sizes, equals_self, equals_joined}
 use Rattle.curve_call.specs.Times.{OneLaterFits}
-use Rattle.curve_call.proofs.CurveTimes.{one_later, steady_nonneg}
+use Rattle.curve_call.proofs.CurveTimes.{one_later}
 use Rattle.curve_least.proofs.Shifts.{same_least, least_zero}
 use Rattle.curve_conv.specs.Scans.{sizes_in, IsScan}
 use Rattle.curve_conv.specs.Late.{IsLateAfter, IsLateNumber, IsLateCall, IsSlowerAfter, IsSlowerNumber, IsPartsCall}
 use Rattle.upp_normal.proofs.AnswerRoom.{wide_narrow}
 use Rattle.curve_least.proofs.EitherOrder.{apart}
+use Rattle.upp_curve.proofs.SteadyTimes.{steady_nonneg}
 
 -- ---- the sizes of both orders are one
 swapped : (a b c : Numbers) → Equals (joined a (joined b c)) (joined a (joined c b))

@@ -16,13 +16,13 @@ use Rattle.upp_normal.specs.Normalising.{HasValues}
 use Rattle.upp_limits.specs.Windows.{IsLateLeast}
 use Rattle.upp_curve.proofs.Steady.{steady_rule}
 use Rattle.curve_call.proofs.Answering.{answer_relation}
-use Rattle.curve_call.proofs.CurveTimes.{steady_nonneg}
 use Rattle.upp_normal.proofs.UnrollSteps.{ext_cases}
 use Rattle.curve_least.proofs.Rises.{rate_rise, rate_none, infinite_value}
 use Rattle.curve_conv.specs.Parts.{IsPart, FirstLate}
 use Rattle.curve_conv.specs.Late.{IsSlowerLate}
 use Rattle.curve_conv.proofs.Moves.{AreRising, late_moves, late_ever, late_only, alike_moves}
 use Rattle.curve_pointwise.proofs.LatticeAnswers.{same_rises}
+use Rattle.upp_curve.proofs.SteadyTimes.{steady_nonneg}
 
 -- ---- functions
 -- the splits of the two the other way round

@@ -46,7 +46,7 @@ use Rattle.curve_call.specs.Frames.{IsFrame, sizes_at}
 use Rattle.curve_call.specs.Times.{OneLaterFits}
 use Rattle.curve_call.proofs.Answering.{answer_relation}
 use Rattle.curve_call.proofs.CallTimes.{first_stands, second_stands}
-use Rattle.curve_call.proofs.CurveTimes.{IsPeriod, one_later, own_or_on, steady_nonneg, steady_whole}
+use Rattle.curve_call.proofs.CurveTimes.{IsPeriod, one_later, own_or_on, steady_whole}
 use Rattle.curve_call.proofs.CurveRises.{IsRise, rise_is, common_first, common_second}
 use Rattle.curve_call.proofs.FrameFacts.{frame_facts}
 use Rattle.curve_call.proofs.Operands.{unrolled_pieces}
@@ -54,6 +54,7 @@ use Rattle.curve_deconv.specs.DeconvolutionWindows.{OperandWindows, IsDeconvolut
 use Rattle.curve_deconv.proofs.MirroredRoom.{back_fits}
 use Rattle.curve_deconv.proofs.Reduced.{AreRepeating, reduced, moves}
 use Rattle.curve_deconv.proofs.Slower.{slower_rise, repeats_from}
+use Rattle.upp_curve.proofs.SteadyTimes.{steady_nonneg}
 
 -- ---- the times
 -- the period of f's answer: its own, and the common one where it has every period

@@ -34,11 +34,12 @@ use Rattle.upp_normal.proofs.NormaliseRoomy.{each_in, found_early}
 use Rattle.upp_limits.proofs.Stands.{sizes_stand, stands_left, stands_right}
 use Rattle.upp_normal.proofs.UnrolledPieces.{PieceStands, each_nonneg, each_with, pieces_stand, unroll_each, unroll_starts}
 use Rattle.upp_limits.proofs.PieceLists.{starts_nonneg}
-use Rattle.curve_call.proofs.CurveTimes.{steady_nonneg}
 use Rattle.curve_call.proofs.CurveRises.{common_first, common_second}
 use Rattle.curve_deconv.specs.DeconvolutionLaws.{IsDeconvolved, DeconvolutionKeeps, DeconvolutionIsFinite}
 use Rattle.curve_deconv.proofs.Reduced.{AreRepeating, early}
-use Rattle.curve_deconv.proofs.Slower.{slower_rise, repeats_from, common_some}
+use Rattle.curve_deconv.proofs.Slower.{slower_rise, repeats_from}
+use Rattle.upp_curve.proofs.SteadyTimes.{steady_nonneg}
+use Rattle.curve_call.proofs.CurveTimes.{common_some}
 
 -- ---- of any functions
 pub sub_le : (x y : Ext) (c : ℚ) → x ≤ₑ y → x -ₑ c ≤ₑ y -ₑ c

@@ -9,7 +9,7 @@ use Rattle.rational.specs.declared.Extended.TheVariants.{Fin, Inf}
 use Rattle.rational.proofs.Linear.{with2, with3, with4, with5, with6}
 use Rattle.rational.proofs.Laws.{le_or_lt, le_refl, le_trans, le_of_lt, mul_le_mul, mul_sub, mul_nonneg}
 use Rattle.rational.proofs.Integers.{nat_nonneg}
-use Rattle.rational.proofs.Quotients.{times_above}
+use Rattle.rational.proofs.Quotients.{times_above, past_each}
 use Rattle.rational.proofs.Whole.{periods_low, periods_high}
 use Rattle.rational.proofs.ExtendedOrder.{same_le_ext, fin_same}
 use Rattle.rational.proofs.Bounds.{infinite_member, unbounded, supremum_shift}
@@ -105,8 +105,6 @@ moves f g first d c t v F late D =
         ap (λ w. f w -ₑ u.level) e ∙ ap (λ x. x -ₑ u.level) (F.rule (t +ℚ at) l) ∙ rise_out (f (t +ℚ at)) c u.level
 
 -- ---- where the first gains with each period
-past_each : (x v a b y n : ℚ) → y -ℚ (x -ℚ v) <ℚ n *ℚ (a -ℚ b) → y <ℚ (x +ℚ n *ℚ a) -ℚ (v +ℚ n *ℚ b)
-past_each x v a b y n h = let e = mul_sub n a b in with6 x v y (n *ℚ a) (n *ℚ b) (n *ℚ (a -ℚ b)) (λ c. omega (arith, c.le, c.lt, c.same))
 
 pub gaining : (f g : ℚ → Ext) (from d a b t : ℚ) → int (pos 0) <ℚ d → int (pos 0) ≤ℚ from → Repeats f from d a → Repeats g from d b → IsFinite g → int (pos 0) ≤ℚ t
     → ((x : ℚ) → f (t +ℚ from) ≡ Fin x → int (pos 0) <ℚ a -ℚ b) → IsDeconvolution f g t Inf

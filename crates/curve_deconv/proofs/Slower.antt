@@ -19,12 +19,13 @@ use Rattle.upp_limits.specs.Gauges.{both_numbers}
 use Rattle.min_plus.specs.Convolution.{IsDeconvolution}
 use Rattle.upp_limits.proofs.Stands.{sizes_stand, stands_left, stands_right}
 use Rattle.upp_curve.proofs.Steady.{steady_rule}
-use Rattle.curve_call.proofs.CurveTimes.{both_on, steady_nonneg}
+use Rattle.curve_call.proofs.CurveTimes.{both_on, common_some}
 use Rattle.curve_call.proofs.CurveRises.{common_first, common_second}
 use Rattle.upp_normal.proofs.UnrollSteps.{ext_cases}
 use Rattle.curve_least.proofs.LeastNumber.{gains}
 use Rattle.curve_least.proofs.Rises.{rate_rise, infinite_value}
 use Rattle.curve_deconv.proofs.Reduced.{gaining}
+use Rattle.upp_curve.proofs.SteadyTimes.{steady_nonneg}
 
 no_rate : (g : SpecCurve) → IsCurve g → IsFinite (value_at g) → rate g ≡ Inf → ⊥
 no_rate g G finite e =
@@ -47,13 +48,6 @@ slower_rise f g d G some finite slow = elim (ext_cases (rate g)) [
 -- a curve repeats from any time after it begins to
 pub repeats_from : (c : SpecCurve) (from d : ℚ) → IsCurve c → int (pos 0) <ℚ d → IsWholePeriods c.tail d → steady c ≤ℚ from → Repeats (value_at c) from d (rise_over c d)
 repeats_from c from d C some periods by = record { rule = λ t h. (steady_rule c d C.normal.raw periods (le_of_lt some)).rule t (le_trans by h) }
-
-pub common_some : (f g : SpecCurve) → IsCurve f → IsCurve g → int (pos 0) <ℚ common_period f g
-common_some f g F G =
-    let end = int (pos 0) in
-    let z = sizes_of end (both_numbers end f g) in
-    let all : Stands z (both_numbers end f g) = sizes_stand end (both_numbers end f g) in
-    (both_on z end f g F G (stands_left z (curve_numbers end f) (curve_numbers end g) all) (stands_right z (curve_numbers end f) (curve_numbers end g) all)).above
 
 pub faster_deconvolves : (f g : SpecCurve) (t : ℚ) → IsCurve f → IsCurve g → IsFinite (value_at g) → rate g <ₑ rate f → int (pos 0) ≤ℚ t → IsDeconvolution (value_at f) (value_at g) t Inf
 faster_deconvolves f g t F G finite faster low =

@@ -12,6 +12,7 @@ use Rattle.affine_segment.specs.declared.line.Line.{Line}
 use Rattle.affine_segment.specs.Values.{line_at}
 use Rattle.curve_deviation.specs.declared.cells.Cell.{Cell}
 use Rattle.curve_deviation.specs.Cells.{RisingCell, IsCellLag}
+use Rattle.affine_segment.proofs.LineValues.{value_later, value_rises, value_moved}
 
 -- ---- times between
 pub after_both : (lo w hi : ℚ) → lo <ℚ hi → w <ℚ hi → (m : ℚ) × (lo <ℚ m) × (w <ℚ m) × (m <ℚ hi)
@@ -34,8 +35,6 @@ before_gap : (z s u : ℚ) → s <ℚ u -ℚ z → z <ℚ u -ℚ s
 before_gap z s u h = with3 z s u (λ c. omega (arith, c.le, c.lt, c.same))
 
 -- ---- a line that does not fall
-pub rises : (l : Line) (s u : ℚ) → int (pos 0) ≤ℚ l.slope → s ≤ℚ u → line_at l s ≤ℚ line_at l u
-rises l s u h k = line_rises l.icept l.slope s u h k
 
 pub rises_more : (l : Line) (s u : ℚ) → int (pos 0) <ℚ l.slope → s <ℚ u → line_at l s <ℚ line_at l u
 rises_more l s u h k =
@@ -45,20 +44,13 @@ rises_more l s u h k =
     let q = l.slope *ℚ u in
     with3 i p q (λ c. omega (arith, c.le, c.lt, c.same))
 
--- higher is later
-pub later : (l : Line) (s u : ℚ) → int (pos 0) ≤ℚ l.slope → line_at l s <ℚ line_at l u → s <ℚ u
-later l s u h k = elim (le_or_lt u s) [
-  | inl m ↦ absurd (lt_irrefl (line_at l s) (lt_le_trans k (rises l u s h m)))
-  | inr m ↦ m
-]
-
 not_earlier : (l : Line) (s u : ℚ) → int (pos 0) <ℚ l.slope → line_at l s ≤ℚ line_at l u → s ≤ℚ u
 not_earlier l s u h k = elim (le_or_lt s u) [
   | inl m ↦ m
   | inr m ↦ absurd (lt_irrefl (line_at l s) (le_lt_trans k (rises_more l u s h m)))
 ]
 
--- a line that gets higher rises
+-- a line that gets higher value_rises
 pub gets_higher : (l : Line) (s u : ℚ) → int (pos 0) ≤ℚ l.slope → line_at l s <ℚ line_at l u → int (pos 0) <ℚ l.slope
 gets_higher l s u h k = elim (le_or_lt l.slope (int (pos 0))) [
   | inl m ↦
@@ -73,10 +65,7 @@ gets_higher l s u h k = elim (le_or_lt l.slope (int (pos 0))) [
     level : (r s u : ℚ) → r ≡ int (pos 0) → r *ℚ s ≡ r *ℚ u
     level r s u e = ap (λ x. x *ℚ s) e ∙ with2 s u (λ c. omega (arith, c.le, c.lt, c.same)) ∙ ap (λ x. x *ℚ u) (sym e)
 
-moved : (l : Line) (s d : ℚ) → line_at l (s +ℚ d) ≡ line_at l s +ℚ l.slope *ℚ d
-moved l s d = line_moved l.icept l.slope s d
-
--- ---- both times as much later, or as much earlier
+-- ---- both times as much value_later, or as much earlier
 slide_on : (k l : Line) (s u d v w : ℚ) → l.slope ≤ℚ k.slope → int (pos 0) ≤ℚ d → line_at l u <ℚ line_at k s → v ≡ s +ℚ d → w ≡ u +ℚ d → line_at l w <ℚ line_at k v
 slide_on k l s u d v w steep some below e f =
     let m = mul_le_mul_right d some steep in
@@ -85,7 +74,7 @@ slide_on k l s u d v w steep some below e f =
     let p = l.slope *ℚ d in
     let q = k.slope *ℚ d in
     let far : b +ℚ p <ℚ a +ℚ q = add a b p q below m in
-    subst (λ x. line_at l w <ℚ x) (sym (ap (line_at k) e ∙ moved k s d)) (subst (λ x. x <ℚ a +ℚ q) (sym (ap (line_at l) f ∙ moved l u d)) far)
+    subst (λ x. line_at l w <ℚ x) (sym (ap (line_at k) e ∙ value_moved k s d)) (subst (λ x. x <ℚ a +ℚ q) (sym (ap (line_at l) f ∙ value_moved l u d)) far)
   where
     add : (a b p q : ℚ) → b <ℚ a → p ≤ℚ q → b +ℚ p <ℚ a +ℚ q
     add a b p q h k = with4 a b p q (λ c. omega (arith, c.le, c.lt, c.same))
@@ -97,15 +86,15 @@ slide_back k l s u d v w gentle some below e f =
     let b = line_at l w in
     let p = l.slope *ℚ d in
     let q = k.slope *ℚ d in
-    let near : b +ℚ p <ℚ a +ℚ q = subst (λ x. b +ℚ p <ℚ x) (ap (line_at k) e ∙ moved k v d) (subst (λ x. x <ℚ line_at k s) (ap (line_at l) f ∙ moved l w d) below) in
+    let near : b +ℚ p <ℚ a +ℚ q = subst (λ x. b +ℚ p <ℚ x) (ap (line_at k) e ∙ value_moved k v d) (subst (λ x. x <ℚ line_at k s) (ap (line_at l) f ∙ value_moved l w d) below) in
     take a b p q near m
   where
     take : (a b p q : ℚ) → b +ℚ p <ℚ a +ℚ q → q ≤ℚ p → b <ℚ a
     take a b p q h k = with4 a b p q (λ c. omega (arith, c.le, c.lt, c.same))
 
--- the second's line, as much later as the gap takes, is as high as the first
+-- the second's line, as much value_later as the gap takes, is as high as the first
 reached : (k l : Line) (t q : ℚ) → q *ℚ l.slope ≡ line_at k t -ℚ line_at l t → line_at l (t +ℚ q) ≡ line_at k t
-reached k l t q e = moved l t q ∙ ap (λ x. line_at l t +ℚ x) (mul_comm l.slope q ∙ e) ∙ close (line_at l t) (line_at k t)
+reached k l t q e = value_moved l t q ∙ ap (λ x. line_at l t +ℚ x) (mul_comm l.slope q ∙ e) ∙ close (line_at l t) (line_at k t)
   where
     close : (a b : ℚ) → a +ℚ (b -ℚ a) ≡ b
     close a b = with2 a b (λ c. omega (arith, c.le, c.lt, c.same))
@@ -116,7 +105,7 @@ left k l t q e =
     let a = line_at k (t -ℚ q) in
     let b = line_at k t in
     let g = k.slope *ℚ q in
-    close a b g (line_at l t) (sym (moved k (t -ℚ q) q) ∙ ap (line_at k) (with2 t q (λ c. omega (arith, c.le, c.lt, c.same)))) (mul_comm k.slope q ∙ e)
+    close a b g (line_at l t) (sym (value_moved k (t -ℚ q) q) ∙ ap (line_at k) (with2 t q (λ c. omega (arith, c.le, c.lt, c.same)))) (mul_comm k.slope q ∙ e)
   where
     close : (a b g v : ℚ) → a +ℚ g ≡ b → g ≡ b -ℚ v → a ≡ v
     close a b g v h k = with4 a b g v (λ c. omega (arith, c.le, c.lt, c.same))
@@ -137,7 +126,7 @@ apart_lag c R below = record {
         end = s_end;
         from = u_past;
         until = u_end;
-        below = le_lt_trans (rises c.second u c.until R.second (le_of_lt u_end)) (lt_le_trans below (rises c.first c.start s R.first (le_of_lt s_past)));
+        below = le_lt_trans (value_rises c.second u c.until R.second (le_of_lt u_end)) (lt_le_trans below (value_rises c.first c.start s R.first (le_of_lt s_past)));
         more = apart z s u u_near;
       };
 }
@@ -157,11 +146,11 @@ passing_lag c q R low steep high e =
           let h = b.until in
           let on : line_at c.second y <ℚ line_at k (y -ℚ (u -ℚ s)) = slide_on k c.second s u d (y -ℚ (u -ℚ s)) y (le_of_lt steep) (with2 y u (λ c. omega (arith, c.le, c.lt, c.same))) b.below
           (with3 y u s (λ c. omega (arith, c.le, c.lt, c.same))) (with2 y u (λ c. omega (arith, c.le, c.lt, c.same))) in
-          let l = later k (y -ℚ q) (y -ℚ (u -ℚ s)) R.first (subst (λ x. x <ℚ line_at k (y -ℚ (u -ℚ s))) (sym is) on) in
+          let l = value_later k (y -ℚ q) (y -ℚ (u -ℚ s)) R.first (subst (λ x. x <ℚ line_at k (y -ℚ (u -ℚ s))) (sym is) on) in
           inl (with4 y q u s (λ c. omega (arith, c.le, c.lt, c.same)));
       near = λ z l.
           let first = not_earlier k c.start (y -ℚ q) some (subst (λ x. line_at k c.start ≤ℚ x) (sym is) low) in
-          let last = later k (y -ℚ q) c.end R.first (subst (λ x. x <ℚ line_at k c.end) (sym is) high) in
+          let last = value_later k (y -ℚ q) c.end R.first (subst (λ x. x <ℚ line_at k c.end) (sym is) high) in
           let (s, s_past, s_end, s_near) = before_both (y -ℚ q) c.end (y -ℚ z) last (with3 y q z (λ c. omega (arith, c.le, c.lt, c.same))) in
           let (u, u_past, u_near, u_end) = after_both c.from (z +ℚ s) c.until R.from (with3 y s z (λ c. omega (arith, c.le, c.lt, c.same))) in
           inr record {
@@ -171,7 +160,7 @@ passing_lag c q R low steep high e =
             end = s_end;
             from = u_past;
             until = u_end;
-            below = le_lt_trans (rises c.second u c.until R.second (le_of_lt u_end)) (subst (λ x. x <ℚ line_at k s) is (rises_more k (y -ℚ q) s some s_past));
+            below = le_lt_trans (value_rises c.second u c.until R.second (le_of_lt u_end)) (subst (λ x. x <ℚ line_at k s) is (rises_more k (y -ℚ q) s some s_past));
             more = apart z s u u_near;
           };
     }
@@ -186,14 +175,14 @@ ending_lag c q R steep low high e =
     let some : int (pos 0) <ℚ l.slope = gets_higher l c.from c.until R.second (lt_le_trans high low) in
     let is : line_at l (t +ℚ q) ≡ line_at k t = reached k l t q e in
     let last : t +ℚ q ≤ℚ c.until = not_earlier l (t +ℚ q) c.until some (subst (λ x. x ≤ℚ line_at l c.until) (sym is) low) in
-    let first : c.from <ℚ t +ℚ q = later l c.from (t +ℚ q) R.second (subst (λ x. line_at l c.from <ℚ x) (sym is) high) in
+    let first : c.from <ℚ t +ℚ q = value_later l c.from (t +ℚ q) R.second (subst (λ x. line_at l c.from <ℚ x) (sym is) high) in
     record {
       most = λ s u b.
           let d = t -ℚ s in
           let h = b.end in
           let on : line_at l (t +ℚ (u -ℚ s)) <ℚ line_at k t = slide_on k l s u d t (t +ℚ (u -ℚ s)) (le_of_lt steep) (with2 t s (λ c. omega (arith, c.le, c.lt, c.same))) b.below
           (with2 t s (λ c. omega (arith, c.le, c.lt, c.same))) (with3 t s u (λ c. omega (arith, c.le, c.lt, c.same))) in
-          let m = later l (t +ℚ (u -ℚ s)) (t +ℚ q) R.second (subst (λ x. line_at l (t +ℚ (u -ℚ s)) <ℚ x) (sym is) on) in
+          let m = value_later l (t +ℚ (u -ℚ s)) (t +ℚ q) R.second (subst (λ x. line_at l (t +ℚ (u -ℚ s)) <ℚ x) (sym is) on) in
           inl (with4 t q u s (λ c. omega (arith, c.le, c.lt, c.same)));
       near = λ z h.
           let (u, u_past, u_near, u_end) = after_both c.from (z +ℚ t) (t +ℚ q) first (with3 z t q (λ c. omega (arith, c.le, c.lt, c.same))) in
@@ -217,8 +206,8 @@ ending_lag c q R steep low high e =
 pub under_lag : (c : Cell) → RisingCell c → line_at c.first c.end ≤ℚ line_at c.second c.from → IsCellLag c (int (pos 0))
 under_lag c R low = record {
   most = λ s u b.
-      let up = rises c.second c.from u R.second (le_of_lt b.from) in
-      let down = rises c.first s c.end R.first (le_of_lt b.end) in
+      let up = value_rises c.second c.from u R.second (le_of_lt b.from) in
+      let down = value_rises c.first s c.end R.first (le_of_lt b.end) in
       absurd (lt_irrefl (line_at c.second u) (lt_le_trans b.below (le_trans down (le_trans low up))));
   near = λ z l. inl l;
 }
@@ -234,14 +223,14 @@ starting_lag c q R gentle low high e =
     let some : int (pos 0) <ℚ l.slope = gets_higher l c.from c.until R.second (lt_le_trans high low) in
     let is : line_at l (t +ℚ q) ≡ line_at k t = reached k l t q e in
     let last : t +ℚ q ≤ℚ c.until = not_earlier l (t +ℚ q) c.until some (subst (λ x. x ≤ℚ line_at l c.until) (sym is) low) in
-    let first : c.from <ℚ t +ℚ q = later l c.from (t +ℚ q) R.second (subst (λ x. line_at l c.from <ℚ x) (sym is) high) in
+    let first : c.from <ℚ t +ℚ q = value_later l c.from (t +ℚ q) R.second (subst (λ x. line_at l c.from <ℚ x) (sym is) high) in
     record {
       most = λ s u b.
           let d = s -ℚ t in
           let h = b.start in
           let on : line_at l (t +ℚ (u -ℚ s)) <ℚ line_at k t = slide_back k l s u d t (t +ℚ (u -ℚ s)) gentle (with2 t s (λ c. omega (arith, c.le, c.lt, c.same))) b.below
           (with2 t s (λ c. omega (arith, c.le, c.lt, c.same))) (with3 t s u (λ c. omega (arith, c.le, c.lt, c.same))) in
-          let m = later l (t +ℚ (u -ℚ s)) (t +ℚ q) R.second (subst (λ x. line_at l (t +ℚ (u -ℚ s)) <ℚ x) (sym is) on) in
+          let m = value_later l (t +ℚ (u -ℚ s)) (t +ℚ q) R.second (subst (λ x. line_at l (t +ℚ (u -ℚ s)) <ℚ x) (sym is) on) in
           inl (with4 t q u s (λ c. omega (arith, c.le, c.lt, c.same)));
       near = λ z h.
           let (u, u_past, u_near, u_end) = after_both c.from (z +ℚ t) (t +ℚ q) first (with3 z t q (λ c. omega (arith, c.le, c.lt, c.same))) in
@@ -254,7 +243,7 @@ starting_lag c q R gentle low high e =
             end = s_end;
             from = u_past;
             until = lt_le_trans u_end last;
-            below = lt_le_trans under (rises k t s R.first (le_of_lt s_past));
+            below = lt_le_trans under (value_rises k t s R.first (le_of_lt s_past));
             more = before_gap z s u s_near;
           };
     }
@@ -272,7 +261,7 @@ owed_lag c R gentle low = record {
       let back : line_at c.second x <ℚ line_at c.first v = slide_back c.first c.second s u d v x gentle (with2 u x (λ c. omega (arith, c.le, c.lt, c.same))) b.below
       (with3 u x s (λ c. omega (arith, c.le, c.lt, c.same))) (with2 u x (λ c. omega (arith, c.le, c.lt, c.same))) in
       inr record {
-        start = later c.first c.start v R.first (le_lt_trans low back);
+        start = value_later c.first c.start v R.first (le_lt_trans low back);
         end = with4 u x s e (λ c. omega (arith, c.le, c.lt, c.same));
         below = back;
       };

@@ -37,21 +37,22 @@ use Rattle.upp_normal.proofs.StretchSizes.{span_line, grid_value, times_stand}
 use Rattle.upp_normal.proofs.StretchValues.{with_pieces}
 use Rattle.upp_normal.proofs.AnswerRoom.{operand_line_fits, operand_line_value, stands_operand_value}
 use Rattle.curve_deviation.specs.declared.parts.Part.{Part}
-use Rattle.curve_deviation.specs.Parts.{IsSeen, GoesTo, PartStands, IsEarlyBy, until_of}
+use Rattle.curve_deviation.specs.Parts.{IsSeen, GoesTo, PartStands, IsEarlyBy}
 use Rattle.affine_segment.proofs.Lower.{left_low}
 use Rattle.upp_normal.proofs.NormaliseRoomy.{found_early}
 use Rattle.curve_least.proofs.GapWalk.{earlier_high, earlier_past}
+use Rattle.curve_least.specs.GapSteps.{earlier_of}
 
 -- ---- the earlier of two times
 pub earlier_right : (a b : ℚ) → b <ℚ a → b ≡ min_q a b
 earlier_right a b h = sym (min_q_right a b h)
 
-until_next : (u end : ℚ) (next : Option ℚ) → u <ℚ until_of end next → IsBeforeNext u next
+until_next : (u end : ℚ) (next : Option ℚ) → u <ℚ earlier_of end next → IsBeforeNext u next
 until_next u end None h = tt
 until_next u end (Some e) h = lt_le_trans h (min_q_le_right end e)
 
 -- a time that stands where it is before the end
-until_whole : (P : ℚ → Type 0) (end : ℚ) (next : Option ℚ) → P end → AtNext (λ x. x <ℚ end → P x) next → P (until_of end next)
+until_whole : (P : ℚ → Type 0) (end : ℚ) (next : Option ℚ) → P end → AtNext (λ x. x <ℚ end → P x) next → P (earlier_of end next)
 until_whole P end None h k = h
 until_whole P end (Some e) h k = elim (le_or_lt end e) [
   | inl l ↦ subst P (left_low end e l) h
@@ -98,7 +99,7 @@ pub record EarlyHere (z : Sizes) (end : ℚ) (c : SpecCurve) (t : ℚ) : Type 0 
   pub fits : ReadFits c.pieces t
   pub line : OperandLineAt z (line_in c.pieces t)
   pub at : GridValue z (read c.pieces t)
-  pub next : Whole z.dt (until_of end (next_in c.pieces t None))
+  pub next : Whole z.dt (earlier_of end (next_in c.pieces t None))
 
 early_of : (z : Sizes) (end t : ℚ) (p : Piece) (ps : List Piece) (next : Option ℚ) → AreLimited z end → IsTimeIn z end t → StartsAtZero (p ∷ ps)
     → SpanStands z record { piece = piece_in p ps t; next = next } → ReadFits (p ∷ ps) t × OperandLineAt z (line_in (p ∷ ps) t) × GridValue z (read (p ∷ ps) t)
@@ -138,20 +139,20 @@ early_here z end c t S time =
     })
 
 pub early_goes : (c : SpecCurve) (t end : ℚ) (p : Part) → IsCurve c → IsFinite (value_at c) → IsEarlyBy end c.tail → int (pos 0) ≤ℚ t → t <ℚ end → p.at ≡ read c.pieces t → p.line ≡ line_in c.pieces t
-    → p.until ≡ until_of end (next_in c.pieces t None) → GoesTo (value_at c) t end p
+    → p.until ≡ earlier_of end (next_in c.pieces t None) → GoesTo (value_at c) t end p
 early_goes c t end p curve finite early some before at line until =
     let next = next_in c.pieces t None in
     record {
       at = at ∙ sym (value_early c end t curve finite early before);
       line = λ u l k.
-          let m : u <ℚ until_of end next = subst (λ x. u <ℚ x) until k in
+          let m : u <ℚ earlier_of end next = subst (λ x. u <ℚ x) until k in
           value_early c end u curve finite early (lt_le_trans m (earlier_high end next)) ∙ reads_on c.pieces t u None curve.normal.raw.starts some l (until_next u end next m) ∙ sym (ap (λ m. line_value m u) line);
       past = subst (λ x. t <ℚ x) (sym until) (earlier_past t end next before (next_past c.pieces t None tt));
       high = subst (λ x. x ≤ℚ end) (sym until) (earlier_high end next);
     }
 
 pub early_stands : (z : Sizes) (end : ℚ) (c : SpecCurve) (t : ℚ) (p : Part) → IsSeen z end c → IsTimeIn z end t → p.at ≡ read c.pieces t → p.line ≡ line_in c.pieces t
-    → p.until ≡ until_of end (next_in c.pieces t None) → PartStands z p
+    → p.until ≡ earlier_of end (next_in c.pieces t None) → PartStands z p
 early_stands z end c t p S time at line until =
     let here = early_here z end c t S time in
     record { at = subst (GridValue z) (sym at) here.at; line = subst (OperandLineAt z) (sym line) here.line; until = subst (Whole z.dt) (sym until) here.next }
@@ -160,7 +161,7 @@ early_stands z end c t p S time at line until =
 pub seen_window : (z : Sizes) (end : ℚ) (c : SpecCurve) → IsSeen z end c → IsOverBy end c.tail → HasWindow z end c
 seen_window z end c S over = record { curve = S.curve; limited = S.limited; stands = S.stands; over = over }
 
-pub late_goes : (f : ℚ → Ext) (t end : ℚ) (s : Stretch) (p : Part) → t <ℚ end → GoesOn f t s → p.at ≡ s.at → p.line ≡ s.line → p.until ≡ until_of end s.next → GoesTo f t end p
+pub late_goes : (f : ℚ → Ext) (t end : ℚ) (s : Stretch) (p : Part) → t <ℚ end → GoesOn f t s → p.at ≡ s.at → p.line ≡ s.line → p.until ≡ earlier_of end s.next → GoesTo f t end p
 late_goes f t end s p before goes at line until = record {
   at = at ∙ goes.at;
   line = λ u l k. goes.line u l (until_next u end s.next (subst (λ x. u <ℚ x) until k)) ∙ sym (ap (λ m. line_value m u) line);
@@ -170,7 +171,7 @@ late_goes f t end s p before goes at line until = record {
 
 pub late_stands : (z : Sizes) (end t : ℚ) (c : SpecCurve) (s : Stretch) (p : Part) → IsSeen z end c → IsOverBy end c.tail → IsTimeIn z end t
     → ((d : ℕ) → TimesStand d c → AtNext (Whole d) s.next) → (HasWindow z end c → IsTimeIn z end t → OperandLineAt z s.line × GridValue z s.at)
-    → p.at ≡ s.at → p.line ≡ s.line → p.until ≡ until_of end s.next → PartStands z p
+    → p.at ≡ s.at → p.line ≡ s.line → p.until ≡ earlier_of end s.next → PartStands z p
 late_stands z end t c s p S over time times sizes at line until =
     let W = seen_window z end c S over in
     let found = sizes W time in
@@ -219,5 +220,5 @@ pub line_found : (ps : List Piece) (t : ℚ) (found : Piece) → StartsAtZero ps
 line_found [] t found starts is = absurd starts
 line_found (p ∷ ps) t found starts is = ap (λ q. q.line) (is p ps refl)
 
-pub as_until : (qs ps : List Piece) (t end until : ℚ) → qs ≡ ps → until ≡ until_of end (next_in qs t None) → until ≡ until_of end (next_in ps t None)
-as_until qs ps t end until e f = f ∙ ap (λ rs. until_of end (next_in rs t None)) e
+pub as_until : (qs ps : List Piece) (t end until : ℚ) → qs ≡ ps → until ≡ earlier_of end (next_in qs t None) → until ≡ earlier_of end (next_in ps t None)
+as_until qs ps t end until e f = f ∙ ap (λ rs. earlier_of end (next_in rs t None)) e

@@ -1,4 +1,4 @@
--- The first time from a start on at which a finite curve that rises reaches a level: it is found among the curve's pieces, or there is none.
+-- The first time from a start on at which a finite curve that value_rises reaches a level: it is found among the curve's pieces, or there is none.
 use Rattle.std.specs.Prelude.{◌≡◌, pos, List, [], ◌∷◌, Option, Some, None, ◌⊎◌}
 use Rattle.std.proofs.Common.{arith, sym, ap, ◌∙◌, refl, subst, inl, inr}
 use Rattle.rational.specs.Rational.{ℚ, ◌+ℚ◌, ◌-ℚ◌, ◌*ℚ◌, ◌/ℚ◌, ◌≤ℚ◌, ◌<ℚ◌, int}
@@ -29,8 +29,9 @@ use Rattle.upp_normal.proofs.Below.{unroll_reads}
 use Rattle.upp_normal.proofs.UnrolledPieces.{unroll_starts}
 use Rattle.curve_least.proofs.Shifts.{later_value}
 use Rattle.curve_deviation.specs.Rises.{RisesOn}
-use Rattle.curve_deviation.proofs.CellLag.{rises, rises_more, later, gets_higher, before_both}
+use Rattle.curve_deviation.proofs.CellLag.{rises_more, gets_higher, before_both}
 use Rattle.curve_deviation.proofs.RisingParts.{rises_on}
+use Rattle.affine_segment.proofs.LineValues.{value_later, value_rises}
 
 -- x is the first time from t on at which g has reached v, or the limit of such times
 pub record IsReached (g : ℚ → Ext) (v t x : ℚ) : Type 0 where
@@ -50,7 +51,7 @@ at_once g v t h = record {
 }
 
 -- ---- on one stretch
--- the time at which a line that rises has a value
+-- the time at which a line that value_rises has a value
 level_time : (l : Line) (t v : ℚ) → int (pos 0) <ℚ l.slope → (x : ℚ) × (line_at l x ≡ v)
 level_time l t v some =
     let q = (v -ℚ line_at l t) /ℚ l.slope in
@@ -68,13 +69,13 @@ on_line g l v t e R low high = elim (le_or_lt v (line_at l t)) [
       before = λ u a b. absurd (lt_irrefl t (le_lt_trans a b));
       near = λ y k.
           let (u, a, b, d) = before_both t e y R.some k in
-          (u, le_of_lt a, d, subst (λ w. Fin v ≤ₑ w) (sym (R.inside u a b)) (le_trans h (rises l t u R.slope (le_of_lt a))));
+          (u, le_of_lt a, d, subst (λ w. Fin v ≤ₑ w) (sym (R.inside u a b)) (le_trans h (value_rises l t u R.slope (le_of_lt a))));
     },
   )
   | inr h ↦
       let some : int (pos 0) <ℚ l.slope = gets_higher l t e R.slope (lt_le_trans h high) in
       let (x, is) = level_time l t v some in
-      let past : t <ℚ x = later l t x R.slope (subst (λ w. line_at l t <ℚ w) (sym is) h) in (
+      let past : t <ℚ x = value_later l t x R.slope (subst (λ w. line_at l t <ℚ w) (sym is) h) in (
         x,
         record {
           low = le_of_lt past;
@@ -92,7 +93,7 @@ on_line g l v t e R low high = elim (le_or_lt v (line_at l t)) [
   where
     -- before the line has the value, the stretch goes on
     inner : (x u : ℚ) → int (pos 0) <ℚ l.slope → line_at l x ≡ v → u <ℚ x → u <ℚ e
-    inner x u some is b = later l u e R.slope (lt_le_trans (subst (λ w. line_at l u <ℚ w) is (rises_more l u x some b)) high)
+    inner x u some is b = value_later l u e R.slope (lt_le_trans (subst (λ w. line_at l u <ℚ w) is (rises_more l u x some b)) high)
 
 pub on_stretch : (g : ℚ → Ext) (l : Line) (v t e : ℚ) → RisesOn g l t e → v ≤ℚ line_at l e → (x : ℚ) × IsReached g v t x
 on_stretch g l v t e R high = elim (le_or_lt_ext (Fin v) (g t)) [
@@ -106,9 +107,9 @@ within g l v t e X R up some low early h =
     let (u, a, b) = between X e early in
     let past = le_lt_trans low a in
     let far : Fin v ≤ₑ g u = le_ext_trans (Fin v) (g X) (g u) h (up X u (le_trans some low) (le_of_lt a)) in
-    le_trans (subst (λ w. Fin v ≤ₑ w) (R.inside u past b) far) (rises l u e R.slope (le_of_lt b))
+    le_trans (subst (λ w. Fin v ≤ₑ w) (R.inside u past b) far) (value_rises l u e R.slope (le_of_lt b))
 
--- the times before a later start are below too
+-- the times before a value_later start are below too
 sooner : (g : ℚ → Ext) (v t s x : ℚ) → t ≤ℚ s → ((u : ℚ) → t ≤ℚ u → u <ℚ s → g u <ₑ Fin v) → IsReached g v s x → IsReached g v t x
 sooner g v t s x h low R = record {
   low = le_trans h R.low;
@@ -164,8 +165,8 @@ among g p (q ∷ qs) v t X end finite up some low rising is h early reach = elim
   where
     under : (l : Line) (u : ℚ) → t <ℚ q.x → t ≤ℚ u → u <ℚ q.x → RisesOn g l t q.x → line_at l q.x <ℚ v → g u <ₑ Fin v
     under l u k a b R n = elim (le_or_lt u t) [
-      | inl e ↦ subst (λ w. g w <ₑ Fin v) (antisym (a, e)) (le_lt_ext (g t) (Fin (line_at l t)) (Fin v) R.start (le_lt_trans (rises l t q.x R.slope (le_of_lt k)) n))
-      | inr e ↦ subst (λ w. w <ₑ Fin v) (sym (R.inside u e b)) (le_lt_trans (rises l u q.x R.slope (le_of_lt b)) n)
+      | inl e ↦ subst (λ w. g w <ₑ Fin v) (antisym (a, e)) (le_lt_ext (g t) (Fin (line_at l t)) (Fin v) R.start (le_lt_trans (value_rises l t q.x R.slope (le_of_lt k)) n))
+      | inr e ↦ subst (λ w. w <ₑ Fin v) (sym (R.inside u e b)) (le_lt_trans (value_rises l u q.x R.slope (le_of_lt b)) n)
     ]
 
 -- ---- a curve
@@ -181,7 +182,7 @@ by_then c v t X curve finite up some h reach =
     by_list (p ∷ ps) starts is early =
         among (value_at c) p ps v t X (X +ℚ int (pos 1)) finite up some (subst (λ x. x ≤ℚ t) (sym starts.0) some) starts.1 (λ u a b. is u a b ∙ read_is p ps u) h early reach
 
--- it is reached, or never will be: past the time from which on the curve repeats it rises by the same for each period
+-- it is reached, or never will be: past the time from which on the curve repeats it value_rises by the same for each period
 pub reached_or : (c : SpecCurve) (from d b v t : ℚ) → IsCurve c → IsFinite (value_at c) → IsRising (value_at c) → int (pos 0) <ℚ d → int (pos 0) ≤ℚ from → Repeats (value_at c) from d b → int (pos 0) ≤ℚ t
     → ((x : ℚ) × IsReached (value_at c) v t x) ⊎ StaysBelow (value_at c) v t
 reached_or c from d b v t curve finite up some low R nonneg =
@@ -204,9 +205,9 @@ reached_or c from d b v t curve finite up some low R nonneg =
             let N = int (pos n) in
             let y = N *ℚ d in
             let is : value_at c (late +ℚ y) ≡ Fin (w +ℚ N *ℚ b) = later_value (value_at c) from d b late n (le_of_lt some) R a ∙ ap (λ x. x +ₑ Fin (N *ℚ b)) e in
-            let rises : value_at c u ≤ₑ value_at c (late +ℚ y) = up u (late +ℚ y) (le_trans nonneg g) (with3 u late y (λ c. omega (arith, c.le, c.lt, c.same))) in
+            let value_rises : value_at c u ≤ₑ value_at c (late +ℚ y) = up u (late +ℚ y) (le_trans nonneg g) (with3 u late y (λ c. omega (arith, c.le, c.lt, c.same))) in
             let flat : N *ℚ b ≤ℚ N *ℚ int (pos 0) = mul_le_mul N (nat_nonneg n) level in
-            le_lt_ext (value_at c u) (value_at c (late +ℚ y)) (Fin v) rises (subst (λ x. x <ₑ Fin v) (sym is) (below v w (N *ℚ b) (N *ℚ int (pos 0)) (mul_zero N) flat (subst (λ x. x <ₑ Fin v) e k))))
+            le_lt_ext (value_at c u) (value_at c (late +ℚ y)) (Fin v) value_rises (subst (λ x. x <ₑ Fin v) (sym is) (below v w (N *ℚ b) (N *ℚ int (pos 0)) (mul_zero N) flat (subst (λ x. x <ₑ Fin v) e k))))
       ]
     ]
   where

@@ -20,7 +20,6 @@ use Rattle.upp_limits.specs.Gauges.{IsKnownAtOnce, numbers_over}
 use Rattle.min_plus.specs.Deviations.{IsHorizontalDeviation}
 use Rattle.curve_call.specs.declared.frame.Frame.{Frame}
 use Rattle.curve_call.specs.Frames.{IsFrame, sizes_at}
-use Rattle.curve_call.proofs.CurveTimes.{steady_nonneg}
 use Rattle.rational.proofs.Grid.{whole_add, whole_times}
 use Rattle.upp_normal.proofs.UnrollSteps.{ext_cases}
 use Rattle.curve_least.proofs.Rises.{rate_rise, infinite_value}
@@ -28,11 +27,13 @@ use Rattle.curve_deviation.specs.Parts.{IsSeen}
 use Rattle.curve_deviation.specs.Lags.{IsLongestLag}
 use Rattle.curve_deviation.specs.declared.horizontals.Periods.{Periods}
 use Rattle.curve_deviation.specs.Stages.{AreFinite, settled, AreFound}
-use Rattle.curve_deviation.proofs.KnownLags.{common_above, first_repeats, second_repeats, reaches}
+use Rattle.curve_deviation.proofs.KnownLags.{first_repeats, second_repeats, reaches}
 use Rattle.curve_deviation.proofs.Lagging.{Always, longest_is}
 use Rattle.curve_deviation.proofs.LateLags.{constant_late, rising_late}
 use Rattle.curve_deviation.proofs.PeriodsFound.{found_least}
 use Rattle.curve_deviation.proofs.WindowTimes.{WindowTimes, times_at, periods_low, settled_is}
+use Rattle.upp_curve.proofs.SteadyTimes.{steady_nonneg}
+use Rattle.curve_call.proofs.CurveTimes.{common_some}
 
 -- the sizes of a window's end
 pub sizes_to : SpecCurve → SpecCurve → ℚ → Sizes
@@ -52,7 +53,7 @@ ready_at : (f g : SpecCurve) (p : Periods) → IsCurve f → IsCurve g → AreFi
     → IsReady (sizes_at Horizontal f g p.first p.second) f g (settled f g p.first) (window_at Horizontal f g p.first p.second)
 ready_at f g p F G both least W =
     let d = common_period f g in
-    let some = common_above f g F G in
+    let some = common_some f g F G in
     let z = sizes_at Horizontal f g p.first p.second in
     let H = window_at Horizontal f g p.first p.second in
     let t = settled f g p.first in
@@ -99,7 +100,7 @@ whole_lag : (f g : SpecCurve) (p : Periods) (q : ℚ) → IsCurve f → IsCurve 
     → IsLongestLag (λ s. s <ℚ settled f g p.first) (value_at f) (value_at g) q → IsLongestLag Always (value_at f) (value_at g) q
 whole_lag f g p q F G both looks least L =
     let d = common_period f g in
-    let some = common_above f g F G in
+    let some = common_some f g F G in
     let T = steady f in
     let low = steady_nonneg f F in
     let left = periods_after T p.first d in

@@ -7,7 +7,7 @@ use Rattle.rational.specs.declared.Extended.TheVariants.{Fin, Inf}
 use Rattle.rational.proofs.Linear.{with1, with2, with6}
 use Rattle.rational.proofs.Laws.{le_refl, le_trans, le_of_lt, lt_le_trans, between, mul_sub, mul_nonneg}
 use Rattle.rational.proofs.Integers.{nat_nonneg}
-use Rattle.rational.proofs.Quotients.{times_above}
+use Rattle.rational.proofs.Quotients.{times_above, past_each}
 use Rattle.affine_segment.specs.declared.line.Line.{Line}
 use Rattle.affine_segment.specs.declared.line.Piece.{Piece}
 use Rattle.affine_segment.specs.Values.{line_value}
@@ -80,8 +80,6 @@ infinite_deviation f g t some top finite =
     }
 
 -- ---- where the first gains on the other with each period
-past_each : (x v a b y n : ℚ) → y -ℚ (x -ℚ v) <ℚ n *ℚ (a -ℚ b) → y <ℚ (x +ℚ n *ℚ a) -ℚ (v +ℚ n *ℚ b)
-past_each x v a b y n h = let e = mul_sub n a b in with6 x v y (n *ℚ a) (n *ℚ b) (n *ℚ (a -ℚ b)) (λ c. omega (arith, c.le, c.lt, c.same))
 
 pub gaining_deviation : (f g : ℚ → Ext) (from d a b : ℚ) → int (pos 0) <ℚ d → int (pos 0) ≤ℚ from → Repeats f from d a → Repeats g from d b → b <ℚ a → IsFinite f → IsFinite g → IsVerticalDeviation f g Inf
 gaining_deviation f g from d a b some low F G gain first second =

@@ -22,7 +22,7 @@ use Rattle.upp_limits.specs.Outcome.{IsWithin}
 use Rattle.min_plus.specs.Deviations.{IsHorizontalDeviation}
 use Rattle.upp_limits.proofs.Stands.{sizes_stand, stands_left, stands_right}
 use Rattle.upp_curve.proofs.Steady.{steady_rule}
-use Rattle.curve_call.proofs.CurveTimes.{both_on, steady_nonneg}
+use Rattle.curve_call.proofs.CurveTimes.{both_on, common_some}
 use Rattle.curve_call.proofs.CurveRises.{common_first, common_second}
 use Rattle.curve_least.specs.Ever.{RepeatsBy}
 use Rattle.curve_least.proofs.Shifts.{later_value}
@@ -33,24 +33,19 @@ use Rattle.curve_deviation.proofs.AtOnce.{infinite_somewhere}
 use Rattle.curve_deviation.proofs.FirstReach.{reached_or}
 use Rattle.curve_deviation.proofs.Lagging.{ReachesOr, endless_is, never_reached}
 use Rattle.curve_least.proofs.EverAfter.{repeats_by}
+use Rattle.upp_curve.proofs.SteadyTimes.{steady_nonneg}
 
 -- ---- two curves have a period in common
-pub common_above : (f g : SpecCurve) → IsCurve f → IsCurve g → int (pos 0) <ℚ common_period f g
-common_above f g F G =
-    let end = int (pos 0) in
-    let z = sizes_of end (both_numbers end f g) in
-    let all : Stands z (both_numbers end f g) = sizes_stand end (both_numbers end f g) in
-    (both_on z end f g F G (stands_left z (curve_numbers end f) (curve_numbers end g) all) (stands_right z (curve_numbers end f) (curve_numbers end g) all)).above
 
 -- with it each repeats from its own time on
 pub first_repeats : (f g : SpecCurve) → IsCurve f → IsCurve g → Repeats (value_at f) (steady f) (common_period f g) (rise_over f (common_period f g))
-first_repeats f g F G = steady_rule f (common_period f g) F.normal.raw (common_first f g F G) (le_of_lt (common_above f g F G))
+first_repeats f g F G = steady_rule f (common_period f g) F.normal.raw (common_first f g F G) (le_of_lt (common_some f g F G))
 
 pub second_repeats : (f g : SpecCurve) → IsCurve f → IsCurve g → Repeats (value_at g) (steady g) (common_period f g) (rise_over g (common_period f g))
-second_repeats f g F G = steady_rule g (common_period f g) G.normal.raw (common_second f g F G) (le_of_lt (common_above f g F G))
+second_repeats f g F G = steady_rule g (common_period f g) G.normal.raw (common_second f g F G) (le_of_lt (common_some f g F G))
 
 pub reaches : (f g : SpecCurve) → IsCurve f → IsCurve g → IsFinite (value_at g) → IsRising (value_at g) → ReachesOr (value_at g)
-reaches f g F G finite up = λ v t h. reached_or g (steady g) (common_period f g) (rise_over g (common_period f g)) v t G finite up (common_above f g F G) (steady_nonneg g G) (second_repeats f g F G) h
+reaches f g F G finite up = λ v t h. reached_or g (steady g) (common_period f g) (rise_over g (common_period f g)) v t G finite up (common_some f g F G) (steady_nonneg g G) (second_repeats f g F G) h
 
 -- ---- a faster curve gets ahead by any time
 gaining : (f g : ℚ → Ext) (from d a b x : ℚ) → int (pos 0) <ℚ d → int (pos 0) ≤ℚ from → Repeats f from d a → Repeats g from d b → b <ℚ a → f from ≡ Fin x → IsFinite g → (y : ℚ) → LagsBy f g y
@@ -99,7 +94,7 @@ infinite_lags f g t low top finite = never_reached f g t low (λ u h. subst (λ 
 faster_lags : (f g : SpecCurve) → IsCurve f → IsCurve g → IsFinite (value_at g) → rate g <ₑ rate f → (y : ℚ) → LagsBy (value_at f) (value_at g) y
 faster_lags f g F G finite faster =
     let d = common_period f g in
-    let some = common_above f g F G in
+    let some = common_some f g F G in
     let from = both_steady f g in
     let low_f = max_q_ge_left (steady f) (steady g) in
     let low_g = max_q_ge_right (steady f) (steady g) in

@@ -35,9 +35,9 @@ use Rattle.upp_normal.proofs.AnswerRoom.{operand_line_fits, wide_narrow}
 use Rattle.curve_call.specs.declared.frame.Frame.{Frame}
 use Rattle.curve_call.specs.Frames.{IsFrame, IsRefusedAt, sizes_at}
 use Rattle.curve_call.specs.Times.{OneLaterFits}
-use Rattle.curve_call.proofs.CurveTimes.{steady_whole, steady_nonneg, one_later}
+use Rattle.curve_call.proofs.CurveTimes.{steady_whole, one_later, common_some}
 use Rattle.curve_call.proofs.FirstGate.{gauge_grows}
-use Rattle.curve_call.proofs.Limited.{least_unique, refused_cause, frame_within}
+use Rattle.curve_call.proofs.Limited.{refused_cause, frame_within}
 use Rattle.curve_least.proofs.Shifts.{later_value}
 use Rattle.upp_normal.proofs.UnrollSteps.{ext_cases}
 use Rattle.curve_least.proofs.Rises.{rate_rise, infinite_value}
@@ -45,16 +45,18 @@ use Rattle.curve_deviation.specs.Parts.{IsSeen}
 use Rattle.curve_deviation.proofs.EarlyParts.{endless, early_here}
 use Rattle.curve_deviation.specs.declared.horizontals.Periods.{Periods}
 use Rattle.curve_deviation.specs.Stages.{AreFinite, HasLeft, HasReached, settled, IsPast, IsWideCall, IsFirst, AreFound}
-use Rattle.curve_deviation.proofs.KnownLags.{common_above, first_repeats}
+use Rattle.curve_deviation.proofs.KnownLags.{first_repeats}
 use Rattle.curve_deviation.proofs.WindowTimes.{times_at, periods_low}
 use Rattle.upp_curve.proofs.RisingCurves.{GoesOn}
+use Rattle.upp_curve.proofs.SteadyTimes.{steady_nonneg}
+use Rattle.upp_limits.proofs.LeastNumbers.{least_unique}
 
 -- ---- a curve of rate 0 is constant from when it repeats
 pub level_constant : (f g : SpecCurve) → IsCurve f → IsCurve g → IsFinite (value_at f) → IsRising (value_at f) → rate f ≡ Fin (int (pos 0)) → IsConstantFrom (value_at f) (steady f)
 level_constant f g F G finite up e t h =
     let d = common_period f g in
     let T = steady f in
-    let some = common_above f g F G in
+    let some = common_some f g F G in
     let low = steady_nonneg f F in
     let (v, k) = finite T low in
     let (n, over) = times_above (t -ℚ T) d some in
@@ -75,7 +77,7 @@ pub constant_level : (f g : SpecCurve) → IsCurve f → IsCurve g → IsFinite 
 constant_level f g F G finite level =
     let d = common_period f g in
     let T = steady f in
-    let some = common_above f g F G in
+    let some = common_some f g F G in
     let low = steady_nonneg f F in
     let (v, k) = finite T low in
     elim (ext_cases (rate f)) [
@@ -132,7 +134,7 @@ least_past_steady f g k m F G both not least small = elim least.first.meets [
   | inr above ↦
       let d = common_period f g in
       let W = times_at f g k m F G both.first both.second small in
-      let some = common_above f g F G in
+      let some = common_some f g F G in
       let T = steady f in
       let s = periods_after T k d in
       let t = settled f g k in

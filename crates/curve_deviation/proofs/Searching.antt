@@ -12,13 +12,13 @@ use Rattle.upp_curve.specs.Curve.{SpecCurve, value_at}
 use Rattle.upp_curve.specs.Curves.{IsCurve}
 use Rattle.upp_curve.specs.Steady.{steady}
 use Rattle.upp_limits.specs.Periods.{common_period, periods_after}
-use Rattle.curve_call.proofs.CurveTimes.{steady_nonneg}
 use Rattle.curve_deviation.specs.declared.search.Stage.{Stage}
 use Rattle.curve_deviation.specs.declared.search.Stage.TheVariants.{First, Second}
 use Rattle.curve_deviation.specs.Stages.{AreFinite, HasLeft, HasReached, settled, Meets, stage_gauge, IsBefore, IsPast}
-use Rattle.curve_deviation.proofs.KnownLags.{common_above}
 use Rattle.curve_deviation.proofs.WindowTimes.{WindowTimes, periods_low, few_within, twice_is}
 use Rattle.upp_limits.specs.Limits.{Sizes}
+use Rattle.upp_curve.proofs.SteadyTimes.{steady_nonneg}
+use Rattle.curve_call.proofs.CurveTimes.{common_some}
 
 -- more periods are later
 later_periods : (T d : ℚ) (i k : ℕ) → int (pos 0) <ℚ d → i ≤ k → periods_after T i d ≤ℚ periods_after T k d
@@ -33,13 +33,13 @@ pub stays_met : (stage : Stage) (f g : SpecCurve) (i k : ℕ) → IsCurve f → 
 stays_met (First level) f g i k F G both h met =
     let d = common_period f g in
     let T = steady f in
-    let some = common_above f g F G in
+    let some = common_some f g F G in
     let low = le_trans (steady_nonneg f F) (periods_low T d i some) in
     lt_le_ext (Fin level) (value_at f (periods_after T i d)) (value_at f (periods_after T k d)) met (both.first_rises (periods_after T i d) (periods_after T k d) low (later_periods T d i k some h))
 stays_met (Second first level) f g i k F G both h met =
     let d = common_period f g in
     let T = settled f g first in
-    let some = common_above f g F G in
+    let some = common_some f g F G in
     let low = le_trans (le_trans (steady_nonneg f F) (periods_low (steady f) d (suc first) some)) (periods_low T d i some) in
     le_ext_trans (Fin level) (value_at g (periods_after T i d)) (value_at g (periods_after T k d)) met (both.second_rises (periods_after T i d) (periods_after T k d) low (later_periods T d i k some h))
 

@@ -30,8 +30,8 @@ use Rattle.curve_call.proofs.CurveRises.{common_first, common_second}
 use Rattle.curve_call.proofs.FrameFacts.{frame_facts}
 use Rattle.curve_least.specs.Compared.{AreCompared}
 use Rattle.curve_least.specs.Ever.{RepeatsBy}
-use Rattle.curve_least.proofs.Rises.{repeat_low}
 use Rattle.curve_deviation.proofs.AtOnce.{faster_deviation}
+use Rattle.upp_curve.proofs.SteadyTimes.{steady_nonneg}
 
 pub frame_compared : (f g : SpecCurve) (r : Frame) → IsFrame Vertical f g 0 0 r → AreCompared (sizes_at Vertical f g 0 0) r.start r.period f g
 unfolding window_at
@@ -70,7 +70,7 @@ faster_at_once f g F G faster first second =
     let from = both_steady f g in
     let f_by : RepeatsBy from (common_period f g) f = record { curve = F; steady_by = max_q_ge_left (steady f) (steady g); periods = common_first f g F G } in
     let g_by : RepeatsBy from (common_period f g) g = record { curve = G; steady_by = max_q_ge_right (steady f) (steady g); periods = common_second f g F G } in
-    faster_deviation f g from (common_period f g) period.above (le_trans (repeat_low f F) (max_q_ge_left (steady f) (steady g))) f_by g_by faster first second
+    faster_deviation f g from (common_period f g) period.above (le_trans (steady_nonneg f F) (max_q_ge_left (steady f) (steady g))) f_by g_by faster first second
 
 -- ---- neither early answer
 pub not_known : (f g : SpecCurve) → IsFinite (value_at f) → ¬ (rate g <ₑ rate f) → ¬ (IsKnownAtOnce Vertical f g)

@@ -26,9 +26,9 @@ use Rattle.curve_deviation.specs.declared.walks.Walk.{Walk}
 use Rattle.curve_deviation.specs.Cells.{RisingCell, CellSizes, IsTimeTo, IsBehind, IsBehindEarlier, BehindBy, IsCellLag}
 use Rattle.curve_deviation.specs.Rises.{RisesOn, IsCellOf}
 use Rattle.curve_deviation.specs.Lags.{IsBehindAt, LagsBy, IsLongestLag}
-use Rattle.curve_deviation.proofs.CellLag.{rises}
 use Rattle.curve_deviation.proofs.RisingParts.{cell_rises}
 use Rattle.curve_least.proofs.GapWalk.{fewer_whole, one_step}
+use Rattle.affine_segment.proofs.LineValues.{value_rises}
 
 -- what holds on the way: the pairs of times that are looked at have no longer lag
 pub record IsWalked (z : Sizes) (f g : ℚ → Ext) (until end : ℚ) (w : Walk) : Type 0 where
@@ -159,7 +159,7 @@ pass_first z f g until end q w v c rising W C S L low a b d = record {
         let up : g c.until ≤ₑ g u = rising c.until u S.until.nonneg (le_of_lt l) in
         let high : Fin (line_at c.second c.until) ≤ₑ g u = le_ext_trans (Fin (line_at c.second c.until)) (g c.until) (g u) C.second.end up in
         let m : line_at c.second c.until <ℚ line_at c.first s = fin_below (line_at c.second c.until) (line_at c.first s) (g u) (f s) high p.below (first_most f c.first c.start c.end s C.first h k) in
-        lt_irrefl (line_at c.second c.until) (lt_le_trans m (le_trans (rises c.first s c.end C.first.slope (le_of_lt k)) low))
+        lt_irrefl (line_at c.second c.until) (lt_le_trans m (le_trans (value_rises c.first s c.end C.first.slope (le_of_lt k)) low))
 
     before : (s u : ℚ) → IsBehindAt f g s u → s <ℚ c.end → u -ℚ s ≤ℚ max_q w.lag q
     before s u p k = elim (le_or_lt c.start s) [
@@ -222,8 +222,8 @@ not_left f g t x until end at c up rising some low least before reached C high =
     under h = elim (le_or_lt at c.from) [
       | inl m ↦
           le_ext_trans (g at) (g c.from) (Fin (line_at c.second c.until)) (rising at c.from least m)
-          (le_ext_trans (g c.from) (Fin (line_at c.second c.from)) (Fin (line_at c.second c.until)) C.second.start (rises c.second c.from c.until C.second.slope (le_of_lt C.second.some)))
-      | inr m ↦ subst (λ v. v ≤ₑ Fin (line_at c.second c.until)) (sym (C.second.inside at m h)) (rises c.second at c.until C.second.slope (le_of_lt h))
+          (le_ext_trans (g c.from) (Fin (line_at c.second c.from)) (Fin (line_at c.second c.until)) C.second.start (value_rises c.second c.from c.until C.second.slope (le_of_lt C.second.some)))
+      | inr m ↦ subst (λ v. v ≤ₑ Fin (line_at c.second c.until)) (sym (C.second.inside at m h)) (value_rises c.second at c.until C.second.slope (le_of_lt h))
     ]
 
     below : at <ℚ c.until → ⊥

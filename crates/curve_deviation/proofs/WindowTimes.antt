@@ -29,10 +29,10 @@ use Rattle.upp_normal.proofs.StretchSizes.{times_fit}
 use Rattle.curve_call.specs.declared.windows.CallWindow.{CallWindow}
 use Rattle.curve_call.specs.Frames.{sizes_at}
 use Rattle.curve_call.proofs.CallTimes.{first_stands, second_stands}
-use Rattle.curve_call.proofs.CurveTimes.{IsPeriod, both_on, steady_whole, steady_nonneg}
+use Rattle.curve_call.proofs.CurveTimes.{IsPeriod, both_on, steady_whole, common_some}
 use Rattle.curve_deviation.specs.Parts.{IsSeen}
 use Rattle.curve_deviation.specs.Stages.{IsNarrowWindow, AreFinite, settled}
-use Rattle.curve_deviation.proofs.KnownLags.{common_above}
+use Rattle.upp_curve.proofs.SteadyTimes.{steady_nonneg}
 
 -- the sizes
 pub record AreSeen (z : Sizes) (end : ℚ) (f g : SpecCurve) : Type 0 where
@@ -100,7 +100,7 @@ times_at f g k m F G first second small =
     let d = common_period f g in
     let T = steady f in
     let p = H -ℚ d in
-    let some = common_above f g F G in
+    let some = common_some f g F G in
     let is = window_is f g k m in
     let low = steady_nonneg f F in
     let more = periods_low (settled f g k) d m some in
@@ -153,7 +153,7 @@ few_within f g k m F G first second small =
     let d = common_period f g in
     let T = steady f in
     let W = times_at f g k m F G first second small in
-    let some = common_above f g F G in
+    let some = common_some f g F G in
     let low = steady_nonneg f F in
     let A = W.seen.first.limited.sizes in
     let narrow = (narrow_limit z H A W.seen.first.limited.gauge).times in

@@ -15,6 +15,7 @@ use Rattle.upp_limits.specs.Sized.{Stands}
 use Rattle.upp_normal.specs.Operand.{AreLimited, OperandLineAt}
 use Rattle.upp_normal.specs.Ahead.{GridValue}
 use Rattle.curve_deviation.specs.declared.parts.Part.{Part}
+use Rattle.curve_least.specs.GapSteps.{earlier_of}
 
 -- a finite curve whose numbers up to `end` have the sizes z
 pub record IsSeen (z : Sizes) (end : ℚ) (c : SpecCurve) : Type 0 where
@@ -40,8 +41,3 @@ abbrev pub IsEarlyBy : ℚ → Tail → Type 0
 IsEarlyBy end (Periodic rank period rise) = end ≤ℚ rank +ℚ period
 IsEarlyBy end (Affine rank) = Unit {0}
 IsEarlyBy end (Infinite rank) = Unit {0}
-
--- the earlier of a time and another that may be missing
-abbrev pub until_of : ℚ → Option ℚ → ℚ
-until_of end None = end
-until_of end (Some e) = min_q end e

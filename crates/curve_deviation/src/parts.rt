@@ -12,7 +12,8 @@ ghost use Rattle.upp_curve.specs.Curves.{IsCurve};
 ghost use Rattle.affine_segment.specs.Fits.{LineFitsAt, ReadFits};
 ghost use Rattle.upp_limits.specs.Limits.{Sizes};
 ghost use Rattle.upp_normal.specs.Ahead.{IsOverBy, IsTimeIn};
-ghost use Rattle.curve_deviation.specs.Parts.{IsSeen, GoesTo, PartStands, IsEarlyBy, until_of};
+ghost use Rattle.curve_deviation.specs.Parts.{IsSeen, GoesTo, PartStands, IsEarlyBy};
+ghost use Rattle.curve_least.specs.GapSteps.{earlier_of};
 
 use crate::cells::{is_less, line_at};
 use affine_segment::{Line, Piece};

@@ -35,7 +35,6 @@ use Rattle.curve_call.specs.Frames.{sizes_at}
 use Rattle.curve_call.proofs.CallTimes.{first_stands, second_stands, IsCall, start_on, period_on, window_is}
 use Rattle.curve_call.proofs.CallFits.{call_early}
 use Rattle.curve_call.proofs.CurveRises.{IsRise, rise_is, common_first, common_second}
-use Rattle.curve_call.proofs.CurveTimes.{steady_nonneg}
 use Rattle.curve_least.proofs.LeastNumber.{gains}
 use Rattle.curve_least.proofs.Rises.{rate_rise, rate_none}
 use Rattle.curve_call.proofs.TailMoves.{rates_compared, excess_above, excess_both}
@@ -49,6 +48,7 @@ use Rattle.curve_envelope.proofs.Served.{no_faster, other_finite}
 use Rattle.curve_pointwise.proofs.LatticeAnswers.{same_rises}
 use Rattle.curve_pointwise.proofs.LatticeCalls.{earlier}
 use Rattle.curve_call.proofs.FiniteAnswers.{late_left}
+use Rattle.upp_curve.proofs.SteadyTimes.{steady_nonneg}
 
 -- ---- from a kind of call
 pub left_call : (f g : SpecCurve) (theta : ℚ) (k : ℕ) → IsCurve f → IsCurve g → zero_q ≤ℚ theta → gauge_at (FifoLeft (Fin theta)) f g k 0 < 2 ^ 120

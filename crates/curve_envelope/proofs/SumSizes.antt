@@ -34,9 +34,7 @@ use Rattle.curve_running.proofs.LevelSizes.{all_low, not_flat, some_none}
 use Rattle.upp_normal.proofs.AnswerRoom.{many_more}
 use Rattle.curve_envelope.specs.Lowest.{SumValue, SumLine, SumPiece}
 use Rattle.curve_running.proofs.Makings.{LineIsMade}
-
-pub same_line : {l m : Line} → Some l ≡ Some m → l ≡ m
-same_line e = cc
+use Rattle.upp_normal.proofs.NormaliseGrids.{some_same}
 
 -- ---- values
 
@@ -192,7 +190,7 @@ level_value z end far (p ∷ ps) v A F h (inr (inr (inr k))) = level_value z end
 
 pub line_sum : (z : Sizes) (end : ℚ) (ps : List Piece) (l : Line) → EachSum z end ps → HasLine l ps → SumLine z 6 l
 line_sum z end [] l h k = absurd k
-line_sum z end (p ∷ ps) l h (inl e) = subst (SumLine z 6) (same_line (sym h.0.line ∙ e)) h.0.line_stands
+line_sum z end (p ∷ ps) l h (inl e) = subst (SumLine z 6) (some_same _ _ (sym h.0.line ∙ e)) h.0.line_stands
 line_sum z end (p ∷ ps) l h (inr k) = line_sum z end ps l h.1 k
 
 pub start_sum : (z : Sizes) (end : ℚ) (ps : List Piece) (x : ℚ) → EachSum z end ps → HasStart x ps → Whole z.dt x

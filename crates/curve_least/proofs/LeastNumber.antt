@@ -30,10 +30,11 @@ use Rattle.curve_least.specs.GapSteps.{IsGapValue}
 use Rattle.curve_least.specs.Compared.{RepeatsIn, AreCompared}
 use Rattle.curve_least.proofs.Shifts.{below_in, below_out, largest_bounds, endless_bounds, same_least, least_zero}
 use Rattle.curve_least.proofs.GapParts.{within_none}
-use Rattle.curve_least.proofs.Rises.{rate_rise, infinite_value, rank_early, has_window, from_low}
+use Rattle.curve_least.proofs.Rises.{rate_rise, infinite_value, has_window, from_low}
 use Rattle.curve_least.proofs.RiseSizes.{rise_stands}
 use Rattle.upp_normal.proofs.UnrollSteps.{ext_cases}
 use Rattle.upp_normal.proofs.AnswerRoom.{wide_narrow}
+use Rattle.upp_curve.proofs.SteadyTimes.{rank_early}
 
 -- ---- the number
 

@@ -32,7 +32,7 @@ use Rattle.upp_limits.specs.Sized.{IsValue, IsSlope, ValueStands, LineStands, Sp
 use Rattle.upp_normal.specs.Operand.{AreLimited}
 use Rattle.upp_normal.specs.Ahead.{HasWindow, IsGridValue}
 use Rattle.upp_limits.proofs.ClosedForms.{line_moved}
-use Rattle.upp_limits.proofs.CurveStands.{curve_stands, tail_stands}
+use Rattle.upp_limits.proofs.CurveStands.{curve_stands, tail_stands, last_slope}
 use Rattle.upp_limits.proofs.NarrowSizes.{value_whole, value_within, run_whole, run_within}
 use Rattle.upp_normal.proofs.StretchPieces.{span_in, found_from}
 use Rattle.upp_normal.proofs.StretchTurns.{repeated_at}
@@ -41,6 +41,7 @@ use Rattle.upp_normal.proofs.StretchValues.{value_periodic, with_pieces}
 use Rattle.upp_curve.proofs.Finite.{each_in}
 use Rattle.curve_least.proofs.Rises.{some_periods}
 use Rattle.upp_normal.proofs.UnrollSteps.{IsSomewhere}
+use Rattle.affine_segment.proofs.LineValues.{line_found}
 
 many : (v : ℚ) → int (pos 0) ≤ℚ v → int (pos 1) *ℚ v ≤ℚ int (pos 3) *ℚ v
 many v h = with1 v (λ c. omega (arith, c.le, c.lt, c.same))
@@ -67,29 +68,21 @@ run_stands z end s d A h on low high =
       within = within_weaken (int (pos z.largest)) (times_largest 3 z) (s *ℚ d) (subst (λ m. m ≤ℚ int (pos 3) *ℚ V) one (many V (nat_nonneg z.largest))) (run_within z end s d A.sizes h low high);
     }
 
-last_stands : (z : Sizes) (rank : ℚ) (p : Piece) (ps : List Piece) → AllByRecursion (SpanStands z) (spans (Affine rank) (p ∷ ps)) → LineStands z (last_of p ps).line
-unfolding spans
-last_stands z rank p [] h = h.0.slope
-last_stands z rank p (q ∷ qs) h = last_stands z rank q qs h.1
-
 line_stands : (z : Sizes) (rank : ℚ) (ps : List Piece) → AllByRecursion (SpanStands z) (spans (Affine rank) ps) → LineStands z (last_line ps)
 line_stands z rank [] h = tt
-line_stands z rank (p ∷ ps) h = last_stands z rank p ps h
+line_stands z rank (p ∷ ps) h = last_slope z rank p ps h
 
 slope_stands : (z : Sizes) (end d : ℚ) (l : Option Line) → AreLimited z end → LineStands z l → Whole z.dt d → int (pos 0) ≤ℚ d → d ≤ℚ end → IsGridValue z (slope_times l d)
 slope_stands z end d None A h on low high = zero_stands z
 slope_stands z end d (Some l) A h on low high = run_stands z end l.slope d A h on low high
 
 -- ---- a finite value is a piece's value or on its line
-finite_line : (l : Option Line) (t w : ℚ) → line_value l t ≡ Fin w → (m : Line) × (l ≡ Some m)
-finite_line None t w e = absurd (same_le_ext e)
-finite_line (Some m) t w e = (m, refl)
 
 finite_piece : (q : Piece) (t w : ℚ) → piece_value q t ≡ Fin w → IsSomewhere q
 unfolding piece_value
 finite_piece q t w e = elim (le_or_lt t q.x) [
   | inl l ↦ inl (w, sym (ap (λ b. cond b q.at (line_value q.line t)) (le_q_out t q.x l)) ∙ e)
-  | inr l ↦ inr (finite_line q.line t w (sym (ap (λ b. cond b q.at (line_value q.line t)) (le_q_not t q.x l)) ∙ e))
+  | inr l ↦ inr (line_found q.line t w (sym (ap (λ b. cond b q.at (line_value q.line t)) (le_q_not t q.x l)) ∙ e))
 ]
 
 -- ---- the rise up to the last copy

@@ -23,6 +23,7 @@ use Rattle.upp_normal.specs.Operand.{AreLimited}
 use Rattle.upp_normal.specs.Ahead.{IsOverBy, HasWindow}
 use Rattle.upp_curve.proofs.Steady.{same_out, cut_past}
 use Rattle.curve_least.specs.Compared.{RepeatsIn}
+use Rattle.upp_curve.proofs.SteadyTimes.{steady_nonneg, rank_early, rank_nonneg}
 
 -- ---- the rate
 over_period : (rise period d : ℚ) → (rise /ℚ period) *ℚ d ≡ rise *ℚ (d /ℚ period)
@@ -81,23 +82,6 @@ infinite_value c t curve e h = by_tail c.pieces c.tail curve.normal.tail e h
     by_tail ps (Infinite rank) n e h = infinite_late ps rank t h
 
 -- ---- the window
-pub rank_early : (c : SpecCurve) → rank_of c.tail ≤ℚ steady c
-unfolding steady
-rank_early c = by_tail c.pieces c.tail
-  where
-    unless : (b : Bool) (rank : ℚ) → rank ≤ℚ later_unless b rank
-    unless true rank = le_refl rank
-    unless false rank = with1 rank (λ c. omega (arith, c.le, c.lt, c.same))
-
-    by_tail : (ps : List Piece) (tail : Tail) → rank_of tail ≤ℚ steady_in ps tail
-    by_tail ps (Periodic rank period rise) = le_refl rank
-    by_tail ps (Affine rank) = unless _ rank
-    by_tail ps (Infinite rank) = unless _ rank
-
-rank_low : (ps : List Piece) (tail : Tail) → TailFits ps tail → int (pos 0) ≤ℚ rank_of tail
-rank_low ps (Periodic rank period rise) h = h.nonneg
-rank_low ps (Affine rank) h = h.nonneg
-rank_low ps (Infinite rank) h = h.nonneg
 
 -- a positive whole number of periods is one or more
 pub some_periods : (n : ℕ) (d period : ℚ) → d ≡ int (pos n) *ℚ period → int (pos 0) <ℚ d → (m : ℕ) × (n ≡ suc m)
@@ -126,8 +110,4 @@ has_window z from d c curve A some R = record {
 }
 
 pub from_low : (z : Sizes) (from d : ℚ) (c : SpecCurve) → IsCurve c → RepeatsIn z from d c → int (pos 0) ≤ℚ from
-from_low z from d c curve R = le_trans (rank_low c.pieces c.tail curve.normal.raw.tail) (le_trans (rank_early c) R.steady_by)
-
--- a curve begins to repeat at 0 or later
-pub repeat_low : (c : SpecCurve) → IsCurve c → int (pos 0) ≤ℚ steady c
-repeat_low c curve = le_trans (rank_low c.pieces c.tail curve.normal.raw.tail) (rank_early c)
+from_low z from d c curve R = le_trans (rank_nonneg c.pieces c.tail curve.normal.raw.tail) (le_trans (rank_early c) R.steady_by)

@@ -18,9 +18,9 @@ use Rattle.upp_limits.specs.Sized.{IsSlope, IsValue}
 use Rattle.upp_limits.proofs.CurveStands.{starts_below_own_end}
 use Rattle.upp_kinds.proofs.KindForms.{gate_normal, gated_normal}
 use Rattle.curve_library.specs.Causes.{NoSlot}
-use Rattle.curve_library.proofs.FewPieces.{end_is, periodic_few}
 use Rattle.curve_library.proofs.LateParts.{line_few}
 use Rattle.curve_library.proofs.OwnParts.{Held, held, too_wide, run_small, value_small, gap_fits}
+use Rattle.upp_limits.proofs.FewCopies.{end_is, periodic_few}
 
 -- ---- which curve it is
 pub no_rate : (R c s : ℚ) → R ≤ℚ zero_q → bucket zero_q R ≡ gate R c s

@@ -15,8 +15,8 @@ use Rattle.rational.specs.Grid.{Whole}
 use Rattle.upp_limits.proofs.CurveStands.{starts_below_own_end}
 use Rattle.upp_curve.proofs.ByTail.{bucket_normal}
 use Rattle.upp_kinds.proofs.KindForms.{late_normal}
-use Rattle.curve_library.proofs.FewPieces.{affine_few}
 use Rattle.curve_library.proofs.OwnParts.{Held, held, too_wide, run_small}
+use Rattle.upp_limits.proofs.FewCopies.{affine_few}
 
 -- the latency stands on the grid of times, and the rate on that of slopes
 record LateStands (R T : ℚ) : Type 0 where

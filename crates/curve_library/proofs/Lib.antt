@@ -1,6 +1,5 @@
 pub mod SignTests
 pub mod Answering
-pub mod FewPieces
 pub mod OwnParts
 pub mod LateParts
 pub mod GateParts

@@ -28,11 +28,11 @@ use Rattle.upp_kinds.proofs.StairValues.{ratio_low}
 use Rattle.upp_kinds.proofs.KindForms.{stair_normal}
 use Rattle.curve_library.specs.Parts.{SecondFits}
 use Rattle.curve_library.specs.Shares.{SharesFit}
-use Rattle.curve_library.proofs.FewPieces.{end_is, periodic_few}
 use Rattle.curve_library.proofs.LateParts.{line_few}
 use Rattle.curve_library.proofs.OwnParts.{Held, held, too_wide, gap_fits}
 use Rattle.curve_library.proofs.SharesAre.{steps_on}
 use Rattle.affine_segment.proofs.Convolved.{back as taken_back}
+use Rattle.upp_limits.proofs.FewCopies.{end_is, periodic_few}
 
 put_together : (x y : ℚ) → y +ℚ (x -ℚ y) ≡ x
 put_together x y = with2 x y (λ c. omega (arith, c.le, c.lt, c.same))

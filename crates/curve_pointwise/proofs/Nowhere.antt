@@ -7,15 +7,13 @@ use Rattle.rational.specs.declared.Extended.TheVariants.{Inf}
 use Rattle.rational.proofs.Laws.{le_refl}
 use Rattle.affine_segment.specs.declared.line.Piece.{Piece}
 use Rattle.upp_curve.specs.declared.curve.Tail.TheVariants.{Infinite}
-use Rattle.affine_segment.specs.Reading.{read, piece_in, piece_value}
+use Rattle.affine_segment.specs.Reading.{read, piece_in, piece_value, nothing_at}
 use Rattle.upp_curve.specs.Curve.{SpecCurve, cut, value_at}
 use Rattle.upp_curve.specs.Curves.{IsCurve}
-
-abbrev pub nowhere : ℚ → Piece
-nowhere x = record { x = x; at = Inf; line = None }
+use Rattle.affine_segment.proofs.PieceIn.{nothing_read}
 
 abbrev pub infinite_from : ℚ → SpecCurve
-infinite_from x = record { pieces = nowhere x ∷ []; tail = Infinite x }
+infinite_from x = record { pieces = nothing_at x ∷ []; tail = Infinite x }
 
 is_curve_at_zero : IsCurve (infinite_from (int (pos 0)))
 is_curve_at_zero = record {
@@ -32,13 +30,9 @@ either : (b : Bool) → cond {A = Ext} b Inf Inf ≡ Inf
 either true = refl
 either false = refl
 
-nowhere_value : (x t : ℚ) → piece_value (nowhere x) t ≡ Inf
-unfolding piece_value
-nowhere_value x t = either (le_q t x)
-
 nowhere_values : (x t : ℚ) → value_at (infinite_from x) t ≡ Inf
 unfolding value_at cut read piece_in
-nowhere_values x t = ap (λ (v : Ext). cond (le_q t x) v Inf) (nowhere_value x t) ∙ either (le_q t x)
+nowhere_values x t = ap (λ (v : Ext). cond (le_q t x) v Inf) (nothing_read x t) ∙ either (le_q t x)
 
 -- as the code makes it
 unfoldable made : List Piece → ℚ → SpecCurve
@@ -48,11 +42,11 @@ pub record IsNowhere (ps before : List Piece) (x rank : ℚ) : Type 0 where
   pub zero : x ≡ int (pos 0)
   pub at : rank ≡ int (pos 0)
   pub none : before ≡ []
-  pub one : ps ≡ before ++ nowhere x ∷ []
+  pub one : ps ≡ before ++ nothing_at x ∷ []
 
 made_is : (ps before : List Piece) (x rank : ℚ) → IsNowhere ps before x rank → made ps rank ≡ infinite_from (int (pos 0))
 unfolding made
-made_is ps before x rank h = ap₂ made (h.one ∙ ap (λ zs. zs ++ nowhere x ∷ []) h.none ∙ ap (λ a. nowhere a ∷ []) h.zero) h.at
+made_is ps before x rank h = ap₂ made (h.one ∙ ap (λ zs. zs ++ nothing_at x ∷ []) h.none ∙ ap (λ a. nothing_at a ∷ []) h.zero) h.at
 
 pub made_curve : (ps before : List Piece) (x rank : ℚ) → IsNowhere ps before x rank → IsCurve record { pieces = ps; tail = Infinite rank }
 unfolding made

@@ -30,9 +30,9 @@ use Rattle.affine_segment.proofs.PieceOrder.{each_map}
 use Rattle.upp_normal.proofs.NormaliseOwn.{EndsBy, Found, limited_found}
 use Rattle.curve_call.specs.declared.frame.Frame.{Frame}
 use Rattle.curve_call.specs.Frames.{IsFrame, sizes_at}
-use Rattle.curve_call.proofs.CurveTimes.{rank_early}
 use Rattle.curve_call.proofs.FrameFacts.{FrameFacts, frame_facts}
 use Rattle.curve_pointwise.proofs.ScaledValues.{curve_scaled, each_start, raw_scaled}
+use Rattle.upp_curve.proofs.SteadyTimes.{rank_early}
 
 -- ---- what the frame gives
 pub record ScaleCall (q : ℚ) (f : SpecCurve) (r : Frame) (z : Sizes) : Type 0 where

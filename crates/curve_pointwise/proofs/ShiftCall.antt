@@ -40,7 +40,7 @@ use Rattle.curve_window.proofs.OperandWindows.{operand_line_in, operand_read}
 use Rattle.curve_call.specs.declared.frame.Frame.{Frame}
 use Rattle.curve_call.specs.Frames.{IsFrame, sizes_at}
 use Rattle.curve_call.specs.Answering.{IsAnswerWindow}
-use Rattle.curve_call.proofs.CurveTimes.{sum_fits, time_within, steady_nonneg, steady_whole}
+use Rattle.curve_call.proofs.CurveTimes.{sum_fits, time_within, steady_whole}
 use Rattle.curve_call.proofs.CallTimes.{first_stands}
 use Rattle.curve_call.proofs.FrameFacts.{FrameFacts, frame_facts}
 use Rattle.curve_call.proofs.Operands.{some_end, unrolled_pieces}
@@ -49,6 +49,7 @@ use Rattle.curve_call.proofs.Answering.{answer_relation}
 use Rattle.curve_pointwise.specs.Shifting.{left_line, left_piece, moved_left, LeftFits}
 use Rattle.curve_pointwise.proofs.LeftWindow.{left_reads, left_starts, each_past, each_moved}
 use Rattle.upp_normal.specs.Ahead.{GridValue, IsTimeIn}
+use Rattle.upp_curve.proofs.SteadyTimes.{steady_nonneg}
 
 -- the piece at x can be read there
 pub here_fits : (x : ℚ) (ps : List Piece) (here : Piece) → StartsAtZero ps → Each (LeftFits x) ps → ((p : Piece) (qs : List Piece) → ps ≡ p ∷ qs → here ≡ piece_in p qs x) → LineFitsAt x here.line

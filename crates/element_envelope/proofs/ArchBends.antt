@@ -38,6 +38,7 @@ use Rattle.upp_normal.proofs.NormaliseGrids.{merge_of}
 use Rattle.affine_segment.proofs.PieceOrder.{each_map}
 use Rattle.curve_window.proofs.TailGrids.{TailOf, grids_nest}
 use Rattle.element_envelope.specs.SumWindows.{SumValueAt, SumLineAt, SumPiece, SumWindow}
+use Rattle.affine_segment.proofs.LineValues.{value_moved}
 
 -- ---- where a time lies in a grid
 -- the stretch of a bare grid round a time
@@ -136,15 +137,6 @@ line_back l x h =
     let e : a ≡ p -ℚ q = mul_sub l.slope x h in
     with4 i p q a (λ c. omega (arith, c.le, c.lt, c.same))
 
-line_forth : (l : Line) (x h : ℚ) → line_at l (x +ℚ h) ≡ line_at l x +ℚ l.slope *ℚ h
-line_forth l x h =
-    let i = l.icept in
-    let p = l.slope *ℚ x in
-    let q = l.slope *ℚ h in
-    let a = l.slope *ℚ (x +ℚ h) in
-    let e : a ≡ p +ℚ q = mul_add l.slope x h in
-    with4 i p q a (λ c. omega (arith, c.le, c.lt, c.same))
-
 -- p, q the lines' values at x, a, b their rises over h; m, n, k, j the values around
 levels : (v p q a b m n k j : ℚ) → m ≡ p -ℚ a → n ≡ q +ℚ b → k ≡ q +ℚ (b +ℚ b) → j ≡ p -ℚ (a +ℚ a) → m +ℚ n ≤ℚ v +ℚ v → v +ℚ k ≤ℚ n +ℚ n → j +ℚ v ≤ℚ m +ℚ m
     → (v ≤ℚ p) × (v ≤ℚ q) × (p +ℚ q +ℚ b ≤ℚ v +ℚ v +ℚ a)
@@ -161,8 +153,8 @@ both_lines l m v x h S =
     let a = l.slope *ℚ h in
     let b = m.slope *ℚ h in
     let w =
-    levels v p q a b (line_at l (x -ℚ h)) (line_at m (x +ℚ h)) (line_at m (x +ℚ (h +ℚ h))) (line_at l (x -ℚ (h +ℚ h))) (line_back l x h) (line_forth m x h)
-    (line_forth m x (h +ℚ h) ∙ ap (λ y. q +ℚ y) (mul_add m.slope h h)) (line_back l x (h +ℚ h) ∙ ap (λ y. p -ℚ y) (mul_add l.slope h h)) S.middle S.right S.left in
+    levels v p q a b (line_at l (x -ℚ h)) (line_at m (x +ℚ h)) (line_at m (x +ℚ (h +ℚ h))) (line_at l (x -ℚ (h +ℚ h))) (line_back l x h) (value_moved m x h)
+    (value_moved m x (h +ℚ h) ∙ ap (λ y. q +ℚ y) (mul_add m.slope h h)) (line_back l x (h +ℚ h) ∙ ap (λ y. p -ℚ y) (mul_add l.slope h h)) S.middle S.right S.left in
     by p q a b w.0 w.1 w.2 refl refl refl refl (lt_cases m.slope l.slope)
   where
     by : (p q a b : ℚ) → v ≤ℚ p → v ≤ℚ q → p +ℚ q +ℚ b ≤ℚ v +ℚ v +ℚ a → p ≡ line_at l x → q ≡ line_at m x → a ≡ l.slope *ℚ h → b ≡ m.slope *ℚ h

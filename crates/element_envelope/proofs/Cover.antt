@@ -20,6 +20,7 @@ use Rattle.element_envelope.specs.PieceElements.{point_of, segment_of, elements_
 use Rattle.element_envelope.specs.ConvolutionLaws.{ElementsCover}
 use Rattle.element_envelope.proofs.Members.{among_left, among_right, among_cases}
 use Rattle.upp_normal.proofs.NormaliseGrids.{some_same}
+use Rattle.affine_segment.proofs.LineValues.{line_found}
 
 -- ---- one piece
 abbrev pub head : ℚ → Ext → Option Line → Ext → List Element
@@ -76,14 +77,6 @@ head_reads p next t e room h c = elim (head_cases p.x p.at p.line next e h) [
         reads = value_past p t w.past ∙ ap (λ o. line_value o t) line;
       }
 ]
-
--- a finite value is read from one of them
-line_found : (o : Option Line) (t v : ℚ) → line_value o t ≡ Fin v → (l : Line) × (o ≡ Some l)
-line_found None t v e = absurd (no_number (line_value None t) v refl e)
-  where
-    no_number : (x : Ext) (v : ℚ) → x ≡ Inf → x ≡ Fin v → ⊥
-    no_number x v p q = cc
-line_found (Some l) t v e = (l, refl)
 
 head_found : (p : Piece) (next : Ext) (t v : ℚ) → p.x ≤ℚ t → Fin t <ₑ next → piece_value p t ≡ Fin v
     → (e : Element) × Among e (head p.x p.at p.line next) × Covers e t

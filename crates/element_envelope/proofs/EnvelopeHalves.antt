@@ -8,20 +8,18 @@ use Rattle.rational.proofs.Grid.{whole_int}
 use Rattle.rational.proofs.Laws.{le_refl}
 use Rattle.affine_segment.specs.declared.line.Piece.{Piece}
 use Rattle.affine_segment.specs.declared.element.Element.{Element}
-use Rattle.affine_segment.specs.Reading.{read}
+use Rattle.affine_segment.specs.Reading.{read, nothing_at}
 use Rattle.curve_window.specs.Stretches.{CutsFit}
 use Rattle.curve_window.specs.Lower.{LowerFits, IsLowerOf}
 use Rattle.element_envelope.specs.PieceElements.{Among}
 use Rattle.element_envelope.specs.Envelopes.{IsEnvelope}
-use Rattle.element_envelope.specs.JoinedWindows.{nothing_at}
 use Rattle.element_envelope.specs.EnvelopeWindows.{EnvelopeRoom, IsEnvelopeWindow}
 use Rattle.element_envelope.proofs.Members.{among_left, among_right}
 use Rattle.element_envelope.proofs.Envelopes.{envelope_rules}
-use Rattle.element_envelope.proofs.JoinedReads.{nothing_read}
 use Rattle.element_envelope.proofs.Arching.{same_arches, lesser_arches, nothing_arches}
 use Rattle.element_envelope.proofs.SumSteps.{sum_cuts_fit}
 use Rattle.element_envelope.proofs.SumLower.{sum_lower_fits, sum_lower}
-use Rattle.affine_segment.proofs.PieceIn.{read_one}
+use Rattle.affine_segment.proofs.PieceIn.{read_one, nothing_read}
 
 -- ---- no pair
 nothing_is : (end : ℚ) (xs ys : List Element) → ((t : ℚ) → IsEnvelope xs ys t Inf) → IsEnvelopeWindow end xs ys (nothing_at (int (pos 0)) ∷ [])

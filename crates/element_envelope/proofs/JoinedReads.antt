@@ -5,7 +5,7 @@ use Rattle.rational.specs.Rational.{ℚ, ◌≤ℚ◌, ◌<ℚ◌, int}
 use Rattle.rational.specs.Extended.{Ext, ◌<ₑ◌}
 use Rattle.rational.specs.declared.Extended.TheVariants.{Fin, Inf}
 use Rattle.rational.proofs.Linear.{with2}
-use Rattle.rational.proofs.Laws.{le_or_lt, le_of_lt, le_trans, lt_irrefl, lt_trans, antisym}
+use Rattle.rational.proofs.Laws.{le_or_lt, le_of_lt, le_trans, lt_irrefl, lt_trans, antisym, not_le_of_lt}
 use Rattle.rational.proofs.MinMax.{le_q_not}
 use Rattle.rational.proofs.Over.{le_q_out}
 use Rattle.affine_segment.specs.declared.line.Line.{Line}
@@ -16,14 +16,12 @@ use Rattle.affine_segment.specs.declared.element.Joined.{Joined}
 use Rattle.affine_segment.specs.Values.{line_at}
 use Rattle.affine_segment.specs.Elements.{start_of, joined_value, AreAdjoined}
 use Rattle.affine_segment.proofs.ElementReading.{joined_read}
-use Rattle.affine_segment.specs.Reading.{piece_value, read}
+use Rattle.affine_segment.specs.Reading.{piece_value, read, nothing_at}
 use Rattle.affine_segment.specs.Pieces.{RisesFrom, StartsAtZero}
-use Rattle.affine_segment.proofs.PieceIn.{value_past, read_go, read_one, read_stop, value_by}
-use Rattle.element_envelope.specs.JoinedWindows.{nothing_at, after_end, part_pieces, joined_list, lead_of, window_of, IsWindowOf}
+use Rattle.affine_segment.proofs.PieceIn.{value_past, read_go, read_one, read_stop, value_by, nothing_read}
+use Rattle.element_envelope.specs.JoinedWindows.{after_end, part_pieces, joined_list, lead_of, window_of, IsWindowOf}
 
 -- ---- pieces that end
-pub nothing_read : (x t : ℚ) → piece_value (nothing_at x) t ≡ Inf
-nothing_read x t = elim (le_or_lt t x) [ inl h ↦ value_by (nothing_at x) t h | inr h ↦ value_past (nothing_at x) t h ]
 
 -- before its end a piece is read, and infinity from there on
 before_end : (p : Piece) (end : Ext) (t : ℚ) → Fin t <ₑ end → read (p ∷ after_end end) t ≡ piece_value p t
@@ -37,9 +35,6 @@ past_end p e t h = read_go p (nothing_at e) [] t h ∙ read_one (nothing_at e) t
 end_cases : (end : Ext) (t : ℚ) → (Fin t <ₑ end) ⊎ ((e : ℚ) × (end ≡ Fin e) × (e ≤ℚ t))
 end_cases Inf t = inl tt
 end_cases (Fin e) t = elim (le_or_lt e t) [ inl h ↦ inr (e, refl, h) | inr h ↦ inl h ]
-
-not_both : {x y : ℚ} → x ≤ℚ y → y <ℚ x → ⊥
-not_both {x} {y} h k = with2 x y (λ c. omega (arith, c.le, c.lt, c.same))
 
 -- ---- parts from their start on
 -- a segment's piece, read before the segment's end
@@ -70,7 +65,7 @@ alone_reads (Open from to line) t h late =
       | inr m ↦
           let (e, is, past) = m in
           ap (λ z. read (p ∷ after_end z) t) is ∙ past_end p e t past
-          ∙ sym (r.elsewhere (λ w. not_both past (subst (λ z. Fin t <ₑ z) is w.before)) tt tt)
+          ∙ sym (r.elsewhere (λ w. not_le_of_lt (subst (λ z. Fin t <ₑ z) is w.before) past) tt tt)
     ]
 
 -- two parts, the point between at x
@@ -85,7 +80,7 @@ two_reads from x v line end next t long longer late =
       | inr early ↦
           read_stop p q (after_end end) t early
           ∙ open_read from line (Fin x) t late (joined_value record { first = Open from (Fin x) line; join = Some (Point x v); second = Some (Open x end next) } t)
-          (λ e. sym (r.elsewhere (λ w. lt_irrefl from (subst (λ z. from <ℚ z) e w.past)) (λ c. lt_irrefl x (subst (λ z. z <ℚ x) c early)) (λ w. not_both (le_of_lt w.past) early)))
+          (λ e. sym (r.elsewhere (λ w. lt_irrefl from (subst (λ z. from <ℚ z) e w.past)) (λ c. lt_irrefl x (subst (λ z. z <ℚ x) c early)) (λ w. not_le_of_lt early (le_of_lt w.past))))
           (λ k. sym (r.first record { past = k; before = early }))
       | inl past ↦ read_go p q (after_end end) t past ∙ elim (end_cases end t) [
         | inl b ↦ before_end q end t b ∙ elim (le_or_lt t x) [
@@ -96,7 +91,7 @@ two_reads from x v line end next t long longer late =
             let (e, is, over) = m in
             let beyond : x <ℚ e = subst (λ z. Fin x <ₑ z) is longer in
             ap (λ z. read (q ∷ after_end z) t) is ∙ past_end q e t over
-            ∙ sym (r.elsewhere (λ w. not_both past w.before) (λ c. not_both over (subst (λ z. z <ℚ e) (sym c) beyond)) (λ w. not_both over (subst (λ z. Fin t <ₑ z) is w.before)))
+            ∙ sym (r.elsewhere (λ w. not_le_of_lt w.before past) (λ c. not_le_of_lt (subst (λ z. z <ℚ e) (sym c) beyond) over) (λ w. not_le_of_lt (subst (λ z. Fin t <ₑ z) is w.before) over))
       ]
     ]
 
@@ -121,7 +116,7 @@ early_reads : (first : Element) (join second : Option Element) (t : ℚ) → Are
 early_reads (Point x v) None None t h early =
     (joined_read (Point x v) None None t h).elsewhere (λ e. lt_irrefl x (subst (λ z. z <ℚ x) e early)) tt tt
 early_reads (Open from to line) None None t h early =
-    (joined_read (Open from to line) None None t h).elsewhere (λ w. not_both (le_of_lt w.past) early) tt tt
+    (joined_read (Open from to line) None None t h).elsewhere (λ w. not_le_of_lt early (le_of_lt w.past)) tt tt
 early_reads first None (Some second) t h early = absurd h
 early_reads (Point x v) (Some join) None t h early = absurd h
 early_reads (Open from to line) (Some join) None t h early = absurd h
@@ -131,9 +126,9 @@ early_reads (Open from to line) (Some (Point x v)) (Some (Point y u)) t h early 
 early_reads (Open from to line) (Some (Point x v)) (Some (Open y end next)) t h early =
     let before : t <ℚ x = lt_trans early h.2 in
     (joined_read (Open from to line) (Some (Point x v)) (Some (Open y end next)) t h).elsewhere
-    (λ w. not_both (le_of_lt w.past) early)
+    (λ w. not_le_of_lt early (le_of_lt w.past))
     (λ c. lt_irrefl x (subst (λ z. z <ℚ x) c before))
-    (λ w. not_both (le_of_lt w.past) (subst (λ z. t <ℚ z) (sym h.1) before))
+    (λ w. not_le_of_lt (subst (λ z. t <ℚ z) (sym h.1) before) (le_of_lt w.past))
 
 -- ---- the starts
 record ListStarts (start : ℚ) (ps : List Piece) : Type 0 where

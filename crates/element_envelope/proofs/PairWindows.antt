@@ -16,7 +16,7 @@ use Rattle.affine_segment.specs.declared.element.Joined.{Joined}
 use Rattle.affine_segment.specs.Elements.{start_of, joined_value, IsConvolved}
 use Rattle.affine_segment.specs.MadeParts.{AreParts}
 use Rattle.affine_segment.specs.Pieces.{Each}
-use Rattle.affine_segment.specs.Reading.{read}
+use Rattle.affine_segment.specs.Reading.{read, nothing_at}
 use Rattle.upp_limits.specs.Limits.{Sizes}
 use Rattle.upp_limits.specs.Sized.{times_largest}
 use Rattle.upp_normal.proofs.AnswerRoom.{more_largest}
@@ -26,7 +26,7 @@ use Rattle.upp_normal.proofs.NormaliseCuts.{zero_upto}
 use Rattle.upp_normal.proofs.NormaliseLists.{each_upto}
 use Rattle.upp_normal.proofs.UnrolledPieces.{each_with}
 use Rattle.element_envelope.specs.ElementRoom.{OperandElement, SumTime, SumEnd, SumValue, SumElement, SumPart, SumJoined, HaveRoom}
-use Rattle.element_envelope.specs.JoinedWindows.{nothing_at, after_end, part_pieces, first_pieces, turn_pieces, joined_list, lead_of, window_of, IsWindowOf}
+use Rattle.element_envelope.specs.JoinedWindows.{after_end, part_pieces, first_pieces, turn_pieces, joined_list, lead_of, window_of, IsWindowOf}
 use Rattle.element_envelope.specs.SumWindows.{SumValueOn, SumValueAt, SumLineAt, SumPiece}
 use Rattle.element_envelope.specs.Envelopes.{IsEnvelope}
 use Rattle.element_envelope.specs.EnvelopeWindows.{EnvelopeRoom, IsEnvelopeWindow}

@@ -8,12 +8,8 @@ use Rattle.affine_segment.specs.declared.element.Element.{Element}
 use Rattle.affine_segment.specs.declared.element.Element.TheVariants.{Point, Open}
 use Rattle.affine_segment.specs.declared.element.Joined.{Joined}
 use Rattle.affine_segment.specs.Elements.{start_of, joined_value}
-use Rattle.affine_segment.specs.Reading.{read}
+use Rattle.affine_segment.specs.Reading.{read, nothing_at}
 use Rattle.affine_segment.specs.Pieces.{StartsAtZero}
-
--- infinity from x on
-abbrev pub nothing_at : ℚ → Piece
-nothing_at x = record { x = x; at = Inf; line = None }
 
 -- from an end on
 abbrev pub after_end : Ext → List Piece

@@ -3,7 +3,7 @@
 ghost use Rattle.std.specs.Prelude.{◌≡◌, pos, [], ◌∷◌, length, IfOk};
 ghost use Rattle.rational.specs.Rational.{int};
 ghost use Rattle.upp_curve.specs.Unrolled.{upto};
-ghost use Rattle.element_envelope.specs.JoinedWindows.{nothing_at};
+ghost use Rattle.affine_segment.specs.Reading.{nothing_at};
 ghost use Rattle.element_envelope.specs.EnvelopeWindows.{EnvelopeRoom, IsEnvelopeWindow};
 
 use crate::pair::joined;

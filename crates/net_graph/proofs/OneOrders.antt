@@ -5,12 +5,7 @@ use Rattle.upp_limits.specs.Windows.{IsLeast}
 use Rattle.net_model.specs.Networks.{Net}
 use Rattle.net_model.specs.Orders.{IsReady, IsOrder}
 use Rattle.net_graph.specs.OrderLaws.{OneOrder}
-
-pub one_least : (P : ℕ → Type 0) (x y : ℕ) → IsLeast P x → IsLeast P y → x ≡ y
-one_least P x y a b =
-    let not_less : ¬ (x < y) = λ h. b.least x h a.meets in
-    let not_more : ¬ (y < x) = λ h. a.least y h b.meets in
-    omega arith
+use Rattle.upp_limits.proofs.LeastNumbers.{least_unique}
 
 same_front : (net : Net) (xs ys : List ℕ) → IsOrder net xs → IsOrder net ys → (n : ℕ) → n ≤ length net.servers → take n xs ≡ take n ys
 same_front net xs ys a b zero h = refl
@@ -21,7 +16,7 @@ same_front net xs ys a b (suc n) h =
     let front = same_front net xs ys a b n before in
     let P : List ℕ → Type 0 = λ zs. IsLeast (IsReady net zs) (get_or ys n 0) in
     let same : get_or xs n 0 ≡ get_or ys n 0 =
-    one_least (IsReady net (take n xs)) (get_or xs n 0) (get_or ys n 0) (a.each n of_xs) (subst P (sym front) (b.each n of_ys)) in
+    least_unique (IsReady net (take n xs)) (get_or xs n 0) (get_or ys n 0) (a.each n of_xs) (subst P (sym front) (b.each n of_ys)) in
     let step : take (n + 1) xs ≡ take (n + 1) ys =
     take_more xs n 0 of_xs ∙ ap (λ zs. zs ++ get_or xs n 0 ∷ []) front ∙ ap (λ z. take n ys ++ z ∷ []) same ∙ sym (take_more ys n 0 of_ys) in
     rw (← add-one) step

@@ -1,6 +1,6 @@
 -- Numbers on a grid and within a bound: sums, products and quotients of such numbers, and how large their parts are.
 use Rattle.std.specs.Prelude.{◌≡◌, ◌≢◌, ℕ, zero, suc, ◌*◌, ◌/◌, ◌<◌, ◌≤◌, ℤ, pos, negsuc, ◌+ℤ◌, ◌*ℤ◌, neg_ℤ, nat_abs}
-use Rattle.std.proofs.Common.{arith, sym, ap, ap₂, ◌∙◌, refl, subst}
+use Rattle.std.proofs.Common.{arith, sym, ap, ap₂, ◌∙◌, refl, subst, inl, inr}
 use Prim.Native.Nat.{◌∣◌}
 use Rattle.std.proofs.lemmas.Int.{ints}
 use native.Mathlib.Nat.{dvd-mul_left, dvd-mul_right, dvd-zero, le_of_dvd, mul-div_cancel', mul-le-mul_left}
@@ -19,6 +19,8 @@ use Rattle.rational.proofs.Integers.{mul_whole, nat_nonneg, nat_le_out}
 use Rattle.rational.proofs.Laws.{add_mul, sub_mul, mul_assoc, mul_comm as mul_comm_q, mul_neg, neg_mul, mul_add}
 use Rattle.rational.proofs.Laws.{mul_sub, mul_nonneg, mul_le_mul, mul_le_mul_right, div_mul, le_trans}
 use Rattle.rational.proofs.Linear.{with1, with2, with3, with4}
+use Rattle.rational.specs.MinMax.{max_q}
+use Rattle.rational.proofs.MinMax.{max_q_one}
 
 -- ---- on a grid
 -- a whole number stands on every grid
@@ -228,3 +230,9 @@ within_floor v q w =
       low = with3 v q f (λ c. omega (arith, c.le, c.lt, c.same));
       high = with3 v q f (λ c. omega (arith, c.le, c.lt, c.same));
     }
+
+pub max_whole : (d : ℕ) (a b : ℚ) → Whole d a → Whole d b → Whole d (max_q a b)
+max_whole d a b wa wb = elim (max_q_one a b) [
+  | inl e ↦ subst (Whole d) (sym e) wa
+  | inr e ↦ subst (Whole d) (sym e) wb
+]

@@ -1,9 +1,10 @@
 -- The whole numbers among the rationals: their order, sums and products are the integers'.
-use Rattle.std.specs.Prelude.{◌≡◌, ℕ, suc, ◌<◌, ◌≤◌, ℤ, pos, ◌+ℤ◌, ◌*ℤ◌, neg_ℤ, ◌≤ℤ◌, ◌<ℤ◌}
-use Rattle.std.proofs.Common.{arith, sym, ap, ◌∙◌}
+use Rattle.std.specs.Prelude.{◌≡◌, ◌⊎◌, ℕ, suc, ◌<◌, ◌≤◌, ℤ, pos, ◌+ℤ◌, ◌*ℤ◌, neg_ℤ, ◌≤ℤ◌, ◌<ℤ◌}
+use Rattle.std.proofs.Common.{arith, sym, ap, ◌∙◌, inl, inr}
 use Rattle.std.proofs.lemmas.Int.{ints}
 use Rattle.rational.specs.Rational.{◌+ℚ◌, ◌*ℚ◌, neg_ℚ, ◌≤ℚ◌, ◌<ℚ◌, int, frac}
 use Rattle.rational.proofs.Over.{same_over, le_over, lt_over, add_over, neg_over, mul_frac}
+use Rattle.std.proofs.lemmas.Bool.{cases_lt}
 
 -- an integer times a fraction
 pub mul_whole : (z a : ℤ) (d : ℕ) → frac z 0 *ℚ frac a d ≡ frac (z *ℤ a) d
@@ -50,3 +51,6 @@ int_mul a b = mul_whole a b 0
 
 pub nat_next : (n : ℕ) → int (pos (suc n)) ≡ int (pos n) +ℚ int (pos 1)
 nat_next n = sym (int_add (pos n) (pos 1) ∙ ap int (ap pos (omega arith)))
+
+pub le_or_more : (a b : ℕ) → (a ≤ b) ⊎ (suc b ≤ a)
+le_or_more a b = elim (cases_lt b a) [ inl h ↦ inr h | inr h ↦ inl h ]

@@ -1,13 +1,13 @@
 -- Quotients: what they are, how they are told from products, and the order.
-use Rattle.std.specs.Prelude.{◌≡◌, ◌≢◌, ℕ, suc, ℤ, pos, ◌↔◌, ◌⊎◌}
+use Rattle.std.specs.Prelude.{◌≡◌, ◌≢◌, ℕ, suc, ◌≤◌, ℤ, pos, ◌↔◌, ◌⊎◌}
 use Rattle.std.proofs.Common.{arith, sym, ap, ◌∙◌, subst, inl, inr}
 use Rattle.std.proofs.lemmas.Int.{ints}
 use Rattle.rational.specs.Rational.{ℚ, ◌+ℚ◌, ◌-ℚ◌, ◌*ℚ◌, ◌/ℚ◌, inv_ℚ, neg_ℚ, ◌≤ℚ◌, ◌<ℚ◌, int, frac}
 use Rattle.rational.specs.Fractions.{frac-same}
 use Rattle.rational.proofs.Integers.{mul_whole, nat_lt}
-use Rattle.rational.proofs.Laws.{above, mul_comm, add_mul, sub_mul, mul_cancel, mul_le_mul_right, mul_lt_mul_right}
+use Rattle.rational.proofs.Laws.{above, mul_comm, add_mul, sub_mul, mul_cancel, mul_le_mul_right, mul_lt_mul_right, mul_sub}
 use Rattle.rational.proofs.Laws.{div_mul, le_of_mul, lt_of_mul, le_or_lt, not_zero, antisym, one_mul, zero_mul}
-use Rattle.rational.proofs.Linear.{with1}
+use Rattle.rational.proofs.Linear.{with1, with6}
 
 -- z is x / y exactly where z y is x
 pub div_unique : (x y z : ℚ) → y ≢ int (pos 0) → z *ℚ y ≡ x → x /ℚ y ≡ z
@@ -84,3 +84,11 @@ div_pos x y h l = (lt_div x y (int (pos 0)) h).1 (subst (λ v. v <ℚ x) (sym (z
 -- ---- some natural times a positive number is above each number
 pub times_above : (x e : ℚ) → int (pos 0) <ℚ e → (n : ℕ) × (x <ℚ int (pos n) *ℚ e)
 times_above x e h = let (n, l) = above (x /ℚ e) in (n, (div_lt x e (int (pos n)) h).0 l)
+
+-- a share of what is above 0 is above 0
+pub part_pos : (x : ℚ) (n : ℕ) → int (pos 0) <ℚ x → 2 ≤ n → int (pos 0) <ℚ x /ℚ int (pos n)
+part_pos x n some two = div_pos x (int (pos n)) (nat_lt 0 n (omega arith)) some
+
+-- where the first rises by more each time, it is past the second by y at some time
+pub past_each : (x v a b y n : ℚ) → y -ℚ (x -ℚ v) <ℚ n *ℚ (a -ℚ b) → y <ℚ (x +ℚ n *ℚ a) -ℚ (v +ℚ n *ℚ b)
+past_each x v a b y n h = let e = mul_sub n a b in with6 x v y (n *ℚ a) (n *ℚ b) (n *ℚ (a -ℚ b)) (λ c. omega (arith, c.le, c.lt, c.same))

@@ -34,8 +34,8 @@ use Rattle.subadd_closure.specs.CurveParts.{pieces_end}
 use Rattle.subadd_closure.proofs.ElementTimes.{starts_nonneg}
 use Rattle.subadd_closure.proofs.EachParts.{starts_before}
 use Rattle.subadd_closure.specs.SegmentLimits.{IsElementOf, LengthsFit}
-use Rattle.closure_elements.proofs.FewCopies.{end_is}
 use Rattle.upp_limits.proofs.KnownNumbers.{two_ones}
+use Rattle.upp_limits.proofs.FewCopies.{end_is}
 
 -- ---- times
 -- on the grid of times, up to the end of a window

@@ -4,7 +4,7 @@ use Rattle.std.proofs.Common.{arith, sym, refl, ap, ◌∙◌, subst}
 use Rattle.rational.specs.Rational.{ℚ, ◌+ℚ◌, ◌/ℚ◌, ◌≤ℚ◌, ◌<ℚ◌, int}
 use Rattle.rational.specs.Extended.{Ext, ◌+ₑ◌}
 use Rattle.rational.specs.declared.Extended.TheVariants.{Fin}
-use Rattle.rational.proofs.Quotients.{div_pos}
+use Rattle.rational.proofs.Quotients.{div_pos, part_pos}
 use Rattle.rational.proofs.Integers.{nat_lt}
 use Rattle.rational.proofs.Laws.{lt_le_trans, le_lt_trans, le_refl, le_of_lt}
 use Rattle.affine_segment.specs.declared.line.Line.{Line}
@@ -68,13 +68,10 @@ module _ (f g : ℚ → Ext) (same : (t : ℚ) → zero_q <ℚ t → g t ≡ f t
     later_none p.x ps (subst (λ y. zero_q ≤ℚ y) (sym z.0) (le_refl zero_q)) z.1 h.1,
   )
 
-share_pos : (d : ℚ) (n : ℕ) → zero_q <ℚ d → 2 ≤ n → zero_q <ℚ d /ℚ int (pos n)
-share_pos d n some m = div_pos d (int (pos n)) (nat_lt 0 n (omega arith)) some
-
 normal_by_tail : (v : Ext) (ps : List Piece) (tail : Tail) (f g : ℚ → Ext) → StartsAtZero ps → TailFits ps tail
     → ((t : ℚ) → zero_q <ℚ t → g t ≡ f t) → KeepsTail g tail → TailNormal ps tail f → TailNormal (first_at v ps) tail g
 normal_by_tail v ps (Periodic rank d c) f g z fits same (late, none) h = record {
-  least_period = λ n m rule. h.least_period n m (repeats_on f g rank (d /ℚ int (pos n)) (c /ℚ int (pos n)) same late (share_pos d n fits.some m) rule);
+  least_period = λ n m rule. h.least_period n m (repeats_on f g rank (d /ℚ int (pos n)) (c /ℚ int (pos n)) same late (part_pos d n fits.some m) rule);
   least_rank = none_before f g same rank d c fits.some v ps z none h.least_rank;
   not_one_line = λ l line. h.not_one_line l (λ t k. sym (same t (lt_le_trans late k)) ∙ line t k);
 }

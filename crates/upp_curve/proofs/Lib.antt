@@ -18,3 +18,4 @@ pub mod LineRising
 pub mod JoinLoops
 pub mod Gentle
 pub mod Joins
+pub mod SteadyTimes

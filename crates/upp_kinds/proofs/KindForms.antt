@@ -9,7 +9,7 @@ use Rattle.rational.specs.Extended.{Ext, ◌+ₑ◌}
 use Rattle.rational.specs.declared.Extended.TheVariants.{Fin}
 use Rattle.rational.proofs.Linear.{with1, with2, with3, with7}
 use Rattle.rational.proofs.Laws.{antisym, le_refl, le_or_lt, le_of_lt, lt_irrefl, lt_le_trans, le_lt_trans, between, mul_comm, mul_assoc, mul_add, mul_sub, add_mul, mul_one, mul_pos, mul_zero, mul_cancel, div_mul, not_zero, le_of_mul, lt_of_mul, mul_lt_mul_right}
-use Rattle.rational.proofs.Integers.{int_mul, int_add, int_same, nat_lt, nat_le_out, nat_lt_out}
+use Rattle.rational.proofs.Integers.{int_mul, int_add, int_same, nat_lt, nat_le_out, nat_lt_out, le_or_more}
 use Rattle.rational.proofs.MinMax.{le_q_not, below_min_in, below_min_out}
 use Rattle.rational.proofs.Over.{le_q_out}
 use Rattle.affine_segment.specs.declared.line.Line.{Line}
@@ -29,6 +29,7 @@ use Rattle.upp_kinds.proofs.GateValues.{gate_pieces, closed_value, open_value}
 use Rattle.upp_kinds.proofs.StairValues.{one_step, first_step, step_pieces, steps_is, ratio_high}
 use Rattle.upp_curve.proofs.Repeats.{repeated_first}
 use Rattle.rational.proofs.ExtendedOrder.{fin_same}
+use Rattle.rational.proofs.Quotients.{part_pos}
 
 -- ---- lines that differ
 abbrev slope_or : ℚ → Option Line → ℚ
@@ -60,8 +61,6 @@ rate_latency_normal R T rate late = elim (le_or_lt T zero_q) [
 ]
 
 -- ---- a stair
-le_or_more : (a b : ℕ) → (a ≤ b) ⊎ (suc b ≤ a)
-le_or_more a b = elim (le_or_lt (int (pos a)) (int (pos b))) [ inl h ↦ inl (nat_le_out a b h) | inr h ↦ inr (nat_lt_out b a h) ]
 
 pos_same : {m n : ℕ} → pos m ≡ pos n → m ≡ n
 pos_same {m} {n} e = ap nat_abs e
@@ -301,14 +300,6 @@ no_shorter_gate f R c y w x v G pos_x short pos_v h = elim (le_or_lt x y) [
         apart : (ry r0x rtx rt rx r0 : ℚ) → neg_ℚ ry +ℚ r0x ≡ zero_q +ℚ v → neg_ℚ ry +ℚ rtx ≡ zero_q +ℚ v → rtx ≡ rt +ℚ rx → r0x ≡ r0 +ℚ rx → r0 ≡ zero_q → zero_q <ℚ rt → ⊥
         apart ry r0x rtx rt rx r0 e f a b z k = with7 ry r0x rtx rt rx r0 v (λ c. omega (arith, c.le, c.lt, c.same, e, f, a, b, z))
 
--- a share of what is above 0 is above 0 and less
-share_pos : (c : ℚ) (n : ℕ) → zero_q <ℚ c → 2 ≤ n → zero_q <ℚ c /ℚ int (pos n)
-share_pos c n some two =
-    let N = int (pos n) in
-    let n_pos : zero_q <ℚ N = nat_lt 0 n (omega arith) in
-    let z : zero_q *ℚ N ≡ zero_q = mul_comm zero_q N ∙ mul_zero N in
-    lt_of_mul N zero_q (c /ℚ N) n_pos (subst (λ x. x <ℚ (c /ℚ N) *ℚ N) (sym z) (subst (λ x. zero_q <ℚ x) (sym (div_mul c N (not_zero N n_pos))) some))
-
 share_less : (c : ℚ) (n : ℕ) → zero_q <ℚ c → 2 ≤ n → c /ℚ int (pos n) <ℚ c
 share_less c n some two =
     let N = int (pos n) in
@@ -350,7 +341,7 @@ gated_normal R c s rate slot short = record {
   no_merge = (λ h. not_flat R (neg_ℚ (R *ℚ (c -ℚ s))) zero_q rate h.1, tt);
   tail = record {
     least_period = λ n two h. no_shorter_gate f R c (c -ℚ s) (R *ℚ s) (c /ℚ int (pos n)) ((R *ℚ s) /ℚ int (pos n)) is
-        (share_pos c n cycle two) (share_less c n cycle two) (share_pos (R *ℚ s) n (mul_pos rate slot) two) h;
+        (part_pos c n cycle two) (share_less c n cycle two) (part_pos (R *ℚ s) n (mul_pos rate slot) two) h;
     least_rank = (λ l. absurd (lt_irrefl zero_q l), (λ l. absurd (lt_irrefl zero_q (le_lt_trans (le_of_lt up) l)), tt));
     not_one_line = no_gate_line f R c (c -ℚ s) (R *ℚ s) is;
   };

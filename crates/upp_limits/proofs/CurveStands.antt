@@ -14,7 +14,7 @@ use Rattle.affine_segment.specs.declared.line.Piece.{Piece}
 use Rattle.upp_curve.specs.declared.curve.Tail.{Tail}
 use Rattle.upp_curve.specs.declared.curve.Tail.TheVariants.{Periodic, Affine, Infinite}
 use Rattle.upp_curve.specs.Curve.{SpecCurve}
-use Rattle.upp_curve.specs.Steady.{rank_of, steady, steady_in, later_unless}
+use Rattle.upp_curve.specs.Steady.{rank_of, steady, steady_in, later_unless, last_of}
 use Rattle.upp_limits.specs.Periods.{HasPeriod, own_period}
 use Rattle.upp_curve.specs.Unrolled.{copies_below}
 use Rattle.min_plus.specs.WholeUp.{whole_up}
@@ -22,12 +22,13 @@ use Rattle.affine_segment.specs.Pieces.{Each}
 use Rattle.upp_curve.specs.Normal.{IsRaw, TailFits}
 use Rattle.upp_limits.specs.Spans.{Span, spans, copies_of, once_below, span_below, spans_below}
 use Rattle.upp_limits.specs.Limits.{Numbers, Sizes, sizes_of, curve_numbers, span_values, span_slopes, own_end, own_sizes}
-use Rattle.upp_limits.specs.Sized.{IsValue, IsSlope, Stands, AreSizes, SpanStands, TailStands, CurveStands}
+use Rattle.upp_limits.specs.Sized.{IsValue, IsSlope, Stands, AreSizes, SpanStands, TailStands, CurveStands, LineStands}
 use Rattle.upp_limits.proofs.Every.{every_flat_out, every_map_out, every_weaken}
 use Rattle.upp_limits.proofs.CommonDen.{common_den_pos, common_den_each, bound_pos}
 use Rattle.upp_limits.proofs.Copies.{copies_out, copy_zero, copy_among}
 use Rattle.upp_limits.proofs.Rounding.{whole_up_least}
 use Rattle.upp_limits.proofs.Stands.{sizes_stand, span_stands}
+use Rattle.upp_curve.proofs.SteadyTimes.{later_at_least}
 
 -- ---- the sizes
 pub are_sizes : (end : ℚ) (n : Numbers) → AreSizes (sizes_of end n) end
@@ -137,10 +138,6 @@ pub each_up : (ps : List Piece) (s t : ℚ) → s <ℚ t → Each (λ p. p.x ≤
 each_up [] s t l h = tt
 each_up (p ∷ ps) s t l h = (le_lt_trans h.0 l, each_up ps s t l h.1)
 
-pub later_at_least : (b : Bool) (r : ℚ) → r ≤ℚ later_unless b r
-later_at_least true r = with1 r (λ c. omega (arith, c.le, c.lt, c.same))
-later_at_least false r = with1 r (λ c. omega (arith, c.le, c.lt, c.same))
-
 -- each piece starts below the end of the curve's own window
 pub starts_below_own_end : (c : SpecCurve) → IsRaw c → Each (λ p. p.x <ℚ own_end c) c.pieces
 unfolding own_end steady own_period
@@ -164,3 +161,9 @@ own_are_sizes c = are_sizes (own_end c) (curve_numbers (own_end c) c)
 pub own_stands : (c : SpecCurve) → IsRaw c → CurveStands (own_sizes c) c
 unfolding own_sizes
 own_stands c raw = curve_stands (own_sizes c) (own_end c) c raw (starts_below_own_end c raw) (sizes_stand (own_end c) (curve_numbers (own_end c) c))
+
+-- the slope of the last line counts
+pub last_slope : (z : Sizes) (rank : ℚ) (p : Piece) (ps : List Piece) → AllByRecursion (SpanStands z) (spans (Affine rank) (p ∷ ps)) → LineStands z (last_of p ps).line
+unfolding spans
+last_slope z rank p [] h = h.0.slope
+last_slope z rank p (q ∷ qs) h = last_slope z rank q qs h.1

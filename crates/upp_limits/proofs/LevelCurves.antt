@@ -25,7 +25,7 @@ use Rattle.upp_limits.specs.Levels.{icept_of, level_of, IsLevelAbove}
 use Rattle.upp_limits.specs.Gauges.{ValueAbove, EndsAbove}
 use Rattle.upp_curve.proofs.Steady.{read_past}
 use Rattle.upp_curve.proofs.Repeats.{repeated_rule, repeats_times}
-use Rattle.rational.proofs.ExtendedOrder.{antisym_ext}
+use Rattle.rational.proofs.ExtendedOrder.{antisym_ext, fin_same}
 
 -- f is nowhere above x, and is x from some time on
 pub record EndsAt (x : ℚ) (f : ℚ → Ext) : Type 0 where
@@ -33,9 +33,6 @@ pub record EndsAt (x : ℚ) (f : ℚ → Ext) : Type 0 where
   pub from : ℚ
   pub nonneg : zero_q ≤ℚ from
   pub reached : f from ≡ Fin x
-
-fin_same : (x y : ℚ) → Fin x ≡ Fin y → x ≡ y
-fin_same x y e = cc
 
 -- ---- which ends above
 ext_refl : (x : Ext) → x ≤ₑ x
@@ -45,12 +42,12 @@ ext_refl (Fin x) = le_refl x
 below_and_most : (a b : Ext) (x y : ℚ) → a <ₑ b → a ≡ Fin y → b ≤ₑ Fin x → y <ℚ x
 below_and_most Inf b x y h e k = absurd h
 below_and_most (Fin a) Inf x y h e k = absurd k
-below_and_most (Fin a) (Fin b) x y h e k = subst (λ z. z <ℚ x) (fin_same a y e) (lt_le_trans h k)
+below_and_most (Fin a) (Fin b) x y h e k = subst (λ z. z <ℚ x) (fin_same e) (lt_le_trans h k)
 
 most_and_below : (a b : Ext) (x y : ℚ) → y <ℚ x → a ≤ₑ Fin y → b ≡ Fin x → a <ₑ b
 most_and_below Inf b x y h l e = absurd l
 most_and_below (Fin a) Inf x y h l e = tt
-most_and_below (Fin a) (Fin b) x y h l e = subst (λ z. a <ℚ z) (sym (fin_same b x e)) (le_lt_trans l h)
+most_and_below (Fin a) (Fin b) x y h l e = subst (λ z. a <ℚ z) (sym (fin_same e)) (le_lt_trans l h)
 
 pub above_in : (f g : ℚ → Ext) (x y : ℚ) → EndsAt x f → EndsAt y g → y <ℚ x → ValueAbove f g
 above_in f g x y F G h = record { at = F.from; nonneg = F.nonneg; above = λ u s. most_and_below (g u) (f F.from) x y h (G.most u s) F.reached }
@@ -97,7 +94,7 @@ slope_some None x e = absurd (inf_fin x e)
   where
     inf_fin : (x : ℚ) → Inf ≡ Fin x → ⊥
     inf_fin x e = cc
-slope_some (Some m) x e = (m, refl, fin_same m.slope x e)
+slope_some (Some m) x e = (m, refl, fin_same e)
 
 -- a periodic tail that does not rise would be one line
 no_rise : (c d : ℚ) → zero_q <ℚ d → c /ℚ d ≡ zero_q → c ≡ zero_q
@@ -155,7 +152,7 @@ level_found c is rises e = by_tail c.pieces c.tail is rises e
     by_tail ps (Periodic rank d c) is rises e =
         let f = value_at record { pieces = ps; tail = Periodic rank d c } in
         let h = is.normal.raw.tail in
-        let level : c ≡ zero_q = no_rise c d h.some (fin_same (c /ℚ d) zero_q (periodic_rate ps rank d c ∙ e)) in
+        let level : c ≡ zero_q = no_rise c d h.some (fin_same (periodic_rate ps rank d c ∙ e)) in
         let rule : Repeats f rank d zero_q = subst (λ k. Repeats f rank d k) level (periodic_rule ps rank d c h.some) in
         let (l, line) = one_line f rank (f rank) (λ t k. flat f rank d t h.nonneg h.some rises rule k) in
         absurd (is.normal.tail.not_one_line l line)

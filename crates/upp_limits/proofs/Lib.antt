@@ -24,3 +24,5 @@ pub mod ScaledCurves
 pub mod Operands
 pub mod Tallies
 pub mod CallSizes
+pub mod FewCopies
+pub mod LeastNumbers

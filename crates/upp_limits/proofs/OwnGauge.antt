@@ -32,9 +32,10 @@ use Rattle.upp_limits.specs.OwnWindow.{LastBy, end_from, affine_keeps, infinite_
 use Rattle.upp_curve.proofs.Steady.{last_found}
 use Rattle.upp_limits.proofs.PieceLists.{starts_nonneg}
 use Rattle.upp_limits.proofs.Stands.{sizes_stand}
-use Rattle.upp_limits.proofs.CurveStands.{are_sizes, own_are_sizes, own_stands, later_at_least}
+use Rattle.upp_limits.proofs.CurveStands.{are_sizes, own_are_sizes, own_stands}
 use Rattle.upp_limits.proofs.NarrowSizes.{IsNarrow, narrow_gauge, two_times}
 use Rattle.upp_limits.proofs.KnownNumbers.{start_fits, curve_known}
+use Rattle.upp_curve.proofs.SteadyTimes.{later_at_least}
 
 -- ---- the last piece
 pub last_is : (p : Piece) (ps : List Piece) (d : Piece) → get_or (p ∷ ps) (length (p ∷ ps) - 1) d ≡ last_of p ps

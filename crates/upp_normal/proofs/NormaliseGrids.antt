@@ -40,6 +40,7 @@ use Rattle.upp_normal.proofs.NormaliseDivided.{cut_of, period_is, not_one_line}
 use Rattle.upp_normal.proofs.NormaliseLeast.{share_back, share_some, whole_share}
 use Rattle.upp_normal.proofs.NormaliseForm.{each_part, merged_cons, two_periods_of, grids_through}
 use Rattle.upp_normal.proofs.NormaliseRoomy.{each_in, found_early}
+use Rattle.rational.proofs.ExtendedOrder.{fin_same}
 
 -- ---- numbers on the grids
 -- starts on 1 / T, slopes on 1 / S, values on 1 / D
@@ -104,16 +105,13 @@ q_same_or x y = elim (le_or_lt x y) [
   ]
 ]
 
-fin_same : (x y : ℚ) → Fin x ≡ Fin y → x ≡ y
-fin_same x y e = cc
-
 ext_same_or : (x y : Ext) → (x ≡ y) ⊎ ¬ (x ≡ y)
 ext_same_or Inf Inf = inl refl
 ext_same_or Inf (Fin y) = inr (λ e. cc)
 ext_same_or (Fin x) Inf = inr (λ e. cc)
 ext_same_or (Fin x) (Fin y) = elim (q_same_or x y) [
   | inl e ↦ inl (ap Fin e)
-  | inr n ↦ inr (λ e. n (fin_same x y e))
+  | inr n ↦ inr (λ e. n (fin_same e))
 ]
 
 pub some_same : (x y : Line) → Some x ≡ Some y → x ≡ y

@@ -36,12 +36,13 @@ use Rattle.upp_curve.proofs.ByTail.{value_of}
 use Rattle.upp_limits.proofs.NarrowSizes.{grids_narrow, IsNarrow, narrow_limit, grid_pos, value_whole, run_within, line_parts, slope_time_divides}
 use Rattle.upp_limits.proofs.PieceLists.{starts_nonneg}
 use Rattle.upp_limits.proofs.OwnGauge.{end_within}
-use Rattle.upp_limits.proofs.CurveStands.{curve_stands, own_are_sizes, own_stands, starts_below_own_end, later_at_least}
+use Rattle.upp_limits.proofs.CurveStands.{curve_stands, own_are_sizes, own_stands, starts_below_own_end}
 use Rattle.affine_segment.proofs.PieceOrder.{each_map}
 use Rattle.upp_normal.proofs.NormaliseForm.{grids_through}
 use Rattle.upp_normal.proofs.NormaliseGrids.{ValueOn, LineOn, PieceOn, raw_on}
 use Rattle.upp_normal.proofs.AnswerRoom.{far, thrice}
 use Rattle.upp_normal.proofs.UnrolledPieces.{each_nonneg}
+use Rattle.upp_curve.proofs.SteadyTimes.{later_at_least}
 
 -- ---- the room that the sizes give: times up to three times the window's end, values up to three times the largest
 abbrev room_of : Sizes → ℚ → Room
