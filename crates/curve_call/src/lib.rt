@@ -19,6 +19,6 @@ pub use gate::first_window;
 pub use kept::seen;
 pub use laws::{Making, answers_are_determined, answers_are_finite, answers_grow, calls_in_turn};
 pub use rises::rise_over;
-pub use times::{common_period, own_period};
+pub use times::{begin, common_period, own_period};
 pub use upp_normal::steady_time;
 pub use windows::{CallWindow, call_window};

@@ -39,6 +39,14 @@ pub fn own_period(c: &Curve) -> Frac
     }
 }
 
+/// From when on a curve repeats, where 1 later than its rank fits.
+pub fn begin(c: &Curve) -> Frac
+    requires { OneLaterFits c.now }
+    ensures { result ≡ steady c.now }
+{
+    steady_time(c).unwrap()
+}
+
 /// The least number that is a whole multiple of both.
 fn least_multiple(a: Frac, b: Frac) -> Option<Frac>
     requires left { int (pos 0) <ℚ a }

@@ -11,10 +11,10 @@ ghost use Rattle.affine_segment.specs.Fits.{LineFits};
 ghost use Rattle.element_envelope.specs.ElementRoom.{OperandElement, SumElement, SumPart, SumJoined, HaveRoom};
 ghost use Rattle.curve_conv.specs.Stretches.{SumStretch, SumTimeIn, IsAhead, end_time, until_time, point_at, open_at, PartPair, part_pair_sum, IsProperPart, OperandPart};
 
-use crate::lower::{is_less, lower};
+use crate::lower::lower;
 use affine_segment::{Element, Joined, Line, value};
 use element_envelope::joined;
-use fraction128::{Ext, Frac};
+use fraction128::{Ext, Frac, is_less};
 use rational::Extended;
 use std::cmp::Ordering;
 use upp_normal::Stretch;

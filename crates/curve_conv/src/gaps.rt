@@ -15,61 +15,13 @@ ghost use Rattle.curve_conv.specs.Scans.{sizes_in, IsScan};
 ghost use Rattle.curve_conv.specs.SpanElements.{IsPartWindow};
 ghost use Rattle.curve_conv.specs.Stretches.{SumStretch, SumTimeIn};
 
-use crate::lower::is_less;
 use crate::made::part_at;
-use crate::pieces::line_value;
-use crate::rows::{Scan, difference};
-use affine_segment::Piece;
-use curve_least::Gap;
-use fraction128::{Ext, Frac};
+use crate::rows::Scan;
+use affine_segment::{Piece, line_value};
+use curve_least::{Gap, earlier, gap_of, larger};
+use fraction128::{Ext, Frac, is_less};
 use rational::Extended;
 use upp_normal::Stretch;
-
-// By how much a is above b.
-fn gap_of(a: Ext, b: Ext) -> Gap
-    requires { DifferenceFits a b }
-    ensures { result ≡ gap_of a b }
-{
-    match b {
-        Extended::Inf => Gap::NoTime,
-        Extended::Fin(y) => match a {
-            Extended::Inf => Gap::Never,
-            Extended::Fin(x) => Gap::Is(difference(x, y)),
-        },
-    }
-}
-
-// The larger of two numbers.
-fn greater(a: Frac, b: Frac) -> Frac
-    ensures { result ≡ max_q a b }
-{
-    if is_less(b, a) { a } else { b }
-}
-
-// The larger of two gaps.
-fn larger(a: Gap, b: Gap) -> Gap
-    ensures { result ≡ larger a b }
-{
-    match a {
-        Gap::NoTime => b,
-        Gap::Never => Gap::Never,
-        Gap::Is(x) => match b {
-            Gap::NoTime => Gap::Is(x),
-            Gap::Never => Gap::Never,
-            Gap::Is(y) => Gap::Is(greater(x, y)),
-        },
-    }
-}
-
-// The earlier of a time and another that may be missing.
-fn earlier(t: Frac, next: &Option<Frac>) -> Frac
-    ensures { result ≡ earlier_of t next.now }
-{
-    match next {
-        None => t,
-        Some(e) => { if is_less(*e, t) { *e } else { t } }
-    }
-}
 
 // The gap from t up to `end`, where neither goes on otherwise before that.
 fn stretch_gap(f: &Stretch, g: &Stretch, t: Frac, end: Frac) -> Gap
@@ -83,8 +35,8 @@ fn stretch_gap(f: &Stretch, g: &Stretch, t: Frac, end: Frac) -> Gap
         → IsGap (InWindow t end) slow fast result }
 {
     let start = gap_of(f.at, g.at);
-    let after = gap_of(line_value(&f.line, t), line_value(&g.line, t));
-    let before = gap_of(line_value(&f.line, end), line_value(&g.line, end));
+    let after = gap_of(line_value(f.line, t), line_value(g.line, t));
+    let before = gap_of(line_value(f.line, end), line_value(g.line, end));
     larger(start, larger(after, before))
 }
 

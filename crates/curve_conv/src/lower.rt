@@ -11,9 +11,8 @@ ghost use Rattle.curve_window.specs.Lies.{CrossFits};
 ghost use Rattle.curve_conv.specs.Stretches.{SumStretch, SumTimeIn, IsUnder, IsEarliest};
 
 use affine_segment::{Line, cross};
-use fraction128::{Ext, Frac};
+use fraction128::{Ext, Frac, is_less, lesser_value};
 use rational::Extended;
-use std::cmp::Ordering;
 use upp_normal::Stretch;
 
 /// The lower of two lines just after a time.
@@ -23,39 +22,6 @@ pub(crate) struct Under {
     pub(crate) line: Option<Line>,
     /// Until when it is the lower; none is for ever.
     pub(crate) turn: Option<Frac>,
-}
-
-/// Whether a is less than b.
-pub(crate) fn is_less(a: Frac, b: Frac) -> bool
-    ensures { IsTrue result ↔ (a <ℚ b) }
-{
-    match a.cmp(&b) {
-        Ordering::Less => true,
-        _ => false,
-    }
-}
-
-// The lesser of two numbers.
-fn lesser(a: Frac, b: Frac) -> Frac
-    ensures { result ≡ min_q a b }
-{
-    match a.cmp(&b) {
-        Ordering::Greater => b,
-        _ => a,
-    }
-}
-
-// The lesser of two values.
-fn lesser_value(a: Ext, b: Ext) -> Ext
-    ensures { result ≡ min_ext a b }
-{
-    match a {
-        Extended::Inf => b,
-        Extended::Fin(x) => match b {
-            Extended::Inf => a,
-            Extended::Fin(y) => Extended::Fin(lesser(x, y)),
-        },
-    }
 }
 
 /// The earlier of two times that may be missing.

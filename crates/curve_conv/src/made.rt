@@ -13,13 +13,12 @@ ghost use Rattle.curve_conv.specs.SpanElements.{listed, AreSpanElements, IsPartW
 ghost use Rattle.curve_conv.specs.Stretches.{SumStretch, IsAhead, point_at, open_at};
 
 use crate::elements::until_time;
-use crate::lower::is_less;
 use crate::parts::{limit_of, or_else, part};
 use crate::pieces::piece_stretch;
 use crate::rows::{Scan, early, is_time, time_or};
 use affine_segment::{Element, Line, Piece};
 use element_envelope::envelope;
-use fraction128::{Ext, Frac};
+use fraction128::{Ext, Frac, is_less};
 use rational::Extended;
 use std::alloc::{AllocError, Global};
 use upp_curve::Curve;

@@ -4,11 +4,10 @@ ghost use Rattle.std.specs.Prelude.{◌≡◌, ◌*◌, ◌/◌, ◌^◌, ◌<�
 ghost use Rattle.rational.specs.Rational.{int, ◌*ℚ◌, ◌≤ℚ◌, ◌<ℚ◌};
 ghost use Rattle.curve_conv.specs.Late.{IsLateCall, IsLateMost, IsPartsCall, IsSlowerMost};
 
-use crate::lower::is_less;
 use crate::number::lead;
 use crate::order::is_slower_curve;
 use crate::rows::Scan;
-use fraction128::Frac;
+use fraction128::{Frac, is_less};
 use upp_curve::Curve;
 use upp_limits::{OpKind, call_numbers};
 

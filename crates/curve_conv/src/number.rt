@@ -8,22 +8,12 @@ ghost use Rattle.upp_limits.specs.Windows.{IsLeast};
 ghost use Rattle.curve_conv.specs.Late.{IsLateAfter, IsLateNumber, IsLateCall};
 
 use crate::gaps::part_gap;
-use crate::lower::is_less;
 use crate::made::made_part;
-use crate::rows::{Scan, difference};
+use crate::rows::Scan;
 use curve_call::rise_over;
 use curve_least::Gap;
-use fraction128::Frac;
+use fraction128::{Frac, difference, is_less, quotient};
 use std::alloc::Global;
-
-/// a / b.
-fn quotient(a: Frac, b: Frac) -> Frac
-    requires some { b ≢ int (pos 0) }
-    requires fits { IsSmall (a /ℚ b) }
-    ensures { result ≡ a /ℚ b }
-{
-    Frac::div(a, b).unwrap()
-}
 
 /// By how much the faster curve rises more than the slower over a period.
 pub(crate) fn lead(s: &Scan, from: Frac, period: Frac) -> Frac

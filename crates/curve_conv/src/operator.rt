@@ -19,21 +19,13 @@ ghost use Rattle.curve_conv.specs.ConvolveCall.{IsConvolveFrame};
 use crate::{is_slower_curve, late_periods, most_periods};
 use curve_call::{CallWindow, Frame, answer, first_window, rise_over, within};
 use element_envelope::window_convolution;
-use fraction128::Frac;
+use fraction128::{Frac, difference};
 use std::alloc::{AllocError, Global};
 use std::sync::ledger::Ledger;
 use steps::Steps;
 use upp_curve::Curve;
 use upp_limits::{OpFault, OpKind, tally_over};
 use upp_normal::unrolled;
-
-// a - b.
-fn difference(a: Frac, b: Frac) -> Frac
-    requires { SumFits a (neg_ℚ b) }
-    ensures { result ≡ a -ℚ b }
-{
-    Frac::sub(a, b).unwrap()
-}
 
 // By how much the slower of two curves rises over a period.
 fn slower_rise(f: &Curve, g: &Curve, period: Frac) -> Frac

@@ -8,19 +8,11 @@ ghost use Rattle.curve_conv.specs.Late.{IsSlowerAfter, IsSlowerNumber, IsPartsCa
 
 use crate::number::late_number;
 use crate::rows::Scan;
-use curve_call::steady_time;
+use curve_call::begin;
 use curve_least::{Side, is_slower};
 use fraction128::Frac;
 use std::alloc::Global;
 use upp_curve::Curve;
-
-// From when on a curve repeats.
-fn begin(c: &Curve) -> Frac
-    requires { OneLaterFits c.now }
-    ensures { result ≡ steady c.now }
-{
-    steady_time(c).unwrap()
-}
 
 /// Whether f is the slower of two curves.
 pub fn is_slower_curve(f: &Curve, g: &Curve) -> bool

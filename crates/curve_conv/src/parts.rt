@@ -13,10 +13,10 @@ ghost use Rattle.curve_conv.specs.Scans.{sizes_in, IsScan, IsLimit, InPart, or_e
 ghost use Rattle.curve_conv.specs.Stretches.{SumStretch, IsAhead, PartRow, part_row_sum, IsProperPart, OperandPart};
 
 use crate::elements::{nothing, open_at, point_at};
-use crate::lower::{is_less, lower};
-use crate::rows::{Scan, difference, early, is_time, row, time_or};
+use crate::lower::lower;
+use crate::rows::{Scan, early, is_time, row, time_or};
 use affine_segment::Element;
-use fraction128::Frac;
+use fraction128::{Frac, difference, is_less};
 use upp_normal::{Stretch, stretch_at};
 
 /// The first of two times that may be missing, where it is there.

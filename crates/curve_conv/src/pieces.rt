@@ -11,61 +11,11 @@ ghost use Rattle.upp_normal.specs.Ahead.{GoesOn};
 ghost use Rattle.element_envelope.specs.SumWindows.{SumWindow};
 ghost use Rattle.curve_conv.specs.Stretches.{SumStretch, SumTimeIn};
 
-use affine_segment::{Line, Piece, value};
+use affine_segment::{Piece, next_start, piece_at, piece_value};
 use fraction128::{Ext, Frac};
 use rational::Extended;
 use std::cmp::Ordering;
 use upp_normal::Stretch;
-
-/// The value at t of a line that may be missing.
-pub(crate) fn line_value(line: &Option<Line>, t: Frac) -> Ext
-    requires { LineFitsAt t line.now }
-    ensures { result ≡ line_value line.now t }
-{
-    match line {
-        None => Extended::Inf,
-        Some(l) => Extended::Fin(value(l, t).unwrap()),
-    }
-}
-
-fn starts_by(p: &Piece, t: Frac) -> bool
-    ensures { result ≡ le_q p.now.x t }
-{
-    p.x <= t
-}
-
-// The last piece that starts at t or before.
-fn piece_at(pieces: &[Piece], t: Frac) -> Piece
-    requires starts { StartsAtZero pieces.now }
-    requires time { int (pos 0) ≤ℚ t }
-    ensures { (p : Piece) (ps : List Piece) → pieces.now ≡ p ∷ ps → result ≡ piece_in p ps t }
-{
-    let count = pieces.partition_point(|p| starts_by(p, t));
-    pieces[count - 1]
-}
-
-// Where the first piece after t starts.
-fn next_start(pieces: &[Piece], t: Frac) -> Option<Frac>
-    requires { StartsAtZero pieces.now }
-    ensures { result ≡ next_in pieces.now t None }
-{
-    let count = pieces.partition_point(|p| starts_by(p, t));
-    match pieces.get(count) {
-        None => None,
-        Some(p) => Some(p.x),
-    }
-}
-
-// The value at t of a piece that starts at t or before.
-fn piece_value(p: &Piece, t: Frac) -> Ext
-    requires { LineFitsAt t p.now.line }
-    ensures { result ≡ piece_value p.now t }
-{
-    match t.cmp(&p.x) {
-        Ordering::Greater => line_value(&p.line, t),
-        _ => p.at,
-    }
-}
 
 /// How pieces that two curves made go on from t, by binary search.
 pub(crate) fn piece_stretch(pieces: &[Piece], t: Frac) -> Stretch
@@ -74,7 +24,7 @@ pub(crate) fn piece_stretch(pieces: &[Piece], t: Frac) -> Stretch
     ensures sizes { (z : Sizes) (end : ℚ) → SumTimeIn z end t → SumWindow z end pieces.now → SumStretch z t result }
 {
     let piece = piece_at(pieces, t);
-    let next = next_start(pieces, t);
+    let next = next_start(pieces, t, None);
     Stretch {
         at: piece_value(&piece, t),
         line: piece.line,

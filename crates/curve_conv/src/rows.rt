@@ -15,9 +15,9 @@ ghost use Rattle.curve_conv.specs.Stretches.{row_sum};
 ghost use Rattle.curve_conv.specs.Stretches.{IsProperPart, OperandPart};
 
 use crate::elements::{nothing, open_at, part_pair, point_at};
-use crate::lower::{is_less, lower};
-use affine_segment::Element;
-use fraction128::Frac;
+use crate::lower::lower;
+use affine_segment::{Element, start_of};
+use fraction128::{Frac, difference, is_less};
 use upp_curve::Curve;
 use upp_normal::{Stretch, stretch_at};
 
@@ -30,14 +30,6 @@ pub(crate) struct Scan<'a> {
     pub(crate) second: &'a Curve,
     /// Where the window ends.
     pub(crate) end: Frac,
-}
-
-/// a - b.
-pub(crate) fn difference(a: Frac, b: Frac) -> Frac
-    requires { SumFits a (neg_ℚ b) }
-    ensures { result ≡ a -ℚ b }
-{
-    Frac::sub(a, b).unwrap()
 }
 
 /// A time that may be missing, where it is before the limit.
@@ -67,19 +59,6 @@ pub(crate) fn time_or(next: Option<Frac>, y: Frac) -> Frac
     match next {
         None => y,
         Some(x) => x,
-    }
-}
-
-fn start_of(e: &Element) -> Frac
-    ensures { result ≡ start_of e.now }
-{
-    match *e {
-        Element::Point { x, v: _ } => x,
-        Element::Open {
-            from,
-            to: _,
-            line: _,
-        } => from,
     }
 }
 

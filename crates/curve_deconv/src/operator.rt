@@ -15,7 +15,7 @@ ghost use Rattle.curve_call.specs.Frames.{IsFrame};
 ghost use Rattle.curve_call.specs.Times.{OneLaterFits};
 
 use crate::window::window_deconvolution;
-use curve_call::{Frame, answer, rise_over, steady_time, within};
+use curve_call::{Frame, answer, begin, rise_over, within};
 use curve_least::{Side, is_slower};
 use curve_pointwise::infinite_curve;
 use fraction128::{Frac, difference};
@@ -25,14 +25,6 @@ use steps::Steps;
 use upp_curve::{Curve, Tail};
 use upp_limits::{OpFault, OpKind};
 use upp_normal::unrolled;
-
-// From when on a curve repeats.
-fn begin(c: &Curve) -> Frac
-    requires { OneLaterFits c.now }
-    ensures { result ≡ steady c.now }
-{
-    steady_time(c).unwrap()
-}
 
 // The period of f, and `other` where it has every period.
 fn period_or(f: &Curve, other: Frac) -> Frac

@@ -9,9 +9,8 @@ ghost use Rattle.upp_limits.specs.Limits.{Sizes};
 ghost use Rattle.upp_limits.specs.Sized.{IsSlope};
 ghost use Rattle.curve_deviation.specs.Cells.{RisingCell, CellSizes, IsTimeTo, IsCellLag};
 
-use affine_segment::{Line, value};
-use fraction128::Frac;
-use std::cmp::Ordering;
+use affine_segment::{Line, line_at};
+use fraction128::{Frac, difference, is_less, quotient};
 
 /// Two lines, each over its stretch.
 #[derive(Debug, Clone, Copy)]
@@ -28,41 +27,6 @@ pub struct Cell {
     pub from: Frac,
     /// Where its stretch ends.
     pub until: Frac,
-}
-
-/// Whether a is less than b.
-pub(crate) fn is_less(a: Frac, b: Frac) -> bool
-    ensures { IsTrue result ↔ (a <ℚ b) }
-{
-    match a.cmp(&b) {
-        Ordering::Less => true,
-        _ => false,
-    }
-}
-
-/// The value of a line at t.
-pub(crate) fn line_at(line: &Line, t: Frac) -> Frac
-    requires { LineFits t line.now }
-    ensures { result ≡ line_at line.now t }
-{
-    value(line, t).unwrap()
-}
-
-/// a - b.
-fn difference(a: Frac, b: Frac) -> Frac
-    requires { SumFits a (neg_ℚ b) }
-    ensures { result ≡ a -ℚ b }
-{
-    Frac::sub(a, b).unwrap()
-}
-
-/// a / b.
-fn quotient(a: Frac, b: Frac) -> Frac
-    requires some { b ≢ int (pos 0) }
-    requires fits { IsSmall (a /ℚ b) }
-    ensures { result ≡ a /ℚ b }
-{
-    Frac::div(a, b).unwrap()
 }
 
 /// How far the first line is above the second at a time, divided by a slope above 0.

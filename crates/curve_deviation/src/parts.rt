@@ -15,10 +15,9 @@ ghost use Rattle.upp_normal.specs.Ahead.{IsOverBy, IsTimeIn};
 ghost use Rattle.curve_deviation.specs.Parts.{IsSeen, GoesTo, PartStands, IsEarlyBy};
 ghost use Rattle.curve_least.specs.GapSteps.{earlier_of};
 
-use crate::cells::{is_less, line_at};
-use affine_segment::{Line, Piece};
-use fraction128::{Ext, Frac};
-use rational::Extended;
+use curve_least::earlier;
+use affine_segment::{Line, Piece, next_start, piece_at, piece_value};
+use fraction128::{Ext, Frac, is_less, sum};
 use upp_curve::{Curve, Tail};
 use upp_normal::stretch_at;
 
@@ -33,75 +32,6 @@ pub struct Part {
     pub until: Frac,
 }
 
-/// The earlier of two times.
-pub(crate) fn earlier(a: Frac, b: Frac) -> Frac
-    ensures { result ≡ min_q a b }
-{
-    if is_less(b, a) { b } else { a }
-}
-
-/// The earlier of a time and another that may be missing.
-fn until_of(end: Frac, next: Option<Frac>) -> Frac
-    ensures { result ≡ until_of end next }
-{
-    match next {
-        None => end,
-        Some(e) => earlier(end, e),
-    }
-}
-
-/// Whether a piece starts at t or before.
-fn starts_by(p: &Piece, t: Frac) -> bool
-    ensures { result ≡ le_q p.now.x t }
-{
-    p.x <= t
-}
-
-/// The last piece that starts at t or before.
-fn piece_at(pieces: &[Piece], t: Frac) -> Piece
-    requires starts { StartsAtZero pieces.now }
-    requires time { int (pos 0) ≤ℚ t }
-    ensures { (p : Piece) (ps : List Piece) → pieces.now ≡ p ∷ ps → result ≡ piece_in p ps t }
-{
-    let count = pieces.partition_point(|p| starts_by(p, t));
-    pieces[count - 1]
-}
-
-/// Where the first piece after t starts; none where none does.
-fn next_start(pieces: &[Piece], t: Frac) -> Option<Frac>
-    requires { StartsAtZero pieces.now }
-    ensures { result ≡ next_in pieces.now t None }
-{
-    let count = pieces.partition_point(|p| starts_by(p, t));
-    match pieces.get(count) {
-        None => None,
-        Some(p) => Some(p.x),
-    }
-}
-
-/// The value at t of a line that may be missing.
-fn line_value(line: &Option<Line>, t: Frac) -> Ext
-    requires { LineFitsAt t line.now }
-    ensures { result ≡ line_value line.now t }
-{
-    match line {
-        None => Extended::Inf,
-        Some(l) => Extended::Fin(line_at(l, t)),
-    }
-}
-
-/// The value at t of a piece that starts at t or before.
-fn piece_value(piece: &Piece, t: Frac) -> Ext
-    requires { piece.now.x <ℚ t → LineFitsAt t piece.now.line }
-    ensures { result ≡ piece_value piece.now t }
-{
-    if is_less(piece.x, t) {
-        line_value(&piece.line, t)
-    } else {
-        piece.at
-    }
-}
-
 /// How pieces that go on with their last line do so from t, up to `end`.
 fn plain_part(pieces: &[Piece], t: Frac, end: Frac) -> Part
     requires starts { StartsAtZero pieces.now }
@@ -109,23 +39,15 @@ fn plain_part(pieces: &[Piece], t: Frac, end: Frac) -> Part
     requires fits { ReadFits pieces.now t }
     ensures at { result.at ≡ read pieces.now t }
     ensures line { result.line ≡ line_in pieces.now t }
-    ensures until { result.until ≡ until_of end (next_in pieces.now t None) }
+    ensures until { result.until ≡ earlier_of end (next_in pieces.now t None) }
 {
     let piece = piece_at(pieces, t);
-    let next = next_start(pieces, t);
+    let next = next_start(pieces, t, None);
     Part {
         at: piece_value(&piece, t),
         line: piece.line,
-        until: until_of(end, next),
+        until: earlier(end, &next),
     }
-}
-
-/// a + b.
-fn sum(a: Frac, b: Frac) -> Frac
-    requires { SumFits a b }
-    ensures { result ≡ a +ℚ b }
-{
-    Frac::add(a, b).unwrap()
 }
 
 /// Whether the pieces that are kept go on as the curve up to `end`; else the first period is over by then.
@@ -167,7 +89,7 @@ fn late_part(c: &Curve, t: Frac, end: Frac) -> Part
     Part {
         at: stretch.at,
         line: stretch.line,
-        until: until_of(end, stretch.next),
+        until: earlier(end, &stretch.next),
     }
 }
 

@@ -12,10 +12,9 @@ ghost use Rattle.upp_limits.specs.Gauges.{gauge_at};
 ghost use Rattle.curve_deviation.specs.Parts.{IsSeen};
 ghost use Rattle.curve_deviation.specs.Stages.{IsNarrowWindow, AreFinite, HasLeft, HasReached, Meets, stage_gauge, IsBefore, IsPast};
 
-use crate::known::is_less;
 use crate::parts::part_at;
 use curve_call::{CallWindow, call_window};
-use fraction128::Frac;
+use fraction128::{Frac, difference, is_less};
 use rational::Extended;
 use upp_curve::Curve;
 use upp_limits::{OpKind, call_numbers};
@@ -42,14 +41,6 @@ pub(crate) fn narrow_window(f: &Curve, g: &Curve, k: u128, m: u128) -> Option<Ca
     } else {
         Some(window)
     }
-}
-
-/// a - b.
-pub(crate) fn difference(a: Frac, b: Frac) -> Frac
-    requires { SumFits a (neg_ℚ b) }
-    ensures { result ≡ a -ℚ b }
-{
-    Frac::sub(a, b).unwrap()
 }
 
 /// The value of a finite curve at a time of a window.

@@ -16,20 +16,12 @@ ghost use Rattle.curve_least.specs.Compared.{AreCompared};
 
 use curve_call::{Frame, within};
 use curve_least::{Gap, Side, is_slower, window_gap};
-use fraction128::{Ext, Frac};
+use fraction128::{Ext, Frac, sum};
 use rational::Extended;
 use std::sync::ledger::Ledger;
 use steps::Steps;
 use upp_curve::Curve;
 use upp_limits::{OpFault, OpKind};
-
-/// a + b.
-fn sum(a: Frac, b: Frac) -> Frac
-    requires { SumFits a b }
-    ensures { result ≡ a +ℚ b }
-{
-    Frac::add(a, b).unwrap()
-}
 
 /// The vertical deviation of two finite curves, the first no faster than the second: the supremum of their difference
 /// over all times from 0 on, read off the times below from + period alone. Both repeat from `from` on with the period,

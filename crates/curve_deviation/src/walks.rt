@@ -15,10 +15,10 @@ ghost use Rattle.curve_deviation.specs.Parts.{IsSeen};
 ghost use Rattle.curve_deviation.specs.Rises.{IsCellOf};
 ghost use Rattle.curve_deviation.specs.Lags.{IsLongestLag};
 
-use crate::cells::{Cell, cell_lag, is_less, line_at};
-use crate::parts::{Part, earlier, part_at};
-use affine_segment::Line;
-use fraction128::Frac;
+use crate::cells::{Cell, cell_lag};
+use crate::parts::{Part, part_at};
+use affine_segment::{Line, line_at};
+use fraction128::{Frac, greater, is_less, lesser};
 use upp_curve::Curve;
 
 /// Where the walk stands: all times of the first curve before `time` have been looked at, and all of the second up to
@@ -44,13 +44,6 @@ fn line_of(part: &Part) -> Line
     }
 }
 
-/// The larger of two numbers.
-fn greater(a: Frac, b: Frac) -> Frac
-    ensures { result ≡ max_q a b }
-{
-    if is_less(b, a) { a } else { b }
-}
-
 /// How f goes on from `time`, up to `until`, and g from `reached`.
 fn cell_at(f: &Curve, g: &Curve, time: Frac, reached: Frac, until: Frac, end: Frac) -> Cell
     ghost sizes: { Sizes }
@@ -67,7 +60,7 @@ fn cell_at(f: &Curve, g: &Curve, time: Frac, reached: Frac, until: Frac, end: Fr
     Cell {
         first: line_of(&above),
         start: time,
-        end: earlier(until, above.until),
+        end: lesser(until, above.until),
         second: line_of(&below),
         from: reached,
         until: below.until,

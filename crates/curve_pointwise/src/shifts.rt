@@ -14,7 +14,7 @@ ghost use Rattle.upp_limits.specs.Outcome.{KeepsLimits};
 ghost use Rattle.curve_call.specs.Frames.{IsFrame};
 ghost use Rattle.curve_pointwise.specs.Shifting.{left_line, left_piece, moved_left, LeftFits, IsAhead};
 
-use affine_segment::{Line, Piece, value};
+use affine_segment::{Line, Piece, piece_at, piece_value, value};
 use curve_call::{Frame, answer, rise_over, within};
 use fraction128::{Ext, Frac, difference};
 use rational::Extended;
@@ -51,43 +51,6 @@ fn left_piece(p: &Piece, x: Frac) -> Piece
     }
 }
 
-fn line_value(line: Option<Line>, x: Frac) -> Ext
-    requires { LineFitsAt x line }
-    ensures { result ≡ line_value line x }
-{
-    match line {
-        None => Extended::Inf,
-        Some(l) => Extended::Fin(value(&l, x).unwrap()),
-    }
-}
-
-// The value of a piece at x.
-fn value_in(p: &Piece, x: Frac) -> Ext
-    requires { LineFitsAt x p.now.line }
-    ensures { result ≡ piece_value p.now x }
-{
-    match x.cmp(&p.x) {
-        Ordering::Greater => line_value(p.line, x),
-        _ => p.at,
-    }
-}
-
-fn starts_by(p: &Piece, t: Frac) -> bool
-    ensures { result ≡ le_q p.now.x t }
-{
-    p.x <= t
-}
-
-// The last piece that starts at t or before.
-fn piece_at(pieces: &[Piece], t: Frac) -> Piece
-    requires starts { StartsAtZero pieces.now }
-    requires time { int (pos 0) ≤ℚ t }
-    ensures { (p : Piece) (ps : List Piece) → pieces.now ≡ p ∷ ps → result ≡ piece_in p ps t }
-{
-    let count = pieces.partition_point(|p| starts_by(p, t));
-    pieces[count - 1]
-}
-
 /// What is read of pieces from x on, moved left by x. Only a lack of memory is an error.
 pub fn left_window(alloc: Global, pieces: &[Piece], x: Frac) -> Result<Vec<Piece>, AllocError>
     requires starts { StartsAtZero pieces.now }
@@ -99,7 +62,7 @@ pub fn left_window(alloc: Global, pieces: &[Piece], x: Frac) -> Result<Vec<Piece
     let here = piece_at(pieces, x);
     let first = Piece {
         x,
-        at: value_in(&here, x),
+        at: piece_value(&here, x),
         line: here.line,
     };
     let mut found = Vec::new(alloc);

@@ -7,9 +7,9 @@ ghost use Rattle.affine_segment.specs.Elements.{start_of};
 ghost use Rattle.subadd_closure.specs.CurveParts.{pieces_end, copies_of, part_of};
 ghost use Rattle.element_envelope.specs.PieceElements.{elements_of};
 
-use affine_segment::Element;
+use affine_segment::{Element, start_of};
 use element_envelope::cut;
-use fraction128::{Ext, Frac, is_less};
+use fraction128::{Ext, Frac, is_less, sum};
 use rational::Extended;
 use std::alloc::{AllocError, Global};
 use upp_curve::{Curve, Tail};
@@ -32,14 +32,6 @@ pub struct Part {
     pub copies: Option<Copies>,
 }
 
-// a + b.
-fn sum(a: Frac, b: Frac) -> Frac
-    requires { SumFits a b }
-    ensures { result ≡ a +ℚ b }
-{
-    Frac::add(a, b).unwrap()
-}
-
 // Where the pieces of a curve end: one period after the rank, or nowhere.
 fn pieces_end(f: &Curve) -> Ext
     ensures { result ≡ pieces_end f.now.tail }
@@ -52,20 +44,6 @@ fn pieces_end(f: &Curve) -> Ext
         } => Extended::Fin(sum(rank, period)),
         Tail::Affine { rank: _ } => Extended::Inf,
         Tail::Infinite { rank: _ } => Extended::Inf,
-    }
-}
-
-// Where an element starts.
-fn start_of(e: &Element) -> Frac
-    ensures { result ≡ start_of e.now }
-{
-    match *e {
-        Element::Point { x, v: _ } => x,
-        Element::Open {
-            from,
-            to: _,
-            line: _,
-        } => from,
     }
 }
 

@@ -29,8 +29,8 @@ lists_read f X [] qs a b c d F G = absurd a
 lists_read f X (p ∷ ps) [] a b c d F G = absurd c
 lists_read f X (p ∷ ps) (q ∷ qs) a b c d F G =
     same_lists f X p ps q qs
-    record { low_start = a.1; none = b; is = λ t h k. F t (subst (λ x. x ≤ℚ t) a.0 h) k }
-    record { low_start = c.1; none = d; is = λ t h k. G t (subst (λ x. x ≤ℚ t) c.0 h) k }
+    record { rises = a.1; none = b; is = λ t h k. F t (subst (λ x. x ≤ℚ t) a.0 h) k }
+    record { rises = c.1; none = d; is = λ t h k. G t (subst (λ x. x ≤ℚ t) c.0 h) k }
     (a.0 ∙ sym c.0)
 
 pub upto_all : (X : ℚ) (ps : List Piece) → Each (λ p. p.x <ℚ X) ps → upto X ps ≡ ps

@@ -65,7 +65,7 @@ pub period_is : (ps : List Piece) (r d c : ℚ) → IsCycle ps r d → EndsInBre
 period_is ps r d c C E K =
     let inside = each_right (λ z. z.x <ℚ r +ℚ d) K.before (K.first ∷ K.rest) (subst (Each (λ z. z.x <ℚ r +ℚ d)) K.whole C.inside) in
     record {
-      low_start = K.rises;
+      rises = K.rises;
       none = none_right K.before K.first K.rest (subst NoMerge K.whole C.none);
       inside = subst (λ x. Each (λ z. z.x <ℚ x +ℚ d) K.rest) (sym K.at) inside.1;
       break = E K.first K.rest K.from_is;

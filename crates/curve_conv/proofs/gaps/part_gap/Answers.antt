@@ -30,7 +30,7 @@ part_at-late-requires-clause-time c =
     let s = c.args.s.now in
     let z = sizes_in s.first.now s.second.now s.end in
     let W = c.times.invariant in
-    let start = time_in z (value_at s.first.now) (value_at s.second.now) c.args.first c.args.second c.args.from s.end c.times.t c.times.gap c.requires.from W (c.times-test.ensures.0 refl) in
+    let start = time_in z (value_at s.first.now) (value_at s.second.now) c.args.first c.args.second c.args.from s.end c.times.t c.times.gap c.requires.from W (c.times-test.ensures.less.0 refl) in
     start
 
 pub part_at-soon-requires-clause-from : goal.part_at-soon-requires-clause-from
@@ -44,7 +44,7 @@ part_at-soon-requires-clause-time c =
     let s = c.args.s.now in
     let z = sizes_in s.first.now s.second.now s.end in
     let W = c.times.invariant in
-    let start = time_in z (value_at s.first.now) (value_at s.second.now) c.args.first c.args.second c.args.from s.end c.times.t c.times.gap c.requires.from W (c.times-test.ensures.0 refl) in
+    let start = time_in z (value_at s.first.now) (value_at s.second.now) c.args.first c.args.second c.args.from s.end c.times.t c.times.gap c.requires.from W (c.times-test.ensures.less.0 refl) in
     start
 
 pub stretch_gap-more-requires-clause-sizes : goal.stretch_gap-more-requires-clause-sizes
@@ -53,11 +53,11 @@ stretch_gap-more-requires-clause-sizes c =
     let z = sizes_in s.first.now s.second.now s.end in
     let zero = c.zero-zero.ensures in
     let W = c.times.invariant in
-    let start = time_in z (value_at s.first.now) (value_at s.second.now) c.args.first c.args.second c.args.from s.end c.times.t c.times.gap c.requires.from W (c.times-test.ensures.0 refl) in
+    let start = time_in z (value_at s.first.now) (value_at s.second.now) c.args.first c.args.second c.args.from s.end c.times.t c.times.gap c.requires.from W (c.times-test.ensures.less.0 refl) in
     let A = subst (λ y. IsAhead (PartSplit (InPart c.args.first None None y)) (part_sum (value_at s.first.now) (value_at s.second.now) (InPart c.args.first None None y)) s.end c.times.t c.part_at-late.result) zero c.part_at-late.ensures.ahead in
     let B = subst (λ y. IsAhead (PartSplit (InPart y None (Some c.args.first) c.args.second)) (part_sum (value_at s.first.now) (value_at s.second.now) (InPart y None (Some c.args.first) c.args.second)) s.end c.times.t
     c.part_at-soon.result) zero c.part_at-soon.ensures.ahead in
-    let N = next_place z s.end c.times.t c.earlier.result c.earlier-next.result c.part_at-late.result.next c.part_at-soon.result.next (inl c.requires.scan.first.limited.sizes.window) (c.times-test.ensures.0 refl) A.goes.next
+    let N = next_place z s.end c.times.t c.earlier.result c.earlier-next.result c.part_at-late.result.next c.part_at-soon.result.next (inl c.requires.scan.first.limited.sizes.window) (c.times-test.ensures.less.0 refl) A.goes.next
     B.goes.next c.part_at-late.ensures.sizes.next c.part_at-soon.ensures.sizes.next c.earlier.ensures c.earlier-next.ensures in
     let T : SumTimeIn z s.end c.times.t = record { limited = c.requires.scan.first.limited; start = start } in
     let U = next_to z s.end c.times.t c.earlier-next.result c.part_at-late.result.next c.part_at-soon.result.next start.nonneg N in
@@ -69,11 +69,11 @@ stretch_gap-more-requires-clause-some c =
     let z = sizes_in s.first.now s.second.now s.end in
     let zero = c.zero-zero.ensures in
     let W = c.times.invariant in
-    let start = time_in z (value_at s.first.now) (value_at s.second.now) c.args.first c.args.second c.args.from s.end c.times.t c.times.gap c.requires.from W (c.times-test.ensures.0 refl) in
+    let start = time_in z (value_at s.first.now) (value_at s.second.now) c.args.first c.args.second c.args.from s.end c.times.t c.times.gap c.requires.from W (c.times-test.ensures.less.0 refl) in
     let A = subst (λ y. IsAhead (PartSplit (InPart c.args.first None None y)) (part_sum (value_at s.first.now) (value_at s.second.now) (InPart c.args.first None None y)) s.end c.times.t c.part_at-late.result) zero c.part_at-late.ensures.ahead in
     let B = subst (λ y. IsAhead (PartSplit (InPart y None (Some c.args.first) c.args.second)) (part_sum (value_at s.first.now) (value_at s.second.now) (InPart y None (Some c.args.first) c.args.second)) s.end c.times.t
     c.part_at-soon.result) zero c.part_at-soon.ensures.ahead in
-    let N = next_place z s.end c.times.t c.earlier.result c.earlier-next.result c.part_at-late.result.next c.part_at-soon.result.next (inl c.requires.scan.first.limited.sizes.window) (c.times-test.ensures.0 refl) A.goes.next
+    let N = next_place z s.end c.times.t c.earlier.result c.earlier-next.result c.part_at-late.result.next c.part_at-soon.result.next (inl c.requires.scan.first.limited.sizes.window) (c.times-test.ensures.less.0 refl) A.goes.next
     B.goes.next c.part_at-late.ensures.sizes.next c.part_at-soon.ensures.sizes.next c.earlier.ensures c.earlier-next.ensures in
     let T : SumTimeIn z s.end c.times.t = record { limited = c.requires.scan.first.limited; start = start } in
     let U = next_to z s.end c.times.t c.earlier-next.result c.part_at-late.result.next c.part_at-soon.result.next start.nonneg N in
@@ -85,11 +85,11 @@ times-smaller c =
     let z = sizes_in s.first.now s.second.now s.end in
     let zero = c.zero-zero.ensures in
     let W = c.times.invariant in
-    let start = time_in z (value_at s.first.now) (value_at s.second.now) c.args.first c.args.second c.args.from s.end c.times.t c.times.gap c.requires.from W (c.times-test.ensures.0 refl) in
+    let start = time_in z (value_at s.first.now) (value_at s.second.now) c.args.first c.args.second c.args.from s.end c.times.t c.times.gap c.requires.from W (c.times-test.ensures.less.0 refl) in
     let A = subst (λ y. IsAhead (PartSplit (InPart c.args.first None None y)) (part_sum (value_at s.first.now) (value_at s.second.now) (InPart c.args.first None None y)) s.end c.times.t c.part_at-late.result) zero c.part_at-late.ensures.ahead in
     let B = subst (λ y. IsAhead (PartSplit (InPart y None (Some c.args.first) c.args.second)) (part_sum (value_at s.first.now) (value_at s.second.now) (InPart y None (Some c.args.first) c.args.second)) s.end c.times.t
     c.part_at-soon.result) zero c.part_at-soon.ensures.ahead in
-    let N = next_place z s.end c.times.t c.earlier.result c.earlier-next.result c.part_at-late.result.next c.part_at-soon.result.next (inl c.requires.scan.first.limited.sizes.window) (c.times-test.ensures.0 refl) A.goes.next
+    let N = next_place z s.end c.times.t c.earlier.result c.earlier-next.result c.part_at-late.result.next c.part_at-soon.result.next (inl c.requires.scan.first.limited.sizes.window) (c.times-test.ensures.less.0 refl) A.goes.next
     B.goes.next c.part_at-late.ensures.sizes.next c.part_at-soon.ensures.sizes.next c.earlier.ensures c.earlier-next.ensures in
     let T : SumTimeIn z s.end c.times.t = record { limited = c.requires.scan.first.limited; start = start } in
     let U = next_to z s.end c.times.t c.earlier-next.result c.part_at-late.result.next c.part_at-soon.result.next start.nonneg N in
@@ -101,11 +101,11 @@ times-preserved c =
     let z = sizes_in s.first.now s.second.now s.end in
     let zero = c.zero-zero.ensures in
     let W = c.times.invariant in
-    let start = time_in z (value_at s.first.now) (value_at s.second.now) c.args.first c.args.second c.args.from s.end c.times.t c.times.gap c.requires.from W (c.times-test.ensures.0 refl) in
+    let start = time_in z (value_at s.first.now) (value_at s.second.now) c.args.first c.args.second c.args.from s.end c.times.t c.times.gap c.requires.from W (c.times-test.ensures.less.0 refl) in
     let A = subst (λ y. IsAhead (PartSplit (InPart c.args.first None None y)) (part_sum (value_at s.first.now) (value_at s.second.now) (InPart c.args.first None None y)) s.end c.times.t c.part_at-late.result) zero c.part_at-late.ensures.ahead in
     let B = subst (λ y. IsAhead (PartSplit (InPart y None (Some c.args.first) c.args.second)) (part_sum (value_at s.first.now) (value_at s.second.now) (InPart y None (Some c.args.first) c.args.second)) s.end c.times.t
     c.part_at-soon.result) zero c.part_at-soon.ensures.ahead in
-    let N = next_place z s.end c.times.t c.earlier.result c.earlier-next.result c.part_at-late.result.next c.part_at-soon.result.next (inl c.requires.scan.first.limited.sizes.window) (c.times-test.ensures.0 refl) A.goes.next
+    let N = next_place z s.end c.times.t c.earlier.result c.earlier-next.result c.part_at-late.result.next c.part_at-soon.result.next (inl c.requires.scan.first.limited.sizes.window) (c.times-test.ensures.less.0 refl) A.goes.next
     B.goes.next c.part_at-late.ensures.sizes.next c.part_at-soon.ensures.sizes.next c.earlier.ensures c.earlier-next.ensures in
     let T : SumTimeIn z s.end c.times.t = record { limited = c.requires.scan.first.limited; start = start } in
     let U = next_to z s.end c.times.t c.earlier-next.result c.part_at-late.result.next c.part_at-soon.result.next start.nonneg N in
@@ -117,7 +117,7 @@ pub returns-clause-gap : goal.returns-clause-gap
 returns-clause-gap c a b V =
     let s = c.args.s.now in
     let z = sizes_in s.first.now s.second.now s.end in
-    let e = walk_end z (value_at s.first.now) (value_at s.second.now) c.args.first c.args.second c.args.from s.end c.times.t c.times.gap c.times.invariant (λ h. true≢false (sym (c.times-test.ensures.1 h))) in
+    let e = walk_end z (value_at s.first.now) (value_at s.second.now) c.args.first c.args.second c.args.from s.end c.times.t c.times.gap c.times.invariant (λ h. true≢false (sym (c.times-test.ensures.less.1 h))) in
     subst (λ t. IsGap (InWindow c.args.from t) a b c.times.gap) e
     (c.times.invariant.gap_is a b (subst (λ t. ArePartValues (value_at s.first.now) (value_at s.second.now) c.args.first c.args.second c.args.from t a b) (sym e) V))
 
@@ -125,7 +125,7 @@ pub returns-clause-values : goal.returns-clause-values
 returns-clause-values c u i =
     let s = c.args.s.now in
     let z = sizes_in s.first.now s.second.now s.end in
-    let e = walk_end z (value_at s.first.now) (value_at s.second.now) c.args.first c.args.second c.args.from s.end c.times.t c.times.gap c.times.invariant (λ h. true≢false (sym (c.times-test.ensures.1 h))) in
+    let e = walk_end z (value_at s.first.now) (value_at s.second.now) c.args.first c.args.second c.args.from s.end c.times.t c.times.gap c.times.invariant (λ h. true≢false (sym (c.times-test.ensures.less.1 h))) in
     c.times.invariant.values u (subst (λ t. InWindow c.args.from t u) (sym e) i)
 
 pub part_at-late-requires-clause-made : goal.part_at-late-requires-clause-made

@@ -7,4 +7,4 @@ pub returns-then-is_less : goal.returns-then-is_less
 returns-then-is_less c = under_turned (Some c.args.m.now) (Some c.args.l.now) c.args.t c.meeting.result c.meeting.ensures
 
 pub meeting-requires-2-clause-steep : goal.meeting-requires-2-clause-steep
-meeting-requires-2-clause-steep c = steeper c.args.l.now.slope c.args.m.now.slope c.requires.apart (λ h. true≢false (sym (c.if-is_less.ensures.1 h)))
+meeting-requires-2-clause-steep c = steeper c.args.l.now.slope c.args.m.now.slope c.requires.apart (λ h. true≢false (sym (c.if-is_less.ensures.less.1 h)))

@@ -12,7 +12,7 @@ pub cells-init : goal.cells-init
 cells-init c =
     let s = c.args.s.now in
     let z = sizes_in s.first.now s.second.now s.end in
-    span_start z c.args.c.now c.args.from c.args.until.now c.limit_of-limit.result s.end c.new-elements.result.items c.is_less-more.result c.requires.from c.new-elements.ensures.items c.is_less-more.ensures
+    span_start z c.args.c.now c.args.from c.args.until.now c.limit_of-limit.result s.end c.new-elements.result.items c.is_less-more.result c.requires.from c.new-elements.ensures.items c.is_less-more.ensures.less
 
 pub stretch_at-here-requires : goal.stretch_at-here-requires
 stretch_at-here-requires c =

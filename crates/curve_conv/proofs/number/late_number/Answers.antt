@@ -88,7 +88,7 @@ returns c =
 pub returns-then-not-is_less : goal.returns-then-not-is_less
 returns-then-not-is_less c =
     none_early c.args.s.now.first.now c.args.s.now.second.now c.args.from c.args.period
-    (λ h. true≢false (sym (c.if-not-is_less.ensures.1 (subst (λ y. y <ℚ c.args.first) (sym c.zero-zero.ensures) (subst (λ x. int (pos 0) <ℚ x) (sym c.requires.first) h)))))
+    (λ h. true≢false (sym (c.if-not-is_less.ensures.less.1 (subst (λ y. y <ℚ c.args.first) (sym c.zero-zero.ensures) (subst (λ x. int (pos 0) <ℚ x) (sym c.requires.first) h)))))
 
 -- ---- both parts in memory
 pub made_part-made_late-requires-clause-from : goal.made_part-made_late-requires-clause-from

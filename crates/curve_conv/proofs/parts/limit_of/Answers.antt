@@ -6,7 +6,7 @@ pub returns-in-None : goal.returns-in-None
 returns-in-None c = rw c.in-None.is (limit_all c.args.room)
 
 pub returns-then-is_less : goal.returns-then-is_less
-returns-then-is_less c = rw c.in-Some.is (limit_until c.args.room c.in-Some.e (c.if-is_less.ensures.0 refl))
+returns-then-is_less c = rw c.in-Some.is (limit_until c.args.room c.in-Some.e (c.if-is_less.ensures.less.0 refl))
 
 pub returns-else-is_less : goal.returns-else-is_less
-returns-else-is_less c = rw c.in-Some.is (limit_room c.args.room c.in-Some.e (λ h. true≢false (sym (c.if-is_less.ensures.1 h))))
+returns-else-is_less c = rw c.in-Some.is (limit_room c.args.room c.in-Some.e (λ h. true≢false (sym (c.if-is_less.ensures.less.1 h))))

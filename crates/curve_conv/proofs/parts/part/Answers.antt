@@ -19,7 +19,7 @@ cells-init c =
     let s = c.args.s.now in
     let z = sizes_in s.first.now s.second.now s.end in
     walk_start z s.first.now s.second.now c.args.from c.args.until.now c.args.low c.difference-room.result c.limit_of-limit.result s.end c.args.t c.nothing-least.result c.is_less-more.result c.requires.from
-    c.difference-room.ensures c.limit_of-limit.ensures c.nothing-least.ensures c.is_less-more.ensures
+    c.difference-room.ensures c.limit_of-limit.ensures c.nothing-least.ensures c.is_less-more.ensures.less
 
 pub stretch_at-here-requires : goal.stretch_at-here-requires
 stretch_at-here-requires c =

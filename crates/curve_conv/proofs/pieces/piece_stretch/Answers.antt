@@ -13,7 +13,7 @@ pub next_start-next-requires : goal.next_start-next-requires
 next_start-next-requires c = c.requires.3.starts
 
 pub piece_value-requires : goal.piece_value-requires
-piece_value-requires c =
+piece_value-requires c = λ l.
     let w = c.requires in
     found_fits w.0 w.1 c.args.pieces.now c.args.t _ w.2 w.3 (found_line c.args.pieces.now c.piece_at-piece.result c.args.t w.3.starts c.piece_at-piece.ensures)
 

@@ -5,4 +5,4 @@ use Rattle.upp_normal.specs.Ahead.{AtNext}
 use Rattle.curve_conv.proofs.rows.early.Goals as goal
 
 pub returns-else-is_less : goal.returns-else-is_less
-returns-else-is_less c = subst (AtNext (λ x. c.args.limit ≤ℚ x)) (sym c.in-Some.is) (le_of_not_lt (λ h. true≢false (sym (c.if-is_less.ensures.1 h))))
+returns-else-is_less c = subst (AtNext (λ x. c.args.limit ≤ℚ x)) (sym c.in-Some.is) (le_of_not_lt (λ h. true≢false (sym (c.if-is_less.ensures.less.1 h))))

@@ -18,7 +18,7 @@ cells-init c =
     let s = c.args.s.now in
     let z = sizes_in s.first.now s.second.now s.end in
     walk_start z s.second.now c.args.a.now c.args.low c.difference-room.result s.end c.args.t c.nothing-least.result c.is_less-more.result c.requires.low
-    (c.difference-room.ensures ∙ ap (λ x. s.end -ℚ x) c.start_of.ensures) c.nothing-least.ensures c.is_less-more.ensures
+    (c.difference-room.ensures ∙ ap (λ x. s.end -ℚ x) c.start_of.ensures) c.nothing-least.ensures c.is_less-more.ensures.less
 
 pub stretch_at-here-requires : goal.stretch_at-here-requires
 stretch_at-here-requires c =

@@ -16,16 +16,16 @@ difference-requires c = let w = c.requires.sizes in times_differ w.0 w.1 c.args.
 
 pub returns-then-is_less : goal.returns-then-is_less
 returns-then-is_less c =
-    let below = less_as c.line_at.result c.line_at-2.result (line_at c.args.c.now.second c.args.c.now.until) (line_at c.args.c.now.first c.args.c.now.start) c.line_at.ensures c.line_at-2.ensures (c.if-is_less.ensures.0 refl) in
+    let below = less_as c.line_at.result c.line_at-2.result (line_at c.args.c.now.second c.args.c.now.until) (line_at c.args.c.now.first c.args.c.now.start) c.line_at.ensures c.line_at-2.ensures (c.if-is_less.ensures.less.0 refl) in
     subst (IsCellLag c.args.c.now) (sym c.difference.ensures) (apart_lag c.args.c.now c.requires.rising below)
 
 pub steep_lag-requires-clause-low : goal.steep_lag-requires-clause-low
 steep_lag-requires-clause-low c =
-    not_less_as c.line_at.result c.line_at-2.result (line_at c.args.c.now.second c.args.c.now.until) (line_at c.args.c.now.first c.args.c.now.start) c.line_at.ensures c.line_at-2.ensures c.if-is_less.ensures
+    not_less_as c.line_at.result c.line_at-2.result (line_at c.args.c.now.second c.args.c.now.until) (line_at c.args.c.now.first c.args.c.now.start) c.line_at.ensures c.line_at-2.ensures c.if-is_less.ensures.less
 
 pub gentle_lag-requires-clause-low : goal.gentle_lag-requires-clause-low
 gentle_lag-requires-clause-low c =
-    not_less_as c.line_at.result c.line_at-2.result (line_at c.args.c.now.second c.args.c.now.until) (line_at c.args.c.now.first c.args.c.now.start) c.line_at.ensures c.line_at-2.ensures c.if-is_less.ensures
+    not_less_as c.line_at.result c.line_at-2.result (line_at c.args.c.now.second c.args.c.now.until) (line_at c.args.c.now.first c.args.c.now.start) c.line_at.ensures c.line_at-2.ensures c.if-is_less.ensures.less
 
 pub gentle_lag-requires-clause-gentle : goal.gentle_lag-requires-clause-gentle
-gentle_lag-requires-clause-gentle c = not_less c.args.c.now.second.slope c.args.c.now.first.slope c.if-is_less-2.ensures
+gentle_lag-requires-clause-gentle c = not_less c.args.c.now.second.slope c.args.c.now.first.slope c.if-is_less-2.ensures.less

@@ -17,15 +17,15 @@ gap_over-requires-clause-sizes c = let w = c.requires.sizes in (w.0, w.1, w.2, w
 
 pub gap_over-requires-clause-some : goal.gap_over-requires-clause-some
 gap_over-requires-clause-some c =
-    let high = less_as c.line_at.result c.line_at-2.result (line_at c.args.c.now.second c.args.c.now.from) (line_at c.args.c.now.first c.args.c.now.start) c.line_at.ensures c.line_at-2.ensures (c.if-is_less.ensures.0 refl) in
+    let high = less_as c.line_at.result c.line_at-2.result (line_at c.args.c.now.second c.args.c.now.from) (line_at c.args.c.now.first c.args.c.now.start) c.line_at.ensures c.line_at-2.ensures (c.if-is_less.ensures.less.0 refl) in
     gets_higher c.args.c.now.second c.args.c.now.from c.args.c.now.until c.requires.rising.second (lt_le_trans high c.requires.low)
 
 pub returns-then-is_less : goal.returns-then-is_less
 returns-then-is_less c =
-    let high = less_as c.line_at.result c.line_at-2.result (line_at c.args.c.now.second c.args.c.now.from) (line_at c.args.c.now.first c.args.c.now.start) c.line_at.ensures c.line_at-2.ensures (c.if-is_less.ensures.0 refl) in
+    let high = less_as c.line_at.result c.line_at-2.result (line_at c.args.c.now.second c.args.c.now.from) (line_at c.args.c.now.first c.args.c.now.start) c.line_at.ensures c.line_at-2.ensures (c.if-is_less.ensures.less.0 refl) in
     starting_lag c.args.c.now c.gap_over.result c.requires.rising c.requires.gentle c.requires.low high c.gap_over.ensures
 
 pub returns : goal.returns
 returns c =
-    let low = not_less_as c.line_at.result c.line_at-2.result (line_at c.args.c.now.second c.args.c.now.from) (line_at c.args.c.now.first c.args.c.now.start) c.line_at.ensures c.line_at-2.ensures c.if-is_less.ensures in
+    let low = not_less_as c.line_at.result c.line_at-2.result (line_at c.args.c.now.second c.args.c.now.from) (line_at c.args.c.now.first c.args.c.now.start) c.line_at.ensures c.line_at-2.ensures c.if-is_less.ensures.less in
     subst (IsCellLag c.args.c.now) (sym c.zero.ensures) (owed_lag c.args.c.now c.requires.rising c.requires.gentle low)

@@ -24,13 +24,13 @@ gap_over-requires-clause-sizes c = let w = c.requires.sizes in (w.0, w.1, w.2, w
 pub returns-then-is_less : goal.returns-then-is_less
 returns-then-is_less c =
     passing_lag c.args.c.now c.gap_over.result c.requires.rising c.requires.low c.requires.steep
-    (less_as c.line_at.result c.line_at-high.result (line_at c.args.c.now.second c.args.c.now.until) (line_at c.args.c.now.first c.args.c.now.end) c.line_at.ensures c.line_at-high.ensures (c.if-is_less.ensures.0 refl))
+    (less_as c.line_at.result c.line_at-high.result (line_at c.args.c.now.second c.args.c.now.until) (line_at c.args.c.now.first c.args.c.now.end) c.line_at.ensures c.line_at-high.ensures (c.if-is_less.ensures.less.0 refl))
     c.gap_over.ensures
 
 pub gap_over-requires-then-is_less-2-clause-some : goal.gap_over-requires-then-is_less-2-clause-some
 gap_over-requires-then-is_less-2-clause-some c =
-    let low = not_less_as c.line_at.result c.line_at-high.result (line_at c.args.c.now.second c.args.c.now.until) (line_at c.args.c.now.first c.args.c.now.end) c.line_at.ensures c.line_at-high.ensures c.if-is_less.ensures in
-    let high = less_as c.line_at-2.result c.line_at-high.result (line_at c.args.c.now.second c.args.c.now.from) (line_at c.args.c.now.first c.args.c.now.end) c.line_at-2.ensures c.line_at-high.ensures (c.if-is_less-2.ensures.0 refl) in
+    let low = not_less_as c.line_at.result c.line_at-high.result (line_at c.args.c.now.second c.args.c.now.until) (line_at c.args.c.now.first c.args.c.now.end) c.line_at.ensures c.line_at-high.ensures c.if-is_less.ensures.less in
+    let high = less_as c.line_at-2.result c.line_at-high.result (line_at c.args.c.now.second c.args.c.now.from) (line_at c.args.c.now.first c.args.c.now.end) c.line_at-2.ensures c.line_at-high.ensures (c.if-is_less-2.ensures.less.0 refl) in
     gets_higher c.args.c.now.second c.args.c.now.from c.args.c.now.until c.requires.rising.second (lt_le_trans high low)
 
 pub gap_over-requires-then-is_less-2-clause-sizes : goal.gap_over-requires-then-is_less-2-clause-sizes
@@ -38,11 +38,11 @@ gap_over-requires-then-is_less-2-clause-sizes c = let w = c.requires.sizes in (w
 
 pub returns-then-is_less-2 : goal.returns-then-is_less-2
 returns-then-is_less-2 c =
-    let low = not_less_as c.line_at.result c.line_at-high.result (line_at c.args.c.now.second c.args.c.now.until) (line_at c.args.c.now.first c.args.c.now.end) c.line_at.ensures c.line_at-high.ensures c.if-is_less.ensures in
-    let high = less_as c.line_at-2.result c.line_at-high.result (line_at c.args.c.now.second c.args.c.now.from) (line_at c.args.c.now.first c.args.c.now.end) c.line_at-2.ensures c.line_at-high.ensures (c.if-is_less-2.ensures.0 refl) in
-    ending_lag c.args.c.now c.gap_over-then-is_less-2.result c.requires.rising c.requires.steep low high c.gap_over-then-is_less-2.ensures
+    let low = not_less_as c.line_at.result c.line_at-high.result (line_at c.args.c.now.second c.args.c.now.until) (line_at c.args.c.now.first c.args.c.now.end) c.line_at.ensures c.line_at-high.ensures c.if-is_less.ensures.less in
+    let high = less_as c.line_at-2.result c.line_at-high.result (line_at c.args.c.now.second c.args.c.now.from) (line_at c.args.c.now.first c.args.c.now.end) c.line_at-2.ensures c.line_at-high.ensures (c.if-is_less-2.ensures.less.0 refl) in
+    ending_lag c.args.c.now c.gap_over-then-is_less-2.result c.requires.rising c.requires.steep low high c.gap_over-then-is_less-2.ensures.less
 
 pub returns : goal.returns
 returns c =
-    let under = not_less_as c.line_at-2.result c.line_at-high.result (line_at c.args.c.now.second c.args.c.now.from) (line_at c.args.c.now.first c.args.c.now.end) c.line_at-2.ensures c.line_at-high.ensures c.if-is_less-2.ensures in
+    let under = not_less_as c.line_at-2.result c.line_at-high.result (line_at c.args.c.now.second c.args.c.now.from) (line_at c.args.c.now.first c.args.c.now.end) c.line_at-2.ensures c.line_at-high.ensures c.if-is_less-2.ensures.less in
     subst (IsCellLag c.args.c.now) (sym c.zero.ensures) (under_lag c.args.c.now c.requires.rising under)

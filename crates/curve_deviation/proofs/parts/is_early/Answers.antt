@@ -5,8 +5,8 @@ use Rattle.curve_deviation.proofs.parts.is_early.Goals as goal
 
 pub returns-then-is_less-clause-late : goal.returns-then-is_less-clause-late
 returns-then-is_less-clause-late c = λ h.
-    over_tail c.args.c.now c.tail.result.now c.in-Periodic.rank c.in-Periodic.period c.in-Periodic.rise c.args.end c.sum.result c.tail.ensures.tail c.in-Periodic.is c.sum.ensures (c.if-is_less.ensures.0 refl)
+    over_tail c.args.c.now c.tail.result.now c.in-Periodic.rank c.in-Periodic.period c.in-Periodic.rise c.args.end c.sum.result c.tail.ensures.tail c.in-Periodic.is c.sum.ensures (c.if-is_less.ensures.less.0 refl)
 
 pub returns-else-is_less-clause-early : goal.returns-else-is_less-clause-early
 returns-else-is_less-clause-early c = λ h.
-    early_tail c.args.c.now c.tail.result.now c.in-Periodic.rank c.in-Periodic.period c.in-Periodic.rise c.args.end c.sum.result c.tail.ensures.tail c.in-Periodic.is c.sum.ensures (not_less c.sum.result c.args.end c.if-is_less.ensures)
+    early_tail c.args.c.now c.tail.result.now c.in-Periodic.rank c.in-Periodic.period c.in-Periodic.rise c.args.end c.sum.result c.tail.ensures.tail c.in-Periodic.is c.sum.ensures (not_less c.sum.result c.args.end c.if-is_less.ensures.less)

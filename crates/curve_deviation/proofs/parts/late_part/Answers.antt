@@ -11,8 +11,8 @@ stretch_at-stretch-requires c =
 pub returns-clause-goes : goal.returns-clause-goes
 returns-clause-goes c =
     let w = c.requires.seen in
-    late_goes (value_at c.args.c.now) c.args.t c.args.end c.stretch_at-stretch.result _ w.2.before c.stretch_at-stretch.ensures.goes refl refl c.until_of.ensures
+    late_goes (value_at c.args.c.now) c.args.t c.args.end c.stretch_at-stretch.result _ w.2.before c.stretch_at-stretch.ensures.goes refl refl c.earlier.ensures
 
 pub returns-clause-stands : goal.returns-clause-stands
 returns-clause-stands c = λ z S T.
-    late_stands z c.args.end c.args.t c.args.c.now c.stretch_at-stretch.result _ S c.requires.late T c.stretch_at-stretch.ensures.times (c.stretch_at-stretch.ensures.sizes z c.args.end) refl refl c.until_of.ensures
+    late_stands z c.args.end c.args.t c.args.c.now c.stretch_at-stretch.result _ S c.requires.late T c.stretch_at-stretch.ensures.times (c.stretch_at-stretch.ensures.sizes z c.args.end) refl refl c.earlier.ensures

@@ -14,4 +14,4 @@ pub returns-clause-line : goal.returns-clause-line
 returns-clause-line c = line_found c.args.pieces.now c.args.t c.piece_at-piece.result c.requires.starts c.piece_at-piece.ensures
 
 pub returns-clause-until : goal.returns-clause-until
-returns-clause-until c = c.until_of.ensures ∙ ap (earlier_of c.args.end) c.next_start-next.ensures
+returns-clause-until c = c.earlier.ensures ∙ ap (earlier_of c.args.end) c.next_start-next.ensures

@@ -30,7 +30,7 @@ returns-then-is_less-clause-past c = λ h.
     let z = sizes_at Horizontal c.args.f.now c.args.g.now c.args.k 0 in
     let W = window_times c.args.f.now c.args.g.now c.args.k 0 c.in-Some.window c.in-Some.ensures.kept.0 c.in-Some.ensures.kept.1 c.requires c.in-Some.ensures.window in
     let e = c.difference-time.ensures ∙ ap (λ x. x -ℚ c.in-Some.window.period) c.difference.ensures in
-    inl ((left_is z c.args.f.now c.args.g.now c.args.k c.args.level c.in-Some.window.end c.in-Some.window.period c.difference-time.result c.value_in.result c.in-Some.ensures.window.window.period W e c.value_in.ensures).0 (c.if-is_less.ensures.0 refl))
+    inl ((left_is z c.args.f.now c.args.g.now c.args.k c.args.level c.in-Some.window.end c.in-Some.window.period c.difference-time.result c.value_in.result c.in-Some.ensures.window.window.period W e c.value_in.ensures).0 (c.if-is_less.ensures.less.0 refl))
 
 pub returns-else-is_less-clause-before : goal.returns-else-is_less-clause-before
 returns-else-is_less-clause-before c = λ h.
@@ -39,6 +39,6 @@ returns-else-is_less-clause-before c = λ h.
     let e = c.difference-time.ensures ∙ ap (λ x. x -ℚ c.in-Some.window.period) c.difference.ensures in
     record {
       unmet = (left_is z c.args.f.now c.args.g.now c.args.k c.args.level c.in-Some.window.end c.in-Some.window.period c.difference-time.result c.value_in.result c.in-Some.ensures.window.window.period W e c.value_in.ensures).1
-          (not_less c.args.level c.value_in.result c.if-is_less.ensures);
+          (not_less c.args.level c.value_in.result c.if-is_less.ensures.less);
       narrow = c.in-Some.ensures.window.gauge;
     }

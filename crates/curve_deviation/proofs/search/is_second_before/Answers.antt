@@ -23,7 +23,7 @@ returns-then-is_less-clause-before c = λ h.
     let W = window_times c.args.f.now c.args.g.now c.args.first c.args.k c.in-Some.window c.in-Some.ensures.kept.0 c.in-Some.ensures.kept.1 c.requires c.in-Some.ensures.window in
     record {
       unmet = (reached_is z c.args.f.now c.args.g.now c.args.first c.args.k c.args.level c.in-Some.window.end c.in-Some.window.period c.difference-time.result c.value_in.result W c.difference-time.ensures c.value_in.ensures).1
-          (c.if-is_less.ensures.0 refl);
+          (c.if-is_less.ensures.less.0 refl);
       narrow = c.in-Some.ensures.window.gauge;
     }
 
@@ -32,4 +32,4 @@ returns-else-is_less-clause-past c = λ h.
     let z = sizes_at Horizontal c.args.f.now c.args.g.now c.args.first c.args.k in
     let W = window_times c.args.f.now c.args.g.now c.args.first c.args.k c.in-Some.window c.in-Some.ensures.kept.0 c.in-Some.ensures.kept.1 c.requires c.in-Some.ensures.window in
     inl ((reached_is z c.args.f.now c.args.g.now c.args.first c.args.k c.args.level c.in-Some.window.end c.in-Some.window.period c.difference-time.result c.value_in.result W c.difference-time.ensures c.value_in.ensures).0
-    (not_less c.value_in.result c.args.level c.if-is_less.ensures))
+    (not_less c.value_in.result c.args.level c.if-is_less.ensures.less))

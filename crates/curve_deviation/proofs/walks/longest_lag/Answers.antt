@@ -16,7 +16,7 @@ pub cell_at-cell-requires : goal.cell_at-cell-requires
 cell_at-cell-requires g c =
     let until = c.requires.1.1.1.0 in
     let W = c.loop-until.invariant in
-    let before = c.loop-until-test.ensures.0 refl in
+    let before = c.loop-until-test.ensures.less.0 refl in
     let here = walk_time g.sizes (value_at c.args.f.now) (value_at c.args.g.now) c.args.until c.args.end c.loop-until.walk W until before in
     ((c.requires.0, here), ((c.requires.1.0, W.reached), (c.requires.1.1.0, (time_to g.sizes c.args.end c.args.until until, before))))
 
@@ -43,4 +43,4 @@ loop-until-smaller g c =
 
 pub returns : goal.returns
 returns g c =
-    walk_end g.sizes (value_at c.args.f.now) (value_at c.args.g.now) c.args.until c.args.end c.loop-until.walk c.loop-until.invariant (not_less c.loop-until.walk.time c.args.until c.loop-until-test.ensures)
+    walk_end g.sizes (value_at c.args.f.now) (value_at c.args.g.now) c.args.until c.args.end c.loop-until.walk c.loop-until.invariant (not_less c.loop-until.walk.time c.args.until c.loop-until-test.ensures.less)

@@ -10,8 +10,8 @@ use Rattle.curve_pointwise.proofs.ShiftCall.{here_fits}
 use Rattle.curve_pointwise.proofs.shifts.left_window.Goals as goal
 use Rattle.curve_pointwise.proofs.shifts.left_window.Goals.{in-Greater+in_ok-push-in-Greater, in_default}
 
-pub value_in-requires : goal.value_in-requires
-value_in-requires c = here_fits c.args.x c.args.pieces.now c.piece_at-here.result c.requires.starts c.requires.fits c.piece_at-here.ensures
+pub piece_value-requires : goal.piece_value-requires
+piece_value-requires c = λ l. here_fits c.args.x c.args.pieces.now c.piece_at-here.result c.requires.starts c.requires.fits c.piece_at-here.ensures
 
 pub left_piece-requires : goal.left_piece-requires
 left_piece-requires c = record {
