@@ -1,20 +1,12 @@
 //! Closures worked out by hand.
 
+use test_curves::{value, whole};
 use crate::point_closure;
 use fraction128::{Frac, is_less};
-use rational::Extended;
 use std::alloc::Global;
-use std::cmp::Ordering;
 use std::test::Fail;
 use upp_curve::Curve;
 use upp_limits::OpFault;
-
-fn whole(n: i128) -> Frac {
-    match Frac::new(n, 1) {
-        Ok(f) => f,
-        Err(_) => Frac::zero(),
-    }
-}
 
 // The closure of a point.
 fn point(alloc: Global, x: Frac, v: Frac) -> Result<Curve, OpFault> {
@@ -25,17 +17,6 @@ fn point(alloc: Global, x: Frac, v: Frac) -> Result<Curve, OpFault> {
         return Err(OpFault::TooMany);
     }
     point_closure(alloc, x, v)
-}
-
-// The value at a time from 0 on; nothing where it is infinite.
-fn value(c: &Curve, t: Frac) -> Option<Frac> {
-    match t.cmp(&Frac::zero()) {
-        Ordering::Less => None,
-        _ => match c.value_at(t) {
-            Ok(Extended::Fin(v)) => Some(v),
-            _ => None,
-        },
-    }
 }
 
 #[test]

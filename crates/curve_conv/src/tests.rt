@@ -2,70 +2,17 @@
 
 ghost use Rattle.std.specs.Prelude.{◌≡◌, ◌<◌};
 
+use test_curves::{bucket, curve, piece, repeating, repeats, value, whole};
 use crate::convolve;
-use affine_segment::{Line, Piece};
-use fraction128::{Ext, Frac};
+use fraction128::Frac;
 use rational::Extended;
 use std::alloc::Global;
-use std::cmp::Ordering;
 use std::marker::Brand;
 use std::sync::ledger::{Blank, Ledger};
 use std::test::Fail;
 use steps::Steps;
 use upp_curve::{Curve, Tail, equal};
 use upp_limits::OpFault;
-use upp_normal::{RawCurve, normalise};
-
-fn whole(n: i128) -> Frac {
-    match Frac::new(n, 1) {
-        Ok(f) => f,
-        Err(_) => Frac::zero(),
-    }
-}
-
-fn curve(alloc: Global, list: &[Piece], tail: Tail) -> Result<Curve, OpFault> {
-    let Ok(pieces) = Vec::from_slice(alloc, list) else {
-        return Err(OpFault::NoMemory);
-    };
-    let raw = RawCurve { pieces, tail };
-    if raw.is_raw() {
-        normalise(raw)
-    } else {
-        Err(OpFault::TooMany)
-    }
-}
-
-// The pieces at 0 and at x: the first of one value and one line.
-fn piece(x: i128, at: Ext, line: Option<(i128, i128)>) -> Piece {
-    Piece {
-        x: whole(x),
-        at,
-        line: match line {
-            None => None,
-            Some((icept, slope)) => Some(Line {
-                icept: whole(icept),
-                slope: whole(slope),
-            }),
-        },
-    }
-}
-
-// A curve that repeats from 0 on with one piece: the value 1 at 0 and the line `line` after it.
-fn repeating(
-    alloc: Global,
-    at: i128,
-    line: Option<(i128, i128)>,
-    period: i128,
-    rise: i128,
-) -> Result<Curve, OpFault> {
-    let list = [piece(0, Extended::Fin(whole(at)), line)];
-    let tail = Tail::Periodic {
-        rank: Frac::zero(),
-        period: whole(period),
-        rise: whole(rise),
-    };
-    curve(alloc, &list, tail)
-}
 
 // 0 up to the latency, and then the line.
 fn late(alloc: Global, latency: i128, icept: i128, slope: i128) -> Result<Curve, OpFault> {
@@ -80,12 +27,6 @@ fn late(alloc: Global, latency: i128, icept: i128, slope: i128) -> Result<Curve,
             rank: whole(latency),
         },
     )
-}
-
-// A burst, and then the rate.
-fn bucket(alloc: Global, burst: i128, rate: i128) -> Result<Curve, OpFault> {
-    let list = [piece(0, Extended::Fin(whole(burst)), Some((burst, rate)))];
-    curve(alloc, &list, Tail::Affine { rank: Frac::zero() })
 }
 
 // One value at a time, and none elsewhere.
@@ -121,25 +62,6 @@ fn gate(
 fn nothing(alloc: Global) -> Result<Curve, OpFault> {
     let list = [piece(0, Extended::Inf, None)];
     curve(alloc, &list, Tail::Infinite { rank: Frac::zero() })
-}
-
-// The value at a time from 0 on; nothing where it is infinite.
-fn value(c: &Curve, t: Frac) -> Option<Frac> {
-    match t.cmp(&Frac::zero()) {
-        Ordering::Less => None,
-        _ => match c.value_at(t) {
-            Ok(Extended::Fin(v)) => Some(v),
-            _ => None,
-        },
-    }
-}
-
-// The rank, the period and the rise.
-fn repeats(c: &Curve) -> Option<(Frac, Frac, Frac)> {
-    match c.tail() {
-        Tail::Periodic { rank, period, rise } => Some((*rank, *period, *rise)),
-        _ => None,
-    }
 }
 
 fn convolved<L: Ledger>(alloc: Global, blank: Blank, f: &Curve, g: &Curve) -> Result<Curve, OpFault>

@@ -2,6 +2,7 @@
 
 ghost use Rattle.std.specs.Prelude.{◌≡◌, ◌<◌};
 
+use test_curves::{curve, line_piece, ratio, whole};
 use crate::{horizontal, vertical};
 use affine_segment::{Line, Piece};
 use fraction128::{Ext, Frac};
@@ -13,44 +14,9 @@ use std::test::Fail;
 use steps::Steps;
 use upp_curve::{Curve, Tail};
 use upp_limits::OpFault;
-use upp_normal::{RawCurve, normalise};
 
-fn ratio(n: i128, d: i128) -> Frac {
-    match Frac::new(n, d) {
-        Ok(f) => f,
-        Err(_) => Frac::zero(),
-    }
-}
-
-fn whole(n: i128) -> Frac {
-    ratio(n, 1)
-}
-
-// From x on a line, and `at` at x.
-fn piece(x: i128, at: i128, icept: i128, slope: i128) -> Piece {
-    Piece {
-        x: whole(x),
-        at: Extended::Fin(whole(at)),
-        line: Some(Line {
-            icept: whole(icept),
-            slope: whole(slope),
-        }),
-    }
-}
-
-fn curve(alloc: Global, pieces: &[Piece], rank: i128) -> Result<Curve, OpFault> {
-    let Ok(pieces) = Vec::from_slice(alloc, pieces) else {
-        return Err(OpFault::NoMemory);
-    };
-    let raw = RawCurve {
-        pieces,
-        tail: Tail::Affine { rank: whole(rank) },
-    };
-    if raw.is_raw() {
-        normalise(raw)
-    } else {
-        Err(OpFault::TooMany)
-    }
+fn affine(alloc: Global, pieces: &[Piece], rank: i128) -> Result<Curve, OpFault> {
+    curve(alloc, pieces, Tail::Affine { rank: whole(rank) })
 }
 
 fn deviation<L: Ledger>(f: &Curve, g: &Curve, steps: &mut Steps<L>) -> Result<Ext, OpFault> {
@@ -73,8 +39,8 @@ fn of_server<L: Ledger>(
     requires one { 0 < blank.parts }
 {
     let mut steps = Steps::<L>::new(blank);
-    let flow = curve(alloc, &[piece(0, level, level, slope)], 0)?;
-    let server = curve(alloc, &[piece(0, 0, 0, 0), piece(10, 0, -1000, 100)], 10)?;
+    let flow = affine(alloc, &[line_piece(0, level, level, slope)], 0)?;
+    let server = affine(alloc, &[line_piece(0, 0, 0, 0), line_piece(10, 0, -1000, 100)], 10)?;
     let first = deviation(&flow, &server, &mut steps)?;
     let second = deviation(&server, &flow, &mut steps)?;
     Ok((first, second))
@@ -123,20 +89,12 @@ fn repeating(
     period: i128,
     rise: i128,
 ) -> Result<Curve, OpFault> {
-    let Ok(pieces) = Vec::from_slice(alloc, pieces) else {
-        return Err(OpFault::NoMemory);
-    };
     let tail = Tail::Periodic {
         rank: whole(rank),
         period: whole(period),
         rise: whole(rise),
     };
-    let raw = RawCurve { pieces, tail };
-    if raw.is_raw() {
-        normalise(raw)
-    } else {
-        Err(OpFault::TooMany)
-    }
+    curve(alloc, pieces, tail)
 }
 
 fn lag<L: Ledger>(f: &Curve, g: &Curve, steps: &mut Steps<L>) -> Result<Ext, OpFault> {
@@ -167,13 +125,13 @@ fn of_latency<L: Ledger>(
     requires one { 0 < blank.parts }
 {
     let mut steps = Steps::<L>::new(blank);
-    let flow = curve(alloc, &[piece(0, level, level, slope)], 0)?;
+    let flow = affine(alloc, &[line_piece(0, level, level, slope)], 0)?;
     let late = match rate {
         0 => most,
         100 => -1000,
         _ => 0,
     };
-    let server = curve(alloc, &[piece(0, 0, 0, 0), piece(10, most, late, rate)], 10)?;
+    let server = affine(alloc, &[line_piece(0, 0, 0, 0), line_piece(10, most, late, rate)], 10)?;
     lag(&flow, &server, &mut steps)
 }
 
@@ -201,10 +159,10 @@ fn of_gate<L: Ledger>(alloc: Global, blank: Blank) -> Result<Ext, OpFault>
     requires one { 0 < blank.parts }
 {
     let mut steps = Steps::<L>::new(blank);
-    let packets = repeating(alloc, &[piece(0, 24000, 24000, 0)], 0, 1500, 24000)?;
+    let packets = repeating(alloc, &[line_piece(0, 24000, 24000, 0)], 0, 1500, 24000)?;
     let gate = repeating(
         alloc,
-        &[piece(0, 0, 0, 0), piece(750, 0, -75000, 100)],
+        &[line_piece(0, 0, 0, 0), line_piece(750, 0, -75000, 100)],
         0,
         1000,
         25000,
@@ -229,14 +187,14 @@ fn of_late_gate<L: Ledger>(alloc: Global, blank: Blank) -> Result<Ext, OpFault>
     requires one { 0 < blank.parts }
 {
     let mut steps = Steps::<L>::new(blank);
-    let packets = repeating(alloc, &[piece(0, 24000, 24000, 0)], 0, 1500, 24000)?;
+    let packets = repeating(alloc, &[line_piece(0, 24000, 24000, 0)], 0, 1500, 24000)?;
     let late = repeating(
         alloc,
         &[
-            piece(0, 0, 0, 0),
-            piece(990, 0, -99000, 100),
-            piece(1000, 1000, 1000, 0),
-            piece(1750, 1000, -174000, 100),
+            line_piece(0, 0, 0, 0),
+            line_piece(990, 0, -99000, 100),
+            line_piece(1000, 1000, 1000, 0),
+            line_piece(1750, 1000, -174000, 100),
         ],
         990,
         1000,
@@ -281,8 +239,8 @@ fn of_gap<L: Ledger>(alloc: Global, blank: Blank) -> Result<Ext, OpFault>
             slope: whole(2),
         }),
     };
-    let flow = curve(alloc, &[first], 0)?;
-    let server = curve(alloc, &[piece(0, 0, 0, 0), second], 5)?;
+    let flow = affine(alloc, &[first], 0)?;
+    let server = affine(alloc, &[line_piece(0, 0, 0, 0), second], 5)?;
     lag(&flow, &server, &mut steps)
 }
 

@@ -8,6 +8,7 @@
 
 ghost use Rattle.std.specs.Prelude.{◌≡◌, ◌<◌};
 
+use test_curves::{curve, whole};
 use crate::{max, min, pos_diff, pos_minus, run_inf, run_sup, scale, shift, sum};
 use affine_segment::{Line, Piece};
 use fraction128::{Ext, Frac};
@@ -20,24 +21,6 @@ use std::test::Fail;
 use steps::Steps;
 use upp_curve::{Curve, Tail};
 use upp_limits::OpFault;
-use upp_normal::{RawCurve, normalise};
-
-fn whole(n: i128) -> Frac {
-    match Frac::new(n, 1) {
-        Ok(f) => f,
-        Err(_) => Frac::zero(),
-    }
-}
-
-fn curve(alloc: Global, pieces: &[Piece], tail: Tail) -> Result<Curve, OpFault> {
-    let pieces = Vec::from_slice(alloc, pieces)?;
-    let raw = RawCurve { pieces, tail };
-    if raw.is_raw() {
-        normalise(raw)
-    } else {
-        Err(OpFault::TooMany)
-    }
-}
 
 // A piece from x on; no line: infinite after x.
 fn piece(x: i128, at: Ext, line: Option<Line>) -> Piece {

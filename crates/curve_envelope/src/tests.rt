@@ -6,25 +6,18 @@ ghost use Rattle.upp_curve.specs.Curve.{value_at};
 ghost use Rattle.min_plus.specs.Deviations.{IsHorizontalDeviation};
 ghost use Rattle.min_plus.specs.Formulas.{bucket_value, rate_latency_value};
 
+use test_curves::{value, whole};
 use crate::fifo_left;
 use curve_library::{bucket, rate_latency};
 use fraction128::{Ext, Frac};
 use rational::Extended;
 use std::alloc::Global;
-use std::cmp::Ordering;
 use std::marker::Brand;
 use std::sync::ledger::{Blank, Ledger};
 use std::test::Fail;
 use steps::Steps;
 use upp_curve::Curve;
 use upp_limits::OpFault;
-
-fn whole(n: i128) -> Frac {
-    match Frac::new(n, 1) {
-        Ok(f) => f,
-        Err(_) => Frac::zero(),
-    }
-}
 
 fn service(alloc: Global) -> Result<Curve, OpFault>
     ensures { IfOk result (λ c. (t : ℚ) → int (pos 0) ≤ℚ t
@@ -65,17 +58,6 @@ fn left<L: Ledger>(
         fifo_left(alloc, beta, cross, theta, &mut steps)
     } else {
         Err(OpFault::TooMany)
-    }
-}
-
-// The value at a time from 0 on; nothing where it is infinite.
-fn value(c: &Curve, t: Frac) -> Option<Frac> {
-    match t.cmp(&Frac::zero()) {
-        Ordering::Less => None,
-        _ => match c.value_at(t) {
-            Ok(Extended::Fin(v)) => Some(v),
-            _ => None,
-        },
     }
 }
 

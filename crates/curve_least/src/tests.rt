@@ -5,6 +5,7 @@ ghost use Rattle.rational.specs.Rational.{◌≤ℚ◌};
 ghost use Rattle.upp_curve.specs.Curves.{IsCurve};
 ghost use Rattle.upp_curve.specs.Steady.{steady, IsWholePeriods};
 
+use test_curves::ratio;
 use crate::least_periods;
 use affine_segment::{Line, Piece};
 use fraction128::{Frac, is_less};
@@ -14,13 +15,6 @@ use std::test::Fail;
 use upp_curve::{Curve, Tail};
 use upp_limits::{OpKind, gauge};
 use upp_normal::{RawCurve, normalise, steady_time};
-
-fn ratio(num: i128, den: i128) -> Frac {
-    match Frac::new(num, den) {
-        Ok(f) => f,
-        Err(_) => Frac::zero(),
-    }
-}
 
 fn curve_of(raw: RawCurve) -> Option<Curve> {
     if !raw.is_raw() {

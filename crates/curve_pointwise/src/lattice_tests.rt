@@ -2,42 +2,18 @@
 
 ghost use Rattle.std.specs.Prelude.{◌≡◌, ◌<◌};
 
+use test_curves::{curve, ratio, value, whole};
 use crate::{max, min, pos_diff, pos_minus};
 use affine_segment::{Line, Piece};
 use fraction128::Frac;
 use rational::Extended;
 use std::alloc::Global;
-use std::cmp::Ordering;
 use std::marker::Brand;
 use std::sync::ledger::{Blank, Ledger};
 use std::test::Fail;
 use steps::Steps;
 use upp_curve::{Curve, Tail};
 use upp_limits::OpFault;
-use upp_normal::{RawCurve, normalise};
-
-fn ratio(num: i128, den: i128) -> Frac {
-    match Frac::new(num, den) {
-        Ok(f) => f,
-        Err(_) => Frac::zero(),
-    }
-}
-
-fn whole(n: i128) -> Frac {
-    ratio(n, 1)
-}
-
-fn curve(alloc: Global, first: Piece, tail: Tail) -> Result<Curve, OpFault> {
-    let Ok(pieces) = Vec::from_slice(alloc, &[first]) else {
-        return Err(OpFault::NoMemory);
-    };
-    let raw = RawCurve { pieces, tail };
-    if raw.is_raw() {
-        normalise(raw)
-    } else {
-        Err(OpFault::TooMany)
-    }
-}
 
 // A line from 0 on.
 fn straight(alloc: Global, icept: Frac, slope: Frac) -> Result<Curve, OpFault> {
@@ -46,7 +22,7 @@ fn straight(alloc: Global, icept: Frac, slope: Frac) -> Result<Curve, OpFault> {
         at: Extended::Fin(icept),
         line: Some(Line { icept, slope }),
     };
-    curve(alloc, piece, Tail::Affine { rank: Frac::zero() })
+    curve(alloc, &[piece], Tail::Affine { rank: Frac::zero() })
 }
 
 // n at 2 n, and infinite elsewhere.
@@ -61,18 +37,7 @@ fn dots(alloc: Global) -> Result<Curve, OpFault> {
         period: whole(2),
         rise: Frac::one(),
     };
-    curve(alloc, piece, tail)
-}
-
-// The value at a time from 0 on; nothing where it is infinite.
-fn value(c: &Curve, t: Frac) -> Option<Frac> {
-    match t.cmp(&Frac::zero()) {
-        Ordering::Less => None,
-        _ => match c.value_at(t) {
-            Ok(Extended::Fin(v)) => Some(v),
-            _ => None,
-        },
-    }
+    curve(alloc, &[piece], tail)
 }
 
 fn excess<L: Ledger>(

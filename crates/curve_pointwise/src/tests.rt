@@ -2,61 +2,22 @@
 
 ghost use Rattle.std.specs.Prelude.{◌≡◌, ◌<◌};
 
+use test_curves::{curve, line_piece, value, whole};
 use crate::{max, min, scale, shift, sum};
-use affine_segment::{Line, Piece};
+use affine_segment::Piece;
 use fraction128::Frac;
 use rational::Extended;
 use std::alloc::Global;
-use std::cmp::Ordering;
 use std::marker::Brand;
 use std::sync::ledger::{Blank, Ledger};
 use std::test::Fail;
 use steps::Steps;
 use upp_curve::{Curve, Tail};
 use upp_limits::OpFault;
-use upp_normal::{RawCurve, normalise};
-
-fn whole(n: i128) -> Frac {
-    match Frac::new(n, 1) {
-        Ok(f) => f,
-        Err(_) => Frac::zero(),
-    }
-}
-
-fn point(x: i128, at: i128, icept: i128, slope: i128) -> Piece {
-    Piece {
-        x: whole(x),
-        at: Extended::Fin(whole(at)),
-        line: Some(Line {
-            icept: whole(icept),
-            slope: whole(slope),
-        }),
-    }
-}
 
 // Two pieces, and then the line of the second.
-fn curve(alloc: Global, first: Piece, second: Piece) -> Result<Curve, OpFault> {
-    let tail = Tail::Affine { rank: second.x };
-    let Ok(pieces) = Vec::from_slice(alloc, &[first, second]) else {
-        return Err(OpFault::NoMemory);
-    };
-    let raw = RawCurve { pieces, tail };
-    if raw.is_raw() {
-        normalise(raw)
-    } else {
-        Err(OpFault::TooWide)
-    }
-}
-
-// The value at a time from 0 on; nothing where it is infinite.
-fn value(c: &Curve, t: Frac) -> Option<Frac> {
-    match t.cmp(&Frac::zero()) {
-        Ordering::Less => None,
-        _ => match c.value_at(t) {
-            Ok(Extended::Fin(v)) => Some(v),
-            _ => None,
-        },
-    }
+fn two_pieces(alloc: Global, first: Piece, second: Piece) -> Result<Curve, OpFault> {
+    curve(alloc, &[first, second], Tail::Affine { rank: second.x })
 }
 
 // The sum of 1 with a spike of 7 at 2 and of 1 + t, three times the first, and the first a time 1 later, at t.
@@ -66,8 +27,8 @@ fn answers<L: Ledger>(alloc: Global, blank: Blank, t: Frac) -> Result<[Option<Fr
     requires one { 0 < blank.parts }
 {
     let mut steps = Steps::<L>::new(blank);
-    let f = curve(alloc, point(0, 1, 1, 0), point(2, 7, 1, 0))?;
-    let g = curve(alloc, point(0, 1, 1, 1), point(5, 6, 1, 1))?;
+    let f = two_pieces(alloc, line_piece(0, 1, 1, 0), line_piece(2, 7, 1, 0))?;
+    let g = two_pieces(alloc, line_piece(0, 1, 1, 1), line_piece(5, 6, 1, 1))?;
     let total = sum(alloc, &f, &g, &mut steps)?;
     let triple = scale(alloc, &f, whole(3), &mut steps)?;
     let later = shift(alloc, &f, Extended::Fin(Frac::one()), &mut steps)?;
@@ -92,15 +53,7 @@ fn steps_of(alloc: Global, at: i128, period: Frac) -> Result<Curve, OpFault> {
         period,
         rise: Frac::one(),
     };
-    let Ok(pieces) = Vec::from_slice(alloc, &[point(0, at, 1, 0)]) else {
-        return Err(OpFault::NoMemory);
-    };
-    let raw = RawCurve { pieces, tail };
-    if raw.is_raw() {
-        normalise(raw)
-    } else {
-        Err(OpFault::TooWide)
-    }
+    curve(alloc, &[line_piece(0, at, 1, 0)], tail)
 }
 
 // The sum, the lesser and the greater of 1 + floor (t / 2) and 1 + floor (t / 3), which is 4 more at whole multiples of 3.

@@ -5,6 +5,7 @@ ghost use Rattle.rational.specs.Rational.{int};
 ghost use Rattle.upp_curve.specs.Curve.{HasSameValues};
 ghost use Rattle.upp_kinds.specs.WorkedRows.{dip};
 
+use test_curves::{ratio, whole};
 use crate::{run_inf, run_sup};
 use affine_segment::{Line, Piece};
 use fraction128::{Frac, Wide};
@@ -18,20 +19,6 @@ use steps::Steps;
 use upp_curve::{Curve, Tail};
 use upp_limits::OpFault;
 use upp_normal::{RawCurve, normalise};
-
-fn whole(n: i128) -> Frac {
-    match Frac::new(n, 1) {
-        Ok(f) => f,
-        Err(_) => Frac::zero(),
-    }
-}
-
-fn half() -> Frac {
-    match Frac::new(1, 2) {
-        Ok(f) => f,
-        Err(_) => Frac::zero(),
-    }
-}
 
 fn line_from_zero(slope: Frac) -> Option<Line>
     ensures { result ≡ Some record { icept = int (pos 0); slope = slope } }
@@ -95,7 +82,7 @@ fn running_bounds_of_a_dip(rt: HostRuntime) -> Result<(), Fail> {
     let pieces = dip_pieces(rt.alloc())?;
     let f = dip_curve(pieces)?;
     let (least, most) = bounds_of::<Brand>(rt.alloc(), &f, Blank::new(1))?;
-    assert_eq!(rt; value(&least, half()), Ok(Some(whole(1))));
+    assert_eq!(rt; value(&least, ratio(1, 2)), Ok(Some(whole(1))));
     assert_eq!(rt; value(&least, whole(1)), Ok(Some(whole(1))));
     assert_eq!(rt; value(&least, whole(2)), Ok(Some(whole(2))));
     assert_eq!(rt; value(&most, whole(1)), Ok(Some(whole(3))));

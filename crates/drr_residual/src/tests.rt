@@ -2,10 +2,9 @@
 
 ghost use Rattle.std.specs.Prelude.{◌≡◌, ◌<◌};
 
+use test_curves::{curve, fraction_piece, ratio};
 use crate::drr_service;
-use affine_segment::{Line, Piece};
 use fraction128::Frac;
-use rational::Extended;
 use std::alloc::Global;
 use std::marker::Brand;
 use std::sync::ledger::{Blank, Ledger};
@@ -13,38 +12,13 @@ use std::test::Fail;
 use steps::Steps;
 use upp_curve::{Curve, Tail, equal};
 use upp_limits::OpFault;
-use upp_normal::{RawCurve, normalise};
-
-fn ratio(n: i128, d: i128) -> Frac {
-    match Frac::new(n, d) {
-        Ok(f) => f,
-        Err(_) => Frac::zero(),
-    }
-}
-
-// From x on the line with this value at 0, and at x the number 0.
-fn piece(x: Frac, icept: Frac, slope: Frac) -> Piece {
-    Piece {
-        x,
-        at: Extended::Fin(Frac::zero()),
-        line: Some(Line { icept, slope }),
-    }
-}
 
 // A rate after a latency, with minus their product.
 fn late(alloc: Global, rate: Frac, latency: Frac, icept: Frac) -> Result<Curve, OpFault> {
     let zero = Frac::zero();
     let tail = Tail::Affine { rank: latency };
-    let both = [piece(zero, zero, zero), piece(latency, icept, rate)];
-    let Ok(pieces) = Vec::from_slice(alloc, &both) else {
-        return Err(OpFault::NoMemory);
-    };
-    let raw = RawCurve { pieces, tail };
-    if raw.is_raw() {
-        normalise(raw)
-    } else {
-        Err(OpFault::TooWide)
-    }
+    let both = [fraction_piece(zero, zero, zero, zero), fraction_piece(latency, zero, icept, rate)];
+    curve(alloc, &both, tail)
 }
 
 // The first of two queues, of quanta and longest packets 12000 and 6000, at rate 100 after 10.

@@ -1,17 +1,11 @@
 //! Pieces cut into elements, and what two elements make as pieces, worked out by hand.
 
+use test_curves::whole;
 use crate::{cut, joined_window};
 use affine_segment::{Element, Joined, Line, Piece};
 use fraction128::Frac;
 use rational::Extended;
 use std::test::Fail;
-
-fn whole(n: i128) -> Frac {
-    match Frac::new(n, 1) {
-        Ok(f) => f,
-        Err(_) => Frac::zero(),
-    }
-}
 
 fn line(icept: i128, slope: i128) -> Line {
     Line {

@@ -6,8 +6,8 @@ ghost use Rattle.rational.specs.Extended.{◌≤ₑ◌};
 ghost use Rattle.rational.specs.declared.Extended.TheVariants.{Fin};
 ghost use Rattle.upp_curve.specs.Curve.{value_at};
 
+use test_curves::{bucket, curve, line_piece, ratio, value, whole};
 use crate::fifo_service;
-use affine_segment::{Line, Piece};
 use curve_deviation::horizontal;
 use fraction128::{Ext, Frac};
 use rational::Extended;
@@ -19,58 +19,13 @@ use std::test::Fail;
 use steps::Steps;
 use upp_curve::{Curve, Tail, equal};
 use upp_limits::OpFault;
-use upp_normal::{RawCurve, normalise};
-
-fn ratio(n: i128, d: i128) -> Frac {
-    match Frac::new(n, d) {
-        Ok(f) => f,
-        Err(_) => Frac::zero(),
-    }
-}
-
-fn whole(n: i128) -> Frac {
-    ratio(n, 1)
-}
-
-// From x on the line with this value at 0, and at x the number `at`.
-fn piece(x: i128, at: i128, icept: i128, slope: i128) -> Piece {
-    Piece {
-        x: whole(x),
-        at: Extended::Fin(whole(at)),
-        line: Some(Line {
-            icept: whole(icept),
-            slope: whole(slope),
-        }),
-    }
-}
-
-fn curve(alloc: Global, pieces: &[Piece], tail: Tail) -> Result<Curve, OpFault> {
-    let Ok(pieces) = Vec::from_slice(alloc, pieces) else {
-        return Err(OpFault::NoMemory);
-    };
-    let raw = RawCurve { pieces, tail };
-    if raw.is_raw() {
-        normalise(raw)
-    } else {
-        Err(OpFault::TooMany)
-    }
-}
-
-fn bucket(alloc: Global, burst: i128, rate: i128) -> Result<Curve, OpFault> {
-    let rank = Frac::zero();
-    curve(
-        alloc,
-        &[piece(0, burst, burst, rate)],
-        Tail::Affine { rank },
-    )
-}
 
 // A rate after a latency, with minus their product.
 fn late(alloc: Global, rate: i128, latency: i128, icept: i128) -> Result<Curve, OpFault> {
     let rank = whole(latency);
     curve(
         alloc,
-        &[piece(0, 0, 0, 0), piece(latency, 0, icept, rate)],
+        &[line_piece(0, 0, 0, 0), line_piece(latency, 0, icept, rate)],
         Tail::Affine { rank },
     )
 }
@@ -82,7 +37,7 @@ fn stair(alloc: Global) -> Result<Curve, OpFault> {
         period: Frac::one(),
         rise: whole(5),
     };
-    curve(alloc, &[piece(0, 0, 0, 0)], tail)
+    curve(alloc, &[line_piece(0, 0, 0, 0)], tail)
 }
 
 // Whether that is a number from 0 on.
@@ -162,17 +117,6 @@ fn service<L: Ledger>(
     }
     let theta = horizontal(cross, beta, &mut steps)?;
     fifo_service(alloc, beta, cross, theta, &mut steps)
-}
-
-// The value at a time from 0 on; nothing where it is infinite.
-fn value(c: &Curve, t: Frac) -> Option<Frac> {
-    match t.cmp(&Frac::zero()) {
-        Ordering::Less => None,
-        _ => match c.value_at(t) {
-            Ok(Extended::Fin(v)) => Some(v),
-            _ => None,
-        },
-    }
 }
 
 #[test]

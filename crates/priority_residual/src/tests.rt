@@ -2,10 +2,9 @@
 
 ghost use Rattle.std.specs.Prelude.{◌≡◌, ◌<◌};
 
+use test_curves::{bucket, curve, fraction_piece, ratio, whole};
 use crate::priority_service;
-use affine_segment::{Line, Piece};
 use fraction128::Frac;
-use rational::Extended;
 use std::alloc::Global;
 use std::marker::Brand;
 use std::sync::ledger::{Blank, Ledger};
@@ -13,49 +12,6 @@ use std::test::Fail;
 use steps::Steps;
 use upp_curve::{Curve, Tail, equal};
 use upp_limits::OpFault;
-use upp_normal::{RawCurve, normalise};
-
-fn ratio(n: i128, d: i128) -> Frac {
-    match Frac::new(n, d) {
-        Ok(f) => f,
-        Err(_) => Frac::zero(),
-    }
-}
-
-fn whole(n: i128) -> Frac {
-    ratio(n, 1)
-}
-
-// From x on the line with this value at 0, and at x the number `at`.
-fn piece(x: Frac, at: Frac, icept: Frac, slope: Frac) -> Piece {
-    Piece {
-        x,
-        at: Extended::Fin(at),
-        line: Some(Line { icept, slope }),
-    }
-}
-
-fn curve(alloc: Global, pieces: &[Piece], rank: Frac) -> Result<Curve, OpFault> {
-    let tail = Tail::Affine { rank };
-    let Ok(pieces) = Vec::from_slice(alloc, pieces) else {
-        return Err(OpFault::NoMemory);
-    };
-    let raw = RawCurve { pieces, tail };
-    if raw.is_raw() {
-        normalise(raw)
-    } else {
-        Err(OpFault::TooWide)
-    }
-}
-
-fn bucket(alloc: Global, burst: i128, rate: i128) -> Result<Curve, OpFault> {
-    let zero = Frac::zero();
-    curve(
-        alloc,
-        &[piece(zero, whole(burst), whole(burst), whole(rate))],
-        zero,
-    )
-}
 
 // A rate after a latency, with minus their product.
 fn late(alloc: Global, rate: i128, latency: Frac, icept: i128) -> Result<Curve, OpFault> {
@@ -63,10 +19,10 @@ fn late(alloc: Global, rate: i128, latency: Frac, icept: i128) -> Result<Curve, 
     curve(
         alloc,
         &[
-            piece(zero, zero, zero, zero),
-            piece(latency, zero, whole(icept), whole(rate)),
+            fraction_piece(zero, zero, zero, zero),
+            fraction_piece(latency, zero, whole(icept), whole(rate)),
         ],
-        latency,
+        Tail::Affine { rank: latency },
     )
 }
 

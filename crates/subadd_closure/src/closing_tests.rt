@@ -1,7 +1,7 @@
 //! Closures of curves with segments after 0 that have an end, worked out by hand.
 
-use crate::segment_tests::value;
-use crate::tests::{closure, curve, piece, whole};
+use test_curves::{curve, piece, value, whole};
+use crate::tests::closure;
 use fraction128::Frac;
 use rational::Extended;
 use std::marker::Brand;

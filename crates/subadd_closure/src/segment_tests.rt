@@ -1,22 +1,14 @@
 //! Closures of lines on open stretches, worked out by hand.
 
+use test_curves::{ratio, value};
 use affine_segment::Line;
 use closure_elements::segment_closure;
 use fraction128::Frac;
 use rational::Extended;
 use std::alloc::Global;
-use std::cmp::Ordering;
 use std::test::Fail;
 use upp_curve::Curve;
 use upp_limits::OpFault;
-
-// n / 2.
-fn half(n: i128) -> Frac {
-    match Frac::new(n, 2) {
-        Ok(f) => f,
-        Err(_) => Frac::zero(),
-    }
-}
 
 // The closure of the value 1 between 2 and 3.
 fn constant(alloc: Global) -> Result<Curve, OpFault> {
@@ -37,26 +29,15 @@ fn endless(alloc: Global) -> Result<Curve, OpFault> {
     segment_closure(alloc, Frac::one(), Extended::Inf, &line, 0)
 }
 
-// The value at a time from 0 on; nothing where it is infinite.
-pub(crate) fn value(c: &Curve, t: Frac) -> Option<Frac> {
-    match t.cmp(&Frac::zero()) {
-        Ordering::Less => None,
-        _ => match c.value_at(t) {
-            Ok(Extended::Fin(v)) => Some(v),
-            _ => None,
-        },
-    }
-}
-
 // Where n values lie between 2 n and 3 n, the fewest of them; from 6 on there are such n for each time but 6.
 #[test]
 fn values_on_a_stretch_are_as_few_as_can_be(rt: HostRuntime) -> Result<(), Fail> {
     let c = constant(rt.alloc())?;
     for (t, v) in [(5, 2), (10, 4), (14, 6), (17, 6), (18, 8), (200, 68)] {
-        assert!(rt; value(&c, half(t)) == Some(half(v)), "at {t}");
+        assert!(rt; value(&c, ratio(t, 2)) == Some(ratio(v, 2)), "at {t}");
     }
     for t in [0, 2, 4, 6, 7, 8, 12] {
-        assert!(rt; value(&c, half(t)).is_none(), "at {t}");
+        assert!(rt; value(&c, ratio(t, 2)).is_none(), "at {t}");
     }
     Ok(())
 }
@@ -66,10 +47,10 @@ fn values_on_a_stretch_are_as_few_as_can_be(rt: HostRuntime) -> Result<(), Fail>
 fn values_of_a_low_line_are_as_many_as_can_be(rt: HostRuntime) -> Result<(), Fail> {
     let c = endless(rt.alloc())?;
     for (t, v) in [(3, 1), (4, 2), (5, 1), (6, 2), (101, 1)] {
-        assert!(rt; value(&c, half(t)) == Some(half(v)), "at {t}");
+        assert!(rt; value(&c, ratio(t, 2)) == Some(ratio(v, 2)), "at {t}");
     }
     for t in [0, 1, 2] {
-        assert!(rt; value(&c, half(t)).is_none(), "at {t}");
+        assert!(rt; value(&c, ratio(t, 2)).is_none(), "at {t}");
     }
     Ok(())
 }

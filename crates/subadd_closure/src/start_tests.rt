@@ -4,9 +4,9 @@ ghost use Rattle.std.specs.Prelude.{◌≡◌, ◌<◌, IsTrue};
 ghost use Rattle.upp_curve.specs.Curve.{value_at};
 ghost use Rattle.min_plus.specs.Functions.{IsFinite, IsNonnegative};
 
+use test_curves::{curve, line_piece, repeats, value, whole};
 use crate::from_start::convolve_from;
-use affine_segment::{Line, Piece};
-use fraction128::{Ext, Frac};
+use fraction128::Frac;
 use rational::Extended;
 use std::alloc::Global;
 use std::cmp::Ordering;
@@ -16,37 +16,6 @@ use std::test::Fail;
 use steps::Steps;
 use upp_curve::{Curve, Tail, equal};
 use upp_limits::OpFault;
-use upp_normal::{RawCurve, normalise};
-
-fn whole(n: i128) -> Frac {
-    match Frac::new(n, 1) {
-        Ok(f) => f,
-        Err(_) => Frac::zero(),
-    }
-}
-
-fn curve(alloc: Global, list: &[Piece], tail: Tail) -> Result<Curve, OpFault> {
-    let Ok(pieces) = Vec::from_slice(alloc, list) else {
-        return Err(OpFault::NoMemory);
-    };
-    let raw = RawCurve { pieces, tail };
-    if raw.is_raw() {
-        normalise(raw)
-    } else {
-        Err(OpFault::TooMany)
-    }
-}
-
-fn piece(x: i128, at: i128, icept: i128, slope: i128) -> Piece {
-    Piece {
-        x: whole(x),
-        at: Extended::Fin(whole(at)),
-        line: Some(Line {
-            icept: whole(icept),
-            slope: whole(slope),
-        }),
-    }
-}
 
 fn repeating(rank: i128) -> Tail {
     Tail::Periodic {
@@ -59,7 +28,7 @@ fn repeating(rank: i128) -> Tail {
 // One value at 0, and 3 + 2 t after it.
 fn line(alloc: Global, at: i128) -> Result<Curve, OpFault> {
     let tail = Tail::Affine { rank: Frac::zero() };
-    curve(alloc, &[piece(0, at, 3, 2)], tail)
+    curve(alloc, &[line_piece(0, at, 3, 2)], tail)
 }
 
 // Whether a curve is finite, rises and is not below 0.
@@ -94,29 +63,10 @@ fn started<L: Ledger>(alloc: Global, blank: Blank, f: &Curve, start: i128) -> Re
     }
 }
 
-// The value at a time from 0 on; nothing where it is infinite.
-fn value(c: &Curve, t: Frac) -> Option<Frac> {
-    match t.cmp(&Frac::zero()) {
-        Ordering::Less => None,
-        _ => match c.value_at(t) {
-            Ok(Extended::Fin(v)) => Some(v),
-            _ => None,
-        },
-    }
-}
-
-// The rank, the period and the rise.
-fn repeats(c: &Curve) -> Option<(Frac, Frac, Frac)> {
-    match c.tail() {
-        Tail::Periodic { rank, period, rise } => Some((*rank, *period, *rise)),
-        _ => None,
-    }
-}
-
 // A stair that steps up after 0, 2, 4 and so on repeats from 0 on, with 1 at 0 only from 2 on.
 #[test]
 fn the_rank_is_later(rt: HostRuntime) -> Result<(), Fail> {
-    let f = curve(rt.alloc(), &[piece(0, 0, 1, 0)], repeating(0))?;
+    let f = curve(rt.alloc(), &[line_piece(0, 0, 1, 0)], repeating(0))?;
     let c = started::<Brand>(rt.alloc(), Blank::new(1), &f, 1)?;
     for (t, v) in [(0, 1), (1, 1), (2, 1), (3, 2), (4, 2), (5, 3)] {
         assert!(rt; value(&c, whole(t)) == Some(whole(v)), "at {t}");
@@ -130,10 +80,10 @@ fn the_rank_is_later(rt: HostRuntime) -> Result<(), Fail> {
 // A stair that steps up at 2, 4 and so on, with 0 at 0, repeats from 2 on, and with 1 at 0 from 0 on.
 #[test]
 fn the_rank_is_earlier(rt: HostRuntime) -> Result<(), Fail> {
-    let list = [piece(0, 0, 1, 0), piece(2, 2, 2, 0)];
+    let list = [line_piece(0, 0, 1, 0), line_piece(2, 2, 2, 0)];
     let f = curve(rt.alloc(), &list, repeating(2))?;
     let c = started::<Brand>(rt.alloc(), Blank::new(1), &f, 1)?;
-    let g = curve(rt.alloc(), &[piece(0, 1, 1, 0)], repeating(0))?;
+    let g = curve(rt.alloc(), &[line_piece(0, 1, 1, 0)], repeating(0))?;
     assert!(rt; equal(&c, &g));
     let d = started::<Brand>(rt.alloc(), Blank::new(1), &f, 7)?;
     assert!(rt; value(&d, whole(0)) == Some(whole(7)));

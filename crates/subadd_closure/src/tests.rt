@@ -5,9 +5,9 @@ ghost use Rattle.rational.specs.Extended.{◌≤ₑ◌};
 ghost use Rattle.upp_curve.specs.Curve.{value_at};
 ghost use Rattle.min_plus.specs.Functions.{zero_q};
 
+use test_curves::{bucket, curve, piece, ratio, whole};
 use crate::{close, is_subadditive};
-use affine_segment::{Line, Piece};
-use fraction128::{Ext, Frac, is_less};
+use fraction128::{Frac, is_less};
 use rational::Extended;
 use std::alloc::Global;
 use std::marker::Brand;
@@ -16,55 +16,6 @@ use std::test::Fail;
 use steps::Steps;
 use upp_curve::{Curve, Tail, equal};
 use upp_limits::OpFault;
-use upp_normal::{RawCurve, normalise};
-
-pub(crate) fn whole(n: i128) -> Frac {
-    match Frac::new(n, 1) {
-        Ok(f) => f,
-        Err(_) => Frac::zero(),
-    }
-}
-
-// 1 / n.
-fn part(n: i128) -> Frac {
-    match Frac::new(1, n) {
-        Ok(f) => f,
-        Err(_) => Frac::zero(),
-    }
-}
-
-pub(crate) fn curve(alloc: Global, list: &[Piece], tail: Tail) -> Result<Curve, OpFault> {
-    let Ok(pieces) = Vec::from_slice(alloc, list) else {
-        return Err(OpFault::NoMemory);
-    };
-    let raw = RawCurve { pieces, tail };
-    if raw.is_raw() {
-        normalise(raw)
-    } else {
-        Err(OpFault::TooMany)
-    }
-}
-
-// From x on the line with this value at 0, and at x the value `at`.
-pub(crate) fn piece(x: i128, at: Ext, line: Option<(i128, i128)>) -> Piece {
-    Piece {
-        x: whole(x),
-        at,
-        line: match line {
-            None => None,
-            Some((icept, slope)) => Some(Line {
-                icept: whole(icept),
-                slope: whole(slope),
-            }),
-        },
-    }
-}
-
-// A burst, and then the rate.
-fn bucket(alloc: Global, burst: i128, rate: i128) -> Result<Curve, OpFault> {
-    let list = [piece(0, Extended::Fin(whole(burst)), Some((burst, rate)))];
-    curve(alloc, &list, Tail::Affine { rank: Frac::zero() })
-}
 
 // The rate 1 after the time 1.
 fn late(alloc: Global) -> Result<Curve, OpFault> {
@@ -182,7 +133,7 @@ fn subadditive_curves_stay(rt: HostRuntime) -> Result<(), Fail> {
 
 #[test]
 fn a_stair_of_short_steps_has_too_many_pieces(rt: HostRuntime) -> Result<(), Fail> {
-    let f = steps_up(rt.alloc(), 1, 1, part(1 << 21), 1)?;
+    let f = steps_up(rt.alloc(), 1, 1, ratio(1, 1 << 21), 1)?;
     let answer = closure::<Brand>(rt.alloc(), Blank::new(1), &f);
     assert!(rt; matches!(answer, Err(OpFault::TooMany)));
     Ok(())

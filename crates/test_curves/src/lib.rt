@@ -51,10 +51,21 @@ pub fn piece(x: i128, at: Ext, line: Option<(i128, i128)>) -> Piece
 }
 
 /// From x on the line with a value at 0 and a slope, and `at` at x.
+pub fn fraction_piece(x: Frac, at: Frac, icept: Frac, slope: Frac) -> Piece
+    ensures { result ≡ record { x = x; at = Fin at; line = Some record { icept = icept; slope = slope } } }
+{
+    Piece {
+        x,
+        at: Extended::Fin(at),
+        line: Some(Line { icept, slope }),
+    }
+}
+
+/// The same of whole numbers.
 pub fn line_piece(x: i128, at: i128, icept: i128, slope: i128) -> Piece
     ensures { IsSmall (ratio at (pos 1)) → result.at ≡ Fin (ratio at (pos 1)) }
 {
-    piece(x, Extended::Fin(whole(at)), Some((icept, slope)))
+    fraction_piece(whole(x), whole(at), whole(icept), whole(slope))
 }
 
 /// The normal form of a curve. Refused with TooMany also where the pieces and the tail make none.
