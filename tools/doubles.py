@@ -6,6 +6,10 @@ Of a function the names are compared that come from outside (types, fields, call
 own name, its parameters, its variables and the names of its clauses are not. Of a statement (the type of a lemma; an
 abbreviation with its equations; a record with its fields) the bound names and its own name are not compared.
 
+Left out are words of specs/ that say the same under different names, since each is the word of another notion there (a
+number that may be printed, and one that fits); what tests use in the crates below the one that has it for the tests of
+all others; and the pairs of APART.
+
     tools/doubles.py [FOLDER ..]    folders below crates/, as curve_least; without one, all
 
 Prints each group with file and line, and how many there are; the status is 1 where something is found."""
@@ -16,6 +20,16 @@ import sys
 TOP = pathlib.Path(__file__).resolve().parent.parent / 'crates'
 SHORT_FUNCTION = 24  # words of a function, and of a statement, below which nothing is compared
 SHORT_STATEMENT = 12
+
+# what reads the same and is not
+APART = [
+    {'late_value', 'soon_value'},  # the two functions of a gap: of one type, and not of one value
+    {'first_later', 'second_later'},  # two ways to make a split later: by its first side, and by its second
+    {'ReachTime', 'IsTime'},  # a time up to the reach of a deconvolution, and a time that a watch marks
+    {'RiseParts', 'IsKey'},  # the numbers of one rise of a curve, and of one key of a watch
+    {'plus_append', 'append_sum'},  # of `plus`, the sum of what cells count, and of `sum_of`, the sum of times
+]
+TEST_LIBRARY = 'test_curves'  # what the tests of the crates above it share
 
 WORD = re.compile(r"[^\W\d]['\w≢≡≤-]*|\d+|\S", re.U)
 KEYWORDS = set('fn let mut match if else for in while loop return pub crate self Self as ref move true false break '
@@ -205,6 +219,8 @@ def named_statements(path):
             lines = equations(entries, i, name)
             bound = [w for l in lines for w in re.findall(r"\b[a-z]\w*\b", l.split(' = ')[0])]
             key = statement_key(name, '\n'.join([text[abbrev.end():]] + lines), bound)
+            if text.startswith('unfoldable'):  # a name that stays shut is there to be shut
+                key += ('unfoldable',)
         elif record:
             name = record.group(1)
             key = statement_key(name, text[record.end(1):])
@@ -216,8 +232,25 @@ def named_statements(path):
         yield key, name, line, kind
 
 
+def crates_below_test_library():
+    """The crates whose tests cannot use the library of the tests: it stands on them."""
+    lines = (TOP.parent / 'crates.txt').read_text().split('\n')
+    names = [line.split(':')[0] for line in lines if ':' in line and not line.startswith('#')]
+    return set(names[:names.index(TEST_LIBRARY)]) if TEST_LIBRARY in names else set()
+
+
+def is_apart(kind, places, below):
+    """Whether a group says of nothing that it stands twice."""
+    files, names = zip(*((place.split(':')[0], place.split(' ')[1]) for place in places))
+    if kind == '.rt':
+        return sum(not (file.endswith('tests.rt') and file.split('/')[0] in below) for file in files) < 2
+    in_specs = all(file.split('/')[1] == 'specs' for file in files)
+    return in_specs and len(set(names)) == len(names) or set(names) in APART
+
+
 def main():
     chosen = sys.argv[1:]
+    below = crates_below_test_library()
     groups = {}
     paths = [p for p in sorted(TOP.glob('**/*')) if p.suffix in ('.rt', '.antt')
              and 'out' not in p.relative_to(TOP).parts and (p.suffix == '.rt' or len(p.relative_to(TOP).parts) == 3)]
@@ -231,7 +264,7 @@ def main():
             groups.setdefault((path.suffix, key), []).append(f'{place}:{line} {name}')
     counts = {'.rt': 0, '.antt': 0}
     for (kind, key), places in sorted(groups.items(), key=lambda g: (g[0][0] == '.antt', g[1])):
-        if len(places) > 1:
+        if len(places) > 1 and not is_apart(kind, places, below):
             counts[kind] += 1
             print('\n'.join(places), end='\n\n')
     print(f'{counts[".rt"]} functions and {counts[".antt"]} statements stand more than once')

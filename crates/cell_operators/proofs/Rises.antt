@@ -21,15 +21,13 @@ use Rattle.curve_call.proofs.Excesses.{finite_excess, excess_nonneg, excess_mono
 use Rattle.curve_call.proofs.FiniteAnswers.{supremum_finite}
 use Rattle.residual_laws.specs.PriorityLaws.{IsPriorityService, priority_left}
 use Rattle.cell_operators.specs.Shapes.{IsServed}
+use Rattle.min_plus.proofs.TimeSums.{nonneg_sum}
 
 -- where h has the values of m, which rises
 same_rising : (m h : ℚ → Ext) → ((t : ℚ) → zero_q ≤ℚ t → h t ≡ m t) → ((s t : ℚ) → zero_q ≤ℚ s → s ≤ℚ t → m s ≤ₑ m t) → IsRising h
 same_rising m h is up s t low more =
     le_ext_trans (h s) (m s) (h t) (same_le_ext (is s low))
     (le_ext_trans (m s) (m t) (h t) (up s t low more) (same_le_ext (sym (is t (le_trans low more)))))
-
-later : (s d : ℚ) → zero_q ≤ℚ s → zero_q ≤ℚ d → zero_q ≤ℚ s +ℚ d
-later s d p q = subst (λ (x : ℚ). x ≤ℚ s +ℚ d) (add_zero zero_q) (add_le_add p q)
 
 sub_mono : (x y : Ext) (c : ℚ) → x ≤ₑ y → x -ₑ c ≤ₑ y -ₑ c
 sub_mono x y c l =
@@ -51,7 +49,7 @@ min_rises f g h p q made =
 
 shifted_rises : (f : ℚ → Ext) (x : Ext) → Fin zero_q ≤ₑ x → IsRising f → (s t : ℚ) → zero_q ≤ℚ s → s ≤ℚ t → shifted f x s ≤ₑ shifted f x t
 shifted_rises f Inf ahead p s t low more = le_inf Inf
-shifted_rises f (Fin d) ahead p s t low more = p (s +ℚ d) (t +ℚ d) (later s d low ahead) (add_le_add more (le_refl d))
+shifted_rises f (Fin d) ahead p s t low more = p (s +ℚ d) (t +ℚ d) (nonneg_sum s d low ahead) (add_le_add more (le_refl d))
 
 pub shift_rises : (f h : SpecCurve) (x : Ext) → Fin zero_q ≤ₑ x → IsRising (value_at f) → IsMadeBy (Shift x) f f h → IsRising (value_at h)
 shift_rises f h x ahead p made = same_rising (shifted (value_at f) x) (value_at h) made.answers (shifted_rises (value_at f) x ahead p)
@@ -63,7 +61,7 @@ deconvolution_rises f g h p made s t low more =
     let late = made.answers t (le_trans low more) in
     le_ext_trans (value_at f (s +ℚ u.at) -ₑ u.level) (value_at f (t +ℚ u.at) -ₑ u.level) (value_at h t)
     (sub_mono (value_at f (s +ℚ u.at)) (value_at f (t +ℚ u.at)) u.level
-    (p (s +ℚ u.at) (t +ℚ u.at) (later s u.at low u.nonneg) (add_le_add more (le_refl u.at))))
+    (p (s +ℚ u.at) (t +ℚ u.at) (nonneg_sum s u.at low u.nonneg) (add_le_add more (le_refl u.at))))
     (late.above u))
 
 -- ---- services

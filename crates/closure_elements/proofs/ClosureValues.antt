@@ -17,11 +17,12 @@ use Rattle.affine_segment.specs.Reading.{read, piece_value, nothing_at}
 use Rattle.upp_curve.specs.Curve.{repeated, value_at}
 use Rattle.upp_curve.proofs.Repeats.{repeated_first}
 use Rattle.closure_elements.specs.ElementClosures.{Turn, IsSegmentClosure}
-use Rattle.closure_elements.specs.ElementCurves.{nat_times, stretch, turn, line_times, all_stretches, stretches, from_zero, level_closure, rising_closure, falling_closure}
+use Rattle.closure_elements.specs.ElementCurves.{stretch, turn, line_times, all_stretches, stretches, from_zero, level_closure, rising_closure, falling_closure}
 use Rattle.closure_elements.proofs.PieceReads.{opening_past, opening_here, early_start, late_start}
 use Rattle.closure_elements.proofs.TurnNumbers.{fewer, more, least_turn, no_turn, least_up, least_down}
 use Rattle.closure_elements.proofs.StretchReads.{IsLate, none_at_start, all_read}
 use Rattle.affine_segment.proofs.PieceIn.{read_go, read_one, read_stop, value_by, value_past, nothing_read}
+use Rattle.closure_laws.specs.Star.{nat_times}
 
 pub times_add : (n j i : ℕ) (k : ℚ) → i ≡ n + j → nat_times i k ≡ nat_times n k +ℚ nat_times j k
 times_add n j i k e =

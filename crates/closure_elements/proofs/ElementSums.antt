@@ -18,9 +18,7 @@ use Rattle.affine_segment.specs.Cuts.{IsWithin}
 use Rattle.min_plus.specs.Functions.{zero_q}
 use Rattle.min_plus.specs.Convolution.{Parts, AllNonneg, sum_of, sum_at}
 use Rattle.closure_elements.specs.ElementClosures.{Multiple, Turn, ClosureOfPoint, ClosureOfSegment}
-
-abbrev pub nat_times : ℕ → ℚ → ℚ
-nat_times n d = int (pos n) *ℚ d
+use Rattle.closure_laws.specs.Star.{nat_times}
 
 -- ---- n equal times
 -- x, n times over

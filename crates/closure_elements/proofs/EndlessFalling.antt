@@ -13,9 +13,10 @@ use Rattle.affine_segment.specs.declared.line.Line.{Line}
 use Rattle.min_plus.specs.Functions.{zero_q}
 use Rattle.upp_curve.specs.Curve.{value_at}
 use Rattle.closure_elements.specs.ElementClosures.{Turn, IsSegmentClosure}
-use Rattle.closure_elements.specs.ElementCurves.{nat_times, falling_closure, stretches}
+use Rattle.closure_elements.specs.ElementCurves.{falling_closure, stretches}
 use Rattle.closure_elements.proofs.TurnNumbers.{fewer, turn_above, turn_in, least_down}
 use Rattle.closure_elements.proofs.ClosureValues.{left_of, falling_values}
+use Rattle.closure_laws.specs.Star.{nat_times}
 
 -- past a, the number whose stretch begins last before t
 record Last (a t : ℚ) : Type 0 where

@@ -21,8 +21,9 @@ use Rattle.upp_limits.specs.Spans.{once, number_below}
 use Rattle.upp_limits.specs.Limits.{own_end, own_tally}
 use Rattle.upp_limits.proofs.PieceCounts.{count_is_sum}
 use Rattle.upp_limits.proofs.Rounding.{whole_up_most}
-use Rattle.closure_elements.specs.ElementCurves.{nat_times, stretch, stretches, all_stretches}
+use Rattle.closure_elements.specs.ElementCurves.{stretch, stretches, all_stretches}
 use Rattle.closure_elements.proofs.PieceReads.{gap_kept, gap_left, late_start, early_start}
+use Rattle.closure_laws.specs.Star.{nat_times}
 
 -- ---- how many pieces there are
 few_stretches : (a b : ℚ) (l : Line) (n m : ℕ) (rest : List Piece) → length (stretches a b l n m rest) ≤ 2 * m + length rest

@@ -15,10 +15,11 @@ use Rattle.min_plus.specs.Functions.{zero_q}
 use Rattle.affine_segment.specs.Pieces.{Each, start_after}
 use Rattle.affine_segment.specs.Fits.{LineFitsAt}
 use Rattle.upp_curve.specs.Readable.{LineFitsTo, EachFits}
-use Rattle.closure_elements.specs.ElementCurves.{nat_times, stretch, stretches, all_stretches}
+use Rattle.closure_elements.specs.ElementCurves.{stretch, stretches, all_stretches}
 use Rattle.closure_elements.specs.PieceFits.{SlopeFitsAt, SlopesRead}
 use Rattle.closure_elements.proofs.PieceReads.{gap_kept, gap_left, late_start, early_start}
 use Rattle.upp_curve.proofs.ReadableKinds.{zero_num}
+use Rattle.closure_laws.specs.Star.{nat_times}
 
 -- ---- a sum with 0 fits
 gcd_of_one : (d : ℕ) → 0 < d → gcd 1 d ≡ 1

@@ -23,9 +23,8 @@ use Rattle.upp_curve.specs.Readable.{SumFitsAt}
 use Rattle.affine_segment.specs.Reading.{read}
 use Rattle.upp_curve.specs.Steady.{Repeats}
 use Rattle.upp_curve.proofs.Repeats.{repeated_first}
-use Rattle.closure_laws.specs.Star.{origin}
+use Rattle.closure_laws.specs.Star.{origin, nat_times}
 use Rattle.closure_laws.specs.ClosureLaws.{IsLattice}
-use Rattle.closure_elements.specs.ElementCurves.{nat_times}
 use Rattle.closure_elements.specs.Lattices.{lattice_curve, origin_curve, LatticeValues}
 use Rattle.closure_elements.proofs.ClosureValues.{Left, left_of}
 use Rattle.closure_elements.proofs.FlatLines.{zero_sum}

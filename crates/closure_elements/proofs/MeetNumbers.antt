@@ -9,8 +9,9 @@ use Rattle.rational.proofs.Laws.{le_trans, lt_le_trans, le_of_lt, mul_le_mul_rig
 use Rattle.rational.proofs.Integers.{nat_le}
 use Rattle.rational.proofs.Whole.{one_more_times, whole_le, whole_gt}
 use Rattle.min_plus.specs.Functions.{zero_q}
-use Rattle.closure_elements.specs.ElementCurves.{nat_times, IsStretch}
+use Rattle.closure_elements.specs.ElementCurves.{IsStretch}
 use Rattle.closure_elements.specs.MeetLaws.{StretchesMeet}
+use Rattle.closure_laws.specs.Star.{nat_times}
 
 -- n b is n a and n lengths
 length_times : (a b : ℚ) (n : ℕ) → (nat_times n b ≤ℚ nat_times n a +ℚ nat_times n (b -ℚ a)) × (nat_times n a +ℚ nat_times n (b -ℚ a) ≤ℚ nat_times n b)

@@ -16,9 +16,10 @@ use Rattle.upp_curve.specs.Steady.{Repeats, last_line}
 use Rattle.affine_segment.specs.Pieces.{Each, HasStart, RisesFrom, StartsAtZero}
 use Rattle.upp_curve.specs.Normal.{Continues, NoneContinues, NoMerge, IsNormal}
 use Rattle.upp_curve.proofs.Unique.{lines_at_two}
-use Rattle.closure_elements.specs.ElementCurves.{nat_times, stretch, line_times, stretches, all_stretches, level_closure}
+use Rattle.closure_elements.specs.ElementCurves.{stretch, line_times, stretches, all_stretches, level_closure}
 use Rattle.closure_elements.proofs.PieceReads.{gap_kept, gap_left, late_start, early_start}
 use Rattle.affine_segment.specs.Reading.{nothing_at}
+use Rattle.closure_laws.specs.Star.{nat_times}
 
 -- ---- the list
 -- where the stretches lie: they end before the next begins, or just there
@@ -241,8 +242,8 @@ no_share f R d K k r s T n two h =
     let over : r *ℚ t ≡ r *ℚ R +ℚ r *ℚ share = mul_add r R share in
     let first = T.rank_line in
     -- s + r share is the rise, so n s is k
-    let nothing_at : s +ℚ r *ℚ share ≡ rise = apart s (r *ℚ share) rise K (r *ℚ t) (r *ℚ R) T.rank line over first in
-    let times : s *ℚ M +ℚ (r *ℚ share) *ℚ M ≡ k +ℚ r *ℚ d = sym (add_mul s (r *ℚ share) M) ∙ ap (λ z. z *ℚ M) nothing_at ∙ back_rise in
+    let gap : s +ℚ r *ℚ share ≡ rise = apart s (r *ℚ share) rise K (r *ℚ t) (r *ℚ R) T.rank line over first in
+    let times : s *ℚ M +ℚ (r *ℚ share) *ℚ M ≡ k +ℚ r *ℚ d = sym (add_mul s (r *ℚ share) M) ∙ ap (λ z. z *ℚ M) gap ∙ back_rise in
     let same : (r *ℚ share) *ℚ M ≡ r *ℚ d = mul_assoc r share M ∙ ap (λ z. r *ℚ z) back in
     let whole : s *ℚ M ≡ k = left (s *ℚ M) ((r *ℚ share) *ℚ M) k (r *ℚ d) times same in
     elim T.below [

@@ -20,12 +20,13 @@ use Rattle.affine_segment.specs.Pieces.{Each}
 use Rattle.upp_curve.specs.Normal.{IsNormal}
 use Rattle.upp_curve.proofs.Normal.{periodic_rule}
 use Rattle.closure_elements.specs.ElementClosures.{Turn, IsSegmentClosure}
-use Rattle.closure_elements.specs.ElementCurves.{nat_times, turn, line_times, all_stretches, rising_closure, falling_closure}
+use Rattle.closure_elements.specs.ElementCurves.{turn, line_times, all_stretches, rising_closure, falling_closure}
 use Rattle.closure_elements.proofs.TurnNumbers.{turn_in, more}
 use Rattle.closure_elements.proofs.StretchReads.{IsLate, first_late, none_at_start}
 use Rattle.closure_elements.proofs.ClosureValues.{rising_values, falling_values, least_at, greatest_at}
 use Rattle.closure_elements.proofs.NormalClosures.{IsTurn, no_share, not_one, all_each, all_start, all_has, all_unmerged, rest_start}
 use Rattle.upp_normal.proofs.NormalisePeriods.{repeats_after}
+use Rattle.closure_laws.specs.Star.{nat_times}
 
 -- infinity at y and a number a period later: no rule from a time up to y
 no_lower : (f : ℚ → Ext) (x y d c q : ℚ) → x ≤ℚ y → f y ≡ Inf → f (y +ℚ d) ≡ Fin q → ¬ (Repeats f x d c)

@@ -42,7 +42,7 @@ pub early_start : (a : ℚ) (ps : List Piece) → a ≤ℚ zero_q → from_zero 
 unfolding from_zero
 early_start a ps h = rw (lt_q_not zero_q a h) refl
 
--- past the end of a piece, over a nothing_at up to the next
+-- past the end of a piece, over a gap up to the next
 pub over_gap : (p : Piece) (x : ℚ) (q : Piece) (qs : List Piece) (t : ℚ) → q.x ≤ℚ t → x ≤ℚ q.x
     → read (p ∷ after_gap x q.x (q ∷ qs)) t ≡ read (q ∷ qs) t
 over_gap p x q qs t h k = elim (le_or_lt q.x x) [
@@ -51,7 +51,7 @@ over_gap p x q qs t h k = elim (le_or_lt q.x x) [
       ∙ read_go (nothing_at x) q qs t h
 ]
 
--- before the nothing_at
+-- before the gap
 pub before_gap : (p : Piece) (x : ℚ) (q : Piece) (qs : List Piece) (t : ℚ) → t <ℚ x → x ≤ℚ q.x
     → read (p ∷ after_gap x q.x (q ∷ qs)) t ≡ piece_value p t
 before_gap p x q qs t h k = elim (le_or_lt q.x x) [
@@ -59,7 +59,7 @@ before_gap p x q qs t h k = elim (le_or_lt q.x x) [
   | inr l ↦ ap (λ z. read (p ∷ z) t) (gap_kept x q.x (q ∷ qs) l) ∙ read_stop p (nothing_at x) (q ∷ qs) t h
 ]
 
--- in the nothing_at, from its start on
+-- in the gap, from its start on
 pub in_gap : (p : Piece) (x : ℚ) (q : Piece) (qs : List Piece) (t : ℚ) → x ≤ℚ t → t <ℚ q.x
     → read (p ∷ after_gap x q.x (q ∷ qs)) t ≡ Inf
 in_gap p x q qs t h k =

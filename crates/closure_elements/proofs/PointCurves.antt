@@ -21,9 +21,10 @@ use Rattle.upp_curve.specs.Steady.{Repeats}
 use Rattle.upp_curve.specs.Normal.{IsNormal}
 use Rattle.upp_curve.proofs.Repeats.{repeated_first}
 use Rattle.closure_elements.specs.ElementClosures.{Multiple, IsPointClosure}
-use Rattle.closure_elements.specs.ElementCurves.{nat_times, point_closure, point_at_zero}
+use Rattle.closure_elements.specs.ElementCurves.{point_closure, point_at_zero}
 use Rattle.closure_elements.proofs.ClosureValues.{Left, left_of, repeated_left}
 use Rattle.affine_segment.proofs.PieceIn.{read_go, read_one, read_stop, value_by, value_past, nothing_read}
+use Rattle.closure_laws.specs.Star.{nat_times}
 
 -- ---- the closure by a multiple
 -- where t is n and one times a, and no other number of times, or each gives as much

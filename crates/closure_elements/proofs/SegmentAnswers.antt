@@ -30,7 +30,7 @@ use Rattle.upp_limits.specs.Limits.{Sizes, own_gauge, own_tally}
 use Rattle.min_plus.specs.Convolution.{IsSubadditiveClosure}
 use Rattle.closure_elements.proofs.ElementSums.{closure_of_segment}
 use Rattle.closure_elements.specs.ElementClosures.{IsSegmentClosure}
-use Rattle.closure_elements.specs.ElementCurves.{nat_times, opening, line_times, from_zero, turn, stretches, all_stretches, level_closure, rising_closure, falling_closure}
+use Rattle.closure_elements.specs.ElementCurves.{opening, line_times, from_zero, turn, stretches, all_stretches, level_closure, rising_closure, falling_closure}
 use Rattle.closure_elements.specs.PieceFits.{PieceFits, IsUnfit, IsMade, SlopesRead, Turns}
 use Rattle.closure_elements.specs.ElementAnswers.{IsElementClosure, ClosureAnswer, IsOpenPart}
 use Rattle.closure_elements.proofs.SmallPieces.{CallSizes, PieceStands, pieces_fit, rise_fits, lines_read, heavy_by}
@@ -48,6 +48,7 @@ use Rattle.rational.proofs.Compared.{is_equal}
 use Rattle.upp_normal.proofs.Bends.{each_first}
 use Rattle.upp_limits.proofs.FewCopies.{periodic_few}
 use Rattle.rational.proofs.Integers.{le_or_more}
+use Rattle.closure_laws.specs.Star.{nat_times}
 
 pub unfit_more : (a b : ℚ) (l : Line) (m : ℕ) (e : OpFault) → IsUnfit (stretches a b l 1 m []) e → IsUnfit (all_stretches a b l m []) e
 unfit_more a b l m TooMany h = h

@@ -10,10 +10,11 @@ use Rattle.affine_segment.specs.declared.line.Piece.{Piece}
 use Rattle.min_plus.specs.Functions.{zero_q}
 use Rattle.affine_segment.specs.Reading.{read, nothing_at}
 use Rattle.closure_elements.specs.ElementClosures.{Turn, IsSegmentClosure}
-use Rattle.closure_elements.specs.ElementCurves.{nat_times, stretch, line_times, stretches, all_stretches}
+use Rattle.closure_elements.specs.ElementCurves.{stretch, line_times, stretches, all_stretches}
 use Rattle.closure_elements.proofs.PieceReads.{opening_here, opening_past, over_gap, before_gap, in_gap, late_start, early_start}
 use Rattle.closure_elements.proofs.TurnNumbers.{fewer, more, least_turn, no_turn}
 use Rattle.affine_segment.proofs.PieceIn.{read_go, read_stop, nothing_read}
+use Rattle.closure_laws.specs.Star.{nat_times}
 
 -- from n a on each turn is n or more
 abbrev pub IsLate : ℚ → Ext → ℕ → Type 0

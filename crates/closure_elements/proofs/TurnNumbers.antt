@@ -12,8 +12,10 @@ use Rattle.affine_segment.specs.declared.line.Line.{Line}
 use Rattle.affine_segment.specs.Values.{line_at}
 use Rattle.min_plus.specs.Functions.{zero_q}
 use Rattle.closure_elements.specs.ElementClosures.{Turn, IsSegmentClosure}
-use Rattle.closure_elements.specs.ElementCurves.{nat_times, line_times, ext_times}
+use Rattle.closure_elements.specs.ElementCurves.{line_times, ext_times}
 use Rattle.rational.proofs.Grain.{some_int}
+use Rattle.rational.proofs.ExtendedOrder.{not_past}
+use Rattle.closure_laws.specs.Star.{nat_times}
 
 -- ---- the two forms of a turn
 pub share_back : (n : ℕ) (t : ℚ) → nat_times (suc n) (t /ℚ int (pos (suc n))) ≡ t
@@ -66,10 +68,6 @@ fewer a b t n low h u = elim (le_or_more n (suc u.less_one)) [
 ext_more : (b : Ext) (m n : ℕ) (t : ℚ) → Fin zero_q ≤ₑ b → m ≤ n → Fin t <ₑ ext_times m b → Fin t <ₑ ext_times n b
 ext_more Inf m n t low h k = tt
 ext_more (Fin b) m n t low h k = lt_le_trans k (mul_le_mul_right b low (nat_le m n h))
-
-pub not_past : (x : Ext) (t : ℚ) → x ≤ₑ Fin t → Fin t <ₑ x → ⊥
-not_past Inf t h k = h
-not_past (Fin x) t h k = lt_irrefl t (lt_le_trans k h)
 
 -- from n b on there are turns above n alone
 pub more : (a : ℚ) (b : Ext) (t : ℚ) (n : ℕ) → Fin zero_q ≤ₑ b → ext_times n b ≤ₑ Fin t → (u : Turn a b t) → suc n ≤ suc u.less_one

@@ -11,11 +11,9 @@ use Rattle.upp_curve.specs.declared.curve.Tail.TheVariants.{Periodic, Affine, In
 use Rattle.upp_curve.specs.Curve.{SpecCurve}
 use Rattle.min_plus.specs.Functions.{zero_q}
 use Rattle.affine_segment.specs.Reading.{nothing_at}
+use Rattle.closure_laws.specs.Star.{nat_times}
 
 -- ---- pieces
-abbrev pub nat_times : ℕ → ℚ → ℚ
-nat_times n x = int (pos n) *ℚ x
-
 -- infinity at x, and then a line
 abbrev pub opening : ℚ → Line → Piece
 opening x l = record { x = x; at = Inf; line = Some l }
@@ -28,17 +26,17 @@ line_times n l = record { icept = nat_times n l.icept; slope = l.slope }
 abbrev pub stretch : ℚ → Line → ℕ → Piece
 stretch a l n = opening (nat_times n a) (line_times n l)
 
--- other pieces after a nothing_at from x up to y, where there is one
+-- other pieces after a gap from x up to y, where there is one
 unfoldable pub after_gap : ℚ → ℚ → List Piece → List Piece
 after_gap x y ps = cond (lt_q x y) (nothing_at x ∷ ps) ps
 
--- after the stretch from n a up to n b: the next m stretches, each after a nothing_at, and then `rest`
+-- after the stretch from n a up to n b: the next m stretches, each after a gap, and then `rest`
 unfoldable pub stretches : ℚ → ℚ → Line → ℕ → ℕ → List Piece → List Piece
 stretches a b l n zero rest = rest
 stretches a b l n (suc m) rest =
     after_gap (nat_times n b) (nat_times (suc n) a) (stretch a l (suc n) ∷ stretches a b l (suc n) m rest)
 
--- pieces from a on, after a nothing_at from 0 on where a is after 0
+-- pieces from a on, after a gap from 0 on where a is after 0
 unfoldable pub from_zero : ℚ → List Piece → List Piece
 from_zero a ps = cond (lt_q zero_q a) (nothing_at zero_q ∷ ps) ps
 

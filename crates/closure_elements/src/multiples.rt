@@ -5,7 +5,8 @@ ghost use Rattle.rational.specs.Rational.{◌-ℚ◌, neg_ℚ};
 ghost use Rattle.rational.specs.Ratio.{IsSmall, SumFits};
 ghost use Rattle.affine_segment.specs.Values.{line_at};
 ghost use Rattle.affine_segment.specs.Fits.{LineFitsAt};
-ghost use Rattle.closure_elements.specs.ElementCurves.{nat_times, line_times, stretch, turn};
+ghost use Rattle.closure_elements.specs.ElementCurves.{line_times, stretch, turn};
+ghost use Rattle.closure_laws.specs.Star.{nat_times};
 ghost use Rattle.closure_elements.specs.PieceFits.{PieceFits};
 
 use affine_segment::{Line, Piece, value};

@@ -8,7 +8,8 @@ ghost use Rattle.min_plus.specs.Functions.{zero_q};
 ghost use Rattle.upp_curve.specs.Normal.{IsRaw, IsNormal};
 ghost use Rattle.upp_normal.specs.Normalising.{raw_curve};
 ghost use Rattle.upp_limits.specs.Limits.{own_tally};
-ghost use Rattle.closure_elements.specs.ElementCurves.{nat_times, level_closure, rising_closure, falling_closure};
+ghost use Rattle.closure_elements.specs.ElementCurves.{level_closure, rising_closure, falling_closure};
+ghost use Rattle.closure_laws.specs.Star.{nat_times};
 ghost use Rattle.closure_elements.specs.PieceFits.{IsMade, Turns};
 ghost use Rattle.closure_elements.specs.ElementAnswers.{ClosureAnswer, IsOpenPart};
 

@@ -2,7 +2,8 @@
 
 ghost use Rattle.std.specs.Prelude.{◌≡◌, ◌≤◌, ◌<◌, ◌^◌, ◌++◌, ℕ, suc, [], ◌∷◌, IfOk, IfErr, OnOk, None, IsTrue, ◌↔◌};
 ghost use Rattle.rational.specs.Rational.{◌≤ℚ◌};
-ghost use Rattle.closure_elements.specs.ElementCurves.{nat_times, after_gap, from_zero, stretches, all_stretches};
+ghost use Rattle.closure_elements.specs.ElementCurves.{after_gap, from_zero, stretches, all_stretches};
+ghost use Rattle.closure_laws.specs.Star.{nat_times};
 ghost use Rattle.closure_elements.specs.PieceFits.{IsUnfit, SlopeFitsAt, SlopesRead};
 
 use crate::multiples::{stretch, whole_times};

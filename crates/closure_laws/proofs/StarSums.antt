@@ -15,7 +15,8 @@ use Rattle.min_plus.specs.Functions.{zero_q}
 use Rattle.min_plus.specs.Convolution.{Split, Parts, AllNonneg, sum_of, sum_at, IsSubadditiveClosure}
 use Rattle.closure_laws.specs.Star.{Times, IsStar, origin, lesser, least_of}
 use Rattle.closure_laws.specs.ClosureLaws.{StarOfLesser, StarOfClosure, ClosureOfStar, StarsAreOfValues}
-use Rattle.closure_laws.proofs.TimeLists.{nonneg_total, append_sum, append_at, append_nonneg, total_le, second_first, zero_parts, zero_total}
+use Rattle.closure_laws.proofs.TimeLists.{append_at, append_nonneg, total_le, second_first, zero_parts, zero_total}
+use Rattle.min_plus.proofs.TimeSums.{nonneg_total, append_sum}
 
 -- times at which f is the lesser, and times at which g is
 record Sorted (f g : ℚ → Ext) (xs : List ℚ) : Type 0 where

@@ -9,19 +9,7 @@ use Rattle.rational.proofs.Laws.{antisym}
 use Rattle.rational.proofs.ExtendedOrder.{le_ext_refl, le_ext_trans, same_le_ext, add_le_ext, add_ext_assoc, add_ext_comm, zero_add_ext}
 use Rattle.min_plus.specs.Functions.{zero_q}
 use Rattle.min_plus.specs.Convolution.{AllNonneg, sum_of, sum_at}
-
-pub nonneg_sum : (x y : ℚ) → zero_q ≤ℚ x → zero_q ≤ℚ y → zero_q ≤ℚ x +ℚ y
-nonneg_sum x y h k = with2 x y (λ c. omega (arith, c.le, c.lt, c.same))
-
-pub nonneg_total : (xs : List ℚ) → AllNonneg xs → zero_q ≤ℚ sum_of xs
-nonneg_total [] n = with1 zero_q (λ c. omega (arith, c.le, c.lt, c.same))
-nonneg_total (x ∷ xs) (p, n) = nonneg_sum x (sum_of xs) p (nonneg_total xs n)
-
-pub append_sum : (xs ys : List ℚ) → sum_of (xs ++ ys) ≡ sum_of xs +ℚ sum_of ys
-append_sum [] ys = antisym (with1 (sum_of ys) (λ c. omega (arith, c.le, c.lt, c.same)))
-append_sum (x ∷ xs) ys =
-    let h = append_sum xs ys in
-    antisym (with4 x (sum_of xs) (sum_of ys) (sum_of (xs ++ ys)) (λ c. omega (arith, c.le, c.lt, c.same)))
+use Rattle.min_plus.proofs.TimeSums.{nonneg_sum, nonneg_total, append_sum}
 
 pub append_at : (f : ℚ → Ext) (xs ys : List ℚ) → sum_at f (xs ++ ys) ≡ sum_at f xs +ₑ sum_at f ys
 append_at f [] ys = sym (zero_add_ext (sum_at f ys))

@@ -1,7 +1,7 @@
 -- The closure that counts the sum of no value too, which is 0 at 0, and what of functions it is made from. (Bouillard,
 -- Boyer and Le Corronc: the subadditive closure, written with a star; Le Boudec and Thiran, section 3.1.)
-use Rattle.std.specs.Prelude.{◌≡◌, cond, List, [], ◌∷◌}
-use Rattle.rational.specs.Rational.{ℚ, ◌≤ℚ◌, le_q}
+use Rattle.std.specs.Prelude.{◌≡◌, cond, List, [], ◌∷◌, ℕ, pos}
+use Rattle.rational.specs.Rational.{ℚ, ◌≤ℚ◌, le_q, ◌*ℚ◌, int}
 use Rattle.rational.specs.Extended.{Ext, min_ext}
 use Rattle.rational.specs.Bounds.{IsInfimum}
 use Rattle.rational.specs.declared.Extended.TheVariants.{Fin, Inf}
@@ -34,3 +34,7 @@ lesser f g t = min_ext (f t) (g t)
 abbrev pub least_of : List (ℚ → Ext) → ℚ → Ext
 least_of [] t = Inf
 least_of (f ∷ fs) t = min_ext (f t) (least_of fs t)
+
+-- the sum of n times d
+abbrev pub nat_times : ℕ → ℚ → ℚ
+nat_times n d = int (pos n) *ℚ d

@@ -42,10 +42,9 @@ use Rattle.curve_conv.specs.Late.{IsSlowerLate, IsSlowerAfter, IsSlowerNumber, I
 use Rattle.curve_conv.specs.ConvolveCall.{IsConvolveFrame}
 use Rattle.curve_conv.proofs.Tallies.{tally_grows}
 use Rattle.upp_curve.proofs.SteadyTimes.{steady_nonneg}
+use Rattle.rational.proofs.Stretch.{not_earlier}
 
 -- ---- the call
-pub left_of : (x y : ℚ) → int (pos 0) ≤ℚ y → x ≤ℚ x +ℚ y
-left_of x y h = with2 x y (λ c. omega (arith, c.le, c.lt, c.same))
 
 right_of : (x y : ℚ) → int (pos 0) ≤ℚ x → y ≤ℚ x +ℚ y
 right_of x y h = with2 x y (λ c. omega (arith, c.le, c.lt, c.same))
@@ -73,7 +72,7 @@ convolve_call f g k F G small =
       nonneg = start.nonneg;
       period_whole = period.whole;
       above = period.above;
-      left_steady = left_of (steady f) (steady g) (steady_nonneg g G);
+      left_steady = not_earlier (steady f) (steady g) (steady_nonneg g G);
       right_steady = right_of (steady f) (steady g) (steady_nonneg f F);
       left_periods = common_first f g F G;
       right_periods = common_second f g F G;

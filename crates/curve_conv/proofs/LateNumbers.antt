@@ -43,8 +43,8 @@ use Rattle.curve_conv.proofs.Repeating.{are_rising}
 use Rattle.curve_conv.proofs.LateShifts.{AreParts, after_in, after_out, late_later, back, late_value, soon_value, values_are}
 use Rattle.upp_normal.proofs.AnswerRoom.{wide_narrow}
 use Rattle.element_envelope.proofs.Members.{number_below}
-use Rattle.rational.proofs.Stretch.{next}
 use Rattle.upp_curve.proofs.SteadyTimes.{steady_nonneg}
+use Rattle.rational.proofs.Stretch.{one_above}
 
 -- ---- times and rises
 pub record LateTimes (slow fast : SpecCurve) (from d end : ℚ) : Type 0 where
@@ -154,7 +154,7 @@ some_lead slow fast from d end q a b C V L =
     let (w, e) = finite_less (b m.at +ₑ Fin (q -ℚ int (pos 1))) (a m.at) m.more in
     let parts = finite_sum (b m.at) (Fin (q -ℚ int (pos 1))) w e in
     let P = subst (IsPart (value_at slow) (value_at fast) (FirstEarly (steady slow) (steady fast)) m.at) parts.2 (V.soon m.at m.among) in
-    let (i, k) = P.near (parts.0 +ℚ int (pos 1)) (next parts.0) in
+    let (i, k) = P.near (parts.0 +ℚ int (pos 1)) (one_above parts.0) in
     let (s, f) = number_below (part_sum (value_at slow) (value_at fast) (FirstEarly (steady slow) (steady fast)) m.at i) (parts.0 +ℚ int (pos 1)) k in
     let both = finite_sum (value_at slow i.split.first) (value_at fast i.split.second) s f in
     gains slow fast d i.split.second both.1 C.scan.second.curve C.some C.slower i.inside.1 both.3

@@ -28,7 +28,6 @@ use Rattle.element_envelope.proofs.Members.{among_cases}
 use Rattle.element_envelope.proofs.Cover.{head, head_cases}
 use Rattle.curve_deconv.specs.Mirrored.{neg_element, neg_line, mirror, mirror_line, MirrorFits, EachElement}
 use Rattle.curve_deconv.proofs.Kept.{line_from}
-use Rattle.upp_normal.proofs.StretchSizes.{grid_value}
 
 -- ---- minus the values
 twice_back : (s : ℚ) → int (pos 2) *ℚ neg_ℚ s ≡ neg_ℚ (int (pos 2) *ℚ s)
@@ -92,7 +91,7 @@ head_ready : (z : Sizes) (end reach y : ℚ) (p : Piece) (next : Ext) (e : Eleme
 head_ready z end reach y p next e ne Y P k = elim (head_cases p.x p.at p.line next e k) [
   | inl m ↦
       let (v, at, is) = m in
-      subst (IsReady z reach) (sym is) record { time = piece_time z end reach p P; value = subst (GridValue z) at (grid_value z p.at (stands_operand_value z p.at P.piece.at)) }
+      subst (IsReady z reach) (sym is) record { time = piece_time z end reach p P; value = subst (GridValue z) at ((stands_operand_value z p.at P.piece.at)) }
   | inr m ↦
       let (l, line, is) = m in
       subst (IsReady z reach) (sym is)

@@ -50,7 +50,7 @@ not_earlier l s u h k = elim (le_or_lt s u) [
   | inr m ↦ absurd (lt_irrefl (line_at l s) (le_lt_trans k (rises_more l u s h m)))
 ]
 
--- a line that gets higher value_rises
+-- a line that gets higher rises
 pub gets_higher : (l : Line) (s u : ℚ) → int (pos 0) ≤ℚ l.slope → line_at l s <ℚ line_at l u → int (pos 0) <ℚ l.slope
 gets_higher l s u h k = elim (le_or_lt l.slope (int (pos 0))) [
   | inl m ↦
@@ -65,7 +65,7 @@ gets_higher l s u h k = elim (le_or_lt l.slope (int (pos 0))) [
     level : (r s u : ℚ) → r ≡ int (pos 0) → r *ℚ s ≡ r *ℚ u
     level r s u e = ap (λ x. x *ℚ s) e ∙ with2 s u (λ c. omega (arith, c.le, c.lt, c.same)) ∙ ap (λ x. x *ℚ u) (sym e)
 
--- ---- both times as much value_later, or as much earlier
+-- ---- both times as much later, or as much earlier
 slide_on : (k l : Line) (s u d v w : ℚ) → l.slope ≤ℚ k.slope → int (pos 0) ≤ℚ d → line_at l u <ℚ line_at k s → v ≡ s +ℚ d → w ≡ u +ℚ d → line_at l w <ℚ line_at k v
 slide_on k l s u d v w steep some below e f =
     let m = mul_le_mul_right d some steep in
@@ -92,7 +92,7 @@ slide_back k l s u d v w gentle some below e f =
     take : (a b p q : ℚ) → b +ℚ p <ℚ a +ℚ q → q ≤ℚ p → b <ℚ a
     take a b p q h k = with4 a b p q (λ c. omega (arith, c.le, c.lt, c.same))
 
--- the second's line, as much value_later as the gap takes, is as high as the first
+-- the second's line, as much later as the gap takes, is as high as the first
 reached : (k l : Line) (t q : ℚ) → q *ℚ l.slope ≡ line_at k t -ℚ line_at l t → line_at l (t +ℚ q) ≡ line_at k t
 reached k l t q e = value_moved l t q ∙ ap (λ x. line_at l t +ℚ x) (mul_comm l.slope q ∙ e) ∙ close (line_at l t) (line_at k t)
   where

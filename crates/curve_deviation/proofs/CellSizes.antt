@@ -21,6 +21,7 @@ use Rattle.upp_limits.proofs.NarrowSizes.{grid_pos}
 use Rattle.upp_normal.proofs.StretchSizes.{times_fit}
 use Rattle.curve_deviation.specs.Cells.{IsTimeTo}
 use Rattle.upp_normal.specs.Ahead.{IsGridValue}
+use Rattle.rational.proofs.Compared.{least_by_test}
 
 -- ---- values and their differences
 pub value_fits : (z : Sizes) (last t : ℚ) (l : Line) → AreLimited z last → OperandLine z l → IsTimeTo z last t → LineFits t l
@@ -74,8 +75,5 @@ quotient_is s g q some e = ap (λ x. x *ℚ s) e ∙ div_mul g s (not_zero s som
 pub less_as : (a b x y : ℚ) → a ≡ x → b ≡ y → a <ℚ b → x <ℚ y
 less_as a b x y e f h = subst (λ v. v <ℚ y) e (subst (λ v. a <ℚ v) f h)
 
-pub not_less : (x y : ℚ) → (IsTrue false ↔ (x <ℚ y)) → y ≤ℚ x
-not_less x y h = le_of_not_lt (λ l. true≢false (sym (h.1 l)))
-
 pub not_less_as : (a b x y : ℚ) → a ≡ x → b ≡ y → (IsTrue false ↔ (a <ℚ b)) → y ≤ℚ x
-not_less_as a b x y e f h = subst (λ v. v ≤ℚ x) f (subst (λ v. b ≤ℚ v) e (not_less a b h))
+not_less_as a b x y e f h = subst (λ v. v ≤ℚ x) f (subst (λ v. b ≤ℚ v) e (least_by_test a b h))

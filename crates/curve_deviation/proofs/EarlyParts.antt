@@ -33,7 +33,7 @@ use Rattle.upp_curve.proofs.Repeats.{repeated_first}
 use Rattle.upp_curve.proofs.RisingCurves.{infinite_is_not_finite, GoesOn as IsEndless}
 use Rattle.upp_limits.proofs.CurveStands.{unrolled_stand, each_stands, has_period}
 use Rattle.upp_normal.proofs.StretchPieces.{next_past, next_all, reads_on, span_in, found_late}
-use Rattle.upp_normal.proofs.StretchSizes.{span_line, grid_value, times_stand}
+use Rattle.upp_normal.proofs.StretchSizes.{span_line, times_stand}
 use Rattle.upp_normal.proofs.StretchValues.{with_pieces}
 use Rattle.upp_normal.proofs.AnswerRoom.{operand_line_fits, operand_line_value, stands_operand_value}
 use Rattle.curve_deviation.specs.declared.parts.Part.{Part}
@@ -114,8 +114,8 @@ early_of z end t p ps next A time starts stands =
       λ l. operand_line_fits z end t q.line A line time.whole time.nonneg high,
       line,
       elim (le_or_lt t q.x) [
-        | inl l ↦ subst (λ b. GridValue z (cond b q.at (line_value q.line t))) (sym (le_q_out t q.x l)) (grid_value z q.at (stands_operand_value z q.at stands.at))
-        | inr l ↦ subst (λ b. GridValue z (cond b q.at (line_value q.line t))) (sym (le_q_not t q.x l)) (grid_value z (line_value q.line t) (operand_line_value z end t q.line A line time.whole time.nonneg high))
+        | inl l ↦ subst (λ b. GridValue z (cond b q.at (line_value q.line t))) (sym (le_q_out t q.x l)) ((stands_operand_value z q.at stands.at))
+        | inr l ↦ subst (λ b. GridValue z (cond b q.at (line_value q.line t))) (sym (le_q_not t q.x l)) ((operand_line_value z end t q.line A line time.whole time.nonneg high))
       ],
     )
 

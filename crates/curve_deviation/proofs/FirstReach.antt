@@ -1,4 +1,4 @@
--- The first time from a start on at which a finite curve that value_rises reaches a level: it is found among the curve's pieces, or there is none.
+-- The first time from a start on at which a finite curve that rises reaches a level: it is found among the curve's pieces, or there is none.
 use Rattle.std.specs.Prelude.{◌≡◌, pos, List, [], ◌∷◌, Option, Some, None, ◌⊎◌}
 use Rattle.std.proofs.Common.{arith, sym, ap, ◌∙◌, refl, subst, inl, inr}
 use Rattle.rational.specs.Rational.{ℚ, ◌+ℚ◌, ◌-ℚ◌, ◌*ℚ◌, ◌/ℚ◌, ◌≤ℚ◌, ◌<ℚ◌, int}
@@ -51,7 +51,7 @@ at_once g v t h = record {
 }
 
 -- ---- on one stretch
--- the time at which a line that value_rises has a value
+-- the time at which a line that rises has a value
 level_time : (l : Line) (t v : ℚ) → int (pos 0) <ℚ l.slope → (x : ℚ) × (line_at l x ≡ v)
 level_time l t v some =
     let q = (v -ℚ line_at l t) /ℚ l.slope in
@@ -109,7 +109,7 @@ within g l v t e X R up some low early h =
     let far : Fin v ≤ₑ g u = le_ext_trans (Fin v) (g X) (g u) h (up X u (le_trans some low) (le_of_lt a)) in
     le_trans (subst (λ w. Fin v ≤ₑ w) (R.inside u past b) far) (value_rises l u e R.slope (le_of_lt b))
 
--- the times before a value_later start are below too
+-- the times before a later start are below too
 sooner : (g : ℚ → Ext) (v t s x : ℚ) → t ≤ℚ s → ((u : ℚ) → t ≤ℚ u → u <ℚ s → g u <ₑ Fin v) → IsReached g v s x → IsReached g v t x
 sooner g v t s x h low R = record {
   low = le_trans h R.low;
@@ -182,7 +182,7 @@ by_then c v t X curve finite up some h reach =
     by_list (p ∷ ps) starts is early =
         among (value_at c) p ps v t X (X +ℚ int (pos 1)) finite up some (subst (λ x. x ≤ℚ t) (sym starts.0) some) starts.1 (λ u a b. is u a b ∙ read_is p ps u) h early reach
 
--- it is reached, or never will be: past the time from which on the curve repeats it value_rises by the same for each period
+-- it is reached, or never will be: past the time from which on the curve repeats it rises by the same for each period
 pub reached_or : (c : SpecCurve) (from d b v t : ℚ) → IsCurve c → IsFinite (value_at c) → IsRising (value_at c) → int (pos 0) <ℚ d → int (pos 0) ≤ℚ from → Repeats (value_at c) from d b → int (pos 0) ≤ℚ t
     → ((x : ℚ) × IsReached (value_at c) v t x) ⊎ StaysBelow (value_at c) v t
 reached_or c from d b v t curve finite up some low R nonneg =

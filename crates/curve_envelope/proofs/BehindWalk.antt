@@ -23,7 +23,7 @@ use Rattle.upp_normal.specs.Operand.{AreLimited}
 use Rattle.upp_normal.specs.Ahead.{GoesOn, AtNext, IsBeforeNext, TimesStand, IsTimeIn, IsGridValue, GridValue}
 use Rattle.upp_normal.proofs.AnswerRoom.{values_fit}
 use Rattle.upp_curve.proofs.Finite.{number_of}
-use Rattle.upp_normal.proofs.StretchSizes.{times_fit}
+use Rattle.upp_normal.proofs.StretchSizes.{times_fit, grid_value}
 use Rattle.upp_normal.proofs.AnswerRoom.{many_more}
 use Rattle.curve_least.specs.declared.gaps.Gap.{Gap}
 use Rattle.curve_least.specs.declared.gaps.Gap.TheVariants.{NoTime, Is}
@@ -97,9 +97,6 @@ beta_number f g theta t s S low G = let (v, e) = S.finite t low in number_of s.a
 
 pub cross_number : (f : ℚ → Ext) (g : SpecCurve) (theta t : ℚ) (s : Stretch) → IsServed f (value_at g) theta → zero_q ≤ℚ t → GoesOn (value_at g) t s → IsNumber s.at
 cross_number f g theta t s S low G = let (v, e) = other_finite f (value_at g) theta S t low in number_of s.at v (G.at ∙ e)
-
-grid_value : (z : Sizes) (x : Ext) (v : ℚ) → x ≡ Fin v → GridValue z x → IsGridValue z v
-grid_value z x v e h = subst (GridValue z) e h
 
 pub values_apart : (z : Sizes) (end : ℚ) (x y : Ext) (u v : ℚ) → AreLimited z end → x ≡ Fin u → y ≡ Fin v → GridValue z x → GridValue z y → SumFits v (neg_ℚ u)
 values_apart z end x y u v A a b h k =

@@ -38,7 +38,7 @@ use Rattle.upp_normal.proofs.AnswerRoom.{many_more}
 use Rattle.curve_running.proofs.Shifts.{infimum_repeats}
 use Rattle.curve_envelope.specs.Behind.{IsServed}
 use Rattle.curve_envelope.specs.LeftCall.{IsLeftFrame, IsLeftWindow}
-use Rattle.curve_envelope.specs.Lowest.{SumValue, SumPiece, IsLowestCall, IsLowest}
+use Rattle.curve_envelope.specs.Lowest.{SumPiece, IsLowestCall, IsLowest}
 use Rattle.curve_envelope.specs.Moved.{moved_right}
 use Rattle.curve_envelope.specs.Parts.{left_piece}
 use Rattle.curve_envelope.proofs.LeftCalls.{LeftTimes, left_times, theta_before, from_past, period_early, left_pieces, left_rise, right_rise, rise_sum, rises_less, left_repeats, left_of}
@@ -49,6 +49,7 @@ use Rattle.curve_envelope.proofs.MovedStands.{moved_pieces}
 use Rattle.curve_envelope.proofs.SumSizes.{sums_fit}
 use Rattle.curve_call.proofs.Excesses.{excess_nonneg}
 use Rattle.curve_call.proofs.FiniteAnswers.{early_left, late_left}
+use Rattle.upp_normal.specs.Ahead.{AnswerValue}
 
 -- ---- steps that fit
 pub rises_fit : (f g : SpecCurve) (theta : ℚ) (r : Frame) → IsLeftFrame f g theta r → SumFits (rise_over f r.period) (neg_ℚ (rise_over g r.period))
@@ -106,7 +107,7 @@ window_stands f g theta r ps F S W =
     (lefts_stand F.sizes r.end (unroll f r.end) (moved_right theta r.end (unroll g r.end)) W.stretches F.call.limited (left_operand f g theta r F) (right_operand f g theta r F) (left_finite f g theta r F S) W.overlay)
 
 -- ---- the rise
-pub rise_stands : (f g : SpecCurve) (theta : ℚ) (r : Frame) → (F : IsLeftFrame f g theta r) → SumValue F.sizes 6 (rise_over f r.period -ℚ rise_over g r.period)
+pub rise_stands : (f g : SpecCurve) (theta : ℚ) (r : Frame) → (F : IsLeftFrame f g theta r) → AnswerValue F.sizes 6 (rise_over f r.period -ℚ rise_over g r.period)
 rise_stands f g theta r F =
     let L = F.call in
     let z = F.sizes in
@@ -159,7 +160,7 @@ scan_call f g theta r ps from far rise C =
       from_whole = subst (Whole z.dt) (sym C.from_is) (whole_sub z.dt e p L.limited.sizes.window L.period_whole);
       from_low = subst (λ x. zero_q ≤ℚ x) (sym C.from_is) late;
       from_early = with3 from e p (λ c. omega (arith, c.le, c.lt, c.same));
-      rise_stands = subst (SumValue z 6) (sym C.rise_is) (rise_stands f g theta r F);
+      rise_stands = subst (AnswerValue z 6) (sym C.rise_is) (rise_stands f g theta r F);
       rise_low = subst (λ x. zero_q ≤ℚ x) (sym C.rise_is) (rise_low f g theta r F C.served);
       far_whole = subst (Whole z.dt) (sym C.far_is) (whole_add z.dt e p L.limited.sizes.window L.period_whole);
       far_late = with3 far e p (λ c. omega (arith, c.le, c.lt, c.same));

@@ -40,7 +40,6 @@ use Rattle.curve_least.proofs.Rises.{rate_rise, rate_none}
 use Rattle.curve_call.proofs.TailMoves.{rates_compared, excess_above, excess_both}
 use Rattle.curve_envelope.specs.Behind.{moved, IsServed}
 use Rattle.curve_envelope.specs.LeftCall.{LeftCall}
-use Rattle.curve_envelope.specs.Lowest.{SumValue}
 use Rattle.curve_envelope.specs.Moved.{moved_right}
 use Rattle.curve_envelope.proofs.LeftReads.{IsLeftOf}
 use Rattle.curve_envelope.proofs.MovedReads.{moved_past, moved_up_to}
@@ -49,6 +48,7 @@ use Rattle.curve_pointwise.proofs.LatticeAnswers.{same_rises}
 use Rattle.curve_pointwise.proofs.LatticeCalls.{earlier}
 use Rattle.curve_call.proofs.FiniteAnswers.{late_left}
 use Rattle.upp_curve.proofs.SteadyTimes.{steady_nonneg}
+use Rattle.upp_normal.specs.Ahead.{AnswerValue}
 
 -- ---- from a kind of call
 pub left_call : (f g : SpecCurve) (theta : ℚ) (k : ℕ) → IsCurve f → IsCurve g → zero_q ≤ℚ theta → gauge_at (FifoLeft (Fin theta)) f g k 0 < 2 ^ 120
@@ -172,7 +172,7 @@ pub right_rise : (f g : SpecCurve) (theta s p e : ℚ) (k : ℕ) (z : Sizes) →
 right_rise f g theta s p e k z L =
     rise_is z e g p L.limited L.second L.right L.right_periods L.period_whole L.above (earlier (steady g) s p e (right_by f g theta s p e k z L) (start_early theta s p e k (left_times f g theta s p e k z L)))
 
-pub rise_sum : (z : Sizes) (c : SpecCurve) (p : ℚ) → IsRise z c p → SumValue z 3 (rise_over c p)
+pub rise_sum : (z : Sizes) (c : SpecCurve) (p : ℚ) → IsRise z c p → AnswerValue z 3 (rise_over c p)
 rise_sum z c p R = record { whole = R.whole; within = R.within }
 
 -- ---- how the two repeat

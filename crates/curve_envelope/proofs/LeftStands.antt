@@ -31,24 +31,24 @@ use Rattle.curve_window.specs.Pointwise.{mapped}
 use Rattle.curve_window.specs.Made.{line_apart, zero_line, ValueApartFits, LineApartFits}
 use Rattle.curve_window.proofs.Mapped.{each_map, starts_mapped}
 use Rattle.curve_window.proofs.OperandWindows.{operand_both}
-use Rattle.curve_envelope.specs.Lowest.{SumValue, SumLine, SumPiece}
+use Rattle.curve_envelope.specs.Lowest.{SumLine, SumPiece}
 use Rattle.curve_envelope.specs.Parts.{left_piece, StretchLeftFits}
 use Rattle.curve_envelope.proofs.SumSizes.{sum_weaken, near_of, value_near}
 use Rattle.affine_segment.proofs.PieceIn.{read_is}
 use Rattle.curve_window.proofs.MadeStands.{some_largest}
-use Rattle.upp_normal.specs.Ahead.{GridValue}
+use Rattle.upp_normal.specs.Ahead.{GridValue, AnswerValue}
 
 -- ---- one stretch
-zero_sum : (z : Sizes) (k : ℕ) → SumValue z k zero_q
+zero_sum : (z : Sizes) (k : ℕ) → AnswerValue z k zero_q
 zero_sum z k = record { whole = whole_int (grid_of z) (pos 0); within = within_nonneg (times_largest k z) zero_q (le_refl zero_q) (some_largest z k) }
 
-excess_sum : (z : Sizes) (v w : Ext) → IsNumber v → GridValue z v → GridValue z w → (y : ℚ) × (excess v w ≡ Fin y) × SumValue z 6 y
+excess_sum : (z : Sizes) (v w : Ext) → IsNumber v → GridValue z v → GridValue z w → (y : ℚ) × (excess v w ≡ Fin y) × AnswerValue z 6 y
 excess_sum z Inf w n V W = absurd n
 excess_sum z (Fin v) Inf n V W = (zero_q, refl, zero_sum z 6)
 excess_sum z (Fin v) (Fin w) n V W =
     let D = value_difference_stands z v w V W in
-    let S : SumValue z 6 (v -ℚ w) = record { whole = D.whole; within = D.within } in
-    (max_q zero_q (v -ℚ w), refl, elim (max_q_one zero_q (v -ℚ w)) [ inl e ↦ subst (SumValue z 6) (sym e) (zero_sum z 6) | inr e ↦ subst (SumValue z 6) (sym e) S ])
+    let S : AnswerValue z 6 (v -ℚ w) = record { whole = D.whole; within = D.within } in
+    (max_q zero_q (v -ℚ w), refl, elim (max_q_one zero_q (v -ℚ w)) [ inl e ↦ subst (AnswerValue z 6) (sym e) (zero_sum z 6) | inr e ↦ subst (AnswerValue z 6) (sym e) S ])
 
 apart_sum : (z : Sizes) (l m : Option Line) → IsLine l → OperandLineAt z l → OperandLineAt z m → (n : Line) × (line_apart l m ≡ Some n) × SumLine z 4 n
 apart_sum z l None is L M = (
@@ -136,7 +136,7 @@ pub lefts_stand : (z : Sizes) (end : ℚ) (ls rs : List Piece) (bs : List Both) 
 lefts_stand z end ls rs bs A F G finite O = (starts_mapped left_piece bs (λ b. refl) O.starts, each_left z end ls rs bs A F G finite O.each)
 
 -- ---- the limit at the end
-pub last_value : (z : Sizes) (end : ℚ) (ps : List Piece) (v : ℚ) → AreLimited z end → Each (LeftStands z end) ps → line_value (last_line ps) end ≡ Fin v → SumValue z 6 v
+pub last_value : (z : Sizes) (end : ℚ) (ps : List Piece) (v : ℚ) → AreLimited z end → Each (LeftStands z end) ps → line_value (last_line ps) end ≡ Fin v → AnswerValue z 6 v
 last_value z end [] v A h e = absurd (same_none e)
   where
     same_none : Inf ≡ Fin v → ⊥
@@ -144,7 +144,7 @@ last_value z end [] v A h e = absurd (same_none e)
 last_value z end (p ∷ ps) v A h e =
     let L = (last_in (LeftStands z end) p ps h.0 h.1).line in
     let N = near_of z end end A.sizes.window A.some (le_refl end) in
-    subst (SumValue z 6) (fin_same (sym (ap (λ l. line_value l end) L.is) ∙ e)) (value_near z end end 4 L.on A L.stands N)
+    subst (AnswerValue z 6) (fin_same (sym (ap (λ l. line_value l end) L.is) ∙ e)) (value_near z end end 4 L.on A L.stands N)
 
 -- ---- the steps to them fit
 value_apart : (v w : Ext) (z : Sizes) (end : ℚ) → AreLimited z end → GridValue z v → GridValue z w → ValueApartFits v w

@@ -30,9 +30,10 @@ use Rattle.upp_normal.proofs.NormaliseLists.{last_in}
 use Rattle.curve_running.specs.Scans.{IsWindow, ScanFits, IsInfimumUntil, IsLevel, HasLine, flat}
 use Rattle.curve_running.specs.Made.{IsMade, IsInfimumScan}
 use Rattle.curve_running.specs.Runs.{IsFrontBefore}
-use Rattle.curve_envelope.specs.Lowest.{SumValue, SumPiece, level_piece, IsLowestCall, IsLowest}
+use Rattle.curve_envelope.specs.Lowest.{SumPiece, level_piece, IsLowestCall, IsLowest}
 use Rattle.curve_envelope.proofs.SumSizes.{EachSum, IsNear, near_of, sum_weaken, sums_fit, flat_line, line_near, value_near, level_value, made_sum, scan_fits, scan_lines}
 use Rattle.curve_running.proofs.FiniteRuns.{list_number, made_finite}
+use Rattle.upp_normal.specs.Ahead.{AnswerValue}
 
 -- ---- finite pieces
 sum_finite : (z : Sizes) (end : ℚ) (p : Piece) → SumPiece z end p → IsFinitePiece p
@@ -45,18 +46,18 @@ pub scan_read : (far : ℚ) (ps qs : List Piece) (t : ℚ) → StartsAtZero qs �
 scan_read far ps qs t s m = list_number qs t s (each_map (IsMade far ps) IsFinitePiece (λ q h. made_finite far ps q h) qs m)
 
 -- ---- what a scan reads
-made_value : (z : Sizes) (end far x v : ℚ) (ps : List Piece) (q : Piece) → AreLimited z end → IsNear z end far → EachSum z end ps → IsNear z end x → IsMade far ps q → piece_value q x ≡ Fin v → SumValue z 10 v
+made_value : (z : Sizes) (end far x v : ℚ) (ps : List Piece) (q : Piece) → AreLimited z end → IsNear z end far → EachSum z end ps → IsNear z end x → IsMade far ps q → piece_value q x ≡ Fin v → AnswerValue z 10 v
 made_value z end far x v ps q A F O N m e = elim (le_or_lt x q.x) [
   | inl l ↦
       let (w, k, level) = m.at in
-      subst (SumValue z 10) (fin_same (sym (value_by q x l ∙ k) ∙ e)) (sum_weaken z 8 10 w (omega arith) (level_value z end far ps w A F O level))
+      subst (AnswerValue z 10) (fin_same (sym (value_by q x l ∙ k) ∙ e)) (sum_weaken z 8 10 w (omega arith) (level_value z end far ps w A F O level))
   | inr l ↦
       let (n, k, L) = made_sum z end far ps q.line A F O m.line in
-      subst (SumValue z 10) (fin_same (sym (value_past q x l ∙ ap (λ i. line_value i x) k) ∙ e)) (value_near z end x 8 n A L N)
+      subst (AnswerValue z 10) (fin_same (sym (value_past q x l ∙ ap (λ i. line_value i x) k) ∙ e)) (value_near z end x 8 n A L N)
 ]
 
 pub scan_value : (z : Sizes) (end far x v : ℚ) (ps qs : List Piece) → AreLimited z end → IsNear z end far → EachSum z end ps → IsNear z end x → StartsAtZero qs → Each (IsMade far ps) qs → read qs x ≡ Fin v
-    → SumValue z 10 v
+    → AnswerValue z 10 v
 scan_value z end far x v ps [] A F O N s m e = absurd s
 scan_value z end far x v ps (q ∷ qs) A F O N s m e =
     made_value z end far x v ps (piece_in q qs x) A F O N (each_in (IsMade far ps) q qs x m) (sym (read_is q qs x) ∙ e)
@@ -83,7 +84,7 @@ first_lines z ps qs from end far rise C S = scan_lines z end end from ps qs C.li
 pub first_number : (ps qs : List Piece) (from end : ℚ) → IsInfimumScan ps end qs → IsNumber (read qs from)
 first_number ps qs from end S = scan_read end ps qs from S.scan.starts S.scan.made
 
-pub low_value : (z : Sizes) (ps qs : List Piece) (from end far rise low : ℚ) → IsLowestCall z ps from end far rise → IsInfimumScan ps end qs → read qs from ≡ Fin low → SumValue z 10 low
+pub low_value : (z : Sizes) (ps qs : List Piece) (from end far rise low : ℚ) → IsLowestCall z ps from end far rise → IsInfimumScan ps end qs → read qs from ≡ Fin low → AnswerValue z 10 low
 low_value z ps qs from end far rise low C S e =
     scan_value z end end from low ps qs C.limited (call_end z ps from end far rise C) C.each (call_from z ps from end far rise C) S.scan.starts S.scan.made e
 
@@ -112,7 +113,7 @@ low_nonneg ps from end low some nonneg h = elim (le_or_lt zero_q low) [
 ]
 
 pub level_stands : (z : Sizes) (ps qs : List Piece) (from end far rise low limit : ℚ) → IsLowestCall z ps from end far rise → IsInfimumScan ps end qs → read qs from ≡ Fin low
-    → line_value (last_line ps) end ≡ Fin limit → SumValue z 6 (min_q (low +ℚ rise) limit)
+    → line_value (last_line ps) end ≡ Fin limit → AnswerValue z 6 (min_q (low +ℚ rise) limit)
 level_stands z ps qs from end far rise low limit C S e k =
     let later = low +ℚ rise in
     let top = C.last_value limit k in
@@ -124,15 +125,15 @@ level_stands z ps qs from end far rise low limit C S e k =
     elim (min_q_one later limit) [
       | inl same ↦
           let below : later ≤ℚ limit = subst (λ y. y ≤ℚ limit) same (min_q_le_right later limit) in
-          subst (SumValue z 6) (sym same) record {
+          subst (AnswerValue z 6) (sym same) record {
             whole = whole_add (grid_of z) low rise L.whole C.rise_stands.whole;
             within = within_nonneg (times_largest 6 z) later some (le_trans below top.within.high);
           }
-      | inr same ↦ subst (SumValue z 6) (sym same) top
+      | inr same ↦ subst (AnswerValue z 6) (sym same) top
     ]
 
 -- ---- the second scan
-level_sum : (z : Sizes) (end v : ℚ) → AreLimited z end → SumValue z 6 v → SumPiece z end (level_piece end v)
+level_sum : (z : Sizes) (end v : ℚ) → AreLimited z end → AnswerValue z 6 v → SumPiece z end (level_piece end v)
 level_sum z end v A V = record {
   start = A.sizes.window;
   nonneg = A.some;
@@ -145,21 +146,21 @@ level_sum z end v A V = record {
   line_stands = flat_line z 6 v V;
 }
 
-pub all_sums : (z : Sizes) (ps : List Piece) (end v : ℚ) → AreLimited z end → EachSum z end ps → SumValue z 6 v → EachSum z end (ps ++ level_piece end v ∷ [])
+pub all_sums : (z : Sizes) (ps : List Piece) (end v : ℚ) → AreLimited z end → EachSum z end ps → AnswerValue z 6 v → EachSum z end (ps ++ level_piece end v ∷ [])
 all_sums z ps end v A h V = each_append (SumPiece z end) ps (level_piece end v ∷ []) h (level_sum z end v A V, tt)
 
 starts_more : (ps : List Piece) (q : Piece) → Each (λ p. p.x <ℚ q.x) ps → StartsAtZero ps → StartsAtZero (ps ++ q ∷ [])
 starts_more [] q b s = absurd s
 starts_more (p ∷ ps) q b s = (s.0, rises_append p.x ps q [] s.1 b.0 b.1 tt)
 
-pub second_window : (z : Sizes) (ps : List Piece) (from end far rise v : ℚ) → IsLowestCall z ps from end far rise → SumValue z 6 v → IsWindow far (ps ++ level_piece end v ∷ [])
+pub second_window : (z : Sizes) (ps : List Piece) (from end far rise v : ℚ) → IsLowestCall z ps from end far rise → AnswerValue z 6 v → IsWindow far (ps ++ level_piece end v ∷ [])
 second_window z ps from end far rise v C V = record {
   starts = starts_more ps (level_piece end v) C.before C.starts;
   before = each_append (λ p. p.x <ℚ far) ps (level_piece end v ∷ []) (each_map (λ p. p.x <ℚ end) (λ p. p.x <ℚ far) (λ p l. lt_le_trans l (le_of_lt C.far_late)) ps C.before) (C.far_late, tt);
   finite = sums_finite z end (ps ++ level_piece end v ∷ []) (all_sums z ps end v C.limited C.each V);
 }
 
-pub second_fits : (z : Sizes) (ps : List Piece) (from end far rise v : ℚ) → IsLowestCall z ps from end far rise → SumValue z 6 v → ScanFits far (ps ++ level_piece end v ∷ [])
+pub second_fits : (z : Sizes) (ps : List Piece) (from end far rise v : ℚ) → IsLowestCall z ps from end far rise → AnswerValue z 6 v → ScanFits far (ps ++ level_piece end v ∷ [])
 second_fits z ps from end far rise v C V =
     scan_fits z end far (ps ++ level_piece end v ∷ []) C.limited (call_far z ps from end far rise C) (all_sums z ps end v C.limited C.each V)
 

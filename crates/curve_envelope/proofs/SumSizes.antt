@@ -32,16 +32,17 @@ use Rattle.curve_running.specs.Scans.{start_or, flat, IsLevel, HasLine, MeetingF
 use Rattle.curve_running.specs.Made.{IsMeeting, IsMade, TurnsAfter, IsScan}
 use Rattle.curve_running.proofs.LevelSizes.{all_low, not_flat, some_none}
 use Rattle.upp_normal.proofs.AnswerRoom.{many_more}
-use Rattle.curve_envelope.specs.Lowest.{SumValue, SumLine, SumPiece}
+use Rattle.curve_envelope.specs.Lowest.{SumLine, SumPiece}
 use Rattle.curve_running.proofs.Makings.{LineIsMade}
 use Rattle.upp_normal.proofs.NormaliseGrids.{some_same}
+use Rattle.upp_normal.specs.Ahead.{AnswerValue}
 
 -- ---- values
 
-pub sum_weaken : (z : Sizes) (k j : ℕ) (v : ℚ) → k ≤ j → SumValue z k v → SumValue z j v
+pub sum_weaken : (z : Sizes) (k j : ℕ) (v : ℚ) → k ≤ j → AnswerValue z k v → AnswerValue z j v
 sum_weaken z k j v h V = record { whole = V.whole; within = within_weaken (times_largest k z) (times_largest j z) v (more_largest z k j h) V.within }
 
-pub sums_fit : (z : Sizes) (end : ℚ) (k j : ℕ) (v w : ℚ) → AreLimited z end → k + j ≤ 31 → SumValue z k v → SumValue z j w → SumFits v w × SumFits v (neg_ℚ w)
+pub sums_fit : (z : Sizes) (end : ℚ) (k j : ℕ) (v w : ℚ) → AreLimited z end → k + j ≤ 31 → AnswerValue z k v → AnswerValue z j w → SumFits v w × SumFits v (neg_ℚ w)
 sums_fit z end k j v w A h V W =
     let N = wide_narrow z end A in (
       small_sum z end k j v w A.sizes N h V.whole W.whole V.within W.within,
@@ -55,7 +56,7 @@ answer_line z k l L = record { icept = L.icept.whole; within = L.icept.within; s
 pub line_room : (z : Sizes) (end : ℚ) (k : ℕ) (l : Line) → AreLimited z end → k ≤ 8 → SumLine z k l → LineInRoom (answer_room z end) 1 l
 line_room z end k l A h L = line_in_room z end k l A h (answer_line z k l L)
 
-pub flat_line : (z : Sizes) (k : ℕ) (v : ℚ) → SumValue z k v → SumLine z k (flat v)
+pub flat_line : (z : Sizes) (k : ℕ) (v : ℚ) → AnswerValue z k v → SumLine z k (flat v)
 flat_line z k v V = record {
   icept = V;
   slope = whole_int z.ds (pos 0);
@@ -91,7 +92,7 @@ run_near z end s x A h N =
     let twice : int (pos 2) *ℚ run ≤ℚ int (pos 2) *ℚ V = with2 run V (λ c. omega (arith, c.le, c.lt, c.same)) in
     within_weaken (S *ℚ x) (times_largest 2 z) (s *ℚ x) (le_trans far (subst (λ y. y ≤ℚ int (pos 2) *ℚ V) (sym same) twice)) (within_mul S x s x h (within_nonneg x x N.low (le_refl x)))
 
-pub value_near : (z : Sizes) (end x : ℚ) (k : ℕ) (l : Line) → AreLimited z end → SumLine z k l → IsNear z end x → SumValue z (k + 2) (line_at l x)
+pub value_near : (z : Sizes) (end x : ℚ) (k : ℕ) (l : Line) → AreLimited z end → SumLine z k l → IsNear z end x → AnswerValue z (k + 2) (line_at l x)
 value_near z end x k l A L N = record {
   whole = whole_add (grid_of z) l.icept (l.slope *ℚ x) L.icept.whole (whole_weaken (z.ds * z.dt) (grid_of z) (l.slope *ℚ x) (slope_time_divides z) (whole_mul z.ds z.dt l.slope x L.slope N.whole));
   within = subst (λ m. Within m (line_at l x)) (many_more z k 2) (within_add (times_largest k z) (times_largest 2 z) l.icept (l.slope *ℚ x) L.icept.within (run_near z end l.slope x A L.steep N));
@@ -107,7 +108,7 @@ record Apart (z : Sizes) (up down : ℚ) : Type 0 where
 less_zero : (s : ℚ) → s -ℚ int (pos 0) ≡ s
 less_zero s = with1 s (λ c. omega (arith, c.le, c.lt, c.same))
 
-level_apart : (z : Sizes) (v : ℚ) (l : Line) → SumLine z 6 l → SumValue z 8 v → Apart z (v -ℚ l.icept) (l.slope -ℚ int (pos 0))
+level_apart : (z : Sizes) (v : ℚ) (l : Line) → SumLine z 6 l → AnswerValue z 8 v → Apart z (v -ℚ l.icept) (l.slope -ℚ int (pos 0))
 level_apart z v l L V = record {
   up_whole = whole_sub (grid_of z) v l.icept V.whole L.icept.whole;
   up_within = subst (λ m. Within m (v -ℚ l.icept)) (many_more z 8 6) (within_sub (times_largest 8 z) (times_largest 6 z) v l.icept V.within L.icept.within);
@@ -147,12 +148,12 @@ slope_fits z end s A w i =
     mul-le d S h = mul-le-mul_right d h
 
 -- where a line that rises comes to a level no step is too wide
-pub level_fits : (z : Sizes) (end v : ℚ) (l : Line) → AreLimited z end → SumLine z 6 l → SumValue z 8 v → int (pos 0) <ℚ l.slope → MeetingFits v l
+pub level_fits : (z : Sizes) (end v : ℚ) (l : Line) → AreLimited z end → SumLine z 6 l → AnswerValue z 8 v → int (pos 0) <ℚ l.slope → MeetingFits v l
 level_fits z end v l A L V rises w (inl a) = a.1 (sums_fit z end 8 6 v l.icept A (omega arith) V L.icept).1
 level_fits z end v l A L V rises w (inr (inl b)) = b.1 (slope_fits z end l.slope A L.slope L.steep)
 level_fits z end v l A L V rises w (inr (inr c)) = c.1 (level_small z end (v -ℚ l.icept) (l.slope -ℚ int (pos 0)) A (not_flat l.slope rises) (level_apart z v l L V))
 
-pub level_crossing : (z : Sizes) (end v : ℚ) (l : Line) (t : ℚ) → AreLimited z end → SumLine z 6 l → SumValue z 8 v → IsMeeting v l t → IsCrossing z t
+pub level_crossing : (z : Sizes) (end v : ℚ) (l : Line) (t : ℚ) → AreLimited z end → SumLine z 6 l → AnswerValue z 8 v → IsMeeting v l t → IsCrossing z t
 level_crossing z end v l t A L V m =
     let a = level_apart z v l L V in
     crossing_from z end (v -ℚ l.icept) (l.slope -ℚ int (pos 0)) t A a.up_whole a.down_whole a.down_within (not_flat l.slope m.rises) (reached m.is)
@@ -168,8 +169,8 @@ level_crossing z end v l t A L V m =
 abbrev pub EachSum : Sizes → ℚ → List Piece → Type 0
 EachSum z end ps = Each (SumPiece z end) ps
 
-value_is : (v w : ℚ) (z : Sizes) (k : ℕ) (x : Ext) → x ≡ Fin w → x ≡ Fin v → SumValue z k w → SumValue z k v
-value_is v w z k x e h V = subst (λ y. SumValue z k y) (fin_same (sym e ∙ h)) V
+value_is : (v w : ℚ) (z : Sizes) (k : ℕ) (x : Ext) → x ≡ Fin w → x ≡ Fin v → AnswerValue z k w → AnswerValue z k v
+value_is v w z k x e h V = subst (λ y. AnswerValue z k y) (fin_same (sym e ∙ h)) V
 
 piece_near : (z : Sizes) (end : ℚ) (p : Piece) → SumPiece z end p → AreLimited z end → IsNear z end p.x
 piece_near z end p P A = let some = A.some in let low = P.nonneg in let early = P.early in near_of z end p.x P.start P.nonneg P.early
@@ -178,10 +179,10 @@ next_near : (z : Sizes) (end far : ℚ) (ps : List Piece) → AreLimited z end �
 next_near z end far [] A F h = F
 next_near z end far (q ∷ qs) A F h = piece_near z end q h.0 A
 
-on_line : (z : Sizes) (end x v : ℚ) (p : Piece) → AreLimited z end → SumPiece z end p → IsNear z end x → line_value p.line x ≡ Fin v → SumValue z 8 v
+on_line : (z : Sizes) (end x v : ℚ) (p : Piece) → AreLimited z end → SumPiece z end p → IsNear z end x → line_value p.line x ≡ Fin v → AnswerValue z 8 v
 on_line z end x v p A P N e = value_is v (line_at P.on x) z 8 (line_value p.line x) (ap (λ l. line_value l x) P.line) e (value_near z end x 6 P.on A P.line_stands N)
 
-pub level_value : (z : Sizes) (end far : ℚ) (ps : List Piece) (v : ℚ) → AreLimited z end → IsNear z end far → EachSum z end ps → IsLevel far ps v → SumValue z 8 v
+pub level_value : (z : Sizes) (end far : ℚ) (ps : List Piece) (v : ℚ) → AreLimited z end → IsNear z end far → EachSum z end ps → IsLevel far ps v → AnswerValue z 8 v
 level_value z end far [] v A F h k = absurd k
 level_value z end far (p ∷ ps) v A F h (inl e) = let P = h.0 in sum_weaken z 6 8 v (omega arith) (value_is v P.value z 6 p.at P.at e P.value_stands)
 level_value z end far (p ∷ ps) v A F h (inr (inl e)) = on_line z end p.x v p A h.0 (piece_near z end p h.0 A) e

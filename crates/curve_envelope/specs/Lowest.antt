@@ -19,16 +19,12 @@ use Rattle.upp_normal.specs.Operand.{AreLimited}
 use Rattle.curve_running.specs.Scans.{flat, IsInfimumUntil}
 use Rattle.curve_running.specs.Made.{IsInfimumScan}
 use Rattle.curve_running.specs.Runs.{IsFrontBefore}
+use Rattle.upp_normal.specs.Ahead.{AnswerValue}
 
 -- ---- sizes
--- a value on the grid of sums, within k times the largest value
-pub record SumValue (z : Sizes) (k : ℕ) (v : ℚ) : Type 0 where
-  pub whole : Whole (grid_of z) v
-  pub within : Within (times_largest k z) v
-
 -- a line: its value at 0 is such a value, its slope is within the steepness
 pub record SumLine (z : Sizes) (k : ℕ) (l : Line) : Type 0 where
-  pub icept : SumValue z k l.icept
+  pub icept : AnswerValue z k l.icept
   pub slope : Whole z.ds l.slope
   pub steep : Within (int (pos z.steepness)) l.slope
 
@@ -39,7 +35,7 @@ pub record SumPiece (z : Sizes) (end : ℚ) (p : Piece) : Type 0 where
   pub early : p.x ≤ℚ end
   pub value : ℚ
   pub at : p.at ≡ Fin value
-  pub value_stands : SumValue z 6 value
+  pub value_stands : AnswerValue z 6 value
   pub on : Line
   pub line : p.line ≡ Some on
   pub line_stands : SumLine z 6 on
@@ -54,11 +50,11 @@ pub record IsLowestCall (z : Sizes) (ps : List Piece) (from end far rise : ℚ) 
   pub before : Each (λ p. p.x <ℚ end) ps
   pub each : Each (SumPiece z end) ps
   pub nonneg : (t : ℚ) → zero_q ≤ℚ t → t <ℚ end → Fin zero_q ≤ₑ read ps t
-  pub last_value : (v : ℚ) → line_value (last_line ps) end ≡ Fin v → SumValue z 6 v
+  pub last_value : (v : ℚ) → line_value (last_line ps) end ≡ Fin v → AnswerValue z 6 v
   pub from_whole : Whole z.dt from
   pub from_low : zero_q ≤ℚ from
   pub from_early : from <ℚ end
-  pub rise_stands : SumValue z 6 rise
+  pub rise_stands : AnswerValue z 6 rise
   pub rise_low : zero_q ≤ℚ rise
   pub far_whole : Whole z.dt far
   pub far_late : end <ℚ far
@@ -71,7 +67,7 @@ pub record IsLowest (ps : List Piece) (from end far rise : ℚ) (qs : List Piece
   pub first : IsInfimumUntil (read ps) end from (Fin low)
   pub limit : ℚ
   pub limit_is : line_value (last_line ps) end ≡ Fin limit
-  pub stands : (z : Sizes) → IsLowestCall z ps from end far rise → SumValue z 6 (min_q (low +ℚ rise) limit)
+  pub stands : (z : Sizes) → IsLowestCall z ps from end far rise → AnswerValue z 6 (min_q (low +ℚ rise) limit)
   pub scanned : List Piece
   pub scan : IsInfimumScan (ps ++ level_piece end (min_q (low +ℚ rise) limit) ∷ []) far scanned
   pub front : IsFrontBefore scanned end qs

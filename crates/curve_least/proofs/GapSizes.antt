@@ -33,9 +33,6 @@ pub earlier_right : (t : ℚ) (e : ℚ) → e <ℚ t → e ≡ min_q t e
 earlier_right t e h = sym (min_q_right t e h)
 
 -- ---- differences
-value_of : (z : Sizes) (v : Ext) → GridValue z v → GridValue z v
-value_of z Inf h = tt
-value_of z (Fin v) h = record { whole = h.whole; within = h.within }
 
 differ : (z : Sizes) (last : ℚ) (x y : Ext) → AreLimited z last → GridValue z x → GridValue z y → DifferenceFits x y
 differ z last x Inf A h k = tt
@@ -43,7 +40,7 @@ differ z last Inf (Fin y) A h k = tt
 differ z last (Fin x) (Fin y) A h k = (values_fit z last x y A h k).1
 
 pub start_differ : (z : Sizes) (last : ℚ) (f g : Stretch) → AreLimited z last → StretchStands z f → StretchStands z g → DifferenceFits f.at g.at
-start_differ z last f g A F G = differ z last f.at g.at A (value_of z f.at F.at) (value_of z g.at G.at)
+start_differ z last f g A F G = differ z last f.at g.at A F.at G.at
 
 pub lines_differ : (z : Sizes) (last t : ℚ) (f g : Stretch) → AreLimited z last → StretchStands z f → StretchStands z g → Whole z.dt t → int (pos 0) ≤ℚ t → t ≤ℚ last
     → DifferenceFits (line_value f.line t) (line_value g.line t)
@@ -75,7 +72,7 @@ stretch_stands z last t end f g S low =
     let A = S.limited in
     let T = S.time in
     let high : t ≤ℚ last = le_of_lt T.before in
-    larger_stands z _ _ (gap_stands z f.at g.at (value_of z f.at S.first.at) (value_of z g.at S.second.at))
+    larger_stands z _ _ (gap_stands z f.at g.at S.first.at S.second.at)
     (larger_stands z _ _
     (gap_stands z (line_value f.line t) (line_value g.line t) (operand_line_value z last t f.line A S.first.line T.whole T.nonneg high) (operand_line_value z last t g.line A S.second.line T.whole T.nonneg high))
     (gap_stands z (line_value f.line end) (line_value g.line end) (operand_line_value z last end f.line A S.first.line S.whole low S.high) (operand_line_value z last end g.line A S.second.line S.whole low S.high)))

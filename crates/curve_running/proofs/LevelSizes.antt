@@ -27,6 +27,7 @@ use Rattle.upp_normal.proofs.AnswerRoom.{tight, AnswerLine, line_in_room, operan
 use Rattle.curve_running.specs.Scans.{start_or, flat, IsLevel, HasLine, MeetingFits, ScanFits}
 use Rattle.curve_running.specs.Made.{IsMeeting, IsMade, TurnsAfter, IsScan}
 use Rattle.upp_normal.specs.Ahead.{GridValue, IsGridValue}
+use Rattle.upp_normal.proofs.StretchSizes.{grid_value}
 
 -- ---- an operand's line against a level
 zero_slope : (z : Sizes) (end : ℚ) → AreSizes z end → IsSlope z (int (pos 0))
@@ -115,9 +116,6 @@ flat_line z end v A V = record {
 abbrev pub EachOperand : Sizes → ℚ → List Piece → Type 0
 EachOperand z end ps = Each (OperandPiece z end) ps
 
-value_of : (z : Sizes) (x : Ext) (v : ℚ) → x ≡ Fin v → GridValue z x → IsGridValue z v
-value_of z x v e h = subst (GridValue z) e h
-
 next_stands : (z : Sizes) (end : ℚ) (ps : List Piece) → AreLimited z end → EachOperand z end ps
     → Whole z.dt (start_or end ps) × (int (pos 0) ≤ℚ start_or end ps) × (start_or end ps ≤ℚ end)
 next_stands z end [] A h = (A.sizes.window, A.some, le_refl end)
@@ -125,13 +123,13 @@ next_stands z end (q ∷ qs) A h = let Q = h.0 in (Q.start, Q.nonneg, le_of_lt Q
 
 pub level_value : (z : Sizes) (end : ℚ) (ps : List Piece) (v : ℚ) → AreLimited z end → EachOperand z end ps → IsLevel end ps v → IsGridValue z v
 level_value z end [] v A h k = absurd k
-level_value z end (p ∷ ps) v A h (inl e) = value_of z p.at v e (stands_operand_value z p.at h.0.at)
+level_value z end (p ∷ ps) v A h (inl e) = grid_value z p.at v e (stands_operand_value z p.at h.0.at)
 level_value z end (p ∷ ps) v A h (inr (inl e)) =
-    let P = h.0 in value_of z (line_value p.line p.x) v e (operand_line_value z end p.x p.line A P.line P.start P.nonneg (le_of_lt P.before))
+    let P = h.0 in grid_value z (line_value p.line p.x) v e (operand_line_value z end p.x p.line A P.line P.start P.nonneg (le_of_lt P.before))
 level_value z end (p ∷ ps) v A h (inr (inr (inl e))) =
     let P = h.0 in
     let (on, low, early) = next_stands z end ps A h.1 in
-    value_of z (line_value p.line (start_or end ps)) v e (operand_line_value z end (start_or end ps) p.line A P.line on low early)
+    grid_value z (line_value p.line (start_or end ps)) v e (operand_line_value z end (start_or end ps) p.line A P.line on low early)
 level_value z end (p ∷ ps) v A h (inr (inr (inr k))) = level_value z end ps v A h.1 k
 
 pub line_operand : (z : Sizes) (end : ℚ) (ps : List Piece) (l : Line) → EachOperand z end ps → HasLine l ps → OperandLine z l

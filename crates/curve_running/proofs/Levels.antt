@@ -1,4 +1,4 @@
--- A line against a level on one stretch: which of the two is the greater, or the lesser, of all value_rises to a time, or from it on.
+-- A line against a level on one stretch: which of the two is the greater, or the lesser, of all up to a time, or from it on.
 use Rattle.std.specs.Prelude.{◌≡◌, pos, Some}
 use Rattle.std.proofs.Common.{arith, sym, ap, ◌∙◌, subst, inl, inr}
 use Rattle.rational.specs.Rational.{ℚ, ◌≤ℚ◌, ◌<ℚ◌, int}
@@ -63,7 +63,7 @@ bottom_ends v a b h =
       min_q_ge v (min_q a b) (min_q v b) (min_q_le_left v b) (min_q_ge a b (min_q v b) (le_trans (min_q_le_right v b) h) (min_q_le_right v b)),
     )
 
--- ---- value_rises to a time
+-- ---- up to a time
 pub sup_line : (v : ℚ) (l : Line) (x to : ℚ) → int (pos 0) <ℚ l.slope → v ≤ℚ line_at l x → IsOn (risen v l x) x to (Some l)
 sup_line v l x to r h t p q =
     let m = value_rises l x t (le_of_lt r) (le_of_lt p) in

@@ -5,13 +5,12 @@ ghost use Rattle.rational.specs.Rational.{int};
 ghost use Rattle.upp_curve.specs.Curve.{HasSameValues};
 ghost use Rattle.upp_kinds.specs.WorkedRows.{dip};
 
-use test_curves::{ratio, whole};
+use test_curves::{ratio, value, whole};
 use crate::{run_inf, run_sup};
 use affine_segment::{Line, Piece};
-use fraction128::{Frac, Wide};
+use fraction128::Frac;
 use rational::Extended;
 use std::alloc::{AllocError, Global};
-use std::cmp::Ordering;
 use std::marker::Brand;
 use std::sync::ledger::{Blank, Ledger};
 use std::test::Fail;
@@ -67,26 +66,16 @@ fn bounds_of<L: Ledger>(alloc: Global, f: &Curve, blank: Blank) -> Result<(Curve
     Ok((least, most))
 }
 
-fn value(c: &Curve, t: Frac) -> Result<Option<Frac>, Wide> {
-    match t.cmp(&Frac::zero()) {
-        Ordering::Less => Ok(None),
-        _ => match c.value_at(t)? {
-            Extended::Fin(v) => Ok(Some(v)),
-            Extended::Inf => Ok(None),
-        },
-    }
-}
-
 #[test]
 fn running_bounds_of_a_dip(rt: HostRuntime) -> Result<(), Fail> {
     let pieces = dip_pieces(rt.alloc())?;
     let f = dip_curve(pieces)?;
     let (least, most) = bounds_of::<Brand>(rt.alloc(), &f, Blank::new(1))?;
-    assert_eq!(rt; value(&least, ratio(1, 2)), Ok(Some(whole(1))));
-    assert_eq!(rt; value(&least, whole(1)), Ok(Some(whole(1))));
-    assert_eq!(rt; value(&least, whole(2)), Ok(Some(whole(2))));
-    assert_eq!(rt; value(&most, whole(1)), Ok(Some(whole(3))));
-    assert_eq!(rt; value(&most, whole(2)), Ok(Some(whole(3))));
-    assert_eq!(rt; value(&most, whole(4)), Ok(Some(whole(4))));
+    assert_eq!(rt; value(&least, ratio(1, 2)), Some(whole(1)));
+    assert_eq!(rt; value(&least, whole(1)), Some(whole(1)));
+    assert_eq!(rt; value(&least, whole(2)), Some(whole(2)));
+    assert_eq!(rt; value(&most, whole(1)), Some(whole(3)));
+    assert_eq!(rt; value(&most, whole(2)), Some(whole(3)));
+    assert_eq!(rt; value(&most, whole(4)), Some(whole(4)));
     Ok(())
 }

@@ -20,7 +20,7 @@ use Rattle.affine_segment.specs.Pieces.{Each}
 use Rattle.upp_normal.specs.Room.{TimeHasRoom, ValueHasRoom, LineHasRoom, PieceHasRoom}
 use Rattle.upp_normal.specs.Operand.{AreLimited, OperandLineAt, answer_room}
 use Rattle.upp_normal.specs.Bends.{ValueOn, LineOn, NumbersOn, SlopeTurns, BendAfter, OnlyBend}
-use Rattle.upp_normal.proofs.AnswerRoom.{AnswerValue, AnswerLine, IsCrossing, values_fit, operand_lines_fit, crossing_not_wide, crossing_of_lines, crossing_room, line_fits_in, line_in_room, line_value_in, operand_line, difference_of_lines, value_difference_stands, answer_value_room, room_at_start, more_largest}
+use Rattle.upp_normal.proofs.AnswerRoom.{AnswerLine, IsCrossing, values_fit, operand_lines_fit, crossing_not_wide, crossing_of_lines, crossing_room, line_fits_in, line_in_room, line_value_in, operand_line, difference_of_lines, value_difference_stands, answer_value_room, room_at_start, more_largest}
 use Rattle.curve_window.specs.declared.stretch.Both.{Both}
 use Rattle.curve_window.specs.declared.made.Made.{Made}
 use Rattle.curve_window.specs.declared.made.Made.TheVariants.{Lower, Upper, Excess}
@@ -28,7 +28,7 @@ use Rattle.curve_window.specs.Stretches.{EachBoth}
 use Rattle.curve_window.specs.Lies.{CrossFits, MeetsAt, CrossesAt, LiesBy}
 use Rattle.curve_window.specs.Made.{made_value, made_line, made_rises, zero_line, line_apart, first_piece, turn_piece, parts_by, listed, next_start, AreMade, ValueApartFits, LineApartFits, StretchMadeFits}
 use Rattle.curve_window.proofs.OperandWindows.{OperandBoth}
-use Rattle.upp_normal.specs.Ahead.{GridValue, IsGridValue}
+use Rattle.upp_normal.specs.Ahead.{GridValue, IsGridValue, AnswerValue}
 
 -- ---- the numbers of what is made
 abbrev pub AnswerValueAt : Sizes → ℕ → Ext → Type 0

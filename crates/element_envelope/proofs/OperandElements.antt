@@ -10,7 +10,6 @@ use Rattle.upp_limits.specs.Limits.{Sizes}
 use Rattle.affine_segment.specs.Pieces.{Each}
 use Rattle.upp_normal.specs.Ahead.{GridValue}
 use Rattle.upp_normal.proofs.AnswerRoom.{stands_operand_value}
-use Rattle.upp_normal.proofs.StretchSizes.{grid_value}
 use Rattle.upp_normal.specs.Operand.{OperandPiece, OperandPieces, OperandLineAt}
 use Rattle.element_envelope.specs.PieceElements.{next_start, elements_of, Among}
 use Rattle.element_envelope.specs.ElementRoom.{WindowTime, WindowEnd, OperandElement}
@@ -26,7 +25,7 @@ next_time z end (p ∷ ps) until h u = piece_time z end p h.0
 
 head_stands : (z : Sizes) (end : ℚ) (p : Piece) (next : Ext) (e : Element) → OperandPiece z end p → WindowEnd z end next → Among e (head p.x p.at p.line next) → OperandElement z end e
 head_stands z end p next e h n k = elim (head_cases p.x p.at p.line next e k) [
-  | inl m ↦ let (v, at, is) = m in subst (OperandElement z end) (sym is) record { time = piece_time z end p h; value = subst (GridValue z) at (grid_value z p.at (stands_operand_value z p.at h.at)) }
+  | inl m ↦ let (v, at, is) = m in subst (OperandElement z end) (sym is) record { time = piece_time z end p h; value = subst (GridValue z) at ((stands_operand_value z p.at h.at)) }
   | inr m ↦ let (l, line, is) = m in subst (OperandElement z end) (sym is) record { start = piece_time z end p h; until = n; line = subst (OperandLineAt z) line h.line }
 ]
 

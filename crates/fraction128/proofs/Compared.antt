@@ -14,8 +14,9 @@ use Rattle.rational.specs.Ratio.{ratio, cmp_q}
 use Rattle.rational.proofs.Floor.{one_more}
 use Rattle.rational.proofs.Comparison.{cmp_equal, cmp_self}
 use Rattle.fraction128.specs.Order.{same_q}
-use Rattle.fraction128.specs.Parts.{AreLowest, IsWholeAndRest}
+use Rattle.fraction128.specs.Parts.{AreLowest}
 use Rattle.fraction128.proofs.Values.{parts_of}
+use Rattle.rational.specs.Floor.{IsWholeAndRest}
 
 pub cmp_less : (a b : ℕ) → a < b → nat_cmp a b ≡ Less
 cmp_less a b h = grind arith

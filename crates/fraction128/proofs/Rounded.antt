@@ -9,13 +9,13 @@ use Rattle.rational.specs.Rational.{ℚ, ◌≤ℚ◌, ◌<ℚ◌, int, frac}
 use Rattle.rational.proofs.Over.{le_frac, lt_frac}
 use Rattle.rational.specs.Fractions.{frac_self}
 use Rattle.rational.specs.Ratio.{ratio}
-use Rattle.rational.specs.Floor.{floor}
+use Rattle.rational.specs.Floor.{floor, IsWholeAndRest}
 use Rattle.rational.specs.Whole.{whole_part, whole_over}
 use Rattle.rational.specs.Gauge.{up_over}
 use Rattle.rational.proofs.Floor.{floor_unique, one_more}
 use Rattle.rational.proofs.Whole.{whole_floor}
 use Rattle.rational.proofs.Laws.{frac_nonneg}
-use Rattle.fraction128.specs.Parts.{AreLowest, IsWholeAndRest}
+use Rattle.fraction128.specs.Parts.{AreLowest}
 use Rattle.fraction128.proofs.Values.{parts_of}
 
 pub floor_is : (n : ℤ) (d : ℕ) (f : ℤ) (r : ℕ) (x : ℚ) → 0 < d → ratio n (pos d) ≡ x → IsWholeAndRest n d f r → floor x ≡ f

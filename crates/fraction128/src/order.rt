@@ -2,7 +2,7 @@
 
 ghost use Rattle.std.specs.Prelude.{◌≡◌, ◌<◌, ◌≤◌, ◌*◌, pos, ◌*ℤ◌, unsigned_abs, ◌^◌};
 ghost use Rattle.std.specs.Ordering.{nat_cmp, int_cmp};
-ghost use Rattle.fraction128.specs.Parts.{IsWholeAndRest};
+ghost use Rattle.rational.specs.Floor.{IsWholeAndRest};
 
 use crate::division::divide;
 use std::cmp::Ordering;

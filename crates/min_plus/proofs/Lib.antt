@@ -7,3 +7,4 @@ pub mod Unambiguous
 pub mod DeviationSigns
 pub mod Deviations
 pub mod BucketDeviations
+pub mod TimeSums

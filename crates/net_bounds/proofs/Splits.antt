@@ -9,6 +9,7 @@ use Rattle.rational.proofs.Linear.{with1, with2, with3}
 use Rattle.min_plus.specs.Functions.{zero_q}
 use Rattle.min_plus.specs.Convolution.{Split, AllNonneg, sum_of}
 use Rattle.net_laws.specs.Paths.{IsWithinSplits, sum_of_values}
+use Rattle.min_plus.proofs.TimeSums.{nonneg_total}
 
 -- ---- the last of some times
 record EndsWith (n : ℕ) (xs : List ℚ) : Type 0 where
@@ -44,13 +45,6 @@ sum_front (x ∷ ys) y =
     with_rest : (a b c d : ℚ) → d ≡ b +ℚ c → a +ℚ d ≡ (a +ℚ b) +ℚ c
     with_rest a b c d e = ap (λ (z : ℚ). a +ℚ z) e ∙ with3 a b c (λ o. omega (arith, o.le, o.lt, o.same))
 
-sum_nonneg : (ys : List ℚ) → AllNonneg ys → zero_q ≤ℚ sum_of ys
-sum_nonneg [] h = le_refl zero_q
-sum_nonneg (x ∷ ys) h =
-    let one = h.0 in
-    let rest = sum_nonneg ys h.1 in
-    with2 x (sum_of ys) (λ c. omega (arith, c.le, c.lt, c.same))
-
 -- the values at all of them
 values_front : (fs : List (ℚ → Ext)) (g : ℚ → Ext) (ys : List ℚ) (y : ℚ) → length ys ≡ length fs
     → sum_of_values (fs ++ g ∷ []) (ys ++ y ∷ []) ≡ sum_of_values fs ys +ₑ g y
@@ -80,13 +74,13 @@ more_split f g h fs within is xs all e =
     let ys = end.front in
     let y = end.last in
     let parts = nonneg_front ys y (subst AllNonneg end.is all) in
-    let low : zero_q ≤ℚ sum_of xs = sum_nonneg xs all in
+    let low : zero_q ≤ℚ sum_of xs = nonneg_total xs all in
     let whole : sum_of ys +ℚ y ≡ sum_of xs = sym (ap sum_of end.is ∙ sum_front ys y) in
     let split = is (sum_of xs) low
     record {
       first = sum_of ys;
       second = y;
-      first_nonneg = sum_nonneg ys parts.0;
+      first_nonneg = nonneg_total ys parts.0;
       second_nonneg = parts.1;
       whole = whole;
     } in

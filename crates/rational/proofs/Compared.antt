@@ -6,7 +6,7 @@ use Rattle.std.specs.Ordering.{MatchOrdering}
 use Rattle.rational.specs.Rational.{ℚ, ◌≤ℚ◌, ◌<ℚ◌, lt_q}
 use Rattle.rational.proofs.Over.{lt_q_out}
 use Rattle.rational.proofs.MinMax.{lt_q_not}
-use Rattle.rational.proofs.Laws.{le_refl, le_of_lt, lt_le_trans, lt_irrefl, le_or_lt}
+use Rattle.rational.proofs.Laws.{le_refl, le_of_lt, lt_le_trans, lt_irrefl, le_or_lt, le_of_not_lt}
 
 -- ---- by a comparison
 pub not_greater : (r : Ordering) {x y : ℚ} → MatchOrdering r (x <ℚ y) (x ≡ y) (y <ℚ x) → (r ≡ Greater → ⊥) → x ≤ℚ y
@@ -56,3 +56,7 @@ iff_none h = (λ e. absurd (true≢false (sym e)), λ a. absurd (h a))
 
 pub iff_some : {A : Type 0} → A → IsTrue true ↔ A
 iff_some a = (λ e. a, λ b. refl)
+
+-- ---- by a test that says no
+pub least_by_test : (x y : ℚ) → (IsTrue false ↔ (x <ℚ y)) → y ≤ℚ x
+least_by_test x y h = le_of_not_lt (λ l. true≢false (sym (h.1 l)))

@@ -308,3 +308,6 @@ max_add_ext (Fin x) y Inf = infinite x y
     infinite x Inf = refl
 max_add_ext (Fin x) Inf (Fin z) = refl
 max_add_ext (Fin x) (Fin y) (Fin z) = ap Fin (max_q_add x y z)
+
+pub not_past : (x : Ext) (t : ℚ) → x ≤ₑ Fin t → Fin t <ₑ x → ⊥
+not_past x t h k = (lt_ext_not_le (Fin t) x).0 k h

@@ -10,8 +10,8 @@ use Rattle.rational.specs.Fractions.{frac_self, frac-same, frac-same_out}
 use Rattle.rational.specs.Rational.{int}
 use Rattle.rational.proofs.Over.{le_over, lt_over, add_over, neg_over}
 use Rattle.rational.proofs.Integers.{mul_whole, int_le_out, nat_nonneg}
-use Rattle.rational.specs.Floor.{floor}
-use Rattle.rational.proofs.Floor.{IsDivided, rest, whole_of, floor_le, floor_gt, floor_most, floor_below, floor_int}
+use Rattle.rational.specs.Floor.{floor, IsWholeAndRest}
+use Rattle.rational.proofs.Floor.{rest, whole_of, floor_le, floor_gt, floor_most, floor_below, floor_int}
 use Rattle.rational.proofs.Floor.{floor_mono}
 use Rattle.rational.proofs.Bootstrap.{rats, over2, over3, over4}
 use Rattle.rational.proofs.Laws.{antisym, le_trans, lt_le_trans, le_of_lt, mul_add, mul_neg, mul_le_mul, mul_lt_mul}
@@ -21,7 +21,7 @@ use Rattle.rational.proofs.Laws.{le_or_lt, lt_irrefl, mul_comm, mul_assoc}
 pub grain : ℚ → ℕ
 grain x = min 1 (rest x)
 
-exact_z : (a f : ℤ) (d r : ℕ) → IsDivided a d f r → r ≡ 0 → a *ℤ pos 1 ≡ f *ℤ pos d
+exact_z : (a f : ℤ) (d r : ℕ) → IsWholeAndRest a d f r → r ≡ 0 → a *ℤ pos 1 ≡ f *ℤ pos d
 exact_z a f d r w h = let e = w.is in omega (arith, ints)
 
 pub floor_exact : (x : ℚ) → grain x ≡ 0 → x ≡ int (floor x)
@@ -37,7 +37,7 @@ pub grain_int : (z : ℤ) → grain (int z) ≡ 0
 unfolding grain
 grain_int z = no_rest z
   where
-    exact_rest : (a f : ℤ) (r : ℕ) (d : ℕ) (z : ℤ) → IsDivided a d f r → a *ℤ pos 1 ≡ z *ℤ pos d → f ≡ z → r ≡ 0
+    exact_rest : (a f : ℤ) (r : ℕ) (d : ℕ) (z : ℤ) → IsWholeAndRest a d f r → a *ℤ pos 1 ≡ z *ℤ pos d → f ≡ z → r ≡ 0
     exact_rest a f r d z w e g = let h = w.is in omega (arith, ints, ap (λ k. k *ℤ pos d) g)
 
     no_rest : (z : ℤ) → min 1 (rest (int z)) ≡ 0

@@ -112,12 +112,12 @@ line_supremum lo hi a r h = elim (le_or_lt (int (pos 0)) r) [
 ]
 
 -- ---- a stretch without an end
-pub next : (lo : ℚ) → lo <ℚ lo +ℚ int (pos 1)
-next lo = with1 lo (λ c. omega (arith, c.le, c.lt, c.same))
+pub one_above : (lo : ℚ) → lo <ℚ lo +ℚ int (pos 1)
+one_above lo = with1 lo (λ c. omega (arith, c.le, c.lt, c.same))
 
 -- before each time after lo there is one in the first stretch after lo
 soon : (lo : ℚ) (s : After lo) → (i : Between lo (lo +ℚ int (pos 1))) × (i.at ≤ℚ s.at)
-soon lo s = let (i, l) = early_enough lo s.at (lo +ℚ int (pos 1)) (next lo) s.above in (i, le_of_lt l)
+soon lo s = let (i, l) = early_enough lo s.at (lo +ℚ int (pos 1)) (one_above lo) s.above in (i, le_of_lt l)
 
 pub rising_after_infimum : (lo a r : ℚ) → int (pos 0) ≤ℚ r → IsInfimum {I =
     After lo} (λ s. Fin (line_at a r s.at)) (Fin (line_at a r lo))
@@ -125,7 +125,7 @@ rising_after_infimum lo a r h =
     same_infimum {I = Between lo (lo +ℚ int (pos 1))} {J = After lo} (λ s. Fin (line_at a r s.at)) (λ s. Fin (line_at a r s.at)) (Fin (line_at a r lo))
     (λ i. (record { at = i.at; above = i.above }, le_refl (line_at a r i.at)))
     (λ s. let (i, l) = soon lo s in (i, line_rises a r i.at s.at h l))
-    (rising_infimum lo (lo +ℚ int (pos 1)) a r (next lo) h)
+    (rising_infimum lo (lo +ℚ int (pos 1)) a r (one_above lo) h)
 
 pub falling_after_supremum : (lo a r : ℚ) → r ≤ℚ int (pos 0) → IsSupremum {I =
     After lo} (λ s. Fin (line_at a r s.at)) (Fin (line_at a r lo))
@@ -133,7 +133,7 @@ falling_after_supremum lo a r h =
     same_supremum {I = Between lo (lo +ℚ int (pos 1))} {J = After lo} (λ s. Fin (line_at a r s.at)) (λ s. Fin (line_at a r s.at)) (Fin (line_at a r lo))
     (λ i. (record { at = i.at; above = i.above }, le_refl (line_at a r i.at)))
     (λ s. let (i, l) = soon lo s in (i, line_falls a r i.at s.at h l))
-    (falling_supremum lo (lo +ℚ int (pos 1)) a r (next lo) h)
+    (falling_supremum lo (lo +ℚ int (pos 1)) a r (one_above lo) h)
 
 -- a line that rises passes every number
 pub rising_after_supremum : (lo a r : ℚ) → int (pos 0) <ℚ r → IsSupremum {I =
@@ -144,7 +144,11 @@ rising_after_supremum lo a r h = unbounded {I = After lo} (λ s. Fin (line_at a 
     passing y =
         let (w, e) = level r (y -ℚ a) h in
         let m = max_q lo w in
-        let past : m <ℚ m +ℚ int (pos 1) = next m in
+        let past : m <ℚ m +ℚ int (pos 1) = one_above m in
         let t = m +ℚ int (pos 1) in
         let l = mul_lt_mul r h (le_lt_trans (max_q_ge_right lo w) past) in
         (record { at = t; above = le_lt_trans (max_q_ge_left lo w) past }, with4 a y (r *ℚ w) (r *ℚ t) (λ c. omega (arith, c.le, c.lt, c.same)))
+
+-- ---- a time as much later
+pub not_earlier : (x y : ℚ) → int (pos 0) ≤ℚ y → x ≤ℚ x +ℚ y
+not_earlier x y h = with2 x y (λ c. omega (arith, c.le, c.lt, c.same))

@@ -11,6 +11,7 @@ use Rattle.std.proofs.Common.{true≢false}
 use Rattle.rational.proofs.Laws.{le_of_not_lt}
 use Rattle.sim_servers.specs.declared.opening.Span.{Span}
 use Rattle.sim_servers.specs.Openings.{stall_times}
+use Rattle.rational.proofs.Compared.{least_by_test}
 
 -- ---- stalled by one of them
 pub stalled_at : (items : List Span) (k : ℕ) (d : Span) (x : ℚ) → k < length items → (get_or items k d).start ≤ℚ x → x <ℚ (get_or items k d).end
@@ -161,8 +162,6 @@ stall_end_is_time D E (x ∷ xs) zero d h l = h.0.1
 stall_end_is_time D E (x ∷ xs) (suc k) d h l = stall_end_is_time D E xs k d h.1 (omega (arith, l))
 
 -- ---- tests
-pub not_less : (x y : ℚ) → (IsTrue false ↔ (x <ℚ y)) → y ≤ℚ x
-not_less x y h = le_of_not_lt (λ l. true≢false (sym (h.1 l)))
 
 -- those from one on that does not start before t
 pub ahead_from : (items : List Span) (index : ℕ) (t s : ℚ) → AllPairs (λ (a b : Span). a.start ≤ℚ b.start) items

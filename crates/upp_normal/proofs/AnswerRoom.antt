@@ -31,7 +31,7 @@ use Rattle.upp_limits.proofs.OwnGauge.{end_within}
 use Rattle.upp_normal.proofs.NormaliseRoom.{line_fits}
 use Rattle.upp_normal.proofs.NormaliseGrids.{q_same_or}
 use Rattle.upp_limits.proofs.NarrowSizes.{IsNarrow, narrow_limit, narrow_gauge, grid_pos, value_whole, value_within, run_whole, small_number, small_sum, half_bound}
-use Rattle.upp_normal.specs.Ahead.{GridValue, IsGridValue}
+use Rattle.upp_normal.specs.Ahead.{GridValue, IsGridValue, AnswerValue}
 
 -- ---- the products that a gauge below 2 ^ 120 bounds
 -- the largest value over the finest grid of values, that of the crossing of two lines, and the steepness over the grid of sums
@@ -248,11 +248,6 @@ values_fit z end v w A V W =
       small_sum z end 3 3 v w A.sizes N (omega arith) V.whole W.whole V.within W.within,
       small_sum z end 3 3 v (neg_ℚ w) A.sizes N (omega arith) V.whole (whole_neg (grid_of z) w W.whole) V.within (within_neg (times_largest 3 z) w W.within),
     )
-
--- a value of an answer: on the grid of sums, within k times the largest value
-pub record AnswerValue (z : Sizes) (k : ℕ) (v : ℚ) : Type 0 where
-  pub whole : Whole (grid_of z) v
-  pub within : Within (times_largest k z) v
 
 pub value_sum_stands : (z : Sizes) (v w : ℚ) → IsGridValue z v → IsGridValue z w → AnswerValue z 6 (v +ℚ w)
 value_sum_stands z v w V W = record {

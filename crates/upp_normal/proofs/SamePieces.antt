@@ -72,7 +72,7 @@ unfolding spans_below
 below_number c end = spans_length c.tail end c.pieces
 
 -- ---- what holds of the unrolled pieces holds of the spans
--- of a list that low_start nothing starts before x past the cut there
+-- of a list that rises nothing starts before x past the cut there
 none_before : (P : Piece → Type 0) (x y : ℚ) (ps : List Piece) → x ≤ℚ y → RisesFrom y ps → Each (λ p. p.x <ℚ x → P p) ps
 none_before P x y [] l r = tt
 none_before P x y (p ∷ ps) l r =

@@ -35,7 +35,7 @@ use Rattle.upp_limits.specs.Limits.{Sizes, curve_numbers}
 use Rattle.upp_limits.specs.Sized.{IsValue, IsSlope, Stands, ValueStands, LineStands, SpanStands, TailStands, CurveStands, PeriodStands, grid_of, times_largest}
 use Rattle.upp_limits.specs.Seen.{ValueRises}
 use Rattle.upp_normal.specs.Operand.{AreLimited, OperandLineAt}
-use Rattle.upp_normal.specs.Ahead.{IsOverBy, AtNext, TimesStand, HasWindow, IsTimeIn, GridValue}
+use Rattle.upp_normal.specs.Ahead.{IsOverBy, AtNext, TimesStand, HasWindow, IsTimeIn, GridValue, IsGridValue}
 use Rattle.upp_normal.specs.Copied.{LineRises}
 use Rattle.upp_limits.proofs.Every.{every_flat_out}
 use Rattle.upp_limits.proofs.Copies.{copies_out, copy_zero, copy_among}
@@ -247,10 +247,6 @@ stands_line z end x (Some l) A on low high s v =
 pub span_line : (z : Sizes) (end : ℚ) (s : Span) → AreLimited z end → int (pos 0) ≤ℚ s.piece.x → s.piece.x ≤ℚ end → SpanStands z s → OperandLineAt z s.piece.line
 span_line z end s A low high h = stands_line z end s.piece.x s.piece.line A h.start low high h.slope h.after
 
-pub grid_value : (z : Sizes) (v : Ext) → GridValue z v → GridValue z v
-grid_value z Inf h = tt
-grid_value z (Fin v) h = record { whole = h.whole; within = h.within }
-
 -- all steps to the present copy of a piece at a time, and the sizes of what is found
 pub record CopySteps (z : Sizes) (t n by rise : ℚ) (p : Piece) : Type 0 where
   pub rises : ValueRises p.at n rise
@@ -281,8 +277,8 @@ copy_steps z end period rise t s n A time on some low by_low start C =
       line = line_steps z end x by (int (pos n)) rise s.piece.line A first.start low x_high (whole_times z.dt (pos n) period on) by_low by_high first.slope first.after after;
       fits = operand_line_fits z end t later A line_stands time.whole time.nonneg early;
       line_stands = line_stands;
-      at_start = grid_value z (s.piece.at +ₑ Fin y) (stands_operand_value z (s.piece.at +ₑ Fin y) present.at);
-      past = grid_value z (line_value later t) (operand_line_value z end t later A line_stands time.whole time.nonneg early);
+      at_start = (stands_operand_value z (s.piece.at +ₑ Fin y) present.at);
+      past = (operand_line_value z end t later A line_stands time.whole time.nonneg early);
     }
 
 -- ---- all starts stand
@@ -311,3 +307,7 @@ times_stand z end c curve window =
     period_stands (Periodic rank period rise) h = h.whole
     period_stands (Affine rank) h = tt
     period_stands (Infinite rank) h = tt
+
+-- a finite value on the grid
+pub grid_value : (z : Sizes) (x : Ext) (v : ℚ) → x ≡ Fin v → GridValue z x → IsGridValue z v
+grid_value z x v e h = subst (GridValue z) e h

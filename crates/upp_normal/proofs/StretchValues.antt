@@ -40,7 +40,7 @@ use Rattle.upp_limits.proofs.CurveStands.{each_stands, has_period, unrolled_stan
 use Rattle.affine_segment.proofs.NextPiece.{next_go, next_stop, next_none}
 use Rattle.upp_normal.proofs.StretchPieces.{next_past, next_all, found_late, span_in, line_at_rank, reads_on, cut_plain}
 use Rattle.upp_normal.proofs.StretchTurns.{Turned, turned, same_turn, repeated_at}
-use Rattle.upp_normal.proofs.StretchSizes.{copies_stand, tail_times, some_period, times_fit, times_stand, span_line, grid_value, CopySteps, copy_steps}
+use Rattle.upp_normal.proofs.StretchSizes.{copies_stand, tail_times, some_period, times_fit, times_stand, span_line, CopySteps, copy_steps}
 use Rattle.upp_normal.proofs.NormaliseRoomy.{found_early}
 
 -- ---- a turn, by the number of its periods
@@ -300,8 +300,8 @@ plain_of z end t p ps next A time starts stands =
       λ l. operand_line_fits z end t q.line A line time.whole time.nonneg high,
       line,
       elim (le_or_lt t q.x) [
-        | inl l ↦ subst (λ b. GridValue z (cond b q.at (line_value q.line t))) (sym (le_q_out t q.x l)) (grid_value z q.at (stands_operand_value z q.at stands.at))
-        | inr l ↦ subst (λ b. GridValue z (cond b q.at (line_value q.line t))) (sym (le_q_not t q.x l)) (grid_value z (line_value q.line t) (operand_line_value z end t q.line A line time.whole time.nonneg high))
+        | inl l ↦ subst (λ b. GridValue z (cond b q.at (line_value q.line t))) (sym (le_q_out t q.x l)) ((stands_operand_value z q.at stands.at))
+        | inr l ↦ subst (λ b. GridValue z (cond b q.at (line_value q.line t))) (sym (le_q_not t q.x l)) ((operand_line_value z end t q.line A line time.whole time.nonneg high))
       ],
     )
 

@@ -75,7 +75,7 @@ few_times n d v q end grid w some inside reach =
     next s h = omega (arith, ints)
 
 -- ---- heights of copies
--- n low_start are at most three times the largest value
+-- n rises are at most three times the largest value
 height_between : (V v h : ℚ) → Within V v → Within V (v +ℚ h) → Within (int (pos 2) *ℚ V) h
 height_between V v h a b =
     let al = a.low in

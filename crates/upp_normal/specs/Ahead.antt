@@ -71,3 +71,8 @@ pub record IsGridValue (z : Sizes) (v : ℚ) : Type 0 where
 abbrev pub GridValue : Sizes → Ext → Type 0
 GridValue z Inf = Unit {0}
 GridValue z (Fin v) = IsGridValue z v
+
+-- a value on the grid of sums, within k times the largest value
+pub record AnswerValue (z : Sizes) (k : ℕ) (v : ℚ) : Type 0 where
+  pub whole : Whole (grid_of z) v
+  pub within : Within (times_largest k z) v

@@ -22,10 +22,11 @@ use Rattle.watch_laws.specs.declared.entering.Entering.{Entering}
 use Rattle.watch_laws.specs.Entries.{entries, entering}
 use Rattle.watch_laws.specs.Breaches.{IsBreach, order_key}
 use Rattle.watch_laws.specs.Laws.{HaveCurves, PairsSuffice, WatchPointsSuffice, TurnsSuffice, TurnsSufficeWithin, StretchesAreApart, BreachesTell, FirstIsOne}
-use Rattle.watch_laws.proofs.Idle.{none_idle, idle_breaks, none_found, found_in, inside_keeps, not_less, apart_or_one}
+use Rattle.watch_laws.proofs.Idle.{none_idle, idle_breaks, none_found, found_in, inside_keeps, apart_or_one}
 use Rattle.watch_laws.proofs.Crowds.{window_is, none_crowded, crowded_breaks}
 use Rattle.watch_laws.proofs.Entered.{in_order}
 use Rattle.watch_laws.proofs.Order.{both_no_later, one_key}
+use Rattle.rational.proofs.ExtendedOrder.{not_past}
 
 -- ---- sizes
 size_at : (flow n : ℕ) (xs : List Step) (k : ℕ) → EnterSizes flow n xs → k < length (entries flow xs) → (entering (entries flow xs) k).bits ≤ n
@@ -88,7 +89,7 @@ pub turns_suffice : TurnsSuffice
 turns_suffice server end V c h k = (
   λ keeps u e a b is l pair. inside_keeps end V c u e a b keeps is l,
   λ all_keep. none_found server end V c h k.normal k.finite k.continuous k.at_zero
-      (λ u e p q it. not_less (Fin (worked all V p) +ₑ value_at c (q -ℚ p)) (worked all V q) (all_keep u e p q it.inside it.forward it.pair) it.less),
+      (λ u e p q it. not_past (Fin (worked all V p) +ₑ value_at c (q -ℚ p)) (worked all V q) (all_keep u e p q it.inside it.forward it.pair) it.less),
 )
 
 pub turns_suffice_within : TurnsSufficeWithin

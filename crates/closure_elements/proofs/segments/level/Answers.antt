@@ -2,9 +2,10 @@ use Rattle.std.proofs.Common.{arith, ◌≡◌, ◌∙◌, ◌+◌, suc, subst, 
 use Rattle.std.proofs.lemmas.Result.{err_from_is_err_and}
 use Rattle.rational.specs.Ratio.{IsSmall}
 use Rattle.upp_curve.specs.Curves.{IsCurve}
-use Rattle.closure_elements.specs.ElementCurves.{nat_times, level_closure}
+use Rattle.closure_elements.specs.ElementCurves.{level_closure}
 use Rattle.closure_elements.proofs.SegmentAnswers.{level_unfit, level_wide, level_blind, level_is, level_curve, formed}
 use Rattle.closure_elements.proofs.segments.level.Goals as goal
+use Rattle.closure_laws.specs.Star.{nat_times}
 
 pub returns-in_err-pieces : goal.returns-in_err-pieces
 returns-in_err-pieces c =

@@ -2,10 +2,11 @@ use Rattle.std.proofs.Common.{arith, ◌≡◌, ◌∙◌, ◌+◌, ◌≤◌, �
 use Rattle.std.proofs.lemmas.Result.{err_from_is_err_and}
 use Rattle.upp_curve.specs.Normal.{IsRaw}
 use Rattle.upp_limits.specs.Limits.{own_tally}
-use Rattle.closure_elements.specs.ElementCurves.{nat_times, turn}
+use Rattle.closure_elements.specs.ElementCurves.{turn}
 use Rattle.closure_elements.specs.PieceFits.{PieceFits, IsMade}
 use Rattle.closure_elements.proofs.SegmentAnswers.{turn_unfit, turn_wide, rise_wide, turn_few, turn_is, rising_q}
 use Rattle.closure_elements.proofs.segments.rising.Goals as goal
+use Rattle.closure_laws.specs.Star.{nat_times}
 
 pub returns-in_err-pieces : goal.returns-in_err-pieces
 returns-in_err-pieces c =

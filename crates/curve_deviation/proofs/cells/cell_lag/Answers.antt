@@ -2,8 +2,9 @@ use Rattle.std.proofs.Common.{refl, sym, subst}
 use Rattle.affine_segment.specs.Values.{line_at}
 use Rattle.curve_deviation.specs.Cells.{IsCellLag}
 use Rattle.curve_deviation.proofs.CellLag.{apart_lag}
-use Rattle.curve_deviation.proofs.CellSizes.{value_fits, times_differ, less_as, not_less, not_less_as}
+use Rattle.curve_deviation.proofs.CellSizes.{value_fits, times_differ, less_as, not_less_as}
 use Rattle.curve_deviation.proofs.cells.cell_lag.Goals as goal
+use Rattle.rational.proofs.Compared.{least_by_test}
 
 pub line_at-requires : goal.line_at-requires
 line_at-requires c = let w = c.requires.sizes in value_fits w.0 w.1 c.args.c.now.until c.args.c.now.second w.2.limited w.2.second w.2.until
@@ -28,4 +29,4 @@ gentle_lag-requires-clause-low c =
     not_less_as c.line_at.result c.line_at-2.result (line_at c.args.c.now.second c.args.c.now.until) (line_at c.args.c.now.first c.args.c.now.start) c.line_at.ensures c.line_at-2.ensures c.if-is_less.ensures.less
 
 pub gentle_lag-requires-clause-gentle : goal.gentle_lag-requires-clause-gentle
-gentle_lag-requires-clause-gentle c = not_less c.args.c.now.second.slope c.args.c.now.first.slope c.if-is_less-2.ensures.less
+gentle_lag-requires-clause-gentle c = least_by_test c.args.c.now.second.slope c.args.c.now.first.slope c.if-is_less-2.ensures.less

@@ -1,7 +1,7 @@
 use Rattle.std.proofs.Common.{refl}
-use Rattle.curve_deviation.proofs.CellSizes.{not_less}
 use Rattle.curve_deviation.proofs.EarlyParts.{early_tail, over_tail}
 use Rattle.curve_deviation.proofs.parts.is_early.Goals as goal
+use Rattle.rational.proofs.Compared.{least_by_test}
 
 pub returns-then-is_less-clause-late : goal.returns-then-is_less-clause-late
 returns-then-is_less-clause-late c = λ h.
@@ -9,4 +9,4 @@ returns-then-is_less-clause-late c = λ h.
 
 pub returns-else-is_less-clause-early : goal.returns-else-is_less-clause-early
 returns-else-is_less-clause-early c = λ h.
-    early_tail c.args.c.now c.tail.result.now c.in-Periodic.rank c.in-Periodic.period c.in-Periodic.rise c.args.end c.sum.result c.tail.ensures.tail c.in-Periodic.is c.sum.ensures (not_less c.sum.result c.args.end c.if-is_less.ensures.less)
+    early_tail c.args.c.now c.tail.result.now c.in-Periodic.rank c.in-Periodic.period c.in-Periodic.rise c.args.end c.sum.result c.tail.ensures.tail c.in-Periodic.is c.sum.ensures (least_by_test c.sum.result c.args.end c.if-is_less.ensures.less)

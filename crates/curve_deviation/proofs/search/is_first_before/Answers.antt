@@ -4,10 +4,10 @@ use Rattle.rational.specs.Ratio.{SumFits}
 use Rattle.upp_normal.specs.Ahead.{IsTimeIn}
 use Rattle.upp_limits.specs.declared.op_kind.OpKind.TheVariants.{Horizontal}
 use Rattle.curve_call.specs.Frames.{sizes_at}
-use Rattle.curve_deviation.proofs.CellSizes.{not_less}
 use Rattle.curve_deviation.proofs.WindowTimes.{window_times}
 use Rattle.curve_deviation.proofs.Searching.{left_is}
 use Rattle.curve_deviation.proofs.search.is_first_before.Goals as goal
+use Rattle.rational.proofs.Compared.{least_by_test}
 
 pub difference-requires : goal.difference-requires
 difference-requires c =
@@ -39,6 +39,6 @@ returns-else-is_less-clause-before c = λ h.
     let e = c.difference-time.ensures ∙ ap (λ x. x -ℚ c.in-Some.window.period) c.difference.ensures in
     record {
       unmet = (left_is z c.args.f.now c.args.g.now c.args.k c.args.level c.in-Some.window.end c.in-Some.window.period c.difference-time.result c.value_in.result c.in-Some.ensures.window.window.period W e c.value_in.ensures).1
-          (not_less c.args.level c.value_in.result c.if-is_less.ensures.less);
+          (least_by_test c.args.level c.value_in.result c.if-is_less.ensures.less);
       narrow = c.in-Some.ensures.window.gauge;
     }

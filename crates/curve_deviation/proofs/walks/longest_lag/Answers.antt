@@ -2,10 +2,10 @@ use Rattle.std.proofs.Common.{refl, pos, sym}
 use Rattle.rational.specs.Rational.{int}
 use Rattle.rational.proofs.Laws.{le_lt_trans}
 use Rattle.upp_curve.specs.Curve.{value_at}
-use Rattle.curve_deviation.proofs.CellSizes.{not_less}
 use Rattle.curve_deviation.proofs.RisingParts.{time_to, cell_rises}
 use Rattle.curve_deviation.proofs.Walk.{IsWalked, walk_start, walk_end, walk_time, one_pass}
 use Rattle.curve_deviation.proofs.walks.longest_lag.Goals as goal
+use Rattle.rational.proofs.Compared.{least_by_test}
 
 pub loop-until-init : goal.loop-until-init
 loop-until-init g c =
@@ -43,4 +43,4 @@ loop-until-smaller g c =
 
 pub returns : goal.returns
 returns g c =
-    walk_end g.sizes (value_at c.args.f.now) (value_at c.args.g.now) c.args.until c.args.end c.loop-until.walk c.loop-until.invariant (not_less c.loop-until.walk.time c.args.until c.loop-until-test.ensures.less)
+    walk_end g.sizes (value_at c.args.f.now) (value_at c.args.g.now) c.args.until c.args.end c.loop-until.walk c.loop-until.invariant (least_by_test c.loop-until.walk.time c.args.until c.loop-until-test.ensures.less)

@@ -5,8 +5,9 @@ use Rattle.rational.specs.Rational.{◌≤ℚ◌, ◌<ℚ◌}
 use Rattle.rational.proofs.Laws.{le_or_lt}
 use Rattle.sim_servers.specs.declared.opening.Span.{Span}
 use Rattle.sim_servers.specs.Openings.{gate_for}
-use Rattle.sim_servers.proofs.Stalls.{IsOpened, opened_first, opened_over, opened_after, opened_here, ahead_of, not_less, stall_end_is_time}
+use Rattle.sim_servers.proofs.Stalls.{IsOpened, opened_first, opened_over, opened_after, opened_here, ahead_of, stall_end_is_time}
 use Rattle.sim_servers.proofs.opening.first_open.Goals as goal
+use Rattle.rational.proofs.Compared.{least_by_test}
 
 pub loop-index-init : goal.loop-index-init
 loop-index-init c = opened_first (gate_for c.args.gate.now) c.args.stalls.now c.args.from c.args.passed c.gate_opens-time.result c.gate_opens-time.ensures c.requires.over
@@ -48,7 +49,7 @@ loop-index-preserved c =
           (get_or_default xs i c.index-stalls-index-in-loop-index.result d c.loop-index-test.true) over))
       | inr stalled ↦ opened_after g xs c.args.from i t end c.past_stall-time.result c.loop-index.invariant c.loop-index-test.true
           (λ d. subst (λ (x : Span). x.start ≤ℚ t) (get_or_default xs i c.index-stalls-index.result d c.loop-index-test.true)
-          (not_less t (get_or xs i c.index-stalls-index.result).start c.if-is_less.ensures.less))
+          (least_by_test t (get_or xs i c.index-stalls-index.result).start c.if-is_less.ensures.less))
           (λ d. ap (λ (x : Span). x.end) (get_or_default xs i d c.index-stalls-index-in-loop-index.result c.loop-index-test.true))
           stalled (c.past_stall-time.ensures.stalled stalled)
     ]

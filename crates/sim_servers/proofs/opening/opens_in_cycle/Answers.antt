@@ -5,8 +5,8 @@ use Rattle.stated_runs.specs.Setups.{IsFirstGateOpen}
 use Rattle.sim_servers.specs.Openings.{gate_times}
 use Rattle.sim_servers.proofs.GridSteps.{sum_fits}
 use Rattle.sim_servers.proofs.Cycles.{begin_is_time, opens_now, opens_next}
-use Rattle.sim_servers.proofs.Stalls.{not_less}
 use Rattle.sim_servers.proofs.opening.opens_in_cycle.Goals as goal
+use Rattle.rational.proofs.Compared.{least_by_test}
 
 pub sum-close-requires : goal.sum-close-requires
 sum-close-requires c =
@@ -32,4 +32,4 @@ returns c =
     let g = gate_times c.args.gate.now in
     subst (λ y. IsFirstGateOpen (Some g) c.args.from y) (sym c.sum.ensures)
     (opens_next g c.requires.gate c.args.from c.cycle_begin-begin.result c.cycle_begin-begin.ensures
-    (subst (λ y. y ≤ℚ c.args.from) c.sum-close.ensures (not_less c.args.from c.sum-close.result c.if-is_less.ensures.less)))
+    (subst (λ y. y ≤ℚ c.args.from) c.sum-close.ensures (least_by_test c.args.from c.sum-close.result c.if-is_less.ensures.less)))

@@ -5,8 +5,8 @@ use Rattle.stated_runs.specs.Setups.{IsGateOpen, StaysTo}
 use Rattle.sim_servers.specs.Openings.{gate_times}
 use Rattle.sim_servers.proofs.GridSteps.{sum_fits}
 use Rattle.sim_servers.proofs.Cycles.{begin_is_time, stays_always, stays_to_close, stays_to_end}
-use Rattle.sim_servers.proofs.Stalls.{not_less}
 use Rattle.sim_servers.proofs.opening.stays_in_cycle.Goals as goal
+use Rattle.rational.proofs.Compared.{least_by_test}
 
 pub sum-close-requires : goal.sum-close-requires
 sum-close-requires c =
@@ -18,7 +18,7 @@ sum-close-requires c =
 pub returns-then-not-is_less : goal.returns-then-not-is_less
 returns-then-not-is_less c =
     let g = gate_times c.args.gate.now in
-    stays_always g c.requires.gate c.args.from c.args.until (not_less g.slot g.cycle c.if-not-is_less.ensures.less) c.requires.room.time.from_zero c.requires.forward
+    stays_always g c.requires.gate c.args.from c.args.until (least_by_test g.slot g.cycle c.if-not-is_less.ensures.less) c.requires.room.time.from_zero c.requires.forward
 
 pub returns-then-is_less : goal.returns-then-is_less
 returns-then-is_less c =
@@ -31,4 +31,4 @@ pub returns : goal.returns
 returns c =
     let g = gate_times c.args.gate.now in
     stays_to_end g c.args.from c.cycle_begin-begin.result c.args.until c.cycle_begin-begin.ensures c.requires.forward
-    (subst (λ y. c.args.until ≤ℚ y) c.sum-close.ensures (not_less c.sum-close.result c.args.until c.if-is_less.ensures.less))
+    (subst (λ y. c.args.until ≤ℚ y) c.sum-close.ensures (least_by_test c.sum-close.result c.args.until c.if-is_less.ensures.less))

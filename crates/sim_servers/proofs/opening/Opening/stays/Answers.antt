@@ -3,8 +3,9 @@ use Rattle.std.specs.Prelude.{◌<◌, length}
 use Rattle.std.proofs.lemmas.List.{get_or_default}
 use Rattle.sim_servers.specs.declared.opening.Span.{Span}
 use Rattle.sim_servers.specs.Openings.{gate_for}
-use Rattle.sim_servers.proofs.Stalls.{ahead_from, not_less, stays_to_gate, stays_to_stall}
+use Rattle.sim_servers.proofs.Stalls.{ahead_from, stays_to_gate, stays_to_stall}
 use Rattle.sim_servers.proofs.opening.Opening.stays.Goals as goal
+use Rattle.rational.proofs.Compared.{least_by_test}
 
 pub returns-then-self-len : goal.returns-then-self-len
 returns-then-self-len c =
@@ -31,4 +32,4 @@ returns c =
     record { over = c.requires.opened.over; ahead = c.requires.opened.ahead } c.gate_stays-end.ensures
     (ahead_from o.stalls.items o.passed c.gate_stays-end.result c.index.result.now.start c.requires.order.stalls.sorted
     (λ d. ap (λ (x : Span). x.start) (get_or_default o.stalls.items o.passed d c.index.result.now known ∙ sym c.index.ensures))
-    (not_less c.index.result.now.start c.gate_stays-end.result c.if-is_less.ensures.less))
+    (least_by_test c.index.result.now.start c.gate_stays-end.result c.if-is_less.ensures.less))
