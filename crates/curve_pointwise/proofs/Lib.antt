@@ -8,4 +8,3 @@ pub mod ScaleCall
 pub mod LeftWindow
 pub mod ShiftCall
 pub mod Nowhere
-mod NotBelow

@@ -1,23 +1,17 @@
 use Rattle.std.specs.Prelude.{pos}
 use Rattle.std.proofs.Common.{sym, subst}
 use Rattle.rational.specs.Rational.{ℚ, ◌≤ℚ◌, int}
-use Rattle.rational.specs.Extended.{Ext, ◌≤ₑ◌}
-use Rattle.rational.specs.declared.Extended.TheVariants.{Fin, Inf}
-use Rattle.rational.proofs.Laws.{le_refl}
-use Rattle.rational.proofs.MinMax.{max_q_ge_left}
+use Rattle.rational.specs.Extended.{◌≤ₑ◌}
+use Rattle.rational.specs.declared.Extended.TheVariants.{Fin}
+use Rattle.curve_call.proofs.Excesses.{excess_nonneg}
 use Rattle.upp_curve.specs.Curve.{SpecCurve, value_at}
 use Rattle.min_plus.specs.Functions.{IsNonnegative, zero_q}
-use Rattle.min_plus.specs.Pointwise.{excess, IsPositiveMinus}
+use Rattle.min_plus.specs.Pointwise.{IsPositiveMinus}
 use Rattle.curve_envelope.proofs.operator_tests.running.Goals as goal
-
-not_below : (x y : Ext) → Fin zero_q ≤ₑ excess x y
-not_below x Inf = le_refl zero_q
-not_below Inf (Fin y) = tt
-not_below (Fin x) (Fin y) = max_q_ge_left zero_q _
 
 -- what a curve has above a level is nowhere below 0
 minus_not_below : (f c : SpecCurve) (l : ℚ) → ((t : ℚ) → int (pos 0) ≤ℚ t → IsPositiveMinus (value_at f) l t (value_at c t)) → IsNonnegative (value_at c)
-minus_not_below f c l h t low = subst (λ v. Fin zero_q ≤ₑ v) (sym (h t low)) (not_below (value_at f t) (Fin l))
+minus_not_below f c l h t low = subst (λ v. Fin zero_q ≤ₑ v) (sym (h t low)) (excess_nonneg (value_at f t) (Fin l))
 
 pub pos_minus-requires : goal.pos_minus-requires
 pos_minus-requires g c = c.is_finite.ensures.0 c.if-not-is_finite.false
