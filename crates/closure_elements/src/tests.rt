@@ -1,10 +1,10 @@
 //! Closures worked out by hand.
 
-use test_curves::{value, whole};
 use crate::point_closure;
 use fraction128::{Frac, is_less};
 use std::alloc::Global;
 use std::test::Fail;
+use test_curves::{value, whole};
 use upp_curve::Curve;
 use upp_limits::OpFault;
 

@@ -2,7 +2,6 @@
 
 ghost use Rattle.std.specs.Prelude.{◌≡◌, ◌<◌};
 
-use test_curves::{bucket, curve, piece, repeating, repeats, value, whole};
 use crate::convolve;
 use fraction128::Frac;
 use rational::Extended;
@@ -11,6 +10,7 @@ use std::marker::Brand;
 use std::sync::ledger::{Blank, Ledger};
 use std::test::Fail;
 use steps::Steps;
+use test_curves::{bucket, curve, piece, repeating, repeats, value, whole};
 use upp_curve::{Curve, Tail, equal};
 use upp_limits::OpFault;
 

@@ -15,8 +15,8 @@ ghost use Rattle.upp_normal.specs.Ahead.{IsOverBy, IsTimeIn};
 ghost use Rattle.curve_deviation.specs.Parts.{IsSeen, GoesTo, PartStands, IsEarlyBy};
 ghost use Rattle.curve_least.specs.GapSteps.{earlier_of};
 
-use curve_least::earlier;
 use affine_segment::{Line, Piece, next_start, piece_at, piece_value};
+use curve_least::earlier;
 use fraction128::{Ext, Frac, is_less, sum};
 use upp_curve::{Curve, Tail};
 use upp_normal::stretch_at;

@@ -2,7 +2,6 @@
 
 ghost use Rattle.std.specs.Prelude.{◌≡◌, ◌<◌};
 
-use test_curves::{curve, line_piece, ratio, whole};
 use crate::{horizontal, vertical};
 use affine_segment::{Line, Piece};
 use fraction128::{Ext, Frac};
@@ -12,6 +11,7 @@ use std::marker::Brand;
 use std::sync::ledger::{Blank, Ledger};
 use std::test::Fail;
 use steps::Steps;
+use test_curves::{curve, line_piece, ratio, whole};
 use upp_curve::{Curve, Tail};
 use upp_limits::OpFault;
 
@@ -40,7 +40,11 @@ fn of_server<L: Ledger>(
 {
     let mut steps = Steps::<L>::new(blank);
     let flow = affine(alloc, &[line_piece(0, level, level, slope)], 0)?;
-    let server = affine(alloc, &[line_piece(0, 0, 0, 0), line_piece(10, 0, -1000, 100)], 10)?;
+    let server = affine(
+        alloc,
+        &[line_piece(0, 0, 0, 0), line_piece(10, 0, -1000, 100)],
+        10,
+    )?;
     let first = deviation(&flow, &server, &mut steps)?;
     let second = deviation(&server, &flow, &mut steps)?;
     Ok((first, second))
@@ -131,7 +135,11 @@ fn of_latency<L: Ledger>(
         100 => -1000,
         _ => 0,
     };
-    let server = affine(alloc, &[line_piece(0, 0, 0, 0), line_piece(10, most, late, rate)], 10)?;
+    let server = affine(
+        alloc,
+        &[line_piece(0, 0, 0, 0), line_piece(10, most, late, rate)],
+        10,
+    )?;
     lag(&flow, &server, &mut steps)
 }
 

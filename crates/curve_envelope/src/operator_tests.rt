@@ -8,7 +8,6 @@
 
 ghost use Rattle.std.specs.Prelude.{◌≡◌, ◌<◌};
 
-use test_curves::{curve, whole};
 use crate::{max, min, pos_diff, pos_minus, run_inf, run_sup, scale, shift, sum};
 use affine_segment::{Line, Piece};
 use fraction128::{Ext, Frac};
@@ -19,6 +18,7 @@ use std::marker::Brand;
 use std::sync::ledger::{Blank, Ledger};
 use std::test::Fail;
 use steps::Steps;
+use test_curves::{curve, whole};
 use upp_curve::{Curve, Tail};
 use upp_limits::OpFault;
 

@@ -6,7 +6,6 @@ ghost use Rattle.upp_curve.specs.Curve.{value_at};
 ghost use Rattle.min_plus.specs.Deviations.{IsHorizontalDeviation};
 ghost use Rattle.min_plus.specs.Formulas.{bucket_value, rate_latency_value};
 
-use test_curves::{value, whole};
 use crate::fifo_left;
 use curve_library::{bucket, rate_latency};
 use fraction128::{Ext, Frac};
@@ -16,6 +15,7 @@ use std::marker::Brand;
 use std::sync::ledger::{Blank, Ledger};
 use std::test::Fail;
 use steps::Steps;
+use test_curves::{value, whole};
 use upp_curve::Curve;
 use upp_limits::OpFault;
 

@@ -5,13 +5,13 @@ ghost use Rattle.rational.specs.Rational.{◌≤ℚ◌};
 ghost use Rattle.upp_curve.specs.Curves.{IsCurve};
 ghost use Rattle.upp_curve.specs.Steady.{steady, IsWholePeriods};
 
-use test_curves::ratio;
 use crate::least_periods;
 use affine_segment::{Line, Piece};
 use fraction128::{Frac, is_less};
 use rational::Extended;
 use std::alloc::{AllocError, Global};
 use std::test::Fail;
+use test_curves::ratio;
 use upp_curve::{Curve, Tail};
 use upp_limits::{OpKind, gauge};
 use upp_normal::{RawCurve, normalise, steady_time};

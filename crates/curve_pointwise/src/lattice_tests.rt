@@ -2,7 +2,6 @@
 
 ghost use Rattle.std.specs.Prelude.{◌≡◌, ◌<◌};
 
-use test_curves::{curve, ratio, value, whole};
 use crate::{max, min, pos_diff, pos_minus};
 use affine_segment::{Line, Piece};
 use fraction128::Frac;
@@ -12,6 +11,7 @@ use std::marker::Brand;
 use std::sync::ledger::{Blank, Ledger};
 use std::test::Fail;
 use steps::Steps;
+use test_curves::{curve, ratio, value, whole};
 use upp_curve::{Curve, Tail};
 use upp_limits::OpFault;
 

@@ -2,7 +2,6 @@
 
 ghost use Rattle.std.specs.Prelude.{◌≡◌, ◌<◌};
 
-use test_curves::{curve, line_piece, value, whole};
 use crate::{max, min, scale, shift, sum};
 use affine_segment::Piece;
 use fraction128::Frac;
@@ -12,6 +11,7 @@ use std::marker::Brand;
 use std::sync::ledger::{Blank, Ledger};
 use std::test::Fail;
 use steps::Steps;
+use test_curves::{curve, line_piece, value, whole};
 use upp_curve::{Curve, Tail};
 use upp_limits::OpFault;
 

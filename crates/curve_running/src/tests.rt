@@ -5,7 +5,6 @@ ghost use Rattle.rational.specs.Rational.{int};
 ghost use Rattle.upp_curve.specs.Curve.{HasSameValues};
 ghost use Rattle.upp_kinds.specs.WorkedRows.{dip};
 
-use test_curves::{ratio, value, whole};
 use crate::{run_inf, run_sup};
 use affine_segment::{Line, Piece};
 use fraction128::Frac;
@@ -15,6 +14,7 @@ use std::marker::Brand;
 use std::sync::ledger::{Blank, Ledger};
 use std::test::Fail;
 use steps::Steps;
+use test_curves::{ratio, value, whole};
 use upp_curve::{Curve, Tail};
 use upp_limits::OpFault;
 use upp_normal::{RawCurve, normalise};

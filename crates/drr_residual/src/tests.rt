@@ -2,7 +2,6 @@
 
 ghost use Rattle.std.specs.Prelude.{◌≡◌, ◌<◌};
 
-use test_curves::{curve, fraction_piece, ratio};
 use crate::drr_service;
 use fraction128::Frac;
 use std::alloc::Global;
@@ -10,6 +9,7 @@ use std::marker::Brand;
 use std::sync::ledger::{Blank, Ledger};
 use std::test::Fail;
 use steps::Steps;
+use test_curves::{curve, fraction_piece, ratio};
 use upp_curve::{Curve, Tail, equal};
 use upp_limits::OpFault;
 
@@ -17,7 +17,10 @@ use upp_limits::OpFault;
 fn late(alloc: Global, rate: Frac, latency: Frac, icept: Frac) -> Result<Curve, OpFault> {
     let zero = Frac::zero();
     let tail = Tail::Affine { rank: latency };
-    let both = [fraction_piece(zero, zero, zero, zero), fraction_piece(latency, zero, icept, rate)];
+    let both = [
+        fraction_piece(zero, zero, zero, zero),
+        fraction_piece(latency, zero, icept, rate),
+    ];
     curve(alloc, &both, tail)
 }
 

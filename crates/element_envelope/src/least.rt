@@ -6,14 +6,14 @@ ghost use Rattle.upp_curve.specs.Unrolled.{upto};
 ghost use Rattle.affine_segment.specs.Reading.{nothing_at};
 ghost use Rattle.element_envelope.specs.EnvelopeWindows.{EnvelopeRoom, IsEnvelopeWindow};
 
-use fraction128::Frac;
-use upp_normal::count_before;
 use crate::pair::joined;
 use crate::window::joined_window;
 use affine_segment::{Element, Piece};
 use curve_window::window_lower;
+use fraction128::Frac;
 use rational::Extended;
 use std::alloc::{AllocError, Global};
+use upp_normal::count_before;
 
 // The window that is infinite throughout.
 fn nothing(alloc: Global) -> Result<Vec<Piece>, AllocError>

@@ -1,11 +1,11 @@
 //! Pieces cut into elements, and what two elements make as pieces, worked out by hand.
 
-use test_curves::whole;
 use crate::{cut, joined_window};
 use affine_segment::{Element, Joined, Line, Piece};
 use fraction128::Frac;
 use rational::Extended;
 use std::test::Fail;
+use test_curves::whole;
 
 fn line(icept: i128, slope: i128) -> Line {
     Line {

@@ -6,7 +6,6 @@ ghost use Rattle.rational.specs.Extended.{◌≤ₑ◌};
 ghost use Rattle.rational.specs.declared.Extended.TheVariants.{Fin};
 ghost use Rattle.upp_curve.specs.Curve.{value_at};
 
-use test_curves::{bucket, curve, line_piece, ratio, value, whole};
 use crate::fifo_service;
 use curve_deviation::horizontal;
 use fraction128::{Ext, Frac};
@@ -17,6 +16,7 @@ use std::marker::Brand;
 use std::sync::ledger::{Blank, Ledger};
 use std::test::Fail;
 use steps::Steps;
+use test_curves::{bucket, curve, line_piece, ratio, value, whole};
 use upp_curve::{Curve, Tail, equal};
 use upp_limits::OpFault;
 

@@ -2,7 +2,6 @@
 
 ghost use Rattle.std.specs.Prelude.{◌≡◌, ◌<◌};
 
-use test_curves::{curve, fraction_piece, ratio};
 use crate::packetised;
 use fraction128::Frac;
 use std::alloc::Global;
@@ -10,6 +9,7 @@ use std::marker::Brand;
 use std::sync::ledger::{Blank, Ledger};
 use std::test::Fail;
 use steps::Steps;
+use test_curves::{curve, fraction_piece, ratio};
 use upp_curve::{Curve, Tail, equal};
 use upp_limits::OpFault;
 

@@ -2,7 +2,6 @@
 
 ghost use Rattle.std.specs.Prelude.{◌≡◌, ◌<◌};
 
-use test_curves::{bucket, curve, fraction_piece, ratio, whole};
 use crate::priority_service;
 use fraction128::Frac;
 use std::alloc::Global;
@@ -10,6 +9,7 @@ use std::marker::Brand;
 use std::sync::ledger::{Blank, Ledger};
 use std::test::Fail;
 use steps::Steps;
+use test_curves::{bucket, curve, fraction_piece, ratio, whole};
 use upp_curve::{Curve, Tail, equal};
 use upp_limits::OpFault;
 

@@ -1,12 +1,12 @@
 //! Closures of curves with segments after 0 that have an end, worked out by hand.
 
-use test_curves::{curve, piece, value, whole};
 use crate::tests::closure;
 use fraction128::Frac;
 use rational::Extended;
 use std::marker::Brand;
 use std::sync::ledger::Blank;
 use std::test::Fail;
+use test_curves::{curve, piece, value, whole};
 use upp_curve::{Tail, equal};
 use upp_limits::OpFault;
 

@@ -4,7 +4,6 @@ ghost use Rattle.std.specs.Prelude.{◌≡◌, ◌<◌, IsTrue};
 ghost use Rattle.upp_curve.specs.Curve.{value_at};
 ghost use Rattle.min_plus.specs.Functions.{IsFinite, IsNonnegative};
 
-use test_curves::{curve, line_piece, repeats, value, whole};
 use crate::from_start::convolve_from;
 use fraction128::Frac;
 use rational::Extended;
@@ -14,6 +13,7 @@ use std::marker::Brand;
 use std::sync::ledger::{Blank, Ledger};
 use std::test::Fail;
 use steps::Steps;
+use test_curves::{curve, line_piece, repeats, value, whole};
 use upp_curve::{Curve, Tail, equal};
 use upp_limits::OpFault;
 

@@ -5,7 +5,6 @@ ghost use Rattle.rational.specs.Extended.{◌≤ₑ◌};
 ghost use Rattle.upp_curve.specs.Curve.{value_at};
 ghost use Rattle.min_plus.specs.Functions.{zero_q};
 
-use test_curves::{bucket, curve, piece, ratio, whole};
 use crate::{close, is_subadditive};
 use fraction128::{Frac, is_less};
 use rational::Extended;
@@ -14,6 +13,7 @@ use std::marker::Brand;
 use std::sync::ledger::{Blank, Ledger};
 use std::test::Fail;
 use steps::Steps;
+use test_curves::{bucket, curve, piece, ratio, whole};
 use upp_curve::{Curve, Tail, equal};
 use upp_limits::OpFault;
 

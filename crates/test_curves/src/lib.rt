@@ -84,8 +84,7 @@ pub fn curve(alloc: Global, list: &[Piece], tail: Tail) -> Result<Curve, OpFault
 }
 
 /// A burst, and then the rate.
-pub fn bucket(alloc: Global, burst: i128, rate: i128) -> Result<Curve, OpFault>
-{
+pub fn bucket(alloc: Global, burst: i128, rate: i128) -> Result<Curve, OpFault> {
     let list = [line_piece(0, burst, burst, rate)];
     curve(alloc, &list, Tail::Affine { rank: Frac::zero() })
 }
