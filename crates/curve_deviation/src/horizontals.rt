@@ -13,16 +13,16 @@ ghost use Rattle.curve_call.specs.Frames.{IsFrame};
 ghost use Rattle.curve_deviation.specs.Parts.{IsSeen};
 ghost use Rattle.curve_deviation.specs.Stages.{AreFinite, IsWideCall, IsFirst, IsTurn, AreFound};
 
-use crate::known::{is_known, is_level};
-use crate::search::{Stage, difference, least_past, narrow_window, value_in};
+use crate::known::is_known;
+use crate::search::{Stage, least_past, narrow_window, value_in};
 use crate::walks::longest_lag;
 use curve_call::{Frame, within_both};
-use fraction128::{Ext, Frac};
+use fraction128::{Ext, Frac, difference};
 use rational::Extended;
 use std::sync::ledger::Ledger;
 use steps::Steps;
 use upp_curve::Curve;
-use upp_limits::{OpFault, OpKind};
+use upp_limits::{OpFault, OpKind, is_level};
 use upp_normal::steady_time;
 
 /// A time and the first curve's value there.
