@@ -40,8 +40,8 @@ use Rattle.upp_normal.proofs.AnswerRoom.{more_largest}
 
 -- ---- the rise stands
 pub record RiseHasRoom (z : Sizes) (y : ℚ) : Type 0 where
-  whole : Whole (grid_of z) y
-  within : Within (times_largest 8 z) y
+  pub whole : Whole (grid_of z) y
+  pub within : Within (times_largest 8 z) y
 
 by_cases : (z : Sizes) (P : Type 0) (a b rise : ℚ) → RisesBy P a b rise → P ⊎ ¬ P → RiseHasRoom z a → RiseHasRoom z b → RiseHasRoom z rise
 by_cases z P a b rise R (inl h) A B = subst (RiseHasRoom z) (sym (R.so h)) A
