@@ -40,7 +40,7 @@ pub returns-then-is_less-2 : goal.returns-then-is_less-2
 returns-then-is_less-2 c =
     let low = not_less_as c.line_at.result c.line_at-high.result (line_at c.args.c.now.second c.args.c.now.until) (line_at c.args.c.now.first c.args.c.now.end) c.line_at.ensures c.line_at-high.ensures c.if-is_less.ensures.less in
     let high = less_as c.line_at-2.result c.line_at-high.result (line_at c.args.c.now.second c.args.c.now.from) (line_at c.args.c.now.first c.args.c.now.end) c.line_at-2.ensures c.line_at-high.ensures (c.if-is_less-2.ensures.less.0 refl) in
-    ending_lag c.args.c.now c.gap_over-then-is_less-2.result c.requires.rising c.requires.steep low high c.gap_over-then-is_less-2.ensures.less
+    ending_lag c.args.c.now c.gap_over-then-is_less-2.result c.requires.rising c.requires.steep low high c.gap_over-then-is_less-2.ensures
 
 pub returns : goal.returns
 returns c =
