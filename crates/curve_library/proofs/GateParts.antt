@@ -55,7 +55,7 @@ gate_fits R c s rate slot closes small =
     let raw = (gated_normal R c s rate slot closes).raw in
     let H = held k raw small in
     let S = gate_stands R c s H in
-    let end : own_end k ≡ zero_q +ℚ c = end_is k.pieces c (R *ℚ s) in
+    let end : own_end k ≡ zero_q +ℚ c = end_is k.pieces zero_q c (R *ℚ s) in
     let at_end : c ≤ℚ own_end k = subst (λ x. c ≤ℚ x) (sym end) (with2 c s (λ z. omega (arith, z.le, z.lt, z.same))) in
     let early : s ≤ℚ own_end k = subst (λ x. s ≤ℚ x) (sym end) (with2 c s (λ z. omega (arith, z.le, z.lt, z.same))) in
     let some : zero_q ≤ℚ c = with2 c s (λ z. omega (arith, z.le, z.lt, z.same)) in
@@ -78,9 +78,8 @@ gate_few R c s rate slot fits = elim (le_or_lt R zero_q) [
   | inr l ↦ elim (le_or_lt c s) [
     | inl h ↦ subst (λ k. own_tally k ≤ 2 ^ 20) (never_closed R c s l h) (line_few zero_q R)
     | inr h ↦
-        let up : zero_q ≤ℚ c -ℚ s = with2 c s (λ z. omega (arith, z.le, z.lt, z.same)) in
         let some : zero_q <ℚ c = with2 c s (λ z. omega (arith, z.le, z.lt, z.same)) in
-        let k = periodic_few (flat zero_q zero_q ∷ piece (c -ℚ s) zero_q (neg_ℚ (R *ℚ (c -ℚ s))) R ∷ []) c (R *ℚ s) some (gated_normal R c s l slot h).raw.starts (le_refl zero_q, (up, tt)) in
+        let k = periodic_few (flat zero_q zero_q ∷ piece (c -ℚ s) zero_q (neg_ℚ (R *ℚ (c -ℚ s))) R ∷ []) zero_q c (R *ℚ s) some (gated_normal R c s l slot h).raw.starts in
         subst (λ k. own_tally k ≤ 2 ^ 20) (is_gated R c s l h) (omega (arith, k))
   ]
 ]

@@ -77,7 +77,7 @@ one_stands l P y late raw none low small =
       first = H.stands.spans.0.at;
       rise = H.stands.tail.value;
       some = raw.tail.some;
-      early = subst (λ x. P ≤ℚ x) (sym (end_is c.pieces P l)) (with1 P (λ c. omega (arith, c.le, c.lt, c.same)));
+      early = subst (λ x. P ≤ℚ x) (sym (end_is c.pieces zero_q P l)) (with1 P (λ c. omega (arith, c.le, c.lt, c.same)));
       less = with2 P late (λ c. omega (arith, c.le, c.lt, c.same));
     }
 
@@ -95,7 +95,7 @@ two_stands l P y late raw small =
       first = H.stands.spans.0.at;
       rise = H.stands.tail.value;
       some = raw.tail.some;
-      early = subst (λ x. P ≤ℚ x) (sym (end_is c.pieces P l)) (with1 P (λ c. omega (arith, c.le, c.lt, c.same)));
+      early = subst (λ x. P ≤ℚ x) (sym (end_is c.pieces zero_q P l)) (with1 P (λ c. omega (arith, c.le, c.lt, c.same)));
       less = with2 P late (λ c. omega (arith, c.le, c.lt, c.same));
     }
 
@@ -190,12 +190,12 @@ steps_few l P y late normal = elim (le_or_lt late zero_q) [
   | inl h ↦
       let e = is_one l P y late h in
       let raw = (subst IsNormal (sym e) normal).raw in
-      let k = periodic_few (flat zero_q y ∷ []) P l raw.tail.some raw.starts (le_refl zero_q, tt) in
+      let k = periodic_few (flat zero_q y ∷ []) zero_q P l raw.tail.some raw.starts in
       subst (λ c. own_tally c ≤ 2 ^ 20) e (omega (arith, k))
   | inr h ↦
       let e = is_two l P y late h in
       let raw = (subst IsNormal (sym e) normal).raw in
-      let k = periodic_few (flat zero_q y ∷ flat (P -ℚ late) (y +ℚ l) ∷ []) P l raw.tail.some raw.starts (le_refl zero_q, (le_of_lt raw.starts.1.0, tt)) in
+      let k = periodic_few (flat zero_q y ∷ flat (P -ℚ late) (y +ℚ l) ∷ []) zero_q P l raw.tail.some raw.starts in
       subst (λ c. own_tally c ≤ 2 ^ 20) e (omega (arith, k))
 ]
 
