@@ -21,7 +21,7 @@ use Rattle.net_cells.specs.Meanings.{number, CellTable}
 use Rattle.net_cells.specs.Means.{HaveNumbers, with_links}
 use Rattle.net_cells.specs.NumberSums.{Sums}
 use Rattle.net_cells.specs.Answers.{Answers, MakesNumber}
-use Rattle.net_cells.proofs.Lists.{Has, map_has, range_has}
+use Rattle.net_cells.proofs.Lists.{map_has, range_has}
 use Rattle.net_cells.proofs.Stored.{few_hops}
 use Rattle.curve_call.specs.Calls.{goes_on, stops}
 use Rattle.cell_table.specs.Values.{answer_of}
@@ -29,6 +29,7 @@ use Rattle.cell_operators.specs.TableValues.{IsNumberAt}
 use Rattle.cell_kinds.specs.declared.number_sums.Added.{Added}
 use Rattle.cell_kinds.specs.Tallies.{AreAdded}
 use Rattle.cell_kinds.proofs.HaveNumbers.{have_all, have_more, have_none}
+use Rattle.run_laws.proofs.Members.{Has}
 
 -- ---- hop after hop
 abbrev pub delays_to : ℕ → ℕ → List Cell

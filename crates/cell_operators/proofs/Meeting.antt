@@ -13,8 +13,8 @@ use Rattle.net_cells.specs.Meanings.{Meaning, curve, number, CellTable, IsCurveI
 use Rattle.net_cells.specs.Formulas.{Formula, leaves, made, value_of}
 use Rattle.net_cells.specs.CellFormulas.{formula, sum_of, sum_from, packets_to, served_to}
 use Rattle.net_cells.specs.Equations.{MeetsEquation, MeetsBelow}
-use Rattle.net_cells.proofs.Lists.{Has, has_contains, has_left, has_right}
 use Rattle.cell_operators.specs.TableValues.{HasCurve, HasNumber}
+use Rattle.run_laws.proofs.Members.{Has, has_contains, has_left, has_right}
 
 -- the cells of P meet their equations, and what they are made of is of P too
 pub record Meets (net : Net) (at : CellTable) (P : Cell → Type 0) : Type 0 where

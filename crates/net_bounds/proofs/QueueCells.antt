@@ -24,12 +24,12 @@ use Rattle.net_cells.specs.Meanings.{Meaning, curve, CellTable, IsCurveIn}
 use Rattle.net_cells.specs.CellFormulas.{queue_service}
 use Rattle.net_cells.specs.Means.{Means, IsPriorityCurve, IsDrrCurve}
 use Rattle.net_cells.specs.Equations.{MeetsEquations}
-use Rattle.net_cells.proofs.Lists.{Has}
 use Rattle.net_bounds.specs.TableValues.{HasCurve, HasNumber}
 use Rattle.net_bounds.proofs.ListSums.{sum_over}
 use Rattle.net_bounds.proofs.Cells.{values, of_values, curve_from, number_from, curve_map, HasValues, sum_reads, AllCurves}
 use Rattle.net_bounds.proofs.FormulaParts.{vertical_same, a_curve, less_reads, number_map, deviation_reads}
 use Rattle.net_bounds.proofs.HopCells.{in_curve}
+use Rattle.run_laws.proofs.Members.{Has}
 
 -- the curve of a flow at a hop, and of a queue
 abbrev pub arriving_at : CellTable → Visit → ℚ → Ext

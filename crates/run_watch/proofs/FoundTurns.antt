@@ -8,7 +8,7 @@ use Rattle.std.specs.declared.cmp.Ordering.TheVariants.{Less, Equal, Greater}
 use Rattle.rational.specs.Rational.{ℚ, int, ◌+ℚ◌, ◌-ℚ◌, ◌/ℚ◌, ◌≤ℚ◌, ◌<ℚ◌, le_q, lt_q}
 use Rattle.rational.specs.Ratio.{cmp_q}
 use Rattle.rational.proofs.Comparison.{cmp_equal, cmp_self}
-use Rattle.fraction128.specs.Order.{same_q}
+use Rattle.fraction128.specs.Order.{same_q, same_out}
 use Rattle.run_laws.specs.Cards.{all, ServerStep}
 use Rattle.run_laws.specs.Servers as servers
 use Rattle.run_laws.specs.Counts.{when}
@@ -29,13 +29,6 @@ use Rattle.run_watch.specs.Held.{IsSeen}
 use Rattle.run_watch.proofs.FoundStretches.{HasStretch, stretch_found, found_stretch}
 
 -- ---- the test
-pub same_in : (x y : ℚ) → same_q x y ≡ true → x ≡ y
-same_in x y e = cmp_equal x y (is_equal (cmp_q x y) e)
-  where
-    is_equal : (o : Ordering) → is_eq o ≡ true → o ≡ Equal
-    is_equal Less k = absurd (true≢false (sym k))
-    is_equal Equal k = refl
-    is_equal Greater k = absurd (true≢false (sym k))
 
 pub same_out : (x y : ℚ) → x ≡ y → same_q x y ≡ true
 same_out x y e = subst (λ z. same_q x z ≡ true) e (ap is_eq (cmp_self x))
@@ -73,7 +66,7 @@ at_end_or_same (s ∷ ss) t = elim (work_same s.start s.end s.bits t) [
 
 changed : (w : Watched) (t : ℚ) → rate_before (spans_of w.works.items) t ≢ rate_after (spans_of w.works.items) t → Among t (change_at w t)
 changed w t n = elim (cases_Bool (same_q (rate_before (spans_of w.works.items) t) (rate_after (spans_of w.works.items) t))) [
-  | inl e ↦ absurd (n (same_in (rate_before (spans_of w.works.items) t) (rate_after (spans_of w.works.items) t) e))
+  | inl e ↦ absurd (n (same_out (rate_before (spans_of w.works.items) t) (rate_after (spans_of w.works.items) t) e))
   | inr e ↦ rw e (inl refl)
 ]
 

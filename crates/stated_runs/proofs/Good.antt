@@ -18,6 +18,7 @@ use Rattle.stated_runs.specs.DueSteps.{IsLeaving, IsResumed, IsStarted, IsVisite
 use Rattle.stated_runs.specs.Simulated.{IsNext}
 use Rattle.stated_runs.proofs.Lists.{In, contains_in}
 use Rattle.stated_runs.proofs.GoodServers.{IsExtendedBy, extends_same, IsGoodAt, good_later}
+pub use Rattle.run_laws.proofs.Views.{own_state, other_state}
 
 -- a packet that has entered: its path is over the network, and it has some bits
 pub record IsEntry (net : Routes) (e : Entry) : Type 0 where
@@ -39,12 +40,6 @@ pub record IsGood (S : Setup) (r : RunState) (T : ℚ) : Type 0 where
   pub from_zero : int (pos 0) ≤ℚ T
 
 -- ---- the servers after a step
-pub own_state : (net : Routes) (r : RunState) (x : Step) → server_of net x < length r.servers
-    → state_at (next_run net r x) (server_of net x) ≡ next (server_at net (server_of net x)).discipline (state_at r (server_of net x)) (seen net r.entered x)
-own_state net r x h = get_or-set_same r.servers (server_of net x) _ (start Fifo) h
-
-pub other_state : (net : Routes) (r : RunState) (x : Step) (s : ℕ) → s ≢ server_of net x → state_at (next_run net r x) s ≡ state_at r s
-other_state net r x s h = get_or-set_other r.servers (server_of net x) s _ (start Fifo) h
 
 -- ---- entering
 pub extends_push : (entered : List Entry) (e : Entry) → IsExtendedBy entered (entered ++ e ∷ [])
