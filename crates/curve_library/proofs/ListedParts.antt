@@ -137,7 +137,7 @@ pieces_fault ps tail u NoMemory w h = tt
 
 -- ---- the value at 0
 
-read_first : (q : Piece) (qs : List Piece) → q.x ≡ zero_q → RisesFrom q.x qs → read (q ∷ qs) zero_q ≡ q.at
+pub read_first : (q : Piece) (qs : List Piece) → q.x ≡ zero_q → RisesFrom q.x qs → read (q ∷ qs) zero_q ≡ q.at
 read_first q qs e r = read_is q qs zero_q ∙ ap (read_in q qs) (sym e) ∙ at_start q qs r
 
 value_zero : (q : Piece) (qs : List Piece) (tail : Tail) → IsNormal record { pieces = q ∷ qs; tail = tail } → value_at record { pieces = q ∷ qs; tail = tail } zero_q ≡ q.at
@@ -160,7 +160,7 @@ starts_with c ps p N e h f = start_value c.pieces c.tail p N (subst (λ z. 1 ≤
 rising_same : (f g : ℚ → Ext) → ((t : ℚ) → zero_q ≤ℚ t → f t ≡ g t) → IsRising f → IsRising g
 rising_same f g same rise s t low up = subst (λ v. v ≤ₑ g t) (same s low) (subst (λ v. f s ≤ₑ v) (same t (le_trans low up)) (rise s t low up))
 
-smooth_same : (f g : ℚ → Ext) → ((t : ℚ) → zero_q ≤ℚ t → f t ≡ g t) → IsContinuous f → IsContinuous g
+pub smooth_same : (f g : ℚ → Ext) → ((t : ℚ) → zero_q ≤ℚ t → f t ≡ g t) → IsContinuous f → IsContinuous g
 smooth_same f g same smooth t e low some =
     let (d, N) = smooth t e low some in (
       d,

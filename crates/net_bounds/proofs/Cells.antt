@@ -74,11 +74,6 @@ pub curve_from : (at : CellTable) (c : Cell) (P : (ℚ → Ext) → Type 0) (v :
 curve_from at c P (curve f) e h = record { value = f; is = e; holds = h }
 curve_from at c P (number x) e h = absurd h
 
-pub number_from : (at : CellTable) (c : Cell) (P : Ext → Type 0) (v : Meaning) → at c ≡ Some v → IsNumberIn P v
-    → HasNumber at c P
-number_from at c P (curve f) e h = absurd h
-number_from at c P (number x) e h = record { value = x; is = e; holds = h }
-
 pub curve_map : (P Q : SpecCurve → Type 0) (v : Meaning) → ((f : SpecCurve) → P f → Q f) → IsCurveIn P v → IsCurveIn Q v
 curve_map P Q (curve f) m h = m f h
 curve_map P Q (number x) m h = absurd h

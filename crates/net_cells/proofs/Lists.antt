@@ -3,7 +3,7 @@ use Rattle.std.proofs.Common.{◌≡◌, ℕ, ◌<◌, ◌≤◌, ◌+◌, zero,
 use Rattle.std.specs.Prelude.{Contains, AllPairs, ◌≢◌}
 use Rattle.std.specs.List.{filter, flat_map, range_with_len}
 use Rattle.std.proofs.lemmas.Bool.{cases_lt}
-use Rattle.run_laws.proofs.Members.{Has, at_has, contains_has, has_contains, has_left, has_right, has_either, has_map, has_flat}
+pub use Rattle.run_laws.proofs.Members.{Has, at_has, contains_has, has_contains, has_left, has_right, has_either, has_map, has_flat}
 
 -- none of them is there twice
 abbrev pub Apart : {X : Type 0} → List X → Type 0
@@ -16,7 +16,6 @@ Before x y [] = ⊥
 Before x y (z ∷ zs) = ((z ≡ x) × Has zs y) ⊎ Before x y zs
 
 -- ---- by places
-
 pub apart_pairs : {X : Type 0} (xs : List X) → Apart xs → AllPairs (λ x y. x ≢ y) xs
 apart_pairs [] a i j d h k = absurd (omega (arith, k))
 apart_pairs (x ∷ xs) a i zero d h k = absurd (omega (arith, h))
@@ -24,7 +23,6 @@ apart_pairs (x ∷ xs) a zero (suc j) d h k = λ e. a.0 (at_has xs j d x (omega 
 apart_pairs (x ∷ xs) a (suc i) (suc j) d h k = apart_pairs xs a.1 i j d (omega (arith, h)) (omega (arith, k))
 
 -- ---- joined
-
 pub apart_joined : {X : Type 0} (xs ys : List X) → Apart xs → Apart ys → ((x : X) → Has xs x → ¬ (Has ys x))
     → Apart (xs ++ ys)
 apart_joined [] ys a b never = b
@@ -34,7 +32,6 @@ apart_joined (x ∷ xs) ys a b never = (
 )
 
 -- ---- mapped
-
 pub map_has : {X Y : Type 0} (f : X → Y) (xs : List X) (y : Y) → Has (map f xs) y → (x : X) × Has xs x × (f x ≡ y)
 map_has f [] y h = absurd h
 map_has f (z ∷ zs) y (inl e) = (z, inl refl, e)
@@ -83,7 +80,6 @@ apart_filter {X} p (y ∷ ys) a = here (p y) (apart_filter p ys a.1)
     here false rest = rest
 
 -- ---- one list for each element
-
 pub flat_has : {X Y : Type 0} (f : X → List Y) (xs : List X) (y : Y) → Has (flat_map f xs) y
     → (x : X) × Has xs x × Has (f x) y
 flat_has f [] y h = absurd h

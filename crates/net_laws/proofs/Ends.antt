@@ -231,7 +231,6 @@ ends net run i p e u bits r xs done h (g ∷ hs) lawful path is flow whole c sin
     ]
 
 -- ---- by the hops
-
 stay_at : (net : Routes) (run : SpecRun) (i s p : ℕ) (e : Entry) (u : ℚ) (most : Ext) → e.flow ≡ i → (c : ComesIn net run s p e u)
     → AreAtMost most (hop_delays (of_flow i) run.end (view net run s)) → Fin (gone_of net run s p c.state c.rest -ℚ u) ≤ₑ most
 stay_at net run i s p e u most flow c h =

@@ -71,7 +71,6 @@ left_bits C p (Leaves c t ∷ V) h = elim (cases_Bool (C c)) [
 ]
 
 -- so they are among those that were there before it, and it waits behind the others of these
-
 behind : (gone inside there rest : List Card) (p : Card) → gone ++ inside ≡ there ++ p ∷ rest → NoneOf p.packet gone
     → Begins gone inside there rest p
 behind [] inside there rest p h k = record { ahead = there; is = h; bits = with1 (bits_of there) (λ c. omega (arith, c.le, c.lt, c.same)) }

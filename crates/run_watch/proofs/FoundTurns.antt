@@ -8,7 +8,8 @@ use Rattle.std.specs.declared.cmp.Ordering.TheVariants.{Less, Equal, Greater}
 use Rattle.rational.specs.Rational.{ℚ, int, ◌+ℚ◌, ◌-ℚ◌, ◌/ℚ◌, ◌≤ℚ◌, ◌<ℚ◌, le_q, lt_q}
 use Rattle.rational.specs.Ratio.{cmp_q}
 use Rattle.rational.proofs.Comparison.{cmp_equal, cmp_self}
-use Rattle.fraction128.specs.Order.{same_q, same_out}
+use Rattle.fraction128.specs.Order.{same_q}
+pub use Rattle.fraction128.specs.Order.{same_out as same_in}
 use Rattle.run_laws.specs.Cards.{all, ServerStep}
 use Rattle.run_laws.specs.Servers as servers
 use Rattle.run_laws.specs.Counts.{when}
@@ -29,7 +30,6 @@ use Rattle.run_watch.specs.Held.{IsSeen}
 use Rattle.run_watch.proofs.FoundStretches.{HasStretch, stretch_found, found_stretch}
 
 -- ---- the test
-
 pub same_out : (x y : ℚ) → x ≡ y → same_q x y ≡ true
 same_out x y e = subst (λ z. same_q x z ≡ true) e (ap is_eq (cmp_self x))
 
@@ -66,7 +66,7 @@ at_end_or_same (s ∷ ss) t = elim (work_same s.start s.end s.bits t) [
 
 changed : (w : Watched) (t : ℚ) → rate_before (spans_of w.works.items) t ≢ rate_after (spans_of w.works.items) t → Among t (change_at w t)
 changed w t n = elim (cases_Bool (same_q (rate_before (spans_of w.works.items) t) (rate_after (spans_of w.works.items) t))) [
-  | inl e ↦ absurd (n (same_out (rate_before (spans_of w.works.items) t) (rate_after (spans_of w.works.items) t) e))
+  | inl e ↦ absurd (n (same_in (rate_before (spans_of w.works.items) t) (rate_after (spans_of w.works.items) t) e))
   | inr e ↦ rw e (inl refl)
 ]
 

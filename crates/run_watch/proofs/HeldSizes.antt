@@ -210,7 +210,6 @@ time_fits z end t ps works A O H T =
     }
 
 -- ---- moves by the start of a piece
-
 pub moves_fit : (z : Sizes) (end : ℚ) (qs : List Piece) (ps : List ℚ) → AreLimited z end → OperandPieces z end qs → EachTime (IsTime z end) ps → TimesFit qs ps
 moves_fit z end qs [] A O h = tt
 moves_fit z end qs (p ∷ ps) A O h = (

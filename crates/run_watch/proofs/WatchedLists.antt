@@ -30,7 +30,6 @@ time_at P (u ∷ ts) zero t h l e = subst P (sym e) h.0
 time_at P (u ∷ ts) (suc k) t h l e = time_at P ts k t h.1 (omega arith) e
 
 -- ---- the first time after u
-
 later_than : (from : ℚ) (ts : List ℚ) (j : ℕ) (d : ℚ) → TimesRise from ts → j < length ts → from ≤ℚ get_or ts j d
 later_than from [] j d h l = absurd (omega arith)
 later_than from (t ∷ ts) zero d h l = h.0

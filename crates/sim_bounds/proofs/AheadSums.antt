@@ -92,7 +92,6 @@ servers_start net s j [] = refl
 servers_start net s j (x ∷ xs) = let h = servers_start net s (suc j) xs in omega (arith, h)
 
 -- ---- links
-
 -- entries that count as one have the same bits
 same_bits : (net : Routes) (entered : List Entry) (s : ℕ) (d e : Due) → same_due d e ≡ true → due_bits net entered s d ≡ due_bits net entered s e
 same_bits net entered s d e h =

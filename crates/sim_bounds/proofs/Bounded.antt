@@ -373,7 +373,6 @@ bounds_work S place ok fw r T g h i p a b w due =
     }
 
 -- ---- a packet leaves
-
 bounds_leave : (S : Setup) (place : ℕ → ℕ) → IsSetup S → IsForward S place → (r : RunState) (T : ℚ) → IsGood S r T → IsBounded S place r
     → (i p : ℕ) (t : ℚ) → IsDue S r (Leave i p t) → KeepsBounds S place r (Leave i p t)
 bounds_leave S place ok fw r T g h i p t due =
@@ -400,7 +399,6 @@ bounds_leave S place ok fw r T g h i p t due =
     }
 
 -- ---- a server turns to a queue
-
 bounds_visit : (S : Setup) (place : ℕ → ℕ) → IsSetup S → IsForward S place → (r : RunState) (T : ℚ) → IsGood S r T → IsBounded S place r
     → (i q : ℕ) (t : ℚ) → IsDue S r (Visit i q t) → KeepsBounds S place r (Visit i q t)
 bounds_visit S place ok fw r T g h i q t due =

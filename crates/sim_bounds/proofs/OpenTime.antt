@@ -164,7 +164,6 @@ gate_flat g ok x y from l closed = elim (le_or_lt y x) [
     s = g.slot
 
 -- ---- times the ratio of cycle and slot it is the time, but for one cycle
-
 pub ratio_least : (c s : ℚ) → int (pos 0) <ℚ s → s ≤ℚ c → int (pos 1) ≤ℚ c /ℚ s
 ratio_least c s h l = (Rattle.rational.proofs.Quotients.le_div c s (int (pos 1)) h).1 (subst (λ y. y ≤ℚ c) (sym (one_mul s)) l)
 

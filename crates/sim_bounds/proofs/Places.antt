@@ -16,7 +16,6 @@ use Rattle.stated_runs.proofs.Lists.{In, in_contains, contains_in}
 use Rattle.sim_bounds.proofs.Members.{each_in}
 
 -- ---- tests
-
 one_true : (p q : Bool) → (p || q) ≡ true → (p ≡ true) ⊎ (q ≡ true)
 one_true true q e = inl refl
 one_true false q e = inr e

@@ -81,7 +81,6 @@ cycle_whole d None w = whole_int d (pos 0)
 cycle_whole d (Some g) w = w.0
 
 -- ---- sizes
-
 front_each : (P : StallTimes → Type 0) (xs ys : List StallTimes) → AllByRecursion P (xs ++ ys) → AllByRecursion P xs
 front_each P [] ys h = tt
 front_each P (x ∷ xs) ys h = (h.0, front_each P xs ys h.1)

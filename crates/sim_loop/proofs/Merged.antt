@@ -11,7 +11,7 @@ use Rattle.sim_servers.specs.Stations.{due_for}
 use Rattle.sim_servers.proofs.Firsts.{no_later_refl, no_later_trans}
 use Rattle.sim_states.specs.declared.arrival.Arrival.{Arrival}
 use Rattle.sim_states.specs.Running.{enter_first, reach_first, station_due, IsCandidate, IsFirstCandidate}
-use Rattle.index_links.proofs.Popped.{first_has}
+pub use Rattle.index_links.proofs.Popped.{first_has}
 
 -- with no server there is the packet that enters
 pub first_entry : (S : Setup) (stations : List Station) (links : Chains) (arrivals : List Arrival) (n : ℕ) (o : Option Due)

@@ -39,8 +39,6 @@ pub record IsGood (S : Setup) (r : RunState) (T : ℚ) : Type 0 where
   pub later : (y : Step) → IsDue S r y → T ≤ℚ step_time y
   pub from_zero : int (pos 0) ≤ℚ T
 
--- ---- the servers after a step
-
 -- ---- entering
 pub extends_push : (entered : List Entry) (e : Entry) → IsExtendedBy entered (entered ++ e ∷ [])
 extends_push entered e p h = (

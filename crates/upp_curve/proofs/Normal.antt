@@ -49,7 +49,7 @@ start_in_upto y x X (p ∷ ps) r (inr h) l =
     let before : p.x <ℚ X = with3 p.x x X (λ c. omega (arith, c.le, c.lt, c.same)) in
     subst (HasStart x) (sym (upto_some X p ps before)) (inr (start_in_upto p.x x X ps r.1 h l))
 
-pub start_from_upto : (x X : ℚ) (ps : List Piece) → HasStart x (upto X ps) → HasStart x ps
+start_from_upto : (x X : ℚ) (ps : List Piece) → HasStart x (upto X ps) → HasStart x ps
 start_from_upto x X [] h = subst (HasStart x) (upto_end X) h
 start_from_upto x X (p ∷ ps) h = elim (le_or_lt X p.x) [
   | inl l ↦ absurd (subst (HasStart x) (upto_none X p ps l) h)

@@ -24,7 +24,7 @@ use Rattle.upp_normal.proofs.UnrolledPieces.{unroll_starts}
 use Rattle.watch_laws.specs.Affine.{IsLineOn, NoneInside, IsAffineOff, EachTime, IsPiecewise}
 use Rattle.watch_laws.specs.Breaks.{IsBreak}
 use Rattle.watch_laws.specs.Segments.{number_at, slope_of}
-use Rattle.upp_normal.proofs.StretchPieces.{found_early}
+use Rattle.upp_normal.proofs.NormaliseRoomy.{found_early}
 
 -- ---- near a time
 -- there are times between x and y as near to z as one likes

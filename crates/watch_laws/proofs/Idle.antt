@@ -135,14 +135,14 @@ none_idle server end V c h n fin smooth zero none =
     none_found server end V c h n fin smooth zero (λ u e p q it. none p q (idle_found end V c u e p q it))
 
 -- ---- from a window that falls short
-pub not_less : (x : Ext) (y : ℚ) → x ≤ₑ Fin y → Fin y <ₑ x → ⊥
-not_less Inf y h k = h
-not_less (Fin x) y h k = lt_irrefl x (le_lt_trans h k)
+apart : (x : Ext) (y : ℚ) → x ≤ₑ Fin y → Fin y <ₑ x → ⊥
+apart Inf y h k = h
+apart (Fin x) y h k = lt_irrefl x (le_lt_trans h k)
 
 pub idle_breaks : (end : ℚ) (V : List ServerStep) (c : SpecCurve) (a b : ℚ) → KeepsService (value_at c) end V → IsIdle end V c a b → ⊥
 idle_breaks end V c a b keeps h =
     let (u, e, is) = h.stretch in
-    not_less (Fin (worked all V a) +ₑ value_at c (b -ℚ a)) (worked all V b)
+    apart (Fin (worked all V a) +ₑ value_at c (b -ℚ a)) (worked all V b)
     (keeps a b h.forward (le_trans is.last is.stretch.in_run) (λ x i j. is.stretch.busy x (le_lt_trans is.first i) (lt_le_trans j is.last))) h.less
 
 -- ---- a window of a stretch is busy
@@ -150,6 +150,9 @@ pub inside_keeps : (end : ℚ) (V : List ServerStep) (c : SpecCurve) (u e a b : 
     → (Fin (worked all V a) +ₑ value_at c (b -ℚ a)) ≤ₑ Fin (worked all V b)
 inside_keeps end V c u e a b keeps is l =
     keeps a b l (le_trans is.last is.stretch.in_run) (λ x i j. is.stretch.busy x (le_lt_trans is.first i) (lt_le_trans j is.last))
+
+pub not_less : (x : Ext) (y : ℚ) → x ≤ₑ Fin y → Fin y <ₑ x → ⊥
+not_less = apart
 
 -- ---- stretches
 one_start : (end : ℚ) (V : List ServerStep) (u e v f : ℚ) → IsStretch end V u e → IsStretch end V v f → v <ℚ e → u <ℚ f → u ≤ℚ v

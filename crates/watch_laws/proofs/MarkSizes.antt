@@ -18,7 +18,7 @@ use Rattle.upp_normal.proofs.AnswerRoom.{tight, many_more}
 use Rattle.upp_limits.proofs.OwnGauge.{end_within}
 use Rattle.watch_laws.specs.Marks.{MostFits}
 use Rattle.watch_laws.specs.MarkSizes.{IsTime, IsTimeIfAny, MarksFit, KeysFit}
-use Rattle.upp_normal.proofs.StretchSizes.{time_whole}
+pub use Rattle.upp_normal.proofs.StretchSizes.{time_whole}
 
 -- ---- the grid of sums
 pub grid_some : (z : Sizes) (end : ℚ) → AreLimited z end → 0 < grid_of z

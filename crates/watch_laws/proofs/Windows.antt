@@ -152,6 +152,9 @@ to_end c l e h = with3 c l e (λ k. omega (arith, k.le, k.lt, k.same))
 is_end : (c l e : ℚ) → c ≡ e -ℚ l → e ≡ c +ℚ l
 is_end c l e h = with3 c l e (λ k. omega (arith, k.le, k.lt, k.same))
 
+ahead : (c l : ℚ) → int (pos 0) ≤ℚ l → c ≤ℚ c +ℚ l
+ahead c l h = with2 c l (λ k. omega (arith, k.le, k.lt, k.same))
+
 from_start : (a q : ℚ) → q ≡ a +ℚ (q -ℚ a)
 from_start a q = with2 a q (λ k. omega (arith, k.le, k.lt, k.same))
 
@@ -203,7 +206,7 @@ both_moved W g P X u e a l f at_u at_e z i j k at_l short =
       c,
       record {
         from = is.from;
-        forward = forward_from W g c (c +ℚ l) z short_c (with2 c l (λ k. omega (arith, k.le, k.lt, k.same)));
+        forward = forward_from W g c (c +ℚ l) z short_c (ahead c l j);
         to = to_end c l e is.to;
         short = short_c;
         pair = elim is.of [
