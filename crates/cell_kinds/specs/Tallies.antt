@@ -1,9 +1,8 @@
 -- What is gathered of numbers that are added up. Own choice.
-use Rattle.std.specs.Prelude.{◌≡◌, ℕ, ◌*◌, ◌^◌, ◌<◌, max, List, [], ◌∷◌, ◌++◌, Option, IfSome, IfNone}
-use Rattle.rational.specs.Rational.{ℚ, ◌+ℚ◌, neg_ℚ}
+use Rattle.std.specs.Prelude.{◌≡◌, ℕ, ◌*◌, ◌^◌, ◌<◌, max, List, ◌++◌, Option, IfSome, IfNone}
+use Rattle.rational.specs.Rational.{ℚ, neg_ℚ}
 use Rattle.rational.specs.MinMax.{max_q}
 use Rattle.rational.specs.Gauge.{common_den, size_up}
-use Rattle.min_plus.specs.Functions.{zero_q}
 use Rattle.rational.specs.Extended.{Ext}
 use Rattle.net_cells.specs.NumberSums.{sizes, has_infinite, finite}
 use Rattle.cell_kinds.specs.declared.number_sums.Tally.{Tally}

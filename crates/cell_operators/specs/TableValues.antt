@@ -1,7 +1,5 @@
 -- Some curve, some number, and how far one curve is from another, by the cells of a table. Own choice.
-use Rattle.std.specs.Prelude.{◌≡◌, Some}
-use Rattle.rational.specs.Extended.{Ext}
-use Rattle.upp_curve.specs.Curve.{SpecCurve, value_at}
+use Rattle.upp_curve.specs.Curve.{value_at}
 use Rattle.min_plus.specs.Deviations.{IsHorizontalDeviation}
 use Rattle.net_cells.specs.declared.cell.Cell.{Cell}
 use Rattle.net_cells.specs.Meanings.{CellTable}

@@ -14,7 +14,7 @@ use Rattle.upp_kinds.proofs.KindValues.{bucket_is}
 use Rattle.curve_call.specs.Answers.{IsAnswer, IsMadeBy}
 use Rattle.net_cells.specs.declared.cell.Cell.{Cell}
 use Rattle.net_cells.specs.Numbered.{zero_curve}
-use Rattle.net_cells.specs.Meanings.{Meaning, curve, number, CellTable, IsCurveIn, IsNumberIn}
+use Rattle.net_cells.specs.Meanings.{Meaning, curve, number, CellTable, IsCurveIn}
 use Rattle.net_cells.specs.Formulas.{Formula, value_of, made}
 use Rattle.net_cells.specs.CellFormulas.{sum_from, sum_of}
 use Rattle.net_cells.specs.Means.{Means}

@@ -3,11 +3,8 @@ use Rattle.std.specs.Prelude.{◌≡◌, ◌≢◌, ◌⊎◌, pos, Bool, true, 
 use Rattle.std.proofs.Common.{refl, sym, subst, ap, ap₂, ◌∙◌, inl, inr, true≢false}
 use Rattle.std.proofs.lemmas.Bool.{cases_Bool}
 use Rattle.std.specs.Ordering.{is_eq}
-use Rattle.std.specs.declared.cmp.Ordering.{Ordering}
-use Rattle.std.specs.declared.cmp.Ordering.TheVariants.{Less, Equal, Greater}
 use Rattle.rational.specs.Rational.{ℚ, int, ◌+ℚ◌, ◌-ℚ◌, ◌/ℚ◌, ◌≤ℚ◌, ◌<ℚ◌, le_q, lt_q}
-use Rattle.rational.specs.Ratio.{cmp_q}
-use Rattle.rational.proofs.Comparison.{cmp_equal, cmp_self}
+use Rattle.rational.proofs.Comparison.{cmp_self}
 use Rattle.fraction128.specs.Order.{same_q}
 pub use Rattle.fraction128.specs.Order.{same_out as same_in}
 use Rattle.run_laws.specs.Cards.{all, ServerStep}

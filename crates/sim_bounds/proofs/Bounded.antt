@@ -12,17 +12,17 @@ use Rattle.rational.proofs.MinMax.{max_q_ge_left, max_q_ge_right}
 use Rattle.run_laws.specs.declared.steps.Step.{Step}
 use Rattle.run_laws.specs.declared.steps.Step.TheVariants.{Enter, Reach, Work, Leave, Visit}
 use Rattle.run_laws.specs.Cards.{Card, whole, size, Arrives, Works, Leaves, Visits}
-use Rattle.run_laws.specs.Servers.{Discipline, Fifo, Priority, Drr, Server, Under, ServerState, done, done_so_far, head_of, start}
+use Rattle.run_laws.specs.Servers.{Discipline, Fifo, Server, Under, ServerState, done, done_so_far, head_of, start}
 use Rattle.run_laws.specs.Next.{next}
-use Rattle.run_laws.specs.Allows.{next_card, MayVisit}
+use Rattle.run_laws.specs.Allows.{next_card}
 use Rattle.run_laws.specs.Routes.{Routes, server_at, link_at, route_of, PassesServer, first_server, server_after}
 use Rattle.run_laws.specs.Views.{Entry, entry_of, hops_of, card_of, entered_after, server_of, seen}
-use Rattle.run_laws.specs.Lawful.{Due, RunState, sent, state_at, next_run, run_start}
+use Rattle.run_laws.specs.Lawful.{Due, RunState, state_at, next_run, run_start}
 use Rattle.run_laws.proofs.Heads.{head_push, pick_is_head, same_some}
 use Rattle.run_laws.proofs.Sizes.{whole_le}
 use Rattle.stated_runs.specs.Setups.{Setup, IsSetup, IsFirstOpen, IsStretch, opening_of, packet_of, rate_of}
 use Rattle.stated_runs.specs.DueSteps.{IsLeaving, IsResumed, IsStarted, IsEntering, IsDue}
-use Rattle.stated_runs.proofs.Lists.{In, in_either, in_without, contains_in}
+use Rattle.stated_runs.proofs.Lists.{In, in_without, contains_in}
 use Rattle.stated_runs.proofs.GoodServers.{IsCardAt}
 use Rattle.stated_runs.proofs.Good.{IsGood, own_state, other_state, extends_push}
 use Rattle.stated_runs.proofs.GoodWork.{good_work_of}

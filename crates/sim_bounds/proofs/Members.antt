@@ -1,7 +1,7 @@
 -- Members of lists that are put together or made of others.
-use Rattle.std.proofs.Common.{◌≡◌, ℕ, zero, suc, ◌<◌, List, [], ◌∷◌, ◌++◌, length, map, get_or, refl, sym, ap, subst, arith, inl, inr}
+use Rattle.std.proofs.Common.{◌≡◌, ℕ, zero, suc, ◌<◌, List, [], ◌∷◌, length, map, get_or, refl, subst, arith, inl, inr}
 use Rattle.std.specs.Prelude.{All}
-use Rattle.std.specs.List.{flat_map, AllByRecursion}
+use Rattle.std.specs.List.{AllByRecursion}
 use Rattle.stated_runs.proofs.Lists.{In, in_contains}
 pub use Rattle.run_laws.proofs.Members.{has_right as in_right, has_left as in_left, has_map as in_map, has_flat as in_flat}
 

@@ -7,13 +7,11 @@ use Rattle.std.proofs.lemmas.List.{length-map}
 use Rattle.rational.specs.Rational.{ℚ, int, ◌+ℚ◌, ◌-ℚ◌, ◌*ℚ◌, ◌/ℚ◌, ◌≤ℚ◌}
 use Rattle.rational.specs.Grid.{Whole}
 use Rattle.rational.specs.Ratio.{IsSmall}
-use Rattle.rational.specs.MinMax.{max_q}
 use Rattle.rational.proofs.Linear.{with1, with2, with3, with4}
 use Rattle.rational.proofs.Laws.{le_refl, le_trans, le_of_lt, lt_le_trans, antisym, mul_le_mul_right, one_mul, not_zero}
 use Rattle.rational.proofs.Quotients.{div_nonneg}
 use Rattle.rational.proofs.Integers.{nat_le, nat_nonneg}
 use Rattle.rational.proofs.Grid.{whole_int, whole_add, whole_sub, within_nonneg}
-use Rattle.rational.proofs.MinMax.{max_q_one}
 use Rattle.rational.proofs.Sizes.{largest_part, small_on_grid, quotient_on_grid}
 use Rattle.run_laws.specs.Cards.{whole}
 use Rattle.run_laws.specs.Routes.{link_at}

@@ -2,7 +2,7 @@
 use Rattle.std.specs.Prelude.{Option, Some, None, ◌≡◌, ◌⊎◌, ℕ, zero, suc, ◌+◌, ◌<◌, List, [], ◌∷◌, length, get_or, slice_get}
 use Rattle.std.proofs.Common.{arith, refl, sym, ap, ◌∙◌, subst, inl, inr}
 use Rattle.std.proofs.lemmas.Bool.{cases_lt}
-use Rattle.index_links.specs.Chains.{Chains, list_at, Has, first_of}
+use Rattle.index_links.specs.Chains.{Chains, list_at, first_of}
 use Rattle.stated_runs.specs.Setups.{Setup}
 use Rattle.sim_servers.specs.declared.due.Due.{Due}
 use Rattle.sim_servers.specs.declared.station.Station.{Station}

@@ -8,8 +8,7 @@ use Rattle.rational.proofs.Laws.{le_refl, le_of_lt, lt_irrefl}
 use Rattle.run_laws.specs.declared.steps.Step.{Step}
 use Rattle.run_laws.specs.declared.steps.Step.TheVariants as steps
 use Rattle.run_laws.specs.Cards.{size}
-use Rattle.run_laws.specs.Servers.{Discipline, Fifo, Priority, Drr, Under, ServerState, done}
-use Rattle.run_laws.specs.Allows.{MayVisit}
+use Rattle.run_laws.specs.Servers.{Under, done}
 use Rattle.run_laws.specs.Routes.{server_at}
 use Rattle.run_laws.proofs.Heads.{pick_is_head}
 use Rattle.run_laws.specs.Lawful as lawful

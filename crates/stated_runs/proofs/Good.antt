@@ -1,14 +1,14 @@
 -- What holds of the state of a run after each step of a stated run.
 use Rattle.std.proofs.Common.{◌≡◌, ℕ, ◌<◌, ◌≤◌, ◌+◌, ◌^◌, List, [], ◌∷◌, ◌++◌, length, sym, ap, ◌∙◌, subst, arith, inl, inr, ◌⊎◌, Some, None}
-use Rattle.std.specs.Prelude.{pos, ◌≢◌}
+use Rattle.std.specs.Prelude.{pos}
 use Rattle.std.proofs.lemmas.Bool.{cases_eq}
-use Rattle.std.proofs.lemmas.List.{get_or-set_same, get_or-set_other, get_or_append_left, length_push}
+use Rattle.std.proofs.lemmas.List.{get_or_append_left, length_push}
 use Rattle.std.proofs.Math.ListN.{length-set}
 use Rattle.rational.specs.Rational.{ℚ, int, ◌≤ℚ◌}
 use Rattle.rational.proofs.Laws.{le_trans}
 use Rattle.run_laws.specs.declared.steps.Step.{Step}
 use Rattle.run_laws.specs.declared.steps.Step.TheVariants.{Enter, Reach, Work, Leave, Visit}
-use Rattle.run_laws.specs.Servers.{Fifo, Under, ServerState, start}
+use Rattle.run_laws.specs.Servers.{Under, ServerState}
 use Rattle.run_laws.specs.Next.{next}
 use Rattle.run_laws.specs.Routes.{Routes, server_at, route_of, PassesServer}
 use Rattle.run_laws.specs.Views.{Entry, entry_of, hops_of, entered_after, server_of, seen}

@@ -14,7 +14,7 @@ use Rattle.min_plus.specs.Continuity.{IsContinuous}
 use Rattle.affine_segment.specs.Pieces.{Each, StartsAtZero, RisesFrom}
 use Rattle.affine_segment.specs.Reading.{read, piece_value}
 use Rattle.upp_curve.specs.Unrolled.{unroll}
-use Rattle.affine_segment.proofs.PieceIn.{piece_in_stop, piece_in_go, piece_in_end, value_past, read_go}
+use Rattle.affine_segment.proofs.PieceIn.{piece_in_stop, piece_in_end, value_past, read_go}
 use Rattle.upp_curve.proofs.FirstStretch.{at_start}
 use Rattle.upp_normal.proofs.Below.{unroll_reads}
 use Rattle.upp_normal.proofs.UnrolledPieces.{unroll_starts, unroll_before}

@@ -1,8 +1,8 @@
 -- The packets of a flow of a lawful run enter in the order of time.
-use Rattle.std.specs.Prelude.{◌≡◌, ◌≢◌, ℕ, ◌<◌, ◌==◌, List, [], ◌∷◌, length}
+use Rattle.std.specs.Prelude.{◌≡◌, ℕ, ◌<◌, ◌==◌, List, [], ◌∷◌, length}
 use Rattle.std.proofs.Common.{arith, sym, subst, ap, ◌∙◌, inl, inr}
 use Rattle.std.proofs.lemmas.Bool.{cases_Bool, cases_eq, eqb-true}
-use Rattle.std.proofs.lemmas.List.{get_or-set_same, get_or-set_other, length-set, length-map}
+use Rattle.std.proofs.lemmas.List.{get_or-set_same, length-set, length-map}
 use Rattle.rational.specs.Rational.{ℚ, ◌≤ℚ◌}
 use Rattle.rational.proofs.Laws.{le_refl, le_trans}
 use Rattle.run_laws.specs.declared.steps.Step.{Step}
@@ -17,7 +17,7 @@ use Rattle.run_laws.specs.Lawful.{RunState, state_at, next_run, AllowsInRun, All
 use Rattle.run_laws.proofs.Cuts.{time_in_order}
 use Rattle.watch_laws.specs.declared.entering.Entering.{Entering}
 use Rattle.watch_laws.specs.Entries.{entries, EntersFrom}
-use Rattle.run_laws.proofs.Views.{own_state, other_state}
+use Rattle.run_laws.proofs.Views.{other_state}
 
 -- a step does not set a server's clock back
 clock_own : (net : Routes) (r : RunState) (x : Step) → server_of net x < length r.servers
