@@ -76,7 +76,6 @@ pub fn eval<T: Table<Value>, L: Ledger>(
     ensures rises { steps.old ≤ steps.new }
     ensures within { steps.new ≤ steps.old + work net.now cell }
 {
-    // What an accepted network keeps is in the contract of this call.
-    let _flows = net.flows();
+    net.keeps();
     by_kind(alloc, cell, net, table, steps)
 }

@@ -20,7 +20,7 @@ use Rattle.net_cells.specs.Cells.{cell_of}
 use Rattle.net_cells.specs.Meanings.{CellTable}
 use Rattle.net_cells.specs.Formulas.{leaves}
 use Rattle.net_cells.specs.CellFormulas.{queue_service}
-use Rattle.net_cells.proofs.Lists.{Has, has_map, map_has, filter_has, has_flat, has_range, range_has}
+use Rattle.net_cells.proofs.Lists.{map_has, filter_has, has_range, range_has}
 use Rattle.net_cells.proofs.Places.{flow_inside}
 use Rattle.net_cells.proofs.Stored.{flow_kept}
 use Rattle.net_cells.proofs.Precedes.{some_hop}
@@ -36,6 +36,7 @@ use Rattle.cell_operators.proofs.Rises.{grows_served}
 use Rattle.cell_operators.proofs.Meeting.{InList, meets_below, operand, curve_map, number_map, curve_from, number_from, sum_leaf, served_leaf}
 use Rattle.cell_operators.proofs.Choosing.{queue_visits, other_visits}
 use Rattle.cell_operators.proofs.Shapes.{in_rises, cross_rises, total_rises, higher_rises, queue_served, hop_served, residual_grows, path_grows, queue_delay_ahead, hop_delay_ahead}
+use Rattle.run_laws.proofs.Members.{Has, has_map, has_flat}
 
 -- ---- what stands in the table
 some_curve : (at : CellTable) (c : Cell) (Q : SpecCurve → Type 0) → HasCurve at c Q → IsCurveAt at c

@@ -21,7 +21,7 @@ use Rattle.net_cells.specs.Meanings.{number, CellTable}
 use Rattle.net_cells.specs.Means.{HaveNumbers, with_links}
 use Rattle.net_cells.specs.NumberSums.{Sums}
 use Rattle.net_cells.specs.Answers.{Answers, MakesNumber}
-use Rattle.net_cells.proofs.Lists.{Has, map_has, range_has}
+use Rattle.net_cells.proofs.Lists.{map_has, range_has}
 use Rattle.net_cells.proofs.Stored.{few_hops}
 use Rattle.curve_call.specs.Calls.{goes_on, stops}
 use Rattle.cell_table.specs.Values.{answer_of}
@@ -29,6 +29,8 @@ use Rattle.cell_operators.specs.TableValues.{IsNumberAt}
 use Rattle.cell_kinds.specs.declared.number_sums.Added.{Added}
 use Rattle.cell_kinds.specs.Tallies.{AreAdded}
 use Rattle.cell_kinds.proofs.HaveNumbers.{have_all, have_more, have_none}
+use Rattle.run_laws.proofs.Members.{Has}
+use Rattle.net_cells.proofs.TableValues.{same_number}
 
 -- ---- hop after hop
 abbrev pub delays_to : ℕ → ℕ → List Cell
@@ -37,9 +39,6 @@ delays_to i n = map (cell_of HopDelay i) (range_with_len 0 n)
 -- the links of the first so many hops
 abbrev pub links_to : Net → ℕ → ℕ → List ℚ
 links_to net i n = map (link net) (take n (path net i))
-
-same_number : (at : CellTable) (c : Cell) (x y : Ext) → at c ≡ Some (number x) → at c ≡ Some (number y) → x ≡ y
-same_number at c x y p q = let same : Some (number x) ≡ Some (number y) = sym p ∙ q in cc
 
 pub none_added : (at : CellTable) (i : ℕ) (a : Added) → AreAdded [] a → (xs : List Ext)
     → HaveNumbers at (delays_to i 0) xs → AreAdded xs a

@@ -13,7 +13,7 @@ use Rattle.cell_kinds.specs.Tallies.{Tallies, IsTallied, AreAdded, IsNarrow, siz
 use Rattle.rational.specs.Ratio.{SumFits}
 use Rattle.rational.proofs.Multiples.{lcm_swap}
 use Rattle.fraction128.proofs.Coprime.{gcd_comm}
-use Rattle.cell_kinds.proofs.Totals.{sizes_more, plus_more, sizes_fit, sum_fits, den_fits}
+use Rattle.cell_kinds.proofs.Totals.{sizes_more, sizes_fit, sum_fits, den_fits, sum_more}
 
 -- ---- tallies
 pub tallies_more : (xs : List ℚ) (x : ℚ) (t u : Tally) → Tallies xs t → u.den ≡ lcm (den x) t.den → u.sizes ≡ t.sizes +ℚ size_of x
@@ -21,7 +21,7 @@ pub tallies_more : (xs : List ℚ) (x : ℚ) (t u : Tally) → Tallies xs t → 
 tallies_more xs x t u h d s p = record {
   den = d ∙ ap (lcm (den x)) h.den ∙ sym (den_more xs x);
   sizes = s ∙ ap (λ y. y +ℚ size_of x) h.sizes ∙ sym (sizes_more xs x);
-  sum = p ∙ ap (λ y. y +ℚ x) h.sum ∙ sym (plus_more xs x);
+  sum = p ∙ ap (λ y. y +ℚ x) h.sum ∙ sym (sum_more xs x);
 }
 
 pub tallied_some : (xs : List ℚ) (t : Tally) → Tallies xs t → IsTallied xs (Some t)

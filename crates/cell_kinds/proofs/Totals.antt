@@ -22,7 +22,8 @@ use Rattle.upp_limits.proofs.Every.{every_left}
 use Rattle.upp_limits.proofs.CommonDen.{common_den_each, common_den_least, common_den_pos, size_up_within}
 use Rattle.upp_limits.proofs.Gathering.{den_more}
 use Rattle.net_cells.specs.NumberSums.{total, has_infinite, finite, sizes, sum_gauge, sum_tally, Sums}
-use Rattle.cell_kinds.specs.Tallies.{size_of, plus, gauge_of, IsNarrow}
+use Rattle.cell_kinds.specs.Tallies.{size_of, gauge_of, IsNarrow}
+use Rattle.min_plus.specs.Convolution.{sum_of}
 
 -- ---- the parts of a list
 every_next : {A : Type 0} (P : A → Type 0) (xs : List A) (x : A) (ys : List A) → AllByRecursion P (xs ++ x ∷ ys) → P x
@@ -67,23 +68,23 @@ pub sizes_append : (xs ys : List ℚ) → sizes (xs ++ ys) ≡ sizes xs +ℚ siz
 sizes_append [] ys = sym (add_comm zero_q (sizes ys) ∙ add_zero (sizes ys))
 sizes_append (x ∷ xs) ys = ap (λ y. size_of x +ℚ y) (sizes_append xs ys) ∙ sym (add_assoc (size_of x) (sizes xs) (sizes ys))
 
-pub plus_append : (xs ys : List ℚ) → plus (xs ++ ys) ≡ plus xs +ℚ plus ys
-plus_append [] ys = sym (add_comm zero_q (plus ys) ∙ add_zero (plus ys))
-plus_append (x ∷ xs) ys = ap (λ y. x +ℚ y) (plus_append xs ys) ∙ sym (add_assoc x (plus xs) (plus ys))
+sum_append : (xs ys : List ℚ) → sum_of (xs ++ ys) ≡ sum_of xs +ℚ sum_of ys
+sum_append [] ys = sym (add_comm zero_q (sum_of ys) ∙ add_zero (sum_of ys))
+sum_append (x ∷ xs) ys = ap (λ y. x +ℚ y) (sum_append xs ys) ∙ sym (add_assoc x (sum_of xs) (sum_of ys))
 
 pub sizes_more : (xs : List ℚ) (x : ℚ) → sizes (xs ++ x ∷ []) ≡ sizes xs +ℚ size_of x
 sizes_more xs x = sizes_append xs (x ∷ []) ∙ ap (λ y. sizes xs +ℚ y) (add_zero (size_of x))
 
-pub plus_more : (xs : List ℚ) (x : ℚ) → plus (xs ++ x ∷ []) ≡ plus xs +ℚ x
-plus_more xs x = plus_append xs (x ∷ []) ∙ ap (λ y. plus xs +ℚ y) (add_zero x)
+pub sum_more : (xs : List ℚ) (x : ℚ) → sum_of (xs ++ x ∷ []) ≡ sum_of xs +ℚ x
+sum_more xs x = sum_append xs (x ∷ []) ∙ ap (λ y. sum_of xs +ℚ y) (add_zero x)
 
-plus_within : (xs : List ℚ) → Within (sizes xs) (plus xs)
-plus_within [] = within_nonneg zero_q zero_q (le_refl zero_q) (le_refl zero_q)
-plus_within (x ∷ xs) = within_add (size_of x) (sizes xs) x (plus xs) (size_within x) (plus_within xs)
+sum_within : (xs : List ℚ) → Within (sizes xs) (sum_of xs)
+sum_within [] = within_nonneg zero_q zero_q (le_refl zero_q) (le_refl zero_q)
+sum_within (x ∷ xs) = within_add (size_of x) (sizes xs) x (sum_of xs) (size_within x) (sum_within xs)
 
-plus_whole : (d : ℕ) (xs : List ℚ) → AllByRecursion (Whole d) xs → Whole d (plus xs)
-plus_whole d [] h = whole_int d (pos 0)
-plus_whole d (x ∷ xs) h = whole_add d x (plus xs) h.0 (plus_whole d xs h.1)
+sum_whole : (d : ℕ) (xs : List ℚ) → AllByRecursion (Whole d) xs → Whole d (sum_of xs)
+sum_whole d [] h = whole_int d (pos 0)
+sum_whole d (x ∷ xs) h = whole_add d x (sum_of xs) h.0 (sum_whole d xs h.1)
 
 sizes_whole : (d : ℕ) (xs : List ℚ) → AllByRecursion (Whole d) xs → Whole d (sizes xs)
 sizes_whole d [] h = whole_int d (pos 0)
@@ -146,13 +147,13 @@ sizes_fit xs x ys narrow =
     (within_nonneg (int (pos (bound all))) (sizes xs) (sizes_nonneg xs) (front_bound xs (x ∷ ys)))
     (within_nonneg (int (pos (bound all))) (size_of x) (size_nonneg x) (next_bound xs x ys))
 
-pub sum_fits : (xs : List ℚ) (x : ℚ) (ys : List ℚ) → IsNarrow (xs ++ x ∷ ys) → SumFits (plus xs) x
+pub sum_fits : (xs : List ℚ) (x : ℚ) (ys : List ℚ) → IsNarrow (xs ++ x ∷ ys) → SumFits (sum_of xs) x
 sum_fits xs x ys narrow =
     let all = xs ++ x ∷ ys in
     let d = common_den all in
     let each = common_den_each all in
-    narrow_fits all (plus xs) x narrow (plus_whole d xs (every_left (Whole d) xs (x ∷ ys) each)) (every_next (Whole d) xs x ys each)
-    (within_weaken (sizes xs) (int (pos (bound all))) (plus xs) (front_bound xs (x ∷ ys)) (plus_within xs))
+    narrow_fits all (sum_of xs) x narrow (sum_whole d xs (every_left (Whole d) xs (x ∷ ys) each)) (every_next (Whole d) xs x ys each)
+    (within_weaken (sizes xs) (int (pos (bound all))) (sum_of xs) (front_bound xs (x ∷ ys)) (sum_within xs))
     (within_weaken (size_of x) (int (pos (bound all))) x (next_bound xs x ys) (size_within x))
 
 pub den_fits : (xs : List ℚ) (x : ℚ) (ys : List ℚ) → IsNarrow (xs ++ x ∷ ys) → lcm (den x) (common_den xs) < 2 ^ 128
@@ -171,7 +172,7 @@ den_fits xs x ys narrow =
     omega (arith, most, small, den_small, is)
 
 -- ---- numbers that may be infinite
-pub finite_total : (xs : List Ext) → has_infinite xs ≡ false → total xs ≡ Fin (plus (finite xs))
+pub finite_total : (xs : List Ext) → has_infinite xs ≡ false → total xs ≡ Fin (sum_of (finite xs))
 finite_total [] e = refl
 finite_total (Inf ∷ xs) e = absurd (let bad : true ≡ false = e in cc)
 finite_total (Fin x ∷ xs) e = ap (λ y. Fin x +ₑ y) (finite_total xs e)
@@ -196,6 +197,6 @@ pub sums_many : (xs : List Ext) → has_infinite xs ≡ false → IsNarrow (fini
 unfolding sum_gauge sum_tally
 sums_many xs e narrow many = (rw e narrow, rw e many)
 
-pub sums_fine : (xs : List Ext) (x : ℚ) → has_infinite xs ≡ false → IsNarrow (finite xs) → length xs ≤ 2 ^ 20 → x ≡ plus (finite xs) → Sums xs (Ok (Fin x))
+pub sums_fine : (xs : List Ext) (x : ℚ) → has_infinite xs ≡ false → IsNarrow (finite xs) → length xs ≤ 2 ^ 20 → x ≡ sum_of (finite xs) → Sums xs (Ok (Fin x))
 unfolding sum_gauge sum_tally
 sums_fine xs x e narrow few is = (record { narrow = rw e narrow; few = rw e few }, ap Fin is ∙ sym (finite_total xs e))

@@ -1,21 +1,17 @@
 -- What is gathered of numbers that are added up. Own choice.
-use Rattle.std.specs.Prelude.{◌≡◌, ℕ, ◌*◌, ◌^◌, ◌<◌, max, List, [], ◌∷◌, ◌++◌, Option, IfSome, IfNone}
-use Rattle.rational.specs.Rational.{ℚ, ◌+ℚ◌, neg_ℚ}
+use Rattle.std.specs.Prelude.{◌≡◌, ℕ, ◌*◌, ◌^◌, ◌<◌, max, List, ◌++◌, Option, IfSome, IfNone}
+use Rattle.rational.specs.Rational.{ℚ, neg_ℚ}
 use Rattle.rational.specs.MinMax.{max_q}
 use Rattle.rational.specs.Gauge.{common_den, size_up}
-use Rattle.min_plus.specs.Functions.{zero_q}
 use Rattle.rational.specs.Extended.{Ext}
 use Rattle.net_cells.specs.NumberSums.{sizes, has_infinite, finite}
 use Rattle.cell_kinds.specs.declared.number_sums.Tally.{Tally}
 use Rattle.cell_kinds.specs.declared.number_sums.Added.{Added}
+use Rattle.min_plus.specs.Convolution.{sum_of}
 
 -- how far a number is from 0
 abbrev pub size_of : ℚ → ℚ
 size_of x = max_q x (neg_ℚ x)
-
-abbrev pub plus : List ℚ → ℚ
-plus [] = zero_q
-plus (x ∷ xs) = x +ℚ plus xs
 
 -- the gauge of a sum of numbers that are not infinite, and when it is over no limit
 abbrev pub gauge_of : List ℚ → ℕ
@@ -27,7 +23,7 @@ IsNarrow xs = gauge_of xs < 2 ^ 120
 pub record Tallies (xs : List ℚ) (t : Tally) : Type 0 where
   pub den : t.den ≡ common_den xs
   pub sizes : t.sizes ≡ sizes xs
-  pub sum : t.sum ≡ plus xs
+  pub sum : t.sum ≡ sum_of xs
 
 -- these numbers, or their gauge is too large, whatever comes after them
 pub record IsTallied (xs : List ℚ) (o : Option Tally) : Type 0 where

@@ -1,39 +1,14 @@
-//! Sums of numbers, with limits of their own, and the lesser of two.
+//! Sums of numbers, with limits of their own.
 
 ghost use Rattle.std.specs.Prelude.{◌≡◌, ◌≤◌, ◌^◌, ◌++◌, List, [], ◌∷◌, length, IfSome, IfNone, IfOk, IsOk, IsSome, MatchBool, false};
 ghost use Rattle.rational.specs.Rational.{ℚ};
-ghost use Rattle.rational.specs.Extended.{Ext, min_ext};
-ghost use Rattle.rational.specs.MinMax.{min_q};
+ghost use Rattle.rational.specs.Extended.{Ext};
 ghost use Rattle.net_cells.specs.NumberSums.{Sums, has_infinite, finite};
 ghost use Rattle.cell_kinds.specs.Tallies.{Tallies, IsTallied, AreAdded, IsNarrow, size_of};
 
 use fraction128::{Ext, Frac, Wide, least_common_multiple};
 use rational::Extended;
-use std::cmp::Ordering;
 use upp_limits::OpFault;
-
-fn lesser_of(a: Frac, b: Frac) -> Frac
-    ensures { result ≡ min_q a b }
-{
-    match a.cmp(&b) {
-        Ordering::Greater => b,
-        _ => a,
-    }
-}
-
-/// The lesser of two numbers.
-pub fn lesser_number(a: Ext, b: Ext) -> Ext
-    ensures { result ≡ min_ext a b }
-{
-    match a {
-        Extended::Inf => b,
-        Extended::Fin(x) => match b {
-            Extended::Inf => a,
-            Extended::Fin(y) => Extended::Fin(lesser_of(x, y)),
-        },
-    }
-}
-
 /// Of the numbers so far: their least common denominator, their sizes together, and their sum.
 #[derive(Debug, Clone, Copy)]
 pub struct Tally {

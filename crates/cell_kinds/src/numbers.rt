@@ -11,10 +11,11 @@ ghost use Rattle.cell_table.specs.Values.{answer_of, meaning_of};
 ghost use Rattle.cell_operators.specs.Evaluates.{MayBeMade, Evaluates};
 
 use crate::bounds::{delays, with_path};
-use crate::number_sums::{and, lesser_number, no_number, sum_of};
+use crate::number_sums::{and, no_number, sum_of};
 use crate::places::{cell, numbered, place_of};
 use cell_operators::{Pick, backlog, delay_between, longest_at, number_at};
 use cell_table::{Table, Value};
+use fraction128::lesser_value;
 use net_cells::{Cell, Kind};
 use net_model::Network;
 use std::alloc::Global;
@@ -97,7 +98,7 @@ pub fn hop_delay<T: Table<Value>, L: Ledger>(
     match delay_between(table, cell!(In, flow, hop), service, steps) {
         Ok(own) => {
             let queue = number_at(table, cell!(QueueDelay, place.0, place.1));
-            Ok(Value::Number(lesser_number(queue, own)))
+            Ok(Value::Number(lesser_value(queue, own)))
         }
         Err(fault) => Err(fault),
     }
@@ -136,5 +137,5 @@ pub fn bound<T: Table<Value>>(table: &T, net: &Network, flow: u32) -> Result<Val
 {
     let hop_by_hop = number_at(table, cell!(Tfa, flow, 0));
     let whole_path = number_at(table, cell!(Sfa, flow, 0));
-    Ok(Value::Number(lesser_number(hop_by_hop, whole_path)))
+    Ok(Value::Number(lesser_value(hop_by_hop, whole_path)))
 }

@@ -13,8 +13,9 @@ use Rattle.net_cells.specs.Meanings.{Meaning, curve, number, CellTable, IsCurveI
 use Rattle.net_cells.specs.Formulas.{Formula, leaves, made, value_of}
 use Rattle.net_cells.specs.CellFormulas.{formula, sum_of, sum_from, packets_to, served_to}
 use Rattle.net_cells.specs.Equations.{MeetsEquation, MeetsBelow}
-use Rattle.net_cells.proofs.Lists.{Has, has_contains, has_left, has_right}
 use Rattle.cell_operators.specs.TableValues.{HasCurve, HasNumber}
+use Rattle.run_laws.proofs.Members.{Has, has_contains, has_left, has_right}
+pub use Rattle.net_cells.proofs.TableValues.{has_number}
 
 -- the cells of P meet their equations, and what they are made of is of P too
 pub record Meets (net : Net) (at : CellTable) (P : Cell → Type 0) : Type 0 where
@@ -45,10 +46,6 @@ number_from Q (number x) q = (x, refl, q)
 pub has_curve : (at : CellTable) (c : Cell) (Q : SpecCurve → Type 0) (v : Meaning) → at c ≡ Some v → IsCurveIn Q v → HasCurve at c Q
 has_curve at c Q (curve f) is q = record { value = f; is = is; holds = q }
 has_curve at c Q (number x) is q = absurd q
-
-pub has_number : (at : CellTable) (c : Cell) (Q : Ext → Type 0) (v : Meaning) → at c ≡ Some v → IsNumberIn Q v → HasNumber at c Q
-has_number at c Q (curve f) is q = absurd q
-has_number at c Q (number x) is q = record { value = x; is = is; holds = q }
 
 pub curve_holds : (at : CellTable) (c : Cell) (Q : SpecCurve → Type 0) (f : SpecCurve) → HasCurve at c Q → at c ≡ Some (curve f) → Q f
 curve_holds at c Q f h is =

@@ -36,12 +36,13 @@ use Rattle.net_cells.specs.Meanings.{Meaning, curve, number, CellTable, IsCurveI
 use Rattle.net_cells.specs.Formulas.{Formula, leaves, made, value_of, horizontal}
 use Rattle.net_cells.specs.CellFormulas.{formula, sum_of, sum_from, queue_service, packets_to, served_to, less, service_at, value}
 use Rattle.net_cells.specs.Means.{Means}
-use Rattle.net_cells.proofs.Lists.{Has, map_has}
+use Rattle.net_cells.proofs.Lists.{map_has}
 use Rattle.net_cells.proofs.Members.{hop_kept}
 use Rattle.cell_operators.specs.Shapes.{Rises, Serving, Grows, Ahead}
 use Rattle.cell_operators.specs.TableValues.{HasCurve, HasNumber}
 use Rattle.cell_operators.proofs.Rises.{sum_rises, min_rises, shift_rises, deconvolution_rises, grows_served, priority_served}
 use Rattle.cell_operators.proofs.Meeting.{Meets, curve_from, number_from, has_curve, has_number, curve_holds, number_holds, sum_leaf, served_leaf}
+use Rattle.run_laws.proofs.Members.{Has}
 
 -- ---- numbers that are deviations
 deviation_ahead : (at : CellTable) (F G : Formula) (v : Meaning) → Means at (horizontal F G) v → IsNumberIn Ahead v

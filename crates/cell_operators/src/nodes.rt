@@ -25,19 +25,12 @@ use fifo_residual::fifo_service;
 use fraction128::{Ext, Frac};
 use net_cells::Cell;
 use packetiser::packetised;
+use run_laws::whole;
 use std::alloc::Global;
 use std::sync::ledger::Ledger;
 use steps::Steps;
 use upp_curve::Curve;
 use upp_limits::OpFault;
-
-/// A number of bits.
-pub fn whole(bits: u32) -> Frac
-    ensures { result ≡ whole bits }
-{
-    Frac::from_whole(i128::from(bits))
-}
-
 /// The horizontal deviation of a cell's curve, which rises, and another's, which serves. One step is counted; refused only
 /// where that call is over a limit.
 pub fn delay_between<T: Table<Value>, L: Ledger>(

@@ -30,7 +30,7 @@ pub fn packet(net: &Network, flow: u32) -> u32
 pub fn hop_at(net: &Network, flow: u32, server: u32) -> Option<u32>
     ensures { flow_visits net.now server flow ≡ visit_list flow result }
 {
-    let _kept = net.flows();
+    net.keeps();
     for hop in 0..hops(net, flow) {
         if server_at(net, flow, hop) == server {
             return Some(hop);

@@ -3,7 +3,7 @@ use Rattle.std.proofs.Common.{◌≡◌, ℕ, List, [], ◌∷◌, length, Optio
 use Rattle.std.specs.Prelude.{◌&&◌, nat_le}
 use Rattle.std.specs.List.{list_all, find}
 use Rattle.std.specs.Str.{bytes_eq}
-use Rattle.std.proofs.lemmas.Bool.{leb-true, le-leb}
+use Rattle.std.proofs.lemmas.Bool.{leb-true, le-leb, and_parts}
 use Rattle.std.proofs.lemmas.Slice.Eq.{bytes_eq-Decides}
 use Rattle.curve_script.specs.declared.keyword.TheConstants.{KEYWORDS}
 use Rattle.curve_script.specs.declared.keyword.Keyword.{Keyword}
@@ -61,10 +61,6 @@ pub keyword_found : (w : List ℕ) (k : Keyword) → keyword_of w ≡ Some k →
 unfolding keyword_of
 keyword_found w k e = (bytes_eq-Decides (spelling k) w).0 (found_passes (λ k. bytes_eq (spelling k) w) KEYWORDS k e)
 
-pub and_true : (a b : Bool) → (a && b) ≡ true → (a ≡ true) × (b ≡ true)
-and_true true b e = (refl, e)
-and_true false b e = absurd cc
-
 both_true : (a b : Bool) → a ≡ true → b ≡ true → (a && b) ≡ true
 both_true a b e f = rw e f
 
@@ -73,8 +69,8 @@ pub name_from_text : (w : List ℕ) → keyword_of w ≡ None → is_name_text w
 name_from_text [] none e = absurd cc
 name_from_text (b ∷ bs) none e =
     let w = b ∷ bs in
-    let parts = and_true (begins_with_letter w && nat_le (length w) 32) (list_all is_name_byte w) e in
-    let front = and_true (begins_with_letter w) (nat_le (length w) 32) parts.0 in
+    let parts = and_parts (begins_with_letter w && nat_le (length w) 32) (list_all is_name_byte w) e in
+    let front = and_parts (begins_with_letter w) (nat_le (length w) 32) parts.0 in
     record {
       some = omega arith;
       few = leb-true (length w) 32 front.1;

@@ -35,7 +35,8 @@ fn fault_at(kind: LangKind, number: u32) -> LangFault
 }
 
 fn keep_line(lines: &mut Vec<ScriptLine>, number: u32, stat: Stat) -> Result<(), AllocError>
-    ensures { OnOk result (map line_view lines.new.items ≡ map line_view lines.old.items ++ (number, statement_view stat) ∷ []) }
+    ensures { OnOk result (map line_view lines.new.items
+        ≡ map line_view lines.old.items ++ (number, statement_view stat) ∷ []) }
 {
     lines.push(ScriptLine { number, stat })?;
     Ok(())

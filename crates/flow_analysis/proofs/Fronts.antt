@@ -14,7 +14,7 @@ use Rattle.net_cells.specs.Order.{evaluation_order}
 use Rattle.net_cells.specs.CellFormulas.{formula}
 use Rattle.net_cells.specs.Meanings.{Meaning, CellTable}
 use Rattle.net_cells.specs.FirstOver.{IsAnswered, AnswersAll}
-use Rattle.net_cells.proofs.Lists.{Has, Apart, has_left, has_right, has_either, contains_has, has_contains}
+use Rattle.net_cells.proofs.Lists.{Apart}
 use Rattle.net_cells.proofs.SameLeaves.{AgreeOn, answers_same}
 use Rattle.net_cells.proofs.Members.{apart_cells}
 use Rattle.net_cells.proofs.Precedes.{leaf_in_front}
@@ -23,6 +23,7 @@ use Rattle.cell_table.specs.declared.fault.AnalysisFault.{AnalysisFault}
 use Rattle.cell_table.specs.Gives.{Gives}
 use Rattle.cell_table.proofs.GivesAnswers.{gives_ok, gives_over}
 use Rattle.flow_analysis.specs.Analyses.{IsFirstOver, IsRefusal, fault_at}
+use Rattle.run_laws.proofs.Members.{Has, has_left, has_right, has_either, contains_has, has_contains}
 
 -- ---- lists
 -- what stands before an element that is not repeated is another one

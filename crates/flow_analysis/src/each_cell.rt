@@ -31,8 +31,7 @@ pub fn analysed<V: CellValue + Drop, E: Evaluator<V>>(
     ensures within { E.count eval.new ≤ E.count eval.old + sum_by (work net.now) cells.now }
     ensures same { E.counter eval.new ≡ E.counter eval.old }
 {
-    // What an accepted network keeps is in the contract of this call.
-    let _ = net.servers();
+    net.keeps();
     let mut table = Analysis::new(alloc);
     for cell in cells {
         let value = match eval.eval(*cell, net, &table) {

@@ -31,7 +31,7 @@ use Rattle.net_cells.specs.Visits.{visit, visits, visits_in}
 use Rattle.net_cells.specs.Cells.{cell_of}
 use Rattle.net_cells.specs.Meanings.{CellTable}
 use Rattle.net_cells.specs.Equations.{MeetsEquations}
-use Rattle.net_cells.proofs.Lists.{Has, has_filter, filter_has}
+use Rattle.net_cells.proofs.Lists.{has_filter, filter_has}
 use Rattle.net_cells.proofs.Places.{has_visit, visit_has}
 use Rattle.net_bounds.specs.NetRuns.{routes_of, IsRunOf}
 use Rattle.net_bounds.specs.Promises.{seen_by}
@@ -40,6 +40,7 @@ use Rattle.net_bounds.proofs.Paths.{queue_is, passes_has}
 use Rattle.net_bounds.proofs.Routed.{own_queues, live_is, hops_is, routed, hop_is_live, hop_at, passes_at, hop_passes}
 use Rattle.net_bounds.proofs.ListSums.{HasKey}
 use Rattle.net_bounds.proofs.Cells.{values, HasValues}
+use Rattle.run_laws.proofs.Members.{Has}
 
 -- ---- the setting
 -- the curve of a flow at a server of its path

@@ -14,7 +14,7 @@ use Rattle.upp_kinds.proofs.KindValues.{bucket_is}
 use Rattle.curve_call.specs.Answers.{IsAnswer, IsMadeBy}
 use Rattle.net_cells.specs.declared.cell.Cell.{Cell}
 use Rattle.net_cells.specs.Numbered.{zero_curve}
-use Rattle.net_cells.specs.Meanings.{Meaning, curve, number, CellTable, IsCurveIn, IsNumberIn}
+use Rattle.net_cells.specs.Meanings.{Meaning, curve, number, CellTable, IsCurveIn}
 use Rattle.net_cells.specs.Formulas.{Formula, value_of, made}
 use Rattle.net_cells.specs.CellFormulas.{sum_from, sum_of}
 use Rattle.net_cells.specs.Means.{Means}
@@ -73,11 +73,6 @@ pub curve_from : (at : CellTable) (c : Cell) (P : (ℚ → Ext) → Type 0) (v :
     → IsCurveIn (λ f. P (value_at f)) v → HasCurve at c P
 curve_from at c P (curve f) e h = record { value = f; is = e; holds = h }
 curve_from at c P (number x) e h = absurd h
-
-pub number_from : (at : CellTable) (c : Cell) (P : Ext → Type 0) (v : Meaning) → at c ≡ Some v → IsNumberIn P v
-    → HasNumber at c P
-number_from at c P (curve f) e h = absurd h
-number_from at c P (number x) e h = record { value = x; is = e; holds = h }
 
 pub curve_map : (P Q : SpecCurve → Type 0) (v : Meaning) → ((f : SpecCurve) → P f → Q f) → IsCurveIn P v → IsCurveIn Q v
 curve_map P Q (curve f) m h = m f h

@@ -15,13 +15,14 @@ use Rattle.net_cells.specs.Visits.{visits_in, others}
 use Rattle.net_cells.specs.Cells.{cell_of}
 use Rattle.net_cells.specs.Meanings.{CellTable}
 use Rattle.net_cells.specs.Equations.{MeetsEquations}
-use Rattle.net_cells.proofs.Lists.{Has, has_filter, filter_has, has_range, range_has}
+use Rattle.net_cells.proofs.Lists.{has_filter, filter_has, has_range, range_has}
 use Rattle.net_bounds.specs.TableValues.{HasCurve}
 use Rattle.net_bounds.specs.Promises.{seen_by}
 use Rattle.net_bounds.proofs.ListSums.{sum_over, HasKey, list_keeps}
 use Rattle.net_bounds.proofs.Cells.{values, HasValues, curve_holds}
 use Rattle.net_bounds.proofs.QueueCells.{arriving_at, total_at, cross_is, total_is, higher_is}
 use Rattle.net_bounds.proofs.Arriving.{AtServer, keeps_values, flow_comes, IsVisiting, all_visiting, card_visit, has_in, IsVisitIn, visit_in, has_key}
+use Rattle.run_laws.proofs.Members.{Has}
 
 -- ---- a queue
 pub total_cell : (net : Net) (at : CellTable) (s q : ℕ) → MeetsEquations net at → q < queues net s

@@ -28,13 +28,14 @@ use Rattle.net_bounds.specs.TableValues.{HasCurve, HasNumber}
 use Rattle.net_bounds.specs.Promises.{seen_by, IsPathKept}
 use Rattle.net_bounds.proofs.Paths.{first_is}
 use Rattle.net_bounds.proofs.Routed.{own_queues, live_is, hops_is, routed, hop_inside, path_is}
-use Rattle.net_bounds.proofs.Cells.{values, curve_from, curve_has, curve_holds, number_from}
+use Rattle.net_bounds.proofs.Cells.{values, curve_from, curve_has, curve_holds}
 use Rattle.net_bounds.proofs.FormulaParts.{deviation_reads}
 use Rattle.net_bounds.proofs.HopCells.{residual_is}
 use Rattle.net_bounds.proofs.Arriving.{AtServer, flow_comes}
 use Rattle.net_bounds.proofs.Hops.{AtHop, flow_served}
 use Rattle.net_bounds.proofs.Hopwise.{IsRestFrom, stays_along, sum_is}
 use Rattle.net_bounds.proofs.Along.{services, IsAlong, AllGrow, path_reads, serves_along, links_are}
+use Rattle.net_cells.proofs.TableValues.{has_number}
 
 -- a live flow in a run of a network, all of whose servers are known to keep its curves
 pub record AlongPath (net : Net) (at : CellTable) (run : SpecRun) (i : ℕ) : Type 0 where
@@ -81,7 +82,7 @@ tfa_kept net at run i w =
     (subst (λ (h : List Hop). StaysAtMost R run i h xs) (sym (hops_is net i)) stays) in
     let is : sum_along R (route_of R i).hops xs ≡ total (with_links xs (map (link net) (path net i))) =
     ap (λ (h : List Hop). sum_along R h xs) (hops_is net i) ∙ sum in
-    number_from at (cell_of Tfa i 0) (IsFlowBounded R run i) e.value e.is
+    has_number at (cell_of Tfa i 0) (IsFlowBounded R run i) e.value e.is
     (subst (IsNumberIn (IsFlowBounded R run i)) (sym e.means.gives) (subst (IsFlowBounded R run i) is bounded))
 
 -- ---- by the service along the path
@@ -147,7 +148,7 @@ sfa_kept net at run i w =
     let is : h +ₑ Fin (links_along R (route_of R i).hops) ≡ total (with_links (h ∷ []) (map (link net) (path net i))) =
     ap (λ (hs : List Hop). h +ₑ Fin (links_along R hs)) (hops_is net i)
     ∙ ap (λ (x : Ext). h +ₑ x) (sym (links_of net (path net i) (own_queues net i) on.paired on.some)) in
-    number_from at (cell_of Sfa i 0) (IsFlowBounded R run i) e.value e.is
+    has_number at (cell_of Sfa i 0) (IsFlowBounded R run i) e.value e.is
     (subst (IsNumberIn (IsFlowBounded R run i)) (sym e.means.gives) (subst (IsFlowBounded R run i) is bounded))
 
 -- ---- and so by the lesser of the two
@@ -171,7 +172,7 @@ path_kept net at run i w =
           (path_ok net at run i w) (served_along net at run i w) along.splits);
       by_hops = tfa;
       by_service = sfa;
-      bound = number_from at (cell_of Bound i 0) (IsFlowBounded R run i) e.value e.is
+      bound = has_number at (cell_of Bound i 0) (IsFlowBounded R run i) e.value e.is
           (subst (IsNumberIn (IsFlowBounded R run i)) (sym e.means.gives.gives)
           (of_lesser (IsFlowBounded R run i) x y (subst (IsFlowBounded R run i) is_x tfa.holds)
           (subst (IsFlowBounded R run i) is_y sfa.holds)));

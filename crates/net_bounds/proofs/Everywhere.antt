@@ -24,7 +24,6 @@ use Rattle.net_cells.specs.Numbered.{arrival, path, path_of, hops, is_live}
 use Rattle.net_cells.specs.Cells.{cell_of}
 use Rattle.net_cells.specs.Meanings.{CellTable}
 use Rattle.net_cells.specs.Equations.{MeetsEquations}
-use Rattle.net_cells.proofs.Lists.{Has, contains_has}
 use Rattle.net_bounds.specs.NetRuns.{routes_of, IsRunOf}
 use Rattle.net_bounds.specs.Promises.{seen_by}
 use Rattle.net_bounds.proofs.Placed.{place_in, placed, place_of_at}
@@ -34,6 +33,7 @@ use Rattle.net_bounds.proofs.Cells.{values, curve_holds}
 use Rattle.net_bounds.proofs.HopCells.{in_first, in_next}
 use Rattle.net_bounds.proofs.Arriving.{arrivals, AtServer}
 use Rattle.net_bounds.proofs.Hops.{flow_goes_on}
+use Rattle.run_laws.proofs.Members.{Has, contains_has}
 
 -- ---- the order goes forward
 -- what stands among the first n has its place below n

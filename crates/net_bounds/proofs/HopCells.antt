@@ -20,8 +20,9 @@ use Rattle.net_cells.specs.Cells.{cell_of}
 use Rattle.net_cells.specs.Meanings.{curve, number, CellTable, IsCurveIn, IsNumberIn}
 use Rattle.net_cells.specs.Equations.{MeetsEquations}
 use Rattle.net_bounds.specs.TableValues.{HasCurve, HasNumber}
-use Rattle.net_bounds.proofs.Cells.{values, size_in, of_values, of_number, curve_from, number_from, curve_map, HasValues, made_of_two, same_curve}
+use Rattle.net_bounds.proofs.Cells.{values, size_in, of_values, of_number, curve_from, curve_map, HasValues, made_of_two, same_curve}
 use Rattle.net_bounds.proofs.FormulaParts.{deconvolution_same, a_curve, less_reads, deviation_reads}
+use Rattle.net_cells.proofs.TableValues.{has_number}
 
 out_cell : (net : Net) (i k : ℕ) → suc k < hops net i → nat_lt (k + 1) (hops net i) ≡ true
 out_cell net i k h = lt-ltb (k + 1) (hops net i) (omega (arith, h))
@@ -103,7 +104,7 @@ theta_is net at i k meets h =
     let e = meets (cell_of Theta i k) (lt-ltb k (hops net i) h) in
     let c = cell_of Cross i k in
     let d = cell_of QueueService (server_at net i k) (queue_at net i k) in
-    number_from at (cell_of Theta i k) (IsHorizontalDeviation (values at c) (values at d)) e.value e.is
+    has_number at (cell_of Theta i k) (IsHorizontalDeviation (values at c) (values at d)) e.value e.is
     (deviation_reads at c d IsHorizontalDeviation e.value e.means)
 
 pub residual_is : (net : Net) (at : CellTable) (i k : ℕ) → MeetsEquations net at → k < hops net i
@@ -151,5 +152,5 @@ hop_delay_is net at i k meets h =
       is_own = deviation_reads at (cell_of In i k) (cell_of Residual i k) IsHorizontalDeviation (number y) m.gives.is;
       is = of_number at q x (λ (z : Ext). min_ext x y ≡ min_ext z y) m.is refl;
     } in
-    number_from at (cell_of HopDelay i k) (IsHopDelay net at i k) e.value e.is
+    has_number at (cell_of HopDelay i k) (IsHopDelay net at i k) e.value e.is
     (subst (IsNumberIn (IsHopDelay net at i k)) (sym m.gives.gives) made)

@@ -1,4 +1,4 @@
--- A flow at a hop of its path: it is served by what the others of its queue leave, stays no longer than the hop's
+-- A flow at a hop of its path: it is served by what the other of its queue leave, stays no longer than the hop's
 -- delay, and leaves with the curve with which it comes to the next hop.
 use Rattle.std.specs.Prelude.{◌≡◌, ℕ, suc, ◌<◌, ◌≤◌, ◌==◌, Bool, true, false, ◌&&◌, List}
 use Rattle.std.proofs.Common.{arith, sym, ap, ◌∙◌, refl, subst, get_or}
@@ -31,13 +31,12 @@ use Rattle.net_cells.specs.declared.cell.Kind.TheVariants.{In, Cross, Total, Que
 use Rattle.net_cells.specs.Numbered.{packet, path, hops, server_at, queue_at, queues}
 use Rattle.net_cells.specs.Cells.{cell_of}
 use Rattle.net_cells.specs.Meanings.{CellTable}
-use Rattle.net_cells.proofs.Lists.{at_has}
 use Rattle.net_bounds.specs.NetRuns.{routes_of}
 use Rattle.net_bounds.specs.Promises.{seen_by, IsHopKept}
 use Rattle.net_bounds.proofs.Paths.{queue_is}
 use Rattle.net_bounds.proofs.Routed.{own_queues, hops_is, routed, hop_is_live, hop_at, queue_inside}
 use Rattle.net_bounds.proofs.Seen.{IsInOwnQueue, cards_map, in_own_queues, Agree, agree_back, keeps_same, serves_same, same_delays, same_departed_in}
-use Rattle.net_bounds.proofs.ListSums.{own, others, in_two}
+use Rattle.net_bounds.proofs.ListSums.{own, in_two}
 use Rattle.net_bounds.proofs.Cells.{values, size_in, curve_has, number_has, curve_holds, number_holds}
 use Rattle.net_bounds.proofs.HopCells.{in_curve, theta_is, residual_is, IsHopDelay, hop_delay_is, shift_out_is, deconv_out_is, out_is}
 use Rattle.net_bounds.proofs.QueueCells.{queue_delay_is}
@@ -45,6 +44,8 @@ use Rattle.net_bounds.proofs.Arriving.{AtServer, hop_is, flow_comes}
 use Rattle.net_bounds.proofs.Comes.{queue_comes, cross_comes}
 use Rattle.net_bounds.proofs.Sizes.{flow_sizes}
 use Rattle.net_bounds.proofs.Queues.{here, lawful_here, queue_served}
+use Rattle.run_laws.proofs.Members.{at_has}
+use Rattle.net_laws.proofs.Sums.{other}
 
 -- ---- the setting
 -- hop k of flow i is at the server
@@ -114,7 +115,7 @@ flow_served net at run i k s w =
     (λ (r : ℕ). (t : ℚ) → zero_q ≤ℚ t → IsFifoLeftover (values at (cell_of QueueService r q)) cross theta t (R t)) w.is
     (curve_holds at (cell_of Residual i k) _ is_residual) in
     record {
-      serves = fifo_serves (here net s) run.end V (of_queue q) (part net i k) (others (λ c. c.flow) i (of_queue q)) q
+      serves = fifo_serves (here net s) run.end V (of_queue q) (part net i k) (other (λ c. c.flow) i (of_queue q)) q
           β cross R theta
           (lawful_here net at run s w.server) (λ c e. eqb-true c.queue q e) (in_two (λ c. c.flow) i (of_queue q))
           (cross_comes net at run s i k w.server w.within w.is) queue.serves low residual;

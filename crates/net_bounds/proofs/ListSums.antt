@@ -15,7 +15,8 @@ use Rattle.run_laws.proofs.Parts.{arrivals_parts}
 use Rattle.run_laws.proofs.Sizes.{size_nonneg}
 use Rattle.run_laws.proofs.Sums.{when_false, when_nonneg, each_all, total_le}
 use Rattle.net_laws.specs.Sums.{with_number}
-use Rattle.net_cells.proofs.Lists.{Has}
+use Rattle.run_laws.proofs.Members.{Has}
+use Rattle.net_laws.proofs.Sums.{other}
 
 -- the sum of the values at a time
 abbrev pub sum_over : {X : Type 0} → (X → ℚ → Ext) → List X → ℚ → Ext
@@ -31,10 +32,7 @@ HasKey key (x ∷ xs) n = (key x ≡ n) ⊎ HasKey key xs n
 abbrev pub own : (Card → ℕ) → ℕ → Class → Class
 own number n C c = C c && (number c == n)
 
-abbrev pub others : (Card → ℕ) → ℕ → Class → Class
-others number n C c = C c && not (number c == n)
-
-pub in_two : (number : Card → ℕ) (n : ℕ) (C : Class) → AreParts C (own number n C) (others number n C)
+pub in_two : (number : Card → ℕ) (n : ℕ) (C : Class) → AreParts C (own number n C) (other number n C)
 in_two number n C = record { of_one = λ c. one (C c) (number c == n); apart = λ c. two (C c) (number c == n) }
   where
     one : (a b : Bool) → a ≡ ((a && b) || (a && not b))
@@ -67,7 +65,7 @@ own_less number n C V a b =
 
 -- those of another number are of the rest
 of_rest : {X : Type 0} (key : X → ℕ) (number : Card → ℕ) (x : X) (xs : List X) (C : Class) (c : Card)
-    → (C c ≡ true → HasKey key (x ∷ xs) (number c)) → others number (key x) C c ≡ true → HasKey key xs (number c)
+    → (C c ≡ true → HasKey key (x ∷ xs) (number c)) → other number (key x) C c ≡ true → HasKey key xs (number c)
 of_rest key number x xs C c h e =
     let both = and_parts (C c) (not (number c == key x)) e in
     elim (h both.0) [
@@ -90,7 +88,7 @@ list_keeps {X} key α number [] C V known keeps a b l =
     ]
 list_keeps {X} key α number (x ∷ xs) C V known keeps a b l =
     let n = key x in
-    let D = others number n C in
+    let D = other number n C in
     let fewer = arrivals_map (λ c. C c ≡ true → HasKey key (x ∷ xs) (number c))
     (λ c. D c ≡ true → HasKey key xs (number c))
     (λ c h. of_rest key number x xs C c h) V known in

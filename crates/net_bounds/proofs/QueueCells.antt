@@ -24,12 +24,13 @@ use Rattle.net_cells.specs.Meanings.{Meaning, curve, CellTable, IsCurveIn}
 use Rattle.net_cells.specs.CellFormulas.{queue_service}
 use Rattle.net_cells.specs.Means.{Means, IsPriorityCurve, IsDrrCurve}
 use Rattle.net_cells.specs.Equations.{MeetsEquations}
-use Rattle.net_cells.proofs.Lists.{Has}
 use Rattle.net_bounds.specs.TableValues.{HasCurve, HasNumber}
 use Rattle.net_bounds.proofs.ListSums.{sum_over}
-use Rattle.net_bounds.proofs.Cells.{values, of_values, curve_from, number_from, curve_map, HasValues, sum_reads, AllCurves}
+use Rattle.net_bounds.proofs.Cells.{values, of_values, curve_from, curve_map, HasValues, sum_reads, AllCurves}
 use Rattle.net_bounds.proofs.FormulaParts.{vertical_same, a_curve, less_reads, number_map, deviation_reads}
 use Rattle.net_bounds.proofs.HopCells.{in_curve}
+use Rattle.run_laws.proofs.Members.{Has}
+use Rattle.net_cells.proofs.TableValues.{has_number}
 
 -- the curve of a flow at a hop, and of a queue
 abbrev pub arriving_at : CellTable → Visit → ℚ → Ext
@@ -145,7 +146,7 @@ queue_delay_is net at s q meets h =
     let e = meets (cell_of QueueDelay s q) (lt-ltb q (queues net s) h) in
     let c = cell_of Total s q in
     let d = cell_of QueueService s q in
-    number_from at (cell_of QueueDelay s q) (IsHorizontalDeviation (values at c) (values at d)) e.value e.is
+    has_number at (cell_of QueueDelay s q) (IsHorizontalDeviation (values at c) (values at d)) e.value e.is
     (deviation_reads at c d IsHorizontalDeviation e.value e.means)
 
 pub queue_backlog_is : (net : Net) (at : CellTable) (s q : ℕ) → MeetsEquations net at → q < queues net s
@@ -159,7 +160,7 @@ queue_backlog_is net at s q meets h =
     let m = e.means in
     let f = m.operand in
     let g = m.gives.operand in
-    number_from at (cell_of QueueBacklog s q) (IsVerticalDeviation (values at c) less_one) e.value e.is
+    has_number at (cell_of QueueBacklog s q) (IsVerticalDeviation (values at c) less_one) e.value e.is
     (number_map (IsVerticalDeviation (value_at f) (value_at g)) (IsVerticalDeviation (values at c) less_one) e.value
     (λ x d.
     of_values at c f (λ (a : ℚ → Ext). IsVerticalDeviation a less_one x) m.is

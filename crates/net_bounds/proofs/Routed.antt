@@ -12,13 +12,14 @@ use Rattle.net_model.specs.Networks.{Net, NetServer, NetFlow}
 use Rattle.net_model.specs.Accepted.{IsAccepted, IsServer}
 use Rattle.net_laws.specs.Paths.{IsPath}
 use Rattle.net_cells.specs.Numbered.{flow_at, path_of, queues_of, path, hops, server_at, queue_at, is_live, link_of, link, discipline, discipline_of}
-use Rattle.net_cells.proofs.Lists.{Apart, at_has}
+use Rattle.net_cells.proofs.Lists.{Apart}
 use Rattle.net_cells.proofs.Places.{live_inside}
 use Rattle.net_cells.proofs.Members.{hop_kept}
 use Rattle.net_cells.proofs.Stored.{server_kept}
 use Rattle.net_bounds.specs.NetRuns.{hops_along, route_for, server_for, link_for, routes_of}
 use Rattle.net_bounds.proofs.Placed.{place_in, placed, apart_from}
 use Rattle.net_bounds.proofs.Paths.{is_path, passes_has, has_passes}
+use Rattle.run_laws.proofs.Members.{at_has}
 
 -- ---- flows
 map_at : {X Y : Type 0} (f : X → Y) (d : X) (xs : List X) (i : ℕ) → get_or (map f xs) i (f d) ≡ f (get_or xs i d)

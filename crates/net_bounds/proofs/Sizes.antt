@@ -12,10 +12,11 @@ use Rattle.net_cells.specs.Numbered.{packet, queue_at}
 use Rattle.net_cells.specs.declared.visit.Visit.{Visit}
 use Rattle.net_cells.specs.Visits.{visits, visits_in, visits_after, longest_of, longest, longest_after}
 use Rattle.net_cells.specs.Meanings.{CellTable}
-use Rattle.net_cells.proofs.Lists.{Has, has_filter}
+use Rattle.net_cells.proofs.Lists.{has_filter}
 use Rattle.net_bounds.specs.Promises.{seen_by}
 use Rattle.net_bounds.proofs.Routed.{hop_at}
 use Rattle.net_bounds.proofs.Arriving.{AtServer, IsVisiting, all_visiting, card_visit, has_card, has_in}
+use Rattle.run_laws.proofs.Members.{Has}
 
 longest_most : (net : Net) (vs : List Visit) (v : Visit) → Has vs v → packet net v.flow ≤ longest_of net vs
 longest_most net [] v h = absurd h

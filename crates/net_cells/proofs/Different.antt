@@ -14,9 +14,10 @@ use Rattle.net_cells.specs.Order.{at_visit}
 use Rattle.net_cells.specs.Formulas.{leaves}
 use Rattle.net_cells.specs.CellFormulas.{formula, formula_of, sum_of, arriving, queue_service}
 use Rattle.net_cells.specs.Laws.{OperandsAreDifferent}
-use Rattle.net_cells.proofs.Lists.{Has, Apart, apart_pairs, apart_map, apart_filter, apart_range}
+use Rattle.net_cells.proofs.Lists.{Apart, apart_pairs, apart_map, apart_filter, apart_range}
 use Rattle.net_cells.proofs.Places.{apart_visits, at_visit_one, cell_of_one}
 use Rattle.net_cells.proofs.LeavesOf.{sum_leaves, served_leaves}
+use Rattle.run_laws.proofs.Members.{Has}
 
 -- ---- one, two, three
 one_apart : (x : Cell) → Apart (x ∷ [])

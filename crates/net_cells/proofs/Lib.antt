@@ -1,4 +1,5 @@
 pub mod Lists
+pub mod TableValues
 pub mod OneMeaning
 pub mod OneAnswer
 pub mod AnswersMean

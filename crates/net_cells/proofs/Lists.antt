@@ -3,11 +3,7 @@ use Rattle.std.proofs.Common.{◌≡◌, ℕ, ◌<◌, ◌≤◌, ◌+◌, zero,
 use Rattle.std.specs.Prelude.{Contains, AllPairs, ◌≢◌}
 use Rattle.std.specs.List.{filter, flat_map, range_with_len}
 use Rattle.std.proofs.lemmas.Bool.{cases_lt}
-
--- x is one of them
-abbrev pub Has : {X : Type 0} → List X → X → Type 0
-Has [] x = ⊥
-Has (y ∷ ys) x = (y ≡ x) ⊎ Has ys x
+pub use Rattle.run_laws.proofs.Members.{Has, at_has, contains_has, has_contains, has_left, has_right, has_either, has_map, has_flat}
 
 -- none of them is there twice
 abbrev pub Apart : {X : Type 0} → List X → Type 0
@@ -20,19 +16,6 @@ Before x y [] = ⊥
 Before x y (z ∷ zs) = ((z ≡ x) × Has zs y) ⊎ Before x y zs
 
 -- ---- by places
-pub at_has : {X : Type 0} (xs : List X) (k : ℕ) (d x : X) → k < length xs → get_or xs k d ≡ x → Has xs x
-at_has [] k d x h e = absurd (omega (arith, h))
-at_has (y ∷ ys) zero d x h e = inl e
-at_has (y ∷ ys) (suc k) d x h e = inr (at_has ys k d x (omega (arith, h)) e)
-
-pub contains_has : {X : Type 0} (xs : List X) (x : X) → Contains xs x → Has xs x
-contains_has xs x c = at_has xs c.0 x x c.1 c.2
-
-pub has_contains : {X : Type 0} (xs : List X) (x : X) → Has xs x → Contains xs x
-has_contains [] x h = absurd h
-has_contains (y ∷ ys) x (inl e) = (0, omega arith, e)
-has_contains (y ∷ ys) x (inr h) = let c = has_contains ys x h in (suc c.0, omega (arith, c.1), c.2)
-
 pub apart_pairs : {X : Type 0} (xs : List X) → Apart xs → AllPairs (λ x y. x ≢ y) xs
 apart_pairs [] a i j d h k = absurd (omega (arith, k))
 apart_pairs (x ∷ xs) a i zero d h k = absurd (omega (arith, h))
@@ -40,20 +23,6 @@ apart_pairs (x ∷ xs) a zero (suc j) d h k = λ e. a.0 (at_has xs j d x (omega 
 apart_pairs (x ∷ xs) a (suc i) (suc j) d h k = apart_pairs xs a.1 i j d (omega (arith, h)) (omega (arith, k))
 
 -- ---- joined
-pub has_left : {X : Type 0} (xs ys : List X) (x : X) → Has xs x → Has (xs ++ ys) x
-has_left [] ys x h = absurd h
-has_left (z ∷ zs) ys x (inl e) = inl e
-has_left (z ∷ zs) ys x (inr h) = inr (has_left zs ys x h)
-
-pub has_right : {X : Type 0} (xs ys : List X) (x : X) → Has ys x → Has (xs ++ ys) x
-has_right [] ys x h = h
-has_right (z ∷ zs) ys x h = inr (has_right zs ys x h)
-
-pub has_either : {X : Type 0} (xs ys : List X) (x : X) → Has (xs ++ ys) x → Has xs x ⊎ Has ys x
-has_either [] ys x h = inr h
-has_either (z ∷ zs) ys x (inl e) = inl (inl e)
-has_either (z ∷ zs) ys x (inr h) = elim (has_either zs ys x h) [ inl l ↦ inl (inr l) | inr r ↦ inr r ]
-
 pub apart_joined : {X : Type 0} (xs ys : List X) → Apart xs → Apart ys → ((x : X) → Has xs x → ¬ (Has ys x))
     → Apart (xs ++ ys)
 apart_joined [] ys a b never = b
@@ -63,11 +32,6 @@ apart_joined (x ∷ xs) ys a b never = (
 )
 
 -- ---- mapped
-pub has_map : {X Y : Type 0} (f : X → Y) (xs : List X) (x : X) → Has xs x → Has (map f xs) (f x)
-has_map f [] x h = absurd h
-has_map f (z ∷ zs) x (inl e) = inl (ap f e)
-has_map f (z ∷ zs) x (inr h) = inr (has_map f zs x h)
-
 pub map_has : {X Y : Type 0} (f : X → Y) (xs : List X) (y : Y) → Has (map f xs) y → (x : X) × Has xs x × (f x ≡ y)
 map_has f [] y h = absurd h
 map_has f (z ∷ zs) y (inl e) = (z, inl refl, e)
@@ -116,12 +80,6 @@ apart_filter {X} p (y ∷ ys) a = here (p y) (apart_filter p ys a.1)
     here false rest = rest
 
 -- ---- one list for each element
-pub has_flat : {X Y : Type 0} (f : X → List Y) (xs : List X) (x : X) (y : Y) → Has xs x → Has (f x) y
-    → Has (flat_map f xs) y
-has_flat f [] x y h k = absurd h
-has_flat f (z ∷ zs) x y (inl e) k = has_left (f z) (flat_map f zs) y (subst (λ w. Has (f w) y) (sym e) k)
-has_flat f (z ∷ zs) x y (inr h) k = has_right (f z) (flat_map f zs) y (has_flat f zs x y h k)
-
 pub flat_has : {X Y : Type 0} (f : X → List Y) (xs : List X) (y : Y) → Has (flat_map f xs) y
     → (x : X) × Has xs x × Has (f x) y
 flat_has f [] y h = absurd h

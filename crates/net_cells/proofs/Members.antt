@@ -18,8 +18,9 @@ use Rattle.net_cells.specs.Numbered.{flow_at, path_of, queues_of, packet_of, hop
 use Rattle.net_cells.specs.Cells.{cell_of, scope_of, is_in_scope, has_cell, path_kinds}
 use Rattle.net_cells.specs.Order.{evaluation_order, server_cells, path_cells}
 use Rattle.net_cells.specs.Laws.{OrderHasEachCell}
-use Rattle.net_cells.proofs.Lists.{Has, Apart, contains_has, has_contains, apart_pairs, has_left, has_right, has_either, apart_joined, has_flat, flat_has, apart_flat}
+use Rattle.net_cells.proofs.Lists.{Apart, apart_pairs, apart_joined, flat_has, apart_flat}
 use Rattle.net_cells.proofs.Places.{flow_inside, home, home_in, Side, at_servers, of_paths, side_of, IsHome, IsOnPath, server_have, has_server, apart_server, path_have, has_path, apart_path, apart_path_kinds, path_scope}
+use Rattle.run_laws.proofs.Members.{Has, contains_has, has_contains, has_left, has_right, has_either, has_flat}
 
 -- ---- hops of an accepted network
 -- a hop that there is is one of a live flow

@@ -23,9 +23,10 @@ use Rattle.net_cells.specs.Order.{at_visit, evaluation_order, server_cells, kind
 use Rattle.net_cells.specs.Formulas.{Formula, leaves, made, value_of}
 use Rattle.net_cells.specs.CellFormulas.{formula, sum_of, sum_from, packets_to, served_to, queue_service, less}
 use Rattle.net_cells.specs.Laws.{OperandsComeFirst, OperandsAreCells}
-use Rattle.net_cells.proofs.Lists.{Has, Before, has_right, has_either, map_has, filter_has, has_flat, range_has, before_left, before_right, before_across, before_flat, before_inside, before_place, before_split, Apart, contains_has, has_contains}
+use Rattle.net_cells.proofs.Lists.{Before, map_has, filter_has, range_has, before_left, before_right, before_across, before_flat, before_inside, before_place, before_split, Apart}
 use Rattle.net_cells.proofs.Places.{flow_inside, live_inside, visit_has, home, home_in, rank, kinds_before, path_kinds_before, IsHome, has_kind, has_server, has_path}
 use Rattle.net_cells.proofs.Members.{hop_of, hop_kept, home_inside, home_in_order, order_has, apart_cells}
+use Rattle.run_laws.proofs.Members.{Has, has_right, has_either, has_flat, contains_has, has_contains}
 
 -- ---- both in the order
 abbrev All : Net → List ℕ → List Cell

@@ -14,7 +14,7 @@ use Rattle.net_cells.specs.NumberSums.{Sums, total}
 use Rattle.net_cells.specs.Formulas.{Formula, leaves, value_of, given, empty_sum, made, made_of, moved, leftover, priority, deficit, horizontal, vertical, smaller, along, delayed}
 use Rattle.net_cells.specs.Means.{Means, OfCurve, OfNumber, HaveNumbers, IsPriorityCurve, with_links}
 use Rattle.net_cells.specs.Answers.{Answer, Answers, IsOnly, MakesCurve, MakesNumber, Deviates, ThenCurve, ThenNumber}
-use Rattle.net_cells.proofs.Lists.{Has, has_left, has_right}
+use Rattle.run_laws.proofs.Members.{Has, has_left, has_right}
 
 -- two tables have the same values at some cells
 abbrev pub AgreeOn : List Cell → CellTable → CellTable → Type 0

@@ -14,13 +14,13 @@ use Rattle.net_cells.specs.Meanings.{CellTable}
 use Rattle.net_cells.specs.Equations.{MeetsEquation}
 use Rattle.net_cells.specs.FirstOver.{IsAnswered, FirstOver}
 use Rattle.net_cells.specs.Laws.{TablesAgree, AnswersMeetEquations, FrontMeetsBelow, OneIsFirstOver}
-use Rattle.net_cells.proofs.Lists.{Has, has_left, has_right, has_either, contains_has, has_contains}
 use Rattle.net_cells.proofs.OneMeaning.{means_one}
 use Rattle.net_cells.proofs.OneAnswer.{answers_one}
 use Rattle.net_cells.proofs.AnswersMean.{answers_mean}
 use Rattle.net_cells.proofs.SameLeaves.{AgreeOn, means_same, answers_same}
 use Rattle.net_cells.proofs.Members.{in_order, order_has}
 use Rattle.net_cells.proofs.Precedes.{leaf_in_front, in_front}
+use Rattle.run_laws.proofs.Members.{Has, has_left, has_right, has_either, contains_has, has_contains}
 
 -- ---- on a front of the order
 abbrev MeetOn : Net → CellTable → List Cell → Type 0

@@ -3,6 +3,7 @@ pub mod Visits
 pub mod Cells
 pub mod Order
 pub mod Meanings
+pub mod TableValues
 pub mod Formulas
 pub mod CellFormulas
 pub mod NumberSums

@@ -96,18 +96,6 @@ pub fn is_by_priority(net: &Network, number: u32) -> bool
         None => true,
     }
 }
-
-fn queue_count(discipline: &Discipline) -> u32
-    requires { HasFewQueues (views.discipline_of discipline.now) }
-    ensures { result ≡ spec.queue_count (views.discipline_of discipline.now) }
-{
-    match discipline {
-        Discipline::Fifo => 1,
-        Discipline::Priority { queues } => *queues,
-        Discipline::Drr { quanta } => quanta.len() as u32,
-    }
-}
-
 fn level_count(discipline: &Discipline) -> u32
     ensures { result ≡ at.levels_of (views.discipline_of discipline.now) }
 {
@@ -125,7 +113,7 @@ pub fn queues(net: &Network, server: u32) -> u32
     let servers = net.servers();
     let place = server as usize;
     if place < servers.len() {
-        queue_count(&servers[place].discipline)
+        servers[place].discipline.queue_count() as u32
     } else {
         0
     }

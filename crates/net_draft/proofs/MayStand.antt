@@ -30,6 +30,7 @@ use Rattle.net_model.proofs.KindsStand.{kinds_may_stand}
 use Rattle.net_draft.specs.Texts.{CurveText, Bucket, Stair, RateLatency, Gate, Listed, IsServiceOf, IsArrivalOf}
 use Rattle.net_draft.specs.Made.{IsMade}
 use Rattle.net_draft.specs.Laws.{kind_of, MadeMayStand}
+use Rattle.curve_library.proofs.ListedParts.{read_first, smooth_same}
 
 -- ---- numbers
 nonneg : (x : ℚ) → ¬ (x <ℚ zero_q) → zero_q ≤ℚ x
@@ -74,9 +75,6 @@ listed_finite (p ∷ ps) (Some k) w t late =
     (repeated_number (read (text_pieces (p ∷ ps))) k.rank k.period k.rise t
     (λ u. subst IsNumber (sym (read_is (text_piece p) (text_pieces ps) u)) (read_number (text_piece p) (text_pieces ps) u (finite_pieces (p ∷ ps)))))
 
-read_first : (q : Piece) (qs : List Piece) → q.x ≡ zero_q → RisesFrom q.x qs → read (q ∷ qs) zero_q ≡ q.at
-read_first q qs e r = read_is q qs zero_q ∙ ap (read_in q qs) (sym e) ∙ at_start q qs r
-
 listed_start : (p : PieceText) (ps : List PieceText) (tail : Option TailText) → IsWellFormed (p ∷ ps) tail → value_at (listed_curve (p ∷ ps) tail) zero_q ≡ Fin p.at
 unfolding value_at
 listed_start p ps None w = read_first (text_piece p) (text_pieces ps) w.order.starts.0 w.order.starts.1
@@ -96,16 +94,6 @@ from_start f v e h rise t late =
 start_nonneg : (ps : List PieceText) (tail : Option TailText) → IsWellFormed ps tail → IsRising (value_at (listed_curve ps tail)) → IsNonnegative (value_at (listed_curve ps tail))
 start_nonneg [] tail w rise = absurd w.order.starts
 start_nonneg (p ∷ ps) tail w rise = from_start (value_at (listed_curve (p ∷ ps) tail)) p.at (listed_start p ps tail w) w.nonneg.pieces.0.value rise
-
-smooth_same : (f g : ℚ → Ext) → ((t : ℚ) → zero_q ≤ℚ t → f t ≡ g t) → IsContinuous f → IsContinuous g
-smooth_same f g same smooth t e low some =
-    let (d, N) = smooth t e low some in (
-      d,
-      record {
-        some = N.some;
-        near = λ s start late early. let a = same s start in let b = same t low in rw (← a, ← b) (N.near s start late early);
-      },
-    )
 
 listed_service : (ps : List PieceText) (tail : Option TailText) (c : SpecCurve) → KeepsListed ps tail Service (Ok c) → IsServiceCurve c
 listed_service ps tail c h =

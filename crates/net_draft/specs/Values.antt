@@ -12,8 +12,8 @@ use Rattle.toml.specs.Data.{Data, Items, no_items, item, Members, get_member}
 use Rattle.toml.specs.Data.{as_str, as_integer, as_bool, as_array, as_table}
 use Rattle.net_model.specs.declared.fault.NetKind.{NetKind}
 use Rattle.net_model.specs.declared.fault.NetKind.TheVariants.{M2, M4, M5, M6, M7, M11}
-use Rattle.net_model.specs.Names.{is_name_byte}
 use Rattle.net_draft.specs.Faults.{◌>>=◌, Read, placed, under}
+pub use Rattle.net_model.specs.Names.{is_name}
 
 -- ---- kinds
 -- a value of the kind that is asked for
@@ -82,8 +82,6 @@ longest = 16777216
 
 -- ---- names
 -- 1 to 32 letters, digits, `_` or `-`
-abbrev pub is_name : List ℕ → Bool
-is_name s = (nat_le 1 (length s) && nat_le (length s) 32) && list_all is_name_byte s
 
 abbrev pub name_of : List ℕ → Result (List ℕ) NetKind
 name_of s = if is_name s then Ok s else Err M6

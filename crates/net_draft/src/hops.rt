@@ -1,14 +1,9 @@
 //! Entries of paths.
 
-ghost use Rattle.std.specs.Prelude.{◌≡◌, ◌≢◌, ◌-◌, ◌^◌, ◌<◌, ◌≤◌, min, false, true, [], map, codes, length};
-ghost use Rattle.std.specs.Prelude.{IfOk, All, AllPairs, MatchOption, Some, slice_get, nat_eq};
+ghost use Rattle.std.specs.Prelude.{◌≡◌, ◌≢◌, ◌-◌, ◌^◌, ◌<◌, ◌≤◌, min, true, [], map, codes, length};
+ghost use Rattle.std.specs.Prelude.{IfOk, All, AllPairs, Some, slice_get, nat_eq};
 ghost use Rattle.std.specs.List.{list_any, position};
-ghost use Rattle.std.specs.Str.Parse.{digits_value};
-ghost use Rattle.rational.specs.Gauge.{cap};
-ghost use Rattle.fraction128.specs.Text.{is_numeral};
-ghost use Rattle.run_laws.specs.Servers.{queue_count};
 ghost use Rattle.toml.specs.View.{view, table_view};
-ghost use Rattle.net_model.specs.Views.{discipline_of};
 ghost use Rattle.net_draft.specs.Faults.{Gives, seen};
 ghost use Rattle.net_draft.specs.Hops.{is_colon, hop_parts, hop_text, hop_in, named_from};
 ghost use Rattle.net_draft.specs.HopViews.{hop_view};
@@ -21,12 +16,12 @@ use crate::fault::DraftFault;
 use crate::hop::Hop;
 use crate::keys::required_list;
 use crate::limits::MOST_HOPS;
-use crate::names::is_name;
 use crate::places::{fault_at, nth, under};
 use crate::server_draft::ServerDraft;
 use crate::server_list::ServerList;
 use crate::values::text_in;
-use net_model::{Discipline, NetKind};
+use fraction128::read_digits;
+use net_model::{NetKind, is_name};
 use std::alloc::Global;
 use toml::{Table, Value};
 
@@ -43,24 +38,6 @@ fn find_colon(bytes: &[u8]) -> Option<usize>
     bytes.iter().position(|b| *b == b':')
 }
 
-/// The number that digits write, or 2^128 - 1 where it is above that; none where something else is there, or nothing.
-fn read_digits(digits: &[u8]) -> Option<u128>
-    ensures { MatchOption result (is_numeral digits.now ≡ false)
-        (λ n. (is_numeral digits.now ≡ true) × (n ≡ cap (digits_value 10 digits.now))) }
-{
-    if digits.is_empty() {
-        return None;
-    }
-    let mut n: u128 = 0;
-    for b in digits {
-        if !b.is_ascii_digit() {
-            return None;
-        }
-        n = n.saturating_mul(10).saturating_add((*b - b'0') as u128);
-    }
-    Some(n)
-}
-
 #[tactic(auto, unfolding(rational::specs::Gauge::cap))]
 fn queue_number(n: u128) -> u32
     ensures { result ≡ min n (2 ^ 32 - 1) }
@@ -75,7 +52,7 @@ fn queue_number(n: u128) -> u32
 fn hop_of_parts<'a>(name: &'a str, digits: &[u8]) -> Result<WrittenHop<'a>, NetKind>
     ensures { seen hop_view result ≡ hop_parts name.now digits.now }
 {
-    if !is_name(name.as_bytes()) {
+    if !is_name(name) {
         return Err(NetKind::M5);
     }
     match read_digits(digits) {
@@ -112,16 +89,6 @@ fn server_named<'a>(
     }
 }
 
-fn queue_count(discipline: &Discipline) -> usize
-    ensures { result ≡ queue_count (discipline_of discipline.now) }
-{
-    match discipline {
-        Discipline::Fifo => 1,
-        Discipline::Priority { queues } => *queues as usize,
-        Discipline::Drr { quanta } => quanta.len(),
-    }
-}
-
 fn passes_server(hops: &[Hop], server: usize) -> bool
     ensures { result ≡ list_any (λ h. nat_eq h.server server) hops.now }
 {
@@ -142,7 +109,7 @@ fn hop_in(servers: &ServerList, before: &[Hop], value: &Value) -> Result<Hop, Ne
     let text = text_in(value)?;
     let written = written_hop(text)?;
     let (number, server) = server_named(servers, written.name)?;
-    if written.queue as usize >= queue_count(&server.discipline) {
+    if written.queue as usize >= server.discipline.queue_count() {
         return Err(NetKind::M6);
     }
     if passes_server(before, number) {

@@ -28,6 +28,36 @@ pub(crate) fn field<'a>(table: &'a Table, key: &str) -> Option<&'a Value>
     table.get(key)
 }
 
+/// What is read of the value at a key, or the answer for a table that has none; a fault has the key's place.
+macro_rules! value_at {
+    ($alloc:expr, $table:expr, $place:expr, $key:expr, $absent:expr, |$value:ident| $read:expr) => {
+        match field($table, $key) {
+            None => $absent,
+            Some($value) => match $read {
+                Ok(read) => Ok(read),
+                Err(kind) => Err(fault_under($alloc, kind, $place, $key)),
+            },
+        }
+    };
+}
+
+/// The same at a key that has to be there.
+macro_rules! required_at {
+    ($alloc:expr, $table:expr, $place:expr, $key:expr, |$value:ident| $read:expr) => {
+        value_at!(
+            $alloc,
+            $table,
+            $place,
+            $key,
+            Err(fault_under($alloc, NetKind::M2, $place, $key)),
+            |$value| $read
+        )
+    };
+}
+
+pub(crate) use required_at;
+pub(crate) use value_at;
+
 fn is_known(key: &str, known: &[&str]) -> bool
     ensures { result ≡ list_any (bytes_eq key.now) (texts_of known.now) }
 {
@@ -78,13 +108,7 @@ pub(crate) fn required_number(
 ) -> Result<Frac, DraftFault>
     ensures { Gives (λ x. x) result (at_key key.now (required number_in) place.now (table_view table.now)) }
 {
-    match field(table, key) {
-        None => Err(fault_under(alloc, NetKind::M2, place, key)),
-        Some(value) => match number_in(value) {
-            Ok(number) => Ok(number),
-            Err(kind) => Err(fault_under(alloc, kind, place, key)),
-        },
-    }
+    required_at!(alloc, table, place, key, |value| number_in(value))
 }
 
 pub(crate) fn number_or(
@@ -96,13 +120,14 @@ pub(crate) fn number_or(
 ) -> Result<Frac, DraftFault>
     ensures { Gives (λ x. x) result (at_key key.now (optional number_in default) place.now (table_view table.now)) }
 {
-    match field(table, key) {
-        None => Ok(default),
-        Some(value) => match number_in(value) {
-            Ok(number) => Ok(number),
-            Err(kind) => Err(fault_under(alloc, kind, place, key)),
-        },
-    }
+    value_at!(
+        alloc,
+        table,
+        place,
+        key,
+        Ok(default),
+        |value| number_in(value)
+    )
 }
 
 pub(crate) fn positive_number(
@@ -114,13 +139,7 @@ pub(crate) fn positive_number(
     ensures value { Gives (λ x. x) result (at_key key.now (required positive_in) place.now (table_view table.now)) }
     ensures range { IfOk result (λ x. int (pos 0) <ℚ x) }
 {
-    match field(table, key) {
-        None => Err(fault_under(alloc, NetKind::M2, place, key)),
-        Some(value) => match positive_in(value) {
-            Ok(number) => Ok(number),
-            Err(kind) => Err(fault_under(alloc, kind, place, key)),
-        },
-    }
+    required_at!(alloc, table, place, key, |value| positive_in(value))
 }
 
 /// A number that is not below 0; 0 where there is none.
@@ -134,13 +153,14 @@ pub(crate) fn nonnegative_number(
         (at_key key.now (optional nonnegative_in (int (pos 0))) place.now (table_view table.now)) }
     ensures range { IfOk result (λ x. int (pos 0) ≤ℚ x) }
 {
-    match field(table, key) {
-        None => Ok(Frac::zero()),
-        Some(value) => match nonnegative_in(value) {
-            Ok(number) => Ok(number),
-            Err(kind) => Err(fault_under(alloc, kind, place, key)),
-        },
-    }
+    value_at!(
+        alloc,
+        table,
+        place,
+        key,
+        Ok(Frac::zero()),
+        |value| nonnegative_in(value)
+    )
 }
 
 pub(crate) fn required_whole(
@@ -155,13 +175,13 @@ pub(crate) fn required_whole(
         (at_key key.now (required (whole_in least most)) place.now (table_view table.now)) }
     ensures range { IfOk result (λ n. (least ≤ n) × (n ≤ most)) }
 {
-    match field(table, key) {
-        None => Err(fault_under(alloc, NetKind::M2, place, key)),
-        Some(value) => match whole_in(value, least, most) {
-            Ok(whole) => Ok(whole),
-            Err(kind) => Err(fault_under(alloc, kind, place, key)),
-        },
-    }
+    required_at!(
+        alloc,
+        table,
+        place,
+        key,
+        |value| whole_in(value, least, most)
+    )
 }
 
 /// The version: 1, also where there is none.
@@ -170,13 +190,14 @@ pub(crate) fn version(alloc: Global, table: &Table) -> Result<u32, DraftFault>
         (at_key (codes "version") (optional (whole_in 1 1) 1) [] (table_view table.now)) }
     ensures range { IfOk result (λ n. n ≡ 1) }
 {
-    match field(table, "version") {
-        None => Ok(1),
-        Some(value) => match whole_in(value, 1, 1) {
-            Ok(whole) => Ok(whole),
-            Err(kind) => Err(fault_under(alloc, kind, "", "version")),
-        },
-    }
+    value_at!(
+        alloc,
+        table,
+        "",
+        "version",
+        Ok(1),
+        |value| whole_in(value, 1, 1)
+    )
 }
 
 /// A truth; false where there is none.
@@ -188,13 +209,7 @@ pub(crate) fn is_true(
 ) -> Result<bool, DraftFault>
     ensures { Gives (λ b. b) result (at_key key.now (optional truth_in false) place.now (table_view table.now)) }
 {
-    match field(table, key) {
-        None => Ok(false),
-        Some(value) => match truth_in(value) {
-            Ok(truth) => Ok(truth),
-            Err(kind) => Err(fault_under(alloc, kind, place, key)),
-        },
-    }
+    value_at!(alloc, table, place, key, Ok(false), |value| truth_in(value))
 }
 
 pub(crate) fn required_list<'a>(
@@ -209,13 +224,13 @@ pub(crate) fn required_list<'a>(
         (at_key key.now (required (list_in least most)) place.now (table_view table.now)) }
     ensures range { IfOk result (λ vs. (least ≤ length vs.now) × (length vs.now ≤ most)) }
 {
-    match field(table, key) {
-        None => Err(fault_under(alloc, NetKind::M2, place, key)),
-        Some(value) => match list_in(value, least, most) {
-            Ok(entries) => Ok(entries),
-            Err(kind) => Err(fault_under(alloc, kind, place, key)),
-        },
-    }
+    required_at!(
+        alloc,
+        table,
+        place,
+        key,
+        |value| list_in(value, least, most)
+    )
 }
 
 /// The entries of an array at a key of the root; none where there is no such key.
@@ -229,11 +244,12 @@ pub(crate) fn list_or_none<'a>(
         (at_key key.now (optional (list_in 0 most) []) [] (table_view table.now)) }
     ensures range { IfOk result (λ vs. length vs.now ≤ most) }
 {
-    match field(table, key) {
-        None => Ok(&[]),
-        Some(value) => match list_in(value, 0, most) {
-            Ok(entries) => Ok(entries),
-            Err(kind) => Err(fault_under(alloc, kind, "", key)),
-        },
-    }
+    value_at!(
+        alloc,
+        table,
+        "",
+        key,
+        Ok(&[]),
+        |value| list_in(value, 0, most)
+    )
 }

@@ -1,13 +1,13 @@
 //! Names of servers and flows.
 
 ghost use Rattle.std.specs.Prelude.{◌≡◌, ◌≢◌, ◌++◌, ◌∷◌, [], IfOk, IfErr, codes, All, true, not};
-ghost use Rattle.std.specs.List.{list_all, list_any};
+ghost use Rattle.std.specs.List.{list_any};
 ghost use Rattle.std.specs.Str.{bytes_eq};
 ghost use Rattle.toml.specs.View.{view, table_view};
-ghost use Rattle.net_model.specs.Names.{IsName, is_name_byte};
+ghost use Rattle.net_model.specs.Names.{IsName};
 ghost use Rattle.net_draft.specs.declared.fault.DraftFault.TheVariants.{NoMemory};
 ghost use Rattle.net_draft.specs.Faults.{Gives, seen};
-ghost use Rattle.net_draft.specs.Values.{is_name, name_in, at_key, required, new_name};
+ghost use Rattle.net_draft.specs.Values.{name_in, at_key, required, new_name};
 ghost use Rattle.net_draft.specs.NameTexts.{texts};
 
 use crate::fault::DraftFault;
@@ -15,36 +15,16 @@ use crate::keys::field;
 use crate::places::fault_under;
 use crate::values::text_in;
 use indexmap::IndexSet;
-use net_model::NetKind;
+use net_model::{NetKind, is_name};
 use std::alloc::Global;
 use toml::{Table, Value};
-
-fn is_name_byte(byte: u8) -> bool
-    ensures { result ≡ is_name_byte byte }
-{
-    matches!(byte, b'a'..=b'z' | b'A'..=b'Z' | b'0'..=b'9' | b'_' | b'-')
-}
-
-fn are_name_bytes(text: &[u8]) -> bool
-    ensures { result ≡ list_all is_name_byte text.now }
-{
-    text.iter().all(|b| is_name_byte(*b))
-}
-
-/// Whether a text is a name: 1 to 32 letters, digits, `_` or `-`.
-pub(crate) fn is_name(text: &[u8]) -> bool
-    ensures { result ≡ is_name text.now }
-{
-    let count = text.len();
-    1 <= count && count <= 32 && are_name_bytes(text)
-}
 
 fn name_in(value: &Value) -> Result<&str, NetKind>
     ensures value { seen (λ s. s.now) result ≡ name_in (view value.now) }
     ensures range { IfOk result (λ s. IsName s.now) }
 {
     let text = text_in(value)?;
-    if is_name(text.as_bytes()) {
+    if is_name(text) {
         Ok(text)
     } else {
         Err(NetKind::M6)

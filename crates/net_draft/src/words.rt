@@ -8,7 +8,7 @@ ghost use Rattle.net_draft.specs.Tables.{service_word, arrival_word, discipline_
 ghost use Rattle.net_draft.specs.declared.words.DisciplineWord.TheVariants.{Fifo};
 
 use crate::fault::DraftFault;
-use crate::keys::field;
+use crate::keys::{field, required_at, value_at};
 use crate::places::fault_under;
 use crate::values::text_in;
 use net_model::NetKind;
@@ -95,13 +95,7 @@ pub(crate) fn service_kind(
 ) -> Result<ServiceWord, DraftFault>
     ensures { Gives (λ w. w) result (at_key (codes "kind") (required service_word) place.now (table_view table.now)) }
 {
-    match field(table, "kind") {
-        None => Err(fault_under(alloc, NetKind::M2, place, "kind")),
-        Some(value) => match service_word(value) {
-            Ok(word) => Ok(word),
-            Err(kind) => Err(fault_under(alloc, kind, place, "kind")),
-        },
-    }
+    required_at!(alloc, table, place, "kind", |value| service_word(value))
 }
 
 /// The kind of an arrival.
@@ -112,13 +106,7 @@ pub(crate) fn arrival_kind(
 ) -> Result<ArrivalWord, DraftFault>
     ensures { Gives (λ w. w) result (at_key (codes "kind") (required arrival_word) place.now (table_view table.now)) }
 {
-    match field(table, "kind") {
-        None => Err(fault_under(alloc, NetKind::M2, place, "kind")),
-        Some(value) => match arrival_word(value) {
-            Ok(word) => Ok(word),
-            Err(kind) => Err(fault_under(alloc, kind, place, "kind")),
-        },
-    }
+    required_at!(alloc, table, place, "kind", |value| arrival_word(value))
 }
 
 /// The kind of a discipline; without a word it is first in, first out.
@@ -130,11 +118,12 @@ pub(crate) fn discipline_kind(
     ensures { Gives (λ w. w) result
         (at_key (codes "discipline") (optional discipline_word Fifo) place.now (table_view table.now)) }
 {
-    match field(table, "discipline") {
-        None => Ok(DisciplineWord::Fifo),
-        Some(value) => match discipline_word(value) {
-            Ok(word) => Ok(word),
-            Err(kind) => Err(fault_under(alloc, kind, place, "discipline")),
-        },
-    }
+    value_at!(
+        alloc,
+        table,
+        place,
+        "discipline",
+        Ok(DisciplineWord::Fifo),
+        |value| discipline_word(value)
+    )
 }

@@ -1,5 +1,5 @@
 -- Networks with one flow changed, or one flow more, still may stand.
-use Rattle.std.proofs.Common.{◌≡◌, ◌≢◌, ℕ, zero, suc, ◌+◌, ◌<◌, ◌≤◌, List, [], ◌∷◌, ◌++◌, length, get_or, Option, Some, None, Bool, true, false, refl, sym, ap, ◌∙◌, subst, arith}
+use Rattle.std.proofs.Common.{◌≡◌, ◌≢◌, ℕ, zero, suc, ◌+◌, ◌<◌, ◌≤◌, List, [], ◌∷◌, ◌++◌, length, get_or, Option, Some, None, Bool, true, refl, sym, ap, ◌∙◌, subst, arith}
 use Rattle.std.specs.Prelude.{Contains, slice_get, slice_set, ◌&&◌}
 use Rattle.std.specs.List.{list_all}
 use Rattle.std.proofs.lemmas.Bool.{and_parts}
@@ -7,17 +7,15 @@ use Rattle.std.proofs.lemmas.List.{length-set, length_push}
 use Rattle.std.proofs.lemmas.List.Elements.{All-set, All-push, All-contains}
 use Rattle.std.proofs.lemmas.List.Folds.{list_all-append}
 use Rattle.std.proofs.lemmas.List.Quantifiers.{all_pairs_push}
-use Rattle.net_model.specs.Networks.{Net, NetServer, NetFlow}
+use Rattle.net_model.specs.Networks.{Net, NetFlow}
 use Rattle.net_model.specs.Names.{DifferInName}
 use Rattle.net_model.specs.Accepted.{IsFlow, IsAccepted}
 use Rattle.net_edits.specs.Changed.{put_flow, with_more}
 use Rattle.net_edits.specs.Values.{place_fits, quanta_fit}
 use Rattle.net_edits.proofs.Places.{pairs-set, all_of}
 use Rattle.net_edits.proofs.Fitting.{accepted_fits}
-
--- what stands at a place may be a flow
-abbrev MayBe : List NetServer → Option NetFlow → Type 0
-MayBe servers o = (f : NetFlow) → o ≡ Some f → IsFlow servers f
+use Rattle.std.proofs.Math.Bool.{and-true}
+use Rattle.net_model.proofs.Placed.{MayBe}
 
 all_may_be : (net : Net) → IsAccepted net → (o : Option NetFlow) → Contains net.flows o → MayBe net.servers o
 all_may_be net a o m f e = a.flows f (subst (λ (p : Option NetFlow). Contains net.flows p) e m)
@@ -70,14 +68,10 @@ more_stands net f a room is differs = record {
 }
 
 -- ---- the other flows fit
-and_last : (b : Bool) → (b && true) ≡ b
-and_last true = refl
-and_last false = refl
-
 set_fits : {X : Type 0} (p : X → Bool) (xs : List X) (i : ℕ) (y x : X) → slice_get xs i ≡ Some x → list_all p xs ≡ true
     → list_all p (slice_set xs i y) ≡ p y
 set_fits p [] i y x e all = absurd (let bad : ⊥ = cc in bad)
-set_fits p (z ∷ zs) zero y x e all = ap (λ (b : Bool). p y && b) (and_parts (p z) (list_all p zs) all).1 ∙ and_last (p y)
+set_fits p (z ∷ zs) zero y x e all = ap (λ (b : Bool). p y && b) (and_parts (p z) (list_all p zs) all).1 ∙ and-true (p y)
 set_fits p (z ∷ zs) (suc i) y x e all =
     ap (λ (b : Bool). b && list_all p (slice_set zs i y)) (and_parts (p z) (list_all p zs) all).0
     ∙ set_fits p zs i y x e (and_parts (p z) (list_all p zs) all).1
@@ -90,4 +84,4 @@ pub more_fits : (net : Net) (f : NetFlow) → IsAccepted net → quanta_fit (wit
 more_fits net f a =
     list_all-append (place_fits net.servers) net.flows (Some f ∷ [])
     ∙ ap (λ (b : Bool). b && (place_fits net.servers (Some f) && true)) (accepted_fits net a)
-    ∙ and_last (place_fits net.servers (Some f))
+    ∙ and-true (place_fits net.servers (Some f))

@@ -1,33 +1,29 @@
 -- What comparisons with 0 tell, and what is left of the causes of a refused curve.
-use Rattle.std.proofs.Common.{◌≡◌, refl, sym, ap, ◌∙◌, subst, Bool, true, false}
+use Rattle.std.proofs.Common.{◌≡◌, sym, ap, ◌∙◌, subst, Bool, true, false}
 use Rattle.std.specs.Prelude.{Result, Ok, Err}
 use Rattle.std.specs.Ordering.{MatchOrdering}
 use Rattle.std.specs.declared.cmp.Ordering.{Ordering}
-use Rattle.std.specs.declared.cmp.Ordering.TheVariants.{Less, Equal, Greater}
+use Rattle.std.specs.declared.cmp.Ordering.TheVariants.{Less}
 use Rattle.rational.specs.Rational.{ℚ, ◌≤ℚ◌, ◌<ℚ◌, lt_q}
 use Rattle.rational.proofs.Over.{lt_q_out, lt_q_in}
 use Rattle.rational.proofs.MinMax.{lt_q_not}
-use Rattle.rational.proofs.Laws.{le_refl, le_of_lt, le_of_not_lt}
+use Rattle.rational.proofs.Laws.{le_of_not_lt}
 use Rattle.upp_curve.specs.Curve.{SpecCurve}
 use Rattle.min_plus.specs.Functions.{zero_q}
 use Rattle.curve_library.specs.declared.fault.CurveFault.{CurveFault}
 use Rattle.curve_library.specs.declared.fault.CurveFault.TheVariants.{Negative, ZeroPeriod, NotRising, NotContinuous, NotZeroAtStart, Op, NoMemory}
 use Rattle.curve_library.specs.Causes.{KeepsOwnLimits, KeepsCauses}
-
-not_less : (r : Ordering) (a b : ℚ) → MatchOrdering r (a <ℚ b) (a ≡ b) (b <ℚ a) → (r ≡ Less → ⊥) → b ≤ℚ a
-not_less Less a b h n = absurd (n refl)
-not_less Equal a b h n = subst (λ (x : ℚ). b ≤ℚ x) (sym h) (le_refl b)
-not_less Greater a b h n = le_of_lt h
+use Rattle.rational.proofs.Compared.{not_less}
 
 pub below_not : (r : Ordering) (x z : ℚ) → MatchOrdering r (x <ℚ z) (x ≡ z) (z <ℚ x) → (r ≡ Less → ⊥) → z ≡ zero_q
     → false ≡ lt_q x zero_q
 below_not r x z h n e =
-    let most : zero_q ≤ℚ x = subst (λ (y : ℚ). y ≤ℚ x) e (not_less r x z h n) in sym (lt_q_not x zero_q most)
+    let most : zero_q ≤ℚ x = subst (λ (y : ℚ). y ≤ℚ x) e (not_less r h n) in sym (lt_q_not x zero_q most)
 
 pub above_not : (r : Ordering) (x z : ℚ) → MatchOrdering r (z <ℚ x) (z ≡ x) (x <ℚ z) → (r ≡ Less → ⊥) → z ≡ zero_q
     → false ≡ lt_q zero_q x
 above_not r x z h n e =
-    let most : x ≤ℚ zero_q = subst (λ (y : ℚ). x ≤ℚ y) e (not_less r z x h n) in sym (lt_q_not zero_q x most)
+    let most : x ≤ℚ zero_q = subst (λ (y : ℚ). x ≤ℚ y) e (not_less r h n) in sym (lt_q_not zero_q x most)
 
 pub nonneg_of : (x : ℚ) → lt_q x zero_q ≡ false → zero_q ≤ℚ x
 nonneg_of x e = le_of_not_lt (λ h. let t : lt_q x zero_q ≡ true = lt_q_out x zero_q h in let bad : ⊥ = cc in bad)

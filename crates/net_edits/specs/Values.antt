@@ -4,10 +4,10 @@ use Rattle.std.specs.List.{list_all}
 use Rattle.run_laws.specs.Servers.{Discipline, Fifo, Priority, Drr}
 use Rattle.net_model.specs.declared.edit.PathEntry.{PathEntry}
 use Rattle.net_model.specs.Networks.{Net, NetServer, NetFlow}
-use Rattle.net_model.specs.Names.{is_name_byte}
 use Rattle.net_model.specs.Plain.{all_differ}
 use Rattle.net_cells.specs.Numbered.{discipline_of, queues}
 use Rattle.net_edits.specs.Refusals.{Or, bad_value}
+pub use Rattle.net_model.specs.Names.{is_name}
 
 -- ---- numbers
 -- a whole number from 0 on that passes a test
@@ -24,10 +24,6 @@ abbrev pub is_quantum_of : Discipline → ℕ → Bool
 is_quantum_of Fifo queue = false
 is_quantum_of (Priority n) queue = false
 is_quantum_of (Drr quanta) queue = nat_lt queue (length quanta)
-
--- ---- names: 1 to 32 letters, digits, `_` and `-`
-abbrev pub is_name : List ℕ → Bool
-is_name name = nat_le 1 (length name) && (nat_le (length name) 32 && list_all is_name_byte name)
 
 -- ---- paths
 abbrev pub entry_queues : List PathEntry → List ℕ

@@ -10,12 +10,12 @@ ghost use Rattle.net_edits.specs.Replies.{IsReply};
 use crate::fault::EditFault;
 use crate::flow_edits::bucket_of;
 use crate::names::{is_free, server_numbers};
-use crate::numbers::{is_name, is_negative, length_of};
+use crate::numbers::{is_negative, length_of};
 use crate::quanta::fits_along;
 use crate::replacing::with_more;
 use crate::ways::{entry_queues, may_be_path};
 use fraction128::Frac;
-use net_model::{Flow, Network, PathEntry};
+use net_model::{Flow, Network, PathEntry, is_name};
 use std::alloc::{AllocError, Global};
 
 const MOST_FLOWS: usize = 256;

@@ -174,8 +174,7 @@ pub(crate) fn route_edited(
 pub(crate) fn drop_edited(alloc: Global, net: &Network, name: &str) -> Result<Network, EditFault>
     ensures { IsReply (spec.drop_edited net.now name.now) result }
 {
-    // What networks keep is in the contract of this call.
-    let _ = net.flows();
+    net.keeps();
     let number = flow_number(alloc, net, name)?;
     Ok(with_flow(net, number, None)?)
 }

@@ -17,8 +17,7 @@ pub(crate) fn server_number(alloc: Global, net: &Network, name: &str) -> Result<
     ensures number { Tells (spec.server_number net.now name.now) result }
     ensures within { IfOk result (λ s. s < length net.now.servers) }
 {
-    // What networks keep is in the contract of this call.
-    let _ = net.servers();
+    net.keeps();
     match net.server_named(name) {
         Some(number) => Ok(number),
         None => Err(EditFault::UnknownName(String::from_str(alloc, name)?)),
@@ -30,8 +29,7 @@ pub(crate) fn flow_number(alloc: Global, net: &Network, name: &str) -> Result<u3
     ensures number { Tells (spec.flow_number net.now name.now) result }
     ensures live { IfOk result (λ i. IsSome (flow_at net.now i)) }
 {
-    // What networks keep is in the contract of this call.
-    let _ = net.servers();
+    net.keeps();
     match net.flow_named(name) {
         Some(number) => Ok(number),
         None => Err(EditFault::UnknownName(String::from_str(alloc, name)?)),
@@ -59,8 +57,7 @@ pub(crate) fn server_numbers(
 pub(crate) fn is_free(net: &Network, name: &str) -> bool
     ensures { result ≡ spec.is_free net.now name.now }
 {
-    // What networks keep is in the contract of this call.
-    let _ = net.flows();
+    net.keeps();
     net.flow_named(name).is_none()
 }
 
@@ -81,8 +78,7 @@ pub(crate) fn flow_of_number(net: &Network, number: u32) -> &Flow
     ensures kept { IsFlow net.now.servers (flow_of result.now) }
     ensures accepted { IsAccepted net.now }
 {
-    // What networks keep is in the contract of this call.
-    let _ = net.flows();
+    net.keeps();
     match live_flow(net, number) {
         Some(flow) => flow,
         None => unreachable!(),

@@ -1,9 +1,7 @@
 //! Tests of the values of an edit.
 
 ghost use Rattle.std.specs.Prelude.{◌≡◌};
-ghost use Rattle.std.specs.List.{list_all};
 ghost use Rattle.net_model.specs.Accepted.{HasFewQueues};
-ghost use Rattle.net_model.specs.Names as naming;
 ghost use Rattle.net_model.specs.Views.{discipline_of};
 ghost use Rattle.net_edits.specs.Edited as spec;
 ghost use Rattle.net_edits.specs.Replies.{Tells};
@@ -15,8 +13,6 @@ use net_model::Discipline;
 use std::cmp::Ordering;
 
 const MOST_BITS: i64 = 16_777_216;
-
-const MOST_LETTERS: usize = 32;
 
 /// Whether a number is below 0.
 pub(crate) fn is_negative(x: Frac) -> bool
@@ -70,29 +66,4 @@ pub(crate) fn quantum_of(discipline: &Discipline, queue: i64) -> Result<u32, Edi
     } else {
         Err(EditFault::BadValue)
     }
-}
-
-fn is_name_byte(byte: u8) -> bool
-    ensures { result ≡ naming.is_name_byte byte }
-{
-    matches!(byte, b'a'..=b'z' | b'A'..=b'Z' | b'0'..=b'9' | b'_' | b'-')
-}
-
-fn are_name_bytes(bytes: &[u8]) -> bool
-    ensures { result ≡ list_all naming.is_name_byte bytes.now }
-{
-    bytes.iter().all(|byte| is_name_byte(*byte))
-}
-
-/// Whether a text is a name: 1 to 32 letters, digits, `_` and `-`.
-pub(crate) fn is_name(text: &str) -> bool
-    ensures { result ≡ values.is_name text.now }
-{
-    if text.is_empty() {
-        return false;
-    }
-    if text.len() > MOST_LETTERS {
-        return false;
-    }
-    are_name_bytes(text.as_bytes())
 }

@@ -40,6 +40,7 @@ use Rattle.net_laws.proofs.Links.{link_carries, link_window}
 use Rattle.net_laws.proofs.Paths.{link_of_path, rest_of_path, one_further, links_nonneg, path_is_served}
 use Rattle.net_laws.proofs.Fifo.{IsAt, work_before_gone, work_by_gone, work_before_came, arrives_in_run}
 use Rattle.net_laws.proofs.Journeys.{Since, since_start, since_next, since_both, Comes, comes_since, onward, now_gone, gone_later}
+use Rattle.run_laws.proofs.Shifted.{delay_at}
 
 -- a packet of flow i arrives at server s at u, in the whole run
 abbrev ComesIn : Routes → SpecRun → ℕ → ℕ → Entry → ℚ → Type 0
@@ -230,14 +231,6 @@ ends net run i p e u bits r xs done h (g ∷ hs) lawful path is flow whole c sin
     ]
 
 -- ---- by the hops
-delay_at : (C : Class) (end : ℚ) (front back : List ServerStep) (p : Card) (u : ℚ) (most : Ext) → C p ≡ true
-    → AreAtMost most (hop_delays C end (front ++ Arrives p u ∷ back)) → Fin (gone_at end p.packet back -ℚ u) ≤ₑ most
-delay_at C end [] back p u most e h = kept_first (C p) (gone_at end p.packet back -ℚ u) (hop_delays C end back) most e h
-delay_at C end (Arrives c t ∷ front) back p u most e h = delay_at C end front back p u most e (kept_rest (C c) _ (hop_delays C end (front ++ Arrives p u ∷ back)) most h)
-delay_at C end (Works c a b w ∷ front) back p u most e h = delay_at C end front back p u most e h
-delay_at C end (Leaves c t ∷ front) back p u most e h = delay_at C end front back p u most e h
-delay_at C end (Visits q t ∷ front) back p u most e h = delay_at C end front back p u most e h
-
 stay_at : (net : Routes) (run : SpecRun) (i s p : ℕ) (e : Entry) (u : ℚ) (most : Ext) → e.flow ≡ i → (c : ComesIn net run s p e u)
     → AreAtMost most (hop_delays (of_flow i) run.end (view net run s)) → Fin (gone_of net run s p c.state c.rest -ℚ u) ≤ₑ most
 stay_at net run i s p e u most flow c h =

@@ -28,6 +28,7 @@ use Rattle.run_laws.proofs.Waiting.{of_class, bits_of, class-append, class_head,
 use Rattle.run_laws.proofs.Oldest.{departures_of, arrivals_of, queue_order}
 use Rattle.run_laws.proofs.Sizes.{size_nonneg, size_pos}
 use Rattle.run_laws.proofs.Views.{views_are_lawful}
+use Rattle.run_laws.proofs.Lag.{Begins, begins_more}
 
 -- ---- the packets that left before it is gone are none of its number
 abbrev NoneOf : ℕ → List Card → Type 0
@@ -70,19 +71,8 @@ left_bits C p (Leaves c t ∷ V) h = elim (cases_Bool (C c)) [
 ]
 
 -- so they are among those that were there before it, and it waits behind the others of these
-record Behind (gone inside there rest : List Card) (p : Card) : Type 0 where
-  ahead : List Card
-  is : inside ≡ ahead ++ p ∷ rest
-  bits : bits_of there ≡ bits_of gone +ℚ bits_of ahead
-
-behind_more : (c d : Card) (gone inside there rest : List Card) (p : Card) → size c ≡ size d → Behind gone inside there rest p
-    → Behind (c ∷ gone) inside (d ∷ there) rest p
-behind_more c d gone inside there rest p same r =
-    let e = r.bits in
-    record { ahead = r.ahead; is = r.is; bits = with5 (size c) (size d) (bits_of gone) (bits_of there) (bits_of r.ahead) (λ c. omega (arith, c.le, c.lt, c.same)) }
-
 behind : (gone inside there rest : List Card) (p : Card) → gone ++ inside ≡ there ++ p ∷ rest → NoneOf p.packet gone
-    → Behind gone inside there rest p
+    → Begins gone inside there rest p
 behind [] inside there rest p h k = record { ahead = there; is = h; bits = with1 (bits_of there) (λ c. omega (arith, c.le, c.lt, c.same)) }
 behind (c ∷ gone) inside [] rest p h k =
     let same : c ≡ p = cc in
@@ -90,7 +80,7 @@ behind (c ∷ gone) inside [] rest p h k =
 behind (c ∷ gone) inside (d ∷ there) rest p h k =
     let same : c ≡ d = cc in
     let tail : gone ++ inside ≡ there ++ p ∷ rest = cc in
-    behind_more c d gone inside there rest p (ap size same) (behind gone inside there rest p tail k.1)
+    begins_more c d gone inside there rest p (ap size same) (behind gone inside there rest p tail k.1)
 
 -- ---- the work on the one under way is of those ahead, or of it
 first_within : (cards : List Card) (busy : ℚ) (u : Under) (p : Card) (t : ℚ) (ahead rest tail : List Card) → IsUnderWay cards busy u

@@ -18,6 +18,7 @@ use Rattle.run_laws.specs.Lawful.{Due, RunState, same_due, without, sent, next_r
 use Rattle.run_laws.proofs.Cuts.{time_in_order}
 use Rattle.run_laws.proofs.Entries.{entry_before, one_more}
 use Rattle.net_laws.proofs.Links.{same_is}
+use Rattle.run_laws.proofs.OneHop.{gone_other}
 
 -- ---- the steps that are left of a run, and what each server sees of them
 abbrev pub Since : Routes → RunState → List Step → RunState → List Step → Type 0
@@ -168,14 +169,6 @@ skip : (net : Routes) (end : ℚ) (r : RunState) (x : Step) (xs : List Step) (a 
 skip net end r x xs a b p e same (inl l) = inl (subst (λ (g : ℚ). end ≤ℚ g +ℚ link_at net a) (sym same) l)
 skip net end r x xs a b p e same (inr c) =
     inr (subst (λ (g : ℚ). Comes net end r (x ∷ xs) b p e (g +ℚ link_at net a)) (sym same) (comes_since net end r (x ∷ xs) (next_run net r x) xs b p e (gone_at end p (view_from net a (entered_after r.entered x) xs) +ℚ link_at net a) (since_next net r x xs) c))
-
-gone_other : (net : Routes) (end : ℚ) (s p : ℕ) (entered : List Entry) (x : Step) (xs : List Step)
-    → gone_at end p (seen net entered x ∷ view_from net s (entered_after entered x) xs) ≡ gone_at end p (view_from net s (entered_after entered x) xs)
-    → gone_at end p (view_from net s entered (x ∷ xs)) ≡ gone_at end p (view_from net s (entered_after entered x) xs)
-gone_other net end s p entered x xs h = elim (cases_Bool (server_of net x == s)) [
-  | inl e ↦ rw e h
-  | inr e ↦ rw e refl
-]
 
 -- where it leaves
 leaves_now : (net : Routes) (end : ℚ) (r : RunState) (xs : List Step) (a b p s q : ℕ) (t : ℚ) (e : Entry)

@@ -17,7 +17,7 @@ use Rattle.run_laws.proofs.Sums.{when_false, when_nonneg, each_all, total_le, to
 use Rattle.net_laws.specs.Sums.{sum_of_curves, with_number, IsSummed}
 
 -- the packets of a class that have another number
-abbrev other : (Card → ℕ) → ℕ → Class → Class
+abbrev pub other : (Card → ℕ) → ℕ → Class → Class
 other number n C c = C c && not (number c == n)
 
 split_when : (a b t : Bool) (x : ℚ) → int (pos 0) ≤ℚ x → when (a && t) x ≤ℚ when ((a && not b) && t) x +ℚ when (b && t) x

@@ -1,6 +1,8 @@
 -- What stands at a place of a list, where f made each element.
 use Rattle.std.proofs.Common.{◌≡◌, ℕ, ◌<◌, List, length, map, get_or, Some, None, refl, sym, ◌∙◌, ap, inl, inr}
-use Rattle.std.specs.Prelude.{slice_get}
+use Rattle.std.specs.Prelude.{slice_get, Option}
+use Rattle.net_model.specs.Networks.{NetServer, NetFlow}
+use Rattle.net_model.specs.Accepted.{IsFlow}
 use Rattle.std.specs.Option.{option_map}
 use Rattle.std.proofs.lemmas.Option.{slice_get-map, slice_get_read, slice_get_cases}
 
@@ -25,3 +27,7 @@ made_of f xs k y found =
       }
       | inr h ↦ let e : None ≡ Some y = sym (slice_get-map f xs k ∙ ap (option_map f) h.1) ∙ found in absurd cc
     ]
+
+-- what stands at a place of a network's flows may be a flow over these servers
+abbrev pub MayBe : List NetServer → Option NetFlow → Type 0
+MayBe servers o = (f : NetFlow) → o ≡ Some f → IsFlow servers f

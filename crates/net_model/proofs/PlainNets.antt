@@ -24,6 +24,7 @@ use Rattle.net_model.specs.Names.{IsName, is_name_byte, DifferInName}
 use Rattle.net_model.specs.Accepted.{IsServer, IsFlow, IsHop, IsAccepted}
 use Rattle.net_model.specs.Plain.{one_q, letter, plain_server, plain_flow, plain_place, plain_servers, plain_flows, plain_net, contents, all_differ, is_plain_path, is_plain}
 use Rattle.net_model.proofs.KindsStand.{kinds_may_stand}
+use Rattle.upp_curve.proofs.ReadableKinds.{zero_num}
 
 -- ---- servers
 pub servers_count : (n : ℕ) → length (plain_servers n) ≡ n
@@ -250,10 +251,6 @@ stored_push fs gs paths n d x within pushes so_far newest =
     ∙ sym (flows_push (contents (take n paths)) (get_or paths n d).now) ∙ ap (plain_flows 0) (sym (map_more (λ r. r.now) paths n d within))
 
 -- ---- small numbers
-zero_num : (int (pos 0)).num ≡ pos 0
-unfolding frac gcd gcd_steps
-zero_num = refl
-
 zero_den : den (int (pos 0)) ≡ 1
 unfolding frac gcd gcd_steps
 zero_den = refl

@@ -1,11 +1,16 @@
 -- Names of servers and flows. (Own choice.)
 use Rattle.std.specs.Prelude.{◌≡◌, ◌≢◌, ℕ, ◌≤◌, List, length, All, AllPairs, Option, Some, None, Bool, IsTrue, nat_le, ◌&&◌, ◌||◌, ◌==◌, slice_get}
+use Rattle.std.specs.List.{list_all}
 use Rattle.net_model.specs.Networks.{Net, NetServer, NetFlow}
 
 -- a letter, a digit, `_` or `-`
 abbrev pub is_name_byte : ℕ → Bool
 is_name_byte c =
     (nat_le 97 c && nat_le c 122) || (nat_le 65 c && nat_le c 90) || (nat_le 48 c && nat_le c 57) || (c == 95) || (c == 45)
+
+-- whether a text is 1 to 32 of these
+abbrev pub is_name : List ℕ → Bool
+is_name name = nat_le 1 (length name) && (nat_le (length name) 32 && list_all is_name_byte name)
 
 -- 1 to 32 of these
 pub record IsName (name : List ℕ) : Type 0 where

@@ -1,12 +1,41 @@
 //! Servers and flows by their names.
 
-ghost use Rattle.std.specs.Prelude.{◌↔◌, ◌≤◌, length, IsTrue};
+ghost use Rattle.std.specs.Prelude.{◌≡◌, ◌↔◌, ◌≤◌, length, IsTrue};
+ghost use Rattle.std.specs.List.{list_all};
 ghost use Rattle.std.specs.Option.{option_map};
+ghost use Rattle.net_model.specs.Names as naming;
 ghost use Rattle.net_model.specs.Names.{FindsServer, FindsFlow, HasName};
 ghost use Rattle.net_model.specs.Views.{flow_of, flows_of, servers_of};
 
 use crate::flow::Flow;
 use crate::server::Server;
+
+const MOST_LETTERS: usize = 32;
+
+fn is_name_byte(byte: u8) -> bool
+    ensures { result ≡ naming.is_name_byte byte }
+{
+    matches!(byte, b'a'..=b'z' | b'A'..=b'Z' | b'0'..=b'9' | b'_' | b'-')
+}
+
+fn are_name_bytes(bytes: &[u8]) -> bool
+    ensures { result ≡ list_all naming.is_name_byte bytes.now }
+{
+    bytes.iter().all(|byte| is_name_byte(*byte))
+}
+
+/// Whether a text is a name: 1 to 32 letters, digits, `_` and `-`.
+pub fn is_name(text: &str) -> bool
+    ensures { result ≡ naming.is_name text.now }
+{
+    if text.is_empty() {
+        return false;
+    }
+    if text.len() > MOST_LETTERS {
+        return false;
+    }
+    are_name_bytes(text.as_bytes())
+}
 
 pub(crate) fn place_of_server(servers: &[Server], name: &str) -> Option<u32>
     requires { length servers.now ≤ 64 }

@@ -47,6 +47,13 @@ impl Network {
         }
     }
 
+    /// What every network keeps: what its contract says. It does nothing.
+    pub fn keeps(&self)
+        ensures { IsAccepted self.now }
+    {
+        let _version = self.version;
+    }
+
     /// The servers, by their numbers.
     pub fn servers(&self) -> &[Server]
         ensures servers { servers_of result.now ≡ self.now.servers }

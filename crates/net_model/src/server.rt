@@ -42,7 +42,19 @@ pub struct Server {
 
 impl Discipline {
     ghost use Rattle.std.specs.Prelude.{◌≡◌, IfOk};
+    ghost use Rattle.run_laws.specs.Servers as servers;
     ghost use Rattle.net_model.specs.Views.{discipline_of};
+
+    /// How many queues it serves.
+    pub fn queue_count(&self) -> usize
+        ensures { result ≡ servers.queue_count (discipline_of self.now) }
+    {
+        match self {
+            Discipline::Fifo => 1,
+            Discipline::Priority { queues } => *queues as usize,
+            Discipline::Drr { quanta } => quanta.len(),
+        }
+    }
 
     /// The same discipline again.
     pub fn copy(&self) -> Result<Discipline, AllocError>

@@ -29,6 +29,7 @@ use Rattle.net_draft.proofs.Named.{All-unmap}
 use Rattle.net_text.specs.Becoming.{Becomes}
 use Rattle.net_text.specs.Built.{IsServerOf, IsFlowOf, IsLiveFlowOf, IsBuilt}
 use Rattle.net_text.proofs.Zips.{zip_unmap, zip_length, partner, zip_all, zip_pairs}
+use Rattle.net_model.proofs.Placed.{MayBe}
 
 -- ---- servers
 is_server : (d : ServerDraft) (s : NetServer) → IsServerDraft d → IsServerOf (server_text d) s → IsServer s
@@ -82,9 +83,6 @@ names_differ t u m n r q apart e = apart (sym r.name ∙ e ∙ q.name)
 same_flow : (f g : NetFlow) → Some f ≡ Some g → f ≡ g
 same_flow f g h = cc
 
-abbrev IsFlowThere : List NetServer → Option NetFlow → Type 0
-IsFlowThere ss o = (f : NetFlow) → o ≡ Some f → IsFlow ss f
-
 -- where closures are made by folds of which Over says which limit they are over
 module _ (Over : SpecCurve → OverLimit → Type 0) where
   -- ---- arrivals
@@ -135,8 +133,8 @@ module _ (Over : SpecCurve → OverLimit → Type 0) where
       let fits : All (λ (f : FlowDraft). All (IsWithinQuantum ts f.packet) f.path.items) d.flows.items = All-unmap (λ (f : FlowText). All (IsWithinQuantum ts f.packet) f.path) flow_text d.flows.items h.quanta in
       let servers : All IsServer net.servers =
       zip_all (λ d s. IsServerOf (server_text d) s) IsServerDraft IsServer is_server d.servers.items net.servers h.servers (zip_unmap IsServerOf server_text d.servers.items net.servers b.servers) in
-      let flows : All (IsFlowThere net.servers) net.flows =
-      zip_all (λ (f : FlowDraft) o. IsLiveFlowOf Over (flow_text f) o) (λ (f : FlowDraft). IsFlowDraft ts f × All (IsWithinQuantum ts f.packet) f.path.items) (IsFlowThere net.servers)
+      let flows : All (MayBe net.servers) net.flows =
+      zip_all (λ (f : FlowDraft) o. IsLiveFlowOf Over (flow_text f) o) (λ (f : FlowDraft). IsFlowDraft ts f × All (IsWithinQuantum ts f.packet) f.path.items) (MayBe net.servers)
       (λ e o p r f is. subst (IsFlow net.servers) (same_flow r.flow f (sym r.live ∙ is)) (is_flow ts net.servers e r.flow b.servers p.0 p.1 r.is))
       d.flows.items net.flows (λ k e within. (h.flows k e within, fits k e within)) (zip_unmap (IsLiveFlowOf Over) flow_text d.flows.items net.flows b.flows) in
       let many : length net.servers ≡ length d.servers.items = zip_length IsServerOf ts net.servers b.servers ∙ length-map d.servers.items server_text in
@@ -150,5 +148,5 @@ module _ (Over : SpecCurve → OverLimit → Type 0) where
           zip_pairs (IsLiveFlowOf Over) (λ f g. f.name ≢ g.name) DifferInName flow_names_differ fs net.flows h.flow_names b.flows,
         );
         servers = λ s has. All-contains IsServer net.servers s servers has;
-        flows = λ f has. All-contains (IsFlowThere net.servers) net.flows (Some f) flows has f refl;
+        flows = λ f has. All-contains (MayBe net.servers) net.flows (Some f) flows has f refl;
       }

@@ -1,12 +1,10 @@
 -- A file says one thing.
 use Rattle.std.specs.List.{AllZip}
-use Rattle.std.proofs.Common.{◌≡◌, ℕ, ◌+◌, Bool, true, false, List, [], ◌∷◌, ◌++◌, Option, Some, Ok, Err, refl, sym, ap, ◌∙◌, subst, arith, inl, inr}
+use Rattle.std.proofs.Common.{◌≡◌, ℕ, ◌+◌, Bool, true, false, List, [], ◌∷◌, ◌++◌, Option, Some, Ok, Err, sym, ap, ◌∙◌, subst, inl, inr}
 use Rattle.rational.proofs.Bounds.{infimum_unique}
 use Rattle.upp_curve.specs.Curve.{SpecCurve, value_at}
 use Rattle.min_plus.specs.Convolution.{Parts, sum_at}
-use Rattle.upp_limits.specs.OwnLimits.{IsOver, IsWithinOwn}
 use Rattle.upp_limits.specs.declared.own_limits.OverLimit.{OverLimit}
-use Rattle.upp_limits.specs.declared.own_limits.OverLimit.TheVariants.{TooMany, TooWide}
 use Rattle.upp_curve.proofs.OneForm.{normal_unique}
 use Rattle.net_model.specs.Networks.{Net, NetServer, NetFlow}
 use Rattle.net_draft.specs.Faults.{Fault, Read}
@@ -19,18 +17,9 @@ use Rattle.net_text.specs.Firsts.{PlacedCurve, services_from, arrivals_from, cur
 use Rattle.net_text.specs.Laws.{EachFileSaysOneThing}
 use Rattle.net_text.specs.Reading.{IsNetworkOf, FirstFault}
 use Rattle.net_text.proofs.Zips.{zip_one}
+use Rattle.curve_library.proofs.Answering.{over_within, one_limit}
 
 -- ---- what was made of a text
-over_or_within : (c : SpecCurve) (limit : OverLimit) → IsOver c limit → IsWithinOwn c → ⊥
-over_or_within c TooMany over within = omega (arith, over.1, within.few)
-over_or_within c TooWide over within = omega (arith, over, within.narrow)
-
-one_limit : (c : SpecCurve) (l m : OverLimit) → IsOver c l → IsOver c m → l ≡ m
-one_limit c TooMany TooMany g h = refl
-one_limit c TooMany TooWide g h = absurd (omega (arith, g.0, h))
-one_limit c TooWide TooMany g h = absurd (omega (arith, g, h.0))
-one_limit c TooWide TooWide g h = refl
-
 pub one_made : (text : CurveText) (a b : SpecCurve) → IsCurveOf text a → IsCurveOf text b → a ≡ b
 one_made (Bucket burst rate) a b g h = g.made.1 ∙ sym h.made.1
 one_made (Stair packet period jitter) a b g h = g.made.1.0 ∙ sym h.made.1.0
@@ -40,10 +29,10 @@ one_made (Listed pieces tail use_as) a b g h = normal_unique a b g.curve.normal 
 
 pub made_or_over : (text : CurveText) (a : SpecCurve) (limit : OverLimit) → IsMade text (Ok a) → IsMade text (Err limit) → ⊥
 made_or_over (Bucket burst rate) a limit g h = h
-made_or_over (Stair packet period jitter) a limit g h = over_or_within _ limit h.1 g.1.1
-made_or_over (RateLatency rate latency) a limit g h = over_or_within _ limit h.1 g.1.1
-made_or_over (Gate rate cycle slot) a limit g h = over_or_within _ limit h.1 g.1.1
-made_or_over (Listed pieces tail use_as) a limit g h = over_or_within _ limit h.1 g.1.1
+made_or_over (Stair packet period jitter) a limit g h = over_within _ limit h.1 g.1.1
+made_or_over (RateLatency rate latency) a limit g h = over_within _ limit h.1 g.1.1
+made_or_over (Gate rate cycle slot) a limit g h = over_within _ limit h.1 g.1.1
+made_or_over (Listed pieces tail use_as) a limit g h = over_within _ limit h.1 g.1.1
 
 one_over : (text : CurveText) (l m : OverLimit) → IsMade text (Err l) → IsMade text (Err m) → l ≡ m
 one_over (Bucket burst rate) l m g h = absurd g

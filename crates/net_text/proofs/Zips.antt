@@ -1,16 +1,11 @@
 -- Two lists side by side, as a loop builds one from the other.
 use Rattle.std.specs.Prelude.{All, AllPairs, slice_get}
 use Rattle.std.specs.List.{AllZip}
-use Rattle.std.proofs.Common.{◌≡◌, ℕ, zero, suc, ◌+◌, ◌≤◌, ◌<◌, List, [], ◌∷◌, ◌++◌, length, map, get_or, take, None, Some, refl, sym, ap, ◌∙◌, subst, arith}
+use Rattle.std.proofs.Common.{◌≡◌, ℕ, zero, suc, ◌+◌, ◌≤◌, ◌<◌, List, [], ◌∷◌, ◌++◌, length, map, get_or, take, Some, refl, sym, ap, ◌∙◌, subst, arith}
 use Rattle.std.proofs.lemmas.List.{take_more, take_all, map_push}
 use Rattle.std.proofs.lemmas.List.Elements.{All-nil, All-cons, All-head, All-tail}
 use Rattle.std.proofs.lemmas.List.Kept.{AllPairs-cons}
-
-none_is_some : {X : Type 0} (x : X) → None ≡ Some x → ⊥
-none_is_some x h = cc
-
-inside_some : {X : Type 0} (x y : X) → Some x ≡ Some y → x ≡ y
-inside_some x y h = cc
+use Rattle.std.proofs.lemmas.Option.{none-some, same_Some}
 
 module _ {T N : Type 0} (R : T → N → Type 0) where
   zip_push : (ts : List T) (ns : List N) (t : T) (n : N) → AllZip R ts ns → R t n → AllZip R (ts ++ t ∷ []) (ns ++ n ∷ [])
@@ -48,9 +43,9 @@ module _ {T N : Type 0} (R : T → N → Type 0) where
     pub related : R t other
 
   pub partner : (ts : List T) (ns : List N) (i : ℕ) (t : T) → AllZip R ts ns → slice_get ts i ≡ Some t → Partner ns i t
-  partner [] ns i t h g = absurd (none_is_some t g)
+  partner [] ns i t h g = absurd (none-some t g)
   partner (x ∷ xs) [] i t h g = absurd h
-  partner (x ∷ xs) (n ∷ ns) zero t h g = record { other = n; is = refl; related = subst (λ y. R y n) (inside_some x t g) h.0 }
+  partner (x ∷ xs) (n ∷ ns) zero t h g = record { other = n; is = refl; related = subst (λ y. R y n) (same_Some x t g) h.0 }
   partner (x ∷ xs) (n ∷ ns) (suc i) t h g =
       let p = partner xs ns i t h.1 g in
       record { other = p.other; is = p.is; related = p.related }

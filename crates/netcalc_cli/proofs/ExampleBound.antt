@@ -21,6 +21,7 @@ use Rattle.net_cells.specs.NumberSums.{total}
 use Rattle.net_bounds.proofs.Kept.{table_bounds_every_run}
 use Rattle.netcalc_cli.specs.Example.{its_server, its_flow, one_flow, OneFlowReachesItsBound}
 use Rattle.netcalc_cli.proofs.ExampleNet.{accepted, ordered, reached, is_run}
+use Rattle.net_cells.proofs.TableValues.{same_number}
 
 -- ---- curves
 arrival_is : (at : CellTable) → MeetsEquations one_flow at → at (cell_of In 0 0) ≡ Some (curve its_flow.arrival)
@@ -36,9 +37,6 @@ service_is at m = let e = m (cell_of QueueService 0 0) refl in e.is ∙ ap Some 
 -- ---- the delay of the queue
 same_curve : (at : CellTable) (c : Cell) (f g : SpecCurve) → at c ≡ Some (curve f) → at c ≡ Some (curve g) → f ≡ g
 same_curve at c f g h k = cc
-
-same_number : (at : CellTable) (c : Cell) (x y : Ext) → at c ≡ Some (number x) → at c ≡ Some (number y) → x ≡ y
-same_number at c x y h k = cc
 
 abbrev IsDeviation : SpecCurve → SpecCurve → Meaning → Type 0
 IsDeviation f g = IsNumberIn (IsHorizontalDeviation (value_at f) (value_at g))

@@ -28,8 +28,7 @@ fn in_order<L: Ledger>(
     ensures reply { IfOk result (λ r. IsReplyOnNet net.now (reply_of r)) }
     ensures counts { CountsOnNet net.now (status_of result) steps.old steps.new }
 {
-    // What an accepted network keeps is in the contract of this call.
-    let _ = net.servers();
+    net.keeps();
     match analyse(alloc, net, order, steps) {
         Ok(table) => {
             let text = analysis_text(alloc, net, &table)?;
@@ -54,8 +53,7 @@ pub(crate) fn on_network<L: Ledger>(
     ensures reply { IfOk result (λ r. IsReplyOnNet net.now (reply_of r)) }
     ensures counts { CountsOnNet net.now (status_of result) steps.old steps.new }
 {
-    // What an accepted network keeps is in the contract of this call.
-    let _ = net.servers();
+    net.keeps();
     match order(alloc, net) {
         Ok(servers) => in_order(alloc, net, &servers, steps),
         Err(GraphFault::Cycle(walk)) => goes_round(alloc, net, &walk),

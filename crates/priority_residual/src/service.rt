@@ -3,26 +3,18 @@
 ghost use Rattle.std.specs.Prelude.{◌≡◌, ◌+◌, ◌≤◌, IfOk};
 ghost use Rattle.upp_curve.specs.Curve.{value_at};
 ghost use Rattle.min_plus.specs.Functions.{IsFinite};
-ghost use Rattle.run_laws.specs.Cards.{whole};
 ghost use Rattle.residual_laws.specs.PriorityCalls.{LeavesPriority, MakesPriority};
 ghost use Rattle.residual_laws.specs.PriorityLaws.{IsPriorityService};
 
 use curve_call::seen;
 use curve_pointwise::{pos_diff, pos_minus};
 use curve_running::run_sup;
-use fraction128::Frac;
+use run_laws::whole;
 use std::alloc::Global;
 use std::sync::ledger::Ledger;
 use steps::Steps;
 use upp_curve::Curve;
 use upp_limits::OpFault;
-
-fn whole(bits: u32) -> Frac
-    ensures { result ≡ whole bits }
-{
-    Frac::from_whole(i128::from(bits))
-}
-
 // What the service has above the higher queues' curve, less one packet of the lower queues. Its first curve is let go
 // here.
 fn priority_left<L: Ledger>(

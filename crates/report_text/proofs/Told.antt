@@ -17,7 +17,7 @@ use Rattle.net_cells.specs.declared.cell.Scope.{Scope}
 use Rattle.net_cells.specs.declared.cell.Scope.TheVariants.{EachHop, EachHopButLast, EachQueue, EachPriorityQueue, EachPath}
 use Rattle.net_cells.specs.Numbered.{flow_at, path_of, is_live, hops, queues, levels, levels_of, discipline_of}
 use Rattle.net_cells.specs.Cells.{cell_of, scope_of, is_in_scope}
-use Rattle.net_cells.proofs.Stored.{flow_kept, few_hops, server_kept}
+use Rattle.net_cells.proofs.Stored.{flow_kept, few_hops, server_kept, few_of}
 use Rattle.report_text.specs.CellWords.{kind_word, name_of_server, name_of_flow, server_name, flow_name, words_at, cell_words}
 use Rattle.report_text.specs.Laws.{WordsTellCells}
 
@@ -151,11 +151,6 @@ with_level : (net : Net) (s : ℕ) (o : Option NetServer) (q : ℕ) → slice_ge
     → q < levels_of (discipline_of o) → IsServerOf net s
 with_level net s None q e h = absurd (omega (arith, h))
 with_level net s (Some x) q e h = record { server = x; is = e }
-
-few_of : (c : Discipline) → HasFewQueues c → queue_count c ≤ 8
-few_of Fifo h = omega arith
-few_of (Priority n) h = h.1
-few_of (Drr quanta) h = h.0.1
 
 few_levels_of : (c : Discipline) → HasFewQueues c → levels_of c ≤ 8
 few_levels_of Fifo h = omega arith

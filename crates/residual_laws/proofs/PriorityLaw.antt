@@ -26,14 +26,14 @@ use Rattle.run_laws.proofs.Sums.{Each, each_map, each-append, total-append}
 use Rattle.run_laws.proofs.Counts.{arrived_le, before_upto, arrived_in_is, worked_rises, window_nonneg}
 use Rattle.run_laws.proofs.Heads.{head_queue, sum_of}
 use Rattle.run_laws.proofs.States.{work_after, done_by, done_nonneg}
-use Rattle.run_laws.proofs.Cuts.{before_edge, IsBefore, IsAfter, at_time, all_works, all_after}
+use Rattle.run_laws.proofs.Cuts.{before_edge, IsBefore, IsAfter, at_time, all_works, all_after, not_upto}
 use Rattle.run_laws.proofs.Orders.{left_worked, worked_arrived, small_after, at_upto}
 use Rattle.run_laws.proofs.Gone.{gone_before, after-append}
 use Rattle.run_laws.proofs.Waiting.{allowed-append, all_upto}
 use Rattle.run_laws.proofs.Stretches.{stretch, IsStretch}
 use Rattle.run_laws.proofs.Parts.{arrived_parts, worked_parts, departed_parts}
 use Rattle.run_laws.proofs.Service.{itself}
-use Rattle.run_laws.proofs.Places.{somebody, inside_some, under_bits, only_under, under_small, past_edge}
+use Rattle.run_laws.proofs.Places.{somebody, inside_some, under_bits, only_under, under_small}
 use Rattle.residual_laws.specs.PriorityLaws.{priority_left, IsPriorityService}
 
 -- ---- the first non-empty queue
@@ -108,7 +108,7 @@ low_work server end V n i bits s z lawful priority sizes l busy =
     (λ front back c u v w inner picked.
     let past = (each-append (IsAfter (upto s)) front (Works c u v w ∷ back) (subst (Each (IsAfter (upto s))) inner (each-append (IsAfter (upto s)) R T later_R).0)).1.0 in
     let soon = (each-append (IsBefore (before z)) front (Works c u v w ∷ back) (subst (Each (IsBefore (before z))) inner b.at.front_before)).1.0 in
-    starts_none server end V P R T front back n i c u v w s z lawful priority (a.at.joined ∙ ap (λ (xs : List ServerStep). P ++ xs) b.at.joined) inner (past_edge s u past) (lt_q_in u z soon) busy picked) in
+    starts_none server end V P R T front back n i c u v w s z lawful priority (a.at.joined ∙ ap (λ (xs : List ServerStep). P ++ xs) b.at.joined) inner (not_upto s u past) (lt_q_in u z soon) busy picked) in
     let small = under_small σ.inside σ.busy σ.under C bits a.sound (small_after server end (start d) P S C bits a.at.front_allowed (subst (KeepsSizes C bits) a.at.joined sizes) tt) in
     let whole : worked C V z ≡ total (works C z) P +ℚ total (works C z) S = ap (total (works C z)) a.at.joined ∙ total-append (works C z) P S in
     let done_on = done_nonneg σ.inside σ.busy σ.under C s a.sound in

@@ -20,11 +20,11 @@ use Rattle.run_laws.proofs.Sizes.{size_nonneg, whole_nonneg, whole_sum, whole_le
 use Rattle.run_laws.proofs.Counts.{upto_before, worked_rises}
 use Rattle.run_laws.proofs.Heads.{same_some, sum_of}
 use Rattle.run_laws.proofs.States.{IsSound, sound_next, balance_after, work_after, done_by, done_nonneg}
-use Rattle.run_laws.proofs.Cuts.{before_edge, IsBefore, IsAfter, at_time, all_works, all_after}
+use Rattle.run_laws.proofs.Cuts.{before_edge, IsBefore, IsAfter, at_time, all_works, all_after, not_upto}
 use Rattle.run_laws.proofs.Orders.{at_upto, AllSmall, small_after}
 use Rattle.run_laws.proofs.Gone.{after-append}
 use Rattle.run_laws.proofs.Waiting.{allowed-append, all_upto}
-use Rattle.run_laws.proofs.Places.{somebody, inside_some, under_bits, done_under, past_edge}
+use Rattle.run_laws.proofs.Places.{somebody, inside_some, under_bits, done_under}
 use Rattle.run_laws.specs.Rounds.{UnderIsVisited, IsRound, same_queue, under_size}
 use Rattle.run_laws.proofs.Rounds.{round_next, own_count, other_count}
 use Rattle.residual_laws.proofs.Turns.{IsTurn}
@@ -118,7 +118,7 @@ here_all server end V s t i lawful w less busy front (x ∷ back) e =
     let joined : V ≡ w.P ++ (front ++ x ∷ (back ++ w.T)) = w.joined ∙ ap (λ (xs : List ServerStep). w.P ++ (xs ++ w.T)) e ∙ ap (λ (xs : List ServerStep). w.P ++ xs) (append_assoc front (x ∷ back) w.T) in
     let past = (each-append (IsAfter (upto s)) front (x ∷ back) (subst (Each (IsAfter (upto s))) e w.after_s)).1.0 in
     let soon = (each-append (IsBefore (before t)) front (x ∷ back) (subst (Each (IsBefore (before t))) e w.before_t)).1.0 in
-    here_before server end V w.P front (back ++ w.T) x i lawful joined (busy (time_of x) (past_edge s (time_of x) past) (lt_q_in (time_of x) t soon))
+    here_before server end V w.P front (back ++ w.T) x i lawful joined (busy (time_of x) (not_upto s (time_of x) past) (lt_q_in (time_of x) t soon))
 
 -- ---- the round is sound from the start
 zeros : (quanta : List ℕ) (j : ℕ) → get_or (map (λ (_ : ℕ). zero) quanta) j zero ≡ zero

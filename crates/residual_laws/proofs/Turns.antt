@@ -9,6 +9,7 @@ use Rattle.run_laws.specs.Allows.{IsFirst, next_card}
 use Rattle.run_laws.proofs.Heads.{same_some}
 use Rattle.run_laws.specs.Rounds.{presence, same_queue, count_of, IsRound}
 use Rattle.run_laws.proofs.Rounds.{is_started, own_count, other_count, first_counts, head_push_none, set_most, set_none, set_other}
+use Rattle.std.proofs.lemmas.Option.{none-some}
 
 -- queue i stands in the list before any j
 abbrev pub ahead : ℕ → ℕ → List ℕ → Bool
@@ -74,9 +75,6 @@ pub record IsTurn (Q l : ℕ → ℕ) (i j : ℕ) (cards : List Card) (r : Round
   pub late : n ≡ m + 1 → IsLate i j cards r
   pub bits : G + get_or r.deficits j 0 ≤ l j + n * Q j
 
-not_some : {A : Type 0} (x : A) → None ≡ Some x → ⊥
-not_some x h = cc
-
 pub turn_arrives : (Q l : ℕ → ℕ) (i j : ℕ) (cards : List Card) (under : Option Under) (r : Round) (m n G : ℕ) (c e : Card) (x : Option Card) → j ≢ i → head_of c.queue cards ≡ x → head_of i cards ≡ Some e → IsRound Q l cards under r → IsTurn Q l i j cards r m n G
     → IsTurn Q l i j (cards ++ c ∷ []) (arrived_round x c.queue r) m n G
 turn_arrives Q l i j cards under r m n G c e None d f here h t = record {
@@ -91,7 +89,7 @@ turn_arrives Q l i j cards under r m n G c e None d f here h t = record {
         let none : presence (head_of j cards) ≡ 0 = ap presence (subst (λ (q : ℕ). head_of q cards ≡ None) g f) in
         inr (inr (ahead_push i j c.queue r.active (omega arith) (omega arith)))
     | inr g ↦
-        let not_i : c.queue ≢ i = λ o. let w : head_of i cards ≡ None = subst (λ (q : ℕ). head_of q cards ≡ None) o f in not_some e (sym w ∙ here) in
+        let not_i : c.queue ≢ i = λ o. let w : head_of i cards ≡ None = subst (λ (q : ℕ). head_of q cards ≡ None) o f in none-some e (sym w ∙ here) in
         elim (t.late k) [
           | inl v ↦ inl v
           | inr w ↦ elim w [
@@ -112,7 +110,7 @@ turn_arrives Q l i j cards under r m n G c e (Some x) d f here h t = record {
       | inl v ↦ elim (cases_eq c.queue j) [
         | inl g ↦
             let s : head_of j cards ≡ Some x = subst (λ (q : ℕ). head_of q cards ≡ Some x) g f in
-            absurd (not_some x (sym v ∙ s))
+            absurd (none-some x (sym v ∙ s))
         | inr g ↦ inr (inl (head_push_none j c cards g ∙ v))
       ]
     ]
@@ -168,7 +166,7 @@ turn_left Q l i j cards rest r m n G q None d e same v f here once t =
     let b = t.bits in
     record {
       most = t.most;
-      in_own = λ k. absurd (not_some i k);
+      in_own = λ k. absurd (none-some i k);
       late = λ k. elim (cases_eq q j) [
         | inl g ↦ inr (inl (subst (λ (p : ℕ). head_of p rest ≡ None) g e))
         | inr g ↦ elim (cases_eq q i) [
@@ -195,7 +193,7 @@ turn_left Q l i j cards rest r m n G q (Some c) d e same v f here once t = elim 
   }
   | inr fit ↦ rw fit record {
     most = t.most;
-    in_own = λ k. absurd (not_some i k);
+    in_own = λ k. absurd (none-some i k);
     late = λ k. elim (cases_eq q j) [
       | inl g ↦ inr (inr (ahead_moved i j r.active (subst (λ (p : ℕ). IsFirst p r.active) g f) d here (once g)))
       | inr g ↦ elim (cases_eq q i) [
@@ -211,7 +209,7 @@ turn_left Q l i j cards rest r m n G q (Some c) d e same v f here once t = elim 
 not_late : (Q l : ℕ → ℕ) (i j : ℕ) (cards : List Card) (under : Option Under) (r : Round) → j ≢ i → r.visited ≡ None → IsFirst j r.active
     → IsRound Q l cards under r → IsLate i j cards r → ⊥
 not_late Q l i j cards under r d v f h k = elim k [
-  | inl w ↦ not_some j (sym v ∙ w)
+  | inl w ↦ none-some j (sym v ∙ w)
   | inr w ↦ elim w [
     | inl e ↦
         let a = h.lists j in
@@ -270,7 +268,7 @@ turn_visits Q l i j cards under r m n G q c e d f here v first h t =
               }
               | inr w ↦ rw w record {
                 most = omega arith;
-                in_own = λ k. absurd (not_some i k);
+                in_own = λ k. absurd (none-some i k);
                 late = λ _. inr (inr (ahead_moved i j r.active first_j d (ones i e here) (ones j c (subst (λ (p : ℕ). head_of p cards ≡ Some c) o f))));
                 bits = bits_more (Q j) (l j) n G (get_or (set r.deficits q D) j 0) (get_or r.deficits j 0) (same_queue q j) bits gain b;
               }
@@ -279,7 +277,7 @@ turn_visits Q l i j cards under r m n G q c e d f here v first h t =
             let a : same_queue q i ≡ 0 = other_count q i g in
             let b : same_queue q j ≡ 0 = other_count q j o in
             let other = set_other r.deficits q j D (λ w. o (sym w)) in
-            let none : r.visited ≢ Some j = λ w. not_some j (sym v ∙ w) in
+            let none : r.visited ≢ Some j = λ w. none-some j (sym v ∙ w) in
             elim (cases_Bool (nat_le c.bits D)) [
               | inl w ↦ rw w record {
                 most = omega arith;
@@ -289,7 +287,7 @@ turn_visits Q l i j cards under r m n G q c e d f here v first h t =
               }
               | inr w ↦ rw w record {
                 most = omega arith;
-                in_own = λ k. absurd (not_some i k);
+                in_own = λ k. absurd (none-some i k);
                 late = λ k. late_other i j q cards cards r off o refl none (ahead_tail i j q r.active first g o) (t.late (omega arith));
                 bits = bits_same (Q j) (l j) n G (get_or (set r.deficits q D) j 0) (get_or r.deficits j 0) (same_queue q j) bits other b;
               }

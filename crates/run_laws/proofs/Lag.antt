@@ -27,12 +27,12 @@ use Rattle.run_laws.proofs.Oldest.{departures_of, arrivals_of, queue_order, left
 use Rattle.run_laws.proofs.Sizes.{size_pos}
 
 -- a beginning of a list that is less than D and p is a beginning of D
-record Begins (gone inside D rest : List Card) (p : Card) : Type 0 where
-  ahead : List Card
-  is : inside ≡ ahead ++ p ∷ rest
-  bits : bits_of D ≡ bits_of gone +ℚ bits_of ahead
+pub record Begins (gone inside D rest : List Card) (p : Card) : Type 0 where
+  pub ahead : List Card
+  pub is : inside ≡ ahead ++ p ∷ rest
+  pub bits : bits_of D ≡ bits_of gone +ℚ bits_of ahead
 
-begins_more : (c d : Card) (gone inside D rest : List Card) (p : Card) → size c ≡ size d → Begins gone inside D rest p
+pub begins_more : (c d : Card) (gone inside D rest : List Card) (p : Card) → size c ≡ size d → Begins gone inside D rest p
     → Begins (c ∷ gone) inside (d ∷ D) rest p
 begins_more c d gone inside D rest p same r =
     let e = r.bits in

@@ -1,4 +1,6 @@
 pub mod Sizes
+pub mod Members
+pub mod Times
 pub mod Levels
 pub mod Clips
 pub mod Sums

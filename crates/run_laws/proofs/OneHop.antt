@@ -20,7 +20,7 @@ use Rattle.run_laws.proofs.Delay.{kept_most, kept_first, kept_rest}
 use Rattle.run_laws.proofs.Entries.{entry_last, queue_of_hop}
 
 -- ---- where the packet leaves its server, it is delivered a link later
-gone_other : (net : Routes) (end : ℚ) (s p : ℕ) (entered : List Entry) (x : Step) (xs : List Step)
+pub gone_other : (net : Routes) (end : ℚ) (s p : ℕ) (entered : List Entry) (x : Step) (xs : List Step)
     → gone_at end p (seen net entered x ∷ view_from net s (entered_after entered x) xs) ≡ gone_at end p (view_from net s (entered_after entered x) xs)
     → gone_at end p (view_from net s entered (x ∷ xs)) ≡ gone_at end p (view_from net s (entered_after entered x) xs)
 gone_other net end s p entered x xs h = elim (cases_Bool (server_of net x == s)) [

@@ -127,9 +127,3 @@ under_small cards busy (Some u) C bits h k = elim (cases_Bool (C u.card)) [
   | inl e ↦ rw (when_true (C u.card) (size u.card) e) (size_most u.card bits (small_head C bits u.card.queue u.card cards k h.is_head e))
   | inr e ↦ rw (when_false (C u.card) (size u.card) e) (whole_nonneg bits)
 ]
-
-pub past_edge : (s u : ℚ) → le_q u s ≡ false → s <ℚ u
-past_edge s u h = elim (le_or_lt u s) [
-  | inl k ↦ absurd (both_ways (le_q u s) h (le_q_out _ _ k))
-  | inr k ↦ k
-]

@@ -5,7 +5,7 @@ use Rattle.std.proofs.lemmas.Bool.{cases_Bool, cases_eq, eqb-true, eq-eqb, ne_eq
 use Rattle.std.proofs.lemmas.List.{get_or-set_other}
 use Rattle.rational.specs.Rational.{ℚ}
 use Rattle.run_laws.specs.Cards.{Card, ServerStep, Arrives, Works, Leaves, Visits, of_queue}
-use Rattle.run_laws.specs.Servers.{Discipline, Drr, Server, Round, Under, ServerState, head_of, without_head}
+use Rattle.run_laws.specs.Servers.{Discipline, Drr, Server, Round, Under, ServerState, head_of, without_head, Fifo, Priority}
 use Rattle.run_laws.specs.Next.{next_inside, next_under, next_visits, fits, to_tail, left_round, arrived_round, worked_round, visited_round}
 use Rattle.run_laws.specs.Allows.{Allows, MayLeave, IsFirst, IsVisit, MayVisit, visited_head, next_card}
 use Rattle.run_laws.specs.Rounds.{presence, same_queue, count_of, VisitIsFirst, IsRound}
@@ -27,6 +27,12 @@ own_count j = rw (eq-eqb j j refl)
 
 pub other_count : (k j : ℕ) → k ≢ j → same_queue k j ≡ 0
 other_count k j h = rw (ne_eqb k j h)
+
+-- a visit begins only where no packet is under way
+pub visit_idle : (d : Discipline) (σ : ServerState) (q : ℕ) → MayVisit d σ q → σ.under ≡ None
+visit_idle Fifo σ q m = absurd m
+visit_idle (Priority n) σ q m = absurd m
+visit_idle (Drr quanta) σ q m = m.idle
 
 first_push : (j k : ℕ) (ks : List ℕ) → IsFirst j ks → IsFirst j (ks ++ k ∷ [])
 first_push j k [] h = absurd h

@@ -200,7 +200,7 @@ there_until server end V C s lawful twice l o =
     (with3 (departed K V s) (total (leaves K (before s)) o.front) (total (leaves K (before s)) o.back) (λ c. omega (arith, c.le, c.lt, c.same)))
 
 -- ---- its delay is one of those
-delay_at : (C : Class) (end : ℚ) (front back : List ServerStep) (p : Card) (u : ℚ) (most : Ext) → C p ≡ true
+pub delay_at : (C : Class) (end : ℚ) (front back : List ServerStep) (p : Card) (u : ℚ) (most : Ext) → C p ≡ true
     → AreAtMost most (hop_delays C end (front ++ Arrives p u ∷ back)) → Fin (gone_at end p.packet back -ℚ u) ≤ₑ most
 delay_at C end [] back p u most e h = kept_first (C p) (gone_at end p.packet back -ℚ u) (hop_delays C end back) most e h
 delay_at C end (Arrives c t ∷ front) back p u most e h = delay_at C end front back p u most e (kept_rest (C c) _ (hop_delays C end (front ++ Arrives p u ∷ back)) most h)

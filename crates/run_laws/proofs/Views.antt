@@ -15,11 +15,11 @@ use Rattle.run_laws.specs.Views.{entered_after, server_of, seen, view_from, view
 use Rattle.run_laws.specs.Lawful.{RunState, state_at, next_run, AllowsInRun, AllAllowedInRun, run_start, after_run, IsLawful}
 
 -- the state of a server after a step of its own, and of another
-own_state : (net : Routes) (r : RunState) (x : Step) → server_of net x < length r.servers
+pub own_state : (net : Routes) (r : RunState) (x : Step) → server_of net x < length r.servers
     → state_at (next_run net r x) (server_of net x) ≡ next (server_at net (server_of net x)).discipline (state_at r (server_of net x)) (seen net r.entered x)
 own_state net r x h = get_or-set_same r.servers (server_of net x) _ (start Fifo) h
 
-other_state : (net : Routes) (r : RunState) (x : Step) (s : ℕ) → s ≢ server_of net x → state_at (next_run net r x) s ≡ state_at r s
+pub other_state : (net : Routes) (r : RunState) (x : Step) (s : ℕ) → s ≢ server_of net x → state_at (next_run net r x) s ≡ state_at r s
 other_state net r x s h = get_or-set_other r.servers (server_of net x) s _ (start Fifo) h
 
 as_many : (net : Routes) (r : RunState) (x : Step) → length r.servers ≡ length net.servers

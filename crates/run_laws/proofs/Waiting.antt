@@ -3,7 +3,7 @@ use Rattle.std.specs.Prelude.{Option, Some, None, ◌≡◌, ◌≤◌, ℕ, pos
 use Rattle.std.proofs.Common.{arith, sym, ap, ◌∙◌, refl, inl, inr, subst, append_assoc}
 use Rattle.std.proofs.lemmas.Bool.{cases_Bool, both_ways, eq-eqb, and_from, and_left}
 use Rattle.rational.specs.Rational.{ℚ, int, ◌+ℚ◌, ◌≤ℚ◌, ◌<ℚ◌}
-use Rattle.rational.proofs.Laws.{le_refl, le_trans, le_or_lt}
+use Rattle.rational.proofs.Laws.{le_refl, le_trans, le_or_lt, add_zero}
 use Rattle.rational.proofs.Linear.{with1, with2, with3, with4, with5, with7}
 use Rattle.run_laws.specs.Cards.{Card, size, Class, ServerStep, Arrives, Works, Leaves, Visits, time_of, IsOfQueue}
 use Rattle.run_laws.specs.Servers.{Server, Under, ServerState, done, done_at, start, clip, head_of, without_head}
@@ -89,9 +89,6 @@ record Waits (C : Class) (p : Card) (cards ahead : List Card) (left : ℚ) : Typ
   waiting : IsWaiting C p cards now_ahead
   balance : bits_of now_ahead +ℚ left ≡ bits_of ahead
 
-none_left : (x : ℚ) → x +ℚ int (pos 0) ≡ x
-none_left x = with1 x (λ c. omega (arith, c.le, c.lt, c.same))
-
 -- c leaves from the front of these
 gone_first : (C : Class) (p c : Card) (q : ℕ) (cards ahead rest : List Card) → of_class C cards ≡ c ∷ of_class C (without_head q cards)
     → of_class C cards ≡ ahead ++ p ∷ rest → (c.packet == p.packet) ≡ false → Waits C p (without_head q cards) ahead (size c)
@@ -114,9 +111,9 @@ waits_next : (server : Server) (end : ℚ) (σ : ServerState) (x : ServerStep) (
 waits_next server end σ (Arrives c t) C q p ahead test g a h e k w = record {
   now_ahead = ahead;
   waiting = record { rest = w.rest ++ of_class C (c ∷ []); is = class-append C σ.inside (c ∷ []) ∙ ap (λ (xs : List Card). xs ++ of_class C (c ∷ [])) w.is ∙ append_assoc ahead (p ∷ w.rest) (of_class C (c ∷ [])) };
-  balance = none_left (bits_of ahead);
+  balance = add_zero (bits_of ahead);
 }
-waits_next server end σ (Works c a b f) C q p ahead test g m h e k w = record { now_ahead = ahead; waiting = w; balance = none_left (bits_of ahead) }
+waits_next server end σ (Works c a b f) C q p ahead test g m h e k w = record { now_ahead = ahead; waiting = w; balance = add_zero (bits_of ahead) }
 waits_next server end σ (Leaves c t) C q p ahead test g a h e k w =
     let head = leaving σ.inside σ.busy σ.under c t h a.1 in
     elim (cases_Bool (C c)) [
@@ -126,15 +123,15 @@ waits_next server end σ (Leaves c t) C q p ahead test g a h e k w =
       | inr f ↦ record {
         now_ahead = ahead;
         waiting = record { rest = w.rest; is = class_other C c.queue c σ.inside head f ∙ w.is };
-        balance = rw (when_false _ (size c) (and_left (C c) (test t) f)) (none_left (bits_of ahead));
+        balance = rw (when_false _ (size c) (and_left (C c) (test t) f)) (add_zero (bits_of ahead));
       }
     ]
-waits_next server end σ (Visits r t) C q p ahead test g a h e k w = record { now_ahead = ahead; waiting = w; balance = none_left (bits_of ahead) }
+waits_next server end σ (Visits r t) C q p ahead test g a h e k w = record { now_ahead = ahead; waiting = w; balance = add_zero (bits_of ahead) }
 
 waits_after : (server : Server) (end : ℚ) (σ : ServerState) (V : List ServerStep) (C : Class) (q : ℕ) (p : Card) (ahead : List Card) (test : ℚ → Bool) → IsOfQueue C q → AllAllowed server end σ V → IsSound σ → Each (IsBefore test) V
     → Each (KeepsPacket p.packet) V → IsWaiting C p σ.inside ahead
     → Waits C p (after server.discipline σ V).inside ahead (total (leaves C test) V)
-waits_after server end σ [] C q p ahead test g a h e k w = record { now_ahead = ahead; waiting = w; balance = none_left (bits_of ahead) }
+waits_after server end σ [] C q p ahead test g a h e k w = record { now_ahead = ahead; waiting = w; balance = add_zero (bits_of ahead) }
 waits_after server end σ (x ∷ V) C q p ahead test g a h e k w =
     let one = waits_next server end σ x C q p ahead test g a.0 h e.0 k.0 w in
     let rest = waits_after server end (next server.discipline σ x) V C q p one.now_ahead test g a.1 (sound_next server end σ x a.0 h) e.1 k.1 one.waiting in

@@ -1,3 +1,4 @@
+pub mod Times
 pub mod Runs
 pub mod Cards
 pub mod Servers

@@ -4,10 +4,12 @@
 //! A law is the contract of a function that does nothing: its body is empty, and its `ensures` is proved.
 #![tactic(auto)]
 
+mod bits;
 mod examples;
 mod laws;
 mod steps;
 
+pub use bits::whole;
 pub use examples::{
     a_dead_flow_is_refused, a_link_is_passed_in_time, a_run_may_be_cut_in_work,
     an_unknown_flow_is_refused, both_orders_are_lawful, left_complete_is_refused,

@@ -18,12 +18,6 @@ next_item x xs i h e = rw add-one (suc_item x xs i h e)
     suc_item x (y ∷ xs) zero h e = ap (λ z. z ∷ xs) (sym e)
     suc_item x (y ∷ xs) (suc i) h e = suc_item x xs i (omega arith) e
 
-pub none_left : {A : Type 0} (xs : List A) (i : ℕ) → length xs ≤ i → drop i xs ≡ []
-none_left [] zero h = refl
-none_left [] (suc i) h = refl
-none_left (x ∷ xs) zero h = absurd (omega arith)
-none_left (x ∷ xs) (suc i) h = none_left xs i (omega arith)
-
 -- ---- the packets that enter
 pub entries_some : (flow : ℕ) (x : Step) (xs : List Step) (e : Entering) → entering_in flow x ≡ Some e → entries flow (x ∷ xs) ≡ e ∷ entries flow xs
 entries_some flow (Enter f p t b) xs e h = elim (cases_Bool (f == flow)) [

@@ -3,12 +3,10 @@ use Rattle.std.specs.Prelude.{◌≡◌, ◌≢◌, ◌⊎◌, pos, Bool, true, 
 use Rattle.std.proofs.Common.{refl, sym, subst, ap, ap₂, ◌∙◌, inl, inr, true≢false}
 use Rattle.std.proofs.lemmas.Bool.{cases_Bool}
 use Rattle.std.specs.Ordering.{is_eq}
-use Rattle.std.specs.declared.cmp.Ordering.{Ordering}
-use Rattle.std.specs.declared.cmp.Ordering.TheVariants.{Less, Equal, Greater}
 use Rattle.rational.specs.Rational.{ℚ, int, ◌+ℚ◌, ◌-ℚ◌, ◌/ℚ◌, ◌≤ℚ◌, ◌<ℚ◌, le_q, lt_q}
-use Rattle.rational.specs.Ratio.{cmp_q}
-use Rattle.rational.proofs.Comparison.{cmp_equal, cmp_self}
+use Rattle.rational.proofs.Comparison.{cmp_self}
 use Rattle.fraction128.specs.Order.{same_q}
+pub use Rattle.fraction128.specs.Order.{same_out as same_in}
 use Rattle.run_laws.specs.Cards.{all, ServerStep}
 use Rattle.run_laws.specs.Servers as servers
 use Rattle.run_laws.specs.Counts.{when}
@@ -29,14 +27,6 @@ use Rattle.run_watch.specs.Held.{IsSeen}
 use Rattle.run_watch.proofs.FoundStretches.{HasStretch, stretch_found, found_stretch}
 
 -- ---- the test
-pub same_in : (x y : ℚ) → same_q x y ≡ true → x ≡ y
-same_in x y e = cmp_equal x y (is_equal (cmp_q x y) e)
-  where
-    is_equal : (o : Ordering) → is_eq o ≡ true → o ≡ Equal
-    is_equal Less k = absurd (true≢false (sym k))
-    is_equal Equal k = refl
-    is_equal Greater k = absurd (true≢false (sym k))
-
 pub same_out : (x y : ℚ) → x ≡ y → same_q x y ≡ true
 same_out x y e = subst (λ z. same_q x z ≡ true) e (ap is_eq (cmp_self x))
 

@@ -36,6 +36,7 @@ use Rattle.run_watch.specs.IdleWindows.{TimeFits, SegmentsFit}
 use Rattle.run_watch.specs.Held.{IsHeldRamp, AreHeld}
 use Rattle.watch_laws.specs.Marks.{FitsRule}
 use Rattle.run_watch.proofs.RampLists.{part_first, clip_past, spans_are, pace_is}
+use Rattle.affine_segment.proofs.PieceOrder.{each_map}
 
 some_largest : (z : Sizes) → int (pos 0) ≤ℚ times_largest 1 z
 some_largest z = mul_nonneg (nat_nonneg 1) (nat_nonneg z.largest)
@@ -209,14 +210,10 @@ time_fits z end t ps works A O H T =
     }
 
 -- ---- moves by the start of a piece
-piece_map : (P Q : Piece → Type 0) → ((p : Piece) → P p → Q p) → (ps : List Piece) → Each P ps → Each Q ps
-piece_map P Q f [] h = tt
-piece_map P Q f (p ∷ ps) h = (f p h.0, piece_map P Q f ps h.1)
-
 pub moves_fit : (z : Sizes) (end : ℚ) (qs : List Piece) (ps : List ℚ) → AreLimited z end → OperandPieces z end qs → EachTime (IsTime z end) ps → TimesFit qs ps
 moves_fit z end qs [] A O h = tt
 moves_fit z end qs (p ∷ ps) A O h = (
-  piece_map (OperandPiece z end) (λ q. AroundFits p q.x)
+  each_map (OperandPiece z end) (λ q. AroundFits p q.x)
       (λ q k. record { after = times_sum_fit z end p q.x A h.0 (piece_time z end q k); before = times_differ z end p q.x A h.0 (piece_time z end q k) }) qs O.each,
   moves_fit z end qs ps A O h.1,
 )

@@ -29,13 +29,14 @@ use Rattle.run_watch.specs.Watching.{ReadsAt, stops_in, stops, TimesRise, next_a
 use Rattle.run_watch.specs.WatchTimes.{watched_from, TimesFit}
 use Rattle.run_watch.specs.IdleWindows.{TimeFits, SegmentsFit}
 use Rattle.run_watch.specs.Held.{IsSeen, IsHeldRamp, AreHeld, IsHeld}
-use Rattle.run_watch.proofs.ViewStretches.{stops_rise, stops_each, each_map}
+use Rattle.run_watch.proofs.ViewStretches.{stops_rise, stops_each}
 use Rattle.run_watch.proofs.FoundStretches.{HasStretch, StretchesRise, stretch_found, stretches_rise}
 use Rattle.run_watch.proofs.FoundTurns.{change_is, turn_found, found_turn}
 use Rattle.run_watch.proofs.FoundTimes.{AreTurns, in_watched}
 use Rattle.run_watch.proofs.HeldSizes.{ramps_read, segments_fit, time_fits, moves_fit, start_time}
 use Rattle.run_watch.proofs.SortedPoints.{each_time_from}
 use Rattle.run_watch.proofs.IdleIn.{IsSearched}
+use Rattle.run_laws.proofs.Times.{each_time_map, each_time_append}
 
 -- ---- reading
 pub reads_at : (w : Watched) (c : SpecCurve) (t : ℚ) (h : IsHeld w c) → IsTime h.sizes w.end t → ReadsAt w t
@@ -47,7 +48,7 @@ reads_at w c t h T = record {
 }
 
 pub leaves_read : (w : Watched) (c : SpecCurve) → IsHeld w c → EachTime (ReadsAt w) w.leaves.items
-leaves_read w c h = each_map (IsTime h.sizes w.end) (ReadsAt w) (λ t k. reads_at w c t h k) w.leaves.items h.leaves
+leaves_read w c h = each_time_map (IsTime h.sizes w.end) (ReadsAt w) (λ t k. reads_at w c t h k) w.leaves.items h.leaves
 
 ramp_map : (P Q : Ramp → Type 0) → ((r : Ramp) → P r → Q r) → (rs : List Ramp) → EachRamp P rs → EachRamp Q rs
 ramp_map P Q f [] h = tt
@@ -71,7 +72,7 @@ next_time P u end (t ∷ ts) e h = elim (cases_Bool (lt_q u t)) [
 ]
 
 pub stops_time : (w : Watched) (c : SpecCurve) (h : IsHeld w c) → EachTime (IsTime h.sizes w.end) (stops w)
-stops_time w c h = stops_each (IsTime h.sizes w.end) w w.leaves.items (each_map (IsTime h.sizes w.end) _ (λ t k _. k) w.leaves.items h.leaves)
+stops_time w c h = stops_each (IsTime h.sizes w.end) w w.leaves.items (each_time_map (IsTime h.sizes w.end) _ (λ t k _. k) w.leaves.items h.leaves)
 
 pub ends_time : (w : Watched) (z : Sizes) (ts : List ℚ) (rs : List Ramp) → IsTime z w.end w.end → EachTime (IsTime z w.end) ts → EachRamp (IsHeldRamp z w.end) rs → EachTime (IsTime z w.end) (ends_of (stretches_in w ts rs))
 ends_time w z ts [] e T h = tt
@@ -80,24 +81,20 @@ ends_time w z ts (r ∷ rs) e T h = elim (cases_Bool (begins w r)) [
   | inr is ↦ rw is (ends_time w z ts rs e T h.1)
 ]
 
-each_both : (P : ℚ → Type 0) (xs ys : List ℚ) → EachTime P xs → EachTime P ys → EachTime P (xs ++ ys)
-each_both P [] ys h k = k
-each_both P (x ∷ xs) ys h k = (h.0, each_both P xs ys h.1 k)
-
 change_time : (P : ℚ → Type 0) (w : Watched) (t : ℚ) → P t → EachTime P (change_at w t)
 change_time P w t h = each_time_from P (change_at w t) (λ u k. subst P (sym (change_is w t u k).0) h)
 
 changes_time : (w : Watched) (z : Sizes) (rs : List Ramp) → EachRamp (IsHeldRamp z w.end) rs → EachTime (IsTime z w.end) (changes_in w rs)
 changes_time w z [] h = tt
 changes_time w z (r ∷ rs) h =
-    each_both (IsTime z w.end) (change_at w r.span.start ++ change_at w r.span.end) (changes_in w rs)
-    (each_both (IsTime z w.end) (change_at w r.span.start) (change_at w r.span.end) (change_time (IsTime z w.end) w r.span.start h.0.start) (change_time (IsTime z w.end) w r.span.end h.0.last))
+    each_time_append (IsTime z w.end) (change_at w r.span.start ++ change_at w r.span.end) (changes_in w rs)
+    (each_time_append (IsTime z w.end) (change_at w r.span.start) (change_at w r.span.end) (change_time (IsTime z w.end) w r.span.start h.0.start) (change_time (IsTime z w.end) w r.span.end h.0.last))
     (changes_time w z rs h.1)
 
 pub turns_time : (w : Watched) (c : SpecCurve) (ps : List ℚ) (h : IsHeld w c) → ps ≡ turns w (stretches w) → EachTime (IsTime h.sizes w.end) ps
 turns_time w c ps h e =
     subst (EachTime (IsTime h.sizes w.end)) (sym e)
-    (each_both (IsTime h.sizes w.end) (ends_of (stretches w)) (changes_in w w.works.items)
+    (each_time_append (IsTime h.sizes w.end) (ends_of (stretches w)) (changes_in w w.works.items)
     (ends_time w h.sizes (stops w) w.arrivals.items (end_time h.sizes w.end h.limited) (stops_time w c h) h.arrivals.each)
     (changes_time w h.sizes w.works.items h.works.each))
 
@@ -151,7 +148,7 @@ searched server V w c ps h S M some e = record {
   turns_are = record {
     found = λ t k. subst (Among t) (sym e) (turn_found server w.end V w t S k);
     are = λ t k. found_turn server w.end V w t S (subst (Among t) e k);
-    in_run = each_map (IsTime h.sizes w.end) _ (λ t k. (k.low, k.high)) ps (turns_time w c ps h e);
+    in_run = each_time_map (IsTime h.sizes w.end) _ (λ t k. (k.low, k.high)) ps (turns_time w c ps h e);
   };
   starts = (segments_fit h.sizes w.end (unroll c w.end) h.limited (pieces_stand w c h some)).starts;
 }

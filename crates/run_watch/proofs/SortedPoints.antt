@@ -23,6 +23,7 @@ use Rattle.run_watch.specs.WatchTimes.{point_at, IsShortTo, IsFirstStart}
 use Rattle.run_watch.specs.IdleWindows.{IsShortWindow, NoneIsShort, IsFirstShort, TimeFits, SegmentsFit}
 use Rattle.watch_laws.specs.Marks.{FitsRule}
 use Rattle.run_watch.proofs.ShortWindows.{each_point_has, first_or_later, point_has}
+use Rattle.run_laws.proofs.Times.{each_time_map}
 
 -- ---- membership
 among_contains : (t : ℚ) (ts : List ℚ) → Among t ts → Contains ts t
@@ -113,10 +114,6 @@ fits_by works ts s g k m = record {
   gap = g;
   marks = each_point_at (λ p. FitsRule (rule_of s) (mark_of s.slope p)) works ts m;
 }
-
-each_time_map : (P Q : ℚ → Type 0) → ((t : ℚ) → P t → Q t) → (ts : List ℚ) → EachTime P ts → EachTime Q ts
-each_time_map P Q f [] h = tt
-each_time_map P Q f (t ∷ ts) h = (f t h.0, each_time_map P Q f ts h.1)
 
 abbrev KeysAt : List Ramp → List Segment → ℚ → Type 0
 KeysAt works ss t = EachSegment (λ s. KeySteps s.slope (point_at works t)) ss × EachSegment (λ s. FitsRule (rule_of s) (mark_of s.slope (point_at works t))) ss

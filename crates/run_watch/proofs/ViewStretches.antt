@@ -26,6 +26,7 @@ use Rattle.run_watch.specs.Seen.{arrival_spans, work_spans}
 use Rattle.run_watch.specs.Held.{IsSeen}
 use Rattle.run_watch.specs.Watching.{arrived_by, worked_by, is_caught_up, stops_in, stops, TimesRise, next_after, begins, stretch_from, stretches_in, stretches}
 use Rattle.run_watch.proofs.ViewSpans.{leaves_rise, leaves_in_run}
+use Rattle.run_laws.proofs.Times.{each_time_map}
 
 -- ---- the next of some times
 -- e is after u and a time of the list or the end, and none of the list is between
@@ -90,10 +91,6 @@ stops_among w e (t ∷ ts) h k = elim h [
   ]
 ]
 
-pub each_map : (P Q : ℚ → Type 0) → ((t : ℚ) → P t → Q t) → (ts : List ℚ) → EachTime P ts → EachTime Q ts
-each_map P Q f [] h = tt
-each_map P Q f (t ∷ ts) h = (f t h.0, each_map P Q f ts h.1)
-
 each_any : (P : ℚ → Type 0) → ((t : ℚ) → P t) → (ts : List ℚ) → EachTime P ts
 each_any P f [] = tt
 each_any P f (t ∷ ts) = (f t, each_any P f ts)
@@ -124,5 +121,5 @@ ends_at server end V w u e S s =
       is = is;
       least = stops_each (λ t. u <ℚ t → e ≤ℚ t) w w.leaves.items (each_any (λ t. is_caught_up w t ≡ true → u <ℚ t → e ≤ℚ t) least w.leaves.items);
       before_end = stops_each (λ t. t ≤ℚ end) w w.leaves.items
-          (each_map (λ t. t ≤ℚ end) (λ t. is_caught_up w t ≡ true → t ≤ℚ end) (λ t k _. k) w.leaves.items (subst (λ (ts : List ℚ). EachTime (λ t. t ≤ℚ end) ts) (sym leaves) (leaves_in_run server end V S.lawful)));
+          (each_time_map (λ t. t ≤ℚ end) (λ t. is_caught_up w t ≡ true → t ≤ℚ end) (λ t k _. k) w.leaves.items (subst (λ (ts : List ℚ). EachTime (λ t. t ≤ℚ end) ts) (sym leaves) (leaves_in_run server end V S.lawful)));
     }

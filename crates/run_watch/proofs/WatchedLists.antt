@@ -1,9 +1,9 @@
 -- The loops over what a server sees, step by step.
-use Rattle.std.specs.Prelude.{◌≡◌, ℕ, zero, suc, ◌+◌, ◌<◌, ◌≤◌, Bool, true, false, List, [], ◌∷◌, ◌++◌, length, drop, get_or, Option, Some, None, if◌then◌else◌}
+use Rattle.std.specs.Prelude.{◌≡◌, ℕ, zero, suc, ◌+◌, ◌<◌, ◌≤◌, true, false, List, [], ◌∷◌, ◌++◌, length, drop, get_or, Option, Some, None, if◌then◌else◌}
 use Rattle.std.specs.List.{slice_index_or}
 use Rattle.std.specs.Option.{option_to_list}
 use Rattle.std.proofs.Common.{arith, refl, sym, subst, ap, ap₂, ◌∙◌, append_assoc, true≢false}
-use Rattle.rational.specs.Rational.{ℚ, ◌≤ℚ◌, ◌<ℚ◌, le_q, lt_q}
+use Rattle.rational.specs.Rational.{ℚ, ◌≤ℚ◌, ◌<ℚ◌, lt_q}
 use Rattle.rational.proofs.Laws.{le_refl, le_trans, le_or_lt, lt_le_trans}
 use Rattle.rational.proofs.Over.{le_q_out, le_q_in, lt_q_out}
 use Rattle.rational.proofs.MinMax.{lt_q_not, le_q_not}
@@ -12,8 +12,10 @@ use Rattle.run_watch.specs.declared.span.Ramp.{Ramp}
 use Rattle.run_watch.specs.declared.watched.Watched.{Watched}
 use Rattle.run_watch.specs.declared.watched.Stretch.{Stretch}
 use Rattle.run_watch.specs.Watching.{is_caught_up, stops_in, stops, TimesRise, next_after, stretch_from, stretches_in, change_at, changes_in, ends_of, turns}
-use Rattle.run_watch.proofs.EntryLists.{next_item, none_left}
+use Rattle.run_watch.proofs.EntryLists.{next_item}
 use Rattle.run_watch.proofs.SeenLists.{found_more, found_same}
+use Rattle.affine_segment.proofs.NextPiece.{none_left}
+use Rattle.run_laws.specs.Counts.{upto}
 
 -- ---- stops
 pub stops_more : (w : Watched) (t : ℚ) (ts : List ℚ) → is_caught_up w t ≡ true → stops_in w (t ∷ ts) ≡ t ∷ stops_in w ts
@@ -28,9 +30,6 @@ time_at P (u ∷ ts) zero t h l e = subst P (sym e) h.0
 time_at P (u ∷ ts) (suc k) t h l e = time_at P ts k t h.1 (omega arith) e
 
 -- ---- the first time after u
-abbrev pub is_by : ℚ → ℚ → Bool
-is_by u t = le_q t u
-
 later_than : (from : ℚ) (ts : List ℚ) (j : ℕ) (d : ℚ) → TimesRise from ts → j < length ts → from ≤ℚ get_or ts j d
 later_than from [] j d h l = absurd (omega arith)
 later_than from (t ∷ ts) zero d h l = h.0
@@ -43,11 +42,11 @@ times_rise from (t ∷ ts) zero (suc j) d h k l = later_than t ts j d h.1 (omega
 times_rise from (t ∷ ts) (suc i) zero d h k l = absurd (omega arith)
 times_rise from (t ∷ ts) (suc i) (suc j) d h k l = times_rise t ts i j d h.1 (omega arith) (omega arith)
 
-pub parted_at : (from : ℚ) (ts : List ℚ) (u : ℚ) → TimesRise from ts → (i j : ℕ) (d : ℚ) → i ≤ j → j < length ts → is_by u (get_or ts j d) ≡ true → is_by u (get_or ts i d) ≡ true
+pub parted_at : (from : ℚ) (ts : List ℚ) (u : ℚ) → TimesRise from ts → (i j : ℕ) (d : ℚ) → i ≤ j → j < length ts → upto u (get_or ts j d) ≡ true → upto u (get_or ts i d) ≡ true
 parted_at from ts u h i j d k l e = le_q_out (get_or ts i d) u (le_trans (times_rise from ts i j d h k l) (le_q_in (get_or ts j d) u e))
 
 abbrev pub AreBy : ℚ → List ℚ → ℕ → Type 0
-AreBy u ts k = (i : ℕ) (d : ℚ) → 0 ≤ i → i < k → is_by u (get_or ts i d) ≡ true
+AreBy u ts k = (i : ℕ) (d : ℚ) → 0 ≤ i → i < k → upto u (get_or ts i d) ≡ true
 
 pub next_found : (u end : ℚ) (ts : List ℚ) (k : ℕ) (t : ℚ) → k < length ts → t ≡ slice_index_or ts k t → AreBy u ts k → u <ℚ t → t ≡ next_after u end ts
 next_found u end [] k t l e by later = absurd (omega arith)

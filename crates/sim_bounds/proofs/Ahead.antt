@@ -4,6 +4,8 @@ use Rattle.std.specs.Prelude.{Option, ◌≢◌, ◌==◌, if◌then◌else◌}
 use Rattle.std.proofs.lemmas.Bool.{cases_eq, eq-eqb, ne_eqb}
 use Rattle.run_laws.specs.Routes.{Hop, PassesServer, first_of, first_server, server_after}
 use Rattle.sim_bounds.specs.Horizons.{path_bits, IsRising}
+use Rattle.run_laws.proofs.Entries.{passes_first}
+pub use Rattle.run_laws.proofs.Entries.{passes_next as after_passes}
 
 -- from server j on
 abbrev pub bits_from : ℕ → ℕ → List Hop → ℕ → ℕ
@@ -55,22 +57,11 @@ later_place place h (x ∷ xs) g r (inr p) =
     let b = r.0 in
     omega (arith, a, b)
 
-first_passes : (hs : List Hop) (g : ℕ) → first_of hs ≡ Some g → PassesServer g hs
-first_passes [] g e = absurd (cc)
-first_passes (h ∷ hs) g e = inl (let f : h.server ≡ g = cc in f)
-
-pub after_passes : (j g : ℕ) (hs : List Hop) → server_after j hs ≡ Some g → PassesServer g hs
-after_passes j g [] e = absurd (cc)
-after_passes j g (h ∷ hs) e = elim (cases_eq h.server j) [
-  | inl i ↦ inr (first_passes hs g (sym (after_here j h hs i) ∙ e))
-  | inr n ↦ inr (after_passes j g hs (sym (after_there j h hs n) ∙ e))
-]
-
 -- the next server has a later place
 pub after_later : (place : ℕ → ℕ) (j g : ℕ) (hs : List Hop) → IsRising place hs → server_after j hs ≡ Some g → place j < place g
 after_later place j g [] r e = absurd (cc)
 after_later place j g (h ∷ hs) r e = elim (cases_eq h.server j) [
-  | inl i ↦ subst (λ k. place k < place g) i (later_place place h hs g r (first_passes hs g (sym (after_here j h hs i) ∙ e)))
+  | inl i ↦ subst (λ k. place k < place g) i (later_place place h hs g r (passes_first g hs (sym (after_here j h hs i) ∙ e)))
   | inr n ↦ after_later place j g hs (rest_rises place h hs r) (sym (after_there j h hs n) ∙ e)
 ]
 
@@ -105,7 +96,7 @@ pub leave_other : (place : ℕ → ℕ) (s j : ℕ) (hs : List Hop) (b : ℕ) �
 leave_other place s j [] b r n = refl
 leave_other place s j (h ∷ hs) b r n = elim (cases_eq h.server j) [
   | inl e ↦
-      ap (λ o. bits_after s o (h ∷ hs) b) (after_here j h hs e) ∙ after_rest place s h hs b (first_of hs) (first_passes hs) r ∙ after_first s hs b
+      ap (λ o. bits_after s o (h ∷ hs) b) (after_here j h hs e) ∙ after_rest place s h hs b (first_of hs) (λ g. passes_first g hs) r ∙ after_first s hs b
       ∙ sym (path_there s h hs b (λ f. n (sym e ∙ f))) ∙ sym (from_here s j h hs b e)
   | inr d ↦
       ap (λ o. bits_after s o (h ∷ hs) b) (after_there j h hs d) ∙ after_rest place s h hs b (server_after j hs) (λ g. after_passes j g hs) r
@@ -117,7 +108,7 @@ pub leave_own : (place : ℕ → ℕ) (s : ℕ) (hs : List Hop) (b : ℕ) → Is
 leave_own place s [] b r = refl
 leave_own place s (h ∷ hs) b r = elim (cases_eq h.server s) [
   | inl e ↦
-      ap (λ o. bits_after s o (h ∷ hs) b) (after_here s h hs e) ∙ after_rest place s h hs b (first_of hs) (first_passes hs) r ∙ after_first s hs b
+      ap (λ o. bits_after s o (h ∷ hs) b) (after_here s h hs e) ∙ after_rest place s h hs b (first_of hs) (λ g. passes_first g hs) r ∙ after_first s hs b
       ∙ no_bits place s hs b (λ g p. subst (λ i. place i < place g) e (later_place place h hs g r p))
   | inr d ↦
       ap (λ o. bits_after s o (h ∷ hs) b) (after_there s h hs d) ∙ after_rest place s h hs b (server_after s hs) (λ g. after_passes s g hs) r

@@ -1,8 +1,8 @@
 -- How many bits a server still has to see or to work off: of packets that have not entered, that are in servers, and
 -- that are on links; and what each step does to that sum.
-use Rattle.std.proofs.Common.{◌≡◌, ℕ, zero, suc, ◌<◌, ◌≤◌, ◌+◌, List, [], ◌∷◌, ◌++◌, length, get_or, set, map, drop, refl, ap, ◌∙◌, subst, arith, inl, inr, Some, None, Bool, true, false}
+use Rattle.std.proofs.Common.{◌≡◌, ℕ, zero, suc, ◌<◌, ◌≤◌, ◌+◌, List, [], ◌∷◌, ◌++◌, length, get_or, set, map, drop, refl, ap, ◌∙◌, subst, arith, inl, inr, Some, None, true, false}
 use Rattle.std.specs.Prelude.{Option, ◌==◌, ◌&&◌}
-use Rattle.std.proofs.lemmas.Bool.{cases_Bool, eqb-true, eq-eqb}
+use Rattle.std.proofs.lemmas.Bool.{cases_Bool, eqb-true, eq-eqb, and_parts}
 use Rattle.rational.specs.Rational.{ℚ, le_q}
 use Rattle.run_laws.specs.Cards.{Card}
 use Rattle.run_laws.specs.Servers.{Server, ServerState, head_of, without_head, start}
@@ -92,15 +92,11 @@ servers_start net s j [] = refl
 servers_start net s j (x ∷ xs) = let h = servers_start net s (suc j) xs in omega (arith, h)
 
 -- ---- links
-both_true : (a b : Bool) → (a && b) ≡ true → (a ≡ true) × (b ≡ true)
-both_true true b e = (refl, e)
-both_true false b e = absurd (cc)
-
 -- entries that count as one have the same bits
 same_bits : (net : Routes) (entered : List Entry) (s : ℕ) (d e : Due) → same_due d e ≡ true → due_bits net entered s d ≡ due_bits net entered s e
 same_bits net entered s d e h =
-    let a = both_true (d.packet == e.packet) ((d.server == e.server) && (le_q d.time e.time && le_q e.time d.time)) h in
-    let b = both_true (d.server == e.server) (le_q d.time e.time && le_q e.time d.time) a.1 in
+    let a = and_parts (d.packet == e.packet) ((d.server == e.server) && (le_q d.time e.time && le_q e.time d.time)) h in
+    let b = and_parts (d.server == e.server) (le_q d.time e.time && le_q e.time d.time) a.1 in
     let p : d.packet ≡ e.packet = eqb-true d.packet e.packet a.0 in
     let q : d.server ≡ e.server = eqb-true d.server e.server b.0 in
     ap (λ k. bits_from s k (hops_of net entered d.packet) (entry_of entered d.packet).bits) q

@@ -12,17 +12,17 @@ use Rattle.rational.proofs.MinMax.{max_q_ge_left, max_q_ge_right}
 use Rattle.run_laws.specs.declared.steps.Step.{Step}
 use Rattle.run_laws.specs.declared.steps.Step.TheVariants.{Enter, Reach, Work, Leave, Visit}
 use Rattle.run_laws.specs.Cards.{Card, whole, size, Arrives, Works, Leaves, Visits}
-use Rattle.run_laws.specs.Servers.{Discipline, Fifo, Priority, Drr, Server, Under, ServerState, done, done_so_far, head_of, start}
+use Rattle.run_laws.specs.Servers.{Discipline, Fifo, Server, Under, ServerState, done, done_so_far, head_of, start}
 use Rattle.run_laws.specs.Next.{next}
-use Rattle.run_laws.specs.Allows.{next_card, MayVisit}
+use Rattle.run_laws.specs.Allows.{next_card}
 use Rattle.run_laws.specs.Routes.{Routes, server_at, link_at, route_of, PassesServer, first_server, server_after}
 use Rattle.run_laws.specs.Views.{Entry, entry_of, hops_of, card_of, entered_after, server_of, seen}
-use Rattle.run_laws.specs.Lawful.{Due, RunState, sent, state_at, next_run, run_start}
+use Rattle.run_laws.specs.Lawful.{Due, RunState, state_at, next_run, run_start}
 use Rattle.run_laws.proofs.Heads.{head_push, pick_is_head, same_some}
 use Rattle.run_laws.proofs.Sizes.{whole_le}
 use Rattle.stated_runs.specs.Setups.{Setup, IsSetup, IsFirstOpen, IsStretch, opening_of, packet_of, rate_of}
 use Rattle.stated_runs.specs.DueSteps.{IsLeaving, IsResumed, IsStarted, IsEntering, IsDue}
-use Rattle.stated_runs.proofs.Lists.{In, in_either, in_without, contains_in}
+use Rattle.stated_runs.proofs.Lists.{In, in_without, contains_in}
 use Rattle.stated_runs.proofs.GoodServers.{IsCardAt}
 use Rattle.stated_runs.proofs.Good.{IsGood, own_state, other_state, extends_push}
 use Rattle.stated_runs.proofs.GoodWork.{good_work_of}
@@ -33,6 +33,8 @@ use Rattle.sim_bounds.proofs.Spans.{come_by, left_by, enters_by, first_nonneg, f
 use Rattle.sim_bounds.proofs.Ahead.{bits_from, bits_after, from_first, from_own, after_later, leave_other, leave_own}
 use Rattle.sim_bounds.proofs.AheadSums.{card_bits, bits_inside, bits_in_servers, bits_on_links, ahead, inside_push, inside_without, servers_set, servers_at, servers_start, links_without, links_sent, links_extend, through_drop}
 use Rattle.sim_bounds.proofs.Levels.{IsLevel, IsLate, clock, clock_of, level_start, level_arrive, level_work, level_leave, level_visit, in_span}
+pub use Rattle.run_laws.proofs.Rounds.{visit_idle as idle_of}
+pub use Rattle.stated_runs.proofs.GoodSteps.{sent_in}
 
 pub record IsBounded (S : Setup) (place : ℕ → ℕ) (r : RunState) : Type 0 where
   pub rising : (p : ℕ) → p < length r.entered → IsRising place (hops_of S.net r.entered p)
@@ -371,11 +373,6 @@ bounds_work S place ok fw r T g h i p a b w due =
     }
 
 -- ---- a packet leaves
-pub sent_in : (o : Option ℕ) (p : ℕ) (t : ℚ) (due : List Due) (d : Due) → In (sent o p t due) d
-    → In due d ⊎ ((g : ℕ) × (o ≡ Some g) × ((let e : Due = record { packet = p; server = g; time = t } in e) ≡ d))
-sent_in None p t due d h = inl h
-sent_in (Some g) p t due d h = elim (in_either due record { packet = p; server = g; time = t } d h) [ inl i ↦ inl i | inr e ↦ inr (g, refl, e) ]
-
 bounds_leave : (S : Setup) (place : ℕ → ℕ) → IsSetup S → IsForward S place → (r : RunState) (T : ℚ) → IsGood S r T → IsBounded S place r
     → (i p : ℕ) (t : ℚ) → IsDue S r (Leave i p t) → KeepsBounds S place r (Leave i p t)
 bounds_leave S place ok fw r T g h i p t due =
@@ -402,11 +399,6 @@ bounds_leave S place ok fw r T g h i p t due =
     }
 
 -- ---- a server turns to a queue
-pub idle_of : (d : Discipline) (σ : ServerState) (q : ℕ) → MayVisit d σ q → σ.under ≡ None
-idle_of Fifo σ q h = absurd h
-idle_of (Priority n) σ q h = absurd h
-idle_of (Drr quanta) σ q h = h.idle
-
 bounds_visit : (S : Setup) (place : ℕ → ℕ) → IsSetup S → IsForward S place → (r : RunState) (T : ℚ) → IsGood S r T → IsBounded S place r
     → (i q : ℕ) (t : ℚ) → IsDue S r (Visit i q t) → KeepsBounds S place r (Visit i q t)
 bounds_visit S place ok fw r T g h i q t due =

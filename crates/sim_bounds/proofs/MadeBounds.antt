@@ -74,9 +74,9 @@ found_route (y ∷ ys) (suc i) f e = let r = found_route ys i f e in (r.0, inr r
 no_packet : TracePacket
 no_packet = record { time = int (pos 0); flow = 0; bits = 0 }
 
-packet_is : (net : Net) (trace : SpecTrace) (p : ℕ) → p < length (setup_of net trace).packets
+pub packet_in : (net : Net) (trace : SpecTrace) (p : ℕ) → p < length (setup_of net trace).packets
     → (x : TracePacket) × In trace.packets x × (packet_of (setup_of net trace) p ≡ entering x)
-packet_is net trace p h =
+packet_in net trace p h =
     let many = length-map trace.packets entering in
     let l : p < length trace.packets = omega (arith, h, many) in (
       get_or trace.packets p no_packet,
@@ -84,15 +84,11 @@ packet_is net trace p h =
       get_or-map entering trace.packets p no_packet record { flow = 0; bits = 0; time = int (pos 0) } l,
     )
 
-pub packet_in : (net : Net) (trace : SpecTrace) (p : ℕ) → p < length (setup_of net trace).packets
-    → (x : TracePacket) × In trace.packets x × (packet_of (setup_of net trace) p ≡ entering x)
-packet_in = packet_is
-
 pub made_forward : (net : Net) (trace : SpecTrace) → IsAccepted net → IsTrace trace → IsTraceOf net trace → IsFeedForward net
     → IsForward (setup_of net trace) (place_of_server net)
 made_forward net trace ok fine named free = record {
   rising = λ p h.
-      let x = packet_is net trace p h in
+      let x = packet_in net trace p h in
       let live = all_in (λ (t : TracePacket). Rattle.stated_runs.specs.FromTraces.IsLive net t.flow) trace.packets named.flows x.0 x.1 in
       let f = live.0 in
       let r = found_route net.flows x.0.flow f live.1 in

@@ -1,27 +1,9 @@
 -- Members of lists that are put together or made of others.
-use Rattle.std.proofs.Common.{◌≡◌, ℕ, zero, suc, ◌<◌, List, [], ◌∷◌, ◌++◌, length, map, get_or, refl, sym, ap, subst, arith, inl, inr}
+use Rattle.std.proofs.Common.{◌≡◌, ℕ, zero, suc, ◌<◌, List, [], ◌∷◌, length, map, get_or, refl, subst, arith, inl, inr}
 use Rattle.std.specs.Prelude.{All}
-use Rattle.std.specs.List.{flat_map, AllByRecursion}
+use Rattle.std.specs.List.{AllByRecursion}
 use Rattle.stated_runs.proofs.Lists.{In, in_contains}
-
-pub in_right : {X : Type 0} (xs ys : List X) (x : X) → In ys x → In (xs ++ ys) x
-in_right [] ys x h = h
-in_right (z ∷ zs) ys x h = inr (in_right zs ys x h)
-
-pub in_left : {X : Type 0} (xs ys : List X) (x : X) → In xs x → In (xs ++ ys) x
-in_left [] ys x h = absurd h
-in_left (z ∷ zs) ys x (inl e) = inl e
-in_left (z ∷ zs) ys x (inr h) = inr (in_left zs ys x h)
-
-pub in_map : {X Y : Type 0} (f : X → Y) (xs : List X) (x : X) → In xs x → In (map f xs) (f x)
-in_map f [] x h = absurd h
-in_map f (z ∷ zs) x (inl e) = inl (ap f e)
-in_map f (z ∷ zs) x (inr h) = inr (in_map f zs x h)
-
-pub in_flat : {X Y : Type 0} (f : X → List Y) (xs : List X) (x : X) (y : Y) → In xs x → In (f x) y → In (flat_map f xs) y
-in_flat f [] x y h k = absurd h
-in_flat f (z ∷ zs) x y (inl e) k = in_left (f z) (flat_map f zs) y (subst (λ t. In (f t) y) (sym e) k)
-in_flat f (z ∷ zs) x y (inr h) k = in_right (f z) (flat_map f zs) y (in_flat f zs x y h k)
+pub use Rattle.run_laws.proofs.Members.{has_right as in_right, has_left as in_left, has_map as in_map, has_flat as in_flat}
 
 pub each_in : {X : Type 0} (P : X → Type 0) (xs : List X) → AllByRecursion P xs → (x : X) → In xs x → P x
 each_in P [] a x h = absurd h

@@ -17,7 +17,7 @@ use Rattle.stated_runs.specs.Setups.{Setup, IsSetup, GateTimes, StallTimes, IsGa
 use Rattle.sim_bounds.specs.Times.{IsGateWhole, AreStallsWhole}
 use Rattle.sim_bounds.proofs.OpenTime.{cycles, in_cycle}
 
-larger_whole : (d : ℕ) (a b : ℚ) → Whole d a → Whole d b → Whole d (max_q a b)
+pub larger_whole : (d : ℕ) (a b : ℚ) → Whole d a → Whole d b → Whole d (max_q a b)
 larger_whole d a b v w = elim (max_q_one a b) [ inl e ↦ subst (λ x. Whole d x) (sym e) v | inr e ↦ subst (λ x. Whole d x) (sym e) w ]
 
 -- ---- since when it is open

@@ -12,6 +12,7 @@ use Rattle.rational.proofs.MinMax.{min_q_one, min_q_le_left, min_q_le_right, min
 use Rattle.run_laws.specs.Cards.{whole}
 use Rattle.run_laws.proofs.Sizes.{whole_le}
 use Rattle.stated_runs.specs.Setups.{GateTimes, IsGate, IsGateFor, IsGateOpen}
+use Rattle.run_laws.proofs.Clips.{quotient}
 
 -- ---- cycles
 -- how many whole cycles there are up to a time
@@ -163,15 +164,12 @@ gate_flat g ok x y from l closed = elim (le_or_lt y x) [
     s = g.slot
 
 -- ---- times the ratio of cycle and slot it is the time, but for one cycle
-pub ratio_is : (c s : ℚ) → int (pos 0) <ℚ s → (c /ℚ s) *ℚ s ≡ c
-ratio_is c s h = div_mul c s (not_zero s h)
-
 pub ratio_least : (c s : ℚ) → int (pos 0) <ℚ s → s ≤ℚ c → int (pos 1) ≤ℚ c /ℚ s
 ratio_least c s h l = (Rattle.rational.proofs.Quotients.le_div c s (int (pos 1)) h).1 (subst (λ y. y ≤ℚ c) (sym (one_mul s)) l)
 
 -- the ratio times the slots of n cycles is n cycles
 ratio_cycles : (c s : ℚ) (n : ℕ) → int (pos 0) <ℚ s → (c /ℚ s) *ℚ (whole n *ℚ s) ≡ whole n *ℚ c
-ratio_cycles c s n h = sym (mul_assoc (c /ℚ s) (whole n) s) ∙ ap (λ y. y *ℚ s) (mul_comm (c /ℚ s) (whole n)) ∙ mul_assoc (whole n) (c /ℚ s) s ∙ ap (λ y. whole n *ℚ y) (ratio_is c s h)
+ratio_cycles c s n h = sym (mul_assoc (c /ℚ s) (whole n) s) ∙ ap (λ y. y *ℚ s) (mul_comm (c /ℚ s) (whole n)) ∙ mul_assoc (whole n) (c /ℚ s) s ∙ ap (λ y. whole n *ℚ y) (quotient c s h)
 
 pub gate_low : (c s : ℚ) → int (pos 0) <ℚ s → s ≤ℚ c → (t : ℚ) → int (pos 0) ≤ℚ t → t ≤ℚ (c /ℚ s) *ℚ gate_time c s t
 gate_low c s some within t from =
@@ -191,7 +189,7 @@ gate_low c s some within t from =
           let f : q *ℚ min_q u s ≡ q *ℚ u = ap (λ y. q *ℚ y) e in
           with6 t (whole n *ℚ c) (q *ℚ min_q u s) (q *ℚ u) (int (pos 1) *ℚ u) (q *ℚ gate_time c s t) (λ o. omega (arith, o.le, o.lt, o.same))
       | inr e ↦
-          let f : q *ℚ min_q u s ≡ c = ap (λ y. q *ℚ y) e ∙ ratio_is c s some in
+          let f : q *ℚ min_q u s ≡ c = ap (λ y. q *ℚ y) e ∙ quotient c s some in
           with5 t (whole n *ℚ c) (q *ℚ min_q u s) c (q *ℚ gate_time c s t) (λ o. omega (arith, o.le, o.lt, o.same))
     ]
 
@@ -205,7 +203,7 @@ gate_high c s some within t from =
     let u = t -ℚ whole n *ℚ c in
     let split : q *ℚ gate_time c s t ≡ whole n *ℚ c +ℚ q *ℚ min_q u s = mul_add q (whole n *ℚ s) (min_q u s) ∙ ap (λ y. y +ℚ q *ℚ min_q u s) (ratio_cycles c s n some) in
     let begun = a.begun in
-    let f : q *ℚ min_q u s ≤ℚ c = subst (λ y. q *ℚ min_q u s ≤ℚ y) (ratio_is c s some) (mul_le_mul q (le_trans (with1 (int (pos 0)) (λ o. omega (arith, o.le, o.lt, o.same))) one) (min_q_le_right u s)) in
+    let f : q *ℚ min_q u s ≤ℚ c = subst (λ y. q *ℚ min_q u s ≤ℚ y) (quotient c s some) (mul_le_mul q (le_trans (with1 (int (pos 0)) (λ o. omega (arith, o.le, o.lt, o.same))) one) (min_q_le_right u s)) in
     with5 t (whole n *ℚ c) (q *ℚ min_q u s) c (q *ℚ gate_time c s t) (λ o. omega (arith, o.le, o.lt, o.same))
 
 -- ---- with a gate or without

@@ -3,7 +3,7 @@
 use Rattle.std.proofs.Common.{◌≡◌, ℕ, zero, suc, ◌<◌, ◌≤◌, ◌+◌, List, [], ◌∷◌, ◌++◌, length, get_or, refl, sym, ap, subst, arith, inl, inr, ◌⊎◌, Some, None, Bool, true, false, append_assoc, nat_eq}
 use Rattle.std.specs.Prelude.{Option, ◌==◌, ◌&&◌, ◌||◌}
 use Rattle.std.specs.List.{AllByRecursion, IsDistinct}
-use Rattle.std.proofs.lemmas.Bool.{cases_Bool, cases_eq, eqb-true, eq-eqb, ne_eqb}
+use Rattle.std.proofs.lemmas.Bool.{cases_Bool, cases_eq, eqb-true, eq-eqb, ne_eqb, and_parts}
 use Rattle.std.proofs.lemmas.List.{length_push}
 use Rattle.std.proofs.lemmas.Map.Steps.{length-le_from_distinct_below}
 use Rattle.net_model.specs.Networks.{Net, NetFlow}
@@ -16,10 +16,6 @@ use Rattle.stated_runs.proofs.Lists.{In, in_contains, contains_in}
 use Rattle.sim_bounds.proofs.Members.{each_in}
 
 -- ---- tests
-both_true : (p q : Bool) → (p && q) ≡ true → (p ≡ true) × (q ≡ true)
-both_true true q e = (refl, e)
-both_true false q e = absurd (cc)
-
 one_true : (p q : Bool) → (p || q) ≡ true → (p ≡ true) ⊎ (q ≡ true)
 one_true true q e = inl refl
 one_true false q e = inr e
@@ -44,7 +40,7 @@ step_found [] a b e = absurd (cc)
 step_found (x ∷ []) a b e = absurd (cc)
 step_found (x ∷ y ∷ ys) a b e = elim (one_true ((x == a) && (y == b)) (step_test (y ∷ ys) a b) e) [
   | inl h ↦
-      let k = both_true (x == a) (y == b) h in
+      let k = and_parts (x == a) (y == b) h in
       record { hop = 0; on_path = omega arith; from = eqb-true x a k.0; to = eqb-true y b k.1 }
   | inr h ↦
       let r = step_found (y ∷ ys) a b h in
@@ -146,7 +142,7 @@ walk_to net zero s e = record { servers = []; long = refl; below = tt; chain = t
 walk_to net (suc k) s e =
     let r = any_found (λ c. next_test net c s && ends_walk net k c) (length net.servers) e in
     let b = r.0 in
-    let both = both_true (next_test net b s) (ends_walk net k b) r.2 in
+    let both = and_parts (next_test net b s) (ends_walk net k b) r.2 in
     let w = walk_to net k b both.1 in
     let step : Chain (IsNext net) (b ∷ s ∷ []) = (next_found net b s both.0, tt) in
     let chain = joined (IsNext net) w.servers b (s ∷ []) w.chain step in

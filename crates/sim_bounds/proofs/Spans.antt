@@ -127,7 +127,7 @@ pub cycle_nonneg : (g : Option GateTimes) → IsGateFor g → int (pos 0) ≤ℚ
 cycle_nonneg None ok = le_refl (int (pos 0))
 cycle_nonneg (Some g) ok = le_of_lt (lt_le_trans ok.some_slot ok.within)
 
-stalled_nonneg : (xs : List StallTimes) → AreStalls xs → int (pos 0) ≤ℚ stalled_for xs
+pub stalled_nonneg : (xs : List StallTimes) → AreStalls xs → int (pos 0) ≤ℚ stalled_for xs
 stalled_nonneg [] h = le_refl (int (pos 0))
 stalled_nonneg (x ∷ xs) h =
     let a = h.0 in

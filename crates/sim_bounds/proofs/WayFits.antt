@@ -7,13 +7,11 @@ use Rattle.std.proofs.lemmas.List.{length-map}
 use Rattle.rational.specs.Rational.{ℚ, int, ◌+ℚ◌, ◌-ℚ◌, ◌*ℚ◌, ◌/ℚ◌, ◌≤ℚ◌}
 use Rattle.rational.specs.Grid.{Whole}
 use Rattle.rational.specs.Ratio.{IsSmall}
-use Rattle.rational.specs.MinMax.{max_q}
 use Rattle.rational.proofs.Linear.{with1, with2, with3, with4}
 use Rattle.rational.proofs.Laws.{le_refl, le_trans, le_of_lt, lt_le_trans, antisym, mul_le_mul_right, one_mul, not_zero}
 use Rattle.rational.proofs.Quotients.{div_nonneg}
 use Rattle.rational.proofs.Integers.{nat_le, nat_nonneg}
 use Rattle.rational.proofs.Grid.{whole_int, whole_add, whole_sub, within_nonneg}
-use Rattle.rational.proofs.MinMax.{max_q_one}
 use Rattle.rational.proofs.Sizes.{largest_part, small_on_grid, quotient_on_grid}
 use Rattle.run_laws.specs.Cards.{whole}
 use Rattle.run_laws.specs.Routes.{link_at}
@@ -35,10 +33,11 @@ use Rattle.sim_bounds.specs.Way.{HorizonFits}
 use Rattle.sim_bounds.proofs.Members.{in_left, in_right}
 use Rattle.sim_bounds.proofs.Places.{place_of_server}
 use Rattle.sim_bounds.proofs.MadeBounds.{made_forward}
-use Rattle.sim_bounds.proofs.Spans.{sum_nonneg, first_nonneg, ratio_pos, cycle_nonneg, work_nonneg, span_nonneg}
+use Rattle.sim_bounds.proofs.Spans.{sum_nonneg, first_nonneg, ratio_pos, cycle_nonneg, work_nonneg, span_nonneg, stalled_nonneg}
 use Rattle.sim_bounds.proofs.InTime.{first_in_time}
 use Rattle.sim_bounds.proofs.Gauged.{span_in, work_in, cycle_in}
 use Rattle.sim_bounds.proofs.Fits.{made_grid, times_whole, run_fits}
+use Rattle.sim_bounds.proofs.OpenGrid.{larger_whole}
 
 -- ---- the grid
 in_below : (f : ℕ → ℚ) (n i : ℕ) → i < n → In (each_below f n) (f i)
@@ -54,9 +53,6 @@ span_whole net trace s h =
     times_whole net trace (span (setup_of net trace) s)
     (in_left (own ++ spans_of net trace) _ (span (setup_of net trace) s)
     (in_right own (spans_of net trace) (span (setup_of net trace) s) (in_below (span (setup_of net trace)) (length net.servers) s h)))
-
-larger_whole : (d : ℕ) (a b : ℚ) → Whole d a → Whole d b → Whole d (max_q a b)
-larger_whole d a b v w = elim (max_q_one a b) [ inl e ↦ subst (λ x. Whole d x) (sym e) v | inr e ↦ subst (λ x. Whole d x) (sym e) w ]
 
 latest_whole : {A : Type 0} (d : ℕ) (time : A → ℚ) (xs : List A) (none : A) → ((k : ℕ) → k < length xs → Whole d (time (get_or xs k none))) → Whole d (latest_of time xs)
 latest_whole d time [] none h = whole_int d (pos 0)
@@ -83,19 +79,12 @@ cycle_whole d None w = whole_int d (pos 0)
 cycle_whole d (Some g) w = w.0
 
 -- ---- sizes
-stalled_some : (xs : List StallTimes) → AreStalls xs → int (pos 0) ≤ℚ stalled_for xs
-stalled_some [] h = le_refl (int (pos 0))
-stalled_some (x ∷ xs) h =
-    let a = h.0 in
-    let b = stalled_some xs h.1 in
-    with3 x.start x.end (stalled_for xs) (λ c. omega (arith, c.le, c.lt, c.same))
-
 front_each : (P : StallTimes → Type 0) (xs ys : List StallTimes) → AllByRecursion P (xs ++ ys) → AllByRecursion P xs
 front_each P [] ys h = tt
 front_each P (x ∷ xs) ys h = (h.0, front_each P xs ys h.1)
 
 front_most : (xs ys : List StallTimes) → AreStalls (xs ++ ys) → stalled_for xs ≤ℚ stalled_for (xs ++ ys)
-front_most [] ys h = stalled_some ys h
+front_most [] ys h = stalled_nonneg ys h
 front_most (x ∷ xs) ys h =
     let a = front_most xs ys h.1 in
     with4 x.start x.end (stalled_for xs) (stalled_for (xs ++ ys)) (λ c. omega (arith, c.le, c.lt, c.same))
@@ -152,7 +141,7 @@ server_way S place d s ok f g known w =
     let x = whole (load S s) /ℚ rate in
     let y = gate_ratio gate *ℚ x in
     let all = span_in S place ok f s known in
-    let stalled = stalled_some stalls (f.stalls s) in
+    let stalled = stalled_nonneg stalls (f.stalls s) in
     let link = ok.links s in
     let cycle = cycle_nonneg gate (ok.gates s) in
     let some_x = div_nonneg (whole (load S s)) rate (ok.rates s) (whole_nonneg (load S s)) in
@@ -215,7 +204,7 @@ way_fits S place d ok f g room stalls w =
           let most : stalled_for (xs ++ ys) ≤ℚ e = subst (λ t. stalled_for t ≤ℚ e) q (way s h).stalled in
           record {
             on_grid = stalled_whole d xs (front_each (λ (x : StallTimes). Whole d x.start × Whole d x.end) xs ys grid);
-            from_zero = stalled_some xs (front_each (λ (x : StallTimes). x.start ≤ℚ x.end) xs ys good);
+            from_zero = stalled_nonneg xs (front_each (λ (x : StallTimes). x.start ≤ℚ x.end) xs ys good);
             by = le_trans (front_most xs ys good) most;
           };
       closed = λ s h. (way s h).closed;

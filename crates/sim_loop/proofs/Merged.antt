@@ -2,7 +2,7 @@
 use Rattle.std.specs.Prelude.{Option, Some, None, ◌≡◌, ◌⊎◌, ℕ, zero, suc, ◌+◌, ◌<◌, List, [], ◌∷◌, length, get_or, slice_get}
 use Rattle.std.proofs.Common.{arith, refl, sym, ap, ◌∙◌, subst, inl, inr}
 use Rattle.std.proofs.lemmas.Bool.{cases_lt}
-use Rattle.index_links.specs.Chains.{Chains, list_at, Has, first_of}
+use Rattle.index_links.specs.Chains.{Chains, list_at, first_of}
 use Rattle.stated_runs.specs.Setups.{Setup}
 use Rattle.sim_servers.specs.declared.due.Due.{Due}
 use Rattle.sim_servers.specs.declared.station.Station.{Station}
@@ -11,6 +11,7 @@ use Rattle.sim_servers.specs.Stations.{due_for}
 use Rattle.sim_servers.proofs.Firsts.{no_later_refl, no_later_trans}
 use Rattle.sim_states.specs.declared.arrival.Arrival.{Arrival}
 use Rattle.sim_states.specs.Running.{enter_first, reach_first, station_due, IsCandidate, IsFirstCandidate}
+pub use Rattle.index_links.proofs.Popped.{first_has}
 
 -- with no server there is the packet that enters
 pub first_entry : (S : Setup) (stations : List Station) (links : Chains) (arrivals : List Arrival) (n : ℕ) (o : Option Due)
@@ -113,7 +114,3 @@ pub found_at : {X : Type 0} (xs : List X) (i : ℕ) (d : X) → i < length xs �
 found_at [] i d h = absurd (omega (arith, h))
 found_at (x ∷ xs) zero d h = refl
 found_at (x ∷ xs) (suc i) d h = found_at xs i d (omega (arith, h))
-
-pub first_has : (xs : List ℕ) (p : ℕ) → first_of xs ≡ Some p → Has xs p
-first_has [] p e = absurd (cc)
-first_has (x ∷ xs) p e = let g : x ≡ p = cc in inl g

@@ -1,7 +1,7 @@
 -- What each step keeps of stations and links.
 use Rattle.std.specs.Prelude.{Some, ◌≡◌, ◌≢◌, ◌⊎◌, ℕ, zero, suc, pos, ◌<◌, ◌≤◌, ◌==◌, ◌&&◌, true, List, [], ◌∷◌, ◌++◌, length, get_or, set, map, slice_get}
 use Rattle.std.proofs.Common.{arith, refl, sym, ap, ◌∙◌, subst, inl, inr}
-use Rattle.std.proofs.lemmas.Bool.{cases_eq, cases_Bool, eqb-true, eq-eqb, ne_eqb}
+use Rattle.std.proofs.lemmas.Bool.{cases_eq, cases_Bool, eqb-true, eq-eqb, ne_eqb, and_parts}
 use Rattle.std.proofs.lemmas.List.{get_or-set_same, get_or-set_other, length-map}
 use Rattle.std.proofs.Math.ListN.{length-set}
 use Rattle.rational.specs.Rational.{ℚ, int, le_q, ◌<ℚ◌}
@@ -18,7 +18,7 @@ use Rattle.sim_servers.specs.Stations.{IsStation}
 use Rattle.sim_states.specs.declared.arrival.Arrival.{Arrival}
 use Rattle.sim_states.specs.Running.{arrival_at, due_at, AreRising, IsAheadOf, AreLinks, AreStations}
 use Rattle.sim_states.specs.Places.{dues_of}
-use Rattle.sim_states.proofs.Places.{both_true, dues_less, no_due, one_same}
+use Rattle.sim_states.proofs.Places.{dues_less, no_due, one_same}
 
 -- ---- stations
 set_same : {X : Type 0} (xs : List X) (s : ℕ) (y : X) → s < length xs → slice_get (set xs s y) s ≡ Some y
@@ -88,7 +88,7 @@ rising_without arrivals p (q ∷ qs) h = elim (cases_eq q p) [
 ]
 
 same_packet : (d x : lawful.Due) → same_due d x ≡ true → d.packet ≡ x.packet
-same_packet d x t = eqb-true d.packet x.packet (both_true (d.packet == x.packet) ((d.server == x.server) && (le_q d.time x.time && le_q x.time d.time)) t).0
+same_packet d x t = eqb-true d.packet x.packet (and_parts (d.packet == x.packet) ((d.server == x.server) && (le_q d.time x.time && le_q x.time d.time)) t).0
 
 in_without_other : (d : lawful.Due) (ds : List lawful.Due) (e : lawful.Due) → In ds e → e.packet ≢ d.packet → In (without d ds) e
 in_without_other d [] e h n = absurd h

@@ -1,7 +1,7 @@
 -- Each packet that has entered is at one place at most: at a server, or on a link.
-use Rattle.std.specs.Prelude.{Option, Some, None, ◌≡◌, ◌≢◌, ℕ, ◌+◌, ◌<◌, ◌≤◌, Bool, true, false, ◌==◌, ◌&&◌, List, [], ◌∷◌, ◌++◌, length, get_or, sum_by}
+use Rattle.std.specs.Prelude.{Option, Some, None, ◌≡◌, ◌≢◌, ℕ, ◌+◌, ◌<◌, ◌≤◌, true, false, ◌==◌, ◌&&◌, List, [], ◌∷◌, ◌++◌, length, get_or, sum_by}
 use Rattle.std.proofs.Common.{arith, refl, sym, ap, ◌∙◌, subst, inl, inr}
-use Rattle.std.proofs.lemmas.Bool.{cases_eq, cases_Bool, eq-eqb, eqb-true, ne_eqb}
+use Rattle.std.proofs.lemmas.Bool.{cases_eq, cases_Bool, eq-eqb, eqb-true, ne_eqb, and_parts}
 use Rattle.std.proofs.lemmas.List.{length_push}
 use Rattle.std.proofs.lemmas.List.Sums.{sum_by-set}
 use Rattle.rational.specs.Rational.{ℚ, le_q, ◌+ℚ◌}
@@ -47,10 +47,6 @@ cards_less p q (x ∷ xs) c e = elim (cases_eq x.queue q) [
       omega (arith, h, m)
 ]
 
-pub both_true : (a b : Bool) → (a && b) ≡ true → (a ≡ true) × (b ≡ true)
-both_true true b h = (refl, h)
-both_true false b h = absurd (cc)
-
 le_self : (x : ℚ) → le_q x x ≡ true
 le_self x = le_q_out x x (le_refl x)
 
@@ -62,7 +58,7 @@ dues_less p [] d h = absurd h
 dues_less p (e ∷ es) d h = elim (cases_Bool (same_due d e)) [
   | inl t ↦
       let a : without d (e ∷ es) ≡ es = rw t refl in
-      let g : d.packet ≡ e.packet = eqb-true d.packet e.packet (both_true (d.packet == e.packet) ((d.server == e.server) && (le_q d.time e.time && le_q e.time d.time)) t).0 in
+      let g : d.packet ≡ e.packet = eqb-true d.packet e.packet (and_parts (d.packet == e.packet) ((d.server == e.server) && (le_q d.time e.time && le_q e.time d.time)) t).0 in
       let k : one d.packet p ≡ one e.packet p = ap (λ x. one x p) g in
       let m : dues_of p (without d (e ∷ es)) ≡ dues_of p es = ap (dues_of p) a in
       omega (arith, k, m)

@@ -8,8 +8,7 @@ use Rattle.rational.proofs.Laws.{le_refl, le_of_lt, lt_irrefl}
 use Rattle.run_laws.specs.declared.steps.Step.{Step}
 use Rattle.run_laws.specs.declared.steps.Step.TheVariants as steps
 use Rattle.run_laws.specs.Cards.{size}
-use Rattle.run_laws.specs.Servers.{Discipline, Fifo, Priority, Drr, Under, ServerState, done}
-use Rattle.run_laws.specs.Allows.{MayVisit}
+use Rattle.run_laws.specs.Servers.{Under, done}
 use Rattle.run_laws.specs.Routes.{server_at}
 use Rattle.run_laws.proofs.Heads.{pick_is_head}
 use Rattle.run_laws.specs.Lawful as lawful
@@ -30,6 +29,7 @@ use Rattle.sim_servers.specs.Stations.{IsNextOf, due_for}
 use Rattle.sim_servers.proofs.Firsts.{rank_refl}
 use Rattle.sim_states.specs.declared.arrival.Arrival.{Arrival}
 use Rattle.sim_states.specs.Running.{arrival_at, AreRising, IsRunning, enter_first, reach_first, station_due, IsCandidate, IsNotAfter}
+use Rattle.run_laws.proofs.Rounds.{visit_idle}
 
 -- ---- members
 pub some_at : {X : Type 0} (xs : List X) (i : ℕ) → i < length xs → (x : X) × (slice_get xs i ≡ Some x)
@@ -126,11 +126,6 @@ listed S links s p e h = elim (cases_lt s (length links.lists)) [
   | inl l ↦ omega (arith, l, e)
   | inr l ↦ absurd (subst (λ xs. Has xs p) (get_or_past links.lists s [] (omega (arith, l))) h)
 ]
-
-visit_idle : (d : Discipline) (σ : ServerState) (q : ℕ) → MayVisit d σ q → σ.under ≡ None
-visit_idle Fifo σ q m = absurd m
-visit_idle (Priority n) σ q m = absurd m
-visit_idle (Drr quanta) σ q m = m.idle
 
 pub record IsCovered (S : Setup) (r : RunState) (stations : List Station) (links : Chains) (arrivals : List Arrival) (entered : ℕ) (y : Step) : Type 0 where
   pub found : Due

@@ -1,14 +1,14 @@
 -- What holds of the state of a run after each step of a stated run.
 use Rattle.std.proofs.Common.{◌≡◌, ℕ, ◌<◌, ◌≤◌, ◌+◌, ◌^◌, List, [], ◌∷◌, ◌++◌, length, sym, ap, ◌∙◌, subst, arith, inl, inr, ◌⊎◌, Some, None}
-use Rattle.std.specs.Prelude.{pos, ◌≢◌}
+use Rattle.std.specs.Prelude.{pos}
 use Rattle.std.proofs.lemmas.Bool.{cases_eq}
-use Rattle.std.proofs.lemmas.List.{get_or-set_same, get_or-set_other, get_or_append_left, length_push}
+use Rattle.std.proofs.lemmas.List.{get_or_append_left, length_push}
 use Rattle.std.proofs.Math.ListN.{length-set}
 use Rattle.rational.specs.Rational.{ℚ, int, ◌≤ℚ◌}
 use Rattle.rational.proofs.Laws.{le_trans}
 use Rattle.run_laws.specs.declared.steps.Step.{Step}
 use Rattle.run_laws.specs.declared.steps.Step.TheVariants.{Enter, Reach, Work, Leave, Visit}
-use Rattle.run_laws.specs.Servers.{Fifo, Under, ServerState, start}
+use Rattle.run_laws.specs.Servers.{Under, ServerState}
 use Rattle.run_laws.specs.Next.{next}
 use Rattle.run_laws.specs.Routes.{Routes, server_at, route_of, PassesServer}
 use Rattle.run_laws.specs.Views.{Entry, entry_of, hops_of, entered_after, server_of, seen}
@@ -18,6 +18,7 @@ use Rattle.stated_runs.specs.DueSteps.{IsLeaving, IsResumed, IsStarted, IsVisite
 use Rattle.stated_runs.specs.Simulated.{IsNext}
 use Rattle.stated_runs.proofs.Lists.{In, contains_in}
 use Rattle.stated_runs.proofs.GoodServers.{IsExtendedBy, extends_same, IsGoodAt, good_later}
+pub use Rattle.run_laws.proofs.Views.{own_state, other_state}
 
 -- a packet that has entered: its path is over the network, and it has some bits
 pub record IsEntry (net : Routes) (e : Entry) : Type 0 where
@@ -37,14 +38,6 @@ pub record IsGood (S : Setup) (r : RunState) (T : ℚ) : Type 0 where
   pub links : (d : Due) → In r.due d → IsOnLink S.net r.entered d
   pub later : (y : Step) → IsDue S r y → T ≤ℚ step_time y
   pub from_zero : int (pos 0) ≤ℚ T
-
--- ---- the servers after a step
-pub own_state : (net : Routes) (r : RunState) (x : Step) → server_of net x < length r.servers
-    → state_at (next_run net r x) (server_of net x) ≡ next (server_at net (server_of net x)).discipline (state_at r (server_of net x)) (seen net r.entered x)
-own_state net r x h = get_or-set_same r.servers (server_of net x) _ (start Fifo) h
-
-pub other_state : (net : Routes) (r : RunState) (x : Step) (s : ℕ) → s ≢ server_of net x → state_at (next_run net r x) s ≡ state_at r s
-other_state net r x s h = get_or-set_other r.servers (server_of net x) s _ (start Fifo) h
 
 -- ---- entering
 pub extends_push : (entered : List Entry) (e : Entry) → IsExtendedBy entered (entered ++ e ∷ [])

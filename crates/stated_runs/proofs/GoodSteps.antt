@@ -142,7 +142,7 @@ step_work S ok r T g s p a b w n =
     }
 
 -- ---- a packet leaves
-sent_in : (o : Option ℕ) (p : ℕ) (t : ℚ) (due : List Due) (d : Due) → In (sent o p t due) d
+pub sent_in : (o : Option ℕ) (p : ℕ) (t : ℚ) (due : List Due) (d : Due) → In (sent o p t due) d
     → In due d ⊎ ((g : ℕ) × (o ≡ Some g) × ((let e : Due = record { packet = p; server = g; time = t } in e) ≡ d))
 sent_in None p t due d h = inl h
 sent_in (Some g) p t due d h = elim (in_either due record { packet = p; server = g; time = t } d h) [ inl i ↦ inl i | inr e ↦ inr (g, refl, e) ]

@@ -3,7 +3,7 @@ use Rattle.std.proofs.Common.{◌≡◌, ℕ, ◌<◌, ◌≤◌, ◌^◌, List,
 use Rattle.std.specs.Prelude.{pos}
 use Rattle.std.proofs.lemmas.Bool.{cases_eq}
 use Rattle.std.proofs.lemmas.List.{get_or-map}
-use Rattle.rational.specs.Rational.{ℚ, int, ◌<ℚ◌}
+use Rattle.rational.specs.Rational.{ℚ, int}
 use Rattle.rational.proofs.Linear.{with1}
 use Rattle.run_laws.specs.declared.steps.Step.{Step}
 use Rattle.run_laws.specs.declared.steps.Step.TheVariants.{Enter, Reach, Work, Leave, Visit}
@@ -26,6 +26,7 @@ use Rattle.stated_runs.proofs.Good.{IsGood, own_state, other_state, good_from_st
 use Rattle.stated_runs.proofs.GoodSteps.{good_next}
 use Rattle.stated_runs.proofs.Lawfulness.{none_under}
 use Rattle.stated_runs.proofs.Turning.{KeepsTurns, KeepsRound, AreHeads, turning_arrive, turning_work, turning_leave, turning_visit, progress}
+use Rattle.run_laws.proofs.Sizes.{size_pos}
 
 abbrev pub AllKeepTurns : Setup → RunState → Type 0
 AllKeepTurns S r = (s : ℕ) → s < length S.net.servers → KeepsTurns (server_at S.net s).discipline (state_at r s)
@@ -109,9 +110,6 @@ pub inside_cases : (cs : List Card) → (cs ≡ []) ⊎ ((c : Card) × (rest : L
 inside_cases [] = inl refl
 inside_cases (c ∷ cs) = inr (c, cs, refl)
 
-pub some_size : (c : Card) → 1 ≤ c.bits → int (pos 0) <ℚ size c
-some_size c h = Rattle.run_laws.proofs.Sizes.size_pos c h
-
 pub none_inside : (S : Setup) → IsSetup S → (r : RunState) (T : ℚ) → IsGood S r T → AllKeepTurns S r → ((y : Step) → ¬ (IsDue S r y))
     → (s : ℕ) → s < length S.net.servers → (state_at r s).inside ≡ []
 none_inside S ok r T g a none s h =
@@ -123,7 +121,7 @@ none_inside S ok r T g a none s h =
           absurd (elim (progress (server_at S.net s).discipline σ k.0 k.1 k.2 idle (heads_at S r T g s h) (a s h)) [
             | inl e ↦
                 let here = (g.servers s h).cards e.0 (head_in e.0.queue σ.inside e.0 (Rattle.run_laws.proofs.Heads.pick_is_head (server_at S.net s).discipline σ.inside σ.round e.0 e.1)) in
-                let o = stretch_of S s (ok.rates s) (ok.gates s) σ.now (size e.0) (g.servers s h).from_zero (some_size e.0 (fair_card S r T g s e.0 here).some) in
+                let o = stretch_of S s (ok.rates s) (ok.gates s) σ.now (size e.0) (g.servers s h).from_zero (size_pos e.0 (fair_card S r T g s e.0 here).some) in
                 none (Work s e.0.packet o.0 o.1 o.2) (h, inr record { idle = idle; card = e.0; packet_is = refl; picked = e.1; stretch = o.3 })
             | inr v ↦
                 let o = stretch_of S s (ok.rates s) (ok.gates s) σ.now (int (pos 1)) (g.servers s h).from_zero (with1 (int (pos 0)) (λ c. omega (arith, c.le, c.lt, c.same))) in

@@ -2,8 +2,9 @@
 use Rattle.std.proofs.Common.{◌≡◌, ℕ, ◌<◌, ◌≤◌, List, [], ◌∷◌, length, refl, subst, arith, inl, inr, Some}
 use Rattle.std.proofs.lemmas.Bool.{cases_eq, eq-eqb, ne_eqb}
 use Rattle.run_laws.specs.Servers.{queue_count}
-use Rattle.run_laws.specs.Routes.{Hop, Routes, server_at, queue_at, PassesServer, first_of, first_server, server_after}
+use Rattle.run_laws.specs.Routes.{Hop, Routes, server_at, queue_at, PassesServer, first_of, first_server}
 use Rattle.stated_runs.specs.Setups.{AreHopsOf}
+pub use Rattle.run_laws.proofs.Entries.{passes_next as after_passes}
 
 pub record IsPlace (net : Routes) (s q : ℕ) : Type 0 where
   pub known_server : s < length net.servers
@@ -27,18 +28,4 @@ pub first_passes : (hs : List Hop) → 1 ≤ length hs → PassesServer (first_s
 first_passes [] h = absurd (omega (arith, h))
 first_passes (h ∷ hs) l = (inl refl, refl)
 
-first_of_passes : (hs : List Hop) (g : ℕ) → first_of hs ≡ Some g → PassesServer g hs
-first_of_passes [] g e = absurd (cc)
-first_of_passes (h ∷ hs) g e = inl (let f : h.server ≡ g = cc in f)
-
 -- and the server after another one
-pub after_passes : (s g : ℕ) (hs : List Hop) → server_after s hs ≡ Some g → PassesServer g hs
-after_passes s g [] e = absurd (cc)
-after_passes s g (h ∷ hs) e = elim (cases_eq h.server s) [
-  | inl i ↦
-      let f : first_of hs ≡ Some g = rw (eq-eqb h.server s i) at e in
-      inr (first_of_passes hs g f)
-  | inr n ↦
-      let f : server_after s hs ≡ Some g = rw (ne_eqb h.server s n) at e in
-      inr (after_passes s g hs f)
-]

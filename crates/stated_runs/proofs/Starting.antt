@@ -23,7 +23,8 @@ use Rattle.stated_runs.proofs.GoodSteps.{good_next}
 use Rattle.stated_runs.proofs.Lawfulness.{good_start}
 use Rattle.stated_runs.proofs.Unique.{open_once}
 use Rattle.stated_runs.proofs.Turning.{progress}
-use Rattle.stated_runs.proofs.Progress.{AllKeepTurns, inside_cases, some_size, fair_card, heads_at, turn_next, turn_start, none_inside}
+use Rattle.stated_runs.proofs.Progress.{AllKeepTurns, inside_cases, fair_card, heads_at, turn_next, turn_start, none_inside}
+use Rattle.run_laws.proofs.Sizes.{size_pos}
 
 -- a start is due at the time at which it opens
 due_start : (S : Setup) → IsSetup S → (r : RunState) (T : ℚ) → IsGood S r T → AllKeepTurns S r → (s : ℕ) → s < length S.net.servers
@@ -36,7 +37,7 @@ due_start S ok r T g a s h idle some t opens =
       | inr k ↦ elim (progress (server_at S.net s).discipline σ k.0 k.1 k.2 idle (heads_at S r T g s h) (a s h)) [
         | inl e ↦
             let here = (g.servers s h).cards e.0 (head_in e.0.queue σ.inside e.0 (pick_is_head (server_at S.net s).discipline σ.inside σ.round e.0 e.1)) in
-            let o = stretch_of S s (ok.rates s) (ok.gates s) σ.now (size e.0) (g.servers s h).from_zero (some_size e.0 (fair_card S r T g s e.0 here).some) in (
+            let o = stretch_of S s (ok.rates s) (ok.gates s) σ.now (size e.0) (g.servers s h).from_zero (size_pos e.0 (fair_card S r T g s e.0 here).some) in (
               Work s e.0.packet o.0 o.1 o.2,
               (h, inr record { idle = idle; card = e.0; packet_is = refl; picked = e.1; stretch = o.3 }),
               open_once S s σ.now o.0 t o.3.begins opens,

@@ -24,6 +24,7 @@ use Rattle.upp_normal.proofs.UnrolledPieces.{unroll_starts}
 use Rattle.watch_laws.specs.Affine.{IsLineOn, NoneInside, IsAffineOff, EachTime, IsPiecewise}
 use Rattle.watch_laws.specs.Breaks.{IsBreak}
 use Rattle.watch_laws.specs.Segments.{number_at, slope_of}
+use Rattle.upp_normal.proofs.NormaliseRoomy.{found_early}
 
 -- ---- near a time
 -- there are times between x and y as near to z as one likes
@@ -149,18 +150,11 @@ piece_stays p (q ∷ qs) x t y none i j k = elim none.0 [
   | inr l ↦ piece_in_stop p q qs t (lt_le_trans k l) ∙ sym (piece_in_stop p q qs x (lt_le_trans j l))
 ]
 
-piece_starts : (p : Piece) (ps : List Piece) (x : ℚ) → p.x ≤ℚ x → (piece_in p ps x).x ≤ℚ x
-piece_starts p [] x h = subst (λ (q : Piece). q.x ≤ℚ x) (sym (piece_in_end p x)) h
-piece_starts p (q ∷ qs) x h = elim (le_or_lt q.x x) [
-  | inl l ↦ subst (λ (s : Piece). s.x ≤ℚ x) (sym (piece_in_go p q qs x l)) (piece_starts q qs x l)
-  | inr l ↦ subst (λ (s : Piece). s.x ≤ℚ x) (sym (piece_in_stop p q qs x l)) h
-]
-
 read_past : (p : Piece) (ps : List Piece) (x t y : ℚ) → p.x ≤ℚ x → NoneInside x y (starts ps) → x <ℚ t → t <ℚ y
     → read (p ∷ ps) t ≡ line_value (piece_in p ps x).line t
 unfolding read
 read_past p ps x t y h none i j =
-    ap (λ q. piece_value q t) (piece_stays p ps x t y none (le_of_lt i) (le_trans_lt i j) j) ∙ value_past (piece_in p ps x) t (le_lt_trans (piece_starts p ps x h) i)
+    ap (λ q. piece_value q t) (piece_stays p ps x t y none (le_of_lt i) (le_trans_lt i j) j) ∙ value_past (piece_in p ps x) t (le_lt_trans (found_early p ps x h) i)
   where
     le_trans_lt : {a b c : ℚ} → a <ℚ b → b <ℚ c → a <ℚ c
     le_trans_lt l m = lt_le_trans l (le_of_lt m)

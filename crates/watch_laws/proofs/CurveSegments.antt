@@ -14,7 +14,7 @@ use Rattle.min_plus.specs.Continuity.{IsContinuous}
 use Rattle.affine_segment.specs.Pieces.{Each, StartsAtZero, RisesFrom}
 use Rattle.affine_segment.specs.Reading.{read, piece_value}
 use Rattle.upp_curve.specs.Unrolled.{unroll}
-use Rattle.affine_segment.proofs.PieceIn.{piece_in_stop, piece_in_go, piece_in_end, value_past}
+use Rattle.affine_segment.proofs.PieceIn.{piece_in_stop, piece_in_end, value_past, read_go}
 use Rattle.upp_curve.proofs.FirstStretch.{at_start}
 use Rattle.upp_normal.proofs.Below.{unroll_reads}
 use Rattle.upp_normal.proofs.UnrolledPieces.{unroll_starts, unroll_before}
@@ -22,15 +22,8 @@ use Rattle.watch_laws.specs.declared.point.Point.{Point}
 use Rattle.watch_laws.specs.declared.point.Segment.{Segment}
 use Rattle.watch_laws.specs.Shorts.{HasSegment, IsPastEnd, segment_value, IsShortBy}
 use Rattle.watch_laws.specs.Segments.{number_at, slope_of, next_start, segments, SegmentsTell}
-use Rattle.watch_laws.proofs.Breaks.{one_line}
+use Rattle.watch_laws.proofs.Breaks.{one_line, is_number}
 use Rattle.watch_laws.proofs.Idle.{below_number, number_below}
-
-finite_number : (f : ℚ → Ext) (t : ℚ) → IsFinite f → zero_q ≤ℚ t → f t ≡ Fin (number_at (f t))
-finite_number f t fin h = let (v, e) = fin t h in e ∙ ap Fin (sym (ap number_at e))
-
-read_go : (p q : Piece) (qs : List Piece) (t : ℚ) → q.x ≤ℚ t → read (p ∷ q ∷ qs) t ≡ read (q ∷ qs) t
-unfolding read
-read_go p q qs t a = ap (λ z. piece_value z t) (piece_in_go p q qs t a)
 
 read_start : (p : Piece) (ps : List Piece) → RisesFrom p.x ps → read (p ∷ ps) p.x ≡ p.at
 unfolding read
@@ -123,7 +116,7 @@ tell f far (p ∷ ps) a b at0 before is fin smooth l m =
       finite = fin;
       smooth = smooth;
     } in
-    let num = finite_number f d fin low in (
+    let num = is_number f d fin low in (
       λ h.
           let (s, has, short) = h in
           number_below b.work a.work (f d) (number_at (f d)) num

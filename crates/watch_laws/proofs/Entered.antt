@@ -1,8 +1,8 @@
 -- The packets of a flow of a lawful run enter in the order of time.
-use Rattle.std.specs.Prelude.{◌≡◌, ◌≢◌, ℕ, ◌<◌, ◌==◌, List, [], ◌∷◌, length}
+use Rattle.std.specs.Prelude.{◌≡◌, ℕ, ◌<◌, ◌==◌, List, [], ◌∷◌, length}
 use Rattle.std.proofs.Common.{arith, sym, subst, ap, ◌∙◌, inl, inr}
 use Rattle.std.proofs.lemmas.Bool.{cases_Bool, cases_eq, eqb-true}
-use Rattle.std.proofs.lemmas.List.{get_or-set_same, get_or-set_other, length-set, length-map}
+use Rattle.std.proofs.lemmas.List.{get_or-set_same, length-set, length-map}
 use Rattle.rational.specs.Rational.{ℚ, ◌≤ℚ◌}
 use Rattle.rational.proofs.Laws.{le_refl, le_trans}
 use Rattle.run_laws.specs.declared.steps.Step.{Step}
@@ -17,14 +17,12 @@ use Rattle.run_laws.specs.Lawful.{RunState, state_at, next_run, AllowsInRun, All
 use Rattle.run_laws.proofs.Cuts.{time_in_order}
 use Rattle.watch_laws.specs.declared.entering.Entering.{Entering}
 use Rattle.watch_laws.specs.Entries.{entries, EntersFrom}
+use Rattle.run_laws.proofs.Views.{other_state}
 
 -- a step does not set a server's clock back
 clock_own : (net : Routes) (r : RunState) (x : Step) → server_of net x < length r.servers
     → (state_at (next_run net r x) (server_of net x)).now ≡ time_of (seen net r.entered x)
 clock_own net r x h = ap (λ (σ : ServerState). σ.now) (get_or-set_same r.servers (server_of net x) (next (server_at net (server_of net x)).discipline (state_at r (server_of net x)) (seen net r.entered x)) (start Fifo) h)
-
-clock_other : (net : Routes) (r : RunState) (x : Step) (s : ℕ) → s ≢ server_of net x → state_at (next_run net r x) s ≡ state_at r s
-clock_other net r x s h = get_or-set_other r.servers (server_of net x) s (next (server_at net (server_of net x)).discipline (state_at r (server_of net x)) (seen net r.entered x)) (start Fifo) h
 
 clock_rises : (net : Routes) (end : ℚ) (r : RunState) (x : Step) (s : ℕ) → AllowsInRun net end r x → length r.servers ≡ length net.servers
     → (state_at r s).now ≤ℚ (state_at (next_run net r x) s).now
@@ -34,7 +32,7 @@ clock_rises net end r x s a n = elim (cases_eq s (server_of net x)) [
       let order = (time_in_order (server_at net (server_of net x)) end (state_at r (server_of net x)) (seen net r.entered x) a.at_server).in_order in
       subst (λ (k : ℕ). (state_at r k).now ≤ℚ (state_at (next_run net r x) k).now) (sym e)
       (subst (λ (t : ℚ). (state_at r (server_of net x)).now ≤ℚ t) (sym (clock_own net r x in_range)) order)
-  | inr d ↦ subst (λ (σ : ServerState). (state_at r s).now ≤ℚ σ.now) (sym (clock_other net r x s d)) (le_refl (state_at r s).now)
+  | inr d ↦ subst (λ (σ : ServerState). (state_at r s).now ≤ℚ σ.now) (sym (other_state net r x s d)) (le_refl (state_at r s).now)
 ]
 
 sooner : (x y : ℚ) (flow : ℕ) (xs : List Step) → x ≤ℚ y → EntersFrom y (entries flow xs) → EntersFrom x (entries flow xs)

@@ -2,22 +2,23 @@
 use Rattle.std.specs.Prelude.{◌≡◌, ℕ, ◌+◌, ◌*◌, ◌<◌, ◌≤◌, ◌^◌, ◌-◌, pos, Option, Some, None}
 use Rattle.std.proofs.Common.{arith, sym, ap, ◌∙◌, subst}
 use Prim.Native.Nat.{◌∣◌}
-use native.Mathlib.Nat.{dvd-mul_left, dvd-mul_right, dvd_trans, mul-pos, mul-le-mul_right}
-use Rattle.rational.specs.Rational.{ℚ, neg_ℚ, ◌+ℚ◌, ◌-ℚ◌, ◌*ℚ◌, ◌≤ℚ◌, int}
+use native.Mathlib.Nat.{dvd-mul_left, mul-pos, mul-le-mul_right}
+use Rattle.rational.specs.Rational.{ℚ, neg_ℚ, ◌-ℚ◌, ◌*ℚ◌, ◌≤ℚ◌, int}
 use Rattle.rational.specs.Ratio.{SumFits}
 use Rattle.rational.specs.Grid.{Whole, Within}
 use Rattle.rational.proofs.Grid.{whole_weaken, whole_mul, whole_sub, whole_neg, within_weaken, within_sub, within_neg, within_mul, within_nonneg}
 use Rattle.rational.proofs.Sizes.{sum_on_grid, small_on_grid}
-use Rattle.rational.proofs.Integers.{nat_le, nat_nonneg, int_mul, int_add}
+use Rattle.rational.proofs.Integers.{nat_le, nat_nonneg, int_mul}
 use Rattle.rational.proofs.Laws.{le_trans, mul_assoc}
 use Rattle.rational.proofs.Linear.{with1, with2}
 use Rattle.upp_limits.specs.Limits.{Sizes}
 use Rattle.upp_limits.specs.Sized.{IsSlope, grid_of, times_largest}
 use Rattle.upp_normal.specs.Operand.{AreLimited}
-use Rattle.upp_normal.proofs.AnswerRoom.{tight}
+use Rattle.upp_normal.proofs.AnswerRoom.{tight, many_more}
 use Rattle.upp_limits.proofs.OwnGauge.{end_within}
 use Rattle.watch_laws.specs.Marks.{MostFits}
 use Rattle.watch_laws.specs.MarkSizes.{IsTime, IsTimeIfAny, MarksFit, KeysFit}
+pub use Rattle.upp_normal.proofs.StretchSizes.{time_whole}
 
 -- ---- the grid of sums
 pub grid_some : (z : Sizes) (end : ℚ) → AreLimited z end → 0 < grid_of z
@@ -41,19 +42,6 @@ fits_times z end k A h =
     ap (λ x. x *ℚ int (pos (grid_of z))) (int_mul (pos k) (pos z.largest)) ∙ int_mul (pos (k * z.largest)) (pos (grid_of z)) in
     subst (λ x. x ≤ℚ int (pos (2 ^ 127 - 1))) (sym e) (nat_le (k * z.largest * grid_of z) (2 ^ 127 - 1) all)
 
-pub times_sum : (z : Sizes) (j k : ℕ) → times_largest j z +ℚ times_largest k z ≡ times_largest (j + k) z
-times_sum z j k =
-    let V = z.largest in
-    let e : j * V + k * V ≡ (j + k) * V = omega arith in
-    ap (λ x. x +ℚ times_largest k z) (int_mul (pos j) (pos V)) ∙ ap (λ x. int (pos (j * V)) +ℚ x) (int_mul (pos k) (pos V)) ∙ int_add (pos (j * V)) (pos (k * V)) ∙ ap (λ (n : ℕ). int (pos n)) e
-    ∙ sym (int_mul (pos (j + k)) (pos V))
-
-pub time_whole : (z : Sizes) (t : ℚ) → Whole z.dt t → Whole (grid_of z) t
-time_whole z t w = whole_weaken z.dt (grid_of z) t (let d : z.dv * z.dt ∣ z.dv * z.dt * z.ds = dvd-mul_right (z.dv * z.dt) z.ds in divides z.dt (z.dv * z.dt) (grid_of z) (dvd-mul_left z.dt z.dv) d) w
-  where
-    divides : (a b c : ℕ) → a ∣ b → b ∣ c → a ∣ c
-    divides a b c h k = dvd_trans a h k
-
 pub time_within : (z : Sizes) (end t : ℚ) → AreLimited z end → IsTime z end t → Within (times_largest 1 z) t
 time_within z end t A h =
     let e : int (pos z.largest) ≡ times_largest 1 z = let x = int (pos z.largest) in with1 x (λ c. omega (arith, c.le, c.lt, c.same)) in
@@ -63,7 +51,7 @@ pub sum_fits : (z : Sizes) (end : ℚ) (j k : ℕ) (a b : ℚ) → AreLimited z 
     → Within (times_largest j z) a → Within (times_largest k z) b → SumFits a b
 sum_fits z end j k a b A few wa wb ia ib =
     sum_on_grid (grid_of z) (times_largest j z) (times_largest k z) a b (grid_some z end A) (grid_small z end A)
-    (subst (λ x. x *ℚ int (pos (grid_of z)) ≤ℚ int (pos (2 ^ 127 - 1))) (sym (times_sum z j k)) (fits_times z end (j + k) A few)) wa wb ia ib
+    (subst (λ x. x *ℚ int (pos (grid_of z)) ≤ℚ int (pos (2 ^ 127 - 1))) (sym (many_more z j k)) (fits_times z end (j + k) A few)) wa wb ia ib
 
 -- ---- marks
 pub most_fits : (z : Sizes) (end t : ℚ) (o : Option ℚ) → AreLimited z end → IsTime z end t → IsTimeIfAny z end o → MostFits o t
@@ -109,6 +97,6 @@ keys_fit z end w s t A W S T =
       difference = sum_fits z end 1 1 w (neg_ℚ (s *ℚ t)) A (omega arith) W.whole (whole_neg (grid_of z) (s *ℚ t) q) W.within (within_neg (times_largest 1 z) (s *ℚ t) p);
       is = record {
         whole = whole_sub (grid_of z) w (s *ℚ t) W.whole q;
-        within = subst (λ x. Within x (w -ℚ s *ℚ t)) (times_sum z 1 1) (within_sub (times_largest 1 z) (times_largest 1 z) w (s *ℚ t) W.within p);
+        within = subst (λ x. Within x (w -ℚ s *ℚ t)) (many_more z 1 1) (within_sub (times_largest 1 z) (times_largest 1 z) w (s *ℚ t) W.within p);
       };
     }

@@ -18,17 +18,7 @@ use Rattle.run_laws.proofs.Stretches.{stretch}
 use Rattle.watch_laws.specs.Affine.{EachTime, Among}
 use Rattle.watch_laws.specs.Stretches.{IsAround}
 use Rattle.watch_laws.specs.Times.{leave_times}
-
-pub each_time_map : (P Q : ℚ → Type 0) → ((u : ℚ) → P u → Q u) → (us : List ℚ) → EachTime P us → EachTime Q us
-each_time_map P Q f [] h = tt
-each_time_map P Q f (u ∷ us) h = (f u h.0, each_time_map P Q f us h.1)
-
-pub each_time_at : (P : ℚ → Type 0) (y : ℚ) (us : List ℚ) → EachTime P us → Among y us → P y
-each_time_at P y [] h k = absurd k
-each_time_at P y (u ∷ us) h k = elim k [
-  | inl e ↦ subst P (sym e) h.0
-  | inr m ↦ each_time_at P y us h.1 m
-]
+pub use Rattle.run_laws.proofs.Times.{each_time_map, each_time_at}
 
 -- two tests that agree on these times count the same
 leaves_same : (p q : ℚ → Bool) (V : List ServerStep) → EachTime (λ u. p u ≡ q u) (leave_times V) → total (leaves all p) V ≡ total (leaves all q) V

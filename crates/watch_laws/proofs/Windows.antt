@@ -9,19 +9,12 @@ use Rattle.watch_laws.specs.Affine.{IsLineOn, NoneInside, IsAffineOff, EachTime,
 use Rattle.watch_laws.specs.Windows.{FallsShort, IsShort}
 use Rattle.watch_laws.proofs.Slides.{low_somewhere}
 use Rattle.rational.proofs.Stretch.{not_earlier}
+use Rattle.run_laws.proofs.Times.{each_time_map, each_time_append}
 
 -- ---- lists of times
 none-append : (x y : ℚ) (ls ms : List ℚ) → NoneInside x y (ls ++ ms) → NoneInside x y ls × NoneInside x y ms
 none-append x y [] ms h = (tt, h)
 none-append x y (l ∷ ls) ms h = let k = none-append x y ls ms h.1 in ((h.0, k.0), k.1)
-
-each-append : (P : ℚ → Type 0) (ls ms : List ℚ) → EachTime P ls → EachTime P ms → EachTime P (ls ++ ms)
-each-append P [] ms h k = k
-each-append P (l ∷ ls) ms h k = (h.0, each-append P ls ms h.1 k)
-
-each-over : (P Q : ℚ → Type 0) → ((t : ℚ) → P t → Q t) → (ls : List ℚ) → EachTime P ls → EachTime Q ls
-each-over P Q f [] h = tt
-each-over P Q f (l ∷ ls) h = (f l h.0, each-over P Q f ls h.1)
 
 each_map : (P Q : ℚ → Type 0) (m : ℚ → ℚ) → ((t : ℚ) → P t → Q (m t)) → (ls : List ℚ) → EachTime P ls → EachTime Q (map m ls)
 each_map P Q m f [] h = tt
@@ -175,7 +168,7 @@ start_moved W g P X u e a b f h at_u z i j k at_b short =
     let of_start : ℚ → Type 0 = λ t. P t ⊎ X (b -ℚ t) in
     let turned : (l : ℚ) → X l → of_start (b -ℚ l) = λ l x. inr (subst X (with2 l b (λ c. omega (arith, c.le, c.lt, c.same))) x) in
     let (c, is) = low_somewhere (start_moves W g b) of_start (f.times ++ map (λ l. b -ℚ l) h.times) u b a (start_affine W g f.times h.times b u e f.affine h.affine k)
-    (each-append of_start f.times (map (λ l. b -ℚ l) h.times) (each-over P of_start (λ t p. inl p) f.times f.are) (each_map X of_start (λ l. b -ℚ l) turned h.times h.are)) i j (short_lacks W g a b short) in
+    (each_time_append of_start f.times (map (λ l. b -ℚ l) h.times) (each_time_map P of_start (λ t p. inl p) f.times f.are) (each_map X of_start (λ l. b -ℚ l) turned h.times h.are)) i j (short_lacks W g a b short) in
     let short_c = lacks_short W g c b is.low in (
       c,
       record {
@@ -206,7 +199,7 @@ both_moved W g P X u e a l f at_u at_e z i j k at_l short =
     let s : W (a +ℚ l) <ℚ W a +ℚ g l = subst (λ d. W (a +ℚ l) <ℚ W a +ℚ g d) e short in
     with3 (W a) (W (a +ℚ l)) (g l) (λ c. omega (arith, c.le, c.lt, c.same)) in
     let (c, is) = low_somewhere (both_move W g l) of_both (f.times ++ map (λ t. t -ℚ l) f.times) u (e -ℚ l) a (both_affine W g f.times l u e f.affine j)
-    (each-append of_both f.times (map (λ t. t -ℚ l) f.times) (each-over P of_both (λ t p. inl p) f.times f.are) (each_map P of_both (λ t. t -ℚ l) sooner f.times f.are)) i (with3 a l e (λ c. omega (arith, c.le, c.lt, c.same))) low in
+    (each_time_append of_both f.times (map (λ t. t -ℚ l) f.times) (each_time_map P of_both (λ t p. inl p) f.times f.are) (each_map P of_both (λ t. t -ℚ l) sooner f.times f.are)) i (with3 a l e (λ c. omega (arith, c.le, c.lt, c.same))) low in
     let short_c = both_short W g l c is.low in (
       c,
       record {
@@ -232,7 +225,7 @@ short_pair W g P X u e a b f h at_u at_e z i j k short =
     let of_end : ℚ → Type 0 = λ t. P t ⊎ X (t -ℚ a) in
     let later : (l : ℚ) → X l → of_end (l +ℚ a) = λ l x. inr (subst X (with2 l a (λ c. omega (arith, c.le, c.lt, c.same))) x) in
     let (q, is) = low_somewhere (end_moves W g a) of_end (f.times ++ map (λ l. l +ℚ a) h.times) a e b (end_affine W g f.times h.times a u e f.affine h.affine i)
-    (each-append of_end f.times (map (λ l. l +ℚ a) h.times) (each-over P of_end (λ t p. inl p) f.times f.are) (each_map X of_end (λ l. l +ℚ a) later h.times h.are)) j k (short_lacks W g a b short) in
+    (each_time_append of_end f.times (map (λ l. l +ℚ a) h.times) (each_time_map P of_end (λ t p. inl p) f.times f.are) (each_map X of_end (λ l. l +ℚ a) later h.times h.are)) j k (short_lacks W g a b short) in
     let short_q = lacks_short W g a q is.low in
     let at_p : P q → (c d : ℚ) × IsShort W g P X u e c d =
     λ p. let (c, it) = start_moved W g P X u e a q f h at_u z i is.from is.to p short_q in (c, q, it) in

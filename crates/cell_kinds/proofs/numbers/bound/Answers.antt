@@ -15,7 +15,7 @@ number_at-whole_path-requires g c = bound_sfa c.args.net.now (g.T.Table.at c.arg
 pub returns : goal.returns
 returns g c = λ n. record {
   answer =
-      rw c.lesser_number.ensures
+      rw c.lesser_value.ensures
       (smaller_answer (g.T.Table.at c.args.table.now) (cell_of Tfa c.args.flow 0) (value_of (cell_of Sfa c.args.flow 0))
       c.number_at-hop_by_hop.result c.number_at-whole_path.result
       c.number_at-hop_by_hop.ensures c.number_at-whole_path.ensures);

@@ -30,7 +30,7 @@ returns-in-Ok g c =
     let is = rw (c.place_of-place.ensures.server, c.place_of-place.ensures.queue) at c.number_at-queue.ensures in
     record {
       answer =
-          rw c.lesser_number.ensures
+          rw c.lesser_value.ensures
           (smaller_answer (g.T.Table.at c.args.table.now) queue own c.number_at-queue.result c.in-Ok.own is
           c.in-Ok.ensures.answer);
       counts = counts_all 1 c.args.steps.now _ _ c.in-Ok.ensures.count;

@@ -26,7 +26,7 @@ eval-requires-clause-below g c =
     let cells = c.args.cells.now in
     let i = c.loop-cell.cell-index in
     let at : CellTable = held order.ghosts.cmp g.V.CellValue.meaning c.loop-cell.table.values in
-    front_meets_below c.args.net.now c.requires.order at c.servers.ensures.kept c.requires.servers (take i cells)
+    front_meets_below c.args.net.now c.requires.order at c.keeps.ensures c.requires.servers (take i cells)
     (drop (i + 1) cells) (cell_at cells i) (sym c.requires.are ∙ at_place cells i (omega arith))
     c.loop-cell.invariant.answers
 
@@ -65,7 +65,7 @@ loop-cell-preserved g c =
     let longer : take (i + 1) cells ≡ take i cells ++ cell_at cells i ∷ [] = take_more cells i (omega arith) in
     let all : AnswersAll net next (take i cells ++ cell_at cells i ∷ []) =
     grown net c.requires.order at next (take i cells) (cell_at cells i) (drop (i + 1) cells)
-    (g.V.CellValue.meaning c.in-Ok.value) c.servers.ensures.kept c.requires.servers whole c.loop-cell.invariant.answers
+    (g.V.CellValue.meaning c.in-Ok.value) c.keeps.ensures c.requires.servers whole c.loop-cell.invariant.answers
     c.in-Ok.ensures.answer c.in_default.ensures.put c.in_default.ensures.others in
     let none : HasNothingElse next (take i cells ++ cell_at cells i ∷ []) =
     still_nothing at next (take i cells) (cell_at cells i) c.loop-cell.invariant.nothing c.in_default.ensures.others in
@@ -81,6 +81,6 @@ pub returns-clause-meets : goal.returns-clause-meets
 returns-clause-meets g c =
     let net = c.args.net.now in
     let at : CellTable = held order.ghosts.cmp g.V.CellValue.meaning c.loop-cell.table.values in
-    answers_meet net c.requires.order at c.servers.ensures.kept c.requires.servers
+    answers_meet net c.requires.order at c.keeps.ensures c.requires.servers
     (subst (λ (xs : List Cell). AnswersAll net at xs)
     (take_all c.loop-cell.cell-index c.args.cells.now (omega arith) ∙ c.requires.are) c.loop-cell.invariant.answers)

@@ -1,21 +1,22 @@
-use Rattle.std.proofs.Common.{ap, sym, ◌∙◌, subst, Option}
+use Rattle.std.proofs.Common.{◌≡◌, ap, sym, ◌∙◌, Option, arith}
 use Rattle.run_laws.specs.Servers as spec
 use Rattle.net_model.specs.declared.server.Server.{Server}
-use Rattle.net_model.specs.Accepted.{HasFewQueues}
 use Rattle.net_model.specs.Networks.{NetServer}
 use Rattle.net_model.specs.Views as views
 use Rattle.net_cells.specs.Numbered as at
-use Rattle.net_cells.proofs.Stored.{server_stored, server_past, server_kept}
+use Rattle.net_cells.proofs.Stored.{few_of, server_stored, server_past, server_kept}
 use Rattle.net_cells.proofs.numbered.queues.Goals as goal
 
-pub queue_count-requires : goal.queue_count-requires
-queue_count-requires c =
+pub overflow_cast-result : goal.overflow_cast-result
+overflow_cast-result c =
     let net = c.args.net.now in
     let x = c.index-servers-place.result in
     let stored = server_stored net c.servers-servers.result.now c.args.server x c.servers-servers.ensures.servers
     c.if-place-servers.true c.index-servers-place.is in
-    let kept = (server_kept net c.args.server (views.server_of x) c.servers-servers.ensures.kept stored).queues in
-    subst (λ (y : Server). HasFewQueues (views.discipline_of y.discipline)) c.index-servers-place.is kept
+    let few = few_of (views.discipline_of x.discipline) (server_kept net c.args.server (views.server_of x) c.servers-servers.ensures.kept stored).queues in
+    let counted : c.queue_count.result ≡ spec.queue_count (views.discipline_of x.discipline) =
+    c.queue_count.ensures ∙ sym (ap (λ (y : Server). spec.queue_count (views.discipline_of y.discipline)) c.index-servers-place.is) in
+    omega (arith, few, counted)
 
 pub returns-then-place-servers : goal.returns-then-place-servers
 returns-then-place-servers c =

@@ -19,7 +19,7 @@ use Rattle.net_edits.proofs.flow_edits.drop_edited.Goals as goal
 
 pub with_flow-requires-clause-accepted : goal.with_flow-requires-clause-accepted
 with_flow-requires-clause-accepted c =
-    dropped_stands c.args.net.now c.in_ok-number.number c.flows.ensures.kept c.in_ok-number.ensures.live
+    dropped_stands c.args.net.now c.in_ok-number.number c.keeps.ensures c.in_ok-number.ensures.live
 
 pub returns : goal.returns
 returns c =
@@ -27,4 +27,4 @@ returns c =
     let name = c.args.name.now in
     let i = c.in_ok-number.number in
     edited_reply (drop_edited net name) (record { net = put_flow net i None; made = None }) c.in_ok-with_flow.field-0
-    (drop_edit net name i c.flows.ensures.kept c.in_ok-number.ensures.number c.in_ok-number.ensures.live) c.in_ok-with_flow.ensures tt
+    (drop_edit net name i c.keeps.ensures c.in_ok-number.ensures.number c.in_ok-number.ensures.live) c.in_ok-with_flow.ensures tt

@@ -6,7 +6,7 @@ use Rattle.net_edits.proofs.names.flow_number.Goals as goal
 
 pub returns-in-Some-clause-number : goal.returns-in-Some-clause-number
 returns-in-Some-clause-number c =
-    flow_found c.args.net.now c.args.name.now c.in-Some.number c.servers.ensures.kept.names.1 c.in-Some.ensures
+    flow_found c.args.net.now c.args.name.now c.in-Some.number c.keeps.ensures.names.1 c.in-Some.ensures
 
 pub returns-in-Some-clause-live : goal.returns-in-Some-clause-live
 returns-in-Some-clause-live c = live_at c.args.net.now c.in-Some.number c.in-Some.ensures.flow c.in-Some.ensures.is

@@ -6,7 +6,7 @@ use Rattle.net_edits.proofs.names.server_number.Goals as goal
 
 pub returns-in-Some-clause-number : goal.returns-in-Some-clause-number
 returns-in-Some-clause-number c =
-    server_found c.args.net.now c.args.name.now c.in-Some.number c.servers.ensures.kept.names.0 c.in-Some.ensures
+    server_found c.args.net.now c.args.name.now c.in-Some.number c.keeps.ensures.names.0 c.in-Some.ensures
 
 pub returns-in-Some-clause-within : goal.returns-in-Some-clause-within
 returns-in-Some-clause-within c =
