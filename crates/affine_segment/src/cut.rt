@@ -63,8 +63,8 @@ fn lower_parallel(a: Line, b: Line) -> Cut
     }
 }
 
-// Whether x is before the end.
-pub(crate) fn is_before(x: Frac, end: &Ext) -> bool
+/// Whether a time is before an end, which may be infinite.
+pub fn is_before(x: Frac, end: &Ext) -> bool
     ensures { IsTrue result ↔ (Extended.Fin x <ₑ end.now) }
 {
     match *end {

@@ -7,15 +7,11 @@ mod convolution;
 mod cut;
 mod element;
 pub mod element_laws;
-#[cfg(test)]
-mod element_tests;
 mod line;
 mod reading;
-#[cfg(test)]
-mod tests;
 
 pub use convolution::element_conv;
-pub use cut::{Cut, element_min};
+pub use cut::{Cut, element_min, is_before};
 pub use element::{Element, Joined, start_of};
 pub use line::{Line, Piece, cross, value};
 pub use reading::{line_at, line_value, next_start, piece_at, piece_value, read};

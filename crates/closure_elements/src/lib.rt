@@ -7,8 +7,6 @@ mod multiples;
 mod points;
 mod segments;
 mod stretches;
-#[cfg(test)]
-mod tests;
 
 pub use lattices::{lattice, origin};
 pub use laws::{elements_close, heavy_is_refused, lattice_values, stretches_meet};

@@ -8,8 +8,6 @@ mod gate;
 mod kept;
 mod laws;
 mod rises;
-#[cfg(test)]
-mod tests;
 mod times;
 mod windows;
 

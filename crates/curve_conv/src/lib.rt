@@ -14,8 +14,6 @@ mod order;
 mod parts;
 mod pieces;
 mod rows;
-#[cfg(test)]
-mod tests;
 
 pub use most::most_periods;
 pub use operator::convolve;

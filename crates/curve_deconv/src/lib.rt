@@ -6,8 +6,6 @@ pub mod laws;
 mod marks;
 mod mirroring;
 mod operator;
-#[cfg(test)]
-mod tests;
 mod window;
 
 pub use operator::deconvolve;

@@ -7,8 +7,6 @@ mod horizontals;
 mod known;
 mod parts;
 mod search;
-#[cfg(test)]
-mod tests;
 mod verticals;
 mod walks;
 

@@ -7,11 +7,7 @@ mod leftover;
 mod lowest;
 mod moved;
 mod numbers;
-#[cfg(test)]
-mod operator_tests;
 mod parts;
-#[cfg(test)]
-mod tests;
 
 pub use curve_pointwise::{
     infinite_curve, left_window, max, min, pos_diff, pos_minus, scale, shift, sum,

@@ -5,8 +5,6 @@ mod gaps;
 mod laws;
 mod least;
 mod sides;
-#[cfg(test)]
-mod tests;
 
 pub use gaps::{Gap, earlier, gap_of, larger, side_gap, window_gap};
 pub use laws::below_ever_after;

@@ -11,8 +11,6 @@ mod listing;
 mod shares;
 mod signs;
 mod stairs;
-#[cfg(test)]
-mod tests;
 mod texts;
 
 pub use buckets::bucket;

@@ -4,14 +4,10 @@
 
 mod extremes;
 mod lattice;
-#[cfg(test)]
-mod lattice_tests;
 mod levels;
 mod scaling;
 mod shifts;
 mod sums;
-#[cfg(test)]
-mod tests;
 
 pub use extremes::{max, min, pos_diff};
 pub use levels::pos_minus;

@@ -9,8 +9,6 @@ mod periods;
 mod stretch;
 mod supremum;
 mod supremum_curve;
-#[cfg(test)]
-mod tests;
 
 pub use infimum::infimum_scan;
 pub use infimum_curve::{front_before, run_inf};

@@ -11,8 +11,6 @@ mod parsing;
 mod script;
 mod shape;
 mod stating;
-#[cfg(test)]
-mod tests;
 mod token;
 
 pub use fault::{LangFault, LangKind};

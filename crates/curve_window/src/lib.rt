@@ -8,8 +8,6 @@ mod lower;
 mod made;
 mod stretch;
 mod sum;
-#[cfg(test)]
-mod tests;
 
 pub use compared::{window_excess, window_max, window_min};
 pub use lower::window_lower;

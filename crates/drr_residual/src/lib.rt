@@ -2,8 +2,6 @@
 #![tactic(auto)]
 
 mod service;
-#[cfg(test)]
-mod tests;
 mod turn;
 
 pub use residual_laws::{drr_curve_serves, drr_is_determined, drr_serves, drr_service_grows};

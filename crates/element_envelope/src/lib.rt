@@ -6,8 +6,6 @@ mod cutting;
 pub mod laws;
 mod least;
 mod pair;
-#[cfg(test)]
-mod tests;
 mod window;
 
 pub use convolved::window_convolution;

@@ -6,8 +6,6 @@ ghost use Rattle.fifo_residual.specs.Curves.{FifoCurveServes};
 ghost use Rattle.fifo_residual.specs.Growth.{FifoServiceGrows, FifoCurveGrows};
 
 mod service;
-#[cfg(test)]
-mod tests;
 
 pub use service::fifo_service;
 

@@ -5,8 +5,6 @@ mod analyse_all;
 mod each_cell;
 mod fault;
 mod in_order;
-#[cfg(test)]
-mod tests;
 
 pub use analyse_all::analyse;
 pub use each_cell::analysed;

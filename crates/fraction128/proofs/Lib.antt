@@ -9,5 +9,4 @@ pub mod Printed
 pub mod Rounded
 pub mod CommonMultiple
 pub mod Parsed
-pub mod OrderTests
 pub mod ReadBack

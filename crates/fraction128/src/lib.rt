@@ -10,8 +10,6 @@ mod multiple;
 mod order;
 mod products;
 mod sums;
-#[cfg(test)]
-mod tests;
 mod text;
 
 pub use division::{gcd_of, least_common_multiple};

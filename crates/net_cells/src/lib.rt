@@ -9,8 +9,6 @@ mod laws;
 mod numbered;
 mod operand;
 mod order;
-#[cfg(test)]
-mod tests;
 mod visit;
 
 pub use cell::{Cell, Kind, Scope};

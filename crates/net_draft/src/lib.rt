@@ -25,8 +25,6 @@ mod server_draft;
 mod server_list;
 mod servers;
 mod services;
-#[cfg(test)]
-mod tests;
 mod tree;
 mod values;
 mod words;

@@ -11,8 +11,6 @@ mod quanta;
 mod replacing;
 mod server_edits;
 mod service;
-#[cfg(test)]
-mod tests;
 mod ways;
 
 pub use all_kinds::edited_network;

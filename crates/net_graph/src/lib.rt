@@ -6,8 +6,6 @@
 mod cycle;
 mod laws;
 mod placing;
-#[cfg(test)]
-mod tests;
 mod waits;
 
 pub use laws::{one_order, order_goes_forward, order_has_each_server, order_or_cycle};

@@ -11,8 +11,6 @@ mod names;
 mod network;
 mod plain;
 mod server;
-#[cfg(test)]
-mod tests;
 mod trace;
 
 pub use breach::Breach;

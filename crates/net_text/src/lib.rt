@@ -9,8 +9,6 @@ mod limits;
 mod reading;
 mod servers;
 mod services;
-#[cfg(test)]
-mod tests;
 
 pub use laws::{each_file_says_one_thing, no_fault_is_want_of_memory};
 pub use reading::read_network;

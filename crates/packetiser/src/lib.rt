@@ -3,8 +3,6 @@
 
 mod laws;
 mod service;
-#[cfg(test)]
-mod tests;
 
 pub use laws::{packet_curve_serves, packet_service_grows};
 pub use service::packetised;

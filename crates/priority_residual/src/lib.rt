@@ -2,8 +2,6 @@
 #![tactic(auto)]
 
 mod service;
-#[cfg(test)]
-mod tests;
 
 pub use residual_laws::{
     priority_curve_serves, priority_is_determined, priority_serves, priority_service_grows,

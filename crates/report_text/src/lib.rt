@@ -8,8 +8,6 @@ mod lines;
 mod refusal;
 mod report;
 mod shown;
-#[cfg(test)]
-mod tests;
 mod text;
 
 pub use cell_words::cell_text;

@@ -14,8 +14,6 @@ mod seen;
 mod service;
 mod shorts;
 mod span;
-#[cfg(test)]
-mod tests;
 mod watched;
 mod windows;
 

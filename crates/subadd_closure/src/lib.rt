@@ -4,23 +4,15 @@
 
 mod again;
 mod closing;
-#[cfg(test)]
-mod closing_tests;
 mod from_start;
 pub mod laws;
 mod overlaps;
 mod part;
 mod part_stars;
 mod parts;
-#[cfg(test)]
-mod segment_tests;
 mod stars;
-#[cfg(test)]
-mod start_tests;
 mod starting;
 mod subadditive;
-#[cfg(test)]
-mod tests;
 
 pub use closing::close;
 pub use from_start::convolve_from;

@@ -8,8 +8,6 @@ mod jumps;
 mod reading;
 pub mod same;
 mod shape;
-#[cfg(test)]
-mod tests;
 
 pub use curve::{Curve, Tail, equal};
 pub use jumps::is_continuous;

@@ -6,18 +6,12 @@ mod cycle;
 mod given;
 mod laws;
 mod least_period;
-#[cfg(test)]
-mod limit_tests;
 mod lowest_rank;
 mod merging;
-#[cfg(test)]
-mod normal_tests;
 mod raw_curve;
 mod steadiness;
 mod two_periods;
 mod unrolling;
-#[cfg(test)]
-mod value_tests;
 
 pub use ahead::{Stretch, stretch_at};
 pub use laws::{gauge_never_falls, normal_form_is_unique, unrolled_pieces_are_counted};

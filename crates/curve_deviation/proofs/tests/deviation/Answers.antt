@@ -1,4 +1,0 @@
-use Rattle.curve_deviation.proofs.tests.deviation.Goals as goal
-
-pub vertical-requires : goal.vertical-requires
-vertical-requires g c = c.is_finite.ensures.0 c.if-is_finite.true

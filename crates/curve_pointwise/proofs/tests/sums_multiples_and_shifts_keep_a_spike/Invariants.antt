@@ -1,4 +1,0 @@
-use Rattle.curve_pointwise.proofs.tests.sums_multiples_and_shifts_keep_a_spike.Given as goal
-
-abbrev pub ghosts-answers : goal.ghosts-answers
-ghosts-answers g a = record { name = a.blank.name; parts = a.blank.parts }

@@ -1,0 +1,133 @@
+//! Values of a curve past its rank, and how it goes on there, worked out by hand.
+
+ghost use Rattle.std.specs.Prelude.{◌≡◌, pos, IsTrue};
+ghost use Rattle.rational.specs.Rational.{int};
+ghost use Rattle.upp_normal.specs.Ahead.{IsOverBy};
+
+use crate::own_limits::{ratio, teeth, whole};
+use crate::normal_forms::{normal, stair, start};
+use upp_normal::{Stretch, stretch_at};
+use fraction128::{Frac, Wide, is_less};
+use rational::Extended;
+use std::alloc::Global;
+use std::cmp::Ordering;
+use std::process::Abort;
+use std::test::Fail;
+use upp_curve::{Curve, Tail};
+use upp_limits::{OpFault, OpKind, gauge};
+
+fn value(c: &Curve, t: Frac) -> Result<Option<Frac>, Wide> {
+    match t.cmp(&Frac::zero()) {
+        Ordering::Less => Ok(None),
+        _ => match c.value_at(t)? {
+            Extended::Fin(v) => Ok(Some(v)),
+            Extended::Inf => Ok(None),
+        },
+    }
+}
+
+// 0 at 0, and infinite after it.
+fn wall(rt: &impl Abort, alloc: Global) -> Result<Curve, OpFault> {
+    let rank = Frac::zero();
+    match start(alloc, Extended::Fin(rank), None) {
+        Ok(pieces) => normal(rt, pieces, Tail::Infinite { rank }),
+        Err(_) => Err(OpFault::NoMemory),
+    }
+}
+
+// The stair is 1 packet from 0 on, 2 from 2 on and 3 from 4 on.
+#[test]
+fn values_past_the_rank(rt: HostRuntime) -> Result<(), Fail> {
+    let c = stair(&rt, rt.alloc())?;
+    for (t, packets) in [
+        (whole(0), 1),
+        (ratio(3, 2), 1),
+        (whole(2), 2),
+        (whole(3), 2),
+        (whole(5), 3),
+    ] {
+        assert_eq!(rt; value(&c, t), Ok(Some(whole(packets))), "at {t:?}");
+    }
+    let late = wall(&rt, rt.alloc())?;
+    assert_eq!(rt; value(&late, whole(0)), Ok(Some(whole(0))));
+    assert_eq!(rt; value(&late, whole(1)), Ok(None));
+    Ok(())
+}
+
+// Whether c repeats, and has ended a first period before `end`.
+fn is_over(c: &Curve, end: Frac) -> bool
+    ensures { IsTrue result → IsOverBy end c.now.tail }
+{
+    match *c.tail() {
+        Tail::Periodic { rank, period, .. } => match Frac::add(rank, period) {
+            Ok(over) => is_less(over, end),
+            Err(_) => false,
+        },
+        _ => false,
+    }
+}
+
+fn count(n: u32) -> Frac
+    ensures { result ≡ int (pos n) }
+{
+    Frac::from_whole(i128::from(n))
+}
+
+// How c goes on from a whole number, within a window that ends at `end`.
+fn stretch(c: &Curve, n: u32, end: Frac) -> Option<Stretch> {
+    let _pieces = c.pieces();
+    let Some(size) = gauge(OpKind::Itself, c, c, Some(end)) else {
+        return None;
+    };
+    let t = count(n);
+    if size >= 1 << 120 {
+        return None;
+    }
+    if !is_over(c, end) {
+        return None;
+    }
+    if !is_less(t, end) {
+        return None;
+    }
+    Some(stretch_at(c, t))
+}
+
+// Its value, the line that follows and until when, of one that is finite and ends.
+fn parts(s: Option<Stretch>) -> Option<(Frac, Frac, Frac, Frac)> {
+    let s = s?;
+    match s.at {
+        Extended::Fin(at) => {
+            let line = s.line?;
+            let next = s.next?;
+            Some((at, line.icept, line.slope, next))
+        }
+        Extended::Inf => None,
+    }
+}
+
+// The stair stays level up to its next packet. From 3/2 on `teeth` are 1 + 5/7 + 5/4 (t - 3/2), and from 3 on they are
+// 1 + 10/7 + 5/4 (t - 3), but 1/2 + 10/7 at 3.
+#[test]
+fn stretches_past_the_rank(rt: HostRuntime) -> Result<(), Fail> {
+    let c = stair(&rt, rt.alloc())?;
+    for (n, packets, next) in [(0, 1, 2), (1, 1, 2), (2, 2, 4), (3, 2, 4), (5, 3, 6)] {
+        let high = whole(packets);
+        assert_eq!(rt;
+            parts(stretch(&c, n, whole(8))),
+            Some((high, high, whole(0), whole(next))),
+            "at {n}"
+        );
+    }
+    let f = teeth(&rt, rt.alloc())?;
+    for (n, at, icept, next) in [
+        (2, ratio(131, 56), ratio(-9, 56), whole(3)),
+        (3, ratio(27, 14), ratio(-37, 28), ratio(9, 2)),
+    ] {
+        assert_eq!(rt;
+            parts(stretch(&f, n, whole(8))),
+            Some((at, icept, ratio(5, 4), next)),
+            "at {n}"
+        );
+    }
+    Ok(())
+}

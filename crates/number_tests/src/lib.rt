@@ -1,0 +1,19 @@
+//! Tests of numbers, lines and curves, worked out by hand.
+#![tactic(auto)]
+
+#[cfg(test)]
+mod ahead_values;
+#[cfg(test)]
+mod curves;
+#[cfg(test)]
+mod elements;
+#[cfg(test)]
+mod fractions;
+#[cfg(test)]
+mod kinds;
+#[cfg(test)]
+mod lines;
+#[cfg(test)]
+mod normal_forms;
+#[cfg(test)]
+mod own_limits;
