@@ -2,8 +2,7 @@
 
 ghost use Rattle.std.specs.Prelude.{◌≡◌, ◌≤◌, IfSome, slice_get, slice_index};
 ghost use Rattle.std.specs.Option.{option_map};
-ghost use Rattle.run_laws.specs.Servers as spec;
-ghost use Rattle.net_model.specs.Accepted.{HasFewQueues, IsFlow, IsServer};
+ghost use Rattle.net_model.specs.Accepted.{IsFlow, IsServer};
 ghost use Rattle.net_model.specs.Views as views;
 ghost use Rattle.net_cells.specs.Numbered as at;
 
@@ -96,6 +95,7 @@ pub fn is_by_priority(net: &Network, number: u32) -> bool
         None => true,
     }
 }
+
 fn level_count(discipline: &Discipline) -> u32
     ensures { result ≡ at.levels_of (views.discipline_of discipline.now) }
 {
