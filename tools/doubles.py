@@ -27,7 +27,8 @@ APART = [
     {'first_later', 'second_later'},  # two ways to make a split later: by its first side, and by its second
     {'ReachTime', 'IsTime'},  # a time up to the reach of a deconvolution, and a time that a watch marks
     {'RiseParts', 'IsKey'},  # the numbers of one rise of a curve, and of one key of a watch
-    {'plus_append', 'append_sum'},  # of `plus`, the sum of what cells count, and of `sum_of`, the sum of times
+    {'at', 'quantum_of'},  # a list read as a function, and the quantum of a queue
+    {'other_count', 'one_other'},  # how often a queue stands in a list, and a packet among places
 ]
 TEST_LIBRARY = 'test_curves'  # what the tests of the crates above it share
 

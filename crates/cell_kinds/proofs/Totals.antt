@@ -18,6 +18,7 @@ use Rattle.rational.proofs.Laws.{le_refl, le_trans, le_or_lt, add_assoc, add_com
 use Rattle.rational.proofs.MinMax.{max_q_ge_left, max_q_ge_right, max_q_one, max_q_right, max_q_is_left}
 use Rattle.rational.proofs.Linear.{with1, with2}
 use Rattle.min_plus.specs.Functions.{zero_q}
+use Rattle.min_plus.proofs.TimeSums.{sum_more}
 use Rattle.upp_limits.proofs.Every.{every_left}
 use Rattle.upp_limits.proofs.CommonDen.{common_den_each, common_den_least, common_den_pos, size_up_within}
 use Rattle.upp_limits.proofs.Gathering.{den_more}
@@ -68,15 +69,8 @@ pub sizes_append : (xs ys : List ℚ) → sizes (xs ++ ys) ≡ sizes xs +ℚ siz
 sizes_append [] ys = sym (add_comm zero_q (sizes ys) ∙ add_zero (sizes ys))
 sizes_append (x ∷ xs) ys = ap (λ y. size_of x +ℚ y) (sizes_append xs ys) ∙ sym (add_assoc (size_of x) (sizes xs) (sizes ys))
 
-sum_append : (xs ys : List ℚ) → sum_of (xs ++ ys) ≡ sum_of xs +ℚ sum_of ys
-sum_append [] ys = sym (add_comm zero_q (sum_of ys) ∙ add_zero (sum_of ys))
-sum_append (x ∷ xs) ys = ap (λ y. x +ℚ y) (sum_append xs ys) ∙ sym (add_assoc x (sum_of xs) (sum_of ys))
-
 pub sizes_more : (xs : List ℚ) (x : ℚ) → sizes (xs ++ x ∷ []) ≡ sizes xs +ℚ size_of x
 sizes_more xs x = sizes_append xs (x ∷ []) ∙ ap (λ y. sizes xs +ℚ y) (add_zero (size_of x))
-
-pub sum_more : (xs : List ℚ) (x : ℚ) → sum_of (xs ++ x ∷ []) ≡ sum_of xs +ℚ x
-sum_more xs x = sum_append xs (x ∷ []) ∙ ap (λ y. sum_of xs +ℚ y) (add_zero x)
 
 sum_within : (xs : List ℚ) → Within (sizes xs) (sum_of xs)
 sum_within [] = within_nonneg zero_q zero_q (le_refl zero_q) (le_refl zero_q)

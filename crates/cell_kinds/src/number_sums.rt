@@ -8,7 +8,9 @@ ghost use Rattle.cell_kinds.specs.Tallies.{Tallies, IsTallied, AreAdded, IsNarro
 
 use fraction128::{Ext, Frac, Wide, least_common_multiple};
 use rational::Extended;
+use std::cmp::Ordering;
 use upp_limits::OpFault;
+
 /// Of the numbers so far: their least common denominator, their sizes together, and their sum.
 #[derive(Debug, Clone, Copy)]
 pub struct Tally {

@@ -19,22 +19,11 @@ use Rattle.curve_call.specs.Answers.{IsMadeBy}
 use Rattle.curve_call.specs.Growth.{GrowsFromZero}
 use Rattle.curve_call.proofs.Excesses.{finite_excess, excess_nonneg, excess_mono, excess_most}
 use Rattle.curve_call.proofs.FiniteAnswers.{supremum_finite}
+use Rattle.curve_call.proofs.GrowingAnswers.{same_rising}
+use Rattle.curve_deconv.proofs.Kept.{sub_le}
 use Rattle.residual_laws.specs.PriorityLaws.{IsPriorityService, priority_left}
 use Rattle.cell_operators.specs.Shapes.{IsServed}
 use Rattle.min_plus.proofs.TimeSums.{nonneg_sum}
-
--- where h has the values of m, which rises
-same_rising : (m h : ℚ → Ext) → ((t : ℚ) → zero_q ≤ℚ t → h t ≡ m t) → ((s t : ℚ) → zero_q ≤ℚ s → s ≤ℚ t → m s ≤ₑ m t) → IsRising h
-same_rising m h is up s t low more =
-    le_ext_trans (h s) (m s) (h t) (same_le_ext (is s low))
-    (le_ext_trans (m s) (m t) (h t) (up s t low more) (same_le_ext (sym (is t (le_trans low more)))))
-
-sub_mono : (x y : Ext) (c : ℚ) → x ≤ₑ y → x -ₑ c ≤ₑ y -ₑ c
-sub_mono x y c l =
-    le_ext_trans (x -ₑ c) (x +ₑ Fin (neg_ℚ c)) (y -ₑ c) (same_le_ext (sub_is_add_ext x c))
-    (le_ext_trans (x +ₑ Fin (neg_ℚ c)) (y +ₑ Fin (neg_ℚ c)) (y -ₑ c)
-    (add_le_ext x y (Fin (neg_ℚ c)) (Fin (neg_ℚ c)) l (le_ext_refl (Fin (neg_ℚ c))))
-    (same_le_ext (sym (sub_is_add_ext y c))))
 
 -- ---- calls
 pub sum_rises : (f g h : SpecCurve) → IsRising (value_at f) → IsRising (value_at g) → IsMadeBy Sum f g h → IsRising (value_at h)
@@ -60,7 +49,7 @@ deconvolution_rises f g h p made s t low more =
     (λ u.
     let late = made.answers t (le_trans low more) in
     le_ext_trans (value_at f (s +ℚ u.at) -ₑ u.level) (value_at f (t +ℚ u.at) -ₑ u.level) (value_at h t)
-    (sub_mono (value_at f (s +ℚ u.at)) (value_at f (t +ℚ u.at)) u.level
+    (sub_le (value_at f (s +ℚ u.at)) (value_at f (t +ℚ u.at)) u.level
     (p (s +ℚ u.at) (t +ℚ u.at) (nonneg_sum s u.at low u.nonneg) (add_le_add more (le_refl u.at))))
     (late.above u))
 

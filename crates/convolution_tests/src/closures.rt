@@ -5,7 +5,6 @@ ghost use Rattle.rational.specs.Extended.{◌≤ₑ◌};
 ghost use Rattle.upp_curve.specs.Curve.{value_at};
 ghost use Rattle.min_plus.specs.Functions.{zero_q};
 
-use subadd_closure::{close, is_subadditive};
 use fraction128::{Frac, is_less};
 use rational::Extended;
 use std::alloc::Global;
@@ -13,6 +12,7 @@ use std::marker::Brand;
 use std::sync::ledger::{Blank, Ledger};
 use std::test::Fail;
 use steps::Steps;
+use subadd_closure::{close, is_subadditive};
 use test_curves::{bucket, curve, piece, ratio, whole};
 use upp_curve::{Curve, Tail, equal};
 use upp_limits::OpFault;

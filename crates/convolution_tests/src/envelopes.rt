@@ -1,30 +1,11 @@
 //! Pieces cut into elements, and what two elements make as pieces, worked out by hand.
 
+use affine_segment::{Element, Joined, Piece};
 use element_envelope::{cut, joined_window};
-use affine_segment::{Element, Joined, Line, Piece};
 use fraction128::Frac;
 use rational::Extended;
 use std::test::Fail;
-use test_curves::whole;
-
-fn line(icept: i128, slope: i128) -> Line {
-    Line {
-        icept: whole(icept),
-        slope: whole(slope),
-    }
-}
-
-// Of a point the time and the value.
-fn seen_point(e: &Element) -> Option<(Frac, Frac)> {
-    match *e {
-        Element::Point { x, v } => Some((x, v)),
-        Element::Open {
-            from: _,
-            to: _,
-            line: _,
-        } => None,
-    }
-}
+use test_curves::{line, seen_point, whole};
 
 // Of a segment the ends and the slope.
 fn seen_open(e: &Element) -> Option<(Frac, Option<Frac>, Frac)> {

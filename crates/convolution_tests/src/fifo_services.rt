@@ -6,8 +6,8 @@ ghost use Rattle.rational.specs.Extended.{◌≤ₑ◌};
 ghost use Rattle.rational.specs.declared.Extended.TheVariants.{Fin};
 ghost use Rattle.upp_curve.specs.Curve.{value_at};
 
-use fifo_residual::fifo_service;
 use curve_deviation::horizontal;
+use fifo_residual::fifo_service;
 use fraction128::{Ext, Frac};
 use rational::Extended;
 use std::alloc::Global;

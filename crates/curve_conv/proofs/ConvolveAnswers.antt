@@ -48,10 +48,10 @@ windows f g r ls rs F el er =
 
 -- ---- the rise stands
 
-rise_has_room : (z : Sizes) (c : SpecCurve) (d : ℚ) → IsRise z c d → RiseHasRoom z (rise_over c d)
+pub rise_has_room : (z : Sizes) (c : SpecCurve) (d : ℚ) → IsRise z c d → RiseHasRoom z (rise_over c d)
 rise_has_room z c d R = record { whole = R.whole; within = within_weaken (times_largest 3 z) (times_largest 8 z) (rise_over c d) (more_largest z 3 8 (omega arith)) R.within }
 
-rise_room : (f g : SpecCurve) (r : Frame) (rise : ℚ) (F : IsConvolveFrame f g r) → RisesBy (rate g <ₑ rate f) (rise_over g r.period) (rise_over f r.period) rise → RiseHasRoom F.sizes rise
+pub rise_room : (f g : SpecCurve) (r : Frame) (rise : ℚ) (F : IsConvolveFrame f g r) → RisesBy (rate g <ₑ rate f) (rise_over g r.period) (rise_over f r.period) rise → RiseHasRoom F.sizes rise
 rise_room f g r rise F R = elim (slower_or_not (rate g) (rate f)) [
   | inl h ↦ subst (RiseHasRoom F.sizes) (sym (R.so h)) (rise_has_room F.sizes g r.period (right_rise f g r.start r.period r.end (F.number + 1) F.sizes F.call))
   | inr h ↦ subst (RiseHasRoom F.sizes) (sym (R.else h)) (rise_has_room F.sizes f r.period (left_rise f g r.start r.period r.end (F.number + 1) F.sizes F.call))

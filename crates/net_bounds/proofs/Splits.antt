@@ -9,7 +9,7 @@ use Rattle.rational.proofs.Linear.{with1, with2, with3}
 use Rattle.min_plus.specs.Functions.{zero_q}
 use Rattle.min_plus.specs.Convolution.{Split, AllNonneg, sum_of}
 use Rattle.net_laws.specs.Paths.{IsWithinSplits, sum_of_values}
-use Rattle.min_plus.proofs.TimeSums.{nonneg_total}
+use Rattle.min_plus.proofs.TimeSums.{nonneg_total, sum_more}
 
 -- ---- the last of some times
 record EndsWith (n : ℕ) (xs : List ℚ) : Type 0 where
@@ -35,15 +35,6 @@ ends_with (suc n) (x ∷ xs) e =
 nonneg_front : (ys : List ℚ) (y : ℚ) → AllNonneg (ys ++ y ∷ []) → AllNonneg ys × (zero_q ≤ℚ y)
 nonneg_front [] y h = (tt, h.0)
 nonneg_front (x ∷ ys) y h = let rest = nonneg_front ys y h.1 in ((h.0, rest.0), rest.1)
-
-sum_front : (ys : List ℚ) (y : ℚ) → sum_of (ys ++ y ∷ []) ≡ sum_of ys +ℚ y
-sum_front [] y = with1 y (λ c. omega (arith, c.le, c.lt, c.same))
-sum_front (x ∷ ys) y =
-    let rest = sum_front ys y in
-    with_rest x (sum_of ys) y (sum_of (ys ++ y ∷ [])) rest
-  where
-    with_rest : (a b c d : ℚ) → d ≡ b +ℚ c → a +ℚ d ≡ (a +ℚ b) +ℚ c
-    with_rest a b c d e = ap (λ (z : ℚ). a +ℚ z) e ∙ with3 a b c (λ o. omega (arith, o.le, o.lt, o.same))
 
 -- the values at all of them
 values_front : (fs : List (ℚ → Ext)) (g : ℚ → Ext) (ys : List ℚ) (y : ℚ) → length ys ≡ length fs
@@ -75,7 +66,7 @@ more_split f g h fs within is xs all e =
     let y = end.last in
     let parts = nonneg_front ys y (subst AllNonneg end.is all) in
     let low : zero_q ≤ℚ sum_of xs = nonneg_total xs all in
-    let whole : sum_of ys +ℚ y ≡ sum_of xs = sym (ap sum_of end.is ∙ sum_front ys y) in
+    let whole : sum_of ys +ℚ y ≡ sum_of xs = sym (ap sum_of end.is ∙ sum_more ys y) in
     let split = is (sum_of xs) low
     record {
       first = sum_of ys;

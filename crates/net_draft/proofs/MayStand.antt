@@ -17,6 +17,7 @@ use Rattle.affine_segment.specs.Pieces.{Each, RisesFrom}
 use Rattle.affine_segment.specs.Reading.{read}
 use Rattle.upp_curve.specs.Shapes.{IsNumber, IsFinitePiece}
 use Rattle.upp_curve.proofs.Finite.{level_of, read_number, repeated_number}
+use Rattle.upp_curve.proofs.RisingCurves.{read_is}
 use Rattle.upp_curve.proofs.FirstStretch.{read_in, at_start}
 use Rattle.upp_curve.proofs.Repeats.{repeated_first}
 use Rattle.curve_library.specs.declared.texts.PieceText.{PieceText}
@@ -60,10 +61,6 @@ module _ (f g : ℚ → Ext) (same : (t : ℚ) → zero_q ≤ℚ t → f t ≡ g
 finite_pieces : (ps : List PieceText) → Each IsFinitePiece (text_pieces ps)
 finite_pieces [] = tt
 finite_pieces (p ∷ ps) = (record { at = tt; line = tt }, finite_pieces ps)
-
-read_is : (p : Piece) (ps : List Piece) (t : ℚ) → read (p ∷ ps) t ≡ read_in p ps t
-unfolding read
-read_is p ps t = refl
 
 listed_finite : (ps : List PieceText) (tail : Option TailText) → IsWellFormed ps tail → IsFinite (value_at (listed_curve ps tail))
 unfolding value_at

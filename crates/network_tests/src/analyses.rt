@@ -2,8 +2,8 @@
 
 ghost use Rattle.std.specs.Prelude.{◌≡◌, ◌<◌};
 
-use flow_analysis::analyse;
 use cell_table::{Table, Value};
+use flow_analysis::analyse;
 use fraction128::Frac;
 use net_cells::{Cell, Kind};
 use net_graph::order;

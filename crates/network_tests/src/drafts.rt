@@ -1,7 +1,7 @@
 //! Files, their drafts and their first faults. What no clause says is that the words are the ones meant.
 
-use net_draft::{CurveText, Draft, DraftFault, FlowDraft, ServerDraft, read_draft};
 use fraction128::Frac;
+use net_draft::{CurveText, Draft, DraftFault, FlowDraft, ServerDraft, read_draft};
 use net_model::{CurveRefusal, Discipline, NetKind};
 use std::alloc::Global;
 use std::process::Abort;

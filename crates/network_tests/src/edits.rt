@@ -1,7 +1,7 @@
 //! An edit that is taken.
 
-use net_edits::edited_network;
 use fraction128::Frac;
+use net_edits::edited_network;
 use net_model::{Edit, plain_network};
 use std::test::Fail;
 

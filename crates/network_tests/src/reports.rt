@@ -1,11 +1,11 @@
 //! The texts, word for word.
 
-use report_text::{Refusal, analysis_text, cell_text, refusal_text};
 use cell_table::{Analysis, Value};
 use fraction128::{Ext, Frac};
 use net_cells::{Cell, Kind};
 use net_model::{CurveRefusal, NetFault, NetKind, Network, plain_network};
 use rational::Extended;
+use report_text::{Refusal, analysis_text, cell_text, refusal_text};
 use std::alloc::{AllocError, Global};
 use std::process::Abort;
 use std::test::Fail;

@@ -7,9 +7,9 @@ mod accepted;
 mod closed;
 mod refused;
 
-use net_text::read_network;
 use fraction128::Frac;
 use net_model::{NetFault, NetKind, Network};
+use net_text::read_network;
 use rational::Extended;
 use std::alloc::{AllocError, Global};
 use std::cmp::Ordering;

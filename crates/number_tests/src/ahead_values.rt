@@ -4,27 +4,19 @@ ghost use Rattle.std.specs.Prelude.{◌≡◌, pos, IsTrue};
 ghost use Rattle.rational.specs.Rational.{int};
 ghost use Rattle.upp_normal.specs.Ahead.{IsOverBy};
 
-use crate::own_limits::{ratio, teeth, whole};
+use crate::curves::value;
 use crate::normal_forms::{normal, stair, start};
-use upp_normal::{Stretch, stretch_at};
+use crate::own_limits::teeth;
 use fraction128::{Frac, Wide, is_less};
 use rational::Extended;
 use std::alloc::Global;
 use std::cmp::Ordering;
 use std::process::Abort;
 use std::test::Fail;
+use test_curves::{ratio, whole};
 use upp_curve::{Curve, Tail};
 use upp_limits::{OpFault, OpKind, gauge};
-
-fn value(c: &Curve, t: Frac) -> Result<Option<Frac>, Wide> {
-    match t.cmp(&Frac::zero()) {
-        Ordering::Less => Ok(None),
-        _ => match c.value_at(t)? {
-            Extended::Fin(v) => Ok(Some(v)),
-            Extended::Inf => Ok(None),
-        },
-    }
-}
+use upp_normal::{Stretch, stretch_at};
 
 // 0 at 0, and infinite after it.
 fn wall(rt: &impl Abort, alloc: Global) -> Result<Curve, OpFault> {

@@ -3,20 +3,14 @@
 ghost use Rattle.std.specs.Prelude.{◌≡◌, IfOk};
 ghost use Rattle.upp_curve.specs.Kinds.{bucket};
 
-use upp_curve::{Curve, Tail, equal};
 use affine_segment::{Line, Piece};
 use fraction128::{Frac, Op, Wide};
 use rational::Extended;
 use std::alloc::{AllocError, Global};
 use std::cmp::Ordering;
 use std::test::Fail;
-
-fn whole(n: i128) -> Frac {
-    match Frac::new(n, 1) {
-        Ok(f) => f,
-        Err(_) => Frac::zero(),
-    }
-}
+use test_curves::whole;
+use upp_curve::{Curve, Tail, equal};
 
 fn bucket(alloc: Global, burst: Frac, rate: Frac) -> Result<Curve, AllocError>
     ensures { IfOk result (λ c. c ≡ bucket burst rate) }
@@ -34,7 +28,8 @@ fn bucket(alloc: Global, burst: Frac, rate: Frac) -> Result<Curve, AllocError>
     Ok(Curve::from_normal(pieces, Tail::Affine { rank: Frac::zero() }))
 }
 
-fn value(c: &Curve, t: Frac) -> Result<Option<Frac>, Wide> {
+/// The value at a time from 0 on; none where it is infinite.
+pub(crate) fn value(c: &Curve, t: Frac) -> Result<Option<Frac>, Wide> {
     match t.cmp(&Frac::zero()) {
         Ordering::Less => Ok(None),
         _ => match c.value_at(t)? {

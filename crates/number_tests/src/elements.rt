@@ -6,15 +6,9 @@ ghost use Rattle.affine_segment.specs.Elements.{IsProper};
 use affine_segment::{Element, Joined, Line, element_conv, is_before};
 use fraction128::{Frac, Op, Wide};
 use rational::Extended;
+use test_curves::{seen_point, whole};
 
 const LARGEST: i128 = i128::MAX;
-
-fn whole(n: i128) -> Frac {
-    match Frac::new(n, 1) {
-        Ok(f) => f,
-        Err(_) => Frac::zero(),
-    }
-}
 
 fn point(x: i128, v: i128) -> Element {
     Element::Point {
@@ -71,18 +65,6 @@ fn refusal(a: &Element, b: &Element) -> Option<Wide> {
         }
     } else {
         None
-    }
-}
-
-// Of a point the time and the value.
-fn seen_point(e: &Element) -> Option<(Frac, Frac)> {
-    match *e {
-        Element::Point { x, v } => Some((x, v)),
-        Element::Open {
-            from: _,
-            to: _,
-            line: _,
-        } => None,
     }
 }
 

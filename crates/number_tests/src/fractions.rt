@@ -5,7 +5,7 @@ use std::alloc::{AllocError, Global};
 use std::cmp::Ordering;
 
 /// The fraction of a text, or 0 where it is none.
-fn fraction(text: &str) -> Frac {
+pub(crate) fn fraction(text: &str) -> Frac {
     match Frac::parse(text.as_bytes()) {
         Ok(f) => f,
         Err(_) => Frac::zero(),

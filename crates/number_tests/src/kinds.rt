@@ -1,13 +1,12 @@
 //! Values worked out by hand, which refusal comes first, and curves whose own numbers fit though a step to them
 //! does not.
 
+use crate::fractions::fraction;
 use curve_library::{
     CurveFault, OverLimit, PieceText, TailText, UseAs, bucket, gate, listed, rate_latency, stair,
 };
 use fraction128::Frac;
-use rational::Extended;
 use std::alloc::Global;
-use std::cmp::Ordering;
 use upp_curve::{Curve, equal};
 
 const NEGATIVE: Option<CurveFault> = Some(CurveFault::Negative);
@@ -22,14 +21,6 @@ const NOT_ZERO: Option<CurveFault> = Some(CurveFault::NotZeroAtStart);
 
 const TOO_WIDE: Option<CurveFault> = Some(CurveFault::Op(OverLimit::TooWide));
 
-/// The fraction of a text, or 0 where it is none.
-fn fraction(text: &str) -> Frac {
-    match Frac::parse(text.as_bytes()) {
-        Ok(f) => f,
-        Err(_) => Frac::zero(),
-    }
-}
-
 /// Why there is no curve; None where there is one.
 fn refusal(made: &Result<Curve, CurveFault>) -> Option<CurveFault> {
     match made {
@@ -40,16 +31,9 @@ fn refusal(made: &Result<Curve, CurveFault>) -> Option<CurveFault> {
 
 /// The value at a time from 0 on; None where there is no curve or the value is infinite.
 fn value(made: &Result<Curve, CurveFault>, time: &str) -> Option<Frac> {
-    let t = fraction(time);
-    let Ok(c) = made else {
-        return None;
-    };
-    match t.cmp(&Frac::zero()) {
-        Ordering::Less => None,
-        _ => match c.value_at(t) {
-            Ok(Extended::Fin(v)) => Some(v),
-            _ => None,
-        },
+    match made {
+        Ok(c) => test_curves::value(c, fraction(time)),
+        Err(_) => None,
     }
 }
 

@@ -1,28 +1,11 @@
 //! Values worked out by hand.
 
-use affine_segment::{Line, cross, element_min, value, is_before};
+use affine_segment::{Line, cross, element_min, is_before, value};
 use fraction128::{Ext, Frac, Op, Wide};
 use rational::Extended;
+use test_curves::{line, ratio, whole};
 
 const LARGEST: i128 = i128::MAX;
-
-fn ratio(num: i128, den: i128) -> Frac {
-    match Frac::new(num, den) {
-        Ok(f) => f,
-        Err(_) => Frac::zero(),
-    }
-}
-
-fn whole(n: i128) -> Frac {
-    ratio(n, 1)
-}
-
-fn line(icept: i128, slope: i128) -> Line {
-    Line {
-        icept: whole(icept),
-        slope: whole(slope),
-    }
-}
 
 #[test]
 fn values_of_lines(rt: HostRuntime) {

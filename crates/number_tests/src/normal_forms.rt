@@ -1,15 +1,15 @@
 //! Normal forms, pieces below a time and limits, worked out by hand.
 
-use crate::own_limits::whole;
-use upp_normal::{RawCurve, normalise, pieces_to};
 use affine_segment::{Line, Piece};
 use fraction128::{Ext, Frac};
 use rational::Extended;
 use std::alloc::{AllocError, Global};
 use std::process::Abort;
 use std::test::Fail;
+use test_curves::whole;
 use upp_curve::{Curve, Tail, equal};
 use upp_limits::{OpFault, OpKind, tally};
+use upp_normal::{RawCurve, normalise, pieces_to};
 
 // 1 / n.
 fn share(n: i128) -> Frac {

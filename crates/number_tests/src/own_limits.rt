@@ -1,28 +1,15 @@
 //! A gauge and tallies, worked out by hand.
 
-use upp_normal::{RawCurve, normalise};
 use affine_segment::{Line, Piece};
 use fraction128::Frac;
 use rational::Extended;
 use std::alloc::{AllocError, Global};
 use std::process::Abort;
 use std::test::Fail;
+use test_curves::{ratio, whole};
 use upp_curve::{Curve, Tail, is_continuous};
 use upp_limits::{OpFault, OpKind, gauge, tally};
-
-pub(crate) fn whole(n: i128) -> Frac {
-    match Frac::new(n, 1) {
-        Ok(f) => f,
-        Err(_) => Frac::zero(),
-    }
-}
-
-pub(crate) fn ratio(num: i128, den: i128) -> Frac {
-    match Frac::new(num, den) {
-        Ok(f) => f,
-        Err(_) => Frac::zero(),
-    }
-}
+use upp_normal::{RawCurve, normalise};
 
 // A value at 0, and a line after it.
 fn first(alloc: Global, at: Frac, icept: Frac, slope: Frac) -> Result<Vec<Piece>, AllocError> {

@@ -8,8 +8,8 @@
 
 ghost use Rattle.std.specs.Prelude.{◌≡◌, ◌<◌};
 
-use curve_envelope::{max, min, pos_diff, pos_minus, run_inf, run_sup, scale, shift, sum};
 use affine_segment::{Line, Piece};
+use curve_envelope::{max, min, pos_diff, pos_minus, run_inf, run_sup, scale, shift, sum};
 use fraction128::{Ext, Frac};
 use rational::Extended;
 use std::alloc::Global;
@@ -78,7 +78,8 @@ fn has_values(c: &Curve, row: [i128; 6]) -> bool {
         && value(c, whole(5)) == whole(row[5])
 }
 
-fn excess<L: Ledger>(
+/// What f has above g, for finite f.
+pub(crate) fn excess<L: Ledger>(
     alloc: Global,
     f: &Curve,
     g: &Curve,
@@ -91,7 +92,8 @@ fn excess<L: Ledger>(
     }
 }
 
-fn above<L: Ledger>(
+/// What f has above a level, for finite f.
+pub(crate) fn above<L: Ledger>(
     alloc: Global,
     f: &Curve,
     l: Frac,

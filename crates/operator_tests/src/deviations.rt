@@ -2,8 +2,8 @@
 
 ghost use Rattle.std.specs.Prelude.{◌≡◌, ◌<◌};
 
-use curve_deviation::{horizontal, vertical};
 use affine_segment::{Line, Piece};
+use curve_deviation::{horizontal, vertical};
 use fraction128::{Ext, Frac};
 use rational::Extended;
 use std::alloc::Global;

@@ -2,8 +2,9 @@
 
 ghost use Rattle.std.specs.Prelude.{◌≡◌, ◌<◌};
 
-use curve_pointwise::{max, min, pos_diff, pos_minus};
+use crate::all_operators::{above, excess};
 use affine_segment::{Line, Piece};
+use curve_pointwise::{max, min, pos_diff, pos_minus};
 use fraction128::Frac;
 use rational::Extended;
 use std::alloc::Global;
@@ -38,19 +39,6 @@ fn dots(alloc: Global) -> Result<Curve, OpFault> {
         rise: Frac::one(),
     };
     curve(alloc, &[piece], tail)
-}
-
-fn excess<L: Ledger>(
-    alloc: Global,
-    f: &Curve,
-    g: &Curve,
-    steps: &mut Steps<L>,
-) -> Result<Curve, OpFault> {
-    if f.is_finite() {
-        pos_diff(alloc, f, g, steps)
-    } else {
-        Err(OpFault::TooMany)
-    }
 }
 
 // The lower, the upper and the excess of 3 + 2 t and 5 + t, at t.
@@ -90,20 +78,6 @@ fn buckets(rt: HostRuntime) -> Result<(), Fail> {
     Ok(())
 }
 
-// What f has above l, for a finite f.
-fn above_level<L: Ledger>(
-    alloc: Global,
-    f: &Curve,
-    l: Frac,
-    steps: &mut Steps<L>,
-) -> Result<Curve, OpFault> {
-    if f.is_finite() {
-        pos_minus(alloc, f, l, steps)
-    } else {
-        Err(OpFault::TooMany)
-    }
-}
-
 // What 3 + 2 t has above 7, at t.
 fn of_level<L: Ledger>(alloc: Global, blank: Blank, t: Frac) -> Result<Option<Frac>, OpFault>
     requires name { blank.name ≡ L.name }
@@ -112,7 +86,7 @@ fn of_level<L: Ledger>(alloc: Global, blank: Blank, t: Frac) -> Result<Option<Fr
 {
     let mut steps = Steps::<L>::new(blank);
     let f = straight(alloc, whole(3), whole(2))?;
-    let above = above_level(alloc, &f, whole(7), &mut steps)?;
+    let above = above(alloc, &f, whole(7), &mut steps)?;
     Ok(value(&above, t))
 }
 

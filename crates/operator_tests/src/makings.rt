@@ -2,8 +2,8 @@
 
 ghost use Rattle.curve_call.specs.Again.{IsAgain, again_determined};
 
-use curve_call::{Making, calls_in_turn, seen};
 use affine_segment::{Line, Piece};
+use curve_call::{Making, calls_in_turn, seen};
 use fraction128::Frac;
 use rational::Extended;
 use std::alloc::Global;

@@ -5,8 +5,8 @@ ghost use Rattle.rational.specs.Rational.{◌≤ℚ◌};
 ghost use Rattle.upp_curve.specs.Curves.{IsCurve};
 ghost use Rattle.upp_curve.specs.Steady.{steady, IsWholePeriods};
 
-use curve_least::least_periods;
 use affine_segment::{Line, Piece};
+use curve_least::least_periods;
 use fraction128::{Frac, is_less};
 use rational::Extended;
 use std::alloc::{AllocError, Global};

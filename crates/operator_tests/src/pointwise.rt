@@ -2,8 +2,8 @@
 
 ghost use Rattle.std.specs.Prelude.{◌≡◌, ◌<◌};
 
-use curve_pointwise::{max, min, scale, shift, sum};
 use affine_segment::Piece;
+use curve_pointwise::{max, min, scale, shift, sum};
 use fraction128::Frac;
 use rational::Extended;
 use std::alloc::Global;

@@ -5,8 +5,8 @@ ghost use Rattle.rational.specs.Rational.{int};
 ghost use Rattle.upp_curve.specs.Curve.{HasSameValues};
 ghost use Rattle.upp_kinds.specs.WorkedRows.{dip};
 
-use curve_running::{run_inf, run_sup};
 use affine_segment::{Line, Piece};
+use curve_running::{run_inf, run_sup};
 use fraction128::Frac;
 use rational::Extended;
 use std::alloc::{AllocError, Global};

@@ -3,8 +3,8 @@
 ghost use Rattle.std.specs.Prelude.{◌≡◌, IfOk};
 ghost use Rattle.curve_window.specs.Worked.{level_pieces, ramp_pieces};
 
-use curve_window::{overlay, window_excess, window_max, window_min, window_sum};
 use affine_segment::{Line, Piece};
+use curve_window::{overlay, window_excess, window_max, window_min, window_sum};
 use fraction128::Frac;
 use rational::Extended;
 use std::alloc::{AllocError, Global};

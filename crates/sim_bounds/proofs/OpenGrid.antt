@@ -7,7 +7,7 @@ use Rattle.rational.specs.Grid.{Whole}
 use Rattle.rational.specs.MinMax.{max_q}
 use Rattle.rational.proofs.Linear.{with2, with3, with4, with5, with6}
 use Rattle.rational.proofs.Laws.{le_refl, le_trans, le_of_lt, lt_le_trans, le_lt_trans, le_or_lt, lt_cases, lt_irrefl, antisym, mul_comm, mul_le_mul_right}
-use Rattle.rational.proofs.Grid.{whole_add, whole_times}
+use Rattle.rational.proofs.Grid.{whole_add, whole_times, max_whole}
 use Rattle.rational.proofs.MinMax.{max_q_ge_left, max_q_ge_right, max_q_le, max_q_one}
 use Rattle.rational.proofs.Quotients.{div_unique}
 use Rattle.rational.proofs.Whole.{one_more_times}
@@ -16,9 +16,6 @@ use Rattle.run_laws.proofs.Sizes.{whole_le}
 use Rattle.stated_runs.specs.Setups.{Setup, IsSetup, GateTimes, StallTimes, IsGate, IsGateFor, IsGateOpen, IsStalled, IsOpen, IsFirstOpen, IsStretch, opening_of, rate_of}
 use Rattle.sim_bounds.specs.Times.{IsGateWhole, AreStallsWhole}
 use Rattle.sim_bounds.proofs.OpenTime.{cycles, in_cycle}
-
-pub larger_whole : (d : ℕ) (a b : ℚ) → Whole d a → Whole d b → Whole d (max_q a b)
-larger_whole d a b v w = elim (max_q_one a b) [ inl e ↦ subst (λ x. Whole d x) (sym e) v | inr e ↦ subst (λ x. Whole d x) (sym e) w ]
 
 -- ---- since when it is open
 -- from a time on the grid up to a, a fact holds
@@ -46,7 +43,7 @@ stall_since d (s ∷ ss) from a w f l o =
       | inl over ↦ record {
         since = max_q r.since s.end;
         not_after = max_q_le r.since s.end a r.not_after over;
-        on_grid = larger_whole d r.since s.end r.on_grid w.0.1;
+        on_grid = max_whole d r.since s.end r.on_grid w.0.1;
         holds = λ x b c i. elim i [
           | inl k ↦ lt_irrefl x (lt_le_trans k.1 (le_trans (max_q_ge_right r.since s.end) b))
           | inr k ↦ r.holds x (le_trans (max_q_ge_left r.since s.end) b) c k
@@ -70,7 +67,7 @@ first_open_whole S s d from a wg ws f o =
     let k = stall_since d (opening_of S s).stalls from a ws f o.not_before o.open_then.1 in
     let both = max_q g.since k.since in
     let v = max_q from both in
-    let v_whole : Whole d v = larger_whole d from both f (larger_whole d g.since k.since g.on_grid k.on_grid) in
+    let v_whole : Whole d v = max_whole d from both f (max_whole d g.since k.since g.on_grid k.on_grid) in
     let v_most : v ≤ℚ a = max_q_le from both a o.not_before (max_q_le g.since k.since a g.not_after k.not_after) in
     elim (le_or_lt a v) [
       | inl h ↦ subst (λ x. Whole d x) (antisym (v_most, h)) v_whole

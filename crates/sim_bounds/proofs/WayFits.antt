@@ -11,7 +11,7 @@ use Rattle.rational.proofs.Linear.{with1, with2, with3, with4}
 use Rattle.rational.proofs.Laws.{le_refl, le_trans, le_of_lt, lt_le_trans, antisym, mul_le_mul_right, one_mul, not_zero}
 use Rattle.rational.proofs.Quotients.{div_nonneg}
 use Rattle.rational.proofs.Integers.{nat_le, nat_nonneg}
-use Rattle.rational.proofs.Grid.{whole_int, whole_add, whole_sub, within_nonneg}
+use Rattle.rational.proofs.Grid.{whole_int, whole_add, whole_sub, within_nonneg, max_whole}
 use Rattle.rational.proofs.Sizes.{largest_part, small_on_grid, quotient_on_grid}
 use Rattle.run_laws.specs.Cards.{whole}
 use Rattle.run_laws.specs.Routes.{link_at}
@@ -37,7 +37,6 @@ use Rattle.sim_bounds.proofs.Spans.{sum_nonneg, first_nonneg, ratio_pos, cycle_n
 use Rattle.sim_bounds.proofs.InTime.{first_in_time}
 use Rattle.sim_bounds.proofs.Gauged.{span_in, work_in, cycle_in}
 use Rattle.sim_bounds.proofs.Fits.{made_grid, times_whole, run_fits}
-use Rattle.sim_bounds.proofs.OpenGrid.{larger_whole}
 
 -- ---- the grid
 in_below : (f : ℕ → ℚ) (n i : ℕ) → i < n → In (each_below f n) (f i)
@@ -57,15 +56,15 @@ span_whole net trace s h =
 latest_whole : {A : Type 0} (d : ℕ) (time : A → ℚ) (xs : List A) (none : A) → ((k : ℕ) → k < length xs → Whole d (time (get_or xs k none))) → Whole d (latest_of time xs)
 latest_whole d time [] none h = whole_int d (pos 0)
 latest_whole d time (x ∷ xs) none h =
-    larger_whole d (time x) (latest_of time xs) (h 0 (omega arith)) (latest_whole d time xs none (λ k l. h (suc k) (omega (arith, l))))
+    max_whole d (time x) (latest_of time xs) (h 0 (omega arith)) (latest_whole d time xs none (λ k l. h (suc k) (omega (arith, l))))
 
 ends_whole : (d : ℕ) (xs : List StallTimes) → AreStallsWhole d xs → Whole d (latest_of (λ (x : StallTimes). x.end) xs)
 ends_whole d [] w = whole_int d (pos 0)
-ends_whole d (x ∷ xs) w = larger_whole d x.end (latest_of (λ (y : StallTimes). y.end) xs) w.0.1 (ends_whole d xs w.1)
+ends_whole d (x ∷ xs) w = max_whole d x.end (latest_of (λ (y : StallTimes). y.end) xs) w.0.1 (ends_whole d xs w.1)
 
 first_whole : (S : Setup) (d : ℕ) → IsGrid S d → Whole d (first_time S)
 first_whole S d g =
-    larger_whole d (latest_of (λ (e : Entering). e.time) S.packets) (latest_of (λ (o : Opening). latest_of (λ (x : StallTimes). x.end) o.stalls) S.openings)
+    max_whole d (latest_of (λ (e : Entering). e.time) S.packets) (latest_of (λ (o : Opening). latest_of (λ (x : StallTimes). x.end) o.stalls) S.openings)
     (latest_whole d (λ (e : Entering). e.time) S.packets record { flow = 0; bits = 0; time = int (pos 0) } g.packets)
     (latest_whole d (λ (o : Opening). latest_of (λ (x : StallTimes). x.end) o.stalls) S.openings record { gate = None; stalls = [] }
     (λ k h. ends_whole d (opening_of S k).stalls (g.stalls k)))

@@ -42,7 +42,7 @@ use Rattle.subadd_closure.specs.Starting.{first_at, started_at, KeepsTail, IsSta
 use Rattle.subadd_closure.proofs.Starts.{repeated_past, repeated_zero, repeats_on}
 use Rattle.subadd_closure.specs.StartsAt.{ConvolvesFinitely, ConvolvesPastZero, StartsAt}
 use Rattle.subadd_closure.proofs.Windowed.{IsConvolved, stands_of, from_some, period_in, period_start, convolved_at}
-use Rattle.subadd_closure.proofs.Started.{rise_room}
+use Rattle.curve_conv.proofs.ConvolveAnswers.{rise_room}
 use Rattle.subadd_closure.proofs.Risen.{convolution_nonneg, rise_nonneg}
 use Rattle.subadd_closure.proofs.Kept.{StartsAnew, keeps_tail}
 use Rattle.curve_pointwise.proofs.LatticeAnswers.{back}

@@ -32,7 +32,8 @@ use Rattle.curve_conv.specs.ConvolveCall.{IsConvolveFrame}
 use Rattle.subadd_closure.specs.Starting.{first_at}
 use Rattle.subadd_closure.proofs.Starts.{read_past}
 use Rattle.subadd_closure.proofs.Windowed.{IsConvolved, stands_of, arches_of, from_some}
-use Rattle.curve_pointwise.proofs.LatticeAnswers.{back, slower_or_not}
+use Rattle.curve_pointwise.proofs.LatticeAnswers.{RiseHasRoom, back}
+use Rattle.curve_conv.proofs.ConvolveAnswers.{rise_room}
 
 -- ---- the window
 pub window_started : (z : Sizes) (end : ℚ) (v : Ext) (ps : List Piece) → SumWindow z end ps → SumValueAt z zero_q v
@@ -59,31 +60,6 @@ arches_started T end v ps S A = λ low high y h W.
   where
     same : (a b c d e k : Ext) → d ≡ a → e ≡ b → k ≡ c → a +ₑ b ≤ₑ c +ₑ c → d +ₑ e ≤ₑ k +ₑ k
     same a b c d e k x y z h = rw (x, y, z) h
-
--- ---- the rise stands
-
-pub record RiseHasRoom (z : Sizes) (y : ℚ) : Type 0 where
-  pub whole : Whole (grid_of z) y
-  pub within : Within (times_largest 8 z) y
-
-rise_has_room : (z : Sizes) (c : SpecCurve) (d : ℚ) → IsRise z c d → RiseHasRoom z (rise_over c d)
-rise_has_room z c d R = record {
-  whole = R.whole;
-  within = within_weaken (times_largest 3 z) (times_largest 8 z) (rise_over c d) (more_largest z 3 8 (omega arith))
-      R.within;
-}
-
-pub rise_room : (f g : SpecCurve) (r : Frame) (rise : ℚ) (F : IsConvolveFrame f g r)
-    → RisesBy (rate g <ₑ rate f) (rise_over g r.period) (rise_over f r.period) rise → RiseHasRoom F.sizes rise
-rise_room f g r rise F R = by (slower_or_not (rate g) (rate f))
-  where
-    by : (rate g <ₑ rate f) ⊎ ¬ (rate g <ₑ rate f) → RiseHasRoom F.sizes rise
-    by (inl h) =
-        subst (RiseHasRoom F.sizes) (sym (R.so h))
-        (rise_has_room F.sizes g r.period (right_rise f g r.start r.period r.end (F.number + 1) F.sizes F.call))
-    by (inr h) =
-        subst (RiseHasRoom F.sizes) (sym (R.else h))
-        (rise_has_room F.sizes f r.period (left_rise f g r.start r.period r.end (F.number + 1) F.sizes F.call))
 
 -- ---- the answer
 pub started_answer : (f g : SpecCurve) (r : Frame) (ps : List Piece) (from rise : ℚ) (v : Ext)

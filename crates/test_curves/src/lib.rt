@@ -8,7 +8,7 @@ ghost use Rattle.rational.specs.declared.Extended.TheVariants.{Fin};
 ghost use Rattle.upp_curve.specs.Curve.{HasSameValues, value_at};
 ghost use Rattle.upp_curve.specs.declared.curve.Tail.TheVariants.{Periodic};
 
-use affine_segment::{Line, Piece};
+use affine_segment::{Element, Line, Piece};
 use fraction128::{Ext, Frac, is_less};
 use rational::Extended;
 use std::alloc::Global;
@@ -31,6 +31,26 @@ pub fn whole(n: i128) -> Frac
     ensures { IsSmall (ratio n (pos 1)) → result ≡ ratio n (pos 1) }
 {
     ratio(n, 1)
+}
+
+/// The line with a value at 0 and a slope.
+pub fn line(icept: i128, slope: i128) -> Line {
+    Line {
+        icept: whole(icept),
+        slope: whole(slope),
+    }
+}
+
+/// Of a point the time and the value.
+pub fn seen_point(e: &Element) -> Option<(Frac, Frac)> {
+    match *e {
+        Element::Point { x, v } => Some((x, v)),
+        Element::Open {
+            from: _,
+            to: _,
+            line: _,
+        } => None,
+    }
 }
 
 /// From x on the line with a value at 0 and a slope, or infinity where there is none; and `at` at x.

@@ -16,7 +16,7 @@ use Rattle.affine_segment.specs.Pieces.{HasStart, RisesFrom}
 use Rattle.upp_curve.specs.Normal.{IsNormal}
 use Rattle.upp_curve.specs.Unrolled.{each_later, copies, upto, from, unrolled, unroll}
 use Rattle.upp_normal.proofs.Below.{cut_at_start}
-use Rattle.upp_curve.proofs.Normal.{start_in_upto}
+use Rattle.upp_curve.proofs.Normal.{start_in_upto, start_from_upto}
 use Rattle.upp_normal.proofs.UnrolledPieces.{periodic_starts}
 use Rattle.affine_segment.proofs.PieceIn.{low_start}
 
@@ -34,15 +34,6 @@ start_left x (p ∷ ps) qs h = elim h [ inl e ↦ inl e | inr k ↦ inr (start_l
 start_right : (x : ℚ) (ps qs : List Piece) → HasStart x qs → HasStart x (ps ++ qs)
 start_right x [] qs h = h
 start_right x (p ∷ ps) qs h = inr (start_right x ps qs h)
-
-start_uncut : (x X : ℚ) (ps : List Piece) → HasStart x (upto X ps) → HasStart x ps
-unfolding upto
-start_uncut x X [] h = h
-start_uncut x X (p ∷ ps) h = go (lt_q p.x X) (λ k. start_uncut x X ps k) h
-  where
-    go : (b : Bool) → (HasStart x (upto X ps) → HasStart x ps) → HasStart x (cond b (p ∷ upto X ps) []) → HasStart x (p ∷ ps)
-    go true f k = elim k [ inl e ↦ inl e | inr l ↦ inr (f l) ]
-    go false f k = absurd k
 
 -- ---- copies
 earlier : (d c x : ℚ) (ps : List Piece) → HasStart x (each_later d c ps) → HasStart (x -ℚ d) ps
@@ -131,7 +122,7 @@ start_by_tail ps (Periodic rank d c) end far x n h l =
     let turn = from rank ps in
     let m = periods rank d end in
     let cut = cut_at_start low rank ps (low_start ps n.raw.starts) n.rank_is_start in
-    let seen = start_uncut x far (upto rank ps ++ copies (suc (periods rank d far)) d c turn) h in
+    let seen = start_from_upto x far (upto rank ps ++ copies (suc (periods rank d far)) d c turn) h in
     let whole : HasStart x (upto rank ps ++ copies (suc m) d c turn) = elim (start_parts x (upto rank ps) (copies (suc (periods rank d far)) d c turn) seen) [
       | inl k ↦ start_left x (upto rank ps) (copies (suc m) d c turn) k
       | inr k ↦
@@ -143,9 +134,9 @@ start_by_tail ps (Periodic rank d c) end far x n h l =
     start_in_upto low x end (upto rank ps ++ copies (suc m) d c turn)
     (low_start (upto rank ps ++ copies (suc m) d c turn) (periodic_starts ps rank d c m n.raw.starts n.rank_is_start n.raw.tail.some n.raw.tail.starts)) whole l
 start_by_tail ps (Affine rank) end far x n h l =
-    start_in_upto (int (pos 0) -ℚ int (pos 1)) x end ps (low_start ps n.raw.starts) (start_uncut x far ps h) l
+    start_in_upto (int (pos 0) -ℚ int (pos 1)) x end ps (low_start ps n.raw.starts) (start_from_upto x far ps h) l
 start_by_tail ps (Infinite rank) end far x n h l =
-    start_in_upto (int (pos 0) -ℚ int (pos 1)) x end ps (low_start ps n.raw.starts) (start_uncut x far ps h) l
+    start_in_upto (int (pos 0) -ℚ int (pos 1)) x end ps (low_start ps n.raw.starts) (start_from_upto x far ps h) l
 
 pub start_before : (c : SpecCurve) (end far x : ℚ) → IsNormal c → HasStart x (unroll c far) → x <ℚ end → HasStart x (unroll c end)
 unfolding unroll
