@@ -1,0 +1,5 @@
+pub mod Paths
+pub mod FirstTimes
+pub mod Rooms
+pub mod Parts
+pub mod FlowsOf
