@@ -20,7 +20,7 @@ use Rattle.sim_bounds.specs.Horizons.{path_bits, bits_through, load, gate_ratio,
 use Rattle.sim_gauge.specs.Steps.{StallsFit}
 
 -- ---- a server
-made_at : {X Y : Type 0} (f : X → Y) (xs : List X) (k : ℕ) (x : X) (d : Y) → k < length xs → get_or xs k x ≡ x → get_or (map f xs) k d ≡ f x
+pub made_at : {X Y : Type 0} (f : X → Y) (xs : List X) (k : ℕ) (x : X) (d : Y) → k < length xs → get_or xs k x ≡ x → get_or (map f xs) k d ≡ f x
 made_at f [] k x d h e = absurd (omega (arith, h))
 made_at f (y ∷ ys) zero x d h e = ap f e
 made_at f (y ∷ ys) (suc k) x d h e = made_at f ys k x d (omega (arith, h)) e

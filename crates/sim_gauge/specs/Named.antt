@@ -18,5 +18,8 @@ abbrev pub stall_numbers : List Stall → Numbers
 stall_numbers xs = times_alone (flat_map stall_times xs)
 
 -- a server's link, its gate's cycle and slot, and its rate
+abbrev pub server_number : NetServer → Numbers
+server_number s = record { times = server_times s; values = []; slopes = s.rate ∷ [] }
+
 abbrev pub server_numbers : List NetServer → Numbers
 server_numbers ss = record { times = flat_map server_times ss; values = []; slopes = map (λ (s : NetServer). s.rate) ss }

@@ -2,11 +2,10 @@
 
 ghost use Rattle.upp_limits.specs.Gathered.{Gathers};
 ghost use Rattle.upp_limits.specs.Limits.{Numbers, joined};
-ghost use Rattle.std.specs.Prelude.{[], ◌∷◌};
 ghost use Rattle.net_model.specs.Views.{server_of, servers_of};
 ghost use Rattle.stated_runs.specs.FromTraces.{gate_of};
 ghost use Rattle.sim_bounds.specs.Gauge.{gate_times, stall_times};
-ghost use Rattle.sim_gauge.specs.Named.{times_alone, packet_numbers, stall_numbers, server_numbers};
+ghost use Rattle.sim_gauge.specs.Named.{times_alone, packet_numbers, stall_numbers, server_number, server_numbers};
 
 use net_model::{Server, ServiceKind, Stall, TracePacket};
 use upp_limits::gathered::Gathered;
@@ -53,7 +52,7 @@ fn with_gate(g: Gathered, kind: &ServiceKind) -> Gathered
 
 /// The link, the gate and the rate of a server more.
 fn with_server(g: Gathered, server: &Server) -> Gathered
-    ensures { (n : Numbers) → Gathers g n → Gathers result (joined n (server_numbers (server_of server.now ∷ []))) }
+    ensures { (n : Numbers) → Gathers g n → Gathers result (joined n (server_number (server_of server.now))) }
 {
     with_gate(g.with_time(server.link), &server.kind).with_slope(server.rate)
 }

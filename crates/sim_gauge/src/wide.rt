@@ -1,6 +1,6 @@
 //! Whether the simulation gauge is too large.
 
-ghost use Rattle.std.specs.Prelude.{ℕ, ◌≡◌, ◌↔◌, ◌<◌, ◌≤◌, ◌^◌, IfSome, IsSome, IsTrue, map, pos, sum_by};
+ghost use Rattle.std.specs.Prelude.{ℕ, ◌≡◌, ◌↔◌, ◌<◌, ◌≤◌, ◌^◌, IfSome, IsSome, IsTrue, map, nat_abs, pos};
 ghost use Rattle.std.specs.List.{AllByRecursion};
 ghost use Rattle.rational.specs.Rational.{int, ◌<ℚ◌};
 ghost use Rattle.rational.specs.Gauge.{Kept};
@@ -18,7 +18,7 @@ use crate::curves::{with_arrivals, with_services};
 use crate::horizons::{Way, horizon};
 use crate::named::{with_packets, with_servers, with_stalls};
 use fraction128::Frac;
-use net_model::{Network, Server, Trace, TracePacket};
+use net_model::{Network, Server, Trace};
 use upp_limits::gathered::{Gathered, common_multiple};
 use upp_limits::gauges::{product, reach};
 
@@ -30,18 +30,25 @@ fn numbers_of(net: &Network, trace: &Trace) -> Option<Way>
     ensures found { IfSome result (λ w. Gathers w.found (joined (time_alone w.end) (simulation_numbers net.now trace.now))) }
     ensures fits { simulation_gauge net.now trace.now < 2 ^ 120 → IsSome result }
 {
+    let packets = trace.packets();
+    let servers = net.servers();
     let way = horizon(net, trace)?;
-    let times = with_stalls(
-        with_packets(way.found.with_time(way.end), trace.packets()),
-        trace.stalls(),
-    );
-    let servers = with_servers(times, net.servers());
-    let services = with_services(servers, net.servers(), way.end)?;
-    let found = with_arrivals(services, net.flows(), way.end)?;
+    let entered = with_packets(way.found.with_time(way.end), packets);
+    let stalled = with_stalls(entered, trace.stalls());
+    let named = with_servers(stalled, servers);
+    let served = with_services(named, servers, way.end)?;
+    let found = with_arrivals(served, net.flows(), way.end)?;
     Some(Way {
         end: way.end,
         found,
     })
+}
+
+/// The size of the numerator.
+fn numerator_of(x: Frac) -> u128
+    ensures { result ≡ nat_abs x.num }
+{
+    x.numerator().unsigned_abs()
 }
 
 /// The least common multiple of the numerators of the rates, up to the largest number.
@@ -51,17 +58,17 @@ fn numerators(servers: &[Server]) -> u128
 {
     let mut common = 1;
     for i in (0..servers.len()).rev() {
-        common = common_multiple(servers[i].rate.numerator().unsigned_abs(), common);
+        common = common_multiple(numerator_of(servers[i].rate), common);
     }
     common
 }
 
 /// The bits of all packets.
-fn bits_of(packets: &[TracePacket]) -> u64
-    ensures { result ≡ sum_by (λ (p : TracePacket). p.bits) packets.now }
+fn bits_of(trace: &Trace) -> u64
+    ensures { result ≡ total_bits trace.now }
 {
     let mut bits = 0;
-    for packet in packets {
+    for packet in trace.packets() {
         bits += packet.bits as u64;
     }
     bits
@@ -98,7 +105,7 @@ pub fn is_too_wide(net: &Network, trace: &Trace) -> bool
     match numbers_of(net, trace) {
         None => true,
         Some(way) => {
-            let bits = Frac::from_whole(bits_of(trace.packets()) as i128);
+            let bits = Frac::from_whole(bits_of(trace) as i128);
             let found = way.found.with_value(bits);
             is_over(found, numerators(net.servers()), way.end)
         }

@@ -23,7 +23,7 @@ loop-packet-preserved c =
     let xs = c.packets-packet-items.result.now in
     let i = c.loop-packet.invariant in
     let x = c.packet-item.result in
-    rw (c.later-latest.ensures) record {
+    rw (c.greater-latest.ensures) record {
       latest = ap (λ (t : TracePacket). max_q (max_q c.loop-packet.latest t.time) (latest_of (λ (p : TracePacket). p.time) (drop (c.loop-packet.packet-index + 1) xs))) c.packet-item.is
           ∙ latest_step (λ (p : TracePacket). p.time) xs c.loop-packet.packet-index x c.loop-packet.latest c.loop-packet-test.true ∙ i.latest;
       from_zero = le_trans i.from_zero (max_q_ge_left c.loop-packet.latest x.time);
@@ -34,7 +34,7 @@ loop-stall-preserved c =
     let xs = c.stalls-stall-items.result.now in
     let i = c.loop-stall.invariant in
     let x = c.stall-item.result in
-    rw (c.later-latest-in-loop-stall.ensures) record {
+    rw (c.greater-latest-in-loop-stall.ensures) record {
       latest = ap (λ (t : Stall). max_q (max_q c.loop-stall.latest t.end) (latest_of (λ (p : Stall). p.end) (drop (c.loop-stall.stall-index + 1) xs))) c.stall-item.is
           ∙ latest_step (λ (p : Stall). p.end) xs c.loop-stall.stall-index x c.loop-stall.latest c.loop-stall-test.true ∙ i.latest;
       from_zero = le_trans i.from_zero (max_q_ge_left c.loop-stall.latest x.end);
