@@ -30,7 +30,7 @@ next_part all one parts xs i x m whole h is e =
     let d : drop i xs ≡ x ∷ rest = drop_more xs i x h ∙ ap (λ y. y ∷ rest) (sym is) in
     joined_assoc m (one x) (all rest) ∙ ap (joined m) (sym (parts.some x rest) ∙ ap all (sym d)) ∙ e
 
-pub last_part : {A : Type 0} (all : List A → Numbers) (one : A → Numbers) → IsPartwise all one → (xs : List A) (i : ℕ) (m whole : Numbers) → (i < length xs → ⊥)
+pub last_part : {A : Type 0} (all : List A → Numbers) (one : A → Numbers) → IsPartwise all one → (xs : List A) (i : ℕ) (m whole : Numbers) → length xs ≤ i
     → joined m (all (drop i xs)) ≡ whole → m ≡ whole
 last_part all one parts xs i m whole h e =
     sym (joined_nothing m) ∙ ap (joined m) (sym parts.none ∙ ap all (sym (drop_all i xs h))) ∙ e

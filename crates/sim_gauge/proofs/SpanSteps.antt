@@ -1,5 +1,5 @@
 -- Where the numbers on the way to the horizon fit, the steps to a server's span do.
-use Rattle.std.proofs.Common.{◌≡◌, ℕ, ◌<◌, List, [], ◌++◌, length, get_or, map, refl, sym, ap, ◌∙◌, subst, arith}
+use Rattle.std.proofs.Common.{◌≡◌, ℕ, suc, ◌+◌, ◌<◌, List, [], ◌++◌, length, get_or, map, refl, sym, ap, ◌∙◌, subst, arith}
 use Rattle.std.specs.Prelude.{Option, pos, Contains}
 use Rattle.std.proofs.lemmas.List.{length-map}
 use Rattle.rational.specs.Rational.{ℚ, int, ◌+ℚ◌, ◌*ℚ◌, ◌/ℚ◌}
@@ -20,18 +20,23 @@ use Rattle.stated_runs.specs.FromTraces.{gate_of, stalls_at, setup_of}
 use Rattle.stated_runs.specs.TimeGrids.{IsTime}
 use Rattle.stated_runs.proofs.Lists.{In, in_contains}
 use Rattle.sim_bounds.specs.Horizons.{load, gate_ratio, gate_cycle, stalled_for, first_time, span, sum_below}
+use Rattle.upp_limits.specs.Limits.{joined, time_alone}
+use Rattle.rational.proofs.Linear.{with5}
+use Rattle.rational.proofs.Laws.{antisym}
+use Rattle.sim_bounds.specs.Gauge.{each_below}
+use Rattle.sim_gauge.specs.Named.{times_alone}
 use Rattle.sim_bounds.specs.Way.{HorizonFits}
 use Rattle.sim_bounds.proofs.Members.{at_in_list}
 use Rattle.sim_gauge.specs.Steps.{WorkFits, StallsFit}
 use Rattle.sim_gauge.proofs.Parts.{ServerIs, made_at}
 use Rattle.sim_gauge.proofs.Rooms.{time_small, times_add, stalls_fit}
 
-pub record SpanSteps (bits : ℕ) (o : Opening) (rate link : ℚ) : Type 0 where
+pub record SpanSteps (bits : ℕ) (o : Opening) (rate wire : ℚ) : Type 0 where
   pub work : WorkFits o.gate (whole bits /ℚ rate)
   pub cycle : SumFits (gate_ratio o.gate *ℚ (whole bits /ℚ rate)) (gate_cycle o.gate)
   pub stalls : StallsFit (int (pos 0)) o.stalls
   pub stalled : SumFits (gate_ratio o.gate *ℚ (whole bits /ℚ rate) +ℚ gate_cycle o.gate) (stalled_for o.stalls)
-  pub link : SumFits (gate_ratio o.gate *ℚ (whole bits /ℚ rate) +ℚ gate_cycle o.gate +ℚ stalled_for o.stalls) link
+  pub link : SumFits (gate_ratio o.gate *ℚ (whole bits /ℚ rate) +ℚ gate_cycle o.gate +ℚ stalled_for o.stalls) wire
 
 many : (net : Net) (trace : SpecTrace) → length (setup_of net trace).net.servers ≡ length net.servers
 many net trace = length-map net.servers server_for
@@ -99,3 +104,12 @@ pub kind_gates : (rate : ℚ) (kind : ServiceKind) (c : SpecCurve) → IsOfKind 
 kind_gates rate (Latency latency) c h = tt
 kind_gates rate (Gate cycle slot) c h = record { some_slot = h.0; within = h.1 }
 kind_gates rate Listed c h = tt
+
+-- ---- the sum of the spans
+pub sum_more : (f : ℕ → ℚ) (s : ℕ) (first t u : ℚ) → u ≡ t +ℚ f s → t ≡ first +ℚ sum_below f s → u ≡ first +ℚ sum_below f (s + 1)
+sum_more f s first t u e h =
+    let same : u ≡ first +ℚ sum_below f (suc s) = antisym (with5 first t u (f s) (sum_below f s) (λ c. omega (arith, c.le, c.lt, c.same))) in
+    subst (λ n. u ≡ first +ℚ sum_below f n) (let q : suc s ≡ s + 1 = omega arith in q) same
+
+pub each_more : (f : ℕ → ℚ) (s : ℕ) → joined (times_alone (each_below f s)) (time_alone (f s)) ≡ times_alone (each_below f (s + 1))
+each_more f s = ap (λ n. times_alone (each_below f n)) (let q : suc s ≡ s + 1 = omega arith in q)
