@@ -1,15 +1,14 @@
 -- All numbers of a simulation together.
-use Rattle.std.proofs.Common.{◌≡◌, ℕ, ◌<◌, ◌≤◌, ◌^◌, List, [], ◌++◌, map, sym, ap, ◌∙◌, subst, arith}
+use Rattle.std.proofs.Common.{◌≡◌, ◌<◌, ◌^◌, [], ◌++◌, map, sym, subst, arith}
 use Rattle.std.specs.Prelude.{pos}
 use Rattle.std.specs.List.{flat_map}
 use Rattle.rational.specs.Rational.{ℚ, int}
 use Rattle.upp_limits.specs.declared.gathered.Gathered.{Gathered}
-use Rattle.upp_limits.specs.Limits.{Numbers, Sizes, joined, time_alone, value_alone, sizes_of, gauge_of}
+use Rattle.upp_limits.specs.Limits.{Numbers, Sizes, joined, time_alone, value_alone, sizes_of}
 use Rattle.upp_limits.specs.Gathered.{Gathers}
 use Rattle.upp_limits.specs.Sized.{HeldBy}
 use Rattle.upp_limits.proofs.Operands.{held_left, held_right}
 use Rattle.net_model.specs.declared.trace.TracePacket.{TracePacket}
-use Rattle.net_model.specs.declared.trace.Stall.{Stall}
 use Rattle.net_model.specs.Networks.{Net, NetServer}
 use Rattle.net_model.specs.Accepted.{IsAccepted}
 use Rattle.net_model.specs.Traces.{SpecTrace}
@@ -17,7 +16,6 @@ use Rattle.stated_runs.specs.FromTraces.{setup_of}
 use Rattle.sim_bounds.specs.Horizons.{horizon}
 use Rattle.sim_bounds.specs.Gauge.{server_times, stall_times, trace_times, spans_of, rates_of, common_num, numbers_of_curves, arrivals_of, curves_of, simulation_numbers, total_bits, simulation_gauge}
 use Rattle.sim_gauge.specs.Named.{times_alone, packet_numbers, stall_numbers, server_numbers}
-use Rattle.sim_gauge.specs.Rated.{gauge_with}
 use Rattle.sim_gauge.proofs.Products.{finer, gauge_is, held_all}
 use Rattle.sim_gauge.proofs.Rates.{common_some}
 use Rattle.sim_gauge.proofs.SameGathered.{curves_split, gathers_equal, in_order}

@@ -1,7 +1,7 @@
 -- The latest of several times, one after another, and server by server.
-use Rattle.std.proofs.Common.{◌≡◌, ℕ, zero, suc, ◌<◌, ◌≤◌, ◌+◌, List, [], ◌∷◌, length, get_or, map, drop, refl, sym, ap, ◌∙◌, subst, arith, inl, inr, Some, None}
-use Rattle.std.specs.Prelude.{Option, pos, All, ◌==◌}
-use Rattle.std.proofs.lemmas.Bool.{cases_Bool, cases_eq, eq-eqb, ne_eqb}
+use Rattle.std.proofs.Common.{◌≡◌, ℕ, zero, suc, ◌<◌, ◌+◌, List, [], ◌∷◌, length, get_or, map, drop, refl, sym, ap, ◌∙◌, subst, arith, inl, inr}
+use Rattle.std.specs.Prelude.{pos, ◌==◌}
+use Rattle.std.proofs.lemmas.Bool.{cases_Bool, eq-eqb}
 use Rattle.std.proofs.lemmas.List.{drop_more}
 use Rattle.rational.specs.Rational.{ℚ, int, ◌≤ℚ◌}
 use Rattle.rational.specs.MinMax.{max_q}
@@ -12,7 +12,7 @@ use Rattle.net_model.specs.declared.trace.Stall.{Stall}
 use Rattle.net_model.specs.Networks.{Net, NetServer}
 use Rattle.net_model.specs.Traces.{SpecTrace}
 use Rattle.stated_runs.specs.Setups.{Entering, StallTimes, Opening}
-use Rattle.stated_runs.specs.FromTraces.{gate_of, stalls_at, openings_from, entering, setup_of}
+use Rattle.stated_runs.specs.FromTraces.{stalls_at, openings_from, entering, setup_of}
 use Rattle.stated_runs.proofs.Lists.{In}
 use Rattle.sim_bounds.specs.Horizons.{latest_of, first_time}
 use Rattle.sim_bounds.proofs.Spans.{latest_nonneg}

@@ -1,11 +1,10 @@
 -- Flows by their numbers.
-use Rattle.std.proofs.Common.{◌≡◌, ℕ, zero, suc, ◌<◌, ◌≤◌, List, [], ◌∷◌, length, get_or, map, refl, sym, ap, ◌∙◌, subst, arith, inl, inr, Some, None}
+use Rattle.std.proofs.Common.{◌≡◌, ℕ, zero, suc, ◌<◌, ◌≤◌, List, [], ◌∷◌, length, get_or, map, sym, ap, arith, inl, inr, Some}
 use Rattle.std.specs.Prelude.{Option, false, Contains}
 use Rattle.std.specs.Option.{option_map}
 use Rattle.std.proofs.lemmas.List.{get_or_past, length-map}
-use Rattle.run_laws.specs.Routes.{Route, Hop}
+use Rattle.run_laws.specs.Routes.{Route}
 use Rattle.net_model.specs.declared.flow.Flow.{Flow}
-use Rattle.net_model.specs.Networks.{NetFlow}
 use Rattle.net_model.specs.NetRoutes.{route_for}
 use Rattle.net_model.specs.Views.{flow_of, flows_of}
 use Rattle.stated_runs.proofs.Lists.{In, in_contains}

@@ -1,12 +1,12 @@
 -- Where the numbers of a curve up to the end of its window are held, each step to those at the end fits.
-use Rattle.std.proofs.Common.{◌≡◌, ℕ, zero, suc, ◌<◌, ◌≤◌, ◌^◌, List, [], ◌∷◌, ◌++◌, map, refl, sym, ap, ◌∙◌, subst, arith, inl, inr}
+use Rattle.std.proofs.Common.{◌≡◌, ℕ, zero, suc, ◌<◌, ◌^◌, List, [], ◌∷◌, map, refl, sym, ap, ◌∙◌, subst, arith, inl, inr}
 use Rattle.std.specs.Prelude.{Bool, true, false, cond, pos}
 use Rattle.std.specs.List.{flat_map, AllByRecursion}
-use Rattle.std.proofs.lemmas.Bool.{cases_lt, cases_eq}
+use Rattle.std.proofs.lemmas.Bool.{cases_eq}
 use Rattle.rational.specs.Rational.{ℚ, ◌+ℚ◌, ◌*ℚ◌, ◌≤ℚ◌, ◌<ℚ◌, int, lt_q}
 use Rattle.rational.specs.Grid.{Whole}
-use Rattle.rational.proofs.Linear.{with1, with2, with3}
-use Rattle.rational.proofs.Laws.{le_refl, le_of_lt, mul_nonneg, antisym}
+use Rattle.rational.proofs.Linear.{with2, with3}
+use Rattle.rational.proofs.Laws.{le_of_lt, mul_nonneg, antisym}
 use Rattle.rational.proofs.Integers.{nat_nonneg}
 use Rattle.rational.proofs.Over.{lt_q_out}
 use Rattle.rational.proofs.MinMax.{lt_q_not}
@@ -17,11 +17,11 @@ use Rattle.upp_curve.specs.Curves.{IsCurve}
 use Rattle.upp_curve.specs.Unrolled.{copies_below}
 use Rattle.upp_limits.specs.Periods.{HasPeriod}
 use Rattle.upp_limits.specs.Spans.{Span, copy_of, copies_of, once_below, span_below, spans, spans_below}
-use Rattle.upp_limits.specs.Limits.{Numbers, Sizes, joined, span_values, span_slopes, curve_numbers}
+use Rattle.upp_limits.specs.Limits.{Numbers, Sizes, span_values, span_slopes, curve_numbers}
 use Rattle.upp_limits.specs.Sized.{AreSizes, IsValue, IsSlope, SpanStands, TailStands, Stands, HeldBy}
 use Rattle.upp_limits.specs.Seen.{SpanFits}
-use Rattle.upp_limits.proofs.Every.{every_weaken, every_flat_out, every_both}
-use Rattle.upp_limits.proofs.Copies.{copies_in, copies_out, copy_zero, copy_among}
+use Rattle.upp_limits.proofs.Every.{every_weaken, every_flat_out}
+use Rattle.upp_limits.proofs.Copies.{copies_in, copy_zero, copy_among}
 use Rattle.upp_limits.proofs.CurveStands.{unrolled_stand, tail_stands}
 use Rattle.upp_limits.proofs.KnownNumbers.{span_fits, seen_rises, few_periods, nonneg_spans}
 use Rattle.upp_limits.proofs.NarrowSizes.{IsNarrow, narrow_gauge}

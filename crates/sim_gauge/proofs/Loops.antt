@@ -1,5 +1,5 @@
 -- Numbers gathered part by part, along a list.
-use Rattle.std.proofs.Common.{◌≡◌, ℕ, zero, suc, ◌<◌, ◌≤◌, ◌+◌, List, [], ◌∷◌, ◌++◌, length, get_or, drop, refl, sym, ap, ◌∙◌, subst, arith, append-nil, Some, None}
+use Rattle.std.proofs.Common.{◌≡◌, ℕ, zero, suc, ◌<◌, ◌≤◌, ◌+◌, List, [], ◌∷◌, length, get_or, drop, refl, sym, ap, ◌∙◌, subst, arith, append-nil, Some, None}
 use Rattle.std.specs.Prelude.{Option, map}
 use Rattle.std.proofs.lemmas.List.{drop_more, drop_all}
 use Rattle.rational.specs.Rational.{ℚ}
@@ -12,7 +12,7 @@ use Rattle.net_model.specs.declared.server.Server.{Server}
 use Rattle.net_model.specs.declared.trace.TracePacket.{TracePacket}
 use Rattle.net_model.specs.declared.trace.Stall.{Stall}
 use Rattle.net_model.specs.Networks.{NetServer}
-use Rattle.net_model.specs.Views.{flow_of, flows_of, server_of, servers_of}
+use Rattle.net_model.specs.Views.{flows_of, server_of, servers_of}
 use Rattle.stated_runs.specs.FromTraces.{gate_of}
 use Rattle.sim_bounds.specs.Gauge.{gate_times, stall_times, numbers_to, numbers_of_curves, arrivals_of}
 use Rattle.sim_gauge.specs.Named.{times_alone, packet_numbers, stall_numbers, server_number, server_numbers}

@@ -1,12 +1,9 @@
 -- The bits of a packet at a server of its path.
-use Rattle.std.proofs.Common.{◌≡◌, ℕ, zero, suc, ◌<◌, ◌≤◌, List, [], ◌∷◌, length, get_or, map, refl, sym, ap, ◌∙◌, subst, arith, inl, inr, Some, None}
-use Rattle.std.specs.Prelude.{Option, ◌≢◌, Contains, false}
+use Rattle.std.proofs.Common.{◌≡◌, ℕ, zero, suc, ◌<◌, List, [], ◌∷◌, length, get_or, refl, arith, inl, inr}
+use Rattle.std.specs.Prelude.{◌≢◌}
 use Rattle.std.proofs.lemmas.Bool.{cases_eq, eq-eqb, ne_eqb}
-use Rattle.run_laws.specs.Routes.{Route}
-use Rattle.net_model.specs.Networks.{NetFlow}
-use Rattle.net_model.specs.NetRoutes.{hops_along, route_for}
+use Rattle.net_model.specs.NetRoutes.{hops_along}
 use Rattle.sim_bounds.specs.Horizons.{path_bits}
-use Rattle.sim_gauge.specs.Flows.{hops_of}
 
 -- the path has the server
 pub bits_at : (path queues : List ℕ) (s b k : ℕ) → length queues ≡ length path → k < length path → get_or path k 0 ≡ s → path_bits s (hops_along path queues) b ≡ b

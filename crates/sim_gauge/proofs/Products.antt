@@ -1,13 +1,12 @@
 -- The simulation gauge, from the sizes of the numbers that were gathered.
-use Rattle.std.proofs.Common.{◌≡◌, ℕ, zero, suc, ◌<◌, ◌≤◌, ◌+◌, ◌*◌, ◌^◌, List, [], ◌∷◌, ◌++◌, refl, sym, ap, ◌∙◌, subst, arith, inl, inr, append-nil}
-use Rattle.std.specs.Prelude.{pos, max, sum_by}
-use Rattle.std.proofs.lemmas.Bool.{cases_lt}
-use native.Mathlib.Nat.{le-mul_of_pos_right, mul-le-mul_right}
-use Rattle.rational.specs.Rational.{ℚ, int, den, ◌*ℚ◌}
-use Rattle.rational.specs.Gauge.{Kept, lcm, common_den, bound_of, size_up}
+use Rattle.std.proofs.Common.{◌≡◌, ℕ, ◌<◌, ◌≤◌, ◌*◌, ◌^◌, List, [], ◌∷◌, ◌++◌, ap, ◌∙◌, arith, append-nil}
+use Rattle.std.specs.Prelude.{pos, max}
+use native.Mathlib.Nat.{le-mul_of_pos_right}
+use Rattle.rational.specs.Rational.{ℚ, int, ◌*ℚ◌}
+use Rattle.rational.specs.Gauge.{common_den, bound_of, size_up}
 use Rattle.min_plus.specs.WholeUp.{whole_up}
-use Rattle.upp_limits.specs.Limits.{Numbers, Sizes, joined, time_alone, value_alone, twice, sizes_of, gauge_of}
-use Rattle.upp_limits.specs.Sized.{AreSizes, HeldBy}
+use Rattle.upp_limits.specs.Limits.{Numbers, Sizes, joined, value_alone, twice, sizes_of, gauge_of}
+use Rattle.upp_limits.specs.Sized.{HeldBy}
 use Rattle.upp_limits.proofs.Gathering.{bound_more}
 use Rattle.upp_limits.proofs.CurveStands.{are_sizes}
 use Rattle.upp_limits.proofs.CommonDen.{common_den_each, same_common_den, size_up_within, size_up_least}
@@ -21,7 +20,7 @@ use Rattle.net_model.specs.Networks.{Net}
 use Rattle.net_model.specs.Traces.{SpecTrace}
 use Rattle.stated_runs.specs.FromTraces.{setup_of}
 use Rattle.sim_bounds.specs.Horizons.{horizon}
-use Rattle.sim_bounds.specs.Gauge.{rates_of, common_num, simulation_numbers, total_bits, simulation_sizes, simulation_gauge}
+use Rattle.sim_bounds.specs.Gauge.{rates_of, common_num, simulation_numbers, total_bits, simulation_gauge}
 use Rattle.sim_gauge.specs.Rated.{gauge_with}
 
 -- ---- a finer grid makes no gauge smaller

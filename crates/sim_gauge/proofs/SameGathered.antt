@@ -2,7 +2,6 @@
 use Rattle.std.proofs.Common.{◌≡◌, List, [], ◌∷◌, ◌++◌, refl, ap, ◌∙◌, subst}
 use Rattle.std.specs.List.{AllByRecursion}
 use Rattle.rational.specs.Rational.{ℚ}
-use Rattle.rational.specs.Grid.{Whole}
 use Rattle.rational.specs.Gauge.{Kept, common_den}
 use Rattle.upp_curve.specs.Curve.{SpecCurve}
 use Rattle.upp_limits.specs.declared.gathered.Gathered.{Gathered}
@@ -11,7 +10,6 @@ use Rattle.upp_limits.specs.Gathered.{Gathers}
 use Rattle.upp_limits.proofs.Every.{every_append, every_left, every_right}
 use Rattle.upp_limits.proofs.CommonDen.{common_den_each, same_common_den}
 use Rattle.upp_limits.proofs.JoinedNumbers.{joined_assoc}
-use Rattle.upp_limits.proofs.ClosedForms.{IsGrid, IsFilled, Holds}
 use Rattle.upp_limits.proofs.SameSizes.{Equals, turned, times_pass, den_values, den_slopes, bound_values, bound_slopes}
 use Rattle.sim_bounds.specs.Gauge.{numbers_to, numbers_of_curves}
 use Rattle.sim_gauge.specs.Named.{times_alone}

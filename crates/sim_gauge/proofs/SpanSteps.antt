@@ -1,9 +1,9 @@
 -- Where the numbers on the way to the horizon fit, the steps to a server's span do.
 use Rattle.std.proofs.Common.{◌≡◌, ℕ, suc, ◌+◌, ◌<◌, List, [], ◌++◌, length, get_or, map, refl, sym, ap, ◌∙◌, subst, arith}
-use Rattle.std.specs.Prelude.{Option, pos, Contains}
+use Rattle.std.specs.Prelude.{pos, Contains}
 use Rattle.std.proofs.lemmas.List.{length-map}
 use Rattle.rational.specs.Rational.{ℚ, int, ◌+ℚ◌, ◌*ℚ◌, ◌/ℚ◌}
-use Rattle.rational.specs.Ratio.{IsSmall, SumFits}
+use Rattle.rational.specs.Ratio.{SumFits}
 use Rattle.upp_curve.specs.Curve.{SpecCurve}
 use Rattle.run_laws.specs.Cards.{whole}
 use Rattle.run_laws.specs.Routes.{link_at}
@@ -15,9 +15,8 @@ use Rattle.net_model.specs.Networks.{Net, NetServer}
 use Rattle.net_model.specs.NetRoutes.{server_for}
 use Rattle.net_model.specs.Traces.{SpecTrace}
 use Rattle.net_model.specs.Views.{server_of, servers_of}
-use Rattle.stated_runs.specs.Setups.{GateTimes, StallTimes, Opening, IsGateFor, opening_of, rate_of}
+use Rattle.stated_runs.specs.Setups.{Opening, IsGateFor, opening_of, rate_of}
 use Rattle.stated_runs.specs.FromTraces.{gate_of, stalls_at, setup_of}
-use Rattle.stated_runs.specs.TimeGrids.{IsTime}
 use Rattle.stated_runs.proofs.Lists.{In, in_contains}
 use Rattle.sim_bounds.specs.Horizons.{load, gate_ratio, gate_cycle, stalled_for, first_time, span, sum_below}
 use Rattle.upp_limits.specs.Limits.{joined, time_alone}

@@ -1,5 +1,5 @@
 -- The pieces of a curve that start at the end of its window, without unrolling it. (Own choice.)
-use Rattle.std.specs.Prelude.{◌≡◌, ℕ, ◌<◌, ◌^◌, pos, cond, List, [], ◌∷◌}
+use Rattle.std.specs.Prelude.{◌≡◌, ◌<◌, ◌^◌, pos, cond, List, [], ◌∷◌}
 use Rattle.std.specs.List.{flat_map}
 use Rattle.rational.specs.Rational.{ℚ, ◌+ℚ◌, ◌*ℚ◌, ◌≤ℚ◌, ◌<ℚ◌, int, lt_q}
 use Rattle.upp_curve.specs.declared.curve.Tail.{Tail}

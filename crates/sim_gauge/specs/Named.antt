@@ -1,5 +1,5 @@
 -- The numbers that a network and a trace name, in the order in which the code meets them. (Own choice.)
-use Rattle.std.specs.Prelude.{ℕ, List, [], ◌∷◌, map}
+use Rattle.std.specs.Prelude.{List, [], ◌∷◌, map}
 use Rattle.std.specs.List.{flat_map}
 use Rattle.rational.specs.Rational.{ℚ}
 use Rattle.upp_limits.specs.Limits.{Numbers}

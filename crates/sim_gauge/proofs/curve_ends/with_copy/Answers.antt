@@ -1,4 +1,4 @@
-use Rattle.std.proofs.Common.{◌≡◌, ◌+◌, ◌<◌, ◌^◌, ◌∙◌, sym, ap, subst, arith}
+use Rattle.std.proofs.Common.{◌≡◌, ◌<◌, ◌^◌, ◌∙◌, sym, ap, subst}
 use Rattle.std.specs.Prelude.{pos}
 use Rattle.rational.specs.Rational.{int, ◌+ℚ◌, ◌*ℚ◌, ◌≤ℚ◌, ◌<ℚ◌}
 use Rattle.rational.proofs.Compared.{not_less_out}
@@ -10,7 +10,7 @@ use Rattle.upp_limits.specs.Seen.{seen_of, SeenRises}
 use Rattle.upp_limits.specs.ClosedForm.{last_numbers}
 use Rattle.upp_limits.specs.Gathered.{Gathers}
 use Rattle.upp_limits.proofs.SpanNumbers.{if_some_map}
-use Rattle.sim_gauge.specs.CurveEnds.{next_copy, numbers_with}
+use Rattle.sim_gauge.specs.CurveEnds.{next_copy}
 use Rattle.sim_gauge.proofs.EndSpans.{copy_numbers, copy_there, no_copy, count_is, count_many}
 use Rattle.sim_gauge.proofs.curve_ends.with_copy.Goals as goal
 

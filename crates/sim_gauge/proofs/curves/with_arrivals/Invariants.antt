@@ -1,7 +1,6 @@
 use Rattle.std.proofs.Common.{◌≡◌, drop}
 use Rattle.upp_limits.specs.Limits.{Numbers, joined}
 use Rattle.upp_limits.specs.Gathered.{Gathers}
-use Rattle.std.specs.Prelude.{[], ◌∷◌}
 use Rattle.net_model.specs.Views.{flows_of}
 use Rattle.sim_bounds.specs.Gauge.{numbers_of_curves, arrivals_of}
 use Rattle.sim_gauge.proofs.curves.with_arrivals.Given as goal

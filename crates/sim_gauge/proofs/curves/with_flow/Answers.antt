@@ -1,6 +1,6 @@
-use Rattle.std.proofs.Common.{◌≡◌, sym, ap, ◌∙◌, subst, Some, None}
+use Rattle.std.proofs.Common.{◌≡◌, sym, ap, ◌∙◌, subst}
 use Rattle.std.specs.Prelude.{[], ◌∷◌}
-use Rattle.upp_limits.specs.Limits.{joined, no_numbers}
+use Rattle.upp_limits.specs.Limits.{joined}
 use Rattle.upp_limits.specs.Sized.{HeldBy}
 use Rattle.upp_limits.specs.Gathered.{Gathers}
 use Rattle.upp_limits.proofs.Gathering.{gathers_same}

@@ -1,10 +1,7 @@
 use Rattle.std.proofs.Common.{subst}
 use Rattle.upp_limits.specs.Limits.{joined}
 use Rattle.upp_limits.specs.Gathered.{Gathers}
-use Rattle.std.specs.Prelude.{map}
-use Rattle.net_model.specs.Networks.{NetServer}
-use Rattle.net_model.specs.Views.{servers_of}
-use Rattle.sim_bounds.specs.Gauge.{numbers_to, numbers_of_curves}
+use Rattle.sim_bounds.specs.Gauge.{numbers_to}
 use Rattle.sim_gauge.proofs.Loops.{next_part, last_part, held_part, service_parts}
 use Rattle.sim_gauge.proofs.curves.with_services.Goals as goal
 

@@ -4,7 +4,7 @@ use Rattle.upp_limits.specs.Gathered.{Gathers}
 use Rattle.std.specs.Prelude.{map}
 use Rattle.net_model.specs.Networks.{NetServer}
 use Rattle.net_model.specs.Views.{servers_of}
-use Rattle.sim_bounds.specs.Gauge.{numbers_to, numbers_of_curves}
+use Rattle.sim_bounds.specs.Gauge.{numbers_of_curves}
 use Rattle.sim_gauge.proofs.curves.with_services.Given as goal
 
 -- what is gathered, and the numbers of those that are left, make the whole

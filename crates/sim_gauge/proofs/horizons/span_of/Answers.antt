@@ -1,4 +1,4 @@
-use Rattle.std.proofs.Common.{◌≡◌, sym, ap, ◌∙◌, subst}
+use Rattle.std.proofs.Common.{sym, ap, ◌∙◌, subst}
 use Rattle.std.specs.Prelude.{pos}
 use Rattle.rational.specs.Rational.{int, ◌+ℚ◌, ◌*ℚ◌, ◌/ℚ◌}
 use Rattle.rational.specs.Ratio.{SumFits}

@@ -1,4 +1,4 @@
-use Rattle.std.proofs.Common.{◌<◌, length, sym, arith}
+use Rattle.std.proofs.Common.{sym, arith}
 use Rattle.sim_gauge.proofs.Paths.{bits_at, bits_nowhere}
 use Rattle.sim_gauge.proofs.loads.bits_on.Goals as goal
 

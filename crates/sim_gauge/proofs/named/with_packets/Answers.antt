@@ -2,7 +2,6 @@ use Rattle.std.proofs.Common.{subst}
 use Rattle.upp_limits.specs.Limits.{joined}
 use Rattle.upp_limits.specs.Gathered.{Gathers}
 use Rattle.upp_limits.specs.Limits.{time_alone}
-use Rattle.sim_gauge.specs.Named.{packet_numbers}
 use Rattle.sim_gauge.proofs.Loops.{next_part, last_part, packet_parts}
 use Rattle.sim_gauge.proofs.named.with_packets.Goals as goal
 

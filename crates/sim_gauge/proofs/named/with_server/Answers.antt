@@ -1,5 +1,5 @@
-use Rattle.std.proofs.Common.{◌≡◌, subst}
-use Rattle.upp_limits.specs.Limits.{joined, time_alone, slope_alone}
+use Rattle.std.proofs.Common.{subst}
+use Rattle.upp_limits.specs.Limits.{joined, time_alone}
 use Rattle.upp_limits.specs.Gathered.{Gathers}
 use Rattle.net_model.specs.Views.{server_of}
 use Rattle.stated_runs.specs.FromTraces.{gate_of}

@@ -1,8 +1,8 @@
 use Rattle.std.proofs.Common.{subst}
 use Rattle.upp_limits.specs.Limits.{joined}
 use Rattle.upp_limits.specs.Gathered.{Gathers}
-use Rattle.net_model.specs.Views.{server_of, servers_of}
-use Rattle.sim_gauge.specs.Named.{server_number, server_numbers}
+use Rattle.net_model.specs.Views.{server_of}
+use Rattle.sim_gauge.specs.Named.{server_number}
 use Rattle.sim_gauge.proofs.Loops.{next_part, last_part, server_parts}
 use Rattle.sim_gauge.proofs.named.with_servers.Goals as goal
 

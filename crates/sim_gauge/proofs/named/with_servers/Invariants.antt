@@ -1,8 +1,8 @@
 use Rattle.std.proofs.Common.{◌≡◌, drop}
 use Rattle.upp_limits.specs.Limits.{Numbers, joined}
 use Rattle.upp_limits.specs.Gathered.{Gathers}
-use Rattle.net_model.specs.Views.{server_of, servers_of}
-use Rattle.sim_gauge.specs.Named.{server_number, server_numbers}
+use Rattle.net_model.specs.Views.{servers_of}
+use Rattle.sim_gauge.specs.Named.{server_numbers}
 use Rattle.sim_gauge.proofs.named.with_servers.Given as goal
 
 -- what is gathered, and the numbers of those that are left, make the whole

@@ -2,7 +2,7 @@ use Rattle.std.proofs.Common.{subst}
 use Rattle.upp_limits.specs.Limits.{joined}
 use Rattle.upp_limits.specs.Gathered.{Gathers}
 use Rattle.sim_bounds.specs.Gauge.{stall_times}
-use Rattle.sim_gauge.specs.Named.{times_alone, stall_numbers}
+use Rattle.sim_gauge.specs.Named.{times_alone}
 use Rattle.sim_gauge.proofs.Loops.{next_part, last_part, stall_parts}
 use Rattle.sim_gauge.proofs.named.with_stalls.Goals as goal
 

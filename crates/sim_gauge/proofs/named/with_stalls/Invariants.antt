@@ -1,8 +1,7 @@
 use Rattle.std.proofs.Common.{◌≡◌, drop}
 use Rattle.upp_limits.specs.Limits.{Numbers, joined}
 use Rattle.upp_limits.specs.Gathered.{Gathers}
-use Rattle.sim_bounds.specs.Gauge.{stall_times}
-use Rattle.sim_gauge.specs.Named.{times_alone, stall_numbers}
+use Rattle.sim_gauge.specs.Named.{stall_numbers}
 use Rattle.sim_gauge.proofs.named.with_stalls.Given as goal
 
 -- what is gathered, and the numbers of those that are left, make the whole

@@ -1,14 +1,13 @@
 use Rattle.std.proofs.Common.{◌≡◌, ◌+◌, ◌∙◌, sym, ap, subst, arith, drop}
-use Rattle.std.specs.Prelude.{pos}
 use Rattle.std.proofs.lemmas.List.{drop_all}
-use Rattle.rational.specs.Rational.{int, ◌+ℚ◌}
+use Rattle.rational.specs.Rational.{◌+ℚ◌}
 use Rattle.rational.proofs.Laws.{antisym, add_zero}
 use Rattle.rational.proofs.Linear.{with1}
 use Rattle.net_model.specs.declared.trace.Stall.{Stall}
 use Rattle.stated_runs.specs.FromTraces.{stalls_at}
 use Rattle.sim_bounds.specs.Horizons.{stalled_for}
 use Rattle.sim_gauge.specs.Steps.{StallsFit}
-use Rattle.sim_gauge.proofs.Parts.{stalled_step, fits_step, fits_here, stall_elsewhere}
+use Rattle.sim_gauge.proofs.Parts.{stalled_step, fits_step, stall_elsewhere}
 use Rattle.sim_gauge.proofs.spans.stalled.Goals.{then-stall-server+in-Some, else-stall-server}
 use Rattle.sim_gauge.proofs.spans.stalled.Goals as goal
 

@@ -1,4 +1,4 @@
-use Rattle.std.proofs.Common.{◌≡◌, ◌*◌, ◌<◌, ◌^◌, ◌≤◌, arith, refl, subst, sym}
+use Rattle.std.proofs.Common.{◌*◌, ◌<◌, ◌^◌, ◌≤◌, arith, refl, subst, sym}
 use Rattle.std.proofs.lemmas.Bool.{leb-true, le-leb}
 use Rattle.upp_limits.specs.Limits.{sizes_of}
 use Rattle.upp_limits.proofs.CurveStands.{are_sizes}

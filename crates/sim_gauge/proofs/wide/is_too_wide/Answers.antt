@@ -1,4 +1,6 @@
-use Rattle.std.proofs.Common.{◌≡◌, ◌≤◌, ◌^◌, map, sym, ap, ◌∙◌, subst}
+use Rattle.std.proofs.Common.{◌≡◌, ◌≤◌, ◌^◌, map, sym, ap, ◌∙◌, subst, arith, to_z}
+use mir.Syntax.{w128}
+use Rattle.std.proofs.lemmas.Int.{ints}
 use Rattle.std.specs.Prelude.{IsTrue, pos, ◌↔◌}
 use Rattle.std.specs.List.{AllByRecursion}
 use Rattle.rational.specs.Rational.{int, ◌<ℚ◌}
@@ -22,7 +24,8 @@ returns-in-Some c =
     let net = c.args.net.now in
     let trace = c.args.trace.now in
     let end = c.in-Some.way.end in
-    let bits : c.from_whole-bits.result ≡ int (pos (total_bits trace)) = c.from_whole-bits.ensures ∙ ap (λ n. int (pos n)) c.bits_of.ensures in
+    let own : to_z w128 c.bits_of.result ≡ pos c.bits_of.result = omega (arith, ints) in
+    let bits : c.from_whole-bits.result ≡ int (pos (total_bits trace)) = c.from_whole-bits.ensures ∙ ap int own ∙ ap (λ n. int (pos n)) c.bits_of.ensures in
     let all = joined (simulation_numbers net trace) (value_alone (int (pos (total_bits trace)))) in
     let r = common_num (rates_of net) in
     let found : Gathers c.with_value-found.result (joined (time_alone end) all) =

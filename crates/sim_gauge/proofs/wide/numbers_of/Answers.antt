@@ -1,4 +1,4 @@
-use Rattle.std.proofs.Common.{◌≡◌, map, sym, subst, true≢false}
+use Rattle.std.proofs.Common.{map, sym, subst, true≢false}
 use Rattle.upp_limits.specs.Limits.{joined, time_alone}
 use Rattle.upp_limits.specs.Sized.{HeldBy}
 use Rattle.upp_limits.specs.Gathered.{Gathers}
