@@ -61,7 +61,9 @@ fn with_copy(
         return Some(started);
     }
     match whole(copies) {
-        Some(times) => started.with_line(piece.line).with_last(piece, next, times, rise),
+        Some(times) => started
+            .with_line(piece.line)
+            .with_last(piece, next, times, rise),
         None => None,
     }
 }
