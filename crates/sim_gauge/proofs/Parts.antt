@@ -15,38 +15,10 @@ use Rattle.net_model.specs.Networks.{Net, NetServer}
 use Rattle.net_model.specs.NetRoutes.{link_for}
 use Rattle.net_model.specs.Traces.{SpecTrace}
 use Rattle.stated_runs.specs.Setups.{StallTimes, Opening, opening_of, rate_of}
+use Rattle.stated_runs.proofs.ServerSetups.{ServerIs}
 use Rattle.stated_runs.specs.FromTraces.{gate_of, stalls_at, openings_from, entering, setup_of}
 use Rattle.sim_bounds.specs.Horizons.{path_bits, bits_through, load, gate_ratio, gate_cycle, stalled_for, span}
 use Rattle.sim_gauge.specs.Steps.{StallsFit}
-
--- ---- a server
-pub made_at : {X Y : Type 0} (f : X → Y) (xs : List X) (k : ℕ) (x : X) (d : Y) → k < length xs → get_or xs k x ≡ x → get_or (map f xs) k d ≡ f x
-made_at f [] k x d h e = absurd (omega (arith, h))
-made_at f (y ∷ ys) zero x d h e = ap f e
-made_at f (y ∷ ys) (suc k) x d h e = made_at f ys k x d (omega (arith, h)) e
-
-opening_at : (j : ℕ) (xs : List NetServer) (stalls : List Stall) (k : ℕ) (x : NetServer) (d : Opening) → k < length xs → get_or xs k x ≡ x
-    → get_or (openings_from j xs stalls) k d ≡ record { gate = gate_of x.kind; stalls = stalls_at (j + k) stalls }
-opening_at j [] stalls k x d h e = absurd (omega (arith, h))
-opening_at j (y ∷ ys) stalls zero x d h e =
-    ap (λ (z : NetServer). let o : Opening = record { gate = gate_of z.kind; stalls = stalls_at j stalls } in o) e
-    ∙ ap (λ i. let o : Opening = record { gate = gate_of x.kind; stalls = stalls_at i stalls } in o) (let q : j ≡ j + 0 = omega arith in q)
-opening_at j (y ∷ ys) stalls (suc k) x d h e =
-    opening_at (suc j) ys stalls k x d (omega (arith, h)) e
-    ∙ ap (λ i. let o : Opening = record { gate = gate_of x.kind; stalls = stalls_at i stalls } in o) (let q : suc j + k ≡ j + suc k = omega arith in q)
-
-pub record ServerIs (net : Net) (trace : SpecTrace) (s : ℕ) (x : NetServer) : Type 0 where
-  pub rate : rate_of (setup_of net trace) s ≡ x.rate
-  pub opening : opening_of (setup_of net trace) s ≡ record { gate = gate_of x.kind; stalls = stalls_at s trace.stalls }
-  pub link : link_at (setup_of net trace).net s ≡ x.link
-
-pub server_is : (net : Net) (trace : SpecTrace) (s : ℕ) (x : NetServer) → s < length net.servers → get_or net.servers s x ≡ x → ServerIs net trace s x
-server_is net trace s x h e = record {
-  rate = made_at (λ (y : NetServer). y.rate) net.servers s x (int (pos 1)) h e;
-  opening = opening_at 0 net.servers trace.stalls s x record { gate = None; stalls = [] } h e
-      ∙ ap (λ i. let o : Opening = record { gate = gate_of x.kind; stalls = stalls_at i trace.stalls } in o) (let q : 0 + s ≡ s = omega arith in q);
-  link = made_at link_for net.servers s x (int (pos 0)) h e;
-}
 
 -- the span, from a server's own fields
 pub own_span : (net : Net) (trace : SpecTrace) (s : ℕ) (x : NetServer) → ServerIs net trace s x

@@ -27,7 +27,7 @@ use Rattle.sim_gauge.specs.Named.{times_alone}
 use Rattle.sim_bounds.specs.Way.{HorizonFits}
 use Rattle.sim_bounds.proofs.Members.{at_in_list}
 use Rattle.sim_gauge.specs.Steps.{WorkFits, StallsFit}
-use Rattle.sim_gauge.proofs.Parts.{ServerIs, made_at}
+use Rattle.stated_runs.proofs.ServerSetups.{ServerIs, made_at}
 use Rattle.sim_gauge.proofs.Rooms.{time_small, times_add, stalls_fit}
 
 pub record SpanSteps (bits : ℕ) (o : Opening) (rate wire : ℚ) : Type 0 where

@@ -12,3 +12,4 @@ pub mod Opens
 pub mod AllLeft
 pub mod Starting
 pub mod MadeSetups
+pub mod ServerSetups

@@ -9,7 +9,8 @@ use Rattle.net_model.specs.Views.{server_of}
 use Rattle.stated_runs.specs.FromTraces.{gate_of, setup_of, stalls_at}
 use Rattle.sim_bounds.specs.Horizons.{load, gate_ratio, gate_cycle, stalled_for}
 use Rattle.sim_gauge.specs.Steps.{WorkFits, StallsFit}
-use Rattle.sim_gauge.proofs.Parts.{server_is, own_span}
+use Rattle.stated_runs.proofs.ServerSetups.{server_is}
+use Rattle.sim_gauge.proofs.Parts.{own_span}
 use Rattle.sim_gauge.proofs.SpanSteps.{span_steps, stored, kind_gates}
 use Rattle.sim_gauge.proofs.horizons.span_of.Goals as goal
 
