@@ -1,9 +1,9 @@
 -- A server's part of the setup, and the loops over packets and stalls.
-use Rattle.std.proofs.Common.{◌≡◌, ℕ, zero, suc, ◌<◌, ◌+◌, List, [], ◌∷◌, length, get_or, map, drop, refl, sym, ap, ◌∙◌, subst, arith, None}
-use Rattle.std.specs.Prelude.{◌≢◌, pos}
+use Rattle.std.proofs.Common.{◌≡◌, ℕ, ◌<◌, ◌+◌, List, ◌∷◌, length, get_or, map, drop, refl, sym, ap, ◌∙◌, subst, arith}
+use Rattle.std.specs.Prelude.{◌≢◌}
 use Rattle.std.proofs.lemmas.Bool.{eq-eqb, ne_eqb}
 use Rattle.std.proofs.lemmas.List.{drop_more}
-use Rattle.rational.specs.Rational.{ℚ, int, ◌+ℚ◌, ◌-ℚ◌, neg_ℚ, ◌*ℚ◌, ◌/ℚ◌}
+use Rattle.rational.specs.Rational.{ℚ, ◌+ℚ◌, ◌-ℚ◌, neg_ℚ, ◌*ℚ◌, ◌/ℚ◌}
 use Rattle.rational.specs.Ratio.{SumFits}
 use Rattle.rational.proofs.Linear.{with6}
 use Rattle.rational.proofs.Laws.{antisym}
@@ -12,11 +12,10 @@ use Rattle.run_laws.specs.Routes.{Routes, link_at, route_of}
 use Rattle.net_model.specs.declared.trace.TracePacket.{TracePacket}
 use Rattle.net_model.specs.declared.trace.Stall.{Stall}
 use Rattle.net_model.specs.Networks.{Net, NetServer}
-use Rattle.net_model.specs.NetRoutes.{link_for}
 use Rattle.net_model.specs.Traces.{SpecTrace}
-use Rattle.stated_runs.specs.Setups.{StallTimes, Opening, opening_of, rate_of}
+use Rattle.stated_runs.specs.Setups.{StallTimes, Opening, rate_of}
 use Rattle.stated_runs.proofs.ServerSetups.{ServerIs}
-use Rattle.stated_runs.specs.FromTraces.{gate_of, stalls_at, openings_from, entering, setup_of}
+use Rattle.stated_runs.specs.FromTraces.{gate_of, stalls_at, entering, setup_of}
 use Rattle.sim_bounds.specs.Horizons.{path_bits, bits_through, load, gate_ratio, gate_cycle, stalled_for, span}
 use Rattle.sim_gauge.specs.Steps.{StallsFit}
 
