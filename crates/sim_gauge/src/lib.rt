@@ -8,6 +8,8 @@ mod loads;
 mod named;
 mod spans;
 mod steps;
+#[cfg(test)]
+mod tests;
 mod wide;
 
 pub use wide::is_too_wide;
