@@ -2,6 +2,8 @@
 #![tactic(auto)]
 
 #[cfg(test)]
+mod gauges;
+#[cfg(test)]
 mod links;
 #[cfg(test)]
 mod schedulers;

@@ -79,7 +79,7 @@ is_below z s h =
     }
 
 -- ---- numerators
-num_pos : (x : ℚ) → int (pos 0) <ℚ x → 0 < nat_abs x.num
+pub num_pos : (x : ℚ) → int (pos 0) <ℚ x → 0 < nat_abs x.num
 num_pos x h = by_num x.num refl
   where
     by_num : (z : ℤ) → x.num ≡ z → 0 < nat_abs z

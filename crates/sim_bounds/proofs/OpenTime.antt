@@ -34,13 +34,13 @@ in_cycle c t h k =
     }
 
 -- the times of fewer cycles are earlier
-fewer : (d : ℚ) (m n : ℕ) → int (pos 0) ≤ℚ d → suc m ≤ n → whole m *ℚ d +ℚ d ≤ℚ whole n *ℚ d
+pub fewer : (d : ℚ) (m n : ℕ) → int (pos 0) ≤ℚ d → suc m ≤ n → whole m *ℚ d +ℚ d ≤ℚ whole n *ℚ d
 fewer d m n h l = subst (λ y. y ≤ℚ whole n *ℚ d) (one_more_times m d) (mul_le_mul_right d h (whole_le (suc m) n l))
 
 no_more : (d : ℚ) (m n : ℕ) → int (pos 0) ≤ℚ d → m ≤ n → whole m *ℚ d ≤ℚ whole n *ℚ d
 no_more d m n h l = mul_le_mul_right d h (whole_le m n l)
 
-cycle_order : (c x y : ℚ) (m n : ℕ) → int (pos 0) <ℚ c → IsInCycle c x m → IsInCycle c y n → x ≤ℚ y → m ≤ n
+pub cycle_order : (c x y : ℚ) (m n : ℕ) → int (pos 0) <ℚ c → IsInCycle c x m → IsInCycle c y n → x ≤ℚ y → m ≤ n
 cycle_order c x y m n h a b l = elim (cases_order m n) [
   | inl e ↦ omega (arith, e)
   | inr d ↦ elim d [

@@ -63,7 +63,7 @@ good_start S ok =
     start_later S ok fresh now (Visit s q t) (h, y) = subst (λ u. u ≤ℚ t) (now s h) y.opens.not_before
 
 -- ---- at the end
-under_cases : (o : Option Under) → (o ≡ None) ⊎ ((u : Under) × (o ≡ Some u))
+pub under_cases : (o : Option Under) → (o ≡ None) ⊎ ((u : Under) × (o ≡ Some u))
 under_cases None = inl refl
 under_cases (Some u) = inr (u, refl)
 

@@ -12,3 +12,5 @@ pub mod Opens
 pub mod AllLeft
 pub mod Starting
 pub mod MadeSetups
+pub mod ServerSetups
+pub mod GridTimes

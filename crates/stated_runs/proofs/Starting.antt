@@ -27,7 +27,7 @@ use Rattle.stated_runs.proofs.Progress.{AllKeepTurns, inside_cases, fair_card, h
 use Rattle.run_laws.proofs.Sizes.{size_pos}
 
 -- a start is due at the time at which it opens
-due_start : (S : Setup) → IsSetup S → (r : RunState) (T : ℚ) → IsGood S r T → AllKeepTurns S r → (s : ℕ) → s < length S.net.servers
+pub due_start : (S : Setup) → IsSetup S → (r : RunState) (T : ℚ) → IsGood S r T → AllKeepTurns S r → (s : ℕ) → s < length S.net.servers
     → (state_at r s).under ≡ None → (state_at r s).inside ≢ [] → (t : ℚ) → IsFirstOpen S s (state_at r s).now t
     → (y : Step) × IsDue S r y × (step_time y ≡ t)
 due_start S ok r T g a s h idle some t opens =

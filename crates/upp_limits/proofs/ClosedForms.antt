@@ -42,7 +42,7 @@ make : Ext → Ext → Ext → Seen
 make a b c = record { at = a; after = b; before = c }
 
 -- copy m is m rises higher
-seen_copy : (d c : ℚ) (s : Span) (m : ℕ) → seen_of (copy_of d c s m) ≡ seen_risen (seen_of s) (int (pos m) *ℚ c)
+pub seen_copy : (d c : ℚ) (s : Span) (m : ℕ) → seen_of (copy_of d c s m) ≡ seen_risen (seen_of s) (int (pos m) *ℚ c)
 unfolding make
 seen_copy d c s m =
     let y = int (pos m) *ℚ d in
@@ -51,7 +51,7 @@ seen_copy d c s m =
     ap (λ v. make a v (limit_before (line_later y z s.piece.line) (next_later y s.next))) (line_moved s.piece.line y z s.piece.x)
     ∙ ap (λ v. make a (line_value s.piece.line s.piece.x +ₑ Fin z) v) (before_moved s.piece.line s.next y z)
 
-slope_later : (d c : ℚ) (l : Option Line) → line_slope (line_later d c l) ≡ line_slope l
+pub slope_later : (d c : ℚ) (l : Option Line) → line_slope (line_later d c l) ≡ line_slope l
 slope_later d c None = refl
 slope_later d c (Some l) = refl
 

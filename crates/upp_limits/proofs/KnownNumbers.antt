@@ -101,7 +101,7 @@ value_rises z end (Fin v) n rise a b h k =
       sum = small_sum z end 1 2 v y a b (omega arith) (value_whole z v h) w (value_within z v h) i;
     }
 
-seen_rises : (z : Sizes) (end : ℚ) (s : Span) (period rise : ℚ) (m : ℕ) → AreSizes z end → IsNarrow z (2 ^ 122) → SpanStands z s → SpanStands z (copy_of period rise s m)
+pub seen_rises : (z : Sizes) (end : ℚ) (s : Span) (period rise : ℚ) (m : ℕ) → AreSizes z end → IsNarrow z (2 ^ 122) → SpanStands z s → SpanStands z (copy_of period rise s m)
     → SeenRises (seen_of s) (int (pos m)) rise
 seen_rises z end s period rise m a n h k =
     let y = int (pos m) *ℚ period in

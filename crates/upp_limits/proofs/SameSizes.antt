@@ -49,21 +49,21 @@ any_filled : IsFilled any
 unfolding any
 any_filled = record { between = λ x c n m h k l w. tt }
 
-times_pass : (a b : Numbers) (m : ℕ) → Equals a b → AllByRecursion (Whole m) a.times → AllByRecursion (Whole m) b.times
+pub times_pass : (a b : Numbers) (m : ℕ) → Equals a b → AllByRecursion (Whole m) a.times → AllByRecursion (Whole m) b.times
 times_pass a b m p h =
     (p.there (Whole m) any any (whole_grid m) any_filled record { times = h; values = every_any a.values; slopes = every_any a.slopes }).times
 
-values_pass : (a b : Numbers) (V : ℚ → Type 0) → Equals a b → IsFilled V → AllByRecursion V a.values → AllByRecursion V b.values
+pub values_pass : (a b : Numbers) (V : ℚ → Type 0) → Equals a b → IsFilled V → AllByRecursion V a.values → AllByRecursion V b.values
 values_pass a b V p f h = (p.there any V any any_grid f record { times = every_any a.times; values = h; slopes = every_any a.slopes }).values
 
-slopes_pass : (a b : Numbers) (S : ℚ → Type 0) → Equals a b → AllByRecursion S a.slopes → AllByRecursion S b.slopes
+pub slopes_pass : (a b : Numbers) (S : ℚ → Type 0) → Equals a b → AllByRecursion S a.slopes → AllByRecursion S b.slopes
 slopes_pass a b S p h = (p.there any any S any_grid any_filled record { times = every_any a.times; values = every_any a.values; slopes = h }).slopes
 
-turned : (a b : Numbers) → Equals a b → Equals b a
+pub turned : (a b : Numbers) → Equals a b → Equals b a
 turned a b p = record { there = p.back; back = p.there }
 
 -- ---- the sizes
-den_values : (a b : Numbers) → Equals a b → common_den a.values ≡ common_den b.values
+pub den_values : (a b : Numbers) → Equals a b → common_den a.values ≡ common_den b.values
 den_values a b p =
     same_common_den a.values b.values
     (values_pass b a (Whole (common_den b.values)) (turned a b p) (whole_filled (common_den b.values)) (common_den_each b.values))
@@ -77,13 +77,13 @@ den_times end a b p =
     (y.0, times_pass b a (common_den (end ∷ b.times)) (turned a b p) y.1)
     (x.0, times_pass a b (common_den (end ∷ a.times)) p x.1)
 
-den_slopes : (a b : Numbers) → Equals a b → common_den a.slopes ≡ common_den b.slopes
+pub den_slopes : (a b : Numbers) → Equals a b → common_den a.slopes ≡ common_den b.slopes
 den_slopes a b p =
     same_common_den a.slopes b.slopes
     (slopes_pass b a (Whole (common_den b.slopes)) (turned a b p) (common_den_each b.slopes))
     (slopes_pass a b (Whole (common_den a.slopes)) p (common_den_each a.slopes))
 
-bound_values : (a b : Numbers) → Equals a b → bound_of a.values ≡ bound_of b.values
+pub bound_values : (a b : Numbers) → Equals a b → bound_of a.values ≡ bound_of b.values
 bound_values a b p =
     let v = int (pos (bound_of b.values)) in
     let u = int (pos (bound_of a.values)) in
@@ -94,7 +94,7 @@ bound_values a b p =
     at_most : (n : ℕ) → n ≤ n
     at_most n = omega arith
 
-bound_slopes : (a b : Numbers) → Equals a b → bound_of (twice a.slopes) ≡ bound_of (twice b.slopes)
+pub bound_slopes : (a b : Numbers) → Equals a b → bound_of (twice a.slopes) ≡ bound_of (twice b.slopes)
 bound_slopes a b p =
     same_bound (twice a.slopes) (twice b.slopes) (steep b a (turned a b p)) (steep a b p)
   where

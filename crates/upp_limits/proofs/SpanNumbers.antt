@@ -16,11 +16,11 @@ pub if_some_map : {A : Type 0} (o : Option A) (P Q : A → Type 0) → ((a : A) 
 if_some_map None P Q f h = h
 if_some_map (Some a) P Q f h = f a h
 
-cap_exact : (m n : ℕ) → m ≡ cap n → m ≢ 2 ^ 128 - 1 → m ≡ n
+pub cap_exact : (m n : ℕ) → m ≡ cap n → m ≢ 2 ^ 128 - 1 → m ≡ n
 unfolding cap
 cap_exact m n e h = omega (arith, e, h)
 
-cap_many : (m n : ℕ) → m ≡ cap n → m ≡ 2 ^ 128 - 1 → n < 2 ^ 127 → ⊥
+pub cap_many : (m n : ℕ) → m ≡ cap n → m ≡ 2 ^ 128 - 1 → n < 2 ^ 127 → ⊥
 unfolding cap
 cap_many m n e f h = omega (arith, e, f, h)
 

@@ -19,7 +19,7 @@ use fraction128::{Frac, is_less};
 use upp_curve::Tail;
 
 /// A whole number as a fraction.
-fn whole(n: u128) -> Option<Frac>
+pub fn whole(n: u128) -> Option<Frac>
     ensures value { IfSome result (λ f. f ≡ int (pos n)) }
     ensures fits { n < 2 ^ 127 → IsSome result }
 {
@@ -117,7 +117,7 @@ pub(crate) fn with_below(
 }
 
 /// A piece without a line that is read at no time.
-pub(crate) fn piece_read(piece: &Piece, tail: &Tail) -> Piece
+pub fn piece_read(piece: &Piece, tail: &Tail) -> Piece
     ensures { result ≡ piece_read tail.now piece.now }
 {
     match tail {
@@ -135,7 +135,7 @@ pub(crate) fn piece_read(piece: &Piece, tail: &Tail) -> Piece
 }
 
 /// Where the piece after number i starts, or `after` at the last one.
-pub(crate) fn next_start(pieces: &[Piece], i: usize, after: &Option<Frac>) -> Option<Frac>
+pub fn next_start(pieces: &[Piece], i: usize, after: &Option<Frac>) -> Option<Frac>
     requires { i < length pieces.now }
     ensures { result ≡ start_after (drop (i + 1) pieces.now) after.now }
 {

@@ -19,7 +19,7 @@ use rational::Extended;
 /// The sizes of the numbers so far: the least common denominators of values, times and slopes, twice the largest slope
 /// and the largest value rounded up. Each is right up to the largest number and stays there.
 #[derive(Debug, Clone, Copy)]
-pub(crate) struct Gathered {
+pub struct Gathered {
     pub dv: u128,
     pub dt: u128,
     pub ds: u128,
@@ -28,7 +28,7 @@ pub(crate) struct Gathered {
 }
 
 /// The least common multiple of a and what b stands for.
-fn common_multiple(a: u128, b: u128) -> u128
+pub fn common_multiple(a: u128, b: u128) -> u128
     requires { 0 < a }
     ensures { (n : ℕ) → Kept b n → Kept result (lcm a n) }
 {
@@ -53,7 +53,7 @@ fn twice_size_up(x: Frac) -> u128
 
 impl Gathered {
     /// No number.
-    pub(crate) fn nothing() -> Gathered
+    pub fn nothing() -> Gathered
         ensures { Gathers result no_numbers }
     {
         Gathered {
@@ -66,7 +66,7 @@ impl Gathered {
     }
 
     /// A time more.
-    pub(crate) fn with_time(self, x: Frac) -> Gathered
+    pub fn with_time(self, x: Frac) -> Gathered
         ensures { (n : Numbers) → Gathers self n → Gathers result (joined n (time_alone x)) }
     {
         let (_, bottom) = sizes(x);
@@ -77,7 +77,7 @@ impl Gathered {
     }
 
     /// A value more.
-    pub(crate) fn with_value(self, x: Frac) -> Gathered
+    pub fn with_value(self, x: Frac) -> Gathered
         ensures { (n : Numbers) → Gathers self n → Gathers result (joined n (value_alone x)) }
     {
         let (_, bottom) = sizes(x);
@@ -89,7 +89,7 @@ impl Gathered {
     }
 
     /// A slope more.
-    pub(crate) fn with_slope(self, x: Frac) -> Gathered
+    pub fn with_slope(self, x: Frac) -> Gathered
         ensures { (n : Numbers) → Gathers self n → Gathers result (joined n (slope_alone x)) }
     {
         let (_, bottom) = sizes(x);
@@ -111,7 +111,7 @@ impl Gathered {
     }
 
     /// The slope of a line more, where there is one.
-    fn with_line(self, line: Option<Line>) -> Gathered
+    pub fn with_line(self, line: Option<Line>) -> Gathered
         ensures { (n : Numbers) → Gathers self n → Gathers result (joined n (slopes_alone (line_slope line))) }
     {
         match line {
@@ -121,7 +121,7 @@ impl Gathered {
     }
 
     /// A piece more: its start, its values and its slope, where the steps to the values fit.
-    pub(crate) fn with_span(self, piece: &Piece, next: &Option<Frac>) -> Option<Gathered>
+    pub fn with_span(self, piece: &Piece, next: &Option<Frac>) -> Option<Gathered>
         ensures value { let span : Span = record { piece = piece.now; next = next.now } in
             IfSome result (λ r. (n : Numbers) → Gathers self n → Gathers r (joined n (span_numbers span))) }
         ensures fits { let span : Span = record { piece = piece.now; next = next.now } in
@@ -138,7 +138,7 @@ impl Gathered {
     }
 
     /// The values of a piece more, n times the rise higher.
-    pub(crate) fn with_last(
+    pub fn with_last(
         &self,
         piece: &Piece,
         next: &Option<Frac>,

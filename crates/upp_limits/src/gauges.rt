@@ -12,7 +12,7 @@ use crate::starts::sizes;
 use fraction128::{Frac, is_less};
 
 /// steepness times `end`, rounded up, and 0 below 0. None where it is past the largest number before it is divided.
-fn reach(steepness: u128, end: Frac) -> Option<u128>
+pub fn reach(steepness: u128, end: Frac) -> Option<u128>
     ensures value { IfSome result (λ r. r ≡ whole_up (int (pos steepness) *ℚ end)) }
     ensures big { IfNone result (2 ^ 128 ≤ steepness * nat_abs end.num) }
     ensures nonneg { IfNone result (int (pos 0) ≤ℚ end) }
@@ -29,7 +29,7 @@ fn reach(steepness: u128, end: Frac) -> Option<u128>
 }
 
 /// 64 v s dv dt ds ds, of numbers that are right up to the largest. None where it is 2^128 or more.
-fn product(v: u128, s: u128, dv: u128, dt: u128, ds: u128) -> Option<u128>
+pub fn product(v: u128, s: u128, dv: u128, dt: u128, ds: u128) -> Option<u128>
     ensures { (V S DV DT DS : ℕ) → Kept v V → Kept s S → Kept dv DV → Kept dt DT → Kept ds DS
         → MatchOption result (2 ^ 128 ≤ 64 * (V * S * DV * DT * DS * DS)) (λ g. g ≡ 64 * (V * S * DV * DT * DS * DS)) }
 {

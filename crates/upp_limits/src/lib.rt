@@ -3,14 +3,14 @@
 
 mod call_sizes;
 mod counts;
-mod curve_numbers;
-mod gathered;
-mod gauges;
+pub mod curve_numbers;
+pub mod gathered;
+pub mod gauges;
 mod known;
 mod limits;
 mod long;
 pub mod op_kind;
-mod operand_numbers;
+pub mod operand_numbers;
 mod own_limits;
 mod own_window;
 mod scaled_numbers;

@@ -17,7 +17,7 @@ use fraction128::{Frac, sum};
 use upp_curve::{Curve, Tail};
 
 /// Where the next piece starts after the last one: a period after the rank, or at the rank of an infinite tail.
-fn after_last(c: &Curve) -> Option<Frac>
+pub fn after_last(c: &Curve) -> Option<Frac>
     ensures { result ≡ end_of c.now.tail }
 {
     match c.tail() {
@@ -28,7 +28,7 @@ fn after_last(c: &Curve) -> Option<Frac>
 }
 
 /// The numbers of a curve more.
-fn with_one(g: Gathered, c: &Curve, end: Frac) -> Option<Gathered>
+pub fn with_one(g: Gathered, c: &Curve, end: Frac) -> Option<Gathered>
     ensures value { IfSome result (λ r. (n : Numbers) → Gathers g n → Gathers r (joined n (closed_numbers end c.now))) }
     ensures fits { (z : Sizes) → HeldBy z end (curve_numbers end c.now) → IsSome result }
 {

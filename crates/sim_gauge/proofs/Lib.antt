@@ -1,0 +1,13 @@
+pub mod Paths
+pub mod FirstTimes
+pub mod Rooms
+pub mod Parts
+pub mod FlowsOf
+pub mod SameGathered
+pub mod EndSpans
+pub mod KnownEnds
+pub mod Products
+pub mod Loops
+pub mod Rates
+pub mod SpanSteps
+pub mod Assembled

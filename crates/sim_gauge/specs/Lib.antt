@@ -1,0 +1,5 @@
+pub mod Flows
+pub mod Steps
+pub mod Named
+pub mod CurveEnds
+pub mod Rated

@@ -1,0 +1,4 @@
+pub mod Windows
+pub mod Gains
+pub mod Driven
+pub mod Kept
