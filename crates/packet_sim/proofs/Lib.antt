@@ -1,0 +1,9 @@
+pub mod Candidates
+pub mod Common
+pub mod Arriving
+pub mod Leaving
+pub mod Working
+pub mod Starting
+pub mod Making
+pub mod Ending
+pub mod SortedStalls

@@ -1,0 +1,102 @@
+-- Places on a path, and the paths of flows.
+use Rattle.std.specs.Prelude.{Option, Some, None, ◌≡◌, ◌≢◌, ℕ, zero, suc, pos, ◌<◌, false, List, [], ◌∷◌, length, get_or, map, slice_get}
+use Rattle.std.proofs.Common.{arith, refl, sym, ap, ◌∙◌, inl, inr}
+use Rattle.std.proofs.lemmas.Bool.{eq-eqb, ne_eqb, cases_lt}
+use Rattle.std.proofs.lemmas.List.{length-map, get_or-map, get_or_past}
+use Rattle.run_laws.specs.Routes.{Route, Routes, queue_at, server_after, first_of, first_server, route_of, link_at}
+use Rattle.rational.specs.Rational.{int}
+use Rattle.net_model.specs.NetRoutes.{hops_along, route_for, link_for, routes_of}
+use Rattle.net_model.specs.declared.flow.Flow.{Flow}
+use Rattle.net_model.specs.Networks.{Net, NetServer}
+use Rattle.net_model.specs.Views.{flow_of}
+use Rattle.net_cells.specs.Numbered.{flow_at}
+
+-- no place before i has server s
+abbrev pub NoneBefore : List ℕ → ℕ → ℕ → Type 0
+NoneBefore path s i = (k : ℕ) → k < i → get_or path k 0 ≢ s
+
+later : (p : ℕ) (ps : List ℕ) (s i : ℕ) → NoneBefore (p ∷ ps) s (suc i) → NoneBefore ps s i
+later p ps s i h k l = h (suc k) (omega (arith, l))
+
+pub queue_place : (path queues : List ℕ) (s i : ℕ) → length queues ≡ length path → i < length path → get_or path i 0 ≡ s → NoneBefore path s i
+    → queue_at s (hops_along path queues) ≡ get_or queues i 0
+queue_place [] queues s i e l g h = absurd (omega (arith, l))
+queue_place (p ∷ ps) [] s i e l g h = absurd (omega (arith, e))
+queue_place (p ∷ ps) (q ∷ qs) s zero e l g h = rw (eq-eqb p s g) refl
+queue_place (p ∷ ps) (q ∷ qs) s (suc i) e l g h =
+    let n : p ≢ s = h 0 (omega arith) in
+    rw (ne_eqb p s n) (queue_place ps qs s i (omega (arith, e)) (omega (arith, l)) g (later p ps s i h))
+
+pub queue_none : (path queues : List ℕ) (s : ℕ) → length queues ≡ length path → NoneBefore path s (length path) → queue_at s (hops_along path queues) ≡ 0
+queue_none [] queues s e h = refl
+queue_none (p ∷ ps) [] s e h = refl
+queue_none (p ∷ ps) (q ∷ qs) s e h =
+    let n : p ≢ s = h 0 (omega arith) in
+    rw (ne_eqb p s n) (queue_none ps qs s (omega (arith, e)) (λ k l. h (suc k) (omega (arith, l))))
+
+pub first_is : (path queues : List ℕ) → length queues ≡ length path → first_of (hops_along path queues) ≡ slice_get path 0
+first_is [] queues e = refl
+first_is (p ∷ ps) [] e = absurd (omega (arith, e))
+first_is (p ∷ ps) (q ∷ qs) e = refl
+
+-- the first server of a path, be there one or none
+pub first_some : (path queues : List ℕ) (s : ℕ) → length queues ≡ length path → slice_get path 0 ≡ Some s → first_server (hops_along path queues) ≡ s
+first_some [] queues s e h = absurd (cc)
+first_some (p ∷ ps) [] s e h = absurd (omega (arith, e))
+first_some (p ∷ ps) (q ∷ qs) s e h = let g : p ≡ s = cc in g
+
+pub first_missing : (path queues : List ℕ) → slice_get path 0 ≡ None → first_server (hops_along path queues) ≡ 0
+first_missing [] queues h = refl
+first_missing (p ∷ ps) queues h = absurd (cc)
+
+pub after_place : (path queues : List ℕ) (s i : ℕ) → length queues ≡ length path → i < length path → get_or path i 0 ≡ s → NoneBefore path s i
+    → server_after s (hops_along path queues) ≡ slice_get path (suc i)
+after_place [] queues s i e l g h = absurd (omega (arith, l))
+after_place (p ∷ ps) [] s i e l g h = absurd (omega (arith, e))
+after_place (p ∷ ps) (q ∷ qs) s zero e l g h = rw (eq-eqb p s g) (first_is ps qs (omega (arith, e)))
+after_place (p ∷ ps) (q ∷ qs) s (suc i) e l g h =
+    let n : p ≢ s = h 0 (omega arith) in
+    rw (ne_eqb p s n) (after_place ps qs s i (omega (arith, e)) (omega (arith, l)) g (later p ps s i h))
+
+pub after_none : (path queues : List ℕ) (s : ℕ) → length queues ≡ length path → NoneBefore path s (length path) → server_after s (hops_along path queues) ≡ None
+after_none [] queues s e h = refl
+after_none (p ∷ ps) [] s e h = refl
+after_none (p ∷ ps) (q ∷ qs) s e h =
+    let n : p ≢ s = h 0 (omega arith) in
+    rw (ne_eqb p s n) (after_none ps qs s (omega (arith, e)) (λ k l. h (suc k) (omega (arith, l))))
+
+-- ---- flows
+-- beyond the last flow there is no path, as where there is no live one
+route_is : (net : Net) (n : ℕ) → route_of (routes_of net) n ≡ route_for (flow_at net n)
+route_is net n = elim (cases_lt n (length net.flows)) [
+  | inl l ↦ get_or-map route_for net.flows n None record { live = false; hops = [] } l
+  | inr l ↦
+      let all = length-map net.flows route_for in
+      get_or_past (map route_for net.flows) n record { live = false; hops = [] } (omega (arith, l, all))
+      ∙ ap route_for (sym (get_or_past net.flows n None l))
+]
+
+-- the path of a live flow, and that where there is none
+pub hops_live : (net : Net) (n : ℕ) (f : Flow) → Some (flow_of f) ≡ flow_at net n
+    → (route_of (routes_of net) n).hops ≡ hops_along f.path.items f.queues.items
+hops_live net n f e = ap (λ (r : Route). r.hops) (route_is net n ∙ ap route_for (sym e))
+
+pub hops_none : (net : Net) (n : ℕ) → None ≡ flow_at net n → (route_of (routes_of net) n).hops ≡ []
+hops_none net n e = ap (λ (r : Route). r.hops) (route_is net n ∙ ap route_for (sym e))
+
+-- ---- links
+link_from : (servers : List NetServer) (s : ℕ) (x : NetServer) → Some x ≡ slice_get servers s → x.link ≡ get_or (map link_for servers) s (int (pos 0))
+link_from [] s x e = absurd (cc)
+link_from (y ∷ ys) zero x e = let g : x ≡ y = cc in ap link_for g
+link_from (y ∷ ys) (suc s) x e = link_from ys s x e
+
+no_link : (servers : List NetServer) (s : ℕ) → None ≡ slice_get servers s → int (pos 0) ≡ get_or (map link_for servers) s (int (pos 0))
+no_link [] s e = refl
+no_link (y ∷ ys) zero e = absurd (cc)
+no_link (y ∷ ys) (suc s) e = no_link ys s e
+
+pub link_is : (net : Net) (s : ℕ) (x : NetServer) → Some x ≡ slice_get net.servers s → x.link ≡ link_at (routes_of net) s
+link_is net s x e = link_from net.servers s x e
+
+pub link_none : (net : Net) (s : ℕ) → None ≡ slice_get net.servers s → int (pos 0) ≡ link_at (routes_of net) s
+link_none net s e = no_link net.servers s e
