@@ -4,6 +4,7 @@ pub mod Arriving
 pub mod Leaving
 pub mod Working
 pub mod Starting
-pub mod Making
+pub mod NewRuns
 pub mod Ending
 pub mod SortedStalls
+pub mod Stepped

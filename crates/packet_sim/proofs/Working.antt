@@ -114,6 +114,12 @@ worked S ok s σ c p same before after a left w k opening rate inside discipline
     }
 
 -- ---- work that goes on
+gap : (a b : ℚ) → a <ℚ b → int (pos 0) <ℚ b -ℚ a
+gap a b h = with2 a b (λ o. omega (arith, o.le, o.lt, o.same))
+
+no_rest : (r : Rest) → None ≡ Some r → ⊥
+no_rest r e = cc
+
 record IsResumingNow (S : Setup) (stations : List Station) (xs : List Step) (d : Due) (rest : Rest) : Type 0 where
   station : Station
   known : d.server < length S.net.servers
@@ -140,7 +146,6 @@ resuming_now S stations links arrivals n xs d h kind rest is_rest =
     let will : WillResume S d.server σ a.station.opening rest.packet d.time rest.left =
     subst (λ (m : Next). IsNextOf S d.server σ a.station.opening m) is keeps.next in
     let good = ((sound_at S stations links arrivals n xs h.now).good.servers d.server a.known).under will.under will.is_under in
-    let more = will.not_done in
     record {
       station = a.station;
       known = a.known;
@@ -151,7 +156,7 @@ resuming_now S stations links arrivals n xs d h kind rest is_rest =
       ready = record {
         known = a.known;
         from_zero = good.from_zero;
-        some = with2 (size will.under.card) (done will.under) (λ o. omega (arith, o.le, o.lt, o.same));
+        some = gap (done will.under) (size will.under.card) will.not_done;
         opens = will.opens;
         due = λ b w k. (
             a.known,
@@ -170,8 +175,7 @@ resume_some S stations links arrivals n xs d h kind none =
     let a = at_station S stations links arrivals n (length S.net.servers) d h.first.0
     (λ e. let f : kinds.Resume ≡ kinds.Enter = sym kind ∙ e in cc) (λ e. let f : kinds.Resume ≡ kinds.Reach = sym kind ∙ e in cc) in
     let l = resuming a.station.next d a.due kind in
-    let f : None ≡ Some record { packet = l.packet; time = d.time; left = l.left } = none a.station a.at ∙ ap rest_for l.is in
-    cc
+    no_rest record { packet = l.packet; time = d.time; left = l.left } (none a.station a.at ∙ ap rest_for l.is)
 
 pub resume_known : (S : Setup) (stations : List Station) (links : Chains) (arrivals : List Arrival) (n : ℕ) (xs : List Step) (d : Due)
     → IsFirstDue S stations links arrivals n xs d → d.kind ≡ kinds.Resume → d.server < length stations
