@@ -65,25 +65,6 @@ after_none (p ∷ ps) (q ∷ qs) s e h =
     let n : p ≢ s = h 0 (omega arith) in
     rw (ne_eqb p s n) (after_none ps qs s (omega (arith, e)) (λ k l. h (suc k) (omega (arith, l))))
 
--- ---- flows
--- beyond the last flow there is no path, as where there is no live one
-route_is : (net : Net) (n : ℕ) → route_of (routes_of net) n ≡ route_for (flow_at net n)
-route_is net n = elim (cases_lt n (length net.flows)) [
-  | inl l ↦ get_or-map route_for net.flows n None record { live = false; hops = [] } l
-  | inr l ↦
-      let all = length-map net.flows route_for in
-      get_or_past (map route_for net.flows) n record { live = false; hops = [] } (omega (arith, l, all))
-      ∙ ap route_for (sym (get_or_past net.flows n None l))
-]
-
--- the path of a live flow, and that where there is none
-pub hops_live : (net : Net) (n : ℕ) (f : Flow) → Some (flow_of f) ≡ flow_at net n
-    → (route_of (routes_of net) n).hops ≡ hops_along f.path.items f.queues.items
-hops_live net n f e = ap (λ (r : Route). r.hops) (route_is net n ∙ ap route_for (sym e))
-
-pub hops_none : (net : Net) (n : ℕ) → None ≡ flow_at net n → (route_of (routes_of net) n).hops ≡ []
-hops_none net n e = ap (λ (r : Route). r.hops) (route_is net n ∙ ap route_for (sym e))
-
 -- ---- links
 link_from : (servers : List NetServer) (s : ℕ) (x : NetServer) → Some x ≡ slice_get servers s → x.link ≡ get_or (map link_for servers) s (int (pos 0))
 link_from [] s x e = absurd (cc)

@@ -1,4 +1,4 @@
-use Rattle.std.specs.Prelude.{◌≡◌, ◌<◌, ◌+◌, Some, List, [], ◌∷◌, ◌++◌, length, set, slice_get, pos}
+use Rattle.std.specs.Prelude.{◌≡◌, ◌<◌, ◌+◌, Some, None, List, [], ◌∷◌, ◌++◌, length, set, slice_get, pos}
 use Rattle.std.proofs.Common.{refl, sym, subst, arith, ap, ◌∙◌}
 use Rattle.std.proofs.lemmas.List.{length-map, with_items_is}
 use Rattle.rational.specs.Rational.{int, ◌/ℚ◌}
@@ -32,3 +32,10 @@ turn_at-requires-clause-idle c =
     (subst (λ (xs : List Station). MayTurnAt xs c.args.due.server) (sym c.deref_mut.ensures.value)
     (start_may S v.stations.items v.links v.arrivals.items v.entered v.steps.items c.args.due c.requires.next c.requires.kind)).idle
 
+pub unreachable-requires : goal.unreachable-requires
+unreachable-requires c =
+    let v = c.args.self.now in
+    let S = setup_of c.args.net.now c.args.trace.now in
+    let turned = subst (λ (xs : List Station). HasTurned xs c.turn_at.new.stations c.args.due.server None) c.deref_mut.ensures.value c.in-None.ensures in
+    some_turn S c.turn_at.new.stations v.links v.arrivals.items v.entered v.steps.items c.args.due
+    record { before = v.stations.items; due = c.requires.next; turned = turned } c.requires.kind
