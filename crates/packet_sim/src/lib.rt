@@ -3,7 +3,6 @@
 
 mod making;
 mod reads;
-mod routes;
 mod run;
 mod simulation;
 mod steps;

@@ -9,7 +9,7 @@ use fraction128::sum;
 use net_model::{Network, Trace};
 use run_laws::Step;
 use sim_loop::{arrive_at, leave_at};
-use crate::routes::{entrance, link_of, next_server, queue_of};
+use sim_routes::{entrance, link_of, next_server, queue_of};
 use sim_servers::{Due, DueKind};
 use sim_states::Arrival;
 use std::alloc::AllocError;
