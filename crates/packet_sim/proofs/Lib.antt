@@ -8,3 +8,4 @@ pub mod NewRuns
 pub mod Ending
 pub mod SortedStalls
 pub mod Stepped
+pub mod Last

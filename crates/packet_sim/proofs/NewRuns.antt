@@ -1,8 +1,8 @@
 -- A simulation in which nothing has happened yet keeps the state of a run without steps.
-use Rattle.std.specs.Prelude.{Option, Some, None, ◌≡◌, ◌≢◌, ◌⊎◌, ◌↔◌, ℕ, zero, suc, pos, ◌+◌, ◌<◌, ◌≤◌, ◌^◌, List, [], ◌∷◌, length, get_or, map, set, slice_get, All, AllPairs, Contains, replicate, sum_by}
+use Rattle.std.specs.Prelude.{Option, Some, None, ◌≡◌, ◌≢◌, ◌⊎◌, ◌↔◌, ℕ, zero, suc, pos, ◌+◌, ◌<◌, ◌≤◌, ◌^◌, List, [], ◌∷◌, ◌++◌, length, get_or, map, set, slice_get, All, AllPairs, Contains, replicate, sum_by}
 use Rattle.std.proofs.Common.{refl, sym, ap, ◌∙◌, subst, arith, inl, inr}
 use Rattle.std.proofs.lemmas.Bool.{cases_lt, cases_eq, eq-eqb, ne_eqb}
-use Rattle.std.proofs.lemmas.List.{length-map, get_or-map, get_or_past}
+use Rattle.std.proofs.lemmas.List.{length-map, length_push}
 use Rattle.std.proofs.lemmas.Option.{slice_get_within, get_or_from_slice_get}
 use Rattle.rational.specs.Rational.{ℚ, int, ◌≤ℚ◌, ◌<ℚ◌}
 use Rattle.run_laws.specs.Cards.{Card}
@@ -63,7 +63,7 @@ mapped f (x ∷ xs) (suc k) y d e = mapped f xs k y d e
 -- the stalls of a server take some time, as those of the trace do
 stalls_forward : (s : ℕ) (stalls : List Stall) → ((k : ℕ) (d : Stall) → k < length stalls → IsStall (get_or stalls k d))
     → (k : ℕ) (d : StallTimes) → k < length (stalls_at s stalls) → (get_or (stalls_at s stalls) k d).start <ℚ (get_or (stalls_at s stalls) k d).end
-stalls_forward s [] h k d l = absurd (omega (arith, l))
+stalls_forward s [] h = λ k d l. absurd (omega (arith, l))
 stalls_forward s (x ∷ xs) h = elim (cases_eq x.server s) [
   | inl e ↦ rw (eq-eqb x.server s e) (first (record { start = x.start; end = x.end }) (stalls_at s xs) (h 0 x (omega arith)).forward
       (stalls_forward s xs (λ k d l. h (suc k) d (omega (arith, l)))))
@@ -163,6 +163,12 @@ no_links S links arrivals is many =
       ahead = λ s p h. absurd (subst (λ ps. Has ps p) (empty s) h);
     }
 
+pub same_links : (links : Chains) (m m' n n' : ℕ) → links ≡ record { nodes = n; lists = replicate m [] } → m ≡ m' → n ≡ n'
+    → links ≡ record { nodes = n'; lists = replicate m' [] }
+same_links links m m' n n' e a b =
+    e ∙ ap (λ j. let z : Chains = record { nodes = j; lists = replicate m [] } in z) b
+    ∙ ap (λ j. let z : Chains = record { nodes = n'; lists = replicate j [] } in z) a
+
 -- ---- places
 none_there : (p : ℕ) (servers : List Server) → sum_by (at_server p) (map (λ (s : Server). start s.discipline) servers) ≡ 0
 none_there p [] = refl
@@ -172,6 +178,23 @@ no_places : (S : Setup) → ArePlaced (run_start S.net)
 no_places S = record {
   few = λ p. let h = none_there p S.net.servers in omega (arith, h);
   none = λ p l. let h = none_there p S.net.servers in omega (arith, h);
+}
+
+-- ---- one station more
+last_or_before : {X : Type 0} (xs : List X) (x y : X) (k : ℕ) → slice_get (xs ++ x ∷ []) k ≡ Some y → (slice_get xs k ≡ Some y) ⊎ ((k ≡ length xs) × (x ≡ y))
+last_or_before [] x y zero e = let g : x ≡ y = cc in inr (refl, g)
+last_or_before [] x y (suc k) e = absurd (let f : None ≡ Some y = e in cc)
+last_or_before (z ∷ zs) x y zero e = inl e
+last_or_before (z ∷ zs) x y (suc k) e = elim (last_or_before zs x y k e) [ inl i ↦ inl i | inr i ↦ inr (ap suc i.0, i.1) ]
+
+pub fresh_push : (servers : List NetServer) (trace : SpecTrace) (k : ℕ) (xs ys : List Station) (x : Station) → AreFresh servers trace k xs
+    → IsFreshAt servers trace k x → ys ≡ xs ++ x ∷ [] → AreFresh servers trace (k + 1) ys
+fresh_push servers trace k xs ys x h f e = record {
+  as_many = ap length e ∙ length_push xs x ∙ ap (λ n. n + 1) h.as_many;
+  each = λ j y at. elim (last_or_before xs x y j (ap (λ (v : List Station). slice_get v j) (sym e) ∙ at)) [
+    | inl i ↦ h.each j y i
+    | inr i ↦ subst (λ n. IsFreshAt servers trace n y) (sym (i.0 ∙ h.as_many)) (subst (λ (z : Station). IsFreshAt servers trace k z) i.1 f)
+  ];
 }
 
 -- ---- the whole

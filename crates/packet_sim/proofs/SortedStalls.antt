@@ -1,11 +1,19 @@
 -- Stalls in another order are the same stalls.
-use Rattle.std.specs.Prelude.{Some, ◌≡◌, ◌↔◌, ℕ, zero, suc, ◌+◌, ◌<◌, ◌≤◌, ◌==◌, List, [], ◌∷◌, ◌++◌, length, get_or, map, All, AllPairs, if◌then◌else◌}
-use Rattle.std.specs.List.Sorted.{IsPermutation, IsSortedBy}
-use Rattle.std.proofs.Common.{refl, sym, ap, ◌∙◌, subst, arith, inl, inr, drop}
+use Rattle.std.specs.Prelude.{◌≡◌, ◌↔◌, ℕ, ◌+◌, ◌<◌, Bool, true, false, List, [], ◌∷◌, ◌++◌, length, get_or, map, All, AllPairs}
+use Rattle.std.specs.List.Sorted.{IsPermutation, IsSortedByKey}
+use Rattle.std.specs.declared.cmp.Ordering.{Ordering}
+use Rattle.std.specs.declared.cmp.Ordering.TheVariants.{Less, Equal, Greater}
+use Rattle.std.specs.Ordering.{is_lt, MatchOrdering}
+use Rattle.std.proofs.Common.{refl, sym, ap, ◌∙◌, subst, arith, inl, inr, take}
 use Rattle.std.proofs.lemmas.Bool.{cases_eq, eq-eqb, ne_eqb}
-use Rattle.std.proofs.lemmas.List.{length-map, get_or-map}
-use Rattle.std.proofs.lemmas.List.Sorted.{IsPermutation-sym, All-permutation, Contains-permutation}
+use Rattle.std.proofs.lemmas.List.{length-map, get_or-map, take_more}
+use Rattle.std.proofs.lemmas.List.Sorted.{IsPermutation-sym, All-permutation, Contains-permutation, sorted_far}
+use Rattle.std.proofs.lemmas.List.MinMax.{ranks_by}
 use Rattle.rational.specs.Rational.{ℚ, ◌≤ℚ◌, ◌<ℚ◌}
+use Rattle.rational.specs.Ratio.{cmp_q}
+use Rattle.rational.proofs.Comparison.{cmp_ranks}
+use Rattle.rational.proofs.Laws.{le_refl, le_of_lt}
+use Rattle.fraction128.specs.Order.{cmp_q_total}
 use Rattle.net_model.specs.declared.trace.Stall.{Stall}
 use Rattle.stated_runs.specs.Setups.{StallTimes, IsStalled}
 use Rattle.stated_runs.specs.FromTraces.{stalls_at}
@@ -30,6 +38,40 @@ stalls_skip s (y ∷ ys) x e = elim (cases_eq y.server s) [
   | inl i ↦ rw (eq-eqb y.server s i) (ap (λ (v : List StallTimes). record { start = y.start; end = y.end } ∷ v) (stalls_skip s ys x e))
   | inr n ↦ rw (ne_eqb y.server s n) (stalls_skip s ys x e)
 ]
+
+push_map : (xs : List Span) (x : Span) → map stall_times (xs ++ x ∷ []) ≡ map stall_times xs ++ stall_times x ∷ []
+push_map [] x = refl
+push_map (y ∷ ys) x = ap (λ (v : List StallTimes). stall_times y ∷ v) (push_map ys x)
+
+pub more_stalls : (s : ℕ) (stalls : List Stall) (i : ℕ) (x : Stall) (spans spans' : List Span) → i < length stalls → x ≡ get_or stalls i x
+    → map stall_times spans ≡ stalls_at s (take i stalls) → x.server ≡ s → spans' ≡ spans ++ record { start = x.start; end = x.end } ∷ []
+    → map stall_times spans' ≡ stalls_at s (take (i + 1) stalls)
+more_stalls s stalls i x spans spans' l at h e p =
+    let more : take (i + 1) stalls ≡ take i stalls ++ x ∷ [] = take_more stalls i x l ∙ ap (λ (y : Stall). take i stalls ++ y ∷ []) (sym at) in
+    ap (map stall_times) p ∙ push_map spans record { start = x.start; end = x.end }
+    ∙ ap (λ (v : List StallTimes). v ++ record { start = x.start; end = x.end } ∷ []) h
+    ∙ sym (ap (stalls_at s) more ∙ stalls_push s (take i stalls) x e)
+
+pub same_stalls : (s : ℕ) (stalls : List Stall) (i : ℕ) (x : Stall) (spans spans' : List Span) → i < length stalls → x ≡ get_or stalls i x
+    → map stall_times spans ≡ stalls_at s (take i stalls) → (x.server ≡ s → ⊥) → spans' ≡ spans
+    → map stall_times spans' ≡ stalls_at s (take (i + 1) stalls)
+same_stalls s stalls i x spans spans' l at h e p =
+    let more : take (i + 1) stalls ≡ take i stalls ++ x ∷ [] = take_more stalls i x l ∙ ap (λ (y : Stall). take i stalls ++ y ∷ []) (sym at) in
+    ap (map stall_times) p ∙ h ∙ sym (ap (stalls_at s) more ∙ stalls_skip s (take i stalls) x e)
+
+-- ---- sorted by their starts
+not_less : (x y : ℚ) → is_lt (cmp_q x y) ≡ false → y ≤ℚ x
+not_less x y e = go (cmp_q x y) (cmp_ranks x y) e
+  where
+    go : (r : Ordering) → MatchOrdering r (x <ℚ y) (x ≡ y) (y <ℚ x) → is_lt r ≡ false → y ≤ℚ x
+    go Less k e = absurd (let f : true ≡ false = e in cc)
+    go Equal k e = subst (λ z. y ≤ℚ z) (sym k) (le_refl y)
+    go Greater k e = le_of_lt k
+
+pub by_starts : (xs : List Span) → IsSortedByKey (λ (a : Span). a.start) cmp_q xs → AllPairs (λ (a b : Span). a.start ≤ℚ b.start) xs
+by_starts xs up = λ i j d l h.
+    not_less (get_or xs j d).start (get_or xs i d).start
+    (sorted_far (λ (x y : Span). is_lt (cmp_q x.start y.start)) (ranks_by cmp_q_total (λ (a : Span). a.start)) xs up i j d (omega (arith, l)) h)
 
 -- ---- members
 record IsStalledIn (xs : List Span) (t : ℚ) : Type 0 where

@@ -1,10 +1,9 @@
 -- Stations of servers without packets.
-use Rattle.std.specs.Prelude.{Some, ◌≡◌, ◌↔◌, ◌<◌, ℕ, [], List, length, map, slice_get, All, AllPairs, replicate}
+use Rattle.std.specs.Prelude.{Some, ◌≡◌, ◌↔◌, ◌<◌, ℕ, List, length, map, slice_get, All, AllPairs}
 use Rattle.rational.specs.Rational.{ℚ, ◌≤ℚ◌, ◌<ℚ◌}
 use Rattle.run_laws.specs.Servers.{start}
-use Rattle.index_links.specs.Chains.{Chains}
 use Rattle.net_model.specs.declared.trace.Stall.{Stall}
-use Rattle.net_model.specs.Networks.{Net, NetServer}
+use Rattle.net_model.specs.Networks.{NetServer}
 use Rattle.net_model.specs.Traces.{SpecTrace}
 use Rattle.stated_runs.specs.Setups.{StallTimes, IsStalled}
 use Rattle.stated_runs.specs.FromTraces.{gate_of, stalls_at}
@@ -14,7 +13,6 @@ use Rattle.sim_servers.specs.declared.station.Next.TheVariants.{Nothing}
 use Rattle.sim_servers.specs.declared.station.Station.{Station}
 use Rattle.sim_servers.specs.Openings.{gate_for, stall_times}
 use Rattle.sim_servers.specs.Queues.{served_by, room_of, StandFor}
-use Rattle.packet_sim.specs.declared.simulation.Simulation.{Simulation}
 
 -- the same stalls, in the order of their starts
 pub record AreSorted (stalls : List StallTimes) (spans : List Span) : Type 0 where
@@ -47,11 +45,3 @@ pub record IsFreshAt (servers : List NetServer) (trace : SpecTrace) (k : ℕ) (x
 pub record AreFresh (servers : List NetServer) (trace : SpecTrace) (many : ℕ) (stations : List Station) : Type 0 where
   pub as_many : length stations ≡ many
   pub each : (k : ℕ) (x : Station) → slice_get stations k ≡ Some x → IsFreshAt servers trace k x
-
--- nothing has happened yet
-pub record IsNew (net : Net) (trace : SpecTrace) (v : Simulation) : Type 0 where
-  pub stations : AreFresh net.servers trace (length net.servers) v.stations.items
-  pub links : v.links ≡ record { nodes = length trace.packets; lists = replicate (length net.servers) [] }
-  pub arrivals : length v.arrivals.items ≡ length trace.packets
-  pub entered : v.entered ≡ 0
-  pub steps : v.steps.items ≡ []

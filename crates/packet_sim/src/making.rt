@@ -1,14 +1,17 @@
 //! A simulation in which nothing has happened yet.
 
-ghost use Rattle.std.specs.Prelude.{◌≡◌, ◌+◌, ◌≤◌, IfOk, AllPairs, length, map};
+ghost use Rattle.std.specs.Prelude.{◌≡◌, ◌+◌, ◌<◌, ◌≤◌, ◌^◌, IfOk, AllPairs, length, map};
 ghost use Rattle.std.specs.List.Sorted.{IsPermutation};
 ghost use Rattle.rational.specs.Rational.{◌≤ℚ◌};
 ghost use Rattle.net_model.specs.Accepted.{HasFewQueues};
 ghost use Rattle.net_model.specs.Views.{discipline_of, server_of};
-ghost use Rattle.stated_runs.specs.FromTraces.{gate_of as gate_times_of, stalls_at};
+ghost use Rattle.stated_runs.specs.FromTraces.{gate_of as gate_times_of, stalls_at, IsTraceOf};
 ghost use Rattle.sim_servers.specs.declared.opening.Span.{Span as SpecSpan};
 ghost use Rattle.sim_servers.specs.Openings.{gate_for, stall_times};
-ghost use Rattle.packet_sim.specs.Fresh.{AreSorted, IsFresh, AreFresh, IsNew};
+ghost use Rattle.net_model.specs.Walks.{IsFeedForward};
+ghost use Rattle.sim_bounds.specs.Gauge.{simulation_gauge};
+ghost use Rattle.packet_sim.specs.Fresh.{AreSorted, IsFresh, AreFresh};
+ghost use Rattle.packet_sim.specs.Stepping.{Simulates};
 
 use crate::simulation::Simulation;
 use fraction128::Frac;
@@ -105,7 +108,10 @@ fn fresh_stations(alloc: Global, net: &Network, trace: &Trace) -> Result<Vec<Sta
 impl Simulation {
     /// Nothing has happened yet.
     pub(crate) fn new(alloc: Global, net: &Network, trace: &Trace) -> Result<Simulation, AllocError>
-        ensures { IfOk result (λ v. IsNew net.now trace.now v) }
+        requires named { IsTraceOf net.now trace.now }
+        requires free { IsFeedForward net.now }
+        requires narrow { simulation_gauge net.now trace.now < 2 ^ 120 }
+        ensures { IfOk result (λ v. Simulates net.now trace.now v) }
     {
         let stations = fresh_stations(alloc, net, trace)?;
         let packets = trace.packets().len();
