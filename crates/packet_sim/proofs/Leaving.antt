@@ -137,8 +137,8 @@ has_left S stations links arrivals n xs d h kind after p l =
     record {
       next_one = n1;
       own = (
-          subst (λ c. IsStation S d.server (next (server_at S.net d.server).discipline σ (Leaves c d.time)) l.new) card lost.1,
-          l.moved.room ∙ h.now.running.servers.rooms d.server l.old l.moved.was,
+        subst (λ c. IsStation S d.server (next (server_at S.net d.server).discipline σ (Leaves c d.time)) l.new) card lost.1,
+        l.moved.room ∙ h.now.running.servers.rooms d.server l.old l.moved.was,
       );
       entered_one = g.entered_one;
       free = g.free;

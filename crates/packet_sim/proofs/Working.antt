@@ -159,8 +159,8 @@ resuming_now S stations links arrivals n xs d h kind rest is_rest =
         some = gap (done will.under) (size will.under.card) will.not_done;
         opens = will.opens;
         due = λ b w k. (
-            a.known,
-            inl record { under = will.under; is_under = will.is_under; packet_is = will.packet_is; not_done = will.not_done; stretch = k },
+          a.known,
+          inl record { under = will.under; is_under = will.is_under; packet_is = will.packet_is; not_done = will.not_done; stretch = k },
         );
       };
     }

@@ -31,7 +31,14 @@ impl Simulation {
             bits: packet.bits,
         })?;
         self.entered += 1;
-        arrive_at(&mut self.stations, server, due.packet, queue, packet.bits, due.time);
+        arrive_at(
+            &mut self.stations,
+            server,
+            due.packet,
+            queue,
+            packet.bits,
+            due.time,
+        );
         Ok(())
     }
 
@@ -49,7 +56,14 @@ impl Simulation {
             time: due.time,
         })?;
         self.links.unlink(due.packet);
-        arrive_at(&mut self.stations, due.server, due.packet, queue, packet.bits, due.time);
+        arrive_at(
+            &mut self.stations,
+            due.server,
+            due.packet,
+            queue,
+            packet.bits,
+            due.time,
+        );
         Ok(())
     }
 

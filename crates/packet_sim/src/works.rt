@@ -16,14 +16,25 @@ use std::alloc::AllocError;
 
 impl Simulation {
     /// A server works on with the packet that is under way.
-    pub(crate) fn resume(&mut self, net: &Network, trace: &Trace, due: Due) -> Result<(), AllocError>
+    pub(crate) fn resume(
+        &mut self,
+        net: &Network,
+        trace: &Trace,
+        due: Due,
+    ) -> Result<(), AllocError>
         requires next { ComesNext net.now trace.now self.old due }
         requires kind { due.kind ≡ DueKind.Resume }
         ensures { OnOk result (HasStepped net.now trace.now self.old self.new) }
     {
         match rest_at(&self.stations, due.server) {
             Some(rest) => {
-                let stretch = work_at(&mut self.stations, due.server, rest.packet, due.time, rest.left);
+                let stretch = work_at(
+                    &mut self.stations,
+                    due.server,
+                    rest.packet,
+                    due.time,
+                    rest.left,
+                );
                 self.steps.push(Step::Work {
                     server: due.server,
                     packet: rest.packet,
@@ -51,7 +62,13 @@ impl Simulation {
     }
 
     /// The visit of a queue.
-    fn visit(&mut self, net: &Network, trace: &Trace, due: Due, queue: u32) -> Result<(), AllocError>
+    fn visit(
+        &mut self,
+        net: &Network,
+        trace: &Trace,
+        due: Due,
+        queue: u32,
+    ) -> Result<(), AllocError>
         requires turn { TakesTurn net.now trace.now self.old due (Some (turns.Visit queue)) }
         requires kind { due.kind ≡ DueKind.Start }
         ensures { OnOk result (HasStepped net.now trace.now self.old self.new) }
@@ -65,7 +82,13 @@ impl Simulation {
     }
 
     /// The first work on a packet.
-    fn send(&mut self, net: &Network, trace: &Trace, due: Due, packet: u32) -> Result<(), AllocError>
+    fn send(
+        &mut self,
+        net: &Network,
+        trace: &Trace,
+        due: Due,
+        packet: u32,
+    ) -> Result<(), AllocError>
         requires turn { TakesTurn net.now trace.now self.old due (Some (turns.Send packet)) }
         requires kind { due.kind ≡ DueKind.Start }
         ensures { OnOk result (HasStepped net.now trace.now self.old self.new) }

@@ -56,4 +56,3 @@ returns c =
     stepped c.args.net.now c.args.trace.now v _ (steps.Enter c.packet_at-packet.result.flow c.args.due.packet c.args.due.time c.packet_at-packet.result.bits) c.arrive_at.new.stations v.links v.arrivals.items (v.entered + 1)
     (with_items_is v.stations c.arrive_at.new.stations (omega (arith, c.arrive_at.auto.stations, c.deref_mut.ensures.len))) refl refl refl c.in_ok-push.ensures.items
     (enter_done S v.stations.items v.links v.arrivals.items v.entered v.steps.items c.args.due c.requires.next c.requires.kind c.packet_at-packet.result (c.packet_at-packet.ensures S refl) c.entrance-server.result c.queue_of-queue.result c.entrance-server.ensures c.queue_of-queue.ensures c.arrive_at.new.stations taken)
-

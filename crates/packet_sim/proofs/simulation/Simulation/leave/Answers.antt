@@ -108,4 +108,3 @@ returns-in-None c =
     stepped c.args.net.now c.args.trace.now v _ (steps.Leave c.args.due.server c.leave_at-number.result c.args.due.time) c.leave_at-number.new.stations v.links v.arrivals.items v.entered
     (with_items_is v.stations c.leave_at-number.new.stations (omega (arith, c.leave_at-number.auto.stations, c.deref_mut.ensures.len))) refl refl refl c.in_ok-push.ensures.items
     (leave_last S v.stations.items v.links v.arrivals.items v.entered v.steps.items c.args.due c.requires.next c.requires.kind c.leave_at-number.new.stations c.leave_at-number.result lost c.packet_at-packet.result (c.packet_at-packet.ensures S refl) c.in-None.ensures)
-

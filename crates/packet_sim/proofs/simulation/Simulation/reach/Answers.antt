@@ -62,4 +62,3 @@ returns c =
     stepped c.args.net.now c.args.trace.now v _ (steps.Reach c.args.due.server c.args.due.packet c.args.due.time) c.arrive_at.new.stations (unlinked v.links c.args.due.packet) v.arrivals.items v.entered
     (with_items_is v.stations c.arrive_at.new.stations (omega (arith, c.arrive_at.auto.stations, c.deref_mut.ensures.len))) c.unlink.ensures refl refl c.in_ok-push.ensures.items
     (reach_done S v.stations.items v.links v.arrivals.items v.entered v.steps.items c.args.due c.requires.next c.requires.kind c.packet_at-packet.result (c.packet_at-packet.ensures S refl) c.queue_of-queue.result c.queue_of-queue.ensures c.arrive_at.new.stations taken)
-

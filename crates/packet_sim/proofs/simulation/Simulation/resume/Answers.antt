@@ -53,4 +53,3 @@ returns c =
     stepped c.args.net.now c.args.trace.now v _ (steps.Work c.args.due.server c.in-Some.rest.packet c.args.due.time c.work_at-stretch.result.end c.work_at-stretch.result.bits) c.work_at-stretch.new.stations v.links v.arrivals.items v.entered
     (with_items_is v.stations c.work_at-stretch.new.stations (omega (arith, c.work_at-stretch.auto.stations, c.deref_mut.ensures.len))) refl refl refl c.in_ok-push-in-Some.ensures.items
     (resume_done S v.stations.items v.links v.arrivals.items v.entered v.steps.items c.args.due c.requires.next c.requires.kind c.in-Some.rest (λ x at. c.in-Some.ensures x (ap (λ (xs : List Station). slice_get xs c.args.due.server) c.deref.ensures.value ∙ at)) c.work_at-stretch.new.stations c.work_at-stretch.result worked)
-

@@ -18,4 +18,12 @@ take-requires c =
     (subst (λ (xs : List Station). IsFirstCandidate S xs v.links c.deref-in-loop-due.result.now v.entered (length xs) (Some c.in-Some.due)) c.deref.ensures.value first))
 
 pub returns : goal.returns
-returns c = let a = c.in_default.ensures in let b = c.in_default.not-Some in let d = c.in_default.is in ?
+returns c =
+    let v = c.loop-due.self in
+    let S = setup_of c.args.net.now c.args.trace.now in
+    let none = c.in_default.ensures S (ap (map entering) (sym c.packets.ensures.packets)) in
+    record {
+      follows = has_ended S v.stations.items v.links v.arrivals.items v.entered v.steps.items c.loop-due.invariant
+          (subst (λ (ys : List Arrival). IsFirstCandidate S v.stations.items v.links ys v.entered (length v.stations.items) None) c.deref-in-loop-due.ensures.value
+          (subst (λ (xs : List Station). IsFirstCandidate S xs v.links c.deref-in-loop-due.result.now v.entered (length xs) None) c.deref.ensures.value none));
+    }

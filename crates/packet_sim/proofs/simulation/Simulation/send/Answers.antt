@@ -68,4 +68,3 @@ returns c =
     stepped c.args.net.now c.args.trace.now v _ (steps.Work c.args.due.server c.args.packet c.args.due.time c.work_at-stretch.result.end c.work_at-stretch.result.bits) c.work_at-stretch.new.stations v.links v.arrivals.items v.entered
     (with_items_is v.stations c.work_at-stretch.new.stations (omega (arith, c.work_at-stretch.auto.stations, c.deref_mut.ensures.len))) refl refl refl c.in_ok-push.ensures.items
     (send_done S v.stations.items v.links v.arrivals.items v.entered v.steps.items c.args.due c.args.packet c.requires.turn c.requires.kind c.packet_at-row.result (c.packet_at-row.ensures S refl) c.rate_at-rate.result (λ x at. c.rate_at-rate.ensures x (ap (λ (xs : List Station). slice_get xs c.args.due.server) c.deref.ensures.value ∙ at)) c.quotient-left.result (c.quotient-left.ensures ∙ ap (λ u. u /ℚ c.rate_at-rate.result) c.from.ensures) c.work_at-stretch.new.stations c.work_at-stretch.result worked)
-

@@ -25,4 +25,3 @@ returns c =
     stepped c.args.net.now c.args.trace.now v _ (steps.Visit c.args.due.server c.args.queue c.args.due.time) v.stations.items v.links v.arrivals.items v.entered
     refl refl refl refl c.in_ok-push.ensures.items
     (visit_done S v.stations.items v.links v.arrivals.items v.entered v.steps.items c.args.due c.args.queue c.requires.turn c.requires.kind)
-
