@@ -1,18 +1,21 @@
 //! The worst delay of each flow, found from the last step back to the first: where a packet enters, it is known when it
 //! is delivered.
 
-ghost use Rattle.std.specs.Prelude.{◌≡◌, ◌∷◌, IfOk, length, pos, List};
-ghost use Rattle.rational.specs.Rational.{int};
-ghost use Rattle.run_laws.specs.declared.steps.Step.{Step as SpecStep};
+ghost use Rattle.std.specs.Prelude.{◌≡◌, ℕ, IfOk, Some, length, pos, slice_get, slice_index_or};
+ghost use Rattle.rational.specs.Rational.{int, neg_ℚ};
+ghost use Rattle.rational.specs.Ratio.{SumFits};
+ghost use Rattle.run_laws.specs.declared.steps.Step.TheVariants as steps;
+ghost use Rattle.run_laws.specs.Routes.{Routes, link_at};
 ghost use Rattle.net_model.specs.NetRoutes.{routes_of};
-ghost use Rattle.run_measures.specs.Numbered.{AreNumberedFrom, flows_in};
-ghost use Rattle.run_measures.specs.Worst.{AreWorst, DelaysFit, IsTallied};
+ghost use Rattle.run_measures.specs.Numbered.{AreNumberedFrom};
+ghost use Rattle.run_measures.specs.Tallies.{MayTell, Tells};
+ghost use Rattle.run_measures.specs.Worst.{AreWorst, DelaysFit};
 
 use crate::flows::flows_of;
 use fraction128::{Frac, difference, is_less, sum};
 use net_model::Network;
 use run_laws::{Run, Step};
-use sim_routes::{last_of, link_of};
+use sim_routes::{exit, link_of};
 use std::alloc::{AllocError, Global};
 
 /// What the steps from a place on tell: for each packet when it is delivered, and for each flow the worst delay.
@@ -25,15 +28,28 @@ pub(crate) struct Tally {
 
 impl Tally {
     /// A packet leaves a server: where that is its last, it is delivered when it has passed the link.
-    fn leave(&mut self, net: &Network, server: u32, packet: u32, time: Frac) {
+    fn leave(&mut self, net: &Network, server: u32, packet: u32, time: Frac)
+        requires long { length self.old.delivered.items ≡ length self.old.flows.items }
+        requires fits { SumFits time (link_at (routes_of net.now) server) }
+        ensures long { length self.new.delivered.items ≡ length self.new.flows.items }
+        ensures flows { self.new.flows.items ≡ self.old.flows.items }
+        ensures told { Tells (routes_of net.now) (steps.Leave server packet time) self.old self.new }
+    {
         let number = packet as usize;
-        if number < self.flows.len() && server == last_of(net, self.flows[number]) {
+        if number < self.flows.len() && server == exit(net, self.flows[number]) {
             self.delivered[number] = sum(time, link_of(net, server));
         }
     }
 
     /// A packet enters, of which it is known when it is delivered.
-    fn enter(&mut self, flow: u32, packet: u32, time: Frac) {
+    fn enter(&mut self, flow: u32, packet: u32, time: Frac)
+        requires long { length self.old.delivered.items ≡ length self.old.flows.items }
+        requires known { slice_get self.old.flows.items packet ≡ Some flow }
+        requires fits { SumFits (slice_index_or self.old.delivered.items packet (int (pos 0))) (neg_ℚ time) }
+        ensures long { length self.new.delivered.items ≡ length self.new.flows.items }
+        ensures flows { self.new.flows.items ≡ self.old.flows.items }
+        ensures told { (net : Routes) (b : ℕ) → Tells net (steps.Enter flow packet time b) self.old self.new }
+    {
         let delay = difference(self.delivered[packet as usize], time);
         let place = flow as usize;
         if place < self.worst.len() && is_less(self.worst[place], delay) {
@@ -42,11 +58,25 @@ impl Tally {
     }
 
     /// One step more, before those that were told.
-    fn tell(&mut self, net: &Network, step: &Step) {
+    fn tell(&mut self, net: &Network, step: &Step)
+        requires long { length self.old.delivered.items ≡ length self.old.flows.items }
+        requires may { MayTell (routes_of net.now) step.now self.old }
+        ensures long { length self.new.delivered.items ≡ length self.new.flows.items }
+        ensures flows { self.new.flows.items ≡ self.old.flows.items }
+        ensures told { Tells (routes_of net.now) step.now self.old self.new }
+    {
         match step {
-            Step::Enter { flow, packet, time, .. } => self.enter(*flow, *packet, *time),
-            Step::Leave { server, packet, time } => self.leave(net, *server, *packet, *time),
-            _ => {}
+            Step::Enter {
+                flow, packet, time, ..
+            } => self.enter(*flow, *packet, *time),
+            Step::Leave {
+                server,
+                packet,
+                time,
+            } => self.leave(net, *server, *packet, *time),
+            Step::Reach { .. } => {}
+            Step::Work { .. } => {}
+            Step::Visit { .. } => {}
         }
     }
 }

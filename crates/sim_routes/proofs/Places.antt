@@ -1,9 +1,9 @@
 -- Places on a path, and the paths of flows.
-use Rattle.std.specs.Prelude.{Option, Some, None, ◌≡◌, ◌≢◌, ℕ, zero, suc, pos, ◌<◌, false, List, [], ◌∷◌, length, get_or, map, slice_get}
+use Rattle.std.specs.Prelude.{Option, Some, None, ◌≡◌, ◌≢◌, ℕ, zero, suc, pos, ◌-◌, ◌<◌, false, List, [], ◌∷◌, length, get_or, map, slice_get}
 use Rattle.std.proofs.Common.{arith, refl, sym, ap, ◌∙◌, inl, inr}
 use Rattle.std.proofs.lemmas.Bool.{eq-eqb, ne_eqb, cases_lt}
 use Rattle.std.proofs.lemmas.List.{length-map, get_or-map, get_or_past}
-use Rattle.run_laws.specs.Routes.{Route, Routes, queue_at, server_after, first_of, first_server, route_of, link_at}
+use Rattle.run_laws.specs.Routes.{Route, Routes, queue_at, server_after, first_of, first_server, last_server, route_of, link_at}
 use Rattle.rational.specs.Rational.{int}
 use Rattle.net_model.specs.NetRoutes.{hops_along, route_for, link_for, routes_of}
 use Rattle.net_model.specs.declared.flow.Flow.{Flow}
@@ -48,6 +48,32 @@ first_some (p ∷ ps) (q ∷ qs) s e h = let g : p ≡ s = cc in g
 pub first_missing : (path queues : List ℕ) → slice_get path 0 ≡ None → first_server (hops_along path queues) ≡ 0
 first_missing [] queues h = refl
 first_missing (p ∷ ps) queues h = absurd (cc)
+
+-- the last server of a path, be there one or none
+pub last_some : (path queues : List ℕ) (s : ℕ) → length queues ≡ length path → Some s ≡ slice_get path (length path - 1) → s ≡ last_server (hops_along path queues)
+last_some [] queues s e h = absurd (cc)
+last_some (p ∷ ps) [] s e h = absurd (omega (arith, e))
+last_some (p ∷ []) (q ∷ qs) s e h = by qs
+  where
+    by : (qs : List ℕ) → s ≡ last_server (hops_along (p ∷ []) (q ∷ qs))
+    by [] = let g : s ≡ p = cc in g
+    by (r ∷ rs) = let g : s ≡ p = cc in g
+last_some (p ∷ o ∷ ps) (q ∷ []) s e h = absurd (omega (arith, e))
+last_some (p ∷ o ∷ ps) (q ∷ r ∷ qs) s e h =
+    let k : length (p ∷ o ∷ ps) - 1 ≡ suc (length (o ∷ ps) - 1) = omega arith in
+    let f : Some s ≡ slice_get (o ∷ ps) (length (o ∷ ps) - 1) = h ∙ ap (slice_get (p ∷ o ∷ ps)) k in
+    last_some (o ∷ ps) (r ∷ qs) s (omega (arith, e)) f
+
+pub last_missing : (path queues : List ℕ) → None ≡ slice_get path (length path - 1) → 0 ≡ last_server (hops_along path queues)
+last_missing [] queues h = refl
+last_missing (p ∷ []) queues h = absurd (cc)
+last_missing (p ∷ o ∷ ps) queues h = absurd (missing p o ps h)
+  where
+    missing : (p o : ℕ) (ps : List ℕ) → None ≡ slice_get (p ∷ o ∷ ps) (length (p ∷ o ∷ ps) - 1) → ⊥
+    missing p o [] h = let f : None ≡ Some o = h in cc
+    missing p o (r ∷ rs) h =
+        let k : length (p ∷ o ∷ r ∷ rs) - 1 ≡ suc (length (o ∷ r ∷ rs) - 1) = omega arith in
+        missing o r rs (h ∙ ap (slice_get (p ∷ o ∷ r ∷ rs)) k)
 
 pub after_place : (path queues : List ℕ) (s i : ℕ) → length queues ≡ length path → i < length path → get_or path i 0 ≡ s → NoneBefore path s i
     → server_after s (hops_along path queues) ≡ slice_get path (suc i)

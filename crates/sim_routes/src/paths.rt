@@ -1,7 +1,7 @@
 //! Paths.
 
 ghost use Rattle.std.specs.Prelude.{◌≡◌, ◌<◌, length, slice_get};
-ghost use Rattle.run_laws.specs.Routes.{queue_at, server_after, first_server};
+ghost use Rattle.run_laws.specs.Routes.{queue_at, server_after, first_server, last_server};
 ghost use Rattle.net_model.specs.NetRoutes.{hops_along};
 
 /// The server at a place of a path, if it has the place.
@@ -47,6 +47,17 @@ pub(crate) fn first_on(path: &[u32], queues: &[u32]) -> u32
 {
     match server_on(path, 0) {
         Some(server) => server,
+        None => 0,
+    }
+}
+
+/// The last server of a path; 0 where it has none.
+pub(crate) fn last_on(path: &[u32], queues: &[u32]) -> u32
+    requires { length queues.now ≡ length path.now }
+    ensures { result ≡ last_server (hops_along path.now queues.now) }
+{
+    match path.last() {
+        Some(server) => *server,
         None => 0,
     }
 }

@@ -1,10 +1,10 @@
 //! The paths of flows.
 
 ghost use Rattle.std.specs.Prelude.{◌≡◌};
-ghost use Rattle.run_laws.specs.Routes.{queue_at, server_after, route_of, link_at, first_server};
+ghost use Rattle.run_laws.specs.Routes.{queue_at, server_after, route_of, link_at, first_server, last_server};
 ghost use Rattle.net_model.specs.NetRoutes.{routes_of};
 
-use crate::paths::{first_on, queue_on, server_after_on};
+use crate::paths::{first_on, last_on, queue_on, server_after_on};
 use fraction128::Frac;
 use net_cells::{live_flow, server};
 use net_model::Network;
@@ -35,6 +35,16 @@ pub fn entrance(net: &Network, flow: u32) -> u32
 {
     match live_flow(net, flow) {
         Some(found) => first_on(&found.path, &found.queues),
+        None => 0,
+    }
+}
+
+/// The last server of a flow; 0 where it is not live.
+pub fn exit(net: &Network, flow: u32) -> u32
+    ensures { result ≡ last_server (route_of (routes_of net.now) flow).hops }
+{
+    match live_flow(net, flow) {
+        Some(found) => last_on(&found.path, &found.queues),
         None => 0,
     }
 }
