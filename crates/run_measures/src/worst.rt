@@ -36,9 +36,13 @@ impl Tally {
         ensures told { Tells (routes_of net.now) (steps.Leave server packet time) self.old self.new }
     {
         let number = packet as usize;
-        if number < self.flows.len() && server == exit(net, self.flows[number]) {
-            self.delivered[number] = sum(time, link_of(net, server));
+        if number >= self.flows.len() {
+            return;
         }
+        if server != exit(net, self.flows[number]) {
+            return;
+        }
+        self.delivered[number] = sum(time, link_of(net, server));
     }
 
     /// A packet enters, of which it is known when it is delivered.
@@ -52,9 +56,13 @@ impl Tally {
     {
         let delay = difference(self.delivered[packet as usize], time);
         let place = flow as usize;
-        if place < self.worst.len() && is_less(self.worst[place], delay) {
-            self.worst[place] = delay;
+        if place >= self.worst.len() {
+            return;
         }
+        if !is_less(self.worst[place], delay) {
+            return;
+        }
+        self.worst[place] = delay;
     }
 
     /// One step more, before those that were told.
