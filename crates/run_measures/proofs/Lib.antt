@@ -1,3 +1,4 @@
 pub mod Largest
 pub mod Telling
 pub mod Numbering
+pub mod Walking

@@ -1,14 +1,14 @@
 //! The worst delay of each flow, found from the last step back to the first: where a packet enters, it is known when it
 //! is delivered.
 
-ghost use Rattle.std.specs.Prelude.{◌≡◌, ℕ, IfOk, Some, length, pos, slice_get, slice_index_or};
+ghost use Rattle.std.specs.Prelude.{◌≡◌, ℕ, [], IfOk, Some, length, pos, slice_get, slice_index_or};
 ghost use Rattle.rational.specs.Rational.{int, neg_ℚ};
 ghost use Rattle.rational.specs.Ratio.{SumFits};
 ghost use Rattle.run_laws.specs.declared.steps.Step.TheVariants as steps;
 ghost use Rattle.run_laws.specs.Routes.{Routes, link_at};
 ghost use Rattle.net_model.specs.NetRoutes.{routes_of};
-ghost use Rattle.run_measures.specs.Numbered.{AreNumberedFrom};
-ghost use Rattle.run_measures.specs.Tallies.{MayTell, Tells};
+ghost use Rattle.run_measures.specs.Numbered.{AreNumberedFrom, flows_in};
+ghost use Rattle.run_measures.specs.Tallies.{IsTold, MayTell, Tells};
 ghost use Rattle.run_measures.specs.Worst.{AreWorst, DelaysFit};
 
 use crate::flows::flows_of;
@@ -89,6 +89,41 @@ impl Tally {
     }
 }
 
+/// Nothing has been told.
+fn fresh_tally(alloc: Global, net: &Network, steps: &[Step], end: Frac) -> Result<Tally, AllocError>
+    ensures told { IfOk result (λ v. IsTold (routes_of net.now) end [] (length net.now.flows) v) }
+    ensures flows { IfOk result (λ v. v.flows.items ≡ flows_in steps.now) }
+{
+    let flows = flows_of(alloc, steps)?;
+    let packets = flows.len();
+    let delivered = vec![in alloc; end; packets]?;
+    let many = net.flows().len();
+    let worst = vec![in alloc; Frac::zero(); many]?;
+    Ok(Tally {
+        flows,
+        delivered,
+        worst,
+    })
+}
+
+/// The worst delays among these steps.
+fn worst_among(alloc: Global, net: &Network, steps: &[Step], end: Frac) -> Result<Vec<Frac>, AllocError>
+    requires numbered { AreNumberedFrom 0 steps.now }
+    requires fits { DelaysFit (routes_of net.now) end steps.now }
+    ensures { IfOk result (λ v. AreWorst (routes_of net.now) end steps.now (length net.now.flows) v.items) }
+{
+    let mut tally = fresh_tally(alloc, net, steps, end)?;
+    for place in (0..steps.len()).rev() {
+        tally.tell(net, &steps[place]);
+    }
+    let Tally {
+        flows: _,
+        delivered: _,
+        worst,
+    } = tally;
+    Ok(worst)
+}
+
 /// For each flow the largest delay of its packets, from where they enter to the end of the last server's link, or to the
 /// run's end where one is not delivered; 0 where it has none. It asks for packets that are numbered in the order in which
 /// they enter, as those of a lawful run are, and for delays that fit.
@@ -97,21 +132,5 @@ pub fn worst_delays(alloc: Global, net: &Network, run: &Run) -> Result<Vec<Frac>
     requires fits { DelaysFit (routes_of net.now) run.now.end run.now.steps }
     ensures { IfOk result (λ v. AreWorst (routes_of net.now) run.now.end run.now.steps (length net.now.flows) v.items) }
 {
-    let flows = flows_of(alloc, &run.steps)?;
-    let delivered = vec![in alloc; run.end; flows.len()]?;
-    let worst = vec![in alloc; Frac::zero(); net.flows().len()]?;
-    let mut tally = Tally {
-        flows,
-        delivered,
-        worst,
-    };
-    for place in (0..run.steps.len()).rev() {
-        tally.tell(net, &run.steps[place]);
-    }
-    let Tally {
-        flows: _,
-        delivered: _,
-        worst,
-    } = tally;
-    Ok(worst)
+    worst_among(alloc, net, &run.steps, run.end)
 }
