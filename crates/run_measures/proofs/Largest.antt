@@ -1,5 +1,5 @@
 -- The largest of 0 and some numbers, with one more.
-use Rattle.std.specs.Prelude.{◌≡◌, ◌⊎◌, ◌↔◌, ℕ, zero, suc, pos, ◌<◌, Bool, true, false, IsTrue, List, [], ◌∷◌, length, Contains}
+use Rattle.std.specs.Prelude.{◌≡◌, ◌↔◌, suc, pos, true, false, IsTrue, List, [], ◌∷◌, Contains}
 use Rattle.std.proofs.Common.{arith, refl, inl, inr}
 use Rattle.rational.specs.Rational.{ℚ, int, ◌≤ℚ◌, ◌<ℚ◌}
 use Rattle.rational.specs.declared.Extended.TheVariants.{Fin}

@@ -1,17 +1,16 @@
 -- What a tally tells of one step more.
-use Rattle.std.specs.Prelude.{Some, ◌≡◌, ◌≢◌, ℕ, pos, ◌<◌, ◌≤◌, ◌==◌, ◌&&◌, Bool, true, false, List, [], ◌∷◌, length, get_or, set, slice_get, replicate, if◌then◌else◌}
+use Rattle.std.specs.Prelude.{◌≡◌, ◌≢◌, ℕ, pos, ◌<◌, ◌≤◌, List, [], ◌∷◌, length, get_or, set, replicate}
 use Rattle.std.proofs.Common.{arith, refl, sym, ap, ◌∙◌, subst, inl, inr}
 use Rattle.std.proofs.Math.ListN.{length-set}
 use Rattle.std.proofs.lemmas.Bool.{cases_eq, eq-eqb, ne_eqb}
 use Rattle.std.proofs.lemmas.List.{get_or-set_same, get_or-set_other}
-use Rattle.std.proofs.lemmas.Option.{get_or_from_slice_get}
 use Rattle.rational.specs.Rational.{ℚ, int, ◌+ℚ◌, ◌-ℚ◌, ◌≤ℚ◌, ◌<ℚ◌}
 use Rattle.run_laws.specs.declared.steps.Step.{Step}
 use Rattle.run_laws.specs.declared.steps.Step.TheVariants.{Enter, Reach, Work, Leave, Visit}
 use Rattle.run_laws.specs.Delays.{kept}
 use Rattle.run_laws.specs.FlowDelays.{delivered_at, delays_from}
 use Rattle.run_laws.specs.Routes.{Routes, link_at, route_of, last_server}
-use Rattle.run_measures.specs.Worst.{IsLargest, AreWorst, IsTallied}
+use Rattle.run_measures.specs.Worst.{IsLargest, IsTallied}
 use Rattle.run_measures.proofs.Largest.{largest_none, largest_same, largest_new}
 
 abbrev last_of : Routes → List ℕ → ℕ → ℕ

@@ -5,9 +5,8 @@ use Rattle.rational.specs.Ratio.{SumFits}
 use Rattle.rational.specs.declared.Extended.TheVariants.{Fin}
 use Rattle.run_laws.specs.declared.steps.Step.{Step}
 use Rattle.run_laws.specs.declared.steps.Step.TheVariants.{Enter, Reach, Work, Leave, Visit}
-use Rattle.run_laws.specs.Runs.{SpecRun}
 use Rattle.run_laws.specs.Delays.{AreAtMost}
-use Rattle.run_laws.specs.FlowDelays.{delivered_at, delays_from, delays}
+use Rattle.run_laws.specs.FlowDelays.{delivered_at, delays_from}
 use Rattle.run_laws.specs.Routes.{Routes, link_at, route_of, last_server}
 
 -- w is the largest of 0 and of these

@@ -2,6 +2,8 @@
 #![tactic(auto)]
 
 mod flows;
+mod laws;
 mod worst;
 
+pub use laws::lawful_runs_are_numbered;
 pub use worst::worst_delays;

@@ -75,7 +75,10 @@ impl Tally {
     {
         match step {
             Step::Enter {
-                flow, packet, time, ..
+                flow,
+                packet,
+                time,
+                ..
             } => self.enter(*flow, *packet, *time),
             Step::Leave {
                 server,
@@ -107,7 +110,12 @@ fn fresh_tally(alloc: Global, net: &Network, steps: &[Step], end: Frac) -> Resul
 }
 
 /// The worst delays among these steps.
-fn worst_among(alloc: Global, net: &Network, steps: &[Step], end: Frac) -> Result<Vec<Frac>, AllocError>
+fn worst_among(
+    alloc: Global,
+    net: &Network,
+    steps: &[Step],
+    end: Frac,
+) -> Result<Vec<Frac>, AllocError>
     requires numbered { AreNumberedFrom 0 steps.now }
     requires fits { DelaysFit (routes_of net.now) end steps.now }
     ensures { IfOk result (λ v. AreWorst (routes_of net.now) end steps.now (length net.now.flows) v.items) }

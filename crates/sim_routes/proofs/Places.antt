@@ -1,15 +1,11 @@
 -- Places on a path, and the paths of flows.
-use Rattle.std.specs.Prelude.{Option, Some, None, ◌≡◌, ◌≢◌, ℕ, zero, suc, pos, ◌-◌, ◌<◌, false, List, [], ◌∷◌, length, get_or, map, slice_get}
-use Rattle.std.proofs.Common.{arith, refl, sym, ap, ◌∙◌, inl, inr}
-use Rattle.std.proofs.lemmas.Bool.{eq-eqb, ne_eqb, cases_lt}
-use Rattle.std.proofs.lemmas.List.{length-map, get_or-map, get_or_past}
-use Rattle.run_laws.specs.Routes.{Route, Routes, queue_at, server_after, first_of, first_server, last_server, route_of, link_at}
+use Rattle.std.specs.Prelude.{Some, None, ◌≡◌, ◌≢◌, ℕ, zero, suc, pos, ◌-◌, ◌<◌, List, [], ◌∷◌, length, get_or, map, slice_get}
+use Rattle.std.proofs.Common.{arith, refl, ap, ◌∙◌}
+use Rattle.std.proofs.lemmas.Bool.{eq-eqb, ne_eqb}
+use Rattle.run_laws.specs.Routes.{queue_at, server_after, first_of, first_server, last_server, link_at}
 use Rattle.rational.specs.Rational.{int}
-use Rattle.net_model.specs.NetRoutes.{hops_along, route_for, link_for, routes_of}
-use Rattle.net_model.specs.declared.flow.Flow.{Flow}
+use Rattle.net_model.specs.NetRoutes.{hops_along, link_for, routes_of}
 use Rattle.net_model.specs.Networks.{Net, NetServer}
-use Rattle.net_model.specs.Views.{flow_of}
-use Rattle.net_cells.specs.Numbered.{flow_at}
 
 -- no place before i has server s
 abbrev pub NoneBefore : List ℕ → ℕ → ℕ → Type 0

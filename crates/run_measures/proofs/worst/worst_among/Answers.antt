@@ -1,5 +1,5 @@
-use Rattle.std.specs.Prelude.{◌≡◌, List, length}
-use Rattle.std.proofs.Common.{arith, sym, subst, ◌∙◌}
+use Rattle.std.specs.Prelude.{List, length}
+use Rattle.std.proofs.Common.{sym, subst, ◌∙◌}
 use Rattle.std.proofs.Math.Seq.{drop-length}
 use Rattle.run_laws.specs.declared.steps.Step.{Step}
 use Rattle.net_model.specs.NetRoutes.{routes_of}

@@ -1,4 +1,4 @@
-use Rattle.std.proofs.Common.{sym, ◌∙◌}
+use Rattle.std.proofs.Common.{sym}
 use Rattle.sim_routes.proofs.Places.{first_some, first_missing}
 use Rattle.sim_routes.proofs.paths.first_on.Goals as goal
 

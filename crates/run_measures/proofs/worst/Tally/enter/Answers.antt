@@ -1,5 +1,5 @@
-use Rattle.std.specs.Prelude.{◌≡◌, ◌<◌, ◌≤◌, ◌∷◌, pos, Some, length, get_or, slice_get}
-use Rattle.std.proofs.Common.{arith, refl, sym, ap, ◌∙◌, subst}
+use Rattle.std.specs.Prelude.{◌≡◌, ◌<◌, pos, length, get_or}
+use Rattle.std.proofs.Common.{arith, refl, ap, ◌∙◌, subst}
 use Rattle.std.proofs.lemmas.List.{get_or_read}
 use Rattle.std.proofs.lemmas.Option.{slice_get_within, get_or_from_slice_get}
 use Rattle.rational.specs.Rational.{int, ◌-ℚ◌, ◌≤ℚ◌, ◌<ℚ◌}
