@@ -9,3 +9,4 @@ pub mod Ending
 pub mod SortedStalls
 pub mod Stepped
 pub mod Last
+pub mod DelayTimes

@@ -2,10 +2,12 @@
 #![tactic(auto)]
 
 mod making;
+mod measured;
 mod reads;
 mod run;
 mod simulation;
 mod steps;
 mod works;
 
+pub use measured::{SimRun, measured_run};
 pub use run::run_of;

@@ -2,11 +2,14 @@
 
 ghost use Rattle.std.specs.Prelude.{◌≡◌, ◌+◌, ◌<◌, ◌^◌, ℕ, pos, IfOk, OnOk, length};
 ghost use Rattle.rational.specs.Rational.{ℚ, int};
+ghost use Rattle.run_laws.specs.Lawful.{IsLawful};
+ghost use Rattle.net_model.specs.NetRoutes.{routes_of};
 ghost use Rattle.net_model.specs.Walks.{IsFeedForward};
 ghost use Rattle.stated_runs.specs.DueSteps.{step_time};
 ghost use Rattle.stated_runs.specs.FromTraces.{setup_of, IsTraceOf};
 ghost use Rattle.stated_runs.specs.Simulated.{IsSimulated, last_time};
 ghost use Rattle.sim_bounds.specs.Gauge.{simulation_gauge};
+ghost use Rattle.run_measures.specs.Worst.{DelaysFit};
 ghost use Rattle.packet_sim.specs.Stepping.{Simulates, ComesNext, HasStepped, HasEnded};
 
 use crate::simulation::Simulation;
@@ -74,14 +77,16 @@ fn end_of(steps: &[Step]) -> Frac
 }
 
 /// The stated run of a network and a trace, for a trace whose numbers are those of live flows and of servers, in a
-/// network in which no walk comes back, where the simulation gauge of both is below 2^120. It fails only for want of
-/// memory. A step costs a look at each server and at the first packet of each link, and the turn of one server: never a
+/// network in which no walk comes back, where the simulation gauge of both is below 2^120. It is lawful, and its delays
+/// fit. It fails only for want of memory. A step costs a look at each server and at the first packet of each link, and the turn of one server: never a
 /// pass over the packets.
 pub fn run_of(alloc: Global, net: &Network, trace: &Trace) -> Result<Run, AllocError>
     requires named { IsTraceOf net.now trace.now }
     requires free { IsFeedForward net.now }
     requires narrow { simulation_gauge net.now trace.now < 2 ^ 120 }
-    ensures { IfOk result (λ run. IsSimulated (setup_of net.now trace.now) run) }
+    ensures stated { IfOk result (λ run. IsSimulated (setup_of net.now trace.now) run) }
+    ensures lawful { IfOk result (λ run. IsLawful (routes_of net.now) run) }
+    ensures fits { IfOk result (λ run. DelaysFit (routes_of net.now) run.end run.steps) }
 {
     let mut simulation = Simulation::new(alloc, net, trace)?;
     simulation.run_to_end(net, trace)?;
