@@ -1,5 +1,5 @@
 -- Steps in which a packet arrives at a server: it enters, or it reaches the server.
-use Rattle.std.specs.Prelude.{Some, ◌≡◌, ℕ, ◌+◌, ◌<◌, List, [], ◌∷◌, ◌++◌, length, set, slice_get}
+use Rattle.std.specs.Prelude.{Some, ◌≡◌, ℕ, ◌+◌, ◌<◌, List, [], ◌∷◌, ◌++◌, length, slice_get}
 use Rattle.std.proofs.Common.{refl, sym, ap, ◌∙◌, subst, arith}
 use Rattle.rational.specs.Rational.{ℚ, ◌≤ℚ◌}
 use Rattle.rational.proofs.Laws.{le_trans}
@@ -15,19 +15,18 @@ use Rattle.queue_sched.specs.Turns.{IsCard}
 use Rattle.index_links.specs.Chains.{Chains, IsLinked, unlinked}
 use Rattle.net_model.specs.declared.trace.TracePacket.{TracePacket}
 use Rattle.stated_runs.specs.Setups.{Entering, Setup, packet_of}
-use Rattle.stated_runs.specs.DueSteps.{IsDue, step_time, rank_of}
+use Rattle.stated_runs.specs.DueSteps.{step_time}
 use Rattle.stated_runs.specs.FromTraces.{entering}
 use Rattle.stated_runs.specs.Simulated.{IsNext}
 use Rattle.stated_runs.specs.Laws.{state_after}
 use Rattle.stated_runs.proofs.Lists.{In, in_contains}
 use Rattle.stated_runs.proofs.GoodSteps.{coming}
 use Rattle.sim_servers.specs.declared.due.Due.{Due}
-use Rattle.sim_servers.specs.declared.due.DueKind.{DueKind}
 use Rattle.sim_servers.specs.declared.due.DueKind.TheVariants as kinds
 use Rattle.sim_servers.specs.declared.station.Station.{Station}
 use Rattle.sim_servers.specs.Openings.{opening_for, OpeningRoom}
-use Rattle.sim_servers.specs.Firsts.{kind_number, place_of}
-use Rattle.sim_servers.specs.Stations.{IsStation, MayTake, IsBeforeStart}
+use Rattle.sim_servers.specs.Firsts.{kind_number}
+use Rattle.sim_servers.specs.Stations.{IsStation, MayTake}
 use Rattle.sim_states.specs.declared.arrival.Arrival.{Arrival}
 use Rattle.sim_states.specs.Laws.{IsAfter}
 use Rattle.sim_states.specs.Running.{arrival_at, due_at}
@@ -36,7 +35,7 @@ use Rattle.sim_states.proofs.Steps.{step_at, enter_keeps, reach_keeps}
 use Rattle.sim_states.proofs.Taking.{may_take_enter, may_take_reach}
 use Rattle.sim_loop.specs.Moves.{HasTaken}
 use Rattle.packet_sim.specs.Simulating.{IsSimulating, IsFirstDue}
-use Rattle.packet_sim.proofs.Candidates.{IsEnterDue, IsReachDue, enters, reaches, before_start}
+use Rattle.packet_sim.proofs.Candidates.{IsEnterDue, enters, reaches, before_start}
 use Rattle.packet_sim.proofs.Common.{rank_same, sound_at, simulating_after, room_at, has_entered, in_trace_of}
 
 -- ---- what is common

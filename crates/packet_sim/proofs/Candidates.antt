@@ -2,7 +2,7 @@
 use Rattle.std.specs.Prelude.{Option, Some, None, ◌≡◌, ◌⊎◌, ℕ, ◌<◌, List, length, slice_get}
 use Rattle.std.proofs.Common.{refl, sym, ap, ◌∙◌, subst, inl, inr}
 use Rattle.std.proofs.lemmas.Option.{slice_get_within}
-use Rattle.rational.specs.Rational.{ℚ, ◌≤ℚ◌}
+use Rattle.rational.specs.Rational.{ℚ}
 use Rattle.index_links.specs.Chains.{Chains, list_at, Has, first_of}
 use Rattle.stated_runs.specs.Setups.{Entering, Setup, packet_of}
 use Rattle.sim_servers.specs.declared.due.Due.{Due}

@@ -1,13 +1,12 @@
 -- What is common to all steps of a simulation.
-use Rattle.std.specs.Prelude.{Some, ◌≡◌, ℕ, ◌<◌, List, [], ◌∷◌, ◌++◌, length, map, set, slice_get}
-use Rattle.std.proofs.Common.{refl, sym, ap, ◌∙◌, subst, inl, inr, arith}
+use Rattle.std.specs.Prelude.{Some, ◌≡◌, ℕ, ◌<◌, List, length, map, set, slice_get}
+use Rattle.std.proofs.Common.{sym, ap, ◌∙◌, subst, inl, inr, arith}
 use Rattle.std.proofs.lemmas.Bool.{cases_eq}
 use Rattle.std.proofs.lemmas.Option.{slice_get_within}
 use Rattle.rational.specs.Rational.{ℚ}
 use Rattle.run_laws.specs.declared.steps.Step.{Step}
-use Rattle.run_laws.specs.Routes.{Route, route_of}
+use Rattle.run_laws.specs.Routes.{route_of}
 use Rattle.run_laws.specs.Views.{Entry, entry_of, hops_of}
-use Rattle.run_laws.specs.Routes.{Hop}
 use Rattle.index_links.specs.Chains.{Chains}
 use Rattle.net_model.specs.declared.trace.TracePacket.{TracePacket}
 use Rattle.stated_runs.specs.Setups.{Entering, Setup, packet_of}

@@ -1,6 +1,6 @@
 -- The delays of a stated run have room.
-use Rattle.std.specs.Prelude.{◌≡◌, ℕ, pos, ◌≤◌, ◌<◌, ◌==◌, ◌&&◌, Bool, true, false, List, [], ◌∷◌, ◌++◌}
-use Rattle.std.proofs.Common.{arith, refl, sym, subst, inl, inr}
+use Rattle.std.specs.Prelude.{◌≡◌, ℕ, pos, ◌==◌, ◌&&◌, List, [], ◌∷◌, ◌++◌}
+use Rattle.std.proofs.Common.{arith, sym, subst, inl, inr}
 use Rattle.std.proofs.lemmas.Bool.{cases_Bool}
 use Rattle.rational.specs.Rational.{ℚ, int, neg_ℚ, ◌+ℚ◌, ◌*ℚ◌, ◌≤ℚ◌}
 use Rattle.rational.specs.Ratio.{SumFits}
@@ -15,12 +15,12 @@ use Rattle.run_laws.specs.declared.steps.Step.TheVariants.{Enter, Reach, Work, L
 use Rattle.run_laws.specs.FlowDelays.{delivered_at}
 use Rattle.run_laws.specs.Routes.{Routes, link_at, route_of, last_server}
 use Rattle.run_laws.specs.Runs.{SpecRun}
-use Rattle.run_laws.specs.Lawful.{RunState, next_run, run_start}
+use Rattle.run_laws.specs.Lawful.{run_start}
 use Rattle.stated_runs.specs.Setups.{Setup}
-use Rattle.stated_runs.specs.DueSteps.{IsDue, step_time}
-use Rattle.stated_runs.specs.Simulated.{IsNext, Follows, FollowsSoFar, last_time, IsSimulated}
+use Rattle.stated_runs.specs.DueSteps.{step_time}
+use Rattle.stated_runs.specs.Simulated.{Follows, FollowsSoFar, last_time, IsSimulated}
 use Rattle.stated_runs.specs.Laws.{state_after}
-use Rattle.stated_runs.specs.TimeGrids.{HasRoom, IsTime, IsOnGrid, RunFits}
+use Rattle.stated_runs.specs.TimeGrids.{HasRoom, IsTime, RunFits}
 use Rattle.sim_servers.proofs.GridSteps.{sum_fits}
 use Rattle.sim_states.proofs.SoFar.{after_push, follows_push}
 use Rattle.run_measures.specs.Worst.{DelaysFit}

@@ -1,5 +1,5 @@
 -- The first of all that is due, and the end.
-use Rattle.std.specs.Prelude.{Option, Some, None, ◌≡◌, ℕ, ◌<◌, ◌^◌, List, length}
+use Rattle.std.specs.Prelude.{Some, None, ◌≡◌, ℕ, ◌<◌, ◌^◌, List, length}
 use Rattle.std.proofs.Common.{sym, ◌∙◌, subst, arith}
 use Rattle.run_laws.specs.declared.steps.Step.{Step}
 use Rattle.run_laws.specs.Lawful.{run_start}

@@ -1,6 +1,6 @@
 -- The time of the last step.
-use Rattle.std.specs.Prelude.{Some, ◌≡◌, ℕ, suc, ◌-◌, List, [], ◌∷◌, length, slice_get}
-use Rattle.std.proofs.Common.{sym, ap, ◌∙◌, subst, arith}
+use Rattle.std.specs.Prelude.{Some, ◌≡◌, suc, ◌-◌, List, [], ◌∷◌, length, slice_get}
+use Rattle.std.proofs.Common.{ap, ◌∙◌, arith}
 use Rattle.rational.specs.Rational.{ℚ}
 use Rattle.run_laws.specs.declared.steps.Step.{Step}
 use Rattle.stated_runs.specs.DueSteps.{step_time}

@@ -1,19 +1,18 @@
 -- Steps in which a packet leaves a server.
-use Rattle.std.specs.Prelude.{Some, None, ◌≡◌, ℕ, pos, ◌<◌, List, [], ◌∷◌, ◌++◌, length, set, slice_get}
+use Rattle.std.specs.Prelude.{Some, None, ◌≡◌, ℕ, ◌<◌, List, [], ◌∷◌, ◌++◌, length, set, slice_get}
 use Rattle.std.proofs.Common.{refl, sym, ap, ◌∙◌, subst, arith}
-use Rattle.rational.specs.Rational.{ℚ, int, ◌+ℚ◌, ◌≤ℚ◌}
+use Rattle.rational.specs.Rational.{ℚ, ◌+ℚ◌}
 use Rattle.rational.specs.Ratio.{SumFits}
 use Rattle.run_laws.specs.declared.steps.Step.{Step}
 use Rattle.run_laws.specs.declared.steps.Step.TheVariants as steps
-use Rattle.run_laws.specs.Cards.{Card, Leaves}
+use Rattle.run_laws.specs.Cards.{Leaves}
 use Rattle.run_laws.specs.Next.{next}
 use Rattle.run_laws.specs.Routes.{Hop, server_at, link_at, route_of, server_after}
-use Rattle.run_laws.specs.Views.{card_of, hops_of}
+use Rattle.run_laws.specs.Views.{card_of}
 use Rattle.run_laws.specs.Lawful.{state_at}
 use Rattle.index_links.specs.Chains.{Chains, IsFree, list_at, with_list}
 use Rattle.net_model.specs.declared.trace.TracePacket.{TracePacket}
 use Rattle.stated_runs.specs.Setups.{Setup, packet_of}
-use Rattle.stated_runs.specs.DueSteps.{step_time}
 use Rattle.stated_runs.specs.FromTraces.{entering}
 use Rattle.stated_runs.specs.Simulated.{IsNext}
 use Rattle.stated_runs.specs.Laws.{state_after}
@@ -32,7 +31,7 @@ use Rattle.sim_states.proofs.Firsts.{first_is_next}
 use Rattle.sim_states.proofs.Steps.{step_at, going, leave_keeps, last_leave_keeps}
 use Rattle.sim_loop.specs.Moves.{HasLost}
 use Rattle.packet_sim.specs.Simulating.{IsSimulating, IsFirstDue}
-use Rattle.packet_sim.proofs.Candidates.{IsStationDue, IsLeaveOf, at_station, leaving}
+use Rattle.packet_sim.proofs.Candidates.{at_station, leaving}
 use Rattle.packet_sim.proofs.Common.{rank_same, sound_at, simulating_after, room_at, has_entered, in_trace_of}
 
 -- ---- what is due

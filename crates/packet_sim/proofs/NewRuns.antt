@@ -1,18 +1,14 @@
 -- A simulation in which nothing has happened yet keeps the state of a run without steps.
-use Rattle.std.specs.Prelude.{Option, Some, None, ◌≡◌, ◌≢◌, ◌⊎◌, ◌↔◌, ℕ, zero, suc, pos, ◌+◌, ◌<◌, ◌≤◌, ◌^◌, List, [], ◌∷◌, ◌++◌, length, get_or, map, set, slice_get, All, AllPairs, Contains, replicate, sum_by}
+use Rattle.std.specs.Prelude.{Some, None, ◌≡◌, ◌⊎◌, ◌↔◌, ℕ, zero, suc, pos, ◌+◌, ◌<◌, List, [], ◌∷◌, ◌++◌, length, get_or, map, slice_get, replicate, sum_by}
 use Rattle.std.proofs.Common.{refl, sym, ap, ◌∙◌, subst, arith, inl, inr}
-use Rattle.std.proofs.lemmas.Bool.{cases_lt, cases_eq, eq-eqb, ne_eqb}
+use Rattle.std.proofs.lemmas.Bool.{cases_eq, eq-eqb, ne_eqb}
 use Rattle.std.proofs.lemmas.List.{length-map, length_push}
-use Rattle.std.proofs.lemmas.Option.{slice_get_within, get_or_from_slice_get}
-use Rattle.rational.specs.Rational.{ℚ, int, ◌≤ℚ◌, ◌<ℚ◌}
-use Rattle.run_laws.specs.Cards.{Card}
-use Rattle.run_laws.specs.Servers.{Fifo, Server, ServerState, start}
+use Rattle.rational.specs.Rational.{ℚ, int, ◌<ℚ◌}
+use Rattle.run_laws.specs.Servers.{Fifo, Server, start}
 use Rattle.run_laws.specs.Routes.{server_at}
-use Rattle.run_laws.specs.Lawful.{RunState, state_at, run_start}
+use Rattle.run_laws.specs.Lawful.{state_at, run_start}
 use Rattle.index_links.specs.Chains.{Chains, list_at, Has}
-use Rattle.net_model.specs.declared.server.ServiceKind.{ServiceKind}
 use Rattle.net_model.specs.declared.trace.Stall.{Stall}
-use Rattle.net_model.specs.declared.trace.TracePacket.{TracePacket}
 use Rattle.net_model.specs.Networks.{Net, NetServer}
 use Rattle.net_model.specs.Accepted.{IsAccepted}
 use Rattle.net_model.specs.NetRoutes.{server_for}
@@ -20,21 +16,18 @@ use Rattle.net_model.specs.Traces.{SpecTrace, IsTrace, IsStall}
 use Rattle.stated_runs.specs.Setups as setups
 use Rattle.stated_runs.specs.Setups.{Setup, StallTimes, IsSetup, IsGateFor, IsStalled, opening_of, rate_of}
 use Rattle.stated_runs.specs.FromTraces.{gate_of, stalls_at, openings_from, entering, setup_of, IsTraceOf}
-use Rattle.stated_runs.specs.TimeGrids.{IsTime, AreStallTimes, RunFits}
-use Rattle.stated_runs.specs.Laws.{state_after}
+use Rattle.stated_runs.specs.TimeGrids.{AreStallTimes, RunFits}
 use Rattle.stated_runs.proofs.MadeSetups.{traces_make_setups}
 use Rattle.sim_servers.specs.declared.opening.Opening.{Opening}
 use Rattle.sim_servers.specs.declared.opening.Span.{Span}
-use Rattle.sim_servers.specs.declared.station.Next.{Next}
 use Rattle.sim_servers.specs.declared.station.Next.TheVariants.{Nothing}
 use Rattle.sim_servers.specs.declared.station.Station.{Station}
 use Rattle.sim_servers.specs.Openings.{stall_times, opening_for, IsInOrder, IsOver}
-use Rattle.sim_servers.specs.Queues.{served_by, room_of, StandFor}
 use Rattle.sim_servers.specs.Stations.{IsStation, IsOpeningOf, IsNextOf}
 use Rattle.sim_states.specs.declared.arrival.Arrival.{Arrival}
-use Rattle.sim_states.specs.Places.{cards_of, at_server, places, ArePlaced}
-use Rattle.sim_states.specs.Running.{AreRising, AreLinks, AreStations, IsRunning}
-use Rattle.packet_sim.specs.Fresh.{AreSorted, IsFresh, IsFreshAt, AreFresh}
+use Rattle.sim_states.specs.Places.{at_server, ArePlaced}
+use Rattle.sim_states.specs.Running.{AreRising, AreLinks}
+use Rattle.packet_sim.specs.Fresh.{IsFreshAt, AreFresh}
 use Rattle.packet_sim.specs.Simulating.{HaveStallTimes, IsSimulating}
 
 -- ---- the setup at a server

@@ -1,17 +1,17 @@
 -- Steps in which a server starts: it turns to a queue, or puts a packet under way.
 use Rattle.std.specs.Prelude.{Option, Some, None, ◌≡◌, ◌≢◌, ℕ, zero, suc, pos, ◌<◌, List, [], ◌∷◌, ◌++◌, length, set, slice_get}
-use Rattle.std.proofs.Common.{refl, sym, ap, ◌∙◌, subst, arith, inl, inr}
+use Rattle.std.proofs.Common.{refl, sym, ap, ◌∙◌, subst, arith, inr}
 use Rattle.std.proofs.lemmas.Option.{slice_get_within}
 use Rattle.rational.specs.Rational.{ℚ, int, ◌-ℚ◌, ◌/ℚ◌, ◌≤ℚ◌, ◌<ℚ◌}
 use Rattle.rational.specs.Ratio.{IsSmall}
-use Rattle.rational.proofs.Laws.{le_refl, le_trans, not_zero, antisym}
+use Rattle.rational.proofs.Laws.{le_refl, not_zero, antisym}
 use Rattle.rational.proofs.Linear.{with1}
 use Rattle.run_laws.specs.declared.steps.Step.{Step}
 use Rattle.run_laws.specs.declared.steps.Step.TheVariants as steps
 use Rattle.run_laws.specs.Cards.{Card, Works, Visits, size, whole}
 use Rattle.run_laws.specs.Servers.{Discipline, ServerState, done_so_far}
 use Rattle.run_laws.specs.Next.{next}
-use Rattle.run_laws.specs.Allows.{pick, MayVisit}
+use Rattle.run_laws.specs.Allows.{pick}
 use Rattle.run_laws.specs.Routes.{Hop, PassesServer, server_at, route_of}
 use Rattle.run_laws.specs.Views.{Entry, card_of, entry_of}
 use Rattle.run_laws.specs.Lawful.{state_at}
@@ -21,8 +21,8 @@ use Rattle.queue_sched.specs.declared.turn.Turn.{Turn}
 use Rattle.queue_sched.specs.declared.turn.Turn.TheVariants as turns
 use Rattle.index_links.specs.Chains.{Chains}
 use Rattle.net_model.specs.declared.trace.TracePacket.{TracePacket}
-use Rattle.stated_runs.specs.Setups.{Entering, Setup, IsFirstOpen, IsStretch, packet_of, rate_of}
-use Rattle.stated_runs.specs.DueSteps.{IsDue, work_kind}
+use Rattle.stated_runs.specs.Setups.{Entering, Setup, packet_of, rate_of}
+use Rattle.stated_runs.specs.DueSteps.{work_kind}
 use Rattle.stated_runs.specs.FromTraces.{entering}
 use Rattle.stated_runs.specs.Simulated.{IsNext}
 use Rattle.stated_runs.specs.Laws.{state_after}
@@ -48,10 +48,10 @@ use Rattle.sim_states.specs.Laws.{IsAfter}
 use Rattle.sim_states.proofs.Firsts.{first_is_next}
 use Rattle.sim_states.proofs.Kept.{set_same}
 use Rattle.sim_states.proofs.Steps.{visit_keeps, work_keeps}
-use Rattle.sim_loop.specs.Moves.{HasTurned, HasWorked, MayWorkOn}
-use Rattle.packet_sim.specs.Simulating.{HaveStallTimes, IsSimulating, IsFirstDue, IsTurning}
+use Rattle.sim_loop.specs.Moves.{HasWorked, MayWorkOn}
+use Rattle.packet_sim.specs.Simulating.{IsSimulating, IsFirstDue, IsTurning}
 use Rattle.packet_sim.proofs.Candidates.{at_station, starting}
-use Rattle.packet_sim.proofs.Common.{rank_same, sound_at, simulating_after, stalls_after, HasEntered, has_entered, in_trace_of}
+use Rattle.packet_sim.proofs.Common.{rank_same, sound_at, simulating_after, has_entered, in_trace_of}
 use Rattle.packet_sim.proofs.Working.{IsReady, IsFit, MayWorkAt, may_work, work_is_due, worked}
 
 -- ---- what is due

@@ -1,20 +1,20 @@
 -- Steps in which a server works.
-use Rattle.std.specs.Prelude.{Some, None, ◌≡◌, ℕ, pos, ◌<◌, List, [], ◌∷◌, ◌++◌, length, set, slice_get}
-use Rattle.std.proofs.Common.{refl, sym, ap, ◌∙◌, subst, arith, inl, inr}
-use Rattle.rational.specs.Rational.{ℚ, int, ◌+ℚ◌, ◌-ℚ◌, ◌*ℚ◌, ◌/ℚ◌, ◌≤ℚ◌, ◌<ℚ◌}
+use Rattle.std.specs.Prelude.{Some, None, ◌≡◌, ℕ, pos, ◌<◌, List, [], ◌∷◌, ◌++◌, length, slice_get}
+use Rattle.std.proofs.Common.{refl, sym, ap, ◌∙◌, subst, arith, inl}
+use Rattle.rational.specs.Rational.{ℚ, int, ◌-ℚ◌, ◌*ℚ◌, ◌/ℚ◌, ◌≤ℚ◌, ◌<ℚ◌}
 use Rattle.rational.specs.Ratio.{IsSmall}
 use Rattle.rational.proofs.Linear.{with2}
 use Rattle.run_laws.specs.declared.steps.Step.{Step}
 use Rattle.run_laws.specs.declared.steps.Step.TheVariants as steps
 use Rattle.run_laws.specs.Cards.{Card, Works, size}
-use Rattle.run_laws.specs.Servers.{Under, ServerState, done, done_so_far}
+use Rattle.run_laws.specs.Servers.{ServerState, done, done_so_far}
 use Rattle.run_laws.specs.Next.{next}
 use Rattle.run_laws.specs.Routes.{server_at}
 use Rattle.run_laws.specs.Views.{card_of}
 use Rattle.run_laws.specs.Lawful.{state_at}
 use Rattle.index_links.specs.Chains.{Chains}
-use Rattle.stated_runs.specs.Setups.{Setup, IsSetup, IsFirstOpen, IsStretch, IsOpenAt, StaysTo, rate_of}
-use Rattle.stated_runs.specs.DueSteps.{IsDue, work_kind, step_time}
+use Rattle.stated_runs.specs.Setups.{Setup, IsSetup, IsFirstOpen, IsStretch, rate_of}
+use Rattle.stated_runs.specs.DueSteps.{IsDue, work_kind}
 use Rattle.stated_runs.specs.Simulated.{IsNext}
 use Rattle.stated_runs.specs.Laws.{state_after}
 use Rattle.stated_runs.specs.TimeGrids.{IsTime, IsGateTime, AreStallTimes}
@@ -28,7 +28,7 @@ use Rattle.sim_servers.specs.declared.station.Rest.{Rest}
 use Rattle.sim_servers.specs.declared.station.Station.{Station}
 use Rattle.sim_servers.specs.declared.station.Stretch.{Stretch}
 use Rattle.sim_servers.specs.declared.server_queues.ServerQueues.{ServerQueues}
-use Rattle.sim_servers.specs.Openings.{opening_for, IsInOrder, HasOpened, IsSameOpening}
+use Rattle.sim_servers.specs.Openings.{opening_for, HasOpened}
 use Rattle.sim_servers.specs.Firsts.{kind_number}
 use Rattle.sim_servers.specs.Queues.{served_by, StandFor, work_goes_on}
 use Rattle.sim_servers.specs.Stations.{IsStation, IsOpeningOf, IsNextOf, WillResume, rest_for, IsWorkOf, IsAfterWork}

@@ -1,6 +1,5 @@
-use Rattle.std.specs.Prelude.{◌≡◌, List, length}
+use Rattle.std.specs.Prelude.{List, length}
 use Rattle.std.proofs.Common.{subst}
-use Rattle.net_model.specs.declared.server.Server.{Server}
 use Rattle.net_model.specs.declared.trace.Stall.{Stall}
 use Rattle.net_model.specs.declared.trace.TracePacket.{TracePacket}
 use Rattle.net_model.specs.Views.{server_of}

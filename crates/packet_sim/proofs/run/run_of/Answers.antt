@@ -1,4 +1,4 @@
-use Rattle.std.specs.Prelude.{◌≡◌, pos}
+use Rattle.std.specs.Prelude.{pos}
 use Rattle.std.proofs.Common.{ap, ◌∙◌}
 use Rattle.rational.specs.Rational.{int}
 use Rattle.run_laws.specs.Runs.{SpecRun}

@@ -1,6 +1,5 @@
-use Rattle.std.specs.Prelude.{◌≡◌, Some, None, List, length, map}
+use Rattle.std.specs.Prelude.{Some, None, List, length, map}
 use Rattle.std.proofs.Common.{sym, ap, subst}
-use Rattle.net_model.specs.declared.trace.TracePacket.{TracePacket}
 use Rattle.stated_runs.specs.FromTraces.{entering, setup_of}
 use Rattle.sim_servers.specs.declared.station.Station.{Station}
 use Rattle.sim_states.specs.declared.arrival.Arrival.{Arrival}
