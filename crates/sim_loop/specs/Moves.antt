@@ -25,6 +25,7 @@ pub record HasTaken (before after : List Station) (s packet queue bits : ℕ) (t
   pub old : Station
   pub new : Station
   pub moved : IsMoved before after s old new
+  pub same : IsSameOpening old.opening new.opening
   pub joined : (S : Setup) (k : ℕ) (σ : ServerState) (c : Card) → IsStation S k σ old → IsCard c packet queue bits → σ.now ≤ℚ time → IsBeforeStart old.next time
       → IsStation S k (next (server_at S.net k).discipline σ (Arrives c time)) new
 
@@ -33,6 +34,7 @@ pub record HasLost (before after : List Station) (s : ℕ) (time : ℚ) (packet 
   pub old : Station
   pub new : Station
   pub moved : IsMoved before after s old new
+  pub same : IsSameOpening old.opening new.opening
   pub left : (S : Setup) (k : ℕ) (σ : ServerState) (u : Under) → IsStation S k σ old → σ.under ≡ Some u
       → (u.card.packet ≡ packet) × IsStation S k (next (server_at S.net k).discipline σ (Leaves u.card time)) new
 

@@ -21,12 +21,12 @@ use Rattle.sim_states.specs.Places.{dues_of}
 use Rattle.sim_states.proofs.Places.{dues_less, no_due, one_same}
 
 -- ---- stations
-set_same : {X : Type 0} (xs : List X) (s : ℕ) (y : X) → s < length xs → slice_get (set xs s y) s ≡ Some y
+pub set_same : {X : Type 0} (xs : List X) (s : ℕ) (y : X) → s < length xs → slice_get (set xs s y) s ≡ Some y
 set_same [] s y h = absurd (omega (arith, h))
 set_same (x ∷ xs) zero y h = refl
 set_same (x ∷ xs) (suc s) y h = set_same xs s y (omega (arith, h))
 
-set_other : {X : Type 0} (xs : List X) (s k : ℕ) (y : X) → k ≢ s → slice_get (set xs s y) k ≡ slice_get xs k
+pub set_other : {X : Type 0} (xs : List X) (s k : ℕ) (y : X) → k ≢ s → slice_get (set xs s y) k ≡ slice_get xs k
 set_other [] s k y h = refl
 set_other (x ∷ xs) zero zero y h = absurd (h refl)
 set_other (x ∷ xs) zero (suc k) y h = refl

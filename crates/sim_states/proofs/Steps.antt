@@ -31,11 +31,11 @@ use Rattle.sim_states.proofs.Kept.{stations_kept, links_kept, links_reach, links
 use Rattle.sim_states.proofs.Running.{ahead_arrive, ahead_work, ahead_leave, ahead_visit, ahead_next, running_by, entries_push}
 
 -- ---- what holds at each step
-record IsStepAt (S : Setup) (r : RunState) (x : Step) : Type 0 where
-  known : server_of S.net x < length S.net.servers
-  many : server_of S.net x < length r.servers
+pub record IsStepAt (S : Setup) (r : RunState) (x : Step) : Type 0 where
+  pub known : server_of S.net x < length S.net.servers
+  pub many : server_of S.net x < length r.servers
 
-step_at : (S : Setup) → IsSetup S → (r : RunState) (x : Step) → IsSound S r → IsNext S r x → IsStepAt S r x
+pub step_at : (S : Setup) → IsSetup S → (r : RunState) (x : Step) → IsSound S r → IsNext S r x → IsStepAt S r x
 step_at S ok r x sound n =
     let k = good_next S ok r sound.time sound.good x n in
     record { known = k.known; many = omega (arith, k.known, sound.good.many) }
@@ -124,17 +124,17 @@ visit_keeps S ok stations links arrivals n xs h s q t next_one new own =
 
 -- ---- a packet leaves
 -- it is the first of its queue, and on no link
-record IsGoing (S : Setup) (r : RunState) (links : Chains) (s p : ℕ) (t : ℚ) : Type 0 where
-  card : Card
-  packet_is : card.packet ≡ p
-  head : head_of (card_of S.net r.entered p s).queue (state_at r s).inside ≡ Some card
-  entered_one : p < length r.entered
-  free : (j : ℕ) → ¬ (Has (list_at links j) p)
-  under : Under
-  is_under : (state_at r s).under ≡ Some under
-  busy : (state_at r s).busy ≡ t
+pub record IsGoing (S : Setup) (r : RunState) (links : Chains) (s p : ℕ) (t : ℚ) : Type 0 where
+  pub card : Card
+  pub packet_is : card.packet ≡ p
+  pub head : head_of (card_of S.net r.entered p s).queue (state_at r s).inside ≡ Some card
+  pub entered_one : p < length r.entered
+  pub free : (j : ℕ) → ¬ (Has (list_at links j) p)
+  pub under : Under
+  pub is_under : (state_at r s).under ≡ Some under
+  pub busy : (state_at r s).busy ≡ t
 
-going : (S : Setup) (stations : List Station) (links : Chains) (arrivals : List Arrival) (n : ℕ) (xs : List Step) → IsRunning S stations links arrivals n xs
+pub going : (S : Setup) (stations : List Station) (links : Chains) (arrivals : List Arrival) (n : ℕ) (xs : List Step) → IsRunning S stations links arrivals n xs
     → IsSound S (state_after S xs) → (s p : ℕ) (t : ℚ) → IsStepAt S (state_after S xs) (Leave s p t) → IsLeaving (state_at (state_after S xs) s) p t
     → IsGoing S (state_after S xs) links s p t
 going S stations links arrivals n xs h sound s p t k y =

@@ -12,5 +12,6 @@ returns c = record {
     is = refl;
     room = c.arrive.ensures.room;
   };
+  same = c.arrive.ensures.same;
   joined = c.arrive.ensures.joined;
 }

@@ -12,5 +12,6 @@ returns c = record {
     is = refl;
     room = c.leave.ensures.room;
   };
+  same = c.leave.ensures.same;
   left = c.leave.ensures.left;
 }

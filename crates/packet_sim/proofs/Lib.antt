@@ -1,0 +1,12 @@
+pub mod Candidates
+pub mod Common
+pub mod Arriving
+pub mod Leaving
+pub mod Working
+pub mod Starting
+pub mod NewRuns
+pub mod Ending
+pub mod SortedStalls
+pub mod Stepped
+pub mod Last
+pub mod DelayTimes

@@ -1,0 +1,3 @@
+pub mod Simulating
+pub mod Stepping
+pub mod Fresh

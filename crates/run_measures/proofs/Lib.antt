@@ -1,0 +1,5 @@
+pub mod Largest
+pub mod Telling
+pub mod Numbering
+pub mod Walking
+pub mod Lawful

@@ -1,0 +1,4 @@
+pub mod Numbered
+pub mod Worst
+pub mod Tallies
+pub mod Laws
