@@ -3,9 +3,9 @@ use Rattle.std.specs.Prelude.{ℕ, ◌<◌, ◌≤◌, ◌==◌, List, length, O
 use Rattle.rational.specs.Rational.{ℚ, ◌-ℚ◌, ◌≤ℚ◌, neg_ℚ}
 use Rattle.rational.specs.Ratio.{SumFits}
 use Rattle.rational.specs.Extended.{Ext}
-use Rattle.fraction128.specs.declared.fault.Wide.{Wide}
-use Rattle.upp_curve.specs.Curve.{SpecCurve, value_at}
-use Rattle.upp_curve.specs.Steps.{IsWideValueAt}
+use Rattle.affine_segment.specs.declared.line.Piece.{Piece}
+use Rattle.affine_segment.specs.Pieces.{StartsAtZero}
+use Rattle.affine_segment.specs.Fits.{ReadFits}
 use Rattle.run_laws.specs.declared.steps.Step.{Step}
 use Rattle.run_laws.specs.declared.steps.Step.TheVariants.{Enter, Reach, Work, Leave, Visit}
 use Rattle.watch_laws.specs.declared.entering.Entering.{Entering}
@@ -30,15 +30,16 @@ pub record IsFirstLonger (longest : ℕ) (es : List Entering) (k : ℕ) : Type 0
   pub before : (j : ℕ) → j < k → (entering es j).bits ≤ longest
 
 -- ---- windows
--- the time from s to t fits, and the curve can be read there
-pub record WindowReads (c : SpecCurve) (s t : ℚ) : Type 0 where
+-- the time from s to t fits, and the pieces of a curve can be read there
+pub record WindowReads (ps : List Piece) (s t : ℚ) : Type 0 where
+  pub starts : StartsAtZero ps
   pub forward : s ≤ℚ t
   pub fits : SumFits t (neg_ℚ s)
-  pub reads : (w : Wide) → ¬ IsWideValueAt c (t -ℚ s) w
+  pub reads : ReadFits ps (t -ℚ s)
 
 -- so between each two packets
-abbrev pub FlowReads : SpecCurve → List Entering → Type 0
-FlowReads c es = (i j : ℕ) → i ≤ j → j < length es → WindowReads c (entering es i).time (entering es j).time
+abbrev pub FlowReads : List Piece → List Entering → Type 0
+FlowReads ps es = (i j : ℕ) → i ≤ j → j < length es → WindowReads ps (entering es i).time (entering es j).time
 
 -- no pair is crowded that ends with packet `last` and begins with packet `from` or a later one
 abbrev pub NoneCrowdedFrom : (ℚ → Ext) → List Entering → ℕ → ℕ → Type 0

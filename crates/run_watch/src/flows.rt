@@ -3,18 +3,18 @@
 ghost use Rattle.std.specs.Prelude.{◌≡◌, ◌↔◌, ℕ, ◌<◌, ◌≤◌, ◌^◌, pos, length, IfOk, IsTrue, MatchOption};
 ghost use Rattle.rational.specs.Rational.{int, ◌≤ℚ◌};
 ghost use Rattle.rational.specs.Extended.{◌<ₑ◌};
-ghost use Rattle.fraction128.specs.declared.fault.Wide.{Wide};
-ghost use Rattle.upp_curve.specs.Curve.{value_at};
-ghost use Rattle.upp_curve.specs.Steps.{IsWideValueAt};
+ghost use Rattle.affine_segment.specs.Pieces.{StartsAtZero};
+ghost use Rattle.affine_segment.specs.Reading.{read};
+ghost use Rattle.affine_segment.specs.Fits.{ReadFits};
 ghost use Rattle.run_laws.specs.Cards.{whole};
 ghost use Rattle.watch_laws.specs.Entries.{entries};
 ghost use Rattle.run_watch.specs.Flows.{entering_in, NoneLonger, IsFirstLonger, FlowReads, FindsFirst, NoneCrowded, IsFirstCrowded};
 
+use affine_segment::{Piece, read};
 use fraction128::{Frac, difference, is_less};
 use rational::Extended;
 use run_laws::Step;
 use std::alloc::{AllocError, Global};
-use upp_curve::Curve;
 use watch_laws::Entering;
 
 /// The packet that enters on a flow by a step, if one does.
@@ -66,24 +66,25 @@ pub fn first_too_long(entries: &[Entering], longest: u32) -> Option<usize>
     None
 }
 
-/// Whether so many bits are more than the curve at d.
-fn is_over(arrival: &Curve, d: Frac, bits: u128) -> bool
+/// Whether so many bits are more than the pieces of a curve have at d.
+fn is_over(arrival: &[Piece], d: Frac, bits: u128) -> bool
+    requires starts { StartsAtZero arrival.now }
     requires time { int (pos 0) ≤ℚ d }
-    requires reads { (w : Wide) → ¬ (IsWideValueAt arrival.now d w) }
+    requires reads { ReadFits arrival.now d }
     requires bits { bits < 2 ^ 127 }
-    ensures { IsTrue result ↔ (value_at arrival.now d <ₑ Extended.Fin (whole bits)) }
+    ensures { IsTrue result ↔ (read arrival.now d <ₑ Extended.Fin (whole bits)) }
 {
-    match arrival.value_at(d) {
-        Ok(Extended::Fin(value)) => is_less(value, Frac::from_whole(bits as i128)),
-        _ => false,
+    match read(arrival, d) {
+        Extended::Fin(value) => is_less(value, Frac::from_whole(bits as i128)),
+        Extended::Inf => false,
     }
 }
 
 /// The first packet from which too many bits enter up to one.
-fn least_first(entries: &[Entering], arrival: &Curve, last: usize) -> Option<usize>
+fn least_first(entries: &[Entering], arrival: &[Piece], last: usize) -> Option<usize>
     requires in_range { last < length entries.now }
     requires reads { FlowReads arrival.now entries.now }
-    ensures { FindsFirst (value_at arrival.now) entries.now 0 last result }
+    ensures { FindsFirst (read arrival.now) entries.now 0 last result }
 {
     let end = entries[last].time;
     let mut bits: u128 = 0;
@@ -99,11 +100,11 @@ fn least_first(entries: &[Entering], arrival: &Curve, last: usize) -> Option<usi
     found
 }
 
-/// The packets, first and last, between which too many bits enter: with the least last one, and of those with the least
-/// first one. It looks at each pair once.
-pub fn first_crowded(entries: &[Entering], arrival: &Curve) -> Option<(usize, usize)>
+/// The packets, first and last, between which more bits enter than the pieces of a curve have: with the least last one,
+/// and of those with the least first one. It looks at each pair once.
+pub fn first_crowded(entries: &[Entering], arrival: &[Piece]) -> Option<(usize, usize)>
     requires { FlowReads arrival.now entries.now }
-    ensures { MatchOption result (NoneCrowded (value_at arrival.now) entries.now (length entries.now)) (λ p. IsFirstCrowded (value_at arrival.now) entries.now p.0 p.1) }
+    ensures { MatchOption result (NoneCrowded (read arrival.now) entries.now (length entries.now)) (λ p. IsFirstCrowded (read arrival.now) entries.now p.0 p.1) }
 {
     for last in 0..entries.len() {
         if let Some(first) = least_first(entries, arrival, last) {
