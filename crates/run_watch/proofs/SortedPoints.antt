@@ -18,6 +18,7 @@ use Rattle.watch_laws.specs.declared.point.Segment.{Segment}
 use Rattle.watch_laws.specs.Shorts.{EachPoint, HasPoint, EachSegment, HasSegment, PointsRise, IsShortBy, NoneShortTo, NoneShort, IsShortEnd}
 use Rattle.run_watch.specs.declared.span.Ramp.{Ramp}
 use Rattle.run_watch.specs.Ramps.{EachRamp, ReadsRamp}
+use Rattle.run_watch.specs.Watching.{TimesRise}
 use Rattle.run_watch.specs.FirstEnds.{KeySteps, GapSteps, FitsMarks, FitsSegments, IsFirstEnd, mark_of, rule_of}
 use Rattle.run_watch.specs.WatchTimes.{point_at, IsShortTo, IsFirstStart}
 use Rattle.run_watch.specs.IdleWindows.{IsShortWindow, NoneIsShort, IsFirstShort, TimeFits, SegmentsFit}
@@ -81,6 +82,14 @@ later_times x (t ∷ ts) h =
     more : (us : List ℚ) → EachTime (λ u. t ≤ℚ u) us → EachTime (λ u. x ≤ℚ u) us
     more [] k = tt
     more (u ∷ us) k = (le_trans (no_less x t (h 0 x (omega arith) (omega arith))) k.0, more us k.1)
+
+pub sorted_rise : (ts : List ℚ) → IsSorted cmp_q ts → (from : ℚ) × TimesRise from ts
+sorted_rise [] h = (int (pos 0), tt)
+sorted_rise (x ∷ ts) h = (x, (le_refl x, go x ts h))
+  where
+    go : (x : ℚ) (ts : List ℚ) → IsSorted cmp_q (x ∷ ts) → TimesRise x ts
+    go x [] h = tt
+    go x (t ∷ ts) h = (no_less x t (h 0 x (omega arith) (omega arith)), go t ts (tail_sorted x (t ∷ ts) h))
 
 each_point_at : (P : Point → Type 0) (works : List Ramp) (ts : List ℚ) → EachTime (λ t. P (point_at works t)) ts → EachPoint P (map (point_at works) ts)
 each_point_at P works [] h = tt

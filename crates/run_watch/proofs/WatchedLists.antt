@@ -36,7 +36,7 @@ later_than from [] j d h l = absurd (omega arith)
 later_than from (t ∷ ts) zero d h l = h.0
 later_than from (t ∷ ts) (suc j) d h l = le_trans h.0 (later_than t ts j d h.1 (omega arith))
 
-times_rise : (from : ℚ) (ts : List ℚ) (i j : ℕ) (d : ℚ) → TimesRise from ts → i ≤ j → j < length ts → get_or ts i d ≤ℚ get_or ts j d
+pub times_rise : (from : ℚ) (ts : List ℚ) (i j : ℕ) (d : ℚ) → TimesRise from ts → i ≤ j → j < length ts → get_or ts i d ≤ℚ get_or ts j d
 times_rise from [] i j d h k l = absurd (omega arith)
 times_rise from (t ∷ ts) zero zero d h k l = le_refl t
 times_rise from (t ∷ ts) zero (suc j) d h k l = later_than t ts j d h.1 (omega arith)
