@@ -185,10 +185,6 @@ kind_known (Arrival f i j) = omega arith
 kind_known (Service s a b) = omega arith
 
 -- ---- answers
-pub ok_map : {A E : Type 0} (P Q : A → Type 0) (r : Result A E) → ((a : A) → P a → Q a) → IfOk r P → IfOk r Q
-ok_map P Q (Ok a) f h = f a h
-ok_map P Q (Err e) f h = h
-
 pub ok_any : {A E : Type 0} (P : Type 0) (r : Result A E) → P → IfOk r (λ _. P)
 ok_any P (Ok a) h = h
 ok_any P (Err e) h = tt

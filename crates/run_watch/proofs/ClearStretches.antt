@@ -1,12 +1,10 @@
 -- A stretch whose own turns, moved by the start of a piece or not, show no short window has no idle one.
-use Rattle.std.specs.Prelude.{◌≡◌, ◌⊎◌, ℕ, ◌+◌, ◌<◌, ◌≤◌, pos, List, length, take, Option, Some, None}
+use Rattle.std.specs.Prelude.{◌≡◌, ℕ, ◌<◌, pos, List, length}
 use Rattle.std.specs.List.{slice_index_or}
 use Rattle.std.proofs.Common.{arith, refl, sym, subst, inl, inr}
 use Rattle.rational.specs.Rational.{ℚ, int, ◌+ℚ◌, ◌-ℚ◌, ◌≤ℚ◌, ◌<ℚ◌}
-use Rattle.rational.proofs.Laws.{le_refl, le_trans, le_of_lt, le_or_lt, antisym}
-use Rattle.rational.proofs.Linear.{with2, with3, with4}
-use Rattle.affine_segment.specs.declared.line.Piece.{Piece}
-use Rattle.affine_segment.specs.Pieces.{HasStart}
+use Rattle.rational.proofs.Laws.{le_trans, le_of_lt, le_or_lt, antisym}
+use Rattle.rational.proofs.Linear.{with2, with4}
 use Rattle.upp_curve.specs.Curve.{SpecCurve, value_at}
 use Rattle.upp_curve.specs.Unrolled.{unroll}
 use Rattle.upp_normal.proofs.UnrolledPieces.{unroll_starts}
@@ -15,7 +13,7 @@ use Rattle.run_laws.specs.Servers.{Server}
 use Rattle.watch_laws.specs.Affine.{Among}
 use Rattle.watch_laws.specs.Breaks.{IsBreak}
 use Rattle.watch_laws.specs.Windows.{IsPair}
-use Rattle.watch_laws.specs.Stretches.{IsStretch, IsTurn}
+use Rattle.watch_laws.specs.Stretches.{IsTurn}
 use Rattle.watch_laws.specs.Breaches.{IsIdle}
 use Rattle.watch_laws.specs.Segments.{segments}
 use Rattle.watch_laws.proofs.CurveSegments.{segments_tell}
@@ -27,7 +25,7 @@ use Rattle.run_watch.specs.Watching.{stretches, HoldsTimes}
 use Rattle.run_watch.specs.WatchTimes.{around, watched_from, point_at}
 use Rattle.run_watch.specs.IdleWindows.{NoneIsShort}
 use Rattle.run_watch.proofs.FoundTimes.{AreTurns, IsWithin, watched_in, around_after, around_before, zero_start}
-use Rattle.run_watch.proofs.IdleIn.{IsSearched, IsPlaced, within, less_seen, short_from, placed}
+use Rattle.run_watch.proofs.IdleIn.{IsSearched, within, less_seen, short_from, placed}
 
 -- a turn of the stretch is one of its own
 own_turn : (end : ℚ) (V : List ServerStep) (s : Stretch) (ps own : List ℚ) (t : ℚ) → AreTurns end V ps → HoldsTimes s ps own → IsTurn end V t → s.start ≤ℚ t → t ≤ℚ s.end → Among t own

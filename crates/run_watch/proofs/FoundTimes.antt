@@ -1,11 +1,11 @@
 -- The times that are looked at in a stretch are its watch points.
-use Rattle.std.specs.Prelude.{◌≡◌, ◌⊎◌, pos, Bool, true, false, ◌&&◌, List, [], ◌∷◌, ◌++◌}
-use Rattle.std.proofs.Common.{arith, refl, sym, subst, ap, ◌∙◌, inl, inr}
+use Rattle.std.specs.Prelude.{◌≡◌, ◌⊎◌, pos, ◌&&◌, List, [], ◌∷◌, ◌++◌}
+use Rattle.std.proofs.Common.{arith, refl, sym, subst, inl, inr}
 use Rattle.std.proofs.lemmas.Bool.{cases_Bool, and_from, and_parts}
 use Rattle.rational.specs.Rational.{ℚ, int, ◌+ℚ◌, ◌-ℚ◌, ◌≤ℚ◌, ◌<ℚ◌, le_q}
-use Rattle.rational.proofs.Laws.{le_refl, le_trans, le_or_lt, le_of_lt, lt_le_trans, le_lt_trans, lt_irrefl, antisym}
+use Rattle.rational.proofs.Laws.{le_or_lt, antisym}
 use Rattle.rational.proofs.Over.{le_q_out, le_q_in}
-use Rattle.rational.proofs.Linear.{with2, with3, with4, with6}
+use Rattle.rational.proofs.Linear.{with2, with3, with4}
 use Rattle.affine_segment.specs.declared.line.Piece.{Piece}
 use Rattle.upp_curve.specs.Curve.{SpecCurve}
 use Rattle.affine_segment.specs.Pieces.{HasStart, StartsAtZero}

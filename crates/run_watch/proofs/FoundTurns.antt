@@ -1,26 +1,25 @@
 -- The turns that are found are those of the view.
-use Rattle.std.specs.Prelude.{◌≡◌, ◌≢◌, ◌⊎◌, pos, Bool, true, false, ◌&&◌, List, [], ◌∷◌, ◌++◌}
+use Rattle.std.specs.Prelude.{◌≡◌, ◌≢◌, ◌⊎◌, pos, true, List, [], ◌∷◌, ◌++◌}
 use Rattle.std.proofs.Common.{refl, sym, subst, ap, ap₂, ◌∙◌, inl, inr, true≢false}
 use Rattle.std.proofs.lemmas.Bool.{cases_Bool}
 use Rattle.std.specs.Ordering.{is_eq}
 use Rattle.std.specs.declared.cmp.Ordering.{Ordering}
 use Rattle.std.specs.declared.cmp.Ordering.TheVariants.{Less, Equal, Greater}
-use Rattle.rational.specs.Rational.{ℚ, int, ◌+ℚ◌, ◌-ℚ◌, ◌/ℚ◌, ◌≤ℚ◌, ◌<ℚ◌, le_q, lt_q}
+use Rattle.rational.specs.Rational.{ℚ, int, ◌+ℚ◌}
 use Rattle.rational.specs.Ratio.{cmp_q}
 use Rattle.rational.proofs.Comparison.{cmp_equal, cmp_self}
 use Rattle.fraction128.specs.Order.{same_q}
-use Rattle.run_laws.specs.Cards.{all, ServerStep}
+use Rattle.run_laws.specs.Cards.{ServerStep}
 use Rattle.run_laws.specs.Servers as servers
-use Rattle.run_laws.specs.Counts.{when}
 use Rattle.watch_laws.specs.Affine.{Among}
-use Rattle.watch_laws.specs.Paces.{pace_before, pace_after, IsPaceChange}
-use Rattle.watch_laws.specs.Stretches.{IsStretch, IsTurn}
+use Rattle.watch_laws.specs.Paces.{pace_before, pace_after}
+use Rattle.watch_laws.specs.Stretches.{IsTurn}
 use Rattle.watch_laws.proofs.Times.{work_same}
 use Rattle.run_watch.specs.declared.span.Span.{Span}
 use Rattle.run_watch.specs.declared.span.Ramp.{Ramp}
 use Rattle.run_watch.specs.declared.watched.Watched.{Watched}
 use Rattle.run_watch.specs.declared.watched.Stretch.{Stretch}
-use Rattle.run_watch.specs.Ramps.{rate_before, rate_after, ramps_after, spans_of}
+use Rattle.run_watch.specs.Ramps.{rate_before, rate_after, spans_of}
 use Rattle.run_watch.specs.Seen.{work_spans}
 use Rattle.run_watch.specs.Watching.{stretches, change_at, changes_in, ends_of, turns}
 use Rattle.run_watch.proofs.RampLists.{spans_are}

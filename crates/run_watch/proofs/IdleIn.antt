@@ -1,36 +1,33 @@
 -- The short windows of a stretch are its idle windows, and the first of the first stretch that has one is the first of all.
-use Rattle.std.specs.Prelude.{◌≡◌, ◌⊎◌, ℕ, zero, suc, ◌+◌, ◌<◌, ◌≤◌, pos, List, [], ◌∷◌, length, take, drop}
+use Rattle.std.specs.Prelude.{◌≡◌, ◌⊎◌, ℕ, zero, suc, ◌+◌, ◌<◌, ◌≤◌, pos, List, [], ◌∷◌, length, take}
 use Rattle.std.specs.List.{slice_index_or}
-use Rattle.std.proofs.Common.{arith, refl, sym, subst, ap, ap₂, ◌∙◌, inl, inr, add-one}
-use Rattle.rational.specs.Rational.{ℚ, int, ◌+ℚ◌, ◌-ℚ◌, ◌≤ℚ◌, ◌<ℚ◌}
+use Rattle.std.proofs.Common.{arith, refl, sym, subst, ap, ◌∙◌, inl, inr, add-one}
+use Rattle.rational.specs.Rational.{ℚ, int, ◌-ℚ◌, ◌≤ℚ◌, ◌<ℚ◌}
 use Rattle.rational.specs.Extended.{Ext, ◌≤ₑ◌, ◌<ₑ◌, ◌+ₑ◌}
 use Rattle.rational.specs.declared.Extended.TheVariants.{Fin}
 use Rattle.rational.proofs.Laws.{le_refl, le_trans, le_or_lt, le_of_lt, lt_le_trans, le_lt_trans, lt_irrefl, antisym}
-use Rattle.rational.proofs.Linear.{with2, with3, with4}
+use Rattle.rational.proofs.Linear.{with2, with3}
 use Rattle.upp_curve.specs.Curve.{SpecCurve, value_at}
 use Rattle.upp_curve.specs.Unrolled.{unroll}
 use Rattle.min_plus.specs.Functions.{zero_q}
 use Rattle.run_laws.specs.Cards.{all, ServerStep}
 use Rattle.run_laws.specs.Servers.{Server}
 use Rattle.run_laws.specs.Counts.{worked}
-use Rattle.watch_laws.specs.Affine.{Among}
 use Rattle.watch_laws.specs.Breaches.{IsIdle}
 use Rattle.watch_laws.specs.Laws.{MayServe}
 use Rattle.watch_laws.specs.Shorts.{EachSegment}
 use Rattle.watch_laws.specs.Segments.{segments}
-use Rattle.watch_laws.specs.Stretches.{IsStretch, IsAround, IsTurn}
+use Rattle.watch_laws.specs.Stretches.{IsStretch}
 use Rattle.watch_laws.proofs.CurveSegments.{segments_tell}
 use Rattle.watch_laws.proofs.Idle.{below_number, apart_or_one}
-use Rattle.run_watch.specs.declared.span.Ramp.{Ramp}
 use Rattle.run_watch.specs.declared.watched.Watched.{Watched}
 use Rattle.run_watch.specs.declared.watched.Stretch.{Stretch}
-use Rattle.run_watch.specs.Watching.{stretches, turns}
+use Rattle.run_watch.specs.Watching.{stretches}
 use Rattle.run_watch.specs.WatchTimes.{watched_from, point_at}
 use Rattle.run_watch.specs.IdleWindows.{IsShortWindow, NoneIsShort, IsFirstShort}
 use Rattle.run_watch.specs.Held.{IsSeen, IsFirstIdle}
 use Rattle.run_watch.proofs.SortedPoints.{ordered}
 use Rattle.run_watch.proofs.FoundStretches.{HasStretch, StretchesRise, stretch_found, found_stretch, stretches_rise}
-use Rattle.run_watch.proofs.FoundTurns.{turn_found, found_turn}
 use Rattle.run_watch.proofs.FoundTimes.{AreTurns, IsWithin, watched_found, found_watched}
 
 -- what is known while the stretches are gone through

@@ -1,9 +1,9 @@
 -- The first packet from which too many bits enter up to one: one packet more at a time, backwards.
-use Rattle.std.specs.Prelude.{◌≡◌, ◌⊎◌, ℕ, zero, suc, ◌+◌, ◌-◌, ◌<◌, ◌≤◌, pos, List, [], ◌∷◌, length, get_or, Option, Some, None}
+use Rattle.std.specs.Prelude.{◌≡◌, ℕ, zero, suc, ◌+◌, ◌<◌, ◌≤◌, pos, List, [], ◌∷◌, length, get_or, Option, Some, None}
 use Rattle.std.specs.List.{slice_index_or}
 use Rattle.std.proofs.Common.{arith, inl, inr, refl, sym, subst, ap, ap₂, ◌∙◌}
 use Rattle.std.proofs.lemmas.Bool.{cases_lt}
-use Rattle.rational.specs.Rational.{ℚ, int, ◌-ℚ◌, ◌≤ℚ◌, neg_ℚ}
+use Rattle.rational.specs.Rational.{ℚ, int, ◌-ℚ◌, ◌≤ℚ◌}
 use Rattle.rational.specs.Extended.{Ext, ◌<ₑ◌}
 use Rattle.rational.specs.declared.Extended.TheVariants.{Fin}
 use Rattle.rational.proofs.Linear.{with2}
@@ -12,7 +12,7 @@ use Rattle.affine_segment.specs.Fits.{ReadFits}
 use Rattle.run_laws.specs.Cards.{whole}
 use Rattle.watch_laws.specs.declared.entering.Entering.{Entering}
 use Rattle.watch_laws.specs.Entries.{entering, bits_between, IsCrowded}
-use Rattle.run_watch.specs.Flows.{WindowReads, FlowReads, NoneCrowdedFrom, IsLeastFirst, FindsFirst}
+use Rattle.run_watch.specs.Flows.{WindowReads, FlowReads, NoneCrowdedFrom, FindsFirst}
 use Rattle.run_watch.proofs.EntryLists.{bits_one_more}
 
 get_same : (es : List Entering) (k : ℕ) (d e : Entering) → k < length es → get_or es k d ≡ get_or es k e

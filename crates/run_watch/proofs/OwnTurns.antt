@@ -1,19 +1,19 @@
 -- The turns that are in one stretch, as a part of all of them in order.
-use Rattle.std.specs.Prelude.{◌≡◌, ℕ, zero, suc, ◌+◌, ◌-◌, ◌<◌, ◌≤◌, Bool, true, false, List, [], ◌∷◌, length, take, drop, get_or, Option, Some, None}
+use Rattle.std.specs.Prelude.{◌≡◌, ℕ, zero, suc, ◌<◌, ◌≤◌, Bool, true, false, List, [], ◌∷◌, length, take, drop, get_or, Option, Some, None}
 use Rattle.std.proofs.Common.{arith, refl, sym, subst, inl, inr, true≢false, ◌∙◌}
 use Rattle.std.specs.List.Sorted.{IsPermutation}
 use Rattle.rational.specs.Rational.{ℚ, ◌≤ℚ◌, ◌<ℚ◌, le_q, lt_q}
-use Rattle.rational.proofs.Laws.{le_trans, le_lt_trans, lt_le_trans, lt_irrefl}
-use Rattle.rational.proofs.Over.{lt_q_in, lt_q_out, le_q_in, le_q_out}
+use Rattle.rational.proofs.Laws.{le_lt_trans, lt_le_trans, lt_irrefl}
+use Rattle.rational.proofs.Over.{lt_q_in, lt_q_out, le_q_out}
 use Rattle.affine_segment.specs.declared.line.Piece.{Piece}
 use Rattle.watch_laws.specs.Affine.{EachTime, Among}
 use Rattle.watch_laws.specs.declared.point.Segment.{Segment}
 use Rattle.run_watch.specs.declared.span.Ramp.{Ramp}
 use Rattle.run_watch.specs.declared.watched.Stretch.{Stretch}
 use Rattle.run_watch.specs.Watching.{TimesRise, HoldsTimes}
-use Rattle.run_watch.specs.WatchTimes.{around, watched_from, AroundFits, TimesFit}
-use Rattle.run_watch.specs.IdleWindows.{IsShortWindow, NoneIsShort, IsFirstShort, FindsShort, FindsIn}
-use Rattle.run_watch.proofs.FoundTurns.{among_left, among_right, among_parts}
+use Rattle.run_watch.specs.WatchTimes.{around, watched_from, TimesFit}
+use Rattle.run_watch.specs.IdleWindows.{NoneIsShort, FindsShort, FindsIn}
+use Rattle.run_watch.proofs.FoundTurns.{among_parts}
 use Rattle.run_watch.proofs.FoundTimes.{watched_in}
 use Rattle.run_watch.proofs.SortedPoints.{among_sorted, sorted_among, each_time_from, each_time_among}
 use Rattle.run_watch.proofs.WatchedLists.{times_rise}

@@ -1,4 +1,5 @@
 use Rattle.std.proofs.Common.{◌≡◌, ◌∙◌, List, [], Option, sym, subst, ap, pos}
+use Rattle.std.proofs.lemmas.Result.{IfOk-weaker}
 use Rattle.rational.specs.Rational.{int}
 use Rattle.upp_curve.specs.Curves.{IsCurve}
 use Rattle.run_laws.specs.declared.steps.Step.{Step}
@@ -15,7 +16,7 @@ use Rattle.run_watch.specs.Held.{IsHeld}
 use Rattle.run_watch.specs.FirstOf.{IsBest, IsIdleOn}
 use Rattle.first_breaches.specs.Firsts.{IsOne, HasCurve}
 use Rattle.first_breaches.proofs.Views.{watchable, sees_as}
-use Rattle.first_breaches.proofs.Parts.{service_one, may_serve, no_server, ok_map, ok_any}
+use Rattle.first_breaches.proofs.Parts.{service_one, may_serve, no_server, ok_any}
 use Rattle.first_breaches.proofs.services.first_service_of.Goals as goal
 
 pub watch-requires-clause-arrivals : goal.watch-requires-clause-arrivals
@@ -63,7 +64,7 @@ returns-in_ok-seen-in-Some-clause-best c =
     let sees = sees_as w c.args.firsts.now s c.deref.result.now run.steps c.run.inside.end run.end steps_are end_is c.in_ok-seen-in-Some.ensures in
     let same : curve ≡ service net s = ap service_of c.in-Some.ensures.server in
     let serves = may_serve (server_of c.in-Some.found.now) c.in-Some.ensures.kept c.pieces-kept.ensures.kept in
-    ok_map (IsBest (IsIdleOn w.end V s curve) run) (IsBest (IsOne net run 2 s) run) c.service_breach.result
+    IfOk-weaker c.service_breach.result (IsBest (IsIdleOn w.end V s curve) run) (IsBest (IsOne net run 2 s) run)
     (λ (o : Option Found) (h : IsBest (IsIdleOn w.end V s curve) run o). service_one net run s curve w.end o c.requires.in_range same sees.end h)
     (c.service_breach.ensures run (server_at (routes_of net) s) V (W.seen w sees) serves)
 

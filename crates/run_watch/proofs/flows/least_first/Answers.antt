@@ -1,4 +1,4 @@
-use Rattle.std.proofs.Common.{◌≡◌, ℕ, suc, ◌+◌, ◌-◌, ◌<◌, ◌≤◌, ◌^◌, ◌*◌, length, refl, sym, subst, true≢false, arith}
+use Rattle.std.proofs.Common.{◌≡◌, ℕ, suc, ◌+◌, ◌-◌, ◌≤◌, refl, sym, subst, true≢false, arith}
 use Rattle.affine_segment.specs.Reading.{read}
 use Rattle.watch_laws.specs.Entries.{bits_between}
 use Rattle.run_watch.specs.Flows.{FindsFirst}

@@ -1,4 +1,4 @@
-use Rattle.std.proofs.Common.{◌≡◌, ◌-◌, List, length, drop, take, refl, rules, subst, sym}
+use Rattle.std.proofs.Common.{◌-◌, List, length, drop, take, refl, rules, subst, sym}
 use Rattle.std.proofs.lemmas.List.{take_rest}
 use Rattle.std.proofs.lemmas.List.Sorted.{IsPartitionPoint-from_clause}
 use Rattle.rational.specs.Rational.{ℚ}
