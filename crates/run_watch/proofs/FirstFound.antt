@@ -1,9 +1,9 @@
 -- The first of one flow, and of one server, by the order of breaches.
-use Rattle.std.specs.Prelude.{◌≡◌, ◌⊎◌, ℕ, zero, suc, ◌<◌, ◌≤◌, List, [], ◌∷◌, length, Option, Some, None, MatchOption}
+use Rattle.std.specs.Prelude.{◌≡◌, ℕ, ◌<◌, ◌≤◌, List, [], ◌∷◌, length, Option, Some, None}
 use Rattle.std.specs.List.{slice_index_or}
 use Rattle.std.proofs.Common.{arith, refl, sym, subst, ap, ◌∙◌, inl, inr}
 use Rattle.std.proofs.lemmas.Bool.{cases_lt}
-use Rattle.rational.specs.Rational.{ℚ, ◌≤ℚ◌, ◌<ℚ◌}
+use Rattle.rational.specs.Rational.{ℚ, ◌≤ℚ◌}
 use Rattle.rational.specs.Extended.{Ext}
 use Rattle.rational.proofs.Laws.{lt_cases, lt_irrefl, lt_le_trans}
 use Rattle.upp_curve.specs.Curve.{SpecCurve}
@@ -16,9 +16,8 @@ use Rattle.watch_laws.specs.declared.entering.Entering.{Entering}
 use Rattle.watch_laws.specs.Breaches.{order_key, NoLater, IsIdle}
 use Rattle.watch_laws.specs.Entries.{entries, entering, IsCrowded, EntersFrom}
 use Rattle.watch_laws.proofs.Crowds.{times_rise}
-use Rattle.run_watch.specs.declared.found.Found.{Found}
-use Rattle.run_watch.specs.Flows.{NoneLonger, IsFirstLonger, NoneCrowded, IsFirstCrowded, IsLeastFirst}
-use Rattle.run_watch.specs.FirstOf.{time_of, IsFirstOf, IsBest, IsLongOn, IsCrowdOn, IsIdleOn, EnterInOrder}
+use Rattle.run_watch.specs.Flows.{NoneLonger, IsFirstLonger, NoneCrowded, IsFirstCrowded}
+use Rattle.run_watch.specs.FirstOf.{IsBest, IsLongOn, IsCrowdOn, IsIdleOn, EnterInOrder}
 use Rattle.run_watch.specs.Held.{FindsIdle, IsFirstIdle}
 use Rattle.run_watch.proofs.LeastFirst.{read_is}
 

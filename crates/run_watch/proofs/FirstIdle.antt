@@ -1,8 +1,8 @@
 -- What the search of one stretch finds, as the loop over the stretches has it.
-use Rattle.std.specs.Prelude.{◌≡◌, ℕ, zero, suc, ◌<◌, pos, List, [], ◌∷◌, length, Option, Some, None}
+use Rattle.std.specs.Prelude.{◌≡◌, ℕ, zero, suc, ◌<◌, pos, List, [], ◌∷◌, length, Option}
 use Rattle.std.specs.List.{slice_index_or}
-use Rattle.std.proofs.Common.{arith, sym, subst, ap, ◌∙◌}
-use Rattle.rational.specs.Rational.{ℚ, int, ◌≤ℚ◌, ◌<ℚ◌}
+use Rattle.std.proofs.Common.{arith, sym, subst}
+use Rattle.rational.specs.Rational.{ℚ, int, ◌≤ℚ◌}
 use Rattle.affine_segment.specs.declared.line.Piece.{Piece}
 use Rattle.upp_curve.specs.Curve.{SpecCurve}
 use Rattle.watch_laws.specs.Affine.{EachTime}
@@ -13,17 +13,17 @@ use Rattle.run_watch.specs.declared.watched.Watched.{Watched}
 use Rattle.run_watch.specs.declared.watched.Stretch.{Stretch}
 use Rattle.run_watch.specs.Watching.{stops, stretches, ends_of}
 use Rattle.run_watch.specs.WatchTimes.{watched_from}
-use Rattle.run_watch.specs.IdleWindows.{NoneIsShort, IsFirstShort, FindsShort, TimeFits, SegmentsFit}
+use Rattle.run_watch.specs.IdleWindows.{FindsIn, TimeFits, SegmentsFit}
 use Rattle.run_watch.specs.Held.{IsHeld}
 use Rattle.run_watch.proofs.HeldTimes.{ends_time, end_time, stops_time}
 
-pub same_find : (s : Stretch) (ss gs : List Segment) (works rs : List Ramp) (qs us : List Piece) (ts : List ℚ) (o p : Option (ℚ × ℚ)) → gs ≡ ss → rs ≡ works → us ≡ qs → o ≡ p
-    → FindsShort gs rs (watched_from s us ts) o → FindsShort ss works (watched_from s qs ts) p
-same_find s ss gs works rs qs us ts o p e f g i h =
-    subst (λ (xs : List Segment). FindsShort xs works (watched_from s qs ts) p) e
-    (subst (λ (xs : List Ramp). FindsShort gs xs (watched_from s qs ts) p) f
-    (subst (λ (xs : List Piece). FindsShort gs rs (watched_from s xs ts) p) g
-    (subst (λ (x : Option (ℚ × ℚ)). FindsShort gs rs (watched_from s us ts) x) i h)))
+pub same_in : (s : Stretch) (ss gs : List Segment) (works rs : List Ramp) (qs us : List Piece) (own ts : List ℚ) (o p : Option (ℚ × ℚ)) → gs ≡ ss → rs ≡ works → us ≡ qs → o ≡ p
+    → FindsIn gs rs (watched_from s us own) (watched_from s us ts) o → FindsIn ss works (watched_from s qs own) (watched_from s qs ts) p
+same_in s ss gs works rs qs us own ts o p e f g i h =
+    subst (λ (xs : List Segment). FindsIn xs works (watched_from s qs own) (watched_from s qs ts) p) e
+    (subst (λ (xs : List Ramp). FindsIn gs xs (watched_from s qs own) (watched_from s qs ts) p) f
+    (subst (λ (xs : List Piece). FindsIn gs rs (watched_from s xs own) (watched_from s xs ts) p) g
+    (subst (λ (x : Option (ℚ × ℚ)). FindsIn gs rs (watched_from s us own) (watched_from s us ts) x) i h)))
 
 ends_at : (P : ℚ → Type 0) (ss : List Stretch) (k : ℕ) (s : Stretch) → EachTime P (ends_of ss) → k < length ss → s ≡ slice_index_or ss k s → P s.start × P s.end
 ends_at P [] k s h l e = absurd (omega arith)

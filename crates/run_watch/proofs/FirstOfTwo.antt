@@ -1,8 +1,8 @@
 -- The earlier of two firsts is the first of both.
-use Rattle.std.specs.Prelude.{◌≡◌, ◌⊎◌, ℕ, ◌||◌, Bool, true, false, Option, Some, None}
-use Rattle.std.proofs.Common.{refl, sym, subst, inl, inr}
+use Rattle.std.specs.Prelude.{◌≡◌, ◌||◌, true, Option, Some, None}
+use Rattle.std.proofs.Common.{subst, inl, inr}
 use Rattle.std.proofs.lemmas.Bool.{cases_Bool, or_left, or_right}
-use Rattle.rational.specs.Rational.{ℚ, ◌≤ℚ◌, ◌<ℚ◌, lt_q}
+use Rattle.rational.specs.Rational.{◌≤ℚ◌, ◌<ℚ◌, lt_q}
 use Rattle.rational.proofs.Over.{lt_q_in}
 use Rattle.run_laws.specs.Runs.{SpecRun}
 use Rattle.net_model.specs.declared.breach.Breach.{Breach}
@@ -10,7 +10,7 @@ use Rattle.net_model.specs.declared.breach.Breach.TheVariants.{Size, Arrival, Se
 use Rattle.watch_laws.specs.Breaches.{order_key, NoLater}
 use Rattle.watch_laws.proofs.Order.{no_later_trans}
 use Rattle.run_watch.specs.declared.found.Found.{Found}
-use Rattle.run_watch.specs.FirstOf.{time_of, IsFirstOf, IsBest, earlier, GoesBefore, IsBoth, EarlierIsFirst}
+use Rattle.run_watch.specs.FirstOf.{time_of, IsBest, earlier, GoesBefore, IsBoth, EarlierIsFirst}
 use Rattle.run_watch.proofs.RampLists.{not_less}
 
 sooner_key : (run : SpecRun) (x y : Breach) → time_of run x <ℚ time_of run y → NoLater (order_key run x) (order_key run y)

@@ -1,28 +1,27 @@
 -- The stretches that are found are those of the view, in the order of their starts.
-use Rattle.std.specs.Prelude.{◌≡◌, ◌⊎◌, ℕ, pos, Bool, true, false, ◌&&◌, List, [], ◌∷◌, ◌++◌, Option, Some, None}
+use Rattle.std.specs.Prelude.{◌≡◌, ◌⊎◌, pos, true, List, [], ◌∷◌, ◌++◌, Option, Some, None}
 use Rattle.std.specs.Option.{option_to_list}
 use Rattle.std.proofs.Common.{refl, sym, subst, ap, ap₂, ◌∙◌, inl, inr, arith}
 use Rattle.std.proofs.lemmas.Bool.{cases_Bool, and_from, and_parts}
 use Rattle.rational.specs.Rational.{ℚ, int, ◌+ℚ◌, ◌≤ℚ◌, ◌<ℚ◌, le_q, lt_q}
-use Rattle.rational.proofs.Laws.{le_refl, le_trans, le_or_lt, le_of_lt, lt_le_trans, le_lt_trans, lt_irrefl, lt_cases, antisym, add_assoc, add_zero}
+use Rattle.rational.proofs.Laws.{le_refl, le_trans, le_or_lt, le_of_lt, lt_le_trans, lt_irrefl, lt_cases, add_assoc, add_zero}
 use Rattle.rational.proofs.Over.{le_q_out, le_q_in, lt_q_out, lt_q_in}
 use Rattle.rational.proofs.Linear.{with_atoms}
-use Rattle.run_laws.specs.Cards.{all, size, ServerStep, Arrives, Works, Leaves, Visits}
+use Rattle.run_laws.specs.Cards.{all, ServerStep, Arrives, Works, Leaves, Visits}
 use Rattle.run_laws.specs.Servers as servers
 use Rattle.run_laws.specs.Counts.{arrived, worked}
 use Rattle.run_laws.proofs.Sums.{add_nothing}
 use Rattle.run_laws.proofs.Sizes.{size_nonneg}
-use Rattle.watch_laws.specs.Affine.{Among}
 use Rattle.watch_laws.specs.Stretches.{IsStretch}
-use Rattle.watch_laws.specs.Times.{HasArrival, IsBeginning}
+use Rattle.watch_laws.specs.Times.{HasArrival}
 use Rattle.watch_laws.proofs.Times.{stretches_begin}
 use Rattle.run_watch.specs.declared.span.Span.{Span}
 use Rattle.run_watch.specs.declared.span.Ramp.{Ramp}
 use Rattle.run_watch.specs.declared.watched.Watched.{Watched}
 use Rattle.run_watch.specs.declared.watched.Stretch.{Stretch}
 use Rattle.run_watch.specs.Ramps.{as_span, amount, pace_in, InOrder, ramps_after, spans_of}
-use Rattle.run_watch.specs.Seen.{at_once, arrival_spans, work_spans}
-use Rattle.run_watch.specs.Watching.{arrived_by, worked_by, stops, next_after, begins, stretch_from, stretches_in, stretches}
+use Rattle.run_watch.specs.Seen.{arrival_spans}
+use Rattle.run_watch.specs.Watching.{worked_by, stops, next_after, begins, stretch_from, stretches_in, stretches}
 use Rattle.run_watch.proofs.RampLists.{clip_past, clip_before, amount_late, spans_are}
 use Rattle.run_watch.proofs.ViewSpans.{arrivals_in_order}
 use Rattle.run_watch.proofs.ViewStretches.{ends_at}

@@ -1,11 +1,11 @@
 -- The times that are looked at in a stretch are its watch points.
-use Rattle.std.specs.Prelude.{◌≡◌, ◌⊎◌, pos, Bool, true, false, ◌&&◌, List, [], ◌∷◌, ◌++◌}
-use Rattle.std.proofs.Common.{arith, refl, sym, subst, ap, ◌∙◌, inl, inr}
+use Rattle.std.specs.Prelude.{◌≡◌, ◌⊎◌, pos, ◌&&◌, List, [], ◌∷◌, ◌++◌}
+use Rattle.std.proofs.Common.{arith, refl, sym, subst, inl, inr}
 use Rattle.std.proofs.lemmas.Bool.{cases_Bool, and_from, and_parts}
 use Rattle.rational.specs.Rational.{ℚ, int, ◌+ℚ◌, ◌-ℚ◌, ◌≤ℚ◌, ◌<ℚ◌, le_q}
-use Rattle.rational.proofs.Laws.{le_refl, le_trans, le_or_lt, le_of_lt, lt_le_trans, le_lt_trans, lt_irrefl, antisym}
+use Rattle.rational.proofs.Laws.{le_or_lt, antisym}
 use Rattle.rational.proofs.Over.{le_q_out, le_q_in}
-use Rattle.rational.proofs.Linear.{with2, with3, with4, with6}
+use Rattle.rational.proofs.Linear.{with2, with3, with4}
 use Rattle.affine_segment.specs.declared.line.Piece.{Piece}
 use Rattle.upp_curve.specs.Curve.{SpecCurve}
 use Rattle.affine_segment.specs.Pieces.{HasStart, StartsAtZero}
@@ -50,7 +50,7 @@ in_inside s u t h = elim (cases_Bool (le_q s.start t && le_q t s.end)) [
     one k = elim k [ inl e ↦ e | inr l ↦ absurd l ]
 
 -- ---- around a turn
-around_after : (s : Stretch) (p x : ℚ) (qs : List Piece) → HasStart x qs → s.start ≤ℚ p +ℚ x → p +ℚ x ≤ℚ s.end → Among (p +ℚ x) (around s p qs)
+pub around_after : (s : Stretch) (p x : ℚ) (qs : List Piece) → HasStart x qs → s.start ≤ℚ p +ℚ x → p +ℚ x ≤ℚ s.end → Among (p +ℚ x) (around s p qs)
 around_after s p x [] h a b = absurd h
 around_after s p x (q ∷ qs) h a b = elim h [
   | inl e ↦ among_left (p +ℚ x) (inside s (p +ℚ q.x) ++ inside s (p -ℚ q.x)) (around s p qs)
@@ -58,7 +58,7 @@ around_after s p x (q ∷ qs) h a b = elim h [
   | inr k ↦ among_right (p +ℚ x) (inside s (p +ℚ q.x) ++ inside s (p -ℚ q.x)) (around s p qs) (around_after s p x qs k a b)
 ]
 
-around_before : (s : Stretch) (p x : ℚ) (qs : List Piece) → HasStart x qs → s.start ≤ℚ p -ℚ x → p -ℚ x ≤ℚ s.end → Among (p -ℚ x) (around s p qs)
+pub around_before : (s : Stretch) (p x : ℚ) (qs : List Piece) → HasStart x qs → s.start ≤ℚ p -ℚ x → p -ℚ x ≤ℚ s.end → Among (p -ℚ x) (around s p qs)
 around_before s p x [] h a b = absurd h
 around_before s p x (q ∷ qs) h a b = elim h [
   | inl e ↦ among_left (p -ℚ x) (inside s (p +ℚ q.x) ++ inside s (p -ℚ q.x)) (around s p qs)
@@ -84,7 +84,7 @@ in_around s p t (q ∷ qs) h = elim (among_parts t (inside s (p +ℚ q.x) ++ ins
 ]
 
 -- ---- around all turns
-watched_in : (s : Stretch) (qs : List Piece) (ps : List ℚ) (p t : ℚ) → Among p ps → Among t (around s p qs) → Among t (watched_from s qs ps)
+pub watched_in : (s : Stretch) (qs : List Piece) (ps : List ℚ) (p t : ℚ) → Among p ps → Among t (around s p qs) → Among t (watched_from s qs ps)
 watched_in s qs [] p t h k = absurd h
 watched_in s qs (q ∷ ps) p t h k = elim h [
   | inl e ↦ among_left t (around s q qs) (watched_from s qs ps) (subst (λ x. Among t (around s x qs)) e k)
@@ -103,7 +103,7 @@ in_watched s qs (p ∷ ps) t h = elim (among_parts t (around s p qs) (watched_fr
   | inr k ↦ let r = in_watched s qs ps t k in record { turn = r.turn; has = inr r.has; around_it = r.around_it }
 ]
 
-zero_start : (qs : List Piece) → StartsAtZero qs → HasStart (int (pos 0)) qs
+pub zero_start : (qs : List Piece) → StartsAtZero qs → HasStart (int (pos 0)) qs
 zero_start [] h = absurd h
 zero_start (q ∷ qs) h = inl h.0
 

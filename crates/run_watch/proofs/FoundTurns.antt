@@ -1,5 +1,5 @@
 -- The turns that are found are those of the view.
-use Rattle.std.specs.Prelude.{◌≡◌, ◌≢◌, ◌⊎◌, pos, Bool, true, false, ◌&&◌, List, [], ◌∷◌, ◌++◌}
+use Rattle.std.specs.Prelude.{◌≡◌, ◌≢◌, ◌⊎◌, pos, true, List, [], ◌∷◌, ◌++◌}
 use Rattle.std.proofs.Common.{refl, sym, subst, ap, ap₂, ◌∙◌, inl, inr, true≢false}
 use Rattle.std.proofs.lemmas.Bool.{cases_Bool}
 use Rattle.std.specs.Ordering.{is_eq}
@@ -9,16 +9,15 @@ use Rattle.fraction128.specs.Order.{same_q}
 pub use Rattle.fraction128.specs.Order.{same_out as same_in}
 use Rattle.run_laws.specs.Cards.{all, ServerStep}
 use Rattle.run_laws.specs.Servers as servers
-use Rattle.run_laws.specs.Counts.{when}
 use Rattle.watch_laws.specs.Affine.{Among}
-use Rattle.watch_laws.specs.Paces.{pace_before, pace_after, IsPaceChange}
-use Rattle.watch_laws.specs.Stretches.{IsStretch, IsTurn}
+use Rattle.watch_laws.specs.Paces.{pace_before, pace_after}
+use Rattle.watch_laws.specs.Stretches.{IsTurn}
 use Rattle.watch_laws.proofs.Times.{work_same}
 use Rattle.run_watch.specs.declared.span.Span.{Span}
 use Rattle.run_watch.specs.declared.span.Ramp.{Ramp}
 use Rattle.run_watch.specs.declared.watched.Watched.{Watched}
 use Rattle.run_watch.specs.declared.watched.Stretch.{Stretch}
-use Rattle.run_watch.specs.Ramps.{rate_before, rate_after, ramps_after, spans_of}
+use Rattle.run_watch.specs.Ramps.{rate_before, rate_after, spans_of}
 use Rattle.run_watch.specs.Seen.{work_spans}
 use Rattle.run_watch.specs.Watching.{stretches, change_at, changes_in, ends_of, turns}
 use Rattle.run_watch.proofs.RampLists.{spans_are}

@@ -1,35 +1,35 @@
 -- The steps of the search fit where the numbers stand by the sizes of a gauge.
-use Rattle.std.specs.Prelude.{◌≡◌, ◌⊎◌, ℕ, ◌+◌, ◌≤◌, ◌*◌, pos, Bool, List, [], ◌∷◌, ◌++◌, Option, Some, None, if◌then◌else◌}
-use Rattle.std.proofs.Common.{arith, inl, inr, refl, sym, subst, ap, ap₂, ◌∙◌}
+use Rattle.std.specs.Prelude.{◌≡◌, ℕ, ◌*◌, pos, List, [], ◌∷◌, Option, Some, None}
+use Rattle.std.proofs.Common.{arith, inl, inr, refl, sym, subst, ap, ◌∙◌}
 use Prim.Native.Nat.{◌∣◌}
 use native.Mathlib.Nat.{dvd-mul_right, dvd_trans}
-use Rattle.rational.specs.Rational.{ℚ, int, ◌+ℚ◌, ◌-ℚ◌, ◌*ℚ◌, ◌/ℚ◌, ◌≤ℚ◌, ◌<ℚ◌, neg_ℚ}
-use Rattle.rational.specs.Ratio.{IsSmall, SumFits}
+use Rattle.rational.specs.Rational.{ℚ, int, ◌+ℚ◌, ◌-ℚ◌, ◌*ℚ◌, ◌≤ℚ◌, ◌<ℚ◌, neg_ℚ}
+use Rattle.rational.specs.Ratio.{SumFits}
 use Rattle.rational.specs.Grid.{Whole, Within}
 use Rattle.rational.specs.declared.Extended.TheVariants.{Fin, Inf}
 use Rattle.rational.specs.Extended.{Ext}
-use Rattle.rational.proofs.Laws.{le_refl, le_trans, le_or_lt, le_of_lt, lt_le_trans, le_lt_trans, lt_irrefl, antisym, add_assoc, add_zero, mul_le_mul, mul_nonneg, zero_mul, mul_zero, one_mul, le_of_mul, div_mul, not_zero}
+use Rattle.rational.proofs.Laws.{le_refl, le_or_lt, le_of_lt, lt_le_trans, le_lt_trans, add_assoc, add_zero, mul_le_mul, mul_nonneg, zero_mul, mul_zero, one_mul, le_of_mul, div_mul, not_zero}
 use Rattle.rational.proofs.Integers.{nat_nonneg}
 use Rattle.rational.proofs.Grid.{whole_int, whole_add, whole_sub, whole_neg, whole_weaken, within_neg, within_nonneg}
-use Rattle.rational.proofs.Linear.{with2, with3, with4, with_atoms}
+use Rattle.rational.proofs.Linear.{with2, with3, with_atoms}
 use Rattle.rational.proofs.MinMax.{lt_q_not}
 use Rattle.rational.proofs.Over.{lt_q_out}
 use Rattle.affine_segment.specs.declared.line.Line.{Line}
 use Rattle.affine_segment.specs.declared.line.Piece.{Piece}
 use Rattle.upp_limits.specs.Limits.{Sizes}
 use Rattle.affine_segment.specs.Pieces.{Each, HasStart}
-use Rattle.upp_limits.specs.Sized.{IsSlope, IsValue, ValueStands, grid_of, times_largest}
+use Rattle.upp_limits.specs.Sized.{IsSlope, ValueStands, grid_of, times_largest}
 use Rattle.upp_normal.specs.Operand.{AreLimited, OperandLineAt, OperandPiece, OperandPieces}
 use Rattle.run_laws.proofs.Sums.{add_nothing}
-use Rattle.watch_laws.specs.Affine.{EachTime, Among}
+use Rattle.watch_laws.specs.Affine.{EachTime}
 use Rattle.watch_laws.specs.declared.point.Segment.{Segment}
 use Rattle.watch_laws.specs.Shorts.{EachSegment}
-use Rattle.watch_laws.specs.Segments.{number_at, slope_of, next_start, segment_of, segments}
-use Rattle.watch_laws.specs.MarkSizes.{IsTime, IsAmount, IsTimeIfAny, IsKey, MarkStands, RuleStands}
+use Rattle.watch_laws.specs.Segments.{number_at, slope_of, next_start, segments}
+use Rattle.watch_laws.specs.MarkSizes.{IsTime, IsAmount, IsTimeIfAny}
 use Rattle.watch_laws.proofs.MarkSizes.{time_whole, time_within, sum_fits, marks_fit, keys_fit}
 use Rattle.run_watch.specs.declared.span.Span.{Span}
 use Rattle.run_watch.specs.declared.span.Ramp.{Ramp}
-use Rattle.run_watch.specs.Ramps.{as_span, amount, pace_in, InOrder, ramps_after, AreRamps, spans_of, part, PartFits, ReadsRamp, EachRamp}
+use Rattle.run_watch.specs.Ramps.{as_span, amount, pace_in, InOrder, ramps_after, spans_of, part, ReadsRamp, EachRamp}
 use Rattle.run_watch.specs.FirstEnds.{mark_of, rule_of, KeySteps, GapSteps}
 use Rattle.run_watch.specs.WatchTimes.{point_at, AroundFits, TimesFit}
 use Rattle.run_watch.specs.IdleWindows.{TimeFits, SegmentsFit}

@@ -1,10 +1,9 @@
 -- The times of the search stand on the grid of times, within the run.
-use Rattle.std.specs.Prelude.{◌≡◌, ◌⊎◌, ℕ, pos, Bool, true, false, List, [], ◌∷◌, ◌++◌, Option, Some, None}
-use Rattle.std.specs.Option.{option_to_list}
-use Rattle.std.proofs.Common.{arith, refl, sym, subst, ap, ◌∙◌, inl, inr}
+use Rattle.std.specs.Prelude.{◌≡◌, pos, List, [], ◌∷◌, ◌++◌}
+use Rattle.std.proofs.Common.{sym, subst, inl, inr}
 use Rattle.std.proofs.lemmas.Bool.{cases_Bool}
-use Rattle.rational.specs.Rational.{ℚ, int, ◌+ℚ◌, ◌-ℚ◌, ◌≤ℚ◌, ◌<ℚ◌, lt_q}
-use Rattle.rational.proofs.Laws.{le_refl, le_trans, le_of_lt, le_lt_trans, lt_le_trans, lt_irrefl}
+use Rattle.rational.specs.Rational.{ℚ, int, ◌≤ℚ◌, ◌<ℚ◌, lt_q}
+use Rattle.rational.proofs.Laws.{le_refl, le_trans, lt_le_trans, lt_irrefl}
 use Rattle.rational.specs.Grid.{Whole}
 use Rattle.rational.proofs.Grid.{whole_add, whole_sub}
 use Rattle.affine_segment.specs.declared.line.Piece.{Piece}
@@ -24,15 +23,15 @@ use Rattle.watch_laws.specs.Segments.{segments}
 use Rattle.run_watch.specs.declared.span.Ramp.{Ramp}
 use Rattle.run_watch.specs.declared.watched.Watched.{Watched}
 use Rattle.run_watch.specs.declared.watched.Stretch.{Stretch}
-use Rattle.run_watch.specs.Ramps.{EachRamp, spans_of}
-use Rattle.run_watch.specs.Watching.{ReadsAt, stops_in, stops, TimesRise, next_after, begins, stretch_from, stretches_in, stretches, change_at, changes_in, ends_of, turns}
+use Rattle.run_watch.specs.Ramps.{EachRamp}
+use Rattle.run_watch.specs.Watching.{ReadsAt, stops, TimesRise, next_after, begins, stretches_in, stretches, change_at, changes_in, ends_of, turns}
 use Rattle.run_watch.specs.WatchTimes.{watched_from, TimesFit}
 use Rattle.run_watch.specs.IdleWindows.{TimeFits, SegmentsFit}
 use Rattle.run_watch.specs.Held.{IsSeen, IsHeldRamp, AreHeld, IsHeld}
 use Rattle.run_watch.proofs.ViewStretches.{stops_rise, stops_each}
 use Rattle.run_watch.proofs.FoundStretches.{HasStretch, StretchesRise, stretch_found, stretches_rise}
 use Rattle.run_watch.proofs.FoundTurns.{change_is, turn_found, found_turn}
-use Rattle.run_watch.proofs.FoundTimes.{AreTurns, in_watched}
+use Rattle.run_watch.proofs.FoundTimes.{in_watched}
 use Rattle.run_watch.proofs.HeldSizes.{ramps_read, segments_fit, time_fits, moves_fit, start_time}
 use Rattle.run_watch.proofs.SortedPoints.{each_time_from}
 use Rattle.run_watch.proofs.IdleIn.{IsSearched}

@@ -1,36 +1,33 @@
 -- The short windows of a stretch are its idle windows, and the first of the first stretch that has one is the first of all.
-use Rattle.std.specs.Prelude.{◌≡◌, ◌⊎◌, ℕ, zero, suc, ◌+◌, ◌<◌, ◌≤◌, pos, List, [], ◌∷◌, length, take, drop}
+use Rattle.std.specs.Prelude.{◌≡◌, ◌⊎◌, ℕ, zero, suc, ◌+◌, ◌<◌, ◌≤◌, pos, List, [], ◌∷◌, length, take}
 use Rattle.std.specs.List.{slice_index_or}
-use Rattle.std.proofs.Common.{arith, refl, sym, subst, ap, ap₂, ◌∙◌, inl, inr, add-one}
-use Rattle.rational.specs.Rational.{ℚ, int, ◌+ℚ◌, ◌-ℚ◌, ◌≤ℚ◌, ◌<ℚ◌}
+use Rattle.std.proofs.Common.{arith, refl, sym, subst, ap, ◌∙◌, inl, inr, add-one}
+use Rattle.rational.specs.Rational.{ℚ, int, ◌-ℚ◌, ◌≤ℚ◌, ◌<ℚ◌}
 use Rattle.rational.specs.Extended.{Ext, ◌≤ₑ◌, ◌<ₑ◌, ◌+ₑ◌}
 use Rattle.rational.specs.declared.Extended.TheVariants.{Fin}
 use Rattle.rational.proofs.Laws.{le_refl, le_trans, le_or_lt, le_of_lt, lt_le_trans, le_lt_trans, lt_irrefl, antisym}
-use Rattle.rational.proofs.Linear.{with2, with3, with4}
+use Rattle.rational.proofs.Linear.{with2, with3}
 use Rattle.upp_curve.specs.Curve.{SpecCurve, value_at}
 use Rattle.upp_curve.specs.Unrolled.{unroll}
 use Rattle.min_plus.specs.Functions.{zero_q}
 use Rattle.run_laws.specs.Cards.{all, ServerStep}
 use Rattle.run_laws.specs.Servers.{Server}
 use Rattle.run_laws.specs.Counts.{worked}
-use Rattle.watch_laws.specs.Affine.{Among}
 use Rattle.watch_laws.specs.Breaches.{IsIdle}
 use Rattle.watch_laws.specs.Laws.{MayServe}
 use Rattle.watch_laws.specs.Shorts.{EachSegment}
 use Rattle.watch_laws.specs.Segments.{segments}
-use Rattle.watch_laws.specs.Stretches.{IsStretch, IsAround, IsTurn}
+use Rattle.watch_laws.specs.Stretches.{IsStretch}
 use Rattle.watch_laws.proofs.CurveSegments.{segments_tell}
 use Rattle.watch_laws.proofs.Idle.{below_number, apart_or_one}
-use Rattle.run_watch.specs.declared.span.Ramp.{Ramp}
 use Rattle.run_watch.specs.declared.watched.Watched.{Watched}
 use Rattle.run_watch.specs.declared.watched.Stretch.{Stretch}
-use Rattle.run_watch.specs.Watching.{stretches, turns}
+use Rattle.run_watch.specs.Watching.{stretches}
 use Rattle.run_watch.specs.WatchTimes.{watched_from, point_at}
 use Rattle.run_watch.specs.IdleWindows.{IsShortWindow, NoneIsShort, IsFirstShort}
 use Rattle.run_watch.specs.Held.{IsSeen, IsFirstIdle}
 use Rattle.run_watch.proofs.SortedPoints.{ordered}
 use Rattle.run_watch.proofs.FoundStretches.{HasStretch, StretchesRise, stretch_found, found_stretch, stretches_rise}
-use Rattle.run_watch.proofs.FoundTurns.{turn_found, found_turn}
 use Rattle.run_watch.proofs.FoundTimes.{AreTurns, IsWithin, watched_found, found_watched}
 
 -- what is known while the stretches are gone through
@@ -41,11 +38,11 @@ pub record IsSearched (server : Server) (V : List ServerStep) (w : Watched) (c :
   pub turns_are : AreTurns w.end V ps
   pub starts : EachSegment (λ s. int (pos 0) ≤ℚ s.start) (segments (unroll c w.end))
 
-within : (server : Server) (V : List ServerStep) (w : Watched) (c : SpecCurve) (ps : List ℚ) (s : Stretch) → IsSearched server V w c ps → IsStretch w.end V s.start s.end → int (pos 0) ≤ℚ s.start → IsWithin w.end V s
+pub within : (server : Server) (V : List ServerStep) (w : Watched) (c : SpecCurve) (ps : List ℚ) (s : Stretch) → IsSearched server V w c ps → IsStretch w.end V s.start s.end → int (pos 0) ≤ℚ s.start → IsWithin w.end V s
 within server V w c ps s S h low = record { first = inl (s.end, h); last = inr (inl (s.start, h)); low = low; forward = h.forward; high = h.in_run }
 
 -- ---- one stretch
-less_seen : (server : Server) (V : List ServerStep) (w : Watched) (x : Ext) (a b : ℚ) → IsSeen server w.end V w
+pub less_seen : (server : Server) (V : List ServerStep) (w : Watched) (x : Ext) (a b : ℚ) → IsSeen server w.end V w
     → ((Fin (point_at w.works.items b).work <ₑ (Fin (point_at w.works.items a).work +ₑ x)) → Fin (worked all V b) <ₑ (Fin (worked all V a) +ₑ x))
     × ((Fin (worked all V b) <ₑ (Fin (worked all V a) +ₑ x)) → Fin (point_at w.works.items b).work <ₑ (Fin (point_at w.works.items a).work +ₑ x))
 less_seen server V w x a b S = (
@@ -53,7 +50,7 @@ less_seen server V w x a b S = (
   λ h. subst (λ y. Fin y <ₑ (Fin (point_at w.works.items a).work +ₑ x)) (sym (S.worked_is b)) (subst (λ y. Fin (worked all V b) <ₑ (Fin y +ₑ x)) (sym (S.worked_is a)) h),
 )
 
-short_from : (a b end u e : ℚ) → int (pos 0) ≤ℚ u → u ≤ℚ a → b ≤ℚ e → e ≤ℚ end → b -ℚ a ≤ℚ end
+pub short_from : (a b end u e : ℚ) → int (pos 0) ≤ℚ u → u ≤ℚ a → b ≤ℚ e → e ≤ℚ end → b -ℚ a ≤ℚ end
 short_from a b end u e h k l m = let lo = le_trans h k in let hi = le_trans l m in with3 a b end (λ w. omega (arith, w.le, w.lt, w.same))
 
 pub idle_is_short : (server : Server) (V : List ServerStep) (w : Watched) (c : SpecCurve) (ps : List ℚ) (s : Stretch) (a b : ℚ) → IsSearched server V w c ps → IsStretch w.end V s.start s.end → int (pos 0) ≤ℚ s.start
@@ -147,11 +144,11 @@ start_low : (x u f : ℚ) (ss : List Stretch) → StretchesRise x ss → HasStre
 start_low x u f [] h m = absurd m
 start_low x u f (r ∷ ss) h m = elim m [ inl is ↦ subst (λ z. x ≤ℚ z) is.0 h.0 | inr n ↦ le_trans h.0 (start_low r.start u f ss h.1 n) ]
 
-record IsPlaced (V : List ServerStep) (w : Watched) (s : Stretch) : Type 0 where
-  is : IsStretch w.end V s.start s.end
-  low : int (pos 0) ≤ℚ s.start
+pub record IsPlaced (V : List ServerStep) (w : Watched) (s : Stretch) : Type 0 where
+  pub is : IsStretch w.end V s.start s.end
+  pub low : int (pos 0) ≤ℚ s.start
 
-placed : (server : Server) (V : List ServerStep) (w : Watched) (ss : List Stretch) (k : ℕ) (s : Stretch) → IsSeen server w.end V w → ss ≡ stretches w → k < length ss → s ≡ slice_index_or ss k s → IsPlaced V w s
+pub placed : (server : Server) (V : List ServerStep) (w : Watched) (ss : List Stretch) (k : ℕ) (s : Stretch) → IsSeen server w.end V w → ss ≡ stretches w → k < length ss → s ≡ slice_index_or ss k s → IsPlaced V w s
 placed server V w ss k s S same l e =
     let has = subst (HasStretch s.start s.end) same (has_at ss k s l e) in
     record { is = found_stretch server w.end V w s.start s.end S has; low = start_low (int (pos 0)) s.start s.end (stretches w) (stretches_rise server w.end V w S) has }

@@ -1,19 +1,18 @@
 -- The first packet from which too many bits enter up to one: one packet more at a time, backwards.
-use Rattle.std.specs.Prelude.{◌≡◌, ◌⊎◌, ℕ, zero, suc, ◌+◌, ◌-◌, ◌<◌, ◌≤◌, pos, List, [], ◌∷◌, length, get_or, Option, Some, None}
+use Rattle.std.specs.Prelude.{◌≡◌, ℕ, zero, suc, ◌+◌, ◌<◌, ◌≤◌, pos, List, [], ◌∷◌, length, get_or, Option, Some, None}
 use Rattle.std.specs.List.{slice_index_or}
 use Rattle.std.proofs.Common.{arith, inl, inr, refl, sym, subst, ap, ap₂, ◌∙◌}
 use Rattle.std.proofs.lemmas.Bool.{cases_lt}
-use Rattle.rational.specs.Rational.{ℚ, int, ◌-ℚ◌, ◌≤ℚ◌, neg_ℚ}
+use Rattle.rational.specs.Rational.{ℚ, int, ◌-ℚ◌, ◌≤ℚ◌}
 use Rattle.rational.specs.Extended.{Ext, ◌<ₑ◌}
 use Rattle.rational.specs.declared.Extended.TheVariants.{Fin}
 use Rattle.rational.proofs.Linear.{with2}
-use Rattle.fraction128.specs.declared.fault.Wide.{Wide}
-use Rattle.upp_curve.specs.Curve.{SpecCurve, value_at}
-use Rattle.upp_curve.specs.Steps.{IsWideValueAt}
+use Rattle.affine_segment.specs.declared.line.Piece.{Piece}
+use Rattle.affine_segment.specs.Fits.{ReadFits}
 use Rattle.run_laws.specs.Cards.{whole}
 use Rattle.watch_laws.specs.declared.entering.Entering.{Entering}
 use Rattle.watch_laws.specs.Entries.{entering, bits_between, IsCrowded}
-use Rattle.run_watch.specs.Flows.{WindowReads, FlowReads, NoneCrowdedFrom, IsLeastFirst, FindsFirst}
+use Rattle.run_watch.specs.Flows.{WindowReads, FlowReads, NoneCrowdedFrom, FindsFirst}
 use Rattle.run_watch.proofs.EntryLists.{bits_one_more}
 
 get_same : (es : List Entering) (k : ℕ) (d e : Entering) → k < length es → get_or es k d ≡ get_or es k e
@@ -24,18 +23,18 @@ get_same (x ∷ es) (suc k) d e h = get_same es k d e (omega arith)
 pub read_is : (es : List Entering) (k : ℕ) (d : Entering) → k < length es → d ≡ slice_index_or es k d → d ≡ entering es k
 read_is es k d h e = e ∙ get_same es k d record { time = int (pos 0); bits = 0 } h
 
-pub reads_at : (c : SpecCurve) (es : List Entering) (i j : ℕ) (x d : Entering) → FlowReads c es → i ≤ j → j < length es → d ≡ slice_index_or es i d
-    → WindowReads c d.time (get_or es j x).time
-reads_at c es i j x d h l m e =
+pub reads_at : (ps : List Piece) (es : List Entering) (i j : ℕ) (x d : Entering) → FlowReads ps es → i ≤ j → j < length es → d ≡ slice_index_or es i d
+    → WindowReads ps d.time (get_or es j x).time
+reads_at ps es i j x d h l m e =
     let a = read_is es i d (omega arith) e in
     let b = get_same es j x record { time = int (pos 0); bits = 0 } m in
-    subst (λ (p : Entering). WindowReads c d.time p.time) (sym b) (subst (λ (p : Entering). WindowReads c p.time (entering es j).time) (sym a) (h i j l m))
+    subst (λ (p : Entering). WindowReads ps d.time p.time) (sym b) (subst (λ (p : Entering). WindowReads ps p.time (entering es j).time) (sym a) (h i j l m))
 
-pub window_nonneg : (c : SpecCurve) (s t r : ℚ) → WindowReads c s t → r ≡ t -ℚ s → int (pos 0) ≤ℚ r
-window_nonneg c s t r h e = subst (λ x. int (pos 0) ≤ℚ x) (sym e) (let f = h.forward in with2 s t (λ k. omega (arith, k.le, k.lt, k.same)))
+pub window_nonneg : (ps : List Piece) (s t r : ℚ) → WindowReads ps s t → r ≡ t -ℚ s → int (pos 0) ≤ℚ r
+window_nonneg ps s t r h e = subst (λ x. int (pos 0) ≤ℚ x) (sym e) (let f = h.forward in with2 s t (λ k. omega (arith, k.le, k.lt, k.same)))
 
-pub window_reads : (c : SpecCurve) (s t r : ℚ) → WindowReads c s t → r ≡ t -ℚ s → (w : Wide) → IsWideValueAt c r w → ⊥
-window_reads c s t r h e w k = h.reads w (subst (λ x. IsWideValueAt c x w) e k)
+pub window_reads : (ps : List Piece) (s t r : ℚ) → WindowReads ps s t → r ≡ t -ℚ s → ReadFits ps r
+window_reads ps s t r h e = subst (ReadFits ps) (sym e) h.reads
 
 pub bits_grow : (first last up bits : ℕ) (es : List Entering) (d : Entering) → up ≡ suc first → first ≤ last → last < length es → d ≡ slice_index_or es first d
     → bits ≡ bits_between up last es → bits + d.bits ≡ bits_between first last es

@@ -17,5 +17,9 @@ pub mod IdleIn
 pub mod HeldTimes
 pub mod SightLaws
 pub mod FirstIdle
+pub mod OwnTurns
+pub mod Buckets
+pub mod BucketReads
+pub mod ClearStretches
 pub mod FirstOfTwo
 pub mod FirstFound

@@ -1,8 +1,8 @@
 -- What a server sees, step by step.
-use Rattle.std.specs.Prelude.{◌≡◌, ℕ, zero, suc, ◌+◌, ◌<◌, ◌≤◌, ◌==◌, ◌&&◌, Bool, true, false, pos, List, [], ◌∷◌, ◌++◌, length, drop, map, get_or, Option, Some, None, slice_index}
+use Rattle.std.specs.Prelude.{◌≡◌, ℕ, zero, suc, ◌+◌, ◌<◌, ◌==◌, ◌&&◌, true, false, pos, List, [], ◌∷◌, ◌++◌, length, drop, map, Option, slice_index}
 use Rattle.std.specs.List.{slice_index_or}
 use Rattle.std.specs.Option.{option_to_list}
-use Rattle.std.proofs.Common.{arith, inl, inr, refl, sym, subst, ap, ap₂, ◌∙◌, append_assoc}
+use Rattle.std.proofs.Common.{inl, inr, refl, sym, ap, ap₂, ◌∙◌, append_assoc}
 use Rattle.std.proofs.lemmas.Bool.{cases_Bool}
 use Rattle.rational.specs.Rational.{ℚ, int, ◌+ℚ◌, le_q, lt_q}
 use Rattle.rational.proofs.Laws.{le_or_lt, le_of_lt}
@@ -10,9 +10,9 @@ use Rattle.rational.proofs.Over.{le_q_out, lt_q_out}
 use Rattle.rational.proofs.MinMax.{le_q_not, lt_q_not}
 use Rattle.run_laws.specs.declared.steps.Step.{Step}
 use Rattle.run_laws.specs.declared.steps.Step.TheVariants.{Enter, Reach, Work, Leave, Visit}
-use Rattle.run_laws.specs.Cards.{all, size, ServerStep, Arrives, Works, Leaves, Visits}
+use Rattle.run_laws.specs.Cards.{all, ServerStep, Arrives, Works, Leaves, Visits}
 use Rattle.run_laws.specs.Servers as servers
-use Rattle.run_laws.specs.Counts.{when, before, arrived, worked}
+use Rattle.run_laws.specs.Counts.{when, arrived, worked}
 use Rattle.run_laws.specs.Routes.{Routes, route_of, first_server}
 use Rattle.run_laws.specs.Views.{Entry, entry_of, view_from, entered_after, server_of}
 use Rattle.run_laws.proofs.Sums.{when_true, when_false, add_nothing}

@@ -1,18 +1,18 @@
 -- A window is short by a segment where its two marks say so; and the first of some points from which one is.
-use Rattle.std.specs.Prelude.{◌≡◌, ◌⊎◌, ℕ, zero, suc, ◌+◌, ◌<◌, ◌≤◌, List, [], ◌∷◌, length, take, get_or}
+use Rattle.std.specs.Prelude.{◌≡◌, ◌⊎◌, ℕ, zero, suc, ◌+◌, ◌<◌, ◌≤◌, List, [], ◌∷◌, length, take}
 use Rattle.std.specs.List.{slice_index_or}
-use Rattle.std.proofs.Common.{arith, inl, inr, refl, sym, subst, ap, ◌∙◌, add-one}
+use Rattle.std.proofs.Common.{arith, inl, inr, sym, subst, ◌∙◌, add-one}
 use Rattle.rational.specs.Rational.{ℚ, ◌+ℚ◌, ◌≤ℚ◌, ◌<ℚ◌}
-use Rattle.rational.proofs.Laws.{le_refl, le_trans, le_or_lt, lt_le_trans, lt_irrefl, le_of_not_lt}
+use Rattle.rational.proofs.Laws.{le_refl, lt_le_trans, lt_irrefl, le_of_not_lt}
 use Rattle.watch_laws.specs.declared.mark.Mark.{Mark}
 use Rattle.watch_laws.specs.declared.mark.Rule.{Rule}
 use Rattle.watch_laws.specs.declared.point.Point.{Point}
 use Rattle.watch_laws.specs.declared.point.Segment.{Segment}
 use Rattle.watch_laws.specs.Marks.{IsPast, IsUnder}
 use Rattle.watch_laws.specs.Shorts.{EachPoint, HasPoint, EachSegment, HasSegment, PointsRise, IsShortBy}
-use Rattle.run_watch.specs.FirstEnds.{mark_of, rule_of, FitsMarks, FitsSegments}
+use Rattle.run_watch.specs.FirstEnds.{mark_of, rule_of, FitsSegments}
 use Rattle.run_watch.specs.WatchTimes.{IsShortTo, IsFirstStart}
-use Rattle.run_watch.proofs.ShortMarks.{short_under, under_short, has_segment}
+use Rattle.run_watch.proofs.ShortMarks.{short_under, under_short}
 
 -- ---- one window
 pub record AreMarks (s : Segment) (a b : Point) (r : Rule) (x y : Mark) : Type 0 where

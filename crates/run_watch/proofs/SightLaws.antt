@@ -1,17 +1,12 @@
 -- What is gathered of a server from the steps of a run is what the server sees of it.
-use Rattle.std.specs.Prelude.{◌≡◌, ℕ, ◌<◌, pos, List, [], length}
+use Rattle.std.specs.Prelude.{◌≡◌, pos, List, []}
 use Rattle.std.proofs.Common.{sym, ap, ◌∙◌}
-use Rattle.rational.specs.Rational.{ℚ, int}
-use Rattle.run_laws.specs.Runs.{SpecRun}
-use Rattle.run_laws.specs.Routes.{Routes, server_at}
-use Rattle.run_laws.specs.Lawful.{IsLawful}
+use Rattle.rational.specs.Rational.{int}
 use Rattle.run_laws.specs.Views.{view}
 use Rattle.run_laws.proofs.Views.{views_are_lawful}
 use Rattle.run_watch.specs.declared.span.Span.{Span}
-use Rattle.run_watch.specs.declared.watched.Watched.{Watched}
 use Rattle.run_watch.specs.Ramps.{amount, ramps_after, spans_of}
-use Rattle.run_watch.specs.Seen.{arrival_spans, work_spans, AreFirsts}
-use Rattle.run_watch.specs.Watching.{Sees}
+use Rattle.run_watch.specs.Seen.{arrival_spans, work_spans}
 use Rattle.run_watch.specs.Sights.{SightsAreViews}
 use Rattle.run_watch.proofs.RampLists.{spans_are}
 use Rattle.run_watch.proofs.SeenLists.{works_seen, leaves_seen, arrivals_seen, arrived_is, worked_is}

@@ -1,5 +1,5 @@
 -- The points of sorted times: in order, and those of the times.
-use Rattle.std.specs.Prelude.{◌≡◌, ◌⊎◌, ℕ, zero, suc, ◌+◌, ◌<◌, ◌≤◌, pos, false, true, List, [], ◌∷◌, ◌++◌, length, take, map, get_or, Contains, Option, Some, None, slice_get}
+use Rattle.std.specs.Prelude.{◌≡◌, ◌⊎◌, ℕ, zero, suc, ◌+◌, ◌<◌, ◌≤◌, pos, false, List, [], ◌∷◌, length, take, map, get_or, Contains, Option, Some, None, slice_get}
 use Rattle.std.specs.List.{slice_index_or}
 use Rattle.std.specs.List.Sorted.{IsSorted, IsPermutation}
 use Rattle.std.specs.Ordering.{is_lt, MatchOrdering}
@@ -7,7 +7,7 @@ use Rattle.std.specs.declared.cmp.Ordering.{Ordering}
 use Rattle.std.specs.declared.cmp.Ordering.TheVariants.{Less, Equal, Greater}
 use Rattle.std.proofs.Common.{arith, inl, inr, refl, sym, subst, ap, ◌∙◌, add-one, true≢false}
 use Rattle.std.proofs.lemmas.List.Sorted.{Contains-permutation, IsPermutation-sym}
-use Rattle.rational.specs.Rational.{ℚ, int, ◌-ℚ◌, ◌≤ℚ◌, ◌<ℚ◌}
+use Rattle.rational.specs.Rational.{ℚ, int, ◌≤ℚ◌, ◌<ℚ◌}
 use Rattle.rational.specs.Ratio.{cmp_q}
 use Rattle.rational.proofs.Comparison.{cmp_ranks}
 use Rattle.rational.proofs.Laws.{le_refl, le_trans, le_of_lt, le_or_lt, lt_le_trans, le_lt_trans, lt_irrefl, antisym}
@@ -15,12 +15,13 @@ use Rattle.rational.proofs.Linear.{with3}
 use Rattle.watch_laws.specs.Affine.{EachTime, Among}
 use Rattle.watch_laws.specs.declared.point.Point.{Point}
 use Rattle.watch_laws.specs.declared.point.Segment.{Segment}
-use Rattle.watch_laws.specs.Shorts.{EachPoint, HasPoint, EachSegment, HasSegment, PointsRise, IsShortBy, NoneShortTo, NoneShort, IsShortEnd}
+use Rattle.watch_laws.specs.Shorts.{EachPoint, HasPoint, EachSegment, HasSegment, PointsRise, IsShortBy, NoneShortTo, NoneShort}
 use Rattle.run_watch.specs.declared.span.Ramp.{Ramp}
 use Rattle.run_watch.specs.Ramps.{EachRamp, ReadsRamp}
+use Rattle.run_watch.specs.Watching.{TimesRise}
 use Rattle.run_watch.specs.FirstEnds.{KeySteps, GapSteps, FitsMarks, FitsSegments, IsFirstEnd, mark_of, rule_of}
 use Rattle.run_watch.specs.WatchTimes.{point_at, IsShortTo, IsFirstStart}
-use Rattle.run_watch.specs.IdleWindows.{IsShortWindow, NoneIsShort, IsFirstShort, TimeFits, SegmentsFit}
+use Rattle.run_watch.specs.IdleWindows.{NoneIsShort, IsFirstShort, TimeFits, SegmentsFit}
 use Rattle.watch_laws.specs.Marks.{FitsRule}
 use Rattle.run_watch.proofs.ShortWindows.{each_point_has, first_or_later, point_has}
 use Rattle.run_laws.proofs.Times.{each_time_map}
@@ -82,6 +83,14 @@ later_times x (t ∷ ts) h =
     more : (us : List ℚ) → EachTime (λ u. t ≤ℚ u) us → EachTime (λ u. x ≤ℚ u) us
     more [] k = tt
     more (u ∷ us) k = (le_trans (no_less x t (h 0 x (omega arith) (omega arith))) k.0, more us k.1)
+
+pub sorted_rise : (ts : List ℚ) → IsSorted cmp_q ts → (from : ℚ) × TimesRise from ts
+sorted_rise [] h = (int (pos 0), tt)
+sorted_rise (x ∷ ts) h = (x, (le_refl x, go x ts h))
+  where
+    go : (x : ℚ) (ts : List ℚ) → IsSorted cmp_q (x ∷ ts) → TimesRise x ts
+    go x [] h = tt
+    go x (t ∷ ts) h = (no_less x t (h 0 x (omega arith) (omega arith)), go t ts (tail_sorted x (t ∷ ts) h))
 
 each_point_at : (P : Point → Type 0) (works : List Ramp) (ts : List ℚ) → EachTime (λ t. P (point_at works t)) ts → EachPoint P (map (point_at works) ts)
 each_point_at P works [] h = tt

@@ -1,7 +1,6 @@
 -- The spans and times of a lawful view are in order, and in the run.
-use Rattle.std.specs.Prelude.{◌≡◌, ℕ, pos, List, [], ◌∷◌}
-use Rattle.std.proofs.Common.{refl, sym, subst, ap, inl, inr}
-use Rattle.rational.specs.Rational.{ℚ, int, ◌≤ℚ◌, ◌<ℚ◌}
+use Rattle.std.specs.Prelude.{pos, List, [], ◌∷◌}
+use Rattle.rational.specs.Rational.{ℚ, int, ◌≤ℚ◌}
 use Rattle.rational.proofs.Laws.{le_refl, le_trans, le_of_lt}
 use Rattle.run_laws.specs.Cards.{ServerStep, Arrives, Works, Leaves, Visits}
 use Rattle.run_laws.specs.Servers.{Server, ServerState, start}

@@ -1,30 +1,20 @@
 -- The stretches and the turns of a lawful view are those that are found.
-use Rattle.std.specs.Prelude.{◌≡◌, ◌≢◌, ◌⊎◌, ℕ, pos, Bool, true, false, ◌&&◌, List, [], ◌∷◌, ◌++◌, Option, Some, None}
-use Rattle.std.specs.Option.{option_to_list}
-use Rattle.std.proofs.Common.{refl, sym, subst, ap, ap₂, ◌∙◌, inl, inr, true≢false}
-use Rattle.std.proofs.lemmas.Bool.{cases_Bool, and_from, and_parts}
-use Rattle.rational.specs.Rational.{ℚ, int, ◌+ℚ◌, ◌≤ℚ◌, ◌<ℚ◌, le_q, lt_q}
-use Rattle.rational.proofs.Laws.{le_refl, le_trans, le_or_lt, le_of_lt, lt_le_trans, le_lt_trans, lt_irrefl, antisym}
-use Rattle.rational.proofs.Over.{le_q_out, le_q_in, lt_q_out, lt_q_in}
-use Rattle.rational.proofs.MinMax.{le_q_not, lt_q_not}
-use Rattle.run_laws.specs.Cards.{all, ServerStep, Arrives, Works, Leaves, Visits}
+use Rattle.std.specs.Prelude.{◌≡◌, ◌⊎◌, pos, true, List, [], ◌∷◌}
+use Rattle.std.proofs.Common.{sym, subst, ap, ◌∙◌, inl, inr}
+use Rattle.std.proofs.lemmas.Bool.{cases_Bool}
+use Rattle.rational.specs.Rational.{ℚ, int, ◌≤ℚ◌, ◌<ℚ◌}
+use Rattle.rational.proofs.Laws.{le_refl, le_trans, le_or_lt, lt_le_trans, le_lt_trans, lt_irrefl, antisym}
+use Rattle.rational.proofs.Over.{le_q_out, le_q_in, lt_q_out}
+use Rattle.rational.proofs.MinMax.{lt_q_not}
+use Rattle.run_laws.specs.Cards.{all, ServerStep}
 use Rattle.run_laws.specs.Servers.{Server}
-use Rattle.run_laws.specs.Allows.{IsLawfulView}
 use Rattle.run_laws.specs.Counts.{arrived, worked}
-use Rattle.run_laws.proofs.Sums.{add_nothing}
 use Rattle.watch_laws.specs.Affine.{EachTime, Among}
 use Rattle.watch_laws.specs.Stretches.{IsStretch}
-use Rattle.watch_laws.specs.Times.{HasArrival, IsBeginning, leave_times}
-use Rattle.watch_laws.proofs.Times.{ends_with, stretches_begin}
-use Rattle.watch_laws.proofs.Idle.{apart_or_one}
-use Rattle.run_watch.specs.declared.span.Span.{Span}
-use Rattle.run_watch.specs.declared.span.Ramp.{Ramp}
+use Rattle.watch_laws.proofs.Times.{ends_with}
 use Rattle.run_watch.specs.declared.watched.Watched.{Watched}
-use Rattle.run_watch.specs.declared.watched.Stretch.{Stretch}
-use Rattle.run_watch.specs.Ramps.{amount, InOrder, ramps_after, spans_of}
-use Rattle.run_watch.specs.Seen.{arrival_spans, work_spans}
 use Rattle.run_watch.specs.Held.{IsSeen}
-use Rattle.run_watch.specs.Watching.{arrived_by, worked_by, is_caught_up, stops_in, stops, TimesRise, next_after, begins, stretch_from, stretches_in, stretches}
+use Rattle.run_watch.specs.Watching.{arrived_by, worked_by, is_caught_up, stops_in, stops, TimesRise, next_after}
 use Rattle.run_watch.proofs.ViewSpans.{leaves_rise, leaves_in_run}
 use Rattle.run_laws.proofs.Times.{each_time_map}
 

@@ -6,7 +6,7 @@ use Rattle.std.proofs.Common.{arith, refl, sym, subst, ap, ap₂, ◌∙◌, app
 use Rattle.rational.specs.Rational.{ℚ, ◌≤ℚ◌, ◌<ℚ◌, lt_q}
 use Rattle.rational.proofs.Laws.{le_refl, le_trans, le_or_lt, lt_le_trans}
 use Rattle.rational.proofs.Over.{le_q_out, le_q_in, lt_q_out}
-use Rattle.rational.proofs.MinMax.{lt_q_not, le_q_not}
+use Rattle.rational.proofs.MinMax.{lt_q_not}
 use Rattle.watch_laws.specs.Affine.{EachTime}
 use Rattle.run_watch.specs.declared.span.Ramp.{Ramp}
 use Rattle.run_watch.specs.declared.watched.Watched.{Watched}
@@ -35,7 +35,7 @@ later_than from [] j d h l = absurd (omega arith)
 later_than from (t ∷ ts) zero d h l = h.0
 later_than from (t ∷ ts) (suc j) d h l = le_trans h.0 (later_than t ts j d h.1 (omega arith))
 
-times_rise : (from : ℚ) (ts : List ℚ) (i j : ℕ) (d : ℚ) → TimesRise from ts → i ≤ j → j < length ts → get_or ts i d ≤ℚ get_or ts j d
+pub times_rise : (from : ℚ) (ts : List ℚ) (i j : ℕ) (d : ℚ) → TimesRise from ts → i ≤ j → j < length ts → get_or ts i d ≤ℚ get_or ts j d
 times_rise from [] i j d h k l = absurd (omega arith)
 times_rise from (t ∷ ts) zero zero d h k l = le_refl t
 times_rise from (t ∷ ts) zero (suc j) d h k l = later_than t ts j d h.1 (omega arith)

@@ -7,7 +7,7 @@ use Rattle.watch_laws.specs.declared.mark.Rule.{Rule}
 use Rattle.watch_laws.specs.declared.point.Point.{Point}
 use Rattle.watch_laws.specs.declared.point.Segment.{Segment}
 use Rattle.watch_laws.specs.Marks.{FitsRule}
-use Rattle.watch_laws.specs.Shorts.{EachPoint, HasPoint, EachSegment, HasSegment, IsShortBy, NoneShortTo, NoneShort, IsShortEnd}
+use Rattle.watch_laws.specs.Shorts.{EachPoint, HasPoint, EachSegment, IsShortBy, NoneShortTo, NoneShort, IsShortEnd}
 
 -- ---- as marks under a rule
 abbrev pub mark_of : ℚ → Point → Mark

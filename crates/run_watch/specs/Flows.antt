@@ -1,15 +1,18 @@
 -- The packets of a flow, and the first that it breaks. Own choice.
-use Rattle.std.specs.Prelude.{ℕ, ◌<◌, ◌≤◌, ◌==◌, List, length, Option, Some, None, MatchOption, if◌then◌else◌}
-use Rattle.rational.specs.Rational.{ℚ, ◌-ℚ◌, ◌≤ℚ◌, neg_ℚ}
+use Rattle.std.specs.Prelude.{ℕ, pos, ◌<◌, ◌≤◌, ◌==◌, List, length, Option, Some, None, MatchOption, if◌then◌else◌}
+use Rattle.rational.specs.Rational.{ℚ, int, ◌+ℚ◌, ◌-ℚ◌, ◌*ℚ◌, ◌≤ℚ◌, neg_ℚ}
 use Rattle.rational.specs.Ratio.{SumFits}
-use Rattle.rational.specs.Extended.{Ext}
-use Rattle.fraction128.specs.declared.fault.Wide.{Wide}
-use Rattle.upp_curve.specs.Curve.{SpecCurve, value_at}
-use Rattle.upp_curve.specs.Steps.{IsWideValueAt}
+use Rattle.rational.specs.Extended.{Ext, ◌≤ₑ◌}
+use Rattle.rational.specs.declared.Extended.TheVariants.{Fin}
+use Rattle.affine_segment.specs.declared.line.Piece.{Piece}
+use Rattle.affine_segment.specs.Pieces.{StartsAtZero}
+use Rattle.affine_segment.specs.Fits.{ReadFits}
+use Rattle.affine_segment.specs.Reading.{read}
+use Rattle.run_laws.specs.Cards.{whole}
 use Rattle.run_laws.specs.declared.steps.Step.{Step}
 use Rattle.run_laws.specs.declared.steps.Step.TheVariants.{Enter, Reach, Work, Leave, Visit}
 use Rattle.watch_laws.specs.declared.entering.Entering.{Entering}
-use Rattle.watch_laws.specs.Entries.{entering, IsCrowded}
+use Rattle.watch_laws.specs.Entries.{entering, bits_between, IsCrowded}
 
 -- the packet that enters on the flow by this step, if one does
 abbrev pub entering_in : ℕ → Step → Option Entering
@@ -30,15 +33,16 @@ pub record IsFirstLonger (longest : ℕ) (es : List Entering) (k : ℕ) : Type 0
   pub before : (j : ℕ) → j < k → (entering es j).bits ≤ longest
 
 -- ---- windows
--- the time from s to t fits, and the curve can be read there
-pub record WindowReads (c : SpecCurve) (s t : ℚ) : Type 0 where
+-- the time from s to t fits, and the pieces of a curve can be read there
+pub record WindowReads (ps : List Piece) (s t : ℚ) : Type 0 where
+  pub starts : StartsAtZero ps
   pub forward : s ≤ℚ t
   pub fits : SumFits t (neg_ℚ s)
-  pub reads : (w : Wide) → ¬ IsWideValueAt c (t -ℚ s) w
+  pub reads : ReadFits ps (t -ℚ s)
 
 -- so between each two packets
-abbrev pub FlowReads : SpecCurve → List Entering → Type 0
-FlowReads c es = (i j : ℕ) → i ≤ j → j < length es → WindowReads c (entering es i).time (entering es j).time
+abbrev pub FlowReads : List Piece → List Entering → Type 0
+FlowReads ps es = (i j : ℕ) → i ≤ j → j < length es → WindowReads ps (entering es i).time (entering es j).time
 
 -- no pair is crowded that ends with packet `last` and begins with packet `from` or a later one
 abbrev pub NoneCrowdedFrom : (ℚ → Ext) → List Entering → ℕ → ℕ → Type 0
@@ -60,3 +64,17 @@ NoneCrowded α es upto = (i j : ℕ) → j < upto → ¬ IsCrowded α es i j
 pub record IsFirstCrowded (α : ℚ → Ext) (es : List Entering) (first last : ℕ) : Type 0 where
   pub first_of_it : IsLeastFirst α es 0 last first
   pub none_before : NoneCrowded α es last
+
+-- ---- buckets
+-- the curve of these pieces is nowhere below a bucket
+abbrev pub IsBucketOf : List Piece → ℚ → ℚ → Type 0
+IsBucketOf ps burst rate = (d : ℚ) → int (pos 0) ≤ℚ d → Fin (burst +ℚ rate *ℚ d) ≤ₑ read ps d
+
+-- l is at least what is left of the level at this packet, and at least nothing, with the packet's bits
+pub record IsRaised (level rate time : ℚ) (e : Entering) (l : ℚ) : Type 0 where
+  pub left : (level -ℚ rate *ℚ (e.time -ℚ time)) +ℚ whole e.bits ≤ℚ l
+  pub own : whole e.bits ≤ℚ l
+
+-- l holds the windows that end with packet `last`
+abbrev pub IsLevel : ℚ → List Entering → ℕ → ℚ → ℚ → Type 0
+IsLevel rate es last time l = (i : ℕ) → i ≤ last → whole (bits_between i last es) ≤ℚ l +ℚ rate *ℚ (time -ℚ (entering es i).time)

@@ -1,6 +1,6 @@
 -- Where the numbers of a server stand, by the sizes of a gauge below 2 ^ 120 whose window ends with the run: then every step
 -- of the search for its first idle window fits. The gauge of a simulation, or of the check of a recorded run, gives it. Own choice.
-use Rattle.std.specs.Prelude.{◌≡◌, ◌⊎◌, ℕ, pos, List, Option, MatchOption}
+use Rattle.std.specs.Prelude.{◌≡◌, ◌⊎◌, pos, List, Option, MatchOption}
 use Rattle.rational.specs.Rational.{ℚ, int, ◌≤ℚ◌, ◌<ℚ◌}
 use Rattle.upp_curve.specs.Curve.{SpecCurve}
 use Rattle.upp_curve.specs.Curves.{IsCurve}
@@ -13,7 +13,6 @@ use Rattle.run_laws.specs.Allows.{IsLawfulView}
 use Rattle.run_laws.specs.Counts.{arrived, worked}
 use Rattle.watch_laws.specs.Affine.{EachTime}
 use Rattle.watch_laws.specs.Breaches.{IsIdle}
-use Rattle.watch_laws.specs.Laws.{MayServe}
 use Rattle.watch_laws.specs.MarkSizes.{IsTime, IsAmount}
 use Rattle.watch_laws.specs.Times.{leave_times}
 use Rattle.run_watch.specs.declared.span.Ramp.{Ramp}

@@ -1,15 +1,13 @@
 -- The first window of a stretch that is short of work. Own choice.
 use Rattle.std.specs.Prelude.{◌≡◌, ◌⊎◌, List, Option, MatchOption, pos}
 use Rattle.rational.specs.Rational.{ℚ, int, ◌≤ℚ◌, ◌<ℚ◌}
-use Rattle.affine_segment.specs.declared.line.Piece.{Piece}
-use Rattle.watch_laws.specs.Affine.{EachTime, Among}
+use Rattle.watch_laws.specs.Affine.{Among}
 use Rattle.watch_laws.specs.declared.point.Segment.{Segment}
 use Rattle.watch_laws.specs.Shorts.{EachSegment}
 use Rattle.run_watch.specs.declared.span.Ramp.{Ramp}
-use Rattle.run_watch.specs.declared.watched.Stretch.{Stretch}
-use Rattle.run_watch.specs.Ramps.{AreRamps, EachRamp, ReadsRamp}
-use Rattle.run_watch.specs.FirstEnds.{KeySteps, GapSteps, FitsMarks}
-use Rattle.run_watch.specs.WatchTimes.{watched_from, point_at, IsShortTo, TimesFit}
+use Rattle.run_watch.specs.Ramps.{EachRamp, ReadsRamp}
+use Rattle.run_watch.specs.FirstEnds.{KeySteps, GapSteps}
+use Rattle.run_watch.specs.WatchTimes.{point_at, IsShortTo}
 use Rattle.watch_laws.specs.Marks.{FitsRule}
 use Rattle.run_watch.specs.FirstEnds.{mark_of, rule_of}
 
@@ -29,6 +27,10 @@ pub record IsFirstShort (ss : List Segment) (works : List Ramp) (ts : List ℚ) 
 
 abbrev pub FindsShort : List Segment → List Ramp → List ℚ → Option (ℚ × ℚ) → Type 0
 FindsShort ss works ts found = MatchOption found (NoneIsShort ss works ts) (λ p. IsFirstShort ss works ts p.0 p.1)
+
+-- none between the times `own`; or the first between all times
+abbrev pub FindsIn : List Segment → List Ramp → List ℚ → List ℚ → Option (ℚ × ℚ) → Type 0
+FindsIn ss works own all found = MatchOption found (NoneIsShort ss works own) (λ p. IsFirstShort ss works all p.0 p.1)
 
 -- ---- sizes
 -- the steps at one time fit

@@ -1,5 +1,5 @@
 -- Spans one after another, and how many bits they have up to a time. Own choice.
-use Rattle.std.specs.Prelude.{◌≡◌, pos, Bool, ◌&&◌, List, [], ◌∷◌, map, if◌then◌else◌}
+use Rattle.std.specs.Prelude.{◌≡◌, pos, ◌&&◌, List, [], ◌∷◌, map, if◌then◌else◌}
 use Rattle.rational.specs.Rational.{ℚ, int, ◌+ℚ◌, ◌-ℚ◌, ◌*ℚ◌, ◌/ℚ◌, ◌≤ℚ◌, ◌<ℚ◌, neg_ℚ, lt_q, le_q}
 use Rattle.rational.specs.Ratio.{IsSmall, SumFits}
 use Rattle.run_laws.specs.Servers as servers

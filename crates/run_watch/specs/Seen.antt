@@ -4,7 +4,7 @@ use Rattle.std.specs.Option.{option_to_list}
 use Rattle.rational.specs.Rational.{ℚ}
 use Rattle.run_laws.specs.declared.steps.Step.{Step}
 use Rattle.run_laws.specs.declared.steps.Step.TheVariants.{Enter, Reach, Work, Leave, Visit}
-use Rattle.run_laws.specs.Cards.{whole, size, ServerStep, Arrives, Works, Leaves, Visits}
+use Rattle.run_laws.specs.Cards.{whole, ServerStep, Arrives, Works, Leaves, Visits}
 use Rattle.run_laws.specs.Routes.{Routes, route_of, first_server}
 use Rattle.run_watch.specs.declared.span.Span.{Span}
 

@@ -4,11 +4,11 @@ use Rattle.std.specs.Option.{option_to_list}
 use Rattle.rational.specs.Rational.{ℚ, int, ◌≤ℚ◌, lt_q, le_q}
 use Rattle.fraction128.specs.Order.{same_q}
 use Rattle.run_laws.specs.declared.steps.Step.{Step}
-use Rattle.watch_laws.specs.Affine.{EachTime}
+use Rattle.watch_laws.specs.Affine.{Among}
 use Rattle.run_watch.specs.declared.span.Ramp.{Ramp}
 use Rattle.run_watch.specs.declared.watched.Watched.{Watched}
 use Rattle.run_watch.specs.declared.watched.Stretch.{Stretch}
-use Rattle.run_watch.specs.Ramps.{amount, rate_before, rate_after, TakeTime, ramps_after, AreRamps, spans_of, ReadsRamp, EachRamp}
+use Rattle.run_watch.specs.Ramps.{amount, rate_before, rate_after, ramps_after, AreRamps, spans_of, ReadsRamp, EachRamp}
 use Rattle.run_watch.specs.Seen.{works_at, leaves_at, arrivals_at}
 
 -- ---- what it sees, up to t
@@ -76,6 +76,11 @@ ends_of (s ∷ ss) = s.start ∷ s.end ∷ ends_of ss
 
 abbrev pub turns : Watched → List Stretch → List ℚ
 turns w ss = ends_of ss ++ changes_in w w.works.items
+
+-- all of these times that are in the stretch are among the others, which are of them
+pub record HoldsTimes (s : Stretch) (ts own : List ℚ) : Type 0 where
+  pub inside : (t : ℚ) → Among t ts → s.start ≤ℚ t → t ≤ℚ s.end → Among t own
+  pub are : (t : ℚ) → Among t own → Among t ts
 
 -- ---- made from a run
 -- what the server of a number sees

@@ -6,8 +6,8 @@ ghost use Rattle.run_laws.specs.Servers as servers;
 ghost use Rattle.watch_laws.specs.Laws.{MayServe};
 ghost use Rattle.run_watch.specs.Held.{IsSeen, IsHeld, FindsIdle};
 
-use crate::idle::first_short;
-use crate::watched::{Watched, stops_of, stretches_of, turns_of};
+use crate::idle::first_in;
+use crate::watched::{Watched, stops_of, stretches_of, turns_in, turns_of};
 use crate::windows::segments_of;
 use fraction128::{Frac, is_less};
 use std::alloc::{AllocError, Global};
@@ -31,10 +31,13 @@ pub fn first_idle(
     let stops = stops_of(alloc, w)?;
     let stretches = stretches_of(alloc, w, &stops)?;
     let turns = turns_of(alloc, w, &stretches)?;
+    let mut sorted = Vec::from_slice(alloc, &turns)?;
+    sorted.sort()?;
     let pieces = unrolled(curve, w.end)?;
     let segments = segments_of(alloc, &pieces)?;
     for s in &stretches {
-        if let Some(found) = first_short(alloc, &w.works, s, &turns, &pieces, &segments)? {
+        let own = turns_in(&sorted, s);
+        if let Some(found) = first_in(alloc, &w.works, s, own, &turns, &pieces, &segments)? {
             return Ok(Some(found));
         }
     }

@@ -1,11 +1,11 @@
 //! The stretches through which a server has work, and its turns.
 
 ghost use Rattle.std.specs.Prelude.{◌≡◌, ◌++◌, ℕ, pos, [], length, IfOk, OnOk};
-ghost use Rattle.rational.specs.Rational.{ℚ, int, le_q};
+ghost use Rattle.rational.specs.Rational.{ℚ, int, le_q, lt_q};
 ghost use Rattle.watch_laws.specs.Affine.{EachTime};
 ghost use Rattle.run_watch.specs.Ramps.{EachRamp, RampsFit, AreRamps, TakeTime, spans_of};
 ghost use Rattle.run_watch.specs.Seen.{works_at, arrivals_at};
-ghost use Rattle.run_watch.specs.Watching.{is_caught_up, ReadsAt, stops, TimesRise, next_after, stretch_from, stretches_in, change_at, turns, Sees};
+ghost use Rattle.run_watch.specs.Watching.{is_caught_up, ReadsAt, stops, TimesRise, next_after, stretch_from, stretches_in, change_at, turns, HoldsTimes, Sees};
 
 use crate::ramps::{amount_at, is_at_most, pace_after, pace_before, ramps_of};
 use crate::seen::{arrivals_of, leaves_of, works_of};
@@ -91,6 +91,25 @@ fn stop_after(stops: &[Frac], u: Frac, end: Frac) -> Frac
         return stops[past];
     }
     end
+}
+
+fn is_before(t: &Frac, u: Frac) -> bool
+    ensures { result ≡ lt_q t.now u }
+{
+    is_less(*t, u)
+}
+
+/// Those of some times that are in a stretch, by binary search.
+pub(crate) fn turns_in<'a>(sorted: &'a [Frac], s: &Stretch) -> &'a [Frac]
+    requires { (from : ℚ) × TimesRise from sorted.now }
+    ensures { HoldsTimes s.now sorted.now result.now }
+{
+    let start = s.start;
+    let end = s.end;
+    let from = sorted.partition_point(|t| is_before(t, start));
+    let rest = &sorted[from..];
+    let count = rest.partition_point(|t| is_by(t, end));
+    &rest[..count]
 }
 
 /// The stretch that begins with a packet, if one does.

@@ -106,7 +106,7 @@ rates_above : (xs : List NetServer) → ((x : NetServer) → In xs x → int (po
 rates_above [] h = tt
 rates_above (x ∷ xs) h = (h x (inl refl), rates_above xs (λ y i. h y (inr i)))
 
-sizes_some : (net : Net) (trace : SpecTrace) → IsAccepted net → AreSome (simulation_sizes net trace)
+pub sizes_some : (net : Net) (trace : SpecTrace) → IsAccepted net → AreSome (simulation_sizes net trace)
 sizes_some net trace ok =
     let n = simulation_numbers net trace in
     let all = horizon (setup_of net trace) ∷ n.times in
@@ -147,12 +147,12 @@ rate_counts net trace ok x i =
     }
 
 -- the horizon is within the largest number
-record IsReach (net : Net) (trace : SpecTrace) : Type 0 where
-  from_zero : int (pos 0) ≤ℚ horizon (setup_of net trace)
-  reach : whole (simulation_sizes net trace).steepness *ℚ horizon (setup_of net trace) ≤ℚ whole (simulation_sizes net trace).largest
-  by : horizon (setup_of net trace) ≤ℚ whole (simulation_sizes net trace).largest
+pub record IsReach (net : Net) (trace : SpecTrace) : Type 0 where
+  pub from_zero : int (pos 0) ≤ℚ horizon (setup_of net trace)
+  pub reach : whole (simulation_sizes net trace).steepness *ℚ horizon (setup_of net trace) ≤ℚ whole (simulation_sizes net trace).largest
+  pub by : horizon (setup_of net trace) ≤ℚ whole (simulation_sizes net trace).largest
 
-reach_of : (net : Net) (trace : SpecTrace) (place : ℕ → ℕ) → IsSetup (setup_of net trace) → IsForward (setup_of net trace) place → IsReach net trace
+pub reach_of : (net : Net) (trace : SpecTrace) (place : ℕ → ℕ) → IsSetup (setup_of net trace) → IsForward (setup_of net trace) place → IsReach net trace
 reach_of net trace place ok f =
     let n = simulation_numbers net trace in
     let e = horizon (setup_of net trace) in

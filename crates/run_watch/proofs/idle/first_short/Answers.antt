@@ -1,8 +1,8 @@
-use Rattle.std.proofs.Common.{◌≡◌, ◌∙◌, ◌<◌, ◌≤◌, length, refl, sym, arith}
+use Rattle.std.proofs.Common.{◌∙◌, ◌<◌, ◌≤◌, length, refl, arith}
 use Rattle.run_watch.specs.WatchTimes.{watched_from}
 use Rattle.run_watch.specs.IdleWindows.{TimeFits}
 use Rattle.run_watch.proofs.ShortWindows.{fits_one}
-use Rattle.run_watch.proofs.SortedPoints.{each_sorted, rise_of, fits_of, none_short, first_short, some_start, sorted_from, first_end_of, reads_of, start_of, no_start_of}
+use Rattle.run_watch.proofs.SortedPoints.{each_sorted, rise_of, fits_of, none_short, first_short, some_start, sorted_from, first_end_of, start_of, no_start_of}
 use Rattle.run_watch.proofs.idle.first_short.Goals as goal
 
 pub first_end-requires-clause-rise : goal.first_end-requires-clause-rise

@@ -1,4 +1,4 @@
-use Rattle.std.proofs.Common.{◌∙◌, ◌<◌, length, arith, rules, subst}
+use Rattle.std.proofs.Common.{◌∙◌, ◌<◌, length, arith, rules}
 use Rattle.std.proofs.lemmas.List.Sorted.{IsPartitionPoint-from_clause}
 use Rattle.run_watch.specs.Ramps.{ReadsRamp}
 use Rattle.run_watch.proofs.RampLists.{ends_before, parted_before, near_before, amount_found, amount_past, each_ramp_at}

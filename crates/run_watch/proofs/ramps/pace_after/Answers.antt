@@ -1,7 +1,6 @@
-use Rattle.std.proofs.Common.{◌∙◌, ◌<◌, length, arith, rules, subst}
+use Rattle.std.proofs.Common.{◌∙◌, ◌<◌, length, arith, rules}
 use Rattle.std.proofs.lemmas.List.Sorted.{IsPartitionPoint-from_clause}
-use Rattle.run_watch.specs.Ramps.{ReadsRamp}
-use Rattle.run_watch.proofs.RampLists.{ends_by, parted_by, near_by, after_found, after_past, each_ramp_at}
+use Rattle.run_watch.proofs.RampLists.{ends_by, parted_by, near_by, after_found, after_past}
 use Rattle.run_watch.proofs.ramps.pace_after.Goals as goal
 
 pub returns-then-past-ramps : goal.returns-then-past-ramps

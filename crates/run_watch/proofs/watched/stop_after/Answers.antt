@@ -1,4 +1,4 @@
-use Rattle.std.proofs.Common.{◌≡◌, ◌∙◌, ◌<◌, length, arith, rules, subst, sym, false}
+use Rattle.std.proofs.Common.{◌≡◌, ◌<◌, length, arith, rules, subst, sym, false}
 use Rattle.std.proofs.lemmas.List.Sorted.{IsPartitionPoint-from_clause}
 use Rattle.rational.specs.Rational.{ℚ, le_q}
 use Rattle.run_watch.proofs.RampLists.{not_most}

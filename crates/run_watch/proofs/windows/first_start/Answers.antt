@@ -1,4 +1,4 @@
-use Rattle.std.proofs.Common.{◌<◌, length, refl, sym, true≢false, arith}
+use Rattle.std.proofs.Common.{refl, sym, true≢false}
 use Rattle.run_watch.specs.WatchTimes.{IsShortTo}
 use Rattle.run_watch.proofs.ShortWindows.{points_push, first_start_is, fits_one}
 use Rattle.run_watch.proofs.windows.first_start.Goals as goal

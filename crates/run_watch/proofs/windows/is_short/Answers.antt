@@ -1,9 +1,8 @@
-use Rattle.std.proofs.Common.{◌<◌, length, refl, sym, true≢false, arith}
+use Rattle.std.proofs.Common.{refl, sym, true≢false}
 use Rattle.watch_laws.specs.Shorts.{IsShortBy}
 use Rattle.run_watch.proofs.ShortMarks.{has_segment, segment_at}
 use Rattle.run_watch.proofs.ShortWindows.{segments_push, none_of_all}
 use Rattle.run_watch.specs.FirstEnds.{FitsMarks}
-use Rattle.watch_laws.specs.declared.point.Point.{Point}
 use Rattle.std.specs.Prelude.{[], ◌∷◌}
 use Rattle.run_watch.proofs.windows.is_short.Goals as goal
 

@@ -1,4 +1,4 @@
-use Rattle.std.proofs.Common.{◌∙◌, refl, sym, true≢false}
+use Rattle.std.proofs.Common.{refl, sym, true≢false}
 use Rattle.run_watch.proofs.ShortWindows.{marks, too_near, too_far, short_here}
 use Rattle.run_watch.proofs.windows.is_short_by.Goals as goal
 

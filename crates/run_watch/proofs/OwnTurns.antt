@@ -1,0 +1,107 @@
+-- The turns that are in one stretch, as a part of all of them in order.
+use Rattle.std.specs.Prelude.{◌≡◌, ℕ, zero, suc, ◌<◌, ◌≤◌, Bool, true, false, List, [], ◌∷◌, length, take, drop, get_or, Option, Some, None}
+use Rattle.std.proofs.Common.{arith, refl, sym, subst, inl, inr, true≢false, ◌∙◌}
+use Rattle.std.specs.List.Sorted.{IsPermutation}
+use Rattle.rational.specs.Rational.{ℚ, ◌≤ℚ◌, ◌<ℚ◌, le_q, lt_q}
+use Rattle.rational.proofs.Laws.{le_lt_trans, lt_le_trans, lt_irrefl}
+use Rattle.rational.proofs.Over.{lt_q_in, lt_q_out, le_q_out}
+use Rattle.affine_segment.specs.declared.line.Piece.{Piece}
+use Rattle.watch_laws.specs.Affine.{EachTime, Among}
+use Rattle.watch_laws.specs.declared.point.Segment.{Segment}
+use Rattle.run_watch.specs.declared.span.Ramp.{Ramp}
+use Rattle.run_watch.specs.declared.watched.Stretch.{Stretch}
+use Rattle.run_watch.specs.Watching.{TimesRise, HoldsTimes}
+use Rattle.run_watch.specs.WatchTimes.{around, watched_from, TimesFit}
+use Rattle.run_watch.specs.IdleWindows.{NoneIsShort, FindsShort, FindsIn}
+use Rattle.run_watch.proofs.FoundTurns.{among_parts}
+use Rattle.run_watch.proofs.FoundTimes.{watched_in}
+use Rattle.run_watch.proofs.SortedPoints.{among_sorted, sorted_among, each_time_from, each_time_among}
+use Rattle.run_watch.proofs.WatchedLists.{times_rise}
+
+-- ---- a part of times in order
+abbrev pub is_before : ℚ → ℚ → Bool
+is_before u t = lt_q t u
+
+pub parted_before_at : (from : ℚ) (ts : List ℚ) (u : ℚ) → TimesRise from ts → (i j : ℕ) (d : ℚ) → i ≤ j → j < length ts → is_before u (get_or ts j d) ≡ true → is_before u (get_or ts i d) ≡ true
+parted_before_at from ts u h i j d k l e = lt_q_out (get_or ts i d) u (le_lt_trans (times_rise from ts i j d h k l) (lt_q_in (get_or ts j d) u e))
+
+pub rise_drop : (k : ℕ) (from : ℚ) (ts : List ℚ) → TimesRise from ts → (f : ℚ) × TimesRise f (drop k ts)
+rise_drop zero from ts h = (from, h)
+rise_drop (suc k) from [] h = (from, tt)
+rise_drop (suc k) from (t ∷ ts) h = rise_drop k t ts h.1
+
+among_drop : (k : ℕ) (ts : List ℚ) (t : ℚ) → ((i : ℕ) (d : ℚ) → i < k → get_or ts i d ≡ t → ⊥) → k ≤ length ts → Among t ts → Among t (drop k ts)
+among_drop zero ts t none l h = h
+among_drop (suc k) [] t none l h = absurd h
+among_drop (suc k) (x ∷ ts) t none l h = elim h [
+  | inl e ↦ absurd (none 0 x (omega arith) (sym e))
+  | inr m ↦ among_drop k ts t (λ i d a b. none (suc i) d (omega arith) b) (omega arith) m
+]
+
+among_take : (k : ℕ) (ts : List ℚ) (t : ℚ) → ((i : ℕ) (d : ℚ) → k ≤ i → i < length ts → get_or ts i d ≡ t → ⊥) → Among t ts → Among t (take k ts)
+among_take k [] t none h = absurd h
+among_take zero (x ∷ ts) t none h = absurd (late (x ∷ ts) h (λ i d l. none i d (omega arith) l))
+  where
+    late : (us : List ℚ) → Among t us → ((i : ℕ) (d : ℚ) → i < length us → get_or us i d ≡ t → ⊥) → ⊥
+    late [] m f = m
+    late (u ∷ us) m f = elim m [ inl e ↦ f 0 u (omega arith) (sym e) | inr n ↦ late us n (λ i d l e. f (suc i) d (omega arith) e) ]
+among_take (suc k) (x ∷ ts) t none h = elim h [
+  | inl e ↦ inl e
+  | inr m ↦ inr (among_take k ts t (λ i d a l e. none (suc i) d (omega arith) (omega arith) e) m)
+]
+
+drop_among : (k : ℕ) (ts : List ℚ) (t : ℚ) → Among t (drop k ts) → Among t ts
+drop_among zero ts t h = h
+drop_among (suc k) [] t h = h
+drop_among (suc k) (x ∷ ts) t h = inr (drop_among k ts t h)
+
+take_among : (k : ℕ) (ts : List ℚ) (t : ℚ) → Among t (take k ts) → Among t ts
+take_among zero ts t h = absurd h
+take_among (suc k) [] t h = absurd h
+take_among (suc k) (x ∷ ts) t h = elim h [ inl e ↦ inl e | inr m ↦ inr (take_among k ts t m) ]
+
+past : (t end x : ℚ) → x ≡ t → le_q x end ≡ false → t ≤ℚ end → ⊥
+past t end x e h l = true≢false (sym (le_q_out x end (subst (λ y. y ≤ℚ end) (sym e) l)) ∙ h)
+
+pub holds : (s : Stretch) (ts rest own : List ℚ) (from count : ℕ) → from ≤ length ts → rest ≡ drop from ts → own ≡ take count rest
+    → ((i : ℕ) (d : ℚ) → 0 ≤ i → i < from → is_before s.start (get_or ts i d) ≡ true)
+    → ((i : ℕ) (d : ℚ) → count ≤ i → i < length rest → le_q (get_or rest i d) s.end ≡ false)
+    → HoldsTimes s ts own
+holds s ts rest own from count l e f early late = record {
+  inside = λ t m a b.
+      let here = among_drop from ts t (λ i d k is. lt_irrefl t (lt_le_trans (subst (λ x. x <ℚ s.start) is (lt_q_in (get_or ts i d) s.start (early i d (omega arith) k))) a)) l m in
+      let there = subst (Among t) (sym e) here in
+      subst (Among t) (sym f) (among_take count rest t (λ i d k n is. past t s.end (get_or rest i d) is (late i d k n) b) there);
+  are = λ t m. drop_among from ts t (subst (Among t) e (take_among count rest t (subst (Among t) f m)));
+}
+
+pub holds_sorted : (s : Stretch) (ps ts own : List ℚ) → IsPermutation ps ts → HoldsTimes s ts own → HoldsTimes s ps own
+holds_sorted s ps ts own p h = record {
+  inside = λ t m a b. h.inside t (among_sorted ps ts t p m) a b;
+  are = λ t m. sorted_among ps ts t p (h.are t m);
+}
+
+-- ---- watch points of some of the turns
+watched_more : (s : Stretch) (qs : List Piece) (own ps : List ℚ) (t : ℚ) → ((p : ℚ) → Among p own → Among p ps) → Among t (watched_from s qs own) → Among t (watched_from s qs ps)
+watched_more s qs [] ps t h k = absurd k
+watched_more s qs (p ∷ own) ps t h k = elim (among_parts t (around s p qs) (watched_from s qs own) k) [
+  | inl l ↦ watched_in s qs ps p t (h p (inl refl)) l
+  | inr l ↦ watched_more s qs own ps t (λ q m. h q (inr m)) l
+]
+
+pub own_moves : (qs : List Piece) (own ps : List ℚ) → ((p : ℚ) → Among p own → Among p ps) → TimesFit qs ps → TimesFit qs own
+own_moves qs own ps h k = each_time_from _ own (λ t m. each_time_among _ ps t k (h t m))
+
+pub own_times : (P : ℚ → Type 0) (s : Stretch) (qs : List Piece) (own ps : List ℚ) → ((p : ℚ) → Among p own → Among p ps) → EachTime P (watched_from s qs ps) → EachTime P (watched_from s qs own)
+own_times P s qs own ps h k = each_time_from P (watched_from s qs own) (λ t m. each_time_among P (watched_from s qs ps) t k (watched_more s qs own ps t h m))
+
+-- where there is none between the times of all turns, there is none between those of some
+pub own_none : (ss : List Segment) (works : List Ramp) (s : Stretch) (qs : List Piece) (own ps : List ℚ) → ((p : ℚ) → Among p own → Among p ps)
+    → NoneIsShort ss works (watched_from s qs ps) → NoneIsShort ss works (watched_from s qs own)
+own_none ss works s qs own ps h none a b k =
+    none a b record { from = watched_more s qs own ps a h k.from; to = watched_more s qs own ps b h k.to; short = k.short }
+
+pub finds_in : (ss : List Segment) (works : List Ramp) (s : Stretch) (qs : List Piece) (own ps : List ℚ) (o : Option (ℚ × ℚ)) → ((p : ℚ) → Among p own → Among p ps)
+    → FindsShort ss works (watched_from s qs ps) o → FindsIn ss works (watched_from s qs own) (watched_from s qs ps) o
+finds_in ss works s qs own ps None h k = own_none ss works s qs own ps h k
+finds_in ss works s qs own ps (Some w) h k = k

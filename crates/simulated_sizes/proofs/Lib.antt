@@ -1,0 +1,5 @@
+pub mod Worked
+pub mod Entries
+pub mod Numbers
+pub mod Steps
+pub mod Stand
