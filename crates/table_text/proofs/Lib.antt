@@ -1,0 +1,5 @@
+pub mod FieldTexts
+pub mod PlainTexts
+pub mod Records
+pub mod TraceFacts
+pub mod TraceSteps

@@ -1,0 +1,5 @@
+pub mod Rows
+pub mod Fields
+pub mod TraceRows
+pub mod Traces
+pub mod Kept
