@@ -3,3 +3,7 @@ pub mod PlainTexts
 pub mod Records
 pub mod TraceFacts
 pub mod TraceSteps
+pub mod OneTrace
+pub mod Told
+pub mod PathTexts
+pub mod EditSteps

@@ -1,5 +1,5 @@
 -- One row after another.
-use Rattle.std.proofs.Common.{◌≡◌, ℕ, zero, suc, ◌+◌, ◌<◌, ◌≤◌, min, List, [], ◌∷◌, ◌++◌, length, take, drop, get_or, map, Result, Ok, Err, OnOk, IfErr, All, AllPairs, refl, sym, ap, subst, arith, inl, inr, ⊎_elim, ◌⊎◌, ◌∙◌, append-nil, append_assoc, take-append-drop, length-take, take_all, take_at, ap₂}
+use Rattle.std.proofs.Common.{◌≡◌, ◌≢◌, ℕ, zero, suc, ◌+◌, ◌<◌, ◌≤◌, min, List, [], ◌∷◌, ◌++◌, length, take, drop, get_or, map, Result, Ok, Err, OnOk, IfErr, All, AllPairs, refl, sym, ap, subst, arith, inl, inr, ⊎_elim, ◌⊎◌, ◌∙◌, append-nil, append_assoc, take-append-drop, length-take, take_all, take_at, ap₂}
 use Rattle.std.proofs.lemmas.List.{take_more, drop_more, length-map, get_or-map, length_push}
 use Rattle.std.proofs.lemmas.List.Quantifiers.{all_pairs_push}
 use Rattle.std.proofs.lemmas.List.Elements.{All-push}
@@ -9,7 +9,7 @@ use Rattle.net_model.specs.declared.trace.Stall.{Stall}
 use Rattle.net_model.specs.Networks.{Net}
 use Rattle.net_model.specs.Traces.{SpecTrace, trace_of, IsTrace, IsTracePacket, IsStall}
 use Rattle.table_text.specs.declared.fault.TableKind.{TableKind}
-use Rattle.table_text.specs.declared.fault.TableKind.TheVariants.{T6, NoMemory}
+use Rattle.table_text.specs.declared.fault.TableKind.TheVariants.{T1, T2, T3, T4, T5, T6, T7, NoMemory}
 use Rattle.table_text.specs.declared.trace_rows.Entry.{Entry}
 use Rattle.table_text.specs.declared.trace_rows.Entry.TheVariants.{Packet, Stop}
 use Rattle.table_text.specs.Rows.{Row, rows_of}
@@ -25,6 +25,16 @@ both_ok (Err e) f a b = tt
 pub other_err : {X E : Type 0} (r : Result X E) (P Q : E → Type 0) → ((e : E) → P e → Q e) → IfErr r P → IfErr r Q
 other_err (Ok x) P Q f h = tt
 other_err (Err e) P Q f h = f e h
+
+pub memory_or : (kind : TableKind) → (kind ≡ NoMemory) ⊎ (kind ≢ NoMemory)
+memory_or NoMemory = inl refl
+memory_or T1 = inr (λ e. let bad : ⊥ = cc in bad)
+memory_or T2 = inr (λ e. let bad : ⊥ = cc in bad)
+memory_or T3 = inr (λ e. let bad : ⊥ = cc in bad)
+memory_or T4 = inr (λ e. let bad : ⊥ = cc in bad)
+memory_or T5 = inr (λ e. let bad : ⊥ = cc in bad)
+memory_or T6 = inr (λ e. let bad : ⊥ = cc in bad)
+memory_or T7 = inr (λ e. let bad : ⊥ = cc in bad)
 
 -- ---- what entries hold
 packets_more : (es : List Entry) (e : Entry) → packets_in (es ++ e ∷ []) ≡ packets_in es ++ packets_in (e ∷ [])

@@ -3,3 +3,8 @@ pub mod Fields
 pub mod TraceRows
 pub mod Traces
 pub mod Kept
+pub mod Laws
+pub mod Paths
+pub mod EditRows
+pub mod EditLists
+pub mod EditAnswers

@@ -2,13 +2,20 @@
 //! first that is wrong.
 #![tactic(auto)]
 
+mod edit_lists;
+mod edit_rows;
+mod edit_words;
 mod fault;
 mod fields;
+mod laws;
+mod paths;
 mod rows;
 #[cfg(test)]
 mod tests;
 mod trace_rows;
 mod traces;
 
+pub use edit_lists::read_edits;
 pub use fault::{TableFault, TableKind};
+pub use laws::{faults_are_of_rows, faults_are_one, faults_exclude_traces, traces_are_one};
 pub use traces::read_trace;

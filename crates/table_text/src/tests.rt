@@ -1,7 +1,7 @@
 //! What no contract says: that calls succeed, row by row as the format has them.
 
-use crate::{TableKind, read_trace};
-use net_model::{Network, plain_network};
+use crate::{TableKind, read_edits, read_trace};
+use net_model::{Edit, Network, plain_network};
 use std::alloc::Global;
 use std::test::Fail;
 
@@ -40,5 +40,44 @@ fn each_fault_has_its_row(rt: HostRuntime) -> Result<(), Fail> {
     assert_eq!(rt; fault(alloc, &net, "stall,z,2,2"), Some((TableKind::T4, 1)));
     assert_eq!(rt; fault(alloc, &net, "packet,0,f9,1"), Some((TableKind::T5, 1)));
     assert_eq!(rt; fault(alloc, &net, "\npacket,5,a,1\npacket,4,a,1"), Some((TableKind::T6, 2)));
+    Ok(())
+}
+
+// The fault of an edit list, with its row.
+fn edit_fault(alloc: Global, text: &str) -> Option<(TableKind, u32)> {
+    match read_edits(alloc, text.as_bytes()) {
+        Ok(_) => None,
+        Err(fault) => Some((fault.kind, fault.row)),
+    }
+}
+
+#[test]
+fn each_word_is_read(rt: HostRuntime) -> Result<(), Fail> {
+    let text = "rate,s1,200\nlatency,s1,1/2\nlink,s1,-1\nquantum,s1,-1,12000\nbucket,f1,0,0\nstair,f1,1,0\n\
+                packet,f1,-5\nroute,f1,s1 s2:1\nadd,f2,6000,6000,5,s2\ndrop,f1\nundo\n";
+    let Ok(edits) = read_edits(rt.alloc(), text.as_bytes()) else {
+        return Err(Fail::new("no edits"));
+    };
+    assert_eq!(rt; edits.len(), 11);
+    let Edit::Route(name, path) = &edits[7] else {
+        return Err(Fail::new("no route"));
+    };
+    assert_eq!(rt; name.as_str(), "f1");
+    assert_eq!(rt; path.len(), 2);
+    assert_eq!(rt; path[1].queue, 1);
+    Ok(())
+}
+
+#[test]
+fn each_fault_of_an_edit_has_its_row(rt: HostRuntime) -> Result<(), Fail> {
+    let alloc = rt.alloc();
+    assert_eq!(rt; edit_fault(alloc, "undo\nundo\t"), Some((TableKind::T1, 2)));
+    assert_eq!(rt; edit_fault(alloc, "paint,s1"), Some((TableKind::T2, 1)));
+    assert_eq!(rt; edit_fault(alloc, "undo,1"), Some((TableKind::T3, 1)));
+    assert_eq!(rt; edit_fault(alloc, "rate,s1,x"), Some((TableKind::T4, 1)));
+    assert_eq!(rt; edit_fault(alloc, "route,f1,"), Some((TableKind::T4, 1)));
+    assert_eq!(rt; edit_fault(alloc, "route,f1,s1  s2"), Some((TableKind::T4, 1)));
+    assert_eq!(rt; edit_fault(alloc, "packet,f1,1/1"), Some((TableKind::T4, 1)));
+    assert_eq!(rt; edit_fault(alloc, "packet,f1,9223372036854775808"), Some((TableKind::T4, 1)));
     Ok(())
 }

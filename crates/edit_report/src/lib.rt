@@ -1,0 +1,10 @@
+//! Texts about edits of a network: what is said of one, and the report on a list of them.
+#![tactic(auto)]
+
+mod answer;
+mod edit_text;
+#[cfg(test)]
+mod tests;
+
+pub use answer::answer_text;
+pub use edit_text::edit_text;
