@@ -2,9 +2,9 @@
 #![tactic(auto)]
 
 mod answer;
-mod edit_text;
+mod listing;
 #[cfg(test)]
 mod tests;
 
 pub use answer::answer_text;
-pub use edit_text::edit_text;
+pub use listing::edit_text;

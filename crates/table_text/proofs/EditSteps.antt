@@ -1,5 +1,5 @@
 -- One row of an edit list after another.
-use Rattle.std.proofs.Common.{◌≡◌, ℕ, suc, ◌+◌, ◌<◌, ◌≤◌, List, [], ◌∷◌, ◌++◌, length, take, drop, get_or, map, Result, Ok, Err, refl, sym, ap, ap₂, subst, arith, ◌∙◌, append_assoc, take-append-drop, length-take, take_all}
+use Rattle.std.proofs.Common.{◌≡◌, ℕ, suc, ◌+◌, ◌<◌, ◌≤◌, List, [], ◌∷◌, ◌++◌, length, take, drop, get_or, map, Ok, refl, sym, ap, ap₂, subst, arith, ◌∙◌, append_assoc, take-append-drop, length-take, take_all}
 use Rattle.std.proofs.lemmas.List.{take_more, drop_more, map_push}
 use Rattle.table_text.specs.declared.fault.TableKind.{TableKind}
 use Rattle.table_text.specs.Rows.{Row, Read, rows_of}

@@ -1,5 +1,5 @@
 -- Numbers of fields.
-use Rattle.std.proofs.Common.{◌≡◌, ◌≢◌, ℕ, zero, suc, ℤ, pos, negsuc, neg_ℤ, ◌^◌, ◌-◌, ◌≤◌, ◌<◌, nat_lt, min, Bool, true, false, List, Option, Some, None, refl, sym, ap, subst, arith, ◌∙◌}
+use Rattle.std.proofs.Common.{◌≡◌, ℕ, zero, suc, ℤ, pos, neg_ℤ, ◌^◌, ◌-◌, ◌≤◌, ◌<◌, nat_lt, min, Bool, true, false, List, Option, None, refl, sym, ap, subst, arith, ◌∙◌}
 use Rattle.std.specs.Str.Parse.{digits_value, starts_with_minus}
 use Rattle.std.proofs.lemmas.Bool.Decides.{nat_tests}
 use Rattle.rational.specs.Gauge.{cap}

@@ -7,3 +7,4 @@ pub mod OneTrace
 pub mod Told
 pub mod PathTexts
 pub mod EditSteps
+pub mod OneEditList

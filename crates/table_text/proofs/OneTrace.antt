@@ -1,17 +1,17 @@
 -- A text is one trace at most, or has one first fault.
-use Rattle.std.proofs.Common.{Bool, true, false, true≢false, le_refl, sub-eq-zero_of_le, ◌≡◌, ◌≢◌, ℕ, zero, suc, ◌+◌, ◌<◌, ◌≤◌, List, [], ◌∷◌, ◌++◌, length, drop, get_or, map, Option, Some, None, Result, Ok, Err, Any, AllPairs, slice_get, refl, sym, ap, ap₂, subst, subst₂, arith, inl, inr, ⊎_elim, ◌⊎◌, ◌∙◌, length-append, eq-or-lt_of_le}
-use Rattle.std.proofs.lemmas.Option.{slice_get_within, get_or_from_slice_get, same_Some}
+use Rattle.std.proofs.Common.{Bool, true, false, true≢false, le_refl, sub-eq-zero_of_le, ◌≡◌, ◌≢◌, ℕ, zero, suc, ◌<◌, ◌≤◌, List, [], ◌∷◌, ◌++◌, length, drop, get_or, Some, Result, Ok, Err, AllPairs, slice_get, refl, sym, ap, ap₂, subst, subst₂, arith, inl, inr, ⊎_elim, ◌⊎◌, ◌∙◌, length-append, eq-or-lt_of_le}
+use Rattle.std.proofs.lemmas.Option.{slice_get_within, get_or_from_slice_get}
 use Rattle.std.proofs.lemmas.List.{get_or_append_left, get_or-append_right}
-use Rattle.rational.specs.Rational.{ℚ, ◌≤ℚ◌, ◌<ℚ◌}
+use Rattle.rational.specs.Rational.{◌≤ℚ◌}
 use Rattle.rational.proofs.Laws.{lt_irrefl, lt_le_trans}
 use Rattle.net_model.specs.declared.trace.TracePacket.{TracePacket}
 use Rattle.net_model.specs.declared.trace.Stall.{Stall}
-use Rattle.net_model.specs.Networks.{Net, NetServer, NetFlow}
+use Rattle.net_model.specs.Networks.{Net}
 use Rattle.net_model.specs.Accepted.{IsAccepted}
 use Rattle.net_model.specs.Names.{DifferInName, IsServerNamed, IsFlowNamed}
 use Rattle.net_model.specs.Traces.{SpecTrace}
 use Rattle.table_text.specs.declared.fault.TableKind.{TableKind}
-use Rattle.table_text.specs.declared.fault.TableKind.TheVariants.{T5, T6, T7, NoMemory}
+use Rattle.table_text.specs.declared.fault.TableKind.TheVariants.{T5, T6}
 use Rattle.table_text.specs.declared.trace_rows.Entry.{Entry}
 use Rattle.table_text.specs.declared.trace_rows.Entry.TheVariants.{Packet, Stop}
 use Rattle.table_text.specs.Rows.{Row, Read, rows_of}
@@ -31,15 +31,15 @@ is_read : {X E : Type 0} → Result X E → Bool
 is_read (Ok x) = true
 is_read (Err e) = false
 
-same_value : {X E : Type 0} (r : Result X E) (x y : X) → r ≡ Ok x → r ≡ Ok y → x ≡ y
+pub same_value : {X E : Type 0} (r : Result X E) (x y : X) → r ≡ Ok x → r ≡ Ok y → x ≡ y
 unfolding value_or
 same_value r x y a b = ap (value_or x) (sym a ∙ b)
 
-same_kind : {X E : Type 0} (r : Result X E) (x y : E) → r ≡ Err x → r ≡ Err y → x ≡ y
+pub same_kind : {X E : Type 0} (r : Result X E) (x y : E) → r ≡ Err x → r ≡ Err y → x ≡ y
 unfolding kind_or
 same_kind r x y a b = ap (kind_or x) (sym a ∙ b)
 
-not_both_ways : {X E : Type 0} (r : Result X E) (x : X) (e : E) → r ≡ Ok x → r ≡ Err e → ⊥
+pub not_both_ways : {X E : Type 0} (r : Result X E) (x : X) (e : E) → r ≡ Ok x → r ≡ Err e → ⊥
 unfolding is_read
 not_both_ways r x e a b = true≢false (ap is_read (sym a ∙ b))
 
@@ -54,11 +54,11 @@ one_place R xs i j x y pairs ex ey nxy nyx =
     let xi : (d : _) → get_or xs i d ≡ x = λ d. get_or_from_slice_get xs i x d ex in
     let yj : (d : _) → get_or xs j d ≡ y = λ d. get_or_from_slice_get xs j y d ey in
     elim (order i j) [
-      inl le ↦ elim (eq-or-lt_of_le le) [
-        inl e ↦ e
-      | inr less ↦ absurd (nxy (subst₂ R (xi x) (yj x) (pairs i j x less (slice_get_within xs j y ey))))
+      | inl le ↦ elim (eq-or-lt_of_le le) [
+        | inl e ↦ e
+        | inr less ↦ absurd (nxy (subst₂ R (xi x) (yj x) (pairs i j x less (slice_get_within xs j y ey))))
       ]
-    | inr less ↦ absurd (nyx (subst₂ R (yj x) (xi x) (pairs j i x less (slice_get_within xs i x ex))))
+      | inr less ↦ absurd (nyx (subst₂ R (yj x) (xi x) (pairs j i x less (slice_get_within xs i x ex))))
     ]
 
 server_one : (net : Net) (name : List ℕ) (i j : ℕ) → IsAccepted net → IsServerNamed net.servers name i → IsServerNamed net.servers name j → i ≡ j
@@ -162,20 +162,20 @@ not_right net before row more t u kind ok h wrong k =
     ⊎_elim
     (λ many. let n = length-append before (row ∷ more) in let few = k.few in let over = many.1 in omega (arith, n, few, over))
     (λ one. ⊎_elim
-        (λ itself. ⊎_elim
-            (λ bad. not_both_ways (trace_row row) gives.says kind gives.is bad)
-            (λ unknown. let s = unknown.1 in let w : s.says ≡ gives.says = same_value (trace_row row) s.says gives.says s.is gives.is in
-                unknown_named net gives.says parts.own (subst (IsUnknown net) w s.unknown) gives.names)
-            itself)
-        (λ late. let e = late.1 in
-            let own : parts.own ≡ Packet e.packet = gives_one net (trace_row row) parts.own (Packet e.packet) ok gives e.gives in
-            let front : parts.front ≡ h.entries = give_one net before parts.front h.entries ok parts.give h.give in
-            let all : u.packets ≡ packets_in parts.front ++ e.packet ∷ packets_in parts.back =
-                k.packets ∙ (ap packets_in (parts.are ∙ ap (λ x. parts.front ++ x ∷ parts.back) own) ∙ packets_join parts.front e.packet parts.back) in
-            let before_it : t.packets ≡ packets_in parts.front = h.packets ∙ ap packets_in (sym front) in
-            not_earlier (packets_in parts.front) e.packet (packets_in parts.back) (subst (AllPairs (λ a b. a.time ≤ℚ b.time)) all k.in_order)
-            (subst (λ ps. IsEarlier ps e.packet.time) before_it e.earlier))
-        one.1)
+    (λ itself. ⊎_elim
+    (λ bad. not_both_ways (trace_row row) gives.says kind gives.is bad)
+    (λ unknown. let s = unknown.1 in let w : s.says ≡ gives.says = same_value (trace_row row) s.says gives.says s.is gives.is in
+    unknown_named net gives.says parts.own (subst (IsUnknown net) w s.unknown) gives.names)
+    itself)
+    (λ late. let e = late.1 in
+    let own : parts.own ≡ Packet e.packet = gives_one net (trace_row row) parts.own (Packet e.packet) ok gives e.gives in
+    let front : parts.front ≡ h.entries = give_one net before parts.front h.entries ok parts.give h.give in
+    let all : u.packets ≡ packets_in parts.front ++ e.packet ∷ packets_in parts.back =
+    k.packets ∙ (ap packets_in (parts.are ∙ ap (λ x. parts.front ++ x ∷ parts.back) own) ∙ packets_join parts.front e.packet parts.back) in
+    let before_it : t.packets ≡ packets_in parts.front = h.packets ∙ ap packets_in (sym front) in
+    not_earlier (packets_in parts.front) e.packet (packets_in parts.back) (subst (AllPairs (λ a b. a.time ≤ℚ b.time)) all k.in_order)
+    (subst (λ ps. IsEarlier ps e.packet.time) before_it e.earlier))
+    one.1)
     wrong
 
 pub no_trace : (net : Net) (text : List ℕ) (kind : TableKind) (number : ℕ) (t : SpecTrace) → IsAccepted net → IsFirstFault net text kind number → IsTraceOf net (rows_of text) t → ⊥
@@ -222,7 +222,7 @@ one_kind net n ps qs row kind other (inr a) (inr b) = one_row net ps qs row kind
 
 -- ---- one place
 -- two places in one list: the same, or one before the other
-data Places {X : Type 0} (xs : List X) (x : X) (zs : List X) (z : X) : Type 0 where
+pub data Places {X : Type 0} (xs : List X) (x : X) (zs : List X) (z : X) : Type 0 where
   same : xs ≡ zs → x ≡ z → Places xs x zs z
   sooner : (m : List X) → zs ≡ xs ++ x ∷ m → Places xs x zs z
   later : (m : List X) → xs ≡ zs ++ z ∷ m → Places xs x zs z
@@ -232,7 +232,7 @@ places_more y w xs x zs z e (same a b) = same (ap₂ (λ q qs. q ∷ qs) e a) b
 places_more y w xs x zs z e (sooner m a) = sooner m (ap₂ (λ q qs. q ∷ qs) (sym e) a)
 places_more y w xs x zs z e (later m a) = later m (ap₂ (λ q qs. q ∷ qs) e a)
 
-places : {X : Type 0} (xs : List X) (x : X) (ys zs : List X) (z : X) (ws : List X) → xs ++ x ∷ ys ≡ zs ++ z ∷ ws → Places xs x zs z
+pub places : {X : Type 0} (xs : List X) (x : X) (ys zs : List X) (z : X) (ws : List X) → xs ++ x ∷ ys ≡ zs ++ z ∷ ws → Places xs x zs z
 places [] x ys [] z ws e = same refl (ap (λ l. get_or l 0 x) e)
 places [] x ys (w ∷ zs) z ws e = sooner zs (ap (λ q. q ∷ zs) (sym (ap (λ l. get_or l 0 x) e)))
 places (y ∷ xs) x ys [] z ws e = later xs (ap (λ q. q ∷ xs) (ap (λ l. get_or l 0 y) e))
@@ -243,8 +243,9 @@ fault_one net text kind other number place ok f g = go (places f.before f.row f.
   where
     go : Places f.before f.row g.before g.row → (kind ≡ other) × (number ≡ place)
     go (same a b) =
-        let n : length f.before ≡ length g.before = ap length a in
-        (one_kind net (length g.before) f.trace.packets g.trace.packets g.row kind other (subst₂ (λ k r. IsWrong net k f.trace.packets r kind) n b f.wrong) g.wrong,
-        f.place ∙ (ap suc n ∙ sym g.place))
+        let n : length f.before ≡ length g.before = ap length a in (
+          one_kind net (length g.before) f.trace.packets g.trace.packets g.row kind other (subst₂ (λ k r. IsWrong net k f.trace.packets r kind) n b f.wrong) g.wrong,
+          f.place ∙ (ap suc n ∙ sym g.place),
+        )
     go (sooner m a) = absurd (not_right net f.before f.row m f.trace g.trace kind ok f.right f.wrong (subst (λ rs. IsTraceOf net rs g.trace) a g.right))
     go (later m a) = absurd (not_right net g.before g.row m g.trace f.trace other ok g.right g.wrong (subst (λ rs. IsTraceOf net rs f.trace) a f.right))

@@ -1,5 +1,5 @@
 -- Entries of paths, one after another.
-use Rattle.std.proofs.Common.{◌≡◌, ◌≢◌, ℕ, zero, suc, ◌+◌, ◌-◌, ◌^◌, ◌<◌, ◌≤◌, min, Bool, true, false, ◌==◌, ◌&&◌, List, [], ◌∷◌, ◌++◌, length, take, drop, map, get_or, Option, Some, None, option_map, slice_index, refl, sym, ap, subst, arith, ◌∙◌, append_assoc, append-nil}
+use Rattle.std.proofs.Common.{◌≡◌, ℕ, zero, suc, ◌+◌, ◌-◌, ◌^◌, ◌<◌, ◌≤◌, min, true, false, List, [], ◌∷◌, ◌++◌, length, take, drop, map, get_or, Option, Some, None, option_map, slice_index, refl, sym, ap, arith, ◌∙◌, append_assoc, append-nil}
 use Rattle.std.specs.List.{list_all, slice_range}
 use Rattle.std.proofs.lemmas.List.{drop-drop}
 use Rattle.std.proofs.Math.Seq.{drop-cons}
@@ -14,13 +14,10 @@ use Rattle.net_model.specs.Names.{is_name_byte}
 use Rattle.table_text.specs.declared.fault.TableKind.{TableKind}
 use Rattle.table_text.specs.declared.fault.TableKind.TheVariants.{T1, T2, T3, T4, T5, T6, T7, NoMemory}
 use Rattle.table_text.specs.EditRows.{IsMissing}
-use Rattle.table_text.specs.Paths.{EntryText, is_name, entry_of, entry_in, word_with, words_of, all_of, path_in}
+use Rattle.table_text.proofs.PlainTexts.{both}
+use Rattle.table_text.specs.Paths.{EntryText, is_name, entry_of, entry_in, word_with, words_of, all_of}
 
 -- ---- names are text
-both : (a b : Bool) → (a && b) ≡ true → (a ≡ true) × (b ≡ true)
-both true b h = (refl, h)
-both false b h = let bad : ⊥ = cc in absurd bad
-
 below : (b : ℕ) → is_name_byte b ≡ true → b < 128
 below b h = grind (arith, nat_tests)
 

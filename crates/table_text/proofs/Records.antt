@@ -1,5 +1,5 @@
 -- All rows of a text.
-use Rattle.std.proofs.Common.{◌≡◌, ℕ, zero, suc, ◌+◌, ◌<◌, ◌≤◌, Bool, true, false, if◌then◌else◌, List, [], ◌∷◌, ◌++◌, length, take, Option, Some, None, refl, sym, ap, subst, arith, inl, inr, ⊎_elim, ◌⊎◌, ◌∙◌, ap₂, subst₂, take_all, take_at, append-nil, le_refl}
+use Rattle.std.proofs.Common.{◌≡◌, ℕ, zero, suc, ◌+◌, ◌<◌, ◌≤◌, Bool, true, false, if◌then◌else◌, List, [], ◌∷◌, ◌++◌, length, take, Option, Some, None, refl, sym, ap, arith, inl, inr, ⊎_elim, ◌⊎◌, ◌∙◌, ap₂, subst₂, take_all, take_at, append-nil, le_refl}
 use Rattle.std.proofs.lemmas.Option.{none-some}
 use Rattle.std.specs.Prelude.{unwrap_or}
 use Rattle.csv.specs.Machine.{Read, next_record, step, is_end, ends_at_end, fields_after, field_after}
@@ -31,9 +31,9 @@ shorter cfg s fields fld (c ∷ rest) p e =
     ⊎_elim
     (λ is. let n : length p.2 ≡ length rest = sym (ap (λ (r : Read). length r.2) is) in inl (omega (arith, n)))
     (λ later. ⊎_elim
-        (λ less. inl (omega (arith, less)))
-        (λ ends. let n : length p.2 ≡ 0 = ap length ends.2 in inl (omega (arith, n)))
-        (shorter cfg go.0 (fields_after go.1 fields fld) (field_after go.1 c fld) rest p later))
+    (λ less. inl (omega (arith, less)))
+    (λ ends. let n : length p.2 ≡ 0 = ap length ends.2 in inl (omega (arith, n)))
+    (shorter cfg go.0 (fields_after go.1 fields fld) (field_after go.1 c fld) rest p later))
     (either (is_end go.1) (fields_after go.1 fields fld, go.0, rest) p (next_record cfg go.0 (fields_after go.1 fields fld) (field_after go.1 c fld) rest) e)
 
 -- nothing is left at the end

@@ -1,14 +1,14 @@
 -- A fault of a row never has the kind of want of memory.
-use Rattle.std.proofs.Common.{◌≡◌, ◌≢◌, ◌==◌, not, length, ℕ, List, Bool, true, false, if◌then◌else◌, Option, Some, None, Result, Ok, Err, IfErr, ok_or, refl, sym, ap, subst, inl, inr, ⊎_elim, ◌⊎◌, ◌∙◌}
+use Rattle.std.proofs.Common.{◌≡◌, ◌≢◌, ◌==◌, not, length, ℕ, List, Bool, true, false, if◌then◌else◌, Option, Some, None, Ok, Err, IfErr, ok_or, sym, subst, ⊎_elim}
 use Rattle.table_text.specs.declared.fault.TableKind.{TableKind}
-use Rattle.table_text.specs.declared.fault.TableKind.TheVariants.{T1, T2, T3, T4, T5, T6, T7, NoMemory}
+use Rattle.table_text.specs.declared.fault.TableKind.TheVariants.{T1, T2, T3, T4, NoMemory}
 use Rattle.table_text.specs.declared.trace_rows.TraceWord.{TraceWord}
 use Rattle.table_text.specs.declared.trace_rows.TraceWord.TheVariants as words
 use Rattle.rational.specs.Rational.{lt_q}
 use Rattle.net_model.specs.Networks.{Net}
 use Rattle.table_text.specs.Rows.{Row, Read, and_then, field, is_plain}
 use Rattle.table_text.specs.Fields.{number_in, time_in, bits_in}
-use Rattle.table_text.specs.TraceRows.{TraceRow, packet_row, stall_row, packet_of, stall_of, row_with, trace_word, trace_row}
+use Rattle.table_text.specs.TraceRows.{packet_row, stall_row, packet_of, stall_of, row_with, trace_word, trace_row}
 use Rattle.table_text.specs.Traces.{IsFirstFault}
 
 -- of a row
@@ -59,6 +59,6 @@ fault_told net text kind number f =
     ⊎_elim
     (λ many. row_kind kind (subst IsOfRow (sym many.0) tt))
     (λ one. ⊎_elim
-        (λ itself. ⊎_elim (λ bad. read_told (trace_row f.row) kind (row_told f.row) bad) (λ unknown. row_kind kind (subst IsOfRow (sym unknown.0) tt)) itself)
-        (λ late. row_kind kind (subst IsOfRow (sym late.0) tt)) one.1)
+    (λ itself. ⊎_elim (λ bad. read_told (trace_row f.row) kind (row_told f.row) bad) (λ unknown. row_kind kind (subst IsOfRow (sym unknown.0) tt)) itself)
+    (λ late. row_kind kind (subst IsOfRow (sym late.0) tt)) one.1)
     f.wrong

@@ -1,7 +1,7 @@
 -- Rows of a trace.
-use Rattle.std.proofs.Common.{⊎_elim, eq-or-lt_of_le, Ok, ◌≡◌, ℕ, ◌-◌, ◌<◌, ◌≤◌, Bool, true, false, List, length, slice_get, get_or, Option, Some, None, Any, All, AllPairs, refl, sym, ap, subst, arith, inl, inr, ◌∙◌}
+use Rattle.std.proofs.Common.{⊎_elim, eq-or-lt_of_le, Ok, ◌≡◌, ℕ, ◌-◌, true, false, List, length, slice_get, get_or, Some, None, All, AllPairs, refl, sym, ap, subst, arith, inr, ◌∙◌}
 use Rattle.std.proofs.lemmas.Option.{slice_get_within, get_or_from_slice_get}
-use Rattle.rational.specs.Rational.{ℚ, lt_q, ◌≤ℚ◌, ◌<ℚ◌}
+use Rattle.rational.specs.Rational.{ℚ, lt_q, ◌≤ℚ◌}
 use Rattle.rational.proofs.Over.{lt_q_out, lt_q_in}
 use Rattle.rational.proofs.Laws.{le_trans, le_of_not_lt}
 use Rattle.net_model.specs.declared.trace.TracePacket.{TracePacket}
@@ -11,7 +11,7 @@ use Rattle.table_text.specs.declared.fault.TableKind.TheVariants.{T5}
 use Rattle.table_text.specs.declared.trace_rows.Entry.TheVariants.{Packet, Stop}
 use Rattle.table_text.specs.Rows.{Row, field}
 use Rattle.table_text.specs.Fields.{number_in, time_in, bits_in}
-use Rattle.table_text.specs.TraceRows.{TraceRow, packet_row, stall_row, packet_of, stall_of, Gives, IsWrongIn}
+use Rattle.table_text.specs.TraceRows.{packet_row, stall_row, packet_of, stall_of, Gives, IsWrongIn}
 use Rattle.table_text.specs.Traces.{IsEarlier}
 
 -- ---- what a row gives
@@ -32,11 +32,14 @@ module _ (net : Net) (row : Row) (a b d : List ℕ) where
 
   pub packet_unknown : (time : ℚ) (bits : ℕ) → a ≡ field row 1 → b ≡ field row 3 → d ≡ field row 2 → Some time ≡ time_in a → Some bits ≡ bits_in b → FindsFlow net.flows d None
       → IsWrongIn net (packet_of row) T5
-  packet_unknown time bits ea eb ed et es n = inr (refl, record {
-    says = packet_row time (field row 2) bits;
-    is = packet_says time bits ea eb et es;
-    unknown = subst (λ x. FindsFlow net.flows x None) ed n;
-  })
+  packet_unknown time bits ea eb ed et es n = inr (
+    refl,
+    record {
+      says = packet_row time (field row 2) bits;
+      is = packet_says time bits ea eb et es;
+      unknown = subst (λ x. FindsFlow net.flows x None) ed n;
+    },
+  )
 
   stall_says : (start end : ℚ) → a ≡ field row 2 → b ≡ field row 3 → Some start ≡ time_in a → Some end ≡ number_in b → lt_q start end ≡ true → stall_of row ≡ Ok (stall_row (field row 1) start end)
   stall_says start end ea eb et es lt =
@@ -54,11 +57,14 @@ module _ (net : Net) (row : Row) (a b d : List ℕ) where
 
   pub stall_unknown : (start end : ℚ) → a ≡ field row 2 → b ≡ field row 3 → d ≡ field row 1 → Some start ≡ time_in a → Some end ≡ number_in b → lt_q start end ≡ true → FindsServer net.servers d None
       → IsWrongIn net (stall_of row) T5
-  stall_unknown start end ea eb ed et es lt n = inr (refl, record {
-    says = stall_row (field row 1) start end;
-    is = stall_says start end ea eb et es lt;
-    unknown = subst (λ x. FindsServer net.servers x None) ed n;
-  })
+  stall_unknown start end ea eb ed et es lt n = inr (
+    refl,
+    record {
+      says = stall_row (field row 1) start end;
+      is = stall_says start end ea eb et es lt;
+      unknown = subst (λ x. FindsServer net.servers x None) ed n;
+    },
+  )
 
 -- ---- the order of packets
 -- a time before that of the last packet

@@ -1,20 +1,20 @@
 -- One row after another.
-use Rattle.std.proofs.Common.{◌≡◌, ◌≢◌, ℕ, zero, suc, ◌+◌, ◌<◌, ◌≤◌, min, List, [], ◌∷◌, ◌++◌, length, take, drop, get_or, map, Result, Ok, Err, OnOk, IfErr, All, AllPairs, refl, sym, ap, subst, arith, inl, inr, ⊎_elim, ◌⊎◌, ◌∙◌, append-nil, append_assoc, take-append-drop, length-take, take_all, take_at, ap₂}
-use Rattle.std.proofs.lemmas.List.{take_more, drop_more, length-map, get_or-map, length_push}
+use Rattle.std.proofs.Common.{◌≡◌, ◌≢◌, ℕ, suc, ◌+◌, ◌<◌, ◌≤◌, List, [], ◌∷◌, ◌++◌, length, take, drop, get_or, Result, Ok, Err, OnOk, IfErr, All, AllPairs, refl, sym, ap, subst, arith, inl, inr, ◌⊎◌, ◌∙◌, append-nil, append_assoc, take-append-drop, length-take, take_all}
+use Rattle.std.proofs.lemmas.List.{take_more, drop_more}
 use Rattle.std.proofs.lemmas.List.Quantifiers.{all_pairs_push}
 use Rattle.std.proofs.lemmas.List.Elements.{All-push}
 use Rattle.rational.specs.Rational.{◌≤ℚ◌}
 use Rattle.net_model.specs.declared.trace.TracePacket.{TracePacket}
 use Rattle.net_model.specs.declared.trace.Stall.{Stall}
 use Rattle.net_model.specs.Networks.{Net}
-use Rattle.net_model.specs.Traces.{SpecTrace, trace_of, IsTrace, IsTracePacket, IsStall}
+use Rattle.net_model.specs.Traces.{trace_of, IsTrace, IsTracePacket, IsStall}
 use Rattle.table_text.specs.declared.fault.TableKind.{TableKind}
 use Rattle.table_text.specs.declared.fault.TableKind.TheVariants.{T1, T2, T3, T4, T5, T6, T7, NoMemory}
 use Rattle.table_text.specs.declared.trace_rows.Entry.{Entry}
 use Rattle.table_text.specs.declared.trace_rows.Entry.TheVariants.{Packet, Stop}
 use Rattle.table_text.specs.Rows.{Row, rows_of}
 use Rattle.table_text.specs.TraceRows.{trace_row, Gives}
-use Rattle.table_text.specs.Traces.{most_rows, packets_in, stalls_in, Give, IsTraceOf, IsEarlier, IsWrong, IsFirstFault}
+use Rattle.table_text.specs.Traces.{packets_in, stalls_in, Give, IsTraceOf, IsWrong, IsFirstFault}
 use Rattle.table_text.specs.Kept.{IsKept, Follows, Adds}
 
 -- ---- results

@@ -7,6 +7,8 @@ use Rattle.table_text.specs.declared.fault.TableKind.{TableKind}
 use Rattle.table_text.specs.declared.fault.TableKind.TheVariants.{NoMemory}
 use Rattle.table_text.specs.Rows.{Row, rows_of}
 use Rattle.table_text.specs.Traces.{IsTraceOf, IsFirstFault}
+use Rattle.table_text.specs.EditRows.{EditText}
+use Rattle.table_text.specs.EditLists.{AreEditsOf, IsFirstEditFault}
 
 -- rows give one trace at most
 abbrev pub TracesAreOne : Type 0
@@ -30,3 +32,21 @@ FaultsAreOne =
 abbrev pub FaultsAreOfRows : Type 0
 FaultsAreOfRows =
     (net : Net) (text : List ℕ) (kind : TableKind) (number : ℕ) → IsFirstFault net text kind number → kind ≢ NoMemory
+
+-- ---- edit lists: the same
+abbrev pub EditsAreOne : Type 0
+EditsAreOne = (rows : List Row) (edits others : List EditText) → AreEditsOf rows edits → AreEditsOf rows others → edits ≡ others
+
+abbrev pub FaultsExcludeEdits : Type 0
+FaultsExcludeEdits =
+    (text : List ℕ) (kind : TableKind) (number : ℕ) (edits : List EditText) → IsFirstEditFault text kind number
+    → ¬ AreEditsOf (rows_of text) edits
+
+abbrev pub EditFaultsAreOne : Type 0
+EditFaultsAreOne =
+    (text : List ℕ) (kind other : TableKind) (number place : ℕ) → IsFirstEditFault text kind number
+    → IsFirstEditFault text other place → (kind ≡ other) × (number ≡ place)
+
+abbrev pub EditFaultsAreOfRows : Type 0
+EditFaultsAreOfRows =
+    (text : List ℕ) (kind : TableKind) (number : ℕ) → IsFirstEditFault text kind number → kind ≢ NoMemory

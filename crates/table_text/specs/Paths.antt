@@ -1,7 +1,7 @@
 -- Paths of an edit list: entries with single spaces between them. An entry is a server's name, or a name, `:` and the digits
 -- of a queue, as in a file of a network. Own choice.
 use Rattle.std.specs.Prelude.{ℕ, ◌+◌, ◌-◌, ◌^◌, min, ◌==◌, ◌&&◌, Bool, true, false, nat_le, if◌then◌else◌}
-use Rattle.std.specs.Prelude.{List, [], ◌∷◌, ◌++◌, length, map, drop, Option, Some, None, option_map, string_bytes}
+use Rattle.std.specs.Prelude.{List, [], ◌∷◌, length, map, drop, Option, Some, None, option_map, string_bytes}
 use Rattle.std.specs.List.{list_all, position}
 use Rattle.std.specs.Str.Parse.{digits_value}
 use Rattle.fraction128.specs.Text.{is_numeral, before_at}

@@ -1,6 +1,6 @@
 -- Rows of a table: lines of fields with commas between them. How fields stand in a line, with double quotes or without,
 -- is that of the crate `csv`.
-use Rattle.std.specs.Prelude.{ℕ, List, [], Option, unwrap_or, Result, Ok, Err, Bool, ◌&&◌, nat_le}
+use Rattle.std.specs.Prelude.{ℕ, List, [], unwrap_or, Result, Ok, Err, Bool, ◌&&◌, nat_le}
 use Rattle.std.specs.List.{list_all}
 use Rattle.csv.specs.Reading.{records, default_config, strip_bom}
 use Rattle.csv.specs.Records.{field_at}

@@ -32,14 +32,29 @@ fn a_trace_has_packets_and_stalls(rt: HostRuntime) -> Result<(), Fail> {
 fn each_fault_has_its_row(rt: HostRuntime) -> Result<(), Fail> {
     let net = plain_network(rt.alloc(), 1, &[&[0]])?;
     let alloc = rt.alloc();
-    assert_eq!(rt; fault(alloc, &net, "packet,0,a,1\npaint,\x07"), Some((TableKind::T1, 2)));
+    assert_eq!(rt;
+        fault(alloc, &net, "packet,0,a,1\npaint,\x07"),
+        Some((TableKind::T1, 2))
+    );
     assert_eq!(rt; fault(alloc, &net, "paint"), Some((TableKind::T2, 1)));
     assert_eq!(rt; fault(alloc, &net, "packet,0,a"), Some((TableKind::T3, 1)));
-    assert_eq!(rt; fault(alloc, &net, "packet,0,a,x"), Some((TableKind::T4, 1)));
-    assert_eq!(rt; fault(alloc, &net, "packet,0,z,0"), Some((TableKind::T4, 1)));
+    assert_eq!(rt;
+        fault(alloc, &net, "packet,0,a,x"),
+        Some((TableKind::T4, 1))
+    );
+    assert_eq!(rt;
+        fault(alloc, &net, "packet,0,z,0"),
+        Some((TableKind::T4, 1))
+    );
     assert_eq!(rt; fault(alloc, &net, "stall,z,2,2"), Some((TableKind::T4, 1)));
-    assert_eq!(rt; fault(alloc, &net, "packet,0,f9,1"), Some((TableKind::T5, 1)));
-    assert_eq!(rt; fault(alloc, &net, "\npacket,5,a,1\npacket,4,a,1"), Some((TableKind::T6, 2)));
+    assert_eq!(rt;
+        fault(alloc, &net, "packet,0,f9,1"),
+        Some((TableKind::T5, 1))
+    );
+    assert_eq!(rt;
+        fault(alloc, &net, "\npacket,5,a,1\npacket,4,a,1"),
+        Some((TableKind::T6, 2))
+    );
     Ok(())
 }
 
@@ -53,7 +68,8 @@ fn edit_fault(alloc: Global, text: &str) -> Option<(TableKind, u32)> {
 
 #[test]
 fn each_word_is_read(rt: HostRuntime) -> Result<(), Fail> {
-    let text = "rate,s1,200\nlatency,s1,1/2\nlink,s1,-1\nquantum,s1,-1,12000\nbucket,f1,0,0\nstair,f1,1,0\n\
+    let text =
+        "rate,s1,200\nlatency,s1,1/2\nlink,s1,-1\nquantum,s1,-1,12000\nbucket,f1,0,0\nstair,f1,1,0\n\
                 packet,f1,-5\nroute,f1,s1 s2:1\nadd,f2,6000,6000,5,s2\ndrop,f1\nundo\n";
     let Ok(edits) = read_edits(rt.alloc(), text.as_bytes()) else {
         return Err(Fail::new("no edits"));
@@ -76,8 +92,17 @@ fn each_fault_of_an_edit_has_its_row(rt: HostRuntime) -> Result<(), Fail> {
     assert_eq!(rt; edit_fault(alloc, "undo,1"), Some((TableKind::T3, 1)));
     assert_eq!(rt; edit_fault(alloc, "rate,s1,x"), Some((TableKind::T4, 1)));
     assert_eq!(rt; edit_fault(alloc, "route,f1,"), Some((TableKind::T4, 1)));
-    assert_eq!(rt; edit_fault(alloc, "route,f1,s1  s2"), Some((TableKind::T4, 1)));
-    assert_eq!(rt; edit_fault(alloc, "packet,f1,1/1"), Some((TableKind::T4, 1)));
-    assert_eq!(rt; edit_fault(alloc, "packet,f1,9223372036854775808"), Some((TableKind::T4, 1)));
+    assert_eq!(rt;
+        edit_fault(alloc, "route,f1,s1  s2"),
+        Some((TableKind::T4, 1))
+    );
+    assert_eq!(rt;
+        edit_fault(alloc, "packet,f1,1/1"),
+        Some((TableKind::T4, 1))
+    );
+    assert_eq!(rt;
+        edit_fault(alloc, "packet,f1,9223372036854775808"),
+        Some((TableKind::T4, 1))
+    );
     Ok(())
 }

@@ -1,4 +1,4 @@
-use Rattle.std.proofs.Common.{◌≡◌, ◌<◌, ◌≤◌, List, ℕ, length, get_or, map, inl, inr, ⊎_elim, sym, subst, ap, ◌∙◌, arith}
+use Rattle.std.proofs.Common.{◌≡◌, ◌<◌, ◌≤◌, List, length, get_or, map, inl, inr, ⊎_elim, sym, subst, ap, ◌∙◌, arith}
 use Rattle.std.proofs.lemmas.List.{get_or-map, length-map}
 use Rattle.csv.specs.Records.{fields_of}
 use Rattle.table_text.specs.Rows.{Row}
@@ -21,10 +21,10 @@ returns-in-Err-add_edit-clause-fault c =
     ⊎_elim
     (λ memory. inl (f.ensures.memory memory))
     (λ other. ⊎_elim
-        (λ memory. inl (f.ensures.memory memory))
-        (λ wrong. inr (edits_fault c.args.text.now rows k (fields_of row) (map edit_view c.loop-before.edits.items) f.result.kind f.result.row c.loop-before.invariant.rows within at
-            c.loop-before.invariant.edits (subst (λ kind. IsEditWrong k (fields_of row) kind) (sym (f.ensures.other other).0) wrong) (f.ensures.other other).1))
-        c.in-Err-add_edit.ensures.wrong)
+    (λ memory. inl (f.ensures.memory memory))
+    (λ wrong. inr (edits_fault c.args.text.now rows k (fields_of row) (map edit_view c.loop-before.edits.items) f.result.kind f.result.row c.loop-before.invariant.rows within at
+    c.loop-before.invariant.edits (subst (λ kind. IsEditWrong k (fields_of row) kind) (sym (f.ensures.other other).0) wrong) (f.ensures.other other).1))
+    c.in-Err-add_edit.ensures.wrong)
     (memory_or c.in-Err-add_edit.kind)
 
 pub loop-before-preserved : goal.loop-before-preserved

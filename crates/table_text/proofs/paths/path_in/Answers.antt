@@ -1,4 +1,4 @@
-use Rattle.std.proofs.Common.{◌≡◌, ◌++◌, ◌∷◌, [], ◌+◌, map, length, sym, ap, subst, arith, ◌∙◌}
+use Rattle.std.proofs.Common.{◌≡◌, ◌++◌, ◌∷◌, [], ◌+◌, map, length, ap, arith, ◌∙◌}
 use Rattle.std.specs.List.{slice_range}
 use Rattle.std.proofs.lemmas.List.{take_rest, length-drop, map_push}
 use Rattle.table_text.specs.Paths.{entry_view, path_in, entry_in}
@@ -30,7 +30,7 @@ loop-start-preserved c =
     let words = next_word text _ start n c.loop-start-test.true (take_rest text start) c.word_len.ensures.within c.word_len.ensures.none c.word_len.ensures.ends in
     let old = c.loop-start.entries.items in
     let grown : map entry_view c.push.new.self.items ≡ map entry_view old ++ entry_view c.in-Ok.entry ∷ [] =
-        ap (map entry_view) c.in_ok-push-in-Ok.ensures.items ∙ map_push entry_view old c.in-Ok.entry in
+    ap (map entry_view) c.in_ok-push-in-Ok.ensures.items ∙ map_push entry_view old c.in-Ok.entry in
     let rest = ap length (take_rest text start) in
     let within = c.word_len.ensures.within in
     record {

@@ -1,5 +1,4 @@
-use Rattle.std.proofs.Common.{Bor, List, ℕ, ◌≡◌, ◌≤◌, ◌∙◌, ap, sym, refl, rules, inl, inr, true, map, length, Some, ◌∷◌, [], arith, subst, ◌++◌}
-use Rattle.std.specs.Result.{is_ok}
+use Rattle.std.proofs.Common.{Bor, List, ℕ, ◌≡◌, ◌≤◌, ◌∙◌, ap, sym, refl, rules, inl, inr, map, length, Some, ◌∷◌, [], arith, subst, ◌++◌}
 use Rattle.std.proofs.lemmas.List.{map-append, length_push, length-map}
 use Rattle.csv.specs.Reading.{Reached, builder_config, builder_names_headers, builder_trim, default_config, strip_bom}
 use Rattle.csv.specs.Records.{fields_of}

@@ -1,4 +1,3 @@
-use Rattle.std.proofs.Common.{sym}
 use Rattle.csv.specs.Records.{fields_of}
 use Rattle.table_text.proofs.TraceFacts.{packet_gives, packet_unknown}
 use Rattle.table_text.proofs.trace_rows.packet_in.Goals as goal

@@ -1,4 +1,4 @@
-use Rattle.std.proofs.Common.{◌≡◌, inl, inr, refl, sym, subst, append-nil, ⊎_elim, ◌⊎◌}
+use Rattle.std.proofs.Common.{◌≡◌, inl, inr, sym, subst, append-nil, ⊎_elim, ◌⊎◌}
 use Rattle.csv.specs.Records.{fields_of}
 use Rattle.table_text.specs.declared.fault.TableKind.TheVariants.{T6, NoMemory}
 use Rattle.table_text.specs.declared.trace_rows.Entry.TheVariants.{Packet, Stop}
@@ -30,7 +30,7 @@ returns-in-Packet-clause-wrong c =
     let gives = subst (λ e. Gives net (trace_row row) e) c.in-Packet.is c.in_ok-packet.ensures.gives in
     other_err c.add_packet.result (λ kind. (kind ≡ NoMemory) ⊎ ((kind ≡ T6) × IsEarlier ps c.in-Packet.packet.time)) (λ kind. (kind ≡ NoMemory) ⊎ IsWrong net c.args.before ps row kind)
     (λ kind w. ⊎_elim (λ memory. inl memory)
-        (λ late. inr (inr (c.if-before-ge-MOST_ROWS.false, inr (late.0, record { packet = c.in-Packet.packet; gives = gives; earlier = late.1 })))) w)
+    (λ late. inr (inr (c.if-before-ge-MOST_ROWS.false, inr (late.0, record { packet = c.in-Packet.packet; gives = gives; earlier = late.1 })))) w)
     c.add_packet.ensures.wrong
 
 pub returns-in_ok-push-in-Stop-clause-adds : goal.returns-in_ok-push-in-Stop-clause-adds

@@ -1,9 +1,8 @@
-use Rattle.std.proofs.Common.{◌≡◌, ◌<◌, ◌≤◌, List, ℕ, length, get_or, map, inl, inr, ⊎_elim, sym, subst, ap, ◌∙◌, arith}
+use Rattle.std.proofs.Common.{◌≡◌, ◌<◌, ◌≤◌, List, length, get_or, map, inl, inr, ⊎_elim, sym, subst, ap, ◌∙◌, arith}
 use Rattle.std.proofs.lemmas.List.{get_or-map, length-map}
 use Rattle.csv.specs.Records.{fields_of}
-use Rattle.net_model.specs.Traces.{trace_of}
 use Rattle.table_text.specs.Rows.{Row, rows_of}
-use Rattle.table_text.specs.Traces.{IsTraceOf, IsWrong, IsFirstFault}
+use Rattle.table_text.specs.Traces.{IsTraceOf, IsWrong}
 use Rattle.table_text.proofs.TraceSteps.{so_far_more, so_far_trace, so_far_all, so_far_fault, memory_or}
 use Rattle.table_text.proofs.traces.read_trace.Goals as goal
 
@@ -22,10 +21,10 @@ returns-in-Err-add_row-clause-fault c =
     ⊎_elim
     (λ memory. inl (f.ensures.memory memory))
     (λ other. ⊎_elim
-        (λ memory. inl (f.ensures.memory memory))
-        (λ wrong. inr (so_far_fault net c.args.text.now rows k (fields_of row) ps c.loop-before.stalls.items f.result.kind f.result.row c.loop-before.invariant.rows within at
-            c.loop-before.invariant.so_far (subst (λ kind. IsWrong net k ps (fields_of row) kind) (sym (f.ensures.other other).0) wrong) (f.ensures.other other).1))
-        c.in-Err-add_row.ensures.wrong)
+    (λ memory. inl (f.ensures.memory memory))
+    (λ wrong. inr (so_far_fault net c.args.text.now rows k (fields_of row) ps c.loop-before.stalls.items f.result.kind f.result.row c.loop-before.invariant.rows within at
+    c.loop-before.invariant.so_far (subst (λ kind. IsWrong net k ps (fields_of row) kind) (sym (f.ensures.other other).0) wrong) (f.ensures.other other).1))
+    c.in-Err-add_row.ensures.wrong)
     (memory_or c.in-Err-add_row.kind)
 
 pub loop-before-preserved : goal.loop-before-preserved

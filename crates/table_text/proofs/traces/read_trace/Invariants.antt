@@ -1,4 +1,4 @@
-use Rattle.std.proofs.Common.{◌≡◌, map, take, length}
+use Rattle.std.proofs.Common.{◌≡◌, map, take}
 use Rattle.csv.specs.Records.{fields_of}
 use Rattle.table_text.specs.Rows.{rows_of}
 use Rattle.table_text.proofs.TraceSteps.{IsSoFar}

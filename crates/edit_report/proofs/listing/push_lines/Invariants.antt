@@ -1,7 +1,7 @@
 use Rattle.std.proofs.Common.{◌≡◌, ◌++◌, map}
 use Rattle.std.specs.List.{flat_map, range_with_len}
 use Rattle.edit_report.specs.EditReport.{line_at}
-use Rattle.edit_report.proofs.edit_text.push_lines.Given as goal
+use Rattle.edit_report.proofs.listing.push_lines.Given as goal
 
 abbrev pub invariant-loop-place : goal.invariant-loop-place
 invariant-loop-place l =
