@@ -13,14 +13,25 @@ use std::test::Fail;
 fn a_report_on_edits_has_their_lines_first(rt: HostRuntime) -> Result<(), Fail> {
     let net = plain_network(rt.alloc(), 2, &[&[0, 1]])?;
     let mut table: Analysis<Value> = Analysis::new(rt.alloc());
-    table.put(Cell { kind: Kind::Bound, a: 0, b: 0 }, Value::Number(Extended::Fin(Frac::one())))?;
+    table.put(
+        Cell {
+            kind: Kind::Bound,
+            a: 0,
+            b: 0,
+        },
+        Value::Number(Extended::Fin(Frac::one())),
+    )?;
     let first = answer_text(rt.alloc(), &net, &Ok(Done { cells: 18 }))?;
     let mut walk = Vec::new(rt.alloc());
     walk.push(0)?;
     walk.push(1)?;
     walk.push(0)?;
     let second = answer_text(rt.alloc(), &net, &Err(EditFault::Cycle(walk)))?;
-    let cell = Cell { kind: Kind::Total, a: 1, b: 0 };
+    let cell = Cell {
+        kind: Kind::Total,
+        a: 1,
+        b: 0,
+    };
     let third = answer_text(rt.alloc(), &net, &Err(EditFault::TooMany(cell)))?;
     let name = String::from_str(rt.alloc(), "s9")?;
     let fourth = answer_text(rt.alloc(), &net, &Err(EditFault::UnknownName(name)))?;

@@ -1,4 +1,3 @@
-
 use Rattle.std.specs.List.{flat_map, range_with_len}
 use Rattle.net_cells.proofs.Growing.{behind, flat_more}
 use Rattle.report_text.specs.RunReport.{worst_lines}
