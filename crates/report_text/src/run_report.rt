@@ -72,7 +72,8 @@ fn push_peaks<V: ShownValue, T: Table<V>>(
     peaks: &[Vec<u64>],
 ) -> Result<(), AllocError>
     ensures { OnOk result (into.new.items ≡ into.old.items
-        ++ flat_map (peak_lines net.now (T.at table.now) (map (λ row. row.items) peaks.now)) (range_with_len 0 (length net.now.servers))) }
+        ++ flat_map (peak_lines net.now (T.at table.now) (map (λ row. row.items) peaks.now))
+        (range_with_len 0 (length net.now.servers))) }
 {
     let servers = net.servers();
     for number in 0..servers.len() {
@@ -81,10 +82,10 @@ fn push_peaks<V: ShownValue, T: Table<V>>(
     Ok(())
 }
 
-/// The report on a run that was simulated, with the bounds that a table has: how many servers and live flows there are; how
-/// many packets entered, and when the run ends; for each live flow, by number, its worst delay beside its bound; for each
-/// server, in the order of the file, and each of its queues the greatest backlog beside its bound; and what the run breaks
-/// first. Where a number is missing, nothing is printed in its place. Refused only for want of memory.
+/// The report on a run that was simulated, with the bounds that a table has: how many servers and live flows there are;
+/// how many packets entered, and when the run ends; for each live flow, by number, its worst delay beside its bound; for
+/// each server, in the order of the file, and each of its queues the greatest backlog beside its bound; and what the run
+/// breaks first. Where a number is missing, nothing is printed in its place. Refused only for want of memory.
 #[tactic(auto, unfolding(crate::specs::RunReport::run_report_of))]
 pub fn run_text<V: ShownValue, T: Table<V>>(
     alloc: Global,

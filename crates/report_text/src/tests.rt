@@ -333,20 +333,20 @@ fn a_report_on_a_run_has_its_lines_in_order(rt: HostRuntime) -> Result<(), Fail>
     put_queue(&mut table, 0, "130", "13300")?;
     put_flow(&mut table, 0, "130", "130", "130")?;
     let mut worst = Vec::new(alloc);
-    worst.push(Frac::from(131))?;
+    worst.push(Frac::from(131_i64))?;
     let mut bits = Vec::new(alloc);
     bits.push(12000)?;
     let mut peaks = Vec::new(alloc);
     peaks.push(bits)?;
     let found = RunFound {
         packets: 1,
-        end: Frac::from(131),
+        end: Frac::from(131_i64),
         worst,
         peaks,
         breach: Some(Breach::Service {
             server: 0,
             start: Frac::zero(),
-            end: Frac::from(11),
+            end: Frac::from(11_i64),
         }),
     };
     let text = run_text(alloc, &net, &table, &found)?;
