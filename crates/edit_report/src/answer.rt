@@ -80,8 +80,8 @@ fn push_answer(
 }
 
 /// What is said of an edit, by its answer and the network that it makes or would have made: how many cells it touched, or
-/// why it is refused, with the names of a cycle's servers or of a cell. Of an edit that makes none, because of a curve over a
-/// limit, it is the network before. Refused only for want of memory.
+/// why it is refused, with the names of a cycle's servers or of a cell. Of an edit that makes none, because of a curve over
+/// a limit, it is the network before. Refused only for want of memory.
 pub fn answer_text(
     alloc: Global,
     edited: &Network,

@@ -29,8 +29,9 @@ fn push_lines(into: &mut Vec<u8>, answers: &[Vec<u8>]) -> Result<(), AllocError>
     Ok(())
 }
 
-/// The report on a list of edits: a line for each, with its number from 1 on and what is said of it (`answer_text`), and then
-/// the report on the network after them, with the numbers that a table has (`analysis_text`). Refused only for want of memory.
+/// The report on a list of edits: a line for each, with its number from 1 on and what is said of it (`answer_text`), and
+/// then the report on the network after them, with the numbers that a table has (`analysis_text`). Refused only for want
+/// of memory.
 pub fn edit_text<V: ShownValue, T: Table<V>>(
     alloc: Global,
     net: &Network,

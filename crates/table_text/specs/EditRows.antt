@@ -94,7 +94,8 @@ two_edit two.Stair name x y = Stair name x y
 
 abbrev pub two_of : TwoNumbers → Row → Option EditText
 two_of word row =
-    option_and_then (λ x. option_map (two_edit word (field row 1) x) (number_in (field row 3))) (number_in (field row 2))
+    option_and_then (λ x. option_map (two_edit word (field row 1) x) (number_in (field row 3)))
+    (number_in (field row 2))
 
 abbrev pub quantum_of : Row → Option EditText
 quantum_of row =

@@ -22,7 +22,8 @@ Follows packets (Packet p) = All (λ q. q.time ≤ℚ p.time) packets
 Follows packets (Stop s) = Unit {0}
 
 -- a row behind so many rows, which gave these packets and stalls, makes them those
-pub record Adds (net : Net) (before : ℕ) (row : Row) (packets : List TracePacket) (stalls : List Stall) (packets2 : List TracePacket) (stalls2 : List Stall) : Type 0 where
+pub record Adds (net : Net) (before : ℕ) (row : Row) (packets : List TracePacket) (stalls : List Stall)
+    (packets2 : List TracePacket) (stalls2 : List Stall) : Type 0 where
   pub entry : Entry
   pub gives : Gives net (trace_row row) entry
   pub kept : IsKept entry

@@ -35,7 +35,8 @@ FaultsAreOfRows =
 
 -- ---- edit lists: the same
 abbrev pub EditsAreOne : Type 0
-EditsAreOne = (rows : List Row) (edits others : List EditText) → AreEditsOf rows edits → AreEditsOf rows others → edits ≡ others
+EditsAreOne =
+    (rows : List Row) (edits others : List EditText) → AreEditsOf rows edits → AreEditsOf rows others → edits ≡ others
 
 abbrev pub FaultsExcludeEdits : Type 0
 FaultsExcludeEdits =

@@ -1,5 +1,5 @@
--- Paths of an edit list: entries with single spaces between them. An entry is a server's name, or a name, `:` and the digits
--- of a queue, as in a file of a network. Own choice.
+-- Paths of an edit list: entries with single spaces between them. An entry is a server's name, or a name, `:` and the
+-- digits of a queue, as in a file of a network. Own choice.
 use Rattle.std.specs.Prelude.{ℕ, ◌+◌, ◌-◌, ◌^◌, min, ◌==◌, ◌&&◌, Bool, true, false, nat_le, if◌then◌else◌}
 use Rattle.std.specs.Prelude.{List, [], ◌∷◌, length, map, drop, Option, Some, None, option_map, string_bytes}
 use Rattle.std.specs.List.{list_all, position}

@@ -56,8 +56,8 @@ pub record GivesEarlier (net : Net) (packets : List TracePacket) (row : Row) : T
   pub gives : Gives net (trace_row row) (Packet packet)
   pub earlier : IsEarlier packets packet.time
 
--- what is wrong with a row behind so many rows and these packets: it is one too many; else it is wrong by itself, or says a
--- name that nothing has; else it is a packet that enters before one of these
+-- what is wrong with a row behind so many rows and these packets: it is one too many; else it is wrong by itself, or
+-- says a name that nothing has; else it is a packet that enters before one of these
 abbrev pub IsWrong : Net → ℕ → List TracePacket → Row → TableKind → Type 0
 IsWrong net before packets row kind =
     ((kind ≡ T7) × (most_rows ≤ before))

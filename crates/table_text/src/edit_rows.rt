@@ -49,7 +49,8 @@ fn whole_at(row: &ByteRecord, place: usize) -> Result<i64, TableKind>
 
 fn path_at(alloc: Global, row: &ByteRecord, place: usize) -> Result<Vec<PathEntry>, TableKind>
     requires { rows.is_plain (fields_of row.now) ≡ true }
-    ensures { spec.Finds (λ v. map paths.entry_view v.items) result (paths.path_in (rows.field (fields_of row.now) place)) }
+    ensures { spec.Finds (λ v. map paths.entry_view v.items) result
+        (paths.path_in (rows.field (fields_of row.now) place)) }
 {
     path_in(alloc, text_at(row, place).as_bytes())
 }

@@ -1,6 +1,6 @@
 //! Traces from their text.
 
-ghost use Rattle.std.specs.Prelude.{◌≡◌, ◌⊎◌, ◌<◌, ◌≤◌, ◌++◌, ◌∷◌, [], true, false, length, map, All, AllPairs, IfOk, IfErr, OnOk};
+ghost use Rattle.std.specs.Prelude.{◌≡◌, ◌⊎◌, ◌++◌, ◌∷◌, [], true, false, All, AllPairs, IfOk, IfErr, OnOk};
 ghost use Rattle.rational.specs.Rational.{◌≤ℚ◌};
 ghost use Rattle.csv.specs.Records.{fields_of};
 ghost use Rattle.net_model.specs.Traces.{IsTracePacket, IsStall};
@@ -54,8 +54,10 @@ fn add_row(
     stalls: &mut Vec<Stall>,
 ) -> Result<(), TableKind>
     requires { AllPairs (λ p q. p.time ≤ℚ q.time) packets.old.items }
-    ensures adds { OnOk result (Adds net.now before (fields_of row.now) packets.old.items stalls.old.items packets.new.items stalls.new.items) }
-    ensures wrong { IfErr result (λ kind. (kind ≡ NoMemory) ⊎ IsWrong net.now before packets.old.items (fields_of row.now) kind) }
+    ensures adds { OnOk result (Adds net.now before (fields_of row.now) packets.old.items stalls.old.items
+        packets.new.items stalls.new.items) }
+    ensures wrong { IfErr result (λ kind. (kind ≡ NoMemory)
+        ⊎ IsWrong net.now before packets.old.items (fields_of row.now) kind) }
 {
     if before >= MOST_ROWS {
         return Err(TableKind::T7);
@@ -71,8 +73,8 @@ fn add_row(
 
 /// The trace of a network that a text is: a row is `packet,TIME,FLOW,BITS` or `stall,SERVER,FROM,TO`, times are numbers
 /// from 0 on, a packet has 1 to 2^24 bits, FROM is before TO, and the times of the packets do not fall; there are at most
-/// 10,000 rows. Refused by the first row that is wrong, and by the first of its faults; else only for want of memory, with
-/// row 0. (The format is own choice.)
+/// 10,000 rows. Refused by the first row that is wrong, and by the first of its faults; else only for want of memory,
+/// with row 0. (The format is own choice.)
 pub fn read_trace(alloc: Global, text: &[u8], net: &Network) -> Result<Trace, TableFault>
     ensures ok { IfOk result (IsTraceOf net.now (rows_of text.now)) }
     ensures fault { IfErr result (λ e. (e ≡ out_of_memory) ⊎ IsFirstFault net.now text.now e.kind e.row) }
