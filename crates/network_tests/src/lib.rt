@@ -8,6 +8,8 @@ mod cell_lists;
 #[cfg(test)]
 mod drafts;
 #[cfg(test)]
+mod edit_reports;
+#[cfg(test)]
 mod edits;
 #[cfg(test)]
 mod networks;
@@ -15,5 +17,7 @@ mod networks;
 mod orders;
 #[cfg(test)]
 mod reports;
+#[cfg(test)]
+mod tables;
 #[cfg(test)]
 mod texts;

@@ -3,9 +3,9 @@
 use cell_table::{Analysis, Value};
 use fraction128::{Ext, Frac};
 use net_cells::{Cell, Kind};
-use net_model::{CurveRefusal, NetFault, NetKind, Network, plain_network};
+use net_model::{Breach, CurveRefusal, NetFault, NetKind, Network, plain_network};
 use rational::Extended;
-use report_text::{Refusal, analysis_text, cell_text, refusal_text};
+use report_text::{Refusal, RunFound, analysis_text, cell_text, refusal_text, run_text};
 use std::alloc::{AllocError, Global};
 use std::process::Abort;
 use std::test::Fail;
@@ -322,5 +322,39 @@ fn a_refused_curve_has_its_word(rt: HostRuntime) -> Result<(), Fail> {
         kind,
         "netcalc: n.toml: M9 flow[2].path[1] not-zero-at-start\n",
     )?;
+    Ok(())
+}
+
+#[test]
+fn a_report_on_a_run_has_its_lines_in_order(rt: HostRuntime) -> Result<(), Fail> {
+    let alloc = rt.alloc();
+    let net = plain_network(alloc, 1, &[&[0]])?;
+    let mut table = Analysis::new(alloc);
+    put_queue(&mut table, 0, "130", "13300")?;
+    put_flow(&mut table, 0, "130", "130", "130")?;
+    let mut worst = Vec::new(alloc);
+    worst.push(Frac::from(131_i64))?;
+    let mut bits = Vec::new(alloc);
+    bits.push(12000)?;
+    let mut peaks = Vec::new(alloc);
+    peaks.push(bits)?;
+    let found = RunFound {
+        packets: 1,
+        end: Frac::from(131_i64),
+        worst,
+        peaks,
+        breach: Some(Breach::Service {
+            server: 0,
+            start: Frac::zero(),
+            end: Frac::from(11_i64),
+        }),
+    };
+    let text = run_text(alloc, &net, &table, &found)?;
+    let wanted = "servers 1 flows 1\n\
+                  run packets 1 end 131\n\
+                  worst a 131 bound 130\n\
+                  peak a 0 12000 bound 13300\n\
+                  breach service a 0 11\n";
+    assert_eq!(rt; text.as_slice(), wanted.as_bytes());
     Ok(())
 }

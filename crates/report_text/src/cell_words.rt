@@ -10,8 +10,8 @@ use net_cells::{Cell, Kind, Scope, live_flow, server};
 use net_model::Network;
 use std::alloc::{AllocError, Global};
 
-// The name of a server; empty past the last one.
-pub(crate) fn server_name<'a>(net: &'a Network, number: u32) -> &'a str
+/// The name of a server; empty past the last one.
+pub fn server_name<'a>(net: &'a Network, number: u32) -> &'a str
     ensures { result.now ≡ words.server_name net.now number }
 {
     match server(net, number) {
@@ -21,7 +21,7 @@ pub(crate) fn server_name<'a>(net: &'a Network, number: u32) -> &'a str
 }
 
 // The name of a flow; empty where it is not live.
-fn flow_name<'a>(net: &'a Network, number: u32) -> &'a str
+pub(crate) fn flow_name<'a>(net: &'a Network, number: u32) -> &'a str
     ensures { result.now ≡ words.flow_name net.now number }
 {
     match live_flow(net, number) {

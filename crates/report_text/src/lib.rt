@@ -7,14 +7,20 @@ mod laws;
 mod lines;
 mod refusal;
 mod report;
+mod run_found;
+mod run_lines;
+mod run_report;
 mod shown;
 mod text;
 
-pub use cell_words::cell_text;
+pub use cell_words::{cell_text, server_name};
 pub use laws::{
     equations_give_numbers, equations_give_one_report, only_infinity_is_unbounded, reports_agree,
     texts_tell_numbers, words_tell_cells,
 };
-pub use refusal::{Refusal, refusal_text};
+pub use refusal::{Refusal, push_spaced, refusal_text};
 pub use report::analysis_text;
+pub use run_found::RunFound;
+pub use run_report::run_text;
 pub use shown::ShownValue;
+pub use text::{push_after, push_decimal, push_text};

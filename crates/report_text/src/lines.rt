@@ -31,7 +31,7 @@ fn push_shown<V: ShownValue, T: Table<V>>(
 }
 
 // Words, and the number of a cell after them.
-fn push_number_after<V: ShownValue, T: Table<V>>(
+pub(crate) fn push_number_after<V: ShownValue, T: Table<V>>(
     into: &mut Vec<u8>,
     words: &str,
     table: &T,

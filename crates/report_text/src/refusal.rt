@@ -65,7 +65,8 @@ fn rule_word(kind: NetKind) -> &'static str
     }
 }
 
-fn push_spaced(into: &mut Vec<u8>, word: &str) -> Result<(), AllocError>
+/// Appends a word, after a space.
+pub fn push_spaced(into: &mut Vec<u8>, word: &str) -> Result<(), AllocError>
     ensures { OnOk result (into.new.items ≡ into.old.items ++ spaced (word.now ∷ [])) }
 {
     push_text(into, " ")?;

@@ -28,7 +28,7 @@ fn live_count(net: &Network) -> usize
 }
 
 #[tactic(auto, unfolding(crate::specs::Report::head_line))]
-fn push_head(into: &mut Vec<u8>, net: &Network) -> Result<(), AllocError>
+pub(crate) fn push_head(into: &mut Vec<u8>, net: &Network) -> Result<(), AllocError>
     ensures { OnOk result (into.new.items ≡ into.old.items ++ head_line net.now) }
 {
     push_text(into, "servers ")?;

@@ -9,22 +9,24 @@ use itoa::Buffer;
 use rational::Extended;
 use std::alloc::AllocError;
 
-pub(crate) fn push_text(into: &mut Vec<u8>, text: &str) -> Result<(), AllocError>
+/// Appends a text.
+pub fn push_text(into: &mut Vec<u8>, text: &str) -> Result<(), AllocError>
     ensures { OnOk result (into.new.items ≡ into.old.items ++ text.now) }
 {
     into.extend_from_slice(text.as_bytes())?;
     Ok(())
 }
 
-// Words, and a text after them.
-pub(crate) fn push_after(into: &mut Vec<u8>, words: &str, text: &str) -> Result<(), AllocError>
+/// Appends words, and a text after them.
+pub fn push_after(into: &mut Vec<u8>, words: &str, text: &str) -> Result<(), AllocError>
     ensures { OnOk result (into.new.items ≡ into.old.items ++ (words.now ++ text.now)) }
 {
     push_text(into, words)?;
     push_text(into, text)
 }
 
-pub(crate) fn push_decimal(into: &mut Vec<u8>, number: usize) -> Result<(), AllocError>
+/// Appends a number.
+pub fn push_decimal(into: &mut Vec<u8>, number: usize) -> Result<(), AllocError>
     ensures { OnOk result (into.new.items ≡ into.old.items ++ decimal number) }
 {
     let mut digits = Buffer::new();

@@ -1,0 +1,10 @@
+pub mod FieldTexts
+pub mod PlainTexts
+pub mod Records
+pub mod TraceFacts
+pub mod TraceSteps
+pub mod OneTrace
+pub mod Told
+pub mod PathTexts
+pub mod EditSteps
+pub mod OneEditList
