@@ -21,6 +21,9 @@ PORTS.csv, a line an output port (also those of end systems):
     link           the delay of the cable behind it, in microseconds (0 where it is empty)
     discipline     `fifo` (also where it is empty), `priority N` with N queues, or `drr Q0 Q1 ..` with the quantum of each queue in bytes
 
+`--buckets` describes each link by the token bucket above its stair (burst of one frame, and of what the jitter adds; rate of one frame a gap) in
+place of the stair itself: the bounds are a little greater, and networks whose gaps have a large common multiple are answered at once.
+
 A frame occupies the wire for longer than its bytes: preamble, start of frame and the gap behind it are 20 bytes on Ethernet, which
 `--overhead` sets. A fault ends it with status 1 and says the file, the line and what is wrong there. What the rules of network files ask for
 beyond a line (that servers exist, that a quantum is as long as a packet) is looked at here too, since a line of a table is easier to mend than
@@ -123,7 +126,14 @@ def hop(name, priority, packet, servers):
     return f"{name}:{priority}"
 
 
-def virtual_link(row, taken, servers, overhead):
+def arrival_of(packet, period, jitter, buckets):
+    """A frame a period, late by the jitter at most; or the token bucket above that."""
+    if buckets:
+        return {"kind": "bucket", "burst": written(packet * (1 + jitter / period)), "rate": written(packet / period)}
+    return {"kind": "stair", "period": written(period), "jitter": written(jitter)}
+
+
+def virtual_link(row, taken, servers, overhead, buckets):
     """The flow of a line of links."""
     flow = {"name": name_of(row["name"], taken)}
     packet = 8 * (whole("largest_frame", row["largest_frame"], 1, 2**21 - 1) + overhead)
@@ -132,7 +142,7 @@ def virtual_link(row, taken, servers, overhead):
     flow["packet"] = packet
     period = 1000 * amount("bag", row["bag"], None)
     jitter = amount("jitter", row["jitter"], 0, default=0)
-    flow["arrival"] = {"kind": "stair", "period": written(period), "jitter": written(jitter)}
+    flow["arrival"] = arrival_of(packet, period, jitter, buckets)
     priority = whole("priority", row["priority"] or "0", 0, 7)
     path = row["path"].split()
     if not 1 <= len(path) <= 16:
@@ -157,13 +167,13 @@ def read_table(path, columns, make, most):
     return made
 
 
-def network_of(links, ports, overhead):
+def network_of(links, ports, overhead, buckets):
     """The network of two files."""
     servers = read_table(ports, ["name", "rate", "latency", "link", "discipline"], port, 64)
     flows = read_table(
         links,
         ["name", "bag", "largest_frame", "jitter", "priority", "path"],
-        lambda row, taken: virtual_link(row, taken, servers, overhead),
+        lambda row, taken: virtual_link(row, taken, servers, overhead, buckets),
         256,
     )
     return {"server": list(servers.values()), "flow": list(flows.values())}
@@ -174,9 +184,10 @@ def main():
     parser.add_argument("links")
     parser.add_argument("ports")
     parser.add_argument("--overhead", type=int, default=20, metavar="BYTES", help="bytes on the wire beside a frame's own (20)")
+    parser.add_argument("--buckets", action="store_true", help="describe each link by a token bucket")
     words = parser.parse_args()
     try:
-        network = network_of(words.links, words.ports, words.overhead)
+        network = network_of(words.links, words.ports, words.overhead, words.buckets)
     except (Fault, OSError) as fault:
         print(f"import_icd: {fault}", file=sys.stderr)
         return 1
