@@ -1,0 +1,199 @@
+#!/usr/bin/env python3
+"""Makes a network file of two tables of an interface control document: virtual links and ports.
+
+    tools/import_icd.py LINKS.csv PORTS.csv > network.toml
+
+Both are CSV with a head line; columns stand in any order, and other columns are left alone. Numbers are decimal or fractions ("1.5", "3/2"),
+and stay exact. The file is in microseconds and bits, so a rate in Mbit/s is the number of its bits in a microsecond.
+
+LINKS.csv, a line a virtual link:
+    name           a name of 1 to 32 letters, digits, _ and -
+    bag            the bandwidth allocation gap in milliseconds: at most one frame in each
+    largest_frame  the bytes of the longest frame, header and check sequence included
+    jitter         how late a frame may be at the first port, in microseconds (0 where it is empty)
+    priority       the queue at ports with more than one, 0 goes first (0 where it is empty)
+    path           the output ports that the link passes, in order, separated by spaces
+
+PORTS.csv, a line an output port (also those of end systems):
+    name           a name
+    rate           in Mbit/s
+    latency        the longest technological latency, in microseconds (0 where it is empty)
+    link           the delay of the cable behind it, in microseconds (0 where it is empty)
+    discipline     `fifo` (also where it is empty), `priority N` with N queues, or `drr Q0 Q1 ..` with the quantum of each queue in bytes
+
+`--buckets` describes each link by the token bucket above its stair (burst of one frame, and of what the jitter adds; rate of one frame a gap) in
+place of the stair itself: the bounds are a little greater, and networks whose gaps have a large common multiple are answered at once.
+
+A frame occupies the wire for longer than its bytes: preamble, start of frame and the gap behind it are 20 bytes on Ethernet, which
+`--overhead` sets. A fault ends it with status 1 and says the file, the line and what is wrong there. What the rules of network files ask for
+beyond a line (that servers exist, that a quantum is as long as a packet) is looked at here too, since a line of a table is easier to mend than
+a place of a made file.
+"""
+
+import argparse
+import csv
+import sys
+from fractions import Fraction
+
+from networks import NAME, dump, written
+
+
+class Fault(Exception):
+    """A fault of a line of a table."""
+
+
+def rows(path, columns):
+    """The lines of a table with their numbers, from 2 on, as dictionaries of stripped texts."""
+    with open(path, newline="", encoding="utf-8-sig") as file:
+        reader = csv.DictReader(file, skipinitialspace=True)
+        missing = [column for column in columns if column not in (reader.fieldnames or [])]
+        if missing:
+            raise Fault(f"{path} line 1: no column {missing[0]}")
+        for row in reader:
+            yield reader.line_num, {column: (row[column] or "").strip() for column in columns}
+
+
+def name_of(text, taken):
+    """A name that is well formed and not taken yet."""
+    if not NAME.fullmatch(text):
+        raise Fault(f"{text!r} is no name of 1 to 32 letters, digits, _ and -")
+    if text in taken:
+        raise Fault(f"{text} stands twice")
+    return text
+
+
+def amount(column, text, least, default=None):
+    """An exact number of a column that is at least `least`, or above 0 where that is None."""
+    if text == "" and default is not None:
+        return Fraction(default)
+    try:
+        value = Fraction(text)
+    except (ValueError, ZeroDivisionError):
+        raise Fault(f"{column} {text!r} is no number") from None
+    if value <= 0 if least is None else value < least:
+        raise Fault(f"{column} {text} is {'not above 0' if least is None else f'below {least}'}")
+    return value
+
+
+def whole(column, text, least, most):
+    """A whole number of a column from `least` to `most`."""
+    if not text.isascii() or not text.isdigit() or not least <= int(text) <= most:
+        raise Fault(f"{column} {text!r} is no whole number from {least} to {most}")
+    return int(text)
+
+
+def discipline_of(text):
+    """The keys of a discipline."""
+    words = text.split() or ["fifo"]
+    if words == ["fifo"]:
+        return {}
+    if words[0] == "priority" and len(words) == 2:
+        return {"discipline": "priority", "queues": whole("queues", words[1], 1, 8)}
+    if words[0] == "drr" and 2 <= len(words) <= 9:
+        return {"discipline": "drr", "quanta": [8 * whole("quantum", word, 1, 2**21) for word in words[1:]]}
+    raise Fault(f"discipline {text!r} is none of fifo, priority N, drr Q0 Q1 ..")
+
+
+def port(row, taken):
+    """The server of a line of ports."""
+    server = {"name": name_of(row["name"], taken), "rate": written(amount("rate", row["rate"], None))}
+    latency = amount("latency", row["latency"], 0, default=0)
+    if latency:
+        server["service"] = {"kind": "latency", "latency": written(latency)}
+    link = amount("link", row["link"], 0, default=0)
+    if link:
+        server["link"] = written(link)
+    return server | discipline_of(row["discipline"])
+
+
+def queues_of(server):
+    """How many queues a server has."""
+    return server.get("queues") or len(server.get("quanta", [0]))
+
+
+def hop(name, priority, packet, servers):
+    """A path entry at the port of that name."""
+    if name not in servers:
+        raise Fault(f"no port {name}")
+    server = servers[name]
+    queues = queues_of(server)
+    if queues == 1:
+        return name
+    if priority >= queues:
+        raise Fault(f"port {name} has no queue {priority}")
+    if "quanta" in server and server["quanta"][priority] < packet:
+        raise Fault(f"port {name}: the quantum of queue {priority} is shorter than a packet of {packet} bits")
+    return f"{name}:{priority}"
+
+
+def arrival_of(packet, period, jitter, buckets):
+    """A frame a period, late by the jitter at most; or the token bucket above that."""
+    if buckets:
+        return {"kind": "bucket", "burst": written(packet * (1 + jitter / period)), "rate": written(packet / period)}
+    return {"kind": "stair", "period": written(period), "jitter": written(jitter)}
+
+
+def virtual_link(row, taken, servers, overhead, buckets):
+    """The flow of a line of links."""
+    flow = {"name": name_of(row["name"], taken)}
+    packet = 8 * (whole("largest_frame", row["largest_frame"], 1, 2**21 - 1) + overhead)
+    if packet > 2**24:
+        raise Fault(f"a frame of {row['largest_frame']} bytes is longer than 2^24 bits")
+    flow["packet"] = packet
+    period = 1000 * amount("bag", row["bag"], None)
+    jitter = amount("jitter", row["jitter"], 0, default=0)
+    flow["arrival"] = arrival_of(packet, period, jitter, buckets)
+    priority = whole("priority", row["priority"] or "0", 0, 7)
+    path = row["path"].split()
+    if not 1 <= len(path) <= 16:
+        raise Fault("a path has 1 to 16 ports")
+    if len(set(path)) < len(path):
+        raise Fault("a path passes a port twice")
+    flow["path"] = [hop(name, priority, packet, servers) for name in path]
+    return flow
+
+
+def read_table(path, columns, make, most):
+    """The tables of a file's lines, by name; each fault with its line."""
+    made = {}
+    for line, row in rows(path, columns):
+        try:
+            if len(made) == most:
+                raise Fault(f"more than {most} lines")
+            table = make(row, made)
+        except Fault as fault:
+            raise Fault(f"{path} line {line}: {fault}") from None
+        made[table["name"]] = table
+    return made
+
+
+def network_of(links, ports, overhead, buckets):
+    """The network of two files."""
+    servers = read_table(ports, ["name", "rate", "latency", "link", "discipline"], port, 64)
+    flows = read_table(
+        links,
+        ["name", "bag", "largest_frame", "jitter", "priority", "path"],
+        lambda row, taken: virtual_link(row, taken, servers, overhead, buckets),
+        256,
+    )
+    return {"server": list(servers.values()), "flow": list(flows.values())}
+
+
+def main():
+    parser = argparse.ArgumentParser(description=__doc__, formatter_class=argparse.RawDescriptionHelpFormatter)
+    parser.add_argument("links")
+    parser.add_argument("ports")
+    parser.add_argument("--overhead", type=int, default=20, metavar="BYTES", help="bytes on the wire beside a frame's own (20)")
+    parser.add_argument("--buckets", action="store_true", help="describe each link by a token bucket")
+    words = parser.parse_args()
+    try:
+        network = network_of(words.links, words.ports, words.overhead, words.buckets)
+    except (Fault, OSError) as fault:
+        print(f"import_icd: {fault}", file=sys.stderr)
+        return 1
+    sys.stdout.write(dump(network, f"Made of {words.links} and {words.ports}, in microseconds and bits."))
+    return 0
+
+
+if __name__ == "__main__":
+    sys.exit(main())
