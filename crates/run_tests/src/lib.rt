@@ -10,6 +10,8 @@ mod schedulers;
 #[cfg(test)]
 mod scripts;
 #[cfg(test)]
+mod simulations;
+#[cfg(test)]
 mod version_tables;
 #[cfg(test)]
 mod watching;
