@@ -1,0 +1,127 @@
+//! Edits of a flow of one bit that passes two servers; how many cells each touches was worked out by hand.
+
+ghost use Rattle.std.specs.Prelude.{◌≡◌, ◌<◌};
+
+use crate::Store;
+use cell_eval::Counted;
+use cell_table::{CellValue, Evaluator, Value};
+use fraction128::Frac;
+use net_graph::order;
+use net_model::{Edit, PathEntry, plain_network};
+use std::alloc::{AllocError, Global};
+use std::marker::Brand;
+use std::sync::ledger::{Blank, Ledger};
+use std::test::Fail;
+use steps::Steps;
+
+// How many cells an edit touches, if it is taken.
+fn touched<V: CellValue + Drop, E: Evaluator<V>>(
+    store: &mut Store<V>,
+    edit: &Edit,
+    eval: &mut E,
+) -> Option<u32> {
+    if store.depth() >= 1000 {
+        return None;
+    }
+    match store.apply(edit, eval) {
+        Ok(done) => Some(done.cells),
+        Err(_) => None,
+    }
+}
+
+// The answers to some edits, one after the other, and how many operators the last one took.
+fn answers<L: Ledger>(alloc: Global, blank: Blank, edits: &[Edit]) -> Option<Vec<Option<u32>>>
+    requires name { blank.name ≡ L.name }
+    requires parts { blank.parts ≡ L.parts }
+    requires one { 0 < blank.parts }
+{
+    let mut steps = Steps::<L>::new(blank);
+    let mut counted = Counted {
+        alloc,
+        steps: &mut steps,
+    };
+    let net = plain_network(alloc, 2, &[&[0, 1]]).ok()?;
+    let servers = order(alloc, &net).ok()?;
+    let mut store: Store<Value> = Store::new(alloc, net, &servers, &mut counted).ok()?;
+    let mut found = Vec::new(alloc);
+    for edit in edits {
+        let cells = touched(&mut store, edit, &mut counted);
+        found.push(cells).ok()?;
+    }
+    Some(found)
+}
+
+// ---- edits
+fn name(alloc: Global, text: &str) -> Result<String, AllocError> {
+    String::from_str(alloc, text)
+}
+
+fn hop(alloc: Global, server: &str) -> Result<PathEntry, AllocError> {
+    Ok(PathEntry {
+        server: name(alloc, server)?,
+        queue: 0,
+    })
+}
+
+fn rate(alloc: Global, rate: u64) -> Result<Edit, AllocError> {
+    Ok(Edit::Rate(name(alloc, "a")?, Frac::from(rate)))
+}
+
+fn add(alloc: Global) -> Result<Edit, AllocError> {
+    let path = vec![in alloc; hop(alloc, "b")?]?;
+    Ok(Edit::Add(
+        name(alloc, "b")?,
+        1,
+        Frac::from(1u64),
+        Frac::zero(),
+        path,
+    ))
+}
+
+fn route(alloc: Global) -> Result<Edit, AllocError> {
+    let path = vec![in alloc; hop(alloc, "b")?, hop(alloc, "a")?]?;
+    Ok(Edit::Route(name(alloc, "b")?, path))
+}
+
+#[test]
+fn edits_touch_what_they_change_and_an_undo_touches_nothing(rt: HostRuntime) -> Result<(), Fail> {
+    let alloc = rt.alloc();
+    let edits = vec![in alloc; rate(alloc, 2)?, add(alloc)?, route(alloc)?, Edit::Undo, Edit::Undo, Edit::Undo]?;
+    let found = answers::<Brand>(alloc, Blank::new(1), &edits).ok_or("no store")?;
+    let wanted = [Some(18), Some(20), None, Some(0), Some(0), None];
+    assert_eq!(rt; found.as_slice(), wanted.as_slice());
+    Ok(())
+}
+
+#[test]
+fn a_link_touches_three_cells_and_a_dropped_flow_six(rt: HostRuntime) -> Result<(), Fail> {
+    let alloc = rt.alloc();
+    let edits = vec![in alloc; Edit::Link(name(alloc, "b")?, Frac::from(5u64)), Edit::Undo, Edit::Drop(name(alloc, "a")?), Edit::Undo]?;
+    let found = answers::<Brand>(alloc, Blank::new(1), &edits).ok_or("no store")?;
+    let wanted = [Some(3), Some(0), Some(6), Some(0)];
+    assert_eq!(rt; found.as_slice(), wanted.as_slice());
+    Ok(())
+}
+
+// As many rates as undos, each the next one up.
+fn rates_and_back(alloc: Global, count: u64) -> Result<Vec<Edit>, AllocError> {
+    let mut edits = Vec::new(alloc);
+    for number in 0..count {
+        edits.push(rate(alloc, number.saturating_add(2))?)?;
+    }
+    for _ in 0..count {
+        edits.push(Edit::Undo)?;
+    }
+    Ok(edits)
+}
+
+#[test]
+fn five_hundred_rates_and_back(rt: HostRuntime) -> Result<(), Fail> {
+    let alloc = rt.alloc();
+    let edits = rates_and_back(alloc, 500)?;
+    let found = answers::<Brand>(alloc, Blank::new(1), &edits).ok_or("no store")?;
+    assert_eq!(rt; found.len(), 1000);
+    assert!(rt; found.iter().take(500).all(|cells| *cells == Some(18)));
+    assert!(rt; found.iter().skip(500).all(|cells| *cells == Some(0)));
+    Ok(())
+}
