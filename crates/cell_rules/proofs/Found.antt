@@ -155,20 +155,19 @@ module _ (old net : Net) where
         (passed_last front touched c p (told_untouched told))
 
 -- ---- at the start
-pub first_flags : (old net : Net) (n : ℕ) (flags : List Bool) → flags ≡ replicate n false → n ≡ 36352
-    → AreFlags old net [] flags
-first_flags old net n flags is size = record {
-  room = ap length is ∙ (length-replicate n false ∙ size);
-  touched = λ c p e.
-      let none : flag_of flags c ≡ false = ap (λ fs. flag_of fs c) is ∙ no_flag n (slot c) in absurd (let bad : ⊥ = cc in bad);
+pub first_flags : (old net : Net) (flags : List Bool) → length flags ≡ 36352
+    → ((i : ℕ) → get_or flags i false ≡ false) → AreFlags old net [] flags
+first_flags old net flags size none = record {
+  room = size;
+  touched = λ c p e. let not_set : flag_of flags c ≡ false = none (slot c) in absurd (let bad : ⊥ = cc in bad);
   untouched = λ c m e. absurd (contains_has [] c m);
 }
-  where
-    no_flag : (m i : ℕ) → get_or (replicate m false) i false ≡ false
-    no_flag m i = elim (cases_lt i m) [
-      | inl l ↦ get_or-replicate m i false false l
-      | inr l ↦ get_or_past (replicate m false) i false (omega (arith, l, length-replicate {A = Bool} m false))
-    ]
+
+pub not_set : (n i : ℕ) → get_or (replicate n false) i false ≡ false
+not_set n i = elim (cases_lt i n) [
+  | inl l ↦ get_or-replicate n i false false l
+  | inr l ↦ get_or_past (replicate n false) i false (omega (arith, l, length-replicate {A = Bool} n false))
+]
 
 -- ---- places
 -- any cell, for a place past the last

@@ -1,4 +1,4 @@
 pub mod Tells
-pub mod Kinds
+pub mod SameMade
 pub mod SameHops
 pub mod Found

@@ -6,9 +6,10 @@ use Rattle.std.proofs.lemmas.Bool.{cases_lt}
 use Rattle.std.proofs.lemmas.List.{get_or_past}
 use Rattle.net_model.specs.Networks.{Net, NetFlow}
 use Rattle.net_cells.specs.declared.cell.Cell.{Cell}
-use Rattle.net_cells.specs.declared.cell.Kind.TheVariants.{In}
-use Rattle.net_cells.specs.Numbered.{flow_at, path_of}
-use Rattle.net_cells.specs.Visits.{Visit, visit, is_at}
+use Rattle.net_cells.specs.declared.cell.Kind.TheVariants.{In, Cross, Total}
+use Rattle.net_cells.specs.Numbered.{flow_at, path_of, server_at, queue_at}
+use Rattle.net_cells.specs.declared.visit.Visit.{Visit}
+use Rattle.net_cells.specs.Visits.{visit, visits_in, others, is_at, longest, longest_after, longest_of}
 use Rattle.net_cells.specs.Order.{at_visit}
 use Rattle.net_cells.specs.Formulas.{leaves}
 use Rattle.net_cells.specs.CellFormulas.{sum_of}
@@ -16,9 +17,11 @@ use Rattle.net_cells.proofs.Growing.{flat_more}
 use Rattle.net_cells.proofs.LeavesOf.{sum_leaves}
 use Rattle.net_cells.proofs.Lists.{Has, map_has, filter_has, has_flat, flat_has, has_range}
 use Rattle.queue_hops.specs.declared.found.Pick.{Pick}
-use Rattle.queue_hops.specs.Chosen.{visit_list, picks, is_other, picked, chosen, flow_visits}
-use Rattle.cell_rules.specs.Rules.{TellsSame}
-use Rattle.cell_rules.proofs.Tells.{tells_by}
+use Rattle.queue_hops.specs.declared.found.Pick.TheVariants.{InQueue, AfterQueue}
+use Rattle.queue_hops.specs.Chosen.{visit_list, picks, is_other, picked, chosen, flow_visits, all_chosen, all_picked}
+use Rattle.queue_hops.proofs.Choosing.{queue_visits, other_visits, picked_are}
+use Rattle.cell_rules.specs.Rules.{TellsSame, TellsFormula}
+use Rattle.cell_rules.proofs.Tells.{tells_by, tells_of}
 
 -- ---- a list for each number
 -- from a number on they are empty
@@ -131,3 +134,34 @@ tells_sum xs ys b t =
     (ap (λ vs. sum_of (map (at_visit In) vs)))
     (λ e. same_visits xs ys
     (sym (sum_leaves (map (at_visit In) xs)) ∙ ap leaves e ∙ sum_leaves (map (at_visit In) ys))) t
+
+-- of the other flows at a hop, and of all flows of a queue
+pub cross_tells : (old new : Net) (i k s q t p : ℕ) (b : Bool) → s ≡ server_at old i k → q ≡ queue_at old i k
+    → t ≡ server_at new i k → p ≡ queue_at new i k
+    → TellsSame (all_chosen old s (InQueue q) (Some i) (length old.flows))
+    (all_chosen new t (InQueue p) (Some i) (length new.flows)) b
+    → TellsFormula old new Cross i k b
+cross_tells old new i k s q t p b es eq et ep tells =
+    tells_sum (others old i (server_at old i k) (queue_at old i k)) (others new i (server_at new i k) (queue_at new i k)) b
+    (tells_of (all_chosen old s (InQueue q) (Some i) (length old.flows))
+    (all_chosen new t (InQueue p) (Some i) (length new.flows))
+    (others old i (server_at old i k) (queue_at old i k)) (others new i (server_at new i k) (queue_at new i k)) b
+    (sym (other_visits old i s q) ∙ ap₂ (others old i) es eq) (sym (other_visits new i t p) ∙ ap₂ (others new i) et ep)
+    tells)
+
+pub total_tells : (old new : Net) (s q : ℕ) (b : Bool)
+    → TellsSame (all_chosen old s (InQueue q) None (length old.flows)) (all_chosen new s (InQueue q) None (length new.flows)) b
+    → TellsFormula old new Total s q b
+total_tells old new s q b tells =
+    tells_sum (visits_in old s q) (visits_in new s q) b
+    (tells_of (all_chosen old s (InQueue q) None (length old.flows)) (all_chosen new s (InQueue q) None (length new.flows))
+    (visits_in old s q) (visits_in new s q) b (sym (queue_visits old s q)) (sym (queue_visits new s q)) tells)
+
+-- ---- their longest packets
+pub longest_is : (net : Net) (s q n : ℕ) → n ≡ longest_of net (all_picked net s (InQueue q) (length net.flows))
+    → n ≡ longest net s q
+longest_is net s q n e = e ∙ sym (ap (longest_of net) (picked_are net s (InQueue q)))
+
+pub longest_after_is : (net : Net) (s q n : ℕ) → n ≡ longest_of net (all_picked net s (AfterQueue q) (length net.flows))
+    → n ≡ longest_after net s q
+longest_after_is net s q n e = e ∙ sym (ap (longest_of net) (picked_are net s (AfterQueue q)))

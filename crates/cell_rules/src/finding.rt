@@ -1,6 +1,6 @@
 //! The touched cells of an edit, and those that are gone.
 
-ghost use Rattle.std.specs.Prelude.{◌≡◌, ◌≤◌, IfOk, OnOk, IsTrue, Contains, length};
+ghost use Rattle.std.specs.Prelude.{◌≡◌, ◌≤◌, ℕ, IfOk, OnOk, IsTrue, Contains, length, slice_index_or, false};
 ghost use Rattle.net_cells.specs.Cells.{has_cell};
 ghost use Rattle.net_cells.specs.Formulas.{leaves};
 ghost use Rattle.net_cells.specs.CellFormulas.{formula};
@@ -14,6 +14,15 @@ use cell_changes::{SLOTS, slot};
 use net_cells::{Cell, operands};
 use net_model::Network;
 use std::alloc::{AllocError, Global};
+
+// So many flags, none of them set.
+fn no_flags(alloc: Global, count: usize) -> Result<Vec<bool>, AllocError>
+    ensures room { IfOk result (λ flags. length flags.items ≡ count) }
+    ensures none { IfOk result (λ flags. (i : ℕ) → slice_index_or flags.items i false ≡ false) }
+{
+    let flags = vec![in alloc; false; count]?;
+    Ok(flags)
+}
 
 // Whether one of some cells is flagged.
 fn one_flagged(flags: &[bool], cells: &[Cell]) -> bool
@@ -81,7 +90,7 @@ pub fn touched_cells(
 {
     // What networks keep is in the contract of this call.
     let _ = net.servers();
-    let mut flags = vec![in alloc; false; SLOTS as usize]?;
+    let mut flags = no_flags(alloc, SLOTS as usize)?;
     let mut touched = Vec::new(alloc);
     for place in 0..cells.len() {
         let cell = cells[place];

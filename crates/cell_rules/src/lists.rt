@@ -34,8 +34,8 @@ fn same_hops(
         (all_chosen new.now other.0 (InQueue other.1) except (length new.now.flows)) result }
 {
     // What networks keep is in the contracts of these calls.
-    let _ = old.flows();
-    let _ = new.flows();
+    let _old_flows = old.flows();
+    let _new_flows = new.flows();
     for flow in 0..MOST_FLOWS {
         let here = chosen_at(old, flow, place.0, Pick::InQueue(place.1), except);
         let there = chosen_at(new, flow, other.0, Pick::InQueue(other.1), except);
@@ -50,9 +50,17 @@ fn same_hops(
 pub(crate) fn same_cross(old: &Network, new: &Network, flow: u32, hop: u32) -> bool
     ensures { TellsFormula old.now new.now Cross flow hop result }
 {
-    let place = (server_at(old, flow, hop), queue_at(old, flow, hop));
-    let other = (server_at(new, flow, hop), queue_at(new, flow, hop));
-    same_hops(old, place, new, other, Some(flow))
+    let server = server_at(old, flow, hop);
+    let queue = queue_at(old, flow, hop);
+    let new_server = server_at(new, flow, hop);
+    let new_queue = queue_at(new, flow, hop);
+    same_hops(
+        old,
+        (server, queue),
+        new,
+        (new_server, new_queue),
+        Some(flow),
+    )
 }
 
 /// Whether two networks make the sum of a queue's flows of the same.
@@ -66,15 +74,18 @@ pub(crate) fn same_total(old: &Network, new: &Network, server: u32, queue: u32) 
 pub(crate) fn same_longest(old: &Network, new: &Network, server: u32, queue: u32) -> bool
     ensures { TellsSame (seen.longest old.now server queue) (seen.longest new.now server queue) result }
 {
-    longest_at(old, server, Pick::InQueue(queue)) == longest_at(new, server, Pick::InQueue(queue))
+    let bits = longest_at(old, server, Pick::InQueue(queue));
+    let new_bits = longest_at(new, server, Pick::InQueue(queue));
+    bits == new_bits
 }
 
 /// Whether the longest packet of the queues of greater number has.
 pub(crate) fn same_longest_after(old: &Network, new: &Network, server: u32, queue: u32) -> bool
     ensures { TellsSame (seen.longest_after old.now server queue) (seen.longest_after new.now server queue) result }
 {
-    longest_at(old, server, Pick::AfterQueue(queue))
-        == longest_at(new, server, Pick::AfterQueue(queue))
+    let bits = longest_at(old, server, Pick::AfterQueue(queue));
+    let new_bits = longest_at(new, server, Pick::AfterQueue(queue));
+    bits == new_bits
 }
 
 /// Whether the longest packet of each of the first queues has.

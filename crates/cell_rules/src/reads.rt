@@ -19,8 +19,8 @@ pub(crate) fn same_curve(f: &Curve, g: &Curve) -> bool
 {
     // What curves keep is in the contracts of these calls.
     normal_form_is_unique();
-    let _ = f.pieces();
-    let _ = g.pieces();
+    let _first = f.pieces();
+    let _second = g.pieces();
     equal(f, g)
 }
 
@@ -64,6 +64,19 @@ fn link_of(net: &Network, number: u32) -> Frac
     }
 }
 
+// The link after a hop.
+fn link_at(net: &Network, flow: u32, hop: u32) -> Frac
+    ensures { result ≡ at.link net.now (at.server_at net.now flow hop) }
+{
+    link_of(net, server_at(net, flow, hop))
+}
+
+fn same_link(here: Frac, there: Frac) -> bool
+    ensures { TellsSame here there result }
+{
+    here == there
+}
+
 /// Whether the links along a flow's path are as many, and each as long.
 pub(crate) fn same_links(old: &Network, new: &Network, flow: u32) -> bool
     ensures { TellsSame (links_along old.now flow) (links_along new.now flow) result }
@@ -73,8 +86,9 @@ pub(crate) fn same_links(old: &Network, new: &Network, flow: u32) -> bool
         return false;
     }
     for hop in 0..count {
-        let link = link_of(old, server_at(old, flow, hop));
-        if link != link_of(new, server_at(new, flow, hop)) {
+        let here = link_at(old, flow, hop);
+        let there = link_at(new, flow, hop);
+        if !same_link(here, there) {
             return false;
         }
     }

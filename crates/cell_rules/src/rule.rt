@@ -1,6 +1,6 @@
 //! Whether two networks make a cell of the same.
 
-ghost use Rattle.std.specs.Prelude.{◌≡◌, ◌<◌, ◌↔◌, IsTrue};
+ghost use Rattle.std.specs.Prelude.{◌≡◌, ◌<◌, ◌-◌, ◌↔◌, IsTrue};
 ghost use Rattle.net_cells.specs.declared.cell.Kind.TheVariants.{In, PathService};
 ghost use Rattle.net_cells.specs.Cells.{has_cell};
 ghost use Rattle.net_cells.specs.CellFormulas.{formula};
@@ -43,15 +43,27 @@ fn same_in(old: &Network, new: &Network, flow: u32, hop: u32) -> bool
     }
 }
 
+// The place of a flow's last hop on its path.
+fn last_hop(net: &Network, flow: u32) -> u32
+    ensures { result ≡ at.hops net.now flow - 1 }
+{
+    let count = hops(net, flow);
+    if count == 0 { 0 } else { count - 1 }
+}
+
 // Whether a flow is served along its path by the same: as many hops, and packets as long where there is more than one.
 fn same_path(old: &Network, new: &Network, flow: u32) -> bool
     ensures { TellsFormula old.now new.now PathService flow 0 result }
 {
-    let last = hops(old, flow).saturating_sub(1);
-    if last != hops(new, flow).saturating_sub(1) {
+    let last = last_hop(old, flow);
+    let new_last = last_hop(new, flow);
+    if last != new_last {
         return false;
     }
-    last == 0 || same_packet(old, new, flow)
+    if last == 0 {
+        return true;
+    }
+    same_packet(old, new, flow)
 }
 
 // Of a cell of both.

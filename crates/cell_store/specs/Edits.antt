@@ -1,6 +1,7 @@
 -- A table of the network before an edit, and which cells the edit touches. Own choice.
 use Rattle.std.specs.Prelude.{◌≡◌, ℕ, List, None, false, IsTrue, Contains}
 use Rattle.upp_limits.specs.declared.op_kind.OpFault.{OpFault}
+use Rattle.upp_limits.specs.declared.op_kind.OpFault.TheVariants as operator
 use Rattle.net_model.specs.Networks.{Net}
 use Rattle.net_model.specs.Orders.{IsOrder}
 use Rattle.net_cells.specs.declared.cell.Cell.{Cell}
@@ -8,6 +9,8 @@ use Rattle.net_cells.specs.Cells.{has_cell}
 use Rattle.net_cells.specs.Meanings.{CellTable}
 use Rattle.net_cells.specs.Order.{evaluation_order}
 use Rattle.net_cells.specs.FirstOver.{IsAnswered, FirstOver}
+use Rattle.cell_table.specs.declared.fault.AnalysisFault.{AnalysisFault}
+use Rattle.cell_table.specs.declared.fault.AnalysisFault.TheVariants.{TooMany, TooWide, NoMemory}
 use Rattle.cell_changes.specs.Changes.{TouchedOf}
 use Rattle.cell_changes.specs.Slots.{HasSlot}
 
@@ -32,6 +35,18 @@ IsFirst net c fault = (order : List ℕ) → IsOrder net order → FirstOver net
 pub record IsFirstTouched (net : Net) (touched : List Cell) (c : Cell) (fault : OpFault) : Type 0 where
   pub among : Contains touched c
   pub first : IsFirst net c fault
+
+-- where a cell has no value, its network has none for that one
+abbrev pub refusal_at : Cell → OpFault → AnalysisFault
+refusal_at c operator.TooMany = TooMany c
+refusal_at c operator.TooWide = TooWide c
+refusal_at c operator.NoMemory = NoMemory
+
+-- why cells have no values: the first one over a limit, and which limit, or want of memory
+abbrev pub RefusesFor : (Cell → OpFault → Type 0) → AnalysisFault → Type 0
+RefusesFor IsFirstOne (TooMany c) = IsFirstOne c operator.TooMany
+RefusesFor IsFirstOne (TooWide c) = IsFirstOne c operator.TooWide
+RefusesFor IsFirstOne NoMemory = Unit {0}
 
 -- the table has the same at all cells but these
 abbrev pub SameButAt : List Cell → CellTable → CellTable → Type 0

@@ -3,8 +3,7 @@
 ghost use Rattle.std.specs.Prelude.{◌≡◌, ◌+◌, ◌≤◌, sum_by, IfErr, OnOk};
 ghost use Rattle.net_cells.specs.Equations.{MeetsEquations};
 ghost use Rattle.net_cells.specs.Work.{work};
-ghost use Rattle.flow_analysis.specs.Analyses.{fault_at, IsRefusal};
-ghost use Rattle.cell_store.specs.Edits.{AllAnswered, IsEditOf, IsFirstTouched, SameButAt};
+ghost use Rattle.cell_store.specs.Edits.{AllAnswered, IsEditOf, IsFirstTouched, SameButAt, RefusesFor, refusal_at};
 
 use crate::values::Values;
 use cell_table::{AnalysisFault, CellValue, Evaluator, Table};
@@ -16,7 +15,7 @@ use upp_limits::OpFault;
 
 // Why there is no table, where this is why a cell has no value.
 fn refusal(cell: Cell, fault: OpFault) -> AnalysisFault
-    ensures { result ≡ fault_at cell fault }
+    ensures { result ≡ refusal_at cell fault }
 {
     match fault {
         OpFault::TooMany => AnalysisFault::TooMany(cell),
@@ -41,7 +40,7 @@ pub fn made_anew<V: CellValue + Drop, E: Evaluator<V>>(
     ensures answers { OnOk result (AllAnswered net.now (⟦<Values<V> as Table<V>>⟧.at values.new)) }
     ensures others { SameButAt touched.now (⟦<Values<V> as Table<V>>⟧.at values.old) (⟦<Values<V> as Table<V>>⟧.at values.new) }
     ensures before { values.new.versions.kept ≡ values.old.versions.kept }
-    ensures refused { IfErr result (IsRefusal (IsFirstTouched net.now touched.now)) }
+    ensures refused { IfErr result (RefusesFor (IsFirstTouched net.now touched.now)) }
     ensures exact { OnOk result (E.count eval.new ≡ E.count eval.old + sum_by (work net.now) touched.now) }
     ensures rises { E.count eval.old ≤ E.count eval.new }
     ensures within { E.count eval.new ≤ E.count eval.old + sum_by (work net.now) touched.now }

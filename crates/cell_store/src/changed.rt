@@ -2,8 +2,7 @@
 
 ghost use Rattle.std.specs.Prelude.{◌≡◌, ◌+◌, ◌-◌, ◌^◌, ◌<◌, ◌≤◌, ◌++◌, ◌∷◌, [], sum_by, IfErr, OnOk, OnErr, length};
 ghost use Rattle.net_cells.specs.Work.{work};
-ghost use Rattle.flow_analysis.specs.Analyses.{IsRefusal};
-ghost use Rattle.cell_store.specs.Edits.{IsEditOf, IsFirstTouched, AreGone, IsCleared, IsEditedTable};
+ghost use Rattle.cell_store.specs.Edits.{IsEditOf, IsFirstTouched, AreGone, IsCleared, IsEditedTable, RefusesFor};
 
 use crate::anew::made_anew;
 use crate::values::Values;
@@ -43,7 +42,7 @@ fn changed<V: CellValue + Drop, E: Evaluator<V>>(
     ensures table { OnOk result (IsEditedTable net.now gone.now touched.now
         (⟦<Values<V> as Table<V>>⟧.at values.old) (⟦<Values<V> as Table<V>>⟧.at values.new)) }
     ensures before { values.new.versions.kept ≡ values.old.versions.kept }
-    ensures refused { IfErr result (IsRefusal (IsFirstTouched net.now touched.now)) }
+    ensures refused { IfErr result (RefusesFor (IsFirstTouched net.now touched.now)) }
     ensures exact { OnOk result (E.count eval.new ≡ E.count eval.old + sum_by (work net.now) touched.now) }
     ensures rises { E.count eval.old ≤ E.count eval.new }
     ensures within { E.count eval.new ≤ E.count eval.old + sum_by (work net.now) touched.now }
@@ -76,7 +75,7 @@ pub fn edited_values<V: CellValue + Drop, E: Evaluator<V>>(
         (⟦<Values<V> as Table<V>>⟧.at values.old) (⟦<Values<V> as Table<V>>⟧.at values.new)) }
     ensures before { OnOk result (values.new.versions.kept ≡ values.old.versions.kept ++ values.old.versions.newest ∷ []) }
     ensures kept { OnErr result (values.new.versions ≡ values.old.versions) }
-    ensures refused { IfErr result (IsRefusal (IsFirstTouched net.now touched.now)) }
+    ensures refused { IfErr result (RefusesFor (IsFirstTouched net.now touched.now)) }
     ensures exact { OnOk result (E.count eval.new ≡ E.count eval.old + sum_by (work net.now) touched.now) }
     ensures rises { E.count eval.old ≤ E.count eval.new }
     ensures within { E.count eval.new ≤ E.count eval.old + sum_by (work net.now) touched.now }

@@ -3,7 +3,5 @@
 
 mod faults;
 mod store;
-#[cfg(test)]
-mod tests;
 
 pub use store::Store;

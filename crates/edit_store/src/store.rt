@@ -52,8 +52,7 @@ impl<V: CellValue + Drop> Store<V> {
     ghost use Rattle.net_cells.specs.Equations.{MeetsEquations};
     ghost use Rattle.net_cells.specs.Order.{evaluation_order};
     ghost use Rattle.net_cells.specs.Work.{work};
-    ghost use Rattle.flow_analysis.specs.Analyses.{IsRefusal};
-    ghost use Rattle.cell_store.specs.Edits.{IsFirst, IsFirstTouched};
+    ghost use Rattle.cell_store.specs.Edits.{IsFirst, IsFirstTouched, RefusesFor};
     ghost use Rattle.edit_store.specs.Stored.{AreTouched, AreLost, IsStored, IsAdvanced, IsBack};
     ghost use Rattle.edit_store.specs.Applied.{Gives, IsApplied, IsTaken, IsRefused, IsEvaluated, IsShown, IsHidden};
 
@@ -70,7 +69,7 @@ impl<V: CellValue + Drop> Store<V> {
         ensures first { IfOk result (λ s. s.before ≡ []) }
         ensures present { IfOk result (λ s. s.present ≡ net) }
         ensures meets { IfOk result (λ s. MeetsEquations net (⟦<Store<V> as Table<V>>⟧.at s)) }
-        ensures refused { IfErr result (IsRefusal (IsFirst net)) }
+        ensures refused { IfErr result (RefusesFor (IsFirst net)) }
         ensures exact { OnOk result
             (E.count eval.new ≡ E.count eval.old + sum_by (work net) (evaluation_order net order.now)) }
         ensures rises { E.count eval.old ≤ E.count eval.new }
@@ -131,7 +130,7 @@ impl<V: CellValue + Drop> Store<V> {
         requires gone { AreLost self.old.present net gone.now }
         ensures advanced { OnOk result (IsAdvanced self.old net self.new) }
         ensures kept { OnErr result (self.new ≡ self.old) }
-        ensures refused { IfErr result (IsRefusal (IsFirstTouched net touched.now)) }
+        ensures refused { IfErr result (RefusesFor (IsFirstTouched net touched.now)) }
         ensures exact { OnOk result (E.count eval.new ≡ E.count eval.old + sum_by (work net) touched.now) }
         ensures rises { E.count eval.old ≤ E.count eval.new }
         ensures within { E.count eval.new ≤ E.count eval.old + sum_by (work net) touched.now }

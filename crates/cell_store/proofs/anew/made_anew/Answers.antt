@@ -5,11 +5,10 @@ use Rattle.net_cells.specs.declared.cell.Cell.{Cell}
 use Rattle.net_cells.specs.Meanings.{CellTable}
 use Rattle.net_cells.specs.Work.{work}
 use Rattle.net_cells.proofs.Tables.{answered_meets}
-use Rattle.flow_analysis.proofs.Fronts.{no_cell, cell_at}
 use Rattle.cell_changes.specs.Laws.{AgreeAtUntouched}
 use Rattle.cell_store.specs.Placed.{placed}
 use Rattle.cell_store.specs.Edits.{IsEditOf, AllAnswered}
-use Rattle.cell_store.proofs.Fronts.{Next, Reached, next_at, next_is_cell, next_below, next_has_slot, made_at, all_answered, refused, same_untouched, still_others}
+use Rattle.cell_store.proofs.Fronts.{no_cell, cell_at, Next, Reached, next_at, next_is_cell, next_below, next_has_slot, made_at, all_answered, refused, same_untouched, still_others}
 use Rattle.cell_store.proofs.anew.made_anew.Goals as goal
 
 pub eval-requires-clause-cell : goal.eval-requires-clause-cell

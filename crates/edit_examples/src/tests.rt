@@ -2,9 +2,9 @@
 
 ghost use Rattle.std.specs.Prelude.{◌≡◌, ◌<◌};
 
-use crate::Store;
 use cell_eval::Counted;
 use cell_table::{CellValue, Evaluator, Value};
+use edit_store::Store;
 use fraction128::Frac;
 use net_graph::order;
 use net_model::{Edit, PathEntry, plain_network};
