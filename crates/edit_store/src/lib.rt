@@ -1,7 +1,0 @@
-//! Networks that are edited and go back, with the values of their cells.
-#![tactic(auto)]
-
-mod faults;
-mod store;
-
-pub use store::Store;
