@@ -1,0 +1,4 @@
+pub mod Tells
+pub mod SameMade
+pub mod SameHops
+pub mod Found

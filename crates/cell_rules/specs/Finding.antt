@@ -1,0 +1,47 @@
+-- Which cells were found to be touched so far, and which are gone. Own choice.
+use Rattle.std.specs.Prelude.{◌≡◌, ◌⊎◌, ℕ, List, [], ◌∷◌, ◌++◌, length, Bool, true, false, not, Contains, slice_index_or, slice_set}
+use Rattle.std.specs.List.{filter, list_any}
+use Rattle.net_model.specs.Networks.{Net}
+use Rattle.net_model.specs.Orders.{IsOrder}
+use Rattle.net_cells.specs.declared.cell.Cell.{Cell}
+use Rattle.net_cells.specs.Cells.{has_cell}
+use Rattle.net_cells.specs.Formulas.{leaves}
+use Rattle.net_cells.specs.CellFormulas.{formula}
+use Rattle.net_cells.specs.Order.{evaluation_order}
+use Rattle.cell_changes.specs.Changes.{HasSameRule, Touched, Untouched}
+use Rattle.cell_changes.specs.Slots.{slot, HasSlot}
+
+-- the cells of a network in the order in which they are taken
+pub record AreInOrder (net : Net) (cells : List Cell) : Type 0 where
+  pub order : List ℕ
+  pub servers : IsOrder net order
+  pub are : cells ≡ evaluation_order net order
+
+-- those of some cells that a network lacks
+abbrev pub gone_of : Net → List Cell → List Cell
+gone_of net cells = filter (λ c. not (has_cell net c)) cells
+
+-- ---- flags
+-- by its place a cell is flagged
+abbrev pub flag_of : List Bool → Cell → Bool
+flag_of flags c = slice_index_or flags (slot c) false
+
+-- one of these is
+abbrev pub is_flagged : List Bool → List Cell → Bool
+is_flagged flags cells = list_any (flag_of flags) cells
+
+-- flagged cells are touched, and those of a front that are not flagged are untouched
+pub record AreFlags (old net : Net) (front : List Cell) (flags : List Bool) : Type 0 where
+  pub room : length flags ≡ 36352
+  pub touched : (c : Cell) → HasSlot c → flag_of flags c ≡ true → Touched old net c
+  pub untouched : (c : Cell) → Contains front c → flag_of flags c ≡ false → Untouched old net c
+
+-- a cell is told to be touched: it is made of other things than before, or of a flagged one
+abbrev pub IsTold : Net → Net → List Bool → Cell → Bool → Type 0
+IsTold old net flags c true = ¬ (HasSameRule old net c) ⊎ (is_flagged flags (leaves (formula net c)) ≡ true)
+IsTold old net flags c false = HasSameRule old net c × (is_flagged flags (leaves (formula net c)) ≡ false)
+
+-- a touched cell is flagged, and put after the others
+abbrev pub IsNoted : Cell → Bool → (flags more : List Bool) → (touched longer : List Cell) → Type 0
+IsNoted c true flags more touched longer = (more ≡ slice_set flags (slot c) true) × (longer ≡ touched ++ c ∷ [])
+IsNoted c false flags more touched longer = (more ≡ flags) × (longer ≡ touched)

@@ -1,0 +1,12 @@
+//! Which cells two networks make of the same, and which are touched where the one came of the other: found without the
+//! value of any cell.
+#![tactic(auto)]
+
+mod finding;
+mod lists;
+mod reads;
+mod rule;
+mod services;
+
+pub use finding::{gone_cells, touched_cells};
+pub use rule::{has_cell, same_rule};

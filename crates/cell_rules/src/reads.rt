@@ -1,0 +1,96 @@
+//! Whether two networks have the same of what a cell reads beside other cells: curves, packets, links, and places.
+
+ghost use Rattle.std.specs.Prelude.{◌≡◌, IsTrue};
+ghost use Rattle.upp_curve.specs.Curves.{IsCurve};
+ghost use Rattle.net_cells.specs.CellFormulas.{links_along};
+ghost use Rattle.net_cells.specs.Numbered as at;
+ghost use Rattle.cell_rules.specs.Rules.{TellsSame, hop_queue};
+
+use fraction128::Frac;
+use net_cells::{hops, live_flow, queue_at, server, server_at};
+use net_model::Network;
+use queue_hops::packet;
+use upp_curve::{Curve, equal};
+use upp_normal::normal_form_is_unique;
+
+/// Whether two curves are one.
+pub(crate) fn same_curve(f: &Curve, g: &Curve) -> bool
+    ensures { TellsSame f.now g.now result }
+{
+    // What curves keep is in the contracts of these calls.
+    normal_form_is_unique();
+    let _first = f.pieces();
+    let _second = g.pieces();
+    equal(f, g)
+}
+
+/// Whether a flow's arrival curve is the same in both networks; it is live in both.
+pub(crate) fn same_arrival(old: &Network, new: &Network, flow: u32) -> bool
+    requires old { IsTrue (at.is_live old.now flow) }
+    requires new { IsTrue (at.is_live new.now flow) }
+    ensures { TellsSame (at.arrival old.now flow) (at.arrival new.now flow) result }
+{
+    match live_flow(old, flow) {
+        Some(f) => match live_flow(new, flow) {
+            Some(g) => same_curve(&f.arrival, &g.arrival),
+            None => unreachable!(),
+        },
+        None => unreachable!(),
+    }
+}
+
+/// Whether a hop is at the same queue of the same server.
+pub(crate) fn same_place(old: &Network, new: &Network, flow: u32, hop: u32) -> bool
+    ensures { TellsSame (hop_queue old.now flow hop) (hop_queue new.now flow hop) result }
+{
+    server_at(old, flow, hop) == server_at(new, flow, hop)
+        && queue_at(old, flow, hop) == queue_at(new, flow, hop)
+}
+
+/// Whether a flow's longest packet has as many bits.
+pub(crate) fn same_packet(old: &Network, new: &Network, flow: u32) -> bool
+    ensures { TellsSame (at.packet old.now flow) (at.packet new.now flow) result }
+{
+    packet(old, flow) == packet(new, flow)
+}
+
+// How long a packet that leaves a server is on the way; 0 past the last server.
+fn link_of(net: &Network, number: u32) -> Frac
+    ensures { result ≡ at.link net.now number }
+{
+    match server(net, number) {
+        Some(found) => found.link,
+        None => Frac::zero(),
+    }
+}
+
+// The link after a hop.
+fn link_at(net: &Network, flow: u32, hop: u32) -> Frac
+    ensures { result ≡ at.link net.now (at.server_at net.now flow hop) }
+{
+    link_of(net, server_at(net, flow, hop))
+}
+
+fn same_link(here: Frac, there: Frac) -> bool
+    ensures { TellsSame here there result }
+{
+    here == there
+}
+
+/// Whether the links along a flow's path are as many, and each as long.
+pub(crate) fn same_links(old: &Network, new: &Network, flow: u32) -> bool
+    ensures { TellsSame (links_along old.now flow) (links_along new.now flow) result }
+{
+    let count = hops(old, flow);
+    if count != hops(new, flow) {
+        return false;
+    }
+    for hop in 0..count {
+        let here = link_at(old, flow, hop);
+        let there = link_at(new, flow, hop);
+        if !same_link(here, there) {
+            return false;
+        }
+    }
+    true
+}

@@ -1,0 +1,244 @@
+-- How far the cells of a network are answered, where the touched ones are made anew in their order.
+use Rattle.std.proofs.Common.{◌≡◌, ℕ, ◌<◌, ◌≤◌, ◌+◌, List, [], ◌∷◌, ◌++◌, length, take, drop, refl, sym, ap, ◌∙◌, subst, inl, inr, arith, true, get_or, add-one, drop-cons, append_assoc, append-nil}
+use Rattle.std.specs.Prelude.{◌≢◌, Some, Ok, Err, IsTrue, Contains}
+use Rattle.std.proofs.lemmas.List.{get_or_default}
+use Rattle.upp_limits.specs.declared.op_kind.OpFault.{OpFault}
+use Rattle.upp_limits.specs.declared.op_kind.OpFault.TheVariants as operator
+use Rattle.net_model.specs.Networks.{Net}
+use Rattle.net_model.specs.Accepted.{IsAccepted}
+use Rattle.net_model.specs.Orders.{IsOrder}
+use Rattle.net_graph.proofs.OneOrders.{one_order}
+use Rattle.net_cells.specs.declared.cell.Cell.{Cell}
+use Rattle.net_cells.specs.declared.cell.Kind.TheVariants.{In}
+use Rattle.net_cells.specs.Cells.{has_cell}
+use Rattle.net_cells.specs.Order.{evaluation_order}
+use Rattle.net_cells.specs.CellFormulas.{formula}
+use Rattle.net_cells.specs.Meanings.{Meaning, CellTable}
+use Rattle.net_cells.specs.Equations.{MeetsBelow}
+use Rattle.net_cells.specs.FirstOver.{IsAnswered, AnswersAll, FirstOver}
+use Rattle.net_cells.proofs.Lists.{Has, Apart, contains_has, has_contains, has_either, has_right}
+use Rattle.net_cells.proofs.SameLeaves.{AgreeOn, answers_same}
+use Rattle.net_cells.proofs.Members.{in_order, apart_cells}
+use Rattle.net_cells.proofs.Precedes.{in_front, leaf_in_front}
+use Rattle.net_cells.proofs.Tables.{closed_front, front_meets_below}
+use Rattle.cell_table.specs.declared.fault.AnalysisFault.{AnalysisFault}
+use Rattle.cell_table.specs.Gives.{Gives}
+use Rattle.cell_table.proofs.GivesAnswers.{gives_ok, gives_over}
+use Rattle.cell_changes.specs.Changes.{Touched, Untouched, TouchedOf, no_more, passed, taken}
+use Rattle.cell_changes.specs.Laws.{AgreeAtUntouched}
+use Rattle.cell_changes.specs.Slots.{HasSlot}
+use Rattle.cell_changes.proofs.HasSlots.{slots_are_own}
+use Rattle.cell_changes.proofs.CarriedOver.{not_both, answered_on, rule_of}
+use Rattle.cell_store.specs.Edits.{AllAnswered, IsFirst, IsFirstTouched, RefusesFor, refusal_at, SameButAt}
+
+-- any cell, for a place past the last
+abbrev pub no_cell : Cell
+no_cell = record { kind = In; a = 0; b = 0 }
+
+abbrev pub cell_at : List Cell → ℕ → Cell
+cell_at cells i = get_or cells i no_cell
+
+-- ---- a front of the order
+-- what stands before an element that is not repeated is another one
+not_in_front : (front : List Cell) (c : Cell) (back : List Cell) → Apart (front ++ c ∷ back) → ¬ (Has front c)
+not_in_front [] c back a h = h
+not_in_front (x ∷ xs) c back a (inl e) = a.0 (has_right xs (c ∷ back) x (inl (sym e)))
+not_in_front (x ∷ xs) c back a (inr h) = not_in_front xs c back a.1 h
+
+-- one more cell: a table that has its value, and else is as before
+pub grown : (net : Net) (order : List ℕ) (at more : CellTable) (front : List Cell) (c : Cell) (back : List Cell)
+    (v : Meaning) → IsAccepted net → IsOrder net order → evaluation_order net order ≡ front ++ c ∷ back
+    → AnswersAll net at front
+    → Gives at (formula net c) (Ok v) → more c ≡ Some v → ((d : Cell) → d ≢ c → more d ≡ at d)
+    → AnswersAll net more (front ++ c ∷ [])
+grown net order at more front c back v a o is all gives put others d m =
+    elim (has_either front (c ∷ []) d (contains_has (front ++ c ∷ []) d m)) [ inl l ↦ old d l | inr r ↦ new d r ]
+  where
+    away : ¬ (Has front c)
+    away = not_in_front front c back (subst (λ (cs : List Cell). Apart cs) is (apart_cells net order o))
+
+    same : AgreeOn front at more
+    same e h = sym (others e (λ k. away (subst (λ (x : Cell). Has front x) k h)))
+
+    old : (e : Cell) → Has front e → IsAnswered net more e
+    old e h =
+        let was = all e (has_contains front e h) in record {
+          value = was.value;
+          is = sym (same e h) ∙ was.is;
+          answers = answers_same at more (formula net e) (Ok was.value)
+              (λ x k. same x (closed_front net order front c back e x a o is h k)) was.answers;
+        }
+
+    here : IsAnswered net more c
+    here = record {
+      value = v;
+      is = put;
+      answers = answers_same at more (formula net c) (Ok v)
+          (λ x k. same x (leaf_in_front net order front c back x a o is k)) (gives_ok at (formula net c) v gives);
+    }
+
+    new : (e : Cell) → Has (c ∷ []) e → IsAnswered net more e
+    new e (inl k) = subst (λ (x : Cell). IsAnswered net more x) k here
+    new e (inr k) = absurd k
+
+-- ---- touched cells
+-- every one of the touched cells is touched
+pub are_touched : (old new : Net) (cells touched : List Cell) → TouchedOf old new cells touched → (c : Cell) → Has touched c
+    → Touched old new c
+are_touched old new _ _ no_more c h = absurd h
+are_touched old new _ ts (passed d cells _ u p) c h = are_touched old new cells ts p c h
+are_touched old new _ _ (taken d cells ts t p) c (inl e) = subst (λ (x : Cell). Touched old new x) e t
+are_touched old new _ _ (taken d cells ts t p) c (inr h) = are_touched old new cells ts p c h
+
+-- so a table that is the same but at these is the same at the untouched ones
+pub same_untouched : (old new : Net) (cells touched : List Cell) (at other : CellTable) → TouchedOf old new cells touched
+    → SameButAt touched at other → AgreeAtUntouched old new at other
+same_untouched old new cells touched at other p same c u =
+    same c (λ h. not_both old new c (are_touched old new cells touched p c (contains_has touched c h)) u)
+
+-- some cells of the order are answered, and the other touched cells are the last ones
+pub record Reached (old net : Net) (order : List ℕ) (at : CellTable) (left : List Cell) : Type 0 where
+  pub front : List Cell
+  pub back : List Cell
+  pub split : evaluation_order net order ≡ front ++ back
+  pub are : TouchedOf old net back left
+  pub answers : AnswersAll net at front
+
+-- the same, where the next cell is the first of these
+pub record Next (old net : Net) (order : List ℕ) (at : CellTable) (c : Cell) (left : List Cell) : Type 0 where
+  pub front : List Cell
+  pub back : List Cell
+  pub split : evaluation_order net order ≡ front ++ c ∷ back
+  pub touched : Touched old net c
+  pub are : TouchedOf old net back left
+  pub answers : AnswersAll net at front
+
+module _ (old net : Net) (order : List ℕ) (before at : CellTable) (all : AllAnswered old before)
+    (same : AgreeAtUntouched old net before at) where
+  -- one untouched cell more
+  past : (front : List Cell) (c : Cell) → Untouched old net c → AnswersAll net at front → AnswersAll net at (front ++ c ∷ [])
+  past front c u h d m =
+      elim (has_either front (c ∷ []) d (contains_has (front ++ c ∷ []) d m)) [
+        | inl l ↦ h d (has_contains front d l)
+        | inr r ↦ here d r
+      ]
+    where
+      here : (e : Cell) → Has (c ∷ []) e → IsAnswered net at e
+      here e (inl k) =
+          subst (λ (x : Cell). IsAnswered net at x) k
+          (answered_on old net before at c same u (all c (rule_of old net c u).before))
+      here e (inr k) = absurd k
+
+  onward : (front : List Cell) (c : Cell) (cells : List Cell) → evaluation_order net order ≡ front ++ c ∷ cells
+      → evaluation_order net order ≡ (front ++ c ∷ []) ++ cells
+  onward front c cells split = split ∙ sym (append_assoc front (c ∷ []) cells)
+
+  to_next : (front back : List Cell) (c : Cell) (left : List Cell) (ts : List Cell) → ts ≡ c ∷ left
+      → evaluation_order net order ≡ front ++ back → TouchedOf old net back ts → AnswersAll net at front
+      → Next old net order at c left
+  to_next front _ c left _ e split no_more h = absurd (let bad : ⊥ = cc in bad)
+  to_next front _ c left ts e split (passed d cells _ u p) h =
+      to_next (front ++ d ∷ []) cells c left ts e (onward front d cells split) p (past front d u h)
+  to_next front _ c left _ e split (taken d cells ts t p) h =
+      let head : d ≡ c = cc in
+      let rest : ts ≡ left = cc in
+      record {
+        front = front;
+        back = cells;
+        split = split ∙ ap (λ (x : Cell). front ++ x ∷ cells) head;
+        touched = subst (λ (x : Cell). Touched old net x) head t;
+        are = subst (λ (xs : List Cell). TouchedOf old net cells xs) rest p;
+        answers = h;
+      }
+
+  to_end : (front back : List Cell) (ts : List Cell) → ts ≡ [] → evaluation_order net order ≡ front ++ back
+      → TouchedOf old net back ts → AnswersAll net at front → AnswersAll net at (evaluation_order net order)
+  to_end front _ _ e split no_more h =
+      subst (λ (xs : List Cell). AnswersAll net at xs) (sym (split ∙ append-nil front)) h
+  to_end front _ ts e split (passed d cells _ u p) h =
+      to_end (front ++ d ∷ []) cells ts e (onward front d cells split) p (past front d u h)
+  to_end front _ _ e split (taken d cells ts t p) h = absurd (let bad : ⊥ = cc in bad)
+
+-- ---- at a place of the touched cells
+pub next_at : (old net : Net) (order : List ℕ) (before at : CellTable) (touched : List Cell) (i : ℕ) → AllAnswered old before
+    → AgreeAtUntouched old net before at → i < length touched → Reached old net order at (drop i touched)
+    → Next old net order at (cell_at touched i) (drop (i + 1) touched)
+next_at old net order before at touched i all same h r =
+    let cons : drop i touched ≡ cell_at touched i ∷ drop (i + 1) touched =
+    drop-cons touched i no_cell h ∙ ap (λ (n : ℕ). cell_at touched i ∷ drop n touched) (sym (add-one i)) in
+    to_next old net order before at all same r.front r.back (cell_at touched i) (drop (i + 1) touched) (drop i touched) cons
+    r.split r.are r.answers
+
+-- the next cell made
+pub made_at : (old net : Net) (order : List ℕ) (at more : CellTable) (c : Cell) (left : List Cell) (v : Meaning)
+    → IsAccepted net → IsOrder net order → Next old net order at c left → Gives at (formula net c) (Ok v)
+    → more c ≡ Some v → ((d : Cell) → d ≢ c → more d ≡ at d) → Reached old net order more left
+made_at old net order at more c left v a o n gives put others = record {
+  front = n.front ++ c ∷ [];
+  back = n.back;
+  split = n.split ∙ sym (append_assoc n.front (c ∷ []) n.back);
+  are = n.are;
+  answers = grown net order at more n.front c n.back v a o n.split n.answers gives put others;
+}
+
+pub all_answered : (old net : Net) (order : List ℕ) (before at : CellTable) (left : List Cell) → IsAccepted net
+    → IsOrder net order → AllAnswered old before → AgreeAtUntouched old net before at → left ≡ []
+    → Reached old net order at left → AllAnswered net at
+all_answered old net order before at left a o all same none r c h =
+    to_end old net order before at all same r.front r.back left none r.split r.are r.answers c
+    (has_contains (evaluation_order net order) c (in_order net order c a o h))
+
+-- a cell that is refused
+first_at : (old net : Net) (order : List ℕ) (at : CellTable) (c : Cell) (left : List Cell) (fault : OpFault)
+    → fault ≢ operator.NoMemory → IsOrder net order → Next old net order at c left
+    → Gives at (formula net c) (Err fault) → IsFirst net c fault
+first_at old net order at c left fault limit o n gives other p =
+    subst (λ (xs : List ℕ). FirstOver net xs c fault) (one_order net order other o p) (record {
+      before = n.front;
+      after = n.back;
+      is = n.split;
+      table = at;
+      answered = n.answers;
+      over = gives_over at (formula net c) fault limit gives;
+      limit = limit;
+    })
+
+why : (old net : Net) (order : List ℕ) (at : CellTable) (touched : List Cell) (c : Cell) (left : List Cell)
+    (fault : OpFault) → Contains touched c → IsOrder net order → Next old net order at c left
+    → Gives at (formula net c) (Err fault) → RefusesFor (IsFirstTouched net touched) (refusal_at c fault)
+why old net order at touched c left operator.TooMany among o n gives = record {
+  among = among;
+  first = first_at old net order at c left operator.TooMany (λ e. cc) o n gives;
+}
+why old net order at touched c left operator.TooWide among o n gives = record {
+  among = among;
+  first = first_at old net order at c left operator.TooWide (λ e. cc) o n gives;
+}
+why old net order at touched c left operator.NoMemory among o n gives = tt
+
+pub refused : (old net : Net) (order : List ℕ) (at : CellTable) (touched : List Cell) (i : ℕ) (left : List Cell)
+    (fault : OpFault) (fault_is : AnalysisFault) → fault_is ≡ refusal_at (cell_at touched i) fault → i < length touched
+    → IsOrder net order → Next old net order at (cell_at touched i) left
+    → Gives at (formula net (cell_at touched i)) (Err fault) → RefusesFor (IsFirstTouched net touched) fault_is
+refused old net order at touched i left fault fault_is e h o n gives =
+    subst (λ (w : AnalysisFault). RefusesFor (IsFirstTouched net touched) w) (sym e)
+    (why old net order at touched (cell_at touched i) left fault
+    (i, h, get_or_default touched i (cell_at touched i) no_cell h) o n gives)
+
+-- ---- what the next cell needs
+pub next_is_cell : (old net : Net) (order : List ℕ) (at : CellTable) (c : Cell) (left : List Cell)
+    → Next old net order at c left → has_cell net c ≡ true
+next_is_cell old net order at c left n = in_front net order n.front c n.back n.split
+
+pub next_below : (old net : Net) (order : List ℕ) (at : CellTable) (c : Cell) (left : List Cell) → IsAccepted net
+    → IsOrder net order → Next old net order at c left → MeetsBelow net at c
+next_below old net order at c left a o n = front_meets_below net order at a o n.front n.back c n.split n.answers
+
+pub next_has_slot : (old net : Net) (order : List ℕ) (at : CellTable) (c : Cell) (left : List Cell) → IsAccepted net
+    → Next old net order at c left → HasSlot c
+next_has_slot old net order at c left a n = slots_are_own.has net c a (next_is_cell old net order at c left n)
+
+pub still_others : (touched : List Cell) (i : ℕ) (before at more : CellTable) → i < length touched
+    → SameButAt touched before at → ((d : Cell) → d ≢ cell_at touched i → more d ≡ at d) → SameButAt touched before more
+still_others touched i before at more h same others c out =
+    others c (λ e. out (i, h, get_or_default touched i c no_cell h ∙ sym e)) ∙ same c out

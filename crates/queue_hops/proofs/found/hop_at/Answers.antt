@@ -1,0 +1,12 @@
+use Rattle.std.proofs.Common.{◌<◌, sym, ◌∙◌, subst}
+use Rattle.queue_hops.proofs.Choosing.{hop_here, not_here}
+use Rattle.queue_hops.proofs.found.hop_at.Goals as goal
+
+pub loop-hop-preserved : goal.loop-hop-preserved
+loop-hop-preserved c =
+    not_here c.args.net.now c.args.server c.args.flow c.loop-hop.hop (λ e. c.if-server_at-server.false (c.server_at.ensures ∙ e)) c.loop-hop.invariant
+
+pub returns-then-server_at-server : goal.returns-then-server_at-server
+returns-then-server_at-server c =
+    hop_here c.args.net.now c.args.server c.args.flow c.loop-hop.hop c.flows-kept.ensures.kept
+    (subst (λ n. c.loop-hop.hop < n) c.hops-hop-end.ensures.hops c.loop-hop-test.true) (sym c.server_at.ensures ∙ c.if-server_at-server.true) c.loop-hop.invariant
