@@ -1,0 +1,85 @@
+-- What is found by a call or a kind of curve whose answer is kept.
+use Rattle.std.specs.Prelude.{◌≡◌, ◌≢◌, ◌⊎◌, ◌↔◌, Result, Ok, Err, IfOk, IfErr}
+use Rattle.std.proofs.Common.{refl, sym, ap, subst, ◌∙◌, inl, inr}
+use Rattle.rational.specs.Rational.{ℚ, ◌≤ℚ◌}
+use Rattle.min_plus.specs.Functions.{zero_q, IsFinite, IsNonnegative}
+use Rattle.min_plus.specs.Convolution.{IsSubadditiveClosure}
+use Rattle.upp_curve.specs.Curve.{SpecCurve, value_at}
+use Rattle.upp_curve.specs.Curves.{IsCurve}
+use Rattle.upp_limits.specs.declared.op_kind.OpKind.{OpKind}
+use Rattle.upp_limits.specs.declared.op_kind.OpFault.{OpFault}
+use Rattle.upp_limits.specs.declared.op_kind.OpFault.TheVariants as calls
+use Rattle.upp_limits.specs.declared.own_limits.OverLimit.TheVariants as limits
+use Rattle.upp_limits.specs.Outcome.{IsCauseOf}
+use Rattle.curve_call.specs.Answers.{IsMadeBy}
+use Rattle.curve_call.specs.Calls.{Applies}
+use Rattle.curve_library.specs.declared.fault.CurveFault.{CurveFault}
+use Rattle.curve_library.specs.declared.fault.CurveFault.TheVariants as kinds
+use Rattle.curve_library.specs.Causes.{KeepsCauses}
+use Rattle.subadd_closure.specs.Folds.{CloseAnswer}
+use Rattle.curve_script.specs.declared.fault.LangKind.{LangKind}
+use Rattle.curve_script.specs.declared.fault.LangKind.TheVariants.{NoMemory}
+use Rattle.curve_lang.specs.Finding.{Found, Gives, CallFinds, CurveFinds, KindFinds, BucketFinds, CloseFinds}
+use Rattle.curve_lang.specs.Sharing.{KindKept, CallKept, told_kind, told_call}
+
+-- ---- calls
+-- a refused call finds nothing, for the limit that it is over
+pub refused : {A : Type 0} (op : OpKind) (f g : SpecCurve) (Q : A → Type 0) (fault : OpFault) → IsCauseOf op f g fault
+    → CallFinds op f g Q (Err (told_call fault))
+refused op f g Q calls.TooMany h = h
+refused op f g Q calls.TooWide h = h
+refused op f g Q calls.NoMemory h = h
+
+-- what is kept of a call
+pub call_found : (op : OpKind) (f g : SpecCurve) (made : Result SpecCurve OpFault) (r : Found)
+    → Applies op f g made → CallKept made r → CurveFinds op f g r
+call_found op f g (Ok c) r a (inl e) = subst (CurveFinds op f g) (sym e) (a.within, a.made)
+call_found op f g (Ok c) r a (inr e) = subst (CurveFinds op f g) (sym e) a.within
+call_found op f g (Err fault) r a e = subst (CurveFinds op f g) (sym e) (refused op f g (IsMadeBy op f g) fault a)
+
+-- and of a closure
+close_refused : (f : SpecCurve) (fault : OpFault) → CloseAnswer f (Err fault) → CloseFinds f (Err (told_call fault))
+close_refused f calls.TooMany h = h
+close_refused f calls.TooWide h = h
+close_refused f calls.NoMemory h = inl h
+
+pub close_found : (f : SpecCurve) (made : Result SpecCurve OpFault) (r : Found) → CloseAnswer f made → IfOk made IsCurve
+    → IfOk made (λ h. (t : ℚ) → zero_q ≤ℚ t → IsSubadditiveClosure (value_at f) t (value_at h t)) → CallKept made r → CloseFinds f r
+close_found f (Ok h) r a kept values (inl e) = subst (CloseFinds f) (sym e) (a, kept, values)
+close_found f (Ok h) r a kept values (inr e) = subst (CloseFinds f) (sym e) (inr (h, a))
+close_found f (Err fault) r a kept values e = subst (CloseFinds f) (sym e) (close_refused f fault a)
+
+-- ---- kinds
+-- the two causes of a kind are its refusal
+pub kind_found : (N Z Refused : Type 0) (c : SpecCurve) (made : Result SpecCurve CurveFault) (r : Found)
+    → (Refused → N ⊎ Z) → (N ⊎ Z → Refused) → KeepsCauses N Z c made → KindKept made r → KindFinds Refused c r
+kind_found N Z R c (Ok d) r out back h (inl e) =
+    subst (KindFinds R c) (sym e) ((λ x. elim (out x) [ inl n ↦ h.0.nonneg n | inr z ↦ h.0.period z ]), h.1.1, h.1.0)
+kind_found N Z R c (Ok d) r out back h (inr e) =
+    subst (KindFinds R c) (sym e) ((λ x. elim (out x) [ inl n ↦ h.0.nonneg n | inr z ↦ h.0.period z ]), h.1.1)
+kind_found N Z R c (Err kinds.Negative) r out back h e = subst (KindFinds R c) (sym e) (back (inl h))
+kind_found N Z R c (Err kinds.ZeroPeriod) r out back h e = subst (KindFinds R c) (sym e) (back (inr h.1))
+kind_found N Z R c (Err kinds.NotRising) r out back h e = absurd h
+kind_found N Z R c (Err kinds.NotContinuous) r out back h e = absurd h
+kind_found N Z R c (Err kinds.NotZeroAtStart) r out back h e = absurd h
+kind_found N Z R c (Err (kinds.Op limits.TooMany)) r out back h e =
+    subst (KindFinds R c) (sym e) ((λ x. elim (out x) [ inl n ↦ h.0.nonneg n | inr z ↦ h.0.period z ]), h.1)
+kind_found N Z R c (Err (kinds.Op limits.TooWide)) r out back h e =
+    subst (KindFinds R c) (sym e) ((λ x. elim (out x) [ inl n ↦ h.0.nonneg n | inr z ↦ h.0.period z ]), h.1)
+kind_found N Z R c (Err kinds.NoMemory) r out back h e =
+    subst (KindFinds R c) (sym e) ((λ x. elim (out x) [ inl n ↦ h.0.nonneg n | inr z ↦ h.0.period z ]), h.1)
+
+-- a token bucket
+pub bucket_found : (N : Type 0) (c : SpecCurve) (made : Result SpecCurve CurveFault) (r : Found) → IfOk made (λ d. d ≡ c)
+    → ((made ≡ Err kinds.Negative) ↔ N) → IfErr made (λ e. (e ≡ kinds.Negative) ⊎ (e ≡ kinds.NoMemory)) → KindKept made r → BucketFinds N c r
+bucket_found N c (Ok d) r is negative faults (inl e) = inr ((λ n. absurd (cc (negative.1 n))), inl (e ∙ ap Ok is))
+bucket_found N c (Ok d) r is negative faults (inr e) = inr ((λ n. absurd (cc (negative.1 n))), inr e)
+bucket_found N c (Err fault) r is negative (inl k) e =
+    inl (negative.0 (ap Err k), e ∙ ap (λ x. Err (told_kind x)) k)
+bucket_found N c (Err fault) r is negative (inr k) e =
+    inr ((λ n. absurd (cc (negative.1 n, k))), inr (e ∙ ap (λ x. Err (told_kind x)) k))
+
+-- the zero curve is a bucket that is not refused
+pub zero_kept : (N : Type 0) (c : SpecCurve) (r : Found) → ¬ N → BucketFinds N c r → Gives c r
+zero_kept N c r none (inl h) = absurd (none h.0)
+zero_kept N c r none (inr h) = h.1

@@ -1,0 +1,12 @@
+pub mod Findings
+pub mod Meant
+pub mod Normal
+pub mod ScriptMeant
+pub mod Kept
+pub mod Below
+pub mod ValueTimes
+pub mod OneFound
+pub mod Lines
+pub mod Scripting
+pub mod Parts
+pub mod Packets

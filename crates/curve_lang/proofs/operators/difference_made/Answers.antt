@@ -1,0 +1,21 @@
+use Rattle.std.proofs.Common.{refl, sym, subst, inl, inr, true≢false}
+use Rattle.rational.specs.Rational.{◌≤ℚ◌, ◌<ℚ◌}
+use Rattle.rational.proofs.Compared.{not_less_out}
+use Rattle.rational.proofs.Laws.{not_le_of_lt}
+use Rattle.upp_limits.specs.declared.op_kind.OpKind.TheVariants as calls
+use Rattle.rational.specs.declared.Extended.TheVariants.{Fin}
+use Rattle.curve_call.proofs.Applied.{applied_seen}
+use Rattle.curve_lang.specs.Views.{found}
+use Rattle.curve_lang.proofs.Kept.{call_found}
+use Rattle.curve_lang.proofs.operators.difference_made.Goals as goal
+
+pub pos_diff-requires : goal.pos_diff-requires
+pos_diff-requires g c = c.is_finite.ensures.0 c.if-not-is_finite.false
+
+pub returns : goal.returns
+returns g c = inl (
+  c.is_finite.ensures.0 c.if-not-is_finite.false,
+  call_found (calls.PosDiff) c.args.f.now c.args.g.now c.seen.result (found c.kept_call.result)
+      (applied_seen (calls.PosDiff) c.args.f.now c.args.g.now c.pos_diff.result c.seen.result c.seen.ensures.same c.pos_diff.ensures.value c.pos_diff.ensures.limits c.seen.ensures.kept)
+      c.kept_call.ensures,
+)

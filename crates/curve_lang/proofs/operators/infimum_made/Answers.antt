@@ -1,0 +1,15 @@
+use Rattle.std.proofs.Common.{refl, sym, subst, inl, inr, true≢false}
+use Rattle.rational.specs.Rational.{◌≤ℚ◌, ◌<ℚ◌}
+use Rattle.rational.proofs.Compared.{not_less_out}
+use Rattle.rational.proofs.Laws.{not_le_of_lt}
+use Rattle.upp_limits.specs.declared.op_kind.OpKind.TheVariants as calls
+use Rattle.rational.specs.declared.Extended.TheVariants.{Fin}
+use Rattle.curve_call.proofs.Applied.{applied_seen}
+use Rattle.curve_lang.specs.Views.{found}
+use Rattle.curve_lang.proofs.Kept.{call_found}
+use Rattle.curve_lang.proofs.operators.infimum_made.Goals as goal
+
+pub returns : goal.returns
+returns g c = call_found (calls.RunInf) c.args.f.now c.args.f.now c.seen.result (found c.kept_call.result)
+    (applied_seen (calls.RunInf) c.args.f.now c.args.f.now c.run_inf.result c.seen.result c.seen.ensures.same c.run_inf.ensures.value c.run_inf.ensures.limits c.seen.ensures.kept)
+    c.kept_call.ensures

@@ -1,0 +1,27 @@
+use Rattle.std.proofs.Common.{refl, sym, subst, inl, inr, true≢false}
+use Rattle.rational.specs.Rational.{◌≤ℚ◌, ◌<ℚ◌}
+use Rattle.rational.proofs.Compared.{not_less_out}
+use Rattle.rational.proofs.Laws.{not_le_of_lt}
+use Rattle.upp_limits.specs.declared.op_kind.OpKind.TheVariants as calls
+use Rattle.rational.specs.declared.Extended.TheVariants.{Fin}
+use Rattle.curve_call.proofs.Applied.{applied_seen}
+use Rattle.curve_lang.specs.Views.{found}
+use Rattle.curve_lang.proofs.Kept.{call_found}
+use Rattle.curve_lang.proofs.operators.less_made.Goals as goal
+
+pub returns-then-not-is_finite : goal.returns-then-not-is_finite
+returns-then-not-is_finite g c = inr ((λ h. true≢false (sym (c.if-not-is_finite.ensures.1 h.0))), refl)
+
+pub returns-then-is_less : goal.returns-then-is_less
+returns-then-is_less g c = inr ((λ h. not_le_of_lt (subst (λ z. c.args.level <ℚ z) c.zero.ensures (c.is_less.ensures.less.0 c.if-is_less.true)) h.1), refl)
+
+pub pos_minus-requires : goal.pos_minus-requires
+pos_minus-requires g c = c.is_finite.ensures.0 c.if-not-is_finite.false
+
+pub returns : goal.returns
+returns g c = inl (
+  (c.is_finite.ensures.0 c.if-not-is_finite.false, subst (λ z. z ≤ℚ c.args.level) c.zero.ensures (not_less_out c.is_less.result c.args.level c.zero.result c.is_less.ensures.less c.if-is_less.false)),
+  call_found (calls.PosMinus c.args.level) c.args.f.now c.args.f.now c.seen.result (found c.kept_call.result)
+      (applied_seen (calls.PosMinus c.args.level) c.args.f.now c.args.f.now c.pos_minus.result c.seen.result c.seen.ensures.same c.pos_minus.ensures.value c.pos_minus.ensures.limits c.seen.ensures.kept)
+      c.kept_call.ensures,
+)

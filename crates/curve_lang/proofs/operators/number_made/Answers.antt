@@ -1,0 +1,10 @@
+use Rattle.std.proofs.Common.{sym, subst}
+use Rattle.curve_lang.specs.Found.{NumberMade}
+use Rattle.curve_lang.specs.Views.{found}
+use Rattle.curve_lang.proofs.operators.number_made.Goals as goal
+
+pub returns-in-PosMinus : goal.returns-in-PosMinus
+returns-in-PosMinus g c = subst (λ k. NumberMade k c.args.f.now c.args.x (found c.less_made.result)) (sym c.in-PosMinus.is) c.less_made.ensures
+
+pub returns-in-Scale : goal.returns-in-Scale
+returns-in-Scale g c = subst (λ k. NumberMade k c.args.f.now c.args.x (found c.multiple_made.result)) (sym c.in-Scale.is) c.multiple_made.ensures

@@ -1,0 +1,21 @@
+use Rattle.std.proofs.Common.{refl, sym, subst, ◌∙◌}
+use Rattle.std.specs.Prelude.{IfOk, Ok, IsTrue, ◌↔◌}
+use Rattle.rational.specs.Rational.{ℚ, ◌≤ℚ◌}
+use Rattle.min_plus.specs.Functions.{zero_q}
+use Rattle.min_plus.specs.Pointwise.{IsMinimum}
+use Rattle.upp_curve.specs.Curve.{SpecCurve, value_at, HasSameValues}
+use Rattle.upp_limits.specs.Outcome.{KeepsLimits}
+use Rattle.upp_limits.specs.declared.op_kind.OpKind.TheVariants as calls
+use Rattle.curve_lang.proofs.Below.{lesser_is}
+use Rattle.curve_lang.proofs.questions.below_told.Goals as goal
+
+pub returns-in-Ok : goal.returns-in-Ok
+returns-in-Ok g c =
+    let f = c.args.f.now in
+    let h = c.args.g.now in
+    let k = c.in-Ok.lesser in
+    let least = subst (λ x. IfOk x (λ (d : SpecCurve). (t : ℚ) → zero_q ≤ℚ t → IsMinimum (value_at f) (value_at h) t (value_at d t))) c.in-Ok.is c.min.ensures.value in
+    let both = lesser_is f h k least in (
+      subst (λ x. KeepsLimits calls.Min f h x) c.in-Ok.is c.min.ensures.limits,
+      (c.equal.result, (λ e. both.0 (c.equal.ensures.0 e), λ below. c.equal.ensures.1 (both.1 below)), refl),
+    )

@@ -1,0 +1,12 @@
+use Rattle.std.proofs.Common.{refl, sym, ap, subst, map}
+use Rattle.curve_script.specs.Views.{expression_view}
+use Rattle.curve_lang.specs.Finding.{goes_on, stops}
+use Rattle.curve_lang.specs.Found.{Finds, TimeFinds, TwoFinds}
+use Rattle.curve_lang.specs.After.{AskedAfter}
+use Rattle.curve_lang.specs.Views.{let_view, found, told}
+use Rattle.curve_lang.proofs.script.asked_after.Goals as goal
+
+pub returns-in-Ok : goal.returns-in-Ok
+returns-in-Ok g c =
+    subst (λ y. AskedAfter c.args.question c.args.f.now (found y) (told c.two_told.result)) (sym c.in-Ok.is)
+    (subst (λ h. TwoFinds c.args.question c.args.f.now h (told c.two_told.result)) c.deref.ensures c.two_told.ensures)

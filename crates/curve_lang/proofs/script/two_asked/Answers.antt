@@ -1,0 +1,17 @@
+use Rattle.std.proofs.Common.{refl, sym, ap, subst, map}
+use Rattle.curve_script.specs.Views.{expression_view}
+use Rattle.curve_lang.specs.Finding.{goes_on, stops}
+use Rattle.curve_lang.specs.Found.{Finds, TimeFinds, TwoFinds}
+use Rattle.curve_lang.specs.After.{AskedAfter}
+use Rattle.curve_lang.specs.Views.{let_view, found, told}
+use Rattle.curve_lang.proofs.Parts.{asked_then}
+use Rattle.curve_lang.proofs.script.two_asked.Goals as goal
+
+pub returns-in-Ok : goal.returns-in-Ok
+returns-in-Ok g c =
+    goes_on c.in-Ok.f.value (subst (λ x. Finds (map let_view c.args.lets.now) (expression_view c.args.a.now) (found x)) c.in-Ok.is c.curve_of.ensures)
+    (asked_then (Finds (map let_view c.args.lets.now) (expression_view c.args.b.now)) c.args.question c.in-Ok.f.value (found c.curve_of-part.result) (told c.asked_after.result)
+    c.curve_of-part.ensures (subst (λ f. AskedAfter c.args.question f (found c.curve_of-part.result) (told c.asked_after.result)) c.deref.ensures c.asked_after.ensures))
+
+pub returns-in-Err : goal.returns-in-Err
+returns-in-Err g c = stops c.in-Err.kind (subst (λ x. Finds (map let_view c.args.lets.now) (expression_view c.args.a.now) (found x)) c.in-Err.is c.curve_of.ensures) refl

@@ -1,0 +1,12 @@
+pub mod Meaning
+pub mod Answers
+pub mod Finding
+pub mod Found
+pub mod After
+pub mod Forms
+pub mod Sharing
+pub mod Scripts
+pub mod Texts
+pub mod Times
+pub mod Views
+pub mod Laws

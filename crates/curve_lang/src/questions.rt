@@ -1,0 +1,131 @@
+//! Answers of questions about curves.
+
+ghost use Rattle.std.specs.Prelude.{◌≡◌, Ok};
+ghost use Rattle.curve_script.specs.declared.keyword.TwoAsked.TheVariants as asked;
+ghost use Rattle.curve_lang.specs.Answers.{one_answer};
+ghost use Rattle.curve_lang.specs.Finding.{Guarded};
+ghost use Rattle.curve_lang.specs.Found.{TwoFinds, TimeFinds};
+ghost use Rattle.curve_lang.specs.Views.{answer_view, told};
+
+use crate::answer::{Answer, Word};
+use crate::sharing::told_call;
+use crate::values::value_found;
+use curve_deviation::{horizontal, vertical};
+use curve_pointwise::min;
+use curve_script::{LangKind, OneAsked, TwoAsked};
+use fraction128::{Frac, is_less};
+use std::alloc::Global;
+use std::rc::Rc;
+use std::sync::ledger::Ledger;
+use steps::Steps;
+use upp_curve::{Curve, equal};
+
+/// The answer of a question about the value at a time.
+pub(crate) fn value_told(f: &Curve, t: Frac) -> Result<Answer, LangKind>
+    ensures { TimeFinds f.now t (told result) }
+{
+    if is_less(t, Frac::zero()) {
+        return Err(LangKind::C8);
+    }
+    match value_found(f, t) {
+        Ok(value) => Ok(Answer::Number {
+            word: Word::Value,
+            value,
+        }),
+        Err(kind) => Err(kind),
+    }
+}
+
+/// The answer of a question about one curve.
+pub(crate) fn one_told(question: OneAsked, f: Rc<Curve>) -> Answer
+    ensures { answer_view result ≡ one_answer question f.value }
+{
+    match question {
+        OneAsked::Rate => Answer::Number {
+            word: Word::Rate,
+            value: f.rate().unwrap(),
+        },
+        OneAsked::Show => Answer::Shown(f),
+    }
+}
+
+fn delay_told<L: Ledger>(f: &Curve, g: &Curve, steps: &mut Steps<L>) -> Result<Answer, LangKind>
+    ensures { TwoFinds asked.Delay f.now g.now (told result) }
+{
+    if !g.is_finite() {
+        return Err(LangKind::C8);
+    }
+    if !f.is_rising() {
+        return Err(LangKind::C8);
+    }
+    if !g.is_rising() {
+        return Err(LangKind::C8);
+    }
+    match horizontal(f, g, steps) {
+        Ok(value) => Ok(Answer::Number {
+            word: Word::Delay,
+            value,
+        }),
+        Err(fault) => Err(told_call(fault)),
+    }
+}
+
+fn backlog_told<L: Ledger>(f: &Curve, g: &Curve, steps: &mut Steps<L>) -> Result<Answer, LangKind>
+    ensures { TwoFinds asked.Backlog f.now g.now (told result) }
+{
+    if !g.is_finite() {
+        return Err(LangKind::C8);
+    }
+    match vertical(f, g, steps) {
+        Ok(value) => Ok(Answer::Number {
+            word: Word::Backlog,
+            value,
+        }),
+        Err(fault) => Err(told_call(fault)),
+    }
+}
+
+fn equal_told(f: &Curve, g: &Curve) -> Result<Answer, LangKind>
+    ensures { TwoFinds asked.Equal f.now g.now (told result) }
+{
+    Ok(Answer::Truth {
+        word: Word::Equal,
+        holds: equal(f, g),
+    })
+}
+
+// A curve is nowhere above another exactly where it is the lesser of the two everywhere.
+fn below_told<L: Ledger>(
+    alloc: Global,
+    f: &Curve,
+    g: &Curve,
+    steps: &mut Steps<L>,
+) -> Result<Answer, LangKind>
+    ensures { TwoFinds asked.Below f.now g.now (told result) }
+{
+    match min(alloc, f, g, steps) {
+        Ok(lesser) => Ok(Answer::Truth {
+            word: Word::Below,
+            holds: equal(&lesser, f),
+        }),
+        Err(fault) => Err(told_call(fault)),
+    }
+}
+
+/// The answer of a question about two curves.
+pub(crate) fn two_told<L: Ledger>(
+    alloc: Global,
+    question: TwoAsked,
+    f: &Curve,
+    g: &Curve,
+    steps: &mut Steps<L>,
+) -> Result<Answer, LangKind>
+    ensures { TwoFinds question f.now g.now (told result) }
+{
+    match question {
+        TwoAsked::Delay => delay_told(f, g, steps),
+        TwoAsked::Backlog => backlog_told(f, g, steps),
+        TwoAsked::Equal => equal_told(f, g),
+        TwoAsked::Below => below_told(alloc, f, g, steps),
+    }
+}

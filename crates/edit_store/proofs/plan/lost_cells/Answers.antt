@@ -1,0 +1,9 @@
+use Rattle.std.proofs.Common.{◌∙◌, ap}
+use Rattle.cell_rules.specs.Finding.{gone_of}
+use Rattle.edit_store.proofs.Steps.{lost}
+use Rattle.edit_store.proofs.plan.lost_cells.Goals as goal
+
+pub returns : goal.returns
+returns c =
+    lost c.args.old.now c.args.net.now c.args.order.now c.in_ok-gone.gone.items c.servers-kept.ensures.kept c.requires
+    (c.in_ok-gone.ensures ∙ ap (gone_of c.args.net.now) (c.deref.ensures.value ∙ c.in_ok-all.ensures))

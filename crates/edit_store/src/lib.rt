@@ -1,0 +1,8 @@
+//! Networks that are edited and go back, with the values of their cells.
+#![tactic(auto)]
+
+mod faults;
+mod plan;
+mod store;
+
+pub use store::Store;

@@ -1,0 +1,87 @@
+//! What an edit makes of a network, and which cells it touches there.
+
+ghost use Rattle.std.specs.Prelude.{◌≢◌, ◌≤◌, length, IfOk, IfErr};
+ghost use Rattle.net_model.specs.declared.edit.Edit.TheVariants.{Undo};
+ghost use Rattle.net_model.specs.Orders.{IsOrder};
+ghost use Rattle.edit_store.specs.Stored.{AreTouched, AreLost};
+ghost use Rattle.edit_store.specs.Applied.{Gives, IsPlanned, IsUnplanned};
+
+use crate::faults::graph_fault;
+use cell_rules::{gone_cells, touched_cells};
+use net_cells::{Cell, cells};
+use net_edits::{EditFault, edited_network};
+use net_graph::order;
+use net_model::{Edit, Network};
+use std::alloc::{AllocError, Global};
+
+/// An edited network, and the cells that the edit touches.
+#[derive(Drop)]
+pub(crate) struct Planned {
+    pub net: Network,
+    pub touched: Vec<Cell>,
+}
+
+/// The cells of a network that another one lacks.
+pub(crate) fn lost_cells(
+    alloc: Global,
+    old: &Network,
+    order: &[u32],
+    net: &Network,
+) -> Result<Vec<Cell>, AllocError>
+    requires { IsOrder old.now order.now }
+    ensures { IfOk result (λ gone. AreLost old.now net.now gone.items) }
+{
+    let _kept = old.servers();
+    let all = cells(alloc, old, order)?;
+    let gone = gone_cells(alloc, net, &all)?;
+    Ok(gone)
+}
+
+// The touched cells of a network by the order of its servers.
+fn touched_by(
+    alloc: Global,
+    old: &Network,
+    net: &Network,
+    order: &[u32],
+) -> Result<Vec<Cell>, AllocError>
+    requires { IsOrder net.now order.now }
+    ensures touched { IfOk result (λ touched. AreTouched old.now net.now touched.items) }
+    ensures few { IfOk result (λ touched. length touched.items ≤ 36352) }
+{
+    let all = cells(alloc, net, order)?;
+    let touched = touched_cells(alloc, old, net, &all)?;
+    Ok(touched)
+}
+
+// The touched cells of a network that an edit gives; refused where it has a cycle.
+fn ordered_plan(
+    alloc: Global,
+    present: &Network,
+    edit: &Edit,
+    net: Network,
+) -> Result<Planned, EditFault>
+    requires { Gives present.now edit.now net }
+    ensures planned { IfOk result (λ p. IsPlanned present.now edit.now p.net p.touched.items) }
+    ensures refused { IfErr result (IsUnplanned present.now edit.now) }
+{
+    match order(alloc, &net) {
+        Ok(servers) => {
+            let touched = touched_by(alloc, present, &net, &servers)?;
+            Ok(Planned { net, touched })
+        }
+        Err(fault) => Err(graph_fault(fault)),
+    }
+}
+
+/// The network that an edit other than the undo makes of another one, and the touched cells; refused for the first cause
+/// but a cell over a limit.
+pub(crate) fn plan(alloc: Global, present: &Network, edit: &Edit) -> Result<Planned, EditFault>
+    requires { edit.now ≢ Undo }
+    ensures planned { IfOk result (λ p. IsPlanned present.now edit.now p.net p.touched.items) }
+    ensures refused { IfErr result (IsUnplanned present.now edit.now) }
+{
+    match edited_network(alloc, present, edit) {
+        Ok(net) => ordered_plan(alloc, present, edit, net),
+        Err(fault) => Err(fault),
+    }
+}
