@@ -13,7 +13,8 @@ use Rattle.cell_kinds.specs.Tallies.{Tallies, IsTallied, AreAdded, IsNarrow, siz
 use Rattle.rational.specs.Ratio.{SumFits}
 use Rattle.rational.proofs.Multiples.{lcm_swap}
 use Rattle.fraction128.proofs.Coprime.{gcd_comm}
-use Rattle.cell_kinds.proofs.Totals.{sizes_more, sizes_fit, sum_fits, den_fits, sum_more}
+use Rattle.cell_kinds.proofs.Totals.{sizes_more, sizes_fit, sum_fits, den_fits}
+use Rattle.min_plus.proofs.TimeSums.{sum_more}
 
 -- ---- tallies
 pub tallies_more : (xs : List ℚ) (x : ℚ) (t u : Tally) → Tallies xs t → u.den ≡ lcm (den x) t.den → u.sizes ≡ t.sizes +ℚ size_of x

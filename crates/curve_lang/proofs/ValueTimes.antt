@@ -40,7 +40,8 @@ use Rattle.upp_normal.proofs.StretchSizes.{times_fit}
 use Rattle.curve_call.specs.Rises.{CurveRiseFits}
 use Rattle.curve_call.specs.declared.windows.CallWindow.{CallWindow}
 use Rattle.curve_call.specs.CallWindows.{IsWindow}
-use Rattle.curve_call.proofs.CurveTimes.{rank_early, steady_nonneg, steady_whole, own_on}
+use Rattle.upp_curve.proofs.SteadyTimes.{rank_early, steady_nonneg}
+use Rattle.curve_call.proofs.CurveTimes.{steady_whole, own_on}
 use Rattle.curve_call.proofs.CurveRises.{IsRise, rise_is}
 use Rattle.curve_lang.specs.Finding.{value_end, value_gauge}
 use Rattle.curve_lang.specs.Times.{IsPastOwn}

@@ -29,7 +29,8 @@ use Rattle.stated_runs.specs.Laws.{state_after}
 use Rattle.stated_runs.specs.TimeGrids.{IsTime}
 use Rattle.stated_runs.proofs.GoodServers.{IsCardAt}
 use Rattle.stated_runs.proofs.Lists.{head_in}
-use Rattle.stated_runs.proofs.Progress.{fair_card, some_size}
+use Rattle.run_laws.proofs.Sizes.{size_pos}
+use Rattle.stated_runs.proofs.Progress.{fair_card}
 use Rattle.sim_servers.specs.declared.due.Due.{Due}
 use Rattle.sim_servers.specs.declared.due.DueKind.TheVariants as kinds
 use Rattle.sim_servers.specs.declared.station.Next.{Next}
@@ -201,7 +202,7 @@ sending S stations links arrivals n xs d p h kind =
       picked = sends.picked;
       moved = sends.moved;
       here = here;
-      some = some_size sends.card (fair_card S r sound.time sound.good s sends.card here).some;
+      some = size_pos sends.card (fair_card S r sound.time sound.good s sends.card here).some;
       from_zero = good.from_zero;
     }
 

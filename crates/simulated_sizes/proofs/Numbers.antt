@@ -14,7 +14,8 @@ use Rattle.upp_limits.specs.Sized.{IsValue, IsSlope, Stands}
 use Rattle.upp_limits.specs.Spans.{spans_below}
 use Rattle.upp_limits.proofs.CommonDen.{common_den_each, bound_each}
 use Rattle.upp_limits.proofs.Every.{every_append, every_left, every_right, every_map, every_map_out, every_flat, every_flat_out}
-use Rattle.upp_normal.proofs.GaugeRises.{spans_earlier, curve_period}
+use Rattle.upp_limits.proofs.Operands.{curve_period}
+use Rattle.upp_normal.proofs.GaugeRises.{spans_earlier}
 use Rattle.net_model.specs.Networks.{Net, NetServer, NetFlow}
 use Rattle.net_model.specs.Traces.{SpecTrace}
 use Rattle.net_cells.specs.Numbered.{is_live, arrival, arrival_of, service, service_of}
