@@ -1,7 +1,7 @@
 //! The texts, word for word.
 
-use edit_report::{answer_text, edit_text};
 use cell_table::{Analysis, Value};
+use edit_report::{answer_text, edit_text};
 use fraction128::Frac;
 use net_cells::{Cell, Kind};
 use net_edits::EditFault;

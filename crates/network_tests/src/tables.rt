@@ -1,9 +1,9 @@
 //! What no contract says: that calls succeed, row by row as the format has them.
 
-use table_text::{TableKind, read_edits, read_trace};
 use net_model::{Edit, Network, plain_network};
 use std::alloc::Global;
 use std::test::Fail;
+use table_text::{TableKind, read_edits, read_trace};
 
 // The fault of a trace, with its row.
 fn fault(alloc: Global, net: &Network, text: &str) -> Option<(TableKind, u32)> {

@@ -2,10 +2,10 @@
 //! enters at 1 / 2^k the horizon is 1 + 1 / 2^k. So the grid is 2^k, the steepness 2, and the largest number 3, which is
 //! twice the horizon, rounded up. The gauge is 64 * 3 * 2 * 2^k, which is 2^120 or more from k = 112 on.
 
-use sim_gauge::is_too_wide;
 use fraction128::{Frac, is_less};
 use net_graph::order;
 use net_model::{Trace, TracePacket, plain_network};
+use sim_gauge::is_too_wide;
 use std::alloc::Global;
 use std::test::Fail;
 
