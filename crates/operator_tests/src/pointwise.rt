@@ -17,7 +17,8 @@ use upp_limits::OpFault;
 
 // Two pieces, and then the line of the second.
 fn two_pieces(alloc: Global, first: Piece, second: Piece) -> Result<Curve, OpFault> {
-    curve(alloc, &[first, second], Tail::Affine { rank: second.x })
+    let tail = Tail::Affine { rank: second.x };
+    curve(alloc, &[first, second], tail)
 }
 
 // The sum of 1 with a spike of 7 at 2 and of 1 + t, three times the first, and the first a time 1 later, at t.
