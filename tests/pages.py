@@ -1,0 +1,48 @@
+#!/usr/bin/env python3
+"""Runs each command that docs/TUTORIAL.md and the pages of examples/ show: an indented line that begins with `$ `, whose answer stands below it,
+up to the next command or the end of the block. Then it analyses each network of examples/ that has its answer beside it."""
+
+import pathlib
+import re
+import subprocess
+import sys
+
+TOP = pathlib.Path(__file__).resolve().parent.parent
+PAGES = [TOP / "docs/TUTORIAL.md", *sorted(TOP.glob("examples/*/README.md"))]
+
+
+def blocks(text):
+    """The commands of a page with the answers that it shows."""
+    for block in re.findall(r"(?:^    .*\n|^\n(?=    ))+", text, re.M):
+        lines = [line[4:] for line in block.strip("\n").split("\n")]
+        starts = [place for place, line in enumerate(lines) if line.startswith("$ ")]
+        for start, end in zip(starts, [*starts[1:], len(lines)]):
+            yield lines[start][2:], "\n".join(lines[start + 1 : end]) + "\n"
+
+
+def wanted():
+    """Commands with what they must print."""
+    for page in PAGES:
+        for command, shown in blocks(page.read_text()):
+            yield page.relative_to(TOP), command, shown
+    for network in sorted(TOP.glob("examples/**/*.toml")):
+        answer = network.with_suffix(".txt")
+        if answer.exists():
+            yield "examples", f"./netcalc analyse {network.relative_to(TOP)}", answer.read_text()
+
+
+def main():
+    failed = 0
+    tried = 0
+    for place, command, shown in wanted():
+        tried += 1
+        run = subprocess.run(command, shell=True, cwd=TOP, capture_output=True, text=True, timeout=120, check=False)
+        if run.stdout != shown:
+            failed += 1
+            print(f"{place}: {command}\n{run.stdout}{run.stderr}", file=sys.stderr)
+    print(f"pages: {tried - failed} passed, {failed} failed")
+    return 1 if failed or not tried else 0
+
+
+if __name__ == "__main__":
+    sys.exit(main())
