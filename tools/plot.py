@@ -2,7 +2,10 @@
 """Draws what netcalc printed. Needs matplotlib (Debian: python3-matplotlib).
 
     tools/plot.py bounds ANSWER.txt -o OUT.svg     bars of an answer of `netcalc analyse`: each flow's bounds by total-flow and by separate-flow
-                                                   analysis, each queue's delay and backlog
+                                                   analysis, each queue's delay and backlog; or of `netcalc simulate`: the worst of the run
+                                                   beside the bound
+    tools/plot.py curves ANSWER.txt -o OUT.svg     two curves, an arrival curve and a service curve, with their horizontal and vertical deviation:
+                                                   of an answer of `netcalc curve` that has `show A`, `show B`, `delay A, B` and `backlog A, B`
 
 ANSWER.txt may be `-`, for the standard input. OUT ends with .svg or .png. An `unbounded` number is drawn as a bar to the edge, with the word.
 Only the printed numbers are read, so a picture shows what was proved of the answer and nothing else; drawing rounds them to the screen.
@@ -12,12 +15,26 @@ import argparse
 import sys
 from fractions import Fraction
 
-BLUE, RED, GREY = "#4477aa", "#cc3311", "#bbbbbb"
+BLUE, RED, GREY, GREEN = "#4477aa", "#cc3311", "#bbbbbb", "#228833"
 
 
 def number(word):
     """A printed number, or None for `unbounded`."""
     return None if word == "unbounded" else float(Fraction(word))
+
+
+def read_run(text):
+    """The flows and queues of an answer of `simulate`, as lists of names with the worst of the run and the bound."""
+    flows, queues = [], []
+    for line in text.splitlines():
+        words = line.split()
+        if words[:1] == ["worst"]:
+            flows.append((words[1], number(words[2]), number(words[4])))
+        elif words[:1] == ["peak"]:
+            queues.append((f"{words[1]}:{words[2]}", number(words[3]), number(words[5])))
+        elif words[:1] not in (["servers"], ["run"], ["breach"]):
+            raise ValueError(f"no line of an answer: {line}")
+    return flows, queues
 
 
 def read_answer(text):
@@ -54,6 +71,145 @@ def bars(axes, names, columns, label):
         axes.legend(fontsize=8, ncol=len(columns), loc="lower center", bbox_to_anchor=(0.5, 1.0), frameon=False)
 
 
+class Curve:
+    """A curve as `show` prints it: pieces, and a tail."""
+
+    def __init__(self):
+        self.pieces, self.tail = [], None
+
+    def unrolled(self, end):
+        """Its pieces up to `end`: time, value there, value just after (None where infinite), slope."""
+        found = list(self.pieces)
+        if self.tail[0] == "periodic":
+            rank, period, rise = self.tail[1:]
+            own = [piece for piece in self.pieces if piece[0] >= rank]
+            turns = 1
+            while rank + turns * period <= end:
+                found += [
+                    (time + turns * period, at + turns * rise, None if after is None else after + turns * rise, slope) for time, at, after, slope in own
+                ]
+                turns += 1
+        return [piece for piece in found if piece[0] <= end]
+
+    def line(self, end):
+        """Times and values of its graph up to `end`, jumps upright; it stops where it is infinite."""
+        pieces = self.unrolled(end)
+        times, values = [], []
+        for (time, at, after, slope), later in zip(pieces, [*[piece[0] for piece in pieces[1:]], end]):
+            times.append(time)
+            values.append(at)
+            if after is None:
+                break
+            times += [time, later]
+            values += [after, after + slope * (later - time)]
+        return times, values
+
+    def near(self, time):
+        """Its values at a time, just before and just after it, where it is finite there."""
+        times, values = self.line(time + 1)
+        found = [value for at, value in zip(times, values) if at == time]
+        for place in range(1, len(times)):
+            if times[place - 1] < time < times[place]:
+                share = (time - times[place - 1]) / (times[place] - times[place - 1])
+                found.append(values[place - 1] + share * (values[place] - values[place - 1]))
+        return found
+
+    def first_at(self, level, end):
+        """The first time up to `end` at which it is at least `level`, or None."""
+        times, values = self.line(end)
+        for place, (time, value) in enumerate(zip(times, values)):
+            if value >= level:
+                if not place or values[place - 1] == value or times[place - 1] == time:
+                    return time
+                before, low = times[place - 1], values[place - 1]
+                return before + (level - low) * (time - before) / (value - low)
+        return None
+
+
+def read_curves(text):
+    """The curves and numbers of an answer of `curve`."""
+    curves, numbers, curve = [], {}, None
+    for line in text.splitlines():
+        words = line.split()
+        if words[0] == "piece":
+            curve = curve or Curve()
+            infinite = words[5] == "unbounded"
+            curve.pieces.append((Fraction(words[1]), Fraction(words[3]), *((None, 0) if infinite else (Fraction(words[5]), Fraction(words[7])))))
+        elif words[0] == "tail":
+            curve.tail = (words[1], *[Fraction(word) for word in words[2:]])
+            curves.append(curve)
+            curve = None
+        else:
+            numbers[words[0]] = words[1]
+    if len(curves) != 2 or not {"delay", "backlog"} <= numbers.keys():
+        raise ValueError("an answer with two curves shown, their delay and their backlog is wanted")
+    return curves, numbers
+
+
+def widest(arrival, service, delay, end):
+    """A level at which the service comes `delay` after the arrivals, as nearly as the curves' own levels show it."""
+    levels = sorted({value for curve in (arrival, service) for value in curve.line(end)[1]})
+    best = None
+    for level in levels:
+        start, reached = arrival.first_at(level, end), service.first_at(level, end)
+        if start is not None and reached is not None and (best is None or reached - start > best[2] - best[1]):
+            best = (level, start, reached)
+    return best
+
+
+def draw_curves(text, path):
+    """The picture of two curves."""
+    import matplotlib
+
+    matplotlib.use("Agg")
+    import matplotlib.pyplot as plot
+
+    (arrival, service), numbers = read_curves(text)
+    delay, backlog = numbers["delay"], numbers["backlog"]
+    breaks = [piece[0] for curve in (arrival, service) for piece in curve.pieces]
+    periods = [curve.tail[2] for curve in (arrival, service) if curve.tail[0] == "periodic"]
+    own = 2 * (max([*breaks, *periods]) + (Fraction(delay) if delay != "unbounded" else 0))
+    end = own or Fraction(10)
+    figure, axes = plot.subplots(figsize=(8, 5), layout="constrained")
+    for curve, name, colour in ((arrival, "arrival curve", BLUE), (service, "service curve", RED)):
+        times, values = curve.line(end)
+        axes.plot([float(time) for time in times], [float(value) for value in values], color=colour, label=name)
+    if delay != "unbounded" and (found := widest(arrival, service, Fraction(delay), end)):
+        level, start, reached = found
+        axes.annotate("", (float(start), float(level)), (float(reached), float(level)), arrowprops={"arrowstyle": "<->", "color": GREEN})
+        axes.text(float((start + reached) / 2), float(level), f"delay {delay}", ha="center", va="bottom", color=GREEN, fontsize=9)
+    if backlog != "unbounded":
+        marks = sorted({time for curve in (arrival, service) for time in curve.line(end)[0] if arrival.near(time) and service.near(time)})
+        top = {time: max(arrival.near(time)) for time in marks}
+        low = {time: min(service.near(time)) for time in marks}
+        time = max(marks, key=lambda mark: top[mark] - low[mark])
+        axes.annotate("", (float(time), float(low[time])), (float(time), float(top[time])), arrowprops={"arrowstyle": "<->", "color": GREY})
+        axes.text(float(time), float((low[time] + top[time]) / 2), f" backlog {backlog}", va="center", color="black", fontsize=9)
+    axes.set_xlabel("time")
+    axes.set_ylabel("bits")
+    axes.set_xlim(0, float(end))
+    axes.set_ylim(0)
+    axes.grid(alpha=0.3)
+    axes.legend(loc="lower right")
+    figure.savefig(path, metadata={"Date": None} if path.endswith(".svg") else None)
+
+
+def draw_run(text, path):
+    """The picture of an answer of `simulate`: what the run showed beside what no run passes."""
+    import matplotlib
+
+    matplotlib.use("Agg")
+    import matplotlib.pyplot as plot
+
+    flows, queues = read_run(text)
+    rows = [max(1, len(flows)), max(1, len(queues))]
+    figure, (left, right) = plot.subplots(1, 2, figsize=(11, 1.2 + 0.32 * max(rows)), layout="constrained")
+    for axes, found, label in ((left, flows, "delay of a flow, end to end"), (right, queues, "backlog of a queue, in bits")):
+        names = [name for name, _, _ in found]
+        bars(axes, names, [("worst of the run", [seen for _, seen, _ in found], GREY), ("bound", [bound for _, _, bound in found], BLUE)], label)
+    figure.savefig(path, metadata={"Date": None} if path.endswith(".svg") else None)
+
+
 def draw_bounds(text, path):
     """The picture of an answer."""
     import matplotlib
@@ -61,6 +217,9 @@ def draw_bounds(text, path):
     matplotlib.use("Agg")
     import matplotlib.pyplot as plot
 
+    if any(line.startswith("worst ") or line.startswith("run ") for line in text.splitlines()):
+        draw_run(text, path)
+        return
     flows, queues = read_answer(text)
     rows = [max(1, len(flows)), max(1, len(queues))]
     figure, (left, middle, right) = plot.subplots(1, 3, figsize=(13, 1.2 + 0.32 * max(rows)), layout="constrained")
@@ -75,13 +234,13 @@ def draw_bounds(text, path):
 
 def main():
     parser = argparse.ArgumentParser(description=__doc__, formatter_class=argparse.RawDescriptionHelpFormatter)
-    parser.add_argument("what", choices=["bounds"])
+    parser.add_argument("what", choices=["bounds", "curves"])
     parser.add_argument("answer")
     parser.add_argument("-o", "--output", required=True, metavar="OUT")
     words = parser.parse_args()
     try:
         text = sys.stdin.read() if words.answer == "-" else open(words.answer, encoding="utf-8").read()
-        draw_bounds(text, words.output)
+        (draw_bounds if words.what == "bounds" else draw_curves)(text, words.output)
     except (OSError, ValueError, IndexError) as fault:
         print(f"plot: {fault}", file=sys.stderr)
         return 1
