@@ -1,5 +1,5 @@
 #!/usr/bin/env python3
-"""Tries the tools of tools/ that stand outside the proved program: importer, rounding, sweep. Needs Python 3.11.
+"""Tries the tools of tools/ that stand outside the proved program: importer, rounding, sweep, and what the pictures are drawn from. Needs Python 3.11.
 
 The sweep over a Dask scheduler, with a worker that is ended half way, is tried where `distributed` is installed and --dask is given.
 """
@@ -14,6 +14,8 @@ from fractions import Fraction
 
 TOP = pathlib.Path(__file__).resolve().parent.parent
 sys.path.insert(0, str(TOP / "tools"))
+import plot  # noqa: E402  (from tools/)
+
 PROGRAM = TOP / "bin/x86_64-linux/netcalc"
 
 LINKS = """name,bag,largest_frame,jitter,priority,path
@@ -177,6 +179,39 @@ class Sweep(WithFolder):
         self.assertEqual(run.returncode, 0, run.stderr)
         told = [(row["variant"], row["status"], row["refusal"]) for row in self.table()]
         self.assertEqual(told, [("a", "0", ""), ("b", "0", ""), ("c", "1", "netcalc: n.toml: M1")])
+
+
+CURVES = """piece 0 at 1344 after 1344 slope 0
+tail periodic 0 1000 1344
+piece 0 at 0 after 0 slope 0
+piece 750 at 0 after 0 slope 100
+tail periodic 0 1000 25000
+delay 19086/25
+backlog 1344
+"""
+
+
+class Plot(unittest.TestCase):
+    """What is read of answers, and where a picture marks the deviations; drawing itself needs matplotlib, and is tried by eye."""
+
+    def test_curves(self):
+        (arrival, service), numbers = plot.read_curves(CURVES)
+        self.assertEqual(numbers["delay"], "19086/25")
+        self.assertEqual([piece[0] for piece in arrival.unrolled(Fraction(2500))], [0, 1000, 2000])
+        self.assertEqual(service.near(Fraction(800)), [5000])
+        self.assertEqual(service.first_at(Fraction(1344), Fraction(3000)), Fraction(19086, 25))
+        level, start, reached = plot.widest(arrival, service, Fraction(3000))
+        self.assertEqual((level, reached - start), (1344, Fraction(19086, 25)))
+
+    def test_faults(self):
+        with self.assertRaises(ValueError):
+            plot.read_curves("rate 10\n")
+        with self.assertRaises(ValueError):
+            plot.read_run("flow f tfa 1 sfa 1 bound 1\n")
+
+    def test_run(self):
+        flows, queues = plot.read_run("servers 1 flows 1\nrun packets 1 end 130\nworst f1 120 bound 130\npeak s1 0 12000 bound unbounded\nbreach none\n")
+        self.assertEqual((flows, queues), ([("f1", 120, 130)], [("s1:0", 12000, None)]))
 
 
 class Distributed(Sweep):

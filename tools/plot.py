@@ -146,8 +146,8 @@ def read_curves(text):
     return curves, numbers
 
 
-def widest(arrival, service, delay, end):
-    """A level at which the service comes `delay` after the arrivals, as nearly as the curves' own levels show it."""
+def widest(arrival, service, end):
+    """A level of the curves up to `end` at which the service comes latest after the arrivals, with both times."""
     levels = sorted({value for curve in (arrival, service) for value in curve.line(end)[1]})
     best = None
     for level in levels:
@@ -174,7 +174,7 @@ def draw_curves(text, path):
     for curve, name, colour in ((arrival, "arrival curve", BLUE), (service, "service curve", RED)):
         times, values = curve.line(end)
         axes.plot([float(time) for time in times], [float(value) for value in values], color=colour, label=name)
-    if delay != "unbounded" and (found := widest(arrival, service, Fraction(delay), end)):
+    if delay != "unbounded" and (found := widest(arrival, service, end)):
         level, start, reached = found
         axes.annotate("", (float(start), float(level)), (float(reached), float(level)), arrowprops={"arrowstyle": "<->", "color": GREEN})
         axes.text(float((start + reached) / 2), float(level), f"delay {delay}", ha="center", va="bottom", color=GREEN, fontsize=9)
