@@ -2,3 +2,4 @@ pub mod Numbered
 pub mod Worst
 pub mod Tallies
 pub mod Laws
+pub mod Peaks
