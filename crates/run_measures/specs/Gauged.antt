@@ -31,10 +31,10 @@ pub record WasThere (so_far : ℚ → ℚ) (end now : ℚ) (bits : ℕ) : Type 0
   pub in_run : time ≤ℚ end
   pub there : so_far time ≡ whole bits
 
--- a gauge of queue q of a server in this state: of the backlog at each time it tells what does not come of the later steps
-pub record IsGauged (backlog_of : ℚ → ℚ) (end : ℚ) (q : ℕ) (σ : ServerState) (later : List ServerStep) (g : Gauge) : Type 0 where
+-- a gauge of queue q of a server in this state: it tells of the backlog at each time what does not come of later steps
+pub record IsGauged (total : ℚ → ℚ) (end : ℚ) (q : ℕ) (σ : ServerState) (later : List ServerStep) (g : Gauge) : Type 0 where
   pub so_far : ℚ → ℚ
-  pub rest : (t : ℚ) → backlog_of t ≡ so_far t +ℚ backlog (of_queue q) later t
+  pub rest : (t : ℚ) → total t ≡ so_far t +ℚ backlog (of_queue q) later t
   pub present : g.present ≡ bits_of (of_queue q) σ.inside
   pub short : g.left < 2 ^ 32
   pub level : (t : ℚ) → σ.now ≤ℚ t → so_far t ≡ whole (level_at g t)
@@ -61,6 +61,8 @@ pub record AreEntered (entered : List Entry) (flows bits : List ℕ) : Type 0 wh
 -- after the first k steps, in the state r, the gauges tell of each queue
 pub record AreGauged (net : Routes) (run : SpecRun) (k : ℕ) (r : RunState) (rows : List (List Gauge)) : Type 0 where
   pub as_many : length rows ≡ length net.servers
-  pub row : (s : ℕ) → s < length net.servers → length (slice_index_or rows s []) ≡ queue_count (server_at net s).discipline
+  pub row : (s : ℕ) → s < length net.servers →
+      length (slice_index_or rows s []) ≡ queue_count (server_at net s).discipline
   pub each : (s q : ℕ) → s < length net.servers → q < queue_count (server_at net s).discipline →
-      IsGauged (backlog_at net run s q) run.end q (state_at r s) (view_from net s r.entered (drop k run.steps)) (gauge_in rows s q)
+      let later = view_from net s r.entered (drop k run.steps) in
+      IsGauged (backlog_at net run s q) run.end q (state_at r s) later (gauge_in rows s q)

@@ -38,17 +38,35 @@ pub record MayLose (net : Routes) (v : Levels) (s flow bits : ℕ) : Type 0 wher
 -- they come to it, or leave it
 abbrev pub GainsAt : Routes → Levels → Levels → (s flow bits : ℕ) → ℚ → Type 0
 GainsAt net before after s flow bits t =
-    ChangesOne (λ g h. Gains g h bits t) (gauges_of before.rows.items) (gauges_of after.rows.items) s (queue_for net flow s)
+    let q = queue_for net flow s in
+    ChangesOne (λ g h. Gains g h bits t) (gauges_of before.rows.items) (gauges_of after.rows.items) s q
 
 abbrev pub LosesAt : Routes → Levels → Levels → (s flow bits : ℕ) → ℚ → Type 0
 LosesAt net before after s flow bits t =
-    ChangesOne (λ g h. Loses g h bits t) (gauges_of before.rows.items) (gauges_of after.rows.items) s (queue_for net flow s)
+    let q = queue_for net flow s in
+    ChangesOne (λ g h. Loses g h bits t) (gauges_of before.rows.items) (gauges_of after.rows.items) s q
 
--- a packet enters
+-- ---- a packet enters
+abbrev pub MayEnter : Routes → Levels → (flow bits : ℕ) → Type 0
+MayEnter net v flow bits = MayGain net v (first_server (route_of net flow).hops) flow bits
+
 pub record Enters (net : Routes) (before after : Levels) (flow bits : ℕ) (t : ℚ) : Type 0 where
   pub flows : after.flows.items ≡ before.flows.items ++ flow ∷ []
   pub bits_are : after.bits.items ≡ before.bits.items ++ bits ∷ []
   pub gains : GainsAt net before after (first_server (route_of net flow).hops) flow bits t
+
+-- ---- packet p reaches server s, or leaves it
+abbrev pub MayReach : Routes → Levels → (s p : ℕ) → Type 0
+MayReach net v s p = MayGain net v s (flow_for v p) (bits_for v p)
+
+abbrev pub MayLeave : Routes → Levels → (s p : ℕ) → Type 0
+MayLeave net v s p = MayLose net v s (flow_for v p) (bits_for v p)
+
+abbrev pub Reaches : Routes → Levels → Levels → (s p : ℕ) → ℚ → Type 0
+Reaches net before after s p t = GainsAt net before after s (flow_for before p) (bits_for before p) t
+
+abbrev pub Leaves : Routes → Levels → Levels → (s p : ℕ) → ℚ → Type 0
+Leaves net before after s p t = LosesAt net before after s (flow_for before p) (bits_for before p) t
 
 -- they tell of the first k steps of a lawful run
 pub record Tells (net : Routes) (run : SpecRun) (k : ℕ) (v : Levels) : Type 0 where

@@ -35,6 +35,7 @@ peak_in rows s q = slice_index_or (slice_index_or rows s []) q 0
 -- for each queue of each server its peak
 pub record ArePeaks (net : Routes) (run : SpecRun) (peaks : List (List ℕ)) : Type 0 where
   pub as_many : length peaks ≡ length net.servers
-  pub row : (s : ℕ) → s < length net.servers → length (slice_index_or peaks s []) ≡ queue_count (server_at net s).discipline
+  pub row : (s : ℕ) → s < length net.servers →
+      length (slice_index_or peaks s []) ≡ queue_count (server_at net s).discipline
   pub each : (s q : ℕ) → s < length net.servers → q < queue_count (server_at net s).discipline →
       IsPeak net run s q (peak_in peaks s q)

@@ -2,7 +2,8 @@
 
 ghost use Rattle.std.specs.Prelude.{◌≡◌, ◌≤◌, IfOk, map};
 ghost use Rattle.net_model.specs.Views.{server_of};
-ghost use Rattle.run_measures.specs.Gauges.{Gains, Loses, HasGauge, HasRoom, ChangesOne, gauge_in, gauges_of, with_gauge, empty_gauge, empty_row_of, peak_of};
+ghost use Rattle.run_measures.specs.Gauges.{Gains, Loses, HasGauge, HasRoom, ChangesOne};
+ghost use Rattle.run_measures.specs.Gauges.{gauge_in, gauges_of, with_gauge, empty_row_of, peak_of};
 ghost use Rattle.run_measures.specs.Peaks.{rows_of};
 
 use crate::gauge::Gauge;

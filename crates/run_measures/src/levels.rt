@@ -2,9 +2,8 @@
 
 ghost use Rattle.std.specs.Prelude.{◌≡◌, ◌+◌, ◌<◌, IfOk, OnOk, length};
 ghost use Rattle.run_laws.specs.Lawful.{IsLawful};
-ghost use Rattle.run_laws.specs.Routes.{route_of, first_server};
 ghost use Rattle.net_model.specs.NetRoutes.{routes_of};
-ghost use Rattle.run_measures.specs.Levels.{flow_for, bits_for, IsKnown, SamePackets, MayGain, MayLose, Enters, GainsAt, LosesAt, Tells};
+ghost use Rattle.run_measures.specs.Levels.{IsKnown, SamePackets, MayEnter, MayReach, MayLeave, Enters, Reaches, Leaves, Tells};
 ghost use Rattle.run_measures.specs.Peaks.{rows_of, ArePeaks};
 
 use crate::gauge::Gauge;
@@ -28,7 +27,7 @@ pub(crate) struct Levels {
 impl Levels {
     /// A packet enters.
     fn enter(&mut self, net: &Network, flow: u32, bits: u32, time: Frac) -> Result<(), AllocError>
-        requires { MayGain (routes_of net.now) self.old (first_server (route_of (routes_of net.now) flow).hops) flow bits }
+        requires { MayEnter (routes_of net.now) self.old flow bits }
         ensures { OnOk result (Enters (routes_of net.now) self.old self.new flow bits time) }
     {
         let server = entrance(net, flow);
@@ -42,9 +41,9 @@ impl Levels {
     /// A packet reaches a server.
     fn reach(&mut self, net: &Network, server: u32, packet: u32, time: Frac)
         requires known { IsKnown self.old packet }
-        requires may { MayGain (routes_of net.now) self.old server (flow_for self.old packet) (bits_for self.old packet) }
+        requires may { MayReach (routes_of net.now) self.old server packet }
         ensures same { SamePackets self.old self.new }
-        ensures gains { GainsAt (routes_of net.now) self.old self.new server (flow_for self.old packet) (bits_for self.old packet) time }
+        ensures gains { Reaches (routes_of net.now) self.old self.new server packet time }
     {
         let number = packet as usize;
         let queue = queue_of(net, self.flows[number], server);
@@ -54,9 +53,9 @@ impl Levels {
     /// A packet leaves a server.
     fn lose(&mut self, net: &Network, server: u32, packet: u32, time: Frac)
         requires known { IsKnown self.old packet }
-        requires may { MayLose (routes_of net.now) self.old server (flow_for self.old packet) (bits_for self.old packet) }
+        requires may { MayLeave (routes_of net.now) self.old server packet }
         ensures same { SamePackets self.old self.new }
-        ensures loses { LosesAt (routes_of net.now) self.old self.new server (flow_for self.old packet) (bits_for self.old packet) time }
+        ensures loses { Leaves (routes_of net.now) self.old self.new server packet time }
     {
         let number = packet as usize;
         let queue = queue_of(net, self.flows[number], server);
@@ -115,9 +114,9 @@ fn fresh_levels(alloc: Global, net: &Network, run: &Run) -> Result<Levels, Alloc
     })
 }
 
-/// For each queue of each server the largest of 0 and of its backlog at all times up to the run's end; a packet counts from
-/// where it arrives to where it leaves, and at that time still. It asks for a lawful run of the network, costs one pass over
-/// its steps, and fails only for want of memory.
+/// For each queue of each server the largest of 0 and of its backlog at all times up to the run's end; a packet counts
+/// from where it arrives to where it leaves, and at that time still. It asks for a lawful run of the network, costs one
+/// pass over its steps, and fails only for want of memory.
 pub fn peaks(alloc: Global, net: &Network, run: &Run) -> Result<Vec<Vec<u64>>, AllocError>
     requires { IsLawful (routes_of net.now) run.now }
     ensures { IfOk result (λ v. ArePeaks (routes_of net.now) run.now (rows_of v.items)) }

@@ -1,4 +1,5 @@
-//! What is measured of a run, be it simulated or recorded: the worst delay of each flow, and the greatest backlog of each queue.
+//! What is measured of a run, be it simulated or recorded: the worst delay of each flow, and the greatest backlog of
+//! each queue.
 #![tactic(auto)]
 
 mod flows;
