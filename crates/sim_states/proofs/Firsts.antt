@@ -29,7 +29,7 @@ use Rattle.sim_states.proofs.SoFar.{IsSound, sound_so_far}
 use Rattle.sim_states.proofs.Scan.{covered, IsCovered}
 
 -- a queue that is visited has a packet
-visit_some : (d : Discipline) (σ : ServerState) (q : ℕ) → MayVisit d σ q → KeepsTurns d σ → σ.inside ≢ []
+pub visit_some : (d : Discipline) (σ : ServerState) (q : ℕ) → MayVisit d σ q → KeepsTurns d σ → σ.inside ≢ []
 visit_some Fifo σ q m k e = absurd m
 visit_some (Priority n) σ q m k e = absurd m
 visit_some (Drr quanta) σ q m k e =

@@ -1,17 +1,17 @@
 -- What each step keeps of stations and links.
-use Rattle.std.specs.Prelude.{Some, ◌≡◌, ◌≢◌, ◌⊎◌, ℕ, zero, suc, pos, ◌<◌, ◌≤◌, ◌==◌, ◌&&◌, true, List, [], ◌∷◌, ◌++◌, length, get_or, set, map, slice_get}
+use Rattle.std.specs.Prelude.{Some, ◌≡◌, ◌≢◌, ◌⊎◌, ℕ, zero, suc, pos, ◌<◌, ◌≤◌, List, [], ◌∷◌, ◌++◌, length, get_or, set, map, slice_get}
 use Rattle.std.proofs.Common.{arith, refl, sym, ap, ◌∙◌, subst, inl, inr}
-use Rattle.std.proofs.lemmas.Bool.{cases_eq, cases_Bool, eqb-true, eq-eqb, ne_eqb, and_parts}
+use Rattle.std.proofs.lemmas.Bool.{cases_eq, eq-eqb, ne_eqb}
 use Rattle.std.proofs.lemmas.List.{get_or-set_same, get_or-set_other, length-map}
 use Rattle.std.proofs.Math.ListN.{length-set}
-use Rattle.rational.specs.Rational.{ℚ, int, le_q, ◌<ℚ◌}
+use Rattle.rational.specs.Rational.{ℚ, int, ◌<ℚ◌}
 use Rattle.run_laws.specs.Lawful as lawful
-use Rattle.run_laws.specs.Lawful.{RunState, same_due, without, state_at}
+use Rattle.run_laws.specs.Lawful.{RunState, without, state_at}
 use Rattle.index_links.specs.Chains as chains
 use Rattle.index_links.specs.Chains.{Chains, list_at, Has, unlinked, with_list}
 use Rattle.index_links.proofs.Members.{has_left, has_right, has_either, has_without, without_has}
 use Rattle.stated_runs.specs.Setups.{Setup}
-use Rattle.stated_runs.proofs.Lists.{In, in_left, in_either, in_without}
+use Rattle.stated_runs.proofs.Lists.{In, in_left, in_either, in_without, in_without_other}
 use Rattle.sim_servers.specs.declared.station.Station.{Station}
 use Rattle.sim_servers.specs.Queues.{room_of}
 use Rattle.sim_servers.specs.Stations.{IsStation}
@@ -85,24 +85,6 @@ rising_without arrivals p (q ∷ qs) h = elim (cases_eq q p) [
   | inr n ↦
       let a : chains.without p (q ∷ qs) ≡ q ∷ chains.without p qs = rw (ne_eqb q p n) refl in
       subst (AreRising arrivals) (sym a) ((λ j i. h.0 j (has_without p j qs i).0), rising_without arrivals p qs h.1)
-]
-
-same_packet : (d x : lawful.Due) → same_due d x ≡ true → d.packet ≡ x.packet
-same_packet d x t = eqb-true d.packet x.packet (and_parts (d.packet == x.packet) ((d.server == x.server) && (le_q d.time x.time && le_q x.time d.time)) t).0
-
-in_without_other : (d : lawful.Due) (ds : List lawful.Due) (e : lawful.Due) → In ds e → e.packet ≢ d.packet → In (without d ds) e
-in_without_other d [] e h n = absurd h
-in_without_other d (x ∷ xs) e h n = elim (cases_Bool (same_due d x)) [
-  | inl t ↦
-      let a : without d (x ∷ xs) ≡ xs = rw t refl in
-      let g : d.packet ≡ x.packet = same_packet d x t in
-      elim h [
-        | inl i ↦ absurd (n (ap (λ (z : lawful.Due). z.packet) (sym i) ∙ sym g))
-        | inr i ↦ subst (λ ys. In ys e) (sym a) i
-      ]
-  | inr f ↦
-      let a : without d (x ∷ xs) ≡ x ∷ without d xs = rw f refl in
-      subst (λ ys. In ys e) (sym a) (elim h [ inl i ↦ inl i | inr i ↦ inr (in_without_other d xs e i n) ])
 ]
 
 pub links_reach : (S : Setup) (r r' : RunState) (links : Chains) (arrivals : List Arrival) (d : lawful.Due) → AreLinks S r links arrivals → In r.due d

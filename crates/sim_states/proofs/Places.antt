@@ -50,7 +50,7 @@ cards_less p q (x ∷ xs) c e = elim (cases_eq x.queue q) [
 le_self : (x : ℚ) → le_q x x ≡ true
 le_self x = le_q_out x x (le_refl x)
 
-same_self : (d : Due) → same_due d d ≡ true
+pub same_self : (d : Due) → same_due d d ≡ true
 same_self d = rw (eq-eqb d.packet d.packet refl, eq-eqb d.server d.server refl, le_self d.time) refl
 
 pub dues_less : (p : ℕ) (ds : List Due) (d : Due) → In ds d → dues_of p (without d ds) + one d.packet p ≡ dues_of p ds

@@ -10,6 +10,7 @@ pub mod Turning
 pub mod Progress
 pub mod Opens
 pub mod AllLeft
+pub mod LastLeaves
 pub mod Starting
 pub mod MadeSetups
 pub mod ServerSetups

@@ -100,7 +100,7 @@ turning_leave d σ u t busy small h = record {
         turn_left quanta (without_head u.card.queue σ.inside) σ.round u.card.queue (head_of u.card.queue (without_head u.card.queue σ.inside)) refl small g.long
         (left_of quanta σ.inside σ.round u g (h.head u busy))
 
-head_cases : (o : Option Card) → (o ≡ None) ⊎ ((c : Card) × (o ≡ Some c))
+pub head_cases : (o : Option Card) → (o ≡ None) ⊎ ((c : Card) × (o ≡ Some c))
 head_cases None = inl refl
 head_cases (Some c) = inr (c, refl)
 

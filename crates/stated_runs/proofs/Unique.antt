@@ -84,7 +84,7 @@ same_work S ok s σ p a b w q c d v (inr h) (inl k) = absurd (let f : Some k.und
 same_work S ok s σ p a b w q c d v (inr h) (inr k) = same_started S ok s σ p a b w q c d v h k
 
 -- no visit where a packet may start
-no_visit : (d : Discipline) (σ : ServerState) (q : ℕ) (c : Card) → MayVisit d σ q → ¬ (pick d σ.inside σ.round ≡ Some c)
+pub no_visit : (d : Discipline) (σ : ServerState) (q : ℕ) (c : Card) → MayVisit d σ q → ¬ (pick d σ.inside σ.round ≡ Some c)
 no_visit Fifo σ q c m e = m
 no_visit (Priority n) σ q c m e = m
 no_visit (Drr quanta) σ q c m e =
@@ -99,7 +99,7 @@ visit_once Fifo σ q p a b = absurd a
 visit_once (Priority n) σ q p a b = absurd a
 visit_once (Drr quanta) σ q p a b = first_once q p σ.round.active a.is_first b.is_first
 
-not_idle : (d : Discipline) (σ : ServerState) (q : ℕ) (u : Under) → MayVisit d σ q → ¬ (σ.under ≡ Some u)
+pub not_idle : (d : Discipline) (σ : ServerState) (q : ℕ) (u : Under) → MayVisit d σ q → ¬ (σ.under ≡ Some u)
 not_idle Fifo σ q u m e = m
 not_idle (Priority n) σ q u m e = m
 not_idle (Drr quanta) σ q u m e = let f : None ≡ Some u = sym m.idle ∙ e in cc

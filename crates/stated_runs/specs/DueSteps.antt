@@ -66,7 +66,7 @@ step_time (Leave s p t) = t
 step_time (Visit s q t) = t
 
 -- at equal times: resumed work, then packets that leave, those that reach a server, those that enter, and what starts;
--- in each of these by servers, and at one server by packets
+-- packets that enter by their numbers, the others by servers, and at one server by packets
 pub record Rank : Type 0 where
   pub kind : ℕ
   pub server : ℕ

@@ -1,13 +1,13 @@
 -- What is promised of stated runs.
-use Rattle.std.specs.Prelude.{◌≡◌, ◌≢◌, ◌⊎◌, ℕ, ◌<◌, List, [], ◌∷◌, ◌++◌, length, None}
+use Rattle.std.specs.Prelude.{◌≡◌, ◌≢◌, ◌⊎◌, ℕ, ◌<◌, List, [], ◌∷◌, ◌++◌, length, None, Contains}
 use Rattle.rational.specs.Rational.{ℚ, ◌≤ℚ◌}
 use Rattle.run_laws.specs.declared.steps.Step.{Step}
 use Rattle.run_laws.specs.declared.steps.Step.TheVariants.{Enter, Reach, Work, Leave, Visit}
 use Rattle.run_laws.specs.Runs.{SpecRun}
-use Rattle.run_laws.specs.Routes.{Routes}
+use Rattle.run_laws.specs.Routes.{Routes, route_of, last_server}
 use Rattle.run_laws.specs.Views.{server_of}
 use Rattle.run_laws.specs.Lawful.{IsLawful, RunState, state_at, after_run, run_start}
-use Rattle.stated_runs.specs.Setups.{Setup, IsSetup, IsFirstOpen}
+use Rattle.stated_runs.specs.Setups.{Setup, IsSetup, IsFirstOpen, packet_of}
 use Rattle.stated_runs.specs.Simulated.{IsSimulated}
 
 -- the stated run is a lawful run of its network
@@ -31,6 +31,16 @@ pub record HasAllLeft (S : Setup) (r : RunState) : Type 0 where
 -- at its end that is so
 abbrev pub EveryPacketLeaves : Type 0
 EveryPacketLeaves = (S : Setup) (run : SpecRun) → IsSetup S → IsSimulated S run → HasAllLeft S (state_after S run.steps)
+
+-- packet p leaves server s at some time
+pub record LeavesAt (steps : List Step) (s p : ℕ) : Type 0 where
+  pub time : ℚ
+  pub left : Contains steps (Leave s p time)
+
+-- each packet of the trace leaves the last server of its path
+abbrev pub EachLeavesItsLast : Type 0
+EachLeavesItsLast = (S : Setup) (run : SpecRun) → IsSetup S → IsSimulated S run → (p : ℕ) → p < length S.packets
+    → LeavesAt run.steps (last_server (route_of S.net (packet_of S p).flow).hops) p
 
 -- a packet that comes by time t, or a start at that very time
 abbrev pub ComesOrStarts : ℚ → Step → Type 0

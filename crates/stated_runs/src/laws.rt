@@ -1,7 +1,7 @@
 //! Laws of stated runs. A law is the contract of a function that does nothing.
 
 ghost use Rattle.stated_runs.specs.FromTraces.{TracesMakeSetups};
-ghost use Rattle.stated_runs.specs.Laws.{StatedRunsAreLawful, StatedRunIsUnique, EveryPacketLeaves, OpenServersStart};
+ghost use Rattle.stated_runs.specs.Laws.{StatedRunsAreLawful, StatedRunIsUnique, EveryPacketLeaves, EachLeavesItsLast, OpenServersStart};
 
 /// An accepted network, and a trace whose numbers are those of its servers and live flows, make a setup.
 pub fn traces_make_setups()
@@ -21,6 +21,11 @@ pub fn stated_run_is_unique()
 /// At the end of a stated run all packets of the trace have entered, and none is at a server or on a link.
 pub fn every_packet_leaves()
     ensures { EveryPacketLeaves }
+{}
+
+/// Each packet of the trace leaves the last server of its path.
+pub fn each_leaves_its_last()
+    ensures { EachLeavesItsLast }
 {}
 
 /// A server that has packets of which none is under way starts one at the first time at which it is neither stalled nor

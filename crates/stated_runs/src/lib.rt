@@ -4,6 +4,6 @@
 mod laws;
 
 pub use laws::{
-    every_packet_leaves, open_servers_start, stated_run_is_unique, stated_runs_are_lawful,
-    traces_make_setups,
+    each_leaves_its_last, every_packet_leaves, open_servers_start, stated_run_is_unique,
+    stated_runs_are_lawful, traces_make_setups,
 };
