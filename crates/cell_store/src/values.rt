@@ -33,7 +33,7 @@ impl<V: CellValue + Drop> Table<V> for Values<V> {
 impl<V: CellValue + Drop> Values<V> {
     ghost use Rattle.std.specs.Prelude.{◌≡◌, ◌≢◌, Some, None, IfOk, OnOk, OnErr, [], MatchOption, ◌<◌, ◌-◌, ◌^◌, length};
     ghost use Rattle.net_cells.specs.declared.cell.Cell.{Cell};
-    ghost use Rattle.cell_changes.specs.Slots.{HasSlot};
+    ghost use Rattle.cell_changes.specs.Slots.{HasSlot, slots};
     ghost use Rattle.version_table.specs.Histories.{IsMarked, IsUndone};
 
     /// One version that has nothing.
@@ -48,7 +48,8 @@ impl<V: CellValue + Drop> Values<V> {
 
     /// The versions: all, and the newest, with a cell's value at its place.
     pub fn versions(&self) -> &Versions<V>
-        ensures { result.now ≡ self.now.versions }
+        ensures versions { result.now ≡ self.now.versions }
+        ensures room { result.now.cells ≡ slots }
     {
         &self.versions
     }

@@ -53,6 +53,8 @@ module _ {V : Type 0} where
     gives = gives;
     order = are.order;
     servers = are.servers;
+    all_touched = touched;
+    are = are;
     touched = are_touched old.present net _ touched are.are c (contains_has touched c first.among);
     over = first.first are.order are.servers;
   }

@@ -47,12 +47,15 @@ pub record IsCyclic (present : Net) (edit : Edit) (walk : List ℕ) : Type 0 whe
   pub gives : Gives present edit net
   pub cycle : IsCycle net walk
 
--- of the touched cells of the edited network this one is the first over a limit: none before it is, of all cells
+-- of the touched cells of the edited network this one is the first over a limit: none before it is, of all cells. What
+-- is counted is bounded by the work of all touched ones
 pub record IsCellOver (present : Net) (edit : Edit) (cell : Cell) (fault : OpFault) : Type 0 where
   pub net : Net
   pub gives : Gives present edit net
   pub order : List ℕ
   pub servers : IsOrder net order
+  pub all_touched : List Cell
+  pub are : AreTouched present net all_touched
   pub touched : Touched present net cell
   pub over : FirstOver net order cell fault
 

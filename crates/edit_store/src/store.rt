@@ -52,6 +52,7 @@ impl<V: CellValue + Drop> Store<V> {
     ghost use Rattle.net_cells.specs.Equations.{MeetsEquations};
     ghost use Rattle.net_cells.specs.Order.{evaluation_order};
     ghost use Rattle.net_cells.specs.Work.{work};
+    ghost use Rattle.cell_changes.specs.Slots.{slots};
     ghost use Rattle.cell_store.specs.Edits.{IsFirst, IsFirstTouched, RefusesFor};
     ghost use Rattle.edit_store.specs.Stored.{AreTouched, AreLost, IsStored, IsAdvanced, IsBack};
     ghost use Rattle.edit_store.specs.Applied.{Gives, IsApplied, IsTaken, IsRefused, IsEvaluated, IsShown, IsHidden};
@@ -107,9 +108,11 @@ impl<V: CellValue + Drop> Store<V> {
     }
 
     /// The values of all networks, a version each, in their order: each cell of a network has its value at its place,
-    /// and other cells have none.
+    /// and other cells have none. A version has a place for each cell that any network may have, so `slot` of such a cell
+    /// may be read.
     pub fn versions(&self) -> &Versions<V>
         ensures versions { result.now ≡ self.now.values }
+        ensures room { self.now.values.cells ≡ slots }
         ensures each { IsStored V.meaning self.now.before self.now.present self.now.values }
     {
         self.values.versions()
