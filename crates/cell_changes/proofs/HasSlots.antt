@@ -14,6 +14,7 @@ use Rattle.net_cells.specs.Numbered.{flow_at, path_of, hops, queues, levels, lev
 use Rattle.net_cells.specs.Cells.{scope_of, is_in_scope, has_cell}
 use Rattle.net_cells.proofs.Places.{flow_inside, live_inside}
 use Rattle.net_cells.proofs.Members.{hop_of}
+use Rattle.net_cells.proofs.Stored.{few_of}
 use Rattle.cell_changes.specs.Slots.{rows_in, columns_in, HasSlot, SlotsAreOwn}
 use Rattle.cell_changes.proofs.OwnSlots.{own, is_below}
 
@@ -29,18 +30,13 @@ hop_inside net i k acc h =
     let flow : IsFlow net.servers hop.flow = acc.flows hop.flow (i, inside, place) in
     (omega (arith, inside, acc.few_flows), omega (arith, hop.on_path, flow.few))
 
-few_queues : (d : Discipline) → HasFewQueues d → queue_count d ≤ 8
-few_queues Fifo h = omega arith
-few_queues (Priority n) h = h.1
-few_queues (Drr quanta) h = h.0.1
-
 queue_inside : (net : Net) (s b : ℕ) (o : Option NetServer) → IsAccepted net → slice_get net.servers s ≡ o
     → b < queue_count (discipline_of o) → (s < 64) × (b < 8)
 queue_inside net s b None acc e h = absurd (omega (arith, h))
 queue_inside net s b (Some server) acc e h =
     let inside = slice_get_within net.servers s server e in
     let kept = acc.servers server (s, inside, get_or_from_slice_get net.servers s server server e) in
-    (omega (arith, inside, acc.few_servers), omega (arith, h, few_queues server.discipline kept.queues))
+    (omega (arith, inside, acc.few_servers), omega (arith, h, few_of server.discipline kept.queues))
 
 few_levels : (d : Discipline) → levels_of d ≤ queue_count d
 few_levels Fifo = omega arith

@@ -24,17 +24,17 @@ use Rattle.net_cells.proofs.Lists.{map_has, filter_has, has_range, range_has}
 use Rattle.net_cells.proofs.Places.{flow_inside}
 use Rattle.net_cells.proofs.Stored.{flow_kept}
 use Rattle.net_cells.proofs.Precedes.{some_hop}
-use Rattle.cell_operators.specs.declared.places.Pick.{Pick}
-use Rattle.cell_operators.specs.declared.places.Pick.TheVariants.{InQueue}
+use Rattle.queue_hops.specs.declared.found.Pick.{Pick}
+use Rattle.queue_hops.specs.declared.found.Pick.TheVariants.{InQueue}
 use Rattle.cell_operators.specs.declared.sums.Partial.{Partial}
-use Rattle.cell_operators.specs.Chosen.{flow_visits, visit_list, picks, is_other, picked, chosen, all_chosen}
+use Rattle.queue_hops.specs.Chosen.{flow_visits, visit_list, picks, is_other, picked, chosen, all_chosen}
 use Rattle.cell_operators.specs.Partial.{Adds}
 use Rattle.cell_operators.specs.Evaluates.{MayBeMade}
 use Rattle.cell_operators.specs.Shapes.{Rises, Serving, Grows, Ahead}
 use Rattle.cell_operators.specs.TableValues.{HasCurve, HasNumber, IsCurveAt, IsNumberAt, Deviate}
 use Rattle.cell_operators.proofs.Rises.{grows_served}
 use Rattle.cell_operators.proofs.Meeting.{InList, meets_below, operand, curve_map, number_map, curve_from, number_from, sum_leaf, served_leaf}
-use Rattle.cell_operators.proofs.Choosing.{queue_visits, other_visits}
+use Rattle.queue_hops.proofs.Choosing.{queue_visits, other_visits}
 use Rattle.cell_operators.proofs.Shapes.{in_rises, cross_rises, total_rises, higher_rises, queue_served, hop_served, residual_grows, path_grows, queue_delay_ahead, hop_delay_ahead}
 use Rattle.run_laws.proofs.Members.{Has, has_map, has_flat}
 

@@ -13,20 +13,10 @@ ghost use Rattle.cell_kinds.specs.Tallies.{AreAdded};
 use crate::number_sums::{Added, and, no_number};
 use cell_operators::number_at;
 use cell_table::{Table, Value};
-use fraction128::Frac;
-use net_cells::{Cell, Kind, hops, server, server_at};
+use net_cells::{Cell, Kind, hops, server_at};
 use net_model::Network;
+use queue_hops::link;
 use rational::Extended;
-
-// How long a packet that leaves a server is on the way; 0 past the last server.
-fn link(net: &Network, number: u32) -> Frac
-    ensures { result ≡ at.link net.now number }
-{
-    match server(net, number) {
-        Some(found) => found.link,
-        None => Frac::zero(),
-    }
-}
 
 /// The delays of a flow's hops, added up.
 pub(crate) fn delays<T: Table<Value>>(table: &T, net: &Network, flow: u32) -> Added

@@ -13,12 +13,13 @@ ghost use Rattle.cell_operators.specs.Evaluates.{MayBeMade, Evaluates};
 use crate::places::{cell, place_of};
 use crate::sums::summed;
 use cell_operators::{
-    again, copied, flows_sum, later, left_over, lesser, packet, path_service, queue_service,
-    queues_sum, shared, spread,
+    again, copied, flows_sum, later, left_over, lesser, path_service, queue_service, queues_sum,
+    shared, spread,
 };
 use cell_table::{Table, Value};
 use net_cells::{Cell, Kind, live_flow};
 use net_model::Network;
+use queue_hops::packet;
 use std::alloc::Global;
 use std::sync::ledger::Ledger;
 use steps::Steps;

@@ -1,6 +1,7 @@
 //! Sums of numbers, with limits of their own.
 
-ghost use Rattle.std.specs.Prelude.{◌≡◌, ◌≤◌, ◌^◌, ◌++◌, List, [], ◌∷◌, length, IfSome, IfNone, IfOk, IsOk, IsSome, MatchBool, false};
+ghost use Rattle.std.specs.Prelude.{◌≡◌, ◌≤◌, ◌^◌, ◌++◌, List, [], ◌∷◌, length, IfSome, IfNone, IfOk, IsOk, IsSome};
+ghost use Rattle.std.specs.Prelude.{MatchBool, false};
 ghost use Rattle.rational.specs.Rational.{ℚ};
 ghost use Rattle.rational.specs.Extended.{Ext};
 ghost use Rattle.net_cells.specs.NumberSums.{Sums, has_infinite, finite};
@@ -136,9 +137,9 @@ fn finite_sum(all: Option<Tally>) -> Result<Ext, OpFault>
     }
 }
 
-/// The sum of at most 2^20 numbers, infinite where one of them is. Refused with TooWide exactly where 64 times their sizes
-/// together, rounded up and at least 1, times their least common denominator is 2^120 or more; where one is infinite it is
-/// not refused.
+/// The sum of at most 2^20 numbers, infinite where one of them is. Refused with TooWide exactly where 64 times their
+/// sizes together, rounded up and at least 1, times their least common denominator is 2^120 or more; where one is
+/// infinite it is not refused.
 pub fn sum_of(all: Added) -> Result<Ext, OpFault>
     ensures { (xs : List Ext) → length xs ≤ 2 ^ 20 → AreAdded xs all → Sums xs result }
 {

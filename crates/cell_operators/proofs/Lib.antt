@@ -2,7 +2,6 @@ pub mod Rises
 pub mod Meeting
 pub mod Shapes
 pub mod Handing
-pub mod Choosing
 pub mod SumSteps
 pub mod Counting
 pub mod PathSteps

@@ -1,6 +1,5 @@
 pub mod TableValues
 pub mod Shapes
 pub mod Sharing
-pub mod Chosen
 pub mod Partial
 pub mod Evaluates

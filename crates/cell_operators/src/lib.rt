@@ -3,7 +3,6 @@
 
 mod nodes;
 mod paths;
-mod places;
 mod reading;
 mod services;
 mod sharing;
@@ -11,7 +10,6 @@ mod sums;
 
 pub use nodes::{backlog, delay_between, later, left_over, lesser, spread};
 pub use paths::path_service;
-pub use places::{Pick, longest_at, packet};
 pub use reading::{curve_at, number_at};
 pub use services::queue_service;
 pub use sharing::{again, copied, shared};

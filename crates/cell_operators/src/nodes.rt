@@ -31,8 +31,8 @@ use std::sync::ledger::Ledger;
 use steps::Steps;
 use upp_curve::Curve;
 use upp_limits::OpFault;
-/// The horizontal deviation of a cell's curve, which rises, and another's, which serves. One step is counted; refused only
-/// where that call is over a limit.
+/// The horizontal deviation of a cell's curve, which rises, and another's, which serves. One step is counted; refused
+/// only where that call is over a limit.
 pub fn delay_between<T: Table<Value>, L: Ledger>(
     table: &T,
     from: Cell,

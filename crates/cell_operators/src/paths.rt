@@ -16,7 +16,6 @@ ghost use Rattle.cell_operators.specs.Shapes.{Serving};
 ghost use Rattle.cell_operators.specs.TableValues.{HasCurve};
 
 use crate::nodes::in_packets;
-use crate::places::packet;
 use crate::reading::curve_at;
 use crate::sharing::{again, shared};
 use cell_table::{Table, Value};
@@ -24,6 +23,7 @@ use curve_call::seen;
 use curve_conv::convolve;
 use net_cells::{Cell, Kind, hops};
 use net_model::Network;
+use queue_hops::packet;
 use std::alloc::Global;
 use std::sync::ledger::Ledger;
 use steps::Steps;

@@ -19,7 +19,6 @@ ghost use Rattle.cell_table.specs.Values.{answer_of, meaning_of};
 ghost use Rattle.cell_operators.specs.Evaluates.{Counts};
 ghost use Rattle.cell_operators.specs.TableValues.{IsCurveAt};
 
-use crate::places::{Pick, longest_at};
 use crate::reading::curve_at;
 use crate::sharing::{copied, shared};
 use arrayvec::ArrayVec;
@@ -28,6 +27,7 @@ use drr_residual::drr_service;
 use net_cells::{Cell, Kind, server};
 use net_model::{Discipline, Network};
 use priority_residual::priority_service;
+use queue_hops::{Pick, longest_at};
 use std::alloc::Global;
 use std::sync::ledger::Ledger;
 use steps::Steps;

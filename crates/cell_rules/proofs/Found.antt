@@ -3,7 +3,7 @@ use Rattle.std.proofs.Common.{◌≡◌, ◌≢◌, ◌⊎◌, ℕ, ◌+◌, ◌
 use Rattle.std.specs.Prelude.{IsTrue, Contains, ◌||◌, slice_set}
 use Rattle.std.specs.List.{list_any, IsDistinct}
 use Rattle.std.proofs.lemmas.List.{get_or-set_same, get_or-set_other, length-set, length-replicate, get_or-replicate, get_or_past, take-append-drop, length-map, drop_more}
-use Rattle.std.proofs.lemmas.Bool.{cases_lt, eqb-true, ne_eqb}
+use Rattle.std.proofs.lemmas.Bool.{cases_lt, eqb-true, ne_eqb, or_cases, or_parts}
 use Rattle.std.proofs.lemmas.Map.Keys.{IsDistinct-from_apart}
 use Rattle.std.proofs.lemmas.Map.Steps.{length-le_from_distinct_below}
 use Rattle.std.proofs.lemmas.Bool.Decides.{eqb_tells}
@@ -11,7 +11,6 @@ use Rattle.net_model.specs.Networks.{Net}
 use Rattle.net_model.specs.Accepted.{IsAccepted}
 use Rattle.net_model.specs.Orders.{IsOrder}
 use Rattle.net_cells.specs.declared.cell.Cell.{Cell}
-use Rattle.net_cells.specs.declared.cell.Kind.TheVariants.{In}
 use Rattle.net_cells.specs.Cells.{has_cell}
 use Rattle.net_cells.specs.Order.{evaluation_order}
 use Rattle.net_cells.specs.Formulas.{leaves}
@@ -26,26 +25,18 @@ use Rattle.cell_changes.proofs.OwnSlots.{own, is_below}
 use Rattle.cell_changes.proofs.HasSlots.{slots_are_own}
 
 -- ---- tests of lists
-or_false : (a b : Bool) → (a || b) ≡ false → (a ≡ false) × (b ≡ false)
-or_false true b e = absurd (let bad : ⊥ = cc in bad)
-or_false false b e = (refl, e)
-
-or_true : (a b : Bool) → (a || b) ≡ true → (a ≡ true) ⊎ (b ≡ true)
-or_true true b e = inl refl
-or_true false b e = inr e
-
 any_has : {X : Type 0} (p : X → Bool) (xs : List X) → list_any p xs ≡ true → (x : X) × Has xs x × (p x ≡ true)
 any_has p [] e = absurd (let bad : ⊥ = cc in bad)
 any_has p (x ∷ xs) e =
-    elim (or_true (p x) (list_any p xs) e) [
+    elim (or_cases (p x) (list_any p xs) e) [
       | inl is ↦ (x, inl refl, is)
       | inr h ↦ let found = any_has p xs h in (found.0, inr found.1, found.2)
     ]
 
 any_none : {X : Type 0} (p : X → Bool) (xs : List X) → list_any p xs ≡ false → (x : X) → Has xs x → p x ≡ false
 any_none p [] e y h = absurd h
-any_none p (x ∷ xs) e y (inl is) = subst (λ z. p z ≡ false) is (or_false (p x) (list_any p xs) e).0
-any_none p (x ∷ xs) e y (inr h) = any_none p xs (or_false (p x) (list_any p xs) e).1 y h
+any_none p (x ∷ xs) e y (inl is) = subst (λ z. p z ≡ false) is (or_parts (p x) (list_any p xs) e).0
+any_none p (x ∷ xs) e y (inr h) = any_none p xs (or_parts (p x) (list_any p xs) e).1 y h
 
 -- ---- lists of touched cells
 module _ (old net : Net) where
@@ -168,16 +159,6 @@ not_set n i = elim (cases_lt i n) [
   | inl l ↦ get_or-replicate n i false false l
   | inr l ↦ get_or_past (replicate n false) i false (omega (arith, l, length-replicate {A = Bool} n false))
 ]
-
--- ---- places
--- any cell, for a place past the last
-abbrev pub no_cell : Cell
-no_cell = record { kind = In; a = 0; b = 0 }
-
-pub at_place : (cells : List Cell) (i : ℕ) → i < length cells
-    → cells ≡ take i cells ++ get_or cells i no_cell ∷ drop (i + 1) cells
-at_place cells i h =
-    sym (take-append-drop i cells) ∙ ap (λ (xs : List Cell). take i cells ++ xs) (drop_more cells i no_cell h)
 
 -- ---- how many
 touched_in : (old net : Net) (cells touched : List Cell) → TouchedOf old net cells touched → (c : Cell) → Has touched c

@@ -58,11 +58,11 @@ hop_delay_tells old new i k b t =
     (ap (place_in 0)) t
 
 -- ---- packets
-whole_same : (m n : ℕ) → whole m ≡ whole n → m ≡ n
-whole_same m n e = let z : pos m ≡ pos n = int_same (pos m) (pos n) e in cc
-
 less_same : (F G : Formula) (m n : ℕ) → less F m ≡ less G n → m ≡ n
-less_same F G m n e = let w : whole m ≡ whole n = cc in whole_same m n w
+less_same F G m n e =
+    let w : whole m ≡ whole n = cc in
+    let z : pos m ≡ pos n = int_same (pos m) (pos n) w in
+    cc
 
 pub backlog_tells : (old new : Net) (s q : ℕ) (b : Bool) → TellsSame (longest old s q) (longest new s q) b
     → TellsFormula old new QueueBacklog s q b

@@ -67,7 +67,8 @@ fn note(
 ) -> Result<(), AllocError>
     requires room { length flags.old.items ≡ 36352 }
     requires place { HasSlot cell }
-    ensures { OnOk result (IsNoted cell is_touched flags.old.items flags.new.items touched.old.items touched.new.items) }
+    ensures { OnOk result (IsNoted cell is_touched
+        flags.old.items flags.new.items touched.old.items touched.new.items) }
 {
     if is_touched {
         flags[slot(cell) as usize] = true;
@@ -88,8 +89,7 @@ pub fn touched_cells(
     ensures touched { IfOk result (λ touched. TouchedOf old.now net.now cells.now touched.items) }
     ensures few { IfOk result (λ touched. length touched.items ≤ 36352) }
 {
-    // What networks keep is in the contract of this call.
-    let _ = net.servers();
+    net.keeps();
     let mut flags = no_flags(alloc, SLOTS as usize)?;
     let mut touched = Vec::new(alloc);
     for place in 0..cells.len() {

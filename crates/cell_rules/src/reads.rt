@@ -7,9 +7,9 @@ ghost use Rattle.net_cells.specs.Numbered as at;
 ghost use Rattle.cell_rules.specs.Rules.{TellsSame, hop_queue};
 
 use fraction128::Frac;
-use net_cells::{hops, live_flow, queue_at, server, server_at};
+use net_cells::{hops, live_flow, queue_at, server_at};
 use net_model::Network;
-use queue_hops::packet;
+use queue_hops::{link, packet};
 use upp_curve::{Curve, equal};
 use upp_normal::normal_form_is_unique;
 
@@ -54,21 +54,11 @@ pub(crate) fn same_packet(old: &Network, new: &Network, flow: u32) -> bool
     packet(old, flow) == packet(new, flow)
 }
 
-// How long a packet that leaves a server is on the way; 0 past the last server.
-fn link_of(net: &Network, number: u32) -> Frac
-    ensures { result ≡ at.link net.now number }
-{
-    match server(net, number) {
-        Some(found) => found.link,
-        None => Frac::zero(),
-    }
-}
-
 // The link after a hop.
 fn link_at(net: &Network, flow: u32, hop: u32) -> Frac
     ensures { result ≡ at.link net.now (at.server_at net.now flow hop) }
 {
-    link_of(net, server_at(net, flow, hop))
+    link(net, server_at(net, flow, hop))
 }
 
 fn same_link(here: Frac, there: Frac) -> bool

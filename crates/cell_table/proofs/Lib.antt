@@ -1,1 +1,2 @@
 pub mod GivesAnswers
+pub mod Fronts

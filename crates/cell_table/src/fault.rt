@@ -1,6 +1,10 @@
 //! Why a network has no analysis.
 
+ghost use Rattle.std.specs.Prelude.{◌≡◌};
+ghost use Rattle.cell_table.specs.Refusals.{fault_at};
+
 use net_cells::Cell;
+use upp_limits::OpFault;
 
 /// Why there is no table of all values.
 #[derive(Debug, Clone, Copy, PartialEq, Eq)]
@@ -11,4 +15,15 @@ pub enum AnalysisFault {
     TooWide(Cell),
     /// An allocation was refused.
     NoMemory,
+}
+
+/// Why there is no table, where this is why a cell has no value.
+pub fn refusal(cell: Cell, fault: OpFault) -> AnalysisFault
+    ensures { result ≡ fault_at cell fault }
+{
+    match fault {
+        OpFault::TooMany => AnalysisFault::TooMany(cell),
+        OpFault::TooWide => AnalysisFault::TooWide(cell),
+        OpFault::NoMemory => AnalysisFault::NoMemory,
+    }
 }

@@ -1,5 +1,5 @@
-//! Values of the cells of a network, tables of them, and what makes them: the words in which the crates above speak of an
-//! analysis. Nothing is computed here.
+//! Values of the cells of a network, tables of them, and what makes them: the words in which the crates above speak of
+//! an analysis. No value is computed here.
 #![tactic(auto)]
 
 mod analysis;
@@ -10,6 +10,6 @@ mod value;
 
 pub use analysis::Analysis;
 pub use evaluator::Evaluator;
-pub use fault::AnalysisFault;
+pub use fault::{AnalysisFault, refusal};
 pub use table::{CellValue, Table};
 pub use value::Value;

@@ -1,4 +1,4 @@
-//! Which hops are at a server, and their longest packets: nothing is stored.
+//! Which hops are at a server, their longest packets, and the links of servers: nothing is stored.
 
 ghost use Rattle.std.specs.Prelude.{◌≡◌, ℕ, length, max};
 ghost use Rattle.net_cells.specs.Numbered as at;
@@ -6,7 +6,8 @@ ghost use Rattle.net_cells.specs.Visits as seen;
 ghost use Rattle.queue_hops.specs.Chosen.{flow_visits, visit_list, picked, chosen, all_picked};
 ghost use Rattle.queue_hops.specs.Chosen as spec;
 
-use net_cells::{hops, live_flow, queue_at, server_at};
+use fraction128::Frac;
+use net_cells::{hops, live_flow, queue_at, server, server_at};
 use net_model::Network;
 
 /// Which hops at a server are meant: those in a queue, or those in the queues of greater number.
@@ -26,11 +27,21 @@ pub fn packet(net: &Network, flow: u32) -> u32
     }
 }
 
+/// How long a packet that leaves a server is on the way; 0 past the last server.
+pub fn link(net: &Network, number: u32) -> Frac
+    ensures { result ≡ at.link net.now number }
+{
+    match server(net, number) {
+        Some(found) => found.link,
+        None => Frac::zero(),
+    }
+}
+
 /// The hop of a flow that is at a server: its path is there once at most.
 pub fn hop_at(net: &Network, flow: u32, server: u32) -> Option<u32>
     ensures { flow_visits net.now server flow ≡ visit_list flow result }
 {
-    let _kept = net.flows();
+    net.keeps();
     for hop in 0..hops(net, flow) {
         if server_at(net, flow, hop) == server {
             return Some(hop);

@@ -4,4 +4,4 @@
 
 mod found;
 
-pub use found::{Pick, chosen_at, longest_at, packet};
+pub use found::{Pick, chosen_at, link, longest_at, packet};

@@ -7,10 +7,10 @@ use Rattle.net_cells.specs.declared.visit.Visit.{Visit}
 use Rattle.net_cells.specs.Visits.{others}
 use Rattle.net_cells.specs.Order.{at_visit}
 use Rattle.cell_table.specs.Values.{answer_of, meaning_of}
-use Rattle.cell_operators.specs.declared.places.Pick.TheVariants.{InQueue}
-use Rattle.cell_operators.specs.Chosen.{all_chosen}
+use Rattle.queue_hops.specs.declared.found.Pick.TheVariants.{InQueue}
+use Rattle.queue_hops.specs.Chosen.{all_chosen}
 use Rattle.cell_operators.specs.Partial.{Adds}
-use Rattle.cell_operators.proofs.Choosing.{other_visits}
+use Rattle.queue_hops.proofs.Choosing.{other_visits}
 use Rattle.cell_operators.specs.Evaluates.{Counts}
 use Rattle.cell_kinds.proofs.Arms.{cross_ready}
 use Rattle.cell_kinds.proofs.curves.cross.Goals as goal

@@ -6,7 +6,7 @@ use Rattle.net_cells.specs.Visits.{visits_in}
 use Rattle.net_cells.specs.Order.{at_visit}
 use Rattle.cell_table.specs.Values.{answer_of, meaning_of}
 use Rattle.cell_operators.specs.Partial.{Adds}
-use Rattle.cell_operators.proofs.Choosing.{queue_visits}
+use Rattle.queue_hops.proofs.Choosing.{queue_visits}
 use Rattle.cell_operators.specs.Evaluates.{Counts}
 use Rattle.cell_kinds.proofs.Arms.{total_ready}
 use Rattle.cell_kinds.proofs.curves.total.Goals as goal

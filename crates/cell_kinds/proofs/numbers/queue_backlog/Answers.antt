@@ -3,8 +3,8 @@ use Rattle.net_cells.specs.Meanings.{number}
 use Rattle.cell_operators.proofs.Counting.{ok_answer}
 use Rattle.cell_kinds.proofs.Arms.{backlog_comes, backlog_served_by}
 use Rattle.net_cells.specs.Visits.{longest_of}
-use Rattle.cell_operators.specs.declared.places.Pick.TheVariants.{InQueue}
-use Rattle.cell_operators.proofs.Choosing.{picked_are}
+use Rattle.queue_hops.specs.declared.found.Pick.TheVariants.{InQueue}
+use Rattle.queue_hops.proofs.Choosing.{picked_are}
 use Rattle.cell_kinds.proofs.numbers.queue_backlog.Goals as goal
 
 pub backlog-requires-clause-curve : goal.backlog-requires-clause-curve

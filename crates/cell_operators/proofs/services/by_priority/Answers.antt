@@ -9,8 +9,8 @@ use Rattle.net_cells.specs.Formulas.{value_of, priority}
 use Rattle.net_cells.specs.Answers.{Answers, MakesCurve}
 use Rattle.cell_table.specs.Values.{answer_of, meaning_of}
 use Rattle.cell_operators.proofs.Handing.{priority_out, shared_makes, on_cell}
-use Rattle.cell_operators.specs.declared.places.Pick.TheVariants.{AfterQueue}
-use Rattle.cell_operators.proofs.Choosing.{picked_are}
+use Rattle.queue_hops.specs.declared.found.Pick.TheVariants.{AfterQueue}
+use Rattle.queue_hops.proofs.Choosing.{picked_are}
 use Rattle.cell_operators.proofs.SharedCounts.{shared_ok}
 use Rattle.cell_operators.proofs.services.by_priority.Goals as goal
 

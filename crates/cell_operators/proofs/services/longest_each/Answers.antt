@@ -2,8 +2,8 @@ use Rattle.std.proofs.Common.{sym, ap, ◌∙◌, arith, map, [], ◌∷◌, ◌
 use Rattle.std.specs.List.{range_with_len}
 use Rattle.std.proofs.lemmas.List.FromFn.{map-range_with_len_more}
 use Rattle.net_cells.specs.Visits.{longest, longest_of}
-use Rattle.cell_operators.specs.declared.places.Pick.TheVariants.{InQueue}
-use Rattle.cell_operators.proofs.Choosing.{picked_are}
+use Rattle.queue_hops.specs.declared.found.Pick.TheVariants.{InQueue}
+use Rattle.queue_hops.proofs.Choosing.{picked_are}
 use Rattle.cell_operators.proofs.services.longest_each.Goals as goal
 
 pub loop-queue-preserved : goal.loop-queue-preserved

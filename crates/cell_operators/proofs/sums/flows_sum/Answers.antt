@@ -5,10 +5,10 @@ use Rattle.std.proofs.lemmas.List.{map-append, length-map}
 use Rattle.net_model.specs.Views.{flow_of}
 use Rattle.net_cells.specs.declared.cell.Kind.TheVariants.{In}
 use Rattle.net_cells.specs.Order.{at_visit}
-use Rattle.cell_operators.specs.declared.places.Pick.TheVariants.{InQueue}
-use Rattle.cell_operators.specs.Chosen.{chosen, all_chosen}
+use Rattle.queue_hops.specs.declared.found.Pick.TheVariants.{InQueue}
+use Rattle.queue_hops.specs.Chosen.{chosen, all_chosen}
 use Rattle.cell_operators.specs.Partial.{Adds}
-use Rattle.cell_operators.proofs.Choosing.{all_chosen_more, flat_front}
+use Rattle.queue_hops.proofs.Choosing.{all_chosen_more, flat_front}
 use Rattle.cell_operators.proofs.SumSteps.{adds_then, adds_rest}
 use Rattle.cell_operators.proofs.sums.flows_sum.Goals as goal
 

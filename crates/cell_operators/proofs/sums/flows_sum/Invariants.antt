@@ -2,8 +2,8 @@ use Rattle.std.proofs.Common.{[], map}
 use Rattle.std.specs.Prelude.{Ok}
 use Rattle.net_cells.specs.declared.cell.Kind.TheVariants.{In}
 use Rattle.net_cells.specs.Order.{at_visit}
-use Rattle.cell_operators.specs.declared.places.Pick.TheVariants.{InQueue}
-use Rattle.cell_operators.specs.Chosen.{all_chosen}
+use Rattle.queue_hops.specs.declared.found.Pick.TheVariants.{InQueue}
+use Rattle.queue_hops.specs.Chosen.{all_chosen}
 use Rattle.cell_operators.specs.Partial.{IsReady, Adds}
 use Rattle.cell_operators.proofs.sums.flows_sum.Given as goal
 

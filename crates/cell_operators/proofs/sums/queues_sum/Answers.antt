@@ -5,7 +5,7 @@ use Rattle.std.proofs.lemmas.List.FromFn.{map-range_with_len_more}
 use Rattle.net_cells.specs.declared.cell.Kind.TheVariants.{Total}
 use Rattle.net_cells.specs.Cells.{cell_of}
 use Rattle.cell_operators.specs.Partial.{Adds}
-use Rattle.cell_operators.proofs.Choosing.{map_front}
+use Rattle.queue_hops.proofs.Choosing.{map_front}
 use Rattle.cell_operators.proofs.SumSteps.{adds_then, adds_rest}
 use Rattle.cell_operators.proofs.sums.queues_sum.Goals as goal
 

@@ -5,7 +5,8 @@ use Rattle.net_cells.specs.Order.{evaluation_order}
 use Rattle.net_cells.proofs.Precedes.{in_front}
 use Rattle.cell_changes.specs.Changes.{TouchedOf, no_more}
 use Rattle.cell_rules.specs.Finding.{AreFlags, IsTold}
-use Rattle.cell_rules.proofs.Found.{no_cell, first_flags, own_slot, part_slots, noted_flags, noted_list, at_place, few_touched}
+use Rattle.cell_table.proofs.Fronts.{no_cell, at_place}
+use Rattle.cell_rules.proofs.Found.{first_flags, own_slot, part_slots, noted_flags, noted_list, few_touched}
 use Rattle.cell_rules.proofs.finding.touched_cells.Goals as goal
 
 pub loop-place-init : goal.loop-place-init
@@ -27,7 +28,7 @@ is_touched-requires-clause-places c =
     let cells = c.args.cells.now in
     let i = c.loop-place.place in
     part_slots c.args.old.now c.args.net.now c.requires.order (take i cells) (get_or cells i no_cell) (drop (i + 1) cells)
-    c.servers.ensures.kept c.requires.servers (sym c.requires.are ∙ at_place cells i (omega arith))
+    c.keeps.ensures c.requires.servers (sym c.requires.are ∙ at_place cells i (omega arith))
     c.loop-place.flags.items c.loop-place.invariant.flags
 
 pub note-requires-clause-place : goal.note-requires-clause-place
@@ -35,7 +36,7 @@ note-requires-clause-place c =
     let cells = c.args.cells.now in
     let i = c.loop-place.place in
     own_slot c.args.old.now c.args.net.now c.requires.order (take i cells) (get_or cells i no_cell) (drop (i + 1) cells)
-    c.servers.ensures.kept c.requires.servers (sym c.requires.are ∙ at_place cells i (omega arith))
+    c.keeps.ensures c.requires.servers (sym c.requires.are ∙ at_place cells i (omega arith))
     c.loop-place.flags.items c.loop-place.invariant.flags
 
 pub loop-place-preserved : goal.loop-place-preserved
@@ -54,11 +55,11 @@ loop-place-preserved c =
     record {
       flags = subst (λ (front : List Cell). AreFlags old net front c.note.new.flags.items) (sym longer)
           (noted_flags old net c.requires.order (take i cells) (get_or cells i no_cell) (drop (i + 1) cells)
-          c.servers.ensures.kept c.requires.servers whole flags c.loop-place.invariant.flags c.in_ok-here.here
+          c.keeps.ensures c.requires.servers whole flags c.loop-place.invariant.flags c.in_ok-here.here
           c.note.new.flags.items c.loop-place.touched.items c.note.new.touched.items told c.in_ok-note.ensures);
       list = subst (λ (front : List Cell). TouchedOf old net front c.note.new.touched.items) (sym longer)
           (noted_list old net c.requires.order (take i cells) (get_or cells i no_cell) (drop (i + 1) cells)
-          c.servers.ensures.kept c.requires.servers whole flags c.loop-place.invariant.flags c.in_ok-here.here
+          c.keeps.ensures c.requires.servers whole flags c.loop-place.invariant.flags c.in_ok-here.here
           c.note.new.flags.items c.loop-place.touched.items c.note.new.touched.items told c.in_ok-note.ensures
           c.loop-place.invariant.list);
     }
@@ -70,7 +71,7 @@ returns-clause-touched c =
 
 pub returns-clause-few : goal.returns-clause-few
 returns-clause-few c =
-    few_touched c.args.old.now c.args.net.now c.requires.order c.loop-place.touched.items c.servers.ensures.kept
+    few_touched c.args.old.now c.args.net.now c.requires.order c.loop-place.touched.items c.keeps.ensures
     c.requires.servers
     (subst (λ (cs : List Cell). TouchedOf c.args.old.now c.args.net.now cs c.loop-place.touched.items)
     (take_all c.loop-place.place c.args.cells.now (omega arith) ∙ c.requires.are) c.loop-place.invariant.list)

@@ -8,5 +8,5 @@ loop-hop-preserved c =
 
 pub returns-then-server_at-server : goal.returns-then-server_at-server
 returns-then-server_at-server c =
-    hop_here c.args.net.now c.args.server c.args.flow c.loop-hop.hop c.flows-kept.ensures.kept
+    hop_here c.args.net.now c.args.server c.args.flow c.loop-hop.hop c.keeps.ensures
     (subst (λ n. c.loop-hop.hop < n) c.hops-hop-end.ensures.hops c.loop-hop-test.true) (sym c.server_at.ensures ∙ c.if-server_at-server.true) c.loop-hop.invariant
