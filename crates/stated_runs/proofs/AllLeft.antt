@@ -3,16 +3,18 @@ use Rattle.std.proofs.Common.{◌≡◌, ◌≤◌, List, [], ◌∷◌, length,
 use Rattle.std.specs.Prelude.{pos}
 use Rattle.std.proofs.lemmas.Bool.{cases_lt}
 use Rattle.std.proofs.lemmas.List.{length_push}
-use Rattle.rational.specs.Rational.{int}
+use Rattle.rational.specs.Rational.{ℚ, int}
 use Rattle.run_laws.specs.declared.steps.Step.{Step}
 use Rattle.run_laws.specs.declared.steps.Step.TheVariants.{Enter, Reach, Work, Leave, Visit}
 use Rattle.run_laws.specs.Runs.{SpecRun}
 use Rattle.run_laws.specs.Lawful.{RunState, next_run, run_start, after_run}
 use Rattle.stated_runs.specs.Setups.{Setup, packet_of, IsSetup}
-use Rattle.stated_runs.specs.DueSteps.{IsDue}
+use Rattle.stated_runs.specs.DueSteps.{IsDue, step_time}
 use Rattle.stated_runs.specs.Simulated.{Follows, IsSimulated}
-use Rattle.stated_runs.specs.Laws.{HasAllLeft, state_after}
+use Rattle.stated_runs.specs.Laws.{HasAllLeft, GoByTime, state_after}
 use Rattle.stated_runs.proofs.Lists.{In}
+use Rattle.stated_runs.proofs.Good.{IsGood, good_from_step}
+use Rattle.stated_runs.proofs.GoodSteps.{good_next}
 use Rattle.stated_runs.proofs.Lawfulness.{good_start, done_all}
 use Rattle.stated_runs.proofs.Progress.{turn_start, empty_at_end}
 
@@ -54,3 +56,14 @@ all_left S run ok sim =
       servers = empty_at_end S ok run.steps r (int (pos 0)) start (turn_start S) sim.follows;
       links = none_in (state_after S run.steps).due (done_all S ok run.steps r (int (pos 0)) start sim.follows).none_due;
     }
+
+-- and its steps go by time
+by_time : (S : Setup) → IsSetup S → (xs : List Step) (r : RunState) (T : ℚ) → IsGood S r T → Follows S r xs → GoByTime T xs
+by_time S ok [] r T g f = tt
+by_time S ok (x ∷ xs) r T g f =
+    let n = f.0 in
+    let k = good_next S ok r T g x n in
+    (g.later x n.due, by_time S ok xs (next_run S.net r x) (step_time x) (good_from_step S r T x g n k) f.1)
+
+pub go_by_time : (S : Setup) (run : SpecRun) → IsSetup S → IsSimulated S run → GoByTime (int (pos 0)) run.steps
+go_by_time S run ok sim = by_time S ok run.steps (run_start S.net) (int (pos 0)) (good_start S ok) sim.follows

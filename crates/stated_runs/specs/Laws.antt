@@ -1,6 +1,6 @@
 -- What is promised of stated runs.
-use Rattle.std.specs.Prelude.{◌≡◌, ◌≢◌, ◌⊎◌, ℕ, ◌<◌, List, [], ◌∷◌, ◌++◌, length, None, Contains}
-use Rattle.rational.specs.Rational.{ℚ, ◌≤ℚ◌}
+use Rattle.std.specs.Prelude.{◌≡◌, ◌≢◌, ◌⊎◌, ℕ, ◌<◌, List, [], ◌∷◌, ◌++◌, length, None, Contains, pos}
+use Rattle.rational.specs.Rational.{ℚ, int, ◌≤ℚ◌}
 use Rattle.run_laws.specs.declared.steps.Step.{Step}
 use Rattle.run_laws.specs.declared.steps.Step.TheVariants.{Enter, Reach, Work, Leave, Visit}
 use Rattle.run_laws.specs.Runs.{SpecRun}
@@ -8,6 +8,7 @@ use Rattle.run_laws.specs.Routes.{Routes, route_of, last_server}
 use Rattle.run_laws.specs.Views.{server_of}
 use Rattle.run_laws.specs.Lawful.{IsLawful, RunState, state_at, after_run, run_start}
 use Rattle.stated_runs.specs.Setups.{Setup, IsSetup, IsFirstOpen, packet_of}
+use Rattle.stated_runs.specs.DueSteps.{step_time}
 use Rattle.stated_runs.specs.Simulated.{IsSimulated}
 
 -- the stated run is a lawful run of its network
@@ -17,6 +18,15 @@ StatedRunsAreLawful = (S : Setup) (run : SpecRun) → IsSetup S → IsSimulated 
 -- and there is only one
 abbrev pub StatedRunIsUnique : Type 0
 StatedRunIsUnique = (S : Setup) (a b : SpecRun) → IsSetup S → IsSimulated S a → IsSimulated S b → a ≡ b
+
+-- the steps go by time, from T on
+abbrev pub GoByTime : ℚ → List Step → Type 0
+GoByTime T [] = Unit {0}
+GoByTime T (x ∷ xs) = (T ≤ℚ step_time x) × GoByTime (step_time x) xs
+
+-- those of the stated run do, from 0 on
+abbrev pub StatedRunsGoByTime : Type 0
+StatedRunsGoByTime = (S : Setup) (run : SpecRun) → IsSetup S → IsSimulated S run → GoByTime (int (pos 0)) run.steps
 
 -- the state after the steps of a list, from the start
 abbrev pub state_after : Setup → List Step → RunState

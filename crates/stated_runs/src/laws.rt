@@ -1,7 +1,7 @@
 //! Laws of stated runs. A law is the contract of a function that does nothing.
 
 ghost use Rattle.stated_runs.specs.FromTraces.{TracesMakeSetups};
-ghost use Rattle.stated_runs.specs.Laws.{StatedRunsAreLawful, StatedRunIsUnique, EveryPacketLeaves, EachLeavesItsLast, OpenServersStart};
+ghost use Rattle.stated_runs.specs.Laws.{StatedRunsAreLawful, StatedRunIsUnique, StatedRunsGoByTime, EveryPacketLeaves, EachLeavesItsLast, OpenServersStart};
 
 /// An accepted network, and a trace whose numbers are those of its servers and live flows, make a setup.
 pub fn traces_make_setups()
@@ -16,6 +16,11 @@ pub fn stated_runs_are_lawful()
 /// A network and a trace have one stated run at most.
 pub fn stated_run_is_unique()
     ensures { StatedRunIsUnique }
+{}
+
+/// The steps of a stated run go by time.
+pub fn stated_runs_go_by_time()
+    ensures { StatedRunsGoByTime }
 {}
 
 /// At the end of a stated run all packets of the trace have entered, and none is at a server or on a link.

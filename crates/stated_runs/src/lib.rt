@@ -5,5 +5,5 @@ mod laws;
 
 pub use laws::{
     each_leaves_its_last, every_packet_leaves, open_servers_start, stated_run_is_unique,
-    stated_runs_are_lawful, traces_make_setups,
+    stated_runs_are_lawful, stated_runs_go_by_time, traces_make_setups,
 };
