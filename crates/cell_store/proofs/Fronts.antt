@@ -23,63 +23,15 @@ use Rattle.net_cells.proofs.Precedes.{in_front, leaf_in_front}
 use Rattle.net_cells.proofs.Tables.{closed_front, front_meets_below}
 use Rattle.cell_table.specs.declared.fault.AnalysisFault.{AnalysisFault}
 use Rattle.cell_table.specs.Gives.{Gives}
-use Rattle.cell_table.proofs.GivesAnswers.{gives_ok, gives_over}
+use Rattle.cell_table.specs.Refusals.{fault_at}
+use Rattle.cell_table.proofs.Fronts.{no_cell, cell_at, grown}
+use Rattle.cell_table.proofs.GivesAnswers.{gives_over}
 use Rattle.cell_changes.specs.Changes.{Touched, Untouched, TouchedOf, no_more, passed, taken}
 use Rattle.cell_changes.specs.Laws.{AgreeAtUntouched}
 use Rattle.cell_changes.specs.Slots.{HasSlot}
 use Rattle.cell_changes.proofs.HasSlots.{slots_are_own}
 use Rattle.cell_changes.proofs.CarriedOver.{not_both, answered_on, rule_of}
-use Rattle.cell_store.specs.Edits.{AllAnswered, IsFirst, IsFirstTouched, RefusesFor, refusal_at, SameButAt}
-
--- any cell, for a place past the last
-abbrev pub no_cell : Cell
-no_cell = record { kind = In; a = 0; b = 0 }
-
-abbrev pub cell_at : List Cell → ℕ → Cell
-cell_at cells i = get_or cells i no_cell
-
--- ---- a front of the order
--- what stands before an element that is not repeated is another one
-not_in_front : (front : List Cell) (c : Cell) (back : List Cell) → Apart (front ++ c ∷ back) → ¬ (Has front c)
-not_in_front [] c back a h = h
-not_in_front (x ∷ xs) c back a (inl e) = a.0 (has_right xs (c ∷ back) x (inl (sym e)))
-not_in_front (x ∷ xs) c back a (inr h) = not_in_front xs c back a.1 h
-
--- one more cell: a table that has its value, and else is as before
-pub grown : (net : Net) (order : List ℕ) (at more : CellTable) (front : List Cell) (c : Cell) (back : List Cell)
-    (v : Meaning) → IsAccepted net → IsOrder net order → evaluation_order net order ≡ front ++ c ∷ back
-    → AnswersAll net at front
-    → Gives at (formula net c) (Ok v) → more c ≡ Some v → ((d : Cell) → d ≢ c → more d ≡ at d)
-    → AnswersAll net more (front ++ c ∷ [])
-grown net order at more front c back v a o is all gives put others d m =
-    elim (has_either front (c ∷ []) d (contains_has (front ++ c ∷ []) d m)) [ inl l ↦ old d l | inr r ↦ new d r ]
-  where
-    away : ¬ (Has front c)
-    away = not_in_front front c back (subst (λ (cs : List Cell). Apart cs) is (apart_cells net order o))
-
-    same : AgreeOn front at more
-    same e h = sym (others e (λ k. away (subst (λ (x : Cell). Has front x) k h)))
-
-    old : (e : Cell) → Has front e → IsAnswered net more e
-    old e h =
-        let was = all e (has_contains front e h) in record {
-          value = was.value;
-          is = sym (same e h) ∙ was.is;
-          answers = answers_same at more (formula net e) (Ok was.value)
-              (λ x k. same x (closed_front net order front c back e x a o is h k)) was.answers;
-        }
-
-    here : IsAnswered net more c
-    here = record {
-      value = v;
-      is = put;
-      answers = answers_same at more (formula net c) (Ok v)
-          (λ x k. same x (leaf_in_front net order front c back x a o is k)) (gives_ok at (formula net c) v gives);
-    }
-
-    new : (e : Cell) → Has (c ∷ []) e → IsAnswered net more e
-    new e (inl k) = subst (λ (x : Cell). IsAnswered net more x) k here
-    new e (inr k) = absurd k
+use Rattle.cell_store.specs.Edits.{AllAnswered, IsFirst, IsFirstTouched, RefusesFor, SameButAt}
 
 -- ---- touched cells
 -- every one of the touched cells is touched
@@ -205,7 +157,7 @@ first_at old net order at c left fault limit o n gives other p =
 
 why : (old net : Net) (order : List ℕ) (at : CellTable) (touched : List Cell) (c : Cell) (left : List Cell)
     (fault : OpFault) → Contains touched c → IsOrder net order → Next old net order at c left
-    → Gives at (formula net c) (Err fault) → RefusesFor (IsFirstTouched net touched) (refusal_at c fault)
+    → Gives at (formula net c) (Err fault) → RefusesFor (IsFirstTouched net touched) (fault_at c fault)
 why old net order at touched c left operator.TooMany among o n gives = record {
   among = among;
   first = first_at old net order at c left operator.TooMany (λ e. cc) o n gives;
@@ -217,7 +169,7 @@ why old net order at touched c left operator.TooWide among o n gives = record {
 why old net order at touched c left operator.NoMemory among o n gives = tt
 
 pub refused : (old net : Net) (order : List ℕ) (at : CellTable) (touched : List Cell) (i : ℕ) (left : List Cell)
-    (fault : OpFault) (fault_is : AnalysisFault) → fault_is ≡ refusal_at (cell_at touched i) fault → i < length touched
+    (fault : OpFault) (fault_is : AnalysisFault) → fault_is ≡ fault_at (cell_at touched i) fault → i < length touched
     → IsOrder net order → Next old net order at (cell_at touched i) left
     → Gives at (formula net (cell_at touched i)) (Err fault) → RefusesFor (IsFirstTouched net touched) fault_is
 refused old net order at touched i left fault fault_is e h o n gives =

@@ -36,12 +36,6 @@ pub record IsFirstTouched (net : Net) (touched : List Cell) (c : Cell) (fault : 
   pub among : Contains touched c
   pub first : IsFirst net c fault
 
--- where a cell has no value, its network has none for that one
-abbrev pub refusal_at : Cell → OpFault → AnalysisFault
-refusal_at c operator.TooMany = TooMany c
-refusal_at c operator.TooWide = TooWide c
-refusal_at c operator.NoMemory = NoMemory
-
 -- why cells have no values: the first one over a limit, and which limit, or want of memory
 abbrev pub RefusesFor : (Cell → OpFault → Type 0) → AnalysisFault → Type 0
 RefusesFor IsFirstOne (TooMany c) = IsFirstOne c operator.TooMany

@@ -3,26 +3,14 @@
 ghost use Rattle.std.specs.Prelude.{◌≡◌, ◌+◌, ◌≤◌, sum_by, IfErr, OnOk};
 ghost use Rattle.net_cells.specs.Equations.{MeetsEquations};
 ghost use Rattle.net_cells.specs.Work.{work};
-ghost use Rattle.cell_store.specs.Edits.{AllAnswered, IsEditOf, IsFirstTouched, SameButAt, RefusesFor, refusal_at};
+ghost use Rattle.cell_store.specs.Edits.{AllAnswered, IsEditOf, IsFirstTouched, SameButAt, RefusesFor};
 
 use crate::values::Values;
-use cell_table::{AnalysisFault, CellValue, Evaluator, Table};
+use cell_table::{AnalysisFault, CellValue, Evaluator, Table, refusal};
 use net_cells::Cell;
 use net_model::Network;
 use std::alloc::Global;
 use std::rc::Rc;
-use upp_limits::OpFault;
-
-// Why there is no table, where this is why a cell has no value.
-fn refusal(cell: Cell, fault: OpFault) -> AnalysisFault
-    ensures { result ≡ refusal_at cell fault }
-{
-    match fault {
-        OpFault::TooMany => AnalysisFault::TooMany(cell),
-        OpFault::TooWide => AnalysisFault::TooWide(cell),
-        OpFault::NoMemory => AnalysisFault::NoMemory,
-    }
-}
 
 /// The values of the touched cells of a network, each made once, in their order, over those that the network before it
 /// had; the other cells keep theirs. Refused for the first cell with an operator over a limit, and then the fault names
@@ -38,7 +26,8 @@ pub fn made_anew<V: CellValue + Drop, E: Evaluator<V>>(
     requires { IsEditOf net.now touched.now (⟦<Values<V> as Table<V>>⟧.at values.old) }
     ensures meets { OnOk result (MeetsEquations net.now (⟦<Values<V> as Table<V>>⟧.at values.new)) }
     ensures answers { OnOk result (AllAnswered net.now (⟦<Values<V> as Table<V>>⟧.at values.new)) }
-    ensures others { SameButAt touched.now (⟦<Values<V> as Table<V>>⟧.at values.old) (⟦<Values<V> as Table<V>>⟧.at values.new) }
+    ensures others { SameButAt touched.now
+        (⟦<Values<V> as Table<V>>⟧.at values.old) (⟦<Values<V> as Table<V>>⟧.at values.new) }
     ensures before { values.new.versions.kept ≡ values.old.versions.kept }
     ensures refused { IfErr result (RefusesFor (IsFirstTouched net.now touched.now)) }
     ensures exact { OnOk result (E.count eval.new ≡ E.count eval.old + sum_by (work net.now) touched.now) }
@@ -46,8 +35,7 @@ pub fn made_anew<V: CellValue + Drop, E: Evaluator<V>>(
     ensures within { E.count eval.new ≤ E.count eval.old + sum_by (work net.now) touched.now }
     ensures same { E.counter eval.new ≡ E.counter eval.old }
 {
-    // What an accepted network keeps is in the contract of this call.
-    let _ = net.servers();
+    net.keeps();
     for cell in touched {
         let value = match eval.eval(*cell, net, values) {
             Ok(value) => value,

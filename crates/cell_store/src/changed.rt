@@ -48,8 +48,7 @@ fn changed<V: CellValue + Drop, E: Evaluator<V>>(
     ensures within { E.count eval.new ≤ E.count eval.old + sum_by (work net.now) touched.now }
     ensures same { E.counter eval.new ≡ E.counter eval.old }
 {
-    // What an accepted network keeps is in the contract of this call.
-    let _ = net.servers();
+    net.keeps();
     made_anew(alloc, values, net, touched, eval)?;
     match cleared(values, net, gone) {
         Ok(()) => Ok(()),
@@ -58,8 +57,8 @@ fn changed<V: CellValue + Drop, E: Evaluator<V>>(
 }
 
 /// The values of the cells of a network, from those of the one before it, in a version of their own; the version before
-/// is kept. Refused for the first cell with an operator over a limit, or where there is no memory, and then all is as it
-/// was. It counts the work of the touched cells, and no more than that where it is refused.
+/// is kept. Refused for the first cell with an operator over a limit, or where there is no memory, and then all is as
+/// it was. It counts the work of the touched cells, and no more than that where it is refused.
 pub fn edited_values<V: CellValue + Drop, E: Evaluator<V>>(
     alloc: Global,
     values: &mut Values<V>,
@@ -73,7 +72,8 @@ pub fn edited_values<V: CellValue + Drop, E: Evaluator<V>>(
     requires gone { AreGone net.now gone.now }
     ensures table { OnOk result (IsEditedTable net.now gone.now touched.now
         (⟦<Values<V> as Table<V>>⟧.at values.old) (⟦<Values<V> as Table<V>>⟧.at values.new)) }
-    ensures before { OnOk result (values.new.versions.kept ≡ values.old.versions.kept ++ values.old.versions.newest ∷ []) }
+    ensures before { OnOk result (values.new.versions.kept ≡
+        values.old.versions.kept ++ values.old.versions.newest ∷ []) }
     ensures kept { OnErr result (values.new.versions ≡ values.old.versions) }
     ensures refused { IfErr result (RefusesFor (IsFirstTouched net.now touched.now)) }
     ensures exact { OnOk result (E.count eval.new ≡ E.count eval.old + sum_by (work net.now) touched.now) }

@@ -31,7 +31,8 @@ impl<V: CellValue + Drop> Table<V> for Values<V> {
 }
 
 impl<V: CellValue + Drop> Values<V> {
-    ghost use Rattle.std.specs.Prelude.{◌≡◌, ◌≢◌, Some, None, IfOk, OnOk, OnErr, [], MatchOption, ◌<◌, ◌-◌, ◌^◌, length};
+    ghost use Rattle.std.specs.Prelude.{◌≡◌, ◌≢◌, Some, None, IfOk, OnOk, OnErr, [], MatchOption, ◌<◌, ◌-◌, ◌^◌};
+    ghost use Rattle.std.specs.Prelude.{length};
     ghost use Rattle.net_cells.specs.declared.cell.Cell.{Cell};
     ghost use Rattle.cell_changes.specs.Slots.{HasSlot, slots};
     ghost use Rattle.version_table.specs.Histories.{IsMarked, IsUndone};

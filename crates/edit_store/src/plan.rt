@@ -31,7 +31,7 @@ pub(crate) fn lost_cells(
     requires { IsOrder old.now order.now }
     ensures { IfOk result (λ gone. AreLost old.now net.now gone.items) }
 {
-    let _kept = old.servers();
+    old.keeps();
     let all = cells(alloc, old, order)?;
     let gone = gone_cells(alloc, net, &all)?;
     Ok(gone)
@@ -73,8 +73,8 @@ fn ordered_plan(
     }
 }
 
-/// The network that an edit other than the undo makes of another one, and the touched cells; refused for the first cause
-/// but a cell over a limit.
+/// The network that an edit other than the undo makes of another one, and the touched cells; refused for the first
+/// cause but a cell over a limit.
 pub(crate) fn plan(alloc: Global, present: &Network, edit: &Edit) -> Result<Planned, EditFault>
     requires { edit.now ≢ Undo }
     ensures planned { IfOk result (λ p. IsPlanned present.now edit.now p.net p.touched.items) }

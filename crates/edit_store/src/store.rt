@@ -44,7 +44,8 @@ impl<V: CellValue + Drop> Table<V> for Store<V> {
 }
 
 impl<V: CellValue + Drop> Store<V> {
-    ghost use Rattle.std.specs.Prelude.{◌≡◌, ◌≢◌, ◌+◌, ◌-◌, ◌^◌, ◌<◌, ◌≤◌, ℕ, List, [], sum_by, length, IfOk, IfErr, OnOk, OnErr, MatchOption};
+    ghost use Rattle.std.specs.Prelude.{◌≡◌, ◌≢◌, ◌+◌, ◌-◌, ◌^◌, ◌<◌, ◌≤◌, ℕ, List, [], sum_by, length, IfOk, IfErr};
+    ghost use Rattle.std.specs.Prelude.{OnOk, OnErr, MatchOption};
     ghost use Rattle.net_model.specs.declared.edit.Edit.TheVariants.{Undo};
     ghost use Rattle.net_model.specs.Networks.{Net};
     ghost use Rattle.net_model.specs.Orders.{IsOrder};
@@ -195,11 +196,11 @@ impl<V: CellValue + Drop> Store<V> {
         }
     }
 
-    /// Makes an edit: on success the store has the edited network, as a table it meets that network's equations, and the
-    /// answer tells how many cells the edit touched; an undo goes back to the network before, touches none and takes no
-    /// memory. Refused for the first cause of those that `EditFault` lists, and then all is as it was. Exactly the work
-    /// of the touched cells is counted, no more than that where the edit is refused, and nothing where there is no
-    /// edited network to be evaluated.
+    /// Makes an edit: on success the store has the edited network, as a table it meets that network's equations, and
+    /// the answer tells how many cells the edit touched; an undo goes back to the network before, touches none and
+    /// takes no memory. Refused for the first cause of those that `EditFault` lists, and then all is as it was. Exactly
+    /// the work of the touched cells is counted, no more than that where the edit is refused, and nothing where there
+    /// is no edited network to be evaluated.
     pub fn apply<E: Evaluator<V>>(&mut self, edit: &Edit, eval: &mut E) -> Result<Done, EditFault>
         requires { edit.now ≢ Undo → length self.old.before < 2 ^ 32 - 1 }
         ensures applied { IfOk result (λ done. IsApplied self.old edit.now done.cells self.new) }
@@ -244,9 +245,9 @@ impl<V: CellValue + Drop> Store<V> {
         }
     }
 
-    /// The network that an edit makes of the present one, whether or not that has a cycle or a cell over a limit; for an
-    /// undo the network before; and where the curve that the edit makes is over a limit, the present network, which has
-    /// the same names. Refused for the same causes as `apply`, but for a cycle and a cell over a limit.
+    /// The network that an edit makes of the present one, whether or not that has a cycle or a cell over a limit; for
+    /// an undo the network before; and where the curve that the edit makes is over a limit, the present network, which
+    /// has the same names. Refused for the same causes as `apply`, but for a cycle and a cell over a limit.
     pub fn edited(&self, edit: &Edit) -> Result<Network, EditFault>
         ensures shown { IfOk result (IsShown self.now edit.now) }
         ensures hidden { IfErr result (IsHidden self.now edit.now) }

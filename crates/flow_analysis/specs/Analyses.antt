@@ -26,12 +26,6 @@ HasNothingElse at cells = (c : Cell) → ¬ (Contains cells c) → at c ≡ None
 abbrev pub IsFirstOver : Net → List Cell → Cell → OpFault → Type 0
 IsFirstOver net cells c fault = (order : List ℕ) → cells ≡ evaluation_order net order → FirstOver net order c fault
 
--- where a cell has no value, the analysis is refused for that one
-abbrev pub fault_at : Cell → OpFault → AnalysisFault
-fault_at c operator.TooMany = TooMany c
-fault_at c operator.TooWide = TooWide c
-fault_at c operator.NoMemory = NoMemory
-
 -- why there is no table: the cell that is first over a limit, and which limit, or want of memory
 abbrev pub IsRefusal : (Cell → OpFault → Type 0) → AnalysisFault → Type 0
 IsRefusal IsFirst (TooMany c) = IsFirst c operator.TooMany

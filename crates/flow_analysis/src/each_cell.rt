@@ -6,8 +6,7 @@ ghost use Rattle.net_cells.specs.FirstOver.{AnswersAll};
 ghost use Rattle.net_cells.specs.Work.{work};
 ghost use Rattle.flow_analysis.specs.Analyses.{AreAllCells, HasNothingElse, IsFirstOver, IsRefusal};
 
-use crate::fault::refusal;
-use cell_table::{Analysis, AnalysisFault, CellValue, Evaluator, Table};
+use cell_table::{Analysis, AnalysisFault, CellValue, Evaluator, Table, refusal};
 use net_cells::Cell;
 use net_model::Network;
 use std::alloc::Global;

@@ -15,8 +15,8 @@ use net_model::Network;
 use std::alloc::Global;
 
 /// The values of all cells of a network, by the order of its servers; each is made once, after those that it is made
-/// of. Refused for the first cell with an operator over a limit, and then the fault names it and which limit that is, or
-/// where there is no memory. It counts the work of all cells, and no more than that where it is refused.
+/// of. Refused for the first cell with an operator over a limit, and then the fault names it and which limit that is,
+/// or where there is no memory. It counts the work of all cells, and no more than that where it is refused.
 pub fn analysed_in_order<V: CellValue + Drop, E: Evaluator<V>>(
     alloc: Global,
     net: &Network,

@@ -3,7 +3,6 @@
 
 mod analyse_all;
 mod each_cell;
-mod fault;
 mod in_order;
 
 pub use analyse_all::analyse;

@@ -8,7 +8,8 @@ use Rattle.net_cells.proofs.Tables.{answered_meets}
 use Rattle.cell_changes.specs.Laws.{AgreeAtUntouched}
 use Rattle.cell_store.specs.Placed.{placed}
 use Rattle.cell_store.specs.Edits.{IsEditOf, AllAnswered}
-use Rattle.cell_store.proofs.Fronts.{no_cell, cell_at, Next, Reached, next_at, next_is_cell, next_below, next_has_slot, made_at, all_answered, refused, same_untouched, still_others}
+use Rattle.cell_table.proofs.Fronts.{no_cell, cell_at}
+use Rattle.cell_store.proofs.Fronts.{Next, Reached, next_at, next_is_cell, next_below, next_has_slot, made_at, all_answered, refused, same_untouched, still_others}
 use Rattle.cell_store.proofs.anew.made_anew.Goals as goal
 
 pub eval-requires-clause-cell : goal.eval-requires-clause-cell
@@ -32,7 +33,7 @@ eval-requires-clause-below g c =
     let before : CellTable = placed g.V.CellValue.meaning c.args.values.now.versions.newest in
     let at : CellTable = placed g.V.CellValue.meaning c.loop-cell.values.versions.newest in
     let same = same_untouched edit.old net _ touched before at edit.are c.loop-cell.invariant.others in
-    next_below edit.old net edit.order at (cell_at touched i) (drop (i + 1) touched) c.servers.ensures.kept edit.servers
+    next_below edit.old net edit.order at (cell_at touched i) (drop (i + 1) touched) c.keeps.ensures edit.servers
     (next_at edit.old net edit.order before at touched i edit.answered same (omega arith) (c.loop-cell.invariant.reached edit))
 
 pub put-requires : goal.put-requires
@@ -44,7 +45,7 @@ put-requires g c =
     let before : CellTable = placed g.V.CellValue.meaning c.args.values.now.versions.newest in
     let at : CellTable = placed g.V.CellValue.meaning c.loop-cell.values.versions.newest in
     let same = same_untouched edit.old net _ touched before at edit.are c.loop-cell.invariant.others in
-    next_has_slot edit.old net edit.order at (cell_at touched i) (drop (i + 1) touched) c.servers.ensures.kept
+    next_has_slot edit.old net edit.order at (cell_at touched i) (drop (i + 1) touched) c.keeps.ensures
     (next_at edit.old net edit.order before at touched i edit.answered same (omega arith) (c.loop-cell.invariant.reached edit))
 
 pub returns-in-Err-clause-refused : goal.returns-in-Err-clause-refused
@@ -91,7 +92,7 @@ loop-cell-preserved g c =
       reached = λ edit.
           let same = same_untouched edit.old net _ touched before at edit.are c.loop-cell.invariant.others in
           made_at edit.old net edit.order at next (cell_at touched i) (drop (i + 1) touched) (meaning c.in-Ok.value)
-          c.servers.ensures.kept edit.servers
+          c.keeps.ensures edit.servers
           (next_at edit.old net edit.order before at touched i edit.answered same (omega arith) (c.loop-cell.invariant.reached edit))
           c.in-Ok.ensures.answer put c.in_default-put.ensures.others;
       others = still_others touched i before at next (omega arith) c.loop-cell.invariant.others c.in_default-put.ensures.others;
@@ -109,7 +110,7 @@ returns-clause-answers g c =
     let before : CellTable = placed g.V.CellValue.meaning c.args.values.now.versions.newest in
     let at : CellTable = placed g.V.CellValue.meaning c.loop-cell.values.versions.newest in
     let same = same_untouched edit.old net _ touched before at edit.are c.loop-cell.invariant.others in
-    all_answered edit.old net edit.order before at (drop c.loop-cell.cell-index touched) c.servers.ensures.kept edit.servers
+    all_answered edit.old net edit.order before at (drop c.loop-cell.cell-index touched) c.keeps.ensures edit.servers
     edit.answered same (drop_all c.loop-cell.cell-index touched (omega arith)) (c.loop-cell.invariant.reached edit)
 
 pub returns-clause-meets : goal.returns-clause-meets

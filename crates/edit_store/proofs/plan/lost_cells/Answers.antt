@@ -5,5 +5,5 @@ use Rattle.edit_store.proofs.plan.lost_cells.Goals as goal
 
 pub returns : goal.returns
 returns c =
-    lost c.args.old.now c.args.net.now c.args.order.now c.in_ok-gone.gone.items c.servers-kept.ensures.kept c.requires
+    lost c.args.old.now c.args.net.now c.args.order.now c.in_ok-gone.gone.items c.keeps.ensures c.requires
     (c.in_ok-gone.ensures ∙ ap (gone_of c.args.net.now) (c.deref.ensures.value ∙ c.in_ok-all.ensures))

@@ -1,5 +1,5 @@
 use Rattle.std.proofs.Common.{◌≡◌, ◌+◌, List, ◌∷◌, [], ◌++◌, take, drop, sym, ◌∙◌, subst, arith}
-use Rattle.std.proofs.lemmas.List.{take_all}
+use Rattle.std.proofs.lemmas.List.{take_all, take_more}
 use Rattle.std.proofs.lemmas.List.Sums.{sum_by_more, sum_by_more_le}
 use Rattle.net_cells.specs.declared.cell.Cell.{Cell}
 use Rattle.net_cells.specs.contracts.cell.CellOrd.TheImpl as order
@@ -11,7 +11,8 @@ use Rattle.net_cells.proofs.Precedes.{in_front}
 use Rattle.net_cells.proofs.Tables.{answers_meet, front_meets_below}
 use Rattle.cell_table.specs.Values.{held}
 use Rattle.flow_analysis.specs.Analyses.{HasNothingElse}
-use Rattle.flow_analysis.proofs.Fronts.{no_cell, cell_at, at_place, take_more, grown, still_nothing, refused}
+use Rattle.cell_table.proofs.Fronts.{no_cell, cell_at, at_place, grown}
+use Rattle.flow_analysis.proofs.Fronts.{still_nothing, refused}
 use Rattle.flow_analysis.proofs.each_cell.analysed.Goals as goal
 
 pub eval-requires-clause-cell : goal.eval-requires-clause-cell
@@ -62,7 +63,7 @@ loop-cell-preserved g c =
     let next : CellTable = held order.ghosts.cmp g.V.CellValue.meaning c.put.new.self.values in
     let whole : evaluation_order net c.requires.order ≡ take i cells ++ cell_at cells i ∷ drop (i + 1) cells =
     sym c.requires.are ∙ at_place cells i (omega arith) in
-    let longer : take (i + 1) cells ≡ take i cells ++ cell_at cells i ∷ [] = take_more cells i (omega arith) in
+    let longer : take (i + 1) cells ≡ take i cells ++ cell_at cells i ∷ [] = take_more cells i no_cell (omega arith) in
     let all : AnswersAll net next (take i cells ++ cell_at cells i ∷ []) =
     grown net c.requires.order at next (take i cells) (cell_at cells i) (drop (i + 1) cells)
     (g.V.CellValue.meaning c.in-Ok.value) c.keeps.ensures c.requires.servers whole c.loop-cell.invariant.answers
