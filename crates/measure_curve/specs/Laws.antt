@@ -18,11 +18,13 @@ PacketsKeepTheCurve = (ps : List TracePacket) (m : ℚ → Ext) → IsLeastArriv
 
 -- each curve that they keep is at least it
 abbrev pub KeptCurvesAreAbove : Type 0
-KeptCurvesAreAbove = (ps : List TracePacket) (m α : ℚ → Ext) → IsLeastArrival ps m → Keep ps α → (d : ℚ) → zero_q ≤ℚ d → m d ≤ₑ α d
+KeptCurvesAreAbove =
+    (ps : List TracePacket) (m α : ℚ → Ext) → IsLeastArrival ps m → Keep ps α → (d : ℚ) → zero_q ≤ℚ d → m d ≤ₑ α d
 
 -- so there is one
 abbrev pub LeastArrivalIsOne : Type 0
-LeastArrivalIsOne = (ps : List TracePacket) (m n : ℚ → Ext) → IsLeastArrival ps m → IsLeastArrival ps n → (d : ℚ) → zero_q ≤ℚ d → m d ≡ n d
+LeastArrivalIsOne = (ps : List TracePacket) (m n : ℚ → Ext) → IsLeastArrival ps m → IsLeastArrival ps n
+    → (d : ℚ) → zero_q ≤ℚ d → m d ≡ n d
 
 -- they keep a bucket, and no bucket of its rate with a smaller burst
 pub record IsLeastBucket (ps : List TracePacket) (rate burst : ℚ) : Type 0 where
@@ -31,7 +33,8 @@ pub record IsLeastBucket (ps : List TracePacket) (rate burst : ℚ) : Type 0 whe
 
 -- the least burst above their least arrival curve is that of the least bucket
 abbrev pub LeastBucketIsKept : Type 0
-LeastBucketIsKept = (ps : List TracePacket) (m : ℚ → Ext) (rate burst : ℚ) → IsLeastArrival ps m → IsLeastBurst m rate burst → IsLeastBucket ps rate burst
+LeastBucketIsKept = (ps : List TracePacket) (m : ℚ → Ext) (rate burst : ℚ) → IsLeastArrival ps m
+    → IsLeastBurst m rate burst → IsLeastBucket ps rate burst
 
 -- ---- in a run
 -- the packets that enter by some steps
@@ -53,4 +56,5 @@ pub record IsLeastInRun (flow : ℕ) (steps : List Step) (m : ℚ → Ext) : Typ
   pub least : (α : ℚ → Ext) → KeepsInRun flow steps α → (d : ℚ) → zero_q ≤ℚ d → m d ≤ₑ α d
 
 abbrev pub LeastInRuns : Type 0
-LeastInRuns = (flow : ℕ) (steps : List Step) (m : ℚ → Ext) → IsLeastArrival (of_flow flow (entering_in steps)) m → IsLeastInRun flow steps m
+LeastInRuns = (flow : ℕ) (steps : List Step) (m : ℚ → Ext) → IsLeastArrival (of_flow flow (entering_in steps)) m
+    → IsLeastInRun flow steps m

@@ -23,7 +23,8 @@ EnterFrom t (e ∷ es) = (t ≤ e.time) × EnterFrom e.time es
 -- those from `first` to each packet, it too, after so many bits
 abbrev pub windows_from : ℕ → ℕ → List Entry → List Window
 windows_from first bits [] = []
-windows_from first bits (e ∷ es) = record { length = e.time - first; bits = bits + e.bits } ∷ windows_from first (bits + e.bits) es
+windows_from first bits (e ∷ es) =
+    record { length = e.time - first; bits = bits + e.bits } ∷ windows_from first (bits + e.bits) es
 
 -- those from each packet to itself and to each later one
 abbrev pub windows : List Entry → List Window

@@ -1,5 +1,5 @@
--- How many bits enter in a closed window of time, and how many at most in one of each length. (Le Boudec and Thiran: the
--- minimum arrival curve of a flow. Closed windows are our own choice.)
+-- How many bits enter in a closed window of time, and how many at most in one of each length. (Le Boudec and Thiran:
+-- the minimum arrival curve of a flow. Closed windows are our own choice.)
 use Rattle.std.specs.Prelude.{◌≡◌, ℕ, ◌+◌, ◌≤◌, ◌==◌, List, [], ◌∷◌, filter, if◌then◌else◌}
 use Rattle.rational.specs.Rational.{ℚ, ◌+ℚ◌, ◌-ℚ◌, ◌≤ℚ◌, ◌<ℚ◌}
 use Rattle.rational.specs.Extended.{Ext, ◌≤ₑ◌, ◌<ₑ◌}

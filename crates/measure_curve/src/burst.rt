@@ -30,9 +30,9 @@ fn line_of(alloc: Global, rate: Frac) -> Result<Curve, AllocError>
     }
 }
 
-/// The least burst with which a bucket of this rate is nowhere below a curve that is a number at each time and stays below
-/// some number: the vertical deviation of the curve and of the line of that rate. One step is counted, where the line does
-/// not want memory. TooMany and TooWide are those of the vertical deviation.
+/// The least burst with which a bucket of this rate is nowhere below a curve that is a number at each time and stays
+/// below some number: the vertical deviation of the curve and of the line of that rate. One step is counted, where
+/// the line does not want memory. TooMany and TooWide are those of the vertical deviation.
 pub fn least_burst<L: Ledger>(
     curve: &Curve,
     rate: Frac,
@@ -43,7 +43,8 @@ pub fn least_burst<L: Ledger>(
     ensures from { steps.old ≤ steps.new }
     ensures most { steps.new ≤ steps.old + 1 }
     ensures count { OnOk result (steps.new ≡ steps.old + 1) }
-    ensures value { IfOk result (λ b. IsVerticalDeviation (value_at curve.now) (value_at (bucket zero_q rate)) (extended.Fin b)) }
+    ensures value { IfOk result (λ b.
+        IsVerticalDeviation (value_at curve.now) (value_at (bucket zero_q rate)) (extended.Fin b)) }
     ensures least { IfOk result (IsLeastBurst (value_at curve.now) rate) }
     ensures limits { KeepsBurstLimits curve.now rate result }
 {

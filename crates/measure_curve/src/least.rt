@@ -32,10 +32,10 @@ fn curve_of(alloc: Global, packets: &[TracePacket], grid: u128) -> Result<Curve,
     staircase(alloc, &steps, grid)
 }
 
-/// The least arrival curve of the packets of a flow in a trace: at each length the most bits that enter in a closed window
-/// of that length; 0 where the flow has no packet. Its pieces begin at 0 and wherever it rises. TooMany exactly where the
-/// flow has more than 1,024 packets; TooWide exactly where it has not and their times and bits are too wide, both before
-/// any memory is taken; else refused only for want of memory.
+/// The least arrival curve of the packets of a flow in a trace: at each length the most bits that enter in a closed
+/// window of that length; 0 where the flow has no packet. Its pieces begin at 0 and wherever it rises. TooMany
+/// exactly where the flow has more than 1,024 packets; TooWide exactly where it has not and their times and bits are
+/// too wide, both before any memory is taken; else refused only for want of memory.
 pub fn least_curve(alloc: Global, trace: &Trace, flow: u32) -> Result<Curve, MeasureFault>
     ensures least { IfOk result (λ c. IsLeastArrival (of_flow flow trace.now.packets) (value_at c)) }
     ensures rises { IfOk result (λ c. TellRises (value_at c) c.pieces) }

@@ -19,9 +19,9 @@ fn push_steps(into: &mut Vec<u8>, pieces: &[Piece]) -> Result<(), AllocError>
     Ok(())
 }
 
-/// The report on the least arrival curve of the packets of a flow: its name and how many packets it has, each start of a
-/// piece with the curve's value there, and the burst of the least bucket for a rate. Of a least arrival curve these are
-/// the time 0 and each later time at which it rises. Refused only for want of memory.
+/// The report on the least arrival curve of the packets of a flow: its name and how many packets it has, each start
+/// of a piece with the curve's value there, and the burst of the least bucket for a rate. Of a least arrival curve
+/// these are the time 0 and each later time at which it rises. Refused only for want of memory.
 #[tactic(auto, unfolding(crate::specs::MeasureReport::measure_report_of))]
 pub fn measure_text(
     alloc: Global,
