@@ -1,0 +1,12 @@
+pub mod Tests
+pub mod Sums
+pub mod WindowSums
+pub mod StepLevels
+pub mod Widths
+pub mod Stairs
+pub mod Loops
+pub mod Measured
+pub mod Rising
+pub mod Kept
+pub mod Answers
+pub mod Bursts
