@@ -2,9 +2,13 @@
 use Rattle.std.specs.Prelude.{ℕ, List, ◌++◌, map, codes}
 use Rattle.std.specs.List.{flat_map}
 use Rattle.std.specs.String.{string_bytes}
+use Rattle.std.specs.Fmt.{decimal}
 use Rattle.report_text.specs.declared.refusal.Refusal.{Refusal}
-use Rattle.report_text.specs.declared.refusal.Refusal.TheVariants.{Usage, CannotRead, TooLong, BadNetwork, Cycle, CurveTooMany, CurveTooWide, CellTooMany, CellTooWide}
-use Rattle.report_text.specs.Faults.{fault_text}
+use Rattle.report_text.specs.declared.refusal.Refusal.TheVariants.{Usage, CannotRead, TooLong, BadNetwork, Cycle}
+use Rattle.report_text.specs.declared.refusal.Refusal.TheVariants.{CurveTooMany, CurveTooWide, CellTooMany, CellTooWide}
+use Rattle.report_text.specs.declared.refusal.Refusal.TheVariants.{SimTooWide, BadTable, BadScript}
+use Rattle.report_text.specs.declared.refusal.Refusal.TheVariants.{ScriptTooMany, ScriptTooWide}
+use Rattle.report_text.specs.Faults.{fault_text, table_fault_text, script_fault_text}
 
 -- names, each after a space
 abbrev pub spaced : List (List ℕ) → List ℕ
@@ -21,6 +25,11 @@ reason (CurveTooMany place) = codes "too many: curve " ++ string_bytes place
 reason (CurveTooWide place) = codes "too wide: curve " ++ string_bytes place
 reason (CellTooMany cell) = codes "too many: " ++ string_bytes cell
 reason (CellTooWide cell) = codes "too wide: " ++ string_bytes cell
+reason SimTooWide = codes "too wide: simulation"
+reason (BadTable file fault) = string_bytes file ++ codes ": " ++ table_fault_text fault
+reason (BadScript file fault) = string_bytes file ++ codes ": " ++ script_fault_text fault
+reason (ScriptTooMany line) = codes "too many: line " ++ decimal line
+reason (ScriptTooWide line) = codes "too wide: line " ++ decimal line
 
 -- the line
 unfoldable pub refusal_line : Refusal → List ℕ

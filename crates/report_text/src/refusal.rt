@@ -3,11 +3,14 @@
 ghost use Rattle.std.specs.Prelude.{◌≡◌, ◌++◌, ◌∷◌, [], map, IfOk, OnOk};
 ghost use Rattle.std.specs.String.{string_bytes};
 ghost use Rattle.report_text.specs.Faults as faults;
+ghost use Rattle.std.specs.Fmt.{decimal};
 ghost use Rattle.report_text.specs.Refusals.{spaced, reason, refusal_line};
 
-use crate::text::{push_after, push_text};
+use crate::text::{push_after, push_decimal, push_text};
+use curve_script::{LangFault, LangKind};
 use net_model::{CurveRefusal, NetFault, NetKind};
 use std::alloc::{AllocError, Global};
+use table_text::{TableFault, TableKind};
 
 /// Why there is no report.
 #[derive(Debug, Drop)]
@@ -31,6 +34,17 @@ pub enum Refusal {
     CellTooMany { cell: String },
     /// A cell has an operator with too wide numbers: the cell in words.
     CellTooWide { cell: String },
+    /// A simulation has too wide numbers.
+    SimTooWide,
+    /// A file breaks a rule of tables. The fault is one of the rules', and not want of memory.
+    BadTable { file: String, fault: TableFault },
+    /// A file breaks a rule of scripts. The fault is one of the rules', and neither an operator over a limit nor want of
+    /// memory.
+    BadScript { file: String, fault: LangFault },
+    /// A line of a script has an operator or a curve of too many pieces: its number, from 1.
+    ScriptTooMany { line: u32 },
+    /// A line of a script has an operator, a curve or a value with too wide numbers: its number, from 1.
+    ScriptTooWide { line: u32 },
 }
 
 fn curve_word(why: CurveRefusal) -> &'static str
@@ -65,6 +79,37 @@ fn rule_word(kind: NetKind) -> &'static str
     }
 }
 
+fn table_word(kind: TableKind) -> &'static str
+    ensures { result.now ≡ faults.table_word kind }
+{
+    match kind {
+        TableKind::T1 => "T1",
+        TableKind::T2 => "T2",
+        TableKind::T3 => "T3",
+        TableKind::T4 => "T4",
+        TableKind::T5 => "T5",
+        TableKind::T6 => "T6",
+        TableKind::T7 => "T7",
+        TableKind::NoMemory => "",
+    }
+}
+
+fn script_word(kind: LangKind) -> &'static str
+    ensures { result.now ≡ faults.script_word kind }
+{
+    match kind {
+        LangKind::C1 => "C1",
+        LangKind::C2 => "C2",
+        LangKind::C3 => "C3",
+        LangKind::C4 => "C4",
+        LangKind::C5 => "C5",
+        LangKind::C6 => "C6",
+        LangKind::C7 => "C7",
+        LangKind::C8 => "C8",
+        LangKind::TooMany | LangKind::TooWide | LangKind::NoMemory => "",
+    }
+}
+
 /// Appends a word, after a space.
 pub fn push_spaced(into: &mut Vec<u8>, word: &str) -> Result<(), AllocError>
     ensures { OnOk result (into.new.items ≡ into.old.items ++ spaced (word.now ∷ [])) }
@@ -95,6 +140,28 @@ fn push_fault(into: &mut Vec<u8>, fault: &NetFault) -> Result<(), AllocError>
     push_place(into, fault.kind, &fault.place)
 }
 
+// Words, and a number after them.
+fn push_numbered(into: &mut Vec<u8>, words: &str, number: u32) -> Result<(), AllocError>
+    ensures { OnOk result (into.new.items ≡ into.old.items ++ (words.now ++ decimal number)) }
+{
+    push_text(into, words)?;
+    push_decimal(into, number as usize)
+}
+
+fn push_table_fault(into: &mut Vec<u8>, fault: &TableFault) -> Result<(), AllocError>
+    ensures { OnOk result (into.new.items ≡ into.old.items ++ faults.table_fault_text fault.now) }
+{
+    push_text(into, table_word(fault.kind))?;
+    push_numbered(into, " row ", fault.row)
+}
+
+fn push_script_fault(into: &mut Vec<u8>, fault: &LangFault) -> Result<(), AllocError>
+    ensures { OnOk result (into.new.items ≡ into.old.items ++ faults.script_fault_text fault.now) }
+{
+    push_text(into, script_word(fault.kind))?;
+    push_numbered(into, " line ", fault.line)
+}
+
 fn push_names(into: &mut Vec<u8>, names: &[String]) -> Result<(), AllocError>
     ensures { OnOk result (into.new.items ≡ into.old.items ++ spaced (map string_bytes names.now)) }
 {
@@ -123,6 +190,17 @@ fn push_reason(into: &mut Vec<u8>, refusal: &Refusal) -> Result<(), AllocError>
         Refusal::CurveTooWide { place } => push_after(into, "too wide: curve ", place),
         Refusal::CellTooMany { cell } => push_after(into, "too many: ", cell),
         Refusal::CellTooWide { cell } => push_after(into, "too wide: ", cell),
+        Refusal::SimTooWide => push_text(into, "too wide: simulation"),
+        Refusal::BadTable { file, fault } => {
+            push_after(into, file, ": ")?;
+            push_table_fault(into, fault)
+        }
+        Refusal::BadScript { file, fault } => {
+            push_after(into, file, ": ")?;
+            push_script_fault(into, fault)
+        }
+        Refusal::ScriptTooMany { line } => push_numbered(into, "too many: line ", *line),
+        Refusal::ScriptTooWide { line } => push_numbered(into, "too wide: line ", *line),
     }
 }
 

@@ -1,0 +1,3 @@
+pub mod OnFiles
+pub mod AnswerCounts
+pub mod AnswerLaws
