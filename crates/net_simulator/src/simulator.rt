@@ -6,6 +6,7 @@ ghost use Rattle.net_model.specs.Walks.{IsFeedForward};
 ghost use Rattle.stated_runs.specs.FromTraces.{setup_of, IsTraceOf};
 ghost use Rattle.stated_runs.specs.Simulated.{IsSimulated};
 ghost use Rattle.sim_bounds.specs.Gauge.{simulation_gauge};
+ghost use Rattle.run_measures.specs.Peaks.{rows_of, ArePeaks};
 ghost use Rattle.run_measures.specs.Worst.{AreWorst};
 
 use crate::fault::SimFault;
@@ -14,14 +15,15 @@ use packet_sim::{SimRun, measured_run};
 use sim_gauge::is_too_wide;
 use std::alloc::Global;
 
-/// The stated run of a network and a trace with its worst delays, for a trace whose numbers are those of live flows and of
-/// servers, in a network in which no walk comes back. `TooWide` exactly where the simulation gauge of both is 2^120 or
-/// more; `NoMemory` only where an allocation is refused.
+/// The stated run of a network and a trace with its worst delays and its peaks, for a trace whose numbers are those of
+/// live flows and of servers, in a network in which no walk comes back. `TooWide` exactly where the simulation gauge of
+/// both is 2^120 or more; `NoMemory` only where an allocation is refused.
 pub fn simulate(alloc: Global, net: &Network, trace: &Trace) -> Result<SimRun, SimFault>
     requires named { IsTraceOf net.now trace.now }
     requires free { IsFeedForward net.now }
     ensures stated { IfOk result (λ v. IsSimulated (setup_of net.now trace.now) v.run) }
     ensures worst { IfOk result (λ v. AreWorst (routes_of net.now) v.run.end v.run.steps (length net.now.flows) v.worst.items) }
+    ensures peaks { IfOk result (λ v. ArePeaks (routes_of net.now) v.run (rows_of v.peaks.items)) }
     ensures refused { IsErrOf result SimFault.TooWide ↔ (2 ^ 120 ≤ simulation_gauge net.now trace.now) }
 {
     if is_too_wide(net, trace) {

@@ -3,3 +3,9 @@ pub mod Telling
 pub mod Numbering
 pub mod Walking
 pub mod Lawful
+pub mod Gauging
+pub mod Standing
+pub mod GaugeRows
+pub mod GaugedSteps
+pub mod LevelSteps
+pub mod LevelEnds
