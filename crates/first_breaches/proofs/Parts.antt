@@ -159,7 +159,7 @@ server_found ss s h = elim (slice_get_cases ss s).1 [
 pub may_serve : (x : NetServer) → IsServer x → IsCurve x.service → MayServe x.service
 may_serve x k is = record { normal = is.normal; finite = k.service.finite; continuous = k.service.continuous; at_zero = same_le_ext k.service.at_zero }
 
-have_curves : (net : Net) → IsAccepted net → HaveServices net → HaveCurves (routes_of net) (λ i. value_at (arrival net i)) (service net)
+pub have_curves : (net : Net) → IsAccepted net → HaveServices net → HaveCurves (routes_of net) (λ i. value_at (arrival net i)) (service net)
 have_curves net a S = record {
   flows = λ flow live.
       let (f, e) = flow_found (flow_at net flow) (sym (live_is net flow) ∙ live) in

@@ -18,7 +18,7 @@ use Rattle.report_text.specs.Report.{head_line, queue_line, flow_line, queue_lin
 use Rattle.report_text.specs.Laws.{is_printed, AgreeWherePrinted, ReportsAgree, EquationsGiveOneReport}
 
 -- ---- lists
-flat_range : (f g : ℕ → List ℕ) (n : ℕ) → ((k : ℕ) → k < n → f k ≡ g k)
+pub flat_range : (f g : ℕ → List ℕ) (n : ℕ) → ((k : ℕ) → k < n → f k ≡ g k)
     → flat_map f (range_with_len 0 n) ≡ flat_map g (range_with_len 0 n)
 flat_range f g zero same = refl
 flat_range f g (suc n) same =
@@ -29,7 +29,7 @@ flat_range f g (suc n) same =
     ∙ sym (flat_more g n) ∙ sym (ap (λ m. flat_map g (range_with_len 0 m)) next)
 
 -- ---- numbers
-same_shown : (net : Net) (at other : CellTable) (kind : Kind) (a b : ℕ) → AgreeWherePrinted net at other
+pub same_shown : (net : Net) (at other : CellTable) (kind : Kind) (a b : ℕ) → AgreeWherePrinted net at other
     → IsTrue (has_cell net (cell_of kind a b)) → IsTrue (is_printed kind) → shown at kind a b ≡ shown other kind a b
 same_shown net at other kind a b agree has printed = ap shown_value (agree (cell_of kind a b) has printed)
 

@@ -1,5 +1,6 @@
 pub mod TextLemmas
 pub mod Counted
 pub mod Agree
+pub mod RunAgree
 pub mod Numbers
 pub mod Told

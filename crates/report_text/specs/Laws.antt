@@ -15,6 +15,7 @@ use Rattle.net_cells.specs.Equations.{MeetsEquations}
 use Rattle.report_text.specs.CellWords.{cell_words}
 use Rattle.report_text.specs.Shown.{number_text}
 use Rattle.report_text.specs.Report.{report_of}
+use Rattle.report_text.specs.RunReport.{Found, run_report_of}
 
 -- ---- numbers
 -- infinity, or a number that a fraction of the code can be
@@ -49,11 +50,22 @@ abbrev pub ReportsAgree : Type 0
 ReportsAgree =
     (net : Net) (at other : CellTable) → AgreeWherePrinted net at other → report_of net at ≡ report_of net other
 
+abbrev pub RunReportsAgree : Type 0
+RunReportsAgree =
+    (net : Net) (at other : CellTable) (found : Found) → AgreeWherePrinted net at other
+    → run_report_of net at found ≡ run_report_of net other found
+
 -- so there is one report on a network that has an order, whatever table meets its equations
 abbrev pub EquationsGiveOneReport : Type 0
 EquationsGiveOneReport =
     (net : Net) (order : List ℕ) (at other : CellTable) → IsAccepted net → IsOrder net order → MeetsEquations net at
     → MeetsEquations net other → report_of net at ≡ report_of net other
+
+-- and one on what is found in a run of it
+abbrev pub EquationsGiveOneRunReport : Type 0
+EquationsGiveOneRunReport =
+    (net : Net) (order : List ℕ) (at other : CellTable) (found : Found) → IsAccepted net → IsOrder net order
+    → MeetsEquations net at → MeetsEquations net other → run_report_of net at found ≡ run_report_of net other found
 
 -- a number stands in the table
 pub record HasNumber (at : CellTable) (c : Cell) : Type 0 where

@@ -1,7 +1,8 @@
 //! Laws of the report. Each is the contract of a function that does nothing.
 
 ghost use Rattle.report_text.specs.Laws.{TextsTellNumbers, OnlyInfinityIsUnbounded, ReportsAgree};
-ghost use Rattle.report_text.specs.Laws.{EquationsGiveOneReport, EquationsGiveNumbers, WordsTellCells};
+ghost use Rattle.report_text.specs.Laws.{RunReportsAgree, EquationsGiveOneReport, EquationsGiveOneRunReport};
+ghost use Rattle.report_text.specs.Laws.{EquationsGiveNumbers, WordsTellCells};
 
 /// The text of a number tells the number.
 pub fn texts_tell_numbers()
@@ -18,9 +19,19 @@ pub fn reports_agree()
     ensures { ReportsAgree }
 {}
 
+/// Two such tables give the same bytes beside what is found in a run.
+pub fn run_reports_agree()
+    ensures { RunReportsAgree }
+{}
+
 /// There is one report on an accepted network that has an order, whatever table meets its equations.
 pub fn equations_give_one_report()
     ensures { EquationsGiveOneReport }
+{}
+
+/// There is one report on what is found in a run of it.
+pub fn equations_give_one_run_report()
+    ensures { EquationsGiveOneRunReport }
 {}
 
 /// A table that meets the equations has a number at each cell that the report prints.

@@ -15,8 +15,9 @@ mod text;
 
 pub use cell_words::{cell_text, server_name};
 pub use laws::{
-    equations_give_numbers, equations_give_one_report, only_infinity_is_unbounded, reports_agree,
-    texts_tell_numbers, words_tell_cells,
+    equations_give_numbers, equations_give_one_report, equations_give_one_run_report,
+    only_infinity_is_unbounded, reports_agree, run_reports_agree, texts_tell_numbers,
+    words_tell_cells,
 };
 pub use refusal::{Refusal, push_spaced, refusal_text};
 pub use report::analysis_text;

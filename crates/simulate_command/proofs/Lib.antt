@@ -1,0 +1,12 @@
+pub mod Named
+pub mod Lawful
+pub mod Counting
+pub mod OnNets
+pub mod OneRun
+pub mod Sorted
+pub mod OneReply
+pub mod Status
+pub mod Causes
+pub mod Before
+pub mod AtLeastZero
+pub mod Within

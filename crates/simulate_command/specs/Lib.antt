@@ -1,0 +1,6 @@
+pub mod Curves
+pub mod Found
+pub mod OnTraces
+pub mod RunCounts
+pub mod RunBounds
+pub mod Laws
