@@ -264,7 +264,7 @@ small_head : (v : DrrState) (σ : ServerState) (q : ℕ) (c : Card) → WaitsInT
 small_head v σ q c h e = let k = h.lengths c (head_inside q σ.inside c e) in let s = h.room.small_lengths c.packet in omega (arith, k, s)
 
 pub drr_visits : (v : DrrState) (σ : ServerState) (q : ℕ) → WaitsInTurn v σ → σ.under ≡ None → v.visited ≡ None → first_of (list_at v.turns 0) ≡ Some q
-    → MayVisit (Drr v.quanta) σ q × ((t : ℚ) → WaitsInTurn (turned v q) (next (Drr v.quanta) σ (Visits q t)))
+    → MayVisit (Drr v.quanta) σ q × ((t : ℚ) → WaitsInTurn (turned v q) (next (Drr v.quanta) σ (Visits q t))) × (σ.inside ≢ [])
 drr_visits v σ q h idle none e =
     let f = first_waits v σ q h e in
     let c = f.card in
@@ -297,6 +297,10 @@ drr_visits v σ q h idle none e =
             (subst (λ o. IsInTurn v.quanta σ.inside o (round_of v')) (sym idle) (subst (λ r. IsInTurn v.quanta σ.inside None r) (sym round) turn)));
         room = subst (λ w. HasRoom w) (sym is_opened) (room_opened (nat_le (get_or v.lengths c.packet 0) d) q wd (room_deficit v q d h.room));
       },
+      λ empty.
+          let there : head_of q σ.inside ≡ Some c = f.is_head in
+          let gone : head_of q σ.inside ≡ None = ap (head_of q) empty in
+          cc,
     )
   where
     by_bool : (b : Bool) (q : ℕ) (v : DrrState) (τ : ServerState) → Waits v.waiting τ → Waits (opened b q v).waiting τ

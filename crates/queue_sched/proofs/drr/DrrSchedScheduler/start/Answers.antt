@@ -71,4 +71,4 @@ returns-in_ok-queue-in-None-clause-turn c = λ σ is idle.
     let first : first_of (list_at v.turns 0) ≡ Some c.in_ok-queue-in-None.queue =
     ap (λ (v : DrrState). first_of (list_at v.turns 0)) (sym c.self.view_is) ∙ sym c.in_ok-queue-in-None.ensures in
     let k = drr_visits v σ c.in_ok-queue-in-None.queue is idle visit first in
-    (k.0, λ t. subst (λ w. WaitsInTurn w (Rattle.run_laws.specs.Next.next (Drr v.quanta) σ (Rattle.run_laws.specs.Cards.Visits c.in_ok-queue-in-None.queue t))) (sym c.turn_to.ensures) (k.1 t))
+    (k.0, λ t. subst (λ w. WaitsInTurn w (Rattle.run_laws.specs.Next.next (Drr v.quanta) σ (Rattle.run_laws.specs.Cards.Visits c.in_ok-queue-in-None.queue t))) (sym c.turn_to.ensures) (k.1 t), k.2)
