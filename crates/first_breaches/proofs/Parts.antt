@@ -26,7 +26,7 @@ use Rattle.net_cells.specs.Numbered.{flow_at, is_live, packet, packet_of, arriva
 use Rattle.net_cells.proofs.Stored.{flow_kept, server_kept}
 use Rattle.watch_laws.specs.Entries.{entries, entering, IsCrowded}
 use Rattle.watch_laws.specs.Breaches.{IsIdle, IsTooSlow}
-use Rattle.watch_laws.specs.Laws.{MayServe, HaveCurves}
+use Rattle.watch_laws.specs.Laws.{MayArrive, MayServe, HaveCurves}
 use Rattle.watch_laws.proofs.Entered.{in_order}
 use Rattle.watch_laws.proofs.Premises.{breaches_tell}
 use Rattle.run_watch.specs.declared.found.Found.{Found}
@@ -146,38 +146,35 @@ service_one net run s c end o l e at h = best_same (IsIdleOn end (view (routes_o
     )
 
 -- ---- all
-flow_found : (o : Option NetFlow) → is_some o ≡ true → (f : NetFlow) × (o ≡ Some f)
-flow_found None h = absurd (cc)
-flow_found (Some f) h = (f, refl)
-
-server_found : (ss : List NetServer) (s : ℕ) → s < length ss → (x : NetServer) × (slice_get ss s ≡ Some x)
-server_found ss s h = elim (slice_get_cases ss s).1 [
-  | inl p ↦ (p.0, p.2)
-  | inr p ↦ let late = p.0 in absurd (omega arith)
-]
-
 pub may_serve : (x : NetServer) → IsServer x → IsCurve x.service → MayServe x.service
 may_serve x k is = record { normal = is.normal; finite = k.service.finite; continuous = k.service.continuous; at_zero = same_le_ext k.service.at_zero }
 
 pub have_curves : (net : Net) → IsAccepted net → HaveServices net → HaveCurves (routes_of net) (λ i. value_at (arrival net i)) (service net)
 have_curves net a S = record {
-  flows = λ flow live.
-      let (f, e) = flow_found (flow_at net flow) (sym (live_is net flow) ∙ live) in
-      let k = (flow_kept net flow f a e).arrival in
-      let same : f.arrival ≡ arrival net flow = ap arrival_of (sym e) in
-      record {
-        rising = subst (λ (c : SpecCurve). IsRising (value_at c)) same k.rising;
-        nonnegative = subst (λ (c : SpecCurve). IsNonnegative (value_at c)) same k.nonnegative;
-      };
-  servers = λ s h.
-      let l : s < length net.servers = subst (λ (n : ℕ). s < n) (length-map net.servers server_for) h in
-      let (x, e) = server_found net.servers s l in
-      let same : x.service ≡ service net s = ap service_of (sym e) in
-      subst MayServe same (may_serve x (server_kept net s x a e) (subst IsCurve (sym same) (S s l)));
+  flows = λ flow live. of_flow flow (flow_at net flow) refl (sym (live_is net flow) ∙ live);
+  servers = λ s h. of_server s (subst (λ (n : ℕ). s < n) (length-map net.servers server_for) h);
 }
+  where
+    of_flow : (i : ℕ) (o : Option NetFlow) → flow_at net i ≡ o → is_some o ≡ true → MayArrive (value_at (arrival net i))
+    of_flow i None e h = absurd (cc)
+    of_flow i (Some f) e h =
+        let k = (flow_kept net i f a e).arrival in
+        let same : f.arrival ≡ arrival net i = ap arrival_of (sym e) in
+        record {
+          rising = subst (λ (c : SpecCurve). IsRising (value_at c)) same k.rising;
+          nonnegative = subst (λ (c : SpecCurve). IsNonnegative (value_at c)) same k.nonnegative;
+        }
+
+    of_server : (s : ℕ) → s < length net.servers → MayServe (service net s)
+    of_server s l = elim (slice_get_cases net.servers s).1 [
+      | inl p ↦
+          let same : p.0.service ≡ service net s = ap service_of (sym p.2) in
+          subst MayServe same (may_serve p.0 (server_kept net s p.0 a p.2) (subst IsCurve (sym same) (S s l)))
+      | inr p ↦ let late = p.0 in absurd (omega arith)
+    ]
 
 pub no_server : (net : Net) (s : ℕ) → s < length net.servers → None ≡ slice_get net.servers s → ⊥
-no_server net s h e = let (x, f) = server_found net.servers s h in cc
+no_server net s h e = elim (slice_get_cases net.servers s).1 [ inl p ↦ let found = p.2 in cc | inr p ↦ let late = p.0 in absurd (omega arith) ]
 
 kind_known : (y : Breach) → kind_of y < 3
 kind_known (Size f p) = omega arith
@@ -185,10 +182,6 @@ kind_known (Arrival f i j) = omega arith
 kind_known (Service s a b) = omega arith
 
 -- ---- answers
-pub ok_any : {A E : Type 0} (P : Type 0) (r : Result A E) → P → IfOk r (λ _. P)
-ok_any P (Ok a) h = h
-ok_any P (Err e) h = tt
-
 pub tells_first : (net : Net) (run : SpecRun) (o : Option Found) → IsLawful (routes_of net) run → IsAccepted net → HaveServices net → IsBest (IsOfKinds net run 3) run o
     → TellsFirst net run (option_map (λ f. f.breach) o)
 tells_first net run None L a S h =

@@ -3,6 +3,7 @@ use Rattle.std.specs.Prelude.{◌≡◌, ℕ, zero, suc, ◌<◌, ◌≤◌, Lis
 use Rattle.std.proofs.Common.{arith, refl, sym, ap, ◌∙◌, inl, inr}
 use Rattle.std.proofs.lemmas.Bool.{cases_lt}
 use Rattle.std.proofs.lemmas.List.{get_or_past}
+use Rattle.std.proofs.Math.ListN.{get_or-map}
 use Rattle.run_laws.specs.Routes.{Route, route_of, first_server}
 use Rattle.net_model.specs.Networks.{Net, NetFlow}
 use Rattle.net_model.specs.NetRoutes.{hops_along, route_for, routes_of}
@@ -11,13 +12,8 @@ use Rattle.net_cells.specs.Numbered.{flow_at, is_live, server_at, path, path_of}
 use Rattle.net_cells.proofs.Stored.{flow_kept}
 use Rattle.run_watch.specs.Seen.{AreFirsts}
 
-map_at : {X Y : Type 0} (f : X → Y) (d : X) (xs : List X) (i : ℕ) → get_or (map f xs) i (f d) ≡ f (get_or xs i d)
-map_at f d [] i = refl
-map_at f d (x ∷ xs) zero = refl
-map_at f d (x ∷ xs) (suc i) = map_at f d xs i
-
 pub route_is : (net : Net) (i : ℕ) → route_of (routes_of net) i ≡ route_for (flow_at net i)
-route_is net i = map_at route_for None net.flows i
+route_is net i = get_or-map route_for net.flows i None
 
 live_for : (o : Option NetFlow) → (route_for o).live ≡ is_some o
 live_for None = refl

@@ -76,9 +76,6 @@ view_stands z end net s entered (x ∷ xs) h =
     ]
 
 -- ---- amounts
-zero_small : (z : Sizes) → int (pos 0) ≤ℚ times_largest 1 z
-zero_small z = subst (λ x. int (pos 0) ≤ℚ x) (sym (one_mul (int (pos z.largest)))) (nat_nonneg z.largest)
-
 amount_of : (z : Sizes) (x : ℚ) → Whole (grid_of z) x → int (pos 0) ≤ℚ x → x ≤ℚ times_largest 1 z → IsAmount z x
 amount_of z x g l h = record { whole = g; within = within_nonneg (times_largest 1 z) x l h }
 
@@ -119,7 +116,7 @@ arrivals_fit z end n (Works c a b w ∷ V) A l = arrivals_fit z end n V A l
 arrivals_fit z end n (Leaves c t ∷ V) A l = arrivals_fit z end n V A l
 arrivals_fit z end n (Visits q t ∷ V) A l = arrivals_fit z end n V A l
 
-arrived_most : (V : List ServerStep) (t : ℚ) → arrived all V t ≤ℚ whole (bits_in V)
+pub arrived_most : (V : List ServerStep) (t : ℚ) → arrived all V t ≤ℚ whole (bits_in V)
 unfolding when
 arrived_most [] t = le_refl (int (pos 0))
 arrived_most (Arrives c u ∷ V) t =

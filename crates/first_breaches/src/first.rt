@@ -21,7 +21,7 @@ pub fn first_breach(alloc: Global, net: &Network, run: &Run) -> Result<Option<Br
     requires sizes { HaveSizes net.now run.now }
     ensures { IfOk result (TellsFirst net.now run.now) }
 {
-    let _kept = net.servers();
+    net.keeps();
     let size = first_size(alloc, net, run)?;
     let arrival = first_arrival(alloc, net, run)?;
     let service = first_service(alloc, net, run)?;

@@ -3,6 +3,7 @@ use Rattle.std.specs.Prelude.{◌≡◌, ℕ, zero, suc, ◌<◌, ◌≤◌, Boo
 use Rattle.std.proofs.Common.{arith, refl, sym, subst, inl, inr, true≢false, ◌∙◌}
 use Rattle.std.specs.List.Sorted.{IsPermutation}
 use Rattle.rational.specs.Rational.{ℚ, ◌≤ℚ◌, ◌<ℚ◌, le_q, lt_q}
+use Rattle.run_laws.specs.Counts.{before}
 use Rattle.rational.proofs.Laws.{le_lt_trans, lt_le_trans, lt_irrefl}
 use Rattle.rational.proofs.Over.{lt_q_in, lt_q_out, le_q_out}
 use Rattle.affine_segment.specs.declared.line.Piece.{Piece}
@@ -19,10 +20,7 @@ use Rattle.run_watch.proofs.SortedPoints.{among_sorted, sorted_among, each_time_
 use Rattle.run_watch.proofs.WatchedLists.{times_rise}
 
 -- ---- a part of times in order
-abbrev pub is_before : ℚ → ℚ → Bool
-is_before u t = lt_q t u
-
-pub parted_before_at : (from : ℚ) (ts : List ℚ) (u : ℚ) → TimesRise from ts → (i j : ℕ) (d : ℚ) → i ≤ j → j < length ts → is_before u (get_or ts j d) ≡ true → is_before u (get_or ts i d) ≡ true
+pub parted_before_at : (from : ℚ) (ts : List ℚ) (u : ℚ) → TimesRise from ts → (i j : ℕ) (d : ℚ) → i ≤ j → j < length ts → before u (get_or ts j d) ≡ true → before u (get_or ts i d) ≡ true
 parted_before_at from ts u h i j d k l e = lt_q_out (get_or ts i d) u (le_lt_trans (times_rise from ts i j d h k l) (lt_q_in (get_or ts j d) u e))
 
 pub rise_drop : (k : ℕ) (from : ℚ) (ts : List ℚ) → TimesRise from ts → (f : ℚ) × TimesRise f (drop k ts)
@@ -64,7 +62,7 @@ past : (t end x : ℚ) → x ≡ t → le_q x end ≡ false → t ≤ℚ end →
 past t end x e h l = true≢false (sym (le_q_out x end (subst (λ y. y ≤ℚ end) (sym e) l)) ∙ h)
 
 pub holds : (s : Stretch) (ts rest own : List ℚ) (from count : ℕ) → from ≤ length ts → rest ≡ drop from ts → own ≡ take count rest
-    → ((i : ℕ) (d : ℚ) → 0 ≤ i → i < from → is_before s.start (get_or ts i d) ≡ true)
+    → ((i : ℕ) (d : ℚ) → 0 ≤ i → i < from → before s.start (get_or ts i d) ≡ true)
     → ((i : ℕ) (d : ℚ) → count ≤ i → i < length rest → le_q (get_or rest i d) s.end ≡ false)
     → HoldsTimes s ts own
 holds s ts rest own from count l e f early late = record {
