@@ -2,6 +2,7 @@
 use Rattle.std.specs.Prelude.{◌≡◌, ℕ, zero, suc, pos, ◌<◌, ◌≤◌, List, [], ◌∷◌, length, map, true, Option, Some, None, is_some, slice_get, Contains}
 use Rattle.std.proofs.Common.{arith, sym, ap, ◌∙◌, refl, subst, get_or}
 use Rattle.std.proofs.lemmas.List.{get_or_default, length-map}
+use Rattle.std.proofs.Math.ListN.{get_or-map}
 use Rattle.std.proofs.lemmas.Option.{slice_get_within}
 use Rattle.rational.specs.Rational.{ℚ, int, ◌≤ℚ◌}
 use Rattle.rational.proofs.Laws.{le_refl}
@@ -22,13 +23,8 @@ use Rattle.net_bounds.proofs.Paths.{is_path, passes_has, has_passes}
 use Rattle.run_laws.proofs.Members.{at_has}
 
 -- ---- flows
-map_at : {X Y : Type 0} (f : X → Y) (d : X) (xs : List X) (i : ℕ) → get_or (map f xs) i (f d) ≡ f (get_or xs i d)
-map_at f d [] i = refl
-map_at f d (x ∷ xs) zero = refl
-map_at f d (x ∷ xs) (suc i) = map_at f d xs i
-
 route_is : (net : Net) (i : ℕ) → route_of (routes_of net) i ≡ route_for (flow_at net i)
-route_is net i = map_at route_for None net.flows i
+route_is net i = get_or-map route_for net.flows i None
 
 -- the queues of a flow, one at each server of its path
 abbrev pub own_queues : Net → ℕ → List ℕ

@@ -3,6 +3,8 @@ use Rattle.std.specs.Prelude.{Some, None, ◌≡◌, ◌⊎◌, ◌↔◌, ℕ, 
 use Rattle.std.proofs.Common.{refl, sym, ap, ◌∙◌, subst, arith, inl, inr}
 use Rattle.std.proofs.lemmas.Bool.{cases_eq, eq-eqb, ne_eqb}
 use Rattle.std.proofs.lemmas.List.{length-map, length_push}
+use Rattle.std.proofs.lemmas.Option.{get_or_from_slice_get, slice_get-map}
+use Rattle.std.specs.Option.{option_map}
 use Rattle.rational.specs.Rational.{ℚ, int, ◌<ℚ◌}
 use Rattle.run_laws.specs.Servers.{Fifo, Server, start}
 use Rattle.run_laws.specs.Routes.{server_at}
@@ -47,11 +49,6 @@ opening_is : (net : Net) (trace : SpecTrace) (k : ℕ) (y : NetServer) → slice
 opening_is net trace k y e =
     opening_at net.servers trace.stalls 0 k y record { gate = None; stalls = [] } e
     ∙ ap (λ j. let o : setups.Opening = record { gate = gate_of y.kind; stalls = stalls_at j trace.stalls } in o) (let f : 0 + k ≡ k = omega arith in f)
-
-mapped : {X Y : Type 0} (f : X → Y) (xs : List X) (k : ℕ) (y : X) (d : Y) → slice_get xs k ≡ Some y → get_or (map f xs) k d ≡ f y
-mapped f [] k y d e = absurd (cc)
-mapped f (x ∷ xs) zero y d e = let g : x ≡ y = cc in ap f g
-mapped f (x ∷ xs) (suc k) y d e = mapped f xs k y d e
 
 -- the stalls of a server take some time, as those of the trace do
 stalls_forward : (s : ℕ) (stalls : List Stall) → ((k : ℕ) (d : Stall) → k < length stalls → IsStall (get_or stalls k d))
@@ -113,8 +110,12 @@ fresh_station net trace ok fine named k x f =
     let S = setup_of net trace in
     let y = f.server in
     let discipline : (server_at S.net k).discipline ≡ y.discipline =
-    ap (λ (z : Server). z.discipline) (mapped server_for net.servers k y record { discipline = Fifo; pace = None } f.at) in
-    let rate : rate_of S k ≡ y.rate = mapped (λ (z : NetServer). z.rate) net.servers k y (int (pos 1)) f.at in
+    ap (λ (z : Server). z.discipline)
+    (get_or_from_slice_get (map server_for net.servers) k (server_for y) record { discipline = Fifo; pace = None }
+    (slice_get-map server_for net.servers k ∙ ap (option_map server_for) f.at)) in
+    let rate : rate_of S k ≡ y.rate =
+    get_or_from_slice_get (map (λ (z : NetServer). z.rate) net.servers) k y.rate (int (pos 1))
+    (slice_get-map (λ (z : NetServer). z.rate) net.servers k ∙ ap (option_map (λ (z : NetServer). z.rate)) f.at) in
     subst (λ σ. IsStation S k σ x) (sym (start_at net trace k y f.at)) record {
       discipline = f.fresh.discipline ∙ sym discipline;
       queues = f.fresh.stands;

@@ -11,6 +11,7 @@ use Rattle.std.proofs.lemmas.List.Sorted.{IsPermutation-sym, All-permutation, Co
 use Rattle.std.proofs.lemmas.List.MinMax.{ranks_by}
 use Rattle.rational.specs.Rational.{ℚ, ◌≤ℚ◌, ◌<ℚ◌}
 use Rattle.rational.specs.Ratio.{cmp_q}
+use Rattle.rational.proofs.Compared.{not_less}
 use Rattle.rational.proofs.Comparison.{cmp_ranks}
 use Rattle.rational.proofs.Laws.{le_refl, le_of_lt}
 use Rattle.fraction128.specs.Order.{cmp_q_total}
@@ -60,18 +61,12 @@ same_stalls s stalls i x spans spans' l at h e p =
     ap (map stall_times) p ∙ h ∙ sym (ap (stalls_at s) more ∙ stalls_skip s (take i stalls) x e)
 
 -- ---- sorted by their starts
-not_less : (x y : ℚ) → is_lt (cmp_q x y) ≡ false → y ≤ℚ x
-not_less x y e = go (cmp_q x y) (cmp_ranks x y) e
-  where
-    go : (r : Ordering) → MatchOrdering r (x <ℚ y) (x ≡ y) (y <ℚ x) → is_lt r ≡ false → y ≤ℚ x
-    go Less k e = absurd (let f : true ≡ false = e in cc)
-    go Equal k e = subst (λ z. y ≤ℚ z) (sym k) (le_refl y)
-    go Greater k e = le_of_lt k
-
 pub by_starts : (xs : List Span) → IsSortedByKey (λ (a : Span). a.start) cmp_q xs → AllPairs (λ (a b : Span). a.start ≤ℚ b.start) xs
 by_starts xs up = λ i j d l h.
-    not_less (get_or xs j d).start (get_or xs i d).start
-    (sorted_far (λ (x y : Span). is_lt (cmp_q x.start y.start)) (ranks_by cmp_q_total (λ (a : Span). a.start)) xs up i j d (omega (arith, l)) h)
+    let r = cmp_q (get_or xs j d).start (get_or xs i d).start in
+    let later : is_lt r ≡ false =
+    sorted_far (λ (x y : Span). is_lt (cmp_q x.start y.start)) (ranks_by cmp_q_total (λ (a : Span). a.start)) xs up i j d (omega (arith, l)) h in
+    not_less r (cmp_ranks (get_or xs j d).start (get_or xs i d).start) (λ e. let less : true ≡ false = sym (ap is_lt e) ∙ later in cc)
 
 -- ---- members
 record IsStalledIn (xs : List Span) (t : ℚ) : Type 0 where

@@ -1,9 +1,9 @@
 -- The largest of 0 and some numbers, with one more.
-use Rattle.std.specs.Prelude.{◌≡◌, ◌↔◌, suc, pos, true, false, IsTrue, List, [], ◌∷◌, Contains}
+use Rattle.std.specs.Prelude.{◌≡◌, suc, pos, List, [], ◌∷◌, Contains}
 use Rattle.std.proofs.Common.{arith, refl, inl, inr}
 use Rattle.rational.specs.Rational.{ℚ, int, ◌≤ℚ◌, ◌<ℚ◌}
 use Rattle.rational.specs.declared.Extended.TheVariants.{Fin}
-use Rattle.rational.proofs.Laws.{le_refl, le_trans, le_of_lt, le_of_not_lt}
+use Rattle.rational.proofs.Laws.{le_refl, le_trans, le_of_lt}
 use Rattle.run_laws.specs.Delays.{AreAtMost}
 use Rattle.run_measures.specs.Worst.{IsLargest}
 
@@ -30,6 +30,3 @@ largest_new x w xs h l = record {
   above = (le_refl x, more w x xs (le_of_lt l) h.above);
   reached = inr (0, omega arith, refl);
 }
-
-pub not_less : (x y : ℚ) → (IsTrue false ↔ (x <ℚ y)) → y ≤ℚ x
-not_less x y h = le_of_not_lt (λ l. let f : false ≡ true = h.1 l in cc)

@@ -19,14 +19,11 @@ use Rattle.stated_runs.proofs.Good.{own_state, other_state}
 use Rattle.simulated_sizes.proofs.Worked.{ArriveBefore, arrive_before}
 
 -- ---- the state of a server after a run is the one after what it sees
-as_many : (net : Routes) (r : RunState) (x : Step) → length r.servers ≡ length net.servers → length (next_run net r x).servers ≡ length net.servers
-as_many net r x h = length-set r.servers (server_of net x) _ ∙ h
-
 states_seen : (net : Routes) (end : ℚ) (r : RunState) (xs : List Step) (s : ℕ) → AllAllowedInRun net end r xs → length r.servers ≡ length net.servers
     → state_at (after_run net r xs) s ≡ after (server_at net s).discipline (state_at r s) (view_from net s r.entered xs)
 states_seen net end r [] s a n = refl
 states_seen net end r (x ∷ xs) s a n =
-    let rest = states_seen net end (next_run net r x) xs s a.1 (as_many net r x n) in
+    let rest = states_seen net end (next_run net r x) xs s a.1 (length-set r.servers (server_of net x) _ ∙ n) in
     let d = (server_at net s).discipline in
     elim (cases_Bool (server_of net x == s)) [
       | inl e ↦

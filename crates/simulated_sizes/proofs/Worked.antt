@@ -28,7 +28,7 @@ use Rattle.run_watch.specs.Seen.{work_spans}
 use Rattle.run_watch.proofs.SeenLists.{worked_is}
 use Rattle.run_watch.proofs.ViewSpans.{works_in_order}
 use Rattle.first_breaches.specs.Sizes.{bits_in}
-use Rattle.first_breaches.proofs.Views.{SpanStands, sum_bits, sum_is}
+use Rattle.first_breaches.proofs.Views.{SpanStands, arrived_most, sum_bits, sum_is}
 
 -- ---- all that arrived
 bits_by_end : (server : Server) (end : ℚ) (σ : ServerState) (V : List ServerStep) → AllAllowed server end σ V → arrived_upto all V end ≡ whole (bits_in V)
@@ -86,20 +86,6 @@ ArriveBefore end (Arrives c t ∷ V) = (t <ℚ end) × ArriveBefore end V
 ArriveBefore end (Works c a b w ∷ V) = ArriveBefore end V
 ArriveBefore end (Leaves c t ∷ V) = ArriveBefore end V
 ArriveBefore end (Visits q t ∷ V) = ArriveBefore end V
-
-arrived_most : (V : List ServerStep) (t : ℚ) → arrived all V t ≤ℚ whole (bits_in V)
-unfolding when
-arrived_most [] t = le_refl (int (pos 0))
-arrived_most (Arrives c u ∷ V) t =
-    let more = arrived_most V t in
-    let some = size_nonneg c in
-    subst (λ x. (when (lt_q u t) (size c) +ℚ arrived all V t) ≤ℚ x) (sym (whole_sum c.bits (bits_in V))) (elim (cases_Bool (lt_q u t)) [
-      | inl e ↦ rw e (with3 (size c) (arrived all V t) (whole (bits_in V)) (λ k. omega (arith, k.le, k.lt, k.same)))
-      | inr e ↦ rw e (with3 (size c) (arrived all V t) (whole (bits_in V)) (λ k. omega (arith, k.le, k.lt, k.same)))
-    ])
-arrived_most (Works c a b w ∷ V) t = let more = arrived_most V t in with2 (arrived all V t) (whole (bits_in V)) (λ k. omega (arith, k.le, k.lt, k.same))
-arrived_most (Leaves c u ∷ V) t = let more = arrived_most V t in with2 (arrived all V t) (whole (bits_in V)) (λ k. omega (arith, k.le, k.lt, k.same))
-arrived_most (Visits q u ∷ V) t = let more = arrived_most V t in with2 (arrived all V t) (whole (bits_in V)) (λ k. omega (arith, k.le, k.lt, k.same))
 
 all_before : (server : Server) (end : ℚ) (σ : ServerState) (V : List ServerStep) → AllAllowed server end σ V → whole (bits_in V) ≤ℚ arrived all V end → ArriveBefore end V
 unfolding when

@@ -2,8 +2,8 @@
 
 ghost use Rattle.simulated_sizes.specs.Laws.{SimulatedRunsHaveSizes};
 
-/// A simulated run whose gauge is below 2^120 is lawful, and its numbers stand by that gauge's sizes: what is asked of a
-/// run whose first breach is looked for.
+/// A simulated run whose gauge is below 2^120 is lawful, and its numbers stand by that gauge's sizes: what is asked of
+/// a run whose first breach is looked for.
 pub fn simulated_runs_have_sizes()
     ensures { SimulatedRunsHaveSizes }
 {}

@@ -1,5 +1,6 @@
 -- A text is one trace at most, or has one first fault.
 use Rattle.std.proofs.Common.{Bool, true, false, true≢false, le_refl, sub-eq-zero_of_le, ◌≡◌, ◌≢◌, ℕ, zero, suc, ◌<◌, ◌≤◌, List, [], ◌∷◌, ◌++◌, length, drop, get_or, Some, Result, Ok, Err, AllPairs, slice_get, refl, sym, ap, ap₂, subst, subst₂, arith, inl, inr, ⊎_elim, ◌⊎◌, ◌∙◌, length-append, eq-or-lt_of_le}
+use Rattle.std.proofs.lemmas.Bool.{cases_order}
 use Rattle.std.proofs.lemmas.Option.{slice_get_within, get_or_from_slice_get}
 use Rattle.std.proofs.lemmas.List.{get_or_append_left, get_or-append_right}
 use Rattle.rational.specs.Rational.{◌≤ℚ◌}
@@ -44,21 +45,16 @@ unfolding is_read
 not_both_ways r x e a b = true≢false (ap is_read (sym a ∙ b))
 
 -- ---- names
-order : (i j : ℕ) → (i ≤ j) ⊎ (j < i)
-order zero j = inl (omega arith)
-order (suc i) zero = inr (omega arith)
-order (suc i) (suc j) = ⊎_elim (λ h. inl (omega (arith, h))) (λ h. inr (omega (arith, h))) (order i j)
-
 one_place : {X : Type 0} (R : X → X → Type 0) (xs : List X) (i j : ℕ) (x y : X) → AllPairs R xs → slice_get xs i ≡ Some x → slice_get xs j ≡ Some y → (R x y → ⊥) → (R y x → ⊥) → i ≡ j
 one_place R xs i j x y pairs ex ey nxy nyx =
     let xi : (d : _) → get_or xs i d ≡ x = λ d. get_or_from_slice_get xs i x d ex in
     let yj : (d : _) → get_or xs j d ≡ y = λ d. get_or_from_slice_get xs j y d ey in
-    elim (order i j) [
-      | inl le ↦ elim (eq-or-lt_of_le le) [
-        | inl e ↦ e
-        | inr less ↦ absurd (nxy (subst₂ R (xi x) (yj x) (pairs i j x less (slice_get_within xs j y ey))))
+    elim (cases_order i j) [
+      | inl e ↦ e
+      | inr apart ↦ elim apart [
+        | inl less ↦ absurd (nxy (subst₂ R (xi x) (yj x) (pairs i j x less (slice_get_within xs j y ey))))
+        | inr less ↦ absurd (nyx (subst₂ R (yj x) (xi x) (pairs j i x less (slice_get_within xs i x ex))))
       ]
-      | inr less ↦ absurd (nyx (subst₂ R (yj x) (xi x) (pairs j i x less (slice_get_within xs i x ex))))
     ]
 
 server_one : (net : Net) (name : List ℕ) (i j : ℕ) → IsAccepted net → IsServerNamed net.servers name i → IsServerNamed net.servers name j → i ≡ j

@@ -30,14 +30,11 @@ pub name_is_text : (name : List ℕ) → is_name name ≡ true → IsUtf8 name
 name_is_text name h = IsUtf8-from_ascii name (ascii name (both _ _ h).0)
 
 -- ---- one entry
-capped : (n v : ℕ) → n ≡ cap v → min n (2 ^ 32 - 1) ≡ min v (2 ^ 32 - 1)
-unfolding cap
-capped n v e = omega (arith, e)
-
 pub entry_is : (name digits server : List ℕ) (n q : ℕ) → is_name name ≡ true → is_numeral digits ≡ true → n ≡ cap (digits_value 10 digits) → q ≡ min n (2 ^ 32 - 1) → server ≡ name
     → entry_of name digits ≡ Some (record { server = server; queue = q })
+unfolding cap
 entry_is name digits server n q a b e f s =
-    let k : min (digits_value 10 digits) (2 ^ 32 - 1) ≡ q = sym (f ∙ capped n (digits_value 10 digits) e) in
+    let k : min (digits_value 10 digits) (2 ^ 32 - 1) ≡ q = omega (arith, e, f) in
     rw (a, b) (ap (λ x. Some (let t : EntryText = record { server = name; queue = x } in t)) k ∙ ap (λ x. Some (let t : EntryText = record { server = x; queue = q } in t)) (sym s))
 
 -- ---- words between spaces

@@ -22,10 +22,6 @@ pub both_ok : {E : Type 0} {A B C : Type 0} (r : Result (Unit {0}) E) → (A →
 both_ok (Ok x) f a b = f a b
 both_ok (Err e) f a b = tt
 
-pub other_err : {X E : Type 0} (r : Result X E) (P Q : E → Type 0) → ((e : E) → P e → Q e) → IfErr r P → IfErr r Q
-other_err (Ok x) P Q f h = tt
-other_err (Err e) P Q f h = f e h
-
 pub memory_or : (kind : TableKind) → (kind ≡ NoMemory) ⊎ (kind ≢ NoMemory)
 memory_or NoMemory = inl refl
 memory_or T1 = inr (λ e. let bad : ⊥ = cc in bad)

@@ -1,19 +1,15 @@
 -- What a field is read as, and nothing where it is not what is asked for. Own choice.
-use Rattle.std.specs.Prelude.{ℕ, ℤ, pos, negsuc, List, Option, Some, None, Result, Ok, Err, ◌&&◌, nat_le, nat_lt, ◌^◌, if◌then◌else◌}
+use Rattle.std.specs.Prelude.{ℕ, ℤ, pos, negsuc, List, Option, Some, None, ◌&&◌, nat_le, nat_lt, ◌^◌, if◌then◌else◌}
 use Rattle.std.specs.Option.{option_and_then}
+use Rattle.std.specs.Result.{result_ok}
 use Rattle.std.specs.Str.Parse.{digits_value, starts_with_minus}
 use Rattle.rational.specs.Rational.{ℚ, lt_q}
 use Rattle.min_plus.specs.Functions.{zero_q}
-use Rattle.fraction128.specs.declared.fault.FracText.{FracText}
 use Rattle.fraction128.specs.Text.{parse_of, is_numeral, unsigned_text, signed_value}
-
-abbrev pub number_of : Result ℚ FracText → Option ℚ
-number_of (Ok x) = Some x
-number_of (Err e) = None
 
 -- a number: `p` or `p/q`, as in a file of a network
 abbrev pub number_in : List ℕ → Option ℚ
-number_in text = number_of (parse_of text)
+number_in text = result_ok (parse_of text)
 
 abbrev pub not_below_zero : ℚ → Option ℚ
 not_below_zero x = if lt_q x zero_q then None else Some x

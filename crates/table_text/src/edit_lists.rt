@@ -39,9 +39,10 @@ fn add_edit(
 
 /// The edits that a text asks for, in its order: a row is `rate,SERVER,R`, `latency,SERVER,T`, `link,SERVER,X`,
 /// `quantum,SERVER,QUEUE,Q`, `bucket,FLOW,B,R`, `stair,FLOW,P,J`, `packet,FLOW,L`, `route,FLOW,PATH`,
-/// `add,FLOW,L,B,R,PATH`, `drop,FLOW` or `undo`; QUEUE, Q and L are whole numbers of 64 bits, PATH is entries with single
-/// spaces between them, and the others are numbers of any sign; there are at most 1,000 rows. Refused by the first row
-/// that is wrong, and by the first of its faults; else only for want of memory, with row 0. (The format is own choice.)
+/// `add,FLOW,L,B,R,PATH`, `drop,FLOW` or `undo`; QUEUE, Q and L are whole numbers of 64 bits, PATH is entries with
+/// single spaces between them, and the others are numbers of any sign; there are at most 1,000 rows. Refused by the
+/// first row that is wrong, and by the first of its faults; else only for want of memory, with row 0. (The format is
+/// own choice.)
 pub fn read_edits(alloc: Global, text: &[u8]) -> Result<Vec<Edit>, TableFault>
     ensures ok { IfOk result (λ v. AreEditsOf (rows_of text.now) (map edit_view v.items)) }
     ensures fault { IfErr result (λ e. (e ≡ out_of_memory) ⊎ IsFirstEditFault text.now e.kind e.row) }

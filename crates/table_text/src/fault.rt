@@ -27,8 +27,8 @@ pub enum TableKind {
     NoMemory,
 }
 
-/// What is wrong with a table, and with which row, from 1 on: empty lines are not counted. The row is 0 where memory ran
-/// out.
+/// What is wrong with a table, and with which row, from 1 on: empty lines are not counted. The row is 0 where memory
+/// ran out.
 #[derive(Debug, Clone, Copy, PartialEq, Eq)]
 pub struct TableFault {
     pub kind: TableKind,

@@ -28,7 +28,8 @@ pub fn edits_are_one()
     ensures { EditsAreOne }
 {}
 
-/// A text with a fault is no list of edits: so `read_edits` refuses exactly those that are none, unless memory runs out.
+/// A text with a fault is no list of edits: so `read_edits` refuses exactly those that are none, unless memory runs
+/// out.
 pub fn faults_exclude_edits()
     ensures { FaultsExcludeEdits }
 {}

@@ -1,5 +1,5 @@
-//! Tables of rows: traces of packets and stalls, and lists of edits. Each call's contract says which rows give what, and
-//! which row is the first that is wrong.
+//! Tables of rows: traces of packets and stalls, and lists of edits. Each call's contract says which rows give what,
+//! and which row is the first that is wrong.
 #![tactic(auto)]
 
 mod edit_lists;

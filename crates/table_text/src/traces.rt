@@ -72,9 +72,9 @@ fn add_row(
 }
 
 /// The trace of a network that a text is: a row is `packet,TIME,FLOW,BITS` or `stall,SERVER,FROM,TO`, times are numbers
-/// from 0 on, a packet has 1 to 2^24 bits, FROM is before TO, and the times of the packets do not fall; there are at most
-/// 10,000 rows. Refused by the first row that is wrong, and by the first of its faults; else only for want of memory,
-/// with row 0. (The format is own choice.)
+/// from 0 on, a packet has 1 to 2^24 bits, FROM is before TO, and the times of the packets do not fall; there are at
+/// most 10,000 rows. Refused by the first row that is wrong, and by the first of its faults; else only for want of
+/// memory, with row 0. (The format is own choice.)
 pub fn read_trace(alloc: Global, text: &[u8], net: &Network) -> Result<Trace, TableFault>
     ensures ok { IfOk result (IsTraceOf net.now (rows_of text.now)) }
     ensures fault { IfErr result (λ e. (e ≡ out_of_memory) ⊎ IsFirstFault net.now text.now e.kind e.row) }

@@ -5,7 +5,8 @@ use Rattle.table_text.specs.declared.trace_rows.Entry.TheVariants.{Packet, Stop}
 use Rattle.table_text.specs.Kept.{IsKept}
 use Rattle.table_text.specs.TraceRows.{trace_row, Gives}
 use Rattle.table_text.specs.Traces.{IsEarlier, IsWrong}
-use Rattle.table_text.proofs.TraceSteps.{both_ok, other_err}
+use Rattle.std.proofs.lemmas.Result.{IfErr-weaker}
+use Rattle.table_text.proofs.TraceSteps.{both_ok}
 use Rattle.table_text.proofs.traces.add_row.Goals as goal
 
 pub returns-in-Packet-clause-adds : goal.returns-in-Packet-clause-adds
@@ -28,7 +29,7 @@ returns-in-Packet-clause-wrong c =
     let row = fields_of c.args.row.now in
     let ps = c.args.packets.now.items in
     let gives = subst (λ e. Gives net (trace_row row) e) c.in-Packet.is c.in_ok-packet.ensures.gives in
-    other_err c.add_packet.result (λ kind. (kind ≡ NoMemory) ⊎ ((kind ≡ T6) × IsEarlier ps c.in-Packet.packet.time)) (λ kind. (kind ≡ NoMemory) ⊎ IsWrong net c.args.before ps row kind)
+    IfErr-weaker c.add_packet.result (λ kind. (kind ≡ NoMemory) ⊎ ((kind ≡ T6) × IsEarlier ps c.in-Packet.packet.time)) (λ kind. (kind ≡ NoMemory) ⊎ IsWrong net c.args.before ps row kind)
     (λ kind w. ⊎_elim (λ memory. inl memory)
     (λ late. inr (inr (c.if-before-ge-MOST_ROWS.false, inr (late.0, record { packet = c.in-Packet.packet; gives = gives; earlier = late.1 })))) w)
     c.add_packet.ensures.wrong

@@ -3,7 +3,7 @@ use Rattle.std.proofs.Common.{arith, refl, ap, ◌∙◌, subst}
 use Rattle.std.proofs.lemmas.List.{get_or_read}
 use Rattle.std.proofs.lemmas.Option.{slice_get_within, get_or_from_slice_get}
 use Rattle.rational.specs.Rational.{int, ◌-ℚ◌, ◌≤ℚ◌, ◌<ℚ◌}
-use Rattle.run_measures.proofs.Largest.{not_less}
+use Rattle.rational.proofs.Compared.{least_by_test}
 use Rattle.run_measures.proofs.Telling.{enter_unknown, enter_less, enter_more}
 use Rattle.run_measures.proofs.worst.Tally.enter.Goals as goal
 
@@ -25,7 +25,7 @@ returns-then-not-is_less-clause-told c = λ net b end xs many h.
     let known : c.args.flow < length v.worst.items = omega (arith, c.if-place-len.false, c.len.ensures, v.worst.ok.0) in
     let small : c.difference-delay.result ≤ℚ get_or v.worst.items c.args.flow (int (pos 0)) =
     subst (λ u. c.difference-delay.result ≤ℚ u) (get_or_read v.worst.items c.args.flow c.index-2.result.now known c.index-2.ensures (int (pos 0)))
-    (not_less c.index-2.result.now c.difference-delay.result c.if-not-is_less.ensures.less) in
+    (least_by_test c.index-2.result.now c.difference-delay.result c.if-not-is_less.ensures.less) in
     enter_less net end xs v.flows.items v.delivered.items many v.worst.items c.args.flow p c.args.time c.difference-delay.result b inside flow is small h
 
 pub returns-clause-told : goal.returns-clause-told
