@@ -1,10 +1,10 @@
 -- No bound of a table that meets the equations is below 0.
-use Rattle.std.proofs.Common.{◌≡◌, ℕ, zero, suc, ◌<◌, List, [], ◌∷◌, length, get_or, map, inl, inr, refl, sym, ap, ◌∙◌, subst, arith}
-use Rattle.std.specs.Prelude.{◌++◌, ◌==◌, ◌&&◌, Some, IsTrue, Contains, true}
+use Rattle.std.proofs.Common.{◌≡◌, ℕ, suc, List, [], ◌∷◌, map, inl, inr, refl, sym, subst, arith}
+use Rattle.std.specs.Prelude.{◌==◌, ◌&&◌, Some, IsTrue, Contains, true}
 use Rattle.std.specs.List.{range_with_len}
 use Rattle.std.proofs.lemmas.Bool.{and_from}
-use Rattle.rational.specs.Rational.{ℚ, ◌≤ℚ◌}
-use Rattle.rational.specs.Extended.{Ext, ◌≤ₑ◌, ◌<ₑ◌, ◌+ₑ◌, min_ext}
+use Rattle.rational.specs.Rational.{ℚ}
+use Rattle.rational.specs.Extended.{Ext, ◌≤ₑ◌, ◌+ₑ◌}
 use Rattle.rational.specs.declared.Extended.TheVariants.{Fin}
 use Rattle.rational.proofs.ExtendedOrder.{le_ext_trans, le_or_lt_ext, add_le_ext, zero_add_ext, min_greatest}
 use Rattle.rational.proofs.Laws.{le_refl, le_lt_trans, lt_irrefl}
@@ -88,7 +88,8 @@ hop_delay net order at i k g has =
     let m = e.means in
     let here =
     operands_are_cells net order g.accepted g.ordered c (cell_of QueueDelay s q) has (0, omega arith, refl) in
-    let x : IsNonneg m.operand = known at (cell_of QueueDelay s q) m.operand (queue_delay net order at s q g here) m.is in
+    let x : IsNonneg m.operand =
+    known at (cell_of QueueDelay s q) m.operand (queue_delay net order at s q g here) m.is in
     let y : IsNonneg m.gives.operand = deviation_nonneg _ _ (number m.gives.operand) m.gives.is in
     has_number at c IsNonneg e.value e.is
     (subst (IsNumberIn IsNonneg) (sym m.gives.gives)

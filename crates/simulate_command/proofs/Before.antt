@@ -73,7 +73,8 @@ none_more x y p q = with2 x y (λ c. omega (arith, c.le, c.lt, c.same))
 none_arrived : (C : Class) (V : List ServerStep) (t : ℚ) → IsBefore t V → arrived_upto C V t ≡ int (pos 0)
 none_arrived C [] t b = refl
 none_arrived C (Arrives c u ∷ V) t b =
-    none_more (when (C c && le_q u t) (size c)) (arrived_upto C V t) (fails (C c) (le_q u t) (size c) (le_q_not u t b.0))
+    none_more (when (C c && le_q u t) (size c)) (arrived_upto C V t)
+    (fails (C c) (le_q u t) (size c) (le_q_not u t b.0))
     (none_arrived C V t b.1)
 none_arrived C (Works c a d w ∷ V) t b =
     none_more (int (pos 0)) (arrived_upto C V t) refl (none_arrived C V t b)

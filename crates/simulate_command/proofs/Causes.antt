@@ -1,5 +1,5 @@
 -- Each status of a reply has its cause.
-use Rattle.std.proofs.Common.{◌≡◌, ◌≢◌, ℕ, List, ◌++◌, map, inl, inr, refl, sym, ap, ◌∙◌, arith}
+use Rattle.std.proofs.Common.{◌≡◌, ℕ, List, ◌++◌, inl, inr, ap}
 use Rattle.std.specs.Prelude.{◌⊎◌, codes}
 use Rattle.std.specs.Prelude.{Option, Some, None}
 use Rattle.upp_limits.specs.declared.own_limits.OverLimit.{OverLimit}
@@ -9,7 +9,6 @@ use Rattle.command_replies.specs.Replies.{Reply, over}
 use Rattle.simulate_command.specs.Found.{status_by}
 use Rattle.simulate_command.specs.OnTraces as on
 use Rattle.simulate_command.specs.OnTraces.{IsRunReport, IsMalformed, IsOverLimit, IsSimulationOver, HasCycleBehind}
-use Rattle.simulate_command.specs.RunCounts.{IsOfReport}
 use Rattle.simulate_command.specs.Laws.{HasCause, StatusesHaveCauses}
 
 status_is : (reply to : Reply) → reply ≡ to → reply.status ≡ to.status
@@ -28,7 +27,8 @@ module _ (net_file net_bytes trace_file trace_bytes : List ℕ) (reply : Reply) 
     others = (λ e. (cc), λ e. (cc), λ e. (cc), λ e. (cc));
   }
 
-  wide : reply.status ≡ 6 → IsOverLimit TooWide net_bytes trace_bytes reply ⊎ IsSimulationOver net_bytes trace_bytes reply
+  wide : reply.status ≡ 6
+      → IsOverLimit TooWide net_bytes trace_bytes reply ⊎ IsSimulationOver net_bytes trace_bytes reply
       → HasCause net_file net_bytes trace_file trace_bytes reply
   wide is h = record {
     report = λ e. elim e [ inl zero ↦ absurd (cc) | inr nine ↦ absurd (cc) ];

@@ -1,5 +1,5 @@
 -- The reply on a network and a trace, and how a refusal ends.
-use Rattle.std.proofs.Common.{◌≡◌, ◌≢◌, ℕ, List, map, Result, Ok, Err, IfOk, inl, inr, sym, ap, subst, ◌∙◌}
+use Rattle.std.proofs.Common.{◌≡◌, ◌≢◌, ℕ, List, map, Result, Ok, Err, IfOk, inl, inr, sym, ap, ◌∙◌}
 use Rattle.std.specs.Prelude.{◌⊎◌}
 use Rattle.upp_limits.specs.LimitTest.{fault_of}
 use Rattle.upp_limits.specs.declared.own_limits.OverLimit.{OverLimit}
@@ -76,7 +76,8 @@ on_cycle net trace walk reply accepted keeps cycle is net_file net_bytes trace_f
 pub on_over : (net : Net) (trace : SpecTrace) (order : List ℕ) (cell : Cell) (limit : OverLimit) (reply : Reply)
     → IsAccepted net → IsTrace trace → IsOrder net order → FirstOver net order cell (fault_of limit)
     → reply ≡ cell_over limit (cell_words net cell) → IsRunReplyOnTrace net trace reply
-on_over net trace order cell limit reply accepted keeps ordered first is net_file net_bytes trace_file trace_bytes reads rows =
+on_over net trace order cell limit reply accepted keeps ordered first is =
+    λ net_file net_bytes trace_file trace_bytes reads rows.
     on.CellOver limit record {
       over = record {
         net = net;
@@ -94,7 +95,8 @@ on_over net trace order cell limit reply accepted keeps ordered first is net_fil
 pub on_table : (net : Net) (trace : SpecTrace) (order : List ℕ) (at : CellTable) (reply : Reply) → IsAccepted net
     → AreCurves net → IsTrace trace → IsOrder net order → AnswersAll net at (evaluation_order net order)
     → MeetsEquations net at → IsSimulationReply net trace at reply → IsRunReplyOnTrace net trace reply
-on_table net trace order at reply accepted curves keeps ordered answers meets simulated net_file net_bytes trace_file trace_bytes reads rows =
+on_table net trace order at reply accepted curves keeps ordered answers meets simulated =
+    λ net_file net_bytes trace_file trace_bytes reads rows.
     let analysed : on.AreAnalysed net_bytes trace_bytes net trace at = record {
       gives = record { reads = reads; accepted = accepted };
       curves = curves;

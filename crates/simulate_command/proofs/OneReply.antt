@@ -23,7 +23,8 @@ use Rattle.table_text.proofs.OneTrace.{trace_one, no_trace, fault_one}
 use Rattle.report_text.proofs.RunAgree.{one_run_report}
 use Rattle.command_replies.specs.Replies.{Reply, AreSame, table_fault_reply}
 use Rattle.command_replies.proofs.FirstFaults.{says}
-use Rattle.command_replies.proofs.OneRefusal.{equal, one_fault, no_network, OnFault, OnCycle, one_cycle, IsOver, one_over, no_answers}
+use Rattle.command_replies.proofs.OneRefusal.{equal, OnFault, OnCycle, IsOver}
+use Rattle.command_replies.proofs.OneRefusal.{one_fault, no_network, one_cycle, one_over, no_answers}
 use Rattle.simulate_command.specs.Found.{status_by, run_report, IsReportOn, IsFoundIn}
 use Rattle.simulate_command.specs.OnTraces.{IsSimulationReply}
 use Rattle.simulate_command.specs.RunCounts.{IsOfReport}
@@ -113,7 +114,8 @@ by_net net trace_file trace_bytes x y a (inr h) (inr k) =
 by_files : (net_file net_bytes trace_file trace_bytes : List ℕ) (x y : Reply)
     → OnFault net_file net_bytes x ⊎ OnNet net_bytes trace_file trace_bytes x
     → OnFault net_file net_bytes y ⊎ OnNet net_bytes trace_file trace_bytes y → AreSame x y
-by_files net_file net_bytes trace_file trace_bytes x y (inl h) (inl k) = equal x y (one_fault net_file net_bytes x y h k)
+by_files net_file net_bytes trace_file trace_bytes x y (inl h) (inl k) =
+    equal x y (one_fault net_file net_bytes x y h k)
 by_files net_file net_bytes trace_file trace_bytes x y (inl h) (inr k) =
     absurd (no_network net_file net_bytes x k.net h k.gives.reads)
 by_files net_file net_bytes trace_file trace_bytes x y (inr h) (inl k) =

@@ -1,7 +1,8 @@
 -- What is found in the stated run of a network and a trace is determined.
-use Rattle.std.proofs.Common.{◌≡◌, ℕ, zero, suc, ◌≤◌, ◌<◌, List, [], ◌∷◌, length, get_or, Option, Some, None, inl, inr, refl, sym, ap, subst, ◌∙◌, arith}
-use Rattle.std.specs.Prelude.{◌⊎◌, pos, Contains}
-use Rattle.std.proofs.lemmas.List.{same_lists, get_or_default, ext_get_or}
+use Rattle.std.proofs.Common.{◌≡◌, ℕ, zero, suc, ◌≤◌, ◌<◌, List, [], ◌∷◌, length, get_or, Option, Some}
+use Rattle.std.proofs.Common.{None, inl, inr, refl, sym, ap, subst, ◌∙◌, arith}
+use Rattle.std.specs.Prelude.{pos}
+use Rattle.std.proofs.lemmas.List.{ext_get_or}
 use Rattle.rational.specs.Rational.{ℚ, int, ◌≤ℚ◌}
 use Rattle.rational.specs.declared.Extended.TheVariants.{Fin}
 use Rattle.rational.proofs.Integers.{nat_le_out}
@@ -21,7 +22,7 @@ use Rattle.net_model.specs.NetRoutes.{routes_of}
 use Rattle.net_model.specs.Traces.{SpecTrace}
 use Rattle.net_cells.specs.Numbered.{packet, arrival, service}
 use Rattle.upp_curve.specs.Curve.{value_at}
-use Rattle.run_measures.specs.Peaks.{IsPeak, ArePeaks, backlog_at, peak_in}
+use Rattle.run_measures.specs.Peaks.{IsPeak, ArePeaks, peak_in}
 use Rattle.run_measures.specs.Worst.{IsLargest, AreWorst}
 use Rattle.watch_laws.specs.Breaches.{IsBreach}
 use Rattle.watch_laws.proofs.Premises.{breaches_tell, first_is_one}

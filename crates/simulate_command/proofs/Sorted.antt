@@ -1,5 +1,5 @@
--- The replies on a network and a trace, sorted by what the files give: a fault, or a network; with it a fault of the trace,
--- or a trace; with that a cycle, or an order; and by that a cell over a limit, or a table.
+-- The replies on a network and a trace, sorted by what the files give: a fault, or a network; with it a fault of the
+-- trace, or a trace; with that a cycle, or an order; and by that a cell over a limit, or a table.
 use Rattle.std.proofs.Common.{◌≡◌, ℕ, List, inl, inr}
 use Rattle.std.specs.Prelude.{◌⊎◌}
 use Rattle.net_model.specs.Networks.{Net}

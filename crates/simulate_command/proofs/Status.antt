@@ -1,6 +1,6 @@
 -- The status of a report tells whether its run keeps the premises.
-use Rattle.std.proofs.Common.{◌≡◌, ℕ, List, refl, sym, ap, ◌∙◌}
-use Rattle.std.specs.Prelude.{Option, Some, None, ◌↔◌}
+use Rattle.std.proofs.Common.{◌≡◌, ℕ, List, ap}
+use Rattle.std.specs.Prelude.{Option, Some, None}
 use Rattle.run_laws.specs.Lawful.{IsLawful}
 use Rattle.run_laws.specs.Runs.{SpecRun}
 use Rattle.net_model.specs.Accepted.{IsAccepted}
@@ -12,8 +12,8 @@ use Rattle.simulated_sizes.specs.Laws.{AreCurves}
 use Rattle.table_text.specs.Rows.{rows_of}
 use Rattle.command_replies.specs.Replies.{Reply}
 use Rattle.simulate_command.specs.Found.{status_by}
-use Rattle.simulate_command.specs.OnTraces.{AreAnalysed, IsRunReport}
-use Rattle.simulate_command.specs.Laws.{Keeps, StatusTells, StatusTellsPremises}
+use Rattle.simulate_command.specs.OnTraces.{IsRunReport}
+use Rattle.simulate_command.specs.Laws.{StatusTells, StatusTellsPremises}
 use Rattle.simulate_command.proofs.Lawful.{lawful}
 use Rattle.simulate_command.proofs.Named.{named}
 use Rattle.simulate_command.proofs.OneRun.{broken}

@@ -78,7 +78,8 @@ delay_within net order at run worst i g kept w live =
       within = record {
         value = own.value;
         is = own.is;
-        holds = largest_within (delays_from (routes_of net) i run.end run.steps) x own.value (w.each i here) from own.holds;
+        holds = largest_within (delays_from (routes_of net) i run.end run.steps) x own.value (w.each i here) from
+            own.holds;
       };
     }
 
@@ -94,7 +95,8 @@ with_queue net s q h = one (slice_get net.servers s) refl h
 
 -- the peak that is shown
 told : (net : Routes) (run : SpecRun) (peaks : List (List ℕ)) (s q : ℕ) → ArePeaks net run peaks
-    → s < length net.servers → q < queue_count (server_at net s).discipline → peak_at peaks s q ≡ Some (peak_in peaks s q)
+    → s < length net.servers → q < queue_count (server_at net s).discipline
+    → peak_at peaks s q ≡ Some (peak_in peaks s q)
 told net run peaks s q p l r =
     let row = get_or peaks s [] in
     let here : s < length peaks = subst (λ n. s < n) (sym p.as_many) l in

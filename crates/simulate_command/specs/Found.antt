@@ -23,8 +23,8 @@ pub record IsMeasured (net : Net) (trace : SpecTrace) (sim : SimRun) : Type 0 wh
   pub worst : AreWorst (routes_of net) sim.run.end sim.run.steps (length net.flows) sim.worst.items
   pub peaks : ArePeaks (routes_of net) sim.run (rows_of sim.peaks.items)
 
--- of that run: all packets of the trace enter; when it ends, the largest delay of each flow, the greatest backlog of each
--- queue, and what it breaks first, if anything
+-- of that run: all packets of the trace enter; when it ends, the largest delay of each flow, the greatest backlog of
+-- each queue, and what it breaks first, if anything
 pub record IsFoundIn (net : Net) (trace : SpecTrace) (run : SpecRun) (found : Found) : Type 0 where
   pub stated : IsSimulated (setup_of net trace) run
   pub packets : found.packets ≡ length trace.packets

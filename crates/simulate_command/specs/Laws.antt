@@ -21,7 +21,8 @@ use Rattle.table_text.specs.Rows.{rows_of}
 use Rattle.table_text.specs.Traces.{IsTraceOf}
 use Rattle.command_replies.specs.Guarantee.{Guarantees}
 use Rattle.command_replies.specs.Replies.{Reply, AreSame}
-use Rattle.simulate_command.specs.OnTraces.{HasCycleBehind, IsSimulationOver, IsRunReport, IsRunReply, IsMalformed, IsOverLimit}
+use Rattle.simulate_command.specs.OnTraces.{IsMalformed, IsOverLimit, HasCycleBehind, IsSimulationOver}
+use Rattle.simulate_command.specs.OnTraces.{IsRunReport, IsRunReply}
 use Rattle.simulate_command.specs.RunBounds.{AreWithinBounds}
 use Rattle.simulate_command.specs.RunCounts.{IsOfReport}
 
@@ -56,7 +57,8 @@ QuietRunsAreWithinBounds =
 -- whatever the run of a report keeps, its bounds hold for every run that keeps the premises
 abbrev pub ReportsGuarantee : Type 0
 ReportsGuarantee =
-    (net_bytes trace_bytes : List ℕ) (reply : Reply) (h : IsRunReport net_bytes trace_bytes reply) → Guarantees h.net h.at
+    (net_bytes trace_bytes : List ℕ) (reply : Reply) (h : IsRunReport net_bytes trace_bytes reply)
+    → Guarantees h.net h.at
 
 -- ---- all replies
 -- each status has its cause, and there is no other
@@ -82,8 +84,8 @@ RepliesAreDetermined =
     → IsRunReply net_file net_bytes trace_file trace_bytes x → IsRunReply net_file net_bytes trace_file trace_bytes y
     → AreSame x y
 
--- files that give a network without a cycle and a trace of it; by no order of its servers a cell is over a limit, nor is
--- the simulation over its gauge
+-- files that give a network without a cycle and a trace of it; by no order of its servers a cell is over a limit, nor
+-- is the simulation over its gauge
 pub record IsWithinLimits (net_bytes trace_bytes : List ℕ) : Type 0 where
   pub net : Net
   pub reads : IsNetworkOf OverFold net_bytes net

@@ -1,6 +1,6 @@
 -- What is answered on the bytes of a network and of a trace of it: by the network's first fault; by the trace's first
--- fault; by a cycle of the network, or by the order of its servers; by the first cell over a limit, or by a table of all
--- cells; and by the simulation.
+-- fault; by a cycle of the network, or by the order of its servers; by the first cell over a limit, or by a table of
+-- all cells; and by the simulation.
 use Rattle.std.specs.Prelude.{ℕ, List, ◌≡◌, ◌⊎◌}
 use Rattle.upp_limits.specs.declared.own_limits.OverLimit.{OverLimit}
 use Rattle.net_model.specs.Networks.{Net}
@@ -79,11 +79,13 @@ pub data IsRunReply (net_file net_bytes trace_file trace_bytes : List ℕ) (repl
   Broken : IsBroken net_file net_bytes reply → IsRunReply net_file net_bytes trace_file trace_bytes reply
   CurveOver : (limit : OverLimit) → IsCurveOver limit net_bytes reply
       → IsRunReply net_file net_bytes trace_file trace_bytes reply
-  BadTrace : IsBadTrace net_bytes trace_file trace_bytes reply → IsRunReply net_file net_bytes trace_file trace_bytes reply
+  BadTrace : IsBadTrace net_bytes trace_file trace_bytes reply
+      → IsRunReply net_file net_bytes trace_file trace_bytes reply
   Cyclic : HasCycleBehind net_bytes trace_bytes reply → IsRunReply net_file net_bytes trace_file trace_bytes reply
   CellOver : (limit : OverLimit) → IsCellOverBehind limit net_bytes trace_bytes reply
       → IsRunReply net_file net_bytes trace_file trace_bytes reply
-  SimulationOver : IsSimulationOver net_bytes trace_bytes reply → IsRunReply net_file net_bytes trace_file trace_bytes reply
+  SimulationOver : IsSimulationOver net_bytes trace_bytes reply
+      → IsRunReply net_file net_bytes trace_file trace_bytes reply
   Reported : IsRunReport net_bytes trace_bytes reply → IsRunReply net_file net_bytes trace_file trace_bytes reply
 
 -- ---- causes

@@ -2,7 +2,6 @@
 use Rattle.std.specs.Prelude.{◌≡◌, ◌⊎◌, ◌+◌, ◌≤◌, ℕ, List}
 use Rattle.net_model.specs.Networks.{Net}
 use Rattle.net_model.specs.Orders.{IsOrder}
-use Rattle.net_model.specs.Traces.{SpecTrace}
 use Rattle.net_model.specs.Walks.{IsCycle}
 use Rattle.net_draft.specs.Faults.{Fault}
 use Rattle.net_text.specs.Folds.{StepsAtMost}

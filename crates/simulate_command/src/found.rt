@@ -78,8 +78,8 @@ fn reported(
     Ok(Answer { status, text })
 }
 
-/// The answer on a network and a trace of it beside the numbers of a table: that the simulation is too wide, or the report on
-/// the stated run.
+/// The answer on a network and a trace of it beside the numbers of a table: that the simulation is too wide, or the
+/// report on the stated run.
 pub(crate) fn simulated(
     alloc: Global,
     net: &Network,

@@ -3,27 +3,27 @@
 ghost use Rattle.simulate_command.specs.Laws.{StatusTellsPremises, QuietRunsAreWithinBounds, ReportsGuarantee};
 ghost use Rattle.simulate_command.specs.Laws.{StatusesHaveCauses, RepliesAreDetermined, RepliesAreComplete};
 
-/// The status of a report is 0 exactly where its run keeps packet sizes, arrival curves and service curves, and 9 exactly
-/// where it does not.
+/// The status of a report is 0 exactly where its run keeps packet sizes, arrival curves and service curves, and 9
+/// exactly where it does not.
 pub fn status_tells_premises()
     ensures { StatusTellsPremises }
 {}
 
-/// Where the status is 0, the report is of a lawful run that keeps the premises of the guarantee: no worst delay that is
-/// shown is above the bound beside it, and no peak above the backlog beside it.
+/// Where the status is 0, the report is of a lawful run that keeps the premises of the guarantee: no worst delay that
+/// is shown is above the bound beside it, and no peak above the backlog beside it.
 pub fn quiet_runs_are_within_bounds()
     ensures { QuietRunsAreWithinBounds }
 {}
 
-/// The bounds of a report hold for every lawful run of its network that keeps the premises, whatever the run of the trace
-/// keeps.
+/// The bounds of a report hold for every lawful run of its network that keeps the premises, whatever the run of the
+/// trace keeps.
 pub fn run_reports_guarantee()
     ensures { ReportsGuarantee }
 {}
 
-/// The status of a reply tells its cause: 0 and 9 a report; 1 a rule of the network's file or a row of the trace; 6 and 7
-/// the first curve or the first cell over a limit, by that limit, and 6 also a simulation that is too wide; 8 a cycle. No
-/// reply has another one.
+/// The status of a reply tells its cause: 0 and 9 a report; 1 a rule of the network's file or a row of the trace; 6
+/// and 7 the first curve or the first cell over a limit, by that limit, and 6 also a simulation that is too wide; 8 a
+/// cycle. No reply has another one.
 pub fn run_statuses_have_causes()
     ensures { StatusesHaveCauses }
 {}
@@ -33,8 +33,8 @@ pub fn run_replies_are_determined()
     ensures { RepliesAreDetermined }
 {}
 
-/// Files that give a network without a cycle and a trace of it, with no cell and no simulation over a limit, have no other
-/// reply than a report, with status 0 or 9.
+/// Files that give a network without a cycle and a trace of it, with no cell and no simulation over a limit, have no
+/// other reply than a report, with status 0 or 9.
 pub fn run_replies_are_complete()
     ensures { RepliesAreComplete }
 {}

@@ -1,5 +1,5 @@
-//! The command `simulate`: a network's file and a trace's file to the report on the simulated run beside the bounds, or to the
-//! line of a refusal.
+//! The command `simulate`: from a network's file and a trace's file to the report on the simulated run beside the
+//! bounds, or to the line of a refusal.
 #![tactic(auto)]
 
 mod curves;

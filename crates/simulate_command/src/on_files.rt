@@ -32,10 +32,10 @@ fn on_rows<L: Ledger>(
     }
 }
 
-/// The answer on a network's file and a trace's file with these names and bytes, in this order: a rule that the network's
-/// tables break, a curve over a limit, a row of the trace that is wrong, a cycle, a cell over a limit, a simulation that is
-/// too wide, and else the report on the simulated run beside the bounds, with what the run breaks first. Refused only for
-/// want of memory.
+/// The answer on a network's file and a trace's file with these names and bytes, in this order: a rule that the
+/// network's tables break, a curve over a limit, a row of the trace that is wrong, a cycle, a cell over a limit, a
+/// simulation that is too wide, and else the report on the simulated run beside the bounds, with what the run breaks
+/// first. Refused only for want of memory.
 pub fn on_trace<L: Ledger>(
     alloc: Global,
     net_file: &str,
@@ -44,7 +44,8 @@ pub fn on_trace<L: Ledger>(
     trace_bytes: &[u8],
     steps: &mut Steps<L>,
 ) -> Result<Answer, AllocError>
-    ensures reply { IfOk result (λ r. IsRunReply net_file.now net_bytes.now trace_file.now trace_bytes.now (reply_of r)) }
+    ensures reply { IfOk result
+        (λ r. IsRunReply net_file.now net_bytes.now trace_file.now trace_bytes.now (reply_of r)) }
     ensures counts { CountsOn net_bytes.now trace_bytes.now (status_of result) steps.old steps.new }
 {
     match read_network(alloc, net_bytes, steps) {

@@ -42,8 +42,8 @@ fn in_order<L: Ledger>(
     }
 }
 
-/// The answer on a network and a trace of it: of a cycle, of the first cell over a limit, of a simulation that is too wide,
-/// or the report. Want of memory apart, it is the one on each two files that give them.
+/// The answer on a network and a trace of it: of a cycle, of the first cell over a limit, of a simulation that is too
+/// wide, or the report. Want of memory apart, it is the one on each two files that give them.
 pub(crate) fn on_network<L: Ledger>(
     alloc: Global,
     net: &Network,

@@ -16,7 +16,8 @@ pub returns-in-Ok-clause-reply : goal.returns-in-Ok-clause-reply
 returns-in-Ok-clause-reply g c =
     IfOk-weaker c.simulated.result _ _
     (λ r told. on_table c.args.net.now c.args.trace.now c.args.order.now _ (reply_of r) c.keeps.ensures
-    c.keeps_curves.ensures c.packets-kept.ensures.kept c.requires.order c.in-Ok.ensures.answers c.in-Ok.ensures.meets told)
+    c.keeps_curves.ensures c.packets-kept.ensures.kept c.requires.order c.in-Ok.ensures.answers c.in-Ok.ensures.meets
+    told)
     c.simulated.ensures
 
 pub returns-in-Ok-clause-counts : goal.returns-in-Ok-clause-counts
