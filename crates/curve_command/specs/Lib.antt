@@ -1,0 +1,2 @@
+pub mod OnScripts
+pub mod Laws
