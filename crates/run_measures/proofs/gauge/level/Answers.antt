@@ -3,7 +3,7 @@ use Rattle.rational.specs.Rational.{◌<ℚ◌, ◌≤ℚ◌, le_q}
 use Rattle.rational.proofs.Over.{le_q_out}
 use Rattle.rational.proofs.MinMax.{le_q_not}
 use Rattle.run_measures.proofs.Gauging.{counted_own, counted_none}
-use Rattle.run_measures.proofs.Largest.{not_less}
+use Rattle.rational.proofs.Compared.{least_by_test}
 use Rattle.run_measures.proofs.gauge.level.Goals as goal
 
 pub returns-then-is_less : goal.returns-then-is_less
@@ -14,7 +14,7 @@ returns-then-is_less c =
 
 pub returns : goal.returns
 returns c =
-    let not_later : c.args.time ≤ℚ c.args.left_at = not_less c.args.left_at c.args.time c.if-is_less.ensures.less in
+    let not_later : c.args.time ≤ℚ c.args.left_at = least_by_test c.args.left_at c.args.time c.if-is_less.ensures.less in
     let own = counted_own (le_q c.args.time c.args.left_at) c.args.left (le_q_out c.args.time c.args.left_at not_later) in
     let same = c.from.ensures in
     omega (arith, own, same)
