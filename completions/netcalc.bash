@@ -3,11 +3,15 @@
 _netcalc() {
     local current=${COMP_WORDS[COMP_CWORD]}
     COMPREPLY=()
-    case $COMP_CWORD in
-        1) mapfile -t COMPREPLY < <(compgen -W "analyse" -- "$current") ;;
-        2)
+    case $COMP_CWORD:${COMP_WORDS[1]} in
+        1:*) mapfile -t COMPREPLY < <(compgen -W "analyse curve" -- "$current") ;;
+        2:analyse)
             compopt -o filenames 2>/dev/null
             mapfile -t COMPREPLY < <(compgen -f -X '!*.toml' -- "$current"; compgen -d -- "$current")
+            ;;
+        2:curve)
+            compopt -o filenames 2>/dev/null
+            mapfile -t COMPREPLY < <(compgen -f -- "$current")
             ;;
     esac
 }

@@ -19,9 +19,9 @@ use std::test::Fail;
 
 
 def literal(text):
-    """A literal of Rattle: raw, with its lines as they are, where it has more than one."""
-    if text.count("\n") < 2 and "\\" not in text:
-        return '"' + text.replace('"', '\\"').replace("\n", "\\n") + '"'
+    """A literal of Rattle: raw, with its lines as they are, where it has more than one and no tab."""
+    if (text.count("\n") < 2 or "\t" in text) and "\\" not in text:
+        return '"' + text.replace('"', '\\"').replace("\n", "\\n").replace("\t", "\\t") + '"'
     if '"#' in text or "\r" in text:
         sys.exit("a case holds what a raw literal cannot")
     return f'r#"{text}"#'

@@ -265,6 +265,231 @@ flow f2 tfa unbounded sfa unbounded bound unbounded
 }
 
 #[test]
+fn curves(rt: HostRuntime) -> Result<(), Fail> {
+    let alloc = rt.alloc();
+    let rows: [(&str, &[(&str, &str)], u8, &str); 17] = [
+        // a_bucket_that_falls
+        (
+            "netcalc curve s.curve",
+            &[(
+                "s.curve",
+                r#"rate zero
+show bucket(1, -1)
+"#,
+            )],
+            1,
+            "netcalc: s.curve: C7 line 2\n",
+        ),
+        // a_byte_that_is_not_plain
+        (
+            "netcalc curve s.curve",
+            &[("s.curve", "rate bucket(1, 2)\nrate\tzero\n")],
+            1,
+            "netcalc: s.curve: C1 line 2\n",
+        ),
+        // a_closure_of_less_than_0
+        (
+            "netcalc curve s.curve",
+            &[(
+                "s.curve",
+                "show close(deconv(bucket(1, 1), bucket(2, 1)))\n",
+            )],
+            1,
+            "netcalc: s.curve: C8 line 1\n",
+        ),
+        // a_kind_with_one_number
+        (
+            "netcalc curve s.curve",
+            &[("s.curve", "show bucket(1)\n")],
+            1,
+            "netcalc: s.curve: C2 line 1\n",
+        ),
+        // a_line_is_read_before_any_is_answered
+        (
+            "netcalc curve s.curve",
+            &[(
+                "s.curve",
+                r#"value x at 1
+show bucket(1)
+"#,
+            )],
+            1,
+            "netcalc: s.curve: C2 line 2\n",
+        ),
+        // a_name_given_twice
+        (
+            "netcalc curve s.curve",
+            &[(
+                "s.curve",
+                r#"let a = zero
+let a = zero
+"#,
+            )],
+            1,
+            "netcalc: s.curve: C5 line 2\n",
+        ),
+        // a_name_not_given
+        (
+            "netcalc curve s.curve",
+            &[("s.curve", "value x at 1\n")],
+            1,
+            "netcalc: s.curve: C6 line 1\n",
+        ),
+        // a_number_that_is_none
+        (
+            "netcalc curve s.curve",
+            &[("s.curve", "show bucket(1, q)\n")],
+            1,
+            "netcalc: s.curve: C3 line 1\n",
+        ),
+        // a_sum_with_too_many_pieces
+        (
+            "netcalc curve s.curve",
+            &[(
+                "s.curve",
+                r#"rate zero
+show sum(stair(1, 1000003, 0), stair(1, 999983, 0))
+"#,
+            )],
+            7,
+            "netcalc: too many: line 2\n",
+        ),
+        // a_textbook_delay
+        (
+            "netcalc curve s.curve",
+            &[(
+                "s.curve",
+                r#"# A delay bound as in a textbook, in microseconds and bits. A flow has a burst of 12000 bits and 10 bits a microsecond,
+# and crosses two servers: 100 bits a microsecond after at most 10, then 50 bits a microsecond after at most 20.
+let flow = bucket(12000, 10)
+let first = latency(100, 10)
+let second = latency(50, 20)
+
+# Hop by hop: the delay at the first server, what comes out of it, and its delay at the second. 130 and 262 make 392.
+delay flow, first
+let between = deconv(flow, first)
+equal between, bucket(12100, 10)
+delay between, second
+
+# As one server: the two are a server of the lesser rate after both latencies, and the flow pays its burst only once.
+let both = conv(first, second)
+equal both, latency(50, 30)
+delay flow, both
+backlog flow, both
+show both
+
+# A second flow takes its part of the first server, which serves it first. This flow has what is left.
+let other = bucket(2000, 10)
+let left = posdiff(first, other)
+equal left, latency(90, 100/3)
+delay flow, left
+delay flow, conv(left, second)
+"#,
+            )],
+            0,
+            r#"delay 130
+equal true
+delay 262
+equal true
+delay 270
+backlog 12300
+piece 0 at 0 after 0 slope 0
+piece 30 at 0 after 0 slope 50
+tail affine 30
+equal true
+delay 500/3
+delay 880/3
+"#,
+        ),
+        // a_value_too_wide
+        (
+            "netcalc curve s.curve",
+            &[(
+                "s.curve",
+                "value bucket(1, 1) at 170141183460469231731687303715884105727\n",
+            )],
+            6,
+            "netcalc: too wide: line 1\n",
+        ),
+        // an_empty_script
+        ("netcalc curve s.curve", &[("s.curve", "")], 0, ""),
+        // eight_lines
+        (
+            "netcalc curve s.curve",
+            &[(
+                "s.curve",
+                r#"let a = bucket(12000, 10)
+let b = latency(100, 10)
+delay a, b
+backlog a, posminus(b, 12000)
+value conv(b, latency(100, 130)) at 150
+equal deconv(a, latency(100, 130)), bucket(13300, 10)
+below stair(1, 2, 0), bucket(1, 1/2)
+show stair(1, 2, 0)
+"#,
+            )],
+            0,
+            r#"delay 130
+backlog 13300
+value 1000
+equal true
+below true
+piece 0 at 1 after 1 slope 0
+tail periodic 0 2 1
+"#,
+        ),
+        // parentheses_64_deep
+        (
+            "netcalc curve s.curve",
+            &[(
+                "s.curve",
+                "value scale(scale(scale(scale(scale(scale(scale(scale(scale(scale(scale(scale(scale(scale(scale(scale(scale(scale(scale(scale(scale(scale(scale(scale(scale(scale(scale(scale(scale(scale(scale(scale(scale(scale(scale(scale(scale(scale(scale(scale(scale(scale(scale(scale(scale(scale(scale(scale(scale(scale(scale(scale(scale(scale(scale(scale(scale(scale(scale(scale(scale(scale(scale(bucket(1, 1), 1), 1), 1), 1), 1), 1), 1), 1), 1), 1), 1), 1), 1), 1), 1), 1), 1), 1), 1), 1), 1), 1), 1), 1), 1), 1), 1), 1), 1), 1), 1), 1), 1), 1), 1), 1), 1), 1), 1), 1), 1), 1), 1), 1), 1), 1), 1), 1), 1), 1), 1), 1), 1), 1), 1), 1), 1), 1), 1), 1), 1), 1), 1) at 2\n",
+            )],
+            0,
+            "value 3\n",
+        ),
+        // parentheses_65_deep
+        (
+            "netcalc curve s.curve",
+            &[(
+                "s.curve",
+                "value scale(scale(scale(scale(scale(scale(scale(scale(scale(scale(scale(scale(scale(scale(scale(scale(scale(scale(scale(scale(scale(scale(scale(scale(scale(scale(scale(scale(scale(scale(scale(scale(scale(scale(scale(scale(scale(scale(scale(scale(scale(scale(scale(scale(scale(scale(scale(scale(scale(scale(scale(scale(scale(scale(scale(scale(scale(scale(scale(scale(scale(scale(scale(scale(bucket(1, 1), 1), 1), 1), 1), 1), 1), 1), 1), 1), 1), 1), 1), 1), 1), 1), 1), 1), 1), 1), 1), 1), 1), 1), 1), 1), 1), 1), 1), 1), 1), 1), 1), 1), 1), 1), 1), 1), 1), 1), 1), 1), 1), 1), 1), 1), 1), 1), 1), 1), 1), 1), 1), 1), 1), 1), 1), 1), 1), 1), 1), 1), 1), 1), 1) at 2\n",
+            )],
+            1,
+            "netcalc: s.curve: C4 line 1\n",
+        ),
+        // skipped_lines_alone
+        (
+            "netcalc curve s.curve",
+            &[(
+                "s.curve",
+                "# nothing is asked\n\n   \n# nor here: \tany bytes",
+            )],
+            0,
+            "",
+        ),
+        // skipped_lines_count
+        (
+            "netcalc curve s.curve",
+            &[(
+                "s.curve",
+                r#"# one
+
+rate bucket(1, 2)
+value x at 1
+"#,
+            )],
+            1,
+            "netcalc: s.curve: C6 line 4\n",
+        ),
+    ];
+    for (line, files, status, wanted) in rows {
+        check(&rt, alloc, line, files, status, wanted)?;
+    }
+    Ok(())
+}
+
+#[test]
 fn disciplines(rt: HostRuntime) -> Result<(), Fail> {
     let alloc = rt.alloc();
     let rows: [(&str, &[(&str, &str)], u8, &str); 2] = [
@@ -723,13 +948,20 @@ path = ["s1"]
 #[test]
 fn words(rt: HostRuntime) -> Result<(), Fail> {
     let alloc = rt.alloc();
-    let rows: [(&str, &[(&str, &str)], u8, &str); 6] = [
+    let rows: [(&str, &[(&str, &str)], u8, &str); 10] = [
+        // a_command_not_built
+        (
+            "netcalc simulate n.toml t.csv",
+            &[],
+            2,
+            "netcalc: usage: netcalc analyse NET [--json], edit NET EDITS [--json], simulate NET TRACE, exercise N, curve FILE\n",
+        ),
         // a_command_that_is_none
         (
             "netcalc analyze n.toml",
             &[],
             2,
-            "netcalc: usage: netcalc analyse NET [--json], edit NET EDITS [--json], simulate NET TRACE, exercise N\n",
+            "netcalc: usage: netcalc analyse NET [--json], edit NET EDITS [--json], simulate NET TRACE, exercise N, curve FILE\n",
         ),
         // a_file_that_is_not_there
         (
@@ -743,28 +975,49 @@ fn words(rt: HostRuntime) -> Result<(), Fail> {
             "netcalc analyse -n.toml",
             &[],
             2,
-            "netcalc: usage: netcalc analyse NET [--json], edit NET EDITS [--json], simulate NET TRACE, exercise N\n",
+            "netcalc: usage: netcalc analyse NET [--json], edit NET EDITS [--json], simulate NET TRACE, exercise N, curve FILE\n",
+        ),
+        // a_script_that_is_not_there
+        (
+            "netcalc curve nope.curve",
+            &[],
+            3,
+            "netcalc: cannot read nope.curve\n",
+        ),
+        // a_script_too_many
+        (
+            "netcalc curve s.curve t.curve",
+            &[],
+            2,
+            "netcalc: usage: netcalc analyse NET [--json], edit NET EDITS [--json], simulate NET TRACE, exercise N, curve FILE\n",
         ),
         // help
         (
             "netcalc --help",
             &[],
             2,
-            "netcalc: usage: netcalc analyse NET [--json], edit NET EDITS [--json], simulate NET TRACE, exercise N\n",
+            "netcalc: usage: netcalc analyse NET [--json], edit NET EDITS [--json], simulate NET TRACE, exercise N, curve FILE\n",
         ),
         // no_file
         (
             "netcalc analyse",
             &[],
             2,
-            "netcalc: usage: netcalc analyse NET [--json], edit NET EDITS [--json], simulate NET TRACE, exercise N\n",
+            "netcalc: usage: netcalc analyse NET [--json], edit NET EDITS [--json], simulate NET TRACE, exercise N, curve FILE\n",
+        ),
+        // no_script
+        (
+            "netcalc curve",
+            &[],
+            2,
+            "netcalc: usage: netcalc analyse NET [--json], edit NET EDITS [--json], simulate NET TRACE, exercise N, curve FILE\n",
         ),
         // no_words
         (
             "netcalc",
             &[],
             2,
-            "netcalc: usage: netcalc analyse NET [--json], edit NET EDITS [--json], simulate NET TRACE, exercise N\n",
+            "netcalc: usage: netcalc analyse NET [--json], edit NET EDITS [--json], simulate NET TRACE, exercise N, curve FILE\n",
         ),
     ];
     for (line, files, status, wanted) in rows {

@@ -10,7 +10,7 @@ use std::test::Fail;
 use std::time::{SystemTime, UNIX_EPOCH};
 
 const USAGE: &str =
-    "netcalc: usage: netcalc analyse NET [--json], edit NET EDITS [--json], simulate NET TRACE, exercise N\n";
+    "netcalc: usage: netcalc analyse NET [--json], edit NET EDITS [--json], simulate NET TRACE, exercise N, curve FILE\n";
 
 /// What a call with these words does, where `n.toml` holds these bytes: the status, and what is written. So
 /// many first calls of the inputs and of the sink fail.
@@ -131,6 +131,24 @@ fn words_files_and_sinks_are_refused(rt: HostRuntime) -> Result<(), Fail> {
             0,
             "servers 0 flows 0\n",
         ),
+        (
+            "netcalc curve n.toml",
+            1_048_577,
+            0,
+            0,
+            1,
+            "netcalc: n.toml: too long\n",
+        ),
+        ("netcalc curve n.toml", 1_048_576, 0, 0, 0, ""),
+        (
+            "netcalc curve n.toml",
+            0,
+            1,
+            0,
+            3,
+            "netcalc: cannot read n.toml\n",
+        ),
+        ("netcalc curve n.toml", 0, 0, 1, 4, ""),
     ] {
         let comment = vec![in alloc; b'#'; bytes]?;
         let file = if bytes == 0 {
@@ -142,6 +160,25 @@ fn words_files_and_sinks_are_refused(rt: HostRuntime) -> Result<(), Fail> {
         assert_eq!(rt; written.as_slice(), text.as_bytes(), "{line}");
         assert_eq!(rt; got, status, "{line}");
     }
+    Ok(())
+}
+
+#[test]
+fn a_script_has_at_most_256_statements(rt: HostRuntime) -> Result<(), Fail> {
+    let alloc = rt.alloc();
+    let mut script = Vec::new(alloc);
+    let mut want = Vec::new(alloc);
+    for _ in 0..256 {
+        script.extend_from_slice(b"rate zero\n")?;
+        want.extend_from_slice(b"rate 0\n")?;
+    }
+    let (status, bytes) = ask(alloc, "netcalc curve n.toml", &script, 0, 0)?;
+    assert_eq!(rt; bytes.as_slice(), want.as_slice());
+    assert_eq!(rt; status, 0);
+    script.extend_from_slice(b"rate zero\n")?;
+    let (status, bytes) = ask(alloc, "netcalc curve n.toml", &script, 0, 0)?;
+    assert_eq!(rt; bytes.as_slice(), b"netcalc: n.toml: C4 line 257\n");
+    assert_eq!(rt; status, 1);
     Ok(())
 }
 

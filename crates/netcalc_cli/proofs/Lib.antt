@@ -1,10 +1,6 @@
+pub mod FileLemmas
+pub mod Fetches
+pub mod ByCommand
 pub mod Replies
 pub mod ExampleNet
 pub mod ExampleBound
-pub mod FirstFaults
-pub mod Sorted
-pub mod OneReply
-pub mod Counting
-pub mod Unbounded
-pub mod ByStatus
-pub mod OnNets

@@ -1,10 +1,11 @@
--- What holds of the replies on a file.
+-- What holds of the replies on files.
 use Rattle.std.specs.Prelude.{ℕ, List}
-use Rattle.netcalc_cli.specs.Replies.{Reply}
-use Rattle.netcalc_cli.specs.AnswerLaws.{AreSame}
-use Rattle.netcalc_cli.specs.Reply.{IsReplyOnFile}
+use Rattle.command_replies.specs.Replies.{Reply, AreSame}
+use Rattle.netcalc_cli.specs.Commands.{Command}
+use Rattle.netcalc_cli.specs.Reply.{IsReplyOnFiles}
 
--- status and bytes are determined by the file's name and by what it holds, but for the choice among cycles
+-- status and bytes are determined by the command and by what its files hold, but for the choice among cycles
 abbrev pub RepliesAreDetermined : Type 0
 RepliesAreDetermined =
-    (file bytes : List ℕ) (x y : Reply) → IsReplyOnFile file bytes x → IsReplyOnFile file bytes y → AreSame x y
+    (command : Command) (files : List (List ℕ)) (x y : Reply) → IsReplyOnFiles command files x
+    → IsReplyOnFiles command files y → AreSame x y

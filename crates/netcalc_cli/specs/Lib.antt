@@ -1,12 +1,8 @@
+pub mod Commands
 pub mod Words
+pub mod View
+pub mod Files
 pub mod Reply
 pub mod Counts
-pub mod Guarantee
 pub mod Laws
 pub mod Example
-pub mod Replies
-pub mod View
-pub mod Faults
-pub mod OnFiles
-pub mod AnswerCounts
-pub mod AnswerLaws

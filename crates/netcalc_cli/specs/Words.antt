@@ -1,8 +1,9 @@
 -- The words of the command line.
-use Rattle.std.specs.Prelude.{ℕ, Bool, false, not, ◌==◌, ◌&&◌, List, [], ◌∷◌, map, codes, Option, Some, None}
+use Rattle.std.specs.Prelude.{ℕ, Bool, false, not, ◌==◌, List, [], ◌∷◌, map, codes, Option, Some, None}
 use Rattle.std.specs.Prelude.{String, string_bytes, if◌then◌else◌}
 use Rattle.std.specs.declared.alloc.Global.{Global}
 use Rattle.std.specs.Str.{bytes_eq}
+use Rattle.netcalc_cli.specs.Commands.{Command, Analyse, Curve}
 
 -- the words as bytes
 abbrev pub texts : List (String Global) → List (List ℕ)
@@ -13,8 +14,13 @@ abbrev pub is_operand : List ℕ → Bool
 is_operand [] = false
 is_operand (b ∷ bs) = not (b == 45)
 
--- The words are taken where they are the program's name, `analyse` and a file's name. Then this is that name.
-abbrev pub net_word : List (List ℕ) → Option (List ℕ)
-net_word (program ∷ command ∷ net ∷ []) =
-    if bytes_eq command (codes "analyse") && is_operand net then Some net else None
-net_word _ = None
+-- the command of this word on one file
+abbrev pub on_one : List ℕ → List ℕ → Option Command
+on_one word file =
+    if bytes_eq word (codes "analyse") then Some (Analyse file)
+    else if bytes_eq word (codes "curve") then Some (Curve file) else None
+
+-- The words are taken where they are the program's name, a command and its files. Then they ask for this.
+abbrev pub command_of : List (List ℕ) → Option Command
+command_of (program ∷ word ∷ file ∷ []) = if is_operand file then on_one word file else None
+command_of words = None

@@ -1,34 +1,74 @@
-//! The answer on a file that is fetched.
+//! The files of a command, fetched in order.
 
-ghost use Rattle.std.specs.Prelude.{◌≡◌, IfOk};
-ghost use Rattle.netcalc_cli.specs.View.{reply_of, status_of};
-ghost use Rattle.netcalc_cli.specs.Counts.{CountsOnFile};
-ghost use Rattle.netcalc_cli.specs.Reply.{MayReplyOn};
+ghost use Rattle.std.specs.Prelude.{◌≡◌, ◌≤◌, [], ◌∷◌, List, ℕ, length, IfOk, IfErr};
+ghost use Rattle.command_replies.specs.View.{reply_of};
+ghost use Rattle.netcalc_cli.specs.Files.{most_bytes, MayHold, MayHoldAll, AllFit, FirstIs};
+ghost use Rattle.netcalc_cli.specs.Reply.{EndsAt};
 
-use crate::answer::Answer;
-use crate::on_file::on_bytes;
-use crate::refusals::{cannot_read, too_long};
+use command_replies::{Answer, cannot_read, too_long};
 use outside::{FetchFault, Inputs, NoMemory};
 use std::alloc::Global;
-use std::sync::ledger::Ledger;
-use steps::Steps;
 
-/// The answer on a file, which is fetched first.
-pub(crate) fn answer_on<I: Inputs, L: Ledger>(
+/// The answer that stands in place of files.
+pub(crate) type Ended = Result<Answer, NoMemory>;
+
+/// The bytes of a file, or the answer that it could not be read or is too long.
+pub(crate) fn fetch_one<I: Inputs>(
     alloc: Global,
     file: &str,
     inputs: &mut I,
-    steps: &mut Steps<L>,
-) -> Result<Answer, NoMemory>
-    ensures reply { IfOk result (λ r.
-        MayReplyOn I.faults I.last_fault (I.content inputs.old file.now) file.now inputs.old inputs.new (reply_of r)) }
-    ensures counts { CountsOnFile (I.content inputs.old file.now) (status_of result) steps.old steps.new }
+) -> Result<Vec<u8>, Ended>
+    ensures held { IfOk result (λ bytes. MayHold (I.content inputs.old file.now) bytes.items) }
+    ensures fits { IfOk result (λ bytes. length bytes.items ≤ most_bytes) }
+    ensures ended { IfErr result (λ ended. IfOk ended (λ r.
+        EndsAt I.faults I.last_fault (I.content inputs.old) inputs.old inputs.new (reply_of r) file.now)) }
+    ensures count { I.faults inputs.old ≤ I.faults inputs.new }
+    ensures same { (other : List ℕ) → I.content inputs.new other ≡ I.content inputs.old other }
 {
     let mut bytes = Vec::new(alloc);
     match inputs.fetch(file, &mut bytes) {
-        Ok(()) => on_bytes(alloc, file, &bytes, steps),
-        Err(FetchFault::TooLong) => too_long(alloc, file),
-        Err(FetchFault::Failed) => cannot_read(alloc, file),
-        Err(FetchFault::NoMemory) => Err(NoMemory),
+        Ok(()) => Ok(bytes),
+        Err(FetchFault::TooLong) => Err(too_long(alloc, file)),
+        Err(FetchFault::Failed) => Err(cannot_read(alloc, file)),
+        Err(FetchFault::NoMemory) => Err(Err(NoMemory)),
+    }
+}
+
+// The bytes of a file that is fetched after another one, with these.
+fn fetch_after<I: Inputs>(
+    alloc: Global,
+    before: Vec<u8>,
+    file: &str,
+    inputs: &mut I,
+) -> Result<(Vec<u8>, Vec<u8>), Ended>
+    ensures before { IfOk result (λ files. files.0 ≡ before) }
+    ensures held { IfOk result (λ files. MayHold (I.content inputs.old file.now) files.1.items) }
+    ensures fits { IfOk result (λ files. length files.1.items ≤ most_bytes) }
+    ensures ended { IfErr result (λ ended. IfOk ended (λ r.
+        EndsAt I.faults I.last_fault (I.content inputs.old) inputs.old inputs.new (reply_of r) file.now)) }
+{
+    match fetch_one(alloc, file, inputs) {
+        Ok(bytes) => Ok((before, bytes)),
+        Err(ended) => Err(ended),
+    }
+}
+
+/// The bytes of two files, or the answer that the first of them which was not fetched could not be read or is too long.
+pub(crate) fn fetch_two<I: Inputs>(
+    alloc: Global,
+    first: &str,
+    second: &str,
+    inputs: &mut I,
+) -> Result<(Vec<u8>, Vec<u8>), Ended>
+    ensures held { IfOk result (λ files. MayHoldAll (I.content inputs.old) (first.now ∷ second.now ∷ [])
+        (files.0.items ∷ files.1.items ∷ [])) }
+    ensures fit { IfOk result (λ files. AllFit (files.0.items ∷ files.1.items ∷ [])) }
+    ensures ended { IfErr result (λ ended. IfOk ended (λ r. FirstIs (I.content inputs.old)
+        (EndsAt I.faults I.last_fault (I.content inputs.old) inputs.old inputs.new (reply_of r))
+        (first.now ∷ second.now ∷ []))) }
+{
+    match fetch_one(alloc, first, inputs) {
+        Ok(bytes) => fetch_after(alloc, bytes, second, inputs),
+        Err(ended) => Err(ended),
     }
 }

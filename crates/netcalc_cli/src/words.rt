@@ -1,14 +1,24 @@
 //! The words of the command line.
-ghost use Rattle.std.specs.Prelude.{◌≡◌, option_map};
-ghost use Rattle.netcalc_cli.specs.Words.{texts, is_operand, net_word};
+ghost use Rattle.std.specs.Prelude.{◌≡◌, [], ◌∷◌, option_map, string_bytes};
+ghost use Rattle.netcalc_cli.specs.View.{command_view};
+ghost use Rattle.netcalc_cli.specs.Words.{texts, is_operand, on_one, command_of};
 
 use std::alloc::Global;
 
-/// The file of a command line that is taken, and the allocator of its words.
+/// What a command line asks for, with the names of its files.
 #[derive(Clone, Copy)]
-pub struct Taken<'a> {
+pub(crate) enum Command<'a> {
+    /// The bounds of a network.
+    Analyse(&'a str),
+    /// The answers of a script of curve expressions.
+    Curve(&'a str),
+}
+
+/// The command of a command line that is taken, and the allocator of its words.
+#[derive(Clone, Copy)]
+pub(crate) struct Taken<'a> {
     pub alloc: Global,
-    pub net: &'a str,
+    pub command: Command<'a>,
 }
 
 fn is_operand(word: &str) -> bool
@@ -20,21 +30,39 @@ fn is_operand(word: &str) -> bool
     }
 }
 
+// The command of this word on one file.
+fn on_one<'a>(word: &str, file: &'a str) -> Option<Command<'a>>
+    ensures { option_map command_view result ≡ on_one word.now file.now }
+{
+    if word == "analyse" {
+        return Some(Command::Analyse(file));
+    }
+    if word == "curve" {
+        return Some(Command::Curve(file));
+    }
+    None
+}
+
+fn with_one<'a>(word: &str, file: &'a String) -> Option<Taken<'a>>
+    ensures { option_map (λ t. command_view t.command) result
+        ≡ command_of ([] ∷ word.now ∷ string_bytes file.now ∷ []) }
+{
+    if !is_operand(file.as_str()) {
+        return None;
+    }
+    let alloc = *file.allocator();
+    match on_one(word, file.as_str()) {
+        Some(command) => Some(Taken { alloc, command }),
+        None => None,
+    }
+}
+
 /// Reads the words, the program's name first. None where they are not taken.
-pub fn take_words(words: &[String]) -> Option<Taken<'_>>
-    ensures { option_map (λ t. t.net.now) result ≡ net_word (texts words.now) }
+pub(crate) fn take_words(words: &[String]) -> Option<Taken<'_>>
+    ensures { option_map (λ t. command_view t.command) result ≡ command_of (texts words.now) }
 {
     match words {
-        [_, command, net] => {
-            if command.as_str() == "analyse" && is_operand(net.as_str()) {
-                Some(Taken {
-                    alloc: *net.allocator(),
-                    net: net.as_str(),
-                })
-            } else {
-                None
-            }
-        }
+        [_, word, file] => with_one(word.as_str(), file),
         _ => None,
     }
 }

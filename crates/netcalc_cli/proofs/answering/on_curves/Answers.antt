@@ -1,0 +1,36 @@
+use Rattle.std.proofs.Common.{[], ◌∷◌, inl, inr, refl}
+use Rattle.std.proofs.lemmas.Result.{IfOk-weaker}
+use Rattle.command_replies.specs.View.{reply_of}
+use Rattle.netcalc_cli.specs.Commands.{Curve}
+use Rattle.netcalc_cli.proofs.Replies.{ends, answers, no_report}
+use Rattle.netcalc_cli.proofs.answering.on_curves.Goals as goal
+
+pub returns-in-Ok-clause-reply : goal.returns-in-Ok-clause-reply
+returns-in-Ok-clause-reply g c =
+    IfOk-weaker c.on_script.result _ _
+    (λ r on. answers g.I.Inputs.faults g.I.Inputs.last_fault (g.I.Inputs.content c.args.inputs.now)
+    (Curve c.args.script.now) c.args.inputs.now c.fetch_one.new.inputs (reply_of r) (c.in-Ok.bytes.items ∷ [])
+    (c.in-Ok.ensures.held, tt) (c.in-Ok.ensures.fits, tt) on)
+    (rw c.deref.ensures.value at c.on_script.ensures)
+
+pub returns-in-Ok-clause-counts : goal.returns-in-Ok-clause-counts
+returns-in-Ok-clause-counts g c =
+    inr (record {
+      files = c.in-Ok.bytes.items ∷ [];
+      held = (c.in-Ok.ensures.held, tt);
+      fit = (c.in-Ok.ensures.fits, tt);
+      counts = tt;
+    })
+
+pub returns-in-Err-clause-reply : goal.returns-in-Err-clause-reply
+returns-in-Err-clause-reply g c =
+    IfOk-weaker c.in-Err.ended _ _
+    (λ r at. ends g.I.Inputs.faults g.I.Inputs.last_fault (g.I.Inputs.content c.args.inputs.now)
+    (Curve c.args.script.now) c.args.inputs.now c.fetch_one.new.inputs (reply_of r) (inl at))
+    c.in-Err.ensures.ended
+
+pub returns-in-Err-clause-counts : goal.returns-in-Err-clause-counts
+returns-in-Err-clause-counts g c =
+    let other = no_report g.I.Inputs.faults g.I.Inputs.last_fault (g.I.Inputs.content c.args.inputs.now)
+    c.args.inputs.now c.fetch_one.new.inputs c.args.script.now c.in-Err.ended c.in-Err.ensures.ended in
+    inl (other, refl)

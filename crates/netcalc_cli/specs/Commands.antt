@@ -1,0 +1,72 @@
+-- The commands, and what each answers on its files. A new command has one line in each definition.
+use Rattle.std.specs.Prelude.{ℕ, List, [], ◌∷◌}
+use Rattle.upp_limits.specs.declared.own_limits.OverLimit.{OverLimit}
+use Rattle.net_model.specs.Networks.{Net}
+use Rattle.net_cells.specs.Meanings.{CellTable}
+use Rattle.command_replies.specs.Replies.{Reply}
+use Rattle.command_replies.specs.Guarantee.{Guarantees}
+use Rattle.command_replies.specs.OnFiles.{IsBroken, IsOverLimit, HasCycle}
+use Rattle.analyse_command.specs.OnFiles.{IsReplyOn, IsReportOf}
+use Rattle.analyse_command.specs.AnswerCounts.{CountsOn}
+use Rattle.analyse_command.specs.AnswerLaws.{IsWithinLimits}
+use Rattle.curve_command.specs.OnScripts.{IsScriptReply, IsRefused, IsLineOver, IsAnswered}
+use Rattle.curve_command.specs.Laws.{IsWithinRules}
+
+-- a command with the names of its files
+pub data Command : Type 0 where
+  Analyse : (net : List ℕ) → Command
+  Curve : (script : List ℕ) → Command
+
+-- the files in the order in which they are fetched
+abbrev pub files_of : Command → List (List ℕ)
+files_of (Analyse net) = net ∷ []
+files_of (Curve script) = script ∷ []
+
+-- ---- what is answered where the files hold these bytes, which are not too many
+abbrev pub IsReplyTo : Command → List (List ℕ) → Reply → Type 0
+IsReplyTo (Analyse net) (bytes ∷ []) reply = IsReplyOn net bytes reply
+IsReplyTo (Curve script) (bytes ∷ []) reply = IsScriptReply script bytes reply
+IsReplyTo command files reply = ⊥
+
+-- ---- of these replies those with one status each
+-- 1: the first rule that a file breaks
+abbrev pub IsMalformed : Command → List (List ℕ) → Reply → Type 0
+IsMalformed (Analyse net) (bytes ∷ []) reply = IsBroken net bytes reply
+IsMalformed (Curve script) (bytes ∷ []) reply = IsRefused script bytes reply
+IsMalformed command files reply = ⊥
+
+-- 7 and 6: the first that is over a limit: of the curves of a network's file, or else of its cells; of the curves,
+-- operators and values of a script
+abbrev pub IsOver : OverLimit → Command → List (List ℕ) → Reply → Type 0
+IsOver limit (Analyse net) (bytes ∷ []) reply = IsOverLimit limit bytes reply
+IsOver limit (Curve script) (bytes ∷ []) reply = IsLineOver limit bytes reply
+IsOver limit command files reply = ⊥
+
+-- 8: a cycle of a network
+abbrev pub IsCyclic : Command → List (List ℕ) → Reply → Type 0
+IsCyclic (Analyse net) (bytes ∷ []) reply = HasCycle bytes reply
+IsCyclic command files reply = ⊥
+
+-- 9: a run that breaks a premise of its network
+abbrev pub TellsBreach : Command → List (List ℕ) → Reply → Type 0
+TellsBreach command files reply = ⊥
+
+-- 0: a report whose table is kept by every lawful run of the network that keeps packet sizes, arrival and service
+-- curves; the answers of a script
+abbrev pub IsDone : Command → List (List ℕ) → Reply → Type 0
+IsDone (Analyse net) (bytes ∷ []) reply =
+    (model : Net) × (at : CellTable) × IsReportOf model at bytes reply × Guarantees model at
+IsDone (Curve script) (bytes ∷ []) reply = IsAnswered bytes reply
+IsDone command files reply = ⊥
+
+-- ---- the files on which 0 is the one answer
+abbrev pub IsAnswerable : Command → List (List ℕ) → Type 0
+IsAnswerable (Analyse net) (bytes ∷ []) = IsWithinLimits bytes
+IsAnswerable (Curve script) (bytes ∷ []) = IsWithinRules bytes
+IsAnswerable command files = ⊥
+
+-- ---- steps, by the status and the counts before and after
+abbrev pub CountsTo : Command → List (List ℕ) → (status old new : ℕ) → Type 0
+CountsTo (Analyse net) (bytes ∷ []) status old new = CountsOn bytes status old new
+CountsTo (Curve script) (bytes ∷ []) status old new = Unit {0}
+CountsTo command files status old new = ⊥

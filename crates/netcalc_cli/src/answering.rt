@@ -1,0 +1,70 @@
+//! The answer of a command. Each has a function of its own, which fetches its files and answers on them.
+
+ghost use Rattle.std.specs.Prelude.{◌≡◌, IfOk};
+ghost use Rattle.command_replies.specs.View.{reply_of, status_of};
+ghost use Rattle.netcalc_cli.specs.Commands as commands;
+ghost use Rattle.netcalc_cli.specs.Counts.{CountsOnCommand};
+ghost use Rattle.netcalc_cli.specs.Reply.{MayReplyTo};
+ghost use Rattle.netcalc_cli.specs.View.{command_view};
+
+use crate::fetching::fetch_one;
+use crate::words::Command;
+use analyse_command::on_bytes;
+use command_replies::Answer;
+use curve_command::on_script;
+use outside::{Inputs, NoMemory};
+use std::alloc::Global;
+use std::sync::ledger::Ledger;
+use steps::Steps;
+
+fn on_network<I: Inputs, L: Ledger>(
+    alloc: Global,
+    net: &str,
+    inputs: &mut I,
+    steps: &mut Steps<L>,
+) -> Result<Answer, NoMemory>
+    ensures reply { IfOk result (λ r. MayReplyTo I.faults I.last_fault (I.content inputs.old)
+        (commands.Analyse net.now) inputs.old inputs.new (reply_of r)) }
+    ensures counts { CountsOnCommand (I.content inputs.old) (commands.Analyse net.now) (status_of result)
+        steps.old steps.new }
+{
+    match fetch_one(alloc, net, inputs) {
+        Ok(bytes) => on_bytes(alloc, net, &bytes, steps),
+        Err(ended) => ended,
+    }
+}
+
+fn on_curves<I: Inputs, L: Ledger>(
+    alloc: Global,
+    script: &str,
+    inputs: &mut I,
+    steps: &mut Steps<L>,
+) -> Result<Answer, NoMemory>
+    ensures reply { IfOk result (λ r. MayReplyTo I.faults I.last_fault (I.content inputs.old)
+        (commands.Curve script.now) inputs.old inputs.new (reply_of r)) }
+    ensures counts { CountsOnCommand (I.content inputs.old) (commands.Curve script.now) (status_of result)
+        steps.old steps.new }
+{
+    match fetch_one(alloc, script, inputs) {
+        Ok(bytes) => on_script(alloc, script, &bytes, steps),
+        Err(ended) => ended,
+    }
+}
+
+/// The answer of a command, whose files are fetched first.
+pub(crate) fn answer_to<I: Inputs, L: Ledger>(
+    alloc: Global,
+    command: Command<'_>,
+    inputs: &mut I,
+    steps: &mut Steps<L>,
+) -> Result<Answer, NoMemory>
+    ensures reply { IfOk result (λ r. MayReplyTo I.faults I.last_fault (I.content inputs.old)
+        (command_view command.entry) inputs.old inputs.new (reply_of r)) }
+    ensures counts { CountsOnCommand (I.content inputs.old) (command_view command.entry) (status_of result)
+        steps.old steps.new }
+{
+    match command {
+        Command::Analyse(net) => on_network(alloc, net, inputs, steps),
+        Command::Curve(script) => on_curves(alloc, script, inputs, steps),
+    }
+}
