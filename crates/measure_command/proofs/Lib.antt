@@ -1,0 +1,4 @@
+pub mod Stages
+pub mod OneMeasure
+pub mod Answering
+pub mod Counting

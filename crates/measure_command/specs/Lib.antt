@@ -1,0 +1,3 @@
+pub mod OnMeasures
+pub mod MeasureLaws
+pub mod MeasureCounts
