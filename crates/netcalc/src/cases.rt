@@ -946,12 +946,792 @@ path = ["s1"]
 }
 
 #[test]
+fn runs(rt: HostRuntime) -> Result<(), Fail> {
+    let alloc = rt.alloc();
+    let rows: [(&str, &[(&str, &str)], u8, &str); 24] = [
+        // a_gate_that_reaches_its_bound
+        (
+            "netcalc simulate n.toml t.csv",
+            &[
+                (
+                    "n.toml",
+                    r#"[[server]]
+name = "g"
+rate = 100
+service = { kind = "gate", cycle = 1000, slot = 250 }
+
+[[flow]]
+name = "f"
+packet = 24000
+arrival = { kind = "stair", period = 1500, jitter = 0 }
+path = ["g"]
+"#,
+                ),
+                ("t.csv", "packet,250,f,24000\n"),
+            ],
+            0,
+            r#"servers 1 flows 1
+run packets 1 end 1240
+worst f 990 bound 990
+peak g 0 24000 bound 47000
+breach none
+"#,
+        ),
+        // a_length_that_is_no_number
+        (
+            "netcalc simulate n.toml t.csv",
+            &[
+                (
+                    "n.toml",
+                    r#"[[server]]
+name = "s1"
+rate = 100
+service = { kind = "latency", latency = 10 }
+
+[[flow]]
+name = "f1"
+packet = 12000
+arrival = { kind = "bucket", burst = 12000, rate = 10 }
+path = ["s1"]
+"#,
+                ),
+                ("t.csv", "packet,0,f1,x\n"),
+            ],
+            1,
+            "netcalc: t.csv: T4 row 1\n",
+        ),
+        // a_network_that_breaks_a_rule_goes_first
+        (
+            "netcalc simulate n.toml t.csv",
+            &[
+                (
+                    "n.toml",
+                    r#"[[server]]
+name = "s1"
+rate = 100
+service = { kind = "latency", latency = 10 }
+
+[[flow]]
+name = "f1"
+packet = 0
+arrival = { kind = "bucket", burst = 12000, rate = 10 }
+path = ["s1"]
+"#,
+                ),
+                ("t.csv", "pocket\n"),
+            ],
+            1,
+            "netcalc: n.toml: M6 flow[0].packet\n",
+        ),
+        // a_packet_before_an_earlier_one
+        (
+            "netcalc simulate n.toml t.csv",
+            &[
+                (
+                    "n.toml",
+                    r#"[[server]]
+name = "s1"
+rate = 100
+service = { kind = "latency", latency = 10 }
+
+[[flow]]
+name = "f1"
+packet = 12000
+arrival = { kind = "bucket", burst = 12000, rate = 10 }
+path = ["s1"]
+"#,
+                ),
+                (
+                    "t.csv",
+                    r#"packet,5,f1,1
+packet,4,f1,1
+"#,
+                ),
+            ],
+            1,
+            "netcalc: t.csv: T6 row 2\n",
+        ),
+        // a_packet_one_bit_too_long
+        (
+            "netcalc simulate n.toml t.csv",
+            &[
+                (
+                    "n.toml",
+                    r#"[[server]]
+name = "s1"
+rate = 100
+service = { kind = "latency", latency = 10 }
+
+[[flow]]
+name = "f1"
+packet = 12000
+arrival = { kind = "bucket", burst = 12000, rate = 10 }
+path = ["s1"]
+"#,
+                ),
+                ("t.csv", "packet,0,f1,12001\n"),
+            ],
+            9,
+            r#"servers 1 flows 1
+run packets 1 end 12001/100
+worst f1 12001/100 bound 130
+peak s1 0 12001 bound 13300
+breach size f1 0
+"#,
+        ),
+        // a_packet_under_way_is_not_broken_off
+        (
+            "netcalc simulate n.toml t.csv",
+            &[
+                (
+                    "n.toml",
+                    r#"[[server]]
+name = "s1"
+rate = 100
+service = { kind = "latency", latency = 10 }
+discipline = "priority"
+queues = 2
+
+[[flow]]
+name = "f1"
+packet = 12000
+arrival = { kind = "bucket", burst = 12000, rate = 10 }
+path = ["s1:1"]
+
+[[flow]]
+name = "f2"
+packet = 6000
+arrival = { kind = "bucket", burst = 6000, rate = 5 }
+path = ["s1:0"]
+"#,
+                ),
+                (
+                    "t.csv",
+                    r#"packet,0,f1,12000
+packet,1,f2,6000
+"#,
+                ),
+            ],
+            0,
+            r#"servers 1 flows 2
+run packets 2 end 180
+worst f1 120 bound 200
+worst f2 179 bound 190
+peak s1 0 6000 bound 6950
+peak s1 1 12000 bound 14000
+breach none
+"#,
+        ),
+        // a_row_of_no_kind
+        (
+            "netcalc simulate n.toml t.csv",
+            &[
+                (
+                    "n.toml",
+                    r#"[[server]]
+name = "s1"
+rate = 100
+service = { kind = "latency", latency = 10 }
+
+[[flow]]
+name = "f1"
+packet = 12000
+arrival = { kind = "bucket", burst = 12000, rate = 10 }
+path = ["s1"]
+"#,
+                ),
+                ("t.csv", "pocket,0,f1,1\n"),
+            ],
+            1,
+            "netcalc: t.csv: T2 row 1\n",
+        ),
+        // a_row_with_too_few_fields
+        (
+            "netcalc simulate n.toml t.csv",
+            &[
+                (
+                    "n.toml",
+                    r#"[[server]]
+name = "s1"
+rate = 100
+service = { kind = "latency", latency = 10 }
+
+[[flow]]
+name = "f1"
+packet = 12000
+arrival = { kind = "bucket", burst = 12000, rate = 10 }
+path = ["s1"]
+"#,
+                ),
+                ("t.csv", "packet,0,f1\n"),
+            ],
+            1,
+            "netcalc: t.csv: T3 row 1\n",
+        ),
+        // a_stall_of_10
+        (
+            "netcalc simulate n.toml t.csv",
+            &[
+                (
+                    "n.toml",
+                    r#"[[server]]
+name = "s1"
+rate = 100
+service = { kind = "latency", latency = 10 }
+
+[[flow]]
+name = "f1"
+packet = 12000
+arrival = { kind = "bucket", burst = 12000, rate = 10 }
+path = ["s1"]
+"#,
+                ),
+                (
+                    "t.csv",
+                    r#"packet,0,f1,12000
+stall,s1,0,10
+"#,
+                ),
+            ],
+            0,
+            r#"servers 1 flows 1
+run packets 1 end 130
+worst f1 130 bound 130
+peak s1 0 12000 bound 13300
+breach none
+"#,
+        ),
+        // a_stall_of_11
+        (
+            "netcalc simulate n.toml t.csv",
+            &[
+                (
+                    "n.toml",
+                    r#"[[server]]
+name = "s1"
+rate = 100
+service = { kind = "latency", latency = 10 }
+
+[[flow]]
+name = "f1"
+packet = 12000
+arrival = { kind = "bucket", burst = 12000, rate = 10 }
+path = ["s1"]
+"#,
+                ),
+                (
+                    "t.csv",
+                    r#"packet,0,f1,12000
+stall,s1,0,11
+"#,
+                ),
+            ],
+            9,
+            r#"servers 1 flows 1
+run packets 1 end 131
+worst f1 131 bound 130
+peak s1 0 12000 bound 13300
+breach service s1 0 11
+"#,
+        ),
+        // a_time_too_wide
+        (
+            "netcalc simulate n.toml t.csv",
+            &[
+                (
+                    "n.toml",
+                    r#"[[server]]
+name = "s1"
+rate = 100
+service = { kind = "latency", latency = 10 }
+
+[[flow]]
+name = "f1"
+packet = 12000
+arrival = { kind = "bucket", burst = 12000, rate = 10 }
+path = ["s1"]
+"#,
+                ),
+                (
+                    "t.csv",
+                    "packet,1/1329227995784915872903807060280344576,f1,12000\n",
+                ),
+            ],
+            6,
+            "netcalc: too wide: simulation\n",
+        ),
+        // an_empty_trace
+        (
+            "netcalc simulate n.toml t.csv",
+            &[
+                (
+                    "n.toml",
+                    r#"[[server]]
+name = "s1"
+rate = 100
+service = { kind = "latency", latency = 10 }
+
+[[flow]]
+name = "f1"
+packet = 12000
+arrival = { kind = "bucket", burst = 12000, rate = 10 }
+path = ["s1"]
+"#,
+                ),
+                ("t.csv", ""),
+            ],
+            0,
+            r#"servers 1 flows 1
+run packets 0 end 0
+worst f1 0 bound 130
+peak s1 0 0 bound 13300
+breach none
+"#,
+        ),
+        // an_unknown_flow
+        (
+            "netcalc simulate n.toml t.csv",
+            &[
+                (
+                    "n.toml",
+                    r#"[[server]]
+name = "s1"
+rate = 100
+service = { kind = "latency", latency = 10 }
+
+[[flow]]
+name = "f1"
+packet = 12000
+arrival = { kind = "bucket", burst = 12000, rate = 10 }
+path = ["s1"]
+"#,
+                ),
+                ("t.csv", "packet,0,f9,1\n"),
+            ],
+            1,
+            "netcalc: t.csv: T5 row 1\n",
+        ),
+        // avionics
+        (
+            "netcalc simulate n.toml t.csv",
+            &[
+                (
+                    "n.toml",
+                    r#"[[server]]
+name = "sw1"
+rate = 100
+service = { kind = "latency", latency = 16 }
+
+[[server]]
+name = "sw2"
+rate = 100
+service = { kind = "latency", latency = 16 }
+
+[[flow]]
+name = "a"
+packet = 4000
+arrival = { kind = "stair", period = 1000, jitter = 0 }
+path = ["sw1", "sw2"]
+
+[[flow]]
+name = "b"
+packet = 8000
+arrival = { kind = "stair", period = 2000, jitter = 0 }
+path = ["sw1", "sw2"]
+
+[[flow]]
+name = "c"
+packet = 12000
+arrival = { kind = "stair", period = 4000, jitter = 0 }
+path = ["sw1", "sw2"]
+"#,
+                ),
+                (
+                    "t.csv",
+                    r#"packet,0,a,4000
+packet,0,b,8000
+packet,0,c,12000
+"#,
+                ),
+            ],
+            0,
+            r#"servers 2 flows 3
+run packets 3 end 360
+worst a 80 bound 512
+worst b 200 bound 512
+worst c 360 bound 512
+peak sw1 0 24000 bound 24000
+peak sw2 0 12000 bound 24000
+breach none
+"#,
+        ),
+        // deficits_after_a_visit
+        (
+            "netcalc simulate n.toml t.csv",
+            &[
+                (
+                    "n.toml",
+                    r#"[[server]]
+name = "s1"
+rate = 100
+service = { kind = "latency", latency = 10 }
+discipline = "drr"
+quanta = [12000, 6000]
+
+[[flow]]
+name = "f1"
+packet = 12000
+arrival = { kind = "bucket", burst = 12000, rate = 10 }
+path = ["s1:0"]
+
+[[flow]]
+name = "f2"
+packet = 6000
+arrival = { kind = "bucket", burst = 6000, rate = 5 }
+path = ["s1:1"]
+"#,
+                ),
+                (
+                    "t.csv",
+                    r#"packet,0,f1,12000
+packet,0,f1,12000
+packet,0,f2,6000
+"#,
+                ),
+            ],
+            9,
+            r#"servers 1 flows 2
+run packets 3 end 300
+worst f1 300 bound 370
+worst f2 180 bound 550
+peak s1 0 24000 bound 15700
+peak s1 1 6000 bound 8750
+breach arrival f1 0 1
+"#,
+        ),
+        // deficits_in_turn
+        (
+            "netcalc simulate n.toml t.csv",
+            &[
+                (
+                    "n.toml",
+                    r#"[[server]]
+name = "s1"
+rate = 100
+service = { kind = "latency", latency = 10 }
+discipline = "drr"
+quanta = [12000, 6000]
+
+[[flow]]
+name = "f1"
+packet = 12000
+arrival = { kind = "bucket", burst = 12000, rate = 10 }
+path = ["s1:0"]
+
+[[flow]]
+name = "f2"
+packet = 6000
+arrival = { kind = "bucket", burst = 6000, rate = 5 }
+path = ["s1:1"]
+"#,
+                ),
+                (
+                    "t.csv",
+                    r#"packet,0,f1,12000
+packet,0,f2,6000
+"#,
+                ),
+            ],
+            0,
+            r#"servers 1 flows 2
+run packets 2 end 180
+worst f1 120 bound 370
+worst f2 180 bound 550
+peak s1 0 12000 bound 15700
+peak s1 1 6000 bound 8750
+breach none
+"#,
+        ),
+        // no_trace_named
+        (
+            "netcalc simulate n.toml",
+            &[(
+                "n.toml",
+                r#"[[server]]
+name = "s1"
+rate = 100
+service = { kind = "latency", latency = 10 }
+
+[[flow]]
+name = "f1"
+packet = 12000
+arrival = { kind = "bucket", burst = 12000, rate = 10 }
+path = ["s1"]
+"#,
+            )],
+            2,
+            "netcalc: usage: netcalc analyse NET [--json], edit NET EDITS [--json], simulate NET TRACE, exercise N, curve FILE\n",
+        ),
+        // no_trace_there
+        (
+            "netcalc simulate n.toml t.csv",
+            &[(
+                "n.toml",
+                r#"[[server]]
+name = "s1"
+rate = 100
+service = { kind = "latency", latency = 10 }
+
+[[flow]]
+name = "f1"
+packet = 12000
+arrival = { kind = "bucket", burst = 12000, rate = 10 }
+path = ["s1"]
+"#,
+            )],
+            3,
+            "netcalc: cannot read t.csv\n",
+        ),
+        // the_first_flow_first
+        (
+            "netcalc simulate n.toml t.csv",
+            &[
+                (
+                    "n.toml",
+                    r#"[[server]]
+name = "s1"
+rate = 100
+service = { kind = "latency", latency = 10 }
+
+[[flow]]
+name = "f1"
+packet = 12000
+arrival = { kind = "bucket", burst = 12000, rate = 10 }
+path = ["s1"]
+
+[[flow]]
+name = "f2"
+packet = 6000
+arrival = { kind = "bucket", burst = 6000, rate = 5 }
+path = ["s1"]
+"#,
+                ),
+                (
+                    "t.csv",
+                    r#"packet,0,f1,12000
+packet,0,f2,6000
+"#,
+                ),
+            ],
+            0,
+            r#"servers 1 flows 2
+run packets 2 end 180
+worst f1 120 bound 190
+worst f2 180 bound 190
+peak s1 0 18000 bound 19950
+breach none
+"#,
+        ),
+        // the_second_flow_first
+        (
+            "netcalc simulate n.toml t.csv",
+            &[
+                (
+                    "n.toml",
+                    r#"[[server]]
+name = "s1"
+rate = 100
+service = { kind = "latency", latency = 10 }
+
+[[flow]]
+name = "f1"
+packet = 12000
+arrival = { kind = "bucket", burst = 12000, rate = 10 }
+path = ["s1"]
+
+[[flow]]
+name = "f2"
+packet = 6000
+arrival = { kind = "bucket", burst = 6000, rate = 5 }
+path = ["s1"]
+"#,
+                ),
+                (
+                    "t.csv",
+                    r#"packet,0,f2,6000
+packet,0,f1,12000
+"#,
+                ),
+            ],
+            0,
+            r#"servers 1 flows 2
+run packets 2 end 180
+worst f1 180 bound 190
+worst f2 60 bound 190
+peak s1 0 18000 bound 19950
+breach none
+"#,
+        ),
+        // the_urgent_queue_goes_first
+        (
+            "netcalc simulate n.toml t.csv",
+            &[
+                (
+                    "n.toml",
+                    r#"[[server]]
+name = "s1"
+rate = 100
+service = { kind = "latency", latency = 10 }
+discipline = "priority"
+queues = 2
+
+[[flow]]
+name = "f1"
+packet = 12000
+arrival = { kind = "bucket", burst = 12000, rate = 10 }
+path = ["s1:1"]
+
+[[flow]]
+name = "f2"
+packet = 6000
+arrival = { kind = "bucket", burst = 6000, rate = 5 }
+path = ["s1:0"]
+"#,
+                ),
+                (
+                    "t.csv",
+                    r#"packet,0,f1,12000
+packet,0,f2,6000
+"#,
+                ),
+            ],
+            0,
+            r#"servers 1 flows 2
+run packets 2 end 180
+worst f1 180 bound 200
+worst f2 60 bound 190
+peak s1 0 6000 bound 6950
+peak s1 1 12000 bound 14000
+breach none
+"#,
+        ),
+        // three_packets_whose_neighbours_keep_the_curve
+        (
+            "netcalc simulate n.toml t.csv",
+            &[
+                (
+                    "n.toml",
+                    r#"[[server]]
+name = "s1"
+rate = 100
+service = { kind = "latency", latency = 10 }
+
+[[flow]]
+name = "f1"
+packet = 12000
+arrival = { kind = "bucket", burst = 12000, rate = 10 }
+path = ["s1"]
+"#,
+                ),
+                (
+                    "t.csv",
+                    r#"packet,0,f1,6000
+packet,100,f1,6000
+packet,200,f1,6000
+"#,
+                ),
+            ],
+            9,
+            r#"servers 1 flows 1
+run packets 3 end 260
+worst f1 60 bound 130
+peak s1 0 6000 bound 13300
+breach arrival f1 0 2
+"#,
+        ),
+        // two_hops_with_links
+        (
+            "netcalc simulate n.toml t.csv",
+            &[
+                (
+                    "n.toml",
+                    r#"[[server]]
+name = "s1"
+rate = 100
+service = { kind = "latency", latency = 10 }
+link = 5
+
+[[server]]
+name = "s2"
+rate = 100
+service = { kind = "latency", latency = 10 }
+link = 5
+
+[[flow]]
+name = "f1"
+packet = 12000
+arrival = { kind = "bucket", burst = 12000, rate = 10 }
+path = ["s1", "s2"]
+"#,
+                ),
+                ("t.csv", "packet,0,f1,12000\n"),
+            ],
+            0,
+            r#"servers 2 flows 1
+run packets 1 end 245
+worst f1 250 bound 270
+peak s1 0 12000 bound 13300
+peak s2 0 12000 bound 14600
+breach none
+"#,
+        ),
+        // two_packets_at_0
+        (
+            "netcalc simulate n.toml t.csv",
+            &[
+                (
+                    "n.toml",
+                    r#"[[server]]
+name = "s1"
+rate = 100
+service = { kind = "latency", latency = 10 }
+
+[[flow]]
+name = "f1"
+packet = 12000
+arrival = { kind = "bucket", burst = 12000, rate = 10 }
+path = ["s1"]
+"#,
+                ),
+                (
+                    "t.csv",
+                    r#"packet,0,f1,12000
+packet,0,f1,12000
+"#,
+                ),
+            ],
+            9,
+            r#"servers 1 flows 1
+run packets 2 end 240
+worst f1 240 bound 130
+peak s1 0 24000 bound 13300
+breach arrival f1 0 1
+"#,
+        ),
+    ];
+    for (line, files, status, wanted) in rows {
+        check(&rt, alloc, line, files, status, wanted)?;
+    }
+    Ok(())
+}
+
+#[test]
 fn words(rt: HostRuntime) -> Result<(), Fail> {
     let alloc = rt.alloc();
     let rows: [(&str, &[(&str, &str)], u8, &str); 10] = [
         // a_command_not_built
         (
-            "netcalc simulate n.toml t.csv",
+            "netcalc edit n.toml e.csv",
             &[],
             2,
             "netcalc: usage: netcalc analyse NET [--json], edit NET EDITS [--json], simulate NET TRACE, exercise N, curve FILE\n",

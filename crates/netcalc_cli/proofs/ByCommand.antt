@@ -1,5 +1,5 @@
 -- What holds of the replies of each command. A new command has a case in each lemma.
-use Rattle.std.proofs.Common.{◌≡◌, ◌≢◌, ℕ, List, [], ◌∷◌, arith}
+use Rattle.std.proofs.Common.{◌≡◌, ◌≢◌, ℕ, List, [], ◌∷◌, inl, inr, sym, ap, ◌∙◌, arith}
 use Rattle.upp_limits.specs.declared.own_limits.OverLimit.TheVariants.{TooMany, TooWide}
 use Rattle.net_model.specs.Networks.{Net}
 use Rattle.net_cells.specs.Meanings.{CellTable}
@@ -11,10 +11,16 @@ use Rattle.analyse_command.specs.AnswerCounts.{CountsOn}
 use Rattle.analyse_command.specs.OnFiles.{IsReportOf, IsReport}
 use Rattle.analyse_command.proofs.ByStatus as analyse
 use Rattle.analyse_command.proofs.OneReply as analysed
+use Rattle.simulate_command.specs.RunCounts as run_counts
+use Rattle.simulate_command.specs.RunCounts.{IsOfReport}
+use Rattle.simulate_command.proofs.Causes as run
+use Rattle.simulate_command.proofs.OneReply as simulated
+use Rattle.simulate_command.proofs.Status.{status_tells}
+use Rattle.simulate_command.proofs.Within.{quiet_runs, guarantee}
 use Rattle.curve_command.proofs.ByStatus as curve
 use Rattle.curve_command.proofs.OneReply as calculated
-use Rattle.netcalc_cli.specs.Commands.{Command, Analyse, Curve, IsReplyTo, IsMalformed, IsOver, IsCyclic, TellsBreach}
-use Rattle.netcalc_cli.specs.Commands.{IsDone, IsAnswerable, CountsTo}
+use Rattle.netcalc_cli.specs.Commands.{Command, Analyse, Simulate, Curve, IsReplyTo, IsMalformed, IsOver}
+use Rattle.netcalc_cli.specs.Commands.{IsCyclic, TellsBreach, IsDone, IsAnswerable, IsAnswer, CountsTo}
 
 -- ---- by status
 pub record IsByStatus (command : Command) (files : List (List ℕ)) (reply : Reply) : Type 0 where
@@ -48,6 +54,21 @@ by_command (Analyse net) (bytes ∷ []) reply h =
       cycle = λ e. k.cycle e;
       breach = λ e. absurd (omega (arith, k.most, e));
     }
+by_command (Simulate net trace) (bytes ∷ rows ∷ []) reply h =
+    let k = run.causes net bytes trace rows reply h in
+    record {
+      done = λ e.
+          let quiet = quiet_runs net bytes trace rows reply h e in
+          (quiet, guarantee bytes rows reply quiet.report);
+      malformed = λ e. k.malformed e;
+      no_read = k.others.1;
+      wide = λ e. k.wide e;
+      many = λ e. k.many e;
+      cycle = λ e. k.cycle e;
+      breach = λ e.
+          let r = k.report (inr e) in
+          (r, (status_tells bytes rows reply r).breaks.0 e, guarantee bytes rows reply r);
+    }
 by_command (Curve script) (bytes ∷ []) reply h =
     let k = curve.by_status script bytes reply h in
     record {
@@ -65,20 +86,43 @@ by_command command files reply h = absurd h
 pub one_by_command : (command : Command) (files : List (List ℕ)) (x y : Reply) → IsReplyTo command files x
     → IsReplyTo command files y → AreSame x y
 one_by_command (Analyse net) (bytes ∷ []) x y h k = analysed.replies_are_determined net bytes x y h k
+one_by_command (Simulate net trace) (bytes ∷ rows ∷ []) x y h k =
+    simulated.replies_are_determined net bytes trace rows x y h k
 one_by_command (Curve script) (bytes ∷ []) x y h k =
     equal x y (calculated.replies_are_determined script bytes x y h k)
 one_by_command command files x y h k = absurd h
 
 -- ---- on files that can be answered
 pub complete_by_command : (command : Command) (files : List (List ℕ)) (reply : Reply) → IsAnswerable command files
-    → IsReplyTo command files reply → reply.status ≡ 0
+    → IsReplyTo command files reply → IsAnswer command reply.status
 complete_by_command (Analyse net) (bytes ∷ []) reply can h = analysed.replies_are_complete net bytes reply can h
+complete_by_command (Simulate net trace) (bytes ∷ rows ∷ []) reply can h =
+    simulated.replies_are_complete net bytes trace rows reply can h
 complete_by_command (Curve script) (bytes ∷ []) reply can h = calculated.replies_are_complete script bytes reply can h
 complete_by_command command files reply can h = absurd can
 
 -- ---- steps
--- at a status that is 0 only where the other is
-counts_at : (bytes : List ℕ) (status other old new : ℕ) → (other ≡ 0 → status ≡ 0) → CountsOn bytes status old new
+-- the status that the call gives is that of the answer, but where it cannot be written
+abbrev pub IsGiven : (status other : ℕ) → Type 0
+IsGiven status other = other ≢ 4 → other ≡ status
+
+zero_given : (status other : ℕ) → IsGiven status other → other ≡ 0 → status ≡ 0
+zero_given status other same zero = sym (same (λ four. absurd (cc))) ∙ zero
+
+nine_given : (status other : ℕ) → IsGiven status other → other ≡ 9 → status ≡ 9
+nine_given status other same nine = sym (same (λ four. absurd (cc))) ∙ nine
+
+report_given : (status other : ℕ) → IsGiven status other → IsOfReport other → IsOfReport status
+report_given status other same (inl zero) = inl (zero_given status other same zero)
+report_given status other same (inr nine) = inr (nine_given status other same nine)
+
+pub answer_given : (command : Command) (status other : ℕ) → IsGiven status other → IsAnswer command other
+    → IsAnswer command status
+answer_given (Analyse net) status other same h = zero_given status other same h
+answer_given (Simulate net trace) status other same h = report_given status other same h
+answer_given (Curve script) status other same h = zero_given status other same h
+
+counts_at : (bytes : List ℕ) (status other old new : ℕ) → IsGiven status other → CountsOn bytes status old new
     → CountsOn bytes other old new
 counts_at bytes status other old new same h = record {
   between = h.between;
@@ -88,13 +132,33 @@ counts_at bytes status other old new same h = record {
   cells = λ net is. let k = h.cells net is in record {
     rises = k.rises;
     most = k.most;
-    report = λ zero. k.report (same zero);
+    report = λ zero. k.report (zero_given status other same zero);
     round = k.round;
   };
 }
 
+run_counts_at : (bytes rows : List ℕ) (status other old new : ℕ) → IsGiven status other
+    → run_counts.CountsOn bytes rows status old new → run_counts.CountsOn bytes rows other old new
+run_counts_at bytes rows status other old new same h = record {
+  between = h.between;
+  rises = h.rises;
+  folds = h.folds;
+  refused = h.refused;
+  cells = λ net is. let k = h.cells net is in record {
+    cells = record {
+      rises = k.cells.rises;
+      most = k.cells.most;
+      report = λ is. k.cells.report (report_given status other same is);
+      round = k.cells.round;
+    };
+    refused = k.refused;
+  };
+}
+
 pub counts_by_command : (command : Command) (files : List (List ℕ)) (status other old new : ℕ)
-    → (other ≡ 0 → status ≡ 0) → CountsTo command files status old new → CountsTo command files other old new
+    → IsGiven status other → CountsTo command files status old new → CountsTo command files other old new
 counts_by_command (Analyse net) (bytes ∷ []) status other old new same h = counts_at bytes status other old new same h
+counts_by_command (Simulate net trace) (bytes ∷ rows ∷ []) status other old new same h =
+    run_counts_at bytes rows status other old new same h
 counts_by_command (Curve script) (bytes ∷ []) status other old new same h = tt
 counts_by_command command files status other old new same h = absurd h

@@ -3,17 +3,17 @@ use Rattle.std.proofs.Common.{◌≡◌, ◌≢◌, ◌⊎◌, ℕ, List, Option
 use Rattle.std.proofs.lemmas.Bool.{cases_eq}
 use Rattle.upp_limits.specs.declared.own_limits.OverLimit.TheVariants.{TooMany, TooWide}
 use Rattle.command_replies.specs.declared.answer.Answer.{Answer}
-use Rattle.command_replies.specs.Replies.{Reply, AreSame, cannot_read, too_long}
+use Rattle.command_replies.specs.Replies.{Reply, cannot_read, too_long}
 use Rattle.command_replies.specs.View.{reply_of, status_of}
 use Rattle.command_replies.proofs.OneRefusal.{equal}
 use Rattle.netcalc_cli.specs.Commands.{Command, files_of, IsReplyTo, IsMalformed, IsOver, IsCyclic, TellsBreach, IsDone}
-use Rattle.netcalc_cli.specs.Commands.{IsAnswerable}
+use Rattle.netcalc_cli.specs.Commands.{Analyse, Simulate, Curve, IsAnswerable, IsAnswer}
 use Rattle.netcalc_cli.specs.Counts.{CountsOnCommand}
 use Rattle.netcalc_cli.specs.Files.{Told, IsTooLong, FirstIs, MayHoldAll, FirstLong, AllFit, all_told}
 use Rattle.netcalc_cli.specs.Laws.{RepliesAreDetermined}
-use Rattle.netcalc_cli.specs.Reply.{IsReplyOnFiles, FailedAt, EndsAt, MayReplyTo, Gives, Brings, GivesOnTold}
-use Rattle.netcalc_cli.specs.Reply.{AnswersWhatItCan}
-use Rattle.netcalc_cli.proofs.ByCommand.{IsByStatus, by_command, one_by_command, complete_by_command, counts_by_command}
+use Rattle.netcalc_cli.specs.Reply.{IsReplyOnFiles, FailedAt, EndsAt, MayReplyTo, Gives, Brings, GivesOnTold, AnswersWhatItCan}
+use Rattle.netcalc_cli.proofs.ByCommand.{IsByStatus, by_command, one_by_command, complete_by_command}
+use Rattle.netcalc_cli.proofs.ByCommand.{IsGiven, answer_given, counts_by_command}
 use Rattle.netcalc_cli.proofs.FileLemmas.{first_map, first_shows, long_shows, long_first, not_long, long_one, ended}
 use Rattle.netcalc_cli.proofs.FileLemmas.{same_told, on_told, any_told, more_told}
 
@@ -29,16 +29,49 @@ ends faults last_fault told command old new reply h =
       | inr long ↦ inr (long.0, long.1, inl long.2)
     ]
 
--- with no report
-pub no_report : {I E : Type 0} (faults : I → ℕ) (last_fault : I → List ℕ) (told : Told) (old new : I) (file : List ℕ)
-    (r : Result Answer E) → IfOk r (λ a. EndsAt faults last_fault told old new (reply_of a) file) → status_of r ≢ 0
-no_report faults last_fault told old new file (Ok a) (inl failed) zero =
+-- with no answer
+record IsNoAnswer (status : ℕ) : Type 0 where
+  zero : status ≢ 0
+  nine : status ≢ 9
+
+none_at : {I E : Type 0} (faults : I → ℕ) (last_fault : I → List ℕ) (told : Told) (old new : I) (file : List ℕ)
+    (r : Result Answer E) → IfOk r (λ a. EndsAt faults last_fault told old new (reply_of a) file)
+    → IsNoAnswer (status_of r)
+none_at faults last_fault told old new file (Ok a) (inl failed) =
     let three = ap (λ (x : Reply). x.status) failed.1 in
-    absurd (cc)
-no_report faults last_fault told old new file (Ok a) (inr long) zero =
+    record { zero = λ e. absurd (cc); nine = λ e. absurd (cc) }
+none_at faults last_fault told old new file (Ok a) (inr long) =
     let one = ap (λ (x : Reply). x.status) long.1 in
-    absurd (cc)
-no_report faults last_fault told old new file (Err e) h zero = absurd (cc)
+    record { zero = λ e. absurd (cc); nine = λ e. absurd (cc) }
+none_at faults last_fault told old new file (Err e) h =
+    record { zero = λ e. absurd (cc); nine = λ e. absurd (cc) }
+
+none_in : {I E : Type 0} (faults : I → ℕ) (last_fault : I → List ℕ) (told : Told) (old new : I)
+    (files : List (List ℕ)) (r : Result Answer E)
+    → IfOk r (λ a. FirstIs told (EndsAt faults last_fault told old new (reply_of a)) files) → IsNoAnswer (status_of r)
+none_in faults last_fault told old new files (Ok a) h =
+    first_shows told (EndsAt faults last_fault told old new (reply_of a)) _ files
+    (λ file at. none_at faults last_fault told old new file (Ok a) at) h
+none_in faults last_fault told old new files (Err e) h =
+    record { zero = λ e. absurd (cc); nine = λ e. absurd (cc) }
+
+no_answer : (command : Command) (status : ℕ) → IsNoAnswer status → ¬ (IsAnswer command status)
+no_answer (Analyse net) status none h = none.zero h
+no_answer (Simulate net trace) status none h = elim h [ inl zero ↦ none.zero zero | inr nine ↦ none.nine nine ]
+no_answer (Curve script) status none h = none.zero h
+
+pub no_answer_at : {I E : Type 0} (faults : I → ℕ) (last_fault : I → List ℕ) (told : Told) (command : Command)
+    (old new : I) (file : List ℕ) (r : Result Answer E)
+    → IfOk r (λ a. EndsAt faults last_fault told old new (reply_of a) file) → ¬ (IsAnswer command (status_of r))
+no_answer_at faults last_fault told command old new file r h =
+    no_answer command (status_of r) (none_at faults last_fault told old new file r h)
+
+pub no_answer_in : {I E : Type 0} (faults : I → ℕ) (last_fault : I → List ℕ) (told : Told) (command : Command)
+    (old new : I) (files : List (List ℕ)) (r : Result Answer E)
+    → IfOk r (λ a. FirstIs told (EndsAt faults last_fault told old new (reply_of a)) files)
+    → ¬ (IsAnswer command (status_of r))
+no_answer_in faults last_fault told command old new files r h =
+    no_answer command (status_of r) (none_in faults last_fault told old new files r h)
 
 -- or the files were fetched
 pub answers : {I : Type 0} (faults : I → ℕ) (last_fault : I → List ℕ) (told : Told) (command : Command) (old new : I)
@@ -186,7 +219,7 @@ told_given faults last_fault told command before after reply status old new may 
 
 -- ---- on files that can be answered
 answers_on : (command : Command) (files : List (List ℕ)) (reply : Reply) → AllFit files → IsAnswerable command files
-    → IsReplyOnFiles command files reply → reply.status ≡ 0
+    → IsReplyOnFiles command files reply → IsAnswer command reply.status
 answers_on command files reply fit can (inl long) =
     absurd (not_long (λ file. reply ≡ too_long file) (files_of command) files long fit)
 answers_on command files reply fit can (inr on) = complete_by_command command files reply can on.1
@@ -195,9 +228,9 @@ answers_or : (command : Command) (files : List (List ℕ)) (status : ℕ) (old n
     → IsAnswerable command files
     → ((reply : Reply) × IsReplyOnFiles command files reply × Gives status old new reply)
     ⊎ ((status ≡ 3) ⊎ ((status ≡ 4) ⊎ (status ≡ 5)))
-    → (status ≡ 0) ⊎ ((status ≡ 3) ⊎ ((status ≡ 4) ⊎ (status ≡ 5)))
+    → IsAnswer command status ⊎ ((status ≡ 3) ⊎ ((status ≡ 4) ⊎ (status ≡ 5)))
 answers_or command files status old new fit can (inl r) =
-    inl (r.2.0 ∙ answers_on command files r.0 fit can r.1)
+    inl (subst (IsAnswer command) (sym r.2.0) (answers_on command files r.0 fit can r.1))
 answers_or command files status old new fit can (inr other) = inr other
 
 pub answers_what_it_can : (command : Command) (told : Told) (status : ℕ) (old new : Option (List ℕ))
@@ -207,10 +240,11 @@ answers_what_it_can command told status old new h =
     (λ files given fit can. answers_or command files status old new fit can given) h
 
 -- ---- steps
--- at a status that is 0 only where the other is
-pub counts_at : (told : Told) (command : Command) (status other old new : ℕ) → (other ≡ 0 → status ≡ 0)
+-- at the status that is given where the answer has another
+pub counts_at : (told : Told) (command : Command) (status other old new : ℕ) → IsGiven status other
     → CountsOnCommand told command status old new → CountsOnCommand told command other old new
-counts_at told command status other old new same (inl none) = inl (λ zero. none.0 (same zero), none.1)
+counts_at told command status other old new same (inl none) =
+    inl (λ answer. none.0 (answer_given command status other same answer), none.1)
 counts_at told command status other old new same (inr h) =
     let counts = counts_by_command command h.files status other old new same h.counts in
     inr (record { files = h.files; held = h.held; fit = h.fit; counts = counts })

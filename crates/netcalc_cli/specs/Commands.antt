@@ -1,6 +1,7 @@
 -- The commands, and what each answers on its files. A new command has one line in each definition.
-use Rattle.std.specs.Prelude.{ℕ, List, [], ◌∷◌}
+use Rattle.std.specs.Prelude.{◌≡◌, ◌⊎◌, ℕ, List, [], ◌∷◌}
 use Rattle.upp_limits.specs.declared.own_limits.OverLimit.{OverLimit}
+use Rattle.upp_limits.specs.declared.own_limits.OverLimit.TheVariants.{TooMany, TooWide}
 use Rattle.net_model.specs.Networks.{Net}
 use Rattle.net_cells.specs.Meanings.{CellTable}
 use Rattle.command_replies.specs.Replies.{Reply}
@@ -9,22 +10,30 @@ use Rattle.command_replies.specs.OnFiles.{IsBroken, IsOverLimit, HasCycle}
 use Rattle.analyse_command.specs.OnFiles.{IsReplyOn, IsReportOf}
 use Rattle.analyse_command.specs.AnswerCounts.{CountsOn}
 use Rattle.analyse_command.specs.AnswerLaws.{IsWithinLimits}
+use Rattle.simulate_command.specs.OnTraces as traces
+use Rattle.simulate_command.specs.OnTraces.{IsRunReply, IsRunReport, IsSimulationOver}
+use Rattle.simulate_command.specs.RunCounts as run_counts
+use Rattle.simulate_command.specs.Laws as run_laws
+use Rattle.simulate_command.specs.Laws.{Keeps, IsQuietReport}
 use Rattle.curve_command.specs.OnScripts.{IsScriptReply, IsRefused, IsLineOver, IsAnswered}
 use Rattle.curve_command.specs.Laws.{IsWithinRules}
 
 -- a command with the names of its files
 pub data Command : Type 0 where
   Analyse : (net : List ℕ) → Command
+  Simulate : (net trace : List ℕ) → Command
   Curve : (script : List ℕ) → Command
 
 -- the files in the order in which they are fetched
 abbrev pub files_of : Command → List (List ℕ)
 files_of (Analyse net) = net ∷ []
+files_of (Simulate net trace) = net ∷ trace ∷ []
 files_of (Curve script) = script ∷ []
 
 -- ---- what is answered where the files hold these bytes, which are not too many
 abbrev pub IsReplyTo : Command → List (List ℕ) → Reply → Type 0
 IsReplyTo (Analyse net) (bytes ∷ []) reply = IsReplyOn net bytes reply
+IsReplyTo (Simulate net trace) (bytes ∷ rows ∷ []) reply = IsRunReply net bytes trace rows reply
 IsReplyTo (Curve script) (bytes ∷ []) reply = IsScriptReply script bytes reply
 IsReplyTo command files reply = ⊥
 
@@ -32,41 +41,60 @@ IsReplyTo command files reply = ⊥
 -- 1: the first rule that a file breaks
 abbrev pub IsMalformed : Command → List (List ℕ) → Reply → Type 0
 IsMalformed (Analyse net) (bytes ∷ []) reply = IsBroken net bytes reply
+IsMalformed (Simulate net trace) (bytes ∷ rows ∷ []) reply = traces.IsMalformed net bytes trace rows reply
 IsMalformed (Curve script) (bytes ∷ []) reply = IsRefused script bytes reply
 IsMalformed command files reply = ⊥
 
--- 7 and 6: the first that is over a limit: of the curves of a network's file, or else of its cells; of the curves,
--- operators and values of a script
+-- 7 and 6: the first that is over a limit: of the curves of a network's file, or else of its cells, or else, at 6, the
+-- simulation; of the curves, operators and values of a script
+abbrev pub IsRunOver : OverLimit → List ℕ → List ℕ → Reply → Type 0
+IsRunOver TooMany bytes rows reply = traces.IsOverLimit TooMany bytes rows reply
+IsRunOver TooWide bytes rows reply = traces.IsOverLimit TooWide bytes rows reply ⊎ IsSimulationOver bytes rows reply
+
 abbrev pub IsOver : OverLimit → Command → List (List ℕ) → Reply → Type 0
 IsOver limit (Analyse net) (bytes ∷ []) reply = IsOverLimit limit bytes reply
+IsOver limit (Simulate net trace) (bytes ∷ rows ∷ []) reply = IsRunOver limit bytes rows reply
 IsOver limit (Curve script) (bytes ∷ []) reply = IsLineOver limit bytes reply
 IsOver limit command files reply = ⊥
 
 -- 8: a cycle of a network
 abbrev pub IsCyclic : Command → List (List ℕ) → Reply → Type 0
 IsCyclic (Analyse net) (bytes ∷ []) reply = HasCycle bytes reply
+IsCyclic (Simulate net trace) (bytes ∷ rows ∷ []) reply = traces.HasCycleBehind bytes rows reply
 IsCyclic command files reply = ⊥
 
--- 9: a run that breaks a premise of its network
+-- 9: the report of a run that breaks a premise of its network; its table is kept by every lawful run that keeps them
 abbrev pub TellsBreach : Command → List (List ℕ) → Reply → Type 0
+TellsBreach (Simulate net trace) (bytes ∷ rows ∷ []) reply =
+    (h : IsRunReport bytes rows reply) × (¬ (Keeps h.net h.report.run)) × Guarantees h.net h.at
 TellsBreach command files reply = ⊥
 
--- 0: a report whose table is kept by every lawful run of the network that keeps packet sizes, arrival and service
--- curves; the answers of a script
+-- 0: a report whose table is kept by every lawful run of the network that keeps packet sizes, arrival and service curves:
+-- of the file's network; with a run that keeps them, no number of which is above its
+-- bound; or the answers of a script
 abbrev pub IsDone : Command → List (List ℕ) → Reply → Type 0
 IsDone (Analyse net) (bytes ∷ []) reply =
     (model : Net) × (at : CellTable) × IsReportOf model at bytes reply × Guarantees model at
+IsDone (Simulate net trace) (bytes ∷ rows ∷ []) reply =
+    (h : IsQuietReport bytes rows reply) × Guarantees h.report.net h.report.at
 IsDone (Curve script) (bytes ∷ []) reply = IsAnswered bytes reply
 IsDone command files reply = ⊥
 
--- ---- the files on which 0 is the one answer
+-- ---- the files that are answered: with status 0, or 9 where a run is asked for
 abbrev pub IsAnswerable : Command → List (List ℕ) → Type 0
 IsAnswerable (Analyse net) (bytes ∷ []) = IsWithinLimits bytes
+IsAnswerable (Simulate net trace) (bytes ∷ rows ∷ []) = run_laws.IsWithinLimits bytes rows
 IsAnswerable (Curve script) (bytes ∷ []) = IsWithinRules bytes
 IsAnswerable command files = ⊥
+
+abbrev pub IsAnswer : Command → ℕ → Type 0
+IsAnswer (Analyse net) status = status ≡ 0
+IsAnswer (Simulate net trace) status = (status ≡ 0) ⊎ (status ≡ 9)
+IsAnswer (Curve script) status = status ≡ 0
 
 -- ---- steps, by the status and the counts before and after
 abbrev pub CountsTo : Command → List (List ℕ) → (status old new : ℕ) → Type 0
 CountsTo (Analyse net) (bytes ∷ []) status old new = CountsOn bytes status old new
+CountsTo (Simulate net trace) (bytes ∷ rows ∷ []) status old new = run_counts.CountsOn bytes rows status old new
 CountsTo (Curve script) (bytes ∷ []) status old new = Unit {0}
 CountsTo command files status old new = ⊥

@@ -1,6 +1,6 @@
 -- How many steps a call takes.
-use Rattle.std.specs.Prelude.{◌≡◌, ◌≢◌, ◌⊎◌, ℕ, List, Option, Some, None}
-use Rattle.netcalc_cli.specs.Commands.{Command, files_of, CountsTo}
+use Rattle.std.specs.Prelude.{◌≡◌, ◌⊎◌, ℕ, List, Option, Some, None}
+use Rattle.netcalc_cli.specs.Commands.{Command, files_of, IsAnswer, CountsTo}
 use Rattle.netcalc_cli.specs.Files.{Told, MayHoldAll, AllFit}
 
 -- The files of a command hold bytes that are not too many, and the steps are those of its answer on them.
@@ -10,10 +10,10 @@ pub record CountsOnFiles (told : Told) (command : Command) (status old new : ℕ
   pub fit : AllFit files
   pub counts : CountsTo command files status old new
 
--- That, or none; and not none where the status is 0.
+-- That, or none; and not none where the status is that of an answer.
 abbrev pub CountsOnCommand : Told → Command → (status old new : ℕ) → Type 0
 CountsOnCommand told command status old new =
-    (status ≢ 0 × (new ≡ old)) ⊎ CountsOnFiles told command status old new
+    ((¬ (IsAnswer command status)) × (new ≡ old)) ⊎ CountsOnFiles told command status old new
 
 -- None where the words are not taken.
 abbrev pub Counts : {I : Type 0} → (I → List ℕ → Option (List ℕ)) → Option Command → I → (status old new : ℕ) → Type 0

@@ -4,7 +4,7 @@ use Rattle.std.specs.Io.KnownBytes.{Appends}
 use Rattle.outside.specs.Faults.{Rose}
 use Rattle.outside.specs.Written.{AppendsFront}
 use Rattle.command_replies.specs.Replies.{Reply, usage, cannot_read, too_long}
-use Rattle.netcalc_cli.specs.Commands.{Command, files_of, IsReplyTo, IsAnswerable}
+use Rattle.netcalc_cli.specs.Commands.{Command, files_of, IsReplyTo, IsAnswerable, IsAnswer}
 use Rattle.netcalc_cli.specs.Files.{Told, IsTooLong, MayHoldAll, FirstIs, FirstLong, AllFit, all_told}
 
 -- the commands that the usage line tells
@@ -65,10 +65,11 @@ GivesOnTold command told status old new = IfSome (all_told told (files_of comman
     ((reply : Reply) × IsReplyOnFiles command files reply × Gives status old new reply)
     ⊎ ((status ≡ 3) ⊎ ((status ≡ 4) ⊎ (status ≡ 5))))
 
--- Where it is told that the files fit and can be answered, the status is 0, or 3, 4 or 5.
+-- Where it is told that the files fit and can be answered, the status is that of an answer, or 3, 4 or 5.
 abbrev pub AnswersWhatItCan : Command → Told → ℕ → Type 0
 AnswersWhatItCan command told status = IfSome (all_told told (files_of command)) (λ files.
-    AllFit files → IsAnswerable command files → (status ≡ 0) ⊎ ((status ≡ 3) ⊎ ((status ≡ 4) ⊎ (status ≡ 5))))
+    AllFit files → IsAnswerable command files
+    → IsAnswer command status ⊎ ((status ≡ 3) ⊎ ((status ≡ 4) ⊎ (status ≡ 5))))
 
 -- The sink failed in this call, and a front of the reply's bytes was written.
 pub record FailsToGive {K : Type 0} (faults : K → ℕ) (written : K → Option (List ℕ)) (old new : K) (reply : Reply)

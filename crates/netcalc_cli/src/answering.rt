@@ -7,12 +7,13 @@ ghost use Rattle.netcalc_cli.specs.Counts.{CountsOnCommand};
 ghost use Rattle.netcalc_cli.specs.Reply.{MayReplyTo};
 ghost use Rattle.netcalc_cli.specs.View.{command_view};
 
-use crate::fetching::fetch_one;
+use crate::fetching::{fetch_one, fetch_two};
 use crate::words::Command;
 use analyse_command::on_bytes;
 use command_replies::Answer;
 use curve_command::on_script;
 use outside::{Inputs, NoMemory};
+use simulate_command::on_trace;
 use std::alloc::Global;
 use std::sync::ledger::Ledger;
 use steps::Steps;
@@ -30,6 +31,24 @@ fn on_network<I: Inputs, L: Ledger>(
 {
     match fetch_one(alloc, net, inputs) {
         Ok(bytes) => on_bytes(alloc, net, &bytes, steps),
+        Err(ended) => ended,
+    }
+}
+
+fn on_simulated<I: Inputs, L: Ledger>(
+    alloc: Global,
+    net: &str,
+    trace: &str,
+    inputs: &mut I,
+    steps: &mut Steps<L>,
+) -> Result<Answer, NoMemory>
+    ensures reply { IfOk result (λ r. MayReplyTo I.faults I.last_fault (I.content inputs.old)
+        (commands.Simulate net.now trace.now) inputs.old inputs.new (reply_of r)) }
+    ensures counts { CountsOnCommand (I.content inputs.old) (commands.Simulate net.now trace.now) (status_of result)
+        steps.old steps.new }
+{
+    match fetch_two(alloc, net, trace, inputs) {
+        Ok((bytes, rows)) => on_trace(alloc, net, &bytes, trace, &rows, steps),
         Err(ended) => ended,
     }
 }
@@ -65,6 +84,7 @@ pub(crate) fn answer_to<I: Inputs, L: Ledger>(
 {
     match command {
         Command::Analyse(net) => on_network(alloc, net, inputs, steps),
+        Command::Simulate(net, trace) => on_simulated(alloc, net, trace, inputs, steps),
         Command::Curve(script) => on_curves(alloc, script, inputs, steps),
     }
 }

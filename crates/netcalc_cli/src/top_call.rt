@@ -38,9 +38,11 @@ fn give<K: Sink>(out: &mut K, status: Status, text: &[u8]) -> u8
 /// Does what the words ask for, and gives the status. The program's name is the first word.
 ///
 /// `analyse NET` reads a file of a network, and writes the bounds on its delays and backlogs. The order is: the words,
-/// the file, its tables, its curves, the order of its servers, the cells, one `put`. `curve FILE` reads a script of
-/// curve expressions, and writes its answers. The order is: the words, the file, its lines, its statements, one `put`.
-/// Each refusal but 4 and 5 writes one line.
+/// the file, its tables, its curves, the order of its servers, the cells, one `put`. `simulate NET TRACE` fetches both
+/// files first, and reads the second one after the first one's curves. After the cells come the simulation and what its
+/// run breaks first, and its worst values are written beside the bounds. `curve FILE` reads a script of curve
+/// expressions, and writes its answers. The order is: the words, the file, its lines, its statements, one `put`. Each
+/// refusal but 4 and 5 writes one line.
 pub fn run<I: Inputs, K: Sink, L: Ledger>(
     words: &[String],
     inputs: &mut I,
@@ -64,12 +66,12 @@ pub fn run<I: Inputs, K: Sink, L: Ledger>(
         × Gives result (K.written out.old) (K.written out.new) (too_long file)) (files_of command)
         ⊎ Brings IsMalformed (I.content inputs.old) command result (K.written out.old) (K.written out.new)) }
 
-    // 7 only where the first that is over a limit has too many pieces: of the curves of a network's file, or else of
-    // its cells; of the curves, operators and values of a script. The line names it.
+    // 7 only where the first that is over a limit has too many pieces: of the curves of a network's file, or else of its
+    // cells; of the curves, operators and values of a script. The line names it.
     ensures too_many { result ≡ 7 → IfSome (command_of (texts words.now)) (λ command.
         Brings (IsOver limits.TooMany) (I.content inputs.old) command result (K.written out.old) (K.written out.new)) }
 
-    // 6 only where that first one has too wide numbers.
+    // 6 only where that first one has too wide numbers; or none is over a limit but the simulation.
     ensures too_wide { result ≡ 6 → IfSome (command_of (texts words.now)) (λ command.
         Brings (IsOver limits.TooWide) (I.content inputs.old) command result (K.written out.old) (K.written out.new)) }
 
@@ -77,13 +79,16 @@ pub fn run<I: Inputs, K: Sink, L: Ledger>(
     ensures cycle { result ≡ 8 → IfSome (command_of (texts words.now)) (λ command.
         Brings IsCyclic (I.content inputs.old) command result (K.written out.old) (K.written out.new)) }
 
-    // 9 never.
+    // 9 only where the run of `simulate` breaks a premise; the whole report is written, and its table is kept by every
+    // run of the network that keeps the premises.
     ensures breach { result ≡ 9 → IfSome (command_of (texts words.now)) (λ command.
         Brings TellsBreach (I.content inputs.old) command result (K.written out.old) (K.written out.new)) }
 
     // 0 only where what was asked for is written. Of `analyse`: the file gives a network whose cells have their answers
     // in a table that meets the equations, and the report has the numbers of the table, which every run of the network
-    // keeps. By a law `unbounded` stands for infinity alone. Of `curve`: the answers that the script finds and means.
+    // keeps. By a law `unbounded` stands for infinity alone. Of `simulate`: so it is, and the stated run of the network
+    // with the trace keeps all premises; no number of the run is above its bound. Of `curve`: the answers that the script
+    // finds and means.
     ensures done { result ≡ 0 → IfSome (command_of (texts words.now)) (λ command.
         Brings IsDone (I.content inputs.old) command result (K.written out.old) (K.written out.new)) }
 
@@ -99,8 +104,9 @@ pub fn run<I: Inputs, K: Sink, L: Ledger>(
     ensures told { IfSome (command_of (texts words.now)) (λ command.
         GivesOnTold command (I.content inputs.old) result (K.written out.old) (K.written out.new)) }
 
-    // So 0 is the only other one where the files hold what can be answered: a network without a cycle, no curve and no
-    // cell of which is over a limit; a script without a fault, nothing in which is over a limit.
+    // So 0, or of `simulate` 0 or 9, is the only other one where the files hold what can be answered: a network without a
+    // cycle, no curve and no cell of which is over a limit, with a trace without a fault, and a simulation that is not too
+    // wide; a script without a fault, nothing in which is over a limit.
     ensures complete { IfSome (command_of (texts words.now)) (λ command.
         AnswersWhatItCan command (I.content inputs.old) result) }
 
@@ -109,8 +115,8 @@ pub fn run<I: Inputs, K: Sink, L: Ledger>(
         × MayReply I.content I.faults I.last_fault (command_of (texts words.now)) inputs.old inputs.new reply
         × Gives result (K.written out.old) (K.written out.new) reply }
 
-    // Of `analyse` no more steps than the operators of the folds of the file's closures, and after these the work of
-    // all cells; where the report is written, exactly that work.
+    // Of `analyse` and `simulate` no more steps than the operators of the folds of the file's closures, and after these
+    // the work of all cells; where the report is written, exactly that work.
     ensures counts { Counts I.content (command_of (texts words.now)) inputs.old result steps.old steps.new }
 {
     let Some(taken) = take_words(words) else {

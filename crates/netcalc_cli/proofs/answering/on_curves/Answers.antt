@@ -2,7 +2,7 @@ use Rattle.std.proofs.Common.{[], ◌∷◌, inl, inr, refl}
 use Rattle.std.proofs.lemmas.Result.{IfOk-weaker}
 use Rattle.command_replies.specs.View.{reply_of}
 use Rattle.netcalc_cli.specs.Commands.{Curve}
-use Rattle.netcalc_cli.proofs.Replies.{ends, answers, no_report}
+use Rattle.netcalc_cli.proofs.Replies.{ends, answers, no_answer_at}
 use Rattle.netcalc_cli.proofs.answering.on_curves.Goals as goal
 
 pub returns-in-Ok-clause-reply : goal.returns-in-Ok-clause-reply
@@ -31,6 +31,6 @@ returns-in-Err-clause-reply g c =
 
 pub returns-in-Err-clause-counts : goal.returns-in-Err-clause-counts
 returns-in-Err-clause-counts g c =
-    let other = no_report g.I.Inputs.faults g.I.Inputs.last_fault (g.I.Inputs.content c.args.inputs.now)
-    c.args.inputs.now c.fetch_one.new.inputs c.args.script.now c.in-Err.ended c.in-Err.ensures.ended in
+    let other = no_answer_at g.I.Inputs.faults g.I.Inputs.last_fault (g.I.Inputs.content c.args.inputs.now)
+    (Curve c.args.script.now) c.args.inputs.now c.fetch_one.new.inputs c.args.script.now c.in-Err.ended c.in-Err.ensures.ended in
     inl (other, refl)

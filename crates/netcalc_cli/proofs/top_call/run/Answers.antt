@@ -1,4 +1,4 @@
-use Rattle.std.proofs.Common.{refl, sym, ◌∙◌}
+use Rattle.std.proofs.Common.{refl}
 use Rattle.command_replies.specs.Replies.{usage}
 use Rattle.command_replies.specs.View.{reply_of}
 use Rattle.netcalc_cli.specs.Reply.{commands}
@@ -87,7 +87,7 @@ returns-in-Ok-clause-counts g c =
     rw (← c.in-Some.ensures)
     (counts_at (g.I.Inputs.content c.args.inputs.now) (command_view c.in-Some.taken.command)
     (reply_of c.in-Ok.answer).status c.give-in-Ok.result c.args.steps.now c.answer_to.new.steps
-    (λ zero. sym (c.give-in-Ok.ensures.given (λ four. cc)).0 ∙ zero) c.in-Ok.ensures.counts)
+    (λ other. (c.give-in-Ok.ensures.given other).0) c.in-Ok.ensures.counts)
 
 pub returns-in-Ok-clause-write_fault : goal.returns-in-Ok-clause-write_fault
 returns-in-Ok-clause-write_fault g c four =
