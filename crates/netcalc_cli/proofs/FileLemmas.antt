@@ -1,9 +1,9 @@
 -- Files in their order, and what is told of them.
-use Rattle.std.proofs.Common.{◌≡◌, ◌≤◌, ◌<◌, ◌⊎◌, ℕ, List, [], ◌∷◌, length, Option, Some, None, IfSome}
+use Rattle.std.proofs.Common.{◌≡◌, ◌<◌, ◌⊎◌, ℕ, List, [], ◌∷◌, length, Option, Some, None, IfSome}
 use Rattle.std.proofs.Common.{inl, inr, refl, sym, ap₂, subst, lit<, arith}
 use Rattle.std.proofs.Math.ListN.{replicate}
 use Rattle.std.proofs.lemmas.List.{length-replicate}
-use Rattle.netcalc_cli.specs.Files.{Told, most_bytes, MayHold, MayFit, IsTooLong, FirstIs, MayHoldAll, FirstLong}
+use Rattle.netcalc_cli.specs.Files.{Told, most_bytes, MayHold, IsTooLong, FirstIs, MayHoldAll, FirstLong}
 use Rattle.netcalc_cli.specs.Files.{AllFit, joined, all_told}
 
 -- ---- one file

@@ -9,7 +9,7 @@ use Rattle.command_replies.proofs.OneRefusal.{equal}
 use Rattle.netcalc_cli.specs.Commands.{Command, files_of, IsReplyTo, IsMalformed, IsOver, IsCyclic, TellsBreach, IsDone}
 use Rattle.netcalc_cli.specs.Commands.{Analyse, Simulate, Curve, IsAnswerable, IsAnswer}
 use Rattle.netcalc_cli.specs.Counts.{CountsOnCommand}
-use Rattle.netcalc_cli.specs.Files.{Told, IsTooLong, FirstIs, MayHoldAll, FirstLong, AllFit, all_told}
+use Rattle.netcalc_cli.specs.Files.{Told, IsTooLong, FirstIs, MayHoldAll, AllFit, all_told}
 use Rattle.netcalc_cli.specs.Laws.{RepliesAreDetermined}
 use Rattle.netcalc_cli.specs.Reply.{IsReplyOnFiles, FailedAt, EndsAt, MayReplyTo, Gives, Brings, GivesOnTold, AnswersWhatItCan}
 use Rattle.netcalc_cli.proofs.ByCommand.{IsByStatus, by_command, one_by_command, complete_by_command}

@@ -1,4 +1,4 @@
-use Rattle.std.proofs.Common.{Err, ap, inl, inr}
+use Rattle.std.proofs.Common.{Err, ap, inr}
 use Rattle.std.proofs.lemmas.Result.{IfOk-weaker}
 use Rattle.netcalc_cli.proofs.FileLemmas.{held_by, longer_found}
 use Rattle.netcalc_cli.proofs.fetching.fetch_one.Goals as goal
