@@ -177,7 +177,10 @@ fn a_script_has_at_most_256_statements(rt: HostRuntime) -> Result<(), Fail> {
     assert_eq!(rt; status, 0);
     script.extend_from_slice(b"rate zero\n")?;
     let (status, bytes) = ask(alloc, "netcalc curve n.toml", &script, 0, 0)?;
-    assert_eq!(rt; bytes.as_slice(), b"netcalc: n.toml: C4 line 257\n");
+    assert_eq!(rt;
+        bytes.as_slice(),
+        "netcalc: n.toml: C4 line 257\n".as_bytes()
+    );
     assert_eq!(rt; status, 1);
     Ok(())
 }
