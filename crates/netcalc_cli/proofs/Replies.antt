@@ -4,7 +4,7 @@ use Rattle.std.proofs.lemmas.Bool.{cases_eq}
 use Rattle.upp_limits.specs.declared.own_limits.OverLimit.TheVariants.{TooMany, TooWide}
 use Rattle.command_replies.specs.declared.answer.Answer.{Answer}
 use Rattle.command_replies.specs.Replies.{Reply, cannot_read, too_long}
-use Rattle.command_replies.specs.View.{reply_of, status_of}
+use Rattle.command_replies.specs.View.{code_of, reply_of, status_of}
 use Rattle.command_replies.proofs.OneRefusal.{equal}
 use Rattle.netcalc_cli.specs.Commands.{Command, files_of, IsReplyTo, IsMalformed, IsOver, IsCyclic, TellsBreach, IsDone}
 use Rattle.netcalc_cli.specs.Commands.{Analyse, Simulate, Curve, IsAnswerable, IsAnswer}
@@ -34,15 +34,19 @@ record IsNoAnswer (status : ℕ) : Type 0 where
   zero : status ≢ 0
   nine : status ≢ 9
 
+none_of : {I : Type 0} (faults : I → ℕ) (last_fault : I → List ℕ) (told : Told) (old new : I) (file : List ℕ)
+    (a : Answer) → EndsAt faults last_fault told old new (reply_of a) file → IsNoAnswer (code_of a.status)
+none_of faults last_fault told old new file a (inl failed) =
+    let three = ap (λ (x : Reply). x.status) failed.1 in
+    record { zero = λ e. absurd (cc); nine = λ e. absurd (cc) }
+none_of faults last_fault told old new file a (inr long) =
+    let one = ap (λ (x : Reply). x.status) long.1 in
+    record { zero = λ e. absurd (cc); nine = λ e. absurd (cc) }
+
 none_at : {I E : Type 0} (faults : I → ℕ) (last_fault : I → List ℕ) (told : Told) (old new : I) (file : List ℕ)
     (r : Result Answer E) → IfOk r (λ a. EndsAt faults last_fault told old new (reply_of a) file)
     → IsNoAnswer (status_of r)
-none_at faults last_fault told old new file (Ok a) (inl failed) =
-    let three = ap (λ (x : Reply). x.status) failed.1 in
-    record { zero = λ e. absurd (cc); nine = λ e. absurd (cc) }
-none_at faults last_fault told old new file (Ok a) (inr long) =
-    let one = ap (λ (x : Reply). x.status) long.1 in
-    record { zero = λ e. absurd (cc); nine = λ e. absurd (cc) }
+none_at faults last_fault told old new file (Ok a) h = none_of faults last_fault told old new file a h
 none_at faults last_fault told old new file (Err e) h =
     record { zero = λ e. absurd (cc); nine = λ e. absurd (cc) }
 
@@ -50,8 +54,8 @@ none_in : {I E : Type 0} (faults : I → ℕ) (last_fault : I → List ℕ) (tol
     (files : List (List ℕ)) (r : Result Answer E)
     → IfOk r (λ a. FirstIs told (EndsAt faults last_fault told old new (reply_of a)) files) → IsNoAnswer (status_of r)
 none_in faults last_fault told old new files (Ok a) h =
-    first_shows told (EndsAt faults last_fault told old new (reply_of a)) _ files
-    (λ file at. none_at faults last_fault told old new file (Ok a) at) h
+    first_shows told (EndsAt faults last_fault told old new (reply_of a)) (IsNoAnswer (code_of a.status)) files
+    (λ file at. none_of faults last_fault told old new file a at) h
 none_in faults last_fault told old new files (Err e) h =
     record { zero = λ e. absurd (cc); nine = λ e. absurd (cc) }
 

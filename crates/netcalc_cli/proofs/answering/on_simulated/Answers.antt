@@ -11,7 +11,7 @@ returns-in-Ok-clause-reply g c =
     (λ r on. answers g.I.Inputs.faults g.I.Inputs.last_fault (g.I.Inputs.content c.args.inputs.now)
     (Simulate c.args.net.now c.args.trace.now) c.args.inputs.now c.fetch_two.new.inputs (reply_of r)
     (c.in-Ok.bytes.items ∷ c.in-Ok.rows.items ∷ []) c.in-Ok.ensures.held c.in-Ok.ensures.fit on)
-    (rw c.deref.ensures.value at c.on_trace.ensures.reply)
+    (rw c.deref-in-Ok.ensures.value at (rw c.deref.ensures.value at c.on_trace.ensures.reply))
 
 pub returns-in-Ok-clause-counts : goal.returns-in-Ok-clause-counts
 returns-in-Ok-clause-counts g c =
@@ -19,7 +19,7 @@ returns-in-Ok-clause-counts g c =
       files = c.in-Ok.bytes.items ∷ c.in-Ok.rows.items ∷ [];
       held = c.in-Ok.ensures.held;
       fit = c.in-Ok.ensures.fit;
-      counts = rw c.deref.ensures.value at c.on_trace.ensures.counts;
+      counts = rw c.deref-in-Ok.ensures.value at (rw c.deref.ensures.value at c.on_trace.ensures.counts);
     })
 
 pub returns-in-Err-clause-reply : goal.returns-in-Err-clause-reply
