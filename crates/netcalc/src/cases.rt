@@ -948,7 +948,92 @@ path = ["s1"]
 #[test]
 fn runs(rt: HostRuntime) -> Result<(), Fail> {
     let alloc = rt.alloc();
-    let rows: [(&str, &[(&str, &str)], u8, &str); 24] = [
+    let rows: [(&str, &[(&str, &str)], u8, &str); 30] = [
+        // a_byte_that_is_not_plain
+        (
+            "netcalc simulate n.toml t.csv",
+            &[
+                (
+                    "n.toml",
+                    r#"[[server]]
+name = "s1"
+rate = 100
+service = { kind = "latency", latency = 10 }
+
+[[flow]]
+name = "f1"
+packet = 12000
+arrival = { kind = "bucket", burst = 12000, rate = 10 }
+path = ["s1"]
+"#,
+                ),
+                ("t.csv", "packet,0,f1,1\t\n"),
+            ],
+            1,
+            "netcalc: t.csv: T1 row 1\n",
+        ),
+        // a_cycle
+        (
+            "netcalc simulate n.toml t.csv",
+            &[
+                (
+                    "n.toml",
+                    r#"[[server]]
+name = "s1"
+rate = 100
+service = { kind = "latency", latency = 10 }
+
+[[server]]
+name = "s2"
+rate = 100
+service = { kind = "latency", latency = 10 }
+
+[[flow]]
+name = "f1"
+packet = 12000
+arrival = { kind = "bucket", burst = 12000, rate = 10 }
+path = ["s1", "s2"]
+
+[[flow]]
+name = "f2"
+packet = 6000
+arrival = { kind = "bucket", burst = 6000, rate = 5 }
+path = ["s2", "s1"]
+"#,
+                ),
+                ("t.csv", "packet,0,f1,1\n"),
+            ],
+            8,
+            "netcalc: cycle s1 s2 s1\n",
+        ),
+        // a_gate_that_closes_on_a_packet
+        (
+            "netcalc simulate n.toml t.csv",
+            &[
+                (
+                    "n.toml",
+                    r#"[[server]]
+name = "g"
+rate = 100
+service = { kind = "gate", cycle = 1000, slot = 250 }
+
+[[flow]]
+name = "f"
+packet = 24000
+arrival = { kind = "stair", period = 1500, jitter = 0 }
+path = ["g"]
+"#,
+                ),
+                ("t.csv", "packet,100,f,24000\n"),
+            ],
+            0,
+            r#"servers 1 flows 1
+run packets 1 end 1090
+worst f 990 bound 990
+peak g 0 24000 bound 47000
+breach none
+"#,
+        ),
         // a_gate_that_reaches_its_bound
         (
             "netcalc simulate n.toml t.csv",
@@ -1234,6 +1319,57 @@ peak s1 0 12000 bound 13300
 breach service s1 0 11
 "#,
         ),
+        // a_stall_of_an_unknown_server
+        (
+            "netcalc simulate n.toml t.csv",
+            &[
+                (
+                    "n.toml",
+                    r#"[[server]]
+name = "s1"
+rate = 100
+service = { kind = "latency", latency = 10 }
+
+[[flow]]
+name = "f1"
+packet = 12000
+arrival = { kind = "bucket", burst = 12000, rate = 10 }
+path = ["s1"]
+"#,
+                ),
+                (
+                    "t.csv",
+                    r#"packet,0,f1,1
+stall,s9,0,1
+"#,
+                ),
+            ],
+            1,
+            "netcalc: t.csv: T5 row 2\n",
+        ),
+        // a_stall_that_ends_where_it_begins
+        (
+            "netcalc simulate n.toml t.csv",
+            &[
+                (
+                    "n.toml",
+                    r#"[[server]]
+name = "s1"
+rate = 100
+service = { kind = "latency", latency = 10 }
+
+[[flow]]
+name = "f1"
+packet = 12000
+arrival = { kind = "bucket", burst = 12000, rate = 10 }
+path = ["s1"]
+"#,
+                ),
+                ("t.csv", "stall,s1,1,1\n"),
+            ],
+            1,
+            "netcalc: t.csv: T4 row 1\n",
+        ),
         // a_time_too_wide
         (
             "netcalc simulate n.toml t.csv",
@@ -1259,6 +1395,40 @@ path = ["s1"]
             ],
             6,
             "netcalc: too wide: simulation\n",
+        ),
+        // a_trace_fault_goes_before_a_cycle
+        (
+            "netcalc simulate n.toml t.csv",
+            &[
+                (
+                    "n.toml",
+                    r#"[[server]]
+name = "s1"
+rate = 100
+service = { kind = "latency", latency = 10 }
+
+[[server]]
+name = "s2"
+rate = 100
+service = { kind = "latency", latency = 10 }
+
+[[flow]]
+name = "f1"
+packet = 12000
+arrival = { kind = "bucket", burst = 12000, rate = 10 }
+path = ["s1", "s2"]
+
+[[flow]]
+name = "f2"
+packet = 6000
+arrival = { kind = "bucket", burst = 6000, rate = 5 }
+path = ["s2", "s1"]
+"#,
+                ),
+                ("t.csv", "pocket\n"),
+            ],
+            1,
+            "netcalc: t.csv: T2 row 1\n",
         ),
         // an_empty_trace
         (

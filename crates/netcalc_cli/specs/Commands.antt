@@ -69,9 +69,8 @@ TellsBreach (Simulate net trace) (bytes ∷ rows ∷ []) reply =
     (h : IsRunReport bytes rows reply) × (¬ (Keeps h.net h.report.run)) × Guarantees h.net h.at
 TellsBreach command files reply = ⊥
 
--- 0: a report whose table is kept by every lawful run of the network that keeps packet sizes, arrival and service curves:
--- of the file's network; with a run that keeps them, no number of which is above its
--- bound; or the answers of a script
+-- 0: a report whose table is kept by every lawful run of the network that keeps packet sizes, arrival and service curves; of
+-- `simulate` beside a run that keeps them too, no number of which is above its bound; or the answers of a script
 abbrev pub IsDone : Command → List (List ℕ) → Reply → Type 0
 IsDone (Analyse net) (bytes ∷ []) reply =
     (model : Net) × (at : CellTable) × IsReportOf model at bytes reply × Guarantees model at
