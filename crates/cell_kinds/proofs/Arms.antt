@@ -12,7 +12,7 @@ use Rattle.net_model.specs.Networks.{Net, NetFlow}
 use Rattle.net_model.specs.Accepted.{IsAccepted}
 use Rattle.net_cells.specs.declared.cell.Cell.{Cell}
 use Rattle.net_cells.specs.declared.cell.Kind.TheVariants.{In, Cross, Total, Higher, QueueService, Theta, Residual, QueueDelay, QueueBacklog, HopDelay, ShiftOut, DeconvOut, Out, PathService, Tfa, Sfa, Bound}
-use Rattle.net_cells.specs.Numbered.{flow_at, path_of, hops, server_at, queue_at, queues, discipline, is_live}
+use Rattle.net_cells.specs.Numbered.{flow_at, path_of, hops, server_of_hop, queue_of_hop, queues, discipline, is_live}
 use Rattle.net_cells.specs.declared.visit.Visit.{Visit}
 use Rattle.net_cells.specs.Visits.{visit, visits_in, others, is_at}
 use Rattle.net_cells.specs.Order.{at_visit}
@@ -54,15 +54,15 @@ module _ (net : Net) (at : CellTable) (i k : ℕ) where
       cross_rises net at (InList m.below.cells) (meets_below net at (cell_of Theta i k) m.below) m.accepted i k
       (operand net at (cell_of Theta i k) (cell_of Cross i k) m.below (inl refl))
 
-  pub theta_service : MayBeMade net at (cell_of Theta i k) → HasCurve at (cell_of QueueService (server_at net i k) (queue_at net i k)) Serving
+  pub theta_service : MayBeMade net at (cell_of Theta i k) → HasCurve at (cell_of QueueService (server_of_hop net i k) (queue_of_hop net i k)) Serving
   theta_service m =
       hop_served net at (InList m.below.cells) (meets_below net at (cell_of Theta i k) m.below) m.accepted i k (ltb-true k (hops net i) m.exists)
-      (operand net at (cell_of Theta i k) (cell_of QueueService (server_at net i k) (queue_at net i k)) m.below (inr (inl refl)))
+      (operand net at (cell_of Theta i k) (cell_of QueueService (server_of_hop net i k) (queue_of_hop net i k)) m.below (inr (inl refl)))
 
-  pub residual_service : MayBeMade net at (cell_of Residual i k) → HasCurve at (cell_of QueueService (server_at net i k) (queue_at net i k)) Serving
+  pub residual_service : MayBeMade net at (cell_of Residual i k) → HasCurve at (cell_of QueueService (server_of_hop net i k) (queue_of_hop net i k)) Serving
   residual_service m =
       hop_served net at (InList m.below.cells) (meets_below net at (cell_of Residual i k) m.below) m.accepted i k (ltb-true k (hops net i) m.exists)
-      (operand net at (cell_of Residual i k) (cell_of QueueService (server_at net i k) (queue_at net i k)) m.below (inl refl))
+      (operand net at (cell_of Residual i k) (cell_of QueueService (server_of_hop net i k) (queue_of_hop net i k)) m.below (inl refl))
 
   pub residual_cross : MayBeMade net at (cell_of Residual i k) → IsCurveAt at (cell_of Cross i k)
   residual_cross m =
@@ -71,7 +71,7 @@ module _ (net : Net) (at : CellTable) (i k : ℕ) where
       (operand net at (cell_of Residual i k) (cell_of Cross i k) m.below (inr (inl refl))))
 
   pub residual_theta : MayBeMade net at (cell_of Residual i k)
-      → Deviate at (cell_of Cross i k) (cell_of QueueService (server_at net i k) (queue_at net i k)) (cell_of Theta i k)
+      → Deviate at (cell_of Cross i k) (cell_of QueueService (server_of_hop net i k) (queue_of_hop net i k)) (cell_of Theta i k)
   residual_theta m =
       let e = m.below.meet (cell_of Theta i k) (operand net at (cell_of Residual i k) (cell_of Theta i k) m.below (inr (inr (inl refl)))) in
       let f = e.means.operand in
@@ -94,11 +94,11 @@ module _ (net : Net) (at : CellTable) (i k : ℕ) where
       (residual_grows net at (InList m.below.cells) (meets_below net at (cell_of HopDelay i k) m.below) m.accepted i k (ltb-true k (hops net i) m.exists)
       (operand net at (cell_of HopDelay i k) (cell_of Residual i k) m.below (inr (inr (inl refl)))))
 
-  pub hop_queue : MayBeMade net at (cell_of HopDelay i k) → IsNumberAt at (cell_of QueueDelay (server_at net i k) (queue_at net i k))
+  pub hop_queue : MayBeMade net at (cell_of HopDelay i k) → IsNumberAt at (cell_of QueueDelay (server_of_hop net i k) (queue_of_hop net i k))
   hop_queue m =
-      some_number at (cell_of QueueDelay (server_at net i k) (queue_at net i k)) Ahead
-      (queue_delay_ahead net at (InList m.below.cells) (meets_below net at (cell_of HopDelay i k) m.below) (server_at net i k) (queue_at net i k)
-      (operand net at (cell_of HopDelay i k) (cell_of QueueDelay (server_at net i k) (queue_at net i k)) m.below (inl refl)))
+      some_number at (cell_of QueueDelay (server_of_hop net i k) (queue_of_hop net i k)) Ahead
+      (queue_delay_ahead net at (InList m.below.cells) (meets_below net at (cell_of HopDelay i k) m.below) (server_of_hop net i k) (queue_of_hop net i k)
+      (operand net at (cell_of HopDelay i k) (cell_of QueueDelay (server_of_hop net i k) (queue_of_hop net i k)) m.below (inl refl)))
 
   pub shift_comes : MayBeMade net at (cell_of ShiftOut i k) → IsCurveAt at (cell_of In i k)
   shift_comes m =
@@ -231,10 +231,10 @@ chosen_there net s pick except j k e =
     (has_range 0 (length net.flows) j (omega arith) (omega (arith, inside))) there
 
 pub cross_ready : (net : Net) (at : CellTable) (i h : ℕ) → MayBeMade net at (cell_of Cross i h) → (j k : ℕ)
-    → chosen net (server_at net i h) (InQueue (queue_at net i h)) (Some i) j ≡ visit_list j (Some k) → IsCurveAt at (cell_of In j k)
+    → chosen net (server_of_hop net i h) (InQueue (queue_of_hop net i h)) (Some i) j ≡ visit_list j (Some k) → IsCurveAt at (cell_of In j k)
 cross_ready net at i h m j k e =
-    let s = server_at net i h in
-    let q = queue_at net i h in
+    let s = server_of_hop net i h in
+    let q = queue_of_hop net i h in
     let cells = map (at_visit In) (others net i s q) in
     let there = subst (λ (vs : List Visit). Has vs (visit j k)) (sym (other_visits net i s q)) (chosen_there net s (InQueue q) (Some i) j k e) in
     some_curve at (cell_of In j k) Rises

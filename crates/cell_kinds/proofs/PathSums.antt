@@ -13,9 +13,9 @@ use Rattle.net_model.specs.Networks.{Net}
 use Rattle.net_model.specs.Accepted.{IsAccepted}
 use Rattle.net_cells.specs.declared.cell.Cell.{Cell}
 use Rattle.net_cells.specs.declared.cell.Kind.TheVariants.{HopDelay}
-use Rattle.net_cells.specs.Numbered.{path, hops, server_at, link}
+use Rattle.net_cells.specs.Numbered.{path, hops, server_of_hop, link}
 use Rattle.net_cells.specs.Cells.{cell_of}
-use Rattle.net_cells.specs.CellFormulas.{hop_delays, links_along}
+use Rattle.net_cells.specs.CellFormulas.{hop_delay_cells, link_delays}
 use Rattle.net_cells.specs.Formulas.{Formula, value_of, smaller, along, delayed}
 use Rattle.net_cells.specs.Meanings.{number, CellTable}
 use Rattle.net_cells.specs.Means.{HaveNumbers, with_links}
@@ -57,14 +57,14 @@ delay_added at i n a b x is before one xs are =
 
 links_more : (net : Net) (i n : ℕ) → n < hops net i → (xs : List Ext)
     → with_links xs (links_to net i (n + 1))
-    ≡ with_links xs (links_to net i n) ++ Fin (link net (server_at net i n)) ∷ []
+    ≡ with_links xs (links_to net i n) ++ Fin (link net (server_of_hop net i n)) ∷ []
 links_more net i n h xs =
     ap (λ ls. xs ++ map Fin ls) (map_more (link net) (path net i) n 0 h)
-    ∙ ap (λ ys. xs ++ ys) (map-append Fin (links_to net i n) (link net (server_at net i n) ∷ []))
-    ∙ sym (append_assoc xs (map Fin (links_to net i n)) (Fin (link net (server_at net i n)) ∷ []))
+    ∙ ap (λ ys. xs ++ ys) (map-append Fin (links_to net i n) (link net (server_of_hop net i n) ∷ []))
+    ∙ sym (append_assoc xs (map Fin (links_to net i n)) (Fin (link net (server_of_hop net i n)) ∷ []))
 
 pub link_added : (net : Net) (i n : ℕ) (a b : Added) (xs : List Ext) (x : ℚ) → n < hops net i
-    → x ≡ link net (server_at net i n) → AreAdded (with_links xs (links_to net i n)) a
+    → x ≡ link net (server_of_hop net i n) → AreAdded (with_links xs (links_to net i n)) a
     → ((ys : List Ext) → AreAdded ys a → AreAdded (ys ++ Fin x ∷ []) b)
     → AreAdded (with_links xs (links_to net i (n + 1))) b
 link_added net i n a b xs x h is before one =
@@ -79,21 +79,21 @@ sums_answer xs (Err e) s = s
 
 -- a path is short
 few_links : (net : Net) (i : ℕ) (xs : List Ext) → IsAccepted net → length xs ≤ 16
-    → length (with_links xs (links_along net i)) ≤ 2 ^ 20
+    → length (with_links xs (link_delays net i)) ≤ 2 ^ 20
 few_links net i xs accepted few =
     let hops_few = few_hops net i accepted in
-    let both = length-append xs (map Fin (links_along net i)) in
-    let links = length-map (links_along net i) Fin in
+    let both = length-append xs (map Fin (link_delays net i)) in
+    let links = length-map (link_delays net i) Fin in
     let servers = length-map (path net i) (link net) in
     omega (arith, hops_few, both, links, servers)
 
 pub path_answer : (net : Net) (at : CellTable) (i : ℕ) (r : Result Ext OpFault) → IsAccepted net
     → ((k : ℕ) → k < hops net i → IsNumberAt at (cell_of HopDelay i k))
-    → ((xs : List Ext) → length (with_links xs (links_along net i)) ≤ 2 ^ 20
-    → HaveNumbers at (hop_delays net i) xs → Sums (with_links xs (links_along net i)) r)
-    → Answers at (along (hop_delays net i) (links_along net i)) (answer_of number r)
+    → ((xs : List Ext) → length (with_links xs (link_delays net i)) ≤ 2 ^ 20
+    → HaveNumbers at (hop_delay_cells net i) xs → Sums (with_links xs (link_delays net i)) r)
+    → Answers at (along (hop_delay_cells net i) (link_delays net i)) (answer_of number r)
 path_answer net at i r accepted each sums =
-    let all = have_all at (hop_delays net i) here in
+    let all = have_all at (hop_delay_cells net i) here in
     let long = length-map-range_with_len (cell_of HopDelay i) 0 (hops net i) in
     let hops_few = few_hops net i accepted in
     let same = all.long in
@@ -101,10 +101,10 @@ path_answer net at i r accepted each sums =
     record {
       numbers = all.numbers;
       are = all.are;
-      answers = sums_answer (with_links all.numbers (links_along net i)) r (sums all.numbers short all.are);
+      answers = sums_answer (with_links all.numbers (link_delays net i)) r (sums all.numbers short all.are);
     }
   where
-    here : (c : Cell) → Has (hop_delays net i) c → IsNumberAt at c
+    here : (c : Cell) → Has (hop_delay_cells net i) c → IsNumberAt at c
     here c h =
         let found = map_has (cell_of HopDelay i) (range_with_len 0 (hops net i)) c h in
         let within = range_has 0 (hops net i) found.0 found.1 in
@@ -112,12 +112,12 @@ path_answer net at i r accepted each sums =
 
 pub delayed_answer : (net : Net) (at : CellTable) (F : Formula) (i : ℕ) (x : Ext) (r : Result Ext OpFault)
     → IsAccepted net → Answers at F (Ok (number x))
-    → (length (with_links (x ∷ []) (links_along net i)) ≤ 2 ^ 20
-    → Sums (with_links (x ∷ []) (links_along net i)) r)
-    → Answers at (delayed F (links_along net i)) (answer_of number r)
+    → (length (with_links (x ∷ []) (link_delays net i)) ≤ 2 ^ 20
+    → Sums (with_links (x ∷ []) (link_delays net i)) r)
+    → Answers at (delayed F (link_delays net i)) (answer_of number r)
 delayed_answer net at F i x r accepted a sums =
     goes_on (number x) a
-    (sums_answer (with_links (x ∷ []) (links_along net i)) r
+    (sums_answer (with_links (x ∷ []) (link_delays net i)) r
     (sums (few_links net i (x ∷ []) accepted (omega arith))))
 
 -- ---- the lesser of two

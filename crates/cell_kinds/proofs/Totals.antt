@@ -22,7 +22,7 @@ use Rattle.min_plus.proofs.TimeSums.{sum_more}
 use Rattle.upp_limits.proofs.Every.{every_left}
 use Rattle.upp_limits.proofs.CommonDen.{common_den_each, common_den_least, common_den_pos, size_up_within}
 use Rattle.upp_limits.proofs.Gathering.{den_more}
-use Rattle.net_cells.specs.NumberSums.{total, has_infinite, finite, sizes, sum_gauge, sum_tally, Sums}
+use Rattle.net_cells.specs.NumberSums.{sum_of_numbers, has_infinite, finite, sizes, sum_gauge, sum_tally, Sums}
 use Rattle.cell_kinds.specs.Tallies.{size_of, gauge_of, IsNarrow}
 use Rattle.min_plus.specs.Convolution.{sum_of}
 
@@ -166,12 +166,12 @@ den_fits xs x ys narrow =
     omega (arith, most, small, den_small, is)
 
 -- ---- numbers that may be infinite
-pub finite_total : (xs : List Ext) → has_infinite xs ≡ false → total xs ≡ Fin (sum_of (finite xs))
+pub finite_total : (xs : List Ext) → has_infinite xs ≡ false → sum_of_numbers xs ≡ Fin (sum_of (finite xs))
 finite_total [] e = refl
 finite_total (Inf ∷ xs) e = absurd (let bad : true ≡ false = e in cc)
 finite_total (Fin x ∷ xs) e = ap (λ y. Fin x +ₑ y) (finite_total xs e)
 
-infinite_total : (xs : List Ext) → has_infinite xs ≡ true → total xs ≡ Inf
+infinite_total : (xs : List Ext) → has_infinite xs ≡ true → sum_of_numbers xs ≡ Inf
 infinite_total [] e = absurd (let bad : false ≡ true = e in cc)
 infinite_total (Inf ∷ xs) e = refl
 infinite_total (Fin x ∷ xs) e = ap (λ y. Fin x +ₑ y) (infinite_total xs e)

@@ -4,7 +4,7 @@ ghost use Rattle.std.specs.Prelude.{◌≡◌, ◌<◌, ℕ, List};
 ghost use Rattle.net_cells.specs.declared.cell.Kind.TheVariants.{HopDelay};
 ghost use Rattle.net_cells.specs.Numbered as at;
 ghost use Rattle.net_cells.specs.Cells.{cell_of};
-ghost use Rattle.net_cells.specs.CellFormulas.{hop_delays, links_along};
+ghost use Rattle.net_cells.specs.CellFormulas.{hop_delay_cells, link_delays};
 ghost use Rattle.net_cells.specs.Means.{HaveNumbers, with_links};
 ghost use Rattle.rational.specs.Extended.{Ext};
 ghost use Rattle.cell_operators.specs.TableValues.{IsNumberAt};
@@ -13,7 +13,7 @@ ghost use Rattle.cell_kinds.specs.Tallies.{AreAdded};
 use crate::number_sums::{Added, and, no_number};
 use cell_operators::number_at;
 use cell_table::{Table, Value};
-use net_cells::{Cell, Kind, hops, server_at};
+use net_cells::{Cell, Kind, hops, server_of_hop};
 use net_model::Network;
 use queue_hops::link;
 use rational::Extended;
@@ -22,7 +22,7 @@ use rational::Extended;
 pub(crate) fn delays<T: Table<Value>>(table: &T, net: &Network, flow: u32) -> Added
     requires { (k : ℕ) → k < at.hops net.now flow → IsNumberAt (T.at table.now) (cell_of HopDelay flow k) }
     ensures { (xs : List Ext)
-        → HaveNumbers (T.at table.now) (hop_delays net.now flow) xs → AreAdded xs result }
+        → HaveNumbers (T.at table.now) (hop_delay_cells net.now flow) xs → AreAdded xs result }
 {
     let mut all = no_number();
     let count = hops(net, flow);
@@ -39,11 +39,11 @@ pub(crate) fn delays<T: Table<Value>>(table: &T, net: &Network, flow: u32) -> Ad
 
 /// Numbers and then the links along a flow's path, added up.
 pub(crate) fn with_path(numbers: Added, net: &Network, flow: u32) -> Added
-    ensures { (xs : List Ext) → AreAdded xs numbers → AreAdded (with_links xs (links_along net.now flow)) result }
+    ensures { (xs : List Ext) → AreAdded xs numbers → AreAdded (with_links xs (link_delays net.now flow)) result }
 {
     let mut all = numbers;
     for hop in 0..hops(net, flow) {
-        let number = server_at(net, flow, hop);
+        let number = server_of_hop(net, flow, hop);
         all = and(all, Extended::Fin(link(net, number)));
     }
     all

@@ -9,7 +9,7 @@ ghost use Rattle.cell_table.specs.Values.{answer_of, meaning_of};
 
 use cell_table::Value;
 use fraction128::Ext;
-use net_cells::{queue_at, server_at};
+use net_cells::{queue_of_hop, server_of_hop};
 use net_model::Network;
 use upp_limits::OpFault;
 
@@ -28,10 +28,10 @@ pub(crate) use cell;
 
 /// The server and the queue of a hop.
 pub fn place_of(net: &Network, flow: u32, hop: u32) -> (u32, u32)
-    ensures server { result.0 ≡ at.server_at net.now flow hop }
-    ensures queue { result.1 ≡ at.queue_at net.now flow hop }
+    ensures server { result.0 ≡ at.server_of_hop net.now flow hop }
+    ensures queue { result.1 ≡ at.queue_of_hop net.now flow hop }
 {
-    (server_at(net, flow, hop), queue_at(net, flow, hop))
+    (server_of_hop(net, flow, hop), queue_of_hop(net, flow, hop))
 }
 
 /// A number as a value, or the same refusal.

@@ -3,7 +3,7 @@
 ghost use Rattle.std.specs.Prelude.{ℕ, ◌-◌, List, [], length, Result, IfOk};
 ghost use Rattle.upp_limits.specs.declared.op_kind.OpFault.{OpFault};
 ghost use Rattle.net_cells.specs.declared.cell.Cell.{Cell};
-ghost use Rattle.net_cells.specs.CellFormulas.{sum_of};
+ghost use Rattle.net_cells.specs.CellFormulas.{sum_of_cells};
 ghost use Rattle.cell_table.specs.Gives.{Gives};
 ghost use Rattle.cell_table.specs.Values.{answer_of, meaning_of};
 ghost use Rattle.cell_operators.specs.Partial.{Adds, IsReady};
@@ -22,7 +22,7 @@ pub(crate) fn summed<T: Table<Value>>(
 ) -> Result<Value, OpFault>
     requires { IfOk made (IsReady (T.at table.now)) }
     ensures answer { (cells : List Cell) (old new : ℕ) → Adds (T.at table.now) [] cells old new made →
-        Gives (T.at table.now) (sum_of cells) (answer_of meaning_of result) }
+        Gives (T.at table.now) (sum_of_cells cells) (answer_of meaning_of result) }
     ensures counts { (cells : List Cell) (old new : ℕ) → Adds (T.at table.now) [] cells old new made →
         Counts (length cells - 1) old new (answer_of meaning_of result) }
 {

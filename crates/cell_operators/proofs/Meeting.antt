@@ -11,7 +11,7 @@ use Rattle.net_cells.specs.declared.cell.Kind.TheVariants.{Residual}
 use Rattle.net_cells.specs.Cells.{cell_of}
 use Rattle.net_cells.specs.Meanings.{Meaning, curve, number, CellTable, IsCurveIn, IsNumberIn}
 use Rattle.net_cells.specs.Formulas.{Formula, leaves, made, value_of}
-use Rattle.net_cells.specs.CellFormulas.{formula, sum_of, sum_from, packets_to, served_to}
+use Rattle.net_cells.specs.CellFormulas.{formula, sum_of_cells, sum_from, packets_to, served_to}
 use Rattle.net_cells.specs.Equations.{MeetsEquation, MeetsBelow}
 use Rattle.cell_operators.specs.TableValues.{HasCurve, HasNumber}
 use Rattle.run_laws.proofs.Members.{Has, has_contains, has_left, has_right}
@@ -76,7 +76,7 @@ sum_later F (c ∷ cs) d (inl e) =
     sum_first (made Sum F (value_of c)) cs d (has_right (leaves F) (c ∷ []) d (inl e))
 sum_later F (c ∷ cs) d (inr h) = sum_later (made Sum F (value_of c)) cs d h
 
-pub sum_leaf : (cs : List Cell) (d : Cell) → Has cs d → Has (leaves (sum_of cs)) d
+pub sum_leaf : (cs : List Cell) (d : Cell) → Has cs d → Has (leaves (sum_of_cells cs)) d
 sum_leaf [] d h = absurd h
 sum_leaf (c ∷ cs) d (inl e) = sum_first (value_of c) cs d (inl e)
 sum_leaf (c ∷ cs) d (inr h) = sum_later (value_of c) cs d h

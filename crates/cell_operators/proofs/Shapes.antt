@@ -28,13 +28,13 @@ use Rattle.net_model.specs.Accepted.{IsAccepted, IsServer, IsLength, HasFewQueue
 use Rattle.net_model.proofs.KindsStand.{kinds_may_stand}
 use Rattle.net_cells.specs.declared.cell.Cell.{Cell}
 use Rattle.net_cells.specs.declared.cell.Kind.TheVariants.{In, Cross, Total, Higher, QueueService, Theta, Residual, QueueDelay, HopDelay, ShiftOut, DeconvOut, Out, PathService}
-use Rattle.net_cells.specs.Numbered.{flow_at, arrival, arrival_of, hops, server_at, queue_at, queues, service, service_of, discipline, discipline_of, packet}
+use Rattle.net_cells.specs.Numbered.{flow_at, arrival, arrival_of, hops, server_of_hop, queue_of_hop, queues, service, service_of, discipline, discipline_of, packet}
 use Rattle.net_cells.specs.Visits.{visits_in, others, longest}
 use Rattle.net_cells.specs.Cells.{cell_of}
 use Rattle.net_cells.specs.Order.{at_visit}
 use Rattle.net_cells.specs.Meanings.{Meaning, curve, number, CellTable, IsCurveIn, IsNumberIn}
 use Rattle.net_cells.specs.Formulas.{Formula, leaves, made, value_of, horizontal}
-use Rattle.net_cells.specs.CellFormulas.{formula, sum_of, sum_from, queue_service, packets_to, served_to, less, service_at, value}
+use Rattle.net_cells.specs.CellFormulas.{formula, sum_of_cells, sum_from, queue_service, packets_to, served_to, less, service_at, value}
 use Rattle.net_cells.specs.Means.{Means}
 use Rattle.net_cells.proofs.Lists.{map_has}
 use Rattle.net_cells.proofs.Members.{hop_kept}
@@ -66,9 +66,9 @@ module _ (net : Net) (at : CellTable) (P : Cell → Type 0) (meets : Meets net a
   pub hop_delay_ahead : (i k : ℕ) → P (cell_of HopDelay i k) → HasNumber at (cell_of HopDelay i k) Ahead
   hop_delay_ahead i k p =
       let e = meets.meet (cell_of HopDelay i k) p in
-      let queue = cell_of QueueDelay (server_at net i k) (queue_at net i k) in
+      let queue = cell_of QueueDelay (server_of_hop net i k) (queue_of_hop net i k) in
       let first = number_holds at queue Ahead e.means.operand
-      (queue_delay_ahead (server_at net i k) (queue_at net i k) (meets.closed (cell_of HopDelay i k) queue p (inl refl))) e.means.is in
+      (queue_delay_ahead (server_of_hop net i k) (queue_of_hop net i k) (meets.closed (cell_of HopDelay i k) queue p (inl refl))) e.means.is in
       let own = deviation_ahead at (value In i k) (value Residual i k) (number e.means.gives.operand) e.means.gives.is in
       record {
         value = min_ext e.means.operand e.means.gives.operand;
@@ -156,7 +156,7 @@ sum_from_rises at F (c ∷ cs) v first each m =
         (curve_holds at c Rises n.gives.operand (each c (inl refl)) n.gives.is) h.2)
 
 sum_of_rises : (at : CellTable) (cs : List Cell) (v : Meaning) → ((c : Cell) → Has cs c → HasCurve at c Rises)
-    → Means at (sum_of cs) v → IsCurveIn Rises v
+    → Means at (sum_of_cells cs) v → IsCurveIn Rises v
 sum_of_rises at [] v each m =
     subst (IsCurveIn Rises) (sym m) (kinds_may_stand.bucket zero_q zero_q (le_refl zero_q) (le_refl zero_q)).rising
 sum_of_rises at (c ∷ cs) v each m = sum_from_rises at (value_of c) cs v first (λ d h. each d (inr h)) m
@@ -170,7 +170,7 @@ sum_of_rises at (c ∷ cs) v each m = sum_from_rises at (value_of c) cs v first 
 
 module _ (net : Net) (at : CellTable) (P : Cell → Type 0) (meets : Meets net at P) (a : IsAccepted net) where
   -- a cell that is a sum of cells which rise
-  sum_cell : (c : Cell) (cs : List Cell) → formula net c ≡ sum_of cs → P c → ((d : Cell) → Has cs d → P d → HasCurve at d Rises) → HasCurve at c Rises
+  sum_cell : (c : Cell) (cs : List Cell) → formula net c ≡ sum_of_cells cs → P c → ((d : Cell) → Has cs d → P d → HasCurve at d Rises) → HasCurve at c Rises
   sum_cell c cs is p each =
       let e = meets.meet c p in
       has_curve at c Rises e.value e.is
@@ -180,9 +180,9 @@ module _ (net : Net) (at : CellTable) (P : Cell → Type 0) (meets : Meets net a
 
   pub cross_rises : (i k : ℕ) → P (cell_of Cross i k) → HasCurve at (cell_of Cross i k) Rises
   cross_rises i k p =
-      sum_cell (cell_of Cross i k) (map (at_visit In) (others net i (server_at net i k) (queue_at net i k))) refl p
+      sum_cell (cell_of Cross i k) (map (at_visit In) (others net i (server_of_hop net i k) (queue_of_hop net i k))) refl p
       (λ d h q.
-      let v = map_has (at_visit In) (others net i (server_at net i k) (queue_at net i k)) d h in
+      let v = map_has (at_visit In) (others net i (server_of_hop net i k) (queue_of_hop net i k)) d h in
       subst (λ (x : Cell). HasCurve at x Rises) v.2 (in_rises net at P meets a v.0.hop v.0.flow (subst P (sym v.2) q)))
 
   pub total_rises : (s q : ℕ) → P (cell_of Total s q) → HasCurve at (cell_of Total s q) Rises
@@ -256,21 +256,21 @@ module _ (net : Net) (at : CellTable) (P : Cell → Type 0) (meets : Meets net a
       has_curve at (cell_of QueueService s q) Serving e.value e.is
       (queue_served_by s q (discipline net s) e.value (server_there net s q a h) refl h p e.means)
 
-  queue_exists : (i k : ℕ) → k < hops net i → queue_at net i k < queues net (server_at net i k)
+  queue_exists : (i k : ℕ) → k < hops net i → queue_of_hop net i k < queues net (server_of_hop net i k)
   queue_exists i k h =
       let hop = hop_kept net i k a h in
-      subst (λ (o : Option NetServer). queue_at net i k < queue_count (discipline_of o)) (sym hop.is) hop.has_queue
+      subst (λ (o : Option NetServer). queue_of_hop net i k < queue_count (discipline_of o)) (sym hop.is) hop.has_queue
 
   -- the service of a hop's queue
-  pub hop_served : (i k : ℕ) → k < hops net i → P (cell_of QueueService (server_at net i k) (queue_at net i k))
-      → HasCurve at (cell_of QueueService (server_at net i k) (queue_at net i k)) Serving
-  hop_served i k h p = queue_served (server_at net i k) (queue_at net i k) (queue_exists i k h) p
+  pub hop_served : (i k : ℕ) → k < hops net i → P (cell_of QueueService (server_of_hop net i k) (queue_of_hop net i k))
+      → HasCurve at (cell_of QueueService (server_of_hop net i k) (queue_of_hop net i k)) Serving
+  hop_served i k h p = queue_served (server_of_hop net i k) (queue_of_hop net i k) (queue_exists i k h) p
 
   -- ---- services of flows
   pub residual_grows : (i k : ℕ) → k < hops net i → P (cell_of Residual i k) → HasCurve at (cell_of Residual i k) Grows
   residual_grows i k h p =
       let e = meets.meet (cell_of Residual i k) p in
-      let queue = cell_of QueueService (server_at net i k) (queue_at net i k) in
+      let queue = cell_of QueueService (server_of_hop net i k) (queue_of_hop net i k) in
       let β = e.means.operand in
       let cross = e.means.gives.operand in
       let x = e.means.gives.gives.operand in

@@ -11,7 +11,7 @@ use Rattle.net_cells.specs.Meanings.{curve, CellTable}
 use Rattle.curve_call.specs.Again.{IsAgain}
 use Rattle.net_cells.specs.Numbered.{zero_curve}
 use Rattle.net_cells.specs.Formulas.{Formula, value_of, given, empty_sum, made, made_of, moved, leftover, priority, deficit, horizontal, vertical, smaller, along, delayed}
-use Rattle.net_cells.specs.CellFormulas.{sum_of, sum_from}
+use Rattle.net_cells.specs.CellFormulas.{sum_of_cells, sum_from}
 use Rattle.net_cells.specs.Answers.{Answer, Answers, MakesCurve}
 use Rattle.cell_table.specs.Gives.{Gives}
 use Rattle.cell_operators.specs.declared.sums.Partial.{Partial}
@@ -24,7 +24,7 @@ from_join : (F : Formula) (xs ys : List Cell) → sum_from F (xs ++ ys) ≡ sum_
 from_join F [] ys = refl
 from_join F (x ∷ xs) ys = from_join (made Sum F (value_of x)) xs ys
 
-sum_more : (x : Cell) (xs : List Cell) (y : Cell) → sum_of ((x ∷ xs) ++ y ∷ []) ≡ made Sum (sum_of (x ∷ xs)) (value_of y)
+sum_more : (x : Cell) (xs : List Cell) (y : Cell) → sum_of_cells ((x ∷ xs) ++ y ∷ []) ≡ made Sum (sum_of_cells (x ∷ xs)) (value_of y)
 sum_more x xs y = from_join (value_of x) xs (y ∷ [])
 
 -- a sum that is refused is refused whatever comes after
@@ -33,7 +33,7 @@ left_over : (at : CellTable) (F : Formula) (rest : List Cell) (fault : OpFault) 
 left_over at F [] fault a = a
 left_over at F (c ∷ cs) fault a = left_over at (made Sum F (value_of c)) cs fault (stops fault a refl)
 
-pub fails : (at : CellTable) (cells : List Cell) (fault : OpFault) → 1 ≤ length cells → Answers at (sum_of cells) (Err fault) → Fails at cells fault
+pub fails : (at : CellTable) (cells : List Cell) (fault : OpFault) → 1 ≤ length cells → Answers at (sum_of_cells cells) (Err fault) → Fails at cells fault
 fails at [] fault some a rest = absurd (omega (arith, some))
 fails at (x ∷ xs) fault some a rest =
     subst (λ (F : Formula). Answers at F (Err fault)) (sym (from_join (value_of x) xs rest))
@@ -41,13 +41,13 @@ fails at (x ∷ xs) fault some a rest =
 
 pub fails_more : (at : CellTable) (cells more : List Cell) (fault : OpFault) → Fails at cells fault → Fails at (cells ++ more) fault
 fails_more at cells more fault f rest =
-    subst (λ (cs : List Cell). Answers at (sum_of cs) (Err fault)) (sym (append_assoc cells more rest)) (f (more ++ rest))
+    subst (λ (cs : List Cell). Answers at (sum_of_cells cs) (Err fault)) (sym (append_assoc cells more rest)) (f (more ++ rest))
 
 -- ---- a cell more
 step : (at : CellTable) (cells : List Cell) (f g : SpecCurve) (cell : Cell) (r : Answer) → IsSummed at cells f → at cell ≡ Some (curve g)
-    → ((F : Formula) → Answers at F (Ok (curve f)) → Answers at (made Sum F (value_of cell)) r) → Answers at (sum_of (cells ++ cell ∷ [])) r
+    → ((F : Formula) → Answers at F (Ok (curve f)) → Answers at (made Sum F (value_of cell)) r) → Answers at (sum_of_cells (cells ++ cell ∷ [])) r
 step at [] f g cell r s is to = let some = s.some in absurd (omega (arith, some))
-step at (x ∷ xs) f g cell r s is to = subst (λ (F : Formula). Answers at F r) (sym (sum_more x xs cell)) (to (sum_of (x ∷ xs)) s.answers)
+step at (x ∷ xs) f g cell r s is to = subst (λ (F : Formula). Answers at F r) (sym (sum_more x xs cell)) (to (sum_of_cells (x ∷ xs)) s.answers)
 
 longer : (cells : List Cell) (cell : Cell) → length (cells ++ cell ∷ []) ≡ length cells + 1
 longer cells cell = length-append cells (cell ∷ [])
@@ -126,21 +126,21 @@ made_gives : (at : CellTable) (F G : Formula) (rest : List Cell) (r : Answer) �
 made_gives at F G [] r a = a
 made_gives at F G (c ∷ cs) r a = made_gives at (made Sum F G) (value_of c) cs r a
 
-sum_gives : (at : CellTable) (cells : List Cell) (r : Answer) → 2 ≤ length cells → Answers at (sum_of cells) r → Gives at (sum_of cells) r
+sum_gives : (at : CellTable) (cells : List Cell) (r : Answer) → 2 ≤ length cells → Answers at (sum_of_cells cells) r → Gives at (sum_of_cells cells) r
 sum_gives at [] r h a = absurd (omega (arith, h))
 sum_gives at (x ∷ []) r h a = absurd (omega (arith, h))
 sum_gives at (x ∷ y ∷ cells) r h a = made_gives at (value_of x) (value_of y) cells r a
 
-pub none_given : (at : CellTable) (cells : List Cell) (r : Answer) → cells ≡ [] → MakesCurve (IsAgain zero_curve) r → Gives at (sum_of cells) r
-none_given at cells r e a = subst (λ (cs : List Cell). Gives at (sum_of cs) r) (sym e) a
+pub none_given : (at : CellTable) (cells : List Cell) (r : Answer) → cells ≡ [] → MakesCurve (IsAgain zero_curve) r → Gives at (sum_of_cells cells) r
+none_given at cells r e a = subst (λ (cs : List Cell). Gives at (sum_of_cells cs) r) (sym e) a
 
-pub one_given : (at : CellTable) (cells : List Cell) (c : Cell) (r : Answer) → cells ≡ c ∷ [] → Gives at (value_of c) r → Gives at (sum_of cells) r
-one_given at cells c r e a = subst (λ (cs : List Cell). Gives at (sum_of cs) r) (sym e) a
+pub one_given : (at : CellTable) (cells : List Cell) (c : Cell) (r : Answer) → cells ≡ c ∷ [] → Gives at (value_of c) r → Gives at (sum_of_cells cells) r
+one_given at cells c r e a = subst (λ (cs : List Cell). Gives at (sum_of_cells cs) r) (sym e) a
 
-pub made_given : (at : CellTable) (cells : List Cell) (f : SpecCurve) (r : Answer) → IsSumOf at cells f → IsShared (Ok f) r → Gives at (sum_of cells) r
-made_given at cells f (Ok v) s e = sum_gives at cells (Ok v) s.some (subst (λ w. Answers at (sum_of cells) (Ok w)) (sym e) s.answers)
+pub made_given : (at : CellTable) (cells : List Cell) (f : SpecCurve) (r : Answer) → IsSumOf at cells f → IsShared (Ok f) r → Gives at (sum_of_cells cells) r
+made_given at cells f (Ok v) s e = sum_gives at cells (Ok v) s.some (subst (λ w. Answers at (sum_of_cells cells) (Ok w)) (sym e) s.answers)
 made_given at cells f (Err fault) s e =
-    sum_gives at cells (Err fault) s.some (subst (λ d. Answers at (sum_of cells) (Err d)) (sym e) s.lacks)
+    sum_gives at cells (Err fault) s.some (subst (λ d. Answers at (sum_of_cells cells) (Err d)) (sym e) s.lacks)
 
 err_gives : (at : CellTable) (F : Formula) (fault : OpFault) → Answers at F (Err fault) → Gives at F (Err fault)
 err_gives at (value_of c) fault a = absurd a
@@ -158,6 +158,6 @@ err_gives at (smaller F G) fault a = a
 err_gives at (along cells links) fault a = a
 err_gives at (delayed F links) fault a = a
 
-pub failed_given : (at : CellTable) (cells : List Cell) (fault : OpFault) → Fails at cells fault → Gives at (sum_of cells) (Err fault)
+pub failed_given : (at : CellTable) (cells : List Cell) (fault : OpFault) → Fails at cells fault → Gives at (sum_of_cells cells) (Err fault)
 failed_given at cells fault f =
-    err_gives at (sum_of cells) fault (subst (λ (cs : List Cell). Answers at (sum_of cs) (Err fault)) (append-nil cells) (f []))
+    err_gives at (sum_of_cells cells) fault (subst (λ (cs : List Cell). Answers at (sum_of_cells cs) (Err fault)) (append-nil cells) (f []))

@@ -5,7 +5,7 @@ use Rattle.upp_limits.specs.declared.op_kind.OpFault.TheVariants.{NoMemory}
 use Rattle.upp_curve.specs.Curve.{SpecCurve}
 use Rattle.net_cells.specs.declared.cell.Cell.{Cell}
 use Rattle.net_cells.specs.Meanings.{curve, CellTable}
-use Rattle.net_cells.specs.CellFormulas.{sum_of}
+use Rattle.net_cells.specs.CellFormulas.{sum_of_cells}
 use Rattle.net_cells.specs.Answers.{Answers}
 use Rattle.cell_operators.specs.declared.sums.Partial.{Partial}
 use Rattle.cell_operators.specs.declared.sums.Partial.TheVariants.{Nothing, One, Made}
@@ -14,8 +14,8 @@ use Rattle.cell_operators.specs.TableValues.{IsCurveAt}
 -- f is the sum of two cells or more; to hand it on there might be no memory
 pub record IsSumOf (at : CellTable) (cells : List Cell) (f : SpecCurve) : Type 0 where
   pub some : 2 ≤ length cells
-  pub answers : Answers at (sum_of cells) (Ok (curve f))
-  pub lacks : Answers at (sum_of cells) (Err NoMemory)
+  pub answers : Answers at (sum_of_cells cells) (Ok (curve f))
+  pub lacks : Answers at (sum_of_cells cells) (Err NoMemory)
 
 -- the sum of these cells: nothing of none, the cell itself of one
 abbrev pub IsPartial : CellTable → List Cell → Partial → Type 0
@@ -31,7 +31,7 @@ IsReady at (Made f) = Unit {0}
 
 -- whatever cells come after these, the sum is refused
 abbrev pub Fails : CellTable → List Cell → OpFault → Type 0
-Fails at cells fault = (rest : List Cell) → Answers at (sum_of (cells ++ rest)) (Err fault)
+Fails at cells fault = (rest : List Cell) → Answers at (sum_of_cells (cells ++ rest)) (Err fault)
 
 -- more cells added to the sum of some: each takes one operator but for the first of all; a refusal may come sooner
 abbrev pub Adds : CellTable → (cells more : List Cell) → (old new : ℕ) → Result Partial OpFault → Type 0
@@ -43,4 +43,4 @@ Adds at cells more old new (Err fault) =
 -- f is the sum of these cells, which are not none
 pub record IsSummed (at : CellTable) (cells : List Cell) (f : SpecCurve) : Type 0 where
   pub some : 1 ≤ length cells
-  pub answers : Answers at (sum_of cells) (Ok (curve f))
+  pub answers : Answers at (sum_of_cells cells) (Ok (curve f))

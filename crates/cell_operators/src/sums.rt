@@ -8,7 +8,7 @@ ghost use Rattle.net_cells.specs.declared.cell.Kind.TheVariants.{In, Total};
 ghost use Rattle.net_cells.specs.Numbered.{zero_curve};
 ghost use Rattle.net_cells.specs.Cells.{cell_of};
 ghost use Rattle.net_cells.specs.Order.{at_visit};
-ghost use Rattle.net_cells.specs.CellFormulas.{sum_of};
+ghost use Rattle.net_cells.specs.CellFormulas.{sum_of_cells};
 ghost use Rattle.cell_table.specs.Gives.{Gives};
 ghost use Rattle.cell_table.specs.Values.{answer_of, meaning_of};
 ghost use Rattle.queue_hops.specs.Chosen.{chosen, all_chosen, visit_list};
@@ -94,7 +94,7 @@ pub fn added<T: Table<Value>, L: Ledger>(
 pub fn finished<T: Table<Value>>(alloc: Global, table: &T, whole: Partial) -> Result<Value, OpFault>
     requires ready { IsReady (T.at table.now) whole }
     ensures { (cells : List Cell) → IsPartial (T.at table.now) cells whole →
-        Gives (T.at table.now) (sum_of cells) (answer_of meaning_of result) }
+        Gives (T.at table.now) (sum_of_cells cells) (answer_of meaning_of result) }
 {
     match whole {
         Partial::Nothing => shared(alloc, nothing(alloc)),

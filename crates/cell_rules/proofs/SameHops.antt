@@ -7,12 +7,12 @@ use Rattle.std.proofs.lemmas.List.{get_or_past}
 use Rattle.net_model.specs.Networks.{Net, NetFlow}
 use Rattle.net_cells.specs.declared.cell.Cell.{Cell}
 use Rattle.net_cells.specs.declared.cell.Kind.TheVariants.{In, Cross, Total}
-use Rattle.net_cells.specs.Numbered.{flow_at, path_of, server_at, queue_at}
+use Rattle.net_cells.specs.Numbered.{flow_at, path_of, server_of_hop, queue_of_hop}
 use Rattle.net_cells.specs.declared.visit.Visit.{Visit}
 use Rattle.net_cells.specs.Visits.{visit, visits_in, others, is_at, longest, longest_after, longest_of}
 use Rattle.net_cells.specs.Order.{at_visit}
 use Rattle.net_cells.specs.Formulas.{leaves}
-use Rattle.net_cells.specs.CellFormulas.{sum_of}
+use Rattle.net_cells.specs.CellFormulas.{sum_of_cells}
 use Rattle.net_cells.proofs.Growing.{flat_more}
 use Rattle.net_cells.proofs.LeavesOf.{sum_leaves}
 use Rattle.net_cells.proofs.Lists.{Has, map_has, filter_has, has_flat, flat_has, has_range}
@@ -128,24 +128,24 @@ same_visits (x ∷ xs) (y ∷ ys) e =
     ap₂ (λ z zs. z ∷ zs) first (same_visits xs ys rest)
 
 pub tells_sum : (xs ys : List Visit) (b : Bool) → TellsSame xs ys b
-    → TellsSame (sum_of (map (at_visit In) xs)) (sum_of (map (at_visit In) ys)) b
+    → TellsSame (sum_of_cells (map (at_visit In) xs)) (sum_of_cells (map (at_visit In) ys)) b
 tells_sum xs ys b t =
-    tells_by xs ys (sum_of (map (at_visit In) xs)) (sum_of (map (at_visit In) ys)) b
-    (ap (λ vs. sum_of (map (at_visit In) vs)))
+    tells_by xs ys (sum_of_cells (map (at_visit In) xs)) (sum_of_cells (map (at_visit In) ys)) b
+    (ap (λ vs. sum_of_cells (map (at_visit In) vs)))
     (λ e. same_visits xs ys
     (sym (sum_leaves (map (at_visit In) xs)) ∙ ap leaves e ∙ sum_leaves (map (at_visit In) ys))) t
 
 -- of the other flows at a hop, and of all flows of a queue
-pub cross_tells : (old new : Net) (i k s q t p : ℕ) (b : Bool) → s ≡ server_at old i k → q ≡ queue_at old i k
-    → t ≡ server_at new i k → p ≡ queue_at new i k
+pub cross_tells : (old new : Net) (i k s q t p : ℕ) (b : Bool) → s ≡ server_of_hop old i k → q ≡ queue_of_hop old i k
+    → t ≡ server_of_hop new i k → p ≡ queue_of_hop new i k
     → TellsSame (all_chosen old s (InQueue q) (Some i) (length old.flows))
     (all_chosen new t (InQueue p) (Some i) (length new.flows)) b
     → TellsFormula old new Cross i k b
 cross_tells old new i k s q t p b es eq et ep tells =
-    tells_sum (others old i (server_at old i k) (queue_at old i k)) (others new i (server_at new i k) (queue_at new i k)) b
+    tells_sum (others old i (server_of_hop old i k) (queue_of_hop old i k)) (others new i (server_of_hop new i k) (queue_of_hop new i k)) b
     (tells_of (all_chosen old s (InQueue q) (Some i) (length old.flows))
     (all_chosen new t (InQueue p) (Some i) (length new.flows))
-    (others old i (server_at old i k) (queue_at old i k)) (others new i (server_at new i k) (queue_at new i k)) b
+    (others old i (server_of_hop old i k) (queue_of_hop old i k)) (others new i (server_of_hop new i k) (queue_of_hop new i k)) b
     (sym (other_visits old i s q) ∙ ap₂ (others old i) es eq) (sym (other_visits new i t p) ∙ ap₂ (others new i) et ep)
     tells)
 

@@ -13,11 +13,11 @@ use Rattle.net_model.specs.Networks.{Net}
 use Rattle.net_cells.specs.declared.cell.Cell.{Cell}
 use Rattle.net_cells.specs.declared.cell.Kind.{Kind}
 use Rattle.net_cells.specs.declared.cell.Kind.TheVariants.{In, Cross, Total, QueueService, Theta, Residual, QueueDelay, QueueBacklog, HopDelay, DeconvOut, PathService, Tfa, Sfa}
-use Rattle.net_cells.specs.Numbered.{path, packet, arrival, hops, server_at, link}
+use Rattle.net_cells.specs.Numbered.{path, packet, arrival, hops, server_of_hop, link}
 use Rattle.net_cells.specs.Visits.{longest}
 use Rattle.net_cells.specs.Cells.{cell_of}
 use Rattle.net_cells.specs.Formulas.{Formula, leaves, value_of, given, made, made_of, leftover, horizontal, vertical, smaller, along, delayed}
-use Rattle.net_cells.specs.CellFormulas.{formula, formula_of, value, less, packets_to, served_to, links_along, hop_delays}
+use Rattle.net_cells.specs.CellFormulas.{formula, formula_of, value, less, packets_to, served_to, link_delays, hop_delay_cells}
 use Rattle.net_cells.proofs.LeavesOf.{served_leaves}
 use Rattle.cell_rules.specs.Rules.{TellsSame, TellsFormula, hop_queue}
 use Rattle.cell_rules.proofs.Tells.{tells_by}
@@ -148,58 +148,58 @@ path_tells old new i k b here there some t =
     (λ e. served_out old new i k some (sym (ap (served_to old i) here) ∙ e ∙ ap (served_to new i) there)) t
 
 -- ---- links
-links_count : (net : Net) (i : ℕ) → length (links_along net i) ≡ hops net i
+links_count : (net : Net) (i : ℕ) → length (link_delays net i) ≡ hops net i
 links_count net i = length-map (path net i) (link net)
 
-link_at : (net : Net) (i k : ℕ) (d : ℚ) → k < hops net i → get_or (links_along net i) k d ≡ link net (server_at net i k)
+link_at : (net : Net) (i k : ℕ) (d : ℚ) → k < hops net i → get_or (link_delays net i) k d ≡ link net (server_of_hop net i k)
 link_at net i k d h = get_or-map (link net) (path net i) k 0 d h
 
 pub same_links : (old new : Net) (i : ℕ) → hops old i ≡ hops new i
-    → ((k : ℕ) → k < hops old i → link old (server_at old i k) ≡ link new (server_at new i k))
-    → links_along old i ≡ links_along new i
+    → ((k : ℕ) → k < hops old i → link old (server_of_hop old i k) ≡ link new (server_of_hop new i k))
+    → link_delays old i ≡ link_delays new i
 same_links old new i many each =
     let here = links_count old i in
     let there = links_count new i in
-    same_lists (links_along old i) (links_along new i) (omega (arith, here, there, many))
+    same_lists (link_delays old i) (link_delays new i) (omega (arith, here, there, many))
     (λ k d h.
     let low : k < hops old i = omega (arith, h, here) in
     let high : k < hops new i = omega (arith, h, here, many) in
     link_at old i k d low ∙ each k low ∙ sym (link_at new i k d high))
 
-pub fewer_links : (old new : Net) (i : ℕ) → hops old i ≢ hops new i → links_along old i ≢ links_along new i
+pub fewer_links : (old new : Net) (i : ℕ) → hops old i ≢ hops new i → link_delays old i ≢ link_delays new i
 fewer_links old new i n e =
     let here = links_count old i in
     let there = links_count new i in
     n (omega (arith, here, there, ap length e))
 
 pub other_link : (old new : Net) (i k : ℕ) → k < hops old i → hops old i ≡ hops new i
-    → link old (server_at old i k) ≢ link new (server_at new i k) → links_along old i ≢ links_along new i
+    → link old (server_of_hop old i k) ≢ link new (server_of_hop new i k) → link_delays old i ≢ link_delays new i
 other_link old new i k h many n e =
     let high : k < hops new i = omega (arith, h, many) in
     n (sym (link_at old i k zero_q h) ∙ ap (λ (ls : List ℚ). get_or ls k zero_q) e ∙ link_at new i k zero_q high)
 
-same_hops : (old new : Net) (i : ℕ) → links_along old i ≡ links_along new i → hops old i ≡ hops new i
+same_hops : (old new : Net) (i : ℕ) → link_delays old i ≡ link_delays new i → hops old i ≡ hops new i
 same_hops old new i e =
     let here = links_count old i in
     let there = links_count new i in
     omega (arith, here, there, ap length e)
 
-pub tfa_tells : (old new : Net) (i : ℕ) (b : Bool) → TellsSame (links_along old i) (links_along new i) b
+pub tfa_tells : (old new : Net) (i : ℕ) (b : Bool) → TellsSame (link_delays old i) (link_delays new i) b
     → TellsFormula old new Tfa i 0 b
 tfa_tells old new i b t =
-    tells_by (links_along old i) (links_along new i) (formula_of old Tfa i 0) (formula_of new Tfa i 0) b
+    tells_by (link_delays old i) (link_delays new i) (formula_of old Tfa i 0) (formula_of new Tfa i 0) b
     (λ e. ap₂ along (ap (λ n. map (cell_of HopDelay i) (range_with_len 0 n)) (same_hops old new i e)) e)
-    (λ e. second (hop_delays old i) (hop_delays new i) _ _ e) t
+    (λ e. second (hop_delay_cells old i) (hop_delay_cells new i) _ _ e) t
   where
     second : (cs ds : List Cell) (xs ys : List ℚ) → along cs xs ≡ along ds ys → xs ≡ ys
     second cs ds xs ys e = cc
 
-pub sfa_tells : (old new : Net) (i : ℕ) (b : Bool) → TellsSame (links_along old i) (links_along new i) b
+pub sfa_tells : (old new : Net) (i : ℕ) (b : Bool) → TellsSame (link_delays old i) (link_delays new i) b
     → TellsFormula old new Sfa i 0 b
 sfa_tells old new i b t =
-    tells_by (links_along old i) (links_along new i) (formula_of old Sfa i 0) (formula_of new Sfa i 0) b
+    tells_by (link_delays old i) (link_delays new i) (formula_of old Sfa i 0) (formula_of new Sfa i 0) b
     (ap (delayed (horizontal (value In i 0) (value PathService i 0))))
-    (λ e. second _ _ (links_along old i) (links_along new i) e) t
+    (λ e. second _ _ (link_delays old i) (link_delays new i) e) t
   where
     second : (F G : Formula) (xs ys : List ℚ) → delayed F xs ≡ delayed G ys → xs ≡ ys
     second F G xs ys e = cc

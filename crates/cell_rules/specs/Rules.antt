@@ -3,7 +3,7 @@ use Rattle.std.specs.Prelude.{◌≡◌, ◌≢◌, ℕ, Bool, true, false}
 use Rattle.net_model.specs.Networks.{Net}
 use Rattle.net_cells.specs.declared.cell.Kind.{Kind}
 use Rattle.net_cells.specs.CellFormulas.{formula_of}
-use Rattle.net_cells.specs.Numbered.{server_at, queue_at}
+use Rattle.net_cells.specs.Numbered.{server_of_hop, queue_of_hop}
 
 -- yes where two things are one, and no where they differ
 abbrev pub TellsSame : {X : Type 0} → X → X → Bool → Type 0
@@ -16,4 +16,4 @@ TellsFormula old new kind a b tells = TellsSame (formula_of old kind a b) (formu
 
 -- the server and the queue of a hop
 abbrev pub hop_queue : Net → ℕ → ℕ → ℕ × ℕ
-hop_queue net i k = (server_at net i k, queue_at net i k)
+hop_queue net i k = (server_of_hop net i k, queue_of_hop net i k)

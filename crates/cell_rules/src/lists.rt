@@ -8,7 +8,7 @@ ghost use Rattle.queue_hops.specs.Chosen.{all_chosen};
 ghost use Rattle.queue_hops.specs.declared.found.Pick.TheVariants.{InQueue};
 ghost use Rattle.cell_rules.specs.Rules.{TellsSame, TellsFormula};
 
-use net_cells::{queue_at, server_at};
+use net_cells::{queue_of_hop, server_of_hop};
 use net_model::Network;
 use queue_hops::{Pick, chosen_at, longest_at};
 
@@ -50,10 +50,10 @@ fn same_hops(
 pub(crate) fn same_cross(old: &Network, new: &Network, flow: u32, hop: u32) -> bool
     ensures { TellsFormula old.now new.now Cross flow hop result }
 {
-    let server = server_at(old, flow, hop);
-    let queue = queue_at(old, flow, hop);
-    let new_server = server_at(new, flow, hop);
-    let new_queue = queue_at(new, flow, hop);
+    let server = server_of_hop(old, flow, hop);
+    let queue = queue_of_hop(old, flow, hop);
+    let new_server = server_of_hop(new, flow, hop);
+    let new_queue = queue_of_hop(new, flow, hop);
     same_hops(
         old,
         (server, queue),

@@ -2,12 +2,12 @@
 
 ghost use Rattle.std.specs.Prelude.{◌≡◌, IsTrue};
 ghost use Rattle.upp_curve.specs.Curves.{IsCurve};
-ghost use Rattle.net_cells.specs.CellFormulas.{links_along};
+ghost use Rattle.net_cells.specs.CellFormulas.{link_delays};
 ghost use Rattle.net_cells.specs.Numbered as at;
 ghost use Rattle.cell_rules.specs.Rules.{TellsSame, hop_queue};
 
 use fraction128::Frac;
-use net_cells::{hops, live_flow, queue_at, server_at};
+use net_cells::{hops, live_flow, queue_of_hop, server_of_hop};
 use net_model::Network;
 use queue_hops::{link, packet};
 use upp_curve::{Curve, equal};
@@ -43,8 +43,8 @@ pub(crate) fn same_arrival(old: &Network, new: &Network, flow: u32) -> bool
 pub(crate) fn same_place(old: &Network, new: &Network, flow: u32, hop: u32) -> bool
     ensures { TellsSame (hop_queue old.now flow hop) (hop_queue new.now flow hop) result }
 {
-    server_at(old, flow, hop) == server_at(new, flow, hop)
-        && queue_at(old, flow, hop) == queue_at(new, flow, hop)
+    server_of_hop(old, flow, hop) == server_of_hop(new, flow, hop)
+        && queue_of_hop(old, flow, hop) == queue_of_hop(new, flow, hop)
 }
 
 /// Whether a flow's longest packet has as many bits.
@@ -56,9 +56,9 @@ pub(crate) fn same_packet(old: &Network, new: &Network, flow: u32) -> bool
 
 // The link after a hop.
 fn link_at(net: &Network, flow: u32, hop: u32) -> Frac
-    ensures { result ≡ at.link net.now (at.server_at net.now flow hop) }
+    ensures { result ≡ at.link net.now (at.server_of_hop net.now flow hop) }
 {
-    link(net, server_at(net, flow, hop))
+    link(net, server_of_hop(net, flow, hop))
 }
 
 fn same_link(here: Frac, there: Frac) -> bool
@@ -69,7 +69,7 @@ fn same_link(here: Frac, there: Frac) -> bool
 
 /// Whether the links along a flow's path are as many, and each as long.
 pub(crate) fn same_links(old: &Network, new: &Network, flow: u32) -> bool
-    ensures { TellsSame (links_along old.now flow) (links_along new.now flow) result }
+    ensures { TellsSame (link_delays old.now flow) (link_delays new.now flow) result }
 {
     let count = hops(old, flow);
     if count != hops(new, flow) {

@@ -20,7 +20,7 @@ pub record GrowsFromZero (f : ℚ → Ext) : Type 0 where
   pub nonneg : IsNonnegative f
 
 -- a curve, and of that shape
-pub record IsServiceCurve (c : SpecCurve) : Type 0 where
+pub record IsGrowingCurve (c : SpecCurve) : Type 0 where
   pub curve : IsCurve c
   pub grows : GrowsFromZero (value_at c)
 

@@ -8,7 +8,7 @@ use Rattle.upp_limits.specs.declared.op_kind.OpKind.TheVariants.{FifoLeft}
 use Rattle.upp_curve.specs.Curve.{SpecCurve, value_at}
 use Rattle.min_plus.specs.Functions.{zero_q, IsFinite}
 use Rattle.curve_call.specs.Calls.{Applies}
-use Rattle.curve_call.specs.Growth.{GrowsFromZero, IsServiceCurve}
+use Rattle.curve_call.specs.Growth.{GrowsFromZero, IsGrowingCurve}
 use Rattle.fifo_residual.specs.Laws.{IsResidual}
 
 -- R is what β leaves of the others' curve
@@ -19,4 +19,4 @@ FifoServiceGrows = (β cross R : ℚ → Ext) (θ : Ext) → Fin zero_q ≤ₑ �
 -- c is the curve that the call makes
 abbrev pub FifoCurveGrows : Type 0
 FifoCurveGrows = (β cross c : SpecCurve) (θ : Ext) → Fin zero_q ≤ₑ θ → IsFinite (value_at β) →
-    Applies (FifoLeft θ) β cross (Ok c) → IsServiceCurve c
+    Applies (FifoLeft θ) β cross (Ok c) → IsGrowingCurve c

@@ -8,7 +8,7 @@ use Rattle.run_laws.specs.Routes.{Route, route_of, first_server}
 use Rattle.net_model.specs.Networks.{Net, NetFlow}
 use Rattle.net_model.specs.NetRoutes.{hops_along, route_for, routes_of}
 use Rattle.net_model.specs.Accepted.{IsAccepted}
-use Rattle.net_cells.specs.Numbered.{flow_at, is_live, server_at, path, path_of}
+use Rattle.net_cells.specs.Numbered.{flow_at, is_live, server_of_hop, path, path_of}
 use Rattle.net_cells.proofs.Stored.{flow_kept}
 use Rattle.run_watch.specs.Seen.{AreFirsts}
 
@@ -28,17 +28,17 @@ first_along (s ∷ path) [] e = absurd (omega arith)
 first_along (s ∷ path) (q ∷ qs) e = refl
 
 -- the first server of a flow's path
-pub first_is : (net : Net) (i : ℕ) → IsAccepted net → first_server (route_of (routes_of net) i).hops ≡ server_at net i 0
+pub first_is : (net : Net) (i : ℕ) → IsAccepted net → first_server (route_of (routes_of net) i).hops ≡ server_of_hop net i 0
 first_is net i a = ap (λ (r : Route). first_server r.hops) (route_is net i) ∙ go (flow_at net i) refl
   where
-    go : (o : Option NetFlow) → flow_at net i ≡ o → first_server (route_for o).hops ≡ server_at net i 0
+    go : (o : Option NetFlow) → flow_at net i ≡ o → first_server (route_for o).hops ≡ server_of_hop net i 0
     go None e = rw e refl
     go (Some f) e = let k = flow_kept net i f a e in rw e (first_along f.path f.queues k.paired)
 
-first_past : (net : Net) (i : ℕ) → length net.flows ≤ i → server_at net i 0 ≡ 0
+first_past : (net : Net) (i : ℕ) → length net.flows ≤ i → server_of_hop net i 0 ≡ 0
 first_past net i h = ap (λ (o : Option NetFlow). slice_index (path_of o) 0) (get_or_past net.flows i None h)
 
-pub firsts_are : (net : Net) (firsts : List ℕ) (n count : ℕ) → IsAccepted net → count ≡ length net.flows → count ≤ n → n ≤ count → length firsts ≡ n → ((i : ℕ) → i < n → get_or firsts i 0 ≡ server_at net i 0)
+pub firsts_are : (net : Net) (firsts : List ℕ) (n count : ℕ) → IsAccepted net → count ≡ length net.flows → count ≤ n → n ≤ count → length firsts ≡ n → ((i : ℕ) → i < n → get_or firsts i 0 ≡ server_of_hop net i 0)
     → AreFirsts (routes_of net) firsts
 firsts_are net firsts n count a all low high long h flow = first_is net flow a ∙ sym (elim (cases_lt flow n) [
   | inl l ↦ h flow l

@@ -53,8 +53,8 @@ pub record IsOfKinds (net : Net) (run : SpecRun) (kinds : ℕ) (x : Breach) : Ty
 
 -- ---- curves
 -- a server's curve is in normal form, and readable; and so that of each server
-abbrev pub HasCurve : Net → ℕ → Type 0
-HasCurve net s = IsCurve (service net s)
+abbrev pub HasService : Net → ℕ → Type 0
+HasService net s = IsCurve (service net s)
 
 abbrev pub HaveServices : Net → Type 0
-HaveServices net = (s : ℕ) → s < length net.servers → HasCurve net s
+HaveServices net = (s : ℕ) → s < length net.servers → HasService net s

@@ -6,10 +6,10 @@ ghost use Rattle.net_model.specs.NetRoutes.{routes_of};
 ghost use Rattle.run_watch.specs.Seen.{AreFirsts};
 ghost use Rattle.run_watch.specs.FirstOf.{IsBest};
 ghost use Rattle.first_breaches.specs.Sizes.{HaveSizes};
-ghost use Rattle.first_breaches.specs.Firsts.{IsOne, IsBelow, HasCurve, HaveServices};
+ghost use Rattle.first_breaches.specs.Firsts.{IsOne, IsBelow, HasService, HaveServices};
 
 use crate::counts::{flow_count, server_count};
-use net_cells::{server, server_at};
+use net_cells::{server, server_of_hop};
 use net_model::Network;
 use run_laws::Run;
 use run_watch::{Found, earlier, service_breach, watch};
@@ -22,7 +22,7 @@ fn firsts_of(alloc: Global, net: &Network) -> Result<Vec<u32>, AllocError>
     let count = flow_count(net);
     let mut firsts = Vec::new(alloc);
     for number in 0..count {
-        firsts.push(server_at(net, number, 0))?;
+        firsts.push(server_of_hop(net, number, 0))?;
     }
     Ok(firsts)
 }
@@ -41,7 +41,7 @@ fn first_service_of(
     requires firsts { AreFirsts (routes_of net.now) firsts.now }
     requires in_range { number < length net.now.servers }
     ensures best { IfOk result (IsBest (IsOne net.now run.now 2 number) run.now) }
-    ensures curve { IfOk result (λ _. HasCurve net.now number) }
+    ensures curve { IfOk result (λ _. HasService net.now number) }
 {
     match server(net, number) {
         None => Ok(None),

@@ -25,11 +25,11 @@ use Rattle.net_cells.specs.declared.cell.Kind.TheVariants.{Residual}
 use Rattle.net_cells.specs.Numbered.{packet, hops, link}
 use Rattle.net_cells.specs.Cells.{cell_of}
 use Rattle.net_cells.specs.Meanings.{Meaning, curve, CellTable, IsCurveIn}
-use Rattle.net_cells.specs.NumberSums.{total}
+use Rattle.net_cells.specs.NumberSums.{sum_of_numbers}
 use Rattle.net_cells.specs.CellFormulas.{packets_to, served_to}
 use Rattle.net_cells.specs.Means.{Means}
 use Rattle.net_bounds.specs.NetRuns.{hops_along, routes_of}
-use Rattle.net_bounds.specs.TableValues.{HasCurve}
+use Rattle.net_bounds.specs.TableValues.{HasFunction}
 use Rattle.net_bounds.specs.Promises.{seen_by}
 use Rattle.net_bounds.proofs.Routed.{link_is}
 use Rattle.net_bounds.proofs.Cells.{values, values_are, HasValues, curve_map, same_curve}
@@ -118,7 +118,7 @@ packs_read net at i (suc m) w grow h means =
     means.gives.gives
 
 pub path_reads : (net : Net) (at : CellTable) (i m : ℕ) (w : Meaning) → AllGrow net at i → m < hops net i
-    → HasCurve at (cell_of Residual i 0) a_curve → Means at (served_to net i m) w
+    → HasFunction at (cell_of Residual i 0) a_curve → Means at (served_to net i m) w
     → IsCurveIn (λ f. IsAlong (services net at i 0 m) (value_at f)) w
 path_reads net at i zero w grow h one means =
     curve_map (λ f. value_at f ≡ left at i 0) (λ f. IsAlong (services net at i 0 0) (value_at f)) w
@@ -171,7 +171,7 @@ serves_along net at run i j (suc m) (s ∷ t ∷ path) (q ∷ r ∷ queues) n e 
 
 -- ---- the links
 pub links_are : (net : Net) (s : ℕ) (path queues : List ℕ) → length queues ≡ suc (length path)
-    → total (map Fin (map (link net) (s ∷ path))) ≡ Fin (links_along (routes_of net) (hops_along (s ∷ path) queues))
+    → sum_of_numbers (map Fin (map (link net) (s ∷ path))) ≡ Fin (links_along (routes_of net) (hops_along (s ∷ path) queues))
 links_are net s path [] e = absurd (omega (arith, e))
 links_are net s [] (q ∷ queues) e =
     let is = link_is net s in

@@ -25,7 +25,7 @@ use Rattle.net_model.specs.Networks.{Net}
 use Rattle.net_model.specs.Accepted.{IsAccepted}
 use Rattle.upp_curve.specs.Curve.{value_at}
 use Rattle.net_cells.specs.declared.cell.Kind.TheVariants.{In}
-use Rattle.net_cells.specs.Numbered.{packet, arrival, service, hops, server_at, queue_at, path}
+use Rattle.net_cells.specs.Numbered.{packet, arrival, service, hops, server_of_hop, queue_of_hop, path}
 use Rattle.net_cells.specs.declared.visit.Visit.{Visit}
 use Rattle.net_cells.specs.Visits.{visit, visits, visits_in}
 use Rattle.net_cells.specs.Cells.{cell_of}
@@ -85,11 +85,11 @@ kept_nonneg C α V keeps t p =
         (each_all (λ x. zero_q ≤ℚ arrives C (within zero_q t) x) none_less V)
 
 -- ---- a flow
-pub hop_is : (net : Net) (i k : ℕ) → IsAccepted net → k < hops net i → hop_at net i (server_at net i k) ≡ k
+pub hop_is : (net : Net) (i k : ℕ) → IsAccepted net → k < hops net i → hop_at net i (server_of_hop net i k) ≡ k
 hop_is net i k a h = place_of_at (path net i) k (routed net i a (hop_is_live net i k h)).apart h
 
 pub flow_comes : (net : Net) (at : CellTable) (run : SpecRun) (s i k : ℕ) → AtServer net at run s → k < hops net i
-    → server_at net i k ≡ s
+    → server_of_hop net i k ≡ s
     → KeepsArrivals (of_flow i) (values at (cell_of In i k)) (seen_by net run s)
 flow_comes net at run s i k w h e =
     let here : hop_at net i s ≡ k = ap (hop_at net i) (sym e) ∙ hop_is net i k w.accepted h in
@@ -101,8 +101,8 @@ flow_comes net at run s i k w h e =
 -- it is at the place of the server on its flow's path, in its flow's queue there
 pub record IsVisiting (net : Net) (s : ℕ) (c : Card) : Type 0 where
   pub within : hop_at net c.flow s < hops net c.flow
-  pub server : server_at net c.flow (hop_at net c.flow s) ≡ s
-  pub queue : queue_at net c.flow (hop_at net c.flow s) ≡ c.queue
+  pub server : server_of_hop net c.flow (hop_at net c.flow s) ≡ s
+  pub queue : queue_of_hop net c.flow (hop_at net c.flow s) ≡ c.queue
   pub small : c.bits ≤ packet net c.flow
 
 pub visiting : (net : Net) (s : ℕ) (c : Card) → IsAccepted net → IsPassing (routes_of net) (packet net) s c
@@ -136,20 +136,20 @@ has_card net s c v = has_visit net s c.flow (hop_at net c.flow s) v.within v.ser
 pub has_in : (net : Net) (s q : ℕ) (c : Card) → IsVisiting net s c → c.queue ≡ q
     → Has (visits_in net s q) (card_visit net s c)
 has_in net s q c v e =
-    has_filter (λ w. queue_at net w.flow w.hop == q) (visits net s) (card_visit net s c) (has_card net s c v)
-    (eq-eqb (queue_at net c.flow (hop_at net c.flow s)) q (v.queue ∙ e))
+    has_filter (λ w. queue_of_hop net w.flow w.hop == q) (visits net s) (card_visit net s c) (has_card net s c v)
+    (eq-eqb (queue_of_hop net c.flow (hop_at net c.flow s)) q (v.queue ∙ e))
 
 -- ---- visits
 pub record IsVisitIn (net : Net) (s q : ℕ) (v : Visit) : Type 0 where
   pub within : v.hop < hops net v.flow
-  pub server : server_at net v.flow v.hop ≡ s
-  pub queue : queue_at net v.flow v.hop ≡ q
+  pub server : server_of_hop net v.flow v.hop ≡ s
+  pub queue : queue_of_hop net v.flow v.hop ≡ q
 
 pub visit_in : (net : Net) (s q : ℕ) (v : Visit) → Has (visits_in net s q) v → IsVisitIn net s q v
 visit_in net s q v h =
-    let kept = filter_has (λ w. queue_at net w.flow w.hop == q) (visits net s) v h in
+    let kept = filter_has (λ w. queue_of_hop net w.flow w.hop == q) (visits net s) v h in
     let found = visit_has net s v kept.0 in
-    record { within = found.0; server = found.1; queue = eqb-true (queue_at net v.flow v.hop) q kept.1 }
+    record { within = found.0; server = found.1; queue = eqb-true (queue_of_hop net v.flow v.hop) q kept.1 }
 
 pub has_key : {X : Type 0} (key : X → ℕ) (xs : List X) (x : X) (n : ℕ) → Has xs x → key x ≡ n → HasKey key xs n
 has_key key [] x n h e = absurd h

@@ -16,9 +16,9 @@ use Rattle.net_cells.specs.declared.cell.Cell.{Cell}
 use Rattle.net_cells.specs.Numbered.{zero_curve}
 use Rattle.net_cells.specs.Meanings.{Meaning, curve, number, CellTable, IsCurveIn}
 use Rattle.net_cells.specs.Formulas.{Formula, value_of, made}
-use Rattle.net_cells.specs.CellFormulas.{sum_from, sum_of}
+use Rattle.net_cells.specs.CellFormulas.{sum_from, sum_of_cells}
 use Rattle.net_cells.specs.Means.{Means}
-use Rattle.net_bounds.specs.TableValues.{HasCurve, HasNumber}
+use Rattle.net_bounds.specs.TableValues.{HasFunction, HasNumber}
 use Rattle.net_bounds.proofs.ListSums.{sum_over}
 
 -- ---- what is in a cell; zero where there is no curve, and infinity where there is no number
@@ -55,14 +55,14 @@ pub of_number : (at : CellTable) (c : Cell) (x : Ext) (P : Ext → Type 0) → a
 of_number at c x P e h = subst P (sym (number_is at c x e)) h
 
 -- ---- from what the table has, and to it
-pub curve_holds : (at : CellTable) (c : Cell) (P : (ℚ → Ext) → Type 0) → HasCurve at c P → P (values at c)
+pub curve_holds : (at : CellTable) (c : Cell) (P : (ℚ → Ext) → Type 0) → HasFunction at c P → P (values at c)
 curve_holds at c P h = of_values at c h.value P h.is h.holds
 
 pub number_holds : (at : CellTable) (c : Cell) (P : Ext → Type 0) → HasNumber at c P → P (size_in at c)
 number_holds at c P h = of_number at c h.value P h.is h.holds
 
-pub curve_has : (at : CellTable) (c : Cell) (P Q : (ℚ → Ext) → Type 0) → HasCurve at c P → Q (values at c)
-    → HasCurve at c Q
+pub curve_has : (at : CellTable) (c : Cell) (P Q : (ℚ → Ext) → Type 0) → HasFunction at c P → Q (values at c)
+    → HasFunction at c Q
 curve_has at c P Q h k = record { value = h.value; is = h.is; holds = subst Q (values_are at c h.value h.is) k }
 
 pub number_has : (at : CellTable) (c : Cell) (P Q : Ext → Type 0) → HasNumber at c P → Q (size_in at c)
@@ -70,7 +70,7 @@ pub number_has : (at : CellTable) (c : Cell) (P Q : Ext → Type 0) → HasNumbe
 number_has at c P Q h k = record { value = h.value; is = h.is; holds = subst Q (number_is at c h.value h.is) k }
 
 pub curve_from : (at : CellTable) (c : Cell) (P : (ℚ → Ext) → Type 0) (v : Meaning) → at c ≡ Some v
-    → IsCurveIn (λ f. P (value_at f)) v → HasCurve at c P
+    → IsCurveIn (λ f. P (value_at f)) v → HasFunction at c P
 curve_from at c P (curve f) e h = record { value = f; is = e; holds = h }
 curve_from at c P (number x) e h = absurd h
 
@@ -131,9 +131,9 @@ from_first at F (c ∷ cs) base v reads m =
 -- each cell has a curve
 abbrev pub AllCurves : CellTable → List Cell → Type 0
 AllCurves at [] = Unit {0}
-AllCurves at (c ∷ cs) = HasCurve at c (λ f. Unit {0}) × AllCurves at cs
+AllCurves at (c ∷ cs) = HasFunction at c (λ f. Unit {0}) × AllCurves at cs
 
-pub same_curve : (at : CellTable) (c : Cell) (w : Meaning) → HasCurve at c (λ f. Unit {0}) → at c ≡ Some w
+pub same_curve : (at : CellTable) (c : Cell) (w : Meaning) → HasFunction at c (λ f. Unit {0}) → at c ≡ Some w
     → IsCurveIn (λ f. value_at f ≡ values at c) w
 same_curve at c (curve f) h e = sym (values_are at c f e)
 same_curve at c (number x) h e = absurd (no (sym h.is ∙ e))
@@ -141,13 +141,13 @@ same_curve at c (number x) h e = absurd (no (sym h.is ∙ e))
     no : Some (curve h.value) ≡ Some (number x) → ⊥
     no k = cc
 
-cell_reads : (at : CellTable) (c : Cell) (w : Meaning) → HasCurve at c (λ f. Unit {0}) → at c ≡ Some w
+cell_reads : (at : CellTable) (c : Cell) (w : Meaning) → HasFunction at c (λ f. Unit {0}) → at c ≡ Some w
     → IsCurveIn (λ f. HasValues (values at c) (value_at f)) w
 cell_reads at c w h e =
     curve_map (λ f. value_at f ≡ values at c) (λ f. HasValues (values at c) (value_at f)) w
     (λ f k t p. ap (λ (g : ℚ → Ext). g t) k) (same_curve at c w h e)
 
-pub sum_reads : (at : CellTable) (cs : List Cell) (v : Meaning) → AllCurves at cs → Means at (sum_of cs) v
+pub sum_reads : (at : CellTable) (cs : List Cell) (v : Meaning) → AllCurves at cs → Means at (sum_of_cells cs) v
     → IsCurveIn (λ f. HasValues (sum_over (values at) cs) (value_at f)) v
 sum_reads at [] v all m = subst (IsCurveIn (λ f. HasValues (λ t. Fin zero_q) (value_at f))) (sym m) zero_values
 sum_reads at (c ∷ cs) v all m = from_first at (value_of c) cs (values at c) v (λ w k. cell_reads at c w all.0 k) m

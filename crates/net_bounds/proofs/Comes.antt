@@ -9,14 +9,14 @@ use Rattle.run_laws.specs.Premises.{KeepsArrivals}
 use Rattle.run_laws.proofs.Arrivals.{arrivals_map}
 use Rattle.net_model.specs.Networks.{Net}
 use Rattle.net_cells.specs.declared.cell.Kind.TheVariants.{Cross, Total, Higher}
-use Rattle.net_cells.specs.Numbered.{hops, server_at, queue_at, queues, levels}
+use Rattle.net_cells.specs.Numbered.{hops, server_of_hop, queue_of_hop, queues, levels}
 use Rattle.net_cells.specs.declared.visit.Visit.{Visit}
 use Rattle.net_cells.specs.Visits.{visits_in, others}
 use Rattle.net_cells.specs.Cells.{cell_of}
 use Rattle.net_cells.specs.Meanings.{CellTable}
 use Rattle.net_cells.specs.Equations.{MeetsEquations}
 use Rattle.net_cells.proofs.Lists.{has_filter, filter_has, has_range, range_has}
-use Rattle.net_bounds.specs.TableValues.{HasCurve}
+use Rattle.net_bounds.specs.TableValues.{HasFunction}
 use Rattle.net_bounds.specs.Promises.{seen_by}
 use Rattle.net_bounds.proofs.ListSums.{sum_over, HasKey, list_keeps}
 use Rattle.net_bounds.proofs.Cells.{values, HasValues, curve_holds}
@@ -26,7 +26,7 @@ use Rattle.run_laws.proofs.Members.{Has}
 
 -- ---- a queue
 pub total_cell : (net : Net) (at : CellTable) (s q : ℕ) → MeetsEquations net at → q < queues net s
-    → HasCurve at (cell_of Total s q) (HasValues (sum_over (arriving_at at) (visits_in net s q)))
+    → HasFunction at (cell_of Total s q) (HasValues (sum_over (arriving_at at) (visits_in net s q)))
 total_cell net at s q meets h = total_is net at s q meets h (λ v m. (visit_in net s q v m).within)
 
 pub queue_comes : (net : Net) (at : CellTable) (run : SpecRun) (s q : ℕ) → AtServer net at run s → q < queues net s
@@ -74,12 +74,12 @@ abbrev pub others_of : ℕ → ℕ → Class
 others_of q i c = (c.queue == q) && not (c.flow == i)
 
 pub cross_comes : (net : Net) (at : CellTable) (run : SpecRun) (s i k : ℕ) → AtServer net at run s → k < hops net i
-    → server_at net i k ≡ s
-    → KeepsArrivals (others_of (queue_at net i k) i) (values at (cell_of Cross i k)) (seen_by net run s)
+    → server_of_hop net i k ≡ s
+    → KeepsArrivals (others_of (queue_of_hop net i k) i) (values at (cell_of Cross i k)) (seen_by net run s)
 cross_comes net at run s i k w h e =
     let V = seen_by net run s in
-    let q = queue_at net i k in
-    let vs = others net i (server_at net i k) q in
+    let q = queue_of_hop net i k in
+    let vs = others net i (server_of_hop net i k) q in
     let sum = sum_over (arriving_at at) vs in
     let known = arrivals_map (IsVisiting net s) (λ c. others_of q i c ≡ true → HasKey (λ (v : Visit). v.flow) vs c.flow)
     (λ c v b. has_other c v (and_parts (c.queue == q) (not (c.flow == i)) b)) V (all_visiting net at run s w) in
@@ -88,18 +88,18 @@ cross_comes net at run s i k w h e =
     (list_keeps (λ (v : Visit). v.flow) (arriving_at at) (λ c. c.flow) vs (others_of q i) V known
     (λ v m. let is = other_in v m in flow_comes net at run s v.flow v.hop w is.within (is.server ∙ e)))
   where
-    other_in : (v : Visit) → Has (others net i (server_at net i k) (queue_at net i k)) v
-        → IsVisitIn net (server_at net i k) (queue_at net i k) v
+    other_in : (v : Visit) → Has (others net i (server_of_hop net i k) (queue_of_hop net i k)) v
+        → IsVisitIn net (server_of_hop net i k) (queue_of_hop net i k) v
     other_in v m =
-        visit_in net (server_at net i k) (queue_at net i k) v
-        (filter_has (λ u. not (u.flow == i)) (visits_in net (server_at net i k) (queue_at net i k)) v m).0
+        visit_in net (server_of_hop net i k) (queue_of_hop net i k) v
+        (filter_has (λ u. not (u.flow == i)) (visits_in net (server_of_hop net i k) (queue_of_hop net i k)) v m).0
 
-    has_other : (c : Card) → IsVisiting net s c → ((c.queue == queue_at net i k) ≡ true) × (not (c.flow == i) ≡ true)
-        → HasKey (λ (v : Visit). v.flow) (others net i (server_at net i k) (queue_at net i k)) c.flow
+    has_other : (c : Card) → IsVisiting net s c → ((c.queue == queue_of_hop net i k) ≡ true) × (not (c.flow == i) ≡ true)
+        → HasKey (λ (v : Visit). v.flow) (others net i (server_of_hop net i k) (queue_of_hop net i k)) c.flow
     has_other c v both =
-        let there = subst (λ (r : ℕ). Has (visits_in net r (queue_at net i k)) (card_visit net s c)) (sym e)
-        (has_in net s (queue_at net i k) c v (eqb-true c.queue (queue_at net i k) both.0)) in
-        has_key (λ (u : Visit). u.flow) (others net i (server_at net i k) (queue_at net i k)) (card_visit net s c)
+        let there = subst (λ (r : ℕ). Has (visits_in net r (queue_of_hop net i k)) (card_visit net s c)) (sym e)
+        (has_in net s (queue_of_hop net i k) c v (eqb-true c.queue (queue_of_hop net i k) both.0)) in
+        has_key (λ (u : Visit). u.flow) (others net i (server_of_hop net i k) (queue_of_hop net i k)) (card_visit net s c)
         c.flow
-        (has_filter (λ u. not (u.flow == i)) (visits_in net (server_at net i k) (queue_at net i k))
+        (has_filter (λ u. not (u.flow == i)) (visits_in net (server_of_hop net i k) (queue_of_hop net i k))
         (card_visit net s c) there both.1) refl

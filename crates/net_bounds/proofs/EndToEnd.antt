@@ -17,14 +17,14 @@ use Rattle.net_laws.proofs.Queues.{of_lesser}
 use Rattle.net_model.specs.Networks.{Net}
 use Rattle.net_model.specs.Accepted.{IsAccepted}
 use Rattle.net_cells.specs.declared.cell.Kind.TheVariants.{In, PathService, Tfa, Sfa, Bound}
-use Rattle.net_cells.specs.Numbered.{path, hops, server_at, is_live, link}
+use Rattle.net_cells.specs.Numbered.{path, hops, server_of_hop, is_live, link}
 use Rattle.net_cells.specs.Cells.{cell_of}
 use Rattle.net_cells.specs.Meanings.{number, CellTable, IsNumberIn}
-use Rattle.net_cells.specs.NumberSums.{total}
+use Rattle.net_cells.specs.NumberSums.{sum_of_numbers}
 use Rattle.net_cells.specs.Means.{with_links}
 use Rattle.net_cells.specs.Equations.{MeetsEquations}
 use Rattle.net_bounds.specs.NetRuns.{routes_of, hops_along, IsRunOf}
-use Rattle.net_bounds.specs.TableValues.{HasCurve, HasNumber}
+use Rattle.net_bounds.specs.TableValues.{HasFunction, HasNumber}
 use Rattle.net_bounds.specs.Promises.{seen_by, IsPathKept}
 use Rattle.net_bounds.proofs.Paths.{first_is}
 use Rattle.net_bounds.proofs.Routed.{own_queues, live_is, hops_is, routed, hop_inside, path_is}
@@ -46,15 +46,15 @@ pub record AlongPath (net : Net) (at : CellTable) (run : SpecRun) (i : ℕ) : Ty
   pub servers : (s : ℕ) → s < length net.servers → AtServer net at run s
 
 pub at_hop : (net : Net) (at : CellTable) (run : SpecRun) (i k : ℕ) → AlongPath net at run i → k < hops net i
-    → AtHop net at run i k (server_at net i k)
+    → AtHop net at run i k (server_of_hop net i k)
 at_hop net at run i k w h =
-    record { server = w.servers (server_at net i k) (hop_inside net i k w.accepted h); within = h; is = refl }
+    record { server = w.servers (server_of_hop net i k) (hop_inside net i k w.accepted h); within = h; is = refl }
 
 whole_path : (net : Net) (at : CellTable) (run : SpecRun) (i : ℕ) → AlongPath net at run i
     → IsRestFrom net at run i 0 (path net i)
 whole_path net at run i w k l =
     let same : k ≡ 0 + k = omega arith in
-    subst (λ (j : ℕ). AtHop net at run i j (server_at net i k)) same (at_hop net at run i k w l)
+    subst (λ (j : ℕ). AtHop net at run i j (server_of_hop net i k)) same (at_hop net at run i k w l)
 
 path_ok : (net : Net) (at : CellTable) (run : SpecRun) (i : ℕ) → AlongPath net at run i
     → IsPath (routes_of net) (route_of (routes_of net) i).hops
@@ -75,22 +75,22 @@ tfa_kept net at run i w =
     let hs = hops_along (path net i) (own_queues net i) in
     let stays : StaysAtMost R run i hs xs =
     stays_along net at run i 0 (path net i) (own_queues net i) xs on.paired (whole_path net at run i w) e.means.are in
-    let sum : sum_along R hs xs ≡ total (with_links xs (map (link net) (path net i))) =
+    let sum : sum_along R hs xs ≡ sum_of_numbers (with_links xs (map (link net) (path net i))) =
     sum_is net at i 0 (path net i) (own_queues net i) xs on.paired e.means.are in
     let bounded : IsFlowBounded R run i (sum_along R (route_of R i).hops xs) =
     delay_from_hops R run i xs w.run_of.lawful (path_ok net at run i w)
     (subst (λ (h : List Hop). StaysAtMost R run i h xs) (sym (hops_is net i)) stays) in
-    let is : sum_along R (route_of R i).hops xs ≡ total (with_links xs (map (link net) (path net i))) =
+    let is : sum_along R (route_of R i).hops xs ≡ sum_of_numbers (with_links xs (map (link net) (path net i))) =
     ap (λ (h : List Hop). sum_along R h xs) (hops_is net i) ∙ sum in
     has_number at (cell_of Tfa i 0) (IsFlowBounded R run i) e.value e.is
     (subst (IsNumberIn (IsFlowBounded R run i)) (sym e.means.gives) (subst (IsFlowBounded R run i) is bounded))
 
 -- ---- by the service along the path
 all_grow : (net : Net) (at : CellTable) (run : SpecRun) (i : ℕ) → AlongPath net at run i → AllGrow net at i
-all_grow net at run i w k h = (flow_served net at run i k (server_at net i k) (at_hop net at run i k w h)).grows
+all_grow net at run i w k h = (flow_served net at run i k (server_of_hop net i k) (at_hop net at run i k w h)).grows
 
 pub path_served : (net : Net) (at : CellTable) (run : SpecRun) (i : ℕ) → AlongPath net at run i
-    → HasCurve at (cell_of PathService i 0) (IsAlong (services net at i 0 (hops net i - 1)))
+    → HasFunction at (cell_of PathService i 0) (IsAlong (services net at i 0 (hops net i - 1)))
 path_served net at run i w =
     let e = w.meets (cell_of PathService i 0) (path_cell net at run i w) in
     let on = routed net i w.accepted w.live in
@@ -105,15 +105,15 @@ comes_first : (net : Net) (at : CellTable) (run : SpecRun) (i : ℕ) → AlongPa
 comes_first net at run i w =
     let on = routed net i w.accepted w.live in
     let some : 0 < hops net i = omega (arith, on.some) in
-    let first : first_server (route_of (routes_of net) i).hops ≡ server_at net i 0 =
+    let first : first_server (route_of (routes_of net) i).hops ≡ server_of_hop net i 0 =
     ap first_server (hops_is net i) ∙ first_is (path net i) (own_queues net i) on.paired in
     let hop = at_hop net at run i 0 w some in
     subst (λ (s : ℕ). KeepsArrivals (of_flow i) (values at (cell_of In i 0)) (seen_by net run s)) (sym first)
-    (flow_comes net at run (server_at net i 0) i 0 hop.server some refl)
+    (flow_comes net at run (server_of_hop net i 0) i 0 hop.server some refl)
 
 -- all links of the path
 links_of : (net : Net) (ps qs : List ℕ) → length qs ≡ length ps → 1 ≤ length ps
-    → total (map Fin (map (link net) ps)) ≡ Fin (links_along (routes_of net) (hops_along ps qs))
+    → sum_of_numbers (map Fin (map (link net) ps)) ≡ Fin (links_along (routes_of net) (hops_along ps qs))
 links_of net [] qs e some = absurd (omega (arith, some))
 links_of net (s ∷ ps) qs e some = links_are net s ps qs e
 
@@ -145,7 +145,7 @@ sfa_kept net at run i w =
     let bounded : IsFlowBounded R run i (h +ₑ Fin (links_along R (route_of R i).hops)) =
     delay_from_path_service R run i α γ h curves w.run_of.lawful (path_ok net at run i w) (comes_first net at run i w)
     (served_along net at run i w) along.splits along.grows.rising is_h in
-    let is : h +ₑ Fin (links_along R (route_of R i).hops) ≡ total (with_links (h ∷ []) (map (link net) (path net i))) =
+    let is : h +ₑ Fin (links_along R (route_of R i).hops) ≡ sum_of_numbers (with_links (h ∷ []) (map (link net) (path net i))) =
     ap (λ (hs : List Hop). h +ₑ Fin (links_along R hs)) (hops_is net i)
     ∙ ap (λ (x : Ext). h +ₑ x) (sym (links_of net (path net i) (own_queues net i) on.paired on.some)) in
     has_number at (cell_of Sfa i 0) (IsFlowBounded R run i) e.value e.is

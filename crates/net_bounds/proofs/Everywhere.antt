@@ -62,7 +62,7 @@ is_next net i a b live n =
     record { flow = it.flow; live = it.there; step = subst (λ (p : List ℕ). IsStep p a b) (ap path_of it.is) step }
 
 pub forward : (net : Net) (order : List ℕ) → IsAccepted net → IsOrder net order
-    → orders.IsFeedForward (routes_of net) (λ s. place_in s order)
+    → orders.GoesForward (routes_of net) (λ s. place_in s order)
 forward net order acc o i a b live e =
     let n = next_place net i a b e in
     let is_live_flow = sym (live_is net i) ∙ live in

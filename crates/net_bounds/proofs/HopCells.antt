@@ -15,11 +15,11 @@ use Rattle.curve_call.specs.Answers.{IsMadeBy}
 use Rattle.run_laws.specs.Cards.{whole}
 use Rattle.net_model.specs.Networks.{Net}
 use Rattle.net_cells.specs.declared.cell.Kind.TheVariants.{In, Cross, QueueService, Theta, Residual, QueueDelay, HopDelay, ShiftOut, DeconvOut, Out}
-use Rattle.net_cells.specs.Numbered.{packet, arrival, hops, server_at, queue_at}
+use Rattle.net_cells.specs.Numbered.{packet, arrival, hops, server_of_hop, queue_of_hop}
 use Rattle.net_cells.specs.Cells.{cell_of}
 use Rattle.net_cells.specs.Meanings.{curve, number, CellTable, IsCurveIn, IsNumberIn}
 use Rattle.net_cells.specs.Equations.{MeetsEquations}
-use Rattle.net_bounds.specs.TableValues.{HasCurve, HasNumber}
+use Rattle.net_bounds.specs.TableValues.{HasFunction, HasNumber}
 use Rattle.net_bounds.proofs.Cells.{values, size_in, of_values, of_number, curve_from, curve_map, HasValues, made_of_two, same_curve}
 use Rattle.net_bounds.proofs.FormulaParts.{deconvolution_same, a_curve, less_reads, deviation_reads}
 use Rattle.net_cells.proofs.TableValues.{has_number}
@@ -28,7 +28,7 @@ out_cell : (net : Net) (i k : ℕ) → suc k < hops net i → nat_lt (k + 1) (ho
 out_cell net i k h = lt-ltb (k + 1) (hops net i) (omega (arith, h))
 
 pub out_is : (net : Net) (at : CellTable) (i k : ℕ) → MeetsEquations net at → suc k < hops net i
-    → HasCurve at (cell_of Out i k)
+    → HasFunction at (cell_of Out i k)
     (HasValues (λ t. min_ext (values at (cell_of ShiftOut i k) t) (values at (cell_of DeconvOut i k) t)))
 out_is net at i k meets h =
     let e = meets (cell_of Out i k) (out_cell net i k h) in
@@ -37,14 +37,14 @@ out_is net at i k meets h =
     (made_of_two at Min (cell_of ShiftOut i k) (cell_of DeconvOut i k) e.value e.means)
 
 pub in_first : (net : Net) (at : CellTable) (i : ℕ) → MeetsEquations net at → 0 < hops net i
-    → HasCurve at (cell_of In i 0) (λ f. f ≡ value_at (arrival net i))
+    → HasFunction at (cell_of In i 0) (λ f. f ≡ value_at (arrival net i))
 in_first net at i meets h =
     let e = meets (cell_of In i 0) (lt-ltb 0 (hops net i) h) in
     curve_from at (cell_of In i 0) (λ f. f ≡ value_at (arrival net i)) e.value e.is
     (subst (IsCurveIn (λ f. value_at f ≡ value_at (arrival net i))) (sym e.means) refl)
 
 pub in_next : (net : Net) (at : CellTable) (i k : ℕ) → MeetsEquations net at → suc k < hops net i
-    → HasCurve at (cell_of In i (suc k)) (λ f. f ≡ values at (cell_of Out i k))
+    → HasFunction at (cell_of In i (suc k)) (λ f. f ≡ values at (cell_of Out i k))
 in_next net at i k meets h =
     let e = meets (cell_of In i (suc k)) (lt-ltb (suc k) (hops net i) h) in
     let out = out_is net at i k meets h in
@@ -52,13 +52,13 @@ in_next net at i k meets h =
     (same_curve at (cell_of Out i k) e.value record { value = out.value; is = out.is; holds = tt } e.means)
 
 pub in_curve : (net : Net) (at : CellTable) (i k : ℕ) → MeetsEquations net at → k < hops net i
-    → HasCurve at (cell_of In i k) a_curve
+    → HasFunction at (cell_of In i k) a_curve
 in_curve net at i zero meets h = let c = in_first net at i meets h in record { value = c.value; is = c.is; holds = tt }
 in_curve net at i (suc k) meets h =
     let c = in_next net at i k meets h in record { value = c.value; is = c.is; holds = tt }
 
 pub shift_out_is : (net : Net) (at : CellTable) (i k : ℕ) → MeetsEquations net at → suc k < hops net i
-    → HasCurve at (cell_of ShiftOut i k)
+    → HasFunction at (cell_of ShiftOut i k)
     (HasValues (shifted (values at (cell_of In i k)) (size_in at (cell_of HopDelay i k))))
 shift_out_is net at i k meets h =
     let e = meets (cell_of ShiftOut i k) (out_cell net i k h) in
@@ -75,7 +75,7 @@ shift_out_is net at i k meets h =
     m.gives.gives)
 
 pub deconv_out_is : (net : Net) (at : CellTable) (i k : ℕ) → MeetsEquations net at → suc k < hops net i
-    → HasCurve at (cell_of DeconvOut i k)
+    → HasFunction at (cell_of DeconvOut i k)
     (λ g. (t : ℚ) → zero_q ≤ℚ t
     → IsDeconvolution (values at (cell_of In i k))
     (packetised (values at (cell_of Residual i k)) (whole (packet net i))) t (g t))
@@ -99,23 +99,23 @@ deconv_out_is net at i k meets h =
 pub theta_is : (net : Net) (at : CellTable) (i k : ℕ) → MeetsEquations net at → k < hops net i
     → HasNumber at (cell_of Theta i k)
     (IsHorizontalDeviation (values at (cell_of Cross i k))
-    (values at (cell_of QueueService (server_at net i k) (queue_at net i k))))
+    (values at (cell_of QueueService (server_of_hop net i k) (queue_of_hop net i k))))
 theta_is net at i k meets h =
     let e = meets (cell_of Theta i k) (lt-ltb k (hops net i) h) in
     let c = cell_of Cross i k in
-    let d = cell_of QueueService (server_at net i k) (queue_at net i k) in
+    let d = cell_of QueueService (server_of_hop net i k) (queue_of_hop net i k) in
     has_number at (cell_of Theta i k) (IsHorizontalDeviation (values at c) (values at d)) e.value e.is
     (deviation_reads at c d IsHorizontalDeviation e.value e.means)
 
 pub residual_is : (net : Net) (at : CellTable) (i k : ℕ) → MeetsEquations net at → k < hops net i
-    → HasCurve at (cell_of Residual i k)
+    → HasFunction at (cell_of Residual i k)
     (λ g. (t : ℚ) → zero_q ≤ℚ t
-    → IsFifoLeftover (values at (cell_of QueueService (server_at net i k) (queue_at net i k)))
+    → IsFifoLeftover (values at (cell_of QueueService (server_of_hop net i k) (queue_of_hop net i k)))
     (values at (cell_of Cross i k))
     (size_in at (cell_of Theta i k)) t (g t))
 residual_is net at i k meets h =
     let e = meets (cell_of Residual i k) (lt-ltb k (hops net i) h) in
-    let s = cell_of QueueService (server_at net i k) (queue_at net i k) in
+    let s = cell_of QueueService (server_of_hop net i k) (queue_of_hop net i k) in
     let c = cell_of Cross i k in
     let d = cell_of Theta i k in
     let m = e.means in
@@ -137,13 +137,13 @@ residual_is net at i k meets h =
 pub record IsHopDelay (net : Net) (at : CellTable) (i k : ℕ) (d : Ext) : Type 0 where
   pub own : Ext
   pub is_own : IsHorizontalDeviation (values at (cell_of In i k)) (values at (cell_of Residual i k)) own
-  pub is : d ≡ min_ext (size_in at (cell_of QueueDelay (server_at net i k) (queue_at net i k))) own
+  pub is : d ≡ min_ext (size_in at (cell_of QueueDelay (server_of_hop net i k) (queue_of_hop net i k))) own
 
 pub hop_delay_is : (net : Net) (at : CellTable) (i k : ℕ) → MeetsEquations net at → k < hops net i
     → HasNumber at (cell_of HopDelay i k) (IsHopDelay net at i k)
 hop_delay_is net at i k meets h =
     let e = meets (cell_of HopDelay i k) (lt-ltb k (hops net i) h) in
-    let q = cell_of QueueDelay (server_at net i k) (queue_at net i k) in
+    let q = cell_of QueueDelay (server_of_hop net i k) (queue_of_hop net i k) in
     let m = e.means in
     let x = m.operand in
     let y = m.gives.operand in

@@ -28,7 +28,7 @@ use Rattle.net_laws.proofs.Queues.{flow_stays, flow_leaves}
 use Rattle.net_model.specs.Networks.{Net}
 use Rattle.net_model.specs.Accepted.{IsAccepted}
 use Rattle.net_cells.specs.declared.cell.Kind.TheVariants.{In, Cross, Total, QueueService, Theta, Residual, QueueDelay, HopDelay, ShiftOut, DeconvOut, Out}
-use Rattle.net_cells.specs.Numbered.{packet, path, hops, server_at, queue_at, queues}
+use Rattle.net_cells.specs.Numbered.{packet, path, hops, server_of_hop, queue_of_hop, queues}
 use Rattle.net_cells.specs.Cells.{cell_of}
 use Rattle.net_cells.specs.Meanings.{CellTable}
 use Rattle.net_bounds.specs.NetRuns.{routes_of}
@@ -52,14 +52,14 @@ use Rattle.net_laws.proofs.Sums.{other}
 pub record AtHop (net : Net) (at : CellTable) (run : SpecRun) (i k s : ℕ) : Type 0 where
   pub server : AtServer net at run s
   pub within : k < hops net i
-  pub is : server_at net i k ≡ s
+  pub is : server_of_hop net i k ≡ s
 
 -- the flow as a part of its queue
 abbrev pub part : Net → ℕ → ℕ → Class
-part net i k = own (λ c. c.flow) i (of_queue (queue_at net i k))
+part net i k = own (λ c. c.flow) i (of_queue (queue_of_hop net i k))
 
-queue_there : (net : Net) (i k s : ℕ) → IsAccepted net → k < hops net i → server_at net i k ≡ s
-    → routes.queue_at s (route_of (routes_of net) i).hops ≡ queue_at net i k
+queue_there : (net : Net) (i k s : ℕ) → IsAccepted net → k < hops net i → server_of_hop net i k ≡ s
+    → routes.queue_at s (route_of (routes_of net) i).hops ≡ queue_of_hop net i k
 queue_there net i k s a h e =
     let on = routed net i a (hop_is_live net i k h) in
     let place : hop_at net i s ≡ k = ap (hop_at net i) (sym e) ∙ hop_is net i k a h in
@@ -79,19 +79,19 @@ part_agrees net at run i k s w =
     (in_own_queues (routes_of net) run s)
   where
     one : (c : Card) → IsInOwnQueue (routes_of net) s c → part net i k c ≡ of_flow i c
-    one c e = part_is (c.queue == queue_at net i k) (c.flow == i)
+    one c e = part_is (c.queue == queue_of_hop net i k) (c.flow == i)
         (λ own_flow.
         let same : c.flow ≡ i = eqb-true c.flow i own_flow in
-        let its : c.queue ≡ queue_at net i k =
+        let its : c.queue ≡ queue_of_hop net i k =
         e ∙ ap (λ (j : ℕ). routes.queue_at s (route_of (routes_of net) j).hops) same ∙ queue_there net i k s
         w.server.accepted w.within w.is in
-        eq-eqb c.queue (queue_at net i k) its)
+        eq-eqb c.queue (queue_of_hop net i k) its)
 
 -- ---- service
 queue_is_there : (net : Net) (at : CellTable) (run : SpecRun) (i k s : ℕ) → AtHop net at run i k s
-    → queue_at net i k < queues net s
+    → queue_of_hop net i k < queues net s
 queue_is_there net at run i k s w =
-    subst (λ (r : ℕ). queue_at net i k < queues net r) w.is (queue_inside net i k w.server.accepted w.within)
+    subst (λ (r : ℕ). queue_of_hop net i k < queues net r) w.is (queue_inside net i k w.server.accepted w.within)
 
 pub record IsFlowServed (net : Net) (run : SpecRun) (i k s : ℕ) (g : ℚ → Ext) : Type 0 where
   pub serves : Serves (part net i k) g run.end (seen_by net run s)
@@ -100,7 +100,7 @@ pub record IsFlowServed (net : Net) (run : SpecRun) (i k s : ℕ) (g : ℚ → E
 pub flow_served : (net : Net) (at : CellTable) (run : SpecRun) (i k s : ℕ) → AtHop net at run i k s
     → IsFlowServed net run i k s (values at (cell_of Residual i k))
 flow_served net at run i k s w =
-    let q = queue_at net i k in
+    let q = queue_of_hop net i k in
     let β = values at (cell_of QueueService s q) in
     let cross = values at (cell_of Cross i k) in
     let theta = size_in at (cell_of Theta i k) in
@@ -109,7 +109,7 @@ flow_served net at run i k s w =
     let queue = queue_served net at run s q w.server (queue_is_there net at run i k s w) in
     let is_theta = theta_is net at i k w.server.meets w.within in
     let is_residual = residual_is net at i k w.server.meets w.within in
-    let low = horizontals_are_nonnegative cross (values at (cell_of QueueService (server_at net i k) q)) theta
+    let low = horizontals_are_nonnegative cross (values at (cell_of QueueService (server_of_hop net i k) q)) theta
     (number_holds at (cell_of Theta i k) _ is_theta) in
     let residual = subst
     (λ (r : ℕ). (t : ℚ) → zero_q ≤ℚ t → IsFifoLeftover (values at (cell_of QueueService r q)) cross theta t (R t)) w.is
@@ -126,16 +126,16 @@ flow_served net at run i k s w =
 record HasDelay (net : Net) (at : CellTable) (run : SpecRun) (i k s : ℕ) : Type 0 where
   own_delay : Ext
   in_queue : IsInQueue (here net s) run.end (seen_by net run s)
-      (of_queue (queue_at net i k)) (part net i k) (queue_at net i k)
-      (values at (cell_of Total s (queue_at net i k))) (values at (cell_of QueueService s (queue_at net i k)))
+      (of_queue (queue_of_hop net i k)) (part net i k) (queue_of_hop net i k)
+      (values at (cell_of Total s (queue_of_hop net i k))) (values at (cell_of QueueService s (queue_of_hop net i k)))
       (values at (cell_of In i k)) (values at (cell_of Residual i k))
-      (size_in at (cell_of QueueDelay s (queue_at net i k))) own_delay
-  is : size_in at (cell_of HopDelay i k) ≡ min_ext (size_in at (cell_of QueueDelay s (queue_at net i k))) own_delay
+      (size_in at (cell_of QueueDelay s (queue_of_hop net i k))) own_delay
+  is : size_in at (cell_of HopDelay i k) ≡ min_ext (size_in at (cell_of QueueDelay s (queue_of_hop net i k))) own_delay
 
 has_delay : (net : Net) (at : CellTable) (run : SpecRun) (i k s : ℕ) → AtHop net at run i k s
     → HasDelay net at run i k s
 has_delay net at run i k s w =
-    let q = queue_at net i k in
+    let q = queue_of_hop net i k in
     let V = seen_by net run s in
     let there = queue_is_there net at run i k s w in
     let queue = queue_served net at run s q w.server there in
@@ -166,7 +166,7 @@ has_delay net at run i k s w =
 pub flow_stays_there : (net : Net) (at : CellTable) (run : SpecRun) (i k s : ℕ) → AtHop net at run i k s
     → AreAtMost (size_in at (cell_of HopDelay i k)) (hop_delays (of_flow i) run.end (seen_by net run s))
 flow_stays_there net at run i k s w =
-    let q = queue_at net i k in
+    let q = queue_of_hop net i k in
     let V = seen_by net run s in
     let h = has_delay net at run i k s w in
     let stays = flow_stays (here net s) run.end V (of_queue q) (part net i k) q (values at (cell_of Total s q))
@@ -181,7 +181,7 @@ flow_stays_there net at run i k s w =
 pub hop_delay_low : (net : Net) (at : CellTable) (run : SpecRun) (i k s : ℕ) → AtHop net at run i k s
     → Fin zero_q ≤ₑ size_in at (cell_of HopDelay i k)
 hop_delay_low net at run i k s w =
-    let q = queue_at net i k in
+    let q = queue_of_hop net i k in
     let h = has_delay net at run i k s w in
     let one = horizontals_are_nonnegative (values at (cell_of Total s q)) (values at (cell_of QueueService s q))
     (size_in at (cell_of QueueDelay s q)) h.in_queue.is_queue_delay in
@@ -195,7 +195,7 @@ pub flow_goes_on : (net : Net) (at : CellTable) (run : SpecRun) (i k s : ℕ) �
     → suc k < hops net i → (a b : ℚ) → a ≤ℚ b
     → Fin (departed_in (of_flow i) (seen_by net run s) a b) ≤ₑ values at (cell_of Out i k) (b -ℚ a)
 flow_goes_on net at run i k s w more a b l =
-    let q = queue_at net i k in
+    let q = queue_of_hop net i k in
     let V = seen_by net run s in
     let x = b -ℚ a in
     let low : zero_q ≤ℚ x = with2 a b (λ c. omega (arith, c.le, c.lt, c.same)) in
@@ -233,10 +233,10 @@ flow_served_there net at run i k s w =
     (part_agrees net at run i k s w)
     (flow_served net at run i k s w).serves
 
-pub hop_kept : (net : Net) (at : CellTable) (run : SpecRun) (i k : ℕ) → AtHop net at run i k (server_at net i k)
+pub hop_kept : (net : Net) (at : CellTable) (run : SpecRun) (i k : ℕ) → AtHop net at run i k (server_of_hop net i k)
     → IsHopKept net at run i k
 hop_kept net at run i k w =
-    let s = server_at net i k in
+    let s = server_of_hop net i k in
     let meets = w.server.meets in
     record {
       comes = curve_has at (cell_of In i k) _ _ (in_curve net at i k meets w.within)

@@ -16,7 +16,7 @@ use Rattle.net_cells.specs.declared.cell.Kind.TheVariants.{HopDelay}
 use Rattle.net_cells.specs.Numbered.{link}
 use Rattle.net_cells.specs.Cells.{cell_of}
 use Rattle.net_cells.specs.Meanings.{CellTable}
-use Rattle.net_cells.specs.NumberSums.{total}
+use Rattle.net_cells.specs.NumberSums.{sum_of_numbers}
 use Rattle.net_cells.specs.Means.{HaveNumbers, with_links}
 use Rattle.net_bounds.specs.NetRuns.{hops_along, routes_of}
 use Rattle.net_bounds.specs.Promises.{seen_by}
@@ -25,20 +25,20 @@ use Rattle.net_bounds.proofs.Cells.{number_is}
 use Rattle.net_bounds.proofs.Hops.{AtHop, flow_stays_there, hop_delay_low}
 
 -- ---- sums of numbers
-total_between : (xs ys : List Ext) (y : Ext) → total (xs ++ y ∷ ys) ≡ y +ₑ total (xs ++ ys)
+total_between : (xs ys : List Ext) (y : Ext) → sum_of_numbers (xs ++ y ∷ ys) ≡ y +ₑ sum_of_numbers (xs ++ ys)
 total_between [] ys y = refl
 total_between (x ∷ xs) ys y =
     ap (λ (z : Ext). x +ₑ z) (total_between xs ys y)
-    ∙ sym (add_ext_assoc x y (total (xs ++ ys)))
-    ∙ ap (λ (z : Ext). z +ₑ total (xs ++ ys)) (add_ext_comm x y)
-    ∙ add_ext_assoc y x (total (xs ++ ys))
+    ∙ sym (add_ext_assoc x y (sum_of_numbers (xs ++ ys)))
+    ∙ ap (λ (z : Ext). z +ₑ sum_of_numbers (xs ++ ys)) (add_ext_comm x y)
+    ∙ add_ext_assoc y x (sum_of_numbers (xs ++ ys))
 
 -- one more hop: its delay and its link
-one_more_hop : (d l rest : Ext) (xs ys : List Ext) → rest ≡ total (xs ++ ys)
-    → (d +ₑ l) +ₑ rest ≡ total ((d ∷ xs) ++ l ∷ ys)
+one_more_hop : (d l rest : Ext) (xs ys : List Ext) → rest ≡ sum_of_numbers (xs ++ ys)
+    → (d +ₑ l) +ₑ rest ≡ sum_of_numbers ((d ∷ xs) ++ l ∷ ys)
 one_more_hop d l rest xs ys e =
     ap (λ (z : Ext). (d +ₑ l) +ₑ z) e
-    ∙ add_ext_assoc d l (total (xs ++ ys))
+    ∙ add_ext_assoc d l (sum_of_numbers (xs ++ ys))
     ∙ ap (λ (z : Ext). d +ₑ z) (sym (total_between xs ys l))
 
 -- ---- the rest of a path
@@ -80,7 +80,7 @@ stays_along net at run i j (s ∷ path) (q ∷ queues) (x ∷ xs) e h are =
 -- ---- and their sum
 pub sum_is : (net : Net) (at : CellTable) (i j : ℕ) (path queues : List ℕ) (xs : List Ext) → length queues ≡ length path
     → HaveNumbers at (map (cell_of HopDelay i) (range_with_len j (length path))) xs
-    → sum_along (routes_of net) (hops_along path queues) xs ≡ total (with_links xs (map (link net) path))
+    → sum_along (routes_of net) (hops_along path queues) xs ≡ sum_of_numbers (with_links xs (map (link net) path))
 sum_is net at i j [] queues [] e are = refl
 sum_is net at i j [] queues (x ∷ xs) e are = absurd are
 sum_is net at i j (s ∷ path) [] xs e are = absurd (omega (arith, e))

@@ -4,7 +4,7 @@ use Rattle.std.proofs.Common.{arith, refl, sym, subst}
 use Rattle.std.proofs.lemmas.Option.{slice_get_within}
 use Rattle.run_laws.specs.Servers.{queue_count}
 use Rattle.net_model.specs.Networks.{Net, NetServer}
-use Rattle.net_cells.specs.Numbered.{queues, discipline_of, server_at}
+use Rattle.net_cells.specs.Numbered.{queues, discipline_of, server_of_hop}
 use Rattle.run_laws.specs.Runs.{SpecRun}
 use Rattle.run_laws.specs.Cards.{of_flow}
 use Rattle.run_laws.specs.Premises.{KeepsArrivals}
@@ -62,7 +62,7 @@ pub table_bounds_every_run : TableBoundsEveryRun
 table_bounds_every_run net order at run accepted is_order meets run_of = record {
   hops = λ i k h. hop_kept net at run i k
       record {
-        server = at_server net order at run (server_at net i k) accepted is_order meets run_of
+        server = at_server net order at run (server_of_hop net i k) accepted is_order meets run_of
             (hop_inside net i k accepted h);
         within = h;
         is = refl;

@@ -15,7 +15,7 @@ use Rattle.residual_laws.specs.DrrLaws.{IsDrrService}
 use Rattle.net_model.specs.Networks.{Net}
 use Rattle.net_cells.specs.declared.cell.Cell.{Cell}
 use Rattle.net_cells.specs.declared.cell.Kind.TheVariants.{In, Cross, Total, Higher, QueueService, QueueDelay, QueueBacklog}
-use Rattle.net_cells.specs.Numbered.{hops, server_at, queue_at, service, discipline, queues, levels}
+use Rattle.net_cells.specs.Numbered.{hops, server_of_hop, queue_of_hop, service, discipline, queues, levels}
 use Rattle.net_cells.specs.declared.visit.Visit.{Visit}
 use Rattle.net_cells.specs.Visits.{visits_in, others, longest, longest_after}
 use Rattle.net_cells.specs.Cells.{cell_of}
@@ -24,7 +24,7 @@ use Rattle.net_cells.specs.Meanings.{Meaning, curve, CellTable, IsCurveIn}
 use Rattle.net_cells.specs.CellFormulas.{queue_service}
 use Rattle.net_cells.specs.Means.{Means, IsPriorityCurve, IsDrrCurve}
 use Rattle.net_cells.specs.Equations.{MeetsEquations}
-use Rattle.net_bounds.specs.TableValues.{HasCurve, HasNumber}
+use Rattle.net_bounds.specs.TableValues.{HasFunction, HasNumber}
 use Rattle.net_bounds.proofs.ListSums.{sum_over}
 use Rattle.net_bounds.proofs.Cells.{values, of_values, curve_from, curve_map, HasValues, sum_reads, AllCurves}
 use Rattle.net_bounds.proofs.FormulaParts.{vertical_same, a_curve, less_reads, number_map, deviation_reads}
@@ -63,7 +63,7 @@ visit_curves net at (v ∷ vs) meets h =
 visit_sum : (net : Net) (at : CellTable) (c : Cell) (vs : List Visit) (v : Meaning) → MeetsEquations net at
     → AreHops net vs
     → at c ≡ Some v → IsCurveIn (λ f. HasValues (sum_over (values at) (map (at_visit In) vs)) (value_at f)) v
-    → HasCurve at c (HasValues (sum_over (arriving_at at) vs))
+    → HasFunction at c (HasValues (sum_over (arriving_at at) vs))
 visit_sum net at c vs v meets h is reads =
     curve_from at c (HasValues (sum_over (arriving_at at) vs)) v is
     (curve_map (λ f. HasValues (sum_over (values at) (map (at_visit In) vs)) (value_at f))
@@ -71,32 +71,32 @@ visit_sum net at c vs v meets h is reads =
     (λ f k t p. k t p ∙ visits_over at vs t) reads)
 
 pub cross_is : (net : Net) (at : CellTable) (i k : ℕ) → MeetsEquations net at → k < hops net i
-    → AreHops net (others net i (server_at net i k) (queue_at net i k))
-    → HasCurve at (cell_of Cross i k)
-    (HasValues (sum_over (arriving_at at) (others net i (server_at net i k) (queue_at net i k))))
+    → AreHops net (others net i (server_of_hop net i k) (queue_of_hop net i k))
+    → HasFunction at (cell_of Cross i k)
+    (HasValues (sum_over (arriving_at at) (others net i (server_of_hop net i k) (queue_of_hop net i k))))
 cross_is net at i k meets h are =
     let e = meets (cell_of Cross i k) (lt-ltb k (hops net i) h) in
-    let vs = others net i (server_at net i k) (queue_at net i k) in
+    let vs = others net i (server_of_hop net i k) (queue_of_hop net i k) in
     visit_sum net at (cell_of Cross i k) vs e.value meets are e.is
     (sum_reads at (map (at_visit In) vs) e.value (visit_curves net at vs meets are) e.means)
 
 pub total_is : (net : Net) (at : CellTable) (s q : ℕ) → MeetsEquations net at → q < queues net s
     → AreHops net (visits_in net s q)
-    → HasCurve at (cell_of Total s q) (HasValues (sum_over (arriving_at at) (visits_in net s q)))
+    → HasFunction at (cell_of Total s q) (HasValues (sum_over (arriving_at at) (visits_in net s q)))
 total_is net at s q meets h are =
     let e = meets (cell_of Total s q) (lt-ltb q (queues net s) h) in
     let vs = visits_in net s q in
     visit_sum net at (cell_of Total s q) vs e.value meets are e.is
     (sum_reads at (map (at_visit In) vs) e.value (visit_curves net at vs meets are) e.means)
 
-queue_curves : (at : CellTable) (s : ℕ) (qs : List ℕ) → ((q : ℕ) → Has qs q → HasCurve at (cell_of Total s q) a_curve)
+queue_curves : (at : CellTable) (s : ℕ) (qs : List ℕ) → ((q : ℕ) → Has qs q → HasFunction at (cell_of Total s q) a_curve)
     → AllCurves at (map (cell_of Total s) qs)
 queue_curves at s [] h = tt
 queue_curves at s (q ∷ qs) h = (h q (inl refl), queue_curves at s qs (λ p m. h p (inr m)))
 
 pub higher_is : (net : Net) (at : CellTable) (s q : ℕ) → MeetsEquations net at → q < levels net s
-    → ((p : ℕ) → Has (range_with_len 0 q) p → HasCurve at (cell_of Total s p) a_curve)
-    → HasCurve at (cell_of Higher s q) (HasValues (sum_over (total_at at s) (range_with_len 0 q)))
+    → ((p : ℕ) → Has (range_with_len 0 q) p → HasFunction at (cell_of Total s p) a_curve)
+    → HasFunction at (cell_of Higher s q) (HasValues (sum_over (total_at at s) (range_with_len 0 q)))
 higher_is net at s q meets h totals =
     let e = meets (cell_of Higher s q) (lt-ltb q (levels net s) h) in
     let qs = range_with_len 0 q in
@@ -133,7 +133,7 @@ service_reads net at s q (Drr quanta) v m =
     (λ f k. k.serves) m
 
 pub queue_service_is : (net : Net) (at : CellTable) (s q : ℕ) → MeetsEquations net at → q < queues net s
-    → HasCurve at (cell_of QueueService s q) (IsServiceBy net at s q (discipline net s))
+    → HasFunction at (cell_of QueueService s q) (IsServiceBy net at s q (discipline net s))
 queue_service_is net at s q meets h =
     let e = meets (cell_of QueueService s q) (lt-ltb q (queues net s) h) in
     curve_from at (cell_of QueueService s q) (IsServiceBy net at s q (discipline net s)) e.value e.is

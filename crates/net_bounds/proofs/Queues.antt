@@ -30,7 +30,7 @@ use Rattle.residual_laws.proofs.DrrGrowth as drr
 use Rattle.net_model.specs.Networks.{Net, NetServer}
 use Rattle.net_model.specs.Accepted.{IsAccepted, HasFewQueues}
 use Rattle.net_cells.specs.declared.cell.Kind.TheVariants.{Total, Higher, QueueService, QueueDelay, QueueBacklog}
-use Rattle.net_cells.specs.Numbered.{service, service_of, discipline, discipline_of, queues, levels, levels_of, queue_at}
+use Rattle.net_cells.specs.Numbered.{service, service_of, discipline, discipline_of, queues, levels, levels_of, queue_of_hop}
 use Rattle.net_cells.specs.Visits.{longest, longest_after}
 use Rattle.net_cells.specs.Cells.{cell_of}
 use Rattle.net_cells.specs.Meanings.{CellTable}
@@ -120,8 +120,8 @@ no_such_queue net at run s p w h =
     one : (c : Card) → IsVisiting net s c → of_queue p c ≡ true → c.bits ≤ 0
     one c v e =
         let inside = queue_inside net c.flow (hop_at net c.flow s) w.accepted v.within in
-        let at_s : queue_at net c.flow (hop_at net c.flow s) < queues net s =
-        subst (λ (r : ℕ). queue_at net c.flow (hop_at net c.flow s) < queues net r) v.server inside in
+        let at_s : queue_of_hop net c.flow (hop_at net c.flow s) < queues net s =
+        subst (λ (r : ℕ). queue_of_hop net c.flow (hop_at net c.flow s) < queues net r) v.server inside in
         let same : c.queue ≡ p = eqb-true c.queue p e in
         let is = v.queue in
         absurd (omega arith)

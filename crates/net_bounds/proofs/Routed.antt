@@ -12,7 +12,7 @@ use Rattle.run_laws.specs.Routes.{Hop, Routes, Route, route_of, link_at, PassesS
 use Rattle.net_model.specs.Networks.{Net, NetServer, NetFlow}
 use Rattle.net_model.specs.Accepted.{IsAccepted, IsServer}
 use Rattle.net_laws.specs.Paths.{IsPath}
-use Rattle.net_cells.specs.Numbered.{flow_at, path_of, queues_of, path, hops, server_at, queue_at, is_live, link_of, link, discipline, discipline_of}
+use Rattle.net_cells.specs.Numbered.{flow_at, path_of, queues_of, path, hops, server_of_hop, queue_of_hop, is_live, link_of, link, discipline, discipline_of}
 use Rattle.net_cells.proofs.Lists.{Apart}
 use Rattle.net_cells.proofs.Places.{live_inside}
 use Rattle.net_cells.proofs.Members.{hop_kept}
@@ -141,16 +141,16 @@ link_nonneg net s a = one (slice_get net.servers s) refl
     one (Some x) e = (server_kept net s x a e).link
 
 -- ---- hops
-pub hop_inside : (net : Net) (i k : ℕ) → IsAccepted net → k < hops net i → server_at net i k < length net.servers
+pub hop_inside : (net : Net) (i k : ℕ) → IsAccepted net → k < hops net i → server_of_hop net i k < length net.servers
 hop_inside net i k a h =
     let hop = hop_kept net i k a h in
-    slice_get_within net.servers (server_at net i k) hop.server hop.is
+    slice_get_within net.servers (server_of_hop net i k) hop.server hop.is
 
 pub queue_inside : (net : Net) (i k : ℕ) → IsAccepted net → k < hops net i
-    → queue_at net i k < queue_count (discipline net (server_at net i k))
+    → queue_of_hop net i k < queue_count (discipline net (server_of_hop net i k))
 queue_inside net i k a h =
     let hop = hop_kept net i k a h in
-    subst (λ (o : Option NetServer). queue_at net i k < queue_count (discipline_of o)) (sym hop.is) hop.has_queue
+    subst (λ (o : Option NetServer). queue_of_hop net i k < queue_count (discipline_of o)) (sym hop.is) hop.has_queue
 
 -- the place of a server on a flow's path
 abbrev pub hop_at : Net → ℕ → ℕ → ℕ
@@ -158,7 +158,7 @@ hop_at net i s = place_in s (path net i)
 
 pub record PassesAt (net : Net) (i s : ℕ) : Type 0 where
   pub within : hop_at net i s < hops net i
-  pub is : server_at net i (hop_at net i s) ≡ s
+  pub is : server_of_hop net i (hop_at net i s) ≡ s
 
 pub passes_at : (net : Net) (i s : ℕ) → PassesServer s (route_of (routes_of net) i).hops → PassesAt net i s
 passes_at net i s p =
@@ -167,12 +167,12 @@ passes_at net i s p =
     record { within = stands.within; is = stands.is }
 
 pub hop_passes : (net : Net) (i k : ℕ) → IsAccepted net → k < hops net i
-    → PassesServer (server_at net i k) (route_of (routes_of net) i).hops
+    → PassesServer (server_of_hop net i k) (route_of (routes_of net) i).hops
 hop_passes net i k a h =
     let on = routed net i a (hop_is_live net i k h) in
-    subst (PassesServer (server_at net i k)) (sym (hops_is net i))
-    (has_passes (server_at net i k) (path net i) (own_queues net i) on.paired
-    (at_has (path net i) k 0 (server_at net i k) h refl))
+    subst (PassesServer (server_of_hop net i k)) (sym (hops_is net i))
+    (has_passes (server_of_hop net i k) (path net i) (own_queues net i) on.paired
+    (at_has (path net i) k 0 (server_of_hop net i k) h refl))
 
 -- ---- each live flow has a path
 pub path_is : (net : Net) (i : ℕ) → IsAccepted net → (route_of (routes_of net) i).live ≡ true
@@ -183,7 +183,7 @@ path_is net i a live =
     (is_path (routes_of net) (path net i) (own_queues net i)
     (λ s h.
     let stands = placed s (path net i) h in
-    let inside : server_at net i (hop_at net i s) < length net.servers =
+    let inside : server_of_hop net i (hop_at net i s) < length net.servers =
     hop_inside net i (hop_at net i s) a stands.within in
     let small : s < length net.servers = subst (λ (t : ℕ). t < length net.servers) stands.is inside in
     subst (λ (n : ℕ). s < n) (sym (servers_are net)) small)

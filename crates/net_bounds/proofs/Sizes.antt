@@ -8,7 +8,7 @@ use Rattle.run_laws.specs.Cards.{Card, of_flow, of_queue, after_queue}
 use Rattle.run_laws.specs.Premises.{KeepsSizes}
 use Rattle.run_laws.proofs.Arrivals.{arrivals_map}
 use Rattle.net_model.specs.Networks.{Net}
-use Rattle.net_cells.specs.Numbered.{packet, queue_at}
+use Rattle.net_cells.specs.Numbered.{packet, queue_of_hop}
 use Rattle.net_cells.specs.declared.visit.Visit.{Visit}
 use Rattle.net_cells.specs.Visits.{visits, visits_in, visits_after, longest_of, longest, longest_after}
 use Rattle.net_cells.specs.Meanings.{CellTable}
@@ -48,9 +48,9 @@ after_sizes net at run s q w =
   where
     one : (c : Card) → IsVisiting net s c → after_queue q c ≡ true → c.bits ≤ longest_after net s q
     one c v e =
-        let later : nat_lt q (queue_at net c.flow (hop_at net c.flow s)) ≡ true =
+        let later : nat_lt q (queue_of_hop net c.flow (hop_at net c.flow s)) ≡ true =
         subst (λ (p : ℕ). nat_lt q p ≡ true) (sym v.queue) e in
-        let there = has_filter (λ u. nat_lt q (queue_at net u.flow u.hop)) (visits net s) (card_visit net s c)
+        let there = has_filter (λ u. nat_lt q (queue_of_hop net u.flow u.hop)) (visits net s) (card_visit net s c)
         (has_card net s c v) later in
         let most = longest_most net (visits_after net s q) (card_visit net s c) there in
         let small = v.small in

@@ -8,7 +8,7 @@ use Rattle.net_cells.specs.Meanings.{curve, CellTable}
 pub use Rattle.net_cells.specs.TableValues.{HasNumber}
 
 -- it has a curve there, and of that curve P holds
-pub record HasCurve (at : CellTable) (c : Cell) (P : (ℚ → Ext) → Type 0) : Type 0 where
+pub record HasFunction (at : CellTable) (c : Cell) (P : (ℚ → Ext) → Type 0) : Type 0 where
   pub value : SpecCurve
   pub is : at c ≡ Some (curve value)
   pub holds : P (value_at value)

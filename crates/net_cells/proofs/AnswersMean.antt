@@ -17,7 +17,7 @@ use Rattle.residual_laws.specs.DrrCalls.{MakesDrr}
 use Rattle.residual_laws.proofs.DrrCalls as drr_calls
 use Rattle.net_cells.specs.Numbered.{zero_curve}
 use Rattle.net_cells.specs.Meanings.{Meaning, curve, number, CellTable, IsCurveIn, IsNumberIn}
-use Rattle.net_cells.specs.NumberSums.{Sums, total}
+use Rattle.net_cells.specs.NumberSums.{Sums, sum_of_numbers}
 use Rattle.net_cells.specs.Formulas.{Formula, value_of, given, empty_sum, made, made_of, moved, leftover, priority, deficit, horizontal, vertical, smaller, along, delayed}
 use Rattle.net_cells.specs.Means.{Means, OfCurve, OfNumber, IsPriorityCurve, IsDrrCurve, with_links}
 use Rattle.net_cells.specs.Answers.{Answer, Answers, IsOnly, MakesCurve, MakesNumber, Deviates, ThenCurve, ThenNumber}
@@ -38,7 +38,7 @@ again : (f : SpecCurve) (v : Meaning) → MakesCurve (IsAgain f) (Ok v) → v �
 again f (curve g) a = ap curve a
 again f (number x) a = absurd a
 
-sums : (xs : List Ext) (v : Meaning) → MakesNumber (Sums xs) (Ok v) → v ≡ number (total xs)
+sums : (xs : List Ext) (v : Meaning) → MakesNumber (Sums xs) (Ok v) → v ≡ number (sum_of_numbers xs)
 sums xs (curve g) a = absurd a
 sums xs (number x) a = ap number a.1
 
@@ -143,5 +143,5 @@ answers_mean at (along cells links) v a =
     record { numbers = a.numbers; are = a.are; gives = sums (with_links a.numbers links) v a.answers }
 answers_mean at (delayed F links) v a =
     on_number (Answers at F) (λ x. MakesNumber (Sums (with_links (x ∷ []) links)))
-    (Means at F) (λ x w. w ≡ number (total (with_links (x ∷ []) links))) v (answers_mean at F)
+    (Means at F) (λ x w. w ≡ number (sum_of_numbers (with_links (x ∷ []) links))) v (answers_mean at F)
     (λ x. sums (with_links (x ∷ []) links) v) a

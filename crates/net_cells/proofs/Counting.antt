@@ -5,7 +5,7 @@ use Rattle.std.specs.List.{filter, flat_map, range_with_len}
 use Rattle.std.proofs.lemmas.Bool.{cases_lt, cases_eq, eq-eqb, ne_eqb}
 use Rattle.std.proofs.lemmas.List.{get_or_past}
 use Rattle.net_model.specs.Networks.{Net, NetFlow}
-use Rattle.net_cells.specs.Numbered.{flow_at, path, path_of, queues_of, hops, queue_at}
+use Rattle.net_cells.specs.Numbered.{flow_at, path, path_of, queues_of, hops, queue_of_hop}
 use Rattle.net_cells.specs.Visits.{Visit, visit, visits_in, hops_at, hops_in}
 use Rattle.net_cells.proofs.Growing.{flat_more, filter_flat, flat_same, filter_mapped, kept_number, dropped_number}
 use Rattle.net_cells.proofs.Stored.{visits_by_flow}
@@ -44,21 +44,21 @@ abbrev pub hops_of : Net → ℕ → ℕ → ℕ → List Visit
 hops_of net s q i = hops_in i (path net i) (queues_of (flow_at net i)) s q
 
 one_flow : (net : Net) (s q i : ℕ)
-    → filter (λ (v : Visit). eqb (queue_at net v.flow v.hop) q) (hops_at i (path net i) s) ≡ hops_of net s q i
+    → filter (λ (v : Visit). eqb (queue_of_hop net v.flow v.hop) q) (hops_at i (path net i) s) ≡ hops_of net s q i
 one_flow net s q i =
-    filter_twice (λ (v : Visit). eqb (queue_at net v.flow v.hop) q) (λ (v : Visit). eqb (get_or (path net i) v.hop 0) s)
+    filter_twice (λ (v : Visit). eqb (queue_of_hop net v.flow v.hop) q) (λ (v : Visit). eqb (get_or (path net i) v.hop 0) s)
     (map (visit i) (range_with_len 0 (hops net i)))
-    ∙ filter_mapped (λ (v : Visit). eqb (get_or (path net i) v.hop 0) s && eqb (queue_at net v.flow v.hop) q)
+    ∙ filter_mapped (λ (v : Visit). eqb (get_or (path net i) v.hop 0) s && eqb (queue_of_hop net v.flow v.hop) q)
     (λ (v : Visit). eqb (get_or (path net i) v.hop 0) s && eqb (get_or (queues_of (flow_at net i)) v.hop 0) q) (visit i)
     (range_with_len 0 (hops net i)) (λ k. refl)
 
 pub in_by_flow : (net : Net) (s q : ℕ)
     → visits_in net s q ≡ flat_map (hops_of net s q) (range_with_len 0 (length net.flows))
 in_by_flow net s q =
-    ap (filter (λ (v : Visit). eqb (queue_at net v.flow v.hop) q)) (visits_by_flow net s)
-    ∙ filter_flat (λ (v : Visit). eqb (queue_at net v.flow v.hop) q) (λ i. hops_at i (path net i) s)
+    ap (filter (λ (v : Visit). eqb (queue_of_hop net v.flow v.hop) q)) (visits_by_flow net s)
+    ∙ filter_flat (λ (v : Visit). eqb (queue_of_hop net v.flow v.hop) q) (λ i. hops_at i (path net i) s)
     (range_with_len 0 (length net.flows))
-    ∙ flat_same (λ i. filter (λ (v : Visit). eqb (queue_at net v.flow v.hop) q) (hops_at i (path net i) s))
+    ∙ flat_same (λ i. filter (λ (v : Visit). eqb (queue_of_hop net v.flow v.hop) q) (hops_at i (path net i) s))
     (hops_of net s q)
     (range_with_len 0 (length net.flows)) (one_flow net s q)
 

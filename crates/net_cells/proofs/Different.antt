@@ -7,12 +7,12 @@ use Rattle.net_model.specs.Networks.{Net}
 use Rattle.net_cells.specs.declared.cell.Cell.{Cell}
 use Rattle.net_cells.specs.declared.cell.Kind.{Kind}
 use Rattle.net_cells.specs.declared.cell.Kind.TheVariants.{In, Cross, Total, Higher, QueueService, Theta, Residual, QueueDelay, QueueBacklog, HopDelay, ShiftOut, DeconvOut, Out, PathService, Tfa, Sfa, Bound}
-use Rattle.net_cells.specs.Numbered.{hops, server_at, queue_at, discipline}
+use Rattle.net_cells.specs.Numbered.{hops, server_of_hop, queue_of_hop, discipline}
 use Rattle.net_cells.specs.Visits.{Visit, visits, visits_in, others}
 use Rattle.net_cells.specs.Cells.{cell_of}
 use Rattle.net_cells.specs.Order.{at_visit}
 use Rattle.net_cells.specs.Formulas.{leaves}
-use Rattle.net_cells.specs.CellFormulas.{formula, formula_of, sum_of, arriving, queue_service}
+use Rattle.net_cells.specs.CellFormulas.{formula, formula_of, sum_of_cells, arriving, queue_service}
 use Rattle.net_cells.specs.Laws.{OperandsAreDifferent}
 use Rattle.net_cells.proofs.Lists.{Apart, apart_pairs, apart_map, apart_filter, apart_range}
 use Rattle.net_cells.proofs.Places.{apart_visits, at_visit_one, cell_of_one}
@@ -43,9 +43,9 @@ numbers_apart : (kind : Kind) (a n : ℕ) → Apart (map (cell_of kind a) (range
 numbers_apart kind a n = apart_map (cell_of kind a) (range_with_len 0 n) (cell_of_one kind a) (apart_range 0 n)
 
 in_apart : (net : Net) (s q : ℕ) → Apart (visits_in net s q)
-in_apart net s q = apart_filter (λ (v : Visit). queue_at net v.flow v.hop == q) (visits net s) (apart_visits net s)
+in_apart net s q = apart_filter (λ (v : Visit). queue_of_hop net v.flow v.hop == q) (visits net s) (apart_visits net s)
 
-sum_apart : (cs : List Cell) → Apart cs → Apart (leaves (sum_of cs))
+sum_apart : (cs : List Cell) → Apart cs → Apart (leaves (sum_of_cells cs))
 sum_apart cs a = subst Apart (sym (sum_leaves cs)) a
 
 -- ---- by kinds
@@ -61,8 +61,8 @@ of_service net s q (Drr quanta) = tt
 of_kind : (net : Net) (kind : Kind) (a b : ℕ) → Apart (leaves (formula_of net kind a b))
 of_kind net In i k = of_arriving net i k
 of_kind net Cross i k =
-    let s = server_at net i k in
-    let q = queue_at net i k in
+    let s = server_of_hop net i k in
+    let q = queue_of_hop net i k in
     sum_apart (map (at_visit In) (others net i s q))
     (apart_map (at_visit In) (others net i s q) (at_visit_one In)
     (apart_filter (λ (v : Visit). not (v.flow == i)) (visits_in net s q) (in_apart net s q)))
@@ -71,15 +71,15 @@ of_kind net Total s q =
     (apart_map (at_visit In) (visits_in net s q) (at_visit_one In) (in_apart net s q))
 of_kind net Higher s q = sum_apart (map (cell_of Total s) (range_with_len 0 q)) (numbers_apart Total s q)
 of_kind net QueueService s q = of_service net s q (discipline net s)
-of_kind net Theta i k = two_apart (cell_of Cross i k) (cell_of QueueService (server_at net i k) (queue_at net i k))
+of_kind net Theta i k = two_apart (cell_of Cross i k) (cell_of QueueService (server_of_hop net i k) (queue_of_hop net i k))
     (λ e. cc)
 of_kind net Residual i k =
-    three_apart (cell_of QueueService (server_at net i k) (queue_at net i k)) (cell_of Cross i k) (cell_of Theta i k)
+    three_apart (cell_of QueueService (server_of_hop net i k) (queue_of_hop net i k)) (cell_of Cross i k) (cell_of Theta i k)
     (λ e. cc) (λ e. cc) (λ e. cc)
 of_kind net QueueDelay s q = two_apart (cell_of Total s q) (cell_of QueueService s q) (λ e. cc)
 of_kind net QueueBacklog s q = two_apart (cell_of Total s q) (cell_of QueueService s q) (λ e. cc)
 of_kind net HopDelay i k =
-    three_apart (cell_of QueueDelay (server_at net i k) (queue_at net i k)) (cell_of In i k) (cell_of Residual i k)
+    three_apart (cell_of QueueDelay (server_of_hop net i k) (queue_of_hop net i k)) (cell_of In i k) (cell_of Residual i k)
     (λ e. cc) (λ e. cc) (λ e. cc)
 of_kind net ShiftOut i k = two_apart (cell_of In i k) (cell_of HopDelay i k) (λ e. cc)
 of_kind net DeconvOut i k = two_apart (cell_of In i k) (cell_of Residual i k) (λ e. cc)

@@ -10,13 +10,13 @@ use Rattle.net_cells.specs.declared.cell.Kind.TheVariants.{Higher, Residual}
 use Rattle.net_cells.specs.Numbered.{is_by_priority}
 use Rattle.net_cells.specs.Cells.{cell_of}
 use Rattle.net_cells.specs.Formulas.{Formula, leaves, made, value_of}
-use Rattle.net_cells.specs.CellFormulas.{sum_of, sum_from, packets_to, served_to, queue_service}
+use Rattle.net_cells.specs.CellFormulas.{sum_of_cells, sum_from, packets_to, served_to, queue_service}
 
 sum_from_leaves : (F : Formula) (cs : List Cell) → leaves (sum_from F cs) ≡ leaves F ++ cs
 sum_from_leaves F [] = sym (append-nil (leaves F))
 sum_from_leaves F (c ∷ cs) = sum_from_leaves (made Sum F (value_of c)) cs ∙ append_assoc (leaves F) (c ∷ []) cs
 
-pub sum_leaves : (cs : List Cell) → leaves (sum_of cs) ≡ cs
+pub sum_leaves : (cs : List Cell) → leaves (sum_of_cells cs) ≡ cs
 sum_leaves [] = refl
 sum_leaves (c ∷ cs) = sum_from_leaves (value_of c) cs
 

@@ -14,7 +14,7 @@ use Rattle.net_graph.proofs.Forward.{has_each_server}
 use Rattle.net_cells.specs.declared.cell.Cell.{Cell}
 use Rattle.net_cells.specs.declared.cell.Scope.{Scope}
 use Rattle.net_cells.specs.declared.cell.Scope.TheVariants.{EachHop, EachHopButLast, EachQueue, EachPriorityQueue, EachPath}
-use Rattle.net_cells.specs.Numbered.{flow_at, path_of, queues_of, packet_of, hops, server_at, queue_at, is_live, queues, levels, levels_of, discipline_of}
+use Rattle.net_cells.specs.Numbered.{flow_at, path_of, queues_of, packet_of, hops, server_of_hop, queue_of_hop, is_live, queues, levels, levels_of, discipline_of}
 use Rattle.net_cells.specs.Cells.{cell_of, scope_of, is_in_scope, has_cell, path_kinds}
 use Rattle.net_cells.specs.Order.{evaluation_order, server_cells, path_cells}
 use Rattle.net_cells.specs.Laws.{OrderHasEachCell}
@@ -43,7 +43,7 @@ hop_of net i k h =
     }
 
 pub hop_kept : (net : Net) (i k : ℕ) → IsAccepted net → (h : k < hops net i)
-    → IsHop net.servers (server_at net i k) (queue_at net i k) (packet_of (flow_at net i))
+    → IsHop net.servers (server_of_hop net i k) (queue_of_hop net i k) (packet_of (flow_at net i))
 hop_kept net i k a h =
     let hop = hop_of net i k h in
     let place : get_or net.flows i (Some hop.flow) ≡ Some hop.flow =
@@ -71,10 +71,10 @@ pub home_inside : (net : Net) (scope : Scope) (a b : ℕ) → IsAccepted net →
     → home_in net scope a b < length net.servers
 home_inside net EachHop a b acc h n =
     let hop = hop_kept net a b acc (ltb-true b (hops net a) h) in
-    slice_get_within net.servers (server_at net a b) hop.server hop.is
+    slice_get_within net.servers (server_of_hop net a b) hop.server hop.is
 home_inside net EachHopButLast a b acc h n =
     let hop = hop_kept net a b acc (let l = ltb-true (b + 1) (hops net a) h in omega (arith, l)) in
-    slice_get_within net.servers (server_at net a b) hop.server hop.is
+    slice_get_within net.servers (server_of_hop net a b) hop.server hop.is
 home_inside net EachQueue a b acc h n = has_queues net a (slice_get net.servers a) b refl (ltb-true b (queues net a) h)
 home_inside net EachPriorityQueue a b acc h n =
     has_levels net a (slice_get net.servers a) b refl (ltb-true b (levels net a) h)

@@ -12,7 +12,7 @@ use Rattle.curve_call.specs.Answers.{IsMadeBy}
 use Rattle.curve_call.proofs.SameAnswers.{made_unique}
 use Rattle.net_cells.specs.declared.cell.Cell.{Cell}
 use Rattle.net_cells.specs.Meanings.{Meaning, curve, number, CellTable, IsCurveIn, IsNumberIn}
-use Rattle.net_cells.specs.NumberSums.{total}
+use Rattle.net_cells.specs.NumberSums.{sum_of_numbers}
 use Rattle.net_cells.specs.Formulas.{Formula, value_of, given, empty_sum, made, made_of, moved, leftover, priority, deficit, horizontal, vertical, smaller, along, delayed}
 use Rattle.net_cells.specs.Means.{Means, OfCurve, OfNumber, OfCells, HaveNumbers, IsPriorityCurve, IsDrrCurve, with_links}
 
@@ -129,10 +129,10 @@ means_one at (smaller F G) v w a b =
     (λ y. equal_one (number (min_ext x y))))
     v w a b
 means_one at (along cells links) v w a b =
-    of_cells_one at cells (λ xs u. u ≡ number (total (with_links xs links)))
-    (λ xs. equal_one (number (total (with_links xs links))))
+    of_cells_one at cells (λ xs u. u ≡ number (sum_of_numbers (with_links xs links)))
+    (λ xs. equal_one (number (sum_of_numbers (with_links xs links))))
     v w a b
 means_one at (delayed F links) v w a b =
-    of_number_one (Means at F) (λ x u. u ≡ number (total (with_links (x ∷ []) links))) (means_one at F)
-    (λ x. equal_one (number (total (with_links (x ∷ []) links))))
+    of_number_one (Means at F) (λ x u. u ≡ number (sum_of_numbers (with_links (x ∷ []) links))) (means_one at F)
+    (λ x. equal_one (number (sum_of_numbers (with_links (x ∷ []) links))))
     v w a b

@@ -10,7 +10,7 @@ use Rattle.net_cells.specs.declared.cell.Kind.{Kind}
 use Rattle.net_cells.specs.declared.cell.Kind.TheVariants.{In, Cross, Total, Higher, QueueService, Theta, Residual, QueueDelay, QueueBacklog, HopDelay, ShiftOut, DeconvOut, Out, PathService, Tfa, Sfa, Bound}
 use Rattle.net_cells.specs.declared.cell.Scope.{Scope}
 use Rattle.net_cells.specs.declared.cell.Scope.TheVariants.{EachHop, EachHopButLast, EachQueue, EachPriorityQueue, EachPath}
-use Rattle.net_cells.specs.Numbered.{flow_at, path_of, hops, server_at, is_live, queues, levels}
+use Rattle.net_cells.specs.Numbered.{flow_at, path_of, hops, server_of_hop, is_live, queues, levels}
 use Rattle.net_cells.specs.Visits.{Visit, visit, all_visits, visits, is_at, goes_on}
 use Rattle.net_cells.specs.Cells.{cell_of, scope_of, is_in_scope, has_cell, server_kinds, path_kinds}
 use Rattle.net_cells.specs.Order.{at_visit, cells_in_scope, kind_cells, server_cells, path_cells}
@@ -57,15 +57,15 @@ all_has net v h =
     let found = range_has 0 (hops net flow.0) hop.0 hop.1 in omega (arith, found.1) in
     subst (λ (w : Visit). w.hop < hops net w.flow) hop.2 below
 
-pub has_visit : (net : Net) (s i k : ℕ) → k < hops net i → server_at net i k ≡ s → Has (visits net s) (visit i k)
+pub has_visit : (net : Net) (s i k : ℕ) → k < hops net i → server_of_hop net i k ≡ s → Has (visits net s) (visit i k)
 has_visit net s i k h e = has_filter (is_at net s) (all_visits net) (visit i k) (has_all net i k h)
-    (eq-eqb (server_at net i k) s e)
+    (eq-eqb (server_of_hop net i k) s e)
 
 pub visit_has : (net : Net) (s : ℕ) (v : Visit) → Has (visits net s) v
-    → (v.hop < hops net v.flow) × (server_at net v.flow v.hop ≡ s)
+    → (v.hop < hops net v.flow) × (server_of_hop net v.flow v.hop ≡ s)
 visit_has net s v h =
     let found = filter_has (is_at net s) (all_visits net) v h in
-    (all_has net v found.0, eqb-true (server_at net v.flow v.hop) s found.1)
+    (all_has net v found.0, eqb-true (server_of_hop net v.flow v.hop) s found.1)
 
 pub apart_visits : (net : Net) (s : ℕ) → Apart (visits net s)
 apart_visits net s =
@@ -80,8 +80,8 @@ apart_visits net s =
 -- ---- cells of one kind at a server
 -- the server of a cell's hop or queue
 abbrev pub home_in : Net → Scope → ℕ → ℕ → ℕ
-home_in net EachHop a b = server_at net a b
-home_in net EachHopButLast a b = server_at net a b
+home_in net EachHop a b = server_of_hop net a b
+home_in net EachHopButLast a b = server_of_hop net a b
 home_in net EachQueue a b = a
 home_in net EachPriorityQueue a b = a
 home_in net EachPath a b = 0

@@ -16,12 +16,12 @@ use Rattle.net_cells.specs.declared.cell.Kind.{Kind}
 use Rattle.net_cells.specs.declared.cell.Kind.TheVariants.{In, Cross, Total, Higher, QueueService, Theta, Residual, QueueDelay, QueueBacklog, HopDelay, ShiftOut, DeconvOut, Out, PathService, Tfa, Sfa, Bound}
 use Rattle.net_cells.specs.declared.cell.Scope.{Scope}
 use Rattle.net_cells.specs.declared.cell.Scope.TheVariants.{EachHop, EachHopButLast, EachQueue, EachPath}
-use Rattle.net_cells.specs.Numbered.{flow_at, path_of, hops, server_at, queue_at, queues, levels, levels_of, is_live, discipline, discipline_of}
+use Rattle.net_cells.specs.Numbered.{flow_at, path_of, hops, server_of_hop, queue_of_hop, queues, levels, levels_of, is_live, discipline, discipline_of}
 use Rattle.net_cells.specs.Visits.{Visit, visits, visits_in, others}
 use Rattle.net_cells.specs.Cells.{cell_of, scope_of, is_in_scope, has_cell, server_kinds, path_kinds}
 use Rattle.net_cells.specs.Order.{at_visit, evaluation_order, server_cells, kind_cells, path_cells}
 use Rattle.net_cells.specs.Formulas.{Formula, leaves, made, value_of}
-use Rattle.net_cells.specs.CellFormulas.{formula, sum_of, sum_from, packets_to, served_to, queue_service, less}
+use Rattle.net_cells.specs.CellFormulas.{formula, sum_of_cells, sum_from, packets_to, served_to, queue_service, less}
 use Rattle.net_cells.specs.Laws.{OperandsComeFirst, OperandsAreCells}
 use Rattle.net_cells.proofs.Lists.{Before, map_has, filter_has, range_has, before_left, before_right, before_across, before_flat, before_inside, before_place, before_split, Apart}
 use Rattle.net_cells.proofs.Places.{flow_inside, live_inside, visit_has, home, home_in, rank, kinds_before, path_kinds_before, IsHome, has_kind, has_server, has_path}
@@ -75,7 +75,7 @@ on_path net order i j k h low less high =
     (has_path net j i h) (has_path net k i h))
 
 -- ---- cells that there are
-at_hop : (net : Net) (kind : Kind) (i k s : ℕ) → scope_of kind ≡ EachHop → k < hops net i → server_at net i k ≡ s
+at_hop : (net : Net) (kind : Kind) (i k s : ℕ) → scope_of kind ≡ EachHop → k < hops net i → server_of_hop net i k ≡ s
     → IsHome net s (cell_of kind i k)
 at_hop net kind i k s e h is = record {
   exists = subst (λ (c : Scope). is_in_scope net c i k ≡ true) (sym e) (lt-ltb k (hops net i) h);
@@ -93,14 +93,14 @@ at_queue net kind s q e h = record {
 
 -- the queue of a hop
 queue_exists : (net : Net) (i k : ℕ) → IsAccepted net → k < hops net i
-    → queue_at net i k < queues net (server_at net i k)
+    → queue_of_hop net i k < queues net (server_of_hop net i k)
 queue_exists net i k a h =
     let hop = hop_kept net i k a h in
-    subst (λ (o : Option NetServer). queue_at net i k < queue_count (discipline_of o)) (sym hop.is) hop.has_queue
+    subst (λ (o : Option NetServer). queue_of_hop net i k < queue_count (discipline_of o)) (sym hop.is) hop.has_queue
 
 service_at_home : (net : Net) (i k : ℕ) → IsAccepted net → k < hops net i
-    → IsHome net (server_at net i k) (cell_of QueueService (server_at net i k) (queue_at net i k))
-service_at_home net i k a h = at_queue net QueueService (server_at net i k) (queue_at net i k) refl
+    → IsHome net (server_of_hop net i k) (cell_of QueueService (server_of_hop net i k) (queue_of_hop net i k))
+service_at_home net i k a h = at_queue net QueueService (server_of_hop net i k) (queue_of_hop net i k) refl
     (queue_exists net i k a h)
 
 levels_at_most : (d : Discipline) → levels_of d ≤ queue_count d
@@ -123,7 +123,7 @@ sum_leaves F (c ∷ cs) d h = elim (sum_leaves (made Sum F (value_of c)) cs d h)
     one (inl e) = inl e
     one (inr n) = absurd n
 
-leaf_of_sum : (cs : List Cell) (d : Cell) → Has (leaves (sum_of cs)) d → Has cs d
+leaf_of_sum : (cs : List Cell) (d : Cell) → Has (leaves (sum_of_cells cs)) d → Has cs d
 leaf_of_sum [] d h = absurd h
 leaf_of_sum (c ∷ cs) d h = elim (sum_leaves (value_of c) cs d h) [ inl l ↦ one l | inr r ↦ inr r ]
   where
@@ -150,7 +150,7 @@ one_of net order c x d h e = subst (λ (y : Cell). Before y c (All net order)) e
 
 -- the server of a hop, and of the one after it
 next_is : (net : Net) (i k : ℕ) → IsAccepted net → suc k < hops net i
-    → IsNext net (server_at net i k) (server_at net i (suc k))
+    → IsNext net (server_of_hop net i k) (server_of_hop net i (suc k))
 next_is net i k a h =
     let hop = hop_of net i (suc k) h in
     let place : get_or net.flows i (Some hop.flow) ≡ Some hop.flow =
@@ -166,26 +166,26 @@ next_is net i k a h =
       };
     }
 
-earlier : (net : Net) (order : List ℕ) (i k : ℕ) → Ordered net order → Has order (server_at net i (suc k))
+earlier : (net : Net) (order : List ℕ) (i k : ℕ) → Ordered net order → Has order (server_of_hop net i (suc k))
     → suc k < hops net i
-    → Before (server_at net i k) (server_at net i (suc k)) order
+    → Before (server_of_hop net i k) (server_of_hop net i (suc k)) order
 earlier net order i k o m h =
-    let place = has_contains order (server_at net i (suc k)) m in
-    let is : get_or order place.0 0 ≡ server_at net i (suc k) =
-    get_or_default order place.0 0 (server_at net i (suc k)) place.1 ∙ place.2 in
-    before_place order place.0 (server_at net i k) (server_at net i (suc k)) place.1 is
-    (contains_has (take place.0 order) (server_at net i k)
-    (goes_forward net order (server_at net i k) (server_at net i (suc k)) place.0 o.is
+    let place = has_contains order (server_of_hop net i (suc k)) m in
+    let is : get_or order place.0 0 ≡ server_of_hop net i (suc k) =
+    get_or_default order place.0 0 (server_of_hop net i (suc k)) place.1 ∙ place.2 in
+    before_place order place.0 (server_of_hop net i k) (server_of_hop net i (suc k)) place.1 is
+    (contains_has (take place.0 order) (server_of_hop net i k)
+    (goes_forward net order (server_of_hop net i k) (server_of_hop net i (suc k)) place.0 o.is
     (next_is net i k o.kept h) place.1 is))
 
 in_first : (net : Net) (order : List ℕ) (i k : ℕ) → Ordered net order → k < hops net i
     → OperandsFirst net order (cell_of In i k)
 in_first net order i zero o h d m = absurd m
 in_first net order i (suc k) o h d (inl e) =
-    let s = server_at net i (suc k) in
+    let s = server_of_hop net i (suc k) in
     let home = at_hop net In i (suc k) s refl h refl in
     one_of net order (cell_of In i (suc k)) (cell_of Out i k) d
-    (at_two net order (server_at net i k) s (cell_of In i (suc k)) (cell_of Out i k)
+    (at_two net order (server_of_hop net i k) s (cell_of In i (suc k)) (cell_of Out i k)
     (earlier net order i k o (in_it net order s (cell_of In i (suc k)) o home) h) home
     (record { exists = lt-ltb (k + 1) (hops net i) (omega (arith, h)); at_home = refl; no_path = λ p. cc }))
     e
@@ -194,11 +194,11 @@ in_first net order i (suc k) o h d (inr m) = absurd m
 cross_first : (net : Net) (order : List ℕ) (i k : ℕ) → Ordered net order → k < hops net i
     → OperandsFirst net order (cell_of Cross i k)
 cross_first net order i k o h d m =
-    let s = server_at net i k in
-    let q = queue_at net i k in
+    let s = server_of_hop net i k in
+    let q = queue_of_hop net i k in
     let found = map_has (at_visit In) (others net i s q) d (leaf_of_sum (map (at_visit In) (others net i s q)) d m) in
     let other = filter_has (λ (v : Visit). not (v.flow == i)) (visits_in net s q) found.0 found.1 in
-    let here = filter_has (λ (v : Visit). queue_at net v.flow v.hop == q) (visits net s) found.0 other.0 in
+    let here = filter_has (λ (v : Visit). queue_of_hop net v.flow v.hop == q) (visits net s) found.0 other.0 in
     one_of net order (cell_of Cross i k) (at_visit In found.0) d
     (of_visit net order s (cell_of Cross i k) found.0 o (at_hop net Cross i k s refl h refl) here.0 (omega arith)
     (omega arith))
@@ -208,7 +208,7 @@ total_first : (net : Net) (order : List ℕ) (s q : ℕ) → Ordered net order �
     → OperandsFirst net order (cell_of Total s q)
 total_first net order s q o h d m =
     let found = map_has (at_visit In) (visits_in net s q) d (leaf_of_sum (map (at_visit In) (visits_in net s q)) d m) in
-    let here = filter_has (λ (v : Visit). queue_at net v.flow v.hop == q) (visits net s) found.0 found.1 in
+    let here = filter_has (λ (v : Visit). queue_of_hop net v.flow v.hop == q) (visits net s) found.0 found.1 in
     one_of net order (cell_of Total s q) (at_visit In found.0) d
     (of_visit net order s (cell_of Total s q) found.0 o (at_queue net Total s q refl h) here.0 (omega arith)
     (omega arith))
@@ -248,27 +248,27 @@ service_first net order s q o h d m = by (discipline net s) refl m
 
 -- a cell of the same hop, or the service or the delay of its queue
 of_hop : (net : Net) (order : List ℕ) (i k : ℕ) (c : Cell) (kind : Kind) (d : Cell) → Ordered net order → k < hops net i
-    → IsHome net (server_at net i k) c → scope_of kind ≡ EachHop → rank kind < rank c.kind → rank c.kind < 13
+    → IsHome net (server_of_hop net i k) c → scope_of kind ≡ EachHop → rank kind < rank c.kind → rank c.kind < 13
     → cell_of kind i k ≡ d → Before d c (All net order)
 of_hop net order i k c kind d o h p e l u same =
     one_of net order c (cell_of kind i k) d
-    (at_one net order (server_at net i k) c (cell_of kind i k) o p
-    (at_hop net kind i k (server_at net i k) e h refl) l u)
+    (at_one net order (server_of_hop net i k) c (cell_of kind i k) o p
+    (at_hop net kind i k (server_of_hop net i k) e h refl) l u)
     same
 
 of_queue : (net : Net) (order : List ℕ) (i k : ℕ) (c : Cell) (kind : Kind) (d : Cell) → Ordered net order
     → k < hops net i
-    → IsHome net (server_at net i k) c → scope_of kind ≡ EachQueue → rank kind < rank c.kind → rank c.kind < 13
-    → cell_of kind (server_at net i k) (queue_at net i k) ≡ d → Before d c (All net order)
+    → IsHome net (server_of_hop net i k) c → scope_of kind ≡ EachQueue → rank kind < rank c.kind → rank c.kind < 13
+    → cell_of kind (server_of_hop net i k) (queue_of_hop net i k) ≡ d → Before d c (All net order)
 of_queue net order i k c kind d o h p e l u same =
-    one_of net order c (cell_of kind (server_at net i k) (queue_at net i k)) d
-    (at_one net order (server_at net i k) c (cell_of kind (server_at net i k) (queue_at net i k)) o p
-    (at_queue net kind (server_at net i k) (queue_at net i k) e (queue_exists net i k o.kept h)) l u)
+    one_of net order c (cell_of kind (server_of_hop net i k) (queue_of_hop net i k)) d
+    (at_one net order (server_of_hop net i k) c (cell_of kind (server_of_hop net i k) (queue_of_hop net i k)) o p
+    (at_queue net kind (server_of_hop net i k) (queue_of_hop net i k) e (queue_exists net i k o.kept h)) l u)
     same
 
 -- and one of the same hop, where it is not the last
 at_hop_before : (net : Net) (kind : Kind) (i k s : ℕ) → scope_of kind ≡ EachHopButLast → suc k < hops net i
-    → server_at net i k ≡ s → IsHome net s (cell_of kind i k)
+    → server_of_hop net i k ≡ s → IsHome net s (cell_of kind i k)
 at_hop_before net kind i k s e h is = record {
   exists = subst (λ (c : Scope). is_in_scope net c i k ≡ true) (sym e) (lt-ltb (k + 1) (hops net i) (omega (arith, h)));
   at_home = subst (λ (c : Scope). home_in net c i k ≡ s) (sym e) is;
@@ -277,20 +277,20 @@ at_hop_before net kind i k s e h is = record {
 
 of_last : (net : Net) (order : List ℕ) (i k : ℕ) (c : Cell) (kind : Kind) (d : Cell) → Ordered net order
     → suc k < hops net i
-    → IsHome net (server_at net i k) c → scope_of kind ≡ EachHopButLast → rank kind < rank c.kind → rank c.kind < 13
+    → IsHome net (server_of_hop net i k) c → scope_of kind ≡ EachHopButLast → rank kind < rank c.kind → rank c.kind < 13
     → cell_of kind i k ≡ d → Before d c (All net order)
 of_last net order i k c kind d o h p e l u same =
     one_of net order c (cell_of kind i k) d
-    (at_one net order (server_at net i k) c (cell_of kind i k) o p
-    (at_hop_before net kind i k (server_at net i k) e h refl) l u)
+    (at_one net order (server_of_hop net i k) c (cell_of kind i k) o p
+    (at_hop_before net kind i k (server_of_hop net i k) e h refl) l u)
     same
 
 theta_first : (net : Net) (order : List ℕ) (i k : ℕ) → Ordered net order → k < hops net i
     → OperandsFirst net order (cell_of Theta i k)
 theta_first net order i k o h d m = here m
   where
-    home : IsHome net (server_at net i k) (cell_of Theta i k)
-    home = at_hop net Theta i k (server_at net i k) refl h refl
+    home : IsHome net (server_of_hop net i k) (cell_of Theta i k)
+    home = at_hop net Theta i k (server_of_hop net i k) refl h refl
 
     here : Has (leaves (formula net (cell_of Theta i k))) d → Before d (cell_of Theta i k) (All net order)
     here (inl e) = of_hop net order i k (cell_of Theta i k) Cross d o h home refl (omega arith) (omega arith) e
@@ -302,8 +302,8 @@ residual_first : (net : Net) (order : List ℕ) (i k : ℕ) → Ordered net orde
     → OperandsFirst net order (cell_of Residual i k)
 residual_first net order i k o h d m = here m
   where
-    home : IsHome net (server_at net i k) (cell_of Residual i k)
-    home = at_hop net Residual i k (server_at net i k) refl h refl
+    home : IsHome net (server_of_hop net i k) (cell_of Residual i k)
+    home = at_hop net Residual i k (server_of_hop net i k) refl h refl
 
     here : Has (leaves (formula net (cell_of Residual i k))) d → Before d (cell_of Residual i k) (All net order)
     here (inl e) = of_queue net order i k (cell_of Residual i k) QueueService d o h home refl (omega arith)
@@ -317,8 +317,8 @@ hop_delay_first : (net : Net) (order : List ℕ) (i k : ℕ) → Ordered net ord
     → OperandsFirst net order (cell_of HopDelay i k)
 hop_delay_first net order i k o h d m = here m
   where
-    home : IsHome net (server_at net i k) (cell_of HopDelay i k)
-    home = at_hop net HopDelay i k (server_at net i k) refl h refl
+    home : IsHome net (server_of_hop net i k) (cell_of HopDelay i k)
+    home = at_hop net HopDelay i k (server_of_hop net i k) refl h refl
 
     here : Has (leaves (formula net (cell_of HopDelay i k))) d → Before d (cell_of HopDelay i k) (All net order)
     here (inl e) = of_queue net order i k (cell_of HopDelay i k) QueueDelay d o h home refl (omega arith)
@@ -332,8 +332,8 @@ shift_out_first : (net : Net) (order : List ℕ) (i k : ℕ) → Ordered net ord
     → OperandsFirst net order (cell_of ShiftOut i k)
 shift_out_first net order i k o h g d m = here m
   where
-    home : IsHome net (server_at net i k) (cell_of ShiftOut i k)
-    home = at_hop_before net ShiftOut i k (server_at net i k) refl g refl
+    home : IsHome net (server_of_hop net i k) (cell_of ShiftOut i k)
+    home = at_hop_before net ShiftOut i k (server_of_hop net i k) refl g refl
 
     here : Has (leaves (formula net (cell_of ShiftOut i k))) d → Before d (cell_of ShiftOut i k) (All net order)
     here (inl e) = of_hop net order i k (cell_of ShiftOut i k) In d o h home refl (omega arith) (omega arith) e
@@ -345,8 +345,8 @@ deconv_out_first : (net : Net) (order : List ℕ) (i k : ℕ) → Ordered net or
     → OperandsFirst net order (cell_of DeconvOut i k)
 deconv_out_first net order i k o h g d m = here m
   where
-    home : IsHome net (server_at net i k) (cell_of DeconvOut i k)
-    home = at_hop_before net DeconvOut i k (server_at net i k) refl g refl
+    home : IsHome net (server_of_hop net i k) (cell_of DeconvOut i k)
+    home = at_hop_before net DeconvOut i k (server_of_hop net i k) refl g refl
 
     here : Has (leaves (formula net (cell_of DeconvOut i k))) d → Before d (cell_of DeconvOut i k) (All net order)
     here (inl e) = of_hop net order i k (cell_of DeconvOut i k) In d o h home refl (omega arith) (omega arith) e
@@ -358,8 +358,8 @@ out_first : (net : Net) (order : List ℕ) (i k : ℕ) → Ordered net order →
     → OperandsFirst net order (cell_of Out i k)
 out_first net order i k o h g d m = here m
   where
-    home : IsHome net (server_at net i k) (cell_of Out i k)
-    home = at_hop_before net Out i k (server_at net i k) refl g refl
+    home : IsHome net (server_of_hop net i k) (cell_of Out i k)
+    home = at_hop_before net Out i k (server_of_hop net i k) refl g refl
 
     here : Has (leaves (formula net (cell_of Out i k))) d → Before d (cell_of Out i k) (All net order)
     here (inl e) = of_last net order i k (cell_of Out i k) ShiftOut d o g home refl (omega arith) (omega arith) e
@@ -422,8 +422,8 @@ of_path : (net : Net) (order : List ℕ) (i k : ℕ) (kind last : Kind) (d : Cel
     → Before d (cell_of last i 0) (All net order)
 of_path net order i k kind last d o h e p same =
     one_of net order (cell_of last i 0) (cell_of kind i k) d
-    (at_last net order (server_at net i k) (cell_of last i 0) (cell_of kind i k) o
-    (at_hop net kind i k (server_at net i k) e h refl) p)
+    (at_last net order (server_of_hop net i k) (cell_of last i 0) (cell_of kind i k) o
+    (at_hop net kind i k (server_of_hop net i k) e h refl) p)
     same
 
 -- the leaves of the service along a path

@@ -10,7 +10,7 @@ use Rattle.curve_call.specs.Calls.{Applies, AppliesTo, goes_on, stops}
 use Rattle.residual_laws.specs.PriorityCalls.{MakesPriority}
 use Rattle.net_cells.specs.declared.cell.Cell.{Cell}
 use Rattle.net_cells.specs.Meanings.{Meaning, curve, number, CellTable, IsCurveIn, IsNumberIn}
-use Rattle.net_cells.specs.NumberSums.{Sums, total}
+use Rattle.net_cells.specs.NumberSums.{Sums, sum_of_numbers}
 use Rattle.net_cells.specs.Formulas.{Formula, leaves, value_of, given, empty_sum, made, made_of, moved, leftover, priority, deficit, horizontal, vertical, smaller, along, delayed}
 use Rattle.net_cells.specs.Means.{Means, OfCurve, OfNumber, HaveNumbers, IsPriorityCurve, with_links}
 use Rattle.net_cells.specs.Answers.{Answer, Answers, IsOnly, MakesCurve, MakesNumber, Deviates, ThenCurve, ThenNumber}
@@ -107,8 +107,8 @@ means_same at other (smaller F G) v same a =
 means_same at other (along cells links) v same a =
     record { numbers = a.numbers; are = numbers_same at other cells a.numbers same a.are; gives = a.gives }
 means_same at other (delayed F links) v same a =
-    of_number (Means at F) (Means other F) (λ x w. w ≡ number (total (with_links (x ∷ []) links)))
-    (λ x w. w ≡ number (total (with_links (x ∷ []) links))) v (λ x. means_same at other F x same) (λ x b. b) a
+    of_number (Means at F) (Means other F) (λ x w. w ≡ number (sum_of_numbers (with_links (x ∷ []) links)))
+    (λ x w. w ≡ number (sum_of_numbers (with_links (x ∷ []) links))) v (λ x. means_same at other F x same) (λ x b. b) a
 
 -- ---- answers
 then_curve : (P M : Answer → Type 0) (Q N : SpecCurve → Answer → Type 0) (r : Answer) → ((s : Answer) → P s → M s)

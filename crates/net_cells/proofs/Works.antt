@@ -9,12 +9,12 @@ use Rattle.net_model.specs.Networks.{Net}
 use Rattle.net_cells.specs.declared.cell.Cell.{Cell}
 use Rattle.net_cells.specs.declared.cell.Kind.{Kind}
 use Rattle.net_cells.specs.declared.cell.Kind.TheVariants.{In, Cross, Total, Higher, QueueService, Theta, Residual, QueueDelay, QueueBacklog, HopDelay, ShiftOut, DeconvOut, Out, PathService, Tfa, Sfa, Bound}
-use Rattle.net_cells.specs.Numbered.{hops, server_at, queue_at, discipline}
+use Rattle.net_cells.specs.Numbered.{hops, server_of_hop, queue_of_hop, discipline}
 use Rattle.net_cells.specs.Visits.{Visit, visits_in, others}
 use Rattle.net_cells.specs.Cells.{cell_of}
 use Rattle.net_cells.specs.Order.{at_visit}
 use Rattle.net_cells.specs.Formulas.{Formula, operators, made, value_of}
-use Rattle.net_cells.specs.CellFormulas.{formula_of, sum_of, sum_from, arriving, packets_to, served_to, queue_service}
+use Rattle.net_cells.specs.CellFormulas.{formula_of, sum_of_cells, sum_from, arriving, packets_to, served_to, queue_service}
 use Rattle.net_cells.specs.Work.{kind_work, service_work}
 use Rattle.net_cells.specs.Laws.{WorkIsOperators}
 
@@ -22,14 +22,14 @@ more_terms : (F : Formula) (cs : List Cell) → operators (sum_from F cs) ≡ op
 more_terms F [] = omega arith
 more_terms F (c ∷ cs) = let h = more_terms (made Sum F (value_of c)) cs in omega (arith, h)
 
-terms : (cs : List Cell) → length cs - 1 ≡ operators (sum_of cs)
+terms : (cs : List Cell) → length cs - 1 ≡ operators (sum_of_cells cs)
 terms [] = refl
 terms (c ∷ cs) = let h = more_terms (value_of c) cs in omega (arith, h)
 
-visit_terms : (vs : List Visit) → length vs - 1 ≡ operators (sum_of (map (at_visit In) vs))
+visit_terms : (vs : List Visit) → length vs - 1 ≡ operators (sum_of_cells (map (at_visit In) vs))
 visit_terms vs = ap (λ (n : ℕ). n - 1) (sym (length-map vs (at_visit In))) ∙ terms (map (at_visit In) vs)
 
-queue_terms : (s q : ℕ) → q - 1 ≡ operators (sum_of (map (cell_of Total s) (range_with_len 0 q)))
+queue_terms : (s q : ℕ) → q - 1 ≡ operators (sum_of_cells (map (cell_of Total s) (range_with_len 0 q)))
 queue_terms s q =
     ap (λ (n : ℕ). n - 1) (sym (length-map (range_with_len 0 q) (cell_of Total s) ∙ length-range_with_len 0 q))
     ∙ terms (map (cell_of Total s) (range_with_len 0 q))
@@ -53,7 +53,7 @@ of_path net i (suc k) = let h = of_packets net i k in omega (arith, h)
 
 of_kind : (net : Net) (kind : Kind) (a b : ℕ) → kind_work net kind a b ≡ operators (formula_of net kind a b)
 of_kind net In i k = of_arriving net i k
-of_kind net Cross i k = visit_terms (others net i (server_at net i k) (queue_at net i k))
+of_kind net Cross i k = visit_terms (others net i (server_of_hop net i k) (queue_of_hop net i k))
 of_kind net Total s q = visit_terms (visits_in net s q)
 of_kind net Higher s q = queue_terms s q
 of_kind net QueueService s q = of_service net s q (discipline net s)

@@ -11,7 +11,7 @@ use Rattle.net_model.specs.Networks.{Net}
 use Rattle.net_cells.specs.declared.cell.Cell.{Cell}
 use Rattle.net_cells.specs.declared.cell.Kind.{Kind}
 use Rattle.net_cells.specs.declared.cell.Kind.TheVariants.{In, Cross, Total, Higher, QueueService, Theta, Residual, QueueDelay, QueueBacklog, HopDelay, ShiftOut, DeconvOut, Out, PathService, Tfa, Sfa, Bound}
-use Rattle.net_cells.specs.Numbered.{path, packet, arrival, hops, server_at, queue_at, service, link, discipline}
+use Rattle.net_cells.specs.Numbered.{path, packet, arrival, hops, server_of_hop, queue_of_hop, service, link, discipline}
 use Rattle.net_cells.specs.Visits.{visits_in, others, longest, longest_after}
 use Rattle.net_cells.specs.Cells.{cell_of}
 use Rattle.net_cells.specs.Order.{at_visit}
@@ -30,18 +30,18 @@ abbrev pub sum_from : Formula → List Cell → Formula
 sum_from F [] = F
 sum_from F (c ∷ cs) = sum_from (made Sum F (value_of c)) cs
 
-abbrev pub sum_of : List Cell → Formula
-sum_of [] = empty_sum
-sum_of (c ∷ cs) = sum_from (value_of c) cs
+abbrev pub sum_of_cells : List Cell → Formula
+sum_of_cells [] = empty_sum
+sum_of_cells (c ∷ cs) = sum_from (value_of c) cs
 
 -- the service of a hop's queue
 abbrev pub service_at : Net → ℕ → ℕ → Formula
-service_at net i k = value QueueService (server_at net i k) (queue_at net i k)
+service_at net i k = value QueueService (server_of_hop net i k) (queue_of_hop net i k)
 
 -- ---- queues
 -- the sum of the curves of the queues before one
 abbrev pub higher : ℕ → ℕ → Formula
-higher s q = sum_of (map (cell_of Total s) (range_with_len 0 q))
+higher s q = sum_of_cells (map (cell_of Total s) (range_with_len 0 q))
 
 abbrev pub queue_service : Net → ℕ → ℕ → Discipline → Formula
 queue_service net s q Fifo = given (service net s)
@@ -66,17 +66,17 @@ abbrev pub served_to : Net → ℕ → ℕ → Formula
 served_to net i zero = value Residual i 0
 served_to net i (suc k) = made Convolve (packets_to net i k) (value Residual i (suc k))
 
-abbrev pub links_along : Net → ℕ → List ℚ
-links_along net i = map (link net) (path net i)
+abbrev pub link_delays : Net → ℕ → List ℚ
+link_delays net i = map (link net) (path net i)
 
-abbrev pub hop_delays : Net → ℕ → List Cell
-hop_delays net i = map (cell_of HopDelay i) (range_with_len 0 (hops net i))
+abbrev pub hop_delay_cells : Net → ℕ → List Cell
+hop_delay_cells net i = map (cell_of HopDelay i) (range_with_len 0 (hops net i))
 
 -- ---- all kinds
 abbrev pub formula_of : Net → Kind → ℕ → ℕ → Formula
 formula_of net In i k = arriving net i k
-formula_of net Cross i k = sum_of (map (at_visit In) (others net i (server_at net i k) (queue_at net i k)))
-formula_of net Total s q = sum_of (map (at_visit In) (visits_in net s q))
+formula_of net Cross i k = sum_of_cells (map (at_visit In) (others net i (server_of_hop net i k) (queue_of_hop net i k)))
+formula_of net Total s q = sum_of_cells (map (at_visit In) (visits_in net s q))
 formula_of net Higher s q = higher s q
 formula_of net QueueService s q = queue_service net s q (discipline net s)
 formula_of net Theta i k = horizontal (value Cross i k) (service_at net i k)
@@ -84,13 +84,13 @@ formula_of net Residual i k = leftover (service_at net i k) (value Cross i k) (v
 formula_of net QueueDelay s q = horizontal (value Total s q) (value QueueService s q)
 formula_of net QueueBacklog s q = vertical (value Total s q) (less (value QueueService s q) (longest net s q))
 formula_of net HopDelay i k =
-    smaller (value QueueDelay (server_at net i k) (queue_at net i k)) (horizontal (value In i k) (value Residual i k))
+    smaller (value QueueDelay (server_of_hop net i k) (queue_of_hop net i k)) (horizontal (value In i k) (value Residual i k))
 formula_of net ShiftOut i k = moved (value In i k) (value HopDelay i k)
 formula_of net DeconvOut i k = made Deconvolve (value In i k) (less (value Residual i k) (packet net i))
 formula_of net Out i k = made Min (value ShiftOut i k) (value DeconvOut i k)
 formula_of net PathService i b = served_to net i (hops net i - 1)
-formula_of net Tfa i b = along (hop_delays net i) (links_along net i)
-formula_of net Sfa i b = delayed (horizontal (value In i 0) (value PathService i 0)) (links_along net i)
+formula_of net Tfa i b = along (hop_delay_cells net i) (link_delays net i)
+formula_of net Sfa i b = delayed (horizontal (value In i 0) (value PathService i 0)) (link_delays net i)
 formula_of net Bound i b = smaller (value Tfa i 0) (value Sfa i 0)
 
 abbrev pub formula : Net → Cell → Formula

@@ -14,7 +14,7 @@ use Rattle.residual_laws.specs.DrrLaws.{IsDrrService}
 use Rattle.net_cells.specs.declared.cell.Cell.{Cell}
 use Rattle.net_cells.specs.Numbered.{zero_curve}
 use Rattle.net_cells.specs.Meanings.{Meaning, curve, number, CellTable, IsCurveIn, IsNumberIn}
-use Rattle.net_cells.specs.NumberSums.{total}
+use Rattle.net_cells.specs.NumberSums.{sum_of_numbers}
 use Rattle.net_cells.specs.Formulas.{Formula, value_of, given, empty_sum, made, made_of, moved, leftover, priority, deficit, horizontal, vertical, smaller, along, delayed}
 
 -- ---- operands
@@ -77,5 +77,5 @@ Means at (horizontal F G) v =
 Means at (vertical F G) v =
     OfCurves (Means at F) (Means at G) (λ f g. IsNumberIn (IsVerticalDeviation (value_at f) (value_at g))) v
 Means at (smaller F G) v = OfNumbers (Means at F) (Means at G) (λ x y w. w ≡ number (min_ext x y)) v
-Means at (along cells links) v = OfCells at cells (λ xs w. w ≡ number (total (with_links xs links))) v
-Means at (delayed F links) v = OfNumber (Means at F) (λ x w. w ≡ number (total (with_links (x ∷ []) links))) v
+Means at (along cells links) v = OfCells at cells (λ xs w. w ≡ number (sum_of_numbers (with_links xs links))) v
+Means at (delayed F links) v = OfNumber (Means at F) (λ x w. w ≡ number (sum_of_numbers (with_links (x ∷ []) links))) v

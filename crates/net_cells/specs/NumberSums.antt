@@ -10,9 +10,9 @@ use Rattle.upp_limits.specs.declared.op_kind.OpFault.TheVariants.{TooMany, TooWi
 use Rattle.min_plus.specs.Functions.{zero_q}
 
 -- the sum, infinite where one of them is
-abbrev pub total : List Ext → Ext
-total [] = Fin zero_q
-total (x ∷ xs) = x +ₑ total xs
+abbrev pub sum_of_numbers : List Ext → Ext
+sum_of_numbers [] = Fin zero_q
+sum_of_numbers (x ∷ xs) = x +ₑ sum_of_numbers xs
 
 -- one of them is infinite
 abbrev pub has_infinite : List Ext → Bool
@@ -48,7 +48,7 @@ pub record IsSumWithin (xs : List Ext) : Type 0 where
 
 -- what a sum of numbers answers: it takes no memory
 abbrev pub Sums : List Ext → Result Ext OpFault → Type 0
-Sums xs (Ok x) = IsSumWithin xs × (x ≡ total xs)
+Sums xs (Ok x) = IsSumWithin xs × (x ≡ sum_of_numbers xs)
 Sums xs (Err TooMany) = (sum_gauge xs < 2 ^ 120) × (2 ^ 20 < sum_tally xs)
 Sums xs (Err TooWide) = 2 ^ 120 ≤ sum_gauge xs
 Sums xs (Err NoMemory) = ⊥

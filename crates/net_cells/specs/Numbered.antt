@@ -60,11 +60,11 @@ abbrev pub hops : Net → ℕ → ℕ
 hops net i = length (path net i)
 
 -- the server of a hop, and the flow's queue there
-abbrev pub server_at : Net → ℕ → ℕ → ℕ
-server_at net i k = slice_index (path net i) k
+abbrev pub server_of_hop : Net → ℕ → ℕ → ℕ
+server_of_hop net i k = slice_index (path net i) k
 
-abbrev pub queue_at : Net → ℕ → ℕ → ℕ
-queue_at net i k = slice_index (queues_of (flow_at net i)) k
+abbrev pub queue_of_hop : Net → ℕ → ℕ → ℕ
+queue_of_hop net i k = slice_index (queues_of (flow_at net i)) k
 
 -- ---- servers
 abbrev pub service_of : Option NetServer → SpecCurve

@@ -3,7 +3,7 @@ use Rattle.std.specs.Prelude.{ℕ, ◌+◌, List, [], ◌∷◌, length, map, ma
 use Rattle.std.specs.List.{filter, flat_map, range_with_len}
 use Rattle.net_model.specs.Networks.{Net}
 pub use Rattle.net_cells.specs.declared.visit.Visit.{Visit}
-use Rattle.net_cells.specs.Numbered.{hops, packet, server_at, queue_at}
+use Rattle.net_cells.specs.Numbered.{hops, packet, server_of_hop, queue_of_hop}
 
 abbrev pub visit : ℕ → ℕ → Visit
 visit i k = record { flow = i; hop = k }
@@ -19,14 +19,14 @@ hops_at i way s = filter (λ v. slice_index way v.hop == s) (map (visit i) (rang
 
 -- those of all flows that are
 abbrev pub is_at : Net → ℕ → Visit → Bool
-is_at net s v = server_at net v.flow v.hop == s
+is_at net s v = server_of_hop net v.flow v.hop == s
 
 abbrev pub visits : Net → ℕ → List Visit
 visits net s = filter (is_at net s) (all_visits net)
 
 -- those in one of its queues
 abbrev pub visits_in : Net → ℕ → ℕ → List Visit
-visits_in net s q = filter (λ v. queue_at net v.flow v.hop == q) (visits net s)
+visits_in net s q = filter (λ v. queue_of_hop net v.flow v.hop == q) (visits net s)
 
 -- and there those of one path with its queues
 abbrev pub hops_in : ℕ → (way lanes : List ℕ) → (s q : ℕ) → List Visit
@@ -40,7 +40,7 @@ others net i s q = filter (λ v. not (v.flow == i)) (visits_in net s q)
 
 -- those in its queues of greater number
 abbrev pub visits_after : Net → ℕ → ℕ → List Visit
-visits_after net s q = filter (λ v. nat_lt q (queue_at net v.flow v.hop)) (visits net s)
+visits_after net s q = filter (λ v. nat_lt q (queue_of_hop net v.flow v.hop)) (visits net s)
 
 -- another hop comes after it
 abbrev pub goes_on : Net → Visit → Bool

@@ -5,7 +5,7 @@ use Rattle.net_model.specs.Networks.{Net}
 use Rattle.net_cells.specs.declared.cell.Cell.{Cell}
 use Rattle.net_cells.specs.declared.cell.Kind.{Kind}
 use Rattle.net_cells.specs.declared.cell.Kind.TheVariants.{In, Cross, Total, Higher, QueueService, Theta, Residual, QueueDelay, QueueBacklog, HopDelay, ShiftOut, DeconvOut, Out, PathService, Tfa, Sfa, Bound}
-use Rattle.net_cells.specs.Numbered.{hops, server_at, queue_at, discipline}
+use Rattle.net_cells.specs.Numbered.{hops, server_of_hop, queue_of_hop, discipline}
 use Rattle.net_cells.specs.Visits.{visits_in, others}
 
 abbrev pub service_work : Discipline → ℕ
@@ -16,7 +16,7 @@ service_work (Drr quanta) = 2
 -- a sum takes one less than it has terms
 abbrev pub kind_work : Net → Kind → ℕ → ℕ → ℕ
 kind_work net In i k = 0
-kind_work net Cross i k = length (others net i (server_at net i k) (queue_at net i k)) - 1
+kind_work net Cross i k = length (others net i (server_of_hop net i k) (queue_of_hop net i k)) - 1
 kind_work net Total s q = length (visits_in net s q) - 1
 kind_work net Higher s q = q - 1
 kind_work net QueueService s q = service_work (discipline net s)

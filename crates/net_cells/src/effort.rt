@@ -8,7 +8,7 @@ ghost use Rattle.net_cells.specs.Visits.{hops_in, visits_in};
 ghost use Rattle.net_cells.specs.Work as spec;
 
 use crate::cell::{Cell, Kind};
-use crate::numbered::{hops, live_flow, number_at, queue_at, server, server_at};
+use crate::numbered::{hops, live_flow, number_at, queue_of_hop, server, server_of_hop};
 use net_model::{Discipline, Flow, Network};
 
 // ---- hops in a queue
@@ -86,8 +86,8 @@ fn for_total(net: &Network, cell: Cell) -> u32
 fn for_cross(net: &Network, cell: Cell) -> u32
     ensures { result ≡ spec.kind_work net.now Cross cell.a cell.b }
 {
-    let at_server = server_at(net, cell.a, cell.b);
-    let queue = queue_at(net, cell.a, cell.b);
+    let at_server = server_of_hop(net, cell.a, cell.b);
+    let queue = queue_of_hop(net, cell.a, cell.b);
     let own = count_own(net, cell.a, at_server, queue);
     for_terms(count_in(net, at_server, queue) - own)
 }

@@ -49,8 +49,8 @@ pub(crate) fn number_at(numbers: &[u32], place: u32) -> u32
 }
 
 /// The server of a hop; 0 where there is no such hop.
-pub fn server_at(net: &Network, flow: u32, hop: u32) -> u32
-    ensures { result ≡ at.server_at net.now flow hop }
+pub fn server_of_hop(net: &Network, flow: u32, hop: u32) -> u32
+    ensures { result ≡ at.server_of_hop net.now flow hop }
 {
     match live_flow(net, flow) {
         Some(found) => number_at(&found.path, hop),
@@ -59,8 +59,8 @@ pub fn server_at(net: &Network, flow: u32, hop: u32) -> u32
 }
 
 /// The flow's queue at a hop; 0 where there is no such hop.
-pub fn queue_at(net: &Network, flow: u32, hop: u32) -> u32
-    ensures { result ≡ at.queue_at net.now flow hop }
+pub fn queue_of_hop(net: &Network, flow: u32, hop: u32) -> u32
+    ensures { result ≡ at.queue_of_hop net.now flow hop }
 {
     match live_flow(net, flow) {
         Some(found) => number_at(&found.queues, hop),

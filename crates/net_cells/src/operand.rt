@@ -12,7 +12,7 @@ ghost use Rattle.net_cells.specs.Formulas.{leaves};
 ghost use Rattle.net_cells.specs.CellFormulas.{formula, formula_of};
 
 use crate::cell::{Cell, Kind};
-use crate::numbered::{hops, is_by_priority, queue_at, server_at};
+use crate::numbered::{hops, is_by_priority, queue_of_hop, server_of_hop};
 use crate::order::{push_numbers, push_visits};
 use crate::visit::{Visit, visits};
 use net_model::Network;
@@ -25,11 +25,11 @@ fn only_in(
     here: &[Visit],
     queue: u32,
 ) -> Result<Vec<Visit>, AllocError>
-    ensures { IfOk result (λ v. v.items ≡ filter (λ x. at.queue_at net.now x.flow x.hop == queue) here.now) }
+    ensures { IfOk result (λ v. v.items ≡ filter (λ x. at.queue_of_hop net.now x.flow x.hop == queue) here.now) }
 {
     let mut found = Vec::new(alloc);
     for v in here {
-        if queue_at(net, v.flow, v.hop) == queue {
+        if queue_of_hop(net, v.flow, v.hop) == queue {
             found.push(*v)?;
         }
     }
@@ -91,12 +91,12 @@ fn same(kind: Kind, cell: Cell) -> Cell
 
 // Of the queue of a hop.
 fn of_queue(kind: Kind, net: &Network, cell: Cell) -> Cell
-    ensures { result ≡ cell_of kind (at.server_at net.now cell.a cell.b) (at.queue_at net.now cell.a cell.b) }
+    ensures { result ≡ cell_of kind (at.server_of_hop net.now cell.a cell.b) (at.queue_of_hop net.now cell.a cell.b) }
 {
     Cell {
         kind,
-        a: server_at(net, cell.a, cell.b),
-        b: queue_at(net, cell.a, cell.b),
+        a: server_of_hop(net, cell.a, cell.b),
+        b: queue_of_hop(net, cell.a, cell.b),
     }
 }
 
@@ -126,8 +126,8 @@ fn arriving(alloc: Global, cell: Cell) -> Result<Vec<Cell>, AllocError>
 fn cross(alloc: Global, net: &Network, cell: Cell) -> Result<Vec<Cell>, AllocError>
     ensures { IfOk result (λ v. v.items ≡ leaves (formula_of net.now Cross cell.a cell.b)) }
 {
-    let server = server_at(net, cell.a, cell.b);
-    let here = visits_in(alloc, net, server, queue_at(net, cell.a, cell.b))?;
+    let server = server_of_hop(net, cell.a, cell.b);
+    let here = visits_in(alloc, net, server, queue_of_hop(net, cell.a, cell.b))?;
     let others = without(alloc, &here, cell.a)?;
     of_visits(alloc, &others)
 }

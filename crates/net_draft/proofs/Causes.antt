@@ -18,7 +18,7 @@ use Rattle.net_model.specs.declared.fault.CurveRefusal.{CurveRefusal}
 use Rattle.net_model.specs.declared.fault.CurveRefusal.TheVariants.{Negative, ZeroPeriod, NotRising, NotContinuous, NotZeroAtStart}
 use Rattle.net_draft.specs.Texts.{CurveText, Bucket, Stair, RateLatency, Gate, Listed}
 use Rattle.net_draft.specs.Values.{less}
-use Rattle.net_draft.specs.Made.{Answers, KeepsBucket}
+use Rattle.net_draft.specs.Made.{CurveAnswers, KeepsBucket}
 use Rattle.net_draft.specs.Laws.{fault_for, RefusalIsCause, RefusalsAreCauses}
 use Rattle.net_draft.specs.Refusals.{at_most_q, below_zero, is_zero, are_nonneg_texts, is_nonneg_end, has_length, starts_ascend, are_within_period, is_within, rises, joins, is_same, first_cause, first_of, shape_refusal, form_refusal, listed_refusal, refusal_of}
 use Rattle.net_draft.proofs.Decided.{Decides, less_decides, at_most_q_decides}
@@ -76,7 +76,7 @@ listed_back ps tail u r h =
     (nonneg_decides ps tail) (length_decides tail) (order_decides ps tail) (limits_decide (listed_curve ps tail)) h
 
 -- ---- all texts
-told_back : (t : CurveText) (r : CurveRefusal) → refusal_of t ≡ Some r → Answers t (Err (fault_for r))
+told_back : (t : CurveText) (r : CurveRefusal) → refusal_of t ≡ Some r → CurveAnswers t (Err (fault_for r))
 unfolding refusal_of
 told_back (Bucket b q) r h = bucket_back (below_zero b || below_zero q) b q r (negative_decides b q) h
 told_back (Stair l p j) r h =
@@ -86,7 +86,7 @@ told_back (Gate q c s) r h =
     causes_back (below_zero q || below_zero s) (at_most_q c zero_q || (is_zero s || less c s)) (OneNegative q s) (NoSlot c s) (gate q c s) r (negative_decides q s) (slot_decides c s) h
 told_back (Listed ps tail u) r h = listed_back ps tail u r h
 
-found_back : (t : CurveText) (r : CurveRefusal) → Answers t (Err (fault_for r)) → refusal_of t ≡ Some r
+found_back : (t : CurveText) (r : CurveRefusal) → CurveAnswers t (Err (fault_for r)) → refusal_of t ≡ Some r
 found_back t Negative h = answers_tell t (Err (fault_for Negative)) h
 found_back t ZeroPeriod h = answers_tell t (Err (fault_for ZeroPeriod)) h
 found_back t NotRising h = answers_tell t (Err (fault_for NotRising)) h

@@ -27,7 +27,7 @@ use Rattle.net_draft.specs.Hops.{HopText, is_colon, queue_digits, hop_parts, hop
 use Rattle.net_draft.specs.Keys.{only}
 use Rattle.net_draft.specs.Refusals.{refusal_of}
 use Rattle.net_draft.specs.Tables.{each, service_of_text, service_word, arrival_of_text, arrival_word, discipline_of_text, discipline_word, unless_refused, curve_at, piece_at, pieces_of, tail_at, tail_or_none, tail_of, latency_at, gate_at, listed_service_at, service_by, service_at, service_or_rate}
-use Rattle.net_draft.specs.Tables.{bucket_at, stair_at, listed_arrival_at, arrival_by, arrival_at, forbidden_in, forbidden, quantum_at, quanta_of, fifo_at, priority_at, drr_at, discipline_by, discipline_at, server_keys, server_names, server_with, server_at, hop_at, path_of, arrival_of, flow_names, flow_with, flow_at}
+use Rattle.net_draft.specs.Tables.{bucket_at, stair_at, listed_arrival_at, arrival_by, arrival_at, forbidden_in, forbidden, quantum_at, quanta_of, fifo_at, priority_at, drr_at, discipline_by, discipline_at, server_keys, server_names, server_with, server_text_at, hop_at, path_of, arrival_of, flow_names, flow_with, flow_at}
 use Rattle.net_draft.specs.Texts.{CurveText, Bucket, Stair, RateLatency, Gate, Listed, ServerText, FlowText}
 use Rattle.net_draft.specs.Values.{wanted, entries, number_of, number_in, written, less, above_zero, not_below_zero, positive_in, nonnegative_in, in_range, whole_in, longest, is_name, name_of, name_in, untaken, new_name, entries_in, counted, list_in, required, optional, at_key, text_in, truth_in, table_in}
 
@@ -371,7 +371,7 @@ fit_k flows server (s ∷ ss) = next (of_server_k flows server s) (λ u. fit_k f
 
 servers_k : (ms : Members) → Faults (servers_of ms)
 unfolding servers_of
-servers_k ms = next (allowed (list_in 0 64) [] (list_k 0 64) (codes "server") [] ms) (λ ds. each_k server_at (λ before. server_k (server_names before)) (codes "server") [] ds)
+servers_k ms = next (allowed (list_in 0 64) [] (list_k 0 64) (codes "server") [] ms) (λ ds. each_k server_text_at (λ before. server_k (server_names before)) (codes "server") [] ds)
 
 flows_k : (servers : List ServerText) (ms : Members) → Faults (flows_of servers ms)
 unfolding flows_of

@@ -24,7 +24,7 @@ use Rattle.net_model.specs.declared.fault.CurveRefusal.{CurveRefusal}
 use Rattle.net_model.specs.declared.fault.CurveRefusal.TheVariants.{Negative, ZeroPeriod, NotRising, NotContinuous, NotZeroAtStart}
 use Rattle.net_draft.specs.Texts.{CurveText, Bucket, Stair, RateLatency, Gate, Listed}
 use Rattle.net_draft.specs.Values.{less}
-use Rattle.net_draft.specs.Made.{Answers, KeepsBucket}
+use Rattle.net_draft.specs.Made.{CurveAnswers, KeepsBucket}
 use Rattle.net_draft.specs.Refusals.{at_most_q, below_zero, is_zero, are_nonneg_texts, is_nonneg_end, has_length, starts_ascend, are_within_period, is_within, rises, joins, is_same, first_cause, first_of, shape_refusal, form_refusal, listed_refusal, refusal_of}
 use Rattle.net_draft.proofs.Decided.{Decides, yes, no, either, less_decides, same_decides, at_most_q_decides, is_same_decides}
 use Rattle.net_draft.proofs.ListedTests.{nonneg_decides, length_decides, order_decides, limits_decide, rising_decides, continuous_decides}
@@ -162,7 +162,7 @@ listed_tells ps tail u (Err (faults.Op limit)) h = past_limits ps tail u h.0 (ov
 listed_tells ps tail u (Err faults.NoMemory) h = tt
 
 -- ---- all texts
-pub answers_tell : (t : CurveText) (a : Result SpecCurve CurveFault) → Answers t a → Tells (refusal_of t) a
+pub answers_tell : (t : CurveText) (a : Result SpecCurve CurveFault) → CurveAnswers t a → Tells (refusal_of t) a
 unfolding refusal_of
 answers_tell (Bucket b r) a h = bucket_tells (below_zero b || below_zero r) b r a (negative_decides b r) h
 answers_tell (Stair l p j) a h =

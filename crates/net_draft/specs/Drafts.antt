@@ -10,7 +10,7 @@ use Rattle.net_model.specs.declared.fault.NetKind.TheVariants.{M1, M12}
 use Rattle.net_draft.specs.declared.hop.Hop.{Hop}
 use Rattle.net_draft.specs.Faults.{◌>>=◌, Read, under, nth}
 use Rattle.net_draft.specs.Keys.{only}
-use Rattle.net_draft.specs.Tables.{each, server_at, flow_at}
+use Rattle.net_draft.specs.Tables.{each, server_text_at, flow_at}
 use Rattle.net_draft.specs.Texts.{ServerText, FlowText, DraftText}
 use Rattle.net_draft.specs.Values.{optional, at_key, whole_in, list_in}
 
@@ -45,7 +45,7 @@ quanta_fit flows server (s ∷ ss) =
 
 -- ---- the root
 unfoldable pub servers_of : Members → Read (List ServerText)
-servers_of ms = at_key (codes "server") (optional (list_in 0 64) []) [] ms >>= each server_at (codes "server") []
+servers_of ms = at_key (codes "server") (optional (list_in 0 64) []) [] ms >>= each server_text_at (codes "server") []
 
 unfoldable pub flows_of : List ServerText → Members → Read (List FlowText)
 flows_of servers ms =

@@ -10,7 +10,7 @@ use Rattle.net_model.specs.declared.server.ServiceKind.{ServiceKind}
 use Rattle.net_model.specs.declared.server.ServiceKind.TheVariants as kinds
 use Rattle.net_model.specs.Accepted.{IsServiceCurve, IsArrivalCurve, IsOfKind}
 use Rattle.net_draft.specs.Texts.{CurveText, Bucket, Stair, RateLatency, Gate, Listed, IsServiceOf, IsArrivalOf}
-use Rattle.net_draft.specs.Made.{Answers, IsMade}
+use Rattle.net_draft.specs.Made.{CurveAnswers, IsMade}
 use Rattle.net_draft.specs.Refusals.{refusal_of}
 
 -- ---- refusals
@@ -24,9 +24,9 @@ fault_for refusals.NotZeroAtStart = faults.NotZeroAtStart
 
 -- the tests find a cause exactly where it is there, and none where a curve can be made
 pub record RefusalIsCause (text : CurveText) : Type 0 where
-  pub told : (r : CurveRefusal) → refusal_of text ≡ Some r → Answers text (Err (fault_for r))
-  pub found : (r : CurveRefusal) → Answers text (Err (fault_for r)) → refusal_of text ≡ Some r
-  pub passes : (made : SpecCurve) → Answers text (Ok made) → refusal_of text ≡ None
+  pub told : (r : CurveRefusal) → refusal_of text ≡ Some r → CurveAnswers text (Err (fault_for r))
+  pub found : (r : CurveRefusal) → CurveAnswers text (Err (fault_for r)) → refusal_of text ≡ Some r
+  pub passes : (made : SpecCurve) → CurveAnswers text (Ok made) → refusal_of text ≡ None
 
 abbrev pub RefusalsAreCauses : Type 0
 RefusalsAreCauses = (text : CurveText) → RefusalIsCause text

@@ -23,15 +23,15 @@ KeepsBucket burst rate (Err (faults.Op limit)) = ⊥
 KeepsBucket burst rate (Err faults.NoMemory) = Unit {0}
 
 -- what each answer to a text says, in the words of the curves of a file
-abbrev pub Answers : CurveText → Result SpecCurve CurveFault → Type 0
-Answers (Bucket burst rate) = KeepsBucket burst rate
-Answers (Stair packet period jitter) =
+abbrev pub CurveAnswers : CurveText → Result SpecCurve CurveFault → Type 0
+CurveAnswers (Bucket burst rate) = KeepsBucket burst rate
+CurveAnswers (Stair packet period jitter) =
     KeepsCauses (jitter <ℚ zero_q) (period ≤ℚ zero_q) (stair (int (pos packet)) period jitter)
-Answers (RateLatency rate latency) = KeepsCauses (OneNegative rate latency) ⊥ (rate_latency rate latency)
-Answers (Gate rate cycle slot) = KeepsCauses (OneNegative rate slot) (NoSlot cycle slot) (gate rate cycle slot)
-Answers (Listed pieces tail use_as) = KeepsListed pieces tail use_as
+CurveAnswers (RateLatency rate latency) = KeepsCauses (OneNegative rate latency) ⊥ (rate_latency rate latency)
+CurveAnswers (Gate rate cycle slot) = KeepsCauses (OneNegative rate slot) (NoSlot cycle slot) (gate rate cycle slot)
+CurveAnswers (Listed pieces tail use_as) = KeepsListed pieces tail use_as
 
 -- a curve was made, or the limit that it is over
 abbrev pub IsMade : CurveText → Result SpecCurve OverLimit → Type 0
-IsMade text (Ok made) = Answers text (Ok made)
-IsMade text (Err limit) = Answers text (Err (faults.Op limit))
+IsMade text (Ok made) = CurveAnswers text (Ok made)
+IsMade text (Err limit) = CurveAnswers text (Err (faults.Op limit))

@@ -241,8 +241,8 @@ server_with names place d =
     Ok (record { name = name; rate = rate; service = service; link = link; discipline = discipline })
 
 -- a server after these
-abbrev pub server_at : List ServerText → List ℕ → Data → Read ServerText
-server_at before = server_with (server_names before)
+abbrev pub server_text_at : List ServerText → List ℕ → Data → Read ServerText
+server_text_at before = server_with (server_names before)
 
 -- ---- flows
 abbrev pub hop_at : List ServerText → List Hop → List ℕ → Data → Read Hop

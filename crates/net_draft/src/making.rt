@@ -3,7 +3,7 @@
 ghost use Rattle.std.specs.Prelude.{◌≡◌, IfOk};
 ghost use Rattle.net_draft.specs.Faults.{Gives, IsFault};
 ghost use Rattle.net_draft.specs.CurveTexts.{text_of};
-ghost use Rattle.net_draft.specs.Made.{Answers};
+ghost use Rattle.net_draft.specs.Made.{CurveAnswers};
 ghost use Rattle.net_draft.specs.Kept.{IsMadeDraft};
 ghost use Rattle.net_draft.specs.Tables.{curve_at};
 
@@ -17,7 +17,7 @@ use std::alloc::Global;
 use upp_curve::Curve;
 
 fn made(alloc: Global, text: &CurveText) -> Result<Curve, CurveFault>
-    ensures { Answers (text_of text.now) result }
+    ensures { CurveAnswers (text_of text.now) result }
 {
     match text {
         CurveText::Bucket { burst, rate } => bucket(alloc, *burst, *rate),

@@ -5,7 +5,7 @@ ghost use Rattle.toml.specs.View.{view};
 ghost use Rattle.net_draft.specs.Faults.{Gives};
 ghost use Rattle.net_draft.specs.ListViews.{list_texts};
 ghost use Rattle.net_draft.specs.NameTexts.{texts};
-ghost use Rattle.net_draft.specs.Tables.{each, server_at, server_with};
+ghost use Rattle.net_draft.specs.Tables.{each, server_text_at, server_with};
 ghost use Rattle.net_draft.specs.Kept.{IsServerDraft};
 ghost use Rattle.net_draft.specs.Views.{server_text};
 
@@ -62,7 +62,7 @@ fn server_of(
 /// The servers of these entries.
 pub(crate) fn servers_of(alloc: Global, entries: &[Value]) -> Result<ServerList, DraftFault>
     requires { length entries.now ≤ 64 }
-    ensures value { Gives list_texts result (each server_at (codes "server") [] (map view entries.now)) }
+    ensures value { Gives list_texts result (each server_text_at (codes "server") [] (map view entries.now)) }
     ensures kept { IfOk result (λ l. All IsServerDraft l.servers.items) }
     ensures names { IfOk result (λ l. AllPairs (λ s t. s.name ≢ t.name) (list_texts l)) }
 {

@@ -12,7 +12,7 @@ use Rattle.run_laws.specs.Lawful.{IsLawful}
 use Rattle.run_laws.specs.Bounds.{BeginsAt}
 use Rattle.run_laws.proofs.FirstHop.{first_hop_keeps}
 use Rattle.net_laws.specs.Paths.{IsPath}
-use Rattle.net_laws.specs.Orders.{IsFeedForward, EntersKept, KeptAt, PassedOn}
+use Rattle.net_laws.specs.Orders.{GoesForward, EntersKept, KeptAt, PassedOn}
 use Rattle.net_laws.proofs.Links.{next_keeps}
 use Rattle.net_laws.proofs.Paths.{after_passes, link_of_path}
 
@@ -56,7 +56,7 @@ begins_at net i (h ∷ hs) is path p = record {
 record Network (net : Routes) (run : SpecRun) (place : ℕ → ℕ) (arrival : ℕ → ℕ → ℚ → Ext) : Type 0 where
   lawful : IsLawful net run
   paths : (i : ℕ) → (route_of net i).live ≡ true → IsPath net (route_of net i).hops
-  forward : IsFeedForward net place
+  forward : GoesForward net place
   enters : EntersKept net run arrival
   passes_on : (server : ℕ) → KeptAt net run arrival server → PassedOn net run arrival server
 
@@ -81,7 +81,7 @@ kept_below net run place arrival (suc n) w s l i live p = elim (first_or_after (
 ]
 
 pub kept_everywhere : (net : Routes) (run : SpecRun) (place : ℕ → ℕ) (arrival : ℕ → ℕ → ℚ → Ext) → IsLawful net run
-    → ((i : ℕ) → (route_of net i).live ≡ true → IsPath net (route_of net i).hops) → IsFeedForward net place → EntersKept net run arrival
+    → ((i : ℕ) → (route_of net i).live ≡ true → IsPath net (route_of net i).hops) → GoesForward net place → EntersKept net run arrival
     → ((server : ℕ) → KeptAt net run arrival server → PassedOn net run arrival server) → (server : ℕ) → KeptAt net run arrival server
 kept_everywhere net run place arrival lawful paths forward enters passes_on s =
     kept_below net run place arrival (suc (place s)) record { lawful = lawful; paths = paths; forward = forward; enters = enters; passes_on = passes_on } s (omega arith)

@@ -15,8 +15,8 @@ use Rattle.run_laws.specs.Lawful.{IsLawful}
 use Rattle.net_laws.specs.Paths.{IsPath}
 
 -- the places of the servers in an order grow along each path
-abbrev pub IsFeedForward : Routes → (ℕ → ℕ) → Type 0
-IsFeedForward net place = (i a b : ℕ) → (route_of net i).live ≡ true → server_after a (route_of net i).hops ≡ Some b →
+abbrev pub GoesForward : Routes → (ℕ → ℕ) → Type 0
+GoesForward net place = (i a b : ℕ) → (route_of net i).live ≡ true → server_after a (route_of net i).hops ≡ Some b →
     place a < place b
 
 -- a curve for each flow at each server of its path: where the flows enter they keep theirs
@@ -38,6 +38,6 @@ PassedOn net run arrival server = (i next : ℕ) → (route_of net i).live ≡ t
 -- where each server whose flows keep their curves passes them on, all flows keep theirs at every server
 abbrev pub KeptEverywhere : Type 0
 KeptEverywhere = (net : Routes) (run : SpecRun) (place : ℕ → ℕ) (arrival : ℕ → ℕ → ℚ → Ext) → IsLawful net run →
-    ((i : ℕ) → (route_of net i).live ≡ true → IsPath net (route_of net i).hops) → IsFeedForward net place →
+    ((i : ℕ) → (route_of net i).live ≡ true → IsPath net (route_of net i).hops) → GoesForward net place →
     EntersKept net run arrival → ((server : ℕ) → KeptAt net run arrival server → PassedOn net run arrival server) →
     (server : ℕ) → KeptAt net run arrival server

@@ -17,7 +17,7 @@ use Rattle.net_cells.specs.Cells.{cell_of}
 use Rattle.net_cells.specs.Equations.{MeetsEquations}
 use Rattle.net_cells.specs.Meanings.{Meaning, curve, number, CellTable, IsNumberIn}
 use Rattle.net_cells.specs.Means.{HaveNumbers, with_links}
-use Rattle.net_cells.specs.NumberSums.{total}
+use Rattle.net_cells.specs.NumberSums.{sum_of_numbers}
 use Rattle.net_bounds.proofs.Kept.{table_bounds_every_run}
 use Rattle.netcalc_cli.specs.Example.{its_server, its_flow, one_flow, OneFlowReachesItsBound}
 use Rattle.netcalc_cli.proofs.ExampleNet.{accepted, ordered, reached, is_run}
@@ -79,12 +79,12 @@ hop_delay_at_most at m =
     }
 
 -- with a link of 0 after it
-linked : (x : Ext) → x ≤ₑ Fin (whole 130) → total (x ∷ Fin (whole 0) ∷ []) ≤ₑ Fin (whole 130)
+linked : (x : Ext) → x ≤ₑ Fin (whole 130) → sum_of_numbers (x ∷ Fin (whole 0) ∷ []) ≤ₑ Fin (whole 130)
 linked Inf h = absurd h
 linked (Fin q) h = with1 q (λ c. omega (arith, c.le, c.lt, c.same, h))
 
 one_number : (at : CellTable) (c : Cell) (xs : List Ext) → HaveNumbers at (c ∷ []) xs → IsAtMost at c
-    → total (with_links xs (whole 0 ∷ [])) ≤ₑ Fin (whole 130)
+    → sum_of_numbers (with_links xs (whole 0 ∷ [])) ≤ₑ Fin (whole 130)
 one_number at c [] h most = absurd h
 one_number at c (x ∷ []) h most =
     linked x (subst (λ z. z ≤ₑ Fin (whole 130)) (same_number at c most.value x most.is h.0) most.most)
@@ -94,7 +94,7 @@ tfa_at_most : (at : CellTable) → MeetsEquations one_flow at → IsAtMost at (c
 tfa_at_most at m =
     let e = m (cell_of Tfa 0 0) refl in
     record {
-      value = total (with_links e.means.numbers (whole 0 ∷ []));
+      value = sum_of_numbers (with_links e.means.numbers (whole 0 ∷ []));
       is = e.is ∙ ap Some e.means.gives;
       most = one_number at (cell_of HopDelay 0 0) e.means.numbers e.means.are (hop_delay_at_most at m);
     }

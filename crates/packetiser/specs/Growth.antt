@@ -7,7 +7,7 @@ use Rattle.upp_curve.specs.Curve.{SpecCurve, value_at}
 use Rattle.min_plus.specs.Functions.{zero_q}
 use Rattle.min_plus.specs.Pointwise.{IsPositiveMinus}
 use Rattle.curve_call.specs.Calls.{AppliesTo}
-use Rattle.curve_call.specs.Growth.{GrowsFromZero, IsServiceCurve}
+use Rattle.curve_call.specs.Growth.{GrowsFromZero, IsGrowingCurve}
 
 -- R is β less l bits
 abbrev pub PacketServiceGrows : Type 0
@@ -17,4 +17,4 @@ PacketServiceGrows = (β R : ℚ → Ext) (l : ℚ) → zero_q ≤ℚ l → Grow
 -- c is the curve that the call makes
 abbrev pub PacketCurveGrows : Type 0
 PacketCurveGrows = (β c : SpecCurve) (l : ℚ) → zero_q ≤ℚ l → GrowsFromZero (value_at β) →
-    AppliesTo (PosMinus l) β (Ok c) → IsServiceCurve c
+    AppliesTo (PosMinus l) β (Ok c) → IsGrowingCurve c

@@ -6,7 +6,7 @@ use Rattle.std.proofs.lemmas.Bool.{cases_lt, cond-true, cond-false, eq-eqb, ne_e
 use Rattle.std.proofs.lemmas.List.FromFn.{map-range_with_len_more}
 use Rattle.net_model.specs.Networks.{Net, NetFlow}
 use Rattle.net_model.specs.Accepted.{IsAccepted}
-use Rattle.net_cells.specs.Numbered.{flow_at, path_of, hops, server_at}
+use Rattle.net_cells.specs.Numbered.{flow_at, path_of, hops, server_of_hop}
 use Rattle.net_cells.specs.declared.visit.Visit.{Visit}
 use Rattle.net_cells.specs.Visits.{visit, visits, is_at, visits_in, others, longest_of}
 use Rattle.net_cells.proofs.Growing.{filter_flat, flat_more, kept_number, dropped_number}
@@ -40,16 +40,16 @@ differ : (net : Net) (i : ℕ) (o : Option NetFlow) (j k : ℕ) → IsAccepted n
 differ net i None j k a e h l = absurd (omega (arith, l))
 differ net i (Some f) j k a e h l = (flow_kept net i f a e).once j k 0 h l
 
-pub hop_here : (net : Net) (s i k : ℕ) → IsAccepted net → k < hops net i → server_at net i k ≡ s
+pub hop_here : (net : Net) (s i k : ℕ) → IsAccepted net → k < hops net i → server_of_hop net i k ≡ s
     → filter (is_at net s) (map (visit i) (range_with_len 0 k)) ≡ [] → flow_visits net s i ≡ visit i k ∷ []
 hop_here net s i k a h e none =
-    only_one (is_at net s) (visit i) k (hops net i) (eq-eqb (server_at net i k) s e) none
-    (λ j lo hi. ne_eqb (server_at net i j) s (λ f. differ net i (flow_at net i) k j a refl lo hi (e ∙ sym f))) h
+    only_one (is_at net s) (visit i) k (hops net i) (eq-eqb (server_of_hop net i k) s e) none
+    (λ j lo hi. ne_eqb (server_of_hop net i j) s (λ f. differ net i (flow_at net i) k j a refl lo hi (e ∙ sym f))) h
 
-pub not_here : (net : Net) (s i k : ℕ) → server_at net i k ≢ s → filter (is_at net s) (map (visit i) (range_with_len 0 k)) ≡ []
+pub not_here : (net : Net) (s i k : ℕ) → server_of_hop net i k ≢ s → filter (is_at net s) (map (visit i) (range_with_len 0 k)) ≡ []
     → filter (is_at net s) (map (visit i) (range_with_len 0 (k + 1))) ≡ []
 not_here net s i k e none =
-    dropped_number (is_at net s) (visit i) k (ne_eqb (server_at net i k) s e)
+    dropped_number (is_at net s) (visit i) k (ne_eqb (server_of_hop net i k) s e)
     ∙ append-nil (filter (is_at net s) (map (visit i) (range_with_len 0 k))) ∙ none
 
 -- what is kept of one hop

@@ -2,7 +2,7 @@
 use Rattle.std.specs.Prelude.{ℕ, ◌==◌, List, [], ◌∷◌, map, Bool, true, not, nat_lt, Option, Some, None}
 use Rattle.std.specs.List.{filter, flat_map, range_with_len}
 use Rattle.net_model.specs.Networks.{Net}
-use Rattle.net_cells.specs.Numbered.{hops, queue_at}
+use Rattle.net_cells.specs.Numbered.{hops, queue_of_hop}
 use Rattle.net_cells.specs.declared.visit.Visit.{Visit}
 use Rattle.net_cells.specs.Visits.{visit, is_at}
 use Rattle.queue_hops.specs.declared.found.Pick.{Pick}
@@ -19,8 +19,8 @@ visit_list i (Some k) = visit i k ∷ []
 
 -- in one queue, or in the queues of greater number
 abbrev pub picks : Net → Pick → Visit → Bool
-picks net (InQueue q) v = queue_at net v.flow v.hop == q
-picks net (AfterQueue q) v = nat_lt q (queue_at net v.flow v.hop)
+picks net (InQueue q) v = queue_of_hop net v.flow v.hop == q
+picks net (AfterQueue q) v = nat_lt q (queue_of_hop net v.flow v.hop)
 
 -- of another flow than this one, if there is one
 abbrev pub is_other : Option ℕ → Visit → Bool

@@ -7,7 +7,7 @@ ghost use Rattle.queue_hops.specs.Chosen.{flow_visits, visit_list, picked, chose
 ghost use Rattle.queue_hops.specs.Chosen as spec;
 
 use fraction128::Frac;
-use net_cells::{hops, live_flow, queue_at, server, server_at};
+use net_cells::{hops, live_flow, queue_of_hop, server, server_of_hop};
 use net_model::Network;
 
 /// Which hops at a server are meant: those in a queue, or those in the queues of greater number.
@@ -43,7 +43,7 @@ pub fn hop_at(net: &Network, flow: u32, server: u32) -> Option<u32>
 {
     net.keeps();
     for hop in 0..hops(net, flow) {
-        if server_at(net, flow, hop) == server {
+        if server_of_hop(net, flow, hop) == server {
             return Some(hop);
         }
     }
@@ -54,8 +54,8 @@ fn picks(net: &Network, pick: Pick, flow: u32, hop: u32) -> bool
     ensures { result ≡ spec.picks net.now pick (seen.visit flow hop) }
 {
     match pick {
-        Pick::InQueue(queue) => queue_at(net, flow, hop) == queue,
-        Pick::AfterQueue(queue) => queue < queue_at(net, flow, hop),
+        Pick::InQueue(queue) => queue_of_hop(net, flow, hop) == queue,
+        Pick::AfterQueue(queue) => queue < queue_of_hop(net, flow, hop),
     }
 }
 

@@ -68,7 +68,7 @@ EquationsGiveOneRunReport =
     → MeetsEquations net at → MeetsEquations net other → run_report_of net at found ≡ run_report_of net other found
 
 -- a number stands in the table
-pub record HasNumber (at : CellTable) (c : Cell) : Type 0 where
+pub record StandsAsNumber (at : CellTable) (c : Cell) : Type 0 where
   pub value : Ext
   pub is : at c ≡ Some (number value)
 
@@ -76,7 +76,7 @@ pub record HasNumber (at : CellTable) (c : Cell) : Type 0 where
 abbrev pub EquationsGiveNumbers : Type 0
 EquationsGiveNumbers =
     (net : Net) (at : CellTable) → MeetsEquations net at
-    → (c : Cell) → IsTrue (has_cell net c) → IsTrue (is_printed c.kind) → HasNumber at c
+    → (c : Cell) → IsTrue (has_cell net c) → IsTrue (is_printed c.kind) → StandsAsNumber at c
 
 -- ---- cells
 -- the words of a cell tell which of a network's cells it is

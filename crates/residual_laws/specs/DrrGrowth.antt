@@ -4,7 +4,7 @@ use Rattle.std.specs.Prelude.{◌≡◌, ◌≤◌, ◌<◌, ℕ, List, length, 
 use Rattle.rational.specs.Rational.{ℚ}
 use Rattle.rational.specs.Extended.{Ext}
 use Rattle.upp_curve.specs.Curve.{SpecCurve, value_at}
-use Rattle.curve_call.specs.Growth.{GrowsFromZero, IsServiceCurve}
+use Rattle.curve_call.specs.Growth.{GrowsFromZero, IsGrowingCurve}
 use Rattle.residual_laws.specs.DrrCalls.{AreQueues, MakesDrr}
 use Rattle.residual_laws.specs.DrrLaws.{IsDrrService}
 
@@ -17,4 +17,4 @@ DrrServiceGrows = (β R : ℚ → Ext) (quanta longest : List ℕ) (i : ℕ) →
 -- c is the curve that the calls make
 abbrev pub DrrCurveGrows : Type 0
 DrrCurveGrows = (β c : SpecCurve) (quanta longest : List ℕ) (i : ℕ) → AreQueues quanta longest → i < length quanta →
-    GrowsFromZero (value_at β) → MakesDrr β quanta longest i (Ok c) → IsServiceCurve c
+    GrowsFromZero (value_at β) → MakesDrr β quanta longest i (Ok c) → IsGrowingCurve c

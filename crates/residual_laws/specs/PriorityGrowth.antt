@@ -5,7 +5,7 @@ use Rattle.rational.specs.Rational.{ℚ}
 use Rattle.rational.specs.Extended.{Ext}
 use Rattle.upp_curve.specs.Curve.{SpecCurve, value_at}
 use Rattle.min_plus.specs.Functions.{IsNonnegative}
-use Rattle.curve_call.specs.Growth.{GrowsFromZero, IsServiceCurve}
+use Rattle.curve_call.specs.Growth.{GrowsFromZero, IsGrowingCurve}
 use Rattle.residual_laws.specs.PriorityCalls.{MakesPriority}
 use Rattle.residual_laws.specs.PriorityLaws.{IsPriorityService}
 
@@ -17,4 +17,4 @@ PriorityServiceGrows = (β higher R : ℚ → Ext) (lower : ℕ) → GrowsFromZe
 -- c is the curve that the calls make
 abbrev pub PriorityCurveGrows : Type 0
 PriorityCurveGrows = (β higher c : SpecCurve) (lower : ℕ) → GrowsFromZero (value_at β) →
-    IsNonnegative (value_at higher) → MakesPriority β higher lower (Ok c) → IsServiceCurve c
+    IsNonnegative (value_at higher) → MakesPriority β higher lower (Ok c) → IsGrowingCurve c

@@ -20,8 +20,8 @@ use Rattle.net_cells.specs.Cells.{cell_of, has_cell}
 use Rattle.net_cells.specs.Equations.{MeetsEquations}
 use Rattle.net_cells.specs.Means.{HaveNumbers, with_links, OfCurves}
 use Rattle.net_cells.specs.Meanings.{Meaning, number, CellTable, IsNumberIn}
-use Rattle.net_cells.specs.Numbered.{hops, is_live, link, path, server_at, queue_at}
-use Rattle.net_cells.specs.NumberSums.{total}
+use Rattle.net_cells.specs.Numbered.{hops, is_live, link, path, server_of_hop, queue_of_hop}
+use Rattle.net_cells.specs.NumberSums.{sum_of_numbers}
 use Rattle.net_cells.specs.TableValues.{HasNumber}
 use Rattle.net_cells.proofs.Precedes.{operands_are_cells}
 use Rattle.net_cells.proofs.TableValues.{has_number, same_number}
@@ -49,10 +49,10 @@ sum_nonneg : (x y : Ext) → IsNonneg x → IsNonneg y → IsNonneg (x +ₑ y)
 sum_nonneg x y h k =
     subst (λ z. z ≤ₑ (x +ₑ y)) (zero_add_ext (Fin zero_q)) (add_le_ext (Fin zero_q) x (Fin zero_q) y h k)
 
-links_nonneg : (net : Net) (ss : List ℕ) → IsAccepted net → IsNonneg (total (map Fin (map (link net) ss)))
+links_nonneg : (net : Net) (ss : List ℕ) → IsAccepted net → IsNonneg (sum_of_numbers (map Fin (map (link net) ss)))
 links_nonneg net [] a = le_refl zero_q
 links_nonneg net (s ∷ ss) a =
-    sum_nonneg (Fin (link net s)) (total (map Fin (map (link net) ss))) (link_nonneg net s a) (links_nonneg net ss a)
+    sum_nonneg (Fin (link net s)) (sum_of_numbers (map Fin (map (link net) ss))) (link_nonneg net s a) (links_nonneg net ss a)
 
 -- ---- cells
 -- a horizontal deviation of two cells' curves
@@ -82,8 +82,8 @@ hop_delay : (net : Net) (order : List ℕ) (at : CellTable) (i k : ℕ) → Give
     → IsTrue (has_cell net (cell_of HopDelay i k)) → HasNumber at (cell_of HopDelay i k) IsNonneg
 hop_delay net order at i k g has =
     let c = cell_of HopDelay i k in
-    let s = server_at net i k in
-    let q = queue_at net i k in
+    let s = server_of_hop net i k in
+    let q = queue_of_hop net i k in
     let e = g.meets c has in
     let m = e.means in
     let here =
@@ -99,13 +99,13 @@ hop_delay net order at i k g has =
 hops_nonneg : (net : Net) (order : List ℕ) (at : CellTable) (i : ℕ) (ks : List ℕ) (xs : List Ext) (ss : List ℕ)
     → Given net order at
     → ((d : Cell) → Contains (map (cell_of HopDelay i) ks) d → IsTrue (has_cell net d))
-    → HaveNumbers at (map (cell_of HopDelay i) ks) xs → IsNonneg (total (with_links xs (map (link net) ss)))
+    → HaveNumbers at (map (cell_of HopDelay i) ks) xs → IsNonneg (sum_of_numbers (with_links xs (map (link net) ss)))
 hops_nonneg net order at i [] [] ss g has are = links_nonneg net ss g.accepted
 hops_nonneg net order at i [] (x ∷ xs) ss g has are = absurd are
 hops_nonneg net order at i (k ∷ ks) [] ss g has are = absurd are
 hops_nonneg net order at i (k ∷ ks) (x ∷ xs) ss g has are =
     let c = cell_of HopDelay i k in
-    sum_nonneg x (total (with_links xs (map (link net) ss)))
+    sum_nonneg x (sum_of_numbers (with_links xs (map (link net) ss)))
     (known at c x (hop_delay net order at i k g (has c (0, omega arith, refl))) are.0)
     (hops_nonneg net order at i ks xs ss g
     (λ d there. let l = there.1 in has d (suc there.0, omega arith, there.2)) are.1)
@@ -134,7 +134,7 @@ by_service net order at i g live =
     let x : IsNonneg m.operand = deviation_nonneg _ _ (number m.operand) m.is in
     has_number at c IsNonneg e.value e.is
     (subst (IsNumberIn IsNonneg) (sym m.gives)
-    (sum_nonneg m.operand (total (map Fin (map (link net) (path net i)))) x (links_nonneg net (path net i) g.accepted)))
+    (sum_nonneg m.operand (sum_of_numbers (map Fin (map (link net) (path net i)))) x (links_nonneg net (path net i) g.accepted)))
 
 pub bound_nonneg : (net : Net) (order : List ℕ) (at : CellTable) (i : ℕ) → Given net order at → IsTrue (is_live net i)
     → HasNumber at (cell_of Bound i 0) IsNonneg

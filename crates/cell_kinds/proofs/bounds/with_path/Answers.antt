@@ -13,7 +13,7 @@ pub loop-hop-preserved : goal.loop-hop-preserved
 loop-hop-preserved c = λ xs h.
     link_added c.args.net.now c.args.flow c.loop-hop.hop c.loop-hop.all c.and-all.result xs c.link.result
     (let t = c.loop-hop-test.true in let e = c.hops-hop-end.ensures.hops in omega (arith, t, e))
-    (c.link.ensures ∙ ap (link c.args.net.now) c.server_at-number.ensures)
+    (c.link.ensures ∙ ap (link c.args.net.now) c.server_of_hop-number.ensures)
     (c.loop-hop.invariant xs h) c.and-all.ensures
 
 pub returns : goal.returns

@@ -2,7 +2,7 @@ use Rattle.std.proofs.Common.{◌-◌, List, [], length, map, sym, subst}
 use Rattle.std.specs.Prelude.{Some}
 use Rattle.std.proofs.lemmas.List.{length-map}
 use Rattle.net_cells.specs.declared.cell.Kind.TheVariants.{In}
-use Rattle.net_cells.specs.Numbered.{server_at, queue_at}
+use Rattle.net_cells.specs.Numbered.{server_of_hop, queue_of_hop}
 use Rattle.net_cells.specs.declared.visit.Visit.{Visit}
 use Rattle.net_cells.specs.Visits.{others}
 use Rattle.net_cells.specs.Order.{at_visit}
@@ -28,8 +28,8 @@ returns g c =
     let old = c.args.steps.now in
     let new = c.flows_sum-made.new.steps in
     let made = c.flows_sum-made.result in
-    let s = server_at net i c.args.hop in
-    let q = queue_at net i c.args.hop in
+    let s = server_of_hop net i c.args.hop in
+    let q = queue_of_hop net i c.args.hop in
     let there = others net i s q in
     let cells = map (at_visit In) there in
     let chosen : Adds at [] (map (at_visit In) (all_chosen net s (InQueue q) (Some i) (length net.flows))) old new made =

@@ -1,5 +1,5 @@
 use Rattle.net_cells.specs.declared.cell.Kind.TheVariants.{In, Residual, QueueDelay}
-use Rattle.net_cells.specs.Numbered.{server_at, queue_at}
+use Rattle.net_cells.specs.Numbered.{server_of_hop, queue_of_hop}
 use Rattle.net_cells.specs.Cells.{cell_of}
 use Rattle.net_cells.specs.Formulas.{value_of, horizontal}
 use Rattle.cell_operators.proofs.Counting.{counts_all}
@@ -25,7 +25,7 @@ returns-in-Ok g c =
     let net = c.args.net.now in
     let i = c.args.flow in
     let k = c.args.hop in
-    let queue = cell_of QueueDelay (server_at net i k) (queue_at net i k) in
+    let queue = cell_of QueueDelay (server_of_hop net i k) (queue_of_hop net i k) in
     let own = horizontal (value_of (cell_of In i k)) (value_of (cell_of Residual i k)) in
     let is = rw (c.place_of-place.ensures.server, c.place_of-place.ensures.queue) at c.number_at-queue.ensures in
     record {
@@ -44,7 +44,7 @@ returns-in-Err g c =
     let at = g.T.Table.at c.args.table.now in
     record {
       answer =
-          smaller_refused at (cell_of QueueDelay (server_at net i k) (queue_at net i k))
+          smaller_refused at (cell_of QueueDelay (server_of_hop net i k) (queue_of_hop net i k))
           (horizontal (value_of (cell_of In i k)) (value_of (cell_of Residual i k))) c.in-Err.fault
           (hop_queue net at i k c.requires) c.in-Err.ensures.answer;
       counts = counts_all 1 c.args.steps.now _ _ c.in-Err.ensures.count;

@@ -3,7 +3,7 @@ use Rattle.net_cells.specs.declared.cell.Kind.TheVariants.{In, PathService}
 use Rattle.net_cells.specs.Cells.{cell_of}
 use Rattle.net_cells.specs.Formulas.{value_of, horizontal}
 use Rattle.net_cells.specs.Means.{with_links}
-use Rattle.net_cells.specs.CellFormulas.{links_along}
+use Rattle.net_cells.specs.CellFormulas.{link_delays}
 use Rattle.cell_operators.proofs.Counting.{counts_all}
 use Rattle.cell_kinds.proofs.Arms.{sfa_comes, sfa_served_by}
 use Rattle.curve_call.specs.Calls.{stops}
@@ -32,7 +32,7 @@ returns-in-Ok g c =
           c.sum_of.result c.requires.accepted
           c.in-Ok.ensures.answer
           (λ few.
-          c.sum_of.ensures (with_links (x ∷ []) (links_along net i)) few
+          c.sum_of.ensures (with_links (x ∷ []) (link_delays net i)) few
           (c.with_path.ensures (x ∷ []) (c.and.ensures [] c.no_number.ensures))));
       counts = counts_all 1 c.args.steps.now _ _ c.in-Ok.ensures.count;
     }

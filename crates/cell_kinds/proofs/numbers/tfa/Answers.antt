@@ -1,7 +1,7 @@
 use Rattle.cell_operators.proofs.Counting.{counts_none}
 use Rattle.cell_kinds.proofs.Arms.{tfa_delays}
 use Rattle.net_cells.specs.Means.{with_links}
-use Rattle.net_cells.specs.CellFormulas.{links_along}
+use Rattle.net_cells.specs.CellFormulas.{link_delays}
 use Rattle.cell_kinds.proofs.PathSums.{path_answer}
 use Rattle.cell_kinds.proofs.numbers.tfa.Goals as goal
 
@@ -18,6 +18,6 @@ returns g c = λ n.
           rw c.numbered.ensures
           (path_answer net at i c.sum_of.result c.requires.accepted (tfa_delays net at i c.requires)
           (λ xs few are.
-          c.sum_of.ensures (with_links xs (links_along net i)) few (c.with_path.ensures xs (c.delays.ensures xs are))));
+          c.sum_of.ensures (with_links xs (link_delays net i)) few (c.with_path.ensures xs (c.delays.ensures xs are))));
       counts = counts_none n _;
     }

@@ -3,4 +3,4 @@ use Rattle.net_cells.specs.Numbered.{link}
 use Rattle.cell_rules.proofs.reads.link_at.Goals as goal
 
 pub returns : goal.returns
-returns c = c.link.ensures ∙ ap (link c.args.net.now) c.server_at.ensures
+returns c = c.link.ensures ∙ ap (link c.args.net.now) c.server_of_hop.ensures

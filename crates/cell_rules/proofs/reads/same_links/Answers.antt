@@ -1,5 +1,5 @@
 use Rattle.std.proofs.Common.{◌≡◌, ◌∙◌, sym, ℕ, ◌<◌, arith, below_more}
-use Rattle.net_cells.specs.Numbered.{hops, link, server_at}
+use Rattle.net_cells.specs.Numbered.{hops, link, server_of_hop}
 use Rattle.cell_rules.proofs.Tells.{tells_yes, tells_no}
 use Rattle.cell_rules.proofs.SameMade.{same_links, other_link}
 use Rattle.cell_rules.proofs.reads.same_links.Goals as goal
@@ -17,7 +17,7 @@ loop-hop-preserved c =
     let old = c.args.old.now in
     let new = c.args.new.now in
     let i = c.args.flow in
-    below_more (λ (k : ℕ). link old (server_at old i k) ≡ link new (server_at new i k)) c.loop-hop.hop c.loop-hop.invariant
+    below_more (λ (k : ℕ). link old (server_of_hop old i k) ≡ link new (server_of_hop new i k)) c.loop-hop.hop c.loop-hop.invariant
     (sym c.link_at-here.ensures
     ∙ tells_yes c.link_at-here.result c.link_at-there.result c.same_link.result c.same_link.ensures c.if-not-same_link.false
     ∙ c.link_at-there.ensures)

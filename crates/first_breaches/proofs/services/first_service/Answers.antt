@@ -2,7 +2,7 @@ use Rattle.std.proofs.Common.{Option, ◌≡◌, suc, ◌+◌, arith, sym, subst
 use Rattle.std.proofs.lemmas.Bool.{cases_lt}
 use Rattle.run_watch.specs.declared.found.Found.{Found}
 use Rattle.run_watch.specs.FirstOf.{IsBest}
-use Rattle.first_breaches.specs.Firsts.{IsBelow, HasCurve}
+use Rattle.first_breaches.specs.Firsts.{IsBelow, HasService}
 use Rattle.first_breaches.proofs.Joined.{one_more}
 use Rattle.first_breaches.proofs.services.first_service.Goals as goal
 
@@ -14,6 +14,6 @@ loop-number-preserved c =
           (one_more c.args.net.now c.args.run.now 2 n (n + 1) c.loop-number.best c.in_ok-first_service_of.field-0 next c.loop-number.invariant.0 c.in_ok-first_service_of.ensures.best),
       λ s h. elim (cases_lt s n) [
         | inl l ↦ c.loop-number.invariant.1 s l
-        | inr l ↦ let same : n ≡ s = omega (arith, h, l) in subst (HasCurve c.args.net.now) same c.in_ok-first_service_of.ensures.curve
+        | inr l ↦ let same : n ≡ s = omega (arith, h, l) in subst (HasService c.args.net.now) same c.in_ok-first_service_of.ensures.curve
       ],
     )

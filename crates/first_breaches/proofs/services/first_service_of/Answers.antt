@@ -14,7 +14,7 @@ use Rattle.run_watch.specs.Ramps.{RampsFit}
 use Rattle.run_watch.specs.Seen.{arrivals_at, works_at}
 use Rattle.run_watch.specs.Held.{IsHeld}
 use Rattle.run_watch.specs.FirstOf.{IsBest, IsIdleOn}
-use Rattle.first_breaches.specs.Firsts.{IsOne, HasCurve}
+use Rattle.first_breaches.specs.Firsts.{IsOne, HasService}
 use Rattle.first_breaches.proofs.Views.{watchable, sees_as}
 use Rattle.curve_call.proofs.Applied.{if_ok}
 use Rattle.first_breaches.proofs.Parts.{service_one, may_serve, no_server}
@@ -72,4 +72,4 @@ returns-in_ok-seen-in-Some-clause-best c =
 pub returns-in_ok-seen-in-Some-clause-curve : goal.returns-in_ok-seen-in-Some-clause-curve
 returns-in_ok-seen-in-Some-clause-curve c =
     let same : c.in-Some.found.now.service ≡ service c.args.net.now c.args.number = ap service_of c.in-Some.ensures.server in
-    if_ok {P = HasCurve c.args.net.now c.args.number} c.service_breach.result (subst IsCurve same c.pieces-kept.ensures.kept)
+    if_ok {P = HasService c.args.net.now c.args.number} c.service_breach.result (subst IsCurve same c.pieces-kept.ensures.kept)
