@@ -15,7 +15,9 @@ use Rattle.net_text.specs.FoldLimits.{OverFold}
 use Rattle.net_cells.specs.declared.cell.Cell.{Cell}
 use Rattle.net_cells.specs.FirstOver.{FirstOver}
 use Rattle.report_text.specs.CellWords.{server_name, cell_words}
-use Rattle.command_replies.specs.Replies.{Reply, breaks_rule, goes_round, curve_over, cell_over}
+use Rattle.table_text.specs.declared.fault.TableFault.{TableFault}
+use Rattle.table_text.specs.Traces.{IsFirstFault}
+use Rattle.command_replies.specs.Replies.{Reply, breaks_rule, goes_round, curve_over, cell_over, table_fault_reply}
 
 -- ---- files without a network
 -- the first rule that the tables of the file break
@@ -39,6 +41,14 @@ IsNoNetwork file bytes reply = IsBroken file bytes reply ⊎ ((limit : OverLimit
 pub record IsNetOf (bytes : List ℕ) (net : Net) : Type 0 where
   pub reads : IsNetworkOf OverFold bytes net
   pub accepted : IsAccepted net
+
+-- the first row of its trace that is wrong, and that row's first fault
+pub record IsBadTrace (net_bytes trace_file trace_bytes : List ℕ) (reply : Reply) : Type 0 where
+  pub net : Net
+  pub gives : IsNetOf net_bytes net
+  pub fault : TableFault
+  pub first : IsFirstFault net trace_bytes fault.kind fault.row
+  pub is : reply ≡ table_fault_reply trace_file fault
 
 -- its flows go round; of its cycles one is told
 pub record HasCycle (bytes : List ℕ) (reply : Reply) : Type 0 where

@@ -85,9 +85,6 @@ script_meaning lines (Ok v) h = answers_are_meant lines (map answer_view v.items
 script_meaning lines (Err fault) h = tt
 
 -- ---- the lines that are left
-pub dropped : {A : Type 0} (xs : List A) (i : ℕ) (x : A) → i < length xs → x ≡ get_or xs i x → drop i xs ≡ x ∷ drop (i + 1) xs
-dropped xs i x l e = let s : suc i ≡ i + 1 = omega arith in drop-cons xs i x l ∙ ap₂ (λ y m. y ∷ drop m xs) (sym e) s
-
 pub found_again : (ls : List Let) (out : List Answered) (xs : List ScriptLine) (i : ℕ) → length xs ≤ i
     → ((r : Told) → ScriptFinds ls out (map line_view (drop i xs)) r → ScriptFinds [] [] (map line_view xs) r)
     → ScriptMeans [] (map line_view xs) out

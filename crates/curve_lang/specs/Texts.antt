@@ -5,6 +5,7 @@ use Rattle.rational.specs.Rational.{ℚ}
 use Rattle.rational.specs.Extended.{Ext}
 use Rattle.rational.specs.declared.Extended.TheVariants.{Fin, Inf}
 use Rattle.fraction128.specs.Text.{text_of}
+use Rattle.plain_text.specs.Numbers.{number_text}
 use Rattle.affine_segment.specs.declared.line.Line.{Line}
 use Rattle.affine_segment.specs.declared.line.Piece.{Piece}
 use Rattle.affine_segment.specs.Values.{line_value}
@@ -22,10 +23,6 @@ word_text Delay = codes "delay"
 word_text Backlog = codes "backlog"
 word_text Equal = codes "equal"
 word_text Below = codes "below"
-
-abbrev pub number_text : Ext → List ℕ
-number_text Inf = codes "unbounded"
-number_text (Fin x) = text_of x
 
 abbrev pub truth_text : Bool → List ℕ
 truth_text true = codes "true"

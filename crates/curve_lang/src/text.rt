@@ -6,7 +6,8 @@ ghost use Rattle.affine_segment.specs.Pieces.{Each};
 ghost use Rattle.curve_lang.specs.Answers.{NumberIs, TruthIs};
 ghost use Rattle.affine_segment.specs.Fits.{LineFitsAt};
 ghost use Rattle.fraction128.specs.Text.{text_of};
-ghost use Rattle.curve_lang.specs.Texts.{word_text, number_text, truth_text, after_text, piece_text, tail_text, ranked_text, step_text, repeated_text, curve_text, answer_text, answers_text};
+ghost use Rattle.plain_text.specs.Numbers.{number_text};
+ghost use Rattle.curve_lang.specs.Texts.{word_text, truth_text, after_text, piece_text, tail_text, ranked_text, step_text, repeated_text, curve_text, answer_text, answers_text};
 ghost use Rattle.curve_lang.specs.Views.{answer_view};
 
 use crate::answer::{Answer, Word};

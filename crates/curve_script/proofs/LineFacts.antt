@@ -1,7 +1,6 @@
 -- What is known of a line from its tokens.
 use Rattle.std.proofs.Common.{◌≡◌, ℕ, suc, ◌<◌, ◌≤◌, List, [], ◌∷◌, ◌++◌, Option, Some, None, Bool, true, false, refl, sym, ap, ap₂, ◌∙◌, subst, ⊎_elim}
 use Rattle.std.specs.Prelude.{is_some, max}
-use Rattle.std.specs.List.{list_all}
 use Rattle.std.proofs.lemmas.List.{append-nil}
 use Rattle.std.proofs.lemmas.Bool.{cases_lt}
 use Rattle.rational.specs.Rational.{ℚ}
@@ -12,7 +11,8 @@ use Rattle.curve_script.specs.Lexing.{lex}
 use Rattle.curve_script.specs.Grammar.{Expression, Named, Nought, OfPair, OfTriple, OnCurve, OnNumber, OnTwo, Statement, Lets, ValueAt, AsksOne, AsksTwo, statement_tokens, number_in, both, depth, depth_in, numbers_read, numbers_read_in}
 use Rattle.curve_script.specs.Shapes.{run}
 use Rattle.curve_script.specs.Building.{Told, statement_from}
-use Rattle.curve_script.specs.Lines.{is_plain_byte, IsDraft, Spells, HasFault, IsLine}
+use Rattle.plain_text.specs.Plain.{is_plain}
+use Rattle.curve_script.specs.Lines.{IsDraft, Spells, HasFault, IsLine}
 use Rattle.curve_script.proofs.Lexed.{lex_sound, lex_complete, lex_none}
 use Rattle.curve_script.proofs.Shaped.{shape_spelt, spelt_shape}
 use Rattle.curve_script.proofs.Built.{mapped_some, both_some, statement_ok, statement_deep}
@@ -50,7 +50,7 @@ abbrev pub first_or : Statement ℚ → Option Told → Statement ℚ
 first_or t None = t
 first_or t (Some p) = p.0
 
-module _ (line : List ℕ) (plain : list_all is_plain_byte line ≡ true) where
+module _ (line : List ℕ) (plain : is_plain line ≡ true) where
   pub not_lexed : lex line ≡ None → HasFault C2 line
   not_lexed e = (plain, λ d is. lex_none line e (statement_tokens d) is.says)
 

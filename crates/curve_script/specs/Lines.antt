@@ -1,7 +1,8 @@
 -- Lines of a script, and what is wrong with one. (Own choice.)
-use Rattle.std.specs.Prelude.{◌≡◌, ℕ, ◌<◌, ◌≤◌, List, [], ◌∷◌, Some, None, Bool, true, false, ◌&&◌, ◌||◌, ◌==◌, nat_le}
+use Rattle.std.specs.Prelude.{◌≡◌, ℕ, ◌<◌, ◌≤◌, List, [], ◌∷◌, Some, None, Bool, true, false, ◌||◌, ◌==◌}
 use Rattle.std.specs.List.{list_all}
 use Rattle.rational.specs.Rational.{ℚ}
+use Rattle.plain_text.specs.Plain.{is_plain}
 use Rattle.curve_script.specs.declared.fault.LangKind.{LangKind}
 use Rattle.curve_script.specs.declared.fault.LangKind.TheVariants.{C1, C2, C3, C4, C5, C6, C7, C8, TooMany, TooWide, NoMemory}
 use Rattle.curve_script.specs.Tokens.{Says}
@@ -13,10 +14,6 @@ deepest = 64
 
 abbrev pub most : ℕ
 most = 256
-
--- a space or a visible character of ASCII
-unfoldable pub is_plain_byte : ℕ → Bool
-is_plain_byte c = nat_le 32 c && nat_le c 126
 
 abbrev pub is_blank : List ℕ → Bool
 is_blank line = list_all (λ c. c == 32) line
@@ -36,7 +33,7 @@ pub record IsDraft (line : List ℕ) (draft : Statement (List ℕ)) : Type 0 whe
 
 -- a line spells a statement
 pub record Spells (line : List ℕ) (s : Statement ℚ) : Type 0 where
-  pub plain : list_all is_plain_byte line ≡ true
+  pub plain : is_plain line ≡ true
   pub draft : Statement (List ℕ)
   pub is : IsDraft line draft
   pub numbers : numbers_read_in draft ≡ Some s
@@ -44,9 +41,9 @@ pub record Spells (line : List ℕ) (s : Statement ℚ) : Type 0 where
 -- the line's own first fault: a byte that is not plain; else no statement, whatever its numbers are; else a word for
 -- a number that writes none; else parentheses that nest too deep
 abbrev pub HasFault : LangKind → List ℕ → Type 0
-HasFault C1 line = list_all is_plain_byte line ≡ false
-HasFault C2 line = (list_all is_plain_byte line ≡ true) × ((draft : Statement (List ℕ)) → IsDraft line draft → ⊥)
-HasFault C3 line = (list_all is_plain_byte line ≡ true) × ((draft : Statement (List ℕ)) × IsDraft line draft × (numbers_read_in draft ≡ None))
+HasFault C1 line = is_plain line ≡ false
+HasFault C2 line = (is_plain line ≡ true) × ((draft : Statement (List ℕ)) → IsDraft line draft → ⊥)
+HasFault C3 line = (is_plain line ≡ true) × ((draft : Statement (List ℕ)) × IsDraft line draft × (numbers_read_in draft ≡ None))
 HasFault C4 line = (s : Statement ℚ) × Spells line s × (deepest < depth_in s)
 HasFault C5 line = ⊥
 HasFault C6 line = ⊥

@@ -22,6 +22,7 @@ use Rattle.net_text.specs.FoldLimits.{OverFold}
 use Rattle.table_text.specs.declared.fault.TableFault.{TableFault}
 use Rattle.table_text.specs.declared.fault.TableKind.{TableKind}
 use Rattle.table_text.specs.Traces.{IsTraceOf}
+use Rattle.table_text.proofs.OneTrace.{flow_one}
 use Rattle.measure_curve.specs.Bursts.{IsLeastBurst}
 use Rattle.table_text.specs.Rows.{rows_of}
 use Rattle.table_text.proofs.OneTrace.{trace_one, no_trace, fault_one}
@@ -44,9 +45,6 @@ reports_are_least net_bytes trace_bytes name rate ps c burst reply h = record {
 }
 
 -- ---- statuses
-status_is : (reply other : Reply) → reply ≡ other → reply.status ≡ other.status
-status_is reply other e = ap (λ (r : Reply). r.status) e
-
 pub statuses_are_four : StatusesAreFour
 statuses_are_four nf nb tf tb name rate reply (Broken h) = inr (inl (ap (λ (r : Reply). r.status) h.is))
 statuses_are_four nf nb tf tb name rate reply (CurveOver TooMany h) = inr (inr (inr (ap (λ (r : Reply). r.status) h.is)))
@@ -58,23 +56,6 @@ statuses_are_four nf nb tf tb name rate reply (MeasureOver TooWide h) = inr (inr
 statuses_are_four nf nb tf tb name rate reply (BurstOver TooMany h) = inr (inr (inr (ap (λ (r : Reply). r.status) h.is)))
 statuses_are_four nf nb tf tb name rate reply (BurstOver TooWide h) = inr (inr (inl (ap (λ (r : Reply). r.status) h.is)))
 statuses_are_four nf nb tf tb name rate reply (Measured (ps, c, burst, h)) = inl (ap (λ (r : Reply). r.status) h.is)
-
--- ---- one flow has a name
-apart : (R : Option NetFlow → Option NetFlow → Type 0) (flows : List (Option NetFlow)) (i j : ℕ) (f g : Option NetFlow) → AllPairs R flows
-    → slice_get flows i ≡ Some f → slice_get flows j ≡ Some g → i < j → R f g
-apart R flows i j f g pairs ef eg l =
-    let at_i = get_or_from_slice_get flows i f f ef in
-    let at_j = get_or_from_slice_get flows j g f eg in
-    subst (λ y. R f y) at_j (subst (λ x. R x (get_or flows j f)) at_i (pairs i j f l (slice_get_within flows j g eg)))
-
-pub one_flow : (net : Net) (name : List ℕ) (i j : ℕ) → IsAccepted net → IsFlowNamed net.flows name i → IsFlowNamed net.flows name j → i ≡ j
-one_flow net name i j ok a b = elim (cases_order i j) [
-  | inl e ↦ e
-  | inr k ↦ elim k [
-    | inl l ↦ absurd (apart DifferInName net.flows i j (Some a.flow) (Some b.flow) ok.names.1 a.is b.is l (a.named ∙ sym b.named))
-    | inr g ↦ absurd (apart DifferInName net.flows j i (Some b.flow) (Some a.flow) ok.names.1 b.is a.is g (b.named ∙ sym a.named))
-  ]
-]
 
 -- ---- one reply on packets
 one_past : (l m : OverLimit) (ps : List TracePacket) → AreOver l ps → AreOver m ps → l ≡ m
@@ -124,7 +105,7 @@ one_on_trace net trace name rate x y ok (Unknown h e) (Unknown k f) = e ∙ sym 
 one_on_trace net trace name rate x y ok (Unknown h e) (Known k b f) = absurd (h k b)
 one_on_trace net trace name rate x y ok (Known i a e) (Unknown k f) = absurd (k i a)
 one_on_trace net trace name rate x y ok (Known i a e) (Known j b f) =
-    let same = one_flow net name i j ok a b in
+    let same = flow_one net name i j ok a b in
     one_on_packets name rate (of_flow j trace.packets) x y (subst (λ n. OnPackets name rate (of_flow n trace.packets) x) same e) f
 
 same_fault : (f g : TableFault) → (f.kind ≡ g.kind) × (f.row ≡ g.row) → f ≡ g
@@ -156,14 +137,14 @@ packets_complete : (name : List ℕ) (rate : ℚ) (ps : List TracePacket) (reply
     → ((c : SpecCurve) → IsMeasured ps c → (limit : OverLimit) → ¬ (IsOverBurst limit rate c)) → OnPackets name rate ps reply → reply.status ≡ 0
 packets_complete name rate ps reply narrow burst (Past l h e) = absurd (narrow l h)
 packets_complete name rate ps reply narrow burst (Steep l c h g e) = absurd (burst c h l g)
-packets_complete name rate ps reply narrow burst (Shown c b h w g e) = status_is reply _ e
+packets_complete name rate ps reply narrow burst (Shown c b h w g e) = ap (λ (r : Reply). r.status) e
 
 trace_complete : (net : Net) (trace : SpecTrace) (name : List ℕ) (rate : ℚ) (k : ℕ) (reply : Reply) → IsAccepted net → IsFlowNamed net.flows name k
     → ((limit : OverLimit) → ¬ (AreOver limit (of_flow k trace.packets)))
     → ((c : SpecCurve) → IsMeasured (of_flow k trace.packets) c → (limit : OverLimit) → ¬ (IsOverBurst limit rate c)) → OnTrace net trace name rate reply → reply.status ≡ 0
 trace_complete net trace name rate k reply ok named narrow burst (Unknown h e) = absurd (h k named)
 trace_complete net trace name rate k reply ok named narrow burst (Known j b h) =
-    let same = one_flow net name j k ok b named in
+    let same = flow_one net name j k ok b named in
     packets_complete name rate (of_flow k trace.packets) reply narrow burst (subst (λ n. OnPackets name rate (of_flow n trace.packets) reply) same h)
 
 rows_complete : (net : Net) (trace : SpecTrace) (tf tb name : List ℕ) (rate : ℚ) (k : ℕ) (reply : Reply) → IsAccepted net → IsTraceOf net (rows_of tb) trace → IsFlowNamed net.flows name k

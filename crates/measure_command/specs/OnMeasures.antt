@@ -17,26 +17,17 @@ use Rattle.net_model.specs.Networks.{Net}
 use Rattle.net_model.specs.Traces.{SpecTrace}
 use Rattle.net_text.specs.Reading.{IsNetworkOf}
 use Rattle.net_text.specs.FoldLimits.{OverFold}
-use Rattle.table_text.specs.declared.fault.TableFault.{TableFault}
 use Rattle.table_text.specs.Rows.{rows_of}
-use Rattle.table_text.specs.Traces.{IsTraceOf, IsFirstFault}
+use Rattle.table_text.specs.Traces.{IsTraceOf}
 use Rattle.measure_curve.specs.Bursts.{IsLeastBurst}
 use Rattle.measure_curve.specs.Limits.{AreTooMany, AreTooWide}
 use Rattle.measure_curve.specs.Staircases.{TellRises}
 use Rattle.measure_curve.specs.Windows.{of_flow, IsLeastArrival}
 use Rattle.measure_report.specs.MeasureReport.{measure_report_of}
-use Rattle.command_replies.specs.Replies.{Reply, refusal, over, table_fault_reply}
-use Rattle.command_replies.specs.OnFiles.{IsBroken, IsCurveOver, IsNetOf}
+use Rattle.command_replies.specs.Replies.{Reply, refusal, over}
+use Rattle.command_replies.specs.OnFiles.{IsBroken, IsCurveOver, IsNetOf, IsBadTrace}
 
 -- ---- the two files
--- the trace has a fault, and this is the first
-pub record IsBadTrace (net_bytes trace_file trace_bytes : List ℕ) (reply : Reply) : Type 0 where
-  pub net : Net
-  pub gives : IsNetOf net_bytes net
-  pub fault : TableFault
-  pub first : IsFirstFault net trace_bytes fault.kind fault.row
-  pub is : reply ≡ table_fault_reply trace_file fault
-
 -- the files give this network and this trace of it
 pub record Give (net_bytes trace_bytes : List ℕ) (net : Net) (trace : SpecTrace) : Type 0 where
   pub network : IsNetOf net_bytes net

@@ -6,11 +6,11 @@ use Rattle.std.proofs.lemmas.List.Sums.{sum_by-cons}
 use Rattle.rational.specs.Rational.{ℚ, ◌+ℚ◌, ◌-ℚ◌, ◌≤ℚ◌}
 use Rattle.rational.specs.Extended.{Ext, ◌≤ₑ◌}
 use Rattle.rational.specs.declared.Extended.TheVariants.{Fin, Inf}
-use Rattle.rational.proofs.Laws.{antisym}
 use Rattle.rational.proofs.Linear.{with2}
-use Rattle.rational.proofs.ExtendedOrder.{le_ext_trans}
+use Rattle.rational.proofs.ExtendedOrder.{le_ext_trans, antisym_ext}
 use Rattle.min_plus.specs.Functions.{zero_q}
 use Rattle.min_plus.specs.Formulas.{bucket_value}
+use Rattle.upp_limits.proofs.KnownNumbers.{risen_is}
 use Rattle.run_laws.specs.declared.steps.Step.{Step}
 use Rattle.run_laws.specs.declared.steps.Step.TheVariants.{Enter, Reach, Work, Leave, Visit}
 use Rattle.run_laws.specs.Cards.{whole}
@@ -23,21 +23,15 @@ use Rattle.measure_curve.specs.Bursts.{IsBounded}
 use Rattle.measure_curve.specs.Laws.{PacketsKeepTheCurve, KeptCurvesAreAbove, LeastArrivalIsOne, LeastBucketIsKept, entering_in, LeastInRuns}
 use Rattle.measure_curve.specs.Windows.{of_flow, bits_in, IsLeastArrival}
 
-there : (s d : ℚ) → (s +ℚ d) -ℚ s ≡ d
-there s d = with2 s d (λ c. omega (arith, c.le, c.lt, c.same))
-
 back : (s t : ℚ) → s +ℚ (t -ℚ s) ≡ t
 back s t = with2 s t (λ c. omega (arith, c.le, c.lt, c.same))
-
-forward : (s t : ℚ) → s ≤ℚ t → zero_q ≤ℚ t -ℚ s
-forward s t h = with2 s t (λ c. omega (arith, c.le, c.lt, c.same))
 
 longer : (s d : ℚ) → zero_q ≤ℚ d → s ≤ℚ s +ℚ d
 longer s d h = with2 s d (λ c. omega (arith, c.le, c.lt, c.same))
 
 pub packets_keep_the_curve : PacketsKeepTheCurve
 packets_keep_the_curve ps m least = λ s t h.
-    let (v, is, is_most) = least (t -ℚ s) (forward s t h) in
+    let (v, is, is_most) = least (t -ℚ s) (with2 s t (λ c. omega (arith, c.le, c.lt, c.same))) in
     let most : bits_in s t ps ≤ v = subst (λ u. bits_in s u ps ≤ v) (back s t) (is_most.above s) in
     subst (λ z. Fin (whole (bits_in s t ps)) ≤ₑ z) (sym is) (whole_le (bits_in s t ps) v most)
 
@@ -46,17 +40,11 @@ kept_curves_are_above ps m α least kept d h =
     let (v, is, is_most) = least d h in
     let s = is_most.start in
     let k : Fin (whole v) ≤ₑ α ((s +ℚ d) -ℚ s) = subst (λ n. Fin (whole n) ≤ₑ α ((s +ℚ d) -ℚ s)) is_most.taken (kept s (s +ℚ d) (longer s d h)) in
-    subst (λ z. z ≤ₑ α d) (sym is) (subst (λ x. Fin (whole v) ≤ₑ α x) (there s d) k)
-
-same_ext : (x y : Ext) → x ≤ₑ y → y ≤ₑ x → x ≡ y
-same_ext Inf Inf h k = refl
-same_ext Inf (Fin y) h k = absurd h
-same_ext (Fin x) Inf h k = absurd k
-same_ext (Fin x) (Fin y) h k = ap Fin (antisym (h, k))
+    subst (λ z. z ≤ₑ α d) (sym is) (subst (λ x. Fin (whole v) ≤ₑ α x) (risen_is s d) k)
 
 pub least_arrival_is_one : LeastArrivalIsOne
 least_arrival_is_one ps m n a b d h =
-    same_ext (m d) (n d)
+    antisym_ext (m d) (n d)
     (kept_curves_are_above ps m n a (packets_keep_the_curve ps n b) d h)
     (kept_curves_are_above ps n m b (packets_keep_the_curve ps m a) d h)
 
@@ -64,7 +52,7 @@ pub least_bucket_is_kept : LeastBucketIsKept
 least_bucket_is_kept ps m rate burst least bucket = record {
   kept = λ s t h.
       le_ext_trans (Fin (whole (bits_in s t ps))) (m (t -ℚ s)) (bucket_value burst rate (t -ℚ s)) (packets_keep_the_curve ps m least s t h)
-      (bucket.above (t -ℚ s) (forward s t h));
+      (bucket.above (t -ℚ s) (with2 s t (λ c. omega (arith, c.le, c.lt, c.same))));
   least = λ b kept. bucket.least b (λ d h. kept_curves_are_above ps m (bucket_value b rate) least kept d h);
 }
 

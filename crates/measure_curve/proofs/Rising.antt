@@ -10,12 +10,13 @@ use Rattle.affine_segment.specs.Pieces.{Each, HasStart}
 use Rattle.affine_segment.specs.Reading.{read}
 use Rattle.affine_segment.proofs.PieceIn.{read_first, read_go, read_stop, read_one}
 use Rattle.upp_curve.specs.Curve.{value_at}
+use Rattle.upp_kinds.proofs.StairValues.{flat_value}
 use Rattle.run_laws.specs.Cards.{whole}
 use Rattle.run_laws.proofs.Sizes.{whole_lt}
 use Rattle.measure_curve.specs.declared.windows.Window.{Window}
 use Rattle.measure_curve.specs.Staircases.{time_of, piece_of, staircase, StepUp, AreSteps, TellRises}
 use Rattle.measure_curve.specs.Windows.{RisesAt}
-use Rattle.measure_curve.proofs.Stairs.{pieces_of, flat_value, starts, rise_from, time_lt, time_zero}
+use Rattle.measure_curve.proofs.Stairs.{pieces_of, starts, rise_from, time_lt, time_zero}
 
 -- from the start of the first of some steps on they are what is read
 abbrev ReadsFrom : (ℚ → Ext) → ℕ → Window → List Window → Type 0

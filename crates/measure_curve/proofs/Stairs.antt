@@ -26,7 +26,7 @@ use Rattle.upp_curve.specs.Readable.{EachFits}
 use Rattle.upp_curve.specs.Steady.{last_of}
 use Rattle.upp_curve.proofs.ReadableKinds.{bucket_curve, zero_small}
 use Rattle.upp_curve.proofs.ByTail.{some_is}
-use Rattle.upp_kinds.proofs.KindValues.{on_line}
+use Rattle.upp_kinds.proofs.StairValues.{flat_value}
 use Rattle.run_laws.specs.Cards.{whole}
 use Rattle.run_laws.proofs.Sizes.{whole_lt}
 use Rattle.measure_curve.specs.declared.windows.Window.{Window}
@@ -35,13 +35,6 @@ use Rattle.measure_curve.proofs.Tests.{level}
 use Rattle.measure_curve.proofs.WindowSums.{near, time_le}
 
 -- ---- reading
-pub flat_value : (x v t : ℚ) → x ≤ℚ t → piece_value (flat x v) t ≡ Fin v
-flat_value x v t h =
-    on_line x v v zero_q t (with2 v x (λ c. omega (arith, c.le, c.lt, c.same))) h ∙ ap Fin (with2 v t (λ c. omega (arith, c.le, c.lt, c.same)))
-
-past : (x t : ℚ) → le_q x t ≡ false → t <ℚ x
-past x t e = elim (le_or_lt x t) [ inl h ↦ absurd (true≢false (sym (le_q_out x t h) ∙ e)) | inr k ↦ k ]
-
 abbrev pub pieces_of : ℕ → List Window → List Piece
 pieces_of grid ws = map (piece_of grid) ws
 
@@ -54,7 +47,11 @@ read_level grid t w (v ∷ vs) y = elim (cases_Bool (near grid t v.length)) [
       rw here (read_go (piece_of grid w) (piece_of grid v) (pieces_of grid vs) t (le_q_in (time_of grid v.length) t here)
       ∙ read_level grid t v vs here)
   | inr later ↦
-      rw later (read_stop (piece_of grid w) (piece_of grid v) (pieces_of grid vs) t (past (time_of grid v.length) t later)
+      let past : t <ℚ time_of grid v.length = elim (le_or_lt (time_of grid v.length) t) [
+        | inl h ↦ absurd (true≢false (sym (le_q_out (time_of grid v.length) t h) ∙ later))
+        | inr k ↦ k
+      ] in
+      rw later (read_stop (piece_of grid w) (piece_of grid v) (pieces_of grid vs) t past
       ∙ flat_value (time_of grid w.length) (whole w.bits) t (le_q_in (time_of grid w.length) t y))
 ]
 

@@ -5,7 +5,7 @@ use Rattle.std.specs.List.{flat_map}
 use Rattle.rational.specs.Rational.{ℚ}
 use Rattle.fraction128.specs.Text.{text_of}
 use Rattle.affine_segment.specs.declared.line.Piece.{Piece}
-use Rattle.report_text.specs.Shown.{number_text}
+use Rattle.plain_text.specs.Numbers.{number_text}
 
 -- the flow's name, and how many packets it has
 unfoldable pub head_line : List ℕ → ℕ → List ℕ

@@ -3,7 +3,7 @@
 ghost use Rattle.std.specs.Prelude.{◌≡◌, ◌++◌, codes, OnOk};
 ghost use Rattle.std.specs.Fmt.{decimal};
 ghost use Rattle.fraction128.specs.Text.{text_of};
-ghost use Rattle.report_text.specs.Shown.{number_text};
+ghost use Rattle.plain_text.specs.Numbers.{number_text};
 ghost use Rattle.measure_report.specs.MeasureReport.{head_line, step_line, burst_line};
 
 use affine_segment::Piece;

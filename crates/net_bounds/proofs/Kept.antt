@@ -25,7 +25,7 @@ use Rattle.net_bounds.proofs.Everywhere.{at_server}
 use Rattle.net_bounds.proofs.EndToEnd.{path_kept}
 
 -- a server with a queue is one of the network's
-with_queues : (net : Net) (s q : ℕ) → q < queues net s → s < length net.servers
+pub with_queues : (net : Net) (s q : ℕ) → q < queues net s → s < length net.servers
 with_queues net s q h = one (slice_get net.servers s) refl h
   where
     one : (o : Option NetServer) → slice_get net.servers s ≡ o → q < queue_count (discipline_of o)

@@ -9,18 +9,11 @@ use Rattle.std.proofs.lemmas.Option.{slice_get-get_or, slice_get_past, slice_get
 use Rattle.net_model.specs.declared.flow.Flow.{Flow}
 use Rattle.net_model.specs.declared.server.Server.{Server}
 use Rattle.net_model.specs.Networks.{Net, NetFlow, NetServer}
-use Rattle.net_model.specs.Accepted.{IsAccepted, IsFlow, IsServer, HasFewQueues}
+use Rattle.net_model.specs.Accepted.{IsAccepted, IsFlow, IsServer}
 use Rattle.net_model.specs.Views.{flow_of, flows_of, server_of, servers_of}
 use Rattle.net_cells.specs.Numbered.{flow_at, path_of, path, hops, is_live}
 use Rattle.net_cells.specs.Visits.{Visit, visit, visits, is_at, hops_at}
 use Rattle.net_cells.proofs.Growing.{filter_flat, flat_same, filter_mapped}
-use Rattle.run_laws.specs.Servers.{Discipline, Fifo, Priority, Drr, queue_count}
-
--- ---- queues
-pub few_of : (d : Discipline) → HasFewQueues d → queue_count d ≤ 8
-few_of Fifo h = omega arith
-few_of (Priority n) h = h.1
-few_of (Drr quanta) h = h.0.1
 
 -- ---- flows
 pub flow_stored : (net : Net) (fs : List (Option Flow)) (i : ℕ) (x : Option Flow) → flows_of fs ≡ net.flows

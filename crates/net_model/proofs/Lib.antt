@@ -4,3 +4,4 @@ pub mod Paces
 pub mod GatePaces
 pub mod KindsStand
 pub mod PlainNets
+pub mod FewQueues

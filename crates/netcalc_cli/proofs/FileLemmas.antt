@@ -122,8 +122,3 @@ on_told (Some held) there P same h = subst P (sym same) h
 pub any_told : {A : Type 0} (told : Option A) (P : A → Type 0) → ((held : A) → P held) → IfSome told P
 any_told None P h = tt
 any_told (Some held) P h = h held
-
-pub more_told : {A : Type 0} (told : Option A) (P Q : A → Type 0) → ((held : A) → P held → Q held) → IfSome told P
-    → IfSome told Q
-more_told None P Q step h = tt
-more_told (Some held) P Q step h = step held h

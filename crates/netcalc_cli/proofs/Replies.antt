@@ -2,6 +2,7 @@
 use Rattle.std.proofs.Common.{◌≡◌, ◌≢◌, ◌⊎◌, ℕ, List, Option, Result, Ok, Err, IfOk, inl, inr, sym, ap, ◌∙◌, subst}
 use Rattle.std.proofs.lemmas.Bool.{cases_eq}
 use Rattle.upp_limits.specs.declared.own_limits.OverLimit.TheVariants.{TooMany, TooWide}
+use Rattle.upp_limits.proofs.SpanNumbers.{if_some_map}
 use Rattle.command_replies.specs.declared.answer.Answer.{Answer}
 use Rattle.command_replies.specs.Replies.{Reply, cannot_read, too_long}
 use Rattle.command_replies.specs.View.{code_of, reply_of, status_of}
@@ -15,7 +16,7 @@ use Rattle.netcalc_cli.specs.Reply.{IsReplyOnFiles, FailedAt, EndsAt, MayReplyTo
 use Rattle.netcalc_cli.proofs.ByCommand.{IsByStatus, by_command, one_by_command, complete_by_command}
 use Rattle.netcalc_cli.proofs.ByCommand.{IsGiven, answer_given, counts_by_command}
 use Rattle.netcalc_cli.proofs.FileLemmas.{first_map, first_shows, long_shows, long_first, not_long, long_one, ended}
-use Rattle.netcalc_cli.proofs.FileLemmas.{same_told, on_told, any_told, more_told}
+use Rattle.netcalc_cli.proofs.FileLemmas.{same_told, on_told, any_told}
 
 -- ---- what the inputs may bring
 -- fetching ended at a file
@@ -240,7 +241,7 @@ answers_or command files status old new fit can (inr other) = inr other
 pub answers_what_it_can : (command : Command) (told : Told) (status : ℕ) (old new : Option (List ℕ))
     → GivesOnTold command told status old new → AnswersWhatItCan command told status
 answers_what_it_can command told status old new h =
-    more_told (all_told told (files_of command)) _ _
+    if_some_map (all_told told (files_of command)) _ _
     (λ files given fit can. answers_or command files status old new fit can given) h
 
 -- ---- steps

@@ -13,7 +13,7 @@ use Rattle.net_cells.specs.Cells.{has_cell}
 use Rattle.net_cells.specs.Meanings.{number, CellTable}
 use Rattle.net_cells.specs.Equations.{MeetsEquations}
 use Rattle.report_text.specs.CellWords.{cell_words}
-use Rattle.report_text.specs.Shown.{number_text}
+use Rattle.plain_text.specs.Numbers.{number_text}
 use Rattle.report_text.specs.Report.{report_of}
 use Rattle.report_text.specs.RunReport.{Found, run_report_of}
 

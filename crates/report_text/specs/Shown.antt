@@ -1,16 +1,10 @@
 -- How the number of a cell is written. Own choice.
-use Rattle.std.specs.Prelude.{ℕ, List, [], Option, Some, None, codes}
+use Rattle.std.specs.Prelude.{ℕ, List, [], Option, Some, None}
 use Rattle.rational.specs.Extended.{Ext}
-use Rattle.rational.specs.declared.Extended.TheVariants.{Fin, Inf}
-use Rattle.fraction128.specs.Text.{text_of}
+use Rattle.plain_text.specs.Numbers.{number_text}
 use Rattle.net_cells.specs.Meanings.{Meaning, curve, number, CellTable}
 use Rattle.net_cells.specs.declared.cell.Kind.{Kind}
 use Rattle.net_cells.specs.Cells.{cell_of}
-
--- a whole number, or a fraction in lowest terms, or `unbounded` for infinity
-abbrev pub number_text : Ext → List ℕ
-number_text Inf = codes "unbounded"
-number_text (Fin q) = text_of q
 
 -- the number, where it is one
 abbrev pub number_in : Meaning → Option Ext

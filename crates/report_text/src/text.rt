@@ -2,7 +2,7 @@
 
 ghost use Rattle.std.specs.Prelude.{◌≡◌, ◌++◌, OnOk};
 ghost use Rattle.std.specs.Fmt.{decimal};
-ghost use Rattle.report_text.specs.Shown.{number_text};
+ghost use Rattle.plain_text.specs.Numbers.{number_text};
 
 use fraction128::Ext;
 use itoa::Buffer;

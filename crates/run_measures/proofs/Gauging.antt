@@ -7,6 +7,7 @@ use Rattle.rational.proofs.Laws.{le_refl, le_trans, le_of_lt, lt_le_trans, le_lt
 use Rattle.rational.proofs.Linear.{with2, with5, with6}
 use Rattle.rational.proofs.Over.{le_q_out, lt_q_out}
 use Rattle.rational.proofs.MinMax.{le_q_not, lt_q_not}
+use Rattle.rational.proofs.Stretch.{not_earlier}
 use Rattle.run_laws.specs.Cards.{Card, Class, of_queue, size, whole, ServerStep, Arrives, Works, Leaves, Visits, time_of}
 use Rattle.run_laws.specs.Servers.{Discipline, Server, Under, ServerState, head_of, without_head}
 use Rattle.run_laws.specs.Next.{next, next_inside, next_under, next_busy}
@@ -63,9 +64,6 @@ plus_none x y h = with2 x y (λ c. omega (arith, c.le, c.lt, c.same))
 
 minus_none : (x y : ℚ) → y ≡ int (pos 0) → x -ℚ y ≡ x
 minus_none x y h = with2 x y (λ c. omega (arith, c.le, c.lt, c.same))
-
-plus_more : (x y : ℚ) → int (pos 0) ≤ℚ y → x ≤ℚ x +ℚ y
-plus_more x y h = with2 x y (λ c. omega (arith, c.le, c.lt, c.same))
 
 minus_less : (x y : ℚ) → int (pos 0) ≤ℚ y → x -ℚ y ≤ℚ x
 minus_less x y h = with2 x y (λ c. omega (arith, c.le, c.lt, c.same))
@@ -140,7 +138,7 @@ gained_early so q c τ t e l =
 
 gained_more : (so : ℚ → ℚ) (q : ℕ) (c : Card) (τ t : ℚ) → so t ≤ℚ gained_by so q c τ t
 gained_more so q c τ t =
-    plus_more (so t) (arrives (of_queue q) (upto t) (Arrives c τ)) (when_nonneg (of_queue q c && le_q τ t) (size c) (size_nonneg c))
+    not_earlier (so t) (arrives (of_queue q) (upto t) (Arrives c τ)) (when_nonneg (of_queue q c && le_q τ t) (size c) (size_nonneg c))
 
 record IsGained (end : ℚ) (q : ℕ) (now : ℚ) (so : ℚ → ℚ) (c : Card) (τ : ℚ) (g g' : Gauge) : Type 0 where
   own : c.queue ≡ q

@@ -22,7 +22,7 @@ use Rattle.run_measures.specs.Gauges.{counted, level_at, empty_gauge, empty_row_
 use Rattle.run_measures.specs.Gauged.{WasThere, IsGauged, AreGauged, state_after}
 use Rattle.run_measures.specs.Levels.{Tells}
 use Rattle.run_measures.specs.Peaks.{backlog_at, IsReached, IsPeak, peak_in, ArePeaks}
-use Rattle.run_measures.proofs.Standing.{start_state}
+use Rattle.run_laws.proofs.Views.{start_state}
 
 -- one element more of a list that is mapped
 pub mapped_more : {X Y : Type 0} (f : X → Y) (xs : List X) (i : ℕ) (x : X) → i < length xs → x ≡ get_or xs i x

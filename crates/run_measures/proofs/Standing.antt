@@ -20,7 +20,7 @@ use Rattle.run_laws.proofs.Entries.{EachDue, IsDueAfter, due_next, entry_before,
 use Rattle.run_laws.proofs.Heads.{same_some}
 use Rattle.run_laws.proofs.Members.{Has, contains_has}
 use Rattle.run_laws.proofs.States.{IsSound, sound_next, leaving}
-use Rattle.run_laws.proofs.Views.{own_state, other_state}
+use Rattle.run_laws.proofs.Views.{own_state, other_state, start_state}
 use Rattle.run_measures.specs.Gauged.{bits_of, AreFew, state_after}
 use Rattle.run_measures.proofs.Gauging.{bits_push, bits_without, counted_most}
 
@@ -224,9 +224,6 @@ stands_next net end r x xs h = record {
   dues = due_next net r x h.allowed.0.known h.dues;
   counted = counted_then net end r x xs h;
 }
-
-pub start_state : (net : Routes) (s : ℕ) → s < length net.servers → state_at (run_start net) s ≡ start (server_at net s).discipline
-start_state net s h = get_or-map (λ (x : Server). start x.discipline) net.servers s record { discipline = Fifo; pace = None } (start Fifo) h
 
 stands_first : (net : Routes) (run : SpecRun) → IsLawful net run → Stands net run.end (run_start net) run.steps
 stands_first net run h = record {

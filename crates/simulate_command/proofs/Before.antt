@@ -30,9 +30,6 @@ record Start (V : List ServerStep) (end : ℚ) : Type 0 where
   by : time ≤ℚ end
   first : IsBefore time V
 
-one_less : (u : ℚ) → u -ℚ int (pos 1) <ℚ u
-one_less u = with1 u (λ c. omega (arith, c.le, c.lt, c.same))
-
 record Below (x y : ℚ) : Type 0 where
   at : ℚ
   left : at ≤ℚ x
@@ -40,8 +37,8 @@ record Below (x y : ℚ) : Type 0 where
 
 below : (x y : ℚ) → Below x y
 below x y = elim (le_or_lt x (y -ℚ int (pos 1))) [
-  | inl h ↦ record { at = x; left = le_refl x; right = le_lt_trans h (one_less y) }
-  | inr h ↦ record { at = y -ℚ int (pos 1); left = le_of_lt h; right = one_less y }
+  | inl h ↦ record { at = x; left = le_refl x; right = le_lt_trans h (with1 y (λ c. omega (arith, c.le, c.lt, c.same))) }
+  | inr h ↦ record { at = y -ℚ int (pos 1); left = le_of_lt h; right = with1 y (λ c. omega (arith, c.le, c.lt, c.same)) }
 ]
 
 start : (V : List ServerStep) (end : ℚ) → Start V end

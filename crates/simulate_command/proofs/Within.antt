@@ -25,7 +25,7 @@ use Rattle.net_cells.proofs.TableValues.{same_number}
 use Rattle.net_bounds.specs.Guarantee.{IsKept}
 use Rattle.net_bounds.specs.NetRuns.{IsRunOf}
 use Rattle.net_bounds.specs.Promises.{seen_by, HoldsAtMost}
-use Rattle.net_bounds.proofs.Kept.{table_bounds_every_run}
+use Rattle.net_bounds.proofs.Kept.{table_bounds_every_run, with_queues}
 use Rattle.net_bounds.proofs.Routed.{servers_are, discipline_is}
 use Rattle.run_measures.specs.Peaks.{IsPeak, ArePeaks, peak_in}
 use Rattle.run_measures.specs.Worst.{IsLargest, AreWorst}
@@ -84,15 +84,6 @@ delay_within net order at run worst i g kept w live =
     }
 
 -- ---- a queue
--- a server with a queue is one of the network's
-with_queue : (net : Net) (s q : ℕ) → q < queues net s → s < length net.servers
-with_queue net s q h = one (slice_get net.servers s) refl h
-  where
-    one : (o : Option NetServer) → slice_get net.servers s ≡ o → q < queue_count (discipline_of o)
-        → s < length net.servers
-    one None e l = absurd (omega (arith, l))
-    one (Some server) e l = slice_get_within net.servers s server e
-
 -- the peak that is shown
 told : (net : Routes) (run : SpecRun) (peaks : List (List ℕ)) (s q : ℕ) → ArePeaks net run peaks
     → s < length net.servers → q < queue_count (server_at net s).discipline
@@ -108,7 +99,7 @@ backlog_within : (net : Net) (at : CellTable) (run : SpecRun) (peaks : List (Lis
     → IsWithin at (cell_of QueueBacklog s q) (option_map whole (peak_at peaks s q))
 backlog_within net at run peaks s q a kept p h =
     let own = (kept.queues s q h).holds in
-    let known = with_queue net s q h in
+    let known = with_queues net s q h in
     let l : s < length (routes_of net).servers = subst (λ n. s < n) (sym (servers_are net)) known in
     let r : q < queue_count (server_at (routes_of net) s).discipline =
     subst (λ d. q < queue_count d) (sym (discipline_is net s a known)) h in

@@ -2,11 +2,8 @@
 use Rattle.std.specs.Prelude.{ℕ}
 use Rattle.upp_curve.specs.Curves.{IsCurve}
 use Rattle.net_model.specs.Networks.{Net}
-use Rattle.net_cells.specs.Numbered.{arrival, service}
+use Rattle.net_cells.specs.Numbered.{arrival}
 
--- the service curve of a server is in normal form and readable; so the arrival curve of a flow
-abbrev pub HasService : Net → ℕ → Type 0
-HasService net s = IsCurve (service net s)
-
+-- the arrival curve of a flow is in normal form and readable
 abbrev pub HasArrival : Net → ℕ → Type 0
 HasArrival net flow = IsCurve (arrival net flow)

@@ -13,11 +13,10 @@ use Rattle.net_cells.specs.Equations.{MeetsEquations}
 use Rattle.net_cells.specs.FirstOver.{AnswersAll}
 use Rattle.net_cells.specs.Order.{evaluation_order}
 use Rattle.simulated_sizes.specs.Laws.{AreCurves}
-use Rattle.table_text.specs.declared.fault.TableFault.{TableFault}
 use Rattle.table_text.specs.Rows.{rows_of}
-use Rattle.table_text.specs.Traces.{IsTraceOf, IsFirstFault}
-use Rattle.command_replies.specs.Replies.{Reply, table_fault_reply}
-use Rattle.command_replies.specs.OnFiles.{IsBroken, IsCurveOver, IsNetOf, HasCycle, IsCellOver}
+use Rattle.table_text.specs.Traces.{IsTraceOf}
+use Rattle.command_replies.specs.Replies.{Reply}
+use Rattle.command_replies.specs.OnFiles.{IsBroken, IsCurveOver, IsNetOf, IsBadTrace, HasCycle, IsCellOver}
 use Rattle.simulate_command.specs.Found.{IsTooWide, IsReportOn}
 
 -- ---- traces
@@ -25,14 +24,6 @@ use Rattle.simulate_command.specs.Found.{IsTooWide, IsReportOn}
 pub record GivesTrace (net : Net) (bytes : List ℕ) (trace : SpecTrace) : Type 0 where
   pub reads : IsTraceOf net (rows_of bytes) trace
   pub keeps : IsTrace trace
-
--- the first row that is wrong, and its first fault
-pub record IsBadTrace (net_bytes trace_file trace_bytes : List ℕ) (reply : Reply) : Type 0 where
-  pub net : Net
-  pub gives : IsNetOf net_bytes net
-  pub fault : TableFault
-  pub first : IsFirstFault net trace_bytes fault.kind fault.row
-  pub is : reply ≡ table_fault_reply trace_file fault
 
 -- ---- cells
 -- the rows give a trace of the network, whose flows go round

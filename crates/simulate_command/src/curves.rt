@@ -2,7 +2,8 @@
 
 ghost use Rattle.std.specs.Prelude.{◌<◌, ℕ, IsTrue, length};
 ghost use Rattle.net_cells.specs.Numbered.{is_live};
-ghost use Rattle.simulate_command.specs.Curves.{HasService, HasArrival};
+ghost use Rattle.first_breaches.specs.Firsts.{HasService};
+ghost use Rattle.simulate_command.specs.Curves.{HasArrival};
 ghost use Rattle.simulated_sizes.specs.Laws.{AreCurves};
 
 use net_cells::{live_flow, server};

@@ -17,6 +17,7 @@ use Rattle.run_laws.specs.Views.{hops_of, server_of, seen}
 use Rattle.run_laws.specs.Lawful.{Due, RunState, state_at, next_run, run_start, after_run}
 use Rattle.net_model.specs.Networks.{Net}
 use Rattle.net_model.specs.Accepted.{IsAccepted, HasFewQueues}
+use Rattle.net_model.proofs.FewQueues.{few_of}
 use Rattle.net_model.specs.NetRoutes.{server_for}
 use Rattle.net_model.specs.Traces.{SpecTrace, IsTrace}
 use Rattle.net_model.specs.Walks.{IsFeedForward}
@@ -213,11 +214,6 @@ on S k (suc n) ys r h l = elim (next_or_end S k.setup r h.time h.good h.turns) [
 ]
 
 -- ---- of a network and a trace
-few_of : (d : Discipline) → HasFewQueues d → queue_count d ≤ 8
-few_of Fifo h = omega arith
-few_of (Priority n) h = h.1
-few_of (Drr quanta) h = h.0.1
-
 quanta_of : (d : Discipline) → HasFewQueues d → HasQuanta d
 quanta_of Fifo h = λ quanta e. absurd (cc)
 quanta_of (Priority n) h = λ quanta e. absurd (cc)

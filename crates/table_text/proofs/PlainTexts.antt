@@ -5,7 +5,9 @@ use Rattle.std.specs.Str.{IsUtf8}
 use Rattle.std.proofs.lemmas.Bool.Decides.{nat_tests}
 use Rattle.std.proofs.lemmas.Str.{IsUtf8-from_ascii}
 use Rattle.csv.specs.Records.{field_at}
-use Rattle.table_text.specs.Rows.{Row, is_plain_byte, is_plain_field, is_plain}
+use Rattle.plain_text.specs.Plain.{is_plain_byte}
+use Rattle.plain_text.specs.Plain as plain
+use Rattle.table_text.specs.Rows.{Row, is_plain}
 
 pub both : (a b : Bool) → (a && b) ≡ true → (a ≡ true) × (b ≡ true)
 both true b h = (refl, h)
@@ -22,15 +24,15 @@ below : (b : ℕ) → is_plain_byte b ≡ true → b < 128
 unfolding is_plain_byte
 below b h = grind (arith, nat_tests)
 
-ascii : (bs : List ℕ) → is_plain_field bs ≡ true → (i : ℕ) → get_or bs i 0 < 128
+ascii : (bs : List ℕ) → plain.is_plain bs ≡ true → (i : ℕ) → get_or bs i 0 < 128
 ascii [] h i = omega arith
 ascii (b ∷ bs) h zero = below b (both _ _ h).0
 ascii (b ∷ bs) h (suc i) = ascii bs (both _ _ h).1 i
 
-plain_at : (row : Row) (place : ℕ) (bytes : List ℕ) → is_plain row ≡ true → field_at row place ≡ Some bytes → is_plain_field bytes ≡ true
+plain_at : (row : Row) (place : ℕ) (bytes : List ℕ) → is_plain row ≡ true → field_at row place ≡ Some bytes → plain.is_plain bytes ≡ true
 unfolding field_at
 plain_at [] place bytes h e = let bad : ⊥ = cc in absurd bad
-plain_at (f ∷ fs) zero bytes h e = subst (λ b. is_plain_field b ≡ true) (same f bytes e) (both _ _ h).0
+plain_at (f ∷ fs) zero bytes h e = subst (λ b. plain.is_plain b ≡ true) (same f bytes e) (both _ _ h).0
 plain_at (f ∷ fs) (suc i) bytes h e = plain_at fs i bytes (both _ _ h).1 e
 
 pub plain_is_text : (row : Row) (place : ℕ) (bytes : List ℕ) → is_plain row ≡ true → field_at row place ≡ Some bytes → IsUtf8 bytes
@@ -38,14 +40,14 @@ plain_is_text row place bytes h e = IsUtf8-from_ascii bytes (ascii bytes (plain_
 
 -- ---- one field after another
 -- a field that is not plain
-pub not_plain_at : (row : Row) (place : ℕ) (bytes : List ℕ) → field_at row place ≡ Some bytes → is_plain_field bytes ≡ false → is_plain row ≡ false
+pub not_plain_at : (row : Row) (place : ℕ) (bytes : List ℕ) → field_at row place ≡ Some bytes → plain.is_plain bytes ≡ false → is_plain row ≡ false
 unfolding field_at
 not_plain_at [] place bytes e h = let bad : ⊥ = cc in absurd bad
 not_plain_at (f ∷ fs) zero bytes e h = rw (same f bytes e, h) refl
-not_plain_at (f ∷ fs) (suc i) bytes e h = second_false (is_plain_field f) (is_plain fs) (not_plain_at fs i bytes e h)
+not_plain_at (f ∷ fs) (suc i) bytes e h = second_false (plain.is_plain f) (is_plain fs) (not_plain_at fs i bytes e h)
 
 -- the fields from a place on
-pub rest_plain : (row : Row) (place : ℕ) (bytes : List ℕ) → field_at row place ≡ Some bytes → is_plain_field bytes ≡ true → is_plain (drop place row) ≡ is_plain (drop (suc place) row)
+pub rest_plain : (row : Row) (place : ℕ) (bytes : List ℕ) → field_at row place ≡ Some bytes → plain.is_plain bytes ≡ true → is_plain (drop place row) ≡ is_plain (drop (suc place) row)
 unfolding field_at
 rest_plain [] place bytes e h = let bad : ⊥ = cc in absurd bad
 rest_plain (f ∷ fs) zero bytes e h = rw (same f bytes e, h) refl

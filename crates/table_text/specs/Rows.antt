@@ -1,9 +1,10 @@
 -- Rows of a table: lines of fields with commas between them. How fields stand in a line, with double quotes or without,
 -- is that of the crate `csv`.
-use Rattle.std.specs.Prelude.{ℕ, List, [], unwrap_or, Result, Ok, Err, Bool, ◌&&◌, nat_le}
+use Rattle.std.specs.Prelude.{ℕ, List, [], unwrap_or, Result, Ok, Err, Bool, ◌&&◌}
 use Rattle.std.specs.List.{list_all}
 use Rattle.csv.specs.Reading.{records, default_config, strip_bom}
 use Rattle.csv.specs.Records.{field_at}
+use Rattle.plain_text.specs.Plain as plain
 use Rattle.table_text.specs.declared.fault.TableKind.{TableKind}
 
 abbrev pub Row : Type 0
@@ -17,15 +18,9 @@ rows_of text = records default_config (strip_bom text)
 abbrev pub field : Row → ℕ → List ℕ
 field row place = unwrap_or (field_at row place) []
 
--- a space or a visible character of ASCII
-unfoldable pub is_plain_byte : ℕ → Bool
-is_plain_byte c = nat_le 32 c && nat_le c 126
-
-abbrev pub is_plain_field : List ℕ → Bool
-is_plain_field = list_all is_plain_byte
-
+-- each byte is a space or a visible character of ASCII
 abbrev pub is_plain : Row → Bool
-is_plain = list_all is_plain_field
+is_plain = list_all plain.is_plain
 
 -- ---- what is read, or what is wrong with it
 abbrev pub Read : Type 0 → Type 0

@@ -37,25 +37,12 @@ pub(crate) fn first_rows(
     Ok(rows)
 }
 
-#[tactic(auto, unfolding(crate::specs::Rows::is_plain_byte))]
-fn is_plain_byte(byte: u8) -> bool
-    ensures { result ≡ spec.is_plain_byte byte }
-{
-    32 <= byte && byte <= 126
-}
-
-fn is_plain_field(field: &[u8]) -> bool
-    ensures { result ≡ spec.is_plain_field field.now }
-{
-    field.iter().all(|b| is_plain_byte(*b))
-}
-
 /// Whether all bytes of a row are spaces or visible characters of ASCII.
 pub(crate) fn is_plain(row: &ByteRecord) -> bool
     ensures { result ≡ spec.is_plain (fields_of row.now) }
 {
     for field in row {
-        if !is_plain_field(field) {
+        if !plain_text::is_plain(field) {
             return false;
         }
     }

@@ -41,7 +41,7 @@ ratio_high P t some =
     with3 (int (pos (whole_part (t /ℚ P))) *ℚ P) t P (λ c. omega (arith, c.le, c.lt, c.same))
 
 -- ---- flat pieces
-flat_value : (x v t : ℚ) → x ≤ℚ t → piece_value (flat x v) t ≡ Fin v
+pub flat_value : (x v t : ℚ) → x ≤ℚ t → piece_value (flat x v) t ≡ Fin v
 flat_value x v t h =
     on_line x v v zero_q t (with2 v x (λ c. omega (arith, c.le, c.lt, c.same))) h ∙ ap Fin (with2 v t (λ c. omega (arith, c.le, c.lt, c.same)))
 

@@ -1,4 +1,5 @@
 use Rattle.std.proofs.Common.{arith, refl, sym, ap, subst, ◌∙◌, map, drop, length, [], ◌<◌, ◌≤◌, ◌+◌}
+use Rattle.std.proofs.lemmas.List.{drop_more}
 use Rattle.std.specs.Prelude.{Ok, Err, ◌∷◌}
 use Rattle.curve_script.specs.Views.{statement_view}
 use Rattle.curve_script.specs.Scripts.{line_view}
@@ -6,7 +7,7 @@ use Rattle.curve_lang.specs.Answers.{ScriptMeans}
 use Rattle.curve_lang.specs.Found.{ScriptFinds}
 use Rattle.curve_lang.specs.Scripts.{IsAdded}
 use Rattle.curve_lang.specs.Views.{let_view, answer_view}
-use Rattle.curve_lang.proofs.Scripting.{dropped, found_again, script_goes_on, script_stops}
+use Rattle.curve_lang.proofs.Scripting.{found_again, script_goes_on, script_stops}
 use Rattle.curve_lang.proofs.script.eval_script.Goals as goal
 
 pub returns-in-Err-clause-found : goal.returns-in-Err-clause-found
@@ -25,7 +26,7 @@ returns-in-Err-clause-found g c =
     let told = subst (λ e. ScriptFinds ls out (line_view line ∷ rest) (Err e)) (sym c.fault_at.ensures) stops in
     subst (λ ys. ScriptFinds [] [] (map line_view ys) (Err c.fault_at.result)) c.deref-line-items.ensures.value
     (c.loop-line.invariant (Err c.fault_at.result)
-    (subst (λ ys. ScriptFinds ls out (map line_view ys) (Err c.fault_at.result)) (sym (dropped xs i line within c.line-item.is)) told))
+    (subst (λ ys. ScriptFinds ls out (map line_view ys) (Err c.fault_at.result)) (sym (drop_more xs i line within ∙ ap (λ y. y ∷ drop (i + 1) xs) (sym c.line-item.is))) told))
 
 pub loop-line-preserved : goal.loop-line-preserved
 loop-line-preserved g c = λ r h.
@@ -39,7 +40,7 @@ loop-line-preserved g c = λ r h.
     let within : i < length xs = omega arith in
     let added = subst (λ x. IsAdded ls out (statement_view line.stat) ms more x) c.in_default.is c.add.ensures in
     c.loop-line.invariant r
-    (subst (λ ys. ScriptFinds ls out (map line_view ys) r) (sym (dropped xs i line within c.line-item.is))
+    (subst (λ ys. ScriptFinds ls out (map line_view ys) r) (sym (drop_more xs i line within ∙ ap (λ y. y ∷ drop (i + 1) xs) (sym c.line-item.is)))
     (script_goes_on c.in_default.field-0 (line_view line) ls ms out more (map line_view (drop (i + 1) xs)) r added h))
 
 pub returns-clause-meaning : goal.returns-clause-meaning

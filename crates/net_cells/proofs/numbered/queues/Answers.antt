@@ -4,7 +4,8 @@ use Rattle.net_model.specs.declared.server.Server.{Server}
 use Rattle.net_model.specs.Networks.{NetServer}
 use Rattle.net_model.specs.Views as views
 use Rattle.net_cells.specs.Numbered as at
-use Rattle.net_cells.proofs.Stored.{few_of, server_stored, server_past, server_kept}
+use Rattle.net_model.proofs.FewQueues.{few_of}
+use Rattle.net_cells.proofs.Stored.{server_stored, server_past, server_kept}
 use Rattle.net_cells.proofs.numbered.queues.Goals as goal
 
 pub overflow_cast-result : goal.overflow_cast-result

@@ -4,12 +4,12 @@ use Rattle.table_text.specs.Rows.{is_plain}
 use Rattle.table_text.proofs.PlainTexts.{not_plain_at, rest_plain, no_rest}
 use Rattle.table_text.proofs.rows.is_plain.Goals as goal
 
-pub returns-then-not-is_plain_field : goal.returns-then-not-is_plain_field
-returns-then-not-is_plain_field c =
+pub returns-then-not-is_plain : goal.returns-then-not-is_plain
+returns-then-not-is_plain c =
     let it = c.loop-field.field-iterator in
     let s = c.in-Some.ensures.steps in
     let at = subst (λ r. field_at (fields_of r) it.at ≡ Some c.in-Some.field.now) c.loop-field.invariant.same (sym s.1) in
-    sym (not_plain_at (fields_of c.args.row.now) it.at c.in-Some.field.now at (sym c.is_plain_field.ensures ∙ c.if-not-is_plain_field.true))
+    sym (not_plain_at (fields_of c.args.row.now) it.at c.in-Some.field.now at (sym c.is_plain.ensures ∙ c.if-not-is_plain.true))
 
 pub loop-field-preserved : goal.loop-field-preserved
 loop-field-preserved c =
@@ -21,7 +21,7 @@ loop-field-preserved c =
     record {
       same = ap (λ r. r.now) s.0 ∙ c.loop-field.invariant.same;
       rest = c.loop-field.invariant.rest
-          ∙ (rest_plain row it.at c.in-Some.field.now at (sym c.is_plain_field.ensures ∙ c.if-not-is_plain_field.false) ∙ ap (λ k. is_plain (drop k row)) next);
+          ∙ (rest_plain row it.at c.in-Some.field.now at (sym c.is_plain.ensures ∙ c.if-not-is_plain.false) ∙ ap (λ k. is_plain (drop k row)) next);
     }
 
 pub returns : goal.returns
