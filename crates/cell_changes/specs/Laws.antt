@@ -35,7 +35,8 @@ pub record UntouchedCarryOver : Type 0 where
 -- so where the touched cells of some are answered, all of them are
 abbrev pub TouchedAnswersSuffice : Type 0
 TouchedAnswersSuffice =
-    (old new : Net) (at other : CellTable) (cells : List Cell) → ((c : Cell) → IsTrue (has_cell old c) → IsAnswered old at c)
+    (old new : Net) (at other : CellTable) (cells : List Cell)
+        → ((c : Cell) → IsTrue (has_cell old c) → IsAnswered old at c)
     → AgreeAtUntouched old new at other
     → ((c : Cell) → Contains cells c → Touched old new c ⊎ Untouched old new c)
     → ((c : Cell) → Contains cells c → Touched old new c → IsAnswered new other c) → AnswersAll new other cells
@@ -50,5 +51,6 @@ FirstOverIsTouched =
 -- some cells have one list of touched ones
 abbrev pub OneTouchedList : Type 0
 OneTouchedList =
-    (old new : Net) (cells touched others : List Cell) → TouchedOf old new cells touched → TouchedOf old new cells others
+    (old new : Net) (cells touched others : List Cell) → TouchedOf old new cells touched
+        → TouchedOf old new cells others
     → touched ≡ others

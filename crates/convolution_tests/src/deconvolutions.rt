@@ -119,7 +119,8 @@ fn infinite_for_a_while(rt: HostRuntime) -> Result<(), Fail> {
     Ok(())
 }
 
-// Stairs of one packet each 2 and of two packets each 3, the first packet of the second at 3: the limit at 1 is not taken.
+// Stairs of one packet each 2 and of two packets each 3, the first packet of the second at 3: the limit at 1 is not
+// taken.
 #[test]
 fn two_stairs(rt: HostRuntime) -> Result<(), Fail> {
     let f = repeating(rt.alloc(), 1, Some((1, 0)), 2, 1)?;

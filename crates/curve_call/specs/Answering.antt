@@ -12,8 +12,8 @@ use Rattle.upp_limits.specs.Limits.{Sizes}
 use Rattle.upp_limits.specs.Sized.{grid_of, times_largest}
 use Rattle.upp_normal.specs.Operand.{AreLimited, answer_room}
 
--- pieces from 0 on below from + period, which is no later than the end of a window; they and what repeats them have room by the window's sizes, and where the
--- answer turns its true periods stand on their grids
+-- pieces from 0 on below from + period, which is no later than the end of a window; they and what repeats them have
+-- room by the window's sizes, and where the answer turns its true periods stand on their grids
 pub record IsAnswerWindow (ps : List Piece) (from period rise : ℚ) (times values : ℕ) : Type 0 where
   pub sizes : Sizes
   pub end : ℚ

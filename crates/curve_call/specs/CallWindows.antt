@@ -1,5 +1,5 @@
--- The end of a call's window as whole periods after a start: from when on its periods are counted, how many the window holds, and how long
--- they are. Own choice.
+-- The end of a call's window as whole periods after a start: from when on its periods are counted, how many the
+-- window holds, and how long they are. Own choice.
 use Rattle.std.specs.Prelude.{◌≡◌, ℕ, ◌+◌}
 use Rattle.rational.specs.Rational.{ℚ, ◌+ℚ◌, ◌≤ℚ◌}
 use Rattle.rational.specs.Ratio.{SumFits}

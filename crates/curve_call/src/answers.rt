@@ -12,8 +12,8 @@ use std::alloc::{AllocError, Global};
 use upp_curve::{Curve, Tail};
 use upp_normal::{RawCurve, normalise_on};
 
-/// The curve that reads as the pieces below from + period, and from `from` on repeats: each `period` later it is `rise` higher.
-/// `times` and `values` are the grids of its call. Refused only for want of memory.
+/// The curve that reads as the pieces below from + period, and from `from` on repeats: each `period` later it is
+/// `rise` higher. `times` and `values` are the grids of its call. Refused only for want of memory.
 pub fn answer(
     alloc: Global,
     pieces: Vec<Piece>,

@@ -38,9 +38,9 @@ fn narrow_numbers(op: &OpKind, f: &Curve, g: &Curve, end: Frac) -> Result<CallNu
     Ok(numbers)
 }
 
-/// A call with k periods, and for the horizontal deviation with a second number m of them, within both limits. Refused with
-/// TooWide exactly where the gauge is 2^120 or more, with TooMany exactly where it is less and the tally is above 2^20, and with
-/// nothing else. No memory is taken.
+/// A call with k periods, and for the horizontal deviation with a second number m of them, within both limits.
+/// Refused with TooWide exactly where the gauge is 2^120 or more, with TooMany exactly where it is less and the tally
+/// is above 2^20, and with nothing else. No memory is taken.
 pub fn within_both(op: &OpKind, f: &Curve, g: &Curve, k: u128, m: u128) -> Result<Frame, OpFault>
     requires { IsForward op.now }
     ensures frame { IfOk result (IsFrame op.now f.now g.now k m) }

@@ -10,8 +10,8 @@ use crate::windows::{CallWindow, call_window};
 use upp_curve::Curve;
 use upp_limits::{OpFault, OpKind};
 
-/// The window of a call with no period. Refused with TooWide exactly where its gauge is 2^120 or more, however many pieces
-/// there are. No memory is taken.
+/// The window of a call with no period. Refused with TooWide exactly where its gauge is 2^120 or more, however many
+/// pieces there are. No memory is taken.
 pub fn first_window(op: &OpKind, f: &Curve, g: &Curve) -> Result<CallWindow, OpFault>
     requires { IsForward op.now }
     ensures window { IfOk result (IsFirstWindow op.now f.now g.now) }

@@ -30,9 +30,9 @@ pub fn calls_in_turn<P: Making, Q: Making>()
     ensures { AreDetermined (λ c. Then (P.answers c) Q.answers) }
 {}
 
-/// The answer of a call that makes a curve, but for a deconvolution and a shift by infinity, is finite at each time, and
-/// so as a curve, where its operands are: of a minimum one of them, of a difference and of what first in, first out
-/// leaves the first. A shift goes forward; a running supremum needs a bound up to each time.
+/// The answer of a call that makes a curve, but for a deconvolution and a shift by infinity, is finite at each time,
+/// and so as a curve, where its operands are: of a minimum one of them, of a difference and of what first in, first
+/// out leaves the first. A shift goes forward; a running supremum needs a bound up to each time.
 pub fn answers_are_finite()
     ensures { AnswersAreFinite }
 {}

@@ -1,5 +1,6 @@
-//! What every call on curves shares: its window and limits, and room for the pieces of its answer. And how calls follow one
-//! another: what one call answers, what a call and then another answers, and that such answers are determined.
+//! What every call on curves shares: its window and limits, and room for the pieces of its answer. And how calls
+//! follow one another: what one call answers, what a call and then another answers, and that such answers are
+//! determined.
 #![tactic(auto)]
 
 mod answers;

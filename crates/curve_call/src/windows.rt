@@ -78,8 +78,8 @@ fn period(op: &OpKind, f: &Curve, g: &Curve) -> Option<Frac>
     }
 }
 
-/// The window of a call with k periods, and for the horizontal deviation with a second number m of them. None only where the
-/// gauge is 2^128 or more.
+/// The window of a call with k periods, and for the horizontal deviation with a second number m of them. None only
+/// where the gauge is 2^128 or more.
 pub fn call_window(op: &OpKind, f: &Curve, g: &Curve, k: u128, m: u128) -> Option<CallWindow>
     requires { IsForward op.now }
     ensures value { IfSome result (IsWindow op.now f.now g.now k m) }

@@ -1,5 +1,5 @@
-//! The command that answers a script of curve expressions: from the bytes of its file to the answers, or to the line of a
-//! refusal.
+//! The command that answers a script of curve expressions: from the bytes of its file to the answers, or to the line
+//! of a refusal.
 #![tactic(auto)]
 
 mod laws;

@@ -1,5 +1,5 @@
--- What a deconvolution keeps of its first operand. (Le Boudec and Thiran, chapter 3: the output of a rising curve rises;
--- that it is finite for finite curves of which the first is not the faster is folklore.)
+-- What a deconvolution keeps of its first operand. (Le Boudec and Thiran, chapter 3: the output of a rising curve
+-- rises; that it is finite for finite curves of which the first is not the faster is folklore.)
 use Rattle.std.specs.Prelude.{◌≡◌}
 use Rattle.rational.specs.Rational.{ℚ, ◌≤ℚ◌}
 use Rattle.rational.specs.Extended.{Ext, ◌≤ₑ◌, ◌<ₑ◌, ◌-ₑ◌}
@@ -14,8 +14,8 @@ use Rattle.min_plus.specs.Convolution.{IsDeconvolution}
 abbrev pub IsDeconvolved : (ℚ → Ext) → (ℚ → Ext) → (ℚ → Ext) → Type 0
 IsDeconvolved f g h = (t : ℚ) → zero_q ≤ℚ t → IsDeconvolution f g t (h t)
 
--- of any functions: it rises with the first; it is at least the first less the second's value at 0; and so it is nowhere
--- below 0 where the first is not, and the second is at most 0 at 0
+-- of any functions: it rises with the first; it is at least the first less the second's value at 0; and so it is
+-- nowhere below 0 where the first is not, and the second is at most 0 at 0
 pub record DeconvolutionKeeps : Type 0 where
   pub rising : (f g h : ℚ → Ext) → IsDeconvolved f g h → IsRising f → IsRising h
   pub above : (f g h : ℚ → Ext) (level : ℚ) → IsDeconvolved f g h → g zero_q ≡ Fin level

@@ -1,6 +1,6 @@
--- Elements with minus their values, and elements mirrored in time: what is at t comes to stand at a time `reach` less t.
--- (The deconvolution is, but for the sign, a convolution with the second mirrored: Bouillard, Boyer and Le Corronc. The
--- form is own choice.)
+-- Elements with minus their values, and elements mirrored in time: what is at t comes to stand at a time `reach` less
+-- t. (The deconvolution is, but for the sign, a convolution with the second mirrored: Bouillard, Boyer and Le
+-- Corronc. The form is own choice.)
 use Rattle.std.specs.Prelude.{pos, List, [], ◌∷◌, Option, Some, None}
 use Rattle.rational.specs.Rational.{ℚ, ◌-ℚ◌, neg_ℚ, int}
 use Rattle.rational.specs.Ratio.{SumFits}

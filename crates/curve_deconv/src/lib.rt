@@ -1,5 +1,5 @@
-//! The deconvolution of two curves. Minus the first is convolved with the second mirrored in time, by the pairs of their
-//! elements.
+//! The deconvolution of two curves. Minus the first is convolved with the second mirrored in time, by the pairs of
+//! their elements.
 #![tactic(auto)]
 
 pub mod laws;

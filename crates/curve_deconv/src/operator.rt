@@ -47,7 +47,8 @@ fn deconvolved_within(
     requires frame { IsFrame Deconvolve f.now g.now 0 0 frame.now }
     requires finite { IsFinite (value_at g.now) }
     requires slow { ¬ (rate g.now <ₑ rate f.now) }
-    ensures value { IfOk result (λ c. (t : ℚ) → int (pos 0) ≤ℚ t → IsDeconvolution (value_at f.now) (value_at g.now) t (value_at c t)) }
+    ensures value { IfOk result
+        (λ c. (t : ℚ) → int (pos 0) ≤ℚ t → IsDeconvolution (value_at f.now) (value_at g.now) t (value_at c t)) }
     ensures finite { IsFinite (value_at f.now) → IfOk result (λ c. IsFinite (value_at c)) }
 {
     let left = unrolled(f, frame.end)?;
@@ -76,7 +77,8 @@ fn faster_answer(alloc: Global, f: &Curve, g: &Curve) -> Result<Curve, OpFault>
     requires curves { IsCurve f.now × IsCurve g.now }
     requires finite { IsFinite (value_at g.now) }
     requires faster { rate g.now <ₑ rate f.now }
-    ensures value { IfOk result (λ c. (t : ℚ) → int (pos 0) ≤ℚ t → IsDeconvolution (value_at f.now) (value_at g.now) t (value_at c t)) }
+    ensures value { IfOk result
+        (λ c. (t : ℚ) → int (pos 0) ≤ℚ t → IsDeconvolution (value_at f.now) (value_at g.now) t (value_at c t)) }
     ensures limits { KeepsLimits Deconvolve f.now g.now result }
 {
     Ok(infinite_curve(alloc)?)
@@ -86,7 +88,8 @@ fn faster_answer(alloc: Global, f: &Curve, g: &Curve) -> Result<Curve, OpFault>
 fn slower_answer(alloc: Global, f: &Curve, g: &Curve) -> Result<Curve, OpFault>
     requires finite { IsFinite (value_at g.now) }
     requires slow { ¬ (rate g.now <ₑ rate f.now) }
-    ensures value { IfOk result (λ c. (t : ℚ) → int (pos 0) ≤ℚ t → IsDeconvolution (value_at f.now) (value_at g.now) t (value_at c t)) }
+    ensures value { IfOk result
+        (λ c. (t : ℚ) → int (pos 0) ≤ℚ t → IsDeconvolution (value_at f.now) (value_at g.now) t (value_at c t)) }
     ensures finite { IsFinite (value_at f.now) → IfOk result (λ c. IsFinite (value_at c)) }
     ensures limits { KeepsLimits Deconvolve f.now g.now result }
 {
@@ -95,10 +98,10 @@ fn slower_answer(alloc: Global, f: &Curve, g: &Curve) -> Result<Curve, OpFault>
 }
 
 /// At each time t from 0 on the supremum of f(t + u) - g(u) over all u from 0 on (Le Boudec and Thiran, chapter 3); a
-/// limit that no time takes counts. g is finite. Negative values stay negative; the answer is infinite everywhere where f
-/// is the faster, and else exactly where f is infinite at t or later. So it is finite where f is finite and not the
-/// faster. One step is counted. Refused with TooWide or TooMany exactly where the call's gauge or tally is over that
-/// limit, never where f is the faster; else only for want of memory.
+/// limit that no time takes counts. g is finite. Negative values stay negative; the answer is infinite everywhere
+/// where f is the faster, and else exactly where f is infinite at t or later. So it is finite where f is finite and
+/// not the faster. One step is counted. Refused with TooWide or TooMany exactly where the call's gauge or tally is
+/// over that limit, never where f is the faster; else only for want of memory.
 pub fn deconvolve<L: Ledger>(
     alloc: Global,
     f: &Curve,
@@ -107,8 +110,10 @@ pub fn deconvolve<L: Ledger>(
 ) -> Result<Curve, OpFault>
     requires { IsFinite (value_at g.now) }
     ensures count { steps.new ≡ steps.old + 1 }
-    ensures value { IfOk result (λ c. (t : ℚ) → int (pos 0) ≤ℚ t → IsDeconvolution (value_at f.now) (value_at g.now) t (value_at c t)) }
-    ensures finite { IsFinite (value_at f.now) → ¬ (rate g.now <ₑ rate f.now) → IfOk result (λ c. IsFinite (value_at c)) }
+    ensures value { IfOk result
+        (λ c. (t : ℚ) → int (pos 0) ≤ℚ t → IsDeconvolution (value_at f.now) (value_at g.now) t (value_at c t)) }
+    ensures finite { IsFinite (value_at f.now) → ¬ (rate g.now <ₑ rate f.now)
+        → IfOk result (λ c. IsFinite (value_at c)) }
     ensures limits { KeepsLimits Deconvolve f.now g.now result }
 {
     steps.tick();

@@ -15,8 +15,8 @@ use fraction128::Frac;
 use rational::Extended;
 use std::alloc::{AllocError, Global};
 
-// The least of g at u less f at t + u, over all u from 0 on and before `reach` at which both are finite, at `reach` after
-// t.
+// The least of g at u less f at t + u, over all u from 0 on and before `reach` at which both are finite, at `reach`
+// after t.
 fn pairs_window(
     alloc: Global,
     f: &[Piece],
@@ -52,9 +52,9 @@ fn raised_window(
     window_sum(alloc, &pairs, &marks)
 }
 
-/// The supremum of f at t + u less g at u over all u from 0 on and before `reach`, at each t from 0 on that is more than
-/// `reach` before `end`, as pieces; infinity where f is infinite at t or later. From the operands' unrolled pieces below
-/// `end`; g is finite before `reach`. Only a lack of memory is an error.
+/// The supremum of f at t + u less g at u over all u from 0 on and before `reach`, at each t from 0 on that is more
+/// than `reach` before `end`, as pieces; infinity where f is infinite at t or later. From the operands' unrolled
+/// pieces below `end`; g is finite before `reach`. Only a lack of memory is an error.
 pub(crate) fn window_deconvolution(
     alloc: Global,
     f: &[Piece],

@@ -1,5 +1,5 @@
--- Two rising lines, each over a stretch of time: how long the second lies behind the first. (The horizontal deviation of Le Boudec and
--- Thiran, of two lines over part of the times.)
+-- Two rising lines, each over a stretch of time: how long the second lies behind the first. (The horizontal deviation
+-- of Le Boudec and Thiran, of two lines over part of the times.)
 use Rattle.std.specs.Prelude.{pos, ◌⊎◌}
 use Rattle.rational.specs.Rational.{ℚ, ◌-ℚ◌, ◌≤ℚ◌, ◌<ℚ◌, int}
 use Rattle.rational.specs.Grid.{Whole}
@@ -40,7 +40,8 @@ pub record BehindBy (c : Cell) (y : ℚ) : Type 0 where
   pub below : line_at c.second second <ℚ line_at c.first first
   pub more : y <ℚ second -ℚ first
 
--- no lag is longer than q but what the start of the second's stretch owes already, and each number from 0 on below q is below one
+-- no lag is longer than q but what the start of the second's stretch owes already, and each number from 0 on below q
+-- is below one
 pub record IsCellLag (c : Cell) (q : ℚ) : Type 0 where
   pub most : (s u : ℚ) → IsBehind c s u → (u -ℚ s ≤ℚ q) ⊎ IsBehindEarlier c s u
   pub near : (y : ℚ) → y <ℚ q → (y <ℚ int (pos 0)) ⊎ BehindBy c y

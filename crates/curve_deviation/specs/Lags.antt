@@ -1,5 +1,6 @@
--- The longest lag of one function behind another. (The horizontal deviation of Le Boudec and Thiran, as the supremum over all pairs of times of
--- which the second function's value at the later one is still below the first function's at the earlier.)
+-- The longest lag of one function behind another. (The horizontal deviation of Le Boudec and Thiran, as the supremum
+-- over all pairs of times of which the second function's value at the later one is still below the first function's
+-- at the earlier.)
 use Rattle.std.specs.Prelude.{pos, ◌⊎◌}
 use Rattle.rational.specs.Rational.{ℚ, ◌-ℚ◌, ◌≤ℚ◌, ◌<ℚ◌, int}
 use Rattle.rational.specs.Extended.{Ext, ◌<ₑ◌}

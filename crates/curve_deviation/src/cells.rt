@@ -39,8 +39,8 @@ fn gap_over(c: &Cell, at: Frac, slope: Frac) -> Frac
     quotient(gap, slope)
 }
 
-/// The lag of a cell whose first line is the steeper one, and starts no higher than the second ends: where the one of the
-/// two that ends first does so.
+/// The lag of a cell whose first line is the steeper one, and starts no higher than the second ends: where the one of
+/// the two that ends first does so.
 fn steep_lag(c: &Cell) -> Frac
     requires sizes { (z : Sizes) × (last : ℚ) × CellSizes z last c.now }
     requires rising { RisingCell c.now }
@@ -58,8 +58,8 @@ fn steep_lag(c: &Cell) -> Frac
     Frac::zero()
 }
 
-/// The lag of a cell whose first line is not the steeper one, and starts no higher than the second ends: where the first
-/// starts.
+/// The lag of a cell whose first line is not the steeper one, and starts no higher than the second ends: where the
+/// first starts.
 fn gentle_lag(c: &Cell) -> Frac
     requires sizes { (z : Sizes) × (last : ℚ) × CellSizes z last c.now }
     requires rising { RisingCell c.now }

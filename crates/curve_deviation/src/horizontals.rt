@@ -89,7 +89,8 @@ fn first_number(f: &Curve, g: &Curve) -> Option<u128>
 /// The time a period after that, and the value of f there. None only where the call is too wide.
 fn turn_after(f: &Curve, g: &Curve, first: u128) -> Option<Turn>
     requires { AreFinite f.now g.now }
-    ensures turn { MatchOption result (2 ^ 120 ≤ gauge_at OpKind.Horizontal f.now g.now first 0) (IsTurn f.now g.now first) }
+    ensures turn { MatchOption result (2 ^ 120 ≤ gauge_at OpKind.Horizontal f.now g.now first 0)
+        (IsTurn f.now g.now first) }
 {
     match narrow_window(f, g, first, 0) {
         None => None,
@@ -153,11 +154,12 @@ fn looked_for(f: &Curve, g: &Curve) -> Result<Ext, OpFault>
     Ok(deviation_in(f, g, &periods, &frame))
 }
 
-/// The horizontal deviation of two curves that rise, the second finite: the supremum, over all times t from 0 on, of the
-/// infimum of the waits after which g is at least f(t); infinity where f is infinite somewhere, or the faster one, or of
-/// rate 0 as g and above it in the end (Le Boudec and Thiran, chapter 3: the delay of an arrival curve at a service curve).
-/// One step is counted. Refused with TooWide or TooMany exactly where the call's gauge or tally is over that limit, and
-/// never for want of memory, since none is taken. The walk passes each stretch of the two in the window once.
+/// The horizontal deviation of two curves that rise, the second finite: the supremum, over all times t from 0 on, of
+/// the infimum of the waits after which g is at least f(t); infinity where f is infinite somewhere, or the faster
+/// one, or of rate 0 as g and above it in the end (Le Boudec and Thiran, chapter 3: the delay of an arrival curve at
+/// a service curve). One step is counted. Refused with TooWide or TooMany exactly where the call's gauge or tally is
+/// over that limit, and never for want of memory, since none is taken. The walk passes each stretch of the two in the
+/// window once.
 pub fn horizontal<L: Ledger>(f: &Curve, g: &Curve, steps: &mut Steps<L>) -> Result<Ext, OpFault>
     requires finite { IsFinite (value_at g.now) }
     requires rising { IsRising (value_at f.now) × IsRising (value_at g.now) }

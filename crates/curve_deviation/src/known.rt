@@ -27,8 +27,8 @@ fn ends_above(f: &Curve, g: &Curve) -> bool
     is_level_above(f, g)
 }
 
-/// Whether the horizontal deviation is infinite whatever the sizes are: f is infinite somewhere, or the faster one, or ends
-/// above g.
+/// Whether the horizontal deviation is infinite whatever the sizes are: f is infinite somewhere, or the faster one,
+/// or ends above g.
 pub(crate) fn is_known(f: &Curve, g: &Curve) -> bool
     requires { IsRising (value_at f.now) × IsRising (value_at g.now) }
     ensures known { IsTrue result ↔ IsKnownAtOnce OpKind.Horizontal f.now g.now }

@@ -1,5 +1,5 @@
-//! How far one curve lies above another, and how long it lies behind it: the vertical and the horizontal deviation, without
-//! unrolling either curve.
+//! How far one curve lies above another, and how long it lies behind it: the vertical and the horizontal deviation,
+//! without unrolling either curve.
 #![tactic(auto)]
 
 mod cells;

@@ -93,9 +93,9 @@ fn late_part(c: &Curve, t: Frac, end: Frac) -> Part
     }
 }
 
-/// How a curve goes on from a time of a window: the value there, the line that follows, and until when. By binary search in
-/// the pieces that are kept; nothing is unrolled, and no memory is taken. The window's sizes z are those of a gauge below
-/// 2^120, and t stands on its grid, from 0 on and before its end.
+/// How a curve goes on from a time of a window: the value there, the line that follows, and until when. By binary
+/// search in the pieces that are kept; nothing is unrolled, and no memory is taken. The window's sizes z are those of
+/// a gauge below 2^120, and t stands on its grid, from 0 on and before its end.
 pub(crate) fn part_at(c: &Curve, t: Frac, end: Frac) -> Part
     requires { (z : Sizes) × IsSeen z end c.now × IsTimeIn z end t }
     ensures goes { GoesTo (value_at c.now) t end result }

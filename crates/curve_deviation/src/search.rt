@@ -1,5 +1,5 @@
-//! The numbers of periods of a horizontal deviation: after how many the first curve has left the level at which the second
-//! begins to repeat, and after how many more the second has reached the first.
+//! The numbers of periods of a horizontal deviation: after how many the first curve has left the level at which the
+//! second begins to repeat, and after how many more the second has reached the first.
 
 ghost use Rattle.std.specs.Prelude.{ℕ, ◌≡◌, ◌-◌, ◌<◌, ◌≤◌, ◌^◌, IsTrue, MatchOption};
 ghost use Rattle.rational.specs.Rational.{◌-ℚ◌, neg_ℚ};
@@ -30,7 +30,8 @@ pub(crate) enum Stage {
 
 /// The window with k and m periods, where its gauge is below 2^120.
 pub(crate) fn narrow_window(f: &Curve, g: &Curve, k: u128, m: u128) -> Option<CallWindow>
-    ensures window { MatchOption result (2 ^ 120 ≤ gauge_at OpKind.Horizontal f.now g.now k m) (IsNarrowWindow f.now g.now k m) }
+    ensures window { MatchOption result (2 ^ 120 ≤ gauge_at OpKind.Horizontal f.now g.now k m)
+        (IsNarrowWindow f.now g.now k m) }
     ensures kept { IsCurve f.now × IsCurve g.now }
 {
     let op = OpKind::Horizontal;
@@ -57,8 +58,10 @@ pub(crate) fn value_in(c: &Curve, t: Frac, end: Frac) -> Frac
 /// Whether after k periods the first curve is not above the level yet, and the gauge so far is below 2^120.
 fn is_first_before(f: &Curve, g: &Curve, level: Frac, k: u128) -> bool
     requires { AreFinite f.now g.now }
-    ensures before { IsTrue result → IsBefore (HasLeft level f.now g.now k) (gauge_at OpKind.Horizontal f.now g.now k 0) }
-    ensures past { ¬ (IsTrue result) → IsPast (HasLeft level f.now g.now k) (gauge_at OpKind.Horizontal f.now g.now k 0) }
+    ensures before { IsTrue result
+        → IsBefore (HasLeft level f.now g.now k) (gauge_at OpKind.Horizontal f.now g.now k 0) }
+    ensures past { ¬ (IsTrue result)
+        → IsPast (HasLeft level f.now g.now k) (gauge_at OpKind.Horizontal f.now g.now k 0) }
 {
     match narrow_window(f, g, k, 0) {
         None => false,
@@ -76,8 +79,10 @@ fn is_first_before(f: &Curve, g: &Curve, level: Frac, k: u128) -> bool
 /// Whether after k more periods the second curve is still below the level, and the gauge so far is below 2^120.
 fn is_second_before(f: &Curve, g: &Curve, first: u128, level: Frac, k: u128) -> bool
     requires { AreFinite f.now g.now }
-    ensures before { IsTrue result → IsBefore (HasReached first level f.now g.now k) (gauge_at OpKind.Horizontal f.now g.now first k) }
-    ensures past { ¬ (IsTrue result) → IsPast (HasReached first level f.now g.now k) (gauge_at OpKind.Horizontal f.now g.now first k) }
+    ensures before { IsTrue result
+        → IsBefore (HasReached first level f.now g.now k) (gauge_at OpKind.Horizontal f.now g.now first k) }
+    ensures past { ¬ (IsTrue result)
+        → IsPast (HasReached first level f.now g.now k) (gauge_at OpKind.Horizontal f.now g.now first k) }
 {
     match narrow_window(f, g, first, k) {
         None => false,
@@ -121,8 +126,8 @@ fn width_of(f: &Curve, g: &Curve, stage: &Stage) -> u128
     width
 }
 
-/// The least number of periods with which the stage is met or its gauge is 2^120 or more: by doubling and halving, since what
-/// is met stays met, and the gauge does not fall.
+/// The least number of periods with which the stage is met or its gauge is 2^120 or more: by doubling and halving,
+/// since what is met stays met, and the gauge does not fall.
 pub(crate) fn least_past(f: &Curve, g: &Curve, stage: &Stage) -> u128
     requires { AreFinite f.now g.now }
     ensures below { (i : ℕ) → i < result → ¬ (Meets stage.now f.now g.now i) }

@@ -96,9 +96,9 @@ fn step(cell: &Cell, lag: Frac) -> Walk
     }
 }
 
-/// The longest lag of g behind what f is before `until`, where both are finite and rise, and g reaches f's value at `until`
-/// before the window's end. Each step passes a stretch of one of the two below the window's end; nothing is unrolled, and
-/// no memory is taken. The window's sizes are those of a gauge below 2^120 over both curves' numbers.
+/// The longest lag of g behind what f is before `until`, where both are finite and rise, and g reaches f's value at
+/// `until` before the window's end. Each step passes a stretch of one of the two below the window's end; nothing is
+/// unrolled, and no memory is taken. The window's sizes are those of a gauge below 2^120 over both curves' numbers.
 pub(crate) fn longest_lag(f: &Curve, g: &Curve, until: Frac, end: Frac) -> Frac
     ghost sizes: { Sizes }
     requires first { IsSeen sizes end f.now }

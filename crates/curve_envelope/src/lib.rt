@@ -1,5 +1,5 @@
-//! Operators on curves whose answer at a time is made of the operands' values at one time, or at all times on one side of it.
-//! What first in, first out leaves of a service is made here; the others are handed on.
+//! Operators on curves whose answer at a time is made of the operands' values at one time, or at all times on one
+//! side of it. What first in, first out leaves of a service is made here; the others are handed on.
 #![tactic(auto)]
 
 mod behind;

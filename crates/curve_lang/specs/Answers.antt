@@ -48,9 +48,12 @@ MeansFirst P next (a ∷ later) = P a × next later
 -- a `let` gives a name and has no answer; a question has the answer first, and then those of the statements after it
 abbrev pub MeansThen : List Given → Statement ℚ → (List Given → List Answered → Type 0) → List Answered → Type 0
 MeansThen gs (Lets w e) next out = (h : Values) × Means gs e h × next (gs ++ record { name = w; values = h } ∷ []) out
-MeansThen gs (ValueAt e t) next out = (zero_q ≤ℚ t) × ((h : Values) × Means gs e h × MeansFirst (λ a. a ≡ NumberIs words.Value (h t)) (next gs) out)
-MeansThen gs (AsksOne q e) next out = (h : Values) × Means gs e h × MeansFirst (λ a. (c : SpecCurve) × IsCurveOf h c × (a ≡ one_answer q c)) (next gs) out
-MeansThen gs (AsksTwo q d e) next out = (f : Values) × (g : Values) × Means gs d f × Means gs e g × MeansFirst (MeansOfTwo q f g) (next gs) out
+MeansThen gs (ValueAt e t) next out = (zero_q ≤ℚ t)
+    × ((h : Values) × Means gs e h × MeansFirst (λ a. a ≡ NumberIs words.Value (h t)) (next gs) out)
+MeansThen gs (AsksOne q e) next out = (h : Values) × Means gs e h
+    × MeansFirst (λ a. (c : SpecCurve) × IsCurveOf h c × (a ≡ one_answer q c)) (next gs) out
+MeansThen gs (AsksTwo q d e) next out = (f : Values) × (g : Values) × Means gs d f × Means gs e g
+    × MeansFirst (MeansOfTwo q f g) (next gs) out
 
 -- out are the answers of these statements, where the names of gs were given before
 abbrev pub ScriptMeans : List Given → List Numbered → List Answered → Type 0

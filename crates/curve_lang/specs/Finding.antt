@@ -1,5 +1,5 @@
--- What calls of the evaluator find: what they make, or why there is none; and how they follow one another. Want of memory
--- may come at each place where a call takes any. (Own choice.)
+-- What calls of the evaluator find: what they make, or why there is none; and how they follow one another. Want of
+-- memory may come at each place where a call takes any. (Own choice.)
 use Rattle.std.specs.Prelude.{◌≡◌, ◌⊎◌, ℕ, pos, ◌≤◌, ◌<◌, ◌^◌, Result, Ok, Err}
 use Rattle.rational.specs.Rational.{ℚ, int, ◌≤ℚ◌, ◌<ℚ◌}
 use Rattle.rational.specs.MinMax.{max_q}
@@ -112,7 +112,8 @@ TripleFinds Gate rate cycle slot r = KindFinds (NoGate rate cycle slot) (gate ra
 -- ---- operators on one curve
 -- what the closure of f finds, by the first operator of its fold that is over a limit
 abbrev pub CloseFinds : SpecCurve → Found → Type 0
-CloseFinds f (Ok h) = CloseAnswer f (Ok h) × IsCurve h × FromZero (λ t. IsSubadditiveClosure (value_at f) t (value_at h t))
+CloseFinds f (Ok h) = CloseAnswer f (Ok h) × IsCurve h
+    × FromZero (λ t. IsSubadditiveClosure (value_at f) t (value_at h t))
 CloseFinds f (Err TooMany) = CloseAnswer f (Err call_faults.TooMany)
 CloseFinds f (Err TooWide) = CloseAnswer f (Err call_faults.TooWide)
 CloseFinds f (Err NoMemory) = CloseAnswer f (Err call_faults.NoMemory) ⊎ ((h : SpecCurve) × CloseAnswer f (Ok h))
@@ -146,8 +147,8 @@ pub record MayWait (f g : SpecCurve) : Type 0 where
   pub second : IsRising (value_at g)
 
 -- ---- the value at a time
--- the gauge of a curve up to a time: its own, but for the end of its window and for the time, which counts as one of its
--- times
+-- the gauge of a curve up to a time: its own, but for the end of its window and for the time, which counts as one of
+-- its times
 abbrev pub value_end : SpecCurve → ℚ → ℚ
 value_end f t = max_q t (own_end f)
 

@@ -1,5 +1,5 @@
--- What an expression and a statement find, in the order in which they are looked at: the arguments from left to right, the
--- conditions, the limits. Names are given with their curves. (Own choice.)
+-- What an expression and a statement find, in the order in which they are looked at: the arguments from left to
+-- right, the conditions, the limits. Names are given with their curves. (Own choice.)
 use Rattle.std.specs.Prelude.{◌≡◌, ◌⊎◌, ◌↔◌, IsTrue, ℕ, List, [], ◌∷◌, ◌++◌, find, Option, Some, None, option_map, map, Bool, Result, Ok, Err}
 use Rattle.std.specs.Str.{bytes_eq}
 use Rattle.rational.specs.Rational.{ℚ, ◌≤ℚ◌}
@@ -49,7 +49,8 @@ TestedBy z f next r = Then (TestFinds z f) (λ v. Guarded (IsNonnegative (value_
 abbrev pub Tested : SpecCurve → (Found → Type 0) → Found → Type 0
 Tested f next r = Then (Gives zero_curve) (λ z. TestedBy z f next) r
 
--- an operator on one curve, which is finite, and nowhere below 0; the test of that is a call of its own, with its limits
+-- an operator on one curve, which is finite, and nowhere below 0; the test of that is a call of its own, with its
+-- limits
 abbrev pub OneMade : CurveOperator → SpecCurve → Found → Type 0
 OneMade k f r = Guarded (IsFinite (value_at f)) (Tested f (OneFinds k f)) r
 
@@ -120,7 +121,8 @@ NewName None next r = next r
 NewName (Some c) next r = r ≡ Err C5
 
 abbrev pub StatementFinds : List Let → Statement ℚ → Result Added LangKind → Type 0
-StatementFinds ls (Lets w e) r = NewName (curve_named ls w) (Then (Finds ls e) (λ c. Gives (AddsName record { name = w; curve = c }))) r
+StatementFinds ls (Lets w e) r = NewName (curve_named ls w)
+    (Then (Finds ls e) (λ c. Gives (AddsName record { name = w; curve = c }))) r
 StatementFinds ls (ValueAt e t) r = Kept (AsksTime ls e t) r
 StatementFinds ls (AsksOne q e) r = Kept (AsksOf ls q e) r
 StatementFinds ls (AsksTwo q d e) r = Kept (AsksBoth ls q d e) r
@@ -146,4 +148,5 @@ after_added next ls out (AddsAnswer a) = next ls (out ++ a ∷ [])
 -- r is what these statements find behind others that gave the names ls and the answers out
 abbrev pub ScriptFinds : List Let → List Answered → List Numbered → Told → Type 0
 ScriptFinds ls out [] r = r ≡ Ok out
-ScriptFinds ls out (l ∷ rest) r = LineThen l.0 (StatementFinds ls l.1) (λ x s. after_added (λ ms more. ScriptFinds ms more rest s) ls out x) r
+ScriptFinds ls out (l ∷ rest) r = LineThen l.0 (StatementFinds ls l.1)
+    (λ x s. after_added (λ ms more. ScriptFinds ms more rest s) ls out x) r

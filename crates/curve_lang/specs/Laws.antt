@@ -10,11 +10,13 @@ use Rattle.curve_lang.specs.Found.{Let, with_values, Finds, Told, ScriptFinds}
 
 -- a curve that an expression finds has the values that the expression means
 abbrev pub FoundIsMeant : Type 0
-FoundIsMeant = (ls : List Let) (e : Expression ℚ) (c : SpecCurve) → Finds ls e (Ok c) → Means (with_values ls) e (value_at c)
+FoundIsMeant = (ls : List Let) (e : Expression ℚ) (c : SpecCurve) → Finds ls e (Ok c)
+    → Means (with_values ls) e (value_at c)
 
 -- and the answers that a script finds are those that it means
 abbrev pub AnswersAreMeant : Type 0
-AnswersAreMeant = (lines : List Numbered) (out : List Answered) → ScriptFinds [] [] lines (Ok out) → ScriptMeans [] lines out
+AnswersAreMeant = (lines : List Numbered) (out : List Answered) → ScriptFinds [] [] lines (Ok out)
+    → ScriptMeans [] lines out
 
 -- want of memory apart, a script finds one thing at most: its answers, or its first fault
 abbrev pub ScriptsFindOne : Type 0

@@ -14,7 +14,8 @@ HasAdded ls out (AddsName l) ms more = (ms ≡ ls ++ l ∷ []) × (more ≡ out)
 HasAdded ls out (AddsAnswer a) ms more = (ms ≡ ls) × (more ≡ out ++ a ∷ [])
 
 -- a statement is looked at: it finds something, which is added, or nothing
-abbrev pub IsAdded : {U : Type 0} → List Let → List Answered → Statement ℚ → List Let → List Answered → Result U LangKind → Type 0
+abbrev pub IsAdded : {U : Type 0} → List Let → List Answered → Statement ℚ → List Let → List Answered
+    → Result U LangKind → Type 0
 IsAdded ls out s ms more (Ok u) = (x : Added) × StatementFinds ls s (Ok x) × HasAdded ls out x ms more
 IsAdded ls out s ms more (Err k) = StatementFinds ls s (Err k)
 

@@ -30,7 +30,8 @@ fn give<L: Ledger>(
     e: &Expr,
     steps: &mut Steps<L>,
 ) -> Result<(), LangKind>
-    ensures { IsGiven (map let_view lets.old.items) word.now (expression_view e.now) (map let_view lets.new.items) result }
+    ensures { IsGiven (map let_view lets.old.items) word.now (expression_view e.now)
+        (map let_view lets.new.items) result }
 {
     if is_given(lets, word) {
         return Err(LangKind::C5);
@@ -159,17 +160,18 @@ fn fault_at(kind: LangKind, line: u32) -> LangFault
 }
 
 /// The answers of a script: one for each statement but `let`, in order. Refused with the first fault, at its line:
-/// a name that is given twice (C5) or was not given before (C6), a kind of curve that is refused (C7), a condition of an
-/// operator that is not met or a time below 0 (C8), and a curve, an operator or a `value` that is over a limit. The arguments of
-/// an operator are looked at before it, from left to right, and a `let` looks at its name first. The line is 0 where
-/// memory ran out, and only there.
+/// a name that is given twice (C5) or was not given before (C6), a kind of curve that is refused (C7), a condition of
+/// an operator that is not met or a time below 0 (C8), and a curve, an operator or a `value` that is over a limit.
+/// The arguments of an operator are looked at before it, from left to right, and a `let` looks at its name first. The
+/// line is 0 where memory ran out, and only there.
 pub fn eval_script<L: Ledger>(
     alloc: Global,
     script: &Script,
     steps: &mut Steps<L>,
 ) -> Result<Vec<Answer>, LangFault>
     ensures found { ScriptFinds [] [] (map line_view script.now.lines.items) (told_script result) }
-    ensures meaning { IfOk result (λ v. ScriptMeans [] (map line_view script.now.lines.items) (map answer_view v.items)) }
+    ensures meaning { IfOk result
+        (λ v. ScriptMeans [] (map line_view script.now.lines.items) (map answer_view v.items)) }
 {
     let mut lets = Vec::new(alloc);
     let mut answers = Vec::new(alloc);

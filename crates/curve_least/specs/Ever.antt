@@ -1,5 +1,5 @@
--- What holds for a period from some number of periods on holds ever after. (Bouillard, Boyer and Le Corronc: of two functions that repeat the
--- one of smaller rate is below the other in the end.)
+-- What holds for a period from some number of periods on holds ever after. (Bouillard, Boyer and Le Corronc: of two
+-- functions that repeat the one of smaller rate is below the other in the end.)
 use Rattle.std.specs.Prelude.{ℕ, pos}
 use Rattle.rational.specs.Rational.{ℚ, ◌≤ℚ◌, ◌<ℚ◌, int}
 use Rattle.rational.specs.Extended.{Ext, ◌≤ₑ◌, ◌<ₑ◌}
@@ -28,4 +28,5 @@ pub record RepeatsBy (from d : ℚ) (c : SpecCurve) : Type 0 where
 abbrev pub BelowEverAfter : Type 0
 BelowEverAfter =
     (f g : SpecCurve) (from d : ℚ) (k : ℕ) → int (pos 0) <ℚ d → RepeatsBy from d f → RepeatsBy from d g
-    → IsSlowerBelow (value_at f) (value_at g) (rate f) (rate g) (periods_after from k d) d → IsSlowerBelowFrom f g (periods_after from k d)
+    → IsSlowerBelow (value_at f) (value_at g) (rate f) (rate g) (periods_after from k d) d
+        → IsSlowerBelowFrom f g (periods_after from k d)

@@ -1,5 +1,5 @@
--- The largest amount by which one function is above another over some times, where the other is finite. (Le Boudec and Thiran: the vertical
--- deviation of two functions, here over part of the times.)
+-- The largest amount by which one function is above another over some times, where the other is finite. (Le Boudec
+-- and Thiran: the vertical deviation of two functions, here over part of the times.)
 use Rattle.std.specs.Prelude.{◌≡◌}
 use Rattle.rational.specs.Rational.{ℚ, ◌≤ℚ◌, ◌<ℚ◌}
 use Rattle.rational.specs.Extended.{Ext, ◌≤ₑ◌, ◌<ₑ◌, ◌+ₑ◌}

@@ -73,7 +73,8 @@ fn stretch_gap(f: &Stretch, g: &Stretch, t: Frac, end: Frac) -> Gap
     requires sizes { (z : Sizes) × (last : ℚ) × StretchSizes z last f.now g.now t end }
     requires some { t <ℚ end }
     ensures sizes { (z : Sizes) (last : ℚ) → StretchSizes z last f.now g.now t end → GapStands z result }
-    ensures gap { (slow fast : ℚ → Ext) → GoesOn slow t f.now → GoesOn fast t g.now → IsUntil end f.now.next → IsUntil end g.now.next
+    ensures gap { (slow fast : ℚ → Ext) → GoesOn slow t f.now → GoesOn fast t g.now → IsUntil end f.now.next
+        → IsUntil end g.now.next
         → IsGap (InWindow t end) slow fast result }
 {
     let start = gap_of(f.at, g.at);
@@ -96,7 +97,8 @@ pub fn earlier(t: Frac, next: &Option<Frac>) -> Frac
 pub fn side_gap(f: &Side, g: &Side, from: Frac, end: Frac) -> Gap
     requires { (z : Sizes) × HasWindow z end f.now × HasWindow z end g.now × IsTimeIn z end from }
     ensures gap { IsGap (InWindow from end) (value_at f.now) (value_at g.now) result }
-    ensures sizes { (z : Sizes) → HasWindow z end f.now → HasWindow z end g.now → IsTimeIn z end from → GapStands z result }
+    ensures sizes { (z : Sizes) → HasWindow z end f.now → HasWindow z end g.now → IsTimeIn z end from
+        → GapStands z result }
 {
     let mut gap = Gap::NoTime;
     let mut t = from;
@@ -110,12 +112,14 @@ pub fn side_gap(f: &Side, g: &Side, from: Frac, end: Frac) -> Gap
     gap
 }
 
-/// By how much f is above g over [from, end), where g is finite: nothing is unrolled and no memory is taken. The window's sizes z
-/// are those of a gauge below 2^120 over both curves' numbers; `from` stands on its grid, from 0 on and before `end`.
+/// By how much f is above g over [from, end), where g is finite: nothing is unrolled and no memory is taken. The
+/// window's sizes z are those of a gauge below 2^120 over both curves' numbers; `from` stands on its grid, from 0 on
+/// and before `end`.
 pub fn window_gap(f: &Curve, g: &Curve, from: Frac, end: Frac) -> Gap
     requires { (z : Sizes) × HasWindow z end f.now × HasWindow z end g.now × IsTimeIn z end from }
     ensures gap { IsGap (InWindow from end) (value_at f.now) (value_at g.now) result }
-    ensures sizes { (z : Sizes) → HasWindow z end f.now → HasWindow z end g.now → IsTimeIn z end from → GapStands z result }
+    ensures sizes { (z : Sizes) → HasWindow z end f.now → HasWindow z end g.now → IsTimeIn z end from
+        → GapStands z result }
 {
     side_gap(&Side::of(f), &Side::of(g), from, end)
 }

@@ -44,13 +44,14 @@ fn least_over(slow: &Side, fast: &Side, gap: Frac, from: Frac, period: Frac) -> 
     quotient(gap, lead).size_up()
 }
 
-/// The least number k of periods after which, for a period, the slower curve is nowhere above the faster one; none where there is no
-/// such number. Both repeat from `from` on with the period, and their numbers below from + period have the sizes z of a gauge below
-/// 2^120. No memory is taken and nothing is unrolled.
+/// The least number k of periods after which, for a period, the slower curve is nowhere above the faster one; none
+/// where there is no such number. Both repeat from `from` on with the period, and their numbers below from + period
+/// have the sizes z of a gauge below 2^120. No memory is taken and nothing is unrolled.
 pub fn least_below(slow: &Side, fast: &Side, from: Frac, period: Frac) -> Option<u128>
     requires slower { rate slow.now <ₑ rate fast.now }
     requires window { (z : Sizes) × AreCompared z from period slow.now fast.now }
-    ensures { MatchOption result ((k : ℕ) → ¬ (IsBelowFor (value_at slow.now) (value_at fast.now) (periods_after from k period) period))
+    ensures { MatchOption result
+        ((k : ℕ) → ¬ (IsBelowFor (value_at slow.now) (value_at fast.now) (periods_after from k period) period))
         (IsLeast (λ k. IsBelowFor (value_at slow.now) (value_at fast.now) (periods_after from k period) period)) }
 {
     let end = sum(from, period);
@@ -90,11 +91,11 @@ pub fn side_periods(f: &Side, g: &Side, from: Frac, period: Frac) -> Option<u128
     Some(0)
 }
 
-/// The least number k of periods after which, for a period, the slower of two curves is nowhere above the faster; none where there
-/// is no such number, and 0 for curves of one rate. Where `from` is the time from which on both repeat and `period` their common
-/// period, it is the number of periods that their minimum needs, and their maximum and positive difference. Both repeat from `from`
-/// on with the period, and their numbers below from + period have the sizes z of a gauge below 2^120. No memory is taken and nothing
-/// is unrolled.
+/// The least number k of periods after which, for a period, the slower of two curves is nowhere above the faster;
+/// none where there is no such number, and 0 for curves of one rate. Where `from` is the time from which on both
+/// repeat and `period` their common period, it is the number of periods that their minimum needs, and their maximum
+/// and positive difference. Both repeat from `from` on with the period, and their numbers below from + period have
+/// the sizes z of a gauge below 2^120. No memory is taken and nothing is unrolled.
 pub fn least_periods(f: &Curve, g: &Curve, from: Frac, period: Frac) -> Option<u128>
     requires { (z : Sizes) × AreCompared z from period f.now g.now }
     ensures { MatchOption result

@@ -63,7 +63,8 @@ impl<'a> Side<'a> {
         requires { (z : Sizes) × (end : ℚ) × HasWindow z end self.now × IsTimeIn z end t }
         ensures goes { GoesOn (value_at self.now) t result }
         ensures times { (d : ℕ) → TimesStand d self.now → AtNext (Whole d) result.next }
-        ensures sizes { (z : Sizes) (end : ℚ) → HasWindow z end self.now → IsTimeIn z end t → OperandLineAt z result.line × GridValue z result.at }
+        ensures sizes { (z : Sizes) (end : ℚ) → HasWindow z end self.now → IsTimeIn z end t
+            → OperandLineAt z result.line × GridValue z result.at }
     {
         match self.shown {
             Shown::Curve(c) => stretch_at(c, t),

@@ -48,4 +48,5 @@ pub record AnswersFirst (negative zero_period : Type 0) (c : SpecCurve) (answer 
   pub below : negative → answer ≡ Err Negative
   pub empty : ¬ negative → zero_period → answer ≡ Err ZeroPeriod
   pub over : (limit : OverLimit) → Passes negative zero_period → IsOver c limit → answer ≡ Err (Op limit)
-  pub within : Passes negative zero_period → IsWithinOwn c → MatchResult answer (λ made. made ≡ c) (λ fault. fault ≡ NoMemory)
+  pub within : Passes negative zero_period → IsWithinOwn c
+      → MatchResult answer (λ made. made ≡ c) (λ fault. fault ≡ NoMemory)

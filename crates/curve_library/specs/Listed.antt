@@ -156,9 +156,12 @@ KeepsListed ps tail u (Ok made) = IsWellFormed ps tail × KeepsBoth u (listed_cu
 KeepsListed ps tail u (Err Negative) = ¬ (AreNonneg ps tail)
 KeepsListed ps tail u (Err ZeroPeriod) = AreNonneg ps tail × ¬ (HasLength tail)
 KeepsListed ps tail u (Err NotRising) =
-    (AreNonneg ps tail × HasLength tail × ¬ (AreInOrder ps tail)) ⊎ (IsWellFormed ps tail × KeepsBoth u (listed_curve ps tail) (Err NotRising))
-KeepsListed ps tail u (Err NotContinuous) = IsWellFormed ps tail × KeepsBoth u (listed_curve ps tail) (Err NotContinuous)
-KeepsListed ps tail u (Err NotZeroAtStart) = IsWellFormed ps tail × KeepsBoth u (listed_curve ps tail) (Err NotZeroAtStart)
+    (AreNonneg ps tail × HasLength tail × ¬ (AreInOrder ps tail))
+        ⊎ (IsWellFormed ps tail × KeepsBoth u (listed_curve ps tail) (Err NotRising))
+KeepsListed ps tail u (Err NotContinuous) = IsWellFormed ps tail
+    × KeepsBoth u (listed_curve ps tail) (Err NotContinuous)
+KeepsListed ps tail u (Err NotZeroAtStart) = IsWellFormed ps tail
+    × KeepsBoth u (listed_curve ps tail) (Err NotZeroAtStart)
 KeepsListed ps tail u (Err (Op limit)) = IsWellFormed ps tail × IsOver (listed_curve ps tail) limit
 KeepsListed ps tail u (Err NoMemory) = IsWellFormed ps tail × AllByRecursion LineFits ps
 
@@ -172,10 +175,14 @@ pub record ListsFirst (ps : List PieceText) (tail : Option TailText) (u : UseAs)
   pub empty : AreNonneg ps tail → ¬ (HasLength tail) → answer ≡ Err ZeroPeriod
   pub order : AreNonneg ps tail → HasLength tail → ¬ (AreInOrder ps tail) → answer ≡ Err NotRising
   pub wide : IsWellFormed ps tail → ¬ (AllByRecursion LineFits ps) → answer ≡ Err (Op TooWide)
-  pub over : (limit : OverLimit) → IsWellFormed ps tail → IsOver (listed_curve ps tail) limit → AnswersOrWants answer (Op limit)
-  pub falls : IsWellFormed ps tail → IsWithinOwn (listed_curve ps tail) → ¬ (IsRising (value_at (listed_curve ps tail))) → AnswersOrWants answer NotRising
-  pub jumps : IsWellFormed ps tail → IsWithinOwn (listed_curve ps tail) → Jumps u (value_at (listed_curve ps tail)) → AnswersOrWants answer NotContinuous
-  pub lifted : IsWellFormed ps tail → IsWithinOwn (listed_curve ps tail) → StartsAboveZero u (value_at (listed_curve ps tail)) → AnswersOrWants answer NotZeroAtStart
+  pub over : (limit : OverLimit) → IsWellFormed ps tail → IsOver (listed_curve ps tail) limit
+      → AnswersOrWants answer (Op limit)
+  pub falls : IsWellFormed ps tail → IsWithinOwn (listed_curve ps tail)
+      → ¬ (IsRising (value_at (listed_curve ps tail))) → AnswersOrWants answer NotRising
+  pub jumps : IsWellFormed ps tail → IsWithinOwn (listed_curve ps tail) → Jumps u (value_at (listed_curve ps tail))
+      → AnswersOrWants answer NotContinuous
+  pub lifted : IsWellFormed ps tail → IsWithinOwn (listed_curve ps tail)
+      → StartsAboveZero u (value_at (listed_curve ps tail)) → AnswersOrWants answer NotZeroAtStart
   pub within : IsWellFormed ps tail → IsWithinOwn (listed_curve ps tail) → HasShape u (value_at (listed_curve ps tail))
       → MatchResult answer (λ made. HasSameValues made (listed_curve ps tail)) (λ fault. fault ≡ NoMemory)
 

@@ -11,8 +11,8 @@ pub record IsQuotient (n by : ℕ) (p : ℕ × ℕ) : Type 0 where
   pub below : p.1 < by
   pub size : p.0 < 2 ^ 127
 
--- on the common grid of a time and a period: the grid's denominator, the period's numerator there, and how many whole periods lie in the time
--- are at most 2 ^ 127 - 1
+-- on the common grid of a time and a period: the grid's denominator, the period's numerator there, and how many whole
+-- periods lie in the time are at most 2 ^ 127 - 1
 pub record SharesFit (time period : ℚ) : Type 0 where
   pub grid : lcm (den time) (den period) < 2 ^ 127
   pub step : nat_abs period.num * (lcm (den time) (den period) / den period) < 2 ^ 127

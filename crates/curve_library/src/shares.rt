@@ -109,7 +109,8 @@ pub(crate) fn whole(n: u128) -> Frac
 
 /// The size of a fraction in steps of 1 / grid; None where it is 2^127 or more.
 fn numerator_on(x: Frac, grid: u128) -> Option<u128>
-    ensures { let n = nat_abs x.num * (grid / den x) in MatchOption result (2 ^ 127 ≤ n) (λ k. (k ≡ n) × (k < 2 ^ 127)) }
+    ensures { let n = nat_abs x.num * (grid / den x) in MatchOption result (2 ^ 127 ≤ n)
+        (λ k. (k ≡ n) × (k < 2 ^ 127)) }
 {
     match top_size(x).checked_mul(grid / x.denominator()) {
         Some(n) if n < PAST_LARGEST => Some(n),

@@ -1,5 +1,6 @@
--- The minimum, the maximum and the positive difference of two curves: which kind of call each is, what it makes of two values, and by how much it rises
--- over a common period. (Bouillard, Boyer and Le Corronc: from some time on the slower of two curves is below the faster.)
+-- The minimum, the maximum and the positive difference of two curves: which kind of call each is, what it makes of
+-- two values, and by how much it rises over a common period. (Bouillard, Boyer and Le Corronc: from some time on the
+-- slower of two curves is below the faster.)
 use Rattle.std.specs.Prelude.{◌≡◌, Bool, true, false, pos}
 use Rattle.rational.specs.Rational.{ℚ, ◌-ℚ◌, int}
 use Rattle.rational.specs.Extended.{Ext, ◌<ₑ◌, min_ext, max_ext}
@@ -39,7 +40,8 @@ pub record RisesBy (P : Type 0) (a b rise : ℚ) : Type 0 where
   pub so : P → rise ≡ a
   pub else : ¬ P → rise ≡ b
 
--- the rise over a common period: that of the slower, of the faster, or by how much the first is the faster; a and b are the operands' own
+-- the rise over a common period: that of the slower, of the faster, or by how much the first is the faster; a and b
+-- are the operands' own
 abbrev pub IsTailRise : Lattice → SpecCurve → SpecCurve → ℚ → ℚ → ℚ → Type 0
 IsTailRise Lower f g a b rise = RisesBy (rate g <ₑ rate f) b a rise
 IsTailRise Upper f g a b rise = RisesBy (rate f <ₑ rate g) b a rise

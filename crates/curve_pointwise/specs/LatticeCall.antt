@@ -36,4 +36,5 @@ pub record IsLatticeFrame (f g : SpecCurve) (r : Frame) : Type 0 where
   pub call : LatticeCall f g r.start r.period r.end number sizes
   pub times : r.times ≡ sizes.dt
   pub values : r.values ≡ grid_of sizes
-  pub enough : IsSlowerBelow (value_at f) (value_at g) (rate f) (rate g) (periods_after r.start number r.period) r.period
+  pub enough : IsSlowerBelow (value_at f) (value_at g) (rate f) (rate g)
+      (periods_after r.start number r.period) r.period

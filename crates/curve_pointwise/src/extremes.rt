@@ -15,9 +15,9 @@ use steps::Steps;
 use upp_curve::Curve;
 use upp_limits::OpFault;
 
-/// The lesser of two curves at each time from 0 on (Le Boudec and Thiran, chapter 3). One step is counted. Refused with TooWide
-/// or TooMany exactly where the call's gauge or tally is over that limit, or no number of periods orders the curves by their
-/// rates (TooWide); else only for want of memory.
+/// The lesser of two curves at each time from 0 on (Le Boudec and Thiran, chapter 3). One step is counted. Refused
+/// with TooWide or TooMany exactly where the call's gauge or tally is over that limit, or no number of periods orders
+/// the curves by their rates (TooWide); else only for want of memory.
 pub fn min<L: Ledger>(
     alloc: Global,
     f: &Curve,
@@ -25,13 +25,15 @@ pub fn min<L: Ledger>(
     steps: &mut Steps<L>,
 ) -> Result<Curve, OpFault>
     ensures count { steps.new ≡ steps.old + 1 }
-    ensures value { IfOk result (λ c. (t : ℚ) → int (pos 0) ≤ℚ t → IsMinimum (value_at f.now) (value_at g.now) t (value_at c t)) }
+    ensures value { IfOk result
+        (λ c. (t : ℚ) → int (pos 0) ≤ℚ t → IsMinimum (value_at f.now) (value_at g.now) t (value_at c t)) }
     ensures limits { KeepsLimits Min f.now g.now result }
 {
     made_of_curves(alloc, Lattice::Lower, f, g, steps)
 }
 
-/// The greater of two curves at each time from 0 on (Le Boudec and Thiran, chapter 3). One step is counted. Refused as `min`.
+/// The greater of two curves at each time from 0 on (Le Boudec and Thiran, chapter 3). One step is counted. Refused
+/// as `min`.
 pub fn max<L: Ledger>(
     alloc: Global,
     f: &Curve,
@@ -39,14 +41,15 @@ pub fn max<L: Ledger>(
     steps: &mut Steps<L>,
 ) -> Result<Curve, OpFault>
     ensures count { steps.new ≡ steps.old + 1 }
-    ensures value { IfOk result (λ c. (t : ℚ) → int (pos 0) ≤ℚ t → IsMaximum (value_at f.now) (value_at g.now) t (value_at c t)) }
+    ensures value { IfOk result
+        (λ c. (t : ℚ) → int (pos 0) ≤ℚ t → IsMaximum (value_at f.now) (value_at g.now) t (value_at c t)) }
     ensures limits { KeepsLimits Max f.now g.now result }
 {
     made_of_curves(alloc, Lattice::Upper, f, g, steps)
 }
 
-/// The greater of 0 and f - g at each time from 0 on, and 0 where g is infinite; f is finite (Le Boudec and Thiran, chapter 3).
-/// One step is counted. Refused as `min`.
+/// The greater of 0 and f - g at each time from 0 on, and 0 where g is infinite; f is finite (Le Boudec and Thiran,
+/// chapter 3). One step is counted. Refused as `min`.
 pub fn pos_diff<L: Ledger>(
     alloc: Global,
     f: &Curve,
@@ -55,7 +58,8 @@ pub fn pos_diff<L: Ledger>(
 ) -> Result<Curve, OpFault>
     requires { IsFinite (value_at f.now) }
     ensures count { steps.new ≡ steps.old + 1 }
-    ensures value { IfOk result (λ c. (t : ℚ) → int (pos 0) ≤ℚ t → IsPositiveDifference (value_at f.now) (value_at g.now) t (value_at c t)) }
+    ensures value { IfOk result
+        (λ c. (t : ℚ) → int (pos 0) ≤ℚ t → IsPositiveDifference (value_at f.now) (value_at g.now) t (value_at c t)) }
     ensures limits { KeepsLimits PosDiff f.now g.now result }
 {
     made_of_curves(alloc, Lattice::Excess, f, g, steps)

@@ -119,7 +119,8 @@ pub(crate) fn made_within(
 ) -> Result<Curve, AllocError>
     requires call { IsLatticeFrame f.now g.now frame.now }
     requires finite { FiniteFor of (value_at f.now) }
-    ensures { IfOk result (λ c. (t : ℚ) → int (pos 0) ≤ℚ t → value_at c t ≡ made_of of (value_at f.now t) (value_at g.now t)) }
+    ensures { IfOk result
+        (λ c. (t : ℚ) → int (pos 0) ≤ℚ t → value_at c t ≡ made_of of (value_at f.now t) (value_at g.now t)) }
 {
     let left = unrolled(f, frame.end)?;
     let right = unrolled(g, frame.end)?;
@@ -147,7 +148,8 @@ pub(crate) fn made_of_curves<L: Ledger>(
 ) -> Result<Curve, OpFault>
     requires { FiniteFor of (value_at f.now) }
     ensures count { steps.new ≡ steps.old + 1 }
-    ensures value { IfOk result (λ c. (t : ℚ) → int (pos 0) ≤ℚ t → value_at c t ≡ made_of of (value_at f.now t) (value_at g.now t)) }
+    ensures value { IfOk result
+        (λ c. (t : ℚ) → int (pos 0) ≤ℚ t → value_at c t ≡ made_of of (value_at f.now t) (value_at g.now t)) }
     ensures limits { KeepsLimits (kind_of of) f.now g.now result }
 {
     steps.tick();

@@ -84,9 +84,9 @@ fn minus_within(alloc: Global, f: &Curve, l: Frac, frame: &Frame) -> Result<Curv
     )
 }
 
-/// The greater of 0 and f - l at each time from 0 on; f is finite. One step is counted. Refused with TooWide or TooMany exactly
-/// where the call's gauge or tally is over that limit, or no number of periods orders f and the level by their rates (TooWide);
-/// else only for want of memory.
+/// The greater of 0 and f - l at each time from 0 on; f is finite. One step is counted. Refused with TooWide or
+/// TooMany exactly where the call's gauge or tally is over that limit, or no number of periods orders f and the level
+/// by their rates (TooWide); else only for want of memory.
 pub fn pos_minus<L: Ledger>(
     alloc: Global,
     f: &Curve,
@@ -95,7 +95,8 @@ pub fn pos_minus<L: Ledger>(
 ) -> Result<Curve, OpFault>
     requires { IsFinite (value_at f.now) }
     ensures count { steps.new ≡ steps.old + 1 }
-    ensures value { IfOk result (λ c. (t : ℚ) → int (pos 0) ≤ℚ t → IsPositiveMinus (value_at f.now) l t (value_at c t)) }
+    ensures value { IfOk result
+        (λ c. (t : ℚ) → int (pos 0) ≤ℚ t → IsPositiveMinus (value_at f.now) l t (value_at c t)) }
     ensures limits { KeepsLimits (PosMinus l) f.now f.now result }
 {
     steps.tick();

@@ -1,5 +1,5 @@
-//! Operators on curves whose answer at a time is made of the operands' values at one time: sum, minimum, maximum, positive
-//! difference of two, also with a level, multiple and shift.
+//! Operators on curves whose answer at a time is made of the operands' values at one time: sum, minimum, maximum,
+//! positive difference of two, also with a level, multiple and shift.
 #![tactic(auto)]
 
 mod extremes;

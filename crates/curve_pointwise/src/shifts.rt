@@ -121,9 +121,9 @@ fn shift_by(alloc: Global, f: &Curve, x: Frac) -> Result<Curve, OpFault>
     Ok(shift_within(alloc, f, x, &frame)?)
 }
 
-/// A curve as it is `by` later, at each time from 0 on; infinity everywhere where `by` is infinite (Le Boudec and Thiran,
-/// chapter 3). One step is counted. Refused with TooWide or TooMany exactly where the call's gauge or tally is over that limit,
-/// else only for want of memory.
+/// A curve as it is `by` later, at each time from 0 on; infinity everywhere where `by` is infinite (Le Boudec and
+/// Thiran, chapter 3). One step is counted. Refused with TooWide or TooMany exactly where the call's gauge or tally
+/// is over that limit, else only for want of memory.
 pub fn shift<L: Ledger>(
     alloc: Global,
     f: &Curve,

@@ -39,8 +39,9 @@ fn sum_within(alloc: Global, f: &Curve, g: &Curve, frame: &Frame) -> Result<Curv
     )
 }
 
-/// The sum of two curves at each time from 0 on, infinite where one is (Le Boudec and Thiran, chapter 3). One step is counted.
-/// Refused with TooWide or TooMany exactly where the call's gauge or tally is over that limit, else only for want of memory.
+/// The sum of two curves at each time from 0 on, infinite where one is (Le Boudec and Thiran, chapter 3). One step is
+/// counted. Refused with TooWide or TooMany exactly where the call's gauge or tally is over that limit, else only for
+/// want of memory.
 pub fn sum<L: Ledger>(
     alloc: Global,
     f: &Curve,
@@ -48,7 +49,8 @@ pub fn sum<L: Ledger>(
     steps: &mut Steps<L>,
 ) -> Result<Curve, OpFault>
     ensures count { steps.new ≡ steps.old + 1 }
-    ensures value { IfOk result (λ c. (t : ℚ) → int (pos 0) ≤ℚ t → IsSum (value_at f.now) (value_at g.now) t (value_at c t)) }
+    ensures value { IfOk result
+        (λ c. (t : ℚ) → int (pos 0) ≤ℚ t → IsSum (value_at f.now) (value_at g.now) t (value_at c t)) }
     ensures limits { KeepsLimits OpKind.Sum f.now g.now result }
 {
     steps.tick();

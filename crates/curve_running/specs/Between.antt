@@ -1,4 +1,5 @@
--- The supremum of a window between two times, piece by piece; nowhere below 0, so that 0 may stand for nothing seen. Own choice.
+-- The supremum of a window between two times, piece by piece; nowhere below 0, so that 0 may stand for nothing seen.
+-- Own choice.
 use Rattle.std.specs.Prelude.{◌≡◌, List, pos, ◌⊎◌}
 use Rattle.rational.specs.Rational.{ℚ, ◌≤ℚ◌, ◌<ℚ◌, int}
 use Rattle.rational.specs.Extended.{Ext, ◌≤ₑ◌, ◌<ₑ◌}

@@ -1,4 +1,5 @@
--- What the pieces of a scan are made of: levels, lines of the scanned pieces, and the times at which the two meet. Own choice.
+-- What the pieces of a scan are made of: levels, lines of the scanned pieces, and the times at which the two meet.
+-- Own choice.
 use Rattle.std.specs.Prelude.{◌≡◌, ◌*◌, ◌≤◌, Bool, true, false, List, [], ◌∷◌, length, Option, Some, None, IfSome, ◌⊎◌, pos}
 use Rattle.rational.specs.Rational.{ℚ, ◌≤ℚ◌, ◌<ℚ◌, int}
 use Rattle.rational.specs.declared.Extended.TheVariants.{Fin}
@@ -45,7 +46,8 @@ abbrev pub TurnsAfter : Bool → List Piece → Option Line → List Piece → T
 TurnsAfter rises ps last [] = Unit {0}
 TurnsAfter rises ps last (q ∷ qs) = (HasStart q.x ps ⊎ SlopeTurns rises last q.line) × TurnsAfter rises ps q.line qs
 
--- pieces from 0 on and before `end`, at most twice as many as ps has, each made of levels and lines of ps; all turns go one way
+-- pieces from 0 on and before `end`, at most twice as many as ps has, each made of levels and lines of ps; all turns
+-- go one way
 pub record IsScan (rises : Bool) (ps : List Piece) (end : ℚ) (qs : List Piece) : Type 0 where
   pub starts : StartsAtZero qs
   pub before : Each (λ q. q.x <ℚ end) qs

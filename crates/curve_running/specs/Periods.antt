@@ -1,4 +1,5 @@
--- From when on the running supremum of a curve repeats: where one whole period has passed all that comes before the curve itself repeats. Own choice.
+-- From when on the running supremum of a curve repeats: where one whole period has passed all that comes before the
+-- curve itself repeats. Own choice.
 use Rattle.std.specs.Prelude.{◌≡◌, ℕ, ◌<◌, ◌⊎◌, pos, List}
 use Rattle.rational.specs.Rational.{ℚ, ◌+ℚ◌, ◌-ℚ◌, ◌*ℚ◌, ◌/ℚ◌, neg_ℚ, ◌≤ℚ◌, ◌<ℚ◌, int}
 use Rattle.rational.specs.Ratio.{IsSmall, SumFits}
@@ -27,7 +28,8 @@ pub record CoverFits (early once rise : ℚ) : Type 0 where
   pub gap : SumFits early (neg_ℚ once)
   pub number : IsSmall ((early -ℚ once) /ℚ rise)
 
--- the pieces of a curve up to the end of its first period, and the steps that compare what comes before `start` with that period
+-- the pieces of a curve up to the end of its first period, and the steps that compare what comes before `start` with
+-- that period
 pub record IsFirstPeriod (ps : List Piece) (start period rise : ℚ) : Type 0 where
   pub window : IsWindow (start +ℚ period) ps
   pub fits : ScanFits (start +ℚ period) ps
@@ -38,7 +40,8 @@ pub record IsFirstPeriod (ps : List Piece) (start period rise : ℚ) : Type 0 wh
   pub rises : zero_q <ℚ rise
   pub nonneg : (t : ℚ) → zero_q ≤ℚ t → t <ℚ start +ℚ period → Fin zero_q ≤ₑ read ps t
   pub sum : SumFits start period
-  pub cover : (v w : ℚ) → IsLevelBetween (start +ℚ period) zero_q start ps v → IsLevelBetween (start +ℚ period) start (start +ℚ period) ps w → CoverFits v w rise
+  pub cover : (v w : ℚ) → IsLevelBetween (start +ℚ period) zero_q start ps v
+      → IsLevelBetween (start +ℚ period) start (start +ℚ period) ps w → CoverFits v w rise
 
 -- k periods on, the supremum of one period has reached that of all before `start`
 pub record IsCovering (f : ℚ → Ext) (start period rise : ℚ) (k : ℕ) : Type 0 where

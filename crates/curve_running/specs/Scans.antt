@@ -1,5 +1,5 @@
--- Finite pieces scanned one by one, up to an end: the stretches between their starts, the levels that are compared on the way,
--- and the bounds that come out. Own choice.
+-- Finite pieces scanned one by one, up to an end: the stretches between their starts, the levels that are compared on
+-- the way, and the bounds that come out. Own choice.
 use Rattle.std.specs.Prelude.{◌≡◌, ℕ, ◌+◌, List, [], ◌∷◌, drop, Some, ◌⊎◌, pos}
 use Rattle.rational.specs.Rational.{ℚ, ◌≤ℚ◌, ◌<ℚ◌, int}
 use Rattle.rational.specs.Extended.{Ext}
@@ -31,7 +31,8 @@ pub record IsWindow (end : ℚ) (ps : List Piece) : Type 0 where
 -- v is the value of a piece at its start, or the limit of its line there or at its end
 abbrev pub IsLevel : ℚ → List Piece → ℚ → Type 0
 IsLevel end [] v = ⊥
-IsLevel end (p ∷ ps) v = (p.at ≡ Fin v) ⊎ ((line_value p.line p.x ≡ Fin v) ⊎ ((line_value p.line (start_or end ps) ≡ Fin v) ⊎ IsLevel end ps v))
+IsLevel end (p ∷ ps) v = (p.at ≡ Fin v)
+    ⊎ ((line_value p.line p.x ≡ Fin v) ⊎ ((line_value p.line (start_or end ps) ≡ Fin v) ⊎ IsLevel end ps v))
 
 -- some piece has the line l
 abbrev pub HasLine : Line → List Piece → Type 0

@@ -19,7 +19,8 @@ fn highest_in(ps: &[Piece], i: usize, end: Frac, from: Frac, to: Frac) -> Frac
     requires window { IsWindow end ps.now }
     requires fits { ScanFits end ps.now }
     requires both { FitsAtBoth from to ps.now }
-    ensures highest { IsHighestIn (read ps.now) (start_or end (drop i ps.now)) (start_or end (drop (i + 1) ps.now)) from to result }
+    ensures highest { IsHighestIn (read ps.now) (start_or end (drop i ps.now))
+        (start_or end (drop (i + 1) ps.now)) from to result }
     ensures level { IsLevelBetween end from to ps.now result }
     ensures rises { start_or end (drop i ps.now) ≤ℚ start_or end (drop (i + 1) ps.now) }
 {

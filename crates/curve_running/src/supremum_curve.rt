@@ -77,9 +77,9 @@ fn supremum_after(alloc: Global, f: &Curve, k: u128) -> Result<Curve, OpFault>
 }
 
 /// The supremum of a curve over the times from 0 to each time, for a curve that is finite and nowhere below 0 (Le
-/// Boudec and Thiran, chapter 3). A limit that the curve does not take counts. The answer is finite. One step is counted.
-/// Refused with TooWide or TooMany exactly where the call's gauge or tally is over that limit, else only for want of
-/// memory.
+/// Boudec and Thiran, chapter 3). A limit that the curve does not take counts. The answer is finite. One step is
+/// counted. Refused with TooWide or TooMany exactly where the call's gauge or tally is over that limit, else only for
+/// want of memory.
 pub fn run_sup<L: Ledger>(alloc: Global, f: &Curve, steps: &mut Steps<L>) -> Result<Curve, OpFault>
     requires finite { IsFinite (value_at f.now) }
     requires nonneg { IsNonnegative (value_at f.now) }

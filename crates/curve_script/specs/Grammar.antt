@@ -43,7 +43,8 @@ expression_tokens (OfPair k x y) = key (TwoNumbers k) ∷ Mark Open ∷ Word x �
 expression_tokens (OfTriple k x y z) =
     key (ThreeNumbers k) ∷ Mark Open ∷ Word x ∷ Mark Comma ∷ Word y ∷ Mark Comma ∷ Word z ∷ Mark Close ∷ []
 expression_tokens (OnCurve k e) = key (OneCurve k) ∷ Mark Open ∷ (expression_tokens e ++ Mark Close ∷ [])
-expression_tokens (OnNumber k e x) = key (CurveAndNumber k) ∷ Mark Open ∷ (expression_tokens e ++ Mark Comma ∷ Word x ∷ Mark Close ∷ [])
+expression_tokens (OnNumber k e x) = key (CurveAndNumber k) ∷ Mark Open ∷
+    (expression_tokens e ++ Mark Comma ∷ Word x ∷ Mark Close ∷ [])
 expression_tokens (OnTwo k a b) =
     key (TwoCurves k) ∷ Mark Open ∷ (expression_tokens a ++ Mark Comma ∷ (expression_tokens b ++ Mark Close ∷ []))
 
@@ -120,7 +121,8 @@ abbrev pub numbers_read : Expression (List ℕ) → Option (Expression ℚ)
 numbers_read (Named w) = Some (Named w)
 numbers_read Nought = Some Nought
 numbers_read (OfPair k x y) = both (λ p q. OfPair k p q) (number_in x) (number_in y)
-numbers_read (OfTriple k x y z) = both (λ (p : ℚ × ℚ) r. OfTriple k p.0 p.1 r) (both (λ p q. (p, q)) (number_in x) (number_in y)) (number_in z)
+numbers_read (OfTriple k x y z) = both
+    (λ (p : ℚ × ℚ) r. OfTriple k p.0 p.1 r) (both (λ p q. (p, q)) (number_in x) (number_in y)) (number_in z)
 numbers_read (OnCurve k e) = option_map (λ f. OnCurve k f) (numbers_read e)
 numbers_read (OnNumber k e x) = both (λ f p. OnNumber k f p) (numbers_read e) (number_in x)
 numbers_read (OnTwo k a b) = both (λ f g. OnTwo k f g) (numbers_read a) (numbers_read b)

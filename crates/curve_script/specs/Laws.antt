@@ -21,4 +21,5 @@ TextIsOne = (text : List ℕ) (a b : List Numbered) → IsScript text a → IsSc
 
 -- and no script where it has a fault
 abbrev pub FaultExcludesScript : Type 0
-FaultExcludesScript = (text : List ℕ) (out : List Numbered) (kind : LangKind) (at : ℕ) → IsScript text out → IsFirstFault text kind at → ⊥
+FaultExcludesScript = (text : List ℕ) (out : List Numbered) (kind : LangKind) (at : ℕ) → IsScript text out
+    → IsFirstFault text kind at → ⊥

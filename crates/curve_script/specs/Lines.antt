@@ -43,7 +43,8 @@ pub record Spells (line : List ℕ) (s : Statement ℚ) : Type 0 where
 abbrev pub HasFault : LangKind → List ℕ → Type 0
 HasFault C1 line = is_plain line ≡ false
 HasFault C2 line = (is_plain line ≡ true) × ((draft : Statement (List ℕ)) → IsDraft line draft → ⊥)
-HasFault C3 line = (is_plain line ≡ true) × ((draft : Statement (List ℕ)) × IsDraft line draft × (numbers_read_in draft ≡ None))
+HasFault C3 line = (is_plain line ≡ true)
+    × ((draft : Statement (List ℕ)) × IsDraft line draft × (numbers_read_in draft ≡ None))
 HasFault C4 line = (s : Statement ℚ) × Spells line s × (deepest < depth_in s)
 HasFault C5 line = ⊥
 HasFault C6 line = ⊥

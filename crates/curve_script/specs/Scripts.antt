@@ -34,7 +34,8 @@ IsNext n k line later (x ∷ out) = (x.0 ≡ n) × (k < most) × IsLine line x.1
 -- the statements of these lines in order, the first of which has the number n, behind k other statements
 abbrev pub IsScriptFrom : ℕ → ℕ → List (List ℕ) → List Numbered → Type 0
 IsScriptFrom n k [] out = out ≡ []
-IsScriptFrom n k (l ∷ ls) out = MatchBool (is_skipped l) (IsScriptFrom (suc n) k ls out) (IsNext n k l (IsScriptFrom (suc n) (suc k) ls) out)
+IsScriptFrom n k (l ∷ ls) out = MatchBool (is_skipped l) (IsScriptFrom (suc n) k ls out)
+    (IsNext n k l (IsScriptFrom (suc n) (suc k) ls) out)
 
 abbrev pub IsScript : List ℕ → List Numbered → Type 0
 IsScript text out = IsScriptFrom 1 0 (lines_of text) out
@@ -62,7 +63,8 @@ out_of_memory = record { kind = NoMemory; line = 0 }
 -- ---- one line after another
 -- what a line adds
 abbrev pub Adds : ℕ → List ℕ → List Numbered → List Numbered → Type 0
-Adds n line old new = MatchBool (is_skipped line) (new ≡ old) ((s : Statement ℚ) × (new ≡ old ++ (n, s) ∷ []) × IsLine line s × (length old < most))
+Adds n line old new = MatchBool (is_skipped line) (new ≡ old)
+    ((s : Statement ℚ) × (new ≡ old ++ (n, s) ∷ []) × IsLine line s × (length old < most))
 
 abbrev pub Refuses : ℕ → ℕ → List ℕ → LangFault → Type 0
 Refuses n k line e = (is_skipped line ≡ false) × (e.line ≡ n) × IsWrong k e.kind line

@@ -28,11 +28,15 @@ behind_curve words.Value = None
 behind_curve (words.AskOne q) = None
 behind_curve (words.AskTwo q) = None
 behind_curve words.Zero = Some []
-behind_curve (words.TwoNumbers k) = Some (Signed signs.Open ∷ Number ∷ Signed signs.Comma ∷ Number ∷ Signed signs.Close ∷ [])
-behind_curve (words.ThreeNumbers k) = Some (Signed signs.Open ∷ Number ∷ Signed signs.Comma ∷ Number ∷ Signed signs.Comma ∷ Number ∷ Signed signs.Close ∷ [])
+behind_curve (words.TwoNumbers k) = Some
+    (Signed signs.Open ∷ Number ∷ Signed signs.Comma ∷ Number ∷ Signed signs.Close ∷ [])
+behind_curve (words.ThreeNumbers k) = Some
+    (Signed signs.Open ∷ Number ∷ Signed signs.Comma ∷ Number ∷ Signed signs.Comma ∷ Number ∷ Signed signs.Close ∷ [])
 behind_curve (words.OneCurve k) = Some (Signed signs.Open ∷ Curve ∷ Signed signs.Close ∷ [])
-behind_curve (words.CurveAndNumber k) = Some (Signed signs.Open ∷ Curve ∷ Signed signs.Comma ∷ Number ∷ Signed signs.Close ∷ [])
-behind_curve (words.TwoCurves k) = Some (Signed signs.Open ∷ Curve ∷ Signed signs.Comma ∷ Curve ∷ Signed signs.Close ∷ [])
+behind_curve (words.CurveAndNumber k) = Some
+    (Signed signs.Open ∷ Curve ∷ Signed signs.Comma ∷ Number ∷ Signed signs.Close ∷ [])
+behind_curve (words.TwoCurves k) = Some
+    (Signed signs.Open ∷ Curve ∷ Signed signs.Comma ∷ Curve ∷ Signed signs.Close ∷ [])
 
 -- and behind one that begins a statement
 abbrev pub behind_statement : Keyword → Option (List Symbol)

@@ -80,9 +80,10 @@ fn take_line(
     }
 }
 
-/// The script that a text is: its statements, each with the number of its line; lines that are blank or begin with `#` are
-/// skipped. Refused by its first line with a fault, and by the least of C1 to C4 in that line; else only for want of
-/// memory, with line 0. Parentheses may nest at most 64 deep, and so do the calls. (The language is own choice.)
+/// The script that a text is: its statements, each with the number of its line; lines that are blank or begin with
+/// `#` are skipped. Refused by its first line with a fault, and by the least of C1 to C4 in that line; else only for
+/// want of memory, with line 0. Parentheses may nest at most 64 deep, and so do the calls. (The language is own
+/// choice.)
 pub fn parse_script(alloc: Global, text: &[u8]) -> Result<Script, LangFault>
     requires { length text.now ≤ 1048576 }
     ensures ok { IfOk result (λ script. IsScript text.now (map line_view script.lines.items)) }

@@ -1,4 +1,5 @@
--- How two lines lie on an open stretch: which is nowhere above the other, and where they change places. No line is infinity. Own choice.
+-- How two lines lie on an open stretch: which is nowhere above the other, and where they change places. No line is
+-- infinity. Own choice.
 use Rattle.std.specs.Prelude.{◌≡◌, Bool, true, false, Option, Some, None}
 use Rattle.rational.specs.Rational.{ℚ, ◌<ℚ◌}
 use Rattle.rational.specs.Extended.{◌≤ₑ◌}

@@ -21,8 +21,8 @@ pub record LinesFitAt (x : ℚ) (l m : Option Line) : Type 0 where
   pub apart : LineFitsAt x (line_apart l m)
   pub zero : LineFitsAt x (Some zero_line)
 
--- a stretch starts before the end; the differences of its values and of its lines fit, the time at which these meet, and
--- their values there
+-- a stretch starts before the end; the differences of its values and of its lines fit, the time at which these meet,
+-- and their values there
 pub record LowerStepsFit (end : ℚ) (b : Both) : Type 0 where
   pub early : b.left.x <ℚ end
   pub value : ValueApartFits b.left.at b.right.at

@@ -1,5 +1,6 @@
--- What is made of two windows at one time: the lower, the upper, or what the first has above the second; and pieces of it, of each stretch on which
--- both go on with one line. (Le Boudec and Thiran, chapter 3; the pieces are our own choice.)
+-- What is made of two windows at one time: the lower, the upper, or what the first has above the second; and pieces
+-- of it, of each stretch on which both go on with one line. (Le Boudec and Thiran, chapter 3; the pieces are our own
+-- choice.)
 use Rattle.std.specs.Prelude.{◌≡◌, Bool, true, false, pos, not, List, [], ◌∷◌, Option, Some, None}
 use Rattle.rational.specs.Rational.{ℚ, ◌-ℚ◌, ◌<ℚ◌, neg_ℚ, int}
 use Rattle.rational.specs.Ratio.{SumFits}
@@ -87,7 +88,8 @@ listed parts rest = parts.first ∷ turn_listed parts.turn rest
 abbrev pub AreMade : Made → List Both → ℚ → List Piece → Type 0
 AreMade k [] end ps = ps ≡ []
 AreMade k (b ∷ bs) end ps =
-    (parts : Parts) × IsParts k b (next_start bs end) parts × ((rest : List Piece) × (ps ≡ listed parts rest) × AreMade k bs end rest)
+    (parts : Parts) × IsParts k b (next_start bs end) parts
+        × ((rest : List Piece) × (ps ≡ listed parts rest) × AreMade k bs end rest)
 
 -- ---- steps that fit
 abbrev pub ValueApartFits : Ext → Ext → Type 0
@@ -105,4 +107,5 @@ pub record StretchMadeFits (end : ℚ) (b : Both) : Type 0 where
   pub value : ValueApartFits b.left.at b.right.at
   pub line : LineApartFits b.left.line b.right.line
   pub cross : CrossFits b.left.line b.right.line
-  pub turn : (k : Made) (rises below : Bool) (x : ℚ) → CrossesAt rises b.left.line b.right.line x → b.left.x <ℚ x → x <ℚ end → LineFitsAt x (made_line k below b.left.line b.right.line)
+  pub turn : (k : Made) (rises below : Bool) (x : ℚ) → CrossesAt rises b.left.line b.right.line x → b.left.x <ℚ x
+      → x <ℚ end → LineFitsAt x (made_line k below b.left.line b.right.line)

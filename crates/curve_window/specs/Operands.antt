@@ -1,4 +1,5 @@
--- What is promised of the windows that are made of two operands' windows: of the lower, the upper, and what the first has above the second. Own choice.
+-- What is promised of the windows that are made of two operands' windows: of the lower, the upper, and what the first
+-- has above the second. Own choice.
 use Rattle.std.specs.Prelude.{◌≡◌, ◌+◌, ◌*◌, ◌≤◌, Bool, pos, List, length}
 use Rattle.rational.specs.Rational.{ℚ, ◌≤ℚ◌, ◌<ℚ◌, int}
 use Rattle.rational.specs.Extended.{Ext}
@@ -20,8 +21,9 @@ pub record AreOperands (z : Sizes) (end : ℚ) (f g : List Piece) : Type 0 where
 abbrev pub HaveSizes : ℚ → List Piece → List Piece → Type 0
 HaveSizes end f g = (z : Sizes) × AreOperands z end f g
 
--- before `end` the pieces ps, from 0 on, read as `made` of the readings of f and g; with the call's sizes they have room, and starts that are not on its
--- grid of times are bends, where the slope rises (true), or falls (false); two for each piece of f and g at most
+-- before `end` the pieces ps, from 0 on, read as `made` of the readings of f and g; with the call's sizes they have
+-- room, and starts that are not on its grid of times are bends, where the slope rises (true), or falls (false); two
+-- for each piece of f and g at most
 pub record IsMadeOf (made : Ext → Ext → Ext) (rises : Bool) (f g : List Piece) (end : ℚ) (ps : List Piece) : Type 0 where
   pub starts : StartsAtZero ps
   pub reads : (t : ℚ) → int (pos 0) ≤ℚ t → t <ℚ end → read ps t ≡ made (read f t) (read g t)

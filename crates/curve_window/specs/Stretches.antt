@@ -1,5 +1,5 @@
--- Two windows read together: at each start of either, both are cut, so that up to the next one each goes on with one line.
--- A window is a list of pieces from 0 on, read up to some end. Own choice.
+-- Two windows read together: at each start of either, both are cut, so that up to the next one each goes on with one
+-- line. A window is a list of pieces from 0 on, read up to some end. Own choice.
 use Rattle.std.specs.Prelude.{◌≡◌, ◌+◌, ◌≤◌, pos, List, [], ◌∷◌, length, Option, None, ◌⊎◌}
 use Rattle.rational.specs.Rational.{ℚ, ◌≤ℚ◌, int}
 use Rattle.affine_segment.specs.declared.line.Line.{Line}

@@ -11,8 +11,8 @@ use affine_segment::Piece;
 use fraction128::Frac;
 use std::alloc::{AllocError, Global};
 
-/// The lower of two windows at each time from 0 on and before `end`, where the steps of their stretches fit. Only a lack
-/// of memory is an error.
+/// The lower of two windows at each time from 0 on and before `end`, where the steps of their stretches fit. Only a
+/// lack of memory is an error.
 pub fn window_lower(
     alloc: Global,
     f: &[Piece],

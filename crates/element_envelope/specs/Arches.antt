@@ -1,5 +1,6 @@
--- Functions that bend only downwards between the times of a grid: there the value in the middle of two times is at least the mean of both. The least
--- of such functions is one again, so it tells bends apart from what a period may repeat. Own choice.
+-- Functions that bend only downwards between the times of a grid: there the value in the middle of two times is at
+-- least the mean of both. The least of such functions is one again, so it tells bends apart from what a period may
+-- repeat. Own choice.
 use Rattle.std.specs.Prelude.{ℕ, pos}
 use Rattle.rational.specs.Rational.{ℚ, ◌+ℚ◌, ◌-ℚ◌, ◌≤ℚ◌, ◌<ℚ◌, int}
 use Rattle.rational.specs.Grid.{Whole}
@@ -9,7 +10,8 @@ use Rattle.rational.specs.Extended.{Ext, ◌≤ₑ◌, ◌+ₑ◌}
 abbrev pub IsBare : ℕ → ℚ → ℚ → Type 0
 IsBare T low high = (t : ℚ) → low <ℚ t → t <ℚ high → ¬ (Whole T t)
 
--- y and the times h before and after it lie strictly between `low` and `high`, with no time of the grid; from 0 on and up to `end`
+-- y and the times h before and after it lie strictly between `low` and `high`, with no time of the grid; from 0 on
+-- and up to `end`
 pub record IsAround (T : ℕ) (end low high y h : ℚ) : Type 0 where
   pub bare : IsBare T low high
   pub nonneg : int (pos 0) ≤ℚ low

@@ -24,8 +24,8 @@ pub record EnvelopeRoom (end : ℚ) (xs ys : List Element) : Type 0 where
   pub left : (e : Element) → Among e xs → OperandElement sizes end e
   pub right : (e : Element) → Among e ys → OperandElement sizes end e
 
--- pieces from 0 on that read, before the end, as the least of all pairs; they stand where what elements make stands, and bend only
--- downwards between the times of the grid
+-- pieces from 0 on that read, before the end, as the least of all pairs; they stand where what elements make stands,
+-- and bend only downwards between the times of the grid
 pub record IsEnvelopeWindow (end : ℚ) (xs ys : List Element) (ps : List Piece) : Type 0 where
   pub starts : StartsAtZero ps
   pub reads : (t : ℚ) → int (pos 0) ≤ℚ t → t <ℚ end → IsEnvelope xs ys t (read ps t)

@@ -20,5 +20,6 @@ ElementsStand =
 -- the parts of what two such elements make
 abbrev pub JoinedStand : Type 0
 JoinedStand =
-    (z : Sizes) (end : ℚ) (a b : Element) (j : Joined) → AreLimited z end → OperandElement z end a → OperandElement z end b
+    (z : Sizes) (end : ℚ) (a b : Element) (j : Joined) → AreLimited z end → OperandElement z end a
+        → OperandElement z end b
     → AreParts a b j → SumJoined z end j

@@ -10,8 +10,8 @@ use fraction128::Frac;
 use rational::Extended;
 use std::alloc::{AllocError, Global};
 
-/// The convolution of two operands, at each time from 0 on and before `end`, as pieces, from the operands' unrolled pieces
-/// below `end`. Only a lack of memory is an error.
+/// The convolution of two operands, at each time from 0 on and before `end`, as pieces, from the operands' unrolled
+/// pieces below `end`. Only a lack of memory is an error.
 pub fn window_convolution(
     alloc: Global,
     f: &[Piece],

@@ -21,7 +21,8 @@ fn next_start(pieces: &[Piece], i: usize, end: &Ext) -> Ext
 
 // Appends the elements of a piece that ends at `next`.
 fn push_elements(elements: &mut Vec<Element>, p: &Piece, next: Ext) -> Result<(), AllocError>
-    ensures { OnOk result (elements.new.items ≡ elements.old.items ++ (point_of p.now.x p.now.at ++ segment_of p.now.x next p.now.line)) }
+    ensures { OnOk result
+        (elements.new.items ≡ elements.old.items ++ (point_of p.now.x p.now.at ++ segment_of p.now.x next p.now.line)) }
 {
     if let Extended::Fin(v) = p.at {
         elements.push(Element::Point { x: p.x, v })?;

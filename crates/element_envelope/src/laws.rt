@@ -23,8 +23,8 @@ pub fn pairs_convolve()
     ensures curves { PairsConvolveCurves }
 {}
 
-/// The elements of an operand's pieces stand on the grids of its call and within its sizes, and so does what two of them
-/// make.
+/// The elements of an operand's pieces stand on the grids of its call and within its sizes, and so does what two of
+/// them make.
 pub fn elements_have_room()
     ensures elements { ElementsStand }
     ensures joined { JoinedStand }

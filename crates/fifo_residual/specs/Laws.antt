@@ -1,5 +1,5 @@
--- What a flow of a first in, first out queue is served. (Le Boudec and Thiran, section 6.4. Any theta from 0 on is right; the
--- horizontal deviation of the others' curve and the service is this project's choice.)
+-- What a flow of a first in, first out queue is served. (Le Boudec and Thiran, section 6.4. Any theta from 0 on is
+-- right; the horizontal deviation of the others' curve and the service is this project's choice.)
 use Rattle.std.specs.Prelude.{ℕ, pos, List}
 use Rattle.rational.specs.Rational.{ℚ, int, ◌≤ℚ◌}
 use Rattle.rational.specs.Extended.{Ext, ◌≤ₑ◌}
@@ -17,6 +17,8 @@ IsResidual β cross θ R = (t : ℚ) → int (pos 0) ≤ℚ t → IsFifoLeftover
 
 -- the queue Q is the flow f and the others, which keep the curve `cross`
 abbrev pub FifoServes : Type 0
-FifoServes = (server : Server) (end : ℚ) (view : List ServerStep) (Q f others : Class) (queue : ℕ) (β cross R : ℚ → Ext) (θ : Ext) →
-    IsLawfulView server end view → IsOfQueue Q queue → AreParts Q f others → KeepsArrivals others cross view → Serves Q β end view →
+FifoServes = (server : Server) (end : ℚ) (view : List ServerStep) (Q f others : Class) (queue : ℕ)
+    (β cross R : ℚ → Ext) (θ : Ext) →
+    IsLawfulView server end view → IsOfQueue Q queue → AreParts Q f others → KeepsArrivals others cross view
+        → Serves Q β end view →
     Fin (int (pos 0)) ≤ₑ θ → IsResidual β cross θ R → Serves f R end view

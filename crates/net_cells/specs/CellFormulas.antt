@@ -75,7 +75,8 @@ hop_delay_cells net i = map (cell_of HopDelay i) (range_with_len 0 (hops net i))
 -- ---- all kinds
 abbrev pub formula_of : Net → Kind → ℕ → ℕ → Formula
 formula_of net In i k = arriving net i k
-formula_of net Cross i k = sum_of_cells (map (at_visit In) (others net i (server_of_hop net i k) (queue_of_hop net i k)))
+formula_of net Cross i k = sum_of_cells
+    (map (at_visit In) (others net i (server_of_hop net i k) (queue_of_hop net i k)))
 formula_of net Total s q = sum_of_cells (map (at_visit In) (visits_in net s q))
 formula_of net Higher s q = higher s q
 formula_of net QueueService s q = queue_service net s q (discipline net s)
@@ -84,7 +85,8 @@ formula_of net Residual i k = leftover (service_at net i k) (value Cross i k) (v
 formula_of net QueueDelay s q = horizontal (value Total s q) (value QueueService s q)
 formula_of net QueueBacklog s q = vertical (value Total s q) (less (value QueueService s q) (longest net s q))
 formula_of net HopDelay i k =
-    smaller (value QueueDelay (server_of_hop net i k) (queue_of_hop net i k)) (horizontal (value In i k) (value Residual i k))
+    smaller (value QueueDelay (server_of_hop net i k) (queue_of_hop net i k))
+        (horizontal (value In i k) (value Residual i k))
 formula_of net ShiftOut i k = moved (value In i k) (value HopDelay i k)
 formula_of net DeconvOut i k = made Deconvolve (value In i k) (less (value Residual i k) (packet net i))
 formula_of net Out i k = made Min (value ShiftOut i k) (value DeconvOut i k)

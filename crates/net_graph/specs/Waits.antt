@@ -15,7 +15,8 @@ list_at lists server = slice_index_or lists server []
 abbrev pub AreBelow : ℕ → List (List ℕ) → Type 0
 AreBelow n lists = (server other : ℕ) → Contains (list_at lists server) other → other < n
 
--- the new lists have what the old ones have, and the steps among the first places of a path: at each server those before it
+-- the new lists have what the old ones have, and the steps among the first places of a path: at each server those
+-- before it
 pub record AddsSteps (old new : List (List ℕ)) (path : List ℕ) : Type 0 where
   pub count : length new ≡ length old
   pub only : (a b : ℕ) → Contains (list_at new b) a → Contains (list_at old b) a ⊎ IsStep path a b

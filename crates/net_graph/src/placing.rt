@@ -42,8 +42,8 @@ impl<T: Drop> From<AllocFailed<T>> for GraphFault {
 }
 
 /// The servers of a network, each after those that some live flow passes right before it: at each turn the least one
-/// whose predecessors are all placed. There is one such order, unless the network has a cycle, which is then the answer.
-/// Linear in the hops of all flows, and at each turn one look at each server.
+/// whose predecessors are all placed. There is one such order, unless the network has a cycle, which is then the
+/// answer. Linear in the hops of all flows, and at each turn one look at each server.
 pub fn order(alloc: Global, net: &Network) -> Result<Vec<u32>, GraphFault>
     ensures order { IfOk result (λ v. IsOrder net.now v.items) }
     ensures fault { IfErr result (IsGraphFault net.now) }

@@ -1,4 +1,5 @@
--- What the laws of runs need to know of a network. (Le Boudec and Thiran; that work may be at any pace is our own choice.)
+-- What the laws of runs need to know of a network. (Le Boudec and Thiran; that work may be at any pace is our own
+-- choice.)
 use Rattle.std.specs.Prelude.{ℕ, List, [], ◌∷◌, map, Option, Some, None, true, false}
 use Rattle.rational.specs.Rational.{ℚ}
 use Rattle.run_laws.specs.Servers.{Server}

@@ -15,7 +15,8 @@ pub record NetServer : Type 0 where
   pub link : ℚ
   pub discipline : Discipline
 
--- a flow: its name as bytes, the servers on its way and its queue at each, its longest packet in bits, and its arrival curve
+-- a flow: its name as bytes, the servers on its way and its queue at each, its longest packet in bits, and its
+-- arrival curve
 pub record NetFlow : Type 0 where
   pub name : List ℕ
   pub path : List ℕ

@@ -1,4 +1,5 @@
--- The order in which the servers of a network are taken: at each turn the least of those that wait for none. (Own choice.)
+-- The order in which the servers of a network are taken: at each turn the least of those that wait for none. (Own
+-- choice.)
 use Rattle.std.specs.Prelude.{◌≡◌, ℕ, ◌<◌, List, length, take, slice_index, Contains}
 use Rattle.upp_limits.specs.Windows.{IsLeast}
 use Rattle.net_model.specs.Networks.{Net}

@@ -9,8 +9,8 @@ pub struct PathEntry {
     pub queue: u32,
 }
 
-/// One change of a network. Numbers stand as they were asked for, of any sign and size: which of them a network takes is
-/// decided where the edit is made. Names are bytes of any length. (Own choice.)
+/// One change of a network. Numbers stand as they were asked for, of any sign and size: which of them a network takes
+/// is decided where the edit is made. Names are bytes of any length. (Own choice.)
 #[derive(Debug, Drop)]
 pub enum Edit {
     /// A server's rate, in bits a unit of time. The service curve of a latency or gate server follows.

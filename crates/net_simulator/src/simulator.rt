@@ -22,7 +22,8 @@ pub fn simulate(alloc: Global, net: &Network, trace: &Trace) -> Result<SimRun, S
     requires named { IsTraceOf net.now trace.now }
     requires free { IsFeedForward net.now }
     ensures stated { IfOk result (λ v. IsSimulated (setup_of net.now trace.now) v.run) }
-    ensures worst { IfOk result (λ v. AreWorst (routes_of net.now) v.run.end v.run.steps (length net.now.flows) v.worst.items) }
+    ensures worst { IfOk result
+        (λ v. AreWorst (routes_of net.now) v.run.end v.run.steps (length net.now.flows) v.worst.items) }
     ensures peaks { IfOk result (λ v. ArePeaks (routes_of net.now) v.run (rows_of v.peaks.items)) }
     ensures refused { IsErrOf result SimFault.TooWide ↔ (2 ^ 120 ≤ simulation_gauge net.now trace.now) }
 {

@@ -14,9 +14,9 @@ use subadd_closure::close;
 use upp_curve::Curve;
 use upp_limits::OpFault;
 
-/// The subadditive closure of a finite curve that is nowhere below 0, by the fold of the closures of its parts, and then
-/// that fold is over no limit; refused for the limit that the fold is over, or where there is no memory. It takes at
-/// most a step an operator of the fold.
+/// The subadditive closure of a finite curve that is nowhere below 0, by the fold of the closures of its parts, and
+/// then that fold is over no limit; refused for the limit that the fold is over, or where there is no memory. It
+/// takes at most a step an operator of the fold.
 pub(crate) fn closed<L: Ledger>(
     alloc: Global,
     f: &Curve,

@@ -44,10 +44,10 @@ fn network_of<L: Ledger>(
 }
 
 /// The network that the bytes of a file give, or its first fault: of its tables in their order, and past them of the
-/// first curve that is over a limit, services of servers in order, then arrivals of flows, each before its closure, which
-/// is over the limit that the first operator of its fold is over.
-/// It takes at most a step for each operator of the folds of the closures that the file asks for.
-/// Only where an allocation was refused the kind is `NoMemory`, with no place.
+/// first curve that is over a limit, services of servers in order, then arrivals of flows, each before its closure,
+/// which is over the limit that the first operator of its fold is over. It takes at most a step for each operator of
+/// the folds of the closures that the file asks for. Only where an allocation was refused the kind is `NoMemory`,
+/// with no place.
 pub fn read_network<L: Ledger>(
     alloc: Global,
     text: &[u8],

@@ -107,7 +107,8 @@ fn least_of(f: &Curve, g: &Curve, from: i128, period: Frac) -> Option<Option<u12
 
 #[test]
 fn straight_lines(rt: HostRuntime) -> Result<(), Fail> {
-    // burst and rate of the one and of the other, over which denominator the rates are, and the number of periods of length 1
+    // burst and rate of the one and of the other, over which denominator the rates are, and the number of periods of
+    // length 1
     for (burst, rate, other_burst, other_rate, over, periods) in [
         (1, 0, 0, 1, 1 << 30, 1 << 30),
         (3, 1, 0, 2, 1, 3),

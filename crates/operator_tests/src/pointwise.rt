@@ -57,7 +57,8 @@ fn steps_of(alloc: Global, at: i128, period: Frac) -> Result<Curve, OpFault> {
     curve(alloc, &[line_piece(0, at, 1, 0)], tail)
 }
 
-// The sum, the lesser and the greater of 1 + floor (t / 2) and 1 + floor (t / 3), which is 4 more at whole multiples of 3.
+// The sum, the lesser and the greater of 1 + floor (t / 2) and 1 + floor (t / 3), which is 4 more at whole multiples
+// of 3.
 fn of_steps<L: Ledger>(alloc: Global, blank: Blank, t: Frac) -> Result<[Option<Frac>; 3], OpFault>
     requires name { blank.name ≡ L.name }
     requires parts { blank.parts ≡ L.parts }

@@ -15,7 +15,8 @@ use Rattle.sim_loop.specs.Moves.{HasTurned}
 
 -- the stalls that the stations keep are times of the grid
 abbrev pub HaveStallTimes : ℕ → ℚ → List Station → Type 0
-HaveStallTimes D E stations = (s : ℕ) (x : Station) → slice_get stations s ≡ Some x → AreStallTimes D E (opening_for x.opening).stalls
+HaveStallTimes D E stations = (s : ℕ) (x : Station) → slice_get stations s ≡ Some x
+    → AreStallTimes D E (opening_for x.opening).stalls
 
 -- the setup's numbers have room, and the simulator keeps the state of its stated run after these steps
 pub record IsSimulating (S : Setup) (stations : List Station) (links : Chains) (arrivals : List Arrival) (entered : ℕ) (steps : List Step) : Type 0 where

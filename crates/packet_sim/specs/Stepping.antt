@@ -12,15 +12,18 @@ use Rattle.packet_sim.specs.Simulating.{IsSimulating, IsFirstDue, IsTurning}
 
 -- it is the simulation of this network and this trace
 abbrev pub Simulates : Net → SpecTrace → Simulation → Type 0
-Simulates net trace v = IsSimulating (setup_of net trace) v.stations.items v.links v.arrivals.items v.entered v.steps.items
+Simulates net trace v = IsSimulating
+    (setup_of net trace) v.stations.items v.links v.arrivals.items v.entered v.steps.items
 
 -- and this is due first
 abbrev pub ComesNext : Net → SpecTrace → Simulation → Due → Type 0
-ComesNext net trace v d = IsFirstDue (setup_of net trace) v.stations.items v.links v.arrivals.items v.entered v.steps.items d
+ComesNext net trace v d = IsFirstDue
+    (setup_of net trace) v.stations.items v.links v.arrivals.items v.entered v.steps.items d
 
 -- its server has taken this turn
 abbrev pub TakesTurn : Net → SpecTrace → Simulation → Due → Option Turn → Type 0
-TakesTurn net trace v d turn = IsTurning (setup_of net trace) v.stations.items v.links v.arrivals.items v.entered v.steps.items d turn
+TakesTurn net trace v d turn = IsTurning
+    (setup_of net trace) v.stations.items v.links v.arrivals.items v.entered v.steps.items d turn
 
 -- it has made one step more
 pub record HasStepped (net : Net) (trace : SpecTrace) (before after : Simulation) : Type 0 where

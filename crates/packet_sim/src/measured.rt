@@ -23,8 +23,8 @@ pub struct SimRun {
     /// For each flow the largest delay of its packets, from where they enter to the end of the last server's link; 0
     /// where it has no packet.
     pub worst: Vec<Frac>,
-    /// For each queue of each server the most bits that are there at one time, a packet from its arrival to its leaving; 0
-    /// where it has no packet.
+    /// For each queue of each server the most bits that are there at one time, a packet from its arrival to its
+    /// leaving; 0 where it has no packet.
     pub peaks: Vec<Vec<u64>>,
 }
 
@@ -34,7 +34,8 @@ pub fn measured_run(alloc: Global, net: &Network, trace: &Trace) -> Result<SimRu
     requires free { IsFeedForward net.now }
     requires narrow { simulation_gauge net.now trace.now < 2 ^ 120 }
     ensures stated { IfOk result (λ v. IsSimulated (setup_of net.now trace.now) v.run) }
-    ensures worst { IfOk result (λ v. AreWorst (routes_of net.now) v.run.end v.run.steps (length net.now.flows) v.worst.items) }
+    ensures worst { IfOk result
+        (λ v. AreWorst (routes_of net.now) v.run.end v.run.steps (length net.now.flows) v.worst.items) }
     ensures peaks { IfOk result (λ v. ArePeaks (routes_of net.now) v.run (rows_of v.peaks.items)) }
 {
     let run = run_of(alloc, net, trace)?;

@@ -78,8 +78,8 @@ fn end_of(steps: &[Step]) -> Frac
 
 /// The stated run of a network and a trace, for a trace whose numbers are those of live flows and of servers, in a
 /// network in which no walk comes back, where the simulation gauge of both is below 2^120. It is lawful, and its delays
-/// fit. It fails only for want of memory. A step costs a look at each server and at the first packet of each link, and the turn of one server: never a
-/// pass over the packets.
+/// fit. It fails only for want of memory. A step costs a look at each server and at the first packet of each link,
+/// and the turn of one server: never a pass over the packets.
 pub fn run_of(alloc: Global, net: &Network, trace: &Trace) -> Result<Run, AllocError>
     requires named { IsTraceOf net.now trace.now }
     requires free { IsFeedForward net.now }

@@ -1,5 +1,5 @@
--- What the calls of a scheduler ask for and give, in the words of the laws of runs. `StandsFor σ` says that the scheduler stands
--- for a server in the state σ.
+-- What the calls of a scheduler ask for and give, in the words of the laws of runs. `StandsFor σ` says that the
+-- scheduler stands for a server in the state σ.
 use Rattle.std.specs.Prelude.{Option, Some, None, ◌≡◌, ◌≢◌, ℕ, ◌<◌, []}
 use Rattle.rational.specs.Rational.{ℚ}
 use Rattle.run_laws.specs.Cards.{Card, Works, Leaves, Visits}
@@ -43,8 +43,8 @@ pub record Sends (d : Discipline) (StandsNow : ServerState → Type 0) (σ : Ser
   pub picked : pick d σ.inside σ.round ≡ Some card
   pub moved : (a b w : ℚ) → StandsNow (next d σ (Works card a b w))
 
--- the turn that is due in the state σ, and the scheduler after it; none exactly where nothing is inside, since a queue is
--- visited only where something is, and a packet that is sent is inside
+-- the turn that is due in the state σ, and the scheduler after it; none exactly where nothing is inside, since a
+-- queue is visited only where something is, and a packet that is sent is inside
 abbrev pub Starts : Discipline → (ServerState → Type 0) → ServerState → Option Turn → Type 0
 Starts d StandsNow σ None = (σ.inside ≡ []) × StandsNow σ
 Starts d StandsNow σ (Some (Visit q)) = MayVisit d σ q × ((t : ℚ) → StandsNow (next d σ (Visits q t))) × (σ.inside ≢ [])

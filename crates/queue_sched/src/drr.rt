@@ -70,8 +70,8 @@ fn head_fits(queues: &Links, lengths: &[u32], queue: u32, deficit: u64) -> bool
 }
 
 impl DrrSched {
-    /// A queue for each quantum, in bits and at most 2^24, and room for so many packets, of which none is there. Refused
-    /// only for want of memory.
+    /// A queue for each quantum, in bits and at most 2^24, and room for so many packets, of which none is there.
+    /// Refused only for want of memory.
     pub fn new(alloc: Global, packets: u32, quanta: &[u64]) -> Result<DrrSched, AllocError>
         requires few { length quanta.now < 2 ^ 32 }
         requires small { (q : ℕ) → get_or quanta.now q 0 ≤ 2 ^ 24 }
@@ -104,7 +104,8 @@ impl DrrSched {
         requires queue { queue < length self.old.deficits }
         requires packet { packet < length self.old.lengths }
         requires enough { get_or self.old.lengths packet 0 ≤ get_or self.old.deficits queue 0 }
-        ensures { self.new ≡ with_deficit self.old queue (get_or self.old.deficits queue 0 - get_or self.old.lengths packet 0) }
+        ensures { self.new ≡ with_deficit self.old queue
+            (get_or self.old.deficits queue 0 - get_or self.old.lengths packet 0) }
     {
         let bits = self.lengths[packet as usize];
         let deficit = self.deficits[queue as usize];

@@ -55,8 +55,8 @@ fn first_waiting(queues: &Links, count: u32) -> Option<First>
 }
 
 impl PrioritySched {
-    /// So many queues, of which queue 0 is the highest, and room for so many packets, of which none is there. Refused only
-    /// for want of memory.
+    /// So many queues, of which queue 0 is the highest, and room for so many packets, of which none is there. Refused
+    /// only for want of memory.
     pub fn new(alloc: Global, packets: u32, queues: u32) -> Result<PrioritySched, AllocError>
         ensures room { IfOk result (λ s. s.waiting.nodes ≡ packets) }
         ensures queues { IfOk result (λ s. length s.waiting.lists ≡ queues) }

@@ -17,7 +17,8 @@ priority_left β higher lower y = excess (excess (β y) (higher y)) (Fin (whole 
 
 -- R is its running supremum
 abbrev pub IsPriorityService : (ℚ → Ext) → (ℚ → Ext) → ℕ → (ℚ → Ext) → Type 0
-IsPriorityService β higher lower R = (t : ℚ) → int (pos 0) ≤ℚ t → IsRunningSupremum (priority_left β higher lower) t (R t)
+IsPriorityService β higher lower R = (t : ℚ) → int (pos 0) ≤ℚ t
+    → IsRunningSupremum (priority_left β higher lower) t (R t)
 
 -- the queues before queue i keep the curve `higher`; packets of the queues after it have at most `lower` bits
 abbrev pub PriorityServes : Type 0

@@ -1,5 +1,5 @@
-//! What a queue of a priority server, and of a deficit round robin server, is served: definitions and laws. The calls that
-//! make these services stand in `priority_residual` and `drr_residual`.
+//! What a queue of a priority server, and of a deficit round robin server, is served: definitions and laws. The calls
+//! that make these services stand in `priority_residual` and `drr_residual`.
 #![tactic(auto)]
 
 mod drr;

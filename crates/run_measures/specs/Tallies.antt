@@ -14,7 +14,8 @@ IsTold net end xs many v = IsTallied net end xs v.flows.items v.delivered.items 
 
 -- of whatever steps it told before, it now tells of x before them
 abbrev pub Tells : Routes → Step → Tally → Tally → Type 0
-Tells net x before after = (end : ℚ) (xs : List Step) (many : ℕ) → IsTold net end xs many before → IsTold net end (x ∷ xs) many after
+Tells net x before after = (end : ℚ) (xs : List Step) (many : ℕ) → IsTold net end xs many before
+    → IsTold net end (x ∷ xs) many after
 
 -- a packet that enters is one of the flow that is known of it, and the sums of the step have room
 abbrev pub MayTell : Routes → Step → Tally → Type 0

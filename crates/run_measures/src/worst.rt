@@ -132,9 +132,9 @@ fn worst_among(
     Ok(worst)
 }
 
-/// For each flow the largest delay of its packets, from where they enter to the end of the last server's link, or to the
-/// run's end where one is not delivered; 0 where it has none. It asks for packets that are numbered in the order in which
-/// they enter, as those of a lawful run are, and for delays that fit.
+/// For each flow the largest delay of its packets, from where they enter to the end of the last server's link, or to
+/// the run's end where one is not delivered; 0 where it has none. It asks for packets that are numbered in the order
+/// in which they enter, as those of a lawful run are, and for delays that fit.
 pub fn worst_delays(alloc: Global, net: &Network, run: &Run) -> Result<Vec<Frac>, AllocError>
     requires numbered { AreNumberedFrom 0 run.now.steps }
     requires fits { DelaysFit (routes_of net.now) run.now.end run.now.steps }

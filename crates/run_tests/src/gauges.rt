@@ -1,6 +1,6 @@
 //! Times on fine grids, and a gauge that was worked out by hand: with one server of rate 1 and one packet of 1 bit that
-//! enters at 1 / 2^k the horizon is 1 + 1 / 2^k. So the grid is 2^k, the steepness 2, and the largest number 3, which is
-//! twice the horizon, rounded up. The gauge is 64 * 3 * 2 * 2^k, which is 2^120 or more from k = 112 on.
+//! enters at 1 / 2^k the horizon is 1 + 1 / 2^k. So the grid is 2^k, the steepness 2, and the largest number 3, which
+//! is twice the horizon, rounded up. The gauge is 64 * 3 * 2 * 2^k, which is 2^120 or more from k = 112 on.
 
 use fraction128::{Frac, is_less};
 use net_graph::order;

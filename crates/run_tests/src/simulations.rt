@@ -1,5 +1,5 @@
-//! One packet through one server of rate 1: its run was worked out by hand, and it is too wide where the packet enters at a
-//! time that is too fine.
+//! One packet through one server of rate 1: its run was worked out by hand, and it is too wide where the packet
+//! enters at a time that is too fine.
 
 use fraction128::{Frac, is_less};
 use net_graph::order;

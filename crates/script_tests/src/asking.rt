@@ -8,8 +8,8 @@ use std::marker::Brand;
 use std::sync::ledger::{Blank, Ledger};
 use steps::Steps;
 
-// What a script answers, as text; of a script that has no answers its fault. A text that is too long to be read has C4 in
-// line 0, which no script has.
+// What a script answers, as text; of a script that has no answers its fault. A text that is too long to be read has
+// C4 in line 0, which no script has.
 fn answered<L: Ledger>(alloc: Global, blank: Blank, text: &[u8]) -> Result<Vec<u8>, LangFault>
     requires name { blank.name ≡ L.name }
     requires parts { blank.parts ≡ L.parts }

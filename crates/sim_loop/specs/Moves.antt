@@ -26,7 +26,8 @@ pub record HasTaken (before after : List Station) (s packet queue bits : ℕ) (t
   pub new : Station
   pub moved : IsMoved before after s old new
   pub same : IsSameOpening old.opening new.opening
-  pub joined : (S : Setup) (k : ℕ) (σ : ServerState) (c : Card) → IsStation S k σ old → IsCard c packet queue bits → σ.now ≤ℚ time → IsBeforeStart old.next time
+  pub joined : (S : Setup) (k : ℕ) (σ : ServerState) (c : Card) → IsStation S k σ old → IsCard c packet queue bits
+      → σ.now ≤ℚ time → IsBeforeStart old.next time
       → IsStation S k (next (server_at S.net k).discipline σ (Arrives c time)) new
 
 -- it has lost the packet under way
@@ -48,7 +49,8 @@ pub record HasTurned (before after : List Station) (s : ℕ) (turn : Option Turn
   pub rate : new.rate ≡ old.rate
   pub inside : new.inside ≡ old.inside
   pub next : new.next ≡ old.next
-  pub turned : (σ : ServerState) → StandFor old.queues σ → σ.under ≡ None → Starts (served_by old.queues) (StandFor new.queues) σ turn
+  pub turned : (σ : ServerState) → StandFor old.queues σ → σ.under ≡ None
+      → Starts (served_by old.queues) (StandFor new.queues) σ turn
 
 -- work may begin at a
 pub record MayWorkOn (x : Station) (a left : ℚ) : Type 0 where

@@ -55,7 +55,8 @@ pub fn first_due(
     requires lists { length links.now.lists ≡ length stations.now }
     requires long { links.now.nodes ≡ length arrivals.now }
     requires few { length stations.now < 2 ^ 32 }
-    ensures { (S : Setup) → S.packets ≡ map entering packets.now → IsFirstCandidate S stations.now links.now arrivals.now entered (length stations.now) result }
+    ensures { (S : Setup) → S.packets ≡ map entering packets.now
+        → IsFirstCandidate S stations.now links.now arrivals.now entered (length stations.now) result }
 {
     let mut first = next_enter(packets, entered);
     for (server, station) in stations.iter().enumerate() {

@@ -23,7 +23,8 @@ pub fn arrive_at(
 )
     requires known { server < length stations.old }
     requires take { (x : SpecStation) → slice_get stations.old server ≡ Some x → MayTake x packet queue time }
-    requires room { (x : SpecStation) → slice_get stations.old server ≡ Some x → OpeningRoom (opening_for x.opening) time }
+    requires room { (x : SpecStation) → slice_get stations.old server ≡ Some x
+        → OpeningRoom (opening_for x.opening) time }
     ensures { HasTaken stations.old stations.new server packet queue bits time }
 {
     stations[server as usize].arrive(packet, queue, bits, time);
@@ -33,7 +34,8 @@ pub fn arrive_at(
 pub fn leave_at(stations: &mut [Station], server: u32, time: Frac) -> u32
     requires known { server < length stations.old }
     requires lose { (x : SpecStation) → slice_get stations.old server ≡ Some x → MayLose x time }
-    requires room { (x : SpecStation) → slice_get stations.old server ≡ Some x → OpeningRoom (opening_for x.opening) time }
+    requires room { (x : SpecStation) → slice_get stations.old server ≡ Some x
+        → OpeningRoom (opening_for x.opening) time }
     ensures { HasLost stations.old stations.new server time result }
 {
     stations[server as usize].leave(time)

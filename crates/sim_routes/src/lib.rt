@@ -1,5 +1,5 @@
-//! Where packets go: the first and the last server of a flow, its queue at each server of its path, the server after it, and how long
-//! the way there is.
+//! Where packets go: the first and the last server of a flow, its queue at each server of its path, the server after
+//! it, and how long the way there is.
 #![tactic(auto)]
 
 mod paths;

@@ -1,4 +1,5 @@
--- When a server works, as the simulator keeps it: the stalls in the order of their starts, and how many of them are over.
+-- When a server works, as the simulator keeps it: the stalls in the order of their starts, and how many of them are
+-- over.
 use Rattle.std.specs.Prelude.{Option, ◌≡◌, ℕ, ◌<◌, ◌≤◌, List, length, map, get_or, All, AllPairs}
 use Rattle.std.specs.Option.{option_map}
 use Rattle.rational.specs.Rational.{ℚ, ◌+ℚ◌, ◌*ℚ◌, ◌≤ℚ◌, ◌<ℚ◌}

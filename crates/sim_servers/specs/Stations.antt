@@ -161,7 +161,8 @@ IsWithOneMore before after (Leave p t) time next = (next ≡ Leave p t) × (afte
 
 abbrev pub IsWithOneLess : Opening → Opening → ℕ → ℚ → Next → Type 0
 IsWithOneLess before after inside time Nothing = (inside ≡ 0) × IsOver after time
-IsWithOneLess before after inside time (Start t) = (inside ≢ 0) × IsFirstOpenAt (opening_for before) time t × HasOpened after t
+IsWithOneLess before after inside time (Start t) = (inside ≢ 0) × IsFirstOpenAt (opening_for before) time t
+    × HasOpened after t
 IsWithOneLess before after inside time (Resume p t left) = ⊥
 IsWithOneLess before after inside time (Leave p t) = ⊥
 

@@ -73,7 +73,8 @@ fn gate_opens(gate: &Option<Gate>, from: Frac) -> Frac
     }
 }
 
-/// How long a gate stays open from a time at which it is, at most until a time. One whose slot is its cycle never closes.
+/// How long a gate stays open from a time at which it is, at most until a time. One whose slot is its cycle never
+/// closes.
 fn stays_in_cycle(gate: &Gate, from: Frac, until: Frac) -> Frac
     requires gate { IsGate (gate_times gate.now) }
     requires room { GateRoom (Some (gate_times gate.now)) from }
@@ -148,8 +149,8 @@ fn first_open(gate: &Option<Gate>, stalls: &[Span], passed: usize, from: Frac) -
 }
 
 impl Opening {
-    /// The first time from a time on at which the server is neither stalled nor closed. Stalls that are over by then are
-    /// passed for good.
+    /// The first time from a time on at which the server is neither stalled nor closed. Stalls that are over by then
+    /// are passed for good.
     pub fn opens(&mut self, from: Frac) -> Frac
         requires order { IsInOrder self.old }
         requires over { IsOver self.old from }

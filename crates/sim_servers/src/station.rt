@@ -157,7 +157,8 @@ impl Station {
         requires room { OpeningRoom (opening_for self.old.opening) time }
         ensures room { room_of self.new.queues ≡ room_of self.old.queues }
         ensures same { IsSameOpening self.old.opening self.new.opening }
-        ensures joined { (S : Setup) (s : ℕ) (σ : ServerState) (c : Card) → IsStation S s σ self.old → IsCard c packet queue bits → σ.now ≤ℚ time → IsBeforeStart self.old.next time
+        ensures joined { (S : Setup) (s : ℕ) (σ : ServerState) (c : Card) → IsStation S s σ self.old
+            → IsCard c packet queue bits → σ.now ≤ℚ time → IsBeforeStart self.old.next time
             → IsStation S s (next (server_at S.net s).discipline σ (Arrives c time)) self.new }
     {
         self.queues.arrive(packet, queue, bits);
@@ -172,7 +173,8 @@ impl Station {
         ensures room { room_of self.new.queues ≡ room_of self.old.queues }
         ensures same { IsSameOpening self.old.opening self.new.opening }
         ensures left { (S : Setup) (s : ℕ) (σ : ServerState) (u : Under) → IsStation S s σ self.old → σ.under ≡ Some u
-            → (u.card.packet ≡ result) × IsStation S s (next (server_at S.net s).discipline σ (Leaves u.card time)) self.new }
+            → (u.card.packet ≡ result)
+                × IsStation S s (next (server_at S.net s).discipline σ (Leaves u.card time)) self.new }
     {
         let packet = self.queues.finish();
         self.inside -= 1;

@@ -32,14 +32,16 @@ due_at arrivals p = record { packet = p; server = (arrival_at arrivals p).server
 -- each reaches its server before those behind it
 abbrev pub AreRising : List Arrival → List ℕ → Type 0
 AreRising arrivals [] = Unit {0}
-AreRising arrivals (p ∷ ps) = ((q : ℕ) → Has ps q → (arrival_at arrivals p).time <ℚ (arrival_at arrivals q).time) × AreRising arrivals ps
+AreRising arrivals (p ∷ ps) = ((q : ℕ) → Has ps q → (arrival_at arrivals p).time <ℚ (arrival_at arrivals q).time)
+    × AreRising arrivals ps
 
 -- at time t, a packet that left server s is no later at its next server than one that leaves from now on
 pub record IsAheadOf (S : Setup) (s : ℕ) (σ : ServerState) (t : ℚ) : Type 0 where
   pub by : t ≤ℚ σ.busy +ℚ link_at S.net s
   pub before : (u : Under) → σ.under ≡ Some u → t <ℚ σ.busy +ℚ link_at S.net s
 
--- list s has the packets on the link of server s, in the order in which they come; all that is due to reach a server is there
+-- list s has the packets on the link of server s, in the order in which they come; all that is due to reach a server
+-- is there
 pub record AreLinks (S : Setup) (r : RunState) (links : Chains) (arrivals : List Arrival) : Type 0 where
   pub lists : length links.lists ≡ length S.net.servers
   pub nodes : links.nodes ≡ length S.packets
@@ -62,7 +64,8 @@ pub record IsRunning (S : Setup) (stations : List Station) (links : Chains) (arr
   pub on_links : AreLinks S (state_after S steps) links arrivals
   pub entered_is : entered ≡ length (state_after S steps).entered
   pub few : entered ≤ length S.packets
-  pub entries : (p : ℕ) → p < entered → entry_of (state_after S steps).entered p ≡ record { flow = (packet_of S p).flow; bits = (packet_of S p).bits }
+  pub entries : (p : ℕ) → p < entered
+      → entry_of (state_after S steps).entered p ≡ record { flow = (packet_of S p).flow; bits = (packet_of S p).bits }
   pub placed : ArePlaced (state_after S steps)
 
 -- ---- what is due
@@ -90,9 +93,11 @@ IsCandidate S stations links arrivals entered k d =
 
 -- the first of them; none where there is none
 abbrev pub IsFirstCandidate : Setup → List Station → Chains → List Arrival → ℕ → ℕ → Option Due → Type 0
-IsFirstCandidate S stations links arrivals entered k None = (d : Due) → ¬ (IsCandidate S stations links arrivals entered k d)
+IsFirstCandidate S stations links arrivals entered k None = (d : Due)
+    → ¬ (IsCandidate S stations links arrivals entered k d)
 IsFirstCandidate S stations links arrivals entered k (Some d) =
-    IsCandidate S stations links arrivals entered k d × ((e : Due) → IsCandidate S stations links arrivals entered k e → IsNoLater d e)
+    IsCandidate S stations links arrivals entered k d
+        × ((e : Due) → IsCandidate S stations links arrivals entered k e → IsNoLater d e)
 
 -- the due step y does not come before d
 pub record IsNotAfter (r : RunState) (d : Due) (y : Step) : Type 0 where

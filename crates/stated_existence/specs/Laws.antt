@@ -8,5 +8,6 @@ use Rattle.stated_runs.specs.FromTraces.{setup_of, IsTraceOf}
 use Rattle.stated_runs.specs.Simulated.{IsSimulated}
 
 abbrev pub StatedRunsExist : Type 0
-StatedRunsExist = (net : Net) (trace : SpecTrace) → IsAccepted net → IsTrace trace → IsTraceOf net trace → IsFeedForward net
+StatedRunsExist = (net : Net) (trace : SpecTrace) → IsAccepted net → IsTrace trace → IsTraceOf net trace
+    → IsFeedForward net
     → (run : SpecRun) × IsSimulated (setup_of net trace) run

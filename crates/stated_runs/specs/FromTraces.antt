@@ -24,7 +24,8 @@ stalls_at s (x ∷ xs) = if x.server == s then record { start = x.start; end = x
 -- when the servers work; the first has number s
 abbrev pub openings_from : ℕ → List NetServer → List Stall → List Opening
 openings_from s [] stalls = []
-openings_from s (x ∷ xs) stalls = record { gate = gate_of x.kind; stalls = stalls_at s stalls } ∷ openings_from (suc s) xs stalls
+openings_from s (x ∷ xs) stalls = record { gate = gate_of x.kind; stalls = stalls_at s stalls } ∷ openings_from
+    (suc s) xs stalls
 
 abbrev pub entering : TracePacket → Entering
 entering p = record { flow = p.flow; bits = p.bits; time = p.time }
@@ -48,4 +49,5 @@ pub record IsTraceOf (net : Net) (trace : SpecTrace) : Type 0 where
 
 -- they make a setup
 abbrev pub TracesMakeSetups : Type 0
-TracesMakeSetups = (net : Net) (trace : SpecTrace) → IsAccepted net → IsTrace trace → IsTraceOf net trace → IsSetup (setup_of net trace)
+TracesMakeSetups = (net : Net) (trace : SpecTrace) → IsAccepted net → IsTrace trace → IsTraceOf net trace
+    → IsSetup (setup_of net trace)

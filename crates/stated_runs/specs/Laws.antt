@@ -68,6 +68,8 @@ StartsBy net s t (x ∷ xs) = ((server_of net x ≡ s) × ComesOrStarts t x) ⊎
 -- a server with packets of which none is under way, and that opens at t: unless another packet comes by then, it starts
 -- one at t
 abbrev pub OpenServersStart : Type 0
-OpenServersStart = (S : Setup) (run : SpecRun) → IsSetup S → IsSimulated S run → (before behind : List Step) → run.steps ≡ before ++ behind
-    → (s : ℕ) → s < length S.net.servers → (state_at (state_after S before) s).under ≡ None → (state_at (state_after S before) s).inside ≢ []
+OpenServersStart = (S : Setup) (run : SpecRun) → IsSetup S → IsSimulated S run → (before behind : List Step)
+    → run.steps ≡ before ++ behind
+    → (s : ℕ) → s < length S.net.servers → (state_at (state_after S before) s).under ≡ None
+        → (state_at (state_after S before) s).inside ≢ []
     → (t : ℚ) → IsFirstOpen S s (state_at (state_after S before) s).now t → StartsBy S.net s t behind

@@ -47,12 +47,15 @@ pub record IsOnGrid (S : Setup) (D : ℕ) (E : ℚ) : Type 0 where
       → IsTime D E (whole (packet_of S p).bits /ℚ rate_of S s)
   pub works : (s : ℕ) (x : ℚ) → s < length S.net.servers → IsTime D E x → IsSmall (rate_of S s *ℚ x)
 
--- and so is what its stated run meets: the time of each step that is due, the end of each work that is, and how long the
--- packet under way is yet to be worked on
+-- and so is what its stated run meets: the time of each step that is due, the end of each work that is, and how long
+-- the packet under way is yet to be worked on
 pub record RunFits (S : Setup) (D : ℕ) (E : ℚ) : Type 0 where
   pub grid : IsOnGrid S D E
-  pub due : (steps : List Step) → FollowsSoFar S (run_start S.net) steps → (y : Step) → IsDue S (state_after S steps) y → IsTime D E (step_time y)
-  pub ends : (steps : List Step) → FollowsSoFar S (run_start S.net) steps → (s p : ℕ) (a b w : ℚ) → IsDue S (state_after S steps) (Work s p a b w)
+  pub due : (steps : List Step) → FollowsSoFar S (run_start S.net) steps → (y : Step)
+      → IsDue S (state_after S steps) y → IsTime D E (step_time y)
+  pub ends : (steps : List Step) → FollowsSoFar S (run_start S.net) steps → (s p : ℕ) (a b w : ℚ)
+      → IsDue S (state_after S steps) (Work s p a b w)
       → IsTime D E b
-  pub left : (steps : List Step) → FollowsSoFar S (run_start S.net) steps → (s : ℕ) → s < length S.net.servers → (u : Under)
+  pub left : (steps : List Step) → FollowsSoFar S (run_start S.net) steps → (s : ℕ) → s < length S.net.servers
+      → (u : Under)
       → (state_at (state_after S steps) s).under ≡ Some u → IsTime D E ((size u.card -ℚ done u) /ℚ rate_of S s)

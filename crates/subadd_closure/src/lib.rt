@@ -1,5 +1,5 @@
-//! Subadditive curves, and the subadditive closure of a curve: the fold of the closures of its points and segments, whose
-//! last step is a convolution with the value at 0 set to the curve's own.
+//! Subadditive curves, and the subadditive closure of a curve: the fold of the closures of its points and segments,
+//! whose last step is a convolution with the value at 0 set to the curve's own.
 #![tactic(auto)]
 
 mod again;

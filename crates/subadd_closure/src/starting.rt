@@ -29,8 +29,8 @@ fn first_at(alloc: Global, pieces: &[Piece], v: Frac) -> Result<Vec<Piece>, Allo
     }
 }
 
-/// The curve f with the value v at 0, where its tail stays as it is: an affine tail, or a periodic one that begins after
-/// 0 and with that value at 0 does not repeat from 0 on. Refused only for want of memory.
+/// The curve f with the value v at 0, where its tail stays as it is: an affine tail, or a periodic one that begins
+/// after 0 and with that value at 0 does not repeat from 0 on. Refused only for want of memory.
 pub fn with_start(alloc: Global, f: &Curve, v: Frac) -> Result<Curve, AllocError>
     requires { KeepsTail (value_at (started_at (Extended.Fin v) f.now)) f.now.tail }
     ensures curve { IfOk result (λ c. c ≡ started_at (Extended.Fin v) f.now) }
