@@ -7,6 +7,7 @@ use Rattle.std.proofs.lemmas.Option.{slice_get_within, get_or_from_slice_get}
 use Rattle.run_laws.specs.Servers.{Discipline, Fifo, Priority, Drr, queue_count}
 use Rattle.net_model.specs.Networks.{Net, NetServer, NetFlow}
 use Rattle.net_model.specs.Accepted.{IsAccepted, IsFlow, HasFewQueues}
+use Rattle.net_model.proofs.FewQueues.{few_of}
 use Rattle.net_cells.specs.declared.cell.Cell.{Cell}
 use Rattle.net_cells.specs.declared.cell.Scope.{Scope}
 use Rattle.net_cells.specs.declared.cell.Scope.TheVariants.{EachHop, EachHopButLast, EachQueue, EachPriorityQueue, EachPath}
@@ -14,7 +15,6 @@ use Rattle.net_cells.specs.Numbered.{flow_at, path_of, hops, queues, levels, lev
 use Rattle.net_cells.specs.Cells.{scope_of, is_in_scope, has_cell}
 use Rattle.net_cells.proofs.Places.{flow_inside, live_inside}
 use Rattle.net_cells.proofs.Members.{hop_of}
-use Rattle.net_cells.proofs.Stored.{few_of}
 use Rattle.cell_changes.specs.Slots.{rows_in, columns_in, HasSlot, SlotsAreOwn}
 use Rattle.cell_changes.proofs.OwnSlots.{own, is_below}
 

@@ -10,7 +10,6 @@ use Rattle.rational.proofs.Linear.{with2}
 use Rattle.rational.proofs.ExtendedOrder.{le_ext_trans, antisym_ext}
 use Rattle.min_plus.specs.Functions.{zero_q}
 use Rattle.min_plus.specs.Formulas.{bucket_value}
-use Rattle.upp_limits.proofs.KnownNumbers.{risen_is}
 use Rattle.run_laws.specs.declared.steps.Step.{Step}
 use Rattle.run_laws.specs.declared.steps.Step.TheVariants.{Enter, Reach, Work, Leave, Visit}
 use Rattle.run_laws.specs.Cards.{whole}
@@ -40,7 +39,7 @@ kept_curves_are_above ps m α least kept d h =
     let (v, is, is_most) = least d h in
     let s = is_most.start in
     let k : Fin (whole v) ≤ₑ α ((s +ℚ d) -ℚ s) = subst (λ n. Fin (whole n) ≤ₑ α ((s +ℚ d) -ℚ s)) is_most.taken (kept s (s +ℚ d) (longer s d h)) in
-    subst (λ z. z ≤ₑ α d) (sym is) (subst (λ x. Fin (whole v) ≤ₑ α x) (risen_is s d) k)
+    subst (λ z. z ≤ₑ α d) (sym is) (subst (λ x. Fin (whole v) ≤ₑ α x) (with2 s d (λ c. omega (arith, c.le, c.lt, c.same))) k)
 
 pub least_arrival_is_one : LeastArrivalIsOne
 least_arrival_is_one ps m n a b d h =

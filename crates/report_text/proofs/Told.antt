@@ -17,7 +17,8 @@ use Rattle.net_cells.specs.declared.cell.Scope.{Scope}
 use Rattle.net_cells.specs.declared.cell.Scope.TheVariants.{EachHop, EachHopButLast, EachQueue, EachPriorityQueue, EachPath}
 use Rattle.net_cells.specs.Numbered.{flow_at, path_of, is_live, hops, queues, levels, levels_of, discipline_of}
 use Rattle.net_cells.specs.Cells.{cell_of, scope_of, is_in_scope}
-use Rattle.net_cells.proofs.Stored.{flow_kept, few_hops, server_kept, few_of}
+use Rattle.net_model.proofs.FewQueues.{few_of}
+use Rattle.net_cells.proofs.Stored.{flow_kept, few_hops, server_kept}
 use Rattle.report_text.specs.CellWords.{kind_word, name_of_server, name_of_flow, server_name, flow_name, words_at, cell_words}
 use Rattle.report_text.specs.Laws.{WordsTellCells}
 
