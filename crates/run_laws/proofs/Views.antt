@@ -65,7 +65,7 @@ after_length : (net : Routes) (r : RunState) (xs : List Step) → length r.serve
 after_length net r [] n = n
 after_length net r (x ∷ xs) n = after_length net (next_run net r x) xs (as_many net r x n)
 
-start_state : (net : Routes) (s : ℕ) → s < length net.servers → state_at (run_start net) s ≡ start (server_at net s).discipline
+pub start_state : (net : Routes) (s : ℕ) → s < length net.servers → state_at (run_start net) s ≡ start (server_at net s).discipline
 start_state net s h = get_or-map (λ (x : Server). start x.discipline) net.servers s record { discipline = Fifo; pace = None } (start Fifo) h
 
 pub views_are_lawful : (net : Routes) (run : SpecRun) (s : ℕ) → IsLawful net run → s < length net.servers
