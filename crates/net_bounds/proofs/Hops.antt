@@ -35,7 +35,7 @@ use Rattle.net_bounds.specs.NetRuns.{routes_of}
 use Rattle.net_bounds.specs.Promises.{seen_by, IsHopKept}
 use Rattle.net_bounds.proofs.Paths.{queue_is}
 use Rattle.net_bounds.proofs.Routed.{own_queues, hops_is, routed, hop_is_live, hop_at, queue_inside}
-use Rattle.net_bounds.proofs.Seen.{IsInOwnQueue, cards_map, in_own_queues, Agree, agree_back, keeps_same, serves_same, same_delays, same_departed_in}
+use Rattle.run_laws.proofs.Seen.{IsInOwnQueue, cards_map, in_own_queues, Agree, agree_back, keeps_same, serves_same, same_delays, same_departed_in}
 use Rattle.net_bounds.proofs.ListSums.{own, in_two}
 use Rattle.net_bounds.proofs.Cells.{values, size_in, curve_has, number_has, curve_holds, number_holds}
 use Rattle.net_bounds.proofs.HopCells.{in_curve, theta_is, residual_is, IsHopDelay, hop_delay_is, shift_out_is, deconv_out_is, out_is}

@@ -7,6 +7,7 @@ pub mod Allows
 pub mod Rounds
 pub mod Counts
 pub mod Premises
+pub mod Classes
 pub mod Serves
 pub mod Delays
 pub mod Routes
