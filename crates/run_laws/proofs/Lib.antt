@@ -41,3 +41,4 @@ pub mod Shifted
 pub mod Rounds
 pub mod Seen
 pub mod Classes
+pub mod Closures

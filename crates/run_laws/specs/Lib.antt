@@ -15,6 +15,7 @@ pub mod Views
 pub mod Lawful
 pub mod FlowDelays
 pub mod RunPremises
+pub mod Closures
 pub mod Bounds
 pub mod Totals
 pub mod Laws

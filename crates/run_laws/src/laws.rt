@@ -1,3 +1,4 @@
+ghost use Rattle.run_laws.specs.Closures.{ClosureIsKept, ClosuresKeepPremises};
 ghost use Rattle.run_laws.specs.Laws.{FlowIsOfOneQueue, FlowIsPart};
 ghost use Rattle.run_laws.specs.Laws.{ServerIsServed, FifoQueueIsServed, PacketsAreServed, DelayFromService, BacklogFromService, OutputFromService, PartOutputFromService, OutputFromDelay, ViewsAreLawful, OneFlowIsBounded, SeveralFlowsAreBounded};
 
@@ -51,6 +52,13 @@ pub fn views_are_lawful()
 pub fn flow_is_of_one_queue()
     ensures queue { FlowIsOfOneQueue }
     ensures part { FlowIsPart }
+{}
+
+/// Who keeps a curve in every closed window keeps its subadditive closure: a class of packets that arrive at a server, and
+/// the flows of a run.
+pub fn closure_is_kept()
+    ensures arrivals { ClosureIsKept }
+    ensures premises { ClosuresKeepPremises }
 {}
 
 /// One flow over a first in, first out server: no delay and no backlog passes the two deviations.
