@@ -11,7 +11,8 @@ use Rattle.rational.proofs.ExtendedOrder.{le_ext_refl, le_ext_trans, add_le_ext}
 use Rattle.rational.proofs.Linear.{with2, with3, with4, with5, with6, with7, with8}
 use Rattle.min_plus.specs.Pointwise.{excess}
 use Rattle.min_plus.specs.Running.{left_after}
-use Rattle.run_laws.specs.Cards.{size, Class, IsOfQueue, IsPart, AreParts, ServerStep}
+use Rattle.run_laws.specs.Cards.{size, Class, ServerStep}
+use Rattle.run_laws.proofs.Always.{IsAlwaysOfQueue, IsAlwaysPart, AreAlwaysParts}
 use Rattle.run_laws.specs.Servers.{Server}
 use Rattle.run_laws.specs.Allows.{IsLawfulView}
 use Rattle.run_laws.specs.Counts.{when, upto, arrived, arrived_upto, arrived_in, worked, departed}
@@ -28,10 +29,10 @@ use Rattle.fifo_residual.specs.Laws.{IsResidual}
 use Rattle.curve_call.proofs.FiniteAnswers.{late_left}
 
 -- ---- the parts
-left_is_part : (Q f g : Class) → AreParts Q f g → IsPart f Q
+left_is_part : (Q f g : Class) → AreAlwaysParts Q f g → IsAlwaysPart f Q
 left_is_part Q f g a c h = a.of_one c ∙ rw h
 
-right_is_part : (Q f g : Class) → AreParts Q f g → IsPart g Q
+right_is_part : (Q f g : Class) → AreAlwaysParts Q f g → IsAlwaysPart g Q
 right_is_part Q f g a c h = a.of_one c ∙ or_right (f c) (g c) h
   where
     or_right : (x y : Bool) → y ≡ true → (x || y) ≡ true
@@ -67,14 +68,14 @@ left_over b other work_f came_f (Fin c) h k l = elim (le_or_lt (int (pos 0)) (b 
 
 -- past θ after the oldest packet's arrival
 past_θ : (server : Server) (end : ℚ) (V : List ServerStep) (Q f g : Class) (β cross R : ℚ → Ext) (θ t r : ℚ) → IsLawfulView server end V
-    → AreParts Q f g → KeepsArrivals g cross V
+    → AreAlwaysParts Q f g → KeepsArrivals g cross V
     → int (pos 0) ≤ℚ θ → IsResidual β cross (Fin θ) R → (o : Oldest V Q t) → θ <ℚ t -ℚ o.u → IsServed Q β V t r → IsServed f R V t r
 past_θ server end V Q f g β cross R θ t r lawful a keeps θ_on residual o late is =
     let p = o.p in
     let u = o.u in
     let f_part = left_is_part Q f g a in
     let g_part = right_is_part Q f g a in
-    let own : IsPart Q Q = λ _ h. h in
+    let own : IsAlwaysPart Q Q = λ _ h. h in
     let (b, level, up) = finite_below (arrived Q V r) (worked Q V t) (β (t -ℚ r)) is.kept_up in
     let gone = is.left in
     let came_Q = o.is.came_upto Q (o.is.left Q own) in
@@ -119,7 +120,7 @@ past_θ server end V Q f g β cross R θ t r lawful a keeps θ_on residual o lat
     summed AQ Af Ag WQ Wf Wg b other e k h l = with8 AQ Af Ag WQ Wf Wg b other (λ c. omega (arith, c.le, c.lt, c.same))
 
 by_θ : (server : Server) (end : ℚ) (V : List ServerStep) (Q f g : Class) (β cross R : ℚ → Ext) (θ : Ext) (t r : ℚ)
-    → IsLawfulView server end V → AreParts Q f g → KeepsArrivals g cross V
+    → IsLawfulView server end V → AreAlwaysParts Q f g → KeepsArrivals g cross V
     → Fin (int (pos 0)) ≤ₑ θ → IsResidual β cross θ R → (o : Oldest V Q t) → IsServed Q β V t r → (s : ℚ) × IsServed f R V t s
 by_θ server end V Q f g β cross R θ t r lawful a keeps θ_on residual o is = by_case θ θ_on residual
   where
@@ -139,10 +140,10 @@ by_θ server end V Q f g β cross R θ t r lawful a keeps θ_on residual o is = 
       | inr l ↦ (r, past_θ server end V Q f g β cross R θ t r lawful a keeps on residual o l is)
     ]
 
-pub fifo_serves : (server : Server) (end : ℚ) (V : List ServerStep) (Q f g : Class) (q : ℕ) (β cross R : ℚ → Ext) (θ : Ext)
-    → IsLawfulView server end V → IsOfQueue Q q → AreParts Q f g → KeepsArrivals g cross V → Serves Q β end V
+pub fifo_serves_always : (server : Server) (end : ℚ) (V : List ServerStep) (Q f g : Class) (q : ℕ) (β cross R : ℚ → Ext) (θ : Ext)
+    → IsLawfulView server end V → IsAlwaysOfQueue Q q → AreAlwaysParts Q f g → KeepsArrivals g cross V → Serves Q β end V
     → Fin (int (pos 0)) ≤ₑ θ → IsResidual β cross θ R → Serves f R end V
-fifo_serves server end V Q f g q β cross R θ lawful own a keeps serves θ_on residual t l = elim (oldest server end V Q q t lawful own) [
+fifo_serves_always server end V Q f g q β cross R θ lawful own a keeps serves θ_on residual t l = elim (oldest server end V Q q t lawful own) [
   | inl empty ↦
       let e = empty.all_left f (left_is_part Q f g a) in
       let none : t -ℚ t ≡ int (pos 0) = with2 t t (λ c. omega (arith, c.le, c.lt, c.same)) in

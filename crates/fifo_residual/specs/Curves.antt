@@ -5,7 +5,8 @@ use Rattle.rational.specs.Extended.{Ext, ◌≤ₑ◌}
 use Rattle.rational.specs.declared.Extended.TheVariants.{Fin}
 use Rattle.upp_limits.specs.declared.op_kind.OpKind.TheVariants.{FifoLeft}
 use Rattle.upp_curve.specs.Curve.{SpecCurve, value_at}
-use Rattle.run_laws.specs.Cards.{Class, IsOfQueue, AreParts, ServerStep}
+use Rattle.run_laws.specs.Cards.{Class, ServerStep}
+use Rattle.run_laws.specs.Classes.{IsOfQueue, AreParts}
 use Rattle.run_laws.specs.Servers.{Server}
 use Rattle.run_laws.specs.Allows.{IsLawfulView}
 use Rattle.run_laws.specs.Premises.{KeepsArrivals}
@@ -17,6 +18,6 @@ use Rattle.curve_call.specs.Calls.{Applies}
 abbrev pub FifoCurveServes : Type 0
 FifoCurveServes = (server : Server) (end : ℚ) (view : List ServerStep) (Q f others : Class) (queue : ℕ)
     (β cross c : SpecCurve) (θ : Ext) → Applies (FifoLeft θ) β cross (Ok c) →
-    IsLawfulView server end view → IsOfQueue Q queue → AreParts Q f others →
+    IsLawfulView server end view → IsOfQueue Q queue view → AreParts Q f others view →
     KeepsArrivals others (value_at cross) view → Serves Q (value_at β) end view →
     Fin (int (pos 0)) ≤ₑ θ → Serves f (value_at c) end view

@@ -5,7 +5,8 @@ use Rattle.rational.specs.Rational.{ℚ, int, ◌≤ℚ◌}
 use Rattle.rational.specs.Extended.{Ext, ◌≤ₑ◌}
 use Rattle.rational.specs.declared.Extended.TheVariants.{Fin}
 use Rattle.min_plus.specs.Running.{IsFifoLeftover}
-use Rattle.run_laws.specs.Cards.{Class, IsOfQueue, AreParts, ServerStep}
+use Rattle.run_laws.specs.Cards.{Class, ServerStep}
+use Rattle.run_laws.specs.Classes.{IsOfQueue, AreParts}
 use Rattle.run_laws.specs.Servers.{Server}
 use Rattle.run_laws.specs.Allows.{IsLawfulView}
 use Rattle.run_laws.specs.Premises.{KeepsArrivals}
@@ -18,7 +19,7 @@ IsResidual β cross θ R = (t : ℚ) → int (pos 0) ≤ℚ t → IsFifoLeftover
 -- the queue Q is the flow f and the others, which keep the curve `cross`
 abbrev pub FifoServes : Type 0
 FifoServes = (server : Server) (end : ℚ) (view : List ServerStep) (Q f others : Class) (queue : ℕ)
-    (β cross R : ℚ → Ext) (θ : Ext) →
-    IsLawfulView server end view → IsOfQueue Q queue → AreParts Q f others → KeepsArrivals others cross view
-        → Serves Q β end view →
+    (β cross R : ℚ → Ext) (θ : Ext)
+    → IsLawfulView server end view → IsOfQueue Q queue view → AreParts Q f others view
+    → KeepsArrivals others cross view → Serves Q β end view →
     Fin (int (pos 0)) ≤ₑ θ → IsResidual β cross θ R → Serves f R end view

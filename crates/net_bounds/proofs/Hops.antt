@@ -9,19 +9,20 @@ use Rattle.rational.specs.declared.Extended.TheVariants.{Fin}
 use Rattle.rational.proofs.ExtendedOrder.{min_greatest}
 use Rattle.rational.proofs.Linear.{with2}
 use Rattle.min_plus.specs.Functions.{zero_q}
-use Rattle.min_plus.specs.Pointwise.{shifted}
+use Rattle.min_plus.specs.Pointwise.{shifted, packetised}
 use Rattle.min_plus.specs.Running.{IsFifoLeftover}
 use Rattle.min_plus.proofs.DeviationSigns.{horizontals_are_nonnegative}
 use Rattle.curve_call.specs.Growth.{GrowsFromZero}
 use Rattle.run_laws.specs.Runs.{SpecRun}
-use Rattle.run_laws.specs.Cards.{Card, Class, of_flow, of_queue}
+use Rattle.run_laws.specs.Cards.{Card, Class, of_flow, of_queue, whole}
 use Rattle.run_laws.specs.Counts.{departed_in}
-use Rattle.run_laws.specs.Serves.{Serves}
+use Rattle.run_laws.specs.Serves.{Serves, ServesPackets}
 use Rattle.run_laws.specs.Delays.{hop_delays, AreAtMost}
 use Rattle.run_laws.specs.Routes as routes
 use Rattle.run_laws.specs.Routes.{Hop, route_of}
-use Rattle.run_laws.proofs.Arrivals.{arrivals_map}
-use Rattle.fifo_residual.proofs.FifoLaw.{fifo_serves}
+use Rattle.run_laws.proofs.Arrivals.{arrivals_map, arrivals_all}
+use Rattle.fifo_residual.proofs.FifoLaw.{fifo_serves_always}
+use Rattle.run_laws.proofs.Service.{packets_are_served}
 use Rattle.fifo_residual.proofs.FifoGrowth as fifo
 use Rattle.net_laws.specs.Queues.{IsInQueue}
 use Rattle.net_laws.proofs.Queues.{flow_stays, flow_leaves}
@@ -35,7 +36,7 @@ use Rattle.net_bounds.specs.NetRuns.{routes_of}
 use Rattle.net_bounds.specs.Promises.{seen_by, IsHopKept}
 use Rattle.net_bounds.proofs.Paths.{queue_is}
 use Rattle.net_bounds.proofs.Routed.{own_queues, hops_is, routed, hop_is_live, hop_at, queue_inside}
-use Rattle.net_bounds.proofs.Seen.{IsInOwnQueue, cards_map, in_own_queues, Agree, agree_back, keeps_same, serves_same, same_delays, same_departed_in}
+use Rattle.run_laws.proofs.Seen.{IsInOwnQueue, cards_map, in_own_queues, Agree, agree_back, keeps_same, serves_same, same_delays, same_departed_in}
 use Rattle.net_bounds.proofs.ListSums.{own, in_two}
 use Rattle.net_bounds.proofs.Cells.{values, size_in, curve_has, number_has, curve_holds, number_holds}
 use Rattle.net_bounds.proofs.HopCells.{in_curve, theta_is, residual_is, IsHopDelay, hop_delay_is, shift_out_is, deconv_out_is, out_is}
@@ -115,7 +116,7 @@ flow_served net at run i k s w =
     (λ (r : ℕ). (t : ℚ) → zero_q ≤ℚ t → IsFifoLeftover (values at (cell_of QueueService r q)) cross theta t (R t)) w.is
     (curve_holds at (cell_of Residual i k) _ is_residual) in
     record {
-      serves = fifo_serves (here net s) run.end V (of_queue q) (part net i k) (other (λ c. c.flow) i (of_queue q)) q
+      serves = fifo_serves_always (here net s) run.end V (of_queue q) (part net i k) (other (λ c. c.flow) i (of_queue q)) q
           β cross R theta
           (lawful_here net at run s w.server) (λ c e. eqb-true c.queue q e) (in_two (λ c. c.flow) i (of_queue q))
           (cross_comes net at run s i k w.server w.within w.is) queue.serves low residual;
@@ -146,8 +147,9 @@ has_delay net at run i k s w =
       own_delay = delay.own;
       in_queue = record {
         lawful = lawful_here net at run s w.server;
-        one_queue = λ c e. eqb-true c.queue q e;
-        is_part = λ c e. (and_parts (c.queue == q) (c.flow == i) e).0;
+        one_queue = arrivals_all (λ c. of_queue q c ≡ true → c.queue ≡ q) (λ c e. eqb-true c.queue q e) V;
+        is_part = arrivals_all (λ c. part net i k c ≡ true → of_queue q c ≡ true)
+            (λ c e. (and_parts (c.queue == q) (c.flow == i) e).0) V;
         keeps_total = queue_comes net at run s q w.server there;
         keeps_own = keeps_same (of_flow i) (part net i k) (values at (cell_of In i k)) V
             (agree_back (part net i k) (of_flow i) V (part_agrees net at run i k s w))
@@ -233,6 +235,15 @@ flow_served_there net at run i k s w =
     (part_agrees net at run i k s w)
     (flow_served net at run i k s w).serves
 
+-- less one packet, it serves the flow's whole packets
+flow_served_in_packets : (net : Net) (at : CellTable) (run : SpecRun) (i k s : ℕ) → AtHop net at run i k s
+    → ServesPackets (of_flow i) (packetised (values at (cell_of Residual i k)) (whole (packet net i))) run.end
+    (seen_by net run s)
+flow_served_in_packets net at run i k s w =
+    packets_are_served (here net s) run.end (seen_by net run s) (of_flow i) (values at (cell_of Residual i k))
+    (packet net i) (lawful_here net at run s w.server) (flow_sizes net at run s i w.server)
+    (flow_served_there net at run i k s w)
+
 pub hop_kept : (net : Net) (at : CellTable) (run : SpecRun) (i k : ℕ) → AtHop net at run i k (server_of_hop net i k)
     → IsHopKept net at run i k
 hop_kept net at run i k w =
@@ -243,6 +254,8 @@ hop_kept net at run i k w =
           (flow_comes net at run s i k w.server w.within refl);
       served = curve_has at (cell_of Residual i k) _ _ (residual_is net at i k meets w.within)
           (flow_served_there net at run i k s w);
+      serves_packets = curve_has at (cell_of Residual i k) _ _ (residual_is net at i k meets w.within)
+          (flow_served_in_packets net at run i k s w);
       stays = number_has at (cell_of HopDelay i k) _ _ (hop_delay_is net at i k meets w.within)
           (flow_stays_there net at run i k s w);
       leaves = λ more. curve_has at (cell_of Out i k) _ _ (out_is net at i k meets more)

@@ -1,7 +1,6 @@
 pub mod Placed
 pub mod Paths
 pub mod Routed
-pub mod Seen
 pub mod ListSums
 pub mod Cells
 pub mod FormulaParts

@@ -7,10 +7,12 @@ use Rattle.rational.specs.Extended.{Ext, ◌+ₑ◌}
 use Rattle.rational.specs.declared.Extended.TheVariants.{Fin}
 use Rattle.rational.proofs.Laws.{le_refl}
 use Rattle.rational.proofs.ExtendedOrder.{le_ext_trans, same_le_ext, add_le_ext}
-use Rattle.run_laws.specs.Cards.{Card, Class, AreParts, size, ServerStep, Arrives, Works, Leaves, Visits}
+use Rattle.run_laws.specs.Cards.{Card, Class, size, ServerStep, Arrives, Works, Leaves, Visits}
+use Rattle.run_laws.proofs.Always.{AreAlwaysParts}
 use Rattle.run_laws.specs.Counts.{when, arrives, within, arrived_in}
 use Rattle.run_laws.specs.Premises.{EachArrival, KeepsArrivals}
 use Rattle.run_laws.proofs.Arrivals.{arrivals_map, none_arrive}
+use Rattle.run_laws.proofs.Classes.{split_parts}
 use Rattle.run_laws.proofs.Parts.{arrivals_parts}
 use Rattle.run_laws.proofs.Sizes.{size_nonneg}
 use Rattle.run_laws.proofs.Sums.{when_false, when_nonneg, each_all, total_le}
@@ -32,18 +34,8 @@ HasKey key (x ∷ xs) n = (key x ≡ n) ⊎ HasKey key xs n
 abbrev pub own : (Card → ℕ) → ℕ → Class → Class
 own number n C c = C c && (number c == n)
 
-pub in_two : (number : Card → ℕ) (n : ℕ) (C : Class) → AreParts C (own number n C) (other number n C)
-in_two number n C = record { of_one = λ c. one (C c) (number c == n); apart = λ c. two (C c) (number c == n) }
-  where
-    one : (a b : Bool) → a ≡ ((a && b) || (a && not b))
-    one true true = refl
-    one true false = refl
-    one false b = refl
-
-    two : (a b : Bool) → ((a && b) && (a && not b)) ≡ false
-    two true true = refl
-    two true false = refl
-    two false b = refl
+pub in_two : (number : Card → ℕ) (n : ℕ) (C : Class) → AreAlwaysParts C (own number n C) (other number n C)
+in_two number n C = split_parts C (with_number number n)
 
 own_step : (number : Card → ℕ) (n : ℕ) (C : Class) (p : ℚ → Bool) (x : ServerStep)
     → arrives (own number n C) p x ≤ℚ arrives (with_number number n) p x

@@ -20,7 +20,7 @@ use Rattle.run_laws.specs.Serves.{Serves}
 use Rattle.run_laws.specs.Routes as routes
 use Rattle.run_laws.proofs.Arrivals.{arrivals_map}
 use Rattle.run_laws.proofs.Backlog.{backlog_from_service}
-use Rattle.run_laws.proofs.Delay.{delay_from_service}
+use Rattle.run_laws.proofs.Delay.{delay_always}
 use Rattle.run_laws.proofs.FifoQueue.{fifo_queue_is_served}
 use Rattle.run_laws.proofs.Views.{views_are_lawful}
 use Rattle.residual_laws.proofs.PriorityLaw.{priority_serves}
@@ -201,7 +201,7 @@ queue_kept net at run s q w h =
       comes = curve_has at coming _ _ (total_cell net at s q w.meets h) comes;
       served = curve_has at serving _ _ (queue_service_is net at s q w.meets h) served.serves;
       stays = number_has at longest_stay _ _ is_delay
-          (delay_from_service (here net s) run.end V (of_queue q) q (values at coming) (values at serving)
+          (delay_always (here net s) run.end V (of_queue q) q (values at coming) (values at serving)
           (size_in at longest_stay) lawful
           (λ c e. eqb-true c.queue q e) comes served.serves served.grows.rising
           (number_holds at longest_stay _ is_delay));

@@ -5,10 +5,11 @@ use Rattle.rational.specs.Rational.{ℚ, ◌-ℚ◌, ◌≤ℚ◌}
 use Rattle.rational.specs.Extended.{Ext, ◌≤ₑ◌}
 use Rattle.rational.specs.declared.Extended.TheVariants.{Fin}
 use Rattle.run_laws.specs.Runs.{SpecRun}
-use Rattle.run_laws.specs.Cards.{Class, of_flow, of_queue, ServerStep}
+use Rattle.min_plus.specs.Pointwise.{packetised}
+use Rattle.run_laws.specs.Cards.{Class, of_flow, of_queue, whole, ServerStep}
 use Rattle.run_laws.specs.Counts.{departed_in}
 use Rattle.run_laws.specs.Premises.{KeepsArrivals}
-use Rattle.run_laws.specs.Serves.{Serves}
+use Rattle.run_laws.specs.Serves.{Serves, ServesPackets}
 use Rattle.run_laws.specs.Delays.{hop_delays, AreAtMost, backlog}
 use Rattle.run_laws.specs.Routes.{route_of}
 use Rattle.run_laws.specs.Views.{view}
@@ -16,7 +17,7 @@ use Rattle.run_laws.specs.Bounds.{IsFlowBounded}
 use Rattle.net_laws.specs.Paths.{IsServedOver}
 use Rattle.net_model.specs.Networks.{Net}
 use Rattle.net_cells.specs.declared.cell.Kind.TheVariants.{In, Total, QueueService, Residual, QueueDelay, QueueBacklog, HopDelay, Out, PathService, Tfa, Sfa, Bound}
-use Rattle.net_cells.specs.Numbered.{hops, server_of_hop}
+use Rattle.net_cells.specs.Numbered.{packet, hops, server_of_hop}
 use Rattle.net_cells.specs.Cells.{cell_of}
 use Rattle.net_cells.specs.Meanings.{CellTable}
 use Rattle.net_bounds.specs.NetRuns.{routes_of}
@@ -43,11 +44,13 @@ abbrev pub HoldsAtMost : Class → SpecRun → List ServerStep → Ext → Type 
 HoldsAtMost C run V most = (t : ℚ) → t ≤ℚ run.end → Fin (backlog C V t) ≤ₑ most
 
 -- ---- a flow at a hop of its path
--- it comes with its curve, is served by its curve, stays no longer than its delay, and where its path goes on it leaves
--- with its curve
+-- it comes with its curve, is served by its curve, and in whole packets by that curve less the longest of them (what is
+-- left of it above 0); it stays no longer than its delay, and where its path goes on it leaves with its curve
 pub record IsHopKept (net : Net) (at : CellTable) (run : SpecRun) (i k : ℕ) : Type 0 where
   pub comes : HasFunction at (cell_of In i k) (λ α. KeepsArrivals (of_flow i) α (seen_at net run i k))
   pub served : HasFunction at (cell_of Residual i k) (λ β. Serves (of_flow i) β run.end (seen_at net run i k))
+  pub serves_packets : HasFunction at (cell_of Residual i k)
+      (λ β. ServesPackets (of_flow i) (packetised β (whole (packet net i))) run.end (seen_at net run i k))
   pub stays : HasNumber at (cell_of HopDelay i k) (StaysWithin (of_flow i) run (seen_at net run i k))
   pub leaves : suc k < hops net i
       → HasFunction at (cell_of Out i k) (λ α. KeepsDepartures (of_flow i) α (seen_at net run i k))

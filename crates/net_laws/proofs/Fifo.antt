@@ -9,7 +9,8 @@ use Rattle.rational.proofs.Linear.{with1, with2, with3, with5, with7}
 use Rattle.run_laws.specs.declared.steps.Step.{Step}
 use Rattle.run_laws.specs.declared.steps.Step.TheVariants.{Enter, Reach, Work, Leave, Visit}
 use Rattle.run_laws.specs.Runs.{SpecRun}
-use Rattle.run_laws.specs.Cards.{Card, size, Class, of_flow, IsOfQueue, ServerStep, Arrives, Works, Leaves, Visits, time_of}
+use Rattle.run_laws.specs.Cards.{Card, size, Class, of_flow, ServerStep, Arrives, Works, Leaves, Visits, time_of}
+use Rattle.run_laws.proofs.Always.{IsAlwaysOfQueue}
 use Rattle.run_laws.specs.Servers.{Server, Under, done_at, start}
 use Rattle.run_laws.specs.Next.{next, after}
 use Rattle.run_laws.specs.Allows.{AllAllowed, IsLawfulView}
@@ -99,7 +100,7 @@ first_within cards busy u p t (z ∷ ahead) rest tail h e =
     with5 (done_at t u) (size u.card) (size z) (size p) (bits_of ahead) (λ c. omega (arith, c.le, c.lt, c.same))
 
 done_within : (cards : List Card) (busy : ℚ) (under : Option Under) (C : Class) (q : ℕ) (p : Card) (t : ℚ) (ahead rest : List Card)
-    → IsSoundFor cards busy under → IsOfQueue C q → of_class C cards ≡ ahead ++ p ∷ rest → done_by C t under ≤ℚ bits_of ahead +ℚ size p
+    → IsSoundFor cards busy under → IsAlwaysOfQueue C q → of_class C cards ≡ ahead ++ p ∷ rest → done_by C t under ≤ℚ bits_of ahead +ℚ size p
 done_within cards busy None C q p t ahead rest h g is =
     let some = size_nonneg p in
     let others = bits_nonneg ahead in
@@ -110,7 +111,7 @@ done_within cards busy (Some u) C q p t ahead rest h g is = elim (cases_Bool (C 
       let others = bits_nonneg ahead in
       rw (when_false (C u.card) (done_at t u) e) (with2 (size p) (bits_of ahead) (λ c. omega (arith, c.le, c.lt, c.same)))
   | inl e ↦
-      let own = subst (λ (r : ℕ). IsOfQueue C r) (sym (g u.card e)) g in
+      let own = subst (λ (r : ℕ). IsAlwaysOfQueue C r) (sym (g u.card e)) g in
       let first = class_head C u.card.queue u.card cards own h.is_head e in
       rw (when_true (C u.card) (done_at t u) e) (first_within cards busy u p t ahead rest _ h (sym first ∙ is))
 ]
@@ -130,7 +131,7 @@ work_most work first_work later_work first_done later_done first_left later_left
     with7 work first_left later_done later_left came still_ahead own (λ c. omega (arith, c.le, c.lt, c.same))
 
 by_gone : (server : Server) (end : ℚ) (V front back : List ServerStep) (C : Class) (q : ℕ) (p : Card) (u g : ℚ)
-    → IsLawfulView server end V → V ≡ front ++ Arrives p u ∷ back → IsOfQueue C q → C p ≡ true → u ≤ℚ g → g ≤ℚ gone_at end p.packet back
+    → IsLawfulView server end V → V ≡ front ++ Arrives p u ∷ back → IsAlwaysOfQueue C q → C p ≡ true → u ≤ℚ g → g ≤ℚ gone_at end p.packet back
     → worked C V g ≤ℚ total (arrives C (upto u)) front +ℚ size p
 by_gone server end V front back C q p u g lawful joined own counted l m =
     let d = server.discipline in
@@ -184,7 +185,7 @@ view_queues net s entered (x ∷ xs) = elim (cases_Bool (server_of net x == s)) 
 abbrev own : Routes → ℕ → ℕ → Class
 own net s i c = (c.flow == i) && (c.queue == queue_at s (route_of net i).hops)
 
-own_queue : (net : Routes) (s i : ℕ) → IsOfQueue (own net s i) (queue_at s (route_of net i).hops)
+own_queue : (net : Routes) (s i : ℕ) → IsAlwaysOfQueue (own net s i) (queue_at s (route_of net i).hops)
 own_queue net s i c e = eqb-true c.queue (queue_at s (route_of net i).hops) (and_parts (c.flow == i) (c.queue == queue_at s (route_of net i).hops) e).1
 
 own_card : (net : Routes) (s i : ℕ) (c : Card) → c.queue ≡ queue_at s (route_of net c.flow).hops → own net s i c ≡ of_flow i c

@@ -6,3 +6,5 @@ pub mod Ends
 pub mod Sums
 pub mod Orders
 pub mod Queues
+
+pub mod Once

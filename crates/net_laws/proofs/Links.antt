@@ -54,7 +54,7 @@ same_is d e h =
     let time : e.time ≡ d.time = antisym (le_q_in e.time d.time c.1, le_q_in d.time e.time c.0) in
     ap (λ (x : ℕ). make_due x e.server e.time) packet ∙ ap (λ (x : ℕ). make_due d.packet x e.time) server ∙ ap (λ (x : ℚ). make_due d.packet d.server x) time
 
-is_same : (d : Due) → same_due d d ≡ true
+pub is_same : (d : Due) → same_due d d ≡ true
 is_same d = and_from (d.packet == d.packet) _ (eq-eqb d.packet d.packet refl) (and_from (d.server == d.server) _ (eq-eqb d.server d.server refl) (and_from (le_q d.time d.time) (le_q d.time d.time) (le_q_out _ _ (le_refl d.time)) (le_q_out _ _ (le_refl d.time))))
 
 due_without : (entered : List Entry) (i b : ℕ) (p : ℚ → Bool) (ds : List Due) (d : Due) (k : ℕ) → k < length ds → slice_index_or ds k d ≡ d

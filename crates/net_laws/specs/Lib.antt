@@ -4,3 +4,4 @@ pub mod PathLaws
 pub mod Sums
 pub mod Orders
 pub mod Queues
+pub mod Once

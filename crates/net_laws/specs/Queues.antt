@@ -8,7 +8,8 @@ use Rattle.min_plus.specs.Functions.{IsRising}
 use Rattle.min_plus.specs.Pointwise.{packetised, shifted}
 use Rattle.min_plus.specs.Convolution.{IsDeconvolution}
 use Rattle.min_plus.specs.Deviations.{IsHorizontalDeviation}
-use Rattle.run_laws.specs.Cards.{Class, whole, IsOfQueue, IsPart, ServerStep}
+use Rattle.run_laws.specs.Cards.{Class, whole, ServerStep}
+use Rattle.run_laws.specs.Classes.{IsOfQueue, IsPart}
 use Rattle.run_laws.specs.Servers.{Server}
 use Rattle.run_laws.specs.Allows.{IsLawfulView}
 use Rattle.run_laws.specs.Counts.{departed_in}
@@ -21,8 +22,8 @@ use Rattle.run_laws.specs.Delays.{hop_delays, AreAtMost}
 pub record IsInQueue (server : Server) (end : ℚ) (view : List ServerStep) (Q f : Class) (queue : ℕ)
     (total service own residual : ℚ → Ext) (queue_delay own_delay : Ext) : Type 0 where
   pub lawful : IsLawfulView server end view
-  pub one_queue : IsOfQueue Q queue
-  pub is_part : IsPart f Q
+  pub one_queue : IsOfQueue Q queue view
+  pub is_part : IsPart f Q view
   pub keeps_total : KeepsArrivals Q total view
   pub keeps_own : KeepsArrivals f own view
   pub serves_queue : Serves Q service end view

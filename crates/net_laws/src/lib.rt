@@ -4,6 +4,7 @@
 #![tactic(auto)]
 
 ghost use Rattle.net_laws.specs.Laws.{LinkCarries, NextKeeps};
+ghost use Rattle.net_laws.specs.Once.{NoneArrivesTwice, ClassLeavesByDelay};
 ghost use Rattle.net_laws.specs.Orders.{KeptEverywhere};
 ghost use Rattle.net_laws.specs.PathLaws.{PathIsServed, DelayFromPathService, DelayFromHops};
 ghost use Rattle.net_laws.specs.Queues.{FlowStays, FlowLeaves};
@@ -55,4 +56,15 @@ pub fn flow_stays()
 /// and its service, whole packets counted.
 pub fn flow_leaves()
     ensures { FlowLeaves }
+{}
+
+/// Where each live flow's path passes no server twice, no packet arrives twice at a server.
+pub fn none_arrives_twice()
+    ensures { NoneArrivesTwice }
+{}
+
+/// So where no packet of a class of one queue, as a queue or a flow, stays longer than d at a server of such a run, the
+/// class leaves with its arrival curve, moved left by d.
+pub fn class_leaves_by_delay()
+    ensures { ClassLeavesByDelay }
 {}

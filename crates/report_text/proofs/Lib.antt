@@ -1,3 +1,5 @@
+pub mod Fronts
+pub mod Digits
 pub mod TextLemmas
 pub mod Counted
 pub mod Agree

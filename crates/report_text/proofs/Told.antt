@@ -21,43 +21,11 @@ use Rattle.net_model.proofs.FewQueues.{few_of}
 use Rattle.net_cells.proofs.Stored.{flow_kept, few_hops, server_kept}
 use Rattle.report_text.specs.CellWords.{kind_word, name_of_server, name_of_flow, server_name, flow_name, words_at, cell_words}
 use Rattle.report_text.specs.Laws.{WordsTellCells}
+use Rattle.report_text.proofs.Fronts.{lacks, same_front, same_back}
 
--- ---- the front of a text, to its first space, and what is behind that
-abbrev front : List ℕ → List ℕ
-front [] = []
-front (x ∷ xs) = cond (x == 32) [] (x ∷ front xs)
-
-abbrev back : List ℕ → List ℕ
-back [] = []
-back (x ∷ xs) = cond (x == 32) xs (back xs)
-
+-- ---- no byte of a text is a space
 abbrev unspaced : List ℕ → Bool
-unspaced [] = true
-unspaced (x ∷ xs) = cond (x == 32) false (unspaced xs)
-
-one_front : (b : Bool) (x : ℕ) (xs rest : List ℕ) → (unspaced xs ≡ true → front rest ≡ xs)
-    → cond b false (unspaced xs) ≡ true → cond b [] (x ∷ front rest) ≡ x ∷ xs
-one_front true x xs rest same h = absurd cc
-one_front false x xs rest same h = ap (λ zs. x ∷ zs) (same h)
-
-front_is : (xs ys : List ℕ) → unspaced xs ≡ true → front (xs ++ 32 ∷ ys) ≡ xs
-front_is [] ys h = refl
-front_is (x ∷ xs) ys h = one_front (x == 32) x xs (xs ++ 32 ∷ ys) (λ e. front_is xs ys e) h
-
-one_back : (b : Bool) (xs ys rest : List ℕ) → (unspaced xs ≡ true → back rest ≡ ys)
-    → cond b false (unspaced xs) ≡ true → cond b rest (back rest) ≡ ys
-one_back true xs ys rest same h = absurd cc
-one_back false xs ys rest same h = same h
-
-back_is : (xs ys : List ℕ) → unspaced xs ≡ true → back (xs ++ 32 ∷ ys) ≡ ys
-back_is [] ys h = refl
-back_is (x ∷ xs) ys h = one_back (x == 32) xs ys (xs ++ 32 ∷ ys) (λ e. back_is xs ys e) h
-
-same_front : (w v ys zs : List ℕ) → unspaced w ≡ true → unspaced v ≡ true → w ++ 32 ∷ ys ≡ v ++ 32 ∷ zs → w ≡ v
-same_front w v ys zs h k e = sym (front_is w ys h) ∙ ap front e ∙ front_is v zs k
-
-same_back : (w v ys zs : List ℕ) → unspaced w ≡ true → unspaced v ≡ true → w ++ 32 ∷ ys ≡ v ++ 32 ∷ zs → ys ≡ zs
-same_back w v ys zs h k e = sym (back_is w ys h) ∙ ap back e ∙ back_is v zs k
+unspaced xs = lacks 32 xs
 
 -- ---- names
 unspaced_name : (xs : List ℕ) → All (λ c. IsTrue (is_name_byte c)) xs → unspaced xs ≡ true
@@ -259,10 +227,10 @@ numbered_same : (w v n m : List ℕ) (b d : ℕ) → unspaced w ≡ true → uns
     → AreSame w v n m b d
 numbered_same w v n m b d hw hv hn hm hb hd e =
     let all = sym (grouped w n (decimal b)) ∙ e ∙ grouped v m (decimal d) in
-    let rest = same_back w v (n ++ 32 ∷ decimal b) (m ++ 32 ∷ decimal d) hw hv all in
+    let rest = same_back 32 w v (n ++ 32 ∷ decimal b) (m ++ 32 ∷ decimal d) hw hv all in
     record {
-      names = same_front n m (decimal b) (decimal d) hn hm rest;
-      numbers = same_number b d hb hd (same_back n m (decimal b) (decimal d) hn hm rest);
+      names = same_front 32 n m (decimal b) (decimal d) hn hm rest;
+      numbers = same_number b d hb hd (same_back 32 n m (decimal b) (decimal d) hn hm rest);
     }
 
 -- at one scope: the same places
@@ -308,7 +276,7 @@ place_same net w v EachPath a b c d acc h k hw hv e =
     let g = with_life net c (flow_at net c) refl q.0 in
     let all = sym (paired w (flow_name net a)) ∙ e ∙ paired v (flow_name net c) in
     record {
-      first = same_flow net a c acc f g (same_back w v (flow_name net a) (flow_name net c) hw hv all);
+      first = same_flow net a c acc f g (same_back 32 w v (flow_name net a) (flow_name net c) hw hv all);
       second = eqb-true b 0 p.1 ∙ sym (eqb-true d 0 q.1);
     }
 
@@ -329,7 +297,7 @@ words_tell_cells net c d acc h k e =
     let hv = kind_unspaced d.kind in
     let x = split_words net w (scope_of c.kind) c.a c.b in
     let y = split_words net v (scope_of d.kind) d.a d.b in
-    let kinds = same_kind c.kind d.kind (same_front w v x.0 y.0 hw hv (sym x.1 ∙ e ∙ y.1)) in
+    let kinds = same_kind c.kind d.kind (same_front 32 w v x.0 y.0 hw hv (sym x.1 ∙ e ∙ y.1)) in
     let here = subst (λ (l : Kind). is_in_scope net (scope_of l) d.a d.b ≡ true) (sym kinds) k in
     let text = e ∙ ap (λ (l : Kind). words_at net v (scope_of l) d.a d.b) (sym kinds) in
     let one = place_same net w v (scope_of c.kind) c.a c.b d.a d.b acc h here hw hv text in

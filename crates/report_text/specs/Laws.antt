@@ -23,13 +23,14 @@ abbrev pub IsPrintable : Ext → Type 0
 IsPrintable Inf = Unit {0}
 IsPrintable (Fin q) = IsSmall q
 
--- the text of a number tells the number
+-- the text of such a number x is that of no other number y, whether y is such a number or not: what is printed as `130`
+-- is 130. (Beyond, two numbers of more than 64 digits may have one text: the digits that std writes are at most 64.)
 abbrev pub TextsTellNumbers : Type 0
-TextsTellNumbers = (x y : Ext) → IsPrintable x → IsPrintable y → number_text x ≡ number_text y → x ≡ y
+TextsTellNumbers = (x y : Ext) → IsPrintable x → number_text x ≡ number_text y → x ≡ y
 
 -- and only infinity is written as `unbounded`
 abbrev pub OnlyInfinityIsUnbounded : Type 0
-OnlyInfinityIsUnbounded = (x : Ext) → IsPrintable x → number_text x ≡ codes "unbounded" → x ≡ Inf
+OnlyInfinityIsUnbounded = (x : Ext) → number_text x ≡ codes "unbounded" → x ≡ Inf
 
 -- ---- tables
 -- the kinds whose cells the report prints

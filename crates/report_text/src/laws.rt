@@ -4,12 +4,12 @@ ghost use Rattle.report_text.specs.Laws.{TextsTellNumbers, OnlyInfinityIsUnbound
 ghost use Rattle.report_text.specs.Laws.{RunReportsAgree, EquationsGiveOneReport, EquationsGiveOneRunReport};
 ghost use Rattle.report_text.specs.Laws.{EquationsGiveNumbers, WordsTellCells};
 
-/// The text of a number tells the number.
+/// The text of a number whose parts have at most 127 bits is that of no other number: what is printed as `130` is 130.
 pub fn texts_tell_numbers()
     ensures { TextsTellNumbers }
 {}
 
-/// Only infinity is written as `unbounded`.
+/// Only infinity is written as `unbounded`, whatever the number.
 pub fn only_infinity_is_unbounded()
     ensures { OnlyInfinityIsUnbounded }
 {}

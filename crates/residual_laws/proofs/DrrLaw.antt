@@ -13,7 +13,8 @@ use Rattle.rational.proofs.Over.{mul_frac}
 use Rattle.rational.proofs.Whole.{le_of_mul}
 use Rattle.rational.proofs.Linear.{with1, with2, with3, with4, with5, with6, with7, with8}
 use Rattle.min_plus.specs.Pointwise.{excess, scaled}
-use Rattle.run_laws.specs.Cards.{Class, all, of_queue, before_queue, AreParts, whole, ServerStep, Arrives, Works, Leaves, Visits}
+use Rattle.run_laws.specs.Cards.{Class, all, of_queue, before_queue, whole, ServerStep, Arrives, Works, Leaves, Visits}
+use Rattle.run_laws.proofs.Always.{AreAlwaysParts}
 use Rattle.run_laws.specs.Servers.{Drr, queue_count, Server, ServerState, start}
 use Rattle.run_laws.specs.Next.{next}
 use Rattle.run_laws.specs.Allows.{AllAllowed, IsLawfulView}
@@ -38,7 +39,7 @@ use Rattle.residual_laws.proofs.Shares.{IsShared, shared}
 abbrev beyond : ℕ → Class
 beyond n c = leb n c.queue
 
-below_parts : (k : ℕ) → AreParts (before_queue (suc k)) (of_queue k) (before_queue k)
+below_parts : (k : ℕ) → AreAlwaysParts (before_queue (suc k)) (of_queue k) (before_queue k)
 below_parts k = record { of_one = λ c. one c.queue; apart = λ c. two c.queue }
   where
     strict : (q : ℕ) → k ≤ q → (q ≡ k → ⊥) → k < q
@@ -64,7 +65,7 @@ below_parts k = record { of_one = λ c. one c.queue; apart = λ c. two c.queue }
       | inr e ↦ rw e refl
     ]
 
-all_below : (n : ℕ) → AreParts all (before_queue n) (beyond n)
+all_below : (n : ℕ) → AreAlwaysParts all (before_queue n) (beyond n)
 all_below n = record { of_one = λ c. one c.queue; apart = λ c. two c.queue }
   where
     one : (q : ℕ) → true ≡ (ltb q n || leb n q)
@@ -294,7 +295,7 @@ in_stretch server end V quanta l i p β t s lawful e r some service in_run is h 
         not_both true = refl
         not_both false = refl
 
-        halves : AreParts all (of_queue i) (λ c. not (c.queue == i))
+        halves : AreAlwaysParts all (of_queue i) (λ c. not (c.queue == i))
         halves = record { of_one = λ c. one_of (c.queue == i); apart = λ c. not_both (c.queue == i) }
 
     turned : (a p b : ℕ) → whole (a + (p + 1) * b) ≡ whole a +ℚ (whole p +ℚ int (pos 1)) *ℚ whole b

@@ -13,7 +13,8 @@ use Rattle.rational.proofs.ExtendedOrder.{le_ext_trans, le_ext_refl, add_le_ext}
 use Rattle.rational.proofs.Laws.{le_refl, le_trans, le_of_lt, le_or_lt, antisym}
 use Rattle.rational.proofs.Linear.{with1, with2, with3, with4, with6, with7, with8}
 use Rattle.min_plus.specs.Pointwise.{excess}
-use Rattle.run_laws.specs.Cards.{Card, whole, Class, all, of_queue, before_queue, upto_queue, after_queue, AreParts, ServerStep, Works, time_of}
+use Rattle.run_laws.specs.Cards.{Card, whole, Class, all, of_queue, before_queue, upto_queue, after_queue, ServerStep, Works, time_of}
+use Rattle.run_laws.proofs.Always.{AreAlwaysParts}
 use Rattle.run_laws.specs.Servers.{Discipline, Priority, Server, Round, ServerState, head_of, start}
 use Rattle.run_laws.specs.Next.{next, after}
 use Rattle.run_laws.specs.Allows.{AllAllowed, IsLawfulView, first_head, pick}
@@ -123,7 +124,7 @@ low_work server end V n i bits s z lawful priority sizes l busy =
         with7 Wz Ws WP WS Dz LP l (λ c. omega (arith, c.le, c.lt, c.same))
 
 -- ---- the queues as parts
-pub all_parts : (i : ℕ) → AreParts all (upto_queue i) (after_queue i)
+pub all_parts : (i : ℕ) → AreAlwaysParts all (upto_queue i) (after_queue i)
 all_parts i = record { of_one = λ c. one c.queue; apart = λ c. two c.queue }
   where
     one : (q : ℕ) → true ≡ (leb q i || ltb i q)
@@ -138,7 +139,7 @@ all_parts i = record { of_one = λ c. one c.queue; apart = λ c. two c.queue }
       | inr e ↦ rw e refl
     ]
 
-pub upto_parts : (i : ℕ) → AreParts (upto_queue i) (of_queue i) (before_queue i)
+pub upto_parts : (i : ℕ) → AreAlwaysParts (upto_queue i) (of_queue i) (before_queue i)
 upto_parts i = record { of_one = λ c. one c.queue; apart = λ c. two c.queue }
   where
     one : (q : ℕ) → leb q i ≡ ((q == i) || ltb q i)

@@ -23,6 +23,21 @@ arrivals_map P Q f (Works c a b w ∷ V) h = arrivals_map P Q f V h
 arrivals_map P Q f (Leaves c t ∷ V) h = arrivals_map P Q f V h
 arrivals_map P Q f (Visits q t ∷ V) h = arrivals_map P Q f V h
 
+pub arrivals_all : (P : Card → Type 0) → ((c : Card) → P c) → (V : List ServerStep) → EachArrival P V
+arrivals_all P f [] = tt
+arrivals_all P f (Arrives c t ∷ V) = (f c, arrivals_all P f V)
+arrivals_all P f (Works c a b w ∷ V) = arrivals_all P f V
+arrivals_all P f (Leaves c t ∷ V) = arrivals_all P f V
+arrivals_all P f (Visits q t ∷ V) = arrivals_all P f V
+
+pub arrivals_both : (P Q : Card → Type 0) → (V : List ServerStep) → EachArrival P V → EachArrival Q V
+    → EachArrival (λ c. P c × Q c) V
+arrivals_both P Q [] h k = tt
+arrivals_both P Q (Arrives c t ∷ V) h k = ((h.0, k.0), arrivals_both P Q V h.1 k.1)
+arrivals_both P Q (Works c a b w ∷ V) h k = arrivals_both P Q V h k
+arrivals_both P Q (Leaves c t ∷ V) h k = arrivals_both P Q V h k
+arrivals_both P Q (Visits q t ∷ V) h k = arrivals_both P Q V h k
+
 pub same_arrivals : (C D : Class) (p : ℚ → Bool) (V : List ServerStep) → EachArrival (λ c. C c ≡ D c) V
     → total (arrives C p) V ≡ total (arrives D p) V
 same_arrivals C D p [] h = refl

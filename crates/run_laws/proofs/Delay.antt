@@ -7,7 +7,8 @@ use Rattle.rational.specs.Extended.{Ext, ◌≤ₑ◌, ◌+ₑ◌}
 use Rattle.rational.specs.declared.Extended.TheVariants.{Fin, Inf}
 use Rattle.rational.proofs.Laws.{le_refl, le_trans, le_of_lt, le_or_lt, between}
 use Rattle.rational.proofs.Linear.{with2, with3, with4, with5}
-use Rattle.run_laws.specs.Cards.{Card, size, Class, ServerStep, Arrives, Works, Leaves, Visits, IsOfQueue}
+use Rattle.run_laws.specs.Cards.{Card, size, Class, ServerStep, Arrives, Works, Leaves, Visits}
+use Rattle.run_laws.proofs.Always.{IsAlwaysOfQueue}
 use Rattle.run_laws.specs.Servers.{Server, ServerState, start}
 use Rattle.run_laws.specs.Next.{next, after}
 use Rattle.run_laws.specs.Allows.{AllAllowed, IsLawfulView}
@@ -126,7 +127,7 @@ stay_at_most server end V front back C p u gone α β delay lawful joined counte
     } in
     with3 gone u delay (λ c. omega (arith, c.le, c.lt, c.same))
 
-packet_delay : (server : Server) (end : ℚ) (V front back : List ServerStep) (C : Class) (q : ℕ) (p : Card) (u : ℚ) (α β : ℚ → Ext) (delay : ℚ) → IsLawfulView server end V → V ≡ front ++ Arrives p u ∷ back → IsOfQueue C q → C p ≡ true
+packet_delay : (server : Server) (end : ℚ) (V front back : List ServerStep) (C : Class) (q : ℕ) (p : Card) (u : ℚ) (α β : ℚ → Ext) (delay : ℚ) → IsLawfulView server end V → V ≡ front ++ Arrives p u ∷ back → IsAlwaysOfQueue C q → C p ≡ true
     → Serves C β end V → KeepsArrivals C α V → int (pos 0) ≤ℚ delay → Within α β delay → gone_at end p.packet back -ℚ u ≤ℚ delay
 packet_delay server end V front back C q p u α β delay lawful joined g counted serves keeps on within =
     let d = server.discipline in
@@ -150,7 +151,7 @@ kept_rest true x xs most h = h.1
 kept_rest false x xs most h = h
 
 each_delay : (server : Server) (end : ℚ) (V front back : List ServerStep) (C : Class) (q : ℕ) (α β : ℚ → Ext) (delay : ℚ)
-    → IsLawfulView server end V → V ≡ front ++ back → IsOfQueue C q
+    → IsLawfulView server end V → V ≡ front ++ back → IsAlwaysOfQueue C q
     → Serves C β end V → KeepsArrivals C α V → int (pos 0) ≤ℚ delay → Within α β delay → AreAtMost (Fin delay) (hop_delays C end back)
 each_delay server end V front [] C q α β delay lawful joined g serves keeps on within = tt
 each_delay server end V front (Arrives c t ∷ back) C q α β delay lawful joined g serves keeps on within =
@@ -168,9 +169,9 @@ pub none_above_infinity : (xs : List ℚ) → AreAtMost Inf xs
 none_above_infinity [] = tt
 none_above_infinity (x ∷ xs) = (tt, none_above_infinity xs)
 
-pub delay_from_service : (server : Server) (end : ℚ) (V : List ServerStep) (C : Class) (q : ℕ) (α β : ℚ → Ext) (delay : Ext)
-    → IsLawfulView server end V → IsOfQueue C q → KeepsArrivals C α V → Serves C β end V
+pub delay_always : (server : Server) (end : ℚ) (V : List ServerStep) (C : Class) (q : ℕ) (α β : ℚ → Ext) (delay : Ext)
+    → IsLawfulView server end V → IsAlwaysOfQueue C q → KeepsArrivals C α V → Serves C β end V
     → IsRising β → IsHorizontalDeviation α β delay → AreAtMost delay (hop_delays C end V)
-delay_from_service server end V C q α β Inf lawful g keeps serves rises dev = none_above_infinity (hop_delays C end V)
-delay_from_service server end V C q α β (Fin delay) lawful g keeps serves rises dev =
+delay_always server end V C q α β Inf lawful g keeps serves rises dev = none_above_infinity (hop_delays C end V)
+delay_always server end V C q α β (Fin delay) lawful g keeps serves rises dev =
     each_delay server end V [] V C q α β delay lawful refl g serves keeps (deviation_nonneg α β delay dev) (within_deviation α β delay rises dev)

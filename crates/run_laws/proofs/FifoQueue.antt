@@ -5,7 +5,8 @@ use Rattle.std.proofs.lemmas.Bool.{eq-eqb}
 use Rattle.rational.specs.Rational.{ℚ, int, ◌-ℚ◌, ◌≤ℚ◌}
 use Rattle.rational.specs.Extended.{Ext}
 use Rattle.rational.proofs.Linear.{with3, with4, with6}
-use Rattle.run_laws.specs.Cards.{Card, Class, all, of_queue, AreParts, ServerStep, Arrives, Works, Leaves, Visits}
+use Rattle.run_laws.specs.Cards.{Card, Class, all, of_queue, ServerStep, Arrives, Works, Leaves, Visits}
+use Rattle.run_laws.proofs.Always.{AreAlwaysParts}
 use Rattle.run_laws.specs.Servers.{Discipline, Fifo, Server, ServerState, start, queue_count}
 use Rattle.run_laws.specs.Next.{next}
 use Rattle.run_laws.specs.Allows.{AllAllowed, IsLawfulView}
@@ -22,7 +23,7 @@ use Rattle.run_laws.proofs.Service.{server_is_served}
 abbrev elsewhere : Class
 elsewhere c = not (c.queue == 0)
 
-halves : AreParts all (of_queue 0) elsewhere
+halves : AreAlwaysParts all (of_queue 0) elsewhere
 halves = record { of_one = λ c. one (c.queue == 0); apart = λ c. two (c.queue == 0) }
   where
     one : (b : Bool) → true ≡ (b || not b)

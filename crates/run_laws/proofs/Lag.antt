@@ -6,7 +6,8 @@ use Rattle.rational.specs.Rational.{ℚ, int, ◌+ℚ◌, ◌-ℚ◌, ◌≤ℚ�
 use Rattle.rational.specs.Extended.{Ext}
 use Rattle.rational.proofs.Laws.{le_trans}
 use Rattle.rational.proofs.Linear.{with1, with2, with3, with4, with5, with7, with8}
-use Rattle.run_laws.specs.Cards.{Card, size, Class, ServerStep, Arrives, Works, Leaves, Visits, time_of, IsOfQueue, IsPart}
+use Rattle.run_laws.specs.Cards.{Card, size, Class, ServerStep, Arrives, Works, Leaves, Visits, time_of}
+use Rattle.run_laws.proofs.Always.{IsAlwaysOfQueue, IsAlwaysPart}
 use Rattle.run_laws.specs.Servers.{Server, Under, ServerState, start}
 use Rattle.run_laws.specs.Next.{next, after}
 use Rattle.run_laws.specs.Allows.{AllAllowed, IsLawfulView, IsComplete}
@@ -77,7 +78,7 @@ over_left server end σ V C p t s (Some u) a e n k l m = λ o.
 
 -- while less than p and what came before it has left, the work is below these
 not_worked_before : (server : Server) (end : ℚ) (V front back : List ServerStep) (C : Class) (q : ℕ) (p : Card) (u t s : ℚ)
-    → IsLawfulView server end V → V ≡ front ++ Arrives p u ∷ back → IsOfQueue C q → C p ≡ true → u ≤ℚ t → t <ℚ s
+    → IsLawfulView server end V → V ≡ front ++ Arrives p u ∷ back → IsAlwaysOfQueue C q → C p ≡ true → u ≤ℚ t → t <ℚ s
     → departed C V s <ℚ total (arrives C (upto u)) front +ℚ size p → worked C V t <ℚ total (arrives C (upto u)) front +ℚ size p
 not_worked_before server end V front back C q p u t s lawful joined g counted l m few =
     let d = server.discipline in
@@ -141,7 +142,7 @@ not_worked_before server end V front back C q p u t s lawful joined g counted l 
 
 -- ---- what arrived by the delay before s has left before s
 pub lag_from_service : (server : Server) (end : ℚ) (V : List ServerStep) (Q f : Class) (q : ℕ) (α β : ℚ → Ext) (delay : ℚ)
-    → IsLawfulView server end V → IsOfQueue Q q → IsPart f Q
+    → IsLawfulView server end V → IsAlwaysOfQueue Q q → IsAlwaysPart f Q
     → Serves Q β end V → KeepsArrivals Q α V → int (pos 0) ≤ℚ delay → Within α β delay → (s : ℚ) → s ≤ℚ end
     → arrived f V (s -ℚ delay) ≤ℚ departed f V s
 lag_from_service server end V Q f q α β delay lawful own part serves keeps on within s l = elim (oldest server end V Q q s lawful own) [
@@ -150,7 +151,7 @@ lag_from_service server end V Q f q α β delay lawful own part serves keeps on 
       let k = arrived_rises f V (s -ℚ delay) s (with2 s delay (λ c. omega (arith, c.le, c.lt, c.same))) in
       with3 (arrived f V (s -ℚ delay)) (arrived f V s) (departed f V s) (λ c. omega (arith, c.le, c.lt, c.same))
   | inr o ↦
-      let whole : IsPart Q Q = λ _ h. h in
+      let whole : IsAlwaysPart Q Q = λ _ h. h in
       let left = o.is.left Q whole in
       let more = size_pos o.p o.is.some_bits in
       let few : departed Q V s <ℚ total (arrives Q (upto o.u)) o.front +ℚ size o.p = with3 (departed Q V s) (total (arrives Q (upto o.u)) o.front) (size o.p) (λ c. omega (arith, c.le, c.lt, c.same)) in

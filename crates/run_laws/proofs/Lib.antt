@@ -28,6 +28,7 @@ pub mod Latency
 pub mod OnePacket
 pub mod OneHop
 pub mod Totals
+pub mod Always
 pub mod Parts
 pub mod FifoQueue
 pub mod QueueBound
@@ -38,3 +39,6 @@ pub mod Outputs
 pub mod Lag
 pub mod Shifted
 pub mod Rounds
+pub mod Seen
+pub mod Classes
+pub mod Closures

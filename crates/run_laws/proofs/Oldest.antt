@@ -5,7 +5,8 @@ use Rattle.std.proofs.lemmas.Bool.{cases_Bool, both_ways}
 use Rattle.rational.specs.Rational.{ℚ, int, ◌+ℚ◌, ◌≤ℚ◌, ◌<ℚ◌}
 use Rattle.rational.proofs.Laws.{le_refl}
 use Rattle.rational.proofs.Linear.{with3, with4, with5}
-use Rattle.run_laws.specs.Cards.{Card, size, Class, ServerStep, Arrives, Works, Leaves, Visits, IsOfQueue, IsPart}
+use Rattle.run_laws.specs.Cards.{Card, size, Class, ServerStep, Arrives, Works, Leaves, Visits}
+use Rattle.run_laws.proofs.Always.{IsAlwaysOfQueue, IsAlwaysPart}
 use Rattle.run_laws.specs.Servers.{Server, Under, ServerState, done_at, start, without_head}
 use Rattle.run_laws.specs.Next.{next, after}
 use Rattle.run_laws.specs.Allows.{AllAllowed, IsLawfulView}
@@ -37,7 +38,7 @@ departures_of C (Leaves c t ∷ V) = if C c then c ∷ departures_of C V else de
 departures_of C (Visits q t ∷ V) = departures_of C V
 
 -- ---- a class of one queue is first in, first out
-pub queue_order : (server : Server) (end : ℚ) (σ : ServerState) (V : List ServerStep) (Q : Class) (q : ℕ) → IsOfQueue Q q
+pub queue_order : (server : Server) (end : ℚ) (σ : ServerState) (V : List ServerStep) (Q : Class) (q : ℕ) → IsAlwaysOfQueue Q q
     → AllAllowed server end σ V → IsSound σ
     → departures_of Q V ++ of_class Q (after server.discipline σ V).inside ≡ of_class Q σ.inside ++ arrivals_of Q V
 queue_order server end σ [] Q q g a h = sym (append-nil (of_class Q σ.inside))
@@ -55,20 +56,20 @@ queue_order server end σ (Leaves c t ∷ V) Q q g a h =
     let head = leaving σ.inside σ.busy σ.under c t h a.0.1 in
     elim (cases_Bool (Q c)) [
       | inl f ↦
-          let own = subst (λ (r : ℕ). IsOfQueue Q r) (sym (g c f)) g in
+          let own = subst (λ (r : ℕ). IsAlwaysOfQueue Q r) (sym (g c f)) g in
           rw (f, class_head Q c.queue c σ.inside own head f) (ap (λ (xs : List Card). c ∷ xs) k)
       | inr f ↦ rw f (k ∙ ap (λ (xs : List Card). xs ++ arrivals_of Q V) (class_other Q c.queue c σ.inside head f))
     ]
 queue_order server end σ (Visits r t ∷ V) Q q g a h = queue_order server end (next server.discipline σ (Visits r t)) V Q q g a.1 (sound_next server end σ (Visits r t) a.0 h)
 
 -- ---- the sums of a part of the class, by these lists
-part_no : (f Q : Class) (c : Card) → IsPart f Q → Q c ≡ false → f c ≡ false
+part_no : (f Q : Class) (c : Card) → IsAlwaysPart f Q → Q c ≡ false → f c ≡ false
 part_no f Q c s e = elim (cases_Bool (f c)) [
   | inl k ↦ absurd (both_ways (Q c) e (s c k))
   | inr k ↦ k
 ]
 
-part_bits : (f Q : Class) (c : Card) (cs : List Card) (x : ℚ) → IsPart f Q → x ≡ bits_of (of_class f cs)
+part_bits : (f Q : Class) (c : Card) (cs : List Card) (x : ℚ) → IsAlwaysPart f Q → x ≡ bits_of (of_class f cs)
     → when (f c) (size c) +ℚ x ≡ bits_of (of_class f (if Q c then c ∷ cs else cs))
 part_bits f Q c cs x s h = elim (cases_Bool (f c)) [
   | inl k ↦ rw (s c k, k, when_true true (size c) refl) (ap (λ (y : ℚ). size c +ℚ y) h)
@@ -78,7 +79,7 @@ part_bits f Q c cs x s h = elim (cases_Bool (f c)) [
   ]
 ]
 
-pub left_part : (f Q : Class) (p : ℚ → Bool) (V : List ServerStep) → IsPart f Q → Each (IsBefore p) V
+pub left_part : (f Q : Class) (p : ℚ → Bool) (V : List ServerStep) → IsAlwaysPart f Q → Each (IsBefore p) V
     → total (leaves f p) V ≡ bits_of (of_class f (departures_of Q V))
 left_part f Q p [] s h = refl
 left_part f Q p (Arrives c t ∷ V) s h = add_nothing (total (leaves f p) V) ∙ left_part f Q p V s h.1
@@ -86,7 +87,7 @@ left_part f Q p (Works c a b w ∷ V) s h = add_nothing (total (leaves f p) V) �
 left_part f Q p (Leaves c t ∷ V) s h = rw (if_true (f c) (p t) (size c) h.0) (part_bits f Q c (departures_of Q V) (total (leaves f p) V) s (left_part f Q p V s h.1))
 left_part f Q p (Visits q t ∷ V) s h = add_nothing (total (leaves f p) V) ∙ left_part f Q p V s h.1
 
-came_part : (f Q : Class) (p : ℚ → Bool) (V : List ServerStep) → IsPart f Q → Each (IsBefore p) V
+came_part : (f Q : Class) (p : ℚ → Bool) (V : List ServerStep) → IsAlwaysPart f Q → Each (IsBefore p) V
     → total (arrives f p) V ≡ bits_of (of_class f (arrivals_of Q V))
 came_part f Q p [] s h = refl
 came_part f Q p (Arrives c t ∷ V) s h = rw (if_true (f c) (p t) (size c) h.0) (part_bits f Q c (arrivals_of Q V) (total (arrives f p) V) s (came_part f Q p V s h.1))
@@ -146,11 +147,11 @@ pub record IsOldest (V : List ServerStep) (Q : Class) (t : ℚ) (p : Card) (u : 
   pub earlier : u <ℚ t
   pub some_bits : 1 ≤ p.bits
   -- what left is what came before it, of each part of the queue
-  pub left : (f : Class) → IsPart f Q → departed f V t ≡ total (arrives f (upto u)) front
-  pub came : (f : Class) → IsPart f Q → arrived f V u ≤ℚ departed f V t
+  pub left : (f : Class) → IsAlwaysPart f Q → departed f V t ≡ total (arrives f (upto u)) front
+  pub came : (f : Class) → IsAlwaysPart f Q → arrived f V u ≤ℚ departed f V t
   pub came_upto : (f : Class) → departed f V t ≡ total (arrives f (upto u)) front
       → departed f V t +ℚ when (f p) (size p) ≤ℚ arrived_upto f V u
-  pub work : (f : Class) → IsPart f Q → worked f V t ≤ℚ departed f V t +ℚ when (f p) (size p)
+  pub work : (f : Class) → IsAlwaysPart f Q → worked f V t ≤ℚ departed f V t +ℚ when (f p) (size p)
 
 pub record Oldest (V : List ServerStep) (Q : Class) (t : ℚ) : Type 0 where
   pub p : Card
@@ -161,9 +162,9 @@ pub record Oldest (V : List ServerStep) (Q : Class) (t : ℚ) : Type 0 where
 
 -- nothing of the queue is there
 pub record IsEmpty (V : List ServerStep) (Q : Class) (t : ℚ) : Type 0 where
-  pub all_left : (f : Class) → IsPart f Q → departed f V t ≡ arrived f V t
+  pub all_left : (f : Class) → IsAlwaysPart f Q → departed f V t ≡ arrived f V t
 
-part_empty : (f Q : Class) (cs : List Card) → IsPart f Q → of_class Q cs ≡ [] → sum_of f cs ≡ int (pos 0)
+part_empty : (f Q : Class) (cs : List Card) → IsAlwaysPart f Q → of_class Q cs ≡ [] → sum_of f cs ≡ int (pos 0)
 part_empty f Q [] s h = refl
 part_empty f Q (c ∷ cs) s h = elim (cases_Bool (Q c)) [
   | inl e ↦ let k : c ∷ of_class Q cs ≡ [] = rw e at h in absurd (cc)
@@ -171,14 +172,14 @@ part_empty f Q (c ∷ cs) s h = elim (cases_Bool (Q c)) [
 ]
 
 first_done : (cards : List Card) (busy : ℚ) (under : Option Under) (f Q : Class) (q : ℕ) (t : ℚ) (p : Card) (rest : List Card)
-    → IsSoundFor cards busy under → IsPart f Q → IsOfQueue Q q → of_class Q cards ≡ p ∷ rest
+    → IsSoundFor cards busy under → IsAlwaysPart f Q → IsAlwaysOfQueue Q q → of_class Q cards ≡ p ∷ rest
     → done_by f t under ≤ℚ when (f p) (size p)
 first_done cards busy None f Q q t p rest h s g e = when_nonneg (f p) (size p) (size_nonneg p)
 first_done cards busy (Some w) f Q q t p rest h s g e = elim (cases_Bool (f w.card)) [
   | inr k ↦ rw (when_false (f w.card) (done_at t w) k) (when_nonneg (f p) (size p) (size_nonneg p))
   | inl k ↦
       let m = s w.card k in
-      let own = subst (λ (r : ℕ). IsOfQueue Q r) (sym (g w.card m)) g in
+      let own = subst (λ (r : ℕ). IsAlwaysOfQueue Q r) (sym (g w.card m)) g in
       let l : w.card ∷ of_class Q (without_head w.card.queue cards) ≡ p ∷ rest = sym (class_head Q w.card.queue w.card cards own h.is_head m) ∙ e in
       let same : w.card ≡ p = cc in
       subst (λ (x : Card). done_by f t (Some w) ≤ℚ when (f x) (size x)) same (when_le (f w.card) (done_at t w) (size w.card) (done_at_most cards busy w t h))
@@ -207,7 +208,7 @@ came_with V front back p u f joined =
     let rest = total_nonneg (arrives f (upto u)) back (each_all (λ x. int (pos 0) ≤ℚ arrives f (upto u) x) (arrives_nonneg f (upto u)) back) in
     with5 (arrived_upto f V u) (total (arrives f (upto u)) front) (arrives f (upto u) (Arrives p u)) (when (f p) (size p)) (total (arrives f (upto u)) back) (λ c. omega (arith, c.le, c.lt, c.same))
 
-with_oldest : (server : Server) (end : ℚ) (V : List ServerStep) (Q : Class) (q : ℕ) (t : ℚ) → IsLawfulView server end V → IsOfQueue Q q
+with_oldest : (server : Server) (end : ℚ) (V : List ServerStep) (Q : Class) (q : ℕ) (t : ℚ) → IsLawfulView server end V → IsAlwaysOfQueue Q q
     → (a : AtTime server end (start server.discipline) V (before t) t)
     → (inside : List Card) → of_class Q (after server.discipline (start server.discipline) a.at.front).inside ≡ inside
     → IsEmpty V Q t ⊎ Oldest V Q t
@@ -230,7 +231,7 @@ with_oldest server end V Q q t lawful g a (p ∷ rest) e =
     let earlier : Each (IsBefore (before t)) (found.front ++ Arrives p u ∷ found.back) = subst (Each (IsBefore (before t))) found.joined a.at.front_before in
     let is_before : before t u ≡ true = (each-append (IsBefore (before t)) found.front (Arrives p u ∷ found.back) earlier).1.0 in
     let upto_u = all_upto server end (start d) found.front (found.back ++ a.at.back) (Arrives p u) (subst (AllAllowed server end (start d)) joined lawful.allowed) in
-    let left : (f : Class) → IsPart f Q → departed f V t ≡ total (arrives f (upto u)) found.front =
+    let left : (f : Class) → IsAlwaysPart f Q → departed f V t ≡ total (arrives f (upto u)) found.front =
     λ f s. a.left f ∙ left_part f Q (before t) P s a.at.front_before ∙ ap (λ (xs : List Card). bits_of (of_class f xs)) (sym found.same) ∙ sym (came_part f Q (upto u) found.front s upto_u) in
     inr record {
       p = p;
@@ -252,7 +253,7 @@ with_oldest server end V Q q t lawful g a (p ∷ rest) e =
       };
     }
 
-pub oldest : (server : Server) (end : ℚ) (V : List ServerStep) (Q : Class) (q : ℕ) (t : ℚ) → IsLawfulView server end V → IsOfQueue Q q
+pub oldest : (server : Server) (end : ℚ) (V : List ServerStep) (Q : Class) (q : ℕ) (t : ℚ) → IsLawfulView server end V → IsAlwaysOfQueue Q q
     → IsEmpty V Q t ⊎ Oldest V Q t
 oldest server end V Q q t lawful g =
     let a = at_before server end V t lawful in

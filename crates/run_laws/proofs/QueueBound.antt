@@ -19,7 +19,7 @@ use Rattle.run_laws.specs.Bounds.{IsQueueBounded}
 use Rattle.run_laws.proofs.Arrivals.{IsPassing, all_pass}
 use Rattle.run_laws.proofs.FifoQueue.{fifo_queue_is_served}
 use Rattle.run_laws.proofs.Views.{views_are_lawful}
-use Rattle.run_laws.proofs.Delay.{delay_from_service}
+use Rattle.run_laws.proofs.Delay.{delay_always}
 use Rattle.run_laws.proofs.Backlog.{backlog_from_service}
 
 -- the packets that arrive at a server of a run that keeps its premises
@@ -37,6 +37,6 @@ queue_is_bounded net run s bits α β delay most lawful known is_fifo service ze
     let view_lawful = views_are_lawful net run s lawful known in
     let serves = fifo_queue_is_served server run.end V β view_lawful is_fifo service zero in
     record {
-      delays = delay_from_service server run.end V (of_queue 0) 0 α β delay view_lawful (λ c h. eqb-true c.queue 0 h) arrivals serves rises dh;
+      delays = delay_always server run.end V (of_queue 0) 0 α β delay view_lawful (λ c h. eqb-true c.queue 0 h) arrivals serves rises dh;
       backlogs = backlog_from_service server run.end V (of_queue 0) bits α β most view_lawful sizes arrivals serves dv;
     }

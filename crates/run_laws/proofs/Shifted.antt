@@ -11,7 +11,8 @@ use Rattle.rational.proofs.Linear.{with1, with2, with3, with4, with5, with6, wit
 use Rattle.min_plus.specs.Pointwise.{shifted}
 use Rattle.min_plus.specs.Functions.{IsRising}
 use Rattle.min_plus.specs.Deviations.{IsHorizontalDeviation}
-use Rattle.run_laws.specs.Cards.{Card, size, Class, IsOfQueue, IsPart, ServerStep, Arrives, Works, Leaves, Visits}
+use Rattle.run_laws.specs.Cards.{Card, size, Class, ServerStep, Arrives, Works, Leaves, Visits}
+use Rattle.run_laws.proofs.Always.{IsAlwaysOfQueue, IsAlwaysPart}
 use Rattle.run_laws.specs.Servers.{Server, ServerState, Under, start}
 use Rattle.run_laws.specs.Next.{next, after}
 use Rattle.run_laws.specs.Allows.{AllAllowed, IsLawfulView, MayLeave}
@@ -70,10 +71,10 @@ shifted_output server end V C α d s t lawful keeps d_on lag h = elim (le_or_lt 
 ]
 
 -- ---- each flow of a queue: it leaves with its curve, moved by the queue's horizontal deviation
-pub part_output_from_service : (server : Server) (end : ℚ) (V : List ServerStep) (Q f : Class) (q : ℕ) (α β own : ℚ → Ext) (d : Ext) (s t : ℚ) → IsLawfulView server end V → IsOfQueue Q q → IsPart f Q → KeepsArrivals Q α V → KeepsArrivals f own V
+pub part_output_always : (server : Server) (end : ℚ) (V : List ServerStep) (Q f : Class) (q : ℕ) (α β own : ℚ → Ext) (d : Ext) (s t : ℚ) → IsLawfulView server end V → IsAlwaysOfQueue Q q → IsAlwaysPart f Q → KeepsArrivals Q α V → KeepsArrivals f own V
     → Serves Q β end V → IsRising β → IsHorizontalDeviation α β d → s ≤ℚ t → Fin (departed_in f V s t) ≤ₑ shifted own d (t -ℚ s)
-part_output_from_service server end V Q f q α β own Inf s t lawful of_q part keeps keeps_own serves rises dev h = tt
-part_output_from_service server end V Q f q α β own (Fin d) s t lawful of_q part keeps keeps_own serves rises dev h =
+part_output_always server end V Q f q α β own Inf s t lawful of_q part keeps keeps_own serves rises dev h = tt
+part_output_always server end V Q f q α β own (Fin d) s t lawful of_q part keeps keeps_own serves rises dev h =
     let on = deviation_nonneg α β d dev in
     shifted_output server end V f own d s t lawful keeps_own on (λ l. lag_from_service server end V Q f q α β d lawful of_q part serves keeps on (within_deviation α β d rises dev) s l) h
 
@@ -151,7 +152,7 @@ only_itself front back p u test h =
     let after_p = none_of p test back k.1 in
     with5 (total (arrives K test) (front ++ Arrives p u ∷ back)) (total (arrives K test) front) (arrives K test (Arrives p u)) (total (arrives K test) back) (size p) (λ c. omega (arith, c.le, c.lt, c.same))
 
-sum_part : (f K : Class) (cs : List Card) → IsPart f K → sum_of f cs ≤ℚ sum_of K cs
+sum_part : (f K : Class) (cs : List Card) → IsAlwaysPart f K → sum_of f cs ≤ℚ sum_of K cs
 sum_part f K [] part = le_refl (int (pos 0))
 sum_part f K (c ∷ cs) part =
     let one = when_rises true (f c) (K c) (size c) (size_nonneg c) (part c) in
@@ -164,8 +165,8 @@ none_of_it_left : (server : Server) (end : ℚ) (V : List ServerStep) (C : Class
 none_of_it_left server end V C s lawful twice o =
     let K = of_packet o.p.packet in
     let f : Class = λ c. C c && (c.packet == o.p.packet) in
-    let part : IsPart f C = λ c h. (and_parts (C c) (c.packet == o.p.packet) h).0 in
-    let own : IsPart f K = λ c h. (and_parts (C c) (c.packet == o.p.packet) h).1 in
+    let part : IsAlwaysPart f C = λ c h. (and_parts (C c) (c.packet == o.p.packet) h).0 in
+    let own : IsAlwaysPart f K = λ c h. (and_parts (C c) (c.packet == o.p.packet) h).1 in
     let split = subst NoneTwice o.is.joined twice in
     let none_front = none_arrive f (upto o.u) o.front (arrivals_map (IsOther o.p) (λ d. f d ≡ false) (λ d k. and_right (C d) _ (ne_eqb d.packet o.p.packet k)) o.front (once o.front o.back o.p o.u split).0) in
     let left = o.is.left f part in
@@ -210,7 +211,7 @@ delay_at C end (Visits q t ∷ front) back p u most e h = delay_at C end front b
 
 -- what arrived d before s has left before s, where no packet stays longer than d
 lag_from_delays : (server : Server) (end : ℚ) (V : List ServerStep) (C : Class) (q : ℕ) (d s : ℚ) → IsLawfulView server end V → NoneTwice V
-    → IsOfQueue C q → int (pos 0) ≤ℚ d → AreAtMost (Fin d) (hop_delays C end V) → s ≤ℚ end → arrived C V (s -ℚ d) ≤ℚ departed C V s
+    → IsAlwaysOfQueue C q → int (pos 0) ≤ℚ d → AreAtMost (Fin d) (hop_delays C end V) → s ≤ℚ end → arrived C V (s -ℚ d) ≤ℚ departed C V s
 lag_from_delays server end V C q d s lawful twice of_q d_on most l = elim (oldest server end V C q s lawful of_q) [
   | inl empty ↦
       let e = empty.all_left C (λ _ h. h) in
@@ -222,9 +223,9 @@ lag_from_delays server end V C q d s lawful twice of_q d_on most l = elim (oldes
       le_trans (arrived_rises C V (s -ℚ d) o.u (with4 s d o.u (gone_at end o.p.packet o.back) (λ c. omega (arith, c.le, c.lt, c.same)))) (o.is.came C (λ _ h. h))
 ]
 
-pub output_from_delay : (server : Server) (end : ℚ) (V : List ServerStep) (C : Class) (q : ℕ) (α : ℚ → Ext) (d : Ext) (s t : ℚ)
-    → IsLawfulView server end V → NoneTwice V → IsOfQueue C q → KeepsArrivals C α V
+pub delay_output_always : (server : Server) (end : ℚ) (V : List ServerStep) (C : Class) (q : ℕ) (α : ℚ → Ext) (d : Ext) (s t : ℚ)
+    → IsLawfulView server end V → NoneTwice V → IsAlwaysOfQueue C q → KeepsArrivals C α V
     → Fin (int (pos 0)) ≤ₑ d → AreAtMost d (hop_delays C end V) → s ≤ℚ t → Fin (departed_in C V s t) ≤ₑ shifted α d (t -ℚ s)
-output_from_delay server end V C q α Inf s t lawful twice of_q keeps on most h = tt
-output_from_delay server end V C q α (Fin d) s t lawful twice of_q keeps on most h =
+delay_output_always server end V C q α Inf s t lawful twice of_q keeps on most h = tt
+delay_output_always server end V C q α (Fin d) s t lawful twice of_q keeps on most h =
     shifted_output server end V C α d s t lawful keeps on (λ l. lag_from_delays server end V C q d s lawful twice of_q on most l) h

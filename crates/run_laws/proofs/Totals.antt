@@ -8,7 +8,8 @@ use Rattle.rational.specs.declared.Extended.TheVariants.{Fin}
 use Rattle.rational.proofs.Laws.{le_refl}
 use Rattle.rational.proofs.ExtendedOrder.{le_ext_trans, add_le_ext}
 use Rattle.rational.proofs.Linear.{with3}
-use Rattle.run_laws.specs.Cards.{Card, Class, AreParts, of_queue, of_flow, size, ServerStep, Arrives, Works, Leaves, Visits}
+use Rattle.run_laws.specs.Cards.{Card, Class, of_queue, of_flow, size, ServerStep, Arrives, Works, Leaves, Visits}
+use Rattle.run_laws.proofs.Always.{AreAlwaysParts}
 use Rattle.run_laws.specs.Counts.{when, arrives, within, arrived_in}
 use Rattle.run_laws.specs.Premises.{EachArrival, KeepsArrivals}
 use Rattle.run_laws.specs.Routes.{Hop, Route, Routes, route_of, queue_at, PassesServer}
@@ -53,7 +54,7 @@ first_flows q n c = (c.queue == q) && ltb c.flow n
 abbrev own_flow : ℕ → ℕ → Class
 own_flow q n c = (c.queue == q) && (c.flow == n)
 
-flow_parts : (q n : ℕ) → AreParts (first_flows q (suc n)) (own_flow q n) (first_flows q n)
+flow_parts : (q n : ℕ) → AreAlwaysParts (first_flows q (suc n)) (own_flow q n) (first_flows q n)
 flow_parts q n = record { of_one = λ c. one (c.queue == q) c.flow; apart = λ c. two (c.queue == q) c.flow }
   where
     one : (b : Bool) (f : ℕ) → (b && ltb f (suc n)) ≡ ((b && (f == n)) || (b && ltb f n))

@@ -4,8 +4,9 @@ use Rattle.std.proofs.Common.{arith, sym, ap, ◌∙◌, refl, inl, inr, subst, 
 use Rattle.std.proofs.lemmas.Bool.{cases_Bool, both_ways, eq-eqb, and_from, and_left}
 use Rattle.rational.specs.Rational.{ℚ, int, ◌+ℚ◌, ◌≤ℚ◌, ◌<ℚ◌}
 use Rattle.rational.proofs.Laws.{le_refl, le_trans, le_or_lt, add_zero}
-use Rattle.rational.proofs.Linear.{with1, with2, with3, with4, with5, with7}
-use Rattle.run_laws.specs.Cards.{Card, size, Class, ServerStep, Arrives, Works, Leaves, Visits, time_of, IsOfQueue}
+use Rattle.rational.proofs.Linear.{with2, with3, with4, with5, with7}
+use Rattle.run_laws.specs.Cards.{Card, size, Class, ServerStep, Arrives, Works, Leaves, Visits, time_of}
+use Rattle.run_laws.proofs.Always.{IsAlwaysOfQueue}
 use Rattle.run_laws.specs.Servers.{Server, Under, ServerState, done, done_at, start, clip, head_of, without_head}
 use Rattle.run_laws.specs.Next.{next, after}
 use Rattle.run_laws.specs.Allows.{Allows, AllAllowed, IsLawfulView, IsComplete}
@@ -46,7 +47,7 @@ sum_class C (c ∷ cs) = elim (cases_Bool (C c)) [
 ]
 
 -- the first packet of the class's queue, of the class
-pub class_head : (C : Class) (q : ℕ) (c : Card) (cs : List Card) → IsOfQueue C q → head_of q cs ≡ Some c → C c ≡ true
+pub class_head : (C : Class) (q : ℕ) (c : Card) (cs : List Card) → IsAlwaysOfQueue C q → head_of q cs ≡ Some c → C c ≡ true
     → of_class C cs ≡ c ∷ of_class C (without_head q cs)
 class_head C q c [] g h k = absurd (cc)
 class_head C q c (x ∷ cs) g h k = elim (cases_Bool (x.queue == q)) [
@@ -106,7 +107,7 @@ gone_first C p c q cards (z ∷ ahead) rest f g k =
       balance = rw same (with2 (bits_of ahead) (size z) (λ c. omega (arith, c.le, c.lt, c.same)));
     }
 
-waits_next : (server : Server) (end : ℚ) (σ : ServerState) (x : ServerStep) (C : Class) (q : ℕ) (p : Card) (ahead : List Card) (test : ℚ → Bool) → IsOfQueue C q → Allows server end σ x → IsSound σ → test (time_of x) ≡ true
+waits_next : (server : Server) (end : ℚ) (σ : ServerState) (x : ServerStep) (C : Class) (q : ℕ) (p : Card) (ahead : List Card) (test : ℚ → Bool) → IsAlwaysOfQueue C q → Allows server end σ x → IsSound σ → test (time_of x) ≡ true
     → KeepsPacket p.packet x → IsWaiting C p σ.inside ahead → Waits C p (next server.discipline σ x).inside ahead (leaves C test x)
 waits_next server end σ (Arrives c t) C q p ahead test g a h e k w = record {
   now_ahead = ahead;
@@ -118,7 +119,7 @@ waits_next server end σ (Leaves c t) C q p ahead test g a h e k w =
     let head = leaving σ.inside σ.busy σ.under c t h a.1 in
     elim (cases_Bool (C c)) [
       | inl f ↦
-          let own = subst (λ (r : ℕ). IsOfQueue C r) (sym (g c f)) g in
+          let own = subst (λ (r : ℕ). IsAlwaysOfQueue C r) (sym (g c f)) g in
           rw (when_true _ (size c) (and_from (C c) (test t) f e)) (gone_first C p c c.queue σ.inside ahead w.rest (class_head C c.queue c σ.inside own head f) w.is k)
       | inr f ↦ record {
         now_ahead = ahead;
@@ -128,7 +129,7 @@ waits_next server end σ (Leaves c t) C q p ahead test g a h e k w =
     ]
 waits_next server end σ (Visits r t) C q p ahead test g a h e k w = record { now_ahead = ahead; waiting = w; balance = add_zero (bits_of ahead) }
 
-waits_after : (server : Server) (end : ℚ) (σ : ServerState) (V : List ServerStep) (C : Class) (q : ℕ) (p : Card) (ahead : List Card) (test : ℚ → Bool) → IsOfQueue C q → AllAllowed server end σ V → IsSound σ → Each (IsBefore test) V
+waits_after : (server : Server) (end : ℚ) (σ : ServerState) (V : List ServerStep) (C : Class) (q : ℕ) (p : Card) (ahead : List Card) (test : ℚ → Bool) → IsAlwaysOfQueue C q → AllAllowed server end σ V → IsSound σ → Each (IsBefore test) V
     → Each (KeepsPacket p.packet) V → IsWaiting C p σ.inside ahead
     → Waits C p (after server.discipline σ V).inside ahead (total (leaves C test) V)
 waits_after server end σ [] C q p ahead test g a h e k w = record { now_ahead = ahead; waiting = w; balance = add_zero (bits_of ahead) }
@@ -193,7 +194,7 @@ first_below cards busy u p t (z ∷ ahead) rest h some n tail e =
     with5 (done_at t u) (size u.card) (size z) (size p) (bits_of ahead) (λ c. omega (arith, c.le, c.lt, c.same))
 
 pub done_below : (cards : List Card) (busy : ℚ) (under : Option Under) (C : Class) (q : ℕ) (p : Card) (t : ℚ) (ahead : List Card)
-    → IsSoundFor cards busy under → IsOfQueue C q → 1 ≤ p.bits → (ahead ≡ [] → NotOver p t under) → IsWaiting C p cards ahead
+    → IsSoundFor cards busy under → IsAlwaysOfQueue C q → 1 ≤ p.bits → (ahead ≡ [] → NotOver p t under) → IsWaiting C p cards ahead
     → done_by C t under <ℚ bits_of ahead +ℚ size p
 done_below cards busy None C q p t ahead h g some n w =
     let more = size_pos p some in
@@ -205,7 +206,7 @@ done_below cards busy (Some u) C q p t ahead h g some n w = elim (cases_Bool (C 
       let others = bits_nonneg ahead in
       rw (when_false (C u.card) (done_at t u) e) (with2 (size p) (bits_of ahead) (λ c. omega (arith, c.le, c.lt, c.same)))
   | inl e ↦
-      let own = subst (λ (r : ℕ). IsOfQueue C r) (sym (g u.card e)) g in
+      let own = subst (λ (r : ℕ). IsAlwaysOfQueue C r) (sym (g u.card e)) g in
       let first = class_head C u.card.queue u.card cards own h.is_head e in
       rw (when_true (C u.card) (done_at t u) e) (first_below cards busy u p t ahead w.rest h some n (of_class C (without_head u.card.queue cards)) (sym first ∙ w.is))
 ]
@@ -269,7 +270,7 @@ combine work first_work later_work first_done later_done first_left later_left l
 
 -- ---- so the work on the class does not come up to it before it is gone
 pub not_worked : (server : Server) (end : ℚ) (V front back : List ServerStep) (C : Class) (q : ℕ) (p : Card) (u t : ℚ)
-    → IsLawfulView server end V → V ≡ front ++ Arrives p u ∷ back → IsOfQueue C q → C p ≡ true → u ≤ℚ t → t <ℚ gone_at end p.packet back
+    → IsLawfulView server end V → V ≡ front ++ Arrives p u ∷ back → IsAlwaysOfQueue C q → C p ≡ true → u ≤ℚ t → t <ℚ gone_at end p.packet back
     → worked C V t <ℚ total (arrives C (upto u)) front +ℚ size p
 not_worked server end V front back C q p u t lawful joined g counted l k =
     let d = server.discipline in

@@ -1,5 +1,5 @@
 -- What one server sees: packets that arrive, work on them, packets that leave, and visits of its queues.
-use Rattle.std.specs.Prelude.{◌≡◌, ℕ, pos, Bool, true, false, ◌==◌, ltb, leb, ◌||◌, ◌&&◌}
+use Rattle.std.specs.Prelude.{ℕ, pos, Bool, true, ◌==◌, ltb, leb}
 use Rattle.rational.specs.Rational.{ℚ, int}
 
 -- a packet at a server, with the queue that it joins there
@@ -56,16 +56,3 @@ after_queue q c = ltb q c.queue
 -- those of flow i
 abbrev pub of_flow : ℕ → Class
 of_flow i c = c.flow == i
-
--- all packets of the class have queue q, so that they leave in the order in which they arrive
-abbrev pub IsOfQueue : Class → ℕ → Type 0
-IsOfQueue C q = (c : Card) → C c ≡ true → c.queue ≡ q
-
--- each packet of the class f is one of Q
-abbrev pub IsPart : Class → Class → Type 0
-IsPart f Q = (c : Card) → f c ≡ true → Q c ≡ true
-
--- each packet of Q is of f or of g, and of one alone
-pub record AreParts (Q f g : Class) : Type 0 where
-  pub of_one : (c : Card) → Q c ≡ (f c || g c)
-  pub apart : (c : Card) → (f c && g c) ≡ false

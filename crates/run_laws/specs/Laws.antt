@@ -8,7 +8,8 @@ use Rattle.min_plus.specs.Convolution.{IsDeconvolution}
 use Rattle.min_plus.specs.Deviations.{IsHorizontalDeviation, IsVerticalDeviation}
 use Rattle.min_plus.specs.Pointwise.{packetised, shifted}
 use Rattle.run_laws.specs.Runs.{SpecRun}
-use Rattle.run_laws.specs.Cards.{Class, all, of_queue, whole, IsOfQueue, IsPart, ServerStep}
+use Rattle.run_laws.specs.Cards.{Class, all, of_flow, of_queue, whole, ServerStep}
+use Rattle.run_laws.specs.Classes.{IsOfQueue, IsPart}
 use Rattle.run_laws.specs.Servers.{Fifo, Server}
 use Rattle.run_laws.specs.Allows.{IsLawfulView}
 use Rattle.run_laws.specs.Counts.{departed_in}
@@ -16,7 +17,7 @@ use Rattle.run_laws.specs.Premises.{KeepsSizes, KeepsArrivals, KeepsService, IsZ
 use Rattle.min_plus.specs.Functions.{IsRising}
 use Rattle.run_laws.specs.Serves.{Serves, ServesPackets}
 use Rattle.run_laws.specs.Delays.{hop_delays, AreAtMost, backlog}
-use Rattle.run_laws.specs.Routes.{Routes, server_at, link_at}
+use Rattle.run_laws.specs.Routes.{Routes, server_at, route_of, link_at, queue_at}
 use Rattle.run_laws.specs.Views.{view}
 use Rattle.run_laws.specs.Lawful.{IsLawful}
 use Rattle.run_laws.specs.RunPremises.{KeepsPremises}
@@ -44,7 +45,7 @@ PacketsAreServed = (server : Server) (end : ℚ) (view : List ServerStep) (C : C
 abbrev pub DelayFromService : Type 0
 DelayFromService = (server : Server) (end : ℚ) (view : List ServerStep) (C : Class) (queue : ℕ)
     (α β : ℚ → Ext) (delay : Ext) →
-    IsLawfulView server end view → IsOfQueue C queue → KeepsArrivals C α view → Serves C β end view →
+    IsLawfulView server end view → IsOfQueue C queue view → KeepsArrivals C α view → Serves C β end view →
     IsRising β → IsHorizontalDeviation α β delay → AreAtMost delay (hop_delays C end view)
 
 -- the backlog is at most the vertical deviation, less one packet
@@ -65,15 +66,14 @@ OutputFromService = (server : Server) (end : ℚ) (view : List ServerStep) (C : 
 abbrev pub PartOutputFromService : Type 0
 PartOutputFromService = (server : Server) (end : ℚ) (view : List ServerStep) (Q f : Class) (queue : ℕ)
     (α β own : ℚ → Ext) (d : Ext) (s t : ℚ) →
-    IsLawfulView server end view → IsOfQueue Q queue → IsPart f Q → KeepsArrivals Q α view → KeepsArrivals f own view →
-    Serves Q β end view →
-    IsRising β → IsHorizontalDeviation α β d → s ≤ℚ t → Fin (departed_in f view s t) ≤ₑ shifted own d (t -ℚ s)
+    IsLawfulView server end view → IsOfQueue Q queue view → IsPart f Q view → KeepsArrivals Q α view →
+    KeepsArrivals f own view → Serves Q β end view → IsRising β → IsHorizontalDeviation α β d → s ≤ℚ t → Fin (departed_in f view s t) ≤ₑ shifted own d (t -ℚ s)
 
 -- where no packet of a class of one queue stays longer than d, at most α, moved left by d, leaves in a closed window
 abbrev pub OutputFromDelay : Type 0
 OutputFromDelay = (server : Server) (end : ℚ) (view : List ServerStep) (C : Class) (queue : ℕ)
     (α : ℚ → Ext) (d : Ext) (s t : ℚ) →
-    IsLawfulView server end view → NoneTwice view → IsOfQueue C queue → KeepsArrivals C α view →
+    IsLawfulView server end view → NoneTwice view → IsOfQueue C queue view → KeepsArrivals C α view →
     Fin (int (pos 0)) ≤ₑ d → AreAtMost d (hop_delays C end view) → s ≤ℚ t →
     Fin (departed_in C view s t) ≤ₑ shifted α d (t -ℚ s)
 
@@ -82,6 +82,15 @@ OutputFromDelay = (server : Server) (end : ℚ) (view : List ServerStep) (C : Cl
 abbrev pub ViewsAreLawful : Type 0
 ViewsAreLawful = (net : Routes) (run : SpecRun) (s : ℕ) → IsLawful net run → s < length net.servers →
     IsLawfulView (server_at net s) run.end (view net run s)
+
+-- at each server a flow is a class of one queue, and a part of that queue: the one that its path has there
+abbrev pub FlowIsOfOneQueue : Type 0
+FlowIsOfOneQueue = (net : Routes) (run : SpecRun) (i s : ℕ) →
+    IsOfQueue (of_flow i) (queue_at s (route_of net i).hops) (view net run s)
+
+abbrev pub FlowIsPart : Type 0
+FlowIsPart = (net : Routes) (run : SpecRun) (i s : ℕ) →
+    IsPart (of_flow i) (of_queue (queue_at s (route_of net i).hops)) (view net run s)
 
 -- a first in, first out server over which one flow passes, and nothing else: the two deviations bound its queue and
 -- the flow

@@ -7,6 +7,7 @@ pub mod Allows
 pub mod Rounds
 pub mod Counts
 pub mod Premises
+pub mod Classes
 pub mod Serves
 pub mod Delays
 pub mod Routes
@@ -14,6 +15,7 @@ pub mod Views
 pub mod Lawful
 pub mod FlowDelays
 pub mod RunPremises
+pub mod Closures
 pub mod Bounds
 pub mod Totals
 pub mod Laws

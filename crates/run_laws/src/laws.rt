@@ -1,3 +1,5 @@
+ghost use Rattle.run_laws.specs.Closures.{ClosureIsKept, ClosuresKeepPremises};
+ghost use Rattle.run_laws.specs.Laws.{FlowIsOfOneQueue, FlowIsPart};
 ghost use Rattle.run_laws.specs.Laws.{ServerIsServed, FifoQueueIsServed, PacketsAreServed, DelayFromService, BacklogFromService, OutputFromService, PartOutputFromService, OutputFromDelay, ViewsAreLawful, OneFlowIsBounded, SeveralFlowsAreBounded};
 
 /// A server's curve serves the server as a whole.
@@ -15,7 +17,7 @@ pub fn packets_are_served()
     ensures { PacketsAreServed }
 {}
 
-/// No packet of a class of one queue stays longer than the horizontal deviation of its curves.
+/// No packet of a class of one queue, as a queue or a flow, stays longer than the horizontal deviation of its curves.
 pub fn delay_from_service()
     ensures { DelayFromService }
 {}
@@ -35,7 +37,7 @@ pub fn part_output_from_service()
     ensures { PartOutputFromService }
 {}
 
-/// Where no packet of a class of one queue stays longer than d, it leaves with its arrival curve, moved left by d.
+/// Where no packet of a class of one queue, as a queue or a flow, stays longer than d, and none arrives twice, it leaves with its arrival curve, moved left by d.
 pub fn output_from_delay()
     ensures { OutputFromDelay }
 {}
@@ -43,6 +45,20 @@ pub fn output_from_delay()
 /// What each server sees of a lawful run is a lawful view.
 pub fn views_are_lawful()
     ensures { ViewsAreLawful }
+{}
+
+/// At each server the packets of a flow that arrive are of one queue, and a part of it: the one that the flow's path has
+/// there. So each law of a class of one queue, or of a part of a queue, is one of a flow.
+pub fn flow_is_of_one_queue()
+    ensures queue { FlowIsOfOneQueue }
+    ensures part { FlowIsPart }
+{}
+
+/// Who keeps a curve in every closed window keeps its subadditive closure: a class of packets that arrive at a server, and
+/// the flows of a run.
+pub fn closure_is_kept()
+    ensures arrivals { ClosureIsKept }
+    ensures premises { ClosuresKeepPremises }
 {}
 
 /// One flow over a first in, first out server: no delay and no backlog passes the two deviations.

@@ -1,5 +1,5 @@
 use Rattle.fifo_residual.proofs.fifo_serves.Goals as goal
-use Rattle.fifo_residual.proofs.FifoLaw
+use Rattle.fifo_residual.proofs.FifoClasses
 
 pub returns : goal.returns
-returns c = FifoLaw.fifo_serves
+returns c = FifoClasses.fifo_serves

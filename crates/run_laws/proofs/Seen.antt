@@ -10,7 +10,7 @@ use Rattle.run_laws.specs.declared.steps.Step.TheVariants.{Enter, Reach, Work, L
 use Rattle.run_laws.specs.Runs.{SpecRun}
 use Rattle.run_laws.specs.Cards.{Card, Class, ServerStep, Arrives, Works, Leaves, Visits}
 use Rattle.run_laws.specs.Counts.{total, arrives, leaves, works, arrived, worked, departed, departed_in, before, within}
-use Rattle.run_laws.specs.Premises.{KeepsArrivals}
+use Rattle.run_laws.specs.Premises.{EachArrival, KeepsArrivals}
 use Rattle.run_laws.specs.Serves.{Serves}
 use Rattle.run_laws.specs.Delays.{gone_at, kept, hop_delays}
 use Rattle.run_laws.specs.Routes.{Routes, route_of, queue_at}
@@ -30,6 +30,13 @@ cards_map P Q f (Arrives c t ∷ V) h = (f c h.0, cards_map P Q f V h.1)
 cards_map P Q f (Works c a b w ∷ V) h = (f c h.0, cards_map P Q f V h.1)
 cards_map P Q f (Leaves c t ∷ V) h = (f c h.0, cards_map P Q f V h.1)
 cards_map P Q f (Visits q t ∷ V) h = cards_map P Q f V h
+
+pub arriving_cards : (P : Card → Type 0) → (V : List ServerStep) → EachCard P V → EachArrival P V
+arriving_cards P [] h = tt
+arriving_cards P (Arrives c t ∷ V) h = (h.0, arriving_cards P V h.1)
+arriving_cards P (Works c a b w ∷ V) h = arriving_cards P V h.1
+arriving_cards P (Leaves c t ∷ V) h = arriving_cards P V h.1
+arriving_cards P (Visits q t ∷ V) h = arriving_cards P V h
 
 -- its queue is the one that its flow has at server s
 abbrev pub IsInOwnQueue : Routes → ℕ → Card → Type 0
