@@ -2,3 +2,4 @@ pub mod Stages
 pub mod OneMeasure
 pub mod Answering
 pub mod Counting
+pub mod Causes

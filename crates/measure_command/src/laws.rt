@@ -1,5 +1,6 @@
 //! Laws of the replies on traces. Each is the contract of a function that does nothing.
 
+ghost use Rattle.measure_command.specs.MeasureCauses.{StatusesHaveCauses};
 ghost use Rattle.measure_command.specs.MeasureLaws.{RepliesAreComplete, RepliesAreDetermined, ReportsAreLeast};
 ghost use Rattle.measure_command.specs.MeasureLaws.{StatusesAreFour};
 
@@ -11,6 +12,12 @@ pub fn measure_reports_are_least()
 /// A reply has the status 0, 1, 6 or 7.
 pub fn measure_statuses_are_four()
     ensures { StatusesAreFour }
+{}
+
+/// The status of a reply tells its cause: 0 a report; 1 a rule of the network's file, a row of the trace, or a name that
+/// no live flow has; 6 and 7 the first curve over a limit, or else the packets, or else the burst, by that limit.
+pub fn measure_statuses_have_causes()
+    ensures { StatusesHaveCauses }
 {}
 
 /// Files that give a network and a trace, with a live flow of the name, whose packets and whose burst are over no

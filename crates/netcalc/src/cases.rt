@@ -946,6 +946,839 @@ path = ["s1"]
 }
 
 #[test]
+fn measures(rt: HostRuntime) -> Result<(), Fail> {
+    let alloc = rt.alloc();
+    let rows: [(&str, &[(&str, &str)], u8, &str); 27] = [
+        // a_breach_is_measured_too
+        (
+            "netcalc measure n.toml t.csv f1 10",
+            &[
+                (
+                    "n.toml",
+                    r#"[[server]]
+name = "s1"
+rate = 100
+service = { kind = "latency", latency = 10 }
+
+[[flow]]
+name = "f1"
+packet = 12000
+arrival = { kind = "bucket", burst = 12000, rate = 10 }
+path = ["s1"]
+"#,
+                ),
+                (
+                    "t.csv",
+                    r#"packet,0,f1,12000
+packet,0,f1,12000
+"#,
+                ),
+            ],
+            0,
+            r#"flow f1 packets 2
+step 0 24000
+burst 24000 rate 10
+"#,
+        ),
+        // a_curve_too_wide
+        (
+            "netcalc measure n.toml t.csv f9 1",
+            &[
+                (
+                    "n.toml",
+                    r#"[[server]]
+name = "s1"
+rate = 100
+service = { kind = "latency", latency = 10 }
+[[flow]]
+name = "f1"
+packet = 12000
+arrival = { kind = "stair", period = "1/1329227995784915872903807060280344576", jitter = 0 }
+path = ["s1"]
+"#,
+                ),
+                ("t.csv", "packet,0,f9,4000\n"),
+            ],
+            6,
+            "netcalc: too wide: curve flow[0].arrival\n",
+        ),
+        // a_cycle_is_no_matter
+        (
+            "netcalc measure n.toml t.csv f1 10",
+            &[
+                (
+                    "n.toml",
+                    r#"[[server]]
+name = "s1"
+rate = 100
+service = { kind = "latency", latency = 10 }
+[[server]]
+name = "s2"
+rate = 100
+service = { kind = "latency", latency = 10 }
+[[flow]]
+name = "f1"
+packet = 12000
+arrival = { kind = "bucket", burst = 12000, rate = 10 }
+path = ["s1", "s2"]
+[[flow]]
+name = "f2"
+packet = 6000
+arrival = { kind = "bucket", burst = 6000, rate = 5 }
+path = ["s2", "s1"]
+"#,
+                ),
+                (
+                    "t.csv",
+                    r#"packet,0,f1,100
+packet,2,f1,100
+"#,
+                ),
+            ],
+            0,
+            r#"flow f1 packets 2
+step 0 100
+step 2 200
+burst 180 rate 10
+"#,
+        ),
+        // a_flow_that_begins_as_a_flag_does
+        (
+            "netcalc measure n.toml t.csv -f1 1",
+            &[
+                (
+                    "n.toml",
+                    r#"[[server]]
+name = "s1"
+rate = 100
+service = { kind = "latency", latency = 10 }
+
+[[flow]]
+name = "f1"
+packet = 12000
+arrival = { kind = "bucket", burst = 12000, rate = 10 }
+path = ["s1"]
+"#,
+                ),
+                (
+                    "t.csv",
+                    r#"packet,0,f1,4000
+packet,10,f1,4000
+packet,10,f1,2000
+packet,30,f1,6000
+"#,
+                ),
+            ],
+            2,
+            "netcalc: usage: netcalc analyse NET [--json], edit NET EDITS [--json], simulate NET TRACE, exercise N, measure NET TRACE FLOW RATE, curve FILE\n",
+        ),
+        // a_rate_below_0
+        (
+            "netcalc measure n.toml t.csv f1 -1",
+            &[
+                (
+                    "n.toml",
+                    r#"[[server]]
+name = "s1"
+rate = 100
+service = { kind = "latency", latency = 10 }
+
+[[flow]]
+name = "f1"
+packet = 12000
+arrival = { kind = "bucket", burst = 12000, rate = 10 }
+path = ["s1"]
+"#,
+                ),
+                (
+                    "t.csv",
+                    r#"packet,0,f1,4000
+packet,10,f1,4000
+packet,10,f1,2000
+packet,30,f1,6000
+"#,
+                ),
+            ],
+            2,
+            "netcalc: usage: netcalc analyse NET [--json], edit NET EDITS [--json], simulate NET TRACE, exercise N, measure NET TRACE FLOW RATE, curve FILE\n",
+        ),
+        // a_rate_of_0
+        (
+            "netcalc measure n.toml t.csv f1 0",
+            &[
+                (
+                    "n.toml",
+                    r#"[[server]]
+name = "s1"
+rate = 100
+service = { kind = "latency", latency = 10 }
+
+[[flow]]
+name = "f1"
+packet = 12000
+arrival = { kind = "bucket", burst = 12000, rate = 10 }
+path = ["s1"]
+"#,
+                ),
+                (
+                    "t.csv",
+                    r#"packet,0,f1,4000
+packet,10,f1,4000
+packet,10,f1,2000
+packet,30,f1,6000
+"#,
+                ),
+            ],
+            0,
+            r#"flow f1 packets 4
+step 0 6000
+step 10 10000
+step 20 12000
+step 30 16000
+burst 16000 rate 0
+"#,
+        ),
+        // a_rate_past_all_numbers
+        (
+            "netcalc measure n.toml t.csv f1 170141183460469231731687303715884105728",
+            &[
+                (
+                    "n.toml",
+                    r#"[[server]]
+name = "s1"
+rate = 100
+service = { kind = "latency", latency = 10 }
+
+[[flow]]
+name = "f1"
+packet = 12000
+arrival = { kind = "bucket", burst = 12000, rate = 10 }
+path = ["s1"]
+"#,
+                ),
+                (
+                    "t.csv",
+                    r#"packet,0,f1,4000
+packet,10,f1,4000
+packet,10,f1,2000
+packet,30,f1,6000
+"#,
+                ),
+            ],
+            2,
+            "netcalc: usage: netcalc analyse NET [--json], edit NET EDITS [--json], simulate NET TRACE, exercise N, measure NET TRACE FLOW RATE, curve FILE\n",
+        ),
+        // a_rate_that_is_a_fraction
+        (
+            "netcalc measure n.toml t.csv f1 0700/2",
+            &[
+                (
+                    "n.toml",
+                    r#"[[server]]
+name = "s1"
+rate = 100
+service = { kind = "latency", latency = 10 }
+
+[[flow]]
+name = "f1"
+packet = 12000
+arrival = { kind = "bucket", burst = 12000, rate = 10 }
+path = ["s1"]
+"#,
+                ),
+                (
+                    "t.csv",
+                    r#"packet,0,f1,1000
+packet,1/3,f1,1000
+packet,2/3,f1,2000
+packet,7/2,f1,1500
+"#,
+                ),
+            ],
+            0,
+            r#"flow f1 packets 4
+step 0 2000
+step 1/3 3000
+step 2/3 4000
+step 19/6 4500
+step 7/2 5500
+burst 4275 rate 350
+"#,
+        ),
+        // a_rate_that_is_minus_0
+        (
+            "netcalc measure n.toml t.csv f1 -0",
+            &[
+                (
+                    "n.toml",
+                    r#"[[server]]
+name = "s1"
+rate = 100
+service = { kind = "latency", latency = 10 }
+
+[[flow]]
+name = "f1"
+packet = 12000
+arrival = { kind = "bucket", burst = 12000, rate = 10 }
+path = ["s1"]
+"#,
+                ),
+                (
+                    "t.csv",
+                    r#"packet,0,f1,4000
+packet,10,f1,4000
+packet,10,f1,2000
+packet,30,f1,6000
+"#,
+                ),
+            ],
+            2,
+            "netcalc: usage: netcalc analyse NET [--json], edit NET EDITS [--json], simulate NET TRACE, exercise N, measure NET TRACE FLOW RATE, curve FILE\n",
+        ),
+        // a_rate_that_is_none
+        (
+            "netcalc measure n.toml t.csv f1 1.5",
+            &[
+                (
+                    "n.toml",
+                    r#"[[server]]
+name = "s1"
+rate = 100
+service = { kind = "latency", latency = 10 }
+
+[[flow]]
+name = "f1"
+packet = 12000
+arrival = { kind = "bucket", burst = 12000, rate = 10 }
+path = ["s1"]
+"#,
+                ),
+                (
+                    "t.csv",
+                    r#"packet,0,f1,4000
+packet,10,f1,4000
+packet,10,f1,2000
+packet,30,f1,6000
+"#,
+                ),
+            ],
+            2,
+            "netcalc: usage: netcalc analyse NET [--json], edit NET EDITS [--json], simulate NET TRACE, exercise N, measure NET TRACE FLOW RATE, curve FILE\n",
+        ),
+        // a_rate_that_is_too_wide
+        (
+            "netcalc measure n.toml t.csv f1 1329227995784915872903807060280344576",
+            &[
+                (
+                    "n.toml",
+                    r#"[[server]]
+name = "s1"
+rate = 100
+service = { kind = "latency", latency = 10 }
+
+[[flow]]
+name = "f1"
+packet = 12000
+arrival = { kind = "bucket", burst = 12000, rate = 10 }
+path = ["s1"]
+"#,
+                ),
+                (
+                    "t.csv",
+                    r#"packet,0,f1,4000
+packet,10,f1,4000
+packet,10,f1,2000
+packet,30,f1,6000
+"#,
+                ),
+            ],
+            6,
+            "netcalc: too wide: burst\n",
+        ),
+        // a_rate_with_a_part_of_0
+        (
+            "netcalc measure n.toml t.csv f1 1/0",
+            &[
+                (
+                    "n.toml",
+                    r#"[[server]]
+name = "s1"
+rate = 100
+service = { kind = "latency", latency = 10 }
+
+[[flow]]
+name = "f1"
+packet = 12000
+arrival = { kind = "bucket", burst = 12000, rate = 10 }
+path = ["s1"]
+"#,
+                ),
+                (
+                    "t.csv",
+                    r#"packet,0,f1,4000
+packet,10,f1,4000
+packet,10,f1,2000
+packet,30,f1,6000
+"#,
+                ),
+            ],
+            2,
+            "netcalc: usage: netcalc analyse NET [--json], edit NET EDITS [--json], simulate NET TRACE, exercise N, measure NET TRACE FLOW RATE, curve FILE\n",
+        ),
+        // a_rule_goes_before_a_trace_fault
+        (
+            "netcalc measure n.toml t.csv f1 1",
+            &[
+                (
+                    "n.toml",
+                    r#"[[server]]
+name = "s1"
+rate = 0
+service = { kind = "latency", latency = 10 }
+
+[[flow]]
+name = "f1"
+packet = 12000
+arrival = { kind = "bucket", burst = 12000, rate = 10 }
+path = ["s1"]
+"#,
+                ),
+                ("t.csv", "packet,0,f9,4000\n"),
+            ],
+            1,
+            "netcalc: n.toml: M6 server[0].rate\n",
+        ),
+        // a_time_at_the_limit
+        (
+            "netcalc measure n.toml t.csv f1 1",
+            &[
+                (
+                    "n.toml",
+                    r#"[[server]]
+name = "s1"
+rate = 100
+service = { kind = "latency", latency = 10 }
+
+[[flow]]
+name = "f1"
+packet = 12000
+arrival = { kind = "bucket", burst = 12000, rate = 10 }
+path = ["s1"]
+"#,
+                ),
+                (
+                    "t.csv",
+                    "packet,1/10384593717069655257060992658440192,f1,1\n",
+                ),
+            ],
+            6,
+            "netcalc: too wide: measure\n",
+        ),
+        // a_time_below_the_limit
+        (
+            "netcalc measure n.toml t.csv f1 1",
+            &[
+                (
+                    "n.toml",
+                    r#"[[server]]
+name = "s1"
+rate = 100
+service = { kind = "latency", latency = 10 }
+
+[[flow]]
+name = "f1"
+packet = 12000
+arrival = { kind = "bucket", burst = 12000, rate = 10 }
+path = ["s1"]
+"#,
+                ),
+                (
+                    "t.csv",
+                    "packet,1/5192296858534827628530496329220096,f1,1\n",
+                ),
+            ],
+            0,
+            r#"flow f1 packets 1
+step 0 1
+burst 1 rate 1
+"#,
+        ),
+        // a_trace_fault_goes_before_an_unknown_flow
+        (
+            "netcalc measure n.toml t.csv f9 1",
+            &[
+                (
+                    "n.toml",
+                    r#"[[server]]
+name = "s1"
+rate = 100
+service = { kind = "latency", latency = 10 }
+
+[[flow]]
+name = "f1"
+packet = 12000
+arrival = { kind = "bucket", burst = 12000, rate = 10 }
+path = ["s1"]
+"#,
+                ),
+                ("t.csv", "packet,0,f9,4000\n"),
+            ],
+            1,
+            "netcalc: t.csv: T5 row 1\n",
+        ),
+        // a_window_that_holds_no_more_is_no_step
+        (
+            "netcalc measure n.toml t.csv f1 100",
+            &[
+                (
+                    "n.toml",
+                    r#"[[server]]
+name = "s1"
+rate = 100
+service = { kind = "latency", latency = 10 }
+
+[[flow]]
+name = "f1"
+packet = 12000
+arrival = { kind = "bucket", burst = 12000, rate = 10 }
+path = ["s1"]
+"#,
+                ),
+                (
+                    "t.csv",
+                    r#"packet,0,f1,6000
+packet,10,f1,1000
+packet,40,f1,6000
+"#,
+                ),
+            ],
+            0,
+            r#"flow f1 packets 3
+step 0 6000
+step 10 7000
+step 40 13000
+burst 9000 rate 100
+"#,
+        ),
+        // a_word_too_many
+        (
+            "netcalc measure n.toml t.csv f1 1 1",
+            &[
+                (
+                    "n.toml",
+                    r#"[[server]]
+name = "s1"
+rate = 100
+service = { kind = "latency", latency = 10 }
+
+[[flow]]
+name = "f1"
+packet = 12000
+arrival = { kind = "bucket", burst = 12000, rate = 10 }
+path = ["s1"]
+"#,
+                ),
+                (
+                    "t.csv",
+                    r#"packet,0,f1,4000
+packet,10,f1,4000
+packet,10,f1,2000
+packet,30,f1,6000
+"#,
+                ),
+            ],
+            2,
+            "netcalc: usage: netcalc analyse NET [--json], edit NET EDITS [--json], simulate NET TRACE, exercise N, measure NET TRACE FLOW RATE, curve FILE\n",
+        ),
+        // an_empty_trace
+        (
+            "netcalc measure n.toml t.csv f1 1",
+            &[
+                (
+                    "n.toml",
+                    r#"[[server]]
+name = "s1"
+rate = 100
+service = { kind = "latency", latency = 10 }
+
+[[flow]]
+name = "f1"
+packet = 12000
+arrival = { kind = "bucket", burst = 12000, rate = 10 }
+path = ["s1"]
+"#,
+                ),
+                ("t.csv", ""),
+            ],
+            0,
+            r#"flow f1 packets 0
+step 0 0
+burst 0 rate 1
+"#,
+        ),
+        // an_unknown_flow
+        (
+            "netcalc measure n.toml t.csv f9 1",
+            &[
+                (
+                    "n.toml",
+                    r#"[[server]]
+name = "s1"
+rate = 100
+service = { kind = "latency", latency = 10 }
+
+[[flow]]
+name = "f1"
+packet = 12000
+arrival = { kind = "bucket", burst = 12000, rate = 10 }
+path = ["s1"]
+"#,
+                ),
+                (
+                    "t.csv",
+                    r#"packet,0,f1,4000
+packet,10,f1,4000
+packet,10,f1,2000
+packet,30,f1,6000
+"#,
+                ),
+            ],
+            1,
+            "netcalc: unknown flow f9\n",
+        ),
+        // four_packets
+        (
+            "netcalc measure n.toml t.csv f1 100",
+            &[
+                (
+                    "n.toml",
+                    r#"[[server]]
+name = "s1"
+rate = 100
+service = { kind = "latency", latency = 10 }
+
+[[flow]]
+name = "f1"
+packet = 12000
+arrival = { kind = "bucket", burst = 12000, rate = 10 }
+path = ["s1"]
+"#,
+                ),
+                (
+                    "t.csv",
+                    r#"packet,0,f1,4000
+packet,10,f1,4000
+packet,10,f1,2000
+packet,30,f1,6000
+"#,
+                ),
+            ],
+            0,
+            r#"flow f1 packets 4
+step 0 6000
+step 10 10000
+step 20 12000
+step 30 16000
+burst 13000 rate 100
+"#,
+        ),
+        // four_packets_at_a_higher_rate
+        (
+            "netcalc measure n.toml t.csv f1 500",
+            &[
+                (
+                    "n.toml",
+                    r#"[[server]]
+name = "s1"
+rate = 100
+service = { kind = "latency", latency = 10 }
+
+[[flow]]
+name = "f1"
+packet = 12000
+arrival = { kind = "bucket", burst = 12000, rate = 10 }
+path = ["s1"]
+"#,
+                ),
+                (
+                    "t.csv",
+                    r#"packet,0,f1,4000
+packet,10,f1,4000
+packet,10,f1,2000
+packet,30,f1,6000
+"#,
+                ),
+            ],
+            0,
+            r#"flow f1 packets 4
+step 0 6000
+step 10 10000
+step 20 12000
+step 30 16000
+burst 6000 rate 500
+"#,
+        ),
+        // no_rate
+        (
+            "netcalc measure n.toml t.csv f1",
+            &[
+                (
+                    "n.toml",
+                    r#"[[server]]
+name = "s1"
+rate = 100
+service = { kind = "latency", latency = 10 }
+
+[[flow]]
+name = "f1"
+packet = 12000
+arrival = { kind = "bucket", burst = 12000, rate = 10 }
+path = ["s1"]
+"#,
+                ),
+                (
+                    "t.csv",
+                    r#"packet,0,f1,4000
+packet,10,f1,4000
+packet,10,f1,2000
+packet,30,f1,6000
+"#,
+                ),
+            ],
+            2,
+            "netcalc: usage: netcalc analyse NET [--json], edit NET EDITS [--json], simulate NET TRACE, exercise N, measure NET TRACE FLOW RATE, curve FILE\n",
+        ),
+        // no_trace_there
+        (
+            "netcalc measure n.toml t.csv f1 1",
+            &[(
+                "n.toml",
+                r#"[[server]]
+name = "s1"
+rate = 100
+service = { kind = "latency", latency = 10 }
+
+[[flow]]
+name = "f1"
+packet = 12000
+arrival = { kind = "bucket", burst = 12000, rate = 10 }
+path = ["s1"]
+"#,
+            )],
+            3,
+            "netcalc: cannot read t.csv\n",
+        ),
+        // other_flows_do_not_count
+        (
+            "netcalc measure n.toml t.csv f2 100",
+            &[
+                (
+                    "n.toml",
+                    r#"[[server]]
+name = "s1"
+rate = 100
+service = { kind = "latency", latency = 10 }
+
+[[flow]]
+name = "f1"
+packet = 12000
+arrival = { kind = "bucket", burst = 12000, rate = 10 }
+path = ["s1"]
+
+[[flow]]
+name = "f2"
+packet = 6000
+arrival = { kind = "bucket", burst = 6000, rate = 5 }
+path = ["s1"]
+"#,
+                ),
+                (
+                    "t.csv",
+                    r#"packet,0,f1,12000
+packet,1,f2,3000
+packet,5,f1,12000
+packet,6,f2,2000
+stall,s1,0,4
+"#,
+                ),
+            ],
+            0,
+            r#"flow f2 packets 2
+step 0 3000
+step 5 5000
+burst 4500 rate 100
+"#,
+        ),
+        // packets_at_one_time
+        (
+            "netcalc measure n.toml t.csv f1 1",
+            &[
+                (
+                    "n.toml",
+                    r#"[[server]]
+name = "s1"
+rate = 100
+service = { kind = "latency", latency = 10 }
+
+[[flow]]
+name = "f1"
+packet = 12000
+arrival = { kind = "bucket", burst = 12000, rate = 10 }
+path = ["s1"]
+"#,
+                ),
+                (
+                    "t.csv",
+                    r#"packet,5,f1,4000
+packet,5,f1,2000
+packet,5,f1,1000
+"#,
+                ),
+            ],
+            0,
+            r#"flow f1 packets 3
+step 0 7000
+burst 7000 rate 1
+"#,
+        ),
+        // times_that_are_too_wide
+        (
+            "netcalc measure n.toml t.csv f1 1",
+            &[
+                (
+                    "n.toml",
+                    r#"[[server]]
+name = "s1"
+rate = 100
+service = { kind = "latency", latency = 10 }
+
+[[flow]]
+name = "f1"
+packet = 12000
+arrival = { kind = "bucket", burst = 12000, rate = 10 }
+path = ["s1"]
+"#,
+                ),
+                (
+                    "t.csv",
+                    r#"packet,0,f1,8
+packet,1/2305843009213693951,f1,8
+packet,1/2147483647,f1,8
+packet,10000000,f1,8
+"#,
+                ),
+            ],
+            6,
+            "netcalc: too wide: measure\n",
+        ),
+    ];
+    for (line, files, status, wanted) in rows {
+        check(&rt, alloc, line, files, status, wanted)?;
+    }
+    Ok(())
+}
+
+#[test]
 fn runs(rt: HostRuntime) -> Result<(), Fail> {
     let alloc = rt.alloc();
     let rows: [(&str, &[(&str, &str)], u8, &str); 30] = [
@@ -1640,7 +2473,7 @@ path = ["s1"]
 "#,
             )],
             2,
-            "netcalc: usage: netcalc analyse NET [--json], edit NET EDITS [--json], simulate NET TRACE, exercise N, curve FILE\n",
+            "netcalc: usage: netcalc analyse NET [--json], edit NET EDITS [--json], simulate NET TRACE, exercise N, measure NET TRACE FLOW RATE, curve FILE\n",
         ),
         // no_trace_there
         (
@@ -1904,14 +2737,14 @@ fn words(rt: HostRuntime) -> Result<(), Fail> {
             "netcalc edit n.toml e.csv",
             &[],
             2,
-            "netcalc: usage: netcalc analyse NET [--json], edit NET EDITS [--json], simulate NET TRACE, exercise N, curve FILE\n",
+            "netcalc: usage: netcalc analyse NET [--json], edit NET EDITS [--json], simulate NET TRACE, exercise N, measure NET TRACE FLOW RATE, curve FILE\n",
         ),
         // a_command_that_is_none
         (
             "netcalc analyze n.toml",
             &[],
             2,
-            "netcalc: usage: netcalc analyse NET [--json], edit NET EDITS [--json], simulate NET TRACE, exercise N, curve FILE\n",
+            "netcalc: usage: netcalc analyse NET [--json], edit NET EDITS [--json], simulate NET TRACE, exercise N, measure NET TRACE FLOW RATE, curve FILE\n",
         ),
         // a_file_that_is_not_there
         (
@@ -1925,7 +2758,7 @@ fn words(rt: HostRuntime) -> Result<(), Fail> {
             "netcalc analyse -n.toml",
             &[],
             2,
-            "netcalc: usage: netcalc analyse NET [--json], edit NET EDITS [--json], simulate NET TRACE, exercise N, curve FILE\n",
+            "netcalc: usage: netcalc analyse NET [--json], edit NET EDITS [--json], simulate NET TRACE, exercise N, measure NET TRACE FLOW RATE, curve FILE\n",
         ),
         // a_script_that_is_not_there
         (
@@ -1939,35 +2772,35 @@ fn words(rt: HostRuntime) -> Result<(), Fail> {
             "netcalc curve s.curve t.curve",
             &[],
             2,
-            "netcalc: usage: netcalc analyse NET [--json], edit NET EDITS [--json], simulate NET TRACE, exercise N, curve FILE\n",
+            "netcalc: usage: netcalc analyse NET [--json], edit NET EDITS [--json], simulate NET TRACE, exercise N, measure NET TRACE FLOW RATE, curve FILE\n",
         ),
         // help
         (
             "netcalc --help",
             &[],
             2,
-            "netcalc: usage: netcalc analyse NET [--json], edit NET EDITS [--json], simulate NET TRACE, exercise N, curve FILE\n",
+            "netcalc: usage: netcalc analyse NET [--json], edit NET EDITS [--json], simulate NET TRACE, exercise N, measure NET TRACE FLOW RATE, curve FILE\n",
         ),
         // no_file
         (
             "netcalc analyse",
             &[],
             2,
-            "netcalc: usage: netcalc analyse NET [--json], edit NET EDITS [--json], simulate NET TRACE, exercise N, curve FILE\n",
+            "netcalc: usage: netcalc analyse NET [--json], edit NET EDITS [--json], simulate NET TRACE, exercise N, measure NET TRACE FLOW RATE, curve FILE\n",
         ),
         // no_script
         (
             "netcalc curve",
             &[],
             2,
-            "netcalc: usage: netcalc analyse NET [--json], edit NET EDITS [--json], simulate NET TRACE, exercise N, curve FILE\n",
+            "netcalc: usage: netcalc analyse NET [--json], edit NET EDITS [--json], simulate NET TRACE, exercise N, measure NET TRACE FLOW RATE, curve FILE\n",
         ),
         // no_words
         (
             "netcalc",
             &[],
             2,
-            "netcalc: usage: netcalc analyse NET [--json], edit NET EDITS [--json], simulate NET TRACE, exercise N, curve FILE\n",
+            "netcalc: usage: netcalc analyse NET [--json], edit NET EDITS [--json], simulate NET TRACE, exercise N, measure NET TRACE FLOW RATE, curve FILE\n",
         ),
     ];
     for (line, files, status, wanted) in rows {

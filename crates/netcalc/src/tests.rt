@@ -2,15 +2,16 @@
 //! over a file of the machine.
 
 use super::*;
-use crate::asking::words_in;
+use crate::asking::{check, words_in};
 use outside::{MemInputs, MemSink};
 use std::alloc::Global;
 use std::fs;
 use std::test::Fail;
 use std::time::{SystemTime, UNIX_EPOCH};
 
-const USAGE: &str =
-    "netcalc: usage: netcalc analyse NET [--json], edit NET EDITS [--json], simulate NET TRACE, exercise N, curve FILE\n";
+const USAGE: &str = "netcalc: usage: \
+    netcalc analyse NET [--json], edit NET EDITS [--json], simulate NET TRACE, exercise N, \
+    measure NET TRACE FLOW RATE, curve FILE\n";
 
 /// What a call with these words does, where `n.toml` holds these bytes: the status, and what is written. So
 /// many first calls of the inputs and of the sink fail.
@@ -182,6 +183,26 @@ fn a_script_has_at_most_256_statements(rt: HostRuntime) -> Result<(), Fail> {
         "netcalc: n.toml: C4 line 257\n".as_bytes()
     );
     assert_eq!(rt; status, 1);
+    Ok(())
+}
+
+#[test]
+fn a_measured_flow_has_at_most_1024_packets(rt: HostRuntime) -> Result<(), Fail> {
+    let alloc = rt.alloc();
+    let net = network(alloc, "100", "10", "12000", "burst = 12000, rate = 10")?;
+    let line = "netcalc measure n.toml t.csv f1 1";
+    let at_most = "flow f1 packets 1024\nstep 0 1024\nburst 1024 rate 1\n";
+    for (packets, status, wanted) in [
+        (1024, 0, at_most),
+        (1025, 7, "netcalc: too many: measure\n"),
+    ] {
+        let mut rows = String::new(alloc);
+        for _ in 0..packets {
+            rows.push_str("packet,0,f1,1\n")?;
+        }
+        let files = [("n.toml", net.as_str()), ("t.csv", rows.as_str())];
+        check(&rt, alloc, line, &files, status, wanted)?;
+    }
     Ok(())
 }
 

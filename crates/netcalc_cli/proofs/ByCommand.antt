@@ -17,9 +17,12 @@ use Rattle.simulate_command.proofs.Causes as run
 use Rattle.simulate_command.proofs.OneReply as simulated
 use Rattle.simulate_command.proofs.Status.{status_tells}
 use Rattle.simulate_command.proofs.Within.{quiet_runs, guarantee}
+use Rattle.measure_command.specs.MeasureCounts as measure_counts
+use Rattle.measure_command.proofs.Causes as measure
+use Rattle.measure_command.proofs.OneMeasure as measured
 use Rattle.curve_command.proofs.ByStatus as curve
 use Rattle.curve_command.proofs.OneReply as calculated
-use Rattle.netcalc_cli.specs.Commands.{Command, Analyse, Simulate, Curve, IsReplyTo, IsMalformed, IsOver}
+use Rattle.netcalc_cli.specs.Commands.{Command, Analyse, Simulate, Measure, Curve, IsReplyTo, IsMalformed, IsOver}
 use Rattle.netcalc_cli.specs.Commands.{IsCyclic, TellsBreach, IsDone, IsAnswerable, IsAnswer, CountsTo}
 
 -- ---- by status
@@ -69,6 +72,19 @@ by_command (Simulate net trace) (bytes ∷ rows ∷ []) reply h =
           let r = k.report (inr e) in
           (r, (status_tells bytes rows reply r).breaks.0 e, guarantee bytes rows reply r);
     }
+by_command (Measure net trace name rate) (bytes ∷ rows ∷ []) reply h =
+    let k = measure.causes net bytes trace rows name rate reply h in
+    record {
+      done = λ e.
+          let r = k.report e in
+          (r.0, r.1, r.2, r.3, measured.reports_are_least bytes rows name rate r.0 r.1 r.2 reply r.3);
+      malformed = λ e. k.malformed e;
+      no_read = k.no_read;
+      wide = λ e. k.wide e;
+      many = λ e. k.many e;
+      cycle = λ e. absurd (omega (arith, k.most, e));
+      breach = λ e. absurd (omega (arith, k.most, e));
+    }
 by_command (Curve script) (bytes ∷ []) reply h =
     let k = curve.by_status script bytes reply h in
     record {
@@ -88,6 +104,8 @@ pub one_by_command : (command : Command) (files : List (List ℕ)) (x y : Reply)
 one_by_command (Analyse net) (bytes ∷ []) x y h k = analysed.replies_are_determined net bytes x y h k
 one_by_command (Simulate net trace) (bytes ∷ rows ∷ []) x y h k =
     simulated.replies_are_determined net bytes trace rows x y h k
+one_by_command (Measure net trace name rate) (bytes ∷ rows ∷ []) x y h k =
+    equal x y (measured.replies_are_determined net bytes trace rows name rate x y h k)
 one_by_command (Curve script) (bytes ∷ []) x y h k =
     equal x y (calculated.replies_are_determined script bytes x y h k)
 one_by_command command files x y h k = absurd h
@@ -98,6 +116,8 @@ pub complete_by_command : (command : Command) (files : List (List ℕ)) (reply :
 complete_by_command (Analyse net) (bytes ∷ []) reply can h = analysed.replies_are_complete net bytes reply can h
 complete_by_command (Simulate net trace) (bytes ∷ rows ∷ []) reply can h =
     simulated.replies_are_complete net bytes trace rows reply can h
+complete_by_command (Measure net trace name rate) (bytes ∷ rows ∷ []) reply can h =
+    measured.replies_are_complete net bytes trace rows name rate reply can h
 complete_by_command (Curve script) (bytes ∷ []) reply can h = calculated.replies_are_complete script bytes reply can h
 complete_by_command command files reply can h = absurd can
 
@@ -120,6 +140,7 @@ pub answer_given : (command : Command) (status other : ℕ) → IsGiven status o
     → IsAnswer command status
 answer_given (Analyse net) status other same h = zero_given status other same h
 answer_given (Simulate net trace) status other same h = report_given status other same h
+answer_given (Measure net trace name rate) status other same h = zero_given status other same h
 answer_given (Curve script) status other same h = zero_given status other same h
 
 counts_at : (bytes : List ℕ) (status other old new : ℕ) → IsGiven status other → CountsOn bytes status old new
@@ -155,10 +176,23 @@ run_counts_at bytes rows status other old new same h = record {
   };
 }
 
+measure_counts_at : (bytes : List ℕ) (status other old new : ℕ) → IsGiven status other
+    → measure_counts.CountsOn bytes status old new → measure_counts.CountsOn bytes other old new
+measure_counts_at bytes status other old new same h = record {
+  between = h.between;
+  rises = h.rises;
+  folds = h.folds;
+  from = h.from;
+  most = h.most;
+  report = λ zero. h.report (zero_given status other same zero);
+}
+
 pub counts_by_command : (command : Command) (files : List (List ℕ)) (status other old new : ℕ)
     → IsGiven status other → CountsTo command files status old new → CountsTo command files other old new
 counts_by_command (Analyse net) (bytes ∷ []) status other old new same h = counts_at bytes status other old new same h
 counts_by_command (Simulate net trace) (bytes ∷ rows ∷ []) status other old new same h =
     run_counts_at bytes rows status other old new same h
+counts_by_command (Measure net trace name rate) (bytes ∷ rows ∷ []) status other old new same h =
+    measure_counts_at bytes status other old new same h
 counts_by_command (Curve script) (bytes ∷ []) status other old new same h = tt
 counts_by_command command files status other old new same h = absurd h

@@ -4,3 +4,4 @@ pub mod ByCommand
 pub mod Replies
 pub mod ExampleNet
 pub mod ExampleBound
+pub mod WordLists

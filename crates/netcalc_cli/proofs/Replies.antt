@@ -8,7 +8,7 @@ use Rattle.command_replies.specs.Replies.{Reply, cannot_read, too_long}
 use Rattle.command_replies.specs.View.{code_of, reply_of, status_of}
 use Rattle.command_replies.proofs.OneRefusal.{equal}
 use Rattle.netcalc_cli.specs.Commands.{Command, files_of, IsReplyTo, IsMalformed, IsOver, IsCyclic, TellsBreach, IsDone}
-use Rattle.netcalc_cli.specs.Commands.{Analyse, Simulate, Curve, IsAnswerable, IsAnswer}
+use Rattle.netcalc_cli.specs.Commands.{Analyse, Simulate, Measure, Curve, IsAnswerable, IsAnswer}
 use Rattle.netcalc_cli.specs.Counts.{CountsOnCommand}
 use Rattle.netcalc_cli.specs.Files.{Told, IsTooLong, FirstIs, MayHoldAll, AllFit, all_told}
 use Rattle.netcalc_cli.specs.Laws.{RepliesAreDetermined}
@@ -63,6 +63,7 @@ none_in faults last_fault told old new files (Err e) h =
 no_answer : (command : Command) (status : ℕ) → IsNoAnswer status → ¬ (IsAnswer command status)
 no_answer (Analyse net) status none h = none.zero h
 no_answer (Simulate net trace) status none h = elim h [ inl zero ↦ none.zero zero | inr nine ↦ none.nine nine ]
+no_answer (Measure net trace name rate) status none h = none.zero h
 no_answer (Curve script) status none h = none.zero h
 
 pub no_answer_at : {I E : Type 0} (faults : I → ℕ) (last_fault : I → List ℕ) (told : Told) (command : Command)

@@ -1,7 +1,11 @@
 -- The commands, and what each answers on its files. A new command has one line in each definition.
 use Rattle.std.specs.Prelude.{◌≡◌, ◌⊎◌, ℕ, List, [], ◌∷◌}
+use Rattle.rational.specs.Rational.{ℚ, ◌≤ℚ◌}
+use Rattle.min_plus.specs.Functions.{zero_q}
+use Rattle.upp_curve.specs.Curve.{SpecCurve}
 use Rattle.upp_limits.specs.declared.own_limits.OverLimit.{OverLimit}
 use Rattle.upp_limits.specs.declared.own_limits.OverLimit.TheVariants.{TooMany, TooWide}
+use Rattle.net_model.specs.declared.trace.TracePacket.{TracePacket}
 use Rattle.net_model.specs.Networks.{Net}
 use Rattle.net_cells.specs.Meanings.{CellTable}
 use Rattle.command_replies.specs.Replies.{Reply}
@@ -15,38 +19,54 @@ use Rattle.simulate_command.specs.OnTraces.{IsRunReply, IsRunReport, IsSimulatio
 use Rattle.simulate_command.specs.RunCounts as run_counts
 use Rattle.simulate_command.specs.Laws as run_laws
 use Rattle.simulate_command.specs.Laws.{Keeps, IsQuietReport}
+use Rattle.measure_command.specs.OnMeasures.{IsMeasureReply, IsReportOf as IsMeasureReportOf}
+use Rattle.measure_command.specs.MeasureCauses as measure_causes
+use Rattle.measure_command.specs.MeasureCounts as measure_counts
+use Rattle.measure_command.specs.MeasureLaws as measure_laws
+use Rattle.measure_command.specs.MeasureLaws.{IsLeastOf}
 use Rattle.curve_command.specs.OnScripts.{IsScriptReply, IsRefused, IsLineOver, IsAnswered}
 use Rattle.curve_command.specs.Laws.{IsWithinRules}
 
--- a command with the names of its files
+-- a command with the names of its files, and with what its other words say
 pub data Command : Type 0 where
   Analyse : (net : List ℕ) → Command
   Simulate : (net trace : List ℕ) → Command
+  Measure : (net trace name : List ℕ) (rate : ℚ) → Command
   Curve : (script : List ℕ) → Command
+
+-- a rate is from 0 on
+abbrev pub HasRate : Command → Type 0
+HasRate (Measure net trace name rate) = zero_q ≤ℚ rate
+HasRate command = Unit {0}
 
 -- the files in the order in which they are fetched
 abbrev pub files_of : Command → List (List ℕ)
 files_of (Analyse net) = net ∷ []
 files_of (Simulate net trace) = net ∷ trace ∷ []
+files_of (Measure net trace name rate) = net ∷ trace ∷ []
 files_of (Curve script) = script ∷ []
 
 -- ---- what is answered where the files hold these bytes, which are not too many
 abbrev pub IsReplyTo : Command → List (List ℕ) → Reply → Type 0
 IsReplyTo (Analyse net) (bytes ∷ []) reply = IsReplyOn net bytes reply
 IsReplyTo (Simulate net trace) (bytes ∷ rows ∷ []) reply = IsRunReply net bytes trace rows reply
+IsReplyTo (Measure net trace name rate) (bytes ∷ rows ∷ []) reply = IsMeasureReply net bytes trace rows name rate reply
 IsReplyTo (Curve script) (bytes ∷ []) reply = IsScriptReply script bytes reply
 IsReplyTo command files reply = ⊥
 
 -- ---- of these replies those with one status each
--- 1: the first rule that a file breaks
+-- 1: the first rule that a file breaks, or a name of no live flow
 abbrev pub IsMalformed : Command → List (List ℕ) → Reply → Type 0
 IsMalformed (Analyse net) (bytes ∷ []) reply = IsBroken net bytes reply
 IsMalformed (Simulate net trace) (bytes ∷ rows ∷ []) reply = traces.IsMalformed net bytes trace rows reply
+IsMalformed (Measure net trace name rate) (bytes ∷ rows ∷ []) reply =
+    measure_causes.IsMalformed net bytes trace rows name reply
 IsMalformed (Curve script) (bytes ∷ []) reply = IsRefused script bytes reply
 IsMalformed command files reply = ⊥
 
 -- 7 and 6: the first that is over a limit: of the curves of a network's file, or else of its cells, or else, at 6, the
--- simulation; of the curves, operators and values of a script
+-- simulation; of the curves of a network's file, or else the packets to be measured, or else their burst; of the curves,
+-- operators and values of a script
 abbrev pub IsRunOver : OverLimit → List ℕ → List ℕ → Reply → Type 0
 IsRunOver TooMany bytes rows reply = traces.IsOverLimit TooMany bytes rows reply
 IsRunOver TooWide bytes rows reply = traces.IsOverLimit TooWide bytes rows reply ⊎ IsSimulationOver bytes rows reply
@@ -54,6 +74,8 @@ IsRunOver TooWide bytes rows reply = traces.IsOverLimit TooWide bytes rows reply
 abbrev pub IsOver : OverLimit → Command → List (List ℕ) → Reply → Type 0
 IsOver limit (Analyse net) (bytes ∷ []) reply = IsOverLimit limit bytes reply
 IsOver limit (Simulate net trace) (bytes ∷ rows ∷ []) reply = IsRunOver limit bytes rows reply
+IsOver limit (Measure net trace name rate) (bytes ∷ rows ∷ []) reply =
+    measure_causes.IsOverLimit limit bytes rows name rate reply
 IsOver limit (Curve script) (bytes ∷ []) reply = IsLineOver limit bytes reply
 IsOver limit command files reply = ⊥
 
@@ -70,12 +92,16 @@ TellsBreach (Simulate net trace) (bytes ∷ rows ∷ []) reply =
 TellsBreach command files reply = ⊥
 
 -- 0: a report whose table is kept by every lawful run of the network that keeps packet sizes, arrival and service curves; of
--- `simulate` beside a run that keeps them too, no number of which is above its bound; or the answers of a script
+-- `simulate` beside a run that keeps them too, no number of which is above its bound; or the least arrival curve of a flow's
+-- packets, with the least bucket of the rate that they keep; or the answers of a script
 abbrev pub IsDone : Command → List (List ℕ) → Reply → Type 0
 IsDone (Analyse net) (bytes ∷ []) reply =
     (model : Net) × (at : CellTable) × IsReportOf model at bytes reply × Guarantees model at
 IsDone (Simulate net trace) (bytes ∷ rows ∷ []) reply =
     (h : IsQuietReport bytes rows reply) × Guarantees h.report.net h.report.at
+IsDone (Measure net trace name rate) (bytes ∷ rows ∷ []) reply =
+    (packets : List TracePacket) × (curve : SpecCurve) × (burst : ℚ)
+    × IsMeasureReportOf bytes rows name rate packets curve burst reply × IsLeastOf packets curve rate burst
 IsDone (Curve script) (bytes ∷ []) reply = IsAnswered bytes reply
 IsDone command files reply = ⊥
 
@@ -83,17 +109,20 @@ IsDone command files reply = ⊥
 abbrev pub IsAnswerable : Command → List (List ℕ) → Type 0
 IsAnswerable (Analyse net) (bytes ∷ []) = IsWithinLimits bytes
 IsAnswerable (Simulate net trace) (bytes ∷ rows ∷ []) = run_laws.IsWithinLimits bytes rows
+IsAnswerable (Measure net trace name rate) (bytes ∷ rows ∷ []) = measure_laws.IsWithinLimits bytes rows name rate
 IsAnswerable (Curve script) (bytes ∷ []) = IsWithinRules bytes
 IsAnswerable command files = ⊥
 
 abbrev pub IsAnswer : Command → ℕ → Type 0
 IsAnswer (Analyse net) status = status ≡ 0
 IsAnswer (Simulate net trace) status = (status ≡ 0) ⊎ (status ≡ 9)
+IsAnswer (Measure net trace name rate) status = status ≡ 0
 IsAnswer (Curve script) status = status ≡ 0
 
 -- ---- steps, by the status and the counts before and after
 abbrev pub CountsTo : Command → List (List ℕ) → (status old new : ℕ) → Type 0
 CountsTo (Analyse net) (bytes ∷ []) status old new = CountsOn bytes status old new
 CountsTo (Simulate net trace) (bytes ∷ rows ∷ []) status old new = run_counts.CountsOn bytes rows status old new
+CountsTo (Measure net trace name rate) (bytes ∷ rows ∷ []) status old new = measure_counts.CountsOn bytes status old new
 CountsTo (Curve script) (bytes ∷ []) status old new = Unit {0}
 CountsTo command files status old new = ⊥

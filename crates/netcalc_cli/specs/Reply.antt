@@ -1,5 +1,5 @@
 -- What the program answers on words and files, and what it means that the answer is given.
-use Rattle.std.specs.Prelude.{◌≡◌, ◌⊎◌, ℕ, List, codes, Option, Some, None, IfSome}
+use Rattle.std.specs.Prelude.{◌≡◌, ◌⊎◌, ◌++◌, ℕ, List, codes, Option, Some, None, IfSome}
 use Rattle.std.specs.Io.KnownBytes.{Appends}
 use Rattle.outside.specs.Faults.{Rose}
 use Rattle.outside.specs.Written.{AppendsFront}
@@ -9,7 +9,9 @@ use Rattle.netcalc_cli.specs.Files.{Told, IsTooLong, MayHoldAll, FirstIs, FirstL
 
 -- the commands that the usage line tells
 abbrev pub commands : List ℕ
-commands = codes "netcalc analyse NET [--json], edit NET EDITS [--json], simulate NET TRACE, exercise N, curve FILE"
+commands =
+    codes "netcalc analyse NET [--json], edit NET EDITS [--json], simulate NET TRACE, exercise N, "
+    ++ codes "measure NET TRACE FLOW RATE, curve FILE"
 
 -- ---- on files
 -- the reply of a command where its files hold these bytes

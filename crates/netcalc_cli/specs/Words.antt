@@ -1,15 +1,19 @@
 -- The words of the command line.
 use Rattle.std.specs.Prelude.{ℕ, Bool, false, not, ◌==◌, ◌&&◌, List, [], ◌∷◌, map, codes, Option, Some, None}
-use Rattle.std.specs.Prelude.{String, string_bytes, if◌then◌else◌}
+use Rattle.std.specs.Prelude.{String, string_bytes, if◌then◌else◌, Result, Ok, Err}
 use Rattle.std.specs.declared.alloc.Global.{Global}
 use Rattle.std.specs.Str.{bytes_eq}
-use Rattle.netcalc_cli.specs.Commands.{Command, Analyse, Simulate, Curve}
+use Rattle.rational.specs.Rational.{ℚ, lt_q}
+use Rattle.min_plus.specs.Functions.{zero_q}
+use Rattle.fraction128.specs.declared.fault.FracText.{FracText}
+use Rattle.fraction128.specs.Text.{parse_of}
+use Rattle.netcalc_cli.specs.Commands.{Command, Analyse, Simulate, Measure, Curve}
 
 -- the words as bytes
 abbrev pub texts : List (String Global) → List (List ℕ)
 texts = map string_bytes
 
--- A file's name is not empty and does not begin with `-`.
+-- An operand is not empty and does not begin with `-`.
 abbrev pub is_operand : List ℕ → Bool
 is_operand [] = false
 is_operand (b ∷ bs) = not (b == 45)
@@ -25,9 +29,29 @@ abbrev pub on_two : List ℕ → (first second : List ℕ) → Option Command
 on_two word first second =
     if bytes_eq word (codes "simulate") then Some (Simulate first second) else None
 
--- The words are taken where they are the program's name, a command and its files. Then they ask for this.
+-- the rate that a word writes: a number text from 0 on
+abbrev pub from_0 : Result ℚ FracText → Option ℚ
+from_0 (Ok rate) = if lt_q rate zero_q then None else Some rate
+from_0 (Err fault) = None
+
+abbrev pub rate_of : List ℕ → Option ℚ
+rate_of word = from_0 (parse_of word)
+
+-- and on two, a flow's name and a rate
+abbrev pub measured : (net trace name : List ℕ) → Option ℚ → Option Command
+measured net trace name (Some rate) = Some (Measure net trace name rate)
+measured net trace name None = None
+
+abbrev pub on_four : List ℕ → (net trace name rate : List ℕ) → Option Command
+on_four word net trace name rate =
+    if bytes_eq word (codes "measure") then measured net trace name (rate_of rate) else None
+
+-- The words are taken where they are the program's name, a command and its operands. Then they ask for this.
 abbrev pub command_of : List (List ℕ) → Option Command
 command_of (program ∷ word ∷ file ∷ []) = if is_operand file then on_one word file else None
 command_of (program ∷ word ∷ first ∷ second ∷ []) =
     if is_operand first && is_operand second then on_two word first second else None
+command_of (program ∷ word ∷ net ∷ trace ∷ name ∷ rate ∷ []) =
+    if is_operand net && is_operand trace && (is_operand name && is_operand rate) then on_four word net trace name rate
+    else None
 command_of words = None

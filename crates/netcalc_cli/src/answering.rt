@@ -1,6 +1,8 @@
 //! The answer of a command. Each has a function of its own, which fetches its files and answers on them.
 
 ghost use Rattle.std.specs.Prelude.{◌≡◌, IfOk};
+ghost use Rattle.rational.specs.Rational.{◌≤ℚ◌};
+ghost use Rattle.min_plus.specs.Functions.{zero_q};
 ghost use Rattle.command_replies.specs.View.{reply_of, status_of};
 ghost use Rattle.netcalc_cli.specs.Commands as commands;
 ghost use Rattle.netcalc_cli.specs.Counts.{CountsOnCommand};
@@ -12,6 +14,8 @@ use crate::words::Command;
 use analyse_command::on_bytes;
 use command_replies::Answer;
 use curve_command::on_script;
+use fraction128::Frac;
+use measure_command::on_measure;
 use outside::{Inputs, NoMemory};
 use simulate_command::on_trace;
 use std::alloc::Global;
@@ -53,6 +57,27 @@ fn on_simulated<I: Inputs, L: Ledger>(
     }
 }
 
+fn on_measured<I: Inputs, L: Ledger>(
+    alloc: Global,
+    net: &str,
+    trace: &str,
+    name: &str,
+    rate: Frac,
+    inputs: &mut I,
+    steps: &mut Steps<L>,
+) -> Result<Answer, NoMemory>
+    requires { zero_q ≤ℚ rate }
+    ensures reply { IfOk result (λ r. MayReplyTo I.faults I.last_fault (I.content inputs.old)
+        (commands.Measure net.now trace.now name.now rate) inputs.old inputs.new (reply_of r)) }
+    ensures counts { CountsOnCommand (I.content inputs.old) (commands.Measure net.now trace.now name.now rate)
+        (status_of result) steps.old steps.new }
+{
+    match fetch_two(alloc, net, trace, inputs) {
+        Ok((bytes, rows)) => on_measure(alloc, net, &bytes, trace, &rows, name, rate, steps),
+        Err(ended) => ended,
+    }
+}
+
 fn on_curves<I: Inputs, L: Ledger>(
     alloc: Global,
     script: &str,
@@ -77,6 +102,7 @@ pub(crate) fn answer_to<I: Inputs, L: Ledger>(
     inputs: &mut I,
     steps: &mut Steps<L>,
 ) -> Result<Answer, NoMemory>
+    requires rate { commands.HasRate (command_view command) }
     ensures reply { IfOk result (λ r. MayReplyTo I.faults I.last_fault (I.content inputs.old)
         (command_view command.entry) inputs.old inputs.new (reply_of r)) }
     ensures counts { CountsOnCommand (I.content inputs.old) (command_view command.entry) (status_of result)
@@ -85,6 +111,9 @@ pub(crate) fn answer_to<I: Inputs, L: Ledger>(
     match command {
         Command::Analyse(net) => on_network(alloc, net, inputs, steps),
         Command::Simulate(net, trace) => on_simulated(alloc, net, trace, inputs, steps),
+        Command::Measure(net, trace, name, rate) => {
+            on_measured(alloc, net, trace, name, rate, inputs, steps)
+        }
         Command::Curve(script) => on_curves(alloc, script, inputs, steps),
     }
 }

@@ -1,17 +1,24 @@
 //! The words of the command line.
-ghost use Rattle.std.specs.Prelude.{◌≡◌, [], ◌∷◌, option_map, string_bytes};
+ghost use Rattle.std.specs.Prelude.{◌≡◌, ◌&&◌, [], ◌∷◌, option_map, string_bytes, IfSome};
+ghost use Rattle.rational.specs.Rational.{◌≤ℚ◌};
+ghost use Rattle.min_plus.specs.Functions.{zero_q};
+ghost use Rattle.netcalc_cli.specs.Commands.{HasRate};
 ghost use Rattle.netcalc_cli.specs.View.{command_view};
-ghost use Rattle.netcalc_cli.specs.Words.{texts, is_operand, on_one, on_two, command_of};
+ghost use Rattle.netcalc_cli.specs.Words.{texts, is_operand, rate_of, on_one, on_two, on_four, command_of};
 
+use fraction128::{Frac, is_less};
 use std::alloc::Global;
 
-/// What a command line asks for, with the names of its files.
+/// What a command line asks for, with the names of its files, and with what its other words say.
 #[derive(Clone, Copy)]
 pub(crate) enum Command<'a> {
     /// The bounds of a network.
     Analyse(&'a str),
     /// The run of a network and a trace beside the bounds.
     Simulate(&'a str, &'a str),
+    /// The least arrival curve of a flow's packets in a trace, by the flow's name, and their least bucket for a rate in bits
+    /// a unit of time.
+    Measure(&'a str, &'a str, &'a str, Frac),
     /// The answers of a script of curve expressions.
     Curve(&'a str),
 }
@@ -32,9 +39,16 @@ fn is_operand(word: &str) -> bool
     }
 }
 
+fn are_both_operands(first: &str, second: &str) -> bool
+    ensures { result ≡ (is_operand first.now && is_operand second.now) }
+{
+    is_operand(first) && is_operand(second)
+}
+
 // The command of this word on one file.
 fn on_one<'a>(word: &str, file: &'a str) -> Option<Command<'a>>
-    ensures { option_map command_view result ≡ on_one word.now file.now }
+    ensures command { option_map command_view result ≡ on_one word.now file.now }
+    ensures rate { IfSome result (λ c. HasRate (command_view c)) }
 {
     if word == "analyse" {
         return Some(Command::Analyse(file));
@@ -47,7 +61,8 @@ fn on_one<'a>(word: &str, file: &'a str) -> Option<Command<'a>>
 
 // The command of this word on two files.
 fn on_two<'a>(word: &str, first: &'a str, second: &'a str) -> Option<Command<'a>>
-    ensures { option_map command_view result ≡ on_two word.now first.now second.now }
+    ensures command { option_map command_view result ≡ on_two word.now first.now second.now }
+    ensures rate { IfSome result (λ c. HasRate (command_view c)) }
 {
     if word == "simulate" {
         return Some(Command::Simulate(first, second));
@@ -55,9 +70,44 @@ fn on_two<'a>(word: &str, first: &'a str, second: &'a str) -> Option<Command<'a>
     None
 }
 
+/// The rate that a word writes: a number text from 0 on.
+fn rate_of(word: &str) -> Option<Frac>
+    ensures value { result ≡ rate_of word.now }
+    ensures from { IfSome result (λ rate. zero_q ≤ℚ rate) }
+{
+    let Ok(rate) = Frac::parse(word.as_bytes()) else {
+        return None;
+    };
+    if is_less(rate, Frac::zero()) {
+        return None;
+    }
+    Some(rate)
+}
+
+// The command of this word on two files, a flow's name and a rate.
+fn on_four<'a>(
+    word: &str,
+    net: &'a str,
+    trace: &'a str,
+    name: &'a str,
+    rate: &str,
+) -> Option<Command<'a>>
+    ensures command { option_map command_view result ≡ on_four word.now net.now trace.now name.now rate.now }
+    ensures rate { IfSome result (λ c. HasRate (command_view c)) }
+{
+    if word != "measure" {
+        return None;
+    }
+    match rate_of(rate) {
+        Some(rate) => Some(Command::Measure(net, trace, name, rate)),
+        None => None,
+    }
+}
+
 fn with_one<'a>(word: &str, file: &'a String) -> Option<Taken<'a>>
-    ensures { option_map (λ t. command_view t.command) result
+    ensures command { option_map (λ t. command_view t.command) result
         ≡ command_of ([] ∷ word.now ∷ string_bytes file.now ∷ []) }
+    ensures rate { IfSome result (λ t. HasRate (command_view t.command)) }
 {
     if !is_operand(file.as_str()) {
         return None;
@@ -70,10 +120,11 @@ fn with_one<'a>(word: &str, file: &'a String) -> Option<Taken<'a>>
 }
 
 fn with_two<'a>(word: &str, first: &'a String, second: &'a String) -> Option<Taken<'a>>
-    ensures { option_map (λ t. command_view t.command) result ≡
+    ensures command { option_map (λ t. command_view t.command) result ≡
         command_of ([] ∷ word.now ∷ string_bytes first.now ∷ string_bytes second.now ∷ []) }
+    ensures rate { IfSome result (λ t. HasRate (command_view t.command)) }
 {
-    if !is_operand(first.as_str()) || !is_operand(second.as_str()) {
+    if !are_both_operands(first.as_str(), second.as_str()) {
         return None;
     }
     let alloc = *first.allocator();
@@ -83,13 +134,46 @@ fn with_two<'a>(word: &str, first: &'a String, second: &'a String) -> Option<Tak
     }
 }
 
+fn with_four<'a>(
+    word: &str,
+    net: &'a String,
+    trace: &'a String,
+    name: &'a String,
+    rate: &'a String,
+) -> Option<Taken<'a>>
+    ensures command { option_map (λ t. command_view t.command) result ≡
+        command_of ([] ∷ word.now ∷ string_bytes net.now ∷ string_bytes trace.now ∷ string_bytes name.now
+        ∷ string_bytes rate.now ∷ []) }
+    ensures rate { IfSome result (λ t. HasRate (command_view t.command)) }
+{
+    if !are_both_operands(net.as_str(), trace.as_str())
+        || !are_both_operands(name.as_str(), rate.as_str())
+    {
+        return None;
+    }
+    let alloc = *net.allocator();
+    match on_four(
+        word,
+        net.as_str(),
+        trace.as_str(),
+        name.as_str(),
+        rate.as_str(),
+    ) {
+        Some(command) => Some(Taken { alloc, command }),
+        None => None,
+    }
+}
+
 /// Reads the words, the program's name first. None where they are not taken.
+#[tactic(auto, using(crate::proofs::WordLists::other_numbers))]
 pub(crate) fn take_words(words: &[String]) -> Option<Taken<'_>>
-    ensures { option_map (λ t. command_view t.command) result ≡ command_of (texts words.now) }
+    ensures command { option_map (λ t. command_view t.command) result ≡ command_of (texts words.now) }
+    ensures rate { IfSome result (λ t. HasRate (command_view t.command)) }
 {
     match words {
         [_, word, file] => with_one(word.as_str(), file),
         [_, word, first, second] => with_two(word.as_str(), first, second),
+        [_, word, net, trace, name, rate] => with_four(word.as_str(), net, trace, name, rate),
         _ => None,
     }
 }

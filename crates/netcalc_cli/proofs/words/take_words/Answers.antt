@@ -1,0 +1,10 @@
+use Rattle.std.proofs.Common.{◌∙◌}
+use Rattle.netcalc_cli.proofs.WordLists.{of_six}
+use Rattle.netcalc_cli.proofs.words.take_words.Goals as goal
+
+pub returns-in-len6-clause-command : goal.returns-in-len6-clause-command
+returns-in-len6-clause-command c =
+    (rw c.as_str-in-len6.ensures.value at c.with_four.ensures.command)
+    ∙ of_six c.args.words.now c.word-item-then-words-lt7.result c.net-item.result c.trace-item.result c.name-item.result
+    c.rate-item.result c.in-len6.len_at_least c.in-len6.len_below c.word-item-then-words-lt7.is c.net-item.is
+    c.trace-item.is c.name-item.is c.rate-item.is
