@@ -1,5 +1,5 @@
 -- The words of a cell tell the cell: its kind's word has no space, nor has a name, and names differ.
-use Rattle.std.proofs.Common.{◌≡◌, ◌≢◌, ℕ, zero, suc, ◌<◌, ◌≤◌, ◌^◌, List, [], ◌∷◌, ◌++◌, length, refl, sym, ap, ◌∙◌, subst, inl, inr, arith, Bool, true, false, cond, append_assoc}
+use Rattle.std.proofs.Common.{◌≡◌, ◌≢◌, ℕ, zero, suc, ◌<◌, ◌≤◌, ◌^◌, List, [], ◌∷◌, ◌++◌, length, refl, sym, ap, ◌∙◌, subst, inl, inr, arith, Bool, true, false, append_assoc}
 use Rattle.std.specs.Prelude.{◌==◌, codes, sum, IsTrue, All, Option, Some, None, slice_get, if◌then◌else◌, is_some}
 use Rattle.std.specs.Fmt.{decimal}
 use Rattle.std.specs.Str.Parse.{digits_value}
@@ -17,7 +17,8 @@ use Rattle.net_cells.specs.declared.cell.Scope.{Scope}
 use Rattle.net_cells.specs.declared.cell.Scope.TheVariants.{EachHop, EachHopButLast, EachQueue, EachPriorityQueue, EachPath}
 use Rattle.net_cells.specs.Numbered.{flow_at, path_of, is_live, hops, queues, levels, levels_of, discipline_of}
 use Rattle.net_cells.specs.Cells.{cell_of, scope_of, is_in_scope}
-use Rattle.net_cells.proofs.Stored.{flow_kept, few_hops, server_kept, few_of}
+use Rattle.net_model.proofs.FewQueues.{few_of}
+use Rattle.net_cells.proofs.Stored.{flow_kept, few_hops, server_kept}
 use Rattle.report_text.specs.CellWords.{kind_word, name_of_server, name_of_flow, server_name, flow_name, words_at, cell_words}
 use Rattle.report_text.specs.Laws.{WordsTellCells}
 use Rattle.report_text.proofs.Fronts.{lacks, same_front, same_back}
