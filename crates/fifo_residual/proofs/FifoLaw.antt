@@ -5,7 +5,7 @@ use Rattle.rational.specs.Rational.{ℚ, int, ◌+ℚ◌, ◌-ℚ◌, ◌≤ℚ�
 use Rattle.rational.specs.Extended.{Ext, ◌≤ₑ◌, ◌+ₑ◌}
 use Rattle.rational.specs.declared.Extended.TheVariants.{Fin, Inf}
 use Rattle.rational.proofs.Over.{le_q_out, le_q_in}
-use Rattle.rational.proofs.MinMax.{le_q_not, max_q_left, max_q_right}
+use Rattle.rational.proofs.MinMax.{max_q_left, max_q_right}
 use Rattle.rational.proofs.Laws.{le_refl, le_trans, le_of_lt, le_or_lt}
 use Rattle.rational.proofs.ExtendedOrder.{le_ext_refl, le_ext_trans, add_le_ext}
 use Rattle.rational.proofs.Linear.{with2, with3, with4, with5, with6, with7, with8}

@@ -6,5 +6,4 @@ pub mod Ends
 pub mod Sums
 pub mod Orders
 pub mod Queues
-
 pub mod Once

@@ -2,11 +2,8 @@
 -- before, and it leaves no more often than it came.
 use Rattle.std.specs.Prelude.{Option, Some, None, ◌≡◌, ◌≢◌, ◌⊎◌, ℕ, zero, suc, ◌+◌, ◌<◌, ◌≤◌, ◌==◌, leb, Bool, true, false, ◌&&◌, List, [], ◌∷◌, ◌++◌, length, slice_index_or}
 use Rattle.std.proofs.Common.{arith, sym, ap, ◌∙◌, refl, inl, inr, subst, append_assoc}
-use Rattle.std.proofs.lemmas.Bool.{cases_Bool, cases_eq, cases_lt, eqb-true, eq-eqb, ne_eqb, le-leb, lt-leb, leb-true}
-use Rattle.rational.specs.Rational.{ℚ, int, ◌+ℚ◌, ◌-ℚ◌, ◌≤ℚ◌}
-use Rattle.rational.specs.Extended.{Ext, ◌≤ₑ◌}
-use Rattle.rational.specs.declared.Extended.TheVariants.{Fin}
-use Rattle.min_plus.specs.Pointwise.{shifted}
+use Rattle.std.proofs.lemmas.Bool.{cases_Bool, cases_eq, cases_lt, eqb-true, eq-eqb, ne_eqb, le-leb, lt-leb}
+use Rattle.rational.specs.Rational.{ℚ, ◌+ℚ◌}
 use Rattle.run_laws.specs.declared.steps.Step.{Step}
 use Rattle.run_laws.specs.declared.steps.Step.TheVariants.{Enter, Reach, Work, Leave, Visit}
 use Rattle.run_laws.specs.Runs.{SpecRun}
@@ -192,6 +189,7 @@ absent_less p n = elim (cases_lt p n) [
   | inl l ↦ rw (lt-leb n p l, lt-leb (suc n) p (omega (arith, l))) (omega arith)
   | inr l ↦ rw (le-leb n p l) (one_most (leb (suc n) p))
 ]
+
 enters_once : (b : Bool) (q p n m x : ℕ) → q ≡ n → m ≡ suc n → x ≤ absent p m → at b (one (q == p)) + x ≤ absent p n
 enters_once b q p n m x is next h = elim (cases_eq q p) [
   | inl e ↦

@@ -1,10 +1,9 @@
 -- The digits of a number, and the text of a quotient of two: a number of at most 127 bits is the only one with its
 -- text. Std writes no more than the last 64 digits of a number, so two larger numbers may have one text.
-use Rattle.std.proofs.Common.{◌≡◌, ℕ, zero, suc, ◌+◌, ◌*◌, ◌/◌, ◌%◌, ◌<◌, ◌≤◌, ◌^◌, List, [], ◌∷◌, ◌++◌, length, refl, sym, ap, ap₂, ◌∙◌, subst, inl, inr, arith, Bool, true, false, cond, ltb}
+use Rattle.std.proofs.Common.{◌≡◌, ℕ, zero, suc, ◌+◌, ◌*◌, ◌/◌, ◌%◌, ◌<◌, ◌≤◌, ◌^◌, List, [], ◌∷◌, ◌++◌, length, refl, sym, ap, ◌∙◌, subst, inl, inr, arith, Bool, true, false, cond}
 use native.Mathlib.Nat.{pow-suc, pow-zero}
-use Rattle.std.specs.Prelude.{◌==◌, ℤ, pos, negsuc, nat_abs, drop, codes}
-use Rattle.std.specs.Fmt.{decimal, digits}
-use Rattle.core.specs.Fmt.{digit_glyph, digits_onto}
+use Rattle.std.specs.Prelude.{◌==◌, ℤ, pos, negsuc, nat_abs, drop}
+use Rattle.std.specs.Fmt.{decimal, digits, digits_onto, digit_glyph}
 use Rattle.std.specs.Str.Parse.{digits_value}
 use Rattle.std.proofs.lemmas.Bool.{cases_lt, ne_eqb, lt-ltb, cond-false}
 use Rattle.std.proofs.lemmas.Fmt.{decimal_is_IsNumeral_wide, length-decimal-le_wide}

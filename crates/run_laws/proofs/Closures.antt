@@ -1,20 +1,19 @@
 -- Who keeps a curve in every closed window keeps its subadditive closure.
-use Rattle.std.specs.Prelude.{◌≡◌, ℕ, ◌==◌, Bool, true, ◌&&◌, List, [], ◌∷◌, pos}
-use Rattle.std.proofs.Common.{arith, ap, refl, inl, inr, subst}
+use Rattle.std.specs.Prelude.{◌≡◌, ℕ, ◌==◌, Bool, ◌&&◌, List, [], ◌∷◌, pos}
+use Rattle.std.proofs.Common.{arith, inl, inr, subst}
 use Rattle.std.proofs.lemmas.Bool.{and_parts, and_from}
 use Rattle.rational.specs.Rational.{ℚ, int, ◌+ℚ◌, ◌-ℚ◌, ◌≤ℚ◌, le_q}
 use Rattle.rational.specs.Extended.{Ext, ◌≤ₑ◌, ◌+ₑ◌}
 use Rattle.rational.specs.declared.Extended.TheVariants.{Fin}
 use Rattle.rational.proofs.Laws.{le_refl, le_of_lt, le_or_lt}
 use Rattle.rational.proofs.Bounds.{greatest}
-use Rattle.rational.proofs.ExtendedOrder.{le_ext_trans, same_le_ext, add_le_ext}
-use Rattle.rational.proofs.Linear.{with1, with2, with3, with4, with6, with8}
+use Rattle.rational.proofs.ExtendedOrder.{le_ext_trans, add_le_ext}
+use Rattle.rational.proofs.Linear.{with1, with2, with3, with6, with8}
 use Rattle.rational.proofs.Over.{le_q_out}
 use Rattle.min_plus.specs.Functions.{zero_q}
 use Rattle.min_plus.specs.Convolution.{Parts, AllNonneg, sum_of, sum_at}
 use Rattle.run_laws.specs.declared.steps.Step.{Step}
 use Rattle.run_laws.specs.declared.steps.Step.TheVariants.{Enter, Reach, Work, Leave, Visit}
-use Rattle.run_laws.specs.Runs.{SpecRun}
 use Rattle.run_laws.specs.Cards.{whole, Class, ServerStep}
 use Rattle.run_laws.specs.Counts.{when, within, arrived, arrived_upto, arrived_in}
 use Rattle.run_laws.specs.RunPremises.{enters, entered_in}
