@@ -14,9 +14,10 @@ use Rattle.upp_curve.specs.Curves.{IsCurve}
 use Rattle.upp_limits.specs.Limits.{Sizes}
 use Rattle.upp_curve.specs.Unrolled.{unroll}
 use Rattle.run_laws.specs.Runs.{SpecRun}
-use Rattle.run_laws.specs.Routes.{route_of}
+use Rattle.run_laws.specs.Routes.{route_of, server_at}
 use Rattle.run_laws.specs.Lawful.{IsLawful}
 use Rattle.run_laws.specs.Views.{view}
+use Rattle.run_laws.proofs.Views.{views_are_lawful}
 use Rattle.net_model.specs.declared.breach.Breach.{Breach}
 use Rattle.net_model.specs.declared.breach.Breach.TheVariants.{Size, Arrival, Service}
 use Rattle.net_model.specs.Networks.{Net, NetServer, NetFlow}
@@ -28,11 +29,12 @@ use Rattle.watch_laws.specs.Entries.{entries, entering, IsCrowded}
 use Rattle.watch_laws.specs.Breaches.{IsIdle, IsTooSlow}
 use Rattle.watch_laws.specs.Laws.{MayArrive, MayServe, HaveCurves}
 use Rattle.watch_laws.proofs.Entered.{in_order}
-use Rattle.watch_laws.proofs.Premises.{breaches_tell}
+use Rattle.watch_laws.proofs.Premises.{breaches_tell, watch_points_suffice}
 use Rattle.run_watch.specs.declared.found.Found.{Found}
 use Rattle.run_watch.specs.FirstOf.{IsBest, IsLongOn, IsCrowdOn, IsIdleOn}
 use Rattle.first_breaches.specs.Sizes.{RunStands}
 use Rattle.first_breaches.specs.Firsts.{TellsFirst, kind_of, IsOne, IsOfKinds, HaveServices}
+use Rattle.first_breaches.specs.Kept.{KeepsCurve}
 use Rattle.first_breaches.proofs.Joined.{best_same}
 use Rattle.first_breaches.proofs.Routed.{live_is}
 use Rattle.first_breaches.proofs.CurvesRead.{crowded_read}
@@ -144,6 +146,16 @@ service_one net run s c end o l e at h = best_same (IsIdleOn end (view (routes_o
           (subst (λ (d : SpecCurve). IsIdle run.end (view (routes_of net) run s) d a b) (sym e)
           (subst (λ (i : ℕ). IsTooSlow (routes_of net) (service net) run i a b) k.at k.breaks).idle),
     )
+
+-- a server that keeps its curve works nowhere less than it
+pub kept_is_not_slow : (net : Net) (run : SpecRun) (s : ℕ) (a b : ℚ) → IsLawful (routes_of net) run → MayServe (service net s) → KeepsCurve net run s → ¬ IsTooSlow (routes_of net) (service net) run s a b
+kept_is_not_slow net run s a b L M K h =
+    (watch_points_suffice (server_at (routes_of net) s) run.end (view (routes_of net) run s) (service net s) (views_are_lawful (routes_of net) run s L h.known) M).0 K a b h.idle
+
+pub none_of_kept : (net : Net) (run : SpecRun) (s : ℕ) → IsLawful (routes_of net) run → MayServe (service net s) → KeepsCurve net run s → IsBest (IsOne net run 2 s) run None
+none_of_kept net run s L M K (Size g p) h = let a = h.kind_is in omega arith
+none_of_kept net run s L M K (Arrival g i j) h = let a = h.kind_is in omega arith
+none_of_kept net run s L M K (Service r a b) h = kept_is_not_slow net run s a b L M K (subst (λ (i : ℕ). IsTooSlow (routes_of net) (service net) run i a b) h.at h.breaks)
 
 -- ---- all
 pub may_serve : (x : NetServer) → IsServer x → IsCurve x.service → MayServe x.service
