@@ -11,8 +11,8 @@ use Rattle.affine_segment.specs.Reading.{read}
 use Rattle.upp_curve.specs.Curve.{SpecCurve, value_at}
 use Rattle.min_plus.specs.Functions.{IsRising, IsNonnegative}
 use Rattle.upp_curve.specs.Curves.{IsCurve}
-use Rattle.upp_limits.specs.Limits.{Sizes}
-use Rattle.upp_curve.specs.Unrolled.{unroll}
+use Rattle.upp_limits.specs.Limits.{Sizes, curve_numbers}
+use Rattle.upp_limits.specs.Sized.{Stands}
 use Rattle.run_laws.specs.Runs.{SpecRun}
 use Rattle.run_laws.specs.Routes.{route_of, server_at}
 use Rattle.run_laws.specs.Lawful.{IsLawful}
@@ -32,6 +32,7 @@ use Rattle.watch_laws.proofs.Entered.{in_order}
 use Rattle.watch_laws.proofs.Premises.{breaches_tell, watch_points_suffice}
 use Rattle.run_watch.specs.declared.found.Found.{Found}
 use Rattle.run_watch.specs.FirstOf.{IsBest, IsLongOn, IsCrowdOn, IsIdleOn}
+use Rattle.first_breaches.specs.Reaches.{reach, pieces_below}
 use Rattle.first_breaches.specs.Sizes.{RunStands}
 use Rattle.first_breaches.specs.Firsts.{TellsFirst, kind_of, IsOne, IsOfKinds, HaveServices}
 use Rattle.first_breaches.specs.Kept.{KeepsCurve}
@@ -87,16 +88,19 @@ size_one net run flow f o e h = best_same (IsLongOn run flow f.packet) (IsOne ne
     back (Service s a b) k = let a = k.kind_is in absurd (omega arith)
 
 -- ---- arrivals
-pub arrival_one : (net : Net) (run : SpecRun) (flow : ℕ) (f : NetFlow) (ps : List Piece) (o : Option Found) → (IsLawful (routes_of net) run) → (z : Sizes) × RunStands z net run → IsCurve f.arrival
-    → Some f ≡ flow_at net flow → ps ≡ unroll f.arrival run.end → IsBest (IsCrowdOn run flow (read ps)) run o → IsBest (IsOne net run 1 flow) run o
-arrival_one net run flow f ps o L R C e unrolled h = best_same (IsCrowdOn run flow (read ps)) (IsOne net run 1 flow) run o into back h
+pub arrival_one : (net : Net) (run : SpecRun) (flow : ℕ) (f : NetFlow) (r : ℚ) (ps : List Piece) (o : Option Found) → (IsLawful (routes_of net) run) → (z : Sizes) × RunStands z net run → IsCurve f.arrival
+    → Some f ≡ flow_at net flow → (0 < length (entries flow run.steps) → r ≡ reach (entries flow run.steps) run.end) → ps ≡ pieces_below f.arrival r → IsBest (IsCrowdOn run flow (read ps)) run o → IsBest (IsOne net run 1 flow) run o
+arrival_one net run flow f r ps o L R C e far below h = best_same (IsCrowdOn run flow (read ps)) (IsOne net run 1 flow) run o into back h
   where
     curve : f.arrival ≡ arrival net flow
     curve = ap arrival_of e
 
+    stands : Stands R.0 (curve_numbers run.end f.arrival)
+    stands = subst (λ (k : SpecCurve). Stands R.0 (curve_numbers run.end k)) (sym curve) (R.1.arrivals flow (live_flow_is net flow f e))
+
     both : (i j : ℕ) → (IsCrowded (read ps) (entries flow run.steps) i j → IsCrowded (value_at f.arrival) (entries flow run.steps) i j)
         × (IsCrowded (value_at f.arrival) (entries flow run.steps) i j → IsCrowded (read ps) (entries flow run.steps) i j)
-    both i j = crowded_read R.0 run.end flow f.arrival run.steps ps i j R.1.limited C R.1.steps (in_order (routes_of net) run flow L) unrolled
+    both i j = crowded_read R.0 run.end r flow f.arrival run.steps ps i j R.1.limited C stands R.1.steps (in_order (routes_of net) run flow L) far below
 
     into : (y : Breach) → IsCrowdOn run flow (read ps) y → IsOne net run 1 flow y
     into (Size g p) k = absurd k
