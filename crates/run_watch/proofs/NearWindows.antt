@@ -1,5 +1,5 @@
 -- The look at a stretch's own turns: step by step, and the sizes of its numbers.
-use Rattle.std.specs.Prelude.{◌≡◌, ◌↔◌, ℕ, ◌<◌, ◌≤◌, pos, Bool, IsTrue, List, [], ◌∷◌, length, map}
+use Rattle.std.specs.Prelude.{◌≡◌, ◌↔◌, ℕ, ◌<◌, ◌≤◌, pos, Bool, IsTrue, List, [], ◌∷◌, length, map, Option, Some, None}
 use Rattle.std.specs.List.{slice_index_or}
 use Rattle.std.proofs.Common.{arith, refl, sym, subst, ap, inl, inr, ◌∙◌}
 use Rattle.std.proofs.lemmas.Bool.{cases_Bool, and_parts}
@@ -32,12 +32,12 @@ use Rattle.run_watch.specs.declared.watched.Watched.{Watched}
 use Rattle.run_watch.specs.declared.watched.Stretch.{Stretch}
 use Rattle.run_watch.specs.Ramps.{amount, spans_of, EachRamp, ReadsRamp}
 use Rattle.run_watch.specs.Watching.{stops, next_after, stretches, turns, TimesRise, HoldsTimes}
-use Rattle.run_watch.specs.WatchTimes.{point_at}
+use Rattle.run_watch.specs.WatchTimes.{point_at, watched_from}
 use Rattle.run_watch.specs.FirstEnds.{FitsMarks, IsFirstEnd, FitsSegments}
-use Rattle.run_watch.specs.IdleWindows.{TimeFits, SegmentsFit}
+use Rattle.run_watch.specs.IdleWindows.{FindsShort, TimeFits, SegmentsFit}
 use Rattle.run_watch.specs.NearWindows.{FitsAt, FitsNear, FitsNearBy, IsShortAfter, IsShortBefore, NoneNear, IsClear}
 use Rattle.run_watch.specs.Held.{AreHeld, IsHeld}
-use Rattle.run_watch.specs.Searches.{IsLookedAt}
+use Rattle.run_watch.specs.Searches.{IsLookedAt, IsClearStretch, FindsIn}
 use Rattle.run_watch.proofs.FoundStretches.{HasStretch, ramp_in}
 use Rattle.run_watch.proofs.FirstIdle.{stretch_times}
 use Rattle.run_watch.proofs.HeldSizes.{IsHeldSegment, segments_held, segment_map, gap_steps, segment_keys, ramps_read, segments_fit, time_fits, times_sum_fit, times_differ, length_time}
@@ -262,3 +262,18 @@ before_is works s p g u v b e f n h =
 
 pub not_before : (works : List Ramp) (s : Stretch) (p : Point) (g : Segment) (u : ℚ) → u ≡ p.time -ℚ g.start → u <ℚ s.start → ¬ IsShortBefore works s p g
 not_before works s p g u e l k = lt_irrefl s.start (le_lt_trans (subst (λ x. s.start ≤ℚ x) (sym e) k.inside) l)
+
+pub clear_as : (w : Watched) (c : SpecCurve) (s : Stretch) (own : List ℚ) (works : List Ramp) (qs : List Piece) → works ≡ w.works.items → qs ≡ unroll c (s.end -ℚ s.start) → IsClear (segments qs) works s own → IsClearStretch w c s own
+clear_as w c s own works qs e f h =
+    subst (λ (rs : List Ramp). IsClear (segments (unroll c (s.end -ℚ s.start))) rs s own) e (subst (λ (xs : List Piece). IsClear (segments xs) works s own) f h)
+
+-- what is found between the watch points
+pub found_watched : (w : Watched) (c : SpecCurve) (s : Stretch) (own all : List ℚ) (works : List Ramp) (qs : List Piece) (gs : List Segment) (o : Option (ℚ × ℚ)) → works ≡ w.works.items → qs ≡ unroll c w.end → gs ≡ segments qs
+    → FindsShort gs works (watched_from s qs all) o → FindsIn w c s own all o
+found_watched w c s own all works qs gs o e f g h =
+    go o (subst (λ (rs : List Ramp). FindsShort (segments (unroll c w.end)) rs (watched_from s (unroll c w.end) all) o) e
+    (subst (λ (xs : List Piece). FindsShort (segments xs) works (watched_from s xs all) o) f (subst (λ (xs : List Segment). FindsShort xs works (watched_from s qs all) o) g h)))
+  where
+    go : (o : Option (ℚ × ℚ)) → FindsShort (segments (unroll c w.end)) w.works.items (watched_from s (unroll c w.end) all) o → FindsIn w c s own all o
+    go None k = inr k
+    go (Some p) k = k

@@ -66,7 +66,8 @@ pub(crate) fn first_in(
     ensures { IfOk result (FindsIn w.now curve.now s.now own.now turns.now) }
 {
     let near = unrolled(curve, difference(s.end, s.start))?;
-    if !may_be_short(alloc, &w.works, s, own, &near)? {
+    let maybe = may_be_short(alloc, &w.works, s, own, &near)?;
+    if !maybe {
         return Ok(None);
     }
     let pieces = unrolled(curve, w.end)?;
