@@ -1,9 +1,10 @@
 -- The pieces of a flow's arrival curve, read at the time between two of its packets.
-use Rattle.std.specs.Prelude.{◌≡◌, ◌⊎◌, ℕ, zero, suc, ◌-◌, ◌<◌, ◌≤◌, ◌==◌, pos, List, [], ◌∷◌, length, take}
+use Rattle.std.specs.Prelude.{◌≡◌, ◌⊎◌, ℕ, zero, suc, ◌-◌, ◌<◌, ◌≤◌, ◌==◌, pos, List, [], ◌∷◌, length, take, get_or}
 use Rattle.std.specs.List.{AllByRecursion}
 use Rattle.std.proofs.Common.{arith, refl, sym, subst, ap, ◌∙◌, inl, inr}
 use Rattle.std.proofs.lemmas.Bool.{cases_Bool, cases_lt}
-use Rattle.rational.specs.Rational.{ℚ, int, ◌+ℚ◌, ◌-ℚ◌, ◌≤ℚ◌, ◌<ℚ◌}
+use Rattle.std.proofs.lemmas.List.{get_or_read}
+use Rattle.rational.specs.Rational.{ℚ, int, ◌+ℚ◌, ◌-ℚ◌, ◌≤ℚ◌, ◌<ℚ◌, neg_ℚ}
 use Rattle.rational.specs.Ratio.{SumFits}
 use Rattle.rational.specs.Grid.{Whole}
 use Rattle.rational.specs.MinMax.{min_q}
@@ -139,10 +140,10 @@ reaches z end r from es A h rise some e =
     }
 
 -- ---- the pieces below a time
-below_some : (c : SpecCurve) (r : ℚ) → int (pos 0) <ℚ r → pieces_below c r ≡ unroll c r
+pub below_some : (c : SpecCurve) (r : ℚ) → int (pos 0) <ℚ r → pieces_below c r ≡ unroll c r
 below_some c r h = rw (lt_q_out (int (pos 0)) r h) refl
 
-below_none : (c : SpecCurve) (r : ℚ) → r ≤ℚ int (pos 0) → pieces_below c r ≡ take 1 c.pieces
+pub below_none : (c : SpecCurve) (r : ℚ) → r ≤ℚ int (pos 0) → pieces_below c r ≡ take 1 c.pieces
 below_none c r h = rw (lt_q_not (int (pos 0)) r h) refl
 
 -- ---- the first piece alone
@@ -178,8 +179,8 @@ reads_first : (d r : ℚ) (c : SpecCurve) (ps qs : List Piece) → IsCurve c →
 reads_first d r c ps [] C none e f at = absurd (subst StartsAtZero (sym f) C.normal.raw.starts)
 reads_first d r c ps (q ∷ qs) C none e f at =
     let alone : ps ≡ q ∷ [] = e ∙ below_none c r none ∙ ap (take 1) (sym f) in
-    let (zero, is) = first_alone c q qs C.normal f in
-    subst (ReadsAt c ps) (sym at) (subst (λ (xs : List Piece). ReadsAt c xs (int (pos 0))) (sym alone) record { starts = (zero, tt); fits = alone_fits q zero; is = is })
+    let alone_at = first_alone c q qs C.normal f in
+    subst (ReadsAt c ps) (sym at) (subst (λ (xs : List Piece). ReadsAt c xs (int (pos 0))) (sym alone) record { starts = (alone_at.0, tt); fits = alone_fits q alone_at.0; is = alone_at.1 })
 
 -- ---- a flow
 record IsOfFlow (z : Sizes) (end : ℚ) (c : SpecCurve) (es : List Entering) : Type 0 where
@@ -265,3 +266,48 @@ crowded_read z end r flow c xs ps i j A C S h order far f =
       λ k. record { in_order = k.in_order; entered = k.entered; more = rw (← (reads_at z end r c (entries flow xs) ps i j F far f k.in_order k.entered).is) k.more },
       λ k. record { in_order = k.in_order; entered = k.entered; more = rw (reads_at z end r c (entries flow xs) ps i j F far f k.in_order k.entered).is k.more },
     )
+
+-- ---- as the code finds them
+pub record AreEnds (es : List Entering) (f l : Entering) : Type 0 where
+  pub first : f.time ≡ first_time es
+  pub last : l.time ≡ last_time es
+
+pub ends_are : (es : List Entering) (k : ℕ) (f l : Entering) → k ≡ length es - 1 → 0 < length es → f ≡ get_or es 0 f → l ≡ get_or es k l → AreEnds es f l
+ends_are es k f l at some e g = record {
+  first = ap (λ (x : Entering). x.time) (get_or_read es 0 f some e record { time = int (pos 0); bits = 0 });
+  last = ap (λ (x : Entering). x.time) (get_or_read es k l (omega arith) g record { time = int (pos 0); bits = 0 }) ∙ ap (λ (n : ℕ). (entering es n).time) at;
+}
+
+pub apart_as : (es : List Entering) (end : ℚ) (f l : Entering) → AreEnds es f l → ReachFits es end → SumFits l.time (neg_ℚ f.time)
+apart_as es end f l E F = subst (λ x. SumFits x (neg_ℚ f.time)) (sym E.last) (subst (λ x. SumFits (last_time es) (neg_ℚ x)) (sym E.first) F.length_fits)
+
+pub left_as : (es : List Entering) (end : ℚ) (f l : Entering) → AreEnds es f l → ReachFits es end → SumFits end (neg_ℚ l.time)
+left_as es end f l E F = subst (λ x. SumFits end (neg_ℚ x)) (sym E.last) F.left_fits
+
+pub record AreParts (es : List Entering) (end a m : ℚ) : Type 0 where
+  pub apart_is : a ≡ apart es
+  pub more_is : m ≡ min_q (apart es) (end -ℚ last_time es)
+
+pub parts_are : (es : List Entering) (end : ℚ) (f l : Entering) (a b m : ℚ) → AreEnds es f l → a ≡ l.time -ℚ f.time → b ≡ end -ℚ l.time → m ≡ min_q a b → AreParts es end a m
+parts_are es end f l a b m E ea eb em =
+    let first = E.first in
+    let last = E.last in
+    let whole_time : a ≡ apart es = ea ∙ ap (λ x. x -ℚ f.time) last ∙ ap (λ x. last_time es -ℚ x) first in
+    let rest : b ≡ end -ℚ last_time es = eb ∙ ap (λ x. end -ℚ x) last in
+    record { apart_is = whole_time; more_is = em ∙ ap (λ x. min_q x b) whole_time ∙ ap (min_q (apart es)) rest }
+
+pub sum_as : (es : List Entering) (end a m : ℚ) → AreParts es end a m → ReachFits es end → SumFits a m
+sum_as es end a m P F = subst (λ x. SumFits x m) (sym P.apart_is) (subst (SumFits (apart es)) (sym P.more_is) F.sum_fits)
+
+pub reach_as : (es : List Entering) (end a m : ℚ) → AreParts es end a m → a +ℚ m ≡ reach es end
+reach_as es end a m P = ap (λ x. x +ℚ m) P.apart_is ∙ ap (λ x. apart es +ℚ x) P.more_is
+
+pub reached : (es fs : List Entering) (t end r : ℚ) → es ≡ fs → t ≡ end → (0 < length es → r ≡ reach es t) → 0 < length fs → r ≡ reach fs end
+reached es fs t end r e f h some = subst (λ x. r ≡ reach fs x) f (subst (λ (xs : List Entering). r ≡ reach xs t) e (h (subst (λ (xs : List Entering). 0 < length xs) (sym e) some)))
+
+pub some_pieces : (c : SpecCurve) → IsCurve c → 1 ≤ length c.pieces
+some_pieces c C = go c.pieces C.normal.raw.starts
+  where
+    go : (ps : List Piece) → StartsAtZero ps → 1 ≤ length ps
+    go [] h = absurd h
+    go (p ∷ ps) h = omega arith

@@ -34,9 +34,13 @@ fn reach(packets: &[Entering], end: Frac) -> Frac
     if count == 0 {
         return Frac::zero();
     }
-    let last = packets[count - 1].time;
-    let apart = difference(last, packets[0].time);
-    sum(apart, lesser(apart, difference(end, last)))
+    let back = count - 1;
+    let last = packets[back];
+    let first = packets[0];
+    let apart = difference(last.time, first.time);
+    let left = difference(end, last.time);
+    let more = lesser(apart, left);
+    sum(apart, more)
 }
 
 /// The pieces of a curve that start before r, its periods written out; where r is 0, the first piece alone.
@@ -68,7 +72,8 @@ fn first_arrival_of(
         Some(flow) => {
             let _kept = flow.arrival.pieces();
             let packets = entries_of(alloc, &run.steps, number)?;
-            let pieces = pieces_below(alloc, &flow.arrival, reach(&packets, run.end))?;
+            let far = reach(&packets, run.end);
+            let pieces = pieces_below(alloc, &flow.arrival, far)?;
             Ok(arrival_breach(&packets, number, &pieces))
         }
     }
