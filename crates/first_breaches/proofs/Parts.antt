@@ -11,12 +11,13 @@ use Rattle.affine_segment.specs.Reading.{read}
 use Rattle.upp_curve.specs.Curve.{SpecCurve, value_at}
 use Rattle.min_plus.specs.Functions.{IsRising, IsNonnegative}
 use Rattle.upp_curve.specs.Curves.{IsCurve}
-use Rattle.upp_limits.specs.Limits.{Sizes}
-use Rattle.upp_curve.specs.Unrolled.{unroll}
+use Rattle.upp_limits.specs.Limits.{Sizes, curve_numbers}
+use Rattle.upp_limits.specs.Sized.{Stands}
 use Rattle.run_laws.specs.Runs.{SpecRun}
-use Rattle.run_laws.specs.Routes.{route_of}
+use Rattle.run_laws.specs.Routes.{route_of, server_at}
 use Rattle.run_laws.specs.Lawful.{IsLawful}
 use Rattle.run_laws.specs.Views.{view}
+use Rattle.run_laws.proofs.Views.{views_are_lawful}
 use Rattle.net_model.specs.declared.breach.Breach.{Breach}
 use Rattle.net_model.specs.declared.breach.Breach.TheVariants.{Size, Arrival, Service}
 use Rattle.net_model.specs.Networks.{Net, NetServer, NetFlow}
@@ -28,11 +29,13 @@ use Rattle.watch_laws.specs.Entries.{entries, entering, IsCrowded}
 use Rattle.watch_laws.specs.Breaches.{IsIdle, IsTooSlow}
 use Rattle.watch_laws.specs.Laws.{MayArrive, MayServe, HaveCurves}
 use Rattle.watch_laws.proofs.Entered.{in_order}
-use Rattle.watch_laws.proofs.Premises.{breaches_tell}
+use Rattle.watch_laws.proofs.Premises.{breaches_tell, watch_points_suffice}
 use Rattle.run_watch.specs.declared.found.Found.{Found}
 use Rattle.run_watch.specs.FirstOf.{IsBest, IsLongOn, IsCrowdOn, IsIdleOn}
+use Rattle.first_breaches.specs.Reaches.{reach, pieces_below}
 use Rattle.first_breaches.specs.Sizes.{RunStands}
 use Rattle.first_breaches.specs.Firsts.{TellsFirst, kind_of, IsOne, IsOfKinds, HaveServices}
+use Rattle.first_breaches.specs.Kept.{KeepsCurve}
 use Rattle.first_breaches.proofs.Joined.{best_same}
 use Rattle.first_breaches.proofs.Routed.{live_is}
 use Rattle.first_breaches.proofs.CurvesRead.{crowded_read}
@@ -85,16 +88,19 @@ size_one net run flow f o e h = best_same (IsLongOn run flow f.packet) (IsOne ne
     back (Service s a b) k = let a = k.kind_is in absurd (omega arith)
 
 -- ---- arrivals
-pub arrival_one : (net : Net) (run : SpecRun) (flow : ℕ) (f : NetFlow) (ps : List Piece) (o : Option Found) → (IsLawful (routes_of net) run) → (z : Sizes) × RunStands z net run → IsCurve f.arrival
-    → Some f ≡ flow_at net flow → ps ≡ unroll f.arrival run.end → IsBest (IsCrowdOn run flow (read ps)) run o → IsBest (IsOne net run 1 flow) run o
-arrival_one net run flow f ps o L R C e unrolled h = best_same (IsCrowdOn run flow (read ps)) (IsOne net run 1 flow) run o into back h
+pub arrival_one : (net : Net) (run : SpecRun) (flow : ℕ) (f : NetFlow) (r : ℚ) (ps : List Piece) (o : Option Found) → (IsLawful (routes_of net) run) → (z : Sizes) × RunStands z net run → IsCurve f.arrival
+    → Some f ≡ flow_at net flow → (0 < length (entries flow run.steps) → r ≡ reach (entries flow run.steps) run.end) → ps ≡ pieces_below f.arrival r → IsBest (IsCrowdOn run flow (read ps)) run o → IsBest (IsOne net run 1 flow) run o
+arrival_one net run flow f r ps o L R C e far below h = best_same (IsCrowdOn run flow (read ps)) (IsOne net run 1 flow) run o into back h
   where
     curve : f.arrival ≡ arrival net flow
     curve = ap arrival_of e
 
+    stands : Stands R.0 (curve_numbers run.end f.arrival)
+    stands = subst (λ (k : SpecCurve). Stands R.0 (curve_numbers run.end k)) (sym curve) (R.1.arrivals flow (live_flow_is net flow f e))
+
     both : (i j : ℕ) → (IsCrowded (read ps) (entries flow run.steps) i j → IsCrowded (value_at f.arrival) (entries flow run.steps) i j)
         × (IsCrowded (value_at f.arrival) (entries flow run.steps) i j → IsCrowded (read ps) (entries flow run.steps) i j)
-    both i j = crowded_read R.0 run.end flow f.arrival run.steps ps i j R.1.limited C R.1.steps (in_order (routes_of net) run flow L) unrolled
+    both i j = crowded_read R.0 run.end r flow f.arrival run.steps ps i j R.1.limited C stands R.1.steps (in_order (routes_of net) run flow L) far below
 
     into : (y : Breach) → IsCrowdOn run flow (read ps) y → IsOne net run 1 flow y
     into (Size g p) k = absurd k
@@ -144,6 +150,16 @@ service_one net run s c end o l e at h = best_same (IsIdleOn end (view (routes_o
           (subst (λ (d : SpecCurve). IsIdle run.end (view (routes_of net) run s) d a b) (sym e)
           (subst (λ (i : ℕ). IsTooSlow (routes_of net) (service net) run i a b) k.at k.breaks).idle),
     )
+
+-- a server that keeps its curve works nowhere less than it
+pub kept_is_not_slow : (net : Net) (run : SpecRun) (s : ℕ) (a b : ℚ) → IsLawful (routes_of net) run → MayServe (service net s) → KeepsCurve net run s → ¬ IsTooSlow (routes_of net) (service net) run s a b
+kept_is_not_slow net run s a b L M K h =
+    (watch_points_suffice (server_at (routes_of net) s) run.end (view (routes_of net) run s) (service net s) (views_are_lawful (routes_of net) run s L h.known) M).0 K a b h.idle
+
+pub none_of_kept : (net : Net) (run : SpecRun) (s : ℕ) → IsLawful (routes_of net) run → MayServe (service net s) → KeepsCurve net run s → IsBest (IsOne net run 2 s) run None
+none_of_kept net run s L M K (Size g p) h = let a = h.kind_is in omega arith
+none_of_kept net run s L M K (Arrival g i j) h = let a = h.kind_is in omega arith
+none_of_kept net run s L M K (Service r a b) h = kept_is_not_slow net run s a b L M K (subst (λ (i : ℕ). IsTooSlow (routes_of net) (service net) run i a b) h.at h.breaks)
 
 -- ---- all
 pub may_serve : (x : NetServer) → IsServer x → IsCurve x.service → MayServe x.service

@@ -1,2 +1,4 @@
 pub mod Sizes
+pub mod Reaches
 pub mod Firsts
+pub mod Kept

@@ -1,101 +1,127 @@
--- A stretch whose own turns, moved by the start of a piece or not, show no short window has no idle one.
-use Rattle.std.specs.Prelude.{◌≡◌, ℕ, ◌<◌, pos, List, length}
+-- A stretch whose own turns, and times as far from one as a piece starts, show no short window has no idle one.
+use Rattle.std.specs.Prelude.{◌≡◌, ℕ, ◌<◌, pos, List, [], ◌∷◌, length, map, Option, None}
 use Rattle.std.specs.List.{slice_index_or}
-use Rattle.std.proofs.Common.{arith, refl, sym, subst, inl, inr}
+use Rattle.std.proofs.Common.{arith, sym, subst, inl, inr}
 use Rattle.rational.specs.Rational.{ℚ, int, ◌+ℚ◌, ◌-ℚ◌, ◌≤ℚ◌, ◌<ℚ◌}
 use Rattle.rational.proofs.Laws.{le_trans, le_of_lt, le_or_lt, antisym}
-use Rattle.rational.proofs.Linear.{with2, with4}
+use Rattle.rational.proofs.Linear.{with2, with3, with4}
+use Rattle.affine_segment.specs.Pieces.{HasStart}
 use Rattle.upp_curve.specs.Curve.{SpecCurve, value_at}
 use Rattle.upp_curve.specs.Unrolled.{unroll}
-use Rattle.upp_normal.proofs.UnrolledPieces.{unroll_starts}
 use Rattle.run_laws.specs.Cards.{ServerStep}
 use Rattle.run_laws.specs.Servers.{Server}
 use Rattle.watch_laws.specs.Affine.{Among}
-use Rattle.watch_laws.specs.Breaks.{IsBreak}
-use Rattle.watch_laws.specs.Windows.{IsPair}
 use Rattle.watch_laws.specs.Stretches.{IsTurn}
 use Rattle.watch_laws.specs.Breaches.{IsIdle}
+use Rattle.watch_laws.specs.declared.point.Segment.{Segment}
 use Rattle.watch_laws.specs.Segments.{segments}
-use Rattle.watch_laws.proofs.CurveSegments.{segments_tell}
+use Rattle.watch_laws.specs.Shorts.{EachSegment, HasSegment, IsShortBy}
+use Rattle.watch_laws.proofs.CurveSegments.{segments_tell, starts_tell}
 use Rattle.watch_laws.proofs.Premises.{turns_suffice_within}
 use Rattle.watch_laws.proofs.UnrolledStarts.{start_before}
 use Rattle.run_watch.specs.declared.watched.Watched.{Watched}
 use Rattle.run_watch.specs.declared.watched.Stretch.{Stretch}
 use Rattle.run_watch.specs.Watching.{stretches, HoldsTimes}
-use Rattle.run_watch.specs.WatchTimes.{around, watched_from, point_at}
-use Rattle.run_watch.specs.IdleWindows.{NoneIsShort}
-use Rattle.run_watch.proofs.FoundTimes.{AreTurns, IsWithin, watched_in, around_after, around_before, zero_start}
-use Rattle.run_watch.proofs.IdleIn.{IsSearched, within, less_seen, short_from, placed}
+use Rattle.run_watch.specs.declared.span.Ramp.{Ramp}
+use Rattle.run_watch.specs.WatchTimes.{point_at}
+use Rattle.run_watch.specs.NearWindows.{IsShortNear, NoneNearBy, NoneNear}
+use Rattle.run_watch.specs.Searches.{IsClearStretch, FindsIn}
+use Rattle.run_watch.proofs.FoundTimes.{AreTurns}
+use Rattle.run_watch.proofs.IdleIn.{IsSearched, within, less_seen, placed, none_here}
+use Rattle.run_watch.proofs.ShortWindows.{each_point_has}
+use Rattle.run_watch.proofs.SortedPoints.{has_point_at}
 
 -- a turn of the stretch is one of its own
 own_turn : (end : ℚ) (V : List ServerStep) (s : Stretch) (ps own : List ℚ) (t : ℚ) → AreTurns end V ps → HoldsTimes s ps own → IsTurn end V t → s.start ≤ℚ t → t ≤ℚ s.end → Among t own
 own_turn end V s ps own t A H turn a b = H.inside t (A.found t turn) a b
 
-own_point : (end : ℚ) (V : List ServerStep) (c : SpecCurve) (s : Stretch) (ps own : List ℚ) (t : ℚ) (server : Server) (w : Watched) → w.end ≡ end → IsSearched server V w c ps → HoldsTimes s ps own → IsTurn w.end V t → s.start ≤ℚ t → t ≤ℚ s.end
-    → Among t (watched_from s (unroll c w.end) own)
-own_point end V c s ps own t server w e S H turn a b =
-    let z = int (pos 0) in
-    let same : t +ℚ z ≡ t = with2 t z (λ k. omega (arith, k.le, k.lt, k.same)) in
-    let near = around_after s t z (unroll c w.end) (zero_start (unroll c w.end) (unroll_starts c w.end S.some S.serves.normal)) (subst (λ x. s.start ≤ℚ x) (sym same) a) (subst (λ x. x ≤ℚ s.end) (sym same) b) in
-    watched_in s (unroll c w.end) own t t (own_turn w.end V s ps own t S.turns_are H turn a b) (subst (λ x. Among x (around s t (unroll c w.end))) same near)
+-- a turn near which no window is short by any of the segments
+each_segment_has : (P : Segment → Type 0) (ss : List Segment) (g : Segment) → EachSegment P ss → HasSegment g ss → P g
+each_segment_has P [] g h k = absurd k
+each_segment_has P (r ∷ ss) g h k = elim k [ inl e ↦ subst P (sym e) h.0 | inr l ↦ each_segment_has P ss g h.1 l ]
 
--- both ends of a window of which one is a turn of the stretch, and the other too or a start of a piece away
-record AreFound (s : Stretch) (c : SpecCurve) (end : ℚ) (own : List ℚ) (p q : ℚ) : Type 0 where
-  first : Among p (watched_from s (unroll c end) own)
-  last : Among q (watched_from s (unroll c end) own)
+none_near_it : (ss : List Segment) (works : List Ramp) (s : Stretch) (own : List ℚ) (t : ℚ) (g : Segment) → NoneNear ss works s (map (point_at works) own) → Among t own → HasSegment g ss → ¬ IsShortNear works s (point_at works t) g
+none_near_it ss works s own t g none m has =
+    each_segment_has (λ r. ¬ IsShortNear works s (point_at works t) r) ss g
+    (each_point_has (NoneNearBy ss works s) (map (point_at works) own) (point_at works t) none (has_point_at works own t m)) has
 
-both_found : (server : Server) (V : List ServerStep) (w : Watched) (c : SpecCurve) (ps own : List ℚ) (s : Stretch) (p q : ℚ) → IsSearched server V w c ps → HoldsTimes s ps own → IsWithin w.end V s
-    → s.start ≤ℚ p → p <ℚ q → q ≤ℚ s.end → IsPair (IsTurn w.end V) (IsBreak c) p q → AreFound s c w.end own p q
-both_found server V w c ps own s p q S H I a l b pair =
-    let up_to : p ≤ℚ s.end = le_trans (le_of_lt l) b in
-    let from : s.start ≤ℚ q = le_trans a (le_of_lt l) in
-    let at = λ (t : ℚ) (turn : IsTurn w.end V t) (x : s.start ≤ℚ t) (y : t ≤ℚ s.end). own_point w.end V c s ps own t server w refl S H turn x y in
-    let n = S.serves.normal in
-    let qs = unroll c w.end in
-    elim pair [
-      | inl both ↦ record { first = at p both.0 a up_to; last = at q both.1 from b }
-      | inr d ↦ elim d [
-        | inl one ↦
-            let (far, start) = one.1 in
-            elim (le_or_lt w.end (q -ℚ p)) [
-              | inr m ↦
-                  let same : p +ℚ (q -ℚ p) ≡ q = with2 p q (λ k. omega (arith, k.le, k.lt, k.same)) in
-                  let near = around_after s p (q -ℚ p) qs (start_before c w.end far (q -ℚ p) n start m) (subst (λ y. s.start ≤ℚ y) (sym same) from) (subst (λ y. y ≤ℚ s.end) (sym same) b) in
-                  record { first = at p one.0 a up_to; last = watched_in s qs own p q (own_turn w.end V s ps own p S.turns_are H one.0 a up_to) (subst (λ y. Among y (around s p qs)) same near) }
-              | inl m ↦
-                  let is_end : q ≡ s.end = at_last p q w.end s.end (le_trans I.low a) I.high m b in
-                  record { first = at p one.0 a up_to; last = at q (subst (IsTurn w.end V) (sym is_end) I.last) from b }
-            ]
-        | inr one ↦
-            let (far, start) = one.1 in
-            elim (le_or_lt w.end (q -ℚ p)) [
-              | inr m ↦
-                  let same : q -ℚ (q -ℚ p) ≡ p = with2 p q (λ k. omega (arith, k.le, k.lt, k.same)) in
-                  let near = around_before s q (q -ℚ p) qs (start_before c w.end far (q -ℚ p) n start m) (subst (λ y. s.start ≤ℚ y) (sym same) a) (subst (λ y. y ≤ℚ s.end) (sym same) up_to) in
-                  record { first = watched_in s qs own q p (own_turn w.end V s ps own q S.turns_are H one.0 from b) (subst (λ y. Among y (around s q qs)) same near); last = at q one.0 from b }
-              | inl m ↦
-                  let is_start : p ≡ s.start = at_first q p w.end s.start (le_trans b I.high) I.low m a in
-                  record { first = at p (subst (IsTurn w.end V) (sym is_start) I.first) a up_to; last = at q one.0 from b }
-            ]
-      ]
-    ]
-  where
-    at_last : (p t end e : ℚ) → int (pos 0) ≤ℚ p → e ≤ℚ end → end ≤ℚ t -ℚ p → t ≤ℚ e → t ≡ e
-    at_last p t end e h k l m = antisym (m, with4 p t end e (λ w. omega (arith, w.le, w.lt, w.same)))
+-- the ends of a window as long as a segment's start
+after_end : (p q x : ℚ) → x ≡ q -ℚ p → p +ℚ x ≡ q
+after_end p q x e = with3 p q x (λ c. omega (arith, c.le, c.lt, c.same))
 
-    at_first : (p t end u : ℚ) → p ≤ℚ end → int (pos 0) ≤ℚ u → end ≤ℚ p -ℚ t → u ≤ℚ t → t ≡ u
-    at_first p t end u h k l m = antisym (with4 p t end u (λ w. omega (arith, w.le, w.lt, w.same)), m)
+before_end : (p q x : ℚ) → x ≡ q -ℚ p → q -ℚ x ≡ p
+before_end p q x e = with3 p q x (λ c. omega (arith, c.le, c.lt, c.same))
+
+not_after : (ss : List Segment) (works : List Ramp) (s : Stretch) (own : List ℚ) (p q : ℚ) (g : Segment) → NoneNear ss works s (map (point_at works) own) → Among p own → HasSegment g ss → g.start ≡ q -ℚ p → q ≤ℚ s.end
+    → IsShortBy g (point_at works p) (point_at works q) → ⊥
+not_after ss works s own p q g none m has e l short =
+    let same = sym (after_end p q g.start e) in
+    none_near_it ss works s own p g none m has (inl record { inside = subst (λ t. t ≤ℚ s.end) same l; short = subst (λ t. IsShortBy g (point_at works p) (point_at works t)) same short })
+
+not_before : (ss : List Segment) (works : List Ramp) (s : Stretch) (own : List ℚ) (p q : ℚ) (g : Segment) → NoneNear ss works s (map (point_at works) own) → Among q own → HasSegment g ss → g.start ≡ q -ℚ p → s.start ≤ℚ p
+    → IsShortBy g (point_at works p) (point_at works q) → ⊥
+not_before ss works s own p q g none m has e l short =
+    let same = sym (before_end p q g.start e) in
+    none_near_it ss works s own q g none m has (inr record { inside = subst (λ t. s.start ≤ℚ t) same l; short = subst (λ t. IsShortBy g (point_at works t) (point_at works q)) same short })
+
+-- a window within a stretch is no longer than it; one as long is the whole stretch
+some_length : (u e : ℚ) → u <ℚ e → int (pos 0) <ℚ e -ℚ u
+some_length u e l = with2 u e (λ c. omega (arith, c.le, c.lt, c.same))
+
+no_longer : (p q u e : ℚ) → u ≤ℚ p → q ≤ℚ e → q -ℚ p ≤ℚ e -ℚ u
+no_longer p q u e h k = with4 p q u e (λ c. omega (arith, c.le, c.lt, c.same))
+
+at_last : (p q u e : ℚ) → u ≤ℚ p → q ≤ℚ e → e -ℚ u ≤ℚ q -ℚ p → q ≡ e
+at_last p q u e h k l = antisym (k, with4 p q u e (λ c. omega (arith, c.le, c.lt, c.same)))
+
+at_first : (p q u e : ℚ) → u ≤ℚ p → q ≤ℚ e → e -ℚ u ≤ℚ q -ℚ p → p ≡ u
+at_first p q u e h k l = antisym (with4 p q u e (λ c. omega (arith, c.le, c.lt, c.same)), h)
 
 pub none_clear : (server : Server) (V : List ServerStep) (w : Watched) (c : SpecCurve) (ps own : List ℚ) (ss : List Stretch) (k : ℕ) (s : Stretch) → IsSearched server V w c ps → HoldsTimes s ps own → ss ≡ stretches w → k < length ss
-    → s ≡ slice_index_or ss k s → NoneIsShort (segments (unroll c w.end)) w.works.items (watched_from s (unroll c w.end) own) → (a b : ℚ) → IsIdle w.end V c a b → s.start ≤ℚ a → b ≤ℚ s.end → ⊥
-none_clear server V w c ps own ss k s S H same l e none a b idle from upto =
+    → s ≡ slice_index_or ss k s → IsClearStretch w c s own → (a b : ℚ) → IsIdle w.end V c a b → s.start ≤ℚ a → b ≤ℚ s.end → ⊥
+none_clear server V w c ps own ss k s S H same l e clear a b idle from upto =
     let P = placed server V w ss k s S.seen same l e in
     let I = within server V w c ps s S P.is P.low in
     let (p, q, around_it, forward, pair, less) = turns_suffice_within server w.end V c s.start s.end a b S.seen.lawful S.serves record { stretch = P.is; first = from; last = upto } idle.forward idle.less in
-    let F = both_found server V w c ps own s p q S H I around_it.first forward around_it.last pair in
-    let long = short_from p q w.end s.start s.end P.low around_it.first around_it.last P.is.in_run in
-    none p q record {
-      from = F.first;
-      to = F.last;
-      short = (segments_tell c w.end (point_at w.works.items p) (point_at w.works.items q) S.serves S.some (le_of_lt forward) long).1 ((less_seen server V w (value_at c (q -ℚ p)) p q S.seen).1 less);
-    }
+    let low = around_it.first in
+    let high = around_it.last in
+    let works = w.works.items in
+    let far = s.end -ℚ s.start in
+    let some = some_length s.start s.end I.forward in
+    let most = no_longer p q s.start s.end low high in
+    let n = S.serves.normal in
+    let seen = (less_seen server V w (value_at c (q -ℚ p)) p q S.seen).1 less in
+    let at = λ (t : ℚ) (turn : IsTurn w.end V t) (x : s.start ≤ℚ t) (y : t ≤ℚ s.end). own_turn w.end V s ps own t S.turns_are H turn x y in
+    let at_p = λ (turn : IsTurn w.end V p). at p turn low (le_trans (le_of_lt forward) high) in
+    let at_q = λ (turn : IsTurn w.end V q). at q turn (le_trans low (le_of_lt forward)) high in
+    let both = λ (x : Among p own) (y : Among q own). clear.pairs p q record {
+      from = x;
+      to = y;
+      short = (segments_tell c far (point_at works p) (point_at works q) S.serves some (le_of_lt forward) most).1 seen;
+    } in
+    let begun = λ (g : ℚ) (start : HasStart (q -ℚ p) (unroll c g)) (m : q -ℚ p <ℚ far). starts_tell c far (point_at works p) (point_at works q) S.serves some (le_of_lt forward) most (start_before c far g (q -ℚ p) n start m) seen in
+    elim pair [
+      | inl two ↦ both (at_p two.0) (at_q two.1)
+      | inr d ↦ elim d [
+        | inl one ↦
+            let (g, start) = one.1 in
+            elim (le_or_lt far (q -ℚ p)) [
+              | inr m ↦ let (r, has, is, short) = begun g start m in not_after (segments (unroll c far)) works s own p q r clear.near (at_p one.0) has is high short
+              | inl m ↦ both (at_p one.0) (at_q (subst (IsTurn w.end V) (sym (at_last p q s.start s.end low high m)) I.last))
+            ]
+        | inr one ↦
+            let (g, start) = one.1 in
+            elim (le_or_lt far (q -ℚ p)) [
+              | inr m ↦ let (r, has, is, short) = begun g start m in not_before (segments (unroll c far)) works s own p q r clear.near (at_q one.0) has is low short
+              | inl m ↦ both (at_p (subst (IsTurn w.end V) (sym (at_first p q s.start s.end low high m)) I.first)) (at_q one.0)
+            ]
+      ]
+    ]
+
+-- what the search of a stretch finds: where it finds nothing, the stretch has no idle window
+pub none_found : (server : Server) (V : List ServerStep) (w : Watched) (c : SpecCurve) (ps own : List ℚ) (ss : List Stretch) (k : ℕ) (s : Stretch) → IsSearched server V w c ps → HoldsTimes s ps own → ss ≡ stretches w → k < length ss
+    → s ≡ slice_index_or ss k s → FindsIn w c s own ps None → (a b : ℚ) → IsIdle w.end V c a b → s.start ≤ℚ a → b ≤ℚ s.end → ⊥
+none_found server V w c ps own ss k s S H same l e none = elim none [
+  | inl clear ↦ none_clear server V w c ps own ss k s S H same l e clear
+  | inr seen ↦ none_here server V w c ps ss k s S same l e seen
+]

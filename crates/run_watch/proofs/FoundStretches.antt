@@ -150,14 +150,14 @@ stretch_in w ts (q ∷ rs) r s h e = elim h [
     behind None k = k
     behind (Some x) k = inr k
 
-record FromRamp (w : Watched) (ts : List ℚ) (rs : List Ramp) (u e : ℚ) : Type 0 where
-  ramp : Ramp
-  has : HasRamp ramp rs
-  begins : begins w ramp ≡ true
-  start : ramp.span.start ≡ u
-  end : next_after ramp.span.start w.end ts ≡ e
+pub record FromRamp (w : Watched) (ts : List ℚ) (rs : List Ramp) (u e : ℚ) : Type 0 where
+  pub ramp : Ramp
+  pub has : HasRamp ramp rs
+  pub begins : begins w ramp ≡ true
+  pub start : ramp.span.start ≡ u
+  pub end : next_after ramp.span.start w.end ts ≡ e
 
-ramp_in : (w : Watched) (ts : List ℚ) (rs : List Ramp) (u e : ℚ) → HasStretch u e (stretches_in w ts rs) → FromRamp w ts rs u e
+pub ramp_in : (w : Watched) (ts : List ℚ) (rs : List Ramp) (u e : ℚ) → HasStretch u e (stretches_in w ts rs) → FromRamp w ts rs u e
 ramp_in w ts [] u e h = absurd h
 ramp_in w ts (r ∷ rs) u e h = elim (cases_Bool (begins w r)) [
   | inr not_so ↦

@@ -45,7 +45,7 @@ zero_amount : (z : Sizes) → IsAmount z (int (pos 0))
 zero_amount z = record { whole = whole_int (grid_of z) (pos 0); within = within_nonneg (times_largest 1 z) (int (pos 0)) (le_refl (int (pos 0))) (some_largest z) }
 
 -- ---- times
-length_time : (z : Sizes) (end s t : ℚ) → IsTime z end s → IsTime z end t → s ≤ℚ t → IsTime z end (t -ℚ s)
+pub length_time : (z : Sizes) (end s t : ℚ) → IsTime z end s → IsTime z end t → s ≤ℚ t → IsTime z end (t -ℚ s)
 length_time z end s t S T h = record {
   whole = whole_sub z.dt t s T.whole S.whole;
   low = with2 s t (λ c. omega (arith, c.le, c.lt, c.same));
@@ -145,11 +145,11 @@ work_stands z end t rs A H T =
     subst (λ (ss : List Span). IsAmount z (amount ss t)) (sym (ap spans_of R.is ∙ spans_are zero R.spans)) (subst (IsAmount z) (add_nothing (amount R.spans t)) h)
 
 -- ---- segments
-record IsHeldSegment (z : Sizes) (end : ℚ) (s : Segment) : Type 0 where
-  start : IsTime z end s.start
-  last : IsTimeIfAny z end s.end
-  value : IsAmount z s.value
-  slope : IsSlope z s.slope
+pub record IsHeldSegment (z : Sizes) (end : ℚ) (s : Segment) : Type 0 where
+  pub start : IsTime z end s.start
+  pub last : IsTimeIfAny z end s.end
+  pub value : IsAmount z s.value
+  pub slope : IsSlope z s.slope
 
 value_amount : (z : Sizes) (x : Ext) → ValueStands z x → IsAmount z (number_at x)
 value_amount z Inf h = zero_amount z
@@ -175,18 +175,18 @@ next_time : (z : Sizes) (end : ℚ) (ps : List Piece) → Each (OperandPiece z e
 next_time z end [] h = tt
 next_time z end (p ∷ ps) h = piece_time z end p h.0
 
-segments_held : (z : Sizes) (end : ℚ) (ps : List Piece) → Each (OperandPiece z end) ps → EachSegment (IsHeldSegment z end) (segments ps)
+pub segments_held : (z : Sizes) (end : ℚ) (ps : List Piece) → Each (OperandPiece z end) ps → EachSegment (IsHeldSegment z end) (segments ps)
 segments_held z end [] h = tt
 segments_held z end (p ∷ ps) h = (
   record { start = piece_time z end p h.0; last = next_time z end ps h.1; value = value_amount z p.at h.0.at; slope = line_slope z p.line h.0.line },
   segments_held z end ps h.1,
 )
 
-segment_map : (P Q : Segment → Type 0) → ((s : Segment) → P s → Q s) → (ss : List Segment) → EachSegment P ss → EachSegment Q ss
+pub segment_map : (P Q : Segment → Type 0) → ((s : Segment) → P s → Q s) → (ss : List Segment) → EachSegment P ss → EachSegment Q ss
 segment_map P Q f [] h = tt
 segment_map P Q f (s ∷ ss) h = (f s h.0, segment_map P Q f ss h.1)
 
-gap_steps : (z : Sizes) (end : ℚ) (s : Segment) → AreLimited z end → IsHeldSegment z end s → GapSteps s
+pub gap_steps : (z : Sizes) (end : ℚ) (s : Segment) → AreLimited z end → IsHeldSegment z end s → GapSteps s
 gap_steps z end s A h = let k = keys_fit z end s.value s.slope s.start A h.value h.slope h.start in record { product = k.product; difference = k.difference }
 
 pub segments_fit : (z : Sizes) (end : ℚ) (ps : List Piece) → AreLimited z end → OperandPieces z end ps → SegmentsFit (segments ps)
@@ -208,6 +208,17 @@ time_fits z end t ps works A O H T =
           record { least = k.start; most = k.last; gap = (keys_fit z end s.value s.slope s.start A k.value k.slope k.start).is }
           record { time = T; key = (keys_fit z end (amount (spans_of works) t) s.slope t A W k.slope T).is }) (segments ps) h;
     }
+
+-- by one segment alone
+pub segment_keys : (z : Sizes) (end t : ℚ) (s : Segment) (works : List Ramp) → AreLimited z end → AreHeld z end works → IsHeldSegment z end s → IsTime z end t
+    → KeySteps s.slope (point_at works t) × FitsRule (rule_of s) (mark_of s.slope (point_at works t))
+segment_keys z end t s works A H k T =
+    let W = work_stands z end t works A H T in
+    let f = keys_fit z end (amount (spans_of works) t) s.slope t A W k.slope T in (
+      record { product = f.product; difference = f.difference },
+      marks_fit z end (rule_of s) (mark_of s.slope (point_at works t)) A
+          record { least = k.start; most = k.last; gap = (keys_fit z end s.value s.slope s.start A k.value k.slope k.start).is } record { time = T; key = f.is },
+    )
 
 -- ---- moves by the start of a piece
 pub moves_fit : (z : Sizes) (end : ℚ) (qs : List Piece) (ps : List ℚ) → AreLimited z end → OperandPieces z end qs → EachTime (IsTime z end) ps → TimesFit qs ps

@@ -135,7 +135,7 @@ before_or_later x u f (q ∷ ss) (suc k) s h l e has = elim has [
   | inr m ↦ elim (before_or_later q.start u f ss k s h.1 (omega arith) e m) [ inl n ↦ inl (inr n) | inr n ↦ inr n ]
 ]
 
-has_at : (ss : List Stretch) (k : ℕ) (s : Stretch) → k < length ss → s ≡ slice_index_or ss k s → HasStretch s.start s.end ss
+pub has_at : (ss : List Stretch) (k : ℕ) (s : Stretch) → k < length ss → s ≡ slice_index_or ss k s → HasStretch s.start s.end ss
 has_at [] k s l e = absurd (omega arith)
 has_at (q ∷ ss) zero s l e = inl (ap (λ (r : Stretch). r.start) (sym e), ap (λ (r : Stretch). r.end) (sym e))
 has_at (q ∷ ss) (suc k) s l e = inr (has_at ss k s (omega arith) e)

@@ -18,6 +18,7 @@ pub mod HeldTimes
 pub mod SightLaws
 pub mod FirstIdle
 pub mod OwnTurns
+pub mod NearWindows
 pub mod Buckets
 pub mod BucketReads
 pub mod ClearStretches

@@ -6,17 +6,10 @@ use Rattle.rational.specs.Rational.{ℚ, ◌≤ℚ◌, ◌<ℚ◌, le_q, lt_q}
 use Rattle.run_laws.specs.Counts.{before}
 use Rattle.rational.proofs.Laws.{le_lt_trans, lt_le_trans, lt_irrefl}
 use Rattle.rational.proofs.Over.{lt_q_in, lt_q_out, le_q_out}
-use Rattle.affine_segment.specs.declared.line.Piece.{Piece}
-use Rattle.watch_laws.specs.Affine.{EachTime, Among}
-use Rattle.watch_laws.specs.declared.point.Segment.{Segment}
-use Rattle.run_watch.specs.declared.span.Ramp.{Ramp}
+use Rattle.watch_laws.specs.Affine.{Among}
 use Rattle.run_watch.specs.declared.watched.Stretch.{Stretch}
 use Rattle.run_watch.specs.Watching.{TimesRise, HoldsTimes}
-use Rattle.run_watch.specs.WatchTimes.{around, watched_from, TimesFit}
-use Rattle.run_watch.specs.IdleWindows.{NoneIsShort, FindsShort, FindsIn}
-use Rattle.run_watch.proofs.FoundTurns.{among_parts}
-use Rattle.run_watch.proofs.FoundTimes.{watched_in}
-use Rattle.run_watch.proofs.SortedPoints.{among_sorted, sorted_among, each_time_from, each_time_among}
+use Rattle.run_watch.proofs.SortedPoints.{among_sorted, sorted_among}
 use Rattle.run_watch.proofs.WatchedLists.{times_rise}
 
 -- ---- a part of times in order
@@ -27,6 +20,11 @@ pub rise_drop : (k : ℕ) (from : ℚ) (ts : List ℚ) → TimesRise from ts →
 rise_drop zero from ts h = (from, h)
 rise_drop (suc k) from [] h = (from, tt)
 rise_drop (suc k) from (t ∷ ts) h = rise_drop k t ts h.1
+
+pub rise_take : (k : ℕ) (from : ℚ) (ts : List ℚ) → TimesRise from ts → TimesRise from (take k ts)
+rise_take zero from ts h = tt
+rise_take (suc k) from [] h = tt
+rise_take (suc k) from (t ∷ ts) h = (h.0, rise_take k t ts h.1)
 
 among_drop : (k : ℕ) (ts : List ℚ) (t : ℚ) → ((i : ℕ) (d : ℚ) → i < k → get_or ts i d ≡ t → ⊥) → k ≤ length ts → Among t ts → Among t (drop k ts)
 among_drop zero ts t none l h = h
@@ -78,28 +76,3 @@ holds_sorted s ps ts own p h = record {
   inside = λ t m a b. h.inside t (among_sorted ps ts t p m) a b;
   are = λ t m. sorted_among ps ts t p (h.are t m);
 }
-
--- ---- watch points of some of the turns
-watched_more : (s : Stretch) (qs : List Piece) (own ps : List ℚ) (t : ℚ) → ((p : ℚ) → Among p own → Among p ps) → Among t (watched_from s qs own) → Among t (watched_from s qs ps)
-watched_more s qs [] ps t h k = absurd k
-watched_more s qs (p ∷ own) ps t h k = elim (among_parts t (around s p qs) (watched_from s qs own) k) [
-  | inl l ↦ watched_in s qs ps p t (h p (inl refl)) l
-  | inr l ↦ watched_more s qs own ps t (λ q m. h q (inr m)) l
-]
-
-pub own_moves : (qs : List Piece) (own ps : List ℚ) → ((p : ℚ) → Among p own → Among p ps) → TimesFit qs ps → TimesFit qs own
-own_moves qs own ps h k = each_time_from _ own (λ t m. each_time_among _ ps t k (h t m))
-
-pub own_times : (P : ℚ → Type 0) (s : Stretch) (qs : List Piece) (own ps : List ℚ) → ((p : ℚ) → Among p own → Among p ps) → EachTime P (watched_from s qs ps) → EachTime P (watched_from s qs own)
-own_times P s qs own ps h k = each_time_from P (watched_from s qs own) (λ t m. each_time_among P (watched_from s qs ps) t k (watched_more s qs own ps t h m))
-
--- where there is none between the times of all turns, there is none between those of some
-pub own_none : (ss : List Segment) (works : List Ramp) (s : Stretch) (qs : List Piece) (own ps : List ℚ) → ((p : ℚ) → Among p own → Among p ps)
-    → NoneIsShort ss works (watched_from s qs ps) → NoneIsShort ss works (watched_from s qs own)
-own_none ss works s qs own ps h none a b k =
-    none a b record { from = watched_more s qs own ps a h k.from; to = watched_more s qs own ps b h k.to; short = k.short }
-
-pub finds_in : (ss : List Segment) (works : List Ramp) (s : Stretch) (qs : List Piece) (own ps : List ℚ) (o : Option (ℚ × ℚ)) → ((p : ℚ) → Among p own → Among p ps)
-    → FindsShort ss works (watched_from s qs ps) o → FindsIn ss works (watched_from s qs own) (watched_from s qs ps) o
-finds_in ss works s qs own ps None h k = own_none ss works s qs own ps h k
-finds_in ss works s qs own ps (Some w) h k = k

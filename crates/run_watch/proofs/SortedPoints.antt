@@ -92,7 +92,7 @@ sorted_rise (x ∷ ts) h = (x, (le_refl x, go x ts h))
     go x [] h = tt
     go x (t ∷ ts) h = (no_less x t (h 0 x (omega arith) (omega arith)), go t ts (tail_sorted x (t ∷ ts) h))
 
-each_point_at : (P : Point → Type 0) (works : List Ramp) (ts : List ℚ) → EachTime (λ t. P (point_at works t)) ts → EachPoint P (map (point_at works) ts)
+pub each_point_at : (P : Point → Type 0) (works : List Ramp) (ts : List ℚ) → EachTime (λ t. P (point_at works t)) ts → EachPoint P (map (point_at works) ts)
 each_point_at P works [] h = tt
 each_point_at P works (t ∷ ts) h = (h.0, each_point_at P works ts h.1)
 

@@ -28,10 +28,6 @@ pub record IsFirstShort (ss : List Segment) (works : List Ramp) (ts : List ℚ) 
 abbrev pub FindsShort : List Segment → List Ramp → List ℚ → Option (ℚ × ℚ) → Type 0
 FindsShort ss works ts found = MatchOption found (NoneIsShort ss works ts) (λ p. IsFirstShort ss works ts p.0 p.1)
 
--- none between the times `own`; or the first between all times
-abbrev pub FindsIn : List Segment → List Ramp → List ℚ → List ℚ → Option (ℚ × ℚ) → Type 0
-FindsIn ss works own all found = MatchOption found (NoneIsShort ss works own) (λ p. IsFirstShort ss works all p.0 p.1)
-
 -- ---- sizes
 -- the steps at one time fit
 pub record TimeFits (ss : List Segment) (works : List Ramp) (t : ℚ) : Type 0 where

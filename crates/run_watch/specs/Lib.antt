@@ -6,6 +6,8 @@ pub mod Seen
 pub mod Watching
 pub mod WatchTimes
 pub mod IdleWindows
+pub mod NearWindows
+pub mod Searches
 pub mod Held
 pub mod Sights
 pub mod FirstOf

@@ -1,19 +1,23 @@
 //! The first window of a stretch in which a server works less than its curve.
 
 ghost use Rattle.std.specs.Prelude.{IfOk};
-ghost use Rattle.rational.specs.Rational.{ℚ};
-ghost use Rattle.watch_laws.specs.Affine.{EachTime, Among};
+ghost use Rattle.watch_laws.specs.Affine.{EachTime};
 ghost use Rattle.run_watch.specs.Ramps.{AreRamps};
 ghost use Rattle.run_watch.specs.WatchTimes.{watched_from, TimesFit};
-ghost use Rattle.run_watch.specs.IdleWindows.{FindsShort, FindsIn, TimeFits, SegmentsFit};
+ghost use Rattle.run_watch.specs.IdleWindows.{FindsShort, TimeFits, SegmentsFit};
+ghost use Rattle.run_watch.specs.Held.{IsHeld};
+ghost use Rattle.run_watch.specs.Searches.{IsLookedAt, FindsIn};
 
+use crate::near::may_be_short;
 use crate::shorts::first_end;
 use crate::span::Ramp;
-use crate::watched::Stretch;
-use crate::windows::{first_start, points_of, watch_times};
+use crate::watched::{Stretch, Watched};
+use crate::windows::{first_start, points_of, segments_of, watch_times};
 use affine_segment::Piece;
-use fraction128::Frac;
+use fraction128::{Frac, difference};
 use std::alloc::{AllocError, Global};
+use upp_curve::Curve;
+use upp_normal::unrolled;
 use watch_laws::Segment;
 
 /// The window of a stretch that is short of work, between two watch points: with the least end, and of those with the
@@ -47,26 +51,26 @@ pub(crate) fn first_short(
 }
 
 /// The window of a stretch that is short of work, between two watch points: with the least end, and of those with the
-/// least start. A look at the turns `own` of the stretch, each moved by the start of a piece or not, comes first; where it
-/// finds nothing, the watch points of all turns are not made.
+/// least start. A look at the stretch's own turns, by the pieces of the curve up to its length, comes first; where it
+/// finds nothing, neither the watch points nor the pieces up to the run's end are made.
 pub(crate) fn first_in(
     alloc: Global,
-    works: &[Ramp],
+    w: &Watched,
+    curve: &Curve,
     s: &Stretch,
     own: &[Frac],
     turns: &[Frac],
-    pieces: &[Piece],
-    segments: &[Segment],
 ) -> Result<Option<(Frac, Frac)>, AllocError>
-    requires ramps { AreRamps works.now }
-    requires moves { TimesFit pieces.now turns.now }
-    requires own { (t : ℚ) → Among t own.now → Among t turns.now }
-    requires times { EachTime (TimeFits segments.now works.now) (watched_from s.now pieces.now turns.now) }
-    requires segments { SegmentsFit segments.now }
-    ensures { IfOk result (FindsIn segments.now works.now (watched_from s.now pieces.now own.now) (watched_from s.now pieces.now turns.now)) }
+    requires held { IsHeld w.now curve.now }
+    requires stretch { IsLookedAt w.now s.now own.now turns.now }
+    ensures { IfOk result (FindsIn w.now curve.now s.now own.now turns.now) }
 {
-    match first_short(alloc, works, s, own, pieces, segments)? {
-        None => Ok(None),
-        Some(_) => first_short(alloc, works, s, turns, pieces, segments),
+    let near = unrolled(curve, difference(s.end, s.start))?;
+    let maybe = may_be_short(alloc, &w.works, s, own, &near)?;
+    if !maybe {
+        return Ok(None);
     }
+    let pieces = unrolled(curve, w.end)?;
+    let segments = segments_of(alloc, &pieces)?;
+    first_short(alloc, &w.works, s, turns, &pieces, &segments)
 }

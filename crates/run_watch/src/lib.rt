@@ -8,6 +8,7 @@ mod flows;
 mod found;
 mod idle;
 mod laws;
+mod near;
 mod ramps;
 mod scan;
 mod seen;

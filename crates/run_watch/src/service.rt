@@ -8,11 +8,9 @@ ghost use Rattle.run_watch.specs.Held.{IsSeen, IsHeld, FindsIdle};
 
 use crate::idle::first_in;
 use crate::watched::{Watched, stops_of, stretches_of, turns_in, turns_of};
-use crate::windows::segments_of;
 use fraction128::{Frac, is_less};
 use std::alloc::{AllocError, Global};
 use upp_curve::Curve;
-use upp_normal::unrolled;
 
 /// The first window between two watch points of a stretch in which the server works less than its curve: with the
 /// least end, and of those with the least start.
@@ -33,11 +31,9 @@ pub fn first_idle(
     let turns = turns_of(alloc, w, &stretches)?;
     let mut sorted = Vec::from_slice(alloc, &turns)?;
     sorted.sort()?;
-    let pieces = unrolled(curve, w.end)?;
-    let segments = segments_of(alloc, &pieces)?;
     for s in &stretches {
         let own = turns_in(&sorted, s);
-        if let Some(found) = first_in(alloc, &w.works, s, own, &turns, &pieces, &segments)? {
+        if let Some(found) = first_in(alloc, w, curve, s, own, &turns)? {
             return Ok(Some(found));
         }
     }

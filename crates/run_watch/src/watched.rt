@@ -102,7 +102,8 @@ fn is_before(t: &Frac, u: Frac) -> bool
 /// Those of some times that are in a stretch, by binary search.
 pub(crate) fn turns_in<'a>(sorted: &'a [Frac], s: &Stretch) -> &'a [Frac]
     requires { (from : ℚ) × TimesRise from sorted.now }
-    ensures { HoldsTimes s.now sorted.now result.now }
+    ensures holds { HoldsTimes s.now sorted.now result.now }
+    ensures rise { (from : ℚ) × TimesRise from result.now }
 {
     let start = s.start;
     let end = s.end;

@@ -128,7 +128,7 @@ pub(crate) fn segments_of(alloc: Global, pieces: &[Piece]) -> Result<Vec<Segment
 }
 
 /// Whether the window from a to b is short by a segment.
-fn is_short_by(s: &Segment, a: &Point, b: &Point) -> bool
+pub(crate) fn is_short_by(s: &Segment, a: &Point, b: &Point) -> bool
     requires a { FitsMarks (a.now ∷ []) s.now }
     requires b { FitsMarks (b.now ∷ []) s.now }
     ensures { IsTrue result ↔ IsShortBy s.now a.now b.now }

@@ -6,6 +6,7 @@ pub mod OneRun
 pub mod Sorted
 pub mod OneReply
 pub mod Status
+pub mod OpenServers
 pub mod Causes
 pub mod Before
 pub mod AtLeastZero

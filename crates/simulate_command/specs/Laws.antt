@@ -1,11 +1,13 @@
 -- What holds of the replies on a network and a trace.
-use Rattle.std.specs.Prelude.{◌≡◌, ◌≢◌, ◌<◌, ◌^◌, ◌↔◌, ◌⊎◌, ℕ, List}
+use Rattle.std.specs.Prelude.{◌≡◌, ◌≢◌, ◌<◌, ◌^◌, ◌↔◌, ◌⊎◌, ℕ, List, [], Some, slice_get}
+use Rattle.rational.specs.Rational.{ℚ}
 use Rattle.upp_curve.specs.Curve.{value_at}
 use Rattle.upp_limits.specs.declared.op_kind.OpFault.{OpFault}
 use Rattle.upp_limits.specs.declared.own_limits.OverLimit.TheVariants.{TooMany, TooWide}
 use Rattle.run_laws.specs.Runs.{SpecRun}
 use Rattle.run_laws.specs.RunPremises.{KeepsPremises}
-use Rattle.net_model.specs.Networks.{Net}
+use Rattle.net_model.specs.declared.breach.Breach.TheVariants.{Service}
+use Rattle.net_model.specs.Networks.{Net, NetServer}
 use Rattle.net_model.specs.NetRoutes.{routes_of}
 use Rattle.net_model.specs.Orders.{IsOrder}
 use Rattle.net_model.specs.Traces.{SpecTrace}
@@ -17,6 +19,9 @@ use Rattle.net_cells.specs.FirstOver.{FirstOver}
 use Rattle.net_cells.specs.Numbered.{packet, arrival, service}
 use Rattle.net_bounds.specs.NetRuns.{IsRunOf}
 use Rattle.sim_bounds.specs.Gauge.{simulation_gauge}
+use Rattle.stated_runs.specs.FromTraces.{stalls_at}
+use Rattle.stated_service.specs.Laws.{IsByFormula}
+use Rattle.first_breaches.specs.Firsts.{IsNetBreach}
 use Rattle.table_text.specs.Rows.{rows_of}
 use Rattle.table_text.specs.Traces.{IsTraceOf}
 use Rattle.command_replies.specs.Guarantee.{Guarantees}
@@ -41,6 +46,14 @@ abbrev pub StatusTellsPremises : Type 0
 StatusTellsPremises =
     (net_bytes trace_bytes : List ℕ) (reply : Reply) (h : IsRunReport net_bytes trace_bytes reply)
     → StatusTells h.net h.report.run reply.status
+
+-- no window of a server of kind latency or gate without a stall is told: the run of a report has no such breach
+abbrev pub OpenServersBreakNothing : Type 0
+OpenServersBreakNothing =
+    (net_bytes trace_bytes : List ℕ) (reply : Reply) (h : IsRunReport net_bytes trace_bytes reply) (s : ℕ)
+    (server : NetServer) → slice_get h.net.servers s ≡ Some server → IsByFormula server.kind
+    → stalls_at s h.trace.stalls ≡ [] → (a b : ℚ)
+    → (¬ IsNetBreach h.net h.report.run (Service s a b)) × (h.report.found.breach ≢ Some (Service s a b))
 
 -- a report without a breach is of a lawful run that keeps them: so no number of it is above its bound
 pub record IsQuietReport (net_bytes trace_bytes : List ℕ) (reply : Reply) : Type 0 where

@@ -10,6 +10,7 @@ ghost use Rattle.command_replies.specs.View.{code_of, reply_of};
 ghost use Rattle.simulate_command.specs.Found.{IsMeasured, IsFoundIn, status_by, IsReportOn};
 ghost use Rattle.simulate_command.specs.OnTraces.{IsSimulationReply};
 
+use crate::open::open_servers;
 use cell_table::{Analysis, Table, Value};
 use command_replies::{Answer, Status, sim_too_wide};
 use first_breaches::first_breach;
@@ -35,7 +36,8 @@ fn found_in(
 {
     net.keeps();
     let packets = trace.packets().len() as u32;
-    let breach = first_breach(alloc, net, &sim.run)?;
+    let kept = open_servers(alloc, net, trace)?;
+    let breach = first_breach(alloc, net, &sim.run, &kept)?;
     let SimRun { run, worst, peaks } = sim;
     Ok(RunFound {
         packets,

@@ -1,12 +1,19 @@
 //! Laws of the replies on networks and traces. Each is the contract of a function that does nothing.
 
-ghost use Rattle.simulate_command.specs.Laws.{StatusTellsPremises, QuietRunsAreWithinBounds, ReportsGuarantee};
+ghost use Rattle.simulate_command.specs.Laws.{StatusTellsPremises, OpenServersBreakNothing, QuietRunsAreWithinBounds};
+ghost use Rattle.simulate_command.specs.Laws.{ReportsGuarantee};
 ghost use Rattle.simulate_command.specs.Laws.{StatusesHaveCauses, RepliesAreDetermined, RepliesAreComplete};
 
 /// The status of a report is 0 exactly where its run keeps packet sizes, arrival curves and service curves, and 9
 /// exactly where it does not.
 pub fn status_tells_premises()
     ensures { StatusTellsPremises }
+{}
+
+/// No report tells a window in which a server of kind latency or gate that has no stall in the trace works less than its
+/// service curve: its run has none.
+pub fn open_servers_break_nothing()
+    ensures { OpenServersBreakNothing }
 {}
 
 /// Where the status is 0, the report is of a lawful run that keeps the premises of the guarantee: no worst delay that

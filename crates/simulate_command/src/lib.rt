@@ -7,9 +7,10 @@ mod found;
 mod laws;
 mod on_files;
 mod on_net;
+mod open;
 
 pub use laws::{
-    quiet_runs_are_within_bounds, run_replies_are_complete, run_replies_are_determined,
-    run_reports_guarantee, run_statuses_have_causes, status_tells_premises,
+    open_servers_break_nothing, quiet_runs_are_within_bounds, run_replies_are_complete,
+    run_replies_are_determined, run_reports_guarantee, run_statuses_have_causes, status_tells_premises,
 };
 pub use on_files::on_trace;

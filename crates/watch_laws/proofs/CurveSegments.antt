@@ -8,10 +8,10 @@ use Rattle.rational.proofs.Laws.{le_refl, le_trans, le_or_lt, le_of_lt, lt_le_tr
 use Rattle.rational.proofs.Linear.{with2}
 use Rattle.affine_segment.specs.declared.line.Piece.{Piece}
 use Rattle.affine_segment.specs.Values.{line_value}
-use Rattle.upp_curve.specs.Curve.{value_at}
+use Rattle.upp_curve.specs.Curve.{SpecCurve, value_at}
 use Rattle.min_plus.specs.Functions.{zero_q, IsFinite}
 use Rattle.min_plus.specs.Continuity.{IsContinuous}
-use Rattle.affine_segment.specs.Pieces.{Each, StartsAtZero, RisesFrom}
+use Rattle.affine_segment.specs.Pieces.{Each, HasStart, StartsAtZero, RisesFrom}
 use Rattle.affine_segment.specs.Reading.{read, piece_value}
 use Rattle.upp_curve.specs.Unrolled.{unroll}
 use Rattle.affine_segment.proofs.PieceIn.{piece_in_stop, piece_in_end, value_past, read_go}
@@ -21,6 +21,7 @@ use Rattle.upp_normal.proofs.UnrolledPieces.{unroll_starts, unroll_before}
 use Rattle.watch_laws.specs.declared.point.Point.{Point}
 use Rattle.watch_laws.specs.declared.point.Segment.{Segment}
 use Rattle.watch_laws.specs.Shorts.{HasSegment, IsPastEnd, segment_value, IsShortBy}
+use Rattle.watch_laws.specs.Laws.{MayServe}
 use Rattle.watch_laws.specs.Segments.{number_at, slope_of, next_start, segments, SegmentsTell}
 use Rattle.watch_laws.proofs.Breaks.{one_line, is_number}
 use Rattle.watch_laws.proofs.Idle.{below_number, number_below}
@@ -96,6 +97,23 @@ covered p (q ∷ qs) d h = elim (le_or_lt q.x d) [
   | inr l ↦ (record { start = p.x; end = Some q.x; value = number_at p.at; slope = slope_of p.line }, inl refl, record { from = h; upto = λ k. lt_irrefl d (lt_le_trans l k) })
 ]
 
+-- a start is one of the segment that begins there
+covered_at : (p : Piece) (ps : List Piece) (d : ℚ) → RisesFrom p.x ps → HasStart d (p ∷ ps) → (s : Segment) × HasSegment s (segments (p ∷ ps)) × (s.start ≡ d) × Covers d s
+covered_at p [] d r h = elim h [
+  | inl e ↦ (record { start = p.x; end = None; value = number_at p.at; slope = slope_of p.line }, inl refl, e, record { from = subst (λ x. p.x ≤ℚ x) e (le_refl p.x); upto = λ k. k })
+  | inr k ↦ absurd k
+]
+covered_at p (q ∷ qs) d r h = elim h [
+  | inl e ↦
+      (
+        record { start = p.x; end = Some q.x; value = number_at p.at; slope = slope_of p.line },
+        inl refl,
+        e,
+        record { from = subst (λ x. p.x ≤ℚ x) e (le_refl p.x); upto = λ k. lt_irrefl p.x (lt_le_trans r.0 (subst (λ x. q.x ≤ℚ x) (sym e) k)) },
+      )
+  | inr k ↦ let (s, has, at, is) = covered_at q qs d r.1 k in (s, inr has, at, is)
+]
+
 -- ---- a curve
 tell : (f : ℚ → Ext) (far : ℚ) (ps : List Piece) (a b : Point) → StartsAtZero ps → Each (λ q. q.x <ℚ far) ps → ((t : ℚ) → zero_q ≤ℚ t → t <ℚ far → read ps t ≡ f t)
     → IsFinite f → IsContinuous f → a.time ≤ℚ b.time → b.time -ℚ a.time ≤ℚ far
@@ -136,3 +154,39 @@ tell f far (p ∷ ps) a b at0 before is fin smooth l m =
 pub segments_tell : SegmentsTell
 segments_tell c far a b h some l m =
     tell (value_at c) far (unroll c far) a b (unroll_starts c far some h.normal) (unroll_before c far) (λ t i j. unroll_reads c far t h.normal i j) h.finite h.continuous l m
+
+-- ---- a window as long as a start
+tell_at : (f : ℚ → Ext) (far : ℚ) (ps : List Piece) (a b : Point) → StartsAtZero ps → Each (λ q. q.x <ℚ far) ps → ((t : ℚ) → zero_q ≤ℚ t → t <ℚ far → read ps t ≡ f t)
+    → IsFinite f → IsContinuous f → a.time ≤ℚ b.time → b.time -ℚ a.time ≤ℚ far → HasStart (b.time -ℚ a.time) ps → Fin b.work <ₑ (Fin a.work +ₑ f (b.time -ℚ a.time))
+    → (s : Segment) × HasSegment s (segments ps) × (s.start ≡ b.time -ℚ a.time) × IsShortBy s a b
+tell_at f far [] a b at0 before is fin smooth l m start h = absurd at0
+tell_at f far (p ∷ ps) a b at0 before is fin smooth l m start h =
+    let t = a.time in
+    let u = b.time in
+    let d = b.time -ℚ a.time in
+    let low : zero_q ≤ℚ d = with2 t u (λ c. omega (arith, c.le, c.lt, c.same)) in
+    let R : ReadsFrom f far p ps = record {
+      starts = at0.1;
+      before = before;
+      low = subst (λ x. zero_q ≤ℚ x) (sym at0.0) (le_refl zero_q);
+      is = λ x i j. is x (subst (λ y. y ≤ℚ x) at0.0 i) j;
+      finite = fin;
+      smooth = smooth;
+    } in
+    let num = is_number f d fin low in
+    let (s, has, at, on) = covered_at p ps d at0.1 start in (
+      s,
+      has,
+      at,
+      record {
+        from = on.from;
+        upto = on.upto;
+        less = subst (λ v. b.work <ℚ a.work +ℚ v) (each_segment f far p ps R s has d on.from on.upto m) (below_number b.work a.work (f d) (number_at (f d)) num h);
+      },
+    )
+
+-- a window that is as long as the start of a segment is short by that segment, where the work in it is less than the curve
+pub starts_tell : (c : SpecCurve) (far : ℚ) (a b : Point) → MayServe c → zero_q <ℚ far → a.time ≤ℚ b.time → b.time -ℚ a.time ≤ℚ far → HasStart (b.time -ℚ a.time) (unroll c far)
+    → Fin b.work <ₑ (Fin a.work +ₑ value_at c (b.time -ℚ a.time)) → (s : Segment) × HasSegment s (segments (unroll c far)) × (s.start ≡ b.time -ℚ a.time) × IsShortBy s a b
+starts_tell c far a b h some l m start less =
+    tell_at (value_at c) far (unroll c far) a b (unroll_starts c far some h.normal) (unroll_before c far) (λ t i j. unroll_reads c far t h.normal i j) h.finite h.continuous l m start less

@@ -1,10 +1,7 @@
 use Rattle.std.proofs.Common.{◌≡◌, ◌∙◌, sym, subst, ap}
-use Rattle.rational.specs.Rational.{ℚ}
 use Rattle.upp_curve.specs.Curve.{SpecCurve}
-use Rattle.upp_curve.specs.Unrolled.{unroll}
 use Rattle.upp_limits.specs.Limits.{curve_numbers}
 use Rattle.upp_limits.specs.Sized.{Stands}
-use Rattle.upp_normal.specs.Unrolling.{IsOperandTo}
 use Rattle.run_laws.specs.Runs.{SpecRun}
 use Rattle.net_model.specs.NetRoutes.{routes_of}
 use Rattle.net_model.specs.Views.{flow_of}
@@ -12,21 +9,38 @@ use Rattle.net_cells.specs.Numbered.{arrival, arrival_of}
 use Rattle.watch_laws.specs.Entries.{entries}
 use Rattle.watch_laws.proofs.Entered.{in_order}
 use Rattle.run_watch.specs.FirstOf.{EnterInOrder}
-use Rattle.first_breaches.proofs.CurvesRead.{flow_reads}
+use Rattle.first_breaches.specs.Reaches.{ReachFits, reach, pieces_below}
+use Rattle.first_breaches.proofs.CurvesRead.{flow_reads, reach_fits, operand_below, reached}
 use Rattle.first_breaches.proofs.Parts.{arrival_one, live_flow_is}
 use Rattle.first_breaches.proofs.arrivals.first_arrival_of.Goals as goal
 
-pub unrolled-requires : goal.unrolled-requires
-unrolled-requires c =
+pub reach-far-requires : goal.reach-far-requires
+reach-far-requires c =
     let net = c.args.net.now in
     let run = c.args.run.now in
     let flow = c.args.number in
     let R = c.requires.sizes.1 in
+    let steps_are = c.deref.ensures.value ∙ ap (λ (r : SpecRun). r.steps) c.run.view_is in
     let end_is = ap (λ (r : SpecRun). r.end) c.run.view_is in
-    let curve : c.in-Some.flow.now.arrival ≡ arrival net flow = ap arrival_of c.in-Some.ensures.flow in
-    let stands = R.arrivals flow (live_flow_is net flow (flow_of c.in-Some.flow.now) c.in-Some.ensures.flow) in
-    subst (λ (t : ℚ). IsOperandTo t c.in-Some.flow.now.arrival) (sym end_is)
-    record { sizes = c.requires.sizes.0; limited = R.limited; stands = subst (λ (k : SpecCurve). Stands c.requires.sizes.0 (curve_numbers run.end k)) (sym curve) stands }
+    let packets_are : c.deref-in-Some.result.now ≡ entries flow run.steps = c.deref-in-Some.ensures.value ∙ c.in_ok-packets-in-Some.ensures ∙ ap (entries flow) steps_are in
+    λ some. subst (ReachFits c.deref-in-Some.result.now) (sym end_is) (reach_fits c.requires.sizes.0 run.end flow run.steps c.deref-in-Some.result.now R.limited R.steps (in_order (routes_of net) run flow c.requires.lawful) packets_are some)
+
+pub pieces_below-requires-clause-operand : goal.pieces_below-requires-clause-operand
+pieces_below-requires-clause-operand c =
+    let net = c.args.net.now in
+    let run = c.args.run.now in
+    let flow = c.args.number in
+    let R = c.requires.sizes.1 in
+    let f = c.in-Some.flow.now in
+    let es = c.deref-in-Some.result.now in
+    let steps_are = c.deref.ensures.value ∙ ap (λ (r : SpecRun). r.steps) c.run.view_is in
+    let end_is = ap (λ (r : SpecRun). r.end) c.run.view_is in
+    let packets_are : es ≡ entries flow run.steps = c.deref-in-Some.ensures.value ∙ c.in_ok-packets-in-Some.ensures ∙ ap (entries flow) steps_are in
+    let curve : f.arrival ≡ arrival net flow = ap arrival_of c.in-Some.ensures.flow in
+    let stands = R.arrivals flow (live_flow_is net flow (flow_of f) c.in-Some.ensures.flow) in
+    operand_below c.requires.sizes.0 run.end c.reach-far.result flow f.arrival run.steps es R.limited c.pieces-kept.ensures.kept
+    (subst (λ (k : SpecCurve). Stands c.requires.sizes.0 (curve_numbers run.end k)) (sym curve) stands) R.steps (in_order (routes_of net) run flow c.requires.lawful) packets_are
+    (λ some. c.reach-far.ensures.some some ∙ ap (reach es) end_is) c.reach-far.ensures.none
 
 pub arrival_breach-requires-clause-reads : goal.arrival_breach-requires-clause-reads
 arrival_breach-requires-clause-reads c =
@@ -35,13 +49,17 @@ arrival_breach-requires-clause-reads c =
     let flow = c.args.number in
     let R = c.requires.sizes.1 in
     let f = c.in-Some.flow.now in
+    let es = c.deref-in-Some-2.result.now in
     let steps_are = c.deref.ensures.value ∙ ap (λ (r : SpecRun). r.steps) c.run.view_is in
-    let packets_are : c.deref-in-Some.result.now ≡ entries flow run.steps = c.deref-in-Some.ensures.value ∙ c.in_ok-packets-in-Some.ensures ∙ ap (entries flow) steps_are in
-    let pieces_are : c.deref-in-Some-2.result.now ≡ unroll f.arrival run.end = c.deref-in-Some-2.ensures.value ∙ c.in_ok-pieces-in-Some.ensures ∙ ap (λ (r : SpecRun). unroll f.arrival r.end) c.run.view_is in
+    let end_is = ap (λ (r : SpecRun). r.end) c.run.view_is in
+    let packets_are : es ≡ entries flow run.steps = c.deref-in-Some-2.ensures.value ∙ c.in_ok-packets-in-Some.ensures ∙ ap (entries flow) steps_are in
+    let same : c.deref-in-Some.result.now ≡ es = c.deref-in-Some.ensures.value ∙ sym c.deref-in-Some-2.ensures.value in
+    let pieces_are : c.deref-in-Some-3.result.now ≡ pieces_below f.arrival c.reach-far.result = c.deref-in-Some-3.ensures.value ∙ c.in_ok-pieces-in-Some.ensures in
     let curve : f.arrival ≡ arrival net flow = ap arrival_of c.in-Some.ensures.flow in
     let stands = R.arrivals flow (live_flow_is net flow (flow_of f) c.in-Some.ensures.flow) in
-    flow_reads c.requires.sizes.0 run.end flow f.arrival run.steps c.deref-in-Some.result.now c.deref-in-Some-2.result.now R.limited c.pieces-kept.ensures.kept
-    (subst (λ (k : SpecCurve). Stands c.requires.sizes.0 (curve_numbers run.end k)) (sym curve) stands) R.steps (in_order (routes_of net) run flow c.requires.lawful) packets_are pieces_are
+    flow_reads c.requires.sizes.0 run.end c.reach-far.result flow f.arrival run.steps es c.deref-in-Some-3.result.now R.limited c.pieces-kept.ensures.kept
+    (subst (λ (k : SpecCurve). Stands c.requires.sizes.0 (curve_numbers run.end k)) (sym curve) stands) R.steps (in_order (routes_of net) run flow c.requires.lawful) packets_are
+    (λ some. reached c.deref-in-Some.result.now es c.run.inside.end run.end c.reach-far.result same end_is c.reach-far.ensures.some some) pieces_are
 
 pub returns-in_ok-pieces-in-Some : goal.returns-in_ok-pieces-in-Some
 returns-in_ok-pieces-in-Some c =
@@ -49,9 +67,13 @@ returns-in_ok-pieces-in-Some c =
     let run = c.args.run.now in
     let flow = c.args.number in
     let f = c.in-Some.flow.now in
+    let es = c.deref-in-Some-2.result.now in
     let steps_are = c.deref.ensures.value ∙ ap (λ (r : SpecRun). r.steps) c.run.view_is in
-    let packets_are : c.deref-in-Some.result.now ≡ entries flow run.steps = c.deref-in-Some.ensures.value ∙ c.in_ok-packets-in-Some.ensures ∙ ap (entries flow) steps_are in
-    let pieces_are : c.deref-in-Some-2.result.now ≡ unroll f.arrival run.end = c.deref-in-Some-2.ensures.value ∙ c.in_ok-pieces-in-Some.ensures ∙ ap (λ (r : SpecRun). unroll f.arrival r.end) c.run.view_is in
+    let end_is = ap (λ (r : SpecRun). r.end) c.run.view_is in
+    let packets_are : es ≡ entries flow run.steps = c.deref-in-Some-2.ensures.value ∙ c.in_ok-packets-in-Some.ensures ∙ ap (entries flow) steps_are in
+    let same : c.deref-in-Some.result.now ≡ entries flow run.steps = c.deref-in-Some.ensures.value ∙ sym c.deref-in-Some-2.ensures.value ∙ packets_are in
+    let pieces_are : c.deref-in-Some-3.result.now ≡ pieces_below f.arrival c.reach-far.result = c.deref-in-Some-3.ensures.value ∙ c.in_ok-pieces-in-Some.ensures in
     let order = subst EnterInOrder (sym packets_are) (in_order (routes_of net) run flow c.requires.lawful) in
-    arrival_one net run flow (flow_of f) c.deref-in-Some-2.result.now c.arrival_breach.result c.requires.lawful c.requires.sizes c.pieces-kept.ensures.kept c.in-Some.ensures.flow pieces_are
+    arrival_one net run flow (flow_of f) c.reach-far.result c.deref-in-Some-3.result.now c.arrival_breach.result c.requires.lawful c.requires.sizes c.pieces-kept.ensures.kept c.in-Some.ensures.flow
+    (λ some. reached c.deref-in-Some.result.now (entries flow run.steps) c.run.inside.end run.end c.reach-far.result same end_is c.reach-far.ensures.some some) pieces_are
     (c.arrival_breach.ensures run packets_are order)

@@ -1,4 +1,4 @@
-use Rattle.std.proofs.Common.{◌≡◌, ◌∙◌, List, [], Option, sym, subst, ap, pos}
+use Rattle.std.proofs.Common.{◌≡◌, ◌∙◌, List, [], Option, refl, sym, subst, ap, pos}
 use Rattle.std.proofs.lemmas.Result.{IfOk-weaker}
 use Rattle.rational.specs.Rational.{int}
 use Rattle.upp_curve.specs.Curves.{IsCurve}
@@ -9,6 +9,7 @@ use Rattle.run_laws.specs.Views.{view}
 use Rattle.net_model.specs.NetRoutes.{routes_of}
 use Rattle.net_model.specs.Views.{server_of}
 use Rattle.net_cells.specs.Numbered.{service, service_of}
+use Rattle.watch_laws.specs.Laws.{MayServe}
 use Rattle.run_watch.specs.declared.found.Found.{Found}
 use Rattle.run_watch.specs.Ramps.{RampsFit}
 use Rattle.run_watch.specs.Seen.{arrivals_at, works_at}
@@ -17,7 +18,7 @@ use Rattle.run_watch.specs.FirstOf.{IsBest, IsIdleOn}
 use Rattle.first_breaches.specs.Firsts.{IsOne, HasService}
 use Rattle.first_breaches.proofs.Views.{watchable, sees_as}
 use Rattle.curve_call.proofs.Applied.{if_ok}
-use Rattle.first_breaches.proofs.Parts.{service_one, may_serve, no_server}
+use Rattle.first_breaches.proofs.Parts.{service_one, may_serve, no_server, none_of_kept}
 use Rattle.first_breaches.proofs.services.first_service_of.Goals as goal
 
 pub watch-requires-clause-arrivals : goal.watch-requires-clause-arrivals
@@ -43,7 +44,7 @@ service_breach-requires c =
     let W = watchable net run c.args.firsts.now c.args.number c.requires.sizes.0 c.requires.lawful c.requires.sizes.1 c.requires.firsts c.requires.in_range in
     let sees = sees_as w c.args.firsts.now c.args.number c.deref.result.now run.steps c.run.inside.end run.end steps_are end_is c.in_ok-seen-in-Some.ensures in
     let same : curve ≡ service net c.args.number = ap service_of c.in-Some.ensures.server in
-    subst (IsHeld w) (sym same) (W.held w sees (subst IsCurve same c.pieces-kept.ensures.kept))
+    subst (IsHeld w) (sym same) (W.held w sees (subst IsCurve same c.pieces-curve.ensures.kept))
 
 pub returns-in-None-clause-best : goal.returns-in-None-clause-best
 returns-in-None-clause-best c = absurd (no_server c.args.net.now c.args.number c.requires.in_range c.in-None.ensures.server)
@@ -64,7 +65,7 @@ returns-in_ok-seen-in-Some-clause-best c =
     let W = watchable net run c.args.firsts.now s c.requires.sizes.0 c.requires.lawful c.requires.sizes.1 c.requires.firsts c.requires.in_range in
     let sees = sees_as w c.args.firsts.now s c.deref.result.now run.steps c.run.inside.end run.end steps_are end_is c.in_ok-seen-in-Some.ensures in
     let same : curve ≡ service net s = ap service_of c.in-Some.ensures.server in
-    let serves = may_serve (server_of c.in-Some.found.now) c.in-Some.ensures.kept c.pieces-kept.ensures.kept in
+    let serves = may_serve (server_of c.in-Some.found.now) c.in-Some.ensures.kept c.pieces-curve.ensures.kept in
     IfOk-weaker c.service_breach.result (IsBest (IsIdleOn w.end V s curve) run) (IsBest (IsOne net run 2 s) run)
     (λ (o : Option Found) (h : IsBest (IsIdleOn w.end V s curve) run o). service_one net run s curve w.end o c.requires.in_range same sees.end h)
     (c.service_breach.ensures run (server_at (routes_of net) s) V (W.seen w sees) serves)
@@ -72,4 +73,17 @@ returns-in_ok-seen-in-Some-clause-best c =
 pub returns-in_ok-seen-in-Some-clause-curve : goal.returns-in_ok-seen-in-Some-clause-curve
 returns-in_ok-seen-in-Some-clause-curve c =
     let same : c.in-Some.found.now.service ≡ service c.args.net.now c.args.number = ap service_of c.in-Some.ensures.server in
-    if_ok {P = HasService c.args.net.now c.args.number} c.service_breach.result (subst IsCurve same c.pieces-kept.ensures.kept)
+    if_ok {P = HasService c.args.net.now c.args.number} c.service_breach.result (subst IsCurve same c.pieces-curve.ensures.kept)
+
+pub returns-then-is_told-clause-best : goal.returns-then-is_told-clause-best
+returns-then-is_told-clause-best c =
+    let net = c.args.net.now in
+    let s = c.args.number in
+    let same : c.in-Some.found.now.service ≡ service net s = ap service_of c.in-Some.ensures.server in
+    let serves = subst MayServe same (may_serve (server_of c.in-Some.found.now) c.in-Some.ensures.kept c.pieces-curve.ensures.kept) in
+    none_of_kept net c.args.run.now s c.requires.lawful serves (c.requires.kept s c.requires.in_range (c.if-is_told.ensures.0 refl))
+
+pub returns-then-is_told-clause-curve : goal.returns-then-is_told-clause-curve
+returns-then-is_told-clause-curve c =
+    let same : c.in-Some.found.now.service ≡ service c.args.net.now c.args.number = ap service_of c.in-Some.ensures.server in
+    subst IsCurve same c.pieces-curve.ensures.kept

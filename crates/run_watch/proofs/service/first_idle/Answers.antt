@@ -1,16 +1,14 @@
 use Rattle.std.proofs.Common.{◌≡◌, ◌∙◌, List, Some, None, pos, refl, sym, subst, ap, true≢false}
 use Rattle.rational.specs.Rational.{ℚ, int, ◌≤ℚ◌, ◌<ℚ◌}
 use Rattle.rational.proofs.Laws.{le_of_not_lt}
-use Rattle.upp_curve.specs.Unrolled.{unroll}
-use Rattle.watch_laws.specs.Segments.{segments}
 use Rattle.run_watch.specs.Watching.{stretches, stretches_in, turns}
-use Rattle.run_watch.specs.WatchTimes.{watched_from}
+use Rattle.run_watch.specs.Searches.{FindsIn}
 use Rattle.run_watch.proofs.IdleIn.{none_idle_more, first_here, none_at_all}
 use Rattle.run_watch.proofs.SortedPoints.{sorted_from, sorted_rise}
 use Rattle.run_watch.proofs.OwnTurns.{holds_sorted}
-use Rattle.run_watch.proofs.ClearStretches.{none_clear}
-use Rattle.run_watch.proofs.HeldTimes.{leaves_read, arrivals_read, stops_in_order, moves, times_fit, gaps_fit, searched, no_time}
-use Rattle.run_watch.proofs.FirstIdle.{same_in, stretch_bounds, times_as, gaps_as}
+use Rattle.run_watch.proofs.NearWindows.{looked_at}
+use Rattle.run_watch.proofs.ClearStretches.{none_found}
+use Rattle.run_watch.proofs.HeldTimes.{leaves_read, arrivals_read, stops_in_order, searched, no_time}
 use Rattle.run_watch.proofs.service.first_idle.Goals as goal
 
 pub returns-then-not-is_less : goal.returns-then-not-is_less
@@ -27,69 +25,42 @@ stretches_of-requires-clause-reads c = arrivals_read c.args.w.now c.args.curve.n
 pub stretches_of-requires-clause-rise : goal.stretches_of-requires-clause-rise
 stretches_of-requires-clause-rise c = (int (pos 0), stops_in_order c.args.w.now c.args.curve.now c.deref.result.now c.requires (c.deref.ensures.value ∙ c.in_ok-stops.ensures))
 
-pub first_in-requires-clause-moves : goal.first_in-requires-clause-moves
-first_in-requires-clause-moves c =
-    let some : int (pos 0) <ℚ c.args.w.now.end = subst (λ z. z <ℚ c.args.w.now.end) c.zero.ensures (c.if-not-is_less.ensures.less.0 refl) in
-    let ts_is : c.deref-in-loop-s-3.result.now ≡ turns c.args.w.now (stretches c.args.w.now) = c.deref-in-loop-s-3.ensures.value ∙ c.in_ok-turns.ensures ∙ ap (turns c.args.w.now) (c.deref-2.ensures.value ∙ c.in_ok-stretches.ensures ∙ ap (λ (ts : List ℚ). stretches_in c.args.w.now ts c.args.w.now.arrivals.items) (c.deref.ensures.value ∙ c.in_ok-stops.ensures)) in
-    let qs_is : c.deref-in-loop-s-4.result.now ≡ unroll c.args.curve.now c.args.w.now.end = c.deref-in-loop-s-4.ensures.value ∙ c.in_ok-pieces.ensures in
-    moves c.args.w.now c.args.curve.now c.deref-in-loop-s-3.result.now c.deref-in-loop-s-4.result.now c.requires some ts_is qs_is
-
-pub first_in-requires-clause-times : goal.first_in-requires-clause-times
-first_in-requires-clause-times c =
-    let some : int (pos 0) <ℚ c.args.w.now.end = subst (λ z. z <ℚ c.args.w.now.end) c.zero.ensures (c.if-not-is_less.ensures.less.0 refl) in
-    let ss_is : c.deref-s-items.result.now ≡ stretches c.args.w.now = c.deref-s-items.ensures.value ∙ c.in_ok-stretches.ensures ∙ ap (λ (ts : List ℚ). stretches_in c.args.w.now ts c.args.w.now.arrivals.items) (c.deref.ensures.value ∙ c.in_ok-stops.ensures) in
-    let ts_is : c.deref-in-loop-s-3.result.now ≡ turns c.args.w.now (stretches c.args.w.now) = c.deref-in-loop-s-3.ensures.value ∙ c.in_ok-turns.ensures ∙ ap (turns c.args.w.now) (c.deref-2.ensures.value ∙ c.in_ok-stretches.ensures ∙ ap (λ (ts : List ℚ). stretches_in c.args.w.now ts c.args.w.now.arrivals.items) (c.deref.ensures.value ∙ c.in_ok-stops.ensures)) in
-    let qs_is : c.deref-in-loop-s-4.result.now ≡ unroll c.args.curve.now c.args.w.now.end = c.deref-in-loop-s-4.ensures.value ∙ c.in_ok-pieces.ensures in
-    let gq_is : c.deref-in-loop-s-5.result.now ≡ segments c.deref-in-loop-s-4.result.now = c.deref-in-loop-s-5.ensures.value ∙ c.in_ok-segments.ensures ∙ ap segments (c.deref-4.ensures.value ∙ sym c.deref-in-loop-s-4.ensures.value) in
-    let bounds = stretch_bounds c.args.w.now c.args.curve.now c.deref-s-items.result.now c.loop-s.s-index c.s-item.result c.requires ss_is c.loop-s-test.true c.s-item.is in
-    times_as (segments c.deref-in-loop-s-4.result.now) c.deref-in-loop-s-5.result.now c.args.w.now.works.items c.deref-in-loop-s-2.result.now
-    (watched_from c.s-item.result c.deref-in-loop-s-4.result.now c.deref-in-loop-s-3.result.now) gq_is c.deref-in-loop-s-2.ensures.value
-    (times_fit c.args.w.now c.args.curve.now c.deref-in-loop-s-3.result.now c.deref-in-loop-s-4.result.now c.s-item.result c.requires some ts_is qs_is bounds.0 bounds.1)
-
-pub first_in-requires-clause-segments : goal.first_in-requires-clause-segments
-first_in-requires-clause-segments c =
-    let some : int (pos 0) <ℚ c.args.w.now.end = subst (λ z. z <ℚ c.args.w.now.end) c.zero.ensures (c.if-not-is_less.ensures.less.0 refl) in
-    let qs_is : c.deref-in-loop-s-4.result.now ≡ unroll c.args.curve.now c.args.w.now.end = c.deref-in-loop-s-4.ensures.value ∙ c.in_ok-pieces.ensures in
-    let gq_is : c.deref-in-loop-s-5.result.now ≡ segments c.deref-in-loop-s-4.result.now = c.deref-in-loop-s-5.ensures.value ∙ c.in_ok-segments.ensures ∙ ap segments (c.deref-4.ensures.value ∙ sym c.deref-in-loop-s-4.ensures.value) in
-    gaps_as (segments c.deref-in-loop-s-4.result.now) c.deref-in-loop-s-5.result.now gq_is (gaps_fit c.args.w.now c.args.curve.now c.deref-in-loop-s-4.result.now c.requires some qs_is)
-
-pub returns-in-Some : goal.returns-in-Some
-returns-in-Some c = λ server V S M.
-    let some : int (pos 0) <ℚ c.args.w.now.end = subst (λ z. z <ℚ c.args.w.now.end) c.zero.ensures (c.if-not-is_less.ensures.less.0 refl) in
-    let ss_is : c.deref-s-items.result.now ≡ stretches c.args.w.now = c.deref-s-items.ensures.value ∙ c.in_ok-stretches.ensures ∙ ap (λ (ts : List ℚ). stretches_in c.args.w.now ts c.args.w.now.arrivals.items) (c.deref.ensures.value ∙ c.in_ok-stops.ensures) in
-    let ts_is : c.deref-in-loop-s-3.result.now ≡ turns c.args.w.now (stretches c.args.w.now) = c.deref-in-loop-s-3.ensures.value ∙ c.in_ok-turns.ensures ∙ ap (turns c.args.w.now) (c.deref-2.ensures.value ∙ c.in_ok-stretches.ensures ∙ ap (λ (ts : List ℚ). stretches_in c.args.w.now ts c.args.w.now.arrivals.items) (c.deref.ensures.value ∙ c.in_ok-stops.ensures)) in
-    let qs_is : c.deref-in-loop-s-4.result.now ≡ unroll c.args.curve.now c.args.w.now.end = c.deref-in-loop-s-4.ensures.value ∙ c.in_ok-pieces.ensures in
-    let gs_is : c.deref-in-loop-s-5.result.now ≡ segments (unroll c.args.curve.now c.args.w.now.end) = c.deref-in-loop-s-5.ensures.value ∙ c.in_ok-segments.ensures ∙ ap segments (c.deref-4.ensures.value ∙ c.in_ok-pieces.ensures) in
-    first_here server V c.args.w.now c.args.curve.now c.deref-in-loop-s-3.result.now c.deref-s-items.result.now c.loop-s.s-index c.s-item.result c.in-Some.found.0 c.in-Some.found.1
-    (searched server V c.args.w.now c.args.curve.now c.deref-in-loop-s-3.result.now c.requires S M some ts_is) ss_is c.loop-s-test.true c.s-item.is (c.loop-s.invariant server V S M)
-    (same_in c.s-item.result (segments (unroll c.args.curve.now c.args.w.now.end)) c.deref-in-loop-s-5.result.now c.args.w.now.works.items c.deref-in-loop-s-2.result.now (unroll c.args.curve.now c.args.w.now.end) c.deref-in-loop-s-4.result.now c.turns_in-own.result.now c.deref-in-loop-s-3.result.now c.in_ok-found.field-0 (Some c.in-Some.found) gs_is c.deref-in-loop-s-2.ensures.value qs_is c.in-Some.is c.in_ok-found.ensures)
-
 pub turns_in-own-requires : goal.turns_in-own-requires
 turns_in-own-requires c =
     let sorts = sorted_from c.in_ok-turns.turns.items c.in_ok-sorted.sorted.items c.sort.new.self.items c.deref-in-loop-s.result.now (c.in_ok-sorted.ensures.items ∙ c.deref-3.ensures.value) c.sort.ensures.permutation c.in_ok-sort.ensures.sorted c.deref-in-loop-s.ensures.value in
     sorted_rise c.deref-in-loop-s.result.now sorts.1
 
-pub first_in-requires-clause-own : goal.first_in-requires-clause-own
-first_in-requires-clause-own c =
-    let ps = c.deref-in-loop-s-3.result.now in
-    let sorts = sorted_from ps c.in_ok-sorted.sorted.items c.sort.new.self.items c.deref-in-loop-s.result.now (c.in_ok-sorted.ensures.items ∙ c.deref-3.ensures.value ∙ sym c.deref-in-loop-s-3.ensures.value) c.sort.ensures.permutation c.in_ok-sort.ensures.sorted c.deref-in-loop-s.ensures.value in
-    let own = holds_sorted c.s-item.result ps c.deref-in-loop-s.result.now c.turns_in-own.result.now sorts.0 c.turns_in-own.ensures in
-    own.are
+pub first_in-requires-clause-stretch : goal.first_in-requires-clause-stretch
+first_in-requires-clause-stretch c =
+    let ps = c.deref-in-loop-s-2.result.now in
+    let ss_is : c.deref-s-items.result.now ≡ stretches c.args.w.now = c.deref-s-items.ensures.value ∙ c.in_ok-stretches.ensures ∙ ap (λ (ts : List ℚ). stretches_in c.args.w.now ts c.args.w.now.arrivals.items) (c.deref.ensures.value ∙ c.in_ok-stops.ensures) in
+    let ts_is : ps ≡ turns c.args.w.now (stretches c.args.w.now) = c.deref-in-loop-s-2.ensures.value ∙ c.in_ok-turns.ensures ∙ ap (turns c.args.w.now) (c.deref-2.ensures.value ∙ c.in_ok-stretches.ensures ∙ ap (λ (ts : List ℚ). stretches_in c.args.w.now ts c.args.w.now.arrivals.items) (c.deref.ensures.value ∙ c.in_ok-stops.ensures)) in
+    let sorts = sorted_from ps c.in_ok-sorted.sorted.items c.sort.new.self.items c.deref-in-loop-s.result.now (c.in_ok-sorted.ensures.items ∙ c.deref-3.ensures.value ∙ sym c.deref-in-loop-s-2.ensures.value) c.sort.ensures.permutation c.in_ok-sort.ensures.sorted c.deref-in-loop-s.ensures.value in
+    let own = holds_sorted c.s-item.result ps c.deref-in-loop-s.result.now c.turns_in-own.result.now sorts.0 c.turns_in-own.ensures.holds in
+    looked_at c.args.w.now c.deref-s-items.result.now c.loop-s.s-index c.s-item.result c.turns_in-own.result.now ps ss_is c.loop-s-test.true c.s-item.is ts_is own c.turns_in-own.ensures.rise
+
+pub returns-in-Some : goal.returns-in-Some
+returns-in-Some c = λ server V S M.
+    let ps = c.deref-in-loop-s-2.result.now in
+    let some : int (pos 0) <ℚ c.args.w.now.end = subst (λ z. z <ℚ c.args.w.now.end) c.zero.ensures (c.if-not-is_less.ensures.less.0 refl) in
+    let ss_is : c.deref-s-items.result.now ≡ stretches c.args.w.now = c.deref-s-items.ensures.value ∙ c.in_ok-stretches.ensures ∙ ap (λ (ts : List ℚ). stretches_in c.args.w.now ts c.args.w.now.arrivals.items) (c.deref.ensures.value ∙ c.in_ok-stops.ensures) in
+    let ts_is : ps ≡ turns c.args.w.now (stretches c.args.w.now) = c.deref-in-loop-s-2.ensures.value ∙ c.in_ok-turns.ensures ∙ ap (turns c.args.w.now) (c.deref-2.ensures.value ∙ c.in_ok-stretches.ensures ∙ ap (λ (ts : List ℚ). stretches_in c.args.w.now ts c.args.w.now.arrivals.items) (c.deref.ensures.value ∙ c.in_ok-stops.ensures)) in
+    first_here server V c.args.w.now c.args.curve.now ps c.deref-s-items.result.now c.loop-s.s-index c.s-item.result c.in-Some.found.0 c.in-Some.found.1
+    (searched server V c.args.w.now c.args.curve.now ps c.requires S M some ts_is) ss_is c.loop-s-test.true c.s-item.is (c.loop-s.invariant server V S M)
+    (subst (FindsIn c.args.w.now c.args.curve.now c.s-item.result c.turns_in-own.result.now ps) c.in-Some.is c.in_ok-found.ensures)
 
 pub loop-s-preserved : goal.loop-s-preserved
 loop-s-preserved c = λ server V S M.
+    let ps = c.deref-in-loop-s-2.result.now in
     let some : int (pos 0) <ℚ c.args.w.now.end = subst (λ z. z <ℚ c.args.w.now.end) c.zero.ensures (c.if-not-is_less.ensures.less.0 refl) in
     let ss_is : c.deref-s-items.result.now ≡ stretches c.args.w.now = c.deref-s-items.ensures.value ∙ c.in_ok-stretches.ensures ∙ ap (λ (ts : List ℚ). stretches_in c.args.w.now ts c.args.w.now.arrivals.items) (c.deref.ensures.value ∙ c.in_ok-stops.ensures) in
-    let ts_is : c.deref-in-loop-s-3.result.now ≡ turns c.args.w.now (stretches c.args.w.now) = c.deref-in-loop-s-3.ensures.value ∙ c.in_ok-turns.ensures ∙ ap (turns c.args.w.now) (c.deref-2.ensures.value ∙ c.in_ok-stretches.ensures ∙ ap (λ (ts : List ℚ). stretches_in c.args.w.now ts c.args.w.now.arrivals.items) (c.deref.ensures.value ∙ c.in_ok-stops.ensures)) in
-    let qs_is : c.deref-in-loop-s-4.result.now ≡ unroll c.args.curve.now c.args.w.now.end = c.deref-in-loop-s-4.ensures.value ∙ c.in_ok-pieces.ensures in
-    let gs_is : c.deref-in-loop-s-5.result.now ≡ segments (unroll c.args.curve.now c.args.w.now.end) = c.deref-in-loop-s-5.ensures.value ∙ c.in_ok-segments.ensures ∙ ap segments (c.deref-4.ensures.value ∙ c.in_ok-pieces.ensures) in
-    let ps = c.deref-in-loop-s-3.result.now in
-    let sorts = sorted_from ps c.in_ok-sorted.sorted.items c.sort.new.self.items c.deref-in-loop-s.result.now (c.in_ok-sorted.ensures.items ∙ c.deref-3.ensures.value ∙ sym c.deref-in-loop-s-3.ensures.value) c.sort.ensures.permutation c.in_ok-sort.ensures.sorted c.deref-in-loop-s.ensures.value in
-    let own = holds_sorted c.s-item.result ps c.deref-in-loop-s.result.now c.turns_in-own.result.now sorts.0 c.turns_in-own.ensures in
+    let ts_is : ps ≡ turns c.args.w.now (stretches c.args.w.now) = c.deref-in-loop-s-2.ensures.value ∙ c.in_ok-turns.ensures ∙ ap (turns c.args.w.now) (c.deref-2.ensures.value ∙ c.in_ok-stretches.ensures ∙ ap (λ (ts : List ℚ). stretches_in c.args.w.now ts c.args.w.now.arrivals.items) (c.deref.ensures.value ∙ c.in_ok-stops.ensures)) in
+    let sorts = sorted_from ps c.in_ok-sorted.sorted.items c.sort.new.self.items c.deref-in-loop-s.result.now (c.in_ok-sorted.ensures.items ∙ c.deref-3.ensures.value ∙ sym c.deref-in-loop-s-2.ensures.value) c.sort.ensures.permutation c.in_ok-sort.ensures.sorted c.deref-in-loop-s.ensures.value in
+    let own = holds_sorted c.s-item.result ps c.deref-in-loop-s.result.now c.turns_in-own.result.now sorts.0 c.turns_in-own.ensures.holds in
     none_idle_more c.args.w.now.end V c.args.curve.now c.deref-s-items.result.now c.loop-s.s-index c.s-item.result c.loop-s-test.true c.s-item.is (c.loop-s.invariant server V S M)
-    (none_clear server V c.args.w.now c.args.curve.now c.deref-in-loop-s-3.result.now c.turns_in-own.result.now c.deref-s-items.result.now c.loop-s.s-index c.s-item.result
-    (searched server V c.args.w.now c.args.curve.now c.deref-in-loop-s-3.result.now c.requires S M some ts_is) own ss_is c.loop-s-test.true c.s-item.is
-    (same_in c.s-item.result (segments (unroll c.args.curve.now c.args.w.now.end)) c.deref-in-loop-s-5.result.now c.args.w.now.works.items c.deref-in-loop-s-2.result.now (unroll c.args.curve.now c.args.w.now.end) c.deref-in-loop-s-4.result.now c.turns_in-own.result.now c.deref-in-loop-s-3.result.now c.in_ok-found.field-0 None gs_is c.deref-in-loop-s-2.ensures.value qs_is c.in_default.is c.in_ok-found.ensures))
+    (none_found server V c.args.w.now c.args.curve.now ps c.turns_in-own.result.now c.deref-s-items.result.now c.loop-s.s-index c.s-item.result
+    (searched server V c.args.w.now c.args.curve.now ps c.requires S M some ts_is) own ss_is c.loop-s-test.true c.s-item.is
+    (subst (FindsIn c.args.w.now c.args.curve.now c.s-item.result c.turns_in-own.result.now ps) c.in_default.is c.in_ok-found.ensures))
 
 pub returns : goal.returns
 returns c = λ server V S M.

@@ -1,0 +1,57 @@
+-- Windows of a stretch of which one end is one of its turns, and the other is too, or is as far away as one of the curve's
+-- segments starts: where none of these is short of work, no window of the stretch is. Own choice.
+use Rattle.std.specs.Prelude.{◌⊎◌, List, [], ◌∷◌, map}
+use Rattle.rational.specs.Rational.{ℚ, ◌+ℚ◌, ◌-ℚ◌, ◌≤ℚ◌, neg_ℚ}
+use Rattle.rational.specs.Ratio.{SumFits}
+use Rattle.watch_laws.specs.declared.point.Point.{Point}
+use Rattle.watch_laws.specs.declared.point.Segment.{Segment}
+use Rattle.watch_laws.specs.Shorts.{EachPoint, EachSegment, IsShortBy}
+use Rattle.run_watch.specs.declared.span.Ramp.{Ramp}
+use Rattle.run_watch.specs.declared.watched.Stretch.{Stretch}
+use Rattle.run_watch.specs.Ramps.{EachRamp, ReadsRamp}
+use Rattle.run_watch.specs.FirstEnds.{FitsMarks}
+use Rattle.run_watch.specs.WatchTimes.{point_at}
+use Rattle.run_watch.specs.IdleWindows.{NoneIsShort}
+
+-- ---- a turn and a segment
+-- the window from p on that is as long as the segment's start is in the stretch, and short by the segment
+pub record IsShortAfter (works : List Ramp) (s : Stretch) (p : Point) (g : Segment) : Type 0 where
+  pub inside : p.time +ℚ g.start ≤ℚ s.end
+  pub short : IsShortBy g p (point_at works (p.time +ℚ g.start))
+
+-- the one up to p
+pub record IsShortBefore (works : List Ramp) (s : Stretch) (p : Point) (g : Segment) : Type 0 where
+  pub inside : s.start ≤ℚ p.time -ℚ g.start
+  pub short : IsShortBy g (point_at works (p.time -ℚ g.start)) p
+
+abbrev pub IsShortNear : List Ramp → Stretch → Point → Segment → Type 0
+IsShortNear works s p g = IsShortAfter works s p g ⊎ IsShortBefore works s p g
+
+-- ---- all turns and segments
+abbrev pub NoneNearBy : List Segment → List Ramp → Stretch → Point → Type 0
+NoneNearBy ss works s p = EachSegment (λ g. ¬ IsShortNear works s p g) ss
+
+abbrev pub NoneNear : List Segment → List Ramp → Stretch → List Point → Type 0
+NoneNear ss works s ps = EachPoint (NoneNearBy ss works s) ps
+
+-- of these turns: none between two of them, and none near one
+pub record IsClear (ss : List Segment) (works : List Ramp) (s : Stretch) (ts : List ℚ) : Type 0 where
+  pub pairs : NoneIsShort ss works ts
+  pub near : NoneNear ss works s (map (point_at works) ts)
+
+-- ---- sizes
+-- the steps by the segment at one time fit
+pub record FitsAt (works : List Ramp) (g : Segment) (t : ℚ) : Type 0 where
+  pub reads : EachRamp (ReadsRamp t) works
+  pub marks : FitsMarks (point_at works t ∷ []) g
+
+-- those near p, as far as they are in the stretch
+pub record FitsNear (works : List Ramp) (s : Stretch) (g : Segment) (p : Point) : Type 0 where
+  pub after : SumFits p.time g.start
+  pub before : SumFits p.time (neg_ℚ g.start)
+  pub own : FitsMarks (p ∷ []) g
+  pub later : p.time +ℚ g.start ≤ℚ s.end → FitsAt works g (p.time +ℚ g.start)
+  pub earlier : s.start ≤ℚ p.time -ℚ g.start → FitsAt works g (p.time -ℚ g.start)
+
+abbrev pub FitsNearBy : List Segment → List Ramp → Stretch → Point → Type 0
+FitsNearBy ss works s p = EachSegment (λ g. FitsNear works s g p) ss

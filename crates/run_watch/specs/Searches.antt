@@ -1,0 +1,37 @@
+-- The search of one stretch for its first window that is short of work. Own choice.
+use Rattle.std.specs.Prelude.{◌≡◌, ◌⊎◌, ℕ, ◌<◌, List, length, Option, MatchOption}
+use Rattle.std.specs.List.{slice_index_or}
+use Rattle.rational.specs.Rational.{ℚ, ◌-ℚ◌}
+use Rattle.upp_curve.specs.Curve.{SpecCurve}
+use Rattle.upp_curve.specs.Unrolled.{unroll}
+use Rattle.watch_laws.specs.Segments.{segments}
+use Rattle.run_watch.specs.declared.watched.Watched.{Watched}
+use Rattle.run_watch.specs.declared.watched.Stretch.{Stretch}
+use Rattle.run_watch.specs.Watching.{stretches, turns, TimesRise, HoldsTimes}
+use Rattle.run_watch.specs.WatchTimes.{watched_from}
+use Rattle.run_watch.specs.IdleWindows.{NoneIsShort, IsFirstShort}
+use Rattle.run_watch.specs.NearWindows.{IsClear}
+
+-- a stretch of what a server sees; `all` are the server's turns, `own` those in the stretch, in order
+pub record IsLookedAt (w : Watched) (s : Stretch) (own all : List ℚ) : Type 0 where
+  pub number : ℕ
+  pub in_range : number < length (stretches w)
+  pub is : s ≡ slice_index_or (stretches w) number s
+  pub turns_are : all ≡ turns w (stretches w)
+  pub holds : HoldsTimes s all own
+  pub rise : (from : ℚ) × TimesRise from own
+
+-- by its own turns, and the curve's pieces up to its length, it has no short window
+abbrev pub IsClearStretch : Watched → SpecCurve → Stretch → List ℚ → Type 0
+IsClearStretch w c s own = IsClear (segments (unroll c (s.end -ℚ s.start))) w.works.items s own
+
+-- between its watch points, by all turns and the pieces up to the run's end
+abbrev pub NoneWatched : Watched → SpecCurve → Stretch → List ℚ → Type 0
+NoneWatched w c s all = NoneIsShort (segments (unroll c w.end)) w.works.items (watched_from s (unroll c w.end) all)
+
+abbrev pub IsFirstWatched : Watched → SpecCurve → Stretch → List ℚ → ℚ × ℚ → Type 0
+IsFirstWatched w c s all p = IsFirstShort (segments (unroll c w.end)) w.works.items (watched_from s (unroll c w.end) all) p.0 p.1
+
+-- neither; or the first between its watch points
+abbrev pub FindsIn : Watched → SpecCurve → Stretch → List ℚ → List ℚ → Option (ℚ × ℚ) → Type 0
+FindsIn w c s own all found = MatchOption found (IsClearStretch w c s own ⊎ NoneWatched w c s all) (IsFirstWatched w c s all)
