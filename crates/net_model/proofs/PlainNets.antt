@@ -87,7 +87,7 @@ flow_is number (p ∷ ps) (suc k) d h =
     flow_is (number + 1) ps k d (omega (arith, h)) ∙ ap (λ n. plain_place n (get_or ps k [])) (let e : number + 1 + k ≡ number + suc k = omega arith in e)
 
 -- ---- tests that were passed
-each_passes : {X : Type 0} (p : X → Bool) (xs : List X) → list_all p xs ≡ true → All (λ x. p x ≡ true) xs
+pub each_passes : {X : Type 0} (p : X → Bool) (xs : List X) → list_all p xs ≡ true → All (λ x. p x ≡ true) xs
 each_passes p xs h k d within = by_value (p (get_or xs k d)) refl
   where
     by_value : (b : Bool) → p (get_or xs k d) ≡ b → b ≡ true

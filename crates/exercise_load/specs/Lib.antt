@@ -1,0 +1,6 @@
+pub mod Draws
+pub mod Drawn
+pub mod Bounds
+pub mod Workloads
+pub mod Loads
+pub mod WorkloadLaws
