@@ -1,0 +1,17 @@
+pub mod Busy
+pub mod Curves
+pub mod Operators
+pub mod Meanings
+pub mod Rows
+pub mod Accepting
+pub mod Reaching
+pub mod Keeping
+pub mod OneFlowTable
+pub mod OneFlow
+pub mod TwoServersRun
+pub mod TwoServersTable
+pub mod TwoServers
+pub mod TwoFlowsTable
+pub mod Terms
+pub mod TwoFlowsRuns
+pub mod TwoFlows

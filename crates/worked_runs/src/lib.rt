@@ -1,0 +1,25 @@
+//! Worked runs: small networks, each with a table that meets its equations, and runs of them, of which all but those of
+//! deficit round robin take exactly as long as the bound.
+//!
+//! A law is the contract of a function that does nothing: its body is empty, and its `ensures` is proved.
+#![tactic(auto)]
+
+ghost use Rattle.worked_runs.specs.OneFlow.{OneFlowReachesItsBound};
+ghost use Rattle.worked_runs.specs.TwoServers.{TwoServersReachTheirBound};
+ghost use Rattle.worked_runs.specs.TwoFlows.{TwoFlowsReachTheirBounds};
+
+/// One packet of 12000 bits through a server of 100 bits a unit of time after a latency of 10 takes 130, which is the
+/// flow's bound in each table that meets the network's equations, and there is such a table.
+pub fn one_flow_reaches_its_bound()
+    ensures { OneFlowReachesItsBound }
+{}
+
+/// So it does through two such servers with links of 5: the packet takes 270, links included.
+pub fn two_servers_reach_their_bound()
+    ensures { TwoServersReachTheirBound }
+{}
+
+/// Two packets in one first in, first out queue take 190, whichever of the two flows is served last.
+pub fn two_flows_reach_their_bounds()
+    ensures { TwoFlowsReachTheirBounds }
+{}
