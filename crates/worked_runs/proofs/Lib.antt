@@ -15,3 +15,11 @@ pub mod TwoFlowsTable
 pub mod Terms
 pub mod TwoFlowsRuns
 pub mod TwoFlows
+pub mod TwoQuantaTable
+pub mod TwoQuantaRuns
+pub mod TwoQuanta
+pub mod TwoPrioritiesTable
+pub mod TwoPrioritiesRuns
+pub mod TwoPriorities
+pub mod Gates
+pub mod OneGateRun

@@ -1,11 +1,11 @@
 -- What each operator makes of token buckets and rates after a latency.
-use Rattle.std.specs.Prelude.{◌≡◌, ◌⊎◌, pos, cond}
+use Rattle.std.specs.Prelude.{◌≡◌, ℕ}
 use Rattle.std.proofs.Common.{arith, sym, ap, ap₂, ◌∙◌, subst, inl, inr}
 use Rattle.rational.specs.Rational.{ℚ, int, ◌+ℚ◌, ◌-ℚ◌, ◌*ℚ◌, ◌/ℚ◌, ◌≤ℚ◌, ◌<ℚ◌, le_q}
 use Rattle.rational.specs.MinMax.{max_q}
 use Rattle.rational.specs.Extended.{Ext, ◌≤ₑ◌, ◌+ₑ◌, min_ext}
 use Rattle.rational.specs.declared.Extended.TheVariants.{Fin}
-use Rattle.rational.proofs.Laws.{le_refl, le_or_lt, le_of_lt, le_trans, antisym, mul_add, mul_sub, sub_mul, add_mul, mul_zero, zero_mul, mul_le_mul, mul_nonneg, not_zero}
+use Rattle.rational.proofs.Laws.{le_refl, le_or_lt, le_of_lt, le_trans, antisym, mul_assoc, mul_add, sub_mul, add_mul, mul_zero, zero_mul, mul_le_mul, mul_nonneg, not_zero}
 use Rattle.rational.proofs.Quotients.{div_unique, zero_div}
 use Rattle.rational.proofs.MinMax.{max_q_right, max_q_is_left, max_q_ge_left, max_q_le, le_q_not}
 use Rattle.rational.proofs.Over.{le_q_out}
@@ -20,13 +20,16 @@ use Rattle.min_plus.specs.Convolution.{IsConvolution, IsDeconvolution}
 use Rattle.min_plus.specs.Deviations.{IsHorizontalDeviation, IsVerticalDeviation}
 use Rattle.min_plus.proofs.BucketDelay.{horizontal_finite, horizontal_zero}
 use Rattle.min_plus.proofs.BucketBacklog.{vertical_finite}
-use Rattle.min_plus.proofs.BucketOperators.{bucket_deconvolution, service_convolution}
+use Rattle.min_plus.proofs.BucketOperators.{rising_run_sup, bucket_deconvolution, service_convolution}
 use Rattle.upp_limits.specs.declared.op_kind.OpKind.TheVariants.{Sum, Min, PosMinus, Shift, FifoLeft, Convolve, Deconvolve}
 use Rattle.upp_curve.specs.Curve.{SpecCurve, value_at}
 use Rattle.upp_curve.specs.Curves.{IsCurve}
 use Rattle.upp_curve.specs.Kinds.{bucket, rate_latency}
 use Rattle.curve_call.specs.Answers.{IsMadeBy}
 use Rattle.run_laws.proofs.Latency.{latency_rises}
+use Rattle.run_laws.specs.Cards.{whole}
+use Rattle.residual_laws.specs.PriorityLaws.{priority_left}
+use Rattle.net_cells.specs.Means.{IsPriorityCurve}
 use Rattle.worked_runs.proofs.Curves.{IsBurst, IsLate}
 
 late_rises : (R T : ℚ) → IsLate R T → IsRising (value_at (rate_latency R T))
@@ -64,6 +67,38 @@ less_packet R T U l s p later all = record {
   answers = λ t h. p.is.is t h ∙ sym (cut_off R T U l t (le_of_lt s.rate) later all)
       ∙ ap (λ v. excess v (Fin l)) (sym (s.is.is t h));
 }
+
+-- a share of it less what is owed
+pub share_left : (R T S U k o : ℚ) → IsLate R T → IsLate S U → S ≡ k *ℚ R → T ≤ℚ U → S *ℚ (U -ℚ T) ≡ o → (t : ℚ) → zero_q ≤ℚ t
+    → value_at (rate_latency S U) t ≡ excess (scaled k (value_at (rate_latency R T) t)) (Fin o)
+share_left R T S U k o s p share later all t on =
+    let m = max_q zero_q (t -ℚ T) in
+    let e : k *ℚ (R *ℚ m) ≡ S *ℚ m = sym (mul_assoc k R m) ∙ ap (λ z. z *ℚ m) (sym share) in
+    p.is.is t on ∙ sym (cut_off S T U o t (le_of_lt p.rate) later all)
+    ∙ sym (ap (λ v. excess (scaled k v) (Fin o)) (s.is.is t on) ∙ ap (λ z. excess (Fin z) (Fin o)) e)
+
+-- what a priority server leaves beside a higher burst of c and a lower packet
+pub priority_made : (R T U V : ℚ) (higher : SpecCurve) (c : ℚ) (lower : ℕ) → IsLate R T → IsLate R U → IsLate R V
+    → IsBucket c zero_q (value_at higher) → T ≤ℚ U → R *ℚ (U -ℚ T) ≡ c → U ≤ℚ V → R *ℚ (V -ℚ U) ≡ whole lower
+    → IsPriorityCurve (rate_latency R T) higher lower (rate_latency R V)
+priority_made R T U V higher c lower s m p H first taken second packet = record { curve = p.curve; serves = serves }
+  where
+    left : ℚ → Ext
+    left = priority_left (value_at (rate_latency R T)) (value_at higher) lower
+
+    same : (t : ℚ) → zero_q ≤ℚ t → left t ≡ value_at (rate_latency R V) t
+    same t on =
+        let z = zero_mul t in
+        let flat : c +ℚ zero_q *ℚ t ≡ c = with2 c (zero_q *ℚ t) (λ c. omega (arith, c.le, c.lt, c.same)) in
+        let both : excess (value_at (rate_latency R T) t) (value_at higher t) ≡ excess (rate_latency_value R T t) (Fin c) =
+            ap₂ (λ (x y : Ext). excess x y) (s.is.is t on) (H.is t on ∙ ap Fin flat) in
+        ap (λ v. excess v (Fin (whole lower))) (both ∙ cut_off R T U c t (le_of_lt s.rate) first taken)
+        ∙ cut_off R U V (whole lower) t (le_of_lt s.rate) second packet ∙ sym (p.is.is t on)
+
+    serves : (t : ℚ) → zero_q ≤ℚ t → IsRunningSupremum left t (value_at (rate_latency R V) t)
+    serves t on = subst (IsRunningSupremum left t) (same t on)
+        (rising_run_sup left t on
+        (λ x y low l. rw (same x low, same y (le_trans low l)) (late_rises R V p x y low l)))
 
 -- ---- buckets
 pub buckets_sum : (b r c q B Q : ℚ) → IsBurst b r → IsBurst c q → IsBurst B Q → B ≡ b +ℚ c → Q ≡ r +ℚ q

@@ -1,5 +1,5 @@
--- Two packets at a deficit round robin server. That its bound is never reached is in the nature of the law: it counts for
--- each queue a deficit of one packet, and a deficit of whole bits is below the packet that waits.
+-- Two packets at a deficit round robin server. They stay below their bounds: the law counts for each queue a deficit of
+-- one packet, and a deficit of whole bits is below the packet that waits.
 use Rattle.std.specs.Prelude.{[], ◌∷◌, codes, Some}
 use Rattle.run_laws.specs.declared.steps.Step.TheVariants.{Enter, Work, Leave, Visit}
 use Rattle.run_laws.specs.Runs.{SpecRun}
