@@ -1,0 +1,96 @@
+-- One flow over one server reaches its bound.
+use Rattle.std.specs.Prelude.{AllPairs, codes}
+use Rattle.std.proofs.Common.{◌≡◌, ◌≢◌, ℕ, zero, suc, ◌<◌, [], ◌∷◌, length, sym, true, false, Some, refl, ap, subst, arith}
+use Rattle.rational.specs.Rational.{◌-ℚ◌}
+use Rattle.rational.specs.Extended.{◌≤ₑ◌}
+use Rattle.rational.specs.declared.Extended.TheVariants.{Fin}
+use Rattle.rational.proofs.Integers.{nat_nonneg}
+use Rattle.upp_curve.specs.Curve.{value_at}
+use Rattle.upp_curve.specs.Kinds.{bucket, rate_latency}
+use Rattle.upp_kinds.proofs.KindValues.{bucket_is, service_is}
+use Rattle.run_laws.specs.Cards.{whole}
+use Rattle.run_laws.specs.Examples.{one_packet, ReachesItsBound}
+use Rattle.run_laws.specs.Premises.{KeepsService}
+use Rattle.run_laws.specs.Routes.{route_of}
+use Rattle.run_laws.specs.RunPremises.{EnterSizes, entered_in}
+use Rattle.run_laws.specs.Servers.{Fifo}
+use Rattle.run_laws.specs.Views.{view}
+use Rattle.run_laws.proofs.OnePacket.{one_packet_reaches_its_bound}
+use Rattle.net_model.specs.Accepted.{IsServer, IsFlow, IsAccepted}
+use Rattle.net_model.specs.Names.{DifferInName}
+use Rattle.net_model.specs.Networks.{NetServer, NetFlow}
+use Rattle.net_model.specs.Orders.{IsOrder}
+use Rattle.net_cells.specs.Numbered.{packet, arrival, service}
+use Rattle.net_bounds.specs.NetRuns.{routes_of, IsRunOf}
+use Rattle.worked_runs.specs.Parts.{late_server, bucket_flow}
+use Rattle.worked_runs.specs.OneFlow.{one_flow, OneFlowReachesItsBound}
+use Rattle.worked_runs.proofs.Accepting.{no_pairs, alone, some_same, named_by_two, is_late_server, is_one_hop_flow, one_server_order}
+use Rattle.worked_runs.proofs.OneFlowTable.{table, meets}
+use Rattle.worked_runs.proofs.Reaching.{bound_by}
+
+-- ---- the network
+abbrev its_server : NetServer
+its_server = late_server (codes "s1") 0 Fifo
+
+abbrev its_flow : NetFlow
+its_flow = bucket_flow (codes "f1") (0 ∷ []) (0 ∷ []) 12000 10
+
+is_server : IsServer its_server
+is_server = is_late_server (codes "s1") 0 Fifo (named_by_two 115 49 refl refl) tt
+
+is_flow : IsFlow one_flow.servers its_flow
+is_flow = is_one_hop_flow one_flow.servers (codes "f1") 0 12000 10 (named_by_two 102 49 refl refl) (omega arith) (omega arith)
+    record { server = its_server; is = refl; has_queue = omega arith; takes = tt }
+
+accepted : IsAccepted one_flow
+accepted = record {
+  version = refl;
+  few_servers = omega arith;
+  few_flows = omega arith;
+  names = (no_pairs (λ s t. s.name ≢ t.name) its_server, no_pairs DifferInName (Some its_flow));
+  servers = λ s has. subst IsServer (alone its_server s has) is_server;
+  flows = λ f has. subst (IsFlow one_flow.servers) (some_same its_flow f (alone (Some its_flow) (Some f) has)) is_flow;
+}
+
+ordered : IsOrder one_flow (0 ∷ [])
+ordered = one_server_order one_flow refl
+    (λ f has. ap (λ (g : NetFlow). length g.path) (sym (some_same its_flow f (alone (Some its_flow) (Some f) has))))
+
+-- ---- the run
+-- with the curves of the network
+reached : ReachesItsBound (value_at (bucket (whole 12000) (whole 10))) (value_at (rate_latency (whole 100) (whole 10)))
+reached = one_packet_reaches_its_bound (value_at (bucket (whole 12000) (whole 10))) (value_at (rate_latency (whole 100) (whole 10))) record {
+  bucket = bucket_is (whole 12000) (whole 10);
+  latency = service_is (whole 100) (whole 10) (nat_nonneg 100) (nat_nonneg 10);
+}
+
+-- flow 0 is the only live one
+only_flow : (flow : ℕ) → (route_of (routes_of one_flow) flow).live ≡ true → 0 ≡ flow
+only_flow zero live = refl
+only_flow (suc flow) live = let bad : false ≡ true = live in absurd (cc)
+
+keeps_service : (server : ℕ) → server < 1
+    → KeepsService (value_at (service one_flow server)) one_packet.end (view (routes_of one_flow) one_packet server)
+keeps_service zero within = reached.keeps.service 0 (omega arith)
+keeps_service (suc server) within = absurd (omega (arith, within))
+
+is_run : IsRunOf one_flow one_packet
+is_run =
+    let keeps = reached.keeps in
+    record {
+      lawful = reached.is_lawful;
+      keeps = record {
+        sizes = λ flow live. subst (λ i. EnterSizes i (packet one_flow i) one_packet.steps) (only_flow flow live)
+            (keeps.sizes 0 refl);
+        arrivals = λ flow live s t before.
+            subst (λ i. Fin (entered_in i s t one_packet.steps) ≤ₑ value_at (arrival one_flow i) (t -ℚ s))
+            (only_flow flow live) (keeps.arrivals 0 refl s t before);
+        service = keeps_service;
+      };
+    }
+
+pub one_flow_reaches_its_bound : OneFlowReachesItsBound
+one_flow_reaches_its_bound = record {
+  has_bound = bound_by one_flow (0 ∷ []) 0 (whole 130) table accepted ordered meets refl refl;
+  has_delay = record { is_run = is_run; its_delay = reached.its_delay };
+}
