@@ -2,12 +2,14 @@
 
     python3 bench/simulation.py NETCALC
 
-NETCALC is the program. The network has 4 servers in a row with links between them, of all three disciplines, and four
-flows over all of them; a trace has 1,000 or 10,000 packets, which come at about the rate of the servers. A line a
-trace: its packets, the steps of its run, the status, the seconds that the run took, the steps a second, and how many
-times as long as a step of the trace before it. The steps are an entry, and at each of the 4 servers a work, a leaving
-and, but for the first, an arrival; turns to a queue are not counted. Nothing is asserted about time. Where the program
-has no command `simulate`, one line says so.
+NETCALC is the program. The network has 5 servers in a row with links between them, of all three disciplines, the last
+of them a gate, and four flows over all of them; a trace has 1,000 or 10,000 packets, which come at about the rate of
+the servers. Its flows keep their arrival curves, in one network stairs and in another token buckets, and in one more
+each second one breaks its stair: so what the look for the first breach takes is seen apart, in the difference. A line a
+trace: the curves, its packets, the steps of its run, the status (0 where all curves are kept, 9 where not), the seconds
+that the run took, the steps a second, and how many times as long as a step of the trace before it. The steps are an entry, and at each
+of the 5 servers a work, a leaving and, but for the first, an arrival; turns to a queue are not counted, nor that a gate
+may close on a work. Nothing is asserted about time. Where the program has no command `simulate`, one line says so.
 """
 
 import subprocess
@@ -16,11 +18,17 @@ import tempfile
 import time
 from pathlib import Path
 
-HOPS = 4
+HOPS = 5
 FLOWS = 4
 QUEUES = {"fifo": 1, "priority": 2, "drr": 2}
 RULES = {"fifo": "", "priority": "queues = 2\n", "drr": "quanta = [12000, 12000]\n"}
 DISCIPLINES = list(QUEUES)
+# each flow sends up to 12,000 bits every 220 to 300 units of time
+ARRIVALS = {
+    "kept stairs": '{ kind = "stair", period = 220, jitter = 0 }',
+    "kept buckets": '{ kind = "bucket", rate = "12000/220", burst = 12000 }',
+    "broken stairs": '{ kind = "stair", period = 1000, jitter = 0 }',
+}
 USAGE = 2
 
 
@@ -28,10 +36,16 @@ def discipline(server: int) -> str:
     return DISCIPLINES[server % 3]
 
 
+def service_text(server: int) -> str:
+    if server == HOPS - 1:
+        return '{ kind = "gate", cycle = 1000, slot = 990 }'
+    return '{ kind = "latency", latency = 10 }'
+
+
 def server_text(server: int) -> str:
     name = discipline(server)
     return (
-        f'[[server]]\nname = "s{server}"\nrate = 100\nservice = {{ kind = "latency", latency = 10 }}\nlink = 1\n'
+        f'[[server]]\nname = "s{server}"\nrate = 100\nservice = {service_text(server)}\nlink = 1\n'
         f'discipline = "{name}"\n{RULES[name]}'
     )
 
@@ -41,11 +55,11 @@ def hop_text(server: int, queue: int) -> str:
     return f'"{name}"' if QUEUES[discipline(server)] == 1 else f'"{name}:{queue}"'
 
 
-def flow_text(flow: int) -> str:
+def flow_text(flow: int, arrival: str) -> str:
     hops = ", ".join(hop_text(server, flow % 2) for server in range(HOPS))
     return (
         f'[[flow]]\nname = "f{flow}"\npacket = 12000\n'
-        f'arrival = {{ kind = "stair", period = 1000, jitter = 0 }}\npath = [{hops}]\n'
+        f"arrival = {arrival}\npath = [{hops}]\n"
     )
 
 
@@ -60,29 +74,42 @@ def trace_text(packets: int) -> str:
     return "".join(rows)
 
 
+def network_text(arrival: str) -> str:
+    servers = "".join(map(server_text, range(HOPS)))
+    return servers + "".join(flow_text(flow, arrival) for flow in range(FLOWS))
+
+
+def time_traces(program: str, net: Path, trace: Path, curves: str) -> bool:
+    """A line for each trace; false where the program has no such command."""
+    before = None
+    for packets in (1_000, 10_000):
+        trace.write_text(trace_text(packets))
+        began = time.monotonic()
+        run = subprocess.run([program, "simulate", str(net), str(trace)], capture_output=True, text=True)
+        took = time.monotonic() - began
+        if run.returncode == USAGE:
+            return False
+        steps = packets * 3 * HOPS
+        each = took / steps
+        ratio = "" if before is None else f", {each / before:.2f} times a step of the one before"
+        print(
+            f"{curves}: {packets} packets, {steps} steps: status {run.returncode}, {took:.3f} s, "
+            f"{1 / each:.0f} steps a second{ratio}"
+        )
+        before = each
+    return True
+
+
 def main() -> None:
     program = sys.argv[1]
-    before = None
     with tempfile.TemporaryDirectory() as folder:
         net = Path(folder) / "n.toml"
         trace = Path(folder) / "t.csv"
-        net.write_text("".join(map(server_text, range(HOPS))) + "".join(map(flow_text, range(FLOWS))))
-        for packets in (1_000, 10_000):
-            trace.write_text(trace_text(packets))
-            began = time.monotonic()
-            run = subprocess.run([program, "simulate", str(net), str(trace)], capture_output=True, text=True)
-            took = time.monotonic() - began
-            if run.returncode == USAGE:
+        for curves, arrival in ARRIVALS.items():
+            net.write_text(network_text(arrival))
+            if not time_traces(program, net, trace, curves):
                 print("the program has no command simulate")
                 return
-            steps = packets * (3 * HOPS)
-            each = took / steps
-            ratio = "" if before is None else f", {each / before:.2f} times a step of the one before"
-            print(
-                f"{packets} packets, {steps} steps: status {run.returncode}, {took:.3f} s, "
-                f"{1 / each:.0f} steps a second{ratio}"
-            )
-            before = each
 
 
 if __name__ == "__main__":

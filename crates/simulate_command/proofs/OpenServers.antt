@@ -1,6 +1,6 @@
 -- Servers of kind latency or gate that have no stall keep their service curves in the stated run, and break none.
 use Rattle.std.proofs.Common.{◌≡◌, ◌∙◌, ℕ, ◌<◌, List, [], ◌∷◌, map, length, arith, refl, sym, subst, ap, ap₂, inl, inr, Some, None}
-use Rattle.std.specs.Prelude.{Option, Bool, true, false, slice_get, slice_set}
+use Rattle.std.specs.Prelude.{All, Option, Bool, true, false, slice_get, slice_set}
 use Rattle.std.specs.Option.{option_map}
 use Rattle.std.proofs.lemmas.Bool.{cases_Bool, cases_eq, eq-eqb, ne_eqb}
 use Rattle.std.proofs.lemmas.Option.{slice_get_cases, slice_get-map, slice_get_within}
@@ -32,7 +32,7 @@ use Rattle.first_breaches.specs.Firsts.{TellsFirst, IsNetBreach}
 use Rattle.first_breaches.proofs.Parts.{have_curves, kept_is_not_slow}
 use Rattle.table_text.specs.Rows.{rows_of}
 use Rattle.command_replies.specs.Replies.{Reply}
-use Rattle.simulate_command.specs.Open.{is_by_formula, by_formula, less_stalled, open_servers}
+use Rattle.simulate_command.specs.Told.{is_by_formula, by_formula, less_stalled, open_servers}
 use Rattle.simulate_command.specs.OnTraces.{IsRunReport}
 use Rattle.simulate_command.specs.Laws.{OpenServersBreakNothing}
 use Rattle.simulate_command.proofs.Named.{named}
@@ -92,6 +92,23 @@ open_are_kept net trace run told a t n is e s l h =
 pub told_of : (servers : List Server) → map (λ (s : Server). is_by_formula s.kind) servers ≡ by_formula (servers_of servers)
 told_of [] = refl
 told_of (x ∷ xs) = ap (λ (bs : List Bool). is_by_formula x.kind ∷ bs) (told_of xs)
+
+-- as the code tells it
+pub told_fits : (net : Net) (trace : SpecTrace) (servers : List Server) (told : List Bool) (stalls : List Stall)
+    → servers_of servers ≡ net.servers → told ≡ map (λ (s : Server). is_by_formula s.kind) servers → stalls ≡ trace.stalls
+    → IsTraceOf net trace → All (λ (s : Stall). s.server < length told) stalls
+told_fits net trace servers told stalls e f g named =
+    let many : length told ≡ length net.servers =
+        ap length f ∙ length-map servers (λ (s : Server). is_by_formula s.kind) ∙ sym (length-map servers server_of) ∙ ap length e in
+    subst (All (λ (s : Stall). s.server < length told)) (sym g)
+    (subst (λ n. All (λ (s : Stall). s.server < n) trace.stalls) (sym many) named.servers)
+
+pub told_is : (net : Net) (trace : SpecTrace) (servers : List Server) (told : List Bool) (stalls : List Stall) (left : List Bool)
+    → servers_of servers ≡ net.servers → told ≡ map (λ (s : Server). is_by_formula s.kind) servers → stalls ≡ trace.stalls
+    → left ≡ less_stalled told stalls → left ≡ open_servers net trace
+told_is net trace servers told stalls left e f g h =
+    h ∙ ap (λ (bs : List Bool). less_stalled bs stalls) (f ∙ told_of servers ∙ ap by_formula e)
+    ∙ ap (less_stalled (by_formula net.servers)) g
 
 -- ---- what they break
 pub open_servers_break_nothing : OpenServersBreakNothing

@@ -1,5 +1,5 @@
 pub mod Curves
-pub mod Open
+pub mod Told
 pub mod Found
 pub mod OnTraces
 pub mod RunCounts

@@ -10,7 +10,7 @@ ghost use Rattle.command_replies.specs.View.{code_of, reply_of};
 ghost use Rattle.simulate_command.specs.Found.{IsMeasured, IsFoundIn, status_by, IsReportOn};
 ghost use Rattle.simulate_command.specs.OnTraces.{IsSimulationReply};
 
-use crate::open::open_servers;
+use crate::told::open_servers;
 use cell_table::{Analysis, Table, Value};
 use command_replies::{Answer, Status, sim_too_wide};
 use first_breaches::first_breach;

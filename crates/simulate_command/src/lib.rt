@@ -7,7 +7,7 @@ mod found;
 mod laws;
 mod on_files;
 mod on_net;
-mod open;
+mod told;
 
 pub use laws::{
     open_servers_break_nothing, quiet_runs_are_within_bounds, run_replies_are_complete,
