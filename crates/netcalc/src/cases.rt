@@ -1781,7 +1781,7 @@ packet,10000000,f1,8
 #[test]
 fn runs(rt: HostRuntime) -> Result<(), Fail> {
     let alloc = rt.alloc();
-    let rows: [(&str, &[(&str, &str)], u8, &str); 30] = [
+    let rows: [(&str, &[(&str, &str)], u8, &str); 33] = [
         // a_byte_that_is_not_plain
         (
             "netcalc simulate n.toml t.csv",
@@ -2455,6 +2455,117 @@ peak s1 1 6000 bound 8750
 breach none
 "#,
         ),
+        // gates_whose_spans_do_not_cancel
+        (
+            "netcalc simulate n.toml t.csv",
+            &[
+                (
+                    "n.toml",
+                    r#"[[server]]
+name = "g1"
+rate = 1
+service = { kind = "gate", cycle = 1099511627792, slot = 1099511627791 }
+
+[[server]]
+name = "g2"
+rate = 1
+service = { kind = "gate", cycle = 1099511627804, slot = 1099511627803 }
+
+[[server]]
+name = "g3"
+rate = 1
+service = { kind = "gate", cycle = 1099511627832, slot = 1099511627831 }
+
+[[server]]
+name = "g4"
+rate = 1
+service = { kind = "gate", cycle = 1099511627874, slot = 1099511627873 }
+
+[[server]]
+name = "g5"
+rate = 1
+service = { kind = "gate", cycle = 1099511627892, slot = 1099511627891 }
+
+[[server]]
+name = "g6"
+rate = 1
+service = { kind = "gate", cycle = 1099511627918, slot = 1099511627917 }
+
+[[server]]
+name = "g7"
+rate = 1
+service = { kind = "gate", cycle = 1099511627934, slot = 1099511627933 }
+
+[[server]]
+name = "g8"
+rate = 1
+service = { kind = "gate", cycle = 1099511627954, slot = 1099511627953 }
+
+[[flow]]
+name = "f1"
+packet = 1
+arrival = { kind = "bucket", burst = 1, rate = 0 }
+path = ["g1"]
+
+[[flow]]
+name = "f2"
+packet = 1
+arrival = { kind = "bucket", burst = 1, rate = 0 }
+path = ["g2"]
+
+[[flow]]
+name = "f3"
+packet = 1
+arrival = { kind = "bucket", burst = 1, rate = 0 }
+path = ["g3"]
+
+[[flow]]
+name = "f4"
+packet = 1
+arrival = { kind = "bucket", burst = 1, rate = 0 }
+path = ["g4"]
+
+[[flow]]
+name = "f5"
+packet = 1
+arrival = { kind = "bucket", burst = 1, rate = 0 }
+path = ["g5"]
+
+[[flow]]
+name = "f6"
+packet = 1
+arrival = { kind = "bucket", burst = 1, rate = 0 }
+path = ["g6"]
+
+[[flow]]
+name = "f7"
+packet = 1
+arrival = { kind = "bucket", burst = 1, rate = 0 }
+path = ["g7"]
+
+[[flow]]
+name = "f8"
+packet = 1
+arrival = { kind = "bucket", burst = 1, rate = 0 }
+path = ["g8"]
+"#,
+                ),
+                (
+                    "t.csv",
+                    r#"packet,0,f1,1
+packet,0,f2,1
+packet,0,f3,1
+packet,0,f4,1
+packet,0,f5,1
+packet,0,f6,1
+packet,0,f7,1
+packet,0,f8,1
+"#,
+                ),
+            ],
+            6,
+            "netcalc: too wide: simulation\n",
+        ),
         // no_trace_named
         (
             "netcalc simulate n.toml",
@@ -2494,6 +2605,248 @@ path = ["s1"]
             )],
             3,
             "netcalc: cannot read t.csv\n",
+        ),
+        // sixteen_gates_whose_spans_cancel
+        (
+            "netcalc simulate n.toml t.csv",
+            &[
+                (
+                    "n.toml",
+                    r#"[[server]]
+name = "g1"
+rate = 1
+service = { kind = "gate", cycle = 1099511627792, slot = 1099511627791 }
+
+[[server]]
+name = "g2"
+rate = 1
+service = { kind = "gate", cycle = 1099511627804, slot = 1099511627803 }
+
+[[server]]
+name = "g3"
+rate = 1
+service = { kind = "gate", cycle = 1099511627832, slot = 1099511627831 }
+
+[[server]]
+name = "g4"
+rate = 1
+service = { kind = "gate", cycle = 1099511627874, slot = 1099511627873 }
+
+[[server]]
+name = "g5"
+rate = 1
+service = { kind = "gate", cycle = 1099511627892, slot = 1099511627891 }
+
+[[server]]
+name = "g6"
+rate = 1
+service = { kind = "gate", cycle = 1099511627918, slot = 1099511627917 }
+
+[[server]]
+name = "g7"
+rate = 1
+service = { kind = "gate", cycle = 1099511627934, slot = 1099511627933 }
+
+[[server]]
+name = "g8"
+rate = 1
+service = { kind = "gate", cycle = 1099511627954, slot = 1099511627953 }
+
+[[server]]
+name = "g9"
+rate = 1
+service = { kind = "gate", cycle = 2199023255581, slot = 1099511627791 }
+
+[[server]]
+name = "g10"
+rate = 1
+service = { kind = "gate", cycle = 2199023255605, slot = 1099511627803 }
+
+[[server]]
+name = "g11"
+rate = 1
+service = { kind = "gate", cycle = 2199023255661, slot = 1099511627831 }
+
+[[server]]
+name = "g12"
+rate = 1
+service = { kind = "gate", cycle = 2199023255745, slot = 1099511627873 }
+
+[[server]]
+name = "g13"
+rate = 1
+service = { kind = "gate", cycle = 2199023255781, slot = 1099511627891 }
+
+[[server]]
+name = "g14"
+rate = 1
+service = { kind = "gate", cycle = 2199023255833, slot = 1099511627917 }
+
+[[server]]
+name = "g15"
+rate = 1
+service = { kind = "gate", cycle = 2199023255865, slot = 1099511627933 }
+
+[[server]]
+name = "g16"
+rate = 1
+service = { kind = "gate", cycle = 2199023255905, slot = 1099511627953 }
+
+[[flow]]
+name = "f1"
+packet = 1
+arrival = { kind = "bucket", burst = 1, rate = 0 }
+path = ["g1"]
+
+[[flow]]
+name = "f2"
+packet = 1
+arrival = { kind = "bucket", burst = 1, rate = 0 }
+path = ["g2"]
+
+[[flow]]
+name = "f3"
+packet = 1
+arrival = { kind = "bucket", burst = 1, rate = 0 }
+path = ["g3"]
+
+[[flow]]
+name = "f4"
+packet = 1
+arrival = { kind = "bucket", burst = 1, rate = 0 }
+path = ["g4"]
+
+[[flow]]
+name = "f5"
+packet = 1
+arrival = { kind = "bucket", burst = 1, rate = 0 }
+path = ["g5"]
+
+[[flow]]
+name = "f6"
+packet = 1
+arrival = { kind = "bucket", burst = 1, rate = 0 }
+path = ["g6"]
+
+[[flow]]
+name = "f7"
+packet = 1
+arrival = { kind = "bucket", burst = 1, rate = 0 }
+path = ["g7"]
+
+[[flow]]
+name = "f8"
+packet = 1
+arrival = { kind = "bucket", burst = 1, rate = 0 }
+path = ["g8"]
+
+[[flow]]
+name = "f9"
+packet = 1
+arrival = { kind = "bucket", burst = 1, rate = 0 }
+path = ["g9"]
+
+[[flow]]
+name = "f10"
+packet = 1
+arrival = { kind = "bucket", burst = 1, rate = 0 }
+path = ["g10"]
+
+[[flow]]
+name = "f11"
+packet = 1
+arrival = { kind = "bucket", burst = 1, rate = 0 }
+path = ["g11"]
+
+[[flow]]
+name = "f12"
+packet = 1
+arrival = { kind = "bucket", burst = 1, rate = 0 }
+path = ["g12"]
+
+[[flow]]
+name = "f13"
+packet = 1
+arrival = { kind = "bucket", burst = 1, rate = 0 }
+path = ["g13"]
+
+[[flow]]
+name = "f14"
+packet = 1
+arrival = { kind = "bucket", burst = 1, rate = 0 }
+path = ["g14"]
+
+[[flow]]
+name = "f15"
+packet = 1
+arrival = { kind = "bucket", burst = 1, rate = 0 }
+path = ["g15"]
+
+[[flow]]
+name = "f16"
+packet = 1
+arrival = { kind = "bucket", burst = 1, rate = 0 }
+path = ["g16"]
+"#,
+                ),
+                (
+                    "t.csv",
+                    r#"packet,0,f1,1
+packet,0,f2,1
+packet,0,f3,1
+packet,0,f4,1
+packet,0,f5,1
+packet,0,f6,1
+packet,0,f7,1
+packet,0,f8,1
+packet,0,f9,1
+packet,0,f10,1
+packet,0,f11,1
+packet,0,f12,1
+packet,0,f13,1
+packet,0,f14,1
+packet,0,f15,1
+packet,0,f16,1
+"#,
+                ),
+            ],
+            0,
+            r#"servers 16 flows 16
+run packets 16 end 1
+worst f1 1 bound 2
+worst f2 1 bound 2
+worst f3 1 bound 2
+worst f4 1 bound 2
+worst f5 1 bound 2
+worst f6 1 bound 2
+worst f7 1 bound 2
+worst f8 1 bound 2
+worst f9 1 bound 1099511627791
+worst f10 1 bound 1099511627803
+worst f11 1 bound 1099511627831
+worst f12 1 bound 1099511627873
+worst f13 1 bound 1099511627891
+worst f14 1 bound 1099511627917
+worst f15 1 bound 1099511627933
+worst f16 1 bound 1099511627953
+peak g1 0 1 bound 1
+peak g2 0 1 bound 1
+peak g3 0 1 bound 1
+peak g4 0 1 bound 1
+peak g5 0 1 bound 1
+peak g6 0 1 bound 1
+peak g7 0 1 bound 1
+peak g8 0 1 bound 1
+peak g9 0 1 bound 1
+peak g10 0 1 bound 1
+peak g11 0 1 bound 1
+peak g12 0 1 bound 1
+peak g13 0 1 bound 1
+peak g14 0 1 bound 1
+peak g15 0 1 bound 1
+peak g16 0 1 bound 1
+breach none
+"#,
         ),
         // the_first_flow_first
         (
@@ -2650,6 +3003,52 @@ run packets 3 end 260
 worst f1 60 bound 130
 peak s1 0 6000 bound 13300
 breach arrival f1 0 2
+"#,
+        ),
+        // two_gates_whose_spans_cancel
+        (
+            "netcalc simulate n.toml t.csv",
+            &[
+                (
+                    "n.toml",
+                    r#"[[server]]
+name = "g1"
+rate = 1
+service = { kind = "gate", cycle = "1267650600228229401496703205377", slot = "1267650600228229401496703205376" }
+
+[[server]]
+name = "g2"
+rate = 1
+service = { kind = "gate", cycle = "2535301200456458802993406410751", slot = "1267650600228229401496703205376" }
+
+[[flow]]
+name = "f1"
+packet = 1
+arrival = { kind = "bucket", burst = 1, rate = 0 }
+path = ["g1"]
+
+[[flow]]
+name = "f2"
+packet = 1
+arrival = { kind = "bucket", burst = 1, rate = 0 }
+path = ["g2"]
+"#,
+                ),
+                (
+                    "t.csv",
+                    r#"packet,0,f1,1
+packet,0,f2,1
+"#,
+                ),
+            ],
+            0,
+            r#"servers 2 flows 2
+run packets 2 end 1
+worst f1 1 bound 2
+worst f2 1 bound 1267650600228229401496703205376
+peak g1 0 1 bound 1
+peak g2 0 1 bound 1
+breach none
 "#,
         ),
         // two_hops_with_links

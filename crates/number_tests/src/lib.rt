@@ -17,3 +17,5 @@ mod lines;
 mod normal_forms;
 #[cfg(test)]
 mod own_limits;
+#[cfg(test)]
+mod wide;

@@ -37,7 +37,7 @@ use Rattle.stated_runs.proofs.Routed.{place_of}
 use Rattle.stated_runs.proofs.MadeSetups.{traces_make_setups}
 use Rattle.sim_bounds.specs.Horizons.{horizon, IsForward}
 use Rattle.sim_bounds.specs.Times.{IsGateWhole, IsGrid}
-use Rattle.sim_bounds.specs.Gauge.{gate_times, server_times, stall_times, trace_times, spans_of, rates_of, common_num, total_bits, simulation_numbers, simulation_sizes, simulation_gauge, grid_of}
+use Rattle.sim_bounds.specs.Gauge.{gate_times, server_times, stall_times, trace_times, rates_of, common_num, total_bits, simulation_numbers, simulation_sizes, simulation_gauge, grid_of}
 use Rattle.sim_bounds.proofs.Spans.{first_nonneg, enters_by, stalls_by}
 use Rattle.sim_bounds.proofs.InTime.{first_in_time}
 use Rattle.sim_bounds.proofs.TimesOf.{due_in_time, due_on_grid, times_of}
@@ -52,11 +52,17 @@ times_whole net trace t h =
     let all = horizon (setup_of net trace) ∷ (simulation_numbers net trace).times in
     whole_both (common_den all) (common_num (rates_of net)) t (each_in (Whole (common_den all)) all (common_den_each all) t (inr h))
 
+pub horizon_whole : (net : Net) (trace : SpecTrace) → Whole (grid_of net trace) (horizon (setup_of net trace))
+horizon_whole net trace =
+    let end = horizon (setup_of net trace) in
+    let all = end ∷ (simulation_numbers net trace).times in
+    whole_both (common_den all) (common_num (rates_of net)) end (each_in (Whole (common_den all)) all (common_den_each all) end (inl refl))
+
 -- those of the trace and the servers
 named_whole : (net : Net) (trace : SpecTrace) (t : ℚ) → In (trace_times trace ++ flat_map server_times net.servers) t → Whole (grid_of net trace) t
 named_whole net trace t h =
     let own = trace_times trace ++ flat_map server_times net.servers in
-    times_whole net trace t (in_left (own ++ spans_of net trace) _ t (in_left own (spans_of net trace) t h))
+    times_whole net trace t (in_left own _ t h)
 
 trace_whole : (net : Net) (trace : SpecTrace) (t : ℚ) → In (trace_times trace) t → Whole (grid_of net trace) t
 trace_whole net trace t h = named_whole net trace t (in_left (trace_times trace) (flat_map server_times net.servers) t h)

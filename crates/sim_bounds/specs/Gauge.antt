@@ -1,6 +1,6 @@
 -- The simulation gauge of a network and a trace. Where it is below 2 ^ 120, no number of a simulation is too wide. (Own
 -- choice.)
-use Rattle.std.specs.Prelude.{Option, Some, None, ℕ, zero, suc, length, ◌*◌, max, pos, nat_abs, Bool, ◌&&◌, List, [], ◌∷◌, ◌++◌, map, filter, sum_by}
+use Rattle.std.specs.Prelude.{Option, Some, None, ℕ, ◌*◌, max, pos, nat_abs, Bool, ◌&&◌, List, [], ◌∷◌, ◌++◌, map, filter, sum_by}
 use Rattle.std.specs.List.{flat_map}
 use Rattle.rational.specs.Rational.{ℚ, int, ◌+ℚ◌, ◌*ℚ◌, le_q}
 use Rattle.rational.specs.Gauge.{common_den, bound_of, lcm}
@@ -14,7 +14,7 @@ use Rattle.net_model.specs.Networks.{Net, NetServer, NetFlow}
 use Rattle.net_model.specs.Traces.{SpecTrace}
 use Rattle.stated_runs.specs.Setups.{GateTimes}
 use Rattle.stated_runs.specs.FromTraces.{gate_of, setup_of}
-use Rattle.sim_bounds.specs.Horizons.{span, horizon}
+use Rattle.sim_bounds.specs.Horizons.{horizon}
 
 -- ---- curves
 abbrev pub starts_at : ℚ → Span → Bool
@@ -60,16 +60,6 @@ stall_times s = s.start ∷ s.end ∷ []
 abbrev pub trace_times : SpecTrace → List ℚ
 trace_times trace = map (λ (p : TracePacket). p.time) trace.packets ++ flat_map stall_times trace.stalls
 
--- f at the numbers below n
-abbrev pub each_below : (ℕ → ℚ) → ℕ → List ℚ
-each_below f zero = []
-each_below f (suc n) = each_below f n ++ f n ∷ []
-
--- the servers' spans: the horizon is their sum and a first time, and may have a smaller denominator than a span, where parts
--- cancel; as each span counts, each sum on the way to the horizon is as wide as the gauge says, and no wider
-abbrev pub spans_of : Net → SpecTrace → List ℚ
-spans_of net trace = each_below (span (setup_of net trace)) (length net.servers)
-
 abbrev pub rates_of : Net → List ℚ
 rates_of net = map (λ (s : NetServer). s.rate) net.servers
 
@@ -79,11 +69,10 @@ common_num [] = 1
 common_num (x ∷ xs) = lcm (nat_abs x.num) (common_num xs)
 
 -- ---- the gauge
--- what counts: the times of the trace, the servers, their spans and the curves; the curves' values; their slopes, and the
--- rates
+-- what counts: the times of the trace, the servers and the curves; the curves' values; their slopes, and the rates
 abbrev pub simulation_numbers : Net → SpecTrace → Numbers
 simulation_numbers net trace = joined
-    record { times = trace_times trace ++ flat_map server_times net.servers ++ spans_of net trace; values = []; slopes = rates_of net }
+    record { times = trace_times trace ++ flat_map server_times net.servers; values = []; slopes = rates_of net }
     (numbers_of_curves (horizon (setup_of net trace)) (curves_of net))
 
 abbrev pub total_bits : SpecTrace → ℕ

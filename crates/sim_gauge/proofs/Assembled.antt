@@ -14,8 +14,8 @@ use Rattle.net_model.specs.Accepted.{IsAccepted}
 use Rattle.net_model.specs.Traces.{SpecTrace}
 use Rattle.stated_runs.specs.FromTraces.{setup_of}
 use Rattle.sim_bounds.specs.Horizons.{horizon}
-use Rattle.sim_bounds.specs.Gauge.{server_times, stall_times, trace_times, spans_of, rates_of, common_num, numbers_of_curves, arrivals_of, curves_of, simulation_numbers, total_bits, simulation_gauge}
-use Rattle.sim_gauge.specs.Named.{times_alone, packet_numbers, stall_numbers, server_numbers}
+use Rattle.sim_bounds.specs.Gauge.{server_times, stall_times, trace_times, rates_of, common_num, numbers_of_curves, arrivals_of, curves_of, simulation_numbers, total_bits, simulation_gauge}
+use Rattle.sim_gauge.specs.Named.{packet_numbers, stall_numbers, server_numbers}
 use Rattle.sim_gauge.proofs.Products.{finer, gauge_is, held_all}
 use Rattle.sim_gauge.proofs.Rates.{common_some}
 use Rattle.sim_gauge.proofs.SameGathered.{curves_split, gathers_equal, in_order}
@@ -28,12 +28,12 @@ arrivals net end = numbers_of_curves end (arrivals_of net.flows)
 
 -- ---- in the order of the code, or of the definition
 pub all_gathered : (g : Gathered) (net : Net) (trace : SpecTrace) (end : ℚ) → end ≡ horizon (setup_of net trace)
-    → Gathers g (joined (joined (joined (joined (joined (joined (times_alone (spans_of net trace)) (time_alone end)) (packet_numbers trace.packets)) (stall_numbers trace.stalls)) (server_numbers net.servers))
+    → Gathers g (joined (joined (joined (joined (joined (time_alone end) (packet_numbers trace.packets)) (stall_numbers trace.stalls)) (server_numbers net.servers))
     (services net end)) (arrivals net end))
     → Gathers g (joined (time_alone end) (simulation_numbers net trace))
 all_gathered g net trace end is h =
-    let own : Numbers = record { times = trace_times trace ++ flat_map server_times net.servers ++ spans_of net trace; values = []; slopes = rates_of net } in
-    let same = in_order end (spans_of net trace) (map (λ (p : TracePacket). p.time) trace.packets) (flat_map stall_times trace.stalls) (flat_map server_times net.servers) (rates_of net) (services net end) (arrivals net end) in
+    let own : Numbers = record { times = trace_times trace ++ flat_map server_times net.servers; values = []; slopes = rates_of net } in
+    let same = in_order end (map (λ (p : TracePacket). p.time) trace.packets) (flat_map stall_times trace.stalls) (flat_map server_times net.servers) (rates_of net) (services net end) (arrivals net end) in
     let one = gathers_equal g _ _ same h in
     let two : Gathers g (joined (time_alone end) (joined own (numbers_of_curves end (curves_of net)))) =
     subst (λ c. Gathers g (joined (time_alone end) (joined own c))) (curves_split end (map (λ (s : NetServer). s.service) net.servers) (arrivals_of net.flows)) one in
@@ -51,7 +51,7 @@ held_there net trace ok small =
     let bits = value_alone (int (pos (total_bits trace))) in
     let all = joined (simulation_numbers net trace) bits in
     let z = sizes_of end all in
-    let own : Numbers = record { times = trace_times trace ++ flat_map server_times net.servers ++ spans_of net trace; values = []; slopes = rates_of net } in
+    let own : Numbers = record { times = trace_times trace ++ flat_map server_times net.servers; values = []; slopes = rates_of net } in
     let most = finer (common_num (rates_of net)) z (common_some net ok) in
     let is = gauge_is net trace in
     let held : HeldBy z end (numbers_of_curves end (curves_of net)) =

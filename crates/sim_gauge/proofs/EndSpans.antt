@@ -1,5 +1,5 @@
 -- What of a curve starts at the end of its window, span by span.
-use Rattle.std.proofs.Common.{◌≡◌, ℕ, zero, suc, ◌<◌, ◌≤◌, ◌-◌, ◌^◌, List, [], ◌∷◌, ◌++◌, map, refl, sym, ap, ◌∙◌, subst, arith, inl, inr, append-nil, length, drop, drop_of_length-le}
+use Rattle.std.proofs.Common.{◌≡◌, ℕ, zero, suc, ◌<◌, ◌≤◌, List, [], ◌∷◌, ◌++◌, map, refl, sym, ap, ◌∙◌, subst, arith, inl, inr, append-nil, length, drop, drop_of_length-le}
 use Rattle.std.specs.Prelude.{Bool, true, false, ◌&&◌, cond, pos, filter}
 use Rattle.std.specs.List.{flat_map}
 use Rattle.std.proofs.lemmas.Bool.{cases_lt, cases_eq}
@@ -19,7 +19,6 @@ use Rattle.upp_curve.specs.Curve.{SpecCurve}
 use Rattle.upp_curve.specs.Unrolled.{copies_below}
 use Rattle.upp_limits.specs.Periods.{HasPeriod}
 use Rattle.upp_limits.specs.Spans.{Span, copy_of, copies_of, once_below, span_below, spans, spans_below}
-use Rattle.rational.specs.Gauge.{cap}
 use Rattle.upp_limits.specs.Limits.{Numbers, joined, time_alone, slopes_alone, line_slope, span_values, span_slopes, curve_numbers}
 use Rattle.upp_limits.specs.Seen.{seen_of, seen_risen}
 use Rattle.upp_limits.specs.ClosedForm.{seen_values, span_numbers, last_numbers}

@@ -3,7 +3,7 @@ use Rattle.std.proofs.Common.{◌≡◌, ℕ, ◌<◌, ◌+◌, List, ◌∷◌,
 use Rattle.std.specs.Prelude.{◌≢◌}
 use Rattle.std.proofs.lemmas.Bool.{eq-eqb, ne_eqb}
 use Rattle.std.proofs.lemmas.List.{drop_more}
-use Rattle.rational.specs.Rational.{ℚ, ◌+ℚ◌, ◌-ℚ◌, neg_ℚ, ◌*ℚ◌, ◌/ℚ◌}
+use Rattle.rational.specs.Rational.{ℚ, ◌+ℚ◌, ◌-ℚ◌, neg_ℚ, ◌/ℚ◌}
 use Rattle.rational.specs.Ratio.{SumFits}
 use Rattle.rational.proofs.Linear.{with6}
 use Rattle.rational.proofs.Laws.{antisym}
@@ -13,21 +13,29 @@ use Rattle.net_model.specs.declared.trace.TracePacket.{TracePacket}
 use Rattle.net_model.specs.declared.trace.Stall.{Stall}
 use Rattle.net_model.specs.Networks.{Net, NetServer}
 use Rattle.net_model.specs.Traces.{SpecTrace}
-use Rattle.stated_runs.specs.Setups.{StallTimes, Opening, rate_of}
+use Rattle.stated_runs.specs.Setups.{StallTimes, Opening}
 use Rattle.stated_runs.proofs.ServerSetups.{ServerIs}
 use Rattle.stated_runs.specs.FromTraces.{gate_of, stalls_at, entering, setup_of}
-use Rattle.sim_bounds.specs.Horizons.{path_bits, bits_through, load, gate_ratio, gate_cycle, stalled_for, span}
+use Rattle.sim_bounds.specs.Horizons.{path_bits, bits_through, load, stalled_for}
+use Rattle.sim_bounds.specs.Way.{open_time, gated_time, gated, plain_time, plain_span}
 use Rattle.sim_gauge.specs.Steps.{StallsFit}
 
--- the span, from a server's own fields
-pub own_span : (net : Net) (trace : SpecTrace) (s : ℕ) (x : NetServer) → ServerIs net trace s x
-    → span (setup_of net trace) s ≡ gate_ratio (gate_of x.kind) *ℚ (whole (load (setup_of net trace) s) /ℚ x.rate) +ℚ gate_cycle (gate_of x.kind)
-    +ℚ stalled_for (stalls_at s trace.stalls) +ℚ x.link
-own_span net trace s x k =
-    let n = whole (load (setup_of net trace) s) in
-    ap (λ (o : Opening). gate_ratio o.gate *ℚ (n /ℚ rate_of (setup_of net trace) s) +ℚ gate_cycle o.gate +ℚ stalled_for o.stalls +ℚ link_at (setup_of net trace).net s) k.opening
-    ∙ ap (λ r. gate_ratio (gate_of x.kind) *ℚ (n /ℚ r) +ℚ gate_cycle (gate_of x.kind) +ℚ stalled_for (stalls_at s trace.stalls) +ℚ link_at (setup_of net trace).net s) k.rate
-    ∙ ap (λ l. gate_ratio (gate_of x.kind) *ℚ (n /ℚ x.rate) +ℚ gate_cycle (gate_of x.kind) +ℚ stalled_for (stalls_at s trace.stalls) +ℚ l) k.link
+-- the parts of the span, from a server's own fields
+pub own_open : (net : Net) (trace : SpecTrace) (s : ℕ) (x : NetServer) → ServerIs net trace s x
+    → open_time (setup_of net trace) s ≡ whole (load (setup_of net trace) s) /ℚ x.rate
+own_open net trace s x k = ap (λ r. whole (load (setup_of net trace) s) /ℚ r) k.rate
+
+pub own_plain : (net : Net) (trace : SpecTrace) (s : ℕ) (x : NetServer) → ServerIs net trace s x
+    → plain_span (setup_of net trace) s
+    ≡ plain_time (gate_of x.kind) (open_time (setup_of net trace) s) +ℚ stalled_for (stalls_at s trace.stalls) +ℚ x.link
+own_plain net trace s x k =
+    let t = open_time (setup_of net trace) s in
+    ap (λ (o : Opening). plain_time o.gate t +ℚ stalled_for o.stalls +ℚ link_at (setup_of net trace).net s) k.opening
+    ∙ ap (λ l. plain_time (gate_of x.kind) t +ℚ stalled_for (stalls_at s trace.stalls) +ℚ l) k.link
+
+pub own_gated : (net : Net) (trace : SpecTrace) (s : ℕ) (x : NetServer) → ServerIs net trace s x
+    → gated (setup_of net trace) s ≡ gated_time (gate_of x.kind) (open_time (setup_of net trace) s)
+own_gated net trace s x k = ap (λ (o : Opening). gated_time o.gate (open_time (setup_of net trace) s)) k.opening
 
 -- ---- loops
 pub load_step : (net : Routes) (s : ℕ) (ps : List TracePacket) (i : ℕ) (d : TracePacket) → i < length ps

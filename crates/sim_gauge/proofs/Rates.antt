@@ -1,19 +1,18 @@
 -- The rates of a network are above 0, and so are their numerators.
 use Rattle.std.proofs.Common.{◌≡◌, ℕ, zero, suc, ◌<◌, ◌+◌, List, [], ◌∷◌, map, refl, sym, ap, ◌∙◌, subst, arith, inl, inr, length, get_or, drop, ◌-◌, ◌≤◌}
-use Rattle.std.specs.Prelude.{ℤ, pos, negsuc, nat_abs}
+use Rattle.std.specs.Prelude.{pos, nat_abs}
 use Rattle.std.specs.List.{AllByRecursion}
 use Rattle.std.proofs.lemmas.List.{drop_more}
 use Rattle.rational.specs.Gauge.{Kept, lcm}
 use Rattle.net_model.specs.declared.server.Server.{Server}
 use Rattle.net_model.specs.Views.{servers_of}
-use Rattle.rational.specs.Rational.{ℚ, int, ◌<ℚ◌}
-use Rattle.rational.proofs.Laws.{not_zero, num_some}
+use Rattle.rational.specs.Rational.{int, ◌<ℚ◌}
 use Rattle.net_model.specs.Networks.{Net, NetServer}
 use Rattle.net_model.specs.Accepted.{IsAccepted}
 use Rattle.stated_runs.proofs.Lists.{In, in_contains}
 use Rattle.upp_limits.proofs.Every.{every_map}
 use Rattle.sim_bounds.specs.Gauge.{rates_of, common_num}
-use Rattle.sim_bounds.proofs.Gauged.{num_pos, common_num_pos}
+use Rattle.sim_bounds.proofs.Gauged.{common_num_pos}
 
 each_rate : (xs : List NetServer) → ((x : NetServer) → In xs x → int (pos 0) <ℚ x.rate) → AllByRecursion (λ (x : NetServer). int (pos 0) <ℚ x.rate) xs
 each_rate [] h = tt

@@ -1,16 +1,13 @@
 -- Steps on times that have room.
 use Rattle.std.proofs.Common.{◌≡◌, ℕ, ◌≤◌, List, [], ◌∷◌, ◌++◌, sym, ◌∙◌, subst, arith, append_assoc}
-use Rattle.std.specs.Prelude.{pos}
-use Rattle.rational.specs.Rational.{ℚ, int, ◌+ℚ◌, ◌-ℚ◌, neg_ℚ, ◌*ℚ◌, ◌≤ℚ◌}
-use Rattle.rational.specs.Grid.{Within}
-use Rattle.rational.specs.Ratio.{IsSmall, SumFits}
+use Rattle.rational.specs.Rational.{ℚ, ◌+ℚ◌, ◌-ℚ◌}
+use Rattle.rational.specs.Ratio.{SumFits}
 use Rattle.rational.proofs.Linear.{with1, with2, with3}
-use Rattle.rational.proofs.Laws.{le_trans, mul_le_mul_right, antisym}
-use Rattle.rational.proofs.Integers.{nat_nonneg}
-use Rattle.rational.proofs.Grid.{whole_sub, within_nonneg}
-use Rattle.rational.proofs.Sizes.{largest_part, small_on_grid, sum_on_grid, difference_on_grid}
+use Rattle.rational.proofs.Laws.{antisym}
+use Rattle.rational.proofs.Grid.{whole_sub}
+use Rattle.rational.proofs.Sizes.{largest_part, sum_on_grid}
 use Rattle.stated_runs.specs.Setups.{StallTimes}
-use Rattle.stated_runs.proofs.GridTimes.{within, room_two, sum_fits, difference_fits, time_fits}
+use Rattle.stated_runs.proofs.GridTimes.{within, room_two, difference_fits}
 use Rattle.stated_runs.specs.TimeGrids.{HasRoom, IsTime, AreStallTimes}
 use Rattle.sim_bounds.specs.Horizons.{stalled_for}
 use Rattle.sim_gauge.specs.Steps.{StallsFit}

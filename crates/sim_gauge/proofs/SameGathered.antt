@@ -34,44 +34,23 @@ pub curves_split : (end : ℚ) (xs ys : List SpecCurve) → joined (numbers_of_c
 curves_split end [] ys = refl
 curves_split end (c ∷ cs) ys = joined_assoc (numbers_to end c) (numbers_of_curves end cs) (numbers_of_curves end ys) ∙ ap (joined (numbers_to end c)) (curves_split end cs ys)
 
--- ---- the spans first, or after the times of the servers
-there : (P : ℚ → Type 0) (end : ℚ) (w p q r c d : List ℚ) → AllByRecursion P (w ++ (end ∷ []) ++ p ++ q ++ r ++ c ++ d)
-    → AllByRecursion P (end ∷ (p ++ q ++ r ++ w ++ (c ++ d)))
-there P end w p q r c d h =
-    let h5 = every_left P (w ++ (end ∷ []) ++ p ++ q ++ r ++ c) d h in
-    let h4 = every_left P (w ++ (end ∷ []) ++ p ++ q ++ r) c h5 in
-    let h3 = every_left P (w ++ (end ∷ []) ++ p ++ q) r h4 in
-    let h2 = every_left P (w ++ (end ∷ []) ++ p) q h3 in
-    let h1 = every_left P (w ++ (end ∷ [])) p h2 in
-    let ew = every_left P w (end ∷ []) h1 in
-    let ee = every_right P w (end ∷ []) h1 in
-    let ep = every_right P (w ++ (end ∷ [])) p h2 in
-    let eq = every_right P (w ++ (end ∷ []) ++ p) q h3 in
-    let er = every_right P (w ++ (end ∷ []) ++ p ++ q) r h4 in
-    let ec = every_right P (w ++ (end ∷ []) ++ p ++ q ++ r) c h5 in
-    let ed = every_right P (w ++ (end ∷ []) ++ p ++ q ++ r ++ c) d h in (
-      ee.0,
-      every_append P (p ++ q ++ r ++ w) (c ++ d) (every_append P (p ++ q ++ r) w (every_append P (p ++ q) r (every_append P p q ep eq) er) ew) (every_append P c d ec ed),
-    )
+-- ---- the horizon first, then the numbers in the order of the code or of the definition
+there : (P : ℚ → Type 0) (end : ℚ) (p q r c d : List ℚ) → AllByRecursion P ((end ∷ []) ++ p ++ q ++ r ++ c ++ d)
+    → AllByRecursion P (end ∷ (p ++ q ++ r ++ (c ++ d)))
+there P end p q r c d h =
+    let h5 = every_left P ((end ∷ []) ++ p ++ q ++ r ++ c) d h in
+    let h4 = every_left P ((end ∷ []) ++ p ++ q ++ r) c h5 in
+    let ec = every_right P ((end ∷ []) ++ p ++ q ++ r) c h5 in
+    let ed = every_right P ((end ∷ []) ++ p ++ q ++ r ++ c) d h in
+    (h4.0, every_append P (p ++ q ++ r) (c ++ d) h4.1 (every_append P c d ec ed))
 
-back : (P : ℚ → Type 0) (end : ℚ) (w p q r c d : List ℚ) → AllByRecursion P (end ∷ (p ++ q ++ r ++ w ++ (c ++ d)))
-    → AllByRecursion P (w ++ (end ∷ []) ++ p ++ q ++ r ++ c ++ d)
-back P end w p q r c d h =
-    let own = every_left P (p ++ q ++ r ++ w) (c ++ d) h.1 in
-    let both = every_right P (p ++ q ++ r ++ w) (c ++ d) h.1 in
-    let h3 = every_left P (p ++ q ++ r) w own in
-    let h2 = every_left P (p ++ q) r h3 in
-    let ew = every_right P (p ++ q ++ r) w own in
-    let er = every_right P (p ++ q) r h3 in
-    let ep = every_left P p q h2 in
-    let eq = every_right P p q h2 in
-    let ec = every_left P c d both in
-    let ed = every_right P c d both in
-    every_append P (w ++ (end ∷ []) ++ p ++ q ++ r ++ c) d
-    (every_append P (w ++ (end ∷ []) ++ p ++ q ++ r) c
-    (every_append P (w ++ (end ∷ []) ++ p ++ q) r
-    (every_append P (w ++ (end ∷ []) ++ p) q
-    (every_append P (w ++ (end ∷ [])) p (every_append P w (end ∷ []) ew (h.0, tt)) ep) eq) er) ec) ed
+back : (P : ℚ → Type 0) (end : ℚ) (p q r c d : List ℚ) → AllByRecursion P (end ∷ (p ++ q ++ r ++ (c ++ d)))
+    → AllByRecursion P ((end ∷ []) ++ p ++ q ++ r ++ c ++ d)
+back P end p q r c d h =
+    let own = every_left P (p ++ q ++ r) (c ++ d) h.1 in
+    let both = every_right P (p ++ q ++ r) (c ++ d) h.1 in
+    every_append P ((end ∷ []) ++ p ++ q ++ r ++ c) d
+    (every_append P ((end ∷ []) ++ p ++ q ++ r) c (h.0, own) (every_left P c d both)) (every_right P c d both)
 
 slopes_there : (P : ℚ → Type 0) (r c d : List ℚ) → AllByRecursion P (r ++ c ++ d) → AllByRecursion P (r ++ (c ++ d))
 slopes_there P r c d h =
@@ -83,17 +62,17 @@ slopes_back P r c d h =
     let k = every_right P r (c ++ d) h in
     every_append P (r ++ c) d (every_append P r c (every_left P r (c ++ d) h) (every_left P c d k)) (every_right P c d k)
 
-pub in_order : (end : ℚ) (w p q r s : List ℚ) (c d : Numbers)
-    → Equals (joined (joined (joined (joined (joined (joined (times_alone w) (time_alone end)) (times_alone p)) (times_alone q)) record { times = r; values = []; slopes = s }) c) d)
-    (joined (time_alone end) (joined record { times = p ++ q ++ r ++ w; values = []; slopes = s } (joined c d)))
-in_order end w p q r s c d = record {
+pub in_order : (end : ℚ) (p q r s : List ℚ) (c d : Numbers)
+    → Equals (joined (joined (joined (joined (joined (time_alone end) (times_alone p)) (times_alone q)) record { times = r; values = []; slopes = s }) c) d)
+    (joined (time_alone end) (joined record { times = p ++ q ++ r; values = []; slopes = s } (joined c d)))
+in_order end p q r s c d = record {
   there = λ T V S g f h. record {
-    times = there T end w p q r c.times d.times h.times;
+    times = there T end p q r c.times d.times h.times;
     values = h.values;
     slopes = slopes_there S s c.slopes d.slopes h.slopes;
   };
   back = λ T V S g f h. record {
-    times = back T end w p q r c.times d.times h.times;
+    times = back T end p q r c.times d.times h.times;
     values = h.values;
     slopes = slopes_back S s c.slopes d.slopes h.slopes;
   };

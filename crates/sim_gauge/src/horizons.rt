@@ -1,32 +1,21 @@
 //! The horizon: no time of a simulation is past it.
 
-ghost use Rattle.std.specs.Prelude.{◌≡◌, ◌<◌, ℕ, IfSome, IsSome, length};
-ghost use Rattle.rational.specs.Rational.{ℚ, ◌+ℚ◌};
+ghost use Rattle.std.specs.Prelude.{◌≡◌, ◌<◌, ℕ, pos, IfOk, IfSome, IsSome, length};
+ghost use Rattle.std.specs.List.{AllByRecursion};
+ghost use Rattle.rational.specs.Rational.{ℚ, int, ◌+ℚ◌, ◌*ℚ◌, ◌≤ℚ◌};
 ghost use Rattle.rational.specs.Ratio.{SumFits};
-ghost use Rattle.rational.specs.MinMax.{max_q};
+ghost use Rattle.wide_sums.specs.Sums.{IsFromZero, sum_of_products};
 ghost use Rattle.stated_runs.specs.FromTraces.{setup_of, IsTraceOf};
-ghost use Rattle.sim_bounds.specs.Horizons.{first_time, span, horizon};
-ghost use Rattle.sim_bounds.specs.Way.{HorizonFits};
-ghost use Rattle.sim_bounds.specs.Gauge.{spans_of};
-ghost use Rattle.upp_limits.specs.Limits.{Numbers, joined, time_alone};
-ghost use Rattle.upp_limits.specs.Gathered.{Gathers};
-ghost use Rattle.sim_gauge.specs.Named.{times_alone};
+ghost use Rattle.sim_bounds.specs.Horizons.{first_time, sum_below, horizon};
+ghost use Rattle.sim_bounds.specs.Way.{open_time, gated, plain_span, HorizonFits};
 
 use crate::loads::load;
-use crate::spans::{cycle_of, stalled, work_time};
+use crate::spans::{gate_product, no_product, plain_time, stalled, work_time};
 use crate::steps::plus;
 use fraction128::{Frac, greater};
-use net_model::{Network, Trace};
-use upp_limits::gathered::Gathered;
-
-/// The end of what was looked at so far, and the sizes of the numbers met.
-#[derive(Debug, Clone, Copy)]
-pub(crate) struct Way {
-    /// The latest time so far.
-    pub end: Frac,
-    /// The sizes.
-    pub found: Gathered,
-}
+use net_model::{Network, ServiceKind, Trace};
+use std::alloc::{AllocError, Global};
+use wide_sums::{Product, sum_of_products};
 
 /// The latest of the times at which packets enter and stalls end, and 0 where there is none.
 fn first_time(net: &Network, trace: &Trace) -> Frac
@@ -43,75 +32,132 @@ fn first_time(net: &Network, trace: &Trace) -> Frac
     latest
 }
 
-/// What a server's span is made of: its work and its cycle, its stalls, and its link.
-fn span_with(worked: Frac, cycle: Frac, stalled: Frac, link: Frac) -> Option<Frac>
-    ensures value { IfSome result (λ t. t ≡ worked +ℚ cycle +ℚ stalled +ℚ link) }
-    ensures fits { SumFits worked cycle → SumFits (worked +ℚ cycle) stalled → SumFits (worked +ℚ cycle +ℚ stalled) link → IsSome result }
+/// What a server's span is made of, but for a gate's work: its work or its cycle, its stalls, and its link.
+fn span_with(plain: Frac, stalled: Frac, link: Frac) -> Option<Frac>
+    ensures value { IfSome result (λ t. t ≡ plain +ℚ stalled +ℚ link) }
+    ensures fits { SumFits plain stalled → SumFits (plain +ℚ stalled) link → IsSome result }
 {
-    match plus(worked, cycle) {
-        Some(work_span) => match plus(work_span, stalled) {
-            Some(closed) => plus(closed, link),
-            None => None,
-        },
+    match plus(plain, stalled) {
+        Some(closed) => plus(closed, link),
         None => None,
     }
 }
 
-/// The span of a server.
-fn span_of(net: &Network, trace: &Trace, server: u32) -> Option<Frac>
+/// How long a server would work on all packets that pass it if it were always open.
+fn open_time(net: &Network, trace: &Trace, server: u32) -> Option<Frac>
     requires { server < length net.now.servers }
-    ensures value { IfSome result (λ t. t ≡ span (setup_of net.now trace.now) server) }
+    ensures value { IfSome result (λ t. t ≡ open_time (setup_of net.now trace.now) server) }
+    ensures from_zero { IfSome result (λ t. int (pos 0) ≤ℚ t) }
+    ensures fits { (d : ℕ) (e : ℚ) → HorizonFits (setup_of net.now trace.now) d e → IsSome result }
+{
+    let bits = load(net, trace, server);
+    work_time(net.servers()[server as usize].rate, bits)
+}
+
+/// The span of a server, but for a gate's work.
+fn plain_span(net: &Network, trace: &Trace, server: u32) -> Option<Frac>
+    requires { server < length net.now.servers }
+    ensures value { IfSome result (λ t. t ≡ plain_span (setup_of net.now trace.now) server) }
     ensures fits { (d : ℕ) (e : ℚ) → HorizonFits (setup_of net.now trace.now) d e → IsSome result }
 {
     let found = &net.servers()[server as usize];
-    let bits = load(net, trace, server);
-    match work_time(found.rate, &found.kind, bits) {
-        Some(worked) => match stalled(trace.stalls(), server) {
-            Some(stalled) => span_with(worked, cycle_of(&found.kind), stalled, found.link),
+    match open_time(net, trace, server) {
+        Some(time) => match stalled(trace.stalls(), server) {
+            Some(stalled) => span_with(plain_time(&found.kind, time), stalled, found.link),
             None => None,
         },
         None => None,
     }
 }
 
-/// The horizon up to a server, and its span more, which counts as a time.
-fn with_span(way: Way, net: &Network, trace: &Trace, server: u32) -> Option<Way>
+/// The plain span of a server more.
+fn with_span(sum: Frac, net: &Network, trace: &Trace, server: u32) -> Option<Frac>
     requires { server < length net.now.servers }
-    ensures value { IfSome result (λ w. w.end ≡ way.end +ℚ span (setup_of net.now trace.now) server) }
-    ensures found { IfSome result (λ w. (n : Numbers) → Gathers way.found n
-        → Gathers w.found (joined n (time_alone (span (setup_of net.now trace.now) server)))) }
+    ensures value { IfSome result (λ t. t ≡ sum +ℚ plain_span (setup_of net.now trace.now) server) }
     ensures fits { (d : ℕ) (e : ℚ) → HorizonFits (setup_of net.now trace.now) d e
-        → SumFits way.end (span (setup_of net.now trace.now) server) → IsSome result }
+        → SumFits sum (plain_span (setup_of net.now trace.now) server) → IsSome result }
 {
-    match span_of(net, trace, server) {
-        Some(span) => match plus(way.end, span) {
-            Some(end) => Some(Way {
-                end,
-                found: way.found.with_time(span),
-            }),
-            None => None,
-        },
+    match plain_span(net, trace, server) {
+        Some(span) => plus(sum, span),
         None => None,
     }
 }
 
-/// The first time and the spans of all servers, and the sizes of the spans. None only where a step on the way does not
-/// fit, which shows that the simulation gauge is 2^120 or more.
-pub(crate) fn horizon(net: &Network, trace: &Trace) -> Option<Way>
+/// The first time and the spans of all servers, but for the work of gates.
+fn plain_horizon(net: &Network, trace: &Trace) -> Option<Frac>
     requires { IsTraceOf net.now trace.now }
-    ensures value { IfSome result (λ w. w.end ≡ horizon (setup_of net.now trace.now)) }
-    ensures found { IfSome result (λ w. Gathers w.found (times_alone (spans_of net.now trace.now))) }
+    ensures value { IfSome result (λ t. t ≡ first_time (setup_of net.now trace.now)
+        +ℚ sum_below (plain_span (setup_of net.now trace.now)) (length net.now.servers)) }
     ensures fits { (d : ℕ) (e : ℚ) → HorizonFits (setup_of net.now trace.now) d e → IsSome result }
 {
-    let mut way = Way {
-        end: first_time(net, trace),
-        found: Gathered::nothing(),
-    };
+    let mut sum = first_time(net, trace);
     for server in 0..net.servers().len() {
-        match with_span(way, net, trace, server as u32) {
-            Some(more) => way = more,
+        match with_span(sum, net, trace, server as u32) {
+            Some(more) => sum = more,
             None => return None,
         }
     }
-    Some(way)
+    Some(sum)
+}
+
+/// How long a server works as a gate, as a product: its cycle over its slot, times the time that its bits take when it is
+/// open. Where there is no gate the product is 0.
+fn gated(net: &Network, trace: &Trace, server: u32) -> Option<Product>
+    requires { server < length net.now.servers }
+    ensures value { IfSome result (λ p. p.left *ℚ p.right ≡ gated (setup_of net.now trace.now) server) }
+    ensures from_zero { IfSome result IsFromZero }
+    ensures fits { (d : ℕ) (e : ℚ) → HorizonFits (setup_of net.now trace.now) d e → IsSome result }
+{
+    match &net.servers()[server as usize].kind {
+        ServiceKind::Gate { cycle, slot } => match open_time(net, trace, server) {
+            Some(time) => gate_product(*cycle, *slot, time),
+            None => None,
+        },
+        ServiceKind::Latency(_) => Some(no_product()),
+        ServiceKind::Listed => Some(no_product()),
+    }
+}
+
+/// How long each server works as a gate.
+fn all_gated(
+    alloc: Global,
+    net: &Network,
+    trace: &Trace,
+) -> Result<Option<Vec<Product>>, AllocError>
+    ensures value { IfOk result (λ found. IfSome found (λ ps.
+        sum_of_products ps.items ≡ sum_below (gated (setup_of net.now trace.now)) (length net.now.servers))) }
+    ensures from_zero { IfOk result (λ found. IfSome found (λ ps. AllByRecursion IsFromZero ps.items)) }
+    ensures fits { (d : ℕ) (e : ℚ) → HorizonFits (setup_of net.now trace.now) d e → IfOk result (λ found. IsSome found) }
+{
+    let mut products = Vec::new(alloc);
+    for server in 0..net.servers().len() {
+        match gated(net, trace, server as u32) {
+            Some(product) => products.push(product)?,
+            None => return Ok(None),
+        }
+    }
+    Ok(Some(products))
+}
+
+/// The horizon. None only where a number on the way, with the work of all gates in one exact sum, does not fit, which shows
+/// that the simulation gauge is 2^120 or more. It fails only where memory is refused.
+pub(crate) fn horizon(
+    alloc: Global,
+    net: &Network,
+    trace: &Trace,
+) -> Result<Option<Frac>, AllocError>
+    requires { IsTraceOf net.now trace.now }
+    ensures value { IfOk result (λ found. IfSome found (λ t. t ≡ horizon (setup_of net.now trace.now))) }
+    ensures fits { (d : ℕ) (e : ℚ) → HorizonFits (setup_of net.now trace.now) d e → IfOk result (λ found. IsSome found) }
+{
+    match plain_horizon(net, trace) {
+        Some(plain) => match all_gated(alloc, net, trace)? {
+            Some(products) => match sum_of_products(alloc, &products)? {
+                Some(gated) => Ok(plus(plain, gated)),
+                None => Ok(None),
+            },
+            None => Ok(None),
+        },
+        None => Ok(None),
+    }
 }

@@ -1,55 +1,68 @@
-//! The span of a server: how long it works on all packets that pass it, its closed times with it, and its link.
+//! The parts of a server's span: how long it works on all packets that pass it, its closed times, and its link.
 
-ghost use Rattle.std.specs.Prelude.{◌≡◌, ◌≢◌, pos, IfSome, IsSome};
-ghost use Rattle.rational.specs.Rational.{int, ◌+ℚ◌, ◌-ℚ◌, neg_ℚ, ◌*ℚ◌, ◌/ℚ◌};
+ghost use Rattle.std.specs.Prelude.{◌≡◌, pos, IfSome, IsSome};
+ghost use Rattle.rational.specs.Rational.{int, ◌+ℚ◌, ◌-ℚ◌, neg_ℚ, ◌*ℚ◌, ◌/ℚ◌, ◌≤ℚ◌, ◌<ℚ◌};
 ghost use Rattle.rational.specs.Ratio.{IsSmall, SumFits};
+ghost use Rattle.wide_sums.specs.Sums.{IsFromZero};
 ghost use Rattle.run_laws.specs.Cards.{whole};
-ghost use Rattle.stated_runs.specs.Setups.{IsGateFor};
 ghost use Rattle.stated_runs.specs.FromTraces.{gate_of, stalls_at};
-ghost use Rattle.sim_bounds.specs.Horizons.{gate_ratio, gate_cycle, stalled_for};
-ghost use Rattle.sim_gauge.specs.Steps.{WorkFits, StallsFit};
+ghost use Rattle.sim_bounds.specs.Horizons.{stalled_for};
+ghost use Rattle.sim_bounds.specs.Way.{plain_time};
+ghost use Rattle.sim_gauge.specs.Steps.{StallsFit};
 
-use crate::steps::{minus, over, plus, times};
+use crate::steps::{minus, over, plus};
 use fraction128::Frac;
 use net_model::{ServiceKind, Stall};
+use wide_sums::Product;
 
-/// A gate's cycle over its slot, and 1 where there is no gate.
-fn ratio_of(kind: &ServiceKind) -> Option<Frac>
-    requires { IsGateFor (gate_of kind.now) }
-    ensures value { IfSome result (λ t. t ≡ gate_ratio (gate_of kind.now)) }
-    ensures fits { IsSmall (gate_ratio (gate_of kind.now)) → IsSome result }
+/// How long a server works on so many bits while it is open.
+pub(crate) fn work_time(rate: Frac, bits: u64) -> Option<Frac>
+    requires { int (pos 0) <ℚ rate }
+    ensures value { IfSome result (λ t. t ≡ whole bits /ℚ rate) }
+    ensures from_zero { IfSome result (λ t. int (pos 0) ≤ℚ t) }
+    ensures fits { IsSmall (whole bits /ℚ rate) → IsSome result }
 {
-    match kind {
-        ServiceKind::Gate { cycle, slot } => over(*cycle, *slot),
-        ServiceKind::Latency(_) => Some(Frac::one()),
-        ServiceKind::Listed => Some(Frac::one()),
-    }
+    over(Frac::from_whole(bits as i128), rate)
 }
 
-/// How long a server works on so many bits, where it is open for its share of the time.
-pub(crate) fn work_time(rate: Frac, kind: &ServiceKind, bits: u64) -> Option<Frac>
-    requires rate { rate ≢ int (pos 0) }
-    requires gate { IsGateFor (gate_of kind.now) }
-    ensures value { IfSome result (λ t. t ≡ gate_ratio (gate_of kind.now) *ℚ (whole bits /ℚ rate)) }
-    ensures fits { WorkFits (gate_of kind.now) (whole bits /ℚ rate) → IsSome result }
+/// How long a gate works on what takes it so long when it is open, as a product. None only where its cycle over its slot
+/// does not fit.
+pub(crate) fn gate_product(cycle: Frac, slot: Frac, time: Frac) -> Option<Product>
+    requires some { int (pos 0) <ℚ slot }
+    requires within { slot ≤ℚ cycle }
+    requires from_zero { int (pos 0) ≤ℚ time }
+    ensures value { IfSome result (λ p. p.left *ℚ p.right ≡ (cycle /ℚ slot) *ℚ time) }
+    ensures from_zero { IfSome result IsFromZero }
+    ensures fits { IsSmall (cycle /ℚ slot) → IsSome result }
 {
-    match over(Frac::from_whole(bits as i128), rate) {
-        Some(time) => match ratio_of(kind) {
-            Some(ratio) => times(ratio, time),
-            None => None,
-        },
+    match over(cycle, slot) {
+        Some(ratio) => Some(Product {
+            left: ratio,
+            right: time,
+        }),
         None => None,
     }
 }
 
-/// A gate's cycle, and 0 where there is no gate.
-pub(crate) fn cycle_of(kind: &ServiceKind) -> Frac
-    ensures { result ≡ gate_cycle (gate_of kind.now) }
+/// The product of a server without a gate.
+pub(crate) fn no_product() -> Product
+    ensures value { result.left *ℚ result.right ≡ int (pos 0) }
+    ensures from_zero { IsFromZero result }
+{
+    Product {
+        left: Frac::zero(),
+        right: Frac::zero(),
+    }
+}
+
+/// A gate's cycle, and where there is no gate the time for the work.
+pub(crate) fn plain_time(kind: &ServiceKind, time: Frac) -> Frac
+    ensures { result ≡ plain_time (gate_of kind.now) time }
 {
     match kind {
         ServiceKind::Gate { cycle, .. } => *cycle,
-        ServiceKind::Latency(_) => Frac::zero(),
-        ServiceKind::Listed => Frac::zero(),
+        ServiceKind::Latency(_) => time,
+        ServiceKind::Listed => time,
     }
 }
 

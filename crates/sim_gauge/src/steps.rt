@@ -1,7 +1,7 @@
 //! Steps of arithmetic that may not fit.
 
 ghost use Rattle.std.specs.Prelude.{◌≡◌, ◌≢◌, pos, IfSome, IsSome};
-ghost use Rattle.rational.specs.Rational.{int, ◌+ℚ◌, ◌-ℚ◌, neg_ℚ, ◌*ℚ◌, ◌/ℚ◌};
+ghost use Rattle.rational.specs.Rational.{int, ◌+ℚ◌, ◌-ℚ◌, neg_ℚ, ◌/ℚ◌};
 ghost use Rattle.rational.specs.Ratio.{IsSmall, SumFits};
 
 use fraction128::Frac;
@@ -24,17 +24,6 @@ pub(crate) fn minus(a: Frac, b: Frac) -> Option<Frac>
 {
     match Frac::sub(a, b) {
         Ok(difference) => Some(difference),
-        Err(_) => None,
-    }
-}
-
-/// a b, where it fits.
-pub(crate) fn times(a: Frac, b: Frac) -> Option<Frac>
-    ensures value { IfSome result (λ f. f ≡ a *ℚ b) }
-    ensures fits { IsSmall (a *ℚ b) → IsSome result }
-{
-    match Frac::mul(a, b) {
-        Ok(product) => Some(product),
         Err(_) => None,
     }
 }

@@ -1,47 +1,42 @@
 //! Whether the simulation gauge is too large.
 
-ghost use Rattle.std.specs.Prelude.{ℕ, ◌≡◌, ◌↔◌, ◌<◌, ◌≤◌, ◌^◌, IfSome, IsSome, IsTrue, map, nat_abs, pos};
+ghost use Rattle.std.specs.Prelude.{ℕ, ◌≡◌, ◌↔◌, ◌<◌, ◌≤◌, ◌^◌, IfOk, IfSome, IsSome, IsTrue, length, map, nat_abs, pos, sum_by};
 ghost use Rattle.std.specs.List.{AllByRecursion};
 ghost use Rattle.rational.specs.Rational.{int, ◌<ℚ◌};
 ghost use Rattle.rational.specs.Gauge.{Kept};
 ghost use Rattle.upp_limits.specs.Limits.{Numbers, joined, time_alone, sizes_of};
 ghost use Rattle.upp_limits.specs.Gathered.{Gathers};
+ghost use Rattle.net_model.specs.declared.trace.TracePacket.{TracePacket};
 ghost use Rattle.net_model.specs.Networks.{NetServer};
 ghost use Rattle.net_model.specs.Views.{servers_of};
 ghost use Rattle.net_model.specs.Walks.{IsFeedForward};
 ghost use Rattle.stated_runs.specs.FromTraces.{setup_of, IsTraceOf};
 ghost use Rattle.sim_bounds.specs.Horizons.{horizon};
-ghost use Rattle.sim_bounds.specs.Gauge.{common_num, simulation_numbers, simulation_gauge, total_bits};
+ghost use Rattle.sim_bounds.specs.Gauge.{common_num, simulation_numbers, simulation_gauge};
 ghost use Rattle.sim_gauge.specs.Rated.{gauge_with};
 
 use crate::curves::{with_arrivals, with_services};
-use crate::horizons::{Way, horizon};
+use crate::horizons::horizon;
 use crate::named::{with_packets, with_servers, with_stalls};
 use fraction128::Frac;
-use net_model::{Network, Server, Trace};
+use net_model::{Network, Server, Trace, TracePacket};
+use std::alloc::{AllocError, Global};
 use upp_limits::gathered::{Gathered, common_multiple};
 use upp_limits::gauges::{product, reach};
 
-/// The horizon and all numbers of a simulation. None only where the simulation gauge is 2^120 or more.
-fn numbers_of(net: &Network, trace: &Trace) -> Option<Way>
-    requires named { IsTraceOf net.now trace.now }
-    requires free { IsFeedForward net.now }
-    ensures end { IfSome result (λ w. w.end ≡ horizon (setup_of net.now trace.now)) }
-    ensures found { IfSome result (λ w. Gathers w.found (joined (time_alone w.end) (simulation_numbers net.now trace.now))) }
+/// All numbers of a simulation. None only where the simulation gauge is 2^120 or more.
+fn numbers_to(net: &Network, trace: &Trace, end: Frac) -> Option<Gathered>
+    requires { end ≡ horizon (setup_of net.now trace.now) }
+    ensures found { IfSome result (λ g. Gathers g (joined (time_alone end) (simulation_numbers net.now trace.now))) }
     ensures fits { simulation_gauge net.now trace.now < 2 ^ 120 → IsSome result }
 {
     let packets = trace.packets();
     let servers = net.servers();
-    let way = horizon(net, trace)?;
-    let entered = with_packets(way.found.with_time(way.end), packets);
+    let entered = with_packets(Gathered::nothing().with_time(end), packets);
     let stalled = with_stalls(entered, trace.stalls());
     let named = with_servers(stalled, servers);
-    let served = with_services(named, servers, way.end)?;
-    let found = with_arrivals(served, net.flows(), way.end)?;
-    Some(Way {
-        end: way.end,
-        found,
-    })
+    let served = with_services(named, servers, end)?;
+    with_arrivals(served, net.flows(), end)
 }
 
 /// The size of the numerator.
@@ -64,11 +59,12 @@ fn numerators(servers: &[Server]) -> u128
 }
 
 /// The bits of all packets.
-fn bits_of(trace: &Trace) -> u64
-    ensures { result ≡ total_bits trace.now }
+fn bits_of(packets: &[TracePacket]) -> u64
+    requires { length packets.now < 2 ^ 31 }
+    ensures { result ≡ sum_by (λ (p : TracePacket). p.bits) packets.now }
 {
     let mut bits = 0;
-    for packet in trace.packets() {
+    for packet in packets {
         bits += packet.bits as u64;
     }
     bits
@@ -95,19 +91,20 @@ fn is_over(g: Gathered, rates: u128, end: Frac) -> bool
 }
 
 /// Whether the simulation gauge of a network and a trace is 2^120 or more, for a trace whose numbers are those of live
-/// flows and of servers of the network, in which no walk comes back. It never fails, whatever the numbers, takes no memory, and looks at the
-/// packets and the stalls once for each server.
-pub fn is_too_wide(net: &Network, trace: &Trace) -> bool
+/// flows and of servers of the network, in which no walk comes back. It fails only where memory is refused, whatever the
+/// numbers, and looks at the packets and the stalls once for each server, and at the packets once more for each gate.
+pub fn is_too_wide(alloc: Global, net: &Network, trace: &Trace) -> Result<bool, AllocError>
     requires named { IsTraceOf net.now trace.now }
     requires free { IsFeedForward net.now }
-    ensures { IsTrue result ↔ (2 ^ 120 ≤ simulation_gauge net.now trace.now) }
+    ensures { IfOk result (λ wide. IsTrue wide ↔ (2 ^ 120 ≤ simulation_gauge net.now trace.now)) }
 {
-    match numbers_of(net, trace) {
-        None => true,
-        Some(way) => {
-            let bits = Frac::from_whole(bits_of(trace) as i128);
-            let found = way.found.with_value(bits);
-            is_over(found, numerators(net.servers()), way.end)
-        }
+    let bits = Frac::from_whole(bits_of(trace.packets()) as i128);
+    let rates = numerators(net.servers());
+    match horizon(alloc, net, trace)? {
+        None => Ok(true),
+        Some(end) => match numbers_to(net, trace, end) {
+            None => Ok(true),
+            Some(numbers) => Ok(is_over(numbers.with_value(bits), rates, end)),
+        },
     }
 }

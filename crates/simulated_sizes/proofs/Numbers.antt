@@ -22,7 +22,7 @@ use Rattle.net_cells.specs.Numbered.{is_live, arrival, arrival_of, service, serv
 use Rattle.stated_runs.specs.FromTraces.{setup_of}
 use Rattle.stated_runs.proofs.Lists.{In}
 use Rattle.sim_bounds.specs.Horizons.{horizon}
-use Rattle.sim_bounds.specs.Gauge.{trace_times, server_times, spans_of, rates_of, numbers_to, numbers_of_curves, arrivals_of, curves_of, total_bits, simulation_numbers, simulation_sizes}
+use Rattle.sim_bounds.specs.Gauge.{trace_times, server_times, rates_of, numbers_to, numbers_of_curves, arrivals_of, curves_of, total_bits, simulation_numbers, simulation_sizes}
 use Rattle.sim_bounds.proofs.Members.{in_right, in_left, in_map, each_in}
 use Rattle.sim_bounds.proofs.Fits.{times_whole}
 
@@ -110,7 +110,7 @@ earlier net trace end far c C l h =
 curve_stands : (net : Net) (trace : SpecTrace) (end : ℚ) (c : SpecCurve) → In (curves_of net) c → IsCurve c → end ≤ℚ horizon (setup_of net trace) → Stands (simulation_sizes net trace) (curve_numbers end c)
 curve_stands net trace end c i C l =
     let far = horizon (setup_of net trace) in
-    let own : Numbers = record { times = trace_times trace ++ flat_map server_times net.servers ++ spans_of net trace; values = []; slopes = rates_of net } in
+    let own : Numbers = record { times = trace_times trace ++ flat_map server_times net.servers; values = []; slopes = rates_of net } in
     let whole_curve = among_on (curve_numbers far c) (numbers_to far c) (numbers_of_curves far (curves_of net)) (among_left (curve_numbers far c) _) (among_curves far (curves_of net) c i) in
     let here = among_on (curve_numbers far c) (numbers_of_curves far (curves_of net)) (simulation_numbers net trace) whole_curve (among_right own (numbers_of_curves far (curves_of net))) in
     earlier net trace end far c C l (among_stand net trace (curve_numbers far c) here)

@@ -1,30 +1,43 @@
-use Rattle.std.proofs.Common.{length, sym, ap, ◌∙◌, subst, arith}
-use Rattle.std.proofs.lemmas.List.{length-map}
-use Rattle.rational.proofs.Laws.{add_zero}
-use Rattle.upp_limits.specs.Gathered.{Gathers}
-use Rattle.net_model.specs.Views.{server_of}
+use Rattle.std.proofs.Common.{◌≡◌, length, sym, ap, ◌∙◌, subst}
+use Rattle.std.specs.Prelude.{IfSome, MatchOption}
+use Rattle.rational.specs.Ratio.{IsSmall}
+use Rattle.upp_limits.proofs.SpanNumbers.{if_some_map}
+use Rattle.wide_sums.specs.Sums.{sum_of_products}
 use Rattle.stated_runs.specs.FromTraces.{setup_of}
-use Rattle.sim_bounds.specs.Horizons.{first_time, span}
-use Rattle.sim_bounds.specs.Gauge.{each_below}
-use Rattle.sim_gauge.specs.Named.{times_alone}
-use Rattle.sim_gauge.proofs.SpanSteps.{sum_step, sum_more, each_more}
+use Rattle.sim_bounds.specs.Horizons.{sum_below}
+use Rattle.sim_bounds.specs.Way.{gated}
+use Rattle.sim_gauge.proofs.SpanSteps.{last_step, gated_small, horizon_is}
 use Rattle.sim_gauge.proofs.horizons.horizon.Goals as goal
 
-pub loop-server-init : goal.loop-server-init
-loop-server-init c = record { end = c.first_time.ensures ∙ sym (add_zero (first_time (setup_of c.args.net.now c.args.trace.now))); found = c.nothing.ensures }
+pub returns-in-Some-3-clause-value : goal.returns-in-Some-3-clause-value
+returns-in-Some-3-clause-value c =
+    let net = c.args.net.now in
+    let trace = c.args.trace.now in
+    let all = sum_below (gated (setup_of net trace)) (length net.servers) in
+    let sum = sum_of_products c.deref.result.now in
+    let own = subst (λ o. MatchOption o (¬ (IsSmall sum)) (λ f. f ≡ sum)) c.in-Some-3.is c.in_ok-gated-in-Some-2.ensures in
+    let made = subst (λ o. IfSome o (λ ps. sum_of_products ps.items ≡ all)) c.in-Some-2.is c.in_ok-products-in-Some.ensures.value in
+    let is = own ∙ ap sum_of_products c.deref.ensures.value ∙ made in
+    if_some_map c.plus.result _ _ (λ t e. e ∙ horizon_is net trace c.in-Some.plain c.in-Some-3.gated c.in-Some.ensures.value is) c.plus.ensures.value
 
-pub returns-in-None-clause-fits : goal.returns-in-None-clause-fits
-returns-in-None-clause-fits c = λ d e f.
-    let n = length-map c.servers-server-end.result.now server_of in
-    let m = ap length c.servers-server-end.ensures.servers in
-    c.in-None.ensures.fits d e f
-    (sum_step c.args.net.now c.args.trace.now d c.loop-server.server e c.loop-server.way.end (omega (arith, n, m)) f c.loop-server.invariant.end)
+pub returns-in-Some-3-clause-fits : goal.returns-in-Some-3-clause-fits
+returns-in-Some-3-clause-fits c = λ d e f.
+    let net = c.args.net.now in
+    let trace = c.args.trace.now in
+    let all = sum_below (gated (setup_of net trace)) (length net.servers) in
+    let sum = sum_of_products c.deref.result.now in
+    let own = subst (λ o. MatchOption o (¬ (IsSmall sum)) (λ t. t ≡ sum)) c.in-Some-3.is c.in_ok-gated-in-Some-2.ensures in
+    let made = subst (λ o. IfSome o (λ ps. sum_of_products ps.items ≡ all)) c.in-Some-2.is c.in_ok-products-in-Some.ensures.value in
+    let is = own ∙ ap sum_of_products c.deref.ensures.value ∙ made in
+    c.plus.ensures.fits (last_step net trace d e c.in-Some.plain c.in-Some-3.gated f c.in-Some.ensures.value is)
 
-pub loop-server-preserved : goal.loop-server-preserved
-loop-server-preserved c =
-    let f = span (setup_of c.args.net.now c.args.trace.now) in
-    let s = c.loop-server.server in
-    record {
-      end = sum_more f s (first_time (setup_of c.args.net.now c.args.trace.now)) c.loop-server.way.end c.in-Some.more.end c.in-Some.ensures.value c.loop-server.invariant.end;
-      found = subst (λ n. Gathers c.in-Some.more.found n) (each_more f s) (c.in-Some.ensures.found (times_alone (each_below f s)) c.loop-server.invariant.found);
-    }
+pub returns-in-Some-2-clause-fits : goal.returns-in-Some-2-clause-fits
+returns-in-Some-2-clause-fits c = λ d e f.
+    let net = c.args.net.now in
+    let trace = c.args.trace.now in
+    let all = sum_below (gated (setup_of net trace)) (length net.servers) in
+    let sum = sum_of_products c.deref.result.now in
+    let wide = subst (λ o. MatchOption o (¬ (IsSmall sum)) (λ t. t ≡ sum)) c.in-None-3.is c.in_ok-gated-in-Some-2.ensures in
+    let made = subst (λ o. IfSome o (λ ps. sum_of_products ps.items ≡ all)) c.in-Some-2.is c.in_ok-products-in-Some.ensures.value in
+    let is = ap sum_of_products c.deref.ensures.value ∙ made in
+    absurd (wide (subst (λ t. IsSmall t) (sym is) (gated_small net trace d e f)))

@@ -5,6 +5,6 @@ use Rattle.sim_gauge.proofs.wide.bits_of.Given as goal
 
 abbrev pub invariant-loop-packet : goal.invariant-loop-packet
 invariant-loop-packet l = record {
-  sum : l.bits + sum_by (λ (p : TracePacket). p.bits) (drop l.packet-index l.packet-items) ≡ sum_by (λ (p : TracePacket). p.bits) l.packet-items;
+  sum : l.bits + sum_by (λ (p : TracePacket). p.bits) (drop l.packet-index l.packets) ≡ sum_by (λ (p : TracePacket). p.bits) l.packets;
   small : l.bits ≤ l.packet-index * 2 ^ 32;
 }

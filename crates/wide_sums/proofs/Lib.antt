@@ -1,0 +1,4 @@
+pub mod Numbers
+pub mod Reduced
+pub mod Added
+pub mod Steps

@@ -1,0 +1,17 @@
+use Rattle.std.proofs.Common.{◌≡◌, drop, sym, subst, arith}
+use Rattle.wide_sums.specs.Sums.{sum_of_products, IsSumOf}
+use Rattle.wide_sums.proofs.Steps.{sum_from}
+use Rattle.wide_sums.proofs.products.sum_of_products.Goals as goal
+
+pub loop-place-preserved : goal.loop-place-preserved
+loop-place-preserved c =
+    let ps = c.args.products.now in
+    let i = c.loop-place.place in
+    subst (λ s. IsSumOf s c.in_ok-sum-2.sum) (sym (sum_from ps i c.index-products-place.result c.loop-place-test.true c.loop-place.auto.place c.index-products-place.is))
+    (c.in_ok-sum-2.ensures (sum_of_products (drop i ps)) c.loop-place.invariant)
+
+pub returns : goal.returns
+returns c =
+    let ps = c.args.products.now in
+    let none : c.loop-place.place ≡ 0 = omega arith in
+    c.total.ensures (sum_of_products ps) (subst (λ i. IsSumOf (sum_of_products (drop i ps)) c.loop-place.sum) none c.loop-place.invariant)

@@ -1,0 +1,3 @@
+pub mod Bits
+pub mod Factors
+pub mod Sums

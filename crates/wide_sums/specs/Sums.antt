@@ -1,0 +1,23 @@
+-- Sums of products of fractions. Textbook.
+use Rattle.std.specs.Prelude.{◌≡◌, pos, List, [], ◌∷◌}
+use Rattle.std.specs.List.{AllByRecursion}
+use Rattle.rational.specs.Rational.{ℚ, int, over, ◌+ℚ◌, ◌*ℚ◌, ◌≤ℚ◌}
+use Rattle.wide_sums.specs.declared.products.Product.{Product}
+use Rattle.wide_sums.specs.declared.products.WideSum.{WideSum}
+use Rattle.wide_sums.specs.Bits.{number}
+use Rattle.wide_sums.specs.Factors.{IsFactor, product}
+
+-- both factors are at least 0
+pub record IsFromZero (p : Product) : Type 0 where
+  pub left : int (pos 0) ≤ℚ p.left
+  pub right : int (pos 0) ≤ℚ p.right
+
+abbrev pub sum_of_products : List Product → ℚ
+sum_of_products [] = int (pos 0)
+sum_of_products (p ∷ ps) = p.left *ℚ p.right +ℚ sum_of_products ps
+
+-- s is the wide number over the product of the factors
+pub record IsSumOf (s : ℚ) (w : WideSum) : Type 0 where
+  pub is : s ≡ over (pos (number w.top.items)) (number w.bottom.items)
+  pub bottom : number w.bottom.items ≡ product w.factors.items
+  pub factors : AllByRecursion IsFactor w.factors.items
