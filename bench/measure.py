@@ -2,11 +2,11 @@
 
     python3 bench/measure.py NETCALC
 
-NETCALC is the program. A flow has 256, 512 or 1,024 packets, the most that are measured, of one of three kinds: a packet a
-period, whose windows have few lengths; packets of any sizes at any times, drawn from a fixed seed; and packets of which each
-pair makes a step of its own, the most steps that there can be. A line a trace: its kind, its packets, the steps of its curve,
-the status, the seconds of the best of three runs, and how many windows a second. Nothing is asserted about time. Where the
-program has no command `measure`, one line says so.
+NETCALC is the program. A flow has 256, 512 or 1,024 packets, the most that are measured, of one of three kinds: a packet
+a period, whose windows have few lengths; packets of any sizes at any times, drawn from a fixed seed; and packets of
+which each pair makes a step of its own, the most steps that there can be. A line a trace: its kind, its packets, the
+steps of its curve, the status, the seconds of the best of three runs, and how many windows a second. Nothing is
+asserted about time. Where the program has no command `measure`, one line says so.
 """
 
 import random
@@ -48,14 +48,13 @@ def pairwise(packets: int) -> list[tuple[int, int]]:
 KINDS = {"periodic": periodic, "drawn": drawn, "pairwise": pairwise}
 
 
-def timed(program: str, net: Path, trace: Path) -> tuple[subprocess.CompletedProcess, float]:
-    """The best of some runs."""
-    best = None
+def timed(command: list[str]) -> tuple[subprocess.CompletedProcess, float]:
+    """The last of some runs, and the seconds of the best."""
+    best = float("inf")
     for _ in range(RUNS):
         began = time.monotonic()
-        run = subprocess.run([program, "measure", str(net), str(trace), "f1", RATE], capture_output=True, text=True)
-        took = time.monotonic() - began
-        best = took if best is None else min(best, took)
+        run = subprocess.run(command, capture_output=True, text=True)
+        best = min(best, time.monotonic() - began)
     return run, best
 
 
@@ -68,7 +67,7 @@ def main() -> None:
         for kind, make in KINDS.items():
             for packets in (256, 512, 1024):
                 trace.write_text("".join(f"packet,{at},f1,{bits}\n" for at, bits in make(packets)))
-                run, took = timed(program, net, trace)
+                run, took = timed([program, "measure", str(net), str(trace), "f1", RATE])
                 if run.returncode == USAGE:
                     print("the program has no command measure")
                     return

@@ -14,8 +14,8 @@ IsMalformed net_file net_bytes trace_file trace_bytes name reply =
     IsBroken net_file net_bytes reply ⊎ (IsBadTrace net_bytes trace_file trace_bytes reply
     ⊎ IsUnknownFlow net_bytes trace_bytes name reply)
 
--- of the curves of the network's file the first that is over a limit is over this one, or else the flow's packets are, or
--- else the burst is
+-- of the curves of the network's file the first that is over a limit is over this one, or else the flow's packets are,
+-- or else the burst is
 abbrev pub IsOverLimit : OverLimit → (net_bytes trace_bytes name : List ℕ) → ℚ → Reply → Type 0
 IsOverLimit limit net_bytes trace_bytes name rate reply =
     IsCurveOver limit net_bytes reply ⊎ (IsMeasureOver limit net_bytes trace_bytes name reply

@@ -14,8 +14,8 @@ pub fn measure_statuses_are_four()
     ensures { StatusesAreFour }
 {}
 
-/// The status of a reply tells its cause: 0 a report; 1 a rule of the network's file, a row of the trace, or a name that
-/// no live flow has; 6 and 7 the first curve over a limit, or else the packets, or else the burst, by that limit.
+/// The status of a reply tells its cause: 0 a report; 1 a rule of the network's file, a row of the trace, or a name
+/// that no live flow has; 6 and 7 the first curve over a limit, or else the packets, or else the burst, by that limit.
 pub fn measure_statuses_have_causes()
     ensures { StatusesHaveCauses }
 {}

@@ -65,8 +65,8 @@ IsMalformed (Curve script) (bytes ∷ []) reply = IsRefused script bytes reply
 IsMalformed command files reply = ⊥
 
 -- 7 and 6: the first that is over a limit: of the curves of a network's file, or else of its cells, or else, at 6, the
--- simulation; of the curves of a network's file, or else the packets to be measured, or else their burst; of the curves,
--- operators and values of a script
+-- simulation; of the curves of a network's file, or else the packets that are measured, or else their burst; of the
+-- curves, operators and values of a script
 abbrev pub IsRunOver : OverLimit → List ℕ → List ℕ → Reply → Type 0
 IsRunOver TooMany bytes rows reply = traces.IsOverLimit TooMany bytes rows reply
 IsRunOver TooWide bytes rows reply = traces.IsOverLimit TooWide bytes rows reply ⊎ IsSimulationOver bytes rows reply
@@ -92,8 +92,8 @@ TellsBreach (Simulate net trace) (bytes ∷ rows ∷ []) reply =
 TellsBreach command files reply = ⊥
 
 -- 0: a report whose table is kept by every lawful run of the network that keeps packet sizes, arrival and service curves; of
--- `simulate` beside a run that keeps them too, no number of which is above its bound; or the least arrival curve of a flow's
--- packets, with the least bucket of the rate that they keep; or the answers of a script
+-- `simulate` beside a run that keeps them too, no number of which is above its bound; or the least arrival curve of a
+-- flow's packets, with the least bucket of the rate that they keep; or the answers of a script
 abbrev pub IsDone : Command → List (List ℕ) → Reply → Type 0
 IsDone (Analyse net) (bytes ∷ []) reply =
     (model : Net) × (at : CellTable) × IsReportOf model at bytes reply × Guarantees model at

@@ -41,10 +41,11 @@ fn give<K: Sink>(out: &mut K, status: Status, text: &[u8]) -> u8
 /// `analyse NET` reads a file of a network, and writes the bounds on its delays and backlogs. The order is: the words,
 /// the file, its tables, its curves, the order of its servers, the cells, one `put`. `simulate NET TRACE` fetches both
 /// files first, and reads the second one after the first one's curves. After the cells come the simulation and what its
-/// run breaks first, and its worst values are written beside the bounds. `measure NET TRACE FLOW RATE` fetches both files
-/// first, reads the second one after the first one's curves, and writes the least arrival curve of the flow's packets and
-/// the least bucket of the rate that they keep. `curve FILE` reads a script of curve expressions, and writes its answers.
-/// The order is: the words, the file, its lines, its statements, one `put`. Each refusal but 4 and 5 writes one line.
+/// run breaks first, and its worst values are written beside the bounds. `measure NET TRACE FLOW RATE` fetches both
+/// files first, reads the second one after the first one's curves, and writes the least arrival curve of the flow's
+/// packets and the least bucket of the rate that they keep. `curve FILE` reads a script of curve expressions, and writes
+/// its answers. The order is: the words, the file, its lines, its statements, one `put`. Each refusal but 4 and 5 writes
+/// one line.
 pub fn run<I: Inputs, K: Sink, L: Ledger>(
     words: &[String],
     inputs: &mut I,
@@ -69,8 +70,8 @@ pub fn run<I: Inputs, K: Sink, L: Ledger>(
         ⊎ Brings IsMalformed (I.content inputs.old) command result (K.written out.old) (K.written out.new)) }
 
     // 7 only where the first that is over a limit has too many pieces: of the curves of a network's file, or else of its
-    // cells, or of `measure` else the flow's packets or their burst; of the curves, operators and values of a script. The
-    // line names it.
+    // cells, or of `measure` else the flow's packets, or else their burst; of the curves, operators and values of a
+    // script. The line names it.
     ensures too_many { result ≡ 7 → IfSome (command_of (texts words.now)) (λ command.
         Brings (IsOver limits.TooMany) (I.content inputs.old) command result (K.written out.old) (K.written out.new)) }
 
@@ -90,10 +91,10 @@ pub fn run<I: Inputs, K: Sink, L: Ledger>(
     // 0 only where what was asked for is written. Of `analyse`: the file gives a network whose cells have their answers
     // in a table that meets the equations, and the report has the numbers of the table, which every run of the network
     // keeps. By a law `unbounded` stands for infinity alone. Of `simulate`: so it is, and the stated run of the network
-    // with the trace keeps all premises; no number of the run is above its bound. Of `measure`: the steps are those of the
-    // least arrival curve of the packets of the live flow with the name; they keep it, and each curve that they keep is at
-    // least it; and they keep the bucket of the burst and the rate, and no bucket of this rate with a smaller burst. Of
-    // `curve`: the answers that the script finds and means.
+    // with the trace keeps all premises; no number of the run is above its bound. Of `measure`: the steps are those of
+    // the least arrival curve of the packets of the live flow with the name; they keep it, and each curve that they keep
+    // is at least it; and they keep the bucket of the burst and the rate, and no bucket of this rate with a smaller
+    // burst. Of `curve`: the answers that the script finds and means.
     ensures done { result ≡ 0 → IfSome (command_of (texts words.now)) (λ command.
         Brings IsDone (I.content inputs.old) command result (K.written out.old) (K.written out.new)) }
 
@@ -110,9 +111,9 @@ pub fn run<I: Inputs, K: Sink, L: Ledger>(
         GivesOnTold command (I.content inputs.old) result (K.written out.old) (K.written out.new)) }
 
     // So 0, or of `simulate` 0 or 9, is the only other one where the files hold what can be answered: a network without a
-    // cycle, no curve and no cell of which is over a limit, with a trace without a fault, and a simulation that is not too
-    // wide; a network and a trace without a fault, with a live flow of the name, where no curve, the packets and the burst
-    // are over no limit; a script without a fault, nothing in which is over a limit.
+    // cycle, no curve and no cell of which is over a limit, with a trace without a fault, and a simulation that is not
+    // too wide; a network and a trace without a fault, with a live flow of the name, where no curve is over a limit, nor
+    // the packets, nor the burst; a script without a fault, nothing in which is over a limit.
     ensures complete { IfSome (command_of (texts words.now)) (λ command.
         AnswersWhatItCan command (I.content inputs.old) result) }
 

@@ -16,8 +16,8 @@ pub(crate) enum Command<'a> {
     Analyse(&'a str),
     /// The run of a network and a trace beside the bounds.
     Simulate(&'a str, &'a str),
-    /// The least arrival curve of a flow's packets in a trace, by the flow's name, and their least bucket for a rate in bits
-    /// a unit of time.
+    /// The least arrival curve of a flow's packets in a trace, by the flow's name, and their least bucket for a rate in
+    /// bits a unit of time.
     Measure(&'a str, &'a str, &'a str, Frac),
     /// The answers of a script of curve expressions.
     Curve(&'a str),

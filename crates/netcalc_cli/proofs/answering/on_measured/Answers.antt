@@ -9,7 +9,8 @@ pub returns-in-Ok-clause-reply : goal.returns-in-Ok-clause-reply
 returns-in-Ok-clause-reply g c =
     IfOk-weaker c.on_measure.result _ _
     (λ r on. answers g.I.Inputs.faults g.I.Inputs.last_fault (g.I.Inputs.content c.args.inputs.now)
-    (Measure c.args.net.now c.args.trace.now c.args.name.now c.args.rate) c.args.inputs.now c.fetch_two.new.inputs (reply_of r)
+    (Measure c.args.net.now c.args.trace.now c.args.name.now c.args.rate) c.args.inputs.now
+    c.fetch_two.new.inputs (reply_of r)
     (c.in-Ok.bytes.items ∷ c.in-Ok.rows.items ∷ []) c.in-Ok.ensures.held c.in-Ok.ensures.fit on)
     (rw c.deref-in-Ok.ensures.value at (rw c.deref.ensures.value at c.on_measure.ensures.reply))
 
@@ -26,12 +27,14 @@ pub returns-in-Err-clause-reply : goal.returns-in-Err-clause-reply
 returns-in-Err-clause-reply g c =
     IfOk-weaker c.in-Err.ended _ _
     (λ r at. ends g.I.Inputs.faults g.I.Inputs.last_fault (g.I.Inputs.content c.args.inputs.now)
-    (Measure c.args.net.now c.args.trace.now c.args.name.now c.args.rate) c.args.inputs.now c.fetch_two.new.inputs (reply_of r) at)
+    (Measure c.args.net.now c.args.trace.now c.args.name.now c.args.rate) c.args.inputs.now
+    c.fetch_two.new.inputs (reply_of r) at)
     c.in-Err.ensures.ended
 
 pub returns-in-Err-clause-counts : goal.returns-in-Err-clause-counts
 returns-in-Err-clause-counts g c =
     let other = no_answer_in g.I.Inputs.faults g.I.Inputs.last_fault (g.I.Inputs.content c.args.inputs.now)
-    (Measure c.args.net.now c.args.trace.now c.args.name.now c.args.rate) c.args.inputs.now c.fetch_two.new.inputs
+    (Measure c.args.net.now c.args.trace.now c.args.name.now c.args.rate) c.args.inputs.now
+    c.fetch_two.new.inputs
     (c.args.net.now ∷ c.args.trace.now ∷ []) c.in-Err.ended c.in-Err.ensures.ended in
     inl (other, refl)
