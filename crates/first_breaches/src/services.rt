@@ -83,7 +83,10 @@ pub(crate) fn first_service(
     let count = server_count(net);
     let mut best = None;
     for number in 0..count {
-        best = earlier(best, first_service_of(alloc, net, run, kept, &firsts, number)?);
+        best = earlier(
+            best,
+            first_service_of(alloc, net, run, kept, &firsts, number)?,
+        );
     }
     Ok(best)
 }

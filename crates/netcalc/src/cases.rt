@@ -1781,7 +1781,7 @@ packet,10000000,f1,8
 #[test]
 fn runs(rt: HostRuntime) -> Result<(), Fail> {
     let alloc = rt.alloc();
-    let rows: [(&str, &[(&str, &str)], u8, &str); 33] = [
+    let rows: [(&str, &[(&str, &str)], u8, &str); 34] = [
         // a_byte_that_is_not_plain
         (
             "netcalc simulate n.toml t.csv",
@@ -1995,6 +1995,39 @@ run packets 1 end 12001/100
 worst f1 12001/100 bound 130
 peak s1 0 12001 bound 13300
 breach size f1 0
+"#,
+        ),
+        // a_packet_that_enters_as_the_one_before_leaves
+        (
+            "netcalc simulate n.toml t.csv",
+            &[
+                (
+                    "n.toml",
+                    r#"[[server]]
+name = "s1"
+rate = 100
+service = { kind = "latency", latency = 10 }
+
+[[flow]]
+name = "f1"
+packet = 12000
+arrival = { kind = "bucket", burst = 12000, rate = 100 }
+path = ["s1"]
+"#,
+                ),
+                (
+                    "t.csv",
+                    r#"packet,0,f1,12000
+packet,120,f1,12000
+"#,
+                ),
+            ],
+            0,
+            r#"servers 1 flows 1
+run packets 2 end 240
+worst f1 120 bound 130
+peak s1 0 24000 bound 25000
+breach none
 "#,
         ),
         // a_packet_under_way_is_not_broken_off

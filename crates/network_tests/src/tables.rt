@@ -58,6 +58,23 @@ fn each_fault_has_its_row(rt: HostRuntime) -> Result<(), Fail> {
     Ok(())
 }
 
+#[test]
+fn the_10001st_row_of_a_trace_is_one_too_many(rt: HostRuntime) -> Result<(), Fail> {
+    let net = plain_network(rt.alloc(), 1, &[&[0]])?;
+    let alloc = rt.alloc();
+    let mut text = String::new(alloc);
+    for _ in 0..10_000 {
+        text.push_str("packet,0,a,1\n")?;
+    }
+    assert_eq!(rt; fault(alloc, &net, text.as_str()), None);
+    text.push_str("paint\n")?;
+    assert_eq!(rt;
+        fault(alloc, &net, text.as_str()),
+        Some((TableKind::T7, 10_001))
+    );
+    Ok(())
+}
+
 // The fault of an edit list, with its row.
 fn edit_fault(alloc: Global, text: &str) -> Option<(TableKind, u32)> {
     match read_edits(alloc, text.as_bytes()) {

@@ -99,7 +99,7 @@ pub told_fits : (net : Net) (trace : SpecTrace) (servers : List Server) (told : 
     → IsTraceOf net trace → All (λ (s : Stall). s.server < length told) stalls
 told_fits net trace servers told stalls e f g named =
     let many : length told ≡ length net.servers =
-        ap length f ∙ length-map servers (λ (s : Server). is_by_formula s.kind) ∙ sym (length-map servers server_of) ∙ ap length e in
+    ap length f ∙ length-map servers (λ (s : Server). is_by_formula s.kind) ∙ sym (length-map servers server_of) ∙ ap length e in
     subst (All (λ (s : Stall). s.server < length told)) (sym g)
     (subst (λ n. All (λ (s : Stall). s.server < n) trace.stalls) (sym many) named.servers)
 

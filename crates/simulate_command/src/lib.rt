@@ -11,6 +11,7 @@ mod told;
 
 pub use laws::{
     open_servers_break_nothing, quiet_runs_are_within_bounds, run_replies_are_complete,
-    run_replies_are_determined, run_reports_guarantee, run_statuses_have_causes, status_tells_premises,
+    run_replies_are_determined, run_reports_guarantee, run_statuses_have_causes,
+    status_tells_premises,
 };
 pub use on_files::on_trace;

@@ -104,13 +104,12 @@ covered_at p [] d r h = elim h [
   | inr k ↦ absurd k
 ]
 covered_at p (q ∷ qs) d r h = elim h [
-  | inl e ↦
-      (
-        record { start = p.x; end = Some q.x; value = number_at p.at; slope = slope_of p.line },
-        inl refl,
-        e,
-        record { from = subst (λ x. p.x ≤ℚ x) e (le_refl p.x); upto = λ k. lt_irrefl p.x (lt_le_trans r.0 (subst (λ x. q.x ≤ℚ x) (sym e) k)) },
-      )
+  | inl e ↦ (
+    record { start = p.x; end = Some q.x; value = number_at p.at; slope = slope_of p.line },
+    inl refl,
+    e,
+    record { from = subst (λ x. p.x ≤ℚ x) e (le_refl p.x); upto = λ k. lt_irrefl p.x (lt_le_trans r.0 (subst (λ x. q.x ≤ℚ x) (sym e) k)) },
+  )
   | inr k ↦ let (s, has, at, is) = covered_at q qs d r.1 k in (s, inr has, at, is)
 ]
 
