@@ -116,8 +116,8 @@ flow_served net at run i k s w =
     (λ (r : ℕ). (t : ℚ) → zero_q ≤ℚ t → IsFifoLeftover (values at (cell_of QueueService r q)) cross theta t (R t)) w.is
     (curve_holds at (cell_of Residual i k) _ is_residual) in
     record {
-      serves = fifo_serves_always (here net s) run.end V (of_queue q) (part net i k) (other (λ c. c.flow) i (of_queue q)) q
-          β cross R theta
+      serves = fifo_serves_always (here net s) run.end V (of_queue q) (part net i k)
+          (other (λ c. c.flow) i (of_queue q)) q β cross R theta
           (lawful_here net at run s w.server) (λ c e. eqb-true c.queue q e) (in_two (λ c. c.flow) i (of_queue q))
           (cross_comes net at run s i k w.server w.within w.is) queue.serves low residual;
       grows = fifo.service_grows β cross R theta low queue.grows.finite residual;

@@ -1,5 +1,5 @@
--- No packet arrives twice at a server: it enters once, each link brings it on once for each time that it left the server
--- before, and it leaves no more often than it came.
+-- No packet arrives twice at a server: it enters once, each link brings it on once for each time that it left the
+-- server before, and it leaves no more often than it came.
 use Rattle.std.specs.Prelude.{Option, Some, None, ◌≡◌, ◌≢◌, ◌⊎◌, ℕ, zero, suc, ◌+◌, ◌<◌, ◌≤◌, ◌==◌, leb, Bool, true, false, ◌&&◌, List, [], ◌∷◌, ◌++◌, length, slice_index_or}
 use Rattle.std.proofs.Common.{arith, sym, ap, ◌∙◌, refl, inl, inr, subst, append_assoc}
 use Rattle.std.proofs.lemmas.Bool.{cases_Bool, cases_eq, cases_lt, eqb-true, eq-eqb, ne_eqb, le-leb, lt-leb}
@@ -86,7 +86,8 @@ one_at true false d h = omega arith
 one_at false c d h = omega arith
 
 tally_view : (f : ServerStep → ℕ) (net : Routes) (s : ℕ) (entered : List Entry) (x : Step) (xs : List Step)
-    → tally f (view_from net s entered (x ∷ xs)) ≡ at (server_of net x == s) (f (seen net entered x)) + tally f (view_from net s (entered_after entered x) xs)
+    → tally f (view_from net s entered (x ∷ xs))
+    ≡ at (server_of net x == s) (f (seen net entered x)) + tally f (view_from net s (entered_after entered x) xs)
 tally_view f net s entered x xs = elim (cases_Bool (server_of net x == s)) [
   | inl e ↦ rw e refl
   | inr e ↦ rw e (omega arith)
@@ -117,20 +118,25 @@ went_came : (server : Server) (end : ℚ) (σ : ServerState) (V : List ServerSte
     → IsSound σ → tally (went p) V ≤ copies p σ.inside + tally (came p) V
 went_came server end σ [] p a h = omega arith
 went_came server end σ (Arrives c t ∷ V) p a h =
-    let rest = went_came server end (next server.discipline σ (Arrives c t)) V p a.1 (sound_next server end σ (Arrives c t) a.0 h) in
+    let rest = went_came server end (next server.discipline σ (Arrives c t)) V p a.1
+    (sound_next server end σ (Arrives c t) a.0 h) in
     omega (arith, rest, copies_push p σ.inside c)
 went_came server end σ (Works c b f w ∷ V) p a h =
-    let rest = went_came server end (next server.discipline σ (Works c b f w)) V p a.1 (sound_next server end σ (Works c b f w) a.0 h) in
+    let rest = went_came server end (next server.discipline σ (Works c b f w)) V p a.1
+    (sound_next server end σ (Works c b f w) a.0 h) in
     omega (arith, rest)
 went_came server end σ (Leaves c t ∷ V) p a h =
-    let rest = went_came server end (next server.discipline σ (Leaves c t)) V p a.1 (sound_next server end σ (Leaves c t) a.0 h) in
+    let rest = went_came server end (next server.discipline σ (Leaves c t)) V p a.1
+    (sound_next server end σ (Leaves c t) a.0 h) in
     omega (arith, rest, copies_without p c.queue c σ.inside (leaving σ.inside σ.busy σ.under c t h a.0.1))
 went_came server end σ (Visits q t ∷ V) p a h =
-    let rest = went_came server end (next server.discipline σ (Visits q t)) V p a.1 (sound_next server end σ (Visits q t) a.0 h) in
+    let rest = went_came server end (next server.discipline σ (Visits q t)) V p a.1
+    (sound_next server end σ (Visits q t) a.0 h) in
     omega (arith, rest)
 
 -- ---- a packet that has entered stays known
-knows_after : (net : Routes) (r : RunState) (xs : List Step) (p : ℕ) (e : Entry) → Knows r p e → Knows (after_run net r xs) p e
+knows_after : (net : Routes) (r : RunState) (xs : List Step) (p : ℕ) (e : Entry) → Knows r p e
+    → Knows (after_run net r xs) p e
 knows_after net r [] p e k = k
 knows_after net r (x ∷ xs) p e k = knows_after net (next_run net r x) xs p e (knows_next net r x p e k)
 
@@ -155,7 +161,9 @@ never_step net r (Enter f q t b) xs s p known dues bad =
     not_both (first_server (route_of net f).hops == s) (q == p)
     (λ here it.
     let first = eqb-true (first_server (route_of net f).hops) s here in
-    bad e (knows_after net (next_run net r (Enter f q t b)) xs p e (enters net r f q p t b known.in_turn (eqb-true q p it)))
+    bad e
+    (knows_after net (next_run net r (Enter f q t b)) xs p e
+    (enters net r f q p t b known.in_turn (eqb-true q p it)))
     (passes_first s (route_of net f).hops (known.has_path ∙ ap (λ (k : ℕ). Some k) first)))
 never_step net r (Reach k q t) xs s p known dues bad =
     let (n, l, e) = known in
@@ -163,7 +171,8 @@ never_step net r (Reach k q t) xs s p known dues bad =
     not_both (k == s) (q == p)
     (λ here it.
     let knows : Knows r q (entry_of r.entered q) = record { has_entered = due.has_entered; is = refl } in
-    let knows_p : Knows r p (entry_of r.entered q) = subst (λ (j : ℕ). Knows r j (entry_of r.entered q)) (eqb-true q p it) knows in
+    let knows_p : Knows r p (entry_of r.entered q) =
+    subst (λ (j : ℕ). Knows r j (entry_of r.entered q)) (eqb-true q p it) knows in
     bad (entry_of r.entered q) (knows_after net r (Reach k q t ∷ xs) p (entry_of r.entered q) knows_p)
     (subst (λ (j : ℕ). PassesServer j (hops_of net r.entered q)) (eqb-true k s here)
     (passes_next due.left k (hops_of net r.entered q) due.next)))
@@ -219,7 +228,8 @@ first_step net r (Reach k q t) xs s p rest known dues bad h =
     let none = not_both (k == s) (q == p)
     (λ here it.
     let knows : Knows r q (entry_of r.entered q) = record { has_entered = due.has_entered; is = refl } in
-    let knows_p : Knows r p (entry_of r.entered q) = subst (λ (j : ℕ). Knows r j (entry_of r.entered q)) (eqb-true q p it) knows in
+    let knows_p : Knows r p (entry_of r.entered q) =
+    subst (λ (j : ℕ). Knows r j (entry_of r.entered q)) (eqb-true q p it) knows in
     bad (entry_of r.entered q) (knows_after net r (Reach k q t ∷ xs) p (entry_of r.entered q) knows_p) due.left
     (due.next ∙ ap (λ (j : ℕ). Some j) (eqb-true k s here))) in
     omega (arith, none, h)
@@ -235,7 +245,8 @@ first_once net end r [] s p a dues bad = omega arith
 first_once net end r (x ∷ xs) s p a dues bad =
     let rest = first_once net end (next_run net r x) xs s p a.1 (due_next net r x a.0.known dues) bad in
     subst (λ (n : ℕ). n ≤ absent p (length r.entered)) (sym (tally_view (came p) net s r.entered x xs))
-    (first_step net r x xs s p (tally (came p) (view_from net s (entered_after r.entered x) xs)) a.0.known dues bad rest)
+    (first_step net r x xs s p (tally (came p) (view_from net s (entered_after r.entered x) xs)) a.0.known dues bad
+    rest)
 
 -- ---- it comes to the next server no more often than it left the server before
 abbrev dues_at : ℕ → ℕ → List Due → ℕ
@@ -270,15 +281,19 @@ dues_sent p a b s q t ds (Some m) h =
     (λ it here. eq-eqb s a (h (eqb-true q p it) (ap (λ (j : ℕ). Some j) (eqb-true m b here)))) in
     omega (arith, more, less)
 
-link_step : (net : Routes) (r : RunState) (x : Step) (xs : List Step) (a b p came_later went_later : ℕ) → IsKnown net r x
+link_step : (net : Routes) (r : RunState) (x : Step) (xs : List Step) (a b p came_later went_later : ℕ)
+    → IsKnown net r x
     → AtEnd net r (x ∷ xs) p (λ i. IsLink net i a b)
     → came_later ≤ went_later + dues_at p b (next_due net r x)
-    → at (server_of net x == b) (came p (seen net r.entered x)) + came_later ≤ at (server_of net x == a) (went p (seen net r.entered x)) + went_later + dues_at p b r.due
+    → at (server_of net x == b) (came p (seen net r.entered x)) + came_later
+    ≤ at (server_of net x == a) (went p (seen net r.entered x)) + went_later + dues_at p b r.due
 link_step net r (Enter f q t bits) xs a b p came_later went_later known link h =
     let e : Entry = record { flow = f; bits = bits } in
     let none = not_both (first_server (route_of net f).hops == b) (q == p)
     (λ here it.
-    (link e (knows_after net (next_run net r (Enter f q t bits)) xs p e (enters net r f q p t bits known.in_turn (eqb-true q p it)))).not_first
+    (link e
+    (knows_after net (next_run net r (Enter f q t bits)) xs p e
+    (enters net r f q p t bits known.in_turn (eqb-true q p it)))).not_first
     (eqb-true (first_server (route_of net f).hops) b here)) in
     omega (arith, none, h)
 link_step net r (Reach s q t) xs a b p came_later went_later known link h =
@@ -393,7 +408,8 @@ comes_once net run s p lawful paths =
             (λ e k passes. bad (subst (λ (j : ℕ). PassesServer s (route_of net j).hops) (sym (flow e k)) passes)) in
             omega (arith, none)
         | inl on ↦
-            let live = live_after net run.end (run_start net) run.steps lawful.allowed (λ q l. absurd (omega (arith, l))) p here in
+            let live = live_after net run.end (run_start net) run.steps lawful.allowed
+            (λ q l. absurd (omega (arith, l))) p here in
             along net run p i (route_of net i).hops s lawful flow (paths i live) refl on
       ]
     ]
@@ -424,5 +440,6 @@ none_arrives_twice net run s lawful paths = none_twice (view net run s) (λ p. c
 
 pub class_leaves_by_delay : ClassLeavesByDelay
 class_leaves_by_delay net run s C queue α d a b lawful paths inside own keeps on most l =
-    output_from_delay (server_at net s) run.end (view net run s) C queue α d a b (views_are_lawful net run s lawful inside)
+    output_from_delay (server_at net s) run.end (view net run s) C queue α d a b
+    (views_are_lawful net run s lawful inside)
     (none_arrives_twice net run s lawful paths) own keeps on most l

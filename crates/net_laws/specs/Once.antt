@@ -24,8 +24,8 @@ abbrev pub NoneArrivesTwice : Type 0
 NoneArrivesTwice = (net : Routes) (run : SpecRun) (s : ℕ) → IsLawful net run → IsOverPaths net →
     NoneTwice (view net run s)
 
--- where no packet of a class of one queue stays longer than d at a server, at most its curve, moved left by d, leaves in
--- a closed window
+-- where no packet of a class of one queue stays longer than d at a server, at most its curve, moved left by d, leaves
+-- in a closed window
 abbrev pub ClassLeavesByDelay : Type 0
 ClassLeavesByDelay = (net : Routes) (run : SpecRun) (s : ℕ) (C : Class) (queue : ℕ) (α : ℚ → Ext) (d : Ext) (a b : ℚ) →
     IsLawful net run → IsOverPaths net → s < length net.servers → IsOfQueue C queue (view net run s) →

@@ -25,7 +25,8 @@ are-append low (x ∷ xs) ys h k = (h.0, are-append low xs ys h.1 k)
 
 no_slash : (xs : List ℕ) → AreFrom 48 xs → lacks 47 xs ≡ true
 no_slash [] h = refl
-no_slash (x ∷ xs) h = cond-false (x == 47) false (lacks 47 xs) (ne_eqb x 47 (λ e. omega (arith, e, h.0.0))) ∙ no_slash xs h.1
+no_slash (x ∷ xs) h =
+    cond-false (x == 47) false (lacks 47 xs) (ne_eqb x 47 (λ e. omega (arith, e, h.0.0))) ∙ no_slash xs h.1
 
 -- ---- digits
 glyph : (d : ℕ) → d < 10 → digit_glyph false d ≡ 48 + d
@@ -40,7 +41,8 @@ digits_from : (k n : ℕ) (acc : List ℕ) → AreFrom 48 acc → AreFrom 48 (di
 digits_from zero n acc h = h
 digits_from (suc k) n acc h =
     let more : AreFrom 48 (digit_glyph false (n % 10) ∷ acc) = (one_digit n, h) in
-    either (n / 10 == 0) (digit_glyph false (n % 10) ∷ acc) (digits_onto k 10 false (n / 10) (digit_glyph false (n % 10) ∷ acc))
+    either (n / 10 == 0) (digit_glyph false (n % 10) ∷ acc)
+    (digits_onto k 10 false (n / 10) (digit_glyph false (n % 10) ∷ acc))
     more (digits_from k (n / 10) (digit_glyph false (n % 10) ∷ acc) more)
   where
     either : (b : Bool) (xs ys : List ℕ) → AreFrom 48 xs → AreFrom 48 ys → AreFrom 48 (cond b xs ys)
@@ -81,7 +83,9 @@ same_digits m n small e =
     let wide : m < 10 ^ 64 = omega (arith, small) in
     elim (cases_lt n (10 ^ 64)) [
       | inl l ↦ sym ((decimal_is_IsNumeral_wide m wide).1) ∙ ap (digits_value 10) e ∙ (decimal_is_IsNumeral_wide n l).1
-      | inr l ↦ absurd (omega (arith, length-decimal-le_wide 39 m (omega arith) few wide, long_decimal n l, ap length e))
+      | inr l ↦
+          let short = length-decimal-le_wide 39 m (omega arith) few wide in
+          absurd (omega (arith, short, long_decimal n l, ap length e))
     ]
 
 -- ---- quotients
@@ -121,7 +125,8 @@ one_slash m n k e =
     let some = not_lacking 47 (decimal n) (decimal (suc (suc k))) in
     let bad : true ≡ false = sym none ∙ ap (lacks 47) e ∙ some in absurd cc
 
-same_quotient : (m n k j : ℕ) → m < 2 ^ 127 → suc k < 2 ^ 127 → quotient_text m k ≡ quotient_text n j → SameParts m n k j
+same_quotient : (m n k j : ℕ) → m < 2 ^ 127 → suc k < 2 ^ 127 → quotient_text m k ≡ quotient_text n j
+    → SameParts m n k j
 same_quotient m n zero zero h l e = record { tops = same_digits m n h e; bottoms = refl }
 same_quotient m n zero (suc j) h l e = one_slash m n j e
 same_quotient m n (suc k) zero h l e = one_slash n m k (sym e)

@@ -1,4 +1,5 @@
--- Classes of packets by what they are of themselves, whatever arrives: of one queue, part of another class, parts of one.
+-- Classes of packets by what they are of themselves, whatever arrives: of one queue, part of another class, parts of
+-- one.
 use Rattle.std.specs.Prelude.{◌≡◌, ℕ, true, false, ◌&&◌, ◌||◌}
 use Rattle.run_laws.specs.Cards.{Card, Class}
 

@@ -47,7 +47,8 @@ parts_counted m f x [] s cut keeps (p, n) =
   where
     add_nothing : (v : Ext) → Fin (m s (s +ℚ (x +ℚ zero_q))) ≤ₑ v → Fin (m s (s +ℚ (x +ℚ zero_q))) ≤ₑ v +ₑ Fin zero_q
     add_nothing v h =
-        subst (λ (q : ℚ). Fin q ≤ₑ v +ₑ Fin zero_q) (with1 (m s (s +ℚ (x +ℚ zero_q))) (λ c. omega (arith, c.le, c.lt, c.same)))
+        subst (λ (q : ℚ). Fin q ≤ₑ v +ₑ Fin zero_q)
+        (with1 (m s (s +ℚ (x +ℚ zero_q))) (λ c. omega (arith, c.le, c.lt, c.same)))
         (add_le_ext (Fin (m s (s +ℚ (x +ℚ zero_q)))) v (Fin zero_q) (Fin zero_q) h (le_refl zero_q))
 parts_counted m f x (y ∷ ys) s cut keeps (p, n) =
     let u = s +ℚ x in

@@ -67,7 +67,8 @@ abbrev pub PartOutputFromService : Type 0
 PartOutputFromService = (server : Server) (end : ℚ) (view : List ServerStep) (Q f : Class) (queue : ℕ)
     (α β own : ℚ → Ext) (d : Ext) (s t : ℚ) →
     IsLawfulView server end view → IsOfQueue Q queue view → IsPart f Q view → KeepsArrivals Q α view →
-    KeepsArrivals f own view → Serves Q β end view → IsRising β → IsHorizontalDeviation α β d → s ≤ℚ t → Fin (departed_in f view s t) ≤ₑ shifted own d (t -ℚ s)
+    KeepsArrivals f own view → Serves Q β end view → IsRising β → IsHorizontalDeviation α β d → s ≤ℚ t →
+    Fin (departed_in f view s t) ≤ₑ shifted own d (t -ℚ s)
 
 -- where no packet of a class of one queue stays longer than d, at most α, moved left by d, leaves in a closed window
 abbrev pub OutputFromDelay : Type 0

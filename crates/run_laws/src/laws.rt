@@ -37,7 +37,8 @@ pub fn part_output_from_service()
     ensures { PartOutputFromService }
 {}
 
-/// Where no packet of a class of one queue, as a queue or a flow, stays longer than d, and none arrives twice, it leaves with its arrival curve, moved left by d.
+/// Where no packet of a class of one queue, as a queue or a flow, stays longer than d, and no packet arrives twice, the
+/// class leaves with its arrival curve, moved left by d.
 pub fn output_from_delay()
     ensures { OutputFromDelay }
 {}
@@ -47,15 +48,15 @@ pub fn views_are_lawful()
     ensures { ViewsAreLawful }
 {}
 
-/// At each server the packets of a flow that arrive are of one queue, and a part of it: the one that the flow's path has
-/// there. So each law of a class of one queue, or of a part of a queue, is one of a flow.
+/// At each server the packets of a flow that arrive are of one queue, and a part of it: the one that the flow's path
+/// has there. So each law of a class of one queue, or of a part of a queue, is one of a flow.
 pub fn flow_is_of_one_queue()
     ensures queue { FlowIsOfOneQueue }
     ensures part { FlowIsPart }
 {}
 
-/// Who keeps a curve in every closed window keeps its subadditive closure: a class of packets that arrive at a server, and
-/// the flows of a run.
+/// Who keeps a curve in every closed window keeps its subadditive closure: a class of packets that arrive at a server,
+/// and the flows of a run.
 pub fn closure_is_kept()
     ensures arrivals { ClosureIsKept }
     ensures premises { ClosuresKeepPremises }
