@@ -54,6 +54,10 @@ in_span s k x e some low high = elim (le_or_lt x s.start) [
 pub not_yet : (t bits x : ℚ) → x ≤ℚ t → when (true && lt_q t x) bits ≡ zero_q
 not_yet t bits x h = when_false (true && lt_q t x) bits (lt_q_not _ _ h)
 
+-- nothing is at most nothing
+pub none_over : (x y : ℚ) → x ≡ zero_q → y ≡ zero_q → x ≤ℚ y
+none_over x y e f = with2 x y (λ c. omega (arith, c.le, c.lt, c.same))
+
 -- ---- service
 -- all that has arrived is worked off at x
 abbrev pub IsIdle : List ServerStep → ℚ → Type 0

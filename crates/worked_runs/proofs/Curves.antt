@@ -18,25 +18,25 @@ use Rattle.upp_kinds.proofs.KindForms.{late_normal}
 use Rattle.upp_kinds.proofs.KindValues.{bucket_is, service_is}
 
 -- ---- steps that fit 127 bits
-abbrev small : ℚ → Bool
+abbrev pub small : ℚ → Bool
 small x = ltb (nat_abs x.num) (2 ^ 127) && ltb (den x) (2 ^ 127)
 
-small_by : (x : ℚ) → small x ≡ true → IsSmall x
+pub small_by : (x : ℚ) → small x ≡ true → IsSmall x
 small_by x h =
     let k = and_parts (ltb (nat_abs x.num) (2 ^ 127)) _ h in
     record { top = ltb-true _ _ k.0; bottom = ltb-true _ _ k.1 }
 
-abbrev parts_fit : ℤ → ℕ → ℤ → ℕ → Bool
+abbrev pub parts_fit : ℤ → ℕ → ℤ → ℕ → Bool
 parts_fit a d b e =
     ltb (nat_abs (a *ℤ pos (e / gcd d e))) (2 ^ 127)
     && (ltb (nat_abs (b *ℤ pos (d / gcd d e))) (2 ^ 127)
     && (ltb (nat_abs (a *ℤ pos (e / gcd d e) +ℤ b *ℤ pos (d / gcd d e))) (2 ^ 127)
     && ltb (d / gcd d e * e) (2 ^ 127)))
 
-abbrev sum_fits : ℚ → ℚ → Bool
+abbrev pub sum_fits : ℚ → ℚ → Bool
 sum_fits x y = parts_fit x.num (den x) y.num (den y)
 
-sum_by : (x y : ℚ) → sum_fits x y ≡ true → SumFits x y
+pub sum_by : (x y : ℚ) → sum_fits x y ≡ true → SumFits x y
 sum_by x y h =
     let one = and_parts _ _ h in
     let two = and_parts _ _ one.1 in
@@ -49,10 +49,10 @@ sum_by x y h =
     }
 
 -- k + r x
-abbrev line_fits : ℚ → ℚ → ℚ → Bool
+abbrev pub line_fits : ℚ → ℚ → ℚ → Bool
 line_fits x k r = small (r *ℚ x) && sum_fits k (r *ℚ x)
 
-line_by : (x k r : ℚ) → line_fits x k r ≡ true → LineFits x record { icept = k; slope = r }
+pub line_by : (x k r : ℚ) → line_fits x k r ≡ true → LineFits x record { icept = k; slope = r }
 line_by x k r h =
     let both = and_parts (small (r *ℚ x)) _ h in
     record { product = small_by (r *ℚ x) both.0; sum = sum_by k (r *ℚ x) both.1 }

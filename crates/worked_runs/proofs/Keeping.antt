@@ -1,5 +1,5 @@
 -- What a run of one or two packets has to keep: arrival curves, and the service of one server.
-use Rattle.std.specs.Prelude.{◌≡◌, ◌<◌, ◌≤◌, ℕ, ◌+◌, ◌*◌, Bool, true, ◌&&◌, List}
+use Rattle.std.specs.Prelude.{None, ◌≡◌, ◌<◌, ◌≤◌, ℕ, zero, suc, ◌+◌, ◌*◌, Bool, true, ◌&&◌, List, [], ◌∷◌, All}
 use Rattle.std.proofs.Common.{arith, sym, ap, ◌∙◌, refl, inl, inr}
 use Rattle.rational.specs.Rational.{ℚ, ◌+ℚ◌, ◌-ℚ◌, ◌*ℚ◌, ◌≤ℚ◌, ◌<ℚ◌, lt_q}
 use Rattle.rational.specs.Extended.{Ext, ◌≤ₑ◌}
@@ -15,11 +15,28 @@ use Rattle.upp_kinds.proofs.KindValues.{bucket_is}
 use Rattle.run_laws.specs.Cards.{whole, all, ServerStep}
 use Rattle.run_laws.specs.Counts.{when, arrived, worked}
 use Rattle.run_laws.specs.Premises.{KeepsService}
-use Rattle.run_laws.specs.Servers.{Span, clip}
+use Rattle.run_laws.specs.Allows.{IsComplete}
+use Rattle.run_laws.specs.Lawful.{Due}
+use Rattle.run_laws.specs.Servers.{ServerState, Span, clip}
 use Rattle.run_laws.proofs.Clips.{clip_early, clip_late}
 use Rattle.run_laws.proofs.Small.{le_t, lt_t, sum_t}
 use Rattle.run_laws.proofs.Sums.{when_most}
-use Rattle.worked_runs.proofs.Busy.{times_t, not_yet, service_at_most, IsAtRate, keeps_at_rate, span_at_rate}
+use Rattle.worked_runs.proofs.Busy.{none_over, times_t, not_yet, service_at_most, IsAtRate, keeps_at_rate, span_at_rate}
+
+-- ---- the end of a run
+-- at one server, and at two, no packet is under way that is worked off
+pub one_idle : (s : ServerState) → s.under ≡ None → All (λ (x : ServerState). ¬ IsComplete x.under) (s ∷ [])
+one_idle s e zero d h = rw e (λ k. k)
+one_idle s e (suc n) d h = absurd (omega (arith, h))
+
+pub two_idle : (s t : ServerState) → s.under ≡ None → t.under ≡ None → All (λ (x : ServerState). ¬ IsComplete x.under) (s ∷ t ∷ [])
+two_idle s t e f zero d h = rw e (λ k. k)
+two_idle s t e f (suc zero) d h = rw f (λ k. k)
+two_idle s t e f (suc (suc n)) d h = absurd (omega (arith, h))
+
+-- no packet is on a link
+pub none_left : (end : ℚ) → All (λ (d : Due). end <ℚ d.time) []
+none_left end n d h = absurd (omega (arith, h))
 
 -- ---- arrivals
 -- a bucket's burst covers it in any window
@@ -77,9 +94,6 @@ two_packets_keep k l b c β V hk hl G sees =
     none : (x y z : ℚ) → x ≡ y +ℚ z → y ≡ zero_q → z ≡ zero_q → x ≡ zero_q
     none x y z e f g = with3 x y z (λ c. omega (arith, c.le, c.lt, c.same))
 
-    same_none : (x y : ℚ) → x ≡ zero_q → y ≡ zero_q → x ≤ℚ y
-    same_none x y e f = with2 x y (λ c. omega (arith, c.le, c.lt, c.same))
-
     early : (x : ℚ) → x ≤ℚ whole 10 → worked all V x ≡ zero_q
     early x h = none (worked all V x) (clip (first_span k) x) (clip (second_span k l) x) (sees.work x)
         (clip_early (first_span k) x h) (clip_early (second_span k l) x (le_trans h (nat_le 10 (10 + k) (omega arith))))
@@ -89,7 +103,7 @@ two_packets_keep k l b c β V hk hl G sees =
       rate = nat_nonneg 100;
       soon = rw (sum_t 0 10) (le_refl (whole 10));
       only = record {
-        before = λ x h. same_none (arrived all V x) (worked all V x)
+        before = λ x h. none_over (arrived all V x) (worked all V x)
             (none (arrived all V x) (when (true && lt_q (whole 0) x) (whole b)) (when (true && lt_q (whole 0) x) (whole c))
             (sees.arrivals x) (not_yet (whole 0) (whole b) x h) (not_yet (whole 0) (whole c) x h))
             (early x (le_trans h (nat_nonneg 10)));

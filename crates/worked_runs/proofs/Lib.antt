@@ -22,4 +22,8 @@ pub mod TwoPrioritiesTable
 pub mod TwoPrioritiesRuns
 pub mod TwoPriorities
 pub mod Gates
+pub mod GateLess
+pub mod GateLag
 pub mod OneGateRun
+pub mod OneGateTable
+pub mod OneGate

@@ -56,6 +56,11 @@ module _ (at : CellTable) where
   of_delayed F links x z p e = record { operand = x; is = p; gives = ap number (sym e) }
 
 -- ---- numbers below a small one
+-- one for 0, another for what is more
+abbrev pub by_number : {X : Type 0} → X → X → ℕ → X
+by_number x y zero = x
+by_number x y (suc k) = y
+
 pub none_below : (P : ℕ → Type 0) (b : ℕ) → IsTrue (nat_lt b 0) → P b
 none_below P b h = let l = ltb-true b 0 h in absurd (omega (arith, l))
 

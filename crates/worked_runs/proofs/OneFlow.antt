@@ -22,7 +22,7 @@ use Rattle.net_model.specs.Networks.{NetServer, NetFlow}
 use Rattle.net_model.specs.Orders.{IsOrder}
 use Rattle.net_cells.specs.Numbered.{packet, arrival, service}
 use Rattle.net_bounds.specs.NetRuns.{routes_of, IsRunOf}
-use Rattle.worked_runs.specs.Parts.{late_server, bucket_flow}
+use Rattle.worked_runs.specs.Parts.{late_server, first_flow}
 use Rattle.worked_runs.specs.OneFlow.{one_flow, OneFlowReachesItsBound}
 use Rattle.worked_runs.proofs.Accepting.{no_pairs, alone, some_same, named_by_two, is_late_server, is_one_hop_flow, one_server_order}
 use Rattle.worked_runs.proofs.OneFlowTable.{table, meets}
@@ -32,13 +32,10 @@ use Rattle.worked_runs.proofs.Reaching.{bound_by}
 abbrev its_server : NetServer
 its_server = late_server (codes "s1") 0 Fifo
 
-abbrev its_flow : NetFlow
-its_flow = bucket_flow (codes "f1") (0 ∷ []) (0 ∷ []) 12000 10
-
 is_server : IsServer its_server
 is_server = is_late_server (codes "s1") 0 Fifo (named_by_two 115 49 refl refl) tt
 
-is_flow : IsFlow one_flow.servers its_flow
+is_flow : IsFlow one_flow.servers first_flow
 is_flow = is_one_hop_flow one_flow.servers (codes "f1") 0 12000 10 (named_by_two 102 49 refl refl) (omega arith) (omega arith)
     record { server = its_server; is = refl; has_queue = omega arith; takes = tt }
 
@@ -47,14 +44,14 @@ accepted = record {
   version = refl;
   few_servers = omega arith;
   few_flows = omega arith;
-  names = (no_pairs (λ s t. s.name ≢ t.name) its_server, no_pairs DifferInName (Some its_flow));
+  names = (no_pairs (λ s t. s.name ≢ t.name) its_server, no_pairs DifferInName (Some first_flow));
   servers = λ s has. subst IsServer (alone its_server s has) is_server;
-  flows = λ f has. subst (IsFlow one_flow.servers) (some_same its_flow f (alone (Some its_flow) (Some f) has)) is_flow;
+  flows = λ f has. subst (IsFlow one_flow.servers) (some_same first_flow f (alone (Some first_flow) (Some f) has)) is_flow;
 }
 
 ordered : IsOrder one_flow (0 ∷ [])
 ordered = one_server_order one_flow refl
-    (λ f has. ap (λ (g : NetFlow). length g.path) (sym (some_same its_flow f (alone (Some its_flow) (Some f) has))))
+    (λ f has. ap (λ (g : NetFlow). length g.path) (sym (some_same first_flow f (alone (Some first_flow) (Some f) has))))
 
 -- ---- the run
 -- with the curves of the network

@@ -28,23 +28,17 @@ use Rattle.net_cells.specs.Equations.{MeetsEquation, MeetsEquations}
 use Rattle.net_cells.specs.Meanings.{Meaning, curve, number, CellTable}
 use Rattle.worked_runs.specs.OneFlow.{one_flow}
 use Rattle.worked_runs.proofs.Meanings.{of_one, of_left, of_horizontal, of_vertical, of_smaller, of_along, of_delayed, none_below, below_one, none_before, none_before_one, only_zero}
-use Rattle.worked_runs.proofs.Operators.{less_packet, alone_left, delay_of, no_delay, backlog_of}
-use Rattle.worked_runs.proofs.Rows.{nothing, after_10, after_130, burst_12000, packet_12000}
+use Rattle.worked_runs.proofs.Operators.{no_delay}
+use Rattle.worked_runs.proofs.Rows.{nothing, after_10, service, packets, first_arrival, whole_packets, alone, first_delay_is, first_backlog_is}
 
 -- ---- the values
-abbrev arrival : SpecCurve
-arrival = bucket (whole 12000) (whole 10)
-
-abbrev service : SpecCurve
-service = rate_latency (whole 100) (whole 10)
-
 abbrev delay : Ext
 delay = Fin (whole 130)
 
 abbrev values : Kind → Option Meaning
-values In = Some (curve arrival)
+values In = Some (curve first_arrival)
 values Cross = Some (curve zero_curve)
-values Total = Some (curve arrival)
+values Total = Some (curve first_arrival)
 values Higher = None
 values QueueService = Some (curve service)
 values Theta = Some (number (Fin zero_q))
@@ -64,22 +58,6 @@ abbrev pub table : CellTable
 table c = values c.kind
 
 -- ---- what the operators make
-its_delay : IsHorizontalDeviation (value_at arrival) (value_at service) delay
-unfolding computing
-its_delay =
-    delay_of (whole 12000) (whole 10) (whole 100) (whole 10) (whole 130) burst_12000 after_10 (le_t 10 100 refl)
-    (lt_t 0 12000 refl) (same_parts _ _ refl refl)
-
-its_backlog : IsVerticalDeviation (value_at arrival) (value_at (rate_latency (whole 100) (whole 130))) (Fin (whole 13300))
-unfolding computing
-its_backlog =
-    backlog_of (whole 12000) (whole 10) (whole 100) (whole 130) (whole 13300) burst_12000 after_130 (le_t 10 100 refl)
-    (same_parts _ _ refl refl)
-
-whole_packets : IsMadeBy (PosMinus (whole 12000)) service service (rate_latency (whole 100) (whole 130))
-whole_packets =
-    less_packet (whole 100) (whole 10) (whole 130) (whole 12000) after_10 after_130 (le_t 10 130 refl) packet_12000
-
 -- with no link
 no_link : sum_of_numbers (delay ∷ Fin (whole 0) ∷ []) ≡ delay
 unfolding computing
@@ -113,9 +91,9 @@ abbrev Meets : Kind → ℕ → ℕ → Type 0
 Meets kind a b = MeetsEquation one_flow table (cell_of kind a b)
 
 meets_at : (kind : Kind) (a b : ℕ) → IsTrue (has_cell one_flow (cell_of kind a b)) → Meets kind a b
-meets_at In a b h = at_hop (Meets In) record { value = curve arrival; is = refl; means = refl } a b h
+meets_at In a b h = at_hop (Meets In) record { value = curve first_arrival; is = refl; means = refl } a b h
 meets_at Cross a b h = at_hop (Meets Cross) record { value = curve zero_curve; is = refl; means = refl } a b h
-meets_at Total a b h = at_queue (Meets Total) record { value = curve arrival; is = refl; means = refl } a b h
+meets_at Total a b h = at_queue (Meets Total) record { value = curve first_arrival; is = refl; means = refl } a b h
 meets_at Higher a b h = at_level (Meets Higher) a b h
 meets_at QueueService a b h = at_queue (Meets QueueService) record { value = curve service; is = refl; means = refl } a b h
 meets_at Theta a b h = at_hop (Meets Theta) record {
@@ -128,27 +106,25 @@ meets_at Residual a b h = at_hop (Meets Residual) record {
   value = curve service;
   is = refl;
   means = of_left table (value QueueService 0 0) (value Cross 0 0) (value Theta 0 0) service zero_curve service (Fin zero_q)
-      refl refl refl (alone_left (whole 100) (whole 10) after_10 nothing);
+      refl refl refl alone;
 } a b h
 meets_at QueueDelay a b h = at_queue (Meets QueueDelay) record {
   value = number delay;
   is = refl;
-  means = of_horizontal table (value Total 0 0) (value QueueService 0 0) arrival service delay refl refl its_delay;
+  means = of_horizontal table (value Total 0 0) (value QueueService 0 0) first_arrival service delay refl refl first_delay_is;
 } a b h
 meets_at QueueBacklog a b h = at_queue (Meets QueueBacklog) record {
   value = number (Fin (whole 13300));
   is = refl;
-  means = of_vertical table (value Total 0 0) (less (value QueueService 0 0) 12000) arrival
-      (rate_latency (whole 100) (whole 130)) (Fin (whole 13300)) refl
-      (of_one table (PosMinus (whole 12000)) (value QueueService 0 0) service (rate_latency (whole 100) (whole 130)) refl
-      whole_packets)
-      its_backlog;
+  means = of_vertical table (value Total 0 0) (less (value QueueService 0 0) 12000) first_arrival packets (Fin (whole 13300)) refl
+      (of_one table (PosMinus (whole 12000)) (value QueueService 0 0) service packets refl whole_packets)
+      first_backlog_is;
 } a b h
 meets_at HopDelay a b h = at_hop (Meets HopDelay) record {
   value = number delay;
   is = refl;
   means = of_smaller table (value QueueDelay 0 0) (horizontal (value In 0 0) (value Residual 0 0)) delay delay delay refl
-      (of_horizontal table (value In 0 0) (value Residual 0 0) arrival service delay refl refl its_delay) least;
+      (of_horizontal table (value In 0 0) (value Residual 0 0) first_arrival service delay refl refl first_delay_is) least;
 } a b h
 meets_at ShiftOut a b h = before_hop (Meets ShiftOut) a b h
 meets_at DeconvOut a b h = before_hop (Meets DeconvOut) a b h
@@ -163,7 +139,7 @@ meets_at Sfa a b h = at_path (Meets Sfa) record {
   value = number delay;
   is = refl;
   means = of_delayed table (horizontal (value In 0 0) (value PathService 0 0)) (whole 0 ∷ []) delay delay
-      (of_horizontal table (value In 0 0) (value PathService 0 0) arrival service delay refl refl its_delay) no_link;
+      (of_horizontal table (value In 0 0) (value PathService 0 0) first_arrival service delay refl refl first_delay_is) no_link;
 } a b h
 meets_at Bound a b h = at_path (Meets Bound) record {
   value = number delay;

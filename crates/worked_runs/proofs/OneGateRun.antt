@@ -30,21 +30,14 @@ use Rattle.net_cells.specs.Numbered.{packet, arrival, service}
 use Rattle.net_bounds.specs.NetRuns.{routes_of, IsRunOf}
 use Rattle.worked_runs.specs.OneGate.{one_gate, at_its_end}
 use Rattle.worked_runs.specs.Reached.{HasDelay}
-use Rattle.worked_runs.proofs.Busy.{times_t, not_yet, span_at_rate, IsAtMostService, IsAtRate, keeps_at_rate}
+use Rattle.worked_runs.proofs.Busy.{none_over, times_t, not_yet, span_at_rate, IsAtMostService, IsAtRate, keeps_at_rate}
 use Rattle.worked_runs.proofs.Gates.{while_closed, while_open}
-use Rattle.worked_runs.proofs.Keeping.{at_most}
+use Rattle.worked_runs.proofs.Keeping.{one_idle, none_left, at_most}
 
 abbrev net : Routes
 net = routes_of one_gate
 
 -- ---- lawful
-idle : (s : ServerState) → s.under ≡ None → All (λ (x : ServerState). ¬ IsComplete x.under) (s ∷ [])
-idle s e zero d h = rw e (λ k. k)
-idle s e (suc n) d h = absurd (omega arith)
-
-none_left : All (λ (d : Due). whole 990 <ℚ d.time) []
-none_left n d h = absurd (omega arith)
-
 lawful : IsLawful net at_its_end
 lawful = record {
   allowed = (
@@ -60,8 +53,8 @@ lawful = record {
       ),
     ),
   );
-  none_complete = idle _ refl;
-  none_overdue = none_left;
+  none_complete = one_idle _ refl;
+  none_overdue = none_left (whole 990);
 }
 
 -- ---- it keeps the arrival curve
@@ -126,15 +119,12 @@ worked_is x =
 arrived_is : (x : ℚ) → arrived all (view net at_its_end 0) x ≡ when (true && lt_q (whole 0) x) (whole 24000)
 arrived_is x = with1 (when (true && lt_q (whole 0) x) (whole 24000)) (λ c. omega (arith, c.le, c.lt, c.same))
 
-nothing_left : (x y : ℚ) → x ≡ whole 0 → y ≡ whole 0 → x ≤ℚ y
-nothing_left x y e f = with2 x y (λ c. omega (arith, c.le, c.lt, c.same))
-
 at_rate : IsAtRate (whole 100) (whole 750) (whole 0) (whole 750) (whole 990) (whole 990) (view net at_its_end 0)
 at_rate = record {
   rate = le_t 0 100 refl;
   soon = rw (sum_t 0 750) (le_t 750 750 refl);
   only = record {
-    before = λ x h. nothing_left (arrived all (view net at_its_end 0) x) (worked all (view net at_its_end 0) x)
+    before = λ x h. none_over (arrived all (view net at_its_end 0) x) (worked all (view net at_its_end 0) x)
         (arrived_is x ∙ not_yet (whole 0) (whole 24000) x h)
         (worked_is x ∙ clip_early its_work x (le_trans h (le_t 0 750 refl)));
     past = inl refl;

@@ -161,7 +161,7 @@ services_convolve R S T U f g h e = record {
 
 -- ---- what first in, first out leaves
 -- a curve that never falls and is what is left
-fifo_made : (β cross γ : SpecCurve) (theta : ℚ) → IsCurve γ → IsRising (value_at γ)
+pub fifo_made : (β cross γ : SpecCurve) (theta : ℚ) → IsCurve γ → IsRising (value_at γ)
     → ((x : ℚ) → zero_q ≤ℚ x → left_after (value_at β) (value_at cross) theta x ≡ value_at γ x)
     → IsMadeBy (FifoLeft (Fin theta)) β cross γ
 fifo_made β cross γ theta curve rises same = record {

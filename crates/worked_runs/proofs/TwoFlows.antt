@@ -7,7 +7,7 @@ use Rattle.net_model.specs.Accepted.{IsServer, IsFlow, IsAccepted}
 use Rattle.net_model.specs.Names.{DifferInName}
 use Rattle.net_model.specs.Networks.{NetServer, NetFlow}
 use Rattle.net_model.specs.Orders.{IsOrder}
-use Rattle.worked_runs.specs.Parts.{late_server, bucket_flow}
+use Rattle.worked_runs.specs.Parts.{late_server, first_flow, second_flow}
 use Rattle.worked_runs.specs.TwoFlows.{two_flows, TwoFlowsReachTheirBounds}
 use Rattle.worked_runs.proofs.Accepting.{no_pairs, one_pair, alone, one_of_two, some_same, named_by_two, ends_apart, is_late_server, is_one_hop_flow, one_server_order}
 use Rattle.worked_runs.proofs.Reaching.{bound_by}
@@ -17,28 +17,22 @@ use Rattle.worked_runs.proofs.TwoFlowsRuns.{first_flow_last_delay, second_flow_l
 abbrev its_server : NetServer
 its_server = late_server (codes "s1") 0 Fifo
 
-abbrev first : NetFlow
-first = bucket_flow (codes "f1") (0 ∷ []) (0 ∷ []) 12000 10
-
-abbrev second : NetFlow
-second = bucket_flow (codes "f2") (0 ∷ []) (0 ∷ []) 6000 5
-
 is_server : IsServer its_server
 is_server = is_late_server (codes "s1") 0 Fifo (named_by_two 115 49 refl refl) tt
 
-is_first : IsFlow two_flows.servers first
+is_first : IsFlow two_flows.servers first_flow
 is_first = is_one_hop_flow two_flows.servers (codes "f1") 0 12000 10 (named_by_two 102 49 refl refl) (omega arith) (omega arith)
     record { server = its_server; is = refl; has_queue = omega arith; takes = tt }
 
-is_second : IsFlow two_flows.servers second
+is_second : IsFlow two_flows.servers second_flow
 is_second = is_one_hop_flow two_flows.servers (codes "f2") 0 6000 5 (named_by_two 102 50 refl refl) (omega arith) (omega arith)
     record { server = its_server; is = refl; has_queue = omega arith; takes = tt }
 
 -- what holds of both flows holds of each
-of_both : (P : NetFlow → Type 0) → P first → P second → (f : NetFlow) → Contains two_flows.flows (Some f) → P f
-of_both P p q f has = elim (one_of_two (Some first) (Some second) (Some f) has) [
-  | inl e ↦ subst P (some_same first f e) p
-  | inr e ↦ subst P (some_same second f e) q
+of_both : (P : NetFlow → Type 0) → P first_flow → P second_flow → (f : NetFlow) → Contains two_flows.flows (Some f) → P f
+of_both P p q f has = elim (one_of_two (Some first_flow) (Some second_flow) (Some f) has) [
+  | inl e ↦ subst P (some_same first_flow f e) p
+  | inr e ↦ subst P (some_same second_flow f e) q
 ]
 
 accepted : IsAccepted two_flows
@@ -47,7 +41,7 @@ accepted = record {
   few_servers = omega arith;
   few_flows = omega arith;
   names = (no_pairs (λ s t. s.name ≢ t.name) its_server,
-    one_pair DifferInName (Some first) (Some second) (ends_apart 102 49 102 50 (omega arith)));
+    one_pair DifferInName (Some first_flow) (Some second_flow) (ends_apart 102 49 102 50 (omega arith)));
   servers = λ s has. subst IsServer (alone its_server s has) is_server;
   flows = of_both (IsFlow two_flows.servers) is_first is_second;
 }

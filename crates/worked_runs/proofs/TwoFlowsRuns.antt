@@ -24,19 +24,11 @@ use Rattle.net_cells.specs.Numbered.{packet, arrival, service}
 use Rattle.net_bounds.specs.NetRuns.{routes_of, IsRunOf}
 use Rattle.worked_runs.specs.TwoFlows.{two_flows, first_flow_last, second_flow_last}
 use Rattle.worked_runs.specs.Reached.{HasDelay}
-use Rattle.worked_runs.proofs.Keeping.{bucket_covers, at_most, first_span, second_span, SeesTwo, two_packets_keep}
+use Rattle.worked_runs.proofs.Keeping.{one_idle, none_left, bucket_covers, at_most, first_span, second_span, SeesTwo, two_packets_keep}
 use Rattle.worked_runs.proofs.Terms.{both_arrive, both_worked}
 
 abbrev net : Routes
 net = routes_of two_flows
-
--- at the end no packet is under way, and none is on a link
-idle : (s : ServerState) → s.under ≡ None → All (λ (x : ServerState). ¬ IsComplete x.under) (s ∷ [])
-idle s e zero d h = rw e (λ k. k)
-idle s e (suc n) d h = absurd (omega arith)
-
-none_left : All (λ (d : Due). whole 190 <ℚ d.time) []
-none_left n d h = absurd (omega arith)
 
 -- ---- first flow last
 first_flow_last_lawful : IsLawful net first_flow_last
@@ -66,8 +58,8 @@ first_flow_last_lawful = record {
       ),
     ),
   );
-  none_complete = idle _ refl;
-  none_overdue = none_left;
+  none_complete = one_idle _ refl;
+  none_overdue = none_left (whole 190);
 }
 
 first_flow_last_sizes : (flow : ℕ) → (route_of net flow).live ≡ true → EnterSizes flow (packet two_flows flow) first_flow_last.steps
@@ -149,8 +141,8 @@ second_flow_last_lawful = record {
       ),
     ),
   );
-  none_complete = idle _ refl;
-  none_overdue = none_left;
+  none_complete = one_idle _ refl;
+  none_overdue = none_left (whole 190);
 }
 
 second_flow_last_sizes : (flow : ℕ) → (route_of net flow).live ≡ true → EnterSizes flow (packet two_flows flow) second_flow_last.steps

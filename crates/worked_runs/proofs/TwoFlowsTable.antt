@@ -26,22 +26,13 @@ use Rattle.net_cells.specs.NumberSums.{sum_of_numbers}
 use Rattle.net_cells.specs.Equations.{MeetsEquation, MeetsEquations}
 use Rattle.net_cells.specs.Meanings.{Meaning, curve, number, CellTable}
 use Rattle.worked_runs.specs.TwoFlows.{two_flows}
-use Rattle.worked_runs.proofs.Meanings.{of_one, of_two, of_left, of_horizontal, of_vertical, of_smaller, of_along, of_delayed, none_below, below_one, none_before, none_before_one, only_zero}
-use Rattle.worked_runs.proofs.Operators.{less_packet, buckets_sum, beside_left, delay_of, backlog_of}
-use Rattle.worked_runs.proofs.Rows.{after_10, after_130, burst_12000, burst_6000, packet_12000}
+use Rattle.worked_runs.proofs.Meanings.{by_number, of_one, of_two, of_left, of_horizontal, of_vertical, of_smaller, of_along, of_delayed, none_below, below_one, none_before, none_before_one, only_zero}
+use Rattle.worked_runs.proofs.Operators.{buckets_sum, beside_left, delay_of, backlog_of}
+use Rattle.worked_runs.proofs.Rows.{after_10, after_130, burst_12000, burst_6000, service, packets, first_arrival, second_arrival, whole_packets, first_delay_is}
 use Rattle.worked_runs.proofs.Curves.{IsBurst, burst_by, IsLate, late_by}
 
 -- ---- the values
-abbrev service : SpecCurve
-service = rate_latency (whole 100) (whole 10)
-
--- with what each flow comes, and what is left to it
-abbrev first_arrival : SpecCurve
-first_arrival = bucket (whole 12000) (whole 10)
-
-abbrev second_arrival : SpecCurve
-second_arrival = bucket (whole 6000) (whole 5)
-
+-- with what both come, and what is left to each
 abbrev both_arrivals : SpecCurve
 both_arrivals = bucket (whole 18000) (whole 15)
 
@@ -61,28 +52,23 @@ first_alone = Fin (frac (pos 3730) 18)
 abbrev second_alone : Ext
 second_alone = Fin (frac (pos 590) 2)
 
--- one for the first flow, another for the second
-abbrev by_flow : {X : Type 0} → X → X → ℕ → X
-by_flow x y zero = x
-by_flow x y (suc i) = y
-
 abbrev values : Kind → ℕ → Option Meaning
-values In i = Some (curve (by_flow first_arrival second_arrival i))
-values Cross i = Some (curve (by_flow second_arrival first_arrival i))
+values In i = Some (curve (by_number first_arrival second_arrival i))
+values Cross i = Some (curve (by_number second_arrival first_arrival i))
 values Total s = Some (curve both_arrivals)
 values Higher s = None
 values QueueService s = Some (curve service)
-values Theta i = Some (number (by_flow (Fin (whole 70)) (Fin (whole 130)) i))
-values Residual i = Some (curve (by_flow first_left second_left i))
+values Theta i = Some (number (by_number (Fin (whole 70)) (Fin (whole 130)) i))
+values Residual i = Some (curve (by_number first_left second_left i))
 values QueueDelay s = Some (number delay)
 values QueueBacklog s = Some (number (Fin (whole 19950)))
 values HopDelay i = Some (number delay)
 values ShiftOut i = None
 values DeconvOut i = None
 values Out i = None
-values PathService i = Some (curve (by_flow first_left second_left i))
+values PathService i = Some (curve (by_number first_left second_left i))
 values Tfa i = Some (number delay)
-values Sfa i = Some (number (by_flow first_alone second_alone i))
+values Sfa i = Some (number (by_number first_alone second_alone i))
 values Bound i = Some (number delay)
 
 abbrev pub table : CellTable
@@ -113,28 +99,18 @@ queue_delay =
     delay_of (whole 18000) (whole 15) (whole 100) (whole 10) (whole 190) burst_18000 after_10 (le_t 15 100 refl)
     (lt_t 0 18000 refl) (same_parts _ _ refl refl)
 
-queue_backlog : IsVerticalDeviation (value_at both_arrivals) (value_at (rate_latency (whole 100) (whole 130))) (Fin (whole 19950))
+queue_backlog : IsVerticalDeviation (value_at both_arrivals) (value_at packets) (Fin (whole 19950))
 unfolding computing
 queue_backlog =
     backlog_of (whole 18000) (whole 15) (whole 100) (whole 130) (whole 19950) burst_18000 after_130 (le_t 15 100 refl)
     (same_parts _ _ refl refl)
 
-whole_packets : IsMadeBy (PosMinus (whole 12000)) service service (rate_latency (whole 100) (whole 130))
-whole_packets =
-    less_packet (whole 100) (whole 10) (whole 130) (whole 12000) after_10 after_130 (le_t 10 130 refl) packet_12000
-
--- how far the second flow is from the service, and what it leaves to the first; and the other way round
+-- how far the second flow is from the service, and what each leaves to the other
 first_theta : IsHorizontalDeviation (value_at second_arrival) (value_at service) (Fin (whole 70))
 unfolding computing
 first_theta =
     delay_of (whole 6000) (whole 5) (whole 100) (whole 10) (whole 70) burst_6000 after_10 (le_t 5 100 refl) (lt_t 0 6000 refl)
     (same_parts _ _ refl refl)
-
-second_theta : IsHorizontalDeviation (value_at first_arrival) (value_at service) (Fin (whole 130))
-unfolding computing
-second_theta =
-    delay_of (whole 12000) (whole 10) (whole 100) (whole 10) (whole 130) burst_12000 after_10 (le_t 10 100 refl)
-    (lt_t 0 12000 refl) (same_parts _ _ refl refl)
 
 first_rest : IsMadeBy (FifoLeft (Fin (whole 70))) service second_arrival first_left
 unfolding computing
@@ -222,14 +198,14 @@ meets_at QueueService a b h = at_queue (Meets QueueService)
     record { value = curve service; is = refl; means = refl } a b h
 meets_at Theta a b h = at_hop (Meets Theta)
     record { value = number (Fin (whole 70)); is = refl; means = of_horizontal table (value Cross 0 0) (value QueueService 0 0) second_arrival service (Fin (whole 70)) refl refl first_theta }
-    record { value = number (Fin (whole 130)); is = refl; means = of_horizontal table (value Cross 1 0) (value QueueService 0 0) first_arrival service (Fin (whole 130)) refl refl second_theta } a b h
+    record { value = number (Fin (whole 130)); is = refl; means = of_horizontal table (value Cross 1 0) (value QueueService 0 0) first_arrival service (Fin (whole 130)) refl refl first_delay_is } a b h
 meets_at Residual a b h = at_hop (Meets Residual)
     record { value = curve first_left; is = refl; means = of_left table (value QueueService 0 0) (value Cross 0 0) (value Theta 0 0) service second_arrival first_left (Fin (whole 70)) refl refl refl first_rest }
     record { value = curve second_left; is = refl; means = of_left table (value QueueService 0 0) (value Cross 1 0) (value Theta 1 0) service first_arrival second_left (Fin (whole 130)) refl refl refl second_rest } a b h
 meets_at QueueDelay a b h = at_queue (Meets QueueDelay)
     record { value = number delay; is = refl; means = of_horizontal table (value Total 0 0) (value QueueService 0 0) both_arrivals service delay refl refl queue_delay } a b h
 meets_at QueueBacklog a b h = at_queue (Meets QueueBacklog)
-    record { value = number (Fin (whole 19950)); is = refl; means = of_vertical table (value Total 0 0) (less (value QueueService 0 0) 12000) both_arrivals (rate_latency (whole 100) (whole 130)) (Fin (whole 19950)) refl (of_one table (PosMinus (whole 12000)) (value QueueService 0 0) service (rate_latency (whole 100) (whole 130)) refl whole_packets) queue_backlog } a b h
+    record { value = number (Fin (whole 19950)); is = refl; means = of_vertical table (value Total 0 0) (less (value QueueService 0 0) 12000) both_arrivals packets (Fin (whole 19950)) refl (of_one table (PosMinus (whole 12000)) (value QueueService 0 0) service packets refl whole_packets) queue_backlog } a b h
 meets_at HopDelay a b h = at_hop (Meets HopDelay)
     record { value = number delay; is = refl; means = of_smaller table (value QueueDelay 0 0) (horizontal (value In 0 0) (value Residual 0 0)) delay first_alone delay refl (of_horizontal table (value In 0 0) (value Residual 0 0) first_arrival first_left first_alone refl refl first_delay) least_first }
     record { value = number delay; is = refl; means = of_smaller table (value QueueDelay 0 0) (horizontal (value In 1 0) (value Residual 1 0)) delay second_alone delay refl (of_horizontal table (value In 1 0) (value Residual 1 0) second_arrival second_left second_alone refl refl second_delay) least_second } a b h

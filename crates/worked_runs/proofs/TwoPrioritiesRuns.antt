@@ -28,19 +28,11 @@ use Rattle.net_cells.specs.Numbered.{packet, arrival, service}
 use Rattle.net_bounds.specs.NetRuns.{routes_of, IsRunOf}
 use Rattle.worked_runs.specs.TwoPriorities.{two_priorities, lower_first, higher_first}
 use Rattle.worked_runs.specs.Reached.{HasDelay}
-use Rattle.worked_runs.proofs.Keeping.{bucket_covers, at_most, first_span, second_span, SeesTwo, two_packets_keep}
+use Rattle.worked_runs.proofs.Keeping.{one_idle, none_left, bucket_covers, at_most, first_span, second_span, SeesTwo, two_packets_keep}
 use Rattle.worked_runs.proofs.Terms.{both_arrive, both_worked, one_after_work, worked_before_one}
 
 abbrev net : Routes
 net = routes_of two_priorities
-
--- at the end no packet is under way, and none is on a link
-idle : (s : ServerState) → s.under ≡ None → All (λ (x : ServerState). ¬ IsComplete x.under) (s ∷ [])
-idle s e zero d h = rw e (λ k. k)
-idle s e (suc n) d h = absurd (omega arith)
-
-none_left : All (λ (d : Due). whole 190 <ℚ d.time) []
-none_left n d h = absurd (omega arith)
 
 -- ---- higher first
 higher_first_lawful : IsLawful net higher_first
@@ -70,8 +62,8 @@ higher_first_lawful = record {
       ),
     ),
   );
-  none_complete = idle _ refl;
-  none_overdue = none_left;
+  none_complete = one_idle _ refl;
+  none_overdue = none_left (whole 190);
 }
 
 higher_first_sizes : (flow : ℕ) → (route_of net flow).live ≡ true → EnterSizes flow (packet two_priorities flow) higher_first.steps
@@ -153,8 +145,8 @@ lower_first_lawful = record {
       ),
     ),
   );
-  none_complete = idle _ refl;
-  none_overdue = none_left;
+  none_complete = one_idle _ refl;
+  none_overdue = none_left (whole 190);
 }
 
 lower_first_sizes : (flow : ℕ) → (route_of net flow).live ≡ true → EnterSizes flow (packet two_priorities flow) lower_first.steps

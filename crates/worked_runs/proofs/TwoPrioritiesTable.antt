@@ -27,15 +27,12 @@ use Rattle.net_cells.specs.NumberSums.{sum_of_numbers}
 use Rattle.net_cells.specs.Equations.{MeetsEquation, MeetsEquations}
 use Rattle.net_cells.specs.Meanings.{Meaning, curve, number, CellTable}
 use Rattle.worked_runs.specs.TwoPriorities.{two_priorities}
-use Rattle.worked_runs.proofs.Meanings.{of_one, of_left, of_horizontal, of_vertical, of_smaller, of_along, of_delayed, none_below, below_one, below_two, none_before, none_before_one, only_zero}
+use Rattle.worked_runs.proofs.Meanings.{by_number, of_one, of_left, of_horizontal, of_vertical, of_smaller, of_along, of_delayed, none_below, below_one, below_two, none_before, none_before_one, only_zero}
 use Rattle.worked_runs.proofs.Operators.{less_packet, alone_left, priority_made, delay_of, no_delay, backlog_of}
-use Rattle.worked_runs.proofs.Rows.{nothing, after_10, after_70, after_130, after_190}
+use Rattle.worked_runs.proofs.Rows.{nothing, after_10, after_70, after_130, after_190, service, packets}
 use Rattle.worked_runs.proofs.Curves.{IsBurst, burst_by}
 
 -- ---- the values
-abbrev service : SpecCurve
-service = rate_latency (whole 100) (whole 10)
-
 abbrev first_arrival : SpecCurve
 first_arrival = bucket (whole 12000) (whole 0)
 
@@ -47,24 +44,19 @@ abbrev first_service : SpecCurve
 first_service = rate_latency (whole 100) (whole 70)
 
 abbrev second_service : SpecCurve
-second_service = rate_latency (whole 100) (whole 130)
+second_service = packets
 
 abbrev first_packets : SpecCurve
 first_packets = rate_latency (whole 100) (whole 190)
 
 abbrev second_packets : SpecCurve
-second_packets = rate_latency (whole 100) (whole 190)
+second_packets = first_packets
 
 abbrev first_delay : Ext
 first_delay = Fin (whole 190)
 
 abbrev second_delay : Ext
 second_delay = Fin (whole 190)
-
--- one for 0, another for what is more
-abbrev by_number : {X : Type 0} → X → X → ℕ → X
-by_number x y zero = x
-by_number x y (suc i) = y
 
 abbrev values : Kind → ℕ → ℕ → Option Meaning
 values In i k = Some (curve (by_number first_arrival second_arrival i))
@@ -167,15 +159,9 @@ no_link_first : sum_of_numbers (first_delay ∷ Fin (whole 0) ∷ []) ≡ first_
 unfolding computing
 no_link_first = ap Fin (same_parts _ _ refl refl)
 
-no_link_second : sum_of_numbers (second_delay ∷ Fin (whole 0) ∷ []) ≡ second_delay
-no_link_second = no_link_first
-
 least_first : min_ext first_delay first_delay ≡ first_delay
 unfolding computing
 least_first = ap Fin (same_parts _ _ refl refl)
-
-least_second : min_ext second_delay second_delay ≡ second_delay
-least_second = least_first
 
 -- ---- the equations
 at_hop : (P : ℕ → ℕ → Type 0) → P 0 0 → P 1 0 → (a b : ℕ) → IsTrue (nat_lt b (hops two_priorities a)) → P a b
@@ -234,7 +220,7 @@ meets_at QueueBacklog a b h = at_queue (Meets QueueBacklog)
     record { value = number (Fin (whole 12000)); is = refl; means = of_vertical table (value Total 0 1) (less (value QueueService 0 1) 12000) first_arrival first_packets (Fin (whole 12000)) refl (of_one table (PosMinus (whole 12000)) (value QueueService 0 1) first_service first_packets refl first_whole) first_backlog } a b h
 meets_at HopDelay a b h = at_hop (Meets HopDelay)
     record { value = number first_delay; is = refl; means = of_smaller table (value QueueDelay 0 1) (horizontal (value In 0 0) (value Residual 0 0)) first_delay first_delay first_delay refl (of_horizontal table (value In 0 0) (value Residual 0 0) first_arrival first_service first_delay refl refl first_delay_is) least_first }
-    record { value = number second_delay; is = refl; means = of_smaller table (value QueueDelay 0 0) (horizontal (value In 1 0) (value Residual 1 0)) second_delay second_delay second_delay refl (of_horizontal table (value In 1 0) (value Residual 1 0) second_arrival second_service second_delay refl refl second_delay_is) least_second } a b h
+    record { value = number second_delay; is = refl; means = of_smaller table (value QueueDelay 0 0) (horizontal (value In 1 0) (value Residual 1 0)) second_delay second_delay second_delay refl (of_horizontal table (value In 1 0) (value Residual 1 0) second_arrival second_service second_delay refl refl second_delay_is) least_first } a b h
 meets_at ShiftOut a b h = before_hop (Meets ShiftOut) a b h
 meets_at DeconvOut a b h = before_hop (Meets DeconvOut) a b h
 meets_at Out a b h = before_hop (Meets Out) a b h
@@ -243,13 +229,13 @@ meets_at PathService a b h = at_path (Meets PathService)
     record { value = curve second_service; is = refl; means = refl } a b h
 meets_at Tfa a b h = at_path (Meets Tfa)
     record { value = number first_delay; is = refl; means = of_along table (cell_of HopDelay 0 0 ∷ []) (whole 0 ∷ []) (first_delay ∷ []) first_delay (refl, tt) no_link_first }
-    record { value = number second_delay; is = refl; means = of_along table (cell_of HopDelay 1 0 ∷ []) (whole 0 ∷ []) (second_delay ∷ []) second_delay (refl, tt) no_link_second } a b h
+    record { value = number second_delay; is = refl; means = of_along table (cell_of HopDelay 1 0 ∷ []) (whole 0 ∷ []) (second_delay ∷ []) second_delay (refl, tt) no_link_first } a b h
 meets_at Sfa a b h = at_path (Meets Sfa)
     record { value = number first_delay; is = refl; means = of_delayed table (horizontal (value In 0 0) (value PathService 0 0)) (whole 0 ∷ []) first_delay first_delay (of_horizontal table (value In 0 0) (value PathService 0 0) first_arrival first_service first_delay refl refl first_delay_is) no_link_first }
-    record { value = number second_delay; is = refl; means = of_delayed table (horizontal (value In 1 0) (value PathService 1 0)) (whole 0 ∷ []) second_delay second_delay (of_horizontal table (value In 1 0) (value PathService 1 0) second_arrival second_service second_delay refl refl second_delay_is) no_link_second } a b h
+    record { value = number second_delay; is = refl; means = of_delayed table (horizontal (value In 1 0) (value PathService 1 0)) (whole 0 ∷ []) second_delay second_delay (of_horizontal table (value In 1 0) (value PathService 1 0) second_arrival second_service second_delay refl refl second_delay_is) no_link_first } a b h
 meets_at Bound a b h = at_path (Meets Bound)
     record { value = number first_delay; is = refl; means = of_smaller table (value Tfa 0 0) (value Sfa 0 0) first_delay first_delay first_delay refl refl least_first }
-    record { value = number second_delay; is = refl; means = of_smaller table (value Tfa 1 0) (value Sfa 1 0) second_delay second_delay second_delay refl refl least_second } a b h
+    record { value = number second_delay; is = refl; means = of_smaller table (value Tfa 1 0) (value Sfa 1 0) second_delay second_delay second_delay refl refl least_first } a b h
 
 pub meets : MeetsEquations two_priorities table
 meets c h = meets_at c.kind c.a c.b h

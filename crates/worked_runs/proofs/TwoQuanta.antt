@@ -7,7 +7,7 @@ use Rattle.net_model.specs.Accepted.{IsLength, IsServer, IsFlow, IsAccepted}
 use Rattle.net_model.specs.Names.{DifferInName}
 use Rattle.net_model.specs.Networks.{NetServer, NetFlow}
 use Rattle.net_model.specs.Orders.{IsOrder}
-use Rattle.worked_runs.specs.Parts.{late_server, bucket_flow}
+use Rattle.worked_runs.specs.Parts.{late_server, first_flow, bucket_flow}
 use Rattle.worked_runs.specs.TwoQuanta.{two_quanta, TwoQuantaStayBelowTheirBounds}
 use Rattle.worked_runs.proofs.Accepting.{no_pairs, one_pair, alone, one_of_two, some_same, named_by_two, ends_apart, is_late_server, is_one_hop_flow, one_server_order}
 use Rattle.worked_runs.proofs.Reaching.{bound_by}
@@ -16,9 +16,6 @@ use Rattle.worked_runs.proofs.TwoQuantaRuns.{first_flow_last_delay, second_flow_
 
 abbrev its_server : NetServer
 its_server = late_server (codes "s1") 0 (Drr (12000 ∷ 6000 ∷ []))
-
-abbrev first : NetFlow
-first = bucket_flow (codes "f1") (0 ∷ []) (0 ∷ []) 12000 10
 
 abbrev second : NetFlow
 second = bucket_flow (codes "f2") (0 ∷ []) (1 ∷ []) 6000 5
@@ -32,7 +29,7 @@ each (suc (suc k)) d within = absurd (omega (arith, within))
 is_server : IsServer its_server
 is_server = is_late_server (codes "s1") 0 (Drr (12000 ∷ 6000 ∷ [])) (named_by_two 115 49 refl refl) ((omega arith, omega arith), each)
 
-is_first : IsFlow two_quanta.servers first
+is_first : IsFlow two_quanta.servers first_flow
 is_first = is_one_hop_flow two_quanta.servers (codes "f1") 0 12000 10 (named_by_two 102 49 refl refl) (omega arith) (omega arith)
     record { server = its_server; is = refl; has_queue = omega arith; takes = omega arith }
 
@@ -41,9 +38,9 @@ is_second = is_one_hop_flow two_quanta.servers (codes "f2") 1 6000 5 (named_by_t
     record { server = its_server; is = refl; has_queue = omega arith; takes = omega arith }
 
 -- what holds of both flows holds of each
-of_both : (P : NetFlow → Type 0) → P first → P second → (f : NetFlow) → Contains two_quanta.flows (Some f) → P f
-of_both P p q f has = elim (one_of_two (Some first) (Some second) (Some f) has) [
-  | inl e ↦ subst P (some_same first f e) p
+of_both : (P : NetFlow → Type 0) → P first_flow → P second → (f : NetFlow) → Contains two_quanta.flows (Some f) → P f
+of_both P p q f has = elim (one_of_two (Some first_flow) (Some second) (Some f) has) [
+  | inl e ↦ subst P (some_same first_flow f e) p
   | inr e ↦ subst P (some_same second f e) q
 ]
 
@@ -53,7 +50,7 @@ accepted = record {
   few_servers = omega arith;
   few_flows = omega arith;
   names = (no_pairs (λ s t. s.name ≢ t.name) its_server,
-    one_pair DifferInName (Some first) (Some second) (ends_apart 102 49 102 50 (omega arith)));
+    one_pair DifferInName (Some first_flow) (Some second) (ends_apart 102 49 102 50 (omega arith)));
   servers = λ s has. subst IsServer (alone its_server s has) is_server;
   flows = of_both (IsFlow two_quanta.servers) is_first is_second;
 }

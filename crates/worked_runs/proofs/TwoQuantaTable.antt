@@ -29,21 +29,12 @@ use Rattle.net_cells.specs.NumberSums.{sum_of_numbers}
 use Rattle.net_cells.specs.Equations.{MeetsEquation, MeetsEquations}
 use Rattle.net_cells.specs.Meanings.{Meaning, curve, number, CellTable}
 use Rattle.worked_runs.specs.TwoQuanta.{two_quanta}
-use Rattle.worked_runs.proofs.Meanings.{of_one, of_left, of_horizontal, of_vertical, of_smaller, of_along, of_delayed, none_below, below_one, below_two, none_before, none_before_one, only_zero}
+use Rattle.worked_runs.proofs.Meanings.{by_number, of_one, of_left, of_horizontal, of_vertical, of_smaller, of_along, of_delayed, none_below, below_one, below_two, none_before, none_before_one, only_zero}
 use Rattle.worked_runs.proofs.Operators.{less_packet, alone_left, share_left, delay_of, no_delay, backlog_of}
-use Rattle.worked_runs.proofs.Rows.{nothing, after_10, burst_12000, burst_6000}
+use Rattle.worked_runs.proofs.Rows.{nothing, after_10, burst_12000, burst_6000, service, first_arrival, second_arrival}
 use Rattle.worked_runs.proofs.Curves.{IsLate, late_by}
 
 -- ---- the values
-abbrev service : SpecCurve
-service = rate_latency (whole 100) (whole 10)
-
-abbrev first_arrival : SpecCurve
-first_arrival = bucket (whole 12000) (whole 10)
-
-abbrev second_arrival : SpecCurve
-second_arrival = bucket (whole 6000) (whole 5)
-
 -- the service of each queue, and in whole packets
 abbrev first_service : SpecCurve
 first_service = rate_latency (frac (pos 200) 2) (whole 190)
@@ -63,29 +54,24 @@ first_delay = Fin (whole 370)
 abbrev second_delay : Ext
 second_delay = Fin (whole 550)
 
--- one for the first flow and its queue, another for the second
-abbrev by_flow : {X : Type 0} → X → X → ℕ → X
-by_flow x y zero = x
-by_flow x y (suc i) = y
-
 abbrev values : Kind → ℕ → ℕ → Option Meaning
-values In i k = Some (curve (by_flow first_arrival second_arrival i))
+values In i k = Some (curve (by_number first_arrival second_arrival i))
 values Cross i k = Some (curve zero_curve)
-values Total s q = Some (curve (by_flow first_arrival second_arrival q))
+values Total s q = Some (curve (by_number first_arrival second_arrival q))
 values Higher s q = None
-values QueueService s q = Some (curve (by_flow first_service second_service q))
+values QueueService s q = Some (curve (by_number first_service second_service q))
 values Theta i k = Some (number (Fin zero_q))
-values Residual i k = Some (curve (by_flow first_service second_service i))
-values QueueDelay s q = Some (number (by_flow first_delay second_delay q))
-values QueueBacklog s q = Some (number (by_flow (Fin (whole 15700)) (Fin (whole 8750)) q))
-values HopDelay i k = Some (number (by_flow first_delay second_delay i))
+values Residual i k = Some (curve (by_number first_service second_service i))
+values QueueDelay s q = Some (number (by_number first_delay second_delay q))
+values QueueBacklog s q = Some (number (by_number (Fin (whole 15700)) (Fin (whole 8750)) q))
+values HopDelay i k = Some (number (by_number first_delay second_delay i))
 values ShiftOut i k = None
 values DeconvOut i k = None
 values Out i k = None
-values PathService i b = Some (curve (by_flow first_service second_service i))
-values Tfa i b = Some (number (by_flow first_delay second_delay i))
-values Sfa i b = Some (number (by_flow first_delay second_delay i))
-values Bound i b = Some (number (by_flow first_delay second_delay i))
+values PathService i b = Some (curve (by_number first_service second_service i))
+values Tfa i b = Some (number (by_number first_delay second_delay i))
+values Sfa i b = Some (number (by_number first_delay second_delay i))
+values Bound i b = Some (number (by_number first_delay second_delay i))
 
 abbrev pub table : CellTable
 table c = values c.kind c.a c.b

@@ -22,20 +22,13 @@ use Rattle.run_laws.proofs.Small.{le_t, lt_t, sum_t, enters, works, leaves}
 use Rattle.run_laws.proofs.Sums.{when_true, when_most}
 use Rattle.net_bounds.specs.NetRuns.{routes_of}
 use Rattle.worked_runs.specs.TwoServers.{two_servers, over_both}
-use Rattle.worked_runs.proofs.Busy.{IsIdle, IsBusyOnly, IsAtRate, keeps_at_rate, times_t, service_at_most, span_at_rate, not_yet}
+use Rattle.worked_runs.proofs.Keeping.{two_idle, none_left}
+use Rattle.worked_runs.proofs.Busy.{none_over, IsAtRate, keeps_at_rate, times_t, service_at_most, span_at_rate, not_yet}
 
 abbrev net : Routes
 net = routes_of two_servers
 
 -- ---- lawful
-both_idle : (s t : ServerState) → s.under ≡ None → t.under ≡ None → All (λ (x : ServerState). ¬ IsComplete x.under) (s ∷ t ∷ [])
-both_idle s t e f zero d h = rw e (λ k. k)
-both_idle s t e f (suc zero) d h = rw f (λ k. k)
-both_idle s t e f (suc (suc n)) d h = absurd (omega arith)
-
-none_left : All (λ (d : Due). whole 265 <ℚ d.time) []
-none_left n d h = absurd (omega arith)
-
 pub lawful : IsLawful net over_both
 lawful = record {
   allowed = (
@@ -83,8 +76,8 @@ lawful = record {
       ),
     ),
   );
-  none_complete = both_idle _ _ refl refl;
-  none_overdue = rw (le_q_out _ _ (le_refl (whole 130 +ℚ whole 5))) none_left;
+  none_complete = two_idle _ _ refl refl;
+  none_overdue = rw (le_q_out _ _ (le_refl (whole 130 +ℚ whole 5))) (none_left (whole 265));
 }
 
 pub its_delay : delays net over_both 0 ≡ whole 270 ∷ []
@@ -114,15 +107,12 @@ arrived_first x = with1 (when (true && lt_q (whole 0) x) (whole 12000)) (λ c. o
 arrived_second : (x : ℚ) → arrived all (view net over_both 1) x ≡ when (true && lt_q (whole 130 +ℚ whole 5) x) (whole 12000)
 arrived_second x = with1 (when (true && lt_q (whole 130 +ℚ whole 5) x) (whole 12000)) (λ c. omega (arith, c.le, c.lt, c.same))
 
-idle : (x y : ℚ) → x ≡ whole 0 → y ≡ whole 0 → x ≤ℚ y
-idle x y e f = with2 x y (λ c. omega (arith, c.le, c.lt, c.same))
-
 first_at_rate : IsAtRate (whole 100) (whole 10) (whole 0) (whole 10) (whole 130) (whole 265) (view net over_both 0)
 first_at_rate = record {
   rate = le_t 0 100 refl;
   soon = rw (sum_t 0 10) (le_t 10 10 refl);
   only = record {
-    before = λ x h. idle (arrived all (view net over_both 0) x) (worked all (view net over_both 0) x)
+    before = λ x h. none_over (arrived all (view net over_both 0) x) (worked all (view net over_both 0) x)
         (arrived_first x ∙ not_yet (whole 0) (whole 12000) x h)
         (worked_first x ∙ clip_early at_first x (le_trans h (le_t 0 10 refl)));
     past = inr (λ x h.
@@ -142,7 +132,7 @@ second_at_rate = record {
   rate = le_t 0 100 refl;
   soon = rw (sum_t 130 5, sum_t 135 10) (le_t 145 145 refl);
   only = record {
-    before = λ x h. idle (arrived all (view net over_both 1) x) (worked all (view net over_both 1) x)
+    before = λ x h. none_over (arrived all (view net over_both 1) x) (worked all (view net over_both 1) x)
         (arrived_second x ∙ not_yet (whole 130 +ℚ whole 5) (whole 12000) x h)
         (worked_second x ∙ clip_early at_second x (le_trans h (rw (sum_t 130 5) (le_t 135 145 refl))));
     past = inl refl;

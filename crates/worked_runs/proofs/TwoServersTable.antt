@@ -26,22 +26,12 @@ use Rattle.net_cells.specs.NumberSums.{sum_of_numbers}
 use Rattle.net_cells.specs.Equations.{MeetsEquation, MeetsEquations}
 use Rattle.net_cells.specs.Meanings.{Meaning, curve, number, CellTable}
 use Rattle.worked_runs.specs.TwoServers.{two_servers}
-use Rattle.worked_runs.proofs.Meanings.{of_one, of_two, of_move, of_left, of_horizontal, of_vertical, of_smaller, of_along, of_delayed, none_below, below_one, below_two, none_before, before_two, only_zero}
-use Rattle.worked_runs.proofs.Operators.{less_packet, alone_left, bucket_least, bucket_shift, bucket_output, services_convolve, delay_of, no_delay, backlog_of}
-use Rattle.worked_runs.proofs.Rows.{nothing, after_10, after_130, burst_12000, packet_12000}
+use Rattle.worked_runs.proofs.Meanings.{by_number, of_one, of_two, of_move, of_left, of_horizontal, of_vertical, of_smaller, of_along, of_delayed, none_below, below_one, below_two, none_before, before_two, only_zero}
+use Rattle.worked_runs.proofs.Operators.{bucket_least, bucket_shift, bucket_output, services_convolve, delay_of, no_delay, backlog_of}
+use Rattle.worked_runs.proofs.Rows.{nothing, after_10, after_130, burst_12000, service, packets, first_arrival, whole_packets, alone, first_delay_is, first_backlog_is}
 use Rattle.worked_runs.proofs.Curves.{IsBurst, burst_by, IsLate, late_by}
 
 -- ---- the values
-abbrev arrival : SpecCurve
-arrival = bucket (whole 12000) (whole 10)
-
-abbrev service : SpecCurve
-service = rate_latency (whole 100) (whole 10)
-
--- in whole packets
-abbrev packets : SpecCurve
-packets = rate_latency (whole 100) (whole 130)
-
 -- what leaves the first server, and so comes to the second
 abbrev output : SpecCurve
 output = bucket (whole 13300) (whole 10)
@@ -56,22 +46,17 @@ first_delay = Fin (whole 130)
 abbrev second_delay : Ext
 second_delay = Fin (whole 143)
 
--- one for the first server, another for the second
-abbrev by_place : {X : Type 0} → X → X → ℕ → X
-by_place x y zero = x
-by_place x y (suc k) = y
-
 abbrev values : Kind → ℕ → ℕ → Option Meaning
-values In i k = Some (curve (by_place arrival output k))
+values In i k = Some (curve (by_number first_arrival output k))
 values Cross i k = Some (curve zero_curve)
-values Total s q = Some (curve (by_place arrival output s))
+values Total s q = Some (curve (by_number first_arrival output s))
 values Higher s q = None
 values QueueService s q = Some (curve service)
 values Theta i k = Some (number (Fin zero_q))
 values Residual i k = Some (curve service)
-values QueueDelay s q = Some (number (by_place first_delay second_delay s))
-values QueueBacklog s q = Some (number (by_place (Fin (whole 13300)) (Fin (whole 14600)) s))
-values HopDelay i k = Some (number (by_place first_delay second_delay k))
+values QueueDelay s q = Some (number (by_number first_delay second_delay s))
+values QueueBacklog s q = Some (number (by_number (Fin (whole 13300)) (Fin (whole 14600)) s))
+values HopDelay i k = Some (number (by_number first_delay second_delay k))
 values ShiftOut i k = Some (curve output)
 values DeconvOut i k = Some (curve output)
 values Out i k = Some (curve output)
@@ -92,29 +77,17 @@ after_140 : IsLate (whole 100) (whole 140)
 unfolding computing
 after_140 = late_by (whole 100) (whole 140) refl
 
-delay_at_first : IsHorizontalDeviation (value_at arrival) (value_at service) first_delay
-unfolding computing
-delay_at_first =
-    delay_of (whole 12000) (whole 10) (whole 100) (whole 10) (whole 130) burst_12000 after_10 (le_t 10 100 refl)
-    (lt_t 0 12000 refl) (same_parts _ _ refl refl)
-
 delay_at_second : IsHorizontalDeviation (value_at output) (value_at service) second_delay
 unfolding computing
 delay_at_second =
     delay_of (whole 13300) (whole 10) (whole 100) (whole 10) (whole 143) burst_13300 after_10 (le_t 10 100 refl)
     (lt_t 0 13300 refl) (same_parts _ _ refl refl)
 
-delay_over_both : IsHorizontalDeviation (value_at arrival) (value_at service_of_both) (Fin (whole 260))
+delay_over_both : IsHorizontalDeviation (value_at first_arrival) (value_at service_of_both) (Fin (whole 260))
 unfolding computing
 delay_over_both =
     delay_of (whole 12000) (whole 10) (whole 100) (whole 140) (whole 260) burst_12000 after_140 (le_t 10 100 refl)
     (lt_t 0 12000 refl) (same_parts _ _ refl refl)
-
-first_backlog : IsVerticalDeviation (value_at arrival) (value_at packets) (Fin (whole 13300))
-unfolding computing
-first_backlog =
-    backlog_of (whole 12000) (whole 10) (whole 100) (whole 130) (whole 13300) burst_12000 after_130 (le_t 10 100 refl)
-    (same_parts _ _ refl refl)
 
 second_backlog : IsVerticalDeviation (value_at output) (value_at packets) (Fin (whole 14600))
 unfolding computing
@@ -122,17 +95,13 @@ second_backlog =
     backlog_of (whole 13300) (whole 10) (whole 100) (whole 130) (whole 14600) burst_13300 after_130 (le_t 10 100 refl)
     (same_parts _ _ refl refl)
 
-whole_packets : IsMadeBy (PosMinus (whole 12000)) service service packets
-whole_packets =
-    less_packet (whole 100) (whole 10) (whole 130) (whole 12000) after_10 after_130 (le_t 10 130 refl) packet_12000
-
-shifted : IsMadeBy (Shift first_delay) arrival arrival output
+shifted : IsMadeBy (Shift first_delay) first_arrival first_arrival output
 unfolding computing
 shifted =
     bucket_shift (whole 12000) (whole 10) (whole 130) (whole 13300) burst_12000 burst_13300 (le_t 0 130 refl)
     (same_parts _ _ refl refl)
 
-leaves_as : IsMadeBy Deconvolve arrival packets output
+leaves_as : IsMadeBy Deconvolve first_arrival packets output
 unfolding computing
 leaves_as =
     bucket_output (whole 12000) (whole 10) (whole 100) (whole 130) (whole 13300) burst_12000 after_130 burst_13300
@@ -142,9 +111,6 @@ in_a_row : IsMadeBy Convolve packets service service_of_both
 unfolding computing
 in_a_row =
     services_convolve (whole 100) (whole 130) (whole 10) (whole 140) after_130 after_10 after_140 (same_parts _ _ refl refl)
-
-alone : IsMadeBy (FifoLeft (Fin zero_q)) service zero_curve service
-alone = alone_left (whole 100) (whole 10) after_10 nothing
 
 -- with two links of 5
 by_hops : sum_of_numbers (first_delay ∷ second_delay ∷ Fin (whole 5) ∷ Fin (whole 5) ∷ []) ≡ Fin (whole 283)
@@ -206,11 +172,11 @@ packets_are : (F : Formula) → Means table F (curve service) → Means table (l
 packets_are F m = of_one table (PosMinus (whole 12000)) F service packets m whole_packets
 
 meets_at : (kind : Kind) (a b : ℕ) → IsTrue (has_cell two_servers (cell_of kind a b)) → Meets kind a b
-meets_at In a b h = at_hop (Meets In) record { value = curve arrival; is = refl; means = refl }
+meets_at In a b h = at_hop (Meets In) record { value = curve first_arrival; is = refl; means = refl }
     record { value = curve output; is = refl; means = refl } a b h
 meets_at Cross a b h = at_hop (Meets Cross) record { value = curve zero_curve; is = refl; means = refl }
     record { value = curve zero_curve; is = refl; means = refl } a b h
-meets_at Total a b h = at_queue (Meets Total) record { value = curve arrival; is = refl; means = refl }
+meets_at Total a b h = at_queue (Meets Total) record { value = curve first_arrival; is = refl; means = refl }
     record { value = curve output; is = refl; means = refl } a b h
 meets_at Higher a b h = at_level (Meets Higher) a b h
 meets_at QueueService a b h = at_queue (Meets QueueService) record { value = curve service; is = refl; means = refl }
@@ -222,7 +188,7 @@ meets_at Residual a b h = at_hop (Meets Residual) record { value = curve service
 meets_at QueueDelay a b h = at_queue (Meets QueueDelay) record {
   value = number first_delay;
   is = refl;
-  means = of_horizontal table (value Total 0 0) (value QueueService 0 0) arrival service first_delay refl refl delay_at_first;
+  means = of_horizontal table (value Total 0 0) (value QueueService 0 0) first_arrival service first_delay refl refl first_delay_is;
 } record {
   value = number second_delay;
   is = refl;
@@ -231,8 +197,8 @@ meets_at QueueDelay a b h = at_queue (Meets QueueDelay) record {
 meets_at QueueBacklog a b h = at_queue (Meets QueueBacklog) record {
   value = number (Fin (whole 13300));
   is = refl;
-  means = of_vertical table (value Total 0 0) (less (value QueueService 0 0) 12000) arrival packets (Fin (whole 13300)) refl
-      (packets_are (value QueueService 0 0) refl) first_backlog;
+  means = of_vertical table (value Total 0 0) (less (value QueueService 0 0) 12000) first_arrival packets (Fin (whole 13300)) refl
+      (packets_are (value QueueService 0 0) refl) first_backlog_is;
 } record {
   value = number (Fin (whole 14600));
   is = refl;
@@ -244,7 +210,7 @@ meets_at HopDelay a b h = at_hop (Meets HopDelay) record {
   is = refl;
   means = of_smaller table (value QueueDelay 0 0) (horizontal (value In 0 0) (value Residual 0 0)) first_delay first_delay
       first_delay refl
-      (of_horizontal table (value In 0 0) (value Residual 0 0) arrival service first_delay refl refl delay_at_first) least_first;
+      (of_horizontal table (value In 0 0) (value Residual 0 0) first_arrival service first_delay refl refl first_delay_is) least_first;
 } record {
   value = number second_delay;
   is = refl;
@@ -255,12 +221,12 @@ meets_at HopDelay a b h = at_hop (Meets HopDelay) record {
 meets_at ShiftOut a b h = before_hop (Meets ShiftOut) record {
   value = curve output;
   is = refl;
-  means = of_move table (value In 0 0) (value HopDelay 0 0) arrival output first_delay refl refl shifted;
+  means = of_move table (value In 0 0) (value HopDelay 0 0) first_arrival output first_delay refl refl shifted;
 } a b h
 meets_at DeconvOut a b h = before_hop (Meets DeconvOut) record {
   value = curve output;
   is = refl;
-  means = of_two table Deconvolve (value In 0 0) (less (value Residual 0 0) 12000) arrival packets output refl
+  means = of_two table Deconvolve (value In 0 0) (less (value Residual 0 0) 12000) first_arrival packets output refl
       (packets_are (value Residual 0 0) refl) leaves_as;
 } a b h
 meets_at Out a b h = before_hop (Meets Out) record {
@@ -286,7 +252,7 @@ meets_at Sfa a b h = at_path (Meets Sfa) record {
   is = refl;
   means = of_delayed table (horizontal (value In 0 0) (value PathService 0 0)) (whole 5 ∷ whole 5 ∷ []) (Fin (whole 260))
       (Fin (whole 270))
-      (of_horizontal table (value In 0 0) (value PathService 0 0) arrival service_of_both (Fin (whole 260)) refl refl
+      (of_horizontal table (value In 0 0) (value PathService 0 0) first_arrival service_of_both (Fin (whole 260)) refl refl
       delay_over_both) by_service;
 } a b h
 meets_at Bound a b h = at_path (Meets Bound) record {

@@ -4,7 +4,7 @@ use Rattle.run_laws.specs.Cards.{whole}
 use Rattle.run_laws.specs.Examples.{one_packet}
 use Rattle.run_laws.specs.Servers.{Fifo}
 use Rattle.net_model.specs.Networks.{Net}
-use Rattle.worked_runs.specs.Parts.{late_server, bucket_flow}
+use Rattle.worked_runs.specs.Parts.{late_server, first_flow}
 use Rattle.worked_runs.specs.Reached.{ReachesItsBound}
 
 -- a burst of 12000 bits, and 10 bits a unit of time
@@ -12,7 +12,7 @@ abbrev pub one_flow : Net
 one_flow = record {
   version = 1;
   servers = late_server (codes "s1") 0 Fifo ∷ [];
-  flows = Some (bucket_flow (codes "f1") (0 ∷ []) (0 ∷ []) 12000 10) ∷ [];
+  flows = Some first_flow ∷ [];
 }
 
 abbrev pub OneFlowReachesItsBound : Type 0

@@ -1,6 +1,6 @@
 -- What the worked networks are made of: servers with 100 bits a unit of time after a latency of 10, and flows that are
 -- token buckets. (Own choice.)
-use Rattle.std.specs.Prelude.{ℕ, List}
+use Rattle.std.specs.Prelude.{ℕ, List, [], ◌∷◌, codes}
 use Rattle.upp_curve.specs.Kinds.{bucket, rate_latency}
 use Rattle.run_laws.specs.Cards.{whole}
 use Rattle.run_laws.specs.Servers.{Discipline}
@@ -28,3 +28,10 @@ bucket_flow name path queues packet rate = record {
   packet = packet;
   arrival = bucket (whole packet) (whole rate);
 }
+
+-- two flows over server 0 alone, in its queue 0
+abbrev pub first_flow : NetFlow
+first_flow = bucket_flow (codes "f1") (0 ∷ []) (0 ∷ []) 12000 10
+
+abbrev pub second_flow : NetFlow
+second_flow = bucket_flow (codes "f2") (0 ∷ []) (0 ∷ []) 6000 5

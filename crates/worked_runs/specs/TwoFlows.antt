@@ -6,16 +6,14 @@ use Rattle.run_laws.specs.Cards.{whole}
 use Rattle.run_laws.specs.Examples.{ends_at}
 use Rattle.run_laws.specs.Servers.{Fifo}
 use Rattle.net_model.specs.Networks.{Net}
-use Rattle.worked_runs.specs.Parts.{late_server, bucket_flow}
+use Rattle.worked_runs.specs.Parts.{late_server, first_flow, second_flow}
 use Rattle.worked_runs.specs.Reached.{ReachesItsBound}
 
 abbrev pub two_flows : Net
 two_flows = record {
   version = 1;
   servers = late_server (codes "s1") 0 Fifo ∷ [];
-  flows =
-      Some (bucket_flow (codes "f1") (0 ∷ []) (0 ∷ []) 12000 10) ∷
-      Some (bucket_flow (codes "f2") (0 ∷ []) (0 ∷ []) 6000 5) ∷ [];
+  flows = Some first_flow ∷ Some second_flow ∷ [];
 }
 
 -- the first flow's packet last: the other's of 6000 bits is worked on from 10 to 70, and its own from 70 to 190

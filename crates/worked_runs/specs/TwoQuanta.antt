@@ -7,7 +7,7 @@ use Rattle.run_laws.specs.Cards.{whole}
 use Rattle.run_laws.specs.Examples.{ends_at}
 use Rattle.run_laws.specs.Servers.{Drr}
 use Rattle.net_model.specs.Networks.{Net}
-use Rattle.worked_runs.specs.Parts.{late_server, bucket_flow}
+use Rattle.worked_runs.specs.Parts.{late_server, first_flow, bucket_flow}
 use Rattle.worked_runs.specs.Reached.{HasBound, HasDelay}
 
 -- one quantum is one packet, in either queue
@@ -16,7 +16,7 @@ two_quanta = record {
   version = 1;
   servers = late_server (codes "s1") 0 (Drr (12000 ∷ 6000 ∷ [])) ∷ [];
   flows =
-      Some (bucket_flow (codes "f1") (0 ∷ []) (0 ∷ []) 12000 10) ∷
+      Some first_flow ∷
       Some (bucket_flow (codes "f2") (0 ∷ []) (1 ∷ []) 6000 5) ∷ [];
 }
 

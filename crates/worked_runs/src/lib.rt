@@ -9,6 +9,7 @@ ghost use Rattle.worked_runs.specs.TwoServers.{TwoServersReachTheirBound};
 ghost use Rattle.worked_runs.specs.TwoFlows.{TwoFlowsReachTheirBounds};
 ghost use Rattle.worked_runs.specs.TwoPriorities.{TwoPrioritiesReachTheirBounds};
 ghost use Rattle.worked_runs.specs.TwoQuanta.{TwoQuantaStayBelowTheirBounds};
+ghost use Rattle.worked_runs.specs.OneGate.{GateReachesItsBound};
 
 /// One packet of 12000 bits through a server of 100 bits a unit of time after a latency of 10 takes 130, which is the
 /// flow's bound in each table that meets the network's equations, and there is such a table.
@@ -36,4 +37,10 @@ pub fn two_priorities_reach_their_bounds()
 /// a run takes: the law counts a deficit of a whole packet, and a deficit is below the packet that waits.
 pub fn two_quanta_stay_below_their_bounds()
     ensures { TwoQuantaStayBelowTheirBounds }
+{}
+
+/// One packet of 24000 bits through a gate that is open for the last 250 of each 1000, at 100 bits a unit of time, takes
+/// 990; the flow sends a packet each 1500.
+pub fn gate_reaches_its_bound()
+    ensures { GateReachesItsBound }
 {}

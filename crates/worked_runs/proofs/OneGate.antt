@@ -1,0 +1,63 @@
+-- One flow over a gate reaches its bound.
+use Rattle.std.specs.Prelude.{AllPairs}
+use Rattle.std.proofs.Common.{◌≡◌, ◌≢◌, ℕ, zero, suc, ◌<◌, [], ◌∷◌, length, get_or, Some, refl, ap, sym, subst, arith}
+use Rattle.rational.proofs.Integers.{nat_lt, nat_le, nat_nonneg}
+use Rattle.run_laws.specs.Cards.{whole}
+use Rattle.net_model.specs.Accepted.{IsServer, IsHop, IsFlow, IsAccepted}
+use Rattle.net_model.specs.Names.{DifferInName}
+use Rattle.net_model.specs.Networks.{NetFlow}
+use Rattle.net_model.specs.Orders.{IsOrder}
+use Rattle.net_model.proofs.KindsStand.{kinds_may_stand}
+use Rattle.worked_runs.specs.OneGate.{its_server, its_flow, one_gate, GateReachesItsBound}
+use Rattle.worked_runs.proofs.Accepting.{no_pairs, alone, some_same, named_by_one, one_server_order}
+use Rattle.worked_runs.proofs.GateLag.{is_service}
+use Rattle.worked_runs.proofs.OneGateRun.{at_its_end_delay}
+use Rattle.worked_runs.proofs.OneGateTable.{table, meets}
+use Rattle.worked_runs.proofs.Reaching.{bound_by}
+
+-- ---- the network
+is_server : IsServer its_server
+is_server = record {
+  name = named_by_one 103 refl;
+  rate = nat_lt 0 100 (omega arith);
+  kind = (nat_lt 0 250 (omega arith), nat_le 250 1000 (omega arith), refl);
+  service = is_service;
+  link = nat_nonneg 0;
+  queues = tt;
+}
+
+is_flow : IsFlow one_gate.servers its_flow
+is_flow = record {
+  name = named_by_one 102 refl;
+  packet = (omega arith, omega arith);
+  some = omega arith;
+  few = omega arith;
+  paired = refl;
+  hops = is_hop;
+  once = no_pairs (λ s t. s ≢ t) 0;
+  arrival = kinds_may_stand.stair (whole 24000) (whole 1500) (whole 0) (nat_nonneg 24000) (nat_lt 0 1500 (omega arith)) (nat_nonneg 0);
+}
+  where
+    is_hop : (k : ℕ) → k < 1 → IsHop one_gate.servers (get_or its_flow.path k 0) (get_or its_flow.queues k 0) 24000
+    is_hop zero within = record { server = its_server; is = refl; has_queue = omega arith; takes = tt }
+    is_hop (suc k) within = absurd (omega (arith, within))
+
+accepted : IsAccepted one_gate
+accepted = record {
+  version = refl;
+  few_servers = omega arith;
+  few_flows = omega arith;
+  names = (no_pairs (λ s t. s.name ≢ t.name) its_server, no_pairs DifferInName (Some its_flow));
+  servers = λ s has. subst IsServer (alone its_server s has) is_server;
+  flows = λ f has. subst (IsFlow one_gate.servers) (some_same its_flow f (alone (Some its_flow) (Some f) has)) is_flow;
+}
+
+ordered : IsOrder one_gate (0 ∷ [])
+ordered = one_server_order one_gate refl
+    (λ f has. ap (λ (g : NetFlow). length g.path) (sym (some_same its_flow f (alone (Some its_flow) (Some f) has))))
+
+pub gate_reaches_its_bound : GateReachesItsBound
+gate_reaches_its_bound = record {
+  has_bound = bound_by one_gate (0 ∷ []) 0 (whole 990) table accepted ordered meets refl refl;
+  has_delay = at_its_end_delay;
+}
