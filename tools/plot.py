@@ -23,6 +23,18 @@ def number(word):
     return None if word == "unbounded" else float(Fraction(word))
 
 
+def drawing():
+    """matplotlib's figures, drawn without a screen; letters stay letters in an SVG, so it is small and can be searched."""
+    import matplotlib
+
+    matplotlib.use("Agg")
+    matplotlib.rcParams["svg.fonttype"] = "none"
+    matplotlib.rcParams["svg.hashsalt"] = "netcalc"
+    import matplotlib.pyplot as plot
+
+    return plot
+
+
 def read_run(text):
     """The flows and queues of an answer of `simulate`, as lists of names with the worst of the run and the bound."""
     flows, queues = [], []
@@ -159,10 +171,7 @@ def widest(arrival, service, end):
 
 def draw_curves(text, path):
     """The picture of two curves."""
-    import matplotlib
-
-    matplotlib.use("Agg")
-    import matplotlib.pyplot as plot
+    plot = drawing()
 
     (arrival, service), numbers = read_curves(text)
     delay, backlog = numbers["delay"], numbers["backlog"]
@@ -196,10 +205,7 @@ def draw_curves(text, path):
 
 def draw_run(text, path):
     """The picture of an answer of `simulate`: what the run showed beside what no run passes."""
-    import matplotlib
-
-    matplotlib.use("Agg")
-    import matplotlib.pyplot as plot
+    plot = drawing()
 
     flows, queues = read_run(text)
     rows = [max(1, len(flows)), max(1, len(queues))]
@@ -212,10 +218,7 @@ def draw_run(text, path):
 
 def draw_bounds(text, path):
     """The picture of an answer."""
-    import matplotlib
-
-    matplotlib.use("Agg")
-    import matplotlib.pyplot as plot
+    plot = drawing()
 
     if any(line.startswith("worst ") or line.startswith("run ") for line in text.splitlines()):
         draw_run(text, path)
