@@ -1,7 +1,7 @@
 -- That a small network is accepted, and the order of its servers.
 use Rattle.std.specs.Prelude.{All, AllPairs, Contains, IsTrue}
-use Rattle.std.proofs.Common.{◌≡◌, ◌≢◌, ◌⊎◌, ℕ, zero, suc, ◌<◌, ◌≤◌, ◌^◌, List, [], ◌∷◌, length, get_or, take, true, Some, Option, refl, ap, sym, ◌∙◌, inl, inr}
-use Rattle.std.proofs.Common.{subst, arith}
+use Rattle.std.proofs.Common.{◌≡◌, ◌≢◌, ◌⊎◌, ℕ, zero, suc, ◌<◌, ◌≤◌, ◌^◌, List, [], ◌∷◌, length, get_or, take, true, Some, refl, ap, sym, inl, inr}
+use Rattle.std.proofs.Common.{arith}
 use Rattle.rational.proofs.Integers.{nat_lt, nat_nonneg}
 use Rattle.upp_limits.specs.Windows.{IsLeast}
 use Rattle.run_laws.specs.Cards.{whole}

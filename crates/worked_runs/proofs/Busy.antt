@@ -43,7 +43,7 @@ in_span s k x e some low high = elim (le_or_lt x s.start) [
         let part = (x -ℚ s.start) /ℚ (s.end -ℚ s.start) in
         let long : s.end -ℚ s.start ≡ k = with3 s.start s.end k (λ c. omega (arith, c.le, c.lt, c.same)) in
         let q : part *ℚ (s.end -ℚ s.start) ≡ x -ℚ s.start =
-            quotient (x -ℚ s.start) (s.end -ℚ s.start) (with3 s.start s.end k (λ c. omega (arith, c.le, c.lt, c.same))) in
+        quotient (x -ℚ s.start) (s.end -ℚ s.start) (with3 s.start s.end k (λ c. omega (arith, c.le, c.lt, c.same))) in
         let p : part *ℚ k ≡ x -ℚ s.start = sym (ap (λ z. part *ℚ z) long) ∙ q in
         rw (le_q_not _ _ h, le_q_not _ _ l)
         (mul_comm k (s.bits *ℚ part) ∙ mul_assoc s.bits part k ∙ ap (λ z. s.bits *ℚ z) p)
@@ -175,17 +175,19 @@ keeps_at_rate R T from s last end β V G late h = keeps_latency R T from last en
     across a b low l k =
         let m = times {x = b -ℚ a -ℚ T} {y = b -ℚ s} (with5 a b from s T (λ c. omega (arith, c.le, c.lt, c.same))) in
         let z = mul_zero R in
-        let n = times {x = zero_q} {y = b -ℚ s} (with2 b s (λ c. omega (arith, c.le, c.lt, c.same))) in
-        (with2 (R *ℚ zero_q) (R *ℚ (b -ℚ s)) (λ c. omega (arith, c.le, c.lt, c.same)),
-        with2 (R *ℚ (b -ℚ s)) (R *ℚ (b -ℚ a -ℚ T)) (λ c. omega (arith, c.le, c.lt, c.same)))
+        let n = times {x = zero_q} {y = b -ℚ s} (with2 b s (λ c. omega (arith, c.le, c.lt, c.same))) in (
+          with2 (R *ℚ zero_q) (R *ℚ (b -ℚ s)) (λ c. omega (arith, c.le, c.lt, c.same)),
+          with2 (R *ℚ (b -ℚ s)) (R *ℚ (b -ℚ a -ℚ T)) (λ c. omega (arith, c.le, c.lt, c.same)),
+        )
 
     past : (a b : ℚ) → a <ℚ b
         → (R *ℚ (a -ℚ s) ≤ℚ R *ℚ (b -ℚ s)) × (R *ℚ (a -ℚ s) +ℚ R *ℚ (b -ℚ a -ℚ T) ≤ℚ R *ℚ (b -ℚ s))
     past a b l =
         let m = times {x = (a -ℚ s) +ℚ (b -ℚ a -ℚ T)} {y = b -ℚ s} (with4 a b s T (λ c. omega (arith, c.le, c.lt, c.same))) in
-        let e = mul_add R (a -ℚ s) (b -ℚ a -ℚ T) in
-        (times (with3 a b s (λ c. omega (arith, c.le, c.lt, c.same))),
-        with4 (R *ℚ (a -ℚ s)) (R *ℚ (b -ℚ a -ℚ T)) (R *ℚ ((a -ℚ s) +ℚ (b -ℚ a -ℚ T))) (R *ℚ (b -ℚ s)) (λ c. omega (arith, c.le, c.lt, c.same)))
+        let e = mul_add R (a -ℚ s) (b -ℚ a -ℚ T) in (
+          times (with3 a b s (λ c. omega (arith, c.le, c.lt, c.same))),
+          with4 (R *ℚ (a -ℚ s)) (R *ℚ (b -ℚ a -ℚ T)) (R *ℚ ((a -ℚ s) +ℚ (b -ℚ a -ℚ T))) (R *ℚ (b -ℚ s)) (λ c. omega (arith, c.le, c.lt, c.same)),
+        )
 
     works : (a b : ℚ) → from ≤ℚ a → a <ℚ b → b ≤ℚ last
         → (worked all V a ≤ℚ worked all V b) × (worked all V a +ℚ R *ℚ (b -ℚ a -ℚ T) ≤ℚ worked all V b)

@@ -12,7 +12,7 @@ use Rattle.min_plus.specs.Functions.{zero_q}
 use Rattle.min_plus.specs.Formulas.{IsBucket, IsService}
 use Rattle.upp_curve.specs.Curve.{value_at}
 use Rattle.upp_curve.specs.Curves.{IsCurve}
-use Rattle.upp_curve.specs.Kinds.{bucket, after_latency, rate_latency}
+use Rattle.upp_curve.specs.Kinds.{bucket, rate_latency}
 use Rattle.upp_curve.proofs.ReadableKinds.{bucket_curve}
 use Rattle.upp_kinds.proofs.KindForms.{late_normal}
 use Rattle.upp_kinds.proofs.KindValues.{bucket_is, service_is}
@@ -106,8 +106,11 @@ late_by R T h =
       late = late;
       curve = rw (le_q_not T zero_q late, le_q_not R zero_q rate) record {
         normal = late_normal R T rate late;
-        readable = (line_by zero_q zero_q zero_q three.0, line_by T zero_q zero_q four.0,
-          (line_by T (neg_ℚ (R *ℚ T)) R four.1, tt, tt));
+        readable = (
+          line_by zero_q zero_q zero_q three.0,
+          line_by T zero_q zero_q four.0,
+          (line_by T (neg_ℚ (R *ℚ T)) R four.1, tt, tt),
+        );
       };
       is = service_is R T (le_of_lt rate) (le_of_lt late);
     }

@@ -1,5 +1,5 @@
 -- How far the stair of the example is from its gate, both ways: 990 and 47000.
-use Rattle.std.specs.Prelude.{◌≡◌, ◌⊎◌, ℕ, zero, suc, ◌+◌, ◌-◌, ◌*◌, ◌/◌, ◌<◌, ◌≤◌, pos}
+use Rattle.std.specs.Prelude.{◌≡◌, ◌⊎◌, ℕ, zero, suc, ◌+◌, ◌-◌, ◌*◌, ◌/◌, pos}
 use Rattle.std.proofs.Common.{arith, sym, ap, ◌∙◌, refl, subst, inl, inr}
 use Rattle.rational.specs.Rational.{ℚ, int, ◌+ℚ◌, ◌-ℚ◌, ◌*ℚ◌, ◌/ℚ◌, ◌≤ℚ◌, ◌<ℚ◌}
 use Rattle.rational.specs.Fractions.{same_parts}
@@ -10,11 +10,11 @@ use Rattle.rational.specs.Extended.{Ext, ◌≤ₑ◌, ◌-ₑ◌}
 use Rattle.rational.specs.declared.Extended.TheVariants.{Fin}
 use Rattle.rational.proofs.Bounds.{least_member, largest_member}
 use Rattle.rational.proofs.ExtendedOrder.{fin_same, le_ext_trans}
-use Rattle.rational.proofs.Integers.{nat_le, nat_lt, nat_next, nat_nonneg, le_or_more}
-use Rattle.rational.proofs.Laws.{mul_comm, le_or_lt, le_of_lt, le_refl, le_trans, div_mul, not_zero}
+use Rattle.rational.proofs.Integers.{nat_le, nat_lt, nat_next, nat_nonneg}
+use Rattle.rational.proofs.Laws.{mul_comm, le_or_lt, le_of_lt, le_refl, div_mul, not_zero}
 use Rattle.rational.proofs.Linear.{with1, with2, with3, with4, with5}
 use Rattle.rational.proofs.MinMax.{max_q_ge_left, max_q_ge_right, max_q_le}
-use Rattle.min_plus.specs.Functions.{zero_q, Time, FiniteTime, IsRising}
+use Rattle.min_plus.specs.Functions.{zero_q, Time, FiniteTime}
 use Rattle.min_plus.specs.Pointwise.{excess}
 use Rattle.min_plus.specs.Deviations.{Lag, IsLag, IsHorizontalDeviation, IsVerticalDeviation}
 use Rattle.upp_curve.specs.Curve.{SpecCurve, value_at}
@@ -87,10 +87,10 @@ through_is k =
     let high = nat_le b 25000 (omega arith) in
     let split : 25000 * m + b ≡ 24000 * suc k = omega arith in
     let parts : whole 25000 *ℚ whole m +ℚ whole b ≡ whole 24000 *ℚ whole (suc k) =
-        ap (λ z. z +ℚ whole b) (sym (times_t 25000 m)) ∙ sum_t (25000 * m) b ∙ ap whole split ∙ times_t 24000 (suc k) in
+    ap (λ z. z +ℚ whole b) (sym (times_t 25000 m)) ∙ sum_t (25000 * m) b ∙ ap whole split ∙ times_t 24000 (suc k) in
     let (on, some, most, sum) =
-        of (whole m) (whole b) (whole b /ℚ whole 100) ((whole b /ℚ whole 100) *ℚ whole 100) (whole 24000 *ℚ whole (suc k)) q c low high parts
-        (nat_nonneg m) in
+    of (whole m) (whole b) (whole b /ℚ whole 100) ((whole b /ℚ whole 100) *ℚ whole 100) (whole 24000 *ℚ whole (suc k)) q c low high parts
+    (nat_nonneg m) in
     record { cycles_on = on; some = some; most = most; sum = sum }
   where
     of : (m b r x y : ℚ) → x ≡ b → x ≡ whole 100 *ℚ r → zero_q <ℚ b → b ≤ℚ whole 25000 → whole 25000 *ℚ m +ℚ b ≡ y → zero_q ≤ℚ m
@@ -279,12 +279,15 @@ level_is : (t level : ℚ) → zero_q ≤ℚ t → value_at gate_less_packet t �
 level_is t level on e =
     let g = over_line t on in
     let f : max_q zero_q (g.level -ℚ whole 24000) ≡ level =
-        fin_same (sym (less_is t on ∙ ap (λ v. excess v (Fin (whole 24000))) g.is) ∙ e) in
-    (g.level, g.is, record {
-      on = subst (λ z. zero_q ≤ℚ z) f (max_q_ge_left zero_q (g.level -ℚ whole 24000));
-      under = subst (λ z. g.level -ℚ whole 24000 ≤ℚ z) f (max_q_ge_right zero_q (g.level -ℚ whole 24000));
-      line = g.over;
-    })
+    fin_same (sym (less_is t on ∙ ap (λ v. excess v (Fin (whole 24000))) g.is) ∙ e) in (
+      g.level,
+      g.is,
+      record {
+        on = subst (λ z. zero_q ≤ℚ z) f (max_q_ge_left zero_q (g.level -ℚ whole 24000));
+        under = subst (λ z. g.level -ℚ whole 24000 ≤ℚ z) f (max_q_ge_right zero_q (g.level -ℚ whole 24000));
+        line = g.over;
+      },
+    )
 
 -- at most that many bits, after k + 1 packets
 few : (k : ℕ) (t v level : ℚ) → zero_q ≤ℚ t → value_at service t ≡ Fin v → IsLevel t v level → whole 1500 *ℚ whole k ≤ℚ t
@@ -292,7 +295,7 @@ few : (k : ℕ) (t v level : ℚ) → zero_q ≤ℚ t → value_at service t ≡
 few zero t v level on e h low = let a = h.on in with1 level (λ c. omega (arith, c.le, c.lt, c.same))
 few (suc zero) t v level on e h low =
     let up : value_at service (whole 1500) ≤ₑ value_at service t =
-        is_service.rising (whole 1500) t (le_t 0 1500 refl) (with1 t (λ c. omega (arith, c.le, c.lt, c.same))) in
+    is_service.rising (whole 1500) t (le_t 0 1500 refl) (with1 t (λ c. omega (arith, c.le, c.lt, c.same))) in
     let one : whole 25000 ≤ℚ v = subst (λ (x : Ext). x ≤ₑ Fin v) served_at_1500 (subst (λ (x : Ext). value_at service (whole 1500) ≤ₑ x) e up) in
     let a = h.under in
     with2 v level (λ c. omega (arith, c.le, c.lt, c.same))

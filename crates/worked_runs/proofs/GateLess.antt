@@ -2,16 +2,14 @@
 use Rattle.std.specs.Prelude.{◌≡◌, ℕ, suc, ◌≤◌, pos, List, [], ◌∷◌, Option, Some, None}
 use Rattle.std.proofs.Common.{arith, sym, ap, ◌∙◌, refl, subst, inl, inr}
 use Rattle.rational.specs.Rational.{ℚ, int, ◌+ℚ◌, ◌-ℚ◌, ◌*ℚ◌, ◌/ℚ◌, ◌≤ℚ◌, ◌<ℚ◌, neg_ℚ}
-use Rattle.rational.specs.Fractions.{same_parts}
-use Rattle.rational.specs.MinMax.{max_q}
 use Rattle.rational.specs.Extended.{Ext, ◌+ₑ◌}
-use Rattle.rational.specs.declared.Extended.TheVariants.{Fin, Inf}
+use Rattle.rational.specs.declared.Extended.TheVariants.{Fin}
 use Rattle.rational.proofs.ExtendedOrder.{fin_same}
 use Rattle.rational.proofs.Integers.{nat_next, nat_nonneg, nat_le, nat_lt}
-use Rattle.rational.proofs.Laws.{mul_comm, le_or_lt, le_of_lt, le_refl, le_trans, lt_irrefl, le_lt_trans, lt_trans, mul_le_mul, div_mul, not_zero}
+use Rattle.rational.proofs.Laws.{mul_comm, le_or_lt, le_of_lt, le_refl, le_trans, lt_irrefl, lt_trans, mul_le_mul, div_mul, not_zero}
 use Rattle.rational.proofs.Linear.{with1, with2, with3, with4, with5}
 use Rattle.rational.proofs.MinMax.{max_q_right, max_q_is_left, le_q_not}
-use Rattle.rational.proofs.Over.{le_q_out, lt_q_in, le_q_in}
+use Rattle.rational.proofs.Over.{le_q_out}
 use Rattle.rational.proofs.Quotients.{part_pos}
 use Rattle.rational.proofs.Whole.{periods_unique}
 use Rattle.affine_segment.specs.declared.line.Line.{Line}
@@ -23,7 +21,6 @@ use Rattle.min_plus.specs.Pointwise.{excess}
 use Rattle.upp_limits.specs.declared.op_kind.OpKind.TheVariants.{PosMinus}
 use Rattle.upp_curve.specs.declared.curve.Tail.TheVariants.{Periodic}
 use Rattle.upp_curve.specs.Curve.{SpecCurve, value_at, repeated}
-use Rattle.upp_curve.specs.Curves.{IsCurve}
 use Rattle.upp_curve.specs.Kinds.{flat, piece, gate}
 use Rattle.upp_curve.specs.Normal.{IsNormal}
 use Rattle.upp_curve.specs.Readable.{IsReadable, SumFitsAt}
@@ -73,8 +70,11 @@ read_third u low high =
 read_fourth : (u : ℚ) → whole 1750 ≤ℚ u → read pieces u ≡ Fin (neg_ℚ (whole 174000) +ℚ whole 100 *ℚ u)
 unfolding read piece_in
 read_fourth u low =
-    rw (le_q_out (whole 990) u (le_trans (le_t 990 1750 refl) low), le_q_out (whole 1000) u (le_trans (le_t 1000 1750 refl) low),
-    le_q_out (whole 1750) u low)
+    rw (
+      le_q_out (whole 990) u (le_trans (le_t 990 1750 refl) low),
+      le_q_out (whole 1000) u (le_trans (le_t 1000 1750 refl) low),
+      le_q_out (whole 1750) u low,
+    )
     (on_line (whole 1750) (whole 1000) (neg_ℚ (whole 174000)) (whole 100) u
     (with1 zero_q (λ c. omega (arith, c.le, c.lt, c.same))) low)
 
@@ -260,7 +260,7 @@ no_shorter n two h =
     let twice : period *ℚ int (pos 2) ≤ℚ period *ℚ int (pos n) = mul_le_mul period (le_of_lt long) (nat_le 2 n two) in
     let here = flat_from_1000 (whole 1000) (le_refl (whole 1000)) (lt_t 1000 1750 refl) in
     let there = flat_from_1000 (whole 1000 +ℚ period) (on period long)
-        (before period (period *ℚ int (pos n)) (period *ℚ int (pos 2)) all twice (mul_comm period (int (pos 2)))) in
+    (before period (period *ℚ int (pos n)) (period *ℚ int (pos 2)) all twice (mul_comm period (int (pos 2)))) in
     none rise up (fin_same (sym there ∙ h.rule (whole 1000) (le_t 990 1000 refl) ∙ ap (λ v. v +ₑ Fin rise) here))
   where
     on : (p : ℚ) → zero_q <ℚ p → whole 1000 ≤ℚ whole 1000 +ℚ p
@@ -276,7 +276,7 @@ not_from_start : ¬ (Repeats (value_at gate_less_packet) zero_q (whole 1000) (wh
 not_from_start h =
     let here = first_value (whole 750) (with1 (whole 0) (λ c. omega (arith, c.le, c.lt, c.same))) ∙ read_first (whole 750) (le_t 0 750 refl) (lt_t 750 990 refl) in
     let there = first_value (whole 750 +ℚ whole 1000) (with1 (whole 0) (λ c. omega (arith, c.le, c.lt, c.same)))
-        ∙ read_fourth (whole 750 +ℚ whole 1000) (with1 (whole 0) (λ c. omega (arith, c.le, c.lt, c.same))) in
+    ∙ read_fourth (whole 750 +ℚ whole 1000) (with1 (whole 0) (λ c. omega (arith, c.le, c.lt, c.same))) in
     let e = fin_same (sym there ∙ h.rule (whole 750) (le_t 0 750 refl) ∙ ap (λ v. v +ₑ Fin (whole 25000)) here) in
     with1 (whole 0) (λ c. omega (arith, c.le, c.lt, c.same, e))
 
@@ -288,8 +288,8 @@ not_one_line (Some l) h =
     let first = fin_same (sym (flat_from_1000 (whole 1000) (le_refl (whole 1000)) (lt_t 1000 1750 refl)) ∙ h (whole 1000) (le_t 990 1000 refl)) in
     let second = fin_same (sym (flat_from_1000 (whole 1100) (le_t 1000 1100 refl) (lt_t 1100 1750 refl)) ∙ h (whole 1100) (le_t 990 1100 refl)) in
     let third = fin_same
-        (sym (first_value (whole 1800) (with1 (whole 0) (λ c. omega (arith, c.le, c.lt, c.same)))
-        ∙ read_fourth (whole 1800) (le_t 1750 1800 refl)) ∙ h (whole 1800) (le_t 990 1800 refl)) in
+    (sym (first_value (whole 1800) (with1 (whole 0) (λ c. omega (arith, c.le, c.lt, c.same)))
+    ∙ read_fourth (whole 1800) (le_t 1750 1800 refl)) ∙ h (whole 1800) (le_t 990 1800 refl)) in
     bent l.icept l.slope (l.slope *ℚ whole 1000) (l.slope *ℚ whole 1100) (l.slope *ℚ whole 1800)
     (mul_comm l.slope (whole 1000)) (mul_comm l.slope (whole 1100)) (mul_comm l.slope (whole 1800)) first second third
   where
@@ -304,17 +304,29 @@ less_normal = record {
     tail = record {
       nonneg = le_t 0 990 refl;
       some = lt_t 0 1000 refl;
-      starts = (with1 (whole 0) (λ c. omega (arith, c.le, c.lt, c.same)), (with1 (whole 0) (λ c. omega (arith, c.le, c.lt, c.same)),
-        (with1 (whole 0) (λ c. omega (arith, c.le, c.lt, c.same)), (with1 (whole 0) (λ c. omega (arith, c.le, c.lt, c.same)), tt))));
+      starts = (
+        with1 (whole 0) (λ c. omega (arith, c.le, c.lt, c.same)),
+        (
+          with1 (whole 0) (λ c. omega (arith, c.le, c.lt, c.same)),
+          (with1 (whole 0) (λ c. omega (arith, c.le, c.lt, c.same)), (with1 (whole 0) (λ c. omega (arith, c.le, c.lt, c.same)), tt)),
+        ),
+      );
     };
   };
   rank_is_start = inr (inl refl);
   no_merge = (λ h. apart (ap slope_or h.1), (λ h. apart (sym (ap slope_or h.1)), (λ h. apart (ap slope_or h.1), tt)));
   tail = record {
     least_period = no_shorter;
-    least_rank = (λ l. not_from_start, (λ l. absurd (lt_irrefl (whole 990) l),
-      (λ l. absurd (lt_irrefl (whole 990) (lt_trans (lt_t 990 1000 refl) l)),
-      (λ l. absurd (lt_irrefl (whole 990) (lt_trans (lt_t 990 1750 refl) l)), tt))));
+    least_rank = (
+      λ l. not_from_start,
+      (
+        λ l. absurd (lt_irrefl (whole 990) l),
+        (
+          λ l. absurd (lt_irrefl (whole 990) (lt_trans (lt_t 990 1000 refl) l)),
+          (λ l. absurd (lt_irrefl (whole 990) (lt_trans (lt_t 990 1750 refl) l)), tt),
+        ),
+      ),
+    );
     not_one_line = not_one_line;
   };
 }
@@ -326,11 +338,23 @@ less_readable = record {
   rate = small_by (whole 25000 /ℚ whole 1000) refl;
   next = subst (λ (v : Ext). SumFitsAt v (whole 25000)) (sym (read_second (whole 990) (le_t 990 990 refl) (lt_t 990 1000 refl)))
       (sum_by (neg_ℚ (whole 99000) +ℚ whole 100 *ℚ whole 990) (whole 25000) refl);
-  lines = (line_by zero_q zero_q zero_q refl, line_by (whole 990) zero_q zero_q refl,
-    (line_by (whole 990) (neg_ℚ (whole 99000)) (whole 100) refl, line_by (whole 1000) (neg_ℚ (whole 99000)) (whole 100) refl,
-    (line_by (whole 1000) (whole 1000) zero_q refl, line_by (whole 1750) (whole 1000) zero_q refl,
-    (line_by (whole 1750) (neg_ℚ (whole 174000)) (whole 100) refl,
-    line_by (whole 990 +ℚ whole 1000) (neg_ℚ (whole 174000)) (whole 100) refl, tt))));
+  lines = (
+    line_by zero_q zero_q zero_q refl,
+    line_by (whole 990) zero_q zero_q refl,
+    (
+      line_by (whole 990) (neg_ℚ (whole 99000)) (whole 100) refl,
+      line_by (whole 1000) (neg_ℚ (whole 99000)) (whole 100) refl,
+      (
+        line_by (whole 1000) (whole 1000) zero_q refl,
+        line_by (whole 1750) (whole 1000) zero_q refl,
+        (
+          line_by (whole 1750) (neg_ℚ (whole 174000)) (whole 100) refl,
+          line_by (whole 990 +ℚ whole 1000) (neg_ℚ (whole 174000)) (whole 100) refl,
+          tt,
+        ),
+      ),
+    ),
+  );
 }
 
 pub less_made : IsMadeBy (PosMinus (whole 24000)) (gate (whole 100) (whole 1000) (whole 250)) (gate (whole 100) (whole 1000) (whole 250))

@@ -1,12 +1,12 @@
 -- What a run of one or two packets has to keep: arrival curves, and the service of one server.
-use Rattle.std.specs.Prelude.{None, ◌≡◌, ◌<◌, ◌≤◌, ℕ, zero, suc, ◌+◌, ◌*◌, Bool, true, ◌&&◌, List, [], ◌∷◌, All}
+use Rattle.std.specs.Prelude.{None, ◌≡◌, ◌<◌, ℕ, zero, suc, ◌+◌, ◌*◌, Bool, true, ◌&&◌, List, [], ◌∷◌, All}
 use Rattle.std.proofs.Common.{arith, sym, ap, ◌∙◌, refl, inl, inr}
 use Rattle.rational.specs.Rational.{ℚ, ◌+ℚ◌, ◌-ℚ◌, ◌*ℚ◌, ◌≤ℚ◌, ◌<ℚ◌, lt_q}
 use Rattle.rational.specs.Extended.{Ext, ◌≤ₑ◌}
 use Rattle.rational.specs.declared.Extended.TheVariants.{Fin}
 use Rattle.rational.proofs.Integers.{nat_le, nat_lt, nat_nonneg}
 use Rattle.rational.proofs.Laws.{le_or_lt, le_of_lt, le_refl, le_trans, mul_nonneg, mul_add}
-use Rattle.rational.proofs.Linear.{with2, with3, with4, with5, with6}
+use Rattle.rational.proofs.Linear.{with2, with3, with5, with6}
 use Rattle.min_plus.specs.Functions.{zero_q}
 use Rattle.min_plus.specs.Formulas.{IsService}
 use Rattle.upp_curve.specs.Curve.{value_at}
@@ -19,7 +19,7 @@ use Rattle.run_laws.specs.Allows.{IsComplete}
 use Rattle.run_laws.specs.Lawful.{Due}
 use Rattle.run_laws.specs.Servers.{ServerState, Span, clip}
 use Rattle.run_laws.proofs.Clips.{clip_early, clip_late}
-use Rattle.run_laws.proofs.Small.{le_t, lt_t, sum_t}
+use Rattle.run_laws.proofs.Small.{sum_t}
 use Rattle.run_laws.proofs.Sums.{when_most}
 use Rattle.worked_runs.proofs.Busy.{none_over, times_t, not_yet, service_at_most, IsAtRate, keeps_at_rate, span_at_rate}
 

@@ -1,5 +1,5 @@
 -- One flow over one server reaches its bound.
-use Rattle.std.specs.Prelude.{AllPairs, codes}
+use Rattle.std.specs.Prelude.{codes}
 use Rattle.std.proofs.Common.{◌≡◌, ◌≢◌, ℕ, zero, suc, ◌<◌, [], ◌∷◌, length, sym, true, false, Some, refl, ap, subst, arith}
 use Rattle.rational.specs.Rational.{◌-ℚ◌}
 use Rattle.rational.specs.Extended.{◌≤ₑ◌}

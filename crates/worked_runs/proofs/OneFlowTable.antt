@@ -8,15 +8,9 @@ use Rattle.rational.specs.Fractions.{same_parts}
 use Rattle.rational.proofs.Laws.{le_refl}
 use Rattle.rational.proofs.ExtendedOrder.{min_ext_of_le}
 use Rattle.min_plus.specs.Functions.{zero_q}
-use Rattle.min_plus.specs.Deviations.{IsHorizontalDeviation, IsVerticalDeviation}
-use Rattle.curve_call.specs.Answers.{IsMadeBy}
 use Rattle.upp_limits.specs.declared.op_kind.OpKind.TheVariants.{PosMinus}
-use Rattle.upp_curve.specs.Curve.{SpecCurve, value_at}
-use Rattle.upp_curve.specs.Kinds.{bucket, rate_latency}
 use Rattle.upp_kinds.proofs.Worked.{computing}
 use Rattle.run_laws.specs.Cards.{whole}
-use Rattle.run_laws.proofs.Small.{le_t, lt_t}
-use Rattle.net_cells.specs.declared.cell.Cell.{Cell}
 use Rattle.net_cells.specs.declared.cell.Kind.{Kind}
 use Rattle.net_cells.specs.declared.cell.Kind.TheVariants.{In, Cross, Total, Higher, QueueService, Theta, Residual, QueueDelay, QueueBacklog, HopDelay, ShiftOut, DeconvOut, Out, PathService, Tfa, Sfa, Bound}
 use Rattle.net_cells.specs.Numbered.{hops, queues, levels, is_live, zero_curve}

@@ -1,6 +1,5 @@
 -- One flow over a gate reaches its bound.
-use Rattle.std.specs.Prelude.{AllPairs}
-use Rattle.std.proofs.Common.{◌≡◌, ◌≢◌, ℕ, zero, suc, ◌<◌, [], ◌∷◌, length, get_or, Some, refl, ap, sym, subst, arith}
+use Rattle.std.proofs.Common.{◌≢◌, ℕ, zero, suc, ◌<◌, [], ◌∷◌, length, get_or, Some, refl, ap, sym, subst, arith}
 use Rattle.rational.proofs.Integers.{nat_lt, nat_le, nat_nonneg}
 use Rattle.run_laws.specs.Cards.{whole}
 use Rattle.net_model.specs.Accepted.{IsServer, IsHop, IsFlow, IsAccepted}

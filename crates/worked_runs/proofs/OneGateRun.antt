@@ -1,25 +1,23 @@
 -- One packet through a gate.
-use Rattle.std.specs.Prelude.{None, ◌≡◌, ◌<◌, ℕ, zero, suc, pos, true, ◌==◌, ◌&&◌, [], ◌∷◌, All}
+use Rattle.std.specs.Prelude.{◌≡◌, ◌<◌, ℕ, zero, suc, pos, true, ◌==◌, ◌&&◌, [], ◌∷◌}
 use Rattle.std.proofs.Common.{arith, sym, ap, ◌∙◌, refl, false, inl, inr, subst}
-use Rattle.rational.specs.Rational.{ℚ, int, ◌+ℚ◌, ◌-ℚ◌, ◌*ℚ◌, ◌≤ℚ◌, ◌<ℚ◌, lt_q}
+use Rattle.rational.specs.Rational.{ℚ, int, ◌-ℚ◌, ◌*ℚ◌, ◌≤ℚ◌, lt_q}
 use Rattle.rational.specs.MinMax.{max_q}
 use Rattle.rational.specs.Extended.{Ext, ◌≤ₑ◌}
 use Rattle.rational.specs.declared.Extended.TheVariants.{Fin}
 use Rattle.rational.proofs.Integers.{nat_nonneg, nat_le}
-use Rattle.rational.proofs.Laws.{le_or_lt, le_of_lt, le_trans, mul_le_mul, mul_nonneg, mul_one}
+use Rattle.rational.proofs.Laws.{le_or_lt, le_trans, mul_le_mul, mul_nonneg, mul_one}
 use Rattle.rational.proofs.MinMax.{max_q_ge_left, max_q_ge_right}
-use Rattle.rational.proofs.Linear.{with1, with2, with3}
+use Rattle.rational.proofs.Linear.{with1, with2}
 use Rattle.min_plus.specs.Functions.{zero_q}
-use Rattle.min_plus.specs.Formulas.{rate_latency_value, stair_value}
 use Rattle.upp_curve.specs.Curve.{value_at}
 use Rattle.upp_curve.specs.Kinds.{gate, stair}
 use Rattle.upp_kinds.proofs.StairValues.{stair_is}
 use Rattle.run_laws.specs.Cards.{whole, all}
-use Rattle.run_laws.specs.Servers.{ServerState, Span, clip}
-use Rattle.run_laws.specs.Allows.{IsComplete}
+use Rattle.run_laws.specs.Servers.{Span, clip}
 use Rattle.run_laws.specs.Counts.{when, within, arrived, worked}
 use Rattle.run_laws.specs.Premises.{KeepsService}
-use Rattle.run_laws.specs.Lawful.{Due, IsLawful}
+use Rattle.run_laws.specs.Lawful.{IsLawful}
 use Rattle.run_laws.specs.Routes.{Routes, route_of}
 use Rattle.run_laws.specs.RunPremises.{EnterSizes, entered_in}
 use Rattle.run_laws.specs.Views.{view}
@@ -27,7 +25,7 @@ use Rattle.run_laws.proofs.Clips.{clip_early}
 use Rattle.run_laws.proofs.Small.{le_t, lt_t, sum_t, enters, works, leaves}
 use Rattle.run_laws.proofs.Sums.{when_true}
 use Rattle.net_cells.specs.Numbered.{packet, arrival, service}
-use Rattle.net_bounds.specs.NetRuns.{routes_of, IsRunOf}
+use Rattle.net_bounds.specs.NetRuns.{routes_of}
 use Rattle.worked_runs.specs.OneGate.{one_gate, at_its_end}
 use Rattle.worked_runs.specs.Reached.{HasDelay}
 use Rattle.worked_runs.proofs.Busy.{none_over, times_t, not_yet, span_at_rate, IsAtMostService, IsAtRate, keeps_at_rate}
@@ -97,7 +95,7 @@ gate_at_most u on short = elim (le_or_lt (whole 750) u) [
       (late (max_q zero_q (u -ℚ whole 750)) m)
   | inr h ↦
       let m : zero_q ≤ℚ whole 100 *ℚ max_q zero_q (u -ℚ whole 750) =
-          mul_nonneg (nat_nonneg 100) (max_q_ge_left zero_q (u -ℚ whole 750)) in
+      mul_nonneg (nat_nonneg 100) (max_q_ge_left zero_q (u -ℚ whole 750)) in
       rw (while_closed 0 u (with1 u (λ c. omega (arith, c.le, c.lt, c.same))) (with1 u (λ c. omega (arith, c.le, c.lt, c.same))))
       (early (whole 100 *ℚ max_q zero_q (u -ℚ whole 750)) m)
 ]

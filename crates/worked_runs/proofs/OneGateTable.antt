@@ -78,9 +78,15 @@ gate_readable = record {
   next = subst (λ (v : Ext). SumFitsAt v (whole 100 *ℚ whole 250))
       (sym (closed_value (whole 100) (whole 1000) (whole 250) zero_q (le_t 0 0 refl) (lt_q_in zero_q (whole 1000 -ℚ whole 250) refl)))
       (sum_by zero_q (whole 100 *ℚ whole 250) refl);
-  lines = (line_by zero_q zero_q zero_q refl, line_by (whole 1000 -ℚ whole 250) zero_q zero_q refl,
-    (line_by (whole 1000 -ℚ whole 250) (neg_ℚ (whole 100 *ℚ (whole 1000 -ℚ whole 250))) (whole 100) refl,
-    line_by (zero_q +ℚ whole 1000) (neg_ℚ (whole 100 *ℚ (whole 1000 -ℚ whole 250))) (whole 100) refl, tt));
+  lines = (
+    line_by zero_q zero_q zero_q refl,
+    line_by (whole 1000 -ℚ whole 250) zero_q zero_q refl,
+    (
+      line_by (whole 1000 -ℚ whole 250) (neg_ℚ (whole 100 *ℚ (whole 1000 -ℚ whole 250))) (whole 100) refl,
+      line_by (zero_q +ℚ whole 1000) (neg_ℚ (whole 100 *ℚ (whole 1000 -ℚ whole 250))) (whole 100) refl,
+      tt,
+    ),
+  );
 }
 
 gate_curve : IsCurve service
@@ -129,7 +135,7 @@ left_is x on (inr h) =
     all v h =
         let z = zero_mul (x -ℚ zero_q) in
         let e : v -ℚ (zero_q +ℚ zero_q *ℚ (x -ℚ zero_q)) ≡ v =
-            with2 v (zero_q *ℚ (x -ℚ zero_q)) (λ c. omega (arith, c.le, c.lt, c.same)) in
+        with2 v (zero_q *ℚ (x -ℚ zero_q)) (λ c. omega (arith, c.le, c.lt, c.same)) in
         ap Fin (ap (max_q zero_q) e ∙ max_q_right zero_q v h)
 
 alone : IsMadeBy (FifoLeft (Fin zero_q)) service zero_curve service

@@ -1,19 +1,19 @@
 -- What each operator makes of token buckets and rates after a latency.
 use Rattle.std.specs.Prelude.{◌≡◌, ℕ}
 use Rattle.std.proofs.Common.{arith, sym, ap, ap₂, ◌∙◌, subst, inl, inr}
-use Rattle.rational.specs.Rational.{ℚ, int, ◌+ℚ◌, ◌-ℚ◌, ◌*ℚ◌, ◌/ℚ◌, ◌≤ℚ◌, ◌<ℚ◌, le_q}
+use Rattle.rational.specs.Rational.{ℚ, ◌+ℚ◌, ◌-ℚ◌, ◌*ℚ◌, ◌/ℚ◌, ◌≤ℚ◌, ◌<ℚ◌}
 use Rattle.rational.specs.MinMax.{max_q}
-use Rattle.rational.specs.Extended.{Ext, ◌≤ₑ◌, ◌+ₑ◌, min_ext}
+use Rattle.rational.specs.Extended.{Ext, ◌+ₑ◌}
 use Rattle.rational.specs.declared.Extended.TheVariants.{Fin}
-use Rattle.rational.proofs.Laws.{le_refl, le_or_lt, le_of_lt, le_trans, antisym, mul_assoc, mul_add, sub_mul, add_mul, mul_zero, zero_mul, mul_le_mul, mul_nonneg, not_zero}
+use Rattle.rational.proofs.Laws.{le_refl, le_or_lt, le_of_lt, le_trans, mul_assoc, mul_add, sub_mul, add_mul, mul_zero, zero_mul, mul_le_mul, mul_nonneg, not_zero}
 use Rattle.rational.proofs.Quotients.{div_unique, zero_div}
 use Rattle.rational.proofs.MinMax.{max_q_right, max_q_is_left, max_q_ge_left, max_q_le, le_q_not}
 use Rattle.rational.proofs.Over.{le_q_out}
-use Rattle.rational.proofs.Bounds.{least_member, largest_member}
+use Rattle.rational.proofs.Bounds.{least_member}
 use Rattle.rational.proofs.ExtendedOrder.{le_ext_refl, min_ext_of_le}
 use Rattle.rational.proofs.Linear.{with1, with2, with3, with4, with5, with6}
-use Rattle.min_plus.specs.Functions.{zero_q, IsRising, UpTo, From}
-use Rattle.min_plus.specs.Formulas.{IsBucket, IsService, IsPacketised, bucket_value, rate_latency_value}
+use Rattle.min_plus.specs.Functions.{zero_q, IsRising, From}
+use Rattle.min_plus.specs.Formulas.{IsBucket, IsPacketised, rate_latency_value}
 use Rattle.min_plus.specs.Pointwise.{excess, scaled}
 use Rattle.min_plus.specs.Running.{left_after, IsRunningInfimum, IsRunningSupremum}
 use Rattle.min_plus.specs.Convolution.{IsConvolution, IsDeconvolution}
@@ -45,16 +45,16 @@ cut_off R T U l t rate later all = elim (le_or_lt U t) [
       let f = max_q_right zero_q (t -ℚ U) (with2 t U (λ c. omega (arith, c.le, c.lt, c.same))) in
       let split : t -ℚ T ≡ (t -ℚ U) +ℚ (U -ℚ T) = with3 t T U (λ c. omega (arith, c.le, c.lt, c.same)) in
       let m : R *ℚ (t -ℚ T) ≡ R *ℚ (t -ℚ U) +ℚ R *ℚ (U -ℚ T) =
-          ap (λ z. R *ℚ z) split ∙ mul_add R (t -ℚ U) (U -ℚ T) in
+      ap (λ z. R *ℚ z) split ∙ mul_add R (t -ℚ U) (U -ℚ T) in
       let n : zero_q ≤ℚ R *ℚ (t -ℚ U) = mul_nonneg rate (with2 t U (λ c. omega (arith, c.le, c.lt, c.same))) in
       let r : R *ℚ (t -ℚ T) -ℚ l ≡ R *ℚ (t -ℚ U) =
-          with4 l (R *ℚ (t -ℚ T)) (R *ℚ (t -ℚ U)) (R *ℚ (U -ℚ T)) (λ c. omega (arith, c.le, c.lt, c.same)) in
+      with4 l (R *ℚ (t -ℚ T)) (R *ℚ (t -ℚ U)) (R *ℚ (U -ℚ T)) (λ c. omega (arith, c.le, c.lt, c.same)) in
       rw (e, f, r) (ap Fin (max_q_right zero_q (R *ℚ (t -ℚ U)) n))
   | inr h ↦
       let f = max_q_is_left zero_q (t -ℚ U) (with2 t U (λ c. omega (arith, c.le, c.lt, c.same))) in
       let m = mul_le_mul R rate
-          (max_q_le zero_q (t -ℚ T) (U -ℚ T) (with2 T U (λ c. omega (arith, c.le, c.lt, c.same)))
-          (with3 t T U (λ c. omega (arith, c.le, c.lt, c.same)))) in
+      (max_q_le zero_q (t -ℚ T) (U -ℚ T) (with2 T U (λ c. omega (arith, c.le, c.lt, c.same)))
+      (with3 t T U (λ c. omega (arith, c.le, c.lt, c.same)))) in
       let top = R *ℚ max_q zero_q (t -ℚ T) in
       let n : top -ℚ l ≤ℚ zero_q = with3 top l (R *ℚ (U -ℚ T)) (λ c. omega (arith, c.le, c.lt, c.same)) in
       rw (f, mul_zero R) (ap Fin (max_q_is_left zero_q (top -ℚ l) n))
@@ -91,7 +91,7 @@ priority_made R T U V higher c lower s m p H first taken second packet = record 
         let z = zero_mul t in
         let flat : c +ℚ zero_q *ℚ t ≡ c = with2 c (zero_q *ℚ t) (λ c. omega (arith, c.le, c.lt, c.same)) in
         let both : excess (value_at (rate_latency R T) t) (value_at higher t) ≡ excess (rate_latency_value R T t) (Fin c) =
-            ap₂ (λ (x y : Ext). excess x y) (s.is.is t on) (H.is t on ∙ ap Fin flat) in
+        ap₂ (λ (x y : Ext). excess x y) (s.is.is t on) (H.is t on ∙ ap Fin flat) in
         ap (λ v. excess v (Fin (whole lower))) (both ∙ cut_off R T U c t (le_of_lt s.rate) first taken)
         ∙ cut_off R U V (whole lower) t (le_of_lt s.rate) second packet ∙ sym (p.is.is t on)
 
@@ -190,7 +190,7 @@ alone_left R T s Z = fifo_made (rate_latency R T) (bucket zero_q zero_q) (rate_l
           let n : zero_q ≤ℚ y = mul_nonneg (le_of_lt s.rate) (max_q_ge_left zero_q (x -ℚ T)) in
           let z = zero_mul (x -ℚ zero_q) in
           let none : y -ℚ (zero_q +ℚ zero_q *ℚ (x -ℚ zero_q)) ≡ y =
-              with2 y (zero_q *ℚ (x -ℚ zero_q)) (λ c. omega (arith, c.le, c.lt, c.same)) in
+          with2 y (zero_q *ℚ (x -ℚ zero_q)) (λ c. omega (arith, c.le, c.lt, c.same)) in
           let on2 : zero_q ≤ℚ x -ℚ zero_q = with1 x (λ c. omega (arith, c.le, c.lt, c.same)) in
           rw (le_q_not x zero_q h, s.is.is x on, Z.is (x -ℚ zero_q) on2, none) (ap Fin (max_q_right zero_q y n))
     ]
@@ -213,12 +213,12 @@ beside_left R T b r S U s f p later all rest = fifo_made (rate_latency R T) (buc
           let d = max_q_right zero_q (x -ℚ U) g in
           let split : x -ℚ T ≡ (x -ℚ U) +ℚ (U -ℚ T) = with3 x T U (λ c. omega (arith, c.le, c.lt, c.same)) in
           let m : R *ℚ (x -ℚ T) ≡ R *ℚ (x -ℚ U) +ℚ R *ℚ (U -ℚ T) =
-              ap (λ z. R *ℚ z) split ∙ mul_add R (x -ℚ U) (U -ℚ T) in
+          ap (λ z. R *ℚ z) split ∙ mul_add R (x -ℚ U) (U -ℚ T) in
           let k : S *ℚ (x -ℚ U) ≡ R *ℚ (x -ℚ U) -ℚ r *ℚ (x -ℚ U) = ap (λ z. z *ℚ (x -ℚ U)) rest ∙ sub_mul R r (x -ℚ U) in
           let n : zero_q ≤ℚ S *ℚ (x -ℚ U) = mul_nonneg (le_of_lt p.rate) g in
           let a = R *ℚ (x -ℚ T) in
           let left : a -ℚ (b +ℚ r *ℚ (x -ℚ U)) ≡ S *ℚ (x -ℚ U) =
-              with6 b a (R *ℚ (x -ℚ U)) (R *ℚ (U -ℚ T)) (r *ℚ (x -ℚ U)) (S *ℚ (x -ℚ U)) (λ c. omega (arith, c.le, c.lt, c.same)) in
+          with6 b a (R *ℚ (x -ℚ U)) (R *ℚ (U -ℚ T)) (r *ℚ (x -ℚ U)) (S *ℚ (x -ℚ U)) (λ c. omega (arith, c.le, c.lt, c.same)) in
           rw (le_q_not x U h, s.is.is x on, p.is.is x on, f.is.is (x -ℚ U) g, e, d, left)
           (ap Fin (max_q_right zero_q (S *ℚ (x -ℚ U)) n))
     ]

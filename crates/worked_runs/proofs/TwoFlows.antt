@@ -1,6 +1,6 @@
 -- Two flows in one first in, first out queue reach their bounds.
-use Rattle.std.specs.Prelude.{AllPairs, All, Contains, codes}
-use Rattle.std.proofs.Common.{◌≡◌, ◌≢◌, ℕ, zero, suc, [], ◌∷◌, length, Some, refl, ap, sym, subst, arith, inl, inr}
+use Rattle.std.specs.Prelude.{Contains, codes}
+use Rattle.std.proofs.Common.{◌≡◌, ◌≢◌, [], ◌∷◌, length, Some, refl, subst, arith, inl, inr}
 use Rattle.run_laws.specs.Cards.{whole}
 use Rattle.run_laws.specs.Servers.{Fifo}
 use Rattle.net_model.specs.Accepted.{IsServer, IsFlow, IsAccepted}
@@ -40,8 +40,10 @@ accepted = record {
   version = refl;
   few_servers = omega arith;
   few_flows = omega arith;
-  names = (no_pairs (λ s t. s.name ≢ t.name) its_server,
-    one_pair DifferInName (Some first_flow) (Some second_flow) (ends_apart 102 49 102 50 (omega arith)));
+  names = (
+    no_pairs (λ s t. s.name ≢ t.name) its_server,
+    one_pair DifferInName (Some first_flow) (Some second_flow) (ends_apart 102 49 102 50 (omega arith)),
+  );
   servers = λ s has. subst IsServer (alone its_server s has) is_server;
   flows = of_both (IsFlow two_flows.servers) is_first is_second;
 }

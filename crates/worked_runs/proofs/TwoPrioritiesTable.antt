@@ -15,7 +15,6 @@ use Rattle.upp_kinds.proofs.Worked.{computing}
 use Rattle.run_laws.specs.Cards.{whole}
 use Rattle.run_laws.specs.Servers.{Priority}
 use Rattle.run_laws.proofs.Small.{le_t, lt_t}
-use Rattle.net_cells.specs.declared.cell.Cell.{Cell}
 use Rattle.net_cells.specs.declared.cell.Kind.{Kind}
 use Rattle.net_cells.specs.declared.cell.Kind.TheVariants.{In, Cross, Total, Higher, QueueService, Theta, Residual, QueueDelay, QueueBacklog, HopDelay, ShiftOut, DeconvOut, Out, PathService, Tfa, Sfa, Bound}
 use Rattle.net_cells.specs.Numbered.{hops, queues, levels, is_live, zero_curve}

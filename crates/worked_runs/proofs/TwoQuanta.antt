@@ -1,6 +1,6 @@
 -- Two flows at a deficit round robin server stay below their bounds.
-use Rattle.std.specs.Prelude.{AllPairs, All, Contains, codes}
-use Rattle.std.proofs.Common.{◌≡◌, ◌≢◌, ℕ, zero, suc, [], ◌∷◌, length, Some, refl, ap, sym, subst, arith, inl, inr}
+use Rattle.std.specs.Prelude.{All, Contains, codes}
+use Rattle.std.proofs.Common.{◌≡◌, ◌≢◌, zero, suc, [], ◌∷◌, length, Some, refl, subst, arith, inl, inr}
 use Rattle.run_laws.specs.Cards.{whole}
 use Rattle.run_laws.specs.Servers.{Drr}
 use Rattle.net_model.specs.Accepted.{IsLength, IsServer, IsFlow, IsAccepted}
@@ -49,8 +49,10 @@ accepted = record {
   version = refl;
   few_servers = omega arith;
   few_flows = omega arith;
-  names = (no_pairs (λ s t. s.name ≢ t.name) its_server,
-    one_pair DifferInName (Some first_flow) (Some second) (ends_apart 102 49 102 50 (omega arith)));
+  names = (
+    no_pairs (λ s t. s.name ≢ t.name) its_server,
+    one_pair DifferInName (Some first_flow) (Some second) (ends_apart 102 49 102 50 (omega arith)),
+  );
   servers = λ s has. subst IsServer (alone its_server s has) is_server;
   flows = of_both (IsFlow two_quanta.servers) is_first is_second;
 }

@@ -1,11 +1,11 @@
 -- One packet over two servers with links of 5 reaches its bound.
-use Rattle.std.specs.Prelude.{AllPairs, Contains, codes}
+use Rattle.std.specs.Prelude.{Contains, codes}
 use Rattle.std.proofs.Common.{◌≡◌, ◌≢◌, ℕ, zero, suc, ◌<◌, [], ◌∷◌, length, get_or, take, true, false, ◌&&◌, ◌==◌, Some, refl, ap, sym, subst, arith, inl, inr}
 use Rattle.rational.specs.Rational.{ℚ, ◌-ℚ◌, ◌≤ℚ◌}
 use Rattle.rational.specs.Extended.{◌≤ₑ◌}
 use Rattle.rational.specs.declared.Extended.TheVariants.{Fin}
 use Rattle.rational.proofs.Integers.{nat_nonneg}
-use Rattle.rational.proofs.Linear.{with1, with2}
+use Rattle.rational.proofs.Linear.{with1}
 use Rattle.upp_curve.specs.Curve.{value_at}
 use Rattle.upp_limits.specs.Windows.{IsLeast}
 use Rattle.upp_kinds.proofs.KindValues.{service_is}
@@ -73,8 +73,10 @@ accepted = record {
   version = refl;
   few_servers = omega arith;
   few_flows = omega arith;
-  names = (one_pair (λ s t. s.name ≢ t.name) first second (ends_apart 115 49 115 50 (omega arith)),
-    no_pairs DifferInName (Some its_flow));
+  names = (
+    one_pair (λ s t. s.name ≢ t.name) first second (ends_apart 115 49 115 50 (omega arith)),
+    no_pairs DifferInName (Some its_flow),
+  );
   servers = is_server;
   flows = λ f has. subst (IsFlow two_servers.servers) (its_only_flow f has) is_flow;
 }
@@ -88,10 +90,11 @@ next_is a b h =
     let on : suc h.step.hop < length h.flow.path = h.step.on_path in
     let hop : 0 ≡ h.step.hop = omega (arith, two, on) in
     let from : get_or h.flow.path h.step.hop 0 ≡ a = h.step.from in
-    let to : get_or h.flow.path (suc h.step.hop) 0 ≡ b = h.step.to in
-    (subst (λ k. get_or (0 ∷ 1 ∷ []) k 0 ≡ a) (sym hop) (subst (λ (f : NetFlow). get_or f.path h.step.hop 0 ≡ a) (sym flow) from),
-    subst (λ k. get_or (0 ∷ 1 ∷ []) (suc k) 0 ≡ b) (sym hop)
-    (subst (λ (f : NetFlow). get_or f.path (suc h.step.hop) 0 ≡ b) (sym flow) to))
+    let to : get_or h.flow.path (suc h.step.hop) 0 ≡ b = h.step.to in (
+      subst (λ k. get_or (0 ∷ 1 ∷ []) k 0 ≡ a) (sym hop) (subst (λ (f : NetFlow). get_or f.path h.step.hop 0 ≡ a) (sym flow) from),
+      subst (λ k. get_or (0 ∷ 1 ∷ []) (suc k) 0 ≡ b) (sym hop)
+          (subst (λ (f : NetFlow). get_or f.path (suc h.step.hop) 0 ≡ b) (sym flow) to),
+    )
 
 ready_first : IsReady two_servers [] 0
 ready_first = record {

@@ -1,20 +1,18 @@
 -- One packet over two servers with links of 5.
-use Rattle.std.specs.Prelude.{None, ◌≡◌, ◌<◌, ℕ, zero, suc, true, ◌==◌, ◌&&◌, List, [], ◌∷◌, All}
+use Rattle.std.specs.Prelude.{◌≡◌, ◌<◌, ℕ, zero, suc, true, ◌&&◌, [], ◌∷◌}
 use Rattle.std.proofs.Common.{arith, sym, ap, ◌∙◌, refl, inl, inr}
-use Rattle.rational.specs.Rational.{ℚ, ◌+ℚ◌, ◌-ℚ◌, ◌*ℚ◌, ◌≤ℚ◌, ◌<ℚ◌, lt_q}
-use Rattle.rational.specs.Extended.{Ext, ◌≤ₑ◌}
-use Rattle.rational.specs.declared.Extended.TheVariants.{Fin}
+use Rattle.rational.specs.Rational.{ℚ, ◌+ℚ◌, ◌-ℚ◌, lt_q}
+use Rattle.rational.specs.Extended.{Ext}
 use Rattle.rational.proofs.Laws.{le_refl, le_trans}
 use Rattle.rational.proofs.Over.{le_q_out}
 use Rattle.rational.proofs.Linear.{with1, with2, with3}
 use Rattle.min_plus.specs.Formulas.{IsService}
 use Rattle.run_laws.specs.Cards.{whole, all}
-use Rattle.run_laws.specs.Servers.{Span, ServerState, clip}
-use Rattle.run_laws.specs.Allows.{IsComplete}
+use Rattle.run_laws.specs.Servers.{Span, clip}
 use Rattle.run_laws.specs.Counts.{when, arrived, worked}
 use Rattle.run_laws.specs.Premises.{KeepsService}
 use Rattle.run_laws.specs.FlowDelays.{delays}
-use Rattle.run_laws.specs.Lawful.{Due, IsLawful}
+use Rattle.run_laws.specs.Lawful.{IsLawful}
 use Rattle.run_laws.specs.Routes.{Routes}
 use Rattle.run_laws.specs.Views.{view}
 use Rattle.run_laws.proofs.Clips.{clip_early, clip_late}

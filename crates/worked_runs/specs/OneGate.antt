@@ -1,5 +1,5 @@
--- One packet through a gate that is open for the last 250 of each 1000: it enters when the gate closes, and is worked on
--- from 750 to 990. The flow sends a packet each 1500.
+-- One packet through a gate that is open for the last 250 of each 1000: it enters when the gate closes, and is worked
+-- on from 750 to 990. The flow sends a packet each 1500.
 use Rattle.std.specs.Prelude.{[], ◌∷◌, codes, Some}
 use Rattle.run_laws.specs.declared.steps.Step.TheVariants.{Enter, Work, Leave}
 use Rattle.run_laws.specs.Runs.{SpecRun}

@@ -1,4 +1,4 @@
--- Two packets in one first in, first out queue: both enter at 0, and the second of them leaves when both are worked off.
+-- Two packets in one first in, first out queue: both enter at 0, and the second leaves when both are worked off.
 use Rattle.std.specs.Prelude.{[], ◌∷◌, codes, Some}
 use Rattle.run_laws.specs.declared.steps.Step.TheVariants.{Enter, Work, Leave}
 use Rattle.run_laws.specs.Runs.{SpecRun}

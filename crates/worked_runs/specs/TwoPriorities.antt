@@ -1,5 +1,5 @@
--- Two packets at a priority server, each of a flow that sends one packet and no more. A packet is not broken off: the one
--- of queue 1 that is there first keeps the one of queue 0 waiting.
+-- Two packets at a priority server, each of a flow that sends one packet and no more. A packet is not broken off: the
+-- one of queue 1 that is there first keeps the one of queue 0 waiting.
 use Rattle.std.specs.Prelude.{[], ◌∷◌, codes, Some}
 use Rattle.run_laws.specs.declared.steps.Step.TheVariants.{Enter, Work, Leave}
 use Rattle.run_laws.specs.Runs.{SpecRun}

@@ -1,5 +1,5 @@
-//! Worked runs: small networks, each with a table that meets its equations, and runs of them, of which all but those of
-//! deficit round robin take exactly as long as the bound.
+//! Worked runs: small networks, each with a table that meets its equations, and runs of them, of which all but those
+//! of deficit round robin take exactly as long as the bound.
 //!
 //! A law is the contract of a function that does nothing: its body is empty, and its `ensures` is proved.
 #![tactic(auto)]
@@ -33,14 +33,14 @@ pub fn two_priorities_reach_their_bounds()
     ensures { TwoPrioritiesReachTheirBounds }
 {}
 
-/// Two packets at a deficit round robin server take 190; the bounds of the two flows are 370 and 550. They are above what
-/// a run takes: the law counts a deficit of a whole packet, and a deficit is below the packet that waits.
+/// Two packets at a deficit round robin server take 190; the bounds of the two flows are 370 and 550. The law behind
+/// them counts a deficit of a whole packet, and a deficit is below the packet that waits.
 pub fn two_quanta_stay_below_their_bounds()
     ensures { TwoQuantaStayBelowTheirBounds }
 {}
 
-/// One packet of 24000 bits through a gate that is open for the last 250 of each 1000, at 100 bits a unit of time, takes
-/// 990; the flow sends a packet each 1500.
+/// One packet of 24000 bits through a gate that is open for the last 250 of each 1000, at 100 bits a unit of time,
+/// takes 990; the flow sends a packet each 1500.
 pub fn gate_reaches_its_bound()
     ensures { GateReachesItsBound }
 {}
