@@ -36,6 +36,7 @@ use Rattle.net_bounds.specs.NetRuns.{routes_of}
 use Rattle.net_bounds.specs.Promises.{seen_by, IsHopKept}
 use Rattle.net_bounds.proofs.Paths.{queue_is}
 use Rattle.net_bounds.proofs.Routed.{own_queues, hops_is, routed, hop_is_live, hop_at, queue_inside}
+use Rattle.run_laws.proofs.Classes.{same_and}
 use Rattle.run_laws.proofs.Seen.{IsInOwnQueue, cards_map, in_own_queues, Agree, agree_back, keeps_same, serves_same, same_delays, same_departed_in}
 use Rattle.net_bounds.proofs.ListSums.{own, in_two}
 use Rattle.net_bounds.proofs.Cells.{values, size_in, curve_has, number_has, curve_holds, number_holds}
@@ -68,11 +69,6 @@ queue_there net i k s a h e =
     ∙ queue_is s (path net i) (own_queues net i) on.paired (at_has (path net i) k 0 s h e)
     ∙ ap (λ (j : ℕ). get_or (own_queues net i) j 0) place
 
-part_is : (a b : Bool) → (b ≡ true → a ≡ true) → (a && b) ≡ b
-part_is true b h = refl
-part_is false false h = refl
-part_is false true h = h refl
-
 pub part_agrees : (net : Net) (at : CellTable) (run : SpecRun) (i k s : ℕ) → AtHop net at run i k s
     → Agree (part net i k) (of_flow i) (seen_by net run s)
 part_agrees net at run i k s w =
@@ -80,7 +76,7 @@ part_agrees net at run i k s w =
     (in_own_queues (routes_of net) run s)
   where
     one : (c : Card) → IsInOwnQueue (routes_of net) s c → part net i k c ≡ of_flow i c
-    one c e = part_is (c.queue == queue_of_hop net i k) (c.flow == i)
+    one c e = same_and (c.queue == queue_of_hop net i k) (c.flow == i)
         (λ own_flow.
         let same : c.flow ≡ i = eqb-true c.flow i own_flow in
         let its : c.queue ≡ queue_of_hop net i k =

@@ -12,6 +12,7 @@ use Rattle.rational.proofs.Linear.{with1, with2, with3, with6, with8}
 use Rattle.rational.proofs.Over.{le_q_out}
 use Rattle.min_plus.specs.Functions.{zero_q}
 use Rattle.min_plus.specs.Convolution.{Parts, AllNonneg, sum_of, sum_at}
+use Rattle.min_plus.proofs.TimeSums.{nonneg_total}
 use Rattle.run_laws.specs.declared.steps.Step.{Step}
 use Rattle.run_laws.specs.declared.steps.Step.TheVariants.{Enter, Reach, Work, Leave, Visit}
 use Rattle.run_laws.specs.Cards.{whole, Class, ServerStep}
@@ -31,12 +32,6 @@ IsCounted m = (s u t : ℚ) → s ≤ℚ u → u ≤ℚ t → m s t ≤ℚ m s u
 abbrev CountsAtMost : (ℚ → Ext) → (ℚ → ℚ → ℚ) → Type 0
 CountsAtMost f m = (s t : ℚ) → s ≤ℚ t → Fin (m s t) ≤ₑ f (t -ℚ s)
 
-sum_nonneg : (xs : List ℚ) → AllNonneg xs → zero_q ≤ℚ sum_of xs
-sum_nonneg [] n = le_refl zero_q
-sum_nonneg (x ∷ xs) (p, n) =
-    let rest = sum_nonneg xs n in
-    with2 x (sum_of xs) (λ c. omega (arith, c.le, c.lt, c.same))
-
 parts_counted : (m : ℚ → ℚ → ℚ) (f : ℚ → Ext) (x : ℚ) (xs : List ℚ) (s : ℚ) → IsCounted m → CountsAtMost f m
     → AllNonneg (x ∷ xs) → Fin (m s (s +ℚ sum_of (x ∷ xs))) ≤ₑ sum_at f (x ∷ xs)
 parts_counted m f x [] s cut keeps (p, n) =
@@ -53,7 +48,7 @@ parts_counted m f x [] s cut keeps (p, n) =
 parts_counted m f x (y ∷ ys) s cut keeps (p, n) =
     let u = s +ℚ x in
     let later = sum_of (y ∷ ys) in
-    let some = sum_nonneg (y ∷ ys) n in
+    let some = nonneg_total (y ∷ ys) n in
     let t = s +ℚ (x +ℚ later) in
     let same : u +ℚ later ≡ t = with3 s x later (λ c. omega (arith, c.le, c.lt, c.same)) in
     let span : u -ℚ s ≡ x = with2 s x (λ c. omega (arith, c.le, c.lt, c.same)) in
