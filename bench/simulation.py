@@ -23,10 +23,10 @@ FLOWS = 4
 QUEUES = {"fifo": 1, "priority": 2, "drr": 2}
 RULES = {"fifo": "", "priority": "queues = 2\n", "drr": "quanta = [12000, 12000]\n"}
 DISCIPLINES = list(QUEUES)
-# each flow sends up to 12,000 bits every 220 to 300 units of time
+# each flow sends a packet of up to 12,000 bits every 180 to 340 units of time
 ARRIVALS = {
-    "kept stairs": '{ kind = "stair", period = 220, jitter = 0 }',
-    "kept buckets": '{ kind = "bucket", rate = "12000/220", burst = 12000 }',
+    "kept stairs": '{ kind = "stair", period = 180, jitter = 0 }',
+    "kept buckets": '{ kind = "bucket", rate = "12000/180", burst = 12000 }',
     "broken stairs": '{ kind = "stair", period = 1000, jitter = 0 }',
 }
 USAGE = 2

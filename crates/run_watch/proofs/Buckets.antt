@@ -1,41 +1,62 @@
--- A flow that keeps a bucket keeps each curve that is nowhere below it: one packet more at a time.
-use Rattle.std.specs.Prelude.{◌≡◌, ℕ, zero, suc, ◌+◌, ◌<◌, ◌≤◌, pos, List, [], ◌∷◌, length, Some}
+-- A flow that keeps a bucket under each piece of a curve keeps the curve: one packet more, and one piece more, at a time.
+use Rattle.std.specs.Prelude.{◌≡◌, ℕ, zero, suc, ◌+◌, ◌<◌, ◌≤◌, pos, List, [], ◌∷◌, length, take, Some}
 use Rattle.std.specs.List.{slice_index_or}
-use Rattle.std.proofs.Common.{arith, refl, sym, subst, ap, ◌∙◌, inl, inr}
+use Rattle.std.proofs.Common.{arith, refl, sym, subst, ap, ◌∙◌, inl, inr, add-one}
+use Rattle.std.proofs.lemmas.List.{take_all}
 use Rattle.std.proofs.lemmas.Bool.{cases_lt, cases_Bool}
 use Rattle.rational.specs.Rational.{ℚ, int, ◌+ℚ◌, ◌-ℚ◌, ◌*ℚ◌, ◌≤ℚ◌, ◌<ℚ◌, le_q}
 use Rattle.rational.specs.Extended.{Ext, ◌≤ₑ◌, ◌<ₑ◌}
 use Rattle.rational.specs.declared.Extended.TheVariants.{Fin, Inf}
-use Rattle.rational.proofs.Laws.{le_trans, le_lt_trans, lt_irrefl, antisym, mul_sub, mul_zero, add_zero, le_of_not_lt}
+use Rattle.rational.proofs.ExtendedOrder.{le_ext_trans}
+use Rattle.rational.proofs.Laws.{le_lt_trans, lt_irrefl, mul_sub, mul_zero, add_zero, mul_le_mul}
 use Rattle.rational.specs.MinMax.{min_q, max_q}
 use Rattle.rational.proofs.MinMax.{max_q_ge_left, max_q_ge_right, min_q_le_left, min_q_le_right}
 use Rattle.rational.proofs.Over.{le_q_in}
 use Rattle.rational.proofs.Linear.{with2, with3, with4, with_atoms}
 use Rattle.affine_segment.specs.declared.line.Line.{Line}
 use Rattle.affine_segment.specs.declared.line.Piece.{Piece}
-use Rattle.affine_segment.specs.Reading.{piece_value, piece_in, read}
+use Rattle.affine_segment.specs.Pieces.{Each, StartsAtZero}
+use Rattle.affine_segment.specs.Reading.{piece_value, read}
+use Rattle.upp_normal.proofs.NormaliseRoomy.{each_in}
 use Rattle.run_laws.specs.Cards.{whole}
 use Rattle.run_laws.proofs.Sizes.{whole_sum}
 use Rattle.watch_laws.specs.declared.entering.Entering.{Entering}
 use Rattle.watch_laws.specs.Entries.{entering, bits_to, bits_between, IsCrowded}
-use Rattle.run_watch.specs.Flows.{FlowReads, NoneCrowded, IsBucketOf, IsRaised, IsLevel}
+use Rattle.run_watch.specs.Flows.{FlowReads, NoneCrowded, IsUnderLine, IsUnderPiece, KeepsBucket, IsRaised, IsLevel}
 use Rattle.run_watch.proofs.EntryLists.{bits_past, bits_one_more}
 use Rattle.run_watch.proofs.LeastFirst.{read_is}
 
--- ---- a curve of one piece
-pub bucket_is : (p : Piece) (v burst : ℚ) (l : Line) → p.x ≤ℚ int (pos 0) → p.at ≡ Fin v → p.line ≡ Some l → burst ≤ℚ v → burst ≤ℚ l.icept → IsBucketOf (p ∷ []) burst l.slope
-unfolding read piece_in piece_value
-bucket_is p v burst l start at line low high d h = elim (cases_Bool (le_q d p.x)) [
+-- ---- one piece
+pub under_piece : (p : Piece) (v burst rate : ℚ) (l : Line) → p.at ≡ Fin v → p.line ≡ Some l → int (pos 0) ≤ℚ l.slope → IsUnderLine p.x v l burst rate → IsUnderPiece p burst rate
+unfolding piece_value
+under_piece p v burst rate l at line rises U d h = elim (cases_Bool (le_q d p.x)) [
   | inl e ↦
-      let none : d ≡ int (pos 0) = antisym (le_trans (le_q_in d p.x e) start, h) in
-      let nothing : l.slope *ℚ d ≡ int (pos 0) = ap (λ x. l.slope *ℚ x) none ∙ mul_zero l.slope in
-      let sum : burst +ℚ l.slope *ℚ d ≡ burst = ap (λ x. burst +ℚ x) nothing ∙ add_zero burst in
-      rw (e, at) (subst (λ x. x ≤ℚ v) (sym sum) low)
+      let early = le_q_in d p.x e in
+      let less : rate *ℚ d ≤ℚ rate *ℚ p.x = mul_le_mul rate (subst (λ x. int (pos 0) ≤ℚ x) (sym U.rate_is) rises) early in
+      let start = U.at_start in
+      let run = rate *ℚ d in
+      let top = rate *ℚ p.x in
+      rw (e, at) (with4 burst run top v (λ k. omega (arith, k.le, k.lt, k.same)))
   | inr e ↦
       let icept = l.icept in
+      let below = U.below in
       let run = l.slope *ℚ d in
-      rw (e, line) (with3 burst icept run (λ k. omega (arith, k.le, k.lt, k.same)))
+      let under : burst +ℚ run ≤ℚ icept +ℚ run = with3 burst icept run (λ k. omega (arith, k.le, k.lt, k.same)) in
+      rw (e, line) (subst (λ x. burst +ℚ x *ℚ d ≤ℚ icept +ℚ run) (sym U.rate_is) under)
 ]
+
+pub under_line : (x v : ℚ) (l : Line) (risen base burst rate : ℚ) → risen ≡ l.slope *ℚ x → base ≡ v -ℚ risen → burst ≡ min_q base l.icept → rate ≡ l.slope → IsUnderLine x v l burst rate
+under_line x v l risen base burst rate e f g h =
+    let low = min_q_le_left base l.icept in
+    let icept = l.icept in
+    let run = rate *ℚ x in
+    let same : run ≡ risen = ap (λ y. y *ℚ x) h ∙ sym e in
+    let least : burst ≤ℚ base = subst (λ y. y ≤ℚ base) (sym g) low in
+    record {
+      rate_is = h;
+      at_start = with_atoms (burst ∷ run ∷ risen ∷ base ∷ v ∷ []) (λ k. omega (arith, k.le, k.lt, k.same));
+      below = subst (λ y. y ≤ℚ icept) (sym g) (min_q_le_right base l.icept);
+    }
 
 -- ---- bits
 to_more : (k : ℕ) (es : List Entering) → suc k < length es → bits_to (suc k) es ≡ bits_to k es + (entering es (suc k)).bits
@@ -58,9 +79,9 @@ own_bits k es h =
 
 -- ---- one packet more
 -- what holds before packet k is looked at
-pub record IsKept (ps : List Piece) (rate : ℚ) (es : List Entering) (k : ℕ) (time level : ℚ) : Type 0 where
+pub record IsKept (burst rate : ℚ) (es : List Entering) (k : ℕ) (time level : ℚ) : Type 0 where
   pub levels : (j : ℕ) → suc j ≡ k → IsLevel rate es j time level
-  pub none : NoneCrowded (read ps) es k
+  pub keeps : KeepsBucket burst rate es k
 
 level_more : (rate : ℚ) (es : List Entering) (k : ℕ) (time level next : ℚ) (e : Entering) → k < length es → e ≡ entering es k → ((j : ℕ) → suc j ≡ k → IsLevel rate es j time level) → IsRaised level rate time e next
     → IsLevel rate es k e.time next
@@ -101,38 +122,68 @@ level_more rate es k time level next e l is h r i low = elim (cases_lt i k) [
         let z = rate *ℚ e.time in
         with_atoms (all ∷ most ∷ own ∷ g ∷ u ∷ v ∷ x ∷ y ∷ z ∷ level ∷ next ∷ []) (λ k. omega (arith, k.le, k.lt, k.same))
 
-below : (x : Ext) (y q : ℚ) → Fin y ≤ₑ x → x <ₑ Fin q → y <ℚ q
-below (Fin v) y q h k = le_lt_trans h k
-below Inf y q h k = absurd k
-
-pub kept_more : (ps : List Piece) (burst rate : ℚ) (es : List Entering) (k : ℕ) (time level next : ℚ) (e : Entering) → FlowReads ps es → IsBucketOf ps burst rate → k < length es → e ≡ slice_index_or es k e
-    → IsKept ps rate es k time level → IsRaised level rate time e next → next ≤ℚ burst → IsKept ps rate es (k + 1) e.time next
-kept_more ps burst rate es k time level next e R B l at K r most =
+pub kept_more : (burst rate : ℚ) (es : List Entering) (k : ℕ) (time level next : ℚ) (e : Entering) → k < length es → e ≡ slice_index_or es k e
+    → IsKept burst rate es k time level → IsRaised level rate time e next → next ≤ℚ burst → IsKept burst rate es (k + 1) e.time next
+kept_more burst rate es k time level next e l at K r most =
     let is = read_is es k e l at in
     let here = level_more rate es k time level next e l is K.levels r in
     record {
       levels = λ j same. subst (λ (n : ℕ). IsLevel rate es n e.time next) (let f : k ≡ j = omega arith in f) here;
-      none = λ i j m crowded. elim (cases_lt j k) [
-        | inl n ↦ K.none i j n crowded
-        | inr n ↦
-            let f : j ≡ k = omega arith in
-            let it = subst (λ (n : ℕ). IsCrowded (read ps) es i n) f crowded in
+      keeps = λ i j m n. elim (cases_lt j k) [
+        | inl before ↦ K.keeps i j m before
+        | inr late ↦
+            let f : k ≡ j = omega arith in
+            let up_to : i ≤ k = omega arith in
             let s = (entering es i).time in
-            let t = (entering es k).time in
-            let window = R i k it.in_order l in
-            let forward = window.forward in
-            let d = t -ℚ s in
-            let some : int (pos 0) ≤ℚ d = with2 s t (λ c. omega (arith, c.le, c.lt, c.same)) in
-            let bits = subst (λ (x : Entering). whole (bits_between i k es) ≤ℚ next +ℚ rate *ℚ (x.time -ℚ s)) is (here i it.in_order) in
-            let more = below (read ps d) (burst +ℚ rate *ℚ d) (whole (bits_between i k es)) (B d some) it.more in
+            let bits = subst (λ (x : Entering). whole (bits_between i k es) ≤ℚ next +ℚ rate *ℚ (x.time -ℚ s)) is (here i up_to) in
             let all = whole (bits_between i k es) in
-            let run = rate *ℚ d in
-            lt_irrefl all (with4 all run burst next (λ c. omega (arith, c.le, c.lt, c.same)))
+            let run = rate *ℚ ((entering es k).time -ℚ s) in
+            let within : all ≤ℚ burst +ℚ run = with4 all run burst next (λ c. omega (arith, c.le, c.lt, c.same)) in
+            subst (λ (n : ℕ). whole (bits_between i n es) ≤ℚ burst +ℚ rate *ℚ ((entering es n).time -ℚ s)) f within
       ];
     }
 
-pub kept_none : (ps : List Piece) (rate : ℚ) (es : List Entering) (time level : ℚ) → IsKept ps rate es 0 time level
-kept_none ps rate es time level = record { levels = λ j e. absurd (omega arith); none = λ i j m. absurd (omega arith) }
+pub kept_none : (burst rate : ℚ) (es : List Entering) (time level : ℚ) → IsKept burst rate es 0 time level
+kept_none burst rate es time level = record { levels = λ j e. absurd (omega arith); keeps = λ i j m n. absurd (omega arith) }
+
+-- ---- all pieces
+-- no packets bring more between two of them than the piece has
+abbrev pub KeepsPiece : List Entering → Piece → Type 0
+KeepsPiece es p = (i j : ℕ) → i ≤ j → j < length es → int (pos 0) ≤ℚ (entering es j).time -ℚ (entering es i).time
+    → Fin (whole (bits_between i j es)) ≤ₑ piece_value p ((entering es j).time -ℚ (entering es i).time)
+
+pub keeps_piece : (es : List Entering) (p : Piece) (burst rate : ℚ) → IsUnderPiece p burst rate → KeepsBucket burst rate es (length es) → KeepsPiece es p
+keeps_piece es p burst rate U K i j l m some =
+    let d = (entering es j).time -ℚ (entering es i).time in
+    le_ext_trans (Fin (whole (bits_between i j es))) (Fin (burst +ℚ rate *ℚ d)) (piece_value p d) (K i j l m) (U d some)
+
+pub pieces_push : (P : Piece → Type 0) (ps : List Piece) (k : ℕ) (p : Piece) → k < length ps → p ≡ slice_index_or ps k p → Each P (take k ps) → P p → Each P (take (k + 1) ps)
+pieces_push P ps k p l e h is = rw add-one (push ps k l e h)
+  where
+    push : (ps : List Piece) (k : ℕ) → k < length ps → p ≡ slice_index_or ps k p → Each P (take k ps) → Each P (take (suc k) ps)
+    push [] k l e h = absurd (omega arith)
+    push (r ∷ ps) zero l e h = (subst P e is, tt)
+    push (r ∷ ps) (suc k) l e h = (h.0, push ps k (omega arith) e h.1)
+
+read_of : (es : List Entering) (ps : List Piece) (i j : ℕ) → StartsAtZero ps → Each (KeepsPiece es) ps → i ≤ j → j < length es → int (pos 0) ≤ℚ (entering es j).time -ℚ (entering es i).time
+    → Fin (whole (bits_between i j es)) ≤ₑ read ps ((entering es j).time -ℚ (entering es i).time)
+unfolding read
+read_of es [] i j at0 h l m some = absurd at0
+read_of es (p ∷ ps) i j at0 h l m some = each_in (KeepsPiece es) p ps ((entering es j).time -ℚ (entering es i).time) h.0 h.1 i j l m some
+
+not_both : (x : Ext) (q : ℚ) → Fin q ≤ₑ x → x <ₑ Fin q → ⊥
+not_both (Fin v) q h k = lt_irrefl q (le_lt_trans h k)
+not_both Inf q h k = absurd k
+
+pub none_crowded : (ps : List Piece) (es : List Entering) (k : ℕ) → FlowReads ps es → length ps ≤ k → Each (KeepsPiece es) (take k ps) → NoneCrowded (read ps) es (length es)
+none_crowded ps es k R late h i j m crowded =
+    let window = R i j crowded.in_order m in
+    let s = (entering es i).time in
+    let t = (entering es j).time in
+    let forward = window.forward in
+    let some : int (pos 0) ≤ℚ t -ℚ s = with2 s t (λ c. omega (arith, c.le, c.lt, c.same)) in
+    let all = subst (Each (KeepsPiece es)) (take_all k ps late) h in
+    not_both (read ps (t -ℚ s)) (whole (bits_between i j es)) (read_of es ps i j window.starts all crowded.in_order m some) crowded.more
 
 -- ---- what is kept of a level
 pub raised_is : (level rate time gap lost left kept none own next : ℚ) (e : Entering) → gap ≡ e.time -ℚ time → lost ≡ rate *ℚ gap → left ≡ level -ℚ lost → none ≡ int (pos 0) → kept ≡ max_q left none → own ≡ whole e.bits → next ≡ kept +ℚ own
@@ -147,10 +198,3 @@ raised_is level rate time gap lost left kept none own next e a b c z m o n =
       left = with_atoms (left ∷ level ∷ run ∷ kept ∷ own ∷ bits ∷ next ∷ []) (λ k. omega (arith, k.le, k.lt, k.same));
       own = with_atoms (none ∷ kept ∷ own ∷ bits ∷ next ∷ []) (λ k. omega (arith, k.le, k.lt, k.same));
     }
-
-pub bucket_of_piece : (ps : List Piece) (p : Piece) (v none burst : ℚ) (l : Line) → length ps ≡ 1 → p ≡ slice_index_or ps 0 p → none ≡ int (pos 0) → (none <ℚ p.x → ⊥) → p.at ≡ Fin v → p.line ≡ Some l → burst ≡ min_q v l.icept → IsBucketOf ps burst l.slope
-bucket_of_piece [] p v none burst l one at z start e f m = absurd (omega arith)
-bucket_of_piece (q ∷ []) p v none burst l one at z start e f m =
-    subst (λ (r : Piece). IsBucketOf (r ∷ []) burst l.slope) at
-    (bucket_is p v burst l (subst (λ x. p.x ≤ℚ x) z (le_of_not_lt start)) e f (subst (λ x. x ≤ℚ v) (sym m) (min_q_le_left v l.icept)) (subst (λ x. x ≤ℚ l.icept) (sym m) (min_q_le_right v l.icept)))
-bucket_of_piece (q ∷ r ∷ ps) p v none burst l one at z start e f m = absurd (omega arith)

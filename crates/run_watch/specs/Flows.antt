@@ -1,13 +1,14 @@
 -- The packets of a flow, and the first that it breaks. Own choice.
-use Rattle.std.specs.Prelude.{ℕ, pos, ◌<◌, ◌≤◌, ◌==◌, List, length, Option, Some, None, MatchOption, if◌then◌else◌}
+use Rattle.std.specs.Prelude.{◌≡◌, ℕ, pos, ◌<◌, ◌≤◌, ◌==◌, List, length, Option, Some, None, MatchOption, if◌then◌else◌}
 use Rattle.rational.specs.Rational.{ℚ, int, ◌+ℚ◌, ◌-ℚ◌, ◌*ℚ◌, ◌≤ℚ◌, neg_ℚ}
 use Rattle.rational.specs.Ratio.{SumFits}
 use Rattle.rational.specs.Extended.{Ext, ◌≤ₑ◌}
 use Rattle.rational.specs.declared.Extended.TheVariants.{Fin}
+use Rattle.affine_segment.specs.declared.line.Line.{Line}
 use Rattle.affine_segment.specs.declared.line.Piece.{Piece}
 use Rattle.affine_segment.specs.Pieces.{StartsAtZero}
 use Rattle.affine_segment.specs.Fits.{ReadFits}
-use Rattle.affine_segment.specs.Reading.{read}
+use Rattle.affine_segment.specs.Reading.{read, piece_value}
 use Rattle.run_laws.specs.Cards.{whole}
 use Rattle.run_laws.specs.declared.steps.Step.{Step}
 use Rattle.run_laws.specs.declared.steps.Step.TheVariants.{Enter, Reach, Work, Leave, Visit}
@@ -66,9 +67,20 @@ pub record IsFirstCrowded (α : ℚ → Ext) (es : List Entering) (first last : 
   pub none_before : NoneCrowded α es last
 
 -- ---- buckets
--- the curve of these pieces is nowhere below a bucket
-abbrev pub IsBucketOf : List Piece → ℚ → ℚ → Type 0
-IsBucketOf ps burst rate = (d : ℚ) → int (pos 0) ≤ℚ d → Fin (burst +ℚ rate *ℚ d) ≤ₑ read ps d
+-- a bucket is nowhere above a line, nor at x above the value there
+pub record IsUnderLine (x value : ℚ) (line : Line) (burst rate : ℚ) : Type 0 where
+  pub rate_is : rate ≡ line.slope
+  pub at_start : burst +ℚ rate *ℚ x ≤ℚ value
+  pub below : burst ≤ℚ line.icept
+
+-- nor above what is read of the piece
+abbrev pub IsUnderPiece : Piece → ℚ → ℚ → Type 0
+IsUnderPiece p burst rate = (d : ℚ) → int (pos 0) ≤ℚ d → Fin (burst +ℚ rate *ℚ d) ≤ₑ piece_value p d
+
+-- no packets up to number `upto` bring more between two of them
+abbrev pub KeepsBucket : ℚ → ℚ → List Entering → ℕ → Type 0
+KeepsBucket burst rate es upto = (i j : ℕ) → i ≤ j → j < upto
+    → whole (bits_between i j es) ≤ℚ burst +ℚ rate *ℚ ((entering es j).time -ℚ (entering es i).time)
 
 -- l is at least what is left of the level at this packet, and at least nothing, with the packet's bits
 pub record IsRaised (level rate time : ℚ) (e : Entering) (l : ℚ) : Type 0 where

@@ -3,13 +3,12 @@
 ghost use Rattle.std.specs.Prelude.{◌≡◌, ◌↔◌, ℕ, ◌<◌, ◌≤◌, ◌^◌, pos, length, IfOk, IfSome, IsTrue, MatchOption};
 ghost use Rattle.rational.specs.Rational.{int, ◌≤ℚ◌};
 ghost use Rattle.rational.specs.Extended.{◌<ₑ◌};
-ghost use Rattle.rational.specs.MinMax.{min_q};
 ghost use Rattle.affine_segment.specs.Pieces.{StartsAtZero};
 ghost use Rattle.affine_segment.specs.Reading.{read};
 ghost use Rattle.affine_segment.specs.Fits.{ReadFits};
 ghost use Rattle.run_laws.specs.Cards.{whole};
 ghost use Rattle.watch_laws.specs.Entries.{entries};
-ghost use Rattle.run_watch.specs.Flows.{entering_in, NoneLonger, IsFirstLonger, FlowReads, FindsFirst, NoneCrowded, IsFirstCrowded, IsBucketOf, IsRaised};
+ghost use Rattle.run_watch.specs.Flows.{entering_in, NoneLonger, IsFirstLonger, FlowReads, FindsFirst, NoneCrowded, IsFirstCrowded, IsUnderLine, IsUnderPiece, KeepsBucket, IsRaised};
 
 use affine_segment::{Line, Piece, read};
 use fraction128::{Frac, Wide, difference, greater, is_less, lesser};
@@ -101,40 +100,41 @@ fn least_first(entries: &[Entering], arrival: &[Piece], last: usize) -> Option<u
     found
 }
 
-/// A bucket that a curve is nowhere below: so many bits, and more at an even rate.
+/// A bucket: so many bits, and more at an even rate.
 #[derive(Debug, Clone, Copy)]
 struct Bucket {
     burst: Frac,
     rate: Frac,
 }
 
-fn bucket_under(value: Frac, line: Line) -> Bucket
-    ensures burst { result.burst ≡ min_q value line.icept }
-    ensures rate { result.rate ≡ line.slope }
+/// The bucket of a line, and of the value at the start x, where its steps fit.
+fn bucket_under(x: Frac, value: Frac, line: Line) -> Result<Bucket, Wide>
+    ensures { IfOk result (λ b. IsUnderLine x value line b.burst b.rate) }
 {
-    Bucket {
-        burst: lesser(value, line.icept),
+    let risen = Frac::mul(line.slope, x)?;
+    let base = Frac::sub(value, risen)?;
+    Ok(Bucket {
+        burst: lesser(base, line.icept),
         rate: line.slope,
-    }
+    })
 }
 
-/// The bucket of a curve that is one piece, if it is one.
-fn bucket_of(arrival: &[Piece]) -> Option<Bucket>
-    ensures { IfSome result (λ b. IsBucketOf arrival.now b.burst b.rate) }
+/// A bucket that a piece is nowhere below, if one is found: of a piece that is finite and does not fall.
+fn bucket_of(piece: &Piece) -> Option<Bucket>
+    ensures { IfSome result (λ b. IsUnderPiece piece.now b.burst b.rate) }
 {
-    if arrival.len() != 1 {
+    let Extended::Fin(value) = piece.at else {
+        return None;
+    };
+    let Some(line) = piece.line else {
+        return None;
+    };
+    if is_less(line.slope, Frac::zero()) {
         return None;
     }
-    let piece = arrival[0];
-    if is_less(Frac::zero(), piece.x) {
-        return None;
-    }
-    match piece.at {
-        Extended::Inf => None,
-        Extended::Fin(value) => match piece.line {
-            None => None,
-            Some(line) => Some(bucket_under(value, line)),
-        },
+    match bucket_under(piece.x, value, line) {
+        Ok(bucket) => Some(bucket),
+        Err(_) => None,
     }
 }
 
@@ -156,14 +156,10 @@ fn next_level(level: Frac, rate: Frac, time: Frac, entering: &Entering) -> Resul
     Frac::add(kept, bits_of(entering))
 }
 
-/// Whether a curve of one piece is seen to be kept, in one pass. Where it is not, it may be kept all the same.
-fn keeps_bucket(entries: &[Entering], arrival: &[Piece]) -> bool
-    requires { FlowReads arrival.now entries.now }
-    ensures { IsTrue result → NoneCrowded (read arrival.now) entries.now (length entries.now) }
+/// Whether a bucket is seen to be kept, in one pass. Where it is not, it may be kept all the same.
+fn keeps_bucket(entries: &[Entering], bucket: &Bucket) -> bool
+    ensures { IsTrue result → KeepsBucket bucket.now.burst bucket.now.rate entries.now (length entries.now) }
 {
-    let Some(bucket) = bucket_of(arrival) else {
-        return false;
-    };
     let mut level = Frac::zero();
     let mut time = Frac::zero();
     for entering in entries {
@@ -179,13 +175,34 @@ fn keeps_bucket(entries: &[Entering], arrival: &[Piece]) -> bool
     true
 }
 
+/// Whether a curve is seen to be kept by the buckets of its pieces, in one pass for each. So a bucket, and each other
+/// curve that is the least of its lines, is seen where it is kept; another one may be kept all the same.
+fn keeps_buckets(entries: &[Entering], arrival: &[Piece]) -> bool
+    requires { FlowReads arrival.now entries.now }
+    ensures { IsTrue result → NoneCrowded (read arrival.now) entries.now (length entries.now) }
+{
+    if arrival.len() > entries.len() {
+        return false;
+    }
+    for piece in arrival {
+        let Some(bucket) = bucket_of(piece) else {
+            return false;
+        };
+        if !keeps_bucket(entries, &bucket) {
+            return false;
+        }
+    }
+    true
+}
+
 /// The packets, first and last, between which more bits enter than the pieces of a curve have: with the least last one,
-/// and of those with the least first one. A curve of one piece that is kept takes one pass; else it looks at each pair once.
+/// and of those with the least first one. A curve that is the least of its lines and is kept takes one pass for each; else
+/// it looks at each pair once.
 pub fn first_crowded(entries: &[Entering], arrival: &[Piece]) -> Option<(usize, usize)>
     requires { FlowReads arrival.now entries.now }
     ensures { MatchOption result (NoneCrowded (read arrival.now) entries.now (length entries.now)) (λ p. IsFirstCrowded (read arrival.now) entries.now p.0 p.1) }
 {
-    if keeps_bucket(entries, arrival) {
+    if keeps_buckets(entries, arrival) {
         return None;
     }
     for last in 0..entries.len() {

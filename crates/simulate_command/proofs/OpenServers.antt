@@ -1,6 +1,6 @@
 -- Servers of kind latency or gate that have no stall keep their service curves in the stated run, and break none.
 use Rattle.std.proofs.Common.{◌≡◌, ◌∙◌, ℕ, ◌<◌, List, [], ◌∷◌, map, length, arith, refl, sym, subst, ap, ap₂, inl, inr, Some, None}
-use Rattle.std.specs.Prelude.{All, Option, Bool, true, false, slice_get, slice_set}
+use Rattle.std.specs.Prelude.{zero, suc, All, Option, Bool, true, false, slice_get, slice_set}
 use Rattle.std.specs.Option.{option_map}
 use Rattle.std.proofs.lemmas.Bool.{cases_Bool, cases_eq, eq-eqb, ne_eqb}
 use Rattle.std.proofs.lemmas.Option.{slice_get_cases, slice_get-map, slice_get_within}

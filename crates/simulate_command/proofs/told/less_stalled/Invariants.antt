@@ -3,4 +3,4 @@ use Rattle.simulate_command.specs.Told.{less_stalled}
 use Rattle.simulate_command.proofs.told.less_stalled.Given as goal
 
 abbrev pub invariant-loop-stall : goal.invariant-loop-stall
-invariant-loop-stall l = (length l.left.items ≡ length l.told.items) × (less_stalled l.left.items (drop l.stall-index l.stalls) ≡ less_stalled l.told.items l.stalls)
+invariant-loop-stall l = (length l.left.items ≡ length l.fn.told.items) × (less_stalled l.left.items (drop l.stall-index l.stalls) ≡ less_stalled l.fn.told.items l.stalls)
