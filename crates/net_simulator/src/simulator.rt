@@ -16,8 +16,8 @@ use sim_gauge::is_too_wide;
 use std::alloc::Global;
 
 /// The stated run of a network and a trace with its worst delays and its peaks, for a trace whose numbers are those of
-/// live flows and of servers, in a network in which no walk comes back. Want of memory apart, `TooWide` exactly where the
-/// simulation gauge of both is 2^120 or more; `NoMemory` only where an allocation is refused.
+/// live flows and of servers, in a network in which no walk comes back. Want of memory apart, `TooWide` exactly where
+/// the simulation gauge of both is 2^120 or more; `NoMemory` only where an allocation is refused.
 pub fn simulate(alloc: Global, net: &Network, trace: &Trace) -> Result<SimRun, SimFault>
     requires named { IsTraceOf net.now trace.now }
     requires free { IsFeedForward net.now }

@@ -100,8 +100,8 @@ fn plain_horizon(net: &Network, trace: &Trace) -> Option<Frac>
     Some(sum)
 }
 
-/// How long a server works as a gate, as a product: its cycle over its slot, times the time that its bits take when it is
-/// open. Where there is no gate the product is 0.
+/// How long a server works as a gate, as a product: its cycle over its slot, times the time that its bits take when it
+/// is open. Where there is no gate the product is 0.
 fn gated(net: &Network, trace: &Trace, server: u32) -> Option<Product>
     requires { server < length net.now.servers }
     ensures value { IfSome result (λ p. p.left *ℚ p.right ≡ gated (setup_of net.now trace.now) server) }
@@ -127,7 +127,8 @@ fn all_gated(
     ensures value { IfOk result (λ found. IfSome found (λ ps.
         sum_of_products ps.items ≡ sum_below (gated (setup_of net.now trace.now)) (length net.now.servers))) }
     ensures from_zero { IfOk result (λ found. IfSome found (λ ps. AllByRecursion IsFromZero ps.items)) }
-    ensures fits { (d : ℕ) (e : ℚ) → HorizonFits (setup_of net.now trace.now) d e → IfOk result (λ found. IsSome found) }
+    ensures fits { (d : ℕ) (e : ℚ) → HorizonFits (setup_of net.now trace.now) d e
+        → IfOk result (λ found. IsSome found) }
 {
     let mut products = Vec::new(alloc);
     for server in 0..net.servers().len() {
@@ -139,8 +140,8 @@ fn all_gated(
     Ok(Some(products))
 }
 
-/// The horizon. None only where a number on the way, with the work of all gates in one exact sum, does not fit, which shows
-/// that the simulation gauge is 2^120 or more. It fails only where memory is refused.
+/// The horizon. None only where a number on the way, with the work of all gates in one exact sum, does not fit, which
+/// shows that the simulation gauge is 2^120 or more. It fails only where memory is refused.
 pub(crate) fn horizon(
     alloc: Global,
     net: &Network,
@@ -148,7 +149,8 @@ pub(crate) fn horizon(
 ) -> Result<Option<Frac>, AllocError>
     requires { IsTraceOf net.now trace.now }
     ensures value { IfOk result (λ found. IfSome found (λ t. t ≡ horizon (setup_of net.now trace.now))) }
-    ensures fits { (d : ℕ) (e : ℚ) → HorizonFits (setup_of net.now trace.now) d e → IfOk result (λ found. IsSome found) }
+    ensures fits { (d : ℕ) (e : ℚ) → HorizonFits (setup_of net.now trace.now) d e
+        → IfOk result (λ found. IsSome found) }
 {
     match plain_horizon(net, trace) {
         Some(plain) => match all_gated(alloc, net, trace)? {

@@ -25,8 +25,8 @@ pub(crate) fn work_time(rate: Frac, bits: u64) -> Option<Frac>
     over(Frac::from_whole(bits as i128), rate)
 }
 
-/// How long a gate works on what takes it so long when it is open, as a product. None only where its cycle over its slot
-/// does not fit.
+/// How long a gate works on what takes it so long when it is open, as a product. None only where its cycle over its
+/// slot does not fit.
 pub(crate) fn gate_product(cycle: Frac, slot: Frac, time: Frac) -> Option<Product>
     requires some { int (pos 0) <ℚ slot }
     requires within { slot ≤ℚ cycle }

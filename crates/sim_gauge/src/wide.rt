@@ -91,8 +91,8 @@ fn is_over(g: Gathered, rates: u128, end: Frac) -> bool
 }
 
 /// Whether the simulation gauge of a network and a trace is 2^120 or more, for a trace whose numbers are those of live
-/// flows and of servers of the network, in which no walk comes back. It fails only where memory is refused, whatever the
-/// numbers, and looks at the packets and the stalls once for each server, and at the packets once more for each gate.
+/// flows and of servers of the network, in which no walk comes back. It fails only where memory is refused, whatever
+/// the numbers, and looks at the packets and the stalls once for each server, and at the packets once more for each gate.
 pub fn is_too_wide(alloc: Global, net: &Network, trace: &Trace) -> Result<bool, AllocError>
     requires named { IsTraceOf net.now trace.now }
     requires free { IsFeedForward net.now }

@@ -72,8 +72,7 @@ sum_parts s n p t b some is l = by_bottom l.bottom (lowest_sum s n p t b some is
 pub small_sum : (s : ℚ) (n p t b : ℕ) → 0 < p → s ≡ over (pos n) p → (l : IsReduced n p t b) → t < 2 ^ 127 → b < 2 ^ 127 → (s ≡ int (pos t) /ℚ int (pos b)) × IsSmall s
 small_sum s n p t b some is l top bottom =
     let parts = sum_parts s n p t b some is l in
-    let same : b ≡ l.bottom = known_below b l.bottom l.kept (omega (arith, bottom)) in
-    (
+    let same : b ≡ l.bottom = known_below b l.bottom l.kept (omega (arith, bottom)) in (
       by_bottom b l.bottom same (lowest_sum s n p t b some is l) l.kept.some,
       record { top = subst (λ z. nat_abs z < 2 ^ 127) (sym parts.0) top; bottom = subst (λ m. m < 2 ^ 127) (same ∙ sym parts.1) bottom },
     )

@@ -64,8 +64,8 @@ pub record Stepped (all bs ms : List Bool) (i f carry p q : ℕ) : Type 0 where
 
 pub times_step : (all bs ms : List Bool) (i f carry p q : ℕ) → Stepped all bs ms i f carry p q
     → let sum = carry + p + q in let next = all ++ (sum % 2 == 1) ∷ [] in
-      number next + 2 ^ length next * (sum / 2 + number (drop (i + 1) bs) * f + number (drop (i + 1) ms))
-      ≡ number all + 2 ^ length all * (carry + number (drop i bs) * f + number (drop i ms))
+    number next + 2 ^ length next * (sum / 2 + number (drop (i + 1) bs) * f + number (drop (i + 1) ms))
+    ≡ number all + 2 ^ length all * (carry + number (drop i bs) * f + number (drop i ms))
 times_step all bs ms i f carry p q s =
     let own = s.own in
     let other = s.other in

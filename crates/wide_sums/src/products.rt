@@ -94,11 +94,13 @@ fn total(alloc: Global, sum: WideSum) -> Result<Option<Frac>, AllocError>
     }
 }
 
-/// The sum of products of fractions that are at least 0, exactly, however wide the numbers on the way: None exactly where
-/// the sum itself, in lowest terms, has a numerator or a denominator above 2^127 - 1. It fails only where memory is refused.
+/// The sum of products of fractions that are at least 0, exactly, however wide the numbers on the way: None exactly
+/// where the sum itself, in lowest terms, has a numerator or a denominator above 2^127 - 1. It fails only where memory
+/// is refused. (Own choice.)
 pub fn sum_of_products(alloc: Global, products: &[Product]) -> Result<Option<Frac>, AllocError>
     requires { AllByRecursion IsFromZero products.now }
-    ensures { IfOk result (λ found. MatchOption found (¬ (IsSmall (sum_of_products products.now))) (λ f. f ≡ sum_of_products products.now)) }
+    ensures { let sum = sum_of_products products.now in
+        IfOk result (λ found. MatchOption found (¬ (IsSmall sum)) (λ f. f ≡ sum)) }
 {
     let mut sum = nothing(alloc)?;
     for place in (0..products.len()).rev() {

@@ -45,7 +45,7 @@ returns-in-Some-numbers_to c =
     let value = value_alone (int (pos (total_bits trace))) in
     let own : to_z w128 c.bits_of.result ≡ pos c.bits_of.result = omega (arith, ints) in
     let bits : c.from_whole-bits.result ≡ int (pos (total_bits trace)) = c.from_whole-bits.ensures ∙ ap int own ∙ ap (λ n. int (pos n)) c.bits_of.ensures
-        ∙ ap (λ ps. int (pos (sum_by (λ (p : TracePacket). p.bits) ps))) c.packets.ensures.packets in
+    ∙ ap (λ ps. int (pos (sum_by (λ (p : TracePacket). p.bits) ps))) c.packets.ensures.packets in
     let all = joined numbers value in
     let r = common_num (rates_of net) in
     let t = c.in-Some.end in

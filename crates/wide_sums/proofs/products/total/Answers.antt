@@ -49,8 +49,8 @@ returns-in-Some c = λ s h.
     let own_b : to_z w128 b ≡ pos b = omega (arith, ints, less) in
     let own : t ≡ number c.in_ok-lowest.lowest.top.items = c.in-Some.ensures.0 ∙ ap number c.deref-2.ensures.value in
     let is = small_sum s (number c.args.sum.top.items) (product fs) (number c.in_ok-lowest.lowest.top.items) b (product_pos fs c.requires)
-        (over_factors s c.args.sum h) (subst (λ gs. IsReduced (number c.args.sum.top.items) (product gs) (number c.in_ok-lowest.lowest.top.items) b) c.deref.ensures.value c.in_ok-lowest.ensures)
-        (subst (λ k. k < 2 ^ 127) own less_t) less in
+    (over_factors s c.args.sum h) (subst (λ gs. IsReduced (number c.args.sum.top.items) (product gs) (number c.in_ok-lowest.lowest.top.items) b) c.deref.ensures.value c.in_ok-lowest.ensures)
+    (subst (λ k. k < 2 ^ 127) own less_t) less in
     c.quotient.ensures ∙ ap (λ x. x /ℚ c.from_whole-in-Some.result) (c.from_whole.ensures ∙ ap int own_t ∙ ap (λ k. int (pos k)) own)
     ∙ ap (λ x. int (pos (number c.in_ok-lowest.lowest.top.items)) /ℚ x) (c.from_whole-in-Some.ensures ∙ ap int own_b) ∙ sym is.0
 

@@ -23,7 +23,7 @@ returns c = λ s h.
     let own = c.in_ok-own.ensures ∙ ap (λ bs. number bs * c.size_of-2.result + 0) c.deref-2.ensures.value in
     let before = c.in_ok-before.ensures ∙ ap (λ bs. number bs * d + 0) c.deref-3.ensures.value in
     let top = c.in_ok-top.ensures ∙ ap (λ bs. number bs * e + number c.deref-5.result.now) c.deref-4.ensures.value
-        ∙ ap (λ bs. number c.in_ok-before.before.items * e + number bs) c.deref-5.ensures.value in
+    ∙ ap (λ bs. number c.in_ok-before.before.items * e + number bs) c.deref-5.ensures.value in
     let finer = c.in_ok-finer.ensures ∙ ap (λ bs. number bs * d + 0) c.deref-6.ensures.value in
     let bottom = c.in_ok-bottom.ensures ∙ ap (λ bs. number bs * e + 0) c.deref-7.ensures.value in
     let whole = bottom_of b d e (number c.in_ok-finer.finer.items) (number c.in_ok-bottom.bottom.items) finer bottom in
