@@ -20,7 +20,7 @@ returns-in-Ok-clause-counts g c =
       files = c.in-Ok.bytes.items ∷ c.in-Ok.rows.items ∷ [];
       held = c.in-Ok.ensures.held;
       fit = c.in-Ok.ensures.fit;
-      counts = rw c.deref-in-Ok.ensures.value at (rw c.deref.ensures.value at c.on_measure.ensures.counts);
+      counts = rw c.deref.ensures.value at c.on_measure.ensures.counts;
     })
 
 pub returns-in-Err-clause-reply : goal.returns-in-Err-clause-reply
