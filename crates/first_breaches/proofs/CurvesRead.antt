@@ -8,7 +8,7 @@ use Rattle.rational.specs.Rational.{ℚ, int, ◌+ℚ◌, ◌-ℚ◌, ◌≤ℚ�
 use Rattle.rational.specs.Ratio.{SumFits}
 use Rattle.rational.specs.Grid.{Whole}
 use Rattle.rational.specs.MinMax.{min_q}
-use Rattle.rational.proofs.Laws.{le_lt_trans, le_of_lt, le_or_lt, lt_irrefl}
+use Rattle.rational.proofs.Laws.{le_of_lt, le_or_lt, lt_irrefl}
 use Rattle.rational.proofs.Over.{lt_q_out}
 use Rattle.rational.proofs.MinMax.{lt_q_not, min_q_one, min_q_le_right}
 use Rattle.rational.proofs.Grid.{whole_add, whole_sub}

@@ -8,7 +8,6 @@ use Rattle.rational.specs.Rational.{ℚ, int, ◌+ℚ◌, ◌-ℚ◌, ◌*ℚ◌
 use Rattle.rational.specs.Ratio.{SumFits}
 use Rattle.rational.specs.Grid.{Whole}
 use Rattle.rational.proofs.Laws.{le_refl, le_trans, le_of_lt, lt_irrefl, add_assoc, one_mul, div_mul, not_zero}
-use Rattle.rational.proofs.Integers.{nat_nonneg}
 use Rattle.rational.proofs.Grid.{whole_int, whole_add, whole_sub, within_nonneg}
 use Rattle.rational.proofs.Linear.{with1, with2, with3, with_atoms}
 use Rattle.upp_curve.specs.Curve.{SpecCurve}

@@ -4,7 +4,7 @@ use Rattle.std.specs.List.{slice_index_or}
 use Rattle.std.proofs.Common.{arith, refl, sym, subst, ap, ◌∙◌, inl, inr, add-one}
 use Rattle.std.proofs.lemmas.List.{take_all}
 use Rattle.std.proofs.lemmas.Bool.{cases_lt, cases_Bool}
-use Rattle.rational.specs.Rational.{ℚ, int, ◌+ℚ◌, ◌-ℚ◌, ◌*ℚ◌, ◌≤ℚ◌, ◌<ℚ◌, le_q}
+use Rattle.rational.specs.Rational.{ℚ, int, ◌+ℚ◌, ◌-ℚ◌, ◌*ℚ◌, ◌≤ℚ◌, le_q}
 use Rattle.rational.specs.Extended.{Ext, ◌≤ₑ◌, ◌<ₑ◌}
 use Rattle.rational.specs.declared.Extended.TheVariants.{Fin, Inf}
 use Rattle.rational.proofs.ExtendedOrder.{le_ext_trans}
@@ -21,7 +21,7 @@ use Rattle.upp_normal.proofs.NormaliseRoomy.{each_in}
 use Rattle.run_laws.specs.Cards.{whole}
 use Rattle.run_laws.proofs.Sizes.{whole_sum}
 use Rattle.watch_laws.specs.declared.entering.Entering.{Entering}
-use Rattle.watch_laws.specs.Entries.{entering, bits_to, bits_between, IsCrowded}
+use Rattle.watch_laws.specs.Entries.{entering, bits_to, bits_between}
 use Rattle.run_watch.specs.Flows.{FlowReads, NoneCrowded, IsUnderLine, IsUnderPiece, KeepsBucket, IsRaised, IsLevel}
 use Rattle.run_watch.proofs.EntryLists.{bits_past, bits_one_more}
 use Rattle.run_watch.proofs.LeastFirst.{read_is}

@@ -3,11 +3,11 @@ use Rattle.std.specs.Prelude.{◌≡◌, ◌≢◌, ◌⊎◌, pos, true, List, 
 use Rattle.std.proofs.Common.{refl, sym, subst, ap, ap₂, ◌∙◌, inl, inr, true≢false}
 use Rattle.std.proofs.lemmas.Bool.{cases_Bool}
 use Rattle.std.specs.Ordering.{is_eq}
-use Rattle.rational.specs.Rational.{ℚ, int, ◌+ℚ◌, ◌-ℚ◌, ◌/ℚ◌, ◌≤ℚ◌, ◌<ℚ◌, le_q, lt_q}
+use Rattle.rational.specs.Rational.{ℚ, int, ◌+ℚ◌}
 use Rattle.rational.proofs.Comparison.{cmp_self}
 use Rattle.fraction128.specs.Order.{same_q}
 pub use Rattle.fraction128.specs.Order.{same_out as same_in}
-use Rattle.run_laws.specs.Cards.{all, ServerStep}
+use Rattle.run_laws.specs.Cards.{ServerStep}
 use Rattle.run_laws.specs.Servers as servers
 use Rattle.watch_laws.specs.Affine.{Among}
 use Rattle.watch_laws.specs.Paces.{pace_before, pace_after}

@@ -27,7 +27,7 @@ use Rattle.run_watch.specs.Ramps.{EachRamp}
 use Rattle.run_watch.specs.Watching.{ReadsAt, stops, TimesRise, next_after, begins, stretches_in, stretches, change_at, changes_in, ends_of, turns}
 use Rattle.run_watch.specs.WatchTimes.{watched_from, TimesFit}
 use Rattle.run_watch.specs.IdleWindows.{TimeFits, SegmentsFit}
-use Rattle.run_watch.specs.Held.{IsSeen, IsHeldRamp, AreHeld, IsHeld}
+use Rattle.run_watch.specs.Held.{IsSeen, IsHeldRamp, IsHeld}
 use Rattle.run_watch.proofs.ViewStretches.{stops_rise, stops_each}
 use Rattle.run_watch.proofs.FoundStretches.{HasStretch, StretchesRise, stretch_found, stretches_rise}
 use Rattle.run_watch.proofs.FoundTurns.{change_is, turn_found, found_turn}

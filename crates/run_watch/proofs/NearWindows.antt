@@ -6,11 +6,11 @@ use Rattle.std.proofs.lemmas.Bool.{cases_Bool, and_parts}
 use Rattle.std.proofs.lemmas.List.Sorted.{IsPermutation-refl}
 use Rattle.rational.specs.Rational.{ℚ, int, ◌+ℚ◌, ◌-ℚ◌, ◌≤ℚ◌, ◌<ℚ◌, lt_q, le_q}
 use Rattle.rational.specs.Grid.{Whole}
-use Rattle.rational.proofs.Laws.{le_refl, le_trans, le_of_lt, lt_le_trans, le_lt_trans, lt_irrefl, le_of_not_lt, mul_le_mul}
+use Rattle.rational.proofs.Laws.{le_trans, le_of_lt, lt_le_trans, le_lt_trans, lt_irrefl, le_of_not_lt, mul_le_mul}
 use Rattle.rational.proofs.Integers.{nat_nonneg}
 use Rattle.rational.proofs.Grid.{whole_add, whole_sub}
 use Rattle.rational.proofs.Over.{lt_q_in}
-use Rattle.rational.proofs.Linear.{with2, with3, with4}
+use Rattle.rational.proofs.Linear.{with2, with3}
 use Rattle.affine_segment.specs.declared.line.Piece.{Piece}
 use Rattle.affine_segment.proofs.PieceOrder.{each_map}
 use Rattle.upp_curve.specs.Curve.{SpecCurve}

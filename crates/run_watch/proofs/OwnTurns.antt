@@ -1,8 +1,8 @@
 -- The turns that are in one stretch, as a part of all of them in order.
-use Rattle.std.specs.Prelude.{◌≡◌, ℕ, zero, suc, ◌<◌, ◌≤◌, Bool, true, false, List, [], ◌∷◌, length, take, drop, get_or, Option, Some, None}
-use Rattle.std.proofs.Common.{arith, refl, sym, subst, inl, inr, true≢false, ◌∙◌}
+use Rattle.std.specs.Prelude.{◌≡◌, ℕ, zero, suc, ◌<◌, ◌≤◌, true, false, List, [], ◌∷◌, length, take, drop, get_or}
+use Rattle.std.proofs.Common.{arith, sym, subst, inl, inr, true≢false, ◌∙◌}
 use Rattle.std.specs.List.Sorted.{IsPermutation}
-use Rattle.rational.specs.Rational.{ℚ, ◌≤ℚ◌, ◌<ℚ◌, le_q, lt_q}
+use Rattle.rational.specs.Rational.{ℚ, ◌≤ℚ◌, ◌<ℚ◌, le_q}
 use Rattle.run_laws.specs.Counts.{before}
 use Rattle.rational.proofs.Laws.{le_lt_trans, lt_le_trans, lt_irrefl}
 use Rattle.rational.proofs.Over.{lt_q_in, lt_q_out, le_q_out}

@@ -1,19 +1,19 @@
 -- The loops over what a server sees, step by step.
-use Rattle.std.specs.Prelude.{◌≡◌, ℕ, zero, suc, ◌+◌, ◌<◌, ◌≤◌, true, false, List, [], ◌∷◌, ◌++◌, length, drop, get_or, Option, Some, None, if◌then◌else◌}
+use Rattle.std.specs.Prelude.{◌≡◌, ℕ, zero, suc, ◌+◌, ◌<◌, ◌≤◌, true, false, List, [], ◌∷◌, ◌++◌, length, drop, get_or, Option}
 use Rattle.std.specs.List.{slice_index_or}
 use Rattle.std.specs.Option.{option_to_list}
-use Rattle.std.proofs.Common.{arith, refl, sym, subst, ap, ap₂, ◌∙◌, append_assoc, true≢false}
-use Rattle.rational.specs.Rational.{ℚ, ◌≤ℚ◌, ◌<ℚ◌, lt_q}
-use Rattle.rational.proofs.Laws.{le_refl, le_trans, le_or_lt, lt_le_trans}
+use Rattle.std.proofs.Common.{arith, refl, sym, subst, ap, ◌∙◌, append_assoc}
+use Rattle.rational.specs.Rational.{ℚ, ◌≤ℚ◌, ◌<ℚ◌}
+use Rattle.rational.proofs.Laws.{le_refl, le_trans}
 use Rattle.rational.proofs.Over.{le_q_out, le_q_in, lt_q_out}
 use Rattle.rational.proofs.MinMax.{lt_q_not}
 use Rattle.watch_laws.specs.Affine.{EachTime}
 use Rattle.run_watch.specs.declared.span.Ramp.{Ramp}
 use Rattle.run_watch.specs.declared.watched.Watched.{Watched}
 use Rattle.run_watch.specs.declared.watched.Stretch.{Stretch}
-use Rattle.run_watch.specs.Watching.{is_caught_up, stops_in, stops, TimesRise, next_after, stretch_from, stretches_in, change_at, changes_in, ends_of, turns}
+use Rattle.run_watch.specs.Watching.{is_caught_up, stops_in, TimesRise, next_after, stretch_from, stretches_in, change_at, changes_in, ends_of, turns}
 use Rattle.run_watch.proofs.EntryLists.{next_item}
-use Rattle.run_watch.proofs.SeenLists.{found_more, found_same}
+use Rattle.run_watch.proofs.SeenLists.{found_more}
 use Rattle.affine_segment.proofs.NextPiece.{none_left}
 use Rattle.run_laws.specs.Counts.{upto}
 

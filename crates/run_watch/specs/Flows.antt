@@ -8,7 +8,7 @@ use Rattle.affine_segment.specs.declared.line.Line.{Line}
 use Rattle.affine_segment.specs.declared.line.Piece.{Piece}
 use Rattle.affine_segment.specs.Pieces.{StartsAtZero}
 use Rattle.affine_segment.specs.Fits.{ReadFits}
-use Rattle.affine_segment.specs.Reading.{read, piece_value}
+use Rattle.affine_segment.specs.Reading.{piece_value}
 use Rattle.run_laws.specs.Cards.{whole}
 use Rattle.run_laws.specs.declared.steps.Step.{Step}
 use Rattle.run_laws.specs.declared.steps.Step.TheVariants.{Enter, Reach, Work, Leave, Visit}

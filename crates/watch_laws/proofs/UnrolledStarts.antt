@@ -1,8 +1,8 @@
 -- A break of a curve before a time is the start of one of the pieces that are unrolled up to that time.
-use Rattle.std.specs.Prelude.{◌≡◌, ◌⊎◌, ℕ, zero, suc, ◌<◌, pos, Bool, true, false, cond, List, [], ◌∷◌, ◌++◌}
+use Rattle.std.specs.Prelude.{◌≡◌, ◌⊎◌, ℕ, zero, suc, ◌<◌, pos, List, [], ◌∷◌, ◌++◌}
 use Rattle.std.proofs.Common.{arith, subst, ap, inl, inr}
 use Rattle.std.proofs.lemmas.Bool.{cases_lt}
-use Rattle.rational.specs.Rational.{ℚ, int, ◌+ℚ◌, ◌-ℚ◌, ◌*ℚ◌, ◌≤ℚ◌, ◌<ℚ◌, lt_q}
+use Rattle.rational.specs.Rational.{ℚ, int, ◌+ℚ◌, ◌-ℚ◌, ◌*ℚ◌, ◌≤ℚ◌, ◌<ℚ◌}
 use Rattle.rational.specs.Whole.{periods}
 use Rattle.rational.proofs.Laws.{le_refl, le_trans, le_of_lt, zero_mul, mul_le_mul_right}
 use Rattle.rational.proofs.Integers.{nat_le}

@@ -1,8 +1,7 @@
-use Rattle.std.proofs.Common.{◌≡◌, ◌∙◌, sym, subst, ap, refl, true≢false}
+use Rattle.std.proofs.Common.{◌∙◌, sym, subst, refl}
 use Rattle.std.proofs.lemmas.Result.{IfOk-weaker}
-use Rattle.rational.specs.Rational.{ℚ, ◌<ℚ◌, ◌≤ℚ◌}
-use Rattle.rational.proofs.Laws.{le_of_not_lt}
-use Rattle.first_breaches.proofs.CurvesRead.{below_some, below_none, some_pieces}
+use Rattle.rational.specs.Rational.{ℚ, ◌<ℚ◌}
+use Rattle.first_breaches.proofs.CurvesRead.{below_some}
 use Rattle.first_breaches.proofs.arrivals.pieces_below.Goals as goal
 
 pub unrolled-requires : goal.unrolled-requires

@@ -1,4 +1,4 @@
-use Rattle.std.proofs.Common.{◌≡◌, ℕ, ◌<◌, ◌-◌, ◌∙◌, length, arith}
+use Rattle.std.proofs.Common.{◌<◌, ◌-◌, ◌∙◌, length, arith}
 use Rattle.first_breaches.proofs.CurvesRead.{ends_are, apart_as, left_as, parts_are, sum_as, reach_as}
 use Rattle.first_breaches.proofs.arrivals.reach.Goals as goal
 

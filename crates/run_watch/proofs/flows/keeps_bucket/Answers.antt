@@ -1,4 +1,4 @@
-use Rattle.std.proofs.Common.{◌≤◌, length, arith, sym, subst, true≢false}
+use Rattle.std.proofs.Common.{sym, true≢false}
 use Rattle.rational.proofs.Laws.{le_of_not_lt}
 use Rattle.run_watch.proofs.Buckets.{kept_none, kept_more}
 use Rattle.run_watch.proofs.flows.keeps_bucket.Goals as goal

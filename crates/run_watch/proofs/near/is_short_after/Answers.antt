@@ -1,5 +1,4 @@
 use Rattle.std.proofs.Common.{refl, sym, true≢false}
-use Rattle.rational.proofs.Laws.{le_of_not_lt}
 use Rattle.run_watch.proofs.NearWindows.{reads_as, marks_as, after_is, not_after, in_reach}
 use Rattle.run_watch.proofs.near.is_short_after.Goals as goal
 

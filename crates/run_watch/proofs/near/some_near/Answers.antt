@@ -1,5 +1,4 @@
 use Rattle.std.proofs.Common.{subst}
-use Rattle.std.proofs.lemmas.Bool.{OnFalse_at}
 use Rattle.std.proofs.lemmas.List.{take_all}
 use Rattle.watch_laws.specs.Shorts.{EachPoint}
 use Rattle.run_watch.specs.NearWindows.{NoneNearBy, FitsNearBy}

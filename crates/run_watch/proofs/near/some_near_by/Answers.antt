@@ -1,11 +1,9 @@
 use Rattle.std.proofs.Common.{sym, subst, true≢false}
 use Rattle.std.proofs.lemmas.List.{take_all}
-use Rattle.watch_laws.specs.declared.point.Segment.{Segment}
 use Rattle.watch_laws.specs.Shorts.{EachSegment}
 use Rattle.run_watch.specs.NearWindows.{IsShortNear, FitsNear}
 use Rattle.run_watch.proofs.ShortMarks.{segment_at}
 use Rattle.run_watch.proofs.ShortWindows.{segments_push}
-use Rattle.std.specs.Prelude.{List}
 use Rattle.run_watch.proofs.near.some_near_by.Goals as goal
 
 pub is_short_near-requires-clause-fits : goal.is_short_near-requires-clause-fits

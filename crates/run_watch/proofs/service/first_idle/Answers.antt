@@ -1,4 +1,4 @@
-use Rattle.std.proofs.Common.{◌≡◌, ◌∙◌, List, Some, None, pos, refl, sym, subst, ap, true≢false}
+use Rattle.std.proofs.Common.{◌≡◌, ◌∙◌, List, pos, refl, sym, subst, ap, true≢false}
 use Rattle.rational.specs.Rational.{ℚ, int, ◌≤ℚ◌, ◌<ℚ◌}
 use Rattle.rational.proofs.Laws.{le_of_not_lt}
 use Rattle.run_watch.specs.Watching.{stretches, stretches_in, turns}
