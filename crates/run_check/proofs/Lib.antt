@@ -1,0 +1,10 @@
+pub mod SiteSteps
+pub mod RowSteps
+pub mod WalkSteps
+pub mod PathPlaces
+pub mod LeaveRows
+pub mod ReachRows
+pub mod WorkRows
+pub mod Along
+pub mod AtEnd
+pub mod Started

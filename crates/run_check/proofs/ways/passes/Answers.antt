@@ -1,0 +1,14 @@
+use Rattle.std.specs.Prelude.{◌≡◌, length}
+use Rattle.std.proofs.Common.{arith, sym, subst}
+use Rattle.sim_routes.proofs.Places.{NoneBefore}
+use Rattle.run_check.proofs.PathPlaces.{on_finds, on_none}
+use Rattle.run_check.proofs.ways.passes.Goals as goal
+
+pub returns-then-at-server : goal.returns-then-at-server
+returns-then-at-server c = λ queues e.
+    sym (on_finds c.args.path.now queues c.args.server c.loop-at.at-index e c.loop-at-test.true c.if-at-server.true c.loop-at.invariant)
+
+pub returns : goal.returns
+returns c = λ queues e.
+    let k : c.loop-at.at-index ≡ length c.args.path.now = omega (arith, c.loop-at-test.false, c.loop-at.auto.at-index-end) in
+    sym (on_none c.args.path.now queues c.args.server e (subst (NoneBefore c.args.path.now c.args.server) k c.loop-at.invariant))

@@ -1,0 +1,5 @@
+use Rattle.sim_routes.proofs.Places.{NoneBefore}
+use Rattle.run_check.proofs.ways.passes.Given as goal
+
+abbrev pub invariant-loop-at : goal.invariant-loop-at
+invariant-loop-at l = NoneBefore l.path l.server l.at-index

@@ -1,0 +1,5 @@
+use Rattle.sim_routes.proofs.Places.{NoneBefore}
+use Rattle.run_check.proofs.ways.stands_before.Given as goal
+
+abbrev pub invariant-loop-at : goal.invariant-loop-at
+invariant-loop-at l = record { server_later : NoneBefore l.path l.server l.at-index; other_later : NoneBefore l.path l.other l.at-index }
