@@ -36,7 +36,7 @@ pub record UntouchedCarryOver : Type 0 where
 abbrev pub TouchedAnswersSuffice : Type 0
 TouchedAnswersSuffice =
     (old new : Net) (at other : CellTable) (cells : List Cell)
-        → ((c : Cell) → IsTrue (has_cell old c) → IsAnswered old at c)
+    → ((c : Cell) → IsTrue (has_cell old c) → IsAnswered old at c)
     → AgreeAtUntouched old new at other
     → ((c : Cell) → Contains cells c → Touched old new c ⊎ Untouched old new c)
     → ((c : Cell) → Contains cells c → Touched old new c → IsAnswered new other c) → AnswersAll new other cells
@@ -52,5 +52,5 @@ FirstOverIsTouched =
 abbrev pub OneTouchedList : Type 0
 OneTouchedList =
     (old new : Net) (cells touched others : List Cell) → TouchedOf old new cells touched
-        → TouchedOf old new cells others
+    → TouchedOf old new cells others
     → touched ≡ others

@@ -29,4 +29,4 @@ abbrev pub BelowEverAfter : Type 0
 BelowEverAfter =
     (f g : SpecCurve) (from d : ℚ) (k : ℕ) → int (pos 0) <ℚ d → RepeatsBy from d f → RepeatsBy from d g
     → IsSlowerBelow (value_at f) (value_at g) (rate f) (rate g) (periods_after from k d) d
-        → IsSlowerBelowFrom f g (periods_after from k d)
+    → IsSlowerBelowFrom f g (periods_after from k d)

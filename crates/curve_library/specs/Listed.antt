@@ -157,7 +157,7 @@ KeepsListed ps tail u (Err Negative) = ¬ (AreNonneg ps tail)
 KeepsListed ps tail u (Err ZeroPeriod) = AreNonneg ps tail × ¬ (HasLength tail)
 KeepsListed ps tail u (Err NotRising) =
     (AreNonneg ps tail × HasLength tail × ¬ (AreInOrder ps tail))
-        ⊎ (IsWellFormed ps tail × KeepsBoth u (listed_curve ps tail) (Err NotRising))
+    ⊎ (IsWellFormed ps tail × KeepsBoth u (listed_curve ps tail) (Err NotRising))
 KeepsListed ps tail u (Err NotContinuous) = IsWellFormed ps tail
     × KeepsBoth u (listed_curve ps tail) (Err NotContinuous)
 KeepsListed ps tail u (Err NotZeroAtStart) = IsWellFormed ps tail

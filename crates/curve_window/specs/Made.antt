@@ -89,7 +89,7 @@ abbrev pub AreMade : Made → List Both → ℚ → List Piece → Type 0
 AreMade k [] end ps = ps ≡ []
 AreMade k (b ∷ bs) end ps =
     (parts : Parts) × IsParts k b (next_start bs end) parts
-        × ((rest : List Piece) × (ps ≡ listed parts rest) × AreMade k bs end rest)
+    × ((rest : List Piece) × (ps ≡ listed parts rest) × AreMade k bs end rest)
 
 -- ---- steps that fit
 abbrev pub ValueApartFits : Ext → Ext → Type 0

@@ -46,13 +46,13 @@ pub record EnvelopeRules : Type 0 where
 abbrev pub PairsConvolveWindows : Type 0
 PairsConvolveWindows =
     (f g : List Piece) (end : Ext) (t : ℚ) (v : Ext) → StartsAtZero f → StartsAtZero g → StartBefore end f
-        → StartBefore end g
+    → StartBefore end g
     → Fin t <ₑ end → IsEnvelope (elements_of f end) (elements_of g end) t v ↔ IsConvolution (read f) (read g) t v
 
 -- before the end of the pieces of two curves, the last of them gone on with at least up to that end
 abbrev pub PairsConvolveCurves : Type 0
 PairsConvolveCurves =
     (f g : SpecCurve) (until : ℚ) (end : Ext) (t : ℚ) (v : Ext) → IsNormal f → IsNormal g → int (pos 0) <ℚ until
-        → Fin until ≤ₑ end → t <ℚ until
+    → Fin until ≤ₑ end → t <ℚ until
     → IsEnvelope (elements_of (unroll f until) end) (elements_of (unroll g until) end) t v
-        ↔ IsConvolution (value_at f) (value_at g) t v
+    ↔ IsConvolution (value_at f) (value_at g) t v

@@ -21,5 +21,5 @@ ElementsStand =
 abbrev pub JoinedStand : Type 0
 JoinedStand =
     (z : Sizes) (end : ℚ) (a b : Element) (j : Joined) → AreLimited z end → OperandElement z end a
-        → OperandElement z end b
+    → OperandElement z end b
     → AreParts a b j → SumJoined z end j

@@ -22,5 +22,5 @@ SumLowerFits = (z : Sizes) (end : ℚ) (f g : List Piece) → AreLimited z end �
 abbrev pub SumLowerIsOne : Type 0
 SumLowerIsOne =
     (z : Sizes) (end : ℚ) (f g ps : List Piece) → AreLimited z end → SumWindow z end f → SumWindow z end g
-        → IsLowerOf f g end ps
+    → IsLowerOf f g end ps
     → SumWindow z end ps

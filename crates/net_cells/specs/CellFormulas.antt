@@ -86,7 +86,7 @@ formula_of net QueueDelay s q = horizontal (value Total s q) (value QueueService
 formula_of net QueueBacklog s q = vertical (value Total s q) (less (value QueueService s q) (longest net s q))
 formula_of net HopDelay i k =
     smaller (value QueueDelay (server_of_hop net i k) (queue_of_hop net i k))
-        (horizontal (value In i k) (value Residual i k))
+    (horizontal (value In i k) (value Residual i k))
 formula_of net ShiftOut i k = moved (value In i k) (value HopDelay i k)
 formula_of net DeconvOut i k = made Deconvolve (value In i k) (less (value Residual i k) (packet net i))
 formula_of net Out i k = made Min (value ShiftOut i k) (value DeconvOut i k)

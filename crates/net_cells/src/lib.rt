@@ -18,7 +18,9 @@ pub use laws::{
     operands_are_cells, operands_are_different, operands_come_first, order_has_each_cell,
     tables_agree, work_is_operators,
 };
-pub use numbered::{hops, is_by_priority, levels, live_flow, queue_of_hop, queues, server, server_of_hop};
+pub use numbered::{
+    hops, is_by_priority, levels, live_flow, queue_of_hop, queues, server, server_of_hop,
+};
 pub use operand::{operands, visits_in};
 pub use order::cells;
 pub use visit::{Visit, visits};

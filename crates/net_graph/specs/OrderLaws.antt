@@ -21,7 +21,7 @@ OrderHasEachServer = (net : Net) (xs : List ℕ) → IsOrder net xs → IsArrang
 abbrev pub OrderGoesForward : Type 0
 OrderGoesForward =
     (net : Net) (xs : List ℕ) (a b place : ℕ) → IsOrder net xs → IsNext net a b → place < length xs
-        → slice_index xs place ≡ b
+    → slice_index xs place ≡ b
     → Contains (take place xs) a
 
 -- where there is an order no walk comes back, so there is no cycle

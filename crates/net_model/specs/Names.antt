@@ -7,7 +7,7 @@ use Rattle.net_model.specs.Networks.{Net, NetServer, NetFlow}
 abbrev pub is_name_byte : ℕ → Bool
 is_name_byte c =
     (nat_le 97 c && nat_le c 122) || (nat_le 65 c && nat_le c 90) || (nat_le 48 c && nat_le c 57) || (c == 95) ||
-        (c == 45)
+    (c == 45)
 
 -- whether a text is 1 to 32 of these
 abbrev pub is_name : List ℕ → Bool

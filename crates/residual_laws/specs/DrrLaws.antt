@@ -32,6 +32,6 @@ IsDrrService β quanta longest i R = (t : ℚ) → int (pos 0) ≤ℚ t
 abbrev pub DrrServes : Type 0
 DrrServes = (server : Server) (end : ℚ) (view : List ServerStep) (quanta longest : List ℕ) (i : ℕ) (β R : ℚ → Ext) →
     IsLawfulView server end view → server.discipline ≡ Drr quanta → length longest ≡ length quanta → i < length quanta
-        → 1 ≤ get_or quanta i 0 →
+    → 1 ≤ get_or quanta i 0 →
     ((q : ℕ) → KeepsSizes (of_queue q) (get_or longest q 0) view) → KeepsService β end view → IsZeroAtStart β →
     IsDrrService β quanta longest i R → Serves (of_queue i) R end view

@@ -35,12 +35,9 @@ use Rattle.run_check.specs.declared.site.Piece.{Piece}
 use Rattle.run_check.specs.declared.walk.Walk.{Walk}
 use Rattle.run_check.specs.Sites.{IsSite, IsOut, IsFresh, rest_by, IsOtherBy, IsWrongBy, WorkAnswer, WorkRoom}
 use Rattle.run_check.specs.Rows.{ChangesAt, Worked}
-use Rattle.run_check.specs.Walks.{Keeps, Stands, Told, fresh_by, fresh_for}
+use Rattle.run_check.specs.Walks.{Keeps, Stands, Told, fresh_by, fresh_for, work_of}
 use Rattle.run_check.proofs.WalkSteps.{walk_next, below_first}
 use Rattle.run_check.proofs.LeaveRows.{flows_long, flow_at, bits_at}
-
-abbrev step_of : ℕ → Piece → Step
-step_of s w = Work s w.packet w.start w.end w.bits
 
 -- ---- what is yet to be worked
 -- of a packet that has entered
@@ -151,13 +148,13 @@ fresh_time net y w k s p = go (nat_le (length w.flows.items) p) (has_left (place
         let known : p < length k.state.entered = omega (arith, l, long) in
         subst (λ b. IsTime k.grid k.most (whole b)) (sym (bits_at net k.room k.grid k.most k.before k.state w p k.keeps known)) (k.keeps.sizes p known)
 
-pub work_room : (net : Routes) (w : Walk) (s : ℕ) (x : Piece) (k : Stands net (step_of s x) w) (y : Site) → slice_get w.sites.items s ≡ Some y
+pub work_room : (net : Routes) (w : Walk) (s : ℕ) (x : Piece) (k : Stands net (work_of s x) w) (y : Site) → slice_get w.sites.items s ≡ Some y
     → WorkRoom y (fresh_for net w s x.packet) x
 work_room net w s x k y at = record {
   grid = k.grid;
   most = k.most;
   room = k.numbers;
-  on_grid = record { site_is = k.keeps.fine s y at; fresh_is = fresh_time net (step_of s x) w k s x.packet; bits_are = k.fits };
+  on_grid = record { site_is = k.keeps.fine s y at; fresh_is = fresh_time net (work_of s x) w k s x.packet; bits_are = k.fits };
 }
 
 -- ---- the answer
@@ -176,7 +173,7 @@ unlimited None a b w e k = k
 unlimited (Some z) a b w e k = cc
 
 module _ (net : Routes) (end : ℚ) (before : List Step) (r : RunState) (s : ℕ) (x : Piece) (n : ¬ (IsOut (state_at r s) end x.start ⊎ (end <ℚ x.end))) where
-  below_second : (other : Law) → number_of other < 2 → ¬ Breaks net end before r (step_of s x) other
+  below_second : (other : Law) → number_of other < 2 → ¬ Breaks net end before r (work_of s x) other
   below_second L1 l k = not_late (state_at r s) end x n k
   below_second L2 l k = omega (arith, l)
   below_second L3 l k = k
@@ -188,7 +185,7 @@ module _ (net : Routes) (end : ℚ) (before : List Step) (r : RunState) (s : ℕ
   below_second L9 l k = k
 
   module _ (m : x.packet < length r.entered) where
-    below_fourth : (other : Law) → number_of other < 4 → ¬ Breaks net end before r (step_of s x) other
+    below_fourth : (other : Law) → number_of other < 4 → ¬ Breaks net end before r (work_of s x) other
     below_fourth L1 l k = not_late (state_at r s) end x n k
     below_fourth L2 l k = omega (arith, m, k)
     below_fourth L3 l k = k
@@ -199,7 +196,7 @@ module _ (net : Routes) (end : ℚ) (before : List Step) (r : RunState) (s : ℕ
     below_fourth L8 l k = omega (arith, l)
     below_fourth L9 l k = k
 
-    below_fifth : (IsWrongWork before r s x.packet x.start x.end x.bits → ⊥) → (other : Law) → number_of other < 5 → ¬ Breaks net end before r (step_of s x) other
+    below_fifth : (IsWrongWork before r s x.packet x.start x.end x.bits → ⊥) → (other : Law) → number_of other < 5 → ¬ Breaks net end before r (work_of s x) other
     below_fifth right L1 l k = not_late (state_at r s) end x n k
     below_fifth right L2 l k = omega (arith, m, k)
     below_fifth right L3 l k = k
@@ -211,7 +208,7 @@ module _ (net : Routes) (end : ℚ) (before : List Step) (r : RunState) (s : ℕ
     below_fifth right L9 l k = k
 
     work_none : (IsWrongWork before r s x.packet x.start x.end x.bits → ⊥) → next_card (state_at r s).under (server_at net s).discipline (state_at r s).inside (state_at r s).round ≡ Some (card_of net r.entered x.packet s)
-        → (server_at net s).pace ≡ None → BreaksNone net end before r (step_of s x)
+        → (server_at net s).pace ≡ None → BreaksNone net end before r (work_of s x)
     work_none right next pace L1 k = not_late (state_at r s) end x n k
     work_none right next pace L2 k = omega (arith, m, k)
     work_none right next pace L3 k = k
@@ -222,9 +219,9 @@ module _ (net : Routes) (end : ℚ) (before : List Step) (r : RunState) (s : ℕ
     work_none right next pace L8 k = unlimited (server_at net s).pace x.start x.end x.bits pace k
     work_none right next pace L9 k = k
 
-pub work_told : (net : Routes) (w after : Walk) (s : ℕ) (x : Piece) (k : Stands net (step_of s x) w) (end : ℚ) (known : Bool) (o : Option Law) → (known ≡ true → x.packet < length w.flows.items)
+pub work_told : (net : Routes) (w after : Walk) (s : ℕ) (x : Piece) (k : Stands net (work_of s x) w) (end : ℚ) (known : Bool) (o : Option Law) → (known ≡ true → x.packet < length w.flows.items)
     → (known ≡ false → length w.flows.items ≤ x.packet) → ChangesAt (Worked end known (fresh_for net w s x.packet) x o) w.sites.items after.sites.items s
-    → after.places.items ≡ w.places.items → after.flows.items ≡ w.flows.items → after.bits.items ≡ w.bits.items → Told net (step_of s x) w k end after o
+    → after.places.items ≡ w.places.items → after.flows.items ≡ w.flows.items → after.bits.items ≡ w.bits.items → Told net (work_of s x) w k end after o
 work_told net w after s x k end known o near_by far_by c places flows bits =
     go o c.changed.fine (c.changed.told (server_at net s).discipline k.room (state_at k.state s) (h.sites s c.old c.was) (is_fresh net k.room k.grid k.most k.before k.state w s x.packet h))
   where
@@ -235,7 +232,7 @@ work_told net w after s x k end known o near_by far_by c places flows bits =
     near e = let long = flows_long net k.room k.grid k.most k.before k.state w k.keeps in let l = near_by e in omega (arith, l, long)
 
     go : (p : Option Law) → ((grid : ℕ) (most : ℚ) → Rattle.run_check.specs.Sites.IsOnGrid grid most c.old (fresh_for net w s x.packet) x → p ≡ None → Rattle.run_check.specs.Sites.IsFine grid most c.new)
-        → WorkAnswer (server_at net s).discipline k.room (state_at k.state s) end known (fresh_for net w s x.packet) x c.new p → Told net (step_of s x) w k end after p
+        → WorkAnswer (server_at net s).discipline k.room (state_at k.state s) end known (fresh_for net w s x.packet) x c.new p → Told net (work_of s x) w k end after p
     go None fine a =
         let r = k.state in
         let σ = state_at r s in
@@ -246,9 +243,9 @@ work_told net w after s x k end known o near_by far_by c places flows bits =
         let in_run : ¬ (IsOut σ end x.start ⊎ (end <ℚ x.end)) = λ z. elim z [ inl i ↦ a.timely i | inr i ↦ a.ends i ] in
         let none = work_none net end k.before r s x in_run l right (a.next_one ∙ ap Some card) (k.no_pace s) in (
           none,
-          walk_next net (step_of s x) w after k end none c.old c.new c.was c.is
+          walk_next net (work_of s x) w after k end none c.old c.new c.was c.is
               (subst (λ z. IsSite (server_at net s).discipline k.room (next (server_at net s).discipline σ (Works z x.start x.end x.bits)) c.new) card a.after_it)
-              (fine k.grid k.most record { site_is = h.fine s c.old c.was; fresh_is = fresh_time net (step_of s x) w k s x.packet; bits_are = k.fits } refl)
+              (fine k.grid k.most record { site_is = h.fine s c.old c.was; fresh_is = fresh_time net (work_of s x) w k s x.packet; bits_are = k.fits } refl)
               places (flows ∙ h.flows) (bits ∙ h.bits),
         )
     go (Some L1) fine a = record { breaks = late (state_at k.state s) end x a; no_other = λ other l b. below_first other l }
@@ -272,8 +269,8 @@ work_told net w after s x k end known o near_by far_by c places flows bits =
     go (Some L9) fine a = absurd a
 
 -- the same where what is yet to be worked is known by its value
-pub work_told_by : (net : Routes) (w after : Walk) (s : ℕ) (x : Piece) (k : Stands net (step_of s x) w) (end fresh : ℚ) (known : Bool) (o : Option Law) → fresh ≡ fresh_for net w s x.packet
+pub work_told_by : (net : Routes) (w after : Walk) (s : ℕ) (x : Piece) (k : Stands net (work_of s x) w) (end fresh : ℚ) (known : Bool) (o : Option Law) → fresh ≡ fresh_for net w s x.packet
     → (known ≡ true → x.packet < length w.flows.items) → (known ≡ false → length w.flows.items ≤ x.packet) → ChangesAt (Worked end known fresh x o) w.sites.items after.sites.items s
-    → after.places.items ≡ w.places.items → after.flows.items ≡ w.flows.items → after.bits.items ≡ w.bits.items → Told net (step_of s x) w k end after o
+    → after.places.items ≡ w.places.items → after.flows.items ≡ w.flows.items → after.bits.items ≡ w.bits.items → Told net (work_of s x) w k end after o
 work_told_by net w after s x k end fresh known o e near_by far_by c places flows bits =
     work_told net w after s x k end known o near_by far_by (subst (λ f. ChangesAt (Worked end known f x o) w.sites.items after.sites.items s) e c) places flows bits

@@ -35,5 +35,5 @@ pub record IsTallied (net : Routes) (end : ℚ) (xs : List Step) (flows : List �
   pub long : length delivered ≡ length flows
   pub at : (p : ℕ) → p < length flows
       → slice_index_or delivered p (int (pos 0))
-          ≡ delivered_at net end (last_server (route_of net (slice_index_or flows p 0)).hops) p xs
+      ≡ delivered_at net end (last_server (route_of net (slice_index_or flows p 0)).hops) p xs
   pub largest : AreWorst net end xs many worst

@@ -174,7 +174,7 @@ impl Station {
         ensures same { IsSameOpening self.old.opening self.new.opening }
         ensures left { (S : Setup) (s : ℕ) (σ : ServerState) (u : Under) → IsStation S s σ self.old → σ.under ≡ Some u
             → (u.card.packet ≡ result)
-                × IsStation S s (next (server_at S.net s).discipline σ (Leaves u.card time)) self.new }
+            × IsStation S s (next (server_at S.net s).discipline σ (Leaves u.card time)) self.new }
     {
         let packet = self.queues.finish();
         self.inside -= 1;

@@ -25,7 +25,7 @@ abbrev pub NothingIsLeft : Type 0
 NothingIsLeft = (S : Setup) → IsSetup S
     → (stations : List Station) (links : Chains) (arrivals : List Arrival) (n : ℕ) (xs : List Step)
     → IsRunning S stations links arrivals n xs
-        → IsFirstCandidate S stations links arrivals n (length S.net.servers) None
+    → IsFirstCandidate S stations links arrivals n (length S.net.servers) None
     → (y : Step) → ¬ (IsDue S (state_after S xs) y)
 
 -- a due step at the time and the place of the first of what is taken for due is next
@@ -33,9 +33,9 @@ abbrev pub FirstIsNext : Type 0
 FirstIsNext = (S : Setup) → IsSetup S
     → (stations : List Station) (links : Chains) (arrivals : List Arrival) (n : ℕ) (xs : List Step) (d : Due)
     → IsRunning S stations links arrivals n xs
-        → IsFirstCandidate S stations links arrivals n (length S.net.servers) (Some d)
+    → IsFirstCandidate S stations links arrivals n (length S.net.servers) (Some d)
     → (x : Step) → IsDue S (state_after S xs) x → step_time x ≡ d.time → rank_of (state_after S xs) x ≡ place_of d
-        → IsNext S (state_after S xs) x
+    → IsNext S (state_after S xs) x
 
 -- a station for the state of its server after a step
 abbrev pub IsAfter : Setup → List Step → Step → Station → Type 0
@@ -48,7 +48,7 @@ abbrev pub EntriesKeep : Type 0
 EntriesKeep = (S : Setup) → IsSetup S
     → (stations : List Station) (links : Chains) (arrivals : List Arrival) (n : ℕ) (xs : List Step)
     → IsRunning S stations links arrivals n xs → (f p : ℕ) (t : ℚ) (b : ℕ)
-        → IsNext S (state_after S xs) (Enter f p t b) → (new : Station)
+    → IsNext S (state_after S xs) (Enter f p t b) → (new : Station)
     → IsAfter S xs (Enter f p t b) new
     → IsRunning S (set stations (server_of S.net (Enter f p t b)) new) links arrivals (n + 1) (xs ++ Enter f p t b ∷ [])
 
@@ -57,16 +57,16 @@ abbrev pub ArrivalsKeep : Type 0
 ArrivalsKeep = (S : Setup) → IsSetup S
     → (stations : List Station) (links : Chains) (arrivals : List Arrival) (n : ℕ) (xs : List Step)
     → IsRunning S stations links arrivals n xs → (s p : ℕ) (t : ℚ) → IsNext S (state_after S xs) (Reach s p t)
-        → (new : Station)
+    → (new : Station)
     → IsAfter S xs (Reach s p t) new
-        → IsRunning S (set stations s new) (unlinked links p) arrivals n (xs ++ Reach s p t ∷ [])
+    → IsRunning S (set stations s new) (unlinked links p) arrivals n (xs ++ Reach s p t ∷ [])
 
 -- where a server works
 abbrev pub WorkKeeps : Type 0
 WorkKeeps = (S : Setup) → IsSetup S
     → (stations : List Station) (links : Chains) (arrivals : List Arrival) (n : ℕ) (xs : List Step)
     → IsRunning S stations links arrivals n xs → (s p : ℕ) (a b w : ℚ) → IsNext S (state_after S xs) (Work s p a b w)
-        → (new : Station)
+    → (new : Station)
     → IsAfter S xs (Work s p a b w) new → IsRunning S (set stations s new) links arrivals n (xs ++ Work s p a b w ∷ [])
 
 -- where it turns to a queue
@@ -74,7 +74,7 @@ abbrev pub VisitsKeep : Type 0
 VisitsKeep = (S : Setup) → IsSetup S
     → (stations : List Station) (links : Chains) (arrivals : List Arrival) (n : ℕ) (xs : List Step)
     → IsRunning S stations links arrivals n xs → (s q : ℕ) (t : ℚ) → IsNext S (state_after S xs) (Visit s q t)
-        → (new : Station)
+    → (new : Station)
     → IsAfter S xs (Visit s q t) new → IsRunning S (set stations s new) links arrivals n (xs ++ Visit s q t ∷ [])
 
 -- where a packet leaves for another server, and is put on the link
@@ -82,19 +82,19 @@ abbrev pub DeparturesKeep : Type 0
 DeparturesKeep = (S : Setup) → IsSetup S
     → (stations : List Station) (links : Chains) (arrivals : List Arrival) (n : ℕ) (xs : List Step)
     → IsRunning S stations links arrivals n xs → (s p : ℕ) (t : ℚ) → IsNext S (state_after S xs) (Leave s p t)
-        → (new : Station)
+    → (new : Station)
     → IsAfter S xs (Leave s p t) new → (a : Arrival)
-        → server_after s (hops_of S.net (state_after S xs).entered p) ≡ Some a.server
+    → server_after s (hops_of S.net (state_after S xs).entered p) ≡ Some a.server
     → a.time ≡ t +ℚ link_at S.net s
     → IsRunning S (set stations s new) (with_list links s (list_at links s ++ p ∷ [])) (set arrivals p a) n
-        (xs ++ Leave s p t ∷ [])
+    (xs ++ Leave s p t ∷ [])
 
 -- and where one leaves its last
 abbrev pub LastDeparturesKeep : Type 0
 LastDeparturesKeep = (S : Setup) → IsSetup S
     → (stations : List Station) (links : Chains) (arrivals : List Arrival) (n : ℕ) (xs : List Step)
     → IsRunning S stations links arrivals n xs → (s p : ℕ) (t : ℚ) → IsNext S (state_after S xs) (Leave s p t)
-        → (new : Station)
+    → (new : Station)
     → IsAfter S xs (Leave s p t) new → server_after s (hops_of S.net (state_after S xs).entered p) ≡ None
     → IsRunning S (set stations s new) links arrivals n (xs ++ Leave s p t ∷ [])
 
@@ -104,7 +104,7 @@ abbrev pub EntriesMayBeTaken : Type 0
 EntriesMayBeTaken = (S : Setup) → IsSetup S
     → (stations : List Station) (links : Chains) (arrivals : List Arrival) (n : ℕ) (xs : List Step)
     → IsRunning S stations links arrivals n xs → length S.packets < 2 ^ 31 → (f p : ℕ) (t : ℚ) (b : ℕ)
-        → IsNext S (state_after S xs) (Enter f p t b)
+    → IsNext S (state_after S xs) (Enter f p t b)
     → (x : Station) → slice_get stations (first_server (route_of S.net f).hops) ≡ Some x
     → MayTake x p (queue_at (first_server (route_of S.net f).hops) (route_of S.net f).hops) t
 
@@ -113,6 +113,6 @@ abbrev pub ArrivalsMayBeTaken : Type 0
 ArrivalsMayBeTaken = (S : Setup) → IsSetup S
     → (stations : List Station) (links : Chains) (arrivals : List Arrival) (n : ℕ) (xs : List Step)
     → IsRunning S stations links arrivals n xs → length S.packets < 2 ^ 31 → (s p : ℕ) (t : ℚ)
-        → IsNext S (state_after S xs) (Reach s p t)
+    → IsNext S (state_after S xs) (Reach s p t)
     → (x : Station) → slice_get stations s ≡ Some x
-        → MayTake x p (queue_at s (hops_of S.net (state_after S xs).entered p)) t
+    → MayTake x p (queue_at s (hops_of S.net (state_after S xs).entered p)) t

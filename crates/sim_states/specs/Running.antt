@@ -97,7 +97,7 @@ IsFirstCandidate S stations links arrivals entered k None = (d : Due)
     → ¬ (IsCandidate S stations links arrivals entered k d)
 IsFirstCandidate S stations links arrivals entered k (Some d) =
     IsCandidate S stations links arrivals entered k d
-        × ((e : Due) → IsCandidate S stations links arrivals entered k e → IsNoLater d e)
+    × ((e : Due) → IsCandidate S stations links arrivals entered k e → IsNoLater d e)
 
 -- the due step y does not come before d
 pub record IsNotAfter (r : RunState) (d : Due) (y : Step) : Type 0 where

@@ -24,4 +24,4 @@ abbrev pub SimulatedRunsHaveSizes : Type 0
 SimulatedRunsHaveSizes = (net : Net) (trace : SpecTrace) (run : SpecRun) → IsAccepted net → AreCurves net
     → IsTrace trace → IsTraceOf net trace → IsFeedForward net
     → simulation_gauge net trace < 2 ^ 120 → IsSimulated (setup_of net trace) run
-        → IsLawful (routes_of net) run × RunStands (simulation_sizes net trace) net run
+    → IsLawful (routes_of net) run × RunStands (simulation_sizes net trace) net run

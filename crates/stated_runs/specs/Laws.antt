@@ -71,5 +71,5 @@ abbrev pub OpenServersStart : Type 0
 OpenServersStart = (S : Setup) (run : SpecRun) → IsSetup S → IsSimulated S run → (before behind : List Step)
     → run.steps ≡ before ++ behind
     → (s : ℕ) → s < length S.net.servers → (state_at (state_after S before) s).under ≡ None
-        → (state_at (state_after S before) s).inside ≢ []
+    → (state_at (state_after S before) s).inside ≢ []
     → (t : ℚ) → IsFirstOpen S s (state_at (state_after S before) s).now t → StartsBy S.net s t behind

@@ -23,5 +23,5 @@ abbrev pub OpenServersKeepTheirCurves : Type 0
 OpenServersKeepTheirCurves = (net : Net) (trace : SpecTrace) (run : SpecRun) → IsAccepted net → IsTrace trace
     → IsTraceOf net trace
     → IsSimulated (setup_of net trace) run → (s : ℕ) (server : NetServer) → slice_get net.servers s ≡ Some server
-        → IsByFormula server.kind
+    → IsByFormula server.kind
     → stalls_at s trace.stalls ≡ [] → KeepsService (value_at server.service) run.end (view (routes_of net) run s)
