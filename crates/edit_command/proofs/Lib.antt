@@ -1,0 +1,13 @@
+pub mod Exclusive
+pub mod Naming
+pub mod OneRow
+pub mod Works
+pub mod NextOne
+pub mod InTurn
+pub mod OnNetworks
+pub mod OnFiles
+pub mod Promised
+pub mod SameEdits
+pub mod OneWords
+pub mod OneReply
+pub mod Causes

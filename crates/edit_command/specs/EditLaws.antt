@@ -1,0 +1,75 @@
+-- What holds of the replies on a network's file and a list of edits.
+use Rattle.std.specs.Prelude.{◌≡◌, ◌⊎◌, ◌++◌, ℕ, List, [], ◌∷◌, codes}
+use Rattle.upp_limits.specs.declared.op_kind.OpFault.{OpFault}
+use Rattle.net_model.specs.Networks.{Net}
+use Rattle.net_model.specs.Orders.{IsOrder}
+use Rattle.net_model.specs.Walks.{IsFeedForward}
+use Rattle.net_text.specs.Reading.{IsNetworkOf}
+use Rattle.net_text.specs.FoldLimits.{OverFold}
+use Rattle.net_cells.specs.declared.cell.Cell.{Cell}
+use Rattle.net_cells.specs.FirstOver.{FirstOver}
+use Rattle.net_cells.specs.Meanings.{CellTable}
+use Rattle.table_text.specs.EditRows.{EditText}
+use Rattle.report_text.specs.Refusals.{spaced}
+use Rattle.edit_report.specs.EditReport.{edit_lines}
+use Rattle.command_replies.specs.Guarantee.{Guarantees}
+use Rattle.command_replies.specs.Replies.{Reply}
+use Rattle.edit_command.specs.OnEdits.{AsksFor, IsReported, IsEditReply}
+
+-- ---- the guarantee
+-- what a report shows of the network after the edits is kept in every run of it
+abbrev pub ReportsAreGuaranteed : Type 0
+ReportsAreGuaranteed =
+    (net : Net) (at : CellTable) (net_bytes edits_bytes : List ℕ) (reply : Reply)
+    → IsReported net at net_bytes edits_bytes reply → Guarantees net at
+
+-- ---- completeness
+-- the file gives a network without a cycle, by no order of its servers a cell is over a limit, and the list has no
+-- fault
+pub record IsWithinLimits (net_bytes edits_bytes : List ℕ) : Type 0 where
+  pub net : Net
+  pub reads : IsNetworkOf OverFold net_bytes net
+  pub feed_forward : IsFeedForward net
+  pub within : (order : List ℕ) (c : Cell) (fault : OpFault) → IsOrder net order → ¬ (FirstOver net order c fault)
+  pub edits : List EditText
+  pub asked : AsksFor edits_bytes edits
+
+-- their one reply is a report, whatever the edits are
+abbrev pub RepliesAreComplete : Type 0
+RepliesAreComplete =
+    (net_file net_bytes edits_file edits_bytes : List ℕ) (reply : Reply) → IsWithinLimits net_bytes edits_bytes
+    → IsEditReply net_file net_bytes edits_file edits_bytes reply → reply.status ≡ 0
+
+-- ---- one reply
+-- words that tell of a cycle, by some walk
+pub record TellsCycle (words : List ℕ) : Type 0 where
+  pub names : List (List ℕ)
+  pub is : words ≡ codes "refused " ++ (codes "cycle" ++ spaced names)
+
+-- the same words for each edit, but for the choice among cycles
+abbrev pub AreSameWords : List (List ℕ) → List (List ℕ) → Type 0
+AreSameWords [] [] = Unit {0}
+AreSameWords [] (y ∷ ys) = ⊥
+AreSameWords (x ∷ xs) [] = ⊥
+AreSameWords (x ∷ xs) (y ∷ ys) = ((x ≡ y) ⊎ (TellsCycle x × TellsCycle y)) × AreSameWords xs ys
+
+-- two reports: a line for each edit, and then one report on one network
+pub record AreSameReports (x y : Reply) : Type 0 where
+  pub words : List (List ℕ)
+  pub others : List (List ℕ)
+  pub same : AreSameWords words others
+  pub report : List ℕ
+  pub is : x.bytes ≡ edit_lines words ++ report
+  pub is_other : y.bytes ≡ edit_lines others ++ report
+
+-- one status; and one text, or each tells a cycle of the network, or of edited ones in the reports
+pub record AreAlike (x y : Reply) : Type 0 where
+  pub status : x.status ≡ y.status
+  pub text : (x.bytes ≡ y.bytes) ⊎ ((x.status ≡ 8) ⊎ AreSameReports x y)
+
+-- status and text are determined by the files, but for the choice among cycles
+abbrev pub RepliesAreDetermined : Type 0
+RepliesAreDetermined =
+    (net_file net_bytes edits_file edits_bytes : List ℕ) (x y : Reply)
+    → IsEditReply net_file net_bytes edits_file edits_bytes x
+    → IsEditReply net_file net_bytes edits_file edits_bytes y → AreAlike x y

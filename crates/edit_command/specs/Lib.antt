@@ -1,0 +1,8 @@
+pub mod NetHistories
+pub mod Causes
+pub mod Answered
+pub mod Said
+pub mod OnEdits
+pub mod EditCounts
+pub mod EditLaws
+pub mod EditCauses

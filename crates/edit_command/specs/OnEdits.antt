@@ -1,0 +1,89 @@
+-- What is answered on the bytes of a network's file and of a list of edits: by the network's first fault, or the
+-- list's; by a cycle of the network, or its first cell over a limit; or by the report on the edits.
+use Rattle.std.specs.Prelude.{◌≡◌, ℕ, List, map}
+use Rattle.upp_limits.specs.declared.own_limits.OverLimit.{OverLimit}
+use Rattle.net_model.specs.declared.edit.Edit.{Edit}
+use Rattle.net_model.specs.Networks.{Net}
+use Rattle.net_text.specs.Reading.{IsNetworkOf}
+use Rattle.net_text.specs.FoldLimits.{OverFold}
+use Rattle.net_cells.specs.Meanings.{CellTable}
+use Rattle.net_cells.specs.Equations.{MeetsEquations}
+use Rattle.table_text.specs.declared.fault.TableFault.{TableFault}
+use Rattle.table_text.specs.Rows.{rows_of}
+use Rattle.table_text.specs.EditRows.{EditText, edit_view}
+use Rattle.table_text.specs.EditLists.{AreEditsOf, IsFirstEditFault}
+use Rattle.edit_report.specs.EditReport.{edit_report_of}
+use Rattle.command_replies.specs.Replies.{Reply, table_fault_reply}
+use Rattle.command_replies.specs.OnFiles.{IsBroken, IsCurveOver, IsNetOf, HasCycle, IsCellOver}
+use Rattle.edit_command.specs.NetHistories.{NetHistory, begun}
+use Rattle.edit_command.specs.Answered.{IsAnalysed, AreAnswered}
+
+-- ---- lists of edits
+-- the list has a fault, and this is the first
+pub record IsBadList (net_bytes edits_file edits_bytes : List ℕ) (reply : Reply) : Type 0 where
+  pub net : Net
+  pub gives : IsNetOf net_bytes net
+  pub fault : TableFault
+  pub first : IsFirstEditFault edits_bytes fault.kind fault.row
+  pub is : reply ≡ table_fault_reply edits_file fault
+
+-- it has none: it asks for these edits
+pub record AsksFor (edits_bytes : List ℕ) (edits : List EditText) : Type 0 where
+  pub are : AreEditsOf (rows_of edits_bytes) edits
+
+-- ---- a report
+abbrev pub edit_report : Net → CellTable → List (List ℕ) → Reply
+edit_report net at answers = record { status = 0; bytes = edit_report_of net at answers }
+
+-- no cell of a network is over a limit; edits have these answers, one after the other, and leave a network that is told
+-- with the numbers of a table of it, which meets its equations
+pub record AreReported (first : Net) (edits : List Edit) (net : Net) (at : CellTable) (reply : Reply) : Type 0 where
+  pub table : CellTable
+  pub analysed : IsAnalysed first table
+  pub answers : List (List ℕ)
+  pub last : NetHistory
+  pub answered : AreAnswered (begun first) edits answers last
+  pub present : last.present ≡ net
+  pub shown : IsAnalysed net at
+  pub meets : MeetsEquations net at
+  pub is : reply ≡ edit_report net at answers
+
+-- so it is for the network of the file and the edits that the list asks for
+pub record IsReported (net : Net) (at : CellTable) (net_bytes edits_bytes : List ℕ) (reply : Reply) : Type 0 where
+  pub first : Net
+  pub gives : IsNetOf net_bytes first
+  pub edits : List Edit
+  pub asked : AsksFor edits_bytes (map edit_view edits)
+  pub report : AreReported first edits net at reply
+
+abbrev pub IsEditReport : List ℕ → List ℕ → Reply → Type 0
+IsEditReport net_bytes edits_bytes reply =
+    (net : Net) × (at : CellTable) × IsReported net at net_bytes edits_bytes reply
+
+-- ---- all of them
+-- the reply on files with these names and bytes
+pub data IsEditReply (net_file net_bytes edits_file edits_bytes : List ℕ) (reply : Reply) : Type 0 where
+  Broken : IsBroken net_file net_bytes reply → IsEditReply net_file net_bytes edits_file edits_bytes reply
+  CurveOver : (limit : OverLimit) → IsCurveOver limit net_bytes reply
+      → IsEditReply net_file net_bytes edits_file edits_bytes reply
+  BadList : IsBadList net_bytes edits_file edits_bytes reply
+      → IsEditReply net_file net_bytes edits_file edits_bytes reply
+  Cyclic : (edits : List EditText) → AsksFor edits_bytes edits → HasCycle net_bytes reply
+      → IsEditReply net_file net_bytes edits_file edits_bytes reply
+  CellOver : (edits : List EditText) → AsksFor edits_bytes edits → (limit : OverLimit)
+      → IsCellOver limit net_bytes reply → IsEditReply net_file net_bytes edits_file edits_bytes reply
+  Reported : IsEditReport net_bytes edits_bytes reply
+      → IsEditReply net_file net_bytes edits_file edits_bytes reply
+
+-- ---- on what was read
+-- the reply where a network was read, whatever file it is of
+abbrev pub IsReplyOnNet : Net → List ℕ → List ℕ → Reply → Type 0
+IsReplyOnNet net edits_file edits_bytes reply =
+    (net_file net_bytes : List ℕ) → IsNetworkOf OverFold net_bytes net
+    → IsEditReply net_file net_bytes edits_file edits_bytes reply
+
+-- and edits too
+abbrev pub IsReplyOnEdits : Net → List Edit → Reply → Type 0
+IsReplyOnEdits net edits reply =
+    (edits_file edits_bytes : List ℕ) → AsksFor edits_bytes (map edit_view edits)
+    → IsReplyOnNet net edits_file edits_bytes reply
