@@ -563,6 +563,1031 @@ flow f2 tfa 190 sfa 190 bound 190
 }
 
 #[test]
+fn edit_faults(rt: HostRuntime) -> Result<(), Fail> {
+    let alloc = rt.alloc();
+    let rows: [(&str, &[(&str, &str)], u8, &str); 14] = [
+        // a_byte_that_is_not_plain
+        (
+            "netcalc edit n.toml e.csv",
+            &[
+                ("e.csv", "undo\nrate,s1,2\t\n"),
+                (
+                    "n.toml",
+                    r#"[[server]]
+name = "s1"
+rate = 100
+service = { kind = "latency", latency = 10 }
+[[flow]]
+name = "f1"
+packet = 12000
+arrival = { kind = "bucket", burst = 12000, rate = 10 }
+path = ["s1"]
+"#,
+                ),
+            ],
+            1,
+            "netcalc: e.csv: T1 row 2\n",
+        ),
+        // a_cycle
+        (
+            "netcalc edit n.toml e.csv",
+            &[
+                ("e.csv", "undo\n"),
+                (
+                    "n.toml",
+                    r#"[[server]]
+name = "s1"
+rate = 100
+service = { kind = "latency", latency = 10 }
+[[server]]
+name = "s2"
+rate = 100
+service = { kind = "latency", latency = 10 }
+[[flow]]
+name = "f1"
+packet = 12000
+arrival = { kind = "bucket", burst = 12000, rate = 10 }
+path = ["s1", "s2"]
+[[flow]]
+name = "f2"
+packet = 6000
+arrival = { kind = "bucket", burst = 6000, rate = 5 }
+path = ["s2", "s1"]
+"#,
+                ),
+            ],
+            8,
+            "netcalc: cycle s1 s2 s1\n",
+        ),
+        // a_network_over_a_limit
+        (
+            "netcalc edit n.toml e.csv",
+            &[
+                ("e.csv", "drop,f2\n"),
+                (
+                    "n.toml",
+                    r#"[[server]]
+name = "s1"
+rate = 100
+service = { kind = "latency", latency = 10 }
+[[flow]]
+name = "f1"
+packet = 12000
+arrival = { kind = "bucket", burst = 12000, rate = "1/1180591620717411303424" }
+path = ["s1"]
+[[flow]]
+name = "f2"
+packet = 6000
+arrival = { kind = "bucket", burst = 6000, rate = "1/1180591620717411303425" }
+path = ["s1"]
+"#,
+                ),
+            ],
+            6,
+            "netcalc: too wide: total s1 0\n",
+        ),
+        // a_network_that_breaks_a_rule_goes_first
+        (
+            "netcalc edit n.toml e.csv",
+            &[("e.csv", "paint\n"), ("n.toml", "[[server")],
+            1,
+            "netcalc: n.toml: M1\n",
+        ),
+        // a_path_with_two_spaces
+        (
+            "netcalc edit n.toml e.csv",
+            &[
+                ("e.csv", "route,f1,s1  s1\n"),
+                (
+                    "n.toml",
+                    r#"[[server]]
+name = "s1"
+rate = 100
+service = { kind = "latency", latency = 10 }
+[[flow]]
+name = "f1"
+packet = 12000
+arrival = { kind = "bucket", burst = 12000, rate = 10 }
+path = ["s1"]
+"#,
+                ),
+            ],
+            1,
+            "netcalc: e.csv: T4 row 1\n",
+        ),
+        // a_quantum_that_is_no_whole_number
+        (
+            "netcalc edit n.toml e.csv",
+            &[
+                ("e.csv", "quantum,s1,0,1/2\n"),
+                (
+                    "n.toml",
+                    r#"[[server]]
+name = "s1"
+rate = 100
+service = { kind = "latency", latency = 10 }
+[[flow]]
+name = "f1"
+packet = 12000
+arrival = { kind = "bucket", burst = 12000, rate = 10 }
+path = ["s1"]
+"#,
+                ),
+            ],
+            1,
+            "netcalc: e.csv: T4 row 1\n",
+        ),
+        // a_row_of_no_kind
+        (
+            "netcalc edit n.toml e.csv",
+            &[
+                ("e.csv", "paint,s1\n"),
+                (
+                    "n.toml",
+                    r#"[[server]]
+name = "s1"
+rate = 100
+service = { kind = "latency", latency = 10 }
+[[flow]]
+name = "f1"
+packet = 12000
+arrival = { kind = "bucket", burst = 12000, rate = 10 }
+path = ["s1"]
+"#,
+                ),
+            ],
+            1,
+            "netcalc: e.csv: T2 row 1\n",
+        ),
+        // a_row_that_is_wrong_goes_before_a_cycle
+        (
+            "netcalc edit n.toml e.csv",
+            &[
+                ("e.csv", "paint\n"),
+                (
+                    "n.toml",
+                    r#"[[server]]
+name = "s1"
+rate = 100
+service = { kind = "latency", latency = 10 }
+[[server]]
+name = "s2"
+rate = 100
+service = { kind = "latency", latency = 10 }
+[[flow]]
+name = "f1"
+packet = 12000
+arrival = { kind = "bucket", burst = 12000, rate = 10 }
+path = ["s1", "s2"]
+[[flow]]
+name = "f2"
+packet = 6000
+arrival = { kind = "bucket", burst = 6000, rate = 5 }
+path = ["s2", "s1"]
+"#,
+                ),
+            ],
+            1,
+            "netcalc: e.csv: T2 row 1\n",
+        ),
+        // a_row_with_too_few_fields
+        (
+            "netcalc edit n.toml e.csv",
+            &[
+                ("e.csv", "rate,s1\n"),
+                (
+                    "n.toml",
+                    r#"[[server]]
+name = "s1"
+rate = 100
+service = { kind = "latency", latency = 10 }
+[[flow]]
+name = "f1"
+packet = 12000
+arrival = { kind = "bucket", burst = 12000, rate = 10 }
+path = ["s1"]
+"#,
+                ),
+            ],
+            1,
+            "netcalc: e.csv: T3 row 1\n",
+        ),
+        // a_row_with_too_many_fields
+        (
+            "netcalc edit n.toml e.csv",
+            &[
+                ("e.csv", "undo,s1\n"),
+                (
+                    "n.toml",
+                    r#"[[server]]
+name = "s1"
+rate = 100
+service = { kind = "latency", latency = 10 }
+[[flow]]
+name = "f1"
+packet = 12000
+arrival = { kind = "bucket", burst = 12000, rate = 10 }
+path = ["s1"]
+"#,
+                ),
+            ],
+            1,
+            "netcalc: e.csv: T3 row 1\n",
+        ),
+        // a_value_that_is_no_number
+        (
+            "netcalc edit n.toml e.csv",
+            &[
+                (
+                    "e.csv",
+                    r#"undo
+
+rate,s1,1/0
+"#,
+                ),
+                (
+                    "n.toml",
+                    r#"[[server]]
+name = "s1"
+rate = 100
+service = { kind = "latency", latency = 10 }
+[[flow]]
+name = "f1"
+packet = 12000
+arrival = { kind = "bucket", burst = 12000, rate = 10 }
+path = ["s1"]
+"#,
+                ),
+            ],
+            1,
+            "netcalc: e.csv: T4 row 2\n",
+        ),
+        // an_empty_path
+        (
+            "netcalc edit n.toml e.csv",
+            &[
+                ("e.csv", "route,f1,\n"),
+                (
+                    "n.toml",
+                    r#"[[server]]
+name = "s1"
+rate = 100
+service = { kind = "latency", latency = 10 }
+[[flow]]
+name = "f1"
+packet = 12000
+arrival = { kind = "bucket", burst = 12000, rate = 10 }
+path = ["s1"]
+"#,
+                ),
+            ],
+            1,
+            "netcalc: e.csv: T4 row 1\n",
+        ),
+        // no_list_named
+        (
+            "netcalc edit n.toml",
+            &[],
+            2,
+            "netcalc: usage: netcalc analyse NET [--json], edit NET EDITS [--json], simulate NET TRACE, exercise N, measure NET TRACE FLOW RATE, curve FILE\n",
+        ),
+        // no_list_there
+        (
+            "netcalc edit n.toml e.csv",
+            &[(
+                "n.toml",
+                r#"[[server]]
+name = "s1"
+rate = 100
+service = { kind = "latency", latency = 10 }
+[[flow]]
+name = "f1"
+packet = 12000
+arrival = { kind = "bucket", burst = 12000, rate = 10 }
+path = ["s1"]
+"#,
+            )],
+            3,
+            "netcalc: cannot read e.csv\n",
+        ),
+    ];
+    for (line, files, status, wanted) in rows {
+        check(&rt, alloc, line, files, status, wanted)?;
+    }
+    Ok(())
+}
+
+#[test]
+fn edits(rt: HostRuntime) -> Result<(), Fail> {
+    let alloc = rt.alloc();
+    let rows: [(&str, &[(&str, &str)], u8, &str); 14] = [
+        // a_cell_that_is_too_wide
+        (
+            "netcalc edit n.toml e.csv",
+            &[
+                (
+                    "e.csv",
+                    "bucket,f1,12000,1/1329227995784915872903807060280344576\n",
+                ),
+                (
+                    "n.toml",
+                    r#"[[server]]
+name = "s1"
+rate = 100
+service = { kind = "latency", latency = 10 }
+[[flow]]
+name = "f1"
+packet = 12000
+arrival = { kind = "bucket", burst = 12000, rate = 10 }
+path = ["s1"]
+"#,
+                ),
+            ],
+            0,
+            r#"edit 1 refused too-wide queue-delay s1 0
+servers 1 flows 1
+queue s1 0 delay 130 backlog 13300
+flow f1 tfa 130 sfa 130 bound 130
+"#,
+        ),
+        // a_cell_with_too_many_pieces
+        (
+            "netcalc edit n.toml e.csv",
+            &[
+                (
+                    "e.csv",
+                    r#"packet,f1,1
+stair,f1,1000,0
+add,f2,1,1,0,s1
+stair,f2,1000001/1000,0
+undo
+undo
+undo
+"#,
+                ),
+                (
+                    "n.toml",
+                    r#"[[server]]
+name = "s1"
+rate = 100
+service = { kind = "latency", latency = 10 }
+[[flow]]
+name = "f1"
+packet = 12000
+arrival = { kind = "bucket", burst = 12000, rate = 10 }
+path = ["s1"]
+"#,
+                ),
+            ],
+            0,
+            r#"edit 1 ok cells 1
+edit 2 ok cells 8
+edit 3 ok cells 20
+edit 4 refused too-many total s1 0
+edit 5 ok cells 0
+edit 6 ok cells 0
+edit 7 ok cells 0
+servers 1 flows 1
+queue s1 0 delay 130 backlog 13300
+flow f1 tfa 130 sfa 130 bound 130
+"#,
+        ),
+        // a_curve_that_is_too_wide
+        (
+            "netcalc edit n.toml e.csv",
+            &[
+                (
+                    "e.csv",
+                    r#"stair,f1,1/1329227995784915872903807060280344576,0
+rate,s1,1/1329227995784915872903807060280344577
+latency,s1,1/1329227995784915872903807060280344577
+"#,
+                ),
+                (
+                    "n.toml",
+                    r#"[[server]]
+name = "s1"
+rate = 100
+service = { kind = "latency", latency = 10 }
+[[flow]]
+name = "f1"
+packet = 12000
+arrival = { kind = "bucket", burst = 12000, rate = 10 }
+path = ["s1"]
+"#,
+                ),
+            ],
+            0,
+            r#"edit 1 refused too-wide in f1 0
+edit 2 refused too-wide queue-service s1 0
+edit 3 refused too-wide queue-service s1 0
+servers 1 flows 1
+queue s1 0 delay 130 backlog 13300
+flow f1 tfa 130 sfa 130 bound 130
+"#,
+        ),
+        // a_dropped_flow_and_its_name
+        (
+            "netcalc edit n.toml e.csv",
+            &[
+                (
+                    "e.csv",
+                    r#"drop,f1
+bucket,f1,1,1
+drop,f1
+add,f1,12000,12000,10,s1
+"#,
+                ),
+                (
+                    "n.toml",
+                    r#"[[server]]
+name = "s1"
+rate = 100
+service = { kind = "latency", latency = 10 }
+[[flow]]
+name = "f1"
+packet = 12000
+arrival = { kind = "bucket", burst = 12000, rate = 10 }
+path = ["s1"]
+"#,
+                ),
+            ],
+            0,
+            r#"edit 1 ok cells 3
+edit 2 refused unknown-name f1
+edit 3 refused unknown-name f1
+edit 4 ok cells 12
+servers 1 flows 1
+queue s1 0 delay 130 backlog 13300
+flow f1 tfa 130 sfa 130 bound 130
+"#,
+        ),
+        // a_flow_dropped
+        (
+            "netcalc edit n.toml e.csv",
+            &[
+                ("e.csv", "drop,f1\n"),
+                (
+                    "n.toml",
+                    r#"[[server]]
+name = "s1"
+rate = 100
+service = { kind = "latency", latency = 10 }
+[[server]]
+name = "s2"
+rate = 100
+service = { kind = "latency", latency = 10 }
+[[flow]]
+name = "f1"
+packet = 12000
+arrival = { kind = "bucket", burst = 12000, rate = 10 }
+path = ["s1", "s2"]
+"#,
+                ),
+            ],
+            0,
+            r#"edit 1 ok cells 6
+servers 2 flows 0
+queue s1 0 delay 0 backlog 0
+queue s2 0 delay 0 backlog 0
+"#,
+        ),
+        // a_flow_dropped_and_back
+        (
+            "netcalc edit n.toml e.csv",
+            &[
+                (
+                    "e.csv",
+                    r#"drop,f1
+undo
+"#,
+                ),
+                (
+                    "n.toml",
+                    r#"[[server]]
+name = "s1"
+rate = 100
+service = { kind = "latency", latency = 10 }
+[[server]]
+name = "s2"
+rate = 100
+service = { kind = "latency", latency = 10 }
+[[flow]]
+name = "f1"
+packet = 12000
+arrival = { kind = "bucket", burst = 12000, rate = 10 }
+path = ["s1", "s2"]
+"#,
+                ),
+            ],
+            0,
+            r#"edit 1 ok cells 6
+edit 2 ok cells 0
+servers 2 flows 1
+queue s1 0 delay 130 backlog 13300
+queue s2 0 delay 143 backlog 14600
+flow f1 tfa 273 sfa 260 bound 260
+"#,
+        ),
+        // a_link
+        (
+            "netcalc edit n.toml e.csv",
+            &[
+                ("e.csv", "link,s2,5\n"),
+                (
+                    "n.toml",
+                    r#"[[server]]
+name = "s1"
+rate = 100
+service = { kind = "latency", latency = 10 }
+[[server]]
+name = "s2"
+rate = 100
+service = { kind = "latency", latency = 10 }
+[[flow]]
+name = "f1"
+packet = 12000
+arrival = { kind = "bucket", burst = 12000, rate = 10 }
+path = ["s1", "s2"]
+"#,
+                ),
+            ],
+            0,
+            r#"edit 1 ok cells 3
+servers 2 flows 1
+queue s1 0 delay 130 backlog 13300
+queue s2 0 delay 143 backlog 14600
+flow f1 tfa 278 sfa 265 bound 265
+"#,
+        ),
+        // a_name_that_is_taken
+        (
+            "netcalc edit n.toml e.csv",
+            &[
+                (
+                    "e.csv",
+                    r#"add,f1,1,1,1,s1
+add,f1,0,-1,-1,s1
+"#,
+                ),
+                (
+                    "n.toml",
+                    r#"[[server]]
+name = "s1"
+rate = 100
+service = { kind = "latency", latency = 10 }
+[[flow]]
+name = "f1"
+packet = 12000
+arrival = { kind = "bucket", burst = 12000, rate = 10 }
+path = ["s1"]
+"#,
+                ),
+            ],
+            0,
+            r#"edit 1 refused name-taken f1
+edit 2 refused name-taken f1
+servers 1 flows 1
+queue s1 0 delay 130 backlog 13300
+flow f1 tfa 130 sfa 130 bound 130
+"#,
+        ),
+        // a_path_of_seventeen_hops
+        (
+            "netcalc edit n.toml e.csv",
+            &[
+                (
+                    "e.csv",
+                    r#"route,f1,s0 s1 s2 s3 s4 s5 s6 s7 s8 s9 s10 s11 s12 s13 s14 s15 s16
+add,f2,1,1,1,s0 s1 s2 s3 s4 s5 s6 s7 s8 s9 s10 s11 s12 s13 s14 s15 s16
+"#,
+                ),
+                (
+                    "n.toml",
+                    r#"[[server]]
+name = "s0"
+rate = 100
+service = { kind = "latency", latency = 10 }
+[[server]]
+name = "s1"
+rate = 100
+service = { kind = "latency", latency = 10 }
+[[server]]
+name = "s2"
+rate = 100
+service = { kind = "latency", latency = 10 }
+[[server]]
+name = "s3"
+rate = 100
+service = { kind = "latency", latency = 10 }
+[[server]]
+name = "s4"
+rate = 100
+service = { kind = "latency", latency = 10 }
+[[server]]
+name = "s5"
+rate = 100
+service = { kind = "latency", latency = 10 }
+[[server]]
+name = "s6"
+rate = 100
+service = { kind = "latency", latency = 10 }
+[[server]]
+name = "s7"
+rate = 100
+service = { kind = "latency", latency = 10 }
+[[server]]
+name = "s8"
+rate = 100
+service = { kind = "latency", latency = 10 }
+[[server]]
+name = "s9"
+rate = 100
+service = { kind = "latency", latency = 10 }
+[[server]]
+name = "s10"
+rate = 100
+service = { kind = "latency", latency = 10 }
+[[server]]
+name = "s11"
+rate = 100
+service = { kind = "latency", latency = 10 }
+[[server]]
+name = "s12"
+rate = 100
+service = { kind = "latency", latency = 10 }
+[[server]]
+name = "s13"
+rate = 100
+service = { kind = "latency", latency = 10 }
+[[server]]
+name = "s14"
+rate = 100
+service = { kind = "latency", latency = 10 }
+[[server]]
+name = "s15"
+rate = 100
+service = { kind = "latency", latency = 10 }
+[[server]]
+name = "s16"
+rate = 100
+service = { kind = "latency", latency = 10 }
+[[flow]]
+name = "f1"
+packet = 12000
+arrival = { kind = "bucket", burst = 12000, rate = 10 }
+path = ["s0"]
+"#,
+                ),
+            ],
+            0,
+            r#"edit 1 refused bad-value
+edit 2 refused bad-value
+servers 17 flows 1
+queue s0 0 delay 130 backlog 13300
+queue s1 0 delay 0 backlog 0
+queue s2 0 delay 0 backlog 0
+queue s3 0 delay 0 backlog 0
+queue s4 0 delay 0 backlog 0
+queue s5 0 delay 0 backlog 0
+queue s6 0 delay 0 backlog 0
+queue s7 0 delay 0 backlog 0
+queue s8 0 delay 0 backlog 0
+queue s9 0 delay 0 backlog 0
+queue s10 0 delay 0 backlog 0
+queue s11 0 delay 0 backlog 0
+queue s12 0 delay 0 backlog 0
+queue s13 0 delay 0 backlog 0
+queue s14 0 delay 0 backlog 0
+queue s15 0 delay 0 backlog 0
+queue s16 0 delay 0 backlog 0
+flow f1 tfa 130 sfa 130 bound 130
+"#,
+        ),
+        // a_rate_a_flow_and_a_path_back
+        (
+            "netcalc edit n.toml e.csv",
+            &[
+                (
+                    "e.csv",
+                    r#"rate,s1,200
+add,f2,6000,6000,5,s2
+route,f2,s2 s1
+undo
+undo
+undo
+"#,
+                ),
+                (
+                    "n.toml",
+                    r#"[[server]]
+name = "s1"
+rate = 100
+service = { kind = "latency", latency = 10 }
+[[server]]
+name = "s2"
+rate = 100
+service = { kind = "latency", latency = 10 }
+[[flow]]
+name = "f1"
+packet = 12000
+arrival = { kind = "bucket", burst = 12000, rate = 10 }
+path = ["s1", "s2"]
+"#,
+                ),
+            ],
+            0,
+            r#"edit 1 ok cells 18
+edit 2 ok cells 20
+edit 3 refused cycle s1 s2 s1
+edit 4 ok cells 0
+edit 5 ok cells 0
+edit 6 refused nothing-to-undo
+servers 2 flows 1
+queue s1 0 delay 130 backlog 13300
+queue s2 0 delay 143 backlog 14600
+flow f1 tfa 273 sfa 260 bound 260
+"#,
+        ),
+        // an_empty_list
+        (
+            "netcalc edit n.toml e.csv",
+            &[
+                ("e.csv", ""),
+                (
+                    "n.toml",
+                    r#"[[server]]
+name = "s1"
+rate = 100
+service = { kind = "latency", latency = 10 }
+[[flow]]
+name = "f1"
+packet = 12000
+arrival = { kind = "bucket", burst = 12000, rate = 10 }
+path = ["s1"]
+"#,
+                ),
+            ],
+            0,
+            r#"servers 1 flows 1
+queue s1 0 delay 130 backlog 13300
+flow f1 tfa 130 sfa 130 bound 130
+"#,
+        ),
+        // edits_of_each_kind
+        (
+            "netcalc edit n.toml e.csv",
+            &[
+                (
+                    "e.csv",
+                    r#"rate,g,200
+latency,s1,20
+quantum,d,0,1
+quantum,d,1,16777216
+stair,f1,1000,5
+packet,f1,1
+route,f1,s1 p:1 d
+undo
+undo
+undo
+undo
+undo
+undo
+undo
+"#,
+                ),
+                (
+                    "n.toml",
+                    r#"[[server]]
+name = "s1"
+rate = 100
+service = { kind = "latency", latency = 10 }
+[[server]]
+name = "g"
+rate = 100
+service = { kind = "gate", cycle = 1000, slot = 500 }
+[[server]]
+name = "p"
+rate = 100
+service = { kind = "latency", latency = 10 }
+discipline = "priority"
+queues = 2
+[[server]]
+name = "d"
+rate = 100
+service = { kind = "latency", latency = 10 }
+discipline = "drr"
+quanta = [12000, 12000]
+[[flow]]
+name = "f1"
+packet = 12000
+arrival = { kind = "bucket", burst = 12000, rate = 10 }
+path = ["s1"]
+[[flow]]
+name = "f2"
+packet = 12000
+arrival = { kind = "bucket", burst = 12000, rate = 10 }
+path = ["d:1"]
+"#,
+                ),
+            ],
+            0,
+            r#"edit 1 ok cells 3
+edit 2 ok cells 10
+edit 3 ok cells 13
+edit 4 ok cells 13
+edit 5 ok cells 8
+edit 6 ok cells 1
+edit 7 ok cells 40
+edit 8 ok cells 0
+edit 9 ok cells 0
+edit 10 ok cells 0
+edit 11 ok cells 0
+edit 12 ok cells 0
+edit 13 ok cells 0
+edit 14 ok cells 0
+servers 4 flows 2
+queue s1 0 delay 130 backlog 13300
+queue g 0 delay 0 backlog 0
+queue p 0 delay 0 backlog 0
+queue p 1 delay 0 backlog 0
+queue d 0 delay 0 backlog 0
+queue d 1 delay 490 backlog 16900
+flow f1 tfa 130 sfa 130 bound 130
+flow f2 tfa 490 sfa 490 bound 490
+"#,
+        ),
+        // names_that_nothing_has
+        (
+            "netcalc edit n.toml e.csv",
+            &[
+                (
+                    "e.csv",
+                    r#"rate,s9,1
+drop,
+bucket,f9,1,1
+route,f9,s9
+route,f1,s1 s9
+add,f2,1,1,1,s9
+add,f1,1,1,1,s9
+quantum,s9,0,1
+undo
+"#,
+                ),
+                (
+                    "n.toml",
+                    r#"[[server]]
+name = "s1"
+rate = 100
+service = { kind = "latency", latency = 10 }
+[[flow]]
+name = "f1"
+packet = 12000
+arrival = { kind = "bucket", burst = 12000, rate = 10 }
+path = ["s1"]
+"#,
+                ),
+            ],
+            0,
+            r#"edit 1 refused unknown-name s9
+edit 2 refused unknown-name 
+edit 3 refused unknown-name f9
+edit 4 refused unknown-name f9
+edit 5 refused unknown-name s9
+edit 6 refused unknown-name s9
+edit 7 refused unknown-name s9
+edit 8 refused unknown-name s9
+edit 9 refused nothing-to-undo
+servers 1 flows 1
+queue s1 0 delay 130 backlog 13300
+flow f1 tfa 130 sfa 130 bound 130
+"#,
+        ),
+        // values_that_are_not_taken
+        (
+            "netcalc edit n.toml e.csv",
+            &[
+                (
+                    "e.csv",
+                    r#"rate,s1,0
+rate,g,-1
+latency,s1,-1
+latency,g,5
+link,s1,-1
+quantum,s1,0,12000
+quantum,p,0,12000
+quantum,d,2,12000
+quantum,d,-1,12000
+quantum,d,0,0
+quantum,d,0,16777217
+quantum,d,1,11999
+bucket,f1,-1,0
+bucket,f1,0,-1
+stair,f1,0,0
+stair,f1,1,-1
+packet,f1,0
+packet,f1,16777217
+packet,f2,12001
+route,f1,s1 s1
+route,f1,s1:1
+route,f1,p:2
+add,f 3,1,1,1,s1
+add,,1,1,1,s1
+add,f3,0,1,1,s1
+add,f3,16777217,1,1,s1
+add,f3,1,-1,1,s1
+add,f3,1,1,-1,s1
+add,f3,1,1,1,s1 s1
+add,f3,1,1,1,d:2
+add,f3,12001,1,1,d
+"#,
+                ),
+                (
+                    "n.toml",
+                    r#"[[server]]
+name = "s1"
+rate = 100
+service = { kind = "latency", latency = 10 }
+[[server]]
+name = "g"
+rate = 100
+service = { kind = "gate", cycle = 1000, slot = 500 }
+[[server]]
+name = "p"
+rate = 100
+service = { kind = "latency", latency = 10 }
+discipline = "priority"
+queues = 2
+[[server]]
+name = "d"
+rate = 100
+service = { kind = "latency", latency = 10 }
+discipline = "drr"
+quanta = [12000, 12000]
+[[flow]]
+name = "f1"
+packet = 12000
+arrival = { kind = "bucket", burst = 12000, rate = 10 }
+path = ["s1"]
+[[flow]]
+name = "f2"
+packet = 12000
+arrival = { kind = "bucket", burst = 12000, rate = 10 }
+path = ["d:1"]
+"#,
+                ),
+            ],
+            0,
+            r#"edit 1 refused bad-value
+edit 2 refused bad-value
+edit 3 refused bad-value
+edit 4 refused bad-value
+edit 5 refused bad-value
+edit 6 refused bad-value
+edit 7 refused bad-value
+edit 8 refused bad-value
+edit 9 refused bad-value
+edit 10 refused bad-value
+edit 11 refused bad-value
+edit 12 refused bad-value
+edit 13 refused bad-value
+edit 14 refused bad-value
+edit 15 refused bad-value
+edit 16 refused bad-value
+edit 17 refused bad-value
+edit 18 refused bad-value
+edit 19 refused bad-value
+edit 20 refused bad-value
+edit 21 refused bad-value
+edit 22 refused bad-value
+edit 23 refused bad-value
+edit 24 refused bad-value
+edit 25 refused bad-value
+edit 26 refused bad-value
+edit 27 refused bad-value
+edit 28 refused bad-value
+edit 29 refused bad-value
+edit 30 refused bad-value
+edit 31 refused bad-value
+servers 4 flows 2
+queue s1 0 delay 130 backlog 13300
+queue g 0 delay 0 backlog 0
+queue p 0 delay 0 backlog 0
+queue p 1 delay 0 backlog 0
+queue d 0 delay 0 backlog 0
+queue d 1 delay 490 backlog 16900
+flow f1 tfa 130 sfa 130 bound 130
+flow f2 tfa 490 sfa 490 bound 490
+"#,
+        ),
+    ];
+    for (line, files, status, wanted) in rows {
+        check(&rt, alloc, line, files, status, wanted)?;
+    }
+    Ok(())
+}
+
+#[test]
 fn faults(rt: HostRuntime) -> Result<(), Fail> {
     let alloc = rt.alloc();
     let rows: [(&str, &[(&str, &str)], u8, &str); 9] = [
@@ -3166,7 +4191,7 @@ fn words(rt: HostRuntime) -> Result<(), Fail> {
     let rows: [(&str, &[(&str, &str)], u8, &str); 10] = [
         // a_command_not_built
         (
-            "netcalc edit n.toml e.csv",
+            "netcalc exercise 7",
             &[],
             2,
             "netcalc: usage: netcalc analyse NET [--json], edit NET EDITS [--json], simulate NET TRACE, exercise N, measure NET TRACE FLOW RATE, curve FILE\n",

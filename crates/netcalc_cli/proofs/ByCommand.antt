@@ -5,12 +5,16 @@ use Rattle.net_model.specs.Networks.{Net}
 use Rattle.net_cells.specs.Meanings.{CellTable}
 use Rattle.net_bounds.proofs.Kept.{table_bounds_every_run}
 use Rattle.command_replies.specs.Guarantee.{Guarantees}
-use Rattle.command_replies.specs.Replies.{Reply, AreSame}
+use Rattle.command_replies.specs.Replies.{Reply}
 use Rattle.command_replies.proofs.OneRefusal.{equal}
 use Rattle.analyse_command.specs.AnswerCounts.{CountsOn}
 use Rattle.analyse_command.specs.OnFiles.{IsReportOf, IsReport}
 use Rattle.analyse_command.proofs.ByStatus as analyse
 use Rattle.analyse_command.proofs.OneReply as analysed
+use Rattle.edit_command.specs.EditCounts as edit_counts
+use Rattle.edit_command.proofs.Causes as edit_statuses
+use Rattle.edit_command.proofs.OneReply as edited
+use Rattle.edit_command.proofs.Promised.{reports_are_guaranteed, replies_are_complete}
 use Rattle.simulate_command.specs.RunCounts as run_counts
 use Rattle.simulate_command.specs.RunCounts.{IsOfReport}
 use Rattle.simulate_command.proofs.Causes as run
@@ -22,8 +26,8 @@ use Rattle.measure_command.proofs.Causes as measure
 use Rattle.measure_command.proofs.OneMeasure as measured
 use Rattle.curve_command.proofs.ByStatus as curve
 use Rattle.curve_command.proofs.OneReply as calculated
-use Rattle.netcalc_cli.specs.Commands.{Command, Analyse, Simulate, Measure, Curve, IsReplyTo, IsMalformed, IsOver}
-use Rattle.netcalc_cli.specs.Commands.{IsCyclic, TellsBreach, IsDone, IsAnswerable, IsAnswer, CountsTo}
+use Rattle.netcalc_cli.specs.Commands.{Command, Analyse, Edit, Simulate, Measure, Curve, IsReplyTo, IsMalformed, IsOver}
+use Rattle.netcalc_cli.specs.Commands.{AreSameTo, IsCyclic, TellsBreach, IsDone, IsAnswerable, IsAnswer, CountsTo}
 
 -- ---- by status
 pub record IsByStatus (command : Command) (files : List (List ℕ)) (reply : Reply) : Type 0 where
@@ -51,6 +55,17 @@ by_command (Analyse net) (bytes ∷ []) reply h =
     record {
       done = λ e. report_done net bytes reply (k.report e);
       malformed = λ e. k.broken e;
+      no_read = k.no_read;
+      wide = λ e. k.wide e;
+      many = λ e. k.many e;
+      cycle = λ e. k.cycle e;
+      breach = λ e. absurd (omega (arith, k.most, e));
+    }
+by_command (Edit net edits) (bytes ∷ rows ∷ []) reply h =
+    let k = edit_statuses.causes net bytes edits rows reply h in
+    record {
+      done = λ e. let r = k.report e in (r.0, r.1, r.2, reports_are_guaranteed r.0 r.1 bytes rows reply r.2);
+      malformed = λ e. k.malformed e;
       no_read = k.no_read;
       wide = λ e. k.wide e;
       many = λ e. k.many e;
@@ -99,9 +114,19 @@ by_command (Curve script) (bytes ∷ []) reply h =
 by_command command files reply h = absurd h
 
 -- ---- one reply
+pub equal_by_command : (command : Command) (x y : Reply) → x ≡ y → AreSameTo command x y
+equal_by_command (Analyse net) x y e = equal x y e
+equal_by_command (Edit net edits) x y e =
+    record { status = ap (λ (r : Reply). r.status) e; text = inl (ap (λ (r : Reply). r.bytes) e) }
+equal_by_command (Simulate net trace) x y e = equal x y e
+equal_by_command (Measure net trace name rate) x y e = equal x y e
+equal_by_command (Curve script) x y e = equal x y e
+
 pub one_by_command : (command : Command) (files : List (List ℕ)) (x y : Reply) → IsReplyTo command files x
-    → IsReplyTo command files y → AreSame x y
+    → IsReplyTo command files y → AreSameTo command x y
 one_by_command (Analyse net) (bytes ∷ []) x y h k = analysed.replies_are_determined net bytes x y h k
+one_by_command (Edit net edits) (bytes ∷ rows ∷ []) x y h k =
+    edited.replies_are_determined net bytes edits rows x y h k
 one_by_command (Simulate net trace) (bytes ∷ rows ∷ []) x y h k =
     simulated.replies_are_determined net bytes trace rows x y h k
 one_by_command (Measure net trace name rate) (bytes ∷ rows ∷ []) x y h k =
@@ -114,6 +139,8 @@ one_by_command command files x y h k = absurd h
 pub complete_by_command : (command : Command) (files : List (List ℕ)) (reply : Reply) → IsAnswerable command files
     → IsReplyTo command files reply → IsAnswer command reply.status
 complete_by_command (Analyse net) (bytes ∷ []) reply can h = analysed.replies_are_complete net bytes reply can h
+complete_by_command (Edit net edits) (bytes ∷ rows ∷ []) reply can h =
+    replies_are_complete net bytes edits rows reply can h
 complete_by_command (Simulate net trace) (bytes ∷ rows ∷ []) reply can h =
     simulated.replies_are_complete net bytes trace rows reply can h
 complete_by_command (Measure net trace name rate) (bytes ∷ rows ∷ []) reply can h =
@@ -139,6 +166,7 @@ report_given status other same (inr nine) = inr (nine_given status other same ni
 pub answer_given : (command : Command) (status other : ℕ) → IsGiven status other → IsAnswer command other
     → IsAnswer command status
 answer_given (Analyse net) status other same h = zero_given status other same h
+answer_given (Edit net edits) status other same h = zero_given status other same h
 answer_given (Simulate net trace) status other same h = report_given status other same h
 answer_given (Measure net trace name rate) status other same h = zero_given status other same h
 answer_given (Curve script) status other same h = zero_given status other same h
@@ -187,9 +215,36 @@ measure_counts_at bytes status other old new same h = record {
   report = λ zero. h.report (zero_given status other same zero);
 }
 
+edits_at : (net : Net) (rows : List ℕ) (status other old new : ℕ) → IsGiven status other
+    → edit_counts.CountsOnNet net rows status old new → edit_counts.CountsOnNet net rows other old new
+edits_at net rows status other old new same (inl none) =
+    inl (λ zero. none.0 (zero_given status other same zero), none.1)
+edits_at net rows status other old new same (inr k) = inr (record {
+  edits = k.edits;
+  asked = k.asked;
+  counts = record {
+    rises = k.counts.rises;
+    most = k.counts.most;
+    report = λ zero. k.counts.report (zero_given status other same zero);
+    round = k.counts.round;
+  };
+})
+
+edit_counts_at : (bytes rows : List ℕ) (status other old new : ℕ) → IsGiven status other
+    → edit_counts.CountsOn bytes rows status old new → edit_counts.CountsOn bytes rows other old new
+edit_counts_at bytes rows status other old new same h = record {
+  between = h.between;
+  rises = h.rises;
+  folds = h.folds;
+  refused = h.refused;
+  edits = λ net is. edits_at net rows status other h.between new same (h.edits net is);
+}
+
 pub counts_by_command : (command : Command) (files : List (List ℕ)) (status other old new : ℕ)
     → IsGiven status other → CountsTo command files status old new → CountsTo command files other old new
 counts_by_command (Analyse net) (bytes ∷ []) status other old new same h = counts_at bytes status other old new same h
+counts_by_command (Edit net edits) (bytes ∷ rows ∷ []) status other old new same h =
+    edit_counts_at bytes rows status other old new same h
 counts_by_command (Simulate net trace) (bytes ∷ rows ∷ []) status other old new same h =
     run_counts_at bytes rows status other old new same h
 counts_by_command (Measure net trace name rate) (bytes ∷ rows ∷ []) status other old new same h =

@@ -6,14 +6,13 @@ use Rattle.upp_limits.proofs.SpanNumbers.{if_some_map}
 use Rattle.command_replies.specs.declared.answer.Answer.{Answer}
 use Rattle.command_replies.specs.Replies.{Reply, cannot_read, too_long}
 use Rattle.command_replies.specs.View.{code_of, reply_of, status_of}
-use Rattle.command_replies.proofs.OneRefusal.{equal}
 use Rattle.netcalc_cli.specs.Commands.{Command, files_of, IsReplyTo, IsMalformed, IsOver, IsCyclic, TellsBreach, IsDone}
-use Rattle.netcalc_cli.specs.Commands.{Analyse, Simulate, Measure, Curve, IsAnswerable, IsAnswer}
+use Rattle.netcalc_cli.specs.Commands.{Analyse, Edit, Simulate, Measure, Curve, IsAnswerable, IsAnswer}
 use Rattle.netcalc_cli.specs.Counts.{CountsOnCommand}
 use Rattle.netcalc_cli.specs.Files.{Told, IsTooLong, FirstIs, MayHoldAll, AllFit, all_told}
 use Rattle.netcalc_cli.specs.Laws.{RepliesAreDetermined}
 use Rattle.netcalc_cli.specs.Reply.{IsReplyOnFiles, FailedAt, EndsAt, MayReplyTo, Gives, Brings, GivesOnTold, AnswersWhatItCan}
-use Rattle.netcalc_cli.proofs.ByCommand.{IsByStatus, by_command, one_by_command, complete_by_command}
+use Rattle.netcalc_cli.proofs.ByCommand.{IsByStatus, by_command, equal_by_command, one_by_command, complete_by_command}
 use Rattle.netcalc_cli.proofs.ByCommand.{IsGiven, answer_given, counts_by_command}
 use Rattle.netcalc_cli.proofs.FileLemmas.{first_map, first_shows, long_shows, long_first, not_long, long_one, ended}
 use Rattle.netcalc_cli.proofs.FileLemmas.{same_told, on_told, any_told}
@@ -62,6 +61,7 @@ none_in faults last_fault told old new files (Err e) h =
 
 no_answer : (command : Command) (status : ℕ) → IsNoAnswer status → ¬ (IsAnswer command status)
 no_answer (Analyse net) status none h = none.zero h
+no_answer (Edit net edits) status none h = none.zero h
 no_answer (Simulate net trace) status none h = elim h [ inl zero ↦ none.zero zero | inr nine ↦ none.nine nine ]
 no_answer (Measure net trace name rate) status none h = none.zero h
 no_answer (Curve script) status none h = none.zero h
@@ -258,7 +258,7 @@ counts_at told command status other old new same (inr h) =
 -- ---- there is one reply
 pub replies_are_determined : RepliesAreDetermined
 replies_are_determined command files x y (inl h) (inl k) =
-    equal x y (long_one x y too_long (files_of command) files h k)
+    equal_by_command command x y (long_one x y too_long (files_of command) files h k)
 replies_are_determined command files x y (inl h) (inr k) =
     absurd (not_long (λ file. x ≡ too_long file) (files_of command) files h k.0)
 replies_are_determined command files x y (inr h) (inl k) =

@@ -8,12 +8,16 @@ use Rattle.upp_limits.specs.declared.own_limits.OverLimit.TheVariants.{TooMany, 
 use Rattle.net_model.specs.declared.trace.TracePacket.{TracePacket}
 use Rattle.net_model.specs.Networks.{Net}
 use Rattle.net_cells.specs.Meanings.{CellTable}
-use Rattle.command_replies.specs.Replies.{Reply}
+use Rattle.command_replies.specs.Replies.{Reply, AreSame}
 use Rattle.command_replies.specs.Guarantee.{Guarantees}
 use Rattle.command_replies.specs.OnFiles.{IsBroken, IsOverLimit, HasCycle}
 use Rattle.analyse_command.specs.OnFiles.{IsReplyOn, IsReportOf}
 use Rattle.analyse_command.specs.AnswerCounts.{CountsOn}
 use Rattle.analyse_command.specs.AnswerLaws.{IsWithinLimits}
+use Rattle.edit_command.specs.OnEdits.{IsEditReply, IsReported}
+use Rattle.edit_command.specs.EditCauses as edit_causes
+use Rattle.edit_command.specs.EditCounts as edit_counts
+use Rattle.edit_command.specs.EditLaws as edit_laws
 use Rattle.simulate_command.specs.OnTraces as traces
 use Rattle.simulate_command.specs.OnTraces.{IsRunReply, IsRunReport, IsSimulationOver}
 use Rattle.simulate_command.specs.RunCounts as run_counts
@@ -30,6 +34,7 @@ use Rattle.curve_command.specs.Laws.{IsWithinRules}
 -- a command with the names of its files, and with what its other words say
 pub data Command : Type 0 where
   Analyse : (net : List ℕ) → Command
+  Edit : (net edits : List ℕ) → Command
   Simulate : (net trace : List ℕ) → Command
   Measure : (net trace name : List ℕ) (rate : ℚ) → Command
   Curve : (script : List ℕ) → Command
@@ -42,6 +47,7 @@ HasRate command = Unit {0}
 -- the files in the order in which they are fetched
 abbrev pub files_of : Command → List (List ℕ)
 files_of (Analyse net) = net ∷ []
+files_of (Edit net edits) = net ∷ edits ∷ []
 files_of (Simulate net trace) = net ∷ trace ∷ []
 files_of (Measure net trace name rate) = net ∷ trace ∷ []
 files_of (Curve script) = script ∷ []
@@ -49,15 +55,25 @@ files_of (Curve script) = script ∷ []
 -- ---- what is answered where the files hold these bytes, which are not too many
 abbrev pub IsReplyTo : Command → List (List ℕ) → Reply → Type 0
 IsReplyTo (Analyse net) (bytes ∷ []) reply = IsReplyOn net bytes reply
+IsReplyTo (Edit net edits) (bytes ∷ rows ∷ []) reply = IsEditReply net bytes edits rows reply
 IsReplyTo (Simulate net trace) (bytes ∷ rows ∷ []) reply = IsRunReply net bytes trace rows reply
 IsReplyTo (Measure net trace name rate) (bytes ∷ rows ∷ []) reply = IsMeasureReply net bytes trace rows name rate reply
 IsReplyTo (Curve script) (bytes ∷ []) reply = IsScriptReply script bytes reply
 IsReplyTo command files reply = ⊥
 
+-- two such replies on the same files: one status, and one text but for the choice among cycles
+abbrev pub AreSameTo : Command → Reply → Reply → Type 0
+AreSameTo (Analyse net) x y = AreSame x y
+AreSameTo (Edit net edits) x y = edit_laws.AreAlike x y
+AreSameTo (Simulate net trace) x y = AreSame x y
+AreSameTo (Measure net trace name rate) x y = AreSame x y
+AreSameTo (Curve script) x y = AreSame x y
+
 -- ---- of these replies those with one status each
 -- 1: the first rule that a file breaks, or a name of no live flow
 abbrev pub IsMalformed : Command → List (List ℕ) → Reply → Type 0
 IsMalformed (Analyse net) (bytes ∷ []) reply = IsBroken net bytes reply
+IsMalformed (Edit net edits) (bytes ∷ rows ∷ []) reply = edit_causes.IsMalformed net bytes edits rows reply
 IsMalformed (Simulate net trace) (bytes ∷ rows ∷ []) reply = traces.IsMalformed net bytes trace rows reply
 IsMalformed (Measure net trace name rate) (bytes ∷ rows ∷ []) reply =
     measure_causes.IsMalformed net bytes trace rows name reply
@@ -73,6 +89,7 @@ IsRunOver TooWide bytes rows reply = traces.IsOverLimit TooWide bytes rows reply
 
 abbrev pub IsOver : OverLimit → Command → List (List ℕ) → Reply → Type 0
 IsOver limit (Analyse net) (bytes ∷ []) reply = IsOverLimit limit bytes reply
+IsOver limit (Edit net edits) (bytes ∷ rows ∷ []) reply = edit_causes.IsOverLimit limit bytes rows reply
 IsOver limit (Simulate net trace) (bytes ∷ rows ∷ []) reply = IsRunOver limit bytes rows reply
 IsOver limit (Measure net trace name rate) (bytes ∷ rows ∷ []) reply =
     measure_causes.IsOverLimit limit bytes rows name rate reply
@@ -82,6 +99,7 @@ IsOver limit command files reply = ⊥
 -- 8: a cycle of a network
 abbrev pub IsCyclic : Command → List (List ℕ) → Reply → Type 0
 IsCyclic (Analyse net) (bytes ∷ []) reply = HasCycle bytes reply
+IsCyclic (Edit net edits) (bytes ∷ rows ∷ []) reply = edit_causes.HasCycleBehind bytes rows reply
 IsCyclic (Simulate net trace) (bytes ∷ rows ∷ []) reply = traces.HasCycleBehind bytes rows reply
 IsCyclic command files reply = ⊥
 
@@ -91,12 +109,15 @@ TellsBreach (Simulate net trace) (bytes ∷ rows ∷ []) reply =
     (h : IsRunReport bytes rows reply) × (¬ (Keeps h.net h.report.run)) × Guarantees h.net h.at
 TellsBreach command files reply = ⊥
 
--- 0: a report whose table is kept by every lawful run of the network that keeps packet sizes, arrival and service curves; of
--- `simulate` beside a run that keeps them too, no number of which is above its bound; or the least arrival curve of a
--- flow's packets, with the least bucket of the rate that they keep; or the answers of a script
+-- 0: a report whose table is kept by every lawful run of the network that keeps packet sizes, arrival and service
+-- curves: of the file's network; of the network that the edits leave; of `simulate` beside a run that keeps them too,
+-- no number of which is above its bound; or the least arrival curve of a flow's packets, with the least bucket of the
+-- rate that they keep; or the answers of a script
 abbrev pub IsDone : Command → List (List ℕ) → Reply → Type 0
 IsDone (Analyse net) (bytes ∷ []) reply =
     (model : Net) × (at : CellTable) × IsReportOf model at bytes reply × Guarantees model at
+IsDone (Edit net edits) (bytes ∷ rows ∷ []) reply =
+    (model : Net) × (at : CellTable) × IsReported model at bytes rows reply × Guarantees model at
 IsDone (Simulate net trace) (bytes ∷ rows ∷ []) reply =
     (h : IsQuietReport bytes rows reply) × Guarantees h.report.net h.report.at
 IsDone (Measure net trace name rate) (bytes ∷ rows ∷ []) reply =
@@ -108,6 +129,7 @@ IsDone command files reply = ⊥
 -- ---- the files that are answered: with status 0, or 9 where a run is asked for
 abbrev pub IsAnswerable : Command → List (List ℕ) → Type 0
 IsAnswerable (Analyse net) (bytes ∷ []) = IsWithinLimits bytes
+IsAnswerable (Edit net edits) (bytes ∷ rows ∷ []) = edit_laws.IsWithinLimits bytes rows
 IsAnswerable (Simulate net trace) (bytes ∷ rows ∷ []) = run_laws.IsWithinLimits bytes rows
 IsAnswerable (Measure net trace name rate) (bytes ∷ rows ∷ []) = measure_laws.IsWithinLimits bytes rows name rate
 IsAnswerable (Curve script) (bytes ∷ []) = IsWithinRules bytes
@@ -115,6 +137,7 @@ IsAnswerable command files = ⊥
 
 abbrev pub IsAnswer : Command → ℕ → Type 0
 IsAnswer (Analyse net) status = status ≡ 0
+IsAnswer (Edit net edits) status = status ≡ 0
 IsAnswer (Simulate net trace) status = (status ≡ 0) ⊎ (status ≡ 9)
 IsAnswer (Measure net trace name rate) status = status ≡ 0
 IsAnswer (Curve script) status = status ≡ 0
@@ -122,6 +145,7 @@ IsAnswer (Curve script) status = status ≡ 0
 -- ---- steps, by the status and the counts before and after
 abbrev pub CountsTo : Command → List (List ℕ) → (status old new : ℕ) → Type 0
 CountsTo (Analyse net) (bytes ∷ []) status old new = CountsOn bytes status old new
+CountsTo (Edit net edits) (bytes ∷ rows ∷ []) status old new = edit_counts.CountsOn bytes rows status old new
 CountsTo (Simulate net trace) (bytes ∷ rows ∷ []) status old new = run_counts.CountsOn bytes rows status old new
 CountsTo (Measure net trace name rate) (bytes ∷ rows ∷ []) status old new = measure_counts.CountsOn bytes status old new
 CountsTo (Curve script) (bytes ∷ []) status old new = Unit {0}

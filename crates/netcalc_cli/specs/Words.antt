@@ -7,7 +7,7 @@ use Rattle.rational.specs.Rational.{ℚ, lt_q}
 use Rattle.min_plus.specs.Functions.{zero_q}
 use Rattle.fraction128.specs.declared.fault.FracText.{FracText}
 use Rattle.fraction128.specs.Text.{parse_of}
-use Rattle.netcalc_cli.specs.Commands.{Command, Analyse, Simulate, Measure, Curve}
+use Rattle.netcalc_cli.specs.Commands.{Command, Analyse, Edit, Simulate, Measure, Curve}
 
 -- the words as bytes
 abbrev pub texts : List (String Global) → List (List ℕ)
@@ -27,7 +27,8 @@ on_one word file =
 -- and on two
 abbrev pub on_two : List ℕ → (first second : List ℕ) → Option Command
 on_two word first second =
-    if bytes_eq word (codes "simulate") then Some (Simulate first second) else None
+    if bytes_eq word (codes "edit") then Some (Edit first second)
+    else if bytes_eq word (codes "simulate") then Some (Simulate first second) else None
 
 -- the rate that a word writes: a number text from 0 on
 abbrev pub from_0 : Result ℚ FracText → Option ℚ

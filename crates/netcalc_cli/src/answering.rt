@@ -14,6 +14,7 @@ use crate::words::Command;
 use analyse_command::on_bytes;
 use command_replies::Answer;
 use curve_command::on_script;
+use edit_command::on_edits;
 use fraction128::Frac;
 use measure_command::on_measure;
 use outside::{Inputs, NoMemory};
@@ -35,6 +36,24 @@ fn on_network<I: Inputs, L: Ledger>(
 {
     match fetch_one(alloc, net, inputs) {
         Ok(bytes) => on_bytes(alloc, net, &bytes, steps),
+        Err(ended) => ended,
+    }
+}
+
+fn on_edited<I: Inputs, L: Ledger>(
+    alloc: Global,
+    net: &str,
+    edits: &str,
+    inputs: &mut I,
+    steps: &mut Steps<L>,
+) -> Result<Answer, NoMemory>
+    ensures reply { IfOk result (λ r. MayReplyTo I.faults I.last_fault (I.content inputs.old)
+        (commands.Edit net.now edits.now) inputs.old inputs.new (reply_of r)) }
+    ensures counts { CountsOnCommand (I.content inputs.old) (commands.Edit net.now edits.now) (status_of result)
+        steps.old steps.new }
+{
+    match fetch_two(alloc, net, edits, inputs) {
+        Ok((bytes, rows)) => on_edits(alloc, net, &bytes, edits, &rows, steps),
         Err(ended) => ended,
     }
 }
@@ -110,6 +129,7 @@ pub(crate) fn answer_to<I: Inputs, L: Ledger>(
 {
     match command {
         Command::Analyse(net) => on_network(alloc, net, inputs, steps),
+        Command::Edit(net, edits) => on_edited(alloc, net, edits, inputs, steps),
         Command::Simulate(net, trace) => on_simulated(alloc, net, trace, inputs, steps),
         Command::Measure(net, trace, name, rate) => {
             on_measured(alloc, net, trace, name, rate, inputs, steps)

@@ -14,6 +14,8 @@ use std::alloc::Global;
 pub(crate) enum Command<'a> {
     /// The bounds of a network.
     Analyse(&'a str),
+    /// The bounds of a network after edits.
+    Edit(&'a str, &'a str),
     /// The run of a network and a trace beside the bounds.
     Simulate(&'a str, &'a str),
     /// The least arrival curve of a flow's packets in a trace, by the flow's name, and their least bucket for a rate in
@@ -64,6 +66,9 @@ fn on_two<'a>(word: &str, first: &'a str, second: &'a str) -> Option<Command<'a>
     ensures command { option_map command_view result ≡ on_two word.now first.now second.now }
     ensures rate { IfSome result (λ c. HasRate (command_view c)) }
 {
+    if word == "edit" {
+        return Some(Command::Edit(first, second));
+    }
     if word == "simulate" {
         return Some(Command::Simulate(first, second));
     }
