@@ -18,7 +18,7 @@ use Rattle.report_text.specs.Report.{head_line, queue_line, flow_line, queue_lin
 use Rattle.report_text.specs.Laws.{is_printed, AgreeWherePrinted, ReportsAgree, EquationsGiveOneReport}
 
 -- ---- lists
-pub flat_range : (f g : ℕ → List ℕ) (n : ℕ) → ((k : ℕ) → k < n → f k ≡ g k)
+pub flat_range : {Y : Type 0} (f g : ℕ → List Y) (n : ℕ) → ((k : ℕ) → k < n → f k ≡ g k)
     → flat_map f (range_with_len 0 n) ≡ flat_map g (range_with_len 0 n)
 flat_range f g zero same = refl
 flat_range f g (suc n) same =

@@ -13,8 +13,8 @@ use net_cells::{live_flow, queues};
 use net_model::Network;
 use std::alloc::{AllocError, Global};
 
-// How many flows are live.
-fn live_count(net: &Network) -> usize
+/// How many flows are live.
+pub fn live_count(net: &Network) -> usize
     ensures { result ≡ length (live_flows net.now) }
 {
     let flows = net.flows();

@@ -156,7 +156,8 @@ fn push_breach_words(
     }
 }
 
-pub(crate) fn push_breach_line(
+/// Appends the line that tells what a run breaks first, by the names of its flow or its server.
+pub fn push_breach_line(
     into: &mut Vec<u8>,
     net: &Network,
     breach: &Option<Breach>,

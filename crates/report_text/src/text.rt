@@ -33,7 +33,8 @@ pub fn push_decimal(into: &mut Vec<u8>, number: usize) -> Result<(), AllocError>
     push_text(into, digits.format(number))
 }
 
-pub(crate) fn push_number(into: &mut Vec<u8>, number: &Ext) -> Result<(), AllocError>
+/// Appends a number, or `unbounded` for infinity.
+pub fn push_number(into: &mut Vec<u8>, number: &Ext) -> Result<(), AllocError>
     ensures { OnOk result (into.new.items ≡ into.old.items ++ number_text number.now) }
 {
     match number {

@@ -1,0 +1,4 @@
+pub mod Folds
+pub mod LargestIs
+pub mod OneSummary
+pub mod Parts
