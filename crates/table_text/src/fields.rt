@@ -13,7 +13,7 @@ use fraction128::{Frac, is_less, read_digits};
 const MOST_BITS: i64 = 16_777_216;
 
 /// A number.
-pub(crate) fn number_in(text: &str) -> Option<Frac>
+pub fn number_in(text: &str) -> Option<Frac>
     ensures { result ≡ spec.number_in text.now }
 {
     match Frac::parse(text.as_bytes()) {
@@ -23,7 +23,7 @@ pub(crate) fn number_in(text: &str) -> Option<Frac>
 }
 
 /// A number from 0 on.
-pub(crate) fn time_in(text: &str) -> Option<Frac>
+pub fn time_in(text: &str) -> Option<Frac>
     ensures value { result ≡ spec.time_in text.now }
     ensures range { IfSome result (λ x. zero_q ≤ℚ x) }
 {
@@ -62,7 +62,7 @@ fn in_64_bits(minus: bool, size: u128) -> Option<i64>
 }
 
 /// A whole number of 64 bits.
-pub(crate) fn whole_in(text: &str) -> Option<i64>
+pub fn whole_in(text: &str) -> Option<i64>
     ensures { result ≡ spec.whole_in text.now }
 {
     let (minus, digits) = split_sign(text.as_bytes());
@@ -71,7 +71,7 @@ pub(crate) fn whole_in(text: &str) -> Option<i64>
 }
 
 /// The bits of a packet: 1 to 2^24.
-pub(crate) fn bits_in(text: &str) -> Option<u32>
+pub fn bits_in(text: &str) -> Option<u32>
     ensures value { result ≡ spec.bits_in text.now }
     ensures range { IfSome result IsLength }
 {

@@ -11,7 +11,7 @@ use csv::{ByteRecord, ReaderBuilder};
 use std::alloc::Global;
 
 /// The first rows of a text, as many as there are up to a number.
-pub(crate) fn first_rows(
+pub fn first_rows(
     alloc: Global,
     text: &[u8],
     most: usize,
@@ -38,7 +38,7 @@ pub(crate) fn first_rows(
 }
 
 /// Whether all bytes of a row are spaces or visible characters of ASCII.
-pub(crate) fn is_plain(row: &ByteRecord) -> bool
+pub fn is_plain(row: &ByteRecord) -> bool
     ensures { result ≡ spec.is_plain (fields_of row.now) }
 {
     for field in row {
@@ -50,7 +50,7 @@ pub(crate) fn is_plain(row: &ByteRecord) -> bool
 }
 
 /// The text of a field, empty where there is none.
-pub(crate) fn text_at(row: &ByteRecord, place: usize) -> &str
+pub fn text_at(row: &ByteRecord, place: usize) -> &str
     requires { spec.is_plain (fields_of row.now) ≡ true }
     ensures { result.now ≡ spec.field (fields_of row.now) place }
 {

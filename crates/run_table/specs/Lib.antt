@@ -1,0 +1,3 @@
+pub mod RunRows
+pub mod Runs
+pub mod Rounds
