@@ -48,9 +48,15 @@ fn behind_the_end(before: usize) -> RunFault
     ensures kind { IsBehindEnd before result.kind }
 {
     if before >= MOST_ROWS {
-        RunFault { kind: RunKind::T7, row: before as u32 + 1 }
+        RunFault {
+            kind: RunKind::T7,
+            row: before as u32 + 1,
+        }
     } else {
-        RunFault { kind: RunKind::T8, row: before as u32 + 1 }
+        RunFault {
+            kind: RunKind::T8,
+            row: before as u32 + 1,
+        }
     }
 }
 

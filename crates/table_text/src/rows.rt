@@ -11,11 +11,7 @@ use csv::{ByteRecord, ReaderBuilder};
 use std::alloc::Global;
 
 /// The first rows of a text, as many as there are up to a number.
-pub fn first_rows(
-    alloc: Global,
-    text: &[u8],
-    most: usize,
-) -> Result<Vec<ByteRecord>, TableKind>
+pub fn first_rows(alloc: Global, text: &[u8], most: usize) -> Result<Vec<ByteRecord>, TableKind>
     ensures rows { IfOk result (λ rows. map fields_of rows.items ≡ take most (spec.rows_of text.now)) }
     ensures refused { IfErr result (λ kind. kind ≡ NoMemory) }
 {
