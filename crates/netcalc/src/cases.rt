@@ -70,7 +70,10 @@ queue s1 0 delay 0 backlog 0
         // an_empty_file
         (
             "netcalc analyse n.toml",
-            &[("n.toml", "")],
+            &[(
+                "n.toml",
+                "",
+            )],
             0,
             "servers 0 flows 0\n",
         ),
@@ -283,7 +286,10 @@ show bucket(1, -1)
         // a_byte_that_is_not_plain
         (
             "netcalc curve s.curve",
-            &[("s.curve", "rate bucket(1, 2)\nrate\tzero\n")],
+            &[(
+                "s.curve",
+                "rate bucket(1, 2)\nrate\tzero\n",
+            )],
             1,
             "netcalc: s.curve: C1 line 2\n",
         ),
@@ -300,7 +306,10 @@ show bucket(1, -1)
         // a_kind_with_one_number
         (
             "netcalc curve s.curve",
-            &[("s.curve", "show bucket(1)\n")],
+            &[(
+                "s.curve",
+                "show bucket(1)\n",
+            )],
             1,
             "netcalc: s.curve: C2 line 1\n",
         ),
@@ -331,14 +340,20 @@ let a = zero
         // a_name_not_given
         (
             "netcalc curve s.curve",
-            &[("s.curve", "value x at 1\n")],
+            &[(
+                "s.curve",
+                "value x at 1\n",
+            )],
             1,
             "netcalc: s.curve: C6 line 1\n",
         ),
         // a_number_that_is_none
         (
             "netcalc curve s.curve",
-            &[("s.curve", "show bucket(1, q)\n")],
+            &[(
+                "s.curve",
+                "show bucket(1, q)\n",
+            )],
             1,
             "netcalc: s.curve: C3 line 1\n",
         ),
@@ -412,7 +427,15 @@ delay 880/3
             "netcalc: too wide: line 1\n",
         ),
         // an_empty_script
-        ("netcalc curve s.curve", &[("s.curve", "")], 0, ""),
+        (
+            "netcalc curve s.curve",
+            &[(
+                "s.curve",
+                "",
+            )],
+            0,
+            "",
+        ),
         // eight_lines
         (
             "netcalc curve s.curve",
@@ -728,7 +751,10 @@ path = ["s9"]
         // not_toml
         (
             "netcalc analyse n.toml",
-            &[("n.toml", "[[server")],
+            &[(
+                "n.toml",
+                "[[server",
+            )],
             1,
             "netcalc: n.toml: M1\n",
         ),
@@ -952,10 +978,9 @@ fn measures(rt: HostRuntime) -> Result<(), Fail> {
         // a_breach_is_measured_too
         (
             "netcalc measure n.toml t.csv f1 10",
-            &[
-                (
-                    "n.toml",
-                    r#"[[server]]
+            &[(
+                "n.toml",
+                r#"[[server]]
 name = "s1"
 rate = 100
 service = { kind = "latency", latency = 10 }
@@ -966,14 +991,12 @@ packet = 12000
 arrival = { kind = "bucket", burst = 12000, rate = 10 }
 path = ["s1"]
 "#,
-                ),
-                (
-                    "t.csv",
-                    r#"packet,0,f1,12000
+            ), (
+                "t.csv",
+                r#"packet,0,f1,12000
 packet,0,f1,12000
 "#,
-                ),
-            ],
+            )],
             0,
             r#"flow f1 packets 2
 step 0 24000
@@ -983,10 +1006,9 @@ burst 24000 rate 10
         // a_curve_too_wide
         (
             "netcalc measure n.toml t.csv f9 1",
-            &[
-                (
-                    "n.toml",
-                    r#"[[server]]
+            &[(
+                "n.toml",
+                r#"[[server]]
 name = "s1"
 rate = 100
 service = { kind = "latency", latency = 10 }
@@ -996,19 +1018,19 @@ packet = 12000
 arrival = { kind = "stair", period = "1/1329227995784915872903807060280344576", jitter = 0 }
 path = ["s1"]
 "#,
-                ),
-                ("t.csv", "packet,0,f9,4000\n"),
-            ],
+            ), (
+                "t.csv",
+                "packet,0,f9,4000\n",
+            )],
             6,
             "netcalc: too wide: curve flow[0].arrival\n",
         ),
         // a_cycle_is_no_matter
         (
             "netcalc measure n.toml t.csv f1 10",
-            &[
-                (
-                    "n.toml",
-                    r#"[[server]]
+            &[(
+                "n.toml",
+                r#"[[server]]
 name = "s1"
 rate = 100
 service = { kind = "latency", latency = 10 }
@@ -1027,14 +1049,12 @@ packet = 6000
 arrival = { kind = "bucket", burst = 6000, rate = 5 }
 path = ["s2", "s1"]
 "#,
-                ),
-                (
-                    "t.csv",
-                    r#"packet,0,f1,100
+            ), (
+                "t.csv",
+                r#"packet,0,f1,100
 packet,2,f1,100
 "#,
-                ),
-            ],
+            )],
             0,
             r#"flow f1 packets 2
 step 0 100
@@ -1045,10 +1065,9 @@ burst 180 rate 10
         // a_flow_that_begins_as_a_flag_does
         (
             "netcalc measure n.toml t.csv -f1 1",
-            &[
-                (
-                    "n.toml",
-                    r#"[[server]]
+            &[(
+                "n.toml",
+                r#"[[server]]
 name = "s1"
 rate = 100
 service = { kind = "latency", latency = 10 }
@@ -1059,26 +1078,23 @@ packet = 12000
 arrival = { kind = "bucket", burst = 12000, rate = 10 }
 path = ["s1"]
 "#,
-                ),
-                (
-                    "t.csv",
-                    r#"packet,0,f1,4000
+            ), (
+                "t.csv",
+                r#"packet,0,f1,4000
 packet,10,f1,4000
 packet,10,f1,2000
 packet,30,f1,6000
 "#,
-                ),
-            ],
+            )],
             2,
             "netcalc: usage: netcalc analyse NET [--json], edit NET EDITS [--json], simulate NET TRACE, exercise N, measure NET TRACE FLOW RATE, curve FILE\n",
         ),
         // a_rate_below_0
         (
             "netcalc measure n.toml t.csv f1 -1",
-            &[
-                (
-                    "n.toml",
-                    r#"[[server]]
+            &[(
+                "n.toml",
+                r#"[[server]]
 name = "s1"
 rate = 100
 service = { kind = "latency", latency = 10 }
@@ -1089,26 +1105,23 @@ packet = 12000
 arrival = { kind = "bucket", burst = 12000, rate = 10 }
 path = ["s1"]
 "#,
-                ),
-                (
-                    "t.csv",
-                    r#"packet,0,f1,4000
+            ), (
+                "t.csv",
+                r#"packet,0,f1,4000
 packet,10,f1,4000
 packet,10,f1,2000
 packet,30,f1,6000
 "#,
-                ),
-            ],
+            )],
             2,
             "netcalc: usage: netcalc analyse NET [--json], edit NET EDITS [--json], simulate NET TRACE, exercise N, measure NET TRACE FLOW RATE, curve FILE\n",
         ),
         // a_rate_of_0
         (
             "netcalc measure n.toml t.csv f1 0",
-            &[
-                (
-                    "n.toml",
-                    r#"[[server]]
+            &[(
+                "n.toml",
+                r#"[[server]]
 name = "s1"
 rate = 100
 service = { kind = "latency", latency = 10 }
@@ -1119,16 +1132,14 @@ packet = 12000
 arrival = { kind = "bucket", burst = 12000, rate = 10 }
 path = ["s1"]
 "#,
-                ),
-                (
-                    "t.csv",
-                    r#"packet,0,f1,4000
+            ), (
+                "t.csv",
+                r#"packet,0,f1,4000
 packet,10,f1,4000
 packet,10,f1,2000
 packet,30,f1,6000
 "#,
-                ),
-            ],
+            )],
             0,
             r#"flow f1 packets 4
 step 0 6000
@@ -1141,10 +1152,9 @@ burst 16000 rate 0
         // a_rate_past_all_numbers
         (
             "netcalc measure n.toml t.csv f1 170141183460469231731687303715884105728",
-            &[
-                (
-                    "n.toml",
-                    r#"[[server]]
+            &[(
+                "n.toml",
+                r#"[[server]]
 name = "s1"
 rate = 100
 service = { kind = "latency", latency = 10 }
@@ -1155,26 +1165,23 @@ packet = 12000
 arrival = { kind = "bucket", burst = 12000, rate = 10 }
 path = ["s1"]
 "#,
-                ),
-                (
-                    "t.csv",
-                    r#"packet,0,f1,4000
+            ), (
+                "t.csv",
+                r#"packet,0,f1,4000
 packet,10,f1,4000
 packet,10,f1,2000
 packet,30,f1,6000
 "#,
-                ),
-            ],
+            )],
             2,
             "netcalc: usage: netcalc analyse NET [--json], edit NET EDITS [--json], simulate NET TRACE, exercise N, measure NET TRACE FLOW RATE, curve FILE\n",
         ),
         // a_rate_that_is_a_fraction
         (
             "netcalc measure n.toml t.csv f1 0700/2",
-            &[
-                (
-                    "n.toml",
-                    r#"[[server]]
+            &[(
+                "n.toml",
+                r#"[[server]]
 name = "s1"
 rate = 100
 service = { kind = "latency", latency = 10 }
@@ -1185,16 +1192,14 @@ packet = 12000
 arrival = { kind = "bucket", burst = 12000, rate = 10 }
 path = ["s1"]
 "#,
-                ),
-                (
-                    "t.csv",
-                    r#"packet,0,f1,1000
+            ), (
+                "t.csv",
+                r#"packet,0,f1,1000
 packet,1/3,f1,1000
 packet,2/3,f1,2000
 packet,7/2,f1,1500
 "#,
-                ),
-            ],
+            )],
             0,
             r#"flow f1 packets 4
 step 0 2000
@@ -1208,10 +1213,9 @@ burst 4275 rate 350
         // a_rate_that_is_minus_0
         (
             "netcalc measure n.toml t.csv f1 -0",
-            &[
-                (
-                    "n.toml",
-                    r#"[[server]]
+            &[(
+                "n.toml",
+                r#"[[server]]
 name = "s1"
 rate = 100
 service = { kind = "latency", latency = 10 }
@@ -1222,26 +1226,23 @@ packet = 12000
 arrival = { kind = "bucket", burst = 12000, rate = 10 }
 path = ["s1"]
 "#,
-                ),
-                (
-                    "t.csv",
-                    r#"packet,0,f1,4000
+            ), (
+                "t.csv",
+                r#"packet,0,f1,4000
 packet,10,f1,4000
 packet,10,f1,2000
 packet,30,f1,6000
 "#,
-                ),
-            ],
+            )],
             2,
             "netcalc: usage: netcalc analyse NET [--json], edit NET EDITS [--json], simulate NET TRACE, exercise N, measure NET TRACE FLOW RATE, curve FILE\n",
         ),
         // a_rate_that_is_none
         (
             "netcalc measure n.toml t.csv f1 1.5",
-            &[
-                (
-                    "n.toml",
-                    r#"[[server]]
+            &[(
+                "n.toml",
+                r#"[[server]]
 name = "s1"
 rate = 100
 service = { kind = "latency", latency = 10 }
@@ -1252,26 +1253,23 @@ packet = 12000
 arrival = { kind = "bucket", burst = 12000, rate = 10 }
 path = ["s1"]
 "#,
-                ),
-                (
-                    "t.csv",
-                    r#"packet,0,f1,4000
+            ), (
+                "t.csv",
+                r#"packet,0,f1,4000
 packet,10,f1,4000
 packet,10,f1,2000
 packet,30,f1,6000
 "#,
-                ),
-            ],
+            )],
             2,
             "netcalc: usage: netcalc analyse NET [--json], edit NET EDITS [--json], simulate NET TRACE, exercise N, measure NET TRACE FLOW RATE, curve FILE\n",
         ),
         // a_rate_that_is_too_wide
         (
             "netcalc measure n.toml t.csv f1 1329227995784915872903807060280344576",
-            &[
-                (
-                    "n.toml",
-                    r#"[[server]]
+            &[(
+                "n.toml",
+                r#"[[server]]
 name = "s1"
 rate = 100
 service = { kind = "latency", latency = 10 }
@@ -1282,26 +1280,23 @@ packet = 12000
 arrival = { kind = "bucket", burst = 12000, rate = 10 }
 path = ["s1"]
 "#,
-                ),
-                (
-                    "t.csv",
-                    r#"packet,0,f1,4000
+            ), (
+                "t.csv",
+                r#"packet,0,f1,4000
 packet,10,f1,4000
 packet,10,f1,2000
 packet,30,f1,6000
 "#,
-                ),
-            ],
+            )],
             6,
             "netcalc: too wide: burst\n",
         ),
         // a_rate_with_a_part_of_0
         (
             "netcalc measure n.toml t.csv f1 1/0",
-            &[
-                (
-                    "n.toml",
-                    r#"[[server]]
+            &[(
+                "n.toml",
+                r#"[[server]]
 name = "s1"
 rate = 100
 service = { kind = "latency", latency = 10 }
@@ -1312,26 +1307,23 @@ packet = 12000
 arrival = { kind = "bucket", burst = 12000, rate = 10 }
 path = ["s1"]
 "#,
-                ),
-                (
-                    "t.csv",
-                    r#"packet,0,f1,4000
+            ), (
+                "t.csv",
+                r#"packet,0,f1,4000
 packet,10,f1,4000
 packet,10,f1,2000
 packet,30,f1,6000
 "#,
-                ),
-            ],
+            )],
             2,
             "netcalc: usage: netcalc analyse NET [--json], edit NET EDITS [--json], simulate NET TRACE, exercise N, measure NET TRACE FLOW RATE, curve FILE\n",
         ),
         // a_rule_goes_before_a_trace_fault
         (
             "netcalc measure n.toml t.csv f1 1",
-            &[
-                (
-                    "n.toml",
-                    r#"[[server]]
+            &[(
+                "n.toml",
+                r#"[[server]]
 name = "s1"
 rate = 0
 service = { kind = "latency", latency = 10 }
@@ -1342,19 +1334,19 @@ packet = 12000
 arrival = { kind = "bucket", burst = 12000, rate = 10 }
 path = ["s1"]
 "#,
-                ),
-                ("t.csv", "packet,0,f9,4000\n"),
-            ],
+            ), (
+                "t.csv",
+                "packet,0,f9,4000\n",
+            )],
             1,
             "netcalc: n.toml: M6 server[0].rate\n",
         ),
         // a_time_at_the_limit
         (
             "netcalc measure n.toml t.csv f1 1",
-            &[
-                (
-                    "n.toml",
-                    r#"[[server]]
+            &[(
+                "n.toml",
+                r#"[[server]]
 name = "s1"
 rate = 100
 service = { kind = "latency", latency = 10 }
@@ -1365,22 +1357,19 @@ packet = 12000
 arrival = { kind = "bucket", burst = 12000, rate = 10 }
 path = ["s1"]
 "#,
-                ),
-                (
-                    "t.csv",
-                    "packet,1/10384593717069655257060992658440192,f1,1\n",
-                ),
-            ],
+            ), (
+                "t.csv",
+                "packet,1/10384593717069655257060992658440192,f1,1\n",
+            )],
             6,
             "netcalc: too wide: measure\n",
         ),
         // a_time_below_the_limit
         (
             "netcalc measure n.toml t.csv f1 1",
-            &[
-                (
-                    "n.toml",
-                    r#"[[server]]
+            &[(
+                "n.toml",
+                r#"[[server]]
 name = "s1"
 rate = 100
 service = { kind = "latency", latency = 10 }
@@ -1391,12 +1380,10 @@ packet = 12000
 arrival = { kind = "bucket", burst = 12000, rate = 10 }
 path = ["s1"]
 "#,
-                ),
-                (
-                    "t.csv",
-                    "packet,1/5192296858534827628530496329220096,f1,1\n",
-                ),
-            ],
+            ), (
+                "t.csv",
+                "packet,1/5192296858534827628530496329220096,f1,1\n",
+            )],
             0,
             r#"flow f1 packets 1
 step 0 1
@@ -1406,10 +1393,9 @@ burst 1 rate 1
         // a_trace_fault_goes_before_an_unknown_flow
         (
             "netcalc measure n.toml t.csv f9 1",
-            &[
-                (
-                    "n.toml",
-                    r#"[[server]]
+            &[(
+                "n.toml",
+                r#"[[server]]
 name = "s1"
 rate = 100
 service = { kind = "latency", latency = 10 }
@@ -1420,19 +1406,19 @@ packet = 12000
 arrival = { kind = "bucket", burst = 12000, rate = 10 }
 path = ["s1"]
 "#,
-                ),
-                ("t.csv", "packet,0,f9,4000\n"),
-            ],
+            ), (
+                "t.csv",
+                "packet,0,f9,4000\n",
+            )],
             1,
             "netcalc: t.csv: T5 row 1\n",
         ),
         // a_window_that_holds_no_more_is_no_step
         (
             "netcalc measure n.toml t.csv f1 100",
-            &[
-                (
-                    "n.toml",
-                    r#"[[server]]
+            &[(
+                "n.toml",
+                r#"[[server]]
 name = "s1"
 rate = 100
 service = { kind = "latency", latency = 10 }
@@ -1443,15 +1429,13 @@ packet = 12000
 arrival = { kind = "bucket", burst = 12000, rate = 10 }
 path = ["s1"]
 "#,
-                ),
-                (
-                    "t.csv",
-                    r#"packet,0,f1,6000
+            ), (
+                "t.csv",
+                r#"packet,0,f1,6000
 packet,10,f1,1000
 packet,40,f1,6000
 "#,
-                ),
-            ],
+            )],
             0,
             r#"flow f1 packets 3
 step 0 6000
@@ -1463,10 +1447,9 @@ burst 9000 rate 100
         // a_word_too_many
         (
             "netcalc measure n.toml t.csv f1 1 1",
-            &[
-                (
-                    "n.toml",
-                    r#"[[server]]
+            &[(
+                "n.toml",
+                r#"[[server]]
 name = "s1"
 rate = 100
 service = { kind = "latency", latency = 10 }
@@ -1477,26 +1460,23 @@ packet = 12000
 arrival = { kind = "bucket", burst = 12000, rate = 10 }
 path = ["s1"]
 "#,
-                ),
-                (
-                    "t.csv",
-                    r#"packet,0,f1,4000
+            ), (
+                "t.csv",
+                r#"packet,0,f1,4000
 packet,10,f1,4000
 packet,10,f1,2000
 packet,30,f1,6000
 "#,
-                ),
-            ],
+            )],
             2,
             "netcalc: usage: netcalc analyse NET [--json], edit NET EDITS [--json], simulate NET TRACE, exercise N, measure NET TRACE FLOW RATE, curve FILE\n",
         ),
         // an_empty_trace
         (
             "netcalc measure n.toml t.csv f1 1",
-            &[
-                (
-                    "n.toml",
-                    r#"[[server]]
+            &[(
+                "n.toml",
+                r#"[[server]]
 name = "s1"
 rate = 100
 service = { kind = "latency", latency = 10 }
@@ -1507,9 +1487,10 @@ packet = 12000
 arrival = { kind = "bucket", burst = 12000, rate = 10 }
 path = ["s1"]
 "#,
-                ),
-                ("t.csv", ""),
-            ],
+            ), (
+                "t.csv",
+                "",
+            )],
             0,
             r#"flow f1 packets 0
 step 0 0
@@ -1519,10 +1500,9 @@ burst 0 rate 1
         // an_unknown_flow
         (
             "netcalc measure n.toml t.csv f9 1",
-            &[
-                (
-                    "n.toml",
-                    r#"[[server]]
+            &[(
+                "n.toml",
+                r#"[[server]]
 name = "s1"
 rate = 100
 service = { kind = "latency", latency = 10 }
@@ -1533,26 +1513,23 @@ packet = 12000
 arrival = { kind = "bucket", burst = 12000, rate = 10 }
 path = ["s1"]
 "#,
-                ),
-                (
-                    "t.csv",
-                    r#"packet,0,f1,4000
+            ), (
+                "t.csv",
+                r#"packet,0,f1,4000
 packet,10,f1,4000
 packet,10,f1,2000
 packet,30,f1,6000
 "#,
-                ),
-            ],
+            )],
             1,
             "netcalc: unknown flow f9\n",
         ),
         // four_packets
         (
             "netcalc measure n.toml t.csv f1 100",
-            &[
-                (
-                    "n.toml",
-                    r#"[[server]]
+            &[(
+                "n.toml",
+                r#"[[server]]
 name = "s1"
 rate = 100
 service = { kind = "latency", latency = 10 }
@@ -1563,16 +1540,14 @@ packet = 12000
 arrival = { kind = "bucket", burst = 12000, rate = 10 }
 path = ["s1"]
 "#,
-                ),
-                (
-                    "t.csv",
-                    r#"packet,0,f1,4000
+            ), (
+                "t.csv",
+                r#"packet,0,f1,4000
 packet,10,f1,4000
 packet,10,f1,2000
 packet,30,f1,6000
 "#,
-                ),
-            ],
+            )],
             0,
             r#"flow f1 packets 4
 step 0 6000
@@ -1585,10 +1560,9 @@ burst 13000 rate 100
         // four_packets_at_a_higher_rate
         (
             "netcalc measure n.toml t.csv f1 500",
-            &[
-                (
-                    "n.toml",
-                    r#"[[server]]
+            &[(
+                "n.toml",
+                r#"[[server]]
 name = "s1"
 rate = 100
 service = { kind = "latency", latency = 10 }
@@ -1599,16 +1573,14 @@ packet = 12000
 arrival = { kind = "bucket", burst = 12000, rate = 10 }
 path = ["s1"]
 "#,
-                ),
-                (
-                    "t.csv",
-                    r#"packet,0,f1,4000
+            ), (
+                "t.csv",
+                r#"packet,0,f1,4000
 packet,10,f1,4000
 packet,10,f1,2000
 packet,30,f1,6000
 "#,
-                ),
-            ],
+            )],
             0,
             r#"flow f1 packets 4
 step 0 6000
@@ -1621,10 +1593,9 @@ burst 6000 rate 500
         // no_rate
         (
             "netcalc measure n.toml t.csv f1",
-            &[
-                (
-                    "n.toml",
-                    r#"[[server]]
+            &[(
+                "n.toml",
+                r#"[[server]]
 name = "s1"
 rate = 100
 service = { kind = "latency", latency = 10 }
@@ -1635,16 +1606,14 @@ packet = 12000
 arrival = { kind = "bucket", burst = 12000, rate = 10 }
 path = ["s1"]
 "#,
-                ),
-                (
-                    "t.csv",
-                    r#"packet,0,f1,4000
+            ), (
+                "t.csv",
+                r#"packet,0,f1,4000
 packet,10,f1,4000
 packet,10,f1,2000
 packet,30,f1,6000
 "#,
-                ),
-            ],
+            )],
             2,
             "netcalc: usage: netcalc analyse NET [--json], edit NET EDITS [--json], simulate NET TRACE, exercise N, measure NET TRACE FLOW RATE, curve FILE\n",
         ),
@@ -1671,10 +1640,9 @@ path = ["s1"]
         // other_flows_do_not_count
         (
             "netcalc measure n.toml t.csv f2 100",
-            &[
-                (
-                    "n.toml",
-                    r#"[[server]]
+            &[(
+                "n.toml",
+                r#"[[server]]
 name = "s1"
 rate = 100
 service = { kind = "latency", latency = 10 }
@@ -1691,17 +1659,15 @@ packet = 6000
 arrival = { kind = "bucket", burst = 6000, rate = 5 }
 path = ["s1"]
 "#,
-                ),
-                (
-                    "t.csv",
-                    r#"packet,0,f1,12000
+            ), (
+                "t.csv",
+                r#"packet,0,f1,12000
 packet,1,f2,3000
 packet,5,f1,12000
 packet,6,f2,2000
 stall,s1,0,4
 "#,
-                ),
-            ],
+            )],
             0,
             r#"flow f2 packets 2
 step 0 3000
@@ -1712,10 +1678,9 @@ burst 4500 rate 100
         // packets_at_one_time
         (
             "netcalc measure n.toml t.csv f1 1",
-            &[
-                (
-                    "n.toml",
-                    r#"[[server]]
+            &[(
+                "n.toml",
+                r#"[[server]]
 name = "s1"
 rate = 100
 service = { kind = "latency", latency = 10 }
@@ -1726,15 +1691,13 @@ packet = 12000
 arrival = { kind = "bucket", burst = 12000, rate = 10 }
 path = ["s1"]
 "#,
-                ),
-                (
-                    "t.csv",
-                    r#"packet,5,f1,4000
+            ), (
+                "t.csv",
+                r#"packet,5,f1,4000
 packet,5,f1,2000
 packet,5,f1,1000
 "#,
-                ),
-            ],
+            )],
             0,
             r#"flow f1 packets 3
 step 0 7000
@@ -1744,10 +1707,9 @@ burst 7000 rate 1
         // times_that_are_too_wide
         (
             "netcalc measure n.toml t.csv f1 1",
-            &[
-                (
-                    "n.toml",
-                    r#"[[server]]
+            &[(
+                "n.toml",
+                r#"[[server]]
 name = "s1"
 rate = 100
 service = { kind = "latency", latency = 10 }
@@ -1758,16 +1720,14 @@ packet = 12000
 arrival = { kind = "bucket", burst = 12000, rate = 10 }
 path = ["s1"]
 "#,
-                ),
-                (
-                    "t.csv",
-                    r#"packet,0,f1,8
+            ), (
+                "t.csv",
+                r#"packet,0,f1,8
 packet,1/2305843009213693951,f1,8
 packet,1/2147483647,f1,8
 packet,10000000,f1,8
 "#,
-                ),
-            ],
+            )],
             6,
             "netcalc: too wide: measure\n",
         ),
@@ -1781,14 +1741,13 @@ packet,10000000,f1,8
 #[test]
 fn runs(rt: HostRuntime) -> Result<(), Fail> {
     let alloc = rt.alloc();
-    let rows: [(&str, &[(&str, &str)], u8, &str); 34] = [
+    let rows: [(&str, &[(&str, &str)], u8, &str); 35] = [
         // a_byte_that_is_not_plain
         (
             "netcalc simulate n.toml t.csv",
-            &[
-                (
-                    "n.toml",
-                    r#"[[server]]
+            &[(
+                "n.toml",
+                r#"[[server]]
 name = "s1"
 rate = 100
 service = { kind = "latency", latency = 10 }
@@ -1799,19 +1758,19 @@ packet = 12000
 arrival = { kind = "bucket", burst = 12000, rate = 10 }
 path = ["s1"]
 "#,
-                ),
-                ("t.csv", "packet,0,f1,1\t\n"),
-            ],
+            ), (
+                "t.csv",
+                "packet,0,f1,1\t\n",
+            )],
             1,
             "netcalc: t.csv: T1 row 1\n",
         ),
         // a_cycle
         (
             "netcalc simulate n.toml t.csv",
-            &[
-                (
-                    "n.toml",
-                    r#"[[server]]
+            &[(
+                "n.toml",
+                r#"[[server]]
 name = "s1"
 rate = 100
 service = { kind = "latency", latency = 10 }
@@ -1833,19 +1792,19 @@ packet = 6000
 arrival = { kind = "bucket", burst = 6000, rate = 5 }
 path = ["s2", "s1"]
 "#,
-                ),
-                ("t.csv", "packet,0,f1,1\n"),
-            ],
+            ), (
+                "t.csv",
+                "packet,0,f1,1\n",
+            )],
             8,
             "netcalc: cycle s1 s2 s1\n",
         ),
         // a_gate_that_closes_on_a_packet
         (
             "netcalc simulate n.toml t.csv",
-            &[
-                (
-                    "n.toml",
-                    r#"[[server]]
+            &[(
+                "n.toml",
+                r#"[[server]]
 name = "g"
 rate = 100
 service = { kind = "gate", cycle = 1000, slot = 250 }
@@ -1856,9 +1815,10 @@ packet = 24000
 arrival = { kind = "stair", period = 1500, jitter = 0 }
 path = ["g"]
 "#,
-                ),
-                ("t.csv", "packet,100,f,24000\n"),
-            ],
+            ), (
+                "t.csv",
+                "packet,100,f,24000\n",
+            )],
             0,
             r#"servers 1 flows 1
 run packets 1 end 1090
@@ -1870,10 +1830,9 @@ breach none
         // a_gate_that_reaches_its_bound
         (
             "netcalc simulate n.toml t.csv",
-            &[
-                (
-                    "n.toml",
-                    r#"[[server]]
+            &[(
+                "n.toml",
+                r#"[[server]]
 name = "g"
 rate = 100
 service = { kind = "gate", cycle = 1000, slot = 250 }
@@ -1884,9 +1843,10 @@ packet = 24000
 arrival = { kind = "stair", period = 1500, jitter = 0 }
 path = ["g"]
 "#,
-                ),
-                ("t.csv", "packet,250,f,24000\n"),
-            ],
+            ), (
+                "t.csv",
+                "packet,250,f,24000\n",
+            )],
             0,
             r#"servers 1 flows 1
 run packets 1 end 1240
@@ -1898,10 +1858,9 @@ breach none
         // a_length_that_is_no_number
         (
             "netcalc simulate n.toml t.csv",
-            &[
-                (
-                    "n.toml",
-                    r#"[[server]]
+            &[(
+                "n.toml",
+                r#"[[server]]
 name = "s1"
 rate = 100
 service = { kind = "latency", latency = 10 }
@@ -1912,19 +1871,19 @@ packet = 12000
 arrival = { kind = "bucket", burst = 12000, rate = 10 }
 path = ["s1"]
 "#,
-                ),
-                ("t.csv", "packet,0,f1,x\n"),
-            ],
+            ), (
+                "t.csv",
+                "packet,0,f1,x\n",
+            )],
             1,
             "netcalc: t.csv: T4 row 1\n",
         ),
         // a_network_that_breaks_a_rule_goes_first
         (
             "netcalc simulate n.toml t.csv",
-            &[
-                (
-                    "n.toml",
-                    r#"[[server]]
+            &[(
+                "n.toml",
+                r#"[[server]]
 name = "s1"
 rate = 100
 service = { kind = "latency", latency = 10 }
@@ -1935,19 +1894,19 @@ packet = 0
 arrival = { kind = "bucket", burst = 12000, rate = 10 }
 path = ["s1"]
 "#,
-                ),
-                ("t.csv", "pocket\n"),
-            ],
+            ), (
+                "t.csv",
+                "pocket\n",
+            )],
             1,
             "netcalc: n.toml: M6 flow[0].packet\n",
         ),
         // a_packet_before_an_earlier_one
         (
             "netcalc simulate n.toml t.csv",
-            &[
-                (
-                    "n.toml",
-                    r#"[[server]]
+            &[(
+                "n.toml",
+                r#"[[server]]
 name = "s1"
 rate = 100
 service = { kind = "latency", latency = 10 }
@@ -1958,24 +1917,21 @@ packet = 12000
 arrival = { kind = "bucket", burst = 12000, rate = 10 }
 path = ["s1"]
 "#,
-                ),
-                (
-                    "t.csv",
-                    r#"packet,5,f1,1
+            ), (
+                "t.csv",
+                r#"packet,5,f1,1
 packet,4,f1,1
 "#,
-                ),
-            ],
+            )],
             1,
             "netcalc: t.csv: T6 row 2\n",
         ),
         // a_packet_one_bit_too_long
         (
             "netcalc simulate n.toml t.csv",
-            &[
-                (
-                    "n.toml",
-                    r#"[[server]]
+            &[(
+                "n.toml",
+                r#"[[server]]
 name = "s1"
 rate = 100
 service = { kind = "latency", latency = 10 }
@@ -1986,9 +1942,10 @@ packet = 12000
 arrival = { kind = "bucket", burst = 12000, rate = 10 }
 path = ["s1"]
 "#,
-                ),
-                ("t.csv", "packet,0,f1,12001\n"),
-            ],
+            ), (
+                "t.csv",
+                "packet,0,f1,12001\n",
+            )],
             9,
             r#"servers 1 flows 1
 run packets 1 end 12001/100
@@ -2000,10 +1957,9 @@ breach size f1 0
         // a_packet_that_enters_as_the_one_before_leaves
         (
             "netcalc simulate n.toml t.csv",
-            &[
-                (
-                    "n.toml",
-                    r#"[[server]]
+            &[(
+                "n.toml",
+                r#"[[server]]
 name = "s1"
 rate = 100
 service = { kind = "latency", latency = 10 }
@@ -2014,14 +1970,12 @@ packet = 12000
 arrival = { kind = "bucket", burst = 12000, rate = 100 }
 path = ["s1"]
 "#,
-                ),
-                (
-                    "t.csv",
-                    r#"packet,0,f1,12000
+            ), (
+                "t.csv",
+                r#"packet,0,f1,12000
 packet,120,f1,12000
 "#,
-                ),
-            ],
+            )],
             0,
             r#"servers 1 flows 1
 run packets 2 end 240
@@ -2033,10 +1987,9 @@ breach none
         // a_packet_under_way_is_not_broken_off
         (
             "netcalc simulate n.toml t.csv",
-            &[
-                (
-                    "n.toml",
-                    r#"[[server]]
+            &[(
+                "n.toml",
+                r#"[[server]]
 name = "s1"
 rate = 100
 service = { kind = "latency", latency = 10 }
@@ -2055,14 +2008,12 @@ packet = 6000
 arrival = { kind = "bucket", burst = 6000, rate = 5 }
 path = ["s1:0"]
 "#,
-                ),
-                (
-                    "t.csv",
-                    r#"packet,0,f1,12000
+            ), (
+                "t.csv",
+                r#"packet,0,f1,12000
 packet,1,f2,6000
 "#,
-                ),
-            ],
+            )],
             0,
             r#"servers 1 flows 2
 run packets 2 end 180
@@ -2076,10 +2027,9 @@ breach none
         // a_row_of_no_kind
         (
             "netcalc simulate n.toml t.csv",
-            &[
-                (
-                    "n.toml",
-                    r#"[[server]]
+            &[(
+                "n.toml",
+                r#"[[server]]
 name = "s1"
 rate = 100
 service = { kind = "latency", latency = 10 }
@@ -2090,19 +2040,19 @@ packet = 12000
 arrival = { kind = "bucket", burst = 12000, rate = 10 }
 path = ["s1"]
 "#,
-                ),
-                ("t.csv", "pocket,0,f1,1\n"),
-            ],
+            ), (
+                "t.csv",
+                "pocket,0,f1,1\n",
+            )],
             1,
             "netcalc: t.csv: T2 row 1\n",
         ),
         // a_row_with_too_few_fields
         (
             "netcalc simulate n.toml t.csv",
-            &[
-                (
-                    "n.toml",
-                    r#"[[server]]
+            &[(
+                "n.toml",
+                r#"[[server]]
 name = "s1"
 rate = 100
 service = { kind = "latency", latency = 10 }
@@ -2113,19 +2063,19 @@ packet = 12000
 arrival = { kind = "bucket", burst = 12000, rate = 10 }
 path = ["s1"]
 "#,
-                ),
-                ("t.csv", "packet,0,f1\n"),
-            ],
+            ), (
+                "t.csv",
+                "packet,0,f1\n",
+            )],
             1,
             "netcalc: t.csv: T3 row 1\n",
         ),
         // a_stall_of_10
         (
             "netcalc simulate n.toml t.csv",
-            &[
-                (
-                    "n.toml",
-                    r#"[[server]]
+            &[(
+                "n.toml",
+                r#"[[server]]
 name = "s1"
 rate = 100
 service = { kind = "latency", latency = 10 }
@@ -2136,14 +2086,12 @@ packet = 12000
 arrival = { kind = "bucket", burst = 12000, rate = 10 }
 path = ["s1"]
 "#,
-                ),
-                (
-                    "t.csv",
-                    r#"packet,0,f1,12000
+            ), (
+                "t.csv",
+                r#"packet,0,f1,12000
 stall,s1,0,10
 "#,
-                ),
-            ],
+            )],
             0,
             r#"servers 1 flows 1
 run packets 1 end 130
@@ -2155,10 +2103,9 @@ breach none
         // a_stall_of_11
         (
             "netcalc simulate n.toml t.csv",
-            &[
-                (
-                    "n.toml",
-                    r#"[[server]]
+            &[(
+                "n.toml",
+                r#"[[server]]
 name = "s1"
 rate = 100
 service = { kind = "latency", latency = 10 }
@@ -2169,14 +2116,12 @@ packet = 12000
 arrival = { kind = "bucket", burst = 12000, rate = 10 }
 path = ["s1"]
 "#,
-                ),
-                (
-                    "t.csv",
-                    r#"packet,0,f1,12000
+            ), (
+                "t.csv",
+                r#"packet,0,f1,12000
 stall,s1,0,11
 "#,
-                ),
-            ],
+            )],
             9,
             r#"servers 1 flows 1
 run packets 1 end 131
@@ -2188,10 +2133,9 @@ breach service s1 0 11
         // a_stall_of_an_unknown_server
         (
             "netcalc simulate n.toml t.csv",
-            &[
-                (
-                    "n.toml",
-                    r#"[[server]]
+            &[(
+                "n.toml",
+                r#"[[server]]
 name = "s1"
 rate = 100
 service = { kind = "latency", latency = 10 }
@@ -2202,24 +2146,21 @@ packet = 12000
 arrival = { kind = "bucket", burst = 12000, rate = 10 }
 path = ["s1"]
 "#,
-                ),
-                (
-                    "t.csv",
-                    r#"packet,0,f1,1
+            ), (
+                "t.csv",
+                r#"packet,0,f1,1
 stall,s9,0,1
 "#,
-                ),
-            ],
+            )],
             1,
             "netcalc: t.csv: T5 row 2\n",
         ),
         // a_stall_that_ends_where_it_begins
         (
             "netcalc simulate n.toml t.csv",
-            &[
-                (
-                    "n.toml",
-                    r#"[[server]]
+            &[(
+                "n.toml",
+                r#"[[server]]
 name = "s1"
 rate = 100
 service = { kind = "latency", latency = 10 }
@@ -2230,19 +2171,49 @@ packet = 12000
 arrival = { kind = "bucket", burst = 12000, rate = 10 }
 path = ["s1"]
 "#,
-                ),
-                ("t.csv", "stall,s1,1,1\n"),
-            ],
+            ), (
+                "t.csv",
+                "stall,s1,1,1\n",
+            )],
             1,
             "netcalc: t.csv: T4 row 1\n",
+        ),
+        // a_stall_that_ends_while_the_gate_is_closed
+        (
+            "netcalc simulate n.toml t.csv",
+            &[(
+                "n.toml",
+                r#"[[server]]
+name = "g"
+rate = 100
+service = { kind = "gate", cycle = 1000, slot = 250 }
+
+[[flow]]
+name = "f"
+packet = 24000
+arrival = { kind = "stair", period = 1500, jitter = 0 }
+path = ["g"]
+"#,
+            ), (
+                "t.csv",
+                r#"packet,0,f,24000
+stall,g,0,300
+"#,
+            )],
+            9,
+            r#"servers 1 flows 1
+run packets 1 end 1240
+worst f 1240 bound 990
+peak g 0 24000 bound 47000
+breach service g 0 1000
+"#,
         ),
         // a_time_too_wide
         (
             "netcalc simulate n.toml t.csv",
-            &[
-                (
-                    "n.toml",
-                    r#"[[server]]
+            &[(
+                "n.toml",
+                r#"[[server]]
 name = "s1"
 rate = 100
 service = { kind = "latency", latency = 10 }
@@ -2253,22 +2224,19 @@ packet = 12000
 arrival = { kind = "bucket", burst = 12000, rate = 10 }
 path = ["s1"]
 "#,
-                ),
-                (
-                    "t.csv",
-                    "packet,1/1329227995784915872903807060280344576,f1,12000\n",
-                ),
-            ],
+            ), (
+                "t.csv",
+                "packet,1/1329227995784915872903807060280344576,f1,12000\n",
+            )],
             6,
             "netcalc: too wide: simulation\n",
         ),
         // a_trace_fault_goes_before_a_cycle
         (
             "netcalc simulate n.toml t.csv",
-            &[
-                (
-                    "n.toml",
-                    r#"[[server]]
+            &[(
+                "n.toml",
+                r#"[[server]]
 name = "s1"
 rate = 100
 service = { kind = "latency", latency = 10 }
@@ -2290,19 +2258,19 @@ packet = 6000
 arrival = { kind = "bucket", burst = 6000, rate = 5 }
 path = ["s2", "s1"]
 "#,
-                ),
-                ("t.csv", "pocket\n"),
-            ],
+            ), (
+                "t.csv",
+                "pocket\n",
+            )],
             1,
             "netcalc: t.csv: T2 row 1\n",
         ),
         // an_empty_trace
         (
             "netcalc simulate n.toml t.csv",
-            &[
-                (
-                    "n.toml",
-                    r#"[[server]]
+            &[(
+                "n.toml",
+                r#"[[server]]
 name = "s1"
 rate = 100
 service = { kind = "latency", latency = 10 }
@@ -2313,9 +2281,10 @@ packet = 12000
 arrival = { kind = "bucket", burst = 12000, rate = 10 }
 path = ["s1"]
 "#,
-                ),
-                ("t.csv", ""),
-            ],
+            ), (
+                "t.csv",
+                "",
+            )],
             0,
             r#"servers 1 flows 1
 run packets 0 end 0
@@ -2327,10 +2296,9 @@ breach none
         // an_unknown_flow
         (
             "netcalc simulate n.toml t.csv",
-            &[
-                (
-                    "n.toml",
-                    r#"[[server]]
+            &[(
+                "n.toml",
+                r#"[[server]]
 name = "s1"
 rate = 100
 service = { kind = "latency", latency = 10 }
@@ -2341,19 +2309,19 @@ packet = 12000
 arrival = { kind = "bucket", burst = 12000, rate = 10 }
 path = ["s1"]
 "#,
-                ),
-                ("t.csv", "packet,0,f9,1\n"),
-            ],
+            ), (
+                "t.csv",
+                "packet,0,f9,1\n",
+            )],
             1,
             "netcalc: t.csv: T5 row 1\n",
         ),
         // avionics
         (
             "netcalc simulate n.toml t.csv",
-            &[
-                (
-                    "n.toml",
-                    r#"[[server]]
+            &[(
+                "n.toml",
+                r#"[[server]]
 name = "sw1"
 rate = 100
 service = { kind = "latency", latency = 16 }
@@ -2381,15 +2349,13 @@ packet = 12000
 arrival = { kind = "stair", period = 4000, jitter = 0 }
 path = ["sw1", "sw2"]
 "#,
-                ),
-                (
-                    "t.csv",
-                    r#"packet,0,a,4000
+            ), (
+                "t.csv",
+                r#"packet,0,a,4000
 packet,0,b,8000
 packet,0,c,12000
 "#,
-                ),
-            ],
+            )],
             0,
             r#"servers 2 flows 3
 run packets 3 end 360
@@ -2404,10 +2370,9 @@ breach none
         // deficits_after_a_visit
         (
             "netcalc simulate n.toml t.csv",
-            &[
-                (
-                    "n.toml",
-                    r#"[[server]]
+            &[(
+                "n.toml",
+                r#"[[server]]
 name = "s1"
 rate = 100
 service = { kind = "latency", latency = 10 }
@@ -2426,15 +2391,13 @@ packet = 6000
 arrival = { kind = "bucket", burst = 6000, rate = 5 }
 path = ["s1:1"]
 "#,
-                ),
-                (
-                    "t.csv",
-                    r#"packet,0,f1,12000
+            ), (
+                "t.csv",
+                r#"packet,0,f1,12000
 packet,0,f1,12000
 packet,0,f2,6000
 "#,
-                ),
-            ],
+            )],
             9,
             r#"servers 1 flows 2
 run packets 3 end 300
@@ -2448,10 +2411,9 @@ breach arrival f1 0 1
         // deficits_in_turn
         (
             "netcalc simulate n.toml t.csv",
-            &[
-                (
-                    "n.toml",
-                    r#"[[server]]
+            &[(
+                "n.toml",
+                r#"[[server]]
 name = "s1"
 rate = 100
 service = { kind = "latency", latency = 10 }
@@ -2470,14 +2432,12 @@ packet = 6000
 arrival = { kind = "bucket", burst = 6000, rate = 5 }
 path = ["s1:1"]
 "#,
-                ),
-                (
-                    "t.csv",
-                    r#"packet,0,f1,12000
+            ), (
+                "t.csv",
+                r#"packet,0,f1,12000
 packet,0,f2,6000
 "#,
-                ),
-            ],
+            )],
             0,
             r#"servers 1 flows 2
 run packets 2 end 180
@@ -2491,10 +2451,9 @@ breach none
         // gates_whose_spans_do_not_cancel
         (
             "netcalc simulate n.toml t.csv",
-            &[
-                (
-                    "n.toml",
-                    r#"[[server]]
+            &[(
+                "n.toml",
+                r#"[[server]]
 name = "g1"
 rate = 1
 service = { kind = "gate", cycle = 1099511627792, slot = 1099511627791 }
@@ -2582,10 +2541,9 @@ packet = 1
 arrival = { kind = "bucket", burst = 1, rate = 0 }
 path = ["g8"]
 "#,
-                ),
-                (
-                    "t.csv",
-                    r#"packet,0,f1,1
+            ), (
+                "t.csv",
+                r#"packet,0,f1,1
 packet,0,f2,1
 packet,0,f3,1
 packet,0,f4,1
@@ -2594,8 +2552,7 @@ packet,0,f6,1
 packet,0,f7,1
 packet,0,f8,1
 "#,
-                ),
-            ],
+            )],
             6,
             "netcalc: too wide: simulation\n",
         ),
@@ -2642,10 +2599,9 @@ path = ["s1"]
         // sixteen_gates_whose_spans_cancel
         (
             "netcalc simulate n.toml t.csv",
-            &[
-                (
-                    "n.toml",
-                    r#"[[server]]
+            &[(
+                "n.toml",
+                r#"[[server]]
 name = "g1"
 rate = 1
 service = { kind = "gate", cycle = 1099511627792, slot = 1099511627791 }
@@ -2821,10 +2777,9 @@ packet = 1
 arrival = { kind = "bucket", burst = 1, rate = 0 }
 path = ["g16"]
 "#,
-                ),
-                (
-                    "t.csv",
-                    r#"packet,0,f1,1
+            ), (
+                "t.csv",
+                r#"packet,0,f1,1
 packet,0,f2,1
 packet,0,f3,1
 packet,0,f4,1
@@ -2841,8 +2796,7 @@ packet,0,f14,1
 packet,0,f15,1
 packet,0,f16,1
 "#,
-                ),
-            ],
+            )],
             0,
             r#"servers 16 flows 16
 run packets 16 end 1
@@ -2884,10 +2838,9 @@ breach none
         // the_first_flow_first
         (
             "netcalc simulate n.toml t.csv",
-            &[
-                (
-                    "n.toml",
-                    r#"[[server]]
+            &[(
+                "n.toml",
+                r#"[[server]]
 name = "s1"
 rate = 100
 service = { kind = "latency", latency = 10 }
@@ -2904,14 +2857,12 @@ packet = 6000
 arrival = { kind = "bucket", burst = 6000, rate = 5 }
 path = ["s1"]
 "#,
-                ),
-                (
-                    "t.csv",
-                    r#"packet,0,f1,12000
+            ), (
+                "t.csv",
+                r#"packet,0,f1,12000
 packet,0,f2,6000
 "#,
-                ),
-            ],
+            )],
             0,
             r#"servers 1 flows 2
 run packets 2 end 180
@@ -2924,10 +2875,9 @@ breach none
         // the_second_flow_first
         (
             "netcalc simulate n.toml t.csv",
-            &[
-                (
-                    "n.toml",
-                    r#"[[server]]
+            &[(
+                "n.toml",
+                r#"[[server]]
 name = "s1"
 rate = 100
 service = { kind = "latency", latency = 10 }
@@ -2944,14 +2894,12 @@ packet = 6000
 arrival = { kind = "bucket", burst = 6000, rate = 5 }
 path = ["s1"]
 "#,
-                ),
-                (
-                    "t.csv",
-                    r#"packet,0,f2,6000
+            ), (
+                "t.csv",
+                r#"packet,0,f2,6000
 packet,0,f1,12000
 "#,
-                ),
-            ],
+            )],
             0,
             r#"servers 1 flows 2
 run packets 2 end 180
@@ -2964,10 +2912,9 @@ breach none
         // the_urgent_queue_goes_first
         (
             "netcalc simulate n.toml t.csv",
-            &[
-                (
-                    "n.toml",
-                    r#"[[server]]
+            &[(
+                "n.toml",
+                r#"[[server]]
 name = "s1"
 rate = 100
 service = { kind = "latency", latency = 10 }
@@ -2986,14 +2933,12 @@ packet = 6000
 arrival = { kind = "bucket", burst = 6000, rate = 5 }
 path = ["s1:0"]
 "#,
-                ),
-                (
-                    "t.csv",
-                    r#"packet,0,f1,12000
+            ), (
+                "t.csv",
+                r#"packet,0,f1,12000
 packet,0,f2,6000
 "#,
-                ),
-            ],
+            )],
             0,
             r#"servers 1 flows 2
 run packets 2 end 180
@@ -3007,10 +2952,9 @@ breach none
         // three_packets_whose_neighbours_keep_the_curve
         (
             "netcalc simulate n.toml t.csv",
-            &[
-                (
-                    "n.toml",
-                    r#"[[server]]
+            &[(
+                "n.toml",
+                r#"[[server]]
 name = "s1"
 rate = 100
 service = { kind = "latency", latency = 10 }
@@ -3021,15 +2965,13 @@ packet = 12000
 arrival = { kind = "bucket", burst = 12000, rate = 10 }
 path = ["s1"]
 "#,
-                ),
-                (
-                    "t.csv",
-                    r#"packet,0,f1,6000
+            ), (
+                "t.csv",
+                r#"packet,0,f1,6000
 packet,100,f1,6000
 packet,200,f1,6000
 "#,
-                ),
-            ],
+            )],
             9,
             r#"servers 1 flows 1
 run packets 3 end 260
@@ -3041,10 +2983,9 @@ breach arrival f1 0 2
         // two_gates_whose_spans_cancel
         (
             "netcalc simulate n.toml t.csv",
-            &[
-                (
-                    "n.toml",
-                    r#"[[server]]
+            &[(
+                "n.toml",
+                r#"[[server]]
 name = "g1"
 rate = 1
 service = { kind = "gate", cycle = "1267650600228229401496703205377", slot = "1267650600228229401496703205376" }
@@ -3066,14 +3007,12 @@ packet = 1
 arrival = { kind = "bucket", burst = 1, rate = 0 }
 path = ["g2"]
 "#,
-                ),
-                (
-                    "t.csv",
-                    r#"packet,0,f1,1
+            ), (
+                "t.csv",
+                r#"packet,0,f1,1
 packet,0,f2,1
 "#,
-                ),
-            ],
+            )],
             0,
             r#"servers 2 flows 2
 run packets 2 end 1
@@ -3087,10 +3026,9 @@ breach none
         // two_hops_with_links
         (
             "netcalc simulate n.toml t.csv",
-            &[
-                (
-                    "n.toml",
-                    r#"[[server]]
+            &[(
+                "n.toml",
+                r#"[[server]]
 name = "s1"
 rate = 100
 service = { kind = "latency", latency = 10 }
@@ -3108,9 +3046,10 @@ packet = 12000
 arrival = { kind = "bucket", burst = 12000, rate = 10 }
 path = ["s1", "s2"]
 "#,
-                ),
-                ("t.csv", "packet,0,f1,12000\n"),
-            ],
+            ), (
+                "t.csv",
+                "packet,0,f1,12000\n",
+            )],
             0,
             r#"servers 2 flows 1
 run packets 1 end 245
@@ -3123,10 +3062,9 @@ breach none
         // two_packets_at_0
         (
             "netcalc simulate n.toml t.csv",
-            &[
-                (
-                    "n.toml",
-                    r#"[[server]]
+            &[(
+                "n.toml",
+                r#"[[server]]
 name = "s1"
 rate = 100
 service = { kind = "latency", latency = 10 }
@@ -3137,14 +3075,12 @@ packet = 12000
 arrival = { kind = "bucket", burst = 12000, rate = 10 }
 path = ["s1"]
 "#,
-                ),
-                (
-                    "t.csv",
-                    r#"packet,0,f1,12000
+            ), (
+                "t.csv",
+                r#"packet,0,f1,12000
 packet,0,f1,12000
 "#,
-                ),
-            ],
+            )],
             9,
             r#"servers 1 flows 1
 run packets 2 end 240
