@@ -3,13 +3,15 @@
     python3 bench/simulation.py NETCALC
 
 NETCALC is the program. The network has 5 servers in a row with links between them, of all three disciplines, the last
-of them a gate, and four flows over all of them; a trace has 1,000 or 10,000 packets, which come at about the rate of
-the servers. Its flows keep their arrival curves, in one network stairs and in another token buckets, and in one more
-each second one breaks its stair: so what the look for the first breach takes is seen apart, in the difference. A line a
-trace: the curves, its packets, the steps of its run, the status (0 where all curves are kept, 9 where not), the seconds
-that the run took, the steps a second, and how many times as long as a step of the trace before it. The steps are an entry, and at each
-of the 5 servers a work, a leaving and, but for the first, an arrival; turns to a queue are not counted, nor that a gate
-may close on a work. Nothing is asserted about time. Where the program has no command `simulate`, one line says so.
+of them a gate, and four flows over all of them; a trace has 1,000 or 9,999 packets, one row less than a trace may
+have, which come at about the rate of the servers. Its flows keep their arrival curves, in one network stairs and in
+another token buckets, and in one more each second one breaks its stair: so what the look for the first breach takes
+is seen apart, in the difference. With token buckets the gate is also looked at, which is passed over else: it stalls
+once, while it is closed, and so keeps its curve still. A line a trace: the curves, its packets, the steps of its run,
+the status (0 where all curves are kept, 9 where not), the seconds that the run took, the steps a second, and how many
+times as long as a step of the trace before it. The steps are an entry, and at each of the 5 servers a work, a leaving
+and, but for the first, an arrival; turns to a queue are not counted, nor that a gate may close on a work. Nothing is
+asserted about time. Where the program has no command `simulate`, one line says so.
 """
 
 import subprocess
@@ -28,6 +30,13 @@ ARRIVALS = {
     "kept stairs": '{ kind = "stair", period = 180, jitter = 0 }',
     "kept buckets": '{ kind = "bucket", rate = "12000/180", burst = 12000 }',
     "broken stairs": '{ kind = "stair", period = 1000, jitter = 0 }',
+}
+# the curves of each case, and the rows that come after its packets
+CASES = {
+    "kept stairs": ("kept stairs", ""),
+    "kept buckets": ("kept buckets", ""),
+    "kept buckets, a gate looked at": ("kept buckets", f"stall,s{HOPS - 1},990,1000\n"),
+    "broken stairs": ("broken stairs", ""),
 }
 USAGE = 2
 
@@ -79,11 +88,11 @@ def network_text(arrival: str) -> str:
     return servers + "".join(flow_text(flow, arrival) for flow in range(FLOWS))
 
 
-def time_traces(program: str, net: Path, trace: Path, curves: str) -> bool:
+def time_traces(program: str, net: Path, trace: Path, curves: str, stalls: str) -> bool:
     """A line for each trace; false where the program has no such command."""
     before = None
-    for packets in (1_000, 10_000):
-        trace.write_text(trace_text(packets))
+    for packets in (1_000, 9_999):
+        trace.write_text(trace_text(packets) + stalls)
         began = time.monotonic()
         run = subprocess.run([program, "simulate", str(net), str(trace)], capture_output=True, text=True)
         took = time.monotonic() - began
@@ -105,9 +114,9 @@ def main() -> None:
     with tempfile.TemporaryDirectory() as folder:
         net = Path(folder) / "n.toml"
         trace = Path(folder) / "t.csv"
-        for curves, arrival in ARRIVALS.items():
-            net.write_text(network_text(arrival))
-            if not time_traces(program, net, trace, curves):
+        for case, (curves, stalls) in CASES.items():
+            net.write_text(network_text(ARRIVALS[curves]))
+            if not time_traces(program, net, trace, case, stalls):
                 print("the program has no command simulate")
                 return
 

@@ -70,7 +70,10 @@ queue s1 0 delay 0 backlog 0
         // an_empty_file
         (
             "netcalc analyse n.toml",
-            &[("n.toml", "")],
+            &[(
+                "n.toml",
+                "",
+            )],
             0,
             "servers 0 flows 0\n",
         ),
@@ -283,7 +286,10 @@ show bucket(1, -1)
         // a_byte_that_is_not_plain
         (
             "netcalc curve s.curve",
-            &[("s.curve", "rate bucket(1, 2)\nrate\tzero\n")],
+            &[(
+                "s.curve",
+                "rate bucket(1, 2)\nrate\tzero\n",
+            )],
             1,
             "netcalc: s.curve: C1 line 2\n",
         ),
@@ -300,7 +306,10 @@ show bucket(1, -1)
         // a_kind_with_one_number
         (
             "netcalc curve s.curve",
-            &[("s.curve", "show bucket(1)\n")],
+            &[(
+                "s.curve",
+                "show bucket(1)\n",
+            )],
             1,
             "netcalc: s.curve: C2 line 1\n",
         ),
@@ -331,14 +340,20 @@ let a = zero
         // a_name_not_given
         (
             "netcalc curve s.curve",
-            &[("s.curve", "value x at 1\n")],
+            &[(
+                "s.curve",
+                "value x at 1\n",
+            )],
             1,
             "netcalc: s.curve: C6 line 1\n",
         ),
         // a_number_that_is_none
         (
             "netcalc curve s.curve",
-            &[("s.curve", "show bucket(1, q)\n")],
+            &[(
+                "s.curve",
+                "show bucket(1, q)\n",
+            )],
             1,
             "netcalc: s.curve: C3 line 1\n",
         ),
@@ -412,7 +427,15 @@ delay 880/3
             "netcalc: too wide: line 1\n",
         ),
         // an_empty_script
-        ("netcalc curve s.curve", &[("s.curve", "")], 0, ""),
+        (
+            "netcalc curve s.curve",
+            &[(
+                "s.curve",
+                "",
+            )],
+            0,
+            "",
+        ),
         // eight_lines
         (
             "netcalc curve s.curve",
@@ -1753,7 +1776,10 @@ path = ["s9"]
         // not_toml
         (
             "netcalc analyse n.toml",
-            &[("n.toml", "[[server")],
+            &[(
+                "n.toml",
+                "[[server",
+            )],
             1,
             "netcalc: n.toml: M1\n",
         ),
@@ -1977,10 +2003,9 @@ fn measures(rt: HostRuntime) -> Result<(), Fail> {
         // a_breach_is_measured_too
         (
             "netcalc measure n.toml t.csv f1 10",
-            &[
-                (
-                    "n.toml",
-                    r#"[[server]]
+            &[(
+                "n.toml",
+                r#"[[server]]
 name = "s1"
 rate = 100
 service = { kind = "latency", latency = 10 }
@@ -1991,14 +2016,12 @@ packet = 12000
 arrival = { kind = "bucket", burst = 12000, rate = 10 }
 path = ["s1"]
 "#,
-                ),
-                (
-                    "t.csv",
-                    r#"packet,0,f1,12000
+            ), (
+                "t.csv",
+                r#"packet,0,f1,12000
 packet,0,f1,12000
 "#,
-                ),
-            ],
+            )],
             0,
             r#"flow f1 packets 2
 step 0 24000
@@ -2008,10 +2031,9 @@ burst 24000 rate 10
         // a_curve_too_wide
         (
             "netcalc measure n.toml t.csv f9 1",
-            &[
-                (
-                    "n.toml",
-                    r#"[[server]]
+            &[(
+                "n.toml",
+                r#"[[server]]
 name = "s1"
 rate = 100
 service = { kind = "latency", latency = 10 }
@@ -2021,19 +2043,19 @@ packet = 12000
 arrival = { kind = "stair", period = "1/1329227995784915872903807060280344576", jitter = 0 }
 path = ["s1"]
 "#,
-                ),
-                ("t.csv", "packet,0,f9,4000\n"),
-            ],
+            ), (
+                "t.csv",
+                "packet,0,f9,4000\n",
+            )],
             6,
             "netcalc: too wide: curve flow[0].arrival\n",
         ),
         // a_cycle_is_no_matter
         (
             "netcalc measure n.toml t.csv f1 10",
-            &[
-                (
-                    "n.toml",
-                    r#"[[server]]
+            &[(
+                "n.toml",
+                r#"[[server]]
 name = "s1"
 rate = 100
 service = { kind = "latency", latency = 10 }
@@ -2052,14 +2074,12 @@ packet = 6000
 arrival = { kind = "bucket", burst = 6000, rate = 5 }
 path = ["s2", "s1"]
 "#,
-                ),
-                (
-                    "t.csv",
-                    r#"packet,0,f1,100
+            ), (
+                "t.csv",
+                r#"packet,0,f1,100
 packet,2,f1,100
 "#,
-                ),
-            ],
+            )],
             0,
             r#"flow f1 packets 2
 step 0 100
@@ -2070,10 +2090,9 @@ burst 180 rate 10
         // a_flow_that_begins_as_a_flag_does
         (
             "netcalc measure n.toml t.csv -f1 1",
-            &[
-                (
-                    "n.toml",
-                    r#"[[server]]
+            &[(
+                "n.toml",
+                r#"[[server]]
 name = "s1"
 rate = 100
 service = { kind = "latency", latency = 10 }
@@ -2084,26 +2103,23 @@ packet = 12000
 arrival = { kind = "bucket", burst = 12000, rate = 10 }
 path = ["s1"]
 "#,
-                ),
-                (
-                    "t.csv",
-                    r#"packet,0,f1,4000
+            ), (
+                "t.csv",
+                r#"packet,0,f1,4000
 packet,10,f1,4000
 packet,10,f1,2000
 packet,30,f1,6000
 "#,
-                ),
-            ],
+            )],
             2,
             "netcalc: usage: netcalc analyse NET [--json], edit NET EDITS [--json], simulate NET TRACE, exercise N, measure NET TRACE FLOW RATE, curve FILE\n",
         ),
         // a_rate_below_0
         (
             "netcalc measure n.toml t.csv f1 -1",
-            &[
-                (
-                    "n.toml",
-                    r#"[[server]]
+            &[(
+                "n.toml",
+                r#"[[server]]
 name = "s1"
 rate = 100
 service = { kind = "latency", latency = 10 }
@@ -2114,26 +2130,23 @@ packet = 12000
 arrival = { kind = "bucket", burst = 12000, rate = 10 }
 path = ["s1"]
 "#,
-                ),
-                (
-                    "t.csv",
-                    r#"packet,0,f1,4000
+            ), (
+                "t.csv",
+                r#"packet,0,f1,4000
 packet,10,f1,4000
 packet,10,f1,2000
 packet,30,f1,6000
 "#,
-                ),
-            ],
+            )],
             2,
             "netcalc: usage: netcalc analyse NET [--json], edit NET EDITS [--json], simulate NET TRACE, exercise N, measure NET TRACE FLOW RATE, curve FILE\n",
         ),
         // a_rate_of_0
         (
             "netcalc measure n.toml t.csv f1 0",
-            &[
-                (
-                    "n.toml",
-                    r#"[[server]]
+            &[(
+                "n.toml",
+                r#"[[server]]
 name = "s1"
 rate = 100
 service = { kind = "latency", latency = 10 }
@@ -2144,16 +2157,14 @@ packet = 12000
 arrival = { kind = "bucket", burst = 12000, rate = 10 }
 path = ["s1"]
 "#,
-                ),
-                (
-                    "t.csv",
-                    r#"packet,0,f1,4000
+            ), (
+                "t.csv",
+                r#"packet,0,f1,4000
 packet,10,f1,4000
 packet,10,f1,2000
 packet,30,f1,6000
 "#,
-                ),
-            ],
+            )],
             0,
             r#"flow f1 packets 4
 step 0 6000
@@ -2166,10 +2177,9 @@ burst 16000 rate 0
         // a_rate_past_all_numbers
         (
             "netcalc measure n.toml t.csv f1 170141183460469231731687303715884105728",
-            &[
-                (
-                    "n.toml",
-                    r#"[[server]]
+            &[(
+                "n.toml",
+                r#"[[server]]
 name = "s1"
 rate = 100
 service = { kind = "latency", latency = 10 }
@@ -2180,26 +2190,23 @@ packet = 12000
 arrival = { kind = "bucket", burst = 12000, rate = 10 }
 path = ["s1"]
 "#,
-                ),
-                (
-                    "t.csv",
-                    r#"packet,0,f1,4000
+            ), (
+                "t.csv",
+                r#"packet,0,f1,4000
 packet,10,f1,4000
 packet,10,f1,2000
 packet,30,f1,6000
 "#,
-                ),
-            ],
+            )],
             2,
             "netcalc: usage: netcalc analyse NET [--json], edit NET EDITS [--json], simulate NET TRACE, exercise N, measure NET TRACE FLOW RATE, curve FILE\n",
         ),
         // a_rate_that_is_a_fraction
         (
             "netcalc measure n.toml t.csv f1 0700/2",
-            &[
-                (
-                    "n.toml",
-                    r#"[[server]]
+            &[(
+                "n.toml",
+                r#"[[server]]
 name = "s1"
 rate = 100
 service = { kind = "latency", latency = 10 }
@@ -2210,16 +2217,14 @@ packet = 12000
 arrival = { kind = "bucket", burst = 12000, rate = 10 }
 path = ["s1"]
 "#,
-                ),
-                (
-                    "t.csv",
-                    r#"packet,0,f1,1000
+            ), (
+                "t.csv",
+                r#"packet,0,f1,1000
 packet,1/3,f1,1000
 packet,2/3,f1,2000
 packet,7/2,f1,1500
 "#,
-                ),
-            ],
+            )],
             0,
             r#"flow f1 packets 4
 step 0 2000
@@ -2233,10 +2238,9 @@ burst 4275 rate 350
         // a_rate_that_is_minus_0
         (
             "netcalc measure n.toml t.csv f1 -0",
-            &[
-                (
-                    "n.toml",
-                    r#"[[server]]
+            &[(
+                "n.toml",
+                r#"[[server]]
 name = "s1"
 rate = 100
 service = { kind = "latency", latency = 10 }
@@ -2247,26 +2251,23 @@ packet = 12000
 arrival = { kind = "bucket", burst = 12000, rate = 10 }
 path = ["s1"]
 "#,
-                ),
-                (
-                    "t.csv",
-                    r#"packet,0,f1,4000
+            ), (
+                "t.csv",
+                r#"packet,0,f1,4000
 packet,10,f1,4000
 packet,10,f1,2000
 packet,30,f1,6000
 "#,
-                ),
-            ],
+            )],
             2,
             "netcalc: usage: netcalc analyse NET [--json], edit NET EDITS [--json], simulate NET TRACE, exercise N, measure NET TRACE FLOW RATE, curve FILE\n",
         ),
         // a_rate_that_is_none
         (
             "netcalc measure n.toml t.csv f1 1.5",
-            &[
-                (
-                    "n.toml",
-                    r#"[[server]]
+            &[(
+                "n.toml",
+                r#"[[server]]
 name = "s1"
 rate = 100
 service = { kind = "latency", latency = 10 }
@@ -2277,26 +2278,23 @@ packet = 12000
 arrival = { kind = "bucket", burst = 12000, rate = 10 }
 path = ["s1"]
 "#,
-                ),
-                (
-                    "t.csv",
-                    r#"packet,0,f1,4000
+            ), (
+                "t.csv",
+                r#"packet,0,f1,4000
 packet,10,f1,4000
 packet,10,f1,2000
 packet,30,f1,6000
 "#,
-                ),
-            ],
+            )],
             2,
             "netcalc: usage: netcalc analyse NET [--json], edit NET EDITS [--json], simulate NET TRACE, exercise N, measure NET TRACE FLOW RATE, curve FILE\n",
         ),
         // a_rate_that_is_too_wide
         (
             "netcalc measure n.toml t.csv f1 1329227995784915872903807060280344576",
-            &[
-                (
-                    "n.toml",
-                    r#"[[server]]
+            &[(
+                "n.toml",
+                r#"[[server]]
 name = "s1"
 rate = 100
 service = { kind = "latency", latency = 10 }
@@ -2307,26 +2305,23 @@ packet = 12000
 arrival = { kind = "bucket", burst = 12000, rate = 10 }
 path = ["s1"]
 "#,
-                ),
-                (
-                    "t.csv",
-                    r#"packet,0,f1,4000
+            ), (
+                "t.csv",
+                r#"packet,0,f1,4000
 packet,10,f1,4000
 packet,10,f1,2000
 packet,30,f1,6000
 "#,
-                ),
-            ],
+            )],
             6,
             "netcalc: too wide: burst\n",
         ),
         // a_rate_with_a_part_of_0
         (
             "netcalc measure n.toml t.csv f1 1/0",
-            &[
-                (
-                    "n.toml",
-                    r#"[[server]]
+            &[(
+                "n.toml",
+                r#"[[server]]
 name = "s1"
 rate = 100
 service = { kind = "latency", latency = 10 }
@@ -2337,26 +2332,23 @@ packet = 12000
 arrival = { kind = "bucket", burst = 12000, rate = 10 }
 path = ["s1"]
 "#,
-                ),
-                (
-                    "t.csv",
-                    r#"packet,0,f1,4000
+            ), (
+                "t.csv",
+                r#"packet,0,f1,4000
 packet,10,f1,4000
 packet,10,f1,2000
 packet,30,f1,6000
 "#,
-                ),
-            ],
+            )],
             2,
             "netcalc: usage: netcalc analyse NET [--json], edit NET EDITS [--json], simulate NET TRACE, exercise N, measure NET TRACE FLOW RATE, curve FILE\n",
         ),
         // a_rule_goes_before_a_trace_fault
         (
             "netcalc measure n.toml t.csv f1 1",
-            &[
-                (
-                    "n.toml",
-                    r#"[[server]]
+            &[(
+                "n.toml",
+                r#"[[server]]
 name = "s1"
 rate = 0
 service = { kind = "latency", latency = 10 }
@@ -2367,19 +2359,19 @@ packet = 12000
 arrival = { kind = "bucket", burst = 12000, rate = 10 }
 path = ["s1"]
 "#,
-                ),
-                ("t.csv", "packet,0,f9,4000\n"),
-            ],
+            ), (
+                "t.csv",
+                "packet,0,f9,4000\n",
+            )],
             1,
             "netcalc: n.toml: M6 server[0].rate\n",
         ),
         // a_time_at_the_limit
         (
             "netcalc measure n.toml t.csv f1 1",
-            &[
-                (
-                    "n.toml",
-                    r#"[[server]]
+            &[(
+                "n.toml",
+                r#"[[server]]
 name = "s1"
 rate = 100
 service = { kind = "latency", latency = 10 }
@@ -2390,22 +2382,19 @@ packet = 12000
 arrival = { kind = "bucket", burst = 12000, rate = 10 }
 path = ["s1"]
 "#,
-                ),
-                (
-                    "t.csv",
-                    "packet,1/10384593717069655257060992658440192,f1,1\n",
-                ),
-            ],
+            ), (
+                "t.csv",
+                "packet,1/10384593717069655257060992658440192,f1,1\n",
+            )],
             6,
             "netcalc: too wide: measure\n",
         ),
         // a_time_below_the_limit
         (
             "netcalc measure n.toml t.csv f1 1",
-            &[
-                (
-                    "n.toml",
-                    r#"[[server]]
+            &[(
+                "n.toml",
+                r#"[[server]]
 name = "s1"
 rate = 100
 service = { kind = "latency", latency = 10 }
@@ -2416,12 +2405,10 @@ packet = 12000
 arrival = { kind = "bucket", burst = 12000, rate = 10 }
 path = ["s1"]
 "#,
-                ),
-                (
-                    "t.csv",
-                    "packet,1/5192296858534827628530496329220096,f1,1\n",
-                ),
-            ],
+            ), (
+                "t.csv",
+                "packet,1/5192296858534827628530496329220096,f1,1\n",
+            )],
             0,
             r#"flow f1 packets 1
 step 0 1
@@ -2431,10 +2418,9 @@ burst 1 rate 1
         // a_trace_fault_goes_before_an_unknown_flow
         (
             "netcalc measure n.toml t.csv f9 1",
-            &[
-                (
-                    "n.toml",
-                    r#"[[server]]
+            &[(
+                "n.toml",
+                r#"[[server]]
 name = "s1"
 rate = 100
 service = { kind = "latency", latency = 10 }
@@ -2445,19 +2431,19 @@ packet = 12000
 arrival = { kind = "bucket", burst = 12000, rate = 10 }
 path = ["s1"]
 "#,
-                ),
-                ("t.csv", "packet,0,f9,4000\n"),
-            ],
+            ), (
+                "t.csv",
+                "packet,0,f9,4000\n",
+            )],
             1,
             "netcalc: t.csv: T5 row 1\n",
         ),
         // a_window_that_holds_no_more_is_no_step
         (
             "netcalc measure n.toml t.csv f1 100",
-            &[
-                (
-                    "n.toml",
-                    r#"[[server]]
+            &[(
+                "n.toml",
+                r#"[[server]]
 name = "s1"
 rate = 100
 service = { kind = "latency", latency = 10 }
@@ -2468,15 +2454,13 @@ packet = 12000
 arrival = { kind = "bucket", burst = 12000, rate = 10 }
 path = ["s1"]
 "#,
-                ),
-                (
-                    "t.csv",
-                    r#"packet,0,f1,6000
+            ), (
+                "t.csv",
+                r#"packet,0,f1,6000
 packet,10,f1,1000
 packet,40,f1,6000
 "#,
-                ),
-            ],
+            )],
             0,
             r#"flow f1 packets 3
 step 0 6000
@@ -2488,10 +2472,9 @@ burst 9000 rate 100
         // a_word_too_many
         (
             "netcalc measure n.toml t.csv f1 1 1",
-            &[
-                (
-                    "n.toml",
-                    r#"[[server]]
+            &[(
+                "n.toml",
+                r#"[[server]]
 name = "s1"
 rate = 100
 service = { kind = "latency", latency = 10 }
@@ -2502,26 +2485,23 @@ packet = 12000
 arrival = { kind = "bucket", burst = 12000, rate = 10 }
 path = ["s1"]
 "#,
-                ),
-                (
-                    "t.csv",
-                    r#"packet,0,f1,4000
+            ), (
+                "t.csv",
+                r#"packet,0,f1,4000
 packet,10,f1,4000
 packet,10,f1,2000
 packet,30,f1,6000
 "#,
-                ),
-            ],
+            )],
             2,
             "netcalc: usage: netcalc analyse NET [--json], edit NET EDITS [--json], simulate NET TRACE, exercise N, measure NET TRACE FLOW RATE, curve FILE\n",
         ),
         // an_empty_trace
         (
             "netcalc measure n.toml t.csv f1 1",
-            &[
-                (
-                    "n.toml",
-                    r#"[[server]]
+            &[(
+                "n.toml",
+                r#"[[server]]
 name = "s1"
 rate = 100
 service = { kind = "latency", latency = 10 }
@@ -2532,9 +2512,10 @@ packet = 12000
 arrival = { kind = "bucket", burst = 12000, rate = 10 }
 path = ["s1"]
 "#,
-                ),
-                ("t.csv", ""),
-            ],
+            ), (
+                "t.csv",
+                "",
+            )],
             0,
             r#"flow f1 packets 0
 step 0 0
@@ -2544,10 +2525,9 @@ burst 0 rate 1
         // an_unknown_flow
         (
             "netcalc measure n.toml t.csv f9 1",
-            &[
-                (
-                    "n.toml",
-                    r#"[[server]]
+            &[(
+                "n.toml",
+                r#"[[server]]
 name = "s1"
 rate = 100
 service = { kind = "latency", latency = 10 }
@@ -2558,26 +2538,23 @@ packet = 12000
 arrival = { kind = "bucket", burst = 12000, rate = 10 }
 path = ["s1"]
 "#,
-                ),
-                (
-                    "t.csv",
-                    r#"packet,0,f1,4000
+            ), (
+                "t.csv",
+                r#"packet,0,f1,4000
 packet,10,f1,4000
 packet,10,f1,2000
 packet,30,f1,6000
 "#,
-                ),
-            ],
+            )],
             1,
             "netcalc: unknown flow f9\n",
         ),
         // four_packets
         (
             "netcalc measure n.toml t.csv f1 100",
-            &[
-                (
-                    "n.toml",
-                    r#"[[server]]
+            &[(
+                "n.toml",
+                r#"[[server]]
 name = "s1"
 rate = 100
 service = { kind = "latency", latency = 10 }
@@ -2588,16 +2565,14 @@ packet = 12000
 arrival = { kind = "bucket", burst = 12000, rate = 10 }
 path = ["s1"]
 "#,
-                ),
-                (
-                    "t.csv",
-                    r#"packet,0,f1,4000
+            ), (
+                "t.csv",
+                r#"packet,0,f1,4000
 packet,10,f1,4000
 packet,10,f1,2000
 packet,30,f1,6000
 "#,
-                ),
-            ],
+            )],
             0,
             r#"flow f1 packets 4
 step 0 6000
@@ -2610,10 +2585,9 @@ burst 13000 rate 100
         // four_packets_at_a_higher_rate
         (
             "netcalc measure n.toml t.csv f1 500",
-            &[
-                (
-                    "n.toml",
-                    r#"[[server]]
+            &[(
+                "n.toml",
+                r#"[[server]]
 name = "s1"
 rate = 100
 service = { kind = "latency", latency = 10 }
@@ -2624,16 +2598,14 @@ packet = 12000
 arrival = { kind = "bucket", burst = 12000, rate = 10 }
 path = ["s1"]
 "#,
-                ),
-                (
-                    "t.csv",
-                    r#"packet,0,f1,4000
+            ), (
+                "t.csv",
+                r#"packet,0,f1,4000
 packet,10,f1,4000
 packet,10,f1,2000
 packet,30,f1,6000
 "#,
-                ),
-            ],
+            )],
             0,
             r#"flow f1 packets 4
 step 0 6000
@@ -2646,10 +2618,9 @@ burst 6000 rate 500
         // no_rate
         (
             "netcalc measure n.toml t.csv f1",
-            &[
-                (
-                    "n.toml",
-                    r#"[[server]]
+            &[(
+                "n.toml",
+                r#"[[server]]
 name = "s1"
 rate = 100
 service = { kind = "latency", latency = 10 }
@@ -2660,16 +2631,14 @@ packet = 12000
 arrival = { kind = "bucket", burst = 12000, rate = 10 }
 path = ["s1"]
 "#,
-                ),
-                (
-                    "t.csv",
-                    r#"packet,0,f1,4000
+            ), (
+                "t.csv",
+                r#"packet,0,f1,4000
 packet,10,f1,4000
 packet,10,f1,2000
 packet,30,f1,6000
 "#,
-                ),
-            ],
+            )],
             2,
             "netcalc: usage: netcalc analyse NET [--json], edit NET EDITS [--json], simulate NET TRACE, exercise N, measure NET TRACE FLOW RATE, curve FILE\n",
         ),
@@ -2696,10 +2665,9 @@ path = ["s1"]
         // other_flows_do_not_count
         (
             "netcalc measure n.toml t.csv f2 100",
-            &[
-                (
-                    "n.toml",
-                    r#"[[server]]
+            &[(
+                "n.toml",
+                r#"[[server]]
 name = "s1"
 rate = 100
 service = { kind = "latency", latency = 10 }
@@ -2716,17 +2684,15 @@ packet = 6000
 arrival = { kind = "bucket", burst = 6000, rate = 5 }
 path = ["s1"]
 "#,
-                ),
-                (
-                    "t.csv",
-                    r#"packet,0,f1,12000
+            ), (
+                "t.csv",
+                r#"packet,0,f1,12000
 packet,1,f2,3000
 packet,5,f1,12000
 packet,6,f2,2000
 stall,s1,0,4
 "#,
-                ),
-            ],
+            )],
             0,
             r#"flow f2 packets 2
 step 0 3000
@@ -2737,10 +2703,9 @@ burst 4500 rate 100
         // packets_at_one_time
         (
             "netcalc measure n.toml t.csv f1 1",
-            &[
-                (
-                    "n.toml",
-                    r#"[[server]]
+            &[(
+                "n.toml",
+                r#"[[server]]
 name = "s1"
 rate = 100
 service = { kind = "latency", latency = 10 }
@@ -2751,15 +2716,13 @@ packet = 12000
 arrival = { kind = "bucket", burst = 12000, rate = 10 }
 path = ["s1"]
 "#,
-                ),
-                (
-                    "t.csv",
-                    r#"packet,5,f1,4000
+            ), (
+                "t.csv",
+                r#"packet,5,f1,4000
 packet,5,f1,2000
 packet,5,f1,1000
 "#,
-                ),
-            ],
+            )],
             0,
             r#"flow f1 packets 3
 step 0 7000
@@ -2769,10 +2732,9 @@ burst 7000 rate 1
         // times_that_are_too_wide
         (
             "netcalc measure n.toml t.csv f1 1",
-            &[
-                (
-                    "n.toml",
-                    r#"[[server]]
+            &[(
+                "n.toml",
+                r#"[[server]]
 name = "s1"
 rate = 100
 service = { kind = "latency", latency = 10 }
@@ -2783,16 +2745,14 @@ packet = 12000
 arrival = { kind = "bucket", burst = 12000, rate = 10 }
 path = ["s1"]
 "#,
-                ),
-                (
-                    "t.csv",
-                    r#"packet,0,f1,8
+            ), (
+                "t.csv",
+                r#"packet,0,f1,8
 packet,1/2305843009213693951,f1,8
 packet,1/2147483647,f1,8
 packet,10000000,f1,8
 "#,
-                ),
-            ],
+            )],
             6,
             "netcalc: too wide: measure\n",
         ),
@@ -2806,14 +2766,13 @@ packet,10000000,f1,8
 #[test]
 fn runs(rt: HostRuntime) -> Result<(), Fail> {
     let alloc = rt.alloc();
-    let rows: [(&str, &[(&str, &str)], u8, &str); 34] = [
+    let rows: [(&str, &[(&str, &str)], u8, &str); 35] = [
         // a_byte_that_is_not_plain
         (
             "netcalc simulate n.toml t.csv",
-            &[
-                (
-                    "n.toml",
-                    r#"[[server]]
+            &[(
+                "n.toml",
+                r#"[[server]]
 name = "s1"
 rate = 100
 service = { kind = "latency", latency = 10 }
@@ -2824,19 +2783,19 @@ packet = 12000
 arrival = { kind = "bucket", burst = 12000, rate = 10 }
 path = ["s1"]
 "#,
-                ),
-                ("t.csv", "packet,0,f1,1\t\n"),
-            ],
+            ), (
+                "t.csv",
+                "packet,0,f1,1\t\n",
+            )],
             1,
             "netcalc: t.csv: T1 row 1\n",
         ),
         // a_cycle
         (
             "netcalc simulate n.toml t.csv",
-            &[
-                (
-                    "n.toml",
-                    r#"[[server]]
+            &[(
+                "n.toml",
+                r#"[[server]]
 name = "s1"
 rate = 100
 service = { kind = "latency", latency = 10 }
@@ -2858,19 +2817,19 @@ packet = 6000
 arrival = { kind = "bucket", burst = 6000, rate = 5 }
 path = ["s2", "s1"]
 "#,
-                ),
-                ("t.csv", "packet,0,f1,1\n"),
-            ],
+            ), (
+                "t.csv",
+                "packet,0,f1,1\n",
+            )],
             8,
             "netcalc: cycle s1 s2 s1\n",
         ),
         // a_gate_that_closes_on_a_packet
         (
             "netcalc simulate n.toml t.csv",
-            &[
-                (
-                    "n.toml",
-                    r#"[[server]]
+            &[(
+                "n.toml",
+                r#"[[server]]
 name = "g"
 rate = 100
 service = { kind = "gate", cycle = 1000, slot = 250 }
@@ -2881,9 +2840,10 @@ packet = 24000
 arrival = { kind = "stair", period = 1500, jitter = 0 }
 path = ["g"]
 "#,
-                ),
-                ("t.csv", "packet,100,f,24000\n"),
-            ],
+            ), (
+                "t.csv",
+                "packet,100,f,24000\n",
+            )],
             0,
             r#"servers 1 flows 1
 run packets 1 end 1090
@@ -2895,10 +2855,9 @@ breach none
         // a_gate_that_reaches_its_bound
         (
             "netcalc simulate n.toml t.csv",
-            &[
-                (
-                    "n.toml",
-                    r#"[[server]]
+            &[(
+                "n.toml",
+                r#"[[server]]
 name = "g"
 rate = 100
 service = { kind = "gate", cycle = 1000, slot = 250 }
@@ -2909,9 +2868,10 @@ packet = 24000
 arrival = { kind = "stair", period = 1500, jitter = 0 }
 path = ["g"]
 "#,
-                ),
-                ("t.csv", "packet,250,f,24000\n"),
-            ],
+            ), (
+                "t.csv",
+                "packet,250,f,24000\n",
+            )],
             0,
             r#"servers 1 flows 1
 run packets 1 end 1240
@@ -2923,10 +2883,9 @@ breach none
         // a_length_that_is_no_number
         (
             "netcalc simulate n.toml t.csv",
-            &[
-                (
-                    "n.toml",
-                    r#"[[server]]
+            &[(
+                "n.toml",
+                r#"[[server]]
 name = "s1"
 rate = 100
 service = { kind = "latency", latency = 10 }
@@ -2937,19 +2896,19 @@ packet = 12000
 arrival = { kind = "bucket", burst = 12000, rate = 10 }
 path = ["s1"]
 "#,
-                ),
-                ("t.csv", "packet,0,f1,x\n"),
-            ],
+            ), (
+                "t.csv",
+                "packet,0,f1,x\n",
+            )],
             1,
             "netcalc: t.csv: T4 row 1\n",
         ),
         // a_network_that_breaks_a_rule_goes_first
         (
             "netcalc simulate n.toml t.csv",
-            &[
-                (
-                    "n.toml",
-                    r#"[[server]]
+            &[(
+                "n.toml",
+                r#"[[server]]
 name = "s1"
 rate = 100
 service = { kind = "latency", latency = 10 }
@@ -2960,19 +2919,19 @@ packet = 0
 arrival = { kind = "bucket", burst = 12000, rate = 10 }
 path = ["s1"]
 "#,
-                ),
-                ("t.csv", "pocket\n"),
-            ],
+            ), (
+                "t.csv",
+                "pocket\n",
+            )],
             1,
             "netcalc: n.toml: M6 flow[0].packet\n",
         ),
         // a_packet_before_an_earlier_one
         (
             "netcalc simulate n.toml t.csv",
-            &[
-                (
-                    "n.toml",
-                    r#"[[server]]
+            &[(
+                "n.toml",
+                r#"[[server]]
 name = "s1"
 rate = 100
 service = { kind = "latency", latency = 10 }
@@ -2983,24 +2942,21 @@ packet = 12000
 arrival = { kind = "bucket", burst = 12000, rate = 10 }
 path = ["s1"]
 "#,
-                ),
-                (
-                    "t.csv",
-                    r#"packet,5,f1,1
+            ), (
+                "t.csv",
+                r#"packet,5,f1,1
 packet,4,f1,1
 "#,
-                ),
-            ],
+            )],
             1,
             "netcalc: t.csv: T6 row 2\n",
         ),
         // a_packet_one_bit_too_long
         (
             "netcalc simulate n.toml t.csv",
-            &[
-                (
-                    "n.toml",
-                    r#"[[server]]
+            &[(
+                "n.toml",
+                r#"[[server]]
 name = "s1"
 rate = 100
 service = { kind = "latency", latency = 10 }
@@ -3011,9 +2967,10 @@ packet = 12000
 arrival = { kind = "bucket", burst = 12000, rate = 10 }
 path = ["s1"]
 "#,
-                ),
-                ("t.csv", "packet,0,f1,12001\n"),
-            ],
+            ), (
+                "t.csv",
+                "packet,0,f1,12001\n",
+            )],
             9,
             r#"servers 1 flows 1
 run packets 1 end 12001/100
@@ -3025,10 +2982,9 @@ breach size f1 0
         // a_packet_that_enters_as_the_one_before_leaves
         (
             "netcalc simulate n.toml t.csv",
-            &[
-                (
-                    "n.toml",
-                    r#"[[server]]
+            &[(
+                "n.toml",
+                r#"[[server]]
 name = "s1"
 rate = 100
 service = { kind = "latency", latency = 10 }
@@ -3039,14 +2995,12 @@ packet = 12000
 arrival = { kind = "bucket", burst = 12000, rate = 100 }
 path = ["s1"]
 "#,
-                ),
-                (
-                    "t.csv",
-                    r#"packet,0,f1,12000
+            ), (
+                "t.csv",
+                r#"packet,0,f1,12000
 packet,120,f1,12000
 "#,
-                ),
-            ],
+            )],
             0,
             r#"servers 1 flows 1
 run packets 2 end 240
@@ -3058,10 +3012,9 @@ breach none
         // a_packet_under_way_is_not_broken_off
         (
             "netcalc simulate n.toml t.csv",
-            &[
-                (
-                    "n.toml",
-                    r#"[[server]]
+            &[(
+                "n.toml",
+                r#"[[server]]
 name = "s1"
 rate = 100
 service = { kind = "latency", latency = 10 }
@@ -3080,14 +3033,12 @@ packet = 6000
 arrival = { kind = "bucket", burst = 6000, rate = 5 }
 path = ["s1:0"]
 "#,
-                ),
-                (
-                    "t.csv",
-                    r#"packet,0,f1,12000
+            ), (
+                "t.csv",
+                r#"packet,0,f1,12000
 packet,1,f2,6000
 "#,
-                ),
-            ],
+            )],
             0,
             r#"servers 1 flows 2
 run packets 2 end 180
@@ -3101,10 +3052,9 @@ breach none
         // a_row_of_no_kind
         (
             "netcalc simulate n.toml t.csv",
-            &[
-                (
-                    "n.toml",
-                    r#"[[server]]
+            &[(
+                "n.toml",
+                r#"[[server]]
 name = "s1"
 rate = 100
 service = { kind = "latency", latency = 10 }
@@ -3115,19 +3065,19 @@ packet = 12000
 arrival = { kind = "bucket", burst = 12000, rate = 10 }
 path = ["s1"]
 "#,
-                ),
-                ("t.csv", "pocket,0,f1,1\n"),
-            ],
+            ), (
+                "t.csv",
+                "pocket,0,f1,1\n",
+            )],
             1,
             "netcalc: t.csv: T2 row 1\n",
         ),
         // a_row_with_too_few_fields
         (
             "netcalc simulate n.toml t.csv",
-            &[
-                (
-                    "n.toml",
-                    r#"[[server]]
+            &[(
+                "n.toml",
+                r#"[[server]]
 name = "s1"
 rate = 100
 service = { kind = "latency", latency = 10 }
@@ -3138,19 +3088,19 @@ packet = 12000
 arrival = { kind = "bucket", burst = 12000, rate = 10 }
 path = ["s1"]
 "#,
-                ),
-                ("t.csv", "packet,0,f1\n"),
-            ],
+            ), (
+                "t.csv",
+                "packet,0,f1\n",
+            )],
             1,
             "netcalc: t.csv: T3 row 1\n",
         ),
         // a_stall_of_10
         (
             "netcalc simulate n.toml t.csv",
-            &[
-                (
-                    "n.toml",
-                    r#"[[server]]
+            &[(
+                "n.toml",
+                r#"[[server]]
 name = "s1"
 rate = 100
 service = { kind = "latency", latency = 10 }
@@ -3161,14 +3111,12 @@ packet = 12000
 arrival = { kind = "bucket", burst = 12000, rate = 10 }
 path = ["s1"]
 "#,
-                ),
-                (
-                    "t.csv",
-                    r#"packet,0,f1,12000
+            ), (
+                "t.csv",
+                r#"packet,0,f1,12000
 stall,s1,0,10
 "#,
-                ),
-            ],
+            )],
             0,
             r#"servers 1 flows 1
 run packets 1 end 130
@@ -3180,10 +3128,9 @@ breach none
         // a_stall_of_11
         (
             "netcalc simulate n.toml t.csv",
-            &[
-                (
-                    "n.toml",
-                    r#"[[server]]
+            &[(
+                "n.toml",
+                r#"[[server]]
 name = "s1"
 rate = 100
 service = { kind = "latency", latency = 10 }
@@ -3194,14 +3141,12 @@ packet = 12000
 arrival = { kind = "bucket", burst = 12000, rate = 10 }
 path = ["s1"]
 "#,
-                ),
-                (
-                    "t.csv",
-                    r#"packet,0,f1,12000
+            ), (
+                "t.csv",
+                r#"packet,0,f1,12000
 stall,s1,0,11
 "#,
-                ),
-            ],
+            )],
             9,
             r#"servers 1 flows 1
 run packets 1 end 131
@@ -3213,10 +3158,9 @@ breach service s1 0 11
         // a_stall_of_an_unknown_server
         (
             "netcalc simulate n.toml t.csv",
-            &[
-                (
-                    "n.toml",
-                    r#"[[server]]
+            &[(
+                "n.toml",
+                r#"[[server]]
 name = "s1"
 rate = 100
 service = { kind = "latency", latency = 10 }
@@ -3227,24 +3171,21 @@ packet = 12000
 arrival = { kind = "bucket", burst = 12000, rate = 10 }
 path = ["s1"]
 "#,
-                ),
-                (
-                    "t.csv",
-                    r#"packet,0,f1,1
+            ), (
+                "t.csv",
+                r#"packet,0,f1,1
 stall,s9,0,1
 "#,
-                ),
-            ],
+            )],
             1,
             "netcalc: t.csv: T5 row 2\n",
         ),
         // a_stall_that_ends_where_it_begins
         (
             "netcalc simulate n.toml t.csv",
-            &[
-                (
-                    "n.toml",
-                    r#"[[server]]
+            &[(
+                "n.toml",
+                r#"[[server]]
 name = "s1"
 rate = 100
 service = { kind = "latency", latency = 10 }
@@ -3255,19 +3196,49 @@ packet = 12000
 arrival = { kind = "bucket", burst = 12000, rate = 10 }
 path = ["s1"]
 "#,
-                ),
-                ("t.csv", "stall,s1,1,1\n"),
-            ],
+            ), (
+                "t.csv",
+                "stall,s1,1,1\n",
+            )],
             1,
             "netcalc: t.csv: T4 row 1\n",
+        ),
+        // a_stall_that_ends_while_the_gate_is_closed
+        (
+            "netcalc simulate n.toml t.csv",
+            &[(
+                "n.toml",
+                r#"[[server]]
+name = "g"
+rate = 100
+service = { kind = "gate", cycle = 1000, slot = 250 }
+
+[[flow]]
+name = "f"
+packet = 24000
+arrival = { kind = "stair", period = 1500, jitter = 0 }
+path = ["g"]
+"#,
+            ), (
+                "t.csv",
+                r#"packet,0,f,24000
+stall,g,0,300
+"#,
+            )],
+            9,
+            r#"servers 1 flows 1
+run packets 1 end 1240
+worst f 1240 bound 990
+peak g 0 24000 bound 47000
+breach service g 0 1000
+"#,
         ),
         // a_time_too_wide
         (
             "netcalc simulate n.toml t.csv",
-            &[
-                (
-                    "n.toml",
-                    r#"[[server]]
+            &[(
+                "n.toml",
+                r#"[[server]]
 name = "s1"
 rate = 100
 service = { kind = "latency", latency = 10 }
@@ -3278,22 +3249,19 @@ packet = 12000
 arrival = { kind = "bucket", burst = 12000, rate = 10 }
 path = ["s1"]
 "#,
-                ),
-                (
-                    "t.csv",
-                    "packet,1/1329227995784915872903807060280344576,f1,12000\n",
-                ),
-            ],
+            ), (
+                "t.csv",
+                "packet,1/1329227995784915872903807060280344576,f1,12000\n",
+            )],
             6,
             "netcalc: too wide: simulation\n",
         ),
         // a_trace_fault_goes_before_a_cycle
         (
             "netcalc simulate n.toml t.csv",
-            &[
-                (
-                    "n.toml",
-                    r#"[[server]]
+            &[(
+                "n.toml",
+                r#"[[server]]
 name = "s1"
 rate = 100
 service = { kind = "latency", latency = 10 }
@@ -3315,19 +3283,19 @@ packet = 6000
 arrival = { kind = "bucket", burst = 6000, rate = 5 }
 path = ["s2", "s1"]
 "#,
-                ),
-                ("t.csv", "pocket\n"),
-            ],
+            ), (
+                "t.csv",
+                "pocket\n",
+            )],
             1,
             "netcalc: t.csv: T2 row 1\n",
         ),
         // an_empty_trace
         (
             "netcalc simulate n.toml t.csv",
-            &[
-                (
-                    "n.toml",
-                    r#"[[server]]
+            &[(
+                "n.toml",
+                r#"[[server]]
 name = "s1"
 rate = 100
 service = { kind = "latency", latency = 10 }
@@ -3338,9 +3306,10 @@ packet = 12000
 arrival = { kind = "bucket", burst = 12000, rate = 10 }
 path = ["s1"]
 "#,
-                ),
-                ("t.csv", ""),
-            ],
+            ), (
+                "t.csv",
+                "",
+            )],
             0,
             r#"servers 1 flows 1
 run packets 0 end 0
@@ -3352,10 +3321,9 @@ breach none
         // an_unknown_flow
         (
             "netcalc simulate n.toml t.csv",
-            &[
-                (
-                    "n.toml",
-                    r#"[[server]]
+            &[(
+                "n.toml",
+                r#"[[server]]
 name = "s1"
 rate = 100
 service = { kind = "latency", latency = 10 }
@@ -3366,19 +3334,19 @@ packet = 12000
 arrival = { kind = "bucket", burst = 12000, rate = 10 }
 path = ["s1"]
 "#,
-                ),
-                ("t.csv", "packet,0,f9,1\n"),
-            ],
+            ), (
+                "t.csv",
+                "packet,0,f9,1\n",
+            )],
             1,
             "netcalc: t.csv: T5 row 1\n",
         ),
         // avionics
         (
             "netcalc simulate n.toml t.csv",
-            &[
-                (
-                    "n.toml",
-                    r#"[[server]]
+            &[(
+                "n.toml",
+                r#"[[server]]
 name = "sw1"
 rate = 100
 service = { kind = "latency", latency = 16 }
@@ -3406,15 +3374,13 @@ packet = 12000
 arrival = { kind = "stair", period = 4000, jitter = 0 }
 path = ["sw1", "sw2"]
 "#,
-                ),
-                (
-                    "t.csv",
-                    r#"packet,0,a,4000
+            ), (
+                "t.csv",
+                r#"packet,0,a,4000
 packet,0,b,8000
 packet,0,c,12000
 "#,
-                ),
-            ],
+            )],
             0,
             r#"servers 2 flows 3
 run packets 3 end 360
@@ -3429,10 +3395,9 @@ breach none
         // deficits_after_a_visit
         (
             "netcalc simulate n.toml t.csv",
-            &[
-                (
-                    "n.toml",
-                    r#"[[server]]
+            &[(
+                "n.toml",
+                r#"[[server]]
 name = "s1"
 rate = 100
 service = { kind = "latency", latency = 10 }
@@ -3451,15 +3416,13 @@ packet = 6000
 arrival = { kind = "bucket", burst = 6000, rate = 5 }
 path = ["s1:1"]
 "#,
-                ),
-                (
-                    "t.csv",
-                    r#"packet,0,f1,12000
+            ), (
+                "t.csv",
+                r#"packet,0,f1,12000
 packet,0,f1,12000
 packet,0,f2,6000
 "#,
-                ),
-            ],
+            )],
             9,
             r#"servers 1 flows 2
 run packets 3 end 300
@@ -3473,10 +3436,9 @@ breach arrival f1 0 1
         // deficits_in_turn
         (
             "netcalc simulate n.toml t.csv",
-            &[
-                (
-                    "n.toml",
-                    r#"[[server]]
+            &[(
+                "n.toml",
+                r#"[[server]]
 name = "s1"
 rate = 100
 service = { kind = "latency", latency = 10 }
@@ -3495,14 +3457,12 @@ packet = 6000
 arrival = { kind = "bucket", burst = 6000, rate = 5 }
 path = ["s1:1"]
 "#,
-                ),
-                (
-                    "t.csv",
-                    r#"packet,0,f1,12000
+            ), (
+                "t.csv",
+                r#"packet,0,f1,12000
 packet,0,f2,6000
 "#,
-                ),
-            ],
+            )],
             0,
             r#"servers 1 flows 2
 run packets 2 end 180
@@ -3516,10 +3476,9 @@ breach none
         // gates_whose_spans_do_not_cancel
         (
             "netcalc simulate n.toml t.csv",
-            &[
-                (
-                    "n.toml",
-                    r#"[[server]]
+            &[(
+                "n.toml",
+                r#"[[server]]
 name = "g1"
 rate = 1
 service = { kind = "gate", cycle = 1099511627792, slot = 1099511627791 }
@@ -3607,10 +3566,9 @@ packet = 1
 arrival = { kind = "bucket", burst = 1, rate = 0 }
 path = ["g8"]
 "#,
-                ),
-                (
-                    "t.csv",
-                    r#"packet,0,f1,1
+            ), (
+                "t.csv",
+                r#"packet,0,f1,1
 packet,0,f2,1
 packet,0,f3,1
 packet,0,f4,1
@@ -3619,8 +3577,7 @@ packet,0,f6,1
 packet,0,f7,1
 packet,0,f8,1
 "#,
-                ),
-            ],
+            )],
             6,
             "netcalc: too wide: simulation\n",
         ),
@@ -3667,10 +3624,9 @@ path = ["s1"]
         // sixteen_gates_whose_spans_cancel
         (
             "netcalc simulate n.toml t.csv",
-            &[
-                (
-                    "n.toml",
-                    r#"[[server]]
+            &[(
+                "n.toml",
+                r#"[[server]]
 name = "g1"
 rate = 1
 service = { kind = "gate", cycle = 1099511627792, slot = 1099511627791 }
@@ -3846,10 +3802,9 @@ packet = 1
 arrival = { kind = "bucket", burst = 1, rate = 0 }
 path = ["g16"]
 "#,
-                ),
-                (
-                    "t.csv",
-                    r#"packet,0,f1,1
+            ), (
+                "t.csv",
+                r#"packet,0,f1,1
 packet,0,f2,1
 packet,0,f3,1
 packet,0,f4,1
@@ -3866,8 +3821,7 @@ packet,0,f14,1
 packet,0,f15,1
 packet,0,f16,1
 "#,
-                ),
-            ],
+            )],
             0,
             r#"servers 16 flows 16
 run packets 16 end 1
@@ -3909,10 +3863,9 @@ breach none
         // the_first_flow_first
         (
             "netcalc simulate n.toml t.csv",
-            &[
-                (
-                    "n.toml",
-                    r#"[[server]]
+            &[(
+                "n.toml",
+                r#"[[server]]
 name = "s1"
 rate = 100
 service = { kind = "latency", latency = 10 }
@@ -3929,14 +3882,12 @@ packet = 6000
 arrival = { kind = "bucket", burst = 6000, rate = 5 }
 path = ["s1"]
 "#,
-                ),
-                (
-                    "t.csv",
-                    r#"packet,0,f1,12000
+            ), (
+                "t.csv",
+                r#"packet,0,f1,12000
 packet,0,f2,6000
 "#,
-                ),
-            ],
+            )],
             0,
             r#"servers 1 flows 2
 run packets 2 end 180
@@ -3949,10 +3900,9 @@ breach none
         // the_second_flow_first
         (
             "netcalc simulate n.toml t.csv",
-            &[
-                (
-                    "n.toml",
-                    r#"[[server]]
+            &[(
+                "n.toml",
+                r#"[[server]]
 name = "s1"
 rate = 100
 service = { kind = "latency", latency = 10 }
@@ -3969,14 +3919,12 @@ packet = 6000
 arrival = { kind = "bucket", burst = 6000, rate = 5 }
 path = ["s1"]
 "#,
-                ),
-                (
-                    "t.csv",
-                    r#"packet,0,f2,6000
+            ), (
+                "t.csv",
+                r#"packet,0,f2,6000
 packet,0,f1,12000
 "#,
-                ),
-            ],
+            )],
             0,
             r#"servers 1 flows 2
 run packets 2 end 180
@@ -3989,10 +3937,9 @@ breach none
         // the_urgent_queue_goes_first
         (
             "netcalc simulate n.toml t.csv",
-            &[
-                (
-                    "n.toml",
-                    r#"[[server]]
+            &[(
+                "n.toml",
+                r#"[[server]]
 name = "s1"
 rate = 100
 service = { kind = "latency", latency = 10 }
@@ -4011,14 +3958,12 @@ packet = 6000
 arrival = { kind = "bucket", burst = 6000, rate = 5 }
 path = ["s1:0"]
 "#,
-                ),
-                (
-                    "t.csv",
-                    r#"packet,0,f1,12000
+            ), (
+                "t.csv",
+                r#"packet,0,f1,12000
 packet,0,f2,6000
 "#,
-                ),
-            ],
+            )],
             0,
             r#"servers 1 flows 2
 run packets 2 end 180
@@ -4032,10 +3977,9 @@ breach none
         // three_packets_whose_neighbours_keep_the_curve
         (
             "netcalc simulate n.toml t.csv",
-            &[
-                (
-                    "n.toml",
-                    r#"[[server]]
+            &[(
+                "n.toml",
+                r#"[[server]]
 name = "s1"
 rate = 100
 service = { kind = "latency", latency = 10 }
@@ -4046,15 +3990,13 @@ packet = 12000
 arrival = { kind = "bucket", burst = 12000, rate = 10 }
 path = ["s1"]
 "#,
-                ),
-                (
-                    "t.csv",
-                    r#"packet,0,f1,6000
+            ), (
+                "t.csv",
+                r#"packet,0,f1,6000
 packet,100,f1,6000
 packet,200,f1,6000
 "#,
-                ),
-            ],
+            )],
             9,
             r#"servers 1 flows 1
 run packets 3 end 260
@@ -4066,10 +4008,9 @@ breach arrival f1 0 2
         // two_gates_whose_spans_cancel
         (
             "netcalc simulate n.toml t.csv",
-            &[
-                (
-                    "n.toml",
-                    r#"[[server]]
+            &[(
+                "n.toml",
+                r#"[[server]]
 name = "g1"
 rate = 1
 service = { kind = "gate", cycle = "1267650600228229401496703205377", slot = "1267650600228229401496703205376" }
@@ -4091,14 +4032,12 @@ packet = 1
 arrival = { kind = "bucket", burst = 1, rate = 0 }
 path = ["g2"]
 "#,
-                ),
-                (
-                    "t.csv",
-                    r#"packet,0,f1,1
+            ), (
+                "t.csv",
+                r#"packet,0,f1,1
 packet,0,f2,1
 "#,
-                ),
-            ],
+            )],
             0,
             r#"servers 2 flows 2
 run packets 2 end 1
@@ -4112,10 +4051,9 @@ breach none
         // two_hops_with_links
         (
             "netcalc simulate n.toml t.csv",
-            &[
-                (
-                    "n.toml",
-                    r#"[[server]]
+            &[(
+                "n.toml",
+                r#"[[server]]
 name = "s1"
 rate = 100
 service = { kind = "latency", latency = 10 }
@@ -4133,9 +4071,10 @@ packet = 12000
 arrival = { kind = "bucket", burst = 12000, rate = 10 }
 path = ["s1", "s2"]
 "#,
-                ),
-                ("t.csv", "packet,0,f1,12000\n"),
-            ],
+            ), (
+                "t.csv",
+                "packet,0,f1,12000\n",
+            )],
             0,
             r#"servers 2 flows 1
 run packets 1 end 245
@@ -4148,10 +4087,9 @@ breach none
         // two_packets_at_0
         (
             "netcalc simulate n.toml t.csv",
-            &[
-                (
-                    "n.toml",
-                    r#"[[server]]
+            &[(
+                "n.toml",
+                r#"[[server]]
 name = "s1"
 rate = 100
 service = { kind = "latency", latency = 10 }
@@ -4162,14 +4100,12 @@ packet = 12000
 arrival = { kind = "bucket", burst = 12000, rate = 10 }
 path = ["s1"]
 "#,
-                ),
-                (
-                    "t.csv",
-                    r#"packet,0,f1,12000
+            ), (
+                "t.csv",
+                r#"packet,0,f1,12000
 packet,0,f1,12000
 "#,
-                ),
-            ],
+            )],
             9,
             r#"servers 1 flows 1
 run packets 2 end 240
