@@ -70,10 +70,7 @@ queue s1 0 delay 0 backlog 0
         // an_empty_file
         (
             "netcalc analyse n.toml",
-            &[(
-                "n.toml",
-                "",
-            )],
+            &[("n.toml", "")],
             0,
             "servers 0 flows 0\n",
         ),
@@ -286,10 +283,7 @@ show bucket(1, -1)
         // a_byte_that_is_not_plain
         (
             "netcalc curve s.curve",
-            &[(
-                "s.curve",
-                "rate bucket(1, 2)\nrate\tzero\n",
-            )],
+            &[("s.curve", "rate bucket(1, 2)\nrate\tzero\n")],
             1,
             "netcalc: s.curve: C1 line 2\n",
         ),
@@ -306,10 +300,7 @@ show bucket(1, -1)
         // a_kind_with_one_number
         (
             "netcalc curve s.curve",
-            &[(
-                "s.curve",
-                "show bucket(1)\n",
-            )],
+            &[("s.curve", "show bucket(1)\n")],
             1,
             "netcalc: s.curve: C2 line 1\n",
         ),
@@ -340,20 +331,14 @@ let a = zero
         // a_name_not_given
         (
             "netcalc curve s.curve",
-            &[(
-                "s.curve",
-                "value x at 1\n",
-            )],
+            &[("s.curve", "value x at 1\n")],
             1,
             "netcalc: s.curve: C6 line 1\n",
         ),
         // a_number_that_is_none
         (
             "netcalc curve s.curve",
-            &[(
-                "s.curve",
-                "show bucket(1, q)\n",
-            )],
+            &[("s.curve", "show bucket(1, q)\n")],
             1,
             "netcalc: s.curve: C3 line 1\n",
         ),
@@ -427,15 +412,7 @@ delay 880/3
             "netcalc: too wide: line 1\n",
         ),
         // an_empty_script
-        (
-            "netcalc curve s.curve",
-            &[(
-                "s.curve",
-                "",
-            )],
-            0,
-            "",
-        ),
+        ("netcalc curve s.curve", &[("s.curve", "")], 0, ""),
         // eight_lines
         (
             "netcalc curve s.curve",
@@ -1776,10 +1753,7 @@ path = ["s9"]
         // not_toml
         (
             "netcalc analyse n.toml",
-            &[(
-                "n.toml",
-                "[[server",
-            )],
+            &[("n.toml", "[[server")],
             1,
             "netcalc: n.toml: M1\n",
         ),
@@ -2003,9 +1977,10 @@ fn measures(rt: HostRuntime) -> Result<(), Fail> {
         // a_breach_is_measured_too
         (
             "netcalc measure n.toml t.csv f1 10",
-            &[(
-                "n.toml",
-                r#"[[server]]
+            &[
+                (
+                    "n.toml",
+                    r#"[[server]]
 name = "s1"
 rate = 100
 service = { kind = "latency", latency = 10 }
@@ -2016,12 +1991,14 @@ packet = 12000
 arrival = { kind = "bucket", burst = 12000, rate = 10 }
 path = ["s1"]
 "#,
-            ), (
-                "t.csv",
-                r#"packet,0,f1,12000
+                ),
+                (
+                    "t.csv",
+                    r#"packet,0,f1,12000
 packet,0,f1,12000
 "#,
-            )],
+                ),
+            ],
             0,
             r#"flow f1 packets 2
 step 0 24000
@@ -2031,9 +2008,10 @@ burst 24000 rate 10
         // a_curve_too_wide
         (
             "netcalc measure n.toml t.csv f9 1",
-            &[(
-                "n.toml",
-                r#"[[server]]
+            &[
+                (
+                    "n.toml",
+                    r#"[[server]]
 name = "s1"
 rate = 100
 service = { kind = "latency", latency = 10 }
@@ -2043,19 +2021,19 @@ packet = 12000
 arrival = { kind = "stair", period = "1/1329227995784915872903807060280344576", jitter = 0 }
 path = ["s1"]
 "#,
-            ), (
-                "t.csv",
-                "packet,0,f9,4000\n",
-            )],
+                ),
+                ("t.csv", "packet,0,f9,4000\n"),
+            ],
             6,
             "netcalc: too wide: curve flow[0].arrival\n",
         ),
         // a_cycle_is_no_matter
         (
             "netcalc measure n.toml t.csv f1 10",
-            &[(
-                "n.toml",
-                r#"[[server]]
+            &[
+                (
+                    "n.toml",
+                    r#"[[server]]
 name = "s1"
 rate = 100
 service = { kind = "latency", latency = 10 }
@@ -2074,12 +2052,14 @@ packet = 6000
 arrival = { kind = "bucket", burst = 6000, rate = 5 }
 path = ["s2", "s1"]
 "#,
-            ), (
-                "t.csv",
-                r#"packet,0,f1,100
+                ),
+                (
+                    "t.csv",
+                    r#"packet,0,f1,100
 packet,2,f1,100
 "#,
-            )],
+                ),
+            ],
             0,
             r#"flow f1 packets 2
 step 0 100
@@ -2090,9 +2070,10 @@ burst 180 rate 10
         // a_flow_that_begins_as_a_flag_does
         (
             "netcalc measure n.toml t.csv -f1 1",
-            &[(
-                "n.toml",
-                r#"[[server]]
+            &[
+                (
+                    "n.toml",
+                    r#"[[server]]
 name = "s1"
 rate = 100
 service = { kind = "latency", latency = 10 }
@@ -2103,23 +2084,26 @@ packet = 12000
 arrival = { kind = "bucket", burst = 12000, rate = 10 }
 path = ["s1"]
 "#,
-            ), (
-                "t.csv",
-                r#"packet,0,f1,4000
+                ),
+                (
+                    "t.csv",
+                    r#"packet,0,f1,4000
 packet,10,f1,4000
 packet,10,f1,2000
 packet,30,f1,6000
 "#,
-            )],
+                ),
+            ],
             2,
             "netcalc: usage: netcalc analyse NET [--json], edit NET EDITS [--json], simulate NET TRACE, exercise N, measure NET TRACE FLOW RATE, curve FILE\n",
         ),
         // a_rate_below_0
         (
             "netcalc measure n.toml t.csv f1 -1",
-            &[(
-                "n.toml",
-                r#"[[server]]
+            &[
+                (
+                    "n.toml",
+                    r#"[[server]]
 name = "s1"
 rate = 100
 service = { kind = "latency", latency = 10 }
@@ -2130,23 +2114,26 @@ packet = 12000
 arrival = { kind = "bucket", burst = 12000, rate = 10 }
 path = ["s1"]
 "#,
-            ), (
-                "t.csv",
-                r#"packet,0,f1,4000
+                ),
+                (
+                    "t.csv",
+                    r#"packet,0,f1,4000
 packet,10,f1,4000
 packet,10,f1,2000
 packet,30,f1,6000
 "#,
-            )],
+                ),
+            ],
             2,
             "netcalc: usage: netcalc analyse NET [--json], edit NET EDITS [--json], simulate NET TRACE, exercise N, measure NET TRACE FLOW RATE, curve FILE\n",
         ),
         // a_rate_of_0
         (
             "netcalc measure n.toml t.csv f1 0",
-            &[(
-                "n.toml",
-                r#"[[server]]
+            &[
+                (
+                    "n.toml",
+                    r#"[[server]]
 name = "s1"
 rate = 100
 service = { kind = "latency", latency = 10 }
@@ -2157,14 +2144,16 @@ packet = 12000
 arrival = { kind = "bucket", burst = 12000, rate = 10 }
 path = ["s1"]
 "#,
-            ), (
-                "t.csv",
-                r#"packet,0,f1,4000
+                ),
+                (
+                    "t.csv",
+                    r#"packet,0,f1,4000
 packet,10,f1,4000
 packet,10,f1,2000
 packet,30,f1,6000
 "#,
-            )],
+                ),
+            ],
             0,
             r#"flow f1 packets 4
 step 0 6000
@@ -2177,9 +2166,10 @@ burst 16000 rate 0
         // a_rate_past_all_numbers
         (
             "netcalc measure n.toml t.csv f1 170141183460469231731687303715884105728",
-            &[(
-                "n.toml",
-                r#"[[server]]
+            &[
+                (
+                    "n.toml",
+                    r#"[[server]]
 name = "s1"
 rate = 100
 service = { kind = "latency", latency = 10 }
@@ -2190,23 +2180,26 @@ packet = 12000
 arrival = { kind = "bucket", burst = 12000, rate = 10 }
 path = ["s1"]
 "#,
-            ), (
-                "t.csv",
-                r#"packet,0,f1,4000
+                ),
+                (
+                    "t.csv",
+                    r#"packet,0,f1,4000
 packet,10,f1,4000
 packet,10,f1,2000
 packet,30,f1,6000
 "#,
-            )],
+                ),
+            ],
             2,
             "netcalc: usage: netcalc analyse NET [--json], edit NET EDITS [--json], simulate NET TRACE, exercise N, measure NET TRACE FLOW RATE, curve FILE\n",
         ),
         // a_rate_that_is_a_fraction
         (
             "netcalc measure n.toml t.csv f1 0700/2",
-            &[(
-                "n.toml",
-                r#"[[server]]
+            &[
+                (
+                    "n.toml",
+                    r#"[[server]]
 name = "s1"
 rate = 100
 service = { kind = "latency", latency = 10 }
@@ -2217,14 +2210,16 @@ packet = 12000
 arrival = { kind = "bucket", burst = 12000, rate = 10 }
 path = ["s1"]
 "#,
-            ), (
-                "t.csv",
-                r#"packet,0,f1,1000
+                ),
+                (
+                    "t.csv",
+                    r#"packet,0,f1,1000
 packet,1/3,f1,1000
 packet,2/3,f1,2000
 packet,7/2,f1,1500
 "#,
-            )],
+                ),
+            ],
             0,
             r#"flow f1 packets 4
 step 0 2000
@@ -2238,9 +2233,10 @@ burst 4275 rate 350
         // a_rate_that_is_minus_0
         (
             "netcalc measure n.toml t.csv f1 -0",
-            &[(
-                "n.toml",
-                r#"[[server]]
+            &[
+                (
+                    "n.toml",
+                    r#"[[server]]
 name = "s1"
 rate = 100
 service = { kind = "latency", latency = 10 }
@@ -2251,23 +2247,26 @@ packet = 12000
 arrival = { kind = "bucket", burst = 12000, rate = 10 }
 path = ["s1"]
 "#,
-            ), (
-                "t.csv",
-                r#"packet,0,f1,4000
+                ),
+                (
+                    "t.csv",
+                    r#"packet,0,f1,4000
 packet,10,f1,4000
 packet,10,f1,2000
 packet,30,f1,6000
 "#,
-            )],
+                ),
+            ],
             2,
             "netcalc: usage: netcalc analyse NET [--json], edit NET EDITS [--json], simulate NET TRACE, exercise N, measure NET TRACE FLOW RATE, curve FILE\n",
         ),
         // a_rate_that_is_none
         (
             "netcalc measure n.toml t.csv f1 1.5",
-            &[(
-                "n.toml",
-                r#"[[server]]
+            &[
+                (
+                    "n.toml",
+                    r#"[[server]]
 name = "s1"
 rate = 100
 service = { kind = "latency", latency = 10 }
@@ -2278,23 +2277,26 @@ packet = 12000
 arrival = { kind = "bucket", burst = 12000, rate = 10 }
 path = ["s1"]
 "#,
-            ), (
-                "t.csv",
-                r#"packet,0,f1,4000
+                ),
+                (
+                    "t.csv",
+                    r#"packet,0,f1,4000
 packet,10,f1,4000
 packet,10,f1,2000
 packet,30,f1,6000
 "#,
-            )],
+                ),
+            ],
             2,
             "netcalc: usage: netcalc analyse NET [--json], edit NET EDITS [--json], simulate NET TRACE, exercise N, measure NET TRACE FLOW RATE, curve FILE\n",
         ),
         // a_rate_that_is_too_wide
         (
             "netcalc measure n.toml t.csv f1 1329227995784915872903807060280344576",
-            &[(
-                "n.toml",
-                r#"[[server]]
+            &[
+                (
+                    "n.toml",
+                    r#"[[server]]
 name = "s1"
 rate = 100
 service = { kind = "latency", latency = 10 }
@@ -2305,23 +2307,26 @@ packet = 12000
 arrival = { kind = "bucket", burst = 12000, rate = 10 }
 path = ["s1"]
 "#,
-            ), (
-                "t.csv",
-                r#"packet,0,f1,4000
+                ),
+                (
+                    "t.csv",
+                    r#"packet,0,f1,4000
 packet,10,f1,4000
 packet,10,f1,2000
 packet,30,f1,6000
 "#,
-            )],
+                ),
+            ],
             6,
             "netcalc: too wide: burst\n",
         ),
         // a_rate_with_a_part_of_0
         (
             "netcalc measure n.toml t.csv f1 1/0",
-            &[(
-                "n.toml",
-                r#"[[server]]
+            &[
+                (
+                    "n.toml",
+                    r#"[[server]]
 name = "s1"
 rate = 100
 service = { kind = "latency", latency = 10 }
@@ -2332,23 +2337,26 @@ packet = 12000
 arrival = { kind = "bucket", burst = 12000, rate = 10 }
 path = ["s1"]
 "#,
-            ), (
-                "t.csv",
-                r#"packet,0,f1,4000
+                ),
+                (
+                    "t.csv",
+                    r#"packet,0,f1,4000
 packet,10,f1,4000
 packet,10,f1,2000
 packet,30,f1,6000
 "#,
-            )],
+                ),
+            ],
             2,
             "netcalc: usage: netcalc analyse NET [--json], edit NET EDITS [--json], simulate NET TRACE, exercise N, measure NET TRACE FLOW RATE, curve FILE\n",
         ),
         // a_rule_goes_before_a_trace_fault
         (
             "netcalc measure n.toml t.csv f1 1",
-            &[(
-                "n.toml",
-                r#"[[server]]
+            &[
+                (
+                    "n.toml",
+                    r#"[[server]]
 name = "s1"
 rate = 0
 service = { kind = "latency", latency = 10 }
@@ -2359,19 +2367,19 @@ packet = 12000
 arrival = { kind = "bucket", burst = 12000, rate = 10 }
 path = ["s1"]
 "#,
-            ), (
-                "t.csv",
-                "packet,0,f9,4000\n",
-            )],
+                ),
+                ("t.csv", "packet,0,f9,4000\n"),
+            ],
             1,
             "netcalc: n.toml: M6 server[0].rate\n",
         ),
         // a_time_at_the_limit
         (
             "netcalc measure n.toml t.csv f1 1",
-            &[(
-                "n.toml",
-                r#"[[server]]
+            &[
+                (
+                    "n.toml",
+                    r#"[[server]]
 name = "s1"
 rate = 100
 service = { kind = "latency", latency = 10 }
@@ -2382,19 +2390,22 @@ packet = 12000
 arrival = { kind = "bucket", burst = 12000, rate = 10 }
 path = ["s1"]
 "#,
-            ), (
-                "t.csv",
-                "packet,1/10384593717069655257060992658440192,f1,1\n",
-            )],
+                ),
+                (
+                    "t.csv",
+                    "packet,1/10384593717069655257060992658440192,f1,1\n",
+                ),
+            ],
             6,
             "netcalc: too wide: measure\n",
         ),
         // a_time_below_the_limit
         (
             "netcalc measure n.toml t.csv f1 1",
-            &[(
-                "n.toml",
-                r#"[[server]]
+            &[
+                (
+                    "n.toml",
+                    r#"[[server]]
 name = "s1"
 rate = 100
 service = { kind = "latency", latency = 10 }
@@ -2405,10 +2416,12 @@ packet = 12000
 arrival = { kind = "bucket", burst = 12000, rate = 10 }
 path = ["s1"]
 "#,
-            ), (
-                "t.csv",
-                "packet,1/5192296858534827628530496329220096,f1,1\n",
-            )],
+                ),
+                (
+                    "t.csv",
+                    "packet,1/5192296858534827628530496329220096,f1,1\n",
+                ),
+            ],
             0,
             r#"flow f1 packets 1
 step 0 1
@@ -2418,9 +2431,10 @@ burst 1 rate 1
         // a_trace_fault_goes_before_an_unknown_flow
         (
             "netcalc measure n.toml t.csv f9 1",
-            &[(
-                "n.toml",
-                r#"[[server]]
+            &[
+                (
+                    "n.toml",
+                    r#"[[server]]
 name = "s1"
 rate = 100
 service = { kind = "latency", latency = 10 }
@@ -2431,19 +2445,19 @@ packet = 12000
 arrival = { kind = "bucket", burst = 12000, rate = 10 }
 path = ["s1"]
 "#,
-            ), (
-                "t.csv",
-                "packet,0,f9,4000\n",
-            )],
+                ),
+                ("t.csv", "packet,0,f9,4000\n"),
+            ],
             1,
             "netcalc: t.csv: T5 row 1\n",
         ),
         // a_window_that_holds_no_more_is_no_step
         (
             "netcalc measure n.toml t.csv f1 100",
-            &[(
-                "n.toml",
-                r#"[[server]]
+            &[
+                (
+                    "n.toml",
+                    r#"[[server]]
 name = "s1"
 rate = 100
 service = { kind = "latency", latency = 10 }
@@ -2454,13 +2468,15 @@ packet = 12000
 arrival = { kind = "bucket", burst = 12000, rate = 10 }
 path = ["s1"]
 "#,
-            ), (
-                "t.csv",
-                r#"packet,0,f1,6000
+                ),
+                (
+                    "t.csv",
+                    r#"packet,0,f1,6000
 packet,10,f1,1000
 packet,40,f1,6000
 "#,
-            )],
+                ),
+            ],
             0,
             r#"flow f1 packets 3
 step 0 6000
@@ -2472,9 +2488,10 @@ burst 9000 rate 100
         // a_word_too_many
         (
             "netcalc measure n.toml t.csv f1 1 1",
-            &[(
-                "n.toml",
-                r#"[[server]]
+            &[
+                (
+                    "n.toml",
+                    r#"[[server]]
 name = "s1"
 rate = 100
 service = { kind = "latency", latency = 10 }
@@ -2485,23 +2502,26 @@ packet = 12000
 arrival = { kind = "bucket", burst = 12000, rate = 10 }
 path = ["s1"]
 "#,
-            ), (
-                "t.csv",
-                r#"packet,0,f1,4000
+                ),
+                (
+                    "t.csv",
+                    r#"packet,0,f1,4000
 packet,10,f1,4000
 packet,10,f1,2000
 packet,30,f1,6000
 "#,
-            )],
+                ),
+            ],
             2,
             "netcalc: usage: netcalc analyse NET [--json], edit NET EDITS [--json], simulate NET TRACE, exercise N, measure NET TRACE FLOW RATE, curve FILE\n",
         ),
         // an_empty_trace
         (
             "netcalc measure n.toml t.csv f1 1",
-            &[(
-                "n.toml",
-                r#"[[server]]
+            &[
+                (
+                    "n.toml",
+                    r#"[[server]]
 name = "s1"
 rate = 100
 service = { kind = "latency", latency = 10 }
@@ -2512,10 +2532,9 @@ packet = 12000
 arrival = { kind = "bucket", burst = 12000, rate = 10 }
 path = ["s1"]
 "#,
-            ), (
-                "t.csv",
-                "",
-            )],
+                ),
+                ("t.csv", ""),
+            ],
             0,
             r#"flow f1 packets 0
 step 0 0
@@ -2525,9 +2544,10 @@ burst 0 rate 1
         // an_unknown_flow
         (
             "netcalc measure n.toml t.csv f9 1",
-            &[(
-                "n.toml",
-                r#"[[server]]
+            &[
+                (
+                    "n.toml",
+                    r#"[[server]]
 name = "s1"
 rate = 100
 service = { kind = "latency", latency = 10 }
@@ -2538,23 +2558,26 @@ packet = 12000
 arrival = { kind = "bucket", burst = 12000, rate = 10 }
 path = ["s1"]
 "#,
-            ), (
-                "t.csv",
-                r#"packet,0,f1,4000
+                ),
+                (
+                    "t.csv",
+                    r#"packet,0,f1,4000
 packet,10,f1,4000
 packet,10,f1,2000
 packet,30,f1,6000
 "#,
-            )],
+                ),
+            ],
             1,
             "netcalc: unknown flow f9\n",
         ),
         // four_packets
         (
             "netcalc measure n.toml t.csv f1 100",
-            &[(
-                "n.toml",
-                r#"[[server]]
+            &[
+                (
+                    "n.toml",
+                    r#"[[server]]
 name = "s1"
 rate = 100
 service = { kind = "latency", latency = 10 }
@@ -2565,14 +2588,16 @@ packet = 12000
 arrival = { kind = "bucket", burst = 12000, rate = 10 }
 path = ["s1"]
 "#,
-            ), (
-                "t.csv",
-                r#"packet,0,f1,4000
+                ),
+                (
+                    "t.csv",
+                    r#"packet,0,f1,4000
 packet,10,f1,4000
 packet,10,f1,2000
 packet,30,f1,6000
 "#,
-            )],
+                ),
+            ],
             0,
             r#"flow f1 packets 4
 step 0 6000
@@ -2585,9 +2610,10 @@ burst 13000 rate 100
         // four_packets_at_a_higher_rate
         (
             "netcalc measure n.toml t.csv f1 500",
-            &[(
-                "n.toml",
-                r#"[[server]]
+            &[
+                (
+                    "n.toml",
+                    r#"[[server]]
 name = "s1"
 rate = 100
 service = { kind = "latency", latency = 10 }
@@ -2598,14 +2624,16 @@ packet = 12000
 arrival = { kind = "bucket", burst = 12000, rate = 10 }
 path = ["s1"]
 "#,
-            ), (
-                "t.csv",
-                r#"packet,0,f1,4000
+                ),
+                (
+                    "t.csv",
+                    r#"packet,0,f1,4000
 packet,10,f1,4000
 packet,10,f1,2000
 packet,30,f1,6000
 "#,
-            )],
+                ),
+            ],
             0,
             r#"flow f1 packets 4
 step 0 6000
@@ -2618,9 +2646,10 @@ burst 6000 rate 500
         // no_rate
         (
             "netcalc measure n.toml t.csv f1",
-            &[(
-                "n.toml",
-                r#"[[server]]
+            &[
+                (
+                    "n.toml",
+                    r#"[[server]]
 name = "s1"
 rate = 100
 service = { kind = "latency", latency = 10 }
@@ -2631,14 +2660,16 @@ packet = 12000
 arrival = { kind = "bucket", burst = 12000, rate = 10 }
 path = ["s1"]
 "#,
-            ), (
-                "t.csv",
-                r#"packet,0,f1,4000
+                ),
+                (
+                    "t.csv",
+                    r#"packet,0,f1,4000
 packet,10,f1,4000
 packet,10,f1,2000
 packet,30,f1,6000
 "#,
-            )],
+                ),
+            ],
             2,
             "netcalc: usage: netcalc analyse NET [--json], edit NET EDITS [--json], simulate NET TRACE, exercise N, measure NET TRACE FLOW RATE, curve FILE\n",
         ),
@@ -2665,9 +2696,10 @@ path = ["s1"]
         // other_flows_do_not_count
         (
             "netcalc measure n.toml t.csv f2 100",
-            &[(
-                "n.toml",
-                r#"[[server]]
+            &[
+                (
+                    "n.toml",
+                    r#"[[server]]
 name = "s1"
 rate = 100
 service = { kind = "latency", latency = 10 }
@@ -2684,15 +2716,17 @@ packet = 6000
 arrival = { kind = "bucket", burst = 6000, rate = 5 }
 path = ["s1"]
 "#,
-            ), (
-                "t.csv",
-                r#"packet,0,f1,12000
+                ),
+                (
+                    "t.csv",
+                    r#"packet,0,f1,12000
 packet,1,f2,3000
 packet,5,f1,12000
 packet,6,f2,2000
 stall,s1,0,4
 "#,
-            )],
+                ),
+            ],
             0,
             r#"flow f2 packets 2
 step 0 3000
@@ -2703,9 +2737,10 @@ burst 4500 rate 100
         // packets_at_one_time
         (
             "netcalc measure n.toml t.csv f1 1",
-            &[(
-                "n.toml",
-                r#"[[server]]
+            &[
+                (
+                    "n.toml",
+                    r#"[[server]]
 name = "s1"
 rate = 100
 service = { kind = "latency", latency = 10 }
@@ -2716,13 +2751,15 @@ packet = 12000
 arrival = { kind = "bucket", burst = 12000, rate = 10 }
 path = ["s1"]
 "#,
-            ), (
-                "t.csv",
-                r#"packet,5,f1,4000
+                ),
+                (
+                    "t.csv",
+                    r#"packet,5,f1,4000
 packet,5,f1,2000
 packet,5,f1,1000
 "#,
-            )],
+                ),
+            ],
             0,
             r#"flow f1 packets 3
 step 0 7000
@@ -2732,9 +2769,10 @@ burst 7000 rate 1
         // times_that_are_too_wide
         (
             "netcalc measure n.toml t.csv f1 1",
-            &[(
-                "n.toml",
-                r#"[[server]]
+            &[
+                (
+                    "n.toml",
+                    r#"[[server]]
 name = "s1"
 rate = 100
 service = { kind = "latency", latency = 10 }
@@ -2745,14 +2783,16 @@ packet = 12000
 arrival = { kind = "bucket", burst = 12000, rate = 10 }
 path = ["s1"]
 "#,
-            ), (
-                "t.csv",
-                r#"packet,0,f1,8
+                ),
+                (
+                    "t.csv",
+                    r#"packet,0,f1,8
 packet,1/2305843009213693951,f1,8
 packet,1/2147483647,f1,8
 packet,10000000,f1,8
 "#,
-            )],
+                ),
+            ],
             6,
             "netcalc: too wide: measure\n",
         ),
@@ -2770,9 +2810,10 @@ fn runs(rt: HostRuntime) -> Result<(), Fail> {
         // a_byte_that_is_not_plain
         (
             "netcalc simulate n.toml t.csv",
-            &[(
-                "n.toml",
-                r#"[[server]]
+            &[
+                (
+                    "n.toml",
+                    r#"[[server]]
 name = "s1"
 rate = 100
 service = { kind = "latency", latency = 10 }
@@ -2783,19 +2824,19 @@ packet = 12000
 arrival = { kind = "bucket", burst = 12000, rate = 10 }
 path = ["s1"]
 "#,
-            ), (
-                "t.csv",
-                "packet,0,f1,1\t\n",
-            )],
+                ),
+                ("t.csv", "packet,0,f1,1\t\n"),
+            ],
             1,
             "netcalc: t.csv: T1 row 1\n",
         ),
         // a_cycle
         (
             "netcalc simulate n.toml t.csv",
-            &[(
-                "n.toml",
-                r#"[[server]]
+            &[
+                (
+                    "n.toml",
+                    r#"[[server]]
 name = "s1"
 rate = 100
 service = { kind = "latency", latency = 10 }
@@ -2817,19 +2858,19 @@ packet = 6000
 arrival = { kind = "bucket", burst = 6000, rate = 5 }
 path = ["s2", "s1"]
 "#,
-            ), (
-                "t.csv",
-                "packet,0,f1,1\n",
-            )],
+                ),
+                ("t.csv", "packet,0,f1,1\n"),
+            ],
             8,
             "netcalc: cycle s1 s2 s1\n",
         ),
         // a_gate_that_closes_on_a_packet
         (
             "netcalc simulate n.toml t.csv",
-            &[(
-                "n.toml",
-                r#"[[server]]
+            &[
+                (
+                    "n.toml",
+                    r#"[[server]]
 name = "g"
 rate = 100
 service = { kind = "gate", cycle = 1000, slot = 250 }
@@ -2840,10 +2881,9 @@ packet = 24000
 arrival = { kind = "stair", period = 1500, jitter = 0 }
 path = ["g"]
 "#,
-            ), (
-                "t.csv",
-                "packet,100,f,24000\n",
-            )],
+                ),
+                ("t.csv", "packet,100,f,24000\n"),
+            ],
             0,
             r#"servers 1 flows 1
 run packets 1 end 1090
@@ -2855,9 +2895,10 @@ breach none
         // a_gate_that_reaches_its_bound
         (
             "netcalc simulate n.toml t.csv",
-            &[(
-                "n.toml",
-                r#"[[server]]
+            &[
+                (
+                    "n.toml",
+                    r#"[[server]]
 name = "g"
 rate = 100
 service = { kind = "gate", cycle = 1000, slot = 250 }
@@ -2868,10 +2909,9 @@ packet = 24000
 arrival = { kind = "stair", period = 1500, jitter = 0 }
 path = ["g"]
 "#,
-            ), (
-                "t.csv",
-                "packet,250,f,24000\n",
-            )],
+                ),
+                ("t.csv", "packet,250,f,24000\n"),
+            ],
             0,
             r#"servers 1 flows 1
 run packets 1 end 1240
@@ -2883,9 +2923,10 @@ breach none
         // a_length_that_is_no_number
         (
             "netcalc simulate n.toml t.csv",
-            &[(
-                "n.toml",
-                r#"[[server]]
+            &[
+                (
+                    "n.toml",
+                    r#"[[server]]
 name = "s1"
 rate = 100
 service = { kind = "latency", latency = 10 }
@@ -2896,19 +2937,19 @@ packet = 12000
 arrival = { kind = "bucket", burst = 12000, rate = 10 }
 path = ["s1"]
 "#,
-            ), (
-                "t.csv",
-                "packet,0,f1,x\n",
-            )],
+                ),
+                ("t.csv", "packet,0,f1,x\n"),
+            ],
             1,
             "netcalc: t.csv: T4 row 1\n",
         ),
         // a_network_that_breaks_a_rule_goes_first
         (
             "netcalc simulate n.toml t.csv",
-            &[(
-                "n.toml",
-                r#"[[server]]
+            &[
+                (
+                    "n.toml",
+                    r#"[[server]]
 name = "s1"
 rate = 100
 service = { kind = "latency", latency = 10 }
@@ -2919,19 +2960,19 @@ packet = 0
 arrival = { kind = "bucket", burst = 12000, rate = 10 }
 path = ["s1"]
 "#,
-            ), (
-                "t.csv",
-                "pocket\n",
-            )],
+                ),
+                ("t.csv", "pocket\n"),
+            ],
             1,
             "netcalc: n.toml: M6 flow[0].packet\n",
         ),
         // a_packet_before_an_earlier_one
         (
             "netcalc simulate n.toml t.csv",
-            &[(
-                "n.toml",
-                r#"[[server]]
+            &[
+                (
+                    "n.toml",
+                    r#"[[server]]
 name = "s1"
 rate = 100
 service = { kind = "latency", latency = 10 }
@@ -2942,21 +2983,24 @@ packet = 12000
 arrival = { kind = "bucket", burst = 12000, rate = 10 }
 path = ["s1"]
 "#,
-            ), (
-                "t.csv",
-                r#"packet,5,f1,1
+                ),
+                (
+                    "t.csv",
+                    r#"packet,5,f1,1
 packet,4,f1,1
 "#,
-            )],
+                ),
+            ],
             1,
             "netcalc: t.csv: T6 row 2\n",
         ),
         // a_packet_one_bit_too_long
         (
             "netcalc simulate n.toml t.csv",
-            &[(
-                "n.toml",
-                r#"[[server]]
+            &[
+                (
+                    "n.toml",
+                    r#"[[server]]
 name = "s1"
 rate = 100
 service = { kind = "latency", latency = 10 }
@@ -2967,10 +3011,9 @@ packet = 12000
 arrival = { kind = "bucket", burst = 12000, rate = 10 }
 path = ["s1"]
 "#,
-            ), (
-                "t.csv",
-                "packet,0,f1,12001\n",
-            )],
+                ),
+                ("t.csv", "packet,0,f1,12001\n"),
+            ],
             9,
             r#"servers 1 flows 1
 run packets 1 end 12001/100
@@ -2982,9 +3025,10 @@ breach size f1 0
         // a_packet_that_enters_as_the_one_before_leaves
         (
             "netcalc simulate n.toml t.csv",
-            &[(
-                "n.toml",
-                r#"[[server]]
+            &[
+                (
+                    "n.toml",
+                    r#"[[server]]
 name = "s1"
 rate = 100
 service = { kind = "latency", latency = 10 }
@@ -2995,12 +3039,14 @@ packet = 12000
 arrival = { kind = "bucket", burst = 12000, rate = 100 }
 path = ["s1"]
 "#,
-            ), (
-                "t.csv",
-                r#"packet,0,f1,12000
+                ),
+                (
+                    "t.csv",
+                    r#"packet,0,f1,12000
 packet,120,f1,12000
 "#,
-            )],
+                ),
+            ],
             0,
             r#"servers 1 flows 1
 run packets 2 end 240
@@ -3012,9 +3058,10 @@ breach none
         // a_packet_under_way_is_not_broken_off
         (
             "netcalc simulate n.toml t.csv",
-            &[(
-                "n.toml",
-                r#"[[server]]
+            &[
+                (
+                    "n.toml",
+                    r#"[[server]]
 name = "s1"
 rate = 100
 service = { kind = "latency", latency = 10 }
@@ -3033,12 +3080,14 @@ packet = 6000
 arrival = { kind = "bucket", burst = 6000, rate = 5 }
 path = ["s1:0"]
 "#,
-            ), (
-                "t.csv",
-                r#"packet,0,f1,12000
+                ),
+                (
+                    "t.csv",
+                    r#"packet,0,f1,12000
 packet,1,f2,6000
 "#,
-            )],
+                ),
+            ],
             0,
             r#"servers 1 flows 2
 run packets 2 end 180
@@ -3052,9 +3101,10 @@ breach none
         // a_row_of_no_kind
         (
             "netcalc simulate n.toml t.csv",
-            &[(
-                "n.toml",
-                r#"[[server]]
+            &[
+                (
+                    "n.toml",
+                    r#"[[server]]
 name = "s1"
 rate = 100
 service = { kind = "latency", latency = 10 }
@@ -3065,19 +3115,19 @@ packet = 12000
 arrival = { kind = "bucket", burst = 12000, rate = 10 }
 path = ["s1"]
 "#,
-            ), (
-                "t.csv",
-                "pocket,0,f1,1\n",
-            )],
+                ),
+                ("t.csv", "pocket,0,f1,1\n"),
+            ],
             1,
             "netcalc: t.csv: T2 row 1\n",
         ),
         // a_row_with_too_few_fields
         (
             "netcalc simulate n.toml t.csv",
-            &[(
-                "n.toml",
-                r#"[[server]]
+            &[
+                (
+                    "n.toml",
+                    r#"[[server]]
 name = "s1"
 rate = 100
 service = { kind = "latency", latency = 10 }
@@ -3088,19 +3138,19 @@ packet = 12000
 arrival = { kind = "bucket", burst = 12000, rate = 10 }
 path = ["s1"]
 "#,
-            ), (
-                "t.csv",
-                "packet,0,f1\n",
-            )],
+                ),
+                ("t.csv", "packet,0,f1\n"),
+            ],
             1,
             "netcalc: t.csv: T3 row 1\n",
         ),
         // a_stall_of_10
         (
             "netcalc simulate n.toml t.csv",
-            &[(
-                "n.toml",
-                r#"[[server]]
+            &[
+                (
+                    "n.toml",
+                    r#"[[server]]
 name = "s1"
 rate = 100
 service = { kind = "latency", latency = 10 }
@@ -3111,12 +3161,14 @@ packet = 12000
 arrival = { kind = "bucket", burst = 12000, rate = 10 }
 path = ["s1"]
 "#,
-            ), (
-                "t.csv",
-                r#"packet,0,f1,12000
+                ),
+                (
+                    "t.csv",
+                    r#"packet,0,f1,12000
 stall,s1,0,10
 "#,
-            )],
+                ),
+            ],
             0,
             r#"servers 1 flows 1
 run packets 1 end 130
@@ -3128,9 +3180,10 @@ breach none
         // a_stall_of_11
         (
             "netcalc simulate n.toml t.csv",
-            &[(
-                "n.toml",
-                r#"[[server]]
+            &[
+                (
+                    "n.toml",
+                    r#"[[server]]
 name = "s1"
 rate = 100
 service = { kind = "latency", latency = 10 }
@@ -3141,12 +3194,14 @@ packet = 12000
 arrival = { kind = "bucket", burst = 12000, rate = 10 }
 path = ["s1"]
 "#,
-            ), (
-                "t.csv",
-                r#"packet,0,f1,12000
+                ),
+                (
+                    "t.csv",
+                    r#"packet,0,f1,12000
 stall,s1,0,11
 "#,
-            )],
+                ),
+            ],
             9,
             r#"servers 1 flows 1
 run packets 1 end 131
@@ -3158,9 +3213,10 @@ breach service s1 0 11
         // a_stall_of_an_unknown_server
         (
             "netcalc simulate n.toml t.csv",
-            &[(
-                "n.toml",
-                r#"[[server]]
+            &[
+                (
+                    "n.toml",
+                    r#"[[server]]
 name = "s1"
 rate = 100
 service = { kind = "latency", latency = 10 }
@@ -3171,21 +3227,24 @@ packet = 12000
 arrival = { kind = "bucket", burst = 12000, rate = 10 }
 path = ["s1"]
 "#,
-            ), (
-                "t.csv",
-                r#"packet,0,f1,1
+                ),
+                (
+                    "t.csv",
+                    r#"packet,0,f1,1
 stall,s9,0,1
 "#,
-            )],
+                ),
+            ],
             1,
             "netcalc: t.csv: T5 row 2\n",
         ),
         // a_stall_that_ends_where_it_begins
         (
             "netcalc simulate n.toml t.csv",
-            &[(
-                "n.toml",
-                r#"[[server]]
+            &[
+                (
+                    "n.toml",
+                    r#"[[server]]
 name = "s1"
 rate = 100
 service = { kind = "latency", latency = 10 }
@@ -3196,19 +3255,19 @@ packet = 12000
 arrival = { kind = "bucket", burst = 12000, rate = 10 }
 path = ["s1"]
 "#,
-            ), (
-                "t.csv",
-                "stall,s1,1,1\n",
-            )],
+                ),
+                ("t.csv", "stall,s1,1,1\n"),
+            ],
             1,
             "netcalc: t.csv: T4 row 1\n",
         ),
         // a_stall_that_ends_while_the_gate_is_closed
         (
             "netcalc simulate n.toml t.csv",
-            &[(
-                "n.toml",
-                r#"[[server]]
+            &[
+                (
+                    "n.toml",
+                    r#"[[server]]
 name = "g"
 rate = 100
 service = { kind = "gate", cycle = 1000, slot = 250 }
@@ -3219,12 +3278,14 @@ packet = 24000
 arrival = { kind = "stair", period = 1500, jitter = 0 }
 path = ["g"]
 "#,
-            ), (
-                "t.csv",
-                r#"packet,0,f,24000
+                ),
+                (
+                    "t.csv",
+                    r#"packet,0,f,24000
 stall,g,0,300
 "#,
-            )],
+                ),
+            ],
             9,
             r#"servers 1 flows 1
 run packets 1 end 1240
@@ -3236,9 +3297,10 @@ breach service g 0 1000
         // a_time_too_wide
         (
             "netcalc simulate n.toml t.csv",
-            &[(
-                "n.toml",
-                r#"[[server]]
+            &[
+                (
+                    "n.toml",
+                    r#"[[server]]
 name = "s1"
 rate = 100
 service = { kind = "latency", latency = 10 }
@@ -3249,19 +3311,22 @@ packet = 12000
 arrival = { kind = "bucket", burst = 12000, rate = 10 }
 path = ["s1"]
 "#,
-            ), (
-                "t.csv",
-                "packet,1/1329227995784915872903807060280344576,f1,12000\n",
-            )],
+                ),
+                (
+                    "t.csv",
+                    "packet,1/1329227995784915872903807060280344576,f1,12000\n",
+                ),
+            ],
             6,
             "netcalc: too wide: simulation\n",
         ),
         // a_trace_fault_goes_before_a_cycle
         (
             "netcalc simulate n.toml t.csv",
-            &[(
-                "n.toml",
-                r#"[[server]]
+            &[
+                (
+                    "n.toml",
+                    r#"[[server]]
 name = "s1"
 rate = 100
 service = { kind = "latency", latency = 10 }
@@ -3283,19 +3348,19 @@ packet = 6000
 arrival = { kind = "bucket", burst = 6000, rate = 5 }
 path = ["s2", "s1"]
 "#,
-            ), (
-                "t.csv",
-                "pocket\n",
-            )],
+                ),
+                ("t.csv", "pocket\n"),
+            ],
             1,
             "netcalc: t.csv: T2 row 1\n",
         ),
         // an_empty_trace
         (
             "netcalc simulate n.toml t.csv",
-            &[(
-                "n.toml",
-                r#"[[server]]
+            &[
+                (
+                    "n.toml",
+                    r#"[[server]]
 name = "s1"
 rate = 100
 service = { kind = "latency", latency = 10 }
@@ -3306,10 +3371,9 @@ packet = 12000
 arrival = { kind = "bucket", burst = 12000, rate = 10 }
 path = ["s1"]
 "#,
-            ), (
-                "t.csv",
-                "",
-            )],
+                ),
+                ("t.csv", ""),
+            ],
             0,
             r#"servers 1 flows 1
 run packets 0 end 0
@@ -3321,9 +3385,10 @@ breach none
         // an_unknown_flow
         (
             "netcalc simulate n.toml t.csv",
-            &[(
-                "n.toml",
-                r#"[[server]]
+            &[
+                (
+                    "n.toml",
+                    r#"[[server]]
 name = "s1"
 rate = 100
 service = { kind = "latency", latency = 10 }
@@ -3334,19 +3399,19 @@ packet = 12000
 arrival = { kind = "bucket", burst = 12000, rate = 10 }
 path = ["s1"]
 "#,
-            ), (
-                "t.csv",
-                "packet,0,f9,1\n",
-            )],
+                ),
+                ("t.csv", "packet,0,f9,1\n"),
+            ],
             1,
             "netcalc: t.csv: T5 row 1\n",
         ),
         // avionics
         (
             "netcalc simulate n.toml t.csv",
-            &[(
-                "n.toml",
-                r#"[[server]]
+            &[
+                (
+                    "n.toml",
+                    r#"[[server]]
 name = "sw1"
 rate = 100
 service = { kind = "latency", latency = 16 }
@@ -3374,13 +3439,15 @@ packet = 12000
 arrival = { kind = "stair", period = 4000, jitter = 0 }
 path = ["sw1", "sw2"]
 "#,
-            ), (
-                "t.csv",
-                r#"packet,0,a,4000
+                ),
+                (
+                    "t.csv",
+                    r#"packet,0,a,4000
 packet,0,b,8000
 packet,0,c,12000
 "#,
-            )],
+                ),
+            ],
             0,
             r#"servers 2 flows 3
 run packets 3 end 360
@@ -3395,9 +3462,10 @@ breach none
         // deficits_after_a_visit
         (
             "netcalc simulate n.toml t.csv",
-            &[(
-                "n.toml",
-                r#"[[server]]
+            &[
+                (
+                    "n.toml",
+                    r#"[[server]]
 name = "s1"
 rate = 100
 service = { kind = "latency", latency = 10 }
@@ -3416,13 +3484,15 @@ packet = 6000
 arrival = { kind = "bucket", burst = 6000, rate = 5 }
 path = ["s1:1"]
 "#,
-            ), (
-                "t.csv",
-                r#"packet,0,f1,12000
+                ),
+                (
+                    "t.csv",
+                    r#"packet,0,f1,12000
 packet,0,f1,12000
 packet,0,f2,6000
 "#,
-            )],
+                ),
+            ],
             9,
             r#"servers 1 flows 2
 run packets 3 end 300
@@ -3436,9 +3506,10 @@ breach arrival f1 0 1
         // deficits_in_turn
         (
             "netcalc simulate n.toml t.csv",
-            &[(
-                "n.toml",
-                r#"[[server]]
+            &[
+                (
+                    "n.toml",
+                    r#"[[server]]
 name = "s1"
 rate = 100
 service = { kind = "latency", latency = 10 }
@@ -3457,12 +3528,14 @@ packet = 6000
 arrival = { kind = "bucket", burst = 6000, rate = 5 }
 path = ["s1:1"]
 "#,
-            ), (
-                "t.csv",
-                r#"packet,0,f1,12000
+                ),
+                (
+                    "t.csv",
+                    r#"packet,0,f1,12000
 packet,0,f2,6000
 "#,
-            )],
+                ),
+            ],
             0,
             r#"servers 1 flows 2
 run packets 2 end 180
@@ -3476,9 +3549,10 @@ breach none
         // gates_whose_spans_do_not_cancel
         (
             "netcalc simulate n.toml t.csv",
-            &[(
-                "n.toml",
-                r#"[[server]]
+            &[
+                (
+                    "n.toml",
+                    r#"[[server]]
 name = "g1"
 rate = 1
 service = { kind = "gate", cycle = 1099511627792, slot = 1099511627791 }
@@ -3566,9 +3640,10 @@ packet = 1
 arrival = { kind = "bucket", burst = 1, rate = 0 }
 path = ["g8"]
 "#,
-            ), (
-                "t.csv",
-                r#"packet,0,f1,1
+                ),
+                (
+                    "t.csv",
+                    r#"packet,0,f1,1
 packet,0,f2,1
 packet,0,f3,1
 packet,0,f4,1
@@ -3577,7 +3652,8 @@ packet,0,f6,1
 packet,0,f7,1
 packet,0,f8,1
 "#,
-            )],
+                ),
+            ],
             6,
             "netcalc: too wide: simulation\n",
         ),
@@ -3624,9 +3700,10 @@ path = ["s1"]
         // sixteen_gates_whose_spans_cancel
         (
             "netcalc simulate n.toml t.csv",
-            &[(
-                "n.toml",
-                r#"[[server]]
+            &[
+                (
+                    "n.toml",
+                    r#"[[server]]
 name = "g1"
 rate = 1
 service = { kind = "gate", cycle = 1099511627792, slot = 1099511627791 }
@@ -3802,9 +3879,10 @@ packet = 1
 arrival = { kind = "bucket", burst = 1, rate = 0 }
 path = ["g16"]
 "#,
-            ), (
-                "t.csv",
-                r#"packet,0,f1,1
+                ),
+                (
+                    "t.csv",
+                    r#"packet,0,f1,1
 packet,0,f2,1
 packet,0,f3,1
 packet,0,f4,1
@@ -3821,7 +3899,8 @@ packet,0,f14,1
 packet,0,f15,1
 packet,0,f16,1
 "#,
-            )],
+                ),
+            ],
             0,
             r#"servers 16 flows 16
 run packets 16 end 1
@@ -3863,9 +3942,10 @@ breach none
         // the_first_flow_first
         (
             "netcalc simulate n.toml t.csv",
-            &[(
-                "n.toml",
-                r#"[[server]]
+            &[
+                (
+                    "n.toml",
+                    r#"[[server]]
 name = "s1"
 rate = 100
 service = { kind = "latency", latency = 10 }
@@ -3882,12 +3962,14 @@ packet = 6000
 arrival = { kind = "bucket", burst = 6000, rate = 5 }
 path = ["s1"]
 "#,
-            ), (
-                "t.csv",
-                r#"packet,0,f1,12000
+                ),
+                (
+                    "t.csv",
+                    r#"packet,0,f1,12000
 packet,0,f2,6000
 "#,
-            )],
+                ),
+            ],
             0,
             r#"servers 1 flows 2
 run packets 2 end 180
@@ -3900,9 +3982,10 @@ breach none
         // the_second_flow_first
         (
             "netcalc simulate n.toml t.csv",
-            &[(
-                "n.toml",
-                r#"[[server]]
+            &[
+                (
+                    "n.toml",
+                    r#"[[server]]
 name = "s1"
 rate = 100
 service = { kind = "latency", latency = 10 }
@@ -3919,12 +4002,14 @@ packet = 6000
 arrival = { kind = "bucket", burst = 6000, rate = 5 }
 path = ["s1"]
 "#,
-            ), (
-                "t.csv",
-                r#"packet,0,f2,6000
+                ),
+                (
+                    "t.csv",
+                    r#"packet,0,f2,6000
 packet,0,f1,12000
 "#,
-            )],
+                ),
+            ],
             0,
             r#"servers 1 flows 2
 run packets 2 end 180
@@ -3937,9 +4022,10 @@ breach none
         // the_urgent_queue_goes_first
         (
             "netcalc simulate n.toml t.csv",
-            &[(
-                "n.toml",
-                r#"[[server]]
+            &[
+                (
+                    "n.toml",
+                    r#"[[server]]
 name = "s1"
 rate = 100
 service = { kind = "latency", latency = 10 }
@@ -3958,12 +4044,14 @@ packet = 6000
 arrival = { kind = "bucket", burst = 6000, rate = 5 }
 path = ["s1:0"]
 "#,
-            ), (
-                "t.csv",
-                r#"packet,0,f1,12000
+                ),
+                (
+                    "t.csv",
+                    r#"packet,0,f1,12000
 packet,0,f2,6000
 "#,
-            )],
+                ),
+            ],
             0,
             r#"servers 1 flows 2
 run packets 2 end 180
@@ -3977,9 +4065,10 @@ breach none
         // three_packets_whose_neighbours_keep_the_curve
         (
             "netcalc simulate n.toml t.csv",
-            &[(
-                "n.toml",
-                r#"[[server]]
+            &[
+                (
+                    "n.toml",
+                    r#"[[server]]
 name = "s1"
 rate = 100
 service = { kind = "latency", latency = 10 }
@@ -3990,13 +4079,15 @@ packet = 12000
 arrival = { kind = "bucket", burst = 12000, rate = 10 }
 path = ["s1"]
 "#,
-            ), (
-                "t.csv",
-                r#"packet,0,f1,6000
+                ),
+                (
+                    "t.csv",
+                    r#"packet,0,f1,6000
 packet,100,f1,6000
 packet,200,f1,6000
 "#,
-            )],
+                ),
+            ],
             9,
             r#"servers 1 flows 1
 run packets 3 end 260
@@ -4008,9 +4099,10 @@ breach arrival f1 0 2
         // two_gates_whose_spans_cancel
         (
             "netcalc simulate n.toml t.csv",
-            &[(
-                "n.toml",
-                r#"[[server]]
+            &[
+                (
+                    "n.toml",
+                    r#"[[server]]
 name = "g1"
 rate = 1
 service = { kind = "gate", cycle = "1267650600228229401496703205377", slot = "1267650600228229401496703205376" }
@@ -4032,12 +4124,14 @@ packet = 1
 arrival = { kind = "bucket", burst = 1, rate = 0 }
 path = ["g2"]
 "#,
-            ), (
-                "t.csv",
-                r#"packet,0,f1,1
+                ),
+                (
+                    "t.csv",
+                    r#"packet,0,f1,1
 packet,0,f2,1
 "#,
-            )],
+                ),
+            ],
             0,
             r#"servers 2 flows 2
 run packets 2 end 1
@@ -4051,9 +4145,10 @@ breach none
         // two_hops_with_links
         (
             "netcalc simulate n.toml t.csv",
-            &[(
-                "n.toml",
-                r#"[[server]]
+            &[
+                (
+                    "n.toml",
+                    r#"[[server]]
 name = "s1"
 rate = 100
 service = { kind = "latency", latency = 10 }
@@ -4071,10 +4166,9 @@ packet = 12000
 arrival = { kind = "bucket", burst = 12000, rate = 10 }
 path = ["s1", "s2"]
 "#,
-            ), (
-                "t.csv",
-                "packet,0,f1,12000\n",
-            )],
+                ),
+                ("t.csv", "packet,0,f1,12000\n"),
+            ],
             0,
             r#"servers 2 flows 1
 run packets 1 end 245
@@ -4087,9 +4181,10 @@ breach none
         // two_packets_at_0
         (
             "netcalc simulate n.toml t.csv",
-            &[(
-                "n.toml",
-                r#"[[server]]
+            &[
+                (
+                    "n.toml",
+                    r#"[[server]]
 name = "s1"
 rate = 100
 service = { kind = "latency", latency = 10 }
@@ -4100,12 +4195,14 @@ packet = 12000
 arrival = { kind = "bucket", burst = 12000, rate = 10 }
 path = ["s1"]
 "#,
-            ), (
-                "t.csv",
-                r#"packet,0,f1,12000
+                ),
+                (
+                    "t.csv",
+                    r#"packet,0,f1,12000
 packet,0,f1,12000
 "#,
-            )],
+                ),
+            ],
             9,
             r#"servers 1 flows 1
 run packets 2 end 240
