@@ -1,6 +1,7 @@
 pub mod FileLemmas
 pub mod Fetches
 pub mod ByCommand
+pub mod NoWrite
 pub mod Replies
 pub mod ExampleNet
 pub mod ExampleBound

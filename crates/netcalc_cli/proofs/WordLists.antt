@@ -56,3 +56,20 @@ of_six (a ∷ b ∷ c ∷ d ∷ e ∷ g ∷ []) w n t f r least few one two thre
     ∷ string_bytes z ∷ string_bytes u ∷ [])) w n t f r b c d e g one two three four five
 of_six (a ∷ b ∷ c ∷ d ∷ e ∷ g ∷ h ∷ rest) w n t f r least few one two three four five =
     absurd (omega (arith, few))
+
+-- four words ask for what the last three say
+same_of_three : {A B : Type 0} (f : A → A → A → B) (a b c v w x : A) → a ≡ v → b ≡ w → c ≡ x → f a b c ≡ f v w x
+same_of_three f a b c v w x one two three = cc
+
+pub of_four : (words : Words) (word first second : String Global) → 4 ≤ length words → length words < 5
+    → word ≡ slice_index_or words 1 word → first ≡ slice_index_or words 2 first
+    → second ≡ slice_index_or words 3 second
+    → command_of ([] ∷ string_bytes word ∷ string_bytes first ∷ string_bytes second ∷ []) ≡ command_of (texts words)
+of_four [] w f s least few one two three = absurd (omega (arith, least))
+of_four (a ∷ []) w f s least few one two three = absurd (omega (arith, least))
+of_four (a ∷ b ∷ []) w f s least few one two three = absurd (omega (arith, least))
+of_four (a ∷ b ∷ c ∷ []) w f s least few one two three = absurd (omega (arith, least))
+of_four (a ∷ b ∷ c ∷ d ∷ []) w f s least few one two three =
+    same_of_three (λ (v x y : String Global). command_of ([] ∷ string_bytes v ∷ string_bytes x ∷ string_bytes y ∷ []))
+    w f s b c d one two three
+of_four (a ∷ b ∷ c ∷ d ∷ e ∷ rest) w f s least few one two three = absurd (omega (arith, few))

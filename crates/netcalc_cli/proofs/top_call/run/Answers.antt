@@ -3,8 +3,15 @@ use Rattle.command_replies.specs.Replies.{usage}
 use Rattle.command_replies.specs.View.{reply_of}
 use Rattle.netcalc_cli.specs.Reply.{commands}
 use Rattle.netcalc_cli.specs.View.{command_view}
+use Rattle.netcalc_cli.proofs.NoWrite.{none_is_a_write_fault}
 use Rattle.netcalc_cli.proofs.Replies.{brought, told_given, answers_what_it_can, counts_at}
 use Rattle.netcalc_cli.proofs.top_call.run.Goals as goal
+
+pub give-requires-in-Ok : goal.give-requires-in-Ok
+give-requires-in-Ok g c =
+    none_is_a_write_fault g.I.Inputs.faults g.I.Inputs.last_fault (g.I.Inputs.content c.args.inputs.now)
+    (command_view c.in-Some.taken.command) c.args.inputs.now c.answer_to.new.inputs (reply_of c.in-Ok.answer)
+    c.in-Ok.ensures.reply
 
 pub returns-in-Ok-clause-read_fault : goal.returns-in-Ok-clause-read_fault
 returns-in-Ok-clause-read_fault g c is =

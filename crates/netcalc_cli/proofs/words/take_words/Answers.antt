@@ -1,6 +1,12 @@
 use Rattle.std.proofs.Common.{◌∙◌}
-use Rattle.netcalc_cli.proofs.WordLists.{of_six}
+use Rattle.netcalc_cli.proofs.WordLists.{of_four, of_six}
 use Rattle.netcalc_cli.proofs.words.take_words.Goals as goal
+
+pub returns-in-len4-clause-command : goal.returns-in-len4-clause-command
+returns-in-len4-clause-command c =
+    (rw c.as_str-in-len4.ensures.value at c.with_two.ensures.command)
+    ∙ of_four c.args.words.now c.word-item-then-words-lt5.result c.first-item.result c.second-item.result
+    c.in-len4.len_at_least c.in-len4.len_below c.word-item-then-words-lt5.is c.first-item.is c.second-item.is
 
 pub returns-in-len6-clause-command : goal.returns-in-len6-clause-command
 returns-in-len6-clause-command c =
