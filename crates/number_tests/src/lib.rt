@@ -17,5 +17,3 @@ mod lines;
 mod normal_forms;
 #[cfg(test)]
 mod own_limits;
-#[cfg(test)]
-mod wide;
