@@ -7,12 +7,13 @@ use Rattle.net_bounds.proofs.Kept.{table_bounds_every_run}
 use Rattle.command_replies.specs.Guarantee.{Guarantees}
 use Rattle.command_replies.specs.Replies.{Reply, AreSame}
 use Rattle.command_replies.proofs.OneRefusal.{equal}
+use Rattle.json_report.specs.declared.form.Form.TheVariants.{Lines}
 use Rattle.analyse_command.specs.AnswerCounts.{CountsOn}
 use Rattle.analyse_command.specs.OnFiles.{IsReportOf, IsReport}
 use Rattle.analyse_command.proofs.ByStatus as analyse
 use Rattle.analyse_command.proofs.OneReply as analysed
 use Rattle.simulate_command.specs.RunCounts as run_counts
-use Rattle.simulate_command.specs.RunCounts.{IsOfReport}
+use Rattle.run_findings.specs.Statuses.{IsOfReport}
 use Rattle.simulate_command.proofs.Causes as run
 use Rattle.simulate_command.proofs.OneReply as simulated
 use Rattle.simulate_command.proofs.Status.{status_tells}
@@ -36,18 +37,18 @@ pub record IsByStatus (command : Command) (files : List (List ℕ)) (reply : Rep
   pub breach : reply.status ≡ 9 → TellsBreach command files reply
 
 -- no run passes the table of a report
-guaranteed : (net : Net) (at : CellTable) (bytes : List ℕ) (reply : Reply) → IsReportOf net at bytes reply
+guaranteed : (net : Net) (at : CellTable) (bytes : List ℕ) (reply : Reply) → IsReportOf Lines net at bytes reply
     → Guarantees net at
 guaranteed net at bytes reply h run keeps =
     table_bounds_every_run net h.order at run h.gives.accepted h.ordered h.meets keeps
 
-report_done : (net bytes : List ℕ) (reply : Reply) → IsReport bytes reply → IsDone (Analyse net) (bytes ∷ []) reply
+report_done : (net bytes : List ℕ) (reply : Reply) → IsReport Lines bytes reply → IsDone (Analyse net) (bytes ∷ []) reply
 report_done net bytes reply r = (r.0, r.1, r.2, guaranteed r.0 r.1 bytes reply r.2)
 
 pub by_command : (command : Command) (files : List (List ℕ)) (reply : Reply) → IsReplyTo command files reply
     → IsByStatus command files reply
 by_command (Analyse net) (bytes ∷ []) reply h =
-    let k = analyse.by_status net bytes reply h in
+    let k = analyse.by_status Lines net bytes reply h in
     record {
       done = λ e. report_done net bytes reply (k.report e);
       malformed = λ e. k.broken e;
@@ -101,7 +102,7 @@ by_command command files reply h = absurd h
 -- ---- one reply
 pub one_by_command : (command : Command) (files : List (List ℕ)) (x y : Reply) → IsReplyTo command files x
     → IsReplyTo command files y → AreSame x y
-one_by_command (Analyse net) (bytes ∷ []) x y h k = analysed.replies_are_determined net bytes x y h k
+one_by_command (Analyse net) (bytes ∷ []) x y h k = analysed.replies_are_determined Lines net bytes x y h k
 one_by_command (Simulate net trace) (bytes ∷ rows ∷ []) x y h k =
     simulated.replies_are_determined net bytes trace rows x y h k
 one_by_command (Measure net trace name rate) (bytes ∷ rows ∷ []) x y h k =
@@ -113,7 +114,7 @@ one_by_command command files x y h k = absurd h
 -- ---- on files that can be answered
 pub complete_by_command : (command : Command) (files : List (List ℕ)) (reply : Reply) → IsAnswerable command files
     → IsReplyTo command files reply → IsAnswer command reply.status
-complete_by_command (Analyse net) (bytes ∷ []) reply can h = analysed.replies_are_complete net bytes reply can h
+complete_by_command (Analyse net) (bytes ∷ []) reply can h = analysed.replies_are_complete Lines net bytes reply can h
 complete_by_command (Simulate net trace) (bytes ∷ rows ∷ []) reply can h =
     simulated.replies_are_complete net bytes trace rows reply can h
 complete_by_command (Measure net trace name rate) (bytes ∷ rows ∷ []) reply can h =

@@ -11,6 +11,7 @@ use Rattle.net_cells.specs.Meanings.{CellTable}
 use Rattle.command_replies.specs.Replies.{Reply}
 use Rattle.command_replies.specs.Guarantee.{Guarantees}
 use Rattle.command_replies.specs.OnFiles.{IsBroken, IsOverLimit, HasCycle}
+use Rattle.json_report.specs.declared.form.Form.TheVariants.{Lines}
 use Rattle.analyse_command.specs.OnFiles.{IsReplyOn, IsReportOf}
 use Rattle.analyse_command.specs.AnswerCounts.{CountsOn}
 use Rattle.analyse_command.specs.AnswerLaws.{IsWithinLimits}
@@ -18,7 +19,8 @@ use Rattle.simulate_command.specs.OnTraces as traces
 use Rattle.simulate_command.specs.OnTraces.{IsRunReply, IsRunReport, IsSimulationOver}
 use Rattle.simulate_command.specs.RunCounts as run_counts
 use Rattle.simulate_command.specs.Laws as run_laws
-use Rattle.simulate_command.specs.Laws.{Keeps, IsQuietReport}
+use Rattle.simulate_command.specs.Laws.{IsQuietReport}
+use Rattle.run_findings.specs.Statuses.{Keeps}
 use Rattle.measure_command.specs.OnMeasures.{IsMeasureReply, IsReportOf as IsMeasureReportOf}
 use Rattle.measure_command.specs.MeasureCauses as measure_causes
 use Rattle.measure_command.specs.MeasureCounts as measure_counts
@@ -48,7 +50,7 @@ files_of (Curve script) = script ∷ []
 
 -- ---- what is answered where the files hold these bytes, which are not too many
 abbrev pub IsReplyTo : Command → List (List ℕ) → Reply → Type 0
-IsReplyTo (Analyse net) (bytes ∷ []) reply = IsReplyOn net bytes reply
+IsReplyTo (Analyse net) (bytes ∷ []) reply = IsReplyOn Lines net bytes reply
 IsReplyTo (Simulate net trace) (bytes ∷ rows ∷ []) reply = IsRunReply net bytes trace rows reply
 IsReplyTo (Measure net trace name rate) (bytes ∷ rows ∷ []) reply = IsMeasureReply net bytes trace rows name rate reply
 IsReplyTo (Curve script) (bytes ∷ []) reply = IsScriptReply script bytes reply
@@ -96,7 +98,7 @@ TellsBreach command files reply = ⊥
 -- packets, with the least bucket of the rate that they keep; or the answers of a script
 abbrev pub IsDone : Command → List (List ℕ) → Reply → Type 0
 IsDone (Analyse net) (bytes ∷ []) reply =
-    (model : Net) × (at : CellTable) × IsReportOf model at bytes reply × Guarantees model at
+    (model : Net) × (at : CellTable) × IsReportOf Lines model at bytes reply × Guarantees model at
 IsDone (Simulate net trace) (bytes ∷ rows ∷ []) reply =
     (h : IsQuietReport bytes rows reply) × Guarantees h.report.net h.report.at
 IsDone (Measure net trace name rate) (bytes ∷ rows ∷ []) reply =

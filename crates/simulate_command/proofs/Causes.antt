@@ -6,7 +6,7 @@ use Rattle.upp_limits.specs.declared.own_limits.OverLimit.{OverLimit}
 use Rattle.upp_limits.specs.declared.own_limits.OverLimit.TheVariants.{TooMany, TooWide}
 use Rattle.net_model.specs.declared.breach.Breach.{Breach}
 use Rattle.command_replies.specs.Replies.{Reply, over}
-use Rattle.simulate_command.specs.Found.{status_by}
+use Rattle.run_findings.specs.Found.{status_by}
 use Rattle.simulate_command.specs.OnTraces as on
 use Rattle.simulate_command.specs.OnTraces.{IsRunReport, IsMalformed, IsOverLimit, IsSimulationOver, HasCycleBehind}
 use Rattle.simulate_command.specs.Laws.{HasCause, StatusesHaveCauses}

@@ -5,15 +5,15 @@ ghost use Rattle.net_model.specs.Orders.{IsOrder};
 ghost use Rattle.stated_runs.specs.FromTraces.{IsTraceOf};
 ghost use Rattle.command_replies.specs.View.{reply_of, status_of};
 ghost use Rattle.simulate_command.specs.OnTraces.{IsRunReplyOnTrace};
-ghost use Rattle.simulate_command.specs.RunCounts.{CountsOnTrace};
+ghost use Rattle.run_findings.specs.CellCounts.{CountsOnTrace};
 
-use crate::curves::keeps_curves;
-use crate::found::simulated;
+use crate::reported::simulated;
 use cell_table::AnalysisFault;
 use command_replies::{Answer, cell_too_many, cell_too_wide, goes_round};
 use flow_analysis::analyse;
 use net_graph::{GraphFault, order};
 use net_model::{Network, Trace};
+use run_findings::keeps_curves;
 use std::alloc::{AllocError, Global};
 use std::sync::ledger::Ledger;
 use steps::Steps;

@@ -3,14 +3,14 @@
 ghost use Rattle.std.specs.Prelude.{◌≡◌, ◌<◌, length, map, All, IfOk};
 ghost use Rattle.net_model.specs.declared.server.Server.{Server};
 ghost use Rattle.stated_runs.specs.FromTraces.{IsTraceOf};
-ghost use Rattle.simulate_command.specs.Open as open;
+ghost use Rattle.run_findings.specs.Told as spec;
 
 use net_model::{Network, Server, ServiceKind, Stall, Trace};
 use std::alloc::{AllocError, Global};
 
 // Whether a service curve is not listed by its pieces.
 fn is_by_formula(kind: &ServiceKind) -> bool
-    ensures { result ≡ open.is_by_formula kind.now }
+    ensures { result ≡ spec.is_by_formula kind.now }
 {
     match kind {
         ServiceKind::Latency(_) => true,
@@ -21,7 +21,7 @@ fn is_by_formula(kind: &ServiceKind) -> bool
 
 // Of each server, whether its service curve is not.
 fn by_formula(alloc: Global, servers: &[Server]) -> Result<Vec<bool>, AllocError>
-    ensures { IfOk result (λ v. v.items ≡ map (λ (s : Server). open.is_by_formula s.kind) servers.now) }
+    ensures { IfOk result (λ v. v.items ≡ map (λ (s : Server). spec.is_by_formula s.kind) servers.now) }
 {
     let mut told = Vec::new(alloc);
     for server in servers {
@@ -33,7 +33,7 @@ fn by_formula(alloc: Global, servers: &[Server]) -> Result<Vec<bool>, AllocError
 // What is told, but of no server that stalls.
 fn less_stalled(told: Vec<bool>, stalls: &[Stall]) -> Vec<bool>
     requires { All (λ s. s.server < length told.items) stalls.now }
-    ensures { result.items ≡ open.less_stalled told.items stalls.now }
+    ensures { result.items ≡ spec.less_stalled told.items stalls.now }
 {
     let mut left = told;
     for stall in stalls {
@@ -50,7 +50,7 @@ pub(crate) fn open_servers(
     trace: &Trace,
 ) -> Result<Vec<bool>, AllocError>
     requires { IsTraceOf net.now trace.now }
-    ensures { IfOk result (λ v. v.items ≡ open.open_servers net.now trace.now) }
+    ensures { IfOk result (λ v. v.items ≡ spec.open_servers net.now trace.now) }
 {
     let told = by_formula(alloc, net.servers())?;
     Ok(less_stalled(told, trace.stalls()))

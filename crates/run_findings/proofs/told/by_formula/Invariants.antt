@@ -1,7 +1,7 @@
 use Rattle.std.proofs.Common.{◌≡◌, take, map}
 use Rattle.net_model.specs.declared.server.Server.{Server}
-use Rattle.simulate_command.specs.Open.{is_by_formula}
-use Rattle.simulate_command.proofs.open.by_formula.Given as goal
+use Rattle.run_findings.specs.Told.{is_by_formula}
+use Rattle.run_findings.proofs.told.by_formula.Given as goal
 
 abbrev pub invariant-loop-server : goal.invariant-loop-server
 invariant-loop-server l = l.told.items ≡ map (λ (s : Server). is_by_formula s.kind) (take l.server-index l.servers)

@@ -1,5 +1,5 @@
--- What is found when a trace of a network is simulated, and the report on it.
-use Rattle.std.specs.Prelude.{◌≡◌, ℕ, ◌≤◌, ◌<◌, ◌^◌, length, Option, Some, None}
+-- What is found when a trace of a network is simulated, and the replies that tell it.
+use Rattle.std.specs.Prelude.{◌≡◌, ℕ, ◌≤◌, ◌<◌, ◌^◌, ◌⊎◌, List, length, Option, Some, None}
 use Rattle.run_laws.specs.Runs.{SpecRun}
 use Rattle.net_model.specs.declared.breach.Breach.{Breach}
 use Rattle.net_model.specs.Networks.{Net}
@@ -13,7 +13,7 @@ use Rattle.run_measures.specs.Worst.{AreWorst}
 use Rattle.packet_sim.specs.declared.measured.SimRun.{SimRun}
 use Rattle.first_breaches.specs.Firsts.{TellsFirst}
 use Rattle.net_cells.specs.Meanings.{CellTable}
-use Rattle.report_text.specs.RunReport.{Found, run_report_of}
+use Rattle.report_text.specs.RunReport.{Found}
 use Rattle.command_replies.specs.Replies.{Reply, too_wide_simulation}
 
 -- ---- a run
@@ -39,19 +39,29 @@ abbrev pub status_by : Option Breach → ℕ
 status_by None = 0
 status_by (Some breach) = 9
 
--- what is found, beside the numbers of a table
-abbrev pub run_report : Net → CellTable → Found → Reply
-run_report net at found = record { status = status_by found.breach; bytes = run_report_of net at found }
-
 -- the simulation gauge is over its limit
 pub record IsTooWide (net : Net) (trace : SpecTrace) (reply : Reply) : Type 0 where
   pub over : 2 ^ 120 ≤ simulation_gauge net trace
   pub is : reply ≡ too_wide_simulation
 
--- it is not, and the report tells what is found in the stated run
-pub record IsReportOn (net : Net) (trace : SpecTrace) (at : CellTable) (reply : Reply) : Type 0 where
+-- it is not, and this is found in the stated run
+pub record IsFound (net : Net) (trace : SpecTrace) (found : Found) : Type 0 where
+  pub narrow : simulation_gauge net trace < 2 ^ 120
+  pub run : SpecRun
+  pub finds : IsFoundIn net trace run found
+
+-- what a text makes of a network, of the numbers of a table, and of what is found
+abbrev pub FoundText : Type 0
+FoundText = Net → CellTable → Found → List ℕ
+
+-- what is found in the stated run, told by a text beside the numbers of a table
+pub record IsReportBy (text : FoundText) (net : Net) (trace : SpecTrace) (at : CellTable) (reply : Reply) : Type 0 where
   pub narrow : simulation_gauge net trace < 2 ^ 120
   pub run : SpecRun
   pub found : Found
   pub finds : IsFoundIn net trace run found
-  pub is : reply ≡ run_report net at found
+  pub is : reply ≡ record { status = status_by found.breach; bytes = text net at found }
+
+-- the simulation is over its gauge, or reported
+abbrev pub IsSimulationReplyBy : FoundText → Net → SpecTrace → CellTable → Reply → Type 0
+IsSimulationReplyBy text net trace at reply = IsTooWide net trace reply ⊎ IsReportBy text net trace at reply

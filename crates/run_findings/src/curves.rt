@@ -3,7 +3,7 @@
 ghost use Rattle.std.specs.Prelude.{◌<◌, ℕ, IsTrue, length};
 ghost use Rattle.net_cells.specs.Numbered.{is_live};
 ghost use Rattle.first_breaches.specs.Firsts.{HasService};
-ghost use Rattle.simulate_command.specs.Curves.{HasArrival};
+ghost use Rattle.run_findings.specs.Curves.{HasArrival};
 ghost use Rattle.simulated_sizes.specs.Laws.{AreCurves};
 
 use net_cells::{live_flow, server};
@@ -48,7 +48,7 @@ fn keeps_arrivals(net: &Network)
 }
 
 /// What every network's curves keep: what its contract says. It looks at each curve and does nothing else.
-pub(crate) fn keeps_curves(net: &Network)
+pub fn keeps_curves(net: &Network)
     ensures { AreCurves net.now }
 {
     keeps_services(net);

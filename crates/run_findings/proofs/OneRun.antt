@@ -30,7 +30,7 @@ use Rattle.first_breaches.specs.Firsts.{TellsFirst}
 use Rattle.first_breaches.proofs.Parts.{have_curves}
 use Rattle.simulated_sizes.specs.Laws.{AreCurves}
 use Rattle.report_text.specs.RunReport.{Found}
-use Rattle.simulate_command.specs.Found.{IsFoundIn}
+use Rattle.run_findings.specs.Found.{IsFoundIn}
 
 -- ---- worst delays
 pub most_at : (w d : ℚ) (xs : List ℚ) (k : ℕ) → AreAtMost (Fin w) xs → k < length xs → get_or xs k d ≤ℚ w

@@ -1,8 +1,8 @@
 use Rattle.std.proofs.Common.{below_more}
 use Rattle.std.specs.Prelude.{IsTrue}
 use Rattle.net_cells.specs.Numbered.{is_live}
-use Rattle.simulate_command.specs.Curves.{HasArrival}
-use Rattle.simulate_command.proofs.curves.keeps_arrivals.Goals as goal
+use Rattle.run_findings.specs.Curves.{HasArrival}
+use Rattle.run_findings.proofs.curves.keeps_arrivals.Goals as goal
 
 pub loop-number-preserved : goal.loop-number-preserved
 loop-number-preserved c =

@@ -1,0 +1,9 @@
+pub mod Lawful
+pub mod OneRun
+pub mod Counted
+pub mod Reports
+pub mod OneSimulation
+pub mod Before
+pub mod AtLeastZero
+pub mod Bounded
+pub mod OpenServers

@@ -1,0 +1,10 @@
+//! What is found when a trace of a network is simulated: the worst delays and greatest backlogs of its stated run, and what
+//! that run breaks first.
+#![tactic(auto)]
+
+mod curves;
+mod found;
+mod told;
+
+pub use curves::keeps_curves;
+pub use found::{find, status_by};
