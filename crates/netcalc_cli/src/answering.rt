@@ -12,6 +12,7 @@ ghost use Rattle.netcalc_cli.specs.View.{command_view};
 use crate::fetching::{fetch_one, fetch_two};
 use crate::words::Command;
 use analyse_command::on_bytes;
+use json_report::Form;
 use command_replies::Answer;
 use curve_command::on_script;
 use fraction128::Frac;
@@ -34,7 +35,7 @@ fn on_network<I: Inputs, L: Ledger>(
         steps.old steps.new }
 {
     match fetch_one(alloc, net, inputs) {
-        Ok(bytes) => on_bytes(alloc, net, &bytes, steps),
+        Ok(bytes) => on_bytes(alloc, net, &bytes, Form::Lines, steps),
         Err(ended) => ended,
     }
 }
