@@ -1,3 +1,4 @@
 pub mod Values
 pub mod Gives
 pub mod Refusals
+pub mod Existence

@@ -5,11 +5,13 @@
 mod analysis;
 mod evaluator;
 mod fault;
+mod laws;
 mod table;
 mod value;
 
 pub use analysis::Analysis;
 pub use evaluator::Evaluator;
 pub use fault::{AnalysisFault, refusal};
+pub use laws::table_or_cell_over;
 pub use table::{CellValue, Table};
 pub use value::Value;
