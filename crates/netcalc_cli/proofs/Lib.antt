@@ -2,6 +2,4 @@ pub mod FileLemmas
 pub mod Fetches
 pub mod ByCommand
 pub mod Replies
-pub mod ExampleNet
-pub mod ExampleBound
 pub mod WordLists

@@ -5,4 +5,3 @@ pub mod Files
 pub mod Reply
 pub mod Counts
 pub mod Laws
-pub mod Example
