@@ -21,7 +21,10 @@ module _ (net_file net_bytes edits_file edits_bytes : List ℕ) (reply : Reply) 
     wide = λ e. absurd (cc);
     many = λ e. absurd (cc);
     cycle = λ e. absurd (cc);
+    no_usage = λ e. absurd (cc);
     no_read = λ e. absurd (cc);
+    no_write = λ e. absurd (cc);
+    no_memory = λ e. absurd (cc);
     most = omega (arith, is);
   }
 
@@ -33,7 +36,10 @@ module _ (net_file net_bytes edits_file edits_bytes : List ℕ) (reply : Reply) 
     wide = λ e. h;
     many = λ e. absurd (cc);
     cycle = λ e. absurd (cc);
+    no_usage = λ e. absurd (cc);
     no_read = λ e. absurd (cc);
+    no_write = λ e. absurd (cc);
+    no_memory = λ e. absurd (cc);
     most = omega (arith, is);
   }
 
@@ -45,7 +51,10 @@ module _ (net_file net_bytes edits_file edits_bytes : List ℕ) (reply : Reply) 
     wide = λ e. absurd (cc);
     many = λ e. h;
     cycle = λ e. absurd (cc);
+    no_usage = λ e. absurd (cc);
     no_read = λ e. absurd (cc);
+    no_write = λ e. absurd (cc);
+    no_memory = λ e. absurd (cc);
     most = omega (arith, is);
   }
 
@@ -57,7 +66,10 @@ module _ (net_file net_bytes edits_file edits_bytes : List ℕ) (reply : Reply) 
     wide = λ e. absurd (cc);
     many = λ e. absurd (cc);
     cycle = λ e. h;
+    no_usage = λ e. absurd (cc);
     no_read = λ e. absurd (cc);
+    no_write = λ e. absurd (cc);
+    no_memory = λ e. absurd (cc);
     most = omega (arith, is);
   }
 
@@ -69,7 +81,10 @@ module _ (net_file net_bytes edits_file edits_bytes : List ℕ) (reply : Reply) 
     wide = λ e. absurd (cc);
     many = λ e. absurd (cc);
     cycle = λ e. absurd (cc);
+    no_usage = λ e. absurd (cc);
     no_read = λ e. absurd (cc);
+    no_write = λ e. absurd (cc);
+    no_memory = λ e. absurd (cc);
     most = omega (arith, is);
   }
 

@@ -33,7 +33,10 @@ pub record HasCause (net_file net_bytes edits_file edits_bytes : List ℕ) (repl
   pub wide : reply.status ≡ 6 → IsOverLimit TooWide net_bytes edits_bytes reply
   pub many : reply.status ≡ 7 → IsOverLimit TooMany net_bytes edits_bytes reply
   pub cycle : reply.status ≡ 8 → HasCycleBehind net_bytes edits_bytes reply
+  pub no_usage : reply.status ≢ 2
   pub no_read : reply.status ≢ 3
+  pub no_write : reply.status ≢ 4
+  pub no_memory : reply.status ≢ 5
   pub most : reply.status ≤ 8
 
 abbrev pub StatusesHaveCauses : Type 0
