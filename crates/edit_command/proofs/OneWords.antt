@@ -26,7 +26,7 @@ use Rattle.report_text.specs.CellWords.{server_name, cell_words}
 use Rattle.edit_command.specs.NetHistories.{NetHistory}
 use Rattle.edit_command.specs.Causes.{GoesRound, HasCellOver, IsOverBy, IsCause}
 use Rattle.edit_command.specs.Answered.{IsTaken, IsAnswered, Taken, Undone, Refused}
-use Rattle.edit_command.specs.EditLaws.{TellsCycle}
+use Rattle.edit_command.specs.EditLaws.{TellsCycle, TellCycles}
 use Rattle.edit_command.proofs.Exclusive.{gives_not_over, gives_not_refused, over_not_refused, undo_gives_none}
 use Rattle.edit_command.proofs.NextOne.{no_cause, no_undo_cause, undo_says}
 
@@ -52,7 +52,7 @@ record ByCycle (present : Net) (edit : Edit) (words : List ℕ) : Type 0 where
   net : Net
   walk : List ℕ
   round : GoesRound present edit walk net
-  tells : TellsCycle words
+  tells : TellsCycle net words
 
 record ByCurve (present : Net) (edit : Edit) (words : List ℕ) : Type 0 where
   cell : Cell
@@ -98,7 +98,7 @@ sort old edit (Cycle walk) net words c says =
       net = net;
       walk = walk.items;
       round = c;
-      tells = record { names = map (server_name net) walk.items; is = says };
+      tells = record { accepted = c.accepted; walk = walk.items; cycle = c.cycle; is = says };
     })
 sort old edit (TooMany at) net words c says = over_sort old.present edit words at limit.TooMany net c says
 sort old edit (TooWide at) net words c says = over_sort old.present edit words at limit.TooWide net c says
@@ -108,7 +108,7 @@ sort old edit NoMemory net words c says = absurd c
 
 -- ---- two of them
 abbrev pub AreOne : List ℕ → List ℕ → Type 0
-AreOne x y = (x ≡ y) ⊎ (TellsCycle x × TellsCycle y)
+AreOne x y = (x ≡ y) ⊎ TellCycles x y
 
 same_limit : (l m : OverLimit) → fault_of l ≡ fault_of m → l ≡ m
 same_limit limit.TooMany limit.TooMany e = refl
@@ -170,7 +170,10 @@ one_sort present edit x y (rule h) (cycle k) = absurd (gives_not_refused (edited
 one_sort present edit x y (rule h) (curve k) = absurd (over_not_refused (edited present edit) k.cell k.which h.why k.over h.is)
 one_sort present edit x y (rule h) (cell k) = absurd (gives_not_refused (edited present edit) k.net h.why k.over.gives h.is)
 one_sort present edit x y (cycle h) (rule k) = absurd (gives_not_refused (edited present edit) h.net k.why h.round.gives k.is)
-one_sort present edit x y (cycle h) (cycle k) = inr (h.tells, k.tells)
+one_sort present edit x y (cycle h) (cycle k) =
+    let net : k.net ≡ h.net = gives_one present edit k.net h.net k.round.gives h.round.gives in
+    let other : TellsCycle h.net y = subst (λ (n : Net). TellsCycle n y) net k.tells in
+    inr (record { net = h.net; one = h.tells; other = other })
 one_sort present edit x y (cycle h) (curve k) = absurd (gives_not_over (edited present edit) h.net k.cell k.which h.round.gives k.over)
 one_sort present edit x y (cycle h) (cell k) = absurd (round_or_over present edit x y h k)
 one_sort present edit x y (curve h) (rule k) = absurd (over_not_refused (edited present edit) h.cell h.which k.why h.over k.is)

@@ -1,9 +1,10 @@
 -- What holds of the replies on a network's file and a list of edits.
-use Rattle.std.specs.Prelude.{◌≡◌, ◌⊎◌, ◌++◌, ℕ, List, [], ◌∷◌, codes}
+use Rattle.std.specs.Prelude.{◌≡◌, ◌⊎◌, ◌++◌, ℕ, List, [], ◌∷◌, map, codes}
 use Rattle.upp_limits.specs.declared.op_kind.OpFault.{OpFault}
 use Rattle.net_model.specs.Networks.{Net}
 use Rattle.net_model.specs.Orders.{IsOrder}
-use Rattle.net_model.specs.Walks.{IsFeedForward}
+use Rattle.net_model.specs.Accepted.{IsAccepted}
+use Rattle.net_model.specs.Walks.{IsCycle, IsFeedForward}
 use Rattle.net_text.specs.Reading.{IsNetworkOf}
 use Rattle.net_text.specs.FoldLimits.{OverFold}
 use Rattle.net_cells.specs.declared.cell.Cell.{Cell}
@@ -11,6 +12,7 @@ use Rattle.net_cells.specs.FirstOver.{FirstOver}
 use Rattle.net_cells.specs.Meanings.{CellTable}
 use Rattle.table_text.specs.EditRows.{EditText}
 use Rattle.report_text.specs.Refusals.{spaced}
+use Rattle.report_text.specs.CellWords.{server_name}
 use Rattle.edit_report.specs.EditReport.{edit_lines}
 use Rattle.command_replies.specs.Guarantee.{Guarantees}
 use Rattle.command_replies.specs.Replies.{Reply}
@@ -41,17 +43,25 @@ RepliesAreComplete =
     → IsEditReply net_file net_bytes edits_file edits_bytes reply → reply.status ≡ 0
 
 -- ---- one reply
--- words that tell of a cycle, by some walk
-pub record TellsCycle (words : List ℕ) : Type 0 where
-  pub names : List (List ℕ)
-  pub is : words ≡ codes "refused " ++ (codes "cycle" ++ spaced names)
+-- words that tell of a cycle of this network, by some walk
+pub record TellsCycle (net : Net) (words : List ℕ) : Type 0 where
+  pub accepted : IsAccepted net
+  pub walk : List ℕ
+  pub cycle : IsCycle net walk
+  pub is : words ≡ codes "refused " ++ (codes "cycle" ++ spaced (map (server_name net) walk))
 
--- the same words for each edit, but for the choice among cycles
+-- both tell of a cycle, of one network
+pub record TellCycles (x y : List ℕ) : Type 0 where
+  pub net : Net
+  pub one : TellsCycle net x
+  pub other : TellsCycle net y
+
+-- the same words for each edit, but for the choice among the cycles of a network
 abbrev pub AreSameWords : List (List ℕ) → List (List ℕ) → Type 0
 AreSameWords [] [] = Unit {0}
 AreSameWords [] (y ∷ ys) = ⊥
 AreSameWords (x ∷ xs) [] = ⊥
-AreSameWords (x ∷ xs) (y ∷ ys) = ((x ≡ y) ⊎ (TellsCycle x × TellsCycle y)) × AreSameWords xs ys
+AreSameWords (x ∷ xs) (y ∷ ys) = ((x ≡ y) ⊎ TellCycles x y) × AreSameWords xs ys
 
 -- two reports: a line for each edit, and then one report on one network
 pub record AreSameReports (x y : Reply) : Type 0 where
