@@ -107,8 +107,8 @@ none_is_a_write_fault faults last_fault told command before after reply (inl fai
     first_shows told (λ file. FailedAt faults last_fault file before after × (reply ≡ cannot_read file))
     (reply.status ≢ 4) (files_of command)
     (λ file h. other reply.status 3 (status_of reply (cannot_read file) h.1) (omega arith)) failed
-none_is_a_write_fault faults last_fault told command before after reply (inr (files, (held, inl long))) =
+none_is_a_write_fault faults last_fault told command before after reply (inr (files, held, inl long)) =
     long_shows (λ file. reply ≡ too_long file) (reply.status ≢ 4) (files_of command) files
     (λ file h. other reply.status 1 (status_of reply (too_long file) h) (omega arith)) long
-none_is_a_write_fault faults last_fault told command before after reply (inr (files, (held, inr on))) =
+none_is_a_write_fault faults last_fault told command before after reply (inr (files, held, inr on)) =
     on_files command files reply on.1
