@@ -1,0 +1,201 @@
+#!/usr/bin/env python3
+"""How long small files take that were written to be slow, and how much memory.
+
+    python3 bench/hostile.py NETCALC [SECONDS] [WORD]
+
+NETCALC is the program. Each case is a file of at most a few kilobytes whose numbers have large common periods, prime
+denominators, infinite curves or long closures. It is run with a limit of SECONDS of processor time (20), and of 4 GiB
+of memory. With WORD only the cases run whose name has it.
+
+A line a case: what it is, its bytes, the status that is wanted (? where nobody has worked it out) and the one that
+came, the seconds of processor time, the most memory in MiB, and the first line that was written where it is a
+refusal. A case that was ended by the limit has the status `late`. At the end: how many cases there were, how many had
+another status than the wanted one, how many were late, and how many took over a second. It ends with 1 where a status
+differs, and asserts nothing about time.
+"""
+
+import os
+import resource
+import subprocess
+import sys
+import tempfile
+from pathlib import Path
+
+GIB = 2**30
+
+
+def server(name: str, rate="100", service='{ kind = "latency", latency = 0 }', more: str = "") -> str:
+    return f'[[server]]\nname = "{name}"\nrate = {quoted(rate)}\nservice = {service}\n{more}\n'
+
+
+def flow(name: str, arrival: str, path: list[str], packet: int = 1) -> str:
+    hops = ", ".join(f'"{hop}"' for hop in path)
+    return f'[[flow]]\nname = "{name}"\npacket = {packet}\narrival = {arrival}\npath = [{hops}]\n'
+
+
+def quoted(number) -> str:
+    return f'"{number}"'
+
+
+def gate(cycle, slot) -> str:
+    return f'{{ kind = "gate", cycle = {quoted(cycle)}, slot = {quoted(slot)} }}'
+
+
+def latency(time) -> str:
+    return f'{{ kind = "latency", latency = {quoted(time)} }}'
+
+
+def stair(period, jitter=0) -> str:
+    return f'{{ kind = "stair", period = {quoted(period)}, jitter = {quoted(jitter)} }}'
+
+
+def bucket(burst, rate) -> str:
+    return f'{{ kind = "bucket", burst = {quoted(burst)}, rate = {quoted(rate)} }}'
+
+
+def listed(pieces, tail=None, close=False) -> str:
+    texts = ", ".join(piece_text(*piece) for piece in pieces)
+    text = f'{{ kind = "list", piece = [{texts}]'
+    if tail:
+        rank, period, rise = tail
+        text += f", tail = {{ rank = {quoted(rank)}, period = {quoted(period)}, rise = {quoted(rise)} }}"
+    return text + (", close = true }" if close else " }")
+
+
+def piece_text(x, at, after=None, slope=None) -> str:
+    text = f"{{ x = {quoted(x)}, at = {quoted(at)}"
+    text += f", after = {quoted(after)}" if after is not None else ""
+    text += f", slope = {quoted(slope)}" if slope is not None else ""
+    return text + " }"
+
+
+PRIORITY = 'discipline = "priority"\nqueues = 2\n'
+DEFICIT = 'discipline = "drr"\nquanta = [16, 16]\n'
+
+
+def gate_beside_stair(period: str, more: str = PRIORITY) -> str:
+    """A gate of cycle 1000 whose queue 0 has a stair of nearly that period."""
+    return (
+        server("s1", "100", gate(1000, 250), more)
+        + flow("f0", stair(period), ["s1:0"])
+        + flow("f1", bucket(1, "1/100"), ["s1:1"])
+    )
+
+
+def shared_fifo(period: str) -> str:
+    """The same two curves in one first-in first-out queue: what is left for the other flow."""
+    return server("s1", "100", gate(1000, 250)) + flow("f0", stair(period), ["s1"]) + flow("f1", bucket(1, "1/100"), ["s1"])
+
+
+def two_gates(first: tuple, second: tuple, rates: tuple) -> str:
+    """A path over two gates: their convolution."""
+    return (
+        server("s1", rates[0], gate(*first))
+        + server("s2", rates[1], gate(*second))
+        + flow("f0", bucket(1, "1/1000"), ["s1", "s2"])
+    )
+
+
+def closed_steps(n: int) -> str:
+    pieces = [(0, 20, 20), (1, 20, 31), (3, 31, 50), (5, 50, 1000), (f"{5 * n + 1}/{n}", 1000, 1001)]
+    return server("s1", "1000") + flow("f0", listed(pieces, close=True), ["s1"])
+
+
+def closed_late(rank: int) -> str:
+    return server("s1", "1000") + flow("f0", listed([(0, 8)], (rank, 16, 1), True), ["s1"])
+
+
+def many_stairs(flows: int, hops: int, periods) -> str:
+    path = [f"s{hop}" for hop in range(hops)]
+    return "".join(server(name, "1000") for name in path) + "".join(
+        flow(f"f{number}", stair(periods(number)), path) for number in range(flows)
+    )
+
+
+def stairs_pair(first: str, second: str, jitter=0) -> str:
+    return server("s1", "100") + flow("f0", stair(first, jitter), ["s1"]) + flow("f1", stair(second, jitter), ["s1"])
+
+
+def deficit_gate(period: str) -> str:
+    return gate_beside_stair(period, DEFICIT)
+
+
+CASES = {
+    # name: (word, text, wanted status)
+    "priority gate, stair 1000001/1000": ("analyse", gate_beside_stair("1000001/1000"), 7),
+    "priority gate, stair 10000001/10000": ("analyse", gate_beside_stair("10000001/10000"), 7),
+    "priority gate, stair 1000000001/1000000": ("analyse", gate_beside_stair("1000000001/1000000"), 7),
+    "priority gate, stair of a large prime": ("analyse", gate_beside_stair("1000000007/1000003"), 7),
+    "priority gate, stair near 1000, too wide": ("analyse", gate_beside_stair("1000000000000000000001/1000000000000000000"), 6),
+    "round robin gate, stair 1000001/1000": ("analyse", deficit_gate("1000001/1000"), 7),
+    "first in first out gate, stair 1000001/1000": ("analyse", shared_fifo("1000001/1000"), 7),
+    "first in first out gate, stair 10000001/10000": ("analyse", shared_fifo("10000001/10000"), 7),
+    "closure of steps, n = 20": ("analyse", closed_steps(20), 0),
+    "closure of steps, n = 45": ("analyse", closed_steps(45), None),
+    "closure of steps, n = 70": ("analyse", closed_steps(70), None),
+    "closure with a tail at 103": ("analyse", closed_late(103), 0),
+    "closure with a tail at 203": ("analyse", closed_late(203), None),
+    "closure with a tail at 1003": ("analyse", closed_late(1003), None),
+    "closure with a tail at 2^63 - 1": ("analyse", closed_late(2**63 - 1), None),
+    "gates of cycles 1000 and 1001, wide rates": (
+        "analyse", two_gates((1000, 250), (1001, 250), ("1000001/100000", "2000001/100000")), 7),
+    "gates of cycles 300 and 301, rates over 1024": (
+        "analyse", two_gates((300, 100), (301, 100), ("1025/1024", "2049/1024")), 7),
+    "gates of cycles 1000 and 1001": ("analyse", two_gates((1000, 250), (1001, 250), ("10", "20")), 7),
+    "16 stairs of periods 1 to 32 over 4 hops": ("analyse", many_stairs(16, 4, lambda number: 2 * number + 2), 7),
+    "16 stairs of odd periods over 4 hops": ("analyse", many_stairs(16, 4, lambda number: 2 * number + 1), 7),
+    "256 stairs of one period over 4 hops": ("analyse", many_stairs(256, 4, lambda number: 1000), 7),
+    "256 stairs of periods 1000 to 1255": ("analyse", many_stairs(256, 1, lambda number: 1000 + number), 7),
+    "stairs 1 and 1048577": ("analyse", stairs_pair("1", "1048577"), 7),
+    "stairs with a jitter of 2^100": ("analyse", stairs_pair("1", "3", 2**100), 7),
+    "stairs with a jitter of 10^9": ("analyse", stairs_pair("1", "3", 10**9), 7),
+    "script: below stair(1, 1, 0), stair(1, 1048577, 0)": ("curve", "below stair(1, 1, 0), stair(1, 1048577, 0)\n", 7),
+    "script: a gate's lesser with a gate": ("curve", "show min(gate(1, 1000, 250), gate(1, 1000001/1000, 250))\n", 7),
+    "script: a closure of a closure": ("curve", "show close(conv(stair(1, 7, 0), stair(1, 11, 3)))\n", 0),
+}
+
+
+def run(program: str, word: str, text: str, seconds: int) -> tuple[str, float, float, str]:
+    with tempfile.TemporaryDirectory(prefix="hostile_") as folder:
+        Path(folder, "file").write_text(text)
+        out = Path(folder, "out")
+        with open(out, "wb") as out_file:
+            child = subprocess.Popen(
+                [program, word, "file"], cwd=folder, stdout=out_file,
+                preexec_fn=lambda: limits(seconds),
+            )
+            _, status, usage = os.wait4(child.pid, 0)
+            child.returncode = os.waitstatus_to_exitcode(status)
+        ended = "late" if child.returncode in (-24, -9) else str(child.returncode)
+        said = [line for line in out.read_text(errors="replace").splitlines()[:1] if line.startswith("netcalc:")]
+        return ended, usage.ru_utime + usage.ru_stime, usage.ru_maxrss / 1024, said[0] if said else ""
+
+
+def limits(seconds: int) -> None:
+    resource.setrlimit(resource.RLIMIT_CPU, (seconds, seconds + 1))
+    resource.setrlimit(resource.RLIMIT_AS, (4 * GIB, 4 * GIB))
+
+
+def main() -> None:
+    if len(sys.argv) not in (2, 3, 4):
+        sys.exit(__doc__)
+    program = str(Path(sys.argv[1]).resolve())
+    seconds = int(sys.argv[2]) if len(sys.argv) > 2 else 20
+    word = sys.argv[3] if len(sys.argv) > 3 else ""
+    print(f"{'case':<52}{'bytes':>7}{'wanted':>8}{'came':>6}{'seconds':>9}{'MiB':>8}  line")
+    tried = others = late = slow = 0
+    for name, (command, text, wanted) in CASES.items():
+        if word not in name:
+            continue
+        came, time, memory, line = run(program, command, text, seconds)
+        print(f"{name:<52}{len(text):>7}{'?' if wanted is None else wanted:>8}{came:>6}{time:>9.2f}{memory:>8.0f}  {line}", flush=True)
+        tried += 1
+        others += wanted is not None and came not in (str(wanted), "late")
+        late += came == "late"
+        slow += time > 1
+    print(f"{tried} cases, {others} with another status, {late} late, {slow} over a second")
+    sys.exit(1 if others else 0)
+
+
+if __name__ == "__main__":
+    main()

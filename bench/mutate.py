@@ -1,0 +1,222 @@
+#!/usr/bin/env python3
+"""Runs the program on files that were changed at random, and prints each answer that is none.
+
+    python3 bench/mutate.py NETCALC [CASES] [SEED] [FOLDER]
+
+NETCALC is the program. CASES (1000) times a case of tests/ or a file of examples/ is drawn, and one to eight changes
+are made to one of its files, or to its words: bytes and bits changed, put in, taken out; a number in place of another
+one, long ones too; keys, words, lines and fields left out, doubled, exchanged or moved; a front of the file alone; a
+part of another file in its place. The program runs on it with a limit of 10 seconds of processor time and 2 GiB of
+memory.
+
+What is no answer is printed with the number of its case, and with FOLDER its files are kept there: an end by a
+signal, a status outside 0 to 9, anything on standard error, a status of a report without a report, a status of a
+refusal without exactly one line `netcalc: ..`, a status 5 or 4 with no cause here, output with a status that has
+none. An end by the time limit is counted apart and printed too. The last line says how many cases there were, of
+which status. It ends with 1 where something was no answer.
+"""
+
+import os
+import random
+import re
+import resource
+import subprocess
+import sys
+import tempfile
+from collections import Counter
+from pathlib import Path
+
+TOP = Path(__file__).resolve().parent.parent
+SECONDS = 10
+NUMBERS = """
+    0 1 -1 2 1/0 1/2 3/7 00 1e3 1.5 0x10 inf nan 64 65 256 257 16777216 16777217 4294967295 4294967296
+    9223372036854775807 9223372036854775808 18446744073709551615 18446744073709551616 -9223372036854775808
+    170141183460469231731687303715884105727 170141183460469231731687303715884105728
+    340282366920938463463374607431768211456 1/170141183460469231731687303715884105727
+    1/1329227995784915872903807060280344576 1000000007/1000003
+""".split()
+BYTES = [
+    b"\0", b"\xff", b"\xc3\x28", b"\n", b"\r\n", b"\r", b"\t", b'"', b"'", b",", b"=", b"[", b"]", b"{", b"}", b"#", b":",
+    b"/", b"-", b" ", b"\xef\xbb\xbf", b"\\u0000", b'"""',
+]
+NUMBER = re.compile(rb"-?\d+(?:/\d+)?")
+WORD = re.compile(rb"[A-Za-z_][A-Za-z0-9_-]*")
+REFUSED = re.compile(rb"\Anetcalc: [^\n]*\n\Z")
+
+
+class Case:
+    """Words of a call, and the files that they name."""
+
+    def __init__(self, words: list[str], files: dict[str, bytes]):
+        self.words = words
+        self.files = files
+
+
+def cases() -> list[Case]:
+    found = []
+    for words in sorted(TOP.glob("tests/*/*/words")):
+        told = words.read_text().split()
+        files = {name: (words.parent / name).read_bytes() for name in told if (words.parent / name).is_file()}
+        if files:
+            found.append(Case(told, files))
+    for net in sorted(TOP.glob("examples/**/*.toml")):
+        found.append(Case(["analyse", net.name], {net.name: net.read_bytes()}))
+    return found
+
+
+def changed_number(draw: random.Random, text: bytes) -> bytes:
+    places = list(NUMBER.finditer(text))
+    if not places:
+        return text
+    place = draw.choice(places)
+    text_of = draw.choice(NUMBERS) if draw.random() < 0.7 else str(draw.getrandbits(draw.randint(1, 140)))
+    number = text_of.encode()
+    if draw.random() < 0.2:
+        number += b"/" + str(draw.getrandbits(draw.randint(1, 130)) + 1).encode()
+    stands_in_quotes = text[max(0, place.start() - 1):place.start()] == b'"'
+    if not stands_in_quotes and draw.random() < 0.5:
+        number = b'"' + number + b'"'
+    return text[:place.start()] + number + text[place.end():]
+
+
+def changed_word(draw: random.Random, text: bytes) -> bytes:
+    places = list(WORD.finditer(text))
+    if not places:
+        return text
+    place = draw.choice(places)
+    other = draw.choice(places).group() if draw.random() < 0.7 else draw.choice(BYTES)
+    return text[:place.start()] + other + text[place.end():]
+
+
+def changed_lines(draw: random.Random, text: bytes) -> bytes:
+    lines = text.splitlines(keepends=True)
+    if not lines:
+        return text
+    first, second = draw.randrange(len(lines)), draw.randrange(len(lines))
+    kind = draw.randrange(4)
+    if kind == 0:
+        del lines[first]
+    elif kind == 1:
+        lines.insert(second, lines[first])
+    elif kind == 2:
+        lines[first], lines[second] = lines[second], lines[first]
+    else:
+        lines[second:second] = lines[first:first + draw.randint(1, 5)] * draw.choice([1, 2, 300])
+    return b"".join(lines)
+
+
+def changed_fields(draw: random.Random, text: bytes) -> bytes:
+    parts = text.split(b",")
+    place = draw.randrange(len(parts))
+    if draw.random() < 0.5:
+        parts.insert(draw.randrange(len(parts) + 1), parts[place])
+    else:
+        del parts[place]
+    return b",".join(parts)
+
+
+def changed_bytes(draw: random.Random, text: bytes) -> bytes:
+    place = draw.randrange(len(text) + 1)
+    kind = draw.randrange(4)
+    if kind == 0:
+        return text[:place] + draw.choice(BYTES) + text[place:]
+    if kind == 1:
+        return text[:place] + text[place + draw.randint(1, 12):]
+    if kind == 2 and place < len(text):
+        return text[:place] + bytes([text[place] ^ (1 << draw.randrange(8))]) + text[place + 1:]
+    return text[:place] + bytes(draw.randrange(256) for _ in range(draw.randint(1, 4))) + text[place:]
+
+
+def cut(draw: random.Random, text: bytes) -> bytes:
+    return text[:draw.randrange(len(text) + 1)]
+
+
+def spliced(draw: random.Random, text: bytes, other: bytes) -> bytes:
+    first, second = draw.randrange(len(text) + 1), draw.randrange(len(other) + 1)
+    return text[:first] + other[second:second + draw.randint(1, 400)] + (text[first:] if draw.random() < 0.5 else b"")
+
+
+CHANGES = [changed_number, changed_number, changed_word, changed_lines, changed_fields, changed_bytes, cut]
+
+
+def drawn(draw: random.Random, known: list[Case]) -> Case:
+    case = draw.choice(known)
+    files = dict(case.files)
+    words = list(case.words)
+    for _ in range(draw.choice([1, 1, 1, 2, 3, 8])):
+        name = draw.choice(sorted(files))
+        if draw.random() < 0.1:
+            other = draw.choice(known)
+            files[name] = spliced(draw, files[name], other.files[draw.choice(sorted(other.files))])
+        else:
+            files[name] = draw.choice(CHANGES)(draw, files[name])[:2_000_000]
+    if draw.random() < 0.05:
+        place = draw.randrange(len(words))
+        words[place:place + draw.randint(0, 1)] = [draw.choice(words + NUMBERS + ["", "--json", "-", "edit", "é"])]
+    return Case(words, files)
+
+
+def limits() -> None:
+    resource.setrlimit(resource.RLIMIT_CPU, (SECONDS, SECONDS + 1))
+    resource.setrlimit(resource.RLIMIT_AS, (2**31, 2**31))
+
+
+def wrong(status: int, out: bytes, err: bytes) -> str:
+    """What is wrong with an answer; nothing where it is one."""
+    if status in (-24, -9):
+        return "late"
+    if status < 0 or status > 9:
+        return f"ended by {status}"
+    if err:
+        return "wrote on standard error"
+    if status in (0, 9):
+        return "" if not out.startswith(b"netcalc:") else "a refusal with the status of a report"
+    if status == 5:
+        return "out of memory" if not out else "out of memory, with output"
+    if status == 4:
+        return "a write fault"
+    # a word of the call may have a line break, and is written as it is
+    told = out.startswith(b"netcalc: ") and out.endswith(b"\n")
+    return "" if REFUSED.match(out) or status in (1, 2, 3) and told else "no line of a refusal"
+
+
+def main() -> None:
+    if len(sys.argv) not in (2, 3, 4, 5):
+        sys.exit(__doc__)
+    program = str(Path(sys.argv[1]).resolve())
+    count = int(sys.argv[2]) if len(sys.argv) > 2 else 1000
+    seed = int(sys.argv[3]) if len(sys.argv) > 3 else 1
+    kept = Path(sys.argv[4]) if len(sys.argv) > 4 else None
+    known = cases()
+    statuses: Counter = Counter()
+    wrongs: Counter = Counter()
+    with tempfile.TemporaryDirectory(prefix="mutate_") as name:
+        folder = Path(name)
+        for number in range(count):
+            case = drawn(random.Random(seed * 1_000_003 + number), known)
+            for file, text in case.files.items():
+                (folder / file).write_bytes(text)
+            child = subprocess.run([program, *case.words], cwd=folder, capture_output=True, preexec_fn=limits, check=False)
+            said = wrong(child.returncode, child.stdout, child.stderr)
+            statuses[child.returncode] += 1
+            if said:
+                wrongs[said] += 1
+                print(f"case {number} of seed {seed}: {said}: {' '.join(case.words)}", flush=True)
+                keep(kept, f"{seed}_{number}", case)
+    told = ", ".join(f"{statuses[status]} with status {status}" for status in sorted(statuses))
+    print(f"{count} cases of seed {seed}: {told}; {sum(wrongs.values())} that are no answers {dict(wrongs)}")
+    sys.exit(1 if any(said != "late" for said in wrongs) else 0)
+
+
+def keep(kept: Path | None, name: str, case: Case) -> None:
+    if kept is None:
+        return
+    folder = kept / name
+    folder.mkdir(parents=True, exist_ok=True)
+    (folder / "words").write_text(" ".join(case.words) + "\n")
+    for file, text in case.files.items():
+        (folder / file).write_bytes(text)
+
+
+if __name__ == "__main__":
+    main()
