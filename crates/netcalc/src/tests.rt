@@ -165,6 +165,20 @@ fn words_files_and_sinks_are_refused(rt: HostRuntime) -> Result<(), Fail> {
 }
 
 #[test]
+fn a_report_on_edits_is_not_written_where_the_sink_fails(rt: HostRuntime) -> Result<(), Fail> {
+    let alloc = rt.alloc();
+    // An empty line is a network without servers, and a list without edits.
+    let line = "netcalc edit n.toml n.toml";
+    let (status, bytes) = ask(alloc, line, b"\n", 0, 1)?;
+    assert_eq!(rt; bytes.as_slice(), "".as_bytes());
+    assert_eq!(rt; status, 4);
+    let (status, bytes) = ask(alloc, line, b"\n", 0, 0)?;
+    assert_eq!(rt; bytes.as_slice(), "servers 0 flows 0\n".as_bytes());
+    assert_eq!(rt; status, 0);
+    Ok(())
+}
+
+#[test]
 fn a_script_has_at_most_256_statements(rt: HostRuntime) -> Result<(), Fail> {
     let alloc = rt.alloc();
     let mut script = Vec::new(alloc);
