@@ -73,16 +73,19 @@ fn size_of(x: Frac) -> u128
     x.numerator().unsigned_abs()
 }
 
-/// Adds a product.
+/// Adds a product. One whose first factor is 0 takes no work.
 fn add_product(sum: &mut WideSum, product: Product)
     requires from_zero { IsFromZero product }
     requires room { HasRoom sum.old }
     requires few { array_vec_len sum.old.factors + 2 ≤ MOST_FACTORS }
     ensures sum { (s : ℚ) → IsSumOf s sum.old → IsSumOf (product.left *ℚ product.right +ℚ s) sum.new }
     ensures room { HasRoom sum.new }
-    ensures more { array_vec_len sum.new.factors ≡ array_vec_len sum.old.factors + 2 }
+    ensures more { array_vec_len sum.new.factors ≤ array_vec_len sum.old.factors + 2 }
 {
     let (left, right) = (product.left, product.right);
+    if left == Frac::zero() {
+        return;
+    }
     let (below, under) = (left.denominator(), right.denominator());
     let own = times_both_plus(&sum.bottom, size_of(left), size_of(right), &[]);
     let top = times_both_plus(&sum.top, below, under, &own);

@@ -1,13 +1,22 @@
 use Rattle.std.proofs.Common.{◌≡◌, ◌+◌, ◌*◌, ◌<◌, [], ◌∷◌, ◌++◌, sym, ap, ◌∙◌, subst, arith}
-use Rattle.std.specs.Prelude.{nat_abs}
+use Rattle.std.specs.Prelude.{nat_abs, pos}
 use Rattle.std.specs.List.{AllByRecursion}
-use Rattle.rational.specs.Rational.{den}
+use Rattle.rational.specs.Rational.{int, den, ◌+ℚ◌, ◌*ℚ◌}
+use Rattle.rational.proofs.Laws.{add_comm, add_zero, zero_mul}
 use Rattle.wide_sums.specs.Words.{number}
 use Rattle.wide_sums.specs.Factors.{IsFactor, product}
+use Rattle.wide_sums.specs.Sums.{IsSumOf}
 use Rattle.wide_sums.proofs.Reduced.{product_end, product_pos, factors_end}
 use Rattle.wide_sums.proofs.Added.{added}
 use Rattle.wide_sums.proofs.Steps.{top_of}
 use Rattle.wide_sums.proofs.products.add_product.Goals as goal
+
+pub returns-then-eq-clause-sum : goal.returns-then-eq-clause-sum
+returns-then-eq-clause-sum c = λ s h.
+    let y = c.args.product.right in
+    let none = c.eq.ensures.same.0 c.if-eq.true ∙ c.zero.ensures in
+    let same : s ≡ c.args.product.left *ℚ y +ℚ s = sym (ap (λ x. x *ℚ y +ℚ s) none ∙ ap (λ x. x +ℚ s) (zero_mul y) ∙ add_comm (int (pos 0)) s ∙ add_zero s) in
+    subst (λ r. IsSumOf r c.args.sum.now) same h
 
 pub returns-clause-sum : goal.returns-clause-sum
 returns-clause-sum c = λ s h.

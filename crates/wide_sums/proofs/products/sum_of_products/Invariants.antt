@@ -1,4 +1,4 @@
-use Rattle.std.proofs.Common.{◌≡◌, ◌+◌, ◌*◌, length, drop}
+use Rattle.std.proofs.Common.{◌≤◌, ◌+◌, ◌*◌, length, drop}
 use Rattle.arrayvec.specs.ArrayVec.{array_vec_len}
 use Rattle.wide_sums.specs.Sums.{sum_of_products, IsSumOf, HasRoom}
 use Rattle.wide_sums.proofs.products.sum_of_products.Given as goal
@@ -8,5 +8,5 @@ abbrev pub invariant-loop-place : goal.invariant-loop-place
 invariant-loop-place l = record {
   sum : IsSumOf (sum_of_products (drop l.place l.products)) l.sum;
   room : HasRoom l.sum;
-  many : array_vec_len l.sum.factors + 2 * l.place ≡ 2 * length l.products;
+  many : array_vec_len l.sum.factors + 2 * l.place ≤ 2 * length l.products;
 }
