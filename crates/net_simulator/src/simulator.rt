@@ -1,6 +1,6 @@
 //! Simulations.
 
-ghost use Rattle.std.specs.Prelude.{◌<◌, ◌≤◌, ◌^◌, IfOk, IsErrOf, length};
+ghost use Rattle.std.specs.Prelude.{◌<◌, ◌≤◌, ◌↔◌, ◌^◌, IfOk, IsErrOf, length};
 ghost use Rattle.net_model.specs.NetRoutes.{routes_of};
 ghost use Rattle.net_model.specs.Walks.{IsFeedForward};
 ghost use Rattle.stated_runs.specs.FromTraces.{setup_of, IsTraceOf};
@@ -16,8 +16,8 @@ use sim_gauge::is_too_wide;
 use std::alloc::Global;
 
 /// The stated run of a network and a trace with its worst delays and its peaks, for a trace whose numbers are those of
-/// live flows and of servers, in a network in which no walk comes back. Want of memory apart, `TooWide` exactly where
-/// the simulation gauge of both is 2^120 or more; `NoMemory` only where an allocation is refused.
+/// live flows and of servers, in a network in which no walk comes back. `TooWide` exactly where the simulation gauge of
+/// both is 2^120 or more, whatever memory there is; `NoMemory` only below it, where an allocation is refused.
 pub fn simulate(alloc: Global, net: &Network, trace: &Trace) -> Result<SimRun, SimFault>
     requires named { IsTraceOf net.now trace.now }
     requires free { IsFeedForward net.now }
@@ -25,10 +25,11 @@ pub fn simulate(alloc: Global, net: &Network, trace: &Trace) -> Result<SimRun, S
     ensures worst { IfOk result
         (λ v. AreWorst (routes_of net.now) v.run.end v.run.steps (length net.now.flows) v.worst.items) }
     ensures peaks { IfOk result (λ v. ArePeaks (routes_of net.now) v.run (rows_of v.peaks.items)) }
-    ensures refused { IsErrOf result SimFault.TooWide → 2 ^ 120 ≤ simulation_gauge net.now trace.now }
+    ensures refused { IsErrOf result SimFault.TooWide ↔ (2 ^ 120 ≤ simulation_gauge net.now trace.now) }
     ensures narrow { IfOk result (λ _. simulation_gauge net.now trace.now < 2 ^ 120) }
+    ensures memory { IsErrOf result SimFault.NoMemory → simulation_gauge net.now trace.now < 2 ^ 120 }
 {
-    if is_too_wide(alloc, net, trace)? {
+    if is_too_wide(net, trace) {
         return Err(SimFault::TooWide);
     }
     Ok(measured_run(alloc, net, trace)?)

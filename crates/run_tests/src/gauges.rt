@@ -23,7 +23,7 @@ fn is_too_wide_at(alloc: Global, time: Frac) -> Result<bool, Fail> {
         bits: 1,
     })?;
     let trace = Trace::new(packets, Vec::new(alloc));
-    Ok(is_too_wide(alloc, &net, &trace)?)
+    Ok(is_too_wide(&net, &trace))
 }
 
 #[test]
