@@ -15,7 +15,6 @@ pub mod LateNumbers
 pub mod Orders
 pub mod SpanLoops
 pub mod PieceStretches
-pub mod FoundCurves
 pub mod FoundStretches
 pub mod FoundNumbers
 pub mod FoundGaps
