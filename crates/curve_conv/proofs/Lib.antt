@@ -21,4 +21,3 @@ pub mod FoundGaps
 pub mod Mosts
 pub mod ConvolveCalls
 pub mod ConvolveAnswers
-pub mod Tallies
