@@ -1,17 +1,16 @@
 -- The least number of periods is there, and no greater than what one period of the service tells: what is served theta
 -- later is above the service nowhere more than the service rises over a period of its own.
-use Rattle.std.specs.Prelude.{◌≡◌, ℕ, zero, suc, ◌<◌, ◌≤◌, pos, None, ◌⊎◌}
+use Rattle.std.specs.Prelude.{◌≡◌, ℕ, zero, suc, ◌<◌, pos}
 use Rattle.std.proofs.Common.{arith, sym, ◌∙◌, refl, subst, inl, inr}
 use Rattle.std.proofs.lemmas.Bool.{cases_lt}
 use Rattle.rational.specs.Rational.{ℚ, ◌+ℚ◌, ◌-ℚ◌, ◌*ℚ◌, ◌/ℚ◌, ◌≤ℚ◌, ◌<ℚ◌, int}
 use Rattle.rational.specs.MinMax.{max_q}
 use Rattle.rational.specs.Ratio.{IsSmall}
 use Rattle.rational.specs.Gauge.{size_up}
-use Rattle.rational.specs.Grid.{Whole}
-use Rattle.rational.specs.Extended.{Ext, ◌≤ₑ◌, ◌+ₑ◌}
+use Rattle.rational.specs.Extended.{◌≤ₑ◌, ◌+ₑ◌}
 use Rattle.rational.specs.declared.Extended.TheVariants.{Fin}
 use Rattle.rational.proofs.Linear.{with2, with4, with5}
-use Rattle.rational.proofs.Laws.{le_or_lt, le_refl, le_trans, le_of_lt, lt_irrefl, lt_le_trans}
+use Rattle.rational.proofs.Laws.{le_or_lt, le_trans, le_of_lt, lt_irrefl, lt_le_trans}
 use Rattle.rational.proofs.Grid.{whole_sub}
 use Rattle.rational.proofs.Quotients.{div_le}
 use Rattle.upp_limits.proofs.CommonDen.{size_up_within}
@@ -19,31 +18,28 @@ use Rattle.rational.proofs.ExtendedOrder.{add_le_ext, le_ext_refl, le_ext_trans}
 use Rattle.upp_limits.specs.declared.op_kind.OpKind.TheVariants.{FifoLeft}
 use Rattle.upp_curve.specs.Curve.{SpecCurve, value_at}
 use Rattle.min_plus.specs.Functions.{zero_q}
-use Rattle.upp_curve.specs.Steady.{Repeats, steady, rise_over}
+use Rattle.upp_curve.specs.Steady.{steady, rise_over}
 use Rattle.upp_curve.proofs.Steady.{steady_rule}
-use Rattle.upp_curve.proofs.Finite.{number_of}
 use Rattle.upp_limits.specs.Limits.{Sizes, curve_numbers}
 use Rattle.upp_limits.specs.Sized.{Stands}
 use Rattle.upp_limits.specs.Windows.{IsLeast, Meets}
 use Rattle.upp_normal.specs.Operand.{AreLimited}
-use Rattle.upp_normal.specs.Ahead.{IsTimeIn, AnswerValue, IsGridValue}
 use Rattle.curve_call.specs.Rises.{CurveRiseFits}
 use Rattle.curve_call.specs.declared.windows.CallWindow.{CallWindow}
 use Rattle.curve_call.proofs.CurveRises.{IsRise, rise_is}
 use Rattle.curve_least.specs.declared.bounds.Bounds.{Bounds}
 use Rattle.curve_least.specs.Bounds.{AreBounds, own_or}
 use Rattle.curve_least.specs.Compared.{IsLookedAt}
-use Rattle.curve_least.specs.Gaps.{InWindow}
 use Rattle.curve_least.specs.GapSteps.{earlier_of}
 use Rattle.curve_least.proofs.FoundCurves.{curve_goes}
 use Rattle.curve_least.proofs.GapWalk.{steps_left}
 use Rattle.curve_least.proofs.LeastNumber.{lead_stands, times_small}
 use Rattle.curve_least.proofs.OwnPeriods.{OwnPeriod, own_period_is}
 use Rattle.curve_least.proofs.Shifts.{below_in}
-use Rattle.curve_envelope.specs.Behind.{moved, IsBehindCall, IsMost, IsServed}
-use Rattle.curve_envelope.specs.LeftCall.{LeftCall, IsLeftGate}
+use Rattle.curve_envelope.specs.Behind.{moved, IsBehindCall, IsMost}
+use Rattle.curve_envelope.specs.LeftCall.{IsLeftGate}
 use Rattle.curve_envelope.proofs.BehindWalk.{BehindWalk, FoundAt, beta_time, cross_time, next_past_it, behind_start, behind_step, behind_fewer, behind_end}
-use Rattle.curve_envelope.proofs.LeastBehind.{gate_sizes, gate_call, GateTimes, gate_times, behind_call, to_meets, least_none, least_same, least_behind}
+use Rattle.curve_envelope.proofs.LeastBehind.{gate_sizes, gate_call, gate_times, behind_call, to_meets, least_none, least_same, least_behind}
 use Rattle.curve_envelope.proofs.LeftCalls.{left_times, left_rise, right_rise, left_moves, moved_moves}
 use Rattle.curve_envelope.proofs.Served.{other_finite, reached_by}
 
