@@ -1,5 +1,5 @@
 -- Pieces of an answer meet what the normal form asks of a curve in any form; and what holds in its window and shifts with it holds of the answer.
-use Rattle.std.specs.Prelude.{◌≡◌, ℕ, ◌<◌, ◌^◌, pos, List}
+use Rattle.std.specs.Prelude.{ℕ, ◌<◌, ◌^◌, pos, List}
 use Rattle.std.proofs.Common.{arith, sym, subst}
 use Rattle.rational.specs.Rational.{ℚ, ◌+ℚ◌, ◌≤ℚ◌, ◌<ℚ◌, int}
 use Rattle.rational.specs.Extended.{Ext, ◌+ₑ◌}

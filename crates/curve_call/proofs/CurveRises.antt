@@ -31,7 +31,6 @@ use Rattle.upp_limits.specs.Spans.{Span, spans, span_below, spans_below, copies_
 use Rattle.upp_curve.specs.Unrolled.{copies_below}
 use Rattle.upp_limits.specs.Limits.{Sizes, curve_numbers}
 use Rattle.upp_limits.specs.Sized.{IsValue, AreSizes, Stands, ValueStands, LineStands, SpanStands, grid_of, times_largest}
-use Rattle.affine_segment.proofs.PieceIn.{piece_in_stop, piece_in_go, piece_in_end}
 use Rattle.upp_curve.proofs.Normal.{past_start}
 use Rattle.affine_segment.proofs.PieceOrder.{each_map}
 use Rattle.upp_curve.proofs.Finite.{each_in}
@@ -48,7 +47,7 @@ use Rattle.fraction128.specs.Multiple.{common_multiple}
 use Rattle.fraction128.proofs.CommonMultiple.{common_multiple_least}
 use Rattle.curve_call.specs.Rises.{CurveRiseFits, SlopeTimesFits}
 use Rattle.upp_normal.proofs.UnrollSteps.{IsSomewhere}
-use Rattle.upp_normal.proofs.StretchPieces.{found_from, found_late}
+use Rattle.upp_normal.proofs.StretchPieces.{found_from}
 use Rattle.upp_curve.proofs.SteadyTimes.{rank_early}
 
 -- ---- a piece with a value, or none

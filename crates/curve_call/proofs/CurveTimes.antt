@@ -1,26 +1,23 @@
 -- The times of a curve in a call's window: from when on it repeats, its period and the common one of two stand on the grid of times, and steps
 -- with times up to the window's end fit.
 use Rattle.std.specs.Prelude.{◌≡◌, ℕ, ◌*◌, ◌<◌, ◌≤◌, ◌^◌, pos, ◌<ℤ◌, Bool, true, false, List, Option, Some, None}
-use Rattle.std.proofs.Common.{arith, sym, subst, inl, inr}
+use Rattle.std.proofs.Common.{arith, sym, subst}
 use Rattle.std.proofs.lemmas.Int.{ints}
 use native.Mathlib.Nat.{mul-le-mul_right}
 use Rattle.rational.specs.Rational.{ℚ, ◌*ℚ◌, ◌≤ℚ◌, ◌<ℚ◌, int}
-use Rattle.rational.specs.MinMax.{max_q}
-use Rattle.rational.specs.Ratio.{IsSmall, SumFits}
+use Rattle.rational.specs.Ratio.{SumFits}
 use Rattle.rational.specs.Grid.{Whole, Within}
-use Rattle.rational.proofs.Linear.{with1, with3}
-use Rattle.rational.proofs.Laws.{le_refl, le_trans, le_of_lt, mul_le_mul, mul_le_mul_right, mul_nonneg, mul_pos, mul_one, mul_assoc}
+use Rattle.rational.proofs.Linear.{with3}
+use Rattle.rational.proofs.Laws.{le_trans, le_of_lt, mul_le_mul, mul_le_mul_right, mul_nonneg, mul_pos, mul_one, mul_assoc}
 use Rattle.rational.proofs.Integers.{nat_le, nat_le_out, nat_lt, nat_nonneg, int_le, int_lt_out, mul_whole}
-use Rattle.rational.proofs.MinMax.{max_q_one}
-use Rattle.rational.proofs.Grid.{whole_int, whole_add, whole_times, within_nonneg, max_whole}
-use Rattle.rational.proofs.Sizes.{largest_part, small_on_grid, sum_on_grid}
+use Rattle.rational.proofs.Grid.{whole_int, whole_add, whole_times, within_nonneg}
+use Rattle.rational.proofs.Sizes.{sum_on_grid}
 use Rattle.fraction128.proofs.CommonMultiple.{common_multiple_least}
 use Rattle.affine_segment.specs.declared.line.Piece.{Piece}
 use Rattle.upp_curve.specs.declared.curve.Tail.{Tail}
 use Rattle.upp_curve.specs.declared.curve.Tail.TheVariants.{Periodic, Affine, Infinite}
 use Rattle.upp_curve.specs.Curve.{SpecCurve}
 use Rattle.upp_curve.specs.Curves.{IsCurve}
-use Rattle.upp_curve.specs.Normal.{TailFits}
 use Rattle.upp_curve.specs.Steady.{rank_of, later_unless, steady}
 use Rattle.upp_limits.specs.Periods.{HasPeriod, period_of, period_or, common_of, common_period, own_period, periods_after}
 use Rattle.upp_limits.specs.Limits.{Sizes, curve_numbers, sizes_of}
@@ -31,7 +28,7 @@ use Rattle.upp_limits.proofs.NarrowSizes.{IsNarrow}
 use Rattle.upp_limits.proofs.OwnGauge.{end_within, twice_fits}
 use Rattle.curve_call.specs.Times.{OneLaterFits, BothSteadyFit, PeriodsFit}
 use Rattle.upp_normal.proofs.UnrollSteps.{time_small}
-use Rattle.upp_curve.proofs.SteadyTimes.{later_at_least, steady_nonneg, curve_rank, rank_early, rank_nonneg}
+use Rattle.upp_curve.proofs.SteadyTimes.{curve_rank, rank_early}
 use Rattle.upp_limits.specs.Gauges.{both_numbers}
 use Rattle.upp_limits.proofs.Stands.{sizes_stand, stands_left, stands_right}
 

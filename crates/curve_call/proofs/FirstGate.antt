@@ -57,7 +57,7 @@ periods_grow s p n m some l =
     let run = mul_le_mul_right p some (nat_le n m l) in
     with3 s (int (pos n) *ℚ p) (int (pos m) *ℚ p) (λ c. omega (arith, c.le, c.lt, c.same))
 
-window_grows : (op : OpKind) (f g : SpecCurve) (k m i j : ℕ) → IsCurve f → IsCurve g → IsForward op → k ≤ i → m ≤ j → window_at op f g k m ≤ℚ window_at op f g i j
+pub window_grows : (op : OpKind) (f g : SpecCurve) (k m i j : ℕ) → IsCurve f → IsCurve g → IsForward op → k ≤ i → m ≤ j → window_at op f g k m ≤ℚ window_at op f g i j
 window_grows op f g k m i j is_f is_g forward h l =
     let far = window_at op f g i j in
     let z = sizes_of far (numbers_over op f g far) in

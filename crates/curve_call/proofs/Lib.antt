@@ -14,3 +14,4 @@ pub mod Excesses
 pub mod FiniteAnswers
 pub mod GrowingAnswers
 pub mod TailMoves
+pub mod Tallies

@@ -1,5 +1,6 @@
--- The first look at a call: its window with no period, whose gauge no number of periods makes smaller. Own choice.
-use Rattle.std.specs.Prelude.{◌<◌, ◌≤◌, ◌^◌}
+-- The first looks at a call: its window with no period, whose gauge no number of periods makes smaller, and the windows
+-- with numbers of periods that the number it needs is between. Own choice.
+use Rattle.std.specs.Prelude.{ℕ, ◌<◌, ◌≤◌, ◌^◌}
 use Rattle.upp_limits.specs.declared.op_kind.OpKind.{OpKind}
 use Rattle.upp_limits.specs.declared.op_kind.OpFault.{OpFault}
 use Rattle.upp_limits.specs.declared.op_kind.OpFault.TheVariants.{TooMany, TooWide, NoMemory}
@@ -7,6 +8,7 @@ use Rattle.upp_curve.specs.Curve.{SpecCurve}
 use Rattle.upp_limits.specs.Gauges.{gauge_at}
 use Rattle.curve_call.specs.declared.windows.CallWindow.{CallWindow}
 use Rattle.curve_call.specs.CallWindows.{IsWindow}
+use Rattle.curve_call.specs.Frames.{IsRefusedAt}
 
 -- the window of a call with no period, whose gauge is within the limit
 pub record IsFirstWindow (op : OpKind) (f g : SpecCurve) (w : CallWindow) : Type 0 where
@@ -18,3 +20,7 @@ abbrev pub IsWideAtFirst : OpKind → SpecCurve → SpecCurve → OpFault → Ty
 IsWideAtFirst op f g TooMany = ⊥
 IsWideAtFirst op f g TooWide = 2 ^ 120 ≤ gauge_at op f g 0 0
 IsWideAtFirst op f g NoMemory = ⊥
+
+-- the call is over that limit with each number of periods from `low` to `high`
+abbrev pub IsRefusedBetween : OpKind → SpecCurve → SpecCurve → ℕ → ℕ → OpFault → Type 0
+IsRefusedBetween op f g low high e = (k : ℕ) → low ≤ k → k ≤ high → IsRefusedAt op f g k 0 e

@@ -4,6 +4,7 @@
 #![tactic(auto)]
 
 mod answers;
+mod between;
 mod frame;
 mod gate;
 mod kept;
@@ -13,6 +14,7 @@ mod times;
 mod windows;
 
 pub use answers::answer;
+pub use between::refuse_between;
 pub use frame::{Frame, within, within_both};
 pub use gate::first_window;
 pub use kept::seen;

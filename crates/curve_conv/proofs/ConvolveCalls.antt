@@ -40,7 +40,7 @@ use Rattle.curve_pointwise.proofs.LatticeCalls.{at_times, from_is, from_fits}
 use Rattle.curve_conv.specs.Scans.{sizes_in}
 use Rattle.curve_conv.specs.Late.{IsSlowerLate, IsSlowerAfter, IsSlowerNumber, IsSlowerMost, IsPartsCall}
 use Rattle.curve_conv.specs.ConvolveCall.{IsConvolveFrame}
-use Rattle.curve_conv.proofs.Tallies.{tally_grows}
+use Rattle.curve_call.proofs.Tallies.{tally_rises}
 use Rattle.upp_curve.proofs.SteadyTimes.{steady_nonneg}
 use Rattle.rational.proofs.Stretch.{not_earlier}
 
@@ -212,5 +212,5 @@ pub many_by : (f g : SpecCurve) (w : CallWindow) (from : ℚ) (n : ℕ) → IsCu
 many_by f g w from n K W e M gauge tally =
     let k = M.number in
     let rises = gauge_grows Convolve f g k 0 n 0 K.0 K.1 tt M.most (omega arith) in
-    let more = tally_grows f g w.end (window_at Convolve f g k 0) K.0 K.1 (window_later f g w k K W) in
+    let more = tally_rises Convolve f g w.end (window_at Convolve f g k 0) K.0 K.1 (window_later f g w k K W) in
     many_at_least Convolve f g k 0 (looks f g) (least_periods f g w from k K W e M.is) (omega (arith, rises, gauge)) (omega (arith, more, tally))

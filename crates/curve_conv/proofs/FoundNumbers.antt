@@ -27,7 +27,7 @@ use Rattle.curve_conv.specs.Stretches.{SumStretch, SumTimeIn, IsAhead, point_at,
 use Rattle.curve_conv.proofs.GridSteps.{steps_while}
 use Rattle.curve_conv.proofs.PartLoops.{limit_all, limit_until, limit_room, walk_fewer}
 use Rattle.curve_conv.proofs.SpanLoops.{SpanWalk, span_start, span_facts, span_time, span_step, span_end, spans_make}
-use Rattle.curve_conv.proofs.FoundCurves.{Here, curve_goes}
+use Rattle.curve_least.proofs.FoundCurves.{Here, curve_goes}
 use Rattle.curve_conv.proofs.FoundStretches.{ListGoing, AreOperand, lists_go}
 
 -- ---- the elements of a curve over some times
@@ -58,7 +58,7 @@ further z c from until limit end V F U L es x W =
     let H = curve_goes z end c x V (span_time z c from until limit end es x F L W) in
     let here = H.stretch in
     let (next, E) = early_of here.next limit in
-    let K = span_facts z c from until limit end es x here next F U L W V H.goes H.times (λ t. H.sizes) E in
+    let K = span_facts z c from until limit end es x here next F U L W V H.goes H.times (λ t. H.sizes z end V t) E in
     let fs = (es ++ listed (point_at x here.at)) ++ listed (open_at x (or_else next until) here.line) in
     record {
       elements = fs;

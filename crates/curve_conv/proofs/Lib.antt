@@ -15,11 +15,9 @@ pub mod LateNumbers
 pub mod Orders
 pub mod SpanLoops
 pub mod PieceStretches
-pub mod FoundCurves
 pub mod FoundStretches
 pub mod FoundNumbers
 pub mod FoundGaps
 pub mod Mosts
 pub mod ConvolveCalls
 pub mod ConvolveAnswers
-pub mod Tallies

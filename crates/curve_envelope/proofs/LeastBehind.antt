@@ -48,11 +48,11 @@ gate_call f g theta w G =
     at_times f g theta _ _ _ w.start w.period w.end 0 (gate_sizes f g theta) L W.start W.period W.end
 
 -- it ends two periods after the start
-record GateTimes (s p e : ℚ) : Type 0 where
-  two : e ≡ s +ℚ p +ℚ p
-  some : zero_q <ℚ p
+pub record GateTimes (s p e : ℚ) : Type 0 where
+  pub two : e ≡ s +ℚ p +ℚ p
+  pub some : zero_q <ℚ p
 
-gate_times : (theta s p e : ℚ) → LeftTimes theta s p e 0 → GateTimes s p e
+pub gate_times : (theta s p e : ℚ) → LeftTimes theta s p e 0 → GateTimes s p e
 gate_times theta s p e T =
     let run = T.run in
     let none : run ≡ zero_q = T.run_is ∙ with1 p (λ c. omega (arith, c.le, c.lt, c.same)) in

@@ -15,7 +15,9 @@ use Rattle.curve_call.specs.declared.frame.Frame.{Frame}
 use Rattle.curve_call.specs.Frames.{IsFrame, IsRefusedAt, sizes_at}
 use Rattle.curve_call.proofs.FirstGate.{first_gate}
 use Rattle.curve_call.proofs.Limited.{refused_cause, frame_within, fifo_left_least}
-use Rattle.curve_call.specs.FirstWindows.{IsWideAtFirst}
+use Rattle.curve_call.specs.FirstWindows.{IsWideAtFirst, IsRefusedBetween}
+use Rattle.curve_least.specs.declared.bounds.Bounds.{Bounds}
+use Rattle.curve_least.specs.Bounds.{AreBounds}
 use Rattle.curve_envelope.specs.Behind.{IsServed}
 use Rattle.curve_envelope.specs.LeftCall.{IsLeftFrame}
 use Rattle.curve_envelope.proofs.LeastBehind.{from_meets}
@@ -51,3 +53,8 @@ left_frame theta f g k r S L h =
 -- after an infinite wait no limit is looked at
 pub left_known : (f g : SpecCurve) → IsWithin (FifoLeft Inf) f g
 left_known f g = record { narrow = λ w. w.looks tt; few = λ m. m.looks tt }
+
+-- by bounds of the number of periods
+pub left_between : (theta : ℚ) (f g : SpecCurve) (b : Bounds) (e : OpFault) → AreBounds (Meets (FifoLeft (Fin theta)) f g) b → IsRefusedBetween (FifoLeft (Fin theta)) f g b.low b.high e
+    → IsCauseOf (FifoLeft (Fin theta)) f g e
+left_between theta f g b e B refused = left_refused theta f g B.number e B.least (refused B.number B.low B.high)

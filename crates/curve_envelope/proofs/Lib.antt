@@ -15,3 +15,4 @@ pub mod LeastBehind
 pub mod LeftLimits
 pub mod Nothing
 pub mod TestWaits
+pub mod MostBehind

@@ -51,7 +51,7 @@ other_finite f g theta S s low =
 
 -- ---- caught up
 -- at the end of a wait before s' the service is at most what it is at s'
-reached_by : (f g : ℚ → Ext) (theta t far : ℚ) → IsServed f g theta → theta ≤ℚ t → t <ℚ far → g (t -ℚ theta) ≤ₑ f far
+pub reached_by : (f g : ℚ → Ext) (theta t far : ℚ) → IsServed f g theta → theta ≤ℚ t → t <ℚ far → g (t -ℚ theta) ≤ₑ f far
 reached_by f g theta t far S late past =
     let low : zero_q ≤ℚ t -ℚ theta = with2 theta t (λ c. omega (arith, c.le, c.lt, c.same)) in
     let (a, m) = soon f g theta (t -ℚ theta) (far -ℚ t) S low (with2 far t (λ c. omega (arith, c.le, c.lt, c.same))) in

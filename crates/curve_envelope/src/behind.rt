@@ -7,13 +7,14 @@ ghost use Rattle.upp_limits.specs.declared.op_kind.OpKind.TheVariants.{FifoLeft}
 ghost use Rattle.upp_curve.specs.Curve.{value_at};
 ghost use Rattle.upp_limits.specs.Limits.{Sizes};
 ghost use Rattle.upp_limits.specs.Windows.{IsLeast, Meets};
+ghost use Rattle.curve_least.specs.Bounds.{AreBounds};
 ghost use Rattle.curve_least.specs.GapSteps.{earlier_of};
 ghost use Rattle.curve_envelope.specs.Behind.{moved, IsBehindCall, IsMost};
 ghost use Rattle.curve_envelope.specs.LeftCall.{IsLeftGate};
 
 use crate::numbers::number_of;
 use curve_call::{CallWindow, rise_over};
-use curve_least::earlier;
+use curve_least::{Bounds, earlier, period_or};
 use fraction128::{Frac, difference, greater, is_less, quotient};
 use upp_curve::Curve;
 use upp_normal::stretch_at;
@@ -55,4 +56,24 @@ pub(crate) fn enough_periods(beta: &Curve, cross: &Curve, theta: Frac, first: &C
         return 0;
     }
     quotient(most, lead).size_up()
+}
+
+/// Bounds of what `enough_periods` finds, at once: cross, served theta later, is above beta nowhere more than beta rises
+/// over one period of its own.
+pub(crate) fn behind_bounds(beta: &Curve, cross: &Curve, theta: Frac, first: &CallWindow) -> Bounds
+    requires { IsLeftGate beta.now cross.now theta first.now }
+    ensures { AreBounds (Meets (FifoLeft (Fin theta)) beta.now cross.now) result }
+{
+    let lead = difference(
+        rise_over(beta, first.period),
+        rise_over(cross, first.period),
+    );
+    if !is_less(Frac::zero(), lead) {
+        return Bounds { low: 0, high: 0 };
+    }
+    let most = rise_over(beta, period_or(beta, first.period));
+    Bounds {
+        low: 0,
+        high: quotient(most, lead).size_up(),
+    }
 }

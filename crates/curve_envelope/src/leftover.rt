@@ -12,12 +12,12 @@ ghost use Rattle.upp_limits.specs.Outcome.{KeepsLimits};
 ghost use Rattle.curve_envelope.specs.Behind.{IsServed};
 ghost use Rattle.curve_envelope.specs.LeftCall.{IsLeftBeside, IsLeftFrame, IsLeftWindow};
 
-use crate::behind::enough_periods;
+use crate::behind::{behind_bounds, enough_periods};
 use crate::lowest::lowest_pieces;
 use crate::moved::moved_right;
 use crate::parts::left_pieces;
 use affine_segment::{Line, Piece};
-use curve_call::{Frame, answer, first_window, rise_over, within};
+use curve_call::{Frame, answer, first_window, refuse_between, rise_over, within};
 use curve_window::overlay;
 use fraction128::{Ext, Frac, difference, sum};
 use rational::Extended;
@@ -85,6 +85,8 @@ fn left_after(alloc: Global, beta: &Curve, cross: &Curve, theta: Frac) -> Result
 {
     let kind = OpKind::FifoLeft(Extended::Fin(theta));
     let first = first_window(&kind, beta, cross)?;
+    let bounds = behind_bounds(beta, cross, theta, &first);
+    refuse_between(&kind, beta, cross, bounds.low, bounds.high)?;
     let periods = enough_periods(beta, cross, theta, &first);
     let frame = within(&kind, beta, cross, periods)?;
     match left_within(alloc, beta, cross, theta, &frame) {

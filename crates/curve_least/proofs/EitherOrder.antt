@@ -23,10 +23,10 @@ other_way z from d f g C = record { limited = C.limited; start = C.start; some =
 pub apart : (x y : Ext) → x <ₑ y → y <ₑ x → ⊥
 apart x y h k = lt_ext_irrefl x (lt_ext_trans x y x h k)
 
-first_in : (f g : SpecCurve) (from d : ℚ) (k : ℕ) → rate f <ₑ rate g → IsBelowAfter f g from d k → IsEnough f g from d k
+pub first_in : (f g : SpecCurve) (from d : ℚ) (k : ℕ) → rate f <ₑ rate g → IsBelowAfter f g from d k → IsEnough f g from d k
 first_in f g from d k h w = record { first = λ l. w; second = λ l. absurd (apart (rate f) (rate g) h l) }
 
-second_in : (f g : SpecCurve) (from d : ℚ) (k : ℕ) → rate g <ₑ rate f → IsBelowAfter g f from d k → IsEnough f g from d k
+pub second_in : (f g : SpecCurve) (from d : ℚ) (k : ℕ) → rate g <ₑ rate f → IsBelowAfter g f from d k → IsEnough f g from d k
 second_in f g from d k h w = record { first = λ l. absurd (apart (rate f) (rate g) l h); second = λ l. w }
 
 -- of f and g what least_below says of the slower and the faster

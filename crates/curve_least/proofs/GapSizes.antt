@@ -34,7 +34,7 @@ earlier_right t e h = sym (min_q_right t e h)
 
 -- ---- differences
 
-differ : (z : Sizes) (last : ℚ) (x y : Ext) → AreLimited z last → GridValue z x → GridValue z y → DifferenceFits x y
+pub differ : (z : Sizes) (last : ℚ) (x y : Ext) → AreLimited z last → GridValue z x → GridValue z y → DifferenceFits x y
 differ z last x Inf A h k = tt
 differ z last Inf (Fin y) A h k = tt
 differ z last (Fin x) (Fin y) A h k = (values_fit z last x y A h k).1
@@ -54,7 +54,7 @@ pub differ_as : (x y v w : Ext) → v ≡ x → w ≡ y → DifferenceFits x y �
 differ_as x y v w e f h = subst (λ s. DifferenceFits s w) (sym e) (subst (DifferenceFits x) (sym f) h)
 
 -- ---- the sizes of a gap
-gap_stands : (z : Sizes) (x y : Ext) → GridValue z x → GridValue z y → GapStands z (gap_of x y)
+pub gap_stands : (z : Sizes) (x y : Ext) → GridValue z x → GridValue z y → GapStands z (gap_of x y)
 gap_stands z x Inf h k = tt
 gap_stands z Inf (Fin y) h k = tt
 gap_stands z (Fin x) (Fin y) h k = let v = value_difference_stands z x y h k in record { whole = v.whole; within = v.within }

@@ -12,12 +12,12 @@ use Rattle.upp_curve.specs.declared.curve.Tail.TheVariants.{Periodic, Affine, In
 use Rattle.upp_curve.specs.Curve.{SpecCurve}
 use Rattle.upp_curve.specs.Curves.{IsCurve}
 use Rattle.upp_curve.specs.Steady.{steady, IsWholePeriods}
-use Rattle.upp_limits.specs.Limits.{Sizes, no_numbers, joined, curve_numbers, sizes_of, gauge_of}
+use Rattle.upp_limits.specs.Limits.{Sizes, no_numbers, joined, curve_numbers, sizes_of}
 use Rattle.upp_limits.specs.Sized.{Stands}
 use Rattle.upp_limits.specs.Gauges.{gauge_over, both_numbers, numbers_over}
 use Rattle.upp_limits.proofs.CurveStands.{are_sizes}
 use Rattle.upp_limits.proofs.Stands.{sizes_stand, stands_left, stands_right}
-use Rattle.curve_least.specs.Compared.{RepeatsIn, AreCompared}
+use Rattle.curve_least.specs.Compared.{AreCompared}
 
 pub min_sizes : SpecCurve → SpecCurve → ℚ → Sizes
 min_sizes f g end = sizes_of end (numbers_over Min f g end)

@@ -1,5 +1,5 @@
 -- The least number of periods, from the gap over one period and from what the faster curve gains in one.
-use Rattle.std.specs.Prelude.{◌≡◌, ℕ, pos, ◌⊎◌}
+use Rattle.std.specs.Prelude.{◌≡◌, ℕ, pos, ◌≤◌}
 use Rattle.std.proofs.Common.{arith, sym, ◌∙◌, refl, subst, inl, inr}
 use Rattle.rational.specs.Rational.{ℚ, ◌+ℚ◌, ◌-ℚ◌, ◌*ℚ◌, ◌/ℚ◌, ◌≤ℚ◌, ◌<ℚ◌, int, neg_ℚ}
 use Rattle.rational.specs.Ratio.{IsSmall, SumFits}
@@ -20,7 +20,7 @@ use Rattle.upp_limits.specs.Limits.{Sizes}
 use Rattle.upp_limits.specs.Sized.{grid_of, times_largest}
 use Rattle.upp_normal.specs.Operand.{AreLimited}
 use Rattle.upp_limits.specs.Windows.{IsBelowFor, IsLeast}
-use Rattle.upp_normal.specs.Ahead.{HasWindow, IsTimeIn, IsGridValue}
+use Rattle.upp_normal.specs.Ahead.{HasWindow, IsTimeIn, IsGridValue, AnswerValue}
 use Rattle.upp_limits.proofs.CommonDen.{size_up_within, size_up_least}
 use Rattle.upp_limits.proofs.NarrowSizes.{small_number, small_sum}
 use Rattle.upp_curve.proofs.Steady.{steady_rule}
@@ -28,6 +28,7 @@ use Rattle.upp_normal.proofs.StretchSizes.{times_fit, small_quotient}
 use Rattle.curve_least.specs.Gaps.{InWindow, IsWithin, IsEndless, IsLargest}
 use Rattle.curve_least.specs.GapSteps.{IsGapValue}
 use Rattle.curve_least.specs.Compared.{RepeatsIn, AreCompared}
+use Rattle.curve_least.specs.Bounds.{IsFiniteLate}
 use Rattle.curve_least.proofs.Shifts.{below_in, below_out, largest_bounds, endless_bounds, same_least, least_zero}
 use Rattle.curve_least.proofs.GapParts.{within_none}
 use Rattle.curve_least.proofs.Rises.{rate_rise, infinite_value, has_window, from_low}
@@ -55,15 +56,15 @@ pub finite_less : (x y : Ext) → x <ₑ y → (v : ℚ) × (x ≡ Fin v)
 finite_less Inf y h = absurd h
 finite_less (Fin v) y h = (v, refl)
 
-record BothFinite (f g : ℚ → Ext) (from end : ℚ) : Type 0 where
-  at : ℚ
-  among : InWindow from end at
-  first : ℚ
-  first_is : f at ≡ Fin first
-  second : ℚ
-  second_is : g at ≡ Fin second
+pub record BothFinite (f g : ℚ → Ext) (from end : ℚ) : Type 0 where
+  pub at : ℚ
+  pub among : InWindow from end at
+  pub first : ℚ
+  pub first_is : f at ≡ Fin first
+  pub second : ℚ
+  pub second_is : g at ≡ Fin second
 
-both_finite : (f g : ℚ → Ext) (from end q : ℚ) → IsLargest (InWindow from end) f g q → BothFinite f g from end
+pub both_finite : (f g : ℚ → Ext) (from end q : ℚ) → IsLargest (InWindow from end) f g q → BothFinite f g from end
 both_finite f g from end q L =
     let y = q -ℚ int (pos 1) in
     let m = L.near y (with1 q (λ c. omega (arith, c.le, c.lt, c.same))) in
@@ -93,18 +94,26 @@ gains slow fast d t v curve some faster late finite =
           (subst (λ y. int (pos 0) <ℚ s *ℚ d -ℚ y) (rate_rise slow d r e) (let x = r *ℚ d in let y = s *ℚ d in with2 x y (λ c. omega (arith, c.le, c.lt, c.same))))
     ]
 
-pub lead_is : (z : Sizes) (from d : ℚ) (slow fast : SpecCurve) (q : ℚ) → rate slow <ₑ rate fast → AreCompared z from d slow fast → IsCurve slow → IsCurve fast
-    → IsLargest (InWindow from (from +ℚ d)) (value_at slow) (value_at fast) q → Lead z slow fast d
-lead_is z from d slow fast q faster C F G L =
-    let B = both_finite (value_at slow) (value_at fast) from (from +ℚ d) q L in
+pub lead_is : (z : Sizes) (from d : ℚ) (slow fast : SpecCurve) → rate slow <ₑ rate fast → AreCompared z from d slow fast → IsFiniteLate from slow → IsFiniteLate from fast → Lead z slow fast d
+lead_is z from d slow fast faster C P Q =
+    let F = C.first.curve in
+    let G = C.second.curve in
     let V = has_window z from d slow F C.limited C.some C.first in
     let W = has_window z from d fast G C.limited C.some C.second in
     let low = from_low z from d slow F C.first in
     record {
-      first = rise_stands z from d slow B.at B.first V C.start low C.some (le_trans (rank_early slow) C.first.steady_by) C.first.periods B.among.start B.first_is;
-      second = rise_stands z from d fast B.at B.second W C.start low C.some (le_trans (rank_early fast) C.second.steady_by) C.second.periods B.among.start B.second_is;
-      some = gains slow fast d B.at B.second G C.some faster (le_trans C.second.steady_by B.among.start) B.second_is;
+      first = rise_stands z from d slow P.at P.value V C.start low C.some (le_trans (rank_early slow) C.first.steady_by) C.first.periods P.late P.is;
+      second = rise_stands z from d fast Q.at Q.value W C.start low C.some (le_trans (rank_early fast) C.second.steady_by) C.second.periods Q.late Q.is;
+      some = gains slow fast d Q.at Q.value G C.some faster (le_trans C.second.steady_by Q.late) Q.is;
     }
+
+-- where the gap of two curves is a number, both are finite somewhere
+pub largest_finite : (from end q : ℚ) (f g : SpecCurve) → IsLargest (InWindow from end) (value_at f) (value_at g) q → IsFiniteLate from f × IsFiniteLate from g
+largest_finite from end q f g L =
+    let B = both_finite (value_at f) (value_at g) from end q L in (
+      record { at = B.at; late = B.among.start; value = B.first; is = B.first_is },
+      record { at = B.at; late = B.among.start; value = B.second; is = B.second_is },
+    )
 
 -- ---- its steps fit
 pub rise_small : (z : Sizes) (end y : ℚ) → AreLimited z end → IsGridValue z y → IsSmall y
@@ -117,10 +126,20 @@ lead_fits z end x y A R S =
 six : (v : ℚ) → int (pos 3) *ℚ v +ℚ int (pos 3) *ℚ v ≡ int (pos 6) *ℚ v
 six v = with1 v (λ c. omega (arith, c.le, c.lt, c.same))
 
+pub lead_stands : (z : Sizes) (x y : ℚ) → IsGridValue z x → IsGridValue z y → AnswerValue z 6 (x -ℚ y)
+lead_stands z x y R S = record {
+  whole = whole_sub (grid_of z) x y R.whole S.whole;
+  within = subst (λ m. Within m (x -ℚ y)) (six (int (pos z.largest))) (within_sub (times_largest 3 z) (times_largest 3 z) x y R.within S.within);
+}
+
+pub times_small : (z : Sizes) (end q e : ℚ) (k : ℕ) → AreLimited z end → k ≤ 31 → AnswerValue z k q → AnswerValue z 6 e → int (pos 0) <ℚ e → IsSmall (q /ℚ e)
+times_small z end q e k A few Q E some = small_quotient z end k 6 q e A few (omega arith) (not_zero e some) Q.whole E.whole Q.within E.within
+
+pub gap_answer : (z : Sizes) (q : ℚ) → IsGapValue z q → AnswerValue z 6 q
+gap_answer z q Q = record { whole = Q.whole; within = Q.within }
+
 pub number_fits : (z : Sizes) (end q x y : ℚ) → AreLimited z end → IsGapValue z q → IsGridValue z x → IsGridValue z y → int (pos 0) <ℚ x -ℚ y → IsSmall (q /ℚ (x -ℚ y))
-number_fits z end q x y A Q R S some =
-    small_quotient z end 6 6 q (x -ℚ y) A (omega arith) (omega arith) (not_zero (x -ℚ y) some) Q.whole (whole_sub (grid_of z) x y R.whole S.whole) Q.within
-    (subst (λ m. Within m (x -ℚ y)) (six (int (pos z.largest))) (within_sub (times_largest 3 z) (times_largest 3 z) x y R.within S.within))
+number_fits z end q x y A Q R S some = times_small z end q (x -ℚ y) 6 A (omega arith) (gap_answer z q Q) (lead_stands z x y R S) some
 
 -- ---- the window
 pub end_fits : (z : Sizes) (from d : ℚ) (slow fast : SpecCurve) → IsCurve slow → AreCompared z from d slow fast → SumFits from d

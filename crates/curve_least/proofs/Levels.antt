@@ -1,27 +1,26 @@
 -- A level for ever is a curve; how it goes on from a time, and how large its numbers are.
-use Rattle.std.specs.Prelude.{◌≡◌, ℕ, ◌*◌, pos, Option, Some, None, ◌⊎◌}
+use Rattle.std.specs.Prelude.{◌≡◌, ℕ, pos, [], ◌∷◌, Some, None}
 use Rattle.std.proofs.Common.{arith, sym, ap, ◌∙◌, refl, subst, inl, inr}
-use Rattle.rational.specs.Rational.{ℚ, ◌+ℚ◌, ◌*ℚ◌, ◌≤ℚ◌, ◌<ℚ◌, int}
-use Rattle.rational.specs.Grid.{Whole, Within}
-use Rattle.rational.specs.Extended.{Ext}
-use Rattle.rational.specs.declared.Extended.TheVariants.{Fin, Inf}
+use Rattle.rational.specs.Rational.{ℚ, ◌*ℚ◌, ◌≤ℚ◌, ◌<ℚ◌, int}
+use Rattle.rational.specs.Grid.{Within}
+use Rattle.rational.specs.declared.Extended.TheVariants.{Fin}
 use Rattle.rational.proofs.Grid.{whole_int, within_nonneg, within_weaken}
 use Rattle.rational.proofs.Integers.{nat_nonneg, nat_le, int_mul}
-use Rattle.rational.proofs.Laws.{le_refl, le_lt_trans, zero_mul, add_zero, mul_le_mul_right, le_or_lt, le_of_lt, antisym}
-use Rattle.affine_segment.specs.declared.line.Line.{Line}
+use Rattle.rational.proofs.Over.{lt_q_out}
+use Rattle.rational.proofs.Laws.{le_refl, le_lt_trans, mul_le_mul_right, le_or_lt, le_of_lt, antisym}
 use Rattle.affine_segment.specs.declared.line.Piece.{Piece}
-use Rattle.upp_normal.specs.declared.ahead.Stretch.{Stretch}
 use Rattle.upp_curve.specs.Curve.{SpecCurve, value_at}
 use Rattle.upp_curve.specs.Steady.{rate}
-use Rattle.upp_limits.specs.Limits.{Sizes}
-use Rattle.upp_limits.specs.Sized.{IsValue, grid_of, times_largest}
-use Rattle.upp_normal.specs.Operand.{OperandLine, OperandLineAt}
+use Rattle.upp_limits.specs.Limits.{Sizes, curve_numbers}
+use Rattle.upp_limits.specs.Sized.{IsValue, Stands, times_largest}
+use Rattle.upp_normal.specs.Operand.{AreLimited, OperandLine, OperandLineAt}
 use Rattle.upp_normal.specs.Ahead.{GoesOn, HasWindow, IsTimeIn, GridValue}
-use Rattle.upp_curve.specs.declared.curve.Tail.TheVariants.{Affine}
-use Rattle.affine_segment.specs.Reading.{read, piece_in, piece_value}
-use Rattle.upp_limits.specs.Spans.{spans}
+use Rattle.affine_segment.specs.Reading.{read, piece_value}
+use Rattle.upp_limits.specs.Spans.{Span, spans, spans_below}
 use Rattle.affine_segment.proofs.PieceIn.{piece_in_end, value_past, value_at_start}
-use Rattle.upp_limits.proofs.NarrowSizes.{value_whole, value_within}
+use Rattle.upp_limits.proofs.NarrowSizes.{small_number, value_whole, value_within}
+use Rattle.upp_normal.proofs.AnswerRoom.{wide_narrow}
+use Rattle.upp_curve.proofs.ReadableKinds.{bucket_curve}
 use Rattle.upp_limits.proofs.CurveStands.{curve_stands}
 use Rattle.curve_least.specs.Levels.{level_curve}
 use Rattle.upp_limits.proofs.Copies.{plus_zero}
@@ -74,3 +73,35 @@ pub level_sizes : (c : SpecCurve) (l t y : ℚ) (z : Sizes) (end : ℚ) → c �
 level_sizes c l t y z end e h W T =
     let V = level_is_value z end t l (subst (HasWindow z end) e W) T in
     (subst (λ s. OperandLine z record { icept = l; slope = s }) (sym h) (level_operand z l V), record { whole = value_whole z l V; within = within_weaken (times_largest 1 z) (times_largest 3 z) l (most_largest z) (value_within z l V) })
+
+-- ---- it has one span
+level_span : ℚ → Span
+level_span l = record { piece = record { x = int (pos 0); at = Fin l; line = Some record { icept = l; slope = int (pos 0) } }; next = None }
+
+level_spans : (l end : ℚ) → int (pos 0) <ℚ end → spans_below (level_curve l) end ≡ level_span l ∷ []
+unfolding spans_below spans level_span
+level_spans l end h = rw (lt_q_out (int (pos 0)) end h) refl
+
+pub level_stands : (z : Sizes) (end l : ℚ) → int (pos 0) <ℚ end → IsValue z l → Stands z (curve_numbers end (level_curve l))
+unfolding level_span
+level_stands z end l h V =
+    let e = level_spans l end h in
+    let W = subst (IsValue z) (sym (plus_zero l (int (pos 0)))) V in
+    let zero = whole_int z.dt (pos 0) in
+    record {
+      times = rw e (zero, (zero, tt));
+      values = rw e (V, (W, tt));
+      slopes = rw e (record { whole = whole_int z.ds (pos 0); within = none_within z.steepness }, tt);
+    }
+
+-- ---- the level 0 is a curve of any window
+pub zero_window : (z : Sizes) (end : ℚ) → AreLimited z end → int (pos 0) <ℚ end → HasWindow z end (level_curve (int (pos 0)))
+zero_window z end A some =
+    let v = int (pos 0) in
+    let V : IsValue z v = record { whole = whole_int z.dv (pos 0); within = within_nonneg (int (pos z.largest)) v (le_refl v) (nat_nonneg z.largest) } in
+    record {
+      curve = bucket_curve v v (small_number z end 1 v A.sizes (wide_narrow z end A) (omega arith) (value_whole z v V) (value_within z v V));
+      limited = A;
+      stands = level_stands z end v some V;
+      over = some;
+    }

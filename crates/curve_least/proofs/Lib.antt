@@ -9,3 +9,8 @@ pub mod EverAfter
 pub mod EitherOrder
 pub mod KnownGauge
 pub mod Levels
+pub mod OwnPeriods
+pub mod MostAbove
+pub mod FoundCurves
+pub mod GapThere
+pub mod BoundedNumber

@@ -1,5 +1,5 @@
 -- The rise over a period of a curve that is finite somewhere in the window: on the grid of sums, within three times the largest value.
-use Rattle.std.specs.Prelude.{◌≡◌, ℕ, suc, pos, cond, List, [], ◌∷◌, Option, Some, None, ◌⊎◌}
+use Rattle.std.specs.Prelude.{◌≡◌, ℕ, suc, pos, cond, List, [], ◌∷◌, Option, Some, None}
 use Rattle.std.specs.List.{AllByRecursion}
 use Rattle.std.proofs.Common.{arith, sym, ap, ◌∙◌, refl, subst, inl, inr}
 use Rattle.rational.specs.Rational.{ℚ, ◌+ℚ◌, ◌-ℚ◌, ◌*ℚ◌, ◌/ℚ◌, ◌≤ℚ◌, ◌<ℚ◌, int}
@@ -13,7 +13,7 @@ use Rattle.rational.proofs.Quotients.{mul_div}
 use Rattle.rational.proofs.Integers.{nat_nonneg}
 use Rattle.rational.proofs.Whole.{one_more_times, periods_low}
 use Rattle.rational.proofs.Grid.{whole_int, whole_add, whole_sub, within_nonneg, within_add, within_weaken}
-use Rattle.rational.proofs.ExtendedOrder.{same_le_ext, finite_sum}
+use Rattle.rational.proofs.ExtendedOrder.{finite_sum}
 use Rattle.rational.proofs.Over.{le_q_out}
 use Rattle.rational.proofs.MinMax.{le_q_not}
 use Rattle.affine_segment.specs.declared.line.Line.{Line}
@@ -25,7 +25,7 @@ use Rattle.affine_segment.specs.Reading.{piece_in, piece_value, read}
 use Rattle.upp_curve.specs.Curve.{SpecCurve, value_at}
 use Rattle.affine_segment.specs.Pieces.{Each, HasStart, StartsAtZero}
 use Rattle.upp_curve.specs.Normal.{FitsPeriod}
-use Rattle.upp_curve.specs.Steady.{rank_of, last_of, last_line, slope_times, rise_in, rise_over, IsWholePeriods}
+use Rattle.upp_curve.specs.Steady.{rank_of, last_line, slope_times, rise_in, rise_over, IsWholePeriods}
 use Rattle.upp_limits.specs.Spans.{Span, span_below, spans}
 use Rattle.upp_limits.specs.Limits.{Sizes}
 use Rattle.upp_limits.specs.Sized.{IsValue, IsSlope, ValueStands, LineStands, SpanStands, PeriodStands, TailStands, CurveStands, grid_of, times_largest}

@@ -23,7 +23,7 @@ use Rattle.upp_normal.specs.Operand.{AreLimited}
 use Rattle.upp_normal.specs.Ahead.{IsOverBy, HasWindow}
 use Rattle.upp_curve.proofs.Steady.{same_out, cut_past}
 use Rattle.curve_least.specs.Compared.{RepeatsIn}
-use Rattle.upp_curve.proofs.SteadyTimes.{steady_nonneg, rank_early, rank_nonneg}
+use Rattle.upp_curve.proofs.SteadyTimes.{rank_early, rank_nonneg}
 
 -- ---- the rate
 over_period : (rise period d : ℚ) → (rise /ℚ period) *ℚ d ≡ rise *ℚ (d /ℚ period)

@@ -12,7 +12,6 @@ use Rattle.upp_limits.specs.Periods.{periods_after}
 use Rattle.upp_limits.specs.Windows.{IsBelowFor, IsLeast}
 use Rattle.upp_curve.proofs.Repeats.{repeats_times}
 use Rattle.curve_least.specs.Gaps.{InWindow, IsWithin, IsEndless, IsLargest}
-use Rattle.curve_least.proofs.GapParts.{within_none}
 
 -- ---- both sides risen
 pub shift_in : (x y : Ext) (p q : ℚ) → x ≤ₑ y +ₑ Fin (q -ℚ p) → x +ₑ Fin p ≤ₑ y +ₑ Fin q

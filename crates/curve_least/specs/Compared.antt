@@ -23,3 +23,10 @@ pub record AreCompared (z : Sizes) (from d : ℚ) (f g : SpecCurve) : Type 0 whe
   pub some : int (pos 0) <ℚ d
   pub first : RepeatsIn z from d f
   pub second : RepeatsIn z from d g
+
+-- one does, and `from` stands on the grid of times
+pub record IsLookedAt (z : Sizes) (from d : ℚ) (c : SpecCurve) : Type 0 where
+  pub limited : AreLimited z (from +ℚ d)
+  pub start : Whole z.dt from
+  pub some : int (pos 0) <ℚ d
+  pub curve : RepeatsIn z from d c

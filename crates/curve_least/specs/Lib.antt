@@ -4,3 +4,4 @@ pub mod Compared
 pub mod Ever
 pub mod Levels
 pub mod Sides
+pub mod Bounds

@@ -11,7 +11,9 @@ ghost use Rattle.upp_limits.specs.Limits.{Sizes};
 ghost use Rattle.upp_limits.specs.Windows.{IsBelowFor, IsSlowerBelow, IsLeast};
 ghost use Rattle.curve_least.specs.Gaps.{InWindow, IsLargest};
 ghost use Rattle.curve_least.specs.GapSteps.{IsGapValue};
+ghost use Rattle.upp_normal.specs.Ahead.{AnswerValue};
 ghost use Rattle.curve_least.specs.Compared.{AreCompared};
+ghost use Rattle.curve_least.specs.Bounds.{IsFiniteLate};
 
 use crate::gaps::{Gap, side_gap};
 use crate::sides::Side;
@@ -20,7 +22,7 @@ use rational::Extended;
 use upp_curve::Curve;
 
 /// By how much a curve rises over d.
-fn rise_of(c: &Side, d: Frac) -> Frac
+pub(crate) fn rise_of(c: &Side, d: Frac) -> Frac
     requires { IsSmall (rise_over c.now d) }
     ensures { result ≡ rise_over c.now d }
 {
@@ -30,6 +32,31 @@ fn rise_of(c: &Side, d: Frac) -> Frac
     }
 }
 
+/// By how much more the faster curve rises over the period: above 0.
+pub(crate) fn lead_over(slow: &Side, fast: &Side, from: Frac, period: Frac) -> Frac
+    requires slower { rate slow.now <ₑ rate fast.now }
+    requires window { (z : Sizes) × AreCompared z from period slow.now fast.now }
+    requires first { IsFiniteLate from slow.now }
+    requires second { IsFiniteLate from fast.now }
+    ensures value { result ≡ rise_over fast.now period -ℚ rise_over slow.now period }
+    ensures some { int (pos 0) <ℚ result }
+    ensures sizes { (z : Sizes) → AreCompared z from period slow.now fast.now → AnswerValue z 6 result }
+{
+    difference(rise_of(fast, period), rise_of(slow, period))
+}
+
+/// The least number k with gap at most k times the lead.
+pub(crate) fn least_times(gap: Frac, lead: Frac) -> u128
+    requires some { int (pos 0) <ℚ lead }
+    requires fits { IsSmall (gap /ℚ lead) }
+    ensures { IsLeast (λ k. gap ≤ℚ int (pos k) *ℚ lead) result }
+{
+    if !is_less(Frac::zero(), gap) {
+        return 0;
+    }
+    quotient(gap, lead).size_up()
+}
+
 /// The least number k with gap at most k times as much as `fast` rises more than `slow` over a period.
 fn least_over(slow: &Side, fast: &Side, gap: Frac, from: Frac, period: Frac) -> u128
     requires slower { rate slow.now <ₑ rate fast.now }
@@ -37,11 +64,7 @@ fn least_over(slow: &Side, fast: &Side, gap: Frac, from: Frac, period: Frac) -> 
     requires gap { IsLargest (InWindow from (from +ℚ period)) (value_at slow.now) (value_at fast.now) gap }
     ensures { IsLeast (λ k. gap ≤ℚ int (pos k) *ℚ (rise_over fast.now period -ℚ rise_over slow.now period)) result }
 {
-    if !is_less(Frac::zero(), gap) {
-        return 0;
-    }
-    let lead = difference(rise_of(fast, period), rise_of(slow, period));
-    quotient(gap, lead).size_up()
+    least_times(gap, lead_over(slow, fast, from, period))
 }
 
 /// The least number k of periods after which, for a period, the slower curve is nowhere above the faster one; none

@@ -5,6 +5,7 @@ ghost use Rattle.rational.specs.Rational.{ℚ};
 ghost use Rattle.rational.specs.Grid.{Whole};
 ghost use Rattle.upp_curve.specs.Curve.{value_at};
 ghost use Rattle.upp_limits.specs.Limits.{Sizes};
+ghost use Rattle.upp_limits.specs.Periods.{period_of, period_or};
 ghost use Rattle.upp_normal.specs.Operand.{OperandLineAt};
 ghost use Rattle.upp_normal.specs.Ahead.{GoesOn, AtNext, TimesStand, HasWindow, IsTimeIn, GridValue};
 ghost use Rattle.upp_curve.specs.Steady.{rate};
@@ -14,7 +15,7 @@ use affine_segment::Line;
 use fraction128::{Ext, Frac};
 use rational::Extended;
 use std::marker::Model;
-use upp_curve::Curve;
+use upp_curve::{Curve, Tail};
 use upp_normal::{Stretch, stretch_at};
 
 // What is looked at.
@@ -28,6 +29,17 @@ enum Shown<'a> {
 #[derive(Drop)]
 pub struct Side<'a> {
     shown: Shown<'a>,
+}
+
+/// The period of a curve, and d where it has every period.
+pub fn period_or(c: &Curve, d: Frac) -> Frac
+    ensures { result ≡ period_or d (period_of c.now.tail) }
+{
+    match c.tail() {
+        Tail::Periodic { period, .. } => *period,
+        Tail::Affine { .. } => d,
+        Tail::Infinite { .. } => d,
+    }
 }
 
 impl<'a> Model for Side<'a> {
@@ -86,6 +98,16 @@ impl<'a> Side<'a> {
         match self.shown {
             Shown::Level(_) => Extended::Fin(Frac::zero()),
             Shown::Curve(c) => c.rate().unwrap(),
+        }
+    }
+
+    /// Its own period, and d where it has every period.
+    pub(crate) fn own_period(&self, d: Frac) -> Frac
+        ensures { result ≡ period_or d (period_of self.now.tail) }
+    {
+        match self.shown {
+            Shown::Level(_) => d,
+            Shown::Curve(c) => period_or(c, d),
         }
     }
 }

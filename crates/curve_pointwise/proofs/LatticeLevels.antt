@@ -8,7 +8,6 @@ use Rattle.rational.specs.Extended.{Ext, ◌≤ₑ◌, ◌<ₑ◌}
 use Rattle.rational.specs.declared.Extended.TheVariants.{Fin}
 use Rattle.rational.proofs.Grid.{whole_int, within_nonneg}
 use Rattle.rational.proofs.Integers.{nat_nonneg, int_mul}
-use Rattle.rational.proofs.Over.{lt_q_out}
 use Rattle.rational.proofs.Linear.{with2, with3}
 use Rattle.rational.proofs.Laws.{le_refl, le_trans, le_of_lt, zero_mul, add_zero, mul_nonneg}
 use Rattle.affine_segment.specs.declared.line.Piece.{Piece}
@@ -22,7 +21,6 @@ use Rattle.upp_limits.specs.Periods.{own_period, periods_after}
 use Rattle.upp_limits.specs.Windows.{window_at, Meets, IsLeast, IsLeastPeriods, IsBelowFor, IsSlowerBelow}
 use Rattle.upp_limits.specs.Limits.{Sizes, sizes_of, curve_numbers}
 use Rattle.upp_limits.specs.Gauges.{numbers_over, gauge_at, gauge_over, IsTooWide}
-use Rattle.upp_limits.specs.Spans.{Span, spans, spans_below}
 use Rattle.upp_limits.specs.Sized.{Stands, IsValue}
 use Rattle.upp_curve.specs.Unrolled.{unroll}
 use Rattle.upp_limits.specs.Outcome.{IsWithin, IsCauseOf}
@@ -43,7 +41,7 @@ use Rattle.curve_call.proofs.Limited.{refused_cause, frame_within, pos_minus_lea
 use Rattle.curve_call.proofs.FirstGate.{first_gate}
 use Rattle.curve_least.specs.Levels.{level_curve}
 use Rattle.curve_least.specs.Compared.{AreCompared}
-use Rattle.curve_least.proofs.Levels.{level_value, none_within}
+use Rattle.curve_least.proofs.Levels.{level_value, level_stands}
 use Rattle.curve_least.proofs.Rises.{rate_rise}
 use Rattle.curve_least.proofs.Shifts.{same_least}
 use Rattle.curve_pointwise.specs.declared.lattice.Lattice.TheVariants.{Excess}
@@ -54,30 +52,11 @@ use Rattle.curve_pointwise.proofs.LatticeCalls.{call_from, at_times, compared}
 use Rattle.curve_least.proofs.EitherOrder.{IsEnough}
 use Rattle.upp_limits.proofs.Copies.{plus_zero}
 
--- ---- a level is steady from 0 on, and has one span
+-- ---- a level is steady from 0 on
 
 level_steady : (l : ℚ) → steady (level_curve l) ≡ int (pos 0)
 unfolding steady value_at
 level_steady l = ap (λ b. later_unless b (int (pos 0))) (sym (same_by _ _ (level_value l (int (pos 0)) (le_refl (int (pos 0))) ∙ ap Fin (sym (plus_zero l (int (pos 0)))))))
-
-level_span : ℚ → Span
-level_span l = record { piece = record { x = int (pos 0); at = Fin l; line = Some record { icept = l; slope = int (pos 0) } }; next = None }
-
-level_spans : (l end : ℚ) → int (pos 0) <ℚ end → spans_below (level_curve l) end ≡ level_span l ∷ []
-unfolding spans_below spans level_span
-level_spans l end h = rw (lt_q_out (int (pos 0)) end h) refl
-
-level_stands : (z : Sizes) (end l : ℚ) → int (pos 0) <ℚ end → IsValue z l → Stands z (curve_numbers end (level_curve l))
-unfolding level_span
-level_stands z end l h V =
-    let e = level_spans l end h in
-    let W = subst (IsValue z) (sym (plus_zero l (int (pos 0)))) V in
-    let zero = whole_int z.dt (pos 0) in
-    record {
-      times = rw e (zero, (zero, tt));
-      values = rw e (V, (W, tt));
-      slopes = rw e (record { whole = whole_int z.ds (pos 0); within = none_within z.steepness }, tt);
-    }
 
 pub level_unrolled : (l end : ℚ) → int (pos 0) <ℚ end → (level_curve l).pieces ≡ unroll (level_curve l) end
 unfolding unroll

@@ -1,5 +1,5 @@
 -- Which limits the call is over, from the least number of periods; and the frame of one that is over neither.
-use Rattle.std.specs.Prelude.{◌≡◌, ℕ, Option, Some, None, MatchOption}
+use Rattle.std.specs.Prelude.{◌≡◌, ℕ, Option, Some, None, MatchOption, Result, Ok, Err, IfErr}
 use Rattle.std.proofs.Common.{sym, ◌∙◌, subst}
 use Rattle.rational.specs.Rational.{ℚ}
 use Rattle.upp_limits.specs.declared.op_kind.OpKind.{OpKind}
@@ -24,7 +24,9 @@ use Rattle.curve_pointwise.specs.Lattice.{kind_of}
 use Rattle.curve_call.specs.declared.windows.CallWindow.{CallWindow}
 use Rattle.upp_limits.specs.Limits.{Sizes}
 use Rattle.curve_least.specs.Compared.{AreCompared}
-use Rattle.curve_call.specs.FirstWindows.{IsFirstWindow, IsWideAtFirst}
+use Rattle.curve_call.specs.FirstWindows.{IsFirstWindow, IsWideAtFirst, IsRefusedBetween}
+use Rattle.curve_least.specs.declared.bounds.Bounds.{Bounds}
+use Rattle.curve_least.specs.Bounds.{AreBounds}
 use Rattle.curve_pointwise.specs.LatticeCall.{IsLatticeFrame}
 use Rattle.curve_pointwise.proofs.LatticeCalls.{lattice_call, at_times, kind_start, kind_period, first_compared}
 
@@ -117,3 +119,23 @@ pub frame_by : (of : Lattice) (op : OpKind) (f g : SpecCurve) (w : CallWindow) (
 frame_by of op f g w k r same h L F =
     let W = (subst (λ o. IsFirstWindow o f g w) same h).window in
     lattice_frame of f g w.start w.period k r W.start W.period L (subst (λ o. IsFrame o f g k 0 r) same F)
+
+-- ---- by bounds of the number of periods
+pub bounds_compared : (of : Lattice) (f g : SpecCurve) (w : CallWindow) → IsCurve f × IsCurve g → IsFirstWindow (kind_of of) f g w → (z : Sizes) × AreCompared z w.start w.period f g
+bounds_compared of f g w K W = first_compared of f g w K.0 K.1 W
+
+pub between_cause : (of : Lattice) (f g : SpecCurve) (w : CallWindow) (b : Bounds) (e : OpFault) → IsFirstWindow (kind_of of) f g w → AreBounds (IsEnough f g w.start w.period) b
+    → IsRefusedBetween (kind_of of) f g b.low b.high e → IsCauseOf (kind_of of) f g e
+between_cause of f g w b e W B refused =
+    refused_kind of f g B.number e (some_least of f g w.start w.period B.number W.window.start W.window.period B.least) (refused B.number B.low B.high)
+
+pub between_by : (of : Lattice) (op : OpKind) (f g : SpecCurve) (w : CallWindow) (b : Bounds) {A : Type 0} (r : Result A OpFault) → op ≡ kind_of of → IsFirstWindow (kind_of of) f g w → AreBounds (IsEnough f g w.start w.period) b
+    → IfErr r (IsRefusedBetween op f g b.low b.high) → IfErr r (IsCauseOf (kind_of of) f g)
+between_by of op f g w b (Ok x) same W B refused = tt
+between_by of op f g w b (Err e) same W B refused = between_cause of f g w b e W B (subst (λ o. IsRefusedBetween o f g b.low b.high e) same refused)
+
+pub first_by : (of : Lattice) (op : OpKind) (f g : SpecCurve) (w : CallWindow) → op ≡ kind_of of → IsFirstWindow op f g w → IsFirstWindow (kind_of of) f g w
+first_by of op f g w same h = subst (λ o. IsFirstWindow o f g w) same h
+
+pub second_by : (of : Lattice) (op : OpKind) (f g : SpecCurve) → op ≡ kind_of of → IsCurve f × SecondIsCurve op g → IsCurve f × IsCurve g
+second_by of op f g same K = (K.0, second_kind of g (subst (λ o. SecondIsCurve o g) same K.1))

@@ -1,20 +1,22 @@
 //! What is made of two curves at each time: the lower, the upper, and what the first has above the second.
 
-ghost use Rattle.std.specs.Prelude.{ℕ, ◌≡◌, ◌+◌, ◌↔◌, pos, true, IsTrue, IfOk};
+ghost use Rattle.std.specs.Prelude.{ℕ, ◌≡◌, ◌+◌, ◌↔◌, pos, true, IsTrue, IfOk, IfErr};
 ghost use Rattle.rational.specs.Rational.{ℚ, int, ◌-ℚ◌, ◌≤ℚ◌, ◌<ℚ◌, neg_ℚ};
 ghost use Rattle.rational.specs.Ratio.{SumFits};
 ghost use Rattle.rational.specs.Extended.{◌<ₑ◌};
 ghost use Rattle.upp_curve.specs.Curve.{value_at};
 ghost use Rattle.upp_curve.specs.Steady.{rate, rise_over};
-ghost use Rattle.upp_limits.specs.Outcome.{KeepsLimits};
+ghost use Rattle.upp_curve.specs.Curves.{IsCurve};
+ghost use Rattle.upp_limits.specs.Outcome.{KeepsLimits, IsCauseOf};
 ghost use Rattle.curve_window.specs.Operands.{HaveSizes, IsMadeOf};
+ghost use Rattle.curve_call.specs.FirstWindows.{IsFirstWindow};
 ghost use Rattle.curve_call.specs.Rises.{CurveRiseFits};
 ghost use Rattle.curve_pointwise.specs.Lattice.{kind_of, made_of, rises_of, FiniteFor, RisesBy, IsTailRise};
 ghost use Rattle.curve_pointwise.specs.LatticeCall.{IsLatticeFrame};
 
 use affine_segment::Piece;
-use curve_call::{Frame, answer, first_window, rise_over, within};
-use curve_least::{Side, least_periods};
+use curve_call::{CallWindow, Frame, answer, first_window, refuse_between, rise_over, within};
+use curve_least::{Side, least_periods, period_bounds};
 use curve_window::{window_excess, window_max, window_min};
 use fraction128::{Frac, difference};
 use std::alloc::{AllocError, Global};
@@ -138,6 +140,18 @@ pub(crate) fn made_within(
     )
 }
 
+// Refuses a call where bounds of the number of its periods tell that it is over a limit.
+fn refuse_early(of: Lattice, f: &Curve, g: &Curve, first: &CallWindow) -> Result<(), OpFault>
+    requires curves { IsCurve f.now × IsCurve g.now }
+    requires window { IsFirstWindow (kind_of of) f.now g.now first.now }
+    ensures { IfErr result (IsCauseOf (kind_of of) f.now g.now) }
+{
+    match period_bounds(f, g, first.start, first.period) {
+        None => Ok(()),
+        Some(bounds) => refuse_between(&kind_of(of), f, g, bounds.low, bounds.high),
+    }
+}
+
 /// What is made of two curves.
 pub(crate) fn made_of_curves<L: Ledger>(
     alloc: Global,
@@ -155,6 +169,7 @@ pub(crate) fn made_of_curves<L: Ledger>(
     steps.tick();
     let kind = kind_of(of);
     let first = first_window(&kind, f, g)?;
+    refuse_early(of, f, g, &first)?;
     let Some(periods) = least_periods(f, g, first.start, first.period) else {
         return Err(OpFault::TooWide);
     };

@@ -1,6 +1,6 @@
 use Rattle.std.proofs.lemmas.Result.{err_from_is_err_and}
 use Rattle.upp_curve.specs.Curve.{value_at}
-use Rattle.curve_envelope.proofs.LeftLimits.{left_wide, left_refused, left_is_within, left_frame}
+use Rattle.curve_envelope.proofs.LeftLimits.{left_wide, left_between, left_refused, left_is_within, left_frame}
 use Rattle.curve_envelope.proofs.Served.{theta_nonneg}
 use Rattle.curve_envelope.proofs.leftover.left_after.Goals as goal
 
@@ -11,6 +11,14 @@ pub returns-in_err-first-clause-limits : goal.returns-in_err-first-clause-limits
 returns-in_err-first-clause-limits c =
     let p = err_from_is_err_and c.from_residual.result c.from_residual.ensures.1 in
     rw (p.1, p.2) (left_wide c.args.theta c.args.beta.now c.args.cross.now _ c.requires c.first_window.ensures.kept c.in_err-first.ensures.refused)
+
+pub refuse_between-requires-clause-forward : goal.refuse_between-requires-clause-forward
+refuse_between-requires-clause-forward c = theta_nonneg (value_at c.args.beta.now) (value_at c.args.cross.now) c.args.theta c.requires
+
+pub returns-in_err-refuse_between-clause-limits : goal.returns-in_err-refuse_between-clause-limits
+returns-in_err-refuse_between-clause-limits c =
+    let p = err_from_is_err_and c.from_residual-in_err-refuse_between.result c.from_residual-in_err-refuse_between.ensures.1 in
+    rw (p.1, p.2) (left_between c.args.theta c.args.beta.now c.args.cross.now c.behind_bounds-bounds.result _ c.behind_bounds-bounds.ensures c.in_err-refuse_between.ensures)
 
 pub within-requires : goal.within-requires
 within-requires c = theta_nonneg (value_at c.args.beta.now) (value_at c.args.cross.now) c.args.theta c.requires

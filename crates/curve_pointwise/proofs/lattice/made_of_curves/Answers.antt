@@ -1,11 +1,22 @@
 use Rattle.std.proofs.lemmas.Result.{err_from_is_err_and}
-use Rattle.curve_pointwise.proofs.LatticeLimits.{wide_by, compared_by, refused_by, within_by, frame_by}
+use Rattle.curve_pointwise.proofs.LatticeLimits.{wide_by, second_by, first_by, compared_by, refused_by, within_by, frame_by}
 use Rattle.curve_pointwise.proofs.lattice.made_of_curves.Goals as goal
 
 pub returns-in_err-first-clause-limits : goal.returns-in_err-first-clause-limits
 returns-in_err-first-clause-limits g c =
     let p = err_from_is_err_and c.from_residual.result c.from_residual.ensures.1 in
     rw (p.1, p.2) (wide_by c.args.of c.kind_of-kind.result c.args.f.now c.args.g.now _ c.kind_of-kind.ensures c.first_window.ensures.kept c.in_err-first.ensures.refused)
+
+pub refuse_early-requires-clause-curves : goal.refuse_early-requires-clause-curves
+refuse_early-requires-clause-curves g c = second_by c.args.of c.kind_of-kind.result c.args.f.now c.args.g.now c.kind_of-kind.ensures c.first_window.ensures.kept
+
+pub refuse_early-requires-clause-window : goal.refuse_early-requires-clause-window
+refuse_early-requires-clause-window g c = first_by c.args.of c.kind_of-kind.result c.args.f.now c.args.g.now c.in_ok-first.first c.kind_of-kind.ensures c.in_ok-first.ensures.window
+
+pub returns-in_err-refuse_early-clause-limits : goal.returns-in_err-refuse_early-clause-limits
+returns-in_err-refuse_early-clause-limits g c =
+    let p = err_from_is_err_and c.from_residual-in_err-refuse_early.result c.from_residual-in_err-refuse_early.ensures.1 in
+    rw (p.1, p.2) c.in_err-refuse_early.ensures
 
 pub least_periods-requires : goal.least_periods-requires
 least_periods-requires g c =

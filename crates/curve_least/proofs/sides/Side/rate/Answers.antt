@@ -1,4 +1,4 @@
-use Rattle.std.proofs.Common.{◌∙◌, ap, sym, subst}
+use Rattle.std.proofs.Common.{◌∙◌, ap, sym}
 use Rattle.curve_least.specs.Sides.{shown_curve}
 use Rattle.curve_least.proofs.Levels.{level_rate}
 use Rattle.curve_least.proofs.sides.Side.rate.Goals as goal
