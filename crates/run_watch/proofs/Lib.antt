@@ -11,6 +11,7 @@ pub mod FoundTurns
 pub mod LeastFirst
 pub mod ShortWindows
 pub mod SortedPoints
+pub mod OrderedTimes
 pub mod FoundTimes
 pub mod HeldSizes
 pub mod IdleIn
