@@ -22,6 +22,7 @@ pub mod OwnTurns
 pub mod NearWindows
 pub mod Buckets
 pub mod BucketReads
+pub mod StairPaces
 pub mod ClearStretches
 pub mod FirstOfTwo
 pub mod FirstFound
