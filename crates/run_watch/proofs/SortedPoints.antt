@@ -56,9 +56,6 @@ pub each_time_among : (P : ℚ → Type 0) (ts : List ℚ) (t : ℚ) → EachTim
 each_time_among P [] t h k = absurd k
 each_time_among P (x ∷ ts) t h k = elim k [ inl e ↦ subst P (sym e) h.0 | inr l ↦ each_time_among P ts t h.1 l ]
 
-pub each_sorted : (P : ℚ → Type 0) (xs ys : List ℚ) → IsPermutation xs ys → EachTime P xs → EachTime P ys
-each_sorted P xs ys p h = each_time_from P ys (λ t k. each_time_among P xs t h (sorted_among xs ys t p k))
-
 pub each_same : (P : ℚ → Type 0) (xs ts : List ℚ) → HaveSameTimes xs ts → EachTime P xs → EachTime P ts
 each_same P xs ts h k = each_time_from P ts (λ t a. each_time_among P xs t k (h.back t a))
 
