@@ -65,13 +65,13 @@ to_more zero (e ∷ []) h = absurd (omega arith)
 to_more zero (e ∷ f ∷ es) h = refl
 to_more (suc k) (e ∷ es) h = let rest = to_more k es (omega arith) in omega (arith, rest)
 
-between_more : (i k : ℕ) (es : List Entering) → i ≤ k → suc k < length es → bits_between i (suc k) es ≡ bits_between i k es + (entering es (suc k)).bits
+pub between_more : (i k : ℕ) (es : List Entering) → i ≤ k → suc k < length es → bits_between i (suc k) es ≡ bits_between i k es + (entering es (suc k)).bits
 between_more i k [] h l = absurd (omega arith)
 between_more zero k (e ∷ es) h l = to_more k (e ∷ es) l
 between_more (suc i) zero (e ∷ es) h l = absurd (omega arith)
 between_more (suc i) (suc k) (e ∷ es) h l = between_more i k es (omega arith) (omega arith)
 
-own_bits : (k : ℕ) (es : List Entering) → k < length es → bits_between k k es ≡ (entering es k).bits
+pub own_bits : (k : ℕ) (es : List Entering) → k < length es → bits_between k k es ≡ (entering es k).bits
 own_bits k es h =
     let one = bits_one_more k k es (omega arith) h in
     let none = bits_past (suc k) k es (omega arith) in
@@ -171,7 +171,7 @@ unfolding read
 read_of es [] i j at0 h l m some = absurd at0
 read_of es (p ∷ ps) i j at0 h l m some = each_in (KeepsPiece es) p ps ((entering es j).time -ℚ (entering es i).time) h.0 h.1 i j l m some
 
-not_both : (x : Ext) (q : ℚ) → Fin q ≤ₑ x → x <ₑ Fin q → ⊥
+pub not_both : (x : Ext) (q : ℚ) → Fin q ≤ₑ x → x <ₑ Fin q → ⊥
 not_both (Fin v) q h k = lt_irrefl q (le_lt_trans h k)
 not_both Inf q h k = absurd k
 

@@ -11,6 +11,7 @@ pub mod FoundTurns
 pub mod LeastFirst
 pub mod ShortWindows
 pub mod SortedPoints
+pub mod OrderedTimes
 pub mod FoundTimes
 pub mod HeldSizes
 pub mod IdleIn
@@ -21,6 +22,7 @@ pub mod OwnTurns
 pub mod NearWindows
 pub mod Buckets
 pub mod BucketReads
+pub mod StairPaces
 pub mod ClearStretches
 pub mod FirstOfTwo
 pub mod FirstFound

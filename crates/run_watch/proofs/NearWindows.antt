@@ -3,7 +3,6 @@ use Rattle.std.specs.Prelude.{◌≡◌, ◌↔◌, ℕ, ◌<◌, ◌≤◌, pos
 use Rattle.std.specs.List.{slice_index_or}
 use Rattle.std.proofs.Common.{arith, refl, sym, subst, ap, inl, inr, ◌∙◌}
 use Rattle.std.proofs.lemmas.Bool.{cases_Bool, and_parts}
-use Rattle.std.proofs.lemmas.List.Sorted.{IsPermutation-refl}
 use Rattle.rational.specs.Rational.{ℚ, int, ◌+ℚ◌, ◌-ℚ◌, ◌≤ℚ◌, ◌<ℚ◌, lt_q, le_q}
 use Rattle.rational.specs.Grid.{Whole}
 use Rattle.rational.proofs.Laws.{le_trans, le_of_lt, lt_le_trans, le_lt_trans, lt_irrefl, le_of_not_lt, mul_le_mul}
@@ -38,6 +37,7 @@ use Rattle.run_watch.specs.IdleWindows.{FindsShort, TimeFits, SegmentsFit}
 use Rattle.run_watch.specs.NearWindows.{FitsAt, FitsNear, FitsNearBy, IsShortAfter, IsShortBefore, NoneNear, IsClear}
 use Rattle.run_watch.specs.Held.{AreHeld, IsHeld}
 use Rattle.run_watch.specs.Searches.{IsLookedAt, IsClearStretch, FindsIn}
+use Rattle.run_watch.proofs.OrderedTimes.{same_times}
 use Rattle.run_watch.proofs.FoundStretches.{HasStretch, ramp_in}
 use Rattle.run_watch.proofs.FirstIdle.{stretch_times}
 use Rattle.run_watch.proofs.HeldSizes.{IsHeldSegment, segments_held, segment_map, gap_steps, segment_keys, ramps_read, segments_fit, time_fits, times_sum_fit, times_differ, length_time}
@@ -62,7 +62,7 @@ points_fit ss gs works ts ps e f g h = subst (FitsSegments ps) (sym e) (fits_of 
 
 pub clear : (ss gs : List Segment) (works : List Ramp) (s : Stretch) (ts : List ℚ) (ps : List Point) (k : ℕ) → gs ≡ ss → ps ≡ map (point_at works) ts → IsFirstEnd gs gs ps k → length ps ≤ k → NoneNear gs works s ps → IsClear ss works s ts
 clear ss gs works s ts ps k e f first late near = subst (λ (xs : List Segment). IsClear xs works s ts) e record {
-  pairs = none_short gs works ts ts ps k (IsPermutation-refl ts) f first late;
+  pairs = none_short gs works ts ts ps k (same_times ts) f first late;
   near = subst (NoneNear gs works s) f near;
 }
 

@@ -20,7 +20,7 @@ use Rattle.run_watch.specs.declared.span.Ramp.{Ramp}
 use Rattle.run_watch.specs.Ramps.{EachRamp, ReadsRamp}
 use Rattle.run_watch.specs.Watching.{TimesRise}
 use Rattle.run_watch.specs.FirstEnds.{KeySteps, GapSteps, FitsMarks, FitsSegments, IsFirstEnd, mark_of, rule_of}
-use Rattle.run_watch.specs.WatchTimes.{point_at, IsShortTo, IsFirstStart}
+use Rattle.run_watch.specs.WatchTimes.{HaveSameTimes, point_at, IsShortTo, IsFirstStart}
 use Rattle.run_watch.specs.IdleWindows.{NoneIsShort, IsFirstShort, TimeFits, SegmentsFit}
 use Rattle.watch_laws.specs.Marks.{FitsRule}
 use Rattle.run_watch.proofs.ShortWindows.{each_point_has, first_or_later, point_has}
@@ -56,8 +56,8 @@ pub each_time_among : (P : ℚ → Type 0) (ts : List ℚ) (t : ℚ) → EachTim
 each_time_among P [] t h k = absurd k
 each_time_among P (x ∷ ts) t h k = elim k [ inl e ↦ subst P (sym e) h.0 | inr l ↦ each_time_among P ts t h.1 l ]
 
-pub each_sorted : (P : ℚ → Type 0) (xs ys : List ℚ) → IsPermutation xs ys → EachTime P xs → EachTime P ys
-each_sorted P xs ys p h = each_time_from P ys (λ t k. each_time_among P xs t h (sorted_among xs ys t p k))
+pub each_same : (P : ℚ → Type 0) (xs ts : List ℚ) → HaveSameTimes xs ts → EachTime P xs → EachTime P ts
+each_same P xs ts h k = each_time_from P ts (λ t a. each_time_among P xs t k (h.back t a))
 
 -- ---- order
 no_less : (x y : ℚ) → is_lt (cmp_q y x) ≡ false → x ≤ℚ y
@@ -74,16 +74,6 @@ tail_sorted x ts h = λ k d a b. shifted ts k d (h (suc k) d (omega arith) (omeg
     shifted : (ts : List ℚ) (k : ℕ) (d : ℚ) → is_lt (cmp_q (slice_index_or (x ∷ ts) (suc k + 1) d) (slice_index_or (x ∷ ts) (suc k) d)) ≡ false → is_lt (cmp_q (slice_index_or ts (k + 1) d) (slice_index_or ts k d)) ≡ false
     shifted ts k d e = rw add-one (rw add-one at e)
 
-later_times : (x : ℚ) (ts : List ℚ) → IsSorted cmp_q (x ∷ ts) → EachTime (λ t. x ≤ℚ t) ts
-later_times x [] h = tt
-later_times x (t ∷ ts) h =
-    let here : x ≤ℚ t = no_less x t (h 0 x (omega arith) (omega arith)) in
-    (here, more ts (later_times t ts (tail_sorted x (t ∷ ts) h)))
-  where
-    more : (us : List ℚ) → EachTime (λ u. t ≤ℚ u) us → EachTime (λ u. x ≤ℚ u) us
-    more [] k = tt
-    more (u ∷ us) k = (le_trans (no_less x t (h 0 x (omega arith) (omega arith))) k.0, more us k.1)
-
 pub sorted_rise : (ts : List ℚ) → IsSorted cmp_q ts → (from : ℚ) × TimesRise from ts
 sorted_rise [] h = (int (pos 0), tt)
 sorted_rise (x ∷ ts) h = (x, (le_refl x, go x ts h))
@@ -96,12 +86,16 @@ pub each_point_at : (P : Point → Type 0) (works : List Ramp) (ts : List ℚ) �
 each_point_at P works [] h = tt
 each_point_at P works (t ∷ ts) h = (h.0, each_point_at P works ts h.1)
 
-pub points_rise : (works : List Ramp) (ts : List ℚ) → IsSorted cmp_q ts → PointsRise (map (point_at works) ts)
-points_rise works [] h = tt
-points_rise works (t ∷ ts) h = (each_point_at (λ q. t ≤ℚ q.time) works ts (later_times t ts h), points_rise works ts (tail_sorted t ts h))
+later_times : (x : ℚ) (ts : List ℚ) → TimesRise x ts → EachTime (λ t. x ≤ℚ t) ts
+later_times x [] h = tt
+later_times x (t ∷ ts) h = (h.0, each_time_map (λ u. t ≤ℚ u) (λ u. x ≤ℚ u) (λ u k. le_trans h.0 k) ts (later_times t ts h.1))
 
-pub rise_of : (works : List Ramp) (ts : List ℚ) (ps : List Point) → ps ≡ map (point_at works) ts → IsSorted cmp_q ts → PointsRise ps
-rise_of works ts ps e h = subst PointsRise (sym e) (points_rise works ts h)
+points_rise : (works : List Ramp) (from : ℚ) (ts : List ℚ) → TimesRise from ts → PointsRise (map (point_at works) ts)
+points_rise works from [] h = tt
+points_rise works from (t ∷ ts) h = (each_point_at (λ q. t ≤ℚ q.time) works ts (later_times t ts h.1), points_rise works t ts h.1)
+
+pub rise_of : (works : List Ramp) (ts : List ℚ) (ps : List Point) → ps ≡ map (point_at works) ts → (from : ℚ) × TimesRise from ts → PointsRise ps
+rise_of works ts ps e h = let (from, rise) = h in subst PointsRise (sym e) (points_rise works from ts rise)
 
 -- ---- the points are those of the times
 pub has_point_at : (works : List Ramp) (ts : List ℚ) (t : ℚ) → Among t ts → HasPoint (point_at works t) (map (point_at works) ts)
@@ -150,10 +144,10 @@ none_in ss ps a b none ha hb is = let (s, has, short) = is in go ss none s has s
       | inr m ↦ go ss none.1 s m short
     ]
 
-pub none_short : (ss : List Segment) (works : List Ramp) (xs ts : List ℚ) (ps : List Point) (k : ℕ) → IsPermutation xs ts → ps ≡ map (point_at works) ts → IsFirstEnd ss ss ps k → length ps ≤ k
+pub none_short : (ss : List Segment) (works : List Ramp) (xs ts : List ℚ) (ps : List Point) (k : ℕ) → HaveSameTimes xs ts → ps ≡ map (point_at works) ts → IsFirstEnd ss ss ps k → length ps ≤ k
     → NoneIsShort ss works xs
-none_short ss works xs ts ps k perm e f l a b is =
-    let there : (t : ℚ) → Among t xs → HasPoint (point_at works t) (take k ps) = λ t h. subst (λ (qs : List Point). HasPoint (point_at works t) qs) (sym (taken ps k l)) (subst (λ (qs : List Point). HasPoint (point_at works t) qs) (sym e) (has_point_at works ts t (among_sorted xs ts t perm h))) in
+none_short ss works xs ts ps k same e f l a b is =
+    let there : (t : ℚ) → Among t xs → HasPoint (point_at works t) (take k ps) = λ t h. subst (λ (qs : List Point). HasPoint (point_at works t) qs) (sym (taken ps k l)) (subst (λ (qs : List Point). HasPoint (point_at works t) qs) (sym e) (has_point_at works ts t (same.into t h))) in
     none_in ss (take k ps) (point_at works a) (point_at works b) f.none (there a is.from) (there b is.to) is.short
   where
     taken : (qs : List Point) (k : ℕ) → length qs ≤ k → take k qs ≡ qs
@@ -176,31 +170,31 @@ ordered ss a b h is =
     let u = b.time in
     with3 x t u (λ c. omega (arith, c.le, c.lt, c.same))
 
-pub first_short : (ss : List Segment) (works : List Ramp) (xs ts : List ℚ) (ps : List Point) (k : ℕ) (a b : Point) → IsPermutation xs ts → IsSorted cmp_q ts → ps ≡ map (point_at works) ts → IsFirstEnd ss ss ps k
+pub first_short : (ss : List Segment) (works : List Ramp) (xs ts : List ℚ) (ps : List Point) (k : ℕ) (a b : Point) → HaveSameTimes xs ts → (from : ℚ) × TimesRise from ts → ps ≡ map (point_at works) ts → IsFirstEnd ss ss ps k
     → SegmentsFit ss → k < length ps → b ≡ slice_index_or ps k b → IsFirstStart ss ps b a → IsFirstShort ss works xs a.time b.time
-first_short ss works xs ts ps k a b perm sorted e f g l is start =
+first_short ss works xs ts ps k a b same order e f g l is start =
     let has_b = point_has ps k b l is in
     let pa = point_is works ts a (subst (λ (qs : List Point). HasPoint a qs) e start.one_of) in
     let pb = point_is works ts b (subst (λ (qs : List Point). HasPoint b qs) e has_b) in
-    let rise = rise_of works ts ps e sorted in
-    let has : (t : ℚ) → Among t xs → HasPoint (point_at works t) ps = λ t h. subst (λ (qs : List Point). HasPoint (point_at works t) qs) (sym e) (has_point_at works ts t (among_sorted xs ts t perm h)) in
+    let rise = rise_of works ts ps e order in
+    let has : (t : ℚ) → Among t xs → HasPoint (point_at works t) ps = λ t h. subst (λ (qs : List Point). HasPoint (point_at works t) qs) (sym e) (has_point_at works ts t (same.into t h)) in
     record {
       is = record {
-        from = sorted_among xs ts a.time perm pa.0;
-        to = sorted_among xs ts b.time perm pb.0;
+        from = same.back a.time pa.0;
+        to = same.back b.time pb.0;
         short = subst (λ (p : Point). IsShortTo ss p (point_at works b.time)) pa.1 (subst (λ (p : Point). IsShortTo ss a p) pb.1 start.short);
       };
       least = λ x y w.
-          let order = ordered ss (point_at works x) (point_at works y) g.starts w.short in
+          let forward = ordered ss (point_at works x) (point_at works y) g.starts w.short in
           elim (le_or_lt y b.time) [
             | inr m ↦ inl m
             | inl m ↦ elim (le_or_lt b.time y) [
               | inl n ↦
-                  let same : b.time ≡ y = antisym (n, m) in
-                  let at_b : point_at works y ≡ b = ap (point_at works) (sym same) ∙ sym pb.1 in
-                  inr (same, start.least (point_at works x) (has x w.from) (subst (λ (p : Point). IsShortTo ss (point_at works x) p) at_b w.short))
+                  let at : b.time ≡ y = antisym (n, m) in
+                  let at_b : point_at works y ≡ b = ap (point_at works) (sym at) ∙ sym pb.1 in
+                  inr (at, start.least (point_at works x) (has x w.from) (subst (λ (p : Point). IsShortTo ss (point_at works x) p) at_b w.short))
               | inr n ↦ absurd (none_in ss (take k ps) (point_at works x) (point_at works y) f.none
-                  (early (point_at works x) (has x w.from) (le_lt_trans order n) (first_or_later ps k b (point_at works x) rise l is (has x w.from)))
+                  (early (point_at works x) (has x w.from) (le_lt_trans forward n) (first_or_later ps k b (point_at works x) rise l is (has x w.from)))
                   (early (point_at works y) (has y w.to) n (first_or_later ps k b (point_at works y) rise l is (has y w.to))) w.short)
             ]
           ];
@@ -235,8 +229,8 @@ sorted_from xs items now ts e p s f = (
 pub first_end_of : (ss : List Segment) (ps qs : List Point) (k : ℕ) → ps ≡ qs → IsFirstEnd ss ss ps k → IsFirstEnd ss ss qs k
 first_end_of ss ps qs k e h = subst (λ (rs : List Point). IsFirstEnd ss ss rs k) e h
 
-pub reads_of : (ss : List Segment) (works : List Ramp) (xs ts : List ℚ) → IsPermutation xs ts → EachTime (TimeFits ss works) xs → EachTime (λ t. EachRamp (ReadsRamp t) works) ts
-reads_of ss works xs ts p h = each_time_map (TimeFits ss works) (λ t. EachRamp (ReadsRamp t) works) (λ t k. k.reads) ts (each_sorted (TimeFits ss works) xs ts p h)
+pub reads_of : (ss : List Segment) (works : List Ramp) (ts : List ℚ) → EachTime (TimeFits ss works) ts → EachTime (λ t. EachRamp (ReadsRamp t) works) ts
+reads_of ss works ts h = each_time_map (TimeFits ss works) (λ t. EachRamp (ReadsRamp t) works) (λ t k. k.reads) ts h
 
 pub start_of : (ss : List Segment) (ps qs : List Point) (b c a : Point) → ps ≡ qs → b ≡ c → IsFirstStart ss ps b a → IsFirstStart ss qs c a
 start_of ss ps qs b c a e f h = subst (λ (rs : List Point). IsFirstStart ss rs c a) e (subst (λ (p : Point). IsFirstStart ss ps p a) f h)

@@ -4,7 +4,7 @@ use Rattle.rational.specs.Rational.{ℚ, ◌+ℚ◌, ◌-ℚ◌, ◌≤ℚ◌, l
 use Rattle.rational.specs.Ratio.{SumFits}
 use Rattle.affine_segment.specs.declared.line.Piece.{Piece}
 use Rattle.affine_segment.specs.Pieces.{Each}
-use Rattle.watch_laws.specs.Affine.{EachTime}
+use Rattle.watch_laws.specs.Affine.{EachTime, Among}
 use Rattle.watch_laws.specs.declared.point.Point.{Point}
 use Rattle.watch_laws.specs.declared.point.Segment.{Segment}
 use Rattle.watch_laws.specs.Shorts.{HasPoint, HasSegment, IsShortBy}
@@ -25,6 +25,11 @@ around s p (q ∷ qs) = inside s (p +ℚ q.x) ++ inside s (p -ℚ q.x) ++ around
 abbrev pub watched_from : Stretch → List Piece → List ℚ → List ℚ
 watched_from s qs [] = []
 watched_from s qs (p ∷ ps) = around s p qs ++ watched_from s qs ps
+
+-- the same times, in whatever order and each as often as may be
+pub record HaveSameTimes (xs ts : List ℚ) : Type 0 where
+  pub into : (t : ℚ) → Among t xs → Among t ts
+  pub back : (t : ℚ) → Among t ts → Among t xs
 
 -- the steps to them fit
 pub record AroundFits (p x : ℚ) : Type 0 where

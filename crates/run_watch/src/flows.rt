@@ -10,6 +10,7 @@ ghost use Rattle.run_laws.specs.Cards.{whole};
 ghost use Rattle.watch_laws.specs.Entries.{entries};
 ghost use Rattle.run_watch.specs.Flows.{entering_in, NoneLonger, IsFirstLonger, FlowReads, FindsFirst, NoneCrowded, IsFirstCrowded, IsUnderLine, IsUnderPiece, KeepsBucket, IsRaised};
 
+use crate::stairs::keeps_stair;
 use affine_segment::{Line, Piece, read};
 use fraction128::{Frac, Wide, difference, greater, is_less, lesser};
 use rational::Extended;
@@ -102,9 +103,9 @@ fn least_first(entries: &[Entering], arrival: &[Piece], last: usize) -> Option<u
 
 /// A bucket: so many bits, and more at an even rate.
 #[derive(Debug, Clone, Copy)]
-struct Bucket {
-    burst: Frac,
-    rate: Frac,
+pub(crate) struct Bucket {
+    pub(crate) burst: Frac,
+    pub(crate) rate: Frac,
 }
 
 /// The bucket of a line, and of the value at the start x, where its steps fit.
@@ -120,7 +121,7 @@ fn bucket_under(x: Frac, value: Frac, line: Line) -> Result<Bucket, Wide>
 }
 
 /// A bucket that a piece is nowhere below, if one is found: of a piece that is finite and does not fall.
-fn bucket_of(piece: &Piece) -> Option<Bucket>
+pub(crate) fn bucket_of(piece: &Piece) -> Option<Bucket>
     ensures { IfSome result (λ b. IsUnderPiece piece.now b.burst b.rate) }
 {
     let Extended::Fin(value) = piece.at else {
@@ -138,7 +139,7 @@ fn bucket_of(piece: &Piece) -> Option<Bucket>
     }
 }
 
-fn bits_of(entering: &Entering) -> Frac
+pub(crate) fn bits_of(entering: &Entering) -> Frac
     ensures { result ≡ whole entering.now.bits }
 {
     Frac::from_whole(entering.bits as i128)
@@ -196,13 +197,13 @@ fn keeps_buckets(entries: &[Entering], arrival: &[Piece]) -> bool
 }
 
 /// The packets, first and last, between which more bits enter than the pieces of a curve have: with the least last one,
-/// and of those with the least first one. A curve that is the least of its lines and is kept takes one pass for each; else
-/// it looks at each pair once.
+/// and of those with the least first one. A curve that is the least of its lines and is kept takes one pass for each, and a kept
+/// stair two passes where no packet is longer than its step; else it looks at each pair once.
 pub fn first_crowded(entries: &[Entering], arrival: &[Piece]) -> Option<(usize, usize)>
     requires { FlowReads arrival.now entries.now }
     ensures { MatchOption result (NoneCrowded (read arrival.now) entries.now (length entries.now)) (λ p. IsFirstCrowded (read arrival.now) entries.now p.0 p.1) }
 {
-    if keeps_buckets(entries, arrival) {
+    if keeps_buckets(entries, arrival) || keeps_stair(entries, arrival) {
         return None;
     }
     for last in 0..entries.len() {

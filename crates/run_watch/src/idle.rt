@@ -36,8 +36,7 @@ pub(crate) fn first_short(
     requires segments { SegmentsFit segments.now }
     ensures { IfOk result (FindsShort segments.now works.now (watched_from s.now pieces.now turns.now)) }
 {
-    let mut times = watch_times(alloc, s, turns, pieces)?;
-    times.sort()?;
+    let times = watch_times(alloc, s, turns, pieces)?;
     let points = points_of(alloc, works, &times)?;
     let place = first_end(alloc, &points, segments)?;
     if place >= points.len() {

@@ -15,6 +15,7 @@ mod seen;
 mod service;
 mod shorts;
 mod span;
+mod stairs;
 mod watched;
 mod windows;
 

@@ -1,6 +1,7 @@
 //! The windows of a stretch that are looked at.
 
 ghost use Rattle.std.specs.Prelude.{◌≡◌, ◌↔◌, [], ◌∷◌, ◌++◌, ◌<◌, length, drop, map, IfOk, OnOk, IsTrue, MatchOption};
+ghost use Rattle.rational.specs.Rational.{ℚ};
 ghost use Rattle.affine_segment.specs.declared.line.Piece.{Piece};
 ghost use Rattle.affine_segment.specs.Pieces.{Each};
 ghost use Rattle.watch_laws.specs.Affine.{EachTime};
@@ -9,7 +10,8 @@ ghost use Rattle.watch_laws.specs.Shorts.{IsShortBy, EachPoint, PointsRise};
 ghost use Rattle.watch_laws.specs.Marks.{FitsRule};
 ghost use Rattle.run_watch.specs.Ramps.{AreRamps, EachRamp, ReadsRamp};
 ghost use Rattle.run_watch.specs.FirstEnds.{FitsMarks, FitsSegments};
-ghost use Rattle.run_watch.specs.WatchTimes.{inside, around, watched_from, AroundFits, TimesFit, point_at, IsShortTo, IsFirstStart};
+ghost use Rattle.run_watch.specs.Watching.{TimesRise};
+ghost use Rattle.run_watch.specs.WatchTimes.{inside, around, watched_from, HaveSameTimes, AroundFits, TimesFit, point_at, IsShortTo, IsFirstStart};
 
 use crate::ramps::{amount_at, is_at_most};
 use crate::scan::is_past;
@@ -49,7 +51,30 @@ fn push_around(
     Ok(())
 }
 
-/// The watch points of a stretch: the turns, and each moved by the start of a piece of the curve.
+/// Puts some times in order, each once.
+fn put_in_order(times: &mut Vec<Frac>) -> Result<(), AllocError>
+    ensures same { OnOk result (HaveSameTimes times.old.items times.new.items) }
+    ensures rise { OnOk result ((from : ℚ) × TimesRise from times.new.items) }
+{
+    times.sort()?;
+    times.dedup();
+    Ok(())
+}
+
+/// Puts them in order where there are more than twice as many as when that was done last; then there were `kept`. Answers
+/// how many there are when it has been done.
+fn put_in_order_again(times: &mut Vec<Frac>, kept: usize) -> Result<usize, AllocError>
+    ensures { IfOk result (λ _. HaveSameTimes times.old.items times.new.items) }
+{
+    if times.len() / 2 <= kept {
+        return Ok(kept);
+    }
+    put_in_order(times)?;
+    Ok(times.len())
+}
+
+/// The watch points of a stretch, in order and each once: the turns, and each moved by the start of a piece of the curve.
+/// Of equal ones there are never more than of others, since they are put in order whenever they have doubled.
 pub(crate) fn watch_times(
     alloc: Global,
     s: &Stretch,
@@ -57,12 +82,16 @@ pub(crate) fn watch_times(
     pieces: &[Piece],
 ) -> Result<Vec<Frac>, AllocError>
     requires { TimesFit pieces.now turns.now }
-    ensures { IfOk result (λ v. v.items ≡ watched_from s.now pieces.now turns.now) }
+    ensures same { IfOk result (λ v. HaveSameTimes (watched_from s.now pieces.now turns.now) v.items) }
+    ensures rise { IfOk result (λ v. (from : ℚ) × TimesRise from v.items) }
 {
     let mut times = Vec::new(alloc);
+    let mut kept = 0;
     for p in turns {
         push_around(&mut times, s, *p, pieces)?;
+        kept = put_in_order_again(&mut times, kept)?;
     }
+    put_in_order(&mut times)?;
     Ok(times)
 }
 
@@ -87,7 +116,7 @@ pub(crate) fn points_of(
 }
 
 /// Where the piece of a number starts, if there is one.
-fn next_start(pieces: &[Piece], i: usize) -> Option<Frac>
+pub(crate) fn next_start(pieces: &[Piece], i: usize) -> Option<Frac>
     ensures { result ≡ next_start (drop i pieces.now) }
 {
     match pieces.get(i) {

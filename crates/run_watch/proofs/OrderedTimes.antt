@@ -1,0 +1,114 @@
+-- Times that are put in order, each once.
+use Rattle.std.specs.Prelude.{◌≡◌, ℕ, zero, suc, ◌+◌, ◌<◌, ◌≤◌, true, List, [], ◌∷◌, ◌++◌, length, drop}
+use Rattle.std.specs.List.{slice_index_or, dedup, dedup_from}
+use Rattle.std.specs.List.Sorted.{IsSorted, IsPermutation}
+use Rattle.std.specs.Ordering.{is_eq, MatchOrdering}
+use Rattle.std.specs.declared.cmp.Ordering.{Ordering}
+use Rattle.std.specs.declared.cmp.Ordering.TheVariants.{Less, Equal, Greater}
+use Rattle.std.proofs.Common.{arith, add-one, append_assoc, inl, inr, sym, subst, ap, ◌∙◌, true≢false}
+use Rattle.std.proofs.lemmas.Bool.{cases_Bool}
+use Rattle.std.proofs.lemmas.List.{append-nil, drop_all}
+use Rattle.rational.specs.Rational.{ℚ, ◌<ℚ◌}
+use Rattle.rational.specs.Ratio.{cmp_q}
+use Rattle.rational.proofs.Comparison.{cmp_ranks}
+use Rattle.fraction128.specs.Order.{same_q}
+use Rattle.affine_segment.specs.declared.line.Piece.{Piece}
+use Rattle.watch_laws.specs.Affine.{Among}
+use Rattle.run_watch.specs.declared.watched.Stretch.{Stretch}
+use Rattle.run_watch.specs.Watching.{TimesRise}
+use Rattle.run_watch.specs.WatchTimes.{around, watched_from, HaveSameTimes}
+use Rattle.run_watch.proofs.FoundTurns.{among_left, among_right, among_parts}
+use Rattle.run_watch.proofs.SortedPoints.{among_sorted, sorted_among, sorted_rise}
+
+-- ---- the same times
+pub same_times : (xs : List ℚ) → HaveSameTimes xs xs
+same_times xs = record { into = λ t h. h; back = λ t h. h }
+
+pub same_then : (xs ys zs : List ℚ) → HaveSameTimes xs ys → HaveSameTimes ys zs → HaveSameTimes xs zs
+same_then xs ys zs h k = record { into = λ t a. k.into t (h.into t a); back = λ t a. h.back t (k.back t a) }
+
+same_before : (xs ys zs : List ℚ) → HaveSameTimes xs ys → HaveSameTimes (xs ++ zs) (ys ++ zs)
+same_before xs ys zs h = record {
+  into = λ t a. elim (among_parts t xs zs a) [ inl l ↦ among_left t ys zs (h.into t l) | inr r ↦ among_right t ys zs r ];
+  back = λ t a. elim (among_parts t ys zs a) [ inl l ↦ among_left t xs zs (h.back t l) | inr r ↦ among_right t xs zs r ];
+}
+
+-- ---- each once
+same_in : (x y : ℚ) → same_q x y ≡ true → x ≡ y
+same_in x y e = go (cmp_q x y) (cmp_ranks x y) e
+  where
+    go : (o : Ordering) → MatchOrdering o (x <ℚ y) (x ≡ y) (y <ℚ x) → is_eq o ≡ true → x ≡ y
+    go Less k f = absurd (true≢false (sym f))
+    go Equal k f = k
+    go Greater k f = absurd (true≢false (sym f))
+
+kept_into : (k : ℚ) (xs : List ℚ) (t : ℚ) → Among t (k ∷ xs) → Among t (dedup_from same_q k xs)
+kept_into k [] t h = h
+kept_into k (x ∷ xs) t h = elim (cases_Bool (same_q x k)) [
+  | inl e ↦ rw e (kept_into k xs t (elim h [
+    | inl is ↦ inl is
+    | inr m ↦ elim m [ inl is ↦ inl (is ∙ same_in x k e) | inr n ↦ inr n ]
+  ]))
+  | inr e ↦ rw e (elim h [ inl is ↦ inl is | inr m ↦ inr (kept_into x xs t m) ])
+]
+
+kept_back : (k : ℚ) (xs : List ℚ) (t : ℚ) → Among t (dedup_from same_q k xs) → Among t (k ∷ xs)
+kept_back k [] t h = h
+kept_back k (x ∷ xs) t h = elim (cases_Bool (same_q x k)) [
+  | inl e ↦
+      let m : Among t (dedup_from same_q k xs) = rw e at h in
+      elim (kept_back k xs t m) [ inl is ↦ inl is | inr n ↦ inr (inr n) ]
+  | inr e ↦
+      let m : Among t (k ∷ dedup_from same_q x xs) = rw e at h in
+      elim m [ inl is ↦ inl is | inr n ↦ inr (kept_back x xs t n) ]
+]
+
+same_kept : (xs : List ℚ) → HaveSameTimes xs (dedup same_q xs)
+same_kept [] = record { into = λ t h. h; back = λ t h. h }
+same_kept (k ∷ xs) = record { into = kept_into k xs; back = kept_back k xs }
+
+kept_rise : (from k : ℚ) (xs : List ℚ) → TimesRise from (k ∷ xs) → TimesRise from (dedup_from same_q k xs)
+kept_rise from k [] h = h
+kept_rise from k (x ∷ xs) h = elim (cases_Bool (same_q x k)) [
+  | inl e ↦ rw e (kept_rise from k xs (h.0, subst (λ y. TimesRise y xs) (same_in x k e) h.1.1))
+  | inr e ↦ rw e (h.0, kept_rise k x xs h.1)
+]
+
+rise_kept : (from : ℚ) (xs : List ℚ) → TimesRise from xs → TimesRise from (dedup same_q xs)
+rise_kept from [] h = tt
+rise_kept from (k ∷ xs) h = kept_rise from k xs h
+
+-- sorted, and each once
+pub record AreInOrder (xs ts : List ℚ) : Type 0 where
+  pub same : HaveSameTimes xs ts
+  pub rise : (from : ℚ) × TimesRise from ts
+
+pub in_order : (xs ys zs : List ℚ) → IsPermutation xs ys → IsSorted cmp_q ys → zs ≡ dedup same_q ys → AreInOrder xs zs
+in_order xs ys zs p s e =
+    let sorted : HaveSameTimes xs ys = record { into = λ t h. among_sorted xs ys t p h; back = λ t h. sorted_among xs ys t p h } in
+    let (from, rise) = sorted_rise ys s in
+    record {
+      same = subst (HaveSameTimes xs) (sym e) (same_then xs ys (dedup same_q ys) sorted (same_kept ys));
+      rise = (from, subst (TimesRise from) (sym e) (rise_kept from ys rise));
+    }
+
+-- ---- one turn more
+next_turn : (s : Stretch) (qs : List Piece) (ps : List ℚ) (k : ℕ) (p : ℚ) → k < length ps → p ≡ slice_index_or ps k p → watched_from s qs (drop k ps) ≡ around s p qs ++ watched_from s qs (drop (k + 1) ps)
+next_turn s qs ps k p l e = rw add-one (go ps k l e)
+  where
+    go : (ps : List ℚ) (k : ℕ) → k < length ps → p ≡ slice_index_or ps k p → watched_from s qs (drop k ps) ≡ around s p qs ++ watched_from s qs (drop (suc k) ps)
+    go [] k l e = absurd (omega arith)
+    go (q ∷ ps) zero l e = ap (λ x. around s x qs ++ watched_from s qs ps) (sym e)
+    go (q ∷ ps) (suc k) l e = go ps k (omega arith) e
+
+pub turn_more : (s : Stretch) (qs : List Piece) (ps had more now : List ℚ) (k : ℕ) (p : ℚ) → k < length ps → p ≡ slice_index_or ps k p → more ≡ had ++ around s p qs → HaveSameTimes more now
+    → HaveSameTimes (watched_from s qs ps) (had ++ watched_from s qs (drop k ps)) → HaveSameTimes (watched_from s qs ps) (now ++ watched_from s qs (drop (k + 1) ps))
+turn_more s qs ps had more now k p l e grown kept h =
+    let rest = watched_from s qs (drop (k + 1) ps) in
+    let joined : had ++ watched_from s qs (drop k ps) ≡ more ++ rest =
+    ap (λ (ys : List ℚ). had ++ ys) (next_turn s qs ps k p l e) ∙ sym (append_assoc had (around s p qs) rest) ∙ ap (λ (ys : List ℚ). ys ++ rest) (sym grown) in
+    same_then (watched_from s qs ps) (more ++ rest) (now ++ rest) (subst (HaveSameTimes (watched_from s qs ps)) joined h) (same_before more now rest kept)
+
+-- after the last turn
+pub no_turns : (s : Stretch) (qs : List Piece) (ps had : List ℚ) (k : ℕ) → length ps ≤ k → HaveSameTimes (watched_from s qs ps) (had ++ watched_from s qs (drop k ps)) → HaveSameTimes (watched_from s qs ps) had
+no_turns s qs ps had k l h = subst (HaveSameTimes (watched_from s qs ps)) (ap (λ (xs : List ℚ). had ++ watched_from s qs xs) (drop_all k ps l) ∙ append-nil had) h

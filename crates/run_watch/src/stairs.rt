@@ -1,0 +1,216 @@
+//! Whether packets keep a stair, by counting each for one step against a line over the stair, in one pass.
+
+ghost use Rattle.std.specs.Prelude.{◌≡◌, ℕ, ◌<◌, pos, length, drop, IfOk, IfSome, IsTrue};
+ghost use Rattle.rational.specs.Rational.{int, ◌+ℚ◌, ◌-ℚ◌, ◌*ℚ◌, ◌<ℚ◌};
+ghost use Rattle.affine_segment.specs.Reading.{read};
+ghost use Rattle.run_laws.specs.Cards.{whole};
+ghost use Rattle.watch_laws.specs.Segments.{next_start};
+ghost use Rattle.run_watch.specs.Flows.{FlowReads, NoneCrowded};
+ghost use Rattle.run_watch.specs.Stairs.{first_time, last_time, KeepsPace, AreSmall, IsCount, HasSteps, LineUpTo, IsStep, IsStepAt};
+
+use crate::flows::{bits_of, bucket_of};
+use crate::ramps::is_at_most;
+use crate::windows::next_start;
+use affine_segment::Piece;
+use fraction128::{Frac, Wide, is_less, lesser};
+use rational::Extended;
+use watch_laws::Entering;
+
+/// A stair, and a line over it: steps of a height, and how many of them the line has, in steps.
+#[derive(Debug, Clone, Copy)]
+struct Stair {
+    height: Frac,
+    slack: Frac,
+    rate: Frac,
+}
+
+/// The number of a packet, less what the rate has up to its time.
+fn lead_at(number: usize, rate: Frac, time: Frac) -> Result<Frac, Wide>
+    ensures { IfOk result (λ x. x ≡ whole number -ℚ rate *ℚ time) }
+{
+    let had = Frac::mul(rate, time)?;
+    Frac::sub(Frac::from_whole(number as i128), had)
+}
+
+/// Whether packets are seen to come no faster than the line, each for one step.
+fn keeps_pace(entries: &[Entering], stair: &Stair) -> bool
+    ensures { IsTrue result → KeepsPace stair.now.slack stair.now.rate entries.now (length entries.now) }
+{
+    let mut least = Frac::zero();
+    for (number, entering) in entries.iter().enumerate() {
+        let Ok(lead) = lead_at(number, stair.rate, entering.time) else {
+            return false;
+        };
+        least = lesser(least, lead);
+        let Ok(most) = Frac::add(least, stair.slack) else {
+            return false;
+        };
+        if is_less(most, lead) {
+            return false;
+        }
+    }
+    true
+}
+
+/// Whether no packet has more bits than a step.
+fn are_small(entries: &[Entering], height: Frac) -> bool
+    ensures { IsTrue result → AreSmall height entries.now (length entries.now) }
+{
+    for entering in entries {
+        if is_less(height, bits_of(entering)) {
+            return false;
+        }
+    }
+    true
+}
+
+/// The time from the first packet to the last, if it is seen to fit.
+fn reach_of(entries: &[Entering]) -> Option<Frac>
+    ensures { IfSome result (λ far. far ≡ last_time entries.now -ℚ first_time entries.now) }
+{
+    let count = entries.len();
+    if count == 0 {
+        return None;
+    }
+    let back = count - 1;
+    let last = entries[back];
+    let first = entries[0];
+    match Frac::sub(last.time, first.time) {
+        Ok(far) => Some(far),
+        Err(_) => None,
+    }
+}
+
+/// How many steps of a height fit under a value, if that is seen.
+fn count_under(height: Frac, value: Frac) -> Option<Frac>
+    requires { int (pos 0) <ℚ height }
+    ensures { IfSome result (IsCount height value) }
+{
+    let Ok(ratio) = Frac::div(value, height) else {
+        return None;
+    };
+    let count = ratio.whole_part();
+    let Ok(all) = Frac::mul(count, height) else {
+        return None;
+    };
+    if is_less(value, all) {
+        return None;
+    }
+    Some(count)
+}
+
+/// How many steps a piece has wherever it is read, if it is flat and that is seen.
+fn steps_of(height: Frac, piece: &Piece) -> Option<Frac>
+    requires { int (pos 0) <ℚ height }
+    ensures { IfSome result (HasSteps height piece.now) }
+{
+    let Some(bucket) = bucket_of(piece) else {
+        return None;
+    };
+    if bucket.rate == Frac::zero() {
+        return count_under(height, bucket.burst);
+    }
+    None
+}
+
+/// The line at d, if its steps fit.
+fn line_at(stair: &Stair, d: Frac) -> Result<Frac, Wide>
+    ensures { IfOk result (λ v. v ≡ stair.now.slack +ℚ stair.now.rate *ℚ d) }
+{
+    let risen = Frac::mul(stair.rate, d)?;
+    Frac::add(stair.slack, risen)
+}
+
+/// Whether the line is seen to have at most `count` steps before the next piece, and fewer at `far` where there is none.
+fn is_line_up_to(stair: &Stair, far: Frac, count: Frac, next: Option<Frac>) -> bool
+    ensures { IsTrue result → LineUpTo stair.now.slack stair.now.rate far count next }
+{
+    match next {
+        Some(x) => match line_at(stair, x) {
+            Ok(value) => is_at_most(value, count),
+            Err(_) => false,
+        },
+        None => match line_at(stair, far) {
+            Ok(value) => is_less(value, count),
+            Err(_) => false,
+        },
+    }
+}
+
+/// Whether a piece is seen to have a step for each of the line, and one more.
+fn is_step(stair: &Stair, far: Frac, piece: &Piece, next: Option<Frac>) -> bool
+    requires { int (pos 0) <ℚ stair.now.height }
+    ensures { IsTrue result → IsStep stair.now.height stair.now.slack stair.now.rate far piece.now next }
+{
+    match steps_of(stair.height, piece) {
+        Some(count) => is_line_up_to(stair, far, count, next),
+        None => false,
+    }
+}
+
+/// Whether all pieces are.
+fn are_steps(stair: &Stair, far: Frac, pieces: &[Piece]) -> bool
+    requires { int (pos 0) <ℚ stair.now.height }
+    ensures { IsTrue result → (i : ℕ) → i < length pieces.now → IsStepAt stair.now.height stair.now.slack stair.now.rate far (drop i pieces.now) }
+{
+    for i in 0..pieces.len() {
+        if !is_step(stair, far, &pieces[i], next_start(pieces, i + 1)) {
+            return false;
+        }
+    }
+    true
+}
+
+/// The stair that some pieces begin with, and the line over it, if they begin with one: whatever it is, it is tried.
+fn stair_of(pieces: &[Piece]) -> Option<Stair> {
+    let [first, second, third, ..] = pieces else {
+        return None;
+    };
+    let (Extended::Fin(low), Extended::Fin(high)) = (first.at, second.at) else {
+        return None;
+    };
+    let height = Frac::sub(high, low).ok()?;
+    let gap = Frac::sub(third.x, second.x).ok()?;
+    if !is_less(Frac::zero(), height) {
+        return None;
+    }
+    if !is_less(Frac::zero(), gap) {
+        return None;
+    }
+    let rate = Frac::div(Frac::one(), gap).ok()?;
+    let count = count_under(height, low)?;
+    let risen = Frac::mul(rate, second.x).ok()?;
+    let slack = Frac::sub(count, risen).ok()?;
+    Some(Stair {
+        height,
+        slack,
+        rate,
+    })
+}
+
+/// Whether a stair is seen to be kept, in one pass over the packets and one over the pieces: where its steps are all of one
+/// height and come at one pace, and no packet has more bits than a step. Another curve may be kept all the same.
+pub(crate) fn keeps_stair(entries: &[Entering], arrival: &[Piece]) -> bool
+    requires { FlowReads arrival.now entries.now }
+    ensures { IsTrue result → NoneCrowded (read arrival.now) entries.now (length entries.now) }
+{
+    let Some(stair) = stair_of(arrival) else {
+        return false;
+    };
+    let Some(far) = reach_of(entries) else {
+        return false;
+    };
+    if !is_less(Frac::zero(), stair.height) {
+        return false;
+    }
+    if !is_less(Frac::zero(), stair.rate) {
+        return false;
+    }
+    if !are_steps(&stair, far, arrival) {
+        return false;
+    }
+    if !are_small(entries, stair.height) {
+        return false;
+    }
+    keeps_pace(entries, &stair)
+}
