@@ -16,9 +16,11 @@ use Rattle.stated_runs.specs.FromTraces.{setup_of}
 use Rattle.sim_bounds.specs.Horizons.{horizon}
 use Rattle.sim_bounds.specs.Gauge.{server_times, stall_times, trace_times, rates_of, common_num, numbers_of_curves, arrivals_of, curves_of, simulation_numbers, total_bits, simulation_gauge}
 use Rattle.sim_gauge.specs.Named.{packet_numbers, stall_numbers, server_numbers}
-use Rattle.sim_gauge.proofs.Products.{finer, gauge_is, held_all}
+use Rattle.window_numbers.proofs.Products.{finer, held_all}
+use Rattle.sim_gauge.proofs.Products.{gauge_is}
 use Rattle.sim_gauge.proofs.Rates.{common_some}
-use Rattle.sim_gauge.proofs.SameGathered.{curves_split, gathers_equal, in_order}
+use Rattle.window_numbers.proofs.SameGathered.{curves_split, gathers_equal}
+use Rattle.sim_gauge.proofs.SameGathered.{in_order}
 
 abbrev services : Net → ℚ → Numbers
 services net end = numbers_of_curves end (map (λ (s : NetServer). s.service) net.servers)

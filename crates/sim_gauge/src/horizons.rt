@@ -11,11 +11,11 @@ ghost use Rattle.sim_bounds.specs.Way.{open_time, gated, plain_span, HorizonFits
 
 use crate::loads::load;
 use crate::spans::{gate_product, no_product, plain_time, stalled, work_time};
-use crate::steps::plus;
 use fraction128::{Frac, greater};
 use net_model::{Network, ServiceKind, Trace};
 use std::alloc::{AllocError, Global};
 use wide_sums::{Product, sum_of_products};
+use window_numbers::plus;
 
 /// The latest of the times at which packets enter and stalls end, and 0 where there is none.
 fn first_time(net: &Network, trace: &Trace) -> Frac

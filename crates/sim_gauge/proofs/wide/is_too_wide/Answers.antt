@@ -15,7 +15,7 @@ use Rattle.stated_runs.specs.FromTraces.{setup_of}
 use Rattle.sim_bounds.specs.Horizons.{horizon}
 use Rattle.sim_bounds.specs.Gauge.{rates_of, common_num, simulation_numbers, simulation_gauge, grid_of, total_bits}
 use Rattle.sim_bounds.proofs.WayFits.{horizon_fits}
-use Rattle.sim_gauge.specs.Rated.{gauge_with}
+use Rattle.window_numbers.specs.Rated.{gauge_with}
 use Rattle.sim_gauge.proofs.Products.{gauge_is}
 use Rattle.sim_gauge.proofs.Rates.{server_rates}
 use Rattle.sim_gauge.proofs.wide.is_too_wide.Goals as goal
