@@ -10,11 +10,12 @@ use Rattle.upp_limits.proofs.JoinedNumbers.{joined_assoc}
 use Rattle.upp_limits.proofs.SameSizes.{Equals}
 use Rattle.run_laws.specs.Runs.{SpecRun}
 use Rattle.net_model.specs.Networks.{Net, NetServer}
-use Rattle.sim_bounds.specs.Gauge.{numbers_of_curves, arrivals_of, curves_of}
+use Rattle.sim_bounds.specs.Gauge.{arrivals_of}
+use Rattle.window_numbers.proofs.NetCurves.{services, arrivals}
 use Rattle.window_numbers.proofs.SameGathered.{curves_split, gathers_equal}
 use Rattle.check_gauge.specs.Runs.{last_time}
 use Rattle.check_gauge.specs.Gauge.{check_numbers}
-use Rattle.check_gauge.specs.Named.{server_numbers, steps_numbers}
+use Rattle.check_gauge.specs.Named.{links_and_rates, steps_numbers}
 
 -- ---- in the order of the code
 abbrev pub ends : ℚ → ℚ → Numbers
@@ -22,13 +23,7 @@ ends last end = joined (joined no_numbers (time_alone last)) (time_alone end)
 
 -- the run's end and last time, links and rates, steps
 abbrev pub own_numbers : Net → SpecRun → ℚ → Numbers
-own_numbers net run last = joined (joined (ends last run.end) (server_numbers net.servers)) (steps_numbers run.steps)
-
-abbrev pub services : Net → ℚ → Numbers
-services net last = numbers_of_curves last (map (λ (s : NetServer). s.service) net.servers)
-
-abbrev pub arrivals : Net → ℚ → Numbers
-arrivals net last = numbers_of_curves last (arrivals_of net.flows)
+own_numbers net run last = joined (joined (ends last run.end) (links_and_rates net.servers)) (steps_numbers run.steps)
 
 there : (net : Net) (run : SpecRun) → joined (joined (own_numbers net run (last_time run)) (services net (last_time run))) (arrivals net (last_time run)) ≡ check_numbers net run
 there net run =

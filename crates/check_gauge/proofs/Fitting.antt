@@ -11,7 +11,7 @@ use Rattle.rational.proofs.Linear.{with2}
 use Rattle.rational.proofs.MinMax.{max_q_ge_left, max_q_ge_right}
 use Rattle.rational.proofs.Over.{lt_q_out}
 use Rattle.upp_limits.specs.Limits.{Numbers, joined}
-use Rattle.upp_limits.specs.Sized.{IsSlope, HeldBy}
+use Rattle.upp_limits.specs.Sized.{IsSlope}
 use Rattle.upp_limits.proofs.Every.{every_left, every_right}
 use Rattle.upp_limits.proofs.NarrowSizes.{narrow_limit, small_slope}
 use Rattle.upp_limits.proofs.Stands.{stands_right}
@@ -22,10 +22,9 @@ use Rattle.net_model.specs.Networks.{Net, NetServer}
 use Rattle.stated_runs.specs.TimeGrids.{HasRoom, IsTime}
 use Rattle.stated_runs.proofs.GridTimes.{sum_fits, difference_fits}
 use Rattle.sim_bounds.specs.Horizons.{latest_of}
-use Rattle.sim_bounds.specs.Gauge.{numbers_of_curves, curves_of, arrivals_of}
+use Rattle.sim_bounds.specs.Gauge.{numbers_of_curves, curves_of}
 use Rattle.sim_bounds.proofs.Spans.{latest_nonneg}
-use Rattle.window_numbers.proofs.SameGathered.{curves_split}
-use Rattle.upp_limits.proofs.Operands.{held_left, held_right}
+use Rattle.window_numbers.proofs.NetCurves.{CurvesHeld, held_apart}
 use Rattle.check_gauge.specs.Runs.{step_times, times_of, step_end, last_time, IsFromZero, work_pace, paces_of}
 use Rattle.check_gauge.specs.Gauge.{links_of, largest_link, farthest, check_numbers, check_sizes, check_gauge}
 use Rattle.check_gauge.specs.Paces.{PaceFits, PacesFit, WorkFits}
@@ -66,7 +65,8 @@ work_times d e s p a b w xs h =
 pub step_times_of : (net : Net) (run : SpecRun) → Fits net run → IsFromZero run → StepTimes (check_sizes net run).dt (last_time run) run.steps
 step_times_of net run h low =
     let d = (check_sizes net run).dt in
-    let own = every_left (Whole d) (links_of net ++ times_of run.steps) _ h.stands.times.1.1 in
+    let curves = (numbers_of_curves (last_time run) (curves_of net)).times in
+    let own = every_left (Whole d) (links_of net ++ times_of run.steps) curves h.stands.times.1.1 in
     record {
       whole = every_right (Whole d) (links_of net) (times_of run.steps) own;
       from_zero = low.steps;
@@ -83,11 +83,12 @@ paces_fit net run (Work sv p a b w ∷ xs) h t s =
     let z = check_sizes net run in
     let far = farthest net run in
     let own = work_times z.dt far sv p a b w xs t in
-    let narrow = narrow_limit z far h.sizes h.gauge in (
+    let narrow = narrow_limit z far h.sizes h.gauge in
+    let slopes = every_left (IsSlope z) (work_pace a b w) (paces_of xs) s in (
       λ l. record {
         time = difference_fits z.dt far b a h.room own.end own.start;
         pace = small_slope z far _ h.sizes record { grid = omega (arith, narrow.grid); times = omega (arith, narrow.times); slopes = omega (arith, narrow.slopes) }
-            (rw (lt_q_out a b l) at (every_left (IsSlope z) (work_pace a b w) (paces_of xs) s)).0;
+            (rw (lt_q_out a b l) at slopes).0;
       },
       paces_fit net run xs h (rest_times z.dt far (Work sv p a b w) xs t) (every_right (IsSlope z) (work_pace a b w) (paces_of xs) s),
     )
@@ -98,7 +99,7 @@ pub all_paces : (net : Net) (run : SpecRun) → Fits net run → AllByRecursion 
 all_paces net run h =
     let z = check_sizes net run in
     let rates = map (λ (s : NetServer). s.rate) net.servers in
-    every_right (IsSlope z) rates (paces_of run.steps) (every_left (IsSlope z) (rates ++ paces_of run.steps) _ h.stands.slopes)
+    every_right (IsSlope z) rates (paces_of run.steps) (every_left (IsSlope z) (rates ++ paces_of run.steps) (numbers_of_curves (last_time run) (curves_of net)).slopes h.stands.slopes)
 
 pub all_paces_fit : (net : Net) (run : SpecRun) → Fits net run → IsFromZero run → PacesFit run.steps
 all_paces_fit net run h low =
@@ -121,23 +122,13 @@ far_fits net run h =
     }
 
 -- ---- curves
-pub record CurvesHeld (net : Net) (run : SpecRun) (end : ℚ) : Type 0 where
-  pub services : HeldBy (check_sizes net run) end (numbers_of_curves end (map (λ (s : NetServer). s.service) net.servers))
-  pub arrivals : HeldBy (check_sizes net run) end (numbers_of_curves end (arrivals_of net.flows))
-
-held_there : (net : Net) (run : SpecRun) → Fits net run → CurvesHeld net run (last_time run)
+held_there : (net : Net) (run : SpecRun) → Fits net run → CurvesHeld net (last_time run)
 held_there net run h =
     let z = check_sizes net run in
     let end = last_time run in
-    let services = map (λ (s : NetServer). s.service) net.servers in
     let curves = numbers_of_curves end (curves_of net) in
     let gauge = h.gauge in
-    let all : HeldBy z end curves = record { sizes = last_sizes net run h; gauge = omega (arith, gauge); stands = stands_right z _ curves h.stands } in
-    let parts = subst (HeldBy z end) (sym (curves_split end services (arrivals_of net.flows))) all in
-    record {
-      services = held_left z end (numbers_of_curves end services) (numbers_of_curves end (arrivals_of net.flows)) parts;
-      arrivals = held_right z end (numbers_of_curves end services) (numbers_of_curves end (arrivals_of net.flows)) parts;
-    }
+    held_apart z net end record { sizes = last_sizes net run h; gauge = omega (arith, gauge); stands = stands_right z _ curves h.stands }
 
-pub curves_held : (net : Net) (run : SpecRun) (end : ℚ) → end ≡ last_time run → Fits net run → CurvesHeld net run end
-curves_held net run end is h = subst (CurvesHeld net run) (sym is) (held_there net run h)
+pub curves_held : (net : Net) (run : SpecRun) (end : ℚ) → end ≡ last_time run → Fits net run → CurvesHeld net end
+curves_held net run end is h = subst (CurvesHeld net) (sym is) (held_there net run h)

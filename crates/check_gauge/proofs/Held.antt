@@ -2,10 +2,11 @@
 use Rattle.std.proofs.Common.{◌≡◌, ℕ, ◌<◌, ◌≤◌, ◌*◌, ◌^◌, List, [], ◌∷◌, ◌++◌, map, sym, ap, ◌∙◌, subst, arith}
 use Rattle.std.specs.Prelude.{pos}
 use Rattle.std.specs.List.{AllByRecursion}
+use native.Mathlib.Nat.{le-mul_of_pos_right}
 use Rattle.rational.specs.Rational.{ℚ, int, ◌+ℚ◌, ◌*ℚ◌, ◌≤ℚ◌}
 use Rattle.rational.specs.Gauge.{common_den}
 use Rattle.rational.specs.Grid.{Whole}
-use Rattle.rational.proofs.Laws.{le_trans, mul_le_mul, mul_le_mul_right}
+use Rattle.rational.proofs.Laws.{le_trans, mul_le_mul, mul_le_mul_right, one_mul}
 use Rattle.rational.proofs.Linear.{with2, with3}
 use Rattle.rational.proofs.Integers.{nat_nonneg, nat_le, nat_le_out}
 use Rattle.rational.proofs.Grid.{whole_int, whole_add, max_whole}
@@ -20,10 +21,11 @@ use Rattle.run_laws.specs.Runs.{SpecRun}
 use Rattle.net_model.specs.Networks.{Net, NetServer}
 use Rattle.stated_runs.specs.TimeGrids.{HasRoom}
 use Rattle.sim_bounds.specs.Horizons.{latest_of}
+use Rattle.sim_bounds.specs.Gauge.{numbers_of_curves, curves_of}
 use Rattle.sim_bounds.proofs.Spans.{latest_nonneg}
 use Rattle.window_numbers.specs.Rated.{gauge_with}
 use Rattle.window_numbers.proofs.Products.{sizes_with, held_all}
-use Rattle.check_gauge.specs.Runs.{last_time, step_end, total_bits}
+use Rattle.check_gauge.specs.Runs.{times_of, last_time, step_end, total_bits}
 use Rattle.check_gauge.specs.Gauge.{largest_link, farthest, check_numbers, check_sizes, check_gauge}
 
 -- ---- the farthest time is on the grid of the others
@@ -32,7 +34,11 @@ links_whole d [] h = whole_int d (pos 0)
 links_whole d (x ∷ xs) h = max_whole d x.link (latest_of (λ (s : NetServer). s.link) xs) h.0 (links_whole d xs h.1)
 
 pub link_whole : (d : ℕ) (net : Net) (run : SpecRun) → AllByRecursion (Whole d) (check_numbers net run).times → Whole d (largest_link net)
-link_whole d net run all = links_whole d net.servers (every_left (Whole d) (map (λ (s : NetServer). s.link) net.servers) _ (every_left (Whole d) _ _ all.1.1))
+link_whole d net run all =
+    let links = map (λ (s : NetServer). s.link) net.servers in
+    let times = times_of run.steps in
+    let curves = (numbers_of_curves (last_time run) (curves_of net)).times in
+    links_whole d net.servers (every_left (Whole d) links times (every_left (Whole d) (links ++ times) curves all.1.1))
 
 far_whole : (d : ℕ) (net : Net) (run : SpecRun) → AllByRecursion (Whole d) (check_numbers net run).times → Whole d (farthest net run)
 far_whole d net run all = whole_add d (last_time run) (largest_link net) all.0 (link_whole d net run all)
@@ -94,8 +100,7 @@ far_most net run sizes =
     let some : int (pos 0) ≤ℚ far = le_trans (last_nonneg run) (last_by net run) in
     let steep : int (pos 1) ≤ℚ int (pos z.steepness) = nat_le sizes.steepness in
     let first = mul_le_mul_right far some steep in
-    let one : int (pos 1) *ℚ far ≡ far = Rattle.rational.proofs.Laws.one_mul far in
-    le_trans (subst (λ x. x ≤ℚ int (pos z.steepness) *ℚ far) one first) sizes.reach
+    le_trans (subst (λ x. x ≤ℚ int (pos z.steepness) *ℚ far) (one_mul far) first) sizes.reach
 
 room_of : (net : Net) (run : SpecRun) → AreSizes (check_sizes net run) (farthest net run) → gauge_of (check_sizes net run) < 2 ^ 120
     → HasRoom (check_sizes net run).dt (farthest net run)
@@ -106,11 +111,13 @@ room_of net run sizes small =
     let some : int (pos 0) ≤ℚ far = le_trans (last_nonneg run) (last_by net run) in
     let most = far_most net run sizes in
     let largest = sizes.largest in
-    let less : z.dt ≤ z.largest * z.dt = native.Mathlib.Nat.le-mul_of_pos_left z.dt largest in
+    let some_value : 0 < z.largest = omega (arith, largest) in
+    let less : z.dt ≤ z.dt * z.largest = le-mul_of_pos_right z.dt some_value in
+    let turned : z.dt * z.largest ≡ z.largest * z.dt = omega arith in
     let eight : int (pos 8) *ℚ far ≤ℚ int (pos 8) *ℚ int (pos z.largest) = mul_le_mul (int (pos 8)) (nat_nonneg 8) most in
     record {
       some = sizes.dt;
-      small = omega (arith, narrow, less);
+      small = omega (arith, narrow, less, turned);
       from_zero = some;
       room = le_trans (mul_le_mul_right (int (pos z.dt)) (nat_nonneg z.dt) eight) (scaled_fits 8 z.largest z.dt (2 ^ 127 - 1) (omega (arith, narrow)));
     }

@@ -8,16 +8,16 @@ use Rattle.net_model.specs.declared.server.Server.{Server}
 use Rattle.net_model.specs.Networks.{NetServer}
 use Rattle.net_model.specs.Views.{server_of, servers_of}
 use Rattle.window_numbers.proofs.Loops.{IsPartwise}
-use Rattle.check_gauge.specs.Named.{server_number, server_numbers, step_numbers, steps_numbers}
+use Rattle.check_gauge.specs.Named.{link_and_rate, links_and_rates, step_numbers, steps_numbers}
 
 -- ---- from the start
-pub server_parts : IsPartwise (λ (xs : List Server). server_numbers (servers_of xs)) (λ (x : Server). server_number (server_of x))
+pub server_parts : IsPartwise (λ (xs : List Server). links_and_rates (servers_of xs)) (λ (x : Server). link_and_rate (server_of x))
 server_parts = record { none = refl; some = λ x xs. refl }
 
 pub step_parts : IsPartwise steps_numbers step_numbers
 step_parts = record { none = refl; some = λ x xs. refl }
 
-pub server_joined : (n : Numbers) (x : NetServer) → joined (joined n (time_alone x.link)) (slope_alone x.rate) ≡ joined n (server_number x)
+pub server_joined : (n : Numbers) (x : NetServer) → joined (joined n (time_alone x.link)) (slope_alone x.rate) ≡ joined n (link_and_rate x)
 server_joined n x = joined_assoc n (time_alone x.link) (slope_alone x.rate)
 
 -- ---- from the end

@@ -8,15 +8,15 @@ use Rattle.net_model.specs.Networks.{NetServer}
 use Rattle.check_gauge.specs.Runs.{step_times, step_works, step_paces, work_pace}
 
 -- links and rates
-abbrev pub server_numbers : List NetServer → Numbers
-server_numbers ss = record {
+abbrev pub links_and_rates : List NetServer → Numbers
+links_and_rates ss = record {
   times = map (λ (s : NetServer). s.link) ss;
   values = [];
   slopes = map (λ (s : NetServer). s.rate) ss;
 }
 
-abbrev pub server_number : NetServer → Numbers
-server_number s = record { times = s.link ∷ []; values = []; slopes = s.rate ∷ [] }
+abbrev pub link_and_rate : NetServer → Numbers
+link_and_rate s = record { times = s.link ∷ []; values = []; slopes = s.rate ∷ [] }
 
 -- times, bits and pace
 abbrev pub work_numbers : (a b w : ℚ) → Numbers

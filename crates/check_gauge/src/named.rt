@@ -5,7 +5,7 @@ ghost use Rattle.rational.specs.Rational.{int, ◌-ℚ◌, ◌/ℚ◌, ◌<ℚ�
 ghost use Rattle.upp_limits.specs.Gathered.{Gathers};
 ghost use Rattle.upp_limits.specs.Limits.{Numbers, joined};
 ghost use Rattle.net_model.specs.Views.{server_of, servers_of};
-ghost use Rattle.check_gauge.specs.Named.{server_number, server_numbers, work_numbers, step_numbers, steps_numbers};
+ghost use Rattle.check_gauge.specs.Named.{link_and_rate, links_and_rates, work_numbers, step_numbers, steps_numbers};
 ghost use Rattle.check_gauge.specs.Paces.{WorkFits, PaceFits, PacesFit};
 
 use fraction128::{Frac, is_less};
@@ -15,19 +15,19 @@ use upp_limits::gathered::Gathered;
 use window_numbers::{minus, over};
 
 /// The link and the rate of a server more.
-fn with_server(g: Gathered, server: &Server) -> Gathered
-    ensures { (n : Numbers) → Gathers g n → Gathers result (joined n (server_number (server_of server.now))) }
+fn with_link_and_rate(g: Gathered, server: &Server) -> Gathered
+    ensures { (n : Numbers) → Gathers g n → Gathers result (joined n (link_and_rate (server_of server.now))) }
 {
     g.with_time(server.link).with_slope(server.rate)
 }
 
 /// The links and the rates of servers more.
-pub(crate) fn with_servers(g: Gathered, servers: &[Server]) -> Gathered
-    ensures { (n : Numbers) → Gathers g n → Gathers result (joined n (server_numbers (servers_of servers.now))) }
+pub(crate) fn with_links_and_rates(g: Gathered, servers: &[Server]) -> Gathered
+    ensures { (n : Numbers) → Gathers g n → Gathers result (joined n (links_and_rates (servers_of servers.now))) }
 {
     let mut found = g;
     for server in servers {
-        found = with_server(found, server);
+        found = with_link_and_rate(found, server);
     }
     found
 }

@@ -5,7 +5,7 @@ ghost use Rattle.upp_limits.specs.Gathered.{Gathers};
 ghost use Rattle.check_gauge.specs.Runs.{last_time, IsFromZero};
 ghost use Rattle.check_gauge.specs.Gauge.{check_numbers, check_gauge};
 
-use crate::named::{with_servers, with_steps};
+use crate::named::{with_links_and_rates, with_steps};
 use crate::times::{largest_link, last_time, total_bits};
 use fraction128::Frac;
 use net_model::Network;
@@ -22,7 +22,7 @@ fn numbers_to(net: &Network, run: &Run, end: Frac) -> Option<Gathered>
 {
     let servers = net.servers();
     let ends = Gathered::nothing().with_time(end).with_time(run.end);
-    let named = with_servers(ends, servers);
+    let named = with_links_and_rates(ends, servers);
     let stepped = with_steps(named, &run.steps)?;
     let served = with_services(stepped, servers, end)?;
     with_arrivals(served, net.flows(), end)

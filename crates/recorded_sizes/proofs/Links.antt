@@ -19,6 +19,7 @@ use Rattle.stated_runs.specs.TimeGrids.{IsTime}
 use Rattle.stated_runs.proofs.Lists.{In, in_contains}
 use Rattle.stated_runs.proofs.GridTimes.{sum_fits}
 use Rattle.sim_bounds.specs.Horizons.{latest_of}
+use Rattle.sim_bounds.specs.Gauge.{numbers_of_curves, curves_of}
 use Rattle.sim_bounds.proofs.Members.{any_made, each_in, in_map}
 use Rattle.sim_bounds.proofs.Spans.{latest_nonneg}
 use Rattle.check_gauge.specs.Runs.{times_of, last_time}
@@ -48,7 +49,7 @@ link_most net s =
 link_whole_at : (net : Net) (run : SpecRun) (s : ℕ) → Fits net run → Whole (check_sizes net run).dt (link_at (routes_of net) s)
 link_whole_at net run s h =
     let d = (check_sizes net run).dt in
-    let own = every_left (Whole d) (links_of net) (times_of run.steps) (every_left (Whole d) (links_of net ++ times_of run.steps) _ h.stands.times.1.1) in
+    let own = every_left (Whole d) (links_of net) (times_of run.steps) (every_left (Whole d) (links_of net ++ times_of run.steps) (numbers_of_curves (last_time run) (curves_of net)).times h.stands.times.1.1) in
     any_made (Whole d) link_for net.servers s (int (pos 0)) (whole_int d (pos 0))
     (λ x i. each_in (Whole d) (links_of net) own x.link (in_map (λ (y : NetServer). y.link) net.servers x i))
 

@@ -17,6 +17,7 @@ use Rattle.net_model.specs.Networks.{Net}
 use Rattle.net_model.specs.NetRoutes.{routes_of}
 use Rattle.net_model.specs.Accepted.{IsAccepted}
 use Rattle.stated_runs.specs.TimeGrids.{HasRoom, IsTime}
+use Rattle.sim_bounds.specs.Gauge.{numbers_of_curves, curves_of}
 use Rattle.run_check.specs.Walks.{StepFits}
 use Rattle.check_gauge.specs.Runs.{total_bits, works_of, last_time, IsFromZero}
 use Rattle.check_gauge.specs.Gauge.{check_sizes, farthest}
@@ -83,7 +84,7 @@ pub recorded_numbers : RecordedRunsHaveNumbers
 recorded_numbers net run ok low small =
     let h = fits net run small in
     let z = check_sizes net run in
-    let all = steps_fit net run run.steps ok h (step_times_of net run h low) h.bits (every_left (IsValue z) (works_of run.steps) _ h.stands.values) in
+    let all = steps_fit net run run.steps ok h (step_times_of net run h low) h.bits (every_left (IsValue z) (works_of run.steps) (numbers_of_curves (last_time run) (curves_of net)).values h.stands.values) in
     record {
       grid = z.dv;
       most = int (pos z.largest);

@@ -4,3 +4,4 @@ pub mod KnownEnds
 pub mod Products
 pub mod Loops
 pub mod CurvesBelow
+pub mod NetCurves
