@@ -26,7 +26,7 @@ use Rattle.sim_bounds.specs.Gauge.{numbers_of_curves, curves_of}
 use Rattle.sim_bounds.proofs.Spans.{latest_nonneg}
 use Rattle.window_numbers.proofs.NetCurves.{CurvesHeld, held_apart}
 use Rattle.check_gauge.specs.Runs.{step_times, times_of, step_end, last_time, IsFromZero, work_pace, paces_of}
-use Rattle.check_gauge.specs.Gauge.{links_of, largest_link, farthest, check_numbers, check_sizes, check_gauge}
+use Rattle.check_gauge.specs.Gauge.{links_of, named_numbers, largest_link, farthest, check_numbers, check_sizes, check_gauge}
 use Rattle.check_gauge.specs.Paces.{PaceFits, PacesFit, WorkFits}
 use Rattle.check_gauge.proofs.Held.{Fits, fits, link_whole, last_nonneg, last_by, last_sizes}
 
@@ -128,7 +128,7 @@ held_there net run h =
     let end = last_time run in
     let curves = numbers_of_curves end (curves_of net) in
     let gauge = h.gauge in
-    held_apart z net end record { sizes = last_sizes net run h; gauge = omega (arith, gauge); stands = stands_right z _ curves h.stands }
+    held_apart z net end record { sizes = last_sizes net run h; gauge = omega (arith, gauge); stands = stands_right z (named_numbers net run) curves h.stands }
 
 pub curves_held : (net : Net) (run : SpecRun) (end : ℚ) → end ≡ last_time run → Fits net run → CurvesHeld net end
 curves_held net run end is h = subst (CurvesHeld net) (sym is) (held_there net run h)

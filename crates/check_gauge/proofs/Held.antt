@@ -1,5 +1,5 @@
 -- Below a gauge of 2 ^ 120 the numbers of a check are held by its sizes, and its times have room.
-use Rattle.std.proofs.Common.{◌≡◌, ℕ, ◌<◌, ◌≤◌, ◌*◌, ◌^◌, List, [], ◌∷◌, ◌++◌, map, sym, ap, ◌∙◌, subst, arith}
+use Rattle.std.proofs.Common.{◌≡◌, ℕ, ◌<◌, ◌≤◌, ◌*◌, ◌-◌, ◌^◌, List, [], ◌∷◌, ◌++◌, map, sym, ap, ◌∙◌, subst, arith}
 use Rattle.std.specs.Prelude.{pos}
 use Rattle.std.specs.List.{AllByRecursion}
 use native.Mathlib.Nat.{le-mul_of_pos_right}
@@ -98,7 +98,7 @@ far_most net run sizes =
     let z = check_sizes net run in
     let far = farthest net run in
     let some : int (pos 0) ≤ℚ far = le_trans (last_nonneg run) (last_by net run) in
-    let steep : int (pos 1) ≤ℚ int (pos z.steepness) = nat_le sizes.steepness in
+    let steep : int (pos 1) ≤ℚ int (pos z.steepness) = nat_le 1 z.steepness sizes.steepness in
     let first = mul_le_mul_right far some steep in
     le_trans (subst (λ x. x ≤ℚ int (pos z.steepness) *ℚ far) (one_mul far) first) sizes.reach
 

@@ -18,16 +18,17 @@ links_of net = map (λ (s : NetServer). s.link) net.servers
 abbrev pub largest_link : Net → ℚ
 largest_link net = latest_of (λ (s : NetServer). s.link) net.servers
 
--- what counts: the times of the run and the links; the bits of works; the rates, and the paces of works; and of all
--- curves the pieces that start at the last time or before
+-- the times of the run and the links; the bits of works; the rates, and the paces of works
+abbrev pub named_numbers : Net → SpecRun → Numbers
+named_numbers net run = record {
+  times = last_time run ∷ run.end ∷ links_of net ++ times_of run.steps;
+  values = works_of run.steps;
+  slopes = rates_of net ++ paces_of run.steps;
+}
+
+-- what counts: these, and of all curves the pieces that start at the last time or before
 abbrev pub check_numbers : Net → SpecRun → Numbers
-check_numbers net run = joined
-    record {
-      times = last_time run ∷ run.end ∷ links_of net ++ times_of run.steps;
-      values = works_of run.steps;
-      slopes = rates_of net ++ paces_of run.steps;
-    }
-    (numbers_of_curves (last_time run) (curves_of net))
+check_numbers net run = joined (named_numbers net run) (numbers_of_curves (last_time run) (curves_of net))
 
 -- the latest time that a check may meet: where a packet leaves at the last time, it is on a link that long
 abbrev pub farthest : Net → SpecRun → ℚ

@@ -50,12 +50,13 @@ fn with_work(g: Gathered, start: Frac, end: Frac, bits: Frac) -> Option<Gathered
     ensures fits { (start <ℚ end → WorkFits start end bits) → IsSome result }
 {
     let named = g.with_time(start).with_time(end).with_value(bits);
-    if !is_less(start, end) {
-        return Some(named);
-    }
-    match pace(start, end, bits) {
-        Some(pace) => Some(named.with_slope(pace)),
-        None => None,
+    if is_less(start, end) {
+        match pace(start, end, bits) {
+            Some(pace) => Some(named.with_slope(pace)),
+            None => None,
+        }
+    } else {
+        Some(named)
     }
 }
 

@@ -57,7 +57,7 @@ steps_fit : (net : Net) (run : SpecRun) (xs : List Step) → IsAccepted net → 
 steps_fit net run [] ok h t n v = tt
 steps_fit net run (Enter f p at b ∷ xs) ok h t n v =
     let z = check_sizes net run in (
-      record { on_grid = whole_int z.dv (pos b); from_zero = nat_nonneg b; by = nat_le (let l : b ≤ z.largest = omega (arith, n) in l) },
+      record { on_grid = whole_int z.dv (pos b); from_zero = nat_nonneg b; by = nat_le b z.largest (omega (arith, n)) },
       steps_fit net run xs ok h (rest_times z.dt (last_time run) (Enter f p at b) xs t) (omega (arith, n)) v,
     )
 steps_fit net run (Reach s p at ∷ xs) ok h t n v =

@@ -32,7 +32,7 @@ use Rattle.broken_laws.specs.Recorded.{PassOnce}
 use Rattle.run_check.proofs.Started.{has_paths}
 use Rattle.simulated_sizes.proofs.Numbers.{service_stands, arrival_stands}
 use Rattle.check_gauge.specs.Runs.{step_end, last_time, work_pace, paces_of, IsFromZero}
-use Rattle.check_gauge.specs.Gauge.{check_sizes}
+use Rattle.check_gauge.specs.Gauge.{named_numbers, check_sizes}
 use Rattle.check_gauge.proofs.Held.{Fits, fits, last_by}
 use Rattle.check_gauge.proofs.Fitting.{StepTimes, rest_times, step_times_of, all_paces}
 use Rattle.recorded_sizes.specs.Laws.{LawfulRunsHaveSizes}
@@ -122,7 +122,7 @@ lawful_stand net run ok curves low few lawful small =
     let h = fits net run small in
     let z = check_sizes net run in
     let last = last_time run in
-    let stands : Stands z (numbers_of_curves last (curves_of net)) = stands_right z _ (numbers_of_curves last (curves_of net)) h.stands in
+    let stands : Stands z (numbers_of_curves last (curves_of net)) = stands_right z (named_numbers net run) (numbers_of_curves last (curves_of net)) h.stands in
     record {
       limited = limited net run h low;
       steps = steps_stand net run (run_start (routes_of net)) run.steps lawful.allowed (step_times_of net run h low) (all_paces net run h);

@@ -1,6 +1,7 @@
 use Rattle.std.proofs.Common.{◌≡◌, ◌-◌, drop, length, sym, ap, ◌∙◌, arith, ◌≤◌}
 use Rattle.std.proofs.lemmas.List.{drop_all}
 use Rattle.rational.specs.MinMax.{max_q}
+use Rattle.net_model.specs.declared.server.Server.{Server}
 use Rattle.net_model.specs.Networks.{NetServer}
 use Rattle.net_model.specs.Views.{servers_of}
 use Rattle.sim_bounds.specs.Horizons.{latest_of}
@@ -17,5 +18,5 @@ pub loop-i-preserved : goal.loop-i-preserved
 loop-i-preserved c =
     let xs = c.args.servers.now in
     let x = c.index-servers-i.result in
-    c.greater-longest.ensures ∙ ap (max_q x.link) c.loop-i.invariant
+    c.greater-longest.ensures ∙ ap (λ (t : Server). max_q t.link c.loop-i.longest) (sym c.index-servers-i.is) ∙ ap (max_q x.link) c.loop-i.invariant
     ∙ ap (λ ys. latest_of (λ (s : NetServer). s.link) (servers_of ys)) (sym (one_before xs c.loop-i.i x c.loop-i-test.true c.loop-i.auto.i c.index-servers-i.is))

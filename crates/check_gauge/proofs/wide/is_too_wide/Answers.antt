@@ -8,6 +8,7 @@ use Rattle.rational.specs.Ratio.{SumFits}
 use Rattle.rational.proofs.Gauges.{kept_one}
 use Rattle.upp_limits.specs.Limits.{joined, time_alone, value_alone, sizes_of}
 use Rattle.upp_limits.specs.Gathered.{Gathers}
+use Rattle.run_laws.specs.Runs.{SpecRun}
 use Rattle.window_numbers.specs.Rated.{gauge_with}
 use Rattle.check_gauge.specs.Runs.{last_time, total_bits}
 use Rattle.check_gauge.specs.Gauge.{largest_link, farthest, check_numbers, check_gauge}
@@ -37,8 +38,9 @@ returns-in-Some-numbers_to c =
     let run = c.args.run.now in
     let numbers = check_numbers net run in
     let value = value_alone (int (pos (total_bits run.steps))) in
+    let steps : c.deref.result.now ≡ run.steps = c.deref.ensures.value ∙ ap (λ (r : SpecRun). r.steps) c.run.view_is in
     let own : to_z w128 c.total_bits.result ≡ pos c.total_bits.result = omega (arith, ints) in
-    let bits : c.from_whole-bits.result ≡ int (pos (total_bits run.steps)) = c.from_whole-bits.ensures ∙ ap int own ∙ ap (λ n. int (pos n)) c.total_bits.ensures in
+    let bits : c.from_whole-bits.result ≡ int (pos (total_bits run.steps)) = c.from_whole-bits.ensures ∙ ap int own ∙ ap (λ n. int (pos n)) (c.total_bits.ensures ∙ ap total_bits steps) in
     let t = c.in-Some.far in
     let far : t ≡ farthest net run =
     subst (λ o. IfSome o (λ x. x ≡ c.last_time-end.result +ℚ c.largest_link.result)) c.in-Some.is c.plus.ensures.value
