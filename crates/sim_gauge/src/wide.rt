@@ -1,6 +1,6 @@
 //! Whether the simulation gauge is too large.
 
-ghost use Rattle.std.specs.Prelude.{ℕ, ◌≡◌, ◌↔◌, ◌<◌, ◌≤◌, ◌^◌, IfOk, IfSome, IsSome, IsTrue, length, map, nat_abs, pos, sum_by};
+ghost use Rattle.std.specs.Prelude.{ℕ, ◌≡◌, ◌↔◌, ◌<◌, ◌≤◌, ◌^◌, IfSome, IsSome, IsTrue, length, map, nat_abs, pos, sum_by};
 ghost use Rattle.std.specs.List.{AllByRecursion};
 ghost use Rattle.rational.specs.Rational.{int, ◌<ℚ◌};
 ghost use Rattle.rational.specs.Gauge.{Kept};
@@ -18,7 +18,6 @@ use crate::horizons::horizon;
 use crate::named::{with_packets, with_servers, with_stalls};
 use fraction128::Frac;
 use net_model::{Network, Server, Trace, TracePacket};
-use std::alloc::{AllocError, Global};
 use upp_limits::gathered::{Gathered, common_multiple};
 use window_numbers::{is_over, with_arrivals, with_services};
 
@@ -69,20 +68,20 @@ fn bits_of(packets: &[TracePacket]) -> u64
 }
 
 /// Whether the simulation gauge of a network and a trace is 2^120 or more, for a trace whose numbers are those of live
-/// flows and of servers of the network, in which no walk comes back. It fails only where memory is refused, whatever
-/// the numbers, and looks at the packets and the stalls once for each server, and at the packets once more for each gate.
-pub fn is_too_wide(alloc: Global, net: &Network, trace: &Trace) -> Result<bool, AllocError>
+/// flows and of servers of the network, in which no walk comes back. It never fails, whatever the numbers, and takes no
+/// memory. It looks at the packets and the stalls once for each server, and at the packets once more for each gate.
+pub fn is_too_wide(net: &Network, trace: &Trace) -> bool
     requires named { IsTraceOf net.now trace.now }
     requires free { IsFeedForward net.now }
-    ensures { IfOk result (λ wide. IsTrue wide ↔ (2 ^ 120 ≤ simulation_gauge net.now trace.now)) }
+    ensures { IsTrue result ↔ (2 ^ 120 ≤ simulation_gauge net.now trace.now) }
 {
     let bits = Frac::from_whole(bits_of(trace.packets()) as i128);
     let rates = numerators(net.servers());
-    match horizon(alloc, net, trace)? {
-        None => Ok(true),
+    match horizon(net, trace) {
+        None => true,
         Some(end) => match numbers_to(net, trace, end) {
-            None => Ok(true),
-            Some(numbers) => Ok(is_over(numbers.with_value(bits), rates, end)),
+            None => true,
+            Some(numbers) => is_over(numbers.with_value(bits), rates, end),
         },
     }
 }
