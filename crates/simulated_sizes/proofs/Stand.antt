@@ -30,7 +30,7 @@ use Rattle.sim_bounds.proofs.Fits.{IsReach, sizes_some, reach_of, run_fits}
 use Rattle.first_breaches.proofs.Views.{view_stands, spans_stand}
 use Rattle.simulated_sizes.specs.Laws.{SimulatedRunsHaveSizes}
 use Rattle.simulated_sizes.proofs.Worked.{bits_most}
-use Rattle.simulated_sizes.proofs.Entries.{empty_view, entries_before, entries_few}
+use Rattle.simulated_sizes.proofs.Entries.{empty_view, entries_few}
 use Rattle.simulated_sizes.proofs.Numbers.{curves_stand, service_stands, arrival_stands}
 use Rattle.simulated_sizes.proofs.Steps.{steps_stand, end_time}
 
@@ -70,7 +70,7 @@ simulated_stand net trace run ok curves fine named free small is =
     let zero : grids.IsTime D E (int (pos 0)) = record { on_grid = whole_int D (pos 0); from_zero = le_refl (int (pos 0)); by = reach.from_zero } in
     let end : grids.IsTime D E run.end = subst (grids.IsTime D E) (sym is.ends) (end_time S D E (int (pos 0)) [] run.steps F tt is.follows zero) in
     let A = limited_to net trace run.end ok small reach end in
-    let steps = steps_stand net trace run.end [] run.steps F tt is.follows lawful.allowed (entries_before (routes_of net) run lawful left.servers) in
+    let steps = steps_stand net trace run.end [] run.steps F tt is.follows lawful.allowed in
     let many : length (routes_of net).servers ≡ length net.servers = length-map net.servers server_for in (
       lawful,
       record {
