@@ -6,7 +6,6 @@ use Rattle.std.proofs.lemmas.Bool.{cases_Bool}
 use Rattle.std.proofs.lemmas.List.{get_or_read}
 use Rattle.rational.specs.Rational.{ℚ, int, ◌-ℚ◌, ◌≤ℚ◌, neg_ℚ}
 use Rattle.rational.specs.Ratio.{SumFits}
-use Rattle.rational.specs.Grid.{Whole}
 use Rattle.rational.proofs.Laws.{le_refl}
 use Rattle.rational.proofs.Grid.{whole_int}
 use Rattle.rational.proofs.Linear.{with1, with_atoms}
@@ -119,7 +118,7 @@ pub operand_apart : (z : Sizes) (end r : ℚ) (flow : ℕ) (c : SpecCurve) (xs :
 operand_apart z end r flow c xs es A C S h order e far = subst (λ t. IsOperandTo t c) (sym far) (
     let T = to_apart z end c es (of_flow z end flow xs es A h order e) C S in
     record { sizes = z; limited = T.limited; stands = T.stands }
-)
+    )
 
 pub flow_reads : (z : Sizes) (end : ℚ) (flow : ℕ) (c : SpecCurve) (xs : List Step) (es : List Entering) (ps : List Piece) → AreLimited z end → IsCurve c → Stands z (curve_numbers end c)
     → AllByRecursion (StepStands z end) xs → EnterInOrder (entries flow xs) → es ≡ entries flow xs → ps ≡ pieces_through c (apart es) → FlowReads ps es

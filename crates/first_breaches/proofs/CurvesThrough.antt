@@ -43,7 +43,6 @@ use Rattle.upp_normal.proofs.Below.{unroll_reads}
 use Rattle.upp_normal.proofs.NormaliseRoomy.{each_in}
 use Rattle.upp_normal.proofs.UnrolledPieces.{IsGiven, PieceStands, all_read, each_given, each_nonneg, each_of_spans, each_span_out, each_with, no_later, operand_line, operand_pieces, pieces_stand, unroll_none}
 use Rattle.upp_normal.proofs.UnrolledValues.{read_before, read_past_list}
-use Rattle.watch_laws.specs.MarkSizes.{IsTime}
 use Rattle.run_watch.proofs.HeldSizes.{times_differ}
 use Rattle.run_watch.proofs.HeldTimes.{end_time}
 use Rattle.first_breaches.specs.Reaches.{flat_piece, pieces_through}
@@ -94,15 +93,32 @@ stored_fits r c C O = go c.pieces C.normal.raw.starts (stored_each (PieceStands 
 
 -- ---- the value at a time
 -- before a first period ends, by the pieces as they are kept
-early_value : (ps : List Piece) (tail : Tail) (r : ℚ) → IsNormal record { pieces = ps; tail = tail } → ((rank period rise : ℚ) → Periodic rank period rise ≡ tail → r <ℚ rank +ℚ period)
-    → read ps r ≡ value_at record { pieces = ps; tail = tail } r
+late_value : (ps : List Piece) (tail : Tail) (rank d c r : ℚ) → Periodic rank d c ≡ tail → IsNormal record { pieces = ps; tail = tail } → int (pos 0) <ℚ d → r <ℚ rank +ℚ d → read ps r ≡ value_at record { pieces = ps; tail = tail } r
 unfolding value_at
-early_value ps (Periodic rank d c) r n h = sym (repeated_first (read ps) rank d c r n.raw.tail.some (h rank d c refl))
-early_value ps (Affine rank) r n h = refl
-early_value ps (Infinite rank) r n h = sym (infinite_value ps rank r n.raw.tail.starts n.tail)
+late_value ps tail rank d c r e n some h =
+    let Rule : Tail → Type 0 = λ k. read ps r ≡ value_at record { pieces = ps; tail = k } r in
+    subst Rule e (sym (repeated_first (read ps) rank d c r some h))
 
-pub stored_value : (r : ℚ) (c : SpecCurve) → IsCurve c → ((rank period rise : ℚ) → Periodic rank period rise ≡ c.tail → r <ℚ rank +ℚ period) → read c.pieces r ≡ value_at c r
-stored_value r c C h = early_value c.pieces c.tail r C.normal h
+not_repeated : (rank period r : ℚ) → ((rank ≤ℚ r) × (period ≤ℚ r -ℚ rank) → ⊥) → int (pos 0) <ℚ period → r <ℚ rank +ℚ period
+not_repeated rank period r h some = elim (le_or_lt (rank +ℚ period) r) [
+  | inr l ↦ l
+  | inl l ↦ absurd (h (with3 rank period r (λ c. omega (arith, c.le, c.lt, c.same)), with3 rank period r (λ c. omega (arith, c.le, c.lt, c.same))))
+]
+
+pub early_value : (r rank period rise : ℚ) (c : SpecCurve) → IsCurve c → Periodic rank period rise ≡ c.tail → ((rank ≤ℚ r) × (period ≤ℚ r -ℚ rank) → ⊥) → read c.pieces r ≡ value_at c r
+early_value r rank period rise c C e h =
+    let some = subst HasPeriod (sym e) (curve_period c C) in
+    late_value c.pieces c.tail rank period rise r e C.normal some (not_repeated rank period r h some)
+
+-- where none does, by these too
+plain_by : (ps : List Piece) (tail : Tail) (r : ℚ) → IsNormal record { pieces = ps; tail = tail } → ((rank period rise : ℚ) → tail ≡ Periodic rank period rise → ⊥) → read ps r ≡ value_at record { pieces = ps; tail = tail } r
+unfolding value_at
+plain_by ps (Periodic rank d c) r n h = absurd (h rank d c refl)
+plain_by ps (Affine rank) r n h = refl
+plain_by ps (Infinite rank) r n h = sym (infinite_value ps rank r n.raw.tail.starts n.tail)
+
+pub plain_value : (r : ℚ) (c : SpecCurve) → IsCurve c → ((rank period rise : ℚ) → c.tail ≡ Periodic rank period rise → ⊥) → read c.pieces r ≡ value_at c r
+plain_value r c C h = plain_by c.pieces c.tail r C.normal h
 
 -- from the rank on, a period later it is risen once
 later_value : (ps : List Piece) (tail : Tail) (rank d c t : ℚ) → Periodic rank d c ≡ tail → IsNormal record { pieces = ps; tail = tail } → rank ≤ℚ t → int (pos 0) <ℚ d
@@ -199,7 +215,7 @@ earlier r rank period rise c ps C O f e h k = subst (λ (qs : List Piece). IsEar
       room = rise_fits z r rise (read (unroll c r) t) A (read_grid z r t (unroll c r) A U.starts U.each whole low (le_of_lt before)) R.rise_is;
       is = ap (λ (v : Ext). v +ₑ Fin rise) value ∙ sym next ∙ ap (value_at c) same;
     }
-)
+    )
 
 -- ---- the pieces through a time
 at_end : (c : SpecCurve) (r d : ℚ) → d ≤ℚ r → r ≤ℚ d → value_at c r ≡ value_at c d
@@ -225,9 +241,10 @@ some_reads z r d c (p ∷ us) A s h f w low high =
 none_reads : (r d : ℚ) (c : SpecCurve) → r ≤ℚ int (pos 0) → int (pos 0) ≤ℚ d → d ≤ℚ r → ReadsAt c (flat_piece r (value_at c r) ∷ []) d
 none_reads r d c none low high =
     let last : Piece = flat_piece r (value_at c r) in
+    let own : r <ℚ d → LineFitsAt d last.line = λ l. absurd (lt_irrefl d (le_lt_trans high l)) in
     record {
       starts = (antisym (none, le_trans low high), tt);
-      fits = read_fits d (last ∷ []) (λ l. absurd (lt_irrefl d (le_lt_trans high l)), tt);
+      fits = read_fits d (last ∷ []) (own, tt);
       is = read_one last d ∙ value_by last d high ∙ at_end c r d high (le_trans none low);
     }
 

@@ -29,7 +29,11 @@ fn is_repeated(rank: Frac, period: Frac, r: Frac) -> bool
     if is_less(r, rank) {
         return false;
     }
-    !is_less(difference(r, rank), period)
+    let since = difference(r, rank);
+    if is_less(since, period) {
+        return false;
+    }
+    true
 }
 
 /// What is read of some pieces at t, higher by a rise.
@@ -46,6 +50,15 @@ fn risen(pieces: &[Piece], t: Frac, rise: Frac) -> Ext
     }
 }
 
+/// What is read of the pieces of a curve as they are kept.
+fn value_kept(c: &Curve, r: Frac) -> Ext
+    requires curve { IsCurve c.now }
+    requires operand { IsOperandTo r c.now }
+    ensures { result ≡ read c.now.pieces r }
+{
+    read(c.pieces(), r)
+}
+
 /// The value of a curve at r: that of a period earlier, risen once, where a first period has ended by then. `before` are the
 /// pieces that start before r.
 fn value_through(c: &Curve, before: &[Piece], r: Frac) -> Ext
@@ -54,12 +67,15 @@ fn value_through(c: &Curve, before: &[Piece], r: Frac) -> Ext
     requires before { before.now ≡ unroll c.now r }
     ensures { result ≡ value_at c.now r }
 {
-    if let Tail::Periodic { rank, period, rise } = *c.tail() {
-        if is_repeated(rank, period, r) {
-            return risen(before, difference(r, period), rise);
+    match *c.tail() {
+        Tail::Periodic { rank, period, rise } => {
+            if is_repeated(rank, period, r) {
+                return risen(before, difference(r, period), rise);
+            }
+            value_kept(c, r)
         }
+        _ => value_kept(c, r),
     }
-    read(c.pieces(), r)
 }
 
 /// A piece with a value from x on.
