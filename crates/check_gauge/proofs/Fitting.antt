@@ -1,16 +1,14 @@
 -- Below a gauge of 2 ^ 120 each step to the numbers of a check fits.
-use Rattle.std.proofs.Common.{◌≡◌, ℕ, ◌<◌, ◌^◌, List, [], ◌∷◌, ◌++◌, map, sym, ap, ◌∙◌, subst, arith}
+use Rattle.std.proofs.Common.{◌≡◌, ℕ, List, [], ◌∷◌, ◌++◌, map, sym, subst, arith}
 use Rattle.std.specs.Prelude.{pos}
 use Rattle.std.specs.List.{AllByRecursion}
-use Rattle.rational.specs.Rational.{ℚ, int, ◌≤ℚ◌, ◌<ℚ◌}
+use Rattle.rational.specs.Rational.{ℚ, int, ◌≤ℚ◌}
 use Rattle.rational.specs.Grid.{Whole}
-use Rattle.rational.specs.MinMax.{max_q}
 use Rattle.rational.specs.Ratio.{SumFits}
-use Rattle.rational.proofs.Laws.{le_refl, le_trans}
+use Rattle.rational.proofs.Laws.{le_trans}
 use Rattle.rational.proofs.Linear.{with2}
 use Rattle.rational.proofs.MinMax.{max_q_ge_left, max_q_ge_right}
 use Rattle.rational.proofs.Over.{lt_q_out}
-use Rattle.upp_limits.specs.Limits.{Numbers, joined}
 use Rattle.upp_limits.specs.Sized.{IsSlope}
 use Rattle.upp_limits.proofs.Every.{every_left, every_right}
 use Rattle.upp_limits.proofs.NarrowSizes.{narrow_limit, small_slope}
@@ -19,16 +17,16 @@ use Rattle.run_laws.specs.declared.steps.Step.{Step}
 use Rattle.run_laws.specs.declared.steps.Step.TheVariants.{Enter, Reach, Work, Leave, Visit}
 use Rattle.run_laws.specs.Runs.{SpecRun}
 use Rattle.net_model.specs.Networks.{Net, NetServer}
-use Rattle.stated_runs.specs.TimeGrids.{HasRoom, IsTime}
+use Rattle.stated_runs.specs.TimeGrids.{IsTime}
 use Rattle.stated_runs.proofs.GridTimes.{sum_fits, difference_fits}
 use Rattle.sim_bounds.specs.Horizons.{latest_of}
 use Rattle.sim_bounds.specs.Gauge.{numbers_of_curves, curves_of}
 use Rattle.sim_bounds.proofs.Spans.{latest_nonneg}
 use Rattle.window_numbers.proofs.NetCurves.{CurvesHeld, held_apart}
 use Rattle.check_gauge.specs.Runs.{step_times, times_of, step_end, last_time, IsFromZero, work_pace, paces_of}
-use Rattle.check_gauge.specs.Gauge.{links_of, named_numbers, largest_link, farthest, check_numbers, check_sizes, check_gauge}
-use Rattle.check_gauge.specs.Paces.{PaceFits, PacesFit, WorkFits}
-use Rattle.check_gauge.proofs.Held.{Fits, fits, link_whole, last_nonneg, last_by, last_sizes}
+use Rattle.check_gauge.specs.Gauge.{links_of, named_numbers, largest_link, farthest, check_sizes}
+use Rattle.check_gauge.specs.Paces.{PacesFit}
+use Rattle.check_gauge.proofs.Held.{Fits, link_whole, last_nonneg, last_by, last_sizes}
 
 -- ---- the times of steps
 -- they are multiples of 1 / d, from 0 up to e

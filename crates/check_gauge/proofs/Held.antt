@@ -1,13 +1,13 @@
 -- Below a gauge of 2 ^ 120 the numbers of a check are held by its sizes, and its times have room.
-use Rattle.std.proofs.Common.{◌≡◌, ℕ, ◌<◌, ◌≤◌, ◌*◌, ◌-◌, ◌^◌, List, [], ◌∷◌, ◌++◌, map, sym, ap, ◌∙◌, subst, arith}
+use Rattle.std.proofs.Common.{◌≡◌, ℕ, ◌<◌, ◌≤◌, ◌*◌, ◌-◌, ◌^◌, List, [], ◌∷◌, ◌++◌, map, ap, ◌∙◌, subst, arith}
 use Rattle.std.specs.Prelude.{pos}
 use Rattle.std.specs.List.{AllByRecursion}
 use native.Mathlib.Nat.{le-mul_of_pos_right}
-use Rattle.rational.specs.Rational.{ℚ, int, ◌+ℚ◌, ◌*ℚ◌, ◌≤ℚ◌}
+use Rattle.rational.specs.Rational.{int, ◌*ℚ◌, ◌≤ℚ◌}
 use Rattle.rational.specs.Gauge.{common_den}
 use Rattle.rational.specs.Grid.{Whole}
 use Rattle.rational.proofs.Laws.{le_trans, mul_le_mul, mul_le_mul_right, one_mul}
-use Rattle.rational.proofs.Linear.{with2, with3}
+use Rattle.rational.proofs.Linear.{with2}
 use Rattle.rational.proofs.Integers.{nat_nonneg, nat_le, nat_le_out}
 use Rattle.rational.proofs.Grid.{whole_int, whole_add, max_whole}
 use Rattle.rational.proofs.MinMax.{max_q_ge_right}

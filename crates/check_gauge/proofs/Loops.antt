@@ -5,7 +5,6 @@ use Rattle.std.specs.Prelude.{true, false}
 use Rattle.rational.specs.Rational.{ℚ, ◌-ℚ◌, ◌/ℚ◌, lt_q}
 use Rattle.upp_limits.specs.Limits.{Numbers, joined, time_alone, value_alone, slope_alone}
 use Rattle.upp_limits.proofs.JoinedNumbers.{joined_assoc, joined_three}
-use Rattle.run_laws.specs.declared.steps.Step.{Step}
 use Rattle.net_model.specs.declared.server.Server.{Server}
 use Rattle.net_model.specs.Networks.{NetServer}
 use Rattle.net_model.specs.Views.{server_of, servers_of}

@@ -1,6 +1,6 @@
--- The gauge of a recorded run of a network: where it is below 2 ^ 120, no number of a check of the run is too wide. (Own
--- choice.)
-use Rattle.std.specs.Prelude.{ℕ, max, pos, List, [], ◌∷◌, ◌++◌, map}
+-- The gauge of a recorded run of a network: where it is below 2 ^ 120, no number of a check of the run is too wide.
+-- (Own choice.)
+use Rattle.std.specs.Prelude.{ℕ, max, pos, List, ◌∷◌, ◌++◌, map}
 use Rattle.rational.specs.Rational.{ℚ, int, ◌+ℚ◌, ◌*ℚ◌}
 use Rattle.rational.specs.Gauge.{common_den, bound_of}
 use Rattle.min_plus.specs.WholeUp.{whole_up}

@@ -26,4 +26,8 @@ abbrev pub step_numbers : Step → Numbers
 step_numbers x = record { times = step_times x; values = step_works x; slopes = step_paces x }
 
 abbrev pub steps_numbers : List Step → Numbers
-steps_numbers xs = record { times = flat_map step_times xs; values = flat_map step_works xs; slopes = flat_map step_paces xs }
+steps_numbers xs = record {
+  times = flat_map step_times xs;
+  values = flat_map step_works xs;
+  slopes = flat_map step_paces xs;
+}

@@ -46,7 +46,8 @@ fn pace(start: Frac, end: Frac, bits: Frac) -> Option<Frac>
 
 /// The times and the bits of a work more, and its pace where it takes time.
 fn with_work(g: Gathered, start: Frac, end: Frac, bits: Frac) -> Option<Gathered>
-    ensures value { IfSome result (λ r. (n : Numbers) → Gathers g n → Gathers r (joined n (work_numbers start end bits))) }
+    ensures value { IfSome result (λ r. (n : Numbers) → Gathers g n
+        → Gathers r (joined n (work_numbers start end bits))) }
     ensures fits { (start <ℚ end → WorkFits start end bits) → IsSome result }
 {
     let named = g.with_time(start).with_time(end).with_value(bits);
@@ -69,7 +70,10 @@ fn with_step(g: Gathered, step: &Step) -> Option<Gathered>
         Step::Enter { time, .. } => Some(g.with_time(*time)),
         Step::Reach { time, .. } => Some(g.with_time(*time)),
         Step::Work {
-            start, end, bits, ..
+            start,
+            end,
+            bits,
+            ..
         } => with_work(g, *start, *end, *bits),
         Step::Leave { time, .. } => Some(g.with_time(*time)),
         Step::Visit { time, .. } => Some(g.with_time(*time)),

@@ -30,8 +30,8 @@ fn numbers_to(net: &Network, run: &Run, end: Frac) -> Option<Gathered>
 
 /// Whether the gauge of a recorded run of a network is 2^120 or more, for a run whose times are from 0 on and which has
 /// fewer than 2^32 steps; it need not be lawful. It takes no memory, and no step of it overflows, whatever the numbers
-/// are. It looks at each step three times, and at each piece of a curve twice, however many copies of it start before the
-/// last time.
+/// are. It looks at each step three times, and at each piece of a curve twice, however many copies of it start
+/// before the last time.
 pub fn is_too_wide(net: &Network, run: &Run) -> bool
     requires from_zero { IsFromZero run.now }
     requires few { length run.now.steps < 2 ^ 32 }

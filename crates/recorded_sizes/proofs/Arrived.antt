@@ -1,9 +1,9 @@
 -- No more bits arrive at a server than those of all packets, since each packet arrives there once.
-use Rattle.std.specs.Prelude.{◌≡◌, ◌≢◌, ℕ, ◌+◌, ◌<◌, ◌≤◌, ◌==◌, List, [], ◌∷◌, ◌++◌, length, set, sum_by, None}
-use Rattle.std.proofs.Common.{arith, refl, sym, subst, ap, ◌∙◌, inl, inr}
+use Rattle.std.specs.Prelude.{◌≡◌, ◌≢◌, ℕ, ◌+◌, ◌≤◌, ◌==◌, List, [], ◌∷◌, ◌++◌, length, set, sum_by}
+use Rattle.std.proofs.Common.{arith, refl, ap, inl, inr}
 use Rattle.std.proofs.lemmas.Bool.{cases_Bool, cases_lt}
 use Rattle.std.proofs.lemmas.List.{get_or_past, get_or-set_other}
-use Rattle.std.proofs.lemmas.List.Sums.{sum_by-append, sum_by-set}
+use Rattle.std.proofs.lemmas.List.Sums.{sum_by-append, sum_by-cons, sum_by-set}
 use Rattle.run_laws.specs.declared.steps.Step.{Step}
 use Rattle.run_laws.specs.declared.steps.Step.TheVariants.{Enter, Reach, Work, Leave, Visit}
 use Rattle.run_laws.specs.Runs.{SpecRun}
@@ -13,7 +13,7 @@ use Rattle.run_laws.specs.Routes.{Routes}
 use Rattle.run_laws.specs.Views.{Entry, entry_of, entered_after, server_of, seen, view_from, view}
 use Rattle.run_laws.proofs.Entries.{entry_before}
 use Rattle.first_breaches.specs.Sizes.{bits_in}
-use Rattle.check_gauge.specs.Runs.{total_bits}
+use Rattle.check_gauge.specs.Runs.{entering_bits, total_bits}
 
 abbrev bits_of : Entry → ℕ
 bits_of e = e.bits
@@ -47,9 +47,11 @@ all_bits : (es : List Entry) (xs : List Step) → sum_by bits_of (entered_all es
 all_bits es [] = omega arith
 all_bits es (Enter f p t b ∷ xs) =
     let e : Entry = record { flow = f; bits = b } in
+    let more : total_bits (Enter f p t b ∷ xs) ≡ b + total_bits xs = sum_by-cons entering_bits (Enter f p t b) xs in
+    let last : sum_by bits_of (e ∷ []) ≡ 0 + b = refl in
     let rest = all_bits (es ++ e ∷ []) xs in
     let one = sum_by-append bits_of es (e ∷ []) in
-    omega (arith, rest, one)
+    omega (arith, rest, one, more, last)
 all_bits es (Reach s p t ∷ xs) = let rest = all_bits es xs in omega (arith, rest)
 all_bits es (Work s p a b w ∷ xs) = let rest = all_bits es xs in omega (arith, rest)
 all_bits es (Leave s p t ∷ xs) = let rest = all_bits es xs in omega (arith, rest)

@@ -2,8 +2,6 @@
 use Rattle.std.specs.Prelude.{ℕ, ◌==◌, ◌&&◌, List, [], ◌∷◌}
 use Rattle.std.proofs.Common.{inl, inr}
 use Rattle.std.proofs.lemmas.Bool.{cases_Bool}
-use Rattle.rational.specs.Rational.{ℚ}
-use Rattle.rational.proofs.Laws.{le_trans}
 use Rattle.rational.proofs.MinMax.{max_q_ge_left}
 use Rattle.run_laws.specs.declared.steps.Step.{Step}
 use Rattle.run_laws.specs.declared.steps.Step.TheVariants.{Enter, Reach, Work, Leave, Visit}
@@ -17,7 +15,7 @@ use Rattle.stated_runs.specs.TimeGrids.{IsTime}
 use Rattle.stated_runs.proofs.GridTimes.{difference_fits}
 use Rattle.sim_bounds.specs.Horizons.{latest_of}
 use Rattle.run_measures.specs.Worst.{DelaysFit}
-use Rattle.check_gauge.specs.Runs.{step_end, last_time, IsFromZero}
+use Rattle.check_gauge.specs.Runs.{step_end, last_time}
 use Rattle.check_gauge.specs.Gauge.{check_sizes, farthest}
 use Rattle.check_gauge.proofs.Held.{Fits, fits, last_by}
 use Rattle.check_gauge.proofs.Fitting.{StepTimes, rest_times, end_by, step_times_of}
@@ -39,7 +37,7 @@ delivered net run s p (Leave r q at ∷ xs) ok h end t =
     let e = last_time run in
     elim (cases_Bool ((r == s) && (q == p))) [
       | inl is ↦ rw is (leaves net run s at ok h record { on_grid = t.whole.0; from_zero = t.from_zero.0; by = end_by d e (Leave r q at) xs t }).there
-      | inr no ↦ rw no (delivered net run s p xs ok h end (rest_times d e (Leave r q at) xs t))
+      | inr other ↦ rw other (delivered net run s p xs ok h end (rest_times d e (Leave r q at) xs t))
     ]
 delivered net run s p (Visit r q at ∷ xs) ok h end t =
     delivered net run s p xs ok h end (rest_times (check_sizes net run).dt (last_time run) (Visit r q at) xs t)

@@ -1,7 +1,7 @@
 -- The links of a network: each is a time of a check, and a packet that leaves by the last time has passed its link by the
 -- farthest.
-use Rattle.std.specs.Prelude.{◌≡◌, ℕ, pos, List, [], ◌∷◌, ◌++◌}
-use Rattle.std.proofs.Common.{arith, subst}
+use Rattle.std.specs.Prelude.{ℕ, pos, List, [], ◌∷◌, ◌++◌}
+use Rattle.std.proofs.Common.{arith, subst, inl, inr}
 use Rattle.rational.specs.Rational.{ℚ, int, ◌+ℚ◌, ◌≤ℚ◌}
 use Rattle.rational.specs.Grid.{Whole}
 use Rattle.rational.specs.Ratio.{SumFits}

@@ -1,14 +1,15 @@
 -- A run whose gauge is below 2 ^ 120 can be walked, whatever laws it breaks.
 use Rattle.std.specs.Prelude.{Some, ◌≡◌, ℕ, zero, suc, ◌+◌, ◌*◌, ◌-◌, ◌≤◌, ◌<◌, ◌^◌, pos, List, [], ◌∷◌, slice_get}
 use Rattle.std.specs.List.{AllByRecursion}
-use Rattle.std.proofs.Common.{arith, sym, subst}
+use Rattle.std.proofs.Common.{arith, subst}
+use Rattle.std.proofs.lemmas.List.Sums.{sum_by-cons}
 use native.Mathlib.Nat.{le-mul_of_pos_right}
-use Rattle.rational.specs.Rational.{ℚ, int, ◌<ℚ◌}
+use Rattle.rational.specs.Rational.{ℚ, int}
 use Rattle.rational.proofs.Grid.{whole_int}
 use Rattle.rational.proofs.Integers.{nat_nonneg, nat_le}
 use Rattle.rational.proofs.Laws.{le_of_lt}
 use Rattle.upp_limits.specs.Sized.{IsValue, grid_of}
-use Rattle.upp_limits.proofs.Every.{every_left, every_right}
+use Rattle.upp_limits.proofs.Every.{every_left}
 use Rattle.upp_limits.proofs.NarrowSizes.{narrow_limit, scaled_fits}
 use Rattle.run_laws.specs.declared.steps.Step.{Step}
 use Rattle.run_laws.specs.declared.steps.Step.TheVariants.{Enter, Reach, Work, Leave, Visit}
@@ -19,7 +20,7 @@ use Rattle.net_model.specs.Accepted.{IsAccepted}
 use Rattle.stated_runs.specs.TimeGrids.{HasRoom, IsTime}
 use Rattle.sim_bounds.specs.Gauge.{numbers_of_curves, curves_of}
 use Rattle.run_check.specs.Walks.{StepFits}
-use Rattle.check_gauge.specs.Runs.{total_bits, works_of, last_time, IsFromZero}
+use Rattle.check_gauge.specs.Runs.{entering_bits, total_bits, works_of, last_time}
 use Rattle.check_gauge.specs.Gauge.{check_sizes, farthest}
 use Rattle.check_gauge.proofs.Held.{Fits, fits}
 use Rattle.check_gauge.proofs.Fitting.{StepTimes, rest_times, end_by, step_times_of}
@@ -56,9 +57,10 @@ steps_fit : (net : Net) (run : SpecRun) (xs : List Step) → IsAccepted net → 
     → AllByRecursion (StepFits (routes_of net) (check_sizes net run).dv (int (pos (check_sizes net run).largest))) xs
 steps_fit net run [] ok h t n v = tt
 steps_fit net run (Enter f p at b ∷ xs) ok h t n v =
-    let z = check_sizes net run in (
-      record { on_grid = whole_int z.dv (pos b); from_zero = nat_nonneg b; by = nat_le b z.largest (omega (arith, n)) },
-      steps_fit net run xs ok h (rest_times z.dt (last_time run) (Enter f p at b) xs t) (omega (arith, n)) v,
+    let z = check_sizes net run in
+    let more : total_bits (Enter f p at b ∷ xs) ≡ b + total_bits xs = sum_by-cons entering_bits (Enter f p at b) xs in (
+      record { on_grid = whole_int z.dv (pos b); from_zero = nat_nonneg b; by = nat_le b z.largest (omega (arith, n, more)) },
+      steps_fit net run xs ok h (rest_times z.dt (last_time run) (Enter f p at b) xs t) (omega (arith, n, more)) v,
     )
 steps_fit net run (Reach s p at ∷ xs) ok h t n v =
     (tt, steps_fit net run xs ok h (rest_times (check_sizes net run).dt (last_time run) (Reach s p at) xs t) n v)

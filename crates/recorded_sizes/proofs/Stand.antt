@@ -1,9 +1,9 @@
 -- A lawful run whose gauge is below 2 ^ 120 stands by that gauge's sizes.
-use Rattle.std.specs.Prelude.{◌≡◌, ℕ, ◌+◌, ◌<◌, ◌≤◌, ◌^◌, ◌==◌, true, pos, List, [], ◌∷◌, ◌++◌, length, map}
+use Rattle.std.specs.Prelude.{ℕ, ◌≤◌, ◌==◌, pos, List, [], ◌∷◌, length}
 use Rattle.std.specs.List.{AllByRecursion}
 use Rattle.std.proofs.Common.{arith, inl, inr}
 use Rattle.std.proofs.lemmas.Bool.{cases_Bool}
-use Rattle.rational.specs.Rational.{ℚ, int, ◌*ℚ◌, ◌≤ℚ◌}
+use Rattle.rational.specs.Rational.{int, ◌≤ℚ◌}
 use Rattle.rational.proofs.Integers.{nat_nonneg}
 use Rattle.rational.proofs.Laws.{le_trans, mul_le_mul}
 use Rattle.rational.proofs.MinMax.{max_q_ge_left}
@@ -16,11 +16,11 @@ use Rattle.run_laws.specs.declared.steps.Step.{Step}
 use Rattle.run_laws.specs.declared.steps.Step.TheVariants.{Enter, Reach, Work, Leave, Visit}
 use Rattle.run_laws.specs.Runs.{SpecRun}
 use Rattle.run_laws.specs.Routes.{Hop, Routes, link_at, route_of}
-use Rattle.run_laws.specs.Lawful.{RunState, next_run, run_start, AllAllowedInRun, IsLawful}
+use Rattle.run_laws.specs.Lawful.{RunState, next_run, run_start, AllAllowedInRun}
 use Rattle.net_laws.specs.Paths as paths
 use Rattle.net_laws.specs.Once.{IsOverPaths}
 use Rattle.net_laws.proofs.Once.{none_arrives_twice}
-use Rattle.net_model.specs.Networks.{Net, NetServer}
+use Rattle.net_model.specs.Networks.{Net}
 use Rattle.net_model.specs.NetRoutes.{routes_of}
 use Rattle.net_model.specs.Accepted.{IsAccepted}
 use Rattle.stated_runs.specs.Setups.{AreHopsOf}

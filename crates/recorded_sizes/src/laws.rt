@@ -8,8 +8,8 @@ pub fn recorded_runs_have_numbers()
     ensures { RecordedRunsHaveNumbers }
 {}
 
-/// The numbers of a lawful run whose gauge is below 2^120 stand by that gauge's sizes: what is asked of a run whose first
-/// breach is looked for.
+/// The numbers of a lawful run whose gauge is below 2^120 stand by that gauge's sizes: what is asked of a run whose
+/// first breach is looked for.
 pub fn lawful_runs_have_sizes()
     ensures { LawfulRunsHaveSizes }
 {}

@@ -1,5 +1,6 @@
-//! Gauges of recorded runs that were worked out by hand: of one packet of 1 bit at one server of rate 1 without a link, whose
-//! service curve has the slope 1, and of a flow that sends 1 bit in all. The slopes are 0 and 1, and the values 0 and 1.
+//! Gauges of recorded runs that were worked out by hand: of one packet of 1 bit at one server of rate 1 without a
+//! link, whose service curve has the slope 1, and of a flow that sends 1 bit in all. The slopes are 0 and 1, and the
+//! values 0 and 1.
 
 use check_gauge::is_too_wide;
 use fraction128::{Frac, is_less};
@@ -54,8 +55,8 @@ fn a_work_of_one_bit_is_too_fast_from_2_to_the_56_on(rt: HostRuntime) -> Result<
     Ok(())
 }
 
-// 1 / 2^k bits in a unit of time: values and slopes have the denominator 2^k, the steepness and the largest number are 2.
-// The gauge is 64 * 2 * 2 * 2^k * 2^k * 2^k.
+// 1 / 2^k bits in a unit of time: values and slopes have the denominator 2^k, the steepness and the largest number
+// are 2. The gauge is 64 * 2 * 2 * 2^k * 2^k * 2^k.
 #[test]
 fn parts_of_bits_are_too_small_from_2_to_the_38_on(rt: HostRuntime) -> Result<(), Fail> {
     let (zero, one) = (Frac::zero(), Frac::from(1u64));

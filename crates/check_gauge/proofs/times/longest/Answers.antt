@@ -1,4 +1,4 @@
-use Rattle.std.proofs.Common.{◌≡◌, ◌-◌, drop, length, sym, ap, ◌∙◌, arith, ◌≤◌}
+use Rattle.std.proofs.Common.{length, sym, ap, ◌∙◌, arith, ◌≤◌}
 use Rattle.std.proofs.lemmas.List.{drop_all}
 use Rattle.rational.specs.MinMax.{max_q}
 use Rattle.net_model.specs.declared.server.Server.{Server}

@@ -3,7 +3,7 @@ use mir.Syntax.{w128}
 use Rattle.std.proofs.lemmas.Int.{ints}
 use Rattle.std.proofs.lemmas.Bool.{cases_lt}
 use Rattle.std.specs.Prelude.{IsTrue, IsSome, IfSome, pos, ◌↔◌}
-use Rattle.rational.specs.Rational.{ℚ, int, ◌+ℚ◌}
+use Rattle.rational.specs.Rational.{int, ◌+ℚ◌}
 use Rattle.rational.specs.Ratio.{SumFits}
 use Rattle.rational.proofs.Gauges.{kept_one}
 use Rattle.upp_limits.specs.Limits.{joined, time_alone, value_alone, sizes_of}
@@ -11,7 +11,7 @@ use Rattle.upp_limits.specs.Gathered.{Gathers}
 use Rattle.run_laws.specs.Runs.{SpecRun}
 use Rattle.window_numbers.specs.Rated.{gauge_with}
 use Rattle.check_gauge.specs.Runs.{last_time, total_bits}
-use Rattle.check_gauge.specs.Gauge.{largest_link, farthest, check_numbers, check_gauge}
+use Rattle.check_gauge.specs.Gauge.{farthest, check_numbers, check_gauge}
 use Rattle.check_gauge.proofs.Held.{all_numbers, gauge_is, fits}
 use Rattle.check_gauge.proofs.Fitting.{far_fits}
 use Rattle.check_gauge.proofs.Assembled.{time_first}
