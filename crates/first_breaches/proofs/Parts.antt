@@ -32,7 +32,7 @@ use Rattle.watch_laws.proofs.Entered.{in_order}
 use Rattle.watch_laws.proofs.Premises.{breaches_tell, watch_points_suffice}
 use Rattle.run_watch.specs.declared.found.Found.{Found}
 use Rattle.run_watch.specs.FirstOf.{IsBest, IsLongOn, IsCrowdOn, IsIdleOn}
-use Rattle.first_breaches.specs.Reaches.{reach, pieces_below}
+use Rattle.first_breaches.specs.Reaches.{apart, pieces_through}
 use Rattle.first_breaches.specs.Sizes.{RunStands}
 use Rattle.first_breaches.specs.Firsts.{TellsFirst, kind_of, IsOne, IsOfKinds, HaveServices}
 use Rattle.first_breaches.specs.Kept.{KeepsCurve}
@@ -88,9 +88,9 @@ size_one net run flow f o e h = best_same (IsLongOn run flow f.packet) (IsOne ne
     back (Service s a b) k = let a = k.kind_is in absurd (omega arith)
 
 -- ---- arrivals
-pub arrival_one : (net : Net) (run : SpecRun) (flow : ℕ) (f : NetFlow) (r : ℚ) (ps : List Piece) (o : Option Found) → (IsLawful (routes_of net) run) → (z : Sizes) × RunStands z net run → IsCurve f.arrival
-    → Some f ≡ flow_at net flow → (0 < length (entries flow run.steps) → r ≡ reach (entries flow run.steps) run.end) → ps ≡ pieces_below f.arrival r → IsBest (IsCrowdOn run flow (read ps)) run o → IsBest (IsOne net run 1 flow) run o
-arrival_one net run flow f r ps o L R C e far below h = best_same (IsCrowdOn run flow (read ps)) (IsOne net run 1 flow) run o into back h
+pub arrival_one : (net : Net) (run : SpecRun) (flow : ℕ) (f : NetFlow) (ps : List Piece) (o : Option Found) → (IsLawful (routes_of net) run) → (z : Sizes) × RunStands z net run → IsCurve f.arrival
+    → Some f ≡ flow_at net flow → ps ≡ pieces_through f.arrival (apart (entries flow run.steps)) → IsBest (IsCrowdOn run flow (read ps)) run o → IsBest (IsOne net run 1 flow) run o
+arrival_one net run flow f ps o L R C e through h = best_same (IsCrowdOn run flow (read ps)) (IsOne net run 1 flow) run o into back h
   where
     curve : f.arrival ≡ arrival net flow
     curve = ap arrival_of e
@@ -100,7 +100,7 @@ arrival_one net run flow f r ps o L R C e far below h = best_same (IsCrowdOn run
 
     both : (i j : ℕ) → (IsCrowded (read ps) (entries flow run.steps) i j → IsCrowded (value_at f.arrival) (entries flow run.steps) i j)
         × (IsCrowded (value_at f.arrival) (entries flow run.steps) i j → IsCrowded (read ps) (entries flow run.steps) i j)
-    both i j = crowded_read R.0 run.end r flow f.arrival run.steps ps i j R.1.limited C stands R.1.steps (in_order (routes_of net) run flow L) far below
+    both i j = crowded_read R.0 run.end flow f.arrival run.steps ps i j R.1.limited C stands R.1.steps (in_order (routes_of net) run flow L) through
 
     into : (y : Breach) → IsCrowdOn run flow (read ps) y → IsOne net run 1 flow y
     into (Size g p) k = absurd k

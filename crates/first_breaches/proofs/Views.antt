@@ -59,7 +59,7 @@ CardStands z end (Leaves c t) = IsTime z end t
 CardStands z end (Visits q t) = Unit {0}
 
 seen_stands : (z : Sizes) (end : ℚ) (net : Routes) (entered : List Entry) (x : Step) → StepStands z end x → CardStands z end (seen net entered x)
-seen_stands z end net entered (Enter f p t b) h = h.time
+seen_stands z end net entered (Enter f p t b) h = h
 seen_stands z end net entered (Reach s p t) h = h
 seen_stands z end net entered (Work s p a b w) h = h
 seen_stands z end net entered (Leave s p t) h = h

@@ -1,8 +1,8 @@
 -- Where the numbers of a run stand: by the sizes of a gauge below 2 ^ 120 whose window ends with the run. The gauge of a
--- simulation gives such sizes. Own choice.
+-- simulation, or of the check of a recorded run, gives such sizes. Own choice.
 use Rattle.std.specs.Prelude.{ℕ, ◌+◌, ◌<◌, ◌≤◌, ◌^◌, IsTrue, List, [], ◌∷◌, length}
 use Rattle.std.specs.List.{AllByRecursion}
-use Rattle.rational.specs.Rational.{ℚ, ◌-ℚ◌, ◌/ℚ◌, ◌<ℚ◌}
+use Rattle.rational.specs.Rational.{ℚ, ◌-ℚ◌, ◌/ℚ◌}
 use Rattle.upp_limits.specs.Limits.{Sizes, curve_numbers}
 use Rattle.upp_limits.specs.Sized.{IsSlope, Stands}
 use Rattle.upp_normal.specs.Operand.{AreLimited}
@@ -17,11 +17,6 @@ use Rattle.net_cells.specs.Numbered.{is_live, arrival, service}
 use Rattle.watch_laws.specs.Entries.{entries}
 use Rattle.watch_laws.specs.MarkSizes.{IsTime}
 
--- a packet enters before the run's end, at a time of the run
-pub record IsEntryTime (z : Sizes) (end t : ℚ) : Type 0 where
-  pub time : IsTime z end t
-  pub before : t <ℚ end
-
 -- work starts and ends at times of the run, and its pace counts as a slope
 pub record IsWorkTime (z : Sizes) (end a b w : ℚ) : Type 0 where
   pub start : IsTime z end a
@@ -29,7 +24,7 @@ pub record IsWorkTime (z : Sizes) (end a b w : ℚ) : Type 0 where
   pub pace : IsSlope z (w /ℚ (b -ℚ a))
 
 abbrev pub StepStands : Sizes → ℚ → Step → Type 0
-StepStands z end (Enter f p t b) = IsEntryTime z end t
+StepStands z end (Enter f p t b) = IsTime z end t
 StepStands z end (Reach s p t) = IsTime z end t
 StepStands z end (Work s p a b w) = IsWorkTime z end a b w
 StepStands z end (Leave s p t) = IsTime z end t

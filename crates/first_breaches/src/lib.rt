@@ -7,5 +7,6 @@ mod counts;
 mod first;
 mod services;
 mod sizes;
+mod through;
 
 pub use first::first_breach;

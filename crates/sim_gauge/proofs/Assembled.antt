@@ -4,7 +4,7 @@ use Rattle.std.specs.Prelude.{pos}
 use Rattle.std.specs.List.{flat_map}
 use Rattle.rational.specs.Rational.{ℚ, int}
 use Rattle.upp_limits.specs.declared.gathered.Gathered.{Gathered}
-use Rattle.upp_limits.specs.Limits.{Numbers, Sizes, joined, time_alone, value_alone, sizes_of}
+use Rattle.upp_limits.specs.Limits.{Numbers, joined, time_alone, value_alone, sizes_of}
 use Rattle.upp_limits.specs.Gathered.{Gathers}
 use Rattle.upp_limits.specs.Sized.{HeldBy}
 use Rattle.upp_limits.proofs.Operands.{held_left, held_right}
@@ -16,15 +16,12 @@ use Rattle.stated_runs.specs.FromTraces.{setup_of}
 use Rattle.sim_bounds.specs.Horizons.{horizon}
 use Rattle.sim_bounds.specs.Gauge.{server_times, stall_times, trace_times, rates_of, common_num, numbers_of_curves, arrivals_of, curves_of, simulation_numbers, total_bits, simulation_gauge}
 use Rattle.sim_gauge.specs.Named.{packet_numbers, stall_numbers, server_numbers}
-use Rattle.sim_gauge.proofs.Products.{finer, gauge_is, held_all}
+use Rattle.window_numbers.proofs.Products.{finer, held_all}
+use Rattle.sim_gauge.proofs.Products.{gauge_is}
 use Rattle.sim_gauge.proofs.Rates.{common_some}
-use Rattle.sim_gauge.proofs.SameGathered.{curves_split, gathers_equal, in_order}
-
-abbrev services : Net → ℚ → Numbers
-services net end = numbers_of_curves end (map (λ (s : NetServer). s.service) net.servers)
-
-abbrev arrivals : Net → ℚ → Numbers
-arrivals net end = numbers_of_curves end (arrivals_of net.flows)
+use Rattle.window_numbers.proofs.NetCurves.{services, arrivals, CurvesHeld, held_apart}
+use Rattle.window_numbers.proofs.SameGathered.{curves_split, gathers_equal}
+use Rattle.sim_gauge.proofs.SameGathered.{in_order}
 
 -- ---- in the order of the code, or of the definition
 pub all_gathered : (g : Gathered) (net : Net) (trace : SpecTrace) (end : ℚ) → end ≡ horizon (setup_of net trace)
@@ -40,11 +37,6 @@ all_gathered g net trace end is h =
     subst (λ e. Gathers g (joined (time_alone end) (joined own (numbers_of_curves e (curves_of net))))) is two
 
 -- ---- below the limit the numbers of the curves are held
-pub record CurvesHeld (net : Net) (end : ℚ) : Type 0 where
-  pub sizes : Sizes
-  pub services : HeldBy sizes end (numbers_of_curves end (map (λ (s : NetServer). s.service) net.servers))
-  pub arrivals : HeldBy sizes end (numbers_of_curves end (arrivals_of net.flows))
-
 held_there : (net : Net) (trace : SpecTrace) → IsAccepted net → simulation_gauge net trace < 2 ^ 120 → CurvesHeld net (horizon (setup_of net trace))
 held_there net trace ok small =
     let end = horizon (setup_of net trace) in
@@ -56,12 +48,7 @@ held_there net trace ok small =
     let is = gauge_is net trace in
     let held : HeldBy z end (numbers_of_curves end (curves_of net)) =
     held_right z end own (numbers_of_curves end (curves_of net)) (held_left z end (simulation_numbers net trace) bits (held_all end all (omega (arith, most, is, small)))) in
-    let parts = subst (HeldBy z end) (sym (curves_split end (map (λ (s : NetServer). s.service) net.servers) (arrivals_of net.flows))) held in
-    record {
-      sizes = z;
-      services = held_left z end (services net end) (arrivals net end) parts;
-      arrivals = held_right z end (services net end) (arrivals net end) parts;
-    }
+    held_apart z net end held
 
 pub curves_held : (net : Net) (trace : SpecTrace) (end : ℚ) → IsAccepted net → end ≡ horizon (setup_of net trace) → simulation_gauge net trace < 2 ^ 120 → CurvesHeld net end
 curves_held net trace end ok is small = subst (CurvesHeld net) (sym is) (held_there net trace ok small)

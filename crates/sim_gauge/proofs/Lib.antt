@@ -4,8 +4,6 @@ pub mod Rooms
 pub mod Parts
 pub mod FlowsOf
 pub mod SameGathered
-pub mod EndSpans
-pub mod KnownEnds
 pub mod Products
 pub mod Loops
 pub mod Rates

@@ -1,5 +1,3 @@
 pub mod Flows
 pub mod Steps
 pub mod Named
-pub mod CurveEnds
-pub mod Rated

@@ -1,6 +1,6 @@
 //! The horizon: no time of a simulation is past it.
 
-ghost use Rattle.std.specs.Prelude.{◌≡◌, ◌<◌, ℕ, pos, IfOk, IfSome, IsSome, length};
+ghost use Rattle.std.specs.Prelude.{◌≡◌, ◌<◌, ℕ, pos, IfSome, IsSome, length};
 ghost use Rattle.std.specs.List.{AllByRecursion};
 ghost use Rattle.rational.specs.Rational.{ℚ, int, ◌+ℚ◌, ◌*ℚ◌, ◌≤ℚ◌};
 ghost use Rattle.rational.specs.Ratio.{SumFits};
@@ -11,11 +11,11 @@ ghost use Rattle.sim_bounds.specs.Way.{open_time, gated, plain_span, HorizonFits
 
 use crate::loads::load;
 use crate::spans::{gate_product, no_product, plain_time, stalled, work_time};
-use crate::steps::plus;
+use arrayvec::ArrayVec;
 use fraction128::{Frac, greater};
 use net_model::{Network, ServiceKind, Trace};
-use std::alloc::{AllocError, Global};
-use wide_sums::{Product, sum_of_products};
+use wide_sums::{MOST_PRODUCTS, Product, sum_of_products};
+use window_numbers::plus;
 
 /// The latest of the times at which packets enter and stalls end, and 0 where there is none.
 fn first_time(net: &Network, trace: &Trace) -> Frac
@@ -119,47 +119,31 @@ fn gated(net: &Network, trace: &Trace, server: u32) -> Option<Product>
 }
 
 /// How long each server works as a gate.
-fn all_gated(
-    alloc: Global,
-    net: &Network,
-    trace: &Trace,
-) -> Result<Option<Vec<Product>>, AllocError>
-    ensures value { IfOk result (λ found. IfSome found (λ ps.
-        sum_of_products ps.items ≡ sum_below (gated (setup_of net.now trace.now)) (length net.now.servers))) }
-    ensures from_zero { IfOk result (λ found. IfSome found (λ ps. AllByRecursion IsFromZero ps.items)) }
-    ensures fits { (d : ℕ) (e : ℚ) → HorizonFits (setup_of net.now trace.now) d e
-        → IfOk result (λ found. IsSome found) }
+fn all_gated(net: &Network, trace: &Trace) -> Option<ArrayVec<Product, MOST_PRODUCTS>>
+    ensures value { IfSome result (λ ps.
+        sum_of_products ps.items ≡ sum_below (gated (setup_of net.now trace.now)) (length net.now.servers)) }
+    ensures from_zero { IfSome result (λ ps. AllByRecursion IsFromZero ps.items) }
+    ensures fits { (d : ℕ) (e : ℚ) → HorizonFits (setup_of net.now trace.now) d e → IsSome result }
 {
-    let mut products = Vec::new(alloc);
+    let mut products = ArrayVec::new();
     for server in 0..net.servers().len() {
         match gated(net, trace, server as u32) {
-            Some(product) => products.push(product)?,
-            None => return Ok(None),
+            Some(product) => products.push(product),
+            None => return None,
         }
     }
-    Ok(Some(products))
+    Some(products)
 }
 
 /// The horizon. None only where a number on the way, with the work of all gates in one exact sum, does not fit, which
-/// shows that the simulation gauge is 2^120 or more. It fails only where memory is refused.
-pub(crate) fn horizon(
-    alloc: Global,
-    net: &Network,
-    trace: &Trace,
-) -> Result<Option<Frac>, AllocError>
+/// shows that the simulation gauge is 2^120 or more.
+pub(crate) fn horizon(net: &Network, trace: &Trace) -> Option<Frac>
     requires { IsTraceOf net.now trace.now }
-    ensures value { IfOk result (λ found. IfSome found (λ t. t ≡ horizon (setup_of net.now trace.now))) }
-    ensures fits { (d : ℕ) (e : ℚ) → HorizonFits (setup_of net.now trace.now) d e
-        → IfOk result (λ found. IsSome found) }
+    ensures value { IfSome result (λ t. t ≡ horizon (setup_of net.now trace.now)) }
+    ensures fits { (d : ℕ) (e : ℚ) → HorizonFits (setup_of net.now trace.now) d e → IsSome result }
 {
-    match plain_horizon(net, trace) {
-        Some(plain) => match all_gated(alloc, net, trace)? {
-            Some(products) => match sum_of_products(alloc, &products)? {
-                Some(gated) => Ok(plus(plain, gated)),
-                None => Ok(None),
-            },
-            None => Ok(None),
-        },
-        None => Ok(None),
-    }
+    let plain = plain_horizon(net, trace)?;
+    let products = all_gated(net, trace)?;
+    let gated = sum_of_products(&products)?;
+    plus(plain, gated)
 }

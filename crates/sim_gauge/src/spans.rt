@@ -10,10 +10,10 @@ ghost use Rattle.sim_bounds.specs.Horizons.{stalled_for};
 ghost use Rattle.sim_bounds.specs.Way.{plain_time};
 ghost use Rattle.sim_gauge.specs.Steps.{StallsFit};
 
-use crate::steps::{minus, over, plus};
 use fraction128::Frac;
 use net_model::{ServiceKind, Stall};
 use wide_sums::Product;
+use window_numbers::{minus, over, plus};
 
 /// How long a server works on so many bits while it is open.
 pub(crate) fn work_time(rate: Frac, bits: u64) -> Option<Frac>

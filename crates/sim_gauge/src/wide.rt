@@ -1,10 +1,10 @@
 //! Whether the simulation gauge is too large.
 
-ghost use Rattle.std.specs.Prelude.{ℕ, ◌≡◌, ◌↔◌, ◌<◌, ◌≤◌, ◌^◌, IfOk, IfSome, IsSome, IsTrue, length, map, nat_abs, pos, sum_by};
+ghost use Rattle.std.specs.Prelude.{ℕ, ◌≡◌, ◌↔◌, ◌<◌, ◌≤◌, ◌^◌, IfSome, IsSome, IsTrue, length, map, nat_abs, pos, sum_by};
 ghost use Rattle.std.specs.List.{AllByRecursion};
 ghost use Rattle.rational.specs.Rational.{int, ◌<ℚ◌};
 ghost use Rattle.rational.specs.Gauge.{Kept};
-ghost use Rattle.upp_limits.specs.Limits.{Numbers, joined, time_alone, sizes_of};
+ghost use Rattle.upp_limits.specs.Limits.{joined, time_alone};
 ghost use Rattle.upp_limits.specs.Gathered.{Gathers};
 ghost use Rattle.net_model.specs.declared.trace.TracePacket.{TracePacket};
 ghost use Rattle.net_model.specs.Networks.{NetServer};
@@ -13,16 +13,13 @@ ghost use Rattle.net_model.specs.Walks.{IsFeedForward};
 ghost use Rattle.stated_runs.specs.FromTraces.{setup_of, IsTraceOf};
 ghost use Rattle.sim_bounds.specs.Horizons.{horizon};
 ghost use Rattle.sim_bounds.specs.Gauge.{common_num, simulation_numbers, simulation_gauge};
-ghost use Rattle.sim_gauge.specs.Rated.{gauge_with};
 
-use crate::curves::{with_arrivals, with_services};
 use crate::horizons::horizon;
 use crate::named::{with_packets, with_servers, with_stalls};
 use fraction128::Frac;
 use net_model::{Network, Server, Trace, TracePacket};
-use std::alloc::{AllocError, Global};
 use upp_limits::gathered::{Gathered, common_multiple};
-use upp_limits::gauges::{product, reach};
+use window_numbers::{is_over, with_arrivals, with_services};
 
 /// All numbers of a simulation. None only where the simulation gauge is 2^120 or more.
 fn numbers_to(net: &Network, trace: &Trace, end: Frac) -> Option<Gathered>
@@ -70,41 +67,21 @@ fn bits_of(packets: &[TracePacket]) -> u64
     bits
 }
 
-/// Whether the gauge of the numbers gathered, on a grid of times made finer by `rates`, is 2^120 or more.
-fn is_over(g: Gathered, rates: u128, end: Frac) -> bool
-    ensures { (n : Numbers) (r : ℕ) → Gathers g (joined (time_alone end) n) → Kept rates r
-        → IsTrue result ↔ (2 ^ 120 ≤ gauge_with r (sizes_of end n)) }
-{
-    if g.steepness == u128::MAX {
-        return true;
-    }
-    match reach(g.steepness, end) {
-        None => true,
-        Some(far) => {
-            let grid = g.dt.saturating_mul(rates);
-            match product(g.largest.max(far), g.steepness, g.dv, grid, g.ds) {
-                None => true,
-                Some(gauge) => gauge >= 1 << 120,
-            }
-        }
-    }
-}
-
 /// Whether the simulation gauge of a network and a trace is 2^120 or more, for a trace whose numbers are those of live
-/// flows and of servers of the network, in which no walk comes back. It fails only where memory is refused, whatever
-/// the numbers, and looks at the packets and the stalls once for each server, and at the packets once more for each gate.
-pub fn is_too_wide(alloc: Global, net: &Network, trace: &Trace) -> Result<bool, AllocError>
+/// flows and of servers of the network, in which no walk comes back. It never fails, whatever the numbers, and takes no
+/// memory. It looks at the packets and the stalls once for each server, and at the packets once more for each gate.
+pub fn is_too_wide(net: &Network, trace: &Trace) -> bool
     requires named { IsTraceOf net.now trace.now }
     requires free { IsFeedForward net.now }
-    ensures { IfOk result (λ wide. IsTrue wide ↔ (2 ^ 120 ≤ simulation_gauge net.now trace.now)) }
+    ensures { IsTrue result ↔ (2 ^ 120 ≤ simulation_gauge net.now trace.now) }
 {
     let bits = Frac::from_whole(bits_of(trace.packets()) as i128);
     let rates = numerators(net.servers());
-    match horizon(alloc, net, trace)? {
-        None => Ok(true),
+    match horizon(net, trace) {
+        None => true,
         Some(end) => match numbers_to(net, trace, end) {
-            None => Ok(true),
-            Some(numbers) => Ok(is_over(numbers.with_value(bits), rates, end)),
+            None => true,
+            Some(numbers) => is_over(numbers.with_value(bits), rates, end),
         },
     }
 }

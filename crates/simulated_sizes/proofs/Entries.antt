@@ -16,7 +16,6 @@ use Rattle.run_laws.specs.Lawful.{RunState, state_at, next_run, after_run, run_s
 use Rattle.run_laws.proofs.Views.{views_are_lawful}
 use Rattle.watch_laws.specs.Entries.{entries}
 use Rattle.stated_runs.proofs.Good.{own_state, other_state}
-use Rattle.simulated_sizes.proofs.Worked.{ArriveBefore, arrive_before}
 
 -- ---- the state of a server after a run is the one after what it sees
 states_seen : (net : Routes) (end : ℚ) (r : RunState) (xs : List Step) (s : ℕ) → AllAllowedInRun net end r xs → length r.servers ≡ length net.servers
@@ -45,52 +44,6 @@ empty_view net run s L h empty =
     let first : state_at (run_start net) s ≡ start d = get_or-map (λ (x : Server). start x.discipline) net.servers s record { discipline = Fifo; pace = None } (start Fifo) h in
     let all = states_seen net run.end (run_start net) run.steps s L.allowed n ∙ ap (λ (σ : ServerState). after d σ (view net run s)) first in
     subst (λ (σ : ServerState). σ.inside ≡ []) all empty
-
--- ---- entries
-abbrev pub EnterBefore : ℚ → List Step → Type 0
-EnterBefore end [] = Unit {0}
-EnterBefore end (Enter f p t b ∷ xs) = (t <ℚ end) × EnterBefore end xs
-EnterBefore end (Reach s p t ∷ xs) = EnterBefore end xs
-EnterBefore end (Work s p a b w ∷ xs) = EnterBefore end xs
-EnterBefore end (Leave s p t ∷ xs) = EnterBefore end xs
-EnterBefore end (Visit s q t ∷ xs) = EnterBefore end xs
-
-rest_before : (end : ℚ) (x : ServerStep) (V : List ServerStep) → ArriveBefore end (x ∷ V) → ArriveBefore end V
-rest_before end (Arrives c t) V h = h.1
-rest_before end (Works c a b w) V h = h
-rest_before end (Leaves c t) V h = h
-rest_before end (Visits q t) V h = h
-
-enter_before : (net : Routes) (end lawful : ℚ) (r : RunState) (xs : List Step) → AllAllowedInRun net lawful r xs → ((s : ℕ) → s < length net.servers → ArriveBefore end (view_from net s r.entered xs))
-    → EnterBefore end xs
-enter_before net end lawful r [] a h = tt
-enter_before net end lawful r (x ∷ xs) a h =
-    let rest = enter_before net end lawful (next_run net r x) xs a.1 (λ s l. tail s (h s l)) in
-    go x refl rest
-  where
-    tail : (s : ℕ) → ArriveBefore end (view_from net s r.entered (x ∷ xs)) → ArriveBefore end (view_from net s (entered_after r.entered x) xs)
-    tail s k = elim (cases_Bool (server_of net x == s)) [
-      | inl e ↦ rest_before end (seen net r.entered x) (view_from net s (entered_after r.entered x) xs) (rw e at k)
-      | inr e ↦ rw e at k
-    ]
-
-    go : (y : Step) → x ≡ y → EnterBefore end xs → EnterBefore end (y ∷ xs)
-    go (Enter f p t b) e rest =
-        let s = first_server (route_of net f).hops in
-        let known : s < length net.servers = subst (λ (y : Step). server_of net y < length net.servers) e a.0.known_server in
-        let here : ArriveBefore end (view_from net s r.entered (Enter f p t b ∷ xs)) = subst (λ (y : Step). ArriveBefore end (view_from net s r.entered (y ∷ xs))) e (h s known) in
-        let own : s == s ≡ true = eq-eqb s s refl in
-        let first = rw own at here in
-        (first.0, rest)
-    go (Reach s p t) e rest = rest
-    go (Work s p t u w) e rest = rest
-    go (Leave s p t) e rest = rest
-    go (Visit s q t) e rest = rest
-
-pub entries_before : (net : Routes) (run : SpecRun) → IsLawful net run → ((s : ℕ) → s < length net.servers → (state_at (after_run net (run_start net) run.steps) s).inside ≡ []) → EnterBefore run.end run.steps
-entries_before net run L empty =
-    enter_before net run.end run.end (run_start net) run.steps L.allowed
-    (λ s h. arrive_before (server_at net s) run.end (view net run s) (views_are_lawful net run s L h) (empty_view net run s L h (empty s h)))
 
 -- ---- how many they are
 pub entries_few : (net : Routes) (flow : ℕ) (r : RunState) (xs : List Step) → length (entries flow xs) + length r.entered ≤ length (after_run net r xs).entered

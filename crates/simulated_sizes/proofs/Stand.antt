@@ -30,8 +30,8 @@ use Rattle.sim_bounds.proofs.Fits.{IsReach, sizes_some, reach_of, run_fits}
 use Rattle.first_breaches.proofs.Views.{view_stands, spans_stand}
 use Rattle.simulated_sizes.specs.Laws.{SimulatedRunsHaveSizes}
 use Rattle.simulated_sizes.proofs.Worked.{bits_most}
-use Rattle.simulated_sizes.proofs.Entries.{empty_view, entries_before, entries_few}
-use Rattle.simulated_sizes.proofs.Numbers.{service_stands, arrival_stands}
+use Rattle.simulated_sizes.proofs.Entries.{empty_view, entries_few}
+use Rattle.simulated_sizes.proofs.Numbers.{curves_stand, service_stands, arrival_stands}
 use Rattle.simulated_sizes.proofs.Steps.{steps_stand, end_time}
 
 limited_to : (net : Net) (trace : SpecTrace) (end : ℚ) → IsAccepted net → simulation_gauge net trace < 2 ^ 120 → IsReach net trace → grids.IsTime (grid_of net trace) (horizon (setup_of net trace)) end
@@ -70,7 +70,7 @@ simulated_stand net trace run ok curves fine named free small is =
     let zero : grids.IsTime D E (int (pos 0)) = record { on_grid = whole_int D (pos 0); from_zero = le_refl (int (pos 0)); by = reach.from_zero } in
     let end : grids.IsTime D E run.end = subst (grids.IsTime D E) (sym is.ends) (end_time S D E (int (pos 0)) [] run.steps F tt is.follows zero) in
     let A = limited_to net trace run.end ok small reach end in
-    let steps = steps_stand net trace run.end [] run.steps F tt is.follows lawful.allowed (entries_before (routes_of net) run lawful left.servers) in
+    let steps = steps_stand net trace run.end [] run.steps F tt is.follows lawful.allowed in
     let many : length (routes_of net).servers ≡ length net.servers = length-map net.servers server_for in (
       lawful,
       record {
@@ -83,8 +83,8 @@ simulated_stand net trace run ok curves fine named free small is =
             let L = views_are_lawful (routes_of net) run s lawful known in
             bits_most z server run.end V A L (empty_view (routes_of net) run s lawful known (left.servers s known))
             (spans_stand z server run.end (start server.discipline) V L.allowed (view_stands z run.end (routes_of net) s [] run.steps steps));
-        services = λ s h. service_stands net trace run.end s h (curves.services s h) end.by;
-        arrivals = λ flow live. arrival_stands net trace run.end flow live (curves.arrivals flow live) end.by;
+        services = λ s h. service_stands z net E run.end s h (curves.services s h) end.by (curves_stand net trace);
+        arrivals = λ flow live. arrival_stands z net E run.end flow live (curves.arrivals flow live) end.by (curves_stand net trace);
         few = λ flow.
             let some = entries_few (routes_of net) flow (run_start (routes_of net)) run.steps in
             let all = left.entered in

@@ -26,7 +26,6 @@ use Rattle.sim_bounds.specs.Horizons.{horizon}
 use Rattle.sim_bounds.specs.Gauge.{simulation_sizes, grid_of}
 use Rattle.sim_bounds.proofs.Members.{made_from}
 use Rattle.first_breaches.specs.Sizes.{StepStands}
-use Rattle.simulated_sizes.proofs.Entries.{EnterBefore}
 use Rattle.simulated_sizes.proofs.Numbers.{rate_slope}
 
 -- ---- one step more
@@ -61,14 +60,14 @@ pace_slope net trace r s p a b w h =
 -- ---- each step
 step_stands : (net : Net) (trace : SpecTrace) (end : ℚ) (done : List Step) (x : Step) → RunFits (setup_of net trace) (grid_of net trace) (horizon (setup_of net trace))
     → FollowsSoFar (setup_of net trace) (run_start (setup_of net trace).net) done → IsDue (setup_of net trace) (state_after (setup_of net trace) done) x
-    → AllowsInRun (setup_of net trace).net end (state_after (setup_of net trace) done) x → EnterBefore end (x ∷ []) → StepStands (simulation_sizes net trace) end x
-step_stands net trace end done (Enter f p t b) F k due a early =
+    → AllowsInRun (setup_of net trace).net end (state_after (setup_of net trace) done) x → StepStands (simulation_sizes net trace) end x
+step_stands net trace end done (Enter f p t b) F k due a =
     let time = F.due done k (Enter f p t b) due in
-    record { time = record { whole = time.on_grid; low = time.from_zero; high = a.at_server.0.in_run }; before = early.0 }
-step_stands net trace end done (Reach s p t) F k due a early =
+    record { whole = time.on_grid; low = time.from_zero; high = a.at_server.0.in_run }
+step_stands net trace end done (Reach s p t) F k due a =
     let time = F.due done k (Reach s p t) due in
     record { whole = time.on_grid; low = time.from_zero; high = a.at_server.0.in_run }
-step_stands net trace end done (Work s p t u w) F k due a early =
+step_stands net trace end done (Work s p t u w) F k due a =
     let time = F.due done k (Work s p t u w) due in
     let last = F.ends done k s p t u w due in
     record {
@@ -76,29 +75,22 @@ step_stands net trace end done (Work s p t u w) F k due a early =
       last = record { whole = last.on_grid; low = last.from_zero; high = a.at_server.1.ends_in_run };
       pace = pace_slope net trace (state_after (setup_of net trace) done) s p t u w due;
     }
-step_stands net trace end done (Leave s p t) F k due a early =
+step_stands net trace end done (Leave s p t) F k due a =
     let time = F.due done k (Leave s p t) due in
     record { whole = time.on_grid; low = time.from_zero; high = a.at_server.0.in_run }
-step_stands net trace end done (Visit s q t) F k due a early = tt
-
-first_early : (end : ℚ) (x : Step) (xs : List Step) → EnterBefore end (x ∷ xs) → EnterBefore end (x ∷ []) × EnterBefore end xs
-first_early end (Enter f p t b) xs h = ((h.0, tt), h.1)
-first_early end (Reach s p t) xs h = (tt, h)
-first_early end (Work s p a b w) xs h = (tt, h)
-first_early end (Leave s p t) xs h = (tt, h)
-first_early end (Visit s q t) xs h = (tt, h)
+step_stands net trace end done (Visit s q t) F k due a = tt
 
 pub steps_stand : (net : Net) (trace : SpecTrace) (end : ℚ) (done xs : List Step) → RunFits (setup_of net trace) (grid_of net trace) (horizon (setup_of net trace))
     → FollowsSoFar (setup_of net trace) (run_start (setup_of net trace).net) done → Follows (setup_of net trace) (state_after (setup_of net trace) done) xs
-    → AllAllowedInRun (setup_of net trace).net end (state_after (setup_of net trace) done) xs → EnterBefore end xs → AllByRecursion (StepStands (simulation_sizes net trace) end) xs
-steps_stand net trace end done [] F k h a early = tt
-steps_stand net trace end done (x ∷ xs) F k h a early =
+    → AllAllowedInRun (setup_of net trace).net end (state_after (setup_of net trace) done) xs → AllByRecursion (StepStands (simulation_sizes net trace) end) xs
+steps_stand net trace end done [] F k h a = tt
+steps_stand net trace end done (x ∷ xs) F k h a =
     let S = setup_of net trace in
     let next : state_after S (done ++ x ∷ []) ≡ next_run S.net (state_after S done) x = after_more S.net (run_start S.net) done x in
-    let parts = first_early end x xs early in (
-      step_stands net trace end done x F k h.0.due a.0 parts.0,
+    (
+      step_stands net trace end done x F k h.0.due a.0,
       steps_stand net trace end (done ++ x ∷ []) xs F (so_far_more S (run_start S.net) done x k h.0)
-          (subst (λ (r : RunState). Follows S r xs) (sym next) h.1) (subst (λ (r : RunState). AllAllowedInRun S.net end r xs) (sym next) a.1) parts.1,
+          (subst (λ (r : RunState). Follows S r xs) (sym next) h.1) (subst (λ (r : RunState). AllAllowedInRun S.net end r xs) (sym next) a.1),
     )
 
 -- ---- the end of the run is a time of the simulation

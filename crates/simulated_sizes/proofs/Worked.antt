@@ -1,4 +1,4 @@
--- A server that is empty at the end has worked off all that arrived, and each packet arrived before the end.
+-- A server that is empty at the end has worked off all that arrived.
 use Rattle.std.specs.Prelude.{◌≡◌, ◌≤◌, pos, true, List, [], ◌∷◌, ◌++◌}
 use Rattle.std.specs.List.{AllByRecursion}
 use Rattle.std.proofs.Common.{arith, refl, sym, subst, ap, ◌∙◌, inl, inr}
@@ -78,42 +78,6 @@ all_worked server end V h empty =
     let W = worked all V end in
     let B = whole (bits_in V) in
     with_atoms (s ∷ L ∷ A ∷ W ∷ B ∷ []) (λ k. omega (arith, k.le, k.lt, k.same))
-
--- ---- each of them arrived before the end
-abbrev pub ArriveBefore : ℚ → List ServerStep → Type 0
-ArriveBefore end [] = Unit {0}
-ArriveBefore end (Arrives c t ∷ V) = (t <ℚ end) × ArriveBefore end V
-ArriveBefore end (Works c a b w ∷ V) = ArriveBefore end V
-ArriveBefore end (Leaves c t ∷ V) = ArriveBefore end V
-ArriveBefore end (Visits q t ∷ V) = ArriveBefore end V
-
-all_before : (server : Server) (end : ℚ) (σ : ServerState) (V : List ServerStep) → AllAllowed server end σ V → whole (bits_in V) ≤ℚ arrived all V end → ArriveBefore end V
-unfolding when
-all_before server end σ [] a h = tt
-all_before server end σ (Arrives c t ∷ V) a h =
-    let most = arrived_most V end in
-    let some = size_pos c a.0.1.some_bits in
-    let all_bits : (size c +ℚ whole (bits_in V)) ≤ℚ arrived all (Arrives c t ∷ V) end = subst (λ x. x ≤ℚ arrived all (Arrives c t ∷ V) end) (whole_sum c.bits (bits_in V)) h in
-    elim (cases_Bool (lt_q t end)) [
-      | inl e ↦
-          let both : (size c +ℚ whole (bits_in V)) ≤ℚ (size c +ℚ arrived all V end) = rw e at all_bits in (
-            lt_q_in t end e,
-            all_before server end (next server.discipline σ (Arrives c t)) V a.1 (with3 (size c) (arrived all V end) (whole (bits_in V)) (λ k. omega (arith, k.le, k.lt, k.same))),
-          )
-      | inr e ↦
-          let both : (size c +ℚ whole (bits_in V)) ≤ℚ (int (pos 0) +ℚ arrived all V end) = rw e at all_bits in
-          absurd (lt_irrefl (size c) (with3 (size c) (arrived all V end) (whole (bits_in V)) (λ k. omega (arith, k.le, k.lt, k.same))))
-    ]
-all_before server end σ (Works c x y w ∷ V) a h =
-    all_before server end (next server.discipline σ (Works c x y w)) V a.1 (with2 (arrived all V end) (whole (bits_in V)) (λ k. omega (arith, k.le, k.lt, k.same)))
-all_before server end σ (Leaves c t ∷ V) a h =
-    all_before server end (next server.discipline σ (Leaves c t)) V a.1 (with2 (arrived all V end) (whole (bits_in V)) (λ k. omega (arith, k.le, k.lt, k.same)))
-all_before server end σ (Visits q t ∷ V) a h =
-    all_before server end (next server.discipline σ (Visits q t)) V a.1 (with2 (arrived all V end) (whole (bits_in V)) (λ k. omega (arith, k.le, k.lt, k.same)))
-
-pub arrive_before : (server : Server) (end : ℚ) (V : List ServerStep) → IsLawfulView server end V → (after server.discipline (start server.discipline) V).inside ≡ [] → ArriveBefore end V
-arrive_before server end V h empty =
-    all_before server end (start server.discipline) V h.allowed (le_trans (all_worked server end V h empty) (worked_arrived server end V all end h))
 
 -- ---- how much that is at most
 pace_most : (z : Sizes) (s : ℚ) → IsSlope z s → s ≤ℚ int (pos z.steepness)

@@ -1,121 +1,127 @@
--- What a number by its bits is, bit by bit from the lowest or from the highest.
-use Rattle.std.proofs.Common.{◌≡◌, ℕ, zero, suc, ◌+◌, ◌-◌, ◌*◌, ◌/◌, ◌%◌, ◌^◌, ◌<◌, ◌≤◌, List, [], ◌∷◌, ◌++◌, length, get_or, drop, ap, ◌∙◌, subst, arith, inl, inr}
-use Rattle.std.specs.Prelude.{Bool, true, false, reverse, ◌==◌, leb}
-use Rattle.std.proofs.lemmas.Bool.{cases_eq, eq-eqb, ne_eqb, le-leb, lt-leb}
+-- What a number by its words is, word by word from the lowest or from the highest.
+use Rattle.std.proofs.Common.{◌≡◌, ℕ, zero, suc, ◌+◌, ◌-◌, ◌*◌, ◌/◌, ◌%◌, ◌^◌, ◌<◌, ◌≤◌, List, [], ◌∷◌, ◌++◌, length, get_or, drop, sym, ap, ◌∙◌, subst, arith}
+use Rattle.std.specs.Prelude.{reverse}
 use Rattle.std.proofs.lemmas.List.{drop_more, drop_all, reverse-append}
 use Rattle.std.proofs.Math.Nat.{pow-suc}
-use Rattle.wide_sums.specs.Bits.{bit, number}
+use Rattle.std.proofs.lemmas.Grind.{pow_more}
+use Rattle.wide_sums.specs.Words.{number}
 
 -- ---- from the lowest
-pub number_at : (bs : List Bool) (i : ℕ) (b : Bool) → i < length bs → get_or bs i false ≡ b → number (drop i bs) ≡ bit b + 2 * number (drop (i + 1) bs)
-number_at bs i b h is = ap number (drop_more bs i false h) ∙ ap (λ x. bit x + 2 * number (drop (i + 1) bs)) is
+pub number_at : (ws : List ℕ) (i w : ℕ) → i < length ws → get_or ws i 0 ≡ w → number (drop i ws) ≡ w + 2 ^ 64 * number (drop (i + 1) ws)
+number_at ws i w h is = ap number (drop_more ws i 0 h) ∙ ap (λ x. x + 2 ^ 64 * number (drop (i + 1) ws)) is
 
-pub number_past : (bs : List Bool) (i : ℕ) → length bs ≤ i → number (drop i bs) ≡ 0
-number_past bs i h = ap number (drop_all i bs h)
+pub number_past : (ws : List ℕ) (i : ℕ) → length ws ≤ i → number (drop i ws) ≡ 0
+number_past ws i h = ap number (drop_all i ws h)
 
--- what a bit makes of a factor
-pub part_set : (bs : List Bool) (i f : ℕ) → i < length bs → get_or bs i false ≡ true → number (drop i bs) * f ≡ f + 2 * (number (drop (i + 1) bs) * f)
-part_set bs i f h is = let e = number_at bs i true h is in rw e (omega arith)
+pub word_past : (ws : List ℕ) (i : ℕ) → length ws ≤ i → number (drop i ws) ≡ 0 + 2 ^ 64 * number (drop (i + 1) ws)
+word_past ws i h =
+    let here = number_past ws i h in
+    let next = number_past ws (i + 1) (omega (arith, h)) in
+    omega (arith, here, next)
 
-pub part_unset : (bs : List Bool) (i f : ℕ) → i < length bs → get_or bs i false ≡ false → number (drop i bs) * f ≡ 0 + 2 * (number (drop (i + 1) bs) * f)
-part_unset bs i f h is = let e = number_at bs i false h is in rw e (omega arith)
-
-pub part_past : (bs : List Bool) (i f : ℕ) → length bs ≤ i → number (drop i bs) * f ≡ 0 + 2 * (number (drop (i + 1) bs) * f)
-part_past bs i f h =
-    let here = number_past bs i h in
-    let next = number_past bs (i + 1) (omega (arith, h)) in
-    rw (here, next) (omega arith)
-
-pub number_end : (bs : List Bool) (b : Bool) → number (bs ++ b ∷ []) ≡ number bs + 2 ^ length bs * bit b
-number_end [] b = omega arith
-number_end (x ∷ xs) b =
-    let before = number_end xs b in
-    let power : 2 ^ suc (length xs) ≡ 2 ^ length xs * 2 = pow-suc 2 (length xs) in
-    rw power (omega (arith, before))
-
--- the lowest bit of what is left goes to the end
-pub pushed : (bs : List Bool) (b : Bool) (r q : ℕ) → r ≡ bit b + 2 * q → number (bs ++ b ∷ []) + 2 ^ length (bs ++ b ∷ []) * q ≡ number bs + 2 ^ length bs * r
-pushed [] b r q e = omega (arith, e)
-pushed (x ∷ xs) b r q e =
-    let before = pushed xs b r q e in
-    let one : 2 ^ suc (length xs) ≡ 2 ^ length xs * 2 = pow-suc 2 (length xs) in
-    let two : 2 ^ suc (length (xs ++ b ∷ [])) ≡ 2 ^ length (xs ++ b ∷ []) * 2 = pow-suc 2 (length (xs ++ b ∷ [])) in
+-- the lowest word of what is left goes to the end
+pub pushed : (ws : List ℕ) (w r q : ℕ) → r ≡ w + 2 ^ 64 * q
+    → number (ws ++ w ∷ []) + (2 ^ 64) ^ length (ws ++ w ∷ []) * q ≡ number ws + (2 ^ 64) ^ length ws * r
+pushed [] w r q e = omega (arith, e)
+pushed (x ∷ xs) w r q e =
+    let before = pushed xs w r q e in
+    let one : (2 ^ 64) ^ suc (length xs) ≡ (2 ^ 64) ^ length xs * 2 ^ 64 = pow-suc (2 ^ 64) (length xs) in
+    let two : (2 ^ 64) ^ suc (length (xs ++ w ∷ [])) ≡ (2 ^ 64) ^ length (xs ++ w ∷ []) * 2 ^ 64 = pow-suc (2 ^ 64) (length (xs ++ w ∷ [])) in
     rw (one, two) (omega (arith, before))
 
-pub lowest_bit : (r : ℕ) → r ≡ bit (r % 2 == 1) + 2 * (r / 2)
-lowest_bit r = elim (cases_eq (r % 2) 1) [
-  | inl e ↦ rw (eq-eqb (r % 2) 1 e) (omega (arith, e))
-  | inr n ↦ rw (ne_eqb (r % 2) 1 n) (omega (arith, n))
-]
+-- a number times a factor, and another one more: a word more
+pub record Grown (ws ms : List ℕ) (i f carry p q w above : ℕ) : Type 0 where
+  pub own : number (drop i ws) ≡ p + 2 ^ 64 * number (drop (i + 1) ws)
+  pub other : number (drop i ms) ≡ q + 2 ^ 64 * number (drop (i + 1) ms)
+  pub value : p * f + carry + q ≡ w + 2 ^ 64 * above
+
+pub times_step : (all ws ms : List ℕ) (i f carry p q w above : ℕ) → Grown ws ms i f carry p q w above
+    → number (all ++ w ∷ []) + (2 ^ 64) ^ length (all ++ w ∷ []) * (above + number (drop (i + 1) ws) * f + number (drop (i + 1) ms))
+    ≡ number all + (2 ^ 64) ^ length all * (carry + number (drop i ws) * f + number (drop i ms))
+times_step all ws ms i f carry p q w above g =
+    let own = ap (λ n. n * f) g.own in
+    let other = g.other in
+    let value = g.value in
+    pushed all w (carry + number (drop i ws) * f + number (drop i ms)) (above + number (drop (i + 1) ws) * f + number (drop (i + 1) ms))
+    (omega (arith, own, other, value))
 
 -- ---- from the highest
-pub number_rest : (bs : List Bool) (i : ℕ) → number (drop i bs) ≤ number bs
-number_rest bs zero = omega arith
+pub number_rest : (ws : List ℕ) (i : ℕ) → number (drop i ws) ≤ number ws
+number_rest ws zero = omega arith
 number_rest [] (suc i) = omega arith
-number_rest (b ∷ bs) (suc i) = let h = number_rest bs i in omega (arith, h)
+number_rest (w ∷ ws) (suc i) = let h = number_rest ws i in omega (arith, h)
 
-pub reversed_end : (bs : List Bool) (b : Bool) → number (reverse (bs ++ b ∷ [])) ≡ bit b + 2 * number (reverse bs)
-reversed_end bs b = ap number (reverse-append bs (b ∷ []))
-
--- ---- a number times a factor, and another one more: the lowest bit of what is left goes to the end
-pub record Stepped (all bs ms : List Bool) (i f carry p q : ℕ) : Type 0 where
-  pub own : number (drop i bs) * f ≡ p + 2 * (number (drop (i + 1) bs) * f)
-  pub other : number (drop i ms) * 1 ≡ q + 2 * (number (drop (i + 1) ms) * 1)
-
-pub times_step : (all bs ms : List Bool) (i f carry p q : ℕ) → Stepped all bs ms i f carry p q
-    → let sum = carry + p + q in let next = all ++ (sum % 2 == 1) ∷ [] in
-    number next + 2 ^ length next * (sum / 2 + number (drop (i + 1) bs) * f + number (drop (i + 1) ms))
-    ≡ number all + 2 ^ length all * (carry + number (drop i bs) * f + number (drop i ms))
-times_step all bs ms i f carry p q s =
-    let own = s.own in
-    let other = s.other in
-    let sum = carry + p + q in
-    let low = lowest_bit sum in
-    pushed all (sum % 2 == 1) (carry + number (drop i bs) * f + number (drop i ms)) (sum / 2 + number (drop (i + 1) bs) * f + number (drop (i + 1) ms))
-    (omega (arith, own, other, low))
-
-pub half_most : (f carry p q : ℕ) → carry ≤ f → p ≤ f → q ≤ 1 → (carry + p + q) / 2 ≤ f
-half_most f carry p q a b c = omega arith
-
--- ---- bits from a place on
-pub number_twice : (bs : List Bool) (i : ℕ) → 0 < i → 2 * number (drop i bs) ≤ number bs
-number_twice bs zero h = absurd (omega (arith, h))
-number_twice [] (suc i) h = omega arith
-number_twice (b ∷ bs) (suc i) h = let k = number_rest bs i in omega (arith, k)
+pub number_above : (ws : List ℕ) (i : ℕ) → 0 < i → 2 ^ 64 * number (drop i ws) ≤ number ws
+number_above ws zero h = absurd (omega (arith, h))
+number_above [] (suc i) h = omega arith
+number_above (w ∷ ws) (suc i) h = let k = number_rest ws i in omega (arith, k)
 
 -- one place lower
-pub lower : (bs : List Bool) (i : ℕ) (p : ℕ) → 0 < i → number (drop (i - 1) bs) * 1 ≡ p + 2 * (number (drop (i - 1 + 1) bs) * 1) → number (drop (i - 1) bs) ≡ p + 2 * number (drop i bs)
-lower bs i p h e =
-    let back : i - 1 + 1 ≡ i = omega (arith, h) in
-    let f = subst (λ k. number (drop (i - 1) bs) * 1 ≡ p + 2 * (number (drop k bs) * 1)) back e in
-    omega (arith, f)
+pub lower : (ws : List ℕ) (i w : ℕ) → 0 < i → i ≤ length ws → w ≡ get_or ws (i - 1) 0 → number (drop (i - 1) ws) ≡ w + 2 ^ 64 * number (drop i ws)
+lower ws i w some h is =
+    let back : i - 1 + 1 ≡ i = omega (arith, some) in
+    subst (λ k. number (drop (i - 1) ws) ≡ w + 2 ^ 64 * number (drop k ws)) back (number_at ws (i - 1) w (omega (arith, some, h)) (sym is))
 
--- long division: the divisor goes into what is left, or it does not
-pub record Lowered (qs ys : List Bool) (whole above by rest p : ℕ) : Type 0 where
-  pub next : ys ≡ qs ++ leb by (2 * rest + p) ∷ []
-  pub here : whole ≡ p + 2 * above
-  pub before : above ≡ by * number (reverse qs) + rest
-  pub less : rest < by
-  pub bit : p ≤ 1
+pub reversed_end : (ws : List ℕ) (w : ℕ) → number (reverse (ws ++ w ∷ [])) ≡ w + 2 ^ 64 * number (reverse ws)
+reversed_end ws w = ap number (reverse-append ws (w ∷ []))
 
-pub goes_in : (qs ys : List Bool) (whole before by rest p left : ℕ) → Lowered qs ys whole before by rest p → by ≤ 2 * rest + p → left ≡ 2 * rest + p - by
-    → (whole ≡ by * number (reverse ys) + left) × (left < by)
-goes_in qs ys whole before by rest p left l h e =
-    let test = le-leb by (2 * rest + p) h in
-    let last : number (reverse ys) ≡ 1 + 2 * number (reverse qs) = ap (λ zs. number (reverse zs)) (l.next ∙ ap (λ b. qs ++ b ∷ []) test) ∙ reversed_end qs true in
-    let n = number (reverse qs) in
-    let here = l.here in
-    let be = l.before in
-    let less = l.less in
-    let bit = l.bit in
-    (rw last (omega (arith, e, h, here, be)), omega (arith, e, h, less, bit))
+-- long division: a word more
+pub divided_more : (qs ys : List ℕ) (whole above by rest w q left : ℕ) → ys ≡ qs ++ q ∷ [] → whole ≡ w + 2 ^ 64 * above
+    → above ≡ by * number (reverse qs) + rest → 2 ^ 64 * rest + w ≡ by * q + left → whole ≡ by * number (reverse ys) + left
+divided_more qs ys whole above by rest w q left next here before step =
+    let last : number (reverse ys) ≡ q + 2 ^ 64 * number (reverse qs) = ap (λ zs. number (reverse zs)) next ∙ reversed_end qs q in
+    rw last (omega (arith, here, before, step))
 
-pub stays_out : (qs ys : List Bool) (whole before by rest p left : ℕ) → Lowered qs ys whole before by rest p → 2 * rest + p < by → left ≡ 2 * rest + p
-    → (whole ≡ by * number (reverse ys) + left) × (left < by)
-stays_out qs ys whole before by rest p left l h e =
-    let test = lt-leb by (2 * rest + p) h in
-    let last : number (reverse ys) ≡ 0 + 2 * number (reverse qs) = ap (λ zs. number (reverse zs)) (l.next ∙ ap (λ b. qs ++ b ∷ []) test) ∙ reversed_end qs false in
-    let n = number (reverse qs) in
-    let here = l.here in
-    let be = l.before in
-    (rw last (omega (arith, e, here, be)), omega (arith, e, h))
+-- and within a word bit by bit: k bits went before
+pub bit_goes : (k by q rest left x r : ℕ) → 2 ^ k * x ≡ 2 ^ 64 * (by * q + rest) + left → by ≤ 2 * rest + left / 2 ^ 63 → r ≡ 2 * rest + left / 2 ^ 63 - by
+    → 2 ^ (k + 1) * x ≡ 2 ^ 64 * (by * (q * 2 + 1) + r) + 2 * (left % 2 ^ 63)
+bit_goes k by q rest left x r before goes is =
+    let power : 2 ^ (k + 1) ≡ 2 ^ k * 2 = pow_more 2 k in
+    rw power (omega (arith, before, goes, is))
+
+pub bit_stays : (k by q rest left x r : ℕ) → 2 ^ k * x ≡ 2 ^ 64 * (by * q + rest) + left → r ≡ 2 * rest + left / 2 ^ 63
+    → 2 ^ (k + 1) * x ≡ 2 ^ 64 * (by * (q * 2) + r) + 2 * (left % 2 ^ 63)
+bit_stays k by q rest left x r before is =
+    let power : 2 ^ (k + 1) ≡ 2 ^ k * 2 = pow_more 2 k in
+    rw power (omega (arith, before, is))
+
+pub bits_done : (k by q rest left x : ℕ) → k ≡ 64 → left < 2 ^ 64 → 2 ^ k * x ≡ 2 ^ 64 * (by * q + rest) + left → x ≡ by * q + rest
+bits_done k by q rest left x all less is =
+    let end = subst (λ n. 2 ^ n * x ≡ 2 ^ 64 * (by * q + rest) + left) all is in
+    omega (arith, end, less)
+
+pub short_more : (k q r : ℕ) → q < 2 ^ k → r ≤ q * 2 + 1 → r < 2 ^ (k + 1)
+short_more k q r short is =
+    let power : 2 ^ (k + 1) ≡ 2 ^ k * 2 = pow_more 2 k in
+    rw power (omega (arith, short, is))
+
+-- ---- one word
+-- what a word makes of a factor that is taken apart
+pub word_grows : (w f carry more low high : ℕ) → low ≡ w * (f % 2 ^ 64) + carry % 2 ^ 64 + more → high ≡ w * (f / 2 ^ 64) + carry / 2 ^ 64
+    → w * f + carry + more ≡ low % 2 ^ 64 + 2 ^ 64 * (high + low / 2 ^ 64)
+word_grows w f carry more low high is above =
+    let parts : f ≡ 2 ^ 64 * (f / 2 ^ 64) + f % 2 ^ 64 = omega arith in
+    let times = ap (λ k. w * k) parts in
+    omega (arith, times, is, above)
+
+-- ---- a carry after the words: none, one word, two words
+pub carry_none : (ws : List ℕ) (k : ℕ) → k ≤ 0 → number ws ≡ number ws + (2 ^ 64) ^ length ws * k
+carry_none ws k h = let none : k ≡ 0 = omega (arith, h) in rw none (omega arith)
+
+pub carry_one : (ws ys : List ℕ) (k : ℕ) → k < 2 ^ 64 → ys ≡ ws ++ k % 2 ^ 64 ∷ [] → number ys ≡ number ws + (2 ^ 64) ^ length ws * k
+carry_one ws ys k h is =
+    let w = k % 2 ^ 64 in
+    let all = pushed ws w k (k / 2 ^ 64) (let e : k ≡ w + 2 ^ 64 * (k / 2 ^ 64) = omega arith in e) in
+    let none = ap (λ q. (2 ^ 64) ^ length (ws ++ w ∷ []) * q) (let z : k / 2 ^ 64 ≡ 0 = omega (arith, h) in z) in
+    let new = ap number is in
+    omega (arith, all, none, new)
+
+pub carry_two : (ws xs ys : List ℕ) (k : ℕ) → xs ≡ ws ++ k % 2 ^ 64 ∷ [] → ys ≡ xs ++ k / 2 ^ 64 ∷ [] → number ys ≡ number ws + (2 ^ 64) ^ length ws * k
+carry_two ws xs ys k first second =
+    let w = k % 2 ^ 64 in
+    let q = k / 2 ^ 64 in
+    let low = pushed ws w k q (let e : k ≡ w + 2 ^ 64 * q = omega arith in e) in
+    let high = pushed xs q q 0 (let e : q ≡ q + 2 ^ 64 * 0 = omega arith in e) in
+    let before = ap (λ zs. number zs + (2 ^ 64) ^ length zs * q) first in
+    let new = ap number second in
+    omega (arith, low, high, before, new)

@@ -1,16 +1,16 @@
 -- Sums, product by product.
 use Rattle.std.proofs.Common.{◌≡◌, ℕ, ◌+◌, ◌*◌, ◌-◌, ◌<◌, ◌≤◌, List, [], ◌∷◌, length, get_or, drop, sym, ap, ◌∙◌, subst, arith}
-use Rattle.std.specs.Prelude.{pos, true}
+use Rattle.std.specs.Prelude.{pos}
 use Rattle.std.specs.List.{AllByRecursion}
 use Rattle.std.proofs.lemmas.List.{drop_more}
 use Rattle.rational.specs.Rational.{ℚ, int, over, ◌+ℚ◌, ◌*ℚ◌}
 use Rattle.wide_sums.specs.declared.products.Product.{Product}
 use Rattle.wide_sums.specs.declared.products.WideSum.{WideSum}
-use Rattle.wide_sums.specs.Bits.{number}
+use Rattle.wide_sums.specs.Words.{number}
 use Rattle.wide_sums.specs.Factors.{IsFactor, product}
 use Rattle.wide_sums.specs.Sums.{sum_of_products, IsSumOf}
 
-pub none_sum : (w : WideSum) → w.top.items ≡ [] → w.bottom.items ≡ true ∷ [] → w.factors.items ≡ [] → IsSumOf (int (pos 0)) w
+pub none_sum : (w : WideSum) → w.top.items ≡ [] → w.bottom.items ≡ 1 ∷ [] → w.factors.items ≡ [] → IsSumOf (int (pos 0)) w
 none_sum w top bottom factors = record {
   is = sym (ap (λ bs. over (pos (number bs)) (number w.bottom.items)) top ∙ ap (λ bs. over (pos 0) (number bs)) bottom);
   bottom = ap number bottom ∙ sym (ap product factors);
@@ -21,14 +21,8 @@ pub over_factors : (s : ℚ) (w : WideSum) → IsSumOf s w → s ≡ over (pos (
 over_factors s w h = h.is ∙ ap (over (pos (number w.top.items))) h.bottom
 
 -- numbers on the way: the product's numerator over the factors so far, and the sum's over the new ones
-pub top_of : (t b m n d e scaled own before top : ℕ) → scaled ≡ b * m + 0 → own ≡ scaled * n + 0 → before ≡ t * d + 0 → top ≡ before * e + own → top ≡ t * d * e + b * m * n
-top_of t b m n d e scaled own before top p q r s =
-    let one = ap (λ k. k * n) p in
-    let two = ap (λ k. k * e) r in
-    omega (arith, q, s, one, two)
-
-pub bottom_of : (b d e finer bottom : ℕ) → finer ≡ b * d + 0 → bottom ≡ finer * e + 0 → bottom ≡ b * d * e
-bottom_of b d e finer bottom p q = let one = ap (λ k. k * e) p in omega (arith, q, one)
+pub top_of : (t b m n d e own top : ℕ) → own ≡ b * m * n + 0 → top ≡ t * d * e + own → top ≡ t * d * e + b * m * n
+top_of t b m n d e own top p q = omega (arith, p, q)
 
 -- the products from a place on
 pub sum_from : (ps : List Product) (i : ℕ) (p : Product) → 0 < i → i ≤ length ps → p ≡ get_or ps (i - 1) p

@@ -1,3 +1,3 @@
-pub mod Bits
+pub mod Words
 pub mod Factors
 pub mod Sums

@@ -1,10 +1,11 @@
 -- Sums of products of fractions. Textbook.
-use Rattle.std.specs.Prelude.{◌≡◌, pos, List, [], ◌∷◌}
+use Rattle.std.specs.Prelude.{◌≡◌, ◌+◌, ◌*◌, ◌≤◌, pos, List, [], ◌∷◌}
 use Rattle.std.specs.List.{AllByRecursion}
+use Rattle.arrayvec.specs.ArrayVec.{array_vec_len}
 use Rattle.rational.specs.Rational.{ℚ, int, over, ◌+ℚ◌, ◌*ℚ◌, ◌≤ℚ◌}
 use Rattle.wide_sums.specs.declared.products.Product.{Product}
 use Rattle.wide_sums.specs.declared.products.WideSum.{WideSum}
-use Rattle.wide_sums.specs.Bits.{number}
+use Rattle.wide_sums.specs.Words.{number}
 use Rattle.wide_sums.specs.Factors.{IsFactor, product}
 
 -- both factors are at least 0
@@ -21,3 +22,8 @@ pub record IsSumOf (s : ℚ) (w : WideSum) : Type 0 where
   pub is : s ≡ over (pos (number w.top.items)) (number w.bottom.items)
   pub bottom : number w.bottom.items ≡ product w.factors.items
   pub factors : AllByRecursion IsFactor w.factors.items
+
+-- the product of the factors has two words a factor and one more, and the number two more than that
+pub record HasRoom (w : WideSum) : Type 0 where
+  pub top : array_vec_len w.top ≤ 2 * array_vec_len w.factors + 3
+  pub bottom : array_vec_len w.bottom ≤ 2 * array_vec_len w.factors + 1

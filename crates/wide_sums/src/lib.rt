@@ -1,8 +1,8 @@
 //! The exact sum of products of fractions, however wide the numbers on the way to it.
 #![tactic(auto)]
 
-mod bits;
 mod lowest;
 mod products;
+mod words;
 
-pub use products::{Product, sum_of_products};
+pub use products::{MOST_PRODUCTS, Product, sum_of_products};

@@ -1,16 +1,23 @@
 //! Sums of products.
 
-ghost use Rattle.std.specs.Prelude.{◌≡◌, ◌<◌, ◌^◌, IfOk, MatchOption, pos, nat_abs};
+ghost use Rattle.std.specs.Prelude.{◌≡◌, ◌<◌, ◌≤◌, ◌+◌, ◌^◌, MatchOption, length, pos, nat_abs};
 ghost use Rattle.std.specs.List.{AllByRecursion};
+ghost use Rattle.arrayvec.specs.ArrayVec.{array_vec_len};
 ghost use Rattle.rational.specs.Rational.{ℚ, int, ◌+ℚ◌, ◌*ℚ◌, ◌≤ℚ◌};
 ghost use Rattle.rational.specs.Ratio.{IsSmall};
 ghost use Rattle.wide_sums.specs.Factors.{IsFactor};
-ghost use Rattle.wide_sums.specs.Sums.{IsFromZero, sum_of_products, IsSumOf};
+ghost use Rattle.wide_sums.specs.Sums.{IsFromZero, sum_of_products, IsSumOf, HasRoom};
 
-use crate::bits::{small_number, times_plus};
 use crate::lowest::reduce;
+use crate::words::{Words, small_number, times_both_plus};
+use arrayvec::ArrayVec;
 use fraction128::{Frac, quotient};
-use std::alloc::{AllocError, Global};
+
+/// How many products a sum may have: a network has at most so many servers.
+pub const MOST_PRODUCTS: usize = 64;
+
+/// How many factors the denominators of so many products are: two of each.
+const MOST_FACTORS: usize = 2 * MOST_PRODUCTS;
 
 /// Two factors of a product.
 #[derive(Debug, Clone, Copy)]
@@ -21,26 +28,41 @@ pub struct Product {
     pub right: Frac,
 }
 
+impl Default for Product {
+    ghost is_default = { λ p. (p.left ≡ int (pos 0)) × (p.right ≡ int (pos 0)) };
+
+    fn default() -> Product {
+        Product {
+            left: Frac::zero(),
+            right: Frac::zero(),
+        }
+    }
+}
+
 /// A sum, as a wide number over the product of factors.
 #[derive(Debug, Drop)]
 struct WideSum {
     /// The number.
-    top: Vec<bool>,
+    top: Words,
     /// The product of the factors.
-    bottom: Vec<bool>,
+    bottom: Words,
     /// The factors.
-    factors: Vec<u128>,
+    factors: ArrayVec<u128, MOST_FACTORS>,
 }
 
 /// Nothing yet.
-fn nothing(alloc: Global) -> Result<WideSum, AllocError>
-    ensures { IfOk result (λ w. IsSumOf (int (pos 0)) w) }
+fn nothing() -> WideSum
+    ensures sum { IsSumOf (int (pos 0)) result }
+    ensures room { HasRoom result }
+    ensures none { array_vec_len result.factors ≡ 0 }
 {
-    Ok(WideSum {
-        top: Vec::new(alloc),
-        bottom: vec![in alloc; true]?,
-        factors: Vec::new(alloc),
-    })
+    let mut bottom = Words::new();
+    bottom.push(1);
+    WideSum {
+        top: Words::new(),
+        bottom,
+        factors: ArrayVec::new(),
+    }
 }
 
 /// The size of the numerator.
@@ -51,60 +73,58 @@ fn size_of(x: Frac) -> u128
     x.numerator().unsigned_abs()
 }
 
-/// A product more.
-fn with_product(alloc: Global, sum: WideSum, product: Product) -> Result<WideSum, AllocError>
-    requires { IsFromZero product }
-    ensures { (s : ℚ) → IsSumOf s sum → IfOk result (IsSumOf (product.left *ℚ product.right +ℚ s)) }
+/// Adds a product.
+fn add_product(sum: &mut WideSum, product: Product)
+    requires from_zero { IsFromZero product }
+    requires room { HasRoom sum.old }
+    requires few { array_vec_len sum.old.factors + 2 ≤ MOST_FACTORS }
+    ensures sum { (s : ℚ) → IsSumOf s sum.old → IsSumOf (product.left *ℚ product.right +ℚ s) sum.new }
+    ensures room { HasRoom sum.new }
+    ensures more { array_vec_len sum.new.factors ≡ array_vec_len sum.old.factors + 2 }
 {
     let (left, right) = (product.left, product.right);
     let (below, under) = (left.denominator(), right.denominator());
-    let scaled = times_plus(alloc, &sum.bottom, size_of(left), &[])?;
-    let own = times_plus(alloc, &scaled, size_of(right), &[])?;
-    let before = times_plus(alloc, &sum.top, below, &[])?;
-    let top = times_plus(alloc, &before, under, &own)?;
-    let finer = times_plus(alloc, &sum.bottom, below, &[])?;
-    let bottom = times_plus(alloc, &finer, under, &[])?;
-    let mut factors = sum.factors;
-    factors.push(below)?;
-    factors.push(under)?;
-    Ok(WideSum {
-        top,
-        bottom,
-        factors,
-    })
+    let own = times_both_plus(&sum.bottom, size_of(left), size_of(right), &[]);
+    let top = times_both_plus(&sum.top, below, under, &own);
+    let bottom = times_both_plus(&sum.bottom, below, under, &[]);
+    sum.top = top;
+    sum.bottom = bottom;
+    sum.factors.push(below);
+    sum.factors.push(under);
 }
 
 /// The fraction, where it has one.
-fn total(alloc: Global, sum: WideSum) -> Result<Option<Frac>, AllocError>
+fn total(sum: WideSum) -> Option<Frac>
     requires { AllByRecursion IsFactor sum.factors.items }
-    ensures { (s : ℚ) → IsSumOf s sum → IfOk result (λ found. MatchOption found (¬ (IsSmall s)) (λ f. f ≡ s)) }
+    ensures { (s : ℚ) → IsSumOf s sum → MatchOption result (¬ (IsSmall s)) (λ f. f ≡ s) }
 {
-    let lowest = reduce(alloc, sum.top, &sum.factors)?;
+    let lowest = reduce(sum.top, &sum.factors);
     match small_number(&lowest.top) {
         Some(top) => {
             if lowest.bottom >= 1 << 127 {
-                return Ok(None);
+                return None;
             }
-            Ok(Some(quotient(
+            Some(quotient(
                 Frac::from_whole(top as i128),
                 Frac::from_whole(lowest.bottom as i128),
-            )))
+            ))
         }
-        None => Ok(None),
+        None => None,
     }
 }
 
-/// The sum of products of fractions that are at least 0, exactly, however wide the numbers on the way: None exactly
-/// where the sum itself, in lowest terms, has a numerator or a denominator above 2^127 - 1. It fails only where memory
-/// is refused. (Own choice.)
-pub fn sum_of_products(alloc: Global, products: &[Product]) -> Result<Option<Frac>, AllocError>
-    requires { AllByRecursion IsFromZero products.now }
+/// The sum of at most 64 products of fractions that are at least 0, exactly, however wide the numbers on the way: None
+/// exactly where the sum itself, in lowest terms, has a numerator or a denominator above 2^127 - 1. It takes no memory.
+/// (Own choice.)
+pub fn sum_of_products(products: &[Product]) -> Option<Frac>
+    requires from_zero { AllByRecursion IsFromZero products.now }
+    requires few { length products.now ≤ MOST_PRODUCTS }
     ensures { let sum = sum_of_products products.now in
-        IfOk result (λ found. MatchOption found (¬ (IsSmall sum)) (λ f. f ≡ sum)) }
+        MatchOption result (¬ (IsSmall sum)) (λ f. f ≡ sum) }
 {
-    let mut sum = nothing(alloc)?;
+    let mut sum = nothing();
     for place in (0..products.len()).rev() {
-        sum = with_product(alloc, sum, products[place])?;
+        add_product(&mut sum, products[place]);
     }
-    total(alloc, sum)
+    total(sum)
 }

@@ -1,5 +1,6 @@
 use Rattle.std.proofs.Common.{◌≡◌}
 use Rattle.std.specs.List.{AllByRecursion}
+use Rattle.arrayvec.specs.ArrayVec.{array_vec_len}
 use Rattle.wide_sums.specs.Sums.{IsFromZero, sum_of_products}
 use Rattle.stated_runs.specs.FromTraces.{setup_of}
 use Rattle.sim_bounds.specs.Horizons.{sum_below}
@@ -10,4 +11,5 @@ abbrev pub invariant-loop-server : goal.invariant-loop-server
 invariant-loop-server l = record {
   value : sum_of_products l.products.items ≡ sum_below (gated (setup_of l.net l.trace)) l.server;
   from_zero : AllByRecursion IsFromZero l.products.items;
+  len : array_vec_len l.products ≡ l.server;
 }

@@ -3,7 +3,8 @@ use Rattle.upp_limits.specs.Limits.{joined}
 use Rattle.upp_limits.specs.Gathered.{Gathers}
 use Rattle.net_model.specs.Views.{server_of}
 use Rattle.sim_gauge.specs.Named.{server_number}
-use Rattle.sim_gauge.proofs.Loops.{next_part, last_part, server_parts}
+use Rattle.window_numbers.proofs.Loops.{next_part, last_part}
+use Rattle.sim_gauge.proofs.Loops.{server_parts}
 use Rattle.sim_gauge.proofs.named.with_servers.Goals as goal
 
 pub loop-server-preserved : goal.loop-server-preserved

@@ -3,7 +3,8 @@ use Rattle.upp_limits.specs.Limits.{joined}
 use Rattle.upp_limits.specs.Gathered.{Gathers}
 use Rattle.sim_bounds.specs.Gauge.{stall_times}
 use Rattle.sim_gauge.specs.Named.{times_alone}
-use Rattle.sim_gauge.proofs.Loops.{next_part, last_part, stall_parts}
+use Rattle.window_numbers.proofs.Loops.{next_part, last_part}
+use Rattle.sim_gauge.proofs.Loops.{stall_parts}
 use Rattle.sim_gauge.proofs.named.with_stalls.Goals as goal
 
 pub loop-stall-preserved : goal.loop-stall-preserved

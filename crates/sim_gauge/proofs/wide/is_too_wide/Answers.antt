@@ -2,7 +2,7 @@ use Rattle.std.proofs.Common.{◌≡◌, ◌≤◌, ◌^◌, map, refl, sym, ap,
 use mir.Syntax.{w128}
 use Rattle.std.proofs.lemmas.Int.{ints}
 use Rattle.std.proofs.lemmas.Bool.{cases_lt}
-use Rattle.std.specs.Prelude.{IsTrue, IsSome, IfSome, pos, sum_by, ◌↔◌}
+use Rattle.std.specs.Prelude.{IsTrue, pos, sum_by, ◌↔◌}
 use Rattle.std.specs.List.{AllByRecursion}
 use Rattle.rational.specs.Rational.{int, ◌<ℚ◌}
 use Rattle.rational.specs.Gauge.{Kept}
@@ -15,7 +15,7 @@ use Rattle.stated_runs.specs.FromTraces.{setup_of}
 use Rattle.sim_bounds.specs.Horizons.{horizon}
 use Rattle.sim_bounds.specs.Gauge.{rates_of, common_num, simulation_numbers, simulation_gauge, grid_of, total_bits}
 use Rattle.sim_bounds.proofs.WayFits.{horizon_fits}
-use Rattle.sim_gauge.specs.Rated.{gauge_with}
+use Rattle.window_numbers.specs.Rated.{gauge_with}
 use Rattle.sim_gauge.proofs.Products.{gauge_is}
 use Rattle.sim_gauge.proofs.Rates.{server_rates}
 use Rattle.sim_gauge.proofs.wide.is_too_wide.Goals as goal
@@ -31,7 +31,7 @@ returns-in-None c =
     let wide : 2 ^ 120 ≤ simulation_gauge net trace = elim (cases_lt (simulation_gauge net trace) (2 ^ 120)) [
       | inl small ↦
           let fits = horizon_fits net trace c.servers.ensures.kept c.packets.ensures.kept c.requires.named c.requires.free small in
-          let some = subst (λ o. IsSome o) c.in-None.is (c.in_ok-horizon.ensures.fits (grid_of net trace) (horizon (setup_of net trace)) fits) in
+          let some = c.in-None.ensures.fits (grid_of net trace) (horizon (setup_of net trace)) fits in
           absurd (true≢false (sym some))
       | inr big ↦ big
     ] in
@@ -49,7 +49,7 @@ returns-in-Some-numbers_to c =
     let all = joined numbers value in
     let r = common_num (rates_of net) in
     let t = c.in-Some.end in
-    let end : t ≡ horizon (setup_of net trace) = subst (λ o. IfSome o (λ x. x ≡ horizon (setup_of net trace))) c.in-Some.is c.in_ok-horizon.ensures.value in
+    let end : t ≡ horizon (setup_of net trace) = c.in-Some.ensures.value in
     let found : Gathers c.with_value.result (joined (time_alone t) all) =
     subst (λ n. Gathers c.with_value.result n) (joined_assoc (time_alone t) numbers value)
     (subst (λ x. Gathers c.with_value.result (joined (joined (time_alone t) numbers) (value_alone x))) bits

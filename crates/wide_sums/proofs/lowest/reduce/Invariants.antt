@@ -1,5 +1,5 @@
 use Rattle.std.proofs.Common.{take}
-use Rattle.wide_sums.specs.Bits.{number}
+use Rattle.wide_sums.specs.Words.{number}
 use Rattle.wide_sums.specs.Factors.{product, IsReduced}
 use Rattle.wide_sums.proofs.lowest.reduce.Given as goal
 

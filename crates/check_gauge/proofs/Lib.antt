@@ -1,0 +1,4 @@
+pub mod Loops
+pub mod Held
+pub mod Fitting
+pub mod Assembled

@@ -1,0 +1,4 @@
+pub mod Runs
+pub mod Gauge
+pub mod Named
+pub mod Paces

@@ -1,0 +1,5 @@
+pub mod Links
+pub mod Numbers
+pub mod Delays
+pub mod Arrived
+pub mod Stand
