@@ -16,7 +16,7 @@ use Rattle.edit_command.proofs.Causes as edit_statuses
 use Rattle.edit_command.proofs.OneReply as edited
 use Rattle.edit_command.proofs.Promised.{reports_are_guaranteed, replies_are_complete}
 use Rattle.simulate_command.specs.RunCounts as run_counts
-use Rattle.simulate_command.specs.RunCounts.{IsOfReport}
+use Rattle.run_findings.specs.Statuses.{IsOfReport}
 use Rattle.simulate_command.proofs.Causes as run
 use Rattle.simulate_command.proofs.OneReply as simulated
 use Rattle.simulate_command.proofs.Status.{status_tells}

@@ -6,7 +6,7 @@ use Rattle.net_model.specs.declared.breach.Breach.{Breach}
 use Rattle.command_replies.specs.Replies.{Reply, cannot_read, too_long}
 use Rattle.analyse_command.specs.OnFiles as analyse
 use Rattle.edit_command.specs.OnEdits as edits
-use Rattle.simulate_command.specs.Found.{status_by}
+use Rattle.run_findings.specs.Findings.{status_by}
 use Rattle.simulate_command.specs.OnTraces as traces
 use Rattle.measure_command.specs.OnMeasures.{IsMeasureReply}
 use Rattle.measure_command.proofs.OneMeasure.{statuses_are_four}
@@ -69,8 +69,8 @@ on_traces net bytes trace rows reply (traces.CellOver TooWide h) =
 on_traces net bytes trace rows reply (traces.SimulationOver h) =
     other reply.status 6 (status_of reply _ h.over.is) (omega arith)
 on_traces net bytes trace rows reply (traces.Reported h) =
-    other reply.status (status_by h.report.found.breach) (status_of reply _ h.report.is)
-    (by_breach h.report.found.breach)
+    other reply.status (status_by h.report.tells.found.breach) (status_of reply _ h.report.tells.is)
+    (by_breach h.report.tells.found.breach)
 
 on_measure : (net bytes trace rows name : List ℕ) (rate : ℚ) (reply : Reply)
     → IsMeasureReply net bytes trace rows name rate reply → reply.status ≢ 4

@@ -22,7 +22,8 @@ use Rattle.simulate_command.specs.OnTraces as traces
 use Rattle.simulate_command.specs.OnTraces.{IsRunReply, IsRunReport, IsSimulationOver}
 use Rattle.simulate_command.specs.RunCounts as run_counts
 use Rattle.simulate_command.specs.Laws as run_laws
-use Rattle.simulate_command.specs.Laws.{Keeps, IsQuietReport}
+use Rattle.simulate_command.specs.Laws.{IsQuietReport}
+use Rattle.run_findings.specs.Statuses.{Keeps}
 use Rattle.measure_command.specs.OnMeasures.{IsMeasureReply, IsReportOf as IsMeasureReportOf}
 use Rattle.measure_command.specs.MeasureCauses as measure_causes
 use Rattle.measure_command.specs.MeasureCounts as measure_counts

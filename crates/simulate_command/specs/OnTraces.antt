@@ -17,7 +17,8 @@ use Rattle.table_text.specs.Rows.{rows_of}
 use Rattle.table_text.specs.Traces.{IsTraceOf}
 use Rattle.command_replies.specs.Replies.{Reply}
 use Rattle.command_replies.specs.OnFiles.{IsBroken, IsCurveOver, IsNetOf, IsBadTrace, HasCycle, IsCellOver}
-use Rattle.simulate_command.specs.Found.{IsTooWide, IsReportOn}
+use Rattle.report_text.specs.RunReport.{run_report_of}
+use Rattle.simulated_findings.specs.Found.{IsTooWide, IsReportBy, IsSimulationReplyBy}
 
 -- ---- traces
 -- the trace of a network that the rows of a file give, with all that a trace keeps
@@ -62,7 +63,7 @@ pub record IsRunReport (net_bytes trace_bytes : List ℕ) (reply : Reply) : Type
   pub trace : SpecTrace
   pub at : CellTable
   pub analysed : AreAnalysed net_bytes trace_bytes net trace at
-  pub report : IsReportOn net trace at reply
+  pub report : IsReportBy run_report_of net trace at reply
 
 -- ---- all of them
 -- the reply on files with these names and bytes
@@ -105,4 +106,4 @@ IsRunReplyOnTrace net trace reply =
 
 -- the reply on a network and a trace, beside this table: the simulation is over its gauge, or reported
 abbrev pub IsSimulationReply : Net → SpecTrace → CellTable → Reply → Type 0
-IsSimulationReply net trace at reply = IsTooWide net trace reply ⊎ IsReportOn net trace at reply
+IsSimulationReply = IsSimulationReplyBy run_report_of
