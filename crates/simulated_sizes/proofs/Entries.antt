@@ -1,19 +1,17 @@
 -- In a run in which all packets leave, each of them enters before the end.
-use Rattle.std.specs.Prelude.{◌≡◌, ℕ, ◌+◌, ◌<◌, ◌≤◌, ◌==◌, true, List, [], ◌∷◌, ◌++◌, length, None}
+use Rattle.std.specs.Prelude.{◌≡◌, ℕ, ◌+◌, ◌<◌, ◌≤◌, ◌==◌, List, [], ◌∷◌, ◌++◌, length, None}
 use Rattle.std.proofs.Common.{arith, refl, sym, subst, ap, ◌∙◌, inl, inr}
-use Rattle.std.proofs.lemmas.Bool.{cases_Bool, eqb-true, eqb-false, eq-eqb}
+use Rattle.std.proofs.lemmas.Bool.{cases_Bool, eqb-true, eqb-false}
 use Rattle.std.proofs.lemmas.List.{length-map, length-set, get_or-map, length_push}
-use Rattle.rational.specs.Rational.{ℚ, ◌<ℚ◌}
+use Rattle.rational.specs.Rational.{ℚ}
 use Rattle.run_laws.specs.declared.steps.Step.{Step}
 use Rattle.run_laws.specs.declared.steps.Step.TheVariants.{Enter, Reach, Work, Leave, Visit}
 use Rattle.run_laws.specs.Runs.{SpecRun}
-use Rattle.run_laws.specs.Cards.{ServerStep, Arrives, Works, Leaves, Visits}
 use Rattle.run_laws.specs.Servers.{Fifo, Server, ServerState, start}
 use Rattle.run_laws.specs.Next.{next, after}
-use Rattle.run_laws.specs.Routes.{Routes, server_at, route_of, first_server}
+use Rattle.run_laws.specs.Routes.{Routes, server_at}
 use Rattle.run_laws.specs.Views.{entered_after, server_of, seen, view_from, view}
 use Rattle.run_laws.specs.Lawful.{RunState, state_at, next_run, after_run, run_start, AllAllowedInRun, IsLawful}
-use Rattle.run_laws.proofs.Views.{views_are_lawful}
 use Rattle.watch_laws.specs.Entries.{entries}
 use Rattle.stated_runs.proofs.Good.{own_state, other_state}
 

@@ -9,7 +9,7 @@ use Rattle.rational.specs.Gauge.{common_den, bound_of}
 use Rattle.min_plus.specs.WholeUp.{whole_up}
 use Rattle.upp_curve.specs.Curve.{SpecCurve}
 use Rattle.upp_curve.specs.Curves.{IsCurve}
-use Rattle.upp_limits.specs.Limits.{Numbers, Sizes, joined, curve_numbers, twice}
+use Rattle.upp_limits.specs.Limits.{Numbers, Sizes, curve_numbers, twice}
 use Rattle.upp_limits.specs.Sized.{IsValue, IsSlope, Stands}
 use Rattle.upp_limits.proofs.CommonDen.{common_den_each, bound_each}
 use Rattle.upp_limits.proofs.Stands.{stands_right}

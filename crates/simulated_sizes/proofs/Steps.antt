@@ -86,8 +86,7 @@ pub steps_stand : (net : Net) (trace : SpecTrace) (end : ℚ) (done xs : List St
 steps_stand net trace end done [] F k h a = tt
 steps_stand net trace end done (x ∷ xs) F k h a =
     let S = setup_of net trace in
-    let next : state_after S (done ++ x ∷ []) ≡ next_run S.net (state_after S done) x = after_more S.net (run_start S.net) done x in
-    (
+    let next : state_after S (done ++ x ∷ []) ≡ next_run S.net (state_after S done) x = after_more S.net (run_start S.net) done x in (
       step_stands net trace end done x F k h.0.due a.0,
       steps_stand net trace end (done ++ x ∷ []) xs F (so_far_more S (run_start S.net) done x k h.0)
           (subst (λ (r : RunState). Follows S r xs) (sym next) h.1) (subst (λ (r : RunState). AllAllowedInRun S.net end r xs) (sym next) a.1),

@@ -1,26 +1,25 @@
 -- A server that is empty at the end has worked off all that arrived.
 use Rattle.std.specs.Prelude.{◌≡◌, ◌≤◌, pos, true, List, [], ◌∷◌, ◌++◌}
 use Rattle.std.specs.List.{AllByRecursion}
-use Rattle.std.proofs.Common.{arith, refl, sym, subst, ap, ◌∙◌, inl, inr}
-use Rattle.std.proofs.lemmas.Bool.{cases_Bool}
+use Rattle.std.proofs.Common.{arith, refl, sym, subst, ap, ◌∙◌}
 use Rattle.std.proofs.lemmas.List.{append-nil}
-use Rattle.rational.specs.Rational.{ℚ, int, ◌+ℚ◌, ◌-ℚ◌, ◌*ℚ◌, ◌/ℚ◌, ◌≤ℚ◌, ◌<ℚ◌, lt_q}
-use Rattle.rational.proofs.Laws.{le_refl, le_trans, le_of_lt, lt_irrefl, mul_le_mul, mul_le_mul_right, mul_sub, mul_zero, div_mul, not_zero}
+use Rattle.rational.specs.Rational.{ℚ, int, ◌+ℚ◌, ◌-ℚ◌, ◌*ℚ◌, ◌/ℚ◌, ◌≤ℚ◌, ◌<ℚ◌}
+use Rattle.rational.proofs.Laws.{le_of_lt, mul_le_mul, mul_le_mul_right, mul_sub, mul_zero, div_mul, not_zero}
 use Rattle.rational.proofs.Integers.{nat_nonneg, nat_le_out}
-use Rattle.rational.proofs.Linear.{with2, with3, with_atoms}
-use Rattle.rational.proofs.Over.{le_q_out, lt_q_in}
+use Rattle.rational.proofs.Linear.{with2, with_atoms}
+use Rattle.rational.proofs.Over.{le_q_out}
 use Rattle.upp_limits.specs.Limits.{Sizes}
 use Rattle.upp_limits.specs.Sized.{IsSlope}
 use Rattle.upp_normal.specs.Operand.{AreLimited}
 use Rattle.run_laws.specs.Cards.{Card, time_of, all, whole, size, ServerStep, Arrives, Works, Leaves, Visits}
-use Rattle.run_laws.specs.Counts.{when, upto, arrived, arrived_upto, departed_upto, worked}
+use Rattle.run_laws.specs.Counts.{when, upto, arrived_upto, departed_upto, worked}
 use Rattle.run_laws.specs.Servers.{Server, ServerState, start}
 use Rattle.run_laws.specs.Next.{next, after}
 use Rattle.run_laws.specs.Allows.{AllAllowed, IsLawfulView}
-use Rattle.run_laws.proofs.Sizes.{whole_sum, size_nonneg, size_pos}
+use Rattle.run_laws.proofs.Sizes.{whole_sum}
 use Rattle.run_laws.proofs.Sums.{Each}
 use Rattle.run_laws.proofs.Heads.{sum_of}
-use Rattle.run_laws.proofs.Orders.{at_upto, left_upto_worked, worked_arrived}
+use Rattle.run_laws.proofs.Orders.{at_upto, left_upto_worked}
 use Rattle.run_laws.proofs.Cuts.{IsAfter, time_in_order}
 use Rattle.run_watch.specs.declared.span.Span.{Span}
 use Rattle.run_watch.specs.Ramps.{InOrder}
@@ -28,7 +27,7 @@ use Rattle.run_watch.specs.Seen.{work_spans}
 use Rattle.run_watch.proofs.SeenLists.{worked_is}
 use Rattle.run_watch.proofs.ViewSpans.{works_in_order}
 use Rattle.first_breaches.specs.Sizes.{bits_in}
-use Rattle.first_breaches.proofs.Views.{SpanStands, arrived_most, sum_bits, sum_is}
+use Rattle.first_breaches.proofs.Views.{SpanStands, sum_bits, sum_is}
 
 -- ---- all that arrived
 bits_by_end : (server : Server) (end : ℚ) (σ : ServerState) (V : List ServerStep) → AllAllowed server end σ V → arrived_upto all V end ≡ whole (bits_in V)
