@@ -1588,6 +1588,140 @@ flow f2 tfa 490 sfa 490 bound 490
 }
 
 #[test]
+fn exercises(rt: HostRuntime) -> Result<(), Fail> {
+    let alloc = rt.alloc();
+    let rows: [(&str, &[(&str, &str)], u8, &str); 14] = [
+        // a_fraction
+        (
+            "netcalc exercise 7/1",
+            &[],
+            2,
+            "netcalc: usage: netcalc analyse NET [--json], edit NET EDITS [--json], simulate NET TRACE, exercise N, measure NET TRACE FLOW RATE, curve FILE\n",
+        ),
+        // a_letter_after_the_digits
+        (
+            "netcalc exercise 7a",
+            &[],
+            2,
+            "netcalc: usage: netcalc analyse NET [--json], edit NET EDITS [--json], simulate NET TRACE, exercise N, measure NET TRACE FLOW RATE, curve FILE\n",
+        ),
+        // a_minus_sign
+        (
+            "netcalc exercise -7",
+            &[],
+            2,
+            "netcalc: usage: netcalc analyse NET [--json], edit NET EDITS [--json], simulate NET TRACE, exercise N, measure NET TRACE FLOW RATE, curve FILE\n",
+        ),
+        // a_number_past_128_bits
+        (
+            "netcalc exercise 340282366920938463463374607431768211463",
+            &[],
+            2,
+            "netcalc: usage: netcalc analyse NET [--json], edit NET EDITS [--json], simulate NET TRACE, exercise N, measure NET TRACE FLOW RATE, curve FILE\n",
+        ),
+        // a_number_past_64_bits
+        (
+            "netcalc exercise 18446744073709551616",
+            &[],
+            2,
+            "netcalc: usage: netcalc analyse NET [--json], edit NET EDITS [--json], simulate NET TRACE, exercise N, measure NET TRACE FLOW RATE, curve FILE\n",
+        ),
+        // a_plus_sign
+        (
+            "netcalc exercise +7",
+            &[],
+            2,
+            "netcalc: usage: netcalc analyse NET [--json], edit NET EDITS [--json], simulate NET TRACE, exercise N, measure NET TRACE FLOW RATE, curve FILE\n",
+        ),
+        // a_report_as_json_is_not_had
+        (
+            "netcalc exercise 7 --json",
+            &[],
+            2,
+            "netcalc: usage: netcalc analyse NET [--json], edit NET EDITS [--json], simulate NET TRACE, exercise N, measure NET TRACE FLOW RATE, curve FILE\n",
+        ),
+        // another_odd_number
+        (
+            "netcalc exercise 11",
+            &[],
+            0,
+            r#"exercise 11
+servers 16 flows 24 packets 1856
+largest bound 370
+largest worst 260
+breach none
+"#,
+        ),
+        // flows_of_one_server
+        (
+            "netcalc exercise 7",
+            &[],
+            0,
+            r#"exercise 7
+servers 16 flows 24 packets 1600
+largest bound 740
+largest worst 280
+breach none
+"#,
+        ),
+        // flows_of_up_to_four_servers
+        (
+            "netcalc exercise 8",
+            &[],
+            0,
+            r#"exercise 8
+servers 16 flows 24 packets 1568
+largest bound 1950
+largest worst 580
+breach none
+"#,
+        ),
+        // no_number
+        (
+            "netcalc exercise",
+            &[],
+            2,
+            "netcalc: usage: netcalc analyse NET [--json], edit NET EDITS [--json], simulate NET TRACE, exercise N, measure NET TRACE FLOW RATE, curve FILE\n",
+        ),
+        // the_greatest_number
+        (
+            "netcalc exercise 18446744073709551615",
+            &[],
+            0,
+            r#"exercise 18446744073709551615
+servers 16 flows 24 packets 1728
+largest bound 750
+largest worst 290
+breach none
+"#,
+        ),
+        // two_numbers
+        (
+            "netcalc exercise 7 8",
+            &[],
+            2,
+            "netcalc: usage: netcalc analyse NET [--json], edit NET EDITS [--json], simulate NET TRACE, exercise N, measure NET TRACE FLOW RATE, curve FILE\n",
+        ),
+        // zeros_before_the_number
+        (
+            "netcalc exercise 007",
+            &[],
+            0,
+            r#"exercise 7
+servers 16 flows 24 packets 1600
+largest bound 740
+largest worst 280
+breach none
+"#,
+        ),
+    ];
+    for (line, files, status, wanted) in rows {
+        check(&rt, alloc, line, files, status, wanted)?;
+    }
+    Ok(())
+}
+
+#[test]
 fn faults(rt: HostRuntime) -> Result<(), Fail> {
     let alloc = rt.alloc();
     let rows: [(&str, &[(&str, &str)], u8, &str); 9] = [
@@ -4221,14 +4355,7 @@ breach arrival f1 0 1
 #[test]
 fn words(rt: HostRuntime) -> Result<(), Fail> {
     let alloc = rt.alloc();
-    let rows: [(&str, &[(&str, &str)], u8, &str); 10] = [
-        // a_command_not_built
-        (
-            "netcalc exercise 7",
-            &[],
-            2,
-            "netcalc: usage: netcalc analyse NET [--json], edit NET EDITS [--json], simulate NET TRACE, exercise N, measure NET TRACE FLOW RATE, curve FILE\n",
-        ),
+    let rows: [(&str, &[(&str, &str)], u8, &str); 9] = [
         // a_command_that_is_none
         (
             "netcalc analyze n.toml",

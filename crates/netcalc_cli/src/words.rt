@@ -4,9 +4,10 @@ ghost use Rattle.rational.specs.Rational.{◌≤ℚ◌};
 ghost use Rattle.min_plus.specs.Functions.{zero_q};
 ghost use Rattle.netcalc_cli.specs.Commands.{HasRate};
 ghost use Rattle.netcalc_cli.specs.View.{command_view};
-ghost use Rattle.netcalc_cli.specs.Words.{texts, is_operand, rate_of, on_one, on_two, on_four, command_of};
+ghost use Rattle.netcalc_cli.specs.Words.{texts, is_operand, in_64_bits, seed_of, rate_of, on_one, on_two, on_four};
+ghost use Rattle.netcalc_cli.specs.Words.{command_of};
 
-use fraction128::{Frac, is_less};
+use fraction128::{Frac, is_less, read_digits};
 use std::alloc::Global;
 
 /// What a command line asks for, with the names of its files, and with what its other words say.
@@ -18,6 +19,8 @@ pub(crate) enum Command<'a> {
     Edit(&'a str, &'a str),
     /// The run of a network and a trace beside the bounds.
     Simulate(&'a str, &'a str),
+    /// The summary of the workload of a number, analysed and simulated.
+    Exercise(u64),
     /// The least arrival curve of a flow's packets in a trace, by the flow's name, and their least bucket for a rate in
     /// bits a unit of time.
     Measure(&'a str, &'a str, &'a str, Frac),
@@ -47,18 +50,42 @@ fn are_both_operands(first: &str, second: &str) -> bool
     is_operand(first) && is_operand(second)
 }
 
-// The command of this word on one file.
-fn on_one<'a>(word: &str, file: &'a str) -> Option<Command<'a>>
-    ensures command { option_map command_view result ≡ on_one word.now file.now }
+fn in_64_bits(number: u128) -> Option<u64>
+    ensures { result ≡ in_64_bits number }
+{
+    if number <= u128::from(u64::MAX) {
+        Some(number as u64)
+    } else {
+        None
+    }
+}
+
+// The number of a workload that a word writes: digits and nothing else, of a number of 64 bits.
+fn seed_of(word: &str) -> Option<u64>
+    ensures { result ≡ seed_of word.now }
+{
+    let number = read_digits(word.as_bytes())?;
+    in_64_bits(number)
+}
+
+// The command of this word on one file, or on a workload's number.
+fn on_one<'a>(word: &str, operand: &'a str) -> Option<Command<'a>>
+    ensures command { option_map command_view result ≡ on_one word.now operand.now }
     ensures rate { IfSome result (λ c. HasRate (command_view c)) }
 {
     if word == "analyse" {
-        return Some(Command::Analyse(file));
+        return Some(Command::Analyse(operand));
     }
     if word == "curve" {
-        return Some(Command::Curve(file));
+        return Some(Command::Curve(operand));
     }
-    None
+    if word != "exercise" {
+        return None;
+    }
+    match seed_of(operand) {
+        Some(seed) => Some(Command::Exercise(seed)),
+        None => None,
+    }
 }
 
 // The command of this word on two files.
@@ -109,16 +136,16 @@ fn on_four<'a>(
     }
 }
 
-fn with_one<'a>(word: &str, file: &'a String) -> Option<Taken<'a>>
+fn with_one<'a>(word: &str, operand: &'a String) -> Option<Taken<'a>>
     ensures command { option_map (λ t. command_view t.command) result
-        ≡ command_of ([] ∷ word.now ∷ string_bytes file.now ∷ []) }
+        ≡ command_of ([] ∷ word.now ∷ string_bytes operand.now ∷ []) }
     ensures rate { IfSome result (λ t. HasRate (command_view t.command)) }
 {
-    if !is_operand(file.as_str()) {
+    if !is_operand(operand.as_str()) {
         return None;
     }
-    let alloc = *file.allocator();
-    match on_one(word, file.as_str()) {
+    let alloc = *operand.allocator();
+    match on_one(word, operand.as_str()) {
         Some(command) => Some(Taken { alloc, command }),
         None => None,
     }
@@ -176,7 +203,7 @@ pub(crate) fn take_words(words: &[String]) -> Option<Taken<'_>>
     ensures rate { IfSome result (λ t. HasRate (command_view t.command)) }
 {
     match words {
-        [_, word, file] => with_one(word.as_str(), file),
+        [_, word, operand] => with_one(word.as_str(), operand),
         [_, word, first, second] => with_two(word.as_str(), first, second),
         [_, word, net, trace, name, rate] => with_four(word.as_str(), net, trace, name, rate),
         _ => None,
