@@ -25,3 +25,9 @@ from_zero net run h = record { end = h.end; steps = times_from run.steps h.times
 
 pub few_steps : (net : Net) (run : SpecRun) → IsRecordedRun net run → length run.steps < 2 ^ 32 - 1
 few_steps net run h = let few = h.few in omega (arith, few)
+
+pub steps_at_most : (net : Net) (run : SpecRun) → IsRecordedRun net run → length run.steps ≤ 2 ^ 32
+steps_at_most net run h = let few = h.few in omega (arith, few)
+
+pub steps_below : (net : Net) (run : SpecRun) → IsRecordedRun net run → length run.steps < 2 ^ 32
+steps_below net run h = let few = h.few in omega (arith, few)
