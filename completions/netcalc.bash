@@ -4,12 +4,12 @@ _netcalc() {
     local current=${COMP_WORDS[COMP_CWORD]}
     COMPREPLY=()
     case $COMP_CWORD:${COMP_WORDS[1]} in
-        1:*) mapfile -t COMPREPLY < <(compgen -W "analyse edit simulate exercise measure curve" -- "$current") ;;
-        2:analyse|2:edit|2:simulate|2:measure)
+        1:*) mapfile -t COMPREPLY < <(compgen -W "analyse edit simulate exercise check measure curve" -- "$current") ;;
+        2:analyse|2:edit|2:simulate|2:check|2:measure)
             compopt -o filenames 2>/dev/null
             mapfile -t COMPREPLY < <(compgen -f -X '!*.toml' -- "$current"; compgen -d -- "$current")
             ;;
-        2:curve|3:edit|3:simulate|3:measure)
+        2:curve|3:edit|3:simulate|3:check|3:measure)
             compopt -o filenames 2>/dev/null
             mapfile -t COMPREPLY < <(compgen -f -- "$current")
             ;;

@@ -1,6 +1,6 @@
 #!/usr/bin/env python3
 """Runs each command that docs/TUTORIAL.md and the pages of examples/ show: an indented line that begins with `$ `, whose answer stands below it,
-up to the next command or the end of the block. Then it runs each network, edit list, trace and script of examples/ that has its answer beside it."""
+up to the next command or the end of the block. Then it runs each network, edit list, trace, recorded run and script of examples/ that has its answer beside it."""
 
 import pathlib
 import re
@@ -33,6 +33,9 @@ def wanted():
         stem = trace.name.removesuffix("_trace.csv")
         network, answer = trace.with_name(f"{stem}.toml"), trace.with_name(f"{stem}_run.txt")
         yield "examples", f"./netcalc simulate {network.relative_to(TOP)} {trace.relative_to(TOP)}", answer.read_text()
+    for recorded in sorted(TOP.glob("examples/**/*_recorded.csv")):
+        network = recorded.with_name(f"{recorded.name.removesuffix('_recorded.csv')}.toml")
+        yield "examples", f"./netcalc check {network.relative_to(TOP)} {recorded.relative_to(TOP)}", recorded.with_suffix(".txt").read_text()
     for edits in sorted(TOP.glob("examples/**/*_edits.csv")):
         network = edits.with_name(f"{edits.name.removesuffix('_edits.csv')}.toml")
         yield "examples", f"./netcalc edit {network.relative_to(TOP)} {edits.relative_to(TOP)}", edits.with_suffix(".txt").read_text()

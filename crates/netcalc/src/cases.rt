@@ -265,6 +265,1805 @@ flow f2 tfa unbounded sfa unbounded bound unbounded
 }
 
 #[test]
+fn check_faults(rt: HostRuntime) -> Result<(), Fail> {
+    let alloc = rt.alloc();
+    let rows: [(&str, &[(&str, &str)], u8, &str); 18] = [
+        // a_byte_behind_the_end
+        (
+            "netcalc check n.toml r.csv",
+            &[
+                (
+                    "n.toml",
+                    r#"[[server]]
+name = "s1"
+rate = 100
+service = { kind = "latency", latency = 10 }
+
+[[flow]]
+name = "f1"
+packet = 12000
+arrival = { kind = "bucket", burst = 12000, rate = 10 }
+path = ["s1"]
+"#,
+                ),
+                ("r.csv", "end,0\nend,0\t\n"),
+            ],
+            1,
+            "netcalc: r.csv: T8 row 2\n",
+        ),
+        // a_byte_that_is_not_plain
+        (
+            "netcalc check n.toml r.csv",
+            &[
+                (
+                    "n.toml",
+                    r#"[[server]]
+name = "s1"
+rate = 100
+service = { kind = "latency", latency = 10 }
+
+[[flow]]
+name = "f1"
+packet = 12000
+arrival = { kind = "bucket", burst = 12000, rate = 10 }
+path = ["s1"]
+"#,
+                ),
+                ("r.csv", "enter,0,f1,1\t\n"),
+            ],
+            1,
+            "netcalc: r.csv: T1 row 1\n",
+        ),
+        // a_cycle
+        (
+            "netcalc check n.toml r.csv",
+            &[
+                (
+                    "n.toml",
+                    r#"[[server]]
+name = "s1"
+rate = 100
+service = { kind = "latency", latency = 10 }
+
+[[server]]
+name = "s2"
+rate = 100
+service = { kind = "latency", latency = 10 }
+
+[[flow]]
+name = "f1"
+packet = 12000
+arrival = { kind = "bucket", burst = 12000, rate = 10 }
+path = ["s1", "s2"]
+
+[[flow]]
+name = "f2"
+packet = 6000
+arrival = { kind = "bucket", burst = 6000, rate = 5 }
+path = ["s2", "s1"]
+"#,
+                ),
+                ("r.csv", "end,0\n"),
+            ],
+            8,
+            "netcalc: cycle s1 s2 s1\n",
+        ),
+        // a_network_that_breaks_a_rule_goes_first
+        (
+            "netcalc check n.toml r.csv",
+            &[
+                (
+                    "n.toml",
+                    r#"[[server]]
+name = "s1"
+rate = 0
+service = { kind = "latency", latency = 10 }
+
+[[flow]]
+name = "f1"
+packet = 12000
+arrival = { kind = "bucket", burst = 12000, rate = 10 }
+path = ["s1"]
+"#,
+                ),
+                ("r.csv", "end\n"),
+            ],
+            1,
+            "netcalc: n.toml: M6 server[0].rate\n",
+        ),
+        // a_packet_of_no_bits
+        (
+            "netcalc check n.toml r.csv",
+            &[
+                (
+                    "n.toml",
+                    r#"[[server]]
+name = "s1"
+rate = 100
+service = { kind = "latency", latency = 10 }
+
+[[flow]]
+name = "f1"
+packet = 12000
+arrival = { kind = "bucket", burst = 12000, rate = 10 }
+path = ["s1"]
+"#,
+                ),
+                (
+                    "r.csv",
+                    r#"enter,0,f1,0
+end,0
+"#,
+                ),
+            ],
+            1,
+            "netcalc: r.csv: T4 row 1\n",
+        ),
+        // a_packet_past_all_numbers
+        (
+            "netcalc check n.toml r.csv",
+            &[
+                (
+                    "n.toml",
+                    r#"[[server]]
+name = "s1"
+rate = 100
+service = { kind = "latency", latency = 10 }
+
+[[flow]]
+name = "f1"
+packet = 12000
+arrival = { kind = "bucket", burst = 12000, rate = 10 }
+path = ["s1"]
+"#,
+                ),
+                (
+                    "r.csv",
+                    r#"leave,0,s1,4294967296
+end,0
+"#,
+                ),
+            ],
+            1,
+            "netcalc: r.csv: T4 row 1\n",
+        ),
+        // a_row_behind_the_end
+        (
+            "netcalc check n.toml r.csv",
+            &[
+                (
+                    "n.toml",
+                    r#"[[server]]
+name = "s1"
+rate = 100
+service = { kind = "latency", latency = 10 }
+
+[[flow]]
+name = "f1"
+packet = 12000
+arrival = { kind = "bucket", burst = 12000, rate = 10 }
+path = ["s1"]
+"#,
+                ),
+                (
+                    "r.csv",
+                    r#"end,0
+end,0
+"#,
+                ),
+            ],
+            1,
+            "netcalc: r.csv: T8 row 2\n",
+        ),
+        // a_row_fault_goes_before_a_cycle
+        (
+            "netcalc check n.toml r.csv",
+            &[
+                (
+                    "n.toml",
+                    r#"[[server]]
+name = "s1"
+rate = 100
+service = { kind = "latency", latency = 10 }
+
+[[server]]
+name = "s2"
+rate = 100
+service = { kind = "latency", latency = 10 }
+
+[[flow]]
+name = "f1"
+packet = 12000
+arrival = { kind = "bucket", burst = 12000, rate = 10 }
+path = ["s1", "s2"]
+
+[[flow]]
+name = "f2"
+packet = 6000
+arrival = { kind = "bucket", burst = 6000, rate = 5 }
+path = ["s2", "s1"]
+"#,
+                ),
+                ("r.csv", "end\n"),
+            ],
+            1,
+            "netcalc: r.csv: T3 row 1\n",
+        ),
+        // a_row_of_no_kind
+        (
+            "netcalc check n.toml r.csv",
+            &[
+                (
+                    "n.toml",
+                    r#"[[server]]
+name = "s1"
+rate = 100
+service = { kind = "latency", latency = 10 }
+
+[[flow]]
+name = "f1"
+packet = 12000
+arrival = { kind = "bucket", burst = 12000, rate = 10 }
+path = ["s1"]
+"#,
+                ),
+                (
+                    "r.csv",
+                    r#"enter,0,f1,1
+arrive,0,s1,0
+"#,
+                ),
+            ],
+            1,
+            "netcalc: r.csv: T2 row 2\n",
+        ),
+        // a_row_with_too_few_fields
+        (
+            "netcalc check n.toml r.csv",
+            &[
+                (
+                    "n.toml",
+                    r#"[[server]]
+name = "s1"
+rate = 100
+service = { kind = "latency", latency = 10 }
+
+[[flow]]
+name = "f1"
+packet = 12000
+arrival = { kind = "bucket", burst = 12000, rate = 10 }
+path = ["s1"]
+"#,
+                ),
+                (
+                    "r.csv",
+                    r#"enter,0,f1,1
+work,s1,0,0,1
+end,1
+"#,
+                ),
+            ],
+            1,
+            "netcalc: r.csv: T3 row 2\n",
+        ),
+        // a_time_below_0
+        (
+            "netcalc check n.toml r.csv",
+            &[
+                (
+                    "n.toml",
+                    r#"[[server]]
+name = "s1"
+rate = 100
+service = { kind = "latency", latency = 10 }
+
+[[flow]]
+name = "f1"
+packet = 12000
+arrival = { kind = "bucket", burst = 12000, rate = 10 }
+path = ["s1"]
+"#,
+                ),
+                (
+                    "r.csv",
+                    r#"enter,-1,f1,1
+end,1
+"#,
+                ),
+            ],
+            1,
+            "netcalc: r.csv: T4 row 1\n",
+        ),
+        // a_time_too_wide
+        (
+            "netcalc check n.toml r.csv",
+            &[
+                (
+                    "n.toml",
+                    r#"[[server]]
+name = "s1"
+rate = 100
+service = { kind = "latency", latency = 10 }
+
+[[flow]]
+name = "f1"
+packet = 12000
+arrival = { kind = "bucket", burst = 12000, rate = 10 }
+path = ["s1"]
+"#,
+                ),
+                (
+                    "r.csv",
+                    r#"enter,1/1329227995784915872903807060280344576,f1,1
+end,1
+"#,
+                ),
+            ],
+            6,
+            "netcalc: too wide: check\n",
+        ),
+        // an_empty_run
+        (
+            "netcalc check n.toml r.csv",
+            &[
+                (
+                    "n.toml",
+                    r#"[[server]]
+name = "s1"
+rate = 100
+service = { kind = "latency", latency = 10 }
+
+[[flow]]
+name = "f1"
+packet = 12000
+arrival = { kind = "bucket", burst = 12000, rate = 10 }
+path = ["s1"]
+"#,
+                ),
+                ("r.csv", ""),
+            ],
+            1,
+            "netcalc: r.csv: T8 row 1\n",
+        ),
+        // an_unknown_flow
+        (
+            "netcalc check n.toml r.csv",
+            &[
+                (
+                    "n.toml",
+                    r#"[[server]]
+name = "s1"
+rate = 100
+service = { kind = "latency", latency = 10 }
+
+[[flow]]
+name = "f1"
+packet = 12000
+arrival = { kind = "bucket", burst = 12000, rate = 10 }
+path = ["s1"]
+"#,
+                ),
+                (
+                    "r.csv",
+                    r#"enter,0,f9,1
+end,0
+"#,
+                ),
+            ],
+            1,
+            "netcalc: r.csv: T5 row 1\n",
+        ),
+        // an_unknown_server
+        (
+            "netcalc check n.toml r.csv",
+            &[
+                (
+                    "n.toml",
+                    r#"[[server]]
+name = "s1"
+rate = 100
+service = { kind = "latency", latency = 10 }
+
+[[flow]]
+name = "f1"
+packet = 12000
+arrival = { kind = "bucket", burst = 12000, rate = 10 }
+path = ["s1"]
+"#,
+                ),
+                (
+                    "r.csv",
+                    r#"visit,0,s9,0
+end,0
+"#,
+                ),
+            ],
+            1,
+            "netcalc: r.csv: T5 row 1\n",
+        ),
+        // an_unlawful_run_too_wide
+        (
+            "netcalc check n.toml r.csv",
+            &[
+                (
+                    "n.toml",
+                    r#"[[server]]
+name = "s1"
+rate = 100
+service = { kind = "latency", latency = 10 }
+
+[[flow]]
+name = "f1"
+packet = 12000
+arrival = { kind = "bucket", burst = 12000, rate = 10 }
+path = ["s1"]
+"#,
+                ),
+                (
+                    "r.csv",
+                    r#"leave,1/1329227995784915872903807060280344576,s1,0
+end,1
+"#,
+                ),
+            ],
+            6,
+            "netcalc: too wide: check\n",
+        ),
+        // no_end
+        (
+            "netcalc check n.toml r.csv",
+            &[
+                (
+                    "n.toml",
+                    r#"[[server]]
+name = "s1"
+rate = 100
+service = { kind = "latency", latency = 10 }
+
+[[flow]]
+name = "f1"
+packet = 12000
+arrival = { kind = "bucket", burst = 12000, rate = 10 }
+path = ["s1"]
+"#,
+                ),
+                ("r.csv", "enter,0,f1,12000\n"),
+            ],
+            1,
+            "netcalc: r.csv: T8 row 2\n",
+        ),
+        // no_run_there
+        (
+            "netcalc check n.toml r.csv",
+            &[(
+                "n.toml",
+                r#"[[server]]
+name = "s1"
+rate = 100
+service = { kind = "latency", latency = 10 }
+
+[[flow]]
+name = "f1"
+packet = 12000
+arrival = { kind = "bucket", burst = 12000, rate = 10 }
+path = ["s1"]
+"#,
+            )],
+            3,
+            "netcalc: cannot read r.csv\n",
+        ),
+    ];
+    for (line, files, status, wanted) in rows {
+        check(&rt, alloc, line, files, status, wanted)?;
+    }
+    Ok(())
+}
+
+#[test]
+fn checks(rt: HostRuntime) -> Result<(), Fail> {
+    let alloc = rt.alloc();
+    let rows: [(&str, &[(&str, &str)], u8, &str); 35] = [
+        // a_bit_too_many
+        (
+            "netcalc check n.toml r.csv",
+            &[
+                (
+                    "n.toml",
+                    r#"[[server]]
+name = "s1"
+rate = 100
+service = { kind = "latency", latency = 10 }
+
+[[flow]]
+name = "f1"
+packet = 12000
+arrival = { kind = "bucket", burst = 12000, rate = 10 }
+path = ["s1"]
+"#,
+                ),
+                (
+                    "r.csv",
+                    r#"enter,0,f1,12000
+work,s1,0,0,60,6000
+work,s1,0,60,120,6001
+end,120
+"#,
+                ),
+            ],
+            9,
+            r#"servers 1 flows 1
+run packets 1 end 120
+verdict unlawful row 3 L4
+"#,
+        ),
+        // a_leave_a_unit_late
+        (
+            "netcalc check n.toml r.csv",
+            &[
+                (
+                    "n.toml",
+                    r#"[[server]]
+name = "s1"
+rate = 100
+service = { kind = "latency", latency = 10 }
+
+[[flow]]
+name = "f1"
+packet = 12000
+arrival = { kind = "bucket", burst = 12000, rate = 10 }
+path = ["s1"]
+"#,
+                ),
+                (
+                    "r.csv",
+                    r#"enter,0,f1,12000
+work,s1,0,10,130,12000
+leave,131,s1,0
+end,131
+"#,
+                ),
+            ],
+            9,
+            r#"servers 1 flows 1
+run packets 1 end 131
+verdict unlawful row 3 L6
+"#,
+        ),
+        // a_packet_a_unit_early
+        (
+            "netcalc check n.toml r.csv",
+            &[
+                (
+                    "n.toml",
+                    r#"[[server]]
+name = "s1"
+rate = 100
+service = { kind = "latency", latency = 10 }
+link = 5
+
+[[server]]
+name = "s2"
+rate = 100
+service = { kind = "latency", latency = 10 }
+link = 5
+
+[[flow]]
+name = "f1"
+packet = 12000
+arrival = { kind = "bucket", burst = 12000, rate = 10 }
+path = ["s1", "s2"]
+"#,
+                ),
+                (
+                    "r.csv",
+                    r#"enter,0,f1,12000
+work,s1,0,0,120,12000
+leave,120,s1,0
+reach,124,s2,0
+end,124
+"#,
+                ),
+            ],
+            9,
+            r#"servers 2 flows 1
+run packets 1 end 124
+verdict unlawful row 4 L3
+"#,
+        ),
+        // a_packet_longer_than_its_deficit
+        (
+            "netcalc check n.toml r.csv",
+            &[
+                (
+                    "n.toml",
+                    r#"[[server]]
+name = "s1"
+rate = 100
+service = { kind = "latency", latency = 10 }
+discipline = "drr"
+quanta = [12000, 6000]
+
+[[flow]]
+name = "f1"
+packet = 12000
+arrival = { kind = "bucket", burst = 12000, rate = 10 }
+path = ["s1:0"]
+
+[[flow]]
+name = "f2"
+packet = 6000
+arrival = { kind = "bucket", burst = 6000, rate = 5 }
+path = ["s1:1"]
+"#,
+                ),
+                (
+                    "r.csv",
+                    r#"enter,0,f1,12001
+visit,0,s1,0
+work,s1,0,0,120,12001
+end,120
+"#,
+                ),
+            ],
+            9,
+            r#"servers 1 flows 2
+run packets 1 end 120
+verdict unlawful row 3 L5
+"#,
+        ),
+        // a_packet_on_a_link_at_the_end
+        (
+            "netcalc check n.toml r.csv",
+            &[
+                (
+                    "n.toml",
+                    r#"[[server]]
+name = "s1"
+rate = 100
+service = { kind = "latency", latency = 10 }
+link = 5
+
+[[server]]
+name = "s2"
+rate = 100
+service = { kind = "latency", latency = 10 }
+link = 5
+
+[[flow]]
+name = "f1"
+packet = 12000
+arrival = { kind = "bucket", burst = 12000, rate = 10 }
+path = ["s1", "s2"]
+"#,
+                ),
+                (
+                    "r.csv",
+                    r#"enter,0,f1,12000
+work,s1,0,0,120,12000
+leave,120,s1,0
+end,124
+"#,
+                ),
+            ],
+            0,
+            r#"servers 2 flows 1
+run packets 1 end 124
+worst f1 124 bound 270
+peak s1 0 12000 bound 13300
+peak s2 0 0 bound 14600
+verdict admissible
+"#,
+        ),
+        // a_packet_that_comes_twice
+        (
+            "netcalc check n.toml r.csv",
+            &[
+                (
+                    "n.toml",
+                    r#"[[server]]
+name = "s1"
+rate = 100
+service = { kind = "latency", latency = 10 }
+link = 5
+
+[[server]]
+name = "s2"
+rate = 100
+service = { kind = "latency", latency = 10 }
+link = 5
+
+[[flow]]
+name = "f1"
+packet = 12000
+arrival = { kind = "bucket", burst = 12000, rate = 10 }
+path = ["s1", "s2"]
+"#,
+                ),
+                (
+                    "r.csv",
+                    r#"enter,0,f1,12000
+work,s1,0,0,120,12000
+leave,120,s1,0
+reach,125,s2,0
+reach,125,s2,0
+end,125
+"#,
+                ),
+            ],
+            9,
+            r#"servers 2 flows 1
+run packets 1 end 125
+verdict unlawful row 5 L3
+"#,
+        ),
+        // a_packet_that_has_not_entered
+        (
+            "netcalc check n.toml r.csv",
+            &[
+                (
+                    "n.toml",
+                    r#"[[server]]
+name = "s1"
+rate = 100
+service = { kind = "latency", latency = 10 }
+
+[[flow]]
+name = "f1"
+packet = 12000
+arrival = { kind = "bucket", burst = 12000, rate = 10 }
+path = ["s1"]
+"#,
+                ),
+                (
+                    "r.csv",
+                    r#"work,s1,0,10,130,12000
+end,130
+"#,
+                ),
+            ],
+            9,
+            r#"servers 1 flows 1
+run packets 0 end 130
+verdict unlawful row 1 L2
+"#,
+        ),
+        // a_packet_that_is_not_worked_off
+        (
+            "netcalc check n.toml r.csv",
+            &[
+                (
+                    "n.toml",
+                    r#"[[server]]
+name = "s1"
+rate = 100
+service = { kind = "latency", latency = 10 }
+
+[[flow]]
+name = "f1"
+packet = 12000
+arrival = { kind = "bucket", burst = 12000, rate = 10 }
+path = ["s1"]
+"#,
+                ),
+                (
+                    "r.csv",
+                    r#"enter,0,f1,12000
+work,s1,0,10,70,6000
+leave,70,s1,0
+end,70
+"#,
+                ),
+            ],
+            9,
+            r#"servers 1 flows 1
+run packets 1 end 70
+verdict unlawful row 3 L6
+"#,
+        ),
+        // a_packet_that_never_comes
+        (
+            "netcalc check n.toml r.csv",
+            &[
+                (
+                    "n.toml",
+                    r#"[[server]]
+name = "s1"
+rate = 100
+service = { kind = "latency", latency = 10 }
+link = 5
+
+[[server]]
+name = "s2"
+rate = 100
+service = { kind = "latency", latency = 10 }
+link = 5
+
+[[flow]]
+name = "f1"
+packet = 12000
+arrival = { kind = "bucket", burst = 12000, rate = 10 }
+path = ["s1", "s2"]
+"#,
+                ),
+                (
+                    "r.csv",
+                    r#"enter,0,f1,12000
+work,s1,0,0,120,12000
+leave,120,s1,0
+end,125
+"#,
+                ),
+            ],
+            9,
+            r#"servers 2 flows 1
+run packets 1 end 125
+verdict unlawful row 4 L9
+"#,
+        ),
+        // a_packet_that_stays
+        (
+            "netcalc check n.toml r.csv",
+            &[
+                (
+                    "n.toml",
+                    r#"[[server]]
+name = "s1"
+rate = 100
+service = { kind = "latency", latency = 10 }
+
+[[flow]]
+name = "f1"
+packet = 12000
+arrival = { kind = "bucket", burst = 12000, rate = 10 }
+path = ["s1"]
+"#,
+                ),
+                (
+                    "r.csv",
+                    r#"enter,0,f1,12000
+work,s1,0,10,130,12000
+end,140
+"#,
+                ),
+            ],
+            9,
+            r#"servers 1 flows 1
+run packets 1 end 140
+verdict unlawful row 3 L9
+"#,
+        ),
+        // a_packet_too_long_at_the_end
+        (
+            "netcalc check n.toml r.csv",
+            &[
+                (
+                    "n.toml",
+                    r#"[[server]]
+name = "s1"
+rate = 100
+service = { kind = "latency", latency = 10 }
+
+[[flow]]
+name = "f1"
+packet = 12000
+arrival = { kind = "bucket", burst = 12000, rate = 10 }
+path = ["s1"]
+"#,
+                ),
+                (
+                    "r.csv",
+                    r#"enter,0,f1,12001
+end,0
+"#,
+                ),
+            ],
+            9,
+            r#"servers 1 flows 1
+run packets 1 end 0
+worst f1 0 bound 130
+peak s1 0 12001 bound 13300
+verdict breach size f1 0
+"#,
+        ),
+        // a_second_packet_under_way
+        (
+            "netcalc check n.toml r.csv",
+            &[
+                (
+                    "n.toml",
+                    r#"[[server]]
+name = "s1"
+rate = 100
+service = { kind = "latency", latency = 10 }
+
+[[flow]]
+name = "f1"
+packet = 12000
+arrival = { kind = "bucket", burst = 12000, rate = 10 }
+path = ["s1"]
+"#,
+                ),
+                (
+                    "r.csv",
+                    r#"enter,0,f1,6000
+enter,0,f1,6000
+work,s1,0,0,30,3000
+work,s1,1,30,60,3000
+end,60
+"#,
+                ),
+            ],
+            9,
+            r#"servers 1 flows 1
+run packets 2 end 60
+verdict unlawful row 4 L4
+"#,
+        ),
+        // a_time_that_goes_back
+        (
+            "netcalc check n.toml r.csv",
+            &[
+                (
+                    "n.toml",
+                    r#"[[server]]
+name = "s1"
+rate = 100
+service = { kind = "latency", latency = 10 }
+
+[[flow]]
+name = "f1"
+packet = 12000
+arrival = { kind = "bucket", burst = 12000, rate = 10 }
+path = ["s1"]
+"#,
+                ),
+                (
+                    "r.csv",
+                    r#"enter,10,f1,1000
+enter,5,f1,1000
+end,10
+"#,
+                ),
+            ],
+            9,
+            r#"servers 1 flows 1
+run packets 2 end 10
+verdict unlawful row 2 L1
+"#,
+        ),
+        // a_visit_at_a_priority_server
+        (
+            "netcalc check n.toml r.csv",
+            &[
+                (
+                    "n.toml",
+                    r#"[[server]]
+name = "s1"
+rate = 100
+service = { kind = "latency", latency = 10 }
+discipline = "priority"
+queues = 2
+
+[[flow]]
+name = "f1"
+packet = 12000
+arrival = { kind = "bucket", burst = 12000, rate = 10 }
+path = ["s1:1"]
+
+[[flow]]
+name = "f2"
+packet = 6000
+arrival = { kind = "bucket", burst = 6000, rate = 5 }
+path = ["s1:0"]
+"#,
+                ),
+                (
+                    "r.csv",
+                    r#"enter,0,f2,6000
+visit,0,s1,0
+end,0
+"#,
+                ),
+            ],
+            9,
+            r#"servers 1 flows 2
+run packets 1 end 0
+verdict unlawful row 2 L7
+"#,
+        ),
+        // a_visit_in_a_visit
+        (
+            "netcalc check n.toml r.csv",
+            &[
+                (
+                    "n.toml",
+                    r#"[[server]]
+name = "s1"
+rate = 100
+service = { kind = "latency", latency = 10 }
+discipline = "drr"
+quanta = [12000, 6000]
+
+[[flow]]
+name = "f1"
+packet = 12000
+arrival = { kind = "bucket", burst = 12000, rate = 10 }
+path = ["s1:0"]
+
+[[flow]]
+name = "f2"
+packet = 6000
+arrival = { kind = "bucket", burst = 6000, rate = 5 }
+path = ["s1:1"]
+"#,
+                ),
+                (
+                    "r.csv",
+                    r#"enter,0,f1,12000
+visit,0,s1,0
+visit,0,s1,0
+end,0
+"#,
+                ),
+            ],
+            9,
+            r#"servers 1 flows 2
+run packets 1 end 0
+verdict unlawful row 3 L7
+"#,
+        ),
+        // a_visit_out_of_turn
+        (
+            "netcalc check n.toml r.csv",
+            &[
+                (
+                    "n.toml",
+                    r#"[[server]]
+name = "s1"
+rate = 100
+service = { kind = "latency", latency = 10 }
+discipline = "drr"
+quanta = [12000, 6000]
+
+[[flow]]
+name = "f1"
+packet = 12000
+arrival = { kind = "bucket", burst = 12000, rate = 10 }
+path = ["s1:0"]
+
+[[flow]]
+name = "f2"
+packet = 6000
+arrival = { kind = "bucket", burst = 6000, rate = 5 }
+path = ["s1:1"]
+"#,
+                ),
+                (
+                    "r.csv",
+                    r#"enter,0,f1,12000
+enter,0,f2,6000
+visit,0,s1,1
+end,0
+"#,
+                ),
+            ],
+            9,
+            r#"servers 1 flows 2
+run packets 2 end 0
+verdict unlawful row 3 L7
+"#,
+        ),
+        // a_visit_where_there_are_none
+        (
+            "netcalc check n.toml r.csv",
+            &[
+                (
+                    "n.toml",
+                    r#"[[server]]
+name = "s1"
+rate = 100
+service = { kind = "latency", latency = 10 }
+
+[[flow]]
+name = "f1"
+packet = 12000
+arrival = { kind = "bucket", burst = 12000, rate = 10 }
+path = ["s1"]
+"#,
+                ),
+                (
+                    "r.csv",
+                    r#"enter,0,f1,12000
+visit,0,s1,0
+end,0
+"#,
+                ),
+            ],
+            9,
+            r#"servers 1 flows 1
+run packets 1 end 0
+verdict unlawful row 2 L7
+"#,
+        ),
+        // another_packet_leaves
+        (
+            "netcalc check n.toml r.csv",
+            &[
+                (
+                    "n.toml",
+                    r#"[[server]]
+name = "s1"
+rate = 100
+service = { kind = "latency", latency = 10 }
+discipline = "priority"
+queues = 2
+
+[[flow]]
+name = "f1"
+packet = 12000
+arrival = { kind = "bucket", burst = 12000, rate = 10 }
+path = ["s1:1"]
+
+[[flow]]
+name = "f2"
+packet = 6000
+arrival = { kind = "bucket", burst = 6000, rate = 5 }
+path = ["s1:0"]
+"#,
+                ),
+                (
+                    "r.csv",
+                    r#"enter,0,f1,12000
+enter,0,f2,6000
+work,s1,1,0,60,6000
+leave,60,s1,0
+end,60
+"#,
+                ),
+            ],
+            9,
+            r#"servers 1 flows 2
+run packets 2 end 60
+verdict unlawful row 4 L6
+"#,
+        ),
+        // deficits_as_simulated
+        (
+            "netcalc check n.toml r.csv",
+            &[
+                (
+                    "n.toml",
+                    r#"[[server]]
+name = "s1"
+rate = 100
+service = { kind = "latency", latency = 10 }
+discipline = "drr"
+quanta = [12000, 6000]
+
+[[flow]]
+name = "f1"
+packet = 12000
+arrival = { kind = "bucket", burst = 12000, rate = 10 }
+path = ["s1:0"]
+
+[[flow]]
+name = "f2"
+packet = 6000
+arrival = { kind = "bucket", burst = 6000, rate = 5 }
+path = ["s1:1"]
+"#,
+                ),
+                (
+                    "r.csv",
+                    r#"enter,0,f1,12000
+enter,0,f2,6000
+visit,0,s1,0
+work,s1,0,0,120,12000
+leave,120,s1,0
+visit,120,s1,1
+work,s1,1,120,180,6000
+leave,180,s1,1
+end,180
+"#,
+                ),
+            ],
+            0,
+            r#"servers 1 flows 2
+run packets 2 end 180
+worst f1 120 bound 370
+worst f2 180 bound 550
+peak s1 0 12000 bound 15700
+peak s1 1 6000 bound 8750
+verdict admissible
+"#,
+        ),
+        // no_packet
+        (
+            "netcalc check n.toml r.csv",
+            &[
+                (
+                    "n.toml",
+                    r#"[[server]]
+name = "s1"
+rate = 100
+service = { kind = "latency", latency = 10 }
+
+[[flow]]
+name = "f1"
+packet = 12000
+arrival = { kind = "bucket", burst = 12000, rate = 10 }
+path = ["s1"]
+"#,
+                ),
+                ("r.csv", "end,0\n"),
+            ],
+            0,
+            r#"servers 1 flows 1
+run packets 0 end 0
+worst f1 0 bound 130
+peak s1 0 0 bound 13300
+verdict admissible
+"#,
+        ),
+        // one_packet
+        (
+            "netcalc check n.toml r.csv",
+            &[
+                (
+                    "n.toml",
+                    r#"[[server]]
+name = "s1"
+rate = 100
+service = { kind = "latency", latency = 10 }
+
+[[flow]]
+name = "f1"
+packet = 12000
+arrival = { kind = "bucket", burst = 12000, rate = 10 }
+path = ["s1"]
+"#,
+                ),
+                (
+                    "r.csv",
+                    r#"enter,0,f1,12000
+work,s1,0,10,130,12000
+leave,130,s1,0
+end,130
+"#,
+                ),
+            ],
+            0,
+            r#"servers 1 flows 1
+run packets 1 end 130
+worst f1 130 bound 130
+peak s1 0 12000 bound 13300
+verdict admissible
+"#,
+        ),
+        // the_first_of_three_laws
+        (
+            "netcalc check n.toml r.csv",
+            &[
+                (
+                    "n.toml",
+                    r#"[[server]]
+name = "s1"
+rate = 100
+service = { kind = "latency", latency = 10 }
+
+[[flow]]
+name = "f1"
+packet = 12000
+arrival = { kind = "bucket", burst = 12000, rate = 10 }
+path = ["s1"]
+"#,
+                ),
+                (
+                    "r.csv",
+                    r#"enter,0,f1,12000
+leave,200,s1,7
+end,100
+"#,
+                ),
+            ],
+            9,
+            r#"servers 1 flows 1
+run packets 1 end 100
+verdict unlawful row 2 L1
+"#,
+        ),
+        // the_second_packet_first
+        (
+            "netcalc check n.toml r.csv",
+            &[
+                (
+                    "n.toml",
+                    r#"[[server]]
+name = "s1"
+rate = 100
+service = { kind = "latency", latency = 10 }
+
+[[flow]]
+name = "f1"
+packet = 12000
+arrival = { kind = "bucket", burst = 12000, rate = 10 }
+path = ["s1"]
+"#,
+                ),
+                (
+                    "r.csv",
+                    r#"enter,0,f1,6000
+enter,0,f1,6000
+work,s1,1,0,60,6000
+end,60
+"#,
+                ),
+            ],
+            9,
+            r#"servers 1 flows 1
+run packets 2 end 60
+verdict unlawful row 3 L5
+"#,
+        ),
+        // the_slow_queue_first
+        (
+            "netcalc check n.toml r.csv",
+            &[
+                (
+                    "n.toml",
+                    r#"[[server]]
+name = "s1"
+rate = 100
+service = { kind = "latency", latency = 10 }
+discipline = "priority"
+queues = 2
+
+[[flow]]
+name = "f1"
+packet = 12000
+arrival = { kind = "bucket", burst = 12000, rate = 10 }
+path = ["s1:1"]
+
+[[flow]]
+name = "f2"
+packet = 6000
+arrival = { kind = "bucket", burst = 6000, rate = 5 }
+path = ["s1:0"]
+"#,
+                ),
+                (
+                    "r.csv",
+                    r#"enter,0,f1,12000
+enter,0,f2,6000
+work,s1,0,0,120,12000
+end,120
+"#,
+                ),
+            ],
+            9,
+            r#"servers 1 flows 2
+run packets 2 end 120
+verdict unlawful row 3 L5
+"#,
+        ),
+        // the_urgent_queue_first
+        (
+            "netcalc check n.toml r.csv",
+            &[
+                (
+                    "n.toml",
+                    r#"[[server]]
+name = "s1"
+rate = 100
+service = { kind = "latency", latency = 10 }
+discipline = "priority"
+queues = 2
+
+[[flow]]
+name = "f1"
+packet = 12000
+arrival = { kind = "bucket", burst = 12000, rate = 10 }
+path = ["s1:1"]
+
+[[flow]]
+name = "f2"
+packet = 6000
+arrival = { kind = "bucket", burst = 6000, rate = 5 }
+path = ["s1:0"]
+"#,
+                ),
+                (
+                    "r.csv",
+                    r#"enter,0,f1,12000
+enter,0,f2,6000
+work,s1,1,0,60,6000
+leave,60,s1,1
+work,s1,0,60,180,12000
+leave,180,s1,0
+end,180
+"#,
+                ),
+            ],
+            0,
+            r#"servers 1 flows 2
+run packets 2 end 180
+worst f1 180 bound 200
+worst f2 60 bound 190
+peak s1 0 6000 bound 6950
+peak s1 1 12000 bound 14000
+verdict admissible
+"#,
+        ),
+        // too_little_work
+        (
+            "netcalc check n.toml r.csv",
+            &[
+                (
+                    "n.toml",
+                    r#"[[server]]
+name = "s1"
+rate = 100
+service = { kind = "latency", latency = 10 }
+
+[[flow]]
+name = "f1"
+packet = 12000
+arrival = { kind = "bucket", burst = 12000, rate = 10 }
+path = ["s1"]
+"#,
+                ),
+                (
+                    "r.csv",
+                    r#"enter,0,f1,12000
+work,s1,0,20,140,12000
+leave,140,s1,0
+end,140
+"#,
+                ),
+            ],
+            9,
+            r#"servers 1 flows 1
+run packets 1 end 140
+worst f1 140 bound 130
+peak s1 0 12000 bound 13300
+verdict breach service s1 0 20
+"#,
+        ),
+        // two_hops_as_simulated
+        (
+            "netcalc check n.toml r.csv",
+            &[
+                (
+                    "n.toml",
+                    r#"[[server]]
+name = "s1"
+rate = 100
+service = { kind = "latency", latency = 10 }
+link = 5
+
+[[server]]
+name = "s2"
+rate = 100
+service = { kind = "latency", latency = 10 }
+link = 5
+
+[[flow]]
+name = "f1"
+packet = 12000
+arrival = { kind = "bucket", burst = 12000, rate = 10 }
+path = ["s1", "s2"]
+"#,
+                ),
+                (
+                    "r.csv",
+                    r#"enter,0,f1,12000
+work,s1,0,0,120,12000
+leave,120,s1,0
+reach,125,s2,0
+work,s2,0,125,245,12000
+leave,245,s2,0
+end,245
+"#,
+                ),
+            ],
+            0,
+            r#"servers 2 flows 1
+run packets 1 end 245
+worst f1 250 bound 270
+peak s1 0 12000 bound 13300
+peak s2 0 12000 bound 14600
+verdict admissible
+"#,
+        ),
+        // two_packets_at_once
+        (
+            "netcalc check n.toml r.csv",
+            &[
+                (
+                    "n.toml",
+                    r#"[[server]]
+name = "s1"
+rate = 100
+service = { kind = "latency", latency = 10 }
+
+[[flow]]
+name = "f1"
+packet = 12000
+arrival = { kind = "bucket", burst = 12000, rate = 10 }
+path = ["s1"]
+"#,
+                ),
+                (
+                    "r.csv",
+                    r#"enter,0,f1,12000
+enter,0,f1,12000
+end,0
+"#,
+                ),
+            ],
+            9,
+            r#"servers 1 flows 1
+run packets 2 end 0
+worst f1 0 bound 130
+peak s1 0 24000 bound 13300
+verdict breach arrival f1 0 1
+"#,
+        ),
+        // work_in_two_parts
+        (
+            "netcalc check n.toml r.csv",
+            &[
+                (
+                    "n.toml",
+                    r#"[[server]]
+name = "s1"
+rate = 100
+service = { kind = "latency", latency = 10 }
+
+[[flow]]
+name = "f1"
+packet = 12000
+arrival = { kind = "bucket", burst = 12000, rate = 10 }
+path = ["s1"]
+"#,
+                ),
+                (
+                    "r.csv",
+                    r#"enter,0,f1,12000
+work,s1,0,10,70,6000
+work,s1,0,70,130,6000
+leave,130,s1,0
+end,130
+"#,
+                ),
+            ],
+            0,
+            r#"servers 1 flows 1
+run packets 1 end 130
+worst f1 130 bound 130
+peak s1 0 12000 bound 13300
+verdict admissible
+"#,
+        ),
+        // work_of_another_queue
+        (
+            "netcalc check n.toml r.csv",
+            &[
+                (
+                    "n.toml",
+                    r#"[[server]]
+name = "s1"
+rate = 100
+service = { kind = "latency", latency = 10 }
+discipline = "drr"
+quanta = [12000, 6000]
+
+[[flow]]
+name = "f1"
+packet = 12000
+arrival = { kind = "bucket", burst = 12000, rate = 10 }
+path = ["s1:0"]
+
+[[flow]]
+name = "f2"
+packet = 6000
+arrival = { kind = "bucket", burst = 6000, rate = 5 }
+path = ["s1:1"]
+"#,
+                ),
+                (
+                    "r.csv",
+                    r#"enter,0,f1,12000
+enter,0,f2,6000
+visit,0,s1,0
+work,s1,1,0,60,6000
+end,60
+"#,
+                ),
+            ],
+            9,
+            r#"servers 1 flows 2
+run packets 2 end 60
+verdict unlawful row 4 L5
+"#,
+        ),
+        // work_of_no_bits
+        (
+            "netcalc check n.toml r.csv",
+            &[
+                (
+                    "n.toml",
+                    r#"[[server]]
+name = "s1"
+rate = 100
+service = { kind = "latency", latency = 10 }
+
+[[flow]]
+name = "f1"
+packet = 12000
+arrival = { kind = "bucket", burst = 12000, rate = 10 }
+path = ["s1"]
+"#,
+                ),
+                (
+                    "r.csv",
+                    r#"enter,0,f1,12000
+work,s1,0,10,20,0
+end,20
+"#,
+                ),
+            ],
+            9,
+            r#"servers 1 flows 1
+run packets 1 end 20
+verdict unlawful row 2 L4
+"#,
+        ),
+        // work_past_the_end
+        (
+            "netcalc check n.toml r.csv",
+            &[
+                (
+                    "n.toml",
+                    r#"[[server]]
+name = "s1"
+rate = 100
+service = { kind = "latency", latency = 10 }
+
+[[flow]]
+name = "f1"
+packet = 12000
+arrival = { kind = "bucket", burst = 12000, rate = 10 }
+path = ["s1"]
+"#,
+                ),
+                (
+                    "r.csv",
+                    r#"enter,0,f1,12000
+work,s1,0,10,130,12000
+end,100
+"#,
+                ),
+            ],
+            9,
+            r#"servers 1 flows 1
+run packets 1 end 100
+verdict unlawful row 2 L1
+"#,
+        ),
+        // work_that_overlaps
+        (
+            "netcalc check n.toml r.csv",
+            &[
+                (
+                    "n.toml",
+                    r#"[[server]]
+name = "s1"
+rate = 100
+service = { kind = "latency", latency = 10 }
+
+[[flow]]
+name = "f1"
+packet = 12000
+arrival = { kind = "bucket", burst = 12000, rate = 10 }
+path = ["s1"]
+"#,
+                ),
+                (
+                    "r.csv",
+                    r#"enter,0,f1,12000
+work,s1,0,0,60,6000
+work,s1,0,59,119,6000
+end,119
+"#,
+                ),
+            ],
+            9,
+            r#"servers 1 flows 1
+run packets 1 end 119
+verdict unlawful row 3 L4
+"#,
+        ),
+        // work_that_takes_no_time
+        (
+            "netcalc check n.toml r.csv",
+            &[
+                (
+                    "n.toml",
+                    r#"[[server]]
+name = "s1"
+rate = 100
+service = { kind = "latency", latency = 10 }
+
+[[flow]]
+name = "f1"
+packet = 12000
+arrival = { kind = "bucket", burst = 12000, rate = 10 }
+path = ["s1"]
+"#,
+                ),
+                (
+                    "r.csv",
+                    r#"enter,0,f1,12000
+work,s1,0,10,10,12000
+end,10
+"#,
+                ),
+            ],
+            9,
+            r#"servers 1 flows 1
+run packets 1 end 10
+verdict unlawful row 2 L4
+"#,
+        ),
+        // work_without_a_visit
+        (
+            "netcalc check n.toml r.csv",
+            &[
+                (
+                    "n.toml",
+                    r#"[[server]]
+name = "s1"
+rate = 100
+service = { kind = "latency", latency = 10 }
+discipline = "drr"
+quanta = [12000, 6000]
+
+[[flow]]
+name = "f1"
+packet = 12000
+arrival = { kind = "bucket", burst = 12000, rate = 10 }
+path = ["s1:0"]
+
+[[flow]]
+name = "f2"
+packet = 6000
+arrival = { kind = "bucket", burst = 6000, rate = 5 }
+path = ["s1:1"]
+"#,
+                ),
+                (
+                    "r.csv",
+                    r#"enter,0,f1,12000
+work,s1,0,0,120,12000
+end,120
+"#,
+                ),
+            ],
+            9,
+            r#"servers 1 flows 2
+run packets 1 end 120
+verdict unlawful row 2 L5
+"#,
+        ),
+    ];
+    for (line, files, status, wanted) in rows {
+        check(&rt, alloc, line, files, status, wanted)?;
+    }
+    Ok(())
+}
+
+#[test]
 fn curves(rt: HostRuntime) -> Result<(), Fail> {
     let alloc = rt.alloc();
     let rows: [(&str, &[(&str, &str)], u8, &str); 17] = [
@@ -849,7 +2648,7 @@ path = ["s1"]
             "netcalc edit n.toml",
             &[],
             2,
-            "netcalc: usage: netcalc analyse NET [--json], edit NET EDITS [--json], simulate NET TRACE, exercise N, measure NET TRACE FLOW RATE, curve FILE\n",
+            "netcalc: usage: netcalc analyse NET [--json], edit NET EDITS [--json], simulate NET TRACE, exercise N, check NET RUN, measure NET TRACE FLOW RATE, curve FILE\n",
         ),
         // no_list_there
         (
@@ -1596,49 +3395,49 @@ fn exercises(rt: HostRuntime) -> Result<(), Fail> {
             "netcalc exercise 7/1",
             &[],
             2,
-            "netcalc: usage: netcalc analyse NET [--json], edit NET EDITS [--json], simulate NET TRACE, exercise N, measure NET TRACE FLOW RATE, curve FILE\n",
+            "netcalc: usage: netcalc analyse NET [--json], edit NET EDITS [--json], simulate NET TRACE, exercise N, check NET RUN, measure NET TRACE FLOW RATE, curve FILE\n",
         ),
         // a_letter_after_the_digits
         (
             "netcalc exercise 7a",
             &[],
             2,
-            "netcalc: usage: netcalc analyse NET [--json], edit NET EDITS [--json], simulate NET TRACE, exercise N, measure NET TRACE FLOW RATE, curve FILE\n",
+            "netcalc: usage: netcalc analyse NET [--json], edit NET EDITS [--json], simulate NET TRACE, exercise N, check NET RUN, measure NET TRACE FLOW RATE, curve FILE\n",
         ),
         // a_minus_sign
         (
             "netcalc exercise -7",
             &[],
             2,
-            "netcalc: usage: netcalc analyse NET [--json], edit NET EDITS [--json], simulate NET TRACE, exercise N, measure NET TRACE FLOW RATE, curve FILE\n",
+            "netcalc: usage: netcalc analyse NET [--json], edit NET EDITS [--json], simulate NET TRACE, exercise N, check NET RUN, measure NET TRACE FLOW RATE, curve FILE\n",
         ),
         // a_number_past_128_bits
         (
             "netcalc exercise 340282366920938463463374607431768211463",
             &[],
             2,
-            "netcalc: usage: netcalc analyse NET [--json], edit NET EDITS [--json], simulate NET TRACE, exercise N, measure NET TRACE FLOW RATE, curve FILE\n",
+            "netcalc: usage: netcalc analyse NET [--json], edit NET EDITS [--json], simulate NET TRACE, exercise N, check NET RUN, measure NET TRACE FLOW RATE, curve FILE\n",
         ),
         // a_number_past_64_bits
         (
             "netcalc exercise 18446744073709551616",
             &[],
             2,
-            "netcalc: usage: netcalc analyse NET [--json], edit NET EDITS [--json], simulate NET TRACE, exercise N, measure NET TRACE FLOW RATE, curve FILE\n",
+            "netcalc: usage: netcalc analyse NET [--json], edit NET EDITS [--json], simulate NET TRACE, exercise N, check NET RUN, measure NET TRACE FLOW RATE, curve FILE\n",
         ),
         // a_plus_sign
         (
             "netcalc exercise +7",
             &[],
             2,
-            "netcalc: usage: netcalc analyse NET [--json], edit NET EDITS [--json], simulate NET TRACE, exercise N, measure NET TRACE FLOW RATE, curve FILE\n",
+            "netcalc: usage: netcalc analyse NET [--json], edit NET EDITS [--json], simulate NET TRACE, exercise N, check NET RUN, measure NET TRACE FLOW RATE, curve FILE\n",
         ),
         // a_report_as_json_is_not_had
         (
             "netcalc exercise 7 --json",
             &[],
             2,
-            "netcalc: usage: netcalc analyse NET [--json], edit NET EDITS [--json], simulate NET TRACE, exercise N, measure NET TRACE FLOW RATE, curve FILE\n",
+            "netcalc: usage: netcalc analyse NET [--json], edit NET EDITS [--json], simulate NET TRACE, exercise N, check NET RUN, measure NET TRACE FLOW RATE, curve FILE\n",
         ),
         // another_odd_number
         (
@@ -1681,7 +3480,7 @@ breach none
             "netcalc exercise",
             &[],
             2,
-            "netcalc: usage: netcalc analyse NET [--json], edit NET EDITS [--json], simulate NET TRACE, exercise N, measure NET TRACE FLOW RATE, curve FILE\n",
+            "netcalc: usage: netcalc analyse NET [--json], edit NET EDITS [--json], simulate NET TRACE, exercise N, check NET RUN, measure NET TRACE FLOW RATE, curve FILE\n",
         ),
         // the_greatest_number
         (
@@ -1700,7 +3499,7 @@ breach none
             "netcalc exercise 7 8",
             &[],
             2,
-            "netcalc: usage: netcalc analyse NET [--json], edit NET EDITS [--json], simulate NET TRACE, exercise N, measure NET TRACE FLOW RATE, curve FILE\n",
+            "netcalc: usage: netcalc analyse NET [--json], edit NET EDITS [--json], simulate NET TRACE, exercise N, check NET RUN, measure NET TRACE FLOW RATE, curve FILE\n",
         ),
         // zeros_before_the_number
         (
@@ -2229,7 +4028,7 @@ packet,30,f1,6000
                 ),
             ],
             2,
-            "netcalc: usage: netcalc analyse NET [--json], edit NET EDITS [--json], simulate NET TRACE, exercise N, measure NET TRACE FLOW RATE, curve FILE\n",
+            "netcalc: usage: netcalc analyse NET [--json], edit NET EDITS [--json], simulate NET TRACE, exercise N, check NET RUN, measure NET TRACE FLOW RATE, curve FILE\n",
         ),
         // a_rate_below_0
         (
@@ -2259,7 +4058,7 @@ packet,30,f1,6000
                 ),
             ],
             2,
-            "netcalc: usage: netcalc analyse NET [--json], edit NET EDITS [--json], simulate NET TRACE, exercise N, measure NET TRACE FLOW RATE, curve FILE\n",
+            "netcalc: usage: netcalc analyse NET [--json], edit NET EDITS [--json], simulate NET TRACE, exercise N, check NET RUN, measure NET TRACE FLOW RATE, curve FILE\n",
         ),
         // a_rate_of_0
         (
@@ -2325,7 +4124,7 @@ packet,30,f1,6000
                 ),
             ],
             2,
-            "netcalc: usage: netcalc analyse NET [--json], edit NET EDITS [--json], simulate NET TRACE, exercise N, measure NET TRACE FLOW RATE, curve FILE\n",
+            "netcalc: usage: netcalc analyse NET [--json], edit NET EDITS [--json], simulate NET TRACE, exercise N, check NET RUN, measure NET TRACE FLOW RATE, curve FILE\n",
         ),
         // a_rate_that_is_a_fraction
         (
@@ -2392,7 +4191,7 @@ packet,30,f1,6000
                 ),
             ],
             2,
-            "netcalc: usage: netcalc analyse NET [--json], edit NET EDITS [--json], simulate NET TRACE, exercise N, measure NET TRACE FLOW RATE, curve FILE\n",
+            "netcalc: usage: netcalc analyse NET [--json], edit NET EDITS [--json], simulate NET TRACE, exercise N, check NET RUN, measure NET TRACE FLOW RATE, curve FILE\n",
         ),
         // a_rate_that_is_none
         (
@@ -2422,7 +4221,7 @@ packet,30,f1,6000
                 ),
             ],
             2,
-            "netcalc: usage: netcalc analyse NET [--json], edit NET EDITS [--json], simulate NET TRACE, exercise N, measure NET TRACE FLOW RATE, curve FILE\n",
+            "netcalc: usage: netcalc analyse NET [--json], edit NET EDITS [--json], simulate NET TRACE, exercise N, check NET RUN, measure NET TRACE FLOW RATE, curve FILE\n",
         ),
         // a_rate_that_is_too_wide
         (
@@ -2482,7 +4281,7 @@ packet,30,f1,6000
                 ),
             ],
             2,
-            "netcalc: usage: netcalc analyse NET [--json], edit NET EDITS [--json], simulate NET TRACE, exercise N, measure NET TRACE FLOW RATE, curve FILE\n",
+            "netcalc: usage: netcalc analyse NET [--json], edit NET EDITS [--json], simulate NET TRACE, exercise N, check NET RUN, measure NET TRACE FLOW RATE, curve FILE\n",
         ),
         // a_rule_goes_before_a_trace_fault
         (
@@ -2647,7 +4446,7 @@ packet,30,f1,6000
                 ),
             ],
             2,
-            "netcalc: usage: netcalc analyse NET [--json], edit NET EDITS [--json], simulate NET TRACE, exercise N, measure NET TRACE FLOW RATE, curve FILE\n",
+            "netcalc: usage: netcalc analyse NET [--json], edit NET EDITS [--json], simulate NET TRACE, exercise N, check NET RUN, measure NET TRACE FLOW RATE, curve FILE\n",
         ),
         // an_empty_trace
         (
@@ -2805,7 +4604,7 @@ packet,30,f1,6000
                 ),
             ],
             2,
-            "netcalc: usage: netcalc analyse NET [--json], edit NET EDITS [--json], simulate NET TRACE, exercise N, measure NET TRACE FLOW RATE, curve FILE\n",
+            "netcalc: usage: netcalc analyse NET [--json], edit NET EDITS [--json], simulate NET TRACE, exercise N, check NET RUN, measure NET TRACE FLOW RATE, curve FILE\n",
         ),
         // no_trace_there
         (
@@ -3809,7 +5608,7 @@ path = ["s1"]
 "#,
             )],
             2,
-            "netcalc: usage: netcalc analyse NET [--json], edit NET EDITS [--json], simulate NET TRACE, exercise N, measure NET TRACE FLOW RATE, curve FILE\n",
+            "netcalc: usage: netcalc analyse NET [--json], edit NET EDITS [--json], simulate NET TRACE, exercise N, check NET RUN, measure NET TRACE FLOW RATE, curve FILE\n",
         ),
         // no_trace_there
         (
@@ -4361,7 +6160,7 @@ fn words(rt: HostRuntime) -> Result<(), Fail> {
             "netcalc analyze n.toml",
             &[],
             2,
-            "netcalc: usage: netcalc analyse NET [--json], edit NET EDITS [--json], simulate NET TRACE, exercise N, measure NET TRACE FLOW RATE, curve FILE\n",
+            "netcalc: usage: netcalc analyse NET [--json], edit NET EDITS [--json], simulate NET TRACE, exercise N, check NET RUN, measure NET TRACE FLOW RATE, curve FILE\n",
         ),
         // a_file_that_is_not_there
         (
@@ -4375,7 +6174,7 @@ fn words(rt: HostRuntime) -> Result<(), Fail> {
             "netcalc analyse -n.toml",
             &[],
             2,
-            "netcalc: usage: netcalc analyse NET [--json], edit NET EDITS [--json], simulate NET TRACE, exercise N, measure NET TRACE FLOW RATE, curve FILE\n",
+            "netcalc: usage: netcalc analyse NET [--json], edit NET EDITS [--json], simulate NET TRACE, exercise N, check NET RUN, measure NET TRACE FLOW RATE, curve FILE\n",
         ),
         // a_script_that_is_not_there
         (
@@ -4389,35 +6188,35 @@ fn words(rt: HostRuntime) -> Result<(), Fail> {
             "netcalc curve s.curve t.curve",
             &[],
             2,
-            "netcalc: usage: netcalc analyse NET [--json], edit NET EDITS [--json], simulate NET TRACE, exercise N, measure NET TRACE FLOW RATE, curve FILE\n",
+            "netcalc: usage: netcalc analyse NET [--json], edit NET EDITS [--json], simulate NET TRACE, exercise N, check NET RUN, measure NET TRACE FLOW RATE, curve FILE\n",
         ),
         // help
         (
             "netcalc --help",
             &[],
             2,
-            "netcalc: usage: netcalc analyse NET [--json], edit NET EDITS [--json], simulate NET TRACE, exercise N, measure NET TRACE FLOW RATE, curve FILE\n",
+            "netcalc: usage: netcalc analyse NET [--json], edit NET EDITS [--json], simulate NET TRACE, exercise N, check NET RUN, measure NET TRACE FLOW RATE, curve FILE\n",
         ),
         // no_file
         (
             "netcalc analyse",
             &[],
             2,
-            "netcalc: usage: netcalc analyse NET [--json], edit NET EDITS [--json], simulate NET TRACE, exercise N, measure NET TRACE FLOW RATE, curve FILE\n",
+            "netcalc: usage: netcalc analyse NET [--json], edit NET EDITS [--json], simulate NET TRACE, exercise N, check NET RUN, measure NET TRACE FLOW RATE, curve FILE\n",
         ),
         // no_script
         (
             "netcalc curve",
             &[],
             2,
-            "netcalc: usage: netcalc analyse NET [--json], edit NET EDITS [--json], simulate NET TRACE, exercise N, measure NET TRACE FLOW RATE, curve FILE\n",
+            "netcalc: usage: netcalc analyse NET [--json], edit NET EDITS [--json], simulate NET TRACE, exercise N, check NET RUN, measure NET TRACE FLOW RATE, curve FILE\n",
         ),
         // no_words
         (
             "netcalc",
             &[],
             2,
-            "netcalc: usage: netcalc analyse NET [--json], edit NET EDITS [--json], simulate NET TRACE, exercise N, measure NET TRACE FLOW RATE, curve FILE\n",
+            "netcalc: usage: netcalc analyse NET [--json], edit NET EDITS [--json], simulate NET TRACE, exercise N, check NET RUN, measure NET TRACE FLOW RATE, curve FILE\n",
         ),
     ];
     for (line, files, status, wanted) in rows {

@@ -10,7 +10,7 @@ use std::test::Fail;
 use std::time::{SystemTime, UNIX_EPOCH};
 
 const USAGE: &str = "netcalc: usage: \
-    netcalc analyse NET [--json], edit NET EDITS [--json], simulate NET TRACE, exercise N, \
+    netcalc analyse NET [--json], edit NET EDITS [--json], simulate NET TRACE, exercise N, check NET RUN, \
     measure NET TRACE FLOW RATE, curve FILE\n";
 
 /// What a call with these words does, where `n.toml` holds these bytes: the status, and what is written. So

@@ -26,12 +26,17 @@ use Rattle.exercise_load.specs.Workloads.{network_of}
 use Rattle.exercise_command.proofs.Causes as exercise
 use Rattle.exercise_command.proofs.OneReply as exercised
 use Rattle.exercise_command.proofs.Within as summaries
+use Rattle.check_command.specs.CheckCounts as check_counts
+use Rattle.check_command.proofs.Causes as check
+use Rattle.check_command.proofs.OneReply as checked
+use Rattle.check_command.proofs.Verdicts.{verdicts}
+use Rattle.check_command.proofs.Within as admissible
 use Rattle.measure_command.specs.MeasureCounts as measure_counts
 use Rattle.measure_command.proofs.Causes as measure
 use Rattle.measure_command.proofs.OneMeasure as measured
 use Rattle.curve_command.proofs.ByStatus as curve
 use Rattle.curve_command.proofs.OneReply as calculated
-use Rattle.netcalc_cli.specs.Commands.{Command, Analyse, Edit, Simulate, Exercise, Measure, Curve}
+use Rattle.netcalc_cli.specs.Commands.{Command, Analyse, Edit, Simulate, Exercise, Check, Measure, Curve}
 use Rattle.netcalc_cli.specs.Commands.{IsReplyTo, IsMalformed, IsOver}
 use Rattle.netcalc_cli.specs.Commands.{AreSameTo, IsCyclic, TellsBreach, IsDone, IsAnswerable, IsAnswer, CountsTo}
 
@@ -108,6 +113,21 @@ by_command (Exercise seed) [] reply h =
           let r = k.summary (inr e) in
           (r, (summaries.status_tells seed reply r).breaks.0 e, summaries.guarantee seed reply r);
     }
+by_command (Check net run) (bytes ∷ rows ∷ []) reply h =
+    let k = check.causes net bytes run rows reply h in
+    record {
+      done = λ e.
+          let told = admissible.admissible_runs net bytes run rows reply h e in
+          (told, admissible.guarantee bytes rows reply told.report);
+      malformed = λ e. k.malformed e;
+      no_read = k.others.1;
+      wide = λ e. k.wide e;
+      many = λ e. k.many e;
+      cycle = λ e. k.cycle e;
+      breach = λ e.
+          let r = k.report (inr e) in
+          (r, (verdicts bytes rows reply r).refused.0 e, admissible.guarantee bytes rows reply r);
+    }
 by_command (Measure net trace name rate) (bytes ∷ rows ∷ []) reply h =
     let k = measure.causes net bytes trace rows name rate reply h in
     record {
@@ -141,6 +161,7 @@ equal_by_command (Edit net edits) x y e =
     record { status = ap (λ (r : Reply). r.status) e; text = inl (ap (λ (r : Reply). r.bytes) e) }
 equal_by_command (Simulate net trace) x y e = equal x y e
 equal_by_command (Exercise seed) x y e = equal x y e
+equal_by_command (Check net run) x y e = equal x y e
 equal_by_command (Measure net trace name rate) x y e = equal x y e
 equal_by_command (Curve script) x y e = equal x y e
 
@@ -152,6 +173,8 @@ one_by_command (Edit net edits) (bytes ∷ rows ∷ []) x y h k =
 one_by_command (Simulate net trace) (bytes ∷ rows ∷ []) x y h k =
     simulated.replies_are_determined net bytes trace rows x y h k
 one_by_command (Exercise seed) [] x y h k = equal x y (exercised.replies_are_determined seed x y h k)
+one_by_command (Check net run) (bytes ∷ rows ∷ []) x y h k =
+    checked.replies_are_determined net bytes run rows x y h k
 one_by_command (Measure net trace name rate) (bytes ∷ rows ∷ []) x y h k =
     equal x y (measured.replies_are_determined net bytes trace rows name rate x y h k)
 one_by_command (Curve script) (bytes ∷ []) x y h k =
@@ -167,6 +190,8 @@ complete_by_command (Edit net edits) (bytes ∷ rows ∷ []) reply can h =
 complete_by_command (Simulate net trace) (bytes ∷ rows ∷ []) reply can h =
     simulated.replies_are_complete net bytes trace rows reply can h
 complete_by_command (Exercise seed) [] reply can h = exercised.replies_are_complete seed reply can h
+complete_by_command (Check net run) (bytes ∷ rows ∷ []) reply can h =
+    checked.replies_are_complete net bytes run rows reply can h
 complete_by_command (Measure net trace name rate) (bytes ∷ rows ∷ []) reply can h =
     measured.replies_are_complete net bytes trace rows name rate reply can h
 complete_by_command (Curve script) (bytes ∷ []) reply can h = calculated.replies_are_complete script bytes reply can h
@@ -193,6 +218,7 @@ answer_given (Analyse net) status other same h = zero_given status other same h
 answer_given (Edit net edits) status other same h = zero_given status other same h
 answer_given (Simulate net trace) status other same h = report_given status other same h
 answer_given (Exercise seed) status other same h = report_given status other same h
+answer_given (Check net run) status other same h = report_given status other same h
 answer_given (Measure net trace name rate) status other same h = zero_given status other same h
 answer_given (Curve script) status other same h = zero_given status other same h
 
@@ -223,6 +249,19 @@ cells_at net status other old new same k = record {
 run_counts_at : (bytes rows : List ℕ) (status other old new : ℕ) → IsGiven status other
     → run_counts.CountsOn bytes rows status old new → run_counts.CountsOn bytes rows other old new
 run_counts_at bytes rows status other old new same h = record {
+  between = h.between;
+  rises = h.rises;
+  folds = h.folds;
+  refused = h.refused;
+  cells = λ net is. let k = h.cells net is in record {
+    cells = cells_at net status other h.between new same k.cells;
+    refused = k.refused;
+  };
+}
+
+check_counts_at : (bytes rows : List ℕ) (status other old new : ℕ) → IsGiven status other
+    → check_counts.CountsOn bytes rows status old new → check_counts.CountsOn bytes rows other old new
+check_counts_at bytes rows status other old new same h = record {
   between = h.between;
   rises = h.rises;
   folds = h.folds;
@@ -278,6 +317,8 @@ counts_by_command (Simulate net trace) (bytes ∷ rows ∷ []) status other old 
     run_counts_at bytes rows status other old new same h
 counts_by_command (Exercise seed) [] status other old new same h =
     cells_at (network_of seed) status other old new same h
+counts_by_command (Check net run) (bytes ∷ rows ∷ []) status other old new same h =
+    check_counts_at bytes rows status other old new same h
 counts_by_command (Measure net trace name rate) (bytes ∷ rows ∷ []) status other old new same h =
     measure_counts_at bytes status other old new same h
 counts_by_command (Curve script) (bytes ∷ []) status other old new same h = tt

@@ -8,11 +8,12 @@ use Rattle.analyse_command.specs.OnFiles as analyse
 use Rattle.edit_command.specs.OnEdits as edits
 use Rattle.run_findings.specs.Findings.{status_by}
 use Rattle.simulate_command.specs.OnTraces as traces
+use Rattle.check_command.proofs.Causes.{causes}
 use Rattle.exercise_command.specs.OnSeeds as seeds
 use Rattle.measure_command.specs.OnMeasures.{IsMeasureReply}
 use Rattle.measure_command.proofs.OneMeasure.{statuses_are_four}
 use Rattle.curve_command.specs.OnScripts as scripts
-use Rattle.netcalc_cli.specs.Commands.{Command, Analyse, Edit, Simulate, Exercise, Measure, Curve, IsReplyTo, files_of}
+use Rattle.netcalc_cli.specs.Commands.{Command, Analyse, Edit, Simulate, Exercise, Check, Measure, Curve, IsReplyTo, files_of}
 use Rattle.netcalc_cli.specs.Files.{Told}
 use Rattle.netcalc_cli.specs.Reply.{MayReplyTo, FailedAt}
 use Rattle.netcalc_cli.proofs.FileLemmas.{first_shows, long_shows}
@@ -106,6 +107,7 @@ on_files (Analyse net) (bytes ∷ []) reply h = on_analyse net bytes reply h
 on_files (Edit net list) (bytes ∷ rows ∷ []) reply h = on_edits net bytes list rows reply h
 on_files (Simulate net trace) (bytes ∷ rows ∷ []) reply h = on_traces net bytes trace rows reply h
 on_files (Exercise seed) [] reply h = on_seed seed reply h
+on_files (Check net run) (bytes ∷ rows ∷ []) reply h = (causes net bytes run rows reply h).others.2
 on_files (Measure net trace name rate) (bytes ∷ rows ∷ []) reply h = on_measure net bytes trace rows name rate reply h
 on_files (Curve script) (bytes ∷ []) reply h = on_script script bytes reply h
 on_files command files reply h = absurd h

@@ -8,6 +8,7 @@ use Rattle.upp_limits.specs.declared.own_limits.OverLimit.TheVariants.{TooMany, 
 use Rattle.net_model.specs.declared.trace.TracePacket.{TracePacket}
 use Rattle.net_model.specs.Networks.{Net}
 use Rattle.net_cells.specs.Meanings.{CellTable}
+use Rattle.net_bounds.specs.NetRuns.{IsRunOf}
 use Rattle.command_replies.specs.Replies.{Reply, AreSame}
 use Rattle.command_replies.specs.Guarantee.{Guarantees}
 use Rattle.command_replies.specs.OnFiles.{IsBroken, IsOverLimit, HasCycle}
@@ -29,6 +30,11 @@ use Rattle.exercise_load.specs.Workloads.{network_of}
 use Rattle.exercise_command.specs.OnSeeds.{IsExerciseReply, IsSummarised, IsWide, IsCellOver}
 use Rattle.exercise_command.specs.ExerciseLaws as exercise_laws
 use Rattle.exercise_command.specs.ExerciseLaws.{IsQuietSummary, SummaryGuarantees}
+use Rattle.check_command.specs.OnRuns as checks
+use Rattle.check_command.specs.OnRuns.{IsCheckReply, IsCheckReport, IsCheckOver}
+use Rattle.check_command.specs.CheckCounts as check_counts
+use Rattle.check_command.specs.CheckLaws as check_laws
+use Rattle.check_command.specs.CheckLaws.{IsAdmissible}
 use Rattle.measure_command.specs.OnMeasures.{IsMeasureReply, IsReportOf as IsMeasureReportOf}
 use Rattle.measure_command.specs.MeasureCauses as measure_causes
 use Rattle.measure_command.specs.MeasureCounts as measure_counts
@@ -43,6 +49,7 @@ pub data Command : Type 0 where
   Edit : (net edits : List ℕ) → Command
   Simulate : (net trace : List ℕ) → Command
   Exercise : (seed : ℕ) → Command
+  Check : (net run : List ℕ) → Command
   Measure : (net trace name : List ℕ) (rate : ℚ) → Command
   Curve : (script : List ℕ) → Command
 
@@ -57,6 +64,7 @@ files_of (Analyse net) = net ∷ []
 files_of (Edit net edits) = net ∷ edits ∷ []
 files_of (Simulate net trace) = net ∷ trace ∷ []
 files_of (Exercise seed) = []
+files_of (Check net run) = net ∷ run ∷ []
 files_of (Measure net trace name rate) = net ∷ trace ∷ []
 files_of (Curve script) = script ∷ []
 
@@ -66,6 +74,7 @@ IsReplyTo (Analyse net) (bytes ∷ []) reply = IsReplyOn net bytes reply
 IsReplyTo (Edit net edits) (bytes ∷ rows ∷ []) reply = IsEditReply net bytes edits rows reply
 IsReplyTo (Simulate net trace) (bytes ∷ rows ∷ []) reply = IsRunReply net bytes trace rows reply
 IsReplyTo (Exercise seed) [] reply = IsExerciseReply seed reply
+IsReplyTo (Check net run) (bytes ∷ rows ∷ []) reply = IsCheckReply net bytes run rows reply
 IsReplyTo (Measure net trace name rate) (bytes ∷ rows ∷ []) reply = IsMeasureReply net bytes trace rows name rate reply
 IsReplyTo (Curve script) (bytes ∷ []) reply = IsScriptReply script bytes reply
 IsReplyTo command files reply = ⊥
@@ -76,6 +85,7 @@ AreSameTo (Analyse net) x y = AreSame x y
 AreSameTo (Edit net edits) x y = edit_laws.AreAlike x y
 AreSameTo (Simulate net trace) x y = AreSame x y
 AreSameTo (Exercise seed) x y = AreSame x y
+AreSameTo (Check net run) x y = AreSame x y
 AreSameTo (Measure net trace name rate) x y = AreSame x y
 AreSameTo (Curve script) x y = AreSame x y
 
@@ -85,14 +95,15 @@ abbrev pub IsMalformed : Command → List (List ℕ) → Reply → Type 0
 IsMalformed (Analyse net) (bytes ∷ []) reply = IsBroken net bytes reply
 IsMalformed (Edit net edits) (bytes ∷ rows ∷ []) reply = edit_causes.IsMalformed net bytes edits rows reply
 IsMalformed (Simulate net trace) (bytes ∷ rows ∷ []) reply = traces.IsMalformed net bytes trace rows reply
+IsMalformed (Check net run) (bytes ∷ rows ∷ []) reply = checks.IsMalformed net bytes run rows reply
 IsMalformed (Measure net trace name rate) (bytes ∷ rows ∷ []) reply =
     measure_causes.IsMalformed net bytes trace rows name reply
 IsMalformed (Curve script) (bytes ∷ []) reply = IsRefused script bytes reply
 IsMalformed command files reply = ⊥
 
 -- 7 and 6: the first that is over a limit: of the curves of a network's file, or else of its cells, or else, at 6, the
--- simulation; of a workload's cells, or else, at 6, the simulation; of the curves of a network's file, or else the
--- packets that are measured, or else their burst; of the curves, operators and values of a script
+-- simulation or the recorded run; of a workload's cells, or else, at 6, the simulation; of the curves of a network's
+-- file, or else the packets that are measured, or else their burst; of the curves, operators and values of a script
 abbrev pub IsRunOver : OverLimit → List ℕ → List ℕ → Reply → Type 0
 IsRunOver TooMany bytes rows reply = traces.IsOverLimit TooMany bytes rows reply
 IsRunOver TooWide bytes rows reply = traces.IsOverLimit TooWide bytes rows reply ⊎ IsSimulationOver bytes rows reply
@@ -101,11 +112,16 @@ abbrev pub IsLoadOver : OverLimit → ℕ → Reply → Type 0
 IsLoadOver TooMany seed reply = IsCellOver TooMany (network_of seed) reply
 IsLoadOver TooWide seed reply = IsWide seed reply
 
+abbrev pub IsRecordedOver : OverLimit → List ℕ → List ℕ → Reply → Type 0
+IsRecordedOver TooMany bytes rows reply = checks.IsOverLimit TooMany bytes rows reply
+IsRecordedOver TooWide bytes rows reply = checks.IsOverLimit TooWide bytes rows reply ⊎ IsCheckOver bytes rows reply
+
 abbrev pub IsOver : OverLimit → Command → List (List ℕ) → Reply → Type 0
 IsOver limit (Analyse net) (bytes ∷ []) reply = IsOverLimit limit bytes reply
 IsOver limit (Edit net edits) (bytes ∷ rows ∷ []) reply = edit_causes.IsOverLimit limit bytes rows reply
 IsOver limit (Simulate net trace) (bytes ∷ rows ∷ []) reply = IsRunOver limit bytes rows reply
 IsOver limit (Exercise seed) [] reply = IsLoadOver limit seed reply
+IsOver limit (Check net run) (bytes ∷ rows ∷ []) reply = IsRecordedOver limit bytes rows reply
 IsOver limit (Measure net trace name rate) (bytes ∷ rows ∷ []) reply =
     measure_causes.IsOverLimit limit bytes rows name rate reply
 IsOver limit (Curve script) (bytes ∷ []) reply = IsLineOver limit bytes reply
@@ -116,22 +132,26 @@ abbrev pub IsCyclic : Command → List (List ℕ) → Reply → Type 0
 IsCyclic (Analyse net) (bytes ∷ []) reply = HasCycle bytes reply
 IsCyclic (Edit net edits) (bytes ∷ rows ∷ []) reply = edit_causes.HasCycleBehind bytes rows reply
 IsCyclic (Simulate net trace) (bytes ∷ rows ∷ []) reply = traces.HasCycleBehind bytes rows reply
+IsCyclic (Check net run) (bytes ∷ rows ∷ []) reply = checks.HasCycleBehind bytes rows reply
 IsCyclic command files reply = ⊥
 
--- 9: the report of a run that breaks a premise of its network, or the summary of a workload with such a run; its table
--- is kept by every lawful run that keeps them, and the largest bound of a summary by every packet's delay
+-- 9: the report of a run that breaks a premise of its network, the summary of a workload with such a run, or the report
+-- of a recorded run that is not lawful or breaks one; its table is kept by every lawful run that keeps them, and the
+-- largest bound of a summary by every packet's delay
 abbrev pub TellsBreach : Command → List (List ℕ) → Reply → Type 0
 TellsBreach (Simulate net trace) (bytes ∷ rows ∷ []) reply =
     (h : IsRunReport bytes rows reply) × (¬ (Keeps h.net h.report.run)) × Guarantees h.net h.at
 TellsBreach (Exercise seed) [] reply =
     (h : IsSummarised seed reply) × (¬ (Keeps (network_of seed) h.report.run)) × SummaryGuarantees seed h.at
+TellsBreach (Check net run) (bytes ∷ rows ∷ []) reply =
+    (h : IsCheckReport bytes rows reply) × (¬ (IsRunOf h.net h.run)) × Guarantees h.net h.at
 TellsBreach command files reply = ⊥
 
 -- 0: a report whose table is kept by every lawful run of the network that keeps packet sizes, arrival and service
 -- curves: of the file's network; of the network that the edits leave; of `simulate` beside a run that keeps them too,
--- no number of which is above its bound; of a workload's network so, and its largest bound is kept by every packet's
--- delay; or the least arrival curve of a flow's packets, with the least bucket of the rate that they keep; or the
--- answers of a script
+-- and of `check` beside a recorded run that is lawful and keeps them, no number of which is above its bound; of a
+-- workload's network so, and its largest bound is kept by every packet's delay; or the least arrival curve of a flow's
+-- packets, with the least bucket of the rate that they keep; or the answers of a script
 abbrev pub IsDone : Command → List (List ℕ) → Reply → Type 0
 IsDone (Analyse net) (bytes ∷ []) reply =
     (model : Net) × (at : CellTable) × IsReportOf model at bytes reply × Guarantees model at
@@ -140,6 +160,8 @@ IsDone (Edit net edits) (bytes ∷ rows ∷ []) reply =
 IsDone (Simulate net trace) (bytes ∷ rows ∷ []) reply =
     (h : IsQuietReport bytes rows reply) × Guarantees h.report.net h.report.at
 IsDone (Exercise seed) [] reply = (h : IsQuietSummary seed reply) × SummaryGuarantees seed h.summary.at
+IsDone (Check net run) (bytes ∷ rows ∷ []) reply =
+    (h : IsAdmissible bytes rows reply) × Guarantees h.report.net h.report.at
 IsDone (Measure net trace name rate) (bytes ∷ rows ∷ []) reply =
     (packets : List TracePacket) × (curve : SpecCurve) × (burst : ℚ)
     × IsMeasureReportOf bytes rows name rate packets curve burst reply × IsLeastOf packets curve rate burst
@@ -152,6 +174,7 @@ IsAnswerable (Analyse net) (bytes ∷ []) = IsWithinLimits bytes
 IsAnswerable (Edit net edits) (bytes ∷ rows ∷ []) = edit_laws.IsWithinLimits bytes rows
 IsAnswerable (Simulate net trace) (bytes ∷ rows ∷ []) = run_laws.IsWithinLimits bytes rows
 IsAnswerable (Exercise seed) [] = exercise_laws.IsWithinLimits seed
+IsAnswerable (Check net run) (bytes ∷ rows ∷ []) = check_laws.IsWithinLimits bytes rows
 IsAnswerable (Measure net trace name rate) (bytes ∷ rows ∷ []) = measure_laws.IsWithinLimits bytes rows name rate
 IsAnswerable (Curve script) (bytes ∷ []) = IsWithinRules bytes
 IsAnswerable command files = ⊥
@@ -161,6 +184,7 @@ IsAnswer (Analyse net) status = status ≡ 0
 IsAnswer (Edit net edits) status = status ≡ 0
 IsAnswer (Simulate net trace) status = (status ≡ 0) ⊎ (status ≡ 9)
 IsAnswer (Exercise seed) status = (status ≡ 0) ⊎ (status ≡ 9)
+IsAnswer (Check net run) status = (status ≡ 0) ⊎ (status ≡ 9)
 IsAnswer (Measure net trace name rate) status = status ≡ 0
 IsAnswer (Curve script) status = status ≡ 0
 
@@ -170,6 +194,7 @@ CountsTo (Analyse net) (bytes ∷ []) status old new = CountsOn bytes status old
 CountsTo (Edit net edits) (bytes ∷ rows ∷ []) status old new = edit_counts.CountsOn bytes rows status old new
 CountsTo (Simulate net trace) (bytes ∷ rows ∷ []) status old new = run_counts.CountsOn bytes rows status old new
 CountsTo (Exercise seed) [] status old new = CountsOnCells (network_of seed) status old new
+CountsTo (Check net run) (bytes ∷ rows ∷ []) status old new = check_counts.CountsOn bytes rows status old new
 CountsTo (Measure net trace name rate) (bytes ∷ rows ∷ []) status old new = measure_counts.CountsOn bytes status old new
 CountsTo (Curve script) (bytes ∷ []) status old new = Unit {0}
 CountsTo command files status old new = ⊥

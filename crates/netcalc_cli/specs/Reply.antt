@@ -10,7 +10,7 @@ use Rattle.netcalc_cli.specs.Files.{Told, IsTooLong, MayHoldAll, FirstIs, FirstL
 -- the commands that the usage line tells
 abbrev pub commands : List ℕ
 commands =
-    codes "netcalc analyse NET [--json], edit NET EDITS [--json], simulate NET TRACE, exercise N, "
+    codes "netcalc analyse NET [--json], edit NET EDITS [--json], simulate NET TRACE, exercise N, check NET RUN, "
     ++ codes "measure NET TRACE FLOW RATE, curve FILE"
 
 -- ---- on files

@@ -9,7 +9,7 @@ use Rattle.rational.specs.Rational.{ℚ, lt_q}
 use Rattle.min_plus.specs.Functions.{zero_q}
 use Rattle.fraction128.specs.declared.fault.FracText.{FracText}
 use Rattle.fraction128.specs.Text.{is_numeral, parse_of}
-use Rattle.netcalc_cli.specs.Commands.{Command, Analyse, Edit, Simulate, Exercise, Measure, Curve}
+use Rattle.netcalc_cli.specs.Commands.{Command, Analyse, Edit, Simulate, Exercise, Check, Measure, Curve}
 
 -- the words as bytes
 abbrev pub texts : List (String Global) → List (List ℕ)
@@ -42,7 +42,8 @@ on_one word operand =
 abbrev pub on_two : List ℕ → (first second : List ℕ) → Option Command
 on_two word first second =
     if bytes_eq word (codes "edit") then Some (Edit first second)
-    else if bytes_eq word (codes "simulate") then Some (Simulate first second) else None
+    else if bytes_eq word (codes "simulate") then Some (Simulate first second)
+    else if bytes_eq word (codes "check") then Some (Check first second) else None
 
 -- the rate that a word writes: a number text from 0 on
 abbrev pub from_0 : Result ℚ FracText → Option ℚ

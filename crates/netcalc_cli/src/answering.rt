@@ -12,6 +12,7 @@ ghost use Rattle.netcalc_cli.specs.View.{command_view};
 use crate::fetching::{fetch_one, fetch_two};
 use crate::words::Command;
 use analyse_command::on_bytes;
+use check_command::on_run;
 use command_replies::Answer;
 use curve_command::on_script;
 use edit_command::on_edits;
@@ -73,6 +74,24 @@ fn on_simulated<I: Inputs, L: Ledger>(
 {
     match fetch_two(alloc, net, trace, inputs) {
         Ok((bytes, rows)) => on_trace(alloc, net, &bytes, trace, &rows, steps),
+        Err(ended) => ended,
+    }
+}
+
+fn on_checked<I: Inputs, L: Ledger>(
+    alloc: Global,
+    net: &str,
+    run: &str,
+    inputs: &mut I,
+    steps: &mut Steps<L>,
+) -> Result<Answer, NoMemory>
+    ensures reply { IfOk result (λ r. MayReplyTo I.faults I.last_fault (I.content inputs.old)
+        (commands.Check net.now run.now) inputs.old inputs.new (reply_of r)) }
+    ensures counts { CountsOnCommand (I.content inputs.old) (commands.Check net.now run.now) (status_of result)
+        steps.old steps.new }
+{
+    match fetch_two(alloc, net, run, inputs) {
+        Ok((bytes, rows)) => on_run(alloc, net, &bytes, run, &rows, steps),
         Err(ended) => ended,
     }
 }
@@ -148,6 +167,7 @@ pub(crate) fn answer_to<I: Inputs, L: Ledger>(
         Command::Edit(net, edits) => on_edited(alloc, net, edits, inputs, steps),
         Command::Simulate(net, trace) => on_simulated(alloc, net, trace, inputs, steps),
         Command::Exercise(seed) => on_exercise(alloc, seed, inputs, steps),
+        Command::Check(net, run) => on_checked(alloc, net, run, inputs, steps),
         Command::Measure(net, trace, name, rate) => {
             on_measured(alloc, net, trace, name, rate, inputs, steps)
         }

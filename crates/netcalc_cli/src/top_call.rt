@@ -19,7 +19,7 @@ use std::sync::ledger::Ledger;
 use steps::Steps;
 
 const USAGE: &str = "netcalc: usage: \
-    netcalc analyse NET [--json], edit NET EDITS [--json], simulate NET TRACE, exercise N, \
+    netcalc analyse NET [--json], edit NET EDITS [--json], simulate NET TRACE, exercise N, check NET RUN, \
     measure NET TRACE FLOW RATE, curve FILE\n";
 
 /// Gives an answer: puts its text, and returns its status, or that the sink failed.

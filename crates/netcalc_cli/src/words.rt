@@ -21,6 +21,8 @@ pub(crate) enum Command<'a> {
     Simulate(&'a str, &'a str),
     /// The summary of the workload of a number, analysed and simulated.
     Exercise(u64),
+    /// The verdict on a recorded run of a network.
+    Check(&'a str, &'a str),
     /// The least arrival curve of a flow's packets in a trace, by the flow's name, and their least bucket for a rate in
     /// bits a unit of time.
     Measure(&'a str, &'a str, &'a str, Frac),
@@ -98,6 +100,9 @@ fn on_two<'a>(word: &str, first: &'a str, second: &'a str) -> Option<Command<'a>
     }
     if word == "simulate" {
         return Some(Command::Simulate(first, second));
+    }
+    if word == "check" {
+        return Some(Command::Check(first, second));
     }
     None
 }

@@ -44,23 +44,34 @@ same_peak net at other name peaks s q agree h =
     ++ codes " bound " ++ x ++ codes "\n")
     (same_shown net at other QueueBacklog s q agree (lt-ltb q (queues net s) h) refl)
 
+-- ---- all lines
+pub same_worsts : (net : Net) (at other : CellTable) (worst : List ℚ) → AgreeWherePrinted net at other
+    → flat_map (worst_lines net at worst) (range_with_len 0 (length net.flows))
+    ≡ flat_map (worst_lines net other worst) (range_with_len 0 (length net.flows))
+same_worsts net at other worst same =
+    flat_range (worst_lines net at worst) (worst_lines net other worst) (length net.flows)
+    (λ i h. same_live net at other worst i (flow_at net i) same refl)
+
+pub same_peaks : (net : Net) (at other : CellTable) (peaks : List (List ℕ)) → AgreeWherePrinted net at other
+    → flat_map (peak_lines net at peaks) (range_with_len 0 (length net.servers))
+    ≡ flat_map (peak_lines net other peaks) (range_with_len 0 (length net.servers))
+same_peaks net at other peaks same =
+    flat_range (peak_lines net at peaks) (peak_lines net other peaks) (length net.servers)
+    (λ s h. flat_range (peak_line (server_name net s) at peaks s) (peak_line (server_name net s) other peaks s)
+    (queues net s) (λ q k. same_peak net at other (server_name net s) peaks s q same k))
+
 -- ---- reports
 pub agree : RunReportsAgree
 unfolding run_report_of
 agree net at other found same =
     let head = head_line net ++ run_line found.packets found.end in
     let peaks = λ (t : CellTable). flat_map (peak_lines net t found.peaks) (range_with_len 0 (length net.servers)) in
-    ap (λ ys. head ++ ys ++ peaks at ++ breach_line net found.breach)
-    (flat_range (worst_lines net at found.worst) (worst_lines net other found.worst) (length net.flows)
-    (λ i h. same_live net at other found.worst i (flow_at net i) same refl))
+    ap (λ ys. head ++ ys ++ peaks at ++ breach_line net found.breach) (same_worsts net at other found.worst same)
     ∙ ap
     (λ ys.
     head ++ flat_map (worst_lines net other found.worst) (range_with_len 0 (length net.flows)) ++ ys
     ++ breach_line net found.breach)
-    (flat_range (peak_lines net at found.peaks) (peak_lines net other found.peaks) (length net.servers)
-    (λ s h. flat_range (peak_line (server_name net s) at found.peaks s)
-    (peak_line (server_name net s) other found.peaks s) (queues net s)
-    (λ q k. same_peak net at other (server_name net s) found.peaks s q same k)))
+    (same_peaks net at other found.peaks same)
 
 pub one_run_report : EquationsGiveOneRunReport
 one_run_report net order at other found a o m n =

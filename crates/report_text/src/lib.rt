@@ -20,9 +20,9 @@ pub use laws::{
     words_tell_cells,
 };
 pub use refusal::{Refusal, push_spaced, refusal_text};
-pub use report::{analysis_text, live_count};
+pub use report::{analysis_text, live_count, push_head};
 pub use run_found::RunFound;
-pub use run_lines::push_breach_line;
-pub use run_report::run_text;
+pub use run_lines::{push_breach_line, push_breach_words, push_run_line};
+pub use run_report::{push_peaks, push_worsts, run_text};
 pub use shown::ShownValue;
 pub use text::{push_after, push_decimal, push_number, push_text};

@@ -27,8 +27,9 @@ pub fn live_count(net: &Network) -> usize
     count
 }
 
+/// Appends the line that tells how many servers and live flows there are.
 #[tactic(auto, unfolding(crate::specs::Report::head_line))]
-pub(crate) fn push_head(into: &mut Vec<u8>, net: &Network) -> Result<(), AllocError>
+pub fn push_head(into: &mut Vec<u8>, net: &Network) -> Result<(), AllocError>
     ensures { OnOk result (into.new.items ≡ into.old.items ++ head_line net.now) }
 {
     push_text(into, "servers ")?;

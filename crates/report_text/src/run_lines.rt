@@ -23,8 +23,9 @@ fn push_end(into: &mut Vec<u8>, end: &Frac) -> Result<(), AllocError>
     push_text(into, "\n")
 }
 
+/// Appends the line that tells how many packets entered a run, and when it ends.
 #[tactic(auto, unfolding(crate::specs::RunReport::run_line))]
-pub(crate) fn push_run_line(into: &mut Vec<u8>, packets: u32, end: &Frac) -> Result<(), AllocError>
+pub fn push_run_line(into: &mut Vec<u8>, packets: u32, end: &Frac) -> Result<(), AllocError>
     ensures { OnOk result (into.new.items ≡ into.old.items ++ spec.run_line packets end.now) }
 {
     push_text(into, "run packets ")?;
@@ -143,7 +144,8 @@ fn push_breach(into: &mut Vec<u8>, net: &Network, breach: &Breach) -> Result<(),
     }
 }
 
-fn push_breach_words(
+/// Appends the words that tell what a run breaks first, by the names of its flow or its server, or that it breaks nothing.
+pub fn push_breach_words(
     into: &mut Vec<u8>,
     net: &Network,
     breach: &Option<Breach>,

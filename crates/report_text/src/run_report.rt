@@ -31,7 +31,8 @@ fn push_live_worst<V: ShownValue, T: Table<V>>(
     }
 }
 
-fn push_worsts<V: ShownValue, T: Table<V>>(
+/// Appends a line for each live flow, by number, with its worst delay beside its bound.
+pub fn push_worsts<V: ShownValue, T: Table<V>>(
     into: &mut Vec<u8>,
     net: &Network,
     table: &T,
@@ -65,7 +66,8 @@ fn push_queue_peaks<V: ShownValue, T: Table<V>>(
     Ok(())
 }
 
-fn push_peaks<V: ShownValue, T: Table<V>>(
+/// Appends a line for each queue of each server, in the order of the file, with its greatest backlog beside its bound.
+pub fn push_peaks<V: ShownValue, T: Table<V>>(
     into: &mut Vec<u8>,
     net: &Network,
     table: &T,

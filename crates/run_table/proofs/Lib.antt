@@ -1,2 +1,4 @@
 pub mod RowFacts
 pub mod RunSteps
+pub mod Recorded
+pub mod OneRun

@@ -120,13 +120,14 @@ module _ (net : Net) (text : List ℕ) (rows : List Row) (k : ℕ) (row : Row) (
   so_many : length (take k rows) ≡ k
   so_many = let m = length-take k rows in omega (arith, m, within)
 
-  fault_there : (kind : RunKind) (number : ℕ) → number ≡ k + 1 → IsWrong net (take k rows) row kind → IsFirstFault net text kind number
-  fault_there kind number place wrong = inl (record {
+  fault_there : (kind : RunKind) (number : ℕ) → k ≤ most_rows → number ≡ k + 1 → IsWrong net (take k rows) row kind → IsFirstFault net text kind number
+  fault_there kind number room place wrong = inl (record {
     before = take k rows;
     row = row;
     after = drop (k + 1) rows ++ drop 10001 (rows_of text);
     rows_are = parted;
     place = let n = so_many in let e : number ≡ suc (length (take k rows)) = omega (arith, n, place) in e;
+    few = subst (λ (m : ℕ). m ≤ most_rows) (sym so_many) room;
     wrong = wrong;
   })
 
@@ -134,16 +135,16 @@ module _ (net : Net) (text : List ℕ) (rows : List Row) (k : ℕ) (row : Row) (
   so_far_fault packets steps kind number so wrong place =
       let gs : GiveSteps net (take k rows) = record { steps = steps; give = so.give } in
       let n = so_many in
-      fault_there kind number place (⊎_elim
+      fault_there kind number so.room place (⊎_elim
       (λ late. inl (late.0, subst (λ (m : ℕ). most_rows ≤ m) (sym n) late.1, inl gs))
       (λ bad. inr (inr (subst (λ (m : ℕ). m < most_rows) (sym n) bad.0, gs, bad.1)))
       wrong)
 
   -- the row behind that of the end
-  pub behind_fault : (kind : RunKind) (number : ℕ) → GiveAll net (take k rows) → IsBehindEnd k kind → number ≡ k + 1 → IsFirstFault net text kind number
-  behind_fault kind number ga wrong place =
+  pub behind_fault : (kind : RunKind) (number : ℕ) → k ≤ most_rows → GiveAll net (take k rows) → IsBehindEnd k kind → number ≡ k + 1 → IsFirstFault net text kind number
+  behind_fault kind number room ga wrong place =
       let n = so_many in
-      fault_there kind number place (⊎_elim
+      fault_there kind number room place (⊎_elim
       (λ late. inl (late.0, subst (λ (m : ℕ). most_rows ≤ m) (sym n) late.1, inr ga))
       (λ bad. inr (inl (bad.0, subst (λ (m : ℕ). m < most_rows) (sym n) bad.1, ga)))
       wrong)
@@ -162,7 +163,8 @@ so_far_behind net text rows k row packets steps steps2 end kind number is within
       steps = record { steps = steps; give = so.give };
       end = record { time = end; is = says.is };
     } in
-    behind_fault net text rows (k + 1) next is below same kind number ga wrong place
+    let room : k + 1 ≤ most_rows = let r = says.room in omega (arith, r) in
+    behind_fault net text rows (k + 1) next is below same kind number room ga wrong place
 
 pub so_far_no_end : (net : Net) (text : List ℕ) (rows : List Row) (k packets : ℕ) (steps : List Step) (kind : RunKind) (number : ℕ) → rows ≡ take 10001 (rows_of text) → length rows ≤ k
     → IsSoFar net rows k packets steps → kind ≡ T8 → number ≡ length rows + 1 → IsFirstFault net text kind number

@@ -1,3 +1,5 @@
 pub mod RunRows
 pub mod Runs
 pub mod Rounds
+pub mod ReadRuns
+pub mod OneReading

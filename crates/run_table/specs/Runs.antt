@@ -63,13 +63,14 @@ IsWrong net before row kind =
     ⊎ ((kind ≡ T8) × (length before < most_rows) × GiveAll net before)
     ⊎ ((length before < most_rows) × GiveSteps net before × IsWrongIn net (run_row row) kind)
 
--- the first row that is wrong; rows are counted from 1
+-- the first row that is wrong, which is the 10,001st at most; rows are counted from 1
 pub record IsWrongRow (net : Net) (text : List ℕ) (kind : RunKind) (number : ℕ) : Type 0 where
   pub before : List Row
   pub row : Row
   pub after : List Row
   pub rows_are : rows_of text ≡ before ++ row ∷ after
   pub place : number ≡ suc (length before)
+  pub few : length before ≤ most_rows
   pub wrong : IsWrong net before row kind
 
 -- all rows give steps, and none the end

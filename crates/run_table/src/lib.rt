@@ -2,8 +2,10 @@
 #![tactic(auto)]
 
 mod fault;
+mod laws;
 mod run_rows;
 mod runs;
 
 pub use fault::{RunFault, RunKind};
+pub use laws::{readings_are_one, runs_read_are_recorded};
 pub use runs::read_run;

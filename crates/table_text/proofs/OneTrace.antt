@@ -57,11 +57,11 @@ one_place R xs i j x y pairs ex ey nxy nyx =
       ]
     ]
 
-server_one : (net : Net) (name : List ℕ) (i j : ℕ) → IsAccepted net → IsServerNamed net.servers name i → IsServerNamed net.servers name j → i ≡ j
+-- two servers of a network, or two live flows, have two names
+pub server_one : (net : Net) (name : List ℕ) (i j : ℕ) → IsAccepted net → IsServerNamed net.servers name i → IsServerNamed net.servers name j → i ≡ j
 server_one net name i j ok a b =
     one_place (λ s t. s.name ≢ t.name) net.servers i j a.server b.server ok.names.0 a.is b.is (λ n. n (a.named ∙ sym b.named)) (λ n. n (b.named ∙ sym a.named))
 
--- two live flows of a network have two names
 pub flow_one : (net : Net) (name : List ℕ) (i j : ℕ) → IsAccepted net → IsFlowNamed net.flows name i → IsFlowNamed net.flows name j → i ≡ j
 flow_one net name i j ok a b =
     one_place DifferInName net.flows i j (Some a.flow) (Some b.flow) ok.names.1 a.is b.is (λ n. n (a.named ∙ sym b.named)) (λ n. n (b.named ∙ sym a.named))

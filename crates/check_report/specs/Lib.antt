@@ -1,0 +1,2 @@
+pub mod CheckReport
+pub mod CheckLaws
