@@ -1,0 +1,17 @@
+//! What the pace of a server keeps apart: packets that leave it, and so those that come over its link.
+//!
+//! A law is the contract of a function that does nothing: its body is empty, and its `ensures` is proved.
+#![tactic(auto)]
+
+ghost use Rattle.pace_laws.specs.Paces.{PaceIsKept, OutputFromPace};
+
+/// In a lawful view of a server whose pace is limited no work has more bits than the pace times its time.
+pub fn pace_is_kept()
+    ensures { PaceIsKept }
+{}
+
+/// At a server whose works have at most the pace R, the packets of any class, each of at most l bits, that leave in a
+/// closed window [s, t] have at most R (t - s) + l bits.
+pub fn output_from_pace()
+    ensures { OutputFromPace }
+{}
