@@ -1,21 +1,21 @@
 -- What leaves in a closed window, by the pace of the work alone: after the first packet that leaves in it, the server works
 -- on one packet after another, no faster than its pace.
-use Rattle.std.specs.Prelude.{Option, Some, None, ◌≡◌, ℕ, pos, Bool, true, false, ◌&&◌, List, [], ◌∷◌}
+use Rattle.std.specs.Prelude.{Option, Some, None, ◌≡◌, ℕ, pos, true, ◌&&◌, List, [], ◌∷◌}
 use Rattle.std.proofs.Common.{arith, sym, ◌∙◌, refl, inl, inr, subst}
 use Rattle.std.proofs.lemmas.Bool.{cases_Bool, and_parts, and_right}
 use Rattle.rational.specs.Rational.{ℚ, int, ◌+ℚ◌, ◌-ℚ◌, ◌*ℚ◌, ◌≤ℚ◌, ◌<ℚ◌, le_q}
-use Rattle.rational.proofs.Over.{le_q_in, le_q_out}
+use Rattle.rational.proofs.Over.{le_q_in}
 use Rattle.rational.proofs.MinMax.{le_q_not}
-use Rattle.rational.proofs.Laws.{le_refl, le_trans, le_of_lt, le_or_lt, mul_nonneg, mul_sub}
-use Rattle.rational.proofs.Linear.{with1, with2, with3, with4, with5, with6, with7}
-use Rattle.run_laws.specs.Cards.{Card, size, whole, Class, ServerStep, Arrives, Works, Leaves, Visits, time_of}
+use Rattle.rational.proofs.Laws.{le_refl, le_trans, le_or_lt, mul_nonneg, mul_sub}
+use Rattle.rational.proofs.Linear.{with1, with2, with3, with4, with5, with6}
+use Rattle.run_laws.specs.Cards.{Card, size, whole, Class, ServerStep, Arrives, Works, Leaves, Visits}
 use Rattle.run_laws.specs.Servers.{Server, Under, ServerState, done_so_far, done, start}
-use Rattle.run_laws.specs.Next.{next, next_under}
-use Rattle.run_laws.specs.Allows.{Allows, AllAllowed, IsLawfulView, MayLeave, KeepsPace}
+use Rattle.run_laws.specs.Next.{next}
+use Rattle.run_laws.specs.Allows.{AllAllowed, IsLawfulView, MayLeave, KeepsPace}
 use Rattle.run_laws.specs.Counts.{when, total, leaves, upto, within, departed_in}
 use Rattle.run_laws.specs.Premises.{KeepsSizes}
 use Rattle.run_laws.proofs.Sizes.{size_most, size_nonneg, whole_nonneg}
-use Rattle.run_laws.proofs.Sums.{when_true, when_false, when_most, when_nonneg}
+use Rattle.run_laws.proofs.Sums.{when_true, when_false, when_most}
 use Rattle.run_laws.proofs.Counts.{left_le}
 use Rattle.run_laws.proofs.States.{IsSound, IsSoundFor, sound_next, leaving}
 use Rattle.run_laws.proofs.Orders.{AllSmall, small_head, small_after}

@@ -4,6 +4,7 @@
 #![tactic(auto)]
 
 ghost use Rattle.pace_laws.specs.Paces.{PaceIsKept, OutputFromPace};
+ghost use Rattle.pace_laws.specs.Groups.{GroupIsCut, GroupKeepsLesser, PartsAreKept};
 
 /// In a lawful view of a server whose pace is limited no work has more bits than the pace times its time.
 pub fn pace_is_kept()
@@ -14,4 +15,17 @@ pub fn pace_is_kept()
 /// closed window [s, t] have at most R (t - s) + l bits.
 pub fn output_from_pace()
     ensures { OutputFromPace }
+{}
+
+/// The flows that come to a server over one link, from a server whose pace is limited, arrive together within a bucket of
+/// the longest packet and that pace; and within the lesser of it and the sum of their curves.
+pub fn group_is_cut()
+    ensures bucket { GroupIsCut }
+    ensures lesser { GroupKeepsLesser }
+{}
+
+/// A queue keeps the sum of its parts: the flows that enter there keep the sum of their curves, and those that come over
+/// one link the lesser of the sum of their curves and the bucket.
+pub fn parts_are_kept()
+    ensures { PartsAreKept }
 {}
