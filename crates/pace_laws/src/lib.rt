@@ -5,6 +5,7 @@
 
 ghost use Rattle.pace_laws.specs.Paces.{PaceIsKept, OutputFromPace};
 ghost use Rattle.pace_laws.specs.Groups.{GroupIsCut, GroupKeepsLesser, PartsAreKept};
+ghost use Rattle.pace_laws.specs.Reached.{PaceIsReached};
 
 /// In a lawful view of a server whose pace is limited no work has more bits than the pace times its time.
 pub fn pace_is_kept()
@@ -28,4 +29,9 @@ pub fn group_is_cut()
 /// one link the lesser of the sum of their curves and the bucket.
 pub fn parts_are_kept()
     ensures { PartsAreKept }
+{}
+
+/// A lawful view in which that many bits leave: the premises can be met, and no lesser bound would hold.
+pub fn pace_is_reached()
+    ensures { PaceIsReached }
 {}
