@@ -1,6 +1,6 @@
--- Flows that come to a server over one link: their arrivals are cut by the pace of the server before. And a queue as the sum
--- of its parts: the flows that enter there, and those of each server before. (Grouping of flows by their input link; that a
--- part is the lesser of a sum and a bucket is our own choice.)
+-- Flows that come to a server over one link: their arrivals are cut by the pace of the server before. And a queue as
+-- the sum of its parts: the flows that enter there, and those of each server before. (Grouping of flows by their input
+-- link; that a part is the lesser of a sum and a bucket is our own choice.)
 use Rattle.std.specs.Prelude.{Option, Some, None, ◌≡◌, ℕ, zero, suc, pos, ◌<◌, ◌≤◌, Bool, true, false, ◌&&◌, ◌||◌, ◌==◌, List, [], ◌∷◌, length, if◌then◌else◌}
 use Rattle.rational.specs.Rational.{ℚ, int, ◌≤ℚ◌}
 use Rattle.rational.specs.Extended.{Ext, min_ext}
@@ -21,7 +21,8 @@ use Rattle.net_laws.specs.Sums.{sum_of_curves}
 abbrev pub of_flows : (ℕ → Bool) → Class
 of_flows test c = test c.flow
 
--- what is asked of the server from which flows come: its work has a pace, and each of their packets at most so many bits
+-- what is asked of the server from which flows come: its work has a pace, and each of their packets at most so many
+-- bits there
 pub record IsPaced (net : Routes) (run : SpecRun) (test : ℕ → Bool) (from bits : ℕ) (rate : ℚ) : Type 0 where
   pub known : from < length net.servers
   pub pace : (server_at net from).pace ≡ Some rate
@@ -69,8 +70,8 @@ some_below test (suc n) = some_below test n || test n
 abbrev pub has_part : Routes → ℕ → ℕ → ℕ → Bool
 has_part net s q k = some_below (is_of_part net s q k) (length net.flows)
 
--- its arrival curve: the sum of its flows' curves; where they come from a server, the lesser of it and the bucket of their
--- longest packet and that server's rate
+-- its arrival curve: the sum of its flows' curves; where they come from a server, the lesser of it and the bucket of
+-- their longest packet and that server's rate
 abbrev pub part_curve : Routes → ℕ → ℕ → (ℕ → ℚ → Ext) → (ℕ → ℕ) → (ℕ → ℚ) → ℕ → ℚ → Ext
 part_curve net s q α longest rate zero t = sum_of_curves (is_of_part net s q zero) α (length net.flows) t
 part_curve net s q α longest rate (suc p) t =

@@ -18,15 +18,15 @@ pub fn output_from_pace()
     ensures { OutputFromPace }
 {}
 
-/// The flows that come to a server over one link, from a server whose pace is limited, arrive together within a bucket of
-/// the longest packet and that pace; and within the lesser of it and the sum of their curves.
+/// The flows that come to a server over one link, from a server whose pace is limited, arrive together within a bucket
+/// of the longest packet and that pace; and within the lesser of it and the sum of their curves.
 pub fn group_is_cut()
     ensures bucket { GroupIsCut }
     ensures lesser { GroupKeepsLesser }
 {}
 
-/// A queue keeps the sum of its parts: the flows that enter there keep the sum of their curves, and those that come over
-/// one link the lesser of the sum of their curves and the bucket.
+/// A queue keeps the sum of its parts: the flows that enter there keep the sum of their curves, and those that come
+/// over one link the lesser of the sum of their curves and the bucket.
 pub fn parts_are_kept()
     ensures { PartsAreKept }
 {}
