@@ -1,3 +1,7 @@
+use Rattle.std.proofs.Common.{ℕ, subst}
+use Rattle.report_text.specs.RunReport.{found_of}
+use Rattle.run_findings.specs.Findings.{AreFindings}
+use Rattle.run_findings.proofs.Reports.{same_reply}
 use Rattle.check_gauge.specs.Gauge.{check_sizes}
 use Rattle.recorded_sizes.proofs.Delays.{recorded_delays}
 use Rattle.recorded_sizes.proofs.Stand.{lawful_stand}
@@ -16,3 +20,14 @@ findings-requires-clause-sizes c = (
       (from_zero c.args.net.now c.args.run.now c.requires.recorded)
       (steps_at_most c.args.net.now c.args.run.now c.requires.recorded) c.requires.lawful c.requires.narrow,
 )
+
+pub returns : goal.returns
+returns c = record {
+  lawful = c.requires.lawful;
+  tells = record {
+    found = found_of c.in_ok-found.found;
+    finds = subst (λ (n : ℕ). AreFindings c.args.net.now c.args.run.now n (found_of c.in_ok-found.found))
+        c.packets_in-packets.ensures c.in_ok-found.ensures;
+    is = same_reply _ _ c.status_by-status.ensures c.in_ok-text.ensures;
+  };
+}
