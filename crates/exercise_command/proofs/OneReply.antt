@@ -2,7 +2,6 @@
 use Rattle.std.proofs.Common.{◌≡◌, ℕ, List, inl, inr, subst}
 use Rattle.std.specs.Prelude.{◌⊎◌}
 use Rattle.upp_limits.specs.LimitTest.{fault_of}
-use Rattle.net_model.specs.Networks.{Net}
 use Rattle.net_model.specs.Orders.{IsOrder}
 use Rattle.net_graph.proofs.OneOrders.{one_order}
 use Rattle.net_cells.specs.Equations.{MeetsEquations}

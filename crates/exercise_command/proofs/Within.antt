@@ -1,22 +1,18 @@
 -- A summary without a breach shows no number above its bound; the largest bound of each holds for every run.
-use Rattle.std.proofs.Common.{◌≡◌, ℕ, ◌<◌, List, [], ◌∷◌, length, get_or, inl, sym, ap, subst, ◌∙◌}
+use Rattle.std.proofs.Common.{◌≡◌, ℕ, ◌<◌, List, [], ◌∷◌, length, inl, sym, ap, subst, ◌∙◌}
 use Rattle.std.specs.Prelude.{IsTrue, Option, Some, None, is_some, slice_get}
 use Rattle.std.proofs.lemmas.Option.{slice_get-get_or}
 use Rattle.rational.specs.Rational.{ℚ}
 use Rattle.rational.specs.Extended.{Ext, ◌≤ₑ◌}
 use Rattle.rational.specs.declared.Extended.TheVariants.{Fin}
 use Rattle.rational.proofs.ExtendedOrder.{le_ext_trans}
-use Rattle.run_laws.specs.Bounds.{IsFlowBounded}
 use Rattle.run_laws.specs.Delays.{AreAtMost}
 use Rattle.run_laws.specs.FlowDelays.{delays}
 use Rattle.run_laws.specs.Lawful.{IsLawful}
-use Rattle.run_laws.specs.Runs.{SpecRun}
 use Rattle.net_model.specs.Accepted.{IsAccepted}
 use Rattle.net_model.specs.Networks.{Net}
 use Rattle.net_model.specs.NetRoutes.{routes_of}
 use Rattle.net_model.specs.Orders.{IsOrder}
-use Rattle.net_cells.specs.Cells.{cell_of}
-use Rattle.net_cells.specs.declared.cell.Kind.TheVariants.{Bound}
 use Rattle.net_cells.specs.Equations.{MeetsEquations}
 use Rattle.net_cells.specs.Meanings.{CellTable}
 use Rattle.net_cells.specs.Numbered.{is_live}
@@ -24,7 +20,6 @@ use Rattle.net_bounds.specs.NetRuns.{IsRunOf}
 use Rattle.net_bounds.proofs.Kept.{table_bounds_every_run}
 use Rattle.command_replies.specs.Replies.{Reply}
 use Rattle.run_findings.specs.RunBounds.{AreWithinBounds}
-use Rattle.run_findings.specs.Statuses.{StatusTells}
 use Rattle.run_findings.proofs.Bounded.{within}
 use Rattle.simulated_findings.proofs.Lawful.{lawful}
 use Rattle.run_findings.proofs.Reports.{tells}
@@ -33,7 +28,7 @@ use Rattle.exercise_load.proofs.Stand.{workloads_stand, flow_at, flow_count}
 use Rattle.exercise_report.specs.Summary.{summary_of}
 use Rattle.exercise_report.specs.Largest.{largest_bound, largest_delay}
 use Rattle.exercise_report.proofs.LargestIs.{largest_bound_is, delays_below}
-use Rattle.exercise_command.specs.OnSeeds.{IsSummarised, IsAnalysed}
+use Rattle.exercise_command.specs.OnSeeds.{IsSummarised}
 use Rattle.exercise_command.specs.ExerciseLaws.{SummaryTellsPremises, IsQuietSummary, QuietSummariesAreWithinBounds}
 use Rattle.exercise_command.specs.ExerciseLaws.{BoundsEachDelay, SummariesGuarantee}
 use Rattle.exercise_command.proofs.Causes.{causes}

@@ -1,8 +1,8 @@
 -- What is found in a run that keeps the premises is within the bounds of its network.
-use Rattle.std.proofs.Common.{◌≡◌, ℕ, ◌<◌, List, [], length, get_or, inl, inr, refl, sym, ap, ◌∙◌, subst, arith}
-use Rattle.std.specs.Prelude.{pos, Option, Some, None, option_and_then, IsTrue, slice_get}
+use Rattle.std.proofs.Common.{◌≡◌, ℕ, ◌<◌, List, [], length, get_or, inl, inr, sym, ap, ◌∙◌, subst}
+use Rattle.std.specs.Prelude.{pos, Some, option_and_then, IsTrue, slice_get}
 use Rattle.std.specs.Option.{option_map}
-use Rattle.std.proofs.lemmas.Option.{slice_get-get_or, slice_get_within}
+use Rattle.std.proofs.lemmas.Option.{slice_get-get_or}
 use Rattle.rational.specs.Rational.{ℚ, int, ◌≤ℚ◌}
 use Rattle.rational.specs.Extended.{Ext, ◌≤ₑ◌}
 use Rattle.rational.specs.declared.Extended.TheVariants.{Fin, Inf}
@@ -13,24 +13,23 @@ use Rattle.run_laws.specs.Routes.{Routes, server_at}
 use Rattle.run_laws.specs.Runs.{SpecRun}
 use Rattle.run_laws.specs.Servers.{queue_count}
 use Rattle.net_model.specs.Accepted.{IsAccepted}
-use Rattle.net_model.specs.Networks.{Net, NetServer}
+use Rattle.net_model.specs.Networks.{Net}
 use Rattle.net_model.specs.NetRoutes.{routes_of}
 use Rattle.net_cells.specs.declared.cell.Kind.TheVariants.{QueueBacklog, Bound}
 use Rattle.net_cells.specs.Cells.{cell_of}
 use Rattle.net_cells.specs.Meanings.{CellTable}
-use Rattle.net_cells.specs.Numbered.{is_live, queues, discipline_of}
+use Rattle.net_cells.specs.Numbered.{is_live, queues}
 use Rattle.net_cells.proofs.Places.{live_inside}
 use Rattle.net_cells.proofs.TableValues.{same_number}
 use Rattle.net_bounds.specs.Guarantee.{IsKept}
-use Rattle.net_bounds.specs.NetRuns.{IsRunOf}
 use Rattle.net_bounds.specs.Promises.{seen_by, HoldsAtMost}
 use Rattle.net_bounds.proofs.Kept.{table_bounds_every_run, with_queues}
 use Rattle.net_bounds.proofs.Routed.{servers_are, discipline_is}
 use Rattle.run_measures.specs.Peaks.{IsPeak, ArePeaks, peak_in}
 use Rattle.run_measures.specs.Worst.{IsLargest, AreWorst}
-use Rattle.report_text.specs.RunReport.{Found, peak_at}
+use Rattle.report_text.specs.RunReport.{peak_at}
 use Rattle.run_findings.specs.FindingLaws.{QuietFindingsAreWithinBounds}
-use Rattle.run_findings.specs.RunBounds.{IsWithin, AreWithinBounds}
+use Rattle.run_findings.specs.RunBounds.{IsWithin}
 use Rattle.run_findings.proofs.AtLeastZero.{IsNonneg, Given, bound_nonneg}
 use Rattle.run_findings.proofs.Before.{empty_by}
 use Rattle.run_findings.proofs.OneRun.{most_at}

@@ -28,8 +28,6 @@ use Rattle.watch_laws.proofs.Premises.{breaches_tell, first_is_one}
 use Rattle.first_breaches.specs.Firsts.{TellsFirst}
 use Rattle.first_breaches.proofs.Parts.{have_curves}
 use Rattle.simulated_sizes.specs.Laws.{AreCurves}
-use Rattle.report_text.specs.RunReport.{Found}
-use Rattle.run_findings.specs.Findings.{AreFindings}
 use Rattle.run_findings.specs.FindingLaws.{FindingsAreOne}
 
 -- ---- worst delays

@@ -14,7 +14,7 @@ use Rattle.simulated_sizes.specs.Laws.{AreCurves}
 use Rattle.command_replies.specs.declared.answer.Answer.{Answer}
 use Rattle.command_replies.specs.Replies.{Reply}
 use Rattle.command_replies.specs.View.{reply_of, status_of}
-use Rattle.run_findings.specs.Findings.{status_by, FoundText, found_report, TellsFindings, AreFindings}
+use Rattle.run_findings.specs.Findings.{status_by, FoundText, found_report, TellsFindings}
 use Rattle.run_findings.specs.FindingLaws.{FindingsTellPremises}
 use Rattle.run_findings.specs.Statuses.{StatusTells, IsOfReport}
 use Rattle.run_findings.proofs.Counted.{no_report}

@@ -1,9 +1,8 @@
 -- Servers of kind latency or gate that have no stall break nothing in the run of a report.
-use Rattle.std.proofs.Common.{◌≡◌, ℕ, ◌<◌, List, [], length, sym, subst, Some}
+use Rattle.std.proofs.Common.{◌≡◌, ℕ, ◌<◌, sym, subst, Some}
 use Rattle.std.specs.Prelude.{Option}
 use Rattle.std.proofs.lemmas.Option.{slice_get_within}
 use Rattle.std.proofs.lemmas.List.{length-map}
-use Rattle.rational.specs.Rational.{ℚ}
 use Rattle.run_laws.specs.Runs.{SpecRun}
 use Rattle.net_model.specs.declared.breach.Breach.{Breach}
 use Rattle.net_model.specs.declared.breach.Breach.TheVariants.{Service}

@@ -1,7 +1,7 @@
 -- What is answered on the bytes of a network and of a trace of it: by the network's first fault; by the trace's first
 -- fault; by a cycle of the network, or by the order of its servers; by the first cell over a limit, or by a table of
 -- all cells; and by the simulation.
-use Rattle.std.specs.Prelude.{ℕ, List, ◌≡◌, ◌⊎◌}
+use Rattle.std.specs.Prelude.{ℕ, List, ◌⊎◌}
 use Rattle.upp_limits.specs.declared.own_limits.OverLimit.{OverLimit}
 use Rattle.net_model.specs.Networks.{Net}
 use Rattle.net_model.specs.Orders.{IsOrder}

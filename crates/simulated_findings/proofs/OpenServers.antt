@@ -1,12 +1,10 @@
 -- Servers of kind latency or gate that have no stall keep their service curves in the stated run.
 use Rattle.std.proofs.Common.{◌≡◌, ◌∙◌, ℕ, ◌<◌, List, [], ◌∷◌, map, length, arith, refl, sym, subst, ap, inl, inr, Some}
-use Rattle.std.proofs.Common.{None}
 use Rattle.std.specs.Prelude.{zero, suc, All, Option, Bool, true, false, slice_get, slice_set}
 use Rattle.std.specs.Option.{option_map}
-use Rattle.std.proofs.lemmas.Bool.{cases_Bool, cases_eq, eq-eqb, ne_eqb}
-use Rattle.std.proofs.lemmas.Option.{slice_get_cases, slice_get-map, slice_get_within}
-use Rattle.std.proofs.lemmas.List.{length-map, length-set}
-use Rattle.rational.specs.Rational.{ℚ}
+use Rattle.std.proofs.lemmas.Bool.{ne_eqb}
+use Rattle.std.proofs.lemmas.Option.{slice_get_cases, slice_get-map}
+use Rattle.std.proofs.lemmas.List.{length-map}
 use Rattle.upp_curve.specs.Curve.{SpecCurve, value_at}
 use Rattle.run_laws.specs.Runs.{SpecRun}
 use Rattle.run_laws.specs.Views.{view}
@@ -17,7 +15,7 @@ use Rattle.net_model.specs.declared.server.ServiceKind.{ServiceKind}
 use Rattle.net_model.specs.declared.server.ServiceKind.TheVariants.{Latency, Gate, Listed}
 use Rattle.net_model.specs.declared.trace.Stall.{Stall}
 use Rattle.net_model.specs.Networks.{Net, NetServer}
-use Rattle.net_model.specs.NetRoutes.{routes_of, server_for}
+use Rattle.net_model.specs.NetRoutes.{routes_of}
 use Rattle.net_model.specs.Traces.{SpecTrace, IsTrace}
 use Rattle.net_model.specs.Views.{server_of, servers_of}
 use Rattle.net_cells.specs.Numbered.{service, service_of}

@@ -1,4 +1,4 @@
-use Rattle.netcalc_cli.proofs.Seeds.{seed_read, no_seed}
+use Rattle.netcalc_cli.proofs.Seeds.{seed_read}
 use Rattle.netcalc_cli.proofs.words.seed_of.Goals as goal
 
 pub returns : goal.returns
