@@ -12,12 +12,12 @@ first_broken-requires-clause-numbers c =
     recorded_numbers c.args.net.now c.args.run.now c.keeps.ensures
     (from_zero c.args.net.now c.args.run.now c.requires.recorded) c.requires.narrow
 
-pub returns-in_ok-Some : goal.returns-in_ok-Some
-returns-in_ok-Some c =
+pub returns-in-Some : goal.returns-in-Some
+returns-in-Some c =
     IfOk-weaker c.reported_broken.result _ _ (λ r told. record { narrow = c.requires.narrow; verdict = inl told })
     c.reported_broken.ensures
 
-pub returns-in_ok-None : goal.returns-in_ok-None
-returns-in_ok-None c =
+pub returns-in-None : goal.returns-in-None
+returns-in-None c =
     IfOk-weaker c.reported_lawful.result _ _ (λ r told. record { narrow = c.requires.narrow; verdict = inr told })
     c.reported_lawful.ensures
