@@ -16,7 +16,6 @@ use Rattle.broken_laws.proofs.WholeRuns.{broken_is_unlawful, first_once}
 use Rattle.run_check.proofs.Started.{has_paths}
 use Rattle.check_gauge.specs.Gauge.{check_gauge}
 use Rattle.simulated_sizes.specs.Laws.{AreCurves}
-use Rattle.table_text.specs.Rows.{rows_of}
 use Rattle.run_table.specs.declared.fault.RunFault.{RunFault}
 use Rattle.run_table.proofs.OneRun.{readings_are_one}
 use Rattle.command_replies.specs.Replies.{Reply, AreSame}

@@ -1,13 +1,11 @@
 -- The status and the verdict of a report tell whether its run is lawful and keeps the premises.
-use Rattle.std.proofs.Common.{◌≡◌, ℕ, List, inl, inr, ap}
-use Rattle.std.specs.Prelude.{◌⊎◌, ◌↔◌}
+use Rattle.std.proofs.Common.{◌≡◌, inl, inr, ap}
 use Rattle.run_laws.specs.Lawful.{IsLawful}
 use Rattle.run_laws.specs.Runs.{SpecRun}
 use Rattle.net_model.specs.Accepted.{IsAccepted}
 use Rattle.net_model.specs.Networks.{Net}
 use Rattle.net_model.specs.NetRoutes.{routes_of}
 use Rattle.net_cells.specs.Meanings.{CellTable}
-use Rattle.net_bounds.specs.NetRuns.{IsRunOf}
 use Rattle.broken_laws.proofs.WholeRuns.{broken_is_unlawful}
 use Rattle.run_check.proofs.Started.{has_paths}
 use Rattle.simulated_sizes.specs.Laws.{AreCurves}
@@ -16,7 +14,6 @@ use Rattle.run_findings.specs.Statuses.{StatusTells}
 use Rattle.run_findings.proofs.Reports.{tells}
 use Rattle.check_report.specs.CheckReport.{lawful_report_of}
 use Rattle.check_command.specs.Checked.{packets_in, IsUnlawfulOn, IsLawfulOn}
-use Rattle.check_command.specs.OnRuns.{IsCheckReport}
 use Rattle.check_command.specs.CheckLaws.{VerdictTells, VerdictsTellRuns}
 
 module _ (net : Net) (run : SpecRun) (at : CellTable) (reply : Reply) (a : IsAccepted net) (c : AreCurves net) where

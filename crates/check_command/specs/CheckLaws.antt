@@ -1,5 +1,5 @@
 -- What holds of the replies on a network and a recorded run.
-use Rattle.std.specs.Prelude.{◌≡◌, ◌≢◌, ◌<◌, ◌^◌, ◌↔◌, ◌⊎◌, ℕ, List, Option, None}
+use Rattle.std.specs.Prelude.{◌≡◌, ◌≢◌, ◌<◌, ◌^◌, ◌↔◌, ◌⊎◌, ℕ, List, None}
 use Rattle.upp_limits.specs.declared.op_kind.OpFault.{OpFault}
 use Rattle.upp_limits.specs.declared.own_limits.OverLimit.TheVariants.{TooMany, TooWide}
 use Rattle.run_laws.specs.Lawful.{IsLawful}
@@ -22,7 +22,7 @@ use Rattle.command_replies.specs.Guarantee.{Guarantees}
 use Rattle.command_replies.specs.Replies.{Reply, AreSame}
 use Rattle.run_findings.specs.Findings.{AreFindings, found_report}
 use Rattle.run_findings.specs.RunBounds.{AreWithinBounds}
-use Rattle.run_findings.specs.Statuses.{IsOfReport, Keeps}
+use Rattle.run_findings.specs.Statuses.{IsOfReport}
 use Rattle.check_report.specs.CheckReport.{lawful_report_of}
 use Rattle.check_command.specs.Checked.{packets_in, IsUnlawfulOn, IsLawfulOn}
 use Rattle.check_command.specs.OnRuns.{IsMalformed, IsOverLimit, HasCycleBehind, IsCheckOver, IsCheckReport, IsCheckReply}

@@ -1,7 +1,6 @@
 -- What is found when a recorded run of a network is checked, and the replies that tell it.
 use Rattle.std.specs.Prelude.{◌≡◌, ◌⊎◌, ℕ, Bool, true, false, ◌++◌, ◌≤◌, ◌<◌, ◌^◌, List, [], codes, count_by}
 use Rattle.std.specs.Fmt.{decimal}
-use Rattle.rational.specs.Rational.{ℚ}
 use Rattle.upp_limits.specs.declared.own_limits.OverLimit.TheVariants.{TooWide}
 use Rattle.run_laws.specs.declared.steps.Step.{Step}
 use Rattle.run_laws.specs.declared.steps.Step.TheVariants.{Enter, Reach, Work, Leave, Visit}

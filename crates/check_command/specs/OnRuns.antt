@@ -18,7 +18,7 @@ use Rattle.run_table.specs.declared.fault.RunFault.{RunFault}
 use Rattle.run_table.specs.Runs.{IsRunOf, IsFirstFault}
 use Rattle.command_replies.specs.Replies.{Reply}
 use Rattle.command_replies.specs.OnFiles.{IsBroken, IsCurveOver, IsNetOf, HasCycle, IsCellOver}
-use Rattle.check_command.specs.Checked.{run_fault_reply, IsTooWide, IsReportOn, IsVerdictReply}
+use Rattle.check_command.specs.Checked.{run_fault_reply, IsTooWide, IsReportOn}
 
 -- ---- runs
 -- the first row of the run's file that is wrong, and that row's first fault

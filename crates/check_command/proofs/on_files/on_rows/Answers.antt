@@ -8,7 +8,7 @@ use Rattle.check_command.proofs.on_files.on_rows.Goals as goal
 
 pub on_network-requires : goal.on_network-requires
 on_network-requires g c =
-    runs_read_are_recorded c.args.net.now (rows_of c.args.run_bytes.now) c.in-Ok.run c.in-Ok.ensures.ok
+    runs_read_are_recorded c.args.net.now (rows_of c.args.run_bytes.now) c.in-Ok.run' c.in-Ok.ensures.ok
 
 pub returns-in-Ok-clause-reply : goal.returns-in-Ok-clause-reply
 returns-in-Ok-clause-reply g c =
@@ -19,7 +19,7 @@ returns-in-Ok-clause-reply g c =
 
 pub returns-in-Ok-clause-counts : goal.returns-in-Ok-clause-counts
 returns-in-Ok-clause-counts g c =
-    of_run c.args.net.now c.args.run_bytes.now c.in-Ok.run (status_of c.on_network.result) c.args.steps.now
+    of_run c.args.net.now c.args.run_bytes.now c.in-Ok.run' (status_of c.on_network.result) c.args.steps.now
     c.on_network.new.steps c.keeps.ensures c.in-Ok.ensures.ok c.on_network.ensures.counts
 
 pub returns-in-Err-clause-reply : goal.returns-in-Err-clause-reply
