@@ -36,7 +36,7 @@ own_turn : (end : ℚ) (V : List ServerStep) (s : Stretch) (ps own : List ℚ) (
 own_turn end V s ps own t A H turn a b = H.inside t (A.found t turn) a b
 
 -- a turn near which no window is short by any of the segments
-each_segment_has : (P : Segment → Type 0) (ss : List Segment) (g : Segment) → EachSegment P ss → HasSegment g ss → P g
+pub each_segment_has : (P : Segment → Type 0) (ss : List Segment) (g : Segment) → EachSegment P ss → HasSegment g ss → P g
 each_segment_has P [] g h k = absurd k
 each_segment_has P (r ∷ ss) g h k = elim k [ inl e ↦ subst P (sym e) h.0 | inr l ↦ each_segment_has P ss g h.1 l ]
 
@@ -68,7 +68,7 @@ not_before ss works s own p q g none m has e l short =
 some_length : (u e : ℚ) → u <ℚ e → int (pos 0) <ℚ e -ℚ u
 some_length u e l = with2 u e (λ c. omega (arith, c.le, c.lt, c.same))
 
-no_longer : (p q u e : ℚ) → u ≤ℚ p → q ≤ℚ e → q -ℚ p ≤ℚ e -ℚ u
+pub no_longer : (p q u e : ℚ) → u ≤ℚ p → q ≤ℚ e → q -ℚ p ≤ℚ e -ℚ u
 no_longer p q u e h k = with4 p q u e (λ c. omega (arith, c.le, c.lt, c.same))
 
 at_last : (p q u e : ℚ) → u ≤ℚ p → q ≤ℚ e → e -ℚ u ≤ℚ q -ℚ p → q ≡ e

@@ -109,7 +109,7 @@ pub moves : (w : Watched) (c : SpecCurve) (ps : List ℚ) (qs : List Piece) → 
 moves w c ps qs h some e f =
     subst (λ (xs : List Piece). TimesFit xs ps) (sym f) (moves_fit h.sizes w.end (unroll c w.end) ps h.limited (pieces_stand w c h some) (turns_time w c ps h e))
 
-watched_time : (w : Watched) (c : SpecCurve) (ps : List ℚ) (s : Stretch) (h : IsHeld w c) → int (pos 0) <ℚ w.end → ps ≡ turns w (stretches w) → int (pos 0) ≤ℚ s.start → s.end ≤ℚ w.end
+pub watched_time : (w : Watched) (c : SpecCurve) (ps : List ℚ) (s : Stretch) (h : IsHeld w c) → int (pos 0) <ℚ w.end → ps ≡ turns w (stretches w) → int (pos 0) ≤ℚ s.start → s.end ≤ℚ w.end
     → (t : ℚ) → Among t (watched_from s (unroll c w.end) ps) → IsTime h.sizes w.end t
 watched_time w c ps s h some e low high t k =
     let r = in_watched s (unroll c w.end) ps t k in
@@ -127,13 +127,6 @@ watched_time w c ps s h some e low high t k =
     among_time : {p : ℚ} (ps : List ℚ) → EachTime (IsTime h.sizes w.end) ps → Among p ps → IsTime h.sizes w.end p
     among_time [] a k = absurd k
     among_time (q ∷ ps) a k = elim k [ inl is ↦ subst (IsTime h.sizes w.end) (sym is) a.0 | inr l ↦ among_time ps a.1 l ]
-
-pub times_fit : (w : Watched) (c : SpecCurve) (ps : List ℚ) (qs : List Piece) (s : Stretch) → IsHeld w c → int (pos 0) <ℚ w.end → ps ≡ turns w (stretches w) → qs ≡ unroll c w.end → int (pos 0) ≤ℚ s.start → s.end ≤ℚ w.end
-    → EachTime (TimeFits (segments qs) w.works.items) (watched_from s qs ps)
-times_fit w c ps qs s h some e f low high =
-    subst (λ (xs : List Piece). EachTime (TimeFits (segments xs) w.works.items) (watched_from s xs ps)) (sym f)
-    (each_time_from (TimeFits (segments (unroll c w.end)) w.works.items) (watched_from s (unroll c w.end) ps)
-    (λ t k. time_fits h.sizes w.end t (unroll c w.end) w.works.items h.limited (pieces_stand w c h some) h.works (watched_time w c ps s h some e low high t k)))
 
 pub gaps_fit : (w : Watched) (c : SpecCurve) (qs : List Piece) → IsHeld w c → int (pos 0) <ℚ w.end → qs ≡ unroll c w.end → SegmentsFit (segments qs)
 gaps_fit w c qs h some f = subst (λ (xs : List Piece). SegmentsFit (segments xs)) (sym f) (segments_fit h.sizes w.end (unroll c w.end) h.limited (pieces_stand w c h some))

@@ -24,5 +24,6 @@ pub mod Buckets
 pub mod BucketReads
 pub mod StairPaces
 pub mod ClearStretches
+pub mod ShortEnds
 pub mod FirstOfTwo
 pub mod FirstFound

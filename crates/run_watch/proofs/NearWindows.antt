@@ -1,5 +1,5 @@
 -- The look at a stretch's own turns: step by step, and the sizes of its numbers.
-use Rattle.std.specs.Prelude.{◌≡◌, ◌↔◌, ℕ, ◌<◌, ◌≤◌, pos, Bool, IsTrue, List, [], ◌∷◌, length, map, Option, Some, None}
+use Rattle.std.specs.Prelude.{◌≡◌, ◌↔◌, ℕ, ◌<◌, ◌≤◌, pos, Bool, IsTrue, List, [], ◌∷◌, length, map, Option, Some, None, MatchOption}
 use Rattle.std.specs.List.{slice_index_or}
 use Rattle.std.proofs.Common.{arith, refl, sym, subst, ap, inl, inr, ◌∙◌}
 use Rattle.std.proofs.lemmas.Bool.{cases_Bool, and_parts}
@@ -25,7 +25,7 @@ use Rattle.watch_laws.specs.declared.point.Point.{Point}
 use Rattle.watch_laws.specs.declared.point.Segment.{Segment}
 use Rattle.watch_laws.specs.MarkSizes.{IsTime}
 use Rattle.watch_laws.specs.Segments.{segments}
-use Rattle.watch_laws.specs.Shorts.{EachPoint, PointsRise, IsShortBy}
+use Rattle.watch_laws.specs.Shorts.{EachPoint, IsShortBy}
 use Rattle.run_watch.specs.declared.span.Ramp.{Ramp}
 use Rattle.run_watch.specs.declared.watched.Watched.{Watched}
 use Rattle.run_watch.specs.declared.watched.Stretch.{Stretch}
@@ -34,7 +34,7 @@ use Rattle.run_watch.specs.Watching.{stops, next_after, stretches, turns, TimesR
 use Rattle.run_watch.specs.WatchTimes.{point_at, watched_from}
 use Rattle.run_watch.specs.FirstEnds.{FitsMarks, IsFirstEnd, FitsSegments}
 use Rattle.run_watch.specs.IdleWindows.{FindsShort, TimeFits, SegmentsFit}
-use Rattle.run_watch.specs.NearWindows.{FitsAt, FitsNear, FitsNearBy, IsShortAfter, IsShortBefore, NoneNear, IsClear}
+use Rattle.run_watch.specs.NearWindows.{FitsAt, FitsNear, FitsNearBy, IsShortAfter, IsShortBefore, IsNearEndOf, NoneNear, IsClear, EndsShort}
 use Rattle.run_watch.specs.Held.{AreHeld, IsHeld}
 use Rattle.run_watch.specs.Searches.{IsLookedAt, IsClearStretch, FindsIn}
 use Rattle.run_watch.proofs.OrderedTimes.{same_times}
@@ -45,26 +45,26 @@ use Rattle.run_watch.proofs.HeldTimes.{turns_time}
 use Rattle.run_watch.proofs.IdleIn.{has_at}
 use Rattle.run_watch.proofs.SortedPoints.{each_point_at, each_time_from, each_time_among, fits_of, none_short}
 
--- ---- times in order
-later_times : (x : ℚ) (ts : List ℚ) → TimesRise x ts → EachTime (λ t. x ≤ℚ t) ts
-later_times x [] h = tt
-later_times x (t ∷ ts) h = (h.0, each_time_from (λ u. x ≤ℚ u) ts (λ u m. le_trans h.0 (each_time_among (λ v. t ≤ℚ v) ts u (later_times t ts h.1) m)))
-
-rise_points : (works : List Ramp) (x : ℚ) (ts : List ℚ) → TimesRise x ts → PointsRise (map (point_at works) ts)
-rise_points works x [] h = tt
-rise_points works x (t ∷ ts) h = (each_point_at (λ q. t ≤ℚ q.time) works ts (later_times t ts h.1), rise_points works t ts h.1)
-
-pub points_in_order : (works : List Ramp) (ts : List ℚ) (ps : List Point) → ps ≡ map (point_at works) ts → (from : ℚ) × TimesRise from ts → PointsRise ps
-points_in_order works ts ps e h = subst PointsRise (sym e) (rise_points works h.0 ts h.1)
-
+-- ---- points
 pub points_fit : (ss gs : List Segment) (works : List Ramp) (ts : List ℚ) (ps : List Point) → gs ≡ ss → ps ≡ map (point_at works) ts → SegmentsFit ss → EachTime (TimeFits ss works) ts → FitsSegments ps gs
 points_fit ss gs works ts ps e f g h = subst (FitsSegments ps) (sym e) (fits_of works ts ss ps f g h)
 
-pub clear : (ss gs : List Segment) (works : List Ramp) (s : Stretch) (ts : List ℚ) (ps : List Point) (k : ℕ) → gs ≡ ss → ps ≡ map (point_at works) ts → IsFirstEnd gs gs ps k → length ps ≤ k → NoneNear gs works s ps → IsClear ss works s ts
+clear : (ss gs : List Segment) (works : List Ramp) (s : Stretch) (ts : List ℚ) (ps : List Point) (k : ℕ) → gs ≡ ss → ps ≡ map (point_at works) ts → IsFirstEnd gs gs ps k → length ps ≤ k → NoneNear gs works s ps → IsClear ss works s ts
 clear ss gs works s ts ps k e f first late near = subst (λ (xs : List Segment). IsClear xs works s ts) e record {
   pairs = none_short gs works ts ts ps k (same_times ts) f first late;
   near = subst (NoneNear gs works s) f near;
 }
+
+-- what the look at the turns and near them finds
+pub looked_near : (ss gs hs : List Segment) (works : List Ramp) (s : Stretch) (ts : List ℚ) (ps rs : List Point) (k : ℕ) (o : Option ℚ) → gs ≡ ss → hs ≡ ss → ps ≡ map (point_at works) ts → rs ≡ map (point_at works) ts → IsFirstEnd gs gs ps k → length ps ≤ k
+    → MatchOption o (NoneNear hs works s rs) (IsNearEndOf hs works s rs) → MatchOption o (IsClear ss works s ts) (EndsShort ss works s ts)
+looked_near ss gs hs works s ts ps rs k o e e2 f f2 first late found =
+    go o (subst (λ (xs : List Point). MatchOption o (NoneNear ss works s xs) (IsNearEndOf ss works s xs)) f2 (subst (λ (xs : List Segment). MatchOption o (NoneNear xs works s rs) (IsNearEndOf xs works s rs)) e2 found))
+  where
+    go : (o : Option ℚ) → MatchOption o (NoneNear ss works s (map (point_at works) ts)) (IsNearEndOf ss works s (map (point_at works) ts)) → MatchOption o (IsClear ss works s ts) (EndsShort ss works s ts)
+    go None none =
+        clear ss gs works s ts ps k e f first late (subst (λ (xs : List Point). NoneNear gs works s xs) (sym f) (subst (λ (xs : List Segment). NoneNear xs works s (map (point_at works) ts)) (sym e) none))
+    go (Some t) near = inr near
 
 -- ---- a shorter window
 pub limited_to : (z : Sizes) (end far : ℚ) → AreLimited z end → Whole z.dt far → int (pos 0) ≤ℚ far → far ≤ℚ end → AreLimited z far
@@ -141,7 +141,7 @@ length_operand w c s own all h L =
     let H = length_stands h.sizes w.end s h.limited (stretch_stands w c s own all h L) in
     record { sizes = h.sizes; limited = H.limited; stands = curve_earlier h.sizes (s.end -ℚ s.start) w.end c (curve_period c h.is) H.most h.curve }
 
-near_pieces : (w : Watched) (c : SpecCurve) (s : Stretch) (h : IsHeld w c) → HasLength h.sizes w.end (s.end -ℚ s.start) → OperandPieces h.sizes w.end (unroll c (s.end -ℚ s.start))
+pub near_pieces : (w : Watched) (c : SpecCurve) (s : Stretch) (h : IsHeld w c) → HasLength h.sizes w.end (s.end -ℚ s.start) → OperandPieces h.sizes w.end (unroll c (s.end -ℚ s.start))
 near_pieces w c s h H =
     let far = s.end -ℚ s.start in
     pieces_further h.sizes w.end far (unroll c far) H.most

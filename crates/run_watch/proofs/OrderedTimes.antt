@@ -2,16 +2,12 @@
 use Rattle.std.specs.Prelude.{◌≡◌, ℕ, zero, suc, ◌+◌, ◌<◌, ◌≤◌, true, List, [], ◌∷◌, ◌++◌, length, drop}
 use Rattle.std.specs.List.{slice_index_or, dedup, dedup_from}
 use Rattle.std.specs.List.Sorted.{IsSorted, IsPermutation}
-use Rattle.std.specs.Ordering.{is_eq, MatchOrdering}
-use Rattle.std.specs.declared.cmp.Ordering.{Ordering}
-use Rattle.std.specs.declared.cmp.Ordering.TheVariants.{Less, Equal, Greater}
-use Rattle.std.proofs.Common.{arith, add-one, append_assoc, inl, inr, sym, subst, ap, ◌∙◌, true≢false}
+use Rattle.std.proofs.Common.{arith, add-one, append_assoc, inl, inr, sym, subst, ap, ◌∙◌}
 use Rattle.std.proofs.lemmas.Bool.{cases_Bool}
 use Rattle.std.proofs.lemmas.List.{append-nil, drop_all}
-use Rattle.rational.specs.Rational.{ℚ, ◌<ℚ◌}
+use Rattle.rational.specs.Rational.{ℚ}
 use Rattle.rational.specs.Ratio.{cmp_q}
-use Rattle.rational.proofs.Comparison.{cmp_ranks}
-use Rattle.fraction128.specs.Order.{same_q}
+use Rattle.fraction128.specs.Order.{same_q, same_out}
 use Rattle.affine_segment.specs.declared.line.Piece.{Piece}
 use Rattle.watch_laws.specs.Affine.{Among}
 use Rattle.run_watch.specs.declared.watched.Stretch.{Stretch}
@@ -34,20 +30,12 @@ same_before xs ys zs h = record {
 }
 
 -- ---- each once
-same_in : (x y : ℚ) → same_q x y ≡ true → x ≡ y
-same_in x y e = go (cmp_q x y) (cmp_ranks x y) e
-  where
-    go : (o : Ordering) → MatchOrdering o (x <ℚ y) (x ≡ y) (y <ℚ x) → is_eq o ≡ true → x ≡ y
-    go Less k f = absurd (true≢false (sym f))
-    go Equal k f = k
-    go Greater k f = absurd (true≢false (sym f))
-
 kept_into : (k : ℚ) (xs : List ℚ) (t : ℚ) → Among t (k ∷ xs) → Among t (dedup_from same_q k xs)
 kept_into k [] t h = h
 kept_into k (x ∷ xs) t h = elim (cases_Bool (same_q x k)) [
   | inl e ↦ rw e (kept_into k xs t (elim h [
     | inl is ↦ inl is
-    | inr m ↦ elim m [ inl is ↦ inl (is ∙ same_in x k e) | inr n ↦ inr n ]
+    | inr m ↦ elim m [ inl is ↦ inl (is ∙ same_out x k e) | inr n ↦ inr n ]
   ]))
   | inr e ↦ rw e (elim h [ inl is ↦ inl is | inr m ↦ inr (kept_into x xs t m) ])
 ]
@@ -70,7 +58,7 @@ same_kept (k ∷ xs) = record { into = kept_into k xs; back = kept_back k xs }
 kept_rise : (from k : ℚ) (xs : List ℚ) → TimesRise from (k ∷ xs) → TimesRise from (dedup_from same_q k xs)
 kept_rise from k [] h = h
 kept_rise from k (x ∷ xs) h = elim (cases_Bool (same_q x k)) [
-  | inl e ↦ rw e (kept_rise from k xs (h.0, subst (λ y. TimesRise y xs) (same_in x k e) h.1.1))
+  | inl e ↦ rw e (kept_rise from k xs (h.0, subst (λ y. TimesRise y xs) (same_out x k e) h.1.1))
   | inr e ↦ rw e (h.0, kept_rise k x xs h.1)
 ]
 

@@ -4,8 +4,8 @@ use Rattle.std.proofs.Common.{arith, sym, subst, inl, inr, true≢false, ◌∙�
 use Rattle.std.specs.List.Sorted.{IsPermutation}
 use Rattle.rational.specs.Rational.{ℚ, ◌≤ℚ◌, ◌<ℚ◌, le_q}
 use Rattle.run_laws.specs.Counts.{before}
-use Rattle.rational.proofs.Laws.{le_lt_trans, lt_le_trans, lt_irrefl}
-use Rattle.rational.proofs.Over.{lt_q_in, lt_q_out, le_q_out}
+use Rattle.rational.proofs.Laws.{le_lt_trans, lt_le_trans, lt_irrefl, le_of_not_lt}
+use Rattle.rational.proofs.Over.{lt_q_in, lt_q_out, le_q_in, le_q_out}
 use Rattle.watch_laws.specs.Affine.{Among}
 use Rattle.run_watch.specs.declared.watched.Stretch.{Stretch}
 use Rattle.run_watch.specs.Watching.{TimesRise, HoldsTimes}
@@ -59,20 +59,46 @@ take_among (suc k) (x ∷ ts) t h = elim h [ inl e ↦ inl e | inr m ↦ inr (ta
 past : (t end x : ℚ) → x ≡ t → le_q x end ≡ false → t ≤ℚ end → ⊥
 past t end x e h l = true≢false (sym (le_q_out x end (subst (λ y. y ≤ℚ end) (sym e) l)) ∙ h)
 
+each_kept : (P : ℚ → Type 0) (k : ℕ) (ts : List ℚ) (t : ℚ) → ((i : ℕ) (d : ℚ) → i < k → i < length ts → P (get_or ts i d)) → Among t (take k ts) → P t
+each_kept P zero ts t f h = absurd h
+each_kept P (suc k) [] t f h = absurd h
+each_kept P (suc k) (x ∷ ts) t f h = elim h [
+  | inl e ↦ subst P (sym e) (f 0 x (omega arith) (omega arith))
+  | inr m ↦ each_kept P k ts t (λ i d a b. f (suc i) d (omega arith) (omega arith)) m
+]
+
+each_left : (P : ℚ → Type 0) (k : ℕ) (ts : List ℚ) (t : ℚ) → ((i : ℕ) (d : ℚ) → k ≤ i → i < length ts → P (get_or ts i d)) → Among t (drop k ts) → P t
+each_left P (suc k) [] t f h = absurd h
+each_left P (suc k) (x ∷ ts) t f h = each_left P k ts t (λ i d a b. f (suc i) d (omega arith) (omega arith)) h
+each_left P zero [] t f h = absurd h
+each_left P zero (x ∷ ts) t f h = elim h [
+  | inl e ↦ subst P (sym e) (f 0 x (omega arith) (omega arith))
+  | inr m ↦ each_left P zero ts t (λ i d a b. f (suc i) d (omega arith) (omega arith)) m
+]
+
+no_earlier : (u x : ℚ) → before u x ≡ false → u ≤ℚ x
+no_earlier u x e = le_of_not_lt (λ l. true≢false (sym (lt_q_out x u l) ∙ e))
+
 pub holds : (s : Stretch) (ts rest own : List ℚ) (from count : ℕ) → from ≤ length ts → rest ≡ drop from ts → own ≡ take count rest
     → ((i : ℕ) (d : ℚ) → 0 ≤ i → i < from → before s.start (get_or ts i d) ≡ true)
+    → ((i : ℕ) (d : ℚ) → from ≤ i → i < length ts → before s.start (get_or ts i d) ≡ false)
+    → ((i : ℕ) (d : ℚ) → 0 ≤ i → i < count → le_q (get_or rest i d) s.end ≡ true)
     → ((i : ℕ) (d : ℚ) → count ≤ i → i < length rest → le_q (get_or rest i d) s.end ≡ false)
     → HoldsTimes s ts own
-holds s ts rest own from count l e f early late = record {
+holds s ts rest own from count l e f early begun kept late = record {
   inside = λ t m a b.
       let here = among_drop from ts t (λ i d k is. lt_irrefl t (lt_le_trans (subst (λ x. x <ℚ s.start) is (lt_q_in (get_or ts i d) s.start (early i d (omega arith) k))) a)) l m in
       let there = subst (Among t) (sym e) here in
       subst (Among t) (sym f) (among_take count rest t (λ i d k n is. past t s.end (get_or rest i d) is (late i d k n) b) there);
   are = λ t m. drop_among from ts t (subst (Among t) e (take_among count rest t (subst (Among t) f m)));
+  from = λ t m. each_left (λ x. s.start ≤ℚ x) from ts t (λ i d a b. no_earlier s.start (get_or ts i d) (begun i d a b)) (subst (Among t) e (take_among count rest t (subst (Among t) f m)));
+  upto = λ t m. each_kept (λ x. x ≤ℚ s.end) count rest t (λ i d a b. le_q_in (get_or rest i d) s.end (kept i d (omega arith) a)) (subst (Among t) f m);
 }
 
 pub holds_sorted : (s : Stretch) (ps ts own : List ℚ) → IsPermutation ps ts → HoldsTimes s ts own → HoldsTimes s ps own
 holds_sorted s ps ts own p h = record {
   inside = λ t m a b. h.inside t (among_sorted ps ts t p m) a b;
   are = λ t m. sorted_among ps ts t p (h.are t m);
+  from = h.from;
+  upto = h.upto;
 }

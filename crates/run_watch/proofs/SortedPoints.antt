@@ -21,7 +21,7 @@ use Rattle.run_watch.specs.Ramps.{EachRamp, ReadsRamp}
 use Rattle.run_watch.specs.Watching.{TimesRise}
 use Rattle.run_watch.specs.FirstEnds.{KeySteps, GapSteps, FitsMarks, FitsSegments, IsFirstEnd, mark_of, rule_of}
 use Rattle.run_watch.specs.WatchTimes.{HaveSameTimes, point_at, IsShortTo, IsFirstStart}
-use Rattle.run_watch.specs.IdleWindows.{NoneIsShort, IsFirstShort, TimeFits, SegmentsFit}
+use Rattle.run_watch.specs.IdleWindows.{IsShortWindow, NoneIsShort, IsFirstShort, TimeFits, SegmentsFit}
 use Rattle.watch_laws.specs.Marks.{FitsRule}
 use Rattle.run_watch.proofs.ShortWindows.{each_point_has, first_or_later, point_has}
 use Rattle.run_laws.proofs.Times.{each_time_map}
@@ -203,21 +203,39 @@ first_short ss works xs ts ps k a b same order e f g l is start =
     early : (p : Point) → HasPoint p ps → p.time <ℚ b.time → HasPoint p (take k ps) ⊎ (b.time ≤ℚ p.time) → HasPoint p (take k ps)
     early p h m d = elim d [ inl n ↦ n | inr n ↦ absurd (lt_irrefl p.time (lt_le_trans m n)) ]
 
+abbrev unwrapped : Option Point → Point → Point
+unwrapped None d = d
+unwrapped (Some y) d = y
+
+pub point_read : (ps : List Point) (k : ℕ) (b c : Point) → slice_get ps k ≡ Some c → k < length ps → c ≡ slice_index_or ps k b
+point_read [] k b c at l = absurd (omega arith)
+point_read (q ∷ ps) zero b c at l = ap (λ (o : Option Point). unwrapped o c) (sym at)
+point_read (q ∷ ps) (suc k) b c at l = point_read ps k b c at (omega arith)
+
 pub some_start : (ss : List Segment) (ps : List Point) (k : ℕ) (b : Point) → IsFirstEnd ss ss ps k → k < length ps → b ≡ slice_index_or ps k b → EachPoint (λ p. ¬ IsShortTo ss p b) ps → ⊥
 some_start ss ps k b f l is none =
     let (c, at, there) = f.there l in
-    let same : c ≡ b = one ps k c at l ∙ sym is in
+    let same : c ≡ b = point_read ps k b c at l ∙ sym is in
     each_point_has (λ p. ¬ IsShortTo ss p b) ps there.start none there.one_of
     (there.segment, there.in_curve, subst (λ (p : Point). IsShortBy there.segment there.start p) same there.short)
-  where
-    unwrapped : Option Point → Point → Point
-    unwrapped None d = d
-    unwrapped (Some y) d = y
 
-    one : (qs : List Point) (k : ℕ) (c : Point) → slice_get qs k ≡ Some c → k < length qs → c ≡ slice_index_or qs k b
-    one [] k c at l = absurd (omega arith)
-    one (q ∷ qs) zero c at l = ap (λ (o : Option Point). unwrapped o c) (sym at)
-    one (q ∷ qs) (suc k) c at l = one qs k c at (omega arith)
+-- the first end of a short window between the points of some times
+pub window_at : (ss gs : List Segment) (works : List Ramp) (ts : List ℚ) (ps : List Point) (k : ℕ) (b : Point) → gs ≡ ss → ps ≡ map (point_at works) ts → IsFirstEnd gs gs ps k → k < length ps → b ≡ slice_index_or ps k b
+    → (a : ℚ) × IsShortWindow ss works ts a b.time
+window_at ss gs works ts ps k b g e f l is =
+    let (c, at, there) = f.there l in
+    let a = there.start in
+    let same : c ≡ b = point_read ps k b c at l ∙ sym is in
+    let pa = point_is works ts a (subst (λ (qs : List Point). HasPoint a qs) e there.one_of) in
+    let pb = point_is works ts b (subst (λ (qs : List Point). HasPoint b qs) e (point_has ps k b l is)) in
+    let short : IsShortTo gs a b = (there.segment, there.in_curve, subst (λ (p : Point). IsShortBy there.segment a p) same there.short) in (
+      a.time,
+      record {
+        from = pa.0;
+        to = pb.0;
+        short = subst (λ (p : Point). IsShortTo ss p (point_at works b.time)) pa.1 (subst (λ (p : Point). IsShortTo ss a p) pb.1 (subst (λ (xs : List Segment). IsShortTo xs a b) g short));
+      },
+    )
 
 -- ---- as the code finds them
 pub sorted_from : (xs items now ts : List ℚ) → items ≡ xs → IsPermutation items now → IsSorted cmp_q now → ts ≡ now → IsPermutation xs ts × IsSorted cmp_q ts

@@ -77,10 +77,12 @@ ends_of (s ∷ ss) = s.start ∷ s.end ∷ ends_of ss
 abbrev pub turns : Watched → List Stretch → List ℚ
 turns w ss = ends_of ss ++ changes_in w w.works.items
 
--- all of these times that are in the stretch are among the others, which are of them
+-- the others are those of these times that are in the stretch
 pub record HoldsTimes (s : Stretch) (ts own : List ℚ) : Type 0 where
   pub inside : (t : ℚ) → Among t ts → s.start ≤ℚ t → t ≤ℚ s.end → Among t own
   pub are : (t : ℚ) → Among t own → Among t ts
+  pub from : (t : ℚ) → Among t own → s.start ≤ℚ t
+  pub upto : (t : ℚ) → Among t own → t ≤ℚ s.end
 
 -- ---- made from a run
 -- what the server of a number sees

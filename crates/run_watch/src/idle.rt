@@ -2,13 +2,14 @@
 
 ghost use Rattle.std.specs.Prelude.{IfOk};
 ghost use Rattle.watch_laws.specs.Affine.{EachTime};
+ghost use Rattle.watch_laws.specs.Laws.{MayServe};
 ghost use Rattle.run_watch.specs.Ramps.{AreRamps};
 ghost use Rattle.run_watch.specs.WatchTimes.{watched_from, TimesFit};
 ghost use Rattle.run_watch.specs.IdleWindows.{FindsShort, TimeFits, SegmentsFit};
 ghost use Rattle.run_watch.specs.Held.{IsHeld};
 ghost use Rattle.run_watch.specs.Searches.{IsLookedAt, FindsIn};
 
-use crate::near::may_be_short;
+use crate::near::short_end;
 use crate::shorts::first_end;
 use crate::span::Ramp;
 use crate::watched::{Stretch, Watched};
@@ -21,7 +22,7 @@ use upp_normal::unrolled;
 use watch_laws::Segment;
 
 /// The window of a stretch that is short of work, between two watch points: with the least end, and of those with the
-/// least start. `segments` are those of the pieces.
+/// least start. The turns are moved by the starts of `pieces`; a window is short by `segments`.
 pub(crate) fn first_short(
     alloc: Global,
     works: &[Ramp],
@@ -50,8 +51,11 @@ pub(crate) fn first_short(
 }
 
 /// The window of a stretch that is short of work, between two watch points: with the least end, and of those with the
-/// least start. A look at the stretch's own turns, by the pieces of the curve up to its length, comes first; where it
-/// finds nothing, neither the watch points nor the pieces up to the run's end are made.
+/// least start. A look at the stretch's own turns, by the pieces of the curve up to its length, comes first. Where it
+/// finds nothing, neither the watch points nor the pieces up to the run's end are made. Where it finds a window, only
+/// the watch points up to the end of that one are, since no first window ends later: among them are turns from before
+/// and after the stretch that a piece moves into it. No window is longer than the stretch, so the pieces up to its
+/// length tell which of them is short.
 pub(crate) fn first_in(
     alloc: Global,
     w: &Watched,
@@ -62,14 +66,18 @@ pub(crate) fn first_in(
 ) -> Result<Option<(Frac, Frac)>, AllocError>
     requires held { IsHeld w.now curve.now }
     requires stretch { IsLookedAt w.now s.now own.now turns.now }
-    ensures { IfOk result (FindsIn w.now curve.now s.now own.now turns.now) }
+    ensures { MayServe curve.now → IfOk result (FindsIn w.now curve.now s.now own.now turns.now) }
 {
     let near = unrolled(curve, difference(s.end, s.start))?;
-    let maybe = may_be_short(alloc, &w.works, s, own, &near)?;
-    if !maybe {
-        return Ok(None);
-    }
+    let end = match short_end(alloc, &w.works, s, own, &near)? {
+        Some(end) => end,
+        None => return Ok(None),
+    };
+    let upto = Stretch {
+        start: s.start,
+        end,
+    };
     let pieces = unrolled(curve, w.end)?;
-    let segments = segments_of(alloc, &pieces)?;
-    first_short(alloc, &w.works, s, turns, &pieces, &segments)
+    let segments = segments_of(alloc, &near)?;
+    first_short(alloc, &w.works, &upto, turns, &pieces, &segments)
 }

@@ -1,7 +1,6 @@
-//! Whether a stretch may have a window that is short of work: the look at its own turns alone.
+//! The end of a window of a stretch that is short of work, if there is one: the look at its own turns alone.
 
-ghost use Rattle.std.specs.Prelude.{◌≡◌, ◌↔◌, IfOk, IsTrue, map};
-ghost use Rattle.std.specs.Bool.{OnFalse};
+ghost use Rattle.std.specs.Prelude.{◌≡◌, ◌↔◌, IfOk, IsTrue, MatchOption, map};
 ghost use Rattle.rational.specs.Rational.{ℚ};
 ghost use Rattle.watch_laws.specs.Affine.{EachTime};
 ghost use Rattle.watch_laws.specs.Segments.{segments};
@@ -10,7 +9,7 @@ ghost use Rattle.run_watch.specs.Ramps.{AreRamps};
 ghost use Rattle.run_watch.specs.Watching.{TimesRise};
 ghost use Rattle.run_watch.specs.WatchTimes.{point_at};
 ghost use Rattle.run_watch.specs.IdleWindows.{TimeFits, SegmentsFit};
-ghost use Rattle.run_watch.specs.NearWindows.{IsShortAfter, IsShortBefore, IsShortNear, NoneNearBy, NoneNear, IsClear, FitsNear, FitsNearBy};
+ghost use Rattle.run_watch.specs.NearWindows.{IsShortAfter, IsShortBefore, IsShortNear, IsNearEnd, IsNearEndBy, IsNearEndOf, NoneNearBy, NoneNear, IsClear, EndsShort, FitsNear, FitsNearBy};
 
 use crate::ramps::amount_at;
 use crate::shorts::first_end;
@@ -52,67 +51,71 @@ fn is_short_before(works: &[Ramp], s: &Stretch, p: &Point, g: &Segment) -> bool
     is_short_by(g, &start, p)
 }
 
-fn is_short_near(works: &[Ramp], s: &Stretch, p: &Point, g: &Segment) -> bool
+/// The end of such a window that is short by the segment, with p as one end: of the one up to p first.
+fn near_end(works: &[Ramp], s: &Stretch, p: &Point, g: &Segment) -> Option<Frac>
     requires ramps { AreRamps works.now }
     requires fits { FitsNear works.now s.now g.now p.now }
-    ensures { IsTrue result ↔ IsShortNear works.now s.now p.now g.now }
+    ensures { MatchOption result (¬ IsShortNear works.now s.now p.now g.now) (IsNearEnd works.now s.now p.now g.now) }
 {
-    if is_short_after(works, s, p, g) {
-        return true;
+    if is_short_before(works, s, p, g) {
+        return Some(p.time);
     }
-    is_short_before(works, s, p, g)
+    if is_short_after(works, s, p, g) {
+        return Some(sum(p.time, g.start));
+    }
+    None
 }
 
-/// Whether such a window at p is short by one of the segments.
-fn some_near_by(works: &[Ramp], s: &Stretch, p: &Point, segments: &[Segment]) -> bool
+/// The end of one at p that is short by one of the segments.
+fn near_end_by(works: &[Ramp], s: &Stretch, p: &Point, segments: &[Segment]) -> Option<Frac>
     requires ramps { AreRamps works.now }
     requires fits { FitsNearBy segments.now works.now s.now p.now }
-    ensures { OnFalse result (NoneNearBy segments.now works.now s.now p.now) }
+    ensures { MatchOption result (NoneNearBy segments.now works.now s.now p.now) (IsNearEndBy segments.now works.now s.now p.now) }
 {
     for g in segments {
-        if is_short_near(works, s, p, g) {
-            return true;
+        if let Some(end) = near_end(works, s, p, g) {
+            return Some(end);
         }
     }
-    false
+    None
 }
 
-/// Whether one at one of the points is.
-fn some_near(works: &[Ramp], s: &Stretch, points: &[Point], segments: &[Segment]) -> bool
+/// The end of one at one of the points.
+fn near_end_of(works: &[Ramp], s: &Stretch, points: &[Point], segments: &[Segment]) -> Option<Frac>
     requires ramps { AreRamps works.now }
     requires fits { EachPoint (FitsNearBy segments.now works.now s.now) points.now }
-    ensures { OnFalse result (NoneNear segments.now works.now s.now points.now) }
+    ensures { MatchOption result (NoneNear segments.now works.now s.now points.now) (IsNearEndOf segments.now works.now s.now points.now) }
 {
     for p in points {
-        if some_near_by(works, s, p, segments) {
-            return true;
+        if let Some(end) = near_end_by(works, s, p, segments) {
+            return Some(end);
         }
     }
-    false
+    None
 }
 
-/// Whether a window of the stretch is short of work between two of its turns `own`, or between one of them and a time
-/// that is as far away as one of the pieces starts: one pass over the turns for each piece, and two windows for each
-/// turn and piece.
-pub(crate) fn may_be_short(
+/// The end of a window of the stretch that is short of work between two of its turns `own`, or between one of them and
+/// a time that is as far away as one of the pieces starts; none where no such window is short. One pass over the turns
+/// for each piece, and two windows for each turn and piece.
+pub(crate) fn short_end(
     alloc: Global,
     works: &[Ramp],
     s: &Stretch,
     own: &[Frac],
     pieces: &[Piece],
-) -> Result<bool, AllocError>
+) -> Result<Option<Frac>, AllocError>
     requires ramps { AreRamps works.now }
     requires rise { (from : ℚ) × TimesRise from own.now }
     requires segments { SegmentsFit (segments pieces.now) }
     requires times { EachTime (TimeFits (segments pieces.now) works.now) own.now }
     requires near { EachPoint (FitsNearBy (segments pieces.now) works.now s.now) (map (point_at works.now) own.now) }
-    ensures { IfOk result (λ b. OnFalse b (IsClear (segments pieces.now) works.now s.now own.now)) }
+    ensures { IfOk result (λ o. MatchOption o (IsClear (segments pieces.now) works.now s.now own.now) (EndsShort (segments pieces.now) works.now s.now own.now)) }
 {
     let segments = segments_of(alloc, pieces)?;
     let points = points_of(alloc, works, own)?;
     let place = first_end(alloc, &points, &segments)?;
     if place < points.len() {
-        return Ok(true);
+        return Ok(Some(points[place].time));
     }
-    Ok(some_near(works, s, &points, &segments))
+    Ok(near_end_of(works, s, &points, &segments))
 }

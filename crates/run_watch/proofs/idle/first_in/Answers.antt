@@ -1,5 +1,4 @@
 use Rattle.std.proofs.Common.{◌≡◌, ◌∙◌, Option, sym, subst, ap, inl}
-use Rattle.std.proofs.lemmas.Bool.{OnFalse_at}
 use Rattle.std.proofs.lemmas.Result.{IfOk-weaker}
 use Rattle.rational.specs.Rational.{ℚ, ◌-ℚ◌}
 use Rattle.upp_curve.specs.Unrolled.{unroll}
@@ -11,8 +10,9 @@ use Rattle.run_watch.specs.IdleWindows.{FindsShort}
 use Rattle.run_watch.specs.Searches.{FindsIn}
 use Rattle.run_watch.proofs.FirstIdle.{times_as, gaps_as}
 use Rattle.run_watch.proofs.HeldSizes.{times_differ}
-use Rattle.run_watch.proofs.HeldTimes.{operand_to, moves, times_fit, gaps_fit}
-use Rattle.run_watch.proofs.NearWindows.{stretch_stands, end_some, length_operand, near_segments, near_times, near_turns, clear_as, found_watched}
+use Rattle.run_watch.proofs.HeldTimes.{operand_to, moves}
+use Rattle.run_watch.proofs.NearWindows.{stretch_stands, end_some, length_operand, near_segments, near_times, near_turns, clear_as}
+use Rattle.run_watch.proofs.ShortEnds.{end_within, found_in_cut, looks_clear, looks_short, near_watched_times}
 use Rattle.run_watch.proofs.idle.first_in.Goals as goal
 
 pub difference-requires : goal.difference-requires
@@ -26,31 +26,32 @@ unrolled-requires c =
     subst (λ (t : ℚ). IsOperandTo t c.args.curve.now) (sym c.difference.ensures)
     (length_operand c.args.w.now c.args.curve.now c.args.s.now c.args.own.now c.args.turns.now c.requires.held c.requires.stretch)
 
-pub may_be_short-requires-clause-ramps : goal.may_be_short-requires-clause-ramps
-may_be_short-requires-clause-ramps c = let h = c.requires.held in subst AreRamps (sym c.deref.ensures.value) h.works.ramps
+pub short_end-requires-clause-ramps : goal.short_end-requires-clause-ramps
+short_end-requires-clause-ramps c = let h = c.requires.held in subst AreRamps (sym c.deref.ensures.value) h.works.ramps
 
-pub may_be_short-requires-clause-rise : goal.may_be_short-requires-clause-rise
-may_be_short-requires-clause-rise c = let L = c.requires.stretch in L.rise
+pub short_end-requires-clause-rise : goal.short_end-requires-clause-rise
+short_end-requires-clause-rise c = let L = c.requires.stretch in L.rise
 
-pub may_be_short-requires-clause-segments : goal.may_be_short-requires-clause-segments
-may_be_short-requires-clause-segments c =
+pub short_end-requires-clause-segments : goal.short_end-requires-clause-segments
+short_end-requires-clause-segments c =
     let qs_is : c.deref-2.result.now ≡ unroll c.args.curve.now (c.args.s.now.end -ℚ c.args.s.now.start) = c.deref-2.ensures.value ∙ c.in_ok-near.ensures ∙ ap (unroll c.args.curve.now) c.difference.ensures in
     near_segments c.args.w.now c.args.curve.now c.args.s.now c.args.own.now c.args.turns.now c.deref-2.result.now c.requires.held c.requires.stretch qs_is
 
-pub may_be_short-requires-clause-times : goal.may_be_short-requires-clause-times
-may_be_short-requires-clause-times c =
+pub short_end-requires-clause-times : goal.short_end-requires-clause-times
+short_end-requires-clause-times c =
     let qs_is : c.deref-2.result.now ≡ unroll c.args.curve.now (c.args.s.now.end -ℚ c.args.s.now.start) = c.deref-2.ensures.value ∙ c.in_ok-near.ensures ∙ ap (unroll c.args.curve.now) c.difference.ensures in
     near_times c.args.w.now c.args.curve.now c.args.s.now c.args.own.now c.args.turns.now c.deref-2.result.now c.deref.result.now c.requires.held c.requires.stretch qs_is c.deref.ensures.value
 
-pub may_be_short-requires-clause-near : goal.may_be_short-requires-clause-near
-may_be_short-requires-clause-near c =
+pub short_end-requires-clause-near : goal.short_end-requires-clause-near
+short_end-requires-clause-near c =
     let qs_is : c.deref-2.result.now ≡ unroll c.args.curve.now (c.args.s.now.end -ℚ c.args.s.now.start) = c.deref-2.ensures.value ∙ c.in_ok-near.ensures ∙ ap (unroll c.args.curve.now) c.difference.ensures in
     near_turns c.args.w.now c.args.curve.now c.args.s.now c.args.own.now c.args.turns.now c.deref-2.result.now c.deref.result.now c.requires.held c.requires.stretch qs_is c.deref.ensures.value
 
-pub returns-then-not-maybe : goal.returns-then-not-maybe
-returns-then-not-maybe c =
+pub returns-in-None : goal.returns-in-None
+returns-in-None c = λ M.
     let qs_is : c.deref-2.result.now ≡ unroll c.args.curve.now (c.args.s.now.end -ℚ c.args.s.now.start) = c.deref-2.ensures.value ∙ c.in_ok-near.ensures ∙ ap (unroll c.args.curve.now) c.difference.ensures in
-    inl (clear_as c.args.w.now c.args.curve.now c.args.s.now c.args.own.now c.deref.result.now c.deref-2.result.now c.deref.ensures.value qs_is (OnFalse_at c.if-not-maybe.true c.in_ok-maybe.ensures))
+    inl (clear_as c.args.w.now c.args.curve.now c.args.s.now c.args.own.now c.deref.result.now c.deref-2.result.now c.deref.ensures.value qs_is
+    (looks_clear c.deref-2.result.now c.deref.result.now c.args.s.now c.args.own.now c.in_ok-end.field-0 c.in-None.is c.in_ok-end.ensures))
 
 pub unrolled-requires-2 : goal.unrolled-requires-2
 unrolled-requires-2 c = operand_to c.args.w.now c.args.curve.now c.requires.held
@@ -67,29 +68,37 @@ first_short-requires-clause-moves c =
 
 pub first_short-requires-clause-times : goal.first_short-requires-clause-times
 first_short-requires-clause-times c =
-    let h = c.requires.held in
     let L = c.requires.stretch in
-    let S = stretch_stands c.args.w.now c.args.curve.now c.args.s.now c.args.own.now c.args.turns.now h L in
-    let gq_is : c.deref-6.result.now ≡ segments c.deref-5.result.now = c.deref-6.ensures.value ∙ c.in_ok-segments.ensures ∙ ap segments (c.deref-3.ensures.value ∙ sym c.deref-5.ensures.value) in
-    times_as (segments c.deref-5.result.now) c.deref-6.result.now c.args.w.now.works.items c.deref-4.result.now (watched_from c.args.s.now c.deref-5.result.now c.args.turns.now) gq_is c.deref-4.ensures.value
-    (times_fit c.args.w.now c.args.curve.now c.args.turns.now c.deref-5.result.now c.args.s.now h (end_some h.sizes c.args.w.now.end c.args.s.now S) L.turns_are (c.deref-5.ensures.value ∙ c.in_ok-pieces.ensures) S.start.low S.last.high)
+    let ns = c.deref-2.result.now in
+    let qs = c.deref-5.result.now in
+    let ends = looks_short ns c.deref.result.now c.args.s.now c.args.own.now c.in_ok-end.field-0 c.in-Some.end c.in-Some.is c.in_ok-end.ensures in
+    let inside = end_within (segments ns) c.deref.result.now c.args.s.now c.args.own.now c.args.turns.now c.in-Some.end L.holds ends in
+    let ns_is : c.deref-2.result.now ≡ unroll c.args.curve.now (c.args.s.now.end -ℚ c.args.s.now.start) = c.deref-2.ensures.value ∙ c.in_ok-near.ensures ∙ ap (unroll c.args.curve.now) c.difference.ensures in
+    let gs_is : c.deref-6.result.now ≡ segments c.deref-2.result.now = c.deref-6.ensures.value ∙ c.in_ok-segments.ensures ∙ ap segments (c.deref-3.ensures.value ∙ sym c.deref-2.ensures.value) in
+    times_as (segments ns) c.deref-6.result.now c.args.w.now.works.items c.deref-4.result.now (watched_from record { start = c.args.s.now.start; end = c.in-Some.end } qs c.args.turns.now) gs_is c.deref-4.ensures.value
+    (near_watched_times c.args.w.now c.args.curve.now c.args.s.now c.args.own.now c.args.turns.now ns qs c.in-Some.end c.requires.held L inside ns_is (c.deref-5.ensures.value ∙ c.in_ok-pieces.ensures))
 
 pub first_short-requires-clause-segments : goal.first_short-requires-clause-segments
 first_short-requires-clause-segments c =
-    let h = c.requires.held in
-    let S = stretch_stands c.args.w.now c.args.curve.now c.args.s.now c.args.own.now c.args.turns.now h c.requires.stretch in
-    let gq_is : c.deref-6.result.now ≡ segments c.deref-5.result.now = c.deref-6.ensures.value ∙ c.in_ok-segments.ensures ∙ ap segments (c.deref-3.ensures.value ∙ sym c.deref-5.ensures.value) in
-    gaps_as (segments c.deref-5.result.now) c.deref-6.result.now gq_is (gaps_fit c.args.w.now c.args.curve.now c.deref-5.result.now h (end_some h.sizes c.args.w.now.end c.args.s.now S) (c.deref-5.ensures.value ∙ c.in_ok-pieces.ensures))
+    let ns_is : c.deref-2.result.now ≡ unroll c.args.curve.now (c.args.s.now.end -ℚ c.args.s.now.start) = c.deref-2.ensures.value ∙ c.in_ok-near.ensures ∙ ap (unroll c.args.curve.now) c.difference.ensures in
+    let gs_is : c.deref-6.result.now ≡ segments c.deref-2.result.now = c.deref-6.ensures.value ∙ c.in_ok-segments.ensures ∙ ap segments (c.deref-3.ensures.value ∙ sym c.deref-2.ensures.value) in
+    gaps_as (segments c.deref-2.result.now) c.deref-6.result.now gs_is
+    (near_segments c.args.w.now c.args.curve.now c.args.s.now c.args.own.now c.args.turns.now c.deref-2.result.now c.requires.held c.requires.stretch ns_is)
 
 pub returns : goal.returns
-returns c =
+returns c = λ M.
     let w = c.args.w.now in
     let s = c.args.s.now in
     let own = c.args.own.now in
     let all = c.args.turns.now in
+    let ns = c.deref-2.result.now in
     let qs = c.deref-5.result.now in
     let gs = c.deref-6.result.now in
-    let gq_is : gs ≡ segments qs = c.deref-6.ensures.value ∙ c.in_ok-segments.ensures ∙ ap segments (c.deref-3.ensures.value ∙ sym c.deref-5.ensures.value) in
-    IfOk-weaker c.first_short.result (FindsShort gs c.deref-4.result.now (watched_from s qs all)) (FindsIn w c.args.curve.now s own all)
-    (λ (o : Option (ℚ × ℚ)) (k : FindsShort gs c.deref-4.result.now (watched_from s qs all) o). found_watched w c.args.curve.now s own all c.deref-4.result.now qs gs o c.deref-4.ensures.value (c.deref-5.ensures.value ∙ c.in_ok-pieces.ensures) gq_is k)
+    let end = c.in-Some.end in
+    let ns_is : c.deref-2.result.now ≡ unroll c.args.curve.now (c.args.s.now.end -ℚ c.args.s.now.start) = c.deref-2.ensures.value ∙ c.in_ok-near.ensures ∙ ap (unroll c.args.curve.now) c.difference.ensures in
+    let gs_is : c.deref-6.result.now ≡ segments c.deref-2.result.now = c.deref-6.ensures.value ∙ c.in_ok-segments.ensures ∙ ap segments (c.deref-3.ensures.value ∙ sym c.deref-2.ensures.value) in
+    let ends = looks_short ns c.deref.result.now s own c.in_ok-end.field-0 end c.in-Some.is c.in_ok-end.ensures in
+    IfOk-weaker c.first_short.result (FindsShort gs c.deref-4.result.now (watched_from record { start = s.start; end = end } qs all)) (FindsIn w c.args.curve.now s own all)
+    (λ (o : Option (ℚ × ℚ)) (k : FindsShort gs c.deref-4.result.now (watched_from record { start = s.start; end = end } qs all) o).
+    found_in_cut w c.args.curve.now s own all c.deref-4.result.now c.deref.result.now ns qs gs end o c.requires.held c.requires.stretch M c.deref-4.ensures.value c.deref.ensures.value ns_is (c.deref-5.ensures.value ∙ c.in_ok-pieces.ensures) gs_is ends k)
     c.first_short.ensures

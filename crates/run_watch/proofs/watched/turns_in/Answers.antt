@@ -17,7 +17,7 @@ returns-clause-holds c =
     let rise : (f : ℚ) × TimesRise f rest = subst (λ (xs : List ℚ). (f : ℚ) × TimesRise f xs) (sym (take_rest ts from)) (rise_drop from c.requires.0 ts c.requires.1) in
     let early = IsPartitionPoint-from_clause (before c.args.s.now.start) _ _ c.partition_point-from.ensures.partitioned (parted_before_at c.requires.0 ts c.args.s.now.start c.requires.1) (λ a r q k. search rules) in
     let late = IsPartitionPoint-from_clause (upto c.args.s.now.end) _ _ c.partition_point-count.ensures.partitioned (parted_at rise.0 rest c.args.s.now.end rise.1) (λ a r q k. search rules) in
-    holds c.args.s.now ts rest (take count rest) from count c.partition_point-from.ensures.bound (take_rest ts from) refl early.0 late.1
+    holds c.args.s.now ts rest (take count rest) from count c.partition_point-from.ensures.bound (take_rest ts from) refl early.0 early.1 late.0 late.1
 
 pub returns-clause-rise : goal.returns-clause-rise
 returns-clause-rise c =
