@@ -2679,7 +2679,7 @@ path = ["s1"]
 #[test]
 fn edits(rt: HostRuntime) -> Result<(), Fail> {
     let alloc = rt.alloc();
-    let rows: [(&str, &[(&str, &str)], u8, &str); 14] = [
+    let rows: [(&str, &[(&str, &str)], u8, &str); 15] = [
         // a_cell_that_is_too_wide
         (
             "netcalc edit n.toml e.csv",
@@ -2948,6 +2948,32 @@ path = ["s1"]
 edit 2 refused name-taken f1
 servers 1 flows 1
 queue s1 0 delay 130 backlog 13300
+flow f1 tfa 130 sfa 130 bound 130
+"#,
+        ),
+        // a_packet_of_a_flow_with_a_closure
+        (
+            "netcalc edit n.toml e.csv",
+            &[
+                ("e.csv", "packet,f1,6000\n"),
+                (
+                    "n.toml",
+                    r#"[[server]]
+name = "s1"
+rate = 100
+service = { kind = "latency", latency = 10 }
+[[flow]]
+name = "f1"
+packet = 12000
+arrival = { kind = "list", close = true, piece = [{ x = 0, at = 12000 }, { x = 1000, at = 36000 }] }
+path = ["s1"]
+"#,
+                ),
+            ],
+            0,
+            r#"edit 1 ok cells 1
+servers 1 flows 1
+queue s1 0 delay 130 backlog 12000
 flow f1 tfa 130 sfa 130 bound 130
 "#,
         ),
