@@ -1,5 +1,5 @@
 #!/usr/bin/env python3
-"""Inputs at the edges of what is taken, and one file cut after each of its bytes, as whole commands.
+"""Inputs at the edges of what is taken, recorded runs, and one file cut after each of its bytes, as whole commands.
 
     python3 tests/inputs.py [PROGRAM]
 
@@ -54,9 +54,48 @@ INPUTS = {
         ["edit", "n", "e"], {"n": ONE_FLOW, "e": f"bucket,f1,12000,1/{2**120}\n"}, 0, "edit 1 refused too-wide queue-delay s1 0\n" + REPORT),
     "a file that is missing": (["analyse", "m"], {}, 3, "netcalc: cannot read m\n"),
     "a trace that is missing": (["simulate", "n", "t"], {"n": ONE_FLOW}, 3, "netcalc: cannot read t\n"),
+    "a recorded run that is missing": (["check", "n", "r"], {"n": ONE_FLOW}, 3, "netcalc: cannot read r\n"),
+    "a recorded run that is too long": (
+        ["check", "n", "r"], {"n": ONE_FLOW, "r": "#" * (2**20 + 1)}, 1, "netcalc: r: too long\n"),
     "edits that are missing": (["edit", "n", "e"], {"n": ONE_FLOW}, 3, "netcalc: cannot read e\n"),
     "edits that are missing, and no network": (["edit", "n", "e"], {"n": "x"}, 3, "netcalc: cannot read e\n"),
     "a folder in place of a file": (["analyse", "."], {}, 3, "netcalc: cannot read .\n"),
+}
+
+
+ROUND = (TOP / "tests/checks/deficits_as_simulated/n.toml").read_text()
+TWO_HOPS = (TOP / "tests/checks/two_hops_as_simulated/n.toml").read_text()
+SIDE_BY_SIDE = "".join(f'[[server]]\nname = "s{number}"\nrate = 100\n' for number in (1, 2)) + "".join(
+    f'[[flow]]\nname = "f{number}"\npacket = 12000\narrival = {{ kind = "bucket", burst = 12000, rate = 10 }}\npath = ["s{number}"]\n'
+    for number in (1, 2)
+)
+FIRST_HOP = ["enter,0,f1,12000", "work,s1,0,0,120,12000", "leave,120,s1,0"]
+
+# Recorded runs: the network, the rows, the status, and the last line.
+RUNS = {
+    "servers in any order": (SIDE_BY_SIDE, [
+        "enter,0,f2,12000", "work,s2,0,0,120,12000", "leave,120,s2,0",
+        "enter,0,f1,12000", "work,s1,1,0,120,12000", "leave,120,s1,1", "end,120"], 0, "verdict admissible"),
+    "work after the packet's own leave": (
+        ONE_FLOW, ["enter,0,f1,12000", "work,s1,0,10,130,12000", "leave,130,s1,0", "work,s1,0,130,131,5", "end,140"], 9, "verdict unlawful row 4 L4"),
+    "a gauge below its limit": (ONE_FLOW, [f"enter,1/{2**92},f1,1", "end,1"], 0, "verdict admissible"),
+    "a gauge at its limit": (ONE_FLOW, [f"enter,1/{2**93},f1,1", "end,1"], 6, "netcalc: too wide: check"),
+    "10,000 rows and one more": (ONE_FLOW, ["enter,0,f1,1"] * 10_000 + ["\x01"], 1, "netcalc: r: T7 row 10001"),
+    "an end too many behind 9,999 rows": (ONE_FLOW, ["enter,0,f1,1"] * 9_999 + ["end,0", "end,0"], 1, "netcalc: r: T7 row 10001"),
+    "10,000 rows without an end": (ONE_FLOW, ["enter,0,f1,1"] * 10_000, 1, "netcalc: r: T8 row 10001"),
+    "a flow that is not there and no bits": (ONE_FLOW, ["enter,0,f9,0", "end,0"], 1, "netcalc: r: T4 row 1"),
+    "a server that is not there and too few fields": (ONE_FLOW, ["work,s9,0,0,1", "end,0"], 1, "netcalc: r: T3 row 1"),
+    "an end below 0": (ONE_FLOW, ["end,-1"], 1, "netcalc: r: T4 row 1"),
+    "a visit made twice for a packet too long": (ROUND, [
+        "enter,0,f1,12001", "visit,0,s1,0", "visit,0,s1,0", "work,s1,0,0,120,12001", "leave,120,s1,0", "end,120"], 9, "verdict breach size f1 0"),
+    "a third packet without a visit": (ROUND, [
+        "enter,0,f1,6000", "enter,0,f1,6000", "enter,0,f1,1", "visit,0,s1,0", "work,s1,0,0,60,6000", "leave,60,s1,0",
+        "work,s1,1,60,120,6000", "leave,120,s1,1", "work,s1,2,120,121,1", "end,200"], 9, "verdict unlawful row 9 L5"),
+    "a visit of an empty round": (ROUND, ["visit,0,s1,0", "end,0"], 9, "verdict unlawful row 1 L7"),
+    "a visit of a queue that is not there": (ROUND, ["enter,0,f1,1", "visit,0,s1,9", "end,0"], 9, "verdict unlawful row 2 L7"),
+    "a reach at the server that was left": (TWO_HOPS, [*FIRST_HOP, "reach,125,s1,0", "end,300"], 9, "verdict unlawful row 4 L3"),
+    "a reach of a packet that has not entered": (TWO_HOPS, [*FIRST_HOP, "reach,125,s2,1", "end,300"], 9, "verdict unlawful row 4 L2"),
+    "work without a reach": (TWO_HOPS, [*FIRST_HOP, "work,s2,0,125,126,1", "end,300"], 9, "verdict unlawful row 4 L5"),
 }
 
 
@@ -76,6 +115,18 @@ def tried_inputs(program: str, folder: Path) -> int:
         if came != status or said not in (None, wrote):
             wrong += 1
             print(f"tests/inputs.py: {name}: status {came}, wanted {status}; it wrote {wrote[:200]!r}")
+    return wrong
+
+
+def tried_runs(program: str, folder: Path) -> int:
+    wrong = 0
+    for name, (net, rows, status, last) in RUNS.items():
+        (folder / "n").write_text(net)
+        (folder / "r").write_text("".join(f"{row}\n" for row in rows))
+        came, wrote = run(program, ["check", "n", "r"], folder)
+        if came != status or not wrote.endswith(last + "\n"):
+            wrong += 1
+            print(f"tests/inputs.py: {name}: status {came}, wanted {status} with {last!r}; it wrote {wrote[:300]!r}")
     return wrong
 
 
@@ -113,9 +164,9 @@ def tried_cuts(program: str, folder: Path) -> tuple[int, int]:
 def main() -> None:
     program = str(Path(sys.argv[1] if len(sys.argv) > 1 else TOP / "bin/x86_64-linux/netcalc").resolve())
     with tempfile.TemporaryDirectory(prefix="inputs_") as name:
-        wrong = tried_inputs(program, Path(name))
+        wrong = tried_inputs(program, Path(name)) + tried_runs(program, Path(name))
         known, others = tried_cuts(program, Path(name))
-    print(f"inputs: {len(INPUTS)} inputs and {len(ONE_FLOW) + 1} cuts, {known} of them with a known answer; {wrong + others} wrong")
+    print(f"inputs: {len(INPUTS)} inputs, {len(RUNS)} recorded runs and {len(ONE_FLOW) + 1} cuts, {known} of them with a known answer; {wrong + others} wrong")
     sys.exit(1 if wrong + others else 0)
 
 
