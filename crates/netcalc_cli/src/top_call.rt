@@ -78,7 +78,7 @@ pub fn run<I: Inputs, K: Sink, L: Ledger>(
     ensures too_many { result ≡ 7 → IfSome (command_of (texts words.now)) (λ command.
         Brings (IsOver limits.TooMany) (I.content inputs.old) command result (K.written out.old) (K.written out.new)) }
 
-    // 6 only where that first one has too wide numbers; or none is over a limit but the simulation.
+    // 6 only where that first one has too wide numbers; or none is over a limit but the simulation, or the recorded run.
     ensures too_wide { result ≡ 6 → IfSome (command_of (texts words.now)) (λ command.
         Brings (IsOver limits.TooWide) (I.content inputs.old) command result (K.written out.old) (K.written out.new)) }
 
@@ -86,8 +86,8 @@ pub fn run<I: Inputs, K: Sink, L: Ledger>(
     ensures cycle { result ≡ 8 → IfSome (command_of (texts words.now)) (λ command.
         Brings IsCyclic (I.content inputs.old) command result (K.written out.old) (K.written out.new)) }
 
-    // 9 only where the run of `simulate` or `exercise` breaks a premise; the whole report is written, and its table is
-    // kept by every run of the network that keeps the premises.
+    // 9 only where the run of `simulate` or `exercise` breaks a premise, or that of `check` a law or a premise; the whole
+    // report is written, and its table is kept by every run of the network that keeps the premises.
     ensures breach { result ≡ 9 → IfSome (command_of (texts words.now)) (λ command.
         Brings TellsBreach (I.content inputs.old) command result (K.written out.old) (K.written out.new)) }
 
@@ -97,7 +97,8 @@ pub fn run<I: Inputs, K: Sink, L: Ledger>(
     // edits leave, and what is said of each is its answer by the network that those before it left. Of `simulate`: so
     // it is for the file's network, and the stated run of it with the trace keeps all premises; no number of the run
     // is above its bound. Of `exercise`: so it is for the workload's network and trace, and in every run of the network
-    // that keeps the premises no packet takes longer than the largest bound that is written. Of `measure`: the steps
+    // that keeps the premises no packet takes longer than the largest bound that is written. Of `check`: so it is for
+    // the file's network, and the recorded run is lawful and keeps all premises. Of `measure`: the steps
     // are those of the least arrival curve of the packets of the live flow with the name; they keep it, and each curve
     // that they keep is at least it; and they keep the bucket of the burst and the rate, and no bucket of this rate
     // with a smaller burst. Of `curve`: the answers that the script finds and means.
@@ -116,10 +117,11 @@ pub fn run<I: Inputs, K: Sink, L: Ledger>(
     ensures told { IfSome (command_of (texts words.now)) (λ command.
         GivesOnTold command (I.content inputs.old) result (K.written out.old) (K.written out.new)) }
 
-    // So 0, or of `simulate` and `exercise` 0 or 9, is the only other one where the files hold what can be answered: a
-    // network without a cycle, no curve and no cell of which is over a limit, of `edit` with a list without a fault, of
-    // `simulate` with a trace without a fault, and a simulation that is not too wide; a workload no cell of which is
-    // over a limit, nor its simulation too wide; a network and a trace without a fault, with a live flow of the name,
+    // So 0, or of `simulate`, `exercise` and `check` 0 or 9, is the only other one where the files hold what can be
+    // answered: a network without a cycle, no curve and no cell of which is over a limit, of `edit` with a list without
+    // a fault, of `simulate` with a trace without a fault, and a simulation that is not too wide, of `check` with a run
+    // without a fault, whose numbers are not too wide; a workload no cell of which is over a limit, nor its simulation
+    // too wide; a network and a trace without a fault, with a live flow of the name,
     // where no curve is over a limit, nor the packets, nor the burst; a script without a fault, nothing in which is
     // over a limit.
     ensures complete { IfSome (command_of (texts words.now)) (λ command.
@@ -133,7 +135,8 @@ pub fn run<I: Inputs, K: Sink, L: Ledger>(
     // Of `analyse` and `simulate` no more steps than the operators of the folds of the file's closures, and after
     // these the work of all cells; where the report is written, exactly that work. Of `edit` beside these no more
     // than the work of the touched cells of each edit; where the report is written, no less than that of the edits
-    // that are taken. Of `exercise` no more than the work of all cells, and where the summary is written exactly that.
+    // that are taken. Of `check` as of `simulate`. Of `exercise` no more than the work of all cells, and where the
+    // summary is written exactly that.
     // Of `measure` one step after the folds.
     ensures counts { Counts I.content (command_of (texts words.now)) inputs.old result steps.old steps.new }
 {
