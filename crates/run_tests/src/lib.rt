@@ -6,8 +6,6 @@ mod gauges;
 #[cfg(test)]
 mod links;
 #[cfg(test)]
-mod recorded;
-#[cfg(test)]
 mod schedulers;
 #[cfg(test)]
 mod scripts;
