@@ -49,7 +49,7 @@ def row(folder):
 
 def text():
     parts = [HEAD]
-    for group in sorted(it for it in HERE.iterdir() if it.is_dir()):
+    for group in sorted(it for it in HERE.iterdir() if it.is_dir() and not it.name.startswith("_")):
         cases = sorted(it for it in group.iterdir() if (it / "words").exists())
         parts.append(
             f"\n#[test]\nfn {group.name}(rt: HostRuntime) -> Result<(), Fail> {{\n    let alloc = rt.alloc();\n"
