@@ -131,35 +131,3 @@ fn periods_with_nothing_in_common_are_too_many(rt: HostRuntime) -> Result<(), Fa
     }
     Ok(())
 }
-
-// Whether the minimum of steps of two periods, and the maximum, are refused for too many pieces.
-fn are_too_many<L: Ledger>(
-    alloc: Global,
-    blank: Blank,
-    first: Frac,
-    second: Frac,
-) -> Result<bool, OpFault>
-    requires name { blank.name ≡ L.name }
-    requires parts { blank.parts ≡ L.parts }
-    requires one { 0 < blank.parts }
-{
-    let mut steps = Steps::<L>::new(blank);
-    let f = steps_of(alloc, 1, first)?;
-    let g = steps_of(alloc, 1, second)?;
-    match min(alloc, &f, &g, &mut steps) {
-        Err(OpFault::TooMany) => match max(alloc, &g, &f, &mut steps) {
-            Err(OpFault::TooMany) => Ok(true),
-            _ => Ok(false),
-        },
-        _ => Ok(false),
-    }
-}
-
-// The common period of 1000 and 1000000000001/1000000000 is 1000000000001000: a walk over it would take years.
-#[test]
-fn a_vast_common_period_is_refused_at_once(rt: HostRuntime) -> Result<(), Fail> {
-    let second = Frac::new(1000000000001, 1000000000).map_err(|_| "no number")?;
-    let refused = are_too_many::<Brand>(rt.alloc(), Blank::new(1), whole(1000), second)?;
-    assert!(rt; refused);
-    Ok(())
-}
