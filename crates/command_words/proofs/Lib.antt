@@ -5,3 +5,4 @@ pub mod Entering
 pub mod Leaves
 pub mod Splits
 pub mod Taken
+pub mod JsonWords
