@@ -21,7 +21,7 @@ pub returns-in-Err-TooMany-clause-reply : goal.returns-in-Err-TooMany-clause-rep
 returns-in-Err-TooMany-clause-reply g c =
     let first = rw c.in-Err-TooMany.field-0-is at c.in-Err-TooMany.ensures.refused in
     IfOk-weaker c.cell_too_many.result _ _
-    (λ r is. on_over c.args.net.now c.args.order.now c.in-Err-TooMany.cell TooMany (reply_of r)
+    (λ r is. on_over c.args.form c.args.net.now c.args.order.now c.in-Err-TooMany.cell TooMany (reply_of r)
     c.keeps.ensures c.requires first is)
     c.cell_too_many.ensures
 
@@ -36,7 +36,7 @@ pub returns-in-Err-TooWide-clause-reply : goal.returns-in-Err-TooWide-clause-rep
 returns-in-Err-TooWide-clause-reply g c =
     let first = rw c.in-Err-TooWide.field-0-is at c.in-Err-TooWide.ensures.refused in
     IfOk-weaker c.cell_too_wide.result _ _
-    (λ r is. on_over c.args.net.now c.args.order.now c.in-Err-TooWide.cell TooWide (reply_of r)
+    (λ r is. on_over c.args.form c.args.net.now c.args.order.now c.in-Err-TooWide.cell TooWide (reply_of r)
     c.keeps.ensures c.requires first is)
     c.cell_too_wide.ensures
 
