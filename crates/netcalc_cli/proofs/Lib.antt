@@ -6,3 +6,4 @@ pub mod Replies
 pub mod ExampleNet
 pub mod ExampleBound
 pub mod WordLists
+pub mod JsonWords

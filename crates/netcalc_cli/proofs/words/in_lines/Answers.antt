@@ -1,6 +1,6 @@
 use Rattle.std.proofs.Common.{◌∙◌}
 use Rattle.netcalc_cli.proofs.WordLists.{of_four, of_six}
-use Rattle.netcalc_cli.proofs.words.take_words.Goals as goal
+use Rattle.netcalc_cli.proofs.words.in_lines.Goals as goal
 
 pub returns-in-len4-clause-command : goal.returns-in-len4-clause-command
 returns-in-len4-clause-command c =
