@@ -21,7 +21,7 @@ words_of (Made cells) = codes "ok cells " ++ decimal cells
 words_of (Refused reason) = codes "refused " ++ reason
 
 unfoldable pub edit_line : ℕ → EditSaid → List ℕ
-edit_line number said = codes "edit " ++ decimal number ++ codes " " ++ words_of said ++ codes "\n"
+edit_line n said = codes "edit " ++ decimal n ++ codes " " ++ words_of said ++ codes "\n"
 
 abbrev pub line_at : List EditSaid → ℕ → List ℕ
 line_at said place = edit_line (place + 1) (slice_index_or said place (Made 0))
