@@ -110,10 +110,10 @@ TellsBreach (Simulate net trace) (bytes ∷ rows ∷ []) reply =
     (h : IsRunReport bytes rows reply) × (¬ (Keeps h.net h.report.run)) × Guarantees h.net h.at
 TellsBreach command files reply = ⊥
 
--- 0: a report, in its form, whose table is kept by every lawful run of the network that keeps packet sizes, arrival and service
--- curves: of the file's network; of the network that the edits leave; of `simulate` beside a run that keeps them too,
--- no number of which is above its bound; or the least arrival curve of a flow's packets, with the least bucket of the
--- rate that they keep; or the answers of a script
+-- 0: a report, in its form, whose table is kept by every lawful run of the network that keeps packet sizes, arrival
+-- and service curves: of the file's network; of the network that the edits leave; of `simulate` beside a run that keeps
+-- them too, no number of which is above its bound; or the least arrival curve of a flow's packets, with the least bucket
+-- of the rate that they keep; or the answers of a script
 abbrev pub IsDone : Command → List (List ℕ) → Reply → Type 0
 IsDone (Analyse form net) (bytes ∷ []) reply =
     (model : Net) × (at : CellTable) × IsReportOf form model at bytes reply × Guarantees model at

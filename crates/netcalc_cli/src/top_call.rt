@@ -93,8 +93,9 @@ pub fn run<I: Inputs, K: Sink, L: Ledger>(
 
     // 0 only where what was asked for is written. Of `analyse`: the file gives a network whose cells have their
     // answers in a table that meets the equations, and the report, line by line or as JSON, has the numbers of the
-    // table, which every run of the network keeps. By a law `unbounded` stands for infinity alone. Of `edit`: so it is for the network that the
-    // edits leave, and what is said of each is its answer by the network that those before it left. Of `simulate`: so
+    // table, which every run of the network keeps. By a law `unbounded` stands for infinity alone. Of `edit`: so it is
+    // for the network that the edits leave, and what is said of each is its answer by the network that those before
+    // it left. Of `simulate`: so
     // it is for the file's network, and the stated run of it with the trace keeps all premises; no number of the run
     // is above its bound. Of `measure`: the steps are those of the least arrival curve of the packets of the live
     // flow with the name; they keep it, and each curve that they keep is at least it; and they keep the bucket of the

@@ -182,7 +182,10 @@ fn json_of_one<'a>(word: &str, file: &'a String) -> Option<Taken<'a>>
         ≡ json_of word.now (string_bytes file.now ∷ []) }
     ensures rate { IfSome result (λ t. HasRate (command_view t.command)) }
 {
-    if !is_operand(file.as_str()) || word != "analyse" {
+    if !is_operand(file.as_str()) {
+        return None;
+    }
+    if word != "analyse" {
         return None;
     }
     let alloc = *file.allocator();
@@ -195,7 +198,10 @@ fn json_of_two<'a>(word: &str, first: &'a String, second: &'a String) -> Option<
         ≡ json_of word.now (string_bytes first.now ∷ string_bytes second.now ∷ []) }
     ensures rate { IfSome result (λ t. HasRate (command_view t.command)) }
 {
-    if !are_both_operands(first.as_str(), second.as_str()) || word != "edit" {
+    if !are_both_operands(first.as_str(), second.as_str()) {
+        return None;
+    }
+    if word != "edit" {
         return None;
     }
     let alloc = *first.allocator();
@@ -211,15 +217,19 @@ fn in_json<'a>(word: &str, before: &'a [String], after: &'a [String]) -> Option<
 {
     let count = before.len() + after.len();
     if count == 1 {
-        return json_of_one(word, word_of(before, after, 0));
+        let file = word_of(before, after, 0);
+        return json_of_one(word, file);
     }
     if count == 2 {
-        return json_of_two(word, word_of(before, after, 0), word_of(before, after, 1));
+        let first = word_of(before, after, 0);
+        let second = word_of(before, after, 1);
+        return json_of_two(word, first, second);
     }
     None
 }
 
 /// Reads the words, the program's name first. None where they are not taken.
+#[tactic(auto, using(crate::proofs::JsonWords::none_of_few))]
 pub(crate) fn take_words(words: &[String]) -> Option<Taken<'_>>
     ensures command { option_map (λ t. command_view t.command) result ≡ command_of (texts words.now) }
     ensures rate { IfSome result (λ t. HasRate (command_view t.command)) }
