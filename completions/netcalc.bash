@@ -8,7 +8,7 @@ _netcalc() {
         return
     fi
     case $COMP_CWORD:${COMP_WORDS[1]} in
-        1:*) mapfile -t COMPREPLY < <(compgen -W "analyse edit simulate measure curve" -- "$current") ;;
+        1:*) mapfile -t COMPREPLY < <(compgen -W "analyse edit simulate exercise measure curve" -- "$current") ;;
         2:analyse|2:edit|2:simulate|2:measure)
             compopt -o filenames 2>/dev/null
             mapfile -t COMPREPLY < <(compgen -f -X '!*.toml' -- "$current"; compgen -d -- "$current")

@@ -27,6 +27,7 @@ turn : (d n : ℕ) → n * (8000 * 2 ^ d) ≡ 8000 * (n * 2 ^ d)
 turn d n = omega arith
 
 member : (seed : ℕ) (p : TracePacket) → IsSent seed p → Contains (trace_of seed).packets p
+unfolding trace_of
 member seed p s =
     let f = drawn_flow seed s.flow in
     let own = flow_is_drawn seed s.flow s.one in
@@ -76,6 +77,7 @@ pub record IsPlaced (seed : ℕ) (p : TracePacket) : Type 0 where
   pub there : IsInTurn seed turn p
 
 placed : (seed : ℕ) (p : TracePacket) → Contains (trace_of seed).packets p → IsPlaced seed p
+unfolding trace_of
 placed seed p h =
     let s = from_flat (packets_in_turn seed) (range_with_len 0 128) p h in
     let within : s.place < 128 = subst (λ n. s.place < n) (length-range_with_len 0 128) s.within in
@@ -102,6 +104,7 @@ only seed p h =
 
 -- ---- in this order
 in_order : (seed : ℕ) → AllPairs ComesBefore (trace_of seed).packets
+unfolding trace_of
 in_order seed = pairs_flat ComesBefore (packets_in_turn seed) 0 128 at_one across
   where
     at_one : (k : ℕ) → AllPairs ComesBefore (packets_in_turn seed k)
@@ -153,6 +156,7 @@ short seed k =
     omega (arith, all, few, made)
 
 pub keeps : (seed : ℕ) → IsTrace (trace_of seed)
+unfolding trace_of
 keeps seed = record {
   few = let h = short_flat (packets_in_turn seed) 24 0 128 (short seed) in omega (arith, h);
   packets = all_from IsTracePacket (trace_of seed).packets (packet_is seed);
@@ -165,6 +169,7 @@ keeps seed = record {
 pub made_trace : (seed : ℕ) (packets : List TracePacket) (stalls : List Stall) (drawn : List DrawnFlow)
     → packets ≡ flat_map (λ k. map (packet_at (8000 * k)) (filter (is_sending (8000 * k)) drawn)) (range_with_len 0 128)
     → stalls ≡ [] → drawn ≡ drawn_flows seed → made.trace_of packets stalls ≡ trace_of seed
+unfolding trace_of
 made_trace seed packets stalls drawn p s e =
     ap (λ (x : List TracePacket). record { packets = x; stalls = stalls })
     (p ∙ ap (λ (fs : List DrawnFlow).

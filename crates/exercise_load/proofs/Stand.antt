@@ -77,7 +77,12 @@ differ letter i j h k e =
 
 -- ---- servers
 server_at : (seed k : ℕ) (d : NetServer) → k < 16 → get_or (network_of seed).servers k d ≡ server k
+unfolding network_of
 server_at seed k d h = get_or-map-range_with_len server 0 16 k k d h (omega arith)
+
+server_count : (seed : ℕ) → length (network_of seed).servers ≡ 16
+unfolding network_of
+server_count seed = length-map-range_with_len server 0 16
 
 few_queues : (k : ℕ) → HasFewQueues (discipline_of k)
 few_queues k = by_value (k % 3 == 0) (k % 3 == 1)
@@ -105,12 +110,14 @@ server_is k h = record {
 -- ---- flows
 pub flow_at : (seed i : ℕ) (d : Option NetFlow) → i < 24
     → get_or (network_of seed).flows i d ≡ Some (flow_of (drawn_flow seed i))
+unfolding network_of
 flow_at seed i d h =
     let long : i < length (drawn_flows seed) = subst (λ n. i < n) (sym (many seed)) h in
     get_or-map (λ f. Some (flow_of f)) (drawn_flows seed) i (drawn_flow seed i) d long
     ∙ ap (λ f. Some (flow_of f)) (drawn_at seed i (drawn_flow seed i) h)
 
 pub flow_count : (seed : ℕ) → length (network_of seed).flows ≡ 24
+unfolding network_of
 flow_count seed = length-map (drawn_flows seed) (λ f. Some (flow_of f)) ∙ many seed
 
 -- its queue at a server, where packets that long may stand
@@ -167,7 +174,7 @@ flow_is seed f own = record {
         let range = own.servers in
         let below : s < 16 = omega (arith, place, range, h) in
         let long : s < length (network_of seed).servers =
-        subst (λ n. s < n) (sym (length-map-range_with_len server 0 16)) below in
+        subst (λ n. s < n) (sym (server_count seed)) below in
         let queue : get_or (map (queue_at f.queue) (path_of f)) k 0 ≡ queue_at f.queue s =
         get_or-map (queue_at f.queue) (path_of f) k 0 0 l in
         let own_queue = queue_is f.packet f.queue s (bits_within f own).1 own.queue in
@@ -181,7 +188,7 @@ flow_is seed f own = record {
 -- ---- the network
 own_servers : (seed : ℕ) → AllPairs (λ s t. s.name ≢ t.name) (network_of seed).servers
 own_servers seed i j d b l =
-    let h : j < 16 = subst (λ n. j < n) (length-map-range_with_len server 0 16) l in
+    let h : j < 16 = subst (λ n. j < n) (server_count seed) l in
     rw (server_at seed i d (omega (arith, b, h)), server_at seed j d h) (differ 115 i j b (omega (arith, h)))
 
 own_flows : (seed : ℕ) → AllPairs DifferInName (network_of seed).flows
@@ -191,7 +198,7 @@ own_flows seed i j d b l =
 
 each_server : (seed : ℕ) (s : NetServer) → Contains (network_of seed).servers s → IsServer s
 each_server seed s c =
-    let h : c.0 < 16 = subst (λ n. c.0 < n) (length-map-range_with_len server 0 16) c.1 in
+    let h : c.0 < 16 = subst (λ n. c.0 < n) (server_count seed) c.1 in
     subst IsServer (sym (server_at seed c.0 s h) ∙ c.2) (server_is c.0 h)
 
 -- the number of a live flow's place
@@ -223,9 +230,10 @@ each_flow seed f c =
     (flow_is seed (drawn_flow seed p.number) (flow_is_drawn seed p.number p.one))
 
 pub accepted : (seed : ℕ) → IsAccepted (network_of seed)
+unfolding network_of
 accepted seed = record {
   version = refl;
-  few_servers = let n = length-map-range_with_len server 0 16 in omega (arith, n);
+  few_servers = let n = server_count seed in omega (arith, n);
   few_flows = let n = flow_count seed in omega (arith, n);
   names = (own_servers seed, own_flows seed);
   servers = each_server seed;
@@ -236,6 +244,7 @@ accepted seed = record {
 pub made_network : (seed : ℕ) (servers : List Server) (flows : List (Option Flow)) (drawn : List DrawnFlow)
     → servers_of servers ≡ map server (range_with_len 0 16) → flows_of flows ≡ map (λ f. Some (flow_of f)) drawn
     → drawn ≡ drawn_flows seed → net_of 1 servers flows ≡ network_of seed
+unfolding network_of
 made_network seed servers flows drawn s f e =
     ap (λ (x : List NetServer). record { version = 1; servers = x; flows = flows_of flows }) s
     ∙ ap (λ (y : List (Option NetFlow)). record { version = 1; servers = map server (range_with_len 0 16); flows = y })
@@ -279,6 +288,7 @@ live seed p h =
     (f, slice_get-get_or (network_of seed).flows s.flow None long ∙ ap Some (flow_at seed s.flow None s.one))
 
 pub workloads_stand : WorkloadsStand
+unfolding trace_of
 workloads_stand seed = record {
   accepted = accepted seed;
   feed_forward = feed_forward seed;

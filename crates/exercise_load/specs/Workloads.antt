@@ -56,7 +56,7 @@ flow_of f = record {
 }
 
 -- 16 servers and 24 flows
-abbrev pub network_of : ℕ → Net
+unfoldable pub network_of : ℕ → Net
 network_of seed = record {
   version = 1;
   servers = map server (range_with_len 0 16);
@@ -80,5 +80,5 @@ abbrev pub packets_in_turn : ℕ → ℕ → List TracePacket
 packets_in_turn seed k = packets_at seed (8000 * k)
 
 -- all before the time 1,024,000, time by time; and no stalls
-abbrev pub trace_of : ℕ → SpecTrace
+unfoldable pub trace_of : ℕ → SpecTrace
 trace_of seed = record { packets = flat_map (packets_in_turn seed) (range_with_len 0 128); stalls = [] }

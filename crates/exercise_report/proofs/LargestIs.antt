@@ -1,6 +1,6 @@
 -- The largest bound and the largest delay are what their names say.
 use Rattle.std.proofs.Common.{◌≡◌, ℕ, zero, suc, ◌<◌, List, [], ◌∷◌, length, get_or, inl, inr, refl, sym, ap, ◌∙◌, subst, arith}
-use Rattle.std.specs.Prelude.{◌⊎◌, Contains, Option, Some, None, IsTrue, is_some, true}
+use Rattle.std.specs.Prelude.{Contains, Option, Some, None, is_some, true}
 use Rattle.std.specs.List.{range_with_len}
 use Rattle.std.proofs.lemmas.List.FromFn.{get_or-range_with_len, length-range_with_len}
 use Rattle.rational.specs.Rational.{ℚ, ◌≤ℚ◌}
@@ -13,7 +13,7 @@ use Rattle.rational.proofs.MinMax.{max_q_ge_left, max_q_ge_right, max_q_one}
 use Rattle.min_plus.specs.Functions.{zero_q}
 use Rattle.net_model.specs.Networks.{Net, NetFlow}
 use Rattle.net_cells.specs.Meanings.{Meaning, curve, number, CellTable}
-use Rattle.net_cells.specs.Numbered.{flow_at, is_live}
+use Rattle.net_cells.specs.Numbered.{flow_at}
 use Rattle.net_cells.proofs.Places.{live_inside}
 use Rattle.exercise_report.specs.Largest.{number_alone, bound_cell, bound_of, bound_at, bounds, largest_bound, largest_delay}
 use Rattle.exercise_report.specs.SummaryLaws.{IsBoundOf, LargestBoundIsOne, LargestDelayIsOne}

@@ -2,7 +2,7 @@
 use Rattle.std.proofs.Common.{◌≡◌, ℕ, List, ◌++◌, length, refl, ap, true}
 use Rattle.std.specs.Prelude.{◌==◌, ◌&&◌, is_some, Option, Some, None}
 use Rattle.std.specs.List.{fold}
-use Rattle.rational.specs.Extended.{Ext, max_ext}
+use Rattle.rational.specs.Extended.{max_ext}
 use Rattle.rational.specs.declared.Extended.TheVariants.{Fin}
 use Rattle.min_plus.specs.Functions.{zero_q}
 use Rattle.net_model.specs.Networks.{Net, NetFlow}
@@ -12,7 +12,7 @@ use Rattle.net_cells.proofs.Tables.{tables_agree}
 use Rattle.report_text.specs.Laws.{AgreeWherePrinted}
 use Rattle.report_text.specs.RunReport.{breach_line}
 use Rattle.report_text.proofs.Agree.{flat_range}
-use Rattle.exercise_report.specs.Largest.{number_alone, bound_cell, bound_of, bound_at, bounds, largest_bound}
+use Rattle.exercise_report.specs.Largest.{number_alone, bound_cell, bound_of, bound_at, largest_bound}
 use Rattle.exercise_report.specs.Summary.{title_line, count_line, bound_line, worst_line, summary_of}
 use Rattle.exercise_report.specs.SummaryLaws.{EquationsGiveOneSummary}
 

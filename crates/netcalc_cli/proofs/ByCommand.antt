@@ -17,17 +17,23 @@ use Rattle.edit_command.proofs.Causes as edit_statuses
 use Rattle.edit_command.proofs.OneReply as edited
 use Rattle.edit_command.proofs.Promised.{reports_are_guaranteed, replies_are_complete}
 use Rattle.simulate_command.specs.RunCounts as run_counts
-use Rattle.simulate_command.specs.RunCounts.{IsOfReport}
+use Rattle.run_findings.specs.Statuses.{IsOfReport}
 use Rattle.simulate_command.proofs.Causes as run
 use Rattle.simulate_command.proofs.OneReply as simulated
 use Rattle.simulate_command.proofs.Status.{status_tells}
 use Rattle.simulate_command.proofs.Within.{quiet_runs, guarantee}
+use Rattle.run_findings.specs.CellCounts.{CountsOnCells}
+use Rattle.exercise_load.specs.Workloads.{network_of}
+use Rattle.exercise_command.proofs.Causes as exercise
+use Rattle.exercise_command.proofs.OneReply as exercised
+use Rattle.exercise_command.proofs.Within as summaries
 use Rattle.measure_command.specs.MeasureCounts as measure_counts
 use Rattle.measure_command.proofs.Causes as measure
 use Rattle.measure_command.proofs.OneMeasure as measured
 use Rattle.curve_command.proofs.ByStatus as curve
 use Rattle.curve_command.proofs.OneReply as calculated
-use Rattle.netcalc_cli.specs.Commands.{Command, Analyse, Edit, Simulate, Measure, Curve, IsReplyTo, IsMalformed, IsOver}
+use Rattle.netcalc_cli.specs.Commands.{Command, Analyse, Edit, Simulate, Exercise, Measure, Curve}
+use Rattle.netcalc_cli.specs.Commands.{IsReplyTo, IsMalformed, IsOver}
 use Rattle.netcalc_cli.specs.Commands.{AreSameTo, IsCyclic, TellsBreach, IsDone, IsAnswerable, IsAnswer, CountsTo}
 
 -- ---- by status
@@ -88,6 +94,21 @@ by_command (Simulate net trace) (bytes ∷ rows ∷ []) reply h =
           let r = k.report (inr e) in
           (r, (status_tells bytes rows reply r).breaks.0 e, guarantee bytes rows reply r);
     }
+by_command (Exercise seed) [] reply h =
+    let k = exercise.causes seed reply h in
+    record {
+      done = λ e.
+          let quiet = summaries.quiet_summaries seed reply h e in
+          (quiet, summaries.guarantee seed reply quiet.summary);
+      malformed = λ e. absurd (k.files.0 e);
+      no_read = k.files.2;
+      wide = λ e. k.wide e;
+      many = λ e. k.many e;
+      cycle = λ e. absurd (k.others.2 e);
+      breach = λ e.
+          let r = k.summary (inr e) in
+          (r, (summaries.status_tells seed reply r).breaks.0 e, summaries.guarantee seed reply r);
+    }
 by_command (Measure net trace name rate) (bytes ∷ rows ∷ []) reply h =
     let k = measure.causes net bytes trace rows name rate reply h in
     record {
@@ -120,6 +141,7 @@ equal_by_command (Analyse form net) x y e = equal x y e
 equal_by_command (Edit form net edits) x y e =
     record { status = ap (λ (r : Reply). r.status) e; text = inl (ap (λ (r : Reply). r.bytes) e) }
 equal_by_command (Simulate net trace) x y e = equal x y e
+equal_by_command (Exercise seed) x y e = equal x y e
 equal_by_command (Measure net trace name rate) x y e = equal x y e
 equal_by_command (Curve script) x y e = equal x y e
 
@@ -130,6 +152,7 @@ one_by_command (Edit form net edits) (bytes ∷ rows ∷ []) x y h k =
     edited.replies_are_determined form net bytes edits rows x y h k
 one_by_command (Simulate net trace) (bytes ∷ rows ∷ []) x y h k =
     simulated.replies_are_determined net bytes trace rows x y h k
+one_by_command (Exercise seed) [] x y h k = equal x y (exercised.replies_are_determined seed x y h k)
 one_by_command (Measure net trace name rate) (bytes ∷ rows ∷ []) x y h k =
     equal x y (measured.replies_are_determined net bytes trace rows name rate x y h k)
 one_by_command (Curve script) (bytes ∷ []) x y h k =
@@ -144,6 +167,7 @@ complete_by_command (Edit form net edits) (bytes ∷ rows ∷ []) reply can h =
     replies_are_complete form net bytes edits rows reply can h
 complete_by_command (Simulate net trace) (bytes ∷ rows ∷ []) reply can h =
     simulated.replies_are_complete net bytes trace rows reply can h
+complete_by_command (Exercise seed) [] reply can h = exercised.replies_are_complete seed reply can h
 complete_by_command (Measure net trace name rate) (bytes ∷ rows ∷ []) reply can h =
     measured.replies_are_complete net bytes trace rows name rate reply can h
 complete_by_command (Curve script) (bytes ∷ []) reply can h = calculated.replies_are_complete script bytes reply can h
@@ -169,6 +193,7 @@ pub answer_given : (command : Command) (status other : ℕ) → IsGiven status o
 answer_given (Analyse form net) status other same h = zero_given status other same h
 answer_given (Edit form net edits) status other same h = zero_given status other same h
 answer_given (Simulate net trace) status other same h = report_given status other same h
+answer_given (Exercise seed) status other same h = report_given status other same h
 answer_given (Measure net trace name rate) status other same h = zero_given status other same h
 answer_given (Curve script) status other same h = zero_given status other same h
 
@@ -187,6 +212,15 @@ counts_at bytes status other old new same h = record {
   };
 }
 
+cells_at : (net : Net) (status other old new : ℕ) → IsGiven status other → CountsOnCells net status old new
+    → CountsOnCells net other old new
+cells_at net status other old new same k = record {
+  rises = k.rises;
+  most = k.most;
+  report = λ is. k.report (report_given status other same is);
+  round = k.round;
+}
+
 run_counts_at : (bytes rows : List ℕ) (status other old new : ℕ) → IsGiven status other
     → run_counts.CountsOn bytes rows status old new → run_counts.CountsOn bytes rows other old new
 run_counts_at bytes rows status other old new same h = record {
@@ -195,12 +229,7 @@ run_counts_at bytes rows status other old new same h = record {
   folds = h.folds;
   refused = h.refused;
   cells = λ net is. let k = h.cells net is in record {
-    cells = record {
-      rises = k.cells.rises;
-      most = k.cells.most;
-      report = λ is. k.cells.report (report_given status other same is);
-      round = k.cells.round;
-    };
+    cells = cells_at net status other h.between new same k.cells;
     refused = k.refused;
   };
 }
@@ -248,6 +277,8 @@ counts_by_command (Edit form net edits) (bytes ∷ rows ∷ []) status other old
     edit_counts_at bytes rows status other old new same h
 counts_by_command (Simulate net trace) (bytes ∷ rows ∷ []) status other old new same h =
     run_counts_at bytes rows status other old new same h
+counts_by_command (Exercise seed) [] status other old new same h =
+    cells_at (network_of seed) status other old new same h
 counts_by_command (Measure net trace name rate) (bytes ∷ rows ∷ []) status other old new same h =
     measure_counts_at bytes status other old new same h
 counts_by_command (Curve script) (bytes ∷ []) status other old new same h = tt

@@ -7,3 +7,4 @@ pub mod ExampleNet
 pub mod ExampleBound
 pub mod WordLists
 pub mod JsonWords
+pub mod Seeds

@@ -7,12 +7,13 @@ use Rattle.command_replies.specs.Replies.{Reply, cannot_read, too_long}
 use Rattle.json_report.specs.declared.form.Form.{Form}
 use Rattle.analyse_command.specs.OnFiles as analyse
 use Rattle.edit_command.specs.OnEdits as edits
-use Rattle.simulate_command.specs.Found.{status_by}
+use Rattle.run_findings.specs.Findings.{status_by}
 use Rattle.simulate_command.specs.OnTraces as traces
+use Rattle.exercise_command.specs.OnSeeds as seeds
 use Rattle.measure_command.specs.OnMeasures.{IsMeasureReply}
 use Rattle.measure_command.proofs.OneMeasure.{statuses_are_four}
 use Rattle.curve_command.specs.OnScripts as scripts
-use Rattle.netcalc_cli.specs.Commands.{Command, Analyse, Edit, Simulate, Measure, Curve, IsReplyTo, files_of}
+use Rattle.netcalc_cli.specs.Commands.{Command, Analyse, Edit, Simulate, Exercise, Measure, Curve, IsReplyTo, files_of}
 use Rattle.netcalc_cli.specs.Files.{Told}
 use Rattle.netcalc_cli.specs.Reply.{MayReplyTo, FailedAt}
 use Rattle.netcalc_cli.proofs.FileLemmas.{first_shows, long_shows}
@@ -70,8 +71,16 @@ on_traces net bytes trace rows reply (traces.CellOver TooWide h) =
 on_traces net bytes trace rows reply (traces.SimulationOver h) =
     other reply.status 6 (status_of reply _ h.over.is) (omega arith)
 on_traces net bytes trace rows reply (traces.Reported h) =
-    other reply.status (status_by h.report.found.breach) (status_of reply _ h.report.is)
-    (by_breach h.report.found.breach)
+    other reply.status (status_by h.report.tells.found.breach) (status_of reply _ h.report.tells.is)
+    (by_breach h.report.tells.found.breach)
+
+on_seed : (seed : ℕ) (reply : Reply) → seeds.IsExerciseReply seed reply → reply.status ≢ 4
+on_seed seed reply (seeds.CellOver TooMany h) = other reply.status 7 (status_of reply _ h.is) (omega arith)
+on_seed seed reply (seeds.CellOver TooWide h) = other reply.status 6 (status_of reply _ h.is) (omega arith)
+on_seed seed reply (seeds.SimulationOver h) = other reply.status 6 (status_of reply _ h.over.is) (omega arith)
+on_seed seed reply (seeds.Summarised h) =
+    other reply.status (status_by h.report.tells.found.breach) (status_of reply _ h.report.tells.is)
+    (by_breach h.report.tells.found.breach)
 
 on_measure : (net bytes trace rows name : List ℕ) (rate : ℚ) (reply : Reply)
     → IsMeasureReply net bytes trace rows name rate reply → reply.status ≢ 4
@@ -97,6 +106,7 @@ on_files : (command : Command) (files : List (List ℕ)) (reply : Reply) → IsR
 on_files (Analyse form net) (bytes ∷ []) reply h = on_analyse form net bytes reply h
 on_files (Edit form net list) (bytes ∷ rows ∷ []) reply h = on_edits form net bytes list rows reply h
 on_files (Simulate net trace) (bytes ∷ rows ∷ []) reply h = on_traces net bytes trace rows reply h
+on_files (Exercise seed) [] reply h = on_seed seed reply h
 on_files (Measure net trace name rate) (bytes ∷ rows ∷ []) reply h = on_measure net bytes trace rows name rate reply h
 on_files (Curve script) (bytes ∷ []) reply h = on_script script bytes reply h
 on_files command files reply h = absurd h

@@ -7,7 +7,7 @@ use Rattle.command_replies.specs.declared.answer.Answer.{Answer}
 use Rattle.command_replies.specs.Replies.{Reply, cannot_read, too_long}
 use Rattle.command_replies.specs.View.{code_of, reply_of, status_of}
 use Rattle.netcalc_cli.specs.Commands.{Command, files_of, IsReplyTo, IsMalformed, IsOver, IsCyclic, TellsBreach, IsDone}
-use Rattle.netcalc_cli.specs.Commands.{Analyse, Edit, Simulate, Measure, Curve, IsAnswerable, IsAnswer}
+use Rattle.netcalc_cli.specs.Commands.{Analyse, Edit, Simulate, Exercise, Measure, Curve, IsAnswerable, IsAnswer}
 use Rattle.netcalc_cli.specs.Counts.{CountsOnCommand}
 use Rattle.netcalc_cli.specs.Files.{Told, IsTooLong, FirstIs, MayHoldAll, AllFit, all_told}
 use Rattle.netcalc_cli.specs.Laws.{RepliesAreDetermined}
@@ -63,6 +63,7 @@ no_answer : (command : Command) (status : ℕ) → IsNoAnswer status → ¬ (IsA
 no_answer (Analyse form net) status none h = none.zero h
 no_answer (Edit form net edits) status none h = none.zero h
 no_answer (Simulate net trace) status none h = elim h [ inl zero ↦ none.zero zero | inr nine ↦ none.nine nine ]
+no_answer (Exercise seed) status none h = elim h [ inl zero ↦ none.zero zero | inr nine ↦ none.nine nine ]
 no_answer (Measure net trace name rate) status none h = none.zero h
 no_answer (Curve script) status none h = none.zero h
 

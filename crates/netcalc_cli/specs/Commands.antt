@@ -23,7 +23,13 @@ use Rattle.simulate_command.specs.OnTraces as traces
 use Rattle.simulate_command.specs.OnTraces.{IsRunReply, IsRunReport, IsSimulationOver}
 use Rattle.simulate_command.specs.RunCounts as run_counts
 use Rattle.simulate_command.specs.Laws as run_laws
-use Rattle.simulate_command.specs.Laws.{Keeps, IsQuietReport}
+use Rattle.simulate_command.specs.Laws.{IsQuietReport}
+use Rattle.run_findings.specs.CellCounts.{CountsOnCells}
+use Rattle.run_findings.specs.Statuses.{Keeps}
+use Rattle.exercise_load.specs.Workloads.{network_of}
+use Rattle.exercise_command.specs.OnSeeds.{IsExerciseReply, IsSummarised, IsWide, IsCellOver}
+use Rattle.exercise_command.specs.ExerciseLaws as exercise_laws
+use Rattle.exercise_command.specs.ExerciseLaws.{IsQuietSummary, SummaryGuarantees}
 use Rattle.measure_command.specs.OnMeasures.{IsMeasureReply, IsReportOf as IsMeasureReportOf}
 use Rattle.measure_command.specs.MeasureCauses as measure_causes
 use Rattle.measure_command.specs.MeasureCounts as measure_counts
@@ -37,6 +43,7 @@ pub data Command : Type 0 where
   Analyse : (form : Form) (net : List ℕ) → Command
   Edit : (form : Form) (net edits : List ℕ) → Command
   Simulate : (net trace : List ℕ) → Command
+  Exercise : (seed : ℕ) → Command
   Measure : (net trace name : List ℕ) (rate : ℚ) → Command
   Curve : (script : List ℕ) → Command
 
@@ -50,6 +57,7 @@ abbrev pub files_of : Command → List (List ℕ)
 files_of (Analyse form net) = net ∷ []
 files_of (Edit form net edits) = net ∷ edits ∷ []
 files_of (Simulate net trace) = net ∷ trace ∷ []
+files_of (Exercise seed) = []
 files_of (Measure net trace name rate) = net ∷ trace ∷ []
 files_of (Curve script) = script ∷ []
 
@@ -58,6 +66,7 @@ abbrev pub IsReplyTo : Command → List (List ℕ) → Reply → Type 0
 IsReplyTo (Analyse form net) (bytes ∷ []) reply = IsReplyOn form net bytes reply
 IsReplyTo (Edit form net edits) (bytes ∷ rows ∷ []) reply = IsEditReply form net bytes edits rows reply
 IsReplyTo (Simulate net trace) (bytes ∷ rows ∷ []) reply = IsRunReply net bytes trace rows reply
+IsReplyTo (Exercise seed) [] reply = IsExerciseReply seed reply
 IsReplyTo (Measure net trace name rate) (bytes ∷ rows ∷ []) reply = IsMeasureReply net bytes trace rows name rate reply
 IsReplyTo (Curve script) (bytes ∷ []) reply = IsScriptReply script bytes reply
 IsReplyTo command files reply = ⊥
@@ -67,6 +76,7 @@ abbrev pub AreSameTo : Command → Reply → Reply → Type 0
 AreSameTo (Analyse form net) x y = AreSame x y
 AreSameTo (Edit form net edits) x y = edit_laws.AreAlike form x y
 AreSameTo (Simulate net trace) x y = AreSame x y
+AreSameTo (Exercise seed) x y = AreSame x y
 AreSameTo (Measure net trace name rate) x y = AreSame x y
 AreSameTo (Curve script) x y = AreSame x y
 
@@ -82,16 +92,21 @@ IsMalformed (Curve script) (bytes ∷ []) reply = IsRefused script bytes reply
 IsMalformed command files reply = ⊥
 
 -- 7 and 6: the first that is over a limit: of the curves of a network's file, or else of its cells, or else, at 6, the
--- simulation; of the curves of a network's file, or else the packets that are measured, or else their burst; of the
--- curves, operators and values of a script
+-- simulation; of a workload's cells, or else, at 6, the simulation; of the curves of a network's file, or else the
+-- packets that are measured, or else their burst; of the curves, operators and values of a script
 abbrev pub IsRunOver : OverLimit → List ℕ → List ℕ → Reply → Type 0
 IsRunOver TooMany bytes rows reply = traces.IsOverLimit TooMany bytes rows reply
 IsRunOver TooWide bytes rows reply = traces.IsOverLimit TooWide bytes rows reply ⊎ IsSimulationOver bytes rows reply
+
+abbrev pub IsLoadOver : OverLimit → ℕ → Reply → Type 0
+IsLoadOver TooMany seed reply = IsCellOver TooMany (network_of seed) reply
+IsLoadOver TooWide seed reply = IsWide seed reply
 
 abbrev pub IsOver : OverLimit → Command → List (List ℕ) → Reply → Type 0
 IsOver limit (Analyse form net) (bytes ∷ []) reply = IsOverLimit limit bytes reply
 IsOver limit (Edit form net edits) (bytes ∷ rows ∷ []) reply = edit_causes.IsOverLimit limit bytes rows reply
 IsOver limit (Simulate net trace) (bytes ∷ rows ∷ []) reply = IsRunOver limit bytes rows reply
+IsOver limit (Exercise seed) [] reply = IsLoadOver limit seed reply
 IsOver limit (Measure net trace name rate) (bytes ∷ rows ∷ []) reply =
     measure_causes.IsOverLimit limit bytes rows name rate reply
 IsOver limit (Curve script) (bytes ∷ []) reply = IsLineOver limit bytes reply
@@ -104,16 +119,20 @@ IsCyclic (Edit form net edits) (bytes ∷ rows ∷ []) reply = edit_causes.HasCy
 IsCyclic (Simulate net trace) (bytes ∷ rows ∷ []) reply = traces.HasCycleBehind bytes rows reply
 IsCyclic command files reply = ⊥
 
--- 9: the report of a run that breaks a premise of its network; its table is kept by every lawful run that keeps them
+-- 9: the report of a run that breaks a premise of its network, or the summary of a workload with such a run; its table
+-- is kept by every lawful run that keeps them, and the largest bound of a summary by every packet's delay
 abbrev pub TellsBreach : Command → List (List ℕ) → Reply → Type 0
 TellsBreach (Simulate net trace) (bytes ∷ rows ∷ []) reply =
     (h : IsRunReport bytes rows reply) × (¬ (Keeps h.net h.report.run)) × Guarantees h.net h.at
+TellsBreach (Exercise seed) [] reply =
+    (h : IsSummarised seed reply) × (¬ (Keeps (network_of seed) h.report.run)) × SummaryGuarantees seed h.at
 TellsBreach command files reply = ⊥
 
 -- 0: a report, in its form, whose table is kept by every lawful run of the network that keeps packet sizes, arrival
 -- and service curves: of the file's network; of the network that the edits leave; of `simulate` beside a run that keeps
--- them too, no number of which is above its bound; or the least arrival curve of a flow's packets, with the least bucket
--- of the rate that they keep; or the answers of a script
+-- them too, no number of which is above its bound; of a workload's network so, and its largest bound is kept by every
+-- packet's delay; or the least arrival curve of a flow's packets, with the least bucket of the rate that they keep; or
+-- the answers of a script
 abbrev pub IsDone : Command → List (List ℕ) → Reply → Type 0
 IsDone (Analyse form net) (bytes ∷ []) reply =
     (model : Net) × (at : CellTable) × IsReportOf form model at bytes reply × Guarantees model at
@@ -121,6 +140,7 @@ IsDone (Edit form net edits) (bytes ∷ rows ∷ []) reply =
     (model : Net) × (at : CellTable) × IsReported form model at bytes rows reply × Guarantees model at
 IsDone (Simulate net trace) (bytes ∷ rows ∷ []) reply =
     (h : IsQuietReport bytes rows reply) × Guarantees h.report.net h.report.at
+IsDone (Exercise seed) [] reply = (h : IsQuietSummary seed reply) × SummaryGuarantees seed h.summary.at
 IsDone (Measure net trace name rate) (bytes ∷ rows ∷ []) reply =
     (packets : List TracePacket) × (curve : SpecCurve) × (burst : ℚ)
     × IsMeasureReportOf bytes rows name rate packets curve burst reply × IsLeastOf packets curve rate burst
@@ -132,6 +152,7 @@ abbrev pub IsAnswerable : Command → List (List ℕ) → Type 0
 IsAnswerable (Analyse form net) (bytes ∷ []) = IsWithinLimits bytes
 IsAnswerable (Edit form net edits) (bytes ∷ rows ∷ []) = edit_laws.IsWithinLimits bytes rows
 IsAnswerable (Simulate net trace) (bytes ∷ rows ∷ []) = run_laws.IsWithinLimits bytes rows
+IsAnswerable (Exercise seed) [] = exercise_laws.IsWithinLimits seed
 IsAnswerable (Measure net trace name rate) (bytes ∷ rows ∷ []) = measure_laws.IsWithinLimits bytes rows name rate
 IsAnswerable (Curve script) (bytes ∷ []) = IsWithinRules bytes
 IsAnswerable command files = ⊥
@@ -140,6 +161,7 @@ abbrev pub IsAnswer : Command → ℕ → Type 0
 IsAnswer (Analyse form net) status = status ≡ 0
 IsAnswer (Edit form net edits) status = status ≡ 0
 IsAnswer (Simulate net trace) status = (status ≡ 0) ⊎ (status ≡ 9)
+IsAnswer (Exercise seed) status = (status ≡ 0) ⊎ (status ≡ 9)
 IsAnswer (Measure net trace name rate) status = status ≡ 0
 IsAnswer (Curve script) status = status ≡ 0
 
@@ -148,6 +170,7 @@ abbrev pub CountsTo : Command → List (List ℕ) → (status old new : ℕ) →
 CountsTo (Analyse form net) (bytes ∷ []) status old new = CountsOn bytes status old new
 CountsTo (Edit form net edits) (bytes ∷ rows ∷ []) status old new = edit_counts.CountsOn bytes rows status old new
 CountsTo (Simulate net trace) (bytes ∷ rows ∷ []) status old new = run_counts.CountsOn bytes rows status old new
+CountsTo (Exercise seed) [] status old new = CountsOnCells (network_of seed) status old new
 CountsTo (Measure net trace name rate) (bytes ∷ rows ∷ []) status old new = measure_counts.CountsOn bytes status old new
 CountsTo (Curve script) (bytes ∷ []) status old new = Unit {0}
 CountsTo command files status old new = ⊥

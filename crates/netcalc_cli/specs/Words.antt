@@ -1,26 +1,40 @@
 -- The words of the command line.
-use Rattle.std.specs.Prelude.{ℕ, Bool, false, not, ◌==◌, ◌&&◌, List, [], ◌∷◌, map, codes, Option, Some, None, option_map}
+use Rattle.std.specs.Prelude.{ℕ, ◌^◌, Bool, false, not, nat_lt, ◌==◌, ◌&&◌, List, [], ◌∷◌, map, codes}
+use Rattle.std.specs.Prelude.{Option, Some, None, option_map}
 use Rattle.std.specs.Prelude.{String, string_bytes, if◌then◌else◌, Result, Ok, Err}
 use Rattle.std.specs.declared.alloc.Global.{Global}
 use Rattle.std.specs.Str.{bytes_eq}
+use Rattle.std.specs.Str.Parse.{digits_value}
 use Rattle.rational.specs.Rational.{ℚ, lt_q}
 use Rattle.min_plus.specs.Functions.{zero_q}
 use Rattle.fraction128.specs.declared.fault.FracText.{FracText}
-use Rattle.fraction128.specs.Text.{parse_of}
+use Rattle.fraction128.specs.Text.{is_numeral, parse_of}
 use Rattle.json_report.specs.declared.form.Form.TheVariants.{Lines, Json}
 use Rattle.command_words.specs.Lines.{is_operand, without_json}
-use Rattle.netcalc_cli.specs.Commands.{Command, Analyse, Edit, Simulate, Measure, Curve}
+use Rattle.netcalc_cli.specs.Commands.{Command, Analyse, Edit, Simulate, Exercise, Measure, Curve}
 
 -- the words as bytes
 abbrev pub texts : List (String Global) → List (List ℕ)
 texts = map string_bytes
 
 -- ---- without `--json`
--- the command of this word on one file
+-- the number that a word writes: digits and nothing else, of a number of 64 bits
+abbrev pub in_64_bits : ℕ → Option ℕ
+in_64_bits number = if nat_lt number (2 ^ 64) then Some number else None
+
+abbrev pub seed_of : List ℕ → Option ℕ
+seed_of word = if is_numeral word then in_64_bits (digits_value 10 word) else None
+
+abbrev pub exercised : Option ℕ → Option Command
+exercised (Some seed) = Some (Exercise seed)
+exercised None = None
+
+-- the command of this word on one file, or on a workload's number
 abbrev pub on_one : List ℕ → List ℕ → Option Command
-on_one word file =
-    if bytes_eq word (codes "analyse") then Some (Analyse Lines file)
-    else if bytes_eq word (codes "curve") then Some (Curve file) else None
+on_one word operand =
+    if bytes_eq word (codes "analyse") then Some (Analyse Lines operand)
+    else if bytes_eq word (codes "curve") then Some (Curve operand)
+    else if bytes_eq word (codes "exercise") then exercised (seed_of operand) else None
 
 -- and on two
 abbrev pub on_two : List ℕ → (first second : List ℕ) → Option Command
@@ -47,7 +61,7 @@ on_four word net trace name rate =
 
 -- the program's name, a command and its operands
 abbrev pub lines_of : List (List ℕ) → Option Command
-lines_of (program ∷ word ∷ file ∷ []) = if is_operand file then on_one word file else None
+lines_of (program ∷ word ∷ operand ∷ []) = if is_operand operand then on_one word operand else None
 lines_of (program ∷ word ∷ first ∷ second ∷ []) =
     if is_operand first && is_operand second then on_two word first second else None
 lines_of (program ∷ word ∷ net ∷ trace ∷ name ∷ rate ∷ []) =

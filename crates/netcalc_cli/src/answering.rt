@@ -15,6 +15,7 @@ use analyse_command::on_bytes;
 use command_replies::Answer;
 use curve_command::on_script;
 use edit_command::on_edits;
+use exercise_command::on_seed;
 use fraction128::Frac;
 use json_report::Form;
 use measure_command::on_measure;
@@ -79,6 +80,21 @@ fn on_simulated<I: Inputs, L: Ledger>(
     }
 }
 
+// No file is fetched.
+fn on_exercise<I: Inputs, L: Ledger>(
+    alloc: Global,
+    seed: u64,
+    inputs: &I,
+    steps: &mut Steps<L>,
+) -> Result<Answer, NoMemory>
+    ensures reply { IfOk result (λ r. MayReplyTo I.faults I.last_fault (I.content inputs.now)
+        (commands.Exercise seed) inputs.now inputs.now (reply_of r)) }
+    ensures counts { CountsOnCommand (I.content inputs.now) (commands.Exercise seed) (status_of result)
+        steps.old steps.new }
+{
+    on_seed(alloc, seed, steps)
+}
+
 fn on_measured<I: Inputs, L: Ledger>(
     alloc: Global,
     net: &str,
@@ -134,6 +150,7 @@ pub(crate) fn answer_to<I: Inputs, L: Ledger>(
         Command::Analyse(form, net) => on_network(alloc, form, net, inputs, steps),
         Command::Edit(form, net, edits) => on_edited(alloc, form, net, edits, inputs, steps),
         Command::Simulate(net, trace) => on_simulated(alloc, net, trace, inputs, steps),
+        Command::Exercise(seed) => on_exercise(alloc, seed, inputs, steps),
         Command::Measure(net, trace, name, rate) => {
             on_measured(alloc, net, trace, name, rate, inputs, steps)
         }

@@ -43,12 +43,13 @@ fn give<K: Sink>(out: &mut K, status: Status, text: &[u8]) -> u8
 /// both files first, and reads the second one after the first one's curves. After the cells the edits are made in
 /// turn, and what is said of each is written before the bounds of the network after them. `simulate NET TRACE`
 /// fetches both files first, and reads the second one after the first one's curves. After the cells come the
-/// simulation and what its run breaks first, and its worst values are written beside the bounds. `measure NET TRACE
-/// FLOW RATE` fetches both files first, reads the second one after the first one's curves, and writes the least
-/// arrival curve of the flow's packets and the least bucket of the rate that they keep. `curve FILE` reads a script
-/// of curve expressions, and writes its answers. The order is: the words, the file, its lines, its statements, one
-/// `put`. With `--json`, once at any place after the word, `analyse` and `edit` write their report as JSON. Each refusal
-/// but 4 and 5 writes one line, in either form.
+/// simulation and what its run breaks first, and its worst values are written beside the bounds. `exercise N` fetches
+/// no file: it does the same with the network and the trace of a workload that the number makes, and writes its
+/// largest bound and largest worst delay. `measure NET TRACE FLOW RATE` fetches both files first, reads the second
+/// one after the first one's curves, and writes the least arrival curve of the flow's packets and the least bucket of
+/// the rate that they keep. `curve FILE` reads a script of curve expressions, and writes its answers. The order is:
+/// the words, the file, its lines, its statements, one `put`. With `--json`, once at any place after the word, `analyse`
+/// and `edit` write their report as JSON. Each refusal but 4 and 5 writes one line, in either form.
 pub fn run<I: Inputs, K: Sink, L: Ledger>(
     words: &[String],
     inputs: &mut I,
@@ -73,8 +74,8 @@ pub fn run<I: Inputs, K: Sink, L: Ledger>(
         ⊎ Brings IsMalformed (I.content inputs.old) command result (K.written out.old) (K.written out.new)) }
 
     // 7 only where the first that is over a limit has too many pieces: of the curves of a network's file, or else of its
-    // cells, or of `measure` else the flow's packets, or else their burst; of the curves, operators and values of a
-    // script. The line names it.
+    // cells, or of `measure` else the flow's packets, or else their burst; of a workload's cells; of the curves,
+    // operators and values of a script. The line names it.
     ensures too_many { result ≡ 7 → IfSome (command_of (texts words.now)) (λ command.
         Brings (IsOver limits.TooMany) (I.content inputs.old) command result (K.written out.old) (K.written out.new)) }
 
@@ -86,8 +87,8 @@ pub fn run<I: Inputs, K: Sink, L: Ledger>(
     ensures cycle { result ≡ 8 → IfSome (command_of (texts words.now)) (λ command.
         Brings IsCyclic (I.content inputs.old) command result (K.written out.old) (K.written out.new)) }
 
-    // 9 only where the run of `simulate` breaks a premise; the whole report is written, and its table is kept by every
-    // run of the network that keeps the premises.
+    // 9 only where the run of `simulate` or `exercise` breaks a premise; the whole report is written, and its table is
+    // kept by every run of the network that keeps the premises.
     ensures breach { result ≡ 9 → IfSome (command_of (texts words.now)) (λ command.
         Brings TellsBreach (I.content inputs.old) command result (K.written out.old) (K.written out.new)) }
 
@@ -95,12 +96,12 @@ pub fn run<I: Inputs, K: Sink, L: Ledger>(
     // answers in a table that meets the equations, and the report, line by line or as JSON, has the numbers of the
     // table, which every run of the network keeps. By a law `unbounded` stands for infinity alone. Of `edit`: so it is
     // for the network that the edits leave, and what is said of each is its answer by the network that those before
-    // it left. Of `simulate`: so
-    // it is for the file's network, and the stated run of it with the trace keeps all premises; no number of the run
-    // is above its bound. Of `measure`: the steps are those of the least arrival curve of the packets of the live
-    // flow with the name; they keep it, and each curve that they keep is at least it; and they keep the bucket of the
-    // burst and the rate, and no bucket of this rate with a smaller burst. Of `curve`: the answers that the script
-    // finds and means.
+    // it left. Of `simulate`: so it is for the file's network, and the stated run of it with the trace keeps all
+    // premises; no number of the run is above its bound. Of `exercise`: so it is for the workload's network and trace,
+    // and in every run of the network that keeps the premises no packet takes longer than the largest bound that is
+    // written. Of `measure`: the steps are those of the least arrival curve of the packets of the live flow with the
+    // name; they keep it, and each curve that they keep is at least it; and they keep the bucket of the burst and the
+    // rate, and no bucket of this rate with a smaller burst. Of `curve`: the answers that the script finds and means.
     ensures done { result ≡ 0 → IfSome (command_of (texts words.now)) (λ command.
         Brings IsDone (I.content inputs.old) command result (K.written out.old) (K.written out.new)) }
 
@@ -116,11 +117,12 @@ pub fn run<I: Inputs, K: Sink, L: Ledger>(
     ensures told { IfSome (command_of (texts words.now)) (λ command.
         GivesOnTold command (I.content inputs.old) result (K.written out.old) (K.written out.new)) }
 
-    // So 0, or of `simulate` 0 or 9, is the only other one where the files hold what can be answered: a network
-    // without a cycle, no curve and no cell of which is over a limit, of `edit` with a list without a fault, of
-    // `simulate` with a trace without a fault, and a simulation that is not too wide; a network and a trace without a
-    // fault, with a live flow of the name, where no curve is over a limit, nor the packets, nor the burst; a script
-    // without a fault, nothing in which is over a limit.
+    // So 0, or of `simulate` and `exercise` 0 or 9, is the only other one where the files hold what can be answered: a
+    // network without a cycle, no curve and no cell of which is over a limit, of `edit` with a list without a fault, of
+    // `simulate` with a trace without a fault, and a simulation that is not too wide; a workload no cell of which is
+    // over a limit, nor its simulation too wide; a network and a trace without a fault, with a live flow of the name,
+    // where no curve is over a limit, nor the packets, nor the burst; a script without a fault, nothing in which is
+    // over a limit.
     ensures complete { IfSome (command_of (texts words.now)) (λ command.
         AnswersWhatItCan command (I.content inputs.old) result) }
 
@@ -132,7 +134,8 @@ pub fn run<I: Inputs, K: Sink, L: Ledger>(
     // Of `analyse` and `simulate` no more steps than the operators of the folds of the file's closures, and after
     // these the work of all cells; where the report is written, exactly that work. Of `edit` beside these no more
     // than the work of the touched cells of each edit; where the report is written, no less than that of the edits
-    // that are taken. Of `measure` one step after the folds.
+    // that are taken. Of `exercise` no more than the work of all cells, and where the summary is written exactly that.
+    // Of `measure` one step after the folds.
     ensures counts { Counts I.content (command_of (texts words.now)) inputs.old result steps.old steps.new }
 {
     let Some(taken) = take_words(words) else {

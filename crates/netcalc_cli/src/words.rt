@@ -5,10 +5,11 @@ ghost use Rattle.min_plus.specs.Functions.{zero_q};
 ghost use Rattle.netcalc_cli.specs.Commands.{HasRate};
 ghost use Rattle.netcalc_cli.specs.View.{command_view};
 ghost use Rattle.command_words.specs.Lines.{is_operand};
-ghost use Rattle.netcalc_cli.specs.Words.{texts, rate_of, on_one, on_two, on_four, lines_of, json_of, command_of};
+ghost use Rattle.netcalc_cli.specs.Words.{texts, in_64_bits, seed_of, rate_of, on_one, on_two, on_four};
+ghost use Rattle.netcalc_cli.specs.Words.{lines_of, json_of, command_of};
 
 use command_words::{around_json, is_operand, word_of};
-use fraction128::{Frac, is_less};
+use fraction128::{Frac, is_less, read_digits};
 use json_report::Form;
 use std::alloc::Global;
 
@@ -21,6 +22,8 @@ pub(crate) enum Command<'a> {
     Edit(Form, &'a str, &'a str),
     /// The run of a network and a trace beside the bounds.
     Simulate(&'a str, &'a str),
+    /// The summary of the workload of a number, analysed and simulated.
+    Exercise(u64),
     /// The least arrival curve of a flow's packets in a trace, by the flow's name, and their least bucket for a rate in
     /// bits a unit of time.
     Measure(&'a str, &'a str, &'a str, Frac),
@@ -41,18 +44,42 @@ fn are_both_operands(first: &str, second: &str) -> bool
     is_operand(first) && is_operand(second)
 }
 
-// The command of this word on one file.
-fn on_one<'a>(word: &str, file: &'a str) -> Option<Command<'a>>
-    ensures command { option_map command_view result ≡ on_one word.now file.now }
+fn in_64_bits(number: u128) -> Option<u64>
+    ensures { result ≡ in_64_bits number }
+{
+    if number <= u128::from(u64::MAX) {
+        Some(number as u64)
+    } else {
+        None
+    }
+}
+
+// The number of a workload that a word writes: digits and nothing else, of a number of 64 bits.
+fn seed_of(word: &str) -> Option<u64>
+    ensures { result ≡ seed_of word.now }
+{
+    let number = read_digits(word.as_bytes())?;
+    in_64_bits(number)
+}
+
+// The command of this word on one file, or on a workload's number.
+fn on_one<'a>(word: &str, operand: &'a str) -> Option<Command<'a>>
+    ensures command { option_map command_view result ≡ on_one word.now operand.now }
     ensures rate { IfSome result (λ c. HasRate (command_view c)) }
 {
     if word == "analyse" {
-        return Some(Command::Analyse(Form::Lines, file));
+        return Some(Command::Analyse(Form::Lines, operand));
     }
     if word == "curve" {
-        return Some(Command::Curve(file));
+        return Some(Command::Curve(operand));
     }
-    None
+    if word != "exercise" {
+        return None;
+    }
+    match seed_of(operand) {
+        Some(seed) => Some(Command::Exercise(seed)),
+        None => None,
+    }
 }
 
 // The command of this word on two files.
@@ -103,16 +130,16 @@ fn on_four<'a>(
     }
 }
 
-fn with_one<'a>(word: &str, file: &'a String) -> Option<Taken<'a>>
+fn with_one<'a>(word: &str, operand: &'a String) -> Option<Taken<'a>>
     ensures command { option_map (λ t. command_view t.command) result
-        ≡ lines_of ([] ∷ word.now ∷ string_bytes file.now ∷ []) }
+        ≡ lines_of ([] ∷ word.now ∷ string_bytes operand.now ∷ []) }
     ensures rate { IfSome result (λ t. HasRate (command_view t.command)) }
 {
-    if !is_operand(file.as_str()) {
+    if !is_operand(operand.as_str()) {
         return None;
     }
-    let alloc = *file.allocator();
-    match on_one(word, file.as_str()) {
+    let alloc = *operand.allocator();
+    match on_one(word, operand.as_str()) {
         Some(command) => Some(Taken { alloc, command }),
         None => None,
     }
@@ -170,7 +197,7 @@ fn in_lines(words: &[String]) -> Option<Taken<'_>>
     ensures rate { IfSome result (λ t. HasRate (command_view t.command)) }
 {
     match words {
-        [_, word, file] => with_one(word.as_str(), file),
+        [_, word, operand] => with_one(word.as_str(), operand),
         [_, word, first, second] => with_two(word.as_str(), first, second),
         [_, word, net, trace, name, rate] => with_four(word.as_str(), net, trace, name, rate),
         _ => None,

@@ -6,7 +6,7 @@ use Rattle.upp_limits.specs.declared.own_limits.OverLimit.{OverLimit}
 use Rattle.upp_limits.specs.declared.own_limits.OverLimit.TheVariants.{TooMany, TooWide}
 use Rattle.net_model.specs.declared.breach.Breach.{Breach}
 use Rattle.command_replies.specs.Replies.{Reply, over}
-use Rattle.simulate_command.specs.Found.{status_by}
+use Rattle.run_findings.specs.Findings.{status_by}
 use Rattle.simulate_command.specs.OnTraces as on
 use Rattle.simulate_command.specs.OnTraces.{IsRunReport, IsMalformed, IsOverLimit, IsSimulationOver, HasCycleBehind}
 use Rattle.simulate_command.specs.Laws.{HasCause, StatusesHaveCauses}
@@ -99,5 +99,5 @@ causes net_file net_bytes trace_file trace_bytes reply (on.CellOver limit h) =
 causes net_file net_bytes trace_file trace_bytes reply (on.SimulationOver h) =
     wide net_file net_bytes trace_file trace_bytes reply (ap (λ (r : Reply). r.status) h.over.is) (inr h)
 causes net_file net_bytes trace_file trace_bytes reply (on.Reported h) =
-    report net_file net_bytes trace_file trace_bytes reply h.report.found.breach
-    (ap (λ (r : Reply). r.status) h.report.is) h
+    report net_file net_bytes trace_file trace_bytes reply h.report.tells.found.breach
+    (ap (λ (r : Reply). r.status) h.report.tells.is) h

@@ -1,13 +1,9 @@
 pub mod Named
-pub mod Lawful
 pub mod Counting
 pub mod OnNets
-pub mod OneRun
 pub mod Sorted
 pub mod OneReply
 pub mod Status
 pub mod OpenServers
 pub mod Causes
-pub mod Before
-pub mod AtLeastZero
 pub mod Within

@@ -1,5 +1,5 @@
--- The reply on a network and a trace, and how a refusal ends.
-use Rattle.std.proofs.Common.{◌≡◌, ◌≢◌, ℕ, List, map, Result, Ok, Err, IfOk, inl, inr, sym, ap, ◌∙◌}
+-- The reply on a network and a trace.
+use Rattle.std.proofs.Common.{◌≡◌, ◌≢◌, ℕ, List, map, Result, Ok, Err, IfOk, inl, inr, ap}
 use Rattle.std.specs.Prelude.{◌⊎◌}
 use Rattle.upp_limits.specs.LimitTest.{fault_of}
 use Rattle.upp_limits.specs.declared.own_limits.OverLimit.{OverLimit}
@@ -21,11 +21,9 @@ use Rattle.report_text.specs.CellWords.{server_name, cell_words}
 use Rattle.command_replies.specs.declared.answer.Answer.{Answer}
 use Rattle.command_replies.specs.Replies.{Reply, goes_round, cell_over, table_fault_reply}
 use Rattle.command_replies.specs.OnFiles.{IsNoNetwork}
-use Rattle.command_replies.specs.View.{reply_of, status_of}
+use Rattle.command_replies.specs.View.{reply_of}
 use Rattle.simulate_command.specs.OnTraces as on
 use Rattle.simulate_command.specs.OnTraces.{IsRunReply, IsRunReplyOnNet, IsRunReplyOnTrace, IsSimulationReply}
-use Rattle.simulate_command.specs.RunCounts.{IsOfReport}
-use Rattle.simulate_command.proofs.Counting.{no_report}
 
 -- ---- files without a network
 pub on_no_network : (net_file net_bytes trace_file trace_bytes : List ℕ) (reply : Reply)
@@ -110,17 +108,3 @@ on_table net trace order at reply accepted curves keeps ordered answers meets si
       | inl over ↦ on.SimulationOver record { net = net; trace = trace; at = at; analysed = analysed; over = over }
       | inr told ↦ on.Reported record { net = net; trace = trace; at = at; analysed = analysed; report = told }
     ]
-
--- ---- statuses
--- a call that answers a refusal, if anything, ends with no report
-pub refused : {E : Type 0} (r : Result Answer E) (to : Reply) → to.status ≢ 0 → to.status ≢ 9
-    → IfOk r (λ a. reply_of a ≡ to) → ¬ IsOfReport (status_of r)
-refused (Ok a) to zero nine is =
-    let same : (reply_of a).status ≡ to.status = ap (λ (x : Reply). x.status) is in
-    no_report (reply_of a).status (λ e. zero (sym same ∙ e)) (λ e. nine (sym same ∙ e))
-refused (Err e) to zero nine is = no_report 5 (λ e. absurd (cc)) (λ e. absurd (cc))
-
--- ---- reports
-pub same_reply : (x y : Reply) → x.status ≡ y.status → x.bytes ≡ y.bytes → x ≡ y
-same_reply x y status bytes =
-    ap (λ s. record { status = s; bytes = x.bytes }) status ∙ ap (λ b. record { status = y.status; bytes = b }) bytes

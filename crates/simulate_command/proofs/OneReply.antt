@@ -1,69 +1,28 @@
 -- Two replies on the same files are the same, but for the choice among cycles; within the limits they are reports.
-use Rattle.std.proofs.Common.{◌≡◌, ℕ, ◌<◌, ◌≤◌, ◌^◌, List, inl, inr, refl, sym, ap, ◌∙◌, subst, arith}
-use Rattle.std.specs.Prelude.{◌⊎◌, Option, Some, None}
+use Rattle.std.proofs.Common.{◌≡◌, ℕ, List, inl, inr, sym, ap, ◌∙◌, subst}
+use Rattle.std.specs.Prelude.{◌⊎◌}
 use Rattle.upp_limits.specs.LimitTest.{fault_of}
 use Rattle.net_model.specs.Accepted.{IsAccepted}
 use Rattle.net_model.specs.Networks.{Net}
 use Rattle.net_model.specs.Orders.{IsOrder}
 use Rattle.net_model.specs.Traces.{SpecTrace, IsTrace}
-use Rattle.net_model.specs.declared.breach.Breach.{Breach}
 use Rattle.net_graph.proofs.OneOrders.{one_order}
 use Rattle.net_graph.proofs.Returns.{order_or_cycle}
-use Rattle.net_cells.specs.Equations.{MeetsEquations}
-use Rattle.net_cells.specs.Meanings.{CellTable}
-use Rattle.stated_runs.specs.FromTraces.{setup_of}
 use Rattle.stated_runs.specs.FromTraces as stated
-use Rattle.sim_bounds.specs.Gauge.{simulation_gauge}
-use Rattle.simulated_sizes.specs.Laws.{AreCurves}
-use Rattle.stated_runs.proofs.MadeSetups as made
-use Rattle.stated_runs.proofs.Unique.{run_once}
 use Rattle.table_text.specs.declared.fault.TableFault.{TableFault}
 use Rattle.table_text.specs.Rows.{rows_of}
 use Rattle.table_text.proofs.OneTrace.{trace_one, no_trace, fault_one}
-use Rattle.report_text.proofs.RunAgree.{one_run_report}
 use Rattle.command_replies.specs.Replies.{Reply, AreSame, table_fault_reply}
 use Rattle.command_replies.proofs.FirstFaults.{says}
 use Rattle.command_replies.proofs.OneRefusal.{equal, OnFault, OnCycle, IsOver}
 use Rattle.command_replies.proofs.OneRefusal.{one_fault, no_network, one_cycle, one_over, no_answers}
-use Rattle.simulate_command.specs.Found.{status_by, run_report, IsReportOn, IsFoundIn}
-use Rattle.simulate_command.specs.OnTraces.{IsSimulationReply}
-use Rattle.simulate_command.specs.RunCounts.{IsOfReport}
+use Rattle.report_text.proofs.RunAgree.{one_run_report}
+use Rattle.report_text.specs.RunReport.{run_report_of}
+use Rattle.run_findings.specs.Statuses.{IsOfReport}
+use Rattle.simulated_findings.proofs.OneSimulation.{same_simulation, on_simulation}
 use Rattle.simulate_command.specs.Laws.{RepliesAreDetermined, IsWithinLimits, RepliesAreComplete}
-use Rattle.simulate_command.proofs.Lawful.{lawful}
 use Rattle.simulate_command.proofs.Named.{named}
-use Rattle.simulate_command.proofs.OneRun.{same_found}
 use Rattle.simulate_command.proofs.Sorted.{IsShown, OnOrder, OnBadTrace, OnTrace, OnNet, sorted}
-
--- ---- by a simulation
-apart : (a b : ℕ) → a < b → b ≤ a → ⊥
-apart a b h k = omega arith
-
--- what is found in the one run, beside the numbers of whatever table meets the equations
-same_report : (net : Net) (trace : SpecTrace) (order : List ℕ) (at other : CellTable) (x y : Reply) → IsAccepted net
-    → IsOrder net order → IsTrace trace → stated.IsTraceOf net trace → AreCurves net → MeetsEquations net at
-    → MeetsEquations net other → IsReportOn net trace at x → IsReportOn net trace other y → x ≡ y
-same_report net trace order at other x y a o keeps names curves m n h k =
-    let setup = made.traces_make_setups net trace a keeps names in
-    let one : k.run ≡ h.run = run_once (setup_of net trace) k.run h.run setup k.finds.stated h.finds.stated in
-    let finds : IsFoundIn net trace h.run k.found = subst (λ run. IsFoundIn net trace run k.found) one k.finds in
-    let law = lawful net trace h.run a keeps names h.finds.stated in
-    let found : h.found ≡ k.found = same_found net trace h.run h.found k.found law a curves h.finds finds in
-    h.is ∙ ap (run_report net at) found
-    ∙ ap (λ bytes. record { status = status_by k.found.breach; bytes = bytes })
-    (one_run_report net order at other k.found a o m n)
-    ∙ sym k.is
-
-same_simulation : (net : Net) (trace : SpecTrace) (order : List ℕ) (at other : CellTable) (x y : Reply)
-    → IsAccepted net → IsOrder net order → IsTrace trace → stated.IsTraceOf net trace → AreCurves net
-    → MeetsEquations net at → MeetsEquations net other → IsSimulationReply net trace at x
-    → IsSimulationReply net trace other y → x ≡ y
-same_simulation net trace order at other x y a o keeps names curves m n (inl h) (inl k) = h.is ∙ sym k.is
-same_simulation net trace order at other x y a o keeps names curves m n (inl h) (inr k) =
-    absurd (apart (simulation_gauge net trace) (2 ^ 120) k.narrow h.over)
-same_simulation net trace order at other x y a o keeps names curves m n (inr h) (inl k) =
-    absurd (apart (simulation_gauge net trace) (2 ^ 120) h.narrow k.over)
-same_simulation net trace order at other x y a o keeps names curves m n (inr h) (inr k) =
-    same_report net trace order at other x y a o keeps names curves m n h k
 
 -- ---- by an order
 by_order : (net : Net) (trace : SpecTrace) (order : List ℕ) (x y : Reply) → IsAccepted net → IsTrace trace
@@ -73,7 +32,8 @@ by_order net trace order x y a keeps names o (inl h) (inl k) = one_over net orde
 by_order net trace order x y a keeps names o (inl h) (inr k) = absurd (no_answers net order x k.at a o h k.answers)
 by_order net trace order x y a keeps names o (inr h) (inl k) = absurd (no_answers net order y h.at a o k h.answers)
 by_order net trace order x y a keeps names o (inr h) (inr k) =
-    same_simulation net trace order h.at k.at x y a o keeps names h.curves h.meets k.meets h.simulated k.simulated
+    same_simulation run_report_of net trace h.at k.at x y a keeps names h.curves
+    (λ found. one_run_report net order h.at k.at found a o h.meets k.meets) h.simulated k.simulated
 
 -- ---- by a trace
 by_trace : (net : Net) (trace : SpecTrace) (x y : Reply) → IsAccepted net → IsTrace trace → stated.IsTraceOf net trace
@@ -131,20 +91,11 @@ replies_are_determined net_file net_bytes trace_file trace_bytes x y h k =
     (sorted net_file net_bytes trace_file trace_bytes y k)
 
 -- ---- within the limits
-of_status : (breach : Option Breach) → IsOfReport (status_by breach)
-of_status None = inl refl
-of_status (Some x) = inr refl
-
-on_simulation : (net : Net) (trace : SpecTrace) (at : CellTable) (reply : Reply) → simulation_gauge net trace < 2 ^ 120
-    → IsSimulationReply net trace at reply → IsOfReport reply.status
-on_simulation net trace at reply narrow (inl h) = absurd (apart (simulation_gauge net trace) (2 ^ 120) narrow h.over)
-on_simulation net trace at reply narrow (inr h) =
-    subst IsOfReport (sym (ap (λ (r : Reply). r.status) h.is)) (of_status h.found.breach)
-
 on_order : (net_bytes trace_bytes : List ℕ) (reply : Reply) (w : IsWithinLimits net_bytes trace_bytes) (order : List ℕ)
     → IsOrder w.net order → IsOver w.net order reply ⊎ IsShown w.net w.trace order reply → IsOfReport reply.status
 on_order net_bytes trace_bytes reply w order o (inl h) = absurd (w.within order h.cell (fault_of h.limit) o h.first)
-on_order net_bytes trace_bytes reply w order o (inr h) = on_simulation w.net w.trace h.at reply w.narrow h.simulated
+on_order net_bytes trace_bytes reply w order o (inr h) =
+    on_simulation run_report_of w.net w.trace h.at reply w.narrow h.simulated
 
 on_trace : (net_bytes trace_bytes : List ℕ) (reply : Reply) (w : IsWithinLimits net_bytes trace_bytes)
     → OnCycle w.net reply ⊎ OnOrder w.net w.trace reply → IsOfReport reply.status

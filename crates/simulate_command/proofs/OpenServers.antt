@@ -1,127 +1,35 @@
--- Servers of kind latency or gate that have no stall keep their service curves in the stated run, and break none.
-use Rattle.std.proofs.Common.{◌≡◌, ◌∙◌, ℕ, ◌<◌, List, [], ◌∷◌, map, length, arith, refl, sym, subst, ap, ap₂, inl, inr, Some, None}
-use Rattle.std.specs.Prelude.{zero, suc, All, Option, Bool, true, false, slice_get, slice_set}
-use Rattle.std.specs.Option.{option_map}
-use Rattle.std.proofs.lemmas.Bool.{cases_Bool, cases_eq, eq-eqb, ne_eqb}
-use Rattle.std.proofs.lemmas.Option.{slice_get_cases, slice_get-map, slice_get_within}
-use Rattle.std.proofs.lemmas.List.{length-map, length-set}
-use Rattle.rational.specs.Rational.{ℚ}
-use Rattle.upp_curve.specs.Curve.{SpecCurve, value_at}
-use Rattle.run_laws.specs.Lawful.{IsLawful}
+-- Servers of kind latency or gate that have no stall break nothing in the run of a report.
+use Rattle.std.proofs.Common.{◌≡◌, ℕ, ◌<◌, sym, subst, Some}
+use Rattle.std.specs.Prelude.{Option}
+use Rattle.std.proofs.lemmas.Option.{slice_get_within}
+use Rattle.std.proofs.lemmas.List.{length-map}
 use Rattle.run_laws.specs.Runs.{SpecRun}
-use Rattle.run_laws.specs.Views.{view}
-use Rattle.run_laws.specs.Premises.{KeepsService}
-use Rattle.net_model.specs.Accepted.{IsAccepted}
 use Rattle.net_model.specs.declared.breach.Breach.{Breach}
 use Rattle.net_model.specs.declared.breach.Breach.TheVariants.{Service}
-use Rattle.net_model.specs.declared.server.Server.{Server}
-use Rattle.net_model.specs.declared.server.ServiceKind.{ServiceKind}
-use Rattle.net_model.specs.declared.server.ServiceKind.TheVariants.{Latency, Gate, Listed}
-use Rattle.net_model.specs.declared.trace.Stall.{Stall}
-use Rattle.net_model.specs.Networks.{Net, NetServer}
-use Rattle.net_model.specs.NetRoutes.{routes_of, server_for}
-use Rattle.net_model.specs.Traces.{SpecTrace, IsTrace}
-use Rattle.net_model.specs.Views.{server_of, servers_of}
-use Rattle.net_cells.specs.Numbered.{service, service_of}
-use Rattle.stated_runs.specs.FromTraces.{setup_of, stalls_at, IsTraceOf}
-use Rattle.stated_runs.specs.Simulated.{IsSimulated}
-use Rattle.stated_service.specs.Laws.{IsByFormula}
-use Rattle.stated_service.proofs.Kept.{servers_keep}
-use Rattle.first_breaches.specs.Kept.{KeepsCurve, AreKept}
+use Rattle.net_model.specs.Networks.{Net}
+use Rattle.net_model.specs.NetRoutes.{server_for}
 use Rattle.first_breaches.specs.Firsts.{TellsFirst, IsNetBreach}
 use Rattle.first_breaches.proofs.Parts.{have_curves, kept_is_not_slow}
 use Rattle.table_text.specs.Rows.{rows_of}
-use Rattle.command_replies.specs.Replies.{Reply}
-use Rattle.simulate_command.specs.Told.{is_by_formula, by_formula, less_stalled, open_servers}
-use Rattle.simulate_command.specs.OnTraces.{IsRunReport}
+use Rattle.simulated_findings.proofs.OpenServers.{keeps}
 use Rattle.simulate_command.specs.Laws.{OpenServersBreakNothing}
 use Rattle.simulate_command.proofs.Named.{named}
 use Rattle.simulate_command.proofs.Status.{law_of}
 
--- ---- what is told
--- a place that still holds true after a write of false is another one
-record IsUntouched (told : List Bool) (k s : ℕ) : Type 0 where
-  is : slice_get told s ≡ Some true
-  other : k ≡ s → ⊥
-
-untouched : (told : List Bool) (k s : ℕ) → slice_get (slice_set told k false) s ≡ Some true → IsUntouched told k s
-untouched [] k s h = absurd (cc)
-untouched (x ∷ xs) zero zero h = absurd (cc)
-untouched (x ∷ xs) zero (suc s) h = record { is = h; other = λ e. absurd (cc) }
-untouched (x ∷ xs) (suc k) zero h = record { is = h; other = λ e. absurd (cc) }
-untouched (x ∷ xs) (suc k) (suc s) h = let u = untouched xs k s h in record { is = u.is; other = λ e. u.other (cc) }
-
--- a server of which a true is left has no stall, and had the true
-record IsOpen (told : List Bool) (stalls : List Stall) (s : ℕ) : Type 0 where
-  is : slice_get told s ≡ Some true
-  free : stalls_at s stalls ≡ []
-
-open_at : (told : List Bool) (stalls : List Stall) (s : ℕ) → slice_get (less_stalled told stalls) s ≡ Some true → IsOpen told stalls s
-open_at told [] s h = record { is = h; free = refl }
-open_at told (x ∷ xs) s h =
-    let rest = open_at (slice_set told x.server false) xs s h in
-    let u = untouched told x.server s rest.is in
-    record { is = u.is; free = rw (ne_eqb x.server s u.other) rest.free }
-
-formula : (kind : ServiceKind) → is_by_formula kind ≡ true → IsByFormula kind
-formula (Latency latency) h = tt
-formula (Gate cycle slot) h = tt
-formula Listed h = absurd (cc)
-
-some_kind : (x : NetServer) (o : Option NetServer) → o ≡ Some x → option_map (λ (y : NetServer). is_by_formula y.kind) o ≡ Some true → is_by_formula x.kind ≡ true
-some_kind x o e h = let f : option_map (λ (y : NetServer). is_by_formula y.kind) o ≡ Some (is_by_formula x.kind) = ap (option_map (λ (y : NetServer). is_by_formula y.kind)) e in cc
-
--- ---- what they keep
-keeps : (net : Net) (trace : SpecTrace) (run : SpecRun) (s : ℕ) (x : NetServer) → IsAccepted net → IsTrace trace → IsTraceOf net trace → IsSimulated (setup_of net trace) run
-    → slice_get net.servers s ≡ Some x → IsByFormula x.kind → stalls_at s trace.stalls ≡ [] → KeepsCurve net run s
-keeps net trace run s x a t n is at kind free =
-    subst (λ (c : SpecCurve). KeepsService (value_at c) run.end (view (routes_of net) run s)) (ap service_of (sym at))
-    (servers_keep net trace run a t n is s x at kind free)
-
-pub open_are_kept : (net : Net) (trace : SpecTrace) (run : SpecRun) (told : List Bool) → IsAccepted net → IsTrace trace → IsTraceOf net trace → IsSimulated (setup_of net trace) run
-    → told ≡ open_servers net trace → AreKept net run told
-open_are_kept net trace run told a t n is e s l h =
-    let o = open_at (by_formula net.servers) trace.stalls s (ap (λ (v : List Bool). slice_get v s) (sym e) ∙ h) in
-    elim (slice_get_cases net.servers s).1 [
-      | inl p ↦
-          let kind = some_kind p.0 (slice_get net.servers s) p.2 (sym (slice_get-map (λ (y : NetServer). is_by_formula y.kind) net.servers s) ∙ o.is) in
-          keeps net trace run s p.0 a t n is p.2 (formula p.0.kind kind) o.free
-      | inr p ↦ let late = p.0 in absurd (omega arith)
-    ]
-
-pub told_of : (servers : List Server) → map (λ (s : Server). is_by_formula s.kind) servers ≡ by_formula (servers_of servers)
-told_of [] = refl
-told_of (x ∷ xs) = ap (λ (bs : List Bool). is_by_formula x.kind ∷ bs) (told_of xs)
-
--- as the code tells it
-pub told_fits : (net : Net) (trace : SpecTrace) (servers : List Server) (told : List Bool) (stalls : List Stall)
-    → servers_of servers ≡ net.servers → told ≡ map (λ (s : Server). is_by_formula s.kind) servers → stalls ≡ trace.stalls
-    → IsTraceOf net trace → All (λ (s : Stall). s.server < length told) stalls
-told_fits net trace servers told stalls e f g named =
-    let many : length told ≡ length net.servers =
-    ap length f ∙ length-map servers (λ (s : Server). is_by_formula s.kind) ∙ sym (length-map servers server_of) ∙ ap length e in
-    subst (All (λ (s : Stall). s.server < length told)) (sym g)
-    (subst (λ n. All (λ (s : Stall). s.server < n) trace.stalls) (sym many) named.servers)
-
-pub told_is : (net : Net) (trace : SpecTrace) (servers : List Server) (told : List Bool) (stalls : List Stall) (left : List Bool)
-    → servers_of servers ≡ net.servers → told ≡ map (λ (s : Server). is_by_formula s.kind) servers → stalls ≡ trace.stalls
-    → left ≡ less_stalled told stalls → left ≡ open_servers net trace
-told_is net trace servers told stalls left e f g h =
-    h ∙ ap (λ (bs : List Bool). less_stalled bs stalls) (f ∙ told_of servers ∙ ap by_formula e)
-    ∙ ap (less_stalled (by_formula net.servers)) g
-
--- ---- what they break
 pub open_servers_break_nothing : OpenServersBreakNothing
 open_servers_break_nothing net_bytes trace_bytes reply h s server at kind free a b =
     let A = h.analysed in
     let net = h.net in
     let run = h.report.run in
     let lawful = law_of net_bytes trace_bytes reply h in
-    let kept = keeps net h.trace run s server A.gives.accepted A.read.keeps (named net (rows_of trace_bytes) h.trace A.read.reads) h.report.finds.stated at kind free in
-    let inside = subst (λ (n : ℕ). s < n) (sym (length-map net.servers server_for)) (slice_get_within net.servers s server at) in
+    let names = named net (rows_of trace_bytes) h.trace A.read.reads in
+    let kept = keeps net h.trace run s server A.gives.accepted A.read.keeps names h.report.stated at kind free in
+    let known = slice_get_within net.servers s server at in
+    let inside = subst (λ (n : ℕ). s < n) (sym (length-map net.servers server_for)) known in
     let serves = (have_curves net A.gives.accepted A.curves.services).servers s inside in
     let none : ¬ IsNetBreach net run (Service s a b) = kept_is_not_slow net run s a b lawful serves kept in
-    (none, λ e. none (told net run h.report.found.breach (Service s a b) e h.report.finds.breach))
+    (none, λ e. none (told net run h.report.tells.found.breach (Service s a b) e h.report.tells.finds.breach))
   where
-    told : (net : Net) (run : SpecRun) (o : Option Breach) (x : Breach) → o ≡ Some x → TellsFirst net run o → IsNetBreach net run x
+    told : (net : Net) (run : SpecRun) (o : Option Breach) (x : Breach) → o ≡ Some x → TellsFirst net run o
+        → IsNetBreach net run x
     told net run o x e h = let k : TellsFirst net run (Some x) = subst (TellsFirst net run) e h in k.is

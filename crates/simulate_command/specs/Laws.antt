@@ -1,14 +1,10 @@
 -- What holds of the replies on a network and a trace.
-use Rattle.std.specs.Prelude.{◌≡◌, ◌≢◌, ◌<◌, ◌^◌, ◌↔◌, ◌⊎◌, ℕ, List, [], Some, slice_get}
+use Rattle.std.specs.Prelude.{◌≡◌, ◌≢◌, ◌<◌, ◌^◌, ◌⊎◌, ℕ, List, [], Some, slice_get}
 use Rattle.rational.specs.Rational.{ℚ}
-use Rattle.upp_curve.specs.Curve.{value_at}
 use Rattle.upp_limits.specs.declared.op_kind.OpFault.{OpFault}
 use Rattle.upp_limits.specs.declared.own_limits.OverLimit.TheVariants.{TooMany, TooWide}
-use Rattle.run_laws.specs.Runs.{SpecRun}
-use Rattle.run_laws.specs.RunPremises.{KeepsPremises}
 use Rattle.net_model.specs.declared.breach.Breach.TheVariants.{Service}
 use Rattle.net_model.specs.Networks.{Net, NetServer}
-use Rattle.net_model.specs.NetRoutes.{routes_of}
 use Rattle.net_model.specs.Orders.{IsOrder}
 use Rattle.net_model.specs.Traces.{SpecTrace}
 use Rattle.net_model.specs.Walks.{IsFeedForward}
@@ -16,7 +12,6 @@ use Rattle.net_text.specs.Reading.{IsNetworkOf}
 use Rattle.net_text.specs.FoldLimits.{OverFold}
 use Rattle.net_cells.specs.declared.cell.Cell.{Cell}
 use Rattle.net_cells.specs.FirstOver.{FirstOver}
-use Rattle.net_cells.specs.Numbered.{packet, arrival, service}
 use Rattle.net_bounds.specs.NetRuns.{IsRunOf}
 use Rattle.sim_bounds.specs.Gauge.{simulation_gauge}
 use Rattle.stated_runs.specs.FromTraces.{stalls_at}
@@ -26,22 +21,12 @@ use Rattle.table_text.specs.Rows.{rows_of}
 use Rattle.table_text.specs.Traces.{IsTraceOf}
 use Rattle.command_replies.specs.Guarantee.{Guarantees}
 use Rattle.command_replies.specs.Replies.{Reply, AreSame}
+use Rattle.run_findings.specs.RunBounds.{AreWithinBounds}
+use Rattle.run_findings.specs.Statuses.{IsOfReport, StatusTells}
 use Rattle.simulate_command.specs.OnTraces.{IsMalformed, IsOverLimit, HasCycleBehind, IsSimulationOver}
 use Rattle.simulate_command.specs.OnTraces.{IsRunReport, IsRunReply}
-use Rattle.simulate_command.specs.RunBounds.{AreWithinBounds}
-use Rattle.simulate_command.specs.RunCounts.{IsOfReport}
 
 -- ---- reports
--- the run keeps each flow's longest packet and arrival curve, and each server's service curve
-abbrev pub Keeps : Net → SpecRun → Type 0
-Keeps net run =
-    KeepsPremises (routes_of net) (packet net) (λ i. value_at (arrival net i)) (λ s. value_at (service net s)) run
-
--- the status tells whether the run of a report keeps them
-pub record StatusTells (net : Net) (run : SpecRun) (status : ℕ) : Type 0 where
-  pub keeps : (status ≡ 0) ↔ Keeps net run
-  pub breaks : (status ≡ 9) ↔ (¬ Keeps net run)
-
 abbrev pub StatusTellsPremises : Type 0
 StatusTellsPremises =
     (net_bytes trace_bytes : List ℕ) (reply : Reply) (h : IsRunReport net_bytes trace_bytes reply)
@@ -53,13 +38,13 @@ OpenServersBreakNothing =
     (net_bytes trace_bytes : List ℕ) (reply : Reply) (h : IsRunReport net_bytes trace_bytes reply) (s : ℕ)
     (server : NetServer) → slice_get h.net.servers s ≡ Some server → IsByFormula server.kind
     → stalls_at s h.trace.stalls ≡ [] → (a b : ℚ)
-    → (¬ IsNetBreach h.net h.report.run (Service s a b)) × (h.report.found.breach ≢ Some (Service s a b))
+    → (¬ IsNetBreach h.net h.report.run (Service s a b)) × (h.report.tells.found.breach ≢ Some (Service s a b))
 
 -- a report without a breach is of a lawful run that keeps them: so no number of it is above its bound
 pub record IsQuietReport (net_bytes trace_bytes : List ℕ) (reply : Reply) : Type 0 where
   pub report : IsRunReport net_bytes trace_bytes reply
   pub is_run : IsRunOf report.net report.report.run
-  pub within : AreWithinBounds report.net report.at report.report.found
+  pub within : AreWithinBounds report.net report.at report.report.tells.found
 
 abbrev pub QuietRunsAreWithinBounds : Type 0
 QuietRunsAreWithinBounds =

@@ -1,7 +1,7 @@
 -- What is answered on the bytes of a network and of a trace of it: by the network's first fault; by the trace's first
 -- fault; by a cycle of the network, or by the order of its servers; by the first cell over a limit, or by a table of
 -- all cells; and by the simulation.
-use Rattle.std.specs.Prelude.{ℕ, List, ◌≡◌, ◌⊎◌}
+use Rattle.std.specs.Prelude.{ℕ, List, ◌⊎◌}
 use Rattle.upp_limits.specs.declared.own_limits.OverLimit.{OverLimit}
 use Rattle.net_model.specs.Networks.{Net}
 use Rattle.net_model.specs.Orders.{IsOrder}
@@ -17,7 +17,8 @@ use Rattle.table_text.specs.Rows.{rows_of}
 use Rattle.table_text.specs.Traces.{IsTraceOf}
 use Rattle.command_replies.specs.Replies.{Reply}
 use Rattle.command_replies.specs.OnFiles.{IsBroken, IsCurveOver, IsNetOf, IsBadTrace, HasCycle, IsCellOver}
-use Rattle.simulate_command.specs.Found.{IsTooWide, IsReportOn}
+use Rattle.report_text.specs.RunReport.{run_report_of}
+use Rattle.simulated_findings.specs.Found.{IsTooWide, IsReportBy, IsSimulationReplyBy}
 
 -- ---- traces
 -- the trace of a network that the rows of a file give, with all that a trace keeps
@@ -62,7 +63,7 @@ pub record IsRunReport (net_bytes trace_bytes : List ℕ) (reply : Reply) : Type
   pub trace : SpecTrace
   pub at : CellTable
   pub analysed : AreAnalysed net_bytes trace_bytes net trace at
-  pub report : IsReportOn net trace at reply
+  pub report : IsReportBy run_report_of net trace at reply
 
 -- ---- all of them
 -- the reply on files with these names and bytes
@@ -105,4 +106,4 @@ IsRunReplyOnTrace net trace reply =
 
 -- the reply on a network and a trace, beside this table: the simulation is over its gauge, or reported
 abbrev pub IsSimulationReply : Net → SpecTrace → CellTable → Reply → Type 0
-IsSimulationReply net trace at reply = IsTooWide net trace reply ⊎ IsReportOn net trace at reply
+IsSimulationReply = IsSimulationReplyBy run_report_of

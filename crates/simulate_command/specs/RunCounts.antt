@@ -1,8 +1,6 @@
 -- How many steps an answer on a network and a trace takes: an operator on curves takes one, and a simulation none.
-use Rattle.std.specs.Prelude.{◌≡◌, ◌⊎◌, ◌+◌, ◌≤◌, ℕ, List}
+use Rattle.std.specs.Prelude.{◌≡◌, ◌≤◌, ℕ, List}
 use Rattle.net_model.specs.Networks.{Net}
-use Rattle.net_model.specs.Orders.{IsOrder}
-use Rattle.net_model.specs.Walks.{IsCycle}
 use Rattle.net_draft.specs.Faults.{Fault}
 use Rattle.net_text.specs.Folds.{StepsAtMost}
 use Rattle.net_text.specs.Reading.{IsNetworkOf, FirstFault}
@@ -10,23 +8,11 @@ use Rattle.net_text.specs.FoldLimits.{OverFold}
 use Rattle.subadd_closure.specs.FoldWork.{fold_work}
 use Rattle.table_text.specs.declared.fault.TableKind.{TableKind}
 use Rattle.table_text.specs.Traces.{IsFirstFault}
-use Rattle.command_replies.specs.CellWork.{work_of_cells}
-
--- the status of a report: without a breach, or with one
-abbrev pub IsOfReport : ℕ → Type 0
-IsOfReport status = (status ≡ 0) ⊎ (status ≡ 9)
-
--- by a network with a trace: no more than the work of all cells, and exactly that where the answer is a report; none by
--- a cycle
-pub record CountsOnTrace (net : Net) (status old new : ℕ) : Type 0 where
-  pub rises : old ≤ new
-  pub most : (order : List ℕ) → IsOrder net order → new ≤ old + work_of_cells net order
-  pub report : IsOfReport status → (order : List ℕ) → IsOrder net order → new ≡ old + work_of_cells net order
-  pub round : (walk : List ℕ) → IsCycle net walk → new ≡ old
+use Rattle.run_findings.specs.CellCounts.{CountsOnCells}
 
 -- by a network and a file: those, and none by a fault of the trace
 pub record CountsOnNet (net : Net) (trace_bytes : List ℕ) (status old new : ℕ) : Type 0 where
-  pub cells : CountsOnTrace net status old new
+  pub cells : CountsOnCells net status old new
   pub refused : (kind : TableKind) (row : ℕ) → IsFirstFault net trace_bytes kind row → new ≡ old
 
 -- by two files: first no more than the operators of the folds of the network's closures, then those by its network,

@@ -2,12 +2,10 @@
 //! bounds, or to the line of a refusal.
 #![tactic(auto)]
 
-mod curves;
-mod found;
 mod laws;
 mod on_files;
 mod on_net;
-mod told;
+mod reported;
 
 pub use laws::{
     open_servers_break_nothing, quiet_runs_are_within_bounds, run_replies_are_complete,

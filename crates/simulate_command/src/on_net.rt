@@ -4,16 +4,16 @@ ghost use Rattle.std.specs.Prelude.{IfOk};
 ghost use Rattle.net_model.specs.Orders.{IsOrder};
 ghost use Rattle.stated_runs.specs.FromTraces.{IsTraceOf};
 ghost use Rattle.command_replies.specs.View.{reply_of, status_of};
+ghost use Rattle.run_findings.specs.CellCounts.{CountsOnCells};
 ghost use Rattle.simulate_command.specs.OnTraces.{IsRunReplyOnTrace};
-ghost use Rattle.simulate_command.specs.RunCounts.{CountsOnTrace};
 
-use crate::curves::keeps_curves;
-use crate::found::simulated;
+use crate::reported::simulated;
 use cell_table::AnalysisFault;
 use command_replies::{Answer, cell_too_many, cell_too_wide, goes_round};
 use flow_analysis::analyse;
 use net_graph::{GraphFault, order};
 use net_model::{Network, Trace};
+use run_findings::keeps_curves;
 use std::alloc::{AllocError, Global};
 use std::sync::ledger::Ledger;
 use steps::Steps;
@@ -29,7 +29,7 @@ fn in_order<L: Ledger>(
     requires order { IsOrder net.now order.now }
     requires named { IsTraceOf net.now trace.now }
     ensures reply { IfOk result (λ r. IsRunReplyOnTrace net.now trace.now (reply_of r)) }
-    ensures counts { CountsOnTrace net.now (status_of result) steps.old steps.new }
+    ensures counts { CountsOnCells net.now (status_of result) steps.old steps.new }
 {
     net.keeps();
     keeps_curves(net);
@@ -52,7 +52,7 @@ pub(crate) fn on_network<L: Ledger>(
 ) -> Result<Answer, AllocError>
     requires { IsTraceOf net.now trace.now }
     ensures reply { IfOk result (λ r. IsRunReplyOnTrace net.now trace.now (reply_of r)) }
-    ensures counts { CountsOnTrace net.now (status_of result) steps.old steps.new }
+    ensures counts { CountsOnCells net.now (status_of result) steps.old steps.new }
 {
     net.keeps();
     let _kept = trace.packets();

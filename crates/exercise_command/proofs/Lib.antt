@@ -1,0 +1,4 @@
+pub mod Replying
+pub mod OneReply
+pub mod Causes
+pub mod Within

@@ -1,0 +1,111 @@
+-- A summary without a breach shows no number above its bound; the largest bound of each holds for every run.
+use Rattle.std.proofs.Common.{◌≡◌, ℕ, ◌<◌, List, [], ◌∷◌, length, inl, sym, ap, subst, ◌∙◌}
+use Rattle.std.specs.Prelude.{IsTrue, Option, Some, None, is_some, slice_get}
+use Rattle.std.proofs.lemmas.Option.{slice_get-get_or}
+use Rattle.rational.specs.Rational.{ℚ}
+use Rattle.rational.specs.Extended.{Ext, ◌≤ₑ◌}
+use Rattle.rational.specs.declared.Extended.TheVariants.{Fin}
+use Rattle.rational.proofs.ExtendedOrder.{le_ext_trans}
+use Rattle.run_laws.specs.Delays.{AreAtMost}
+use Rattle.run_laws.specs.FlowDelays.{delays}
+use Rattle.run_laws.specs.Lawful.{IsLawful}
+use Rattle.net_model.specs.Accepted.{IsAccepted}
+use Rattle.net_model.specs.Networks.{Net}
+use Rattle.net_model.specs.NetRoutes.{routes_of}
+use Rattle.net_model.specs.Orders.{IsOrder}
+use Rattle.net_cells.specs.Equations.{MeetsEquations}
+use Rattle.net_cells.specs.Meanings.{CellTable}
+use Rattle.net_cells.specs.Numbered.{is_live}
+use Rattle.net_bounds.specs.NetRuns.{IsRunOf}
+use Rattle.net_bounds.proofs.Kept.{table_bounds_every_run}
+use Rattle.command_replies.specs.Replies.{Reply}
+use Rattle.run_findings.specs.RunBounds.{AreWithinBounds}
+use Rattle.run_findings.proofs.Bounded.{within}
+use Rattle.simulated_findings.proofs.Lawful.{lawful}
+use Rattle.run_findings.proofs.Reports.{tells}
+use Rattle.exercise_load.specs.Workloads.{network_of, trace_of}
+use Rattle.exercise_load.proofs.Stand.{workloads_stand, flow_at, flow_count}
+use Rattle.exercise_report.specs.Summary.{summary_of}
+use Rattle.exercise_report.specs.Largest.{largest_bound, largest_delay}
+use Rattle.exercise_report.proofs.LargestIs.{largest_bound_is, delays_below}
+use Rattle.exercise_command.specs.OnSeeds.{IsSummarised}
+use Rattle.exercise_command.specs.ExerciseLaws.{SummaryTellsPremises, IsQuietSummary, QuietSummariesAreWithinBounds}
+use Rattle.exercise_command.specs.ExerciseLaws.{BoundsEachDelay, SummariesGuarantee}
+use Rattle.exercise_command.proofs.Causes.{causes}
+
+-- ---- statuses
+law_of : (seed : ℕ) (reply : Reply) (h : IsSummarised seed reply) → IsLawful (routes_of (network_of seed)) h.report.run
+law_of seed reply h =
+    let s = workloads_stand seed in
+    lawful (network_of seed) (trace_of seed) h.report.run s.accepted s.keeps s.named h.report.stated
+
+pub status_tells : SummaryTellsPremises
+status_tells seed reply h =
+    tells (summary_of seed) (network_of seed) h.report.run (length (trace_of seed).packets) h.at reply
+    (law_of seed reply h) (workloads_stand seed).accepted h.analysed.curves h.report.tells
+
+-- ---- a quiet summary
+-- each flow of a workload is live
+all_live : (seed i : ℕ) → i < 24 → IsTrue (is_live (network_of seed) i)
+all_live seed i h = ap is_some (flow_at seed i None h)
+
+some_same : (x y : ℚ) → Some x ≡ Some y → x ≡ y
+some_same x y e = ap of e
+  where
+    of : Option ℚ → ℚ
+    of None = x
+    of (Some z) = z
+
+largest_within : (seed : ℕ) (reply : Reply) (h : IsSummarised seed reply)
+    → AreWithinBounds (network_of seed) h.at h.report.tells.found
+    → Fin (largest_delay h.report.tells.found.worst) ≤ₑ largest_bound (network_of seed) h.at
+largest_within seed reply h w =
+    let net = network_of seed in
+    let l = largest_bound_is net h.at in
+    let worst = h.report.tells.found.worst in
+    delays_below worst (largest_bound net h.at) l.from_zero
+    (λ x there.
+    let i = there.0 in
+    let inside : i < 24 =
+    subst (λ n. i < n) (flow_count seed) (subst (λ n. i < n) h.report.tells.finds.worst.as_many there.1) in
+    let live = all_live seed i inside in
+    let own = w.delays i live in
+    let shown : slice_get worst i ≡ Some x = slice_get-get_or worst i x there.1 ∙ ap Some there.2 in
+    let same : own.value ≡ x = some_same own.value x (sym own.is ∙ shown) in
+    let most = own.within in
+    le_ext_trans (Fin x) most.value (largest_bound net h.at) (subst (λ y. Fin y ≤ₑ most.value) same most.holds)
+    (l.above i most.value record { live = live; is = most.is }))
+
+quiet : (seed : ℕ) (reply : Reply) → IsSummarised seed reply → reply.status ≡ 0 → IsQuietSummary seed reply
+quiet seed reply h zero =
+    let is_run : IsRunOf (network_of seed) h.report.run =
+    record { lawful = law_of seed reply h; keeps = (status_tells seed reply h).keeps.0 zero } in
+    let a = h.analysed in
+    let w = within (network_of seed) a.order h.at h.report.run (length (trace_of seed).packets) h.report.tells.found
+    (workloads_stand seed).accepted a.ordered a.meets is_run h.report.tells.finds in
+    record { summary = h; is_run = is_run; within = w; largest = largest_within seed reply h w }
+
+pub quiet_summaries : QuietSummariesAreWithinBounds
+quiet_summaries seed reply h zero = quiet seed reply ((causes seed reply h).summary (inl zero)) zero
+
+-- ---- the guarantee
+at_most : (x y : Ext) (xs : List ℚ) → AreAtMost x xs → x ≤ₑ y → AreAtMost y xs
+at_most x y [] h l = tt
+at_most x y (z ∷ zs) h l = (le_ext_trans (Fin z) x y h.0 l, at_most x y zs h.1 l)
+
+each_delay : (net : Net) (order : List ℕ) (at : CellTable) → IsAccepted net → IsOrder net order → MeetsEquations net at
+    → BoundsEachDelay net at
+each_delay net order at a o meets run i is_run live =
+    let own = ((table_bounds_every_run net order at run a o meets is_run).paths i live).bound in
+    at_most own.value (largest_bound net at) (delays (routes_of net) run i) own.holds
+    ((largest_bound_is net at).above i own.value record { live = live; is = own.is })
+
+pub guarantee : SummariesGuarantee
+guarantee seed reply h =
+    let a = h.analysed in
+    let accepted = (workloads_stand seed).accepted in
+    record {
+      table = λ run is_run.
+          table_bounds_every_run (network_of seed) a.order h.at run accepted a.ordered a.meets is_run;
+      largest = each_delay (network_of seed) a.order h.at accepted a.ordered a.meets;
+    }

@@ -1,0 +1,2 @@
+pub mod OnSeeds
+pub mod ExerciseLaws

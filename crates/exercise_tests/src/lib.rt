@@ -1,0 +1,5 @@
+//! Tests of workloads.
+#![tactic(auto)]
+
+#[cfg(test)]
+mod workloads;
