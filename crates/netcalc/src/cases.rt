@@ -70,10 +70,7 @@ queue s1 0 delay 0 backlog 0
         // an_empty_file
         (
             "netcalc analyse n.toml",
-            &[(
-                "n.toml",
-                "",
-            )],
+            &[("n.toml", "")],
             0,
             "servers 0 flows 0\n",
         ),
@@ -286,10 +283,7 @@ show bucket(1, -1)
         // a_byte_that_is_not_plain
         (
             "netcalc curve s.curve",
-            &[(
-                "s.curve",
-                "rate bucket(1, 2)\nrate\tzero\n",
-            )],
+            &[("s.curve", "rate bucket(1, 2)\nrate\tzero\n")],
             1,
             "netcalc: s.curve: C1 line 2\n",
         ),
@@ -306,10 +300,7 @@ show bucket(1, -1)
         // a_kind_with_one_number
         (
             "netcalc curve s.curve",
-            &[(
-                "s.curve",
-                "show bucket(1)\n",
-            )],
+            &[("s.curve", "show bucket(1)\n")],
             1,
             "netcalc: s.curve: C2 line 1\n",
         ),
@@ -340,20 +331,14 @@ let a = zero
         // a_name_not_given
         (
             "netcalc curve s.curve",
-            &[(
-                "s.curve",
-                "value x at 1\n",
-            )],
+            &[("s.curve", "value x at 1\n")],
             1,
             "netcalc: s.curve: C6 line 1\n",
         ),
         // a_number_that_is_none
         (
             "netcalc curve s.curve",
-            &[(
-                "s.curve",
-                "show bucket(1, q)\n",
-            )],
+            &[("s.curve", "show bucket(1, q)\n")],
             1,
             "netcalc: s.curve: C3 line 1\n",
         ),
@@ -427,15 +412,7 @@ delay 880/3
             "netcalc: too wide: line 1\n",
         ),
         // an_empty_script
-        (
-            "netcalc curve s.curve",
-            &[(
-                "s.curve",
-                "",
-            )],
-            0,
-            "",
-        ),
+        ("netcalc curve s.curve", &[("s.curve", "")], 0, ""),
         // eight_lines
         (
             "netcalc curve s.curve",
@@ -592,12 +569,11 @@ fn edit_faults(rt: HostRuntime) -> Result<(), Fail> {
         // a_byte_that_is_not_plain
         (
             "netcalc edit n.toml e.csv",
-            &[(
-                "e.csv",
-                "undo\nrate,s1,2\t\n",
-            ), (
-                "n.toml",
-                r#"[[server]]
+            &[
+                ("e.csv", "undo\nrate,s1,2\t\n"),
+                (
+                    "n.toml",
+                    r#"[[server]]
 name = "s1"
 rate = 100
 service = { kind = "latency", latency = 10 }
@@ -607,19 +583,19 @@ packet = 12000
 arrival = { kind = "bucket", burst = 12000, rate = 10 }
 path = ["s1"]
 "#,
-            )],
+                ),
+            ],
             1,
             "netcalc: e.csv: T1 row 2\n",
         ),
         // a_cycle
         (
             "netcalc edit n.toml e.csv",
-            &[(
-                "e.csv",
-                "undo\n",
-            ), (
-                "n.toml",
-                r#"[[server]]
+            &[
+                ("e.csv", "undo\n"),
+                (
+                    "n.toml",
+                    r#"[[server]]
 name = "s1"
 rate = 100
 service = { kind = "latency", latency = 10 }
@@ -638,19 +614,19 @@ packet = 6000
 arrival = { kind = "bucket", burst = 6000, rate = 5 }
 path = ["s2", "s1"]
 "#,
-            )],
+                ),
+            ],
             8,
             "netcalc: cycle s1 s2 s1\n",
         ),
         // a_network_over_a_limit
         (
             "netcalc edit n.toml e.csv",
-            &[(
-                "e.csv",
-                "drop,f2\n",
-            ), (
-                "n.toml",
-                r#"[[server]]
+            &[
+                ("e.csv", "drop,f2\n"),
+                (
+                    "n.toml",
+                    r#"[[server]]
 name = "s1"
 rate = 100
 service = { kind = "latency", latency = 10 }
@@ -665,32 +641,26 @@ packet = 6000
 arrival = { kind = "bucket", burst = 6000, rate = "1/1180591620717411303425" }
 path = ["s1"]
 "#,
-            )],
+                ),
+            ],
             6,
             "netcalc: too wide: total s1 0\n",
         ),
         // a_network_that_breaks_a_rule_goes_first
         (
             "netcalc edit n.toml e.csv",
-            &[(
-                "e.csv",
-                "paint\n",
-            ), (
-                "n.toml",
-                "[[server",
-            )],
+            &[("e.csv", "paint\n"), ("n.toml", "[[server")],
             1,
             "netcalc: n.toml: M1\n",
         ),
         // a_path_with_two_spaces
         (
             "netcalc edit n.toml e.csv",
-            &[(
-                "e.csv",
-                "route,f1,s1  s1\n",
-            ), (
-                "n.toml",
-                r#"[[server]]
+            &[
+                ("e.csv", "route,f1,s1  s1\n"),
+                (
+                    "n.toml",
+                    r#"[[server]]
 name = "s1"
 rate = 100
 service = { kind = "latency", latency = 10 }
@@ -700,19 +670,19 @@ packet = 12000
 arrival = { kind = "bucket", burst = 12000, rate = 10 }
 path = ["s1"]
 "#,
-            )],
+                ),
+            ],
             1,
             "netcalc: e.csv: T4 row 1\n",
         ),
         // a_quantum_that_is_no_whole_number
         (
             "netcalc edit n.toml e.csv",
-            &[(
-                "e.csv",
-                "quantum,s1,0,1/2\n",
-            ), (
-                "n.toml",
-                r#"[[server]]
+            &[
+                ("e.csv", "quantum,s1,0,1/2\n"),
+                (
+                    "n.toml",
+                    r#"[[server]]
 name = "s1"
 rate = 100
 service = { kind = "latency", latency = 10 }
@@ -722,19 +692,19 @@ packet = 12000
 arrival = { kind = "bucket", burst = 12000, rate = 10 }
 path = ["s1"]
 "#,
-            )],
+                ),
+            ],
             1,
             "netcalc: e.csv: T4 row 1\n",
         ),
         // a_row_of_no_kind
         (
             "netcalc edit n.toml e.csv",
-            &[(
-                "e.csv",
-                "paint,s1\n",
-            ), (
-                "n.toml",
-                r#"[[server]]
+            &[
+                ("e.csv", "paint,s1\n"),
+                (
+                    "n.toml",
+                    r#"[[server]]
 name = "s1"
 rate = 100
 service = { kind = "latency", latency = 10 }
@@ -744,19 +714,19 @@ packet = 12000
 arrival = { kind = "bucket", burst = 12000, rate = 10 }
 path = ["s1"]
 "#,
-            )],
+                ),
+            ],
             1,
             "netcalc: e.csv: T2 row 1\n",
         ),
         // a_row_that_is_wrong_goes_before_a_cycle
         (
             "netcalc edit n.toml e.csv",
-            &[(
-                "e.csv",
-                "paint\n",
-            ), (
-                "n.toml",
-                r#"[[server]]
+            &[
+                ("e.csv", "paint\n"),
+                (
+                    "n.toml",
+                    r#"[[server]]
 name = "s1"
 rate = 100
 service = { kind = "latency", latency = 10 }
@@ -775,19 +745,19 @@ packet = 6000
 arrival = { kind = "bucket", burst = 6000, rate = 5 }
 path = ["s2", "s1"]
 "#,
-            )],
+                ),
+            ],
             1,
             "netcalc: e.csv: T2 row 1\n",
         ),
         // a_row_with_too_few_fields
         (
             "netcalc edit n.toml e.csv",
-            &[(
-                "e.csv",
-                "rate,s1\n",
-            ), (
-                "n.toml",
-                r#"[[server]]
+            &[
+                ("e.csv", "rate,s1\n"),
+                (
+                    "n.toml",
+                    r#"[[server]]
 name = "s1"
 rate = 100
 service = { kind = "latency", latency = 10 }
@@ -797,19 +767,19 @@ packet = 12000
 arrival = { kind = "bucket", burst = 12000, rate = 10 }
 path = ["s1"]
 "#,
-            )],
+                ),
+            ],
             1,
             "netcalc: e.csv: T3 row 1\n",
         ),
         // a_row_with_too_many_fields
         (
             "netcalc edit n.toml e.csv",
-            &[(
-                "e.csv",
-                "undo,s1\n",
-            ), (
-                "n.toml",
-                r#"[[server]]
+            &[
+                ("e.csv", "undo,s1\n"),
+                (
+                    "n.toml",
+                    r#"[[server]]
 name = "s1"
 rate = 100
 service = { kind = "latency", latency = 10 }
@@ -819,22 +789,25 @@ packet = 12000
 arrival = { kind = "bucket", burst = 12000, rate = 10 }
 path = ["s1"]
 "#,
-            )],
+                ),
+            ],
             1,
             "netcalc: e.csv: T3 row 1\n",
         ),
         // a_value_that_is_no_number
         (
             "netcalc edit n.toml e.csv",
-            &[(
-                "e.csv",
-                r#"undo
+            &[
+                (
+                    "e.csv",
+                    r#"undo
 
 rate,s1,1/0
 "#,
-            ), (
-                "n.toml",
-                r#"[[server]]
+                ),
+                (
+                    "n.toml",
+                    r#"[[server]]
 name = "s1"
 rate = 100
 service = { kind = "latency", latency = 10 }
@@ -844,19 +817,19 @@ packet = 12000
 arrival = { kind = "bucket", burst = 12000, rate = 10 }
 path = ["s1"]
 "#,
-            )],
+                ),
+            ],
             1,
             "netcalc: e.csv: T4 row 2\n",
         ),
         // an_empty_path
         (
             "netcalc edit n.toml e.csv",
-            &[(
-                "e.csv",
-                "route,f1,\n",
-            ), (
-                "n.toml",
-                r#"[[server]]
+            &[
+                ("e.csv", "route,f1,\n"),
+                (
+                    "n.toml",
+                    r#"[[server]]
 name = "s1"
 rate = 100
 service = { kind = "latency", latency = 10 }
@@ -866,7 +839,8 @@ packet = 12000
 arrival = { kind = "bucket", burst = 12000, rate = 10 }
 path = ["s1"]
 "#,
-            )],
+                ),
+            ],
             1,
             "netcalc: e.csv: T4 row 1\n",
         ),
@@ -910,12 +884,14 @@ fn edits(rt: HostRuntime) -> Result<(), Fail> {
         // a_cell_that_is_too_wide
         (
             "netcalc edit n.toml e.csv",
-            &[(
-                "e.csv",
-                "bucket,f1,12000,1/1329227995784915872903807060280344576\n",
-            ), (
-                "n.toml",
-                r#"[[server]]
+            &[
+                (
+                    "e.csv",
+                    "bucket,f1,12000,1/1329227995784915872903807060280344576\n",
+                ),
+                (
+                    "n.toml",
+                    r#"[[server]]
 name = "s1"
 rate = 100
 service = { kind = "latency", latency = 10 }
@@ -925,7 +901,8 @@ packet = 12000
 arrival = { kind = "bucket", burst = 12000, rate = 10 }
 path = ["s1"]
 "#,
-            )],
+                ),
+            ],
             0,
             r#"edit 1 refused too-wide queue-delay s1 0
 servers 1 flows 1
@@ -936,9 +913,10 @@ flow f1 tfa 130 sfa 130 bound 130
         // a_cell_with_too_many_pieces
         (
             "netcalc edit n.toml e.csv",
-            &[(
-                "e.csv",
-                r#"packet,f1,1
+            &[
+                (
+                    "e.csv",
+                    r#"packet,f1,1
 stair,f1,1000,0
 add,f2,1,1,0,s1
 stair,f2,1000001/1000,0
@@ -946,9 +924,10 @@ undo
 undo
 undo
 "#,
-            ), (
-                "n.toml",
-                r#"[[server]]
+                ),
+                (
+                    "n.toml",
+                    r#"[[server]]
 name = "s1"
 rate = 100
 service = { kind = "latency", latency = 10 }
@@ -958,7 +937,8 @@ packet = 12000
 arrival = { kind = "bucket", burst = 12000, rate = 10 }
 path = ["s1"]
 "#,
-            )],
+                ),
+            ],
             0,
             r#"edit 1 ok cells 1
 edit 2 ok cells 8
@@ -975,15 +955,17 @@ flow f1 tfa 130 sfa 130 bound 130
         // a_curve_that_is_too_wide
         (
             "netcalc edit n.toml e.csv",
-            &[(
-                "e.csv",
-                r#"stair,f1,1/1329227995784915872903807060280344576,0
+            &[
+                (
+                    "e.csv",
+                    r#"stair,f1,1/1329227995784915872903807060280344576,0
 rate,s1,1/1329227995784915872903807060280344577
 latency,s1,1/1329227995784915872903807060280344577
 "#,
-            ), (
-                "n.toml",
-                r#"[[server]]
+                ),
+                (
+                    "n.toml",
+                    r#"[[server]]
 name = "s1"
 rate = 100
 service = { kind = "latency", latency = 10 }
@@ -993,7 +975,8 @@ packet = 12000
 arrival = { kind = "bucket", burst = 12000, rate = 10 }
 path = ["s1"]
 "#,
-            )],
+                ),
+            ],
             0,
             r#"edit 1 refused too-wide in f1 0
 edit 2 refused too-wide queue-service s1 0
@@ -1006,16 +989,18 @@ flow f1 tfa 130 sfa 130 bound 130
         // a_dropped_flow_and_its_name
         (
             "netcalc edit n.toml e.csv",
-            &[(
-                "e.csv",
-                r#"drop,f1
+            &[
+                (
+                    "e.csv",
+                    r#"drop,f1
 bucket,f1,1,1
 drop,f1
 add,f1,12000,12000,10,s1
 "#,
-            ), (
-                "n.toml",
-                r#"[[server]]
+                ),
+                (
+                    "n.toml",
+                    r#"[[server]]
 name = "s1"
 rate = 100
 service = { kind = "latency", latency = 10 }
@@ -1025,7 +1010,8 @@ packet = 12000
 arrival = { kind = "bucket", burst = 12000, rate = 10 }
 path = ["s1"]
 "#,
-            )],
+                ),
+            ],
             0,
             r#"edit 1 ok cells 3
 edit 2 refused unknown-name f1
@@ -1039,12 +1025,11 @@ flow f1 tfa 130 sfa 130 bound 130
         // a_flow_dropped
         (
             "netcalc edit n.toml e.csv",
-            &[(
-                "e.csv",
-                "drop,f1\n",
-            ), (
-                "n.toml",
-                r#"[[server]]
+            &[
+                ("e.csv", "drop,f1\n"),
+                (
+                    "n.toml",
+                    r#"[[server]]
 name = "s1"
 rate = 100
 service = { kind = "latency", latency = 10 }
@@ -1058,7 +1043,8 @@ packet = 12000
 arrival = { kind = "bucket", burst = 12000, rate = 10 }
 path = ["s1", "s2"]
 "#,
-            )],
+                ),
+            ],
             0,
             r#"edit 1 ok cells 6
 servers 2 flows 0
@@ -1069,14 +1055,16 @@ queue s2 0 delay 0 backlog 0
         // a_flow_dropped_and_back
         (
             "netcalc edit n.toml e.csv",
-            &[(
-                "e.csv",
-                r#"drop,f1
+            &[
+                (
+                    "e.csv",
+                    r#"drop,f1
 undo
 "#,
-            ), (
-                "n.toml",
-                r#"[[server]]
+                ),
+                (
+                    "n.toml",
+                    r#"[[server]]
 name = "s1"
 rate = 100
 service = { kind = "latency", latency = 10 }
@@ -1090,7 +1078,8 @@ packet = 12000
 arrival = { kind = "bucket", burst = 12000, rate = 10 }
 path = ["s1", "s2"]
 "#,
-            )],
+                ),
+            ],
             0,
             r#"edit 1 ok cells 6
 edit 2 ok cells 0
@@ -1103,12 +1092,11 @@ flow f1 tfa 273 sfa 260 bound 260
         // a_link
         (
             "netcalc edit n.toml e.csv",
-            &[(
-                "e.csv",
-                "link,s2,5\n",
-            ), (
-                "n.toml",
-                r#"[[server]]
+            &[
+                ("e.csv", "link,s2,5\n"),
+                (
+                    "n.toml",
+                    r#"[[server]]
 name = "s1"
 rate = 100
 service = { kind = "latency", latency = 10 }
@@ -1122,7 +1110,8 @@ packet = 12000
 arrival = { kind = "bucket", burst = 12000, rate = 10 }
 path = ["s1", "s2"]
 "#,
-            )],
+                ),
+            ],
             0,
             r#"edit 1 ok cells 3
 servers 2 flows 1
@@ -1134,14 +1123,16 @@ flow f1 tfa 278 sfa 265 bound 265
         // a_name_that_is_taken
         (
             "netcalc edit n.toml e.csv",
-            &[(
-                "e.csv",
-                r#"add,f1,1,1,1,s1
+            &[
+                (
+                    "e.csv",
+                    r#"add,f1,1,1,1,s1
 add,f1,0,-1,-1,s1
 "#,
-            ), (
-                "n.toml",
-                r#"[[server]]
+                ),
+                (
+                    "n.toml",
+                    r#"[[server]]
 name = "s1"
 rate = 100
 service = { kind = "latency", latency = 10 }
@@ -1151,7 +1142,8 @@ packet = 12000
 arrival = { kind = "bucket", burst = 12000, rate = 10 }
 path = ["s1"]
 "#,
-            )],
+                ),
+            ],
             0,
             r#"edit 1 refused name-taken f1
 edit 2 refused name-taken f1
@@ -1163,14 +1155,16 @@ flow f1 tfa 130 sfa 130 bound 130
         // a_path_of_seventeen_hops
         (
             "netcalc edit n.toml e.csv",
-            &[(
-                "e.csv",
-                r#"route,f1,s0 s1 s2 s3 s4 s5 s6 s7 s8 s9 s10 s11 s12 s13 s14 s15 s16
+            &[
+                (
+                    "e.csv",
+                    r#"route,f1,s0 s1 s2 s3 s4 s5 s6 s7 s8 s9 s10 s11 s12 s13 s14 s15 s16
 add,f2,1,1,1,s0 s1 s2 s3 s4 s5 s6 s7 s8 s9 s10 s11 s12 s13 s14 s15 s16
 "#,
-            ), (
-                "n.toml",
-                r#"[[server]]
+                ),
+                (
+                    "n.toml",
+                    r#"[[server]]
 name = "s0"
 rate = 100
 service = { kind = "latency", latency = 10 }
@@ -1244,7 +1238,8 @@ packet = 12000
 arrival = { kind = "bucket", burst = 12000, rate = 10 }
 path = ["s0"]
 "#,
-            )],
+                ),
+            ],
             0,
             r#"edit 1 refused bad-value
 edit 2 refused bad-value
@@ -1272,18 +1267,20 @@ flow f1 tfa 130 sfa 130 bound 130
         // a_rate_a_flow_and_a_path_back
         (
             "netcalc edit n.toml e.csv",
-            &[(
-                "e.csv",
-                r#"rate,s1,200
+            &[
+                (
+                    "e.csv",
+                    r#"rate,s1,200
 add,f2,6000,6000,5,s2
 route,f2,s2 s1
 undo
 undo
 undo
 "#,
-            ), (
-                "n.toml",
-                r#"[[server]]
+                ),
+                (
+                    "n.toml",
+                    r#"[[server]]
 name = "s1"
 rate = 100
 service = { kind = "latency", latency = 10 }
@@ -1297,7 +1294,8 @@ packet = 12000
 arrival = { kind = "bucket", burst = 12000, rate = 10 }
 path = ["s1", "s2"]
 "#,
-            )],
+                ),
+            ],
             0,
             r#"edit 1 ok cells 18
 edit 2 ok cells 20
@@ -1314,12 +1312,11 @@ flow f1 tfa 273 sfa 260 bound 260
         // an_empty_list
         (
             "netcalc edit n.toml e.csv",
-            &[(
-                "e.csv",
-                "",
-            ), (
-                "n.toml",
-                r#"[[server]]
+            &[
+                ("e.csv", ""),
+                (
+                    "n.toml",
+                    r#"[[server]]
 name = "s1"
 rate = 100
 service = { kind = "latency", latency = 10 }
@@ -1329,7 +1326,8 @@ packet = 12000
 arrival = { kind = "bucket", burst = 12000, rate = 10 }
 path = ["s1"]
 "#,
-            )],
+                ),
+            ],
             0,
             r#"servers 1 flows 1
 queue s1 0 delay 130 backlog 13300
@@ -1339,9 +1337,10 @@ flow f1 tfa 130 sfa 130 bound 130
         // edits_of_each_kind
         (
             "netcalc edit n.toml e.csv",
-            &[(
-                "e.csv",
-                r#"rate,g,200
+            &[
+                (
+                    "e.csv",
+                    r#"rate,g,200
 latency,s1,20
 quantum,d,0,1
 quantum,d,1,16777216
@@ -1356,9 +1355,10 @@ undo
 undo
 undo
 "#,
-            ), (
-                "n.toml",
-                r#"[[server]]
+                ),
+                (
+                    "n.toml",
+                    r#"[[server]]
 name = "s1"
 rate = 100
 service = { kind = "latency", latency = 10 }
@@ -1389,7 +1389,8 @@ packet = 12000
 arrival = { kind = "bucket", burst = 12000, rate = 10 }
 path = ["d:1"]
 "#,
-            )],
+                ),
+            ],
             0,
             r#"edit 1 ok cells 3
 edit 2 ok cells 10
@@ -1419,9 +1420,10 @@ flow f2 tfa 490 sfa 490 bound 490
         // names_that_nothing_has
         (
             "netcalc edit n.toml e.csv",
-            &[(
-                "e.csv",
-                r#"rate,s9,1
+            &[
+                (
+                    "e.csv",
+                    r#"rate,s9,1
 drop,
 bucket,f9,1,1
 route,f9,s9
@@ -1431,9 +1433,10 @@ add,f1,1,1,1,s9
 quantum,s9,0,1
 undo
 "#,
-            ), (
-                "n.toml",
-                r#"[[server]]
+                ),
+                (
+                    "n.toml",
+                    r#"[[server]]
 name = "s1"
 rate = 100
 service = { kind = "latency", latency = 10 }
@@ -1443,7 +1446,8 @@ packet = 12000
 arrival = { kind = "bucket", burst = 12000, rate = 10 }
 path = ["s1"]
 "#,
-            )],
+                ),
+            ],
             0,
             r#"edit 1 refused unknown-name s9
 edit 2 refused unknown-name 
@@ -1462,9 +1466,10 @@ flow f1 tfa 130 sfa 130 bound 130
         // values_that_are_not_taken
         (
             "netcalc edit n.toml e.csv",
-            &[(
-                "e.csv",
-                r#"rate,s1,0
+            &[
+                (
+                    "e.csv",
+                    r#"rate,s1,0
 rate,g,-1
 latency,s1,-1
 latency,g,5
@@ -1496,9 +1501,10 @@ add,f3,1,1,1,s1 s1
 add,f3,1,1,1,d:2
 add,f3,12001,1,1,d
 "#,
-            ), (
-                "n.toml",
-                r#"[[server]]
+                ),
+                (
+                    "n.toml",
+                    r#"[[server]]
 name = "s1"
 rate = 100
 service = { kind = "latency", latency = 10 }
@@ -1529,7 +1535,8 @@ packet = 12000
 arrival = { kind = "bucket", burst = 12000, rate = 10 }
 path = ["d:1"]
 "#,
-            )],
+                ),
+            ],
             0,
             r#"edit 1 refused bad-value
 edit 2 refused bad-value
@@ -1880,10 +1887,7 @@ path = ["s9"]
         // not_toml
         (
             "netcalc analyse n.toml",
-            &[(
-                "n.toml",
-                "[[server",
-            )],
+            &[("n.toml", "[[server")],
             1,
             "netcalc: n.toml: M1\n",
         ),
@@ -1929,16 +1933,18 @@ path = ["s2", "s1"]
         // a_dropped_flow_and_back
         (
             "netcalc edit n.toml e.csv --json",
-            &[(
-                "e.csv",
-                r#"drop,f1
+            &[
+                (
+                    "e.csv",
+                    r#"drop,f1
 undo
 undo
 drop,f1
 "#,
-            ), (
-                "n.toml",
-                r#"[[server]]
+                ),
+                (
+                    "n.toml",
+                    r#"[[server]]
 name = "s1"
 rate = 100
 service = { kind = "latency", latency = 10 }
@@ -1952,7 +1958,8 @@ packet = 12000
 arrival = { kind = "bucket", burst = 12000, rate = 10 }
 path = ["s1", "s2"]
 "#,
-            )],
+                ),
+            ],
             0,
             "{\"edits\":[{\"cells\":6,\"ok\":true},{\"cells\":0,\"ok\":true},{\"ok\":false,\"refused\":\"nothing-to-undo\"},{\"cells\":6,\"ok\":true}],\"flows\":[],\"queues\":[{\"backlog\":\"0\",\"delay\":\"0\",\"queue\":0,\"server\":\"s1\"},{\"backlog\":\"0\",\"delay\":\"0\",\"queue\":0,\"server\":\"s2\"}]}\n",
         ),
@@ -2016,12 +2023,11 @@ path = ["s1"]
         // a_refused_edit
         (
             "netcalc edit n.toml e.csv --json",
-            &[(
-                "e.csv",
-                "rate,s9,1\n",
-            ), (
-                "n.toml",
-                r#"[[server]]
+            &[
+                ("e.csv", "rate,s9,1\n"),
+                (
+                    "n.toml",
+                    r#"[[server]]
 name = "s1"
 rate = 100
 service = { kind = "latency", latency = 10 }
@@ -2031,7 +2037,8 @@ packet = 12000
 arrival = { kind = "bucket", burst = 12000, rate = 10 }
 path = ["s1"]
 "#,
-            )],
+                ),
+            ],
             0,
             "{\"edits\":[{\"ok\":false,\"refused\":\"unknown-name s9\"}],\"flows\":[{\"bound\":\"130\",\"name\":\"f1\",\"sfa\":\"130\",\"tfa\":\"130\"}],\"queues\":[{\"backlog\":\"13300\",\"delay\":\"130\",\"queue\":0,\"server\":\"s1\"}]}\n",
         ),
@@ -2057,14 +2064,16 @@ path = ["s9"]
         // a_wrong_row
         (
             "netcalc edit n.toml e.csv --json",
-            &[(
-                "e.csv",
-                r#"undo
+            &[
+                (
+                    "e.csv",
+                    r#"undo
 rate,s1
 "#,
-            ), (
-                "n.toml",
-                r#"[[server]]
+                ),
+                (
+                    "n.toml",
+                    r#"[[server]]
 name = "s1"
 rate = 100
 service = { kind = "latency", latency = 10 }
@@ -2074,19 +2083,19 @@ packet = 12000
 arrival = { kind = "bucket", burst = 12000, rate = 10 }
 path = ["s1"]
 "#,
-            )],
+                ),
+            ],
             1,
             "netcalc: e.csv: T3 row 2\n",
         ),
         // an_edit_in_json_between
         (
             "netcalc edit n.toml --json e.csv",
-            &[(
-                "e.csv",
-                "rate,s9,1\n",
-            ), (
-                "n.toml",
-                r#"[[server]]
+            &[
+                ("e.csv", "rate,s9,1\n"),
+                (
+                    "n.toml",
+                    r#"[[server]]
 name = "s1"
 rate = 100
 service = { kind = "latency", latency = 10 }
@@ -2096,19 +2105,19 @@ packet = 12000
 arrival = { kind = "bucket", burst = 12000, rate = 10 }
 path = ["s1"]
 "#,
-            )],
+                ),
+            ],
             0,
             "{\"edits\":[{\"ok\":false,\"refused\":\"unknown-name s9\"}],\"flows\":[{\"bound\":\"130\",\"name\":\"f1\",\"sfa\":\"130\",\"tfa\":\"130\"}],\"queues\":[{\"backlog\":\"13300\",\"delay\":\"130\",\"queue\":0,\"server\":\"s1\"}]}\n",
         ),
         // an_edit_in_json_first
         (
             "netcalc edit --json n.toml e.csv",
-            &[(
-                "e.csv",
-                "rate,s9,1\n",
-            ), (
-                "n.toml",
-                r#"[[server]]
+            &[
+                ("e.csv", "rate,s9,1\n"),
+                (
+                    "n.toml",
+                    r#"[[server]]
 name = "s1"
 rate = 100
 service = { kind = "latency", latency = 10 }
@@ -2118,19 +2127,19 @@ packet = 12000
 arrival = { kind = "bucket", burst = 12000, rate = 10 }
 path = ["s1"]
 "#,
-            )],
+                ),
+            ],
             0,
             "{\"edits\":[{\"ok\":false,\"refused\":\"unknown-name s9\"}],\"flows\":[{\"bound\":\"130\",\"name\":\"f1\",\"sfa\":\"130\",\"tfa\":\"130\"}],\"queues\":[{\"backlog\":\"13300\",\"delay\":\"130\",\"queue\":0,\"server\":\"s1\"}]}\n",
         ),
         // an_edit_that_goes_round
         (
             "netcalc edit n.toml e.csv --json",
-            &[(
-                "e.csv",
-                "add,f2,12000,12000,10,s2 s1\n",
-            ), (
-                "n.toml",
-                r#"[[server]]
+            &[
+                ("e.csv", "add,f2,12000,12000,10,s2 s1\n"),
+                (
+                    "n.toml",
+                    r#"[[server]]
 name = "s1"
 rate = 100
 service = { kind = "latency", latency = 10 }
@@ -2144,27 +2153,22 @@ packet = 12000
 arrival = { kind = "bucket", burst = 12000, rate = 10 }
 path = ["s1", "s2"]
 "#,
-            )],
+                ),
+            ],
             0,
             "{\"edits\":[{\"ok\":false,\"refused\":\"cycle s1 s2 s1\"}],\"flows\":[{\"bound\":\"260\",\"name\":\"f1\",\"sfa\":\"260\",\"tfa\":\"273\"}],\"queues\":[{\"backlog\":\"13300\",\"delay\":\"130\",\"queue\":0,\"server\":\"s1\"},{\"backlog\":\"14600\",\"delay\":\"143\",\"queue\":0,\"server\":\"s2\"}]}\n",
         ),
         // an_empty_file
         (
             "netcalc analyse n.toml --json",
-            &[(
-                "n.toml",
-                "",
-            )],
+            &[("n.toml", "")],
             0,
             "{\"flows\":[],\"queues\":[]}\n",
         ),
         // at_curve
         (
             "netcalc curve --json s.curve",
-            &[(
-                "s.curve",
-                "",
-            )],
+            &[("s.curve", "")],
             2,
             "netcalc: usage: netcalc analyse NET [--json], edit NET EDITS [--json], simulate NET TRACE, exercise N, measure NET TRACE FLOW RATE, curve FILE\n",
         ),
@@ -2178,9 +2182,10 @@ path = ["s1", "s2"]
         // at_measure
         (
             "netcalc measure n.toml t.csv f1 1 --json",
-            &[(
-                "n.toml",
-                r#"[[server]]
+            &[
+                (
+                    "n.toml",
+                    r#"[[server]]
 name = "s1"
 rate = 100
 service = { kind = "latency", latency = 10 }
@@ -2190,19 +2195,19 @@ packet = 12000
 arrival = { kind = "bucket", burst = 12000, rate = 10 }
 path = ["s1"]
 "#,
-            ), (
-                "t.csv",
-                "",
-            )],
+                ),
+                ("t.csv", ""),
+            ],
             2,
             "netcalc: usage: netcalc analyse NET [--json], edit NET EDITS [--json], simulate NET TRACE, exercise N, measure NET TRACE FLOW RATE, curve FILE\n",
         ),
         // at_measure_first
         (
             "netcalc measure --json n.toml t.csv f1 1",
-            &[(
-                "n.toml",
-                r#"[[server]]
+            &[
+                (
+                    "n.toml",
+                    r#"[[server]]
 name = "s1"
 rate = 100
 service = { kind = "latency", latency = 10 }
@@ -2212,19 +2217,19 @@ packet = 12000
 arrival = { kind = "bucket", burst = 12000, rate = 10 }
 path = ["s1"]
 "#,
-            ), (
-                "t.csv",
-                "",
-            )],
+                ),
+                ("t.csv", ""),
+            ],
             2,
             "netcalc: usage: netcalc analyse NET [--json], edit NET EDITS [--json], simulate NET TRACE, exercise N, measure NET TRACE FLOW RATE, curve FILE\n",
         ),
         // at_simulate
         (
             "netcalc simulate n.toml t.csv --json",
-            &[(
-                "n.toml",
-                r#"[[server]]
+            &[
+                (
+                    "n.toml",
+                    r#"[[server]]
 name = "s1"
 rate = 100
 service = { kind = "latency", latency = 10 }
@@ -2234,10 +2239,9 @@ packet = 12000
 arrival = { kind = "bucket", burst = 12000, rate = 10 }
 path = ["s1"]
 "#,
-            ), (
-                "t.csv",
-                "",
-            )],
+                ),
+                ("t.csv", ""),
+            ],
             2,
             "netcalc: usage: netcalc analyse NET [--json], edit NET EDITS [--json], simulate NET TRACE, exercise N, measure NET TRACE FLOW RATE, curve FILE\n",
         ),
@@ -2320,17 +2324,19 @@ path = ["s1"]
         // names_that_are_escaped
         (
             "netcalc edit n.toml e.csv --json",
-            &[(
-                "e.csv",
-                r#"drop,"a""b"
+            &[
+                (
+                    "e.csv",
+                    r#"drop,"a""b"
 drop,a\b
 drop,a/b
 drop,"a b"
 drop,
 "#,
-            ), (
-                "n.toml",
-                r#"[[server]]
+                ),
+                (
+                    "n.toml",
+                    r#"[[server]]
 name = "s1"
 rate = 100
 service = { kind = "latency", latency = 10 }
@@ -2340,7 +2346,8 @@ packet = 12000
 arrival = { kind = "bucket", burst = 12000, rate = 10 }
 path = ["s1"]
 "#,
-            )],
+                ),
+            ],
             0,
             r#"{"edits":[{"ok":false,"refused":"unknown-name a\"b"},{"ok":false,"refused":"unknown-name a\\b"},{"ok":false,"refused":"unknown-name a/b"},{"ok":false,"refused":"unknown-name a b"},{"ok":false,"refused":"unknown-name "}],"flows":[{"bound":"130","name":"f1","sfa":"130","tfa":"130"}],"queues":[{"backlog":"13300","delay":"130","queue":0,"server":"s1"}]}
 "#,
@@ -2348,12 +2355,11 @@ path = ["s1"]
         // no_edits
         (
             "netcalc edit n.toml e.csv --json",
-            &[(
-                "e.csv",
-                "",
-            ), (
-                "n.toml",
-                r#"[[server]]
+            &[
+                ("e.csv", ""),
+                (
+                    "n.toml",
+                    r#"[[server]]
 name = "s1"
 rate = 100
 service = { kind = "latency", latency = 10 }
@@ -2363,7 +2369,8 @@ packet = 12000
 arrival = { kind = "bucket", burst = 12000, rate = 10 }
 path = ["s1"]
 "#,
-            )],
+                ),
+            ],
             0,
             "{\"edits\":[],\"flows\":[{\"bound\":\"130\",\"name\":\"f1\",\"sfa\":\"130\",\"tfa\":\"130\"}],\"queues\":[{\"backlog\":\"13300\",\"delay\":\"130\",\"queue\":0,\"server\":\"s1\"}]}\n",
         ),
@@ -2476,12 +2483,11 @@ path = ["s1"]
         // twice_at_edit
         (
             "netcalc edit --json n.toml e.csv --json",
-            &[(
-                "e.csv",
-                "",
-            ), (
-                "n.toml",
-                r#"[[server]]
+            &[
+                ("e.csv", ""),
+                (
+                    "n.toml",
+                    r#"[[server]]
 name = "s1"
 rate = 100
 service = { kind = "latency", latency = 10 }
@@ -2491,7 +2497,8 @@ packet = 12000
 arrival = { kind = "bucket", burst = 12000, rate = 10 }
 path = ["s1"]
 "#,
-            )],
+                ),
+            ],
             2,
             "netcalc: usage: netcalc analyse NET [--json], edit NET EDITS [--json], simulate NET TRACE, exercise N, measure NET TRACE FLOW RATE, curve FILE\n",
         ),
@@ -2753,9 +2760,10 @@ fn measures(rt: HostRuntime) -> Result<(), Fail> {
         // a_breach_is_measured_too
         (
             "netcalc measure n.toml t.csv f1 10",
-            &[(
-                "n.toml",
-                r#"[[server]]
+            &[
+                (
+                    "n.toml",
+                    r#"[[server]]
 name = "s1"
 rate = 100
 service = { kind = "latency", latency = 10 }
@@ -2766,12 +2774,14 @@ packet = 12000
 arrival = { kind = "bucket", burst = 12000, rate = 10 }
 path = ["s1"]
 "#,
-            ), (
-                "t.csv",
-                r#"packet,0,f1,12000
+                ),
+                (
+                    "t.csv",
+                    r#"packet,0,f1,12000
 packet,0,f1,12000
 "#,
-            )],
+                ),
+            ],
             0,
             r#"flow f1 packets 2
 step 0 24000
@@ -2781,9 +2791,10 @@ burst 24000 rate 10
         // a_curve_too_wide
         (
             "netcalc measure n.toml t.csv f9 1",
-            &[(
-                "n.toml",
-                r#"[[server]]
+            &[
+                (
+                    "n.toml",
+                    r#"[[server]]
 name = "s1"
 rate = 100
 service = { kind = "latency", latency = 10 }
@@ -2793,19 +2804,19 @@ packet = 12000
 arrival = { kind = "stair", period = "1/1329227995784915872903807060280344576", jitter = 0 }
 path = ["s1"]
 "#,
-            ), (
-                "t.csv",
-                "packet,0,f9,4000\n",
-            )],
+                ),
+                ("t.csv", "packet,0,f9,4000\n"),
+            ],
             6,
             "netcalc: too wide: curve flow[0].arrival\n",
         ),
         // a_cycle_is_no_matter
         (
             "netcalc measure n.toml t.csv f1 10",
-            &[(
-                "n.toml",
-                r#"[[server]]
+            &[
+                (
+                    "n.toml",
+                    r#"[[server]]
 name = "s1"
 rate = 100
 service = { kind = "latency", latency = 10 }
@@ -2824,12 +2835,14 @@ packet = 6000
 arrival = { kind = "bucket", burst = 6000, rate = 5 }
 path = ["s2", "s1"]
 "#,
-            ), (
-                "t.csv",
-                r#"packet,0,f1,100
+                ),
+                (
+                    "t.csv",
+                    r#"packet,0,f1,100
 packet,2,f1,100
 "#,
-            )],
+                ),
+            ],
             0,
             r#"flow f1 packets 2
 step 0 100
@@ -2840,9 +2853,10 @@ burst 180 rate 10
         // a_flow_that_begins_as_a_flag_does
         (
             "netcalc measure n.toml t.csv -f1 1",
-            &[(
-                "n.toml",
-                r#"[[server]]
+            &[
+                (
+                    "n.toml",
+                    r#"[[server]]
 name = "s1"
 rate = 100
 service = { kind = "latency", latency = 10 }
@@ -2853,23 +2867,26 @@ packet = 12000
 arrival = { kind = "bucket", burst = 12000, rate = 10 }
 path = ["s1"]
 "#,
-            ), (
-                "t.csv",
-                r#"packet,0,f1,4000
+                ),
+                (
+                    "t.csv",
+                    r#"packet,0,f1,4000
 packet,10,f1,4000
 packet,10,f1,2000
 packet,30,f1,6000
 "#,
-            )],
+                ),
+            ],
             2,
             "netcalc: usage: netcalc analyse NET [--json], edit NET EDITS [--json], simulate NET TRACE, exercise N, measure NET TRACE FLOW RATE, curve FILE\n",
         ),
         // a_rate_below_0
         (
             "netcalc measure n.toml t.csv f1 -1",
-            &[(
-                "n.toml",
-                r#"[[server]]
+            &[
+                (
+                    "n.toml",
+                    r#"[[server]]
 name = "s1"
 rate = 100
 service = { kind = "latency", latency = 10 }
@@ -2880,23 +2897,26 @@ packet = 12000
 arrival = { kind = "bucket", burst = 12000, rate = 10 }
 path = ["s1"]
 "#,
-            ), (
-                "t.csv",
-                r#"packet,0,f1,4000
+                ),
+                (
+                    "t.csv",
+                    r#"packet,0,f1,4000
 packet,10,f1,4000
 packet,10,f1,2000
 packet,30,f1,6000
 "#,
-            )],
+                ),
+            ],
             2,
             "netcalc: usage: netcalc analyse NET [--json], edit NET EDITS [--json], simulate NET TRACE, exercise N, measure NET TRACE FLOW RATE, curve FILE\n",
         ),
         // a_rate_of_0
         (
             "netcalc measure n.toml t.csv f1 0",
-            &[(
-                "n.toml",
-                r#"[[server]]
+            &[
+                (
+                    "n.toml",
+                    r#"[[server]]
 name = "s1"
 rate = 100
 service = { kind = "latency", latency = 10 }
@@ -2907,14 +2927,16 @@ packet = 12000
 arrival = { kind = "bucket", burst = 12000, rate = 10 }
 path = ["s1"]
 "#,
-            ), (
-                "t.csv",
-                r#"packet,0,f1,4000
+                ),
+                (
+                    "t.csv",
+                    r#"packet,0,f1,4000
 packet,10,f1,4000
 packet,10,f1,2000
 packet,30,f1,6000
 "#,
-            )],
+                ),
+            ],
             0,
             r#"flow f1 packets 4
 step 0 6000
@@ -2927,9 +2949,10 @@ burst 16000 rate 0
         // a_rate_past_all_numbers
         (
             "netcalc measure n.toml t.csv f1 170141183460469231731687303715884105728",
-            &[(
-                "n.toml",
-                r#"[[server]]
+            &[
+                (
+                    "n.toml",
+                    r#"[[server]]
 name = "s1"
 rate = 100
 service = { kind = "latency", latency = 10 }
@@ -2940,23 +2963,26 @@ packet = 12000
 arrival = { kind = "bucket", burst = 12000, rate = 10 }
 path = ["s1"]
 "#,
-            ), (
-                "t.csv",
-                r#"packet,0,f1,4000
+                ),
+                (
+                    "t.csv",
+                    r#"packet,0,f1,4000
 packet,10,f1,4000
 packet,10,f1,2000
 packet,30,f1,6000
 "#,
-            )],
+                ),
+            ],
             2,
             "netcalc: usage: netcalc analyse NET [--json], edit NET EDITS [--json], simulate NET TRACE, exercise N, measure NET TRACE FLOW RATE, curve FILE\n",
         ),
         // a_rate_that_is_a_fraction
         (
             "netcalc measure n.toml t.csv f1 0700/2",
-            &[(
-                "n.toml",
-                r#"[[server]]
+            &[
+                (
+                    "n.toml",
+                    r#"[[server]]
 name = "s1"
 rate = 100
 service = { kind = "latency", latency = 10 }
@@ -2967,14 +2993,16 @@ packet = 12000
 arrival = { kind = "bucket", burst = 12000, rate = 10 }
 path = ["s1"]
 "#,
-            ), (
-                "t.csv",
-                r#"packet,0,f1,1000
+                ),
+                (
+                    "t.csv",
+                    r#"packet,0,f1,1000
 packet,1/3,f1,1000
 packet,2/3,f1,2000
 packet,7/2,f1,1500
 "#,
-            )],
+                ),
+            ],
             0,
             r#"flow f1 packets 4
 step 0 2000
@@ -2988,9 +3016,10 @@ burst 4275 rate 350
         // a_rate_that_is_minus_0
         (
             "netcalc measure n.toml t.csv f1 -0",
-            &[(
-                "n.toml",
-                r#"[[server]]
+            &[
+                (
+                    "n.toml",
+                    r#"[[server]]
 name = "s1"
 rate = 100
 service = { kind = "latency", latency = 10 }
@@ -3001,23 +3030,26 @@ packet = 12000
 arrival = { kind = "bucket", burst = 12000, rate = 10 }
 path = ["s1"]
 "#,
-            ), (
-                "t.csv",
-                r#"packet,0,f1,4000
+                ),
+                (
+                    "t.csv",
+                    r#"packet,0,f1,4000
 packet,10,f1,4000
 packet,10,f1,2000
 packet,30,f1,6000
 "#,
-            )],
+                ),
+            ],
             2,
             "netcalc: usage: netcalc analyse NET [--json], edit NET EDITS [--json], simulate NET TRACE, exercise N, measure NET TRACE FLOW RATE, curve FILE\n",
         ),
         // a_rate_that_is_none
         (
             "netcalc measure n.toml t.csv f1 1.5",
-            &[(
-                "n.toml",
-                r#"[[server]]
+            &[
+                (
+                    "n.toml",
+                    r#"[[server]]
 name = "s1"
 rate = 100
 service = { kind = "latency", latency = 10 }
@@ -3028,23 +3060,26 @@ packet = 12000
 arrival = { kind = "bucket", burst = 12000, rate = 10 }
 path = ["s1"]
 "#,
-            ), (
-                "t.csv",
-                r#"packet,0,f1,4000
+                ),
+                (
+                    "t.csv",
+                    r#"packet,0,f1,4000
 packet,10,f1,4000
 packet,10,f1,2000
 packet,30,f1,6000
 "#,
-            )],
+                ),
+            ],
             2,
             "netcalc: usage: netcalc analyse NET [--json], edit NET EDITS [--json], simulate NET TRACE, exercise N, measure NET TRACE FLOW RATE, curve FILE\n",
         ),
         // a_rate_that_is_too_wide
         (
             "netcalc measure n.toml t.csv f1 1329227995784915872903807060280344576",
-            &[(
-                "n.toml",
-                r#"[[server]]
+            &[
+                (
+                    "n.toml",
+                    r#"[[server]]
 name = "s1"
 rate = 100
 service = { kind = "latency", latency = 10 }
@@ -3055,23 +3090,26 @@ packet = 12000
 arrival = { kind = "bucket", burst = 12000, rate = 10 }
 path = ["s1"]
 "#,
-            ), (
-                "t.csv",
-                r#"packet,0,f1,4000
+                ),
+                (
+                    "t.csv",
+                    r#"packet,0,f1,4000
 packet,10,f1,4000
 packet,10,f1,2000
 packet,30,f1,6000
 "#,
-            )],
+                ),
+            ],
             6,
             "netcalc: too wide: burst\n",
         ),
         // a_rate_with_a_part_of_0
         (
             "netcalc measure n.toml t.csv f1 1/0",
-            &[(
-                "n.toml",
-                r#"[[server]]
+            &[
+                (
+                    "n.toml",
+                    r#"[[server]]
 name = "s1"
 rate = 100
 service = { kind = "latency", latency = 10 }
@@ -3082,23 +3120,26 @@ packet = 12000
 arrival = { kind = "bucket", burst = 12000, rate = 10 }
 path = ["s1"]
 "#,
-            ), (
-                "t.csv",
-                r#"packet,0,f1,4000
+                ),
+                (
+                    "t.csv",
+                    r#"packet,0,f1,4000
 packet,10,f1,4000
 packet,10,f1,2000
 packet,30,f1,6000
 "#,
-            )],
+                ),
+            ],
             2,
             "netcalc: usage: netcalc analyse NET [--json], edit NET EDITS [--json], simulate NET TRACE, exercise N, measure NET TRACE FLOW RATE, curve FILE\n",
         ),
         // a_rule_goes_before_a_trace_fault
         (
             "netcalc measure n.toml t.csv f1 1",
-            &[(
-                "n.toml",
-                r#"[[server]]
+            &[
+                (
+                    "n.toml",
+                    r#"[[server]]
 name = "s1"
 rate = 0
 service = { kind = "latency", latency = 10 }
@@ -3109,19 +3150,19 @@ packet = 12000
 arrival = { kind = "bucket", burst = 12000, rate = 10 }
 path = ["s1"]
 "#,
-            ), (
-                "t.csv",
-                "packet,0,f9,4000\n",
-            )],
+                ),
+                ("t.csv", "packet,0,f9,4000\n"),
+            ],
             1,
             "netcalc: n.toml: M6 server[0].rate\n",
         ),
         // a_time_at_the_limit
         (
             "netcalc measure n.toml t.csv f1 1",
-            &[(
-                "n.toml",
-                r#"[[server]]
+            &[
+                (
+                    "n.toml",
+                    r#"[[server]]
 name = "s1"
 rate = 100
 service = { kind = "latency", latency = 10 }
@@ -3132,19 +3173,22 @@ packet = 12000
 arrival = { kind = "bucket", burst = 12000, rate = 10 }
 path = ["s1"]
 "#,
-            ), (
-                "t.csv",
-                "packet,1/10384593717069655257060992658440192,f1,1\n",
-            )],
+                ),
+                (
+                    "t.csv",
+                    "packet,1/10384593717069655257060992658440192,f1,1\n",
+                ),
+            ],
             6,
             "netcalc: too wide: measure\n",
         ),
         // a_time_below_the_limit
         (
             "netcalc measure n.toml t.csv f1 1",
-            &[(
-                "n.toml",
-                r#"[[server]]
+            &[
+                (
+                    "n.toml",
+                    r#"[[server]]
 name = "s1"
 rate = 100
 service = { kind = "latency", latency = 10 }
@@ -3155,10 +3199,12 @@ packet = 12000
 arrival = { kind = "bucket", burst = 12000, rate = 10 }
 path = ["s1"]
 "#,
-            ), (
-                "t.csv",
-                "packet,1/5192296858534827628530496329220096,f1,1\n",
-            )],
+                ),
+                (
+                    "t.csv",
+                    "packet,1/5192296858534827628530496329220096,f1,1\n",
+                ),
+            ],
             0,
             r#"flow f1 packets 1
 step 0 1
@@ -3168,9 +3214,10 @@ burst 1 rate 1
         // a_trace_fault_goes_before_an_unknown_flow
         (
             "netcalc measure n.toml t.csv f9 1",
-            &[(
-                "n.toml",
-                r#"[[server]]
+            &[
+                (
+                    "n.toml",
+                    r#"[[server]]
 name = "s1"
 rate = 100
 service = { kind = "latency", latency = 10 }
@@ -3181,19 +3228,19 @@ packet = 12000
 arrival = { kind = "bucket", burst = 12000, rate = 10 }
 path = ["s1"]
 "#,
-            ), (
-                "t.csv",
-                "packet,0,f9,4000\n",
-            )],
+                ),
+                ("t.csv", "packet,0,f9,4000\n"),
+            ],
             1,
             "netcalc: t.csv: T5 row 1\n",
         ),
         // a_window_that_holds_no_more_is_no_step
         (
             "netcalc measure n.toml t.csv f1 100",
-            &[(
-                "n.toml",
-                r#"[[server]]
+            &[
+                (
+                    "n.toml",
+                    r#"[[server]]
 name = "s1"
 rate = 100
 service = { kind = "latency", latency = 10 }
@@ -3204,13 +3251,15 @@ packet = 12000
 arrival = { kind = "bucket", burst = 12000, rate = 10 }
 path = ["s1"]
 "#,
-            ), (
-                "t.csv",
-                r#"packet,0,f1,6000
+                ),
+                (
+                    "t.csv",
+                    r#"packet,0,f1,6000
 packet,10,f1,1000
 packet,40,f1,6000
 "#,
-            )],
+                ),
+            ],
             0,
             r#"flow f1 packets 3
 step 0 6000
@@ -3222,9 +3271,10 @@ burst 9000 rate 100
         // a_word_too_many
         (
             "netcalc measure n.toml t.csv f1 1 1",
-            &[(
-                "n.toml",
-                r#"[[server]]
+            &[
+                (
+                    "n.toml",
+                    r#"[[server]]
 name = "s1"
 rate = 100
 service = { kind = "latency", latency = 10 }
@@ -3235,23 +3285,26 @@ packet = 12000
 arrival = { kind = "bucket", burst = 12000, rate = 10 }
 path = ["s1"]
 "#,
-            ), (
-                "t.csv",
-                r#"packet,0,f1,4000
+                ),
+                (
+                    "t.csv",
+                    r#"packet,0,f1,4000
 packet,10,f1,4000
 packet,10,f1,2000
 packet,30,f1,6000
 "#,
-            )],
+                ),
+            ],
             2,
             "netcalc: usage: netcalc analyse NET [--json], edit NET EDITS [--json], simulate NET TRACE, exercise N, measure NET TRACE FLOW RATE, curve FILE\n",
         ),
         // an_empty_trace
         (
             "netcalc measure n.toml t.csv f1 1",
-            &[(
-                "n.toml",
-                r#"[[server]]
+            &[
+                (
+                    "n.toml",
+                    r#"[[server]]
 name = "s1"
 rate = 100
 service = { kind = "latency", latency = 10 }
@@ -3262,10 +3315,9 @@ packet = 12000
 arrival = { kind = "bucket", burst = 12000, rate = 10 }
 path = ["s1"]
 "#,
-            ), (
-                "t.csv",
-                "",
-            )],
+                ),
+                ("t.csv", ""),
+            ],
             0,
             r#"flow f1 packets 0
 step 0 0
@@ -3275,9 +3327,10 @@ burst 0 rate 1
         // an_unknown_flow
         (
             "netcalc measure n.toml t.csv f9 1",
-            &[(
-                "n.toml",
-                r#"[[server]]
+            &[
+                (
+                    "n.toml",
+                    r#"[[server]]
 name = "s1"
 rate = 100
 service = { kind = "latency", latency = 10 }
@@ -3288,23 +3341,26 @@ packet = 12000
 arrival = { kind = "bucket", burst = 12000, rate = 10 }
 path = ["s1"]
 "#,
-            ), (
-                "t.csv",
-                r#"packet,0,f1,4000
+                ),
+                (
+                    "t.csv",
+                    r#"packet,0,f1,4000
 packet,10,f1,4000
 packet,10,f1,2000
 packet,30,f1,6000
 "#,
-            )],
+                ),
+            ],
             1,
             "netcalc: unknown flow f9\n",
         ),
         // four_packets
         (
             "netcalc measure n.toml t.csv f1 100",
-            &[(
-                "n.toml",
-                r#"[[server]]
+            &[
+                (
+                    "n.toml",
+                    r#"[[server]]
 name = "s1"
 rate = 100
 service = { kind = "latency", latency = 10 }
@@ -3315,14 +3371,16 @@ packet = 12000
 arrival = { kind = "bucket", burst = 12000, rate = 10 }
 path = ["s1"]
 "#,
-            ), (
-                "t.csv",
-                r#"packet,0,f1,4000
+                ),
+                (
+                    "t.csv",
+                    r#"packet,0,f1,4000
 packet,10,f1,4000
 packet,10,f1,2000
 packet,30,f1,6000
 "#,
-            )],
+                ),
+            ],
             0,
             r#"flow f1 packets 4
 step 0 6000
@@ -3335,9 +3393,10 @@ burst 13000 rate 100
         // four_packets_at_a_higher_rate
         (
             "netcalc measure n.toml t.csv f1 500",
-            &[(
-                "n.toml",
-                r#"[[server]]
+            &[
+                (
+                    "n.toml",
+                    r#"[[server]]
 name = "s1"
 rate = 100
 service = { kind = "latency", latency = 10 }
@@ -3348,14 +3407,16 @@ packet = 12000
 arrival = { kind = "bucket", burst = 12000, rate = 10 }
 path = ["s1"]
 "#,
-            ), (
-                "t.csv",
-                r#"packet,0,f1,4000
+                ),
+                (
+                    "t.csv",
+                    r#"packet,0,f1,4000
 packet,10,f1,4000
 packet,10,f1,2000
 packet,30,f1,6000
 "#,
-            )],
+                ),
+            ],
             0,
             r#"flow f1 packets 4
 step 0 6000
@@ -3368,9 +3429,10 @@ burst 6000 rate 500
         // no_rate
         (
             "netcalc measure n.toml t.csv f1",
-            &[(
-                "n.toml",
-                r#"[[server]]
+            &[
+                (
+                    "n.toml",
+                    r#"[[server]]
 name = "s1"
 rate = 100
 service = { kind = "latency", latency = 10 }
@@ -3381,14 +3443,16 @@ packet = 12000
 arrival = { kind = "bucket", burst = 12000, rate = 10 }
 path = ["s1"]
 "#,
-            ), (
-                "t.csv",
-                r#"packet,0,f1,4000
+                ),
+                (
+                    "t.csv",
+                    r#"packet,0,f1,4000
 packet,10,f1,4000
 packet,10,f1,2000
 packet,30,f1,6000
 "#,
-            )],
+                ),
+            ],
             2,
             "netcalc: usage: netcalc analyse NET [--json], edit NET EDITS [--json], simulate NET TRACE, exercise N, measure NET TRACE FLOW RATE, curve FILE\n",
         ),
@@ -3415,9 +3479,10 @@ path = ["s1"]
         // other_flows_do_not_count
         (
             "netcalc measure n.toml t.csv f2 100",
-            &[(
-                "n.toml",
-                r#"[[server]]
+            &[
+                (
+                    "n.toml",
+                    r#"[[server]]
 name = "s1"
 rate = 100
 service = { kind = "latency", latency = 10 }
@@ -3434,15 +3499,17 @@ packet = 6000
 arrival = { kind = "bucket", burst = 6000, rate = 5 }
 path = ["s1"]
 "#,
-            ), (
-                "t.csv",
-                r#"packet,0,f1,12000
+                ),
+                (
+                    "t.csv",
+                    r#"packet,0,f1,12000
 packet,1,f2,3000
 packet,5,f1,12000
 packet,6,f2,2000
 stall,s1,0,4
 "#,
-            )],
+                ),
+            ],
             0,
             r#"flow f2 packets 2
 step 0 3000
@@ -3453,9 +3520,10 @@ burst 4500 rate 100
         // packets_at_one_time
         (
             "netcalc measure n.toml t.csv f1 1",
-            &[(
-                "n.toml",
-                r#"[[server]]
+            &[
+                (
+                    "n.toml",
+                    r#"[[server]]
 name = "s1"
 rate = 100
 service = { kind = "latency", latency = 10 }
@@ -3466,13 +3534,15 @@ packet = 12000
 arrival = { kind = "bucket", burst = 12000, rate = 10 }
 path = ["s1"]
 "#,
-            ), (
-                "t.csv",
-                r#"packet,5,f1,4000
+                ),
+                (
+                    "t.csv",
+                    r#"packet,5,f1,4000
 packet,5,f1,2000
 packet,5,f1,1000
 "#,
-            )],
+                ),
+            ],
             0,
             r#"flow f1 packets 3
 step 0 7000
@@ -3482,9 +3552,10 @@ burst 7000 rate 1
         // times_that_are_too_wide
         (
             "netcalc measure n.toml t.csv f1 1",
-            &[(
-                "n.toml",
-                r#"[[server]]
+            &[
+                (
+                    "n.toml",
+                    r#"[[server]]
 name = "s1"
 rate = 100
 service = { kind = "latency", latency = 10 }
@@ -3495,14 +3566,16 @@ packet = 12000
 arrival = { kind = "bucket", burst = 12000, rate = 10 }
 path = ["s1"]
 "#,
-            ), (
-                "t.csv",
-                r#"packet,0,f1,8
+                ),
+                (
+                    "t.csv",
+                    r#"packet,0,f1,8
 packet,1/2305843009213693951,f1,8
 packet,1/2147483647,f1,8
 packet,10000000,f1,8
 "#,
-            )],
+                ),
+            ],
             6,
             "netcalc: too wide: measure\n",
         ),
@@ -3520,9 +3593,10 @@ fn runs(rt: HostRuntime) -> Result<(), Fail> {
         // a_byte_that_is_not_plain
         (
             "netcalc simulate n.toml t.csv",
-            &[(
-                "n.toml",
-                r#"[[server]]
+            &[
+                (
+                    "n.toml",
+                    r#"[[server]]
 name = "s1"
 rate = 100
 service = { kind = "latency", latency = 10 }
@@ -3533,19 +3607,19 @@ packet = 12000
 arrival = { kind = "bucket", burst = 12000, rate = 10 }
 path = ["s1"]
 "#,
-            ), (
-                "t.csv",
-                "packet,0,f1,1\t\n",
-            )],
+                ),
+                ("t.csv", "packet,0,f1,1\t\n"),
+            ],
             1,
             "netcalc: t.csv: T1 row 1\n",
         ),
         // a_cycle
         (
             "netcalc simulate n.toml t.csv",
-            &[(
-                "n.toml",
-                r#"[[server]]
+            &[
+                (
+                    "n.toml",
+                    r#"[[server]]
 name = "s1"
 rate = 100
 service = { kind = "latency", latency = 10 }
@@ -3567,19 +3641,19 @@ packet = 6000
 arrival = { kind = "bucket", burst = 6000, rate = 5 }
 path = ["s2", "s1"]
 "#,
-            ), (
-                "t.csv",
-                "packet,0,f1,1\n",
-            )],
+                ),
+                ("t.csv", "packet,0,f1,1\n"),
+            ],
             8,
             "netcalc: cycle s1 s2 s1\n",
         ),
         // a_gate_that_closes_on_a_packet
         (
             "netcalc simulate n.toml t.csv",
-            &[(
-                "n.toml",
-                r#"[[server]]
+            &[
+                (
+                    "n.toml",
+                    r#"[[server]]
 name = "g"
 rate = 100
 service = { kind = "gate", cycle = 1000, slot = 250 }
@@ -3590,10 +3664,9 @@ packet = 24000
 arrival = { kind = "stair", period = 1500, jitter = 0 }
 path = ["g"]
 "#,
-            ), (
-                "t.csv",
-                "packet,100,f,24000\n",
-            )],
+                ),
+                ("t.csv", "packet,100,f,24000\n"),
+            ],
             0,
             r#"servers 1 flows 1
 run packets 1 end 1090
@@ -3605,9 +3678,10 @@ breach none
         // a_gate_that_reaches_its_bound
         (
             "netcalc simulate n.toml t.csv",
-            &[(
-                "n.toml",
-                r#"[[server]]
+            &[
+                (
+                    "n.toml",
+                    r#"[[server]]
 name = "g"
 rate = 100
 service = { kind = "gate", cycle = 1000, slot = 250 }
@@ -3618,10 +3692,9 @@ packet = 24000
 arrival = { kind = "stair", period = 1500, jitter = 0 }
 path = ["g"]
 "#,
-            ), (
-                "t.csv",
-                "packet,250,f,24000\n",
-            )],
+                ),
+                ("t.csv", "packet,250,f,24000\n"),
+            ],
             0,
             r#"servers 1 flows 1
 run packets 1 end 1240
@@ -3633,9 +3706,10 @@ breach none
         // a_length_that_is_no_number
         (
             "netcalc simulate n.toml t.csv",
-            &[(
-                "n.toml",
-                r#"[[server]]
+            &[
+                (
+                    "n.toml",
+                    r#"[[server]]
 name = "s1"
 rate = 100
 service = { kind = "latency", latency = 10 }
@@ -3646,19 +3720,19 @@ packet = 12000
 arrival = { kind = "bucket", burst = 12000, rate = 10 }
 path = ["s1"]
 "#,
-            ), (
-                "t.csv",
-                "packet,0,f1,x\n",
-            )],
+                ),
+                ("t.csv", "packet,0,f1,x\n"),
+            ],
             1,
             "netcalc: t.csv: T4 row 1\n",
         ),
         // a_network_that_breaks_a_rule_goes_first
         (
             "netcalc simulate n.toml t.csv",
-            &[(
-                "n.toml",
-                r#"[[server]]
+            &[
+                (
+                    "n.toml",
+                    r#"[[server]]
 name = "s1"
 rate = 100
 service = { kind = "latency", latency = 10 }
@@ -3669,19 +3743,19 @@ packet = 0
 arrival = { kind = "bucket", burst = 12000, rate = 10 }
 path = ["s1"]
 "#,
-            ), (
-                "t.csv",
-                "pocket\n",
-            )],
+                ),
+                ("t.csv", "pocket\n"),
+            ],
             1,
             "netcalc: n.toml: M6 flow[0].packet\n",
         ),
         // a_packet_before_an_earlier_one
         (
             "netcalc simulate n.toml t.csv",
-            &[(
-                "n.toml",
-                r#"[[server]]
+            &[
+                (
+                    "n.toml",
+                    r#"[[server]]
 name = "s1"
 rate = 100
 service = { kind = "latency", latency = 10 }
@@ -3692,21 +3766,24 @@ packet = 12000
 arrival = { kind = "bucket", burst = 12000, rate = 10 }
 path = ["s1"]
 "#,
-            ), (
-                "t.csv",
-                r#"packet,5,f1,1
+                ),
+                (
+                    "t.csv",
+                    r#"packet,5,f1,1
 packet,4,f1,1
 "#,
-            )],
+                ),
+            ],
             1,
             "netcalc: t.csv: T6 row 2\n",
         ),
         // a_packet_one_bit_too_long
         (
             "netcalc simulate n.toml t.csv",
-            &[(
-                "n.toml",
-                r#"[[server]]
+            &[
+                (
+                    "n.toml",
+                    r#"[[server]]
 name = "s1"
 rate = 100
 service = { kind = "latency", latency = 10 }
@@ -3717,10 +3794,9 @@ packet = 12000
 arrival = { kind = "bucket", burst = 12000, rate = 10 }
 path = ["s1"]
 "#,
-            ), (
-                "t.csv",
-                "packet,0,f1,12001\n",
-            )],
+                ),
+                ("t.csv", "packet,0,f1,12001\n"),
+            ],
             9,
             r#"servers 1 flows 1
 run packets 1 end 12001/100
@@ -3732,9 +3808,10 @@ breach size f1 0
         // a_packet_that_enters_as_the_one_before_leaves
         (
             "netcalc simulate n.toml t.csv",
-            &[(
-                "n.toml",
-                r#"[[server]]
+            &[
+                (
+                    "n.toml",
+                    r#"[[server]]
 name = "s1"
 rate = 100
 service = { kind = "latency", latency = 10 }
@@ -3745,12 +3822,14 @@ packet = 12000
 arrival = { kind = "bucket", burst = 12000, rate = 100 }
 path = ["s1"]
 "#,
-            ), (
-                "t.csv",
-                r#"packet,0,f1,12000
+                ),
+                (
+                    "t.csv",
+                    r#"packet,0,f1,12000
 packet,120,f1,12000
 "#,
-            )],
+                ),
+            ],
             0,
             r#"servers 1 flows 1
 run packets 2 end 240
@@ -3762,9 +3841,10 @@ breach none
         // a_packet_under_way_is_not_broken_off
         (
             "netcalc simulate n.toml t.csv",
-            &[(
-                "n.toml",
-                r#"[[server]]
+            &[
+                (
+                    "n.toml",
+                    r#"[[server]]
 name = "s1"
 rate = 100
 service = { kind = "latency", latency = 10 }
@@ -3783,12 +3863,14 @@ packet = 6000
 arrival = { kind = "bucket", burst = 6000, rate = 5 }
 path = ["s1:0"]
 "#,
-            ), (
-                "t.csv",
-                r#"packet,0,f1,12000
+                ),
+                (
+                    "t.csv",
+                    r#"packet,0,f1,12000
 packet,1,f2,6000
 "#,
-            )],
+                ),
+            ],
             0,
             r#"servers 1 flows 2
 run packets 2 end 180
@@ -3802,9 +3884,10 @@ breach none
         // a_row_of_no_kind
         (
             "netcalc simulate n.toml t.csv",
-            &[(
-                "n.toml",
-                r#"[[server]]
+            &[
+                (
+                    "n.toml",
+                    r#"[[server]]
 name = "s1"
 rate = 100
 service = { kind = "latency", latency = 10 }
@@ -3815,19 +3898,19 @@ packet = 12000
 arrival = { kind = "bucket", burst = 12000, rate = 10 }
 path = ["s1"]
 "#,
-            ), (
-                "t.csv",
-                "pocket,0,f1,1\n",
-            )],
+                ),
+                ("t.csv", "pocket,0,f1,1\n"),
+            ],
             1,
             "netcalc: t.csv: T2 row 1\n",
         ),
         // a_row_with_too_few_fields
         (
             "netcalc simulate n.toml t.csv",
-            &[(
-                "n.toml",
-                r#"[[server]]
+            &[
+                (
+                    "n.toml",
+                    r#"[[server]]
 name = "s1"
 rate = 100
 service = { kind = "latency", latency = 10 }
@@ -3838,19 +3921,19 @@ packet = 12000
 arrival = { kind = "bucket", burst = 12000, rate = 10 }
 path = ["s1"]
 "#,
-            ), (
-                "t.csv",
-                "packet,0,f1\n",
-            )],
+                ),
+                ("t.csv", "packet,0,f1\n"),
+            ],
             1,
             "netcalc: t.csv: T3 row 1\n",
         ),
         // a_stall_of_10
         (
             "netcalc simulate n.toml t.csv",
-            &[(
-                "n.toml",
-                r#"[[server]]
+            &[
+                (
+                    "n.toml",
+                    r#"[[server]]
 name = "s1"
 rate = 100
 service = { kind = "latency", latency = 10 }
@@ -3861,12 +3944,14 @@ packet = 12000
 arrival = { kind = "bucket", burst = 12000, rate = 10 }
 path = ["s1"]
 "#,
-            ), (
-                "t.csv",
-                r#"packet,0,f1,12000
+                ),
+                (
+                    "t.csv",
+                    r#"packet,0,f1,12000
 stall,s1,0,10
 "#,
-            )],
+                ),
+            ],
             0,
             r#"servers 1 flows 1
 run packets 1 end 130
@@ -3878,9 +3963,10 @@ breach none
         // a_stall_of_11
         (
             "netcalc simulate n.toml t.csv",
-            &[(
-                "n.toml",
-                r#"[[server]]
+            &[
+                (
+                    "n.toml",
+                    r#"[[server]]
 name = "s1"
 rate = 100
 service = { kind = "latency", latency = 10 }
@@ -3891,12 +3977,14 @@ packet = 12000
 arrival = { kind = "bucket", burst = 12000, rate = 10 }
 path = ["s1"]
 "#,
-            ), (
-                "t.csv",
-                r#"packet,0,f1,12000
+                ),
+                (
+                    "t.csv",
+                    r#"packet,0,f1,12000
 stall,s1,0,11
 "#,
-            )],
+                ),
+            ],
             9,
             r#"servers 1 flows 1
 run packets 1 end 131
@@ -3908,9 +3996,10 @@ breach service s1 0 11
         // a_stall_of_an_unknown_server
         (
             "netcalc simulate n.toml t.csv",
-            &[(
-                "n.toml",
-                r#"[[server]]
+            &[
+                (
+                    "n.toml",
+                    r#"[[server]]
 name = "s1"
 rate = 100
 service = { kind = "latency", latency = 10 }
@@ -3921,21 +4010,24 @@ packet = 12000
 arrival = { kind = "bucket", burst = 12000, rate = 10 }
 path = ["s1"]
 "#,
-            ), (
-                "t.csv",
-                r#"packet,0,f1,1
+                ),
+                (
+                    "t.csv",
+                    r#"packet,0,f1,1
 stall,s9,0,1
 "#,
-            )],
+                ),
+            ],
             1,
             "netcalc: t.csv: T5 row 2\n",
         ),
         // a_stall_that_ends_where_it_begins
         (
             "netcalc simulate n.toml t.csv",
-            &[(
-                "n.toml",
-                r#"[[server]]
+            &[
+                (
+                    "n.toml",
+                    r#"[[server]]
 name = "s1"
 rate = 100
 service = { kind = "latency", latency = 10 }
@@ -3946,19 +4038,19 @@ packet = 12000
 arrival = { kind = "bucket", burst = 12000, rate = 10 }
 path = ["s1"]
 "#,
-            ), (
-                "t.csv",
-                "stall,s1,1,1\n",
-            )],
+                ),
+                ("t.csv", "stall,s1,1,1\n"),
+            ],
             1,
             "netcalc: t.csv: T4 row 1\n",
         ),
         // a_stall_that_ends_while_the_gate_is_closed
         (
             "netcalc simulate n.toml t.csv",
-            &[(
-                "n.toml",
-                r#"[[server]]
+            &[
+                (
+                    "n.toml",
+                    r#"[[server]]
 name = "g"
 rate = 100
 service = { kind = "gate", cycle = 1000, slot = 250 }
@@ -3969,12 +4061,14 @@ packet = 24000
 arrival = { kind = "stair", period = 1500, jitter = 0 }
 path = ["g"]
 "#,
-            ), (
-                "t.csv",
-                r#"packet,0,f,24000
+                ),
+                (
+                    "t.csv",
+                    r#"packet,0,f,24000
 stall,g,0,300
 "#,
-            )],
+                ),
+            ],
             9,
             r#"servers 1 flows 1
 run packets 1 end 1240
@@ -3986,9 +4080,10 @@ breach service g 0 1000
         // a_time_too_wide
         (
             "netcalc simulate n.toml t.csv",
-            &[(
-                "n.toml",
-                r#"[[server]]
+            &[
+                (
+                    "n.toml",
+                    r#"[[server]]
 name = "s1"
 rate = 100
 service = { kind = "latency", latency = 10 }
@@ -3999,19 +4094,22 @@ packet = 12000
 arrival = { kind = "bucket", burst = 12000, rate = 10 }
 path = ["s1"]
 "#,
-            ), (
-                "t.csv",
-                "packet,1/1329227995784915872903807060280344576,f1,12000\n",
-            )],
+                ),
+                (
+                    "t.csv",
+                    "packet,1/1329227995784915872903807060280344576,f1,12000\n",
+                ),
+            ],
             6,
             "netcalc: too wide: simulation\n",
         ),
         // a_trace_fault_goes_before_a_cycle
         (
             "netcalc simulate n.toml t.csv",
-            &[(
-                "n.toml",
-                r#"[[server]]
+            &[
+                (
+                    "n.toml",
+                    r#"[[server]]
 name = "s1"
 rate = 100
 service = { kind = "latency", latency = 10 }
@@ -4033,19 +4131,19 @@ packet = 6000
 arrival = { kind = "bucket", burst = 6000, rate = 5 }
 path = ["s2", "s1"]
 "#,
-            ), (
-                "t.csv",
-                "pocket\n",
-            )],
+                ),
+                ("t.csv", "pocket\n"),
+            ],
             1,
             "netcalc: t.csv: T2 row 1\n",
         ),
         // an_empty_trace
         (
             "netcalc simulate n.toml t.csv",
-            &[(
-                "n.toml",
-                r#"[[server]]
+            &[
+                (
+                    "n.toml",
+                    r#"[[server]]
 name = "s1"
 rate = 100
 service = { kind = "latency", latency = 10 }
@@ -4056,10 +4154,9 @@ packet = 12000
 arrival = { kind = "bucket", burst = 12000, rate = 10 }
 path = ["s1"]
 "#,
-            ), (
-                "t.csv",
-                "",
-            )],
+                ),
+                ("t.csv", ""),
+            ],
             0,
             r#"servers 1 flows 1
 run packets 0 end 0
@@ -4071,9 +4168,10 @@ breach none
         // an_unknown_flow
         (
             "netcalc simulate n.toml t.csv",
-            &[(
-                "n.toml",
-                r#"[[server]]
+            &[
+                (
+                    "n.toml",
+                    r#"[[server]]
 name = "s1"
 rate = 100
 service = { kind = "latency", latency = 10 }
@@ -4084,19 +4182,19 @@ packet = 12000
 arrival = { kind = "bucket", burst = 12000, rate = 10 }
 path = ["s1"]
 "#,
-            ), (
-                "t.csv",
-                "packet,0,f9,1\n",
-            )],
+                ),
+                ("t.csv", "packet,0,f9,1\n"),
+            ],
             1,
             "netcalc: t.csv: T5 row 1\n",
         ),
         // avionics
         (
             "netcalc simulate n.toml t.csv",
-            &[(
-                "n.toml",
-                r#"[[server]]
+            &[
+                (
+                    "n.toml",
+                    r#"[[server]]
 name = "sw1"
 rate = 100
 service = { kind = "latency", latency = 16 }
@@ -4124,13 +4222,15 @@ packet = 12000
 arrival = { kind = "stair", period = 4000, jitter = 0 }
 path = ["sw1", "sw2"]
 "#,
-            ), (
-                "t.csv",
-                r#"packet,0,a,4000
+                ),
+                (
+                    "t.csv",
+                    r#"packet,0,a,4000
 packet,0,b,8000
 packet,0,c,12000
 "#,
-            )],
+                ),
+            ],
             0,
             r#"servers 2 flows 3
 run packets 3 end 360
@@ -4145,9 +4245,10 @@ breach none
         // deficits_after_a_visit
         (
             "netcalc simulate n.toml t.csv",
-            &[(
-                "n.toml",
-                r#"[[server]]
+            &[
+                (
+                    "n.toml",
+                    r#"[[server]]
 name = "s1"
 rate = 100
 service = { kind = "latency", latency = 10 }
@@ -4166,13 +4267,15 @@ packet = 6000
 arrival = { kind = "bucket", burst = 6000, rate = 5 }
 path = ["s1:1"]
 "#,
-            ), (
-                "t.csv",
-                r#"packet,0,f1,12000
+                ),
+                (
+                    "t.csv",
+                    r#"packet,0,f1,12000
 packet,0,f1,12000
 packet,0,f2,6000
 "#,
-            )],
+                ),
+            ],
             9,
             r#"servers 1 flows 2
 run packets 3 end 300
@@ -4186,9 +4289,10 @@ breach arrival f1 0 1
         // deficits_in_turn
         (
             "netcalc simulate n.toml t.csv",
-            &[(
-                "n.toml",
-                r#"[[server]]
+            &[
+                (
+                    "n.toml",
+                    r#"[[server]]
 name = "s1"
 rate = 100
 service = { kind = "latency", latency = 10 }
@@ -4207,12 +4311,14 @@ packet = 6000
 arrival = { kind = "bucket", burst = 6000, rate = 5 }
 path = ["s1:1"]
 "#,
-            ), (
-                "t.csv",
-                r#"packet,0,f1,12000
+                ),
+                (
+                    "t.csv",
+                    r#"packet,0,f1,12000
 packet,0,f2,6000
 "#,
-            )],
+                ),
+            ],
             0,
             r#"servers 1 flows 2
 run packets 2 end 180
@@ -4226,9 +4332,10 @@ breach none
         // gates_whose_spans_do_not_cancel
         (
             "netcalc simulate n.toml t.csv",
-            &[(
-                "n.toml",
-                r#"[[server]]
+            &[
+                (
+                    "n.toml",
+                    r#"[[server]]
 name = "g1"
 rate = 1
 service = { kind = "gate", cycle = 1099511627792, slot = 1099511627791 }
@@ -4316,9 +4423,10 @@ packet = 1
 arrival = { kind = "bucket", burst = 1, rate = 0 }
 path = ["g8"]
 "#,
-            ), (
-                "t.csv",
-                r#"packet,0,f1,1
+                ),
+                (
+                    "t.csv",
+                    r#"packet,0,f1,1
 packet,0,f2,1
 packet,0,f3,1
 packet,0,f4,1
@@ -4327,7 +4435,8 @@ packet,0,f6,1
 packet,0,f7,1
 packet,0,f8,1
 "#,
-            )],
+                ),
+            ],
             6,
             "netcalc: too wide: simulation\n",
         ),
@@ -4374,9 +4483,10 @@ path = ["s1"]
         // sixteen_gates_whose_spans_cancel
         (
             "netcalc simulate n.toml t.csv",
-            &[(
-                "n.toml",
-                r#"[[server]]
+            &[
+                (
+                    "n.toml",
+                    r#"[[server]]
 name = "g1"
 rate = 1
 service = { kind = "gate", cycle = 1099511627792, slot = 1099511627791 }
@@ -4552,9 +4662,10 @@ packet = 1
 arrival = { kind = "bucket", burst = 1, rate = 0 }
 path = ["g16"]
 "#,
-            ), (
-                "t.csv",
-                r#"packet,0,f1,1
+                ),
+                (
+                    "t.csv",
+                    r#"packet,0,f1,1
 packet,0,f2,1
 packet,0,f3,1
 packet,0,f4,1
@@ -4571,7 +4682,8 @@ packet,0,f14,1
 packet,0,f15,1
 packet,0,f16,1
 "#,
-            )],
+                ),
+            ],
             0,
             r#"servers 16 flows 16
 run packets 16 end 1
@@ -4613,9 +4725,10 @@ breach none
         // the_first_flow_first
         (
             "netcalc simulate n.toml t.csv",
-            &[(
-                "n.toml",
-                r#"[[server]]
+            &[
+                (
+                    "n.toml",
+                    r#"[[server]]
 name = "s1"
 rate = 100
 service = { kind = "latency", latency = 10 }
@@ -4632,12 +4745,14 @@ packet = 6000
 arrival = { kind = "bucket", burst = 6000, rate = 5 }
 path = ["s1"]
 "#,
-            ), (
-                "t.csv",
-                r#"packet,0,f1,12000
+                ),
+                (
+                    "t.csv",
+                    r#"packet,0,f1,12000
 packet,0,f2,6000
 "#,
-            )],
+                ),
+            ],
             0,
             r#"servers 1 flows 2
 run packets 2 end 180
@@ -4650,9 +4765,10 @@ breach none
         // the_second_flow_first
         (
             "netcalc simulate n.toml t.csv",
-            &[(
-                "n.toml",
-                r#"[[server]]
+            &[
+                (
+                    "n.toml",
+                    r#"[[server]]
 name = "s1"
 rate = 100
 service = { kind = "latency", latency = 10 }
@@ -4669,12 +4785,14 @@ packet = 6000
 arrival = { kind = "bucket", burst = 6000, rate = 5 }
 path = ["s1"]
 "#,
-            ), (
-                "t.csv",
-                r#"packet,0,f2,6000
+                ),
+                (
+                    "t.csv",
+                    r#"packet,0,f2,6000
 packet,0,f1,12000
 "#,
-            )],
+                ),
+            ],
             0,
             r#"servers 1 flows 2
 run packets 2 end 180
@@ -4687,9 +4805,10 @@ breach none
         // the_urgent_queue_goes_first
         (
             "netcalc simulate n.toml t.csv",
-            &[(
-                "n.toml",
-                r#"[[server]]
+            &[
+                (
+                    "n.toml",
+                    r#"[[server]]
 name = "s1"
 rate = 100
 service = { kind = "latency", latency = 10 }
@@ -4708,12 +4827,14 @@ packet = 6000
 arrival = { kind = "bucket", burst = 6000, rate = 5 }
 path = ["s1:0"]
 "#,
-            ), (
-                "t.csv",
-                r#"packet,0,f1,12000
+                ),
+                (
+                    "t.csv",
+                    r#"packet,0,f1,12000
 packet,0,f2,6000
 "#,
-            )],
+                ),
+            ],
             0,
             r#"servers 1 flows 2
 run packets 2 end 180
@@ -4727,9 +4848,10 @@ breach none
         // three_packets_whose_neighbours_keep_the_curve
         (
             "netcalc simulate n.toml t.csv",
-            &[(
-                "n.toml",
-                r#"[[server]]
+            &[
+                (
+                    "n.toml",
+                    r#"[[server]]
 name = "s1"
 rate = 100
 service = { kind = "latency", latency = 10 }
@@ -4740,13 +4862,15 @@ packet = 12000
 arrival = { kind = "bucket", burst = 12000, rate = 10 }
 path = ["s1"]
 "#,
-            ), (
-                "t.csv",
-                r#"packet,0,f1,6000
+                ),
+                (
+                    "t.csv",
+                    r#"packet,0,f1,6000
 packet,100,f1,6000
 packet,200,f1,6000
 "#,
-            )],
+                ),
+            ],
             9,
             r#"servers 1 flows 1
 run packets 3 end 260
@@ -4758,9 +4882,10 @@ breach arrival f1 0 2
         // two_gates_whose_spans_cancel
         (
             "netcalc simulate n.toml t.csv",
-            &[(
-                "n.toml",
-                r#"[[server]]
+            &[
+                (
+                    "n.toml",
+                    r#"[[server]]
 name = "g1"
 rate = 1
 service = { kind = "gate", cycle = "1267650600228229401496703205377", slot = "1267650600228229401496703205376" }
@@ -4782,12 +4907,14 @@ packet = 1
 arrival = { kind = "bucket", burst = 1, rate = 0 }
 path = ["g2"]
 "#,
-            ), (
-                "t.csv",
-                r#"packet,0,f1,1
+                ),
+                (
+                    "t.csv",
+                    r#"packet,0,f1,1
 packet,0,f2,1
 "#,
-            )],
+                ),
+            ],
             0,
             r#"servers 2 flows 2
 run packets 2 end 1
@@ -4801,9 +4928,10 @@ breach none
         // two_hops_with_links
         (
             "netcalc simulate n.toml t.csv",
-            &[(
-                "n.toml",
-                r#"[[server]]
+            &[
+                (
+                    "n.toml",
+                    r#"[[server]]
 name = "s1"
 rate = 100
 service = { kind = "latency", latency = 10 }
@@ -4821,10 +4949,9 @@ packet = 12000
 arrival = { kind = "bucket", burst = 12000, rate = 10 }
 path = ["s1", "s2"]
 "#,
-            ), (
-                "t.csv",
-                "packet,0,f1,12000\n",
-            )],
+                ),
+                ("t.csv", "packet,0,f1,12000\n"),
+            ],
             0,
             r#"servers 2 flows 1
 run packets 1 end 245
@@ -4837,9 +4964,10 @@ breach none
         // two_packets_at_0
         (
             "netcalc simulate n.toml t.csv",
-            &[(
-                "n.toml",
-                r#"[[server]]
+            &[
+                (
+                    "n.toml",
+                    r#"[[server]]
 name = "s1"
 rate = 100
 service = { kind = "latency", latency = 10 }
@@ -4850,12 +4978,14 @@ packet = 12000
 arrival = { kind = "bucket", burst = 12000, rate = 10 }
 path = ["s1"]
 "#,
-            ), (
-                "t.csv",
-                r#"packet,0,f1,12000
+                ),
+                (
+                    "t.csv",
+                    r#"packet,0,f1,12000
 packet,0,f1,12000
 "#,
-            )],
+                ),
+            ],
             9,
             r#"servers 1 flows 1
 run packets 2 end 240
