@@ -1,4 +1,5 @@
--- Two replies on the same files are the same, but for the choice among cycles; within the limits they are reports.
+-- Two replies on the same files are the same, but for the choice among cycles; within the limits they are reports, and
+-- where the simulation alone is over its gauge, they tell that.
 use Rattle.std.proofs.Common.{◌≡◌, ℕ, ◌<◌, ◌≤◌, ◌^◌, List, inl, inr, refl, sym, ap, ◌∙◌, subst, arith}
 use Rattle.std.specs.Prelude.{◌⊎◌, Option, Some, None}
 use Rattle.upp_limits.specs.LimitTest.{fault_of}
@@ -21,18 +22,24 @@ use Rattle.table_text.specs.declared.fault.TableFault.{TableFault}
 use Rattle.table_text.specs.Rows.{rows_of}
 use Rattle.table_text.proofs.OneTrace.{trace_one, no_trace, fault_one}
 use Rattle.report_text.proofs.RunAgree.{one_run_report}
-use Rattle.command_replies.specs.Replies.{Reply, AreSame, table_fault_reply}
+use Rattle.command_replies.specs.Replies.{Reply, AreSame, table_fault_reply, too_wide_simulation}
 use Rattle.command_replies.proofs.FirstFaults.{says}
 use Rattle.command_replies.proofs.OneRefusal.{equal, OnFault, OnCycle, IsOver}
 use Rattle.command_replies.proofs.OneRefusal.{one_fault, no_network, one_cycle, one_over, no_answers}
 use Rattle.simulate_command.specs.Found.{status_by, run_report, IsReportOn, IsFoundIn}
-use Rattle.simulate_command.specs.OnTraces.{IsSimulationReply}
+use Rattle.simulate_command.specs.OnTraces.{IsRunReply, IsSimulationReply}
 use Rattle.simulate_command.specs.RunCounts.{IsOfReport}
-use Rattle.simulate_command.specs.Laws.{RepliesAreDetermined, IsWithinLimits, RepliesAreComplete}
+use Rattle.simulate_command.specs.Laws.{RepliesAreDetermined, RepliesAreComplete}
+use Rattle.simulate_command.specs.Laws.{HasNoCellOver, WideSimulationsAreTold}
 use Rattle.simulate_command.proofs.Lawful.{lawful}
 use Rattle.simulate_command.proofs.Named.{named}
 use Rattle.simulate_command.proofs.OneRun.{same_found}
 use Rattle.simulate_command.proofs.Sorted.{IsShown, OnOrder, OnBadTrace, OnTrace, OnNet, sorted}
+
+-- ---- what a simulation decides
+record IsSimulated (net : Net) (trace : SpecTrace) (reply : Reply) : Type 0 where
+  at : CellTable
+  simulated : IsSimulationReply net trace at reply
 
 -- ---- by a simulation
 apart : (a b : ℕ) → a < b → b ≤ a → ⊥
@@ -130,49 +137,69 @@ replies_are_determined net_file net_bytes trace_file trace_bytes x y h k =
     by_files net_file net_bytes trace_file trace_bytes x y (sorted net_file net_bytes trace_file trace_bytes x h)
     (sorted net_file net_bytes trace_file trace_bytes y k)
 
--- ---- within the limits
+-- ---- where no cell is over a limit, the simulation decides
+on_order : (net_bytes trace_bytes : List ℕ) (reply : Reply) (c : HasNoCellOver net_bytes trace_bytes) (order : List ℕ)
+    → IsOrder c.net order → IsOver c.net order reply ⊎ IsShown c.net c.trace order reply
+    → IsSimulated c.net c.trace reply
+on_order net_bytes trace_bytes reply c order o (inl h) = absurd (c.within order h.cell (fault_of h.limit) o h.first)
+on_order net_bytes trace_bytes reply c order o (inr h) = record { at = h.at; simulated = h.simulated }
+
+on_trace : (net_bytes trace_bytes : List ℕ) (reply : Reply) (c : HasNoCellOver net_bytes trace_bytes)
+    → OnCycle c.net reply ⊎ OnOrder c.net c.trace reply → IsSimulated c.net c.trace reply
+on_trace net_bytes trace_bytes reply c (inl h) =
+    let w = h.cycle in
+    absurd (c.feed_forward h.walk record { start = w.start; between = w.between; is = w.is; steps = w.steps })
+on_trace net_bytes trace_bytes reply c (inr h) = on_order net_bytes trace_bytes reply c h.order h.ordered h.on
+
+on_net : (net_bytes trace_file trace_bytes : List ℕ) (reply : Reply) (c : HasNoCellOver net_bytes trace_bytes)
+    → IsAccepted c.net → OnBadTrace c.net trace_file trace_bytes reply ⊎ OnTrace c.net trace_bytes reply
+    → IsSimulated c.net c.trace reply
+on_net net_bytes trace_file trace_bytes reply c a (inl h) =
+    absurd (no_trace c.net trace_bytes h.fault.kind h.fault.row c.trace a h.first c.rows)
+on_net net_bytes trace_file trace_bytes reply c a (inr h) =
+    let same : h.trace ≡ c.trace = trace_one c.net (rows_of trace_bytes) h.trace c.trace a h.read.reads c.rows in
+    on_trace net_bytes trace_bytes reply c (subst (λ t. OnCycle c.net reply ⊎ OnOrder c.net t reply) same h.on)
+
+on_files : (net_file net_bytes trace_file trace_bytes : List ℕ) (reply : Reply)
+    (c : HasNoCellOver net_bytes trace_bytes)
+    → OnFault net_file net_bytes reply ⊎ OnNet net_bytes trace_file trace_bytes reply → IsSimulated c.net c.trace reply
+on_files net_file net_bytes trace_file trace_bytes reply c (inl h) =
+    absurd (no_network net_file net_bytes reply c.net h c.reads)
+on_files net_file net_bytes trace_file trace_bytes reply c (inr h) =
+    let same = (says net_bytes).one_network h.net c.net h.gives.reads c.reads in
+    on_net net_bytes trace_file trace_bytes reply c (subst IsAccepted same h.gives.accepted)
+    (subst (λ net. OnBadTrace net trace_file trace_bytes reply ⊎ OnTrace net trace_bytes reply) same h.on)
+
+simulated : (net_file net_bytes trace_file trace_bytes : List ℕ) (reply : Reply)
+    (c : HasNoCellOver net_bytes trace_bytes) → IsRunReply net_file net_bytes trace_file trace_bytes reply
+    → IsSimulated c.net c.trace reply
+simulated net_file net_bytes trace_file trace_bytes reply c h =
+    on_files net_file net_bytes trace_file trace_bytes reply c
+    (sorted net_file net_bytes trace_file trace_bytes reply h)
+
+-- ---- below its gauge it is reported
 of_status : (breach : Option Breach) → IsOfReport (status_by breach)
 of_status None = inl refl
 of_status (Some x) = inr refl
 
-on_simulation : (net : Net) (trace : SpecTrace) (at : CellTable) (reply : Reply) → simulation_gauge net trace < 2 ^ 120
+is_reported : (net : Net) (trace : SpecTrace) (at : CellTable) (reply : Reply) → simulation_gauge net trace < 2 ^ 120
     → IsSimulationReply net trace at reply → IsOfReport reply.status
-on_simulation net trace at reply narrow (inl h) = absurd (apart (simulation_gauge net trace) (2 ^ 120) narrow h.over)
-on_simulation net trace at reply narrow (inr h) =
+is_reported net trace at reply narrow (inl h) = absurd (apart (simulation_gauge net trace) (2 ^ 120) narrow h.over)
+is_reported net trace at reply narrow (inr h) =
     subst IsOfReport (sym (ap (λ (r : Reply). r.status) h.is)) (of_status h.found.breach)
-
-on_order : (net_bytes trace_bytes : List ℕ) (reply : Reply) (w : IsWithinLimits net_bytes trace_bytes) (order : List ℕ)
-    → IsOrder w.net order → IsOver w.net order reply ⊎ IsShown w.net w.trace order reply → IsOfReport reply.status
-on_order net_bytes trace_bytes reply w order o (inl h) = absurd (w.within order h.cell (fault_of h.limit) o h.first)
-on_order net_bytes trace_bytes reply w order o (inr h) = on_simulation w.net w.trace h.at reply w.narrow h.simulated
-
-on_trace : (net_bytes trace_bytes : List ℕ) (reply : Reply) (w : IsWithinLimits net_bytes trace_bytes)
-    → OnCycle w.net reply ⊎ OnOrder w.net w.trace reply → IsOfReport reply.status
-on_trace net_bytes trace_bytes reply w (inl h) =
-    let c = h.cycle in
-    absurd (w.feed_forward h.walk record { start = c.start; between = c.between; is = c.is; steps = c.steps })
-on_trace net_bytes trace_bytes reply w (inr h) = on_order net_bytes trace_bytes reply w h.order h.ordered h.on
-
-on_net : (net_bytes trace_file trace_bytes : List ℕ) (reply : Reply) (w : IsWithinLimits net_bytes trace_bytes)
-    → IsAccepted w.net → OnBadTrace w.net trace_file trace_bytes reply ⊎ OnTrace w.net trace_bytes reply
-    → IsOfReport reply.status
-on_net net_bytes trace_file trace_bytes reply w a (inl h) =
-    absurd (no_trace w.net trace_bytes h.fault.kind h.fault.row w.trace a h.first w.rows)
-on_net net_bytes trace_file trace_bytes reply w a (inr h) =
-    let same : h.trace ≡ w.trace = trace_one w.net (rows_of trace_bytes) h.trace w.trace a h.read.reads w.rows in
-    on_trace net_bytes trace_bytes reply w (subst (λ t. OnCycle w.net reply ⊎ OnOrder w.net t reply) same h.on)
-
-on_files : (net_file net_bytes trace_file trace_bytes : List ℕ) (reply : Reply)
-    (w : IsWithinLimits net_bytes trace_bytes)
-    → OnFault net_file net_bytes reply ⊎ OnNet net_bytes trace_file trace_bytes reply → IsOfReport reply.status
-on_files net_file net_bytes trace_file trace_bytes reply w (inl h) =
-    absurd (no_network net_file net_bytes reply w.net h w.reads)
-on_files net_file net_bytes trace_file trace_bytes reply w (inr h) =
-    let same = (says net_bytes).one_network h.net w.net h.gives.reads w.reads in
-    on_net net_bytes trace_file trace_bytes reply w (subst IsAccepted same h.gives.accepted)
-    (subst (λ net. OnBadTrace net trace_file trace_bytes reply ⊎ OnTrace net trace_bytes reply) same h.on)
 
 pub replies_are_complete : RepliesAreComplete
 replies_are_complete net_file net_bytes trace_file trace_bytes reply w h =
-    on_files net_file net_bytes trace_file trace_bytes reply w
-    (sorted net_file net_bytes trace_file trace_bytes reply h)
+    let s = simulated net_file net_bytes trace_file trace_bytes reply w.cells h in
+    is_reported w.cells.net w.cells.trace s.at reply w.narrow s.simulated
+
+-- ---- else it is told as too wide
+is_told : (net : Net) (trace : SpecTrace) (at : CellTable) (reply : Reply) → 2 ^ 120 ≤ simulation_gauge net trace
+    → IsSimulationReply net trace at reply → reply ≡ too_wide_simulation
+is_told net trace at reply over (inl h) = h.is
+is_told net trace at reply over (inr h) = absurd (apart (simulation_gauge net trace) (2 ^ 120) h.narrow over)
+
+pub wide_simulations_are_told : WideSimulationsAreTold
+wide_simulations_are_told net_file net_bytes trace_file trace_bytes reply c over h =
+    let s = simulated net_file net_bytes trace_file trace_bytes reply c h in
+    is_told c.net c.trace s.at reply over s.simulated

@@ -1,5 +1,5 @@
 -- What holds of the replies on a network and a trace.
-use Rattle.std.specs.Prelude.{◌≡◌, ◌≢◌, ◌<◌, ◌^◌, ◌↔◌, ◌⊎◌, ℕ, List, [], Some, slice_get}
+use Rattle.std.specs.Prelude.{◌≡◌, ◌≢◌, ◌<◌, ◌≤◌, ◌^◌, ◌↔◌, ◌⊎◌, ℕ, List, [], Some, slice_get}
 use Rattle.rational.specs.Rational.{ℚ}
 use Rattle.upp_curve.specs.Curve.{value_at}
 use Rattle.upp_limits.specs.declared.op_kind.OpFault.{OpFault}
@@ -25,7 +25,7 @@ use Rattle.first_breaches.specs.Firsts.{IsNetBreach}
 use Rattle.table_text.specs.Rows.{rows_of}
 use Rattle.table_text.specs.Traces.{IsTraceOf}
 use Rattle.command_replies.specs.Guarantee.{Guarantees}
-use Rattle.command_replies.specs.Replies.{Reply, AreSame}
+use Rattle.command_replies.specs.Replies.{Reply, AreSame, too_wide_simulation}
 use Rattle.simulate_command.specs.OnTraces.{IsMalformed, IsOverLimit, HasCycleBehind, IsSimulationOver}
 use Rattle.simulate_command.specs.OnTraces.{IsRunReport, IsRunReply}
 use Rattle.simulate_command.specs.RunBounds.{AreWithinBounds}
@@ -97,19 +97,29 @@ RepliesAreDetermined =
     → IsRunReply net_file net_bytes trace_file trace_bytes x → IsRunReply net_file net_bytes trace_file trace_bytes y
     → AreSame x y
 
--- files that give a network without a cycle and a trace of it; by no order of its servers a cell is over a limit, nor
--- is the simulation over its gauge
-pub record IsWithinLimits (net_bytes trace_bytes : List ℕ) : Type 0 where
+-- files that give a network without a cycle and a trace of it; by no order of its servers a cell is over a limit
+pub record HasNoCellOver (net_bytes trace_bytes : List ℕ) : Type 0 where
   pub net : Net
   pub reads : IsNetworkOf OverFold net_bytes net
   pub trace : SpecTrace
   pub rows : IsTraceOf net (rows_of trace_bytes) trace
   pub feed_forward : IsFeedForward net
   pub within : (order : List ℕ) (c : Cell) (fault : OpFault) → IsOrder net order → ¬ (FirstOver net order c fault)
-  pub narrow : simulation_gauge net trace < 2 ^ 120
+
+-- nor is the simulation over its gauge
+pub record IsWithinLimits (net_bytes trace_bytes : List ℕ) : Type 0 where
+  pub cells : HasNoCellOver net_bytes trace_bytes
+  pub narrow : simulation_gauge cells.net cells.trace < 2 ^ 120
 
 -- their one reply is a report
 abbrev pub RepliesAreComplete : Type 0
 RepliesAreComplete =
     (net_file net_bytes trace_file trace_bytes : List ℕ) (reply : Reply) → IsWithinLimits net_bytes trace_bytes
     → IsRunReply net_file net_bytes trace_file trace_bytes reply → IsOfReport reply.status
+
+-- and where the simulation alone is over, it is that the simulation is too wide
+abbrev pub WideSimulationsAreTold : Type 0
+WideSimulationsAreTold =
+    (net_file net_bytes trace_file trace_bytes : List ℕ) (reply : Reply) (c : HasNoCellOver net_bytes trace_bytes)
+    → 2 ^ 120 ≤ simulation_gauge c.net c.trace → IsRunReply net_file net_bytes trace_file trace_bytes reply
+    → reply ≡ too_wide_simulation

@@ -3,6 +3,7 @@
 ghost use Rattle.simulate_command.specs.Laws.{StatusTellsPremises, OpenServersBreakNothing, QuietRunsAreWithinBounds};
 ghost use Rattle.simulate_command.specs.Laws.{ReportsGuarantee};
 ghost use Rattle.simulate_command.specs.Laws.{StatusesHaveCauses, RepliesAreDetermined, RepliesAreComplete};
+ghost use Rattle.simulate_command.specs.Laws.{WideSimulationsAreTold};
 
 /// The status of a report is 0 exactly where its run keeps packet sizes, arrival curves and service curves, and 9
 /// exactly where it does not.
@@ -44,4 +45,10 @@ pub fn run_replies_are_determined()
 /// other reply than a report, with status 0 or 9.
 pub fn run_replies_are_complete()
     ensures { RepliesAreComplete }
+{}
+
+/// Files that give a network without a cycle and a trace of it, with no cell over a limit and a simulation gauge of
+/// 2^120 or more, have no other reply than the one that tells that the simulation is too wide, with status 6.
+pub fn wide_simulations_are_told()
+    ensures { WideSimulationsAreTold }
 {}

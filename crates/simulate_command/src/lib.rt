@@ -12,6 +12,6 @@ mod told;
 pub use laws::{
     open_servers_break_nothing, quiet_runs_are_within_bounds, run_replies_are_complete,
     run_replies_are_determined, run_reports_guarantee, run_statuses_have_causes,
-    status_tells_premises,
+    status_tells_premises, wide_simulations_are_told,
 };
 pub use on_files::on_trace;
