@@ -98,6 +98,46 @@ RUNS = {
     "work without a reach": (TWO_HOPS, [*FIRST_HOP, "work,s2,0,125,126,1", "end,300"], 9, "verdict unlawful row 4 L5"),
 }
 
+STAIR = ONE_FLOW.replace("{ kind = \"bucket\", burst = 12000, rate = 10 }", '{ kind = "stair", period = 1000 }')
+GATE = """
+[[server]]
+name = "g"
+rate = 100
+service = { kind = "gate", cycle = 1000, slot = 250 }
+[[flow]]
+name = "f1"
+packet = 25000
+arrival = { kind = "stair", period = 1000, jitter = 4000 }
+path = ["g"]
+"""
+
+
+def at_times(bits: int, *times: int) -> list[str]:
+    return [f"packet,{time},f1,{bits}" for time in times]
+
+
+def worked_at_once(*times: int) -> list[str]:
+    """Packets of 12,000 bits that enter at these times of a run that ends with the last, each worked off as it can be."""
+    rows, free = [], 0
+    for number, time in enumerate(times):
+        rows.append((time, 0, f"enter,{time},f1,12000"))
+        start, free = max(time, free), max(time, free) + 120
+        if free <= times[-1]:
+            rows += [(start, 1, f"work,s1,{number},{start},{free},12000"), (free, 2, f"leave,{free},s1,{number}")]
+    return [row for _, _, row in sorted(rows, key=lambda it: it[:2])] + [f"end,{times[-1]}"]
+
+
+# Traces of stairs and gates: the network, the rows, the status, and the last line.
+TRACES = {
+    "a stair broken at a later pair": (STAIR, at_times(12000, 0, 1000, 2000, 2999), 9, "breach arrival f1 0 3"),
+    "a stair kept with a pause": (STAIR, at_times(12000, 0, 1000, 2000, 3500, 4500), 0, "breach none"),
+    "a stair kept by half packets": (STAIR, at_times(6000, 0, 0, 1000, 1000, 2000, 2000, 3000, 3000), 0, "breach none"),
+    "a gate that stalls early": (GATE, at_times(25000, 0, 0, 0, 0, 0) + ["stall,g,0,100"], 9, "breach service g 0 1000"),
+    "a gate that stalls late": (GATE, at_times(25000, 0, 0, 0, 0, 0) + ["stall,g,4000,4100"], 9, "breach service g 100 4100"),
+}
+RUNS["a packet too early at the run's very end"] = (STAIR, worked_at_once(0, 1000, 1999), 9, "verdict breach arrival f1 0 2")
+RUNS["a packet in time at the run's very end"] = (STAIR, worked_at_once(0, 1000, 2000), 0, "verdict admissible")
+
 
 def run(program: str, words: list[str], folder: Path) -> tuple[int, str]:
     child = subprocess.run([program, *words], cwd=folder, capture_output=True, check=False)
@@ -118,12 +158,12 @@ def tried_inputs(program: str, folder: Path) -> int:
     return wrong
 
 
-def tried_runs(program: str, folder: Path) -> int:
+def tried_runs(program: str, word: str, cases: dict, folder: Path) -> int:
     wrong = 0
-    for name, (net, rows, status, last) in RUNS.items():
+    for name, (net, rows, status, last) in cases.items():
         (folder / "n").write_text(net)
         (folder / "r").write_text("".join(f"{row}\n" for row in rows))
-        came, wrote = run(program, ["check", "n", "r"], folder)
+        came, wrote = run(program, [word, "n", "r"], folder)
         if came != status or not wrote.endswith(last + "\n"):
             wrong += 1
             print(f"tests/inputs.py: {name}: status {came}, wanted {status} with {last!r}; it wrote {wrote[:300]!r}")
@@ -164,9 +204,10 @@ def tried_cuts(program: str, folder: Path) -> tuple[int, int]:
 def main() -> None:
     program = str(Path(sys.argv[1] if len(sys.argv) > 1 else TOP / "bin/x86_64-linux/netcalc").resolve())
     with tempfile.TemporaryDirectory(prefix="inputs_") as name:
-        wrong = tried_inputs(program, Path(name)) + tried_runs(program, Path(name))
+        wrong = tried_inputs(program, Path(name))
+        wrong += tried_runs(program, "check", RUNS, Path(name)) + tried_runs(program, "simulate", TRACES, Path(name))
         known, others = tried_cuts(program, Path(name))
-    print(f"inputs: {len(INPUTS)} inputs, {len(RUNS)} recorded runs and {len(ONE_FLOW) + 1} cuts, {known} of them with a known answer; {wrong + others} wrong")
+    print(f"inputs: {len(INPUTS)} inputs, {len(RUNS)} recorded runs, {len(TRACES)} traces and {len(ONE_FLOW) + 1} cuts, {known} of them with a known answer; {wrong + others} wrong")
     sys.exit(1 if wrong + others else 0)
 
 
