@@ -6,13 +6,13 @@ use Rattle.std.proofs.lemmas.Bool.{cases_lt}
 use Rattle.std.proofs.lemmas.List.{get_or_past}
 use Rattle.net_model.specs.Networks.{Net, NetFlow}
 use Rattle.net_cells.specs.declared.cell.Cell.{Cell}
-use Rattle.net_cells.specs.declared.cell.Kind.TheVariants.{In, Cross, Total}
+use Rattle.net_cells.specs.declared.cell.Kind.TheVariants.{In, Cross}
 use Rattle.net_cells.specs.Numbered.{flow_at, path_of, server_of_hop, queue_of_hop}
 use Rattle.net_cells.specs.declared.visit.Visit.{Visit}
 use Rattle.net_cells.specs.Visits.{visit, visits_in, others, is_at, longest, longest_after, longest_of}
 use Rattle.net_cells.specs.Order.{at_visit}
 use Rattle.net_cells.specs.Formulas.{leaves}
-use Rattle.net_cells.specs.CellFormulas.{sum_of_cells}
+use Rattle.net_cells.specs.CellFormulas.{sum_of_cells, sum_of_hops}
 use Rattle.net_cells.proofs.Growing.{flat_more}
 use Rattle.net_cells.proofs.LeavesOf.{sum_leaves}
 use Rattle.net_cells.proofs.Lists.{Has, map_has, filter_has, has_flat, flat_has, has_range}
@@ -117,7 +117,7 @@ chosen_own net s pick except i v h =
     sym (ap (λ (w : Visit). w.flow) hop.2)
 
 -- ---- sums of their curves
-same_visits : (xs ys : List Visit) → map (at_visit In) xs ≡ map (at_visit In) ys → xs ≡ ys
+pub same_visits : (xs ys : List Visit) → map (at_visit In) xs ≡ map (at_visit In) ys → xs ≡ ys
 same_visits [] [] e = refl
 same_visits [] (y ∷ ys) e = absurd (let bad : ⊥ = cc in bad)
 same_visits (x ∷ xs) [] e = absurd (let bad : ⊥ = cc in bad)
@@ -151,7 +151,7 @@ cross_tells old new i k s q t p b es eq et ep tells =
 
 pub total_tells : (old new : Net) (s q : ℕ) (b : Bool)
     → TellsSame (all_chosen old s (InQueue q) None (length old.flows)) (all_chosen new s (InQueue q) None (length new.flows)) b
-    → TellsFormula old new Total s q b
+    → TellsSame (sum_of_hops (visits_in old s q)) (sum_of_hops (visits_in new s q)) b
 total_tells old new s q b tells =
     tells_sum (visits_in old s q) (visits_in new s q) b
     (tells_of (all_chosen old s (InQueue q) None (length old.flows)) (all_chosen new s (InQueue q) None (length new.flows))

@@ -29,10 +29,11 @@ use Rattle.net_cells.specs.QueueParts.{part_of, in_part, part_numbers}
 use Rattle.net_cells.specs.Meanings.{CellTable}
 use Rattle.net_cells.proofs.Lists.{has_filter, filter_has, has_range, range_has}
 use Rattle.net_cells.proofs.Places.{has_visit}
+use Rattle.net_cells.proofs.PartCounts.{part_next, part_small}
 use Rattle.net_bounds.specs.NetRuns.{hops_along, pace_for, server_for, routes_of}
 use Rattle.net_bounds.specs.Promises.{seen_by}
 use Rattle.net_bounds.proofs.Placed.{place_in}
-use Rattle.net_bounds.proofs.Routed.{hop_at, hop_inside, hops_is, own_queues, path_is, live_is, hop_is_live, routed, known_server, server_read, servers_are}
+use Rattle.net_bounds.proofs.Routed.{hop_at, hops_is, own_queues, path_is, live_is, hop_is_live, routed, known_server, server_read, servers_are}
 use Rattle.net_bounds.proofs.ListSums.{sum_over, HasKey, list_keeps}
 use Rattle.net_bounds.proofs.QueueCells.{arriving_at}
 use Rattle.net_bounds.proofs.PartCells.{with_hops, listed, link_bucket, part_values, part_over, total_over}
@@ -134,12 +135,6 @@ record ComesFrom (net : Net) (v : Visit) (p : ℕ) : Type 0 where
   is : v.hop ≡ suc hop
   server : server_of_hop net v.flow hop ≡ p
 
-part_next : (net : Net) (i j : ℕ) → part_of net (visit i (suc j)) ≡ suc (server_of_hop net i j)
-part_next net i j =
-    let one : suc j - 1 ≡ j = omega arith in
-    let later : (suc j == 0) ≡ false = ne_eqb (suc j) 0 (λ e. omega (arith, e)) in
-    rw later (ap (λ (m : ℕ). suc (server_of_hop net i m)) one)
-
 comes_from : (net : Net) (i k p : ℕ) → part_of net (visit i k) ≡ suc p → ComesFrom net (visit i k) p
 comes_from net i zero p e = absurd (cc)
 comes_from net i (suc j) p e =
@@ -234,12 +229,6 @@ has_listed net s q (j ∷ ks) k m = one (in_part net s q j) (λ later. has_liste
     one [] rest n = inr (rest n)
     one (u ∷ vs) rest (inl same) = inl same
     one (u ∷ vs) rest (inr later) = inr (rest later)
-
-part_small : (net : Net) (i k : ℕ) → IsAccepted net → k < hops net i → part_of net (visit i k) < suc (length net.servers)
-part_small net i zero a h = omega arith
-part_small net i (suc j) a h =
-    let inside = hop_inside net i j a (omega (arith, h)) in
-    subst (λ (n : ℕ). n < suc (length net.servers)) (sym (part_next net i j)) (omega (arith, inside))
 
 pub parts_keep : (net : Net) (at : CellTable) (run : SpecRun) (s q : ℕ) → AtServer net at run s → net.version ≡ 2
     → KeepsArrivals (of_queue q) (total_over true net at s q) (seen_by net run s)

@@ -1,5 +1,5 @@
 -- A formula that is answered by a value means that value.
-use Rattle.std.proofs.Common.{◌≡◌, ℕ, List, [], ◌∷◌, ◌++◌, ap}
+use Rattle.std.proofs.Common.{◌≡◌, ℕ, List, [], ◌∷◌, ◌++◌, ap, subst}
 use Rattle.std.specs.Prelude.{Ok, Err, Result}
 use Rattle.rational.specs.Extended.{Ext, min_ext}
 use Rattle.upp_limits.specs.declared.op_kind.OpKind.{OpKind}
@@ -84,6 +84,13 @@ made_curve : (op : OpKind) (f g : SpecCurve) (v : Meaning) → MakesCurve (Appli
     → IsCurveIn (IsMadeBy op f g) v
 made_curve op f g v a = makes_curve (Applies op f g) (IsMadeBy op f g) v (λ h b. b.made) a
 
+-- the lesser of a curve and one that is made again
+cut_curve : (f B : SpecCurve) (v : Meaning) → ThenCurve (MakesCurve (IsAgain B)) (λ g. MakesCurve (Applies Min f g)) (Ok v)
+    → IsCurveIn (IsMadeBy Min f B) v
+cut_curve f B v (goes_on (curve g) same a) = made_curve Min f B v (subst (λ k. MakesCurve (Applies Min f k) (Ok v)) same a)
+cut_curve f B v (goes_on (number x) same a) = absurd same
+cut_curve f B v (stops fault same a) = absurd (let e : Ok v ≡ Err fault = a in cc)
+
 sum_onto_means : (f : SpecCurve) (fs : List SpecCurve) (v : Meaning) → SumsOnto f fs (Ok v) → IsSumOnto f fs v
 sum_onto_means f [] v a = again f v a
 sum_onto_means f (g ∷ gs) v a =
@@ -113,8 +120,9 @@ answers_from_mean at (moved F T) fs v a =
     (Means at T) (λ x. IsCurveIn (IsMadeBy (Shift x) f f)) v (answers_from_mean at T []) (λ x. made_curve (Shift x) f f v)) a
 answers_from_mean at (cut F server bits rate) fs v a =
     let B = bucket (whole bits) rate in
-    on_curve (Answers at F) (λ f. MakesCurve (Applies Min f B)) (Means at F) (λ f. IsCurveIn (IsMadeBy Min f B)) v
-    (answers_from_mean at F []) (λ f. made_curve Min f B v) a
+    on_curve (Answers at F) (λ f. ThenCurve (MakesCurve (IsAgain B)) (λ g. MakesCurve (Applies Min f g)))
+    (Means at F) (λ f. IsCurveIn (IsMadeBy Min f B)) v
+    (answers_from_mean at F []) (λ f. cut_curve f B v) a
 answers_from_mean at (part F G) fs v a =
     on_curve (Answers at F) (λ f. AnswersFrom at G (fs ++ f ∷ [])) (Means at F) (λ f. MeansFrom at G (fs ++ f ∷ [])) v
     (answers_from_mean at F []) (λ f. answers_from_mean at G (fs ++ f ∷ []) v) a

@@ -162,8 +162,10 @@ answers_from_one at (moved F T) fs r s a b m n =
     r s a b m n
 answers_from_one at (cut F server bits rate) fs r s a b m n =
     let B = bucket (whole bits) rate in
-    then_curve (Answers at F) (λ f. MakesCurve (Applies Min f B)) (answers_from_one at F [])
-    (λ f. made_determined Min f B)
+    then_curve (Answers at F) (λ f. ThenCurve (MakesCurve (IsAgain B)) (λ g. MakesCurve (Applies Min f g)))
+    (answers_from_one at F [])
+    (λ f. then_curve (MakesCurve (IsAgain B)) (λ g. MakesCurve (Applies Min f g)) (curve_determined (IsAgain B) (again_determined B))
+    (λ g. made_determined Min f g))
     r s a b m n
 answers_from_one at (part F G) fs r s a b m n =
     then_curve (Answers at F) (λ f. AnswersFrom at G (fs ++ f ∷ [])) (answers_from_one at F [])

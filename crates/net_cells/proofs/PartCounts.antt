@@ -1,17 +1,21 @@
--- How many hops are in the parts of a queue, flow by flow and part by part.
-use Rattle.std.proofs.Common.{◌≡◌, ℕ, zero, suc, ◌<◌, ◌+◌, List, [], ◌∷◌, ◌++◌, length, get_or, map, refl, sym, ap, ◌∙◌, arith, Bool, true, false, eqb, length-append}
-use Rattle.std.specs.Prelude.{◌&&◌}
+-- How many hops are in the parts of a queue, flow by flow and part by part, and in which part a hop is.
+use Rattle.std.proofs.Common.{◌≡◌, ℕ, zero, suc, ◌<◌, ◌+◌, ◌-◌, List, [], ◌∷◌, ◌++◌, length, get_or, map, refl, sym, ap, ◌∙◌, subst, arith, Bool, true, false, eqb, length-append}
+use Rattle.std.specs.Prelude.{◌&&◌, ◌==◌}
 use Rattle.std.specs.List.{filter, flat_map, range_with_len}
+use Rattle.std.proofs.lemmas.Bool.{ne_eqb}
 use Rattle.std.proofs.lemmas.List.{map-append}
+use Rattle.std.proofs.lemmas.Option.{slice_get_within}
 use Rattle.net_model.specs.Networks.{Net}
+use Rattle.net_model.specs.Accepted.{IsAccepted}
 use Rattle.net_cells.specs.declared.cell.Cell.{Cell}
 use Rattle.net_cells.specs.declared.cell.Kind.TheVariants.{In}
-use Rattle.net_cells.specs.Numbered.{flow_at, path, queues_of, hops}
+use Rattle.net_cells.specs.Numbered.{flow_at, path, queues_of, hops, server_of_hop}
 use Rattle.net_cells.specs.Visits.{Visit, visit, visits_in}
 use Rattle.net_cells.specs.QueueParts.{part_of, in_part, is_there, flow_part, link_of, links_among}
 use Rattle.net_cells.specs.Order.{at_visit}
 use Rattle.net_cells.proofs.Growing.{range_more, flat_more, filter_flat, flat_same, filter_mapped}
 use Rattle.net_cells.proofs.Counting.{filter_twice, hops_of, in_by_flow}
+use Rattle.net_cells.proofs.Members.{hop_kept}
 
 -- ---- a list for each number
 pub more_items : {Y : Type 0} (f : ℕ → List Y) (n total count : ℕ) → total ≡ length (flat_map f (range_with_len 0 n)) → count ≡ length (f n)
@@ -47,7 +51,7 @@ part_by_flow net s q k =
     (range_with_len 0 (length net.flows)) (part_flow net s q k)
 
 -- ---- parts that come over a link
-links_append : (net : Net) (s q : ℕ) (ks js : List ℕ) → links_among net s q (ks ++ js) ≡ links_among net s q ks + links_among net s q js
+pub links_append : (net : Net) (s q : ℕ) (ks js : List ℕ) → links_among net s q (ks ++ js) ≡ links_among net s q ks + links_among net s q js
 links_append net s q [] js = omega arith
 links_append net s q (k ∷ ks) js = let h = links_append net s q ks js in omega (arith, h)
 
@@ -68,3 +72,18 @@ pub some_hops : (k n : ℕ) → 0 < k → 0 < n → link_of k n ≡ 1
 some_hops zero n h l = absurd (omega (arith, h))
 some_hops (suc p) zero h l = absurd (omega (arith, l))
 some_hops (suc p) (suc n) h l = refl
+
+-- ---- a hop's part
+pub part_next : (net : Net) (i j : ℕ) → part_of net (visit i (suc j)) ≡ suc (server_of_hop net i j)
+part_next net i j =
+    let one : suc j - 1 ≡ j = omega arith in
+    let later : (suc j == 0) ≡ false = ne_eqb (suc j) 0 (λ e. omega (arith, e)) in
+    rw later (ap (λ (m : ℕ). suc (server_of_hop net i m)) one)
+
+-- no later one than that of the last server
+pub part_small : (net : Net) (i k : ℕ) → IsAccepted net → k < hops net i → part_of net (visit i k) < suc (length net.servers)
+part_small net i zero a h = omega arith
+part_small net i (suc j) a h =
+    let hop = hop_kept net i j a (omega (arith, h)) in
+    let inside = slice_get_within net.servers (server_of_hop net i j) hop.server hop.is in
+    subst (λ (n : ℕ). n < suc (length net.servers)) (sym (part_next net i j)) (omega (arith, inside))

@@ -7,6 +7,7 @@ use Rattle.upp_curve.specs.Curve.{SpecCurve, value_at}
 use Rattle.upp_curve.specs.Kinds.{bucket}
 use Rattle.run_laws.specs.Cards.{whole}
 use Rattle.min_plus.specs.Deviations.{IsHorizontalDeviation, IsVerticalDeviation}
+use Rattle.curve_call.specs.Again.{IsAgain}
 use Rattle.curve_call.specs.Answers.{IsMadeBy}
 use Rattle.curve_call.specs.Calls.{Applies, AppliesTo, goes_on, stops}
 use Rattle.residual_laws.specs.PriorityCalls.{MakesPriority}
@@ -166,7 +167,8 @@ answers_from_same at other (moved F T) fs r same a =
     (λ x. MakesCurve (AppliesTo (Shift x) f)) r
     (λ x. answers_from_same at other T [] x (on_right (leaves F) (leaves T) at other same)) (λ x b. b)) a
 answers_from_same at other (cut F server bits rate) fs r same a =
-    let Q : SpecCurve → Answer → Type 0 = λ f. MakesCurve (Applies Min f (bucket (whole bits) rate)) in
+    let Q : SpecCurve → Answer → Type 0 =
+    λ f. ThenCurve (MakesCurve (IsAgain (bucket (whole bits) rate))) (λ g. MakesCurve (Applies Min f g)) in
     then_curve (Answers at F) (Answers other F) Q Q r (λ x. answers_from_same at other F [] x same) (λ f b. b) a
 answers_from_same at other (part F G) fs r same a =
     then_curve (Answers at F) (Answers other F) (λ f. AnswersFrom at G (fs ++ f ∷ [])) (λ f. AnswersFrom other G (fs ++ f ∷ [])) r

@@ -86,6 +86,11 @@ abbrev pub SumsOf : List SpecCurve → Answer → Type 0
 SumsOf [] r = MakesCurve (IsAgain zero_curve) r
 SumsOf (f ∷ fs) r = SumsOnto f fs r
 
+-- ---- a curve that is cut
+-- the lesser of what P answers and a curve B, for which there may be no memory
+abbrev pub CutsBy : SpecCurve → (Answer → Type 0) → Answer → Type 0
+CutsBy B P r = ThenCurves P (MakesCurve (IsAgain B)) (λ f g. MakesCurve (Applies Min f g)) r
+
 -- ---- formulas, where these parts have been made before
 abbrev pub AnswersFrom : CellTable → Formula → List SpecCurve → Answer → Type 0
 AnswersFrom at (value_of c) fs r = IsOnly (λ v. at c ≡ Some v) r
@@ -95,8 +100,7 @@ AnswersFrom at (made op F G) fs r = ThenCurves (AnswersFrom at F []) (AnswersFro
 AnswersFrom at (made_of op F) fs r = ThenCurve (AnswersFrom at F []) (λ f. MakesCurve (AppliesTo op f)) r
 AnswersFrom at (moved F T) fs r =
     ThenCurve (AnswersFrom at F []) (λ f. ThenNumber (AnswersFrom at T []) (λ x. MakesCurve (AppliesTo (Shift x) f))) r
-AnswersFrom at (cut F server bits rate) fs r =
-    ThenCurve (AnswersFrom at F []) (λ f. MakesCurve (Applies Min f (bucket (whole bits) rate))) r
+AnswersFrom at (cut F server bits rate) fs r = CutsBy (bucket (whole bits) rate) (AnswersFrom at F []) r
 AnswersFrom at (part F G) fs r = ThenCurve (AnswersFrom at F []) (λ f. AnswersFrom at G (fs ++ f ∷ [])) r
 AnswersFrom at no_part fs r = SumsOf fs r
 AnswersFrom at (leftover F G T) fs r =
