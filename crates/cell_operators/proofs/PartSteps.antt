@@ -234,7 +234,7 @@ module _ (at : CellTable) (net : Net) (s q : ℕ) where
       let all = suc (length net.servers) in
       let front = map_front (λ (x : ℕ). x) (n + 1) all (omega (arith, h)) in
       let whole : range_with_len 0 all ≡ range_with_len 0 (n + 1) ++ front.rest =
-          sym (map-id (range_with_len 0 all)) ∙ front.is ∙ ap (λ xs. xs ++ front.rest) (map-id (range_with_len 0 (n + 1))) in
+      sym (map-id (range_with_len 0 all)) ∙ front.is ∙ ap (λ xs. xs ++ front.rest) (map-id (range_with_len 0 (n + 1))) in
       let count = m.count in
       let least = m.least in
       let some = is.0 in
@@ -243,7 +243,7 @@ module _ (at : CellTable) (net : Net) (s q : ℕ) where
       let l = longer n in
       let k = linked n in
       let hops = ap (λ xs. length (by_parts net s q xs)) whole ∙ ap length (flat_map-append (in_part net s q) (range_with_len 0 (n + 1)) front.rest)
-          ∙ length-append (by_parts net s q (range_with_len 0 (n + 1))) (by_parts net s q front.rest) in
+      ∙ length-append (by_parts net s q (range_with_len 0 (n + 1))) (by_parts net s q front.rest) in
       let links = ap (links_among net s q) whole ∙ links_append net s q (range_with_len 0 (n + 1)) front.rest in
       record {
         answers = subst (λ xs. Answers at (parts_sum net s q xs) (Err fault)) (sym (whole ∙ row n front.rest))
@@ -289,6 +289,7 @@ module _ (at : CellTable) (net : Net) (s q : ℕ) where
           sum [] a e = let count = a.count in let none = a.none refl in omega (arith, count, none, e)
           sum (x ∷ xs) a e = let count = a.count in let least = a.least in omega (arith, count, least, e)
       exact (Err fault) h = tt
+
       most : (xs : List Partial) → AreMade at net s q (suc (length net.servers)) xs old mid → new ≤ mid + (length xs - 1)
           → new ≤ old + parts_work net s q
       most [] a e = let count = a.count in let none = a.none refl in omega (arith, count, none, e)

@@ -154,9 +154,7 @@ pub fn flows_sum<T: Table<Value>, L: Ledger>(
     let count = net.flows().len() as u32;
     let mut so_far = Partial::Nothing;
     for flow in 0..count {
-        match with_flow(
-            alloc, so_far, table, net, server, pick, except, flow, steps,
-        ) {
+        match with_flow(alloc, so_far, table, net, server, pick, except, flow, steps) {
             Ok(more) => so_far = more,
             Err(fault) => return Err(fault),
         }

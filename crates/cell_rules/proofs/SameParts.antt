@@ -109,6 +109,7 @@ module _ (net : Net) (s q : ℕ) where
       empty : (vs : List Visit) → ((v : Visit) → Has vs v → ⊥) → vs ≡ []
       empty [] no = refl
       empty (v ∷ vs) no = absurd (no v (inl refl))
+
       small_part : (v : Visit) → Has (visits_in net s q) v → part_of net v < suc (length net.servers)
       small_part v there =
           let one = (filter_has (λ (u : Visit). queue_of_hop net u.flow u.hop == q) (filter (is_at net s) (all_visits net)) v there).0 in
@@ -236,6 +237,7 @@ module _ (old new : Net) (s q : ℕ) where
             subst P (sym e)
             (ap (λ us. part (cut (sum_of_hops us) p (longest_of old (v ∷ vs)) (rate old p)) no_part) f
             ∙ ap₂ (λ (n : ℕ) (x : ℚ). part (cut (sum_of_hops (w ∷ ws)) p n x) no_part) bits speed)
+
         apart : (vs ws : List Visit) → vs ≢ [] → with_part old k vs no_part ≡ with_part new k ws no_part
             → (longest_of old vs ≡ longest_of new ws) × (rate old p ≡ rate new p)
         apart [] ws no f = absurd (no refl)
