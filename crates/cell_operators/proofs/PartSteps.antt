@@ -165,10 +165,14 @@ module _ (at : CellTable) (net : Net) (s q : ℕ) where
   linked : (n : ℕ) → links_among net s q (range_with_len 0 n) + link_part n (in_part net s q n) ≡ links_among net s q (range_with_len 0 (n + 1))
   linked n = links_more net s q n _ _ _ refl refl refl
 
+  only_held : (p : Partial) → IsHeld at p → All (IsHeld at) (p ∷ [])
+  only_held p h zero d l = h
+  only_held p h (suc k) d l = absurd (omega (arith, l))
+
   -- none is made
   pub none_made : (old : ℕ) → AreMade at net s q 0 [] old old
   none_made old = record {
-    held = tt;
+    held = λ k d h. absurd (omega (arith, h));
     answers = λ ks r a. a;
     few = omega arith;
     least = omega arith;
@@ -208,7 +212,7 @@ module _ (at : CellTable) (net : Net) (s q : ℕ) where
       let k = linked n in
       let more = length-append ps (p ∷ []) in
       record {
-        held = All-append (IsHeld at) ps (p ∷ []) m.held (is.held, tt);
+        held = All-append (IsHeld at) ps (p ∷ []) m.held (only_held p is.held);
         answers = λ ks r a. subst (λ xs. Answers at (parts_sum net s q xs) r) (sym (row n ks))
             (m.answers (n ∷ ks) r
             (step_some n (in_part net s q n) (parts_sum net s q ks) (map (curve_of at) ps) (curve_of at p) r is.some is.answers

@@ -232,6 +232,7 @@ parts_rise net at s q (k ∷ ks) fs v a h each m =
 total_made : (net : Net) (at : CellTable) (s q : ℕ) (by_links : Bool) (v : Meaning) → IsAccepted net
     → ((u : Visit) → Has (leaves (total by_links net s q)) (at_visit In u) → HasCurve at (at_visit In u) Rises)
     → Means at (total by_links net s q) v → IsCurveIn Rises v
+unfolding AllRise
 total_made net at s q false v a come m =
     let cells = map (at_visit In) (visits_in net s q) in
     sum_of_rises at cells v

@@ -1,11 +1,13 @@
 //! The sum of a queue's parts, in a network where flows that come over one link are cut together: the parts are made in
 //! their order, and then they are added up.
 
-ghost use Rattle.std.specs.Prelude.{◌≡◌, ◌-◌, ◌<◌, ◌≤◌, ◌++◌, ℕ, suc, [], All, Ok, IfOk, IfErr, length, map, Some, None};
+ghost use Rattle.std.specs.Prelude.{◌≡◌, ◌+◌, ◌-◌, ◌<◌, ◌≤◌, ◌++◌, ℕ, suc, [], All, Ok, IfOk, IfErr, length, map, Some, None};
 ghost use Rattle.arrayvec.specs.ArrayVec.{array_vec_len};
 ghost use Rattle.upp_curve.specs.Kinds.{bucket};
 ghost use Rattle.run_laws.specs.Cards.{whole};
+ghost use Rattle.upp_limits.specs.declared.op_kind.OpKind.TheVariants.{Sum};
 ghost use Rattle.curve_call.specs.Again.{IsAgain};
+ghost use Rattle.curve_call.specs.Calls.{Applies};
 ghost use Rattle.net_cells.specs.declared.cell.Kind.TheVariants.{In};
 ghost use Rattle.net_cells.specs.Cells.{cell_of};
 ghost use Rattle.net_cells.specs.QueueParts.{in_part, part_numbers};
@@ -206,6 +208,21 @@ fn parts_made<T: Table<Value>, L: Ledger>(
     Ok(parts)
 }
 
+// A sum and a part more.
+fn part_added<T: Table<Value>, L: Ledger>(
+    alloc: Global,
+    so_far: &Curve,
+    table: &T,
+    part: &Partial,
+    steps: &mut Steps<L>,
+) -> Result<Curve, OpFault>
+    requires { IsHeld (T.at table.now) part.now }
+    ensures sum { Applies Sum so_far.now (curve_of (T.at table.now) part.now) result }
+    ensures count { steps.new ≡ steps.old + 1 }
+{
+    seen(sum(alloc, so_far, curve_of(table, part), steps))
+}
+
 // Two parts or more, added up.
 fn many_added<T: Table<Value>, L: Ledger>(
     alloc: Global,
@@ -219,13 +236,13 @@ fn many_added<T: Table<Value>, L: Ledger>(
     ensures counts { Counts (length parts.now - 1) steps.old steps.new (answer_of curve result) }
 {
     let first = curve_of(table, &parts[0]);
-    let mut so_far = match seen(sum(alloc, first, curve_of(table, &parts[1]), steps)) {
+    let mut so_far = match part_added(alloc, first, table, &parts[1], steps) {
         Ok(made) => made,
         Err(fault) => return Err(fault),
     };
     for k in 2..parts.len() {
-        match seen(sum(alloc, &so_far, curve_of(table, &parts[k]), steps)) {
-            Ok(made) => so_far = made,
+        match part_added(alloc, &so_far, table, &parts[k], steps) {
+            Ok(more) => so_far = more,
             Err(fault) => return Err(fault),
         }
     }

@@ -19,7 +19,7 @@ use Rattle.net_cells.proofs.Lists.{Has, map_has, filter_has, has_flat, flat_has,
 use Rattle.queue_hops.specs.declared.found.Pick.{Pick}
 use Rattle.queue_hops.specs.declared.found.Pick.TheVariants.{InQueue, AfterQueue}
 use Rattle.queue_hops.specs.Chosen.{visit_list, picks, is_other, picked, chosen, flow_visits, all_chosen, all_picked}
-use Rattle.queue_hops.proofs.Choosing.{queue_visits, other_visits, picked_are}
+use Rattle.queue_hops.proofs.Choosing.{queue_visits, other_visits, picked_are, all_chosen_more}
 use Rattle.cell_rules.specs.Rules.{TellsSame, TellsFormula}
 use Rattle.cell_rules.proofs.Tells.{tells_by, tells_of}
 
@@ -156,6 +156,21 @@ total_tells old new s q b tells =
     tells_sum (visits_in old s q) (visits_in new s q) b
     (tells_of (all_chosen old s (InQueue q) None (length old.flows)) (all_chosen new s (InQueue q) None (length new.flows))
     (visits_in old s q) (visits_in new s q) b (sym (queue_visits old s q)) (sym (queue_visits new s q)) tells)
+
+-- ---- no hop
+pub none_chosen : (net : Net) (s : ℕ) (pick : Pick) (n : ℕ) (o : Option ℕ) → all_chosen net s pick None n ≡ []
+    → chosen net s pick None n ≡ visit_list n o → o ≡ None → all_chosen net s pick None (n + 1) ≡ []
+none_chosen net s pick n o e f h =
+    all_chosen_more net s pick None n ∙ ap₂ (λ (xs ys : List Visit). xs ++ ys) e (f ∙ ap (visit_list n) h)
+
+pub some_chosen : (net : Net) (s : ℕ) (pick : Pick) (n : ℕ) (o : Option ℕ) → n < length net.flows
+    → chosen net s pick None n ≡ visit_list n o → o ≢ None → all_chosen net s pick None (length net.flows) ≢ []
+some_chosen net s pick n None l f h z = h refl
+some_chosen net s pick n (Some k) l f h z =
+    let there = subst (λ (vs : List Visit). Has vs (visit n k)) (sym f) (inl refl) in
+    subst (λ (vs : List Visit). Has vs (visit n k)) z
+    (has_flat (chosen net s pick None) (range_with_len 0 (length net.flows)) n (visit n k)
+    (has_range 0 (length net.flows) n (omega arith) (omega arith)) there)
 
 -- ---- their longest packets
 pub longest_is : (net : Net) (s q n : ℕ) → n ≡ longest_of net (all_picked net s (InQueue q) (length net.flows))

@@ -1,6 +1,7 @@
 -- Two networks make the sum of a queue's parts of the same exactly where they make each part so.
 use Rattle.std.proofs.Common.{◌≡◌, ◌≢◌, ℕ, zero, suc, ◌<◌, ◌≤◌, ◌+◌, ◌-◌, List, [], ◌∷◌, length, map, refl, sym, ap, ap₂, ◌∙◌, subst, arith, inl, inr, Bool, true, false, append-nil}
-use Rattle.std.specs.Prelude.{◌==◌, None, if◌then◌else◌}
+use Rattle.std.specs.Prelude.{◌==◌, None, not, if◌then◌else◌}
+use mathlib.Core.Bool.{beq}
 use Rattle.std.specs.List.{filter, range_with_len}
 use Rattle.std.proofs.lemmas.Bool.{cases_lt, cases_eq, eqb-true, eq-eqb, ne_eqb}
 use Rattle.rational.specs.Rational.{ℚ}
@@ -19,8 +20,9 @@ use Rattle.net_cells.specs.CellFormulas.{part_sum, with_part, parts_sum, total, 
 use Rattle.net_cells.proofs.LeavesOf.{sum_leaves}
 use Rattle.net_cells.proofs.Lists.{Has, map_has, filter_has, flat_has, range_has}
 use Rattle.net_cells.proofs.PartCounts.{part_small}
+use Rattle.queue_hops.specs.declared.found.Pick.{Pick}
 use Rattle.queue_hops.specs.declared.found.Pick.TheVariants.{InPart}
-use Rattle.queue_hops.specs.Chosen.{all_chosen}
+use Rattle.queue_hops.specs.Chosen.{all_chosen, all_picked}
 use Rattle.queue_hops.proofs.Choosing.{part_visits, part_picked}
 use Rattle.cell_rules.specs.Rules.{TellsSame, TellsFormula, link_of, one_part}
 use Rattle.cell_rules.proofs.Tells.{tells_by, tells_of}
@@ -107,8 +109,8 @@ module _ (net : Net) (s q : ℕ) where
       omega (arith, of, small, h))
     where
       empty : (vs : List Visit) → ((v : Visit) → Has vs v → ⊥) → vs ≡ []
-      empty [] no = refl
-      empty (v ∷ vs) no = absurd (no v (inl refl))
+      empty [] never = refl
+      empty (v ∷ vs) never = absurd (never v (inl refl))
 
       small_part : (v : Visit) → Has (visits_in net s q) v → part_of net v < suc (length net.servers)
       small_part v there =
@@ -240,9 +242,9 @@ module _ (old new : Net) (s q : ℕ) where
 
         apart : (vs ws : List Visit) → vs ≢ [] → with_part old k vs no_part ≡ with_part new k ws no_part
             → (longest_of old vs ≡ longest_of new ws) × (rate old p ≡ rate new p)
-        apart [] ws no f = absurd (no refl)
-        apart (v ∷ vs) [] no f = absurd (let bad : ⊥ = cc in bad)
-        apart (v ∷ vs) (w ∷ ws) no f =
+        apart [] ws some_hop f = absurd (some_hop refl)
+        apart (v ∷ vs) [] some_hop f = absurd (let bad : ⊥ = cc in bad)
+        apart (v ∷ vs) (w ∷ ws) some_hop f =
             let P : ℕ → Type 0 = λ j. part (part_sum old j (v ∷ vs)) no_part ≡ part (part_sum new j (w ∷ ws)) no_part in
             taken (sum_of_hops (v ∷ vs)) (sum_of_hops (w ∷ ws)) (longest_of old (v ∷ vs)) (longest_of new (w ∷ ws)) (rate old p) (rate new p) (subst P e f)
           where
@@ -252,6 +254,19 @@ module _ (old new : Net) (s q : ℕ) where
                 let one : m ≡ n = cc in
                 let two : x ≡ y = cc in
                 (one, two)
+
+-- ---- links
+module _ (old new : Net) (s : ℕ) (which : Pick) (p m n : ℕ) (x y : ℚ)
+    (long : m ≡ longest_of old (all_picked old s which (length old.flows))) (longer : n ≡ longest_of new (all_picked new s which (length new.flows)))
+    (fast : x ≡ rate old p) (faster : y ≡ rate new p) where
+  pub links_tell : (b : Bool) → m ≡ n → TellsSame x y b → TellsSame (link_of old s which p) (link_of new s which p) b
+  links_tell b e t =
+      tells_by x y (link_of old s which p) (link_of new s which p) b
+      (λ h. ap₂ (λ (k : ℕ) (z : ℚ). (k, z)) (sym long ∙ e ∙ longer) (sym fast ∙ h ∙ faster))
+      (λ h. fast ∙ ap (λ (l : ℕ × ℚ). l.1) h ∙ sym faster) t
+
+  pub links_differ : m ≢ n → link_of old s which p ≢ link_of new s which p
+  links_differ d h = d (long ∙ ap (λ (l : ℕ × ℚ). l.0) h ∙ sym longer)
 
 -- ---- versions
 is_parts : Formula → Bool
@@ -293,3 +308,16 @@ pub total_same : (old new : Net) (s q : ℕ) (b d tells : Bool) → (old.version
 total_same old new s q b d tells e f t =
     tells_of (total b old s q) (total d new s q) (total (old.version == 2) old s q) (total (new.version == 2) new s q) tells
     (ap (λ x. total x old s q) (sym e)) (ap (λ x. total x new s q) (sym f)) t
+
+-- two answers that are told to differ, or not to
+pub other_bits : (b d : Bool) → not (beq b d) ≡ true → b ≢ d
+other_bits true true e h = let bad : ⊥ = cc in bad
+other_bits true false e h = let bad : ⊥ = cc in bad
+other_bits false true e h = let bad : ⊥ = cc in bad
+other_bits false false e h = let bad : ⊥ = cc in bad
+
+pub same_bits : (b d : Bool) → not (beq b d) ≡ false → b ≡ d
+same_bits true true e = refl
+same_bits true false e = absurd (let bad : ⊥ = cc in bad)
+same_bits false true e = absurd (let bad : ⊥ = cc in bad)
+same_bits false false e = refl

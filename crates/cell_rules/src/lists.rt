@@ -1,6 +1,6 @@
 //! Whether two networks have the same hops in a queue, and packets as long there.
 
-ghost use Rattle.std.specs.Prelude.{◌≡◌, ◌≤◌, [], None, length, map};
+ghost use Rattle.std.specs.Prelude.{◌≡◌, ◌≤◌, ◌==◌, [], None, length, map};
 ghost use Rattle.std.specs.List.{range_with_len};
 ghost use Rattle.net_cells.specs.declared.cell.Kind.TheVariants.{Cross, Total};
 ghost use Rattle.net_cells.specs.Visits as seen;
@@ -74,7 +74,8 @@ fn is_unused(net: &Network, server: u32, pick: Pick) -> bool
 {
     let count = net.flows().len() as u32;
     for flow in 0..count {
-        if chosen_at(net, flow, server, pick, None).is_some() {
+        let found = chosen_at(net, flow, server, pick, None);
+        if !is_same_hop(found, None) {
             return false;
         }
     }
@@ -105,7 +106,10 @@ fn same_part(old: &Network, new: &Network, place: (u32, u32), part: u64) -> bool
     if !same_hops(old, (place.0, pick), new, (place.0, pick), None) {
         return false;
     }
-    if part == 0 || is_unused(old, place.0, pick) {
+    if part == 0 {
+        return true;
+    }
+    if is_unused(old, place.0, pick) {
         return true;
     }
     same_cut(old, new, place.0, pick, (part - 1) as u32)
@@ -126,12 +130,19 @@ fn same_parts(old: &Network, new: &Network, place: (u32, u32)) -> bool
     true
 }
 
+// Whether flows that come over one link are cut together.
+fn is_by_links(net: &Network) -> bool
+    ensures { result ≡ (net.now.version == 2) }
+{
+    net.version() == 2
+}
+
 /// Whether two networks make the sum of a queue's flows of the same.
 pub(crate) fn same_total(old: &Network, new: &Network, server: u32, queue: u32) -> bool
     ensures { TellsFormula old.now new.now Total server queue result }
 {
-    let by_links = old.version() == 2;
-    if by_links != (new.version() == 2) {
+    let by_links = is_by_links(old);
+    if by_links != is_by_links(new) {
         return false;
     }
     if by_links {

@@ -1,4 +1,4 @@
-use Rattle.std.proofs.Common.{◌≡◌, ◌∙◌, ℕ, List, [], map, sym, subst, arith, ap}
+use Rattle.std.proofs.Common.{rules, ◌≡◌, ◌∙◌, ℕ, List, [], map, sym, subst, arith, ap}
 use Rattle.std.specs.Prelude.{Ok, Err, Result}
 use Rattle.upp_limits.specs.declared.op_kind.OpFault.{OpFault}
 use Rattle.net_cells.specs.declared.cell.Kind.TheVariants.{In}
