@@ -243,9 +243,6 @@ work_told net w after s x k end known o near_by far_by c places flows bits =
     near : known ≡ true → x.packet < length k.state.entered
     near e = let long = flows_long net k.room k.grid k.most k.before k.state w k.keeps in let l = near_by e in omega (arith, l, long)
 
-    go : (p : Option Law) → ((grid : ℕ) (most : ℚ) → Rattle.run_check.specs.Sites.IsOnGrid grid most c.old (fresh_for net w s x.packet) x → p ≡ None → Rattle.run_check.specs.Sites.IsFine grid most c.new)
-        → WorkAnswer (server_at net s).discipline k.room (state_at k.state s) end known (fresh_for net w s x.packet) (server_at net s).pace x c.new p → Told net (work_of s x) w k end after p
-
     -- the packet of work that may be worked
     card_is : (p : IsOfPacket (server_at net s).discipline (state_at k.state s) end known (fresh_for net w s x.packet) x) → p.card ≡ card_of net k.state.entered x.packet s
     card_is p =
@@ -259,6 +256,9 @@ work_told net w after s x k end known o near_by far_by c places flows bits =
     is_right : (p : IsOfPacket (server_at net s).discipline (state_at k.state s) end known (fresh_for net w s x.packet) x)
         → IsWrongWork k.before k.state s x.packet x.start x.end x.bits → ⊥
     is_right p z = p.right (work_wrong net k.room k.grid k.most k.before k.state w s x k.keeps (near p.is_known) z)
+
+    go : (p : Option Law) → ((grid : ℕ) (most : ℚ) → Rattle.run_check.specs.Sites.IsOnGrid grid most c.old (fresh_for net w s x.packet) x → p ≡ None → Rattle.run_check.specs.Sites.IsFine grid most c.new)
+        → WorkAnswer (server_at net s).discipline k.room (state_at k.state s) end known (fresh_for net w s x.packet) (server_at net s).pace x c.new p → Told net (work_of s x) w k end after p
     go None fine a =
         let r = k.state in
         let σ = state_at r s in
