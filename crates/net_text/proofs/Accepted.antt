@@ -11,7 +11,7 @@ use Rattle.upp_limits.specs.declared.own_limits.OverLimit.{OverLimit}
 use Rattle.run_laws.specs.Servers.{Discipline, queue_count}
 use Rattle.closure_laws.proofs.KeptShapes.{closures_keep}
 use Rattle.net_model.specs.declared.server.ServiceKind.{ServiceKind}
-use Rattle.net_model.specs.Accepted.{IsLength, HasFewQueues, IsInQuantum, IsOfKind, IsServer, IsArrivalCurve, IsHop, IsFlow, IsAccepted}
+use Rattle.net_model.specs.Accepted.{IsVersion, IsLength, HasFewQueues, IsInQuantum, IsOfKind, IsServer, IsArrivalCurve, IsHop, IsFlow, IsAccepted}
 use Rattle.net_model.specs.Names.{IsName, DifferInName}
 use Rattle.net_model.specs.Networks.{Net, NetServer, NetFlow}
 use Rattle.net_draft.specs.declared.hop.Hop.{Hop}
