@@ -6,7 +6,7 @@ use std::test::Fail;
 #[test]
 fn bounds(rt: HostRuntime) -> Result<(), Fail> {
     let alloc = rt.alloc();
-    let rows: [(&str, &[(&str, &str)], u8, &str); 11] = [
+    let rows: [(&str, &[(&str, &str)], u8, &str); 13] = [
         // a_flow_faster_than_its_server
         (
             "netcalc analyse n.toml",
@@ -166,6 +166,73 @@ path = ["s1"]
 queue s1 0 delay 190 backlog 19950
 flow f1 tfa 190 sfa 3730/19 bound 190
 flow f2 tfa 190 sfa 590/3 bound 190
+"#,
+        ),
+        // two_flows_over_two_servers
+        (
+            "netcalc analyse n.toml",
+            &[(
+                "n.toml",
+                r#"[[server]]
+name = "s1"
+rate = 100
+service = { kind = "latency", latency = 10 }
+[[server]]
+name = "s2"
+rate = 100
+service = { kind = "latency", latency = 10 }
+[[flow]]
+name = "f1"
+packet = 12000
+arrival = { kind = "bucket", burst = 12000, rate = 10 }
+path = ["s1", "s2"]
+[[flow]]
+name = "f2"
+packet = 6000
+arrival = { kind = "bucket", burst = 6000, rate = 5 }
+path = ["s1", "s2"]
+"#,
+            )],
+            0,
+            r#"servers 2 flows 2
+queue s1 0 delay 190 backlog 19950
+queue s2 0 delay 437/2 backlog 22800
+flow f1 tfa 817/2 sfa 15281/38 bound 15281/38
+flow f2 tfa 817/2 sfa 1237/3 bound 817/2
+"#,
+        ),
+        // two_flows_that_share_a_link
+        (
+            "netcalc analyse n.toml",
+            &[(
+                "n.toml",
+                r#"version = 2
+[[server]]
+name = "s1"
+rate = 100
+service = { kind = "latency", latency = 10 }
+[[server]]
+name = "s2"
+rate = 100
+service = { kind = "latency", latency = 10 }
+[[flow]]
+name = "f1"
+packet = 12000
+arrival = { kind = "bucket", burst = 12000, rate = 10 }
+path = ["s1", "s2"]
+[[flow]]
+name = "f2"
+packet = 6000
+arrival = { kind = "bucket", burst = 6000, rate = 5 }
+path = ["s1", "s2"]
+"#,
+            )],
+            0,
+            r#"servers 2 flows 2
+queue s1 0 delay 190 backlog 19950
+queue s2 0 delay 130 backlog 22800
+flow f1 tfa 320 sfa 15281/38 bound 320
+flow f2 tfa 320 sfa 1237/3 bound 320
 "#,
         ),
         // two_hops
@@ -762,7 +829,7 @@ path = ["s1"]
 #[test]
 fn checks(rt: HostRuntime) -> Result<(), Fail> {
     let alloc = rt.alloc();
-    let rows: [(&str, &[(&str, &str)], u8, &str); 35] = [
+    let rows: [(&str, &[(&str, &str)], u8, &str); 39] = [
         // a_bit_too_many
         (
             "netcalc check n.toml r.csv",
@@ -1477,6 +1544,41 @@ peak s1 1 6000 bound 8750
 verdict admissible
 "#,
         ),
+        // fast_work_on_the_second_packet
+        (
+            "netcalc check n.toml r.csv",
+            &[
+                (
+                    "n.toml",
+                    r#"version = 2
+
+[[server]]
+name = "s1"
+rate = 100
+service = { kind = "latency", latency = 10 }
+
+[[flow]]
+name = "f1"
+packet = 12000
+arrival = { kind = "bucket", burst = 12000, rate = 10 }
+path = ["s1"]
+"#,
+                ),
+                (
+                    "r.csv",
+                    r#"enter,0,f1,6000
+enter,0,f1,6000
+work,s1,1,0,30,6000
+end,60
+"#,
+                ),
+            ],
+            9,
+            r#"servers 1 flows 1
+run packets 2 end 60
+verdict unlawful row 3 L5
+"#,
+        ),
         // no_packet
         (
             "netcalc check n.toml r.csv",
@@ -1807,6 +1909,114 @@ run packets 2 end 0
 worst f1 0 bound 130
 peak s1 0 24000 bound 13300
 verdict breach arrival f1 0 1
+"#,
+        ),
+        // work_as_fast_in_version_1
+        (
+            "netcalc check n.toml r.csv",
+            &[
+                (
+                    "n.toml",
+                    r#"[[server]]
+name = "s1"
+rate = 100
+service = { kind = "latency", latency = 10 }
+
+[[flow]]
+name = "f1"
+packet = 12000
+arrival = { kind = "bucket", burst = 12000, rate = 10 }
+path = ["s1"]
+"#,
+                ),
+                (
+                    "r.csv",
+                    r#"enter,0,f1,12000
+work,s1,0,0,60,12000
+leave,60,s1,0
+end,60
+"#,
+                ),
+            ],
+            0,
+            r#"servers 1 flows 1
+run packets 1 end 60
+worst f1 60 bound 130
+peak s1 0 12000 bound 13300
+verdict admissible
+"#,
+        ),
+        // work_at_the_rate_in_version_2
+        (
+            "netcalc check n.toml r.csv",
+            &[
+                (
+                    "n.toml",
+                    r#"version = 2
+
+[[server]]
+name = "s1"
+rate = 100
+service = { kind = "latency", latency = 10 }
+
+[[flow]]
+name = "f1"
+packet = 12000
+arrival = { kind = "bucket", burst = 12000, rate = 10 }
+path = ["s1"]
+"#,
+                ),
+                (
+                    "r.csv",
+                    r#"enter,0,f1,12000
+work,s1,0,10,70,6000
+work,s1,0,70,130,6000
+leave,130,s1,0
+end,130
+"#,
+                ),
+            ],
+            0,
+            r#"servers 1 flows 1
+run packets 1 end 130
+worst f1 130 bound 130
+peak s1 0 12000 bound 13300
+verdict admissible
+"#,
+        ),
+        // work_faster_than_its_server
+        (
+            "netcalc check n.toml r.csv",
+            &[
+                (
+                    "n.toml",
+                    r#"version = 2
+
+[[server]]
+name = "s1"
+rate = 100
+service = { kind = "latency", latency = 10 }
+
+[[flow]]
+name = "f1"
+packet = 12000
+arrival = { kind = "bucket", burst = 12000, rate = 10 }
+path = ["s1"]
+"#,
+                ),
+                (
+                    "r.csv",
+                    r#"enter,0,f1,12000
+work,s1,0,0,60,12000
+leave,60,s1,0
+end,60
+"#,
+                ),
+            ],
+            9,
+            r#"servers 1 flows 1
+run packets 1 end 60
+verdict unlawful row 2 L8
 "#,
         ),
         // work_in_two_parts
@@ -2679,7 +2889,7 @@ path = ["s1"]
 #[test]
 fn edits(rt: HostRuntime) -> Result<(), Fail> {
     let alloc = rt.alloc();
-    let rows: [(&str, &[(&str, &str)], u8, &str); 15] = [
+    let rows: [(&str, &[(&str, &str)], u8, &str); 16] = [
         // a_cell_that_is_too_wide
         (
             "netcalc edit n.toml e.csv",
@@ -3134,6 +3344,55 @@ queue s2 0 delay 143 backlog 14600
 flow f1 tfa 273 sfa 260 bound 260
 "#,
         ),
+        // a_rate_and_a_packet_two_servers_before_a_sum
+        (
+            "netcalc edit n.toml e.csv",
+            &[
+                (
+                    "e.csv",
+                    r#"rate,s1,200
+packet,f1,6000
+"#,
+                ),
+                (
+                    "n.toml",
+                    r#"version = 2
+[[server]]
+name = "s1"
+rate = 100
+service = { kind = "latency", latency = 10 }
+[[server]]
+name = "s2"
+rate = 100
+service = { kind = "latency", latency = 10 }
+[[server]]
+name = "s3"
+rate = 100
+service = { kind = "latency", latency = 10 }
+[[flow]]
+name = "f1"
+packet = 12000
+arrival = { kind = "bucket", burst = 12000, rate = 10 }
+path = ["s1", "s2", "s3"]
+[[flow]]
+name = "f2"
+packet = 6000
+arrival = { kind = "bucket", burst = 6000, rate = 5 }
+path = ["s1", "s2", "s3"]
+"#,
+                ),
+            ],
+            0,
+            r#"edit 1 ok cells 55
+edit 2 ok cells 39
+servers 3 flows 2
+queue s1 0 delay 100 backlog 18600
+queue s2 0 delay 68010/481 backlog 9687000/481
+queue s3 0 delay 70 backlog 13000
+flow f1 tfa 149780/481 sfa 7627639/18278 bound 149780/481
+flow f2 tfa 149780/481 sfa 751061/988 bound 149780/481
+"#,
+        ),
         // an_empty_list
         (
             "netcalc edit n.toml e.csv",
@@ -3549,7 +3808,7 @@ breach none
 #[test]
 fn faults(rt: HostRuntime) -> Result<(), Fail> {
     let alloc = rt.alloc();
-    let rows: [(&str, &[(&str, &str)], u8, &str); 9] = [
+    let rows: [(&str, &[(&str, &str)], u8, &str); 10] = [
         // a_bucket_that_falls
         (
             "netcalc analyse n.toml",
@@ -3708,6 +3967,35 @@ path = ["s9"]
             )],
             1,
             "netcalc: n.toml: M8 flow[0].path[0]\n",
+        ),
+        // another_version
+        (
+            "netcalc analyse n.toml",
+            &[(
+                "n.toml",
+                r#"version = 3
+[[server]]
+name = "s1"
+rate = 100
+service = { kind = "latency", latency = 10 }
+[[server]]
+name = "s2"
+rate = 100
+service = { kind = "latency", latency = 10 }
+[[flow]]
+name = "f1"
+packet = 12000
+arrival = { kind = "bucket", burst = 12000, rate = 10 }
+path = ["s1", "s2"]
+[[flow]]
+name = "f2"
+packet = 6000
+arrival = { kind = "bucket", burst = 6000, rate = 5 }
+path = ["s1", "s2"]
+"#,
+            )],
+            1,
+            "netcalc: n.toml: M6 version\n",
         ),
         // not_toml
         (
