@@ -3,6 +3,10 @@
 _netcalc() {
     local current=${COMP_WORDS[COMP_CWORD]}
     COMPREPLY=()
+    if [[ $current == -* && ${COMP_WORDS[1]} == @(analyse|edit) && " ${COMP_WORDS[*]} " != *" --json "* ]]; then
+        COMPREPLY=(--json)
+        return
+    fi
     case $COMP_CWORD:${COMP_WORDS[1]} in
         1:*) mapfile -t COMPREPLY < <(compgen -W "analyse edit simulate exercise check measure curve" -- "$current") ;;
         2:analyse|2:edit|2:simulate|2:check|2:measure)

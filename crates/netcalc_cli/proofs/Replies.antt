@@ -60,8 +60,8 @@ none_in faults last_fault told old new files (Err e) h =
     record { zero = λ e. absurd (cc); nine = λ e. absurd (cc) }
 
 no_answer : (command : Command) (status : ℕ) → IsNoAnswer status → ¬ (IsAnswer command status)
-no_answer (Analyse net) status none h = none.zero h
-no_answer (Edit net edits) status none h = none.zero h
+no_answer (Analyse form net) status none h = none.zero h
+no_answer (Edit form net edits) status none h = none.zero h
 no_answer (Simulate net trace) status none h = elim h [ inl zero ↦ none.zero zero | inr nine ↦ none.nine nine ]
 no_answer (Exercise seed) status none h = elim h [ inl zero ↦ none.zero zero | inr nine ↦ none.nine nine ]
 no_answer (Check net run) status none h = elim h [ inl zero ↦ none.zero zero | inr nine ↦ none.nine nine ]

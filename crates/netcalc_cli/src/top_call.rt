@@ -48,7 +48,8 @@ fn give<K: Sink>(out: &mut K, status: Status, text: &[u8]) -> u8
 /// largest bound and largest worst delay. `measure NET TRACE FLOW RATE` fetches both files first, reads the second
 /// one after the first one's curves, and writes the least arrival curve of the flow's packets and the least bucket of
 /// the rate that they keep. `curve FILE` reads a script of curve expressions, and writes its answers. The order is:
-/// the words, the file, its lines, its statements, one `put`. Each refusal but 4 and 5 writes one line.
+/// the words, the file, its lines, its statements, one `put`. With `--json`, once at any place after the word, `analyse`
+/// and `edit` write their report as JSON. Each refusal but 4 and 5 writes one line, in either form.
 pub fn run<I: Inputs, K: Sink, L: Ledger>(
     words: &[String],
     inputs: &mut I,
@@ -92,16 +93,16 @@ pub fn run<I: Inputs, K: Sink, L: Ledger>(
         Brings TellsBreach (I.content inputs.old) command result (K.written out.old) (K.written out.new)) }
 
     // 0 only where what was asked for is written. Of `analyse`: the file gives a network whose cells have their
-    // answers in a table that meets the equations, and the report has the numbers of the table, which every run of
-    // the network keeps. By a law `unbounded` stands for infinity alone. Of `edit`: so it is for the network that the
-    // edits leave, and what is said of each is its answer by the network that those before it left. Of `simulate`: so
-    // it is for the file's network, and the stated run of it with the trace keeps all premises; no number of the run
-    // is above its bound. Of `exercise`: so it is for the workload's network and trace, and in every run of the network
-    // that keeps the premises no packet takes longer than the largest bound that is written. Of `check`: so it is for
-    // the file's network, and the recorded run is lawful and keeps all premises. Of `measure`: the steps
-    // are those of the least arrival curve of the packets of the live flow with the name; they keep it, and each curve
-    // that they keep is at least it; and they keep the bucket of the burst and the rate, and no bucket of this rate
-    // with a smaller burst. Of `curve`: the answers that the script finds and means.
+    // answers in a table that meets the equations, and the report, line by line or as JSON, has the numbers of the
+    // table, which every run of the network keeps. By a law `unbounded` stands for infinity alone. Of `edit`: so it is
+    // for the network that the edits leave, and what is said of each is its answer by the network that those before
+    // it left. Of `simulate`: so it is for the file's network, and the stated run of it with the trace keeps all
+    // premises; no number of the run is above its bound. Of `exercise`: so it is for the workload's network and trace,
+    // and in every run of the network that keeps the premises no packet takes longer than the largest bound that is
+    // written. Of `check`: so it is for the file's network, and the recorded run is lawful and keeps all premises. Of
+    // `measure`: the steps are those of the least arrival curve of the packets of the live flow with the name; they
+    // keep it, and each curve that they keep is at least it; and they keep the bucket of the burst and the rate, and
+    // no bucket of this rate with a smaller burst. Of `curve`: the answers that the script finds and means.
     ensures done { result ≡ 0 → IfSome (command_of (texts words.now)) (λ command.
         Brings IsDone (I.content inputs.old) command result (K.written out.old) (K.written out.new)) }
 

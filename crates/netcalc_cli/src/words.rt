@@ -1,22 +1,25 @@
 //! The words of the command line.
-ghost use Rattle.std.specs.Prelude.{◌≡◌, ◌&&◌, [], ◌∷◌, option_map, string_bytes, IfSome};
+ghost use Rattle.std.specs.Prelude.{◌≡◌, ◌&&◌, [], ◌∷◌, ◌++◌, option_map, string_bytes, IfSome};
 ghost use Rattle.rational.specs.Rational.{◌≤ℚ◌};
 ghost use Rattle.min_plus.specs.Functions.{zero_q};
 ghost use Rattle.netcalc_cli.specs.Commands.{HasRate};
 ghost use Rattle.netcalc_cli.specs.View.{command_view};
-ghost use Rattle.netcalc_cli.specs.Words.{texts, is_operand, in_64_bits, seed_of, rate_of, on_one, on_two, on_four};
-ghost use Rattle.netcalc_cli.specs.Words.{command_of};
+ghost use Rattle.command_words.specs.Lines.{is_operand};
+ghost use Rattle.netcalc_cli.specs.Words.{texts, in_64_bits, seed_of, rate_of, on_one, on_two, on_four};
+ghost use Rattle.netcalc_cli.specs.Words.{lines_of, json_of, command_of};
 
+use command_words::{around_json, is_operand, word_of};
 use fraction128::{Frac, is_less, read_digits};
+use json_report::Form;
 use std::alloc::Global;
 
 /// What a command line asks for, with the names of its files, and with what its other words say.
 #[derive(Clone, Copy)]
 pub(crate) enum Command<'a> {
-    /// The bounds of a network.
-    Analyse(&'a str),
-    /// The bounds of a network after edits.
-    Edit(&'a str, &'a str),
+    /// The bounds of a network, in a form.
+    Analyse(Form, &'a str),
+    /// The bounds of a network after edits, in a form.
+    Edit(Form, &'a str, &'a str),
     /// The run of a network and a trace beside the bounds.
     Simulate(&'a str, &'a str),
     /// The summary of the workload of a number, analysed and simulated.
@@ -35,15 +38,6 @@ pub(crate) enum Command<'a> {
 pub(crate) struct Taken<'a> {
     pub alloc: Global,
     pub command: Command<'a>,
-}
-
-fn is_operand(word: &str) -> bool
-    ensures { result ≡ is_operand word.now }
-{
-    match word.as_bytes() {
-        [] => false,
-        [first, ..] => *first != b'-',
-    }
 }
 
 fn are_both_operands(first: &str, second: &str) -> bool
@@ -76,7 +70,7 @@ fn on_one<'a>(word: &str, operand: &'a str) -> Option<Command<'a>>
     ensures rate { IfSome result (λ c. HasRate (command_view c)) }
 {
     if word == "analyse" {
-        return Some(Command::Analyse(operand));
+        return Some(Command::Analyse(Form::Lines, operand));
     }
     if word == "curve" {
         return Some(Command::Curve(operand));
@@ -96,7 +90,7 @@ fn on_two<'a>(word: &str, first: &'a str, second: &'a str) -> Option<Command<'a>
     ensures rate { IfSome result (λ c. HasRate (command_view c)) }
 {
     if word == "edit" {
-        return Some(Command::Edit(first, second));
+        return Some(Command::Edit(Form::Lines, first, second));
     }
     if word == "simulate" {
         return Some(Command::Simulate(first, second));
@@ -143,7 +137,7 @@ fn on_four<'a>(
 
 fn with_one<'a>(word: &str, operand: &'a String) -> Option<Taken<'a>>
     ensures command { option_map (λ t. command_view t.command) result
-        ≡ command_of ([] ∷ word.now ∷ string_bytes operand.now ∷ []) }
+        ≡ lines_of ([] ∷ word.now ∷ string_bytes operand.now ∷ []) }
     ensures rate { IfSome result (λ t. HasRate (command_view t.command)) }
 {
     if !is_operand(operand.as_str()) {
@@ -158,7 +152,7 @@ fn with_one<'a>(word: &str, operand: &'a String) -> Option<Taken<'a>>
 
 fn with_two<'a>(word: &str, first: &'a String, second: &'a String) -> Option<Taken<'a>>
     ensures command { option_map (λ t. command_view t.command) result ≡
-        command_of ([] ∷ word.now ∷ string_bytes first.now ∷ string_bytes second.now ∷ []) }
+        lines_of ([] ∷ word.now ∷ string_bytes first.now ∷ string_bytes second.now ∷ []) }
     ensures rate { IfSome result (λ t. HasRate (command_view t.command)) }
 {
     if !are_both_operands(first.as_str(), second.as_str()) {
@@ -179,7 +173,7 @@ fn with_four<'a>(
     rate: &'a String,
 ) -> Option<Taken<'a>>
     ensures command { option_map (λ t. command_view t.command) result ≡
-        command_of ([] ∷ word.now ∷ string_bytes net.now ∷ string_bytes trace.now ∷ string_bytes name.now
+        lines_of ([] ∷ word.now ∷ string_bytes net.now ∷ string_bytes trace.now ∷ string_bytes name.now
         ∷ string_bytes rate.now ∷ []) }
     ensures rate { IfSome result (λ t. HasRate (command_view t.command)) }
 {
@@ -201,10 +195,10 @@ fn with_four<'a>(
     }
 }
 
-/// Reads the words, the program's name first. None where they are not taken.
+// The command of words without `--json`.
 #[tactic(auto, using(crate::proofs::WordLists::other_numbers))]
-pub(crate) fn take_words(words: &[String]) -> Option<Taken<'_>>
-    ensures command { option_map (λ t. command_view t.command) result ≡ command_of (texts words.now) }
+fn in_lines(words: &[String]) -> Option<Taken<'_>>
+    ensures command { option_map (λ t. command_view t.command) result ≡ lines_of (texts words.now) }
     ensures rate { IfSome result (λ t. HasRate (command_view t.command)) }
 {
     match words {
@@ -212,5 +206,71 @@ pub(crate) fn take_words(words: &[String]) -> Option<Taken<'_>>
         [_, word, first, second] => with_two(word.as_str(), first, second),
         [_, word, net, trace, name, rate] => with_four(word.as_str(), net, trace, name, rate),
         _ => None,
+    }
+}
+
+fn json_of_one<'a>(word: &str, file: &'a String) -> Option<Taken<'a>>
+    ensures command { option_map (λ t. command_view t.command) result
+        ≡ json_of word.now (string_bytes file.now ∷ []) }
+    ensures rate { IfSome result (λ t. HasRate (command_view t.command)) }
+{
+    if !is_operand(file.as_str()) {
+        return None;
+    }
+    if word != "analyse" {
+        return None;
+    }
+    let alloc = *file.allocator();
+    let command = Command::Analyse(Form::Json, file.as_str());
+    Some(Taken { alloc, command })
+}
+
+fn json_of_two<'a>(word: &str, first: &'a String, second: &'a String) -> Option<Taken<'a>>
+    ensures command { option_map (λ t. command_view t.command) result
+        ≡ json_of word.now (string_bytes first.now ∷ string_bytes second.now ∷ []) }
+    ensures rate { IfSome result (λ t. HasRate (command_view t.command)) }
+{
+    if !are_both_operands(first.as_str(), second.as_str()) {
+        return None;
+    }
+    if word != "edit" {
+        return None;
+    }
+    let alloc = *first.allocator();
+    let command = Command::Edit(Form::Json, first.as_str(), second.as_str());
+    Some(Taken { alloc, command })
+}
+
+// The command of a word on the words before and after `--json`.
+fn in_json<'a>(word: &str, before: &'a [String], after: &'a [String]) -> Option<Taken<'a>>
+    ensures command { option_map (λ t. command_view t.command) result
+        ≡ json_of word.now (texts (before.now ++ after.now)) }
+    ensures rate { IfSome result (λ t. HasRate (command_view t.command)) }
+{
+    let count = before.len() + after.len();
+    if count == 1 {
+        let file = word_of(before, after, 0);
+        return json_of_one(word, file);
+    }
+    if count == 2 {
+        let first = word_of(before, after, 0);
+        let second = word_of(before, after, 1);
+        return json_of_two(word, first, second);
+    }
+    None
+}
+
+/// Reads the words, the program's name first. None where they are not taken.
+#[tactic(auto, using(crate::proofs::JsonWords::none_of_few))]
+pub(crate) fn take_words(words: &[String]) -> Option<Taken<'_>>
+    ensures command { option_map (λ t. command_view t.command) result ≡ command_of (texts words.now) }
+    ensures rate { IfSome result (λ t. HasRate (command_view t.command)) }
+{
+    let [_, word, rest @ ..] = words else {
+        return None;
+    };
+    match around_json(rest) {
+        Some((before, after)) => in_json(word.as_str(), before, after),
+        None => in_lines(words),
     }
 }

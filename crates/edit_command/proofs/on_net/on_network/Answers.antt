@@ -7,5 +7,5 @@ pub returns-in-Err-Cycle-clause-reply : goal.returns-in-Err-Cycle-clause-reply
 returns-in-Err-Cycle-clause-reply g c =
     let cycle = rw c.in-Err-Cycle.field-0-is at c.in-Err-Cycle.ensures.fault in
     IfOk-weaker c.goes_round.result _ _
-    (λ r is. on_cycle c.args.net.now c.args.edits.now _ (reply_of r) c.keeps.ensures cycle is)
+    (λ r is. on_cycle c.args.form c.args.net.now c.args.edits.now _ (reply_of r) c.keeps.ensures cycle is)
     (rw c.deref-in-Err-Cycle.ensures.value at c.goes_round.ensures)
