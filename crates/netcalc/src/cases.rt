@@ -3726,7 +3726,7 @@ path = ["s9"]
 #[test]
 fn json(rt: HostRuntime) -> Result<(), Fail> {
     let alloc = rt.alloc();
-    let rows: [(&str, &[(&str, &str)], u8, &str); 31] = [
+    let rows: [(&str, &[(&str, &str)], u8, &str); 32] = [
         // a_cycle
         (
             "netcalc analyse n.toml --json",
@@ -3989,6 +3989,28 @@ path = ["s1", "s2"]
             &[("n.toml", "")],
             0,
             "{\"flows\":[],\"queues\":[]}\n",
+        ),
+        // at_check
+        (
+            "netcalc check n.toml r.csv --json",
+            &[
+                (
+                    "n.toml",
+                    r#"[[server]]
+name = "s1"
+rate = 100
+service = { kind = "latency", latency = 10 }
+[[flow]]
+name = "f1"
+packet = 12000
+arrival = { kind = "bucket", burst = 12000, rate = 10 }
+path = ["s1"]
+"#,
+                ),
+                ("r.csv", ""),
+            ],
+            2,
+            "netcalc: usage: netcalc analyse NET [--json], edit NET EDITS [--json], simulate NET TRACE, exercise N, check NET RUN, measure NET TRACE FLOW RATE, curve FILE\n",
         ),
         // at_curve
         (

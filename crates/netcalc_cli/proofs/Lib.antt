@@ -6,5 +6,5 @@ pub mod Replies
 pub mod ExampleNet
 pub mod ExampleBound
 pub mod WordLists
-pub mod JsonWords
+pub mod Taking
 pub mod Seeds

@@ -1,5 +1,5 @@
 -- What a reply that was given is, by its status.
-use Rattle.std.proofs.Common.{◌≡◌, ◌≢◌, ◌⊎◌, ℕ, List, Option, Result, Ok, Err, IfOk, inl, inr, sym, ap, ◌∙◌, subst}
+use Rattle.std.proofs.Common.{◌≡◌, ◌≢◌, ◌⊎◌, ℕ, List, Option, Some, None, IfSome, Result, Ok, Err, IfOk, inl, inr, refl, sym, ap, ◌∙◌, subst, arith}
 use Rattle.std.proofs.lemmas.Bool.{cases_eq}
 use Rattle.upp_limits.specs.declared.own_limits.OverLimit.TheVariants.{TooMany, TooWide}
 use Rattle.upp_limits.proofs.SpanNumbers.{if_some_map}
@@ -8,7 +8,7 @@ use Rattle.command_replies.specs.Replies.{Reply, cannot_read, too_long}
 use Rattle.command_replies.specs.View.{code_of, reply_of, status_of}
 use Rattle.netcalc_cli.specs.Commands.{Command, files_of, IsReplyTo, IsMalformed, IsOver, IsCyclic, TellsBreach, IsDone}
 use Rattle.netcalc_cli.specs.Commands.{Analyse, Edit, Simulate, Exercise, Check, Measure, Curve, IsAnswerable, IsAnswer}
-use Rattle.netcalc_cli.specs.Counts.{CountsOnCommand}
+use Rattle.netcalc_cli.specs.Counts.{CountsOnCommand, Counts}
 use Rattle.netcalc_cli.specs.Files.{Told, IsTooLong, FirstIs, MayHoldAll, AllFit, all_told}
 use Rattle.netcalc_cli.specs.Laws.{RepliesAreDetermined}
 use Rattle.netcalc_cli.specs.Reply.{IsReplyOnFiles, FailedAt, EndsAt, MayReplyTo, Gives, Brings, GivesOnTold, AnswersWhatItCan}
@@ -81,7 +81,38 @@ pub no_answer_in : {I E : Type 0} (faults : I → ℕ) (last_fault : I → List 
 no_answer_in faults last_fault told command old new files r h =
     no_answer command (status_of r) (none_in faults last_fault told old new files r h)
 
--- or the files were fetched
+-- ---- where memory is refused before a file is fetched
+five : IsNoAnswer 5
+five = record { zero = omega arith; nine = omega arith }
+
+pub nothing_counted : {I : Type 0} (content : I → List ℕ → Option (List ℕ)) (asked : Option Command) (inputs : I)
+    (steps : ℕ) → Counts content asked inputs 5 steps steps
+nothing_counted content None inputs steps = refl
+nothing_counted content (Some command) inputs steps = inl (no_answer command 5 five, refl)
+
+any_some : {A : Type 0} (o : Option A) (P : A → Type 0) → ((x : A) → P x) → IfSome o P
+any_some None P h = tt
+any_some (Some x) P h = h x
+
+pub nothing_told : (asked : Option Command) (told : Told) (old new : Option (List ℕ))
+    → IfSome asked (λ command. GivesOnTold command told 5 old new)
+nothing_told asked told old new =
+    any_some asked (λ command. GivesOnTold command told 5 old new)
+    (λ command. any_some (all_told told (files_of command))
+    (λ files. ((reply : Reply) × IsReplyOnFiles command files reply × Gives 5 old new reply)
+    ⊎ ((5 ≡ 3) ⊎ ((5 ≡ 4) ⊎ (5 ≡ 5))))
+    (λ files. inr (inr (inr refl))))
+
+pub nothing_answered : (asked : Option Command) (told : Told)
+    → IfSome asked (λ command. AnswersWhatItCan command told 5)
+nothing_answered asked told =
+    any_some asked (λ command. AnswersWhatItCan command told 5)
+    (λ command. any_some (all_told told (files_of command))
+    (λ files. AllFit files → IsAnswerable command files
+    → IsAnswer command 5 ⊎ ((5 ≡ 3) ⊎ ((5 ≡ 4) ⊎ (5 ≡ 5))))
+    (λ files fit can. inr (inr (inr refl))))
+
+-- ---- or the files were fetched
 pub answers : {I : Type 0} (faults : I → ℕ) (last_fault : I → List ℕ) (told : Told) (command : Command) (old new : I)
     (reply : Reply) (files : List (List ℕ)) → MayHoldAll told (files_of command) files → AllFit files
     → IsReplyTo command files reply

@@ -12,7 +12,7 @@ ghost use Rattle.netcalc_cli.specs.Reply.{Gives, GivesOnTold, AnswersWhatItCan, 
 ghost use Rattle.netcalc_cli.specs.Words.{texts, command_of};
 
 use crate::answering::answer_to;
-use crate::words::take_words;
+use crate::words::{parsed, taken};
 use command_replies::Status;
 use outside::{Inputs, Sink};
 use std::sync::ledger::Ledger;
@@ -36,7 +36,8 @@ fn give<K: Sink>(out: &mut K, status: Status, text: &[u8]) -> u8
     }
 }
 
-/// Does what the words ask for, and gives the status. The program's name is the first word.
+/// Does what the words ask for, and gives the status. The program's name is the first word. Words that are taken are
+/// parsed with `clap`, which refuses them only for want of memory.
 ///
 /// `analyse NET` reads a file of a network, and writes the bounds on its delays and backlogs. The order is: the
 /// words, the file, its tables, its curves, the order of its servers, the cells, one `put`. `edit NET EDITS` fetches
@@ -141,10 +142,13 @@ pub fn run<I: Inputs, K: Sink, L: Ledger>(
     // Of `measure` one step after the folds.
     ensures counts { Counts I.content (command_of (texts words.now)) inputs.old result steps.old steps.new }
 {
-    let Some(taken) = take_words(words) else {
+    let Some(alloc) = taken(words) else {
         return give(out, Status::Usage, USAGE.as_bytes());
     };
-    match answer_to(taken.alloc, taken.command, inputs, steps) {
+    let Ok(command) = parsed(alloc, words) else {
+        return Status::NoMemory.code();
+    };
+    match answer_to(alloc, command, inputs, steps) {
         Ok(answer) => give(out, answer.status, &answer.text),
         Err(_) => Status::NoMemory.code(),
     }

@@ -52,12 +52,12 @@ returns-in-Err-TooMany-clause-reply g c =
     c.keeps.ensures c.requires.ordered
     (first_of_copy c.args.net.now _ c.args.order.now c.in-Err-TooMany.cell (fault_of TooMany) c.in_ok-copy.ensures
     c.requires.ordered first) is)
-    c.cell_too_many.ensures
+    (rw c.in-Err-TooMany.field-0-is at c.cell_too_many.ensures)
 
 pub returns-in-Err-TooMany-clause-counts : goal.returns-in-Err-TooMany-clause-counts
 returns-in-Err-TooMany-clause-counts g c =
     let other = refused c.cell_too_many.result (cell_over TooMany (cell_words c.args.net.now c.in-Err-TooMany.cell))
-    (λ e. cc) c.cell_too_many.ensures in
+    (λ e. cc) (rw c.in-Err-TooMany.field-0-is at c.cell_too_many.ensures) in
     by_cells_of_copy c.args.net.now _ c.args.edits.now c.args.order.now (status_of c.cell_too_many.result) _ _
     c.in_ok-copy.ensures c.keeps.ensures c.requires.ordered c.new.ensures.rises c.new.ensures.within other
 
@@ -69,12 +69,12 @@ returns-in-Err-TooWide-clause-reply g c =
     c.keeps.ensures c.requires.ordered
     (first_of_copy c.args.net.now _ c.args.order.now c.in-Err-TooWide.cell (fault_of TooWide) c.in_ok-copy.ensures
     c.requires.ordered first) is)
-    c.cell_too_wide.ensures
+    (rw c.in-Err-TooWide.field-0-is at c.cell_too_wide.ensures)
 
 pub returns-in-Err-TooWide-clause-counts : goal.returns-in-Err-TooWide-clause-counts
 returns-in-Err-TooWide-clause-counts g c =
     let other = refused c.cell_too_wide.result (cell_over TooWide (cell_words c.args.net.now c.in-Err-TooWide.cell))
-    (λ e. cc) c.cell_too_wide.ensures in
+    (λ e. cc) (rw c.in-Err-TooWide.field-0-is at c.cell_too_wide.ensures) in
     by_cells_of_copy c.args.net.now _ c.args.edits.now c.args.order.now (status_of c.cell_too_wide.result) _ _
     c.in_ok-copy.ensures c.keeps.ensures c.requires.ordered c.new.ensures.rises c.new.ensures.within other
 
