@@ -1,5 +1,5 @@
 -- What is said of an edit is one thing, but for the choice among cycles.
-use Rattle.std.proofs.Common.{◌≡◌, ◌⊎◌, ℕ, ◌++◌, List, length, map, Option, Some, None, inl, inr, refl, sym, ap, ◌∙◌, subst, arith}
+use Rattle.std.proofs.Common.{◌≡◌, ◌⊎◌, ℕ, ◌++◌, List, length, Option, Some, None, inl, inr, refl, sym, ap, ◌∙◌, subst, arith}
 use Rattle.std.specs.Prelude.{Ok, Err, codes, string_bytes}
 use Rattle.upp_limits.specs.LimitTest.{fault_of}
 use Rattle.upp_limits.specs.declared.own_limits.OverLimit.{OverLimit}
@@ -23,7 +23,7 @@ use Rattle.edit_store.specs.Stored.{AreTouched}
 use Rattle.edit_store.proofs.Steps.{gives_one, same_touched}
 use Rattle.edit_report.specs.Said.{EditSaid, said_of}
 use Rattle.edit_report.specs.Said as edit_said
-use Rattle.report_text.specs.CellWords.{server_name, cell_words}
+use Rattle.report_text.specs.CellWords.{cell_words}
 use Rattle.edit_command.specs.NetHistories.{NetHistory}
 use Rattle.edit_command.specs.Causes.{GoesRound, HasCellOver, IsOverBy, IsCause}
 use Rattle.edit_command.specs.Answered.{IsTaken, IsAnswered, Taken, Undone, Refused}

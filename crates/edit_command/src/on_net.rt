@@ -1,6 +1,6 @@
 //! The answer on a network and edits.
 
-ghost use Rattle.std.specs.Prelude.{◌≡◌, ◌+◌, ◌≤◌, ℕ, List, [], length, IfOk, OnOk};
+ghost use Rattle.std.specs.Prelude.{◌≡◌, ◌+◌, ◌≤◌, ℕ, [], length, IfOk};
 ghost use Rattle.net_model.specs.Orders.{IsOrder};
 ghost use Rattle.net_model.specs.Networks.{Net};
 ghost use Rattle.net_cells.specs.Meanings.{CellTable};

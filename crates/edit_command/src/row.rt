@@ -1,10 +1,10 @@
 //! One edit of a list.
 
-ghost use Rattle.std.specs.Prelude.{◌≡◌, ◌≢◌, ◌+◌, ◌-◌, ◌^◌, ◌<◌, ◌≤◌, ℕ, List, length, Err, IfOk, IfErr, OnOk};
+ghost use Rattle.std.specs.Prelude.{◌≡◌, ◌≢◌, ◌+◌, ◌-◌, ◌^◌, ◌<◌, ◌≤◌, ℕ, length, Err, IfOk, IfErr};
 ghost use Rattle.net_model.specs.declared.edit.Edit.TheVariants.{Undo};
 ghost use Rattle.edit_store.specs.Applied.{IsShown, IsRefused};
 ghost use Rattle.edit_report.specs.Said.{said_view};
-ghost use Rattle.edit_command.specs.NetHistories.{NetHistory, history_of};
+ghost use Rattle.edit_command.specs.NetHistories.{history_of};
 ghost use Rattle.edit_command.specs.Causes.{BreaksNoRule};
 ghost use Rattle.edit_command.specs.Answered.{IsAnswered};
 ghost use Rattle.edit_command.specs.Said.{IsOfEdited, IsSaidOf, IsSaid};

@@ -1,12 +1,11 @@
 -- What is taken, `clap` takes; and what it finds is what is asked for.
-use Rattle.std.proofs.Common.{◌≡◌, ◌⊎◌, ℕ, Bool, true, false, List, [], ◌∷◌, length, Option, Some, None, inl, inr, refl, sym, ap, ◌∙◌, subst}
+use Rattle.std.proofs.Common.{◌≡◌, ◌⊎◌, ℕ, Bool, true, false, List, [], ◌∷◌, length, Option, inl, inr, refl, sym, ap, ◌∙◌, subst}
 use Rattle.std.specs.Prelude.{◌||◌, ◌&&◌, not, codes, if◌then◌else◌}
 use Rattle.std.specs.Option.{is_some, IsSome}
 use Rattle.std.specs.List.{list_all}
 use Rattle.std.specs.Str.{bytes_eq}
 use Rattle.std.proofs.lemmas.Slice.Eq.{bytes_eq-Decides}
 use Rattle.command_words.specs.Lines.{AreTaken, IsCallOf, is_operand, operands_of, asks_json, takes_operands, takes_json, takes_rest}
-use Rattle.netcalc_cli.specs.Commands.{Command}
 use Rattle.netcalc_cli.specs.Words.{on_one, on_two, on_four, in_lines, in_json, called, command_on, command_of}
 
 abbrev Text : Type 0

@@ -1,4 +1,4 @@
-use Rattle.std.proofs.Common.{◌≡◌, ◌++◌, ◌∷◌, [], List, ℕ, ap, ◌∙◌, arith, length-append}
+use Rattle.std.proofs.Common.{◌++◌, ◌∷◌, [], List, ℕ, ap, ◌∙◌, arith, length-append}
 use Rattle.std.specs.Prelude.{is_some}
 use Rattle.netcalc_cli.specs.View.{command_view}
 use Rattle.netcalc_cli.proofs.WordLists.{of_one, of_two, of_four, of_others, same_of_two, same_of_four, some_called}

@@ -1,4 +1,4 @@
-use Rattle.std.proofs.Common.{◌≡◌, false, true, None, map, ap, ◌∙◌}
+use Rattle.std.proofs.Common.{◌≡◌, false, true, None, ap, ◌∙◌}
 use Rattle.std.specs.Prelude.{is_some}
 use Rattle.netcalc_cli.specs.Words.{texts, command_of}
 use Rattle.netcalc_cli.proofs.Taking.{line_taken, call_asks}

@@ -1,4 +1,4 @@
-use Rattle.std.proofs.Common.{◌≡◌, true, false, sym, ap, ◌∙◌, arith}
+use Rattle.std.proofs.Common.{true, false, sym, ap, ◌∙◌, arith}
 use Rattle.std.specs.Prelude.{is_some}
 use Rattle.netcalc_cli.specs.Words.{texts, command_of}
 use Rattle.netcalc_cli.proofs.WordLists.{by_parts, none_of_few, not_some}
