@@ -1,5 +1,5 @@
 -- What a reply that was given is, by its status.
-use Rattle.std.proofs.Common.{◌≡◌, ◌≢◌, ◌⊎◌, ℕ, List, Option, Some, None, IfSome, Result, Ok, Err, IfOk, inl, inr, refl, sym, ap, ◌∙◌, subst, arith}
+use Rattle.std.proofs.Common.{◌≡◌, ◌≢◌, ◌⊎◌, ℕ, List, Option, Some, None, IfSome, Result, Ok, Err, IfOk, inl, inr, refl, sym, ap, ◌∙◌, subst}
 use Rattle.std.proofs.lemmas.Bool.{cases_eq}
 use Rattle.upp_limits.specs.declared.own_limits.OverLimit.TheVariants.{TooMany, TooWide}
 use Rattle.upp_limits.proofs.SpanNumbers.{if_some_map}
@@ -81,36 +81,37 @@ pub no_answer_in : {I E : Type 0} (faults : I → ℕ) (last_fault : I → List 
 no_answer_in faults last_fault told command old new files r h =
     no_answer command (status_of r) (none_in faults last_fault told old new files r h)
 
--- ---- where memory is refused before a file is fetched
-five : IsNoAnswer 5
-five = record { zero = omega arith; nine = omega arith }
+-- ---- where memory is refused, whatever is asked
+no_memory : (status : ℕ) → status ≡ 5 → IsNoAnswer status
+no_memory status five = record { zero = λ e. absurd (cc); nine = λ e. absurd (cc) }
 
 pub nothing_counted : {I : Type 0} (content : I → List ℕ → Option (List ℕ)) (asked : Option Command) (inputs : I)
-    (steps : ℕ) → Counts content asked inputs 5 steps steps
-nothing_counted content None inputs steps = refl
-nothing_counted content (Some command) inputs steps = inl (no_answer command 5 five, refl)
+    (status steps : ℕ) → status ≡ 5 → Counts content asked inputs status steps steps
+nothing_counted content None inputs status steps five = refl
+nothing_counted content (Some command) inputs status steps five =
+    inl (no_answer command status (no_memory status five), refl)
 
 any_some : {A : Type 0} (o : Option A) (P : A → Type 0) → ((x : A) → P x) → IfSome o P
 any_some None P h = tt
 any_some (Some x) P h = h x
 
-pub nothing_told : (asked : Option Command) (told : Told) (old new : Option (List ℕ))
-    → IfSome asked (λ command. GivesOnTold command told 5 old new)
-nothing_told asked told old new =
-    any_some asked (λ command. GivesOnTold command told 5 old new)
+pub nothing_told : (asked : Option Command) (told : Told) (status : ℕ) (old new : Option (List ℕ)) → status ≡ 5
+    → IfSome asked (λ command. GivesOnTold command told status old new)
+nothing_told asked told status old new five =
+    any_some asked (λ command. GivesOnTold command told status old new)
     (λ command. any_some (all_told told (files_of command))
-    (λ files. ((reply : Reply) × IsReplyOnFiles command files reply × Gives 5 old new reply)
-    ⊎ ((5 ≡ 3) ⊎ ((5 ≡ 4) ⊎ (5 ≡ 5))))
-    (λ files. inr (inr (inr refl))))
+    (λ files. ((reply : Reply) × IsReplyOnFiles command files reply × Gives status old new reply)
+    ⊎ ((status ≡ 3) ⊎ ((status ≡ 4) ⊎ (status ≡ 5))))
+    (λ files. inr (inr (inr five))))
 
-pub nothing_answered : (asked : Option Command) (told : Told)
-    → IfSome asked (λ command. AnswersWhatItCan command told 5)
-nothing_answered asked told =
-    any_some asked (λ command. AnswersWhatItCan command told 5)
+pub nothing_answered : (asked : Option Command) (told : Told) (status : ℕ) → status ≡ 5
+    → IfSome asked (λ command. AnswersWhatItCan command told status)
+nothing_answered asked told status five =
+    any_some asked (λ command. AnswersWhatItCan command told status)
     (λ command. any_some (all_told told (files_of command))
     (λ files. AllFit files → IsAnswerable command files
-    → IsAnswer command 5 ⊎ ((5 ≡ 3) ⊎ ((5 ≡ 4) ⊎ (5 ≡ 5))))
-    (λ files fit can. inr (inr (inr refl))))
+    → IsAnswer command status ⊎ ((status ≡ 3) ⊎ ((status ≡ 4) ⊎ (status ≡ 5))))
+    (λ files fit can. inr (inr (inr five))))
 
 -- ---- or the files were fetched
 pub answers : {I : Type 0} (faults : I → ℕ) (last_fault : I → List ℕ) (told : Told) (command : Command) (old new : I)

@@ -127,7 +127,7 @@ returns-in-Ok-answer_to-clause-complete g c =
     (λ other. let given = c.give-in-Ok-answer_to.ensures.given other in (given.0, rw c.deref.ensures.value at given.1)) in
     rw (← c.in-Ok.ensures.command) (answers_what_it_can command content c.give-in-Ok-answer_to.result old new told)
 
--- memory is refused for the words
+-- memory is refused, for the words or later
 pub returns-in_default-parsed-clause-not_taken : goal.returns-in_default-parsed-clause-not_taken
 returns-in_default-parsed-clause-not_taken g c none =
     let never : false ≡ true = sym (ap is_some none) ∙ c.in-Some.ensures.taken in
@@ -135,13 +135,25 @@ returns-in_default-parsed-clause-not_taken g c none =
 
 pub returns-in_default-parsed-clause-told : goal.returns-in_default-parsed-clause-told
 returns-in_default-parsed-clause-told g c =
-    nothing_told (command_of (texts c.args.words.now)) (g.I.Inputs.content c.args.inputs.now)
-    (g.K.Sink.written c.args.out.now) (g.K.Sink.written c.args.out.now)
+    nothing_told (command_of (texts c.args.words.now)) (g.I.Inputs.content c.args.inputs.now) c.code.result
+    (g.K.Sink.written c.args.out.now) (g.K.Sink.written c.args.out.now) c.code.ensures
 
 pub returns-in_default-parsed-clause-complete : goal.returns-in_default-parsed-clause-complete
 returns-in_default-parsed-clause-complete g c =
-    nothing_answered (command_of (texts c.args.words.now)) (g.I.Inputs.content c.args.inputs.now)
+    nothing_answered (command_of (texts c.args.words.now)) (g.I.Inputs.content c.args.inputs.now) c.code.result
+    c.code.ensures
 
 pub returns-in_default-parsed-clause-counts : goal.returns-in_default-parsed-clause-counts
 returns-in_default-parsed-clause-counts g c =
-    nothing_counted g.I.Inputs.content (command_of (texts c.args.words.now)) c.args.inputs.now c.args.steps.now
+    nothing_counted g.I.Inputs.content (command_of (texts c.args.words.now)) c.args.inputs.now c.code.result
+    c.args.steps.now c.code.ensures
+
+pub returns-in-Err-clause-told : goal.returns-in-Err-clause-told
+returns-in-Err-clause-told g c =
+    nothing_told (command_of (texts c.args.words.now)) (g.I.Inputs.content c.args.inputs.now) c.code-in-Err.result
+    (g.K.Sink.written c.args.out.now) (g.K.Sink.written c.args.out.now) c.code-in-Err.ensures
+
+pub returns-in-Err-clause-complete : goal.returns-in-Err-clause-complete
+returns-in-Err-clause-complete g c =
+    nothing_answered (command_of (texts c.args.words.now)) (g.I.Inputs.content c.args.inputs.now) c.code-in-Err.result
+    c.code-in-Err.ensures
