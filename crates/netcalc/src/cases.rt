@@ -4012,6 +4012,677 @@ path = ["s1", "s2"]
 }
 
 #[test]
+fn json(rt: HostRuntime) -> Result<(), Fail> {
+    let alloc = rt.alloc();
+    let rows: [(&str, &[(&str, &str)], u8, &str); 32] = [
+        // a_cycle
+        (
+            "netcalc analyse n.toml --json",
+            &[(
+                "n.toml",
+                r#"[[server]]
+name = "s1"
+rate = 100
+service = { kind = "latency", latency = 10 }
+[[server]]
+name = "s2"
+rate = 100
+service = { kind = "latency", latency = 10 }
+[[flow]]
+name = "f1"
+packet = 12000
+arrival = { kind = "bucket", burst = 12000, rate = 10 }
+path = ["s1", "s2"]
+[[flow]]
+name = "f2"
+packet = 12000
+arrival = { kind = "bucket", burst = 12000, rate = 10 }
+path = ["s2", "s1"]
+"#,
+            )],
+            8,
+            "netcalc: cycle s1 s2 s1\n",
+        ),
+        // a_dropped_flow_and_back
+        (
+            "netcalc edit n.toml e.csv --json",
+            &[
+                (
+                    "e.csv",
+                    r#"drop,f1
+undo
+undo
+drop,f1
+"#,
+                ),
+                (
+                    "n.toml",
+                    r#"[[server]]
+name = "s1"
+rate = 100
+service = { kind = "latency", latency = 10 }
+[[server]]
+name = "s2"
+rate = 100
+service = { kind = "latency", latency = 10 }
+[[flow]]
+name = "f1"
+packet = 12000
+arrival = { kind = "bucket", burst = 12000, rate = 10 }
+path = ["s1", "s2"]
+"#,
+                ),
+            ],
+            0,
+            "{\"edits\":[{\"cells\":6,\"ok\":true},{\"cells\":0,\"ok\":true},{\"ok\":false,\"refused\":\"nothing-to-undo\"},{\"cells\":6,\"ok\":true}],\"flows\":[],\"queues\":[{\"backlog\":\"0\",\"delay\":\"0\",\"queue\":0,\"server\":\"s1\"},{\"backlog\":\"0\",\"delay\":\"0\",\"queue\":0,\"server\":\"s2\"}]}\n",
+        ),
+        // a_file_for_two
+        (
+            "netcalc edit n.toml --json",
+            &[(
+                "n.toml",
+                r#"[[server]]
+name = "s1"
+rate = 100
+service = { kind = "latency", latency = 10 }
+[[flow]]
+name = "f1"
+packet = 12000
+arrival = { kind = "bucket", burst = 12000, rate = 10 }
+path = ["s1"]
+"#,
+            )],
+            2,
+            "netcalc: usage: netcalc analyse NET [--json], edit NET EDITS [--json], simulate NET TRACE, exercise N, check NET RUN, measure NET TRACE FLOW RATE, curve FILE\n",
+        ),
+        // a_file_that_is_not_there
+        (
+            "netcalc analyse --json x.toml",
+            &[(
+                "n.toml",
+                r#"[[server]]
+name = "s1"
+rate = 100
+service = { kind = "latency", latency = 10 }
+[[flow]]
+name = "f1"
+packet = 12000
+arrival = { kind = "bucket", burst = 12000, rate = 10 }
+path = ["s1"]
+"#,
+            )],
+            3,
+            "netcalc: cannot read x.toml\n",
+        ),
+        // a_flow_faster_than_its_server
+        (
+            "netcalc analyse n.toml --json",
+            &[(
+                "n.toml",
+                r#"[[server]]
+name = "s1"
+rate = 100
+service = { kind = "latency", latency = 10 }
+[[flow]]
+name = "f1"
+packet = 12000
+arrival = { kind = "bucket", burst = 12000, rate = 101 }
+path = ["s1"]
+"#,
+            )],
+            0,
+            "{\"flows\":[{\"bound\":\"unbounded\",\"name\":\"f1\",\"sfa\":\"unbounded\",\"tfa\":\"unbounded\"}],\"queues\":[{\"backlog\":\"unbounded\",\"delay\":\"unbounded\",\"queue\":0,\"server\":\"s1\"}]}\n",
+        ),
+        // a_refused_edit
+        (
+            "netcalc edit n.toml e.csv --json",
+            &[
+                ("e.csv", "rate,s9,1\n"),
+                (
+                    "n.toml",
+                    r#"[[server]]
+name = "s1"
+rate = 100
+service = { kind = "latency", latency = 10 }
+[[flow]]
+name = "f1"
+packet = 12000
+arrival = { kind = "bucket", burst = 12000, rate = 10 }
+path = ["s1"]
+"#,
+                ),
+            ],
+            0,
+            "{\"edits\":[{\"ok\":false,\"refused\":\"unknown-name s9\"}],\"flows\":[{\"bound\":\"130\",\"name\":\"f1\",\"sfa\":\"130\",\"tfa\":\"130\"}],\"queues\":[{\"backlog\":\"13300\",\"delay\":\"130\",\"queue\":0,\"server\":\"s1\"}]}\n",
+        ),
+        // a_rule_broken
+        (
+            "netcalc analyse n.toml --json",
+            &[(
+                "n.toml",
+                r#"[[server]]
+name = "s1"
+rate = 100
+service = { kind = "latency", latency = 10 }
+[[flow]]
+name = "f1"
+packet = 12000
+arrival = { kind = "bucket", burst = 12000, rate = 10 }
+path = ["s9"]
+"#,
+            )],
+            1,
+            "netcalc: n.toml: M8 flow[0].path[0]\n",
+        ),
+        // a_wrong_row
+        (
+            "netcalc edit n.toml e.csv --json",
+            &[
+                (
+                    "e.csv",
+                    r#"undo
+rate,s1
+"#,
+                ),
+                (
+                    "n.toml",
+                    r#"[[server]]
+name = "s1"
+rate = 100
+service = { kind = "latency", latency = 10 }
+[[flow]]
+name = "f1"
+packet = 12000
+arrival = { kind = "bucket", burst = 12000, rate = 10 }
+path = ["s1"]
+"#,
+                ),
+            ],
+            1,
+            "netcalc: e.csv: T3 row 2\n",
+        ),
+        // an_edit_in_json_between
+        (
+            "netcalc edit n.toml --json e.csv",
+            &[
+                ("e.csv", "rate,s9,1\n"),
+                (
+                    "n.toml",
+                    r#"[[server]]
+name = "s1"
+rate = 100
+service = { kind = "latency", latency = 10 }
+[[flow]]
+name = "f1"
+packet = 12000
+arrival = { kind = "bucket", burst = 12000, rate = 10 }
+path = ["s1"]
+"#,
+                ),
+            ],
+            0,
+            "{\"edits\":[{\"ok\":false,\"refused\":\"unknown-name s9\"}],\"flows\":[{\"bound\":\"130\",\"name\":\"f1\",\"sfa\":\"130\",\"tfa\":\"130\"}],\"queues\":[{\"backlog\":\"13300\",\"delay\":\"130\",\"queue\":0,\"server\":\"s1\"}]}\n",
+        ),
+        // an_edit_in_json_first
+        (
+            "netcalc edit --json n.toml e.csv",
+            &[
+                ("e.csv", "rate,s9,1\n"),
+                (
+                    "n.toml",
+                    r#"[[server]]
+name = "s1"
+rate = 100
+service = { kind = "latency", latency = 10 }
+[[flow]]
+name = "f1"
+packet = 12000
+arrival = { kind = "bucket", burst = 12000, rate = 10 }
+path = ["s1"]
+"#,
+                ),
+            ],
+            0,
+            "{\"edits\":[{\"ok\":false,\"refused\":\"unknown-name s9\"}],\"flows\":[{\"bound\":\"130\",\"name\":\"f1\",\"sfa\":\"130\",\"tfa\":\"130\"}],\"queues\":[{\"backlog\":\"13300\",\"delay\":\"130\",\"queue\":0,\"server\":\"s1\"}]}\n",
+        ),
+        // an_edit_that_goes_round
+        (
+            "netcalc edit n.toml e.csv --json",
+            &[
+                ("e.csv", "add,f2,12000,12000,10,s2 s1\n"),
+                (
+                    "n.toml",
+                    r#"[[server]]
+name = "s1"
+rate = 100
+service = { kind = "latency", latency = 10 }
+[[server]]
+name = "s2"
+rate = 100
+service = { kind = "latency", latency = 10 }
+[[flow]]
+name = "f1"
+packet = 12000
+arrival = { kind = "bucket", burst = 12000, rate = 10 }
+path = ["s1", "s2"]
+"#,
+                ),
+            ],
+            0,
+            "{\"edits\":[{\"ok\":false,\"refused\":\"cycle s1 s2 s1\"}],\"flows\":[{\"bound\":\"260\",\"name\":\"f1\",\"sfa\":\"260\",\"tfa\":\"273\"}],\"queues\":[{\"backlog\":\"13300\",\"delay\":\"130\",\"queue\":0,\"server\":\"s1\"},{\"backlog\":\"14600\",\"delay\":\"143\",\"queue\":0,\"server\":\"s2\"}]}\n",
+        ),
+        // an_empty_file
+        (
+            "netcalc analyse n.toml --json",
+            &[("n.toml", "")],
+            0,
+            "{\"flows\":[],\"queues\":[]}\n",
+        ),
+        // at_check
+        (
+            "netcalc check n.toml r.csv --json",
+            &[
+                (
+                    "n.toml",
+                    r#"[[server]]
+name = "s1"
+rate = 100
+service = { kind = "latency", latency = 10 }
+[[flow]]
+name = "f1"
+packet = 12000
+arrival = { kind = "bucket", burst = 12000, rate = 10 }
+path = ["s1"]
+"#,
+                ),
+                ("r.csv", ""),
+            ],
+            2,
+            "netcalc: usage: netcalc analyse NET [--json], edit NET EDITS [--json], simulate NET TRACE, exercise N, check NET RUN, measure NET TRACE FLOW RATE, curve FILE\n",
+        ),
+        // at_curve
+        (
+            "netcalc curve --json s.curve",
+            &[("s.curve", "")],
+            2,
+            "netcalc: usage: netcalc analyse NET [--json], edit NET EDITS [--json], simulate NET TRACE, exercise N, check NET RUN, measure NET TRACE FLOW RATE, curve FILE\n",
+        ),
+        // at_exercise
+        (
+            "netcalc exercise 7 --json",
+            &[],
+            2,
+            "netcalc: usage: netcalc analyse NET [--json], edit NET EDITS [--json], simulate NET TRACE, exercise N, check NET RUN, measure NET TRACE FLOW RATE, curve FILE\n",
+        ),
+        // at_measure
+        (
+            "netcalc measure n.toml t.csv f1 1 --json",
+            &[
+                (
+                    "n.toml",
+                    r#"[[server]]
+name = "s1"
+rate = 100
+service = { kind = "latency", latency = 10 }
+[[flow]]
+name = "f1"
+packet = 12000
+arrival = { kind = "bucket", burst = 12000, rate = 10 }
+path = ["s1"]
+"#,
+                ),
+                ("t.csv", ""),
+            ],
+            2,
+            "netcalc: usage: netcalc analyse NET [--json], edit NET EDITS [--json], simulate NET TRACE, exercise N, check NET RUN, measure NET TRACE FLOW RATE, curve FILE\n",
+        ),
+        // at_measure_first
+        (
+            "netcalc measure --json n.toml t.csv f1 1",
+            &[
+                (
+                    "n.toml",
+                    r#"[[server]]
+name = "s1"
+rate = 100
+service = { kind = "latency", latency = 10 }
+[[flow]]
+name = "f1"
+packet = 12000
+arrival = { kind = "bucket", burst = 12000, rate = 10 }
+path = ["s1"]
+"#,
+                ),
+                ("t.csv", ""),
+            ],
+            2,
+            "netcalc: usage: netcalc analyse NET [--json], edit NET EDITS [--json], simulate NET TRACE, exercise N, check NET RUN, measure NET TRACE FLOW RATE, curve FILE\n",
+        ),
+        // at_simulate
+        (
+            "netcalc simulate n.toml t.csv --json",
+            &[
+                (
+                    "n.toml",
+                    r#"[[server]]
+name = "s1"
+rate = 100
+service = { kind = "latency", latency = 10 }
+[[flow]]
+name = "f1"
+packet = 12000
+arrival = { kind = "bucket", burst = 12000, rate = 10 }
+path = ["s1"]
+"#,
+                ),
+                ("t.csv", ""),
+            ],
+            2,
+            "netcalc: usage: netcalc analyse NET [--json], edit NET EDITS [--json], simulate NET TRACE, exercise N, check NET RUN, measure NET TRACE FLOW RATE, curve FILE\n",
+        ),
+        // before_the_command
+        (
+            "netcalc --json analyse n.toml",
+            &[(
+                "n.toml",
+                r#"[[server]]
+name = "s1"
+rate = 100
+service = { kind = "latency", latency = 10 }
+[[flow]]
+name = "f1"
+packet = 12000
+arrival = { kind = "bucket", burst = 12000, rate = 10 }
+path = ["s1"]
+"#,
+            )],
+            2,
+            "netcalc: usage: netcalc analyse NET [--json], edit NET EDITS [--json], simulate NET TRACE, exercise N, check NET RUN, measure NET TRACE FLOW RATE, curve FILE\n",
+        ),
+        // before_the_file
+        (
+            "netcalc analyse --json n.toml",
+            &[(
+                "n.toml",
+                r#"[[server]]
+name = "s1"
+rate = 100
+service = { kind = "latency", latency = 10 }
+[[flow]]
+name = "f1"
+packet = 12000
+arrival = { kind = "bucket", burst = 12000, rate = 10 }
+path = ["s1"]
+"#,
+            )],
+            0,
+            "{\"flows\":[{\"bound\":\"130\",\"name\":\"f1\",\"sfa\":\"130\",\"tfa\":\"130\"}],\"queues\":[{\"backlog\":\"13300\",\"delay\":\"130\",\"queue\":0,\"server\":\"s1\"}]}\n",
+        ),
+        // fractions_are_texts
+        (
+            "netcalc analyse n.toml --json",
+            &[(
+                "n.toml",
+                r#"[[server]]
+name = "s1"
+rate = 3
+service = { kind = "latency" }
+[[flow]]
+name = "f1"
+packet = 1
+arrival = { kind = "bucket", burst = 1, rate = "1/2" }
+path = ["s1"]
+"#,
+            )],
+            0,
+            "{\"flows\":[{\"bound\":\"1/3\",\"name\":\"f1\",\"sfa\":\"1/3\",\"tfa\":\"1/3\"}],\"queues\":[{\"backlog\":\"7/6\",\"delay\":\"1/3\",\"queue\":0,\"server\":\"s1\"}]}\n",
+        ),
+        // in_capitals
+        (
+            "netcalc analyse n.toml --JSON",
+            &[(
+                "n.toml",
+                r#"[[server]]
+name = "s1"
+rate = 100
+service = { kind = "latency", latency = 10 }
+[[flow]]
+name = "f1"
+packet = 12000
+arrival = { kind = "bucket", burst = 12000, rate = 10 }
+path = ["s1"]
+"#,
+            )],
+            2,
+            "netcalc: usage: netcalc analyse NET [--json], edit NET EDITS [--json], simulate NET TRACE, exercise N, check NET RUN, measure NET TRACE FLOW RATE, curve FILE\n",
+        ),
+        // names_that_are_escaped
+        (
+            "netcalc edit n.toml e.csv --json",
+            &[
+                (
+                    "e.csv",
+                    r#"drop,"a""b"
+drop,a\b
+drop,a/b
+drop,"a b"
+drop,
+"#,
+                ),
+                (
+                    "n.toml",
+                    r#"[[server]]
+name = "s1"
+rate = 100
+service = { kind = "latency", latency = 10 }
+[[flow]]
+name = "f1"
+packet = 12000
+arrival = { kind = "bucket", burst = 12000, rate = 10 }
+path = ["s1"]
+"#,
+                ),
+            ],
+            0,
+            r#"{"edits":[{"ok":false,"refused":"unknown-name a\"b"},{"ok":false,"refused":"unknown-name a\\b"},{"ok":false,"refused":"unknown-name a/b"},{"ok":false,"refused":"unknown-name a b"},{"ok":false,"refused":"unknown-name "}],"flows":[{"bound":"130","name":"f1","sfa":"130","tfa":"130"}],"queues":[{"backlog":"13300","delay":"130","queue":0,"server":"s1"}]}
+"#,
+        ),
+        // no_edits
+        (
+            "netcalc edit n.toml e.csv --json",
+            &[
+                ("e.csv", ""),
+                (
+                    "n.toml",
+                    r#"[[server]]
+name = "s1"
+rate = 100
+service = { kind = "latency", latency = 10 }
+[[flow]]
+name = "f1"
+packet = 12000
+arrival = { kind = "bucket", burst = 12000, rate = 10 }
+path = ["s1"]
+"#,
+                ),
+            ],
+            0,
+            "{\"edits\":[],\"flows\":[{\"bound\":\"130\",\"name\":\"f1\",\"sfa\":\"130\",\"tfa\":\"130\"}],\"queues\":[{\"backlog\":\"13300\",\"delay\":\"130\",\"queue\":0,\"server\":\"s1\"}]}\n",
+        ),
+        // no_file
+        (
+            "netcalc analyse --json",
+            &[(
+                "n.toml",
+                r#"[[server]]
+name = "s1"
+rate = 100
+service = { kind = "latency", latency = 10 }
+[[flow]]
+name = "f1"
+packet = 12000
+arrival = { kind = "bucket", burst = 12000, rate = 10 }
+path = ["s1"]
+"#,
+            )],
+            2,
+            "netcalc: usage: netcalc analyse NET [--json], edit NET EDITS [--json], simulate NET TRACE, exercise N, check NET RUN, measure NET TRACE FLOW RATE, curve FILE\n",
+        ),
+        // one_flow
+        (
+            "netcalc analyse n.toml --json",
+            &[(
+                "n.toml",
+                r#"[[server]]
+name = "s1"
+rate = 100
+service = { kind = "latency", latency = 10 }
+[[flow]]
+name = "f1"
+packet = 12000
+arrival = { kind = "bucket", burst = 12000, rate = 10 }
+path = ["s1"]
+"#,
+            )],
+            0,
+            "{\"flows\":[{\"bound\":\"130\",\"name\":\"f1\",\"sfa\":\"130\",\"tfa\":\"130\"}],\"queues\":[{\"backlog\":\"13300\",\"delay\":\"130\",\"queue\":0,\"server\":\"s1\"}]}\n",
+        ),
+        // queues_by_number
+        (
+            "netcalc analyse n.toml --json",
+            &[(
+                "n.toml",
+                r#"[[server]]
+name = "s1"
+rate = 100
+service = { kind = "latency", latency = 10 }
+discipline = "priority"
+queues = 2
+[[flow]]
+name = "f1"
+packet = 12000
+arrival = { kind = "bucket", burst = 12000, rate = 10 }
+path = ["s1:1"]
+[[flow]]
+name = "f2"
+packet = 6000
+arrival = { kind = "bucket", burst = 6000, rate = 5 }
+path = ["s1:0"]
+"#,
+            )],
+            0,
+            "{\"flows\":[{\"bound\":\"200\",\"name\":\"f1\",\"sfa\":\"200\",\"tfa\":\"200\"},{\"bound\":\"190\",\"name\":\"f2\",\"sfa\":\"190\",\"tfa\":\"190\"}],\"queues\":[{\"backlog\":\"6950\",\"delay\":\"190\",\"queue\":0,\"server\":\"s1\"},{\"backlog\":\"14000\",\"delay\":\"200\",\"queue\":1,\"server\":\"s1\"}]}\n",
+        ),
+        // servers_in_the_order_of_the_file
+        (
+            "netcalc analyse n.toml --json",
+            &[(
+                "n.toml",
+                r#"[[server]]
+name = "z"
+rate = 100
+service = { kind = "latency", latency = 10 }
+[[server]]
+name = "a"
+rate = 100
+service = { kind = "latency", latency = 10 }
+[[flow]]
+name = "f1"
+packet = 12000
+arrival = { kind = "bucket", burst = 12000, rate = 10 }
+path = ["z", "a"]
+"#,
+            )],
+            0,
+            "{\"flows\":[{\"bound\":\"260\",\"name\":\"f1\",\"sfa\":\"260\",\"tfa\":\"273\"}],\"queues\":[{\"backlog\":\"13300\",\"delay\":\"130\",\"queue\":0,\"server\":\"z\"},{\"backlog\":\"14600\",\"delay\":\"143\",\"queue\":0,\"server\":\"a\"}]}\n",
+        ),
+        // twice
+        (
+            "netcalc analyse n.toml --json --json",
+            &[(
+                "n.toml",
+                r#"[[server]]
+name = "s1"
+rate = 100
+service = { kind = "latency", latency = 10 }
+[[flow]]
+name = "f1"
+packet = 12000
+arrival = { kind = "bucket", burst = 12000, rate = 10 }
+path = ["s1"]
+"#,
+            )],
+            2,
+            "netcalc: usage: netcalc analyse NET [--json], edit NET EDITS [--json], simulate NET TRACE, exercise N, check NET RUN, measure NET TRACE FLOW RATE, curve FILE\n",
+        ),
+        // twice_at_edit
+        (
+            "netcalc edit --json n.toml e.csv --json",
+            &[
+                ("e.csv", ""),
+                (
+                    "n.toml",
+                    r#"[[server]]
+name = "s1"
+rate = 100
+service = { kind = "latency", latency = 10 }
+[[flow]]
+name = "f1"
+packet = 12000
+arrival = { kind = "bucket", burst = 12000, rate = 10 }
+path = ["s1"]
+"#,
+                ),
+            ],
+            2,
+            "netcalc: usage: netcalc analyse NET [--json], edit NET EDITS [--json], simulate NET TRACE, exercise N, check NET RUN, measure NET TRACE FLOW RATE, curve FILE\n",
+        ),
+        // two_files_for_one
+        (
+            "netcalc analyse n.toml n.toml --json",
+            &[(
+                "n.toml",
+                r#"[[server]]
+name = "s1"
+rate = 100
+service = { kind = "latency", latency = 10 }
+[[flow]]
+name = "f1"
+packet = 12000
+arrival = { kind = "bucket", burst = 12000, rate = 10 }
+path = ["s1"]
+"#,
+            )],
+            2,
+            "netcalc: usage: netcalc analyse NET [--json], edit NET EDITS [--json], simulate NET TRACE, exercise N, check NET RUN, measure NET TRACE FLOW RATE, curve FILE\n",
+        ),
+        // with_a_value
+        (
+            "netcalc analyse n.toml --json=true",
+            &[(
+                "n.toml",
+                r#"[[server]]
+name = "s1"
+rate = 100
+service = { kind = "latency", latency = 10 }
+[[flow]]
+name = "f1"
+packet = 12000
+arrival = { kind = "bucket", burst = 12000, rate = 10 }
+path = ["s1"]
+"#,
+            )],
+            2,
+            "netcalc: usage: netcalc analyse NET [--json], edit NET EDITS [--json], simulate NET TRACE, exercise N, check NET RUN, measure NET TRACE FLOW RATE, curve FILE\n",
+        ),
+    ];
+    for (line, files, status, wanted) in rows {
+        check(&rt, alloc, line, files, status, wanted)?;
+    }
+    Ok(())
+}
+
+#[test]
 fn kinds(rt: HostRuntime) -> Result<(), Fail> {
     let alloc = rt.alloc();
     let rows: [(&str, &[(&str, &str)], u8, &str); 2] = [
