@@ -1,10 +1,11 @@
 #!/usr/bin/env python3
-"""Inputs at the edges of what is taken, recorded runs, traces of which some come at random, and one file cut after each of its bytes, as whole commands.
+"""Inputs at the edges of what is taken, recorded runs, traces, and one file cut after each of its bytes, as whole commands.
 
     python3 tests/inputs.py [PROGRAM]
 
 PROGRAM is that of bin/ where none is named. What is wanted of a cut comes from Python's own reader of TOML: M1 exactly where that reads no text, and
-else what is said below of the few cuts that are whole. It prints each answer that is another one, and how many were tried, and ends with 1 where one was.
+else what is said below of the few cuts that are whole. Of traces at random over a stair it comes from a look at all pairs of
+packets. It prints each answer that is another one, and how many were tried, and ends with 1 where one was.
 """
 
 import random
