@@ -155,20 +155,23 @@ CASES = {
 }
 
 
+def run_files(program: str, words: list[str], files: dict[str, str], folder: Path, seconds: int) -> tuple[str, float, float, str]:
+    """The status of a call where these files lie, its seconds of processor time, its MiB at most, and the line of a refusal."""
+    for name, text in files.items():
+        (folder / name).write_text(text)
+    out = folder / "out"
+    with open(out, "wb") as out_file:
+        child = subprocess.Popen([program, *words], cwd=folder, stdout=out_file, preexec_fn=lambda: limits(seconds))
+        _, status, usage = os.wait4(child.pid, 0)
+        child.returncode = os.waitstatus_to_exitcode(status)
+    ended = "late" if child.returncode in (-24, -9) else str(child.returncode)
+    said = [line for line in out.read_text(errors="replace").splitlines()[:1] if line.startswith("netcalc:")]
+    return ended, usage.ru_utime + usage.ru_stime, usage.ru_maxrss / 1024, said[0] if said else ""
+
+
 def run(program: str, word: str, text: str, seconds: int) -> tuple[str, float, float, str]:
     with tempfile.TemporaryDirectory(prefix="hostile_") as folder:
-        Path(folder, "file").write_text(text)
-        out = Path(folder, "out")
-        with open(out, "wb") as out_file:
-            child = subprocess.Popen(
-                [program, word, "file"], cwd=folder, stdout=out_file,
-                preexec_fn=lambda: limits(seconds),
-            )
-            _, status, usage = os.wait4(child.pid, 0)
-            child.returncode = os.waitstatus_to_exitcode(status)
-        ended = "late" if child.returncode in (-24, -9) else str(child.returncode)
-        said = [line for line in out.read_text(errors="replace").splitlines()[:1] if line.startswith("netcalc:")]
-        return ended, usage.ru_utime + usage.ru_stime, usage.ru_maxrss / 1024, said[0] if said else ""
+        return run_files(program, [word, "file"], {"file": text}, Path(folder), seconds)
 
 
 def limits(seconds: int) -> None:

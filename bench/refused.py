@@ -23,6 +23,9 @@ CASES = """
     bounds/one_flow bounds/two_hops runs/avionics runs/a_stall_of_10 runs/a_stall_of_11 runs/a_gate_that_reaches_its_bound
     runs/an_unknown_flow edits/edits_of_each_kind edits/names_that_nothing_has edits/a_rate_a_flow_and_a_path_back
     limits/a_total_too_many limits/a_cycle faults/not_toml
+    checks/two_hops_as_simulated checks/deficits_as_simulated checks/a_packet_a_unit_early check_faults/no_end
+    measures/four_packets measures/an_unknown_flow exercises/flows_of_one_server
+    curves/eight_lines curves/a_textbook_delay curves/parentheses_64_deep curves/a_sum_with_too_many_pieces
 """.split()
 KINDS = ("memory", "open", "read", "write")
 LIBRARY = r"""

@@ -213,6 +213,18 @@ class Plot(unittest.TestCase):
         flows, queues = plot.read_run("servers 1 flows 1\nrun packets 1 end 130\nworst f1 120 bound 130\npeak s1 0 12000 bound unbounded\nbreach none\n")
         self.assertEqual((flows, queues), ([("f1", 120, 130)], [("s1:0", 12000, None)]))
 
+    def test_recorded(self):
+        names, paths = plot.read_paths((TOP / "examples/tutorial/stair.toml").read_text())
+        self.assertEqual(paths["tracks"], {"radar": 0, "sw1-sw2": 0, "sw2-computer": 0})
+        servers, flows, end = plot.read_recorded((TOP / "examples/tutorial/meeting.csv").read_text(), names, paths)
+        self.assertEqual((flows, end), (["video", "tracks"], Fraction(11051, 25)))
+        switch = servers["sw1-sw2"]
+        self.assertEqual(switch.works, [(0, Fraction(6957, 50), Fraction(13109, 50)), (1, Fraction(13109, 50), Fraction(605, 2))])
+        # as `check` says: its peak is 16336
+        self.assertEqual(switch.holds(0, end)[1], [0, 12304, 16336, 4032, 0, 0])
+        with self.assertRaises(ValueError):
+            plot.read_recorded("packet,0,video,1\n", names, paths)
+
 
 class Distributed(Sweep):
     """The same over a scheduler with two workers, of which one is ended half way."""

@@ -6,16 +6,22 @@
                                                    beside the bound
     tools/plot.py curves ANSWER.txt -o OUT.svg     two curves, an arrival curve and a service curve, with their horizontal and vertical deviation:
                                                    of an answer of `netcalc curve` that has `show A`, `show B`, `delay A, B` and `backlog A, B`
+    tools/plot.py run RUN.csv --net NET -o OUT.svg a time line of a recorded run, as `netcalc check NET RUN.csv` reads it: at each server the works
+                                                   with the numbers of their packets, and the bits that each queue holds
 
-ANSWER.txt may be `-`, for the standard input. OUT ends with .svg or .png. An `unbounded` number is drawn as a bar to the edge, with the word.
-Only the printed numbers are read, so a picture shows what was proved of the answer and nothing else; drawing rounds them to the screen.
+ANSWER.txt and RUN.csv may be `-`, for the standard input. OUT ends with .svg or .png. An `unbounded` number is drawn as a bar to the edge, with the
+word. Of an answer only the printed numbers are read, so a picture shows what was proved of it and nothing else. A time line shows the rows that
+stand in the file: whether they are a run of the network `check` alone says. Drawing rounds numbers to the screen.
 """
 
 import argparse
+import csv
 import sys
 from fractions import Fraction
 
 BLUE, RED, GREY, GREEN = "#4477aa", "#cc3311", "#bbbbbb", "#228833"
+FLOWS = [BLUE, RED, GREEN, "#aa3377", "#ccbb44", "#66ccee"]  # colours of flows, which come again where there are more
+QUEUES = ["#ee7733", "#000000", "#009988", "#777777", "#882255", "#999933", "#0077bb", "#ee3377"]
 
 
 def number(word):
@@ -216,6 +222,113 @@ def draw_run(text, path):
     figure.savefig(path, metadata={"Date": None} if path.endswith(".svg") else None)
 
 
+class Server:
+    """What a recorded run did at one server: its works, its visits, and when how many bits came to a queue or left it."""
+
+    def __init__(self):
+        self.works, self.visits, self.moves = [], [], {}
+
+    def holds(self, queue, end):
+        """The times at which the queue's bits changed, and how many it held from each on, up to the run's end."""
+        times, held = [0.0], [0]
+        for time, bits in sorted(self.moves[queue]):
+            times.append(float(time))
+            held.append(held[-1] + bits)
+        return [*times, float(end)], [*held, held[-1]]
+
+
+def read_paths(text):
+    """The servers of a network's file in their order, and of each flow its servers with the queues there."""
+    import tomllib  # of Python 3.11; no other picture needs it
+
+    net = tomllib.loads(text)
+    paths = {flow["name"]: {name: int(queue or 0) for name, _, queue in (hop.partition(":") for hop in flow["path"])} for flow in net.get("flow", [])}
+    return [server["name"] for server in net.get("server", [])], paths
+
+
+def read_recorded(text, names, paths):
+    """The servers of a recorded run, the flow of each packet, and the run's end."""
+    servers, packets, end = {name: Server() for name in names}, [], Fraction(0)
+
+    def moved(name, packet, time, sign):
+        flow, bits = packets[packet]
+        servers[name].moves.setdefault(paths[flow][name], []).append((Fraction(time), sign * bits))
+
+    for row in csv.reader(text.splitlines()):
+        match row:
+            case ["enter", time, flow, bits]:
+                packets.append((flow, int(bits)))
+                moved(next(iter(paths[flow])), len(packets) - 1, time, 1)
+            case ["reach", time, server, packet]:
+                moved(server, int(packet), time, 1)
+            case ["leave", time, server, packet]:
+                moved(server, int(packet), time, -1)
+            case ["work", server, packet, start, stop, _]:
+                servers[server].works.append((int(packet), Fraction(start), Fraction(stop)))
+            case ["visit", time, server, queue]:
+                servers[server].visits.append((Fraction(time), queue))
+            case ["end", time]:
+                end = Fraction(time)
+            case []:
+                pass
+            case _:
+                raise ValueError(f"no row of a recorded run: {','.join(row)}")
+    return servers, [flow for flow, _ in packets], end
+
+
+def draw_works(axes, server, flows, colours, end):
+    """The strip of a server's works, with the numbers of their packets where there is room, and its visits: `v1` of queue 1."""
+    for packet, start, stop in server.works:
+        axes.broken_barh([(float(start), float(stop - start))], (0, 1), color=colours[flows[packet]], edgecolor="white")
+        if stop - start > end / 60:
+            axes.text(float(start + stop) / 2, 0.5, str(packet), ha="center", va="center", color="white", fontsize=7)
+    for time, queue in server.visits:
+        axes.text(float(time), 0.04, f" v{queue}", ha="left", va="bottom", fontsize=6)
+    axes.set_ylim(0, 1)
+    axes.set_yticks([])
+    axes.tick_params(axis="x", length=0)
+
+
+def draw_queues(axes, server, end):
+    """The bits that each queue of a server holds over time; one that no packet came to is left out."""
+    queues = sorted(server.moves)
+    for queue in queues:
+        times, held = server.holds(queue, end)
+        if len(queues) > 1:
+            axes.step(times, held, where="post", color=QUEUES[queue % len(QUEUES)], label=f"queue {queue}")
+        else:
+            axes.fill_between(times, held, step="post", color=GREY)
+    axes.set_ylim(0)
+    axes.set_ylabel("bits", fontsize=7)
+    axes.tick_params(labelsize=7)
+    axes.grid(alpha=0.3)
+    if len(queues) > 1:
+        axes.legend(fontsize=7, loc="upper right")
+
+
+def draw_recorded(text, net, path):
+    """The time line of a recorded run."""
+    names, paths = read_paths(net)
+    servers, flows, end = read_recorded(text, names, paths)
+    plot = drawing()
+
+    used = {name: server for name, server in servers.items() if server.moves} or servers
+    colours = {flow: FLOWS[place % len(FLOWS)] for place, flow in enumerate(paths)}
+    rows = 2 * len(used)
+    figure, all_axes = plot.subplots(
+        rows, 1, figsize=(10, 0.6 + 1.3 * len(used)), sharex=True, height_ratios=[1, 2.6] * len(used), squeeze=False, layout="constrained")
+    for place, (name, server) in enumerate(used.items()):
+        works, queues = all_axes[2 * place][0], all_axes[2 * place + 1][0]
+        draw_works(works, server, flows, colours, end)
+        works.set_title(name, fontsize=8, family="monospace", loc="left", pad=2)
+        draw_queues(queues, server, end)
+    all_axes[-1][0].set_xlim(0, float(end) or 1)
+    all_axes[-1][0].set_xlabel("time", fontsize=8)
+    handles = [plot.Rectangle((0, 0), 1, 1, color=colours[flow], label=f"works of {flow}") for flow in paths if flow in flows]
+    all_axes[0][0].legend(handles=handles, fontsize=8, ncol=6, loc="lower right", bbox_to_anchor=(1.0, 1.0), frameon=False)
+    figure.savefig(path, metadata={"Date": None} if path.endswith(".svg") else None)
+
+
 def draw_bounds(text, path):
     """The picture of an answer."""
     plot = drawing()
@@ -237,14 +350,20 @@ def draw_bounds(text, path):
 
 def main():
     parser = argparse.ArgumentParser(description=__doc__, formatter_class=argparse.RawDescriptionHelpFormatter)
-    parser.add_argument("what", choices=["bounds", "curves"])
+    parser.add_argument("what", choices=["bounds", "curves", "run"])
     parser.add_argument("answer")
     parser.add_argument("-o", "--output", required=True, metavar="OUT")
+    parser.add_argument("--net", metavar="NET", help="of `run`: the network's file")
     words = parser.parse_args()
+    if (words.what == "run") != (words.net is not None):
+        parser.error("`run` alone wants the network's file, by --net")
     try:
         text = sys.stdin.read() if words.answer == "-" else open(words.answer, encoding="utf-8").read()
-        (draw_bounds if words.what == "bounds" else draw_curves)(text, words.output)
-    except (OSError, ValueError, IndexError) as fault:
+        if words.what == "run":
+            draw_recorded(text, open(words.net, encoding="utf-8").read(), words.output)
+        else:
+            (draw_bounds if words.what == "bounds" else draw_curves)(text, words.output)
+    except (OSError, ValueError, IndexError, KeyError) as fault:
         print(f"plot: {fault}", file=sys.stderr)
         return 1
     return 0
