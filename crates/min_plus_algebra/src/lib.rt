@@ -1,0 +1,28 @@
+//! Min-plus algebra under one name: numbers, curves, and all operators on curves. Nothing is made here; each item is proved in its own crate.
+#![tactic(auto)]
+
+#[cfg(test)]
+mod example;
+
+// Numbers, and infinity; the counter of operators.
+pub use fraction128::{Ext, Frac, FracFault, FracText, Wide};
+pub use rational::Extended;
+pub use steps::Steps;
+
+// Curves: of the kinds of a network's file, of listed pieces, and of any pieces in normal form.
+pub use affine_segment::{Line, Piece};
+pub use curve_library::{
+    CurveFault, PieceText, TailText, UseAs, bucket, gate, listed, rate_latency, stair,
+};
+pub use upp_curve::{Curve, Tail, equal, is_continuous};
+pub use upp_limits::{OpFault, OpKind, OverLimit};
+pub use upp_normal::{RawCurve, normalise};
+
+// Operators.
+pub use curve_conv::convolve;
+pub use curve_deconv::deconvolve;
+pub use curve_deviation::{horizontal, vertical};
+pub use curve_envelope::fifo_left;
+pub use curve_pointwise::{max, min, pos_diff, pos_minus, scale, shift, sum};
+pub use curve_running::{run_inf, run_sup};
+pub use subadd_closure::{close, is_subadditive};
