@@ -3390,7 +3390,7 @@ queue s1 0 delay 100 backlog 18600
 queue s2 0 delay 68010/481 backlog 9687000/481
 queue s3 0 delay 70 backlog 13000
 flow f1 tfa 149780/481 sfa 7627639/18278 bound 149780/481
-flow f2 tfa 149780/481 sfa 751061/988 bound 149780/481
+flow f2 tfa 149780/481 sfa 774911/1482 bound 149780/481
 "#,
         ),
         // an_empty_list
