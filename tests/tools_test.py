@@ -125,6 +125,14 @@ class Round(WithFolder):
         arrival = network["flow"][0]["arrival"]
         self.assertEqual((network["server"][0]["rate"], arrival["period"], arrival["jitter"]), (99, 499, 1))
 
+    def test_a_lower_rate_is_no_pace(self):
+        from networks import load
+
+        for rate, version in (("199/2", 1), ("99", 2)):
+            run = tool("round.py", self.file("n.toml", "version = 2\n" + TEMPLATE.replace("$rate", rate).replace("$period", "1000")))
+            self.assertEqual(load(self.file("r.toml", run.stdout))["version"], version)
+            self.assertEqual("version 1" in run.stderr, version == 1)
+
     def test_a_grid_may_be_too_coarse(self):
         run = tool("round.py", self.file("n.toml", TEMPLATE.replace("$rate", "1/3").replace("$period", "1000")))
         self.assertEqual(run.returncode, 1)

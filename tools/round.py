@@ -6,7 +6,8 @@
 Every number becomes a multiple of 1/N, in the direction that is safe: bursts, arrival rates, jitters, latencies, cycles and links up; rates of
 servers, periods of stairs and slots of gates down. So every run that keeps the promises of the file keeps those of the rounded one, every bound
 of the rounded file bounds the runs of the file, and sums of its numbers have small denominators. Listed curves stay as they are, and a line on
-the standard error names them.
+the standard error names them. A file of version 2 says that no server works faster than its rate; where a rate is rounded down, that
+is no longer so, and the rounded file is of version 1, whose bounds hold for the runs of both: a line on the standard error tells it.
 
 With `--compare` it runs the program on the file and on the rounded one, and prints for each flow both bounds and how much the rounded one is
 greater; where the file itself is refused, as too wide or too many, it is told so and only the new bounds stand there.
@@ -81,6 +82,11 @@ def rounded(network, grid):
     return network, listed
 
 
+def paces(network):
+    """The rates that no server of a file of version 2 works above; none of another file."""
+    return [number(server["rate"]) for server in network.get("server", [])] if network.get("version") == 2 else []
+
+
 def compared(path, network, program):
     """The lines of a table of both files' bounds."""
     with tempfile.NamedTemporaryFile("w", suffix=".toml") as file:
@@ -111,12 +117,16 @@ def main():
     if words.grid < 1:
         parser.error("the grid is a whole number from 1 on")
     try:
-        network, listed = rounded(load(words.network), words.grid)
+        given = load(words.network)
+        network, listed = rounded(given, words.grid)
     except (TooCoarse, OSError, ValueError, KeyError) as fault:
         print(f"round: {fault}", file=sys.stderr)
         return 1
     for what in listed:
         print(f"round: {what} is a listed curve, and stays as it is", file=sys.stderr)
+    if paces(network) != paces(given):
+        network["version"] = 1
+        print("round: a rate changes, so the rounded file is of version 1", file=sys.stderr)
     if words.compare:
         print("\n".join(compared(words.network, network, words.program)))
     else:
