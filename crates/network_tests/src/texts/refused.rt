@@ -190,8 +190,8 @@ fn the_first_of_two_faults_is_told(rt: HostRuntime) -> Result<(), Fail> {
     let list = "arrival = { kind = 'list', piece = [{ x = ";
     let rows: [(&[&str], NetKind, &str); 18] = [
         // Of the keys of one table: in the order of the format, and not of the file.
-        (&["version = 2\nserver = 1\n"], NetKind::M6, "version"),
-        (&["version = 2\nb = 1\na = 1\n"], NetKind::M3, "a"),
+        (&["version = 3\nserver = 1\n"], NetKind::M6, "version"),
+        (&["version = 3\nb = 1\na = 1\n"], NetKind::M3, "a"),
         (
             &[NAMED, "link = -1\nrate = 0\n"],
             NetKind::M6,
