@@ -9,6 +9,7 @@ packets (a trace has at most 10,000 rows), over a server of kind latency, which 
 - two packets of half a step each period;
 - packets of 7 sizes, as many in each period as a step holds;
 - as these, but up to three periods late, over a stair with a jitter of three periods;
+- halves over a stair with a jitter of half a period;
 - all packets within one period, over a stair whose jitter lets in all but the last step at once, so that two of its pieces are read;
 - halves, of which the last packet breaks the stair, so that each pair is looked at.
 
@@ -122,6 +123,7 @@ def main() -> None:
         ("half steps", lambda _: kept, halves, COUNTS),
         ("seven sizes", lambda _: kept, lambda count: sizes(count, 0), COUNTS),
         ("seven sizes, late", lambda _: late, lambda count: sizes(count, 3 * PERIOD), COUNTS),
+        ("half a period late", lambda _: network_text(stair(PERIOD, PERIOD // 2), LATENCY), halves, COUNTS),
         ("two pieces", at_once_network, at_once, COUNTS),
         ("broken by the last packet", lambda _: kept, broken, COUNTS),
         ("gate, turns alike", lambda _: gate, lambda count: gated(count, 0), GATE_COUNTS),
