@@ -1,13 +1,11 @@
 -- A time and a period on their common grid, and the quotient and the rest of the two there.
-use Rattle.std.specs.Prelude.{◌≡◌, ◌≢◌, ℕ, zero, suc, ◌+◌, ◌*◌, ◌/◌, ◌%◌, ◌<◌, ◌≤◌, ◌^◌, ℤ, pos, negsuc, ◌*ℤ◌, ◌≤ℤ◌, nat_abs}
+use Rattle.std.specs.Prelude.{◌≡◌, ◌≢◌, ℕ, zero, suc, ◌+◌, ◌*◌, ◌/◌, ◌%◌, ◌<◌, ◌≤◌, ◌^◌, ℤ, pos, ◌*ℤ◌, ◌≤ℤ◌, nat_abs}
 use Rattle.std.proofs.Common.{arith, sym, ap, ap₂, ◌∙◌, refl, subst}
-use Rattle.std.proofs.lemmas.Int.{ints}
 use Prim.Native.Nat.{◌∣◌}
 use Rattle.std.proofs.Math.Nat.{div-mul_cancel, div-add-mod, mod-lt}
 use Rattle.rational.specs.Rational.{ℚ, den, int, ◌+ℚ◌, ◌-ℚ◌, ◌*ℚ◌, ◌/ℚ◌, ◌≤ℚ◌, ◌<ℚ◌}
 use Rattle.rational.specs.Fractions.{frac_self}
-use Rattle.rational.specs.Ratio.{ratio, IsSmall}
-use Rattle.rational.proofs.Parts.{small_ratio}
+use Rattle.rational.specs.Ratio.{ratio}
 use Rattle.rational.specs.Gauge.{lcm}
 use Rattle.rational.specs.Whole.{whole_part}
 use Rattle.rational.proofs.Linear.{with3}
@@ -120,14 +118,6 @@ count_far J P g B h k e b far F =
 
 pub step_some : (J P : ℚ) (g B : ℕ) → zero_q ≤ℚ J → zero_q <ℚ P → g ≡ lcm (den J) (den P) → B ≡ nat_abs P.num * (g / den P) → 0 < B
 step_some J P g B h k e b = period_some J P g (nat_abs J.num * (g / den J)) B k (on_one_grid J P g (nat_abs J.num * (g / den J)) B h k e refl b)
-
--- ---- a fraction of small parts
-pub parts_small : (n g : ℕ) → 0 < g → n < 2 ^ 127 → g < 2 ^ 127 → IsSmall (int (pos n) /ℚ int (pos g))
-parts_small n zero h k l = absurd (omega (arith, h))
-parts_small n (suc d) h k l = subst IsSmall (frac_is_div (pos n) d) (small_ratio (pos n) (pos (suc d)) (λ e. absurd (zero-not-suc d (ap nat_abs e))) k l)
-  where
-    zero-not-suc : (d : ℕ) → suc d ≡ 0 → ⊥
-    zero-not-suc d e = omega (arith, e)
 
 pub grid_some : (x : ℚ) (g : ℕ) → x ≡ int (pos g) → 0 < g → x ≢ zero_q
 grid_some x g e h k = not_zero (int (pos g)) (nat_some g h) (sym e ∙ k)
