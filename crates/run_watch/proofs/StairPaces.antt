@@ -10,7 +10,7 @@ use Rattle.rational.specs.MinMax.{min_q}
 use Rattle.rational.proofs.ExtendedOrder.{le_ext_trans}
 use Rattle.rational.proofs.Integers.{nat_lt_out}
 use Rattle.rational.proofs.Laws.{le_trans, le_of_lt, le_or_lt, le_lt_trans, lt_le_trans, mul_le_mul, mul_le_mul_right, mul_lt_mul, mul_sub, not_zero, one_mul, zero_mul}
-use Rattle.rational.proofs.Linear.{with2, with_atoms}
+use Rattle.rational.proofs.Linear.{with_atoms, sub_nonneg}
 use Rattle.rational.proofs.MinMax.{min_q_le_left, min_q_le_right}
 use Rattle.rational.proofs.Whole.{one_more_times}
 use Rattle.affine_segment.specs.declared.line.Piece.{Piece}
@@ -163,8 +163,6 @@ read_climbed height slack rate far d n [] at0 high some steps low near h = absur
 read_climbed height slack rate far d n (p ∷ ps) at0 high some steps low near h = climbed height slack rate far d n p ps high some steps low near h
 
 -- ---- all pairs
-gap_some : (s t : ℚ) → s ≤ℚ t → int (pos 0) ≤ℚ t -ℚ s
-gap_some s t h = with2 s t (λ c. omega (arith, c.le, c.lt, c.same))
 
 gap_near : (f s t l far : ℚ) → f ≤ℚ s → t ≤ℚ l → far ≡ l -ℚ f → t -ℚ s ≤ℚ far
 gap_near f s t l far h k e = with_atoms (f ∷ s ∷ t ∷ l ∷ far ∷ []) (λ c. omega (arith, c.le, c.lt, c.same))
@@ -188,7 +186,7 @@ none_past_stair ps es height slack rate far R high some reach steps small pace i
     let t = (entering es j).time in
     let first = R 0 i (omega arith) (omega arith) in
     let last = R j (length es - 1) (omega arith) (omega arith) in
-    let low = gap_some s t window.forward in
+    let low = sub_nonneg s t window.forward in
     let near = gap_near (first_time es) s t (last_time es) far first.forward last.forward reach in
     let under = fewer_steps i j n (slack +ℚ rate *ℚ (t -ℚ s)) count (pace i j order m) in
     let stair = read_climbed height slack rate far (t -ℚ s) n ps window.starts high some steps low near under in
