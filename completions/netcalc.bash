@@ -1,9 +1,17 @@
 # Completion of netcalc's words for bash: source this file, or link it into ~/.local/share/bash-completion/completions/netcalc.
 
 _netcalc() {
-    local current=${COMP_WORDS[COMP_CWORD]}
+    local current=${COMP_WORDS[COMP_CWORD]} place=$COMP_CWORD at
     COMPREPLY=()
-    case $COMP_CWORD:${COMP_WORDS[1]} in
+    if [[ $current == -* && ${COMP_WORDS[1]} == @(analyse|edit) && " ${COMP_WORDS[*]} " != *" --json "* ]]; then
+        COMPREPLY=(--json)
+        return
+    fi
+    # A file's place does not count the flag.
+    for ((at = 2; at < COMP_CWORD; at++)); do
+        [[ ${COMP_WORDS[at]} == --json ]] && ((place--))
+    done
+    case $place:${COMP_WORDS[1]} in
         1:*) mapfile -t COMPREPLY < <(compgen -W "analyse edit simulate exercise check measure curve" -- "$current") ;;
         2:analyse|2:edit|2:simulate|2:check|2:measure)
             compopt -o filenames 2>/dev/null

@@ -1,5 +1,5 @@
 #!/usr/bin/env python3
-"""Inputs at the edges of what is taken, recorded runs, and one file cut after each of its bytes, as whole commands.
+"""Inputs at the edges of what is taken, recorded runs, traces of which some come at random, and one file cut after each of its bytes, as whole commands.
 
     python3 tests/inputs.py [PROGRAM]
 
@@ -7,6 +7,7 @@ PROGRAM is that of bin/ where none is named. What is wanted of a cut comes from 
 else what is said below of the few cuts that are whole. It prints each answer that is another one, and how many were tried, and ends with 1 where one was.
 """
 
+import random
 import subprocess
 import sys
 import tempfile
@@ -132,9 +133,42 @@ TRACES = {
     "a stair broken at a later pair": (STAIR, at_times(12000, 0, 1000, 2000, 2999), 9, "breach arrival f1 0 3"),
     "a stair kept with a pause": (STAIR, at_times(12000, 0, 1000, 2000, 3500, 4500), 0, "breach none"),
     "a stair kept by half packets": (STAIR, at_times(6000, 0, 0, 1000, 1000, 2000, 2000, 3000, 3000), 0, "breach none"),
+    "a stair kept by parts of steps": (STAIR, at_times(7000, 0) + at_times(5000, 0, 1000) + at_times(7000, 1000, 2000), 0, "breach none"),
+    "a stair broken by one bit": (STAIR, at_times(7000, 0) + at_times(5000, 0) + at_times(7000, 1000) + at_times(5001, 1000), 9, "breach arrival f1 0 3"),
     "a gate that stalls early": (GATE, at_times(25000, 0, 0, 0, 0, 0) + ["stall,g,0,100"], 9, "breach service g 0 1000"),
     "a gate that stalls late": (GATE, at_times(25000, 0, 0, 0, 0, 0) + ["stall,g,4000,4100"], 9, "breach service g 100 4100"),
 }
+
+
+def first_crowd(period: int, jitter: int, step: int, packets: list[tuple[int, int]]) -> tuple[int, int] | None:
+    """The first pair of packets between which more bits come than the stair has, looked for pair by pair."""
+    for last, (end, _) in enumerate(packets):
+        for first in range(last + 1):
+            bits = sum(bits for _, bits in packets[first : last + 1])
+            if bits > step * ((end - packets[first][0] + jitter) // period + 1):
+                return first, last
+    return None
+
+
+def stair_traces() -> dict:
+    """Flows at random over stairs of 12,000 bits, about as fast as they may be, each with what a look at all pairs finds."""
+    number = random.Random(25)
+    cases = {}
+    for case in range(60):
+        jitter = number.choice([0, 0, 500, 1000, 3700])
+        packets, now = [], 0
+        for _ in range(number.randint(2, 24)):
+            bits = number.choice([6000, 4000, 12000, number.randint(1, 12000)])
+            packets.append((now, bits))
+            now += number.choice([0, 0, 500, 1000, bits * 1000 // 12000, number.randint(0, 1500)])
+        net = STAIR.replace("period = 1000", f"period = 1000, jitter = {jitter}")
+        pair = first_crowd(1000, jitter, 12000, packets)
+        status, last = (0, "breach none") if pair is None else (9, f"breach arrival f1 {pair[0]} {pair[1]}")
+        cases[f"a stair at random, {case}"] = (net, [f"packet,{time},f1,{bits}" for time, bits in packets], status, last)
+    return cases
+
+
+TRACES |= stair_traces()
 RUNS["a packet too early at the run's very end"] = (STAIR, worked_at_once(0, 1000, 1999), 9, "verdict breach arrival f1 0 2")
 RUNS["a packet in time at the run's very end"] = (STAIR, worked_at_once(0, 1000, 2000), 0, "verdict admissible")
 

@@ -3,11 +3,12 @@ use Rattle.std.proofs.Common.{◌≡◌, ◌≢◌, ◌≤◌, ℕ, List, inl, i
 use Rattle.upp_limits.specs.declared.own_limits.OverLimit.TheVariants.{TooMany, TooWide}
 use Rattle.command_replies.specs.Replies.{Reply}
 use Rattle.command_replies.specs.OnFiles.{IsBroken, IsOverLimit, HasCycle}
+use Rattle.json_report.specs.declared.form.Form.{Form}
 use Rattle.analyse_command.specs.OnFiles.{IsReport, IsReplyOn, Broken, CurveOver, Cyclic, CellOver, Reported}
 
 -- what a reply is by its status; the inputs did not fail, and no run breaks a premise
-pub record IsByStatus (file bytes : List ℕ) (reply : Reply) : Type 0 where
-  pub report : reply.status ≡ 0 → IsReport bytes reply
+pub record IsByStatus (form : Form) (file bytes : List ℕ) (reply : Reply) : Type 0 where
+  pub report : reply.status ≡ 0 → IsReport form bytes reply
   pub broken : reply.status ≡ 1 → IsBroken file bytes reply
   pub wide : reply.status ≡ 6 → IsOverLimit TooWide bytes reply
   pub many : reply.status ≡ 7 → IsOverLimit TooMany bytes reply
@@ -15,8 +16,8 @@ pub record IsByStatus (file bytes : List ℕ) (reply : Reply) : Type 0 where
   pub no_read : reply.status ≢ 3
   pub most : reply.status ≤ 8
 
-pub by_status : (file bytes : List ℕ) (reply : Reply) → IsReplyOn file bytes reply → IsByStatus file bytes reply
-by_status file bytes reply (Broken h) =
+pub by_status : (form : Form) (file bytes : List ℕ) (reply : Reply) → IsReplyOn form file bytes reply → IsByStatus form file bytes reply
+by_status form file bytes reply (Broken h) =
     let is : reply.status ≡ 1 = ap (λ (r : Reply). r.status) h.is in
     record {
       report = λ e. absurd (cc);
@@ -27,7 +28,7 @@ by_status file bytes reply (Broken h) =
       no_read = λ e. absurd (cc);
       most = omega arith;
     }
-by_status file bytes reply (CurveOver TooMany h) =
+by_status form file bytes reply (CurveOver TooMany h) =
     let is : reply.status ≡ 7 = ap (λ (r : Reply). r.status) h.is in
     record {
       report = λ e. absurd (cc);
@@ -38,7 +39,7 @@ by_status file bytes reply (CurveOver TooMany h) =
       no_read = λ e. absurd (cc);
       most = omega arith;
     }
-by_status file bytes reply (CurveOver TooWide h) =
+by_status form file bytes reply (CurveOver TooWide h) =
     let is : reply.status ≡ 6 = ap (λ (r : Reply). r.status) h.is in
     record {
       report = λ e. absurd (cc);
@@ -49,7 +50,7 @@ by_status file bytes reply (CurveOver TooWide h) =
       no_read = λ e. absurd (cc);
       most = omega arith;
     }
-by_status file bytes reply (Cyclic h) =
+by_status form file bytes reply (Cyclic h) =
     let is : reply.status ≡ 8 = ap (λ (r : Reply). r.status) h.is in
     record {
       report = λ e. absurd (cc);
@@ -60,7 +61,7 @@ by_status file bytes reply (Cyclic h) =
       no_read = λ e. absurd (cc);
       most = omega arith;
     }
-by_status file bytes reply (CellOver TooMany h) =
+by_status form file bytes reply (CellOver TooMany h) =
     let is : reply.status ≡ 7 = ap (λ (r : Reply). r.status) h.is in
     record {
       report = λ e. absurd (cc);
@@ -71,7 +72,7 @@ by_status file bytes reply (CellOver TooMany h) =
       no_read = λ e. absurd (cc);
       most = omega arith;
     }
-by_status file bytes reply (CellOver TooWide h) =
+by_status form file bytes reply (CellOver TooWide h) =
     let is : reply.status ≡ 6 = ap (λ (r : Reply). r.status) h.is in
     record {
       report = λ e. absurd (cc);
@@ -82,7 +83,7 @@ by_status file bytes reply (CellOver TooWide h) =
       no_read = λ e. absurd (cc);
       most = omega arith;
     }
-by_status file bytes reply (Reported h) =
+by_status form file bytes reply (Reported h) =
     let is : reply.status ≡ 0 = ap (λ (r : Reply). r.status) h.2.is in
     record {
       report = λ e. h;

@@ -10,25 +10,26 @@ use Rattle.net_cells.specs.declared.cell.Cell.{Cell}
 use Rattle.net_cells.specs.FirstOver.{FirstOver}
 use Rattle.report_text.specs.CellWords.{server_name, cell_words}
 use Rattle.command_replies.specs.OnFiles.{IsNetOf, IsNoNetwork}
+use Rattle.json_report.specs.declared.form.Form.{Form}
 use Rattle.analyse_command.specs.OnFiles.{Broken, CurveOver, Cyclic, CellOver, IsReplyOn, IsReplyOnNet}
 use Rattle.command_replies.specs.Replies.{Reply, goes_round, cell_over}
 
-pub on_no_network : (file bytes : List ℕ) (reply : Reply) → IsNoNetwork file bytes reply → IsReplyOn file bytes reply
-on_no_network file bytes reply (inl h) = Broken h
-on_no_network file bytes reply (inr (limit, h)) = CurveOver limit h
+pub on_no_network : (form : Form) (file bytes : List ℕ) (reply : Reply) → IsNoNetwork file bytes reply → IsReplyOn form file bytes reply
+on_no_network form file bytes reply (inl h) = Broken h
+on_no_network form file bytes reply (inr (limit, h)) = CurveOver limit h
 
-pub on_over : (net : Net) (order : List ℕ) (cell : Cell) (limit : OverLimit) (reply : Reply) → IsAccepted net
+pub on_over : (form : Form) (net : Net) (order : List ℕ) (cell : Cell) (limit : OverLimit) (reply : Reply) → IsAccepted net
     → IsOrder net order → FirstOver net order cell (fault_of limit) → reply ≡ cell_over limit (cell_words net cell)
-    → IsReplyOnNet net reply
-on_over net order cell limit reply accepted ordered first is =
+    → IsReplyOnNet form net reply
+on_over form net order cell limit reply accepted ordered first is =
     λ file bytes reads.
     let gives : IsNetOf bytes net = record { reads = reads; accepted = accepted } in
     CellOver limit
     record { net = net; gives = gives; order = order; ordered = ordered; cell = cell; first = first; is = is }
 
-pub on_cycle : (net : Net) (walk : List ℕ) (reply : Reply) → IsAccepted net → IsCycle net walk
-    → reply ≡ goes_round (map (server_name net) walk) → IsReplyOnNet net reply
-on_cycle net walk reply accepted cycle is =
+pub on_cycle : (form : Form) (net : Net) (walk : List ℕ) (reply : Reply) → IsAccepted net → IsCycle net walk
+    → reply ≡ goes_round (map (server_name net) walk) → IsReplyOnNet form net reply
+on_cycle form net walk reply accepted cycle is =
     λ file bytes reads.
     let gives : IsNetOf bytes net = record { reads = reads; accepted = accepted } in
     Cyclic (record { net = net; gives = gives; walk = walk; cycle = cycle; is = is })

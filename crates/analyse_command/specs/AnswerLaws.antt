@@ -11,13 +11,15 @@ use Rattle.net_cells.specs.declared.cell.Cell.{Cell}
 use Rattle.net_cells.specs.Meanings.{number, CellTable}
 use Rattle.net_cells.specs.FirstOver.{FirstOver}
 use Rattle.report_text.specs.Shown.{shown}
+use Rattle.json_report.specs.declared.form.Form.{Form}
 use Rattle.command_replies.specs.Replies.{Reply, AreSame}
 use Rattle.analyse_command.specs.OnFiles.{IsReplyOn}
 
--- status and text are determined by the file, but for the choice among cycles
+-- status and text are determined by the file and the form, but for the choice among cycles
 abbrev pub RepliesAreDetermined : Type 0
 RepliesAreDetermined =
-    (file bytes : List ℕ) (x y : Reply) → IsReplyOn file bytes x → IsReplyOn file bytes y → AreSame x y
+    (form : Form) (file bytes : List ℕ) (x y : Reply) → IsReplyOn form file bytes x → IsReplyOn form file bytes y
+    → AreSame x y
 
 -- a file that gives a network without a cycle, and by no order of its servers a cell is over a limit
 pub record IsWithinLimits (bytes : List ℕ) : Type 0 where
@@ -29,7 +31,8 @@ pub record IsWithinLimits (bytes : List ℕ) : Type 0 where
 -- its one reply is a report
 abbrev pub RepliesAreComplete : Type 0
 RepliesAreComplete =
-    (file bytes : List ℕ) (reply : Reply) → IsWithinLimits bytes → IsReplyOn file bytes reply → reply.status ≡ 0
+    (form : Form) (file bytes : List ℕ) (reply : Reply) → IsWithinLimits bytes → IsReplyOn form file bytes reply
+    → reply.status ≡ 0
 
 -- where `unbounded` is shown for a cell, its number is infinite
 abbrev pub UnboundedIsInfinite : Type 0

@@ -10,32 +10,38 @@ use Rattle.net_cells.specs.Meanings.{CellTable}
 use Rattle.net_cells.specs.Equations.{MeetsEquations}
 use Rattle.net_cells.specs.FirstOver.{AnswersAll}
 use Rattle.net_cells.specs.Order.{evaluation_order}
-use Rattle.command_replies.specs.Replies.{Reply, report}
+use Rattle.command_replies.specs.Replies.{Reply}
+use Rattle.json_report.specs.declared.form.Form.{Form}
+use Rattle.json_report.specs.Forms.{report_in}
 use Rattle.command_replies.specs.OnFiles.{IsBroken, IsCurveOver, IsNetOf, HasCycle, IsCellOver}
 
 -- ---- a report
+abbrev pub report : Form → Net → CellTable → Reply
+report form net at = record { status = 0; bytes = report_in form net at }
+
 -- its servers have an order, each cell has its answer in this table, which so meets the equations, and the report has
--- the numbers of the table
-pub record IsReportOf (net : Net) (at : CellTable) (bytes : List ℕ) (reply : Reply) : Type 0 where
+-- the numbers of the table, in this form
+pub record IsReportOf (form : Form) (net : Net) (at : CellTable) (bytes : List ℕ) (reply : Reply) : Type 0 where
   pub gives : IsNetOf bytes net
   pub order : List ℕ
   pub ordered : IsOrder net order
   pub answers : AnswersAll net at (evaluation_order net order)
   pub meets : MeetsEquations net at
-  pub is : reply ≡ report net at
+  pub is : reply ≡ report form net at
 
-abbrev pub IsReport : List ℕ → Reply → Type 0
-IsReport bytes reply = (net : Net) × (at : CellTable) × IsReportOf net at bytes reply
+abbrev pub IsReport : Form → List ℕ → Reply → Type 0
+IsReport form bytes reply = (net : Net) × (at : CellTable) × IsReportOf form net at bytes reply
 
 -- ---- all of them
--- the reply on a file with this name and these bytes, which are not too many
-pub data IsReplyOn (file bytes : List ℕ) (reply : Reply) : Type 0 where
-  Broken : IsBroken file bytes reply → IsReplyOn file bytes reply
-  CurveOver : (limit : OverLimit) → IsCurveOver limit bytes reply → IsReplyOn file bytes reply
-  Cyclic : HasCycle bytes reply → IsReplyOn file bytes reply
-  CellOver : (limit : OverLimit) → IsCellOver limit bytes reply → IsReplyOn file bytes reply
-  Reported : IsReport bytes reply → IsReplyOn file bytes reply
+-- the reply, in this form, on a file with this name and these bytes, which are not too many
+pub data IsReplyOn (form : Form) (file bytes : List ℕ) (reply : Reply) : Type 0 where
+  Broken : IsBroken file bytes reply → IsReplyOn form file bytes reply
+  CurveOver : (limit : OverLimit) → IsCurveOver limit bytes reply → IsReplyOn form file bytes reply
+  Cyclic : HasCycle bytes reply → IsReplyOn form file bytes reply
+  CellOver : (limit : OverLimit) → IsCellOver limit bytes reply → IsReplyOn form file bytes reply
+  Reported : IsReport form bytes reply → IsReplyOn form file bytes reply
 
 -- the reply on each file that gives this network
-abbrev pub IsReplyOnNet : Net → Reply → Type 0
-IsReplyOnNet net reply = (file bytes : List ℕ) → IsNetworkOf OverFold bytes net → IsReplyOn file bytes reply
+abbrev pub IsReplyOnNet : Form → Net → Reply → Type 0
+IsReplyOnNet form net reply =
+    (file bytes : List ℕ) → IsNetworkOf OverFold bytes net → IsReplyOn form file bytes reply

@@ -9,9 +9,9 @@ ghost use Rattle.command_replies.specs.View.{reply_of, status_of};
 use cell_table::AnalysisFault;
 use command_replies::{Answer, Status, cell_too_many, cell_too_wide, goes_round};
 use flow_analysis::analyse;
+use json_report::{Form, text_in};
 use net_graph::{GraphFault, order};
 use net_model::Network;
-use report_text::analysis_text;
 use std::alloc::{AllocError, Global};
 use std::sync::ledger::Ledger;
 use steps::Steps;
@@ -21,16 +21,17 @@ fn in_order<L: Ledger>(
     alloc: Global,
     net: &Network,
     order: &[u32],
+    form: Form,
     steps: &mut Steps<L>,
 ) -> Result<Answer, AllocError>
     requires { IsOrder net.now order.now }
-    ensures reply { IfOk result (λ r. IsReplyOnNet net.now (reply_of r)) }
+    ensures reply { IfOk result (λ r. IsReplyOnNet form net.now (reply_of r)) }
     ensures counts { CountsOnNet net.now (status_of result) steps.old steps.new }
 {
     net.keeps();
     match analyse(alloc, net, order, steps) {
         Ok(table) => {
-            let text = analysis_text(alloc, net, &table)?;
+            let text = text_in(alloc, form, net, &table)?;
             Ok(Answer {
                 status: Status::Done,
                 text,
@@ -47,14 +48,15 @@ fn in_order<L: Ledger>(
 pub(crate) fn on_network<L: Ledger>(
     alloc: Global,
     net: &Network,
+    form: Form,
     steps: &mut Steps<L>,
 ) -> Result<Answer, AllocError>
-    ensures reply { IfOk result (λ r. IsReplyOnNet net.now (reply_of r)) }
+    ensures reply { IfOk result (λ r. IsReplyOnNet form net.now (reply_of r)) }
     ensures counts { CountsOnNet net.now (status_of result) steps.old steps.new }
 {
     net.keeps();
     match order(alloc, net) {
-        Ok(servers) => in_order(alloc, net, &servers, steps),
+        Ok(servers) => in_order(alloc, net, &servers, form, steps),
         Err(GraphFault::Cycle(walk)) => goes_round(alloc, net, &walk),
         Err(GraphFault::NoMemory) => Err(AllocError),
     }

@@ -1,6 +1,6 @@
 -- What each kind of cell needs of the cells that it is made of, and how its operators are counted.
-use Rattle.std.proofs.Common.{◌≡◌, ℕ, suc, ◌<◌, ◌≤◌, ◌+◌, ◌-◌, List, [], ◌∷◌, length, map, refl, sym, ap, ◌∙◌, subst, arith, inl, inr, true, false}
-use Rattle.std.specs.Prelude.{Option, None, Some, Ok, Err, Result, IfOk, is_some}
+use Rattle.std.proofs.Common.{◌≡◌, ℕ, suc, ◌<◌, ◌≤◌, ◌+◌, ◌-◌, List, [], ◌∷◌, length, map, refl, sym, ap, ◌∙◌, subst, arith, inl, inr, Bool, true, false}
+use Rattle.std.specs.Prelude.{Option, None, Some, Ok, Err, Result, IfOk, is_some, ◌==◌}
 use Rattle.std.specs.List.{range_with_len}
 use Rattle.std.proofs.lemmas.Bool.{ltb-true, and_parts}
 use Rattle.rational.specs.Extended.{Ext}
@@ -15,26 +15,31 @@ use Rattle.net_cells.specs.declared.cell.Kind.TheVariants.{In, Cross, Total, Hig
 use Rattle.net_cells.specs.Numbered.{flow_at, path_of, hops, server_of_hop, queue_of_hop, queues, discipline, is_live}
 use Rattle.net_cells.specs.declared.visit.Visit.{Visit}
 use Rattle.net_cells.specs.Visits.{visit, visits_in, others, is_at}
+use Rattle.net_cells.specs.QueueParts.{in_part, part_numbers, by_parts}
 use Rattle.net_cells.specs.Order.{at_visit}
 use Rattle.net_cells.specs.Cells.{cell_of}
 use Rattle.net_cells.specs.Meanings.{CellTable}
 use Rattle.net_cells.specs.Formulas.{leaves}
-use Rattle.net_cells.specs.CellFormulas.{queue_service}
+use Rattle.net_cells.specs.CellFormulas.{queue_service, total}
+use Rattle.net_cells.specs.Answers.{Answer}
+use Rattle.net_cells.specs.Work.{total_work}
+use Rattle.net_cells.proofs.LeavesOf.{parts_leaves}
 use Rattle.net_cells.proofs.Lists.{map_has, filter_has, has_range, range_has}
 use Rattle.net_cells.proofs.Places.{flow_inside}
 use Rattle.net_cells.proofs.Stored.{flow_kept}
 use Rattle.net_cells.proofs.Precedes.{some_hop}
 use Rattle.queue_hops.specs.declared.found.Pick.{Pick}
-use Rattle.queue_hops.specs.declared.found.Pick.TheVariants.{InQueue}
+use Rattle.cell_table.specs.Gives.{Gives}
+use Rattle.queue_hops.specs.declared.found.Pick.TheVariants.{InQueue, InPart}
 use Rattle.cell_operators.specs.declared.sums.Partial.{Partial}
 use Rattle.queue_hops.specs.Chosen.{flow_visits, visit_list, picks, is_other, picked, chosen, all_chosen}
 use Rattle.cell_operators.specs.Partial.{Adds}
-use Rattle.cell_operators.specs.Evaluates.{MayBeMade}
+use Rattle.cell_operators.specs.Evaluates.{Counts, MayBeMade, Evaluates}
 use Rattle.cell_operators.specs.Shapes.{Rises, Serving, Grows, Ahead}
 use Rattle.cell_operators.specs.TableValues.{HasCurve, HasNumber, IsCurveAt, IsNumberAt, Deviate}
 use Rattle.cell_operators.proofs.Rises.{grows_served}
 use Rattle.cell_operators.proofs.Meeting.{InList, meets_below, operand, curve_map, number_map, curve_from, number_from, sum_leaf, served_leaf}
-use Rattle.queue_hops.proofs.Choosing.{queue_visits, other_visits}
+use Rattle.queue_hops.proofs.Choosing.{queue_visits, other_visits, part_visits}
 use Rattle.cell_operators.proofs.Shapes.{in_rises, cross_rises, total_rises, higher_rises, queue_served, hop_served, residual_grows, path_grows, queue_delay_ahead, hop_delay_ahead}
 use Rattle.run_laws.proofs.Members.{Has, has_map, has_flat}
 
@@ -241,14 +246,31 @@ cross_ready net at i h m j k e =
     (in_rises net at (InList m.below.cells) (meets_below net at (cell_of Cross i h) m.below) m.accepted k j
     (operand net at (cell_of Cross i h) (cell_of In j k) m.below (sum_leaf cells (cell_of In j k) (has_map (at_visit In) (others net i s q) (visit j k) there))))
 
-pub total_ready : (net : Net) (at : CellTable) (s q : ℕ) → MayBeMade net at (cell_of Total s q) → (j k : ℕ)
+-- a cell that a queue's sum is made of
+total_operand : (net : Net) (at : CellTable) (s q : ℕ) (by_links : Bool) → (net.version == 2) ≡ by_links → MayBeMade net at (cell_of Total s q)
+    → (j k : ℕ) → Has (leaves (total by_links net s q)) (cell_of In j k) → IsCurveAt at (cell_of In j k)
+total_operand net at s q by_links e m j k there =
+    let c = cell_of Total s q in
+    some_curve at (cell_of In j k) Rises
+    (in_rises net at (InList m.below.cells) (meets_below net at c m.below) m.accepted k j
+    (operand net at c (cell_of In j k) m.below (subst (λ b. Has (leaves (total b net s q)) (cell_of In j k)) (sym e) there)))
+
+pub total_ready : (net : Net) (at : CellTable) (s q : ℕ) → (net.version == 2) ≡ false → MayBeMade net at (cell_of Total s q) → (j k : ℕ)
     → chosen net s (InQueue q) None j ≡ visit_list j (Some k) → IsCurveAt at (cell_of In j k)
-total_ready net at s q m j k e =
+total_ready net at s q old m j k e =
     let cells = map (at_visit In) (visits_in net s q) in
     let there = subst (λ (vs : List Visit). Has vs (visit j k)) (sym (queue_visits net s q)) (chosen_there net s (InQueue q) None j k e) in
-    some_curve at (cell_of In j k) Rises
-    (in_rises net at (InList m.below.cells) (meets_below net at (cell_of Total s q) m.below) m.accepted k j
-    (operand net at (cell_of Total s q) (cell_of In j k) m.below (sum_leaf cells (cell_of In j k) (has_map (at_visit In) (visits_in net s q) (visit j k) there))))
+    total_operand net at s q false old m j k (sum_leaf cells (cell_of In j k) (has_map (at_visit In) (visits_in net s q) (visit j k) there))
+
+pub parts_ready : (net : Net) (at : CellTable) (s q : ℕ) → (net.version == 2) ≡ true → MayBeMade net at (cell_of Total s q) → (part j k : ℕ)
+    → part ≤ length net.servers → chosen net s (InPart q part) None j ≡ visit_list j (Some k) → IsCurveAt at (cell_of In j k)
+parts_ready net at s q new m part j k h e =
+    let there = subst (λ (vs : List Visit). Has vs (visit j k)) (sym (part_visits net s q part)) (chosen_there net s (InPart q part) None j k e) in
+    let among = has_flat (in_part net s q) (part_numbers net) part (visit j k)
+    (has_range 0 (suc (length net.servers)) part (omega arith) (omega (arith, h))) there in
+    total_operand net at s q true new m j k
+    (subst (λ (cs : List Cell). Has cs (cell_of In j k)) (sym (parts_leaves net s q (part_numbers net)))
+    (has_map (at_visit In) (by_parts net s q (part_numbers net)) (visit j k) among))
 
 pub higher_ready : (net : Net) (at : CellTable) (s q : ℕ) → MayBeMade net at (cell_of Higher s q) → (p : ℕ) → p < q → IsCurveAt at (cell_of Total s p)
 higher_ready net at s q m p h =
@@ -272,3 +294,11 @@ pub sum_counts : (at : CellTable) (cells : List Cell) (old new : ℕ) (r : Resul
     → (IfOk r (λ p. new ≡ old + (length cells - 1))) × (old ≤ new) × (new ≤ old + (length cells - 1))
 sum_counts at cells old new (Ok p) a = let e = a.1 in (omega (arith, e), omega (arith, e), omega (arith, e))
 sum_counts at cells old new (Err e) a = let l = a.1 in let m = a.2 in (tt, l, omega (arith, m))
+
+-- ---- the sum of a queue, by the version
+pub total_evaluates : (net : Net) (at : CellTable) (s q : ℕ) (by_links : Bool) (old new : ℕ) (r : Answer) → (net.version == 2) ≡ by_links
+    → Gives at (total by_links net s q) r → Counts (total_work by_links net s q) old new r → Evaluates net at (cell_of Total s q) old new r
+total_evaluates net at s q by_links old new r e gives counts = record {
+  answer = subst (λ b. Gives at (total b net s q) r) (sym e) gives;
+  counts = subst (λ b. Counts (total_work b net s q) old new r) (sym e) counts;
+}

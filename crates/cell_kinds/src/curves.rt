@@ -13,13 +13,13 @@ ghost use Rattle.cell_operators.specs.Evaluates.{MayBeMade, Evaluates};
 use crate::places::{cell, place_of};
 use crate::sums::summed;
 use cell_operators::{
-    again, copied, flows_sum, later, left_over, lesser, path_service, queue_service, queues_sum,
-    shared, spread,
+    again, copied, flows_sum, later, left_over, lesser, parts_sum, path_service, queue_service,
+    queues_sum, shared, spread,
 };
 use cell_table::{Table, Value};
 use net_cells::{Cell, Kind, live_flow};
 use net_model::Network;
-use queue_hops::packet;
+use queue_hops::{Pick, packet};
 use std::alloc::Global;
 use std::sync::ledger::Ledger;
 use steps::Steps;
@@ -59,18 +59,13 @@ pub fn cross<T: Table<Value>, L: Ledger>(
     ensures { Evaluates net.now (T.at table.now) (cell_of Cross flow hop) steps.old steps.new
         (answer_of meaning_of result) }
 {
-    let made = flows_sum(
-        alloc,
-        table,
-        net,
-        place_of(net, flow, hop),
-        Some(flow),
-        steps,
-    );
+    let place = place_of(net, flow, hop);
+    let others = Pick::InQueue(place.1);
+    let made = flows_sum(alloc, table, net, place.0, others, Some(flow), steps);
     summed(alloc, table, made)
 }
 
-/// The sum of the curves of all flows in a queue.
+/// The sum of the curves of all flows in a queue; in version 2 that of its parts.
 pub fn total<T: Table<Value>, L: Ledger>(
     alloc: Global,
     table: &T,
@@ -83,7 +78,11 @@ pub fn total<T: Table<Value>, L: Ledger>(
     ensures { Evaluates net.now (T.at table.now) (cell_of Total server queue) steps.old steps.new
         (answer_of meaning_of result) }
 {
-    let made = flows_sum(alloc, table, net, (server, queue), None, steps);
+    if net.version() == 2 {
+        return parts_sum(alloc, table, net, (server, queue), steps);
+    }
+    let all = Pick::InQueue(queue);
+    let made = flows_sum(alloc, table, net, server, all, None, steps);
     summed(alloc, table, made)
 }
 

@@ -3,6 +3,8 @@ pub mod Meeting
 pub mod Shapes
 pub mod Handing
 pub mod SumSteps
+pub mod PartSteps
+pub mod PartSums
 pub mod Counting
 pub mod PathSteps
 pub mod SharedCounts

@@ -1,18 +1,20 @@
 -- The shapes of curves and numbers that meet their equations: by the number of the hop, since a network may have a cycle.
-use Rattle.std.proofs.Common.{◌≡◌, ℕ, zero, suc, ◌<◌, ◌≤◌, ◌-◌, List, [], ◌∷◌, length, map, refl, sym, ap, ◌∙◌, subst, arith, inl, inr}
-use Rattle.std.specs.Prelude.{Option, None, Some, slice_get}
+use Rattle.std.proofs.Common.{◌≡◌, ℕ, zero, suc, ◌<◌, ◌≤◌, ◌-◌, List, [], ◌∷◌, ◌++◌, length, map, refl, sym, ap, ◌∙◌, subst, arith, inl, inr}
+use Rattle.std.specs.Prelude.{◌==◌, Bool, true, false, Option, None, Some, slice_get}
 use Rattle.std.specs.List.{range_with_len}
 use Rattle.std.proofs.lemmas.Bool.{cases_lt}
 use Rattle.std.proofs.lemmas.List.{get_or_default, get_or_past}
 use Rattle.std.proofs.lemmas.List.FromFn.{length-map-range_with_len}
 use Rattle.std.proofs.lemmas.List.Elements.{All-get_or}
 use Rattle.std.proofs.lemmas.Option.{slice_get_within, get_or_from_slice_get}
+use Rattle.rational.specs.Rational.{ℚ, ◌≤ℚ◌}
 use Rattle.rational.specs.Extended.{min_ext}
 use Rattle.rational.specs.declared.Extended.TheVariants.{Fin}
 use Rattle.rational.proofs.ExtendedOrder.{min_greatest}
-use Rattle.rational.proofs.Laws.{le_refl}
+use Rattle.rational.proofs.Laws.{le_refl, le_of_lt}
 use Rattle.upp_limits.specs.declared.op_kind.OpKind.TheVariants.{Sum, Min, PosMinus, Shift, FifoLeft, Convolve, Deconvolve}
-use Rattle.upp_curve.specs.Curve.{value_at}
+use Rattle.upp_curve.specs.Curve.{SpecCurve, value_at}
+use Rattle.upp_curve.specs.Kinds.{bucket}
 use Rattle.min_plus.specs.Functions.{zero_q}
 use Rattle.min_plus.specs.Deviations.{IsHorizontalDeviation}
 use Rattle.min_plus.proofs.DeviationSigns.{horizontals_are_nonnegative}
@@ -28,15 +30,19 @@ use Rattle.net_model.specs.Accepted.{IsAccepted, IsServer, IsLength, HasFewQueue
 use Rattle.net_model.proofs.KindsStand.{kinds_may_stand}
 use Rattle.net_cells.specs.declared.cell.Cell.{Cell}
 use Rattle.net_cells.specs.declared.cell.Kind.TheVariants.{In, Cross, Total, Higher, QueueService, Theta, Residual, QueueDelay, HopDelay, ShiftOut, DeconvOut, Out, PathService}
-use Rattle.net_cells.specs.Numbered.{flow_at, arrival, arrival_of, hops, server_of_hop, queue_of_hop, queues, service, service_of, discipline, discipline_of, packet}
-use Rattle.net_cells.specs.Visits.{visits_in, others, longest}
+use Rattle.net_cells.specs.Numbered.{flow_at, arrival, arrival_of, hops, server_of_hop, queue_of_hop, queues, service, service_of, rate, rate_of, discipline, discipline_of, packet}
+use Rattle.net_cells.specs.declared.visit.Visit.{Visit}
+use Rattle.net_cells.specs.Visits.{visits_in, others, longest_of, longest}
+use Rattle.net_cells.specs.QueueParts.{in_part, part_numbers, by_parts}
 use Rattle.net_cells.specs.Cells.{cell_of}
 use Rattle.net_cells.specs.Order.{at_visit}
 use Rattle.net_cells.specs.Meanings.{Meaning, curve, number, CellTable, IsCurveIn, IsNumberIn}
 use Rattle.net_cells.specs.Formulas.{Formula, leaves, made, value_of, horizontal}
-use Rattle.net_cells.specs.CellFormulas.{formula, sum_of_cells, sum_from, queue_service, packets_to, served_to, less, service_at, value}
-use Rattle.net_cells.specs.Means.{Means}
-use Rattle.net_cells.proofs.Lists.{map_has}
+use Rattle.net_cells.specs.CellFormulas.{formula, part_sum, with_part, parts_sum, total, sum_of_cells, sum_from, queue_service, packets_to, served_to, less, service_at, value}
+use Rattle.net_cells.specs.Means.{Means, MeansFrom, IsSumOnto, IsSumOf}
+use Rattle.net_cells.proofs.Lists.{map_has, has_map, has_left, has_right}
+use Rattle.net_cells.proofs.LeavesOf.{parts_leaves}
+use Rattle.net_cells.proofs.Stored.{server_kept}
 use Rattle.net_cells.proofs.Members.{hop_kept}
 use Rattle.cell_operators.specs.Shapes.{Rises, Serving, Grows, Ahead}
 use Rattle.cell_operators.specs.TableValues.{HasCurve, HasNumber}
@@ -168,6 +174,75 @@ sum_of_rises at (c ∷ cs) v each m = sum_from_rises at (value_of c) cs v first 
         let same : curve has.value ≡ w = cc in
         subst (IsCurveIn Rises) same has.holds
 
+-- ---- sums of parts
+AllRise : List SpecCurve → Type 0
+AllRise [] = Unit {0}
+AllRise (f ∷ fs) = Rises f × AllRise fs
+
+rise_push : (fs : List SpecCurve) (f : SpecCurve) → AllRise fs → Rises f → AllRise (fs ++ f ∷ [])
+unfolding AllRise
+rise_push [] f h k = (k, tt)
+rise_push (g ∷ fs) f h k = (h.0, rise_push fs f h.1 k)
+
+sum_onto_rises : (f : SpecCurve) (gs : List SpecCurve) (v : Meaning) → Rises f → AllRise gs → IsSumOnto f gs v → IsCurveIn Rises v
+unfolding AllRise
+sum_onto_rises f [] v h k m = subst (IsCurveIn Rises) (sym m) h
+sum_onto_rises f (g ∷ gs) v h k m = sum_onto_rises m.operand gs v (sum_rises f g m.operand h k.0 m.is) k.1 m.gives
+
+bucket_rises : (burst rate : ℚ) → zero_q ≤ℚ burst → zero_q ≤ℚ rate → Rises (bucket burst rate)
+bucket_rises burst rate h k = (kinds_may_stand.bucket burst rate h k).rising
+
+made_rise : (at : CellTable) (fs : List SpecCurve) (v : Meaning) → AllRise fs → IsSumOf fs v → IsCurveIn Rises v
+unfolding AllRise
+made_rise at [] v h m = subst (IsCurveIn Rises) (sym m) (bucket_rises zero_q zero_q (le_refl zero_q) (le_refl zero_q))
+made_rise at (f ∷ fs) v h m = sum_onto_rises f fs v h.0 h.1 m
+
+rate_there : (net : Net) (p : ℕ) (o : Option NetServer) → IsAccepted net → slice_get net.servers p ≡ o → zero_q ≤ℚ rate_of o
+rate_there net p None a e = le_refl zero_q
+rate_there net p (Some x) a e = le_of_lt (server_kept net p x a e).rate
+
+part_rises : (net : Net) (at : CellTable) (k : ℕ) (vs : List Visit) (w : Meaning) → IsAccepted net
+    → ((c : Cell) → Has (map (at_visit In) vs) c → HasCurve at c Rises) → Means at (part_sum net k vs) w → IsCurveIn Rises w
+part_rises net at zero vs w a each m = sum_of_rises at (map (at_visit In) vs) w each m
+part_rises net at (suc p) vs w a each m =
+    let g = m.operand in
+    let B = bucket (whole (longest_of net vs)) (rate net p) in
+    let h = curve_from (IsMadeBy Min g B) w m.gives in
+    subst (IsCurveIn Rises) (sym h.1)
+    (min_rises g B h.0 (sum_of_rises at (map (at_visit In) vs) (curve g) each m.is)
+    (bucket_rises (whole (longest_of net vs)) (rate net p) (whole_nonneg (longest_of net vs)) (rate_there net p (slice_get net.servers p) a refl)) h.2)
+
+parts_rise : (net : Net) (at : CellTable) (s q : ℕ) (ks : List ℕ) (fs : List SpecCurve) (v : Meaning) → IsAccepted net → AllRise fs
+    → ((u : Visit) → Has (by_parts net s q ks) u → HasCurve at (at_visit In u) Rises) → MeansFrom at (parts_sum net s q ks) fs v
+    → IsCurveIn Rises v
+parts_rise net at s q [] fs v a h each m = made_rise at fs v h m
+parts_rise net at s q (k ∷ ks) fs v a h each m =
+    one (in_part net s q k) (λ u l. each u (has_left (in_part net s q k) (by_parts net s q ks) u l))
+    (λ gs h n. parts_rise net at s q ks gs v a h (λ u l. each u (has_right (in_part net s q k) (by_parts net s q ks) u l)) n) m
+  where
+    one : (vs : List Visit) → ((u : Visit) → Has vs u → HasCurve at (at_visit In u) Rises)
+        → ((gs : List SpecCurve) → AllRise gs → MeansFrom at (parts_sum net s q ks) gs v → IsCurveIn Rises v)
+        → MeansFrom at (with_part net k vs (parts_sum net s q ks)) fs v → IsCurveIn Rises v
+    one [] here rest n = rest fs h n
+    one (u ∷ vs) here rest n =
+        let own = part_rises net at k (u ∷ vs) (curve n.operand) a
+        (λ d l. let w = map_has (at_visit In) (u ∷ vs) d l in subst (λ (x : Cell). HasCurve at x Rises) w.2 (here w.0 w.1)) n.is in
+        rest (fs ++ n.operand ∷ []) (rise_push fs n.operand h own) n.gives
+
+total_made : (net : Net) (at : CellTable) (s q : ℕ) (by_links : Bool) (v : Meaning) → IsAccepted net
+    → ((u : Visit) → Has (leaves (total by_links net s q)) (at_visit In u) → HasCurve at (at_visit In u) Rises)
+    → Means at (total by_links net s q) v → IsCurveIn Rises v
+unfolding AllRise
+total_made net at s q false v a come m =
+    let cells = map (at_visit In) (visits_in net s q) in
+    sum_of_rises at cells v
+    (λ d h.
+    let w = map_has (at_visit In) (visits_in net s q) d h in
+    subst (λ (x : Cell). HasCurve at x Rises) w.2 (come w.0 (subst (Has (leaves (total false net s q))) (sym w.2) (sum_leaf cells d h)))) m
+total_made net at s q true v a come m =
+    parts_rise net at s q (part_numbers net) [] v a tt
+    (λ u h. come u (subst (λ (cs : List Cell). Has cs (at_visit In u)) (sym (parts_leaves net s q (part_numbers net))) (has_map (at_visit In) (by_parts net s q (part_numbers net)) u h))) m
+
 module _ (net : Net) (at : CellTable) (P : Cell → Type 0) (meets : Meets net at P) (a : IsAccepted net) where
   -- a cell that is a sum of cells which rise
   sum_cell : (c : Cell) (cs : List Cell) → formula net c ≡ sum_of_cells cs → P c → ((d : Cell) → Has cs d → P d → HasCurve at d Rises) → HasCurve at c Rises
@@ -187,10 +262,10 @@ module _ (net : Net) (at : CellTable) (P : Cell → Type 0) (meets : Meets net a
 
   pub total_rises : (s q : ℕ) → P (cell_of Total s q) → HasCurve at (cell_of Total s q) Rises
   total_rises s q p =
-      sum_cell (cell_of Total s q) (map (at_visit In) (visits_in net s q)) refl p
-      (λ d h r.
-      let v = map_has (at_visit In) (visits_in net s q) d h in
-      subst (λ (x : Cell). HasCurve at x Rises) v.2 (in_rises net at P meets a v.0.hop v.0.flow (subst P (sym v.2) r)))
+      let e = meets.meet (cell_of Total s q) p in
+      has_curve at (cell_of Total s q) Rises e.value e.is
+      (total_made net at s q (net.version == 2) e.value a
+      (λ u h. in_rises net at P meets a u.hop u.flow (meets.closed (cell_of Total s q) (at_visit In u) p h)) e.means)
 
   pub higher_rises : (s q : ℕ) → P (cell_of Higher s q) → HasCurve at (cell_of Higher s q) Rises
   higher_rises s q p =

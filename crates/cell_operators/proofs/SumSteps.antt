@@ -10,7 +10,7 @@ use Rattle.net_cells.specs.declared.cell.Cell.{Cell}
 use Rattle.net_cells.specs.Meanings.{curve, CellTable}
 use Rattle.curve_call.specs.Again.{IsAgain}
 use Rattle.net_cells.specs.Numbered.{zero_curve}
-use Rattle.net_cells.specs.Formulas.{Formula, value_of, given, empty_sum, made, made_of, moved, leftover, priority, deficit, horizontal, vertical, smaller, along, delayed}
+use Rattle.net_cells.specs.Formulas.{Formula, value_of, given, empty_sum, made, made_of, moved, cut, part, no_part, leftover, priority, deficit, horizontal, vertical, smaller, along, delayed}
 use Rattle.net_cells.specs.CellFormulas.{sum_of_cells, sum_from}
 use Rattle.net_cells.specs.Answers.{Answer, Answers, MakesCurve}
 use Rattle.cell_table.specs.Gives.{Gives}
@@ -149,6 +149,9 @@ err_gives at empty_sum fault a = a
 err_gives at (made op F G) fault a = a
 err_gives at (made_of op F) fault a = a
 err_gives at (moved F T) fault a = a
+err_gives at (cut F server bits rate) fault a = a
+err_gives at (part F G) fault a = a
+err_gives at no_part fault a = a
 err_gives at (leftover F G T) fault a = a
 err_gives at (priority f F lower) fault a = a
 err_gives at (deficit f quanta longest queue) fault a = a

@@ -2,4 +2,5 @@ pub mod TableValues
 pub mod Shapes
 pub mod Sharing
 pub mod Partial
+pub mod Parts
 pub mod Evaluates

@@ -2,6 +2,7 @@
 #![tactic(auto)]
 
 mod nodes;
+mod parts;
 mod paths;
 mod reading;
 mod services;
@@ -9,6 +10,7 @@ mod sharing;
 mod sums;
 
 pub use nodes::{backlog, delay_between, later, left_over, lesser, spread};
+pub use parts::parts_sum;
 pub use paths::path_service;
 pub use reading::{curve_at, number_at};
 pub use services::queue_service;

@@ -13,7 +13,6 @@ ghost use Rattle.cell_table.specs.Gives.{Gives};
 ghost use Rattle.cell_table.specs.Values.{answer_of, meaning_of};
 ghost use Rattle.queue_hops.specs.Chosen.{chosen, all_chosen, visit_list};
 ghost use Rattle.cell_operators.specs.Partial.{IsPartial, IsReady, IsSummed, Adds};
-ghost use Rattle.queue_hops.specs.declared.found.Pick.TheVariants.{InQueue};
 ghost use Rattle.cell_operators.specs.TableValues.{IsCurveAt};
 
 use crate::reading::curve_at;
@@ -33,15 +32,16 @@ use upp_curve::Curve;
 use upp_limits::OpFault;
 
 /// The sum of no cell, of one, or of more.
-#[derive(Drop)]
+#[derive(Drop, Default)]
 pub enum Partial {
+    #[default]
     Nothing,
     One(Cell),
     Made(Curve),
 }
 
-// The curve that is 0 at each time.
-fn nothing(alloc: Global) -> Result<Curve, OpFault>
+/// The curve that is 0 at each time.
+pub(crate) fn nothing(alloc: Global) -> Result<Curve, OpFault>
     ensures { IsAgain zero_curve result }
 {
     match bucket(alloc, Frac::zero(), Frac::zero()) {
@@ -103,25 +103,26 @@ pub fn finished<T: Table<Value>>(alloc: Global, table: &T, whole: Partial) -> Re
     }
 }
 
-// A sum and the flow's curve at its hop in a queue, if there is one.
+// A sum and the flow's curve at its hop that is meant, if there is one.
 fn with_flow<T: Table<Value>, L: Ledger>(
     alloc: Global,
     so_far: Partial,
     table: &T,
     net: &Network,
-    place: (u32, u32),
+    server: u32,
+    pick: Pick,
     except: Option<u32>,
     flow: u32,
     steps: &mut Steps<L>,
 ) -> Result<Partial, OpFault>
-    requires curves { (k : ℕ) → chosen net.now place.0 (InQueue place.1) except flow ≡ visit_list flow (Some k) →
+    requires curves { (k : ℕ) → chosen net.now server pick except flow ≡ visit_list flow (Some k) →
         IsCurveAt (T.at table.now) (cell_of In flow k) }
     requires ready { IsReady (T.at table.now) so_far }
     ensures sum { (cells : List Cell) → IsPartial (T.at table.now) cells so_far → Adds (T.at table.now) cells
-        (map (at_visit In) (chosen net.now place.0 (InQueue place.1) except flow)) steps.old steps.new result }
+        (map (at_visit In) (chosen net.now server pick except flow)) steps.old steps.new result }
     ensures ready { IfOk result (IsReady (T.at table.now)) }
 {
-    match chosen_at(net, flow, place.0, Pick::InQueue(place.1), except) {
+    match chosen_at(net, flow, server, pick, except) {
         Some(hop) => {
             let cell = Cell {
                 kind: Kind::In,
@@ -134,25 +135,26 @@ fn with_flow<T: Table<Value>, L: Ledger>(
     }
 }
 
-/// The sum of the curves with which flows come to a queue of a server, one flow left out.
+/// The sum of the curves with which flows come to the hops at a server that are meant, one flow left out.
 pub fn flows_sum<T: Table<Value>, L: Ledger>(
     alloc: Global,
     table: &T,
     net: &Network,
-    place: (u32, u32),
+    server: u32,
+    pick: Pick,
     except: Option<u32>,
     steps: &mut Steps<L>,
 ) -> Result<Partial, OpFault>
-    requires { (i k : ℕ) → chosen net.now place.0 (InQueue place.1) except i ≡ visit_list i (Some k) →
+    requires { (i k : ℕ) → chosen net.now server pick except i ≡ visit_list i (Some k) →
         IsCurveAt (T.at table.now) (cell_of In i k) }
     ensures sum { Adds (T.at table.now) [] (map (at_visit In)
-        (all_chosen net.now place.0 (InQueue place.1) except (length net.now.flows))) steps.old steps.new result }
+        (all_chosen net.now server pick except (length net.now.flows))) steps.old steps.new result }
     ensures ready { IfOk result (IsReady (T.at table.now)) }
 {
     let count = net.flows().len() as u32;
     let mut so_far = Partial::Nothing;
     for flow in 0..count {
-        match with_flow(alloc, so_far, table, net, place, except, flow, steps) {
+        match with_flow(alloc, so_far, table, net, server, pick, except, flow, steps) {
             Ok(more) => so_far = more,
             Err(fault) => return Err(fault),
         }

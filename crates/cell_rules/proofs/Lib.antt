@@ -1,4 +1,5 @@
 pub mod Tells
 pub mod SameMade
 pub mod SameHops
+pub mod SameParts
 pub mod Found

@@ -6,20 +6,20 @@ use Rattle.std.proofs.lemmas.Bool.{cases_lt}
 use Rattle.std.proofs.lemmas.List.{get_or_past}
 use Rattle.net_model.specs.Networks.{Net, NetFlow}
 use Rattle.net_cells.specs.declared.cell.Cell.{Cell}
-use Rattle.net_cells.specs.declared.cell.Kind.TheVariants.{In, Cross, Total}
+use Rattle.net_cells.specs.declared.cell.Kind.TheVariants.{In, Cross}
 use Rattle.net_cells.specs.Numbered.{flow_at, path_of, server_of_hop, queue_of_hop}
 use Rattle.net_cells.specs.declared.visit.Visit.{Visit}
 use Rattle.net_cells.specs.Visits.{visit, visits_in, others, is_at, longest, longest_after, longest_of}
 use Rattle.net_cells.specs.Order.{at_visit}
 use Rattle.net_cells.specs.Formulas.{leaves}
-use Rattle.net_cells.specs.CellFormulas.{sum_of_cells}
+use Rattle.net_cells.specs.CellFormulas.{sum_of_cells, sum_of_hops}
 use Rattle.net_cells.proofs.Growing.{flat_more, flat_below}
 use Rattle.net_cells.proofs.LeavesOf.{sum_leaves}
 use Rattle.net_cells.proofs.Lists.{Has, map_has, filter_has, has_flat, flat_has, has_range}
 use Rattle.queue_hops.specs.declared.found.Pick.{Pick}
 use Rattle.queue_hops.specs.declared.found.Pick.TheVariants.{InQueue, AfterQueue}
 use Rattle.queue_hops.specs.Chosen.{visit_list, picks, is_other, picked, chosen, flow_visits, all_chosen, all_picked}
-use Rattle.queue_hops.proofs.Choosing.{queue_visits, other_visits, picked_are}
+use Rattle.queue_hops.proofs.Choosing.{queue_visits, other_visits, picked_are, all_chosen_more}
 use Rattle.cell_rules.specs.Rules.{TellsSame, TellsFormula}
 use Rattle.cell_rules.proofs.Tells.{tells_by, tells_of}
 
@@ -107,7 +107,7 @@ chosen_own net s pick except i v h =
     sym (ap (λ (w : Visit). w.flow) hop.2)
 
 -- ---- sums of their curves
-same_visits : (xs ys : List Visit) → map (at_visit In) xs ≡ map (at_visit In) ys → xs ≡ ys
+pub same_visits : (xs ys : List Visit) → map (at_visit In) xs ≡ map (at_visit In) ys → xs ≡ ys
 same_visits [] [] e = refl
 same_visits [] (y ∷ ys) e = absurd (let bad : ⊥ = cc in bad)
 same_visits (x ∷ xs) [] e = absurd (let bad : ⊥ = cc in bad)
@@ -141,11 +141,26 @@ cross_tells old new i k s q t p b es eq et ep tells =
 
 pub total_tells : (old new : Net) (s q : ℕ) (b : Bool)
     → TellsSame (all_chosen old s (InQueue q) None (length old.flows)) (all_chosen new s (InQueue q) None (length new.flows)) b
-    → TellsFormula old new Total s q b
+    → TellsSame (sum_of_hops (visits_in old s q)) (sum_of_hops (visits_in new s q)) b
 total_tells old new s q b tells =
     tells_sum (visits_in old s q) (visits_in new s q) b
     (tells_of (all_chosen old s (InQueue q) None (length old.flows)) (all_chosen new s (InQueue q) None (length new.flows))
     (visits_in old s q) (visits_in new s q) b (sym (queue_visits old s q)) (sym (queue_visits new s q)) tells)
+
+-- ---- no hop
+pub none_chosen : (net : Net) (s : ℕ) (pick : Pick) (n : ℕ) (o : Option ℕ) → all_chosen net s pick None n ≡ []
+    → chosen net s pick None n ≡ visit_list n o → o ≡ None → all_chosen net s pick None (n + 1) ≡ []
+none_chosen net s pick n o e f h =
+    all_chosen_more net s pick None n ∙ ap₂ (λ (xs ys : List Visit). xs ++ ys) e (f ∙ ap (visit_list n) h)
+
+pub some_chosen : (net : Net) (s : ℕ) (pick : Pick) (n : ℕ) (o : Option ℕ) → n < length net.flows
+    → chosen net s pick None n ≡ visit_list n o → o ≢ None → all_chosen net s pick None (length net.flows) ≢ []
+some_chosen net s pick n None l f h z = h refl
+some_chosen net s pick n (Some k) l f h z =
+    let there = subst (λ (vs : List Visit). Has vs (visit n k)) (sym f) (inl refl) in
+    subst (λ (vs : List Visit). Has vs (visit n k)) z
+    (has_flat (chosen net s pick None) (range_with_len 0 (length net.flows)) n (visit n k)
+    (has_range 0 (length net.flows) n (omega arith) (omega arith)) there)
 
 -- ---- their longest packets
 pub longest_is : (net : Net) (s q n : ℕ) → n ≡ longest_of net (all_picked net s (InQueue q) (length net.flows))

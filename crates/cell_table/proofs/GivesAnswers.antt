@@ -7,7 +7,7 @@ use Rattle.curve_call.specs.Again.{IsAgain}
 use Rattle.curve_call.specs.Calls.{goes_on, stops}
 use Rattle.net_cells.specs.declared.cell.Cell.{Cell}
 use Rattle.net_cells.specs.Meanings.{Meaning, curve, number, CellTable}
-use Rattle.net_cells.specs.Formulas.{Formula, value_of, given, empty_sum, made, made_of, moved, leftover, priority, deficit, horizontal, vertical, smaller, along, delayed}
+use Rattle.net_cells.specs.Formulas.{Formula, value_of, given, empty_sum, made, made_of, moved, cut, part, no_part, leftover, priority, deficit, horizontal, vertical, smaller, along, delayed}
 use Rattle.net_cells.specs.Answers.{Answers, OnCurve, MakesCurve}
 use Rattle.cell_table.specs.Gives.{Gives}
 
@@ -37,6 +37,9 @@ gives_ok at empty_sum v g = g
 gives_ok at (made op F G) v g = g
 gives_ok at (made_of op F) v g = g
 gives_ok at (moved F T) v g = g
+gives_ok at (cut F server bits rate) v g = g
+gives_ok at (part F G) v g = g
+gives_ok at no_part v g = g
 gives_ok at (leftover F G T) v g = g
 gives_ok at (priority f F lower) v g = g
 gives_ok at (deficit f quanta longest queue) v g = g
@@ -53,6 +56,9 @@ gives_over at empty_sum fault other g = g
 gives_over at (made op F G) fault other g = g
 gives_over at (made_of op F) fault other g = g
 gives_over at (moved F T) fault other g = g
+gives_over at (cut F server bits rate) fault other g = g
+gives_over at (part F G) fault other g = g
+gives_over at no_part fault other g = g
 gives_over at (leftover F G T) fault other g = g
 gives_over at (priority f F lower) fault other g = g
 gives_over at (deficit f quanta longest queue) fault other g = g

@@ -3,16 +3,17 @@ use Rattle.std.proofs.Common.{◌≡◌, ℕ, List, ◌++◌, inl, inr, ap, arit
 use Rattle.std.specs.Prelude.{codes}
 use Rattle.upp_limits.specs.declared.own_limits.OverLimit.{OverLimit}
 use Rattle.upp_limits.specs.declared.own_limits.OverLimit.TheVariants.{TooMany, TooWide}
+use Rattle.json_report.specs.declared.form.Form.{Form}
 use Rattle.command_replies.specs.Replies.{Reply, over}
 use Rattle.command_replies.proofs.Statuses.{status_is}
 use Rattle.edit_command.specs.OnEdits as on
 use Rattle.edit_command.specs.OnEdits.{IsEditReport}
 use Rattle.edit_command.specs.EditCauses.{IsMalformed, IsOverLimit, HasCycleBehind, HasCause, StatusesHaveCauses}
 
-module _ (net_file net_bytes edits_file edits_bytes : List ℕ) (reply : Reply) where
+module _ (form : Form) (net_file net_bytes edits_file edits_bytes : List ℕ) (reply : Reply) where
   -- of a status that is known
   malformed : reply.status ≡ 1 → IsMalformed net_file net_bytes edits_file edits_bytes reply
-      → HasCause net_file net_bytes edits_file edits_bytes reply
+      → HasCause form net_file net_bytes edits_file edits_bytes reply
   malformed is h = record {
     report = λ e. absurd (cc);
     malformed = λ e. h;
@@ -27,7 +28,7 @@ module _ (net_file net_bytes edits_file edits_bytes : List ℕ) (reply : Reply) 
   }
 
   wide : reply.status ≡ 6 → IsOverLimit TooWide net_bytes edits_bytes reply
-      → HasCause net_file net_bytes edits_file edits_bytes reply
+      → HasCause form net_file net_bytes edits_file edits_bytes reply
   wide is h = record {
     report = λ e. absurd (cc);
     malformed = λ e. absurd (cc);
@@ -42,7 +43,7 @@ module _ (net_file net_bytes edits_file edits_bytes : List ℕ) (reply : Reply) 
   }
 
   many : reply.status ≡ 7 → IsOverLimit TooMany net_bytes edits_bytes reply
-      → HasCause net_file net_bytes edits_file edits_bytes reply
+      → HasCause form net_file net_bytes edits_file edits_bytes reply
   many is h = record {
     report = λ e. absurd (cc);
     malformed = λ e. absurd (cc);
@@ -57,7 +58,7 @@ module _ (net_file net_bytes edits_file edits_bytes : List ℕ) (reply : Reply) 
   }
 
   cycle : reply.status ≡ 8 → HasCycleBehind net_bytes edits_bytes reply
-      → HasCause net_file net_bytes edits_file edits_bytes reply
+      → HasCause form net_file net_bytes edits_file edits_bytes reply
   cycle is h = record {
     report = λ e. absurd (cc);
     malformed = λ e. absurd (cc);
@@ -71,8 +72,8 @@ module _ (net_file net_bytes edits_file edits_bytes : List ℕ) (reply : Reply) 
     most = omega (arith, is);
   }
 
-  report : reply.status ≡ 0 → IsEditReport net_bytes edits_bytes reply
-      → HasCause net_file net_bytes edits_file edits_bytes reply
+  report : reply.status ≡ 0 → IsEditReport form net_bytes edits_bytes reply
+      → HasCause form net_file net_bytes edits_file edits_bytes reply
   report is h = record {
     report = λ e. h;
     malformed = λ e. absurd (cc);
@@ -87,20 +88,20 @@ module _ (net_file net_bytes edits_file edits_bytes : List ℕ) (reply : Reply) 
   }
 
   over_limit : (limit : OverLimit) (what : List ℕ) → reply ≡ over limit what
-      → IsOverLimit limit net_bytes edits_bytes reply → HasCause net_file net_bytes edits_file edits_bytes reply
+      → IsOverLimit limit net_bytes edits_bytes reply → HasCause form net_file net_bytes edits_file edits_bytes reply
   over_limit TooMany what is h = many (status_is reply (over TooMany what) is) h
   over_limit TooWide what is h = wide (status_is reply (over TooWide what) is) h
 
 pub causes : StatusesHaveCauses
-causes net_file net_bytes edits_file edits_bytes reply (on.Broken h) =
-    malformed net_file net_bytes edits_file edits_bytes reply (ap (λ (r : Reply). r.status) h.is) (inl h)
-causes net_file net_bytes edits_file edits_bytes reply (on.CurveOver limit h) =
-    over_limit net_file net_bytes edits_file edits_bytes reply limit (codes "curve " ++ h.place) h.is (inl h)
-causes net_file net_bytes edits_file edits_bytes reply (on.BadList h) =
-    malformed net_file net_bytes edits_file edits_bytes reply (ap (λ (r : Reply). r.status) h.is) (inr h)
-causes net_file net_bytes edits_file edits_bytes reply (on.Cyclic edits asked h) =
-    cycle net_file net_bytes edits_file edits_bytes reply (ap (λ (r : Reply). r.status) h.is) ((edits, asked), h)
-causes net_file net_bytes edits_file edits_bytes reply (on.CellOver edits asked limit h) =
-    over_limit net_file net_bytes edits_file edits_bytes reply limit _ h.is (inr ((edits, asked), h))
-causes net_file net_bytes edits_file edits_bytes reply (on.Reported h) =
-    report net_file net_bytes edits_file edits_bytes reply (ap (λ (r : Reply). r.status) h.2.report.is) h
+causes form net_file net_bytes edits_file edits_bytes reply (on.Broken h) =
+    malformed form net_file net_bytes edits_file edits_bytes reply (ap (λ (r : Reply). r.status) h.is) (inl h)
+causes form net_file net_bytes edits_file edits_bytes reply (on.CurveOver limit h) =
+    over_limit form net_file net_bytes edits_file edits_bytes reply limit (codes "curve " ++ h.place) h.is (inl h)
+causes form net_file net_bytes edits_file edits_bytes reply (on.BadList h) =
+    malformed form net_file net_bytes edits_file edits_bytes reply (ap (λ (r : Reply). r.status) h.is) (inr h)
+causes form net_file net_bytes edits_file edits_bytes reply (on.Cyclic edits asked h) =
+    cycle form net_file net_bytes edits_file edits_bytes reply (ap (λ (r : Reply). r.status) h.is) ((edits, asked), h)
+causes form net_file net_bytes edits_file edits_bytes reply (on.CellOver edits asked limit h) =
+    over_limit form net_file net_bytes edits_file edits_bytes reply limit _ h.is (inr ((edits, asked), h))
+causes form net_file net_bytes edits_file edits_bytes reply (on.Reported h) =
+    report form net_file net_bytes edits_file edits_bytes reply (ap (λ (r : Reply). r.status) h.2.report.is) h

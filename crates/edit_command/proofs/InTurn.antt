@@ -2,33 +2,34 @@
 use Rattle.std.proofs.Common.{◌≡◌, ℕ, suc, get_or, take, drop-cons, add-one, ◌+◌, ◌<◌, ◌≤◌, List, [], ◌∷◌, ◌++◌, length, drop, refl, sym, ap, ◌∙◌, subst, arith}
 use Rattle.std.proofs.lemmas.List.{length_push, take_more}
 use Rattle.net_model.specs.declared.edit.Edit.{Edit}
+use Rattle.edit_report.specs.Said.{EditSaid}
 use Rattle.edit_command.specs.NetHistories.{NetHistory}
 use Rattle.edit_command.specs.Answered.{IsAnswered, Taken, Undone, Refused, AreAnswered}
 use Rattle.edit_command.specs.EditCounts.{IsWorkOf, IsTakenWork, WorkOfEdits}
 use Rattle.edit_command.proofs.NextOne.{next_is_one}
 
 -- ---- answers
-pub answered_more : (old : NetHistory) (edits : List Edit) (answers : List (List ℕ)) (mid : NetHistory) (edit : Edit)
-    (words : List ℕ) (new : NetHistory) → AreAnswered old edits answers mid → IsAnswered mid edit words new
-    → AreAnswered old (edits ++ edit ∷ []) (answers ++ words ∷ []) new
-answered_more old [] [] mid edit words new are one =
-    record { next = new; first = subst (λ (h : NetHistory). IsAnswered h edit words new) are one; rest = refl }
-answered_more old [] (a ∷ rest) mid edit words new are one = absurd are
-answered_more old (e ∷ es) [] mid edit words new are one = absurd are
-answered_more old (e ∷ es) (a ∷ rest) mid edit words new are one = record {
+pub answered_more : (old : NetHistory) (edits : List Edit) (answers : List EditSaid) (mid : NetHistory) (edit : Edit)
+    (said : EditSaid) (new : NetHistory) → AreAnswered old edits answers mid → IsAnswered mid edit said new
+    → AreAnswered old (edits ++ edit ∷ []) (answers ++ said ∷ []) new
+answered_more old [] [] mid edit said new are one =
+    record { next = new; first = subst (λ (h : NetHistory). IsAnswered h edit said new) are one; rest = refl }
+answered_more old [] (a ∷ rest) mid edit said new are one = absurd are
+answered_more old (e ∷ es) [] mid edit said new are one = absurd are
+answered_more old (e ∷ es) (a ∷ rest) mid edit said new are one = record {
   next = are.next;
   first = are.first;
-  rest = answered_more are.next es rest mid edit words new are.rest one;
+  rest = answered_more are.next es rest mid edit said new are.rest one;
 }
 
 -- an edit takes the history one network deeper at most
-pub no_deeper : (old : NetHistory) (edit : Edit) (words : List ℕ) (new : NetHistory) → IsAnswered old edit words new
+pub no_deeper : (old : NetHistory) (edit : Edit) (said : EditSaid) (new : NetHistory) → IsAnswered old edit said new
     → length new.before ≤ length old.before + 1
-no_deeper old edit words new (Taken h) =
+no_deeper old edit said new (Taken h) =
     omega (arith, ap length h.before, length_push old.before old.present)
-no_deeper old edit words new (Undone h) =
+no_deeper old edit said new (Undone h) =
     omega (arith, ap length h.back, length_push new.before new.present)
-no_deeper old edit words new (Refused h) = omega (arith, ap (λ (x : NetHistory). length x.before) h.same)
+no_deeper old edit said new (Refused h) = omega (arith, ap (λ (x : NetHistory). length x.before) h.same)
 
 -- ---- work
 -- the work of the edits that are left, beside the steps that were taken
@@ -53,12 +54,12 @@ pub all_left : (old : NetHistory) (edits : List Edit) (count : ℕ) → LeavesWo
 all_left old edits count all done w =
     record { rest_all = all; rest_done = done; works = w; most = omega arith; least = omega arith }
 
-pub one_less : (now next : NetHistory) (edit : Edit) (edits : List Edit) (words : List ℕ) (before mid after all done : ℕ)
-    → IsAnswered now edit words next → RowSteps now edit next mid after → IsLeft now (edit ∷ edits) before mid all done
+pub one_less : (now next : NetHistory) (edit : Edit) (edits : List Edit) (said : EditSaid) (before mid after all done : ℕ)
+    → IsAnswered now edit said next → RowSteps now edit next mid after → IsLeft now (edit ∷ edits) before mid all done
     → IsLeft next edits before after all done
-one_less now next edit edits words before mid after all done answered steps left =
+one_less now next edit edits said before mid after all done answered steps left =
     let first = left.works in
-    let same : first.next ≡ next = next_is_one now edit first.words words first.next next first.answered answered in
+    let same : first.next ≡ next = next_is_one now edit first.said said first.next next first.answered answered in
     let taken : IsTakenWork now edit next first.count first.taken =
     subst (λ (h : NetHistory). IsTakenWork now edit h first.count first.taken) same first.is_taken in
     let most = steps.most first.count first.is_count in
@@ -89,15 +90,15 @@ pub none_left : (now : NetHistory) (before after all done : ℕ) → IsLeft now 
 none_left now before after all done left = omega (arith, left.least, left.works.1)
 
 -- ---- one place further
-pub answered_at : (old : NetHistory) (edits : List Edit) (i : ℕ) (edit : Edit) (answers : List (List ℕ))
-    (mid : NetHistory) (words : List ℕ) (new : NetHistory) → i < length edits → edit ≡ get_or edits i edit
-    → AreAnswered old (take i edits) answers mid → IsAnswered mid edit words new
-    → AreAnswered old (take (i + 1) edits) (answers ++ words ∷ []) new
-answered_at old edits i edit answers mid words new h is are one =
+pub answered_at : (old : NetHistory) (edits : List Edit) (i : ℕ) (edit : Edit) (answers : List EditSaid)
+    (mid : NetHistory) (said : EditSaid) (new : NetHistory) → i < length edits → edit ≡ get_or edits i edit
+    → AreAnswered old (take i edits) answers mid → IsAnswered mid edit said new
+    → AreAnswered old (take (i + 1) edits) (answers ++ said ∷ []) new
+answered_at old edits i edit answers mid said new h is are one =
     let more : take (i + 1) edits ≡ take i edits ++ edit ∷ [] =
     take_more edits i edit h ∙ ap (λ (e : Edit). take i edits ++ e ∷ []) (sym is) in
-    subst (λ (es : List Edit). AreAnswered old es (answers ++ words ∷ []) new) (sym more)
-    (answered_more old (take i edits) answers mid edit words new are one)
+    subst (λ (es : List Edit). AreAnswered old es (answers ++ said ∷ []) new) (sym more)
+    (answered_more old (take i edits) answers mid edit said new are one)
 
 pub rest_at : (edits : List Edit) (i : ℕ) (edit : Edit) → i < length edits → edit ≡ get_or edits i edit
     → drop i edits ≡ edit ∷ drop (i + 1) edits

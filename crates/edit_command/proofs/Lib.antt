@@ -8,6 +8,6 @@ pub mod OnNetworks
 pub mod OnFiles
 pub mod Promised
 pub mod SameEdits
-pub mod OneWords
+pub mod OneSaid
 pub mod OneReply
 pub mod Causes

@@ -20,6 +20,7 @@ use Rattle.net_edits.specs.Edited.{edited}
 use Rattle.net_edits.specs.Refusals.{unknown_name, name_taken, bad_value, no_number_left, nothing_to_undo}
 use Rattle.edit_store.specs.Applied.{Gives}
 use Rattle.edit_store.proofs.Steps.{gives_one}
+use Rattle.edit_report.specs.Said.{EditSaid}
 use Rattle.edit_command.specs.NetHistories.{NetHistory}
 use Rattle.edit_command.specs.Causes.{GoesRound, HasCellOver, IsOverBy, IsCause}
 use Rattle.edit_command.specs.Answered.{IsAnalysed, IsAnswered, Taken, Undone, Refused}
@@ -95,23 +96,23 @@ no_undo_cause old new edit NothingToUndo net u back c = none_pushed new.before n
 no_undo_cause old new edit NoMemory net u back c = absurd c
 
 -- ---- all
-pub next_is_one : (old : NetHistory) (edit : Edit) (words others : List ℕ) (x y : NetHistory)
-    → IsAnswered old edit words x → IsAnswered old edit others y → x ≡ y
-next_is_one old edit words others x y (Taken h) (Taken k) =
+pub next_is_one : (old : NetHistory) (edit : Edit) (said others : EditSaid) (x y : NetHistory)
+    → IsAnswered old edit said x → IsAnswered old edit others y → x ≡ y
+next_is_one old edit said others x y (Taken h) (Taken k) =
     same_history x y (h.before ∙ sym k.before) (gives_one old.present edit x.present y.present h.gives k.gives)
-next_is_one old edit words others x y (Taken h) (Undone k) =
+next_is_one old edit said others x y (Taken h) (Undone k) =
     absurd (undo_gives_none old.present x.present edit k.undo h.gives)
-next_is_one old edit words others x y (Taken h) (Refused k) =
+next_is_one old edit said others x y (Taken h) (Refused k) =
     absurd (no_cause old edit k.fault x.present k.named_by h.table h.gives h.analysed k.cause)
-next_is_one old edit words others x y (Undone h) (Taken k) =
+next_is_one old edit said others x y (Undone h) (Taken k) =
     absurd (undo_gives_none old.present y.present edit h.undo k.gives)
-next_is_one old edit words others x y (Undone h) (Undone k) =
+next_is_one old edit said others x y (Undone h) (Undone k) =
     let both = push_same x.before y.before x.present y.present (sym h.back ∙ k.back) in
     same_history x y both.0 both.1
-next_is_one old edit words others x y (Undone h) (Refused k) =
+next_is_one old edit said others x y (Undone h) (Refused k) =
     absurd (no_undo_cause old x edit k.fault k.named_by h.undo h.back k.cause)
-next_is_one old edit words others x y (Refused h) (Taken k) =
+next_is_one old edit said others x y (Refused h) (Taken k) =
     absurd (no_cause old edit h.fault y.present h.named_by k.table k.gives k.analysed h.cause)
-next_is_one old edit words others x y (Refused h) (Undone k) =
+next_is_one old edit said others x y (Refused h) (Undone k) =
     absurd (no_undo_cause old y edit h.fault h.named_by k.undo k.back h.cause)
-next_is_one old edit words others x y (Refused h) (Refused k) = h.same ∙ sym k.same
+next_is_one old edit said others x y (Refused h) (Refused k) = h.same ∙ sym k.same

@@ -19,6 +19,7 @@ use Rattle.table_text.specs.Rows.{rows_of, Read}
 use Rattle.table_text.specs.EditRows.{EditText, edit_row, edit_view}
 use Rattle.table_text.specs.EditLists.{AreEditsOf, IsFirstEditFault}
 use Rattle.table_text.specs.Traces.{out_of_memory}
+use Rattle.json_report.specs.declared.form.Form.{Form}
 use Rattle.command_replies.specs.declared.answer.Answer.{Answer}
 use Rattle.command_replies.specs.OnFiles.{IsNetOf, IsNoNetwork}
 use Rattle.command_replies.specs.Replies.{Reply, table_fault_reply}
@@ -47,11 +48,11 @@ told_fault : (bytes : List ℕ) (fault : TableFault) → (fault ≡ out_of_memor
 told_fault bytes fault (inl want) told = absurd (told (ap (λ (f : TableFault). f.kind) want))
 told_fault bytes fault (inr first) told = first
 
-pub on_bad_list : {E : Type 0} (net : Net) (file bytes : List ℕ) (fault : TableFault) (r : Result Answer E)
+pub on_bad_list : {E : Type 0} (form : Form) (net : Net) (file bytes : List ℕ) (fault : TableFault) (r : Result Answer E)
     → IsAccepted net → (fault ≡ out_of_memory) ⊎ IsFirstEditFault bytes fault.kind fault.row
     → IfOk r (λ a. reply_of a ≡ table_fault_reply file fault) → IfOk r (λ a. fault.kind ≢ tables.NoMemory)
-    → IfOk r (λ a. IsReplyOnNet net file bytes (reply_of a))
-on_bad_list net file bytes fault (Ok a) accepted first is told =
+    → IfOk r (λ a. IsReplyOnNet form net file bytes (reply_of a))
+on_bad_list form net file bytes fault (Ok a) accepted first is told =
     λ net_file net_bytes reads.
     let gives : IsNetOf net_bytes net = record { reads = reads; accepted = accepted } in
     BadList (record {
@@ -61,7 +62,7 @@ on_bad_list net file bytes fault (Ok a) accepted first is told =
       first = told_fault bytes fault first told;
       is = is;
     })
-on_bad_list net file bytes fault (Err e) accepted first is told = tt
+on_bad_list form net file bytes fault (Err e) accepted first is told = tt
 
 -- ---- no report
 kind_is_refused : (file : List ℕ) (fault : Fault) (kind : NetKind) → (reply_of_kind file fault kind).status ≢ 0
@@ -106,7 +107,7 @@ of_fault net_bytes edits_bytes status old new other rises folds = record {
 }
 
 -- ---- a file that gives no network
-pub on_no_network : (net_file net_bytes edits_file edits_bytes : List ℕ) (reply : Reply)
-    → IsNoNetwork net_file net_bytes reply → IsEditReply net_file net_bytes edits_file edits_bytes reply
-on_no_network net_file net_bytes edits_file edits_bytes reply (inl h) = Broken h
-on_no_network net_file net_bytes edits_file edits_bytes reply (inr h) = CurveOver h.0 h.1
+pub on_no_network : (form : Form) (net_file net_bytes edits_file edits_bytes : List ℕ) (reply : Reply)
+    → IsNoNetwork net_file net_bytes reply → IsEditReply form net_file net_bytes edits_file edits_bytes reply
+on_no_network form net_file net_bytes edits_file edits_bytes reply (inl h) = Broken h
+on_no_network form net_file net_bytes edits_file edits_bytes reply (inr h) = CurveOver h.0 h.1

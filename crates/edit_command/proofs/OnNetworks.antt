@@ -20,6 +20,8 @@ use Rattle.cell_store.specs.Edits.{IsFirst}
 use Rattle.cell_store.specs.Placed.{placed}
 use Rattle.edit_store.specs.Stored.{Stored, IsStored}
 use Rattle.report_text.specs.CellWords.{server_name, cell_words}
+use Rattle.json_report.specs.declared.form.Form.{Form}
+use Rattle.edit_report.specs.Said.{EditSaid}
 use Rattle.command_replies.specs.declared.answer.Answer.{Answer}
 use Rattle.command_replies.specs.CellWork.{work_of_cells}
 use Rattle.command_replies.specs.OnFiles.{IsNetOf}
@@ -32,26 +34,26 @@ use Rattle.edit_command.specs.EditCounts.{WorkOfEdits, CountsOnEdits}
 use Rattle.edit_command.proofs.OneRow.{analysed}
 
 -- ---- replies
-pub on_over : (net : Net) (edits : List Edit) (order : List ℕ) (cell : Cell) (limit : OverLimit) (reply : Reply)
+pub on_over : (form : Form) (net : Net) (edits : List Edit) (order : List ℕ) (cell : Cell) (limit : OverLimit) (reply : Reply)
     → IsAccepted net → IsOrder net order → FirstOver net order cell (fault_of limit)
-    → reply ≡ cell_over limit (cell_words net cell) → IsReplyOnEdits net edits reply
-on_over net edits order cell limit reply accepted ordered first is =
+    → reply ≡ cell_over limit (cell_words net cell) → IsReplyOnEdits form net edits reply
+on_over form net edits order cell limit reply accepted ordered first is =
     λ edits_file edits_bytes asked net_file net_bytes reads.
     let gives : IsNetOf net_bytes net = record { reads = reads; accepted = accepted } in
     CellOver (map edit_view edits) asked limit
     (record { net = net; gives = gives; order = order; ordered = ordered; cell = cell; first = first; is = is })
 
-pub on_cycle : (net : Net) (edits : List Edit) (walk : List ℕ) (reply : Reply) → IsAccepted net → IsCycle net walk
-    → reply ≡ goes_round (map (server_name net) walk) → IsReplyOnEdits net edits reply
-on_cycle net edits walk reply accepted cycle is =
+pub on_cycle : (form : Form) (net : Net) (edits : List Edit) (walk : List ℕ) (reply : Reply) → IsAccepted net → IsCycle net walk
+    → reply ≡ goes_round (map (server_name net) walk) → IsReplyOnEdits form net edits reply
+on_cycle form net edits walk reply accepted cycle is =
     λ edits_file edits_bytes asked net_file net_bytes reads.
     let gives : IsNetOf net_bytes net = record { reads = reads; accepted = accepted } in
     Cyclic (map edit_view edits) asked
     (record { net = net; gives = gives; walk = walk; cycle = cycle; is = is })
 
-pub on_report : (net : Net) (edits : List Edit) (reply : Reply) → IsAccepted net
-    → ((last : Net) × (at : CellTable) × AreReported net edits last at reply) → IsReplyOnEdits net edits reply
-on_report net edits reply accepted report =
+pub on_report : (form : Form) (net : Net) (edits : List Edit) (reply : Reply) → IsAccepted net
+    → ((last : Net) × (at : CellTable) × AreReported form net edits last at reply) → IsReplyOnEdits form net edits reply
+on_report form net edits reply accepted report =
     λ edits_file edits_bytes asked net_file net_bytes reads.
     let gives : IsNetOf net_bytes net = record { reads = reads; accepted = accepted } in
     Reported
@@ -130,16 +132,16 @@ no_memory status memory zero = absurd (cc)
 pub only_one : {V : Type 0} (s : Stored V) → s.before ≡ [] → history_of s ≡ begun s.present
 only_one s none = ap (λ (ns : List Net). let h : NetHistory = record { before = ns; present = s.present } in h) none
 
-pub reported_is : {V : Type 0} (meaning : V → Meaning) (first last : Stored V) (edits : List Edit)
-    (answers : List (List ℕ)) (reply : Reply) → first.before ≡ [] → IsAccepted first.present
+pub reported_is : {V : Type 0} (form : Form) (meaning : V → Meaning) (first last : Stored V) (edits : List Edit)
+    (answers : List EditSaid) (reply : Reply) → first.before ≡ [] → IsAccepted first.present
     → IsStored meaning first.before first.present first.values
     → AreAnswered (history_of first) edits answers (history_of last) → IsAccepted last.present
     → IsStored meaning last.before last.present last.values
     → MeetsEquations last.present (placed meaning last.values.newest)
-    → reply ≡ edit_report last.present (placed meaning last.values.newest) answers
-    → (net : Net) × (at : CellTable) × AreReported first.present edits net at reply
-reported_is {V} meaning first last edits answers reply none accepted stored answered accepted_last stored_last meets is =
-    let report : AreReported first.present edits last.present (placed meaning last.values.newest) reply = record {
+    → reply ≡ edit_report form last.present (placed meaning last.values.newest) answers
+    → (net : Net) × (at : CellTable) × AreReported form first.present edits net at reply
+reported_is {V} form meaning first last edits answers reply none accepted stored answered accepted_last stored_last meets is =
+    let report : AreReported form first.present edits last.present (placed meaning last.values.newest) reply = record {
       table = placed meaning first.values.newest;
       analysed = analysed meaning first.present first.values.newest accepted stored.now;
       answers = answers;

@@ -1,5 +1,5 @@
 -- Two replies on the same files are the same, but for the choice among cycles.
-use Rattle.std.proofs.Common.{◌≡◌, ◌⊎◌, ℕ, List, [], ◌∷◌, ◌++◌, map, inl, inr, sym, ap, ◌∙◌, subst}
+use Rattle.std.proofs.Common.{◌≡◌, ◌⊎◌, ℕ, List, [], ◌∷◌, map, inl, inr, sym, ap, ◌∙◌, subst}
 use Rattle.net_model.specs.declared.edit.Edit.{Edit}
 use Rattle.net_model.specs.Accepted.{IsAccepted}
 use Rattle.net_model.specs.Networks.{Net}
@@ -15,9 +15,10 @@ use Rattle.table_text.specs.Rows.{rows_of}
 use Rattle.table_text.specs.EditRows.{EditText, edit_view}
 use Rattle.table_text.specs.EditLists.{IsFirstEditFault}
 use Rattle.table_text.proofs.OneEditList.{edits_one, no_edit_list, edit_fault_one}
-use Rattle.report_text.specs.Report.{report_of}
-use Rattle.report_text.proofs.Agree.{one_report}
-use Rattle.edit_report.specs.EditReport.{edit_lines}
+use Rattle.json_report.specs.declared.form.Form.{Form}
+use Rattle.edit_report.specs.EditReport.{edit_report_in}
+use Rattle.edit_report.specs.Said.{EditSaid}
+use Rattle.edit_report.proofs.OneForm.{one_edit_report}
 use Rattle.command_replies.specs.OnFiles.{IsNetOf}
 use Rattle.command_replies.specs.Replies.{Reply, table_fault_reply}
 use Rattle.command_replies.proofs.FirstFaults.{says}
@@ -25,17 +26,17 @@ use Rattle.command_replies.proofs.OneRefusal.{OnFault, OnCycle, IsOver, on_fault
 use Rattle.edit_command.specs.NetHistories.{NetHistory, begun}
 use Rattle.edit_command.specs.Answered.{AreAnswered}
 use Rattle.edit_command.specs.OnEdits.{AsksFor, AreReported, IsEditReply, Broken, CurveOver, BadList, Cyclic, CellOver, Reported}
-use Rattle.edit_command.specs.EditLaws.{AreSameWords, AreSameReports, AreAlike, RepliesAreDetermined}
+use Rattle.edit_command.specs.EditLaws.{AreSaidAlike, AreSameReports, AreAlike, RepliesAreDetermined}
 use Rattle.edit_command.proofs.NextOne.{next_is_one}
 use Rattle.edit_command.proofs.SameEdits.{answered_alike}
-use Rattle.edit_command.proofs.OneWords.{words_are_one}
+use Rattle.edit_command.proofs.OneSaid.{said_is_one}
 
 -- ---- edits in turn
-record AreSameRows (words others : List (List ℕ)) (x y : NetHistory) : Type 0 where
+record AreSameRows (said others : List EditSaid) (x y : NetHistory) : Type 0 where
   last : x ≡ y
-  same : AreSameWords words others
+  same : AreSaidAlike said others
 
-rows_same : (old : NetHistory) (es fs : List Edit) (ws vs : List (List ℕ)) (x y : NetHistory)
+rows_same : (old : NetHistory) (es fs : List Edit) (ws vs : List EditSaid) (x y : NetHistory)
     → map edit_view es ≡ map edit_view fs → AreAnswered old es ws x → AreAnswered old fs vs y → AreSameRows ws vs x y
 rows_same old [] [] [] [] x y e h k = record { last = h ∙ sym k; same = tt }
 rows_same old [] [] [] (v ∷ vs) x y e h k = absurd k
@@ -51,155 +52,157 @@ rows_same old (d ∷ ds) (f ∷ fs) (w ∷ ws) (v ∷ vs) x y e h k =
     let next : h.next ≡ k.next = next_is_one old d w v h.next k.next h.first other in
     let moved = subst (λ (n : NetHistory). AreAnswered n fs vs y) (sym next) k.rest in
     let rest = rows_same h.next ds fs ws vs x y tail h.rest moved in
-    record { last = rest.last; same = (words_are_one old d w v h.next k.next h.first other, rest.same) }
+    record { last = rest.last; same = (said_is_one old d w v h.next k.next h.first other, rest.same) }
 
 -- ---- the replies, sorted by what the files give
-record IsBad (edits_file edits_bytes : List ℕ) (reply : Reply) : Type 0 where
-  fault : TableFault
-  first : IsFirstEditFault edits_bytes fault.kind fault.row
-  is : reply ≡ table_fault_reply edits_file fault
+module _ (form : Form) where
+  record IsBad (edits_file edits_bytes : List ℕ) (reply : Reply) : Type 0 where
+    fault : TableFault
+    first : IsFirstEditFault edits_bytes fault.kind fault.row
+    is : reply ≡ table_fault_reply edits_file fault
 
-record IsShown (net : Net) (edits_bytes : List ℕ) (reply : Reply) : Type 0 where
-  edits : List Edit
-  asked : AsksFor edits_bytes (map edit_view edits)
-  last : Net
-  at : CellTable
-  report : AreReported net edits last at reply
+  record IsShown (net : Net) (edits_bytes : List ℕ) (reply : Reply) : Type 0 where
+    edits : List Edit
+    asked : AsksFor edits_bytes (map edit_view edits)
+    last : Net
+    at : CellTable
+    report : AreReported form net edits last at reply
 
-record OnOrder (net : Net) (edits_bytes : List ℕ) (reply : Reply) : Type 0 where
-  order : List ℕ
-  ordered : IsOrder net order
-  on : IsOver net order reply ⊎ IsShown net edits_bytes reply
+  record OnOrder (net : Net) (edits_bytes : List ℕ) (reply : Reply) : Type 0 where
+    order : List ℕ
+    ordered : IsOrder net order
+    on : IsOver net order reply ⊎ IsShown net edits_bytes reply
 
-record OnGood (net : Net) (edits_bytes : List ℕ) (reply : Reply) : Type 0 where
-  edits : List EditText
-  asked : AsksFor edits_bytes edits
-  on : OnCycle net reply ⊎ OnOrder net edits_bytes reply
+  record OnGood (net : Net) (edits_bytes : List ℕ) (reply : Reply) : Type 0 where
+    edits : List EditText
+    asked : AsksFor edits_bytes edits
+    on : OnCycle net reply ⊎ OnOrder net edits_bytes reply
 
-record OnNet (net_bytes edits_file edits_bytes : List ℕ) (reply : Reply) : Type 0 where
-  net : Net
-  gives : IsNetOf net_bytes net
-  on : IsBad edits_file edits_bytes reply ⊎ OnGood net edits_bytes reply
+  record OnNet (net_bytes edits_file edits_bytes : List ℕ) (reply : Reply) : Type 0 where
+    net : Net
+    gives : IsNetOf net_bytes net
+    on : IsBad edits_file edits_bytes reply ⊎ OnGood net edits_bytes reply
 
-sorted : (net_file net_bytes edits_file edits_bytes : List ℕ) (reply : Reply)
-    → IsEditReply net_file net_bytes edits_file edits_bytes reply
-    → OnFault net_file net_bytes reply ⊎ OnNet net_bytes edits_file edits_bytes reply
-sorted net_file net_bytes edits_file edits_bytes reply (Broken h) = inl (on_fault net_file net_bytes reply (inl h))
-sorted net_file net_bytes edits_file edits_bytes reply (CurveOver limit h) =
-    inl (on_fault net_file net_bytes reply (inr (limit, h)))
-sorted net_file net_bytes edits_file edits_bytes reply (BadList h) =
-    let bad : IsBad edits_file edits_bytes reply = record { fault = h.fault; first = h.first; is = h.is } in
-    inr (record { net = h.net; gives = h.gives; on = inl bad })
-sorted net_file net_bytes edits_file edits_bytes reply (Cyclic edits asked h) =
-    let round : OnCycle h.net reply = record { walk = h.walk; cycle = h.cycle; is = h.is } in
-    let good : OnGood h.net edits_bytes reply = record { edits = edits; asked = asked; on = inl round } in
-    inr (record { net = h.net; gives = h.gives; on = inr good })
-sorted net_file net_bytes edits_file edits_bytes reply (CellOver edits asked limit h) =
-    let over : IsOver h.net h.order reply = record { limit = limit; cell = h.cell; first = h.first; is = h.is } in
-    let on : OnOrder h.net edits_bytes reply = record { order = h.order; ordered = h.ordered; on = inl over } in
-    let good : OnGood h.net edits_bytes reply = record { edits = edits; asked = asked; on = inr on } in
-    inr (record { net = h.net; gives = h.gives; on = inr good })
-sorted net_file net_bytes edits_file edits_bytes reply (Reported (last, at, h)) =
-    let shown : IsShown h.first edits_bytes reply =
-    record { edits = h.edits; asked = h.asked; last = last; at = at; report = h.report } in
-    let analysed = h.report.analysed in
-    let on : OnOrder h.first edits_bytes reply =
-    record { order = analysed.order; ordered = analysed.ordered; on = inr shown } in
-    let good : OnGood h.first edits_bytes reply =
-    record { edits = map edit_view h.edits; asked = h.asked; on = inr on } in
-    inr (record { net = h.first; gives = h.gives; on = inr good })
+  sorted : (net_file net_bytes edits_file edits_bytes : List ℕ) (reply : Reply)
+      → IsEditReply form net_file net_bytes edits_file edits_bytes reply
+      → OnFault net_file net_bytes reply ⊎ OnNet net_bytes edits_file edits_bytes reply
+  sorted net_file net_bytes edits_file edits_bytes reply (Broken h) = inl (on_fault net_file net_bytes reply (inl h))
+  sorted net_file net_bytes edits_file edits_bytes reply (CurveOver limit h) =
+      inl (on_fault net_file net_bytes reply (inr (limit, h)))
+  sorted net_file net_bytes edits_file edits_bytes reply (BadList h) =
+      let bad : IsBad edits_file edits_bytes reply = record { fault = h.fault; first = h.first; is = h.is } in
+      inr (record { net = h.net; gives = h.gives; on = inl bad })
+  sorted net_file net_bytes edits_file edits_bytes reply (Cyclic edits asked h) =
+      let round : OnCycle h.net reply = record { walk = h.walk; cycle = h.cycle; is = h.is } in
+      let good : OnGood h.net edits_bytes reply = record { edits = edits; asked = asked; on = inl round } in
+      inr (record { net = h.net; gives = h.gives; on = inr good })
+  sorted net_file net_bytes edits_file edits_bytes reply (CellOver edits asked limit h) =
+      let over : IsOver h.net h.order reply = record { limit = limit; cell = h.cell; first = h.first; is = h.is } in
+      let on : OnOrder h.net edits_bytes reply = record { order = h.order; ordered = h.ordered; on = inl over } in
+      let good : OnGood h.net edits_bytes reply = record { edits = edits; asked = asked; on = inr on } in
+      inr (record { net = h.net; gives = h.gives; on = inr good })
+  sorted net_file net_bytes edits_file edits_bytes reply (Reported (last, at, h)) =
+      let shown : IsShown h.first edits_bytes reply =
+      record { edits = h.edits; asked = h.asked; last = last; at = at; report = h.report } in
+      let analysed = h.report.analysed in
+      let on : OnOrder h.first edits_bytes reply =
+      record { order = analysed.order; ordered = analysed.ordered; on = inr shown } in
+      let good : OnGood h.first edits_bytes reply =
+      record { edits = map edit_view h.edits; asked = h.asked; on = inr on } in
+      inr (record { net = h.first; gives = h.gives; on = inr good })
 
--- ---- two of them
-equal : (x y : Reply) → x ≡ y → AreAlike x y
-equal x y same = record { status = ap (λ (r : Reply). r.status) same; text = inl (ap (λ (r : Reply). r.bytes) same) }
+  -- ---- two of them
+  equal : (x y : Reply) → x ≡ y → AreAlike form x y
+  equal x y same = record { status = ap (λ (r : Reply). r.status) same; text = inl (ap (λ (r : Reply). r.bytes) same) }
 
-one_bad : (edits_file edits_bytes : List ℕ) (x y : Reply) → IsBad edits_file edits_bytes x → IsBad edits_file edits_bytes y
-    → x ≡ y
-one_bad edits_file edits_bytes x y h k =
-    let both = edit_fault_one edits_bytes h.fault.kind k.fault.kind h.fault.row k.fault.row h.first k.first in
-    h.is ∙ ap (λ kind. table_fault_reply edits_file record { kind = kind; row = h.fault.row }) both.0
-    ∙ ap (λ row. table_fault_reply edits_file record { kind = k.fault.kind; row = row }) both.1 ∙ sym k.is
+  one_bad : (edits_file edits_bytes : List ℕ) (x y : Reply) → IsBad edits_file edits_bytes x → IsBad edits_file edits_bytes y
+      → x ≡ y
+  one_bad edits_file edits_bytes x y h k =
+      let both = edit_fault_one edits_bytes h.fault.kind k.fault.kind h.fault.row k.fault.row h.first k.first in
+      h.is ∙ ap (λ kind. table_fault_reply edits_file record { kind = kind; row = h.fault.row }) both.0
+      ∙ ap (λ row. table_fault_reply edits_file record { kind = k.fault.kind; row = row }) both.1 ∙ sym k.is
 
-two_cycles : (net : Net) (x y : Reply) → OnCycle net x → OnCycle net y → AreAlike x y
-two_cycles net x y h k =
-    let here : x.status ≡ 8 = ap (λ (r : Reply). r.status) h.is in
-    let there : y.status ≡ 8 = ap (λ (r : Reply). r.status) k.is in
-    record { status = here ∙ sym there; text = inr (inl here) }
+  two_cycles : (net : Net) (x y : Reply) → OnCycle net x → OnCycle net y → AreAlike form x y
+  two_cycles net x y h k =
+      let here : x.status ≡ 8 = ap (λ (r : Reply). r.status) h.is in
+      let there : y.status ≡ 8 = ap (λ (r : Reply). r.status) k.is in
+      record { status = here ∙ sym there; text = inr (inl here) }
 
-two_reports : (net : Net) (edits_bytes : List ℕ) (x y : Reply) → IsShown net edits_bytes x → IsShown net edits_bytes y
-    → AreAlike x y
-two_reports net edits_bytes x y h k =
-    let asked = edits_one (rows_of edits_bytes) (map edit_view h.edits) (map edit_view k.edits) h.asked.are k.asked.are in
-    let rows = rows_same (begun net) h.edits k.edits h.report.answers k.report.answers h.report.last k.report.last asked
-    h.report.answered k.report.answered in
-    let last : k.last ≡ h.last =
-    sym k.report.present ∙ sym (ap (λ (n : NetHistory). n.present) rows.last) ∙ h.report.present in
-    let meets = subst (λ (n : Net). MeetsEquations n k.at) last k.report.meets in
-    let shown = one_report h.last h.report.shown.order h.at k.at h.report.shown.accepted h.report.shown.ordered
-    h.report.meets meets in
-    let here : x.status ≡ 0 = ap (λ (r : Reply). r.status) h.report.is in
-    let there : y.status ≡ 0 = ap (λ (r : Reply). r.status) k.report.is in
-    let same : AreSameReports x y = record {
-      words = h.report.answers;
-      others = k.report.answers;
-      same = rows.same;
-      report = report_of h.last h.at;
-      is = ap (λ (r : Reply). r.bytes) h.report.is;
-      is_other = ap (λ (r : Reply). r.bytes) k.report.is
-          ∙ ap (λ (n : Net). edit_lines k.report.answers ++ report_of n k.at) last
-          ∙ ap (λ (bytes : List ℕ). edit_lines k.report.answers ++ bytes) (sym shown);
-    } in
-    record { status = here ∙ sym there; text = inr (inr same) }
+  two_reports : (net : Net) (edits_bytes : List ℕ) (x y : Reply) → IsShown net edits_bytes x → IsShown net edits_bytes y
+      → AreAlike form x y
+  two_reports net edits_bytes x y h k =
+      let asked = edits_one (rows_of edits_bytes) (map edit_view h.edits) (map edit_view k.edits) h.asked.are k.asked.are in
+      let rows = rows_same (begun net) h.edits k.edits h.report.answers k.report.answers h.report.last k.report.last asked
+      h.report.answered k.report.answered in
+      let last : k.last ≡ h.last =
+      sym k.report.present ∙ sym (ap (λ (n : NetHistory). n.present) rows.last) ∙ h.report.present in
+      let meets = subst (λ (n : Net). MeetsEquations n k.at) last k.report.meets in
+      let shown = one_edit_report form h.last h.report.shown.order h.at k.at h.report.shown.accepted
+      h.report.shown.ordered h.report.meets meets in
+      let here : x.status ≡ 0 = ap (λ (r : Reply). r.status) h.report.is in
+      let there : y.status ≡ 0 = ap (λ (r : Reply). r.status) k.report.is in
+      let same : AreSameReports form x y = record {
+        said = h.report.answers;
+        others = k.report.answers;
+        same = rows.same;
+        net = h.last;
+        at = h.at;
+        is = ap (λ (r : Reply). r.bytes) h.report.is;
+        is_other = ap (λ (r : Reply). r.bytes) k.report.is
+            ∙ ap (λ (n : Net). edit_report_in form n k.at k.report.answers) last ∙ sym (shown k.report.answers);
+      } in
+      record { status = here ∙ sym there; text = inr (inr same) }
 
-over_or_shown : (net : Net) (order : List ℕ) (edits_bytes : List ℕ) (x y : Reply) → IsAccepted net → IsOrder net order
-    → IsOver net order x → IsShown net edits_bytes y → ⊥
-over_or_shown net order edits_bytes x y a o h k =
-    let analysed = k.report.analysed in
-    let same = one_order net analysed.order order analysed.ordered o in
-    no_answers net order x k.report.table a o h
-    (subst (λ (xs : List ℕ). AnswersAll net k.report.table (evaluation_order net xs)) same analysed.answers)
+  over_or_shown : (net : Net) (order : List ℕ) (edits_bytes : List ℕ) (x y : Reply) → IsAccepted net → IsOrder net order
+      → IsOver net order x → IsShown net edits_bytes y → ⊥
+  over_or_shown net order edits_bytes x y a o h k =
+      let analysed = k.report.analysed in
+      let same = one_order net analysed.order order analysed.ordered o in
+      no_answers net order x k.report.table a o h
+      (subst (λ (xs : List ℕ). AnswersAll net k.report.table (evaluation_order net xs)) same analysed.answers)
 
-by_order : (net : Net) (order : List ℕ) (edits_bytes : List ℕ) (x y : Reply) → IsAccepted net → IsOrder net order
-    → IsOver net order x ⊎ IsShown net edits_bytes x → IsOver net order y ⊎ IsShown net edits_bytes y → AreAlike x y
-by_order net order edits_bytes x y a o (inl h) (inl k) = equal x y (one_over net order x y a o h k)
-by_order net order edits_bytes x y a o (inl h) (inr k) = absurd (over_or_shown net order edits_bytes x y a o h k)
-by_order net order edits_bytes x y a o (inr h) (inl k) = absurd (over_or_shown net order edits_bytes y x a o k h)
-by_order net order edits_bytes x y a o (inr h) (inr k) = two_reports net edits_bytes x y h k
+  by_order : (net : Net) (order : List ℕ) (edits_bytes : List ℕ) (x y : Reply) → IsAccepted net → IsOrder net order
+      → IsOver net order x ⊎ IsShown net edits_bytes x → IsOver net order y ⊎ IsShown net edits_bytes y → AreAlike form x y
+  by_order net order edits_bytes x y a o (inl h) (inl k) = equal x y (one_over net order x y a o h k)
+  by_order net order edits_bytes x y a o (inl h) (inr k) = absurd (over_or_shown net order edits_bytes x y a o h k)
+  by_order net order edits_bytes x y a o (inr h) (inl k) = absurd (over_or_shown net order edits_bytes y x a o k h)
+  by_order net order edits_bytes x y a o (inr h) (inr k) = two_reports net edits_bytes x y h k
 
-by_good : (net : Net) (edits_bytes : List ℕ) (x y : Reply) → IsAccepted net
-    → OnCycle net x ⊎ OnOrder net edits_bytes x → OnCycle net y ⊎ OnOrder net edits_bytes y → AreAlike x y
-by_good net edits_bytes x y a (inl h) (inl k) = two_cycles net x y h k
-by_good net edits_bytes x y a (inl h) (inr k) = absurd (order_or_cycle.no_cycle net k.order h.walk a k.ordered h.cycle)
-by_good net edits_bytes x y a (inr h) (inl k) = absurd (order_or_cycle.no_cycle net h.order k.walk a h.ordered k.cycle)
-by_good net edits_bytes x y a (inr h) (inr k) =
-    let same = one_order net k.order h.order k.ordered h.ordered in
-    by_order net h.order edits_bytes x y a h.ordered h.on
-    (subst (λ order. IsOver net order y ⊎ IsShown net edits_bytes y) same k.on)
+  by_good : (net : Net) (edits_bytes : List ℕ) (x y : Reply) → IsAccepted net
+      → OnCycle net x ⊎ OnOrder net edits_bytes x → OnCycle net y ⊎ OnOrder net edits_bytes y → AreAlike form x y
+  by_good net edits_bytes x y a (inl h) (inl k) = two_cycles net x y h k
+  by_good net edits_bytes x y a (inl h) (inr k) = absurd (order_or_cycle.no_cycle net k.order h.walk a k.ordered h.cycle)
+  by_good net edits_bytes x y a (inr h) (inl k) = absurd (order_or_cycle.no_cycle net h.order k.walk a h.ordered k.cycle)
+  by_good net edits_bytes x y a (inr h) (inr k) =
+      let same = one_order net k.order h.order k.ordered h.ordered in
+      by_order net h.order edits_bytes x y a h.ordered h.on
+      (subst (λ order. IsOver net order y ⊎ IsShown net edits_bytes y) same k.on)
 
-by_net : (net : Net) (edits_file edits_bytes : List ℕ) (x y : Reply) → IsAccepted net
-    → IsBad edits_file edits_bytes x ⊎ OnGood net edits_bytes x → IsBad edits_file edits_bytes y ⊎ OnGood net edits_bytes y
-    → AreAlike x y
-by_net net edits_file edits_bytes x y a (inl h) (inl k) = equal x y (one_bad edits_file edits_bytes x y h k)
-by_net net edits_file edits_bytes x y a (inl h) (inr k) =
-    absurd (no_edit_list edits_bytes h.fault.kind h.fault.row k.edits h.first k.asked.are)
-by_net net edits_file edits_bytes x y a (inr h) (inl k) =
-    absurd (no_edit_list edits_bytes k.fault.kind k.fault.row h.edits k.first h.asked.are)
-by_net net edits_file edits_bytes x y a (inr h) (inr k) = by_good net edits_bytes x y a h.on k.on
+  by_net : (net : Net) (edits_file edits_bytes : List ℕ) (x y : Reply) → IsAccepted net
+      → IsBad edits_file edits_bytes x ⊎ OnGood net edits_bytes x → IsBad edits_file edits_bytes y ⊎ OnGood net edits_bytes y
+      → AreAlike form x y
+  by_net net edits_file edits_bytes x y a (inl h) (inl k) = equal x y (one_bad edits_file edits_bytes x y h k)
+  by_net net edits_file edits_bytes x y a (inl h) (inr k) =
+      absurd (no_edit_list edits_bytes h.fault.kind h.fault.row k.edits h.first k.asked.are)
+  by_net net edits_file edits_bytes x y a (inr h) (inl k) =
+      absurd (no_edit_list edits_bytes k.fault.kind k.fault.row h.edits k.first h.asked.are)
+  by_net net edits_file edits_bytes x y a (inr h) (inr k) = by_good net edits_bytes x y a h.on k.on
 
-by_files : (net_file net_bytes edits_file edits_bytes : List ℕ) (x y : Reply)
-    → OnFault net_file net_bytes x ⊎ OnNet net_bytes edits_file edits_bytes x
-    → OnFault net_file net_bytes y ⊎ OnNet net_bytes edits_file edits_bytes y → AreAlike x y
-by_files net_file net_bytes edits_file edits_bytes x y (inl h) (inl k) = equal x y (one_fault net_file net_bytes x y h k)
-by_files net_file net_bytes edits_file edits_bytes x y (inl h) (inr k) =
-    absurd (no_network net_file net_bytes x k.net h k.gives.reads)
-by_files net_file net_bytes edits_file edits_bytes x y (inr h) (inl k) =
-    absurd (no_network net_file net_bytes y h.net k h.gives.reads)
-by_files net_file net_bytes edits_file edits_bytes x y (inr h) (inr k) =
-    let same = (says net_bytes).one_network k.net h.net k.gives.reads h.gives.reads in
-    by_net h.net edits_file edits_bytes x y h.gives.accepted h.on
-    (subst (λ net. IsBad edits_file edits_bytes y ⊎ OnGood net edits_bytes y) same k.on)
+  by_files : (net_file net_bytes edits_file edits_bytes : List ℕ) (x y : Reply)
+      → OnFault net_file net_bytes x ⊎ OnNet net_bytes edits_file edits_bytes x
+      → OnFault net_file net_bytes y ⊎ OnNet net_bytes edits_file edits_bytes y → AreAlike form x y
+  by_files net_file net_bytes edits_file edits_bytes x y (inl h) (inl k) = equal x y (one_fault net_file net_bytes x y h k)
+  by_files net_file net_bytes edits_file edits_bytes x y (inl h) (inr k) =
+      absurd (no_network net_file net_bytes x k.net h k.gives.reads)
+  by_files net_file net_bytes edits_file edits_bytes x y (inr h) (inl k) =
+      absurd (no_network net_file net_bytes y h.net k h.gives.reads)
+  by_files net_file net_bytes edits_file edits_bytes x y (inr h) (inr k) =
+      let same = (says net_bytes).one_network k.net h.net k.gives.reads h.gives.reads in
+      by_net h.net edits_file edits_bytes x y h.gives.accepted h.on
+      (subst (λ net. IsBad edits_file edits_bytes y ⊎ OnGood net edits_bytes y) same k.on)
 
 pub replies_are_determined : RepliesAreDetermined
-replies_are_determined net_file net_bytes edits_file edits_bytes x y h k =
-    by_files net_file net_bytes edits_file edits_bytes x y (sorted net_file net_bytes edits_file edits_bytes x h)
-    (sorted net_file net_bytes edits_file edits_bytes y k)
+replies_are_determined form net_file net_bytes edits_file edits_bytes x y h k =
+    by_files form net_file net_bytes edits_file edits_bytes x y
+    (sorted form net_file net_bytes edits_file edits_bytes x h)
+    (sorted form net_file net_bytes edits_file edits_bytes y k)

@@ -22,6 +22,7 @@ use Rattle.net_edits.specs.Replies.{Refuses, IsEdited, IsEditOver}
 use Rattle.table_text.specs.EditRows.{EditText, edit_view}
 use Rattle.table_text.specs.EditRows as text
 use Rattle.table_text.specs.Paths.{EntryText, entry_view}
+use Rattle.edit_report.specs.Said.{EditSaid}
 use Rattle.edit_command.specs.NetHistories.{NetHistory}
 use Rattle.edit_command.specs.Causes.{IsOverBy, IsCause}
 use Rattle.edit_command.specs.Answered.{IsAnswered, Taken, Undone, Refused}
@@ -150,8 +151,8 @@ module _ (old : NetHistory) (e f : Edit) (same : edit_view e ≡ edit_view f) wh
   cause NothingToUndo net c = (both_undo e f same c.0, c.1)
   cause NoMemory net c = absurd c
 
-  pub answered_alike : (words : List ℕ) (new : NetHistory) → IsAnswered old f words new → IsAnswered old e words new
-  answered_alike words new (Taken h) = Taken (record {
+  pub answered_alike : (said : EditSaid) (new : NetHistory) → IsAnswered old f said new → IsAnswered old e said new
+  answered_alike said new (Taken h) = Taken (record {
     gives = gives new.present h.gives;
     before = h.before;
     table = h.table;
@@ -160,9 +161,9 @@ module _ (old : NetHistory) (e f : Edit) (same : edit_view e ≡ edit_view f) wh
     are = h.are;
     says = h.says;
   })
-  answered_alike words new (Undone h) =
+  answered_alike said new (Undone h) =
       Undone (record { undo = both_undo e f same h.undo; back = h.back; says = h.says })
-  answered_alike words new (Refused h) = Refused (record {
+  answered_alike said new (Refused h) = Refused (record {
     same = h.same;
     fault = h.fault;
     named_by = h.named_by;

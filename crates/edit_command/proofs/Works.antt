@@ -11,6 +11,7 @@ use Rattle.net_edits.specs.declared.fault.EditFault.{EditFault}
 use Rattle.edit_store.specs.Stored.{Stored, AreTouched}
 use Rattle.edit_store.specs.Applied.{Gives, IsEvaluated}
 use Rattle.edit_store.proofs.Steps.{gives_one}
+use Rattle.edit_report.specs.Said.{EditSaid}
 use Rattle.edit_command.specs.NetHistories.{history_of}
 use Rattle.edit_command.specs.Answered.{IsTaken}
 use Rattle.edit_command.specs.EditCounts.{IsWorkOf, IsTakenWork}
@@ -28,11 +29,11 @@ at_most present edit before after count within idle (inr (none, zero)) =
 
 module _ {V : Type 0} (old new : Stored V) (edit : Edit) (before after count : ℕ) where
   -- all of it where the edit is taken
-  of_taken : (words : List ℕ) → IsTaken (history_of old) edit words (history_of new)
+  of_taken : (said : EditSaid) → IsTaken (history_of old) edit said (history_of new)
       → (edit ≢ Undo → (touched : List Cell) → AreTouched old.present new.present touched
       → after ≡ before + sum_by (work new.present) touched)
       → IsWorkOf old.present edit count → before + count ≤ after
-  of_taken words taken exact (inl w) =
+  of_taken said taken exact (inl w) =
       let one : w.net ≡ new.present = gives_one old.present edit w.net new.present w.gives taken.gives in
       let are : AreTouched old.present new.present w.touched =
       subst (λ (n : Net). AreTouched old.present n w.touched) one w.are in
@@ -40,7 +41,7 @@ module _ {V : Type 0} (old new : Stored V) (edit : Edit) (before after count : �
       w.is ∙ ap (λ (n : Net). sum_by (work n) w.touched) one in
       let all = exact (λ u. undo_gives_none old.present new.present edit u taken.gives) w.touched are in
       omega (arith, all, is)
-  of_taken words taken exact (inr (none, zero)) =
+  of_taken said taken exact (inr (none, zero)) =
       absurd (none (record {
         net = new.present;
         gives = taken.gives;

@@ -1,5 +1,5 @@
 -- What is said of edits, and which network is the present one after them. Own choice.
-use Rattle.std.specs.Prelude.{◌≡◌, ℕ, List, [], ◌∷◌, ◌++◌, length, Ok, Err}
+use Rattle.std.specs.Prelude.{◌≡◌, ℕ, List, [], ◌∷◌, ◌++◌, length, Err}
 use Rattle.net_model.specs.declared.edit.Edit.{Edit}
 use Rattle.net_model.specs.declared.edit.Edit.TheVariants.{Undo}
 use Rattle.net_model.specs.Networks.{Net}
@@ -12,7 +12,7 @@ use Rattle.net_cells.specs.Order.{evaluation_order}
 use Rattle.net_edits.specs.declared.fault.EditFault.{EditFault}
 use Rattle.edit_store.specs.Stored.{AreTouched}
 use Rattle.edit_store.specs.Applied.{Gives}
-use Rattle.edit_report.specs.EditReport.{answer_words}
+use Rattle.edit_report.specs.Said.{EditSaid, Made, said_of}
 use Rattle.edit_command.specs.NetHistories.{NetHistory}
 use Rattle.edit_command.specs.Causes.{IsCause}
 
@@ -25,33 +25,33 @@ pub record IsAnalysed (net : Net) (at : CellTable) : Type 0 where
 
 -- ---- one edit
 -- it is taken: the edited network comes on top, and it is told how many of its cells the edit touches
-pub record IsTaken (old : NetHistory) (edit : Edit) (words : List ℕ) (new : NetHistory) : Type 0 where
+pub record IsTaken (old : NetHistory) (edit : Edit) (said : EditSaid) (new : NetHistory) : Type 0 where
   pub gives : Gives old.present edit new.present
   pub before : new.before ≡ old.before ++ old.present ∷ []
   pub table : CellTable
   pub analysed : IsAnalysed new.present table
   pub touched : List Cell
   pub are : AreTouched old.present new.present touched
-  pub says : words ≡ answer_words new.present (Ok record { cells = length touched })
+  pub says : said ≡ Made (length touched)
 
 -- it is an undo: the network before comes back, and no cell is touched
-pub record IsUndone (old : NetHistory) (edit : Edit) (words : List ℕ) (new : NetHistory) : Type 0 where
+pub record IsUndone (old : NetHistory) (edit : Edit) (said : EditSaid) (new : NetHistory) : Type 0 where
   pub undo : edit ≡ Undo
   pub back : old.before ≡ new.before ++ new.present ∷ []
-  pub says : words ≡ answer_words new.present (Ok record { cells = 0 })
+  pub says : said ≡ Made 0
 
 -- it is refused: all is as before, and the first cause is told
-pub record IsRefused (old : NetHistory) (edit : Edit) (words : List ℕ) (new : NetHistory) : Type 0 where
+pub record IsRefused (old : NetHistory) (edit : Edit) (said : EditSaid) (new : NetHistory) : Type 0 where
   pub same : new ≡ old
   pub fault : EditFault
   pub named_by : Net
   pub cause : IsCause old edit fault named_by
-  pub says : words ≡ answer_words named_by (Err fault)
+  pub says : said ≡ said_of named_by (Err fault)
 
-pub data IsAnswered (old : NetHistory) (edit : Edit) (words : List ℕ) (new : NetHistory) : Type 0 where
-  Taken : IsTaken old edit words new → IsAnswered old edit words new
-  Undone : IsUndone old edit words new → IsAnswered old edit words new
-  Refused : IsRefused old edit words new → IsAnswered old edit words new
+pub data IsAnswered (old : NetHistory) (edit : Edit) (said : EditSaid) (new : NetHistory) : Type 0 where
+  Taken : IsTaken old edit said new → IsAnswered old edit said new
+  Undone : IsUndone old edit said new → IsAnswered old edit said new
+  Refused : IsRefused old edit said new → IsAnswered old edit said new
 
 -- ---- edits in turn
 -- a first step, and then the others
@@ -60,10 +60,10 @@ pub record Then (First Rest : NetHistory → Type 0) : Type 0 where
   pub first : First next
   pub rest : Rest next
 
--- each edit has its words, and moves what the edits before it left
-abbrev pub AreAnswered : NetHistory → List Edit → List (List ℕ) → NetHistory → Type 0
+-- this is said of each edit, and it moves what the edits before it left
+abbrev pub AreAnswered : NetHistory → List Edit → List EditSaid → NetHistory → Type 0
 AreAnswered old [] [] new = new ≡ old
-AreAnswered old [] (words ∷ more) new = ⊥
+AreAnswered old [] (said ∷ more) new = ⊥
 AreAnswered old (edit ∷ edits) [] new = ⊥
-AreAnswered old (edit ∷ edits) (words ∷ more) new =
-    Then (IsAnswered old edit words) (λ next. AreAnswered next edits more new)
+AreAnswered old (edit ∷ edits) (said ∷ more) new =
+    Then (IsAnswered old edit said) (λ next. AreAnswered next edits more new)

@@ -3,6 +3,7 @@ use Rattle.std.specs.Prelude.{◌≡◌, ◌≢◌, ◌⊎◌, ◌≤◌, ℕ, L
 use Rattle.upp_limits.specs.declared.own_limits.OverLimit.{OverLimit}
 use Rattle.upp_limits.specs.declared.own_limits.OverLimit.TheVariants.{TooMany, TooWide}
 use Rattle.table_text.specs.EditRows.{EditText}
+use Rattle.json_report.specs.declared.form.Form.{Form}
 use Rattle.command_replies.specs.Replies.{Reply}
 use Rattle.command_replies.specs.OnFiles.{IsBroken, IsCurveOver, HasCycle, IsCellOver}
 use Rattle.edit_command.specs.OnEdits.{AsksFor, IsBadList, IsEditReport, IsEditReply}
@@ -27,8 +28,8 @@ abbrev pub HasCycleBehind : List ℕ → List ℕ → Reply → Type 0
 HasCycleBehind net_bytes edits_bytes reply = HasEdits edits_bytes × HasCycle net_bytes reply
 
 -- each status has its cause, and there is no other
-pub record HasCause (net_file net_bytes edits_file edits_bytes : List ℕ) (reply : Reply) : Type 0 where
-  pub report : reply.status ≡ 0 → IsEditReport net_bytes edits_bytes reply
+pub record HasCause (form : Form) (net_file net_bytes edits_file edits_bytes : List ℕ) (reply : Reply) : Type 0 where
+  pub report : reply.status ≡ 0 → IsEditReport form net_bytes edits_bytes reply
   pub malformed : reply.status ≡ 1 → IsMalformed net_file net_bytes edits_file edits_bytes reply
   pub wide : reply.status ≡ 6 → IsOverLimit TooWide net_bytes edits_bytes reply
   pub many : reply.status ≡ 7 → IsOverLimit TooMany net_bytes edits_bytes reply
@@ -41,6 +42,6 @@ pub record HasCause (net_file net_bytes edits_file edits_bytes : List ℕ) (repl
 
 abbrev pub StatusesHaveCauses : Type 0
 StatusesHaveCauses =
-    (net_file net_bytes edits_file edits_bytes : List ℕ) (reply : Reply)
-    → IsEditReply net_file net_bytes edits_file edits_bytes reply
-    → HasCause net_file net_bytes edits_file edits_bytes reply
+    (form : Form) (net_file net_bytes edits_file edits_bytes : List ℕ) (reply : Reply)
+    → IsEditReply form net_file net_bytes edits_file edits_bytes reply
+    → HasCause form net_file net_bytes edits_file edits_bytes reply

@@ -14,6 +14,7 @@ use Rattle.net_cells.specs.Work.{work}
 use Rattle.table_text.specs.EditRows.{edit_view}
 use Rattle.edit_store.specs.Stored.{AreTouched}
 use Rattle.edit_store.specs.Applied.{Gives, IsEvaluated}
+use Rattle.edit_report.specs.Said.{EditSaid}
 use Rattle.command_replies.specs.CellWork.{work_of_cells}
 use Rattle.edit_command.specs.NetHistories.{NetHistory, begun}
 use Rattle.edit_command.specs.Answered.{IsTaken, IsAnswered}
@@ -34,14 +35,14 @@ IsWorkOf present edit count = IsTouchedWork present edit count ⊎ (¬ (IsEvalua
 
 -- all of it where the edit is taken, and none else
 abbrev pub IsTakenWork : NetHistory → Edit → NetHistory → (count done : ℕ) → Type 0
-IsTakenWork old edit new count done = (((words : List ℕ) × IsTaken old edit words new) × (done ≡ count)) ⊎ (done ≡ 0)
+IsTakenWork old edit new count done = (((said : EditSaid) × IsTaken old edit said new) × (done ≡ count)) ⊎ (done ≡ 0)
 
 -- ---- edits in turn
 -- the work of a first edit and that of the others, where Rest tells it: of all edits, and of those that are taken
 pub record FirstWork (old : NetHistory) (edit : Edit) (Rest : NetHistory → ℕ → ℕ → Type 0) (all done : ℕ) : Type 0 where
-  pub words : List ℕ
+  pub said : EditSaid
   pub next : NetHistory
-  pub answered : IsAnswered old edit words next
+  pub answered : IsAnswered old edit said next
   pub count : ℕ
   pub is_count : IsWorkOf old.present edit count
   pub taken : ℕ

@@ -13,7 +13,9 @@ use Rattle.net_cells.specs.Meanings.{CellTable}
 use Rattle.table_text.specs.EditRows.{EditText}
 use Rattle.report_text.specs.Refusals.{spaced}
 use Rattle.report_text.specs.CellWords.{server_name}
-use Rattle.edit_report.specs.EditReport.{edit_lines}
+use Rattle.json_report.specs.declared.form.Form.{Form}
+use Rattle.edit_report.specs.EditReport.{edit_report_in}
+use Rattle.edit_report.specs.Said.{EditSaid, Refused}
 use Rattle.command_replies.specs.Guarantee.{Guarantees}
 use Rattle.command_replies.specs.Replies.{Reply}
 use Rattle.edit_command.specs.OnEdits.{AsksFor, IsReported, IsEditReply}
@@ -22,8 +24,8 @@ use Rattle.edit_command.specs.OnEdits.{AsksFor, IsReported, IsEditReply}
 -- what a report shows of the network after the edits is kept in every run of it
 abbrev pub ReportsAreGuaranteed : Type 0
 ReportsAreGuaranteed =
-    (net : Net) (at : CellTable) (net_bytes edits_bytes : List ℕ) (reply : Reply)
-    → IsReported net at net_bytes edits_bytes reply → Guarantees net at
+    (form : Form) (net : Net) (at : CellTable) (net_bytes edits_bytes : List ℕ) (reply : Reply)
+    → IsReported form net at net_bytes edits_bytes reply → Guarantees net at
 
 -- ---- completeness
 -- the file gives a network without a cycle, by no order of its servers a cell is over a limit, and the list has no
@@ -39,47 +41,48 @@ pub record IsWithinLimits (net_bytes edits_bytes : List ℕ) : Type 0 where
 -- their one reply is a report, whatever the edits are
 abbrev pub RepliesAreComplete : Type 0
 RepliesAreComplete =
-    (net_file net_bytes edits_file edits_bytes : List ℕ) (reply : Reply) → IsWithinLimits net_bytes edits_bytes
-    → IsEditReply net_file net_bytes edits_file edits_bytes reply → reply.status ≡ 0
+    (form : Form) (net_file net_bytes edits_file edits_bytes : List ℕ) (reply : Reply)
+    → IsWithinLimits net_bytes edits_bytes → IsEditReply form net_file net_bytes edits_file edits_bytes reply → reply.status ≡ 0
 
 -- ---- one reply
--- words that tell of a cycle of this network, by some walk
-pub record TellsCycle (net : Net) (words : List ℕ) : Type 0 where
+-- what is said tells of a cycle of this network, by some walk
+pub record TellsCycle (net : Net) (said : EditSaid) : Type 0 where
   pub accepted : IsAccepted net
   pub walk : List ℕ
   pub cycle : IsCycle net walk
-  pub is : words ≡ codes "refused " ++ (codes "cycle" ++ spaced (map (server_name net) walk))
+  pub is : said ≡ Refused (codes "cycle" ++ spaced (map (server_name net) walk))
 
 -- both tell of a cycle, of one network
-pub record TellCycles (x y : List ℕ) : Type 0 where
+pub record TellCycles (x y : EditSaid) : Type 0 where
   pub net : Net
   pub one : TellsCycle net x
   pub other : TellsCycle net y
 
--- the same words for each edit, but for the choice among the cycles of a network
-abbrev pub AreSameWords : List (List ℕ) → List (List ℕ) → Type 0
-AreSameWords [] [] = Unit {0}
-AreSameWords [] (y ∷ ys) = ⊥
-AreSameWords (x ∷ xs) [] = ⊥
-AreSameWords (x ∷ xs) (y ∷ ys) = ((x ≡ y) ⊎ TellCycles x y) × AreSameWords xs ys
+-- the same is said of each edit, but for the choice among the cycles of a network
+abbrev pub AreSaidAlike : List EditSaid → List EditSaid → Type 0
+AreSaidAlike [] [] = Unit {0}
+AreSaidAlike [] (y ∷ ys) = ⊥
+AreSaidAlike (x ∷ xs) [] = ⊥
+AreSaidAlike (x ∷ xs) (y ∷ ys) = ((x ≡ y) ⊎ TellCycles x y) × AreSaidAlike xs ys
 
--- two reports: a line for each edit, and then one report on one network
-pub record AreSameReports (x y : Reply) : Type 0 where
-  pub words : List (List ℕ)
-  pub others : List (List ℕ)
-  pub same : AreSameWords words others
-  pub report : List ℕ
-  pub is : x.bytes ≡ edit_lines words ++ report
-  pub is_other : y.bytes ≡ edit_lines others ++ report
+-- two reports: what is said of each edit, and one table of one network
+pub record AreSameReports (form : Form) (x y : Reply) : Type 0 where
+  pub said : List EditSaid
+  pub others : List EditSaid
+  pub same : AreSaidAlike said others
+  pub net : Net
+  pub at : CellTable
+  pub is : x.bytes ≡ edit_report_in form net at said
+  pub is_other : y.bytes ≡ edit_report_in form net at others
 
 -- one status; and one text, or each tells a cycle of the network, or of edited ones in the reports
-pub record AreAlike (x y : Reply) : Type 0 where
+pub record AreAlike (form : Form) (x y : Reply) : Type 0 where
   pub status : x.status ≡ y.status
-  pub text : (x.bytes ≡ y.bytes) ⊎ ((x.status ≡ 8) ⊎ AreSameReports x y)
+  pub text : (x.bytes ≡ y.bytes) ⊎ ((x.status ≡ 8) ⊎ AreSameReports form x y)
 
--- status and text are determined by the files, but for the choice among cycles
+-- status and text are determined by the files and the form, but for the choice among cycles
 abbrev pub RepliesAreDetermined : Type 0
 RepliesAreDetermined =
-    (net_file net_bytes edits_file edits_bytes : List ℕ) (x y : Reply)
-    → IsEditReply net_file net_bytes edits_file edits_bytes x
-    → IsEditReply net_file net_bytes edits_file edits_bytes y → AreAlike x y
+    (form : Form) (net_file net_bytes edits_file edits_bytes : List ℕ) (x y : Reply)
+    → IsEditReply form net_file net_bytes edits_file edits_bytes x
+    → IsEditReply form net_file net_bytes edits_file edits_bytes y → AreAlike form x y

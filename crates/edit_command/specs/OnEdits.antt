@@ -12,7 +12,9 @@ use Rattle.table_text.specs.declared.fault.TableFault.{TableFault}
 use Rattle.table_text.specs.Rows.{rows_of}
 use Rattle.table_text.specs.EditRows.{EditText, edit_view}
 use Rattle.table_text.specs.EditLists.{AreEditsOf, IsFirstEditFault}
-use Rattle.edit_report.specs.EditReport.{edit_report_of}
+use Rattle.json_report.specs.declared.form.Form.{Form}
+use Rattle.edit_report.specs.EditReport.{edit_report_in}
+use Rattle.edit_report.specs.Said.{EditSaid}
 use Rattle.command_replies.specs.Replies.{Reply, table_fault_reply}
 use Rattle.command_replies.specs.OnFiles.{IsBroken, IsCurveOver, IsNetOf, HasCycle, IsCellOver}
 use Rattle.edit_command.specs.NetHistories.{NetHistory, begun}
@@ -32,58 +34,58 @@ pub record AsksFor (edits_bytes : List ℕ) (edits : List EditText) : Type 0 whe
   pub are : AreEditsOf (rows_of edits_bytes) edits
 
 -- ---- a report
-abbrev pub edit_report : Net → CellTable → List (List ℕ) → Reply
-edit_report net at answers = record { status = 0; bytes = edit_report_of net at answers }
+abbrev pub edit_report : Form → Net → CellTable → List EditSaid → Reply
+edit_report form net at answers = record { status = 0; bytes = edit_report_in form net at answers }
 
 -- no cell of a network is over a limit; edits have these answers, one after the other, and leave a network that is told
--- with the numbers of a table of it, which meets its equations
-pub record AreReported (first : Net) (edits : List Edit) (net : Net) (at : CellTable) (reply : Reply) : Type 0 where
+-- with the numbers of a table of it, which meets its equations, in this form
+pub record AreReported (form : Form) (first : Net) (edits : List Edit) (net : Net) (at : CellTable) (reply : Reply) : Type 0 where
   pub table : CellTable
   pub analysed : IsAnalysed first table
-  pub answers : List (List ℕ)
+  pub answers : List EditSaid
   pub last : NetHistory
   pub answered : AreAnswered (begun first) edits answers last
   pub present : last.present ≡ net
   pub shown : IsAnalysed net at
   pub meets : MeetsEquations net at
-  pub is : reply ≡ edit_report net at answers
+  pub is : reply ≡ edit_report form net at answers
 
 -- so it is for the network of the file and the edits that the list asks for
-pub record IsReported (net : Net) (at : CellTable) (net_bytes edits_bytes : List ℕ) (reply : Reply) : Type 0 where
+pub record IsReported (form : Form) (net : Net) (at : CellTable) (net_bytes edits_bytes : List ℕ) (reply : Reply) : Type 0 where
   pub first : Net
   pub gives : IsNetOf net_bytes first
   pub edits : List Edit
   pub asked : AsksFor edits_bytes (map edit_view edits)
-  pub report : AreReported first edits net at reply
+  pub report : AreReported form first edits net at reply
 
-abbrev pub IsEditReport : List ℕ → List ℕ → Reply → Type 0
-IsEditReport net_bytes edits_bytes reply =
-    (net : Net) × (at : CellTable) × IsReported net at net_bytes edits_bytes reply
+abbrev pub IsEditReport : Form → List ℕ → List ℕ → Reply → Type 0
+IsEditReport form net_bytes edits_bytes reply =
+    (net : Net) × (at : CellTable) × IsReported form net at net_bytes edits_bytes reply
 
 -- ---- all of them
--- the reply on files with these names and bytes
-pub data IsEditReply (net_file net_bytes edits_file edits_bytes : List ℕ) (reply : Reply) : Type 0 where
-  Broken : IsBroken net_file net_bytes reply → IsEditReply net_file net_bytes edits_file edits_bytes reply
+-- the reply, in this form, on files with these names and bytes
+pub data IsEditReply (form : Form) (net_file net_bytes edits_file edits_bytes : List ℕ) (reply : Reply) : Type 0 where
+  Broken : IsBroken net_file net_bytes reply → IsEditReply form net_file net_bytes edits_file edits_bytes reply
   CurveOver : (limit : OverLimit) → IsCurveOver limit net_bytes reply
-      → IsEditReply net_file net_bytes edits_file edits_bytes reply
+      → IsEditReply form net_file net_bytes edits_file edits_bytes reply
   BadList : IsBadList net_bytes edits_file edits_bytes reply
-      → IsEditReply net_file net_bytes edits_file edits_bytes reply
+      → IsEditReply form net_file net_bytes edits_file edits_bytes reply
   Cyclic : (edits : List EditText) → AsksFor edits_bytes edits → HasCycle net_bytes reply
-      → IsEditReply net_file net_bytes edits_file edits_bytes reply
+      → IsEditReply form net_file net_bytes edits_file edits_bytes reply
   CellOver : (edits : List EditText) → AsksFor edits_bytes edits → (limit : OverLimit)
-      → IsCellOver limit net_bytes reply → IsEditReply net_file net_bytes edits_file edits_bytes reply
-  Reported : IsEditReport net_bytes edits_bytes reply
-      → IsEditReply net_file net_bytes edits_file edits_bytes reply
+      → IsCellOver limit net_bytes reply → IsEditReply form net_file net_bytes edits_file edits_bytes reply
+  Reported : IsEditReport form net_bytes edits_bytes reply
+      → IsEditReply form net_file net_bytes edits_file edits_bytes reply
 
 -- ---- on what was read
 -- the reply where a network was read, whatever file it is of
-abbrev pub IsReplyOnNet : Net → List ℕ → List ℕ → Reply → Type 0
-IsReplyOnNet net edits_file edits_bytes reply =
+abbrev pub IsReplyOnNet : Form → Net → List ℕ → List ℕ → Reply → Type 0
+IsReplyOnNet form net edits_file edits_bytes reply =
     (net_file net_bytes : List ℕ) → IsNetworkOf OverFold net_bytes net
-    → IsEditReply net_file net_bytes edits_file edits_bytes reply
+    → IsEditReply form net_file net_bytes edits_file edits_bytes reply
 
 -- and edits too
-abbrev pub IsReplyOnEdits : Net → List Edit → Reply → Type 0
-IsReplyOnEdits net edits reply =
+abbrev pub IsReplyOnEdits : Form → Net → List Edit → Reply → Type 0
+IsReplyOnEdits form net edits reply =
     (edits_file edits_bytes : List ℕ) → AsksFor edits_bytes (map edit_view edits)
-    → IsReplyOnNet net edits_file edits_bytes reply
+    → IsReplyOnNet form net edits_file edits_bytes reply

@@ -1,12 +1,12 @@
 -- What is said of an edit, by the answer of a store. Own choice.
-use Rattle.std.specs.Prelude.{◌≡◌, ℕ, List, Result, Ok, Err}
+use Rattle.std.specs.Prelude.{◌≡◌, Result, Ok, Err}
 use Rattle.net_model.specs.declared.edit.Done.{Done}
 use Rattle.net_model.specs.declared.edit.Edit.{Edit}
 use Rattle.net_model.specs.Networks.{Net}
 use Rattle.net_edits.specs.declared.fault.EditFault.{EditFault}
 use Rattle.net_edits.specs.declared.fault.EditFault.TheVariants.{UnknownName, NameTaken, BadValue, LimitReached, Cycle, TooMany, TooWide, NothingToUndo, NoMemory}
 use Rattle.edit_store.specs.Stored.{Stored}
-use Rattle.edit_report.specs.EditReport.{answer_words}
+use Rattle.edit_report.specs.Said.{EditSaid, said_of}
 use Rattle.edit_command.specs.NetHistories.{history_of}
 use Rattle.edit_command.specs.Causes.{IsCause}
 
@@ -22,13 +22,13 @@ IsOfEdited (TooWide cell) = Unit {0}
 IsOfEdited NothingToUndo = ⊥
 IsOfEdited NoMemory = ⊥
 
--- the words of a refusal, with the names of a network that is right for it
-pub record IsSaidOf {V : Type 0} (s : Stored V) (edit : Edit) (fault : EditFault) (words : List ℕ) : Type 0 where
+-- what is said of a refusal, with the names of a network that is right for it
+pub record IsSaidOf {V : Type 0} (s : Stored V) (edit : Edit) (fault : EditFault) (said : EditSaid) : Type 0 where
   pub named_by : Net
   pub cause : IsCause (history_of s) edit fault named_by
-  pub says : words ≡ answer_words named_by (Err fault)
+  pub says : said ≡ said_of named_by (Err fault)
 
--- the words of an answer, where the store is left like this
-abbrev pub IsSaid : {V : Type 0} → Stored V → Edit → Result Done EditFault → List ℕ → Type 0
-IsSaid s edit (Ok done) words = words ≡ answer_words s.present (Ok done)
-IsSaid s edit (Err fault) words = IsSaidOf s edit fault words
+-- what is said by an answer, where the store is left like this
+abbrev pub IsSaid : {V : Type 0} → Stored V → Edit → Result Done EditFault → EditSaid → Type 0
+IsSaid s edit (Ok done) said = said ≡ said_of s.present (Ok done)
+IsSaid s edit (Err fault) said = IsSaidOf s edit fault said

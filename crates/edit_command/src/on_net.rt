@@ -1,6 +1,6 @@
 //! The answer on a network and edits.
 
-ghost use Rattle.std.specs.Prelude.{◌≡◌, ◌+◌, ◌≤◌, ℕ, List, [], length, IfOk, OnOk};
+ghost use Rattle.std.specs.Prelude.{◌≡◌, ◌+◌, ◌≤◌, ℕ, [], length, IfOk};
 ghost use Rattle.net_model.specs.Orders.{IsOrder};
 ghost use Rattle.net_model.specs.Networks.{Net};
 ghost use Rattle.net_cells.specs.Meanings.{CellTable};
@@ -13,8 +13,9 @@ use crate::rows::all_answered;
 use cell_eval::Counted;
 use cell_table::{AnalysisFault, Evaluator, Value};
 use command_replies::{Answer, Status, cell_too_many, cell_too_wide, goes_round};
-use edit_report::edit_text;
+use edit_report::edit_text_in;
 use edit_store::Store;
+use json_report::Form;
 use net_graph::{GraphFault, order};
 use net_model::{Edit, Network};
 use std::alloc::{AllocError, Global};
@@ -26,12 +27,13 @@ fn reported<E: Evaluator<Value>>(
     alloc: Global,
     mut store: Store<Value>,
     edits: &[Edit],
+    form: Form,
     eval: &mut E,
 ) -> Result<Answer, AllocError>
     requires first { store.before ≡ [] }
     requires few { length edits.now ≤ 1000 }
     ensures reply { IfOk result (λ r. (net : Net) × (at : CellTable)
-        × AreReported store.present edits.now net at (reply_of r)) }
+        × AreReported form store.present edits.now net at (reply_of r)) }
     ensures done { IfOk result (λ r. code_of r.status ≡ 0) }
     ensures rises { E.count eval.old ≤ E.count eval.new }
     ensures most { (all done : ℕ) → WorkOfEdits (begun store.present) edits.now all done
@@ -47,7 +49,7 @@ fn reported<E: Evaluator<Value>>(
     let net = store.network();
     net.keeps();
     let _versions = store.versions();
-    let text = edit_text(alloc, net, &store, &answers)?;
+    let text = edit_text_in(alloc, form, net, &store, &answers)?;
     Ok(Answer {
         status: Status::Done,
         text,
@@ -60,17 +62,18 @@ fn in_order<E: Evaluator<Value>>(
     net: &Network,
     order: &[u32],
     edits: &[Edit],
+    form: Form,
     eval: &mut E,
 ) -> Result<Answer, AllocError>
     requires ordered { IsOrder net.now order.now }
     requires few { length edits.now ≤ 1000 }
-    ensures reply { IfOk result (λ r. IsReplyOnEdits net.now edits.now (reply_of r)) }
+    ensures reply { IfOk result (λ r. IsReplyOnEdits form net.now edits.now (reply_of r)) }
     ensures counts { CountsOnEdits net.now edits.now (status_of result) (E.count eval.old) (E.count eval.new) }
     ensures same { E.counter eval.new ≡ E.counter eval.old }
 {
     net.keeps();
     match Store::new(alloc, net.copy()?, order, eval) {
-        Ok(store) => reported(alloc, store, edits, eval),
+        Ok(store) => reported(alloc, store, edits, form, eval),
         Err(AnalysisFault::TooMany(cell)) => cell_too_many(alloc, net, cell),
         Err(AnalysisFault::TooWide(cell)) => cell_too_wide(alloc, net, cell),
         Err(AnalysisFault::NoMemory) => Err(AllocError),
@@ -83,17 +86,18 @@ pub(crate) fn on_network<L: Ledger>(
     alloc: Global,
     net: &Network,
     edits: &[Edit],
+    form: Form,
     steps: &mut Steps<L>,
 ) -> Result<Answer, AllocError>
     requires { length edits.now ≤ 1000 }
-    ensures reply { IfOk result (λ r. IsReplyOnEdits net.now edits.now (reply_of r)) }
+    ensures reply { IfOk result (λ r. IsReplyOnEdits form net.now edits.now (reply_of r)) }
     ensures counts { CountsOnEdits net.now edits.now (status_of result) steps.old steps.new }
 {
     net.keeps();
     match order(alloc, net) {
         Ok(servers) => {
             let mut counted = Counted { alloc, steps };
-            in_order(alloc, net, &servers, edits, &mut counted)
+            in_order(alloc, net, &servers, edits, form, &mut counted)
         }
         Err(GraphFault::Cycle(walk)) => goes_round(alloc, net, &walk),
         Err(GraphFault::NoMemory) => Err(AllocError),

@@ -1,16 +1,17 @@
 //! One edit of a list.
 
-ghost use Rattle.std.specs.Prelude.{◌≡◌, ◌≢◌, ◌+◌, ◌-◌, ◌^◌, ◌<◌, ◌≤◌, ℕ, List, length, Err, IfOk, IfErr, OnOk};
+ghost use Rattle.std.specs.Prelude.{◌≡◌, ◌≢◌, ◌+◌, ◌-◌, ◌^◌, ◌<◌, ◌≤◌, ℕ, length, Err, IfOk, IfErr};
 ghost use Rattle.net_model.specs.declared.edit.Edit.TheVariants.{Undo};
 ghost use Rattle.edit_store.specs.Applied.{IsShown, IsRefused};
-ghost use Rattle.edit_command.specs.NetHistories.{NetHistory, history_of};
+ghost use Rattle.edit_report.specs.Said.{said_view};
+ghost use Rattle.edit_command.specs.NetHistories.{history_of};
 ghost use Rattle.edit_command.specs.Causes.{BreaksNoRule};
 ghost use Rattle.edit_command.specs.Answered.{IsAnswered};
 ghost use Rattle.edit_command.specs.Said.{IsOfEdited, IsSaidOf, IsSaid};
 ghost use Rattle.edit_command.specs.EditCounts.{IsWorkOf, IsTakenWork};
 
 use cell_table::{Evaluator, Value};
-use edit_report::answer_text;
+use edit_report::{Said, said_of};
 use edit_store::Store;
 use net_edits::EditFault;
 use net_model::{Done, Edit, Network};
@@ -32,57 +33,57 @@ fn shown(store: &Store<Value>, edit: &Edit) -> Result<Network, AllocError>
 }
 
 // What is said of an edit that is refused for a cycle or a limit.
-fn words_of_edited(
+fn said_of_edited(
     alloc: Global,
     store: &Store<Value>,
     edit: &Edit,
     fault: &EditFault,
     answer: &Result<Done, EditFault>,
-) -> Result<Vec<u8>, AllocError>
+) -> Result<Said, AllocError>
     requires refused { IsRefused store.now edit.now fault.now }
     requires late { IsOfEdited fault.now }
     requires same { answer.now ≡ Err fault.now }
-    ensures { IfOk result (λ text. IsSaidOf store.now edit.now fault.now text.items) }
+    ensures { IfOk result (λ said. IsSaidOf store.now edit.now fault.now (said_view said)) }
 {
     let net = shown(store, edit)?;
     net.keeps();
-    answer_text(alloc, &net, answer)
+    said_of(alloc, &net, answer)
 }
 
 // What is said of an edit that is refused; want of memory is said nowhere.
-fn words_of_refused(
+fn said_of_refused(
     alloc: Global,
     store: &Store<Value>,
     edit: &Edit,
     fault: &EditFault,
     answer: &Result<Done, EditFault>,
-) -> Result<Vec<u8>, AllocError>
+) -> Result<Said, AllocError>
     requires refused { IsRefused store.now edit.now fault.now }
     requires same { answer.now ≡ Err fault.now }
-    ensures { IfOk result (λ text. IsSaidOf store.now edit.now fault.now text.items) }
+    ensures { IfOk result (λ said. IsSaidOf store.now edit.now fault.now (said_view said)) }
 {
     match fault {
         EditFault::NoMemory => Err(AllocError),
-        EditFault::Cycle(_) => words_of_edited(alloc, store, edit, fault, answer),
-        EditFault::TooMany(_) => words_of_edited(alloc, store, edit, fault, answer),
-        EditFault::TooWide(_) => words_of_edited(alloc, store, edit, fault, answer),
-        _ => answer_text(alloc, store.network(), answer),
+        EditFault::Cycle(_) => said_of_edited(alloc, store, edit, fault, answer),
+        EditFault::TooMany(_) => said_of_edited(alloc, store, edit, fault, answer),
+        EditFault::TooWide(_) => said_of_edited(alloc, store, edit, fault, answer),
+        _ => said_of(alloc, store.network(), answer),
     }
 }
 
 // What is said of an edit by the answer of the store. Refused only for want of memory, the store's too.
-fn words_of(
+fn said_by(
     alloc: Global,
     store: &Store<Value>,
     edit: &Edit,
     answer: &Result<Done, EditFault>,
-) -> Result<Vec<u8>, AllocError>
+) -> Result<Said, AllocError>
     requires { IfErr answer.now (IsRefused store.now edit.now) }
-    ensures { IfOk result (λ text. IsSaid store.now edit.now answer.now text.items) }
+    ensures { IfOk result (λ said. IsSaid store.now edit.now answer.now (said_view said)) }
 {
     match answer {
-        Ok(_) => answer_text(alloc, store.network(), answer),
-        Err(fault) => words_of_refused(alloc, store, edit, fault, answer),
+        Ok(_) => said_of(alloc, store.network(), answer),
+        Err(fault) => said_of_refused(alloc, store, edit, fault, answer),
     }
 }
 
@@ -93,10 +94,10 @@ pub(crate) fn answered<E: Evaluator<Value>>(
     store: &mut Store<Value>,
     edit: &Edit,
     eval: &mut E,
-) -> Result<Vec<u8>, AllocError>
+) -> Result<Said, AllocError>
     requires { edit.now ≢ Undo → length store.old.before < 2 ^ 32 - 1 }
-    ensures answered { IfOk result (λ words.
-        IsAnswered (history_of store.old) edit.now words.items (history_of store.new)) }
+    ensures answered { IfOk result (λ said.
+        IsAnswered (history_of store.old) edit.now (said_view said) (history_of store.new)) }
     ensures rises { E.count eval.old ≤ E.count eval.new }
     ensures most { (count : ℕ) → IsWorkOf store.old.present edit.now count
         → E.count eval.new ≤ E.count eval.old + count }
@@ -109,5 +110,5 @@ pub(crate) fn answered<E: Evaluator<Value>>(
     let _network = store.network();
     _network.keeps();
     let _versions = store.versions();
-    words_of(alloc, store, edit, &answer)
+    said_by(alloc, store, edit, &answer)
 }

@@ -1,12 +1,14 @@
 //! The edits of a list, one after the other.
 
 ghost use Rattle.std.specs.Prelude.{◌≡◌, ◌+◌, ◌≤◌, ℕ, [], length, map, IfOk};
+ghost use Rattle.edit_report.specs.Said.{said_view};
 ghost use Rattle.edit_command.specs.NetHistories.{history_of};
 ghost use Rattle.edit_command.specs.Answered.{AreAnswered};
 ghost use Rattle.edit_command.specs.EditCounts.{WorkOfEdits};
 
 use crate::row::answered;
 use cell_table::{Evaluator, Value};
+use edit_report::Said;
 use edit_store::Store;
 use net_model::Edit;
 use std::alloc::{AllocError, Global};
@@ -17,11 +19,11 @@ pub(crate) fn all_answered<E: Evaluator<Value>>(
     store: &mut Store<Value>,
     edits: &[Edit],
     eval: &mut E,
-) -> Result<Vec<Vec<u8>>, AllocError>
+) -> Result<Vec<Said>, AllocError>
     requires first { store.old.before ≡ [] }
     requires few { length edits.now ≤ 1000 }
     ensures answered { IfOk result (λ answers. AreAnswered (history_of store.old) edits.now
-        (map (λ words. words.items) answers.items) (history_of store.new)) }
+        (map said_view answers.items) (history_of store.new)) }
     ensures rises { E.count eval.old ≤ E.count eval.new }
     ensures most { (all done : ℕ) → WorkOfEdits (history_of store.old) edits.now all done
         → E.count eval.new ≤ E.count eval.old + all }
@@ -31,8 +33,8 @@ pub(crate) fn all_answered<E: Evaluator<Value>>(
 {
     let mut answers = Vec::new(alloc);
     for edit in edits {
-        let words = answered(alloc, store, edit, eval)?;
-        answers.push(words)?;
+        let said = answered(alloc, store, edit, eval)?;
+        answers.push(said)?;
     }
     Ok(answers)
 }

@@ -1,8 +1,9 @@
-//! Texts about edits of a network: what is said of one, and the report on a list of them.
+//! Texts about edits of a network: what is said of one, and the report on a list of them, line by line and as JSON.
 #![tactic(auto)]
 
-mod answer;
+mod json;
 mod listing;
+mod said;
 
-pub use answer::answer_text;
-pub use listing::edit_text;
+pub use listing::edit_text_in;
+pub use said::{Said, said_of};

@@ -225,7 +225,7 @@ each_flow seed f c =
 pub accepted : (seed : ℕ) → IsAccepted (network_of seed)
 unfolding network_of
 accepted seed = record {
-  version = refl;
+  version = (omega arith, omega arith);
   few_servers = let n = server_count seed in omega (arith, n);
   few_flows = let n = flow_count seed in omega (arith, n);
   names = (own_servers seed, own_flows seed);

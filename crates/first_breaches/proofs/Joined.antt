@@ -89,7 +89,7 @@ subject_inside net run (Service s a b) l h = absurd (omega arith)
 server_inside : (net : Net) (run : SpecRun) (y : Breach) → kind_of y ≡ 2 → IsNetBreach net run y → subject_of y < length net.servers
 server_inside net run (Size flow p) l h = absurd (omega arith)
 server_inside net run (Arrival flow i j) l h = absurd (omega arith)
-server_inside net run (Service s a b) l h = let k = h.known in subst (λ (n : ℕ). s < n) (length-map net.servers server_for) k
+server_inside net run (Service s a b) l h = let k = h.known in subst (λ (n : ℕ). s < n) (length-map net.servers (server_for net.version)) k
 
 pub sizes_first : (net : Net) (run : SpecRun) (o : Option Found) → IsBest (IsBelow net run 0 (length net.flows)) run o → IsBest (IsOfKinds net run 1) run o
 sizes_first net run o h = best_same (IsBelow net run 0 (length net.flows)) (IsOfKinds net run 1) run o

@@ -136,7 +136,7 @@ service_one net run s c end o l e at h = best_same (IsIdleOn end (view (routes_o
       kind_is = refl;
       at = k.0;
       breaks = subst (λ (i : ℕ). IsTooSlow (routes_of net) (service net) run i a b) (sym k.0) record {
-        known = subst (λ (n : ℕ). s < n) (sym (length-map net.servers server_for)) l;
+        known = subst (λ (n : ℕ). s < n) (sym (length-map net.servers (server_for net.version))) l;
         idle = subst (λ (d : SpecCurve). IsIdle run.end (view (routes_of net) run s) d a b) e (subst (λ t. IsIdle t (view (routes_of net) run s) c a b) at k.1);
       };
     }
@@ -168,7 +168,7 @@ may_serve x k is = record { normal = is.normal; finite = k.service.finite; conti
 pub have_curves : (net : Net) → IsAccepted net → HaveServices net → HaveCurves (routes_of net) (λ i. value_at (arrival net i)) (service net)
 have_curves net a S = record {
   flows = λ flow live. of_flow flow (flow_at net flow) refl (sym (live_is net flow) ∙ live);
-  servers = λ s h. of_server s (subst (λ (n : ℕ). s < n) (length-map net.servers server_for) h);
+  servers = λ s h. of_server s (subst (λ (n : ℕ). s < n) (length-map net.servers (server_for net.version)) h);
 }
   where
     of_flow : (i : ℕ) (o : Option NetFlow) → flow_at net i ≡ o → is_some o ≡ true → MayArrive (value_at (arrival net i))

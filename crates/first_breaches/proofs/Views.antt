@@ -307,7 +307,7 @@ pub record IsWatchable (net : Net) (run : SpecRun) (firsts : List ℕ) (s : ℕ)
   pub seen : (w : Watched) → Sees w firsts s run.steps run.end → IsSeen (server_at (routes_of net) s) w.end (view (routes_of net) run s) w
 
 pub known : (net : Net) (s : ℕ) → s < length net.servers → s < length (routes_of net).servers
-known net s h = subst (λ (n : ℕ). s < n) (sym (length-map net.servers server_for)) h
+known net s h = subst (λ (n : ℕ). s < n) (sym (length-map net.servers (server_for net.version))) h
 
 held_by : (z : Sizes) (server : Server) (end : ℚ) (V : List ServerStep) (w : Watched) (c : SpecCurve) → AreLimited z end → IsSpanned z end V → IsSeen server end V w → IsCurve c → Stands z (curve_numbers end c) → IsHeld w c
 held_by z server end V w c A P S is stands =

@@ -55,7 +55,7 @@ fn first_arrival_of(
             let packets = entries_of(alloc, &run.steps, number)?;
             let far = apart(&packets);
             let pieces = pieces_through(&flow.arrival, far)?;
-            Ok(arrival_breach(&packets, number, &pieces))
+            Ok(arrival_breach(alloc, &packets, number, &pieces))
         }
     }
 }

@@ -1,5 +1,5 @@
 -- The curves with which queues, the queues before one, and the others of a flow come to a server.
-use Rattle.std.specs.Prelude.{◌≡◌, ℕ, ◌<◌, ◌==◌, true, not, ◌&&◌}
+use Rattle.std.specs.Prelude.{◌≡◌, ℕ, ◌<◌, ◌==◌, Bool, true, false, not, ◌&&◌}
 use Rattle.std.specs.List.{range_with_len}
 use Rattle.std.proofs.Common.{arith, sym, ◌∙◌, refl, subst}
 use Rattle.std.proofs.lemmas.Bool.{eqb-true, ltb-true, and_parts}
@@ -20,31 +20,39 @@ use Rattle.net_bounds.specs.TableValues.{HasFunction}
 use Rattle.net_bounds.specs.Promises.{seen_by}
 use Rattle.net_bounds.proofs.ListSums.{sum_over, HasKey, list_keeps}
 use Rattle.net_bounds.proofs.Cells.{values, HasValues, curve_holds}
-use Rattle.net_bounds.proofs.QueueCells.{arriving_at, total_at, cross_is, total_is, higher_is}
+use Rattle.net_bounds.proofs.QueueCells.{arriving_at, total_at, cross_is, higher_is}
+use Rattle.net_bounds.proofs.PartCells.{total_over, total_is}
+use Rattle.net_bounds.proofs.PartComes.{parts_keep}
 use Rattle.net_bounds.proofs.Arriving.{AtServer, keeps_values, flow_comes, IsVisiting, all_visiting, card_visit, has_in, IsVisitIn, visit_in, has_key}
 use Rattle.run_laws.proofs.Members.{Has}
 
 -- ---- a queue
 pub total_cell : (net : Net) (at : CellTable) (s q : ℕ) → MeetsEquations net at → q < queues net s
-    → HasFunction at (cell_of Total s q) (HasValues (sum_over (arriving_at at) (visits_in net s q)))
+    → HasFunction at (cell_of Total s q) (HasValues (total_over (net.version == 2) net at s q))
 total_cell net at s q meets h = total_is net at s q meets h (λ v m. (visit_in net s q v m).within)
 
-pub queue_comes : (net : Net) (at : CellTable) (run : SpecRun) (s q : ℕ) → AtServer net at run s → q < queues net s
-    → KeepsArrivals (of_queue q) (values at (cell_of Total s q)) (seen_by net run s)
-queue_comes net at run s q w h =
+-- each packet of the queue is of a flow with a hop there
+queue_keeps : (net : Net) (at : CellTable) (run : SpecRun) (s q : ℕ) (by_links : Bool) → AtServer net at run s → (net.version == 2) ≡ by_links
+    → KeepsArrivals (of_queue q) (total_over by_links net at s q) (seen_by net run s)
+queue_keeps net at run s q true w e = parts_keep net at run s q w (eqb-true net.version 2 e)
+queue_keeps net at run s q false w e =
     let V = seen_by net run s in
     let vs = visits_in net s q in
-    let sum = sum_over (arriving_at at) vs in
     let known = arrivals_map (IsVisiting net s) (λ c. of_queue q c ≡ true → HasKey (λ (v : Visit). v.flow) vs c.flow)
     (λ c v e. has_flow c v (eqb-true c.queue q e)) V (all_visiting net at run s w) in
-    keeps_values (of_queue q) (values at (cell_of Total s q)) sum V
-    (curve_holds at (cell_of Total s q) (HasValues sum) (total_cell net at s q w.meets h))
-    (list_keeps (λ (v : Visit). v.flow) (arriving_at at) (λ c. c.flow) vs (of_queue q) V known
-    (λ v m. let is = visit_in net s q v m in flow_comes net at run s v.flow v.hop w is.within is.server))
+    list_keeps (λ (v : Visit). v.flow) (arriving_at at) (λ c. c.flow) vs (of_queue q) V known
+    (λ v m. let is = visit_in net s q v m in flow_comes net at run s v.flow v.hop w is.within is.server)
   where
     has_flow : (c : Card) → IsVisiting net s c → c.queue ≡ q → HasKey (λ (v : Visit). v.flow) (visits_in net s q) c.flow
     has_flow c v e = has_key (λ (u : Visit). u.flow) (visits_in net s q) (card_visit net s c) c.flow
         (has_in net s q c v e) refl
+
+pub queue_comes : (net : Net) (at : CellTable) (run : SpecRun) (s q : ℕ) → AtServer net at run s → q < queues net s
+    → KeepsArrivals (of_queue q) (values at (cell_of Total s q)) (seen_by net run s)
+queue_comes net at run s q w h =
+    keeps_values (of_queue q) (values at (cell_of Total s q)) (total_over (net.version == 2) net at s q) (seen_by net run s)
+    (curve_holds at (cell_of Total s q) (HasValues (total_over (net.version == 2) net at s q)) (total_cell net at s q w.meets h))
+    (queue_keeps net at run s q (net.version == 2) w refl)
 
 -- the queues before it, at a server that serves them first
 pub higher_comes : (net : Net) (at : CellTable) (run : SpecRun) (s q : ℕ) → AtServer net at run s → q < levels net s

@@ -6,9 +6,11 @@ pub mod Cells
 pub mod FormulaParts
 pub mod HopCells
 pub mod QueueCells
+pub mod PartCells
 pub mod Arriving
-pub mod Comes
 pub mod Sizes
+pub mod PartComes
+pub mod Comes
 pub mod Queues
 pub mod Hops
 pub mod Everywhere

@@ -17,7 +17,7 @@ use Rattle.net_cells.specs.declared.cell.Cell.{Cell}
 use Rattle.net_cells.specs.declared.cell.Kind.TheVariants.{In, Cross, Total, Higher, QueueService, QueueDelay, QueueBacklog}
 use Rattle.net_cells.specs.Numbered.{hops, server_of_hop, queue_of_hop, service, discipline, queues, levels}
 use Rattle.net_cells.specs.declared.visit.Visit.{Visit}
-use Rattle.net_cells.specs.Visits.{visits_in, others, longest, longest_after}
+use Rattle.net_cells.specs.Visits.{others, longest, longest_after}
 use Rattle.net_cells.specs.Cells.{cell_of}
 use Rattle.net_cells.specs.Order.{at_visit}
 use Rattle.net_cells.specs.Meanings.{Meaning, curve, CellTable, IsCurveIn}
@@ -39,7 +39,7 @@ arriving_at at v = values at (at_visit In v)
 abbrev pub total_at : CellTable → ℕ → ℕ → ℚ → Ext
 total_at at s q = values at (cell_of Total s q)
 
-visits_over : (at : CellTable) (vs : List Visit) (t : ℚ)
+pub visits_over : (at : CellTable) (vs : List Visit) (t : ℚ)
     → sum_over (values at) (map (at_visit In) vs) t ≡ sum_over (arriving_at at) vs t
 visits_over at [] t = refl
 visits_over at (v ∷ vs) t = ap (λ (x : Ext). values at (at_visit In v) t +ₑ x) (visits_over at vs t)
@@ -53,7 +53,7 @@ queues_over at s (q ∷ qs) t = ap (λ (x : Ext). values at (cell_of Total s q) 
 abbrev pub AreHops : Net → List Visit → Type 0
 AreHops net vs = (v : Visit) → Has vs v → v.hop < hops net v.flow
 
-visit_curves : (net : Net) (at : CellTable) (vs : List Visit) → MeetsEquations net at → AreHops net vs
+pub visit_curves : (net : Net) (at : CellTable) (vs : List Visit) → MeetsEquations net at → AreHops net vs
     → AllCurves at (map (at_visit In) vs)
 visit_curves net at [] meets h = tt
 visit_curves net at (v ∷ vs) meets h =
@@ -78,15 +78,6 @@ cross_is net at i k meets h are =
     let e = meets (cell_of Cross i k) (lt-ltb k (hops net i) h) in
     let vs = others net i (server_of_hop net i k) (queue_of_hop net i k) in
     visit_sum net at (cell_of Cross i k) vs e.value meets are e.is
-    (sum_reads at (map (at_visit In) vs) e.value (visit_curves net at vs meets are) e.means)
-
-pub total_is : (net : Net) (at : CellTable) (s q : ℕ) → MeetsEquations net at → q < queues net s
-    → AreHops net (visits_in net s q)
-    → HasFunction at (cell_of Total s q) (HasValues (sum_over (arriving_at at) (visits_in net s q)))
-total_is net at s q meets h are =
-    let e = meets (cell_of Total s q) (lt-ltb q (queues net s) h) in
-    let vs = visits_in net s q in
-    visit_sum net at (cell_of Total s q) vs e.value meets are e.is
     (sum_reads at (map (at_visit In) vs) e.value (visit_curves net at vs meets are) e.means)
 
 queue_curves : (at : CellTable) (s : ℕ) (qs : List ℕ) → ((q : ℕ) → Has qs q → HasFunction at (cell_of Total s q) a_curve)

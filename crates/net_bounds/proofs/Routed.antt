@@ -105,23 +105,23 @@ known_server net s a h =
     record { server = it.0; is = it.1; keeps = server_kept net s it.0 a it.1 }
 
 pub servers_are : (net : Net) → length (routes_of net).servers ≡ length net.servers
-servers_are net = length-map net.servers server_for
+servers_are net = length-map net.servers (server_for net.version)
 
-server_read : (servers : List NetServer) (s : ℕ) (x : NetServer) (d : Server) → slice_get servers s ≡ Some x
-    → get_or (map server_for servers) s d ≡ server_for x
-server_read [] s x d e = absurd (cc)
-server_read (y ∷ servers) zero x d e = ap server_for (same y e)
+pub server_read : (version : ℕ) (servers : List NetServer) (s : ℕ) (x : NetServer) (d : Server) → slice_get servers s ≡ Some x
+    → get_or (map (server_for version) servers) s d ≡ server_for version x
+server_read version [] s x d e = absurd (cc)
+server_read version (y ∷ servers) zero x d e = ap (server_for version) (same y e)
   where
     same : (z : NetServer) → Some z ≡ Some x → z ≡ x
     same z k = cc
-server_read (y ∷ servers) (suc s) x d e = server_read servers s x d e
+server_read version (y ∷ servers) (suc s) x d e = server_read version servers s x d e
 
 pub discipline_is : (net : Net) (s : ℕ) → IsAccepted net → s < length net.servers
     → (routes.server_at (routes_of net) s).discipline ≡ discipline net s
 discipline_is net s a h =
     let it = known_server net s a h in
     ap (λ (x : Server). x.discipline)
-    (server_read net.servers s it.server record { discipline = Fifo; pace = None } it.is)
+    (server_read net.version net.servers s it.server record { discipline = Fifo; pace = None } it.is)
     ∙ ap discipline_of (sym it.is)
 
 link_read : (servers : List NetServer) (s : ℕ)

@@ -18,7 +18,7 @@ use Rattle.net_bounds.proofs.Routed.{hop_at}
 use Rattle.net_bounds.proofs.Arriving.{AtServer, IsVisiting, all_visiting, card_visit, has_card, has_in}
 use Rattle.run_laws.proofs.Members.{Has}
 
-longest_most : (net : Net) (vs : List Visit) (v : Visit) → Has vs v → packet net v.flow ≤ longest_of net vs
+pub longest_most : (net : Net) (vs : List Visit) (v : Visit) → Has vs v → packet net v.flow ≤ longest_of net vs
 longest_most net [] v h = absurd h
 longest_most net (u ∷ vs) v (inl e) =
     let same : packet net u.flow ≡ packet net v.flow = ap (λ (w : Visit). packet net w.flow) e in

@@ -1,12 +1,14 @@
 -- A formula that is answered by a value means that value.
-use Rattle.std.proofs.Common.{◌≡◌, ℕ, List, [], ◌∷◌, ap}
+use Rattle.std.proofs.Common.{◌≡◌, ℕ, List, [], ◌∷◌, ◌++◌, ap, subst}
 use Rattle.std.specs.Prelude.{Ok, Err, Result}
 use Rattle.rational.specs.Extended.{Ext, min_ext}
 use Rattle.upp_limits.specs.declared.op_kind.OpKind.{OpKind}
-use Rattle.upp_limits.specs.declared.op_kind.OpKind.TheVariants.{Shift, FifoLeft, Horizontal, Vertical}
+use Rattle.upp_limits.specs.declared.op_kind.OpKind.TheVariants.{Sum, Min, Shift, FifoLeft, Horizontal, Vertical}
 use Rattle.upp_limits.specs.declared.op_kind.OpFault.{OpFault}
 use Rattle.upp_curve.specs.Curve.{SpecCurve, value_at}
 use Rattle.upp_curve.specs.Curves.{IsCurve}
+use Rattle.upp_curve.specs.Kinds.{bucket}
+use Rattle.run_laws.specs.Cards.{whole}
 use Rattle.min_plus.specs.Deviations.{IsHorizontalDeviation, IsVerticalDeviation}
 use Rattle.curve_call.specs.Again.{IsAgain}
 use Rattle.curve_call.specs.Answers.{IsMadeBy}
@@ -18,9 +20,9 @@ use Rattle.residual_laws.proofs.DrrCalls as drr_calls
 use Rattle.net_cells.specs.Numbered.{zero_curve}
 use Rattle.net_cells.specs.Meanings.{Meaning, curve, number, CellTable, IsCurveIn, IsNumberIn}
 use Rattle.net_cells.specs.NumberSums.{Sums, sum_of_numbers}
-use Rattle.net_cells.specs.Formulas.{Formula, value_of, given, empty_sum, made, made_of, moved, leftover, priority, deficit, horizontal, vertical, smaller, along, delayed}
-use Rattle.net_cells.specs.Means.{Means, OfCurve, OfNumber, IsPriorityCurve, IsDrrCurve, with_links}
-use Rattle.net_cells.specs.Answers.{Answer, Answers, IsOnly, MakesCurve, MakesNumber, Deviates, ThenCurve, ThenNumber}
+use Rattle.net_cells.specs.Formulas.{Formula, value_of, given, empty_sum, made, made_of, moved, cut, part, no_part, leftover, priority, deficit, horizontal, vertical, smaller, along, delayed}
+use Rattle.net_cells.specs.Means.{Means, MeansFrom, IsSumOnto, IsSumOf, OfCurve, OfNumber, IsPriorityCurve, IsDrrCurve, with_links}
+use Rattle.net_cells.specs.Answers.{Answer, Answers, AnswersFrom, SumsOnto, SumsOf, IsOnly, MakesCurve, MakesNumber, Deviates, ThenCurve, ThenNumber}
 
 -- ---- one call
 makes_curve : (P : Result SpecCurve OpFault → Type 0) (R : SpecCurve → Type 0) (v : Meaning)
@@ -82,66 +84,95 @@ made_curve : (op : OpKind) (f g : SpecCurve) (v : Meaning) → MakesCurve (Appli
     → IsCurveIn (IsMadeBy op f g) v
 made_curve op f g v a = makes_curve (Applies op f g) (IsMadeBy op f g) v (λ h b. b.made) a
 
-pub answers_mean : (at : CellTable) (F : Formula) (v : Meaning) → Answers at F (Ok v) → Means at F v
-answers_mean at (value_of c) v a = a
-answers_mean at (given f) v a = again f v a
-answers_mean at empty_sum v a = again zero_curve v a
-answers_mean at (made op F G) v a =
+-- the lesser of a curve and one that is made again
+cut_curve : (f B : SpecCurve) (v : Meaning) → ThenCurve (MakesCurve (IsAgain B)) (λ g. MakesCurve (Applies Min f g)) (Ok v)
+    → IsCurveIn (IsMadeBy Min f B) v
+cut_curve f B v (goes_on (curve g) same a) = made_curve Min f B v (subst (λ k. MakesCurve (Applies Min f k) (Ok v)) same a)
+cut_curve f B v (goes_on (number x) same a) = absurd same
+cut_curve f B v (stops fault same a) = absurd (let e : Ok v ≡ Err fault = a in cc)
+
+sum_onto_means : (f : SpecCurve) (fs : List SpecCurve) (v : Meaning) → SumsOnto f fs (Ok v) → IsSumOnto f fs v
+sum_onto_means f [] v a = again f v a
+sum_onto_means f (g ∷ gs) v a =
+    on_curve (MakesCurve (Applies Sum f g)) (λ h. SumsOnto h gs) (IsCurveIn (IsMadeBy Sum f g)) (λ h. IsSumOnto h gs) v
+    (λ x. made_curve Sum f g x) (λ h. sum_onto_means h gs v) a
+
+sum_means : (fs : List SpecCurve) (v : Meaning) → SumsOf fs (Ok v) → IsSumOf fs v
+sum_means [] v a = again zero_curve v a
+sum_means (f ∷ fs) v a = sum_onto_means f fs v a
+
+answers_from_mean : (at : CellTable) (F : Formula) (fs : List SpecCurve) (v : Meaning) → AnswersFrom at F fs (Ok v) → MeansFrom at F fs v
+answers_from_mean at (value_of c) fs v a = a
+answers_from_mean at (given f) fs v a = again f v a
+answers_from_mean at empty_sum fs v a = again zero_curve v a
+answers_from_mean at (made op F G) fs v a =
     on_curve (Answers at F) (λ f. ThenCurve (Answers at G) (λ g. MakesCurve (Applies op f g)))
-    (Means at F) (λ f. OfCurve (Means at G) (λ g. IsCurveIn (IsMadeBy op f g))) v (answers_mean at F)
+    (Means at F) (λ f. OfCurve (Means at G) (λ g. IsCurveIn (IsMadeBy op f g))) v (answers_from_mean at F [])
     (λ f. on_curve (Answers at G) (λ g. MakesCurve (Applies op f g))
-    (Means at G) (λ g. IsCurveIn (IsMadeBy op f g)) v (answers_mean at G) (λ g. made_curve op f g v)) a
-answers_mean at (made_of op F) v a =
+    (Means at G) (λ g. IsCurveIn (IsMadeBy op f g)) v (answers_from_mean at G []) (λ g. made_curve op f g v)) a
+answers_from_mean at (made_of op F) fs v a =
     on_curve (Answers at F) (λ f. MakesCurve (AppliesTo op f)) (Means at F) (λ f. IsCurveIn (IsMadeBy op f f)) v
-    (answers_mean at F) (λ f. made_curve op f f v) a
-answers_mean at (moved F T) v a =
+    (answers_from_mean at F []) (λ f. made_curve op f f v) a
+answers_from_mean at (moved F T) fs v a =
     on_curve (Answers at F) (λ f. ThenNumber (Answers at T) (λ x. MakesCurve (AppliesTo (Shift x) f)))
-    (Means at F) (λ f. OfNumber (Means at T) (λ x. IsCurveIn (IsMadeBy (Shift x) f f))) v (answers_mean at F)
+    (Means at F) (λ f. OfNumber (Means at T) (λ x. IsCurveIn (IsMadeBy (Shift x) f f))) v (answers_from_mean at F [])
     (λ f. on_number (Answers at T) (λ x. MakesCurve (AppliesTo (Shift x) f))
-    (Means at T) (λ x. IsCurveIn (IsMadeBy (Shift x) f f)) v (answers_mean at T) (λ x. made_curve (Shift x) f f v)) a
-answers_mean at (leftover F G T) v a =
+    (Means at T) (λ x. IsCurveIn (IsMadeBy (Shift x) f f)) v (answers_from_mean at T []) (λ x. made_curve (Shift x) f f v)) a
+answers_from_mean at (cut F server bits rate) fs v a =
+    let B = bucket (whole bits) rate in
+    on_curve (Answers at F) (λ f. ThenCurve (MakesCurve (IsAgain B)) (λ g. MakesCurve (Applies Min f g)))
+    (Means at F) (λ f. IsCurveIn (IsMadeBy Min f B)) v
+    (answers_from_mean at F []) (λ f. cut_curve f B v) a
+answers_from_mean at (part F G) fs v a =
+    on_curve (Answers at F) (λ f. AnswersFrom at G (fs ++ f ∷ [])) (Means at F) (λ f. MeansFrom at G (fs ++ f ∷ [])) v
+    (answers_from_mean at F []) (λ f. answers_from_mean at G (fs ++ f ∷ []) v) a
+answers_from_mean at no_part fs v a = sum_means fs v a
+answers_from_mean at (leftover F G T) fs v a =
     on_curve (Answers at F)
     (λ f. ThenCurve (Answers at G) (λ g. ThenNumber (Answers at T) (λ x. MakesCurve (Applies (FifoLeft x) f g))))
     (Means at F) (λ f. OfCurve (Means at G) (λ g. OfNumber (Means at T) (λ x. IsCurveIn (IsMadeBy (FifoLeft x) f g)))) v
-    (answers_mean at F)
+    (answers_from_mean at F [])
     (λ f. on_curve (Answers at G) (λ g. ThenNumber (Answers at T) (λ x. MakesCurve (Applies (FifoLeft x) f g)))
-    (Means at G) (λ g. OfNumber (Means at T) (λ x. IsCurveIn (IsMadeBy (FifoLeft x) f g))) v (answers_mean at G)
+    (Means at G) (λ g. OfNumber (Means at T) (λ x. IsCurveIn (IsMadeBy (FifoLeft x) f g))) v (answers_from_mean at G [])
     (λ g. on_number (Answers at T) (λ x. MakesCurve (Applies (FifoLeft x) f g))
-    (Means at T) (λ x. IsCurveIn (IsMadeBy (FifoLeft x) f g)) v (answers_mean at T)
+    (Means at T) (λ x. IsCurveIn (IsMadeBy (FifoLeft x) f g)) v (answers_from_mean at T [])
     (λ x. made_curve (FifoLeft x) f g v))) a
-answers_mean at (priority f F lower) v a =
+answers_from_mean at (priority f F lower) fs v a =
     on_curve (Answers at F) (λ g. MakesCurve (MakesPriority f g lower))
-    (Means at F) (λ g. IsCurveIn (IsPriorityCurve f g lower)) v (answers_mean at F)
+    (Means at F) (λ g. IsCurveIn (IsPriorityCurve f g lower)) v (answers_from_mean at F [])
     (λ g. makes_curve (MakesPriority f g lower) (IsPriorityCurve f g lower) v (priority_curve f g lower)) a
-answers_mean at (deficit f quanta longest queue) v a =
+answers_from_mean at (deficit f quanta longest queue) fs v a =
     makes_curve (MakesDrr f quanta longest queue) (IsDrrCurve f quanta longest queue) v
     (drr_curve f quanta longest queue) a
-answers_mean at (horizontal F G) v a =
+answers_from_mean at (horizontal F G) fs v a =
     on_curve (Answers at F)
     (λ f. ThenCurve (Answers at G) (λ g. MakesNumber (Deviates Horizontal IsHorizontalDeviation f g)))
     (Means at F) (λ f. OfCurve (Means at G) (λ g. IsNumberIn (IsHorizontalDeviation (value_at f) (value_at g)))) v
-    (answers_mean at F)
+    (answers_from_mean at F [])
     (λ f. on_curve (Answers at G) (λ g. MakesNumber (Deviates Horizontal IsHorizontalDeviation f g))
-    (Means at G) (λ g. IsNumberIn (IsHorizontalDeviation (value_at f) (value_at g))) v (answers_mean at G)
+    (Means at G) (λ g. IsNumberIn (IsHorizontalDeviation (value_at f) (value_at g))) v (answers_from_mean at G [])
     (λ g. makes_number (Deviates Horizontal IsHorizontalDeviation f g)
     (IsHorizontalDeviation (value_at f) (value_at g)) v (λ x b. b.1))) a
-answers_mean at (vertical F G) v a =
+answers_from_mean at (vertical F G) fs v a =
     on_curve (Answers at F)
     (λ f. ThenCurve (Answers at G) (λ g. MakesNumber (Deviates Vertical IsVerticalDeviation f g)))
     (Means at F) (λ f. OfCurve (Means at G) (λ g. IsNumberIn (IsVerticalDeviation (value_at f) (value_at g)))) v
-    (answers_mean at F)
+    (answers_from_mean at F [])
     (λ f. on_curve (Answers at G) (λ g. MakesNumber (Deviates Vertical IsVerticalDeviation f g))
-    (Means at G) (λ g. IsNumberIn (IsVerticalDeviation (value_at f) (value_at g))) v (answers_mean at G)
+    (Means at G) (λ g. IsNumberIn (IsVerticalDeviation (value_at f) (value_at g))) v (answers_from_mean at G [])
     (λ g. makes_number (Deviates Vertical IsVerticalDeviation f g)
     (IsVerticalDeviation (value_at f) (value_at g)) v (λ x b. b.1))) a
-answers_mean at (smaller F G) v a =
+answers_from_mean at (smaller F G) fs v a =
     on_number (Answers at F) (λ x. ThenNumber (Answers at G) (λ y. IsOnly (λ w. w ≡ number (min_ext x y))))
-    (Means at F) (λ x. OfNumber (Means at G) (λ y w. w ≡ number (min_ext x y))) v (answers_mean at F)
+    (Means at F) (λ x. OfNumber (Means at G) (λ y w. w ≡ number (min_ext x y))) v (answers_from_mean at F [])
     (λ x. on_number (Answers at G) (λ y. IsOnly (λ w. w ≡ number (min_ext x y)))
-    (Means at G) (λ y w. w ≡ number (min_ext x y)) v (answers_mean at G) (λ y b. b)) a
-answers_mean at (along cells links) v a =
+    (Means at G) (λ y w. w ≡ number (min_ext x y)) v (answers_from_mean at G []) (λ y b. b)) a
+answers_from_mean at (along cells links) fs v a =
     record { numbers = a.numbers; are = a.are; gives = sums (with_links a.numbers links) v a.answers }
-answers_mean at (delayed F links) v a =
+answers_from_mean at (delayed F links) fs v a =
     on_number (Answers at F) (λ x. MakesNumber (Sums (with_links (x ∷ []) links)))
-    (Means at F) (λ x w. w ≡ number (sum_of_numbers (with_links (x ∷ []) links))) v (answers_mean at F)
+    (Means at F) (λ x w. w ≡ number (sum_of_numbers (with_links (x ∷ []) links))) v (answers_from_mean at F [])
     (λ x. sums (with_links (x ∷ []) links) v) a
+
+pub answers_mean : (at : CellTable) (F : Formula) (v : Meaning) → Answers at F (Ok v) → Means at F v
+answers_mean at F v a = answers_from_mean at F [] v a

@@ -1,6 +1,7 @@
 -- The cells that a cell is made of are different ones.
-use Rattle.std.proofs.Common.{◌≡◌, ℕ, zero, suc, ◌-◌, List, [], ◌∷◌, map, sym, ap, subst, inl, inr, ◌+◌}
-use Rattle.std.specs.Prelude.{not, ◌==◌}
+use Rattle.std.proofs.Common.{◌≡◌, ℕ, zero, suc, ◌-◌, List, [], ◌∷◌, length, map, sym, ap, subst, inl, inr, ◌+◌}
+use Rattle.std.specs.Prelude.{not, ◌==◌, Bool, true, false}
+use Rattle.std.proofs.lemmas.Bool.{eqb-true}
 use Rattle.std.specs.List.{range_with_len}
 use Rattle.run_laws.specs.Servers.{Discipline, Fifo, Priority, Drr}
 use Rattle.net_model.specs.Networks.{Net}
@@ -9,14 +10,15 @@ use Rattle.net_cells.specs.declared.cell.Kind.{Kind}
 use Rattle.net_cells.specs.declared.cell.Kind.TheVariants.{In, Cross, Total, Higher, QueueService, Theta, Residual, QueueDelay, QueueBacklog, HopDelay, ShiftOut, DeconvOut, Out, PathService, Tfa, Sfa, Bound}
 use Rattle.net_cells.specs.Numbered.{hops, server_of_hop, queue_of_hop, discipline}
 use Rattle.net_cells.specs.Visits.{Visit, visits, visits_in, others}
+use Rattle.net_cells.specs.QueueParts.{part_of, in_part, part_numbers, by_parts}
 use Rattle.net_cells.specs.Cells.{cell_of}
 use Rattle.net_cells.specs.Order.{at_visit}
 use Rattle.net_cells.specs.Formulas.{leaves}
-use Rattle.net_cells.specs.CellFormulas.{formula, formula_of, sum_of_cells, arriving, queue_service}
+use Rattle.net_cells.specs.CellFormulas.{formula, formula_of, sum_of_cells, total, arriving, queue_service}
 use Rattle.net_cells.specs.Laws.{OperandsAreDifferent}
-use Rattle.net_cells.proofs.Lists.{Apart, apart_pairs, apart_map, apart_filter, apart_range}
+use Rattle.net_cells.proofs.Lists.{Apart, apart_pairs, apart_map, apart_filter, apart_flat, apart_range, filter_has}
 use Rattle.net_cells.proofs.Places.{apart_visits, at_visit_one, cell_of_one}
-use Rattle.net_cells.proofs.LeavesOf.{sum_leaves, served_leaves}
+use Rattle.net_cells.proofs.LeavesOf.{sum_leaves, parts_leaves, served_leaves}
 use Rattle.run_laws.proofs.Members.{Has}
 
 -- ---- one, two, three
@@ -48,6 +50,22 @@ in_apart net s q = apart_filter (λ (v : Visit). queue_of_hop net v.flow v.hop =
 sum_apart : (cs : List Cell) → Apart cs → Apart (leaves (sum_of_cells cs))
 sum_apart cs a = subst Apart (sym (sum_leaves cs)) a
 
+-- the parts of a queue have different hops
+parts_apart : (net : Net) (s q : ℕ) → Apart (by_parts net s q (part_numbers net))
+parts_apart net s q =
+    apart_flat (in_part net s q) (part_of net) (part_numbers net)
+    (λ k v h. eqb-true (part_of net v) k (filter_has (λ (u : Visit). part_of net u == k) (visits_in net s q) v h).1)
+    (λ k. apart_filter (λ (u : Visit). part_of net u == k) (visits_in net s q) (in_apart net s q))
+    (apart_range 0 (suc (length net.servers)))
+
+of_total : (net : Net) (s q : ℕ) (by_links : Bool) → Apart (leaves (total by_links net s q))
+of_total net s q false =
+    sum_apart (map (at_visit In) (visits_in net s q))
+    (apart_map (at_visit In) (visits_in net s q) (at_visit_one In) (in_apart net s q))
+of_total net s q true =
+    subst Apart (sym (parts_leaves net s q (part_numbers net)))
+    (apart_map (at_visit In) (by_parts net s q (part_numbers net)) (at_visit_one In) (parts_apart net s q))
+
 -- ---- by kinds
 of_arriving : (net : Net) (i k : ℕ) → Apart (leaves (arriving net i k))
 of_arriving net i zero = tt
@@ -66,9 +84,7 @@ of_kind net Cross i k =
     sum_apart (map (at_visit In) (others net i s q))
     (apart_map (at_visit In) (others net i s q) (at_visit_one In)
     (apart_filter (λ (v : Visit). not (v.flow == i)) (visits_in net s q) (in_apart net s q)))
-of_kind net Total s q =
-    sum_apart (map (at_visit In) (visits_in net s q))
-    (apart_map (at_visit In) (visits_in net s q) (at_visit_one In) (in_apart net s q))
+of_kind net Total s q = of_total net s q (net.version == 2)
 of_kind net Higher s q = sum_apart (map (cell_of Total s) (range_with_len 0 q)) (numbers_apart Total s q)
 of_kind net QueueService s q = of_service net s q (discipline net s)
 of_kind net Theta i k = two_apart (cell_of Cross i k) (cell_of QueueService (server_of_hop net i k) (queue_of_hop net i k))

@@ -14,4 +14,5 @@ pub mod Growing
 pub mod Stored
 pub mod LeavesOf
 pub mod Counting
+pub mod PartCounts
 pub mod Different

@@ -1,13 +1,15 @@
 -- What making a formula's value answers is determined.
-use Rattle.std.proofs.Common.{◌≡◌, ◌≢◌, List, [], ◌∷◌, refl, sym, ap, ◌∙◌, subst, arith}
+use Rattle.std.proofs.Common.{◌≡◌, ◌≢◌, List, [], ◌∷◌, ◌++◌, refl, sym, ap, ◌∙◌, subst, arith}
 use Rattle.std.specs.Prelude.{Some, Result, Ok, Err}
 use Rattle.rational.specs.Rational.{ℚ}
 use Rattle.rational.specs.Extended.{Ext, min_ext}
 use Rattle.upp_limits.specs.declared.op_kind.OpKind.{OpKind}
-use Rattle.upp_limits.specs.declared.op_kind.OpKind.TheVariants.{Shift, FifoLeft, Horizontal, Vertical}
+use Rattle.upp_limits.specs.declared.op_kind.OpKind.TheVariants.{Sum, Min, Shift, FifoLeft, Horizontal, Vertical}
 use Rattle.upp_limits.specs.declared.op_kind.OpFault.{OpFault}
 use Rattle.upp_limits.specs.declared.op_kind.OpFault.TheVariants.{TooMany, TooWide, NoMemory}
 use Rattle.upp_curve.specs.Curve.{SpecCurve, value_at}
+use Rattle.upp_curve.specs.Kinds.{bucket}
+use Rattle.run_laws.specs.Cards.{whole}
 use Rattle.min_plus.specs.Deviations.{IsHorizontalDeviation, IsVerticalDeviation}
 use Rattle.upp_limits.specs.Outcome.{IsWithin, IsCauseOf}
 use Rattle.min_plus.proofs.Unambiguous.{deviations_are_unique}
@@ -23,9 +25,9 @@ use Rattle.net_cells.specs.declared.cell.Cell.{Cell}
 use Rattle.net_cells.specs.Numbered.{zero_curve}
 use Rattle.net_cells.specs.Meanings.{Meaning, curve, number, CellTable}
 use Rattle.net_cells.specs.NumberSums.{Sums}
-use Rattle.net_cells.specs.Formulas.{Formula, value_of, given, empty_sum, made, made_of, moved, leftover, priority, deficit, horizontal, vertical, smaller, along, delayed}
+use Rattle.net_cells.specs.Formulas.{Formula, value_of, given, empty_sum, made, made_of, moved, cut, part, no_part, leftover, priority, deficit, horizontal, vertical, smaller, along, delayed}
 use Rattle.net_cells.specs.Means.{with_links}
-use Rattle.net_cells.specs.Answers.{Answer, Answers, IsOnly, MakesCurve, MakesNumber, Deviates, OnCurve, OnNumber, ThenCurve, ThenNumber, ThenCells}
+use Rattle.net_cells.specs.Answers.{Answer, Answers, AnswersFrom, SumsOnto, SumsOf, IsOnly, MakesCurve, MakesNumber, Deviates, OnCurve, OnNumber, ThenCurve, ThenNumber, ThenCells}
 use Rattle.net_cells.proofs.OneMeaning.{IsOne, have_numbers_one}
 
 -- ---- one call
@@ -130,68 +132,93 @@ then_cells at cells Q q r s a b m n =
 made_determined : (op : OpKind) (f g : SpecCurve) → IsDetermined (MakesCurve (Applies op f g))
 made_determined op f g = curve_determined (Applies op f g) (applies_determined.answer op f g)
 
-pub answers_one : (at : CellTable) (F : Formula) → IsDetermined (Answers at F)
-answers_one at (value_of c) r s a b m n =
+sum_onto_determined : (f : SpecCurve) (fs : List SpecCurve) → IsDetermined (SumsOnto f fs)
+sum_onto_determined f [] r s a b m n = curve_determined (IsAgain f) (again_determined f) r s a b m n
+sum_onto_determined f (g ∷ gs) r s a b m n =
+    then_curve (MakesCurve (Applies Sum f g)) (λ h. SumsOnto h gs) (made_determined Sum f g) (λ h. sum_onto_determined h gs)
+    r s a b m n
+
+sum_determined : (fs : List SpecCurve) → IsDetermined (SumsOf fs)
+sum_determined [] r s a b m n = curve_determined (IsAgain zero_curve) (again_determined zero_curve) r s a b m n
+sum_determined (f ∷ fs) r s a b m n = sum_onto_determined f fs r s a b m n
+
+answers_from_one : (at : CellTable) (F : Formula) (fs : List SpecCurve) → IsDetermined (AnswersFrom at F fs)
+answers_from_one at (value_of c) fs r s a b m n =
     only_determined (λ v. at c ≡ Some v) (λ v w h k. let same : Some v ≡ Some w = sym h ∙ k in cc) r s a b m n
-answers_one at (given f) r s a b m n = curve_determined (IsAgain f) (again_determined f) r s a b m n
-answers_one at empty_sum r s a b m n = curve_determined (IsAgain zero_curve) (again_determined zero_curve) r s a b m n
-answers_one at (made op F G) r s a b m n =
-    then_curve (Answers at F) (λ f. ThenCurve (Answers at G) (λ g. MakesCurve (Applies op f g))) (answers_one at F)
-    (λ f. then_curve (Answers at G) (λ g. MakesCurve (Applies op f g)) (answers_one at G) (λ g. made_determined op f g))
+answers_from_one at (given f) fs r s a b m n = curve_determined (IsAgain f) (again_determined f) r s a b m n
+answers_from_one at empty_sum fs r s a b m n = curve_determined (IsAgain zero_curve) (again_determined zero_curve) r s a b m n
+answers_from_one at (made op F G) fs r s a b m n =
+    then_curve (Answers at F) (λ f. ThenCurve (Answers at G) (λ g. MakesCurve (Applies op f g))) (answers_from_one at F [])
+    (λ f. then_curve (Answers at G) (λ g. MakesCurve (Applies op f g)) (answers_from_one at G []) (λ g. made_determined op f g))
     r s a b m n
-answers_one at (made_of op F) r s a b m n =
-    then_curve (Answers at F) (λ f. MakesCurve (AppliesTo op f)) (answers_one at F) (λ f. made_determined op f f)
+answers_from_one at (made_of op F) fs r s a b m n =
+    then_curve (Answers at F) (λ f. MakesCurve (AppliesTo op f)) (answers_from_one at F []) (λ f. made_determined op f f)
     r s a b m n
-answers_one at (moved F T) r s a b m n =
+answers_from_one at (moved F T) fs r s a b m n =
     then_curve (Answers at F) (λ f. ThenNumber (Answers at T) (λ x. MakesCurve (AppliesTo (Shift x) f)))
-    (answers_one at F)
-    (λ f. then_number (Answers at T) (λ x. MakesCurve (AppliesTo (Shift x) f)) (answers_one at T)
+    (answers_from_one at F [])
+    (λ f. then_number (Answers at T) (λ x. MakesCurve (AppliesTo (Shift x) f)) (answers_from_one at T [])
     (λ x. made_determined (Shift x) f f))
     r s a b m n
-answers_one at (leftover F G T) r s a b m n =
+answers_from_one at (cut F server bits rate) fs r s a b m n =
+    let B = bucket (whole bits) rate in
+    then_curve (Answers at F) (λ f. ThenCurve (MakesCurve (IsAgain B)) (λ g. MakesCurve (Applies Min f g)))
+    (answers_from_one at F [])
+    (λ f. then_curve (MakesCurve (IsAgain B)) (λ g. MakesCurve (Applies Min f g)) (curve_determined (IsAgain B) (again_determined B))
+    (λ g. made_determined Min f g))
+    r s a b m n
+answers_from_one at (part F G) fs r s a b m n =
+    then_curve (Answers at F) (λ f. AnswersFrom at G (fs ++ f ∷ [])) (answers_from_one at F [])
+    (λ f. answers_from_one at G (fs ++ f ∷ []))
+    r s a b m n
+answers_from_one at no_part fs r s a b m n = sum_determined fs r s a b m n
+answers_from_one at (leftover F G T) fs r s a b m n =
     then_curve (Answers at F)
     (λ f. ThenCurve (Answers at G) (λ g. ThenNumber (Answers at T) (λ x. MakesCurve (Applies (FifoLeft x) f g))))
-    (answers_one at F)
+    (answers_from_one at F [])
     (λ f. then_curve (Answers at G) (λ g. ThenNumber (Answers at T) (λ x. MakesCurve (Applies (FifoLeft x) f g)))
-    (answers_one at G)
-    (λ g. then_number (Answers at T) (λ x. MakesCurve (Applies (FifoLeft x) f g)) (answers_one at T)
+    (answers_from_one at G [])
+    (λ g. then_number (Answers at T) (λ x. MakesCurve (Applies (FifoLeft x) f g)) (answers_from_one at T [])
     (λ x. made_determined (FifoLeft x) f g)))
     r s a b m n
-answers_one at (priority f F lower) r s a b m n =
-    then_curve (Answers at F) (λ g. MakesCurve (MakesPriority f g lower)) (answers_one at F)
+answers_from_one at (priority f F lower) fs r s a b m n =
+    then_curve (Answers at F) (λ g. MakesCurve (MakesPriority f g lower)) (answers_from_one at F [])
     (λ g. curve_determined (MakesPriority f g lower) (priority_calls.is_determined f g lower))
     r s a b m n
-answers_one at (deficit f quanta longest queue) r s a b m n =
+answers_from_one at (deficit f quanta longest queue) fs r s a b m n =
     curve_determined (MakesDrr f quanta longest queue) (drr_calls.is_determined f quanta longest queue) r s a b m n
-answers_one at (horizontal F G) r s a b m n =
+answers_from_one at (horizontal F G) fs r s a b m n =
     then_curve (Answers at F)
     (λ f. ThenCurve (Answers at G) (λ g. MakesNumber (Deviates Horizontal IsHorizontalDeviation f g)))
-    (answers_one at F)
+    (answers_from_one at F [])
     (λ f. then_curve (Answers at G) (λ g. MakesNumber (Deviates Horizontal IsHorizontalDeviation f g))
-    (answers_one at G)
+    (answers_from_one at G [])
     (λ g. number_determined (Deviates Horizontal IsHorizontalDeviation f g)
     (deviates_determined Horizontal IsHorizontalDeviation f g
     (λ x y. (deviations_are_unique (value_at f) (value_at g) x y).0))))
     r s a b m n
-answers_one at (vertical F G) r s a b m n =
+answers_from_one at (vertical F G) fs r s a b m n =
     then_curve (Answers at F)
-    (λ f. ThenCurve (Answers at G) (λ g. MakesNumber (Deviates Vertical IsVerticalDeviation f g))) (answers_one at F)
-    (λ f. then_curve (Answers at G) (λ g. MakesNumber (Deviates Vertical IsVerticalDeviation f g)) (answers_one at G)
+    (λ f. ThenCurve (Answers at G) (λ g. MakesNumber (Deviates Vertical IsVerticalDeviation f g))) (answers_from_one at F [])
+    (λ f. then_curve (Answers at G) (λ g. MakesNumber (Deviates Vertical IsVerticalDeviation f g)) (answers_from_one at G [])
     (λ g. number_determined (Deviates Vertical IsVerticalDeviation f g)
     (deviates_determined Vertical IsVerticalDeviation f g
     (λ x y. (deviations_are_unique (value_at f) (value_at g) x y).1))))
     r s a b m n
-answers_one at (smaller F G) r s a b m n =
+answers_from_one at (smaller F G) fs r s a b m n =
     then_number (Answers at F) (λ x. ThenNumber (Answers at G) (λ y. IsOnly (λ v. v ≡ number (min_ext x y))))
-    (answers_one at F)
-    (λ x. then_number (Answers at G) (λ y. IsOnly (λ v. v ≡ number (min_ext x y))) (answers_one at G)
+    (answers_from_one at F [])
+    (λ x. then_number (Answers at G) (λ y. IsOnly (λ v. v ≡ number (min_ext x y))) (answers_from_one at G [])
     (λ y. only_determined (λ v. v ≡ number (min_ext x y)) (λ v w h k. h ∙ sym k)))
     r s a b m n
-answers_one at (along cells links) r s a b m n =
+answers_from_one at (along cells links) fs r s a b m n =
     then_cells at cells (λ xs. MakesNumber (Sums (with_links xs links)))
     (λ xs. number_determined (Sums (with_links xs links)) (sums_determined (with_links xs links)))
     r s a b m n
-answers_one at (delayed F links) r s a b m n =
-    then_number (Answers at F) (λ x. MakesNumber (Sums (with_links (x ∷ []) links))) (answers_one at F)
+answers_from_one at (delayed F links) fs r s a b m n =
+    then_number (Answers at F) (λ x. MakesNumber (Sums (with_links (x ∷ []) links))) (answers_from_one at F [])
     (λ x. number_determined (Sums (with_links (x ∷ []) links)) (sums_determined (with_links (x ∷ []) links)))
     r s a b m n
+
+pub answers_one : (at : CellTable) (F : Formula) → IsDetermined (Answers at F)
+answers_one at F = answers_from_one at F []

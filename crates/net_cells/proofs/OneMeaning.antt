@@ -1,20 +1,23 @@
 -- A formula means one value by one table.
-use Rattle.std.proofs.Common.{◌≡◌, ℕ, List, [], ◌∷◌, refl, sym, ap, ap₂, ◌∙◌, subst}
+use Rattle.std.proofs.Common.{◌≡◌, ℕ, List, [], ◌∷◌, ◌++◌, refl, sym, ap, ap₂, ◌∙◌, subst}
 use Rattle.std.specs.Prelude.{Some}
 use Rattle.rational.specs.Extended.{Ext, min_ext}
 use Rattle.rational.proofs.Bounds.{supremum_unique}
-use Rattle.upp_limits.specs.declared.op_kind.OpKind.TheVariants.{Shift, FifoLeft}
+use Rattle.upp_limits.specs.declared.op_kind.OpKind.TheVariants.{Sum, Min, Shift, FifoLeft}
 use Rattle.upp_curve.specs.Curve.{SpecCurve, value_at}
 use Rattle.min_plus.specs.Deviations.{IsHorizontalDeviation, IsVerticalDeviation}
 use Rattle.upp_curve.proofs.OneForm.{normal_unique}
 use Rattle.min_plus.proofs.Unambiguous.{deviations_are_unique}
+use Rattle.upp_curve.specs.Kinds.{bucket}
+use Rattle.run_laws.specs.Cards.{whole}
 use Rattle.curve_call.specs.Answers.{IsMadeBy}
 use Rattle.curve_call.proofs.SameAnswers.{made_unique}
 use Rattle.net_cells.specs.declared.cell.Cell.{Cell}
+use Rattle.net_cells.specs.Numbered.{zero_curve}
 use Rattle.net_cells.specs.Meanings.{Meaning, curve, number, CellTable, IsCurveIn, IsNumberIn}
 use Rattle.net_cells.specs.NumberSums.{sum_of_numbers}
-use Rattle.net_cells.specs.Formulas.{Formula, value_of, given, empty_sum, made, made_of, moved, leftover, priority, deficit, horizontal, vertical, smaller, along, delayed}
-use Rattle.net_cells.specs.Means.{Means, OfCurve, OfNumber, OfCells, HaveNumbers, IsPriorityCurve, IsDrrCurve, with_links}
+use Rattle.net_cells.specs.Formulas.{Formula, value_of, given, empty_sum, made, made_of, moved, cut, part, no_part, leftover, priority, deficit, horizontal, vertical, smaller, along, delayed}
+use Rattle.net_cells.specs.Means.{Means, MeansFrom, IsSumOnto, IsSumOf, OfCurve, OfNumber, OfCells, HaveNumbers, IsPriorityCurve, IsDrrCurve, with_links}
 
 abbrev pub IsOne : {A : Type 0} → (A → Type 0) → Type 0
 IsOne {A} P = (v w : A) → P v → P w → v ≡ w
@@ -76,63 +79,87 @@ drr_one β quanta longest queue h k a b =
     normal_unique h k a.curve.normal b.curve.normal (λ t p. a.serves t p ∙ sym (b.serves t p))
 
 -- ---- formulas
-pub means_one : (at : CellTable) (F : Formula) → IsOne (Means at F)
-means_one at (value_of c) v w a b = let same : Some v ≡ Some w = sym a ∙ b in cc
-means_one at (given f) v w a b = a ∙ sym b
-means_one at empty_sum v w a b = a ∙ sym b
-means_one at (made op F G) v w a b =
-    of_curve_one (Means at F) (λ f. OfCurve (Means at G) (λ g. IsCurveIn (IsMadeBy op f g))) (means_one at F)
-    (λ f. of_curve_one (Means at G) (λ g. IsCurveIn (IsMadeBy op f g)) (means_one at G)
+sum_onto_one : (f : SpecCurve) (fs : List SpecCurve) → IsOne (IsSumOnto f fs)
+sum_onto_one f [] v w a b = equal_one (curve f) v w a b
+sum_onto_one f (g ∷ gs) v w a b =
+    of_curve_one (IsCurveIn (IsMadeBy Sum f g)) (λ h. IsSumOnto h gs) (curve_in_one (IsMadeBy Sum f g) (made_unique Sum f g))
+    (λ h. sum_onto_one h gs)
+    v w a b
+
+sum_one : (fs : List SpecCurve) → IsOne (IsSumOf fs)
+sum_one [] v w a b = equal_one (curve zero_curve) v w a b
+sum_one (f ∷ fs) v w a b = sum_onto_one f fs v w a b
+
+means_from_one : (at : CellTable) (F : Formula) (fs : List SpecCurve) → IsOne (MeansFrom at F fs)
+means_from_one at (value_of c) fs v w a b = let same : Some v ≡ Some w = sym a ∙ b in cc
+means_from_one at (given f) fs v w a b = a ∙ sym b
+means_from_one at empty_sum fs v w a b = a ∙ sym b
+means_from_one at (made op F G) fs v w a b =
+    of_curve_one (Means at F) (λ f. OfCurve (Means at G) (λ g. IsCurveIn (IsMadeBy op f g))) (means_from_one at F [])
+    (λ f. of_curve_one (Means at G) (λ g. IsCurveIn (IsMadeBy op f g)) (means_from_one at G [])
     (λ g. curve_in_one (IsMadeBy op f g) (made_unique op f g)))
     v w a b
-means_one at (made_of op F) v w a b =
-    of_curve_one (Means at F) (λ f. IsCurveIn (IsMadeBy op f f)) (means_one at F)
+means_from_one at (made_of op F) fs v w a b =
+    of_curve_one (Means at F) (λ f. IsCurveIn (IsMadeBy op f f)) (means_from_one at F [])
     (λ f. curve_in_one (IsMadeBy op f f) (made_unique op f f))
     v w a b
-means_one at (moved F T) v w a b =
-    of_curve_one (Means at F) (λ f. OfNumber (Means at T) (λ x. IsCurveIn (IsMadeBy (Shift x) f f))) (means_one at F)
-    (λ f. of_number_one (Means at T) (λ x. IsCurveIn (IsMadeBy (Shift x) f f)) (means_one at T)
+means_from_one at (moved F T) fs v w a b =
+    of_curve_one (Means at F) (λ f. OfNumber (Means at T) (λ x. IsCurveIn (IsMadeBy (Shift x) f f))) (means_from_one at F [])
+    (λ f. of_number_one (Means at T) (λ x. IsCurveIn (IsMadeBy (Shift x) f f)) (means_from_one at T [])
     (λ x. curve_in_one (IsMadeBy (Shift x) f f) (made_unique (Shift x) f f)))
     v w a b
-means_one at (leftover F G T) v w a b =
+means_from_one at (cut F server bits rate) fs v w a b =
+    let B = bucket (whole bits) rate in
+    of_curve_one (Means at F) (λ f. IsCurveIn (IsMadeBy Min f B)) (means_from_one at F [])
+    (λ f. curve_in_one (IsMadeBy Min f B) (made_unique Min f B))
+    v w a b
+means_from_one at (part F G) fs v w a b =
+    of_curve_one (Means at F) (λ f. MeansFrom at G (fs ++ f ∷ [])) (means_from_one at F [])
+    (λ f. means_from_one at G (fs ++ f ∷ []))
+    v w a b
+means_from_one at no_part fs v w a b = sum_one fs v w a b
+means_from_one at (leftover F G T) fs v w a b =
     of_curve_one (Means at F)
     (λ f. OfCurve (Means at G) (λ g. OfNumber (Means at T) (λ x. IsCurveIn (IsMadeBy (FifoLeft x) f g))))
-    (means_one at F)
+    (means_from_one at F [])
     (λ f. of_curve_one (Means at G) (λ g. OfNumber (Means at T) (λ x. IsCurveIn (IsMadeBy (FifoLeft x) f g)))
-    (means_one at G)
-    (λ g. of_number_one (Means at T) (λ x. IsCurveIn (IsMadeBy (FifoLeft x) f g)) (means_one at T)
+    (means_from_one at G [])
+    (λ g. of_number_one (Means at T) (λ x. IsCurveIn (IsMadeBy (FifoLeft x) f g)) (means_from_one at T [])
     (λ x. curve_in_one (IsMadeBy (FifoLeft x) f g) (made_unique (FifoLeft x) f g))))
     v w a b
-means_one at (priority f F lower) v w a b =
-    of_curve_one (Means at F) (λ g. IsCurveIn (IsPriorityCurve f g lower)) (means_one at F)
+means_from_one at (priority f F lower) fs v w a b =
+    of_curve_one (Means at F) (λ g. IsCurveIn (IsPriorityCurve f g lower)) (means_from_one at F [])
     (λ g. curve_in_one (IsPriorityCurve f g lower) (priority_one f g lower))
     v w a b
-means_one at (deficit f quanta longest queue) v w a b =
+means_from_one at (deficit f quanta longest queue) fs v w a b =
     curve_in_one (IsDrrCurve f quanta longest queue) (drr_one f quanta longest queue) v w a b
-means_one at (horizontal F G) v w a b =
+means_from_one at (horizontal F G) fs v w a b =
     of_curve_one (Means at F)
-    (λ f. OfCurve (Means at G) (λ g. IsNumberIn (IsHorizontalDeviation (value_at f) (value_at g)))) (means_one at F)
-    (λ f. of_curve_one (Means at G) (λ g. IsNumberIn (IsHorizontalDeviation (value_at f) (value_at g))) (means_one at G)
+    (λ f. OfCurve (Means at G) (λ g. IsNumberIn (IsHorizontalDeviation (value_at f) (value_at g)))) (means_from_one at F [])
+    (λ f. of_curve_one (Means at G) (λ g. IsNumberIn (IsHorizontalDeviation (value_at f) (value_at g))) (means_from_one at G [])
     (λ g. number_in_one (IsHorizontalDeviation (value_at f) (value_at g))
     (λ x y. (deviations_are_unique (value_at f) (value_at g) x y).0)))
     v w a b
-means_one at (vertical F G) v w a b =
+means_from_one at (vertical F G) fs v w a b =
     of_curve_one (Means at F)
-    (λ f. OfCurve (Means at G) (λ g. IsNumberIn (IsVerticalDeviation (value_at f) (value_at g)))) (means_one at F)
-    (λ f. of_curve_one (Means at G) (λ g. IsNumberIn (IsVerticalDeviation (value_at f) (value_at g))) (means_one at G)
+    (λ f. OfCurve (Means at G) (λ g. IsNumberIn (IsVerticalDeviation (value_at f) (value_at g)))) (means_from_one at F [])
+    (λ f. of_curve_one (Means at G) (λ g. IsNumberIn (IsVerticalDeviation (value_at f) (value_at g))) (means_from_one at G [])
     (λ g. number_in_one (IsVerticalDeviation (value_at f) (value_at g))
     (λ x y. (deviations_are_unique (value_at f) (value_at g) x y).1)))
     v w a b
-means_one at (smaller F G) v w a b =
-    of_number_one (Means at F) (λ x. OfNumber (Means at G) (λ y u. u ≡ number (min_ext x y))) (means_one at F)
-    (λ x. of_number_one (Means at G) (λ y u. u ≡ number (min_ext x y)) (means_one at G)
+means_from_one at (smaller F G) fs v w a b =
+    of_number_one (Means at F) (λ x. OfNumber (Means at G) (λ y u. u ≡ number (min_ext x y))) (means_from_one at F [])
+    (λ x. of_number_one (Means at G) (λ y u. u ≡ number (min_ext x y)) (means_from_one at G [])
     (λ y. equal_one (number (min_ext x y))))
     v w a b
-means_one at (along cells links) v w a b =
+means_from_one at (along cells links) fs v w a b =
     of_cells_one at cells (λ xs u. u ≡ number (sum_of_numbers (with_links xs links)))
     (λ xs. equal_one (number (sum_of_numbers (with_links xs links))))
     v w a b
-means_one at (delayed F links) v w a b =
-    of_number_one (Means at F) (λ x u. u ≡ number (sum_of_numbers (with_links (x ∷ []) links))) (means_one at F)
+means_from_one at (delayed F links) fs v w a b =
+    of_number_one (Means at F) (λ x u. u ≡ number (sum_of_numbers (with_links (x ∷ []) links))) (means_from_one at F [])
     (λ x. equal_one (number (sum_of_numbers (with_links (x ∷ []) links))))
     v w a b
+
+pub means_one : (at : CellTable) (F : Formula) → IsOne (Means at F)
+means_one at F = means_from_one at F []

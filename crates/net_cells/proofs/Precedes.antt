@@ -1,6 +1,6 @@
 -- What a cell is made of stands before it in the order.
 use Rattle.std.proofs.Common.{◌≡◌, ℕ, zero, suc, ◌<◌, ◌≤◌, ◌+◌, ◌-◌, List, [], ◌∷◌, ◌++◌, length, get_or, map, take, refl, sym, ap, ◌∙◌, subst, arith, inl, inr, ◌⊎◌, true, false}
-use Rattle.std.specs.Prelude.{is_some, ◌&&◌, Option, Some, None, not, ◌==◌, slice_index, nat_lt}
+use Rattle.std.specs.Prelude.{Bool, is_some, ◌&&◌, Option, Some, None, not, ◌==◌, slice_index, nat_lt}
 use Rattle.std.specs.List.{flat_map, range_with_len}
 use Rattle.std.proofs.lemmas.Bool.{lt-ltb, ltb-true, eqb-true, and_parts}
 use Rattle.std.proofs.lemmas.List.{get_or_default}
@@ -18,12 +18,14 @@ use Rattle.net_cells.specs.declared.cell.Scope.{Scope}
 use Rattle.net_cells.specs.declared.cell.Scope.TheVariants.{EachHop, EachHopButLast, EachQueue, EachPath}
 use Rattle.net_cells.specs.Numbered.{flow_at, path_of, hops, server_of_hop, queue_of_hop, queues, levels, levels_of, is_live, discipline, discipline_of}
 use Rattle.net_cells.specs.Visits.{Visit, visits, visits_in, others}
+use Rattle.net_cells.specs.QueueParts.{part_of, in_part, part_numbers, by_parts}
 use Rattle.net_cells.specs.Cells.{cell_of, scope_of, is_in_scope, has_cell, server_kinds, path_kinds}
 use Rattle.net_cells.specs.Order.{at_visit, evaluation_order, server_cells, kind_cells, path_cells}
 use Rattle.net_cells.specs.Formulas.{Formula, leaves, made, value_of}
-use Rattle.net_cells.specs.CellFormulas.{formula, sum_of_cells, sum_from, packets_to, served_to, queue_service, less}
+use Rattle.net_cells.specs.CellFormulas.{formula, total, sum_of_cells, sum_from, packets_to, served_to, queue_service, less}
 use Rattle.net_cells.specs.Laws.{OperandsComeFirst, OperandsAreCells}
-use Rattle.net_cells.proofs.Lists.{Before, map_has, filter_has, range_has, before_left, before_right, before_across, before_flat, before_inside, before_place, before_split, Apart}
+use Rattle.net_cells.proofs.LeavesOf.{parts_leaves}
+use Rattle.net_cells.proofs.Lists.{Before, map_has, flat_has, filter_has, range_has, before_left, before_right, before_across, before_flat, before_inside, before_place, before_split, Apart}
 use Rattle.net_cells.proofs.Places.{flow_inside, live_inside, visit_has, home, home_in, rank, kinds_before, path_kinds_before, IsHome, has_kind, has_server, has_path}
 use Rattle.net_cells.proofs.Members.{hop_of, hop_kept, home_inside, home_in_order, order_has, apart_cells}
 use Rattle.run_laws.proofs.Members.{Has, has_right, has_either, has_flat, contains_has, has_contains}
@@ -204,10 +206,19 @@ cross_first net order i k o h d m =
     (omega arith))
     found.2
 
+leaf_of_total : (net : Net) (s q : ℕ) (by_links : Bool) (d : Cell) → Has (leaves (total by_links net s q)) d
+    → (v : Visit) × Has (visits_in net s q) v × (at_visit In v ≡ d)
+leaf_of_total net s q false d m = map_has (at_visit In) (visits_in net s q) d (leaf_of_sum (map (at_visit In) (visits_in net s q)) d m)
+leaf_of_total net s q true d m =
+    let listed = subst (λ (cs : List Cell). Has cs d) (parts_leaves net s q (part_numbers net)) m in
+    let found = map_has (at_visit In) (by_parts net s q (part_numbers net)) d listed in
+    let part = flat_has (in_part net s q) (part_numbers net) found.0 found.1 in
+    (found.0, (filter_has (λ (u : Visit). part_of net u == part.0) (visits_in net s q) found.0 part.2).0, found.2)
+
 total_first : (net : Net) (order : List ℕ) (s q : ℕ) → Ordered net order → q < queues net s
     → OperandsFirst net order (cell_of Total s q)
 total_first net order s q o h d m =
-    let found = map_has (at_visit In) (visits_in net s q) d (leaf_of_sum (map (at_visit In) (visits_in net s q)) d m) in
+    let found = leaf_of_total net s q (net.version == 2) d m in
     let here = filter_has (λ (v : Visit). queue_of_hop net v.flow v.hop == q) (visits net s) found.0 found.1 in
     one_of net order (cell_of Total s q) (at_visit In found.0) d
     (of_visit net order s (cell_of Total s q) found.0 o (at_queue net Total s q refl h) here.0 (omega arith)

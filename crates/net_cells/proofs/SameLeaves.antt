@@ -2,18 +2,21 @@
 use Rattle.std.proofs.Common.{◌≡◌, List, [], ◌∷◌, ◌++◌, refl, sym, ◌∙◌, inl, inr}
 use Rattle.std.specs.Prelude.{Ok, Err}
 use Rattle.rational.specs.Extended.{Ext, min_ext}
-use Rattle.upp_limits.specs.declared.op_kind.OpKind.TheVariants.{Shift, FifoLeft, Horizontal, Vertical}
+use Rattle.upp_limits.specs.declared.op_kind.OpKind.TheVariants.{Min, Shift, FifoLeft, Horizontal, Vertical}
 use Rattle.upp_curve.specs.Curve.{SpecCurve, value_at}
+use Rattle.upp_curve.specs.Kinds.{bucket}
+use Rattle.run_laws.specs.Cards.{whole}
 use Rattle.min_plus.specs.Deviations.{IsHorizontalDeviation, IsVerticalDeviation}
+use Rattle.curve_call.specs.Again.{IsAgain}
 use Rattle.curve_call.specs.Answers.{IsMadeBy}
 use Rattle.curve_call.specs.Calls.{Applies, AppliesTo, goes_on, stops}
 use Rattle.residual_laws.specs.PriorityCalls.{MakesPriority}
 use Rattle.net_cells.specs.declared.cell.Cell.{Cell}
 use Rattle.net_cells.specs.Meanings.{Meaning, curve, number, CellTable, IsCurveIn, IsNumberIn}
 use Rattle.net_cells.specs.NumberSums.{Sums, sum_of_numbers}
-use Rattle.net_cells.specs.Formulas.{Formula, leaves, value_of, given, empty_sum, made, made_of, moved, leftover, priority, deficit, horizontal, vertical, smaller, along, delayed}
-use Rattle.net_cells.specs.Means.{Means, OfCurve, OfNumber, HaveNumbers, IsPriorityCurve, with_links}
-use Rattle.net_cells.specs.Answers.{Answer, Answers, IsOnly, MakesCurve, MakesNumber, Deviates, ThenCurve, ThenNumber}
+use Rattle.net_cells.specs.Formulas.{Formula, leaves, value_of, given, empty_sum, made, made_of, moved, cut, part, no_part, leftover, priority, deficit, horizontal, vertical, smaller, along, delayed}
+use Rattle.net_cells.specs.Means.{Means, MeansFrom, OfCurve, OfNumber, HaveNumbers, IsPriorityCurve, with_links}
+use Rattle.net_cells.specs.Answers.{Answer, Answers, AnswersFrom, IsOnly, MakesCurve, MakesNumber, Deviates, ThenCurve, ThenNumber}
 use Rattle.run_laws.proofs.Members.{Has, has_left, has_right}
 
 -- two tables have the same values at some cells
@@ -51,64 +54,76 @@ of_curves : (P M Q N : Meaning → Type 0) (R : SpecCurve → SpecCurve → Mean
 of_curves P M Q N R v p q a =
     of_curve P M (λ f. OfCurve Q (R f)) (λ f. OfCurve N (R f)) v p (λ f b. of_curve Q N (R f) (R f) v q (λ g h. h) b) a
 
-pub means_same : (at other : CellTable) (F : Formula) (v : Meaning) → AgreeOn (leaves F) at other → Means at F v
-    → Means other F v
-means_same at other (value_of c) v same a = sym (same c (inl refl)) ∙ a
-means_same at other (given f) v same a = a
-means_same at other empty_sum v same a = a
-means_same at other (made op F G) v same a =
+means_from_same : (at other : CellTable) (F : Formula) (fs : List SpecCurve) (v : Meaning) → AgreeOn (leaves F) at other → MeansFrom at F fs v
+    → MeansFrom other F fs v
+means_from_same at other (value_of c) fs v same a = sym (same c (inl refl)) ∙ a
+means_from_same at other (given f) fs v same a = a
+means_from_same at other empty_sum fs v same a = a
+means_from_same at other (made op F G) fs v same a =
     of_curves (Means at F) (Means other F) (Means at G) (Means other G) (λ f g. IsCurveIn (IsMadeBy op f g)) v
-    (λ x. means_same at other F x (on_left (leaves F) (leaves G) at other same))
-    (λ x. means_same at other G x (on_right (leaves F) (leaves G) at other same)) a
-means_same at other (made_of op F) v same a =
+    (λ x. means_from_same at other F [] x (on_left (leaves F) (leaves G) at other same))
+    (λ x. means_from_same at other G [] x (on_right (leaves F) (leaves G) at other same)) a
+means_from_same at other (made_of op F) fs v same a =
     of_curve (Means at F) (Means other F) (λ f. IsCurveIn (IsMadeBy op f f)) (λ f. IsCurveIn (IsMadeBy op f f)) v
-    (λ x. means_same at other F x same) (λ f b. b) a
-means_same at other (moved F T) v same a =
+    (λ x. means_from_same at other F [] x same) (λ f b. b) a
+means_from_same at other (moved F T) fs v same a =
     of_curve (Means at F) (Means other F) (λ f. OfNumber (Means at T) (λ x. IsCurveIn (IsMadeBy (Shift x) f f)))
     (λ f. OfNumber (Means other T) (λ x. IsCurveIn (IsMadeBy (Shift x) f f))) v
-    (λ x. means_same at other F x (on_left (leaves F) (leaves T) at other same))
+    (λ x. means_from_same at other F [] x (on_left (leaves F) (leaves T) at other same))
     (λ f. of_number (Means at T) (Means other T) (λ x. IsCurveIn (IsMadeBy (Shift x) f f))
     (λ x. IsCurveIn (IsMadeBy (Shift x) f f)) v
-    (λ x. means_same at other T x (on_right (leaves F) (leaves T) at other same)) (λ x b. b)) a
-means_same at other (leftover F G T) v same a =
+    (λ x. means_from_same at other T [] x (on_right (leaves F) (leaves T) at other same)) (λ x b. b)) a
+means_from_same at other (cut F server bits rate) fs v same a =
+    let R : SpecCurve → Meaning → Type 0 = λ f. IsCurveIn (IsMadeBy Min f (bucket (whole bits) rate)) in
+    of_curve (Means at F) (Means other F) R R v (λ x. means_from_same at other F [] x same) (λ f b. b) a
+means_from_same at other (part F G) fs v same a =
+    of_curve (Means at F) (Means other F) (λ f. MeansFrom at G (fs ++ f ∷ [])) (λ f. MeansFrom other G (fs ++ f ∷ [])) v
+    (λ x. means_from_same at other F [] x (on_left (leaves F) (leaves G) at other same))
+    (λ f b. means_from_same at other G (fs ++ f ∷ []) v (on_right (leaves F) (leaves G) at other same) b) a
+means_from_same at other no_part fs v same a = a
+means_from_same at other (leftover F G T) fs v same a =
     of_curve (Means at F) (Means other F)
     (λ f. OfCurve (Means at G) (λ g. OfNumber (Means at T) (λ x. IsCurveIn (IsMadeBy (FifoLeft x) f g))))
     (λ f. OfCurve (Means other G) (λ g. OfNumber (Means other T) (λ x. IsCurveIn (IsMadeBy (FifoLeft x) f g)))) v
-    (λ x. means_same at other F x (on_left (leaves F) (leaves G ++ leaves T) at other same))
+    (λ x. means_from_same at other F [] x (on_left (leaves F) (leaves G ++ leaves T) at other same))
     (λ f. of_curve (Means at G) (Means other G)
     (λ g. OfNumber (Means at T) (λ x. IsCurveIn (IsMadeBy (FifoLeft x) f g)))
     (λ g. OfNumber (Means other T) (λ x. IsCurveIn (IsMadeBy (FifoLeft x) f g))) v
-    (λ x. means_same at other G x
+    (λ x. means_from_same at other G [] x
     (on_left (leaves G) (leaves T) at other (on_right (leaves F) (leaves G ++ leaves T) at other same)))
     (λ g. of_number (Means at T) (Means other T) (λ x. IsCurveIn (IsMadeBy (FifoLeft x) f g))
     (λ x. IsCurveIn (IsMadeBy (FifoLeft x) f g)) v
-    (λ x. means_same at other T x
+    (λ x. means_from_same at other T [] x
     (on_right (leaves G) (leaves T) at other (on_right (leaves F) (leaves G ++ leaves T) at other same))) (λ x b. b))) a
-means_same at other (priority f F lower) v same a =
+means_from_same at other (priority f F lower) fs v same a =
     of_curve (Means at F) (Means other F) (λ g. IsCurveIn (IsPriorityCurve f g lower))
-    (λ g. IsCurveIn (IsPriorityCurve f g lower)) v (λ x. means_same at other F x same) (λ g b. b) a
-means_same at other (deficit f quanta longest queue) v same a = a
-means_same at other (horizontal F G) v same a =
+    (λ g. IsCurveIn (IsPriorityCurve f g lower)) v (λ x. means_from_same at other F [] x same) (λ g b. b) a
+means_from_same at other (deficit f quanta longest queue) fs v same a = a
+means_from_same at other (horizontal F G) fs v same a =
     of_curves (Means at F) (Means other F) (Means at G) (Means other G)
     (λ f g. IsNumberIn (IsHorizontalDeviation (value_at f) (value_at g))) v
-    (λ x. means_same at other F x (on_left (leaves F) (leaves G) at other same))
-    (λ x. means_same at other G x (on_right (leaves F) (leaves G) at other same)) a
-means_same at other (vertical F G) v same a =
+    (λ x. means_from_same at other F [] x (on_left (leaves F) (leaves G) at other same))
+    (λ x. means_from_same at other G [] x (on_right (leaves F) (leaves G) at other same)) a
+means_from_same at other (vertical F G) fs v same a =
     of_curves (Means at F) (Means other F) (Means at G) (Means other G)
     (λ f g. IsNumberIn (IsVerticalDeviation (value_at f) (value_at g))) v
-    (λ x. means_same at other F x (on_left (leaves F) (leaves G) at other same))
-    (λ x. means_same at other G x (on_right (leaves F) (leaves G) at other same)) a
-means_same at other (smaller F G) v same a =
+    (λ x. means_from_same at other F [] x (on_left (leaves F) (leaves G) at other same))
+    (λ x. means_from_same at other G [] x (on_right (leaves F) (leaves G) at other same)) a
+means_from_same at other (smaller F G) fs v same a =
     of_number (Means at F) (Means other F) (λ x. OfNumber (Means at G) (λ y w. w ≡ number (min_ext x y)))
     (λ x. OfNumber (Means other G) (λ y w. w ≡ number (min_ext x y))) v
-    (λ x. means_same at other F x (on_left (leaves F) (leaves G) at other same))
+    (λ x. means_from_same at other F [] x (on_left (leaves F) (leaves G) at other same))
     (λ x. of_number (Means at G) (Means other G) (λ y w. w ≡ number (min_ext x y)) (λ y w. w ≡ number (min_ext x y)) v
-    (λ y. means_same at other G y (on_right (leaves F) (leaves G) at other same)) (λ y b. b)) a
-means_same at other (along cells links) v same a =
+    (λ y. means_from_same at other G [] y (on_right (leaves F) (leaves G) at other same)) (λ y b. b)) a
+means_from_same at other (along cells links) fs v same a =
     record { numbers = a.numbers; are = numbers_same at other cells a.numbers same a.are; gives = a.gives }
-means_same at other (delayed F links) v same a =
+means_from_same at other (delayed F links) fs v same a =
     of_number (Means at F) (Means other F) (λ x w. w ≡ number (sum_of_numbers (with_links (x ∷ []) links)))
-    (λ x w. w ≡ number (sum_of_numbers (with_links (x ∷ []) links))) v (λ x. means_same at other F x same) (λ x b. b) a
+    (λ x w. w ≡ number (sum_of_numbers (with_links (x ∷ []) links))) v (λ x. means_from_same at other F [] x same) (λ x b. b) a
+
+pub means_same : (at other : CellTable) (F : Formula) (v : Meaning) → AgreeOn (leaves F) at other → Means at F v
+    → Means other F v
+means_same at other F v same a = means_from_same at other F [] v same a
 
 -- ---- answers
 then_curve : (P M : Answer → Type 0) (Q N : SpecCurve → Answer → Type 0) (r : Answer) → ((s : Answer) → P s → M s)
@@ -130,66 +145,79 @@ then_curves P M Q N R r p q a =
     then_curve P M (λ f. ThenCurve Q (R f)) (λ f. ThenCurve N (R f)) r p
     (λ f b. then_curve Q N (R f) (R f) r q (λ g h. h) b) a
 
-pub answers_same : (at other : CellTable) (F : Formula) (r : Answer) → AgreeOn (leaves F) at other → Answers at F r
-    → Answers other F r
-answers_same at other (value_of c) (Ok v) same a = sym (same c (inl refl)) ∙ a
-answers_same at other (value_of c) (Err e) same a = a
-answers_same at other (given f) r same a = a
-answers_same at other empty_sum r same a = a
-answers_same at other (made op F G) r same a =
+answers_from_same : (at other : CellTable) (F : Formula) (fs : List SpecCurve) (r : Answer) → AgreeOn (leaves F) at other → AnswersFrom at F fs r
+    → AnswersFrom other F fs r
+answers_from_same at other (value_of c) fs (Ok v) same a = sym (same c (inl refl)) ∙ a
+answers_from_same at other (value_of c) fs (Err e) same a = a
+answers_from_same at other (given f) fs r same a = a
+answers_from_same at other empty_sum fs r same a = a
+answers_from_same at other (made op F G) fs r same a =
     then_curves (Answers at F) (Answers other F) (Answers at G) (Answers other G) (λ f g. MakesCurve (Applies op f g)) r
-    (λ x. answers_same at other F x (on_left (leaves F) (leaves G) at other same))
-    (λ x. answers_same at other G x (on_right (leaves F) (leaves G) at other same)) a
-answers_same at other (made_of op F) r same a =
+    (λ x. answers_from_same at other F [] x (on_left (leaves F) (leaves G) at other same))
+    (λ x. answers_from_same at other G [] x (on_right (leaves F) (leaves G) at other same)) a
+answers_from_same at other (made_of op F) fs r same a =
     then_curve (Answers at F) (Answers other F) (λ f. MakesCurve (AppliesTo op f)) (λ f. MakesCurve (AppliesTo op f)) r
-    (λ x. answers_same at other F x same) (λ f b. b) a
-answers_same at other (moved F T) r same a =
+    (λ x. answers_from_same at other F [] x same) (λ f b. b) a
+answers_from_same at other (moved F T) fs r same a =
     then_curve (Answers at F) (Answers other F)
     (λ f. ThenNumber (Answers at T) (λ x. MakesCurve (AppliesTo (Shift x) f)))
     (λ f. ThenNumber (Answers other T) (λ x. MakesCurve (AppliesTo (Shift x) f))) r
-    (λ x. answers_same at other F x (on_left (leaves F) (leaves T) at other same))
+    (λ x. answers_from_same at other F [] x (on_left (leaves F) (leaves T) at other same))
     (λ f. then_number (Answers at T) (Answers other T) (λ x. MakesCurve (AppliesTo (Shift x) f))
     (λ x. MakesCurve (AppliesTo (Shift x) f)) r
-    (λ x. answers_same at other T x (on_right (leaves F) (leaves T) at other same)) (λ x b. b)) a
-answers_same at other (leftover F G T) r same a =
+    (λ x. answers_from_same at other T [] x (on_right (leaves F) (leaves T) at other same)) (λ x b. b)) a
+answers_from_same at other (cut F server bits rate) fs r same a =
+    let Q : SpecCurve → Answer → Type 0 =
+    λ f. ThenCurve (MakesCurve (IsAgain (bucket (whole bits) rate))) (λ g. MakesCurve (Applies Min f g)) in
+    then_curve (Answers at F) (Answers other F) Q Q r (λ x. answers_from_same at other F [] x same) (λ f b. b) a
+answers_from_same at other (part F G) fs r same a =
+    then_curve (Answers at F) (Answers other F) (λ f. AnswersFrom at G (fs ++ f ∷ [])) (λ f. AnswersFrom other G (fs ++ f ∷ [])) r
+    (λ x. answers_from_same at other F [] x (on_left (leaves F) (leaves G) at other same))
+    (λ f b. answers_from_same at other G (fs ++ f ∷ []) r (on_right (leaves F) (leaves G) at other same) b) a
+answers_from_same at other no_part fs r same a = a
+answers_from_same at other (leftover F G T) fs r same a =
     then_curve (Answers at F) (Answers other F)
     (λ f. ThenCurve (Answers at G) (λ g. ThenNumber (Answers at T) (λ x. MakesCurve (Applies (FifoLeft x) f g))))
     (λ f. ThenCurve (Answers other G)
     (λ g. ThenNumber (Answers other T) (λ x. MakesCurve (Applies (FifoLeft x) f g)))) r
-    (λ x. answers_same at other F x (on_left (leaves F) (leaves G ++ leaves T) at other same))
+    (λ x. answers_from_same at other F [] x (on_left (leaves F) (leaves G ++ leaves T) at other same))
     (λ f. then_curve (Answers at G) (Answers other G)
     (λ g. ThenNumber (Answers at T) (λ x. MakesCurve (Applies (FifoLeft x) f g)))
     (λ g. ThenNumber (Answers other T) (λ x. MakesCurve (Applies (FifoLeft x) f g))) r
-    (λ x. answers_same at other G x
+    (λ x. answers_from_same at other G [] x
     (on_left (leaves G) (leaves T) at other (on_right (leaves F) (leaves G ++ leaves T) at other same)))
     (λ g. then_number (Answers at T) (Answers other T) (λ x. MakesCurve (Applies (FifoLeft x) f g))
     (λ x. MakesCurve (Applies (FifoLeft x) f g)) r
-    (λ x. answers_same at other T x
+    (λ x. answers_from_same at other T [] x
     (on_right (leaves G) (leaves T) at other (on_right (leaves F) (leaves G ++ leaves T) at other same))) (λ x b. b))) a
-answers_same at other (priority f F lower) r same a =
+answers_from_same at other (priority f F lower) fs r same a =
     then_curve (Answers at F) (Answers other F) (λ g. MakesCurve (MakesPriority f g lower))
-    (λ g. MakesCurve (MakesPriority f g lower)) r (λ x. answers_same at other F x same) (λ g b. b) a
-answers_same at other (deficit f quanta longest queue) r same a = a
-answers_same at other (horizontal F G) r same a =
+    (λ g. MakesCurve (MakesPriority f g lower)) r (λ x. answers_from_same at other F [] x same) (λ g b. b) a
+answers_from_same at other (deficit f quanta longest queue) fs r same a = a
+answers_from_same at other (horizontal F G) fs r same a =
     then_curves (Answers at F) (Answers other F) (Answers at G) (Answers other G)
     (λ f g. MakesNumber (Deviates Horizontal IsHorizontalDeviation f g)) r
-    (λ x. answers_same at other F x (on_left (leaves F) (leaves G) at other same))
-    (λ x. answers_same at other G x (on_right (leaves F) (leaves G) at other same)) a
-answers_same at other (vertical F G) r same a =
+    (λ x. answers_from_same at other F [] x (on_left (leaves F) (leaves G) at other same))
+    (λ x. answers_from_same at other G [] x (on_right (leaves F) (leaves G) at other same)) a
+answers_from_same at other (vertical F G) fs r same a =
     then_curves (Answers at F) (Answers other F) (Answers at G) (Answers other G)
     (λ f g. MakesNumber (Deviates Vertical IsVerticalDeviation f g)) r
-    (λ x. answers_same at other F x (on_left (leaves F) (leaves G) at other same))
-    (λ x. answers_same at other G x (on_right (leaves F) (leaves G) at other same)) a
-answers_same at other (smaller F G) r same a =
+    (λ x. answers_from_same at other F [] x (on_left (leaves F) (leaves G) at other same))
+    (λ x. answers_from_same at other G [] x (on_right (leaves F) (leaves G) at other same)) a
+answers_from_same at other (smaller F G) fs r same a =
     then_number (Answers at F) (Answers other F)
     (λ x. ThenNumber (Answers at G) (λ y. IsOnly (λ w. w ≡ number (min_ext x y))))
     (λ x. ThenNumber (Answers other G) (λ y. IsOnly (λ w. w ≡ number (min_ext x y)))) r
-    (λ x. answers_same at other F x (on_left (leaves F) (leaves G) at other same))
+    (λ x. answers_from_same at other F [] x (on_left (leaves F) (leaves G) at other same))
     (λ x. then_number (Answers at G) (Answers other G) (λ y. IsOnly (λ w. w ≡ number (min_ext x y)))
     (λ y. IsOnly (λ w. w ≡ number (min_ext x y))) r
-    (λ y. answers_same at other G y (on_right (leaves F) (leaves G) at other same)) (λ y b. b)) a
-answers_same at other (along cells links) r same a =
+    (λ y. answers_from_same at other G [] y (on_right (leaves F) (leaves G) at other same)) (λ y b. b)) a
+answers_from_same at other (along cells links) fs r same a =
     record { numbers = a.numbers; are = numbers_same at other cells a.numbers same a.are; answers = a.answers }
-answers_same at other (delayed F links) r same a =
+answers_from_same at other (delayed F links) fs r same a =
     then_number (Answers at F) (Answers other F) (λ x. MakesNumber (Sums (with_links (x ∷ []) links)))
-    (λ x. MakesNumber (Sums (with_links (x ∷ []) links))) r (λ x. answers_same at other F x same) (λ x b. b) a
+    (λ x. MakesNumber (Sums (with_links (x ∷ []) links))) r (λ x. answers_from_same at other F [] x same) (λ x b. b) a
+
+pub answers_same : (at other : CellTable) (F : Formula) (r : Answer) → AgreeOn (leaves F) at other → Answers at F r
+    → Answers other F r
+answers_same at other F r same a = answers_from_same at other F [] r same a

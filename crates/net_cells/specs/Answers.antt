@@ -1,25 +1,27 @@
 -- What making a formula's value may answer, by a table of the values of its cells: the value, or what the first
 -- operator that is over a limit is refused for. Own choice.
-use Rattle.std.specs.Prelude.{◌≡◌, ◌≢◌, List, [], ◌∷◌, Some, Result, Ok, Err}
+use Rattle.std.specs.Prelude.{◌≡◌, ◌≢◌, List, [], ◌∷◌, ◌++◌, Some, Result, Ok, Err}
 use Rattle.rational.specs.Rational.{ℚ}
 use Rattle.rational.specs.Extended.{Ext, min_ext}
 use Rattle.upp_limits.specs.declared.op_kind.OpKind.{OpKind}
-use Rattle.upp_limits.specs.declared.op_kind.OpKind.TheVariants.{Shift, FifoLeft, Horizontal, Vertical}
+use Rattle.upp_limits.specs.declared.op_kind.OpKind.TheVariants.{Sum, Min, Shift, FifoLeft, Horizontal, Vertical}
 use Rattle.upp_limits.specs.declared.op_kind.OpFault.{OpFault}
 use Rattle.upp_limits.specs.declared.op_kind.OpFault.TheVariants.{NoMemory}
 use Rattle.upp_curve.specs.Curve.{SpecCurve, value_at}
+use Rattle.upp_curve.specs.Kinds.{bucket}
 use Rattle.min_plus.specs.Deviations.{IsHorizontalDeviation, IsVerticalDeviation}
 use Rattle.upp_limits.specs.Outcome.{IsWithin, IsCauseOf}
 use Rattle.curve_call.specs.Again.{IsAgain}
 use Rattle.curve_call.specs.Calls.{Applies, AppliesTo, Then}
 use Rattle.residual_laws.specs.PriorityCalls.{MakesPriority}
 use Rattle.residual_laws.specs.DrrCalls.{MakesDrr}
+use Rattle.run_laws.specs.Cards.{whole}
 use Rattle.net_cells.specs.declared.cell.Cell.{Cell}
 use Rattle.net_cells.specs.Numbered.{zero_curve}
 use Rattle.net_cells.specs.Meanings.{Meaning, curve, number, CellTable, IsCurveIn, IsNumberIn}
 use Rattle.net_cells.specs.NumberSums.{Sums}
 use Rattle.net_cells.specs.Means.{HaveNumbers, with_links}
-use Rattle.net_cells.specs.Formulas.{Formula, value_of, given, empty_sum, made, made_of, moved, leftover, priority, deficit, horizontal, vertical, smaller, along, delayed}
+use Rattle.net_cells.specs.Formulas.{Formula, value_of, given, empty_sum, made, made_of, moved, cut, part, no_part, leftover, priority, deficit, horizontal, vertical, smaller, along, delayed}
 
 abbrev pub Answer : Type 0
 Answer = Result Meaning OpFault
@@ -74,25 +76,46 @@ pub record ThenCells (at : CellTable) (cells : List Cell) (Q : List Ext → Answ
   pub are : HaveNumbers at cells numbers
   pub answers : Q numbers r
 
--- ---- formulas
+-- ---- sums of curves
+-- of one and those after it, added up in their order; of none 0
+abbrev pub SumsOnto : SpecCurve → List SpecCurve → Answer → Type 0
+SumsOnto f [] r = MakesCurve (IsAgain f) r
+SumsOnto f (g ∷ gs) r = ThenCurve (MakesCurve (Applies Sum f g)) (λ h. SumsOnto h gs) r
+
+abbrev pub SumsOf : List SpecCurve → Answer → Type 0
+SumsOf [] r = MakesCurve (IsAgain zero_curve) r
+SumsOf (f ∷ fs) r = SumsOnto f fs r
+
+-- ---- a curve that is cut
+-- the lesser of what P answers and a curve B, for which there may be no memory
+abbrev pub CutsBy : SpecCurve → (Answer → Type 0) → Answer → Type 0
+CutsBy B P r = ThenCurves P (MakesCurve (IsAgain B)) (λ f g. MakesCurve (Applies Min f g)) r
+
+-- ---- formulas, where these parts have been made before
+abbrev pub AnswersFrom : CellTable → Formula → List SpecCurve → Answer → Type 0
+AnswersFrom at (value_of c) fs r = IsOnly (λ v. at c ≡ Some v) r
+AnswersFrom at (given f) fs r = MakesCurve (IsAgain f) r
+AnswersFrom at empty_sum fs r = MakesCurve (IsAgain zero_curve) r
+AnswersFrom at (made op F G) fs r = ThenCurves (AnswersFrom at F []) (AnswersFrom at G []) (λ f g. MakesCurve (Applies op f g)) r
+AnswersFrom at (made_of op F) fs r = ThenCurve (AnswersFrom at F []) (λ f. MakesCurve (AppliesTo op f)) r
+AnswersFrom at (moved F T) fs r =
+    ThenCurve (AnswersFrom at F []) (λ f. ThenNumber (AnswersFrom at T []) (λ x. MakesCurve (AppliesTo (Shift x) f))) r
+AnswersFrom at (cut F server bits rate) fs r = CutsBy (bucket (whole bits) rate) (AnswersFrom at F []) r
+AnswersFrom at (part F G) fs r = ThenCurve (AnswersFrom at F []) (λ f. AnswersFrom at G (fs ++ f ∷ [])) r
+AnswersFrom at no_part fs r = SumsOf fs r
+AnswersFrom at (leftover F G T) fs r =
+    ThenCurves (AnswersFrom at F []) (AnswersFrom at G [])
+    (λ f g. ThenNumber (AnswersFrom at T []) (λ x. MakesCurve (Applies (FifoLeft x) f g))) r
+AnswersFrom at (priority f F lower) fs r = ThenCurve (AnswersFrom at F []) (λ g. MakesCurve (MakesPriority f g lower)) r
+AnswersFrom at (deficit f quanta longest queue) fs r = MakesCurve (MakesDrr f quanta longest queue) r
+AnswersFrom at (horizontal F G) fs r =
+    ThenCurves (AnswersFrom at F []) (AnswersFrom at G []) (λ f g. MakesNumber (Deviates Horizontal IsHorizontalDeviation f g)) r
+AnswersFrom at (vertical F G) fs r =
+    ThenCurves (AnswersFrom at F []) (AnswersFrom at G []) (λ f g. MakesNumber (Deviates Vertical IsVerticalDeviation f g)) r
+AnswersFrom at (smaller F G) fs r =
+    ThenNumbers (AnswersFrom at F []) (AnswersFrom at G []) (λ x y. IsOnly (λ v. v ≡ number (min_ext x y))) r
+AnswersFrom at (along cells links) fs r = ThenCells at cells (λ xs. MakesNumber (Sums (with_links xs links))) r
+AnswersFrom at (delayed F links) fs r = ThenNumber (AnswersFrom at F []) (λ x. MakesNumber (Sums (with_links (x ∷ []) links))) r
+
 abbrev pub Answers : CellTable → Formula → Answer → Type 0
-Answers at (value_of c) r = IsOnly (λ v. at c ≡ Some v) r
-Answers at (given f) r = MakesCurve (IsAgain f) r
-Answers at empty_sum r = MakesCurve (IsAgain zero_curve) r
-Answers at (made op F G) r = ThenCurves (Answers at F) (Answers at G) (λ f g. MakesCurve (Applies op f g)) r
-Answers at (made_of op F) r = ThenCurve (Answers at F) (λ f. MakesCurve (AppliesTo op f)) r
-Answers at (moved F T) r =
-    ThenCurve (Answers at F) (λ f. ThenNumber (Answers at T) (λ x. MakesCurve (AppliesTo (Shift x) f))) r
-Answers at (leftover F G T) r =
-    ThenCurves (Answers at F) (Answers at G)
-    (λ f g. ThenNumber (Answers at T) (λ x. MakesCurve (Applies (FifoLeft x) f g))) r
-Answers at (priority f F lower) r = ThenCurve (Answers at F) (λ g. MakesCurve (MakesPriority f g lower)) r
-Answers at (deficit f quanta longest queue) r = MakesCurve (MakesDrr f quanta longest queue) r
-Answers at (horizontal F G) r =
-    ThenCurves (Answers at F) (Answers at G) (λ f g. MakesNumber (Deviates Horizontal IsHorizontalDeviation f g)) r
-Answers at (vertical F G) r =
-    ThenCurves (Answers at F) (Answers at G) (λ f g. MakesNumber (Deviates Vertical IsVerticalDeviation f g)) r
-Answers at (smaller F G) r =
-    ThenNumbers (Answers at F) (Answers at G) (λ x y. IsOnly (λ v. v ≡ number (min_ext x y))) r
-Answers at (along cells links) r = ThenCells at cells (λ xs. MakesNumber (Sums (with_links xs links))) r
-Answers at (delayed F links) r = ThenNumber (Answers at F) (λ x. MakesNumber (Sums (with_links (x ∷ []) links))) r
+Answers at F r = AnswersFrom at F [] r

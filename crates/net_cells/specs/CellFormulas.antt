@@ -1,7 +1,7 @@
 -- What each cell of a network is made of. (Le Boudec and Thiran; Bouillard, Boyer and Le Corronc: total-flow and
 -- separate-flow analysis. That the smaller of two delays, the lesser of two output curves and the smaller of the two
 -- bounds are taken, and the others' horizontal deviation from the service as theta, is our own choice.)
-use Rattle.std.specs.Prelude.{ℕ, zero, suc, ◌-◌, List, [], ◌∷◌, length, map}
+use Rattle.std.specs.Prelude.{ℕ, zero, suc, ◌-◌, Bool, true, false, ◌==◌, List, [], ◌∷◌, length, map}
 use Rattle.std.specs.List.{range_with_len}
 use Rattle.rational.specs.Rational.{ℚ}
 use Rattle.upp_limits.specs.declared.op_kind.OpKind.TheVariants.{Sum, Min, PosMinus, Convolve, Deconvolve}
@@ -11,11 +11,12 @@ use Rattle.net_model.specs.Networks.{Net}
 use Rattle.net_cells.specs.declared.cell.Cell.{Cell}
 use Rattle.net_cells.specs.declared.cell.Kind.{Kind}
 use Rattle.net_cells.specs.declared.cell.Kind.TheVariants.{In, Cross, Total, Higher, QueueService, Theta, Residual, QueueDelay, QueueBacklog, HopDelay, ShiftOut, DeconvOut, Out, PathService, Tfa, Sfa, Bound}
-use Rattle.net_cells.specs.Numbered.{path, packet, arrival, hops, server_of_hop, queue_of_hop, service, link, discipline}
-use Rattle.net_cells.specs.Visits.{visits_in, others, longest, longest_after}
+use Rattle.net_cells.specs.Numbered.{path, packet, arrival, hops, server_of_hop, queue_of_hop, service, rate, link, discipline}
+use Rattle.net_cells.specs.Visits.{Visit, visits_in, others, longest_of, longest, longest_after}
+use Rattle.net_cells.specs.QueueParts.{in_part, part_numbers}
 use Rattle.net_cells.specs.Cells.{cell_of}
 use Rattle.net_cells.specs.Order.{at_visit}
-use Rattle.net_cells.specs.Formulas.{Formula, value_of, given, empty_sum, made, made_of, moved, leftover, priority, deficit, horizontal, vertical, smaller, along, delayed}
+use Rattle.net_cells.specs.Formulas.{Formula, value_of, given, empty_sum, made, made_of, moved, cut, part, no_part, leftover, priority, deficit, horizontal, vertical, smaller, along, delayed}
 
 -- ---- words
 abbrev pub value : Kind → ℕ → ℕ → Formula
@@ -39,6 +40,29 @@ abbrev pub service_at : Net → ℕ → ℕ → Formula
 service_at net i k = value QueueService (server_of_hop net i k) (queue_of_hop net i k)
 
 -- ---- queues
+-- the sum of the curves with which some hops come
+abbrev pub sum_of_hops : List Visit → Formula
+sum_of_hops vs = sum_of_cells (map (at_visit In) vs)
+
+-- of those of a part; cut by the link over which they come, by the longest packet and the rate of the server before
+abbrev pub part_sum : Net → ℕ → List Visit → Formula
+part_sum net zero vs = sum_of_hops vs
+part_sum net (suc p) vs = cut (sum_of_hops vs) p (longest_of net vs) (rate net p)
+
+-- a part that has some, and those after it
+abbrev pub with_part : Net → ℕ → List Visit → Formula → Formula
+with_part net k [] rest = rest
+with_part net k (v ∷ vs) rest = part (part_sum net k (v ∷ vs)) rest
+
+abbrev pub parts_sum : Net → (s q : ℕ) → List ℕ → Formula
+parts_sum net s q [] = no_part
+parts_sum net s q (k ∷ ks) = with_part net k (in_part net s q k) (parts_sum net s q ks)
+
+-- the sum of a queue's flows; in version 2 that of its parts
+abbrev pub total : (by_links : Bool) → Net → (s q : ℕ) → Formula
+total false net s q = sum_of_hops (visits_in net s q)
+total true net s q = parts_sum net s q (part_numbers net)
+
 -- the sum of the curves of the queues before one
 abbrev pub higher : ℕ → ℕ → Formula
 higher s q = sum_of_cells (map (cell_of Total s) (range_with_len 0 q))
@@ -77,7 +101,7 @@ abbrev pub formula_of : Net → Kind → ℕ → ℕ → Formula
 formula_of net In i k = arriving net i k
 formula_of net Cross i k = sum_of_cells
     (map (at_visit In) (others net i (server_of_hop net i k) (queue_of_hop net i k)))
-formula_of net Total s q = sum_of_cells (map (at_visit In) (visits_in net s q))
+formula_of net Total s q = total (net.version == 2) net s q
 formula_of net Higher s q = higher s q
 formula_of net QueueService s q = queue_service net s q (discipline net s)
 formula_of net Theta i k = horizontal (value Cross i k) (service_at net i k)

@@ -1,5 +1,6 @@
 pub mod Numbered
 pub mod Visits
+pub mod QueueParts
 pub mod Cells
 pub mod Order
 pub mod Meanings

@@ -71,6 +71,10 @@ abbrev pub service_of : Option NetServer → SpecCurve
 service_of None = zero_curve
 service_of (Some s) = s.service
 
+abbrev pub rate_of : Option NetServer → ℚ
+rate_of None = zero_q
+rate_of (Some s) = s.rate
+
 abbrev pub link_of : Option NetServer → ℚ
 link_of None = zero_q
 link_of (Some s) = s.link
@@ -79,9 +83,12 @@ abbrev pub discipline_of : Option NetServer → Discipline
 discipline_of None = Priority 0
 discipline_of (Some s) = s.discipline
 
--- the service curve of a server, how long a packet that leaves it is on the way, and how it chooses among packets
+-- the service curve of a server, its rate, how long a packet that leaves it is on the way, and how it chooses among packets
 abbrev pub service : Net → ℕ → SpecCurve
 service net s = service_of (slice_get net.servers s)
+
+abbrev pub rate : Net → ℕ → ℚ
+rate net s = rate_of (slice_get net.servers s)
 
 abbrev pub link : Net → ℕ → ℚ
 link net s = link_of (slice_get net.servers s)

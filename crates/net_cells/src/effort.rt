@@ -9,6 +9,7 @@ ghost use Rattle.net_cells.specs.Work as spec;
 
 use crate::cell::{Cell, Kind};
 use crate::numbered::{hops, live_flow, number_at, queue_of_hop, server, server_of_hop};
+use crate::parts::parts_work;
 use net_model::{Discipline, Flow, Network};
 
 // ---- hops in a queue
@@ -80,7 +81,11 @@ fn for_terms(terms: u32) -> u32
 fn for_total(net: &Network, cell: Cell) -> u32
     ensures { result ≡ spec.kind_work net.now Total cell.a cell.b }
 {
-    for_terms(count_in(net, cell.a, cell.b))
+    if net.version() == 2 {
+        parts_work(net, cell.a, cell.b)
+    } else {
+        for_terms(count_in(net, cell.a, cell.b))
+    }
 }
 
 fn for_cross(net: &Network, cell: Cell) -> u32
@@ -105,7 +110,8 @@ fn for_service(net: &Network, cell: Cell) -> u32
     }
 }
 
-/// How many operators on curves a cell takes: the terms of a sum less one; 3 for a priority queue's service and 2 for a
+/// How many operators on curves a cell takes: the terms of a sum less one, and in version 2 one more for each server from
+/// which flows come to a queue; 3 for a priority queue's service and 2 for a
 /// deficit round robin queue's; 2 for each hop of a path but the last; 2 for a backlog and for an output by its
 /// service; 1 for the others that compute; 0 where a value is handed on, or numbers alone are computed with. It takes
 /// no memory.

@@ -9,6 +9,7 @@ mod laws;
 mod numbered;
 mod operand;
 mod order;
+mod parts;
 mod visit;
 
 pub use cell::{Cell, Kind, Scope};
@@ -23,4 +24,5 @@ pub use numbered::{
 };
 pub use operand::{operands, visits_in};
 pub use order::cells;
+pub use parts::part_of;
 pub use visit::{Visit, visits};

@@ -14,6 +14,7 @@ ghost use Rattle.net_cells.specs.CellFormulas.{formula, formula_of};
 use crate::cell::{Cell, Kind};
 use crate::numbered::{hops, is_by_priority, queue_of_hop, server_of_hop};
 use crate::order::{push_numbers, push_visits};
+use crate::parts::by_parts;
 use crate::visit::{Visit, visits};
 use net_model::Network;
 use std::alloc::{AllocError, Global};
@@ -136,7 +137,11 @@ fn total(alloc: Global, net: &Network, cell: Cell) -> Result<Vec<Cell>, AllocErr
     ensures { IfOk result (λ v. v.items ≡ leaves (formula_of net.now Total cell.a cell.b)) }
 {
     let here = visits_in(alloc, net, cell.a, cell.b)?;
-    of_visits(alloc, &here)
+    if net.version() == 2 {
+        by_parts(alloc, net, &here)
+    } else {
+        of_visits(alloc, &here)
+    }
 }
 
 // Higher queues are looked at by priority alone.

@@ -380,7 +380,7 @@ flows_k servers ms = next (allowed (list_in 0 256) [] (list_k 0 256) (codes "flo
 root_k : (ms : Members) → Faults (root_of ms)
 unfolding root_of
 root_k ms =
-    next (only_k (codes "version" ∷ codes "server" ∷ codes "flow" ∷ []) [] ms) (λ u. next (allowed (whole_in 1 1) 1 (whole_k 1 1) (codes "version") [] ms) (λ version. next (servers_k ms) (λ servers.
+    next (only_k (codes "version" ∷ codes "server" ∷ codes "flow" ∷ []) [] ms) (λ u. next (allowed (whole_in 1 2) 1 (whole_k 1 2) (codes "version") [] ms) (λ version. next (servers_k ms) (λ servers.
     next (flows_k servers ms) (λ flows. next (fit_k flows 0 servers) (λ v. fine (record { version = version; servers = servers; flows = flows }))))))
 
 draft_k : (tree : Option Members) → Faults (draft_in tree)

@@ -54,7 +54,7 @@ flows_of servers ms =
 unfoldable pub root_of : Members → Read DraftText
 root_of ms =
     only (codes "version" ∷ codes "server" ∷ codes "flow" ∷ []) [] ms >>= λ _.
-    at_key (codes "version") (optional (whole_in 1 1) 1) [] ms >>= λ version.
+    at_key (codes "version") (optional (whole_in 1 2) 1) [] ms >>= λ version.
     servers_of ms >>= λ servers.
     flows_of servers ms >>= λ flows.
     quanta_fit flows 0 servers >>= λ _.

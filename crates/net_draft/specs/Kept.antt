@@ -4,7 +4,7 @@ use Rattle.std.specs.String.{string_bytes}
 use Rattle.rational.specs.Rational.{ℚ, ◌≤ℚ◌, ◌<ℚ◌}
 use Rattle.min_plus.specs.Functions.{zero_q}
 use Rattle.net_model.specs.Names.{IsName}
-use Rattle.net_model.specs.Accepted.{IsLength, HasFewQueues}
+use Rattle.net_model.specs.Accepted.{IsVersion, IsLength, HasFewQueues}
 use Rattle.net_model.specs.Views.{discipline_of}
 use Rattle.net_draft.specs.declared.curve_draft.CurveDraft.{CurveDraft}
 use Rattle.net_draft.specs.declared.server_draft.ServerDraft.{ServerDraft}
@@ -49,7 +49,7 @@ pub record IsFlowDraft (servers : List ServerText) (f : FlowDraft) : Type 0 wher
   pub once : AllPairs (λ a b. a.server ≢ b.server) f.path.items
 
 pub record IsDraft (d : Draft) : Type 0 where
-  pub version : d.version ≡ 1
+  pub version : IsVersion d.version
   pub few_servers : length d.servers.items ≤ 64
   pub few_flows : length d.flows.items ≤ 256
   pub server_names : AllPairs (λ s t. s.name ≢ t.name) (map server_text d.servers.items)

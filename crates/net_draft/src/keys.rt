@@ -6,6 +6,7 @@ ghost use Rattle.std.specs.Str.{bytes_eq};
 ghost use Rattle.rational.specs.Rational.{int, ◌≤ℚ◌, ◌<ℚ◌};
 ghost use Rattle.toml.specs.View.{view, table_view};
 ghost use Rattle.toml.specs.Data.{get_member};
+ghost use Rattle.net_model.specs.Accepted.{IsVersion};
 ghost use Rattle.net_draft.specs.Faults.{Gives, placed};
 ghost use Rattle.net_draft.specs.Values.{at_key, required, optional, truth_in, table_in};
 ghost use Rattle.net_draft.specs.Values.{number_in, positive_in, nonnegative_in, whole_in, list_in};
@@ -184,11 +185,11 @@ pub(crate) fn required_whole(
     )
 }
 
-/// The version: 1, also where there is none.
+/// The version: 1 or 2, and 1 where there is none.
 pub(crate) fn version(alloc: Global, table: &Table) -> Result<u32, DraftFault>
     ensures value { Gives (λ n. n) result
-        (at_key (codes "version") (optional (whole_in 1 1) 1) [] (table_view table.now)) }
-    ensures range { IfOk result (λ n. n ≡ 1) }
+        (at_key (codes "version") (optional (whole_in 1 2) 1) [] (table_view table.now)) }
+    ensures range { IfOk result IsVersion }
 {
     value_at!(
         alloc,
@@ -196,7 +197,7 @@ pub(crate) fn version(alloc: Global, table: &Table) -> Result<u32, DraftFault>
         "",
         "version",
         Ok(1),
-        |value| whole_in(value, 1, 1)
+        |value| whole_in(value, 1, 2)
     )
 }
 

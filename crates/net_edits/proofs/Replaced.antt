@@ -21,23 +21,23 @@ same_parts v w ss ts fs gs p q r =
     ∙ ap (λ (x : List NetServer). of_parts w x fs) q
     ∙ ap (λ (x : List (Option NetFlow)). of_parts w ts x) r
 
-pub server_replaced : (net copy : Net) (ss : List Server) (fs : List (Option Flow)) (i : ℕ) (server : Server) → copy ≡ net
-    → net.version ≡ 1 → servers_of ss ≡ copy.servers → flows_of fs ≡ copy.flows
-    → net_of 1 (slice_set ss i server) fs ≡ put_server net i (server_of server)
-server_replaced net copy ss fs i server is version servers flows =
-    same_parts 1 net.version (servers_of (slice_set ss i server)) (slice_set net.servers i (server_of server)) (flows_of fs) net.flows
-    (sym version)
+pub server_replaced : (net copy : Net) (version : ℕ) (ss : List Server) (fs : List (Option Flow)) (i : ℕ) (server : Server) → copy ≡ net
+    → version ≡ net.version → servers_of ss ≡ copy.servers → flows_of fs ≡ copy.flows
+    → net_of version (slice_set ss i server) fs ≡ put_server net i (server_of server)
+server_replaced net copy version ss fs i server is own servers flows =
+    same_parts version net.version (servers_of (slice_set ss i server)) (slice_set net.servers i (server_of server)) (flows_of fs) net.flows
+    own
     (map-set server_of ss i server
     ∙ ap (λ (xs : List NetServer). slice_set xs i (server_of server)) (servers ∙ ap (λ (n : Net). n.servers) is))
     (flows ∙ ap (λ (n : Net). n.flows) is)
 
-pub flow_replaced : (net copy : Net) (ss : List Server) (fs : List (Option Flow)) (i : ℕ) (place : Option Flow) → copy ≡ net
-    → net.version ≡ 1 → servers_of ss ≡ copy.servers → flows_of fs ≡ copy.flows
-    → net_of 1 ss (slice_set fs i place) ≡ put_flow net i (option_map flow_of place)
-flow_replaced net copy ss fs i place is version servers flows =
-    same_parts 1 net.version (servers_of ss) net.servers (flows_of (slice_set fs i place))
+pub flow_replaced : (net copy : Net) (version : ℕ) (ss : List Server) (fs : List (Option Flow)) (i : ℕ) (place : Option Flow) → copy ≡ net
+    → version ≡ net.version → servers_of ss ≡ copy.servers → flows_of fs ≡ copy.flows
+    → net_of version ss (slice_set fs i place) ≡ put_flow net i (option_map flow_of place)
+flow_replaced net copy version ss fs i place is own servers flows =
+    same_parts version net.version (servers_of ss) net.servers (flows_of (slice_set fs i place))
     (slice_set net.flows i (option_map flow_of place))
-    (sym version)
+    own
     (servers ∙ ap (λ (n : Net). n.servers) is)
     (map-set (option_map flow_of) fs i place
     ∙ ap (λ (xs : List (Option NetFlow)). slice_set xs i (option_map flow_of place)) (flows ∙ ap (λ (n : Net). n.flows) is))

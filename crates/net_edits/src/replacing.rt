@@ -22,7 +22,7 @@ pub(crate) fn with_server(net: &Network, number: u32, server: Server) -> Result<
 {
     let (mut servers, flows) = net.copy()?.into_parts();
     servers[number as usize] = server;
-    Ok(Network::new(servers, flows))
+    Ok(Network::of_version(net.version(), servers, flows))
 }
 
 /// The network with a server at a number, or a bad value where some quantum would be below a packet in its queue.
@@ -40,7 +40,7 @@ pub(crate) fn with_fitting_server(
     let (mut servers, flows) = net.copy()?.into_parts();
     servers[number as usize] = server;
     if all_fit(&servers, &flows) {
-        Ok(Network::new(servers, flows))
+        Ok(Network::of_version(net.version(), servers, flows))
     } else {
         Err(EditFault::BadValue)
     }
@@ -58,7 +58,7 @@ pub(crate) fn with_flow(
 {
     let (servers, mut flows) = net.copy()?.into_parts();
     flows[number as usize] = place;
-    Ok(Network::new(servers, flows))
+    Ok(Network::of_version(net.version(), servers, flows))
 }
 
 /// The network with one flow more.
@@ -68,5 +68,5 @@ pub(crate) fn with_more(net: &Network, flow: Flow) -> Result<Network, AllocError
 {
     let (servers, mut flows) = net.copy()?.into_parts();
     flows.push(Some(flow))?;
-    Ok(Network::new(servers, flows))
+    Ok(Network::of_version(net.version(), servers, flows))
 }

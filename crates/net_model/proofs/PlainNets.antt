@@ -169,7 +169,7 @@ plain_place_is_flow n number (s ∷ ss) f h p e =
 
 pub plain_is_accepted : (n : ℕ) (paths : List (List ℕ)) → is_plain n paths ≡ true → IsAccepted (plain_net n paths)
 plain_is_accepted n paths passed = record {
-  version = refl;
+  version = (omega arith, omega arith);
   few_servers = omega (arith, count, plain.servers);
   few_flows = omega (arith, places, plain.count);
   names = (own_servers, own_flows);

@@ -12,6 +12,10 @@ use Rattle.net_model.specs.Networks.{Net, NetServer, NetFlow}
 use Rattle.net_model.specs.Names.{IsName, HaveOwnNames}
 use Rattle.min_plus.specs.Continuity.{IsContinuous}
 
+-- the versions of network files: 1, and 2, in which servers have a pace
+abbrev pub IsVersion : ℕ → Type 0
+IsVersion version = (1 ≤ version) × (version ≤ 2)
+
 -- packets and quanta have 1 to 2^24 bits
 abbrev pub IsLength : ℕ → Type 0
 IsLength bits = (1 ≤ bits) × (bits ≤ 2 ^ 24)
@@ -82,7 +86,7 @@ pub record IsFlow (servers : List NetServer) (f : NetFlow) : Type 0 where
 -- ---- networks
 -- at most 64 servers and 256 places for flows, with names of their own
 pub record IsAccepted (net : Net) : Type 0 where
-  pub version : net.version ≡ 1
+  pub version : IsVersion net.version
   pub few_servers : length net.servers ≤ 64
   pub few_flows : length net.flows ≤ 256
   pub names : HaveOwnNames net

@@ -35,13 +35,25 @@ impl Network {
     ghost use Rattle.net_model.specs.Names.{FindsServer, FindsFlow};
     ghost use Rattle.net_model.specs.Views.{net_of, flows_of, servers_of};
 
-    /// The network of servers and flows that may stand together.
+    /// The network of servers and flows that may stand together, in version 1.
     pub fn new(servers: Vec<Server>, flows: Vec<Option<Flow>>) -> Network
         requires { IsAccepted (net_of 1 servers.items flows.items) }
         ensures { result ≡ net_of 1 servers.items flows.items }
     {
         Network {
             version: 1,
+            servers,
+            flows,
+        }
+    }
+
+    /// The same in a version of its own: 1, or 2, in which servers have a pace.
+    pub fn of_version(version: u32, servers: Vec<Server>, flows: Vec<Option<Flow>>) -> Network
+        requires { IsAccepted (net_of version servers.items flows.items) }
+        ensures { result ≡ net_of version servers.items flows.items }
+    {
+        Network {
+            version,
             servers,
             flows,
         }
@@ -72,7 +84,8 @@ impl Network {
 
     /// The version of its file.
     pub fn version(&self) -> u32
-        ensures { result ≡ self.now.version }
+        ensures version { result ≡ self.now.version }
+        ensures kept { IsAccepted self.now }
     {
         self.version
     }

@@ -12,7 +12,7 @@ use Rattle.upp_limits.specs.declared.own_limits.OverLimit.{OverLimit}
 use Rattle.run_laws.specs.Servers.{Discipline, queue_count}
 use Rattle.closure_laws.proofs.KeptShapes.{closures_keep}
 use Rattle.net_model.specs.declared.server.ServiceKind.{ServiceKind}
-use Rattle.net_model.specs.Accepted.{IsLength, HasFewQueues, IsInQuantum, IsOfKind, IsServer, IsArrivalCurve, IsHop, IsFlow, IsAccepted}
+use Rattle.net_model.specs.Accepted.{IsVersion, IsLength, HasFewQueues, IsInQuantum, IsOfKind, IsServer, IsArrivalCurve, IsHop, IsFlow, IsAccepted}
 use Rattle.net_model.specs.Names.{IsName, DifferInName}
 use Rattle.net_model.specs.Networks.{Net, NetServer, NetFlow}
 use Rattle.net_draft.specs.declared.hop.Hop.{Hop}
@@ -139,7 +139,7 @@ module _ (Over : SpecCurve → OverLimit → Type 0) where
       let many : length net.servers ≡ length d.servers.items = zip_length IsServerOf ts net.servers b.servers ∙ length-map d.servers.items server_text in
       let more : length net.flows ≡ length d.flows.items = zip_length (IsLiveFlowOf Over) fs net.flows b.flows ∙ length-map d.flows.items flow_text in
       record {
-        version = b.version ∙ h.version;
+        version = subst IsVersion (sym b.version) h.version;
         few_servers = omega (arith, h.few_servers, many);
         few_flows = omega (arith, h.few_flows, more);
         names = (

@@ -40,7 +40,7 @@ fn network_of<L: Ledger>(
     let draft = read_draft(alloc, text)?;
     let servers = servers_of(alloc, &draft.servers)?;
     let flows = flows_of(alloc, &draft.flows, steps)?;
-    Ok(Network::new(servers, flows))
+    Ok(Network::of_version(draft.version, servers, flows))
 }
 
 /// The network that the bytes of a file give, or its first fault: of its tables in their order, and past them of the

@@ -6,7 +6,7 @@ use std::test::Fail;
 #[test]
 fn bounds(rt: HostRuntime) -> Result<(), Fail> {
     let alloc = rt.alloc();
-    let rows: [(&str, &[(&str, &str)], u8, &str); 11] = [
+    let rows: [(&str, &[(&str, &str)], u8, &str); 13] = [
         // a_flow_faster_than_its_server
         (
             "netcalc analyse n.toml",
@@ -166,6 +166,73 @@ path = ["s1"]
 queue s1 0 delay 190 backlog 19950
 flow f1 tfa 190 sfa 3730/19 bound 190
 flow f2 tfa 190 sfa 590/3 bound 190
+"#,
+        ),
+        // two_flows_over_two_servers
+        (
+            "netcalc analyse n.toml",
+            &[(
+                "n.toml",
+                r#"[[server]]
+name = "s1"
+rate = 100
+service = { kind = "latency", latency = 10 }
+[[server]]
+name = "s2"
+rate = 100
+service = { kind = "latency", latency = 10 }
+[[flow]]
+name = "f1"
+packet = 12000
+arrival = { kind = "bucket", burst = 12000, rate = 10 }
+path = ["s1", "s2"]
+[[flow]]
+name = "f2"
+packet = 6000
+arrival = { kind = "bucket", burst = 6000, rate = 5 }
+path = ["s1", "s2"]
+"#,
+            )],
+            0,
+            r#"servers 2 flows 2
+queue s1 0 delay 190 backlog 19950
+queue s2 0 delay 437/2 backlog 22800
+flow f1 tfa 817/2 sfa 15281/38 bound 15281/38
+flow f2 tfa 817/2 sfa 1237/3 bound 817/2
+"#,
+        ),
+        // two_flows_that_share_a_link
+        (
+            "netcalc analyse n.toml",
+            &[(
+                "n.toml",
+                r#"version = 2
+[[server]]
+name = "s1"
+rate = 100
+service = { kind = "latency", latency = 10 }
+[[server]]
+name = "s2"
+rate = 100
+service = { kind = "latency", latency = 10 }
+[[flow]]
+name = "f1"
+packet = 12000
+arrival = { kind = "bucket", burst = 12000, rate = 10 }
+path = ["s1", "s2"]
+[[flow]]
+name = "f2"
+packet = 6000
+arrival = { kind = "bucket", burst = 6000, rate = 5 }
+path = ["s1", "s2"]
+"#,
+            )],
+            0,
+            r#"servers 2 flows 2
+queue s1 0 delay 190 backlog 19950
+queue s2 0 delay 130 backlog 22800
+flow f1 tfa 320 sfa 15281/38 bound 320
+flow f2 tfa 320 sfa 1237/3 bound 320
 "#,
         ),
         // two_hops
@@ -762,7 +829,7 @@ path = ["s1"]
 #[test]
 fn checks(rt: HostRuntime) -> Result<(), Fail> {
     let alloc = rt.alloc();
-    let rows: [(&str, &[(&str, &str)], u8, &str); 35] = [
+    let rows: [(&str, &[(&str, &str)], u8, &str); 39] = [
         // a_bit_too_many
         (
             "netcalc check n.toml r.csv",
@@ -1477,6 +1544,41 @@ peak s1 1 6000 bound 8750
 verdict admissible
 "#,
         ),
+        // fast_work_on_the_second_packet
+        (
+            "netcalc check n.toml r.csv",
+            &[
+                (
+                    "n.toml",
+                    r#"version = 2
+
+[[server]]
+name = "s1"
+rate = 100
+service = { kind = "latency", latency = 10 }
+
+[[flow]]
+name = "f1"
+packet = 12000
+arrival = { kind = "bucket", burst = 12000, rate = 10 }
+path = ["s1"]
+"#,
+                ),
+                (
+                    "r.csv",
+                    r#"enter,0,f1,6000
+enter,0,f1,6000
+work,s1,1,0,30,6000
+end,60
+"#,
+                ),
+            ],
+            9,
+            r#"servers 1 flows 1
+run packets 2 end 60
+verdict unlawful row 3 L5
+"#,
+        ),
         // no_packet
         (
             "netcalc check n.toml r.csv",
@@ -1807,6 +1909,114 @@ run packets 2 end 0
 worst f1 0 bound 130
 peak s1 0 24000 bound 13300
 verdict breach arrival f1 0 1
+"#,
+        ),
+        // work_as_fast_in_version_1
+        (
+            "netcalc check n.toml r.csv",
+            &[
+                (
+                    "n.toml",
+                    r#"[[server]]
+name = "s1"
+rate = 100
+service = { kind = "latency", latency = 10 }
+
+[[flow]]
+name = "f1"
+packet = 12000
+arrival = { kind = "bucket", burst = 12000, rate = 10 }
+path = ["s1"]
+"#,
+                ),
+                (
+                    "r.csv",
+                    r#"enter,0,f1,12000
+work,s1,0,0,60,12000
+leave,60,s1,0
+end,60
+"#,
+                ),
+            ],
+            0,
+            r#"servers 1 flows 1
+run packets 1 end 60
+worst f1 60 bound 130
+peak s1 0 12000 bound 13300
+verdict admissible
+"#,
+        ),
+        // work_at_the_rate_in_version_2
+        (
+            "netcalc check n.toml r.csv",
+            &[
+                (
+                    "n.toml",
+                    r#"version = 2
+
+[[server]]
+name = "s1"
+rate = 100
+service = { kind = "latency", latency = 10 }
+
+[[flow]]
+name = "f1"
+packet = 12000
+arrival = { kind = "bucket", burst = 12000, rate = 10 }
+path = ["s1"]
+"#,
+                ),
+                (
+                    "r.csv",
+                    r#"enter,0,f1,12000
+work,s1,0,10,70,6000
+work,s1,0,70,130,6000
+leave,130,s1,0
+end,130
+"#,
+                ),
+            ],
+            0,
+            r#"servers 1 flows 1
+run packets 1 end 130
+worst f1 130 bound 130
+peak s1 0 12000 bound 13300
+verdict admissible
+"#,
+        ),
+        // work_faster_than_its_server
+        (
+            "netcalc check n.toml r.csv",
+            &[
+                (
+                    "n.toml",
+                    r#"version = 2
+
+[[server]]
+name = "s1"
+rate = 100
+service = { kind = "latency", latency = 10 }
+
+[[flow]]
+name = "f1"
+packet = 12000
+arrival = { kind = "bucket", burst = 12000, rate = 10 }
+path = ["s1"]
+"#,
+                ),
+                (
+                    "r.csv",
+                    r#"enter,0,f1,12000
+work,s1,0,0,60,12000
+leave,60,s1,0
+end,60
+"#,
+                ),
+            ],
+            9,
+            r#"servers 1 flows 1
+run packets 1 end 60
+verdict unlawful row 2 L8
 "#,
         ),
         // work_in_two_parts
@@ -2679,7 +2889,7 @@ path = ["s1"]
 #[test]
 fn edits(rt: HostRuntime) -> Result<(), Fail> {
     let alloc = rt.alloc();
-    let rows: [(&str, &[(&str, &str)], u8, &str); 15] = [
+    let rows: [(&str, &[(&str, &str)], u8, &str); 16] = [
         // a_cell_that_is_too_wide
         (
             "netcalc edit n.toml e.csv",
@@ -3134,6 +3344,55 @@ queue s2 0 delay 143 backlog 14600
 flow f1 tfa 273 sfa 260 bound 260
 "#,
         ),
+        // a_rate_and_a_packet_two_servers_before_a_sum
+        (
+            "netcalc edit n.toml e.csv",
+            &[
+                (
+                    "e.csv",
+                    r#"rate,s1,200
+packet,f1,6000
+"#,
+                ),
+                (
+                    "n.toml",
+                    r#"version = 2
+[[server]]
+name = "s1"
+rate = 100
+service = { kind = "latency", latency = 10 }
+[[server]]
+name = "s2"
+rate = 100
+service = { kind = "latency", latency = 10 }
+[[server]]
+name = "s3"
+rate = 100
+service = { kind = "latency", latency = 10 }
+[[flow]]
+name = "f1"
+packet = 12000
+arrival = { kind = "bucket", burst = 12000, rate = 10 }
+path = ["s1", "s2", "s3"]
+[[flow]]
+name = "f2"
+packet = 6000
+arrival = { kind = "bucket", burst = 6000, rate = 5 }
+path = ["s1", "s2", "s3"]
+"#,
+                ),
+            ],
+            0,
+            r#"edit 1 ok cells 55
+edit 2 ok cells 39
+servers 3 flows 2
+queue s1 0 delay 100 backlog 18600
+queue s2 0 delay 68010/481 backlog 9687000/481
+queue s3 0 delay 70 backlog 13000
+flow f1 tfa 149780/481 sfa 7627639/18278 bound 149780/481
+flow f2 tfa 149780/481 sfa 751061/988 bound 149780/481
+"#,
+        ),
         // an_empty_list
         (
             "netcalc edit n.toml e.csv",
@@ -3549,7 +3808,7 @@ breach none
 #[test]
 fn faults(rt: HostRuntime) -> Result<(), Fail> {
     let alloc = rt.alloc();
-    let rows: [(&str, &[(&str, &str)], u8, &str); 9] = [
+    let rows: [(&str, &[(&str, &str)], u8, &str); 10] = [
         // a_bucket_that_falls
         (
             "netcalc analyse n.toml",
@@ -3709,12 +3968,712 @@ path = ["s9"]
             1,
             "netcalc: n.toml: M8 flow[0].path[0]\n",
         ),
+        // another_version
+        (
+            "netcalc analyse n.toml",
+            &[(
+                "n.toml",
+                r#"version = 3
+[[server]]
+name = "s1"
+rate = 100
+service = { kind = "latency", latency = 10 }
+[[server]]
+name = "s2"
+rate = 100
+service = { kind = "latency", latency = 10 }
+[[flow]]
+name = "f1"
+packet = 12000
+arrival = { kind = "bucket", burst = 12000, rate = 10 }
+path = ["s1", "s2"]
+[[flow]]
+name = "f2"
+packet = 6000
+arrival = { kind = "bucket", burst = 6000, rate = 5 }
+path = ["s1", "s2"]
+"#,
+            )],
+            1,
+            "netcalc: n.toml: M6 version\n",
+        ),
         // not_toml
         (
             "netcalc analyse n.toml",
             &[("n.toml", "[[server")],
             1,
             "netcalc: n.toml: M1\n",
+        ),
+    ];
+    for (line, files, status, wanted) in rows {
+        check(&rt, alloc, line, files, status, wanted)?;
+    }
+    Ok(())
+}
+
+#[test]
+fn json(rt: HostRuntime) -> Result<(), Fail> {
+    let alloc = rt.alloc();
+    let rows: [(&str, &[(&str, &str)], u8, &str); 32] = [
+        // a_cycle
+        (
+            "netcalc analyse n.toml --json",
+            &[(
+                "n.toml",
+                r#"[[server]]
+name = "s1"
+rate = 100
+service = { kind = "latency", latency = 10 }
+[[server]]
+name = "s2"
+rate = 100
+service = { kind = "latency", latency = 10 }
+[[flow]]
+name = "f1"
+packet = 12000
+arrival = { kind = "bucket", burst = 12000, rate = 10 }
+path = ["s1", "s2"]
+[[flow]]
+name = "f2"
+packet = 12000
+arrival = { kind = "bucket", burst = 12000, rate = 10 }
+path = ["s2", "s1"]
+"#,
+            )],
+            8,
+            "netcalc: cycle s1 s2 s1\n",
+        ),
+        // a_dropped_flow_and_back
+        (
+            "netcalc edit n.toml e.csv --json",
+            &[
+                (
+                    "e.csv",
+                    r#"drop,f1
+undo
+undo
+drop,f1
+"#,
+                ),
+                (
+                    "n.toml",
+                    r#"[[server]]
+name = "s1"
+rate = 100
+service = { kind = "latency", latency = 10 }
+[[server]]
+name = "s2"
+rate = 100
+service = { kind = "latency", latency = 10 }
+[[flow]]
+name = "f1"
+packet = 12000
+arrival = { kind = "bucket", burst = 12000, rate = 10 }
+path = ["s1", "s2"]
+"#,
+                ),
+            ],
+            0,
+            "{\"edits\":[{\"cells\":6,\"ok\":true},{\"cells\":0,\"ok\":true},{\"ok\":false,\"refused\":\"nothing-to-undo\"},{\"cells\":6,\"ok\":true}],\"flows\":[],\"queues\":[{\"backlog\":\"0\",\"delay\":\"0\",\"queue\":0,\"server\":\"s1\"},{\"backlog\":\"0\",\"delay\":\"0\",\"queue\":0,\"server\":\"s2\"}]}\n",
+        ),
+        // a_file_for_two
+        (
+            "netcalc edit n.toml --json",
+            &[(
+                "n.toml",
+                r#"[[server]]
+name = "s1"
+rate = 100
+service = { kind = "latency", latency = 10 }
+[[flow]]
+name = "f1"
+packet = 12000
+arrival = { kind = "bucket", burst = 12000, rate = 10 }
+path = ["s1"]
+"#,
+            )],
+            2,
+            "netcalc: usage: netcalc analyse NET [--json], edit NET EDITS [--json], simulate NET TRACE, exercise N, check NET RUN, measure NET TRACE FLOW RATE, curve FILE\n",
+        ),
+        // a_file_that_is_not_there
+        (
+            "netcalc analyse --json x.toml",
+            &[(
+                "n.toml",
+                r#"[[server]]
+name = "s1"
+rate = 100
+service = { kind = "latency", latency = 10 }
+[[flow]]
+name = "f1"
+packet = 12000
+arrival = { kind = "bucket", burst = 12000, rate = 10 }
+path = ["s1"]
+"#,
+            )],
+            3,
+            "netcalc: cannot read x.toml\n",
+        ),
+        // a_flow_faster_than_its_server
+        (
+            "netcalc analyse n.toml --json",
+            &[(
+                "n.toml",
+                r#"[[server]]
+name = "s1"
+rate = 100
+service = { kind = "latency", latency = 10 }
+[[flow]]
+name = "f1"
+packet = 12000
+arrival = { kind = "bucket", burst = 12000, rate = 101 }
+path = ["s1"]
+"#,
+            )],
+            0,
+            "{\"flows\":[{\"bound\":\"unbounded\",\"name\":\"f1\",\"sfa\":\"unbounded\",\"tfa\":\"unbounded\"}],\"queues\":[{\"backlog\":\"unbounded\",\"delay\":\"unbounded\",\"queue\":0,\"server\":\"s1\"}]}\n",
+        ),
+        // a_refused_edit
+        (
+            "netcalc edit n.toml e.csv --json",
+            &[
+                ("e.csv", "rate,s9,1\n"),
+                (
+                    "n.toml",
+                    r#"[[server]]
+name = "s1"
+rate = 100
+service = { kind = "latency", latency = 10 }
+[[flow]]
+name = "f1"
+packet = 12000
+arrival = { kind = "bucket", burst = 12000, rate = 10 }
+path = ["s1"]
+"#,
+                ),
+            ],
+            0,
+            "{\"edits\":[{\"ok\":false,\"refused\":\"unknown-name s9\"}],\"flows\":[{\"bound\":\"130\",\"name\":\"f1\",\"sfa\":\"130\",\"tfa\":\"130\"}],\"queues\":[{\"backlog\":\"13300\",\"delay\":\"130\",\"queue\":0,\"server\":\"s1\"}]}\n",
+        ),
+        // a_rule_broken
+        (
+            "netcalc analyse n.toml --json",
+            &[(
+                "n.toml",
+                r#"[[server]]
+name = "s1"
+rate = 100
+service = { kind = "latency", latency = 10 }
+[[flow]]
+name = "f1"
+packet = 12000
+arrival = { kind = "bucket", burst = 12000, rate = 10 }
+path = ["s9"]
+"#,
+            )],
+            1,
+            "netcalc: n.toml: M8 flow[0].path[0]\n",
+        ),
+        // a_wrong_row
+        (
+            "netcalc edit n.toml e.csv --json",
+            &[
+                (
+                    "e.csv",
+                    r#"undo
+rate,s1
+"#,
+                ),
+                (
+                    "n.toml",
+                    r#"[[server]]
+name = "s1"
+rate = 100
+service = { kind = "latency", latency = 10 }
+[[flow]]
+name = "f1"
+packet = 12000
+arrival = { kind = "bucket", burst = 12000, rate = 10 }
+path = ["s1"]
+"#,
+                ),
+            ],
+            1,
+            "netcalc: e.csv: T3 row 2\n",
+        ),
+        // an_edit_in_json_between
+        (
+            "netcalc edit n.toml --json e.csv",
+            &[
+                ("e.csv", "rate,s9,1\n"),
+                (
+                    "n.toml",
+                    r#"[[server]]
+name = "s1"
+rate = 100
+service = { kind = "latency", latency = 10 }
+[[flow]]
+name = "f1"
+packet = 12000
+arrival = { kind = "bucket", burst = 12000, rate = 10 }
+path = ["s1"]
+"#,
+                ),
+            ],
+            0,
+            "{\"edits\":[{\"ok\":false,\"refused\":\"unknown-name s9\"}],\"flows\":[{\"bound\":\"130\",\"name\":\"f1\",\"sfa\":\"130\",\"tfa\":\"130\"}],\"queues\":[{\"backlog\":\"13300\",\"delay\":\"130\",\"queue\":0,\"server\":\"s1\"}]}\n",
+        ),
+        // an_edit_in_json_first
+        (
+            "netcalc edit --json n.toml e.csv",
+            &[
+                ("e.csv", "rate,s9,1\n"),
+                (
+                    "n.toml",
+                    r#"[[server]]
+name = "s1"
+rate = 100
+service = { kind = "latency", latency = 10 }
+[[flow]]
+name = "f1"
+packet = 12000
+arrival = { kind = "bucket", burst = 12000, rate = 10 }
+path = ["s1"]
+"#,
+                ),
+            ],
+            0,
+            "{\"edits\":[{\"ok\":false,\"refused\":\"unknown-name s9\"}],\"flows\":[{\"bound\":\"130\",\"name\":\"f1\",\"sfa\":\"130\",\"tfa\":\"130\"}],\"queues\":[{\"backlog\":\"13300\",\"delay\":\"130\",\"queue\":0,\"server\":\"s1\"}]}\n",
+        ),
+        // an_edit_that_goes_round
+        (
+            "netcalc edit n.toml e.csv --json",
+            &[
+                ("e.csv", "add,f2,12000,12000,10,s2 s1\n"),
+                (
+                    "n.toml",
+                    r#"[[server]]
+name = "s1"
+rate = 100
+service = { kind = "latency", latency = 10 }
+[[server]]
+name = "s2"
+rate = 100
+service = { kind = "latency", latency = 10 }
+[[flow]]
+name = "f1"
+packet = 12000
+arrival = { kind = "bucket", burst = 12000, rate = 10 }
+path = ["s1", "s2"]
+"#,
+                ),
+            ],
+            0,
+            "{\"edits\":[{\"ok\":false,\"refused\":\"cycle s1 s2 s1\"}],\"flows\":[{\"bound\":\"260\",\"name\":\"f1\",\"sfa\":\"260\",\"tfa\":\"273\"}],\"queues\":[{\"backlog\":\"13300\",\"delay\":\"130\",\"queue\":0,\"server\":\"s1\"},{\"backlog\":\"14600\",\"delay\":\"143\",\"queue\":0,\"server\":\"s2\"}]}\n",
+        ),
+        // an_empty_file
+        (
+            "netcalc analyse n.toml --json",
+            &[("n.toml", "")],
+            0,
+            "{\"flows\":[],\"queues\":[]}\n",
+        ),
+        // at_check
+        (
+            "netcalc check n.toml r.csv --json",
+            &[
+                (
+                    "n.toml",
+                    r#"[[server]]
+name = "s1"
+rate = 100
+service = { kind = "latency", latency = 10 }
+[[flow]]
+name = "f1"
+packet = 12000
+arrival = { kind = "bucket", burst = 12000, rate = 10 }
+path = ["s1"]
+"#,
+                ),
+                ("r.csv", ""),
+            ],
+            2,
+            "netcalc: usage: netcalc analyse NET [--json], edit NET EDITS [--json], simulate NET TRACE, exercise N, check NET RUN, measure NET TRACE FLOW RATE, curve FILE\n",
+        ),
+        // at_curve
+        (
+            "netcalc curve --json s.curve",
+            &[("s.curve", "")],
+            2,
+            "netcalc: usage: netcalc analyse NET [--json], edit NET EDITS [--json], simulate NET TRACE, exercise N, check NET RUN, measure NET TRACE FLOW RATE, curve FILE\n",
+        ),
+        // at_exercise
+        (
+            "netcalc exercise 7 --json",
+            &[],
+            2,
+            "netcalc: usage: netcalc analyse NET [--json], edit NET EDITS [--json], simulate NET TRACE, exercise N, check NET RUN, measure NET TRACE FLOW RATE, curve FILE\n",
+        ),
+        // at_measure
+        (
+            "netcalc measure n.toml t.csv f1 1 --json",
+            &[
+                (
+                    "n.toml",
+                    r#"[[server]]
+name = "s1"
+rate = 100
+service = { kind = "latency", latency = 10 }
+[[flow]]
+name = "f1"
+packet = 12000
+arrival = { kind = "bucket", burst = 12000, rate = 10 }
+path = ["s1"]
+"#,
+                ),
+                ("t.csv", ""),
+            ],
+            2,
+            "netcalc: usage: netcalc analyse NET [--json], edit NET EDITS [--json], simulate NET TRACE, exercise N, check NET RUN, measure NET TRACE FLOW RATE, curve FILE\n",
+        ),
+        // at_measure_first
+        (
+            "netcalc measure --json n.toml t.csv f1 1",
+            &[
+                (
+                    "n.toml",
+                    r#"[[server]]
+name = "s1"
+rate = 100
+service = { kind = "latency", latency = 10 }
+[[flow]]
+name = "f1"
+packet = 12000
+arrival = { kind = "bucket", burst = 12000, rate = 10 }
+path = ["s1"]
+"#,
+                ),
+                ("t.csv", ""),
+            ],
+            2,
+            "netcalc: usage: netcalc analyse NET [--json], edit NET EDITS [--json], simulate NET TRACE, exercise N, check NET RUN, measure NET TRACE FLOW RATE, curve FILE\n",
+        ),
+        // at_simulate
+        (
+            "netcalc simulate n.toml t.csv --json",
+            &[
+                (
+                    "n.toml",
+                    r#"[[server]]
+name = "s1"
+rate = 100
+service = { kind = "latency", latency = 10 }
+[[flow]]
+name = "f1"
+packet = 12000
+arrival = { kind = "bucket", burst = 12000, rate = 10 }
+path = ["s1"]
+"#,
+                ),
+                ("t.csv", ""),
+            ],
+            2,
+            "netcalc: usage: netcalc analyse NET [--json], edit NET EDITS [--json], simulate NET TRACE, exercise N, check NET RUN, measure NET TRACE FLOW RATE, curve FILE\n",
+        ),
+        // before_the_command
+        (
+            "netcalc --json analyse n.toml",
+            &[(
+                "n.toml",
+                r#"[[server]]
+name = "s1"
+rate = 100
+service = { kind = "latency", latency = 10 }
+[[flow]]
+name = "f1"
+packet = 12000
+arrival = { kind = "bucket", burst = 12000, rate = 10 }
+path = ["s1"]
+"#,
+            )],
+            2,
+            "netcalc: usage: netcalc analyse NET [--json], edit NET EDITS [--json], simulate NET TRACE, exercise N, check NET RUN, measure NET TRACE FLOW RATE, curve FILE\n",
+        ),
+        // before_the_file
+        (
+            "netcalc analyse --json n.toml",
+            &[(
+                "n.toml",
+                r#"[[server]]
+name = "s1"
+rate = 100
+service = { kind = "latency", latency = 10 }
+[[flow]]
+name = "f1"
+packet = 12000
+arrival = { kind = "bucket", burst = 12000, rate = 10 }
+path = ["s1"]
+"#,
+            )],
+            0,
+            "{\"flows\":[{\"bound\":\"130\",\"name\":\"f1\",\"sfa\":\"130\",\"tfa\":\"130\"}],\"queues\":[{\"backlog\":\"13300\",\"delay\":\"130\",\"queue\":0,\"server\":\"s1\"}]}\n",
+        ),
+        // fractions_are_texts
+        (
+            "netcalc analyse n.toml --json",
+            &[(
+                "n.toml",
+                r#"[[server]]
+name = "s1"
+rate = 3
+service = { kind = "latency" }
+[[flow]]
+name = "f1"
+packet = 1
+arrival = { kind = "bucket", burst = 1, rate = "1/2" }
+path = ["s1"]
+"#,
+            )],
+            0,
+            "{\"flows\":[{\"bound\":\"1/3\",\"name\":\"f1\",\"sfa\":\"1/3\",\"tfa\":\"1/3\"}],\"queues\":[{\"backlog\":\"7/6\",\"delay\":\"1/3\",\"queue\":0,\"server\":\"s1\"}]}\n",
+        ),
+        // in_capitals
+        (
+            "netcalc analyse n.toml --JSON",
+            &[(
+                "n.toml",
+                r#"[[server]]
+name = "s1"
+rate = 100
+service = { kind = "latency", latency = 10 }
+[[flow]]
+name = "f1"
+packet = 12000
+arrival = { kind = "bucket", burst = 12000, rate = 10 }
+path = ["s1"]
+"#,
+            )],
+            2,
+            "netcalc: usage: netcalc analyse NET [--json], edit NET EDITS [--json], simulate NET TRACE, exercise N, check NET RUN, measure NET TRACE FLOW RATE, curve FILE\n",
+        ),
+        // names_that_are_escaped
+        (
+            "netcalc edit n.toml e.csv --json",
+            &[
+                (
+                    "e.csv",
+                    r#"drop,"a""b"
+drop,a\b
+drop,a/b
+drop,"a b"
+drop,
+"#,
+                ),
+                (
+                    "n.toml",
+                    r#"[[server]]
+name = "s1"
+rate = 100
+service = { kind = "latency", latency = 10 }
+[[flow]]
+name = "f1"
+packet = 12000
+arrival = { kind = "bucket", burst = 12000, rate = 10 }
+path = ["s1"]
+"#,
+                ),
+            ],
+            0,
+            r#"{"edits":[{"ok":false,"refused":"unknown-name a\"b"},{"ok":false,"refused":"unknown-name a\\b"},{"ok":false,"refused":"unknown-name a/b"},{"ok":false,"refused":"unknown-name a b"},{"ok":false,"refused":"unknown-name "}],"flows":[{"bound":"130","name":"f1","sfa":"130","tfa":"130"}],"queues":[{"backlog":"13300","delay":"130","queue":0,"server":"s1"}]}
+"#,
+        ),
+        // no_edits
+        (
+            "netcalc edit n.toml e.csv --json",
+            &[
+                ("e.csv", ""),
+                (
+                    "n.toml",
+                    r#"[[server]]
+name = "s1"
+rate = 100
+service = { kind = "latency", latency = 10 }
+[[flow]]
+name = "f1"
+packet = 12000
+arrival = { kind = "bucket", burst = 12000, rate = 10 }
+path = ["s1"]
+"#,
+                ),
+            ],
+            0,
+            "{\"edits\":[],\"flows\":[{\"bound\":\"130\",\"name\":\"f1\",\"sfa\":\"130\",\"tfa\":\"130\"}],\"queues\":[{\"backlog\":\"13300\",\"delay\":\"130\",\"queue\":0,\"server\":\"s1\"}]}\n",
+        ),
+        // no_file
+        (
+            "netcalc analyse --json",
+            &[(
+                "n.toml",
+                r#"[[server]]
+name = "s1"
+rate = 100
+service = { kind = "latency", latency = 10 }
+[[flow]]
+name = "f1"
+packet = 12000
+arrival = { kind = "bucket", burst = 12000, rate = 10 }
+path = ["s1"]
+"#,
+            )],
+            2,
+            "netcalc: usage: netcalc analyse NET [--json], edit NET EDITS [--json], simulate NET TRACE, exercise N, check NET RUN, measure NET TRACE FLOW RATE, curve FILE\n",
+        ),
+        // one_flow
+        (
+            "netcalc analyse n.toml --json",
+            &[(
+                "n.toml",
+                r#"[[server]]
+name = "s1"
+rate = 100
+service = { kind = "latency", latency = 10 }
+[[flow]]
+name = "f1"
+packet = 12000
+arrival = { kind = "bucket", burst = 12000, rate = 10 }
+path = ["s1"]
+"#,
+            )],
+            0,
+            "{\"flows\":[{\"bound\":\"130\",\"name\":\"f1\",\"sfa\":\"130\",\"tfa\":\"130\"}],\"queues\":[{\"backlog\":\"13300\",\"delay\":\"130\",\"queue\":0,\"server\":\"s1\"}]}\n",
+        ),
+        // queues_by_number
+        (
+            "netcalc analyse n.toml --json",
+            &[(
+                "n.toml",
+                r#"[[server]]
+name = "s1"
+rate = 100
+service = { kind = "latency", latency = 10 }
+discipline = "priority"
+queues = 2
+[[flow]]
+name = "f1"
+packet = 12000
+arrival = { kind = "bucket", burst = 12000, rate = 10 }
+path = ["s1:1"]
+[[flow]]
+name = "f2"
+packet = 6000
+arrival = { kind = "bucket", burst = 6000, rate = 5 }
+path = ["s1:0"]
+"#,
+            )],
+            0,
+            "{\"flows\":[{\"bound\":\"200\",\"name\":\"f1\",\"sfa\":\"200\",\"tfa\":\"200\"},{\"bound\":\"190\",\"name\":\"f2\",\"sfa\":\"190\",\"tfa\":\"190\"}],\"queues\":[{\"backlog\":\"6950\",\"delay\":\"190\",\"queue\":0,\"server\":\"s1\"},{\"backlog\":\"14000\",\"delay\":\"200\",\"queue\":1,\"server\":\"s1\"}]}\n",
+        ),
+        // servers_in_the_order_of_the_file
+        (
+            "netcalc analyse n.toml --json",
+            &[(
+                "n.toml",
+                r#"[[server]]
+name = "z"
+rate = 100
+service = { kind = "latency", latency = 10 }
+[[server]]
+name = "a"
+rate = 100
+service = { kind = "latency", latency = 10 }
+[[flow]]
+name = "f1"
+packet = 12000
+arrival = { kind = "bucket", burst = 12000, rate = 10 }
+path = ["z", "a"]
+"#,
+            )],
+            0,
+            "{\"flows\":[{\"bound\":\"260\",\"name\":\"f1\",\"sfa\":\"260\",\"tfa\":\"273\"}],\"queues\":[{\"backlog\":\"13300\",\"delay\":\"130\",\"queue\":0,\"server\":\"z\"},{\"backlog\":\"14600\",\"delay\":\"143\",\"queue\":0,\"server\":\"a\"}]}\n",
+        ),
+        // twice
+        (
+            "netcalc analyse n.toml --json --json",
+            &[(
+                "n.toml",
+                r#"[[server]]
+name = "s1"
+rate = 100
+service = { kind = "latency", latency = 10 }
+[[flow]]
+name = "f1"
+packet = 12000
+arrival = { kind = "bucket", burst = 12000, rate = 10 }
+path = ["s1"]
+"#,
+            )],
+            2,
+            "netcalc: usage: netcalc analyse NET [--json], edit NET EDITS [--json], simulate NET TRACE, exercise N, check NET RUN, measure NET TRACE FLOW RATE, curve FILE\n",
+        ),
+        // twice_at_edit
+        (
+            "netcalc edit --json n.toml e.csv --json",
+            &[
+                ("e.csv", ""),
+                (
+                    "n.toml",
+                    r#"[[server]]
+name = "s1"
+rate = 100
+service = { kind = "latency", latency = 10 }
+[[flow]]
+name = "f1"
+packet = 12000
+arrival = { kind = "bucket", burst = 12000, rate = 10 }
+path = ["s1"]
+"#,
+                ),
+            ],
+            2,
+            "netcalc: usage: netcalc analyse NET [--json], edit NET EDITS [--json], simulate NET TRACE, exercise N, check NET RUN, measure NET TRACE FLOW RATE, curve FILE\n",
+        ),
+        // two_files_for_one
+        (
+            "netcalc analyse n.toml n.toml --json",
+            &[(
+                "n.toml",
+                r#"[[server]]
+name = "s1"
+rate = 100
+service = { kind = "latency", latency = 10 }
+[[flow]]
+name = "f1"
+packet = 12000
+arrival = { kind = "bucket", burst = 12000, rate = 10 }
+path = ["s1"]
+"#,
+            )],
+            2,
+            "netcalc: usage: netcalc analyse NET [--json], edit NET EDITS [--json], simulate NET TRACE, exercise N, check NET RUN, measure NET TRACE FLOW RATE, curve FILE\n",
+        ),
+        // with_a_value
+        (
+            "netcalc analyse n.toml --json=true",
+            &[(
+                "n.toml",
+                r#"[[server]]
+name = "s1"
+rate = 100
+service = { kind = "latency", latency = 10 }
+[[flow]]
+name = "f1"
+packet = 12000
+arrival = { kind = "bucket", burst = 12000, rate = 10 }
+path = ["s1"]
+"#,
+            )],
+            2,
+            "netcalc: usage: netcalc analyse NET [--json], edit NET EDITS [--json], simulate NET TRACE, exercise N, check NET RUN, measure NET TRACE FLOW RATE, curve FILE\n",
         ),
     ];
     for (line, files, status, wanted) in rows {

@@ -103,7 +103,7 @@ fn words_files_and_sinks_are_refused(rt: HostRuntime) -> Result<(), Fail> {
     // A file of so many bytes of comment, or the good one; and how many calls of the inputs and of the sink fail.
     for (line, bytes, input_fails, sink_fails, status, text) in [
         ("", 0, 0, 0, 2, USAGE),
-        ("netcalc analyse n.toml --json", 0, 0, 0, 2, USAGE),
+        ("netcalc curve n.toml --json", 0, 0, 0, 2, USAGE),
         ("netcalc analyse ", 0, 0, 0, 2, USAGE),
         ("netcalc analyse", 0, 0, 1, 4, ""),
         (

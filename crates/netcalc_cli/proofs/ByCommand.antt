@@ -7,6 +7,7 @@ use Rattle.net_bounds.proofs.Kept.{table_bounds_every_run}
 use Rattle.command_replies.specs.Guarantee.{Guarantees}
 use Rattle.command_replies.specs.Replies.{Reply}
 use Rattle.command_replies.proofs.OneRefusal.{equal}
+use Rattle.json_report.specs.declared.form.Form.{Form}
 use Rattle.analyse_command.specs.AnswerCounts.{CountsOn}
 use Rattle.analyse_command.specs.OnFiles.{IsReportOf, IsReport}
 use Rattle.analyse_command.proofs.ByStatus as analyse
@@ -51,20 +52,20 @@ pub record IsByStatus (command : Command) (files : List (List ℕ)) (reply : Rep
   pub breach : reply.status ≡ 9 → TellsBreach command files reply
 
 -- no run passes the table of a report
-guaranteed : (net : Net) (at : CellTable) (bytes : List ℕ) (reply : Reply) → IsReportOf net at bytes reply
+guaranteed : (form : Form) (net : Net) (at : CellTable) (bytes : List ℕ) (reply : Reply) → IsReportOf form net at bytes reply
     → Guarantees net at
-guaranteed net at bytes reply h run keeps =
+guaranteed form net at bytes reply h run keeps =
     table_bounds_every_run net h.order at run h.gives.accepted h.ordered h.meets keeps
 
-report_done : (net bytes : List ℕ) (reply : Reply) → IsReport bytes reply → IsDone (Analyse net) (bytes ∷ []) reply
-report_done net bytes reply r = (r.0, r.1, r.2, guaranteed r.0 r.1 bytes reply r.2)
+report_done : (form : Form) (net bytes : List ℕ) (reply : Reply) → IsReport form bytes reply → IsDone (Analyse form net) (bytes ∷ []) reply
+report_done form net bytes reply r = (r.0, r.1, r.2, guaranteed form r.0 r.1 bytes reply r.2)
 
 pub by_command : (command : Command) (files : List (List ℕ)) (reply : Reply) → IsReplyTo command files reply
     → IsByStatus command files reply
-by_command (Analyse net) (bytes ∷ []) reply h =
-    let k = analyse.by_status net bytes reply h in
+by_command (Analyse form net) (bytes ∷ []) reply h =
+    let k = analyse.by_status form net bytes reply h in
     record {
-      done = λ e. report_done net bytes reply (k.report e);
+      done = λ e. report_done form net bytes reply (k.report e);
       malformed = λ e. k.broken e;
       no_read = k.no_read;
       wide = λ e. k.wide e;
@@ -72,10 +73,10 @@ by_command (Analyse net) (bytes ∷ []) reply h =
       cycle = λ e. k.cycle e;
       breach = λ e. absurd (omega (arith, k.most, e));
     }
-by_command (Edit net edits) (bytes ∷ rows ∷ []) reply h =
-    let k = edit_statuses.causes net bytes edits rows reply h in
+by_command (Edit form net edits) (bytes ∷ rows ∷ []) reply h =
+    let k = edit_statuses.causes form net bytes edits rows reply h in
     record {
-      done = λ e. let r = k.report e in (r.0, r.1, r.2, reports_are_guaranteed r.0 r.1 bytes rows reply r.2);
+      done = λ e. let r = k.report e in (r.0, r.1, r.2, reports_are_guaranteed form r.0 r.1 bytes rows reply r.2);
       malformed = λ e. k.malformed e;
       no_read = k.no_read;
       wide = λ e. k.wide e;
@@ -156,8 +157,8 @@ by_command command files reply h = absurd h
 
 -- ---- one reply
 pub equal_by_command : (command : Command) (x y : Reply) → x ≡ y → AreSameTo command x y
-equal_by_command (Analyse net) x y e = equal x y e
-equal_by_command (Edit net edits) x y e =
+equal_by_command (Analyse form net) x y e = equal x y e
+equal_by_command (Edit form net edits) x y e =
     record { status = ap (λ (r : Reply). r.status) e; text = inl (ap (λ (r : Reply). r.bytes) e) }
 equal_by_command (Simulate net trace) x y e = equal x y e
 equal_by_command (Exercise seed) x y e = equal x y e
@@ -167,9 +168,9 @@ equal_by_command (Curve script) x y e = equal x y e
 
 pub one_by_command : (command : Command) (files : List (List ℕ)) (x y : Reply) → IsReplyTo command files x
     → IsReplyTo command files y → AreSameTo command x y
-one_by_command (Analyse net) (bytes ∷ []) x y h k = analysed.replies_are_determined net bytes x y h k
-one_by_command (Edit net edits) (bytes ∷ rows ∷ []) x y h k =
-    edited.replies_are_determined net bytes edits rows x y h k
+one_by_command (Analyse form net) (bytes ∷ []) x y h k = analysed.replies_are_determined form net bytes x y h k
+one_by_command (Edit form net edits) (bytes ∷ rows ∷ []) x y h k =
+    edited.replies_are_determined form net bytes edits rows x y h k
 one_by_command (Simulate net trace) (bytes ∷ rows ∷ []) x y h k =
     simulated.replies_are_determined net bytes trace rows x y h k
 one_by_command (Exercise seed) [] x y h k = equal x y (exercised.replies_are_determined seed x y h k)
@@ -184,9 +185,9 @@ one_by_command command files x y h k = absurd h
 -- ---- on files that can be answered
 pub complete_by_command : (command : Command) (files : List (List ℕ)) (reply : Reply) → IsAnswerable command files
     → IsReplyTo command files reply → IsAnswer command reply.status
-complete_by_command (Analyse net) (bytes ∷ []) reply can h = analysed.replies_are_complete net bytes reply can h
-complete_by_command (Edit net edits) (bytes ∷ rows ∷ []) reply can h =
-    replies_are_complete net bytes edits rows reply can h
+complete_by_command (Analyse form net) (bytes ∷ []) reply can h = analysed.replies_are_complete form net bytes reply can h
+complete_by_command (Edit form net edits) (bytes ∷ rows ∷ []) reply can h =
+    replies_are_complete form net bytes edits rows reply can h
 complete_by_command (Simulate net trace) (bytes ∷ rows ∷ []) reply can h =
     simulated.replies_are_complete net bytes trace rows reply can h
 complete_by_command (Exercise seed) [] reply can h = exercised.replies_are_complete seed reply can h
@@ -214,8 +215,8 @@ report_given status other same (inr nine) = inr (nine_given status other same ni
 
 pub answer_given : (command : Command) (status other : ℕ) → IsGiven status other → IsAnswer command other
     → IsAnswer command status
-answer_given (Analyse net) status other same h = zero_given status other same h
-answer_given (Edit net edits) status other same h = zero_given status other same h
+answer_given (Analyse form net) status other same h = zero_given status other same h
+answer_given (Edit form net edits) status other same h = zero_given status other same h
 answer_given (Simulate net trace) status other same h = report_given status other same h
 answer_given (Exercise seed) status other same h = report_given status other same h
 answer_given (Check net run) status other same h = report_given status other same h
@@ -310,8 +311,8 @@ edit_counts_at bytes rows status other old new same h = record {
 
 pub counts_by_command : (command : Command) (files : List (List ℕ)) (status other old new : ℕ)
     → IsGiven status other → CountsTo command files status old new → CountsTo command files other old new
-counts_by_command (Analyse net) (bytes ∷ []) status other old new same h = counts_at bytes status other old new same h
-counts_by_command (Edit net edits) (bytes ∷ rows ∷ []) status other old new same h =
+counts_by_command (Analyse form net) (bytes ∷ []) status other old new same h = counts_at bytes status other old new same h
+counts_by_command (Edit form net edits) (bytes ∷ rows ∷ []) status other old new same h =
     edit_counts_at bytes rows status other old new same h
 counts_by_command (Simulate net trace) (bytes ∷ rows ∷ []) status other old new same h =
     run_counts_at bytes rows status other old new same h

@@ -55,7 +55,7 @@ is_flow = record {
 
 pub accepted : IsAccepted one_flow
 accepted = record {
-  version = refl;
+  version = (omega arith, omega arith);
   few_servers = omega arith;
   few_flows = omega arith;
   names = (no_pairs (λ s t. s.name ≢ t.name) its_server, no_pairs DifferInName (Some its_flow));

@@ -6,4 +6,5 @@ pub mod Replies
 pub mod ExampleNet
 pub mod ExampleBound
 pub mod WordLists
+pub mod Taking
 pub mod Seeds

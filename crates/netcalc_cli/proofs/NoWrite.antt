@@ -4,6 +4,7 @@ use Rattle.rational.specs.Rational.{ℚ}
 use Rattle.upp_limits.specs.declared.own_limits.OverLimit.TheVariants.{TooMany, TooWide}
 use Rattle.net_model.specs.declared.breach.Breach.{Breach}
 use Rattle.command_replies.specs.Replies.{Reply, cannot_read, too_long}
+use Rattle.json_report.specs.declared.form.Form.{Form}
 use Rattle.command_replies.proofs.Statuses.{status_is as status_of}
 use Rattle.analyse_command.specs.OnFiles as analyse
 use Rattle.edit_command.specs.OnEdits as edits
@@ -22,30 +23,30 @@ use Rattle.netcalc_cli.proofs.FileLemmas.{first_shows, long_shows}
 other : (status n : ℕ) → status ≡ n → n ≢ 4 → status ≢ 4
 other status n is apart e = apart (sym is ∙ e)
 
-on_analyse : (net bytes : List ℕ) (reply : Reply) → analyse.IsReplyOn net bytes reply → reply.status ≢ 4
-on_analyse net bytes reply (analyse.Broken h) = other reply.status 1 (status_of reply _ h.is) (omega arith)
-on_analyse net bytes reply (analyse.CurveOver TooMany h) = other reply.status 7 (status_of reply _ h.is) (omega arith)
-on_analyse net bytes reply (analyse.CurveOver TooWide h) = other reply.status 6 (status_of reply _ h.is) (omega arith)
-on_analyse net bytes reply (analyse.Cyclic h) = other reply.status 8 (status_of reply _ h.is) (omega arith)
-on_analyse net bytes reply (analyse.CellOver TooMany h) = other reply.status 7 (status_of reply _ h.is) (omega arith)
-on_analyse net bytes reply (analyse.CellOver TooWide h) = other reply.status 6 (status_of reply _ h.is) (omega arith)
-on_analyse net bytes reply (analyse.Reported h) = other reply.status 0 (status_of reply _ h.2.is) (omega arith)
+on_analyse : (form : Form) (net bytes : List ℕ) (reply : Reply) → analyse.IsReplyOn form net bytes reply → reply.status ≢ 4
+on_analyse form net bytes reply (analyse.Broken h) = other reply.status 1 (status_of reply _ h.is) (omega arith)
+on_analyse form net bytes reply (analyse.CurveOver TooMany h) = other reply.status 7 (status_of reply _ h.is) (omega arith)
+on_analyse form net bytes reply (analyse.CurveOver TooWide h) = other reply.status 6 (status_of reply _ h.is) (omega arith)
+on_analyse form net bytes reply (analyse.Cyclic h) = other reply.status 8 (status_of reply _ h.is) (omega arith)
+on_analyse form net bytes reply (analyse.CellOver TooMany h) = other reply.status 7 (status_of reply _ h.is) (omega arith)
+on_analyse form net bytes reply (analyse.CellOver TooWide h) = other reply.status 6 (status_of reply _ h.is) (omega arith)
+on_analyse form net bytes reply (analyse.Reported h) = other reply.status 0 (status_of reply _ h.2.is) (omega arith)
 
-on_edits : (net bytes list rows : List ℕ) (reply : Reply) → edits.IsEditReply net bytes list rows reply
+on_edits : (form : Form) (net bytes list rows : List ℕ) (reply : Reply) → edits.IsEditReply form net bytes list rows reply
     → reply.status ≢ 4
-on_edits net bytes list rows reply (edits.Broken h) = other reply.status 1 (status_of reply _ h.is) (omega arith)
-on_edits net bytes list rows reply (edits.CurveOver TooMany h) =
+on_edits form net bytes list rows reply (edits.Broken h) = other reply.status 1 (status_of reply _ h.is) (omega arith)
+on_edits form net bytes list rows reply (edits.CurveOver TooMany h) =
     other reply.status 7 (status_of reply _ h.is) (omega arith)
-on_edits net bytes list rows reply (edits.CurveOver TooWide h) =
+on_edits form net bytes list rows reply (edits.CurveOver TooWide h) =
     other reply.status 6 (status_of reply _ h.is) (omega arith)
-on_edits net bytes list rows reply (edits.BadList h) = other reply.status 1 (status_of reply _ h.is) (omega arith)
-on_edits net bytes list rows reply (edits.Cyclic asked asks h) =
+on_edits form net bytes list rows reply (edits.BadList h) = other reply.status 1 (status_of reply _ h.is) (omega arith)
+on_edits form net bytes list rows reply (edits.Cyclic asked asks h) =
     other reply.status 8 (status_of reply _ h.is) (omega arith)
-on_edits net bytes list rows reply (edits.CellOver asked asks TooMany h) =
+on_edits form net bytes list rows reply (edits.CellOver asked asks TooMany h) =
     other reply.status 7 (status_of reply _ h.is) (omega arith)
-on_edits net bytes list rows reply (edits.CellOver asked asks TooWide h) =
+on_edits form net bytes list rows reply (edits.CellOver asked asks TooWide h) =
     other reply.status 6 (status_of reply _ h.is) (omega arith)
-on_edits net bytes list rows reply (edits.Reported h) =
+on_edits form net bytes list rows reply (edits.Reported h) =
     other reply.status 0 (status_of reply _ h.2.report.is) (omega arith)
 
 by_breach : (breach : Option Breach) → status_by breach ≢ 4
@@ -101,8 +102,8 @@ on_script script bytes reply (scripts.Answers h) = other reply.status 0 (status_
 
 on_files : (command : Command) (files : List (List ℕ)) (reply : Reply) → IsReplyTo command files reply
     → reply.status ≢ 4
-on_files (Analyse net) (bytes ∷ []) reply h = on_analyse net bytes reply h
-on_files (Edit net list) (bytes ∷ rows ∷ []) reply h = on_edits net bytes list rows reply h
+on_files (Analyse form net) (bytes ∷ []) reply h = on_analyse form net bytes reply h
+on_files (Edit form net list) (bytes ∷ rows ∷ []) reply h = on_edits form net bytes list rows reply h
 on_files (Simulate net trace) (bytes ∷ rows ∷ []) reply h = on_traces net bytes trace rows reply h
 on_files (Exercise seed) [] reply h = on_seed seed reply h
 on_files (Check net run) (bytes ∷ rows ∷ []) reply h = (causes net bytes run rows reply h).others.2

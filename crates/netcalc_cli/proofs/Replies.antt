@@ -1,5 +1,5 @@
 -- What a reply that was given is, by its status.
-use Rattle.std.proofs.Common.{◌≡◌, ◌≢◌, ◌⊎◌, ℕ, List, Option, Result, Ok, Err, IfOk, inl, inr, sym, ap, ◌∙◌, subst}
+use Rattle.std.proofs.Common.{◌≡◌, ◌≢◌, ◌⊎◌, ℕ, List, Option, Some, None, IfSome, Result, Ok, Err, IfOk, inl, inr, refl, sym, ap, ◌∙◌, subst}
 use Rattle.std.proofs.lemmas.Bool.{cases_eq}
 use Rattle.upp_limits.specs.declared.own_limits.OverLimit.TheVariants.{TooMany, TooWide}
 use Rattle.upp_limits.proofs.SpanNumbers.{if_some_map}
@@ -8,7 +8,7 @@ use Rattle.command_replies.specs.Replies.{Reply, cannot_read, too_long}
 use Rattle.command_replies.specs.View.{code_of, reply_of, status_of}
 use Rattle.netcalc_cli.specs.Commands.{Command, files_of, IsReplyTo, IsMalformed, IsOver, IsCyclic, TellsBreach, IsDone}
 use Rattle.netcalc_cli.specs.Commands.{Analyse, Edit, Simulate, Exercise, Check, Measure, Curve, IsAnswerable, IsAnswer}
-use Rattle.netcalc_cli.specs.Counts.{CountsOnCommand}
+use Rattle.netcalc_cli.specs.Counts.{CountsOnCommand, Counts}
 use Rattle.netcalc_cli.specs.Files.{Told, IsTooLong, FirstIs, MayHoldAll, AllFit, all_told}
 use Rattle.netcalc_cli.specs.Laws.{RepliesAreDetermined}
 use Rattle.netcalc_cli.specs.Reply.{IsReplyOnFiles, FailedAt, EndsAt, MayReplyTo, Gives, Brings, GivesOnTold, AnswersWhatItCan}
@@ -60,8 +60,8 @@ none_in faults last_fault told old new files (Err e) h =
     record { zero = λ e. absurd (cc); nine = λ e. absurd (cc) }
 
 no_answer : (command : Command) (status : ℕ) → IsNoAnswer status → ¬ (IsAnswer command status)
-no_answer (Analyse net) status none h = none.zero h
-no_answer (Edit net edits) status none h = none.zero h
+no_answer (Analyse form net) status none h = none.zero h
+no_answer (Edit form net edits) status none h = none.zero h
 no_answer (Simulate net trace) status none h = elim h [ inl zero ↦ none.zero zero | inr nine ↦ none.nine nine ]
 no_answer (Exercise seed) status none h = elim h [ inl zero ↦ none.zero zero | inr nine ↦ none.nine nine ]
 no_answer (Check net run) status none h = elim h [ inl zero ↦ none.zero zero | inr nine ↦ none.nine nine ]
@@ -81,7 +81,39 @@ pub no_answer_in : {I E : Type 0} (faults : I → ℕ) (last_fault : I → List 
 no_answer_in faults last_fault told command old new files r h =
     no_answer command (status_of r) (none_in faults last_fault told old new files r h)
 
--- or the files were fetched
+-- ---- where memory is refused, whatever is asked
+no_memory : (status : ℕ) → status ≡ 5 → IsNoAnswer status
+no_memory status five = record { zero = λ e. absurd (cc); nine = λ e. absurd (cc) }
+
+pub nothing_counted : {I : Type 0} (content : I → List ℕ → Option (List ℕ)) (asked : Option Command) (inputs : I)
+    (status steps : ℕ) → status ≡ 5 → Counts content asked inputs status steps steps
+nothing_counted content None inputs status steps five = refl
+nothing_counted content (Some command) inputs status steps five =
+    inl (no_answer command status (no_memory status five), refl)
+
+any_some : {A : Type 0} (o : Option A) (P : A → Type 0) → ((x : A) → P x) → IfSome o P
+any_some None P h = tt
+any_some (Some x) P h = h x
+
+pub nothing_told : (asked : Option Command) (told : Told) (status : ℕ) (old new : Option (List ℕ)) → status ≡ 5
+    → IfSome asked (λ command. GivesOnTold command told status old new)
+nothing_told asked told status old new five =
+    any_some asked (λ command. GivesOnTold command told status old new)
+    (λ command. any_some (all_told told (files_of command))
+    (λ files. ((reply : Reply) × IsReplyOnFiles command files reply × Gives status old new reply)
+    ⊎ ((status ≡ 3) ⊎ ((status ≡ 4) ⊎ (status ≡ 5))))
+    (λ files. inr (inr (inr five))))
+
+pub nothing_answered : (asked : Option Command) (told : Told) (status : ℕ) → status ≡ 5
+    → IfSome asked (λ command. AnswersWhatItCan command told status)
+nothing_answered asked told status five =
+    any_some asked (λ command. AnswersWhatItCan command told status)
+    (λ command. any_some (all_told told (files_of command))
+    (λ files. AllFit files → IsAnswerable command files
+    → IsAnswer command status ⊎ ((status ≡ 3) ⊎ ((status ≡ 4) ⊎ (status ≡ 5))))
+    (λ files fit can. inr (inr (inr five))))
+
+-- ---- or the files were fetched
 pub answers : {I : Type 0} (faults : I → ℕ) (last_fault : I → List ℕ) (told : Told) (command : Command) (old new : I)
     (reply : Reply) (files : List (List ℕ)) → MayHoldAll told (files_of command) files → AllFit files
     → IsReplyTo command files reply

@@ -9,6 +9,7 @@ use Rattle.net_model.specs.declared.trace.TracePacket.{TracePacket}
 use Rattle.net_model.specs.Networks.{Net}
 use Rattle.net_cells.specs.Meanings.{CellTable}
 use Rattle.net_bounds.specs.NetRuns.{IsRunOf}
+use Rattle.json_report.specs.declared.form.Form.{Form}
 use Rattle.command_replies.specs.Replies.{Reply, AreSame}
 use Rattle.command_replies.specs.Guarantee.{Guarantees}
 use Rattle.command_replies.specs.OnFiles.{IsBroken, IsOverLimit, HasCycle}
@@ -43,10 +44,10 @@ use Rattle.measure_command.specs.MeasureLaws.{IsLeastOf}
 use Rattle.curve_command.specs.OnScripts.{IsScriptReply, IsRefused, IsLineOver, IsAnswered}
 use Rattle.curve_command.specs.Laws.{IsWithinRules}
 
--- a command with the names of its files, and with what its other words say
+-- a command with the names of its files, and with what its other words say: the form of its report, and a rate
 pub data Command : Type 0 where
-  Analyse : (net : List ℕ) → Command
-  Edit : (net edits : List ℕ) → Command
+  Analyse : (form : Form) (net : List ℕ) → Command
+  Edit : (form : Form) (net edits : List ℕ) → Command
   Simulate : (net trace : List ℕ) → Command
   Exercise : (seed : ℕ) → Command
   Check : (net run : List ℕ) → Command
@@ -60,8 +61,8 @@ HasRate command = Unit {0}
 
 -- the files in the order in which they are fetched
 abbrev pub files_of : Command → List (List ℕ)
-files_of (Analyse net) = net ∷ []
-files_of (Edit net edits) = net ∷ edits ∷ []
+files_of (Analyse form net) = net ∷ []
+files_of (Edit form net edits) = net ∷ edits ∷ []
 files_of (Simulate net trace) = net ∷ trace ∷ []
 files_of (Exercise seed) = []
 files_of (Check net run) = net ∷ run ∷ []
@@ -70,8 +71,8 @@ files_of (Curve script) = script ∷ []
 
 -- ---- what is answered where the files hold these bytes, which are not too many
 abbrev pub IsReplyTo : Command → List (List ℕ) → Reply → Type 0
-IsReplyTo (Analyse net) (bytes ∷ []) reply = IsReplyOn net bytes reply
-IsReplyTo (Edit net edits) (bytes ∷ rows ∷ []) reply = IsEditReply net bytes edits rows reply
+IsReplyTo (Analyse form net) (bytes ∷ []) reply = IsReplyOn form net bytes reply
+IsReplyTo (Edit form net edits) (bytes ∷ rows ∷ []) reply = IsEditReply form net bytes edits rows reply
 IsReplyTo (Simulate net trace) (bytes ∷ rows ∷ []) reply = IsRunReply net bytes trace rows reply
 IsReplyTo (Exercise seed) [] reply = IsExerciseReply seed reply
 IsReplyTo (Check net run) (bytes ∷ rows ∷ []) reply = IsCheckReply net bytes run rows reply
@@ -81,8 +82,8 @@ IsReplyTo command files reply = ⊥
 
 -- two such replies on the same files: one status, and one text but for the choice among cycles
 abbrev pub AreSameTo : Command → Reply → Reply → Type 0
-AreSameTo (Analyse net) x y = AreSame x y
-AreSameTo (Edit net edits) x y = edit_laws.AreAlike x y
+AreSameTo (Analyse form net) x y = AreSame x y
+AreSameTo (Edit form net edits) x y = edit_laws.AreAlike form x y
 AreSameTo (Simulate net trace) x y = AreSame x y
 AreSameTo (Exercise seed) x y = AreSame x y
 AreSameTo (Check net run) x y = AreSame x y
@@ -92,8 +93,8 @@ AreSameTo (Curve script) x y = AreSame x y
 -- ---- of these replies those with one status each
 -- 1: the first rule that a file breaks, or a name of no live flow
 abbrev pub IsMalformed : Command → List (List ℕ) → Reply → Type 0
-IsMalformed (Analyse net) (bytes ∷ []) reply = IsBroken net bytes reply
-IsMalformed (Edit net edits) (bytes ∷ rows ∷ []) reply = edit_causes.IsMalformed net bytes edits rows reply
+IsMalformed (Analyse form net) (bytes ∷ []) reply = IsBroken net bytes reply
+IsMalformed (Edit form net edits) (bytes ∷ rows ∷ []) reply = edit_causes.IsMalformed net bytes edits rows reply
 IsMalformed (Simulate net trace) (bytes ∷ rows ∷ []) reply = traces.IsMalformed net bytes trace rows reply
 IsMalformed (Check net run) (bytes ∷ rows ∷ []) reply = checks.IsMalformed net bytes run rows reply
 IsMalformed (Measure net trace name rate) (bytes ∷ rows ∷ []) reply =
@@ -117,8 +118,8 @@ IsRecordedOver TooMany bytes rows reply = checks.IsOverLimit TooMany bytes rows 
 IsRecordedOver TooWide bytes rows reply = checks.IsOverLimit TooWide bytes rows reply ⊎ IsCheckOver bytes rows reply
 
 abbrev pub IsOver : OverLimit → Command → List (List ℕ) → Reply → Type 0
-IsOver limit (Analyse net) (bytes ∷ []) reply = IsOverLimit limit bytes reply
-IsOver limit (Edit net edits) (bytes ∷ rows ∷ []) reply = edit_causes.IsOverLimit limit bytes rows reply
+IsOver limit (Analyse form net) (bytes ∷ []) reply = IsOverLimit limit bytes reply
+IsOver limit (Edit form net edits) (bytes ∷ rows ∷ []) reply = edit_causes.IsOverLimit limit bytes rows reply
 IsOver limit (Simulate net trace) (bytes ∷ rows ∷ []) reply = IsRunOver limit bytes rows reply
 IsOver limit (Exercise seed) [] reply = IsLoadOver limit seed reply
 IsOver limit (Check net run) (bytes ∷ rows ∷ []) reply = IsRecordedOver limit bytes rows reply
@@ -129,8 +130,8 @@ IsOver limit command files reply = ⊥
 
 -- 8: a cycle of a network
 abbrev pub IsCyclic : Command → List (List ℕ) → Reply → Type 0
-IsCyclic (Analyse net) (bytes ∷ []) reply = HasCycle bytes reply
-IsCyclic (Edit net edits) (bytes ∷ rows ∷ []) reply = edit_causes.HasCycleBehind bytes rows reply
+IsCyclic (Analyse form net) (bytes ∷ []) reply = HasCycle bytes reply
+IsCyclic (Edit form net edits) (bytes ∷ rows ∷ []) reply = edit_causes.HasCycleBehind bytes rows reply
 IsCyclic (Simulate net trace) (bytes ∷ rows ∷ []) reply = traces.HasCycleBehind bytes rows reply
 IsCyclic (Check net run) (bytes ∷ rows ∷ []) reply = checks.HasCycleBehind bytes rows reply
 IsCyclic command files reply = ⊥
@@ -147,16 +148,16 @@ TellsBreach (Check net run) (bytes ∷ rows ∷ []) reply =
     (h : IsCheckReport bytes rows reply) × (¬ (IsRunOf h.net h.run)) × Guarantees h.net h.at
 TellsBreach command files reply = ⊥
 
--- 0: a report whose table is kept by every lawful run of the network that keeps packet sizes, arrival and service
--- curves: of the file's network; of the network that the edits leave; of `simulate` beside a run that keeps them too,
--- and of `check` beside a recorded run that is lawful and keeps them, no number of which is above its bound; of a
--- workload's network so, and its largest bound is kept by every packet's delay; or the least arrival curve of a flow's
--- packets, with the least bucket of the rate that they keep; or the answers of a script
+-- 0: a report, in its form, whose table is kept by every lawful run of the network that keeps packet sizes, arrival
+-- and service curves: of the file's network; of the network that the edits leave; of `simulate` beside a run that keeps
+-- them too, and of `check` beside a recorded run that is lawful and keeps them, no number of which is above its bound;
+-- of a workload's network so, and its largest bound is kept by every packet's delay; or the least arrival curve of a
+-- flow's packets, with the least bucket of the rate that they keep; or the answers of a script
 abbrev pub IsDone : Command → List (List ℕ) → Reply → Type 0
-IsDone (Analyse net) (bytes ∷ []) reply =
-    (model : Net) × (at : CellTable) × IsReportOf model at bytes reply × Guarantees model at
-IsDone (Edit net edits) (bytes ∷ rows ∷ []) reply =
-    (model : Net) × (at : CellTable) × IsReported model at bytes rows reply × Guarantees model at
+IsDone (Analyse form net) (bytes ∷ []) reply =
+    (model : Net) × (at : CellTable) × IsReportOf form model at bytes reply × Guarantees model at
+IsDone (Edit form net edits) (bytes ∷ rows ∷ []) reply =
+    (model : Net) × (at : CellTable) × IsReported form model at bytes rows reply × Guarantees model at
 IsDone (Simulate net trace) (bytes ∷ rows ∷ []) reply =
     (h : IsQuietReport bytes rows reply) × Guarantees h.report.net h.report.at
 IsDone (Exercise seed) [] reply = (h : IsQuietSummary seed reply) × SummaryGuarantees seed h.summary.at
@@ -170,8 +171,8 @@ IsDone command files reply = ⊥
 
 -- ---- the files that are answered: with status 0, or 9 where a run is asked for
 abbrev pub IsAnswerable : Command → List (List ℕ) → Type 0
-IsAnswerable (Analyse net) (bytes ∷ []) = IsWithinLimits bytes
-IsAnswerable (Edit net edits) (bytes ∷ rows ∷ []) = edit_laws.IsWithinLimits bytes rows
+IsAnswerable (Analyse form net) (bytes ∷ []) = IsWithinLimits bytes
+IsAnswerable (Edit form net edits) (bytes ∷ rows ∷ []) = edit_laws.IsWithinLimits bytes rows
 IsAnswerable (Simulate net trace) (bytes ∷ rows ∷ []) = run_laws.IsWithinLimits bytes rows
 IsAnswerable (Exercise seed) [] = exercise_laws.IsWithinLimits seed
 IsAnswerable (Check net run) (bytes ∷ rows ∷ []) = check_laws.IsWithinLimits bytes rows
@@ -180,8 +181,8 @@ IsAnswerable (Curve script) (bytes ∷ []) = IsWithinRules bytes
 IsAnswerable command files = ⊥
 
 abbrev pub IsAnswer : Command → ℕ → Type 0
-IsAnswer (Analyse net) status = status ≡ 0
-IsAnswer (Edit net edits) status = status ≡ 0
+IsAnswer (Analyse form net) status = status ≡ 0
+IsAnswer (Edit form net edits) status = status ≡ 0
 IsAnswer (Simulate net trace) status = (status ≡ 0) ⊎ (status ≡ 9)
 IsAnswer (Exercise seed) status = (status ≡ 0) ⊎ (status ≡ 9)
 IsAnswer (Check net run) status = (status ≡ 0) ⊎ (status ≡ 9)
@@ -190,8 +191,8 @@ IsAnswer (Curve script) status = status ≡ 0
 
 -- ---- steps, by the status and the counts before and after
 abbrev pub CountsTo : Command → List (List ℕ) → (status old new : ℕ) → Type 0
-CountsTo (Analyse net) (bytes ∷ []) status old new = CountsOn bytes status old new
-CountsTo (Edit net edits) (bytes ∷ rows ∷ []) status old new = edit_counts.CountsOn bytes rows status old new
+CountsTo (Analyse form net) (bytes ∷ []) status old new = CountsOn bytes status old new
+CountsTo (Edit form net edits) (bytes ∷ rows ∷ []) status old new = edit_counts.CountsOn bytes rows status old new
 CountsTo (Simulate net trace) (bytes ∷ rows ∷ []) status old new = run_counts.CountsOn bytes rows status old new
 CountsTo (Exercise seed) [] status old new = CountsOnCells (network_of seed) status old new
 CountsTo (Check net run) (bytes ∷ rows ∷ []) status old new = check_counts.CountsOn bytes rows status old new

@@ -4,8 +4,8 @@ use Rattle.netcalc_cli.specs.declared.words.Command.{Command}
 use Rattle.netcalc_cli.specs.declared.words.Command.TheVariants.{Analyse, Edit, Simulate, Exercise, Check, Measure, Curve}
 
 abbrev pub command_view : Command → commands.Command
-command_view (Analyse net) = commands.Analyse net.now
-command_view (Edit net edits) = commands.Edit net.now edits.now
+command_view (Analyse form net) = commands.Analyse form net.now
+command_view (Edit form net edits) = commands.Edit form net.now edits.now
 command_view (Simulate net trace) = commands.Simulate net.now trace.now
 command_view (Exercise seed) = commands.Exercise seed
 command_view (Check net run) = commands.Check net.now run.now

@@ -1,6 +1,6 @@
 //! The answer of a command. Each has a function of its own, which fetches its files and answers on them.
 
-ghost use Rattle.std.specs.Prelude.{◌≡◌, IfOk};
+ghost use Rattle.std.specs.Prelude.{IfOk};
 ghost use Rattle.rational.specs.Rational.{◌≤ℚ◌};
 ghost use Rattle.min_plus.specs.Functions.{zero_q};
 ghost use Rattle.command_replies.specs.View.{reply_of, status_of};
@@ -18,6 +18,7 @@ use curve_command::on_script;
 use edit_command::on_edits;
 use exercise_command::on_seed;
 use fraction128::Frac;
+use json_report::Form;
 use measure_command::on_measure;
 use outside::{Inputs, NoMemory};
 use simulate_command::on_trace;
@@ -27,35 +28,37 @@ use steps::Steps;
 
 fn on_network<I: Inputs, L: Ledger>(
     alloc: Global,
+    form: Form,
     net: &str,
     inputs: &mut I,
     steps: &mut Steps<L>,
 ) -> Result<Answer, NoMemory>
     ensures reply { IfOk result (λ r. MayReplyTo I.faults I.last_fault (I.content inputs.old)
-        (commands.Analyse net.now) inputs.old inputs.new (reply_of r)) }
-    ensures counts { CountsOnCommand (I.content inputs.old) (commands.Analyse net.now) (status_of result)
+        (commands.Analyse form net.now) inputs.old inputs.new (reply_of r)) }
+    ensures counts { CountsOnCommand (I.content inputs.old) (commands.Analyse form net.now) (status_of result)
         steps.old steps.new }
 {
     match fetch_one(alloc, net, inputs) {
-        Ok(bytes) => on_bytes(alloc, net, &bytes, steps),
+        Ok(bytes) => on_bytes(alloc, net, &bytes, form, steps),
         Err(ended) => ended,
     }
 }
 
 fn on_edited<I: Inputs, L: Ledger>(
     alloc: Global,
+    form: Form,
     net: &str,
     edits: &str,
     inputs: &mut I,
     steps: &mut Steps<L>,
 ) -> Result<Answer, NoMemory>
     ensures reply { IfOk result (λ r. MayReplyTo I.faults I.last_fault (I.content inputs.old)
-        (commands.Edit net.now edits.now) inputs.old inputs.new (reply_of r)) }
-    ensures counts { CountsOnCommand (I.content inputs.old) (commands.Edit net.now edits.now) (status_of result)
+        (commands.Edit form net.now edits.now) inputs.old inputs.new (reply_of r)) }
+    ensures counts { CountsOnCommand (I.content inputs.old) (commands.Edit form net.now edits.now) (status_of result)
         steps.old steps.new }
 {
     match fetch_two(alloc, net, edits, inputs) {
-        Ok((bytes, rows)) => on_edits(alloc, net, &bytes, edits, &rows, steps),
+        Ok((bytes, rows)) => on_edits(alloc, net, &bytes, edits, &rows, form, steps),
         Err(ended) => ended,
     }
 }
@@ -163,8 +166,8 @@ pub(crate) fn answer_to<I: Inputs, L: Ledger>(
         steps.old steps.new }
 {
     match command {
-        Command::Analyse(net) => on_network(alloc, net, inputs, steps),
-        Command::Edit(net, edits) => on_edited(alloc, net, edits, inputs, steps),
+        Command::Analyse(form, net) => on_network(alloc, form, net, inputs, steps),
+        Command::Edit(form, net, edits) => on_edited(alloc, form, net, edits, inputs, steps),
         Command::Simulate(net, trace) => on_simulated(alloc, net, trace, inputs, steps),
         Command::Exercise(seed) => on_exercise(alloc, seed, inputs, steps),
         Command::Check(net, run) => on_checked(alloc, net, run, inputs, steps),

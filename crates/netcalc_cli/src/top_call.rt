@@ -12,7 +12,7 @@ ghost use Rattle.netcalc_cli.specs.Reply.{Gives, GivesOnTold, AnswersWhatItCan, 
 ghost use Rattle.netcalc_cli.specs.Words.{texts, command_of};
 
 use crate::answering::answer_to;
-use crate::words::take_words;
+use crate::words::{parsed, taken};
 use command_replies::Status;
 use outside::{Inputs, Sink};
 use std::sync::ledger::Ledger;
@@ -36,7 +36,8 @@ fn give<K: Sink>(out: &mut K, status: Status, text: &[u8]) -> u8
     }
 }
 
-/// Does what the words ask for, and gives the status. The program's name is the first word.
+/// Does what the words ask for, and gives the status. The program's name is the first word. Words that are taken are
+/// parsed with `clap`, which refuses them only for want of memory.
 ///
 /// `analyse NET` reads a file of a network, and writes the bounds on its delays and backlogs. The order is: the
 /// words, the file, its tables, its curves, the order of its servers, the cells, one `put`. `edit NET EDITS` fetches
@@ -48,7 +49,8 @@ fn give<K: Sink>(out: &mut K, status: Status, text: &[u8]) -> u8
 /// largest bound and largest worst delay. `measure NET TRACE FLOW RATE` fetches both files first, reads the second
 /// one after the first one's curves, and writes the least arrival curve of the flow's packets and the least bucket of
 /// the rate that they keep. `curve FILE` reads a script of curve expressions, and writes its answers. The order is:
-/// the words, the file, its lines, its statements, one `put`. Each refusal but 4 and 5 writes one line.
+/// the words, the file, its lines, its statements, one `put`. With `--json`, once at any place after the word, `analyse`
+/// and `edit` write their report as JSON. Each refusal but 4 and 5 writes one line, in either form.
 pub fn run<I: Inputs, K: Sink, L: Ledger>(
     words: &[String],
     inputs: &mut I,
@@ -92,16 +94,16 @@ pub fn run<I: Inputs, K: Sink, L: Ledger>(
         Brings TellsBreach (I.content inputs.old) command result (K.written out.old) (K.written out.new)) }
 
     // 0 only where what was asked for is written. Of `analyse`: the file gives a network whose cells have their
-    // answers in a table that meets the equations, and the report has the numbers of the table, which every run of
-    // the network keeps. By a law `unbounded` stands for infinity alone. Of `edit`: so it is for the network that the
-    // edits leave, and what is said of each is its answer by the network that those before it left. Of `simulate`: so
-    // it is for the file's network, and the stated run of it with the trace keeps all premises; no number of the run
-    // is above its bound. Of `exercise`: so it is for the workload's network and trace, and in every run of the network
-    // that keeps the premises no packet takes longer than the largest bound that is written. Of `check`: so it is for
-    // the file's network, and the recorded run is lawful and keeps all premises. Of `measure`: the steps
-    // are those of the least arrival curve of the packets of the live flow with the name; they keep it, and each curve
-    // that they keep is at least it; and they keep the bucket of the burst and the rate, and no bucket of this rate
-    // with a smaller burst. Of `curve`: the answers that the script finds and means.
+    // answers in a table that meets the equations, and the report, line by line or as JSON, has the numbers of the
+    // table, which every run of the network keeps. By a law `unbounded` stands for infinity alone. Of `edit`: so it is
+    // for the network that the edits leave, and what is said of each is its answer by the network that those before
+    // it left. Of `simulate`: so it is for the file's network, and the stated run of it with the trace keeps all
+    // premises; no number of the run is above its bound. Of `exercise`: so it is for the workload's network and trace,
+    // and in every run of the network that keeps the premises no packet takes longer than the largest bound that is
+    // written. Of `check`: so it is for the file's network, and the recorded run is lawful and keeps all premises. Of
+    // `measure`: the steps are those of the least arrival curve of the packets of the live flow with the name; they
+    // keep it, and each curve that they keep is at least it; and they keep the bucket of the burst and the rate, and
+    // no bucket of this rate with a smaller burst. Of `curve`: the answers that the script finds and means.
     ensures done { result ≡ 0 → IfSome (command_of (texts words.now)) (λ command.
         Brings IsDone (I.content inputs.old) command result (K.written out.old) (K.written out.new)) }
 
@@ -140,10 +142,13 @@ pub fn run<I: Inputs, K: Sink, L: Ledger>(
     // Of `measure` one step after the folds.
     ensures counts { Counts I.content (command_of (texts words.now)) inputs.old result steps.old steps.new }
 {
-    let Some(taken) = take_words(words) else {
+    let Some(alloc) = taken(words) else {
         return give(out, Status::Usage, USAGE.as_bytes());
     };
-    match answer_to(taken.alloc, taken.command, inputs, steps) {
+    let Ok(command) = parsed(alloc, words) else {
+        return Status::NoMemory.code();
+    };
+    match answer_to(alloc, command, inputs, steps) {
         Ok(answer) => give(out, answer.status, &answer.text),
         Err(_) => Status::NoMemory.code(),
     }

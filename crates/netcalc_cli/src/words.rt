@@ -1,22 +1,27 @@
 //! The words of the command line.
-ghost use Rattle.std.specs.Prelude.{◌≡◌, ◌&&◌, [], ◌∷◌, option_map, string_bytes, IfSome};
+ghost use Rattle.std.specs.Prelude.{◌≡◌, ◌++◌, IfOk, IfSome, IfNone, IsSome, is_some, map, option_map};
+ghost use Rattle.std.specs.List.{list_all};
 ghost use Rattle.rational.specs.Rational.{◌≤ℚ◌};
 ghost use Rattle.min_plus.specs.Functions.{zero_q};
+ghost use Rattle.command_words.specs.Lines.{is_operand, operands_of, asks_json};
 ghost use Rattle.netcalc_cli.specs.Commands.{HasRate};
 ghost use Rattle.netcalc_cli.specs.View.{command_view};
-ghost use Rattle.netcalc_cli.specs.Words.{texts, is_operand, in_64_bits, seed_of, rate_of, on_one, on_two, on_four};
-ghost use Rattle.netcalc_cli.specs.Words.{command_of};
+ghost use Rattle.netcalc_cli.specs.Words.{texts, in_64_bits, seed_of, rate_of, on_one, on_two, on_four};
+ghost use Rattle.netcalc_cli.specs.Words.{in_lines, in_json, called, command_on, command_of};
 
+use command_words::{around_json, is_operand, parse, word_of};
 use fraction128::{Frac, is_less, read_digits};
+use json_report::Form;
+use outside::NoMemory;
 use std::alloc::Global;
 
 /// What a command line asks for, with the names of its files, and with what its other words say.
 #[derive(Clone, Copy)]
 pub(crate) enum Command<'a> {
-    /// The bounds of a network.
-    Analyse(&'a str),
-    /// The bounds of a network after edits.
-    Edit(&'a str, &'a str),
+    /// The bounds of a network, in a form.
+    Analyse(Form, &'a str),
+    /// The bounds of a network after edits, in a form.
+    Edit(Form, &'a str, &'a str),
     /// The run of a network and a trace beside the bounds.
     Simulate(&'a str, &'a str),
     /// The summary of the workload of a number, analysed and simulated.
@@ -28,28 +33,6 @@ pub(crate) enum Command<'a> {
     Measure(&'a str, &'a str, &'a str, Frac),
     /// The answers of a script of curve expressions.
     Curve(&'a str),
-}
-
-/// The command of a command line that is taken, and the allocator of its words.
-#[derive(Clone, Copy)]
-pub(crate) struct Taken<'a> {
-    pub alloc: Global,
-    pub command: Command<'a>,
-}
-
-fn is_operand(word: &str) -> bool
-    ensures { result ≡ is_operand word.now }
-{
-    match word.as_bytes() {
-        [] => false,
-        [first, ..] => *first != b'-',
-    }
-}
-
-fn are_both_operands(first: &str, second: &str) -> bool
-    ensures { result ≡ (is_operand first.now && is_operand second.now) }
-{
-    is_operand(first) && is_operand(second)
 }
 
 fn in_64_bits(number: u128) -> Option<u64>
@@ -76,7 +59,7 @@ fn on_one<'a>(word: &str, operand: &'a str) -> Option<Command<'a>>
     ensures rate { IfSome result (λ c. HasRate (command_view c)) }
 {
     if word == "analyse" {
-        return Some(Command::Analyse(operand));
+        return Some(Command::Analyse(Form::Lines, operand));
     }
     if word == "curve" {
         return Some(Command::Curve(operand));
@@ -96,7 +79,7 @@ fn on_two<'a>(word: &str, first: &'a str, second: &'a str) -> Option<Command<'a>
     ensures rate { IfSome result (λ c. HasRate (command_view c)) }
 {
     if word == "edit" {
-        return Some(Command::Edit(first, second));
+        return Some(Command::Edit(Form::Lines, first, second));
     }
     if word == "simulate" {
         return Some(Command::Simulate(first, second));
@@ -141,76 +124,120 @@ fn on_four<'a>(
     }
 }
 
-fn with_one<'a>(word: &str, operand: &'a String) -> Option<Taken<'a>>
-    ensures command { option_map (λ t. command_view t.command) result
-        ≡ command_of ([] ∷ word.now ∷ string_bytes operand.now ∷ []) }
-    ensures rate { IfSome result (λ t. HasRate (command_view t.command)) }
+// The command of this word on its operands, with a report in lines.
+fn in_lines<'a>(word: &str, operands: &[&'a str]) -> Option<Command<'a>>
+    ensures command { option_map command_view result ≡ in_lines word.now (map (λ s. s.now) operands.now) }
+    ensures rate { IfSome result (λ c. HasRate (command_view c)) }
 {
-    if !is_operand(operand.as_str()) {
-        return None;
-    }
-    let alloc = *operand.allocator();
-    match on_one(word, operand.as_str()) {
-        Some(command) => Some(Taken { alloc, command }),
-        None => None,
-    }
-}
-
-fn with_two<'a>(word: &str, first: &'a String, second: &'a String) -> Option<Taken<'a>>
-    ensures command { option_map (λ t. command_view t.command) result ≡
-        command_of ([] ∷ word.now ∷ string_bytes first.now ∷ string_bytes second.now ∷ []) }
-    ensures rate { IfSome result (λ t. HasRate (command_view t.command)) }
-{
-    if !are_both_operands(first.as_str(), second.as_str()) {
-        return None;
-    }
-    let alloc = *first.allocator();
-    match on_two(word, first.as_str(), second.as_str()) {
-        Some(command) => Some(Taken { alloc, command }),
-        None => None,
-    }
-}
-
-fn with_four<'a>(
-    word: &str,
-    net: &'a String,
-    trace: &'a String,
-    name: &'a String,
-    rate: &'a String,
-) -> Option<Taken<'a>>
-    ensures command { option_map (λ t. command_view t.command) result ≡
-        command_of ([] ∷ word.now ∷ string_bytes net.now ∷ string_bytes trace.now ∷ string_bytes name.now
-        ∷ string_bytes rate.now ∷ []) }
-    ensures rate { IfSome result (λ t. HasRate (command_view t.command)) }
-{
-    if !are_both_operands(net.as_str(), trace.as_str())
-        || !are_both_operands(name.as_str(), rate.as_str())
-    {
-        return None;
-    }
-    let alloc = *net.allocator();
-    match on_four(
-        word,
-        net.as_str(),
-        trace.as_str(),
-        name.as_str(),
-        rate.as_str(),
-    ) {
-        Some(command) => Some(Taken { alloc, command }),
-        None => None,
-    }
-}
-
-/// Reads the words, the program's name first. None where they are not taken.
-#[tactic(auto, using(crate::proofs::WordLists::other_numbers))]
-pub(crate) fn take_words(words: &[String]) -> Option<Taken<'_>>
-    ensures command { option_map (λ t. command_view t.command) result ≡ command_of (texts words.now) }
-    ensures rate { IfSome result (λ t. HasRate (command_view t.command)) }
-{
-    match words {
-        [_, word, operand] => with_one(word.as_str(), operand),
-        [_, word, first, second] => with_two(word.as_str(), first, second),
-        [_, word, net, trace, name, rate] => with_four(word.as_str(), net, trace, name, rate),
+    match operands {
+        [operand] => on_one(word, operand),
+        [first, second] => on_two(word, first, second),
+        [net, trace, name, rate] => on_four(word, net, trace, name, rate),
         _ => None,
+    }
+}
+
+// The command of this word on its operands, with a report in JSON.
+fn in_json<'a>(word: &str, operands: &[&'a str]) -> Option<Command<'a>>
+    ensures command { option_map command_view result ≡ in_json word.now (map (λ s. s.now) operands.now) }
+    ensures rate { IfSome result (λ c. HasRate (command_view c)) }
+{
+    match operands {
+        [file] if word == "analyse" => Some(Command::Analyse(Form::Json, file)),
+        [first, second] if word == "edit" => Some(Command::Edit(Form::Json, first, second)),
+        _ => None,
+    }
+}
+
+// The command of this word on its operands.
+fn called<'a>(word: &str, operands: &[&'a str], json: bool) -> Option<Command<'a>>
+    ensures command { option_map command_view result ≡ called word.now (map (λ s. s.now) operands.now) json }
+    ensures rate { IfSome result (λ c. HasRate (command_view c)) }
+{
+    if json {
+        in_json(word, operands)
+    } else {
+        in_lines(word, operands)
+    }
+}
+
+// Whether this word on the words of two lists is a command.
+fn is_called(word: &str, before: &[String], after: &[String], json: bool) -> bool
+    ensures { result ≡ is_some (called word.now (texts (before.now ++ after.now)) json) }
+{
+    let count = before.len() + after.len();
+    if count == 1 {
+        let file = word_of(before, after, 0).as_str();
+        return called(word, &[file], json).is_some();
+    }
+    if count == 2 {
+        let first = word_of(before, after, 0).as_str();
+        let second = word_of(before, after, 1).as_str();
+        return called(word, &[first, second], json).is_some();
+    }
+    if count == 4 {
+        let net = word_of(before, after, 0).as_str();
+        let trace = word_of(before, after, 1).as_str();
+        let name = word_of(before, after, 2).as_str();
+        let rate = word_of(before, after, 3).as_str();
+        return called(word, &[net, trace, name, rate], json).is_some();
+    }
+    false
+}
+
+fn are_operands(words: &[String]) -> bool
+    ensures { result ≡ list_all is_operand (texts words.now) }
+{
+    words.iter().all(|word| is_operand(word.as_str()))
+}
+
+// Whether the words of two lists are operands.
+fn are_all_operands(before: &[String], after: &[String]) -> bool
+    ensures { result ≡ list_all is_operand (texts (before.now ++ after.now)) }
+{
+    are_operands(before) && are_operands(after)
+}
+
+// Whether this word is a command on the words of two lists, and these are operands.
+fn is_command_on(word: &str, before: &[String], after: &[String], json: bool) -> bool
+    ensures { result ≡ is_some (command_on word.now (texts (before.now ++ after.now)) json) }
+{
+    are_all_operands(before, after) && is_called(word, before, after, json)
+}
+
+// Whether this word with what stands behind it is a command on operands.
+fn is_command(word: &str, rest: &[String]) -> bool
+    ensures { result ≡ is_some (command_on word.now (operands_of (texts rest.now)) (asks_json (texts rest.now))) }
+{
+    match around_json(rest) {
+        Some((before, after)) => is_command_on(word, before, after, true),
+        None => is_command_on(word, rest, &[], false),
+    }
+}
+
+/// The allocator of words, the program's name first. None where they are not taken.
+pub(crate) fn taken(words: &[String]) -> Option<Global>
+    ensures taken { IfSome result (λ alloc. IsSome (command_of (texts words.now))) }
+    ensures not_taken { IfNone result (command_of (texts words.now) ≡ None) }
+{
+    let [_, word, rest @ ..] = words else {
+        return None;
+    };
+    if !is_command(word.as_str(), rest) {
+        return None;
+    }
+    Some(*word.allocator())
+}
+
+/// What taken words ask for, as `clap` parses them. Refused only for want of memory.
+pub(crate) fn parsed<'a>(alloc: Global, words: &'a [String]) -> Result<Command<'a>, NoMemory>
+    requires { IsSome (command_of (texts words.now)) }
+    ensures command { IfOk result (λ c. Some (command_view c) ≡ command_of (texts words.entry.now)) }
+    ensures rate { IfOk result (λ c. HasRate (command_view c)) }
+{
+    let call = parse(alloc, words)?;
+    match called(call.word, &call.operands, call.json) {
+        Some(command) => Ok(command),
+        None => unreachable!(),
     }
 }

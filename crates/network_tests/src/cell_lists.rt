@@ -1,5 +1,6 @@
 //! The cells of small networks, worked out by hand.
 
+use crate::texts::network;
 use net_cells::{Cell, Kind, cells, operands, work};
 use net_model::{Network, plain_network};
 use std::alloc::Global;
@@ -68,6 +69,62 @@ fn sums_go_by_flow(rt: HostRuntime) -> Result<(), Fail> {
     assert_eq!(rt; work(cell(Kind::Total, 0, 0), &net), 2);
     assert_eq!(rt; work(cell(Kind::Cross, 2, 1), &net), 1);
     assert_eq!(rt; work(cell(Kind::Cross, 2, 0), &net), 0);
+    Ok(())
+}
+
+/// Two of the flows come to `c` from `a`, one from `b`, and one enters there.
+const SHARED_LINKS: &str = "
+version = 2
+[[server]]
+name = 'a'
+rate = 100
+[[server]]
+name = 'b'
+rate = 200
+[[server]]
+name = 'c'
+rate = 300
+[[flow]]
+name = 'first'
+packet = 1000
+arrival = { kind = 'bucket', burst = 1000, rate = 1 }
+path = ['a', 'c']
+[[flow]]
+name = 'second'
+packet = 1000
+arrival = { kind = 'bucket', burst = 1000, rate = 1 }
+path = ['c']
+[[flow]]
+name = 'third'
+packet = 1000
+arrival = { kind = 'bucket', burst = 1000, rate = 1 }
+path = ['b', 'c']
+[[flow]]
+name = 'fourth'
+packet = 1000
+arrival = { kind = 'bucket', burst = 1000, rate = 1 }
+path = ['a', 'c']
+";
+
+// First the flow that enters, then those that come from `a`, then the one from `b`: three sums, and two parts are cut.
+#[test]
+fn parts_go_by_the_server_before(rt: HostRuntime) -> Result<(), Fail> {
+    let net = network(rt.alloc(), &[SHARED_LINKS])?;
+    let parts = [
+        cell(Kind::In, 1, 0),
+        cell(Kind::In, 0, 1),
+        cell(Kind::In, 3, 1),
+        cell(Kind::In, 2, 1),
+    ];
+    expect_operands(&rt, rt.alloc(), &net, cell(Kind::Total, 2, 0), &parts);
+    assert_eq!(rt; work(cell(Kind::Total, 2, 0), &net), 5);
+    let others = [
+        cell(Kind::In, 1, 0),
+        cell(Kind::In, 2, 1),
+        cell(Kind::In, 3, 1),
+    ];
+    expect_operands(&rt, rt.alloc(), &net, cell(Kind::Cross, 0, 1), &others);
+    assert_eq!(rt; work(cell(Kind::Cross, 0, 1), &net), 2);
     Ok(())
 }
 

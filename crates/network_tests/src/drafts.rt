@@ -79,7 +79,7 @@ fn each_fault_has_its_place(rt: HostRuntime) -> Result<(), Fail> {
             NetKind::M11,
             "server[0].quanta",
         ),
-        ("version = 2", NetKind::M6, "version"),
+        ("version = 3", NetKind::M6, "version"),
         ("server = [1]", NetKind::M4, "server[0]"),
     ];
     for (text, kind, place) in &rows {

@@ -118,7 +118,8 @@ fn fraction(text: &str) -> Frac {
     Frac::parse(text.as_bytes()).unwrap_or(Frac::zero())
 }
 
-fn network(alloc: Global, parts: &[&str]) -> Result<Network, Fail> {
+/// The network of a text in parts.
+pub(crate) fn network(alloc: Global, parts: &[&str]) -> Result<Network, Fail> {
     let text = joined(alloc, parts)?;
     match read(alloc, text.as_bytes()) {
         Ok(network) => Ok(network),

@@ -94,13 +94,13 @@ fresh_opening net trace ok fine named k x f =
 start_at : (net : Net) (trace : SpecTrace) (k : ℕ) (y : NetServer) → slice_get net.servers k ≡ Some y
     → state_at (run_start (setup_of net trace).net) k ≡ start y.discipline
 start_at net trace k y e =
-    start_in net.servers k y e
+    start_in net.version net.servers k y e
   where
-    start_in : (servers : List NetServer) (k : ℕ) (y : NetServer) → slice_get servers k ≡ Some y
-        → get_or (map (λ (s : Server). start s.discipline) (map server_for servers)) k (start Fifo) ≡ start y.discipline
-    start_in [] k y e = absurd (cc)
-    start_in (x ∷ xs) zero y e = let g : x ≡ y = cc in ap (λ (z : NetServer). start z.discipline) g
-    start_in (x ∷ xs) (suc k) y e = start_in xs k y e
+    start_in : (version : ℕ) (servers : List NetServer) (k : ℕ) (y : NetServer) → slice_get servers k ≡ Some y
+        → get_or (map (λ (s : Server). start s.discipline) (map (server_for version) servers)) k (start Fifo) ≡ start y.discipline
+    start_in version [] k y e = absurd (cc)
+    start_in version (x ∷ xs) zero y e = let g : x ≡ y = cc in ap (λ (z : NetServer). start z.discipline) g
+    start_in version (x ∷ xs) (suc k) y e = start_in version xs k y e
 
 vacant : (S : Setup) (s : ℕ) (y : NetServer) (o : Opening) → o.passed ≡ 0 → IsNextOf S s (start y.discipline) o Nothing
 vacant S s y o p = record { idle = refl; none = refl; over = λ k d h. absurd (omega (arith, h, p)) }
@@ -112,8 +112,8 @@ fresh_station net trace ok fine named k x f =
     let y = f.server in
     let discipline : (server_at S.net k).discipline ≡ y.discipline =
     ap (λ (z : Server). z.discipline)
-    (get_or_from_slice_get (map server_for net.servers) k (server_for y) record { discipline = Fifo; pace = None }
-    (slice_get-map server_for net.servers k ∙ ap (option_map server_for) f.at)) in
+    (get_or_from_slice_get (map (server_for net.version) net.servers) k (server_for net.version y) record { discipline = Fifo; pace = None }
+    (slice_get-map (server_for net.version) net.servers k ∙ ap (option_map (server_for net.version)) f.at)) in
     let rate : rate_of S k ≡ y.rate =
     get_or_from_slice_get (map (λ (z : NetServer). z.rate) net.servers) k y.rate (int (pos 1))
     (slice_get-map (λ (z : NetServer). z.rate) net.servers k ∙ ap (option_map (λ (z : NetServer). z.rate)) f.at) in
@@ -197,7 +197,7 @@ pub new_runs : (net : Net) (trace : SpecTrace) (D : ℕ) (E : ℚ) → IsAccepte
 new_runs net trace D E ok fine named fits stations links arrivals fresh no_link many =
     let S = setup_of net trace in
     let packets : length S.packets ≡ length trace.packets = length-map trace.packets entering in
-    let servers : length S.net.servers ≡ length net.servers = length-map net.servers server_for in
+    let servers : length S.net.servers ≡ length net.servers = length-map net.servers (server_for net.version) in
     let few = fine.few in
     let few_servers = ok.few_servers in
     record {

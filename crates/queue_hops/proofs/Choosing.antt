@@ -1,18 +1,20 @@
 -- The hops at a server, found flow by flow, are those of the definitions.
 use Rattle.std.proofs.Common.{◌≡◌, ◌≢◌, ℕ, zero, suc, ◌<◌, ◌≤◌, ◌+◌, List, [], ◌∷◌, ◌++◌, length, map, refl, sym, ap, ◌∙◌, subst, arith, inl, inr, Bool, true, false, append-nil, append_assoc, max}
-use Rattle.std.specs.Prelude.{Option, Some, None, slice_index}
+use Rattle.std.specs.Prelude.{Option, Some, None, slice_index, ◌==◌}
 use Rattle.std.specs.List.{filter, flat_map, range_with_len}
 use Rattle.std.proofs.lemmas.Bool.{cases_lt, cond-true, cond-false, eq-eqb, ne_eqb}
 use Rattle.std.proofs.lemmas.List.FromFn.{map-range_with_len_more}
 use Rattle.net_model.specs.Networks.{Net, NetFlow}
 use Rattle.net_model.specs.Accepted.{IsAccepted}
-use Rattle.net_cells.specs.Numbered.{flow_at, path_of, hops, server_of_hop}
+use Rattle.net_cells.specs.Numbered.{flow_at, path_of, hops, server_of_hop, queue_of_hop}
 use Rattle.net_cells.specs.declared.visit.Visit.{Visit}
 use Rattle.net_cells.specs.Visits.{visit, visits, is_at, visits_in, others, longest_of}
+use Rattle.net_cells.specs.QueueParts.{part_of, in_part}
+use Rattle.net_cells.proofs.Counting.{filter_twice}
 use Rattle.net_cells.proofs.Growing.{filter_flat, flat_more, kept_number, dropped_number}
 use Rattle.net_cells.proofs.Stored.{flow_kept}
 use Rattle.queue_hops.specs.declared.found.Pick.{Pick}
-use Rattle.queue_hops.specs.declared.found.Pick.TheVariants.{InQueue}
+use Rattle.queue_hops.specs.declared.found.Pick.TheVariants.{InQueue, InPart}
 use Rattle.queue_hops.specs.Chosen.{flow_visits, picks, is_other, picked, chosen, all_picked, all_chosen}
 
 -- ---- one of a row
@@ -87,6 +89,16 @@ queue_visits net s q = sym (filter_all (visits_in net s q)) ∙ chosen_are net s
 
 pub other_visits : (net : Net) (i s q : ℕ) → others net i s q ≡ all_chosen net s (InQueue q) (Some i) (length net.flows)
 other_visits net i s q = chosen_are net s (InQueue q) (Some i)
+
+-- those of a part are those of the queue that are of it
+pub part_picked : (net : Net) (s q k : ℕ) → in_part net s q k ≡ all_picked net s (InPart q k) (length net.flows)
+part_picked net s q k =
+    filter_twice (λ v. part_of net v == k) (λ v. queue_of_hop net v.flow v.hop == q) (visits net s) ∙ picked_are net s (InPart q k)
+
+pub part_visits : (net : Net) (s q k : ℕ) → in_part net s q k ≡ all_chosen net s (InPart q k) None (length net.flows)
+part_visits net s q k =
+    filter_twice (λ v. part_of net v == k) (λ v. queue_of_hop net v.flow v.hop == q) (visits net s)
+    ∙ sym (filter_all (filter (picks net (InPart q k)) (visits net s))) ∙ chosen_are net s (InPart q k) None
 
 pub all_chosen_more : (net : Net) (s : ℕ) (pick : Pick) (except : Option ℕ) (n : ℕ)
     → all_chosen net s pick except (n + 1) ≡ all_chosen net s pick except n ++ chosen net s pick except n

@@ -1,12 +1,13 @@
 -- The hops at a server, flow by flow. Own choice.
-use Rattle.std.specs.Prelude.{ℕ, ◌==◌, List, [], ◌∷◌, map, Bool, true, not, nat_lt, Option, Some, None}
+use Rattle.std.specs.Prelude.{ℕ, ◌==◌, ◌&&◌, List, [], ◌∷◌, map, Bool, true, not, nat_lt, Option, Some, None}
 use Rattle.std.specs.List.{filter, flat_map, range_with_len}
 use Rattle.net_model.specs.Networks.{Net}
 use Rattle.net_cells.specs.Numbered.{hops, queue_of_hop}
 use Rattle.net_cells.specs.declared.visit.Visit.{Visit}
 use Rattle.net_cells.specs.Visits.{visit, is_at}
+use Rattle.net_cells.specs.QueueParts.{part_of}
 use Rattle.queue_hops.specs.declared.found.Pick.{Pick}
-use Rattle.queue_hops.specs.declared.found.Pick.TheVariants.{InQueue, AfterQueue}
+use Rattle.queue_hops.specs.declared.found.Pick.TheVariants.{InQueue, AfterQueue, InPart}
 
 -- those of a flow
 abbrev pub flow_visits : Net → ℕ → ℕ → List Visit
@@ -17,10 +18,11 @@ abbrev pub visit_list : ℕ → Option ℕ → List Visit
 visit_list i None = []
 visit_list i (Some k) = visit i k ∷ []
 
--- in one queue, or in the queues of greater number
+-- in one queue, in the queues of greater number, or in one part of a queue
 abbrev pub picks : Net → Pick → Visit → Bool
 picks net (InQueue q) v = queue_of_hop net v.flow v.hop == q
 picks net (AfterQueue q) v = nat_lt q (queue_of_hop net v.flow v.hop)
+picks net (InPart q k) v = (queue_of_hop net v.flow v.hop == q) && (part_of net v == k)
 
 -- of another flow than this one, if there is one
 abbrev pub is_other : Option ℕ → Visit → Bool

@@ -7,14 +7,16 @@ ghost use Rattle.queue_hops.specs.Chosen.{flow_visits, visit_list, picked, chose
 ghost use Rattle.queue_hops.specs.Chosen as spec;
 
 use fraction128::Frac;
-use net_cells::{hops, live_flow, queue_of_hop, server, server_of_hop};
+use net_cells::{Visit, hops, live_flow, part_of, queue_of_hop, server, server_of_hop};
 use net_model::Network;
 
-/// Which hops at a server are meant: those in a queue, or those in the queues of greater number.
+/// Which hops at a server are meant: those in a queue, those in the queues of greater number, or those in one part of a
+/// queue.
 #[derive(Debug, Clone, Copy)]
 pub enum Pick {
     InQueue(u32),
     AfterQueue(u32),
+    InPart(u32, u64),
 }
 
 /// The bits of a flow's longest packet; 0 where it is not live.
@@ -33,6 +35,16 @@ pub fn link(net: &Network, number: u32) -> Frac
 {
     match server(net, number) {
         Some(found) => found.link,
+        None => Frac::zero(),
+    }
+}
+
+/// The rate of a server; 0 past the last one.
+pub fn rate(net: &Network, number: u32) -> Frac
+    ensures { result ≡ at.rate net.now number }
+{
+    match server(net, number) {
+        Some(found) => found.rate,
         None => Frac::zero(),
     }
 }
@@ -56,6 +68,9 @@ fn picks(net: &Network, pick: Pick, flow: u32, hop: u32) -> bool
     match pick {
         Pick::InQueue(queue) => queue_of_hop(net, flow, hop) == queue,
         Pick::AfterQueue(queue) => queue < queue_of_hop(net, flow, hop),
+        Pick::InPart(queue, part) => {
+            queue_of_hop(net, flow, hop) == queue && part_of(net, Visit { flow, hop }) == part
+        }
     }
 }
 

@@ -22,8 +22,9 @@ use Rattle.sim_bounds.specs.Gauge.{numbers_of_curves, curves_of}
 use Rattle.run_check.specs.Walks.{StepFits}
 use Rattle.check_gauge.specs.Runs.{entering_bits, total_bits, works_of, last_time}
 use Rattle.check_gauge.specs.Gauge.{check_sizes, farthest}
+use Rattle.check_gauge.specs.Paces.{PacesFit}
 use Rattle.check_gauge.proofs.Held.{Fits, fits}
-use Rattle.check_gauge.proofs.Fitting.{StepTimes, rest_times, end_by, step_times_of}
+use Rattle.check_gauge.proofs.Fitting.{StepTimes, rest_times, end_by, step_times_of, all_paces_fit}
 use Rattle.recorded_sizes.specs.Laws.{RecordedRunsHaveNumbers}
 use Rattle.recorded_sizes.proofs.Links.{leaves}
 
@@ -53,29 +54,29 @@ leave_time : (d : ℕ) (e : ℚ) (s p : ℕ) (t : ℚ) (xs : List Step) → Step
 leave_time d e s p t xs h = record { on_grid = h.whole.0; from_zero = h.from_zero.0; by = end_by d e (Leave s p t) xs h }
 
 steps_fit : (net : Net) (run : SpecRun) (xs : List Step) → IsAccepted net → Fits net run → StepTimes (check_sizes net run).dt (last_time run) xs
-    → total_bits xs ≤ (check_sizes net run).largest → AllByRecursion (IsValue (check_sizes net run)) (works_of xs)
+    → total_bits xs ≤ (check_sizes net run).largest → AllByRecursion (IsValue (check_sizes net run)) (works_of xs) → PacesFit xs
     → AllByRecursion (StepFits (routes_of net) (check_sizes net run).dv (int (pos (check_sizes net run).largest))) xs
-steps_fit net run [] ok h t n v = tt
-steps_fit net run (Enter f p at b ∷ xs) ok h t n v =
+steps_fit net run [] ok h t n v f = tt
+steps_fit net run (Enter i p at b ∷ xs) ok h t n v f =
     let z = check_sizes net run in
-    let more : total_bits (Enter f p at b ∷ xs) ≡ b + total_bits xs = sum_by-cons entering_bits (Enter f p at b) xs in (
+    let more : total_bits (Enter i p at b ∷ xs) ≡ b + total_bits xs = sum_by-cons entering_bits (Enter i p at b) xs in (
       record { on_grid = whole_int z.dv (pos b); from_zero = nat_nonneg b; by = nat_le b z.largest (omega (arith, n, more)) },
-      steps_fit net run xs ok h (rest_times z.dt (last_time run) (Enter f p at b) xs t) (omega (arith, n, more)) v,
+      steps_fit net run xs ok h (rest_times z.dt (last_time run) (Enter i p at b) xs t) (omega (arith, n, more)) v f.1,
     )
-steps_fit net run (Reach s p at ∷ xs) ok h t n v =
-    (tt, steps_fit net run xs ok h (rest_times (check_sizes net run).dt (last_time run) (Reach s p at) xs t) n v)
-steps_fit net run (Work s p a b w ∷ xs) ok h t n v =
+steps_fit net run (Reach s p at ∷ xs) ok h t n v f =
+    (tt, steps_fit net run xs ok h (rest_times (check_sizes net run).dt (last_time run) (Reach s p at) xs t) n v f.1)
+steps_fit net run (Work s p a b w ∷ xs) ok h t n v f =
     let z = check_sizes net run in (
-      λ some. record { on_grid = v.0.whole; from_zero = le_of_lt some; by = v.0.within.high },
-      steps_fit net run xs ok h (rest_times z.dt (last_time run) (Work s p a b w) xs t) n v.1,
+      (λ some. record { on_grid = v.0.whole; from_zero = le_of_lt some; by = v.0.within.high }, λ l. let fit = f.0 l in (fit.time, fit.pace)),
+      steps_fit net run xs ok h (rest_times z.dt (last_time run) (Work s p a b w) xs t) n v.1 f.1,
     )
-steps_fit net run (Leave s p at ∷ xs) ok h t n v =
+steps_fit net run (Leave s p at ∷ xs) ok h t n v f =
     let z = check_sizes net run in (
       (leaves net run s at ok h (leave_time z.dt (last_time run) s p at xs t)).fits,
-      steps_fit net run xs ok h (rest_times z.dt (last_time run) (Leave s p at) xs t) n v,
+      steps_fit net run xs ok h (rest_times z.dt (last_time run) (Leave s p at) xs t) n v f.1,
     )
-steps_fit net run (Visit s q at ∷ xs) ok h t n v =
-    (tt, steps_fit net run xs ok h (rest_times (check_sizes net run).dt (last_time run) (Visit s q at) xs t) n v)
+steps_fit net run (Visit s q at ∷ xs) ok h t n v f =
+    (tt, steps_fit net run xs ok h (rest_times (check_sizes net run).dt (last_time run) (Visit s q at) xs t) n v f.1)
 
 at_place : {A : Type 0} (P : A → Type 0) (xs : List A) (k : ℕ) (x : A) → AllByRecursion P xs → slice_get xs k ≡ Some x → P x
 at_place P [] k x h e = absurd (cc)
@@ -86,7 +87,8 @@ pub recorded_numbers : RecordedRunsHaveNumbers
 recorded_numbers net run ok low small =
     let h = fits net run small in
     let z = check_sizes net run in
-    let all = steps_fit net run run.steps ok h (step_times_of net run h low) h.bits (every_left (IsValue z) (works_of run.steps) (numbers_of_curves (last_time run) (curves_of net)).values h.stands.values) in
+    let all = steps_fit net run run.steps ok h (step_times_of net run h low) h.bits (every_left (IsValue z) (works_of run.steps) (numbers_of_curves (last_time run) (curves_of net)).values h.stands.values)
+    (all_paces_fit net run h low) in
     record {
       grid = z.dv;
       most = int (pos z.largest);

@@ -50,7 +50,6 @@ stands net run k w x f e =
       state = state_before net run k;
       keeps = f.keeps;
       paths = f.walkable.paths;
-      no_pace = f.walkable.no_pace;
       recorded = recorded_at net (run_start net) run.steps k x f.walkable.recorded e;
       numbers = f.walkable.fit.numbers;
       fits = f.walkable.fit.fits k x e;

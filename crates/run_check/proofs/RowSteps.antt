@@ -2,10 +2,11 @@
 use Rattle.std.proofs.Common.{◌≡◌, ℕ, refl, sym, ap, ◌∙◌, subst, arith, inl, inr, ◌⊎◌, Some, None, true, false}
 use Rattle.std.specs.Prelude.{Option, ◌≢◌, ◌↔◌, Bool, IsTrue, pos}
 use Rattle.std.proofs.lemmas.Bool.{cases_eq}
-use Rattle.rational.specs.Rational.{ℚ, int, neg_ℚ, ◌+ℚ◌, ◌-ℚ◌, ◌≤ℚ◌, ◌<ℚ◌}
+use Rattle.rational.specs.Rational.{ℚ, int, neg_ℚ, ◌+ℚ◌, ◌-ℚ◌, ◌/ℚ◌, ◌≤ℚ◌, ◌<ℚ◌}
 use Rattle.rational.specs.Ratio.{SumFits}
-use Rattle.rational.proofs.Laws.{le_of_not_lt, lt_of_not_le}
-use Rattle.rational.proofs.Linear.{with3, with4, with5}
+use Rattle.rational.proofs.Laws.{le_of_not_lt, lt_of_not_le, lt_irrefl}
+use Rattle.rational.proofs.Linear.{with2, with3, with4, with5}
+use Rattle.rational.proofs.Quotients.{lt_div}
 use Rattle.run_laws.specs.Cards.{Card, size, Works}
 use Rattle.run_laws.specs.Servers.{Discipline, Under, ServerState, done, done_so_far}
 use Rattle.run_laws.specs.Next.{next}
@@ -17,7 +18,7 @@ use Rattle.sim_servers.specs.Queues.{served_by, StandFor, work_goes_on}
 use Rattle.run_check.specs.declared.site.Underway.{Underway}
 use Rattle.run_check.specs.declared.site.Piece.{Piece}
 use Rattle.run_check.specs.declared.site.Site.{Site}
-use Rattle.run_check.specs.Sites.{IsUnder, AreUnder, IsSite, IsOther, IsWrong, MayGo, IsOut, GoesOff, IsTakenOn, rest_of, rest_by, IsOtherBy, IsWrongBy, IsFresh, IsOnGrid, IsFineUnder}
+use Rattle.run_check.specs.Sites.{IsUnder, AreUnder, IsSite, IsOther, IsWrong, MayGo, IsOut, GoesOff, IsTakenOn, rest_of, rest_by, IsOtherBy, IsWrongBy, IsFresh, IsOnGrid, IsFineUnder, IsFast}
 use Rattle.run_check.proofs.SiteSteps.{busy_of, untrue}
 
 pub in_time : (d : Discipline) (room : ℕ) (σ : ServerState) (site : Site) (end t : ℚ) (b : Bool) → IsSite d room σ site
@@ -69,6 +70,10 @@ by_other : (o : Option Under) (v : Option Underway) (p : ℕ) → AreUnder o v �
 by_other None v p h n = absurd n
 by_other (Some u) None p h n = absurd h
 by_other (Some u) (Some v) p h n = λ e. n (sym h.packet ∙ e)
+
+-- work that is not wrong takes time
+pub runs_forward : (site : Site) (w : Piece) (rest : ℚ) → (IsWrong site w rest → ⊥) → w.start <ℚ w.end
+runs_forward site w rest n = lt_of_not_le (λ l. n (inl l))
 
 pub wrong_by : (d : Discipline) (room : ℕ) (σ : ServerState) (site : Site) (w : Piece) (fresh rest : ℚ) → IsSite d room σ site → rest ≡ rest_of site.under fresh
     → IsWrong site w rest → IsWrongBy σ w fresh
@@ -165,3 +170,20 @@ pub left_fine : (grid : ℕ) (most : ℚ) (site : Site) (fresh rest left : ℚ) 
 left_fine grid most site fresh rest left w g e n l =
     subst (IsTime grid most) (sym l) (rest_is_time grid most rest w.bits (subst (IsTime grid most) (sym e) (rest_fine grid most site.under fresh g.site_is g.fresh_is))
     (g.bits_are (some_bits site w rest n)) (enough site w rest n))
+
+-- ---- paces
+-- work that takes time is faster than a pace exactly where its own pace is above that
+pub faster : (most : ℚ) (w : Piece) (time own : ℚ) (b : Bool) → w.start <ℚ w.end → time ≡ w.end -ℚ w.start → own ≡ w.bits /ℚ time
+    → (IsTrue b ↔ (most <ℚ own)) → IsTrue b ↔ IsFast (Some most) w
+faster most w time own b forward e f same =
+    let some : int (pos 0) <ℚ w.end -ℚ w.start = with2 w.start w.end (λ c. omega (arith, c.le, c.lt, c.same)) in
+    let is : own ≡ w.bits /ℚ (w.end -ℚ w.start) = f ∙ ap (λ t. w.bits /ℚ t) e in
+    let by = lt_div w.bits (w.end -ℚ w.start) most some in (
+      λ t. by.0 (subst (λ x. most <ℚ x) is (same.0 t)),
+      λ l. same.1 (subst (λ x. most <ℚ x) (sym is) (by.1 l)),
+    )
+
+pub time_some : (w : Piece) (time : ℚ) → w.start <ℚ w.end → time ≡ w.end -ℚ w.start → time ≢ int (pos 0)
+time_some w time forward e z =
+    let some : int (pos 0) <ℚ w.end -ℚ w.start = with2 w.start w.end (λ c. omega (arith, c.le, c.lt, c.same)) in
+    lt_irrefl (int (pos 0)) (subst (λ t. int (pos 0) <ℚ t) (sym e ∙ z) some)

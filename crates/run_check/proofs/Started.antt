@@ -1,9 +1,10 @@
 -- Before the first row of a recorded run.
 use Rattle.std.proofs.Common.{◌≡◌, ℕ, zero, suc, ◌<◌, ◌≤◌, ◌+◌, List, [], ◌∷◌, ◌++◌, length, map, get_or, refl, sym, ap, ◌∙◌, subst, arith, inl, inr, ◌⊎◌, Some, None, true, false}
-use Rattle.std.specs.Prelude.{Option, ◌≢◌, pos, slice_get, AllPairs}
+use Rattle.std.specs.Prelude.{Option, ◌≢◌, pos, slice_get, AllPairs, if◌then◌else◌}
+use Rattle.std.proofs.lemmas.Bool.{eq-eqb, ne_eqb}
 use Rattle.std.proofs.lemmas.List.{length-map, length_push}
 use Rattle.std.proofs.lemmas.Option.{slice_get_within, get_or_from_slice_get}
-use Rattle.rational.specs.Rational.{int, ◌≤ℚ◌}
+use Rattle.rational.specs.Rational.{ℚ, int, ◌≤ℚ◌}
 use Rattle.rational.proofs.Laws.{le_refl}
 use Rattle.run_laws.specs.Runs.{SpecRun}
 use Rattle.run_laws.specs.Servers.{Fifo, Server, start}
@@ -11,7 +12,7 @@ use Rattle.run_laws.specs.Routes.{Route, server_at, PassesServer}
 use Rattle.run_laws.specs.Lawful.{run_start}
 use Rattle.run_laws.proofs.Views.{start_state}
 use Rattle.net_model.specs.Networks.{Net, NetServer, NetFlow}
-use Rattle.net_model.specs.NetRoutes.{routes_of, route_for, server_for, hops_along}
+use Rattle.net_model.specs.NetRoutes.{routes_of, route_for, pace_for, server_for, hops_along}
 use Rattle.net_model.specs.Accepted.{IsAccepted}
 use Rattle.net_model.specs.Traces.{SpecTrace, IsTrace}
 use Rattle.net_model.specs.declared.trace.TracePacket.{TracePacket}
@@ -83,10 +84,35 @@ has_paths net ok f live =
     named f g e zero d l = (g, e)
     named f g e (suc k) d l = absurd (omega (arith, l))
 
-pub no_pace : (xs : List NetServer) (s : ℕ) → (get_or (map server_for xs) s record { discipline = Fifo; pace = None }).pace ≡ None
-no_pace [] s = refl
-no_pace (x ∷ xs) zero = refl
-no_pace (x ∷ xs) (suc s) = no_pace xs s
+-- ---- paces
+pace_in : ℕ → Option NetServer → Option ℚ
+pace_in v None = None
+pace_in v (Some x) = pace_for v x.rate
+
+pace_found : (v : ℕ) (xs : List NetServer) (s : ℕ)
+    → (get_or (map (server_for v) xs) s record { discipline = Fifo; pace = None }).pace ≡ pace_in v (slice_get xs s)
+unfolding pace_in
+pace_found v [] s = refl
+pace_found v (x ∷ xs) zero = refl
+pace_found v (x ∷ xs) (suc s) = pace_found v xs s
+
+pub no_pace : (net : Net) (s : ℕ) → net.version ≢ 2 → None ≡ (server_at (routes_of net) s).pace
+unfolding pace_in
+no_pace net s n = sym (pace_found net.version net.servers s ∙ one (slice_get net.servers s))
+  where
+    one : (o : Option NetServer) → pace_in net.version o ≡ None
+    one None = refl
+    one (Some x) = ap (λ b. if b then Some x.rate else None) (ne_eqb net.version 2 n)
+
+pub past_pace : (net : Net) (s : ℕ) → slice_get net.servers s ≡ None → None ≡ (server_at (routes_of net) s).pace
+unfolding pace_in
+past_pace net s e = sym (pace_found net.version net.servers s ∙ ap (pace_in net.version) e)
+
+pub rate_pace : (net : Net) (s : ℕ) (x : NetServer) → net.version ≡ 2 → slice_get net.servers s ≡ Some x
+    → Some x.rate ≡ (server_at (routes_of net) s).pace
+unfolding pace_in
+rate_pace net s x v e =
+    sym (pace_found net.version net.servers s ∙ ap (pace_in net.version) e ∙ ap (λ b. if b then Some x.rate else None) (eq-eqb net.version 2 v))
 
 -- ---- sites
 pub fresh_push : (servers : List NetServer) (room n : ℕ) (sites after : List Site) (x : Site) → AreFresh servers room n sites → IsFreshAt servers room n x
@@ -105,10 +131,11 @@ fresh_push servers room n sites after x h k is = record {
     pushed (z ∷ zs) zero x y e = inl e
     pushed (z ∷ zs) (suc s) x y e = elim (pushed zs s x y e) [ inl i ↦ inl i | inr i ↦ inr (ap suc i.0, i.1) ]
 
-server_is : (xs : List NetServer) (s : ℕ) (x : NetServer) → slice_get xs s ≡ Some x → get_or (map server_for xs) s record { discipline = Fifo; pace = None } ≡ server_for x
-server_is [] s x e = absurd (cc)
-server_is (y ∷ ys) zero x e = let g : y ≡ x = cc in ap server_for g
-server_is (y ∷ ys) (suc s) x e = server_is ys s x e
+server_is : (v : ℕ) (xs : List NetServer) (s : ℕ) (x : NetServer) → slice_get xs s ≡ Some x
+    → get_or (map (server_for v) xs) s record { discipline = Fifo; pace = None } ≡ server_for v x
+server_is v [] s x e = absurd (cc)
+server_is v (y ∷ ys) zero x e = let g : y ≡ x = cc in ap (server_for v) g
+server_is v (y ∷ ys) (suc s) x e = server_is v ys s x e
 
 pub follows_start : (net : Net) (run : SpecRun) (w : Walk) (room : ℕ) → IsAccepted net → AreRecorded (routes_of net) [] run.steps → length run.steps ≤ room
     → HaveNumbers (routes_of net) run → AreFresh net.servers room (length net.servers) w.sites.items → w.flows.items ≡ [] → w.bits.items ≡ [] → w.places.items ≡ []
@@ -117,17 +144,17 @@ follows_start net run w room ok recorded few numbers fresh flows bits places = r
   room = room;
   grid = numbers.grid;
   most = numbers.most;
-  walkable = record { paths = has_paths net ok; no_pace = no_pace net.servers; recorded = recorded; fit = numbers.fit; few = few };
+  walkable = record { paths = has_paths net ok; recorded = recorded; fit = numbers.fit; few = few };
   keeps = record {
     tracked = subst (Rattle.broken_laws.specs.Tracked.IsTracked (routes_of net) [] (run_start (routes_of net))) (sym places) (tracked_start (routes_of net));
     flows = flows;
     bits = bits;
-    many = fresh.many ∙ sym (length-map net.servers server_for);
+    many = fresh.many ∙ sym (length-map net.servers (server_for net.version));
     sites = λ s x e.
         let k = fresh.each s x e in
         let within = slice_get_within net.servers s k.server k.at in
-        let many : length (map server_for net.servers) ≡ length net.servers = length-map net.servers server_for in
-        let is = server_is net.servers s k.server k.at in
+        let many : length (map (server_for net.version) net.servers) ≡ length net.servers = length-map net.servers (server_for net.version) in
+        let is = server_is net.version net.servers s k.server k.at in
         let state = start_state (routes_of net) s (omega (arith, within, many)) in
         subst (λ σ. IsSite (server_at (routes_of net) s).discipline room σ x) (sym state)
         (subst (λ (y : Server). IsSite y.discipline room (start y.discipline) x) (sym is) k.site);

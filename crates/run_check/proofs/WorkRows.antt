@@ -33,7 +33,7 @@ use Rattle.broken_laws.proofs.TrackedSteps.{next_in}
 use Rattle.run_check.specs.declared.site.Site.{Site}
 use Rattle.run_check.specs.declared.site.Piece.{Piece}
 use Rattle.run_check.specs.declared.walk.Walk.{Walk}
-use Rattle.run_check.specs.Sites.{IsSite, IsOut, IsFresh, rest_by, IsOtherBy, IsWrongBy, WorkAnswer, WorkRoom}
+use Rattle.run_check.specs.Sites.{IsSite, IsOut, IsFresh, rest_by, IsOtherBy, IsWrongBy, IsOfPacket, WorkAnswer, WorkRoom}
 use Rattle.run_check.specs.Rows.{ChangesAt, Worked}
 use Rattle.run_check.specs.Walks.{Keeps, Stands, Told, fresh_by, fresh_for, work_of}
 use Rattle.run_check.proofs.WalkSteps.{walk_next, below_first}
@@ -154,7 +154,8 @@ work_room net w s x k y at = record {
   grid = k.grid;
   most = k.most;
   room = k.numbers;
-  on_grid = record { site_is = k.keeps.fine s y at; fresh_is = fresh_time net (work_of s x) w k s x.packet; bits_are = k.fits };
+  on_grid = record { site_is = k.keeps.fine s y at; fresh_is = fresh_time net (work_of s x) w k s x.packet; bits_are = k.fits.0 };
+  paced = k.fits.1;
 }
 
 -- ---- the answer
@@ -167,10 +168,6 @@ not_late : (σ : ServerState) (end : ℚ) (x : Piece) → ¬ (IsOut σ end x.sta
 not_late σ end x n (inl l) = n (inl (inl l))
 not_late σ end x n (inr (inl l)) = n (inl (inr l))
 not_late σ end x n (inr (inr l)) = n (inr l)
-
-unlimited : (pace : Option ℚ) (a b w : ℚ) → pace ≡ None → IsTooFast pace a b w → ⊥
-unlimited None a b w e k = k
-unlimited (Some z) a b w e k = cc
 
 module _ (net : Routes) (end : ℚ) (before : List Step) (r : RunState) (s : ℕ) (x : Piece) (n : ¬ (IsOut (state_at r s) end x.start ⊎ (end <ℚ x.end))) where
   below_second : (other : Law) → number_of other < 2 → ¬ Breaks net end before r (work_of s x) other
@@ -207,20 +204,35 @@ module _ (net : Routes) (end : ℚ) (before : List Step) (r : RunState) (s : ℕ
     below_fifth right L8 l k = omega (arith, l)
     below_fifth right L9 l k = k
 
-    work_none : (IsWrongWork before r s x.packet x.start x.end x.bits → ⊥) → next_card (state_at r s).under (server_at net s).discipline (state_at r s).inside (state_at r s).round ≡ Some (card_of net r.entered x.packet s)
-        → (server_at net s).pace ≡ None → BreaksNone net end before r (work_of s x)
-    work_none right next pace L1 k = not_late (state_at r s) end x n k
-    work_none right next pace L2 k = omega (arith, m, k)
-    work_none right next pace L3 k = k
-    work_none right next pace L4 k = right k
-    work_none right next pace L5 k = k.not_picked (sym (ap (λ o. next_card o (server_at net s).discipline (state_at r s).inside (state_at r s).round) k.idle) ∙ next)
-    work_none right next pace L6 k = k
-    work_none right next pace L7 k = k
-    work_none right next pace L8 k = unlimited (server_at net s).pace x.start x.end x.bits pace k
-    work_none right next pace L9 k = k
+    module _ (right : IsWrongWork before r s x.packet x.start x.end x.bits → ⊥)
+        (picked : next_card (state_at r s).under (server_at net s).discipline (state_at r s).inside (state_at r s).round ≡ Some (card_of net r.entered x.packet s)) where
+      one_picked : IsNotPicked net r s x.packet → ⊥
+      one_picked k = k.not_picked (sym (ap (λ o. next_card o (server_at net s).discipline (state_at r s).inside (state_at r s).round) k.idle) ∙ picked)
+
+      below_eighth : (other : Law) → number_of other < 8 → ¬ Breaks net end before r (work_of s x) other
+      below_eighth L1 l k = not_late (state_at r s) end x n k
+      below_eighth L2 l k = omega (arith, m, k)
+      below_eighth L3 l k = k
+      below_eighth L4 l k = right k
+      below_eighth L5 l k = one_picked k
+      below_eighth L6 l k = k
+      below_eighth L7 l k = k
+      below_eighth L8 l k = omega (arith, l)
+      below_eighth L9 l k = k
+
+      work_none : (IsTooFast (server_at net s).pace x.start x.end x.bits → ⊥) → BreaksNone net end before r (work_of s x)
+      work_none paced L1 k = not_late (state_at r s) end x n k
+      work_none paced L2 k = omega (arith, m, k)
+      work_none paced L3 k = k
+      work_none paced L4 k = right k
+      work_none paced L5 k = one_picked k
+      work_none paced L6 k = k
+      work_none paced L7 k = k
+      work_none paced L8 k = paced k
+      work_none paced L9 k = k
 
 pub work_told : (net : Routes) (w after : Walk) (s : ℕ) (x : Piece) (k : Stands net (work_of s x) w) (end : ℚ) (known : Bool) (o : Option Law) → (known ≡ true → x.packet < length w.flows.items)
-    → (known ≡ false → length w.flows.items ≤ x.packet) → ChangesAt (Worked end known (fresh_for net w s x.packet) x o) w.sites.items after.sites.items s
+    → (known ≡ false → length w.flows.items ≤ x.packet) → ChangesAt (Worked end known (fresh_for net w s x.packet) (server_at net s).pace x o) w.sites.items after.sites.items s
     → after.places.items ≡ w.places.items → after.flows.items ≡ w.flows.items → after.bits.items ≡ w.bits.items → Told net (work_of s x) w k end after o
 work_told net w after s x k end known o near_by far_by c places flows bits =
     go o c.changed.fine (c.changed.told (server_at net s).discipline k.room (state_at k.state s) (h.sites s c.old c.was) (is_fresh net k.room k.grid k.most k.before k.state w s x.packet h))
@@ -231,21 +243,32 @@ work_told net w after s x k end known o near_by far_by c places flows bits =
     near : known ≡ true → x.packet < length k.state.entered
     near e = let long = flows_long net k.room k.grid k.most k.before k.state w k.keeps in let l = near_by e in omega (arith, l, long)
 
+    -- the packet of work that may be worked
+    card_is : (p : IsOfPacket (server_at net s).discipline (state_at k.state s) end known (fresh_for net w s x.packet) x) → p.card ≡ card_of net k.state.entered x.packet s
+    card_is p =
+        let there = next_in net end k.before k.state w.places.items h.tracked s p.card p.next_one in
+        (h.tracked.cards s p.card there).card.is ∙ ap (λ q. card_of net k.state.entered q s) p.packet
+
+    in_run : (p : IsOfPacket (server_at net s).discipline (state_at k.state s) end known (fresh_for net w s x.packet) x)
+        → ¬ (IsOut (state_at k.state s) end x.start ⊎ (end <ℚ x.end))
+    in_run p z = elim z [ inl i ↦ p.timely i | inr i ↦ p.ends i ]
+
+    is_right : (p : IsOfPacket (server_at net s).discipline (state_at k.state s) end known (fresh_for net w s x.packet) x)
+        → IsWrongWork k.before k.state s x.packet x.start x.end x.bits → ⊥
+    is_right p z = p.right (work_wrong net k.room k.grid k.most k.before k.state w s x k.keeps (near p.is_known) z)
+
     go : (p : Option Law) → ((grid : ℕ) (most : ℚ) → Rattle.run_check.specs.Sites.IsOnGrid grid most c.old (fresh_for net w s x.packet) x → p ≡ None → Rattle.run_check.specs.Sites.IsFine grid most c.new)
-        → WorkAnswer (server_at net s).discipline k.room (state_at k.state s) end known (fresh_for net w s x.packet) x c.new p → Told net (work_of s x) w k end after p
+        → WorkAnswer (server_at net s).discipline k.room (state_at k.state s) end known (fresh_for net w s x.packet) (server_at net s).pace x c.new p → Told net (work_of s x) w k end after p
     go None fine a =
         let r = k.state in
         let σ = state_at r s in
-        let l = near a.is_known in
-        let there = next_in net end k.before r w.places.items h.tracked s a.card a.next_one in
-        let card : a.card ≡ card_of net r.entered x.packet s = (h.tracked.cards s a.card there).card.is ∙ ap (λ q. card_of net r.entered q s) a.packet in
-        let right : IsWrongWork k.before r s x.packet x.start x.end x.bits → ⊥ = λ z. a.right (work_wrong net k.room k.grid k.most k.before r w s x k.keeps l z) in
-        let in_run : ¬ (IsOut σ end x.start ⊎ (end <ℚ x.end)) = λ z. elim z [ inl i ↦ a.timely i | inr i ↦ a.ends i ] in
-        let none = work_none net end k.before r s x in_run l right (a.next_one ∙ ap Some card) (k.no_pace s) in (
+        let p = a.of_packet in
+        let card = card_is p in
+        let none = work_none net end k.before r s x (in_run p) (near p.is_known) (is_right p) (p.next_one ∙ ap Some card) a.in_pace in (
           none,
           walk_next net (work_of s x) w after k end none c.old c.new c.was c.is
               (subst (λ z. IsSite (server_at net s).discipline k.room (next (server_at net s).discipline σ (Works z x.start x.end x.bits)) c.new) card a.after_it)
-              (fine k.grid k.most record { site_is = h.fine s c.old c.was; fresh_is = fresh_time net (work_of s x) w k s x.packet; bits_are = k.fits } refl)
+              (fine k.grid k.most record { site_is = h.fine s c.old c.was; fresh_is = fresh_time net (work_of s x) w k s x.packet; bits_are = k.fits.0 } refl)
               places (flows ∙ h.flows) (bits ∙ h.bits),
         )
     go (Some L1) fine a = record { breaks = late (state_at k.state s) end x a; no_other = λ other l b. below_first other l }
@@ -265,12 +288,20 @@ work_told net w after s x k end known o near_by far_by c places flows bits =
     }
     go (Some L6) fine a = absurd a
     go (Some L7) fine a = absurd a
-    go (Some L8) fine a = absurd a
+    go (Some L8) fine a =
+        let p = a.0 in
+        record {
+          breaks = a.1;
+          no_other = λ other l b. below_eighth net end k.before k.state s x (in_run p) (near p.is_known) (is_right p) (p.next_one ∙ ap Some (card_is p)) other l b;
+        }
     go (Some L9) fine a = absurd a
 
--- the same where what is yet to be worked is known by its value
-pub work_told_by : (net : Routes) (w after : Walk) (s : ℕ) (x : Piece) (k : Stands net (work_of s x) w) (end fresh : ℚ) (known : Bool) (o : Option Law) → fresh ≡ fresh_for net w s x.packet
-    → (known ≡ true → x.packet < length w.flows.items) → (known ≡ false → length w.flows.items ≤ x.packet) → ChangesAt (Worked end known fresh x o) w.sites.items after.sites.items s
+-- the same where what is yet to be worked, and the pace, are known by their values
+pub work_told_by : (net : Routes) (w after : Walk) (s : ℕ) (x : Piece) (k : Stands net (work_of s x) w) (end fresh : ℚ) (pace : Option ℚ) (known : Bool) (o : Option Law)
+    → fresh ≡ fresh_for net w s x.packet → pace ≡ (server_at net s).pace
+    → (known ≡ true → x.packet < length w.flows.items) → (known ≡ false → length w.flows.items ≤ x.packet) → ChangesAt (Worked end known fresh pace x o) w.sites.items after.sites.items s
     → after.places.items ≡ w.places.items → after.flows.items ≡ w.flows.items → after.bits.items ≡ w.bits.items → Told net (work_of s x) w k end after o
-work_told_by net w after s x k end fresh known o e near_by far_by c places flows bits =
-    work_told net w after s x k end known o near_by far_by (subst (λ f. ChangesAt (Worked end known f x o) w.sites.items after.sites.items s) e c) places flows bits
+work_told_by net w after s x k end fresh pace known o e d near_by far_by c places flows bits =
+    work_told net w after s x k end known o near_by far_by
+    (subst (λ f. ChangesAt (Worked end known f (server_at net s).pace x o) w.sites.items after.sites.items s) e
+    (subst (λ z. ChangesAt (Worked end known fresh z x o) w.sites.items after.sites.items s) d c)) places flows bits

@@ -3,7 +3,7 @@ use Rattle.std.specs.Prelude.{Option, Some, None, ◌≡◌, ℕ, ◌+◌, ◌�
 use Rattle.rational.specs.Rational.{ℚ}
 use Rattle.run_laws.specs.declared.steps.Step.{Step}
 use Rattle.run_laws.specs.Runs.{SpecRun}
-use Rattle.run_laws.specs.Routes.{Routes, server_at}
+use Rattle.run_laws.specs.Routes.{Routes}
 use Rattle.run_laws.specs.Lawful.{run_start}
 use Rattle.stated_runs.specs.TimeGrids.{HasRoom}
 use Rattle.broken_laws.specs.declared.law.Law.{Law}
@@ -12,8 +12,8 @@ use Rattle.broken_laws.specs.FirstBroken.{NoneBreaks, IsBrokenAtStep, state_befo
 use Rattle.run_check.specs.declared.walk.Walk.{Walk}
 use Rattle.run_check.specs.Walks.{Keeps, StepFits}
 
--- its numbers have room: packets' bits and the bits of works are on one grid, and where a packet leaves, the time and
--- the link have a sum
+-- its numbers have room: packets' bits and the bits of works are on one grid, the time and the pace of works fit, and
+-- where a packet leaves, the time and the link have a sum
 pub record NumbersFit (net : Routes) (run : SpecRun) (grid : ℕ) (most : ℚ) : Type 0 where
   pub numbers : HasRoom grid most
   pub fits : (k : ℕ) (x : Step) → slice_get run.steps k ≡ Some x → StepFits net grid most x
@@ -24,10 +24,9 @@ pub record HaveNumbers (net : Routes) (run : SpecRun) : Type 0 where
   pub most : ℚ
   pub fit : NumbersFit net run grid most
 
--- a recorded run over paths, on servers whose pace is not limited
+-- a recorded run over paths
 pub record IsWalkable (net : Routes) (run : SpecRun) (room grid : ℕ) (most : ℚ) : Type 0 where
   pub paths : HasPaths net
-  pub no_pace : (s : ℕ) → (server_at net s).pace ≡ None
   pub recorded : AreRecorded net [] run.steps
   pub fit : NumbersFit net run grid most
   pub few : length run.steps ≤ room

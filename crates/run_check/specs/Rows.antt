@@ -29,10 +29,12 @@ Left end known p t answer old new =
     → LeaveAnswer d room σ end known p t new answer)
     × (answer ≡ None → new.under ≡ None)
 
-pub record Worked (end : ℚ) (known : Bool) (fresh : ℚ) (w : Piece) (answer : Option Law) (old new : Site) : Type 0 where
-  pub told : (d : Discipline) (room : ℕ) (σ : ServerState) → IsSite d room σ old → IsFresh d σ w.packet fresh
-      → WorkAnswer d room σ end known fresh w new answer
-  pub fine : (grid : ℕ) (most : ℚ) → IsOnGrid grid most old fresh w → answer ≡ None → IsFine grid most new
+pub record Worked (end : ℚ) (known : Bool) (fresh : ℚ) (pace : Option ℚ) (w : Piece) (answer : Option Law)
+    (old new : Site) : Type 0
+  where
+    pub told : (d : Discipline) (room : ℕ) (σ : ServerState) → IsSite d room σ old → IsFresh d σ w.packet fresh
+        → WorkAnswer d room σ end known fresh pace w new answer
+    pub fine : (grid : ℕ) (most : ℚ) → IsOnGrid grid most old fresh w → answer ≡ None → IsFine grid most new
 
 abbrev pub Arrived : (p q bits : ℕ) (t : ℚ) → Site → Site → Type 0
 Arrived p q bits t old new =

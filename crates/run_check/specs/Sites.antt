@@ -1,6 +1,7 @@
 -- One server of a recorded run, as the walk over its rows keeps it.
 use Rattle.std.specs.Prelude.{Option, Some, None, ◌≡◌, ◌≢◌, ◌⊎◌, ℕ, pos, ◌<◌, Bool, true, false}
-use Rattle.rational.specs.Rational.{ℚ, int, ◌-ℚ◌, ◌≤ℚ◌, ◌<ℚ◌}
+use Rattle.rational.specs.Rational.{ℚ, int, neg_ℚ, ◌-ℚ◌, ◌/ℚ◌, ◌≤ℚ◌, ◌<ℚ◌}
+use Rattle.rational.specs.Ratio.{IsSmall, SumFits}
 use Rattle.run_laws.specs.Cards.{Card, size, Works, Leaves, Visits}
 use Rattle.run_laws.specs.Servers.{Discipline, queue_count, Under, ServerState, done}
 use Rattle.run_laws.specs.Next.{next}
@@ -10,6 +11,7 @@ use Rattle.stated_runs.specs.TimeGrids.{HasRoom, IsTime}
 use Rattle.sim_servers.specs.Queues.{served_by, room_of, StandFor}
 use Rattle.broken_laws.specs.declared.law.Law.{Law}
 use Rattle.broken_laws.specs.declared.law.Law.TheVariants.{L1, L2, L3, L4, L5, L6, L7, L8, L9}
+use Rattle.broken_laws.specs.Broken.{IsTooFast}
 use Rattle.run_check.specs.declared.site.Underway.{Underway}
 use Rattle.run_check.specs.declared.site.Piece.{Piece}
 use Rattle.run_check.specs.declared.site.Site.{Site}
@@ -196,34 +198,47 @@ TakesOn d room σ before after p true = IsTakenOn d room σ before after p
 TakesOn d room σ before after p false =
     (σ.under ≡ None) × ((c : Card) → c.packet ≡ p → ¬ (pick d σ.inside σ.round ≡ Some c))
 
-pub record HasWorked (d : Discipline) (room : ℕ) (σ : ServerState) (end : ℚ) (known : Bool) (fresh : ℚ) (w : Piece)
-    (after : Site) : Type 0
-  where
-    pub timely : ¬ IsOut σ end w.start
-    pub ends : ¬ (end <ℚ w.end)
-    pub is_known : known ≡ true
-    pub right : ¬ IsWrongBy σ w fresh
-    pub card : Card
-    pub packet : card.packet ≡ w.packet
-    pub next_one : next_card σ.under d σ.inside σ.round ≡ Some card
-    pub after_it : IsSite d room (next d σ (Works card w.start w.end w.bits)) after
+-- work on a packet that may be worked, whatever its pace
+pub record IsOfPacket (d : Discipline) (σ : ServerState) (end : ℚ) (known : Bool) (fresh : ℚ) (w : Piece) : Type 0 where
+  pub timely : ¬ IsOut σ end w.start
+  pub ends : ¬ (end <ℚ w.end)
+  pub is_known : known ≡ true
+  pub right : ¬ IsWrongBy σ w fresh
+  pub card : Card
+  pub packet : card.packet ≡ w.packet
+  pub next_one : next_card σ.under d σ.inside σ.round ≡ Some card
 
-abbrev pub WorkAnswer : Discipline → ℕ → ServerState → ℚ → Bool → ℚ → Piece → Site → Option Law → Type 0
-WorkAnswer d room σ end known fresh w after None = HasWorked d room σ end known fresh w after
-WorkAnswer d room σ end known fresh w after (Some L1) = IsOut σ end w.start ⊎ (end <ℚ w.end)
-WorkAnswer d room σ end known fresh w after (Some L2) = (¬ (IsOut σ end w.start ⊎ (end <ℚ w.end))) × (known ≡ false)
-WorkAnswer d room σ end known fresh w after (Some L3) = ⊥
-WorkAnswer d room σ end known fresh w after (Some L4) =
+abbrev pub IsFast : Option ℚ → Piece → Type 0
+IsFast pace w = IsTooFast pace w.start w.end w.bits
+
+-- it is no faster than its server's pace, and done
+pub record HasWorked (d : Discipline) (room : ℕ) (σ : ServerState) (end : ℚ) (known : Bool) (fresh : ℚ) (pace : Option ℚ)
+    (w : Piece) (after : Site) : Type 0
+  where
+    pub of_packet : IsOfPacket d σ end known fresh w
+    pub in_pace : ¬ IsFast pace w
+    pub after_it : IsSite d room (next d σ (Works of_packet.card w.start w.end w.bits)) after
+
+abbrev pub WorkAnswer : Discipline → ℕ → ServerState → ℚ → Bool → ℚ → Option ℚ → Piece → Site → Option Law → Type 0
+WorkAnswer d room σ end known fresh pace w after None = HasWorked d room σ end known fresh pace w after
+WorkAnswer d room σ end known fresh pace w after (Some L1) = IsOut σ end w.start ⊎ (end <ℚ w.end)
+WorkAnswer d room σ end known fresh pace w after (Some L2) = (¬ (IsOut σ end w.start ⊎ (end <ℚ w.end))) × (known ≡ false)
+WorkAnswer d room σ end known fresh pace w after (Some L3) = ⊥
+WorkAnswer d room σ end known fresh pace w after (Some L4) =
     (¬ (IsOut σ end w.start ⊎ (end <ℚ w.end))) × (known ≡ true) × IsWrongBy σ w fresh
-WorkAnswer d room σ end known fresh w after (Some L5) =
+WorkAnswer d room σ end known fresh pace w after (Some L5) =
     (¬ (IsOut σ end w.start ⊎ (end <ℚ w.end))) × (known ≡ true) × (¬ IsWrongBy σ w fresh) × (σ.under ≡ None)
     × ((c : Card) → c.packet ≡ w.packet → ¬ (pick d σ.inside σ.round ≡ Some c))
-WorkAnswer d room σ end known fresh w after (Some L6) = ⊥
-WorkAnswer d room σ end known fresh w after (Some L7) = ⊥
-WorkAnswer d room σ end known fresh w after (Some L8) = ⊥
-WorkAnswer d room σ end known fresh w after (Some L9) = ⊥
+WorkAnswer d room σ end known fresh pace w after (Some L6) = ⊥
+WorkAnswer d room σ end known fresh pace w after (Some L7) = ⊥
+WorkAnswer d room σ end known fresh pace w after (Some L8) = IsOfPacket d σ end known fresh w × IsFast pace w
+WorkAnswer d room σ end known fresh pace w after (Some L9) = ⊥
 
--- ---- numbers: what is left of the packet under way is on a grid
+-- ---- numbers: how long work takes, and its pace, fit where it takes time
+abbrev pub HasPace : (a b w : ℚ) → Type 0
+HasPace a b w = a <ℚ b → SumFits b (neg_ℚ a) × IsSmall (w /ℚ (b -ℚ a))
+
+-- what is left of the packet under way is on a grid
 abbrev pub IsFineUnder : ℕ → ℚ → Option Underway → Type 0
 IsFineUnder grid most None = Unit {0}
 IsFineUnder grid most (Some v) = IsTime grid most v.left
@@ -242,3 +257,4 @@ pub record WorkRoom (site : Site) (fresh : ℚ) (w : Piece) : Type 0 where
   pub most : ℚ
   pub room : HasRoom grid most
   pub on_grid : IsOnGrid grid most site fresh w
+  pub paced : HasPace w.start w.end w.bits

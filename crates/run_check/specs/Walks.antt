@@ -19,7 +19,7 @@ use Rattle.broken_laws.specs.Tracked.{IsTracked, place_of, place_after, has_left
 use Rattle.run_check.specs.declared.site.Piece.{Piece}
 use Rattle.run_check.specs.declared.site.Site.{Site}
 use Rattle.run_check.specs.declared.walk.Walk.{Walk}
-use Rattle.run_check.specs.Sites.{IsSite, IsFine}
+use Rattle.run_check.specs.Sites.{IsSite, IsFine, HasPace}
 
 -- ---- what is kept
 -- after some rows, which led to the state r
@@ -39,7 +39,7 @@ pub record Keeps (net : Routes) (room grid : ℕ) (most : ℚ) (before : List St
 abbrev pub StepFits : Routes → ℕ → ℚ → Step → Type 0
 StepFits net grid most (Enter f p t b) = IsTime grid most (whole b)
 StepFits net grid most (Reach s p t) = Unit {0}
-StepFits net grid most (Work s p a b w) = int (pos 0) <ℚ w → IsTime grid most w
+StepFits net grid most (Work s p a b w) = (int (pos 0) <ℚ w → IsTime grid most w) × HasPace a b w
 StepFits net grid most (Leave s p t) = SumFits t (link_at net s)
 StepFits net grid most (Visit s q t) = Unit {0}
 
@@ -52,7 +52,6 @@ pub record Stands (net : Routes) (x : Step) (w : Walk) : Type 0 where
   pub state : RunState
   pub keeps : Keeps net room grid most before state w
   pub paths : HasPaths net
-  pub no_pace : (s : ℕ) → (server_at net s).pace ≡ None
   pub recorded : IsRecordedStep net state.entered x
   pub numbers : HasRoom grid most
   pub fits : StepFits net grid most x

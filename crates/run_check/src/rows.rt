@@ -57,14 +57,15 @@ pub(crate) fn work_row(
     end: Frac,
     known: bool,
     fresh: Frac,
+    pace: Option<Frac>,
     piece: &Piece,
 ) -> Option<Law>
     requires known { server < length sites.old }
     requires some { (x : SpecSite) → slice_get sites.old server ≡ Some x → KeepsSome x }
     requires room { (x : SpecSite) → slice_get sites.old server ≡ Some x → WorkRoom x fresh piece.now }
-    ensures { ChangesAt (Worked end known fresh piece.now result) sites.old sites.new server }
+    ensures { ChangesAt (Worked end known fresh pace piece.now result) sites.old sites.new server }
 {
-    sites[server as usize].work_at(end, known, fresh, piece)
+    sites[server as usize].work_at(end, known, fresh, pace, piece)
 }
 
 /// A packet arrives.

@@ -9,13 +9,13 @@ ghost use Rattle.run_laws.specs.Allows.{MayLeave};
 ghost use Rattle.queue_sched.specs.Turns.{IsCard};
 ghost use Rattle.net_model.specs.Accepted.{HasFewQueues};
 ghost use Rattle.net_model.specs.Views.{discipline_of};
-ghost use Rattle.run_check.specs.Sites.{LeaveAnswer, VisitAnswer, WorkAnswer, TakesOn};
+ghost use Rattle.run_check.specs.Sites.{LeaveAnswer, VisitAnswer, WorkAnswer, TakesOn, IsFast, HasPace};
 ghost use Rattle.run_check.specs.Sites.{WorkRoom, IsOnGrid, IsFine, IsFresh, rest_of};
 ghost use Rattle.run_check.specs.Sites.{IsSite, KeepsSome, IsOther, MayLose, MayGo};
 ghost use Rattle.run_check.specs.Sites.{IsWrong, MayTake, Turns, Starts, is_worked_off};
 
 use broken_laws::Law;
-use fraction128::{Frac, difference, is_less};
+use fraction128::{Frac, difference, is_less, quotient};
 use net_model::Discipline;
 use queue_sched::{Scheduler, Turn};
 use sim_servers::ServerQueues;
@@ -36,6 +36,23 @@ pub(crate) struct Piece {
     pub(crate) start: Frac,
     pub(crate) end: Frac,
     pub(crate) bits: Frac,
+}
+
+impl Piece {
+    /// Whether the work is faster than a pace, where that is limited; it takes time.
+    fn is_faster(&self, pace: Option<Frac>) -> bool
+        requires forward { self.now.start <ℚ self.now.end }
+        requires fits { HasPace self.now.start self.now.end self.now.bits }
+        ensures { IsTrue result ↔ IsFast pace self.now }
+    {
+        match pace {
+            Some(most) => {
+                let time = difference(self.end, self.start);
+                is_less(most, quotient(self.bits, time))
+            }
+            None => false,
+        }
+    }
 }
 
 /// One server: the time of its last step, the end of its last work, the packet under way, and its queues.
@@ -211,18 +228,21 @@ impl Site {
     }
 
     /// A row with work on a packet: which law it breaks first, if any; where it breaks none, the work is done. `fresh`
-    /// is what is yet to be worked of the packet where none is under way.
+    /// is what is yet to be worked of the packet where none is under way, and `pace` how many bits a unit of time the
+    /// server works at most, where that is limited.
     pub(crate) fn work_at(
         &mut self,
         end: Frac,
         known: bool,
         fresh: Frac,
+        pace: Option<Frac>,
         piece: &Piece,
     ) -> Option<Law>
         requires some { KeepsSome self.old }
         requires room { WorkRoom self.old fresh piece.now }
         ensures answer { (d : SpecDiscipline) (room : ℕ) (σ : ServerState) → IsSite d room σ self.old
-            → IsFresh d σ piece.now.packet fresh → WorkAnswer d room σ end known fresh piece.now self.new result }
+            → IsFresh d σ piece.now.packet fresh
+            → WorkAnswer d room σ end known fresh pace piece.now self.new result }
         ensures fine { (grid : ℕ) (most : ℚ) → IsOnGrid grid most self.old fresh piece.now → result ≡ None
             → IsFine grid most self.new }
     {
@@ -238,6 +258,9 @@ impl Site {
         }
         if !self.takes_on(piece.packet) {
             return Some(Law::L5);
+        }
+        if piece.is_faster(pace) {
+            return Some(Law::L8);
         }
         let left = difference(rest, piece.bits);
         self.latest = piece.start;

@@ -16,7 +16,7 @@ ghost use Rattle.run_check.specs.Walks.{work_of, Keeps, Stands, Told, fresh_for,
 use crate::ends::{some_complete, some_late};
 use crate::rows::{arrive_row, is_out_at, leave_row, visit_row, work_row};
 use crate::site::{Piece, Site};
-use crate::ways::{destination, has_left};
+use crate::ways::{destination, has_left, pace_of};
 use broken_laws::{Law, Place};
 use fraction128::Frac;
 use net_model::Network;
@@ -133,7 +133,8 @@ impl Walk {
     {
         let known = self.is_known(piece.packet);
         let fresh = self.fresh(net, server, piece.packet);
-        work_row(&mut self.sites, server, end, known, fresh, piece)
+        let pace = pace_of(net, server);
+        work_row(&mut self.sites, server, end, known, fresh, pace, piece)
     }
 
     /// A row that has a packet reach a server.

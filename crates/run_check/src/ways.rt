@@ -3,15 +3,28 @@
 ghost use Rattle.std.specs.Prelude.{◌≡◌, ℕ, List, length};
 ghost use Rattle.rational.specs.Rational.{◌+ℚ◌};
 ghost use Rattle.rational.specs.Ratio.{SumFits};
-ghost use Rattle.run_laws.specs.Routes.{route_of, link_at, server_after};
+ghost use Rattle.run_laws.specs.Routes.{route_of, link_at, server_after, server_at};
 ghost use Rattle.net_model.specs.NetRoutes.{routes_of, hops_along};
 ghost use Rattle.broken_laws.specs.Tracked.{is_on, is_before, has_left as spec_has_left, place_after};
 
 use broken_laws::Place;
 use fraction128::{Frac, sum};
-use net_cells::live_flow;
+use net_cells::{live_flow, server};
 use net_model::Network;
 use sim_routes::{link_of, next_server};
+
+/// How many bits a unit of time a server works at most, where that is limited: its rate in version 2.
+pub(crate) fn pace_of(net: &Network, number: u32) -> Option<Frac>
+    ensures { result ≡ (server_at (routes_of net.now) number).pace }
+{
+    if net.version() != 2 {
+        return None;
+    }
+    match server(net, number) {
+        Some(found) => Some(found.rate),
+        None => None,
+    }
+}
 
 /// Whether a server stands on a path before another, or on a path without that one.
 fn stands_before(path: &[u32], other: u32, server: u32) -> bool

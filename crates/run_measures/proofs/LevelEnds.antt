@@ -41,11 +41,11 @@ pub mapped_all : {X Y : Type 0} (f : X → Y) (xs : List X) (i : ℕ) → i ≤ 
 mapped_all f xs i l m = ap (map f) (ap (λ n. take n xs) (let e : i ≡ length xs = omega (arith, l, m) in e) ∙ take-length xs)
 
 -- ---- at first
-fresh_row : (ss : List NetServer) (s : ℕ) → s < length ss
-    → get_or (map empty_row_of ss) s [] ≡ replicate (queue_count (get_or (map server_for ss) s record { discipline = Fifo; pace = None }).discipline) empty_gauge
-fresh_row [] s l = absurd (omega (arith, l))
-fresh_row (x ∷ xs) zero l = refl
-fresh_row (x ∷ xs) (suc s) l = fresh_row xs s (omega (arith, l))
+fresh_row : (version : ℕ) (ss : List NetServer) (s : ℕ) → s < length ss
+    → get_or (map empty_row_of ss) s [] ≡ replicate (queue_count (get_or (map (server_for version) ss) s record { discipline = Fifo; pace = None }).discipline) empty_gauge
+fresh_row version [] s l = absurd (omega (arith, l))
+fresh_row version (x ∷ xs) zero l = refl
+fresh_row version (x ∷ xs) (suc s) l = fresh_row version xs s (omega (arith, l))
 
 none_counted : (b : Bool) → counted b 0 ≡ 0
 none_counted true = refl
@@ -68,10 +68,10 @@ fresh_gauged : (net : Net) (run : SpecRun) (rows : List (List Gauge)) → rows �
     → AreGauged (routes_of net) run 0 (run_start (routes_of net)) rows
 fresh_gauged net run rows e =
     let R = routes_of net in
-    let many = length-map net.servers server_for in
+    let many = length-map net.servers (server_for net.version) in
     let lists : length rows ≡ length net.servers = ap length e ∙ length-map net.servers empty_row_of in
     let row : (s : ℕ) → s < length R.servers → get_or rows s [] ≡ replicate (queue_count (server_at R s).discipline) empty_gauge =
-    λ s l. ap (λ gs. get_or gs s []) e ∙ fresh_row net.servers s (omega (arith, many, l)) in
+    λ s l. ap (λ gs. get_or gs s []) e ∙ fresh_row net.version net.servers s (omega (arith, many, l)) in
     record {
       as_many = omega (arith, many, lists);
       row = λ s l. ap length (row s l) ∙ length-replicate (queue_count (server_at R s).discipline) empty_gauge;

@@ -138,7 +138,7 @@ live_flow (x ∷ xs) (suc f) flow d h = live_flow xs f flow d h
 known : (net : Net) (name : List ℕ) (s : ℕ) → IsServerNamed net.servers name s → s < length (routes_of net).servers
 known net name s h =
     let there = slice_get_within net.servers s h.server h.is in
-    let same = length-map net.servers server_for in
+    let same = length-map net.servers (server_for net.version) in
     omega (arith, there, same)
 
 -- ---- steps

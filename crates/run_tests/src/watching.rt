@@ -80,7 +80,7 @@ fn bucket() -> Piece
 fn three_packets_break_a_curve_that_neighbours_keep(rt: HostRuntime) {
     let entries = [entering(0, 6000), entering(100, 6000), entering(200, 6000)];
     let arrival = [bucket()];
-    assert_eq!(rt; first_crowded(&entries, &arrival), Some((0, 2)));
+    assert_eq!(rt; first_crowded(rt.alloc(), &entries, &arrival), Some((0, 2)));
 }
 
 // 12001 bits at once against 12000.
@@ -88,5 +88,5 @@ fn three_packets_break_a_curve_that_neighbours_keep(rt: HostRuntime) {
 fn two_packets_at_once_are_one_bit_too_many(rt: HostRuntime) {
     let entries = [entering(0, 6000), entering(0, 6001)];
     let arrival = [bucket()];
-    assert_eq!(rt; first_crowded(&entries, &arrival), Some((0, 1)));
+    assert_eq!(rt; first_crowded(rt.alloc(), &entries, &arrival), Some((0, 1)));
 }

@@ -1,7 +1,7 @@
--- Packets that are counted, each for one step of a stair, against a line over the stair: n packets come in a window of length d
--- where n is at most one more than the whole part of the line at d, and there the stair has n steps. Own choice.
-use Rattle.std.specs.Prelude.{◌≡◌, ℕ, pos, ◌-◌, ◌<◌, ◌≤◌, List, [], ◌∷◌, length, Option, Some, None}
-use Rattle.rational.specs.Rational.{ℚ, int, ◌+ℚ◌, ◌-ℚ◌, ◌*ℚ◌, ◌≤ℚ◌, ◌<ℚ◌}
+-- Packets whose bits are counted in steps of a stair against a line over the stair: where the line at d is at least a whole number,
+-- the stair has one step more than that number. Own choice.
+use Rattle.std.specs.Prelude.{◌≡◌, ℕ, pos, ◌-◌, ◌<◌, List, [], ◌∷◌, length, drop, Option, Some, None}
+use Rattle.rational.specs.Rational.{ℚ, int, ◌+ℚ◌, ◌*ℚ◌, ◌≤ℚ◌, ◌<ℚ◌}
 use Rattle.rational.specs.Extended.{◌≤ₑ◌}
 use Rattle.rational.specs.declared.Extended.TheVariants.{Fin}
 use Rattle.affine_segment.specs.declared.line.Piece.{Piece}
@@ -12,14 +12,6 @@ use Rattle.watch_laws.specs.Entries.{entering}
 use Rattle.watch_laws.specs.Segments.{next_start}
 
 -- ---- packets
--- packet j comes after packet i by no more packets than the slack and the rate times the time between them
-abbrev pub KeepsPace : ℚ → ℚ → List Entering → ℕ → Type 0
-KeepsPace slack rate es upto = (i j : ℕ) → i ≤ j → j < upto → whole j ≤ℚ whole i +ℚ (slack +ℚ rate *ℚ ((entering es j).time -ℚ (entering es i).time))
-
--- none has more bits than a step
-abbrev pub AreSmall : ℚ → List Entering → ℕ → Type 0
-AreSmall height es upto = (k : ℕ) → k < upto → whole (entering es k).bits ≤ℚ height
-
 abbrev pub first_time : List Entering → ℚ
 first_time es = (entering es 0).time
 
@@ -53,3 +45,10 @@ pub record IsStep (height slack rate far : ℚ) (p : Piece) (next : Option ℚ) 
 abbrev pub IsStepAt : ℚ → ℚ → ℚ → ℚ → List Piece → Type 0
 IsStepAt height slack rate far [] = Unit {0}
 IsStepAt height slack rate far (p ∷ ps) = IsStep height slack rate far p (next_start ps)
+
+-- all pieces have their steps under a line that rises from 0 or above
+pub record IsStair (height slack rate far : ℚ) (ps : List Piece) : Type 0 where
+  pub high : int (pos 0) <ℚ height
+  pub rises : int (pos 0) <ℚ rate
+  pub some : int (pos 0) ≤ℚ slack
+  pub steps : (i : ℕ) → i < length ps → IsStepAt height slack rate far (drop i ps)

@@ -10,7 +10,7 @@ ghost use Rattle.run_laws.specs.Cards.{whole};
 ghost use Rattle.watch_laws.specs.Entries.{entries};
 ghost use Rattle.run_watch.specs.Flows.{entering_in, NoneLonger, IsFirstLonger, FlowReads, FindsFirst, NoneCrowded, IsFirstCrowded, IsUnderLine, IsUnderPiece, KeepsBucket, IsRaised};
 
-use crate::stairs::keeps_stair;
+use crate::stairs::kept_upto;
 use affine_segment::{Line, Piece, read};
 use fraction128::{Frac, Wide, difference, greater, is_less, lesser};
 use rational::Extended;
@@ -197,16 +197,21 @@ fn keeps_buckets(entries: &[Entering], arrival: &[Piece]) -> bool
 }
 
 /// The packets, first and last, between which more bits enter than the pieces of a curve have: with the least last one,
-/// and of those with the least first one. A curve that is the least of its lines and is kept takes one pass for each, and a kept
-/// stair two passes where no packet is longer than its step; else it looks at each pair once.
-pub fn first_crowded(entries: &[Entering], arrival: &[Piece]) -> Option<(usize, usize)>
+/// and of those with the least first one. A curve that is the least of its lines and is kept takes one pass for each, and a
+/// stair n log n steps for n packets; else it looks at each pair once. Memory that is refused costs no answer, only time.
+pub fn first_crowded(
+    alloc: Global,
+    entries: &[Entering],
+    arrival: &[Piece],
+) -> Option<(usize, usize)>
     requires { FlowReads arrival.now entries.now }
     ensures { MatchOption result (NoneCrowded (read arrival.now) entries.now (length entries.now)) (λ p. IsFirstCrowded (read arrival.now) entries.now p.0 p.1) }
 {
-    if keeps_buckets(entries, arrival) || keeps_stair(entries, arrival) {
+    if keeps_buckets(entries, arrival) {
         return None;
     }
-    for last in 0..entries.len() {
+    let kept = kept_upto(alloc, entries, arrival).unwrap_or(0);
+    for last in kept..entries.len() {
         if let Some(first) = least_first(entries, arrival, last) {
             return Some((first, last));
         }

@@ -68,12 +68,17 @@ pub fn size_breach(packets: &[Entering], flow: u32, longest: u32) -> Option<Foun
 }
 
 /// The first pair of packets of a flow between which more bits enter than the pieces of a curve have.
-pub fn arrival_breach(packets: &[Entering], flow: u32, arrival: &[Piece]) -> Option<Found>
+pub fn arrival_breach(
+    alloc: Global,
+    packets: &[Entering],
+    flow: u32,
+    arrival: &[Piece],
+) -> Option<Found>
     requires few { length packets.now ≤ 2 ^ 32 }
     requires reads { FlowReads arrival.now packets.now }
     ensures { (run : SpecRun) → packets.now ≡ entries flow run.steps → EnterInOrder packets.now → IsBest (IsCrowdOn run flow (read arrival.now)) run result }
 {
-    match first_crowded(packets, arrival) {
+    match first_crowded(alloc, packets, arrival) {
         None => None,
         Some((first, last)) => {
             let entering = packets[last];

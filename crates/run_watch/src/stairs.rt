@@ -1,19 +1,20 @@
-//! Whether packets keep a stair, by counting each for one step against a line over the stair, in one pass.
+//! How many packets keep a stair, by the steps that their bits fill against a line over the stair.
 
 ghost use Rattle.std.specs.Prelude.{◌≡◌, ℕ, ◌<◌, pos, length, drop, IfOk, IfSome, IsTrue};
 ghost use Rattle.rational.specs.Rational.{int, ◌+ℚ◌, ◌-ℚ◌, ◌*ℚ◌, ◌<ℚ◌};
 ghost use Rattle.affine_segment.specs.Reading.{read};
-ghost use Rattle.run_laws.specs.Cards.{whole};
 ghost use Rattle.watch_laws.specs.Segments.{next_start};
 ghost use Rattle.run_watch.specs.Flows.{FlowReads, NoneCrowded};
-ghost use Rattle.run_watch.specs.Stairs.{first_time, last_time, KeepsPace, AreSmall, IsCount, HasSteps, LineUpTo, IsStep, IsStepAt};
+ghost use Rattle.run_watch.specs.Stairs.{first_time, last_time, IsCount, HasSteps, LineUpTo, IsStep, IsStepAt, IsStair};
 
-use crate::flows::{bits_of, bucket_of};
+use crate::flows::bucket_of;
 use crate::ramps::is_at_most;
 use crate::windows::next_start;
 use affine_segment::Piece;
-use fraction128::{Frac, Wide, is_less, lesser};
+use fraction128::{Frac, Wide, is_less};
 use rational::Extended;
+use std::alloc::Global;
+use step_lines::seen_upto;
 use watch_laws::Entering;
 
 /// A stair, and a line over it: steps of a height, and how many of them the line has, in steps.
@@ -22,46 +23,6 @@ struct Stair {
     height: Frac,
     slack: Frac,
     rate: Frac,
-}
-
-/// The number of a packet, less what the rate has up to its time.
-fn lead_at(number: usize, rate: Frac, time: Frac) -> Result<Frac, Wide>
-    ensures { IfOk result (λ x. x ≡ whole number -ℚ rate *ℚ time) }
-{
-    let had = Frac::mul(rate, time)?;
-    Frac::sub(Frac::from_whole(number as i128), had)
-}
-
-/// Whether packets are seen to come no faster than the line, each for one step.
-fn keeps_pace(entries: &[Entering], stair: &Stair) -> bool
-    ensures { IsTrue result → KeepsPace stair.now.slack stair.now.rate entries.now (length entries.now) }
-{
-    let mut least = Frac::zero();
-    for (number, entering) in entries.iter().enumerate() {
-        let Ok(lead) = lead_at(number, stair.rate, entering.time) else {
-            return false;
-        };
-        least = lesser(least, lead);
-        let Ok(most) = Frac::add(least, stair.slack) else {
-            return false;
-        };
-        if is_less(most, lead) {
-            return false;
-        }
-    }
-    true
-}
-
-/// Whether no packet has more bits than a step.
-fn are_small(entries: &[Entering], height: Frac) -> bool
-    ensures { IsTrue result → AreSmall height entries.now (length entries.now) }
-{
-    for entering in entries {
-        if is_less(height, bits_of(entering)) {
-            return false;
-        }
-    }
-    true
 }
 
 /// The time from the first packet to the last, if it is seen to fit.
@@ -161,23 +122,32 @@ fn are_steps(stair: &Stair, far: Frac, pieces: &[Piece]) -> bool
     true
 }
 
+/// How long a step lasts: from the second piece to the third. Where there is none, it is as long as it may be and still have
+/// one step over no more than `far`.
+fn period_of(second: &Piece, third: Option<&Piece>, far: Frac) -> Result<Frac, Wide> {
+    match third {
+        Some(third) => Frac::sub(third.x, second.x),
+        None => Frac::add(second.x, far),
+    }
+}
+
 /// The stair that some pieces begin with, and the line over it, if they begin with one: whatever it is, it is tried.
-fn stair_of(pieces: &[Piece]) -> Option<Stair> {
-    let [first, second, third, ..] = pieces else {
+fn stair_of(pieces: &[Piece], far: Frac) -> Option<Stair> {
+    let [first, second, ..] = pieces else {
         return None;
     };
     let (Extended::Fin(low), Extended::Fin(high)) = (first.at, second.at) else {
         return None;
     };
     let height = Frac::sub(high, low).ok()?;
-    let gap = Frac::sub(third.x, second.x).ok()?;
+    let period = period_of(second, pieces.get(2), far).ok()?;
     if !is_less(Frac::zero(), height) {
         return None;
     }
-    if !is_less(Frac::zero(), gap) {
+    if !is_less(Frac::zero(), period) {
         return None;
     }
-    let rate = Frac::div(Frac::one(), gap).ok()?;
+    let rate = Frac::div(Frac::one(), period).ok()?;
     let count = count_under(height, low)?;
     let risen = Frac::mul(rate, second.x).ok()?;
     let slack = Frac::sub(count, risen).ok()?;
@@ -188,29 +158,36 @@ fn stair_of(pieces: &[Piece]) -> Option<Stair> {
     })
 }
 
-/// Whether a stair is seen to be kept, in one pass over the packets and one over the pieces: where its steps are all of one
-/// height and come at one pace, and no packet has more bits than a step. Another curve may be kept all the same.
-pub(crate) fn keeps_stair(entries: &[Entering], arrival: &[Piece]) -> bool
-    requires { FlowReads arrival.now entries.now }
-    ensures { IsTrue result → NoneCrowded (read arrival.now) entries.now (length entries.now) }
+/// Whether all pieces have the stair's steps, whose numbers make sense.
+fn is_stair(stair: &Stair, far: Frac, pieces: &[Piece]) -> bool
+    ensures { IsTrue result → IsStair stair.now.height stair.now.slack stair.now.rate far pieces.now }
 {
-    let Some(stair) = stair_of(arrival) else {
-        return false;
-    };
-    let Some(far) = reach_of(entries) else {
-        return false;
-    };
     if !is_less(Frac::zero(), stair.height) {
         return false;
     }
     if !is_less(Frac::zero(), stair.rate) {
         return false;
     }
-    if !are_steps(&stair, far, arrival) {
+    if is_less(stair.slack, Frac::zero()) {
         return false;
     }
-    if !are_small(entries, stair.height) {
-        return false;
+    are_steps(stair, far, pieces)
+}
+
+/// How many of the first packets are seen to keep a stair, if that is looked at: where its steps are all of one height and come at
+/// one pace, in n log n steps for n packets and one pass over the pieces. The next packet may keep it all the same.
+pub(crate) fn kept_upto(alloc: Global, entries: &[Entering], arrival: &[Piece]) -> Option<usize>
+    requires { FlowReads arrival.now entries.now }
+    ensures { IfSome result (NoneCrowded (read arrival.now) entries.now) }
+{
+    let Some(far) = reach_of(entries) else {
+        return None;
+    };
+    let Some(stair) = stair_of(arrival, far) else {
+        return None;
+    };
+    if !is_stair(&stair, far, arrival) {
+        return None;
     }
-    keeps_pace(entries, &stair)
+    seen_upto(alloc, entries, stair.height, stair.slack, stair.rate)
 }

@@ -188,7 +188,7 @@ on_grid_of net trace ok fine named free small =
     let grid = made_grid net trace ok in
     let below = gauge_below net trace ok small in
     let reach = reach_of net trace place setup forward in
-    let many : length S.net.servers ≡ length net.servers = length-map net.servers server_for in
+    let many : length S.net.servers ≡ length net.servers = length-map net.servers (server_for net.version) in
     let first = first_in_time S place setup forward in
     record {
       room = room_of (simulation_sizes net trace) e below reach.from_zero reach.by;

@@ -40,7 +40,7 @@ pub record SpanSteps (time : ℚ) (o : Opening) (wire : ℚ) : Type 0 where
   pub link : SumFits (plain_time o.gate time +ℚ stalled_for o.stalls) wire
 
 many : (net : Net) (trace : SpecTrace) → length (setup_of net trace).net.servers ≡ length net.servers
-many net trace = length-map net.servers server_for
+many net trace = length-map net.servers (server_for net.version)
 
 append_none : {X : Type 0} (xs : List X) → xs ≡ xs ++ []
 append_none xs = sym (Rattle.std.proofs.Common.append-nil xs)

@@ -25,7 +25,7 @@ open_servers_break_nothing net_bytes trace_bytes reply h s server at kind free a
     let names = named net (rows_of trace_bytes) h.trace A.read.reads in
     let kept = keeps net h.trace run s server A.gives.accepted A.read.keeps names h.report.stated at kind free in
     let known = slice_get_within net.servers s server at in
-    let inside = subst (λ (n : ℕ). s < n) (sym (length-map net.servers server_for)) known in
+    let inside = subst (λ (n : ℕ). s < n) (sym (length-map net.servers (server_for net.version))) known in
     let serves = (have_curves net A.gives.accepted A.curves.services).servers s inside in
     let none : ¬ IsNetBreach net run (Service s a b) = kept_is_not_slow net run s a b lawful serves kept in
     (none, λ e. none (told net run h.report.tells.found.breach (Service s a b) e h.report.tells.finds.breach))

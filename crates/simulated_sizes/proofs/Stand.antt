@@ -71,7 +71,7 @@ simulated_stand net trace run ok curves fine named free small is =
     let end : grids.IsTime D E run.end = subst (grids.IsTime D E) (sym is.ends) (end_time S D E (int (pos 0)) [] run.steps F tt is.follows zero) in
     let A = limited_to net trace run.end ok small reach end in
     let steps = steps_stand net trace run.end [] run.steps F tt is.follows lawful.allowed in
-    let many : length (routes_of net).servers ≡ length net.servers = length-map net.servers server_for in (
+    let many : length (routes_of net).servers ≡ length net.servers = length-map net.servers (server_for net.version) in (
       lawful,
       record {
         limited = A;

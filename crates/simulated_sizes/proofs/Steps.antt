@@ -47,7 +47,7 @@ pace_rate rate a b w l e =
 pace_slope : (net : Net) (trace : SpecTrace) (r : RunState) (s p : ℕ) (a b w : ℚ) → IsDue (setup_of net trace) r (Work s p a b w) → IsSlope (simulation_sizes net trace) (w /ℚ (b -ℚ a))
 pace_slope net trace r s p a b w h =
     let S = setup_of net trace in
-    let many : length S.net.servers ≡ length net.servers = length-map net.servers server_for in
+    let many : length S.net.servers ≡ length net.servers = length-map net.servers (server_for net.version) in
     let l = h.0 in
     let found = made_from (λ (y : NetServer). y.rate) net.servers s (int (pos 1)) (omega (arith, l, many)) in
     let k = stretch_rate S r s p a b w h.1 in

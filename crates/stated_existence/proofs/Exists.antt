@@ -223,9 +223,9 @@ quanta_of (Drr own) h = λ quanta e q l.
 
 served : (net : Net) (trace : SpecTrace) → IsAccepted net → IsServed (setup_of net trace)
 served net trace ok = record {
-  few = λ s. any_made (λ (x : Server). queue_count x.discipline ≤ 8) server_for net.servers s record { discipline = Fifo; pace = None } (omega arith)
+  few = λ s. any_made (λ (x : Server). queue_count x.discipline ≤ 8) (server_for net.version) net.servers s record { discipline = Fifo; pace = None } (omega arith)
       (λ x i. few_of x.discipline (ok.servers x (in_contains net.servers x i)).queues);
-  quanta = λ s. any_made (λ (x : Server). HasQuanta x.discipline) server_for net.servers s record { discipline = Fifo; pace = None }
+  quanta = λ s. any_made (λ (x : Server). HasQuanta x.discipline) (server_for net.version) net.servers s record { discipline = Fifo; pace = None }
       (λ quanta e. absurd (cc)) (λ x i. quanta_of x.discipline (ok.servers x (in_contains net.servers x i)).queues);
 }
 

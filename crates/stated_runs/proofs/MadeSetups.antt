@@ -1,10 +1,10 @@
 -- A network and a trace make a setup.
 use Rattle.std.proofs.Common.{◌≡◌, ℕ, zero, suc, ◌<◌, ◌≤◌, ◌^◌, List, [], ◌∷◌, length, map, get_or, refl, sym, ap, ◌∙◌, subst, arith, inl, inr, Some, None}
-use Rattle.std.specs.Prelude.{Option, pos, true, slice_get, slice_index, Contains}
-use Rattle.std.proofs.lemmas.Bool.{cases_eq}
+use Rattle.std.specs.Prelude.{Option, pos, true, ◌==◌, ◌⊎◌, slice_get, slice_index, Contains}
+use Rattle.std.proofs.lemmas.Bool.{cases_Bool, cases_eq}
 use Rattle.std.proofs.lemmas.List.{get_or-map, length-map}
 use Rattle.std.proofs.lemmas.Option.{slice_get_within}
-use Rattle.rational.specs.Rational.{int, ◌≤ℚ◌, ◌<ℚ◌}
+use Rattle.rational.specs.Rational.{ℚ, int, ◌≤ℚ◌, ◌<ℚ◌}
 use Rattle.rational.proofs.Linear.{with1}
 use Rattle.rational.proofs.Laws.{le_refl}
 use Rattle.run_laws.specs.Servers.{Fifo, Server, queue_count}
@@ -14,7 +14,7 @@ use Rattle.net_model.specs.declared.server.ServiceKind.TheVariants.{Latency, Gat
 use Rattle.net_model.specs.declared.trace.TracePacket.{TracePacket}
 use Rattle.net_model.specs.declared.trace.Stall.{Stall}
 use Rattle.net_model.specs.Networks.{Net, NetServer}
-use Rattle.net_model.specs.NetRoutes.{hops_along, route_for, server_for, link_for, routes_of}
+use Rattle.net_model.specs.NetRoutes.{hops_along, pace_for, route_for, server_for, link_for, routes_of}
 use Rattle.net_model.specs.Accepted.{IsAccepted, IsServer, IsFlow, IsHop, IsOfKind}
 use Rattle.net_model.specs.Traces.{SpecTrace, IsTrace, IsTracePacket}
 use Rattle.stated_runs.specs.Setups.{Entering, IsGateFor, packet_of, IsHopOf, AreHopsOf, MayComeIn, IsSetup}
@@ -35,10 +35,15 @@ links_from_zero [] h s = le_refl (int (pos 0))
 links_from_zero (x ∷ xs) h zero = (h x (inl refl)).link
 links_from_zero (x ∷ xs) h (suc s) = links_from_zero xs (λ y i. h y (inr i)) s
 
-no_pace : (xs : List NetServer) (s : ℕ) → (get_or (map server_for xs) s record { discipline = Fifo; pace = None }).pace ≡ None
-no_pace [] s = refl
-no_pace (x ∷ xs) zero = refl
-no_pace (x ∷ xs) (suc s) = no_pace xs s
+pace_is : (version : ℕ) (rate : ℚ) → (pace_for version rate ≡ None) ⊎ (pace_for version rate ≡ Some rate)
+pace_is version rate = elim (cases_Bool (version == 2)) [ inl e ↦ rw e (inr refl) | inr e ↦ rw e (inl refl) ]
+
+-- a server's pace is not limited, or is its rate
+paces_stand : (version : ℕ) (xs : List NetServer) (s : ℕ) → let pace = (get_or (map (server_for version) xs) s record { discipline = Fifo; pace = None }).pace in
+    (pace ≡ None) ⊎ (pace ≡ Some (get_or (map (λ (x : NetServer). x.rate) xs) s (int (pos 1))))
+paces_stand version [] s = inl refl
+paces_stand version (x ∷ xs) zero = pace_is version x.rate
+paces_stand version (x ∷ xs) (suc s) = paces_stand version xs s
 
 gate_stands : (x : NetServer) → IsServer x → IsGateFor (gate_of x.kind)
 gate_stands x h = by_kind x.kind h.kind
@@ -68,8 +73,8 @@ in_some (y ∷ ys) (suc i) x e = inr (in_some ys i x e)
 hop_stands : (net : Net) (s q bits : ℕ) → IsHop net.servers s q bits → IsHopOf (routes_of net) record { server = s; queue = q }
 hop_stands net s q bits h =
     let known : s < length net.servers = slice_get_within net.servers s h.server h.is in
-    let many : length (map server_for net.servers) ≡ length net.servers = length-map net.servers server_for in
-    let at : server_at (routes_of net) s ≡ server_for h.server = found server_for net.servers s h.server record { discipline = Fifo; pace = None } h.is in
+    let many : length (map (server_for net.version) net.servers) ≡ length net.servers = length-map net.servers (server_for net.version) in
+    let at : server_at (routes_of net) s ≡ server_for net.version h.server = found (server_for net.version) net.servers s h.server record { discipline = Fifo; pace = None } h.is in
     record {
       known_server = omega (arith, known, many);
       known_queue = subst (λ (x : Server). q < queue_count x.discipline) (sym at) h.has_queue;
@@ -118,9 +123,9 @@ traces_make_setups net trace ok fine named =
     let many : length (map entering trace.packets) ≡ length trace.packets = length-map trace.packets entering in
     let here : AreServers net.servers = λ x i. ok.servers x (in_contains net.servers x i) in
     record {
-      as_many = length-map net.servers (λ (s : NetServer). s.rate) ∙ sym (length-map net.servers server_for);
+      as_many = length-map net.servers (λ (s : NetServer). s.rate) ∙ sym (length-map net.servers (server_for net.version));
       rates = rates_above net.servers here;
-      paces = λ s. inl (no_pace net.servers s);
+      paces = λ s. paces_stand net.version net.servers s;
       gates = gates_stand 0 net.servers trace.stalls here;
       links = links_from_zero net.servers here;
       packets = λ p h.

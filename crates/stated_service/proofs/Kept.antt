@@ -180,7 +180,7 @@ servers_keep net trace run ok fine named sim s server is formula none = λ a b l
     let setup = traces_make_setups net trace ok fine named in
     let there = listed net.servers s server is in
     let own = server_is net trace s server there.inside there.is in
-    let many = length-map net.servers server_for in
+    let many = length-map net.servers (server_for net.version) in
     let h : s < length S.net.servers = let k = there.inside in omega (arith, k, many) in
     let V = view (routes_of net) run s in
     let σ = state_at (run_start S.net) s in

@@ -43,7 +43,7 @@ is_flow = is_one_hop_flow one_flow.servers (codes "f1") 0 12000 10 (named_by_two
 
 accepted : IsAccepted one_flow
 accepted = record {
-  version = refl;
+  version = (omega arith, omega arith);
   few_servers = omega arith;
   few_flows = omega arith;
   names = (no_pairs (λ s t. s.name ≢ t.name) its_server, no_pairs DifferInName (Some first_flow));

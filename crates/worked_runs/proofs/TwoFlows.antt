@@ -39,7 +39,7 @@ of_both P p q f has = elim (one_of_two (Some first_flow) (Some second_flow) (Som
 
 accepted : IsAccepted two_flows
 accepted = record {
-  version = refl;
+  version = (omega arith, omega arith);
   few_servers = omega arith;
   few_flows = omega arith;
   names = (

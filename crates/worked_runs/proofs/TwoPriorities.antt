@@ -45,7 +45,7 @@ of_both P p q f has = elim (one_of_two (Some first) (Some second) (Some f) has) 
 
 accepted : IsAccepted two_priorities
 accepted = record {
-  version = refl;
+  version = (omega arith, omega arith);
   few_servers = omega arith;
   few_flows = omega arith;
   names = (

@@ -48,7 +48,7 @@ of_both P p q f has = elim (one_of_two (Some first_flow) (Some second) (Some f) 
 
 accepted : IsAccepted two_quanta
 accepted = record {
-  version = refl;
+  version = (omega arith, omega arith);
   few_servers = omega arith;
   few_flows = omega arith;
   names = (

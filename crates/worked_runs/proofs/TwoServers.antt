@@ -72,7 +72,7 @@ its_only_flow f has = same_Some its_flow f (alone (Some its_flow) (Some f) has)
 
 accepted : IsAccepted two_servers
 accepted = record {
-  version = refl;
+  version = (omega arith, omega arith);
   few_servers = omega arith;
   few_flows = omega arith;
   names = (

@@ -19,6 +19,6 @@ returns-in-Ok-clause-counts g c =
 pub returns-in-Err-clause-reply : goal.returns-in-Err-clause-reply
 returns-in-Err-clause-reply g c =
     IfOk-weaker c.on_fault.result _ _
-    (λ r told. on_no_network c.args.file.now c.args.bytes.now (reply_of r) told)
+    (λ r told. on_no_network c.args.form c.args.file.now c.args.bytes.now (reply_of r) told)
     (on_told c.args.file.now c.args.bytes.now c.in-Err.fault c.on_fault.result c.in-Err.ensures.fault
     c.on_fault.ensures.reply c.on_fault.ensures.told)

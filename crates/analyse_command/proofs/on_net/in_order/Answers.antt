@@ -22,14 +22,14 @@ pub returns-in-Err-TooMany-clause-reply : goal.returns-in-Err-TooMany-clause-rep
 returns-in-Err-TooMany-clause-reply g c =
     let first = rw c.in-Err-TooMany.field-0-is at c.in-Err-TooMany.ensures.refused in
     IfOk-weaker c.cell_too_many.result _ _
-    (λ r is. on_over c.args.net.now c.args.order.now c.in-Err-TooMany.cell TooMany (reply_of r)
+    (λ r is. on_over c.args.form c.args.net.now c.args.order.now c.in-Err-TooMany.cell TooMany (reply_of r)
     c.keeps.ensures c.requires first is)
-    c.cell_too_many.ensures
+    (rw c.in-Err-TooMany.field-0-is at c.cell_too_many.ensures)
 
 pub returns-in-Err-TooMany-clause-counts : goal.returns-in-Err-TooMany-clause-counts
 returns-in-Err-TooMany-clause-counts g c =
     let other = refused c.cell_too_many.result (cell_over TooMany (cell_words c.args.net.now c.in-Err-TooMany.cell))
-    (λ e. cc) c.cell_too_many.ensures in
+    (λ e. cc) (rw c.in-Err-TooMany.field-0-is at c.cell_too_many.ensures) in
     by_order c.args.net.now c.args.order.now (status_of c.cell_too_many.result) c.args.steps.now c.analyse.new.steps
     c.keeps.ensures c.requires c.analyse.ensures.rises c.analyse.ensures.within (λ zero. absurd (other zero))
 
@@ -37,14 +37,14 @@ pub returns-in-Err-TooWide-clause-reply : goal.returns-in-Err-TooWide-clause-rep
 returns-in-Err-TooWide-clause-reply g c =
     let first = rw c.in-Err-TooWide.field-0-is at c.in-Err-TooWide.ensures.refused in
     IfOk-weaker c.cell_too_wide.result _ _
-    (λ r is. on_over c.args.net.now c.args.order.now c.in-Err-TooWide.cell TooWide (reply_of r)
+    (λ r is. on_over c.args.form c.args.net.now c.args.order.now c.in-Err-TooWide.cell TooWide (reply_of r)
     c.keeps.ensures c.requires first is)
-    c.cell_too_wide.ensures
+    (rw c.in-Err-TooWide.field-0-is at c.cell_too_wide.ensures)
 
 pub returns-in-Err-TooWide-clause-counts : goal.returns-in-Err-TooWide-clause-counts
 returns-in-Err-TooWide-clause-counts g c =
     let other = refused c.cell_too_wide.result (cell_over TooWide (cell_words c.args.net.now c.in-Err-TooWide.cell))
-    (λ e. cc) c.cell_too_wide.ensures in
+    (λ e. cc) (rw c.in-Err-TooWide.field-0-is at c.cell_too_wide.ensures) in
     by_order c.args.net.now c.args.order.now (status_of c.cell_too_wide.result) c.args.steps.now c.analyse.new.steps
     c.keeps.ensures c.requires c.analyse.ensures.rises c.analyse.ensures.within (λ zero. absurd (other zero))
 

@@ -17,7 +17,7 @@ use Rattle.cell_kinds.proofs.curves.cross.Goals as goal
 
 pub flows_sum-made-requires : goal.flows_sum-made-requires
 flows_sum-made-requires g c =
-    rw (c.place_of.ensures.server, c.place_of.ensures.queue)
+    rw (c.place_of-place.ensures.server, c.place_of-place.ensures.queue)
     (cross_ready c.args.net.now (g.T.Table.at c.args.table.now) c.args.flow c.args.hop c.requires)
 
 pub returns : goal.returns
@@ -33,7 +33,7 @@ returns g c =
     let there = others net i s q in
     let cells = map (at_visit In) there in
     let chosen : Adds at [] (map (at_visit In) (all_chosen net s (InQueue q) (Some i) (length net.flows))) old new made =
-    rw (c.place_of.ensures.server, c.place_of.ensures.queue) at c.flows_sum-made.ensures.sum in
+    rw (c.place_of-place.ensures.server, c.place_of-place.ensures.queue) at c.flows_sum-made.ensures.sum in
     let adds = subst (λ (vs : List Visit). Adds at [] (map (at_visit In) vs) old new made) (sym (other_visits net i s q)) chosen in
     record {
       answer = c.summed.ensures.answer cells old new adds;

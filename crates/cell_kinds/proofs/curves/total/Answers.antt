@@ -1,4 +1,6 @@
-use Rattle.std.proofs.Common.{◌-◌, List, [], map, sym, subst}
+use Rattle.std.proofs.Common.{◌≡◌, ◌-◌, ◌∙◌, List, [], map, sym, subst, arith, true, false}
+use Rattle.std.specs.Prelude.{◌==◌}
+use Rattle.std.proofs.lemmas.Bool.{eq-eqb, ne_eqb}
 use Rattle.std.proofs.lemmas.List.{length-map}
 use Rattle.net_cells.specs.declared.cell.Kind.TheVariants.{In}
 use Rattle.net_cells.specs.declared.visit.Visit.{Visit}
@@ -8,11 +10,27 @@ use Rattle.cell_table.specs.Values.{answer_of, meaning_of}
 use Rattle.cell_operators.specs.Partial.{Adds}
 use Rattle.queue_hops.proofs.Choosing.{queue_visits}
 use Rattle.cell_operators.specs.Evaluates.{Counts}
-use Rattle.cell_kinds.proofs.Arms.{total_ready}
+use Rattle.cell_kinds.proofs.Arms.{total_ready, parts_ready, total_evaluates}
 use Rattle.cell_kinds.proofs.curves.total.Goals as goal
 
+pub parts_sum-requires : goal.parts_sum-requires
+parts_sum-requires g c =
+    let net = c.args.net.now in
+    let second : (net.version == 2) ≡ true = eq-eqb net.version 2 (sym c.version.ensures.version ∙ c.if-version-eq2.true) in
+    parts_ready net (g.T.Table.at c.args.table.now) c.args.server c.args.queue second c.requires
+
+pub returns-then-version-eq2 : goal.returns-then-version-eq2
+returns-then-version-eq2 g c =
+    let net = c.args.net.now in
+    let second : (net.version == 2) ≡ true = eq-eqb net.version 2 (sym c.version.ensures.version ∙ c.if-version-eq2.true) in
+    total_evaluates net (g.T.Table.at c.args.table.now) c.args.server c.args.queue true c.args.steps.now _ _ second
+    c.parts_sum.ensures.answer c.parts_sum.ensures.counts
+
 pub flows_sum-made-requires : goal.flows_sum-made-requires
-flows_sum-made-requires g c = total_ready c.args.net.now (g.T.Table.at c.args.table.now) c.args.server c.args.queue c.requires
+flows_sum-made-requires g c =
+    let net = c.args.net.now in
+    let first : (net.version == 2) ≡ false = ne_eqb net.version 2 (λ e. c.if-version-eq2.false (c.version.ensures.version ∙ e)) in
+    total_ready net (g.T.Table.at c.args.table.now) c.args.server c.args.queue first c.requires
 
 pub returns : goal.returns
 returns g c =
@@ -22,10 +40,10 @@ returns g c =
     let new = c.flows_sum-made.new.steps in
     let there = visits_in net c.args.server c.args.queue in
     let cells = map (at_visit In) there in
+    let first : (net.version == 2) ≡ false = ne_eqb net.version 2 (λ e. c.if-version-eq2.false (c.version.ensures.version ∙ e)) in
     let adds = subst (λ (vs : List Visit). Adds at [] (map (at_visit In) vs) old new c.flows_sum-made.result)
     (sym (queue_visits net c.args.server c.args.queue)) c.flows_sum-made.ensures.sum in
-    record {
-      answer = c.summed.ensures.answer cells old new adds;
-      counts = subst (λ n. Counts (n - 1) old new (answer_of meaning_of c.summed.result)) (length-map there (at_visit In))
-          (c.summed.ensures.counts cells old new adds);
-    }
+    total_evaluates net at c.args.server c.args.queue false old new (answer_of meaning_of c.summed.result) first
+    (c.summed.ensures.answer cells old new adds)
+    (subst (λ n. Counts (n - 1) old new (answer_of meaning_of c.summed.result)) (length-map there (at_visit In))
+    (c.summed.ensures.counts cells old new adds))

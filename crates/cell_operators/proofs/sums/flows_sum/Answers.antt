@@ -5,7 +5,6 @@ use Rattle.std.proofs.lemmas.List.{map-append, length-map}
 use Rattle.net_model.specs.Views.{flow_of}
 use Rattle.net_cells.specs.declared.cell.Kind.TheVariants.{In}
 use Rattle.net_cells.specs.Order.{at_visit}
-use Rattle.queue_hops.specs.declared.found.Pick.TheVariants.{InQueue}
 use Rattle.queue_hops.specs.Chosen.{chosen, all_chosen}
 use Rattle.cell_operators.specs.Partial.{Adds}
 use Rattle.queue_hops.proofs.Choosing.{all_chosen_more, flat_front}
@@ -20,15 +19,15 @@ loop-flow-preserved g c =
     let at = g.T.Table.at c.args.table.now in
     let net = c.args.net.now in
     let n = c.loop-flow.flow in
-    let all = all_chosen net c.args.place.0 (InQueue c.args.place.1) c.args.except in
-    let next = chosen net c.args.place.0 (InQueue c.args.place.1) c.args.except n in
+    let all = all_chosen net c.args.server c.args.pick c.args.except in
+    let next = chosen net c.args.server c.args.pick c.args.except n in
     let inv = c.loop-flow.invariant.sum in
     let step = c.with_flow.ensures.sum (map (at_visit In) (all n)) inv.0 in
     let both = adds_then at [] (map (at_visit In) (all n)) (map (at_visit In) next) c.args.steps.now c.loop-flow.steps _ c.loop-flow.so_far (Ok c.in-Ok.more)
     inv (subst (Adds at (map (at_visit In) (all n)) (map (at_visit In) next) c.loop-flow.steps c.with_flow.new.steps) c.in-Ok.is step) in
     record {
       sum = subst (λ zs. Adds at [] zs c.args.steps.now c.with_flow.new.steps (Ok c.in-Ok.more))
-          (sym (ap (map (at_visit In)) (all_chosen_more net c.args.place.0 (InQueue c.args.place.1) c.args.except n) ∙ map-append (at_visit In) (all n) next)) both;
+          (sym (ap (map (at_visit In)) (all_chosen_more net c.args.server c.args.pick c.args.except n) ∙ map-append (at_visit In) (all n) next)) both;
       ready = search rules;
     }
 
@@ -37,8 +36,8 @@ returns-in-Err-clause-sum g c =
     let at = g.T.Table.at c.args.table.now in
     let net = c.args.net.now in
     let n = c.loop-flow.flow in
-    let f = chosen net c.args.place.0 (InQueue c.args.place.1) c.args.except in
-    let all = all_chosen net c.args.place.0 (InQueue c.args.place.1) c.args.except in
+    let f = chosen net c.args.server c.args.pick c.args.except in
+    let all = all_chosen net c.args.server c.args.pick c.args.except in
     let next = f n in
     let inv = c.loop-flow.invariant.sum in
     let step = c.with_flow.ensures.sum (map (at_visit In) (all n)) inv.0 in
@@ -46,7 +45,7 @@ returns-in-Err-clause-sum g c =
     inv (subst (Adds at (map (at_visit In) (all n)) (map (at_visit In) next) c.loop-flow.steps c.with_flow.new.steps) c.in-Err.is step) in
     let front = flat_front f (n + 1) (length net.flows)
     (let same = ap length c.flows.ensures.flows in let all = length-map c.flows.result.now (option_map flow_of) in let t = c.loop-flow-test.true in omega (arith, same, all, t)) in
-    let whole = ap (map (at_visit In)) (front.is ∙ ap (λ ys. ys ++ front.rest) (all_chosen_more net c.args.place.0 (InQueue c.args.place.1) c.args.except n))
+    let whole = ap (map (at_visit In)) (front.is ∙ ap (λ ys. ys ++ front.rest) (all_chosen_more net c.args.server c.args.pick c.args.except n))
     ∙ map-append (at_visit In) (all n ++ next) front.rest
     ∙ ap (λ ys. ys ++ map (at_visit In) front.rest) (map-append (at_visit In) (all n) next) in
     subst (λ zs. Adds at [] zs c.args.steps.now c.with_flow.new.steps (Err c.in-Err.fault)) (sym whole)

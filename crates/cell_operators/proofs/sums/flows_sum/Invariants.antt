@@ -2,13 +2,12 @@ use Rattle.std.proofs.Common.{[], map}
 use Rattle.std.specs.Prelude.{Ok}
 use Rattle.net_cells.specs.declared.cell.Kind.TheVariants.{In}
 use Rattle.net_cells.specs.Order.{at_visit}
-use Rattle.queue_hops.specs.declared.found.Pick.TheVariants.{InQueue}
 use Rattle.queue_hops.specs.Chosen.{all_chosen}
 use Rattle.cell_operators.specs.Partial.{IsReady, Adds}
 use Rattle.cell_operators.proofs.sums.flows_sum.Given as goal
 
 abbrev pub invariant-loop-flow : goal.invariant-loop-flow
 invariant-loop-flow g l = record {
-  sum : Adds (g.T.Table.at l.table) [] (map (at_visit In) (all_chosen l.net l.place.0 (InQueue l.place.1) l.except l.flow)) l.fn.steps l.steps (Ok l.so_far);
+  sum : Adds (g.T.Table.at l.table) [] (map (at_visit In) (all_chosen l.net l.server l.pick l.except l.flow)) l.fn.steps l.steps (Ok l.so_far);
   ready : IsReady (g.T.Table.at l.table) l.so_far;
 }

@@ -1,5 +1,4 @@
 use Rattle.std.proofs.Common.{◌≡◌, ◌∙◌, length, arith, below_more}
-use Rattle.queue_hops.specs.declared.found.Pick.TheVariants.{InQueue}
 use Rattle.queue_hops.specs.Chosen.{chosen}
 use Rattle.cell_rules.proofs.Tells.{tells_no}
 use Rattle.cell_rules.proofs.SameHops.{same_flat, other_flat, chosen_blank, chosen_own}
@@ -9,8 +8,8 @@ pub returns-then-not-is_same_hop : goal.returns-then-not-is_same_hop
 returns-then-not-is_same_hop c =
     let old = c.args.old.now in
     let new = c.args.new.now in
-    let here = InQueue c.args.place.1 in
-    let there = InQueue c.args.other.1 in
+    let here = c.args.place.1 in
+    let there = c.args.other.1 in
     other_flat (chosen old c.args.place.0 here c.args.except) (chosen new c.args.other.0 there c.args.except)
     (length old.flows) (length new.flows) c.loop-flow.flow c.chosen_at-here.result c.chosen_at-there.result
     (chosen_blank old c.args.place.0 here c.args.except) (chosen_blank new c.args.other.0 there c.args.except)
@@ -23,8 +22,8 @@ pub returns : goal.returns
 returns c =
     let old = c.args.old.now in
     let new = c.args.new.now in
-    let here = InQueue c.args.place.1 in
-    let there = InQueue c.args.other.1 in
+    let here = c.args.place.1 in
+    let there = c.args.other.1 in
     same_flat (chosen old c.args.place.0 here c.args.except) (chosen new c.args.other.0 there c.args.except)
     (length old.flows) (length new.flows) c.loop-flow.flow
     (omega (arith, c.flows-old_flows.ensures.kept.few_flows, c.loop-flow-test.false))

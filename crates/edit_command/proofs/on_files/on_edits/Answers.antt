@@ -21,7 +21,7 @@ returns-in-Ok-clause-counts g c =
 pub returns-in-Err-clause-reply : goal.returns-in-Err-clause-reply
 returns-in-Err-clause-reply g c =
     IfOk-weaker c.on_fault.result _ _
-    (λ r none. on_no_network c.args.net_file.now c.args.net_bytes.now c.args.edits_file.now c.args.edits_bytes.now
+    (λ r none. on_no_network c.args.form c.args.net_file.now c.args.net_bytes.now c.args.edits_file.now c.args.edits_bytes.now
     (reply_of r) none)
     (on_told c.args.net_file.now c.args.net_bytes.now c.in-Err.fault c.on_fault.result c.in-Err.ensures.fault
     c.on_fault.ensures.reply c.on_fault.ensures.told)

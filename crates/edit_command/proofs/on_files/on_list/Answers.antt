@@ -23,7 +23,7 @@ returns-in-Ok-clause-counts g c =
 
 pub returns-in-Err-clause-reply : goal.returns-in-Err-clause-reply
 returns-in-Err-clause-reply g c =
-    on_bad_list c.args.net.now c.args.edits_file.now c.args.edits_bytes.now c.in-Err.fault c.on_table_fault.result
+    on_bad_list c.args.form c.args.net.now c.args.edits_file.now c.args.edits_bytes.now c.in-Err.fault c.on_table_fault.result
     c.keeps.ensures c.in-Err.ensures.fault c.on_table_fault.ensures.reply c.on_table_fault.ensures.told
 
 pub returns-in-Err-clause-counts : goal.returns-in-Err-clause-counts

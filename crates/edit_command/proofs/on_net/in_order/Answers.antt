@@ -21,8 +21,8 @@ returns-in-Ok-clause-reply g c =
     let edits = c.args.edits.now in
     let present : c.in-Ok.store.present ≡ net = c.in-Ok.ensures.present ∙ c.in_ok-copy.ensures in
     IfOk-weaker c.reported.result _ _
-    (λ r report. on_report net edits (reply_of r) c.keeps.ensures
-    (subst (λ (n : Net). (last : Net) × (at : CellTable) × AreReported n edits last at (reply_of r)) present report))
+    (λ r report. on_report c.args.form net edits (reply_of r) c.keeps.ensures
+    (subst (λ (n : Net). (last : Net) × (at : CellTable) × AreReported c.args.form n edits last at (reply_of r)) present report))
     c.reported.ensures.reply
 
 pub returns-in-Ok-clause-counts : goal.returns-in-Ok-clause-counts
@@ -49,16 +49,16 @@ pub returns-in-Err-TooMany-clause-reply : goal.returns-in-Err-TooMany-clause-rep
 returns-in-Err-TooMany-clause-reply g c =
     let first = rw c.in-Err-TooMany.field-0-is at c.in-Err-TooMany.ensures.refused in
     IfOk-weaker c.cell_too_many.result _ _
-    (λ r is. on_over c.args.net.now c.args.edits.now c.args.order.now c.in-Err-TooMany.cell TooMany (reply_of r)
+    (λ r is. on_over c.args.form c.args.net.now c.args.edits.now c.args.order.now c.in-Err-TooMany.cell TooMany (reply_of r)
     c.keeps.ensures c.requires.ordered
     (first_of_copy c.args.net.now _ c.args.order.now c.in-Err-TooMany.cell (fault_of TooMany) c.in_ok-copy.ensures
     c.requires.ordered first) is)
-    c.cell_too_many.ensures
+    (rw c.in-Err-TooMany.field-0-is at c.cell_too_many.ensures)
 
 pub returns-in-Err-TooMany-clause-counts : goal.returns-in-Err-TooMany-clause-counts
 returns-in-Err-TooMany-clause-counts g c =
     let other = refused c.cell_too_many.result (cell_over TooMany (cell_words c.args.net.now c.in-Err-TooMany.cell))
-    (λ e. cc) c.cell_too_many.ensures in
+    (λ e. cc) (rw c.in-Err-TooMany.field-0-is at c.cell_too_many.ensures) in
     by_cells_of_copy c.args.net.now _ c.args.edits.now c.args.order.now (status_of c.cell_too_many.result) _ _
     c.in_ok-copy.ensures c.keeps.ensures c.requires.ordered c.new.ensures.rises c.new.ensures.within other
 
@@ -66,16 +66,16 @@ pub returns-in-Err-TooWide-clause-reply : goal.returns-in-Err-TooWide-clause-rep
 returns-in-Err-TooWide-clause-reply g c =
     let first = rw c.in-Err-TooWide.field-0-is at c.in-Err-TooWide.ensures.refused in
     IfOk-weaker c.cell_too_wide.result _ _
-    (λ r is. on_over c.args.net.now c.args.edits.now c.args.order.now c.in-Err-TooWide.cell TooWide (reply_of r)
+    (λ r is. on_over c.args.form c.args.net.now c.args.edits.now c.args.order.now c.in-Err-TooWide.cell TooWide (reply_of r)
     c.keeps.ensures c.requires.ordered
     (first_of_copy c.args.net.now _ c.args.order.now c.in-Err-TooWide.cell (fault_of TooWide) c.in_ok-copy.ensures
     c.requires.ordered first) is)
-    c.cell_too_wide.ensures
+    (rw c.in-Err-TooWide.field-0-is at c.cell_too_wide.ensures)
 
 pub returns-in-Err-TooWide-clause-counts : goal.returns-in-Err-TooWide-clause-counts
 returns-in-Err-TooWide-clause-counts g c =
     let other = refused c.cell_too_wide.result (cell_over TooWide (cell_words c.args.net.now c.in-Err-TooWide.cell))
-    (λ e. cc) c.cell_too_wide.ensures in
+    (λ e. cc) (rw c.in-Err-TooWide.field-0-is at c.cell_too_wide.ensures) in
     by_cells_of_copy c.args.net.now _ c.args.edits.now c.args.order.now (status_of c.cell_too_wide.result) _ _
     c.in_ok-copy.ensures c.keeps.ensures c.requires.ordered c.new.ensures.rises c.new.ensures.within other
 

@@ -3,7 +3,8 @@ use Rattle.net_model.specs.Accepted.{IsAccepted}
 use Rattle.net_model.specs.Networks.{Net}
 use Rattle.cell_store.specs.Placed.{placed}
 use Rattle.cell_table.specs.Values.{meaning_of}
-use Rattle.edit_report.specs.EditReport.{edit_report_of}
+use Rattle.edit_report.specs.EditReport.{edit_report_in}
+use Rattle.edit_report.specs.Said.{EditSaid, said_view}
 use Rattle.command_replies.specs.Replies.{Reply}
 use Rattle.edit_command.proofs.OnNetworks.{reported_is, work_of_begun}
 use Rattle.edit_command.proofs.on_net.reported.Goals as goal
@@ -12,11 +13,11 @@ pub returns-clause-reply : goal.returns-clause-reply
 returns-clause-reply g c =
     let first = c.args.store in
     let last = c.all_answered.new.store in
-    let answers : List (List ℕ) = map (λ words. words.items) c.in_ok-answers.answers.items in
+    let answers : List EditSaid = map said_view c.in_ok-answers.answers.items in
     let at = placed meaning_of last.values.newest in
     let text = (rw c.deref.ensures.value at c.in_ok-text.ensures)
-    ∙ ap (λ (n : Net). edit_report_of n at answers) c.network-net.ensures.network in
-    reported_is meaning_of first last c.args.edits.now answers _ c.requires.first
+    ∙ ap (λ (n : Net). edit_report_in c.args.form n at answers) c.network-net.ensures.network in
+    reported_is c.args.form meaning_of first last c.args.edits.now answers _ c.requires.first
     (subst IsAccepted c.network-first.ensures.network c.keeps.ensures) c.versions-values.ensures.each
     c.in_ok-answers.ensures.answered (subst IsAccepted c.network-net.ensures.network c.keeps-2.ensures)
     c.versions-versions.ensures.each c.network-net.ensures.meets

@@ -2,6 +2,7 @@ use Rattle.std.proofs.Common.{subst}
 use Rattle.std.proofs.lemmas.Result.{IfOk-weaker}
 use Rattle.net_model.specs.Accepted.{IsAccepted}
 use Rattle.cell_table.specs.Values.{meaning_of}
+use Rattle.edit_report.specs.Said.{said_view}
 use Rattle.edit_command.proofs.OneRow.{row_answered}
 use Rattle.edit_command.proofs.Works.{at_least}
 use Rattle.edit_command.proofs.row.answered.Goals as goal
@@ -9,10 +10,10 @@ use Rattle.edit_command.proofs.row.answered.Goals as goal
 pub returns-clause-answered : goal.returns-clause-answered
 returns-clause-answered g c =
     let accepted = subst IsAccepted c.network-network.ensures.network c.keeps.ensures in
-    IfOk-weaker c.words_of.result _ _
-    (λ text said. row_answered meaning_of c.args.store.now c.apply-answer.new.self c.args.edit.now c.apply-answer.result
-    text.items accepted c.apply-answer.ensures.applied c.apply-answer.ensures.kept c.versions-versions.ensures.each said)
-    c.words_of.ensures
+    IfOk-weaker c.said_by.result _ _
+    (λ said is. row_answered meaning_of c.args.store.now c.apply-answer.new.self c.args.edit.now c.apply-answer.result
+    (said_view said) accepted c.apply-answer.ensures.applied c.apply-answer.ensures.kept c.versions-versions.ensures.each is)
+    c.said_by.ensures
 
 pub returns-clause-least : goal.returns-clause-least
 returns-clause-least g c = λ count done is taken.

@@ -1,6 +1,7 @@
-use Rattle.std.proofs.Common.{Vec, Global, ◌≡◌, ◌++◌, ◌∷◌, [], List, ℕ, ◌+◌, length, map, take, drop, refl, sym, ap, ◌∙◌, subst, arith}
+use Rattle.std.proofs.Common.{◌≡◌, ◌++◌, ◌∷◌, [], List, ◌+◌, length, map, take, drop, refl, sym, ap, ◌∙◌, subst, arith}
 use Rattle.std.proofs.lemmas.List.{map-append}
 use Rattle.net_model.specs.declared.edit.Edit.{Edit}
+use Rattle.edit_report.specs.Said.{EditSaid, said_view}
 use Rattle.edit_command.specs.NetHistories.{history_of}
 use Rattle.edit_command.specs.Answered.{AreAnswered}
 use Rattle.edit_command.proofs.InTurn.{IsLeft, cut_short, all_left, answered_at, rest_at, one_less, no_deeper}
@@ -25,20 +26,19 @@ loop-edit-preserved g c =
     let edit = c.edit-item.result in
     let old = history_of c.loop-edit.store in
     let next = history_of c.answered.new.store in
-    let one = c.in_ok-words.ensures.answered in
-    let bytes_of = λ (w : Vec ℕ Global). w.items in
-    let told : map bytes_of c.push.new.self.items ≡ map bytes_of c.loop-edit.answers.items ++ c.in_ok-words.words.items ∷ [] =
-    ap (map bytes_of) c.in_ok-push.ensures.items
-    ∙ map-append bytes_of c.loop-edit.answers.items (c.in_ok-words.words ∷ []) in
+    let one = c.in_ok-said.ensures.answered in
+    let told : map said_view c.push.new.self.items ≡ map said_view c.loop-edit.answers.items ++ said_view c.in_ok-said.said ∷ [] =
+    ap (map said_view) c.in_ok-push.ensures.items
+    ∙ map-append said_view c.loop-edit.answers.items (c.in_ok-said.said ∷ []) in
     record {
       answered =
-          subst (λ (ws : List (List ℕ)). AreAnswered (history_of c.args.store.now) (take (i + 1) edits) ws next) (sym told)
-          (answered_at (history_of c.args.store.now) edits i edit (map bytes_of c.loop-edit.answers.items) old
-          c.in_ok-words.words.items next (omega arith) c.edit-item.is c.loop-edit.invariant.answered one);
-      deep = let more = no_deeper old edit c.in_ok-words.words.items next one in omega (arith, more, c.loop-edit.invariant.deep);
+          subst (λ (ws : List EditSaid). AreAnswered (history_of c.args.store.now) (take (i + 1) edits) ws next) (sym told)
+          (answered_at (history_of c.args.store.now) edits i edit (map said_view c.loop-edit.answers.items) old
+          (said_view c.in_ok-said.said) next (omega arith) c.edit-item.is c.loop-edit.invariant.answered one);
+      deep = let more = no_deeper old edit (said_view c.in_ok-said.said) next one in omega (arith, more, c.loop-edit.invariant.deep);
       rises = omega (arith, c.answered.ensures.rises, c.loop-edit.invariant.rises);
       left = λ all done w.
-          one_less old next edit (drop (i + 1) edits) c.in_ok-words.words.items (g.E.Evaluator.count c.args.eval.now)
+          one_less old next edit (drop (i + 1) edits) (said_view c.in_ok-said.said) (g.E.Evaluator.count c.args.eval.now)
           (g.E.Evaluator.count c.loop-edit.eval) (g.E.Evaluator.count c.answered.new.eval) all done one
           (record { most = c.answered.ensures.most; least = c.answered.ensures.least })
           (subst (λ (es : List Edit). IsLeft old es (g.E.Evaluator.count c.args.eval.now)
@@ -47,8 +47,8 @@ loop-edit-preserved g c =
       same = c.answered.ensures.same ∙ c.loop-edit.invariant.same;
     }
 
-pub returns-in_err-words-clause-most : goal.returns-in_err-words-clause-most
-returns-in_err-words-clause-most g c = λ all done w.
+pub returns-in_err-said-clause-most : goal.returns-in_err-said-clause-most
+returns-in_err-said-clause-most g c = λ all done w.
     let edits = c.args.edits.now in
     let i = c.loop-edit.edit-index in
     let edit = c.edit-item.result in

@@ -1,4 +1,5 @@
 use Rattle.std.proofs.Common.{◌≡◌, ◌≤◌, length, map, take, drop}
+use Rattle.edit_report.specs.Said.{said_view}
 use Rattle.edit_command.specs.NetHistories.{history_of}
 use Rattle.edit_command.specs.Answered.{AreAnswered}
 use Rattle.edit_command.proofs.InTurn.{LeavesWork}
@@ -6,7 +7,7 @@ use Rattle.edit_command.proofs.rows.all_answered.Given as goal
 
 abbrev pub invariant-loop-edit : goal.invariant-loop-edit
 invariant-loop-edit g l = record {
-  answered : AreAnswered (history_of l.fn.store) (take l.edit-index l.edits) (map (λ words. words.items) l.answers.items)
+  answered : AreAnswered (history_of l.fn.store) (take l.edit-index l.edits) (map said_view l.answers.items)
       (history_of l.store);
   deep : length l.store.before ≤ l.edit-index;
   rises : g.E.Evaluator.count l.fn.eval ≤ g.E.Evaluator.count l.eval;

@@ -4,19 +4,17 @@ use Rattle.net_model.specs.Accepted.{IsAccepted}
 use Rattle.net_edits.proofs.Replaced.{server_replaced}
 use Rattle.net_edits.proofs.replacing.with_server.Goals as goal
 
-pub new-requires : goal.new-requires
-new-requires c =
+pub of_version-requires : goal.of_version-requires
+of_version-requires c =
     let parts = c.into_parts-servers in
-    let version = ap (λ (n : Net). n.version) (sym c.in_ok-copy.ensures) ∙ parts.ensures.kept.version in
     subst IsAccepted
-    (sym (server_replaced c.args.net.now c.in_ok-copy.field-0 parts.result.0.items parts.result.1.items c.args.number c.args.server c.in_ok-copy.ensures
-    version parts.ensures.servers parts.ensures.flows))
+    (sym (server_replaced c.args.net.now c.in_ok-copy.field-0 c.version.result parts.result.0.items parts.result.1.items c.args.number c.args.server c.in_ok-copy.ensures
+    c.version.ensures.version parts.ensures.servers parts.ensures.flows))
     c.requires.accepted
 
 pub returns : goal.returns
 returns c =
     let parts = c.into_parts-servers in
-    let version = ap (λ (n : Net). n.version) (sym c.in_ok-copy.ensures) ∙ parts.ensures.kept.version in
-    c.new.ensures
-    ∙ server_replaced c.args.net.now c.in_ok-copy.field-0 parts.result.0.items parts.result.1.items c.args.number c.args.server c.in_ok-copy.ensures
-    version parts.ensures.servers parts.ensures.flows
+    c.of_version.ensures
+    ∙ server_replaced c.args.net.now c.in_ok-copy.field-0 c.version.result parts.result.0.items parts.result.1.items c.args.number c.args.server c.in_ok-copy.ensures
+    c.version.ensures.version parts.ensures.servers parts.ensures.flows

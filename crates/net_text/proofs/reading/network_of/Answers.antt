@@ -14,12 +14,12 @@ use Rattle.net_text.specs.FoldLimits.{OverFold}
 use Rattle.subadd_closure.specs.FoldWork.{fold_work}
 use Rattle.net_text.proofs.reading.network_of.Goals as goal
 
-pub new-requires : goal.new-requires
-new-requires g c =
+pub of_version-requires : goal.of_version-requires
+of_version-requires g c =
     let draft = c.in_ok-draft.draft in
-    let net = net_of 1 c.in_ok-servers.servers.items c.in_ok-flows.flows.items in
+    let net = net_of draft.version c.in_ok-servers.servers.items c.in_ok-flows.flows.items in
     let built : IsBuilt OverFold (draft_text draft) net = record {
-      version = sym c.in_ok-draft.ensures.kept.version;
+      version = refl;
       servers = subst (λ ds. AllZip IsServerOf (map server_text ds) (servers_of c.in_ok-servers.servers.items)) c.deref.ensures.value c.in_ok-servers.ensures.built;
       flows = subst (λ ds. AllZip (IsLiveFlowOf OverFold) (map flow_text ds) (flows_of c.in_ok-flows.flows.items)) c.deref-2.ensures.value c.in_ok-flows.ensures.built;
     } in

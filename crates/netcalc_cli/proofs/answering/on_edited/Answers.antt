@@ -9,7 +9,7 @@ pub returns-in-Ok-clause-reply : goal.returns-in-Ok-clause-reply
 returns-in-Ok-clause-reply g c =
     IfOk-weaker c.on_edits.result _ _
     (λ r on. answers g.I.Inputs.faults g.I.Inputs.last_fault (g.I.Inputs.content c.args.inputs.now)
-    (Edit c.args.net.now c.args.edits.now) c.args.inputs.now c.fetch_two.new.inputs (reply_of r)
+    (Edit c.args.form c.args.net.now c.args.edits.now) c.args.inputs.now c.fetch_two.new.inputs (reply_of r)
     (c.in-Ok.bytes.items ∷ c.in-Ok.rows.items ∷ []) c.in-Ok.ensures.held c.in-Ok.ensures.fit on)
     (rw c.deref-in-Ok.ensures.value at (rw c.deref.ensures.value at c.on_edits.ensures.reply))
 
@@ -26,12 +26,12 @@ pub returns-in-Err-clause-reply : goal.returns-in-Err-clause-reply
 returns-in-Err-clause-reply g c =
     IfOk-weaker c.in-Err.ended _ _
     (λ r at. ends g.I.Inputs.faults g.I.Inputs.last_fault (g.I.Inputs.content c.args.inputs.now)
-    (Edit c.args.net.now c.args.edits.now) c.args.inputs.now c.fetch_two.new.inputs (reply_of r) at)
+    (Edit c.args.form c.args.net.now c.args.edits.now) c.args.inputs.now c.fetch_two.new.inputs (reply_of r) at)
     c.in-Err.ensures.ended
 
 pub returns-in-Err-clause-counts : goal.returns-in-Err-clause-counts
 returns-in-Err-clause-counts g c =
     let other = no_answer_in g.I.Inputs.faults g.I.Inputs.last_fault (g.I.Inputs.content c.args.inputs.now)
-    (Edit c.args.net.now c.args.edits.now) c.args.inputs.now c.fetch_two.new.inputs
+    (Edit c.args.form c.args.net.now c.args.edits.now) c.args.inputs.now c.fetch_two.new.inputs
     (c.args.net.now ∷ c.args.edits.now ∷ []) c.in-Err.ended c.in-Err.ensures.ended in
     inl (other, refl)

@@ -9,7 +9,7 @@ pub returns-in-Ok-clause-reply : goal.returns-in-Ok-clause-reply
 returns-in-Ok-clause-reply g c =
     IfOk-weaker c.on_bytes.result _ _
     (λ r on. answers g.I.Inputs.faults g.I.Inputs.last_fault (g.I.Inputs.content c.args.inputs.now)
-    (Analyse c.args.net.now) c.args.inputs.now c.fetch_one.new.inputs (reply_of r) (c.in-Ok.bytes.items ∷ [])
+    (Analyse c.args.form c.args.net.now) c.args.inputs.now c.fetch_one.new.inputs (reply_of r) (c.in-Ok.bytes.items ∷ [])
     (c.in-Ok.ensures.held, tt) (c.in-Ok.ensures.fits, tt) on)
     (rw c.deref.ensures.value at c.on_bytes.ensures.reply)
 
@@ -26,11 +26,11 @@ pub returns-in-Err-clause-reply : goal.returns-in-Err-clause-reply
 returns-in-Err-clause-reply g c =
     IfOk-weaker c.in-Err.ended _ _
     (λ r at. ends g.I.Inputs.faults g.I.Inputs.last_fault (g.I.Inputs.content c.args.inputs.now)
-    (Analyse c.args.net.now) c.args.inputs.now c.fetch_one.new.inputs (reply_of r) (inl at))
+    (Analyse c.args.form c.args.net.now) c.args.inputs.now c.fetch_one.new.inputs (reply_of r) (inl at))
     c.in-Err.ensures.ended
 
 pub returns-in-Err-clause-counts : goal.returns-in-Err-clause-counts
 returns-in-Err-clause-counts g c =
     let other = no_answer_at g.I.Inputs.faults g.I.Inputs.last_fault (g.I.Inputs.content c.args.inputs.now)
-    (Analyse c.args.net.now) c.args.inputs.now c.fetch_one.new.inputs c.args.net.now c.in-Err.ended c.in-Err.ensures.ended in
+    (Analyse c.args.form c.args.net.now) c.args.inputs.now c.fetch_one.new.inputs c.args.net.now c.in-Err.ended c.in-Err.ensures.ended in
     inl (other, refl)

@@ -1,0 +1,28 @@
+use Rattle.std.proofs.Common.{refl, subst, arith}
+use Rattle.upp_limits.specs.declared.op_kind.OpKind.TheVariants.{Min}
+use Rattle.upp_curve.specs.Kinds.{bucket}
+use Rattle.run_laws.specs.Cards.{whole}
+use Rattle.curve_call.specs.Again.{IsAgain}
+use Rattle.curve_call.specs.Calls.{Applies, goes_on, stops}
+use Rattle.curve_call.proofs.Applied.{applied_seen}
+use Rattle.net_cells.specs.Meanings.{curve}
+use Rattle.cell_operators.proofs.Counting.{counts_all}
+use Rattle.cell_operators.proofs.PathSteps.{made_answer}
+use Rattle.cell_operators.proofs.parts.cut.Goals as goal
+
+pub returns-in-Ok-clause-answer : goal.returns-in-Ok-clause-answer
+returns-in-Ok-clause-answer g c = λ at F server h.
+    let f = c.args.flows.now in
+    let B = c.in-Ok.link in
+    let made = applied_seen Min f B c.min.result c.seen.result c.seen.ensures.same c.min.ensures.value c.min.ensures.limits c.seen.ensures.kept in
+    goes_on (curve f) h
+    (goes_on (curve B) (subst (IsAgain (bucket (whole c.args.bits) c.args.rate)) c.in-Ok.is c.link_bucket.ensures)
+    (made_answer (Applies Min f B) c.seen.result made))
+
+pub returns-in-Ok-clause-counts : goal.returns-in-Ok-clause-counts
+returns-in-Ok-clause-counts g c = counts_all 1 c.args.steps.now _ _ c.min.ensures.count
+
+pub returns-in-Err-clause-answer : goal.returns-in-Err-clause-answer
+returns-in-Err-clause-answer g c = λ at F server h.
+    goes_on (curve c.args.flows.now) h
+    (stops c.in-Err.fault (subst (IsAgain (bucket (whole c.args.bits) c.args.rate)) c.in-Err.is c.link_bucket.ensures) refl)

@@ -1,0 +1,34 @@
+use Rattle.std.proofs.Common.{◌-◌, length, map, sym, subst}
+use Rattle.std.specs.Prelude.{All}
+use Rattle.net_cells.specs.Answers.{SumsOf}
+use Rattle.cell_table.specs.Values.{answer_of, meaning_of}
+use Rattle.cell_operators.specs.Evaluates.{Counts}
+use Rattle.cell_operators.specs.Parts.{IsHeld, curve_of}
+use Rattle.cell_operators.proofs.PartSteps.{refused_gives, made_gives, made_counts}
+use Rattle.cell_operators.proofs.parts.parts_sum.Goals as goal
+
+pub added_up-requires : goal.added_up-requires
+added_up-requires g c = subst (All (IsHeld (g.T.Table.at c.args.table.now))) (sym c.deref.ensures.0) c.in-Ok.ensures.made.held
+
+pub returns-in-Ok-clause-answer : goal.returns-in-Ok-clause-answer
+returns-in-Ok-clause-answer g c =
+    let at = g.T.Table.at c.args.table.now in
+    let r = answer_of meaning_of c.added_up.result in
+    made_gives at c.args.net.now c.args.place.0 c.args.place.1 c.in-Ok.parts.items c.args.steps.now c.parts_made.new.steps r c.in-Ok.ensures.made
+    (subst (λ ps. SumsOf (map (curve_of at) ps) r) c.deref.ensures.0 c.added_up.ensures.sum)
+
+pub returns-in-Ok-clause-counts : goal.returns-in-Ok-clause-counts
+returns-in-Ok-clause-counts g c =
+    let at = g.T.Table.at c.args.table.now in
+    let r = answer_of meaning_of c.added_up.result in
+    made_counts at c.args.net.now c.args.place.0 c.args.place.1 c.in-Ok.parts.items c.args.steps.now c.parts_made.new.steps c.added_up.new.steps r
+    c.in-Ok.ensures.made (subst (λ ps. Counts (length ps - 1) c.parts_made.new.steps c.added_up.new.steps r) c.deref.ensures.0 c.added_up.ensures.counts)
+
+pub returns-in-Err-clause-answer : goal.returns-in-Err-clause-answer
+returns-in-Err-clause-answer g c =
+    refused_gives (g.T.Table.at c.args.table.now) c.args.net.now c.args.place.0 c.args.place.1 c.in-Err.fault c.args.steps.now c.parts_made.new.steps
+    c.in-Err.ensures.refused
+
+pub returns-in-Err-clause-counts : goal.returns-in-Err-clause-counts
+returns-in-Err-clause-counts g c =
+    record { exact = tt; least = c.in-Err.ensures.refused.least; most = c.in-Err.ensures.refused.most }

@@ -1,0 +1,3 @@
+pub mod ReportData
+pub mod Forms
+pub mod JsonLaws

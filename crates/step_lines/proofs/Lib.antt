@@ -1,0 +1,3 @@
+pub mod LowTrees
+pub mod PlacedPairs
+pub mod SortedParts

@@ -1,0 +1,8 @@
+//! How many packets come no faster than a line, in whole steps: the bits between any two of them fit in one step more than some whole
+//! number that the line has reached by the time between.
+#![tactic(auto)]
+
+mod lows;
+mod places;
+
+pub use places::seen_upto;
