@@ -9,7 +9,7 @@ use Rattle.rational.specs.Ratio.{ratio}
 use Rattle.rational.specs.Gauge.{lcm}
 use Rattle.rational.specs.Whole.{whole_part}
 use Rattle.rational.proofs.Linear.{with3}
-use Rattle.rational.proofs.Laws.{num_nonneg, mul_pos, mul_assoc, div_mul, not_zero, mul_cancel, le_of_mul, lt_of_mul, le_of_lt, sub_mul, add_mul}
+use Rattle.rational.proofs.Laws.{num_nonneg, mul_pos, mul_assoc, div_mul, not_zero, mul_cancel, le_of_mul, lt_of_mul, le_of_lt, sub_mul, add_mul, nonneg_int}
 use Rattle.rational.proofs.Integers.{int_mul, int_add, nat_le, nat_lt, nat_lt_out}
 use Rattle.rational.proofs.Quotients.{frac_is_div}
 use Rattle.rational.proofs.Multiples.{lcm_left, lcm_right, lcm_pos}
@@ -17,7 +17,6 @@ use Rattle.rational.proofs.Gauges.{den_pos}
 use Rattle.min_plus.specs.Functions.{zero_q}
 use Rattle.upp_kinds.proofs.StairValues.{whole_ratio}
 use Rattle.curve_library.specs.Shares.{IsQuotient, SharesFit, AreShares}
-use Rattle.upp_limits.proofs.LongCrosses.{nat_of}
 
 nat_some : (n : ℕ) → 0 < n → zero_q <ℚ int (pos n)
 nat_some n h = nat_lt 0 n h
@@ -37,7 +36,7 @@ on_multiple q k g e =
 
 -- a number from 0 on, in steps of 1 / g
 pub steps_on : (q : ℚ) (g : ℕ) → zero_q ≤ℚ q → den q ∣ g → q *ℚ int (pos g) ≡ int (pos (nat_abs q.num * (g / den q)))
-steps_on q g h d = on_multiple q (g / den q) g (div-mul_cancel (den q) d) ∙ ap (λ z. int (z *ℤ pos (g / den q))) (nat_of q.num (num_nonneg q h))
+steps_on q g h d = on_multiple q (g / den q) g (div-mul_cancel (den q) d) ∙ ap (λ z. int (z *ℤ pos (g / den q))) (nonneg_int q.num (num_nonneg q h))
 
 -- ---- a time and a period on one grid
 pub record OnOneGrid (J P : ℚ) (g A B : ℕ) : Type 0 where
