@@ -1,8 +1,7 @@
 -- The gap of both parts of a convolution is there, and so is the least number of periods: found by proof alone, where no code runs.
 use Rattle.std.specs.Prelude.{◌≡◌, ◌⊎◌, ℕ, suc, zero, ◌<◌, ◌≤◌, pos, Option, Some, None}
 use Rattle.std.proofs.Common.{arith, sym, ap₂, refl, subst, inl, inr}
-use Rattle.rational.specs.Rational.{ℚ, ◌+ℚ◌, ◌-ℚ◌, ◌*ℚ◌, ◌/ℚ◌, ◌≤ℚ◌, ◌<ℚ◌, int}
-use Rattle.rational.specs.Gauge.{size_up}
+use Rattle.rational.specs.Rational.{ℚ, ◌+ℚ◌, ◌-ℚ◌, ◌*ℚ◌, ◌≤ℚ◌, ◌<ℚ◌, int}
 use Rattle.rational.specs.Extended.{Ext, ◌≤ₑ◌, ◌+ₑ◌}
 use Rattle.rational.specs.declared.Extended.TheVariants.{Fin, Inf}
 use Rattle.rational.proofs.Laws.{le_refl, le_trans, le_or_lt, antisym, sub_add}
@@ -15,14 +14,13 @@ use Rattle.upp_limits.specs.Limits.{Sizes}
 use Rattle.upp_normal.specs.Operand.{AreLimited}
 use Rattle.upp_limits.specs.Sized.{times_largest}
 use Rattle.upp_curve.specs.Steady.{steady, rise_over}
-use Rattle.upp_limits.specs.Windows.{IsLeast}
 use Rattle.element_envelope.specs.ElementRoom.{WindowTime}
 use Rattle.curve_least.specs.declared.gaps.Gap.{Gap}
 use Rattle.curve_least.specs.declared.gaps.Gap.TheVariants.{NoTime, Never, Is}
 use Rattle.curve_least.specs.Gaps.{InWindow, IsGap, IsEndless}
 use Rattle.curve_least.specs.GapSteps.{gap_of, larger, earlier_of}
 use Rattle.curve_least.proofs.GapParts.{stretch_gap_is}
-use Rattle.curve_least.proofs.LeastNumber.{number_zero, number_least}
+use Rattle.curve_least.proofs.BoundedNumber.{least_found}
 use Rattle.curve_conv.specs.Late.{IsLateCall, IsLateMost}
 use Rattle.curve_conv.specs.Parts.{IsPart, FirstLate}
 use Rattle.curve_conv.specs.PartGaps.{PartGapStands}
@@ -136,9 +134,6 @@ at_most : (a b : ℕ) → (a ≤ b) ⊎ (b < a)
 at_most zero b = inl (omega arith)
 at_most (suc a) zero = inr (omega arith)
 at_most (suc a) (suc b) = elim (at_most a b) [ inl h ↦ inl (omega (arith, h)) | inr h ↦ inr (omega (arith, h)) ]
-
-least_found : (q lead : ℚ) → int (pos 0) <ℚ lead → (k : ℕ) × IsLeast (λ i. q ≤ℚ int (pos i) *ℚ lead) k
-least_found q lead some = elim (le_or_lt q (int (pos 0))) [ inl h ↦ (0, number_zero q lead h) | inr h ↦ (size_up (q /ℚ lead), number_least q lead h some) ]
 
 pub number_found : (slow fast : SpecCurve) (from d end : ℚ) (n : ℕ) → IsLateCall slow fast from d end → IsFinite (value_at slow) → IsFinite (value_at fast)
     → times_largest 14 (sizes_in slow fast end) ≤ℚ int (pos n) *ℚ (rise_over fast d -ℚ rise_over slow d) → IsLateMost slow fast from d n

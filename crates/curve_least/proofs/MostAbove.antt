@@ -118,7 +118,7 @@ finite_rate z from d c L P = elim (ext_cases (rate c)) [
     not_finite : {v : ℚ} → Inf ≡ Fin v → ⊥
     not_finite {v} e = subst (λ x. x ≤ₑ Fin v) (sym e) (le_ext_refl (Fin v))
 
-level_is : (l : ℚ) → rate (level_curve l) ≡ Fin (int (pos 0))
+pub level_is : (l : ℚ) → rate (level_curve l) ≡ Fin (int (pos 0))
 unfolding rate
 level_is l = refl
 

@@ -10,5 +10,5 @@ mod sides;
 pub use bounds::{Bounds, bounds_below, period_bounds, side_bounds};
 pub use gaps::{Gap, earlier, gap_of, larger, side_gap, window_gap};
 pub use laws::below_ever_after;
-pub use least::{is_slower, least_below, least_periods, side_periods};
+pub use least::{is_slower, least_below, least_periods, least_times, side_periods};
 pub use sides::{Side, period_or};

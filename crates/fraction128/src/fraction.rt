@@ -1,6 +1,6 @@
 //! The exact fraction.
 
-ghost use Rattle.std.specs.Prelude.{refl, ◌≡◌, ◌≢◌, ◌↔◌, ◌<◌, ◌≤◌, ◌^◌, ℤ, pos, unsigned_abs, IsOk, IsErr, IfOk, IfErr, IsTrue, ◌++◌, OnOk, OnErr};
+ghost use Rattle.std.specs.Prelude.{refl, ◌≡◌, ◌≢◌, ◌↔◌, ◌<◌, ◌≤◌, ◌^◌, ℤ, pos, unsigned_abs, nat_abs, IsOk, IsErr, IfOk, IfErr, IsTrue, ◌++◌, OnOk, OnErr};
 ghost use Rattle.std.specs.Ordering.{MatchOrdering, is_eq, as_partial_cmp};
 ghost use Rattle.rational.specs.Rational.{ℚ, den, int, ◌+ℚ◌, ◌-ℚ◌, ◌*ℚ◌, ◌/ℚ◌, ◌≤ℚ◌, ◌<ℚ◌, neg_ℚ, inv_ℚ};
 ghost use Rattle.rational.specs.Ratio.{ratio, with_sign, IsSmall, SumFits, cmp_q};
@@ -154,6 +154,15 @@ impl Frac {
         ensures size { unsigned_abs result < 2 ^ 127 }
     {
         self.num
+    }
+
+    /// The size of the numerator in lowest terms.
+    #[inline]
+    pub fn numerator_size(&self) -> u128
+        ensures value { result ≡ nat_abs self.now.num }
+        ensures size { result < 2 ^ 127 }
+    {
+        self.numerator().unsigned_abs()
     }
 
     /// The denominator in lowest terms.
