@@ -1,0 +1,215 @@
+//! `analyse` in plain Rust, unproved: the same report, for times to be held against. It has no limits, and names no faults.
+//!
+//!     twin analyse FILE
+//!     twin operator NAME N TIMES
+
+mod conv;
+mod curve;
+mod frac;
+mod net;
+mod ops;
+mod toml;
+
+use conv::*;
+use curve::*;
+use frac::*;
+use net::*;
+use ops::*;
+use std::rc::Rc;
+
+#[derive(Clone)]
+struct Hop {
+    input: Rc<Curve>,
+    residual: Rc<Curve>,
+    delay: Fraction,
+}
+
+struct Row {
+    delay: Fraction,
+    backlog: Fraction,
+}
+
+fn sum_of<'a>(mut it: impl Iterator<Item = &'a Rc<Curve>>, zero: &Rc<Curve>) -> Rc<Curve> {
+    let Some(first) = it.next() else { return zero.clone() };
+    let Some(second) = it.next() else { return first.clone() };
+    let mut acc = sum(first, second);
+    for c in it {
+        acc = sum(&acc, c);
+    }
+    Rc::new(acc)
+}
+
+fn total(values: &[Fraction]) -> Fraction {
+    let mut s = ZERO;
+    for v in values {
+        if v.inf() {
+            return INF;
+        }
+        s = s.add(*v);
+    }
+    s
+}
+
+/// The delays and backlogs of each queue, and of each flow the sum of its delays, the bound by its path's service, and the lesser.
+fn analyse(net: &Net, order: &[u32]) -> (Vec<Vec<Row>>, Vec<[Fraction; 3]>) {
+    let zero = Rc::new(affine(ZERO, ZERO));
+    let mut at: Vec<Vec<Vec<(u32, u32)>>> = net.servers.iter().map(|s| vec![Vec::new(); s.nq]).collect();
+    for (i, f) in net.flows.iter().enumerate() {
+        for (k, &(s, q)) in f.path.iter().enumerate() {
+            at[s as usize][q as usize].push((i as u32, k as u32));
+        }
+    }
+    let mut hops: Vec<Vec<Hop>> = net.flows.iter().map(|f| Vec::with_capacity(f.path.len())).collect();
+    let mut next: Vec<Rc<Curve>> = net.flows.iter().map(|f| f.arrival.clone()).collect();
+    let mut rows: Vec<Vec<Row>> = net.servers.iter().map(|_| Vec::new()).collect();
+    for &s in order {
+        let sv = &net.servers[s as usize];
+        let queues = &at[s as usize];
+        let longest: Vec<u32> =
+            queues.iter().map(|m| m.iter().map(|&(i, _)| net.flows[i as usize].packet).max().unwrap_or(0)).collect();
+        // totals and crosses
+        let mut crosses: Vec<Vec<Rc<Curve>>> = Vec::with_capacity(sv.nq);
+        let mut totals: Vec<Rc<Curve>> = Vec::with_capacity(sv.nq);
+        for m in queues {
+            let n = m.len();
+            let ins: Vec<&Rc<Curve>> = m.iter().map(|&(i, _)| &next[i as usize]).collect();
+            crosses.push(
+                (0..n).map(|j| sum_of(ins.iter().enumerate().filter(|e| e.0 != j).map(|e| *e.1), &zero)).collect(),
+            );
+            totals.push(sum_of(ins.iter().copied(), &zero));
+        }
+        // services of queues
+        let mut services: Vec<Rc<Curve>> = Vec::with_capacity(sv.nq);
+        match &sv.disc {
+            Disc::Fifo => services.push(sv.service.clone()),
+            Disc::Prio => {
+                let mut higher: Rc<Curve> = zero.clone();
+                for q in 0..sv.nq {
+                    if q > 0 {
+                        higher = sum_of(totals[..q].iter(), &zero);
+                    }
+                    let lower = longest[q + 1..].iter().copied().max().unwrap_or(0);
+                    let l = Fraction::int(lower as i128);
+                    services.push(Rc::new(run_sup(&pos_minus(&pos_diff(&sv.service, &higher), l))));
+                }
+            }
+            Disc::Drr(quanta) => {
+                let f: i128 = quanta.iter().map(|&q| q as i128).sum();
+                let ls: i128 = longest.iter().map(|&l| l as i128).sum();
+                for q in 0..sv.nq {
+                    let (n, l) = (quanta[q] as i128, longest[q] as i128);
+                    services.push(Rc::new(pos_minus(
+                        &scale(&sv.service, Fraction::new(n, f)),
+                        Fraction::new(n * (ls - l) + (f - n) * (n + l), f),
+                    )));
+                }
+            }
+        }
+        for q in 0..sv.nq {
+            let beta = &services[q];
+            let delay = horizontal(&totals[q], beta);
+            let backlog = vertical(&totals[q], &pos_minus(beta, Fraction::int(longest[q] as i128)));
+            rows[s as usize].push(Row { delay, backlog });
+            for (j, &(i, k)) in queues[q].iter().enumerate() {
+                let flow = &net.flows[i as usize];
+                let cross = &crosses[q][j];
+                let theta = horizontal(cross, beta);
+                let residual = Rc::new(fifo_left(beta, cross, theta));
+                let input = next[i as usize].clone();
+                let own = delay.min(horizontal(&input, &residual));
+                if (k as usize) + 1 < flow.path.len() {
+                    let c = Rc::new(pos_minus(&residual, Fraction::int(flow.packet as i128)));
+                    let moved = shift(&input, own);
+                    let out = min(&moved, &deconvolve(&input, &c));
+                    next[i as usize] = Rc::new(out);
+                }
+                hops[i as usize].push(Hop { input, residual, delay: own });
+            }
+        }
+    }
+    let mut out = Vec::with_capacity(net.flows.len());
+    for (i, f) in net.flows.iter().enumerate() {
+        let h = &hops[i];
+        let n = h.len();
+        let l = Fraction::int(f.packet as i128);
+        let cut = |k: usize| Rc::new(pos_minus(&h[k].residual, l));
+        let mut acc = if n == 1 { h[0].residual.clone() } else { cut(0) };
+        for k in 1..n {
+            let next = if k + 1 == n { h[k].residual.clone() } else { cut(k) };
+            acc = Rc::new(convolve(&acc, &next));
+        }
+        let links: Vec<Fraction> = f.path.iter().map(|&(s, _)| net.servers[s as usize].link).collect();
+        let tfa = total(&h.iter().zip(&links).flat_map(|(h, l)| [h.delay, *l]).collect::<Vec<_>>());
+        let mut v = vec![horizontal(&h[0].input, &acc)];
+        v.extend(links);
+        let sfa = total(&v);
+        out.push([tfa, sfa, tfa.min(sfa)]);
+    }
+    (rows, out)
+}
+
+/// One operator, so many times, on stairs that turn n and n + 1 times before both have turned together.
+fn operate(name: &str, n: i128, times: u32) -> usize {
+    let f = stair(1, ONE, ZERO);
+    let g = stair(1, Fraction::new(n, n + 1), ZERO);
+    let mut pieces = 0;
+    for _ in 0..times {
+        let made = match name {
+            "sum" => sum(&f, &g),
+            "min" => min(&f, &g),
+            "conv" => convolve(&f, &g),
+            _ => std::process::exit(2),
+        };
+        pieces = made.ps.len();
+    }
+    pieces
+}
+
+fn main() {
+    let words: Vec<String> = std::env::args().collect();
+    if let [_, mode, name, n, times] = &words[..] {
+        if mode == "operator" {
+            println!("{}", operate(name, n.parse().unwrap(), times.parse().unwrap()));
+            return;
+        }
+    }
+    let bytes = std::fs::read(&words[2]).unwrap();
+    let Ok(text) = std::str::from_utf8(&bytes) else { std::process::exit(1) };
+    let Some(tree) = toml::parse(text) else {
+        println!("twin: M1");
+        std::process::exit(1)
+    };
+    let Some(net) = read(&tree) else {
+        println!("twin: malformed");
+        std::process::exit(1)
+    };
+    let Some(order) = order(&net) else {
+        println!("twin: cycle");
+        std::process::exit(8)
+    };
+    let (rows, flows) = analyse(&net, &order);
+    let mut out = String::new();
+    use std::fmt::Write;
+    let _ = writeln!(out, "servers {} flows {}", net.servers.len(), net.flows.len());
+    for (s, r) in net.servers.iter().zip(&rows) {
+        for (q, r) in r.iter().enumerate() {
+            let _ = write!(out, "queue {} {} delay ", s.name, q);
+            r.delay.show(&mut out);
+            out.push_str(" backlog ");
+            r.backlog.show(&mut out);
+            out.push('\n');
+        }
+    }
+    for (f, v) in net.flows.iter().zip(&flows) {
+        let _ = write!(out, "flow {} tfa ", f.name);
+        v[0].show(&mut out);
+        out.push_str(" sfa ");
+        v[1].show(&mut out);
+        out.push_str(" bound ");
+        v[2].show(&mut out);
+        out.push('\n');
+    }
+    use std::io::Write as W;
+    let _ = std::io::stdout().write_all(out.as_bytes());
+    std::process::exit(0)
+}

@@ -1,0 +1,584 @@
+//! The operators.
+use crate::curve::*;
+use crate::frac::*;
+
+/// Goes over the common cells of two piece lists on a stretch that ends at hi:
+/// x, next x, f's at and line, g's at and line.
+#[inline(always)]
+fn both(
+    f: &[Piece],
+    g: &[Piece],
+    hi: Fraction,
+    mut each: impl FnMut(Fraction, Fraction, Fraction, &Piece, Fraction, &Piece),
+) {
+    let (mut i, mut j) = (0, 0);
+    let mut x = f[0].x;
+    let (mut fa, mut ga) = (f[0].at, g[0].at);
+    loop {
+        let fn_ = if i + 1 < f.len() { f[i + 1].x } else { hi };
+        let gn = if j + 1 < g.len() { g[j + 1].x } else { hi };
+        let o = fn_.cmp(&gn);
+        let y = if o.is_le() { fn_ } else { gn };
+        let last = y >= hi;
+        let y = if last { hi } else { y };
+        each(x, y, fa, &f[i], ga, &g[j]);
+        if last {
+            return;
+        }
+        if o.is_le() {
+            i += 1;
+            fa = f[i].at;
+        } else {
+            fa = f[i].line(y);
+        }
+        if o.is_ge() {
+            j += 1;
+            ga = g[j].at;
+        } else {
+            ga = g[j].line(y);
+        }
+        x = y;
+    }
+}
+
+fn add_lists(f: &[Piece], g: &[Piece], hi: Fraction) -> Vec<Piece> {
+    let mut out = Vec::with_capacity(f.len() + g.len());
+    both(f, g, hi, |x, _, fa, p, ga, q| {
+        let at = if fa.inf() || ga.inf() { INF } else { fa.add(ga) };
+        if p.r.inf() || q.r.inf() {
+            emit(&mut out, x, at, INF, INF);
+        } else {
+            emit(&mut out, x, at, p.k.add(q.k), p.r.add(q.r));
+        }
+    });
+    out
+}
+
+pub fn sum(f: &Curve, g: &Curve) -> Curve {
+    let d = common(f, g);
+    let m = f.t().max(g.t());
+    let h = m.add(d);
+    let ps = add_lists(&f.between(ZERO, h), &g.between(ZERO, h), h);
+    let (a, b) = (f.rise_over(d), g.rise_over(d));
+    from_list(ps, m, d, if a.inf() || b.inf() { ZERO } else { a.add(b) })
+}
+
+pub fn low(f: &[Piece], g: &[Piece], hi: Fraction) -> Vec<Piece> {
+    let mut out = Vec::with_capacity(f.len() + g.len() + 4);
+    both(f, g, hi, |x, y, fa, p, ga, q| {
+        let at = fa.min(ga);
+        if p.r.inf() {
+            emit(&mut out, x, at, q.k, q.r);
+        } else if q.r.inf() {
+            emit(&mut out, x, at, p.k, p.r);
+        } else if p.r == q.r {
+            let k = if p.k <= q.k { p.k } else { q.k };
+            emit(&mut out, x, at, k, p.r);
+        } else {
+            let dk = q.k.sub(p.k);
+            let dr = p.r.sub(q.r);
+            // f - g = dr t - dk
+            let z = dk.div(dr);
+            let up = dr.n > 0;
+            if z <= x {
+                let l = if up { q } else { p };
+                emit(&mut out, x, at, l.k, l.r);
+            } else if z >= y {
+                let l = if up { p } else { q };
+                emit(&mut out, x, at, l.k, l.r);
+            } else {
+                let (a, b) = if up { (p, q) } else { (q, p) };
+                emit(&mut out, x, at, a.k, a.r);
+                out.push(Piece::new(z, b.line(z), b.k, b.r));
+            }
+        }
+    });
+    out
+}
+
+/// The larger of 0 and f - g.
+fn over_into(out: &mut Vec<Piece>, f: &[Piece], g: &[Piece], hi: Fraction) {
+    both(f, g, hi, |x, y, fa, p, ga, q| {
+        let at = if ga.inf() || fa <= ga { ZERO } else { fa.sub(ga) };
+        if q.r.inf() {
+            emit(out, x, at, ZERO, ZERO);
+            return;
+        }
+        let k = p.k.sub(q.k);
+        let r = p.r.sub(q.r);
+        if r.zero() {
+            let k = if k.n > 0 { k } else { ZERO };
+            emit(out, x, at, k, ZERO);
+            return;
+        }
+        let z = k.neg().div(r);
+        let up = r.n > 0;
+        if z <= x {
+            if up {
+                emit(out, x, at, k, r)
+            } else {
+                emit(out, x, at, ZERO, ZERO)
+            }
+        } else if z >= y {
+            if up {
+                emit(out, x, at, ZERO, ZERO)
+            } else {
+                emit(out, x, at, k, r)
+            }
+        } else if up {
+            emit(out, x, at, ZERO, ZERO);
+            emit(out, z, ZERO, k, r);
+        } else {
+            emit(out, x, at, k, r);
+            emit(out, z, ZERO, ZERO, ZERO);
+        }
+    });
+}
+
+enum Gap {
+    Nothing,
+    Infinite,
+    Fin(Fraction),
+}
+
+fn sup_gap(f: &[Piece], g: &[Piece], hi: Fraction) -> Gap {
+    let mut best: Option<Fraction> = None;
+    let mut inf = false;
+    both(f, g, hi, |x, y, fa, p, ga, q| {
+        let mut put = |v: Fraction| match best {
+            Some(b) if b >= v => {}
+            _ => best = Some(v),
+        };
+        if !ga.inf() {
+            if fa.inf() {
+                inf = true;
+            } else {
+                put(fa.sub(ga));
+            }
+        }
+        if !q.r.inf() {
+            if p.r.inf() {
+                inf = true;
+            } else {
+                let k = p.k.sub(q.k);
+                let r = p.r.sub(q.r);
+                if r.n > 0 {
+                    put(line(k, r, y));
+                } else {
+                    put(line(k, r, x));
+                }
+            }
+        }
+    });
+    if inf {
+        Gap::Infinite
+    } else {
+        match best {
+            None => Gap::Nothing,
+            Some(v) => Gap::Fin(v),
+        }
+    }
+}
+
+fn lead(g: Gap, delta: Fraction) -> i128 {
+    match g {
+        Gap::Nothing => 0,
+        Gap::Infinite => wide(),
+        Gap::Fin(v) => {
+            if delta.inf() || v.n <= 0 {
+                0
+            } else {
+                v.div(delta).ceil().max(0)
+            }
+        }
+    }
+}
+
+fn gap_k(f: &Curve, g: &Curve, m: Fraction, d: Fraction) -> i128 {
+    let (a, b) = (f.rate(), g.rate());
+    if a == b {
+        return 0;
+    }
+    let (slow, fast, ra, rb) = if a < b { (f, g, a, b) } else { (g, f, b, a) };
+    let h = m.add(d);
+    let sup = sup_gap(&slow.between(m, h), &fast.between(m, h), h);
+    lead(sup, if rb.inf() { INF } else { d.mul(rb.sub(ra)) })
+}
+
+fn least_rise(f: &Curve, g: &Curve, d: Fraction) -> Fraction {
+    let c = f.rise_over(d).min(g.rise_over(d));
+    if c.inf() {
+        ZERO
+    } else {
+        c
+    }
+}
+
+fn excess(a: Fraction, b: Fraction) -> Fraction {
+    if b.inf() || a <= b {
+        ZERO
+    } else {
+        a.sub(b)
+    }
+}
+
+pub fn min(f: &Curve, g: &Curve) -> Curve {
+    let d = common(f, g);
+    let m = f.t().max(g.t());
+    let k = Fraction::int(gap_k(f, g, m, d));
+    let rank = m.add(k.mul(d));
+    let h = rank.add(d);
+    let ps = low(&f.between(ZERO, h), &g.between(ZERO, h), h);
+    from_list(ps, rank, d, least_rise(f, g, d))
+}
+
+pub fn pos_diff(f: &Curve, g: &Curve) -> Curve {
+    let d = common(f, g);
+    let m = f.t().max(g.t());
+    let k = Fraction::int(gap_k(f, g, m, d));
+    let rank = m.add(k.mul(d));
+    let h = rank.add(d);
+    let (a, b) = (f.between(ZERO, h), g.between(ZERO, h));
+    let mut ps = Vec::with_capacity(a.len() + b.len());
+    over_into(&mut ps, &a, &b, h);
+    from_list(ps, rank, d, excess(f.rise_over(d), g.rise_over(d)))
+}
+
+pub fn pos_minus(f: &Curve, l: Fraction) -> Curve {
+    pos_diff(f, &affine(l, ZERO))
+}
+
+pub fn scale(f: &Curve, k: Fraction) -> Curve {
+    if k.zero() {
+        return affine(ZERO, ZERO);
+    }
+    // scaling keeps the normal form
+    let ps = f.ps.iter().map(|p| Piece::new(p.x, p.at.mul(k), p.k.mul(k), p.r.mul(k))).collect();
+    let tail = match f.tail {
+        Tail::Per(d, c) => Tail::Per(d, c.mul(k)),
+        t => t,
+    };
+    Curve { ps, rank: f.rank, tail }
+}
+
+fn sup_of(ps: &[Piece], hi: Fraction) -> Fraction {
+    let mut best = ps[0].at;
+    for (i, p) in ps.iter().enumerate() {
+        let y = if i + 1 < ps.len() { ps[i + 1].x } else { hi };
+        best = best.max(p.at).max(if p.r.n > 0 { p.line(y) } else { p.line(p.x) });
+    }
+    best
+}
+
+pub fn run_sup(f: &Curve) -> Curve {
+    let d = f.period().unwrap_or(ONE);
+    let c = f.rise_over(d);
+    let t = f.t();
+    let k = if c.zero() || t.zero() {
+        0
+    } else {
+        sup_of(&f.between(ZERO, t), t).sub(sup_of(&f.between(t, t.add(d)), t.add(d))).div(c).ceil().max(0)
+    };
+    let h = t.add(Fraction::int(k + 2).mul(d));
+    let ps = f.between(ZERO, h);
+    let mut out = Vec::with_capacity(ps.len() + 4);
+    let mut top = ps[0].at;
+    for (i, p) in ps.iter().enumerate() {
+        let y = if i + 1 < ps.len() { ps[i + 1].x } else { h };
+        if p.at > top {
+            top = p.at;
+        }
+        let (x, k, r) = (p.x, p.k, p.r);
+        let a = p.line(x);
+        if r.n <= 0 {
+            let here = top;
+            top = top.max(a);
+            emit(&mut out, x, here, top, ZERO);
+            continue;
+        }
+        let b = p.line(y);
+        if a >= top {
+            emit(&mut out, x, top, k, r);
+            top = b;
+        } else if b <= top {
+            emit(&mut out, x, top, top, ZERO);
+        } else {
+            let z = top.sub(k).div(r);
+            emit(&mut out, x, top, top, ZERO);
+            emit(&mut out, z, top, k, r);
+            top = b;
+        }
+    }
+    drop(ps);
+    from_list(out, h.sub(d), d, c)
+}
+
+pub fn shift(f: &Curve, x: Fraction) -> Curve {
+    if x.inf() {
+        return nowhere();
+    }
+    if x.zero() {
+        return f.clone();
+    }
+    let d = f.period().unwrap_or(ONE);
+    let rank = f.t().sub(x).max(ZERO);
+    let h = rank.add(d);
+    let back = x.neg();
+    let ps = f.between(x, x.add(h)).iter().map(|p| p.moved(back, ZERO)).collect();
+    let c = f.rise_over(d);
+    from_list(ps, rank, d, if c.inf() { ZERO } else { c })
+}
+
+fn moved_list(ps: &[Piece], x: Fraction) -> Vec<Piece> {
+    ps.iter().map(|p| p.moved(x, ZERO)).collect()
+}
+
+pub fn fifo_left(beta: &Curve, cross: &Curve, theta: Fraction) -> Curve {
+    if theta.inf() {
+        return affine(ZERO, ZERO);
+    }
+    let d = common(beta, cross);
+    let m = beta.t().max(cross.t().add(theta));
+    let (ra, rb) = (beta.rate(), cross.rate());
+    let k = if ra == rb {
+        0
+    } else {
+        let h = m.add(d);
+        let lo = m.sub(theta);
+        let b = beta.between(m, h);
+        let c = cross.between(lo, lo.add(d));
+        let c = moved_list(&c, theta);
+        if ra < rb {
+            lead(sup_gap(&b, &c, h), if rb.inf() { INF } else { d.mul(rb.sub(ra)) })
+        } else {
+            lead(sup_gap(&c, &b, h), d.mul(ra.sub(rb)))
+        }
+    };
+    let rank = m.add(Fraction::int(k + 1).mul(d));
+    let h = rank.add(d);
+    let mut out;
+    {
+        let b = beta.between(theta, h);
+        let c = cross.between(ZERO, h.sub(theta));
+        let c = if theta.zero() { c } else { moved_list(&c, theta).into() };
+        out = Vec::with_capacity(b.len() + c.len() + 2);
+        if theta.n > 0 {
+            out.push(Piece::new(ZERO, ZERO, ZERO, ZERO));
+        }
+        let n = out.len();
+        over_into(&mut out, &b, &c, h);
+        // 0 at theta too
+        if out.len() == n || out[n].x != theta {
+            // the first piece was one with the zero before
+        } else {
+            out[n].at = ZERO;
+            if n == 1 && out[1].r.zero() && out[1].k.zero() {
+                out.remove(1);
+            }
+        }
+    }
+    let c = excess(beta.rise_over(d), cross.rise_over(d));
+    // the infimum from each time on: first over one period, then from the right
+    let start = out.partition_point(|p| p.x <= rank) - 1;
+    let mut least = {
+        let mut v: Option<Fraction> = None;
+        for i in start..out.len() {
+            let p = &out[i];
+            let y = if i + 1 < out.len() { out[i + 1].x } else { h };
+            let x = p.x.max(rank);
+            let here = if p.x >= rank { p.at } else { p.line(x) };
+            let w = here.min(if p.r.n > 0 { p.line(x) } else { p.line(y) });
+            v = Some(match v {
+                Some(u) if u <= w => u,
+                _ => w,
+            });
+        }
+        v.unwrap().add(c)
+    };
+    let mut rev: Vec<Piece> = Vec::with_capacity(out.len() + 4);
+    for i in (0..out.len()).rev() {
+        let p = out[i];
+        let y = if i + 1 < out.len() { out[i + 1].x } else { h };
+        let b = p.line(y);
+        let q;
+        if p.r.n <= 0 {
+            let m = b.min(least);
+            q = Piece::new(p.x, m, m, ZERO);
+            least = m;
+        } else {
+            let a = p.line(p.x);
+            if b <= least {
+                q = Piece::new(p.x, a, p.k, p.r);
+                least = a;
+            } else if a >= least {
+                q = Piece::new(p.x, least, least, ZERO);
+            } else {
+                let z = least.sub(p.k).div(p.r);
+                rev.push(Piece::new(z, least, least, ZERO));
+                q = Piece::new(p.x, a, p.k, p.r);
+                least = a;
+            }
+        }
+        let mut q = q;
+        if p.at < least {
+            least = p.at;
+        }
+        q.at = least;
+        rev.push(q);
+    }
+    out.clear();
+    for p in rev.iter().rev() {
+        emit(&mut out, p.x, p.at, p.k, p.r);
+    }
+    from_list(out, rank, d, c)
+}
+
+pub fn vertical(f: &Curve, g: &Curve) -> Fraction {
+    if !f.finite() || f.rate() > g.rate() {
+        return INF;
+    }
+    let h = f.t().max(g.t()).add(common(f, g));
+    match sup_gap(&f.between(ZERO, h), &g.between(ZERO, h), h) {
+        Gap::Fin(v) => v,
+        _ => wide(),
+    }
+}
+
+pub fn horizontal(f: &Curve, g: &Curve) -> Fraction {
+    if !f.finite() {
+        return INF;
+    }
+    let (rf, rg) = (f.rate(), g.rate());
+    if rf > rg {
+        return INF;
+    }
+    let t = f.t();
+    let (ft, gt) = (f.value(t), g.value(g.t()));
+    if rf.zero() && rg.zero() && ft > gt {
+        return INF;
+    }
+    let d = common(f, g);
+    let c = f.rise_over(d);
+    let j = if c.n > 0 { (gt.sub(ft).div(c).floor() + 1).max(0) } else { 0 };
+    let t1 = t.add(Fraction::int(j + 1).mul(d));
+    let v = f.value(t1);
+    let cg = g.rise_over(d);
+    // m: the least whole number with g(t1 + m d) at least v
+    let mut m = 0i128;
+    let g1 = g.value(t1);
+    if g1 < v {
+        if t1 >= g.t() {
+            m = v.sub(g1).div(cg).ceil();
+        } else {
+            let test = |n: i128| g.value(t1.add(Fraction::int(n).mul(d))) >= v;
+            let mut hi = 1;
+            while !test(hi) {
+                hi *= 2;
+            }
+            let mut lo = hi / 2;
+            while hi - lo > 1 {
+                let mid = (lo + hi) / 2;
+                if test(mid) {
+                    hi = mid
+                } else {
+                    lo = mid
+                }
+            }
+            m = hi;
+        }
+    }
+    let hi = t1.add(Fraction::int(m + 1).mul(d));
+    gap(&f.between(ZERO, t1), t1, &g.between(ZERO, hi), hi)
+}
+
+/// A walk up a rising list.
+struct Walk<'a> {
+    g: &'a [Piece],
+    hi: Fraction,
+    i: usize,
+    state: u8,
+    val: Fraction,
+}
+
+impl<'a> Walk<'a> {
+    fn new(g: &'a [Piece], hi: Fraction) -> Walk<'a> {
+        Walk { g, hi, i: 0, state: 0, val: g[0].at }
+    }
+    fn step(&mut self) {
+        if self.state == 2 {
+            self.i += 1;
+            self.state = 0;
+        } else {
+            self.state += 1;
+        }
+        let p = &self.g[self.i];
+        self.val = match self.state {
+            0 => p.at,
+            1 => p.line(p.x),
+            _ => {
+                if p.r.zero() {
+                    p.k
+                } else {
+                    p.line(if self.i + 1 < self.g.len() { self.g[self.i + 1].x } else { self.hi })
+                }
+            }
+        };
+    }
+    /// The least time with a value at least v.
+    fn reach(&mut self, v: Fraction) -> Fraction {
+        while self.val < v {
+            self.step();
+        }
+        self.time(v)
+    }
+    /// The least time with a value above v.
+    fn pass(&mut self, v: Fraction) -> Fraction {
+        while self.val <= v {
+            self.step();
+        }
+        self.time(v)
+    }
+    fn time(&self, v: Fraction) -> Fraction {
+        let p = &self.g[self.i];
+        if self.state == 2 {
+            v.sub(p.k).div(p.r)
+        } else {
+            p.x
+        }
+    }
+}
+
+fn gap(fs: &[Piece], t1: Fraction, g: &[Piece], hi: Fraction) -> Fraction {
+    let mut at = Walk::new(g, hi);
+    let mut past = Walk::new(g, hi);
+    let mut best = ZERO;
+    for (i, p) in fs.iter().enumerate() {
+        best = best.max(at.reach(p.at).sub(p.x));
+        if p.r.zero() {
+            if p.k != p.at {
+                best = best.max(at.reach(p.k).sub(p.x));
+            }
+            continue;
+        }
+        let y = if i + 1 < fs.len() { fs[i + 1].x } else { t1 };
+        let a = p.line(p.x);
+        let b = p.line(y);
+        best = best.max(past.pass(a).sub(p.x));
+        at.reach(a);
+        // the values of g between
+        loop {
+            let w = past.val;
+            if w >= b {
+                break;
+            }
+            let t = w.sub(p.k).div(p.r);
+            best = best.max(at.reach(w).sub(t)).max(past.pass(w).sub(t));
+        }
+        best = best.max(at.reach(b).sub(y));
+    }
+    best
+}
+
+pub fn lead_gap(p: &[Piece], q: &[Piece], hi: Fraction, delta: Fraction) -> i128 {
+    lead(sup_gap(p, q, hi), delta)
+}
