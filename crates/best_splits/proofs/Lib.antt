@@ -1,1 +1,2 @@
 pub mod BestSplits
+pub mod LineSplits
