@@ -36,19 +36,13 @@ lines_fit x l m Upper false h = h.left
 lines_fit x l m Excess true h = h.zero
 lines_fit x l m Excess false h = h.apart
 
-all_fit : (end : ℚ) (b : Both) → LowerStepsFit end b → StretchMadeFits end b
+pub all_fit : (end : ℚ) (b : Both) → LowerStepsFit end b → StretchMadeFits end b
 all_fit end b h = record {
   value = h.value;
   line = h.line;
   cross = h.cross;
   turn = λ k rises below x C past before. lines_fit x b.left.line b.right.line k below (h.turn rises x C past before);
 }
-
-pub lower_fits : (f g : List Piece) (end : ℚ) (bs : List Both) → LowerFits end f g → IsOverlay f g bs → EachBoth (StretchMadeFits end) bs
-lower_fits f g end bs h O = each_map (IsBothOf f g) (StretchMadeFits end) bs (λ b B. all_fit end b (h b B)) O.each
-
-pub lower_early : (f g : List Piece) (end : ℚ) (bs : List Both) → LowerFits end f g → IsOverlay f g bs → EachBoth (λ b. b.left.x <ℚ end) bs
-lower_early f g end bs h O = each_map (IsBothOf f g) (λ b. b.left.x <ℚ end) bs (λ b B. (h b B).early) O.each
 
 -- ---- a property of each piece
 record PartsHold (P : Piece → Type 0) (f g : List Piece) (end : ℚ) : Type 0 where

@@ -1,18 +1,21 @@
--- The loop that makes the pieces of each stretch, and the step that fits where two lines change places.
-use Rattle.std.specs.Prelude.{◌≡◌, ℕ, ◌+◌, ◌<◌, ◌≤◌, not, List, [], ◌∷◌, ◌++◌, length, Option, Some, None}
-use Rattle.std.proofs.Common.{get_or, drop, drop_of_length-le, append-nil, append_assoc, sym, ap, ◌∙◌, refl, subst}
+-- The pass that makes the pieces of each stretch as it comes, and the step that fits where two lines change places.
+use Rattle.std.specs.Prelude.{◌≡◌, ◌+◌, ◌-◌, ◌<◌, ◌≤◌, not, List, [], ◌∷◌, ◌++◌, length, Option, Some, None}
+use Rattle.std.proofs.Common.{get_or, sym, ap, ◌∙◌, refl, subst}
 use Rattle.rational.specs.Rational.{ℚ, ◌≤ℚ◌, ◌<ℚ◌}
-use Rattle.rational.proofs.Laws.{lt_le_trans, le_refl, le_of_lt}
+use Rattle.rational.proofs.Laws.{lt_le_trans}
 use Rattle.affine_segment.specs.declared.line.Piece.{Piece}
 use Rattle.affine_segment.specs.Fits.{LineFitsAt}
 use Rattle.curve_window.specs.declared.stretch.Both.{Both}
 use Rattle.curve_window.specs.declared.lie.Lie.{Lie}
 use Rattle.curve_window.specs.declared.made.Made.{Made}
 use Rattle.curve_window.specs.declared.made.Parts.{Parts}
-use Rattle.curve_window.specs.Stretches.{EachBoth}
+use Rattle.curve_window.specs.declared.stretch.Walk.{Walk}
+use Rattle.affine_segment.specs.Pieces.{StartsAtZero}
+use Rattle.curve_window.specs.Walk.{IsStep, NextFits}
+use Rattle.curve_window.specs.Stretches.{EachBoth, CutsFit, IsBothOf, IsOverlay}
 use Rattle.curve_window.specs.Lies.{LiesBy, IsLie, IsTurn}
 use Rattle.curve_window.specs.Made.{first_piece, IsParts, turn_listed, listed, next_start, AreMade, StretchMadeFits}
-use Rattle.curve_window.proofs.MapLoop.{next_both}
+use Rattle.curve_window.proofs.OverlayLoop.{OverlayLoop, overlay_start, overlay_step, step_fewer, next_fits, overlay_end}
 
 -- ---- where two lines change places the value fits
 pub turn_fits : (k : Made) (b : Both) (to end x : ℚ) (lie : Lie) (p : Piece) → StretchMadeFits end b → to ≤ℚ end → IsLie b.left.line b.right.line b.left.x to lie → lie.turn ≡ Some x
@@ -21,61 +24,70 @@ turn_fits k b to end x lie p F early L e same =
     let T : IsTurn lie.below b.left.line b.right.line b.left.x to x = subst (LiesBy lie.below b.left.line b.right.line b.left.x to) e L in
     subst (λ q. LineFitsAt x q.line) (sym same) (F.turn k lie.below (not lie.below) x T.meets T.past (lt_le_trans T.before early))
 
--- ---- the loop
-pub record MadeLoop (k : Made) (end : ℚ) (bs left : List Both) (out : List Piece) : Type 0 where
-  pub holds : EachBoth (StretchMadeFits end) left
-  pub early : EachBoth (λ b. b.left.x <ℚ end) left
-  pub rest : (more : List Piece) → AreMade k left end more → AreMade k bs end (out ++ more)
+-- ---- one stretch more
+next_more : (bs : List Both) (b : Both) (to : ℚ) → next_start (bs ++ b ∷ []) to ≡ next_start bs b.left.x
+next_more [] b to = refl
+next_more (c ∷ cs) b to = refl
 
-pub made_start : (k : Made) (end : ℚ) (bs : List Both) → EachBoth (StretchMadeFits end) bs → EachBoth (λ b. b.left.x <ℚ end) bs → MadeLoop k end bs (drop 0 bs) []
-made_start k end bs h e = record { holds = h; early = e; rest = λ more a. a }
-
--- the present stretch
-pub record PresentFits (end : ℚ) (b : Both) (to : ℚ) : Type 0 where
-  pub fits : StretchMadeFits end b
-  pub early : to ≤ℚ end
-
-next_early : (end : ℚ) (bs : List Both) → EachBoth (λ b. b.left.x <ℚ end) bs → next_start bs end ≤ℚ end
-next_early end [] h = le_refl end
-next_early end (b ∷ bs) h = le_of_lt h.0
-
-pub made_holds : (k : Made) (end to : ℚ) (bs : List Both) (out : List Piece) (j : ℕ) (b : Both) → MadeLoop k end bs (drop j bs) out → j < length bs → b ≡ get_or bs j b
-    → to ≡ next_start (drop (j + 1) bs) end → PresentFits end b to
-made_holds k end to bs out j b L h e t =
-    let shape = next_both b bs j h e in
-    let early = subst (EachBoth (λ b. b.left.x <ℚ end)) shape L.early in
-    record {
-      fits = (subst (EachBoth (StretchMadeFits end)) shape L.holds).0;
-      early = subst (λ y. y ≤ℚ end) (sym t) (next_early end (drop (j + 1) bs) early.1);
-    }
-
-pub made_step : (k : Made) (end to : ℚ) (bs : List Both) (out : List Piece) (j : ℕ) (b : Both) (parts : Parts) → MadeLoop k end bs (drop j bs) out → j < length bs → b ≡ get_or bs j b
-    → to ≡ next_start (drop (j + 1) bs) end → IsParts k b to parts → MadeLoop k end bs (drop (j + 1) bs) (out ++ listed parts [])
-made_step k end to bs out j b parts L h e t P =
-    let shape = next_both b bs j h e in
-    record {
-      holds = (subst (EachBoth (StretchMadeFits end)) shape L.holds).1;
-      early = (subst (EachBoth (λ b. b.left.x <ℚ end)) shape L.early).1;
-      rest = λ more a.
-          subst (AreMade k bs end) (sym (append_assoc out (listed parts []) more ∙ ap (λ z. out ++ z) (listed_more parts more)))
-          (L.rest (listed parts more) (subst (λ z. AreMade k z end (listed parts more)) (sym shape) (parts, subst (λ y. IsParts k b y parts) t P, (more, refl, a))));
-    }
+listed_more : (parts : Parts) (rest more : List Piece) → listed parts rest ++ more ≡ listed parts (rest ++ more)
+listed_more parts rest more = ap (λ z. parts.first ∷ z) (turn_more parts.turn)
   where
-    listed_more : (parts : Parts) (more : List Piece) → listed parts [] ++ more ≡ listed parts more
-    listed_more parts more = ap (λ z. parts.first ∷ z) (turn_more parts.turn more)
-      where
-        turn_more : (turn : Option Piece) (more : List Piece) → turn_listed turn [] ++ more ≡ turn_listed turn more
-        turn_more None more = refl
-        turn_more (Some p) more = refl
+    turn_more : (turn : Option Piece) → turn_listed turn rest ++ more ≡ turn_listed turn (rest ++ more)
+    turn_more None = refl
+    turn_more (Some p) = refl
 
-pub made_end : (k : Made) (end : ℚ) (bs : List Both) (out : List Piece) (j : ℕ) → MadeLoop k end bs (drop j bs) out → length bs ≤ j → AreMade k bs end out
-made_end k end bs out j L h = subst (AreMade k bs end) (append-nil out) (L.rest [] (subst (λ z. AreMade k z end []) (sym (drop_of_length-le bs h)) refl))
+made_more : (k : Made) (bs : List Both) (b : Both) (to : ℚ) (ps : List Piece) (parts : Parts) → AreMade k bs b.left.x ps → IsParts k b to parts
+    → AreMade k (bs ++ b ∷ []) to (ps ++ listed parts [])
+made_more k [] b to ps parts M P = (parts, P, ([], ap (λ z. z ++ listed parts []) M, refl))
+made_more k (c ∷ cs) b to ps parts (q, Q, (rest, e, R)) P = (
+  q,
+  subst (λ y. IsParts k c y q) (sym (next_more cs b to)) Q,
+  (
+    rest ++ listed parts [],
+    ap (λ z. z ++ listed parts []) e ∙ listed_more q rest (listed parts []),
+    made_more k cs b to rest parts R P,
+  ),
+)
 
--- ---- what the pushes leave
-pub added_two : (out mid items : List Piece) (parts : Parts) (pushed turn : Piece) → mid ≡ out ++ parts.first ∷ [] → items ≡ mid ++ pushed ∷ [] → pushed ≡ turn → parts.turn ≡ Some turn
-    → out ++ listed parts [] ≡ items
-added_two out mid items parts pushed turn d e v t =
-    ap (λ z. out ++ parts.first ∷ turn_listed z []) (t ∙ ap Some (sym v)) ∙ sym (append_assoc out (parts.first ∷ []) (pushed ∷ [])) ∙ ap (λ z. z ++ pushed ∷ []) (sym d) ∙ sym e
+each_last : (P : Both → Type 0) (bs : List Both) (b : Both) → EachBoth P (bs ++ b ∷ []) → P b
+each_last P [] b h = h.0
+each_last P (c ∷ cs) b h = each_last P cs b h.1
 
-pub added_one : (out items : List Piece) (parts : Parts) → items ≡ out ++ parts.first ∷ [] → parts.turn ≡ None → out ++ listed parts [] ≡ items
-added_one out items parts e none = ap (λ z. out ++ parts.first ∷ turn_listed z []) none ∙ sym e
+-- ---- the loop: the stretches before the present one have their pieces
+pub record MadePass (k : Made) (f g : List Piece) (w : Walk) (ps : List Piece) : Type 0 where
+  pub front : List Both
+  pub loop : OverlayLoop f g (front ++ w.here ∷ []) w
+  pub made : AreMade k front w.here.left.x ps
+
+pub pass_start : (k : Made) (f g : List Piece) (p q : Piece) → StartsAtZero f → StartsAtZero g → p ≡ get_or f 0 p → q ≡ get_or g 0 q
+    → MadePass k f g record { i = 1; j = 1; here = record { left = p; right = q } } []
+pass_start k f g p q s t a b = record { front = []; loop = overlay_start f g p q s t a b; made = refl }
+
+pub pass_both : (k : Made) (f g : List Piece) (w : Walk) (ps : List Piece) → MadePass k f g w ps → IsBothOf f g w.here
+pass_both k f g w ps M = each_last (IsBothOf f g) M.front w.here M.loop.each
+
+pub pass_next : (k : Made) (f g : List Piece) (w v : Walk) (ps : List Piece) → MadePass k f g w ps → IsStep f g w v → IsBothOf f g v.here
+pass_next k f g w v ps M S = each_last (IsBothOf f g) (M.front ++ w.here ∷ []) v.here (overlay_step f g (M.front ++ w.here ∷ []) w v M.loop S).each
+
+pub pass_fits : (k : Made) (f g : List Piece) (w : Walk) (ps : List Piece) → CutsFit f g → MadePass k f g w ps → NextFits f g w
+pass_fits k f g w ps C M = next_fits f g (M.front ++ w.here ∷ []) w C M.loop
+
+pub pass_fewer : (k : Made) (f g : List Piece) (w v : Walk) (ps : List Piece) → MadePass k f g w ps → IsStep f g w v
+    → (length f - v.i) + (length g - v.j) < (length f - w.i) + (length g - w.j)
+pass_fewer k f g w v ps M S = step_fewer f g (M.front ++ w.here ∷ []) w v M.loop S
+
+pub pass_step : (k : Made) (f g : List Piece) (w v : Walk) (ps : List Piece) (parts : Parts) → MadePass k f g w ps → IsStep f g w v → IsParts k w.here v.here.left.x parts
+    → MadePass k f g v (ps ++ listed parts [])
+pass_step k f g w v ps parts M S P = record {
+  front = M.front ++ w.here ∷ [];
+  loop = overlay_step f g (M.front ++ w.here ∷ []) w v M.loop S;
+  made = made_more k M.front w.here v.here.left.x ps parts M.made P;
+}
+
+pub pass_end : (k : Made) (f g : List Piece) (end : ℚ) (w : Walk) (ps : List Piece) (parts : Parts) → MadePass k f g w ps → IsParts k w.here end parts → length f ≤ w.i → length g ≤ w.j
+    → (bs : List Both) × IsOverlay f g bs × AreMade k bs end (ps ++ listed parts [])
+pass_end k f g end w ps parts M P hi hj = (
+  M.front ++ w.here ∷ [],
+  overlay_end f g (M.front ++ w.here ∷ []) w M.loop hi hj,
+  made_more k M.front w.here end ps parts M.made P,
+)

@@ -21,11 +21,11 @@ sized_cuts end f g (z, A) = cuts_fit z end f g A.limited A.left A.right
 operand_boths : (z : Sizes) (end : ℚ) (f g : List Piece) (bs : List Both) → AreOperands z end f g → IsOverlay f g bs → EachBoth (OperandBoth z end) bs
 operand_boths z end f g bs A O = each_map (IsBothOf f g) (OperandBoth z end) bs (λ b B. operand_both z end f g b A.limited A.left A.right B) O.each
 
-pub sized_fits : (end : ℚ) (f g : List Piece) (bs : List Both) → HaveSizes end f g → IsOverlay f g bs → EachBoth (StretchMadeFits end) bs
-sized_fits end f g bs (z, A) O = each_map (OperandBoth z end) (StretchMadeFits end) bs (λ b B. stretch_fits z end b A.limited B) (operand_boths z end f g bs A O)
+pub sized_fits : (end : ℚ) (f g : List Piece) (b : Both) → HaveSizes end f g → IsBothOf f g b → StretchMadeFits end b
+sized_fits end f g b (z, A) B = stretch_fits z end b A.limited (operand_both z end f g b A.limited A.left A.right B)
 
-pub sized_early : (end : ℚ) (f g : List Piece) (bs : List Both) → HaveSizes end f g → IsOverlay f g bs → EachBoth (λ b. b.left.x <ℚ end) bs
-sized_early end f g bs (z, A) O = each_map (OperandBoth z end) (λ b. b.left.x <ℚ end) bs (λ b B. B.time.before) (operand_boths z end f g bs A O)
+pub sized_early : (end : ℚ) (f g : List Piece) (b : Both) → HaveSizes end f g → IsBothOf f g b → b.left.x <ℚ end
+sized_early end f g b (z, A) B = (operand_both z end f g b A.limited A.left A.right B).time.before
 
 reads_of : (k : Made) (end : ℚ) (f g : List Piece) (bs : List Both) (ps : List Piece) (t : ℚ) → IsOverlay f g bs → AreMade k bs end ps → int (pos 0) ≤ℚ t → t <ℚ end
     → read ps t ≡ made_value k (read f t) (read g t)

@@ -1,16 +1,18 @@
 //! What is made of two windows at each time: the lower, the upper, and what the first has above the second.
 
-ghost use Rattle.std.specs.Prelude.{◌≡◌, ◌+◌, ◌<◌, pos, length, drop, IfOk};
+ghost use Rattle.std.specs.Prelude.{◌≡◌, pos, List, [], ◌++◌, OnOk, IfOk};
 ghost use Rattle.rational.specs.Rational.{◌-ℚ◌, ◌≤ℚ◌, ◌<ℚ◌, neg_ℚ, int};
 ghost use Rattle.rational.specs.Ratio.{SumFits};
 ghost use Rattle.rational.specs.MinMax.{min_q, max_q};
 ghost use Rattle.rational.specs.Extended.{min_ext, max_ext};
 ghost use Rattle.min_plus.specs.Pointwise.{excess};
-ghost use Rattle.curve_window.specs.Stretches.{EachBoth};
-ghost use Rattle.curve_window.specs.Made.{made_value, made_line, line_apart, zero_line, first_piece, next_start, IsParts, AreMade, ValueApartFits, LineApartFits, StretchMadeFits};
+ghost use Rattle.affine_segment.specs.Pieces.{StartsAtZero};
+ghost use Rattle.curve_window.specs.declared.stretch.Both.{Both};
+ghost use Rattle.curve_window.specs.Stretches.{CutsFit, IsBothOf, IsOverlay};
+ghost use Rattle.curve_window.specs.Made.{made_value, made_line, line_apart, zero_line, first_piece, listed, IsParts, AreMade, ValueApartFits, LineApartFits, StretchMadeFits};
 
 use crate::lie::lie_of;
-use crate::stretch::{Both, cut};
+use crate::stretch::{Both, Walk, cut, step};
 use affine_segment::{Line, Piece};
 use fraction128::{Ext, Frac, difference, greater, greater_value, lesser_value};
 use rational::Extended;
@@ -129,35 +131,48 @@ fn parts_up_to(made: Made, b: &Both, to: Frac, end: Frac) -> Parts
     }
 }
 
-// Where the stretch after the i-th starts, and `end` where there is none.
-fn start_after(stretches: &[Both], i: usize, end: Frac) -> Frac
-    requires { i < length stretches.now }
-    ensures { result ≡ next_start (drop (i + 1) stretches.now) end }
+// Appends the pieces of a stretch.
+fn push_parts(pieces: &mut Vec<Piece>, parts: &Parts) -> Result<(), AllocError>
+    ensures { OnOk result (pieces.new.items ≡ pieces.old.items ++ listed parts.now []) }
 {
-    match stretches.get(i + 1) {
-        None => end,
-        Some(next) => next.left.x,
+    pieces.push(parts.first)?;
+    if let Some(turn) = parts.turn {
+        pieces.push(turn)?;
     }
+    Ok(())
 }
 
-/// What is made of two windows' stretches up to `end`, two pieces of each at most.
+/// What is made of two windows up to `end`, in one pass over both: two pieces of each stretch at most.
 pub(crate) fn made_of(
     alloc: Global,
     made: Made,
-    stretches: &[Both],
+    f: &[Piece],
+    g: &[Piece],
     end: Frac,
 ) -> Result<Vec<Piece>, AllocError>
-    requires fits { EachBoth (StretchMadeFits end) stretches.now }
-    requires early { EachBoth (λ b. b.left.x <ℚ end) stretches.now }
-    ensures { IfOk result (λ v. AreMade made stretches.now end v.items) }
+    requires left { StartsAtZero f.now }
+    requires right { StartsAtZero g.now }
+    requires cuts { CutsFit f.now g.now }
+    requires fits { (b : Both) → IsBothOf f.now g.now b → StretchMadeFits end b }
+    requires early { (b : Both) → IsBothOf f.now g.now b → b.left.x <ℚ end }
+    ensures { IfOk result (λ v. (bs : List Both) × IsOverlay f.now g.now bs × AreMade made bs end v.items) }
 {
-    let mut pieces = Vec::with_capacity(alloc, stretches.len())?;
-    for (i, b) in stretches.iter().enumerate() {
-        let parts = parts_up_to(made, b, start_after(stretches, i, end), end);
-        pieces.push(parts.first)?;
-        if let Some(turn) = parts.turn {
-            pieces.push(turn)?;
-        }
+    let mut pieces = Vec::with_capacity(alloc, f.len().saturating_add(g.len()))?;
+    let mut walk = Walk {
+        i: 1,
+        j: 1,
+        here: Both {
+            left: f[0],
+            right: g[0],
+        },
+    };
+    while walk.i < f.len() || walk.j < g.len() {
+        let next = step(f, g, &walk);
+        let parts = parts_up_to(made, &walk.here, next.here.left.x, end);
+        push_parts(&mut pieces, &parts)?;
+        walk = next;
     }
+    let parts = parts_up_to(made, &walk.here, end, end);
+    push_parts(&mut pieces, &parts)?;
     Ok(pieces)
 }

@@ -43,12 +43,12 @@ pub(crate) fn cut(p: &Piece, x: Frac) -> Piece
     }
 }
 
-// Where the walk over both windows stands: the number of the next piece of each, and the present stretch.
+/// Where the walk over both windows stands: the number of the next piece of each, and the present stretch.
 #[derive(Debug, Clone, Copy)]
-struct Walk {
-    i: usize,
-    j: usize,
-    here: Both,
+pub(crate) struct Walk {
+    pub i: usize,
+    pub j: usize,
+    pub here: Both,
 }
 
 // The next piece of f comes first.
@@ -96,7 +96,8 @@ fn step_both(f: &[Piece], g: &[Piece], w: &Walk, p: Piece, q: Piece) -> Walk
     }
 }
 
-fn step(f: &[Piece], g: &[Piece], w: &Walk) -> Walk
+/// The next stretch.
+pub(crate) fn step(f: &[Piece], g: &[Piece], w: &Walk) -> Walk
     requires more { (w.now.i < length f.now) ⊎ (w.now.j < length g.now) }
     requires fits { NextFits f.now g.now w.now }
     ensures { IsStep f.now g.now w.now result }
