@@ -1,6 +1,6 @@
 -- One number more: how the sizes that are kept follow those of the numbers.
 use Rattle.std.specs.Prelude.{◌≡◌, ℕ, ◌+◌, ◌*◌, ◌/◌, ◌%◌, ◌<◌, ◌^◌, max, pos, ◌*ℤ◌, nat_abs, List, [], ◌∷◌, ◌++◌}
-use Rattle.std.proofs.Common.{arith, sym, ap, ◌∙◌, refl, subst, append-nil}
+use Rattle.std.proofs.Common.{arith, sym, ap, ◌∙◌, refl, subst, inl, append-nil}
 use Rattle.std.proofs.Math.Nat.{le-max_left}
 use Rattle.rational.specs.Ints.{mul_comm_z}
 use Rattle.rational.specs.Rational.{ℚ, den, int, ◌*ℚ◌, frac}
@@ -8,6 +8,7 @@ use Rattle.rational.specs.Fractions.{frac_self, abs-mul}
 use Rattle.rational.specs.Gauge.{Kept, cap, lcm, common_den, common_den_from, bound_of, size_up}
 use Rattle.rational.proofs.Integers.{mul_whole}
 use Rattle.rational.proofs.Gauges.{kept_one}
+use Rattle.fraction128.proofs.Coprime.{gcd_with_one}
 use Rattle.upp_limits.specs.declared.gathered.Gathered.{Gathered}
 use Rattle.upp_limits.specs.Limits.{Numbers, no_numbers, joined, twice, time_alone, value_alone, slope_alone}
 use Rattle.upp_limits.specs.Gathered.{Gathers}
@@ -32,6 +33,10 @@ twice_more [] x = refl
 twice_more (y ∷ ys) x = ap (λ zs. (int (pos 2) *ℚ y) ∷ zs) (twice_more ys x)
 
 -- ---- kept numbers
+-- 1 has each number for a multiple
+pub lcm_one : (a n : ℕ) → a ≡ 1 → lcm a n ≡ n
+lcm_one a n e = rw (e, gcd_with_one 1 n (inl refl)) (omega arith)
+
 pub kept_max : (a m s : ℕ) → Kept a m → s < 2 ^ 128 → Kept (max a s) (max m s)
 unfolding cap
 kept_max a m s k h =
@@ -49,6 +54,13 @@ twice_size x t e = ap (λ n. n * 2) e ∙ sym (abs-mul x.num 2)
 -- 2 t / b is exact
 pub twice_exact : (x : ℚ) (t b : ℕ) → t ≡ nat_abs x.num → b ≡ den x → t * 2 % b ≡ 0 → t * 2 / b ≡ size_up (int (pos 2) *ℚ x)
 twice_exact x t b e f h = size_exact (x.num *ℤ pos 2) x.pre (t * 2) b (twice_size x t e) f h ∙ ap size_up (sym (twice_frac x))
+
+-- over 1 nothing is divided
+pub twice_whole : (x : ℚ) (t b : ℕ) → t ≡ nat_abs x.num → b ≡ den x → b ≡ 1 → t * 2 ≡ size_up (int (pos 2) *ℚ x)
+twice_whole x t b e f one =
+    let even : t * 2 % b ≡ 0 = rw one (omega arith) in
+    let same : t * 2 ≡ t * 2 / b = rw one (omega arith) in
+    same ∙ twice_exact x t b e f even
 
 -- or not
 pub twice_over : (x : ℚ) (t b : ℕ) → t ≡ nat_abs x.num → b ≡ den x → (t * 2 % b ≡ 0 → ⊥) → t * 2 / b + 1 ≡ size_up (int (pos 2) *ℚ x)

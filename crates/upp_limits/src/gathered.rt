@@ -32,6 +32,9 @@ pub fn common_multiple(a: u128, b: u128) -> u128
     requires { 0 < a }
     ensures { (n : ℕ) → Kept b n → Kept result (lcm a n) }
 {
+    if a == 1 {
+        return b;
+    }
     if b == u128::MAX {
         return b;
     }
@@ -44,6 +47,9 @@ fn twice_size_up(x: Frac) -> u128
 {
     let (top, bottom) = sizes(x);
     let double = top * 2;
+    if bottom == 1 {
+        return double;
+    }
     if double % bottom == 0 {
         double / bottom
     } else {

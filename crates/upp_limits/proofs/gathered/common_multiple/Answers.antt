@@ -1,9 +1,14 @@
-use Rattle.std.proofs.Common.{arith, ◌<◌}
+use Rattle.std.proofs.Common.{arith, ◌<◌, subst, sym}
 use native.Mathlib.Nat.{pos_of_dvd_of_pos}
 use Rattle.rational.specs.Gcd.{gcd}
 use Rattle.rational.specs.Euclid.{gcd_is}
+use Rattle.rational.specs.Gauge.{Kept}
 use Rattle.rational.proofs.Gauges.{kept_lcm, kept_lcm_big}
+use Rattle.upp_limits.proofs.Gathering.{lcm_one}
 use Rattle.upp_limits.proofs.gathered.common_multiple.Goals as goal
+
+pub returns-then-a-eq1 : goal.returns-then-a-eq1
+returns-then-a-eq1 c = λ n k. subst (Kept c.args.b) (sym (lcm_one c.args.a n c.if-a-eq1.true)) k
 
 pub returns-then-b-eq340282366920938463463374607431768211455 : goal.returns-then-b-eq340282366920938463463374607431768211455
 returns-then-b-eq340282366920938463463374607431768211455 c =
