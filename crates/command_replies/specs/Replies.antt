@@ -5,12 +5,9 @@ use Rattle.curve_script.specs.declared.fault.LangFault.{LangFault}
 use Rattle.table_text.specs.declared.fault.TableFault.{TableFault}
 use Rattle.upp_limits.specs.declared.own_limits.OverLimit.{OverLimit}
 use Rattle.upp_limits.specs.declared.own_limits.OverLimit.TheVariants.{TooMany, TooWide}
-use Rattle.net_model.specs.Networks.{Net}
 use Rattle.net_draft.specs.Faults.{Fault}
-use Rattle.net_cells.specs.Meanings.{CellTable}
 use Rattle.report_text.specs.Faults.{fault_text, table_fault_text, script_fault_text}
 use Rattle.report_text.specs.Refusals.{spaced}
-use Rattle.report_text.specs.Report.{report_of}
 
 pub record Reply : Type 0 where
   pub status : ℕ
@@ -20,10 +17,6 @@ pub record Reply : Type 0 where
 pub record AreSame (x y : Reply) : Type 0 where
   pub status : x.status ≡ y.status
   pub bytes : x.status ≢ 8 → x.bytes ≡ y.bytes
-
--- ---- a report
-abbrev pub report : Net → CellTable → Reply
-report net at = record { status = 0; bytes = report_of net at }
 
 -- ---- refusals, of one line each
 abbrev pub refusal : ℕ → List ℕ → Reply
