@@ -1,13 +1,13 @@
 -- Bounds of the number of periods of a convolution, over curves.
-use Rattle.std.specs.Prelude.{◌≡◌, ℕ, suc, ◌+◌, ◌≤◌, pos, Option, Some, None, IfSome}
+use Rattle.std.specs.Prelude.{◌≡◌, ℕ, suc, ◌+◌, ◌<◌, ◌≤◌, pos, Option, Some, None, IfSome}
 use Rattle.std.proofs.Common.{arith, sym, ap, ◌∙◌, subst, inl, inr}
 use Rattle.rational.specs.Rational.{ℚ, ◌+ℚ◌, ◌-ℚ◌, ◌*ℚ◌, ◌/ℚ◌, ◌≤ℚ◌, ◌<ℚ◌, int}
 use Rattle.rational.specs.Gauge.{size_up}
 use Rattle.rational.specs.Grid.{Whole}
-use Rattle.rational.specs.Extended.{Ext, ◌<ₑ◌}
+use Rattle.rational.specs.Extended.{Ext, ◌≤ₑ◌, ◌<ₑ◌}
 use Rattle.rational.specs.declared.Extended.TheVariants.{Fin, Inf}
-use Rattle.rational.proofs.Linear.{with3, with5, with7}
-use Rattle.rational.proofs.Laws.{le_refl, le_trans, le_of_lt, one_mul, mul_nonneg, mul_le_mul, mul_le_mul_right}
+use Rattle.rational.proofs.Linear.{with2, with3, with5, with6, with7}
+use Rattle.rational.proofs.Laws.{le_refl, le_trans, lt_trans, le_of_lt, one_mul, mul_nonneg, mul_le_mul, mul_le_mul_right}
 use Rattle.rational.proofs.Integers.{nat_le, nat_nonneg}
 use Rattle.rational.proofs.Whole.{one_more_times}
 use Rattle.rational.proofs.Quotients.{div_le}
@@ -15,6 +15,7 @@ use Rattle.rational.proofs.Grid.{whole_add}
 use Rattle.upp_curve.specs.Curve.{SpecCurve, value_at}
 use Rattle.upp_curve.specs.Steady.{steady, rate, rise_over, IsWholePeriods}
 use Rattle.upp_limits.specs.Limits.{Sizes}
+use Rattle.upp_limits.specs.Periods.{periods_after}
 use Rattle.upp_limits.proofs.CommonDen.{size_up_within}
 use Rattle.upp_limits.proofs.Operands.{curve_period}
 use Rattle.upp_normal.specs.Ahead.{HasWindow}
@@ -29,14 +30,17 @@ use Rattle.curve_least.specs.Levels.{level_curve}
 use Rattle.curve_least.specs.Compared.{IsLookedAt}
 use Rattle.curve_least.proofs.EitherOrder.{apart}
 use Rattle.curve_least.proofs.OwnPeriods.{own_period_is}
+use Rattle.curve_least.proofs.LeastNumber.{number_least}
 use Rattle.curve_least.proofs.Rises.{rate_rise}
 use Rattle.curve_least.proofs.MostAbove.{own_repeats, finite_rate, not_falling, rates_order}
 use Rattle.curve_conv.specs.declared.extremes.Extremes.{Extremes}
+use Rattle.curve_conv.specs.declared.floors.Floors.{Floors}
 use Rattle.curve_conv.specs.Late.{IsLateAfter, IsLateCall}
-use Rattle.curve_conv.specs.LateBounds.{AreCurveExtremes, most_gap, IsLateBounds, IsSlowerBounds}
+use Rattle.curve_conv.specs.LateBounds.{AreCurveExtremes, most_gap, AreCurveFloors, least_gap, IsLateBounds, IsSlowerBounds}
 use Rattle.curve_conv.specs.Scans.{sizes_in}
-use Rattle.curve_conv.proofs.FoundGaps.{number_found}
+use Rattle.curve_conv.proofs.FoundGaps.{at_most, number_found}
 use Rattle.curve_conv.proofs.LateEnough.{Turning, late_enough}
+use Rattle.curve_conv.proofs.LateLow.{late_few}
 use Rattle.curve_conv.proofs.LateNumbers.{late_times, none_early}
 use Rattle.curve_conv.proofs.Orders.{of_first, of_second, of_equal}
 
@@ -108,14 +112,14 @@ slow_rate f g h = elim (ext_cases (rate f)) [ inl e ↦ absurd (none (rate g) (s
     none Inf k = k
     none (Fin y) k = k
 
-are_turning : (slow fast : SpecCurve) (from d end : ℚ) (e : Extremes) → IsLateCall slow fast from d end → ¬ (rate slow <ₑ rate (level_curve (int (pos 0)))) → AreCurveExtremes slow fast d e
+are_turning : (slow fast : SpecCurve) (from d end v : ℚ) → IsLateCall slow fast from d end → ¬ (rate slow <ₑ rate (level_curve (int (pos 0)))) → value_at fast (steady fast) ≡ Fin v
     → Turning (value_at slow) (value_at fast) (steady slow) (own_or d slow) (steady fast) (own_or d fast) d (rise_over slow (own_or d slow)) (rise_over fast (own_or d fast)) (rise_over slow d) (rise_over fast d)
-are_turning slow fast from d end e C up E =
+are_turning slow fast from d end v C up there =
     let z = sizes_in slow fast end in
     let F = slow_looked slow fast from d end C in
     let G = fast_looked slow fast from d end C in
     let (r, i) = slow_rate slow fast C.slower in
-    let (s, k) = finite_rate z (steady fast) d fast G record { at = steady fast; late = le_refl (steady fast); value = e.fast_start; is = E.fast_start } in
+    let (s, k) = finite_rate z (steady fast) d fast G record { at = steady fast; late = le_refl (steady fast); value = v; is = there } in
     record {
       first_some = (own_period_is z (steady slow) d slow F).some;
       second_some = (own_period_is z (steady fast) d fast G).some;
@@ -136,7 +140,7 @@ after_enough : (slow fast : SpecCurve) (from d end : ℚ) (e : Extremes) (n : �
 after_enough slow fast from d end e n C up E bound = λ t h l.
     let T = late_times slow fast from d end C in
     late_enough (value_at slow) (value_at fast) (steady slow) (own_or d slow) (steady fast) (own_or d fast) d (rise_over slow (own_or d slow)) (rise_over fast (own_or d fast)) (rise_over slow d) (rise_over fast d) e
-    (int (pos (n + 1))) t T.first.nonneg T.second.nonneg (mul_nonneg (nat_nonneg (n + 1)) (le_of_lt C.some)) (are_turning slow fast from d end e C up E) E bound
+    (int (pos (n + 1))) t T.first.nonneg T.second.nonneg (mul_nonneg (nat_nonneg (n + 1)) (le_of_lt C.some)) (are_turning slow fast from d end e.fast_start C up E.fast_start) E bound
     (past (steady slow) (steady fast) d from t (int (pos n) *ℚ d) (int (pos (n + 1)) *ℚ d) C.from_is (one_more n) h)
   where
     one_more : (m : ℕ) → int (pos (m + 1)) *ℚ d ≡ int (pos m) *ℚ d +ℚ d
@@ -145,18 +149,60 @@ after_enough slow fast from d end e n C up E bound = λ t h l.
     past : (x y d from t v w : ℚ) → from ≡ x +ℚ y +ℚ d → w ≡ v +ℚ d → from +ℚ v ≤ℚ t → x +ℚ y +ℚ w ≤ℚ t
     past x y d from t v w start more late = with7 x y d from t v w (λ c. omega (arith, c.le, c.lt, c.same))
 
+-- ---- too few periods
+value_under : (v : Ext) (q : ℚ) → v ≤ₑ Fin q → (x : ℚ) × (v ≡ Fin x)
+value_under v q h = elim (ext_cases v) [ inl e ↦ absurd (subst (λ z. z ≤ₑ Fin q) e h) | inr r ↦ r ]
+
+after_few : (slow fast : SpecCurve) (from d end : ℚ) (e : Floors) (k : ℕ) → IsLateCall slow fast from d end → ¬ (rate slow <ₑ rate (level_curve (int (pos 0)))) → int (pos 0) <ℚ steady slow → AreCurveFloors slow fast d e
+    → IsLateAfter slow fast from d k → least_gap e ≤ℚ int (pos (k + 1)) *ℚ (rise_over fast d -ℚ rise_over slow d)
+after_few slow fast from d end e k C up some E here =
+    let T = late_times slow fast from d end C in
+    let p = own_or d slow in
+    let q = own_or d fast in
+    let P = own_period_is (sizes_in slow fast end) (steady fast) d fast (fast_looked slow fast from d end C) in
+    let (v, there) = value_under (value_at fast (steady fast)) e.fast_top (E.fast_top (steady fast) record { start = le_refl (steady fast); before = past (steady fast) q P.some }) in
+    let U = are_turning slow fast from d end v C up there in
+    let t = periods_after from k d in
+    late_few (value_at slow) (value_at fast) (steady slow) p (steady fast) q d (rise_over slow p) (rise_over fast q) (rise_over slow d) (rise_over fast d) e (int (pos (k + 1))) t some T.second.nonneg
+    (subst (λ y. int (pos 0) ≤ℚ y) U.second_rate (mul_nonneg (le_trans U.rises U.slower) (le_of_lt U.second_some))) (mul_nonneg (nat_nonneg (k + 1)) (le_of_lt C.some)) U E
+    (at (steady slow) (steady fast) d from (int (pos k) *ℚ d) (int (pos (k + 1)) *ℚ d) C.from_is (one_more k)) (here t (le_refl t) (past t d C.some))
+  where
+    past : (x w : ℚ) → int (pos 0) <ℚ w → x <ℚ x +ℚ w
+    past x w a = with2 x w (λ c. omega (arith, c.le, c.lt, c.same))
+
+    one_more : (m : ℕ) → int (pos (m + 1)) *ℚ d ≡ int (pos m) *ℚ d +ℚ d
+    one_more m = let next : m + 1 ≡ suc m = omega arith in ap (λ i. int (pos i) *ℚ d) next ∙ one_more_times m d
+
+    at : (x y d from v w : ℚ) → from ≡ x +ℚ y +ℚ d → w ≡ v +ℚ d → from +ℚ v ≡ x +ℚ y +ℚ w
+    at x y d from v w e f = with6 x y d from v w (λ c. omega (arith, c.le, c.lt, c.same))
+
+pub low_under : (slow fast : SpecCurve) (from d end x : ℚ) (e : Floors) (gap lead : ℚ) (low : ℕ) → IsLateCall slow fast from d end → ¬ (rate slow <ₑ rate (level_curve (int (pos 0)))) → x ≡ steady slow → int (pos 0) <ℚ x
+    → AreCurveFloors slow fast d e → gap ≡ least_gap e → lead ≡ rise_over fast d -ℚ rise_over slow d → ((k : ℕ) → gap ≤ℚ int (pos (k + 1)) *ℚ lead → low ≤ k) → (k : ℕ) → IsLateAfter slow fast from d k → low ≤ k
+low_under slow fast from d end x e gap lead low C up ex some E eg el under k here =
+    under k (subst (λ y. gap ≤ℚ int (pos (k + 1)) *ℚ y) (sym el) (subst (λ y. y ≤ℚ int (pos (k + 1)) *ℚ (rise_over fast d -ℚ rise_over slow d)) (sym eg) (after_few slow fast from d end e k C up (subst (λ y. int (pos 0) <ℚ y) ex some) E here)))
+
+-- ---- one division, from below
+pub few_under : (gap lead q : ℚ) (m low k : ℕ) → int (pos 0) <ℚ lead → lead <ℚ gap → q ≡ gap /ℚ lead → m ≡ size_up q → (k < low → k + 1 < m) → gap ≤ℚ int (pos (k + 1)) *ℚ lead → low ≤ k
+few_under gap lead q m low k some more e f step h = elim (at_most low k) [
+  | inl l ↦ l
+  | inr l ↦
+      let least = number_least gap lead (lt_trans some more) some in
+      let early : k + 1 < size_up (gap /ℚ lead) = subst (λ n. k + 1 < n) (f ∙ ap size_up e) (step l) in
+      absurd (least.least (k + 1) early h)
+]
+
 -- ---- the bounds
 pub bounds_none : (slow fast : SpecCurve) (from d x : ℚ) (zero : ℚ) → zero ≡ int (pos 0) → x ≡ steady slow → ¬ (zero <ℚ x) → IsLateBounds slow fast from d record { low = 0; high = 0 }
 bounds_none slow fast from d x zero e f none =
     let N = none_early slow fast from d (λ h. none (subst (λ y. y <ℚ x) (sym e) (subst (λ y. int (pos 0) <ℚ y) (sym f) h))) in
     record { number = 0; is = N; low = omega arith; high = omega arith; late = N.late }
 
-pub bounds_found : (slow fast : SpecCurve) (from d end : ℚ) (e : Extremes) (gap lead : ℚ) (n : ℕ) → IsLateCall slow fast from d end → ¬ (rate slow <ₑ rate (level_curve (int (pos 0)))) → AreCurveExtremes slow fast d e
-    → gap ≡ most_gap e → lead ≡ rise_over fast d -ℚ rise_over slow d → gap ≤ℚ int (pos (n + 1)) *ℚ lead → IsLateBounds slow fast from d record { low = 0; high = n }
-bounds_found slow fast from d end e gap lead n C up E h k bound =
+pub bounds_found : (slow fast : SpecCurve) (from d end : ℚ) (e : Extremes) (gap lead : ℚ) (low n : ℕ) → IsLateCall slow fast from d end → ¬ (rate slow <ₑ rate (level_curve (int (pos 0)))) → AreCurveExtremes slow fast d e
+    → gap ≡ most_gap e → lead ≡ rise_over fast d -ℚ rise_over slow d → gap ≤ℚ int (pos (n + 1)) *ℚ lead → ((k : ℕ) → IsLateAfter slow fast from d k → low ≤ k) → IsLateBounds slow fast from d record { low = low; high = n }
+bounds_found slow fast from d end e gap lead low n C up E h k bound under =
     let here = after_enough slow fast from d end e n C up E (subst (λ x. x ≤ℚ int (pos (n + 1)) *ℚ (rise_over fast d -ℚ rise_over slow d)) h (subst (λ y. gap ≤ℚ int (pos (n + 1)) *ℚ y) k bound)) in
     let M = number_found slow fast from d end n C here in
-    record { number = M.number; is = M.is; low = omega arith; high = M.most; late = M.late }
+    record { number = M.number; is = M.is; low = under M.number M.is.least.meets; high = M.most; late = M.late }
 
 -- ---- for either order of the rates
 pub bounds_first : (f g : SpecCurve) (from d : ℚ) (r : Option Bounds) → rate f <ₑ rate g → IfSome r (IsLateBounds f g from d) → IfSome r (IsSlowerBounds f g from d)

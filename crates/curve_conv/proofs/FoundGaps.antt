@@ -107,7 +107,7 @@ call_gap slow fast from d end C =
     (walk_start z f g x y from end times.from_in)
 
 -- ---- where some number is enough there is a least one
-at_most : (a b : ℕ) → (a ≤ b) ⊎ (b < a)
+pub at_most : (a b : ℕ) → (a ≤ b) ⊎ (b < a)
 at_most zero b = inl (omega arith)
 at_most (suc a) zero = inr (omega arith)
 at_most (suc a) (suc b) = elim (at_most a b) [ inl h ↦ inl (omega (arith, h)) | inr h ↦ inr (omega (arith, h)) ]

@@ -19,6 +19,7 @@ pub mod FoundStretches
 pub mod FoundNumbers
 pub mod FoundGaps
 pub mod LateEnough
+pub mod LateLow
 pub mod BoundsFound
 pub mod OwnExtremes
 pub mod ConvolveCalls

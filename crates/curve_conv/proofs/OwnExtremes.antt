@@ -1,7 +1,8 @@
 -- What two curves do in the first period of their own: the windows over which it is read, and what is read.
-use Rattle.std.specs.Prelude.{◌≡◌, pos}
-use Rattle.std.proofs.Common.{sym, ap, ap₂, ◌∙◌, refl, subst}
-use Rattle.rational.specs.Rational.{ℚ, ◌+ℚ◌, ◌≤ℚ◌, int}
+use Rattle.std.specs.Prelude.{◌≡◌, ℕ, pos}
+use Rattle.std.proofs.Common.{arith, sym, ap, ap₂, ◌∙◌, refl, subst}
+use Rattle.rational.specs.Rational.{ℚ, ◌+ℚ◌, ◌*ℚ◌, ◌/ℚ◌, ◌≤ℚ◌, ◌<ℚ◌, int}
+use Rattle.rational.specs.Gauge.{size_up}
 use Rattle.rational.specs.declared.Extended.TheVariants.{Fin}
 use Rattle.rational.proofs.Grid.{whole_int}
 use Rattle.rational.proofs.Laws.{le_refl, le_lt_trans}
@@ -18,10 +19,11 @@ use Rattle.curve_least.specs.Levels.{level_curve}
 use Rattle.curve_least.proofs.MostAbove.{top_bounds, depth_bounds}
 use Rattle.curve_least.proofs.OwnPeriods.{own_period_is, own_looked, named_windows}
 use Rattle.curve_conv.specs.declared.extremes.Extremes.{Extremes}
+use Rattle.curve_conv.specs.declared.floors.Floors.{Floors}
 use Rattle.curve_conv.specs.Late.{IsLateCall}
-use Rattle.curve_conv.specs.LateBounds.{IsTop, IsDepth, AreCurveExtremes}
+use Rattle.curve_conv.specs.LateBounds.{IsTop, IsDepth, AreCurveExtremes, IsCover, AreCurveFloors}
 use Rattle.curve_conv.specs.Scans.{sizes_in}
-use Rattle.curve_conv.proofs.BoundsFound.{slow_looked, fast_looked}
+use Rattle.curve_conv.proofs.BoundsFound.{slow_looked, fast_looked, over_up}
 
 -- ---- what a gap to the level 0 says
 pub top_bounds_named : (c d zero : SpecCurve) (from end q : ℚ) → d ≡ c → zero ≡ level_curve (int (pos 0)) → int (pos 0) ≤ℚ from → IsLargest (InWindow from end) (value_at d) (value_at zero) q → IsTop (value_at c) from end q
@@ -62,6 +64,19 @@ fast_own_fits slow fast from d end own C e =
     let p = own_or d fast in
     subst (CurveRiseFits fast) (sym e) (rise_is z (steady fast +ℚ p) fast p K.limited K.curve.curve K.curve.stands K.curve.periods P.whole P.some (le_refl (steady fast +ℚ p))).fits
 
+pub slow_own_fits : (slow fast : SpecCurve) (from d end own : ℚ) → IsLateCall slow fast from d end → own ≡ own_or d slow → CurveRiseFits slow own
+slow_own_fits slow fast from d end own C e =
+    let z = sizes_in slow fast end in
+    let L = slow_looked slow fast from d end C in
+    let K = own_looked z (steady slow) d slow L in
+    let P = own_period_is z (steady slow) d slow L in
+    let p = own_or d slow in
+    subst (CurveRiseFits slow) (sym e) (rise_is z (steady slow +ℚ p) slow p K.limited K.curve.curve K.curve.stands K.curve.periods P.whole P.some (le_refl (steady slow +ℚ p))).fits
+
+pub fast_own_some : (slow fast : SpecCurve) (from d end own : ℚ) → IsLateCall slow fast from d end → own ≡ own_or d fast → int (pos 0) <ℚ own
+fast_own_some slow fast from d end own C e =
+    subst (λ p. int (pos 0) <ℚ p) (sym e) (own_period_is (sizes_in slow fast end) (steady fast) d fast (fast_looked slow fast from d end C)).some
+
 -- ---- what is read
 pub extremes_are : (slow fast : SpecCurve) (d x p last y q end zero : ℚ) (e : Extremes) → x ≡ steady slow → y ≡ steady fast → p ≡ own_or d slow → q ≡ own_or d fast → last ≡ x +ℚ p → end ≡ y +ℚ q → zero ≡ int (pos 0)
     → IsTop (value_at slow) x last e.slow_top → IsDepth (value_at slow) zero last e.slow_depth → IsDepth (value_at fast) y end e.fast_depth → value_at fast y ≡ Fin e.fast_start → e.fast_rise ≡ rise_over fast q
@@ -76,3 +91,23 @@ extremes_are slow fast d x p last y q end zero e ex ey ep eq el ee ez top depth 
       fast_start = subst (λ a. value_at fast a ≡ Fin e.fast_start) ey start;
       fast_rise = rise ∙ ap (rise_over fast) eq;
     }
+
+pub floors_are : (slow fast : SpecCurve) (d x p last y q end zero : ℚ) (e : Floors) → x ≡ steady slow → y ≡ steady fast → p ≡ own_or d slow → q ≡ own_or d fast → last ≡ x +ℚ p → end ≡ y +ℚ q → zero ≡ int (pos 0)
+    → IsDepth (value_at slow) x last e.slow_depth → value_at slow zero ≡ Fin e.slow_start → IsDepth (value_at fast) zero end e.fast_depth → IsTop (value_at fast) y end e.fast_top → e.slow_rise ≡ rise_over slow p
+    → e.fast_rise ≡ rise_over fast q → IsCover x q e.fast_rise e.fast_cover → AreCurveFloors slow fast d e
+floors_are slow fast d x p last y q end zero e ex ey ep eq el ee ez depth start deep top up rise cover =
+    let slow_last : last ≡ steady slow +ℚ own_or d slow = el ∙ ap₂ (λ (a b : ℚ). a +ℚ b) ex ep in
+    let fast_last : end ≡ steady fast +ℚ own_or d fast = ee ∙ ap₂ (λ (a b : ℚ). a +ℚ b) ey eq in
+    let gain : e.fast_rise ≡ rise_over fast (own_or d fast) = rise ∙ ap (rise_over fast) eq in
+    record {
+      slow_depth = subst (λ a. IsDepth (value_at slow) (steady slow) a e.slow_depth) slow_last (subst (λ a. IsDepth (value_at slow) a last e.slow_depth) ex depth);
+      slow_rise = up ∙ ap (rise_over slow) ep;
+      slow_start = subst (λ a. value_at slow a ≡ Fin e.slow_start) ez start;
+      fast_depth = subst (λ a. IsDepth (value_at fast) (int (pos 0)) a e.fast_depth) fast_last (subst (λ a. IsDepth (value_at fast) a end e.fast_depth) ez deep);
+      fast_top = subst (λ a. IsTop (value_at fast) (steady fast) a e.fast_top) fast_last (subst (λ a. IsTop (value_at fast) a end e.fast_top) ey top);
+      fast_rise = gain;
+      cover = subst (λ b. IsCover (steady slow) (own_or d fast) b e.fast_cover) gain (subst (λ a. IsCover (steady slow) a e.fast_rise e.fast_cover) eq (subst (λ a. IsCover a q e.fast_rise e.fast_cover) ex cover));
+    }
+
+pub covers : (time period rise q whole run : ℚ) (n : ℕ) → int (pos 0) <ℚ period → q ≡ time /ℚ period → n ≡ size_up q → whole ≡ int (pos n) → run ≡ whole *ℚ rise → IsCover time period rise run
+covers time period rise q whole run n some e f g h = record { number = int (pos n); high = over_up time period q n n some e f (omega arith); is = h ∙ ap (λ x. x *ℚ rise) g }

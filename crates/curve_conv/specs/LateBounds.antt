@@ -2,7 +2,7 @@
 -- curve does in one period of its own, and before it. (Le Boudec and Thiran: a curve that repeats lies between two lines
 -- of its rate.)
 use Rattle.std.specs.Prelude.{◌≡◌, ℕ, ◌≤◌, pos}
-use Rattle.rational.specs.Rational.{ℚ, ◌+ℚ◌, int}
+use Rattle.rational.specs.Rational.{ℚ, ◌+ℚ◌, ◌-ℚ◌, ◌*ℚ◌, ◌≤ℚ◌, int}
 use Rattle.rational.specs.Extended.{Ext, ◌≤ₑ◌, ◌+ₑ◌}
 use Rattle.rational.specs.declared.Extended.TheVariants.{Fin}
 use Rattle.upp_curve.specs.Curve.{SpecCurve, value_at}
@@ -12,6 +12,7 @@ use Rattle.curve_least.specs.declared.bounds.Bounds.{Bounds}
 use Rattle.curve_least.specs.Bounds.{own_or}
 use Rattle.curve_least.specs.Gaps.{InWindow}
 use Rattle.curve_conv.specs.declared.extremes.Extremes.{Extremes}
+use Rattle.curve_conv.specs.declared.floors.Floors.{Floors}
 use Rattle.curve_conv.specs.Late.{IsLateIn, IsLateNumber, IsSlowerLate, IsSlowerNumber}
 
 -- ---- over some times
@@ -41,6 +42,31 @@ AreCurveExtremes slow fast d e =
 -- and what the faster one gains in that period
 abbrev pub most_gap : Extremes → ℚ
 most_gap e = e.slow_top +ℚ e.slow_depth +ℚ e.fast_depth +ℚ e.fast_start +ℚ e.fast_rise
+
+-- a whole number of periods q is no less than x, and cover is what they rise, by b each
+pub record IsCover (x q b cover : ℚ) : Type 0 where
+  pub number : ℚ
+  pub high : x ≤ℚ number *ℚ q
+  pub is : cover ≡ number *ℚ b
+
+-- what they do at least
+pub record AreFloors (f g : ℚ → Ext) (x p y q a b : ℚ) (e : Floors) : Type 0 where
+  pub slow_depth : IsDepth f x (x +ℚ p) e.slow_depth
+  pub slow_rise : e.slow_rise ≡ a
+  pub slow_start : f (int (pos 0)) ≡ Fin e.slow_start
+  pub fast_depth : IsDepth g (int (pos 0)) (y +ℚ q) e.fast_depth
+  pub fast_top : IsTop g y (y +ℚ q) e.fast_top
+  pub fast_rise : e.fast_rise ≡ b
+  pub cover : IsCover x q b e.fast_cover
+
+abbrev pub AreCurveFloors : SpecCurve → SpecCurve → ℚ → Floors → Type 0
+AreCurveFloors slow fast d e =
+    AreFloors (value_at slow) (value_at fast) (steady slow) (own_or d slow) (steady fast) (own_or d fast)
+    (rise_over slow (own_or d slow)) (rise_over fast (own_or d fast)) e
+
+-- what the part in which the slower one repeats is at least above the part before, where both repeat
+abbrev pub least_gap : Floors → ℚ
+least_gap e = int (pos 0) -ℚ (e.slow_depth +ℚ e.slow_rise +ℚ e.fast_depth +ℚ e.fast_rise +ℚ e.slow_start +ℚ e.fast_top +ℚ e.fast_cover)
 
 -- ---- the bounds
 -- there is a least number of periods, it is from b.low to b.high, and b.high periods are enough too

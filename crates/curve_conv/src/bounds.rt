@@ -1,11 +1,15 @@
 //! Between which numbers of periods the least one of a convolution is, from few numbers of each curve.
 
-ghost use Rattle.std.specs.Prelude.{◌+◌, pos, IfSome};
-ghost use Rattle.rational.specs.Rational.{int, ◌*ℚ◌, ◌≤ℚ◌, ◌<ℚ◌};
-ghost use Rattle.curve_conv.specs.Late.{IsLateCall, IsPartsCall};
+ghost use Rattle.std.specs.Prelude.{ℕ, ◌≡◌, ◌+◌, ◌≤◌, pos, IfSome};
+ghost use Rattle.rational.specs.Rational.{int, ◌-ℚ◌, ◌*ℚ◌, ◌≤ℚ◌, ◌<ℚ◌};
+ghost use Rattle.rational.specs.Extended.{◌<ₑ◌};
+ghost use Rattle.upp_curve.specs.Steady.{steady, rate, rise_over};
+ghost use Rattle.curve_least.specs.Levels.{level_curve};
+ghost use Rattle.curve_conv.specs.Late.{IsLateCall, IsLateAfter, IsPartsCall};
 ghost use Rattle.curve_conv.specs.LateBounds.{IsLateBounds, IsSlowerBounds};
 
 use crate::extremes::{extremes_of, most_gap, zero_level};
+use crate::floors::{floors_of, least_gap};
 use crate::number::lead;
 use crate::order::is_slower_curve;
 use crate::rows::Scan;
@@ -28,6 +32,41 @@ fn periods_over(gap: Frac, lead: Frac) -> Option<u128>
     }
 }
 
+// The least number n with the gap at most n + 1 times the lead, or 0 where it is not found by one division.
+fn periods_under(gap: Frac, lead: Frac) -> u128
+    requires { int (pos 0) <ℚ lead }
+    ensures { (k : ℕ) → gap ≤ℚ int (pos (k + 1)) *ℚ lead → result ≤ k }
+{
+    if !is_less(lead, gap) {
+        return 0;
+    }
+    match Frac::div(gap, lead) {
+        Ok(number) => number.size_up().saturating_sub(1),
+        Err(_) => 0,
+    }
+}
+
+// A number of periods that is too few by itself or the least that is enough; 0 where what the curves do at least does not
+// tell one.
+fn low_of(s: &Scan, first: Frac, second: Frac, from: Frac, period: Frac, lead: Frac) -> u128
+    requires call { IsLateCall s.now.first.now s.now.second.now from period s.now.end }
+    requires first { first ≡ steady s.now.first.now }
+    requires second { second ≡ steady s.now.second.now }
+    requires some { int (pos 0) <ℚ first }
+    requires lead { lead ≡ rise_over s.now.second.now period -ℚ rise_over s.now.first.now period }
+    requires gains { int (pos 0) <ℚ lead }
+    requires rises { ¬ (rate s.now.first.now <ₑ rate (level_curve (int (pos 0)))) }
+    ensures { (k : ℕ) → IsLateAfter s.now.first.now s.now.second.now from period k → result ≤ k }
+{
+    let Some(e) = floors_of(s, first, second, from, period) else {
+        return 0;
+    };
+    match least_gap(&e) {
+        None => 0,
+        Some(gap) => periods_under(gap, lead),
+    }
+}
+
 // Of two curves of which the first is the slower: none where it falls in the long run.
 fn bounds_of(s: &Scan, from: Frac, period: Frac) -> Option<Bounds>
     requires { IsLateCall s.now.first.now s.now.second.now from period s.now.end }
@@ -45,10 +84,12 @@ fn bounds_of(s: &Scan, from: Frac, period: Frac) -> Option<Bounds>
     if !is_less(zero, lead) {
         return None;
     }
-    let e = extremes_of(s, first, begin(s.second), from, period)?;
+    let second = begin(s.second);
+    let e = extremes_of(s, first, second, from, period)?;
     let gap = most_gap(&e)?;
     let high = periods_over(gap, lead)?;
-    Some(Bounds { low: 0, high })
+    let low = low_of(s, first, second, from, period, lead);
+    Some(Bounds { low, high })
 }
 
 /// Bounds of what `late_periods` looks for, from one period of each curve and what the slower one is before it; 0 and 0

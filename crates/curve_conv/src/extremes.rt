@@ -41,8 +41,8 @@ pub(crate) fn zero_level<'a>() -> Side<'a>
     Side::level(Frac::zero())
 }
 
-// A number that a curve is nowhere above from `from` up to `end`; none where it is infinite somewhere.
-fn top_over(c: &Curve, from: Frac, end: Frac) -> Option<Frac>
+/// A number that a curve is nowhere above from `from` up to `end`; none where it is infinite somewhere.
+pub(crate) fn top_over(c: &Curve, from: Frac, end: Frac) -> Option<Frac>
     requires { (z : Sizes) × HasWindow z end c.now × HasWindow z end (level_curve (int (pos 0))) × IsTimeIn z end from }
     ensures { IfSome result (IsTop (value_at c.now) from end) }
 {
@@ -52,8 +52,8 @@ fn top_over(c: &Curve, from: Frac, end: Frac) -> Option<Frac>
     }
 }
 
-// A number that 0 is nowhere more than above a curve from `from` up to `end`; none where it is finite nowhere.
-fn depth_over(c: &Curve, from: Frac, end: Frac) -> Option<Frac>
+/// A number that 0 is nowhere more than above a curve from `from` up to `end`; none where it is finite nowhere.
+pub(crate) fn depth_over(c: &Curve, from: Frac, end: Frac) -> Option<Frac>
     requires { (z : Sizes) × HasWindow z end c.now × HasWindow z end (level_curve (int (pos 0))) × IsTimeIn z end from }
     ensures { IfSome result (IsDepth (value_at c.now) from end) }
 {
@@ -63,8 +63,8 @@ fn depth_over(c: &Curve, from: Frac, end: Frac) -> Option<Frac>
     }
 }
 
-// The value of a curve at a time, where it is a number.
-fn value_there(c: &Curve, t: Frac) -> Option<Frac>
+/// The value of a curve at a time, where it is a number.
+pub(crate) fn value_there(c: &Curve, t: Frac) -> Option<Frac>
     requires { (z : Sizes) × (end : ℚ) × HasWindow z end c.now × IsTimeIn z end t }
     ensures { IfSome result (λ v. value_at c.now t ≡ Fin v) }
 {
@@ -74,8 +74,8 @@ fn value_there(c: &Curve, t: Frac) -> Option<Frac>
     }
 }
 
-// a + b, where it fits.
-fn sum(a: Frac, b: Frac) -> Option<Frac>
+/// a + b, where it fits.
+pub(crate) fn sum(a: Frac, b: Frac) -> Option<Frac>
     ensures { IfSome result (λ s. s ≡ a +ℚ b) }
 {
     Frac::add(a, b).ok()

@@ -6,6 +6,7 @@
 mod bounds;
 mod elements;
 mod extremes;
+mod floors;
 mod gaps;
 mod lower;
 mod made;
