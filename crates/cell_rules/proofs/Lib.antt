@@ -2,3 +2,5 @@ pub mod Tells
 pub mod SameMade
 pub mod SameHops
 pub mod Found
+pub mod SameFlows
+pub mod Unchanged

@@ -1,3 +1,4 @@
 pub mod Stored
 pub mod Faults
 pub mod Applied
+pub mod Sites

@@ -3,6 +3,8 @@
 
 mod faults;
 mod plan;
+mod site;
 mod store;
 
+pub use site::{edits_have_one_site, edits_keep_other_rules};
 pub use store::Store;
