@@ -1,6 +1,6 @@
--- What is answered on the bytes of a network and of a recorded run of it: by the network's first fault; by the run's first
--- fault; by a cycle of the network, or by the order of its servers; by the first cell over a limit, or by a table of all
--- cells; and by the check of the run.
+-- What is answered on the bytes of a network and of a recorded run of it: by the network's first fault; by the run's
+-- first fault; by a cycle of the network, or by the order of its servers; by the first cell over a limit, or by a table
+-- of all cells; and by the check of the run.
 use Rattle.std.specs.Prelude.{ℕ, List, ◌≡◌, ◌⊎◌}
 use Rattle.upp_limits.specs.declared.own_limits.OverLimit.{OverLimit}
 use Rattle.run_laws.specs.Runs.{SpecRun}
@@ -43,8 +43,8 @@ pub record IsCellOverBehind (limit : OverLimit) (net_bytes run_bytes : List ℕ)
   pub reads : IsRunOf over.net (rows_of run_bytes) run
 
 -- ---- checks
--- the network and the run that the files give; the network's servers have an order, and each cell has its answer in this
--- table, which so meets the equations
+-- the network and the run that the files give; the network's servers have an order, and each cell has its answer in
+-- this table, which so meets the equations
 pub record AreAnalysed (net_bytes run_bytes : List ℕ) (net : Net) (run : SpecRun) (at : CellTable) : Type 0 where
   pub gives : IsNetOf net_bytes net
   pub curves : AreCurves net

@@ -101,8 +101,8 @@ fn reported(
     }
 }
 
-/// The answer on a network and a recorded run of it beside the numbers of a table: that the run is too wide, or the report
-/// on it.
+/// The answer on a network and a recorded run of it beside the numbers of a table: that the run is too wide, or the
+/// report on it.
 pub(crate) fn checked(
     alloc: Global,
     net: &Network,

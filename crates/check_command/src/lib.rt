@@ -1,5 +1,5 @@
-//! The command `check`: from a network's file and a recorded run's file to the verdict on the run, with what is found in it
-//! beside the bounds where it is lawful, or to the line of a refusal.
+//! The command `check`: from a network's file and a recorded run's file to the verdict on the run, with what is found
+//! in it beside the bounds where it is lawful, or to the line of a refusal.
 #![tactic(auto)]
 
 mod checked;

@@ -34,9 +34,9 @@ fn on_rows<L: Ledger>(
 }
 
 /// The answer on a network's file and a recorded run's file with these names and bytes, in this order: a rule that the
-/// network's tables break, a curve over a limit, a row of the run that is wrong, a cycle, a cell over a limit, a run that
-/// is too wide, and else the report on the run: the first law that it breaks, or, where it is lawful, what is found in it
-/// beside the bounds, and what it breaks first. Refused only for want of memory.
+/// network's tables break, a curve over a limit, a row of the run that is wrong, a cycle, a cell over a limit, a run
+/// that is too wide, and else the report on the run: the first law that it breaks, or, where it is lawful, what is
+/// found in it beside the bounds, and what it breaks first. Refused only for want of memory.
 pub fn on_run<L: Ledger>(
     alloc: Global,
     net_file: &str,

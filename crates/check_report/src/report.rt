@@ -13,9 +13,9 @@ use report_text::{RunFound, ShownValue, push_head, push_peaks, push_run_line, pu
 use std::alloc::{AllocError, Global};
 
 /// The report on a recorded run that is lawful, with the bounds that a table has: how many servers and live flows there
-/// are; how many packets entered, and when the run ends; for each live flow, by number, its worst delay beside its bound;
-/// for each server, in the order of the file, and each of its queues the greatest backlog beside its bound; and that the
-/// run is admissible, or what it breaks first. Refused only for want of memory. (Own choice.)
+/// are; how many packets entered, and when the run ends; for each live flow, by number, its worst delay beside its
+/// bound; for each server, in the order of the file, and each of its queues the greatest backlog beside its bound; and
+/// that the run is admissible, or what it breaks first. Refused only for want of memory. (Own choice.)
 #[tactic(auto, unfolding(crate::specs::CheckReport::lawful_report_of))]
 pub fn lawful_text<V: ShownValue, T: Table<V>>(
     alloc: Global,
@@ -34,8 +34,8 @@ pub fn lawful_text<V: ShownValue, T: Table<V>>(
     Ok(text)
 }
 
-/// The report on a recorded run that is not: how many servers and live flows there are; how many packets entered, and when
-/// the run ends; and which law it breaks first, at which row. Refused only for want of memory. (Own choice.)
+/// The report on a recorded run that is not: how many servers and live flows there are; how many packets entered, and
+/// when the run ends; and which law it breaks first, at which row. Refused only for want of memory. (Own choice.)
 #[tactic(auto, unfolding(crate::specs::CheckReport::unlawful_report_of))]
 pub fn unlawful_text(
     alloc: Global,

@@ -58,8 +58,8 @@ pub(crate) fn enough_periods(beta: &Curve, cross: &Curve, theta: Frac, first: &C
     quotient(most, lead).size_up()
 }
 
-/// Bounds of what `enough_periods` finds, at once: cross, served theta later, is above beta nowhere more than beta rises
-/// over one period of its own.
+/// Bounds of what `enough_periods` finds, at once: cross, served theta later, is above beta nowhere more than beta
+/// rises over one period of its own.
 pub(crate) fn behind_bounds(beta: &Curve, cross: &Curve, theta: Frac, first: &CallWindow) -> Bounds
     requires { IsLeftGate beta.now cross.now theta first.now }
     ensures { AreBounds (Meets (FifoLeft (Fin theta)) beta.now cross.now) result }

@@ -9,8 +9,6 @@ mod moved;
 mod numbers;
 mod parts;
 
-pub use curve_pointwise::{
-    infinite_curve, left_window, max, min, pos_diff, pos_minus, scale, shift, sum,
-};
+pub use curve_pointwise::{max, min, pos_diff, pos_minus, scale, shift, sum};
 pub use curve_running::{run_inf, run_sup};
 pub use leftover::fifo_left;

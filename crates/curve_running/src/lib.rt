@@ -12,6 +12,4 @@ mod supremum_curve;
 
 pub use infimum::infimum_scan;
 pub use infimum_curve::{front_before, run_inf};
-pub use periods::supremum_periods;
-pub use supremum::supremum_scan;
 pub use supremum_curve::run_sup;

@@ -1,5 +1,5 @@
--- The four kinds of function that a formula gives. (Le Boudec and Thiran: token bucket, stair and rate-latency functions.
--- The gate is our own.)
+-- The four kinds of function that a formula gives. (Le Boudec and Thiran: token bucket, stair and rate-latency
+-- functions. The gate is our own.)
 use Rattle.std.specs.Prelude.{◌≡◌, pos, suc}
 use Rattle.rational.specs.Rational.{ℚ, ◌+ℚ◌, ◌-ℚ◌, ◌*ℚ◌, ◌/ℚ◌, ◌≤ℚ◌, int}
 use Rattle.rational.specs.MinMax.{max_q}

@@ -2,8 +2,8 @@
 use Rattle.std.specs.Prelude.{ℕ, ◌+◌, ◌++◌, ◌||◌, Bool, List, length, nat_lt, if◌then◌else◌}
 use Rattle.outside.specs.Faults.{counted_up, fails_at}
 
--- The bytes that were put. `fail` has the numbers of the calls that fail, and `calls` is how many were made. `faults` is
--- how many failed.
+-- The bytes that were put. `fail` has the numbers of the calls that fail, and `calls` is how many were made. `faults`
+-- is how many failed.
 pub record MemoryBytes : Type 0 where
   pub bytes : List ℕ
   pub fail : List ℕ

@@ -40,7 +40,8 @@ impl MemInputs {
     /// Files of these names. Of two with one name the first counts. `fail` has the numbers of the
     /// calls of `fetch` that fail, from 0.
     pub fn new(files: Vec<(String, Vec<u8>)>, fail: Vec<u32>) -> MemInputs
-        ensures { result ≡ record { files = files_of files.items; fail = fail.items; calls = 0; faults = 0; last_fault = [] } }
+        ensures { result
+            ≡ record { files = files_of files.items; fail = fail.items; calls = 0; faults = 0; last_fault = [] } }
     {
         MemInputs {
             files,
@@ -106,7 +107,8 @@ impl Inputs for MemInputs {
     fn fetch(&mut self, name: &str, into: &mut Vec<u8>) -> Result<(), FetchFault>
         ensures bytes { OnOk result (IfSome (held self.old.files name.now) (λ bytes. into.new.items ≡ bytes)) }
         ensures fits { OnOk result (length into.new.items ≤ MOST_BYTES) }
-        ensures too_long { IsErrOf result FetchFault.TooLong → IfSome (held self.old.files name.now) (λ bytes. MOST_BYTES < length bytes) }
+        ensures too_long { IsErrOf result FetchFault.TooLong
+            → IfSome (held self.old.files name.now) (λ bytes. MOST_BYTES < length bytes) }
         ensures failed { IsErrOf result FetchFault.Failed → Rose self.old.faults self.new.faults }
         ensures failed_name { IsErrOf result FetchFault.Failed → self.new.last_fault ≡ name.now }
         ensures count { self.old.faults ≤ self.new.faults }
@@ -117,7 +119,9 @@ impl Inputs for MemInputs {
         ensures told { IsErrOf result FetchFault.Failed ↔ IsTrue (fails_next self.old name.now) }
 
         // Where it does not fail, a file with too many bytes is too long, and no other.
-        ensures long { fails_next self.old name.now ≡ false → IfSome (held self.old.files name.now) (λ bytes. IsErrOf result FetchFault.TooLong ↔ (MOST_BYTES < length bytes)) }
+        ensures long { fails_next self.old name.now ≡ false
+            → IfSome (held self.old.files name.now) (λ bytes. IsErrOf result FetchFault.TooLong
+            ↔ (MOST_BYTES < length bytes)) }
 
         ensures state { self.new ≡ after_fetch self.old name.now }
     {

@@ -96,8 +96,8 @@ fn words_at(
 }
 
 /// A cell in words: the word of its kind, and then a flow's name and a hop, a server's name and a queue, or a flow's
-/// name alone, by what its kind has cells for. Where the network has no such server, or no such live flow, nothing stands
-/// in place of the name. Refused only for want of memory.
+/// name alone, by what its kind has cells for. Where the network has no such server, or no such live flow, nothing
+/// stands in place of the name. Refused only for want of memory.
 #[tactic(auto, unfolding(crate::specs::CellWords::cell_words))]
 pub fn cell_text(alloc: Global, net: &Network, cell: Cell) -> Result<String, AllocError>
     ensures { IfOk result (λ s. string_bytes s ≡ words.cell_words net.now cell) }

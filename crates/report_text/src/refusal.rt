@@ -38,8 +38,8 @@ pub enum Refusal {
     SimTooWide,
     /// A file breaks a rule of tables. The fault is one of the rules', and not want of memory.
     BadTable { file: String, fault: TableFault },
-    /// A file breaks a rule of scripts. The fault is one of the rules', and neither an operator over a limit nor want of
-    /// memory.
+    /// A file breaks a rule of scripts. The fault is one of the rules', and neither an operator over a limit nor want
+    /// of memory.
     BadScript { file: String, fault: LangFault },
     /// A line of a script has an operator or a curve of too many pieces: its number, from 1.
     ScriptTooMany { line: u32 },

@@ -144,7 +144,8 @@ fn push_breach(into: &mut Vec<u8>, net: &Network, breach: &Breach) -> Result<(),
     }
 }
 
-/// Appends the words that tell what a run breaks first, by the names of its flow or its server, or that it breaks nothing.
+/// Appends the words that tell what a run breaks first, by the names of its flow or its server, or that it breaks
+/// nothing.
 pub fn push_breach_words(
     into: &mut Vec<u8>,
     net: &Network,

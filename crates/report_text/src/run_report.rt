@@ -85,9 +85,9 @@ pub fn push_peaks<V: ShownValue, T: Table<V>>(
 }
 
 /// The report on a run that was simulated, with the bounds that a table has: how many servers and live flows there are;
-/// how many packets entered, and when the run ends; for each live flow, by number, its worst delay beside its bound; for
-/// each server, in the order of the file, and each of its queues the greatest backlog beside its bound; and what the run
-/// breaks first. Where a number is missing, nothing is printed in its place. Refused only for want of memory.
+/// how many packets entered, and when the run ends; for each live flow, by number, its worst delay beside its bound;
+/// for each server, in the order of the file, and each of its queues the greatest backlog beside its bound; and what
+/// the run breaks first. Where a number is missing, nothing is printed in its place. Refused only for want of memory.
 #[tactic(auto, unfolding(crate::specs::RunReport::run_report_of))]
 pub fn run_text<V: ShownValue, T: Table<V>>(
     alloc: Global,

@@ -1,4 +1,5 @@
--- What holds of every recorded run that a text gives: its steps are those of a recorded run, of a network, from time 0 on.
+-- What holds of every recorded run that a text gives: its steps are those of a recorded run, of a network, from time 0
+-- on.
 use Rattle.std.specs.Prelude.{◌<◌, List, [], length}
 use Rattle.std.specs.List.{AllByRecursion}
 use Rattle.rational.specs.Rational.{◌≤ℚ◌}

@@ -3,9 +3,9 @@
 ghost use Rattle.run_table.specs.ReadRuns.{RunsReadAreRecorded};
 ghost use Rattle.run_table.specs.OneReading.{ReadingsAreOne};
 
-/// The run that a text gives is a recorded run of the network: its steps name live flows and servers, its packets, each of
-/// some bits, are numbered in the order in which they enter, all its times are from 0 on, and it has fewer than 10,000
-/// steps.
+/// The run that a text gives is a recorded run of the network: its steps name live flows and servers, its packets, each
+/// of some bits, are numbered in the order in which they enter, all its times are from 0 on, and it has fewer than
+/// 10,000 steps.
 pub fn runs_read_are_recorded()
     ensures { RunsReadAreRecorded }
 {}

@@ -13,8 +13,8 @@ use Rattle.sim_bounds.specs.Horizons.{first_time, load, gate_ratio, stalled_for,
 abbrev pub open_time : Setup → ℕ → ℚ
 open_time S s = whole (load S s) /ℚ rate_of S s
 
--- how long a gate works on them, its closed times with it, but for one cycle; 0 where there is no gate. The slot is in the
--- denominator, so this may be on no grid that fits, where the sum over all gates is on that of the horizon
+-- how long a gate works on them, its closed times with it, but for one cycle; 0 where there is no gate. The slot is in
+-- the denominator, so this may be on no grid that fits, where the sum over all gates is on that of the horizon
 abbrev pub gated_time : Option GateTimes → ℚ → ℚ
 gated_time None time = int (pos 0)
 gated_time (Some g) time = (g.cycle /ℚ g.slot) *ℚ time
@@ -31,8 +31,10 @@ abbrev pub plain_span : Setup → ℕ → ℚ
 plain_span S s =
     plain_time (opening_of S s).gate (open_time S s) +ℚ stalled_for (opening_of S s).stalls +ℚ link_at S.net s
 
--- ---- each of them is a time of the grid up to the horizon e, but for a gate's cycle over its slot, whose parts have at
--- most 127 bits, and for how long one gate works, of which only the sum is such a time. So a sum of two of them has room
+-- ---- each of them is a time of the grid up to the horizon e, but for a gate's cycle over its slot, whose parts have
+-- at
+-- most 127 bits, and for how long one gate works, of which only the sum is such a time. So a sum of two of them has
+-- room
 pub record HorizonFits (S : Setup) (d : ℕ) (e : ℚ) : Type 0 where
   pub room : HasRoom d e
   pub first : IsTime d e (first_time S)

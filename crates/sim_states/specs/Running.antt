@@ -58,7 +58,8 @@ pub record AreStations (S : Setup) (r : RunState) (stations : List Station) : Ty
   pub rooms : (s : ℕ) (x : Station) → slice_get stations s ≡ Some x → room_of x.queues ≡ length S.packets
 
 -- ---- the whole
-pub record IsRunning (S : Setup) (stations : List Station) (links : Chains) (arrivals : List Arrival) (entered : ℕ) (steps : List Step) : Type 0 where
+pub record IsRunning (S : Setup) (stations : List Station) (links : Chains) (arrivals : List Arrival) (entered : ℕ)
+    (steps : List Step) : Type 0 where
   pub followed : FollowsSoFar S (run_start S.net) steps
   pub servers : AreStations S (state_after S steps) stations
   pub on_links : AreLinks S (state_after S steps) links arrivals

@@ -10,8 +10,8 @@ pub fn status_tells_premises()
     ensures { StatusTellsPremises }
 {}
 
-/// No report tells a window in which a server of kind latency or gate that has no stall in the trace works less than its
-/// service curve: its run has none.
+/// No report tells a window in which a server of kind latency or gate that has no stall in the trace works less than
+/// its service curve: its run has none.
 pub fn open_servers_break_nothing()
     ensures { OpenServersBreakNothing }
 {}

@@ -124,8 +124,8 @@ edit_with words.Add row = add_of row
 edit_with words.Drop row = Some (Drop (field row 1))
 edit_with words.Undo row = Some Undo
 
--- or what is wrong with it: first a byte that is not plain, then an unknown word, then the number of its fields, and then a
--- field that is not what the word asks for
+-- or what is wrong with it: first a byte that is not plain, then an unknown word, then the number of its fields, and
+-- then a field that is not what the word asks for
 unfoldable pub edit_row : Row → Read EditText
 edit_row row =
     if not (is_plain row) then Err T1

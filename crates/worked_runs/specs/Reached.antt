@@ -1,6 +1,7 @@
 -- What is said of a worked run: it is a run of its network, one packet of a flow takes so long in it, and the network
--- has a table; the flow's bound there is that of every table that meets the equations. (Le Boudec and Thiran; Bouillard,
--- Boyer and Le Corronc: total-flow and separate-flow analysis. The networks and the runs are our own choice.)
+-- has a table; the flow's bound there is that of every table that meets the equations. (Le Boudec and Thiran;
+-- Bouillard, Boyer and Le Corronc: total-flow and separate-flow analysis. The networks and the runs are our own
+-- choice.)
 use Rattle.std.specs.Prelude.{◌≡◌, ℕ, List, [], ◌∷◌, Some}
 use Rattle.rational.specs.Rational.{ℚ}
 use Rattle.rational.specs.declared.Extended.TheVariants.{Fin}
