@@ -172,6 +172,15 @@ class Sweep(WithFolder):
         self.assertEqual(strip(self.table()), strip(whole))
         self.assertEqual(run.stderr.count("Traceback"), 0)
 
+    def test_a_changed_row_is_asked_again(self):
+        tool("sweep.py", *self.words)
+        rows = pathlib.Path(self.words[1])
+        rows.write_text(rows.read_text().replace("20,500", "300,500"))
+        run = tool("sweep.py", *self.words)
+        self.assertIn("1 variants in", run.stderr)
+        self.assertEqual((self.table()[0]["rate"], self.table()[0]["status"]), ("300", "0"))
+        self.assertNotEqual(self.table()[0]["bound f1"], "unbounded")
+
     def test_a_name_without_a_column_is_told(self):
         run = tool("sweep.py", self.words[0], self.file("q.csv", "rate\n100\n"), *self.words[2:])
         self.assertEqual(run.returncode, 1)
@@ -210,6 +219,12 @@ class Plot(unittest.TestCase):
         self.assertEqual(service.first_at(Fraction(1344), Fraction(3000)), Fraction(19086, 25))
         level, start, reached = plot.widest(arrival, service, Fraction(3000))
         self.assertEqual((level, reached - start), (1344, Fraction(19086, 25)))
+
+    def test_a_gate_is_latest_behind_its_closed_time(self):
+        lines = ["piece 0 at 22 after 22 slope 1", "tail affine", "piece 0 at 0 after 0 slope 0", "piece 10 at 0 after 0 slope 8"]
+        text = "\n".join([*lines, "tail periodic 0 13 24", "delay 21", "backlog 32"]) + "\n"
+        _, start, reached = plot.widest(*plot.read_curves(text)[0], Fraction(80))
+        self.assertEqual(reached - start, 21)
 
     def test_faults(self):
         with self.assertRaises(ValueError):

@@ -143,6 +143,17 @@ class Curve:
                 return before + (level - low) * (time - before) / (value - low)
         return None
 
+    def first_above(self, level, end):
+        """The first time up to `end` from which on the curve is above a level: the right end of a stretch at that level."""
+        times, values = self.line(end)
+        for place, (time, value) in enumerate(zip(times, values)):
+            if value > level:
+                if not place or times[place - 1] == time:
+                    return time
+                before, low = times[place - 1], values[place - 1]
+                return before + (max(level, low) - low) * (time - before) / (value - low)
+        return None
+
 
 def read_curves(text):
     """The curves and numbers of an answer of `curve`."""
@@ -169,9 +180,13 @@ def widest(arrival, service, end):
     levels = sorted({value for curve in (arrival, service) for value in curve.line(end)[1]})
     best = None
     for level in levels:
-        start, reached = arrival.first_at(level, end), service.first_at(level, end)
-        if start is not None and reached is not None and (best is None or reached - start > best[2] - best[1]):
-            best = (level, start, reached)
+        # Where a curve stays at the level, the service may be latest for what comes just above it.
+        for start, reached in (
+            (arrival.first_at(level, end), service.first_at(level, end)),
+            (arrival.first_above(level, end), service.first_above(level, end)),
+        ):
+            if start is not None and reached is not None and (best is None or reached - start > best[2] - best[1]):
+                best = (level, start, reached)
     return best
 
 

@@ -4,8 +4,8 @@
     tools/round.py NET.toml --grid N > rounded.toml
 
 Every number becomes a multiple of 1/N, in the direction that is safe: bursts, arrival rates, jitters, latencies, cycles and links up; rates of
-servers, periods of stairs and slots of gates down. So every run that keeps the promises of the file keeps those of the rounded one, every bound
-of the rounded file bounds the runs of the file, and sums of its numbers have small denominators. Listed curves stay as they are, and a line on
+servers, periods of stairs and slots of gates down. So who keeps the curves of the file keeps those of the rounded one (a run of the one is a run of
+the other but for the times of its links), every bound of the rounded file bounds the runs of the file, and sums of its numbers have small denominators. Listed curves stay as they are, and a line on
 the standard error names them. A file of version 2 says that no server works faster than its rate; where a rate is rounded down, that
 is no longer so, and the rounded file is of version 1, whose bounds hold for the runs of both: a line on the standard error tells it.
 

@@ -7,7 +7,8 @@
 
 Each variant is one run of the program, on all processors of this machine, or with `--scheduler ADDRESS` on the workers of a Dask scheduler
 (Debian: python3-distributed), which need the program at the same path. A variant that takes longer than `--seconds` is ended, and the table
-says `time`. Every answer is written down at once in OUT.csv.journal: started again, the study goes on with the variants that are missing there.
+says `time`. Every answer is written down at once in OUT.csv.journal: started again, the study goes on with the variants that are missing there. An
+answer of another text of the variant or of another program does not count, and one that ran out of time only where there is no more time now.
 
 The table has a line a variant, in their order: its name, the parameters, `status` (a status of the program, `time`, or `signal N`),
 `refusal` (its line), `seconds`, `largest` (the largest bound), and a column `bound FLOW` for each flow. Bounds are exact fractions.
@@ -19,6 +20,7 @@ The table has a line a variant, in their order: its name, the parameters, `statu
 import argparse
 import concurrent.futures
 import csv
+import hashlib
 import json
 import os
 import pathlib
@@ -74,8 +76,18 @@ def variants_of(source, parameters):
     return list(named.items()), lambda name: template.substitute(named[name])
 
 
+def asked(text, program):
+    """What an answer is of: a hash of the variant's file and of the program."""
+    return hashlib.sha256(hashlib.sha256(pathlib.Path(program).read_bytes()).digest() + text.encode()).hexdigest()
+
+
+def still_holds(entry, mark, seconds):
+    """Whether an entry of the journal is of the same file and program, and, where it ran out of time, of no shorter time."""
+    return entry.get("asked") == mark and (entry["status"] != "time" or entry.get("limit", 0) >= seconds)
+
+
 def journal_of(path):
-    """The answers that a journal holds, by variant; a last line that was cut off does not count."""
+    """The answers that a journal holds, the latest of each variant; a last line that was cut off does not count."""
     answers = {}
     if path.exists():
         for line in path.read_text().splitlines():
@@ -83,7 +95,7 @@ def journal_of(path):
                 entry = json.loads(line)
             except json.JSONDecodeError:
                 continue
-            answers.setdefault(entry["variant"], entry)
+            answers[entry["variant"]] = entry
     return answers
 
 
@@ -145,7 +157,9 @@ def study(words):
     """Runs what is missing, and gives the variants and all answers."""
     variants, text_of = variants_of(words.source, words.parameters)
     journal = pathlib.Path(words.table + ".journal")
-    answers = journal_of(journal)
+    marks = {name: asked(text_of(name), words.program) for name, _ in variants}
+    kept = journal_of(journal).items()
+    answers = {name: entry for name, entry in kept if name in marks and still_holds(entry, marks[name], words.seconds)}
     tasks = ((name, text_of(name)) for name, _ in variants if name not in answers)
     progress = Progress(len(variants), sum(name in answers for name, _ in variants))
     with journal.open("a") as file:
@@ -154,7 +168,7 @@ def study(words):
         for name, answer in (distributed if words.scheduler else local)(tasks, words):
             if name in answers:
                 continue
-            answers[name] = answer | {"variant": name}
+            answers[name] = answer | {"variant": name, "asked": marks[name], "limit": words.seconds}
             file.write(json.dumps(answers[name]) + "\n")
             file.flush()
             progress.step()
