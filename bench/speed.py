@@ -3,13 +3,14 @@
 
     python3 bench/speed.py NETCALC [TIMES]
 
-NETCALC is the program. The other one, bench/twin, is built with cargo into a new folder outside the repository; where there is no
-cargo only the program is timed. Both analyse the same files: the networks of bench/analysis.py, closures, and two of the large files
-of bench/network_files.py. Then both work out single operators on two stairs that turn n and n + 1 times up to where both turn.
+NETCALC is the program. The other one, bench/twin, is built with cargo into a new folder outside the repository; where
+there is no cargo only the program is timed. Both analyse the same files: the networks of bench/analysis.py, closures,
+and two of the large files of bench/network_files.py. Then both work out single operators on two stairs that turn n
+and n + 1 times up to where both turn.
 
-A line a file: the processor time of each in milliseconds, the least of TIMES runs (5), and how many times the second the first is;
-at the networks also microseconds a cell. A line an operator: nanoseconds for each piece that is looked at. It ends with 1 where the
-two answer unlike each other, and asserts nothing about time.
+A line a file: the processor time of each in milliseconds, the least of TIMES runs (5), and how many times the second
+the first is; at the networks also microseconds a cell. A line an operator: nanoseconds for each piece that is looked
+at. It ends with 1 where the two answer unlike each other, and asserts nothing about time.
 """
 
 import os
