@@ -141,6 +141,8 @@ CASES = {
         "analyse", two_gates((1000, 250), (1001, 250), ("1000001/100000", "2000001/100000")), 7),
     "gates of cycles 300 and 301, rates over 1024": (
         "analyse", two_gates((300, 100), (301, 100), ("1025/1024", "2049/1024")), 7),
+    "gates of cycles 300 and 301, rates close to each other": (
+        "analyse", two_gates((300, 100), (301, 100), ("100", "100001/1000")), 7),
     "gates of cycles 1000 and 1001": ("analyse", two_gates((1000, 250), (1001, 250), ("10", "20")), 7),
     "16 stairs of periods 1 to 32 over 4 hops": ("analyse", many_stairs(16, 4, lambda number: 2 * number + 2), 7),
     "16 stairs of odd periods over 4 hops": ("analyse", many_stairs(16, 4, lambda number: 2 * number + 1), 7),

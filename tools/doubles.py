@@ -29,6 +29,7 @@ APART = [
     {'RiseParts', 'IsKey'},  # the numbers of one rise of a curve, and of one key of a watch
     {'at', 'quantum_of'},  # a list read as a function, and the quantum of a queue
     {'other_count', 'one_other'},  # how often a queue stands in a list, and a packet among places
+    {'over_paths', 'has_paths'},  # paths as the laws of networks walk them, and as a recorded run is walked
 ]
 TEST_LIBRARY = 'test_curves'  # what the tests of the crates above it share
 

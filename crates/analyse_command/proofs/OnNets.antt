@@ -1,5 +1,5 @@
 -- The reply on a network, and its status.
-use Rattle.std.proofs.Common.{◌≡◌, ◌≢◌, ℕ, List, map, Result, Ok, Err, IfOk, inl, inr, sym, ap, ◌∙◌}
+use Rattle.std.proofs.Common.{◌≡◌, ℕ, List, map, inl, inr}
 use Rattle.upp_limits.specs.LimitTest.{fault_of}
 use Rattle.upp_limits.specs.declared.own_limits.OverLimit.{OverLimit}
 use Rattle.net_model.specs.Accepted.{IsAccepted}
@@ -9,12 +9,10 @@ use Rattle.net_model.specs.Walks.{IsCycle}
 use Rattle.net_cells.specs.declared.cell.Cell.{Cell}
 use Rattle.net_cells.specs.FirstOver.{FirstOver}
 use Rattle.report_text.specs.CellWords.{server_name, cell_words}
-use Rattle.command_replies.specs.declared.answer.Answer.{Answer}
 use Rattle.command_replies.specs.OnFiles.{IsNetOf, IsNoNetwork}
 use Rattle.json_report.specs.declared.form.Form.{Form}
 use Rattle.analyse_command.specs.OnFiles.{Broken, CurveOver, Cyclic, CellOver, IsReplyOn, IsReplyOnNet}
 use Rattle.command_replies.specs.Replies.{Reply, goes_round, cell_over}
-use Rattle.command_replies.specs.View.{reply_of, status_of}
 
 pub on_no_network : (form : Form) (file bytes : List ℕ) (reply : Reply) → IsNoNetwork file bytes reply → IsReplyOn form file bytes reply
 on_no_network form file bytes reply (inl h) = Broken h
@@ -35,9 +33,3 @@ on_cycle form net walk reply accepted cycle is =
     λ file bytes reads.
     let gives : IsNetOf bytes net = record { reads = reads; accepted = accepted } in
     Cyclic (record { net = net; gives = gives; walk = walk; cycle = cycle; is = is })
-
--- a call that answers a refusal, if anything, ends with no report
-pub refused : {E : Type 0} (r : Result Answer E) (to : Reply) → to.status ≢ 0 → IfOk r (λ a. reply_of a ≡ to)
-    → status_of r ≢ 0
-refused (Ok a) to other is zero = other (sym (ap (λ (x : Reply). x.status) is) ∙ zero)
-refused (Err e) to other is zero = absurd (cc)

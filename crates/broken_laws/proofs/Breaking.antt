@@ -1,9 +1,9 @@
 -- A step is allowed exactly where it breaks no law.
 use Rattle.std.proofs.Common.{◌≡◌, ℕ, ◌<◌, List, length, refl, sym, ap, ◌∙◌, subst, arith, inl, inr, ◌⊎◌, Some, None}
-use Rattle.std.specs.Prelude.{Option, pos}
+use Rattle.std.specs.Prelude.{Option}
 use Rattle.std.proofs.lemmas.Bool.{cases_eq}
-use Rattle.rational.specs.Rational.{ℚ, int, ◌+ℚ◌, ◌-ℚ◌, ◌*ℚ◌, ◌≤ℚ◌, ◌<ℚ◌}
-use Rattle.rational.proofs.Laws.{le_of_not_lt, lt_of_not_le, lt_irrefl, lt_le_trans}
+use Rattle.rational.specs.Rational.{ℚ, ◌+ℚ◌, ◌≤ℚ◌, ◌<ℚ◌}
+use Rattle.rational.proofs.Laws.{le_of_not_lt, lt_of_not_le, not_le_of_lt}
 use Rattle.run_laws.specs.declared.steps.Step.{Step}
 use Rattle.run_laws.specs.declared.steps.Step.TheVariants.{Enter, Reach, Work, Leave, Visit}
 use Rattle.run_laws.specs.Cards.{Card, whole, size}
@@ -22,40 +22,36 @@ use Rattle.broken_laws.specs.declared.law.Law.{Law}
 use Rattle.broken_laws.specs.declared.law.Law.TheVariants.{L1, L2, L3, L4, L5, L6, L7, L8, L9}
 use Rattle.broken_laws.specs.declared.place.Place.{Place}
 use Rattle.broken_laws.specs.Recorded.{HasPaths, IsRecordedStep}
-use Rattle.broken_laws.specs.Worked.{worked_in}
 use Rattle.broken_laws.specs.Broken.{IsOutOfTime, IsOther, IsWrongWork, IsNotPicked, IsTooFast, Breaks}
 use Rattle.broken_laws.proofs.Deciding.{holds, picked_same, due_in, may_leave, may_visit}
 use Rattle.broken_laws.specs.Tracked.{IsTracked}
 use Rattle.broken_laws.proofs.Tracking.{under_here}
 use Rattle.broken_laws.proofs.TrackedSteps.{next_in, worked_so_far}
 
-not_both : (x y : ℚ) → x ≤ℚ y → y <ℚ x → ⊥
-not_both x y l h = lt_irrefl y (lt_le_trans h l)
-
 -- ---- an allowed step breaks none
 timely : (x y n e : ℚ) → n ≤ℚ x → x ≤ℚ e → (x <ℚ n) ⊎ (e <ℚ x) ⊎ ⊥ → ⊥
-timely x y n e a b (inl h) = not_both n x a h
-timely x y n e a b (inr (inl h)) = not_both x e b h
+timely x y n e a b (inl h) = not_le_of_lt h a
+timely x y n e a b (inr (inl h)) = not_le_of_lt h b
 timely x y n e a b (inr (inr h)) = h
 
 slow : (pace : Option ℚ) (a b w : ℚ) → KeepsPace pace a b w → IsTooFast pace a b w → ⊥
 slow None a b w k h = h
-slow (Some rate) a b w k h = not_both w (rate *ℚ (b -ℚ a)) k h
+slow (Some rate) a b w k h = not_le_of_lt h k
 
 module _ (net : Routes) (end : ℚ) (before : List Step) (r : RunState) (tracks : List Place) (h : IsTracked net before r tracks) where
   in_time : (x : Step) → AllowsInRun net end r x → IsOutOfTime net end r x → ⊥
   in_time (Enter f p t b) a k = timely t t (state_at r (server_of net (Enter f p t b))).now end a.at_server.0.in_order a.at_server.0.in_run k
   in_time (Reach s p t) a k = timely t t (state_at r s).now end a.at_server.0.in_order a.at_server.0.in_run k
-  in_time (Work s p c d w) a (inl k) = not_both (state_at r s).now c a.at_server.0.in_order k
-  in_time (Work s p c d w) a (inr (inl k)) = not_both c end a.at_server.0.in_run k
-  in_time (Work s p c d w) a (inr (inr k)) = not_both d end a.at_server.1.ends_in_run k
+  in_time (Work s p c d w) a (inl k) = not_le_of_lt k a.at_server.0.in_order
+  in_time (Work s p c d w) a (inr (inl k)) = not_le_of_lt k a.at_server.0.in_run
+  in_time (Work s p c d w) a (inr (inr k)) = not_le_of_lt k a.at_server.1.ends_in_run
   in_time (Leave s p t) a k = timely t t (state_at r s).now end a.at_server.0.in_order a.at_server.0.in_run k
   in_time (Visit s q t) a k = timely t t (state_at r s).now end a.at_server.0.in_order a.at_server.0.in_run k
 
   right_work : (s p : ℕ) (a b w : ℚ) → AllowsInRun net end r (Work s p a b w) → IsWrongWork before r s p a b w → ⊥
-  right_work s p a b w k (inl z) = not_both b a z k.at_server.1.forward
-  right_work s p a b w k (inr (inl z)) = not_both w (int (pos 0)) z k.at_server.1.some_work
-  right_work s p a b w k (inr (inr (inl z))) = not_both (state_at r s).busy a k.at_server.1.no_overlap z
+  right_work s p a b w k (inl z) = not_le_of_lt k.at_server.1.forward z
+  right_work s p a b w k (inr (inl z)) = not_le_of_lt k.at_server.1.some_work z
+  right_work s p a b w k (inr (inr (inl z))) = not_le_of_lt z k.at_server.1.no_overlap
   right_work s p a b w k (inr (inr (inr (inl z)))) = go (state_at r s).under k.at_server.1.is_next z
     where
       go : (o : Option Under) → next_card o (server_at net s).discipline (state_at r s).inside (state_at r s).round ≡ Some (card_of net r.entered p s) → IsOther o p → ⊥
@@ -63,7 +59,7 @@ module _ (net : Routes) (end : ℚ) (before : List Step) (r : RunState) (tracks 
       go (Some u) e z = z (ap (λ (c : Card). c.packet) (same_some u.card (card_of net r.entered p s) e))
   right_work s p a b w k (inr (inr (inr (inr z)))) =
       let far = worked_so_far net end before r tracks h s p k.at_server.1.is_next in
-      not_both (worked_in s p before +ℚ w) (whole (entry_of r.entered p).bits) (subst (λ y. (y +ℚ w) ≤ℚ whole (entry_of r.entered p).bits) (sym far) k.at_server.1.within_bits) z
+      not_le_of_lt z (subst (λ y. (y +ℚ w) ≤ℚ whole (entry_of r.entered p).bits) (sym far) k.at_server.1.within_bits)
 
   picked : (s p : ℕ) (a b w : ℚ) → AllowsInRun net end r (Work s p a b w) → IsNotPicked net r s p → ⊥
   picked s p a b w k n = n.not_picked (sym (ap (λ o. next_card o (server_at net s).discipline (state_at r s).inside (state_at r s).round) n.idle) ∙ k.at_server.1.is_next)

@@ -1,6 +1,6 @@
 -- What is known of the packets of a recorded run after some allowed steps.
 use Rattle.std.proofs.Common.{◌≡◌, ℕ, zero, suc, ◌<◌, List, [], ◌∷◌, ◌++◌, length, get_or, set, map, refl, sym, ap, ◌∙◌, subst, arith, inl, inr, ◌⊎◌, Some, None}
-use Rattle.std.specs.Prelude.{Option, ◌≢◌, pos, sum_by}
+use Rattle.std.specs.Prelude.{Option, ◌≢◌, pos}
 use Rattle.std.proofs.lemmas.Bool.{cases_eq, eq-eqb, ne_eqb}
 use Rattle.std.proofs.lemmas.List.{get_or-set_same, get_or-set_other, length-map}
 use Rattle.rational.specs.Rational.{ℚ, int, ◌+ℚ◌}
@@ -16,7 +16,7 @@ use Rattle.run_laws.specs.Lawful.{RunState, state_at, next_run, run_start}
 use Rattle.run_laws.proofs.States.{IsSound}
 use Rattle.run_laws.proofs.Views.{own_state, other_state}
 use Rattle.stated_runs.proofs.Lists.{In, head_in}
-use Rattle.sim_states.specs.Places.{at_server}
+use Rattle.sim_states.proofs.Places.{none_placed}
 use Rattle.broken_laws.specs.declared.place.Place.{Place}
 use Rattle.broken_laws.specs.declared.place.Place.TheVariants.{At, OnLink, Gone}
 use Rattle.broken_laws.specs.Worked.{worked_by, worked_in}
@@ -96,10 +96,6 @@ start_idle : (xs : List Server) (s : ℕ) → IsIdle (get_or (map (λ (x : Serve
 start_idle [] s = record { none = refl; idle = refl }
 start_idle (x ∷ xs) zero = record { none = refl; idle = refl }
 start_idle (x ∷ xs) (suc s) = start_idle xs s
-
-none_placed : (p : ℕ) (xs : List Server) → sum_by (at_server p) (map (λ (x : Server). start x.discipline) xs) ≡ 0
-none_placed p [] = refl
-none_placed p (x ∷ xs) = let h = none_placed p xs in omega (arith, h)
 
 none_in : (s : ℕ) (net : Routes) (c : Card) → In (state_at (run_start net) s).inside c → ⊥
 none_in s net c h = subst (λ cs. In cs c) (start_idle net.servers s).none h

@@ -13,7 +13,7 @@ use Rattle.net_cells.specs.Visits.{visit, visits_in, others, is_at, longest, lon
 use Rattle.net_cells.specs.Order.{at_visit}
 use Rattle.net_cells.specs.Formulas.{leaves}
 use Rattle.net_cells.specs.CellFormulas.{sum_of_cells, sum_of_hops}
-use Rattle.net_cells.proofs.Growing.{flat_more}
+use Rattle.net_cells.proofs.Growing.{flat_more, flat_below}
 use Rattle.net_cells.proofs.LeavesOf.{sum_leaves}
 use Rattle.net_cells.proofs.Lists.{Has, map_has, filter_has, has_flat, flat_has, has_range}
 use Rattle.queue_hops.specs.declared.found.Pick.{Pick}
@@ -43,16 +43,6 @@ flat_to : {Y : Type 0} (f : ℕ → List Y) (n m : ℕ) → n ≤ m → IsBlankF
 flat_to f n m h blank =
     let e : m ≡ n + (m - n) = omega arith in
     ap (λ k. flat_map f (range_with_len 0 k)) e ∙ flat_cut f n (m - n) blank
-
-flat_below : {Y : Type 0} (f g : ℕ → List Y) (n : ℕ) → ((i : ℕ) → i < n → f i ≡ g i)
-    → flat_map f (range_with_len 0 n) ≡ flat_map g (range_with_len 0 n)
-flat_below f g zero same = refl
-flat_below f g (suc n) same =
-    let e : suc n ≡ n + 1 = omega arith in
-    let l : n < suc n = omega arith in
-    ap (λ k. flat_map f (range_with_len 0 k)) e ∙ flat_more f n
-    ∙ ap₂ (λ ys zs. ys ++ zs) (flat_below f g n (λ i h. same i (omega arith))) (same n l)
-    ∙ sym (flat_more g n) ∙ ap (λ k. flat_map g (range_with_len 0 k)) (sym e)
 
 pub same_flat : {Y : Type 0} (f g : ℕ → List Y) (n m most : ℕ) → n ≤ most → m ≤ most → IsBlankFrom f n → IsBlankFrom g m
     → ((i : ℕ) → i < most → f i ≡ g i) → flat_map f (range_with_len 0 n) ≡ flat_map g (range_with_len 0 m)

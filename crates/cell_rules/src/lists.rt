@@ -9,7 +9,7 @@ ghost use Rattle.net_cells.specs.CellFormulas.{parts_sum};
 ghost use Rattle.queue_hops.specs.Chosen.{all_chosen};
 ghost use Rattle.cell_rules.specs.Rules.{TellsSame, TellsFormula, link_of, one_part};
 
-use fraction128::Frac;
+use crate::reads::same_number;
 use net_cells::{queue_of_hop, server_of_hop};
 use net_model::Network;
 use queue_hops::{Pick, chosen_at, longest_at, rate};
@@ -82,19 +82,13 @@ fn is_unused(net: &Network, server: u32, pick: Pick) -> bool
     true
 }
 
-fn same_rate(here: Frac, there: Frac) -> bool
-    ensures { TellsSame here there result }
-{
-    here == there
-}
-
 // Whether two networks cut some hops by a link of the same: with a packet as long and at the rate of the same server.
 fn same_cut(old: &Network, new: &Network, server: u32, pick: Pick, before: u32) -> bool
     ensures { TellsSame (link_of old.now server pick before) (link_of new.now server pick before) result }
 {
     let bits = longest_at(old, server, pick);
     let new_bits = longest_at(new, server, pick);
-    bits == new_bits && same_rate(rate(old, before), rate(new, before))
+    bits == new_bits && same_number(rate(old, before), rate(new, before))
 }
 
 // Whether two networks make a part of a queue's sum of the same.

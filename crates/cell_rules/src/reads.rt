@@ -61,7 +61,7 @@ fn link_at(net: &Network, flow: u32, hop: u32) -> Frac
     link(net, server_of_hop(net, flow, hop))
 }
 
-fn same_link(here: Frac, there: Frac) -> bool
+pub(crate) fn same_number(here: Frac, there: Frac) -> bool
     ensures { TellsSame here there result }
 {
     here == there
@@ -78,7 +78,7 @@ pub(crate) fn same_links(old: &Network, new: &Network, flow: u32) -> bool
     for hop in 0..count {
         let here = link_at(old, flow, hop);
         let there = link_at(new, flow, hop);
-        if !same_link(here, there) {
+        if !same_number(here, there) {
             return false;
         }
     }

@@ -10,6 +10,7 @@ use Rattle.run_laws.specs.Runs.{SpecRun}
 use Rattle.net_model.specs.Networks.{Net}
 use Rattle.net_cells.specs.Meanings.{CellTable}
 use Rattle.check_report.specs.CheckReport.{lawful_report_of}
+use Rattle.command_replies.proofs.Statuses.{status_is}
 use Rattle.check_command.specs.Checked.{packets_in, IsReportOn}
 use Rattle.check_command.specs.OnRuns as on
 use Rattle.check_command.specs.OnRuns.{IsCheckReport, IsMalformed, IsOverLimit, IsCheckOver, HasCycleBehind}
@@ -25,8 +26,6 @@ of_report net run at reply h = elim h.verdict [
 ]
 
 -- ---- by the status
-status_is : (reply to : Reply) → reply ≡ to → reply.status ≡ to.status
-status_is reply to is = ap (λ (r : Reply). r.status) is
 
 module _ (net_file net_bytes run_file run_bytes : List ℕ) (reply : Reply) where
   -- of a status that is known

@@ -45,14 +45,3 @@ of_network net_bytes run_bytes net status old between new reads rises folds cell
   cells = λ other is.
       subst (λ n. CountsOnNet n run_bytes status between new) ((says net_bytes).one_network net other reads is) cells;
 }
-
--- those of a file that gives a fault, or none for want of memory
-pub of_fault : (net_bytes run_bytes : List ℕ) (status old new : ℕ) → ¬ IsOfReport status → old ≤ new
-    → StepsAtMost fold_work net_bytes old new → CountsOn net_bytes run_bytes status old new
-of_fault net_bytes run_bytes status old new other rises folds = record {
-  between = new;
-  rises = rises;
-  folds = folds;
-  refused = λ fault first. refl;
-  cells = λ net is. none_on_net net run_bytes status new other;
-}

@@ -1,6 +1,7 @@
 -- Two replies on the same files are the same, but for the choice among cycles; within the limits they are reports.
-use Rattle.std.proofs.Common.{◌≡◌, ℕ, ◌<◌, ◌≤◌, ◌^◌, List, inl, inr, sym, ap, ◌∙◌, subst, arith}
+use Rattle.std.proofs.Common.{◌≡◌, ℕ, ◌<◌, ◌^◌, List, inl, inr, sym, ap, ◌∙◌, subst}
 use Rattle.std.specs.Prelude.{◌⊎◌}
+use native.Mathlib.Nat.{not-le_of_lt}
 use Rattle.upp_limits.specs.LimitTest.{fault_of}
 use Rattle.run_laws.specs.Runs.{SpecRun}
 use Rattle.net_model.specs.Accepted.{IsAccepted}
@@ -31,10 +32,6 @@ use Rattle.check_command.specs.CheckLaws.{RepliesAreDetermined, IsWithinLimits, 
 use Rattle.check_command.proofs.Causes.{of_report}
 use Rattle.check_command.proofs.Sorted.{IsShown, OnOrder, OnBadRun, OnRun, OnNet, sorted}
 
--- ---- by a check
-apart : (a b : ℕ) → a < b → b ≤ a → ⊥
-apart a b h k = omega arith
-
 module _ (net : Net) (run : SpecRun) (order : List ℕ) (at other : CellTable) (x y : Reply) (a : IsAccepted net)
     (o : IsOrder net order) (curves : AreCurves net) (m : MeetsEquations net at) (n : MeetsEquations net other) where
   -- one first broken law
@@ -58,8 +55,8 @@ module _ (net : Net) (run : SpecRun) (order : List ℕ) (at other : CellTable) (
 
   same_check : IsVerdictReply net run at x → IsVerdictReply net run other y → x ≡ y
   same_check (inl h) (inl k) = h.is ∙ sym k.is
-  same_check (inl h) (inr k) = absurd (apart (check_gauge net run) (2 ^ 120) k.narrow h.over)
-  same_check (inr h) (inl k) = absurd (apart (check_gauge net run) (2 ^ 120) h.narrow k.over)
+  same_check (inl h) (inr k) = absurd (not-le_of_lt k.narrow h.over)
+  same_check (inr h) (inl k) = absurd (not-le_of_lt h.narrow k.over)
   same_check (inr h) (inr k) = same_verdict h.verdict k.verdict
 
 -- ---- by an order
@@ -126,7 +123,7 @@ replies_are_determined net_file net_bytes run_file run_bytes x y h k =
 -- ---- within the limits
 on_check : (net : Net) (run : SpecRun) (at : CellTable) (reply : Reply) → check_gauge net run < 2 ^ 120
     → IsVerdictReply net run at reply → IsOfReport reply.status
-on_check net run at reply narrow (inl h) = absurd (apart (check_gauge net run) (2 ^ 120) narrow h.over)
+on_check net run at reply narrow (inl h) = absurd (not-le_of_lt narrow h.over)
 on_check net run at reply narrow (inr h) = of_report net run at reply h
 
 on_order : (net_bytes run_bytes : List ℕ) (reply : Reply) (w : IsWithinLimits net_bytes run_bytes) (order : List ℕ)

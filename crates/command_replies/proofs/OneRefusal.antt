@@ -1,8 +1,8 @@
 -- Two refusals of one file are the same, but for the choice among cycles; and what a file with a refusal does not give.
-use Rattle.std.proofs.Common.{◌≡◌, ℕ, List, map, inl, inr, refl, sym, ap, ◌∙◌}
+use Rattle.std.proofs.Common.{◌≡◌, ℕ, List, map, inl, inr, sym, ap, ◌∙◌}
 use Rattle.upp_limits.specs.LimitTest.{fault_of}
 use Rattle.upp_limits.specs.declared.own_limits.OverLimit.{OverLimit}
-use Rattle.upp_limits.specs.declared.own_limits.OverLimit.TheVariants.{TooMany, TooWide}
+use Rattle.upp_limits.proofs.OneLimit.{same_limit}
 use Rattle.net_model.specs.Accepted.{IsAccepted}
 use Rattle.net_model.specs.Networks.{Net}
 use Rattle.net_model.specs.Orders.{IsOrder}
@@ -67,12 +67,6 @@ pub record IsOver (net : Net) (order : List ℕ) (reply : Reply) : Type 0 where
   pub cell : Cell
   pub first : FirstOver net order cell (fault_of limit)
   pub is : reply ≡ cell_over limit (cell_words net cell)
-
-same_limit : (l m : OverLimit) → fault_of l ≡ fault_of m → l ≡ m
-same_limit TooMany TooMany e = refl
-same_limit TooWide TooWide e = refl
-same_limit TooMany TooWide e = absurd (cc)
-same_limit TooWide TooMany e = absurd (cc)
 
 pub one_over : (net : Net) (order : List ℕ) (x y : Reply) → IsAccepted net → IsOrder net order → IsOver net order x
     → IsOver net order y → x ≡ y

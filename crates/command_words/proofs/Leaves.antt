@@ -1,6 +1,6 @@
 -- What the leaves read: operands, and `--json` among them.
 use Rattle.std.proofs.Common.{◌≡◌, ℕ, Bool, true, false, List, [], ◌∷◌, refl, sym, subst, inl, inr}
-use Rattle.std.specs.Prelude.{◌==◌, not, codes}
+use Rattle.std.specs.Prelude.{◌==◌, codes}
 use Rattle.clap.specs.Simple.{App, Shape, built_leaf}
 use Rattle.clap.specs.Takes.{level_passes}
 use Rattle.clap.specs.Walk.{Held, Row, Text, Walk, arg_by_index, finished, nothing_held, rows_after, to_positional, walk_from, walked}
@@ -10,6 +10,7 @@ use Rattle.command_words.specs.Lines.{is_operand}
 use Rattle.command_words.specs.Reads.{HasGiven}
 use Rattle.command_words.proofs.Reading.{Reads, nothing_more, json_then, operand_then, ends_well, level_of, rows_of_level}
 use Rattle.command_words.proofs.Steps.{standing}
+use Rattle.std.proofs.lemmas.Bool.{not-true}
 
 -- the leaf takes these words, and reads these operands
 pub record Given (s : Shape) (rest operands : List Text) (json : Bool) : Type 0 where
@@ -161,62 +162,59 @@ module _ (word : Text) (b : ℕ) (bs : Text) (plain : (b == 45) ≡ false) where
         (record { values = refl; flag = inl (refl, refl) })
 
 -- ---- operands
-not_hyphen : (t : Bool) → not t ≡ true → t ≡ false
-not_hyphen true e = absurd (cc)
-not_hyphen false e = refl
 
 pub one_given : (word x : Text) → is_operand x ≡ true → Given (leaf (one word)) (x ∷ []) (x ∷ []) false
 one_given word [] h = absurd (cc)
-one_given word (b ∷ bs) h = one_at word b bs (not_hyphen (b == 45) h)
+one_given word (b ∷ bs) h = one_at word b bs (not-true (b == 45) h)
 
 pub or_json_given : (word x : Text) → is_operand x ≡ true
     → Given (leaf (with_json (one word))) (x ∷ []) (x ∷ []) false
 or_json_given word [] h = absurd (cc)
-or_json_given word (b ∷ bs) h = or_json_at word b bs (not_hyphen (b == 45) h)
+or_json_given word (b ∷ bs) h = or_json_at word b bs (not-true (b == 45) h)
 
 pub json_first_given : (word x : Text) → is_operand x ≡ true
     → Given (leaf (with_json (one word))) (codes "--json" ∷ x ∷ []) (x ∷ []) true
 json_first_given word [] h = absurd (cc)
-json_first_given word (b ∷ bs) h = json_first_at word b bs (not_hyphen (b == 45) h)
+json_first_given word (b ∷ bs) h = json_first_at word b bs (not-true (b == 45) h)
 
 pub json_last_given : (word x : Text) → is_operand x ≡ true
     → Given (leaf (with_json (one word))) (x ∷ codes "--json" ∷ []) (x ∷ []) true
 json_last_given word [] h = absurd (cc)
-json_last_given word (b ∷ bs) h = json_last_at word b bs (not_hyphen (b == 45) h)
+json_last_given word (b ∷ bs) h = json_last_at word b bs (not-true (b == 45) h)
 
 pub two_given : (word x y : Text) → is_operand x ≡ true → is_operand y ≡ true
     → Given (leaf (two word)) (x ∷ y ∷ []) (x ∷ y ∷ []) false
 two_given word [] y h k = absurd (cc)
 two_given word (b ∷ bs) [] h k = absurd (cc)
-two_given word (b ∷ bs) (d ∷ ds) h k = two_at word b bs (not_hyphen (b == 45) h) d ds (not_hyphen (d == 45) k)
+two_given word (b ∷ bs) (d ∷ ds) h k = two_at word b bs (not-true (b == 45) h) d ds (not-true (d == 45) k)
 
 pub two_or_json_given : (word x y : Text) → is_operand x ≡ true → is_operand y ≡ true
     → Given (leaf (with_json (two word))) (x ∷ y ∷ []) (x ∷ y ∷ []) false
 two_or_json_given word [] y h k = absurd (cc)
 two_or_json_given word (b ∷ bs) [] h k = absurd (cc)
 two_or_json_given word (b ∷ bs) (d ∷ ds) h k =
-    two_or_json_at word b bs (not_hyphen (b == 45) h) d ds (not_hyphen (d == 45) k)
+    two_or_json_at word b bs (not-true (b == 45) h) d ds (not-true (d == 45) k)
 
 pub json_then_two_given : (word x y : Text) → is_operand x ≡ true → is_operand y ≡ true
     → Given (leaf (with_json (two word))) (codes "--json" ∷ x ∷ y ∷ []) (x ∷ y ∷ []) true
 json_then_two_given word [] y h k = absurd (cc)
 json_then_two_given word (b ∷ bs) [] h k = absurd (cc)
 json_then_two_given word (b ∷ bs) (d ∷ ds) h k =
-    json_then_two_at word b bs (not_hyphen (b == 45) h) d ds (not_hyphen (d == 45) k)
+    json_then_two_at word b bs (not-true (b == 45) h) d ds (not-true (d == 45) k)
 
 pub json_between_given : (word x y : Text) → is_operand x ≡ true → is_operand y ≡ true
     → Given (leaf (with_json (two word))) (x ∷ codes "--json" ∷ y ∷ []) (x ∷ y ∷ []) true
 json_between_given word [] y h k = absurd (cc)
 json_between_given word (b ∷ bs) [] h k = absurd (cc)
 json_between_given word (b ∷ bs) (d ∷ ds) h k =
-    json_between_at word b bs (not_hyphen (b == 45) h) d ds (not_hyphen (d == 45) k)
+    json_between_at word b bs (not-true (b == 45) h) d ds (not-true (d == 45) k)
 
 pub two_then_json_given : (word x y : Text) → is_operand x ≡ true → is_operand y ≡ true
     → Given (leaf (with_json (two word))) (x ∷ y ∷ codes "--json" ∷ []) (x ∷ y ∷ []) true
 two_then_json_given word [] y h k = absurd (cc)
 two_then_json_given word (b ∷ bs) [] h k = absurd (cc)
 two_then_json_given word (b ∷ bs) (d ∷ ds) h k =
-    two_then_json_at word b bs (not_hyphen (b == 45) h) d ds (not_hyphen (d == 45) k)
+    two_then_json_at word b bs (not-true (b == 45) h) d ds (not-true (d == 45) k)
 
 pub four_given : (word x y z w : Text) → is_operand x ≡ true → is_operand y ≡ true → is_operand z ≡ true
     → is_operand w ≡ true → Given (leaf (four word)) (x ∷ y ∷ z ∷ w ∷ []) (x ∷ y ∷ z ∷ w ∷ []) false
@@ -225,5 +223,5 @@ four_given word (b ∷ bs) [] z w h k l m = absurd (cc)
 four_given word (b ∷ bs) (d ∷ ds) [] w h k l m = absurd (cc)
 four_given word (b ∷ bs) (d ∷ ds) (e ∷ es) [] h k l m = absurd (cc)
 four_given word (b ∷ bs) (d ∷ ds) (e ∷ es) (f ∷ fs) h k l m =
-    four_at word b bs (not_hyphen (b == 45) h) d ds (not_hyphen (d == 45) k) e es f fs (not_hyphen (e == 45) l)
-    (not_hyphen (f == 45) m)
+    four_at word b bs (not-true (b == 45) h) d ds (not-true (d == 45) k) e es f fs (not-true (e == 45) l)
+    (not-true (f == 45) m)

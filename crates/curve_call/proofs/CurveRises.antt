@@ -3,6 +3,7 @@
 use Rattle.std.specs.Prelude.{◌≡◌, ℕ, zero, suc, ◌<◌, ◌^◌, pos, Bool, true, false, cond, List, [], ◌∷◌, Option, Some, None, ◌⊎◌}
 use Rattle.std.specs.List.{AllByRecursion}
 use Rattle.std.proofs.Common.{arith, sym, ap, ◌∙◌, refl, subst, inl, inr}
+use Rattle.std.proofs.lemmas.Option.{same_Some}
 use Rattle.rational.specs.Rational.{ℚ, ◌+ℚ◌, ◌-ℚ◌, ◌*ℚ◌, ◌/ℚ◌, ◌≤ℚ◌, ◌<ℚ◌, int, le_q}
 use Rattle.rational.specs.Ratio.{IsSmall}
 use Rattle.rational.specs.Grid.{Whole, Within}
@@ -284,26 +285,23 @@ multiple_periods (Infinite rank) p h = tt
 one_of : (p : ℚ) → (n : ℕ) × (p ≡ int (pos n) *ℚ p)
 one_of p = (1, sym (one_mul p))
 
-same_some : (q r : ℚ) → Some q ≡ Some r → q ≡ r
-same_some q r e = cc
-
 abbrev SomeAbove : Option ℚ → Type 0
 SomeAbove None = Unit {0}
 SomeAbove (Some p) = int (pos 0) <ℚ p
 
 first_multiple : (x y : Option ℚ) (q : ℚ) → SomeAbove x → SomeAbove y → x ≡ Some q → (n : ℕ) × (common_of x y ≡ int (pos n) *ℚ q)
 first_multiple None y q h k e = let m : ⊥ = cc in absurd m
-first_multiple (Some p) None q h k e = subst (λ r. (n : ℕ) × (p ≡ int (pos n) *ℚ r)) (same_some p q e) (one_of p)
+first_multiple (Some p) None q h k e = subst (λ r. (n : ℕ) × (p ≡ int (pos n) *ℚ r)) (same_Some p q e) (one_of p)
 first_multiple (Some p) (Some r) q h k e =
     let m = (common_multiple_least p r h k).left in
-    subst (λ s. (n : ℕ) × (common_multiple p r ≡ int (pos n) *ℚ s)) (same_some p q e) (m.times, m.is)
+    subst (λ s. (n : ℕ) × (common_multiple p r ≡ int (pos n) *ℚ s)) (same_Some p q e) (m.times, m.is)
 
 second_multiple : (x y : Option ℚ) (q : ℚ) → SomeAbove x → SomeAbove y → y ≡ Some q → (n : ℕ) × (common_of x y ≡ int (pos n) *ℚ q)
 second_multiple x None q h k e = let m : ⊥ = cc in absurd m
-second_multiple None (Some r) q h k e = subst (λ s. (n : ℕ) × (r ≡ int (pos n) *ℚ s)) (same_some r q e) (one_of r)
+second_multiple None (Some r) q h k e = subst (λ s. (n : ℕ) × (r ≡ int (pos n) *ℚ s)) (same_Some r q e) (one_of r)
 second_multiple (Some p) (Some r) q h k e =
     let m = (common_multiple_least p r h k).right in
-    subst (λ s. (n : ℕ) × (common_multiple p r ≡ int (pos n) *ℚ s)) (same_some r q e) (m.times, m.is)
+    subst (λ s. (n : ℕ) × (common_multiple p r ≡ int (pos n) *ℚ s)) (same_Some r q e) (m.times, m.is)
 
 tail_above : (tail : Tail) → HasPeriod tail → SomeAbove (period_of tail)
 tail_above (Periodic rank period rise) h = h

@@ -1,5 +1,5 @@
 -- The sizes and the times of a call of the convolution, and which limits it is over.
-use Rattle.std.specs.Prelude.{◌≡◌, ℕ, suc, ◌+◌, ◌<◌, ◌≤◌, ◌^◌, pos}
+use Rattle.std.specs.Prelude.{◌≡◌, ℕ, suc, ◌+◌, ◌<◌, ◌≤◌, ◌^◌, pos, Result, Ok, Err, IfOk, IfErr}
 use Rattle.std.proofs.Common.{arith, sym, ap, ◌∙◌, subst}
 use Rattle.rational.specs.Rational.{ℚ, neg_ℚ, ◌+ℚ◌, ◌-ℚ◌, ◌*ℚ◌, ◌≤ℚ◌, ◌<ℚ◌, int}
 use Rattle.rational.specs.Ratio.{SumFits}
@@ -17,8 +17,8 @@ use Rattle.upp_curve.specs.Steady.{steady, IsWholePeriods}
 use Rattle.upp_limits.specs.Periods.{common_period, periods_after}
 use Rattle.upp_limits.specs.Windows.{window_at, Meets, IsLeastPeriods, IsSlowerLateLeast}
 use Rattle.upp_limits.specs.Limits.{Sizes, sizes_of, curve_numbers}
-use Rattle.upp_limits.specs.Gauges.{numbers_over, gauge_over, gauge_at, tally_over, IsTooWide, IsTooMany, IsKnownAtOnce}
-use Rattle.upp_limits.specs.Outcome.{IsWithin, IsCauseOf}
+use Rattle.upp_limits.specs.Gauges.{numbers_over, gauge_over, gauge_at, IsTooWide, IsKnownAtOnce}
+use Rattle.upp_limits.specs.Outcome.{IsWithin, IsCauseOf, KeepsLimits}
 use Rattle.upp_limits.specs.Sized.{Stands}
 use Rattle.upp_normal.specs.Operand.{AreLimited}
 use Rattle.upp_normal.specs.Ahead.{HasWindow}
@@ -31,14 +31,16 @@ use Rattle.curve_call.proofs.CallTimes.{first_stands, second_stands, IsCall, sta
 use Rattle.curve_call.proofs.CallFits.{call_early}
 use Rattle.curve_call.proofs.CurveRises.{common_first, common_second}
 use Rattle.curve_call.proofs.FirstGate.{first_gate, gauge_grows}
-use Rattle.curve_call.proofs.Limited.{refused_cause, frame_within, convolve_least, many_at_least}
+use Rattle.curve_call.proofs.Limited.{refused_cause, frame_within, within_at_least, convolve_least}
 use Rattle.curve_least.proofs.Rises.{has_window}
 use Rattle.curve_least.proofs.Shifts.{same_least}
 use Rattle.curve_pointwise.specs.LatticeCall.{LatticeCall}
 use Rattle.curve_call.specs.FirstWindows.{IsFirstWindow, IsWideAtFirst}
 use Rattle.curve_pointwise.proofs.LatticeCalls.{at_times, from_is, from_fits}
 use Rattle.curve_conv.specs.Scans.{sizes_in}
-use Rattle.curve_conv.specs.Late.{IsSlowerLate, IsSlowerAfter, IsSlowerNumber, IsSlowerMost, IsPartsCall}
+use Rattle.curve_least.specs.declared.bounds.Bounds.{Bounds}
+use Rattle.curve_conv.specs.Late.{IsSlowerLate, IsSlowerAfter, IsSlowerNumber, IsPartsCall}
+use Rattle.curve_conv.specs.LateBounds.{IsSlowerBounds}
 use Rattle.curve_conv.specs.ConvolveCall.{IsConvolveFrame}
 use Rattle.curve_call.proofs.Tallies.{tally_rises}
 use Rattle.upp_curve.proofs.SteadyTimes.{steady_nonneg}
@@ -171,9 +173,15 @@ pub within_by : (f g : SpecCurve) (w : CallWindow) (from : ℚ) (k : ℕ) (r : F
     → IsFrame Convolve f g k 0 r → IsWithin Convolve f g
 within_by f g w from k r K W e N h = frame_within Convolve f g k 0 r (least_periods f g w from k K W e N) h
 
-pub frame_by : (f g : SpecCurve) (w : CallWindow) (from : ℚ) (k : ℕ) (r : Frame) → IsCurve f × IsCurve g → IsFirstWindow Convolve f g w → from ≡ w.end -ℚ w.period → IsSlowerNumber f g from w.period k
+pub limits_by : (f g : SpecCurve) (w : CallWindow) (from : ℚ) (k : ℕ) (r : Result Frame OpFault) → IsCurve f × IsCurve g → IsFirstWindow Convolve f g w → from ≡ w.end -ℚ w.period → IsSlowerNumber f g from w.period k
+    → IfOk r (IsFrame Convolve f g k 0) → IfErr r (IsRefusedAt Convolve f g k 0) → KeepsLimits Convolve f g r
+limits_by f g w from k (Ok r) K W e N h l = within_by f g w from k r K W e N h
+limits_by f g w from k (Err fault) K W e N h l = refused_by f g w from k fault K W e N l
+
+-- with a number of periods that is enough
+frame_late : (f g : SpecCurve) (w : CallWindow) (from : ℚ) (k : ℕ) (r : Frame) → IsCurve f × IsCurve g → IsFirstWindow Convolve f g w → from ≡ w.end -ℚ w.period → IsSlowerLate f g (periods_after from k w.period) w.period
     → IsFrame Convolve f g k 0 r → IsConvolveFrame f g r
-frame_by f g w from k r K W e N h =
+frame_late f g w from k r K W e late h =
     let z = sizes_at Convolve f g k 0 in
     let L = at_times f g (steady f +ℚ steady g) (common_period f g) (window_at Convolve f g k 0) r.start r.period r.end (k + 1) z (convolve_call f g k K.0 K.1 h.gauge) h.start h.period h.end in
     let same : w.period ≡ r.period = W.window.period ∙ sym h.period in
@@ -188,29 +196,41 @@ frame_by f g w from k r K W e N h =
       start = h.start;
       times = h.times;
       values = h.values;
-      enough = subst (λ d. IsSlowerLate f g (r.end -ℚ r.period) d) same (subst (λ y. IsSlowerLate f g y w.period) at N.late);
+      enough = subst (λ d. IsSlowerLate f g (r.end -ℚ r.period) d) same (subst (λ y. IsSlowerLate f g y w.period) at late);
     }
 
--- ---- known without a scan
-window_later : (f g : SpecCurve) (w : CallWindow) (k : ℕ) → IsCurve f × IsCurve g → IsFirstWindow Convolve f g w → w.end ≤ℚ window_at Convolve f g k 0
-window_later f g w k K W =
+pub frame_by : (f g : SpecCurve) (w : CallWindow) (from : ℚ) (k : ℕ) (r : Frame) → IsCurve f × IsCurve g → IsFirstWindow Convolve f g w → from ≡ w.end -ℚ w.period → IsSlowerNumber f g from w.period k
+    → IsFrame Convolve f g k 0 r → IsConvolveFrame f g r
+frame_by f g w from k r K W e N h = frame_late f g w from k r K W e N.late h
+
+-- a window with more periods ends later
+window_later : (f g : SpecCurve) (w : CallWindow) (k n : ℕ) → IsCurve f × IsCurve g → IsFirstWindow Convolve f g w → k ≤ n → window_at Convolve f g k 0 ≤ℚ window_at Convolve f g n 0
+window_later f g w k n K W h =
     let above = (first_call f g w K.0 K.1 W).above in
     let d = common_period f g in
     let s = steady f +ℚ steady g in
     let some : int (pos 0) ≤ℚ d = le_of_lt (subst (λ y. int (pos 0) <ℚ y) W.window.period above) in
-    let n : 2 ≤ k + 2 = omega arith in
-    let run = mul_le_mul_right d some (nat_le 2 (k + 2) n) in
-    subst (λ x. x ≤ℚ window_at Convolve f g k 0) (sym (W.window.end ∙ window_is Convolve f g 0 0))
-    (subst (λ x. periods_after s 2 d ≤ℚ x) (sym (window_is Convolve f g k 0)) (later s (int (pos 2) *ℚ d) (int (pos (k + 2)) *ℚ d) run))
+    let more : k + 2 ≤ n + 2 = omega (arith, h) in
+    let run = mul_le_mul_right d some (nat_le (k + 2) (n + 2) more) in
+    subst (λ x. x ≤ℚ window_at Convolve f g n 0) (sym (window_is Convolve f g k 0))
+    (subst (λ x. periods_after s (k + 2) d ≤ℚ x) (sym (window_is Convolve f g n 0)) (later s (int (pos (k + 2)) *ℚ d) (int (pos (n + 2)) *ℚ d) run))
   where
     later : (s x y : ℚ) → x ≤ℚ y → s +ℚ x ≤ℚ s +ℚ y
     later s x y h = with3 s x y (λ c. omega (arith, c.le, c.lt, c.same))
 
--- the tally with no period is over its limit, and with enough periods the gauge is not
-pub many_by : (f g : SpecCurve) (w : CallWindow) (from : ℚ) (n : ℕ) → IsCurve f × IsCurve g → IsFirstWindow Convolve f g w → from ≡ w.end -ℚ w.period → IsSlowerMost f g from w.period n
-    → gauge_at Convolve f g n 0 < 2 ^ 120 → 2 ^ 20 < tally_over Convolve f g w.end → IsTooMany Convolve f g
-many_by f g w from n K W e M gauge tally =
-    let k = M.number in
-    let rises = gauge_grows Convolve f g k 0 n 0 K.0 K.1 tt M.most (omega arith) in
-    let more = tally_rises Convolve f g w.end (window_at Convolve f g k 0) K.0 K.1 (window_later f g w k K W) in
-    many_at_least Convolve f g k 0 (looks f g) (least_periods f g w from k K W e M.is) (omega (arith, rises, gauge)) (omega (arith, more, tally))
+-- ---- from bounds of the number
+-- the upper one
+pub high_frame : (f g : SpecCurve) (w : CallWindow) (from : ℚ) (b : Bounds) (r : Frame) → IsCurve f × IsCurve g → IsFirstWindow Convolve f g w → from ≡ w.end -ℚ w.period → IsSlowerBounds f g from w.period b
+    → IsFrame Convolve f g b.high 0 r → IsConvolveFrame f g r
+high_frame f g w from b r K W e B h = frame_late f g w from b.high r K W e B.late h
+
+-- within both limits with it, and so with the least one
+pub high_within : (f g : SpecCurve) (w : CallWindow) (from : ℚ) (b : Bounds) (r : Frame) → IsCurve f × IsCurve g → IsFirstWindow Convolve f g w → from ≡ w.end -ℚ w.period → IsSlowerBounds f g from w.period b
+    → IsFrame Convolve f g b.high 0 r → IsWithin Convolve f g
+high_within f g w from b r K W e B h =
+    let k = B.number in
+    let rises = gauge_grows Convolve f g k 0 b.high 0 K.0 K.1 tt B.high (omega arith) in
+    let more = tally_rises Convolve f g (window_at Convolve f g k 0) (window_at Convolve f g b.high 0) K.0 K.1 (window_later f g w k b.high K W B.high) in
+    let gauge = h.gauge in
+    let tally = h.tally in
+    within_at_least Convolve f g k 0 (least_periods f g w from k K W e B.is) (omega (arith, rises, gauge)) (omega (arith, more, tally))

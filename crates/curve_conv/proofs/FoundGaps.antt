@@ -1,31 +1,24 @@
 -- The gap of both parts of a convolution is there, and so is the least number of periods: found by proof alone, where no code runs.
-use Rattle.std.specs.Prelude.{◌≡◌, ◌⊎◌, ℕ, suc, zero, ◌<◌, ◌≤◌, pos, Option, Some, None}
-use Rattle.std.proofs.Common.{arith, sym, ap₂, refl, subst, inl, inr}
-use Rattle.rational.specs.Rational.{ℚ, ◌+ℚ◌, ◌-ℚ◌, ◌*ℚ◌, ◌/ℚ◌, ◌≤ℚ◌, ◌<ℚ◌, int}
-use Rattle.rational.specs.Gauge.{size_up}
-use Rattle.rational.specs.Extended.{Ext, ◌≤ₑ◌, ◌+ₑ◌}
-use Rattle.rational.specs.declared.Extended.TheVariants.{Fin, Inf}
-use Rattle.rational.proofs.Laws.{le_refl, le_trans, le_or_lt, antisym, sub_add}
-use Rattle.rational.proofs.Linear.{with4, with5}
+use Rattle.std.specs.Prelude.{◌≡◌, ◌⊎◌, ℕ, suc, zero, ◌<◌, ◌≤◌, pos, Some, None}
+use Rattle.std.proofs.Common.{arith, refl, subst, inl, inr}
+use Rattle.rational.specs.Rational.{ℚ, ◌-ℚ◌, ◌*ℚ◌, ◌≤ℚ◌, ◌<ℚ◌, int}
+use Rattle.rational.specs.Extended.{Ext}
+use Rattle.rational.proofs.Laws.{le_refl, le_or_lt, antisym}
 use Rattle.affine_segment.specs.Values.{line_value}
 use Rattle.upp_curve.specs.Curve.{SpecCurve, value_at}
-use Rattle.min_plus.specs.Convolution.{Split}
-use Rattle.min_plus.specs.Functions.{IsFinite}
 use Rattle.upp_limits.specs.Limits.{Sizes}
 use Rattle.upp_normal.specs.Operand.{AreLimited}
-use Rattle.upp_limits.specs.Sized.{times_largest}
 use Rattle.upp_curve.specs.Steady.{steady, rise_over}
+use Rattle.upp_limits.specs.Periods.{periods_after}
 use Rattle.upp_limits.specs.Windows.{IsLeast}
 use Rattle.element_envelope.specs.ElementRoom.{WindowTime}
 use Rattle.curve_least.specs.declared.gaps.Gap.{Gap}
 use Rattle.curve_least.specs.declared.gaps.Gap.TheVariants.{NoTime, Never, Is}
-use Rattle.curve_least.specs.Gaps.{InWindow, IsGap, IsEndless}
+use Rattle.curve_least.specs.Gaps.{InWindow, IsGap}
 use Rattle.curve_least.specs.GapSteps.{gap_of, larger, earlier_of}
 use Rattle.curve_least.proofs.GapParts.{stretch_gap_is}
-use Rattle.curve_least.proofs.LeastNumber.{number_zero, number_least}
-use Rattle.curve_conv.specs.Late.{IsLateCall, IsLateMost}
-use Rattle.curve_conv.specs.Parts.{IsPart, FirstLate}
-use Rattle.curve_conv.specs.PartGaps.{PartGapStands}
+use Rattle.curve_least.proofs.BoundedNumber.{least_found}
+use Rattle.curve_conv.specs.Late.{IsLateIn, IsLateAfter, IsLateNumber, IsLateCall}
 use Rattle.curve_conv.specs.Scans.{sizes_in}
 use Rattle.curve_conv.specs.Stretches.{SumTimeIn}
 use Rattle.curve_conv.proofs.FoundNumbers.{PartGoing, spans_of, spans_go}
@@ -34,7 +27,7 @@ use Rattle.curve_conv.proofs.GapWalks.{PartGapWalk, walk_start, time_in, next_pl
 use Rattle.curve_conv.proofs.GridSteps.{steps_to}
 use Rattle.curve_conv.proofs.WalkGrid.{walk_grid}
 use Rattle.curve_conv.proofs.LateShifts.{values_are}
-use Rattle.curve_conv.proofs.LateNumbers.{Values, late_of, soon_of, late_times, zero_time, some_lead, number_none, number_gap}
+use Rattle.curve_conv.proofs.LateNumbers.{Values, late_of, soon_of, late_times, zero_time, late_in, some_lead, number_none, number_endless, number_gap}
 
 -- ---- the gap
 record GapFound (z : Sizes) (f g : ℚ → Ext) (first second from end : ℚ) : Type 0 where
@@ -112,37 +105,21 @@ call_gap slow fast from d end C =
     (λ t T. spans_go z end t f g (int (pos 0)) (Some x) y low times.second.nonneg T soon_slow late_fast) (steps_to (walk_grid z) end from) from NoTime (omega arith)
     (walk_start z f g x y from end times.from_in)
 
--- ---- of curves that are numbers at each time there is always a number of periods
-not_endless : (slow fast : SpecCurve) (from d end : ℚ) (C : IsLateCall slow fast from d end) (V : Values slow fast from end) → IsFinite (value_at slow) → IsFinite (value_at fast)
-    → IsEndless (InWindow from end) (late_of slow fast from end V) (soon_of slow fast from end V) → ⊥
-not_endless slow fast from d end C V finite other E =
-    let t = E.at in
-    let x = steady slow in
-    let times = late_times slow fast from d end C in
-    let P = subst (IsPart (value_at slow) (value_at fast) (FirstLate x) t) E.top ((values_are (value_at slow) (value_at fast) (steady slow) (steady fast) from end V).late t E.among) in
-    let past = rest (steady slow) (steady fast) d from t times.second.nonneg C.some C.from_is E.among.start in
-    let s : Split t = record { first = x; second = t -ℚ x; first_nonneg = times.first.nonneg; second_nonneg = past; whole = whole_of x t } in
-    let (v, e) = finite x times.first.nonneg in
-    let (w, k) = other (t -ℚ x) past in
-    subst (λ y. Inf ≤ₑ y) (ap₂ (λ (a b : Ext). a +ₑ b) e k) (P.below record { split = s; inside = le_refl x })
-  where
-    rest : (x y d from t : ℚ) → int (pos 0) ≤ℚ y → int (pos 0) <ℚ d → from ≡ x +ℚ y +ℚ d → from ≤ℚ t → int (pos 0) ≤ℚ t -ℚ x
-    rest x y d from t a b e h = with5 x y d from t (λ c. omega (arith, c.le, c.lt, c.same))
-
-    whole_of : (x t : ℚ) → x +ℚ (t -ℚ x) ≡ t
-    whole_of x t = with4 x t x t (λ c. omega (arith, c.le, c.lt, c.same))
-
+-- ---- where some number is enough there is a least one
 at_most : (a b : ℕ) → (a ≤ b) ⊎ (b < a)
 at_most zero b = inl (omega arith)
 at_most (suc a) zero = inr (omega arith)
 at_most (suc a) (suc b) = elim (at_most a b) [ inl h ↦ inl (omega (arith, h)) | inr h ↦ inr (omega (arith, h)) ]
 
-least_found : (q lead : ℚ) → int (pos 0) <ℚ lead → (k : ℕ) × IsLeast (λ i. q ≤ℚ int (pos i) *ℚ lead) k
-least_found q lead some = elim (le_or_lt q (int (pos 0))) [ inl h ↦ (0, number_zero q lead h) | inr h ↦ (size_up (q /ℚ lead), number_least q lead h some) ]
+-- the least number, which is at most n, and as many as n are enough too
+pub record LateMost (slow fast : SpecCurve) (from d : ℚ) (n : ℕ) : Type 0 where
+  pub number : ℕ
+  pub is : IsLateNumber slow fast from d number
+  pub most : number ≤ n
+  pub late : IsLateIn slow fast (periods_after from n d) d
 
-pub number_found : (slow fast : SpecCurve) (from d end : ℚ) (n : ℕ) → IsLateCall slow fast from d end → IsFinite (value_at slow) → IsFinite (value_at fast)
-    → times_largest 14 (sizes_in slow fast end) ≤ℚ int (pos n) *ℚ (rise_over fast d -ℚ rise_over slow d) → IsLateMost slow fast from d n
-number_found slow fast from d end n C finite other bound = by F.gap refl
+pub number_found : (slow fast : SpecCurve) (from d end : ℚ) (n : ℕ) → IsLateCall slow fast from d end → IsLateAfter slow fast from d n → LateMost slow fast from d n
+number_found slow fast from d end n C here = by F.gap refl
   where
     F : CallGap slow fast from end
     F = call_gap slow fast from d end C
@@ -156,23 +133,23 @@ number_found slow fast from d end n C finite other bound = by F.gap refl
     lead : ℚ
     lead = rise_over fast d -ℚ rise_over slow d
 
-    of_gap : (q : ℚ) → F.gap ≡ Is q → IsLateMost slow fast from d n
+    late : IsLateIn slow fast (periods_after from n d) d
+    late = late_in slow fast from d end n C V here
+
+    of_gap : (q : ℚ) → F.gap ≡ Is q → LateMost slow fast from d n
     of_gap q e =
         let G = subst (IsGap (InWindow from end) (late_of slow fast from end V) (soon_of slow fast from end V)) e is_gap in
-        let Q = subst (PartGapStands (sizes_in slow fast end)) e F.walk.stands in
         let some = some_lead slow fast from d end q (late_of slow fast from end V) (soon_of slow fast from end V) C (values_are (value_at slow) (value_at fast) (steady slow) (steady fast) from end V) G in
         let (k, least) = least_found q lead some in
-        record {
-          number = k;
-          is = number_gap slow fast from d end q k C V G least;
-          most = elim (at_most k n) [ inl h ↦ h | inr h ↦ absurd (least.least n h (le_trans Q.within.high bound)) ];
-        }
+        let N = number_gap slow fast from d end q k C V G least in
+        record { number = k; is = N; most = elim (at_most k n) [ inl h ↦ h | inr h ↦ absurd (N.least.least n h here) ]; late = late }
 
-    by : (gap : Gap) → F.gap ≡ gap → IsLateMost slow fast from d n
+    by : (gap : Gap) → F.gap ≡ gap → LateMost slow fast from d n
     by NoTime e = record {
       number = 0;
       is = number_none slow fast from d end C V (subst (IsGap (InWindow from end) (late_of slow fast from end V) (soon_of slow fast from end V)) e is_gap);
       most = omega arith;
+      late = late;
     }
-    by Never e = absurd (not_endless slow fast from d end C V finite other (subst (IsGap (InWindow from end) (late_of slow fast from end V) (soon_of slow fast from end V)) e is_gap))
+    by Never e = absurd (number_endless slow fast from d end C V (subst (IsGap (InWindow from end) (late_of slow fast from end V) (soon_of slow fast from end V)) e is_gap) n here)
     by (Is q) e = of_gap q e

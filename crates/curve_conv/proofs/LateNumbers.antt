@@ -168,7 +168,7 @@ after_both slow fast from d end k t C h = at (steady slow) (steady fast) d from 
     at : (x y d from w : ℚ) → from ≡ x +ℚ y +ℚ d → int (pos 0) ≤ℚ d → int (pos 0) ≤ℚ w → from +ℚ w ≤ℚ t → x +ℚ y ≤ℚ t
     at x y d from w e a b h = with6 x y d from w t (λ c. omega (arith, c.le, c.lt, c.same))
 
-late_in : (slow fast : SpecCurve) (from d end : ℚ) (k : ℕ) → IsLateCall slow fast from d end
+pub late_in : (slow fast : SpecCurve) (from d end : ℚ) (k : ℕ) → IsLateCall slow fast from d end
     → ((t : ℚ) → InWindow from end t → HavePartValues (value_at slow) (value_at fast) (steady slow) (steady fast) t) → IsLateAfter slow fast from d k → IsLateIn slow fast (periods_after from k d) d
 late_in slow fast from d end k C V L = record {
   least = L;

@@ -18,6 +18,8 @@ pub mod PieceStretches
 pub mod FoundStretches
 pub mod FoundNumbers
 pub mod FoundGaps
-pub mod Mosts
+pub mod LateEnough
+pub mod BoundsFound
+pub mod OwnExtremes
 pub mod ConvolveCalls
 pub mod ConvolveAnswers

@@ -32,12 +32,6 @@ pub record IsLateNumber (slow fast : SpecCurve) (from d : ℚ) (k : ℕ) : Type 
   pub least : IsLeast (IsLateAfter slow fast from d) k
   pub late : IsLateIn slow fast (periods_after from k d) d
 
--- that number is there, and at most n
-pub record IsLateMost (slow fast : SpecCurve) (from d : ℚ) (n : ℕ) : Type 0 where
-  pub number : ℕ
-  pub is : IsLateNumber slow fast from d number
-  pub most : number ≤ n
-
 -- two curves of which the first is the slower, one common period after the sum of the times from when on they repeat,
 -- and a period more up to the end of the window
 pub record IsLateCall (slow fast : SpecCurve) (from d end : ℚ) : Type 0 where
@@ -58,12 +52,6 @@ IsSlowerAfter f g from d k = IsSlowerLateLeast f g (periods_after from k d) d
 pub record IsSlowerNumber (f g : SpecCurve) (from d : ℚ) (k : ℕ) : Type 0 where
   pub least : IsLeast (IsSlowerAfter f g from d) k
   pub late : IsSlowerLate f g (periods_after from k d) d
-
--- that number is there, and at most n
-pub record IsSlowerMost (f g : SpecCurve) (from d : ℚ) (n : ℕ) : Type 0 where
-  pub number : ℕ
-  pub is : IsSlowerNumber f g from d number
-  pub most : number ≤ n
 
 -- two curves of any rates, as such a call
 pub record IsPartsCall (f g : SpecCurve) (from d end : ℚ) : Type 0 where

@@ -1,5 +1,6 @@
 pub mod Parts
 pub mod Late
+pub mod LateBounds
 pub mod Stretches
 pub mod Scans
 pub mod PartGaps

@@ -3,11 +3,12 @@
 //! The convolution of two curves.
 #![tactic(auto)]
 
+mod bounds;
 mod elements;
+mod extremes;
 mod gaps;
 mod lower;
 mod made;
-mod most;
 mod number;
 mod operator;
 mod order;
@@ -15,6 +16,6 @@ mod parts;
 mod pieces;
 mod rows;
 
-pub use most::most_periods;
-pub use operator::convolve;
+pub use bounds::late_bounds;
+pub use operator::{convolve, convolve_frame};
 pub use order::{is_slower_curve, late_periods};

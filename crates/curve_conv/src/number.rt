@@ -1,18 +1,16 @@
 //! From which number of periods on a convolution is the part in which the slower curve repeats.
 
-ghost use Rattle.std.specs.Prelude.{ℕ, ◌≡◌, ◌≢◌, pos, MatchOption};
-ghost use Rattle.rational.specs.Rational.{ℚ, int, ◌-ℚ◌, ◌*ℚ◌, ◌/ℚ◌, ◌≤ℚ◌, ◌<ℚ◌};
-ghost use Rattle.rational.specs.Ratio.{IsSmall};
+ghost use Rattle.std.specs.Prelude.{ℕ, ◌≡◌, ◌≢◌, MatchOption};
+ghost use Rattle.rational.specs.Rational.{ℚ, ◌-ℚ◌};
 ghost use Rattle.upp_curve.specs.Steady.{steady, rise_over};
-ghost use Rattle.upp_limits.specs.Windows.{IsLeast};
 ghost use Rattle.curve_conv.specs.Late.{IsLateAfter, IsLateNumber, IsLateCall};
 
 use crate::gaps::part_gap;
 use crate::made::made_part;
 use crate::rows::Scan;
 use curve_call::rise_over;
-use curve_least::Gap;
-use fraction128::{Frac, difference, is_less, quotient};
+use curve_least::{Gap, least_times};
+use fraction128::{Frac, difference, is_less};
 use std::alloc::Global;
 
 /// By how much the faster curve rises more than the slower over a period.
@@ -21,18 +19,6 @@ pub(crate) fn lead(s: &Scan, from: Frac, period: Frac) -> Frac
     ensures { result ≡ rise_over s.now.second.now period -ℚ rise_over s.now.first.now period }
 {
     difference(rise_over(s.second, period), rise_over(s.first, period))
-}
-
-// The least number k with gap at most k times the lead.
-fn least_over(gap: Frac, lead: Frac) -> u128
-    requires some { int (pos 0) <ℚ lead }
-    requires fits { IsSmall (gap /ℚ lead) }
-    ensures { IsLeast (λ k. gap ≤ℚ int (pos k) *ℚ lead) result }
-{
-    if !is_less(Frac::zero(), gap) {
-        return 0;
-    }
-    quotient(gap, lead).size_up()
 }
 
 /// The least number k of periods after `from` after which, for a period, no split of which the first side is before
@@ -64,6 +50,6 @@ pub(crate) fn late_number(
     match part_gap(s, &made_late, &made_soon, first, second, from) {
         Gap::NoTime => Some(0),
         Gap::Never => None,
-        Gap::Is(gap) => Some(least_over(gap, lead(s, from, period))),
+        Gap::Is(gap) => Some(least_times(gap, lead(s, from, period))),
     }
 }

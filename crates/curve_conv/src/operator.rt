@@ -1,6 +1,6 @@
 //! The convolution of two curves.
 
-ghost use Rattle.std.specs.Prelude.{◌≡◌, ◌+◌, pos, IfOk, IsTrue};
+ghost use Rattle.std.specs.Prelude.{◌≡◌, ◌+◌, pos, IfOk, IfErr, IfSome};
 ghost use Rattle.rational.specs.Rational.{ℚ, int, ◌-ℚ◌, ◌≤ℚ◌, neg_ℚ};
 ghost use Rattle.rational.specs.Ratio.{SumFits};
 ghost use Rattle.rational.specs.Extended.{◌<ₑ◌};
@@ -8,16 +8,15 @@ ghost use Rattle.upp_curve.specs.Curve.{value_at};
 ghost use Rattle.min_plus.specs.Convolution.{IsConvolution};
 ghost use Rattle.upp_curve.specs.Steady.{rate, rise_over};
 ghost use Rattle.upp_curve.specs.Curves.{IsCurve};
-ghost use Rattle.upp_limits.specs.Gauges.{IsTooMany};
-ghost use Rattle.upp_limits.specs.Outcome.{KeepsLimits};
+ghost use Rattle.upp_limits.specs.Outcome.{IsWithin, IsCauseOf, KeepsLimits};
 ghost use Rattle.upp_limits.specs.declared.op_kind.OpKind.TheVariants.{Convolve};
 ghost use Rattle.curve_call.specs.FirstWindows.{IsFirstWindow};
 ghost use Rattle.curve_call.specs.Rises.{CurveRiseFits};
 ghost use Rattle.curve_pointwise.specs.Lattice.{RisesBy};
 ghost use Rattle.curve_conv.specs.ConvolveCall.{IsConvolveFrame};
 
-use crate::{is_slower_curve, late_periods, most_periods};
-use curve_call::{CallWindow, Frame, answer, first_window, rise_over, within};
+use crate::{is_slower_curve, late_bounds, late_periods};
+use curve_call::{CallWindow, Frame, answer, first_window, refuse_between, rise_over, within};
 use element_envelope::window_convolution;
 use fraction128::{Frac, difference};
 use std::alloc::{AllocError, Global};
@@ -61,24 +60,69 @@ fn convolved_within(alloc: Global, f: &Curve, g: &Curve, frame: &Frame) -> Resul
     )
 }
 
-// Whether the tally is over its limit, where that is known without a scan: the tally with no period is, and with
-// enough periods the gauge is not.
-fn is_many(f: &Curve, g: &Curve, first: &CallWindow, from: Frac) -> bool
+// The frame with the least number of periods.
+fn least_frame(
+    alloc: Global,
+    f: &Curve,
+    g: &Curve,
+    first: &CallWindow,
+    from: Frac,
+) -> Result<Frame, OpFault>
     requires curves { IsCurve f.now × IsCurve g.now }
     requires window { IsFirstWindow Convolve f.now g.now first.now }
     requires from { from ≡ first.now.end -ℚ first.now.period }
-    ensures { IsTrue result → IsTooMany Convolve f.now g.now }
+    ensures frame { IfOk result (IsConvolveFrame f.now g.now) }
+    ensures limits { KeepsLimits Convolve f.now g.now result }
+{
+    let Some(periods) = late_periods(alloc, f, g, from, first.period, first.end) else {
+        return Err(OpFault::TooWide);
+    };
+    within(&OpKind::Convolve, f, g, periods)
+}
+
+// The frame with the upper bound of the number of periods, where the call is within both limits with it, and not much
+// larger than with none; else none, as where there are no bounds. Refused where both bounds tell it.
+fn frame_between(
+    f: &Curve,
+    g: &Curve,
+    first: &CallWindow,
+    from: Frac,
+) -> Result<Option<Frame>, OpFault>
+    requires curves { IsCurve f.now × IsCurve g.now }
+    requires window { IsFirstWindow Convolve f.now g.now first.now }
+    requires from { from ≡ first.now.end -ℚ first.now.period }
+    ensures frame { IfOk result (λ o. IfSome o (λ r. IsConvolveFrame f.now g.now r × IsWithin Convolve f.now g.now)) }
+    ensures refused { IfErr result (IsCauseOf Convolve f.now g.now) }
 {
     let kind = OpKind::Convolve;
-    if tally_over(&kind, f, g, first.end) <= 1 << 20 {
-        return false;
-    }
-    let Some(most) = most_periods(f, g, from, first.period, first.end) else {
-        return false;
+    let Some(bounds) = late_bounds(f, g, from, first.period, first.end) else {
+        return Ok(None);
     };
-    match within(&kind, f, g, most) {
-        Err(OpFault::TooMany) => true,
-        _ => false,
+    refuse_between(&kind, f, g, bounds.low, bounds.high)?;
+    match within(&kind, f, g, bounds.high) {
+        Ok(frame) => {
+            // To look for the least number costs a few times the pairs of the first window.
+            if tally_over(&kind, f, g, frame.end) / 4 > tally_over(&kind, f, g, first.end) {
+                return Ok(None);
+            }
+            Ok(Some(frame))
+        }
+        Err(_) => Ok(None),
+    }
+}
+
+/// The frame of the call, with a number of periods that is enough for the slower curve's part to have the least sums.
+/// Refused with TooWide or TooMany exactly where the call is over that limit. The least number is looked for only where
+/// bounds of it tell too little.
+pub fn convolve_frame(alloc: Global, f: &Curve, g: &Curve) -> Result<Frame, OpFault>
+    ensures frame { IfOk result (IsConvolveFrame f.now g.now) }
+    ensures limits { KeepsLimits Convolve f.now g.now result }
+{
+    let first = first_window(&OpKind::Convolve, f, g)?;
+    let from = difference(first.end, first.period);
+    match frame_between(f, g, &first, from)? {
+        Some(frame) => Ok(frame),
+        None => least_frame(alloc, f, g, &first, from),
     }
 }
 
@@ -98,16 +142,7 @@ pub fn convolve<L: Ledger>(
     ensures limits { KeepsLimits Convolve f.now g.now result }
 {
     steps.tick();
-    let kind = OpKind::Convolve;
-    let first = first_window(&kind, f, g)?;
-    let from = difference(first.end, first.period);
-    if is_many(f, g, &first, from) {
-        return Err(OpFault::TooMany);
-    }
-    let Some(periods) = late_periods(alloc, f, g, from, first.period, first.end) else {
-        return Err(OpFault::TooWide);
-    };
-    let frame = within(&kind, f, g, periods)?;
+    let frame = convolve_frame(alloc, f, g)?;
     match convolved_within(alloc, f, g, &frame) {
         Ok(c) => Ok(c),
         Err(_) => Err(OpFault::NoMemory),

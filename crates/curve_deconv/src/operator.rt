@@ -7,7 +7,6 @@ ghost use Rattle.upp_curve.specs.Curve.{value_at};
 ghost use Rattle.upp_curve.specs.Curves.{IsCurve};
 ghost use Rattle.min_plus.specs.Convolution.{IsDeconvolution};
 ghost use Rattle.min_plus.specs.Functions.{IsFinite};
-ghost use Rattle.upp_limits.specs.Periods.{period_of, period_or};
 ghost use Rattle.upp_curve.specs.Steady.{rate, steady};
 ghost use Rattle.upp_limits.specs.Outcome.{KeepsLimits};
 ghost use Rattle.upp_limits.specs.declared.op_kind.OpKind.TheVariants.{Deconvolve};
@@ -16,26 +15,15 @@ ghost use Rattle.curve_call.specs.Times.{OneLaterFits};
 
 use crate::window::window_deconvolution;
 use curve_call::{Frame, answer, begin, rise_over, within};
-use curve_least::{Side, is_slower};
+use curve_least::{Side, is_slower, period_or};
 use curve_pointwise::infinite_curve;
-use fraction128::{Frac, difference};
+use fraction128::difference;
 use std::alloc::{AllocError, Global};
 use std::sync::ledger::Ledger;
 use steps::Steps;
-use upp_curve::{Curve, Tail};
+use upp_curve::Curve;
 use upp_limits::{OpFault, OpKind};
 use upp_normal::unrolled;
-
-// The period of f, and `other` where it has every period.
-fn period_or(f: &Curve, other: Frac) -> Frac
-    ensures { result ≡ period_or other (period_of f.now.tail) }
-{
-    match f.tail() {
-        Tail::Periodic { period, .. } => *period,
-        Tail::Affine { .. } => other,
-        Tail::Infinite { .. } => other,
-    }
-}
 
 // The deconvolution of two curves in a call within both limits, where the first is not the faster.
 fn deconvolved_within(

@@ -24,6 +24,7 @@ use Rattle.upp_limits.specs.Limits.{Sizes, curve_numbers}
 use Rattle.upp_limits.specs.Sized.{Stands}
 use Rattle.upp_limits.specs.Windows.{IsLeast, Meets}
 use Rattle.upp_normal.specs.Operand.{AreLimited}
+use Rattle.upp_normal.proofs.AnswerRoom.{value_difference_stands}
 use Rattle.curve_call.specs.Rises.{CurveRiseFits}
 use Rattle.curve_call.specs.declared.windows.CallWindow.{CallWindow}
 use Rattle.curve_call.proofs.CurveRises.{IsRise, rise_is}
@@ -33,7 +34,7 @@ use Rattle.curve_least.specs.Compared.{IsLookedAt}
 use Rattle.curve_least.specs.GapSteps.{earlier_of}
 use Rattle.curve_least.proofs.FoundCurves.{curve_goes}
 use Rattle.curve_least.proofs.GapWalk.{steps_left}
-use Rattle.curve_least.proofs.LeastNumber.{lead_stands, times_small}
+use Rattle.curve_least.proofs.LeastNumber.{times_small}
 use Rattle.curve_least.proofs.OwnPeriods.{OwnPeriod, own_period_is}
 use Rattle.curve_least.proofs.Shifts.{below_in}
 use Rattle.curve_envelope.specs.Behind.{moved, IsBehindCall, IsMost}
@@ -157,7 +158,7 @@ most_fits f g theta w G some =
     let b = right_rise f g theta w.start w.period w.end 0 z L in
     let r = own_rise f g theta w G in
     times_small z w.end (rise_over f (own_or w.period f)) (rise_over f w.period -ℚ rise_over g w.period) 3 L.limited (omega arith) record { whole = r.whole; within = r.within }
-    (lead_stands z (rise_over f w.period) (rise_over g w.period) record { whole = a.whole; within = a.within } record { whole = b.whole; within = b.within }) some
+    (value_difference_stands z (rise_over f w.period) (rise_over g w.period) record { whole = a.whole; within = a.within } record { whole = b.whole; within = b.within }) some
 
 -- ---- above it nowhere more than it rises over that
 above : (f g : SpecCurve) (theta : ℚ) (w : CallWindow) (t : ℚ) → IsLeftGate f g theta w → w.start ≤ℚ t → moved (value_at g) theta t ≤ₑ value_at f t +ₑ Fin (rise_over f (own_or w.period f))

@@ -26,8 +26,8 @@ use Rattle.curve_least.proofs.GapThere.{gap_there}
 use Rattle.curve_least.proofs.LeastNumber.{number_zero, number_least, largest_finite, lead_is, compared_window, IsBelowAfter, after_in, after_out, least_none, least_endless, least_gap}
 
 -- ---- it is there
-some_number : (q e : ℚ) → int (pos 0) <ℚ e → (k : ℕ) × IsLeast (λ i. q ≤ℚ int (pos i) *ℚ e) k
-some_number q e lead = elim (le_or_lt q (int (pos 0))) [ inl l ↦ (0, number_zero q e l) | inr l ↦ (size_up (q /ℚ e), number_least q e l lead) ]
+pub least_found : (q e : ℚ) → int (pos 0) <ℚ e → (k : ℕ) × IsLeast (λ i. q ≤ℚ int (pos i) *ℚ e) k
+least_found q e lead = elim (le_or_lt q (int (pos 0))) [ inl l ↦ (0, number_zero q e l) | inr l ↦ (size_up (q /ℚ e), number_least q e l lead) ]
 
 least_of : (z : Sizes) (from d : ℚ) (slow fast : SpecCurve) (k : ℕ) (gap : Gap) → rate slow <ₑ rate fast → AreCompared z from d slow fast → IsBelowAfter slow fast from d k
     → IsGap (InWindow from (from +ℚ d)) (value_at slow) (value_at fast) gap → (n : ℕ) × IsLeast (IsBelowAfter slow fast from d) n
@@ -36,7 +36,7 @@ least_of z from d slow fast k Never faster C enough G = absurd (least_endless z 
 least_of z from d slow fast k (Is q) faster C enough G =
     let finite = largest_finite from (from +ℚ d) q slow fast G in
     let L = lead_is z from d slow fast faster C finite.0 finite.1 in
-    let (n, least) = some_number q (rise_over fast d -ℚ rise_over slow d) L.some in
+    let (n, least) = least_found q (rise_over fast d -ℚ rise_over slow d) L.some in
     (n, least_gap z from d slow fast q n C.first.curve C.second.curve C G least)
 
 some_least : (z : Sizes) (from d : ℚ) (slow fast : SpecCurve) (k : ℕ) → rate slow <ₑ rate fast → AreCompared z from d slow fast → IsBelowAfter slow fast from d k → (n : ℕ) × IsLeast (IsBelowAfter slow fast from d) n

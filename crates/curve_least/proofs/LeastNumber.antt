@@ -3,14 +3,14 @@ use Rattle.std.specs.Prelude.{◌≡◌, ℕ, pos, ◌≤◌}
 use Rattle.std.proofs.Common.{arith, sym, ◌∙◌, refl, subst, inl, inr}
 use Rattle.rational.specs.Rational.{ℚ, ◌+ℚ◌, ◌-ℚ◌, ◌*ℚ◌, ◌/ℚ◌, ◌≤ℚ◌, ◌<ℚ◌, int, neg_ℚ}
 use Rattle.rational.specs.Ratio.{IsSmall, SumFits}
-use Rattle.rational.specs.Grid.{Whole, Within}
+use Rattle.rational.specs.Grid.{Whole}
 use Rattle.rational.specs.Gauge.{size_up}
 use Rattle.rational.specs.Extended.{Ext, ◌≤ₑ◌, ◌<ₑ◌, ◌+ₑ◌}
 use Rattle.rational.specs.declared.Extended.TheVariants.{Fin, Inf}
 use Rattle.rational.proofs.Linear.{with1, with2}
 use Rattle.rational.proofs.Laws.{le_trans, le_of_lt, not_zero, mul_lt_mul_right, zero_mul}
 use Rattle.rational.proofs.Quotients.{div_le, div_nonneg}
-use Rattle.rational.proofs.Grid.{whole_sub, whole_neg, within_nonneg, within_neg, within_sub}
+use Rattle.rational.proofs.Grid.{whole_sub, whole_neg, within_nonneg, within_neg}
 use Rattle.rational.proofs.ExtendedOrder.{same_le_ext, finite_below, finite_sum}
 use Rattle.upp_curve.specs.Curve.{SpecCurve, value_at}
 use Rattle.upp_curve.specs.Curves.{IsCurve}
@@ -34,7 +34,7 @@ use Rattle.curve_least.proofs.GapParts.{within_none}
 use Rattle.curve_least.proofs.Rises.{rate_rise, infinite_value, has_window, from_low}
 use Rattle.curve_least.proofs.RiseSizes.{rise_stands}
 use Rattle.upp_normal.proofs.UnrollSteps.{ext_cases}
-use Rattle.upp_normal.proofs.AnswerRoom.{wide_narrow}
+use Rattle.upp_normal.proofs.AnswerRoom.{wide_narrow, value_difference_stands}
 use Rattle.upp_curve.proofs.SteadyTimes.{rank_early}
 
 -- ---- the number
@@ -126,12 +126,6 @@ lead_fits z end x y A R S =
 six : (v : ℚ) → int (pos 3) *ℚ v +ℚ int (pos 3) *ℚ v ≡ int (pos 6) *ℚ v
 six v = with1 v (λ c. omega (arith, c.le, c.lt, c.same))
 
-pub lead_stands : (z : Sizes) (x y : ℚ) → IsGridValue z x → IsGridValue z y → AnswerValue z 6 (x -ℚ y)
-lead_stands z x y R S = record {
-  whole = whole_sub (grid_of z) x y R.whole S.whole;
-  within = subst (λ m. Within m (x -ℚ y)) (six (int (pos z.largest))) (within_sub (times_largest 3 z) (times_largest 3 z) x y R.within S.within);
-}
-
 pub times_small : (z : Sizes) (end q e : ℚ) (k : ℕ) → AreLimited z end → k ≤ 31 → AnswerValue z k q → AnswerValue z 6 e → int (pos 0) <ℚ e → IsSmall (q /ℚ e)
 times_small z end q e k A few Q E some = small_quotient z end k 6 q e A few (omega arith) (not_zero e some) Q.whole E.whole Q.within E.within
 
@@ -139,7 +133,7 @@ pub gap_answer : (z : Sizes) (q : ℚ) → IsGapValue z q → AnswerValue z 6 q
 gap_answer z q Q = record { whole = Q.whole; within = Q.within }
 
 pub number_fits : (z : Sizes) (end q x y : ℚ) → AreLimited z end → IsGapValue z q → IsGridValue z x → IsGridValue z y → int (pos 0) <ℚ x -ℚ y → IsSmall (q /ℚ (x -ℚ y))
-number_fits z end q x y A Q R S some = times_small z end q (x -ℚ y) 6 A (omega arith) (gap_answer z q Q) (lead_stands z x y R S) some
+number_fits z end q x y A Q R S some = times_small z end q (x -ℚ y) 6 A (omega arith) (gap_answer z q Q) (value_difference_stands z x y R S) some
 
 -- ---- the window
 pub end_fits : (z : Sizes) (from d : ℚ) (slow fast : SpecCurve) → IsCurve slow → AreCompared z from d slow fast → SumFits from d

@@ -36,15 +36,15 @@ use Rattle.curve_least.proofs.LeastNumber.{largest_finite, rise_small}
 use Rattle.curve_least.proofs.OwnPeriods.{own_period_is, own_looked, looked_window, first_looked, second_looked}
 
 -- ---- a time, moved back into the first period
-record Back (f : ℚ → Ext) (from p a t : ℚ) : Type 0 where
-  number : ℕ
-  early : ℚ
-  among : InWindow from (from +ℚ p) early
-  low : int (pos number) *ℚ p ≤ℚ t -ℚ from
-  high : t -ℚ from ≤ℚ int (pos number) *ℚ p +ℚ p
-  is : f t ≡ f early +ₑ Fin (int (pos number) *ℚ a)
+pub record Back (f : ℚ → Ext) (from p a t : ℚ) : Type 0 where
+  pub number : ℕ
+  pub early : ℚ
+  pub among : InWindow from (from +ℚ p) early
+  pub low : int (pos number) *ℚ p ≤ℚ t -ℚ from
+  pub high : t -ℚ from ≤ℚ int (pos number) *ℚ p +ℚ p
+  pub is : f t ≡ f early +ₑ Fin (int (pos number) *ℚ a)
 
-moved_back : (f : ℚ → Ext) (from p a t : ℚ) → int (pos 0) <ℚ p → Repeats f from p a → from ≤ℚ t → Back f from p a t
+pub moved_back : (f : ℚ → Ext) (from p a t : ℚ) → int (pos 0) <ℚ p → Repeats f from p a → from ≤ℚ t → Back f from p a t
 moved_back f from p a t some R h =
     let n = periods from p t in
     let y = int (pos n) *ℚ p in
@@ -62,7 +62,7 @@ moved_back f from p a t some R h =
     }
 
 -- ---- what the slower has gained is at most what the faster has, and a period of it more
-times_rate : (n r p a : ℚ) → r *ℚ p ≡ a → n *ℚ a ≡ r *ℚ (n *ℚ p)
+pub times_rate : (n r p a : ℚ) → r *ℚ p ≡ a → n *ℚ a ≡ r *ℚ (n *ℚ p)
 times_rate n r p a e = ap (λ x. n *ℚ x) (sym e) ∙ sym (mul_assoc n r p) ∙ ap (λ x. x *ℚ p) (mul_comm n r) ∙ mul_assoc r n p
 
 gained : (n m r s p q a b x : ℚ) → r *ℚ p ≡ a → s *ℚ q ≡ b → int (pos 0) ≤ℚ r → r ≤ℚ s → int (pos 0) ≤ℚ x → n *ℚ p ≤ℚ x → x ≤ℚ m *ℚ q +ℚ q → n *ℚ a ≤ℚ m *ℚ b +ℚ b
@@ -104,12 +104,12 @@ most_above f g from p q a b r s top depth T high low t h =
     ])
 
 -- ---- over curves
-own_repeats : (z : Sizes) (from d : ℚ) (c : SpecCurve) → IsLookedAt z from d c → Repeats (value_at c) from (own_or d c) (rise_over c (own_or d c))
+pub own_repeats : (z : Sizes) (from d : ℚ) (c : SpecCurve) → IsLookedAt z from d c → Repeats (value_at c) from (own_or d c) (rise_over c (own_or d c))
 own_repeats z from d c L =
     let P = own_period_is z from d c L in
     record { rule = λ t h. (steady_rule c (own_or d c) L.curve.curve.normal.raw P.periods (le_of_lt P.some)).rule t (le_trans L.curve.steady_by h) }
 
-finite_rate : (z : Sizes) (from d : ℚ) (c : SpecCurve) → IsLookedAt z from d c → IsFiniteLate from c → (r : ℚ) × (rate c ≡ Fin r)
+pub finite_rate : (z : Sizes) (from d : ℚ) (c : SpecCurve) → IsLookedAt z from d c → IsFiniteLate from c → (r : ℚ) × (rate c ≡ Fin r)
 finite_rate z from d c L P = elim (ext_cases (rate c)) [
   | inl e ↦ absurd (not_finite (sym (infinite_value c P.at L.curve.curve e (le_trans L.curve.steady_by P.late)) ∙ P.is))
   | inr h ↦ h
@@ -118,25 +118,25 @@ finite_rate z from d c L P = elim (ext_cases (rate c)) [
     not_finite : {v : ℚ} → Inf ≡ Fin v → ⊥
     not_finite {v} e = subst (λ x. x ≤ₑ Fin v) (sym e) (le_ext_refl (Fin v))
 
-level_is : (l : ℚ) → rate (level_curve l) ≡ Fin (int (pos 0))
+pub level_is : (l : ℚ) → rate (level_curve l) ≡ Fin (int (pos 0))
 unfolding rate
 level_is l = refl
 
-not_falling : (c : SpecCurve) (r : ℚ) → rate c ≡ Fin r → ¬ (rate c <ₑ rate (level_curve (int (pos 0)))) → int (pos 0) ≤ℚ r
+pub not_falling : (c : SpecCurve) (r : ℚ) → rate c ≡ Fin r → ¬ (rate c <ₑ rate (level_curve (int (pos 0)))) → int (pos 0) ≤ℚ r
 not_falling c r e h = elim (le_or_lt (int (pos 0)) r) [
   | inl l ↦ l
   | inr l ↦ absurd (h (subst (λ x. x <ₑ rate (level_curve (int (pos 0)))) (sym e) (subst (λ y. Fin r <ₑ y) (sym (level_is (int (pos 0)))) l)))
 ]
 
-rates_order : (f g : SpecCurve) (r s : ℚ) → rate f ≡ Fin r → rate g ≡ Fin s → rate f <ₑ rate g → r ≤ℚ s
+pub rates_order : (f g : SpecCurve) (r s : ℚ) → rate f ≡ Fin r → rate g ≡ Fin s → rate f <ₑ rate g → r ≤ℚ s
 rates_order f g r s e k h = le_of_lt (subst (λ y. Fin r <ₑ y) k (subst (λ x. x <ₑ rate g) e h))
 
-top_bounds : (c : SpecCurve) (from end q t : ℚ) → int (pos 0) ≤ℚ from → IsLargest (InWindow from end) (value_at c) (value_at (level_curve (int (pos 0)))) q → InWindow from end t → value_at c t ≤ₑ Fin q
+pub top_bounds : (c : SpecCurve) (from end q t : ℚ) → int (pos 0) ≤ℚ from → IsLargest (InWindow from end) (value_at c) (value_at (level_curve (int (pos 0)))) q → InWindow from end t → value_at c t ≤ₑ Fin q
 top_bounds c from end q t low L i =
     let zero : int (pos 0) +ℚ q ≡ q = with1 q (λ c. omega (arith, c.le, c.lt, c.same)) in
     subst (λ v. value_at c t ≤ₑ Fin v) zero (subst (λ v. value_at c t ≤ₑ v +ₑ Fin q) (level_value (int (pos 0)) t (le_trans low i.start)) (L.above t i))
 
-depth_bounds : (c : SpecCurve) (from end q t : ℚ) → int (pos 0) ≤ℚ from → IsLargest (InWindow from end) (value_at (level_curve (int (pos 0)))) (value_at c) q → InWindow from end t
+pub depth_bounds : (c : SpecCurve) (from end q t : ℚ) → int (pos 0) ≤ℚ from → IsLargest (InWindow from end) (value_at (level_curve (int (pos 0)))) (value_at c) q → InWindow from end t
     → Fin (int (pos 0)) ≤ₑ value_at c t +ₑ Fin q
 depth_bounds c from end q t low L i = subst (λ v. v ≤ₑ value_at c t +ₑ Fin q) (level_value (int (pos 0)) t (le_trans low i.start)) (L.above t i)
 

@@ -30,8 +30,8 @@ pub struct Bounds {
     pub high: u128,
 }
 
-// The level 0.
-fn zero_level<'a>() -> Side<'a>
+/// The level 0.
+pub fn zero_level<'a>() -> Side<'a>
     ensures { result ≡ level_curve (int (pos 0)) }
 {
     Side::level(Frac::zero())

@@ -46,7 +46,7 @@ pub(crate) fn lead_over(slow: &Side, fast: &Side, from: Frac, period: Frac) -> F
 }
 
 /// The least number k with gap at most k times the lead.
-pub(crate) fn least_times(gap: Frac, lead: Frac) -> u128
+pub fn least_times(gap: Frac, lead: Frac) -> u128
     requires some { int (pos 0) <ℚ lead }
     requires fits { IsSmall (gap /ℚ lead) }
     ensures { IsLeast (λ k. gap ≤ℚ int (pos k) *ℚ lead) result }

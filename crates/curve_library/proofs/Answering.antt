@@ -1,11 +1,12 @@
 -- From what each answer says to which answer comes when.
-use Rattle.std.specs.Prelude.{◌≡◌, ◌≢◌, ◌≤◌, ◌^◌, Result, Ok, Err, IfOk}
+use Rattle.std.specs.Prelude.{◌≢◌, ◌≤◌, ◌^◌, Result, Ok, Err, IfOk}
 use Rattle.std.proofs.Common.{arith, sym, ap, refl, subst}
 use Rattle.upp_curve.specs.Curve.{SpecCurve}
 use Rattle.upp_limits.specs.Limits.{own_tally}
 use Rattle.upp_limits.specs.declared.own_limits.OverLimit.{OverLimit}
 use Rattle.upp_limits.specs.declared.own_limits.OverLimit.TheVariants.{TooMany, TooWide}
 use Rattle.upp_limits.specs.OwnLimits.{IsOver, IsWithinOwn}
+use Rattle.upp_limits.proofs.OneLimit.{one_limit}
 use Rattle.curve_library.specs.declared.fault.CurveFault.{CurveFault}
 use Rattle.curve_library.specs.declared.fault.CurveFault.TheVariants.{Negative, ZeroPeriod, NotRising, NotContinuous, NotZeroAtStart, Op, NoMemory}
 use Rattle.curve_library.specs.Causes.{KeepsOwnLimits, Passes, KeepsCauses, AnswersFirst}
@@ -14,13 +15,6 @@ use Rattle.curve_library.specs.Causes.{KeepsOwnLimits, Passes, KeepsCauses, Answ
 pub over_within : (c : SpecCurve) (limit : OverLimit) → IsOver c limit → IsWithinOwn c → ⊥
 over_within c TooWide h w = let n = w.narrow in omega (arith, h, n)
 over_within c TooMany h w = let f = w.few in let m = h.1 in omega (arith, f, m)
-
--- nor over two
-pub one_limit : (c : SpecCurve) (a b : OverLimit) → IsOver c a → IsOver c b → a ≡ b
-one_limit c TooWide TooWide h k = refl
-one_limit c TooMany TooMany h k = refl
-one_limit c TooWide TooMany h k = let n = k.0 in absurd (omega (arith, h, n))
-one_limit c TooMany TooWide h k = let n = h.0 in absurd (omega (arith, k, n))
 
 -- past the causes the limits decide
 pub causes_of : (N Z : Type 0) (c : SpecCurve) (r : Result SpecCurve CurveFault) → Passes N Z → KeepsOwnLimits c r → KeepsCauses N Z c r

@@ -7,7 +7,7 @@ use Rattle.rational.specs.Ratio.{IsSmall}
 use Rattle.rational.specs.Grid.{Whole, Within}
 use Rattle.rational.specs.Extended.{Ext, ◌≤ₑ◌}
 use Rattle.rational.proofs.Grid.{whole_neg, within_neg, whole_add, within_add}
-use Rattle.rational.proofs.Linear.{with1, with2}
+use Rattle.rational.proofs.Linear.{with2}
 use Rattle.rational.proofs.Laws.{le_refl, le_of_lt, le_trans, one_mul, sub_add}
 use Rattle.affine_segment.specs.declared.line.Piece.{Piece}
 use Rattle.affine_segment.specs.Values.{line_value}
@@ -37,10 +37,11 @@ use Rattle.curve_library.specs.declared.texts.UseAs.TheVariants.{Arrival, Servic
 use Rattle.curve_library.specs.declared.fault.CurveFault.{CurveFault}
 use Rattle.curve_library.specs.declared.fault.CurveFault.TheVariants.{Negative, ZeroPeriod, NotRising, NotContinuous, NotZeroAtStart, Op, NoMemory}
 use Rattle.curve_library.specs.Listed.{text_line, text_piece, text_pieces, text_tail, last_from, listed_curve, LineFits, IsNonnegText, IsWellFormed, HasShape, Jumps, StartsAboveZero, KeepsShape, KeepsBoth, KeepsListed, ListsFirst, TextFits, IsPiecesFault}
-use Rattle.curve_library.proofs.Answering.{over_within, one_limit}
+use Rattle.curve_library.proofs.Answering.{over_within}
 use Rattle.curve_library.proofs.OwnParts.{Held, held, too_wide, run_small}
 use Rattle.upp_limits.proofs.KnownNumbers.{two_ones}
 use Rattle.affine_segment.proofs.PieceIn.{read_is}
+use Rattle.upp_limits.proofs.OneLimit.{one_limit}
 
 -- ---- a well-formed list is a curve in some form
 last_most : (p : PieceText) (ps : List PieceText) → RisesFrom p.x (text_pieces ps) → (p.x ≤ℚ last_from p ps) × Each (λ q. q.x ≤ℚ last_from p ps) (text_pieces ps)

@@ -1,17 +1,15 @@
 -- A time and a period on their common grid, and the quotient and the rest of the two there.
-use Rattle.std.specs.Prelude.{◌≡◌, ◌≢◌, ℕ, zero, suc, ◌+◌, ◌*◌, ◌/◌, ◌%◌, ◌<◌, ◌≤◌, ◌^◌, ℤ, pos, negsuc, ◌*ℤ◌, ◌≤ℤ◌, nat_abs}
+use Rattle.std.specs.Prelude.{◌≡◌, ◌≢◌, ℕ, zero, suc, ◌+◌, ◌*◌, ◌/◌, ◌%◌, ◌<◌, ◌≤◌, ◌^◌, ℤ, pos, ◌*ℤ◌, ◌≤ℤ◌, nat_abs}
 use Rattle.std.proofs.Common.{arith, sym, ap, ap₂, ◌∙◌, refl, subst}
-use Rattle.std.proofs.lemmas.Int.{ints}
 use Prim.Native.Nat.{◌∣◌}
 use Rattle.std.proofs.Math.Nat.{div-mul_cancel, div-add-mod, mod-lt}
 use Rattle.rational.specs.Rational.{ℚ, den, int, ◌+ℚ◌, ◌-ℚ◌, ◌*ℚ◌, ◌/ℚ◌, ◌≤ℚ◌, ◌<ℚ◌}
 use Rattle.rational.specs.Fractions.{frac_self}
-use Rattle.rational.specs.Ratio.{ratio, IsSmall}
-use Rattle.rational.proofs.Parts.{small_ratio}
+use Rattle.rational.specs.Ratio.{ratio}
 use Rattle.rational.specs.Gauge.{lcm}
 use Rattle.rational.specs.Whole.{whole_part}
 use Rattle.rational.proofs.Linear.{with3}
-use Rattle.rational.proofs.Laws.{num_nonneg, mul_pos, mul_assoc, div_mul, not_zero, mul_cancel, le_of_mul, lt_of_mul, le_of_lt, sub_mul, add_mul}
+use Rattle.rational.proofs.Laws.{num_nonneg, mul_pos, mul_assoc, div_mul, not_zero, mul_cancel, le_of_mul, lt_of_mul, le_of_lt, sub_mul, add_mul, nonneg_int}
 use Rattle.rational.proofs.Integers.{int_mul, int_add, nat_le, nat_lt, nat_lt_out}
 use Rattle.rational.proofs.Quotients.{frac_is_div}
 use Rattle.rational.proofs.Multiples.{lcm_left, lcm_right, lcm_pos}
@@ -19,7 +17,6 @@ use Rattle.rational.proofs.Gauges.{den_pos}
 use Rattle.min_plus.specs.Functions.{zero_q}
 use Rattle.upp_kinds.proofs.StairValues.{whole_ratio}
 use Rattle.curve_library.specs.Shares.{IsQuotient, SharesFit, AreShares}
-use Rattle.upp_limits.proofs.LongCrosses.{nat_of}
 
 nat_some : (n : ℕ) → 0 < n → zero_q <ℚ int (pos n)
 nat_some n h = nat_lt 0 n h
@@ -39,7 +36,7 @@ on_multiple q k g e =
 
 -- a number from 0 on, in steps of 1 / g
 pub steps_on : (q : ℚ) (g : ℕ) → zero_q ≤ℚ q → den q ∣ g → q *ℚ int (pos g) ≡ int (pos (nat_abs q.num * (g / den q)))
-steps_on q g h d = on_multiple q (g / den q) g (div-mul_cancel (den q) d) ∙ ap (λ z. int (z *ℤ pos (g / den q))) (nat_of q.num (num_nonneg q h))
+steps_on q g h d = on_multiple q (g / den q) g (div-mul_cancel (den q) d) ∙ ap (λ z. int (z *ℤ pos (g / den q))) (nonneg_int q.num (num_nonneg q h))
 
 -- ---- a time and a period on one grid
 pub record OnOneGrid (J P : ℚ) (g A B : ℕ) : Type 0 where
@@ -120,14 +117,6 @@ count_far J P g B h k e b far F =
 
 pub step_some : (J P : ℚ) (g B : ℕ) → zero_q ≤ℚ J → zero_q <ℚ P → g ≡ lcm (den J) (den P) → B ≡ nat_abs P.num * (g / den P) → 0 < B
 step_some J P g B h k e b = period_some J P g (nat_abs J.num * (g / den J)) B k (on_one_grid J P g (nat_abs J.num * (g / den J)) B h k e refl b)
-
--- ---- a fraction of small parts
-pub parts_small : (n g : ℕ) → 0 < g → n < 2 ^ 127 → g < 2 ^ 127 → IsSmall (int (pos n) /ℚ int (pos g))
-parts_small n zero h k l = absurd (omega (arith, h))
-parts_small n (suc d) h k l = subst IsSmall (frac_is_div (pos n) d) (small_ratio (pos n) (pos (suc d)) (λ e. absurd (zero-not-suc d (ap nat_abs e))) k l)
-  where
-    zero-not-suc : (d : ℕ) → suc d ≡ 0 → ⊥
-    zero-not-suc d e = omega (arith, e)
 
 pub grid_some : (x : ℚ) (g : ℕ) → x ≡ int (pos g) → 0 < g → x ≢ zero_q
 grid_some x g e h k = not_zero (int (pos g)) (nat_some g h) (sym e ∙ k)

@@ -24,9 +24,6 @@ pub none_negative : (x y : ℚ) → zero_q ≤ℚ x → zero_q ≤ℚ y → OneN
 none_negative x y h k (inl l) = lt_irrefl x (lt_le_trans l h)
 none_negative x y h k (inr l) = lt_irrefl y (lt_le_trans l k)
 
-pub not_below : (x y : ℚ) → x ≤ℚ y → y <ℚ x → ⊥
-not_below x y h l = lt_irrefl y (lt_le_trans l h)
-
 pub positive_out : (b : Bool) (x : ℚ) → (IsTrue b ↔ (zero_q <ℚ x)) → b ≡ true → zero_q <ℚ x
 positive_out b x h e = h.0 e
 

@@ -84,19 +84,11 @@ pub(crate) fn whole_periods(time: Frac, period: Frac) -> Option<Share>
     }
     let step = numerator_on(period, grid)?;
     let finer = grid / time.denominator();
-    let (count, rest) = product_quotient(top_size(time), finer, step)?;
+    let (count, rest) = product_quotient(time.numerator_size(), finer, step)?;
     Some(Share {
         count,
         rest: on_grid(rest, grid),
     })
-}
-
-/// The size of the numerator.
-fn top_size(x: Frac) -> u128
-    ensures is { result ≡ nat_abs x.num }
-    ensures small { result < 2 ^ 127 }
-{
-    x.numerator().unsigned_abs()
 }
 
 /// A whole number.
@@ -112,7 +104,7 @@ fn numerator_on(x: Frac, grid: u128) -> Option<u128>
     ensures { let n = nat_abs x.num * (grid / den x) in MatchOption result (2 ^ 127 ≤ n)
         (λ k. (k ≡ n) × (k < 2 ^ 127)) }
 {
-    match top_size(x).checked_mul(grid / x.denominator()) {
+    match x.numerator_size().checked_mul(grid / x.denominator()) {
         Some(n) if n < PAST_LARGEST => Some(n),
         _ => None,
     }

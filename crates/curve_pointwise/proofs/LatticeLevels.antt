@@ -51,6 +51,7 @@ use Rattle.curve_pointwise.specs.LatticeCall.{LatticeCall, IsLatticeFrame}
 use Rattle.curve_pointwise.proofs.LatticeCalls.{call_from, at_times, compared}
 use Rattle.curve_least.proofs.EitherOrder.{IsEnough}
 use Rattle.upp_limits.proofs.Copies.{plus_zero}
+use Rattle.curve_least.proofs.MostAbove.{level_is}
 
 -- ---- a level is steady from 0 on
 
@@ -104,10 +105,6 @@ minus_compared l f w F W =
 abbrev Enough : ℚ → SpecCurve → ℚ → ℚ → ℕ → Type 0
 Enough l f from d k = IsSlowerBelow (value_at f) (value_at (level_curve l)) (rate f) (rate (level_curve l)) (periods_after from k d) d
 
-level_rate : (l : ℚ) → rate (level_curve l) ≡ Fin (int (pos 0))
-unfolding rate
-level_rate l = refl
-
 below_out : (l from d : ℚ) (f : ℚ → Ext) → int (pos 0) ≤ℚ from → IsBelowFor f (value_at (level_curve l)) from d → IsBelowFor f (λ t. Fin l) from d
 below_out l from d f low B t a b = subst (λ v. f t ≤ₑ v) (level_value l t (le_trans low a)) (B t a b)
 
@@ -122,14 +119,14 @@ above_in l from d f low B t a b = subst (λ v. v ≤ₑ f t) (sym (level_value l
 
 meets_out : (l : ℚ) (f : SpecCurve) (k : ℕ) → int (pos 0) ≤ℚ periods_after (steady f) k (own_period f) → Enough l f (steady f) (own_period f) k → Meets (PosMinus l) f f k
 meets_out l f k low E = record {
-  first = λ h. below_out l (periods_after (steady f) k (own_period f)) (own_period f) (value_at f) low (E.first (subst (λ r. rate f <ₑ r) (sym (level_rate l)) h));
-  second = λ h. above_out l (periods_after (steady f) k (own_period f)) (own_period f) (value_at f) low (E.second (subst (λ r. r <ₑ rate f) (sym (level_rate l)) h));
+  first = λ h. below_out l (periods_after (steady f) k (own_period f)) (own_period f) (value_at f) low (E.first (subst (λ r. rate f <ₑ r) (sym (level_is l)) h));
+  second = λ h. above_out l (periods_after (steady f) k (own_period f)) (own_period f) (value_at f) low (E.second (subst (λ r. r <ₑ rate f) (sym (level_is l)) h));
 }
 
 meets_in : (l : ℚ) (f : SpecCurve) (k : ℕ) → int (pos 0) ≤ℚ periods_after (steady f) k (own_period f) → Meets (PosMinus l) f f k → Enough l f (steady f) (own_period f) k
 meets_in l f k low M = record {
-  first = λ h. below_in l (periods_after (steady f) k (own_period f)) (own_period f) (value_at f) low (M.first (subst (λ r. rate f <ₑ r) (level_rate l) h));
-  second = λ h. above_in l (periods_after (steady f) k (own_period f)) (own_period f) (value_at f) low (M.second (subst (λ r. r <ₑ rate f) (level_rate l) h));
+  first = λ h. below_in l (periods_after (steady f) k (own_period f)) (own_period f) (value_at f) low (M.first (subst (λ r. rate f <ₑ r) (level_is l) h));
+  second = λ h. above_in l (periods_after (steady f) k (own_period f)) (own_period f) (value_at f) low (M.second (subst (λ r. r <ₑ rate f) (level_is l) h));
 }
 
 late : (l : ℚ) (f : SpecCurve) (w : CallWindow) (k : ℕ) → IsCurve f → IsFirstWindow (PosMinus l) f f w → int (pos 0) ≤ℚ periods_after (steady f) k (own_period f)
@@ -186,13 +183,13 @@ minus_frame l f w k r W L h =
 pub minus_rise : (l : ℚ) (f : SpecCurve) (gaining : Type 0) (d rise : ℚ) → (gaining → Fin (int (pos 0)) <ₑ rate f) → (Fin (int (pos 0)) <ₑ rate f → gaining) → RisesBy gaining (rise_over f d) (int (pos 0)) rise
     → IsTailRise Excess f (level_curve l) (rise_over f d) (rise_over (level_curve l) d) rise
 minus_rise l f gaining d rise out in_ R =
-    let none : rise_over (level_curve l) d ≡ int (pos 0) = sym (rate_rise (level_curve l) d (int (pos 0)) (level_rate l)) ∙ zero_mul d in
+    let none : rise_over (level_curve l) d ≡ int (pos 0) = sym (rate_rise (level_curve l) d (int (pos 0)) (level_is l)) ∙ zero_mul d in
     let a = rise_over f d in
     let b = rise_over (level_curve l) d in
     let alone : a ≡ a -ℚ b = with2 a b (λ c. omega (arith, c.le, c.lt, c.same)) in
     record {
-      so = λ h. R.so (in_ (subst (λ r. r <ₑ rate f) (level_rate l) h)) ∙ alone;
-      else = λ n. R.else (λ g. n (subst (λ r. r <ₑ rate f) (sym (level_rate l)) (out g)));
+      so = λ h. R.so (in_ (subst (λ r. r <ₑ rate f) (level_is l) h)) ∙ alone;
+      else = λ n. R.else (λ g. n (subst (λ r. r <ₑ rate f) (sym (level_is l)) (out g)));
     }
 
 -- ---- the value

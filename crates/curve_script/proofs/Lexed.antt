@@ -9,6 +9,7 @@ use Rattle.curve_script.specs.declared.token.ByteClass.{ByteClass}
 use Rattle.curve_script.specs.declared.token.ByteClass.TheVariants.{InWord, Blank, SignOf, Foreign}
 use Rattle.curve_script.specs.Tokens.{Token, Word, Mark, is_letter, is_digit, is_word_byte, sign_byte, starts_word, Says, nothing, space, sign, word}
 use Rattle.curve_script.specs.Lexing.{class_of, joined, with_byte, lex}
+use Rattle.std.proofs.lemmas.Bool.{and_parts}
 
 pub class-word : (b : ℕ) → is_word_byte b ≡ true → class_of b ≡ InWord
 unfolding class_of
@@ -36,28 +37,20 @@ space_ends : is_word_byte 32 ≡ false
 unfolding is_word_byte is_letter is_digit
 space_ends = refl
 
-and_left : (a b : Bool) → (a && b) ≡ true → a ≡ true
-and_left true b e = refl
-and_left false b e = e
-
-and_right : (a b : Bool) → (a && b) ≡ true → b ≡ true
-and_right true b e = e
-and_right false b e = absurd cc
-
 -- the tokens of a word and what follows it
 pub lex-word : (b : ℕ) (bs rest : List ℕ) → list_all is_word_byte (b ∷ bs) ≡ true → starts_word rest ≡ false
     → lex (b ∷ (bs ++ rest)) ≡ option_map (λ tokens. Word (b ∷ bs) ∷ tokens) (lex rest)
 lex-word b [] rest e f =
-    let here : class_of b ≡ InWord = class-word b (and_left (is_word_byte b) true e) in
+    let here : class_of b ≡ InWord = class-word b (and_parts (is_word_byte b) true e).0 in
     rw here (rw f (go (lex rest)))
   where
     go : (o : Option (List Token)) → with_byte InWord b false o ≡ option_map (λ tokens. Word (b ∷ []) ∷ tokens) o
     go None = refl
     go (Some tokens) = refl
 lex-word b (c ∷ bs) rest e f =
-    let here : class_of b ≡ InWord = class-word b (and_left (is_word_byte b) (list_all is_word_byte (c ∷ bs)) e) in
-    let more : list_all is_word_byte (c ∷ bs) ≡ true = and_right (is_word_byte b) (list_all is_word_byte (c ∷ bs)) e in
-    let next : is_word_byte c ≡ true = and_left (is_word_byte c) (list_all is_word_byte bs) more in
+    let here : class_of b ≡ InWord = class-word b (and_parts (is_word_byte b) (list_all is_word_byte (c ∷ bs)) e).0 in
+    let more : list_all is_word_byte (c ∷ bs) ≡ true = (and_parts (is_word_byte b) (list_all is_word_byte (c ∷ bs)) e).1 in
+    let next : is_word_byte c ≡ true = (and_parts (is_word_byte c) (list_all is_word_byte bs) more).0 in
     let later = lex-word c bs rest more f in
     ap (λ k. with_byte k b (is_word_byte c) (lex (c ∷ (bs ++ rest)))) here
     ∙ ap (λ k. with_byte InWord b k (lex (c ∷ (bs ++ rest)))) next
@@ -86,7 +79,7 @@ says_joined b e (space {line = line} {tokens = tokens} r) =
 says_joined b e (sign {line = line} {tokens = tokens} s r) =
     subst (λ k. Says (b ∷ sign_byte s ∷ line) (joined b k (Mark s ∷ tokens))) (sym (sign_ends s)) (word b [] (rw e refl) (sign_ends s) (sign s r))
 says_joined b e (word {line = line} {tokens = tokens} c bs all f r) =
-    let next : is_word_byte c ≡ true = and_left (is_word_byte c) (list_all is_word_byte bs) all in
+    let next : is_word_byte c ≡ true = (and_parts (is_word_byte c) (list_all is_word_byte bs) all).0 in
     subst (λ k. Says (b ∷ c ∷ (bs ++ line)) (joined b k (Word (c ∷ bs) ∷ tokens))) (sym next) (word b (c ∷ bs) (rw e all) f r)
 
 -- what a byte may be

@@ -38,7 +38,7 @@ same_depth_in (AsksTwo q a b) t r =
     let s = both_some (λ f g. AsksTwo q f g) (numbers_read a) (numbers_read b) t r in
     ap₂ (λ m n. max m n) (same_depth a s.0 s.2) (same_depth b s.1 s.3) ∙ ap depth_in s.4
 
-none_of : {A : Type 0} (o : Option A) → false ≡ is_some o → o ≡ None
+pub none_of : {A : Type 0} (o : Option A) → false ≡ is_some o → o ≡ None
 none_of None e = refl
 none_of (Some a) e = absurd cc
 

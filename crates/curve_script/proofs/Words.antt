@@ -3,7 +3,7 @@ use Rattle.std.proofs.Common.{◌≡◌, ℕ, List, [], ◌∷◌, length, Optio
 use Rattle.std.specs.Prelude.{◌&&◌, nat_le}
 use Rattle.std.specs.List.{list_all, find}
 use Rattle.std.specs.Str.{bytes_eq}
-use Rattle.std.proofs.lemmas.Bool.{leb-true, le-leb, and_parts}
+use Rattle.std.proofs.lemmas.Bool.{leb-true, le-leb, and_parts, and_from}
 use Rattle.std.proofs.lemmas.Slice.Eq.{bytes_eq-Decides}
 use Rattle.curve_script.specs.declared.keyword.TheConstants.{KEYWORDS}
 use Rattle.curve_script.specs.declared.keyword.Keyword.{Keyword}
@@ -61,9 +61,6 @@ pub keyword_found : (w : List ℕ) (k : Keyword) → keyword_of w ≡ Some k →
 unfolding keyword_of
 keyword_found w k e = (bytes_eq-Decides (spelling k) w).0 (found_passes (λ k. bytes_eq (spelling k) w) KEYWORDS k e)
 
-both_true : (a b : Bool) → a ≡ true → b ≡ true → (a && b) ≡ true
-both_true a b e f = rw e f
-
 -- a word that is no keyword, and has the form of a name, is a name
 pub name_from_text : (w : List ℕ) → keyword_of w ≡ None → is_name_text w ≡ true → IsName w
 name_from_text [] none e = absurd cc
@@ -83,7 +80,7 @@ name_from_text (b ∷ bs) none e =
 pub name_is_text : (w : List ℕ) → IsName w → is_name_text w ≡ true
 name_is_text [] h = absurd (let some = h.some in omega arith)
 name_is_text (b ∷ bs) h =
-    both_true (is_letter b && nat_le (length (b ∷ bs)) 32) (list_all is_name_byte (b ∷ bs)) (both_true (is_letter b) (nat_le (length (b ∷ bs)) 32) h.begins (le-leb (length (b ∷ bs)) 32 h.few)) h.bytes
+    and_from (is_letter b && nat_le (length (b ∷ bs)) 32) (list_all is_name_byte (b ∷ bs)) (and_from (is_letter b) (nat_le (length (b ∷ bs)) 32) h.begins (le-leb (length (b ∷ bs)) 32 h.few)) h.bytes
 
 -- and is no keyword
 pub name_is_free : (w : List ℕ) → IsName w → keyword_of w ≡ None

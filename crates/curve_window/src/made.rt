@@ -151,7 +151,7 @@ pub(crate) fn made_of(
     requires early { EachBoth (λ b. b.left.x <ℚ end) stretches.now }
     ensures { IfOk result (λ v. AreMade made stretches.now end v.items) }
 {
-    let mut pieces = Vec::new(alloc);
+    let mut pieces = Vec::with_capacity(alloc, stretches.len())?;
     for (i, b) in stretches.iter().enumerate() {
         let parts = parts_up_to(made, b, start_after(stretches, i, end), end);
         pieces.push(parts.first)?;

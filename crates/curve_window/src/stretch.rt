@@ -128,7 +128,7 @@ pub fn overlay(alloc: Global, f: &[Piece], g: &[Piece]) -> Result<Vec<Both>, All
             right: g[0],
         },
     };
-    let mut stretches = Vec::new(alloc);
+    let mut stretches = Vec::with_capacity(alloc, f.len().saturating_add(g.len()))?;
     stretches.push(walk.here)?;
     while walk.i < f.len() || walk.j < g.len() {
         walk = step(f, g, &walk);

@@ -59,7 +59,7 @@ fn sum_stretches(alloc: Global, stretches: &[Both]) -> Result<Vec<Piece>, AllocE
     requires { EachBoth StretchSumFits stretches.now }
     ensures { IfOk result (λ v. v.items ≡ mapped sum_piece stretches.now) }
 {
-    let mut pieces = Vec::new(alloc);
+    let mut pieces = Vec::with_capacity(alloc, stretches.len())?;
     for b in stretches {
         pieces.push(sum_stretch(b))?;
     }

@@ -5,12 +5,10 @@ use Rattle.upp_limits.specs.declared.own_limits.OverLimit.{OverLimit}
 use Rattle.upp_limits.specs.declared.own_limits.OverLimit.TheVariants.{TooMany, TooWide}
 use Rattle.json_report.specs.declared.form.Form.{Form}
 use Rattle.command_replies.specs.Replies.{Reply, over}
+use Rattle.command_replies.proofs.Statuses.{status_is}
 use Rattle.edit_command.specs.OnEdits as on
 use Rattle.edit_command.specs.OnEdits.{IsEditReport}
 use Rattle.edit_command.specs.EditCauses.{IsMalformed, IsOverLimit, HasCycleBehind, HasCause, StatusesHaveCauses}
-
-status_is : (reply to : Reply) → reply ≡ to → reply.status ≡ to.status
-status_is reply to is = ap (λ (r : Reply). r.status) is
 
 module _ (form : Form) (net_file net_bytes edits_file edits_bytes : List ℕ) (reply : Reply) where
   -- of a status that is known

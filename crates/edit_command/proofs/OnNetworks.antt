@@ -1,5 +1,5 @@
 -- The reply on a network and edits, and its steps.
-use Rattle.std.proofs.Common.{◌≡◌, ◌≢◌, ℕ, ◌+◌, ◌≤◌, List, [], map, refl, sym, ap, ◌∙◌, subst, arith}
+use Rattle.std.proofs.Common.{◌≡◌, ◌≢◌, ℕ, ◌+◌, ◌≤◌, List, [], map, refl, sym, ap, subst, arith}
 use Rattle.std.specs.Prelude.{Result, Ok, Err, IfOk}
 use Rattle.upp_limits.specs.LimitTest.{fault_of}
 use Rattle.upp_limits.specs.declared.op_kind.OpFault.{OpFault}
@@ -26,7 +26,7 @@ use Rattle.command_replies.specs.declared.answer.Answer.{Answer}
 use Rattle.command_replies.specs.CellWork.{work_of_cells}
 use Rattle.command_replies.specs.OnFiles.{IsNetOf}
 use Rattle.command_replies.specs.Replies.{Reply, goes_round, cell_over}
-use Rattle.command_replies.specs.View.{reply_of, status_of}
+use Rattle.command_replies.specs.View.{status_of}
 use Rattle.edit_command.specs.NetHistories.{NetHistory, begun, history_of}
 use Rattle.edit_command.specs.Answered.{AreAnswered}
 use Rattle.edit_command.specs.OnEdits.{edit_report, AreReported, IsReplyOnEdits, Cyclic, CellOver, Reported}
@@ -58,12 +58,6 @@ on_report form net edits reply accepted report =
     let gives : IsNetOf net_bytes net = record { reads = reads; accepted = accepted } in
     Reported
     (report.0, report.1, record { first = net; gives = gives; edits = edits; asked = asked; report = report.2 })
-
--- a call that answers a refusal, if anything, ends with no report
-pub refused : {E : Type 0} (r : Result Answer E) (to : Reply) → to.status ≢ 0 → IfOk r (λ a. reply_of a ≡ to)
-    → status_of r ≢ 0
-refused (Ok a) to other is zero = other (sym (ap (λ (x : Reply). x.status) is) ∙ zero)
-refused (Err e) to other is zero = absurd (cc)
 
 -- a call that ends with a report has what its answer has
 pub at_zero : {E : Type 0} (r : Result Answer E) (P : Type 0) → IfOk r (λ a. P) → status_of r ≡ 0 → P

@@ -1,11 +1,10 @@
 -- What is said of an edit is one thing, but for the choice among cycles.
-use Rattle.std.proofs.Common.{◌≡◌, ◌⊎◌, ℕ, ◌++◌, List, length, Option, Some, None, inl, inr, refl, sym, ap, ◌∙◌, subst, arith}
+use Rattle.std.proofs.Common.{◌≡◌, ◌⊎◌, ℕ, ◌++◌, List, length, Option, Some, None, inl, inr, sym, ap, ◌∙◌, subst}
 use Rattle.std.specs.Prelude.{Ok, Err, codes, string_bytes}
 use Rattle.upp_limits.specs.LimitTest.{fault_of}
 use Rattle.upp_limits.specs.declared.own_limits.OverLimit.{OverLimit}
 use Rattle.upp_limits.specs.declared.own_limits.OverLimit.TheVariants as limit
-use Rattle.upp_limits.specs.OwnLimits.{IsOver}
-use Rattle.upp_curve.specs.Curve.{SpecCurve}
+use Rattle.upp_limits.proofs.OneLimit.{same_limit, one_limit}
 use Rattle.net_model.specs.declared.edit.Edit.{Edit}
 use Rattle.net_model.specs.Networks.{Net}
 use Rattle.net_model.specs.Orders.{IsOrder}
@@ -110,19 +109,6 @@ sort old edit NoMemory net said c says = absurd c
 -- ---- two of them
 abbrev pub AreOne : EditSaid → EditSaid → Type 0
 AreOne x y = (x ≡ y) ⊎ TellCycles x y
-
-same_limit : (l m : OverLimit) → fault_of l ≡ fault_of m → l ≡ m
-same_limit limit.TooMany limit.TooMany e = refl
-same_limit limit.TooWide limit.TooWide e = refl
-same_limit limit.TooMany limit.TooWide e = absurd (cc)
-same_limit limit.TooWide limit.TooMany e = absurd (cc)
-
--- a curve is over one limit
-one_limit : (c : SpecCurve) (l m : OverLimit) → IsOver c l → IsOver c m → l ≡ m
-one_limit c limit.TooMany limit.TooMany h k = refl
-one_limit c limit.TooMany limit.TooWide h k = absurd (omega (arith, h.0, k))
-one_limit c limit.TooWide limit.TooMany h k = absurd (omega (arith, h, k.0))
-one_limit c limit.TooWide limit.TooWide h k = refl
 
 one_made : (made : Option MadeCurve) (c d : Cell) (l m : OverLimit) → IsMadeOver made c l → IsMadeOver made d m
     → (c ≡ d) × (l ≡ m)

@@ -26,6 +26,7 @@ use Rattle.cell_store.specs.Edits.{IsEditedTable}
 use Rattle.cell_store.proofs.Fronts.{are_touched}
 use Rattle.edit_store.specs.Stored.{Stored, HoldsTable, IsStored, AreTouched, AreLost}
 use Rattle.edit_store.specs.Applied.{Gives}
+use Rattle.std.proofs.lemmas.Bool.{not-true}
 
 module _ {V : Type 0} (meaning : V → Meaning) where
   -- the table of an edited network
@@ -106,15 +107,12 @@ was_undone X U A B None h never = absurd (never h.0)
 was_undone X U A B (Some x) h never = h
 
 -- ---- cells that are gone
-not_true : (b : Bool) → not b ≡ true → b ≡ false
-not_true true e = sym e
-not_true false e = refl
 
 pub lost : (old net : Net) (order : List ℕ) (gone : List Cell) → IsAccepted old → IsOrder old order
     → gone ≡ gone_of net (evaluation_order old order) → AreLost old net gone
 lost old net order gone a o e = record {
   only = λ c m. let found = among c m in
-      (not_true (has_cell net c) found.1, slots_are_own.has old c a (order_has old order c found.0));
+      (not-true (has_cell net c) found.1, slots_are_own.has old c a (order_has old order c found.0));
   were = λ c m. order_has old order c (among c m).0;
   all = λ c has absent. has_contains gone c (subst (λ (cs : List Cell). Has cs c) (sym e)
       (has_filter (λ d. not (has_cell net d)) (evaluation_order old order) c (in_order old order c a o has) (ap not absent)));

@@ -1,31 +1,40 @@
 -- The least of all pairs from that of two halves of a list.
-use Rattle.std.specs.Prelude.{◌≡◌, pos, List, [], ◌∷◌, ◌++◌, Result, Ok, Err, IfOk, Vec}
-use Rattle.std.proofs.Common.{arith, sym, ap, ◌∙◌, refl, subst, inl, length, get_or, ◌≤◌, Global}
-use Rattle.rational.specs.Rational.{ℚ, int}
+use Rattle.std.specs.Prelude.{◌≡◌, ◌↔◌, Bool, true, false, not, IsTrue, pos, suc, List, [], ◌∷◌, ◌++◌, Result, Ok, Err, IfOk, Vec, All}
+use Rattle.std.proofs.Common.{arith, sym, ap, ap₂, ◌∙◌, true≢false, refl, subst, inl, inr, length, get_or, ◌≤◌, Global}
+use Rattle.rational.specs.Rational.{ℚ, int, ◌+ℚ◌, ◌≤ℚ◌, ◌<ℚ◌}
 use Rattle.rational.specs.Extended.{min_ext}
 use Rattle.rational.specs.declared.Extended.TheVariants.{Inf}
 use Rattle.rational.proofs.Grid.{whole_int}
+use Rattle.rational.proofs.Compared.{not_less_out}
 use Rattle.rational.proofs.Laws.{le_refl}
 use Rattle.affine_segment.specs.declared.line.Piece.{Piece}
 use Rattle.affine_segment.specs.declared.element.Element.{Element}
+use Rattle.affine_segment.specs.Elements.{start_of}
+use Rattle.affine_segment.specs.Fits.{LineFitsAt}
 use Rattle.affine_segment.specs.Reading.{read, nothing_at}
+use Rattle.affine_segment.proofs.PieceOrder.{each_map}
+use Rattle.upp_limits.specs.Limits.{Sizes}
+use Rattle.upp_normal.specs.Operand.{AreLimited}
+use Rattle.upp_normal.specs.Normalising.{IsPart, IsMerged}
+use Rattle.upp_normal.proofs.NormaliseForm.{each_part}
 use Rattle.curve_window.specs.Stretches.{CutsFit}
-use Rattle.curve_window.specs.Lower.{LowerFits, IsLowerOf}
+use Rattle.curve_window.specs.Lower.{LowerFits, IsLowerPiece, IsLowerOf}
 use Rattle.element_envelope.specs.PieceElements.{Among}
 use Rattle.element_envelope.specs.Envelopes.{IsEnvelope}
-use Rattle.element_envelope.specs.EnvelopeWindows.{EnvelopeRoom, IsEnvelopeWindow}
+use Rattle.element_envelope.specs.SumWindows.{SumPiece, SumWindow}
+use Rattle.element_envelope.specs.EnvelopeWindows.{EnvelopeRoom, LowerJoins, IsEnvelopeWindow}
 use Rattle.element_envelope.proofs.Members.{among_left, among_right}
 use Rattle.element_envelope.proofs.Envelopes.{envelope_rules}
 use Rattle.element_envelope.proofs.Arching.{same_arches, lesser_arches, nothing_arches}
-use Rattle.element_envelope.proofs.SumSteps.{sum_cuts_fit}
+use Rattle.element_envelope.proofs.SumSteps.{line_fits_at, sum_cuts_fit}
 use Rattle.element_envelope.proofs.SumLower.{sum_lower_fits, sum_lower}
 use Rattle.affine_segment.proofs.PieceIn.{read_one, nothing_read}
 
 -- ---- no pair
-nothing_is : (end : ℚ) (xs ys : List Element) → ((t : ℚ) → IsEnvelope xs ys t Inf) → IsEnvelopeWindow end xs ys (nothing_at (int (pos 0)) ∷ [])
+nothing_is : (end : ℚ) (xs ys : List Element) → ((t : ℚ) → t <ℚ end → IsEnvelope xs ys t Inf) → IsEnvelopeWindow end xs ys (nothing_at (int (pos 0)) ∷ [])
 nothing_is end xs ys h = record {
   starts = (refl, tt);
-  reads = λ t low high. subst (IsEnvelope xs ys t) (sym (read_one (nothing_at (int (pos 0))) t ∙ nothing_read (int (pos 0)) t)) (h t);
+  reads = λ t low high. subst (IsEnvelope xs ys t) (sym (read_one (nothing_at (int (pos 0))) t ∙ nothing_read (int (pos 0)) t)) (h t high);
   stands = λ r. record {
     starts = (refl, tt);
     each = (record { start = record { place = inl (whole_int r.sizes.dt (pos 0)); nonneg = le_refl (int (pos 0)); before = r.some }; at = tt; line = tt }, tt);
@@ -34,10 +43,28 @@ nothing_is end xs ys h = record {
 }
 
 pub none_left : (end : ℚ) (xs ys : List Element) → xs ≡ [] → IsEnvelopeWindow end xs ys (nothing_at (int (pos 0)) ∷ [])
-none_left end xs ys e = nothing_is end xs ys (λ t. subst (λ z. IsEnvelope z ys t Inf) (sym e) (envelope_rules.none ys t).0)
+none_left end xs ys e = nothing_is end xs ys (λ t high. subst (λ z. IsEnvelope z ys t Inf) (sym e) (envelope_rules.none ys t).0)
 
 pub none_right : (end : ℚ) (xs ys : List Element) → ys ≡ [] → IsEnvelopeWindow end xs ys (nothing_at (int (pos 0)) ∷ [])
-none_right end xs ys e = nothing_is end xs ys (λ t. subst (λ z. IsEnvelope xs z t Inf) (sym e) (envelope_rules.none xs t).1)
+none_right end xs ys e = nothing_is end xs ys (λ t high. subst (λ z. IsEnvelope xs z t Inf) (sym e) (envelope_rules.none xs t).1)
+
+-- what a test of the sum of two starts tells
+pub late_is : (b : Bool) (s end p q x y : ℚ) → (IsTrue b ↔ (s <ℚ end)) → s ≡ p +ℚ q → p ≡ x → q ≡ y → IsTrue (not b) → end ≤ℚ x +ℚ y
+late_is b s end p q x y t e f g h = subst (λ z. end ≤ℚ z) (e ∙ ap₂ (λ (u v : ℚ). u +ℚ v) f g) (not_less_out b s end t (is_false b h))
+  where
+    is_false : (b : Bool) → IsTrue (not b) → b ≡ false
+    is_false true h = absurd (true≢false (sym h))
+    is_false false h = refl
+
+-- no pair starts before the end
+pub none_late : (end : ℚ) (xs ys : List Element) → All (λ x. All (λ y. end ≤ℚ start_of x +ℚ start_of y) ys) xs → IsEnvelopeWindow end xs ys (nothing_at (int (pos 0)) ∷ [])
+none_late end xs ys h =
+    nothing_is end xs ys (λ t high. envelope_rules.late xs ys end t (λ x y a b. one_of (λ y. end ≤ℚ start_of x +ℚ start_of y) y ys b (one_of (λ x. All (λ y. end ≤ℚ start_of x +ℚ start_of y) ys) x xs a h)) high)
+  where
+    one_of : (P : Element → Type 0) (y : Element) (ys : List Element) → Among y ys → All P ys → P y
+    one_of P y [] a h = absurd a
+    one_of P y (z ∷ zs) (inl e) h = subst P (sym e) (h 0 z (omega arith))
+    one_of P y (z ∷ zs) (inr a) h = one_of P y zs a (λ k d l. h (suc k) d (omega arith))
 
 -- ---- lists of no element, and of one
 pub empty_is : (xs : List Element) → length xs ≡ 0 → xs ≡ []
@@ -98,6 +125,14 @@ right_back end xs ys front back e r = record {
 pub record LowerReady (end : ℚ) (f g : List Piece) : Type 0 where
   pub cuts : CutsFit f g
   pub fits : LowerFits end f g
+  pub joins : LowerJoins end f g
+
+lower_ready : (z : Sizes) (end : ℚ) (f g : List Piece) → AreLimited z end → SumWindow z end f → SumWindow z end g → LowerReady end f g
+lower_ready z end f g A F G = record {
+  cuts = sum_cuts_fit z end f g A F G;
+  fits = sum_lower_fits z end f g A F G;
+  joins = λ ps L. each_map (SumPiece z end) (λ p. LineFitsAt p.x p.line) (λ p P. line_fits_at z end p.x p.line A P.line P.start) ps (sum_lower z end f g ps A F G L).each;
+}
 
 pub left_ready : (end : ℚ) (xs front back ys : List Element) (f g : List Piece) → front ++ back ≡ xs → EnvelopeRoom end xs ys
     → IsEnvelopeWindow end front ys f → IsEnvelopeWindow end back ys g → LowerReady end f g
@@ -105,7 +140,7 @@ unfolding left_front left_back
 left_ready end xs front back ys f g e r F G =
     let a = F.stands (left_front end xs front back ys e r) in
     let b = G.stands (left_back end xs front back ys e r) in
-    record { cuts = sum_cuts_fit r.sizes end f g r.limited a b; fits = sum_lower_fits r.sizes end f g r.limited a b }
+    lower_ready r.sizes end f g r.limited a b
 
 pub right_ready : (end : ℚ) (xs ys front back : List Element) (f g : List Piece) → front ++ back ≡ ys → EnvelopeRoom end xs ys
     → IsEnvelopeWindow end xs front f → IsEnvelopeWindow end xs back g → LowerReady end f g
@@ -113,7 +148,7 @@ unfolding right_front right_back
 right_ready end xs ys front back f g e r F G =
     let a = F.stands (right_front end xs ys front back e r) in
     let b = G.stands (right_back end xs ys front back e r) in
-    record { cuts = sum_cuts_fit r.sizes end f g r.limited a b; fits = sum_lower_fits r.sizes end f g r.limited a b }
+    lower_ready r.sizes end f g r.limited a b
 
 pub left_halves : (end : ℚ) (xs front back ys : List Element) (f g ps : List Piece) → front ++ back ≡ xs
     → IsEnvelopeWindow end front ys f → IsEnvelopeWindow end back ys g → IsLowerOf f g end ps → IsEnvelopeWindow end xs ys ps
@@ -154,3 +189,28 @@ pub ok_nothing : {E : Type 0} (r : Result (Vec Piece Global) E) (end : ℚ) (xs 
     → IfOk r (λ v. v.items ≡ nothing_at (int (pos 0)) ∷ []) → IfOk r (λ v. IsEnvelopeWindow end xs ys v.items)
 ok_nothing (Ok v) end xs ys h k = subst (IsEnvelopeWindow end xs ys) (sym k) h
 ok_nothing (Err e) end xs ys h k = k
+
+-- ---- the lower with neighbours joined is one again
+part_length : (rs ps : List Piece) → IsPart rs ps → length rs ≤ length ps
+part_length rs [] e = rw e (omega arith)
+part_length rs (p ∷ ps) (inl k) = let l = part_length rs ps k in omega arith
+part_length rs (p ∷ ps) (inr (qs, e, k)) = let l = part_length qs ps k in rw e (omega arith)
+
+joined_lower : (f g : List Piece) (end : ℚ) (p : Piece) (ps kept : List Piece) → IsLowerOf f g end (p ∷ ps) → IsMerged p ps kept → IsLowerOf f g end (p ∷ kept)
+joined_lower f g end p ps kept L M = record {
+  starts = (L.starts.0, M.rises);
+  reads = λ t low high. M.reads t ∙ L.reads t low high;
+  early = (L.early.0, each_part (λ q. q.x <ℚ end) kept ps M.part L.early.1);
+  each = (L.each.0, each_part (IsLowerPiece f g end) kept ps M.part L.each.1);
+  count = let l = part_length kept ps M.part in let c = L.count in omega arith;
+}
+
+pub ok_joined : {E : Type 0} (r : Result (Vec Piece Global) E) (f g : List Piece) (end : ℚ) (all : List Piece) → IsLowerOf f g end all
+    → ((p : Piece) (ps : List Piece) → all ≡ p ∷ ps → IfOk r (λ v. (kept : List Piece) × (v.items ≡ p ∷ kept) × IsMerged p ps kept))
+    → IfOk r (λ v. IsLowerOf f g end v.items)
+ok_joined r f g end [] L h = absurd L.starts
+ok_joined r f g end (p ∷ ps) L h = go r (h p ps refl)
+  where
+    go : {E : Type 0} (r : Result (Vec Piece Global) E) → IfOk r (λ v. (kept : List Piece) × (v.items ≡ p ∷ kept) × IsMerged p ps kept) → IfOk r (λ v. IsLowerOf f g end v.items)
+    go (Ok v) (kept, e, M) = subst (IsLowerOf f g end) (sym e) (joined_lower f g end p ps kept L M)
+    go (Err e) k = k

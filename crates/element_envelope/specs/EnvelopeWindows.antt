@@ -5,7 +5,9 @@ use Rattle.affine_segment.specs.declared.line.Piece.{Piece}
 use Rattle.affine_segment.specs.declared.element.Element.{Element}
 use Rattle.affine_segment.specs.Elements.{IsProper}
 use Rattle.upp_limits.specs.Limits.{Sizes}
-use Rattle.affine_segment.specs.Pieces.{StartsAtZero}
+use Rattle.affine_segment.specs.Fits.{LineFitsAt}
+use Rattle.affine_segment.specs.Pieces.{Each, StartsAtZero}
+use Rattle.curve_window.specs.Lower.{IsLowerOf}
 use Rattle.upp_normal.specs.Operand.{AreLimited}
 use Rattle.affine_segment.specs.Reading.{read}
 use Rattle.element_envelope.specs.PieceElements.{Among}
@@ -23,6 +25,10 @@ pub record EnvelopeRoom (end : ℚ) (xs ys : List Element) : Type 0 where
   pub right_proper : (e : Element) → Among e ys → IsProper e
   pub left : (e : Element) → Among e xs → OperandElement sizes end e
   pub right : (e : Element) → Among e ys → OperandElement sizes end e
+
+-- each piece of the lower of two windows has a value on its line at its start that fits
+abbrev pub LowerJoins : ℚ → List Piece → List Piece → Type 0
+LowerJoins end f g = (ps : List Piece) → IsLowerOf f g end ps → Each (λ p. LineFitsAt p.x p.line) ps
 
 -- pieces from 0 on that read, before the end, as the least of all pairs; they stand where what elements make stands,
 -- and bend only downwards between the times of the grid

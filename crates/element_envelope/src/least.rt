@@ -1,19 +1,23 @@
 //! The least of what all pairs of two lists of elements make.
 
-ghost use Rattle.std.specs.Prelude.{◌≡◌, pos, [], ◌∷◌, length, IfOk};
-ghost use Rattle.rational.specs.Rational.{int};
+ghost use Rattle.std.specs.Prelude.{◌≡◌, pos, [], ◌∷◌, length, IfOk, IsTrue, All};
+ghost use Rattle.rational.specs.Rational.{int, ◌+ℚ◌, ◌≤ℚ◌};
+ghost use Rattle.affine_segment.specs.Elements.{start_of};
+ghost use Rattle.affine_segment.specs.Pieces.{StartsAtZero};
+ghost use Rattle.curve_window.specs.Stretches.{CutsFit};
+ghost use Rattle.curve_window.specs.Lower.{LowerFits, IsLowerOf};
 ghost use Rattle.upp_curve.specs.Unrolled.{upto};
 ghost use Rattle.affine_segment.specs.Reading.{nothing_at};
-ghost use Rattle.element_envelope.specs.EnvelopeWindows.{EnvelopeRoom, IsEnvelopeWindow};
+ghost use Rattle.element_envelope.specs.EnvelopeWindows.{EnvelopeRoom, LowerJoins, IsEnvelopeWindow};
 
 use crate::pair::joined;
 use crate::window::joined_window;
-use affine_segment::{Element, Piece};
+use affine_segment::{Element, Piece, start_of};
 use curve_window::window_lower;
-use fraction128::Frac;
+use fraction128::{Frac, is_less};
 use rational::Extended;
 use std::alloc::{AllocError, Global};
-use upp_normal::count_before;
+use upp_normal::{count_before, merged};
 
 // The window that is infinite throughout.
 fn nothing(alloc: Global) -> Result<Vec<Piece>, AllocError>
@@ -47,8 +51,60 @@ fn pair_window(alloc: Global, a: &Element, b: &Element, end: Frac) -> Result<Vec
     Ok(early(pieces, end))
 }
 
+// The lower of two windows, with neighbours joined that are one piece.
+fn lower_joined(
+    alloc: Global,
+    f: &[Piece],
+    g: &[Piece],
+    end: Frac,
+) -> Result<Vec<Piece>, AllocError>
+    requires left { StartsAtZero f.now }
+    requires right { StartsAtZero g.now }
+    requires cuts { CutsFit f.now g.now }
+    requires fits { LowerFits end f.now g.now }
+    requires joins { LowerJoins end f.now g.now }
+    ensures { IfOk result (λ v. IsLowerOf f.now g.now end v.items) }
+{
+    let pieces = window_lower(alloc, f, g, end)?;
+    merged(alloc, &pieces)
+}
+
+// Whether two elements make nothing that starts before `end`.
+fn is_late(x: &Element, y: &Element, end: Frac) -> bool
+    ensures { IsTrue result → end ≤ℚ start_of x.now +ℚ start_of y.now }
+{
+    match Frac::add(start_of(x), start_of(y)) {
+        Ok(start) => !is_less(start, end),
+        Err(_) => false,
+    }
+}
+
+// Whether an element makes nothing that starts before `end` with any of the others.
+fn is_late_beside(x: &Element, ys: &[Element], end: Frac) -> bool
+    ensures { IsTrue result → All (λ y. end ≤ℚ start_of x.now +ℚ start_of y) ys.now }
+{
+    for y in ys {
+        if !is_late(x, y, end) {
+            return false;
+        }
+    }
+    true
+}
+
+// Whether no pair makes anything that starts before `end`.
+fn are_late(xs: &[Element], ys: &[Element], end: Frac) -> bool
+    ensures { IsTrue result → All (λ x. All (λ y. end ≤ℚ start_of x +ℚ start_of y) ys.now) xs.now }
+{
+    for x in xs {
+        if !is_late_beside(x, ys, end) {
+            return false;
+        }
+    }
+    true
+}
+
 /// The least of what all pairs of two lists of elements make, at each time from 0 on and before `end`, as pieces. The
-/// longer work is halved. Only a lack of memory is an error.
+/// longer work is halved, and pairs are left out that start at `end` or later. Only a lack of memory is an error.
 pub fn envelope(
     alloc: Global,
     xs: &[Element],
@@ -64,17 +120,20 @@ pub fn envelope(
     if ys.len() == 0 {
         return nothing(alloc);
     }
+    if are_late(xs, ys, end) {
+        return nothing(alloc);
+    }
     if xs.len() > 1 {
         let (front, back) = xs.split_at(xs.len() / 2);
         let f = envelope(alloc, front, ys, end)?;
         let g = envelope(alloc, back, ys, end)?;
-        return window_lower(alloc, &f, &g, end);
+        return lower_joined(alloc, &f, &g, end);
     }
     if ys.len() > 1 {
         let (front, back) = ys.split_at(ys.len() / 2);
         let f = envelope(alloc, xs, front, end)?;
         let g = envelope(alloc, xs, back, end)?;
-        return window_lower(alloc, &f, &g, end);
+        return lower_joined(alloc, &f, &g, end);
     }
     pair_window(alloc, &xs[0], &ys[0], end)
 }

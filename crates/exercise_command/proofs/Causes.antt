@@ -7,12 +7,10 @@ use Rattle.net_model.specs.declared.breach.Breach.{Breach}
 use Rattle.command_replies.specs.Replies.{Reply, over}
 use Rattle.run_findings.specs.Findings.{status_by}
 use Rattle.exercise_load.specs.Workloads.{network_of}
+use Rattle.command_replies.proofs.Statuses.{status_is}
 use Rattle.exercise_command.specs.OnSeeds as on
 use Rattle.exercise_command.specs.OnSeeds.{IsCellOver, IsSummarised, IsWide}
 use Rattle.exercise_command.specs.ExerciseLaws.{HasCause, ExerciseStatusesHaveCauses}
-
-status_is : (reply to : Reply) → reply ≡ to → reply.status ≡ to.status
-status_is reply to is = ap (λ (r : Reply). r.status) is
 
 module _ (seed : ℕ) (reply : Reply) where
   -- of a status that is known

@@ -1,7 +1,7 @@
 -- A summary without a breach shows no number above its bound; the largest bound of each holds for every run.
 use Rattle.std.proofs.Common.{◌≡◌, ℕ, ◌<◌, List, [], ◌∷◌, length, inl, sym, ap, subst, ◌∙◌}
-use Rattle.std.specs.Prelude.{IsTrue, Option, Some, None, is_some, slice_get}
-use Rattle.std.proofs.lemmas.Option.{slice_get-get_or}
+use Rattle.std.specs.Prelude.{IsTrue, Some, None, is_some, slice_get}
+use Rattle.std.proofs.lemmas.Option.{slice_get-get_or, same_Some}
 use Rattle.rational.specs.Rational.{ℚ}
 use Rattle.rational.specs.Extended.{Ext, ◌≤ₑ◌}
 use Rattle.rational.specs.declared.Extended.TheVariants.{Fin}
@@ -49,13 +49,6 @@ status_tells seed reply h =
 all_live : (seed i : ℕ) → i < 24 → IsTrue (is_live (network_of seed) i)
 all_live seed i h = ap is_some (flow_at seed i None h)
 
-some_same : (x y : ℚ) → Some x ≡ Some y → x ≡ y
-some_same x y e = ap of e
-  where
-    of : Option ℚ → ℚ
-    of None = x
-    of (Some z) = z
-
 largest_within : (seed : ℕ) (reply : Reply) (h : IsSummarised seed reply)
     → AreWithinBounds (network_of seed) h.at h.report.tells.found
     → Fin (largest_delay h.report.tells.found.worst) ≤ₑ largest_bound (network_of seed) h.at
@@ -71,7 +64,7 @@ largest_within seed reply h w =
     let live = all_live seed i inside in
     let own = w.delays i live in
     let shown : slice_get worst i ≡ Some x = slice_get-get_or worst i x there.1 ∙ ap Some there.2 in
-    let same : own.value ≡ x = some_same own.value x (sym own.is ∙ shown) in
+    let same : own.value ≡ x = same_Some own.value x (sym own.is ∙ shown) in
     let most = own.within in
     le_ext_trans (Fin x) most.value (largest_bound net h.at) (subst (λ y. Fin y ≤ₑ most.value) same most.holds)
     (l.above i most.value record { live = live; is = most.is }))

@@ -1,6 +1,6 @@
 -- Members of lists that are mapped, filtered and joined, and pairs of them.
 use Rattle.std.proofs.Common.{◌≡◌, ℕ, zero, suc, ◌<◌, ◌≤◌, ◌+◌, ◌*◌, List, [], ◌∷◌, ◌++◌, length, get_or, map, inl, inr, refl, sym, ap, ◌∙◌, subst, arith, Bool, true, false, cond, map-id}
-use Rattle.std.specs.Prelude.{◌⊎◌, All, AllPairs, Contains}
+use Rattle.std.specs.Prelude.{◌⊎◌, AllPairs, Contains}
 use Rattle.std.specs.List.{filter, flat_map, range_with_len}
 use Rattle.std.proofs.lemmas.Bool.{cond-true}
 use Rattle.std.proofs.lemmas.List.{get_or-map, get_or_default, length-append, length-map}
@@ -10,9 +10,6 @@ use Rattle.net_graph.proofs.Members.{kept_left}
 -- ---- by place
 pub at_place : {X : Type 0} (xs : List X) (k : ℕ) (d : X) → k < length xs → Contains xs (get_or xs k d)
 at_place xs k d l = (k, l, get_or_default xs k (get_or xs k d) d l)
-
-pub all_from : {X : Type 0} (P : X → Type 0) (xs : List X) → ((x : X) → Contains xs x → P x) → All P xs
-all_from P xs h k d l = h (get_or xs k d) (at_place xs k d l)
 
 -- ---- one more number in a row
 pub range_grows : (a n : ℕ) → range_with_len a (n + 1) ≡ range_with_len a n ++ (a + n) ∷ []

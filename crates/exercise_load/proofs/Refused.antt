@@ -1,5 +1,6 @@
 -- A curve that is within the limits is refused only for want of memory.
-use Rattle.std.proofs.Common.{◌≡◌, ℕ, pos, ◌<◌, ◌≤◌, Err, refl, subst, arith, inl, inr}
+use Rattle.std.proofs.Common.{◌≡◌, ℕ, pos, Err, refl, subst, inl, inr}
+use native.Mathlib.Nat.{not-le_of_lt}
 use Rattle.rational.specs.Rational.{ℚ, ◌<ℚ◌, ◌≤ℚ◌, int}
 use Rattle.rational.proofs.Integers.{nat_nonneg, nat_lt}
 use Rattle.rational.proofs.Laws.{le_lt_trans, lt_le_trans, lt_irrefl}
@@ -17,9 +18,6 @@ use Rattle.exercise_load.specs.Workloads.{whole}
 use Rattle.exercise_load.proofs.DrawnAre.{some_period}
 use Rattle.exercise_load.proofs.Narrow.{service_is_narrow, arrival_is_narrow}
 
-over : (a b : ℕ) → a < b → b ≤ a → ⊥
-over a b h k = omega (arith, h, k)
-
 only_memory : (negative zero_period : Type 0) (c : SpecCurve) (fault : CurveFault) → ¬ negative → ¬ zero_period
     → IsWithinOwn c → KeepsCauses negative zero_period c (Err fault) → fault ≡ NoMemory
 only_memory negative zero_period c Negative n z w h = absurd (n h)
@@ -27,8 +25,8 @@ only_memory negative zero_period c ZeroPeriod n z w h = absurd (z h.1)
 only_memory negative zero_period c NotRising n z w h = absurd h
 only_memory negative zero_period c NotContinuous n z w h = absurd h
 only_memory negative zero_period c NotZeroAtStart n z w h = absurd h
-only_memory negative zero_period c (Op TooWide) n z w h = absurd (over _ _ w.narrow h.1)
-only_memory negative zero_period c (Op TooMany) n z w h = absurd (over _ _ h.1.1 w.few)
+only_memory negative zero_period c (Op TooWide) n z w h = absurd (not-le_of_lt w.narrow h.1)
+only_memory negative zero_period c (Op TooMany) n z w h = absurd (not-le_of_lt h.1.1 w.few)
 only_memory negative zero_period c NoMemory n z w h = refl
 
 not_negative : (n : ℕ) → ¬ (int (pos n) <ℚ zero_q)

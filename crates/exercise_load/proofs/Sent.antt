@@ -14,12 +14,13 @@ use Rattle.net_model.specs.declared.trace.TracePacket.{TracePacket}
 use Rattle.net_model.specs.declared.trace.Stall.{Stall}
 use Rattle.net_model.specs.Traces as made
 use Rattle.net_model.specs.Traces.{IsTrace, IsTracePacket}
+use Rattle.net_model.proofs.Short.{all_of}
 use Rattle.exercise_load.specs.declared.drawn.DrawnFlow.{DrawnFlow}
 use Rattle.exercise_load.specs.Drawn.{drawn_flow, drawn_flows}
 use Rattle.exercise_load.specs.Workloads.{whole, is_sending, packet_at, packets_in_turn, trace_of}
 use Rattle.exercise_load.specs.WorkloadLaws.{IsSent, ComesBefore, TracesHoldWhatIsSent}
 use Rattle.exercise_load.proofs.DrawnAre.{bits_within, flow_is_drawn, drawn_at, many, by_number}
-use Rattle.exercise_load.proofs.Joined.{at_place, all_from, in_flat, from_flat, short_flat, in_map, from_map, pairs_map, in_filter, from_filter, short_filter, pairs_flat}
+use Rattle.exercise_load.proofs.Joined.{at_place, in_flat, from_flat, short_flat, in_map, from_map, pairs_map, in_filter, from_filter, short_filter, pairs_flat}
 
 -- ---- each packet that is sent is there
 -- a time that is a whole number of periods is one of the 128 times
@@ -159,7 +160,7 @@ pub keeps : (seed : ℕ) → IsTrace (trace_of seed)
 unfolding trace_of
 keeps seed = record {
   few = let h = short_flat (packets_in_turn seed) 24 0 128 (short seed) in omega (arith, h);
-  packets = all_from IsTracePacket (trace_of seed).packets (packet_is seed);
+  packets = all_of IsTracePacket (trace_of seed).packets (packet_is seed);
   in_order = λ i j d b l.
       no_later (get_or (trace_of seed).packets i d) (get_or (trace_of seed).packets j d) (in_order seed i j d b l);
   stalls = λ k d l. absurd (omega (arith, l));

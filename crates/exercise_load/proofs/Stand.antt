@@ -9,7 +9,7 @@ use Rattle.std.proofs.lemmas.Fmt.{decimal_by_steps, decimal_injective, length-de
 use Rattle.std.proofs.lemmas.List.{get_or-map, length-map}
 use Rattle.std.proofs.lemmas.List.Folds.{list_all-append}
 use Rattle.std.proofs.lemmas.List.FromFn.{get_or-range_with_len, length-range_with_len, get_or-map-range_with_len, length-map-range_with_len}
-use Rattle.std.proofs.lemmas.Option.{slice_get-get_or}
+use Rattle.std.proofs.lemmas.Option.{slice_get-get_or, same_Some}
 use Rattle.rational.proofs.Integers.{nat_nonneg, nat_lt}
 use Rattle.rational.proofs.Laws.{le_refl}
 use Rattle.min_plus.specs.Functions.{zero_q}
@@ -24,6 +24,7 @@ use Rattle.net_model.specs.Views.{net_of, servers_of, flows_of}
 use Rattle.net_model.specs.Walks.{IsNext, IsStep, Chain, IsFeedForward}
 use Rattle.net_model.proofs.KindsStand.{kinds_may_stand}
 use Rattle.net_model.proofs.PlainNets.{each_passes}
+use Rattle.net_model.proofs.Short.{all_of}
 use Rattle.stated_runs.specs.FromTraces.{IsLive}
 use Rattle.exercise_load.specs.declared.drawn.DrawnFlow.{DrawnFlow}
 use Rattle.exercise_load.specs.Bounds.{IsDrawn}
@@ -31,7 +32,6 @@ use Rattle.exercise_load.specs.Drawn.{drawn_flow, drawn_flows}
 use Rattle.exercise_load.specs.Workloads.{numbered, whole, discipline_of, server, queue_at, path_of, flow_of, network_of, trace_of}
 use Rattle.exercise_load.specs.WorkloadLaws.{WorkloadsStand}
 use Rattle.exercise_load.proofs.DrawnAre.{bits_within, some_period, flow_is_drawn, drawn_at, many}
-use Rattle.exercise_load.proofs.Joined.{all_from}
 use Rattle.exercise_load.proofs.Sent.{keeps, hold_what_is_sent}
 
 -- ---- names
@@ -207,20 +207,13 @@ pub record IsPlaceOf (seed : ℕ) (f : NetFlow) : Type 0 where
   pub one : number < 24
   pub is : flow_of (drawn_flow seed number) ≡ f
 
-some_same : (f g : NetFlow) → Some f ≡ Some g → f ≡ g
-some_same f g e = ap (λ (o : Option NetFlow). of o) e
-  where
-    of : Option NetFlow → NetFlow
-    of None = f
-    of (Some h) = h
-
 pub place_of : (seed : ℕ) (f : NetFlow) → Contains (network_of seed).flows (Some f) → IsPlaceOf seed f
 place_of seed f c =
     let h : c.0 < 24 = subst (λ n. c.0 < n) (flow_count seed) c.1 in
     record {
       number = c.0;
       one = h;
-      is = some_same (flow_of (drawn_flow seed c.0)) f (sym (flow_at seed c.0 (Some f) h) ∙ c.2);
+      is = same_Some (flow_of (drawn_flow seed c.0)) f (sym (flow_at seed c.0 (Some f) h) ∙ c.2);
     }
 
 each_flow : (seed : ℕ) (f : NetFlow) → Contains (network_of seed).flows (Some f) → IsFlow (network_of seed).servers f
@@ -294,7 +287,7 @@ workloads_stand seed = record {
   feed_forward = feed_forward seed;
   keeps = keeps seed;
   named = record {
-    flows = all_from (λ (p : TracePacket). IsLive (network_of seed) p.flow) (trace_of seed).packets (live seed);
+    flows = all_of (λ (p : TracePacket). IsLive (network_of seed) p.flow) (trace_of seed).packets (live seed);
     servers = λ k d l. absurd (omega (arith, l));
   };
 }

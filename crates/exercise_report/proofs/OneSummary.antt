@@ -9,9 +9,9 @@ use Rattle.net_model.specs.Networks.{Net, NetFlow}
 use Rattle.net_cells.specs.Meanings.{CellTable}
 use Rattle.net_cells.specs.Numbered.{flow_at, is_live}
 use Rattle.net_cells.proofs.Tables.{tables_agree}
+use Rattle.net_cells.proofs.Growing.{flat_below}
 use Rattle.report_text.specs.Laws.{AgreeWherePrinted}
 use Rattle.report_text.specs.RunReport.{breach_line}
-use Rattle.report_text.proofs.Agree.{flat_range}
 use Rattle.exercise_report.specs.Largest.{number_alone, bound_cell, bound_of, bound_at, largest_bound}
 use Rattle.exercise_report.specs.Summary.{title_line, count_line, bound_line, worst_line, summary_of}
 use Rattle.exercise_report.specs.SummaryLaws.{EquationsGiveOneSummary}
@@ -28,7 +28,7 @@ same_largest : (net : Net) (at other : CellTable) → AgreeWherePrinted net at o
     → largest_bound net at ≡ largest_bound net other
 same_largest net at other agree =
     ap (fold max_ext (Fin zero_q))
-    (flat_range (bound_at net at) (bound_at net other) (length net.flows)
+    (flat_below (bound_at net at) (bound_at net other) (length net.flows)
     (λ i h. same_bound net at other i (flow_at net i) agree refl))
 
 pub one_summary : EquationsGiveOneSummary

@@ -27,9 +27,10 @@ use Rattle.watch_laws.specs.MarkSizes.{IsTime}
 use Rattle.watch_laws.proofs.Crowds.{times_rise}
 use Rattle.run_watch.specs.Flows.{FlowReads}
 use Rattle.run_watch.specs.FirstOf.{EnterInOrder}
+use Rattle.run_watch.specs.Stairs.{first_time, last_time}
 use Rattle.run_watch.proofs.HeldSizes.{length_time, times_differ}
 use Rattle.run_watch.proofs.NearWindows.{limited_to}
-use Rattle.first_breaches.specs.Reaches.{first_time, last_time, apart, pieces_through}
+use Rattle.first_breaches.specs.Reaches.{apart, pieces_through}
 use Rattle.first_breaches.specs.Sizes.{StepStands}
 use Rattle.first_breaches.proofs.CurvesThrough.{ReadsAt, through_reads}
 

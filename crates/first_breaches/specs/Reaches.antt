@@ -1,5 +1,5 @@
 -- The pieces by which an arrival curve is read at the times between two packets of a flow. Own choice.
-use Rattle.std.specs.Prelude.{◌-◌, pos, List, [], ◌∷◌, ◌++◌, length, Option, Some, None}
+use Rattle.std.specs.Prelude.{pos, List, [], ◌∷◌, ◌++◌, Option, Some, None}
 use Rattle.rational.specs.Rational.{ℚ, int, ◌-ℚ◌}
 use Rattle.rational.specs.Extended.{Ext}
 use Rattle.rational.specs.declared.Extended.TheVariants.{Fin, Inf}
@@ -8,13 +8,7 @@ use Rattle.affine_segment.specs.declared.line.Piece.{Piece}
 use Rattle.upp_curve.specs.Curve.{SpecCurve, value_at}
 use Rattle.upp_curve.specs.Unrolled.{unroll}
 use Rattle.watch_laws.specs.declared.entering.Entering.{Entering}
-use Rattle.watch_laws.specs.Entries.{entering}
-
-abbrev pub first_time : List Entering → ℚ
-first_time es = (entering es 0).time
-
-abbrev pub last_time : List Entering → ℚ
-last_time es = (entering es (length es - 1)).time
+use Rattle.run_watch.specs.Stairs.{first_time, last_time}
 
 -- from the first to the last: no two of them are further apart
 abbrev pub apart : List Entering → ℚ

@@ -7,7 +7,8 @@ ghost use Rattle.run_laws.specs.Lawful.{IsLawful};
 ghost use Rattle.net_model.specs.NetRoutes.{routes_of};
 ghost use Rattle.run_watch.specs.FirstOf.{IsBest};
 ghost use Rattle.first_breaches.specs.Sizes.{HaveSizes};
-ghost use Rattle.first_breaches.specs.Reaches.{first_time, last_time, apart};
+ghost use Rattle.run_watch.specs.Stairs.{first_time, last_time};
+ghost use Rattle.first_breaches.specs.Reaches.{apart};
 ghost use Rattle.first_breaches.specs.Firsts.{IsOne, IsBelow};
 
 use crate::counts::flow_count;

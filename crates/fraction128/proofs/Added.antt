@@ -1,6 +1,6 @@
 -- The sum of two fractions in lowest terms over the least common denominator: what it still has in common with
 -- that denominator divides what the two denominators have in common.
-use Rattle.std.specs.Prelude.{◌≡◌, ℕ, suc, ◌+◌, ◌*◌, ◌-◌, ◌/◌, ◌<◌, ◌≤◌, ◌^◌, ℤ, pos, negsuc, ◌+ℤ◌, ◌*ℤ◌, unsigned_abs}
+use Rattle.std.specs.Prelude.{◌≡◌, Option, Some, None, MatchOption, ℕ, suc, ◌+◌, ◌*◌, ◌-◌, ◌/◌, ◌<◌, ◌≤◌, ◌^◌, ℤ, pos, negsuc, ◌+ℤ◌, ◌*ℤ◌, unsigned_abs}
 use Rattle.std.proofs.Common.{arith, sym, ap, ap₂, ◌∙◌, subst, refl, ◌⊎◌, inl, inr}
 use Rattle.std.proofs.lemmas.Bool.{cases_lt}
 use Rattle.std.proofs.lemmas.Int.{ints}
@@ -8,13 +8,14 @@ use Prim.Native.Nat.{◌∣◌}
 use native.Mathlib.Nat.{div-mul_cancel, mul-pos, mul_assoc, dvd_trans, dvd-mul_left, dvd_refl, dvd-add, dvd-sub, div-le_self, mul-le-mul_left, mul-div_cancel}
 use Rattle.rational.specs.Gcd.{gcd}
 use Rattle.rational.specs.Euclid.{gcd_is, gcd_pos, lowest_after}
-use Rattle.rational.specs.Rational.{ℚ, ◌+ℚ◌}
+use Rattle.rational.specs.Rational.{ℚ, int, ◌+ℚ◌}
+use Rattle.rational.proofs.Integers.{int_add}
 use Rattle.rational.specs.Fractions.{abs-mul}
 use Rattle.rational.specs.Ratio.{ratio, with_sign, PartsFit, SumFits}
 use Rattle.rational.proofs.Parts.{sign_abs, reduced_ratio}
 use Rattle.rational.proofs.Lcd.{lcd_ratio}
 use Rattle.fraction128.specs.Parts.{AreLowest}
-use Rattle.fraction128.proofs.Coprime.{coprime_in, coprime_out, coprime_turned, coprime_parts, coprime_mul, divides_rest, factor_some, part_divides}
+use Rattle.fraction128.proofs.Coprime.{gcd_one, coprime_in, coprime_out, coprime_turned, coprime_parts, coprime_mul, divides_rest, factor_some, part_divides}
 use Rattle.fraction128.proofs.Values.{parts_of, one_sign}
 
 -- a divisor of a sum and of one part divides the other
@@ -145,3 +146,18 @@ fits_fields n m d e x y h k p q fit =
     let u = parts_of n d x h p in
     let v = parts_of m e y k q in
     rw (← u.0, ← u.1, ← v.0, ← v.1) fit
+
+-- ---- whole numbers
+whole_wide : (a b : ℤ) (d e : ℕ) → d ≡ 1 → e ≡ 1 → 2 ^ 127 ≤ unsigned_abs (a +ℤ b) → ¬ (PartsFit a d b e)
+whole_wide a b d e p q h fit =
+    let is : a *ℤ pos (e / gcd d e) +ℤ b *ℤ pos (d / gcd d e) ≡ a +ℤ b = rw (p, q, gcd_one 1) (ones a b) in
+    let small : unsigned_abs (a +ℤ b) < 2 ^ 127 = rw (← is) fit.sum in
+    omega arith
+  where
+    ones : (a b : ℤ) → a *ℤ pos 1 +ℤ b *ℤ pos 1 ≡ a +ℤ b
+    ones a b = omega (arith, ints)
+
+pub whole_parts : (a b : ℤ) (d e : ℕ) (r : Option ℚ) → d ≡ 1 → e ≡ 1 → MatchOption r (2 ^ 127 ≤ unsigned_abs (a +ℤ b)) (λ f. f ≡ int (a +ℤ b))
+    → MatchOption r (¬ (PartsFit a d b e)) (λ f. f ≡ ratio a (pos d) +ℚ ratio b (pos e))
+whole_parts a b d e None p q h = whole_wide a b d e p q h
+whole_parts a b d e (Some f) p q h = rw (p, q) (h ∙ sym (int_add a b))

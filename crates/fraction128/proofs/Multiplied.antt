@@ -1,18 +1,20 @@
 -- The product of two fractions in lowest terms: each numerator is divided by what it has in common with the other's denominator.
-use Rattle.std.specs.Prelude.{◌≡◌, ℕ, zero, suc, ◌*◌, ◌/◌, ◌<◌, ◌^◌, ℤ, pos, negsuc, neg_ℤ, ◌*ℤ◌, unsigned_abs}
+use Rattle.std.specs.Prelude.{◌≡◌, ℕ, zero, suc, ◌*◌, ◌/◌, ◌<◌, ◌≤◌, ◌^◌, ℤ, pos, negsuc, neg_ℤ, ◌*ℤ◌, unsigned_abs}
 use Rattle.std.proofs.Common.{arith, sym, ap, ◌∙◌}
-use native.Mathlib.Nat.{div-mul_cancel, mul-pos}
+use Rattle.std.proofs.lemmas.Int.{unsigned_abs-mul}
+use native.Mathlib.Nat.{div-mul_cancel, mul-pos, mul-le-mul_left, mul-le-mul_right}
 use Rattle.rational.specs.Gcd.{gcd}
 use Rattle.rational.specs.Euclid.{gcd_is, lowest_after}
 use Rattle.rational.specs.Ints.{diffs, diff_is, diff_same, neg_mul_z}
-use Rattle.rational.specs.Rational.{◌*ℚ◌, both}
+use Rattle.rational.specs.Rational.{int, ◌*ℚ◌, both}
 use Rattle.rational.specs.Fractions.{frac-same}
 use Rattle.rational.specs.Ratio.{ratio, with_sign, IsSmall}
+use Rattle.rational.proofs.Integers.{int_mul}
 use Rattle.rational.proofs.Parts.{sign_abs}
 use Rattle.rational.proofs.Over.{mul_frac, both_is}
 use Rattle.fraction128.specs.Parts.{AreLowest}
 use Rattle.fraction128.proofs.Coprime.{coprime_turned, coprime_parts, coprime_mul, factor_some, part_divides}
-use Rattle.fraction128.proofs.Values.{value_parts}
+use Rattle.fraction128.proofs.Values.{value_parts, small_of, whole_lowest}
 
 sign_mul : (a b : ℤ) (n k : ℕ) → n * k ≡ unsigned_abs a * unsigned_abs b → with_sign a b n *ℤ pos k ≡ a *ℤ b
 sign_mul (pos a) (pos b) n k e = ap pos e
@@ -118,3 +120,20 @@ pub product_as_lowest : (a b : ℤ) (d e n m : ℕ) (z : ℤ) → IsProduct a d 
 product_as_lowest a b d e n m z is p q s =
     let size : unsigned_abs z ≡ n = ap unsigned_abs s ∙ sign_abs a b n in
     record { some = is.some; top = rw size p; bottom = q; lowest = rw size is.lowest }
+
+-- ---- whole numbers
+pub short_product : (a b : ℤ) → unsigned_abs a < 2 ^ 63 → unsigned_abs b < 2 ^ 63 → unsigned_abs (a *ℤ b) < 2 ^ 127
+short_product a b p q =
+    let m = unsigned_abs a in
+    let n = unsigned_abs b in
+    let less : n ≤ 2 ^ 63 = omega arith in
+    let other : m ≤ 2 ^ 63 = omega arith in
+    let one : m * n ≤ m * 2 ^ 63 = mul-le-mul_left m less in
+    let two : m * 2 ^ 63 ≤ 2 ^ 63 * 2 ^ 63 = mul-le-mul_right (2 ^ 63) other in
+    rw (unsigned_abs-mul a b) (omega (arith, one, two))
+
+pub whole_product : (a b z : ℤ) (d e : ℕ) → d ≡ 1 → e ≡ 1 → unsigned_abs z < 2 ^ 127 → z ≡ a *ℤ b
+    → (int z ≡ ratio a (pos d) *ℚ ratio b (pos e)) × IsSmall (ratio a (pos d) *ℚ ratio b (pos e))
+whole_product a b z d e p q h s =
+    let is : int z ≡ ratio a (pos d) *ℚ ratio b (pos e) = rw (p, q, s) (sym (int_mul a b)) in
+    (is, small_of z 1 _ (whole_lowest z h) is)

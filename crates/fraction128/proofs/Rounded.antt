@@ -42,6 +42,9 @@ whole_part_from n d x h e l =
     whole_floor x (subst (λ y. int (pos 0) ≤ℚ y) (sym (frac_self x)) (frac_nonneg x.num x.pre (rw parts.0 l)))
 
 -- a quotient rounded up, from the quotient rounded down and the rest
+pub up_over_one : (n d : ℕ) → d ≡ 1 → n ≡ up_over n d
+up_over_one n d e = rw e (omega arith)
+
 pub up_over_even : (n d q r : ℕ) → 0 < d → q ≡ n / d → r ≡ n % d → r ≡ 0 → q ≡ up_over n d
 up_over_even n zero q r some e f h = absurd (omega arith)
 up_over_even n (suc d) q r some e f h =

@@ -2,13 +2,11 @@
 use Rattle.std.specs.Prelude.{◌≡◌, ◌≢◌, ℕ, zero, suc, ◌<◌, ◌^◌, ◌↔◌, ℤ, pos, negsuc, ◌<ℤ◌, unsigned_abs}
 use Rattle.std.proofs.Common.{arith, sym, ap, ap₂, ◌∙◌, refl, subst, SFits, to_z, of_z, to_z-of_z, ◌≤◌, inl, inr}
 use Rattle.std.proofs.lemmas.Bool.{cases_lt}
-use Rattle.std.proofs.lemmas.Int.{ints, fits_signed_from_abs}
+use Rattle.std.proofs.lemmas.Int.{fits_signed_from_abs}
 use mir.Syntax.{w128}
 use Rattle.rational.specs.Gcd.{gcd}
 use Rattle.rational.specs.Rational.{ℚ, den, int, ◌<ℚ◌}
-use Rattle.rational.specs.Fractions.{frac_self}
 use Rattle.rational.specs.Ratio.{ratio, with_sign, IsSmall}
-use Rattle.rational.proofs.Over.{lt_frac}
 use Rattle.rational.proofs.Laws.{num_some as num_some_q, num_pos}
 use Rattle.rational.proofs.Parts.{lowest_parts}
 use Rattle.fraction128.specs.Parts.{AreLowest}

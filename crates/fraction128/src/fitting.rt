@@ -11,6 +11,7 @@ use rational::Extended;
 use std::cmp::Ordering;
 
 /// a + b, where it fits.
+#[inline]
 pub fn sum(a: Frac, b: Frac) -> Frac
     requires { SumFits a b }
     ensures { result ≡ a +ℚ b }
@@ -19,6 +20,7 @@ pub fn sum(a: Frac, b: Frac) -> Frac
 }
 
 /// a - b, where it fits.
+#[inline]
 pub fn difference(a: Frac, b: Frac) -> Frac
     requires { SumFits a (neg_ℚ b) }
     ensures { result ≡ a -ℚ b }
@@ -27,6 +29,7 @@ pub fn difference(a: Frac, b: Frac) -> Frac
 }
 
 /// a b, where it fits.
+#[inline]
 pub fn product(a: Frac, b: Frac) -> Frac
     requires { IsSmall (a *ℚ b) }
     ensures { result ≡ a *ℚ b }

@@ -1,6 +1,6 @@
 //! The exact fraction.
 
-ghost use Rattle.std.specs.Prelude.{refl, ◌≡◌, ◌≢◌, ◌↔◌, ◌<◌, ◌≤◌, ◌^◌, ℤ, pos, unsigned_abs, IsOk, IsErr, IfOk, IfErr, IsTrue, ◌++◌, OnOk, OnErr};
+ghost use Rattle.std.specs.Prelude.{refl, ◌≡◌, ◌≢◌, ◌↔◌, ◌<◌, ◌≤◌, ◌^◌, ℤ, pos, unsigned_abs, nat_abs, IsOk, IsErr, IfOk, IfErr, IsTrue, ◌++◌, OnOk, OnErr};
 ghost use Rattle.std.specs.Ordering.{MatchOrdering, is_eq, as_partial_cmp};
 ghost use Rattle.rational.specs.Rational.{ℚ, den, int, ◌+ℚ◌, ◌-ℚ◌, ◌*ℚ◌, ◌/ℚ◌, ◌≤ℚ◌, ◌<ℚ◌, neg_ℚ, inv_ℚ};
 ghost use Rattle.rational.specs.Ratio.{ratio, with_sign, IsSmall, SumFits, cmp_q};
@@ -156,6 +156,15 @@ impl Frac {
         self.num
     }
 
+    /// The size of the numerator in lowest terms.
+    #[inline]
+    pub fn numerator_size(&self) -> u128
+        ensures value { result ≡ nat_abs self.now.num }
+        ensures size { result < 2 ^ 127 }
+    {
+        self.numerator().unsigned_abs()
+    }
+
     /// The denominator in lowest terms.
     #[inline]
     pub fn denominator(&self) -> u128
@@ -198,12 +207,16 @@ impl Frac {
     pub fn size_up(self) -> u128
         ensures { result ≡ size_up self }
     {
+        if self.den == 1 {
+            return self.num.unsigned_abs();
+        }
         let (whole, rest) = divide(self.num.unsigned_abs(), self.den);
         if rest == 0 { whole } else { whole + 1 }
     }
 
     /// The exact sum. Refused only where a cross product over the least common denominator, their
     /// sum or that denominator is above 2^127 - 1 in size.
+    #[inline]
     pub fn add(a: Frac, b: Frac) -> Result<Frac, Wide>
         ensures value { IfOk result (λ f. f ≡ a +ℚ b) }
         ensures fits { SumFits a b → IsOk result }
@@ -216,6 +229,7 @@ impl Frac {
     }
 
     /// The exact difference. Refused as a sum is.
+    #[inline]
     pub fn sub(a: Frac, b: Frac) -> Result<Frac, Wide>
         ensures value { IfOk result (λ f. f ≡ a -ℚ b) }
         ensures fits { SumFits a (neg_ℚ b) → IsOk result }
@@ -229,6 +243,7 @@ impl Frac {
     }
 
     /// The exact product. Refused exactly where its lowest terms do not fit.
+    #[inline]
     pub fn mul(a: Frac, b: Frac) -> Result<Frac, Wide>
         ensures value { IfOk result (λ f. f ≡ a *ℚ b) }
         ensures fits { IsOk result ↔ IsSmall (a *ℚ b) }
@@ -335,6 +350,7 @@ impl PartialEq for Frac {
 
     ghost laws = { same_q_partial };
 
+    #[inline]
     fn eq(&self, other: &Frac) -> bool
         ensures is { result ≡ same_q self.now other.now }
         ensures same { IsTrue result ↔ (self.now ≡ other.now) }
@@ -372,7 +388,8 @@ impl Ord for Frac {
 
     ghost matches_eq = { λ x y. refl };
 
-    /// The order of the two, by whole parts and reciprocals: nothing is multiplied.
+    /// The order of the two: by the cross products where these fit, else by whole parts and reciprocals.
+    #[inline]
     fn cmp(&self, other: &Frac) -> Ordering
         ensures is { result ≡ cmp_q self.now other.now }
         ensures ranks { MatchOrdering result (self.now <ℚ other.now) (self.now ≡ other.now) (other.now <ℚ self.now) }

@@ -1,10 +1,11 @@
-//! The order of fractions, by whole parts and reciprocals: nothing is multiplied, so nothing is too wide.
+//! The order of fractions: by cross products that fit, else by whole parts and reciprocals. Nothing is too wide.
 
 ghost use Rattle.std.specs.Prelude.{◌≡◌, ◌<◌, ◌≤◌, ◌*◌, pos, ◌*ℤ◌, unsigned_abs, ◌^◌};
 ghost use Rattle.std.specs.Ordering.{nat_cmp, int_cmp};
 ghost use Rattle.rational.specs.Floor.{IsWholeAndRest};
 
 use crate::division::divide;
+use crate::products::{SHORT, is_short};
 use std::cmp::Ordering;
 
 /// The largest whole number that is at most num / den, and what is left over it, as a numerator.
@@ -24,6 +25,7 @@ pub(crate) fn whole_and_rest(num: i128, den: u128) -> (i128, u128)
 }
 
 /// a / d against b / e.
+#[inline]
 pub(crate) fn compare_signed(a: i128, d: u128, b: i128, e: u128) -> Ordering
     requires left { 0 < d }
     requires right { 0 < e }
@@ -33,6 +35,20 @@ pub(crate) fn compare_signed(a: i128, d: u128, b: i128, e: u128) -> Ordering
 {
     if d == e {
         return a.cmp(&b);
+    }
+    compare_apart(a, d, b, e)
+}
+
+/// a / d against b / e, by the cross products where they are known to fit, else by whole parts.
+fn compare_apart(a: i128, d: u128, b: i128, e: u128) -> Ordering
+    requires left { 0 < d }
+    requires right { 0 < e }
+    requires left_top { unsigned_abs a < 2 ^ 127 }
+    requires right_top { unsigned_abs b < 2 ^ 127 }
+    ensures { result ≡ int_cmp (a *ℤ pos e) (b *ℤ pos d) }
+{
+    if is_short(a) && is_short(b) && d < SHORT && e < SHORT {
+        return (a * e as i128).cmp(&(b * d as i128));
     }
     let (left, over) = whole_and_rest(a, d);
     let (right, rest) = whole_and_rest(b, e);

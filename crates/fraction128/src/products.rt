@@ -1,6 +1,6 @@
 //! Products of numbers and of fractions.
 
-ghost use Rattle.std.specs.Prelude.{◌≡◌, ◌<◌, ◌≤◌, ◌^◌, ◌*◌, ℤ, pos, ◌*ℤ◌, unsigned_abs, MatchOption};
+ghost use Rattle.std.specs.Prelude.{◌≡◌, ◌<◌, ◌≤◌, ◌^◌, ◌*◌, ℤ, pos, ◌*ℤ◌, unsigned_abs, MatchOption, IsTrue, ◌↔◌};
 ghost use Rattle.rational.specs.Rational.{◌*ℚ◌};
 ghost use Rattle.rational.specs.Ratio.{ratio, IsSmall};
 ghost use Rattle.fraction128.specs.Parts.{AreLowest};
@@ -9,7 +9,7 @@ use crate::division::{gcd_of, quotient};
 use crate::fraction::{Frac, LARGEST, with_sign};
 
 /// Two numbers below this have a product below 2^126.
-const SHORT: u128 = 1 << 63;
+pub(crate) const SHORT: u128 = 1 << 63;
 
 /// The product, where it is at most 2^127 - 1.
 #[inline]
@@ -37,9 +37,31 @@ pub(crate) fn signed_product(a: i128, b: u128) -> Option<i128>
     a.checked_mul(b as i128)
 }
 
-/// (a / d) (b / e), of fractions in lowest terms. Each numerator is first divided by what it has in
-/// common with the other's denominator: then the products are in lowest terms.
+/// (a / d) (b / e), of fractions in lowest terms.
+#[inline]
 pub(crate) fn product_of(a: i128, d: u128, b: i128, e: u128) -> Option<Frac>
+    requires left { AreLowest a d }
+    requires right { AreLowest b e }
+    ensures { let exact = ratio a (pos d) *ℚ ratio b (pos e) in
+        MatchOption result (¬ (IsSmall exact)) (λ f. (f ≡ exact) × IsSmall exact) }
+{
+    if d == 1 && e == 1 && is_short(a) && is_short(b) {
+        return Some(Frac::from_whole(a * b));
+    }
+    product_across(a, d, b, e)
+}
+
+/// Whether the number is below 2^63 in size.
+#[inline]
+pub(crate) fn is_short(n: i128) -> bool
+    ensures { IsTrue result ↔ (unsigned_abs n < 2 ^ 63) }
+{
+    n.unsigned_abs() < SHORT
+}
+
+/// (a / d) (b / e). Each numerator is first divided by what it has in common with the other's
+/// denominator: then the products are in lowest terms.
+fn product_across(a: i128, d: u128, b: i128, e: u128) -> Option<Frac>
     requires left { AreLowest a d }
     requires right { AreLowest b e }
     ensures { let exact = ratio a (pos d) *ℚ ratio b (pos e) in

@@ -1,7 +1,7 @@
 //! Sums of fractions.
 
-ghost use Rattle.std.specs.Prelude.{◌≡◌, ◌<◌, ◌≤◌, ◌^◌, ◌*◌, ℤ, pos, ◌*ℤ◌, unsigned_abs, MatchOption};
-ghost use Rattle.rational.specs.Rational.{◌+ℚ◌};
+ghost use Rattle.std.specs.Prelude.{◌≡◌, ◌<◌, ◌≤◌, ◌^◌, ◌*◌, ℤ, pos, ◌+ℤ◌, ◌*ℤ◌, unsigned_abs, MatchOption};
+ghost use Rattle.rational.specs.Rational.{int, ◌+ℚ◌};
 ghost use Rattle.rational.specs.Ratio.{ratio, PartsFit};
 ghost use Rattle.fraction128.specs.Parts.{AreLowest};
 
@@ -10,7 +10,32 @@ use crate::fraction::{Frac, LARGEST, with_sign};
 use crate::products::{product, signed_product};
 
 /// a / d + b / e, of fractions in lowest terms.
+#[inline]
 pub(crate) fn sum_of(a: i128, d: u128, b: i128, e: u128) -> Option<Frac>
+    requires left { AreLowest a d }
+    requires right { AreLowest b e }
+    ensures { MatchOption result (¬ (PartsFit a d b e)) (λ f. f ≡ ratio a (pos d) +ℚ ratio b (pos e)) }
+{
+    if d == 1 && e == 1 {
+        return whole_sum(a, b);
+    }
+    sum_over_both(a, d, b, e)
+}
+
+/// a + b, of whole numbers.
+#[inline]
+fn whole_sum(a: i128, b: i128) -> Option<Frac>
+    ensures { MatchOption result (2 ^ 127 ≤ unsigned_abs (a +ℤ b)) (λ f. f ≡ int (a +ℤ b)) }
+{
+    let sum = a.checked_add(b)?;
+    if sum == i128::MIN {
+        return None;
+    }
+    Some(Frac::from_whole(sum))
+}
+
+/// a / d + b / e, over the least common denominator.
+fn sum_over_both(a: i128, d: u128, b: i128, e: u128) -> Option<Frac>
     requires left { AreLowest a d }
     requires right { AreLowest b e }
     ensures { MatchOption result (¬ (PartsFit a d b e)) (λ f. f ≡ ratio a (pos d) +ℚ ratio b (pos e)) }

@@ -11,11 +11,12 @@ use Rattle.net_cells.specs.Equations.{MeetsEquations}
 use Rattle.net_cells.specs.declared.cell.Kind.TheVariants.{QueueDelay, QueueBacklog, Tfa, Sfa, Bound}
 use Rattle.net_cells.specs.Meanings.{CellTable}
 use Rattle.net_cells.specs.Numbered.{flow_at, is_live, queues}
+use Rattle.net_cells.proofs.Growing.{flat_below}
 use Rattle.net_cells.proofs.Tables.{tables_agree}
 use Rattle.report_text.specs.CellWords.{server_name}
 use Rattle.report_text.specs.Laws.{AgreeWherePrinted}
 use Rattle.report_text.specs.Shown.{shown}
-use Rattle.report_text.proofs.Agree.{flat_range, same_shown, one_report}
+use Rattle.report_text.proofs.Agree.{same_shown, one_report}
 use Rattle.serde_json.specs.Data.{Data, Members, number, unsigned, array, object, no_members, member}
 use Rattle.serde_json.specs.View.{items_of}
 use Rattle.json_report.specs.declared.form.Form.TheVariants.{Lines, Json}
@@ -57,20 +58,20 @@ same_live net at other i (Some f) agree e =
 same_flows : (net : Net) (at other : CellTable) → AgreeWherePrinted net at other
     → flows_data net at ≡ flows_data net other
 same_flows net at other agree =
-    flat_range (flow_at_data net at) (flow_at_data net other) (length net.flows)
+    flat_below (flow_at_data net at) (flow_at_data net other) (length net.flows)
     (λ i h. same_live net at other i (flow_at net i) agree refl)
 
 same_range : (f g : ℕ → Data) (n : ℕ) → ((k : ℕ) → k < n → f k ≡ g k)
     → map f (range_with_len 0 n) ≡ map g (range_with_len 0 n)
 same_range f g n same =
     sym (flat_map_single f (range_with_len 0 n))
-    ∙ flat_range (λ k. f k ∷ []) (λ k. g k ∷ []) n (λ k h. ap (λ (d : Data). d ∷ []) (same k h))
+    ∙ flat_below (λ k. f k ∷ []) (λ k. g k ∷ []) n (λ k h. ap (λ (d : Data). d ∷ []) (same k h))
     ∙ flat_map_single g (range_with_len 0 n)
 
 same_queues : (net : Net) (at other : CellTable) → AgreeWherePrinted net at other
     → queues_data net at ≡ queues_data net other
 same_queues net at other agree =
-    flat_range (server_queues net at) (server_queues net other) (length net.servers)
+    flat_below (server_queues net at) (server_queues net other) (length net.servers)
     (λ s h. same_range (queue_data (server_name net s) at s) (queue_data (server_name net s) other s) (queues net s)
     (λ q k. same_queue net at other (server_name net s) s q agree k))
 

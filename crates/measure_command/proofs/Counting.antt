@@ -1,7 +1,6 @@
 -- The steps of an answer, and the statuses of refusals.
 use Rattle.std.specs.Prelude.{◌≡◌, ◌≢◌, ◌⊎◌, ℕ, ◌+◌, ◌≤◌, List, Result, Ok, Err, IfOk}
-use Rattle.std.proofs.Common.{arith, refl, sym, ap, subst, ◌∙◌, inl, inr}
-use Rattle.upp_limits.specs.declared.own_limits.OverLimit.{OverLimit}
+use Rattle.std.proofs.Common.{arith, ap, inl, inr}
 use Rattle.upp_limits.specs.declared.own_limits.OverLimit.TheVariants.{TooMany, TooWide}
 use Rattle.net_text.specs.Folds.{StepsAtMost}
 use Rattle.subadd_closure.specs.FoldWork.{fold_work}
@@ -16,11 +15,6 @@ no_net_status : (file bytes : List ℕ) (reply : Reply) → IsNoNetwork file byt
 no_net_status file bytes reply (inl h) = λ e. let k : reply.status ≡ 1 = ap (λ (r : Reply). r.status) h.is in omega arith
 no_net_status file bytes reply (inr (TooMany, h)) = λ e. let k : reply.status ≡ 7 = ap (λ (r : Reply). r.status) h.is in omega arith
 no_net_status file bytes reply (inr (TooWide, h)) = λ e. let k : reply.status ≡ 6 = ap (λ (r : Reply). r.status) h.is in omega arith
-
--- an answer that is one refusal, or none
-pub refused_status : {E : Type 0} (reply : Reply) (r : Result Answer E) → reply.status ≢ 0 → IfOk r (λ a. reply_of a ≡ reply) → status_of r ≢ 0
-refused_status reply (Ok a) other is = λ e. other (sym (ap (λ (x : Reply). x.status) is) ∙ e)
-refused_status reply (Err e) other is = λ k. omega arith
 
 no_net_answer : {E : Type 0} (file bytes : List ℕ) (r : Result Answer E) → IfOk r (λ a. IsNoNetwork file bytes (reply_of a)) → status_of r ≢ 0
 no_net_answer file bytes (Ok a) h = no_net_status file bytes (reply_of a) h

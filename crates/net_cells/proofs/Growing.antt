@@ -1,5 +1,5 @@
 -- Lists that grow as a loop goes on.
-use Rattle.std.proofs.Common.{◌≡◌, ℕ, ◌<◌, ◌+◌, List, [], ◌∷◌, ◌++◌, length, get_or, map, take, refl, sym, ap, ◌∙◌, arith, Bool, true, false, cond, append_assoc, append-nil, map-id}
+use Rattle.std.proofs.Common.{◌≡◌, ℕ, zero, suc, ◌<◌, ◌+◌, List, [], ◌∷◌, ◌++◌, length, get_or, map, take, refl, sym, ap, ◌∙◌, arith, Bool, true, false, cond, append_assoc, append-nil, map-id}
 use Rattle.std.specs.List.{filter, flat_map, range_with_len}
 use Rattle.std.proofs.lemmas.Bool.{cond-true, cond-false}
 use Rattle.std.proofs.lemmas.List.{take_more, map-append}
@@ -18,6 +18,16 @@ pub flat_more : {Y : Type 0} (f : ℕ → List Y) (n : ℕ)
 flat_more f n =
     ap (flat_map f) (range_more n) ∙ flat_map-append f (range_with_len 0 n) (n ∷ [])
     ∙ ap (λ ys. flat_map f (range_with_len 0 n) ++ ys) (append-nil (f n))
+
+pub flat_below : {Y : Type 0} (f g : ℕ → List Y) (n : ℕ) → ((k : ℕ) → k < n → f k ≡ g k)
+    → flat_map f (range_with_len 0 n) ≡ flat_map g (range_with_len 0 n)
+flat_below f g zero same = refl
+flat_below f g (suc n) same =
+    let next : suc n ≡ n + 1 = omega arith in
+    ap (λ m. flat_map f (range_with_len 0 m)) next ∙ flat_more f n
+    ∙ ap (λ ys. ys ++ f n) (flat_below f g n (λ k h. same k (omega (arith, h))))
+    ∙ ap (λ ys. flat_map g (range_with_len 0 n) ++ ys) (same n (omega arith))
+    ∙ sym (flat_more g n) ∙ sym (ap (λ m. flat_map g (range_with_len 0 m)) next)
 
 -- ---- a list with more at its end, behind an old one
 pub behind : {Y : Type 0} (old items new more front whole : List Y) → items ≡ old ++ front → new ≡ items ++ more

@@ -12,10 +12,11 @@ use Rattle.net_model.specs.Names.{DifferInName}
 use Rattle.net_model.specs.Accepted.{IsFlow, IsAccepted}
 use Rattle.net_edits.specs.Changed.{put_flow, with_more}
 use Rattle.net_edits.specs.Values.{place_fits, quanta_fit}
-use Rattle.net_edits.proofs.Places.{pairs-set, all_of}
+use Rattle.net_edits.proofs.Places.{pairs-set}
 use Rattle.net_edits.proofs.Fitting.{accepted_fits}
 use Rattle.std.proofs.Math.Bool.{and-true}
 use Rattle.net_model.proofs.Placed.{MayBe}
+use Rattle.net_model.proofs.Short.{all_of}
 
 all_may_be : (net : Net) → IsAccepted net → (o : Option NetFlow) → Contains net.flows o → MayBe net.servers o
 all_may_be net a o m f e = a.flows f (subst (λ (p : Option NetFlow). Contains net.flows p) e m)

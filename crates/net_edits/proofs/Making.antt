@@ -4,12 +4,12 @@ use Rattle.std.specs.Prelude.{All, Option, Some, Result, slice_set}
 use Rattle.std.proofs.lemmas.List.{length-set}
 use Rattle.std.proofs.lemmas.List.Elements.{All-set}
 use Rattle.rational.specs.Rational.{ℚ, ◌≤ℚ◌, ◌<ℚ◌}
-use Rattle.rational.proofs.Laws.{le_trans, le_of_lt, lt_irrefl, lt_le_trans}
+use Rattle.rational.proofs.Laws.{le_trans, le_of_lt, lt_irrefl, lt_le_trans, not_le_of_lt}
 use Rattle.min_plus.specs.Functions.{zero_q}
 use Rattle.upp_curve.specs.Curve.{SpecCurve}
 use Rattle.upp_curve.specs.Kinds.{rate_latency, gate}
 use Rattle.curve_library.specs.Causes.{OneNegative, NoSlot}
-use Rattle.curve_library.proofs.SignTests.{none_negative, not_below}
+use Rattle.curve_library.proofs.SignTests.{none_negative}
 use Rattle.run_laws.specs.Servers.{Discipline, Fifo, Priority, Drr, queue_count}
 use Rattle.net_model.specs.declared.server.ServiceKind.{ServiceKind}
 use Rattle.net_model.specs.declared.server.ServiceKind.TheVariants.{Latency, Gate, Listed}
@@ -41,7 +41,7 @@ none_below x y h k = none_negative x y (le_of_lt h) k
 pub some_slot : (cycle slot : ℚ) → zero_q <ℚ slot → slot ≤ℚ cycle → ¬ (NoSlot cycle slot)
 some_slot cycle slot h k (inl l) = lt_irrefl zero_q (lt_le_trans h (le_trans k l))
 some_slot cycle slot h k (inr (inl e)) = lt_irrefl zero_q (subst (λ (x : ℚ). zero_q <ℚ x) e h)
-some_slot cycle slot h k (inr (inr l)) = not_below slot cycle k l
+some_slot cycle slot h k (inr (inr l)) = not_le_of_lt l k
 
 by_kind : (number : ℕ) (rate : ℚ) (service : SpecCurve) (kind same : ServiceKind) (r : Result SpecCurve EditFault) → kind ≡ same
     → Makes (made_by_kind number same (service_of_kind rate same service)) (λ (d : SpecCurve). d ≡ service_of_kind rate same service) r

@@ -1,9 +1,8 @@
 -- Lists with one element set, and the first element that passes a test.
 use Rattle.std.proofs.Common.{◌≡◌, ◌≢◌, ℕ, zero, suc, ◌+◌, ◌<◌, ◌≤◌, ◌==◌, List, [], ◌∷◌, ◌++◌, length, get_or, take, drop, Option, Some, None, Bool, true, false, cond, refl, sym, ap, ◌∙◌, subst, inl, inr, arith}
-use Rattle.std.specs.Prelude.{slice_get, slice_set, All, AllPairs, Contains, is_none, nat_lt}
+use Rattle.std.specs.Prelude.{slice_get, slice_set, AllPairs, is_none, nat_lt}
 use Rattle.std.specs.List.{position, position_or_len}
 use Rattle.std.proofs.lemmas.List.{get_or-set_same, get_or-set_other, length-set, take-append-drop, drop_more, take_more}
-use Rattle.std.proofs.lemmas.List.Elements.{Contains-get_or}
 use Rattle.std.proofs.lemmas.List.Sums.{position_or_len_is, fails_before_first}
 use Rattle.std.proofs.lemmas.Bool.{cases_lt, lt-ltb, le-ltb}
 use Rattle.std.proofs.lemmas.Bool.Decides.{eqb_tells}
@@ -67,9 +66,6 @@ module _ {X : Type 0} (R : X → X → Type 0) (xs : List X) (i : ℕ) (x y : X)
   pub pairs-set : AllPairs R (slice_set xs i y)
   unfolding put
   pairs-set j k d less within = two j k d less (pairs j k d less (omega (arith, within, length-set xs i y)))
-
-pub all_of : {X : Type 0} (P : X → Type 0) (xs : List X) → ((x : X) → Contains xs x → P x) → All P xs
-all_of P xs each k d within = each (get_or xs k d) (Contains-get_or xs k d within)
 
 -- ---- the first that passes
 pub found_is : {X : Type 0} (p : X → Bool) (xs : List X) (k : ℕ) (d : X) → k < length xs → p (get_or xs k d) ≡ true

@@ -5,3 +5,4 @@ pub mod GatePaces
 pub mod KindsStand
 pub mod PlainNets
 pub mod FewQueues
+pub mod Short

@@ -4,6 +4,7 @@ use Rattle.std.specs.List.{AllZip}
 use Rattle.std.proofs.Common.{◌≡◌, ℕ, ◌<◌, Bool, true, false, List, length, map, get_or, Option, Some, Ok, refl, sym, ap, ◌∙◌, subst, arith}
 use Rattle.std.proofs.lemmas.List.{length-map, get_or-map}
 use Rattle.std.proofs.lemmas.List.Elements.{All-contains}
+use Rattle.std.proofs.lemmas.Option.{same_Some}
 use Rattle.rational.specs.Rational.{ℚ, ◌≤ℚ◌, ◌<ℚ◌}
 use Rattle.upp_curve.specs.Curve.{SpecCurve, value_at}
 use Rattle.min_plus.specs.Functions.{zero_q}
@@ -80,8 +81,6 @@ names_differ : (t u : ServerText) (m n : NetServer) → IsServerOf t m → IsSer
 names_differ t u m n r q apart e = apart (sym r.name ∙ e ∙ q.name)
 
 -- ---- networks
-same_flow : (f g : NetFlow) → Some f ≡ Some g → f ≡ g
-same_flow f g h = cc
 
 -- where closures are made by folds of which Over says which limit they are over
 module _ (Over : SpecCurve → OverLimit → Type 0) where
@@ -135,7 +134,7 @@ module _ (Over : SpecCurve → OverLimit → Type 0) where
       zip_all (λ d s. IsServerOf (server_text d) s) IsServerDraft IsServer is_server d.servers.items net.servers h.servers (zip_unmap IsServerOf server_text d.servers.items net.servers b.servers) in
       let flows : All (MayBe net.servers) net.flows =
       zip_all (λ (f : FlowDraft) o. IsLiveFlowOf Over (flow_text f) o) (λ (f : FlowDraft). IsFlowDraft ts f × All (IsWithinQuantum ts f.packet) f.path.items) (MayBe net.servers)
-      (λ e o p r f is. subst (IsFlow net.servers) (same_flow r.flow f (sym r.live ∙ is)) (is_flow ts net.servers e r.flow b.servers p.0 p.1 r.is))
+      (λ e o p r f is. subst (IsFlow net.servers) (same_Some r.flow f (sym r.live ∙ is)) (is_flow ts net.servers e r.flow b.servers p.0 p.1 r.is))
       d.flows.items net.flows (λ k e within. (h.flows k e within, fits k e within)) (zip_unmap (IsLiveFlowOf Over) flow_text d.flows.items net.flows b.flows) in
       let many : length net.servers ≡ length d.servers.items = zip_length IsServerOf ts net.servers b.servers ∙ length-map d.servers.items server_text in
       let more : length net.flows ≡ length d.flows.items = zip_length (IsLiveFlowOf Over) fs net.flows b.flows ∙ length-map d.flows.items flow_text in

@@ -6,6 +6,7 @@ use Rattle.upp_curve.specs.Curve.{SpecCurve, value_at}
 use Rattle.min_plus.specs.Convolution.{Parts, sum_at}
 use Rattle.upp_limits.specs.declared.own_limits.OverLimit.{OverLimit}
 use Rattle.upp_curve.proofs.OneForm.{normal_unique}
+use Rattle.upp_limits.proofs.OneLimit.{one_limit}
 use Rattle.net_model.specs.Networks.{Net, NetServer, NetFlow}
 use Rattle.net_draft.specs.Faults.{Fault, Read}
 use Rattle.net_draft.specs.Made.{IsMade}
@@ -17,7 +18,7 @@ use Rattle.net_text.specs.Firsts.{PlacedCurve, services_from, arrivals_from, cur
 use Rattle.net_text.specs.Laws.{EachFileSaysOneThing}
 use Rattle.net_text.specs.Reading.{IsNetworkOf, FirstFault}
 use Rattle.net_text.proofs.Zips.{zip_one}
-use Rattle.curve_library.proofs.Answering.{over_within, one_limit}
+use Rattle.curve_library.proofs.Answering.{over_within}
 
 -- ---- what was made of a text
 pub one_made : (text : CurveText) (a b : SpecCurve) → IsCurveOf text a → IsCurveOf text b → a ≡ b

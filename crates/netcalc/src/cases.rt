@@ -2889,7 +2889,7 @@ path = ["s1"]
 #[test]
 fn edits(rt: HostRuntime) -> Result<(), Fail> {
     let alloc = rt.alloc();
-    let rows: [(&str, &[(&str, &str)], u8, &str); 16] = [
+    let rows: [(&str, &[(&str, &str)], u8, &str); 17] = [
         // a_cell_that_is_too_wide
         (
             "netcalc edit n.toml e.csv",
@@ -3391,6 +3391,44 @@ queue s2 0 delay 68010/481 backlog 9687000/481
 queue s3 0 delay 70 backlog 13000
 flow f1 tfa 149780/481 sfa 7627639/18278 bound 149780/481
 flow f2 tfa 149780/481 sfa 774911/1482 bound 149780/481
+"#,
+        ),
+        // a_rate_touches_the_sum_behind_its_link
+        (
+            "netcalc edit n.toml e.csv",
+            &[
+                ("e.csv", "rate,s1,200\n"),
+                (
+                    "n.toml",
+                    r#"version = 2
+[[server]]
+name = "s1"
+rate = 100
+service = { kind = "list", piece = [{ x = 0, at = 0 }, { x = 10, at = 0, slope = 100 }] }
+[[server]]
+name = "s2"
+rate = 100
+service = { kind = "latency", latency = 10 }
+[[flow]]
+name = "f1"
+packet = 12000
+arrival = { kind = "bucket", burst = 12000, rate = 10 }
+path = ["s1", "s2"]
+[[flow]]
+name = "f2"
+packet = 6000
+arrival = { kind = "bucket", burst = 6000, rate = 5 }
+path = ["s1", "s2"]
+"#,
+                ),
+            ],
+            0,
+            r#"edit 1 ok cells 9
+servers 2 flows 2
+queue s1 0 delay 190 backlog 19950
+queue s2 0 delay 6580/37 backlog 22800
+flow f1 tfa 13610/37 sfa 15281/38 bound 13610/37
+flow f2 tfa 13610/37 sfa 1237/3 bound 13610/37
 "#,
         ),
         // an_empty_list

@@ -1,5 +1,4 @@
 -- The network of the example is accepted, its one server is its order, and one packet through it is a run of it.
-use Rattle.std.specs.Prelude.{All, AllPairs, Contains, IsTrue}
 use Rattle.std.proofs.Common.{◌≡◌, ◌≢◌, ℕ, zero, suc, ◌<◌, [], ◌∷◌, length, get_or, take, true, false, Some, refl, ap}
 use Rattle.std.proofs.Common.{subst, arith}
 use Rattle.rational.specs.Rational.{◌-ℚ◌}
@@ -17,39 +16,20 @@ use Rattle.run_laws.specs.RunPremises.{EnterSizes, entered_in}
 use Rattle.run_laws.specs.Views.{view}
 use Rattle.run_laws.proofs.OnePacket.{one_packet_reaches_its_bound}
 use Rattle.net_model.specs.Accepted.{IsServer, IsHop, IsFlow, IsAccepted}
-use Rattle.net_model.specs.Names.{IsName, is_name_byte, DifferInName}
+use Rattle.net_model.specs.Names.{DifferInName}
 use Rattle.net_model.specs.Networks.{NetFlow}
 use Rattle.net_model.specs.Orders.{IsReady, IsOrder}
 use Rattle.net_model.specs.Walks.{IsNext}
 use Rattle.net_model.proofs.KindsStand.{kinds_may_stand}
+use Rattle.net_model.proofs.Short.{no_pairs, alone, named_by_two}
 use Rattle.net_cells.specs.Numbered.{packet, arrival, service}
 use Rattle.net_bounds.specs.NetRuns.{routes_of, IsRunOf}
 use Rattle.netcalc_cli.specs.Example.{its_server, its_flow, one_flow}
 
--- ---- names
--- of two bytes
-named : (a b : ℕ) → is_name_byte a ≡ true → is_name_byte b ≡ true → IsName (a ∷ b ∷ [])
-named a b h k = record { some = omega arith; few = omega arith; bytes = bytes }
-  where
-    bytes : All (λ c. IsTrue (is_name_byte c)) (a ∷ b ∷ [])
-    bytes zero d l = h
-    bytes (suc zero) d l = k
-    bytes (suc (suc j)) d l = absurd (omega (arith, l))
-
--- a list of one has no two places
-no_pairs : {A : Type 0} (R : A → A → Type 0) (x : A) → AllPairs R (x ∷ [])
-no_pairs R x i zero d before within = absurd (omega (arith, before))
-no_pairs R x i (suc j) d before within = absurd (omega (arith, within))
-
--- what it contains is that one
-alone : {A : Type 0} (x y : A) → Contains (x ∷ []) y → x ≡ y
-alone x y (zero, within, is) = is
-alone x y (suc k, within, is) = absurd (omega (arith, within))
-
 -- ---- accepted
 is_server : IsServer its_server
 is_server = record {
-  name = named 115 49 refl refl;
+  name = named_by_two 115 49 refl refl;
   rate = nat_lt 0 100 (omega arith);
   kind = (nat_nonneg 10, refl);
   service = kinds_may_stand.rate_latency (whole 100) (whole 10) (nat_nonneg 100) (nat_nonneg 10);
@@ -63,7 +43,7 @@ is_hop (suc k) within = absurd (omega (arith, within))
 
 is_flow : IsFlow one_flow.servers its_flow
 is_flow = record {
-  name = named 102 49 refl refl;
+  name = named_by_two 102 49 refl refl;
   packet = (omega arith, omega arith);
   some = omega arith;
   few = omega arith;

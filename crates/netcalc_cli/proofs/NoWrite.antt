@@ -1,10 +1,11 @@
 -- No reply has the status of a write that failed.
-use Rattle.std.proofs.Common.{◌≡◌, ◌≢◌, ℕ, List, [], ◌∷◌, Option, Some, None, inl, inr, sym, ap, ◌∙◌, arith}
+use Rattle.std.proofs.Common.{◌≡◌, ◌≢◌, ℕ, List, [], ◌∷◌, Option, Some, None, inl, inr, sym, ◌∙◌, arith}
 use Rattle.rational.specs.Rational.{ℚ}
 use Rattle.upp_limits.specs.declared.own_limits.OverLimit.TheVariants.{TooMany, TooWide}
 use Rattle.net_model.specs.declared.breach.Breach.{Breach}
 use Rattle.command_replies.specs.Replies.{Reply, cannot_read, too_long}
 use Rattle.json_report.specs.declared.form.Form.{Form}
+use Rattle.command_replies.proofs.Statuses.{status_is as status_of}
 use Rattle.analyse_command.specs.OnFiles as analyse
 use Rattle.edit_command.specs.OnEdits as edits
 use Rattle.run_findings.specs.Findings.{status_by}
@@ -18,9 +19,6 @@ use Rattle.netcalc_cli.specs.Commands.{Command, Analyse, Edit, Simulate, Exercis
 use Rattle.netcalc_cli.specs.Files.{Told}
 use Rattle.netcalc_cli.specs.Reply.{MayReplyTo, FailedAt}
 use Rattle.netcalc_cli.proofs.FileLemmas.{first_shows, long_shows}
-
-status_of : (reply to : Reply) → reply ≡ to → reply.status ≡ to.status
-status_of reply to is = ap (λ (r : Reply). r.status) is
 
 other : (status n : ℕ) → status ≡ n → n ≢ 4 → status ≢ 4
 other status n is apart e = apart (sym is ∙ e)

@@ -14,7 +14,7 @@ use Rattle.netcalc_cli.specs.Laws.{RepliesAreDetermined}
 use Rattle.netcalc_cli.specs.Reply.{IsReplyOnFiles, FailedAt, EndsAt, MayReplyTo, Gives, Brings, GivesOnTold, AnswersWhatItCan}
 use Rattle.netcalc_cli.proofs.ByCommand.{IsByStatus, by_command, equal_by_command, one_by_command, complete_by_command}
 use Rattle.netcalc_cli.proofs.ByCommand.{IsGiven, answer_given, counts_by_command}
-use Rattle.netcalc_cli.proofs.FileLemmas.{first_map, first_shows, long_shows, long_first, not_long, long_one, ended}
+use Rattle.netcalc_cli.proofs.FileLemmas.{first_map, first_shows, long_shows, long_first, not_long, long_one, ended, any_told}
 use Rattle.netcalc_cli.proofs.FileLemmas.{same_told, on_told, any_told}
 
 -- ---- what the inputs may bring
@@ -91,15 +91,11 @@ nothing_counted content None inputs status steps five = refl
 nothing_counted content (Some command) inputs status steps five =
     inl (no_answer command status (no_memory status five), refl)
 
-any_some : {A : Type 0} (o : Option A) (P : A → Type 0) → ((x : A) → P x) → IfSome o P
-any_some None P h = tt
-any_some (Some x) P h = h x
-
 pub nothing_told : (asked : Option Command) (told : Told) (status : ℕ) (old new : Option (List ℕ)) → status ≡ 5
     → IfSome asked (λ command. GivesOnTold command told status old new)
 nothing_told asked told status old new five =
-    any_some asked (λ command. GivesOnTold command told status old new)
-    (λ command. any_some (all_told told (files_of command))
+    any_told asked (λ command. GivesOnTold command told status old new)
+    (λ command. any_told (all_told told (files_of command))
     (λ files. ((reply : Reply) × IsReplyOnFiles command files reply × Gives status old new reply)
     ⊎ ((status ≡ 3) ⊎ ((status ≡ 4) ⊎ (status ≡ 5))))
     (λ files. inr (inr (inr five))))
@@ -107,8 +103,8 @@ nothing_told asked told status old new five =
 pub nothing_answered : (asked : Option Command) (told : Told) (status : ℕ) → status ≡ 5
     → IfSome asked (λ command. AnswersWhatItCan command told status)
 nothing_answered asked told status five =
-    any_some asked (λ command. AnswersWhatItCan command told status)
-    (λ command. any_some (all_told told (files_of command))
+    any_told asked (λ command. AnswersWhatItCan command told status)
+    (λ command. any_told (all_told told (files_of command))
     (λ files. AllFit files → IsAnswerable command files
     → IsAnswer command status ⊎ ((status ≡ 3) ⊎ ((status ≡ 4) ⊎ (status ≡ 5))))
     (λ files fit can. inr (inr (inr five))))

@@ -1,12 +1,14 @@
 -- What is taken, `clap` takes; and what it finds is what is asked for.
 use Rattle.std.proofs.Common.{◌≡◌, ◌⊎◌, ℕ, Bool, true, false, List, [], ◌∷◌, length, Option, inl, inr, refl, sym, ap, ◌∙◌, subst}
-use Rattle.std.specs.Prelude.{◌||◌, ◌&&◌, not, codes, if◌then◌else◌}
+use Rattle.std.specs.Prelude.{◌||◌, not, codes, if◌then◌else◌}
 use Rattle.std.specs.Option.{is_some, IsSome}
 use Rattle.std.specs.List.{list_all}
 use Rattle.std.specs.Str.{bytes_eq}
+use Rattle.std.proofs.lemmas.Bool.{and_from}
 use Rattle.std.proofs.lemmas.Slice.Eq.{bytes_eq-Decides}
 use Rattle.command_words.specs.Lines.{AreTaken, IsCallOf, is_operand, operands_of, asks_json, takes_operands, takes_json, takes_rest}
 use Rattle.netcalc_cli.specs.Words.{on_one, on_two, on_four, in_lines, in_json, called, command_on, command_of}
+use Rattle.std.proofs.lemmas.Bool.{and_from}
 
 abbrev Text : Type 0
 Text = List ℕ
@@ -94,15 +96,12 @@ called_taken word operands true h = json_taken word operands h
 called_taken word operands false h = record { operands = lines_taken word operands h; flag = refl }
 
 -- ---- the whole command line
-both : (a b : Bool) → a ≡ true → b ≡ true → (a && b) ≡ true
-both a b h k = rw (h, k) refl
-
 on_taken : (word : Text) (rest : List Text) → IsSome (command_on word (operands_of rest) (asks_json rest))
     → takes_rest word rest ≡ true
 on_taken word rest h = elim (some_if (list_all is_operand (operands_of rest)) _ _ h) [
   | inl (all, k) ↦
       let takes = called_taken word (operands_of rest) (asks_json rest) k in
-      both _ _ takes.operands (both _ _ all takes.flag)
+      and_from _ _ takes.operands (and_from _ _ all takes.flag)
   | inr none ↦ absurd (cc)
 ]
 

@@ -136,7 +136,3 @@ pub none_of_few : (words : Words) → length words < 2 → command_of (texts wor
 none_of_few [] few = refl
 none_of_few (a ∷ []) few = refl
 none_of_few (a ∷ b ∷ c) few = absurd (omega (arith, few))
-
-pub not_some : {A : Type 0} (o : Option A) → false ≡ is_some o → o ≡ None
-not_some None h = refl
-not_some (Some x) h = absurd (cc)

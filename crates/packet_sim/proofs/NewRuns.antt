@@ -1,5 +1,5 @@
 -- A simulation in which nothing has happened yet keeps the state of a run without steps.
-use Rattle.std.specs.Prelude.{Some, None, ◌≡◌, ◌⊎◌, ◌↔◌, ℕ, zero, suc, pos, ◌+◌, ◌<◌, List, [], ◌∷◌, ◌++◌, length, get_or, map, slice_get, replicate, sum_by}
+use Rattle.std.specs.Prelude.{Some, None, ◌≡◌, ◌⊎◌, ◌↔◌, ℕ, zero, suc, pos, ◌+◌, ◌<◌, List, [], ◌∷◌, ◌++◌, length, get_or, map, slice_get, replicate}
 use Rattle.std.proofs.Common.{refl, sym, ap, ◌∙◌, subst, arith, inl, inr}
 use Rattle.std.proofs.lemmas.Bool.{cases_eq, eq-eqb, ne_eqb}
 use Rattle.std.proofs.lemmas.List.{length-map, length_push}
@@ -27,8 +27,9 @@ use Rattle.sim_servers.specs.declared.station.Station.{Station}
 use Rattle.sim_servers.specs.Openings.{stall_times, opening_for, IsInOrder, IsOver}
 use Rattle.sim_servers.specs.Stations.{IsStation, IsOpeningOf, IsNextOf}
 use Rattle.sim_states.specs.declared.arrival.Arrival.{Arrival}
-use Rattle.sim_states.specs.Places.{at_server, ArePlaced}
+use Rattle.sim_states.specs.Places.{ArePlaced}
 use Rattle.sim_states.specs.Running.{AreRising, AreLinks}
+use Rattle.sim_states.proofs.Places.{none_placed}
 use Rattle.packet_sim.specs.Fresh.{IsFreshAt, AreFresh}
 use Rattle.packet_sim.specs.Simulating.{HaveStallTimes, IsSimulating}
 
@@ -164,14 +165,11 @@ same_links links m m' n n' e a b =
     ∙ ap (λ j. let z : Chains = record { nodes = n'; lists = replicate j [] } in z) a
 
 -- ---- places
-none_there : (p : ℕ) (servers : List Server) → sum_by (at_server p) (map (λ (s : Server). start s.discipline) servers) ≡ 0
-none_there p [] = refl
-none_there p (s ∷ ss) = let h = none_there p ss in omega (arith, h)
 
 no_places : (S : Setup) → ArePlaced (run_start S.net)
 no_places S = record {
-  few = λ p. let h = none_there p S.net.servers in omega (arith, h);
-  none = λ p l. let h = none_there p S.net.servers in omega (arith, h);
+  few = λ p. let h = none_placed p S.net.servers in omega (arith, h);
+  none = λ p l. let h = none_placed p S.net.servers in omega (arith, h);
 }
 
 -- ---- one station more

@@ -3,7 +3,7 @@ use Rattle.std.specs.Prelude.{Some, None, ◌≡◌, ℕ, pos, ◌<◌, List, []
 use Rattle.std.proofs.Common.{refl, sym, ap, ◌∙◌, subst, arith, inl}
 use Rattle.rational.specs.Rational.{ℚ, int, ◌-ℚ◌, ◌*ℚ◌, ◌/ℚ◌, ◌≤ℚ◌, ◌<ℚ◌}
 use Rattle.rational.specs.Ratio.{IsSmall}
-use Rattle.rational.proofs.Linear.{with2}
+use Rattle.rational.proofs.Linear.{sub_pos}
 use Rattle.run_laws.specs.declared.steps.Step.{Step}
 use Rattle.run_laws.specs.declared.steps.Step.TheVariants as steps
 use Rattle.run_laws.specs.Cards.{Card, Works, size}
@@ -114,8 +114,6 @@ worked S ok s σ c p same before after a left w k opening rate inside discipline
     }
 
 -- ---- work that goes on
-gap : (a b : ℚ) → a <ℚ b → int (pos 0) <ℚ b -ℚ a
-gap a b h = with2 a b (λ o. omega (arith, o.le, o.lt, o.same))
 
 no_rest : (r : Rest) → None ≡ Some r → ⊥
 no_rest r e = cc
@@ -156,7 +154,7 @@ resuming_now S stations links arrivals n xs d h kind rest is_rest =
       ready = record {
         known = a.known;
         from_zero = good.from_zero;
-        some = gap (done will.under) (size will.under.card) will.not_done;
+        some = sub_pos (done will.under) (size will.under.card) will.not_done;
         opens = will.opens;
         due = λ b w k. (
           a.known,

@@ -1,13 +1,15 @@
 -- Quotients: what they are, how they are told from products, and the order.
-use Rattle.std.specs.Prelude.{◌≡◌, ◌≢◌, ℕ, suc, ◌≤◌, ℤ, pos, ◌↔◌, ◌⊎◌}
+use Rattle.std.specs.Prelude.{◌≡◌, ◌≢◌, ℕ, zero, suc, ◌<◌, ◌≤◌, ◌^◌, ℤ, pos, ◌↔◌, ◌⊎◌}
 use Rattle.std.proofs.Common.{arith, sym, ap, ◌∙◌, subst, inl, inr}
 use Rattle.std.proofs.lemmas.Int.{ints}
 use Rattle.rational.specs.Rational.{ℚ, ◌+ℚ◌, ◌-ℚ◌, ◌*ℚ◌, ◌/ℚ◌, inv_ℚ, neg_ℚ, ◌≤ℚ◌, ◌<ℚ◌, int, frac}
 use Rattle.rational.specs.Fractions.{frac-same}
+use Rattle.rational.specs.Ratio.{IsSmall}
 use Rattle.rational.proofs.Integers.{mul_whole, nat_lt}
 use Rattle.rational.proofs.Laws.{above, mul_comm, add_mul, sub_mul, mul_cancel, mul_le_mul_right, mul_lt_mul_right, mul_sub}
 use Rattle.rational.proofs.Laws.{div_mul, le_of_mul, lt_of_mul, le_or_lt, not_zero, antisym, one_mul, zero_mul}
 use Rattle.rational.proofs.Linear.{with1, with6}
+use Rattle.rational.proofs.Parts.{small_ratio}
 
 -- z is x / y exactly where z y is x
 pub div_unique : (x y z : ℚ) → y ≢ int (pos 0) → z *ℚ y ≡ x → x /ℚ y ≡ z
@@ -35,6 +37,12 @@ pub frac_is_div : (a : ℤ) (d : ℕ) → frac a d ≡ int a /ℚ int (pos (suc 
 frac_is_div a d =
     let some = not_zero (int (pos (suc d))) (nat_lt 0 (suc d) (omega arith)) in
     sym (div_unique (int a) (int (pos (suc d))) (frac a d) some (mul_comm (frac a d) (int (pos (suc d))) ∙ mul_whole (pos (suc d)) a d ∙ frac-same _ _ _ _ (omega (arith, ints))))
+
+-- of two whole numbers below 2^127
+pub quotient_small : (n d : ℕ) → 0 < d → n < 2 ^ 127 → d < 2 ^ 127 → IsSmall (int (pos n) /ℚ int (pos d))
+quotient_small n zero some top bottom = absurd (omega (arith, some))
+quotient_small n (suc d) some top bottom =
+    subst IsSmall (frac_is_div (pos n) d) (small_ratio (pos n) (pos (suc d)) (λ e. omega (arith, ints, e)) top bottom)
 
 -- ---- a product that is 0
 pub mul_zero_cases : (x y : ℚ) → x *ℚ y ≡ int (pos 0) → (x ≡ int (pos 0)) ⊎ (y ≡ int (pos 0))

@@ -1,5 +1,5 @@
 -- Tables that agree where the report prints give the same report.
-use Rattle.std.proofs.Common.{◌≡◌, ℕ, zero, suc, ◌<◌, ◌+◌, List, ◌++◌, length, refl, sym, ap, ◌∙◌, true, arith}
+use Rattle.std.proofs.Common.{◌≡◌, ℕ, ◌<◌, List, ◌++◌, length, refl, ap, ◌∙◌, true}
 use Rattle.std.specs.Prelude.{codes, ◌==◌, ◌&&◌, is_some, IsTrue, Option, Some, None}
 use Rattle.std.specs.Fmt.{decimal}
 use Rattle.std.specs.List.{flat_map, range_with_len}
@@ -10,23 +10,12 @@ use Rattle.net_cells.specs.declared.cell.Kind.TheVariants.{QueueDelay, QueueBack
 use Rattle.net_cells.specs.Cells.{cell_of, has_cell}
 use Rattle.net_cells.specs.Numbered.{flow_at, is_live, queues}
 use Rattle.net_cells.specs.Meanings.{CellTable}
-use Rattle.net_cells.proofs.Growing.{flat_more}
+use Rattle.net_cells.proofs.Growing.{flat_below}
 use Rattle.net_cells.proofs.Tables.{tables_agree}
 use Rattle.report_text.specs.CellWords.{server_name}
 use Rattle.report_text.specs.Shown.{shown, shown_value}
 use Rattle.report_text.specs.Report.{head_line, queue_line, flow_line, queue_lines, live_line, flow_lines, report_of}
 use Rattle.report_text.specs.Laws.{is_printed, AgreeWherePrinted, ReportsAgree, EquationsGiveOneReport}
-
--- ---- lists
-pub flat_range : {Y : Type 0} (f g : ℕ → List Y) (n : ℕ) → ((k : ℕ) → k < n → f k ≡ g k)
-    → flat_map f (range_with_len 0 n) ≡ flat_map g (range_with_len 0 n)
-flat_range f g zero same = refl
-flat_range f g (suc n) same =
-    let next : suc n ≡ n + 1 = omega arith in
-    ap (λ m. flat_map f (range_with_len 0 m)) next ∙ flat_more f n
-    ∙ ap (λ ys. ys ++ f n) (flat_range f g n (λ k h. same k (omega (arith, h))))
-    ∙ ap (λ ys. flat_map g (range_with_len 0 n) ++ ys) (same n (omega arith))
-    ∙ sym (flat_more g n) ∙ sym (ap (λ m. flat_map g (range_with_len 0 m)) next)
 
 -- ---- numbers
 pub same_shown : (net : Net) (at other : CellTable) (kind : Kind) (a b : ℕ) → AgreeWherePrinted net at other
@@ -67,11 +56,11 @@ unfolding report_of
 reports_agree net at other agree =
     let flows = λ (t : CellTable). flat_map (flow_lines net t) (range_with_len 0 (length net.flows)) in
     ap (λ ys. head_line net ++ ys ++ flows at)
-    (flat_range (queue_lines net at) (queue_lines net other) (length net.servers)
-    (λ s h. flat_range (queue_line (server_name net s) at s) (queue_line (server_name net s) other s) (queues net s)
+    (flat_below (queue_lines net at) (queue_lines net other) (length net.servers)
+    (λ s h. flat_below (queue_line (server_name net s) at s) (queue_line (server_name net s) other s) (queues net s)
     (λ q k. same_queue net at other (server_name net s) s q agree k)))
     ∙ ap (λ ys. head_line net ++ flat_map (queue_lines net other) (range_with_len 0 (length net.servers)) ++ ys)
-    (flat_range (flow_lines net at) (flow_lines net other) (length net.flows)
+    (flat_below (flow_lines net at) (flow_lines net other) (length net.flows)
     (λ i h. same_live net at other i (flow_at net i) agree refl))
 
 pub one_report : EquationsGiveOneReport

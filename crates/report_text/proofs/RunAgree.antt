@@ -10,12 +10,13 @@ use Rattle.net_cells.specs.declared.cell.Kind.TheVariants.{QueueBacklog, Bound}
 use Rattle.net_cells.specs.Meanings.{CellTable}
 use Rattle.net_cells.specs.Numbered.{flow_at, is_live, queues}
 use Rattle.net_cells.proofs.Tables.{tables_agree}
+use Rattle.net_cells.proofs.Growing.{flat_below}
 use Rattle.report_text.specs.CellWords.{server_name}
 use Rattle.report_text.specs.Laws.{AgreeWherePrinted, RunReportsAgree, EquationsGiveOneRunReport}
 use Rattle.report_text.specs.Report.{head_line}
 use Rattle.report_text.specs.RunReport.{run_line, worst_line, peak_line, live_worst, worst_lines, peak_lines, breach_line}
 use Rattle.report_text.specs.RunReport.{time_text, bits_text, peak_at, run_report_of}
-use Rattle.report_text.proofs.Agree.{flat_range, same_shown}
+use Rattle.report_text.proofs.Agree.{same_shown}
 
 -- ---- lines
 same_worst : (net : Net) (at other : CellTable) (name : List ℕ) (worst : List ℚ) (i : ℕ)
@@ -49,15 +50,15 @@ pub same_worsts : (net : Net) (at other : CellTable) (worst : List ℚ) → Agre
     → flat_map (worst_lines net at worst) (range_with_len 0 (length net.flows))
     ≡ flat_map (worst_lines net other worst) (range_with_len 0 (length net.flows))
 same_worsts net at other worst same =
-    flat_range (worst_lines net at worst) (worst_lines net other worst) (length net.flows)
+    flat_below (worst_lines net at worst) (worst_lines net other worst) (length net.flows)
     (λ i h. same_live net at other worst i (flow_at net i) same refl)
 
 pub same_peaks : (net : Net) (at other : CellTable) (peaks : List (List ℕ)) → AgreeWherePrinted net at other
     → flat_map (peak_lines net at peaks) (range_with_len 0 (length net.servers))
     ≡ flat_map (peak_lines net other peaks) (range_with_len 0 (length net.servers))
 same_peaks net at other peaks same =
-    flat_range (peak_lines net at peaks) (peak_lines net other peaks) (length net.servers)
-    (λ s h. flat_range (peak_line (server_name net s) at peaks s) (peak_line (server_name net s) other peaks s)
+    flat_below (peak_lines net at peaks) (peak_lines net other peaks) (length net.servers)
+    (λ s h. flat_below (peak_line (server_name net s) at peaks s) (peak_line (server_name net s) other peaks s)
     (queues net s) (λ q k. same_peak net at other (server_name net s) peaks s q same k))
 
 -- ---- reports

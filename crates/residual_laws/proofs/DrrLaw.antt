@@ -9,7 +9,6 @@ use Rattle.rational.specs.declared.Extended.TheVariants.{Fin, Inf}
 use Rattle.rational.proofs.Laws.{le_refl, le_trans, le_of_lt, le_or_lt, mul_le_mul, mul_le_mul_right, mul_add, add_mul, mul_sub, sub_mul, mul_comm, mul_assoc, mul_one}
 use Rattle.rational.proofs.MinMax.{max_q_le}
 use Rattle.rational.proofs.ExtendedOrder.{le_ext_trans, le_ext_refl, add_le_ext}
-use Rattle.rational.proofs.Over.{mul_frac}
 use Rattle.rational.proofs.Whole.{le_of_mul}
 use Rattle.rational.proofs.Linear.{with1, with2, with3, with4, with5, with6, with7, with8}
 use Rattle.min_plus.specs.Pointwise.{excess, scaled}
@@ -21,7 +20,7 @@ use Rattle.run_laws.specs.Allows.{AllAllowed, IsLawfulView}
 use Rattle.run_laws.specs.Counts.{when, before, arrived, worked, departed}
 use Rattle.run_laws.specs.Premises.{EachArrival, KeepsService, KeepsSizes, IsBusy, IsZeroAtStart}
 use Rattle.run_laws.specs.Serves.{Serves, IsServed}
-use Rattle.run_laws.proofs.Sizes.{whole_nonneg, whole_sum, whole_le, whole_lt}
+use Rattle.run_laws.proofs.Sizes.{whole_nonneg, whole_sum, whole_le, whole_lt, whole_times}
 use Rattle.run_laws.proofs.Levels.{finite_below, add_low}
 use Rattle.run_laws.proofs.Sums.{when_true, when_false}
 use Rattle.run_laws.proofs.Clips.{quotient}
@@ -176,9 +175,6 @@ sum_most f i (suc n) h = elim (cases_eq i n) [
   | inl e ↦ let k : f i ≡ f n = ap f e in omega arith
   | inr e ↦ let k = sum_most f i n (omega arith) in omega arith
 ]
-
-pub whole_times : (m n : ℕ) → whole (m * n) ≡ whole m *ℚ whole n
-whole_times m n = sym (mul_frac (pos m) 0 (pos n) 0)
 
 -- ---- the arithmetic of the share
 share_bound : (q f L l P w b : ℚ) → int (pos 0) ≤ℚ q → q ≤ℚ f → P *ℚ q ≤ℚ w +ℚ l → b ≤ℚ w +ℚ (L -ℚ l) +ℚ (P +ℚ int (pos 1)) *ℚ (f -ℚ q)

@@ -9,12 +9,11 @@ use Rattle.rational.proofs.Parts.{small_ratio}
 use Rattle.rational.proofs.Linear.{with3}
 use Rattle.rational.proofs.Quotients.{frac_is_div}
 use Rattle.run_laws.specs.Cards.{whole}
-use Rattle.run_laws.proofs.Sizes.{whole_sum}
+use Rattle.run_laws.proofs.Sizes.{whole_sum, whole_times}
 use Rattle.fraction128.specs.declared.fault.FracFault.{FracFault}
 use Rattle.fraction128.specs.declared.fault.FracFault.TheVariants.{ZeroDen, TooBig}
 use Rattle.residual_laws.specs.DrrCalls.{IsQuantum, AreQueues}
 use Rattle.residual_laws.specs.DrrLaws.{owed}
-use Rattle.residual_laws.proofs.DrrLaw.{whole_times}
 
 -- ---- sums
 pub quanta_small : (quanta longest : List ℕ) → AreQueues quanta longest → sum quanta ≤ 2 ^ 27

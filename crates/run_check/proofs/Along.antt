@@ -1,5 +1,5 @@
 -- The walk from row to row.
-use Rattle.std.proofs.Common.{◌≡◌, ℕ, zero, suc, ◌<◌, ◌≤◌, ◌+◌, List, [], ◌∷◌, ◌++◌, length, take, get_or, refl, sym, ap, ◌∙◌, subst, arith, inl, inr, ◌⊎◌, Some, None, append_assoc, take_all}
+use Rattle.std.proofs.Common.{◌≡◌, ℕ, zero, suc, ◌<◌, ◌≤◌, ◌+◌, List, [], ◌∷◌, ◌++◌, length, take, get_or, sym, ap, ◌∙◌, subst, arith, inl, inr, ◌⊎◌, Some, None, append_assoc, take_all}
 use Rattle.std.specs.Prelude.{Option, slice_get, Result, Ok, Err, IfOk}
 use Rattle.std.proofs.lemmas.Option.{slice_get_within}
 use Rattle.rational.specs.Rational.{ℚ}
@@ -7,6 +7,7 @@ use Rattle.run_laws.specs.declared.steps.Step.{Step}
 use Rattle.run_laws.specs.Runs.{SpecRun}
 use Rattle.run_laws.specs.Routes.{Routes}
 use Rattle.run_laws.specs.Lawful.{RunState, next_run, run_start, after_run}
+use Rattle.run_laws.proofs.Views.{after_more}
 use Rattle.broken_laws.specs.declared.law.Law.{Law}
 use Rattle.broken_laws.specs.Recorded.{IsRecordedStep, AreRecorded}
 use Rattle.broken_laws.specs.FirstBroken.{BreaksNone, NoneBreaks, state_before}
@@ -24,10 +25,6 @@ take_more : (xs : List Step) (k : ℕ) (x : Step) → slice_get xs k ≡ Some x 
 take_more [] k x e = absurd (cc)
 take_more (y ∷ ys) zero x e = let same : y ≡ x = cc in ap (λ z. z ∷ []) same
 take_more (y ∷ ys) (suc k) x e = ap (λ zs. y ∷ zs) (take_more ys k x e)
-
-after_more : (net : Routes) (r : RunState) (xs : List Step) (x : Step) → after_run net r (xs ++ x ∷ []) ≡ next_run net (after_run net r xs) x
-after_more net r [] x = refl
-after_more net r (y ∷ ys) x = after_more net (next_run net r y) ys x
 
 none_more : (net : Routes) (end : ℚ) (before : List Step) (r : RunState) (xs : List Step) (x : Step) → NoneBreaks net end before r xs → BreaksNone net end (before ++ xs) (after_run net r xs) x
     → NoneBreaks net end before r (xs ++ x ∷ [])

@@ -3,11 +3,8 @@ use Rattle.std.specs.Prelude.{◌≡◌, ◌≢◌, ℕ, zero, suc, ◌<◌, tru
 use Rattle.std.proofs.Common.{arith, refl}
 use Rattle.std.proofs.lemmas.Bool.{eq-eqb, ne_eqb}
 use Rattle.net_model.specs.NetRoutes.{hops_along}
-use Rattle.sim_routes.proofs.Places.{NoneBefore}
+use Rattle.sim_routes.proofs.Places.{NoneBefore, none_before_tail}
 use Rattle.broken_laws.specs.Tracked.{is_on, is_before}
-
-later : (p : ℕ) (ps : List ℕ) (s i : ℕ) → NoneBefore (p ∷ ps) s (suc i) → NoneBefore ps s i
-later p ps s i h k l = h (suc k) (omega (arith, l))
 
 pub before_stops : (path queues : List ℕ) (h s i : ℕ) → length queues ≡ length path → i < length path → get_or path i 0 ≡ s → NoneBefore path s i → NoneBefore path h i
     → is_before h s (hops_along path queues) ≡ false
@@ -17,7 +14,7 @@ before_stops (p ∷ ps) (q ∷ qs) h s zero e l g a b = rw (eq-eqb p s g) refl
 before_stops (p ∷ ps) (q ∷ qs) h s (suc i) e l g a b =
     let n : p ≢ s = a 0 (omega arith) in
     let m : p ≢ h = b 0 (omega arith) in
-    rw (ne_eqb p s n, ne_eqb p h m) (before_stops ps qs h s i (omega (arith, e)) (omega (arith, l)) g (later p ps s i a) (later p ps h i b))
+    rw (ne_eqb p s n, ne_eqb p h m) (before_stops ps qs h s i (omega (arith, e)) (omega (arith, l)) g (none_before_tail p ps s i a) (none_before_tail p ps h i b))
 
 pub before_finds : (path queues : List ℕ) (h s i : ℕ) → length queues ≡ length path → i < length path → get_or path i 0 ≡ h → get_or path i 0 ≢ s → NoneBefore path s i
     → NoneBefore path h i → is_before h s (hops_along path queues) ≡ true
@@ -27,7 +24,7 @@ before_finds (p ∷ ps) (q ∷ qs) h s zero e l g d a b = rw (ne_eqb p s d, eq-e
 before_finds (p ∷ ps) (q ∷ qs) h s (suc i) e l g d a b =
     let n : p ≢ s = a 0 (omega arith) in
     let m : p ≢ h = b 0 (omega arith) in
-    rw (ne_eqb p s n, ne_eqb p h m) (before_finds ps qs h s i (omega (arith, e)) (omega (arith, l)) g d (later p ps s i a) (later p ps h i b))
+    rw (ne_eqb p s n, ne_eqb p h m) (before_finds ps qs h s i (omega (arith, e)) (omega (arith, l)) g d (none_before_tail p ps s i a) (none_before_tail p ps h i b))
 
 pub before_none : (path queues : List ℕ) (h s : ℕ) → length queues ≡ length path → NoneBefore path s (length path) → NoneBefore path h (length path)
     → is_before h s (hops_along path queues) ≡ false
@@ -45,7 +42,7 @@ on_finds (p ∷ ps) [] s i e l g a = absurd (omega (arith, e))
 on_finds (p ∷ ps) (q ∷ qs) s zero e l g a = rw (eq-eqb p s g) refl
 on_finds (p ∷ ps) (q ∷ qs) s (suc i) e l g a =
     let n : p ≢ s = a 0 (omega arith) in
-    rw (ne_eqb p s n) (on_finds ps qs s i (omega (arith, e)) (omega (arith, l)) g (later p ps s i a))
+    rw (ne_eqb p s n) (on_finds ps qs s i (omega (arith, e)) (omega (arith, l)) g (none_before_tail p ps s i a))
 
 pub on_none : (path queues : List ℕ) (s : ℕ) → length queues ≡ length path → NoneBefore path s (length path) → is_on s (hops_along path queues) ≡ false
 on_none [] queues s e a = refl

@@ -3,7 +3,8 @@ use Rattle.std.proofs.Common.{◌≡◌, ℕ, ◌+◌, List, [], ◌∷◌, refl
 use Rattle.std.specs.Prelude.{Option, ◌≢◌, ◌↔◌, Bool, ◌==◌, IsTrue, pos}
 use Rattle.std.proofs.lemmas.Bool.{cases_eq, eq-eqb, ne_eqb}
 use Rattle.rational.specs.Rational.{ℚ, int, ◌≤ℚ◌, ◌<ℚ◌}
-use Rattle.rational.proofs.Laws.{le_of_not_lt, lt_irrefl, lt_le_trans}
+use Rattle.rational.proofs.Laws.{lt_irrefl, lt_le_trans}
+use Rattle.rational.proofs.Compared.{not_less_out}
 use Rattle.run_laws.specs.Cards.{Card, Works, Visits}
 use Rattle.run_laws.specs.Servers.{Discipline, Fifo, Priority, Drr, Under, ServerState, head_of}
 use Rattle.run_laws.specs.Next.{next}
@@ -12,7 +13,7 @@ use Rattle.run_laws.specs.Rounds.{count_of, presence}
 use Rattle.run_laws.proofs.Heads.{pick_is_head}
 use Rattle.queue_sched.specs.Turns.{Starts as Begins, Sends}
 use Rattle.queue_sched.specs.declared.turn.Turn.TheVariants.{Visit}
-use Rattle.stated_runs.proofs.Unique.{no_visit, not_idle}
+use Rattle.stated_runs.proofs.Unique.{no_visit, not_idle, visit_once}
 use Rattle.stated_runs.proofs.Lists.{In, head_in}
 use Rattle.sim_servers.specs.declared.server_queues.ServerQueues.{ServerQueues}
 use Rattle.sim_servers.specs.declared.server_queues.ServerQueues.TheVariants as kinds
@@ -33,14 +34,6 @@ busy_of None (Some v) h n = absurd h
 busy_of (Some u) v h n = (u, refl)
 
 -- ---- visits
-one_first : (a b : ℕ) (ps : List ℕ) → IsFirst a ps → IsFirst b ps → a ≡ b
-one_first a b [] h k = absurd h
-one_first a b (p ∷ ps) h k = sym h ∙ k
-
-one_visit : (d : Discipline) (σ : ServerState) (a b : ℕ) → MayVisit d σ a → MayVisit d σ b → a ≡ b
-one_visit Fifo σ a b h k = absurd h
-one_visit (Priority n) σ a b h k = absurd h
-one_visit (Drr quanta) σ a b h k = one_first a b σ.round.active h.is_first k.is_first
 
 -- no queue waits where nothing is inside
 first_there : (q : ℕ) (ps : List ℕ) → IsFirst q ps → count_of q ps ≢ 0
@@ -78,7 +71,7 @@ turned room σ before after asked q t d h begins latest busy under serves has_ro
       has_room = has_room ∙ h.has_room;
     },
   )
-  | inr n ↦ subst (Turns d room σ after asked t) (sym (ne_eqb q asked n)) (λ m. n (one_visit d σ q asked (subst (λ z. MayVisit z σ q) h.serves begins.0) m))
+  | inr n ↦ subst (Turns d room σ after asked t) (sym (ne_eqb q asked n)) (λ m. n (visit_once d σ q asked (subst (λ z. MayVisit z σ q) h.serves begins.0) m))
 ]
 
 pub not_turned : (d : Discipline) (room : ℕ) (σ : ServerState) (before : Site) (StandsNow : ServerState → Type 0) (asked p : ℕ) → IsSite d room σ before
@@ -116,17 +109,14 @@ not_started d room σ before StandsNow q p h begins c k i = no_visit d σ q c (s
 pub untrue : (b : Bool) → IsTrue b → b ≡ false → ⊥
 untrue b h e = let f : true ≡ false = sym h ∙ e in cc
 
-pub not_less : (b : Bool) (x y : ℚ) → (IsTrue b ↔ (x <ℚ y)) → b ≡ false → y ≤ℚ x
-not_less b x y h e = le_of_not_lt (λ l. untrue b (h.1 l) e)
-
 pub is_less : (b : Bool) (x y : ℚ) → (IsTrue b ↔ (x <ℚ y)) → b ≡ true → x <ℚ y
 is_less b x y h e = h.0 e
 
 pub no_time : (site : Site) (w : Piece) (rest : ℚ) (b : Bool) → (IsTrue b ↔ (w.start <ℚ w.end)) → b ≡ false → IsWrong site w rest
-no_time site w rest b h e = inl (not_less b w.start w.end h e)
+no_time site w rest b h e = inl (not_less_out b w.start w.end h e)
 
 pub no_bits : (site : Site) (w : Piece) (rest z : ℚ) (b : Bool) → z ≡ int (pos 0) → (IsTrue b ↔ (z <ℚ w.bits)) → b ≡ false → IsWrong site w rest
-no_bits site w rest z b is h e = inr (inl (subst (λ y. w.bits ≤ℚ y) is (not_less b z w.bits h e)))
+no_bits site w rest z b is h e = inr (inl (subst (λ y. w.bits ≤ℚ y) is (not_less_out b z w.bits h e)))
 
 -- the last test decides
 pub wrong_else : (site : Site) (w : Piece) (rest z : ℚ) (a b c d r : Bool) → z ≡ int (pos 0) → (IsTrue a ↔ (w.start <ℚ w.end)) → a ≡ true → (IsTrue b ↔ (z <ℚ w.bits)) → b ≡ true

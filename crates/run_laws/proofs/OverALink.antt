@@ -25,13 +25,13 @@ first_allowed = (
   ),
 )
 
-both_idle : (s t : ServerState) → s.under ≡ None → t.under ≡ None → All (λ (x : ServerState). ¬ IsComplete x.under) (s ∷ t ∷ [])
-both_idle s t e f zero d h = rw e (λ k. k)
-both_idle s t e f (suc zero) d h = rw f (λ k. k)
-both_idle s t e f (suc (suc n)) d h = absurd (omega arith)
+pub two_idle : (s t : ServerState) → s.under ≡ None → t.under ≡ None → All (λ (x : ServerState). ¬ IsComplete x.under) (s ∷ t ∷ [])
+two_idle s t e f zero d h = rw e (λ k. k)
+two_idle s t e f (suc zero) d h = rw f (λ k. k)
+two_idle s t e f (suc (suc n)) d h = absurd (omega arith)
 
 on_the_link_at_14 : IsLawful two_servers (ends_at 14 first_hop)
-on_the_link_at_14 = record { allowed = first_allowed; none_complete = both_idle _ _ refl refl; none_overdue = one_due }
+on_the_link_at_14 = record { allowed = first_allowed; none_complete = two_idle _ _ refl refl; none_overdue = one_due }
   where
     one_due : All (λ (d : Due). whole 14 <ℚ d.time) (after_run two_servers (run_start two_servers) first_hop).due
     one_due zero d h = rw (sum_t 10 5) (lt_t 14 15 refl)
@@ -83,7 +83,7 @@ over_both_hops = record {
       ),
     ),
   );
-  none_complete = both_idle _ _ refl refl;
+  none_complete = two_idle _ _ refl refl;
   none_overdue = rw (le_q_out _ _ (le_refl (whole 10 +ℚ whole 5))) none_left;
 }
   where

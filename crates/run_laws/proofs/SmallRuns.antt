@@ -12,9 +12,9 @@ use Rattle.run_laws.proofs.Small.{sum_t, enters, works, leaves, visits}
 
 -- ---- one server
 -- at its end no packet is under way, and none is on a link
-all_idle : (s : ServerState) → s.under ≡ None → All (λ (x : ServerState). ¬ IsComplete x.under) (s ∷ [])
-all_idle s e zero d h = rw e (λ k. k)
-all_idle s e (suc n) d h = absurd (omega arith)
+pub one_idle : (s : ServerState) → s.under ≡ None → All (λ (x : ServerState). ¬ IsComplete x.under) (s ∷ [])
+one_idle s e zero d h = rw e (λ k. k)
+one_idle s e (suc n) d h = absurd (omega arith)
 
 pub none_due : (end : ℚ) → All (λ (d : Due). end <ℚ d.time) []
 none_due end n d h = absurd (omega arith)
@@ -31,7 +31,7 @@ one_packet_is_lawful = record {
       ),
     ),
   );
-  none_complete = all_idle _ refl;
+  none_complete = one_idle _ refl;
   none_overdue = none_due (whole 130);
 }
 
@@ -75,7 +75,7 @@ leaves_first = record {
       ),
     ),
   );
-  none_complete = all_idle _ refl;
+  none_complete = one_idle _ refl;
   none_overdue = none_due (whole 20);
 }
 
@@ -100,7 +100,7 @@ enters_first = record {
       ),
     ),
   );
-  none_complete = all_idle _ refl;
+  none_complete = one_idle _ refl;
   none_overdue = none_due (whole 20);
 }
 
@@ -129,7 +129,7 @@ higher_is_lawful = record {
       ),
     ),
   );
-  none_complete = all_idle _ refl;
+  none_complete = one_idle _ refl;
   none_overdue = none_due (whole 16);
 }
 
@@ -171,7 +171,7 @@ visits_are_lawful = record {
       ),
     ),
   );
-  none_complete = all_idle _ refl;
+  none_complete = one_idle _ refl;
   none_overdue = none_due (whole 12);
 }
 

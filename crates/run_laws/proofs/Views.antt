@@ -1,5 +1,5 @@
 -- What each server sees of a lawful run is lawful, whatever the steps of the other servers between.
-use Rattle.std.specs.Prelude.{None, ◌≡◌, ◌≢◌, ◌<◌, ℕ, ◌==◌, List, [], ◌∷◌, length}
+use Rattle.std.specs.Prelude.{None, ◌≡◌, ◌≢◌, ◌<◌, ℕ, ◌==◌, List, [], ◌∷◌, ◌++◌, length}
 use Rattle.std.proofs.Common.{sym, ap, ◌∙◌, refl, inl, inr, subst}
 use Rattle.std.proofs.lemmas.Bool.{cases_Bool, eqb-true, eqb-false}
 use Rattle.std.proofs.lemmas.List.{get_or-set_same, get_or-set_other, get_or-map, length-set, length-map}
@@ -64,6 +64,12 @@ after_length : (net : Routes) (r : RunState) (xs : List Step) → length r.serve
     → length (after_run net r xs).servers ≡ length net.servers
 after_length net r [] n = n
 after_length net r (x ∷ xs) n = after_length net (next_run net r x) xs (as_many net r x n)
+
+-- one step more
+pub after_more : (net : Routes) (r : RunState) (xs : List Step) (x : Step)
+    → after_run net r (xs ++ x ∷ []) ≡ next_run net (after_run net r xs) x
+after_more net r [] x = refl
+after_more net r (y ∷ ys) x = after_more net (next_run net r y) ys x
 
 pub start_state : (net : Routes) (s : ℕ) → s < length net.servers → state_at (run_start net) s ≡ start (server_at net s).discipline
 start_state net s h = get_or-map (λ (x : Server). start x.discipline) net.servers s record { discipline = Fifo; pace = None } (start Fifo) h

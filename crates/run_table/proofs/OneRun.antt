@@ -1,5 +1,6 @@
 -- A text is one run of a network at most, or has one first fault.
 use Rattle.std.proofs.Common.{◌≡◌, ℕ, suc, ◌<◌, ◌≤◌, List, [], ◌∷◌, ◌++◌, length, Ok, refl, sym, ap, ap₂, subst, inl, inr, ◌⊎◌, ◌∙◌, arith, append_assoc, length-append}
+use native.Mathlib.Nat.{not-le_of_lt}
 use Rattle.rational.specs.Rational.{ℚ}
 use Rattle.run_laws.specs.declared.steps.Step.{Step}
 use Rattle.run_laws.specs.declared.steps.Step.TheVariants.{Enter, Reach, Work, Leave, Visit}
@@ -182,14 +183,10 @@ steps_or_all : (net : Net) (rows : List Row) → GiveSteps net rows → GiveAll 
 steps_or_all net rows h k =
     step_no_end net k.last (steps_at net rows k.before k.last [] k.rows_are h) k.end
 
--- ---- a wrong row
-apart : (a b : ℕ) → a < b → b ≤ a → ⊥
-apart a b h k = omega arith
-
 -- it goes wrong with every continuation
 wrong_within : (net : Net) (b : List Row) (row : Row) (m : List Row) (kind : RunKind) → length b < most_rows
     → IsWrong net b row kind → Go net (b ++ row ∷ m) → ⊥
-wrong_within net b row m kind few (inl late) go = apart (length b) most_rows few late.1
+wrong_within net b row m kind few (inl late) go = not-le_of_lt few late.1
 wrong_within net b row m kind few (inr (inl behind)) go =
     let a = behind.2 in
     let parted : b ++ row ∷ m ≡ a.before ++ a.last ∷ row ∷ m =
@@ -208,12 +205,12 @@ wrong_goes net b row kind (inr (inr bad)) = inl bad.1
 one_kind : (net : Net) (b : List Row) (row : Row) (kind other : RunKind) → IsWrong net b row kind
     → IsWrong net b row other → kind ≡ other
 one_kind net b row kind other (inl h) (inl k) = h.0 ∙ sym k.0
-one_kind net b row kind other (inl h) (inr (inl k)) = absurd (apart (length b) most_rows k.1 h.1)
-one_kind net b row kind other (inl h) (inr (inr k)) = absurd (apart (length b) most_rows k.0 h.1)
-one_kind net b row kind other (inr (inl h)) (inl k) = absurd (apart (length b) most_rows h.1 k.1)
+one_kind net b row kind other (inl h) (inr (inl k)) = absurd (not-le_of_lt k.1 h.1)
+one_kind net b row kind other (inl h) (inr (inr k)) = absurd (not-le_of_lt k.0 h.1)
+one_kind net b row kind other (inr (inl h)) (inl k) = absurd (not-le_of_lt h.1 k.1)
 one_kind net b row kind other (inr (inl h)) (inr (inl k)) = h.0 ∙ sym k.0
 one_kind net b row kind other (inr (inl h)) (inr (inr k)) = absurd (steps_or_all net b k.1 h.2)
-one_kind net b row kind other (inr (inr h)) (inl k) = absurd (apart (length b) most_rows h.0 k.1)
+one_kind net b row kind other (inr (inr h)) (inl k) = absurd (not-le_of_lt h.0 k.1)
 one_kind net b row kind other (inr (inr h)) (inr (inl k)) = absurd (steps_or_all net b h.1 k.2)
 one_kind net b row kind other (inr (inr h)) (inr (inr k)) = one_wrong net row kind other h.2 k.2
 

@@ -11,6 +11,7 @@ use Rattle.run_table.specs.declared.fault.RunKind.TheVariants.{T1, T2, T3, T4, T
 use Rattle.run_table.specs.declared.run_rows.RunEntry.TheVariants.{Does}
 use Rattle.table_text.specs.Rows.{Row, rows_of}
 use Rattle.table_text.specs.Traces.{most_rows}
+use Rattle.table_text.proofs.TraceSteps.{all_taken}
 use Rattle.run_table.specs.RunRows.{run_row, Gives}
 use Rattle.run_table.specs.Runs.{packets_after, Give, GiveSteps, GiveAll, IsRunOf, IsWrong, IsFirstFault}
 use Rattle.run_table.specs.Rounds.{AddsStep, SaysEnd, IsWrongNext, IsBehindEnd}
@@ -85,11 +86,9 @@ so_far_more net rows k row packets steps packets2 steps2 within is so adds =
 
 -- ---- at the end
 -- no more rows than were asked for: they are all
-short : (all : List Row) → length (take 10001 all) ≤ 10000 → take 10001 all ≡ all
-short all h = let n = length-take 10001 all in take_all 10001 all (omega (arith, n, h))
 
 all_there : (text : List ℕ) (rows : List Row) → rows ≡ take 10001 (rows_of text) → length rows ≤ 10000 → rows ≡ rows_of text
-all_there text rows is few = is ∙ short (rows_of text) (subst (λ (rs : List Row). length rs ≤ 10000) is few)
+all_there text rows is few = is ∙ all_taken (rows_of text) (subst (λ (rs : List Row). length rs ≤ 10000) is few)
 
 pub so_far_run : (net : Net) (text : List ℕ) (rows : List Row) (k : ℕ) (row : Row) (packets : ℕ) (steps steps2 : List Step) (run : SpecRun) → rows ≡ take 10001 (rows_of text)
     → k < length rows → get_or rows k row ≡ row → IsSoFar net rows k packets steps → SaysEnd k row steps steps2 run.end → run.steps ≡ steps2 → k + 1 ≡ length rows → IsRunOf net (rows_of text) run

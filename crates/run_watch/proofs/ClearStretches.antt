@@ -1,10 +1,10 @@
 -- A stretch whose own turns, and times as far from one as a piece starts, show no short window has no idle one.
-use Rattle.std.specs.Prelude.{◌≡◌, ℕ, ◌<◌, pos, List, [], ◌∷◌, length, map, None}
+use Rattle.std.specs.Prelude.{◌≡◌, ℕ, ◌<◌, List, [], ◌∷◌, length, map, None}
 use Rattle.std.specs.List.{slice_index_or}
 use Rattle.std.proofs.Common.{arith, sym, subst, inl, inr}
-use Rattle.rational.specs.Rational.{ℚ, int, ◌+ℚ◌, ◌-ℚ◌, ◌≤ℚ◌, ◌<ℚ◌}
+use Rattle.rational.specs.Rational.{ℚ, ◌+ℚ◌, ◌-ℚ◌, ◌≤ℚ◌, ◌<ℚ◌}
 use Rattle.rational.proofs.Laws.{le_trans, le_of_lt, le_or_lt, antisym}
-use Rattle.rational.proofs.Linear.{with2, with3, with4}
+use Rattle.rational.proofs.Linear.{with3, with4, sub_pos}
 use Rattle.affine_segment.specs.Pieces.{HasStart}
 use Rattle.upp_curve.specs.Curve.{SpecCurve, value_at}
 use Rattle.upp_curve.specs.Unrolled.{unroll}
@@ -65,8 +65,6 @@ not_before ss works s own p q g none m has e l short =
     none_near_it ss works s own q g none m has (inr record { inside = subst (λ t. s.start ≤ℚ t) same l; short = subst (λ t. IsShortBy g (point_at works t) (point_at works q)) same short })
 
 -- a window within a stretch is no longer than it; one as long is the whole stretch
-some_length : (u e : ℚ) → u <ℚ e → int (pos 0) <ℚ e -ℚ u
-some_length u e l = with2 u e (λ c. omega (arith, c.le, c.lt, c.same))
 
 pub no_longer : (p q u e : ℚ) → u ≤ℚ p → q ≤ℚ e → q -ℚ p ≤ℚ e -ℚ u
 no_longer p q u e h k = with4 p q u e (λ c. omega (arith, c.le, c.lt, c.same))
@@ -87,7 +85,7 @@ none_clear server V w c ps own ss k s S H same l e clear a b idle from upto =
     let high = around_it.last in
     let works = w.works.items in
     let far = s.end -ℚ s.start in
-    let some = some_length s.start s.end I.forward in
+    let some = sub_pos s.start s.end I.forward in
     let most = no_longer p q s.start s.end low high in
     let n = S.serves.normal in
     let seen = (less_seen server V w (value_at c (q -ℚ p)) p q S.seen).1 less in

@@ -2,15 +2,12 @@
 use Rattle.std.specs.Prelude.{◌≡◌, ◌⊎◌, ℕ, zero, suc, ◌+◌, ◌<◌, ◌≤◌, pos, false, List, [], ◌∷◌, length, take, map, get_or, Contains, Option, Some, None, slice_get}
 use Rattle.std.specs.List.{slice_index_or}
 use Rattle.std.specs.List.Sorted.{IsSorted, IsPermutation}
-use Rattle.std.specs.Ordering.{is_lt, MatchOrdering}
-use Rattle.std.specs.declared.cmp.Ordering.{Ordering}
-use Rattle.std.specs.declared.cmp.Ordering.TheVariants.{Less, Equal, Greater}
-use Rattle.std.proofs.Common.{arith, inl, inr, refl, sym, subst, ap, ◌∙◌, add-one, true≢false}
+use Rattle.std.specs.Ordering.{is_lt}
+use Rattle.std.proofs.Common.{arith, inl, inr, refl, sym, subst, ap, ◌∙◌, add-one}
 use Rattle.std.proofs.lemmas.List.Sorted.{Contains-permutation, IsPermutation-sym}
 use Rattle.rational.specs.Rational.{ℚ, int, ◌≤ℚ◌, ◌<ℚ◌}
 use Rattle.rational.specs.Ratio.{cmp_q}
-use Rattle.rational.proofs.Comparison.{cmp_ranks}
-use Rattle.rational.proofs.Laws.{le_refl, le_trans, le_of_lt, le_or_lt, lt_le_trans, le_lt_trans, lt_irrefl, antisym}
+use Rattle.rational.proofs.Laws.{le_refl, le_trans, le_or_lt, lt_le_trans, le_lt_trans, lt_irrefl, antisym}
 use Rattle.rational.proofs.Linear.{with3}
 use Rattle.watch_laws.specs.Affine.{EachTime, Among}
 use Rattle.watch_laws.specs.declared.point.Point.{Point}
@@ -25,6 +22,7 @@ use Rattle.run_watch.specs.IdleWindows.{IsShortWindow, NoneIsShort, IsFirstShort
 use Rattle.watch_laws.specs.Marks.{FitsRule}
 use Rattle.run_watch.proofs.ShortWindows.{each_point_has, first_or_later, point_has}
 use Rattle.run_laws.proofs.Times.{each_time_map}
+use Rattle.step_lines.proofs.SortedParts.{no_less}
 
 -- ---- membership
 among_contains : (t : ℚ) (ts : List ℚ) → Among t ts → Contains ts t
@@ -60,13 +58,6 @@ pub each_same : (P : ℚ → Type 0) (xs ts : List ℚ) → HaveSameTimes xs ts 
 each_same P xs ts h k = each_time_from P ts (λ t a. each_time_among P xs t k (h.back t a))
 
 -- ---- order
-no_less : (x y : ℚ) → is_lt (cmp_q y x) ≡ false → x ≤ℚ y
-no_less x y e = go (cmp_q y x) (cmp_ranks y x) e
-  where
-    go : (o : Ordering) → MatchOrdering o (y <ℚ x) (y ≡ x) (x <ℚ y) → is_lt o ≡ false → x ≤ℚ y
-    go Less k f = absurd (true≢false f)
-    go Equal k f = subst (λ z. x ≤ℚ z) (sym k) (le_refl x)
-    go Greater k f = le_of_lt k
 
 tail_sorted : (x : ℚ) (ts : List ℚ) → IsSorted cmp_q (x ∷ ts) → IsSorted cmp_q ts
 tail_sorted x ts h = λ k d a b. shifted ts k d (h (suc k) d (omega arith) (omega arith))

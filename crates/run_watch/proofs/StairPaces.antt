@@ -8,7 +8,7 @@ use Rattle.rational.specs.declared.Extended.TheVariants.{Fin}
 use Rattle.rational.proofs.ExtendedOrder.{le_ext_trans}
 use Rattle.rational.proofs.Integers.{nat_lt_out}
 use Rattle.rational.proofs.Laws.{le_of_lt, le_or_lt, le_lt_trans, lt_le_trans, mul_le_mul, mul_le_mul_right, mul_lt_mul, mul_nonneg, not_zero, zero_mul}
-use Rattle.rational.proofs.Linear.{with2, with_atoms}
+use Rattle.rational.proofs.Linear.{with2, with_atoms, sub_nonneg}
 use Rattle.affine_segment.specs.declared.line.Piece.{Piece}
 use Rattle.affine_segment.specs.Pieces.{StartsAtZero}
 use Rattle.affine_segment.specs.Reading.{piece_value, read}
@@ -90,9 +90,6 @@ read_climbed height slack rate far d n [] at0 high some steps low near h = absur
 read_climbed height slack rate far d n (p ∷ ps) at0 high some steps low near h = climbed height slack rate far d n p ps high some steps low near h
 
 -- ---- all pairs
-gap_some : (s t : ℚ) → s ≤ℚ t → int (pos 0) ≤ℚ t -ℚ s
-gap_some s t h = with2 s t (λ c. omega (arith, c.le, c.lt, c.same))
-
 line_some : (slack rate d : ℚ) → int (pos 0) ≤ℚ slack → int (pos 0) <ℚ rate → int (pos 0) ≤ℚ d → int (pos 0) ≤ℚ slack +ℚ rate *ℚ d
 line_some slack rate d h some low =
     let x = rate *ℚ d in
@@ -111,7 +108,7 @@ none_past_stair ps es height slack rate far upto R reach S K i j m crowded =
     let t = (entering es j).time in
     let first = R 0 i (omega arith) (omega arith) in
     let last = R j (length es - 1) (omega arith) (omega arith) in
-    let low = gap_some s t window.forward in
+    let low = sub_nonneg s t window.forward in
     let near = gap_near (first_time es) s t (last_time es) far first.forward last.forward reach in
     let (n, bits, under) = K i j order m (line_some slack rate (t -ℚ s) S.some S.rises low) in
     let stair = read_climbed height slack rate far (t -ℚ s) n ps window.starts S.high S.rises S.steps low near under in

@@ -122,25 +122,39 @@ fn are_steps(stair: &Stair, far: Frac, pieces: &[Piece]) -> bool
     true
 }
 
-/// How long a step lasts: from the second piece to the third. Where there is none, it is as long as it may be and still have
-/// one step over no more than `far`.
-fn period_of(second: &Piece, third: Option<&Piece>, far: Frac) -> Result<Frac, Wide> {
-    match third {
-        Some(third) => Frac::sub(third.x, second.x),
-        None => Frac::add(second.x, far),
+/// Where the first piece begins that begins above a value, and its value there. Pieces of one step may follow each other where a
+/// period of the curve ends within it.
+fn step_above(pieces: &[Piece], value: Frac) -> Option<(Frac, Frac)> {
+    for piece in pieces {
+        if let Extended::Fin(high) = piece.at {
+            if is_less(value, high) {
+                return Some((piece.x, high));
+            }
+        }
+    }
+    None
+}
+
+/// How long a step lasts that begins at `start`: up to the next one. Where there is none, it is as long as it may be and still
+/// have one step over no more than `far`.
+fn period_of(start: Frac, next: Option<(Frac, Frac)>, far: Frac) -> Result<Frac, Wide> {
+    match next {
+        Some((end, _)) => Frac::sub(end, start),
+        None => Frac::add(start, far),
     }
 }
 
 /// The stair that some pieces begin with, and the line over it, if they begin with one: whatever it is, it is tried.
 fn stair_of(pieces: &[Piece], far: Frac) -> Option<Stair> {
-    let [first, second, ..] = pieces else {
+    let [first, ..] = pieces else {
         return None;
     };
-    let (Extended::Fin(low), Extended::Fin(high)) = (first.at, second.at) else {
+    let Extended::Fin(low) = first.at else {
         return None;
     };
+    let (start, high) = step_above(pieces, low)?;
     let height = Frac::sub(high, low).ok()?;
-    let period = period_of(second, pieces.get(2), far).ok()?;
+    let period = period_of(start, step_above(pieces, high), far).ok()?;
     if !is_less(Frac::zero(), height) {
         return None;
     }
@@ -149,7 +163,7 @@ fn stair_of(pieces: &[Piece], far: Frac) -> Option<Stair> {
     }
     let rate = Frac::div(Frac::one(), period).ok()?;
     let count = count_under(height, low)?;
-    let risen = Frac::mul(rate, second.x).ok()?;
+    let risen = Frac::mul(rate, start).ok()?;
     let slack = Frac::sub(count, risen).ok()?;
     Some(Stair {
         height,

@@ -1,7 +1,7 @@
 //! The stretches through which a server has work, and its turns.
 
 ghost use Rattle.std.specs.Prelude.{◌≡◌, ◌++◌, ℕ, pos, [], length, IfOk, OnOk};
-ghost use Rattle.rational.specs.Rational.{ℚ, int, le_q, lt_q};
+ghost use Rattle.rational.specs.Rational.{ℚ, int, le_q};
 ghost use Rattle.watch_laws.specs.Affine.{EachTime};
 ghost use Rattle.run_watch.specs.Ramps.{EachRamp, RampsFit, AreRamps, TakeTime, spans_of};
 ghost use Rattle.run_watch.specs.Seen.{works_at, arrivals_at};
@@ -13,6 +13,7 @@ use crate::span::Ramp;
 use fraction128::{Frac, is_less};
 use run_laws::Step;
 use std::alloc::{AllocError, Global};
+use step_lines::is_under;
 
 /// What one server sees of a run that ends at `end`.
 #[derive(Drop)]
@@ -93,12 +94,6 @@ fn stop_after(stops: &[Frac], u: Frac, end: Frac) -> Frac
     end
 }
 
-fn is_before(t: &Frac, u: Frac) -> bool
-    ensures { result ≡ lt_q t.now u }
-{
-    is_less(*t, u)
-}
-
 /// Those of some times that are in a stretch, by binary search.
 pub(crate) fn turns_in<'a>(sorted: &'a [Frac], s: &Stretch) -> &'a [Frac]
     requires { (from : ℚ) × TimesRise from sorted.now }
@@ -107,7 +102,7 @@ pub(crate) fn turns_in<'a>(sorted: &'a [Frac], s: &Stretch) -> &'a [Frac]
 {
     let start = s.start;
     let end = s.end;
-    let from = sorted.partition_point(|t| is_before(t, start));
+    let from = sorted.partition_point(|t| is_under(t, start));
     let rest = &sorted[from..];
     let count = rest.partition_point(|t| is_by(t, end));
     &rest[..count]

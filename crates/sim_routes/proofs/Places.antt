@@ -11,8 +11,8 @@ use Rattle.net_model.specs.Networks.{Net, NetServer}
 abbrev pub NoneBefore : List ℕ → ℕ → ℕ → Type 0
 NoneBefore path s i = (k : ℕ) → k < i → get_or path k 0 ≢ s
 
-later : (p : ℕ) (ps : List ℕ) (s i : ℕ) → NoneBefore (p ∷ ps) s (suc i) → NoneBefore ps s i
-later p ps s i h k l = h (suc k) (omega (arith, l))
+pub none_before_tail : (p : ℕ) (ps : List ℕ) (s i : ℕ) → NoneBefore (p ∷ ps) s (suc i) → NoneBefore ps s i
+none_before_tail p ps s i h k l = h (suc k) (omega (arith, l))
 
 pub queue_place : (path queues : List ℕ) (s i : ℕ) → length queues ≡ length path → i < length path → get_or path i 0 ≡ s → NoneBefore path s i
     → queue_at s (hops_along path queues) ≡ get_or queues i 0
@@ -21,7 +21,7 @@ queue_place (p ∷ ps) [] s i e l g h = absurd (omega (arith, e))
 queue_place (p ∷ ps) (q ∷ qs) s zero e l g h = rw (eq-eqb p s g) refl
 queue_place (p ∷ ps) (q ∷ qs) s (suc i) e l g h =
     let n : p ≢ s = h 0 (omega arith) in
-    rw (ne_eqb p s n) (queue_place ps qs s i (omega (arith, e)) (omega (arith, l)) g (later p ps s i h))
+    rw (ne_eqb p s n) (queue_place ps qs s i (omega (arith, e)) (omega (arith, l)) g (none_before_tail p ps s i h))
 
 pub queue_none : (path queues : List ℕ) (s : ℕ) → length queues ≡ length path → NoneBefore path s (length path) → queue_at s (hops_along path queues) ≡ 0
 queue_none [] queues s e h = refl
@@ -78,7 +78,7 @@ after_place (p ∷ ps) [] s i e l g h = absurd (omega (arith, e))
 after_place (p ∷ ps) (q ∷ qs) s zero e l g h = rw (eq-eqb p s g) (first_is ps qs (omega (arith, e)))
 after_place (p ∷ ps) (q ∷ qs) s (suc i) e l g h =
     let n : p ≢ s = h 0 (omega arith) in
-    rw (ne_eqb p s n) (after_place ps qs s i (omega (arith, e)) (omega (arith, l)) g (later p ps s i h))
+    rw (ne_eqb p s n) (after_place ps qs s i (omega (arith, e)) (omega (arith, l)) g (none_before_tail p ps s i h))
 
 pub after_none : (path queues : List ℕ) (s : ℕ) → length queues ≡ length path → NoneBefore path s (length path) → server_after s (hops_along path queues) ≡ None
 after_none [] queues s e h = refl

@@ -1,5 +1,5 @@
 -- Each packet that has entered is at one place at most: at a server, or on a link.
-use Rattle.std.specs.Prelude.{Option, Some, None, ◌≡◌, ◌≢◌, ℕ, ◌+◌, ◌<◌, ◌≤◌, true, false, ◌==◌, ◌&&◌, List, [], ◌∷◌, ◌++◌, length, get_or, sum_by}
+use Rattle.std.specs.Prelude.{Option, Some, None, ◌≡◌, ◌≢◌, ℕ, ◌+◌, ◌<◌, ◌≤◌, true, false, ◌==◌, ◌&&◌, List, [], ◌∷◌, ◌++◌, length, map, get_or, sum_by}
 use Rattle.std.proofs.Common.{arith, refl, sym, ap, ◌∙◌, subst, inl, inr}
 use Rattle.std.proofs.lemmas.Bool.{cases_eq, cases_Bool, eq-eqb, eqb-true, ne_eqb, and_parts}
 use Rattle.std.proofs.lemmas.List.{length_push}
@@ -10,10 +10,10 @@ use Rattle.rational.proofs.Laws.{le_refl}
 use Rattle.run_laws.specs.declared.steps.Step.{Step}
 use Rattle.run_laws.specs.declared.steps.Step.TheVariants.{Enter, Reach, Work, Leave, Visit}
 use Rattle.run_laws.specs.Cards.{Card}
-use Rattle.run_laws.specs.Servers.{Fifo, ServerState, start, head_of, without_head}
+use Rattle.run_laws.specs.Servers.{Fifo, ServerState, start, head_of, without_head, Server}
 use Rattle.run_laws.specs.Next.{next, next_inside}
 use Rattle.run_laws.specs.Routes.{Routes, server_at, link_at}
-use Rattle.run_laws.specs.Views.{Entry, entry_of, card_of, entered_after, server_of, seen}
+use Rattle.run_laws.specs.Views.{Entry, card_of, server_of, seen}
 use Rattle.run_laws.specs.Lawful.{Due, RunState, same_due, without, sent, state_at, next_run}
 use Rattle.stated_runs.proofs.Lists.{In}
 use Rattle.sim_states.specs.Places.{one, cards_of, dues_of, at_server, places, ArePlaced}
@@ -162,3 +162,8 @@ placed_enter net r f p t b h e k =
       none = λ q l. let a = grown q in let z = k.none q (omega (arith, l, long)) in
           let d : p ≢ q = omega (arith, l, long, e) in let o = one_other p q d in omega (arith, a, z, o);
     }
+
+-- ---- at the start
+pub none_placed : (p : ℕ) (xs : List Server) → sum_by (at_server p) (map (λ (x : Server). start x.discipline) xs) ≡ 0
+none_placed p [] = refl
+none_placed p (x ∷ xs) = let h = none_placed p xs in omega (arith, h)

@@ -6,13 +6,11 @@ use Rattle.upp_limits.specs.declared.own_limits.OverLimit.{OverLimit}
 use Rattle.upp_limits.specs.declared.own_limits.OverLimit.TheVariants.{TooMany, TooWide}
 use Rattle.net_model.specs.declared.breach.Breach.{Breach}
 use Rattle.command_replies.specs.Replies.{Reply, over}
+use Rattle.command_replies.proofs.Statuses.{status_is}
 use Rattle.run_findings.specs.Findings.{status_by}
 use Rattle.simulate_command.specs.OnTraces as on
 use Rattle.simulate_command.specs.OnTraces.{IsRunReport, IsMalformed, IsOverLimit, IsSimulationOver, HasCycleBehind}
 use Rattle.simulate_command.specs.Laws.{HasCause, StatusesHaveCauses}
-
-status_is : (reply to : Reply) → reply ≡ to → reply.status ≡ to.status
-status_is reply to is = ap (λ (r : Reply). r.status) is
 
 module _ (net_file net_bytes trace_file trace_bytes : List ℕ) (reply : Reply) where
   -- of a status that is known

@@ -44,14 +44,3 @@ of_network net_bytes trace_bytes net status old between new reads rises folds ce
   cells = λ other is.
       subst (λ n. CountsOnNet n trace_bytes status between new) ((says net_bytes).one_network net other reads is) cells;
 }
-
--- those of a file that gives a fault, or none for want of memory
-pub of_fault : (net_bytes trace_bytes : List ℕ) (status old new : ℕ) → ¬ IsOfReport status → old ≤ new
-    → StepsAtMost fold_work net_bytes old new → CountsOn net_bytes trace_bytes status old new
-of_fault net_bytes trace_bytes status old new other rises folds = record {
-  between = new;
-  rises = rises;
-  folds = folds;
-  refused = λ fault first. refl;
-  cells = λ net is. none_on_net net trace_bytes status new other;
-}

@@ -1,5 +1,6 @@
 -- Two replies on one simulation are the same, where a text says the same beside both tables.
-use Rattle.std.proofs.Common.{◌≡◌, ◌<◌, ◌≤◌, ◌^◌, ℕ, inl, inr, length, sym, subst, ◌∙◌, arith}
+use Rattle.std.proofs.Common.{◌≡◌, ◌<◌, ◌^◌, inl, inr, length, sym, subst, ◌∙◌}
+use native.Mathlib.Nat.{not-le_of_lt}
 use Rattle.net_model.specs.Accepted.{IsAccepted}
 use Rattle.net_model.specs.Networks.{Net}
 use Rattle.net_model.specs.Traces.{SpecTrace, IsTrace}
@@ -16,9 +17,6 @@ use Rattle.run_findings.specs.Statuses.{IsOfReport}
 use Rattle.run_findings.proofs.Reports.{same_telling, is_report}
 use Rattle.simulated_findings.specs.Found.{IsReportBy, IsSimulationReplyBy}
 use Rattle.simulated_findings.proofs.Lawful.{lawful}
-
-apart : (a b : ℕ) → a < b → b ≤ a → ⊥
-apart a b h k = omega arith
 
 module _ (text : FoundText) (net : Net) (trace : SpecTrace) (at other : CellTable) (x y : Reply) where
   -- the text is the same beside the numbers of both tables
@@ -40,15 +38,15 @@ module _ (text : FoundText) (net : Net) (trace : SpecTrace) (at other : CellTabl
       → IsSimulationReplyBy text net trace at x → IsSimulationReplyBy text net trace other y → x ≡ y
   same_simulation a keeps names curves agree (inl h) (inl k) = h.is ∙ sym k.is
   same_simulation a keeps names curves agree (inl h) (inr k) =
-      absurd (apart (simulation_gauge net trace) (2 ^ 120) k.narrow h.over)
+      absurd (not-le_of_lt k.narrow h.over)
   same_simulation a keeps names curves agree (inr h) (inl k) =
-      absurd (apart (simulation_gauge net trace) (2 ^ 120) h.narrow k.over)
+      absurd (not-le_of_lt h.narrow k.over)
   same_simulation a keeps names curves agree (inr h) (inr k) = same_report a keeps names curves agree h k
 
 -- below the gauge's limit it is a report
 pub on_simulation : (text : FoundText) (net : Net) (trace : SpecTrace) (at : CellTable) (reply : Reply)
     → simulation_gauge net trace < 2 ^ 120 → IsSimulationReplyBy text net trace at reply → IsOfReport reply.status
 on_simulation text net trace at reply narrow (inl h) =
-    absurd (apart (simulation_gauge net trace) (2 ^ 120) narrow h.over)
+    absurd (not-le_of_lt narrow h.over)
 on_simulation text net trace at reply narrow (inr h) =
     is_report text net h.run (length trace.packets) at reply h.tells

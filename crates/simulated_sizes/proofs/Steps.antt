@@ -1,7 +1,7 @@
 -- The steps of a simulated run whose gauge is below 2 ^ 120: their times stand on its grid, and each work is at the pace of its server's rate.
 use Rattle.std.specs.Prelude.{◌≡◌, ◌⊎◌, ℕ, pos, List, [], ◌∷◌, ◌++◌, length}
 use Rattle.std.specs.List.{AllByRecursion}
-use Rattle.std.proofs.Common.{arith, refl, sym, subst, ◌∙◌, inl, inr}
+use Rattle.std.proofs.Common.{arith, sym, subst, ◌∙◌, inl, inr}
 use Rattle.std.proofs.lemmas.List.{length-map}
 use Rattle.rational.specs.Rational.{ℚ, int, ◌-ℚ◌, ◌*ℚ◌, ◌/ℚ◌, ◌<ℚ◌}
 use Rattle.rational.proofs.Laws.{not_zero}
@@ -10,8 +10,8 @@ use Rattle.rational.proofs.Linear.{with2}
 use Rattle.upp_limits.specs.Sized.{IsSlope}
 use Rattle.run_laws.specs.declared.steps.Step.{Step}
 use Rattle.run_laws.specs.declared.steps.Step.TheVariants.{Enter, Reach, Work, Leave, Visit}
-use Rattle.run_laws.specs.Routes.{Routes}
 use Rattle.run_laws.specs.Lawful.{RunState, state_at, next_run, after_run, run_start, AllowsInRun, AllAllowedInRun}
+use Rattle.run_laws.proofs.Views.{after_more}
 use Rattle.net_model.specs.Networks.{Net, NetServer}
 use Rattle.net_model.specs.NetRoutes.{server_for}
 use Rattle.net_model.specs.Traces.{SpecTrace}
@@ -32,10 +32,6 @@ use Rattle.simulated_sizes.proofs.Numbers.{rate_slope}
 so_far_more : (S : Setup) (r : RunState) (xs : List Step) (x : Step) → FollowsSoFar S r xs → IsNext S (after_run S.net r xs) x → FollowsSoFar S r (xs ++ x ∷ [])
 so_far_more S r [] x h k = (k, tt)
 so_far_more S r (y ∷ xs) x h k = (h.0, so_far_more S (next_run S.net r y) xs x h.1 k)
-
-after_more : (net : Routes) (r : RunState) (xs : List Step) (x : Step) → after_run net r (xs ++ x ∷ []) ≡ next_run net (after_run net r xs) x
-after_more net r [] x = refl
-after_more net r (y ∷ xs) x = after_more net (next_run net r y) xs x
 
 -- ---- the pace of a work
 stretch_rate : (S : Setup) (r : RunState) (s p : ℕ) (a b w : ℚ) → IsResumed S s (state_at r s) p a b w ⊎ IsStarted S s (state_at r s) p a b w → (a <ℚ b) × (w ≡ rate_of S s *ℚ (b -ℚ a))

@@ -94,7 +94,7 @@ first_once : (q p : ℕ) (ks : List ℕ) → IsFirst q ks → IsFirst p ks → q
 first_once q p [] a b = absurd a
 first_once q p (k ∷ ks) a b = sym a ∙ b
 
-visit_once : (d : Discipline) (σ : ServerState) (q p : ℕ) → MayVisit d σ q → MayVisit d σ p → q ≡ p
+pub visit_once : (d : Discipline) (σ : ServerState) (q p : ℕ) → MayVisit d σ q → MayVisit d σ p → q ≡ p
 visit_once Fifo σ q p a b = absurd a
 visit_once (Priority n) σ q p a b = absurd a
 visit_once (Drr quanta) σ q p a b = first_once q p σ.round.active a.is_first b.is_first

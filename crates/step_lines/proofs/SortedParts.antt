@@ -15,7 +15,7 @@ use Rattle.run_laws.specs.Counts.{before}
 use Rattle.step_lines.specs.declared.places.Placed.{Placed}
 use Rattle.step_lines.specs.Places.{IsIn}
 
-no_less : (x y : ℚ) → is_lt (cmp_q y x) ≡ false → x ≤ℚ y
+pub no_less : (x y : ℚ) → is_lt (cmp_q y x) ≡ false → x ≤ℚ y
 no_less x y e = go (cmp_q y x) (cmp_ranks y x) e
   where
     go : (o : Ordering) → MatchOrdering o (y <ℚ x) (y ≡ x) (x <ℚ y) → is_lt o ≡ false → x ≤ℚ y

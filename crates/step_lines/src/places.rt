@@ -145,7 +145,8 @@ fn let_in(parts: &[Frac], nodes: &mut [Frac], placed: &Placed) -> bool
     }
 }
 
-fn is_under(part: &Frac, over: Frac) -> bool
+/// Whether a number is below another: a test of each number of a list.
+pub fn is_under(part: &Frac, over: Frac) -> bool
     ensures { result ≡ lt_q part.now over }
 {
     is_less(*part, over)

@@ -9,11 +9,11 @@ ghost use Rattle.curve_conv.specs.ConvolveCall.{IsConvolveFrame};
 ghost use Rattle.curve_call.specs.Calls.{Applies, Then};
 ghost use Rattle.subadd_closure.specs.StartsAt.{ConvolvesFinitely, ConvolvesPastZero, StartsAt};
 
-use crate::again::{frame_of, slower_rise, window_of};
+use crate::again::{slower_rise, window_of};
 use crate::parts::{repeats_start, with_first};
 use crate::starting::with_start;
 use curve_call::{Frame, answer, seen};
-use curve_conv::convolve;
+use curve_conv::{convolve, convolve_frame};
 use fraction128::{Frac, difference};
 use rational::Extended;
 use std::alloc::{AllocError, Global};
@@ -100,7 +100,7 @@ pub fn convolve_from<L: Ledger>(
     if begins_at(&whole, start) {
         return Ok(whole);
     }
-    let frame = frame_of(alloc, sofar, star)?;
+    let frame = convolve_frame(alloc, sofar, star)?;
     let started = match started_within(alloc, sofar, star, &frame, start) {
         Ok(c) => Ok(c),
         Err(_) => Err(OpFault::NoMemory),

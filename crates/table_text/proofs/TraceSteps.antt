@@ -1,5 +1,5 @@
 -- One row after another.
-use Rattle.std.proofs.Common.{◌≡◌, ◌≢◌, ℕ, suc, ◌+◌, ◌<◌, ◌≤◌, List, [], ◌∷◌, ◌++◌, length, take, drop, get_or, Result, Ok, Err, OnOk, IfErr, All, AllPairs, refl, sym, ap, subst, arith, inl, inr, ◌⊎◌, ◌∙◌, append-nil, append_assoc, take-append-drop, length-take, take_all}
+use Rattle.std.proofs.Common.{◌≡◌, ◌≢◌, ℕ, suc, ◌+◌, ◌<◌, ◌≤◌, List, [], ◌∷◌, ◌++◌, length, take, drop, get_or, Result, Ok, Err, OnOk, All, AllPairs, refl, sym, ap, subst, arith, inl, inr, ◌⊎◌, ◌∙◌, append-nil, append_assoc, take-append-drop, length-take, take_all}
 use Rattle.std.proofs.lemmas.List.{take_more, drop_more}
 use Rattle.std.proofs.lemmas.List.Quantifiers.{all_pairs_push}
 use Rattle.std.proofs.lemmas.List.Elements.{All-push}
@@ -118,15 +118,15 @@ so_far_trace net rows k ps ss so =
 
 -- ---- at the end
 -- no more rows than were asked for: they are all
-short : (all : List Row) → length (take 10001 all) ≤ 10000 → take 10001 all ≡ all
-short all h = let n = length-take 10001 all in take_all 10001 all (omega (arith, n, h))
+pub all_taken : (all : List Row) → length (take 10001 all) ≤ 10000 → take 10001 all ≡ all
+all_taken all h = let n = length-take 10001 all in take_all 10001 all (omega (arith, n, h))
 
 pub so_far_all : (net : Net) (text : List ℕ) (rows : List Row) (k : ℕ) (ps : List TracePacket) (ss : List Stall) → rows ≡ take 10001 (rows_of text) → length rows ≤ k
     → IsSoFar net rows k ps ss → IsTraceOf net (rows_of text) (trace_of ps ss)
 so_far_all net text rows k ps ss is past so =
     let whole : take k rows ≡ rows = take_all k rows past in
     let few : length rows ≤ 10000 = subst (λ rs. length rs ≤ 10000) whole so.right.few in
-    let all : rows ≡ rows_of text = is ∙ short (rows_of text) (subst (λ rs. length rs ≤ 10000) is few) in
+    let all : rows ≡ rows_of text = is ∙ all_taken (rows_of text) (subst (λ rs. length rs ≤ 10000) is few) in
     subst (λ rs. IsTraceOf net rs (trace_of ps ss)) (whole ∙ all) so.right
 
 pub so_far_fault : (net : Net) (text : List ℕ) (rows : List Row) (k : ℕ) (row : Row) (ps : List TracePacket) (ss : List Stall) (kind : TableKind) (number : ℕ) → rows ≡ take 10001 (rows_of text)

@@ -26,3 +26,4 @@ pub mod Tallies
 pub mod CallSizes
 pub mod FewCopies
 pub mod LeastNumbers
+pub mod OneLimit

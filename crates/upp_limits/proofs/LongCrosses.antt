@@ -1,15 +1,14 @@
 -- The cross products of two times fit a `Long`, and compare as the times do.
-use Rattle.std.specs.Prelude.{◌≡◌, ℕ, suc, ◌+◌, ◌*◌, ◌^◌, ◌<◌, ◌≤◌, ◌↔◌, ℤ, pos, negsuc, ◌≤ℤ◌, ◌<ℤ◌, nat_abs}
+use Rattle.std.specs.Prelude.{◌≡◌, ℕ, suc, ◌+◌, ◌*◌, ◌^◌, ◌<◌, ◌≤◌, ◌↔◌, pos, ◌<ℤ◌, nat_abs}
 use Rattle.std.proofs.Common.{arith, sym, ap, ap₂, ◌∙◌, refl, subst}
 use Rattle.std.proofs.lemmas.Int.{ints}
 use native.Mathlib.Nat.{mul-le-mul_left, mul-lt-mul_of_pos_right}
 use Rattle.rational.specs.Rational.{ℚ, den, frac, both, int, ◌+ℚ◌, ◌*ℚ◌, ◌≤ℚ◌, ◌<ℚ◌}
-use Rattle.rational.specs.Fractions.{frac_self}
 use Rattle.rational.proofs.Over.{lt_frac}
 use Rattle.rational.proofs.Integers.{mul_whole, nat_nonneg}
 use Rattle.rational.proofs.Linear.{with2}
 use Rattle.rational.proofs.Over.{add_frac, both_is}
-use Rattle.rational.proofs.Laws.{num_nonneg, lt_irrefl, le_of_lt, le_lt_trans, lt_le_trans, mul_nonneg}
+use Rattle.rational.proofs.Laws.{lt_irrefl, le_of_lt, le_lt_trans, lt_le_trans, mul_nonneg, nonneg_frac}
 
 product_below : (m n M N : ℕ) → m < M → n < N → m * n < M * N
 product_below m n M N h k =
@@ -53,13 +52,6 @@ times_is : (a : ℕ) (b : ℕ) (n : ℕ) (p : ℕ) (q : ℕ) → frac (pos a) b 
 times_is a b n p q =
     ap (λ z. frac (pos a) b +ℚ z) (mul_whole (pos n) (pos p) q) ∙ add_frac (pos a) b (pos (n * p)) q
 
-pub nat_of : (z : ℤ) → pos 0 ≤ℤ z → z ≡ pos (nat_abs z)
-nat_of (pos n) h = refl
-nat_of (negsuc n) h = absurd (omega (arith, ints))
-
-is_frac : (x : ℚ) → int (pos 0) ≤ℚ x → x ≡ frac (pos (nat_abs x.num)) x.pre
-is_frac x h = frac_self x ∙ ap (λ z. frac z x.pre) (nat_of x.num (num_nonneg x h))
-
 crossed_before : (s b q u v : ℕ) → (frac (pos s) (both b q) <ℚ frac (pos u) v) ↔ (s * suc v < u * suc b * suc q)
 crossed_before s b q u v = (
   λ h. let l : pos (s * suc v) <ℤ pos (u * suc (both b q)) = (lt_frac (pos s) (both b q) (pos u) v).0 h in omega (arith, ints, ap (λ n. u * n) (both_is b q)),
@@ -86,7 +78,7 @@ nonneg_time x d n h k =
 copy_frac : (x d : ℚ) (n : ℕ) → int (pos 0) ≤ℚ x → int (pos 0) ≤ℚ d
     → x +ℚ int (pos n) *ℚ d ≡ frac (pos (nat_abs x.num * den d + n * nat_abs d.num * den x)) (both x.pre d.pre)
 copy_frac x d n h k =
-    ap₂ (λ (y e : ℚ). y +ℚ int (pos n) *ℚ e) (is_frac x h) (is_frac d k) ∙ times_is (nat_abs x.num) x.pre n (nat_abs d.num) d.pre
+    ap₂ (λ (y e : ℚ). y +ℚ int (pos n) *ℚ e) (nonneg_frac x h) (nonneg_frac d k) ∙ times_is (nat_abs x.num) x.pre n (nat_abs d.num) d.pre
 
 -- the sum s and the product e compare as the copy's start and the end
 pub before_is : (x d end : ℚ) (n s e : ℕ) → int (pos 0) ≤ℚ x → int (pos 0) ≤ℚ d → int (pos 0) ≤ℚ end
@@ -95,7 +87,7 @@ pub before_is : (x d end : ℚ) (n s e : ℕ) → int (pos 0) ≤ℚ x → int (
 before_is x d end n s e h k l p q =
     let c = crossed_before (nat_abs x.num * den d + n * nat_abs d.num * den x) x.pre d.pre (nat_abs end.num) end.pre in
     let f = copy_frac x d n h k in
-    let g = is_frac end l in (
+    let g = nonneg_frac end l in (
       λ i. subst (λ y. x +ℚ int (pos n) *ℚ d <ℚ y) (sym g) (subst (λ y. y <ℚ frac (pos (nat_abs end.num)) end.pre) (sym f) (c.1 (rw (p, q) at i))),
       λ i. rw (p, q) (c.0 (subst (λ y. y <ℚ frac (pos (nat_abs end.num)) end.pre) f (subst (λ y. x +ℚ int (pos n) *ℚ d <ℚ y) g i))),
     )
@@ -106,7 +98,7 @@ pub after_is : (x d end : ℚ) (n s e : ℕ) → int (pos 0) ≤ℚ x → int (p
 after_is x d end n s e h k l p q =
     let c = crossed_after (nat_abs x.num * den d + n * nat_abs d.num * den x) x.pre d.pre (nat_abs end.num) end.pre in
     let f = copy_frac x d n h k in
-    let g = is_frac end l in (
+    let g = nonneg_frac end l in (
       λ i. subst (λ y. y <ℚ x +ℚ int (pos n) *ℚ d) (sym g) (subst (λ y. frac (pos (nat_abs end.num)) end.pre <ℚ y) (sym f) (c.1 (rw (p, q) at i))),
       λ i. rw (p, q) (c.0 (subst (λ y. frac (pos (nat_abs end.num)) end.pre <ℚ y) f (subst (λ y. y <ℚ x +ℚ int (pos n) *ℚ d) g i))),
     )

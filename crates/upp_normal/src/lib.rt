@@ -15,6 +15,7 @@ mod unrolling;
 
 pub use ahead::{Stretch, stretch_at};
 pub use laws::{gauge_never_falls, normal_form_is_unique, unrolled_pieces_are_counted};
+pub use merging::merged;
 pub use raw_curve::{RawCurve, normalise, normalise_on};
 pub use steadiness::steady_time;
 pub use two_periods::count_before;

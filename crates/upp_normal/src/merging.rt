@@ -38,7 +38,7 @@ fn merged_after(alloc: Global, first: Piece, rest: &[Piece]) -> Result<Vec<Piece
 
 /// The pieces with neighbours joined that are one piece: these read as before, and no piece goes on with the one before
 /// it.
-pub(crate) fn merged(alloc: Global, pieces: &[Piece]) -> Result<Vec<Piece>, AllocError>
+pub fn merged(alloc: Global, pieces: &[Piece]) -> Result<Vec<Piece>, AllocError>
     requires starts { StartsAtZero pieces.now }
     requires fits { Each (λ q. LineFitsAt q.x q.line) pieces.now }
     ensures { (p : Piece) (ps : List Piece) → pieces.now ≡ p ∷ ps

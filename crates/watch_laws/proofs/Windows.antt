@@ -4,7 +4,7 @@ use Rattle.std.specs.Prelude.{◌≡◌, ◌⊎◌, pos, List, [], ◌∷◌, �
 use Rattle.std.proofs.Common.{arith, sym, subst, inl, inr}
 use Rattle.rational.specs.Rational.{ℚ, int, ◌+ℚ◌, ◌-ℚ◌, ◌*ℚ◌, ◌≤ℚ◌, ◌<ℚ◌}
 use Rattle.rational.proofs.Laws.{le_refl, le_trans, le_or_lt, antisym, sub_mul, mul_sub}
-use Rattle.rational.proofs.Linear.{with_atoms, with1, with2, with3, with4}
+use Rattle.rational.proofs.Linear.{with_atoms, with1, with2, with3, with4, sub_nonneg}
 use Rattle.watch_laws.specs.Affine.{IsLineOn, NoneInside, IsAffineOff, EachTime, IsPiecewise}
 use Rattle.watch_laws.specs.Windows.{FallsShort, IsShort}
 use Rattle.watch_laws.proofs.Slides.{low_somewhere}
@@ -156,9 +156,6 @@ is_end c l e h = with3 c l e (λ k. omega (arith, k.le, k.lt, k.same))
 from_start : (a q : ℚ) → q ≡ a +ℚ (q -ℚ a)
 from_start a q = with2 a q (λ k. omega (arith, k.le, k.lt, k.same))
 
-length_nonneg : (a q : ℚ) → a ≤ℚ q → int (pos 0) ≤ℚ q -ℚ a
-length_nonneg a q h = with2 a q (λ k. omega (arith, k.le, k.lt, k.same))
-
 -- ---- the two moves
 -- where the end is a time of the kind P, move the start
 start_moved : (W g : ℚ → ℚ) (P X : ℚ → Type 0) (u e a b : ℚ) → IsPiecewise W P u e → IsPiecewise g X (int (pos 0)) (e -ℚ u)
@@ -237,7 +234,7 @@ short_pair W g P X u e a b f h at_u at_e z i j k short =
           | inl p ↦ at_p p
           | inr x ↦
               let e2 = from_start a q in
-              let (c, it) = both_moved W g P X u e a (q -ℚ a) f at_u at_e z i (length_nonneg a q is.from) (subst (λ t. t ≤ℚ e) e2 is.to) x (subst (λ t. FallsShort W g a t) e2 short_q) in
+              let (c, it) = both_moved W g P X u e a (q -ℚ a) f at_u at_e z i (sub_nonneg a q is.from) (subst (λ t. t ≤ℚ e) e2 is.to) x (subst (λ t. FallsShort W g a t) e2 short_q) in
               (c, c +ℚ (q -ℚ a), it)
         ]
       ]

@@ -1,15 +1,15 @@
 -- A product more, over finer factors; and the sum as a fraction.
 use Rattle.std.proofs.Common.{◌≡◌, ℕ, zero, suc, ◌+◌, ◌*◌, ◌<◌, ◌≤◌, ◌-◌, ◌^◌, refl, sym, ap, ◌∙◌, subst, arith}
-use Rattle.std.specs.Prelude.{◌≢◌, pos, nat_abs, ℤ, negsuc, ◌*ℤ◌, ◌+ℤ◌, ◌≤ℤ◌}
+use Rattle.std.specs.Prelude.{◌≢◌, pos, nat_abs, ℤ, ◌*ℤ◌, ◌+ℤ◌}
 use Rattle.std.proofs.lemmas.Int.{ints}
 use Rattle.rational.specs.Gcd.{gcd}
 use Rattle.rational.specs.Gauge.{Kept, cap}
 use Rattle.rational.specs.Ratio.{IsSmall}
 use Rattle.rational.specs.Rational.{ℚ, int, frac, over, both, den, ◌+ℚ◌, ◌*ℚ◌, ◌/ℚ◌, ◌≤ℚ◌}
-use Rattle.rational.specs.Fractions.{frac_self, frac-same}
-use Rattle.rational.proofs.Laws.{num_nonneg}
+use Rattle.rational.specs.Fractions.{frac-same}
+use Rattle.rational.proofs.Laws.{nonneg_frac}
 use Rattle.rational.proofs.Integers.{int_same}
-use Rattle.rational.proofs.Parts.{lowest_parts, small_ratio}
+use Rattle.rational.proofs.Parts.{lowest_parts}
 use Rattle.rational.proofs.Quotients.{frac_is_div}
 use Rattle.rational.proofs.Over.{add_frac, mul_frac, both_is}
 use Rattle.wide_sums.specs.Factors.{IsReduced}
@@ -24,12 +24,6 @@ unfolding cap
 known_most b n k = let is = k.is in omega (arith, is)
 
 -- ---- sums
-own_num : (z : ℤ) → pos 0 ≤ℤ z → z ≡ pos (nat_abs z)
-own_num (pos n) h = refl
-own_num (negsuc n) h = absurd (omega (arith, ints, h))
-
-own_parts : (x : ℚ) → int (pos 0) ≤ℚ x → x ≡ frac (pos (nat_abs x.num)) x.pre
-own_parts x h = frac_self x ∙ ap (λ z. frac z x.pre) (own_num x.num (num_nonneg x h))
 
 add_product : (m d n e t b : ℕ) → (frac (pos m) d *ℚ frac (pos n) e) +ℚ frac (pos t) b
     ≡ frac ((pos m *ℤ pos n) *ℤ pos (suc b) +ℤ pos t *ℤ pos (suc (both d e))) (both (both d e) b)
@@ -47,7 +41,7 @@ added s x y t (suc b) u (suc c) some is px py top bottom =
     let m = nat_abs x.num in
     let n = nat_abs y.num in
     let one : x *ℚ y +ℚ s ≡ (frac (pos m) x.pre *ℚ frac (pos n) y.pre) +ℚ frac (pos t) b =
-    ap (λ k. k *ℚ y +ℚ s) (own_parts x px) ∙ ap (λ k. frac (pos m) x.pre *ℚ k +ℚ s) (own_parts y py) ∙ ap (λ k. frac (pos m) x.pre *ℚ frac (pos n) y.pre +ℚ k) is in
+    ap (λ k. k *ℚ y +ℚ s) (nonneg_frac x px) ∙ ap (λ k. frac (pos m) x.pre *ℚ k +ℚ s) (nonneg_frac y py) ∙ ap (λ k. frac (pos m) x.pre *ℚ frac (pos n) y.pre +ℚ k) is in
     one ∙ add_product m x.pre n y.pre t b ∙ frac-same _ _ _ _ (ap pos (rw (both_is (both x.pre y.pre) b, both_is x.pre y.pre, top, bottom) (same_product m n t (den x) (den y) (suc b))))
 
 -- ---- in lowest terms
@@ -95,10 +89,6 @@ bottom_wide s n p t b some is l wide small =
     absurd (omega (arith, less, own, wide))
 
 -- ---- quotients of whole numbers
-pub quotient_small : (t b : ℕ) → 0 < b → t < 2 ^ 127 → b < 2 ^ 127 → IsSmall (int (pos t) /ℚ int (pos b))
-quotient_small t zero some top bottom = absurd (omega (arith, some))
-quotient_small t (suc b) some top bottom =
-    subst (λ x. IsSmall x) (frac_is_div (pos t) b) (small_ratio (pos t) (pos (suc b)) (λ e. omega (arith, ints, e)) top bottom)
 
 pub whole_some : (b : ℕ) → 0 < b → int (pos b) ≢ int (pos 0)
 whole_some b some e = let same = int_same (pos b) (pos 0) e in absurd (omega (arith, ints, some, same))

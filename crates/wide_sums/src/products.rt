@@ -1,6 +1,6 @@
 //! Sums of products.
 
-ghost use Rattle.std.specs.Prelude.{◌≡◌, ◌<◌, ◌≤◌, ◌+◌, ◌^◌, MatchOption, length, pos, nat_abs};
+ghost use Rattle.std.specs.Prelude.{◌≡◌, ◌<◌, ◌≤◌, ◌+◌, MatchOption, length, pos};
 ghost use Rattle.std.specs.List.{AllByRecursion};
 ghost use Rattle.arrayvec.specs.ArrayVec.{array_vec_len};
 ghost use Rattle.rational.specs.Rational.{ℚ, int, ◌+ℚ◌, ◌*ℚ◌, ◌≤ℚ◌};
@@ -65,14 +65,6 @@ fn nothing() -> WideSum
     }
 }
 
-/// The size of the numerator.
-fn size_of(x: Frac) -> u128
-    ensures value { result ≡ nat_abs x.num }
-    ensures small { result < 2 ^ 127 }
-{
-    x.numerator().unsigned_abs()
-}
-
 /// Adds a product. One whose first factor is 0 takes no work.
 fn add_product(sum: &mut WideSum, product: Product)
     requires from_zero { IsFromZero product }
@@ -87,7 +79,12 @@ fn add_product(sum: &mut WideSum, product: Product)
         return;
     }
     let (below, under) = (left.denominator(), right.denominator());
-    let own = times_both_plus(&sum.bottom, size_of(left), size_of(right), &[]);
+    let own = times_both_plus(
+        &sum.bottom,
+        left.numerator_size(),
+        right.numerator_size(),
+        &[],
+    );
     let top = times_both_plus(&sum.top, below, under, &own);
     let bottom = times_both_plus(&sum.bottom, below, under, &[]);
     sum.top = top;

@@ -1,60 +1,19 @@
 -- That a small network is accepted, and the order of its servers.
-use Rattle.std.specs.Prelude.{All, AllPairs, Contains, IsTrue}
-use Rattle.std.proofs.Common.{◌≡◌, ◌≢◌, ◌⊎◌, ℕ, zero, suc, ◌<◌, ◌≤◌, ◌^◌, List, [], ◌∷◌, length, get_or, take, true, Some, refl, ap, sym, inl, inr}
+use Rattle.std.specs.Prelude.{Contains}
+use Rattle.std.proofs.Common.{◌≡◌, ◌≢◌, ℕ, zero, suc, ◌<◌, ◌≤◌, ◌^◌, List, [], ◌∷◌, length, get_or, take, Some, refl, ap, sym}
 use Rattle.std.proofs.Common.{arith}
 use Rattle.rational.proofs.Integers.{nat_lt, nat_nonneg}
 use Rattle.upp_limits.specs.Windows.{IsLeast}
 use Rattle.run_laws.specs.Cards.{whole}
 use Rattle.run_laws.specs.Servers.{Discipline}
 use Rattle.net_model.specs.Accepted.{IsServer, IsHop, IsFlow, HasFewQueues}
-use Rattle.net_model.specs.Names.{IsName, is_name_byte}
+use Rattle.net_model.specs.Names.{IsName}
 use Rattle.net_model.specs.Networks.{Net, NetServer, NetFlow}
 use Rattle.net_model.specs.Orders.{IsReady, IsOrder}
 use Rattle.net_model.specs.Walks.{IsNext}
 use Rattle.net_model.proofs.KindsStand.{kinds_may_stand}
+use Rattle.net_model.proofs.Short.{no_pairs}
 use Rattle.worked_runs.specs.Parts.{late_server, bucket_flow}
-
--- ---- short lists
--- of one there are no two places
-pub no_pairs : {A : Type 0} (R : A → A → Type 0) (x : A) → AllPairs R (x ∷ [])
-no_pairs R x i zero d before within = absurd (omega (arith, before))
-no_pairs R x i (suc j) d before within = absurd (omega (arith, within))
-
-pub one_pair : {A : Type 0} (R : A → A → Type 0) (x y : A) → R x y → AllPairs R (x ∷ y ∷ [])
-one_pair R x y r i zero d before within = absurd (omega (arith, before))
-one_pair R x y r zero (suc zero) d before within = r
-one_pair R x y r (suc i) (suc zero) d before within = absurd (omega (arith, before))
-one_pair R x y r i (suc (suc j)) d before within = absurd (omega (arith, within))
-
--- what it contains is one of them
-pub alone : {A : Type 0} (x y : A) → Contains (x ∷ []) y → x ≡ y
-alone x y (zero, within, is) = is
-alone x y (suc k, within, is) = absurd (omega (arith, within))
-
-pub one_of_two : {A : Type 0} (x y z : A) → Contains (x ∷ y ∷ []) z → (x ≡ z) ⊎ (y ≡ z)
-one_of_two x y z (zero, within, is) = inl is
-one_of_two x y z (suc zero, within, is) = inr is
-one_of_two x y z (suc (suc k), within, is) = absurd (omega (arith, within))
-
-pub some_same : {A : Type 0} (x y : A) → Some x ≡ Some y → x ≡ y
-some_same x y e = cc
-
--- ---- names
--- of one byte, of two bytes
-pub named_by_one : (a : ℕ) → is_name_byte a ≡ true → IsName (a ∷ [])
-named_by_one a h = record { some = omega arith; few = omega arith; bytes = bytes }
-  where
-    bytes : All (λ c. IsTrue (is_name_byte c)) (a ∷ [])
-    bytes zero d l = h
-    bytes (suc j) d l = absurd (omega (arith, l))
-
-pub named_by_two : (a b : ℕ) → is_name_byte a ≡ true → is_name_byte b ≡ true → IsName (a ∷ b ∷ [])
-named_by_two a b h k = record { some = omega arith; few = omega arith; bytes = bytes }
-  where
-    bytes : All (λ c. IsTrue (is_name_byte c)) (a ∷ b ∷ [])
-    bytes zero d l = h
-    bytes (suc zero) d l = k
-    bytes (suc (suc j)) d l = absurd (omega (arith, l))
 
 -- two that end in another byte
 pub ends_apart : (a b c d : ℕ) → b < d → (a ∷ b ∷ []) ≢ (c ∷ d ∷ [])

@@ -1,6 +1,5 @@
 -- Work at an even pace, and how a server that has nothing to do up to some time keeps a curve from then on.
-use Rattle.std.specs.Prelude.{◌≡◌, ◌⊎◌, ℕ, ◌*◌, pos, List, true, ◌&&◌}
-use Rattle.rational.proofs.Integers.{int_mul}
+use Rattle.std.specs.Prelude.{◌≡◌, ◌⊎◌, List, true, ◌&&◌}
 use Rattle.std.proofs.Common.{arith, sym, ap, ◌∙◌, inl, inr}
 use Rattle.rational.specs.Rational.{ℚ, ◌+ℚ◌, ◌-ℚ◌, ◌*ℚ◌, ◌/ℚ◌, ◌≤ℚ◌, ◌<ℚ◌, lt_q}
 use Rattle.rational.specs.MinMax.{max_q}
@@ -13,7 +12,7 @@ use Rattle.rational.proofs.Over.{le_q_out}
 use Rattle.rational.proofs.Linear.{with2, with3, with4, with5, with6}
 use Rattle.min_plus.specs.Functions.{zero_q}
 use Rattle.min_plus.specs.Formulas.{IsService, rate_latency_value}
-use Rattle.run_laws.specs.Cards.{whole, all, ServerStep}
+use Rattle.run_laws.specs.Cards.{all, ServerStep}
 use Rattle.run_laws.specs.Servers.{Span, clip}
 use Rattle.run_laws.specs.Counts.{when, arrived, worked}
 use Rattle.run_laws.specs.Premises.{KeepsService, IsBusy}
@@ -21,8 +20,6 @@ use Rattle.run_laws.proofs.Clips.{quotient}
 use Rattle.run_laws.proofs.Sums.{when_false}
 
 -- ---- whole numbers
-pub times_t : (m n : ℕ) → whole (m * n) ≡ whole m *ℚ whole n
-times_t m n = sym (int_mul (pos m) (pos n))
 
 -- ---- a span of work that takes k
 -- all through it, k times what is done is its bits times the time that has passed

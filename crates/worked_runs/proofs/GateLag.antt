@@ -23,9 +23,9 @@ use Rattle.upp_kinds.proofs.StairValues.{stair_is, ratio_low}
 use Rattle.upp_kinds.proofs.Worked.{computing}
 use Rattle.run_laws.specs.Cards.{whole}
 use Rattle.run_laws.proofs.Small.{le_t, lt_t, sum_t}
+use Rattle.run_laws.proofs.Sizes.{whole_times}
 use Rattle.net_model.specs.Accepted.{IsServiceCurve}
 use Rattle.net_model.proofs.KindsStand.{kinds_may_stand}
-use Rattle.worked_runs.proofs.Busy.{times_t}
 use Rattle.worked_runs.proofs.Gates.{while_closed, while_open, over_line}
 use Rattle.worked_runs.proofs.GateLess.{gate_less_packet, less_is, after_first_slot}
 
@@ -87,7 +87,7 @@ through_is k =
     let high = nat_le b 25000 (omega arith) in
     let split : 25000 * m + b ≡ 24000 * suc k = omega arith in
     let parts : whole 25000 *ℚ whole m +ℚ whole b ≡ whole 24000 *ℚ whole (suc k) =
-    ap (λ z. z +ℚ whole b) (sym (times_t 25000 m)) ∙ sum_t (25000 * m) b ∙ ap whole split ∙ times_t 24000 (suc k) in
+    ap (λ z. z +ℚ whole b) (sym (whole_times 25000 m)) ∙ sum_t (25000 * m) b ∙ ap whole split ∙ whole_times 24000 (suc k) in
     let (on, some, most, sum) =
     of (whole m) (whole b) (whole b /ℚ whole 100) ((whole b /ℚ whole 100) *ℚ whole 100) (whole 24000 *ℚ whole (suc k)) q c low high parts
     (nat_nonneg m) in

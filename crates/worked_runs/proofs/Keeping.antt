@@ -1,5 +1,5 @@
 -- What a run of one or two packets has to keep: arrival curves, and the service of one server.
-use Rattle.std.specs.Prelude.{None, ◌≡◌, ◌<◌, ℕ, zero, suc, ◌+◌, ◌*◌, Bool, true, ◌&&◌, List, [], ◌∷◌, All}
+use Rattle.std.specs.Prelude.{◌≡◌, ◌<◌, ℕ, ◌+◌, ◌*◌, Bool, true, ◌&&◌, List}
 use Rattle.std.proofs.Common.{arith, sym, ap, ◌∙◌, refl, inl, inr}
 use Rattle.rational.specs.Rational.{ℚ, ◌+ℚ◌, ◌-ℚ◌, ◌*ℚ◌, ◌≤ℚ◌, ◌<ℚ◌, lt_q}
 use Rattle.rational.specs.Extended.{Ext, ◌≤ₑ◌}
@@ -15,28 +15,12 @@ use Rattle.upp_kinds.proofs.KindValues.{bucket_is}
 use Rattle.run_laws.specs.Cards.{whole, all, ServerStep}
 use Rattle.run_laws.specs.Counts.{when, arrived, worked}
 use Rattle.run_laws.specs.Premises.{KeepsService}
-use Rattle.run_laws.specs.Allows.{IsComplete}
-use Rattle.run_laws.specs.Lawful.{Due}
-use Rattle.run_laws.specs.Servers.{ServerState, Span, clip}
+use Rattle.run_laws.specs.Servers.{Span, clip}
 use Rattle.run_laws.proofs.Clips.{clip_early, clip_late}
 use Rattle.run_laws.proofs.Small.{sum_t}
 use Rattle.run_laws.proofs.Sums.{when_most}
-use Rattle.worked_runs.proofs.Busy.{none_over, times_t, not_yet, service_at_most, IsAtRate, keeps_at_rate, span_at_rate}
-
--- ---- the end of a run
--- at one server, and at two, no packet is under way that is worked off
-pub one_idle : (s : ServerState) → s.under ≡ None → All (λ (x : ServerState). ¬ IsComplete x.under) (s ∷ [])
-one_idle s e zero d h = rw e (λ k. k)
-one_idle s e (suc n) d h = absurd (omega (arith, h))
-
-pub two_idle : (s t : ServerState) → s.under ≡ None → t.under ≡ None → All (λ (x : ServerState). ¬ IsComplete x.under) (s ∷ t ∷ [])
-two_idle s t e f zero d h = rw e (λ k. k)
-two_idle s t e f (suc zero) d h = rw f (λ k. k)
-two_idle s t e f (suc (suc n)) d h = absurd (omega (arith, h))
-
--- no packet is on a link
-pub none_left : (end : ℚ) → All (λ (d : Due). end <ℚ d.time) []
-none_left end n d h = absurd (omega (arith, h))
+use Rattle.run_laws.proofs.Sizes.{whole_times}
+use Rattle.worked_runs.proofs.Busy.{none_over, not_yet, service_at_most, IsAtRate, keeps_at_rate, span_at_rate}
 
 -- ---- arrivals
 -- a bucket's burst covers it in any window
@@ -112,5 +96,5 @@ two_packets_keep k l b c β V hk hl G sees =
       early = early;
       steady = λ x low high. sees.work x
           ∙ two_at_rate (whole 100) (whole k) (whole l) (first_span k) (second_span k l) x (sym (sum_t 10 k)) refl (sym (sum_t (10 + k) l))
-          (nat_lt 0 k hk) (nat_lt 0 l hl) (times_t 100 k) (times_t 100 l) low high;
+          (nat_lt 0 k hk) (nat_lt 0 l hl) (whole_times 100 k) (whole_times 100 l) low high;
     }

@@ -1,6 +1,7 @@
 -- One flow over one server reaches its bound.
 use Rattle.std.specs.Prelude.{codes}
 use Rattle.std.proofs.Common.{◌≡◌, ◌≢◌, ℕ, zero, suc, ◌<◌, [], ◌∷◌, length, sym, true, false, Some, refl, ap, subst, arith}
+use Rattle.std.proofs.lemmas.Option.{same_Some}
 use Rattle.rational.specs.Rational.{◌-ℚ◌}
 use Rattle.rational.specs.Extended.{◌≤ₑ◌}
 use Rattle.rational.specs.declared.Extended.TheVariants.{Fin}
@@ -20,11 +21,12 @@ use Rattle.net_model.specs.Accepted.{IsServer, IsFlow, IsAccepted}
 use Rattle.net_model.specs.Names.{DifferInName}
 use Rattle.net_model.specs.Networks.{NetServer, NetFlow}
 use Rattle.net_model.specs.Orders.{IsOrder}
+use Rattle.net_model.proofs.Short.{no_pairs, alone, named_by_two}
 use Rattle.net_cells.specs.Numbered.{packet, arrival, service}
 use Rattle.net_bounds.specs.NetRuns.{routes_of, IsRunOf}
 use Rattle.worked_runs.specs.Parts.{late_server, first_flow}
 use Rattle.worked_runs.specs.OneFlow.{one_flow, OneFlowReachesItsBound}
-use Rattle.worked_runs.proofs.Accepting.{no_pairs, alone, some_same, named_by_two, is_late_server, is_one_hop_flow, one_server_order}
+use Rattle.worked_runs.proofs.Accepting.{is_late_server, is_one_hop_flow, one_server_order}
 use Rattle.worked_runs.proofs.OneFlowTable.{table, meets}
 use Rattle.worked_runs.proofs.Reaching.{bound_by}
 
@@ -46,12 +48,12 @@ accepted = record {
   few_flows = omega arith;
   names = (no_pairs (λ s t. s.name ≢ t.name) its_server, no_pairs DifferInName (Some first_flow));
   servers = λ s has. subst IsServer (alone its_server s has) is_server;
-  flows = λ f has. subst (IsFlow one_flow.servers) (some_same first_flow f (alone (Some first_flow) (Some f) has)) is_flow;
+  flows = λ f has. subst (IsFlow one_flow.servers) (same_Some first_flow f (alone (Some first_flow) (Some f) has)) is_flow;
 }
 
 ordered : IsOrder one_flow (0 ∷ [])
 ordered = one_server_order one_flow refl
-    (λ f has. ap (λ (g : NetFlow). length g.path) (sym (some_same first_flow f (alone (Some first_flow) (Some f) has))))
+    (λ f has. ap (λ (g : NetFlow). length g.path) (sym (same_Some first_flow f (alone (Some first_flow) (Some f) has))))
 
 -- ---- the run
 -- with the curves of the network

@@ -1,15 +1,13 @@
 -- The table of one flow over one server.
 use Rattle.std.specs.Prelude.{◌≡◌, ℕ, zero, suc, ◌+◌, ◌==◌, ◌&&◌, nat_lt, IsTrue, true, false, Option, Some, None, [], ◌∷◌}
 use Rattle.std.proofs.lemmas.Bool.{and_parts}
-use Rattle.std.proofs.Common.{refl, ap}
+use Rattle.std.proofs.Common.{refl}
 use Rattle.rational.specs.Extended.{Ext, min_ext}
 use Rattle.rational.specs.declared.Extended.TheVariants.{Fin}
-use Rattle.rational.specs.Fractions.{same_parts}
 use Rattle.rational.proofs.Laws.{le_refl}
 use Rattle.rational.proofs.ExtendedOrder.{min_ext_of_le}
 use Rattle.min_plus.specs.Functions.{zero_q}
 use Rattle.upp_limits.specs.declared.op_kind.OpKind.TheVariants.{PosMinus}
-use Rattle.upp_kinds.proofs.Worked.{computing}
 use Rattle.run_laws.specs.Cards.{whole}
 use Rattle.net_cells.specs.declared.cell.Kind.{Kind}
 use Rattle.net_cells.specs.declared.cell.Kind.TheVariants.{In, Cross, Total, Higher, QueueService, Theta, Residual, QueueDelay, QueueBacklog, HopDelay, ShiftOut, DeconvOut, Out, PathService, Tfa, Sfa, Bound}
@@ -17,13 +15,12 @@ use Rattle.net_cells.specs.Numbered.{hops, queues, levels, is_live, zero_curve}
 use Rattle.net_cells.specs.Cells.{cell_of, has_cell}
 use Rattle.net_cells.specs.CellFormulas.{value, less}
 use Rattle.net_cells.specs.Formulas.{horizontal}
-use Rattle.net_cells.specs.NumberSums.{sum_of_numbers}
 use Rattle.net_cells.specs.Equations.{MeetsEquation, MeetsEquations}
 use Rattle.net_cells.specs.Meanings.{Meaning, curve, number, CellTable}
 use Rattle.worked_runs.specs.OneFlow.{one_flow}
 use Rattle.worked_runs.proofs.Meanings.{of_one, of_left, of_horizontal, of_vertical, of_smaller, of_along, of_delayed, none_below, below_one, none_before, none_before_one, only_zero}
 use Rattle.worked_runs.proofs.Operators.{no_delay}
-use Rattle.worked_runs.proofs.Rows.{nothing, after_10, service, packets, first_arrival, whole_packets, alone, first_delay_is, first_backlog_is}
+use Rattle.worked_runs.proofs.Rows.{nothing, after_10, service, packets, first_arrival, whole_packets, alone, first_delay_is, first_backlog_is, no_link}
 
 -- ---- the values
 abbrev delay : Ext
@@ -53,9 +50,6 @@ table c = values c.kind
 
 -- ---- what the operators make
 -- with no link
-no_link : sum_of_numbers (delay ∷ Fin (whole 0) ∷ []) ≡ delay
-unfolding computing
-no_link = ap Fin (same_parts _ _ refl refl)
 
 least : min_ext delay delay ≡ delay
 least = min_ext_of_le delay delay (le_refl (whole 130))
@@ -127,13 +121,13 @@ meets_at PathService a b h = at_path (Meets PathService) record { value = curve 
 meets_at Tfa a b h = at_path (Meets Tfa) record {
   value = number delay;
   is = refl;
-  means = of_along table (cell_of HopDelay 0 0 ∷ []) (whole 0 ∷ []) (delay ∷ []) delay (refl, tt) no_link;
+  means = of_along table (cell_of HopDelay 0 0 ∷ []) (whole 0 ∷ []) (delay ∷ []) delay (refl, tt) (no_link delay);
 } a b h
 meets_at Sfa a b h = at_path (Meets Sfa) record {
   value = number delay;
   is = refl;
   means = of_delayed table (horizontal (value In 0 0) (value PathService 0 0)) (whole 0 ∷ []) delay delay
-      (of_horizontal table (value In 0 0) (value PathService 0 0) first_arrival service delay refl refl first_delay_is) no_link;
+      (of_horizontal table (value In 0 0) (value PathService 0 0) first_arrival service delay refl refl first_delay_is) (no_link delay);
 } a b h
 meets_at Bound a b h = at_path (Meets Bound) record {
   value = number delay;

@@ -1,5 +1,6 @@
 -- One flow over a gate reaches its bound.
 use Rattle.std.proofs.Common.{◌≢◌, ℕ, zero, suc, ◌<◌, [], ◌∷◌, length, get_or, Some, refl, ap, sym, subst, arith}
+use Rattle.std.proofs.lemmas.Option.{same_Some}
 use Rattle.rational.proofs.Integers.{nat_lt, nat_le, nat_nonneg}
 use Rattle.run_laws.specs.Cards.{whole}
 use Rattle.net_model.specs.Accepted.{IsServer, IsHop, IsFlow, IsAccepted}
@@ -7,8 +8,9 @@ use Rattle.net_model.specs.Names.{DifferInName}
 use Rattle.net_model.specs.Networks.{NetFlow}
 use Rattle.net_model.specs.Orders.{IsOrder}
 use Rattle.net_model.proofs.KindsStand.{kinds_may_stand}
+use Rattle.net_model.proofs.Short.{no_pairs, alone, named_by_one}
 use Rattle.worked_runs.specs.OneGate.{its_server, its_flow, one_gate, GateReachesItsBound}
-use Rattle.worked_runs.proofs.Accepting.{no_pairs, alone, some_same, named_by_one, one_server_order}
+use Rattle.worked_runs.proofs.Accepting.{one_server_order}
 use Rattle.worked_runs.proofs.GateLag.{is_service}
 use Rattle.worked_runs.proofs.OneGateRun.{at_its_end_delay}
 use Rattle.worked_runs.proofs.OneGateTable.{table, meets}
@@ -48,12 +50,12 @@ accepted = record {
   few_flows = omega arith;
   names = (no_pairs (λ s t. s.name ≢ t.name) its_server, no_pairs DifferInName (Some its_flow));
   servers = λ s has. subst IsServer (alone its_server s has) is_server;
-  flows = λ f has. subst (IsFlow one_gate.servers) (some_same its_flow f (alone (Some its_flow) (Some f) has)) is_flow;
+  flows = λ f has. subst (IsFlow one_gate.servers) (same_Some its_flow f (alone (Some its_flow) (Some f) has)) is_flow;
 }
 
 ordered : IsOrder one_gate (0 ∷ [])
 ordered = one_server_order one_gate refl
-    (λ f has. ap (λ (g : NetFlow). length g.path) (sym (some_same its_flow f (alone (Some its_flow) (Some f) has))))
+    (λ f has. ap (λ (g : NetFlow). length g.path) (sym (same_Some its_flow f (alone (Some its_flow) (Some f) has))))
 
 pub gate_reaches_its_bound : GateReachesItsBound
 gate_reaches_its_bound = record {

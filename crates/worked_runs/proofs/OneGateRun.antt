@@ -24,13 +24,15 @@ use Rattle.run_laws.specs.Views.{view}
 use Rattle.run_laws.proofs.Clips.{clip_early}
 use Rattle.run_laws.proofs.Small.{le_t, lt_t, sum_t, enters, works, leaves}
 use Rattle.run_laws.proofs.Sums.{when_true}
+use Rattle.run_laws.proofs.Sizes.{whole_times}
+use Rattle.run_laws.proofs.SmallRuns.{one_idle, none_due}
 use Rattle.net_cells.specs.Numbered.{packet, arrival, service}
 use Rattle.net_bounds.specs.NetRuns.{routes_of}
 use Rattle.worked_runs.specs.OneGate.{one_gate, at_its_end}
 use Rattle.worked_runs.specs.Reached.{HasDelay}
-use Rattle.worked_runs.proofs.Busy.{none_over, times_t, not_yet, span_at_rate, IsAtMostService, IsAtRate, keeps_at_rate}
+use Rattle.worked_runs.proofs.Busy.{none_over, not_yet, span_at_rate, IsAtMostService, IsAtRate, keeps_at_rate}
 use Rattle.worked_runs.proofs.Gates.{while_closed, while_open}
-use Rattle.worked_runs.proofs.Keeping.{one_idle, none_left, at_most}
+use Rattle.worked_runs.proofs.Keeping.{at_most}
 
 abbrev net : Routes
 net = routes_of one_gate
@@ -52,7 +54,7 @@ lawful = record {
     ),
   );
   none_complete = one_idle _ refl;
-  none_overdue = none_left (whole 990);
+  none_overdue = none_due (whole 990);
 }
 
 -- ---- it keeps the arrival curve
@@ -129,7 +131,7 @@ at_rate = record {
   };
   early = λ x h. worked_is x ∙ clip_early its_work x h;
   steady = λ x low high. worked_is x
-      ∙ span_at_rate (whole 100) (whole 240) its_work x (sym (sum_t 750 240)) (lt_t 0 240 refl) (times_t 100 240) low high;
+      ∙ span_at_rate (whole 100) (whole 240) its_work x (sym (sum_t 750 240)) (lt_t 0 240 refl) (whole_times 100 240) low high;
 }
 
 keeps_service : (server : ℕ) → server < 1 → KeepsService (value_at (service one_gate server)) (whole 990) (view net at_its_end server)

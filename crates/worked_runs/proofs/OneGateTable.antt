@@ -3,7 +3,6 @@ use Rattle.std.specs.Prelude.{◌≡◌, ◌⊎◌, ℕ, zero, suc, ◌+◌, ◌
 use Rattle.std.proofs.Common.{arith, sym, refl, ap, ◌∙◌, subst, inl, inr}
 use Rattle.std.proofs.lemmas.Bool.{and_parts}
 use Rattle.rational.specs.Rational.{ℚ, ◌+ℚ◌, ◌-ℚ◌, ◌*ℚ◌, ◌/ℚ◌, ◌≤ℚ◌, ◌<ℚ◌, neg_ℚ}
-use Rattle.rational.specs.Fractions.{same_parts}
 use Rattle.rational.specs.MinMax.{max_q}
 use Rattle.rational.specs.Extended.{Ext, ◌≤ₑ◌, min_ext}
 use Rattle.rational.specs.declared.Extended.TheVariants.{Fin}
@@ -32,7 +31,6 @@ use Rattle.net_cells.specs.Numbered.{hops, queues, levels, is_live, zero_curve}
 use Rattle.net_cells.specs.Cells.{cell_of, has_cell}
 use Rattle.net_cells.specs.CellFormulas.{value, less}
 use Rattle.net_cells.specs.Formulas.{horizontal}
-use Rattle.net_cells.specs.NumberSums.{sum_of_numbers}
 use Rattle.net_cells.specs.Equations.{MeetsEquation, MeetsEquations}
 use Rattle.net_cells.specs.Meanings.{Meaning, curve, number, CellTable}
 use Rattle.worked_runs.specs.OneGate.{one_gate}
@@ -41,7 +39,7 @@ use Rattle.worked_runs.proofs.GateLag.{packets, service, is_service, horizontal_
 use Rattle.worked_runs.proofs.GateLess.{gate_less_packet, less_made}
 use Rattle.worked_runs.proofs.Meanings.{of_one, of_left, of_horizontal, of_vertical, of_smaller, of_along, of_delayed, none_below, below_one, none_before, none_before_one, only_zero}
 use Rattle.worked_runs.proofs.Operators.{fifo_made}
-use Rattle.worked_runs.proofs.Rows.{nothing}
+use Rattle.worked_runs.proofs.Rows.{nothing, no_link}
 
 -- ---- the values
 abbrev delay : Ext
@@ -141,10 +139,6 @@ left_is x on (inr h) =
 alone : IsMadeBy (FifoLeft (Fin zero_q)) service zero_curve service
 alone = fifo_made service zero_curve service zero_q gate_curve is_service.rising (λ x on. left_is x on (le_or_lt x zero_q))
 
-no_link : sum_of_numbers (delay ∷ Fin (whole 0) ∷ []) ≡ delay
-unfolding computing
-no_link = ap Fin (same_parts _ _ refl refl)
-
 least : min_ext delay delay ≡ delay
 least = min_ext_of_le delay delay (le_refl (whole 990))
 
@@ -214,13 +208,13 @@ meets_at PathService a b h = at_path (Meets PathService) record { value = curve 
 meets_at Tfa a b h = at_path (Meets Tfa) record {
   value = number delay;
   is = refl;
-  means = of_along table (cell_of HopDelay 0 0 ∷ []) (whole 0 ∷ []) (delay ∷ []) delay (refl, tt) no_link;
+  means = of_along table (cell_of HopDelay 0 0 ∷ []) (whole 0 ∷ []) (delay ∷ []) delay (refl, tt) (no_link delay);
 } a b h
 meets_at Sfa a b h = at_path (Meets Sfa) record {
   value = number delay;
   is = refl;
   means = of_delayed table (horizontal (value In 0 0) (value PathService 0 0)) (whole 0 ∷ []) delay delay
-      (of_horizontal table (value In 0 0) (value PathService 0 0) packets service delay refl refl horizontal_is) no_link;
+      (of_horizontal table (value In 0 0) (value PathService 0 0) packets service delay refl refl horizontal_is) (no_link delay);
 } a b h
 meets_at Bound a b h = at_path (Meets Bound) record {
   value = number delay;

@@ -1,9 +1,11 @@
 -- The curves that several worked networks have, and sums and products of their numbers, by computing.
-use Rattle.std.specs.Prelude.{◌≡◌}
-use Rattle.std.proofs.Common.{refl}
+use Rattle.std.specs.Prelude.{◌≡◌, [], ◌∷◌}
+use Rattle.std.proofs.Common.{refl, ap, ◌∙◌}
 use Rattle.rational.specs.Rational.{◌-ℚ◌, ◌*ℚ◌}
 use Rattle.rational.specs.declared.Extended.TheVariants.{Fin}
 use Rattle.rational.specs.Fractions.{same_parts}
+use Rattle.rational.specs.Extended.{Ext, ◌+ₑ◌}
+use Rattle.rational.proofs.ExtendedOrder.{add_zero_ext}
 use Rattle.min_plus.specs.Functions.{zero_q}
 use Rattle.min_plus.specs.Formulas.{IsBucket}
 use Rattle.min_plus.specs.Deviations.{IsHorizontalDeviation, IsVerticalDeviation}
@@ -15,6 +17,7 @@ use Rattle.run_laws.proofs.Small.{le_t, lt_t}
 use Rattle.upp_kinds.proofs.KindValues.{bucket_is}
 use Rattle.upp_kinds.proofs.Worked.{computing}
 use Rattle.run_laws.specs.Cards.{whole}
+use Rattle.net_cells.specs.NumberSums.{sum_of_numbers}
 use Rattle.worked_runs.proofs.Curves.{IsBurst, burst_by, IsLate, late_by}
 use Rattle.worked_runs.proofs.Operators.{less_packet, alone_left, delay_of, backlog_of}
 
@@ -48,6 +51,10 @@ burst_6000 = burst_by (whole 6000) (whole 5) refl
 packet_12000 : whole 100 *ℚ (whole 130 -ℚ whole 10) ≡ whole 12000
 unfolding computing
 packet_12000 = same_parts _ _ refl refl
+
+-- ---- a delay, with no link behind it
+pub no_link : (d : Ext) → sum_of_numbers (d ∷ Fin (whole 0) ∷ []) ≡ d
+no_link d = ap (λ y. d +ₑ y) (add_zero_ext (Fin (whole 0))) ∙ add_zero_ext d
 
 -- ---- the server, and two flows
 abbrev pub service : SpecCurve

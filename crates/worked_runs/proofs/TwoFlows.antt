@@ -1,15 +1,17 @@
 -- Two flows in one first in, first out queue reach their bounds.
 use Rattle.std.specs.Prelude.{Contains, codes}
 use Rattle.std.proofs.Common.{◌≡◌, ◌≢◌, [], ◌∷◌, length, Some, refl, subst, arith, inl, inr}
+use Rattle.std.proofs.lemmas.Option.{same_Some}
 use Rattle.run_laws.specs.Cards.{whole}
 use Rattle.run_laws.specs.Servers.{Fifo}
 use Rattle.net_model.specs.Accepted.{IsServer, IsFlow, IsAccepted}
 use Rattle.net_model.specs.Names.{DifferInName}
 use Rattle.net_model.specs.Networks.{NetServer, NetFlow}
 use Rattle.net_model.specs.Orders.{IsOrder}
+use Rattle.net_model.proofs.Short.{no_pairs, one_pair, alone, one_of_two, named_by_two}
 use Rattle.worked_runs.specs.Parts.{late_server, first_flow, second_flow}
 use Rattle.worked_runs.specs.TwoFlows.{two_flows, TwoFlowsReachTheirBounds}
-use Rattle.worked_runs.proofs.Accepting.{no_pairs, one_pair, alone, one_of_two, some_same, named_by_two, ends_apart, is_late_server, is_one_hop_flow, one_server_order}
+use Rattle.worked_runs.proofs.Accepting.{ends_apart, is_late_server, is_one_hop_flow, one_server_order}
 use Rattle.worked_runs.proofs.Reaching.{bound_by}
 use Rattle.worked_runs.proofs.TwoFlowsTable.{table, meets}
 use Rattle.worked_runs.proofs.TwoFlowsRuns.{first_flow_last_delay, second_flow_last_delay}
@@ -31,8 +33,8 @@ is_second = is_one_hop_flow two_flows.servers (codes "f2") 0 6000 5 (named_by_tw
 -- what holds of both flows holds of each
 of_both : (P : NetFlow → Type 0) → P first_flow → P second_flow → (f : NetFlow) → Contains two_flows.flows (Some f) → P f
 of_both P p q f has = elim (one_of_two (Some first_flow) (Some second_flow) (Some f) has) [
-  | inl e ↦ subst P (some_same first_flow f e) p
-  | inr e ↦ subst P (some_same second_flow f e) q
+  | inl e ↦ subst P (same_Some first_flow f e) p
+  | inr e ↦ subst P (same_Some second_flow f e) q
 ]
 
 accepted : IsAccepted two_flows

@@ -20,13 +20,12 @@ use Rattle.net_cells.specs.Numbered.{hops, queues, levels, is_live}
 use Rattle.net_cells.specs.Cells.{cell_of, has_cell}
 use Rattle.net_cells.specs.CellFormulas.{value, less}
 use Rattle.net_cells.specs.Formulas.{horizontal}
-use Rattle.net_cells.specs.NumberSums.{sum_of_numbers}
 use Rattle.net_cells.specs.Equations.{MeetsEquation, MeetsEquations}
 use Rattle.net_cells.specs.Meanings.{Meaning, curve, number, CellTable}
 use Rattle.worked_runs.specs.TwoFlows.{two_flows}
 use Rattle.worked_runs.proofs.Meanings.{by_number, of_one, of_two, of_left, of_horizontal, of_vertical, of_smaller, of_along, of_delayed, none_below, below_one, none_before, none_before_one, only_zero}
 use Rattle.worked_runs.proofs.Operators.{buckets_sum, beside_left, delay_of, backlog_of}
-use Rattle.worked_runs.proofs.Rows.{after_10, after_130, burst_12000, burst_6000, service, packets, first_arrival, second_arrival, whole_packets, first_delay_is}
+use Rattle.worked_runs.proofs.Rows.{after_10, after_130, burst_12000, burst_6000, service, packets, first_arrival, second_arrival, whole_packets, first_delay_is, no_link}
 use Rattle.worked_runs.proofs.Curves.{IsBurst, burst_by, IsLate, late_by}
 
 -- ---- the values
@@ -135,17 +134,6 @@ second_delay =
     (lt_t 0 6000 refl) (same_parts _ _ refl refl)
 
 -- with no link; and the lesser of two
-no_link : sum_of_numbers (delay ∷ Fin (whole 0) ∷ []) ≡ delay
-unfolding computing
-no_link = ap Fin (same_parts _ _ refl refl)
-
-no_link_first : sum_of_numbers (first_alone ∷ Fin (whole 0) ∷ []) ≡ first_alone
-unfolding computing
-no_link_first = ap Fin (same_parts _ _ refl refl)
-
-no_link_second : sum_of_numbers (second_alone ∷ Fin (whole 0) ∷ []) ≡ second_alone
-unfolding computing
-no_link_second = ap Fin (same_parts _ _ refl refl)
 
 least_first : min_ext delay first_alone ≡ delay
 unfolding computing
@@ -214,11 +202,11 @@ meets_at PathService a b h = at_path (Meets PathService)
     record { value = curve first_left; is = refl; means = refl }
     record { value = curve second_left; is = refl; means = refl } a b h
 meets_at Tfa a b h = at_path (Meets Tfa)
-    record { value = number delay; is = refl; means = of_along table (cell_of HopDelay 0 0 ∷ []) (whole 0 ∷ []) (delay ∷ []) delay (refl, tt) no_link }
-    record { value = number delay; is = refl; means = of_along table (cell_of HopDelay 1 0 ∷ []) (whole 0 ∷ []) (delay ∷ []) delay (refl, tt) no_link } a b h
+    record { value = number delay; is = refl; means = of_along table (cell_of HopDelay 0 0 ∷ []) (whole 0 ∷ []) (delay ∷ []) delay (refl, tt) (no_link delay) }
+    record { value = number delay; is = refl; means = of_along table (cell_of HopDelay 1 0 ∷ []) (whole 0 ∷ []) (delay ∷ []) delay (refl, tt) (no_link delay) } a b h
 meets_at Sfa a b h = at_path (Meets Sfa)
-    record { value = number first_alone; is = refl; means = of_delayed table (horizontal (value In 0 0) (value PathService 0 0)) (whole 0 ∷ []) first_alone first_alone (of_horizontal table (value In 0 0) (value PathService 0 0) first_arrival first_left first_alone refl refl first_delay) no_link_first }
-    record { value = number second_alone; is = refl; means = of_delayed table (horizontal (value In 1 0) (value PathService 1 0)) (whole 0 ∷ []) second_alone second_alone (of_horizontal table (value In 1 0) (value PathService 1 0) second_arrival second_left second_alone refl refl second_delay) no_link_second } a b h
+    record { value = number first_alone; is = refl; means = of_delayed table (horizontal (value In 0 0) (value PathService 0 0)) (whole 0 ∷ []) first_alone first_alone (of_horizontal table (value In 0 0) (value PathService 0 0) first_arrival first_left first_alone refl refl first_delay) (no_link first_alone) }
+    record { value = number second_alone; is = refl; means = of_delayed table (horizontal (value In 1 0) (value PathService 1 0)) (whole 0 ∷ []) second_alone second_alone (of_horizontal table (value In 1 0) (value PathService 1 0) second_arrival second_left second_alone refl refl second_delay) (no_link second_alone) } a b h
 meets_at Bound a b h = at_path (Meets Bound)
     record { value = number delay; is = refl; means = of_smaller table (value Tfa 0 0) (value Sfa 0 0) delay first_alone delay refl refl least_first }
     record { value = number delay; is = refl; means = of_smaller table (value Tfa 1 0) (value Sfa 1 0) delay second_alone delay refl refl least_second } a b h

@@ -20,13 +20,15 @@ use Rattle.run_laws.proofs.Small.{le_t, lt_t, sum_t, enters, works, leaves}
 use Rattle.run_laws.proofs.Clips.{clip_early, clip_late}
 use Rattle.rational.proofs.Laws.{le_or_lt, le_of_lt, le_trans}
 use Rattle.rational.specs.Rational.{◌*ℚ◌}
-use Rattle.worked_runs.proofs.Busy.{times_t, not_yet, in_span, span_at_rate, service_at_most, IsBusyOnly, keeps_latency}
+use Rattle.worked_runs.proofs.Busy.{not_yet, in_span, span_at_rate, service_at_most, IsBusyOnly, keeps_latency}
 use Rattle.run_laws.proofs.Sums.{when_true, when_false}
+use Rattle.run_laws.proofs.Sizes.{whole_times}
+use Rattle.run_laws.proofs.SmallRuns.{one_idle, none_due}
 use Rattle.net_cells.specs.Numbered.{packet, arrival, service}
 use Rattle.net_bounds.specs.NetRuns.{routes_of}
 use Rattle.worked_runs.specs.TwoPriorities.{two_priorities, lower_first, higher_first}
 use Rattle.worked_runs.specs.Reached.{HasDelay}
-use Rattle.worked_runs.proofs.Keeping.{one_idle, none_left, bucket_covers, at_most, first_span, second_span, SeesTwo, two_packets_keep}
+use Rattle.worked_runs.proofs.Keeping.{bucket_covers, at_most, first_span, second_span, SeesTwo, two_packets_keep}
 use Rattle.worked_runs.proofs.Terms.{both_arrive, both_worked, one_after_work, worked_before_one}
 
 abbrev net : Routes
@@ -61,7 +63,7 @@ higher_first_lawful = record {
     ),
   );
   none_complete = one_idle _ refl;
-  none_overdue = none_left (whole 190);
+  none_overdue = none_due (whole 190);
 }
 
 higher_first_sizes : (flow : ℕ) → (route_of net flow).live ≡ true → EnterSizes flow (packet two_priorities flow) higher_first.steps
@@ -144,7 +146,7 @@ lower_first_lawful = record {
     ),
   );
   none_complete = one_idle _ refl;
-  none_overdue = none_left (whole 190);
+  none_overdue = none_due (whole 190);
 }
 
 lower_first_sizes : (flow : ℕ) → (route_of net flow).live ≡ true → EnterSizes flow (packet two_priorities flow) lower_first.steps
@@ -206,7 +208,7 @@ done_at x low high = elim (le_or_lt x (whole 130)) [
   | inr h ↦
       let w = worked_is x in
       let a = clip_late slow x (lt_t 0 130 refl) (le_of_lt h) in
-      let b = span_at_rate (whole 100) (whole 60) fast x (sym (sum_t 130 60)) (lt_t 0 60 refl) (times_t 100 60) (le_of_lt h) high in
+      let b = span_at_rate (whole 100) (whole 60) fast x (sym (sum_t 130 60)) (lt_t 0 60 refl) (whole_times 100 60) (le_of_lt h) high in
       inr (le_of_lt h, w ∙ ap₂ (λ (y z : ℚ). y +ℚ z) a b)
 ]
   where

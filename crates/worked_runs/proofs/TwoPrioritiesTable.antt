@@ -22,13 +22,12 @@ use Rattle.net_cells.specs.Cells.{cell_of, has_cell}
 use Rattle.net_cells.specs.CellFormulas.{value, less, queue_service}
 use Rattle.net_cells.specs.Formulas.{horizontal}
 use Rattle.net_cells.specs.Means.{Means, IsPriorityCurve}
-use Rattle.net_cells.specs.NumberSums.{sum_of_numbers}
 use Rattle.net_cells.specs.Equations.{MeetsEquation, MeetsEquations}
 use Rattle.net_cells.specs.Meanings.{Meaning, curve, number, CellTable}
 use Rattle.worked_runs.specs.TwoPriorities.{two_priorities}
 use Rattle.worked_runs.proofs.Meanings.{by_number, of_one, of_left, of_horizontal, of_vertical, of_smaller, of_along, of_delayed, none_below, below_one, below_two, none_before, none_before_one, only_zero}
 use Rattle.worked_runs.proofs.Operators.{less_packet, alone_left, priority_made, delay_of, no_delay, backlog_of}
-use Rattle.worked_runs.proofs.Rows.{nothing, after_10, after_70, after_130, after_190, service, packets}
+use Rattle.worked_runs.proofs.Rows.{nothing, after_10, after_70, after_130, after_190, service, packets, no_link}
 use Rattle.worked_runs.proofs.Curves.{IsBurst, burst_by}
 
 -- ---- the values
@@ -154,9 +153,6 @@ second_rest : IsMadeBy (FifoLeft (Fin zero_q)) second_service zero_curve second_
 second_rest = alone_left (whole 100) (whole 130) after_130 nothing
 
 -- with no link; and the lesser of two
-no_link_first : sum_of_numbers (first_delay ∷ Fin (whole 0) ∷ []) ≡ first_delay
-unfolding computing
-no_link_first = ap Fin (same_parts _ _ refl refl)
 
 least_first : min_ext first_delay first_delay ≡ first_delay
 unfolding computing
@@ -227,11 +223,11 @@ meets_at PathService a b h = at_path (Meets PathService)
     record { value = curve first_service; is = refl; means = refl }
     record { value = curve second_service; is = refl; means = refl } a b h
 meets_at Tfa a b h = at_path (Meets Tfa)
-    record { value = number first_delay; is = refl; means = of_along table (cell_of HopDelay 0 0 ∷ []) (whole 0 ∷ []) (first_delay ∷ []) first_delay (refl, tt) no_link_first }
-    record { value = number second_delay; is = refl; means = of_along table (cell_of HopDelay 1 0 ∷ []) (whole 0 ∷ []) (second_delay ∷ []) second_delay (refl, tt) no_link_first } a b h
+    record { value = number first_delay; is = refl; means = of_along table (cell_of HopDelay 0 0 ∷ []) (whole 0 ∷ []) (first_delay ∷ []) first_delay (refl, tt) (no_link first_delay) }
+    record { value = number second_delay; is = refl; means = of_along table (cell_of HopDelay 1 0 ∷ []) (whole 0 ∷ []) (second_delay ∷ []) second_delay (refl, tt) (no_link first_delay) } a b h
 meets_at Sfa a b h = at_path (Meets Sfa)
-    record { value = number first_delay; is = refl; means = of_delayed table (horizontal (value In 0 0) (value PathService 0 0)) (whole 0 ∷ []) first_delay first_delay (of_horizontal table (value In 0 0) (value PathService 0 0) first_arrival first_service first_delay refl refl first_delay_is) no_link_first }
-    record { value = number second_delay; is = refl; means = of_delayed table (horizontal (value In 1 0) (value PathService 1 0)) (whole 0 ∷ []) second_delay second_delay (of_horizontal table (value In 1 0) (value PathService 1 0) second_arrival second_service second_delay refl refl second_delay_is) no_link_first } a b h
+    record { value = number first_delay; is = refl; means = of_delayed table (horizontal (value In 0 0) (value PathService 0 0)) (whole 0 ∷ []) first_delay first_delay (of_horizontal table (value In 0 0) (value PathService 0 0) first_arrival first_service first_delay refl refl first_delay_is) (no_link first_delay) }
+    record { value = number second_delay; is = refl; means = of_delayed table (horizontal (value In 1 0) (value PathService 1 0)) (whole 0 ∷ []) second_delay second_delay (of_horizontal table (value In 1 0) (value PathService 1 0) second_arrival second_service second_delay refl refl second_delay_is) (no_link first_delay) } a b h
 meets_at Bound a b h = at_path (Meets Bound)
     record { value = number first_delay; is = refl; means = of_smaller table (value Tfa 0 0) (value Sfa 0 0) first_delay first_delay first_delay refl refl least_first }
     record { value = number second_delay; is = refl; means = of_smaller table (value Tfa 1 0) (value Sfa 1 0) second_delay second_delay second_delay refl refl least_first } a b h

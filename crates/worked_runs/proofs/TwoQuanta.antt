@@ -1,15 +1,17 @@
 -- Two flows at a deficit round robin server stay below their bounds.
 use Rattle.std.specs.Prelude.{All, Contains, codes}
 use Rattle.std.proofs.Common.{◌≡◌, ◌≢◌, zero, suc, [], ◌∷◌, length, Some, refl, subst, arith, inl, inr}
+use Rattle.std.proofs.lemmas.Option.{same_Some}
 use Rattle.run_laws.specs.Cards.{whole}
 use Rattle.run_laws.specs.Servers.{Drr}
 use Rattle.net_model.specs.Accepted.{IsLength, IsServer, IsFlow, IsAccepted}
 use Rattle.net_model.specs.Names.{DifferInName}
 use Rattle.net_model.specs.Networks.{NetServer, NetFlow}
 use Rattle.net_model.specs.Orders.{IsOrder}
+use Rattle.net_model.proofs.Short.{no_pairs, one_pair, alone, one_of_two, named_by_two}
 use Rattle.worked_runs.specs.Parts.{late_server, first_flow, bucket_flow}
 use Rattle.worked_runs.specs.TwoQuanta.{two_quanta, TwoQuantaStayBelowTheirBounds}
-use Rattle.worked_runs.proofs.Accepting.{no_pairs, one_pair, alone, one_of_two, some_same, named_by_two, ends_apart, is_late_server, is_one_hop_flow, one_server_order}
+use Rattle.worked_runs.proofs.Accepting.{ends_apart, is_late_server, is_one_hop_flow, one_server_order}
 use Rattle.worked_runs.proofs.Reaching.{bound_by}
 use Rattle.worked_runs.proofs.TwoQuantaTable.{table, meets}
 use Rattle.worked_runs.proofs.TwoQuantaRuns.{first_flow_last_delay, second_flow_last_delay}
@@ -40,8 +42,8 @@ is_second = is_one_hop_flow two_quanta.servers (codes "f2") 1 6000 5 (named_by_t
 -- what holds of both flows holds of each
 of_both : (P : NetFlow → Type 0) → P first_flow → P second → (f : NetFlow) → Contains two_quanta.flows (Some f) → P f
 of_both P p q f has = elim (one_of_two (Some first_flow) (Some second) (Some f) has) [
-  | inl e ↦ subst P (some_same first_flow f e) p
-  | inr e ↦ subst P (some_same second f e) q
+  | inl e ↦ subst P (same_Some first_flow f e) p
+  | inr e ↦ subst P (same_Some second f e) q
 ]
 
 accepted : IsAccepted two_quanta

@@ -18,11 +18,12 @@ use Rattle.run_laws.specs.RunPremises.{EnterSizes, entered_in}
 use Rattle.run_laws.specs.Views.{view}
 use Rattle.run_laws.proofs.Small.{sum_t, enters, works, leaves, visits}
 use Rattle.run_laws.proofs.Sums.{when_true, when_false}
+use Rattle.run_laws.proofs.SmallRuns.{one_idle, none_due}
 use Rattle.net_cells.specs.Numbered.{packet, arrival, service}
 use Rattle.net_bounds.specs.NetRuns.{routes_of}
 use Rattle.worked_runs.specs.TwoQuanta.{two_quanta, first_flow_last, second_flow_last}
 use Rattle.worked_runs.specs.Reached.{HasDelay}
-use Rattle.worked_runs.proofs.Keeping.{one_idle, none_left, bucket_covers, at_most, first_span, second_span, SeesTwo, two_packets_keep}
+use Rattle.worked_runs.proofs.Keeping.{bucket_covers, at_most, first_span, second_span, SeesTwo, two_packets_keep}
 use Rattle.worked_runs.proofs.Terms.{both_arrive_by_visits, both_worked_by_visits}
 
 abbrev net : Routes
@@ -63,7 +64,7 @@ first_flow_last_lawful = record {
     ),
   );
   none_complete = one_idle _ refl;
-  none_overdue = none_left (whole 190);
+  none_overdue = none_due (whole 190);
 }
 
 first_flow_last_sizes : (flow : ℕ) → (route_of net flow).live ≡ true → EnterSizes flow (packet two_quanta flow) first_flow_last.steps
@@ -152,7 +153,7 @@ second_flow_last_lawful = record {
     ),
   );
   none_complete = one_idle _ refl;
-  none_overdue = none_left (whole 190);
+  none_overdue = none_due (whole 190);
 }
 
 second_flow_last_sizes : (flow : ℕ) → (route_of net flow).live ≡ true → EnterSizes flow (packet two_quanta flow) second_flow_last.steps

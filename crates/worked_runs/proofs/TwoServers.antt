@@ -1,6 +1,7 @@
 -- One packet over two servers with links of 5 reaches its bound.
 use Rattle.std.specs.Prelude.{Contains, codes}
 use Rattle.std.proofs.Common.{◌≡◌, ◌≢◌, ℕ, zero, suc, ◌<◌, [], ◌∷◌, length, get_or, take, true, false, ◌&&◌, ◌==◌, Some, refl, ap, sym, subst, arith, inl, inr}
+use Rattle.std.proofs.lemmas.Option.{same_Some}
 use Rattle.rational.specs.Rational.{ℚ, ◌-ℚ◌, ◌≤ℚ◌}
 use Rattle.rational.specs.Extended.{◌≤ₑ◌}
 use Rattle.rational.specs.declared.Extended.TheVariants.{Fin}
@@ -22,11 +23,12 @@ use Rattle.net_model.specs.Networks.{NetServer, NetFlow}
 use Rattle.net_model.specs.Orders.{IsReady, IsOrder}
 use Rattle.net_model.specs.Walks.{IsNext}
 use Rattle.net_model.proofs.KindsStand.{kinds_may_stand}
+use Rattle.net_model.proofs.Short.{no_pairs, one_pair, alone, one_of_two, named_by_two}
 use Rattle.net_cells.specs.Numbered.{packet, arrival, service}
 use Rattle.net_bounds.specs.NetRuns.{IsRunOf, routes_of}
 use Rattle.worked_runs.specs.Parts.{late_server, bucket_flow}
 use Rattle.worked_runs.specs.TwoServers.{two_servers, over_both, TwoServersReachTheirBound}
-use Rattle.worked_runs.proofs.Accepting.{no_pairs, one_pair, alone, one_of_two, some_same, named_by_two, ends_apart, is_late_server}
+use Rattle.worked_runs.proofs.Accepting.{ends_apart, is_late_server}
 use Rattle.worked_runs.proofs.Keeping.{bucket_covers, at_most}
 use Rattle.worked_runs.proofs.Reaching.{bound_by}
 use Rattle.worked_runs.proofs.TwoServersRun.{lawful, its_delay, keeps_service}
@@ -66,7 +68,7 @@ is_flow = record {
 }
 
 its_only_flow : (f : NetFlow) → Contains two_servers.flows (Some f) → its_flow ≡ f
-its_only_flow f has = some_same its_flow f (alone (Some its_flow) (Some f) has)
+its_only_flow f has = same_Some its_flow f (alone (Some its_flow) (Some f) has)
 
 accepted : IsAccepted two_servers
 accepted = record {

@@ -18,10 +18,12 @@ use Rattle.run_laws.specs.Views.{view}
 use Rattle.run_laws.proofs.Clips.{clip_early, clip_late}
 use Rattle.run_laws.proofs.Small.{le_t, lt_t, sum_t, enters, works, leaves}
 use Rattle.run_laws.proofs.Sums.{when_true, when_most}
+use Rattle.run_laws.proofs.Sizes.{whole_times}
+use Rattle.run_laws.proofs.OverALink.{two_idle}
+use Rattle.run_laws.proofs.SmallRuns.{none_due}
 use Rattle.net_bounds.specs.NetRuns.{routes_of}
 use Rattle.worked_runs.specs.TwoServers.{two_servers, over_both}
-use Rattle.worked_runs.proofs.Keeping.{two_idle, none_left}
-use Rattle.worked_runs.proofs.Busy.{none_over, IsAtRate, keeps_at_rate, times_t, service_at_most, span_at_rate, not_yet}
+use Rattle.worked_runs.proofs.Busy.{none_over, IsAtRate, keeps_at_rate, service_at_most, span_at_rate, not_yet}
 
 abbrev net : Routes
 net = routes_of two_servers
@@ -75,7 +77,7 @@ lawful = record {
     ),
   );
   none_complete = two_idle _ _ refl refl;
-  none_overdue = rw (le_q_out _ _ (le_refl (whole 130 +ℚ whole 5))) (none_left (whole 265));
+  none_overdue = rw (le_q_out _ _ (le_refl (whole 130 +ℚ whole 5))) (none_due (whole 265));
 }
 
 pub its_delay : delays net over_both 0 ≡ whole 270 ∷ []
@@ -122,7 +124,7 @@ first_at_rate = record {
   };
   early = λ x h. worked_first x ∙ clip_early at_first x h;
   steady = λ x low high. worked_first x
-      ∙ span_at_rate (whole 100) (whole 120) at_first x (sym (sum_t 10 120)) (lt_t 0 120 refl) (times_t 100 120) low high;
+      ∙ span_at_rate (whole 100) (whole 120) at_first x (sym (sum_t 10 120)) (lt_t 0 120 refl) (whole_times 100 120) low high;
 }
 
 second_at_rate : IsAtRate (whole 100) (whole 10) (whole 130 +ℚ whole 5) (whole 145) (whole 265) (whole 265) (view net over_both 1)
@@ -137,7 +139,7 @@ second_at_rate = record {
   };
   early = λ x h. worked_second x ∙ clip_early at_second x h;
   steady = λ x low high. worked_second x
-      ∙ span_at_rate (whole 100) (whole 120) at_second x (sym (sum_t 145 120)) (lt_t 0 120 refl) (times_t 100 120) low high;
+      ∙ span_at_rate (whole 100) (whole 120) at_second x (sym (sum_t 145 120)) (lt_t 0 120 refl) (whole_times 100 120) low high;
 }
 
 pub keeps_service : (g : ℚ → Ext) → IsService (whole 100) (whole 10) g → (s : ℕ) → s < 2

@@ -3,8 +3,9 @@ use Rattle.upp_limits.specs.declared.own_limits.OverLimit.TheVariants.{TooMany, 
 use Rattle.report_text.specs.CellWords.{cell_words}
 use Rattle.command_replies.specs.Replies.{cell_over}
 use Rattle.command_replies.specs.View.{reply_of, status_of}
+use Rattle.command_replies.proofs.Statuses.{refused}
 use Rattle.analyse_command.proofs.Counting.{by_order}
-use Rattle.analyse_command.proofs.OnNets.{on_over, refused}
+use Rattle.analyse_command.proofs.OnNets.{on_over}
 use Rattle.analyse_command.proofs.on_net.in_order.Goals as goal
 
 pub returns-in_err-text-in-Ok-clause-counts : goal.returns-in_err-text-in-Ok-clause-counts

@@ -9,7 +9,7 @@ pub returns-then-bits-new_bits : goal.returns-then-bits-new_bits
 returns-then-bits-new_bits c =
     links_tell c.args.old.now c.args.new.now c.args.server c.args.pick c.args.before c.longest_at-bits.result c.longest_at-new_bits.result
     c.rate.result c.rate-then-bits-new_bits.result c.longest_at-bits.ensures c.longest_at-new_bits.ensures c.rate.ensures
-    c.rate-then-bits-new_bits.ensures c.same_rate.result c.if-bits-new_bits.true c.same_rate.ensures
+    c.rate-then-bits-new_bits.ensures c.same_number.result c.if-bits-new_bits.true c.same_number.ensures
 
 pub returns-else-bits-new_bits : goal.returns-else-bits-new_bits
 returns-else-bits-new_bits c =

@@ -4,13 +4,13 @@ use Rattle.cell_rules.proofs.Tells.{tells_yes, tells_no}
 use Rattle.cell_rules.proofs.SameMade.{same_links, other_link}
 use Rattle.cell_rules.proofs.reads.same_links.Goals as goal
 
-pub returns-then-not-same_link : goal.returns-then-not-same_link
-returns-then-not-same_link c =
+pub returns-then-not-same_number : goal.returns-then-not-same_number
+returns-then-not-same_number c =
     other_link c.args.old.now c.args.new.now c.args.flow c.loop-hop.hop
     (omega (arith, c.loop-hop-test.true, c.hops-count.ensures.hops))
     (sym c.hops-count.ensures.hops ∙ c.if-count-hops.false ∙ c.hops.ensures.hops)
-    (λ e. tells_no c.link_at-here.result c.link_at-there.result c.same_link.result c.same_link.ensures
-    c.if-not-same_link.true (c.link_at-here.ensures ∙ e ∙ sym c.link_at-there.ensures))
+    (λ e. tells_no c.link_at-here.result c.link_at-there.result c.same_number.result c.same_number.ensures
+    c.if-not-same_number.true (c.link_at-here.ensures ∙ e ∙ sym c.link_at-there.ensures))
 
 pub loop-hop-preserved : goal.loop-hop-preserved
 loop-hop-preserved c =
@@ -19,7 +19,7 @@ loop-hop-preserved c =
     let i = c.args.flow in
     below_more (λ (k : ℕ). link old (server_of_hop old i k) ≡ link new (server_of_hop new i k)) c.loop-hop.hop c.loop-hop.invariant
     (sym c.link_at-here.ensures
-    ∙ tells_yes c.link_at-here.result c.link_at-there.result c.same_link.result c.same_link.ensures c.if-not-same_link.false
+    ∙ tells_yes c.link_at-here.result c.link_at-there.result c.same_number.result c.same_number.ensures c.if-not-same_number.false
     ∙ c.link_at-there.ensures)
 
 pub returns : goal.returns

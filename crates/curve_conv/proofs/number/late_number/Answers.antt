@@ -40,8 +40,8 @@ gap_at f g first second from end gap a b G V =
     (subst (λ x. ArePartValues (value_at f) (value_at g) x second from end (late_of f g from end V) (soon_of f g from end V)) (sym a)
     (subst (λ y. ArePartValues (value_at f) (value_at g) (steady f) y from end (late_of f g from end V) (soon_of f g from end V)) (sym b) (values_are (value_at f) (value_at g) (steady f) (steady g) from end V)))
 
-pub least_over-requires-clause-some : goal.least_over-requires-clause-some
-least_over-requires-clause-some c =
+pub least_times-requires-clause-some : goal.least_times-requires-clause-some
+least_times-requires-clause-some c =
     let s = c.args.s.now in
     let V = values_at s.first.now s.second.now c.args.first c.args.second c.args.from s.end c.requires.first c.requires.second c.part_gap.ensures.values in
     let G = subst (λ x. IsGap (InWindow c.args.from s.end) (late_of s.first.now s.second.now c.args.from s.end V) (soon_of s.first.now s.second.now c.args.from s.end V) x) c.in-Is.is
@@ -50,13 +50,13 @@ least_over-requires-clause-some c =
     (some_lead s.first.now s.second.now c.args.from c.args.period s.end _ (late_of s.first.now s.second.now c.args.from s.end V) (soon_of s.first.now s.second.now c.args.from s.end V) c.requires.call
     (values_are (value_at s.first.now) (value_at s.second.now) (steady s.first.now) (steady s.second.now) c.args.from s.end V) G)
 
-pub least_over-requires-clause-fits : goal.least_over-requires-clause-fits
-least_over-requires-clause-fits c =
+pub least_times-requires-clause-fits : goal.least_times-requires-clause-fits
+least_times-requires-clause-fits c =
     let s = c.args.s.now in
     let z = sizes_in s.first.now s.second.now s.end in
     let T = late_times s.first.now s.second.now c.args.from c.args.period s.end c.requires.call in
     let Q = subst (PartGapStands z) c.in-Is.is c.part_gap.ensures.sizes in
-    let some = subst (λ y. int (pos 0) <ℚ y) c.lead.ensures (least_over-requires-clause-some c) in
+    let some = subst (λ y. int (pos 0) <ℚ y) c.lead.ensures (least_times-requires-clause-some c) in
     subst (λ y. IsSmall (c.in-Is.gap /ℚ y)) (sym c.lead.ensures)
     (quotient_fits z s.end c.in-Is.gap (rise_over s.second.now c.args.period) (rise_over s.first.now c.args.period) c.requires.call.scan.first.limited Q T.fast_rise.whole T.slow_rise.whole T.fast_rise.within T.slow_rise.within some)
 
@@ -82,8 +82,8 @@ returns c =
     let V = values_at s.first.now s.second.now c.args.first c.args.second c.args.from s.end c.requires.first c.requires.second c.part_gap.ensures.values in
     let G = subst (λ x. IsGap (InWindow c.args.from s.end) (late_of s.first.now s.second.now c.args.from s.end V) (soon_of s.first.now s.second.now c.args.from s.end V) x) c.in-Is.is
     (gap_at s.first.now s.second.now c.args.first c.args.second c.args.from s.end c.part_gap.result c.requires.first c.requires.second c.part_gap.ensures.gap V) in
-    number_gap s.first.now s.second.now c.args.from c.args.period s.end c.in-Is.gap c.least_over.result c.requires.call V G
-    (subst (λ y. IsLeast (λ k. c.in-Is.gap ≤ℚ int (pos k) *ℚ y) c.least_over.result) c.lead.ensures c.least_over.ensures)
+    number_gap s.first.now s.second.now c.args.from c.args.period s.end c.in-Is.gap c.least_times.result c.requires.call V G
+    (subst (λ y. IsLeast (λ k. c.in-Is.gap ≤ℚ int (pos k) *ℚ y) c.least_times.result) c.lead.ensures c.least_times.ensures)
 
 pub returns-then-not-is_less : goal.returns-then-not-is_less
 returns-then-not-is_less c =

@@ -3,7 +3,8 @@ use Rattle.rational.specs.Rational.{ℚ, ◌+ℚ◌, ◌-ℚ◌, ◌<ℚ◌, int
 use Rattle.rational.specs.Ratio.{SumFits}
 use Rattle.upp_curve.specs.Steady.{rise_over}
 use Rattle.upp_normal.specs.Ahead.{AnswerValue}
-use Rattle.curve_least.proofs.LeastNumber.{lead_is, lead_stands, rise_small, lead_fits}
+use Rattle.upp_normal.proofs.AnswerRoom.{value_difference_stands}
+use Rattle.curve_least.proofs.LeastNumber.{lead_is, rise_small, lead_fits}
 use Rattle.curve_least.proofs.least.lead_over.Goals as goal
 
 pub rise_of-requires : goal.rise_of-requires
@@ -38,4 +39,4 @@ returns-clause-some c =
 pub returns-clause-sizes : goal.returns-clause-sizes
 returns-clause-sizes c = λ z C.
     let L = lead_is z c.args.from c.args.period c.args.slow.now c.args.fast.now c.requires.slower C c.requires.first c.requires.second in
-    subst (AnswerValue z 6) (sym (returns-clause-value c)) (lead_stands z (rise_over c.args.fast.now c.args.period) (rise_over c.args.slow.now c.args.period) L.second L.first)
+    subst (AnswerValue z 6) (sym (returns-clause-value c)) (value_difference_stands z (rise_over c.args.fast.now c.args.period) (rise_over c.args.slow.now c.args.period) L.second L.first)

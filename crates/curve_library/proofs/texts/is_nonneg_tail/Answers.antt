@@ -1,12 +1,12 @@
 use Rattle.std.proofs.Common.{true≢false, sym, subst}
-use Rattle.min_plus.specs.Functions.{zero_q}
+use Rattle.rational.proofs.Laws.{not_le_of_lt}
 use Rattle.curve_library.specs.Listed.{IsNonnegTail}
-use Rattle.curve_library.proofs.SignTests.{not_below, nonneg_out, nonneg_test}
+use Rattle.curve_library.proofs.SignTests.{nonneg_out, nonneg_test}
 use Rattle.curve_library.proofs.texts.is_nonneg_tail.Goals as goal
 
 pub returns-then-is_negative : goal.returns-then-is_negative
 returns-then-is_negative c =
-    (λ h. absurd (true≢false (sym h)), λ h. absurd (not_below zero_q c.in-Some.t.rank (subst IsNonnegTail c.in-Some.is h).0 (c.is_negative.ensures.0 c.if-is_negative.true)))
+    (λ h. absurd (true≢false (sym h)), λ h. absurd (not_le_of_lt (c.is_negative.ensures.0 c.if-is_negative.true) (subst IsNonnegTail c.in-Some.is h).0))
 
 pub returns-else-is_negative : goal.returns-else-is_negative
 returns-else-is_negative c =

@@ -1,13 +1,13 @@
 use Rattle.std.proofs.Common.{true≢false, sym}
-use Rattle.min_plus.specs.Functions.{zero_q}
-use Rattle.curve_library.proofs.SignTests.{not_below, nonneg_out, nonneg_test}
+use Rattle.rational.proofs.Laws.{not_le_of_lt}
+use Rattle.curve_library.proofs.SignTests.{nonneg_out, nonneg_test}
 use Rattle.curve_library.proofs.texts.is_nonneg_text.Goals as goal
 
 pub returns-then-is_negative : goal.returns-then-is_negative
-returns-then-is_negative c = (λ h. absurd (true≢false (sym h)), λ h. absurd (not_below zero_q c.args.p.now.x h.start (c.is_negative.ensures.0 c.if-is_negative.true)))
+returns-then-is_negative c = (λ h. absurd (true≢false (sym h)), λ h. absurd (not_le_of_lt (c.is_negative.ensures.0 c.if-is_negative.true) h.start))
 
 pub returns-then-is_negative-2 : goal.returns-then-is_negative-2
-returns-then-is_negative-2 c = (λ h. absurd (true≢false (sym h)), λ h. absurd (not_below zero_q c.args.p.now.at h.value (c.is_negative-2.ensures.0 c.if-is_negative-2.true)))
+returns-then-is_negative-2 c = (λ h. absurd (true≢false (sym h)), λ h. absurd (not_le_of_lt (c.is_negative-2.ensures.0 c.if-is_negative-2.true) h.value))
 
 pub returns : goal.returns
 returns c =

@@ -3,7 +3,7 @@ use Rattle.curve_window.proofs.stretch.overlay.Goals as goal
 
 pub loop-walk-init : goal.loop-walk-init
 loop-walk-init c =
-    rw (c.in_ok-push.ensures.items, c.new-stretches.ensures.items)
+    rw (c.in_ok-push.ensures.items, c.in_ok-stretches.ensures.items)
     (overlay_start c.args.f.now c.args.g.now c.index-f-0.result c.index-g-0.result c.requires.left c.requires.right c.index-f-0.is c.index-g-0.is)
 
 pub step-walk-requires-clause-fits : goal.step-walk-requires-clause-fits

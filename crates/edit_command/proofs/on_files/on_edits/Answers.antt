@@ -3,7 +3,7 @@ use Rattle.net_draft.specs.Faults.{fault_of}
 use Rattle.command_replies.specs.Faults.{fault_reply}
 use Rattle.command_replies.specs.View.{reply_of, status_of}
 use Rattle.command_replies.proofs.FirstFaults.{on_told}
-use Rattle.edit_command.proofs.OnNetworks.{refused}
+use Rattle.command_replies.proofs.Statuses.{refused}
 use Rattle.edit_command.proofs.OnFiles.{of_network, of_fault, fault_is_refused, on_no_network}
 use Rattle.edit_command.proofs.on_files.on_edits.Goals as goal
 

@@ -2,7 +2,7 @@ use Rattle.std.proofs.Common.{inl, refl}
 use Rattle.std.proofs.lemmas.Result.{IfOk-weaker}
 use Rattle.command_replies.specs.Replies.{table_fault_reply}
 use Rattle.command_replies.specs.View.{status_of}
-use Rattle.edit_command.proofs.OnNetworks.{refused}
+use Rattle.command_replies.proofs.Statuses.{refused}
 use Rattle.edit_command.proofs.OnFiles.{few_edits, of_edits, on_bad_list}
 use Rattle.edit_command.proofs.on_files.on_list.Goals as goal
 

@@ -8,10 +8,11 @@ use Rattle.report_text.specs.CellWords.{cell_words}
 use Rattle.command_replies.specs.CellWork.{work_of_cells}
 use Rattle.command_replies.specs.Replies.{cell_over}
 use Rattle.command_replies.specs.View.{reply_of, status_of}
+use Rattle.command_replies.proofs.Statuses.{refused}
 use Rattle.edit_command.specs.NetHistories.{begun}
 use Rattle.edit_command.specs.OnEdits.{AreReported}
 use Rattle.edit_command.specs.EditCounts.{WorkOfEdits}
-use Rattle.edit_command.proofs.OnNetworks.{on_report, on_over, refused, by_order, at_zero, first_of_copy, by_cells_of_copy, no_memory}
+use Rattle.edit_command.proofs.OnNetworks.{on_report, on_over, by_order, at_zero, first_of_copy, by_cells_of_copy, no_memory}
 use Rattle.edit_command.proofs.on_net.in_order.Goals as goal
 
 pub returns-in-Ok-clause-reply : goal.returns-in-Ok-clause-reply

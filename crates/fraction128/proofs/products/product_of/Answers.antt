@@ -1,101 +1,36 @@
-use Rattle.std.proofs.Common.{rules, arith, ◌≡◌, ◌/◌, ap, ◌∙◌, to_z-of_z, SFits, pos, refl}
+use Rattle.std.proofs.Common.{refl, ◌≡◌, ◌∙◌, ◌<◌, ◌^◌, ◌*ℤ◌, unsigned_abs, to_z-of_z, SFits}
+use Rattle.rational.specs.Rational.{int}
+use Rattle.std.proofs.lemmas.Int.{fits_signed_from_abs}
 use mir.Syntax.{w128}
-use Rattle.rational.specs.Euclid.{gcd_pos}
-use Rattle.rational.specs.Ratio.{ratio, with_sign}
-use Rattle.fraction128.proofs.Multiplied.{ProductParts, IsProduct, product_parts, product_small, small_product, product_as_lowest}
+use Rattle.fraction128.proofs.Multiplied.{short_product, whole_product}
 use Rattle.fraction128.proofs.products.product_of.Goals as goal
 
-pub quotient-requires : goal.quotient-requires
-quotient-requires c = rw c.gcd_of-first.ensures (gcd_pos _ c.args.e c.requires.right.some)
-
-pub quotient-requires-2 : goal.quotient-requires-2
-quotient-requires-2 c = rw c.gcd_of-second.ensures (gcd_pos _ c.args.d c.requires.left.some)
-
-pub quotient-requires-3 : goal.quotient-requires-3
-quotient-requires-3 c = rw c.gcd_of-second.ensures (gcd_pos _ c.args.d c.requires.left.some)
-
-pub quotient-requires-4 : goal.quotient-requires-4
-quotient-requires-4 c = rw c.gcd_of-first.ensures (gcd_pos _ c.args.e c.requires.right.some)
-
-pub returns-in_err-size : goal.returns-in_err-size
-returns-in_err-size c =
-    let a = c.args.a in let b = c.args.b in let d = c.args.d in let e = c.args.e in
+pub overflow_mul-a : goal.overflow_mul-a
+overflow_mul-a c =
     let fa = c.ranges.a in
     let fb = c.ranges.b in
-    let h = c.in_err-size.ensures in
-    let parts : ProductParts a d b e c.unsigned_abs-left.result c.unsigned_abs-right.result c.gcd_of-first.result c.gcd_of-second.result c.quotient.result c.quotient-2.result (d / c.gcd_of-second.result) (e / c.gcd_of-first.result) = record {
-      left_is = simp to_z-of_z at c.unsigned_abs-left.ensures.value;
-      right_is = simp to_z-of_z at c.unsigned_abs-right.ensures.value;
-      first_is = c.gcd_of-first.ensures;
-      second_is = c.gcd_of-second.ensures;
-      x_is = c.quotient.ensures;
-      y_is = c.quotient-2.ensures;
-      u_is = refl;
-      v_is = refl;
-    } in
-    let is = product_parts a b d e _ _ _ _ _ _ _ _ c.requires.left c.requires.right parts in
-    rw c.from_residual.ensures (λ small. let s = product_small a b d e _ _ is small in omega (arith, s, h))
+    let left : unsigned_abs c.args.a < 2 ^ 63 = (simp to_z-of_z at c.is_short.ensures).0 c.if-is_short.true in
+    let right : unsigned_abs c.args.b < 2 ^ 63 = (simp to_z-of_z at c.is_short-then-is_short.ensures).0 c.if-is_short-2.true in
+    simp to_z-of_z (fits_signed_from_abs w128 (c.args.a *ℤ c.args.b) (short_product c.args.a c.args.b left right))
 
-pub returns-in_err-bottom : goal.returns-in_err-bottom
-returns-in_err-bottom c =
-    let a = c.args.a in let b = c.args.b in let d = c.args.d in let e = c.args.e in
+pub from_whole-requires : goal.from_whole-requires
+from_whole-requires c =
     let fa = c.ranges.a in
     let fb = c.ranges.b in
-    let h = c.in_err-bottom.ensures in
-    let parts : ProductParts a d b e c.unsigned_abs-left.result c.unsigned_abs-right.result c.gcd_of-first.result c.gcd_of-second.result c.quotient.result c.quotient-2.result c.quotient-3.result c.quotient-4.result = record {
-      left_is = simp to_z-of_z at c.unsigned_abs-left.ensures.value;
-      right_is = simp to_z-of_z at c.unsigned_abs-right.ensures.value;
-      first_is = c.gcd_of-first.ensures;
-      second_is = c.gcd_of-second.ensures;
-      x_is = c.quotient.ensures;
-      y_is = c.quotient-2.ensures;
-      u_is = c.quotient-3.ensures;
-      v_is = c.quotient-4.ensures;
-    } in
-    let is = product_parts a b d e _ _ _ _ _ _ _ _ c.requires.left c.requires.right parts in
-    rw c.from_residual-in_err-bottom.ensures (λ small. let s = product_small a b d e _ _ is small in omega (arith, s, h))
+    let left : unsigned_abs c.args.a < 2 ^ 63 = (simp to_z-of_z at c.is_short.ensures).0 c.if-is_short.true in
+    let right : unsigned_abs c.args.b < 2 ^ 63 = (simp to_z-of_z at c.is_short-then-is_short.ensures).0 c.if-is_short-2.true in
+    let small = short_product c.args.a c.args.b left right in
+    let fits : SFits w128 (c.args.a *ℤ c.args.b) = fits_signed_from_abs w128 (c.args.a *ℤ c.args.b) small in
+    simp to_z-of_z small
 
-pub from_lowest-requires : goal.from_lowest-requires
-from_lowest-requires c =
-    let a = c.args.a in let b = c.args.b in let d = c.args.d in let e = c.args.e in
+pub returns-then-is_short-2 : goal.returns-then-is_short-2
+returns-then-is_short-2 c =
     let fa = c.ranges.a in
     let fb = c.ranges.b in
-    let fz : SFits w128 c.with_sign.result = search rules in
-    let size = c.in_ok-size.ensures in
-    let bottom = c.in_ok-bottom.ensures in
-    let parts : ProductParts a d b e c.unsigned_abs-left.result c.unsigned_abs-right.result c.gcd_of-first.result c.gcd_of-second.result c.quotient.result c.quotient-2.result c.quotient-3.result c.quotient-4.result = record {
-      left_is = simp to_z-of_z at c.unsigned_abs-left.ensures.value;
-      right_is = simp to_z-of_z at c.unsigned_abs-right.ensures.value;
-      first_is = c.gcd_of-first.ensures;
-      second_is = c.gcd_of-second.ensures;
-      x_is = c.quotient.ensures;
-      y_is = c.quotient-2.ensures;
-      u_is = c.quotient-3.ensures;
-      v_is = c.quotient-4.ensures;
-    } in
-    let is : IsProduct a d b e c.in_ok-size.size c.in_ok-bottom.bottom = rw (size.0, bottom.0) (product_parts a b d e _ _ _ _ _ _ _ _ c.requires.left c.requires.right parts) in
-    simp to_z-of_z (product_as_lowest a b d e _ _ c.with_sign.result is size.1 bottom.1 (simp to_z-of_z at c.with_sign.ensures))
-
-pub returns : goal.returns
-returns c =
-    let a = c.args.a in let b = c.args.b in let d = c.args.d in let e = c.args.e in
-    let fa = c.ranges.a in
-    let fb = c.ranges.b in
-    let fz : SFits w128 c.with_sign.result = search rules in
-    let size = c.in_ok-size.ensures in
-    let bottom = c.in_ok-bottom.ensures in
-    let parts : ProductParts a d b e c.unsigned_abs-left.result c.unsigned_abs-right.result c.gcd_of-first.result c.gcd_of-second.result c.quotient.result c.quotient-2.result c.quotient-3.result c.quotient-4.result = record {
-      left_is = simp to_z-of_z at c.unsigned_abs-left.ensures.value;
-      right_is = simp to_z-of_z at c.unsigned_abs-right.ensures.value;
-      first_is = c.gcd_of-first.ensures;
-      second_is = c.gcd_of-second.ensures;
-      x_is = c.quotient.ensures;
-      y_is = c.quotient-2.ensures;
-      u_is = c.quotient-3.ensures;
-      v_is = c.quotient-4.ensures;
-    } in
-    let is : IsProduct a d b e c.in_ok-size.size c.in_ok-bottom.bottom = rw (size.0, bottom.0) (product_parts a b d e _ _ _ _ _ _ _ _ c.requires.left c.requires.right parts) in
-    let sign : c.with_sign.result ≡ with_sign a b c.in_ok-size.size = simp to_z-of_z at c.with_sign.ensures in (
-      c.from_lowest.ensures ∙ ap (λ z. ratio z (pos c.in_ok-bottom.bottom)) (to_z-of_z fz ∙ sign) ∙ is.value,
-      small_product a b d e _ _ is size.1 bottom.1,
-    )
+    let left : unsigned_abs c.args.a < 2 ^ 63 = (simp to_z-of_z at c.is_short.ensures).0 c.if-is_short.true in
+    let right : unsigned_abs c.args.b < 2 ^ 63 = (simp to_z-of_z at c.is_short-then-is_short.ensures).0 c.if-is_short-2.true in
+    let small = short_product c.args.a c.args.b left right in
+    let fits : SFits w128 (c.args.a *ℤ c.args.b) = fits_signed_from_abs w128 (c.args.a *ℤ c.args.b) small in
+    let is : c.from_whole.result ≡ int (c.args.a *ℤ c.args.b) = simp to_z-of_z at c.from_whole.ensures in
+    let w = whole_product c.args.a c.args.b (c.args.a *ℤ c.args.b) c.args.d c.args.e c.if-d-eq1.true c.if-e-eq1.true small refl in
+    (is ∙ w.0, w.1)

@@ -1,7 +1,7 @@
 use Rattle.std.proofs.lemmas.Result.{IfOk-weaker}
 use Rattle.command_replies.specs.Replies.{table_fault_reply}
+use Rattle.command_replies.proofs.Statuses.{refused}
 use Rattle.measure_command.proofs.Answering.{on_trace_fault}
-use Rattle.measure_command.proofs.Counting.{refused_status}
 use Rattle.measure_command.proofs.on_files.on_rows.Goals as goal
 
 pub returns-in-Ok-clause-reply : goal.returns-in-Ok-clause-reply
@@ -15,4 +15,4 @@ returns-in-Err-clause-reply g c =
 
 pub returns-in-Err-clause-report : goal.returns-in-Err-clause-report
 returns-in-Err-clause-report g c =
-    λ e. absurd (refused_status (table_fault_reply c.args.trace_file.now c.in-Err.fault) c.on_table_fault.result (λ k. cc) c.on_table_fault.ensures.reply e)
+    λ e. absurd (refused c.on_table_fault.result (table_fault_reply c.args.trace_file.now c.in-Err.fault) (λ k. cc) c.on_table_fault.ensures.reply e)

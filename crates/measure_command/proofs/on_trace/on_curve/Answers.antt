@@ -1,12 +1,11 @@
 use Rattle.std.specs.Prelude.{codes}
-use Rattle.std.proofs.Common.{refl}
 use Rattle.std.proofs.lemmas.Result.{IfOk-weaker}
 use Rattle.upp_limits.specs.declared.own_limits.OverLimit.TheVariants.{TooMany, TooWide}
 use Rattle.measure_curve.specs.Windows.{of_flow}
 use Rattle.command_replies.specs.Replies.{over}
 use Rattle.command_replies.specs.View.{reply_of}
+use Rattle.command_replies.proofs.Statuses.{refused}
 use Rattle.measure_command.proofs.Answering.{measured, reported, shown, steep}
-use Rattle.measure_command.proofs.Counting.{refused_status}
 use Rattle.measure_command.proofs.on_trace.on_curve.Goals as goal
 
 pub returns-in_ok-text-in-Ok-clause-reply : goal.returns-in_ok-text-in-Ok-clause-reply
@@ -24,7 +23,7 @@ returns-in-Err-TooMany-clause-reply g c =
     IfOk-weaker c.too_many.result _ _ (λ r e. steep ps c.args.name.now c.args.rate c.args.curve.now TooMany (reply_of r) is past e) c.too_many.ensures
 
 pub returns-in-Err-TooMany-clause-report : goal.returns-in-Err-TooMany-clause-report
-returns-in-Err-TooMany-clause-report g c = λ e. absurd (refused_status (over TooMany (codes "burst")) c.too_many.result (λ k. cc) c.too_many.ensures e)
+returns-in-Err-TooMany-clause-report g c = λ e. absurd (refused c.too_many.result (over TooMany (codes "burst")) (λ k. cc) c.too_many.ensures e)
 
 pub returns-in-Err-TooWide-clause-reply : goal.returns-in-Err-TooWide-clause-reply
 returns-in-Err-TooWide-clause-reply g c =
@@ -34,4 +33,4 @@ returns-in-Err-TooWide-clause-reply g c =
     IfOk-weaker c.too_wide.result _ _ (λ r e. steep ps c.args.name.now c.args.rate c.args.curve.now TooWide (reply_of r) is past e) c.too_wide.ensures
 
 pub returns-in-Err-TooWide-clause-report : goal.returns-in-Err-TooWide-clause-report
-returns-in-Err-TooWide-clause-report g c = λ e. absurd (refused_status (over TooWide (codes "burst")) c.too_wide.result (λ k. cc) c.too_wide.ensures e)
+returns-in-Err-TooWide-clause-report g c = λ e. absurd (refused c.too_wide.result (over TooWide (codes "burst")) (λ k. cc) c.too_wide.ensures e)

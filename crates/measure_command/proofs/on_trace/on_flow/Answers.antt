@@ -5,8 +5,8 @@ use Rattle.upp_limits.specs.declared.own_limits.OverLimit.TheVariants.{TooMany, 
 use Rattle.measure_curve.specs.Windows.{of_flow}
 use Rattle.command_replies.specs.Replies.{over}
 use Rattle.command_replies.specs.View.{reply_of}
+use Rattle.command_replies.proofs.Statuses.{refused}
 use Rattle.measure_command.proofs.Answering.{past}
-use Rattle.measure_command.proofs.Counting.{refused_status}
 use Rattle.measure_command.proofs.on_trace.on_flow.Goals as goal
 
 pub on_curve-requires-clause-few : goal.on_curve-requires-clause-few
@@ -22,7 +22,7 @@ returns-in-Err-TooMany-clause-reply g c =
     (λ r e. past (of_flow c.args.flow c.args.trace.now.packets) c.args.name.now c.args.rate TooMany (reply_of r) (told.0 refl) e) c.too_many.ensures
 
 pub returns-in-Err-TooMany-clause-report : goal.returns-in-Err-TooMany-clause-report
-returns-in-Err-TooMany-clause-report g c = λ e. absurd (refused_status (over TooMany (codes "measure")) c.too_many.result (λ k. cc) c.too_many.ensures e)
+returns-in-Err-TooMany-clause-report g c = λ e. absurd (refused c.too_many.result (over TooMany (codes "measure")) (λ k. cc) c.too_many.ensures e)
 
 pub returns-in-Err-TooWide-clause-reply : goal.returns-in-Err-TooWide-clause-reply
 returns-in-Err-TooWide-clause-reply g c =
@@ -31,4 +31,4 @@ returns-in-Err-TooWide-clause-reply g c =
     (λ r e. past (of_flow c.args.flow c.args.trace.now.packets) c.args.name.now c.args.rate TooWide (reply_of r) (told.0 refl) e) c.too_wide.ensures
 
 pub returns-in-Err-TooWide-clause-report : goal.returns-in-Err-TooWide-clause-report
-returns-in-Err-TooWide-clause-report g c = λ e. absurd (refused_status (over TooWide (codes "measure")) c.too_wide.result (λ k. cc) c.too_wide.ensures e)
+returns-in-Err-TooWide-clause-report g c = λ e. absurd (refused c.too_wide.result (over TooWide (codes "measure")) (λ k. cc) c.too_wide.ensures e)

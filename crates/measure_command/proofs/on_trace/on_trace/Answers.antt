@@ -1,8 +1,8 @@
 use Rattle.std.proofs.lemmas.Result.{IfOk-weaker}
 use Rattle.command_replies.specs.View.{reply_of}
+use Rattle.command_replies.proofs.Statuses.{refused}
 use Rattle.measure_command.specs.OnMeasures.{unknown_flow}
 use Rattle.measure_command.proofs.Answering.{on_named, on_unknown}
-use Rattle.measure_command.proofs.Counting.{refused_status}
 use Rattle.measure_command.proofs.on_trace.on_trace.Goals as goal
 
 pub returns-in-Some-clause-reply : goal.returns-in-Some-clause-reply
@@ -16,4 +16,4 @@ returns-in-None-clause-reply g c =
     (λ r e. on_unknown c.args.net.now c.args.trace.now c.args.name.now c.args.rate (reply_of r) c.keeps.ensures c.in-None.ensures e) c.unknown_flow.ensures
 
 pub returns-in-None-clause-report : goal.returns-in-None-clause-report
-returns-in-None-clause-report g c = λ e. absurd (refused_status (unknown_flow c.args.name.now) c.unknown_flow.result (λ k. cc) c.unknown_flow.ensures e)
+returns-in-None-clause-report g c = λ e. absurd (refused c.unknown_flow.result (unknown_flow c.args.name.now) (λ k. cc) c.unknown_flow.ensures e)

@@ -26,7 +26,7 @@ returns-then-begins_at-clause-answer g c =
 pub returns-in_err-frame-clause-answer : goal.returns-in_err-frame-clause-answer
 returns-in_err-frame-clause-answer g c =
     let p = err_from_is_err_and c.from_residual-in_err-frame.result c.from_residual-in_err-frame.ensures.1 in
-    rw (p.1, p.2) (stops c.in_err-frame.field-0.0 c.in_err-frame.ensures.refused refl)
+    rw (p.1, p.2) (stops c.in_err-frame.field-0.0 c.in_err-frame.ensures.limits refl)
 
 pub returns-clause-answer : goal.returns-clause-answer
 returns-clause-answer g c =

@@ -27,8 +27,8 @@ returns-clause-sum c = λ s h.
     let fs = c.args.sum.now.factors.items in
     let d = c.denominator-below.result in
     let e = c.denominator-under.result in
-    let m = c.size_of.result in
-    let n = c.size_of-2.result in
+    let m = c.numerator_size.result in
+    let n = c.numerator_size-2.result in
     let u = number c.times_both_plus-top.result.items in
     let v = number c.times_both_plus-bottom.result.items in
     let some : 0 < b = subst (λ k. 0 < k) (sym h.bottom) (product_pos fs h.factors) in
@@ -40,8 +40,8 @@ returns-clause-sum c = λ s h.
     let parts : (t * d * e + b * m * n ≡ t * den x * den y + b * nat_abs x.num * nat_abs y.num) =
     ap (λ k. t * k * e + b * m * n) c.denominator-below.ensures.value
     ∙ ap (λ k. t * den x * k + b * m * n) c.denominator-under.ensures.value
-    ∙ ap (λ k. t * den x * den y + b * k * n) c.size_of.ensures.value
-    ∙ ap (λ k. t * den x * den y + b * nat_abs x.num * k) c.size_of-2.ensures.value in
+    ∙ ap (λ k. t * den x * den y + b * k * n) c.numerator_size.ensures.value
+    ∙ ap (λ k. t * den x * den y + b * nat_abs x.num * k) c.numerator_size-2.ensures.value in
     let same : b * d * e ≡ b * den x * den y = ap (λ k. b * k * e) c.denominator-below.ensures.value ∙ ap (λ k. b * den x * k) c.denominator-under.ensures.value in
     let items : c.push-2.new.self.items ≡ (fs ++ d ∷ []) ++ e ∷ [] = c.push-2.ensures.items ∙ ap (λ gs. gs ++ e ∷ []) c.push.ensures.items in
     record {

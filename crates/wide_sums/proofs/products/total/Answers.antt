@@ -5,10 +5,11 @@ use Rattle.std.specs.List.{AllByRecursion}
 use Rattle.std.proofs.lemmas.Int.{ints}
 use Rattle.rational.specs.Rational.{int, ◌/ℚ◌}
 use Rattle.rational.specs.Ratio.{IsSmall}
+use Rattle.rational.proofs.Quotients.{quotient_small}
 use Rattle.wide_sums.specs.Words.{number}
 use Rattle.wide_sums.specs.Factors.{IsFactor, product, IsReduced}
 use Rattle.wide_sums.proofs.Reduced.{product_pos}
-use Rattle.wide_sums.proofs.Added.{bottom_some, small_sum, top_wide, bottom_wide, quotient_small, whole_some}
+use Rattle.wide_sums.proofs.Added.{bottom_some, small_sum, top_wide, bottom_wide, whole_some}
 use Rattle.wide_sums.proofs.Steps.{over_factors}
 use Rattle.wide_sums.proofs.products.total.Goals as goal
 

@@ -1,0 +1,2 @@
+pub mod BestSplits
+pub mod LineSplits
