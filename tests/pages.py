@@ -1,12 +1,13 @@
 #!/usr/bin/env python3
 """Runs each command that docs/TUTORIAL.md and the pages of examples/ show: an indented line that begins with `$ `, whose answer stands below it,
-up to the next command or the end of the block. Then it runs each network, edit list, trace, recorded run and script of examples/ that has its answer beside it.
+up to the next command or the end of the block; files in /tmp are in a folder of their own here. Then it runs each network, edit list, trace, recorded run and script of examples/ that has its answer beside it.
 Last it holds the lines at the head of the page of min_plus_algebra to the test that they are."""
 
 import pathlib
 import re
 import subprocess
 import sys
+import tempfile
 
 TOP = pathlib.Path(__file__).resolve().parent.parent
 PAGES = [TOP / "docs/TUTORIAL.md", *sorted(TOP.glob("examples/*/README.md"))]
@@ -18,7 +19,7 @@ def blocks(text):
         lines = [line[4:] for line in block.strip("\n").split("\n")]
         starts = [place for place, line in enumerate(lines) if line.startswith("$ ")]
         for start, end in zip(starts, [*starts[1:], len(lines)]):
-            yield lines[start][2:], "\n".join(lines[start + 1 : end]) + "\n"
+            yield lines[start][2:], "".join(line + "\n" for line in lines[start + 1 : end])
 
 
 def wanted():
@@ -56,12 +57,14 @@ def main():
     if not is_a_test(TOP / "crates/min_plus_algebra"):
         failed = 1
         print("crates/min_plus_algebra/README.md: its first lines are not those of src/example.rt", file=sys.stderr)
-    for place, command, shown in wanted():
-        tried += 1
-        run = subprocess.run(command, shell=True, cwd=TOP, capture_output=True, text=True, timeout=120, check=False)
-        if run.stdout != shown:
-            failed += 1
-            print(f"{place}: {command}\n{run.stdout}{run.stderr}", file=sys.stderr)
+    with tempfile.TemporaryDirectory() as folder:
+        for place, command, shown in wanted():
+            tried += 1
+            moved = command.replace("/tmp/", f"{folder}/")
+            run = subprocess.run(moved, shell=True, cwd=TOP, capture_output=True, text=True, timeout=120, check=False)
+            if run.stdout != shown:
+                failed += 1
+                print(f"{place}: {command}\n{run.stdout}{run.stderr}", file=sys.stderr)
     print(f"pages: {tried - failed} passed, {failed} failed")
     return 1 if failed else 0
 
