@@ -397,7 +397,6 @@ class Plot(WithFolder):
             ("curves", second, "line 1: the pieces before a tail"),
             ("curves", CURVES.replace("1344", "1/0"), "line 1: '1/0' is no number"),
             ("curves", CURVES.replace("0 1000 1344", "0 0 1344"), "line 2: a periodic tail has a start, a period above 0"),
-            ("curves", CURVES.replace("0 1000 1344", "0 1/1000 1344"), "too many to draw"),
         ]:
             self.refused(told, "plot.py", what, self.file("answer", text), "-o", self.folder / "o.svg")
         self.refused("absent: No such file", "plot.py", "bounds", self.folder / "absent", "-o", self.folder / "o.svg")
@@ -423,6 +422,10 @@ class Plot(WithFolder):
             run = self.file("run.csv", "enter,0,f,1\n")
             self.refused(told, "plot.py", "run", run, "--net", self.file("n.toml", net), "-o", self.folder / "o.svg")
 
+    @unittest.skipIf(has("matplotlib"), "matplotlib is installed")
+    def test_not_drawn(self):
+        self.refused("drawing needs matplotlib", "plot.py", "curves", self.file("answer", CURVES), "-o", self.folder / "o.svg")
+
     @unittest.skipUnless(has("matplotlib"), "matplotlib is not installed")
     def test_drawn(self):
         report = "servers 1 flows 1\nqueue s1 0 delay unbounded backlog 0\nflow f1 tfa unbounded sfa unbounded bound unbounded\n"
@@ -443,6 +446,8 @@ class Plot(WithFolder):
             run = tool("plot.py", what, self.file("answer", text), *words, "-o", picture)
             self.assertEqual((run.returncode, run.stderr), (0, ""))
             self.assertIn(drawn, picture.read_text())
+        fine = self.file("answer", CURVES.replace("0 1000 1344", "0 1/1000 1344"))
+        self.refused("too many to draw", "plot.py", "curves", fine, "-o", self.folder / "o.svg")
         self.refused("Format 'xyz' is not supported", "plot.py", "bounds", self.file("answer", report), "-o", self.folder / "o.xyz")
 
     def test_run(self):
