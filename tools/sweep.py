@@ -17,10 +17,10 @@ The table has a line a variant, in their order: its name, the parameters, `statu
 `--plot COLUMN OUT.svg` draws the largest bound of each variant over a parameter, with the front of those that no other variant beats in both
 (needs matplotlib).
 
-Tried on 28 November 2026 with 10,000 variants of examples/tutorial/study.template (100 rates, 100 latencies), four processors that other work kept busy
-too (a load of 20 to 30):
+Tried on 28 November 2026 with 10,000 variants of the network of examples/tutorial/study.template (100 rates, 100 latencies), on four processors that
+other work kept busy too (a load of 20 to 30):
 
-- Here, four programs at a time: 569.8 s, 17.6 variants a second. Each run took 0.2 s there, of which the program itself needs some 10 ms.
+- Here, four programs at a time: 569.8 s, 17.6 variants a second. Each run took 0.2 s there, of which the program itself worked some 5 ms.
 - On a scheduler of Dask 2022.12 with two workers: stopped by Ctrl-C after 1,056, and started again; then 8,944 in 740.1 s, 12.1 a second, though one
   worker was ended by SIGKILL after 5,004. Table and journal had each variant once, and but for the seconds the table was the same as here. One variant,
   whose answer went with the worker, was run again.
