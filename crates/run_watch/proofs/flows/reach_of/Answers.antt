@@ -1,9 +1,9 @@
 use Rattle.std.proofs.Common.{◌<◌, ◌-◌, ◌∙◌, length, ap, arith}
 use Rattle.rational.specs.Rational.{◌-ℚ◌}
-use Rattle.run_watch.specs.Stairs.{last_time}
+use Rattle.run_watch.specs.Flows.{last_time}
 use Rattle.run_watch.proofs.LeastFirst.{read_is}
 use Rattle.watch_laws.specs.declared.entering.Entering.{Entering}
-use Rattle.run_watch.proofs.stairs.reach_of.Goals as goal
+use Rattle.run_watch.proofs.flows.reach_of.Goals as goal
 
 pub returns-in-Ok : goal.returns-in-Ok
 returns-in-Ok c =
