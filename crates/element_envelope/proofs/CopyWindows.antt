@@ -1,5 +1,5 @@
 -- The window of the least of copies: of one start, and from those of two halves of the starts; and the convolution of it.
-use Rattle.std.specs.Prelude.{◌≡◌, ◌+◌, ◌≤◌, pos, List, [], ◌∷◌, ◌++◌, Option, Result, Ok, Err, IfOk, Vec}
+use Rattle.std.specs.Prelude.{◌≡◌, ◌+◌, ◌≤◌, pos, List, [], ◌∷◌, ◌++◌, Option, None, Result, Ok, Err, IfOk, Vec}
 use Rattle.std.proofs.Common.{arith, sym, ap, ap₂, ◌∙◌, refl, subst, inl, inr, length, get_or, ◌<◌, Global}
 use Rattle.rational.specs.Rational.{ℚ, ◌+ℚ◌, ◌-ℚ◌, ◌≤ℚ◌, ◌<ℚ◌, int, neg_ℚ}
 use Rattle.rational.specs.Ratio.{SumFits}
@@ -10,6 +10,7 @@ use Rattle.rational.proofs.Grid.{whole_int}
 use Rattle.rational.proofs.Laws.{le_or_lt, le_of_lt, le_refl}
 use Rattle.rational.proofs.Bounds.{all_infinite}
 use Rattle.rational.proofs.ExtendedOrder.{add_ext_comm}
+use Rattle.affine_segment.specs.declared.line.Line.{Line}
 use Rattle.affine_segment.specs.declared.line.Piece.{Piece}
 use Rattle.affine_segment.specs.Pieces.{Each, StartsAtZero}
 use Rattle.affine_segment.specs.Reading.{read, nothing_at}
@@ -35,6 +36,7 @@ use Rattle.element_envelope.specs.CopyWindows.{CopyRoom, IsCopyWindow, HaveOpera
 use Rattle.element_envelope.specs.ElementRoom.{WindowTime}
 use Rattle.element_envelope.specs.JoinedWindows.{lead_of}
 use Rattle.element_envelope.specs.SumWindows.{SumPiece, SumWindow}
+use Rattle.element_envelope.specs.Turnings.{IsThinned}
 use Rattle.element_envelope.proofs.Arching.{same_arches, lesser_arches, nothing_arches}
 use Rattle.element_envelope.proofs.LeastCopies.{copy_rules}
 use Rattle.element_envelope.proofs.CopyArches.{copy_arches}
@@ -42,7 +44,7 @@ use Rattle.element_envelope.proofs.CopyReads.{copy_pieces, copy_starts, copy_bef
 use Rattle.element_envelope.proofs.ElementSizes.{time_gap_fits}
 use Rattle.element_envelope.proofs.EnvelopeHalves.{LowerReady, lower_ready}
 use Rattle.element_envelope.proofs.PairWindows.{LatePiece, early_piece}
-use Rattle.element_envelope.proofs.StartSplits.{starts_suffice}
+use Rattle.element_envelope.proofs.StartTurns.{turns_suffice}
 use Rattle.element_envelope.proofs.SumLower.{sum_lower}
 
 -- ---- no copy
@@ -179,11 +181,17 @@ ok_halves (Ok w) end a b ps g h k = h w.items k
 ok_halves (Err e) end a b ps g h k = k
 
 -- ---- the convolution
-pub left_room : (end : ℚ) (f g : List Piece) → OperandWindows end f g → CopyRoom end f g
-left_room end f g r = record { sizes = r.sizes; limited = r.limited; some = r.some; starts = r.left.each; copied = r.right }
+-- the starts that are left stand as all do
+each_thinned : (P : Piece → Type 0) (before : Option Line) (ps qs : List Piece) → IsThinned before ps qs → Each P ps → Each P qs
+each_thinned P before [] qs T h = subst (Each P) (sym T) tt
+each_thinned P before (p ∷ ps) qs (inl T) h = each_thinned P p.line ps qs T.1 h.1
+each_thinned P before (p ∷ ps) qs (inr T) h = subst (Each P) (sym T.1) (h.0, each_thinned P p.line ps T.0 T.2 h.1)
 
-pub right_room : (end : ℚ) (f g : List Piece) → OperandWindows end f g → CopyRoom end g f
-right_room end f g r = record { sizes = r.sizes; limited = r.limited; some = r.some; starts = r.right.each; copied = r.left }
+pub left_room : (end : ℚ) (f g ps : List Piece) → IsThinned None f ps → OperandWindows end f g → CopyRoom end ps g
+left_room end f g ps T r = record { sizes = r.sizes; limited = r.limited; some = r.some; starts = each_thinned (OperandPiece r.sizes end) None f ps T r.left.each; copied = r.right }
+
+pub right_room : (end : ℚ) (f g ps : List Piece) → IsThinned None g ps → OperandWindows end f g → CopyRoom end ps f
+right_room end f g ps T r = record { sizes = r.sizes; limited = r.limited; some = r.some; starts = each_thinned (OperandPiece r.sizes end) None g ps T r.right.each; copied = r.left }
 
 pub first_operand : (end : ℚ) (f g : List Piece) → OperandWindows end f g → HaveOperandRoom end f
 first_operand end f g r = record { sizes = r.sizes; limited = r.limited; each = r.left.each }
@@ -191,25 +199,35 @@ first_operand end f g r = record { sizes = r.sizes; limited = r.limited; each = 
 pub second_operand : (end : ℚ) (f g : List Piece) → OperandWindows end f g → HaveOperandRoom end g
 second_operand end f g r = record { sizes = r.sizes; limited = r.limited; each = r.right.each }
 
-pub both_ready : (end : ℚ) (f g a b : List Piece) → OperandWindows end f g → IsCopyWindow end f g a → IsCopyWindow end g f b → LowerReady end a b
+-- the least of the copies of each at the starts that are left of the other
+pub record BothCopies (end : ℚ) (f g a b : List Piece) : Type 0 where
+  pub left : List Piece
+  pub right : List Piece
+  pub left_is : IsThinned None f left
+  pub right_is : IsThinned None g right
+  pub first : IsCopyWindow end left g a
+  pub second : IsCopyWindow end right f b
+
+pub both_ready : (end : ℚ) (f g a b : List Piece) → OperandWindows end f g → BothCopies end f g a b → LowerReady end a b
 unfolding left_room right_room
-both_ready end f g a b r A B =
-    let x = A.stands (left_room end f g r) in
-    let y = B.stands (right_room end f g r) in
+both_ready end f g a b r B =
+    let x = B.first.stands (left_room end f g B.left B.left_is r) in
+    let y = B.second.stands (right_room end f g B.right B.right_is r) in
     lower_ready r.sizes end a b r.limited x y
 
-pub both_convolve : (end : ℚ) (f g a b qs : List Piece) → OperandWindows end f g → LowAtStarts f → LowAtStarts g → IsCopyWindow end f g a → IsCopyWindow end g f b → IsLowerOf a b end qs
+pub both_convolve : (end : ℚ) (f g a b qs : List Piece) → OperandWindows end f g → LowAtStarts f → LowAtStarts g → BothCopies end f g a b → IsLowerOf a b end qs
     → IsConvolutionWindow f g end qs
 unfolding left_room right_room
-both_convolve end f g a b qs o lf lg A B L = record {
+both_convolve end f g a b qs o lf lg B L = record {
   starts = L.starts;
   reads = λ t low high.
       subst (IsConvolution (read f) (read g) t) (sym (L.reads t low high))
-      (starts_suffice f g t (read a t) (read b t) o.left.starts o.right.starts lf lg low (A.reads t low high) (B.reads t low high));
-  stands = λ r. sum_lower r.sizes end a b qs r.limited (A.stands (left_room end f g r)) (B.stands (right_room end f g r)) L;
+      (turns_suffice f g B.left B.right t (read a t) (read b t) o.left.starts o.right.starts lf lg B.left_is B.right_is low (B.first.reads t low high) (B.second.reads t low high));
+  stands = λ r.
+      sum_lower r.sizes end a b qs r.limited (B.first.stands (left_room end f g B.left B.left_is r)) (B.second.stands (right_room end f g B.right B.right_is r)) L;
   arches = λ r.
       same_arches r.sizes.dt end (λ t. min_ext (read a t) (read b t)) (read qs) L.reads
-      (lesser_arches r.sizes.dt end (read a) (read b) (A.arches (left_room end f g r)) (B.arches (right_room end f g r)));
+      (lesser_arches r.sizes.dt end (read a) (read b) (B.first.arches (left_room end f g B.left B.left_is r)) (B.second.arches (right_room end f g B.right B.right_is r)));
 }
 
 pub ok_both : {E : Type 0} (r : Result (Vec Piece Global) E) (end : ℚ) (a b f g : List Piece) → ((qs : List Piece) → IsLowerOf a b end qs → IsConvolutionWindow f g end qs)

@@ -19,3 +19,4 @@ pub mod CopyReads
 pub mod CopyArches
 pub mod CopyWindows
 pub mod StartTests
+pub mod StartTurns

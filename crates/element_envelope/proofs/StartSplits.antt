@@ -2,12 +2,12 @@
 use Rattle.std.specs.Prelude.{◌≡◌, ◌⊎◌, pos, List, [], ◌∷◌, Option, Some, None}
 use Rattle.std.proofs.Common.{arith, sym, ap, ap₂, ◌∙◌, refl, subst, inl, inr}
 use Rattle.rational.specs.Rational.{ℚ, ◌+ℚ◌, ◌-ℚ◌, ◌*ℚ◌, ◌≤ℚ◌, ◌<ℚ◌, int}
-use Rattle.rational.specs.Extended.{Ext, ◌≤ₑ◌, ◌+ₑ◌, min_ext}
+use Rattle.rational.specs.Extended.{Ext, ◌≤ₑ◌, ◌<ₑ◌, ◌+ₑ◌, min_ext}
 use Rattle.rational.specs.Families.{either}
 use Rattle.rational.specs.declared.Extended.TheVariants.{Fin, Inf}
 use Rattle.rational.proofs.Linear.{with2, with3}
 use Rattle.rational.proofs.Laws.{le_or_lt, le_of_lt, le_refl, le_trans, antisym, add_comm}
-use Rattle.rational.proofs.ExtendedOrder.{same_le_ext, le_inf, le_ext_trans, fin_same, finite_sum, add_le_ext, add_ext_comm}
+use Rattle.rational.proofs.ExtendedOrder.{same_le_ext, le_ext_trans, le_of_lt_ext, fin_same, finite_sum, add_le_ext, add_ext_comm}
 use Rattle.rational.proofs.Bounds.{infimum_union}
 use Rattle.affine_segment.specs.declared.line.Line.{Line}
 use Rattle.affine_segment.specs.declared.line.Piece.{Piece}
@@ -39,21 +39,21 @@ start_is [] q h k = absurd h
 start_is (p ∷ ps) q h k = (subst (λ z. z ≤ℚ q.x) h.0 (from_first p ps q h.1 k), start_read p ps q h.1 k)
 
 -- s is a start
-abbrev IsStart : List Piece → ℚ → Type 0
+abbrev pub IsStart : List Piece → ℚ → Type 0
 IsStart ps s = (q : Piece) × IsPieceOf q ps × (q.x ≡ s)
 
 -- s lies on a line from a start on, up to the next one: between them it is what is read, and at both what is read is at most the line
-record Inside (ps : List Piece) (first s : ℚ) : Type 0 where
-  line : Line
-  low : Piece
-  low_in : IsPieceOf low ps
-  from : first ≤ℚ low.x
-  high : Ext
-  high_in : (x : ℚ) → high ≡ Fin x → IsStart ps x
-  early : low.x ≤ℚ s
-  late : Fin s ≤ₑ high
-  value : read ps s ≡ Fin (line_at line s)
-  below : (y : ℚ) → low.x ≤ℚ y → Fin y ≤ₑ high → read ps y ≤ₑ Fin (line_at line y)
+pub record Inside (ps : List Piece) (first s : ℚ) : Type 0 where
+  pub line : Line
+  pub low : Piece
+  pub low_in : IsPieceOf low ps
+  pub from : first ≤ℚ low.x
+  pub high : Ext
+  pub high_in : (x : ℚ) → high ≡ Fin x → IsStart ps x
+  pub early : low.x <ℚ s
+  pub late : Fin s <ₑ high
+  pub value : read ps s ≡ Fin (line_at line s)
+  pub below : (y : ℚ) → low.x ≤ℚ y → Fin y ≤ₑ high → read ps y ≤ₑ Fin (line_at line y)
 
 below_line : (v : Ext) (o : Option Line) (l : Line) (x y : ℚ) → v ≤ₑ line_value o x → o ≡ Some l → y ≡ x → v ≤ₑ Fin (line_at l y)
 below_line v o l x y h e k = subst (λ z. v ≤ₑ line_value (Some l) z) (sym k) (subst (λ z. v ≤ₑ line_value z x) e h)
@@ -71,8 +71,8 @@ found p [] before s a r L low is = elim (le_or_lt s p.x) [
         from = le_refl p.x;
         high = Inf;
         high_in = λ x e. absurd (same_le_ext e);
-        early = le_of_lt h;
-        late = le_inf (Fin s);
+        early = h;
+        late = tt;
         value = read_one p s ∙ value_past p s h ∙ ap (λ o. line_value o s) line;
         below = λ y k m. elim (le_or_lt y p.x) [
           | inl n ↦ subst (λ z. z ≤ₑ Fin (line_at l y)) (sym (read_one p y ∙ value_by p y n)) (below_line p.at p.line l p.x y L.1 line (antisym (n, k)))
@@ -107,8 +107,8 @@ found p (q ∷ qs) before s a r L low is = elim (le_or_lt q.x s) [
           from = le_refl p.x;
           high = Fin q.x;
           high_in = λ x e. (q, inr (inl refl), fin_same e);
-          early = le_of_lt k;
-          late = le_of_lt h;
+          early = k;
+          late = h;
           value = read_stop p q qs s h ∙ value_past p s k ∙ ap (λ o. line_value o s) line;
           below = λ y m n. elim (le_or_lt q.x y) [
             | inl w ↦
@@ -123,7 +123,7 @@ found p (q ∷ qs) before s a r L low is = elim (le_or_lt q.x s) [
   ]
 ]
 
-found_in : (ps : List Piece) (s a : ℚ) → StartsAtZero ps → LowAtStarts ps → int (pos 0) ≤ℚ s → read ps s ≡ Fin a → IsStart ps s ⊎ Inside ps (int (pos 0)) s
+pub found_in : (ps : List Piece) (s a : ℚ) → StartsAtZero ps → LowAtStarts ps → int (pos 0) ≤ℚ s → read ps s ≡ Fin a → IsStart ps s ⊎ Inside ps (int (pos 0)) s
 found_in [] s a h L low is = absurd h
 found_in (p ∷ ps) s a h L low is =
     subst (λ z. IsStart (p ∷ ps) s ⊎ Inside (p ∷ ps) z s) h.0 (found p ps None s a h.1 L (subst (λ z. z ≤ℚ s) (sym h.0) low) is)
@@ -139,7 +139,7 @@ turned : (l m : Line) (t x : ℚ) → sum_at m l t x ≡ sum_at l m t (t -ℚ x)
 turned l m t x = ap (λ y. line_at m y +ℚ line_at l (t -ℚ x)) (sym (back t x)) ∙ add_comm (line_at m (t -ℚ (t -ℚ x))) (line_at l (t -ℚ x))
 
 -- some sum of which one time is a start is at most v
-abbrev IsStartBelow : List Piece → List Piece → ℚ → ℚ → Type 0
+abbrev pub IsStartBelow : List Piece → List Piece → ℚ → ℚ → Type 0
 IsStartBelow f g t v = (i : StartSplit f t ⊎ StartSplit g t) × (either (start_sum f g t) (start_sum g f t) i ≤ₑ Fin v)
 
 swapped : (f g : List Piece) (t v : ℚ) → IsStartBelow g f t v → IsStartBelow f g t v
@@ -184,24 +184,24 @@ low_end f g t s u F G hf hg whole = by G.high refl
     here : Fin (t -ℚ F.low.x) ≤ₑ G.high → IsLowEnd f g F.line G.line t s
     here k = (
       F.low.x,
-      F.early,
-      at_start f g t s u F G F.low hf F.low_in (le_refl F.low.x) (le_ext_trans (Fin F.low.x) (Fin s) F.high F.early F.late)
-          (second_late s u t F.low.x G.low.x whole F.early G.early) k,
+      le_of_lt F.early,
+      at_start f g t s u F G F.low hf F.low_in (le_refl F.low.x) (le_ext_trans (Fin F.low.x) (Fin s) F.high (le_of_lt F.early) (le_of_lt_ext (Fin s) F.high F.late))
+          (second_late s u t F.low.x G.low.x whole (le_of_lt F.early) (le_of_lt G.early)) k,
     )
 
     there : (y : ℚ) → G.high ≡ Fin y → F.low.x ≤ℚ t -ℚ y → (q : Piece) → IsPieceOf q g → q.x ≡ y → IsLowEnd f g F.line G.line t s
     there y e k q among at =
-        let until : u ≤ℚ y = subst (λ z. Fin u ≤ₑ z) e G.late in
+        let until : u ≤ℚ y = le_of_lt (subst (λ z. Fin u <ₑ z) e G.late) in
         let early : t -ℚ q.x ≤ℚ s = subst (λ z. t -ℚ z ≤ℚ s) (sym at) (first_early s u t y whole until) in (
           t -ℚ q.x,
           early,
           swapped f g t (sum_at F.line G.line t (t -ℚ q.x))
               (subst (IsStartBelow g f t) (turned F.line G.line t q.x)
               (at_start g f t u s G F q hg among
-              (subst (λ z. G.low.x ≤ℚ z) (sym at) (le_trans G.early until))
+              (subst (λ z. G.low.x ≤ℚ z) (sym at) (le_trans (le_of_lt G.early) until))
               (subst (λ z. Fin q.x ≤ₑ z) (sym e) (subst (λ z. q.x ≤ℚ z) at (le_refl q.x)))
               (subst (λ z. F.low.x ≤ℚ t -ℚ z) (sym at) k)
-              (le_ext_trans (Fin (t -ℚ q.x)) (Fin s) F.high early F.late))),
+              (le_ext_trans (Fin (t -ℚ q.x)) (Fin s) F.high early (le_of_lt_ext (Fin s) F.high F.late)))),
         )
 
     by : (v : Ext) → G.high ≡ v → IsLowEnd f g F.line G.line t s
@@ -249,10 +249,10 @@ first_at f g t a b s hf (q, among, at) x y =
     part_at_most : (s u t : ℚ) → s +ℚ u ≡ t → int (pos 0) ≤ℚ u → s ≤ℚ t
     part_at_most s u t e h = subst (λ z. s ≤ℚ z) e (with2 s u (λ c. omega (arith, c.le, c.lt, c.same)))
 
-turned_split : (t : ℚ) → Split t → Split t
+unfoldable pub turned_split : (t : ℚ) → Split t → Split t
 turned_split t s = record { first = s.second; second = s.first; first_nonneg = s.second_nonneg; second_nonneg = s.first_nonneg; whole = add_comm s.second s.first ∙ s.whole }
 
-any_split : (f g : List Piece) (t a b : ℚ) (s : Split t) → StartsAtZero f → StartsAtZero g → LowAtStarts f → LowAtStarts g → read f s.first ≡ Fin a → read g s.second ≡ Fin b
+pub any_split : (f g : List Piece) (t a b : ℚ) (s : Split t) → StartsAtZero f → StartsAtZero g → LowAtStarts f → LowAtStarts g → read f s.first ≡ Fin a → read g s.second ≡ Fin b
     → IsStartBelow f g t (a +ℚ b)
 unfolding turned_split
 any_split f g t a b s hf hg lf lg x y = by (found_in f s.first a hf lf s.first_nonneg x) (found_in g s.second b hg lg s.second_nonneg y)
@@ -266,7 +266,7 @@ any_split f g t a b s hf hg lf lg x y = by (found_in f s.first a hf lf s.first_n
         (on_lines f g t s.first s.second F G hf hg s.whole)
 
 -- ---- the law
-start_split : (f g : List Piece) (t : ℚ) → StartsAtZero f → (i : StartSplit f t) → (s : Split t) × (read f s.first +ₑ read g s.second ≡ start_sum f g t i)
+pub start_split : (f g : List Piece) (t : ℚ) → StartsAtZero f → (i : StartSplit f t) → (s : Split t) × (read f s.first +ₑ read g s.second ≡ start_sum f g t i)
 start_split f g t hf i =
     let q = i.piece in
     let k = start_is f q hf i.among in

@@ -1,13 +1,14 @@
--- What a test of a value against a line tells.
-use Rattle.std.specs.Prelude.{◌≡◌, ◌↔◌, Bool, true, false, not, IsTrue, Option, Some, Result, Ok, IfOk}
-use Rattle.std.proofs.Common.{true≢false, refl, sym, subst}
+-- What a test of a value against a line tells; and pieces that are left out one after another.
+use Rattle.std.specs.Prelude.{◌≡◌, ◌↔◌, ◌⊎◌, Bool, true, false, not, IsTrue, List, [], ◌∷◌, ◌++◌, Option, Some, None}
+use Rattle.std.proofs.Common.{true≢false, refl, sym, ap, ◌∙◌, subst, inl, inr, append_assoc, append-nil}
 use Rattle.rational.specs.Rational.{ℚ, ◌≤ℚ◌, ◌<ℚ◌}
 use Rattle.rational.specs.Extended.{Ext, ◌≤ₑ◌}
 use Rattle.rational.specs.declared.Extended.TheVariants.{Fin}
 use Rattle.rational.proofs.Compared.{not_less_out}
-use Rattle.fraction128.specs.declared.fault.Wide.{Wide}
 use Rattle.affine_segment.specs.declared.line.Line.{Line}
+use Rattle.affine_segment.specs.declared.line.Piece.{Piece}
 use Rattle.affine_segment.specs.Values.{line_at, line_value}
+use Rattle.element_envelope.specs.Turnings.{BendsDown, IsThinned}
 
 is_false : (b : Bool) → IsTrue (not b) → b ≡ false
 is_false true h = absurd (true≢false (sym h))
@@ -16,3 +17,21 @@ is_false false h = refl
 pub below_is : (b : Bool) (r v x : ℚ) (l : Line) (line : Option Line) (at : Ext) → (IsTrue b ↔ (r <ℚ v)) → r ≡ line_at l x → line ≡ Some l → at ≡ Fin v → IsTrue (not b) → at ≤ₑ line_value line x
 below_is b r v x l line at t e k m h =
     subst (λ o. at ≤ₑ line_value o x) (sym k) (subst (λ z. z ≤ₑ Fin (line_at l x)) (sym m) (subst (λ z. v ≤ℚ z) e (not_less_out b r v t (is_false b h))))
+
+-- after some pieces, p is put, or it bends down and is not
+abbrev pub IsKeptOrBent : Option Line → Piece → List Piece → List Piece → Type 0
+IsKeptOrBent before p old new = (BendsDown before p × (new ≡ old)) ⊎ (new ≡ old ++ p ∷ [])
+
+-- one piece more that is kept, or bends down
+pub thinned_step : (before : Option Line) (p : Piece) (left rest all old new : List Piece) → left ≡ p ∷ rest → IsKeptOrBent before p old new
+    → ((qs : List Piece) → IsThinned before left qs → IsThinned None all (old ++ qs)) → (qs : List Piece) → IsThinned p.line rest qs → IsThinned None all (new ++ qs)
+thinned_step before p left rest all old new d (inl k) h qs T =
+    subst (λ z. IsThinned None all (z ++ qs)) (sym k.1) (h qs (subst (λ z. IsThinned before z qs) (sym d) (inl (k.0, T))))
+thinned_step before p left rest all old new d (inr e) h qs T =
+    subst (λ z. IsThinned None all z) (sym (ap (λ z. z ++ qs) e ∙ append_assoc old (p ∷ []) qs)) (h (p ∷ qs) (subst (λ z. IsThinned before z (p ∷ qs)) (sym d) (inr (qs, refl, T))))
+
+pub thinned_end : (before : Option Line) (left all old : List Piece) → left ≡ [] → ((qs : List Piece) → IsThinned before left qs → IsThinned None all (old ++ qs)) → IsThinned None all old
+thinned_end before left all old d h = subst (IsThinned None all) (append-nil old) (h [] (subst (λ z. IsThinned before z []) (sym d) refl))
+
+pub thinned_none : (all kept : List Piece) → kept ≡ [] → (qs : List Piece) → IsThinned None all qs → IsThinned None all (kept ++ qs)
+thinned_none all kept e qs T = subst (λ z. IsThinned None all (z ++ qs)) (sym e) T

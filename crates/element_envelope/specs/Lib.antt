@@ -11,3 +11,4 @@ pub mod EnvelopeWindows
 pub mod ConvolutionWindows
 pub mod Copies
 pub mod CopyWindows
+pub mod Turnings

@@ -7,21 +7,23 @@ ghost use Rattle.element_envelope.specs.Copies.{LowAtStarts};
 use crate::copies::least_copies;
 use crate::cutting::cut;
 use crate::least::{envelope, lower_joined};
-use crate::starts::are_low_at_starts;
+use crate::starts::{are_low_at_starts, turning_starts};
 use affine_segment::Piece;
 use fraction128::Frac;
 use rational::Extended;
 use std::alloc::{AllocError, Global};
 
-// By the copies of each at the starts of the other.
+// By the copies of each at those starts of the other at which that does not bend downwards.
 fn by_starts(alloc: Global, f: &[Piece], g: &[Piece], end: Frac) -> Result<Vec<Piece>, AllocError>
     requires windows { OperandWindows end f.now g.now }
     requires left { LowAtStarts f.now }
     requires right { LowAtStarts g.now }
     ensures { IfOk result (λ v. IsConvolutionWindow f.now g.now end v.items) }
 {
-    let left = least_copies(alloc, f, g, end)?;
-    let right = least_copies(alloc, g, f, end)?;
+    let starts = turning_starts(alloc, f)?;
+    let left = least_copies(alloc, &starts, g, end)?;
+    let others = turning_starts(alloc, g)?;
+    let right = least_copies(alloc, &others, f, end)?;
     lower_joined(alloc, &left, &right, end)
 }
 
@@ -37,7 +39,8 @@ fn by_pairs(alloc: Global, f: &[Piece], g: &[Piece], end: Frac) -> Result<Vec<Pi
 
 /// The convolution of two operands, at each time from 0 on and before `end`, as pieces, from the operands' unrolled
 /// pieces below `end`. Are both nowhere above the limits beside a start, then it is made from the copies of each at the
-/// starts of the other; else from all pairs of their elements. Only a lack of memory is an error.
+/// starts of the other at which that does not bend downwards; else from all pairs of their elements. Only a lack of
+/// memory is an error.
 pub fn window_convolution(
     alloc: Global,
     f: &[Piece],

@@ -4,6 +4,7 @@ ghost use Rattle.element_envelope.specs.ConvolutionLaws.{PiecesAreCovered, Envel
 ghost use Rattle.element_envelope.specs.ConvolutionLaws.{PairsConvolveWindows, PairsConvolveCurves};
 ghost use Rattle.element_envelope.specs.WindowLaws.{SumCutsFit, SumLowerFits, SumLowerIsOne};
 ghost use Rattle.element_envelope.specs.Copies.{StartsSuffice, CopyRules};
+ghost use Rattle.element_envelope.specs.Turnings.{TurnsSuffice};
 ghost use Rattle.element_envelope.specs.RoomLaws.{ElementsStand, JoinedStand};
 
 /// The elements of pieces: each reads as the pieces at its times, and a time with a finite value is a time of exactly
@@ -42,6 +43,12 @@ pub fn sum_windows_have_a_lower()
 /// one of both times is a start: the lesser of the copies of each at the starts of the other.
 pub fn starts_suffice()
     ensures { StartsSuffice }
+{}
+
+/// Of those starts only the ones count at which the window does not bend downwards: it does where a line goes on, there,
+/// with a smaller slope.
+pub fn turns_suffice()
+    ensures { TurnsSuffice }
 {}
 
 /// How the least of copies comes from that of parts of the starts, and of one start.

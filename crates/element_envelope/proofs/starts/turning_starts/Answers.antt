@@ -1,0 +1,49 @@
+use Rattle.std.specs.Prelude.{Vec}
+use Rattle.std.proofs.Common.{◌+◌, ◌∙◌, ap, inl, inr, drop, drop_of_length-le, sym, subst, Global}
+use Rattle.affine_segment.specs.declared.line.Piece.{Piece}
+use Rattle.affine_segment.proofs.NextPiece.{next_piece}
+use Rattle.rational.proofs.Laws.{le_of_lt}
+use Rattle.upp_normal.specs.Operand.{OperandPiece}
+use Rattle.upp_normal.proofs.AnswerRoom.{operand_line_fits}
+use Rattle.upp_normal.proofs.NormaliseRank.{each_index}
+use Rattle.element_envelope.proofs.StartTests.{IsKeptOrBent, thinned_step, thinned_end, thinned_none}
+use Rattle.element_envelope.proofs.starts.turning_starts.Goals as goal
+use Rattle.element_envelope.proofs.starts.turning_starts.Goals.{then-not-bends_down+in_ok-push, else-not-bends_down}
+
+pub loop-p-init : goal.loop-p-init
+loop-p-init c = (thinned_none c.args.pieces.now c.new-kept.result.items c.new-kept.ensures.items, λ z end h. tt)
+
+pub bends_down-requires-clause-left : goal.bends_down-requires-clause-left
+bends_down-requires-clause-left c =
+    let end = c.requires.0 in
+    let R = c.requires.1 in
+    let p = c.p-item.result in
+    let P = subst (OperandPiece R.sizes end) (sym c.p-item.is) (each_index (OperandPiece R.sizes end) c.args.pieces.now c.loop-p.p-index p c.loop-p-test.true R.each) in
+    operand_line_fits R.sizes end p.x c.loop-p.before R.limited (c.loop-p.invariant.1 R.sizes end R.each) P.start P.nonneg (le_of_lt P.before)
+
+pub bends_down-requires-clause-right : goal.bends_down-requires-clause-right
+bends_down-requires-clause-right c =
+    let end = c.requires.0 in
+    let R = c.requires.1 in
+    let p = c.p-item.result in
+    let P = subst (OperandPiece R.sizes end) (sym c.p-item.is) (each_index (OperandPiece R.sizes end) c.args.pieces.now c.loop-p.p-index p c.loop-p-test.true R.each) in
+    operand_line_fits R.sizes end p.x p.line R.limited P.line P.start P.nonneg (le_of_lt P.before)
+
+pub loop-p-preserved : goal.loop-p-preserved
+loop-p-preserved c =
+    let p = c.p-item.result in
+    let i = c.loop-p.p-index in
+    let all = c.args.pieces.now in
+    let items = λ (v : Vec Piece Global). v.items in
+    let step : IsKeptOrBent c.loop-p.before p c.loop-p.kept.items c.if-not-bends_down.kept.items =
+    elim c.if-not-bends_down.branch [
+      | then-not-bends_down+in_ok-push w ↦ inr (ap items w.kept-is ∙ w.in_ok-push.ensures.items)
+      | else-not-bends_down w ↦ inl (c.bends_down.ensures w.if-not-bends_down.false, ap items w.kept-is)
+    ] in (
+      thinned_step c.loop-p.before p (drop i all) (drop (i + 1) all) all c.loop-p.kept.items c.if-not-bends_down.kept.items (next_piece p all i c.loop-p-test.true c.p-item.is) step
+          c.loop-p.invariant.0,
+      λ z end h. (subst (OperandPiece z end) (sym c.p-item.is) (each_index (OperandPiece z end) all i p c.loop-p-test.true h)).line,
+    )
+
+pub returns : goal.returns
+returns c = thinned_end c.loop-p.before _ c.args.pieces.now c.loop-p.kept.items (drop_of_length-le c.args.pieces.now c.loop-p-test.false) c.loop-p.invariant.0

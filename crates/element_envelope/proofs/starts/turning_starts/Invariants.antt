@@ -1,0 +1,15 @@
+use Rattle.std.proofs.Common.{List, ◌++◌, drop}
+use Rattle.std.specs.Prelude.{None}
+use Rattle.rational.specs.Rational.{ℚ}
+use Rattle.affine_segment.specs.declared.line.Piece.{Piece}
+use Rattle.affine_segment.specs.Pieces.{Each}
+use Rattle.upp_limits.specs.Limits.{Sizes}
+use Rattle.upp_normal.specs.Operand.{OperandLineAt, OperandPiece}
+use Rattle.element_envelope.specs.Turnings.{IsThinned}
+use Rattle.element_envelope.proofs.starts.turning_starts.Given as goal
+
+-- what is kept, with the rest thinned, is all of them thinned; and the line before the rest is an operand's
+abbrev pub invariant-loop-p : goal.invariant-loop-p
+invariant-loop-p l =
+    ((qs : List Piece) → IsThinned l.before (drop l.p-index l.pieces) qs → IsThinned None l.pieces (l.kept.items ++ qs))
+    × ((z : Sizes) (end : ℚ) → Each (OperandPiece z end) l.pieces → OperandLineAt z l.before)

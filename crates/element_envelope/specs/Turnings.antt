@@ -1,0 +1,37 @@
+-- The starts at which pieces bend downwards: they need no copy. (Bouillard, Boyer and Le Corronc: the convolution of
+-- piecewise linear functions; the law is our own choice.)
+use Rattle.std.specs.Prelude.{◌≡◌, ◌⊎◌, pos, List, [], ◌∷◌, Option, Some, None}
+use Rattle.rational.specs.Rational.{ℚ, ◌≤ℚ◌, ◌<ℚ◌, int}
+use Rattle.rational.specs.Extended.{Ext, min_ext}
+use Rattle.rational.specs.declared.Extended.TheVariants.{Fin}
+use Rattle.affine_segment.specs.declared.line.Line.{Line}
+use Rattle.affine_segment.specs.declared.line.Piece.{Piece}
+use Rattle.affine_segment.specs.Pieces.{StartsAtZero}
+use Rattle.affine_segment.specs.Reading.{read}
+use Rattle.affine_segment.specs.Values.{line_at}
+use Rattle.min_plus.specs.Convolution.{IsConvolution}
+use Rattle.element_envelope.specs.Copies.{IsLeastCopy, LowAtStarts}
+
+-- a piece continues the line before it, with a smaller slope
+pub record BendsDown (before : Option Line) (p : Piece) : Type 0 where
+  pub first : Line
+  pub second : Line
+  pub before_is : before ≡ Some first
+  pub line_is : p.line ≡ Some second
+  pub left : p.at ≡ Fin (line_at first p.x)
+  pub right : p.at ≡ Fin (line_at second p.x)
+  pub down : second.slope <ℚ first.slope
+
+-- some pieces, with none left out but such as bend down: before the first is the line `before`
+abbrev pub IsThinned : Option Line → List Piece → List Piece → Type 0
+IsThinned before [] qs = qs ≡ []
+IsThinned before (p ∷ ps) qs =
+    (BendsDown before p × IsThinned p.line ps qs) ⊎ ((rs : List Piece) × (qs ≡ p ∷ rs) × IsThinned p.line ps rs)
+
+-- of two functions that are at each start at most the limits beside it, the lesser of the copies of each at those
+-- starts of the other that are left is the convolution
+abbrev pub TurnsSuffice : Type 0
+TurnsSuffice =
+    (f g left right : List Piece) (t : ℚ) (v w : Ext) → StartsAtZero f → StartsAtZero g → LowAtStarts f → LowAtStarts g
+    → IsThinned None f left → IsThinned None g right → int (pos 0) ≤ℚ t → IsLeastCopy left g t v
+    → IsLeastCopy right f t w → IsConvolution (read f) (read g) t (min_ext v w)
