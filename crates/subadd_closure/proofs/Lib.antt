@@ -22,6 +22,8 @@ pub mod FoldShapes
 pub mod FoldLists
 pub mod FirstElements
 pub mod FoldMemory
+pub mod QuickLate
+pub mod QuickCurves
 pub mod FoldSteps
 pub mod WorkedSegments
 pub mod ClosedValues

@@ -9,4 +9,5 @@ pub mod Stars
 pub mod PartStars
 pub mod FoldWork
 pub mod FoldMemory
+pub mod QuickBounds
 pub mod SegmentLimits

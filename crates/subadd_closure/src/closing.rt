@@ -20,9 +20,9 @@ use crate::from_start::convolve_from;
 use crate::overlaps::own_gauge;
 use crate::part::elements;
 use crate::part_stars::element_star;
+use crate::star_convolution::convolve_stars;
 use affine_segment::Element;
 use curve_call::seen;
-use curve_conv::convolve;
 use fraction128::Frac;
 use rational::Extended;
 use std::alloc::Global;
@@ -52,7 +52,7 @@ fn with_star<L: Ledger>(
     ensures all { IfOk result (λ _. steps.new ≡ steps.old + (part_work (part_of f.now.tail e.now) + 1)) }
 {
     let star = element_star(alloc, f, gauge, e, steps)?;
-    seen(convolve(alloc, sofar, &star, steps))
+    seen(convolve_stars(alloc, sofar, &star, steps))
 }
 
 // The stars of some elements, convolved one after another.

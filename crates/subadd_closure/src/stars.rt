@@ -13,10 +13,10 @@ ghost use Rattle.affine_segment.specs.Fits.{LineFitsAt};
 ghost use Rattle.closure_elements.specs.ElementAnswers.{IsOpenPart};
 ghost use Rattle.subadd_closure.specs.Stars.{Copies, ElementWants, IsTurn, Lowers, MakesStar, StarOf, StarWants, turn_work};
 
+use crate::star_convolution::convolve_stars;
 use affine_segment::Line;
 use closure_elements::{lattice, origin, point_closure, segment_closure};
 use curve_call::seen;
-use curve_conv::convolve;
 use curve_pointwise::min;
 use fraction128::{Ext, Frac};
 use std::alloc::Global;
@@ -53,7 +53,7 @@ fn copied<L: Ledger>(
     ensures all { IfOk result (λ _. steps.new ≡ steps.old + 1) }
 {
     let points = lattice(alloc, turn.0, turn.1)?;
-    seen(convolve(alloc, c, &points, steps))
+    seen(convolve_stars(alloc, c, &points, steps))
 }
 
 // The star of an element, from its closure.
