@@ -1,7 +1,7 @@
 #!/usr/bin/env python3
 """Holds docs/network.schema.json to the examples, to the cases of tests/ and to a list of small faults.
 
-A file that the program accepts, or refuses only for what no schema can tell, must be valid; a file with a fault that a schema can tell must
+Each example names the schema in its first line. A file that the program accepts, or refuses only for what no schema can tell, must be valid; a file with a fault that a schema can tell must
 not be. Needs Python 3.11 with jsonschema (Debian: python3-jsonschema); without it nothing is tried, and it says so.
 """
 
@@ -95,7 +95,12 @@ def main():
             print(f"schema: {what}: {'refused' if wanted else 'accepted'}", file=sys.stderr)
 
     for path in sorted(TOP.glob("examples/**/*.toml")):
-        hold(path.relative_to(TOP), path.read_text(), True)
+        text = path.read_text()
+        hold(path.relative_to(TOP), text, True)
+        named = re.match("#:schema (.*)\n", text)
+        if not named or (path.parent / named[1]).resolve() != TOP / "docs/network.schema.json":
+            failed += 1
+            print(f"schema: {path.relative_to(TOP)}: its first line does not name the schema", file=sys.stderr)
     for path in sorted(TOP.glob("tests/*/*/*.toml")):
         try:
             tomllib.loads(path.read_text())
