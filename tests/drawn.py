@@ -1,10 +1,11 @@
 #!/usr/bin/env python3
 """Draws the pictures of docs/ and examples/ again and holds the kept ones to them.
 
-docs/port.svg and docs/crates.svg are compared byte for byte. The others are drawn by matplotlib (Debian: python3-matplotlib), by the first of this
-Python and /usr/bin/python3 that has it; where neither has, they are left out, and it says so. By the version that a kept picture names they are
-compared byte for byte; by another, which sets letters a little elsewhere, what is compared is the words that they show, in their order.
-`tests/drawn.py --write` puts the new ones in their places."""
+docs/port.svg and docs/crates.svg are compared byte for byte. The others are drawn by matplotlib (Debian:
+python3-matplotlib), by the first of this Python and /usr/bin/python3 that has it; where neither has, they are left out,
+and it says so. By the version that a kept picture names they are compared byte for byte; by another, which sets letters
+a little elsewhere, what is compared is the words that they show, in their order. `tests/drawn.py --write` puts the new
+ones in their places."""
 
 import importlib.util
 import os
@@ -39,7 +40,9 @@ def draw_all(folder):
 
     plot.draw_curves(kept("examples/tutorial/path.txt"), path("docs/path.svg"))
     plot.draw_bounds(dict(pages.blocks(kept("docs/TUTORIAL.md")))[SIMULATED], path("docs/run.svg"))
-    plot.draw_recorded(kept("examples/tutorial/meeting.csv"), TOP / "examples/tutorial/stair.toml", path("docs/recorded.svg"))
+    plot.draw_recorded(
+        kept("examples/tutorial/meeting.csv"), TOP / "examples/tutorial/stair.toml", path("docs/recorded.svg")
+    )
     for example, answer in ANSWERS.items():
         plot.draw_bounds(kept(f"examples/{example}/{answer}.txt"), path(f"examples/{example}/bounds.svg"))
 
@@ -65,7 +68,12 @@ def with_matplotlib():
         return True
     other = "/usr/bin/python3"
     if sys.executable != other and os.path.exists(other):
-        if subprocess.run([other, "-c", "import matplotlib, tomllib"], stderr=subprocess.DEVNULL, check=False).returncode == 0:
+        if (
+            subprocess.run(
+                [other, "-c", "import matplotlib, tomllib"], stderr=subprocess.DEVNULL, check=False
+            ).returncode
+            == 0
+        ):
             sys.stdout.flush()
             os.execv(other, [other, *sys.argv])
     return False
@@ -93,7 +101,10 @@ def main():
     if drawable:
         faults += [f"{path}: nothing draws it" for path in left]
     print("\n".join(faults), end="\n" if faults else "", file=sys.stderr)
-    print(f"pictures: {len(drawn) - len(faults)} as kept, {len(faults)} faults" + ("" if drawable else f", {len(left)} not tried, since matplotlib is missing"))
+    print(
+        f"pictures: {len(drawn) - len(faults)} as kept, {len(faults)} faults"
+        + ("" if drawable else f", {len(left)} not tried, since matplotlib is missing")
+    )
     return 1 if faults else 0
 
 

@@ -1,8 +1,9 @@
 #!/usr/bin/env python3
-"""Runs each command that docs/TUTORIAL.md and the pages of examples/ show: an indented line that begins with `$ `, whose answer stands below it,
-up to the next command or the end of the block; files in /tmp are in a folder of their own here. Then it runs each network, edit list, trace,
-recorded run and script of examples/ that has its answer beside it. Each network in a folder of examples/ has a trace, an edit list and their
-answers. Last it holds the lines at the head of the page of min_plus_algebra to the test that they are."""
+"""Runs each command that docs/TUTORIAL.md and the pages of examples/ show: an indented line that begins with `$ `,
+whose answer stands below it, up to the next command or the end of the block; files in /tmp are in a folder of their own
+here. Then it runs each network, edit list, trace, recorded run and script of examples/ that has its answer beside it.
+Each network in a folder of examples/ has a trace, an edit list and their answers. Last it holds the lines at the head
+of the page of min_plus_algebra to the test that they are."""
 
 import concurrent.futures
 import os
@@ -26,7 +27,8 @@ def blocks(text):
 
 
 def beside(command, pattern, suffix, network_of, answer_of):
-    """The command on each file of examples/ that fits, of its network where it is not one itself, with the answer that stands beside."""
+    """The command on each file of examples/ that fits, of its network where it is not one itself, with the answer that
+    stands beside."""
     for path in sorted(TOP.glob(f"examples/**/{pattern}")):
         stem = path.name.removesuffix(suffix)
         words = [path.with_name(network_of(stem)), path] if network_of else [path]
@@ -49,7 +51,8 @@ def wanted():
 
 
 def lacking():
-    """What an example's network lacks of its answer, its trace, its edits and the answers of these; the tutorial shows its own on its page."""
+    """What an example's network lacks of its answer, its trace, its edits and the answers of these; the tutorial shows
+    its own on its page."""
     for network in sorted(TOP.glob("examples/*/*.toml")):
         for ending in (".txt", "_trace.csv", "_run.txt", "_edits.csv", "_edits.txt"):
             path = network.with_name(network.stem + ending)
@@ -64,7 +67,8 @@ def is_a_test(crate):
 
 
 def tell(commands, folder):
-    """Runs commands one after the other, with their files of /tmp in a folder; a line for each that printed something else."""
+    """Runs commands one after the other, with their files of /tmp in a folder; a line for each that printed something
+    else."""
     told = []
     for place, command, shown in commands:
         moved = command.replace("/tmp/", f"{folder}/")

@@ -1,7 +1,9 @@
 #!/usr/bin/env python3
-"""Tries the tools of tools/ that stand outside the proved program: importer, rounding, sweep, and what the pictures are drawn from. Needs Python 3.11.
+"""Tries the tools of tools/ that stand outside the proved program: importer, rounding, sweep, and what the pictures are
+drawn from. Needs Python 3.11.
 
-The sweep over a Dask scheduler, with a worker that is ended half way, is tried where `distributed` is installed and --dask is given.
+The sweep over a Dask scheduler, with a worker that is ended half way, is tried where `distributed` is installed and
+--dask is given.
 """
 
 import contextlib
@@ -48,9 +50,12 @@ path = ["s1"]
 
 
 def tool(name, *words):
-    """A run of a tool, in this process, since a process of its own takes longer than most tests. A fault that it does not tell is the test's."""
+    """A run of a tool, in this process, since a process of its own takes longer than most tests. A fault that it does
+    not tell is the test's."""
     out, err = io.StringIO(), io.StringIO()
-    with unittest.mock.patch.object(sys, "argv", [name, *map(str, words)]), contextlib.redirect_stdout(out), contextlib.redirect_stderr(err):
+    with unittest.mock.patch.object(sys, "argv", [name, *map(str, words)]), contextlib.redirect_stdout(
+        out
+    ), contextlib.redirect_stderr(err):
         try:
             networks.ended(name.removesuffix(".py"), TOOLS[name].main)
         except SystemExit as end:
@@ -119,7 +124,11 @@ class Import(WithFolder):
             (LINKS.replace("1518", "x"), PORTS, "links.csv line 3: largest_frame 'x' is no whole number"),
             (LINKS, PORTS.replace("es1,100", "es1,-5"), "ports.csv line 2: rate -5 is not above 0"),
             (LINKS, PORTS.replace("priority 2", "edf"), "ports.csv line 3: discipline 'edf' is none of"),
-            (LINKS, PORTS.replace("priority 2", "drr 500 500"), "links.csv line 3: port sw1-p1: the quantum of queue 1"),
+            (
+                LINKS,
+                PORTS.replace("priority 2", "drr 500 500"),
+                "links.csv line 3: port sw1-p1: the quantum of queue 1",
+            ),
             (LINKS.replace("path\n", "way\n"), PORTS, "links.csv line 1: no column path"),
         ]:
             self.refused(told, "import_icd.py", self.file("links.csv", links), self.file("ports.csv", ports))
@@ -135,7 +144,10 @@ class Import(WithFolder):
             (b"vl1,1/0,200,,,es1", "line 2: bag: 1/0 has the denominator 0"),
             (b"vl1,1,200,-.5,,es1", "line 2: jitter '-.5' is no number"),
             (b"vl1,1,200,-0.5,,es1", "line 2: jitter -1/2 is below 0"),
-            (b"vl1," + 6000 * b"9" + b",200,,,es1", "line 2: bag: 9999999999999999999999999999999999999999.. (6000 characters) is above 2^127 - 1"),
+            (
+                b"vl1," + 6000 * b"9" + b",200,,,es1",
+                "line 2: bag: 9999999999999999999999999999999999999999.. (6000 characters) is above 2^127 - 1",
+            ),
             (b"vl1," + str(2**127 - 1).encode() + b",200,,,es1", "line 2: a number would be above 2^127 - 1"),
             (b"vl1,1," + 6000 * b"9" + b",,,es1", "line 2: largest_frame '99999"),
             (b"vl1,1,\0,,,es1", "line 2: "),
@@ -143,8 +155,16 @@ class Import(WithFolder):
             (b'vl1,1,200,,,"es1', "line 2: unexpected end of data"),
             (b"vl1,1,200,,,es1\n\nvl1,1,200,,,es1", "line 4: vl1 stands twice"),
         ]:
-            self.refused(told, "import_icd.py", self.file("links.csv", head.encode() + line + b"\n"), self.file("ports.csv", PORTS))
-        for table, told in [("", "line 1: no head line"), (LINKS.replace("bag", "name", 1), "line 1: two columns name")]:
+            self.refused(
+                told,
+                "import_icd.py",
+                self.file("links.csv", head.encode() + line + b"\n"),
+                self.file("ports.csv", PORTS),
+            )
+        for table, told in [
+            ("", "line 1: no head line"),
+            (LINKS.replace("bag", "name", 1), "line 1: two columns name"),
+        ]:
             self.refused(told, "import_icd.py", self.file("links.csv", table), self.file("ports.csv", PORTS))
         self.refused("absent.csv: No such file", "import_icd.py", "absent.csv", self.file("ports.csv", PORTS))
 
@@ -157,18 +177,28 @@ class Import(WithFolder):
         for words in ([], ["--buckets"]):
             path = self.file("n.toml", self.made(LINKS, PORTS, *words).stdout)
             piped = networks.load(self.file("p.toml", tool("round.py", path, "--grid", 4).stdout))
-            self.assertEqual(networks.load(self.file("g.toml", self.made(LINKS, PORTS, *words, "--grid", 4).stdout)), piped)
+            self.assertEqual(
+                networks.load(self.file("g.toml", self.made(LINKS, PORTS, *words, "--grid", 4).stdout)), piped
+            )
         afdx = TOP / "examples/afdx"
         run = tool("import_icd.py", "--buckets", "--grid", 4, afdx / "links.csv", afdx / "ports.csv")
         self.assertEqual(networks.load(self.file("a.toml", run.stdout)), networks.load(afdx / "grid.toml"))
-        self.refused("ports.csv line 2: the rate of es1: 1/8 would become 0", "import_icd.py", "--grid", 4, self.file("links.csv", LINKS),
-                     self.file("ports.csv", PORTS.replace("100", "0.125", 1)))
+        self.refused(
+            "ports.csv line 2: the rate of es1: 1/8 would become 0",
+            "import_icd.py",
+            "--grid",
+            4,
+            self.file("links.csv", LINKS),
+            self.file("ports.csv", PORTS.replace("100", "0.125", 1)),
+        )
 
 
 class Round(WithFolder):
     def test_bounds_grow_and_refusals_go(self):
         wide = "1000000000000000000000001/99999999999999999999997"
-        path = self.file("n.toml", TEMPLATE.replace("$rate", wide).replace("$period", "1000000000000000003/1000000000000007"))
+        path = self.file(
+            "n.toml", TEMPLATE.replace("$rate", wide).replace("$period", "1000000000000000003/1000000000000007")
+        )
         self.assertEqual(networks.analyse(path, PROGRAM).status, 6)
         run = tool("round.py", path, "--grid", 10)
         self.assertEqual(run.returncode, 0, run.stderr)
@@ -176,7 +206,9 @@ class Round(WithFolder):
 
     def test_numbers_go_the_safe_way(self):
         text = TEMPLATE.replace("$rate", "199/2").replace("$period", "999/2") + 'arrival.jitter = "1/3"\n'
-        text = text.replace('"stair", period = "999/2" }', '"stair", period = "999/2", jitter = "1/3" }').replace('arrival.jitter = "1/3"\n', "")
+        text = text.replace('"stair", period = "999/2" }', '"stair", period = "999/2", jitter = "1/3" }').replace(
+            'arrival.jitter = "1/3"\n', ""
+        )
         run = tool("round.py", self.file("n.toml", text))
         network = networks.load(self.file("r.toml", run.stdout))
         arrival = network["flow"][0]["arrival"]
@@ -184,7 +216,10 @@ class Round(WithFolder):
 
     def test_a_lower_rate_is_no_pace(self):
         for rate, version in (("199/2", 1), ("99", 2)):
-            run = tool("round.py", self.file("n.toml", "version = 2\n" + TEMPLATE.replace("$rate", rate).replace("$period", "1000")))
+            run = tool(
+                "round.py",
+                self.file("n.toml", "version = 2\n" + TEMPLATE.replace("$rate", rate).replace("$period", "1000")),
+            )
             self.assertEqual(networks.load(self.file("r.toml", run.stdout))["version"], version)
             self.assertEqual("version 1" in run.stderr, version == 1)
 
@@ -218,13 +253,22 @@ class Round(WithFolder):
         ]:
             self.refused(told, "round.py", self.file("n.toml", text))
         self.refused("absent.toml: No such file", "round.py", self.folder / "absent.toml")
-        self.refused("absent: No such file", "round.py", "--compare", "--program", self.folder / "absent", TOP / "examples/one_flow.toml")
+        self.refused(
+            "absent: No such file",
+            "round.py",
+            "--compare",
+            "--program",
+            self.folder / "absent",
+            TOP / "examples/one_flow.toml",
+        )
         for grid in ("0", "x", str(10**30)):
             self.assertEqual(tool("round.py", TOP / "examples/one_flow.toml", "--grid", grid).returncode, 2)
 
     def test_odd_texts_come_back(self):
         network = {"server": [{"name": 'a"\\\n\t\x7fé', "rate": 1, "odd key": [True, {"x": "y"}]}], "flow": []}
-        self.assertEqual(networks.load(self.file("n.toml", networks.dump(network, "a\x1bb"))), {"server": network["server"]})
+        self.assertEqual(
+            networks.load(self.file("n.toml", networks.dump(network, "a\x1bb"))), {"server": network["server"]}
+        )
 
 
 class WithVariants(WithFolder):
@@ -249,7 +293,10 @@ class Sweep(WithVariants):
         run = tool("sweep.py", *self.words)
         self.assertEqual(run.returncode, 0, run.stderr)
         table = self.table()
-        self.assertEqual([(row["rate"], row["period"], row["status"]) for row in table[4:]], [("100", "500", "0"), ("100", "1000", "0")])
+        self.assertEqual(
+            [(row["rate"], row["period"], row["status"]) for row in table[4:]],
+            [("100", "500", "0"), ("100", "1000", "0")],
+        )
         self.assertEqual([row["bound f1"] for row in table], ["unbounded", "616", "256", "256", "136", "136"])
 
     def test_it_goes_on_where_it_stopped(self):
@@ -289,7 +336,9 @@ class Sweep(WithVariants):
             self.refused(told, "sweep.py", template, self.file("p.csv", rows), *rest)
         rows = self.file("p.csv", "rate,period\n1,1\n")
         self.refused("t.toml: Invalid placeholder", "sweep.py", self.file("t.toml", "$rate $1"), rows, *rest)
-        self.refused("absent: No such file", "sweep.py", self.file("t.toml", TEMPLATE), rows, *rest[:-1], self.folder / "absent")
+        self.refused(
+            "absent: No such file", "sweep.py", self.file("t.toml", TEMPLATE), rows, *rest[:-1], self.folder / "absent"
+        )
         for words in (["--seconds", "0"], ["--seconds", "nan"], ["--workers", "0"]):
             self.assertEqual(tool("sweep.py", template, rows, *rest, *words).returncode, 2)
         self.assertEqual(tool("sweep.py", template, *rest).returncode, 2)
@@ -330,7 +379,11 @@ class Sweep(WithVariants):
         slow = [self.words[0], self.file("s.csv", "rate,period\n1,1\n"), *self.words[2:]]
         tool("sweep.py", *slow)
         self.refused("no variant has a bound", "sweep.py", *slow, "--plot", "rate", picture)
-        named = [self.file("n.toml", TEMPLATE.replace("f1", "$name")), self.file("n.csv", "rate,period,name\n100,500,x\n"), *self.words[2:]]
+        named = [
+            self.file("n.toml", TEMPLATE.replace("f1", "$name")),
+            self.file("n.csv", "rate,period,name\n100,500,x\n"),
+            *self.words[2:],
+        ]
         tool("sweep.py", *named)
         self.refused("variant 1: name is 'x', and no number", "sweep.py", *named, "--plot", "name", picture)
 
@@ -373,7 +426,12 @@ class Plot(WithFolder):
         self.assertEqual((level, reached - start), (1344, Fraction(19086, 25)))
 
     def test_a_gate_is_latest_behind_its_closed_time(self):
-        lines = ["piece 0 at 22 after 22 slope 1", "tail affine", "piece 0 at 0 after 0 slope 0", "piece 10 at 0 after 0 slope 8"]
+        lines = [
+            "piece 0 at 22 after 22 slope 1",
+            "tail affine",
+            "piece 0 at 0 after 0 slope 0",
+            "piece 10 at 0 after 0 slope 8",
+        ]
         text = "\n".join([*lines, "tail periodic 0 13 24", "delay 21", "backlog 32"]) + "\n"
         _, start, reached = plot.widest(*plot.read_curves(text)[0], Fraction(80))
         self.assertEqual(reached - start, 21)
@@ -396,7 +454,11 @@ class Plot(WithFolder):
             ("curves", first, "an answer with two curves shown"),
             ("curves", second, "line 1: the pieces before a tail"),
             ("curves", CURVES.replace("1344", "1/0"), "line 1: '1/0' is no number"),
-            ("curves", CURVES.replace("0 1000 1344", "0 0 1344"), "line 2: a periodic tail has a start, a period above 0"),
+            (
+                "curves",
+                CURVES.replace("0 1000 1344", "0 0 1344"),
+                "line 2: a periodic tail has a start, a period above 0",
+            ),
         ]:
             self.refused(told, "plot.py", what, self.file("answer", text), "-o", self.folder / "o.svg")
         self.refused("absent: No such file", "plot.py", "bounds", self.folder / "absent", "-o", self.folder / "o.svg")
@@ -413,7 +475,16 @@ class Plot(WithFolder):
             ("packet,0,video,1\n", "line 1: no row of a recorded run"),
             ('enter,0,"tracks,1\n', "line 1: unexpected end of data"),
         ]:
-            self.refused(told, "plot.py", "run", self.file("run.csv", text), "--net", TOP / "examples/tutorial/stair.toml", "-o", self.folder / "o.svg")
+            self.refused(
+                told,
+                "plot.py",
+                "run",
+                self.file("run.csv", text),
+                "--net",
+                TOP / "examples/tutorial/stair.toml",
+                "-o",
+                self.folder / "o.svg",
+            )
         for net, told in [
             ("nonsense", "no TOML"),
             ('[[flow]]\nname = "f"\npath = "s"\n', "path is not an array"),
@@ -424,14 +495,25 @@ class Plot(WithFolder):
 
     @unittest.skipIf(has("matplotlib"), "matplotlib is installed")
     def test_not_drawn(self):
-        self.refused("drawing needs matplotlib", "plot.py", "curves", self.file("answer", CURVES), "-o", self.folder / "o.svg")
+        self.refused(
+            "drawing needs matplotlib", "plot.py", "curves", self.file("answer", CURVES), "-o", self.folder / "o.svg"
+        )
 
     @unittest.skipUnless(has("matplotlib"), "matplotlib is not installed")
     def test_drawn(self):
-        report = "servers 1 flows 1\nqueue s1 0 delay unbounded backlog 0\nflow f1 tfa unbounded sfa unbounded bound unbounded\n"
-        seen = "servers 1 flows 1\nrun packets 1 end 130\nworst f1 120 bound unbounded\npeak s1 0 12000 bound unbounded\nbreach none\n"
-        flat = CURVES.splitlines()[:2] + ["piece 0 at 0 after 0 slope 0", "tail affine 0", "delay unbounded", "backlog unbounded"]
-        infinite = ["piece 0 at 0 after unbounded", "tail infinite 0"] + CURVES.splitlines()[2:5] + ["delay unbounded", "backlog unbounded"]
+        report = "queue s1 0 delay unbounded backlog 0\nflow f1 tfa unbounded sfa unbounded bound unbounded\n"
+        seen = "run packets 1 end 130\nworst f1 120 bound unbounded\npeak s1 0 12000 bound unbounded\nbreach none\n"
+        flat = CURVES.splitlines()[:2] + [
+            "piece 0 at 0 after 0 slope 0",
+            "tail affine 0",
+            "delay unbounded",
+            "backlog unbounded",
+        ]
+        infinite = (
+            ["piece 0 at 0 after unbounded", "tail infinite 0"]
+            + CURVES.splitlines()[2:5]
+            + ["delay unbounded", "backlog unbounded"]
+        )
         net = ["--net", TOP / "examples/tutorial/stair.toml"]
         for what, text, words, drawn in [
             ("bounds", report, [], "unbounded"),
@@ -448,10 +530,19 @@ class Plot(WithFolder):
             self.assertIn(drawn, picture.read_text())
         fine = self.file("answer", CURVES.replace("0 1000 1344", "0 1/1000 1344"))
         self.refused("too many to draw", "plot.py", "curves", fine, "-o", self.folder / "o.svg")
-        self.refused("Format 'xyz' is not supported", "plot.py", "bounds", self.file("answer", report), "-o", self.folder / "o.xyz")
+        self.refused(
+            "Format 'xyz' is not supported",
+            "plot.py",
+            "bounds",
+            self.file("answer", report),
+            "-o",
+            self.folder / "o.xyz",
+        )
 
     def test_run(self):
-        flows, queues = plot.read_run("servers 1 flows 1\nrun packets 1 end 130\nworst f1 120 bound 130\npeak s1 0 12000 bound unbounded\nbreach none\n")
+        flows, queues = plot.read_run(
+            "run packets 1 end 130\nworst f1 120 bound 130\npeak s1 0 12000 bound unbounded\nbreach none\n"
+        )
         self.assertEqual((flows, queues), ([("f1", 120, 130)], [("s1:0", 12000, None)]))
 
     def test_recorded(self):
@@ -460,7 +551,9 @@ class Plot(WithFolder):
         servers, flows, end = plot.read_recorded((TOP / "examples/tutorial/meeting.csv").read_text(), names, paths)
         self.assertEqual((flows, end), (["video", "tracks"], Fraction(11051, 25)))
         switch = servers["sw1-sw2"]
-        self.assertEqual(switch.works, [(0, Fraction(6957, 50), Fraction(13109, 50)), (1, Fraction(13109, 50), Fraction(605, 2))])
+        self.assertEqual(
+            switch.works, [(0, Fraction(6957, 50), Fraction(13109, 50)), (1, Fraction(13109, 50), Fraction(605, 2))]
+        )
         # as `check` says: its peak is 16336
         self.assertEqual(switch.holds(0, end)[1], [0, 12304, 16336, 4032, 0, 0])
 
@@ -482,7 +575,9 @@ class Distributed(WithVariants):
 
         rows = [f"{rate},{period}" for rate in range(20, 120) for period in (500, 1000)]
         self.words[1] = self.file("p.csv", "rate,period\n" + "\n".join(rows) + "\n")
-        with distributed.LocalCluster(n_workers=2, threads_per_worker=1, processes=True, dashboard_address=None) as cluster:
+        with distributed.LocalCluster(
+            n_workers=2, threads_per_worker=1, processes=True, dashboard_address=None
+        ) as cluster:
             first = next(iter(cluster.workers.values())).process.pid
             journal = self.folder / "out.csv.journal"
 

@@ -3,8 +3,9 @@
 
     tools/import_icd.py LINKS.csv PORTS.csv > network.toml
 
-Both are CSV with a head line; columns stand in any order, and other columns are left alone. Numbers are decimal or fractions ("1.5", "3/2"),
-and stay exact. The file is in microseconds and bits, so a rate in Mbit/s is the number of its bits in a microsecond.
+Both are CSV with a head line; columns stand in any order, and other columns are left alone. Numbers are decimal or
+fractions ("1.5", "3/2"), and stay exact. The file is in microseconds and bits, so a rate in Mbit/s is the number of its
+bits in a microsecond.
 
 LINKS.csv, a line a virtual link:
     name           a name of 1 to 32 letters, digits, _ and -
@@ -19,16 +20,18 @@ PORTS.csv, a line an output port (also those of end systems):
     rate           in Mbit/s
     latency        the longest technological latency, in microseconds (0 where it is empty)
     link           the delay of the cable behind it, in microseconds (0 where it is empty)
-    discipline     `fifo` (also where it is empty), `priority N` with N queues, or `drr Q0 Q1 ..` with the quantum of each queue in bytes
+    discipline     `fifo` (also where it is empty), `priority N` with N queues, or
+                   `drr Q0 Q1 ..` with the quantum of each queue in bytes
 
-`--buckets` describes each link by the token bucket above its stair (burst of one frame, and of what the jitter adds; rate of one frame a gap) in
-place of the stair itself: the bounds are a little greater, and networks whose gaps have a large common multiple are answered at once.
-`--grid N` rounds every number to a multiple of 1/N, links to more and ports to less, as round.py does with a file: each bound stays a bound.
+`--buckets` describes each link by the token bucket above its stair (burst of one frame, and of what the jitter adds;
+rate of one frame a gap) in place of the stair itself: the bounds are a little greater, and networks whose gaps have a
+large common multiple are answered at once. `--grid N` rounds every number to a multiple of 1/N, links to more and ports
+to less, as round.py does with a file: each bound stays a bound.
 
-A frame occupies the wire for longer than its bytes: preamble, start of frame and the gap behind it are 20 bytes on Ethernet, which
-`--overhead` sets. Tables are UTF-8. A fault ends it with status 1 and says the file, the line and what is wrong there. What the rules of network files ask for
-beyond a line (that servers exist, that a quantum is as long as a packet) is looked at here too, since a line of a table is easier to mend than
-a place of a made file.
+A frame occupies the wire for longer than its bytes: preamble, start of frame and the gap behind it are 20 bytes on
+Ethernet, which `--overhead` sets. Tables are UTF-8. A fault ends it with status 1 and says the file, the line and what
+is wrong there. What the rules of network files ask for beyond a line (that servers exist, that a quantum is as long as
+a packet) is looked at here too, since a line of a table is easier to mend than a place of a made file.
 """
 
 import argparse
@@ -55,7 +58,9 @@ def rows(path, columns):
                 head = head_of(cells, columns)
             elif any(cells):
                 if len(cells) > len(head):
-                    raise Fault(f"{len(cells)} cells under a head line of {len(head)}: a cell with a comma stands in double quotes")
+                    raise Fault(
+                        f"{len(cells)} cells under a head line of {len(head)}: a cell with a comma stands in quotes"
+                    )
                 cells += [""] * (len(head) - len(cells))
                 yield reader.line_num, dict(zip(head, cells))
         if head is None:
@@ -104,7 +109,9 @@ def amount(column, text, least, default=None):
 def whole(column, text, least, most):
     """A whole number of a column from `least` to `most`."""
     if not re.fullmatch("[0-9]{1,20}", text) or not least <= int(text) <= most:
-        raise Fault(f"{column} {shortened(text)!r} is no whole number from {least} to {most}" if text else f"{column} is empty")
+        raise Fault(
+            f"{column} {shortened(text)!r} is no whole number from {least} to {most}" if text else f"{column} is empty"
+        )
     return int(text)
 
 
@@ -199,7 +206,12 @@ def read_table(path, columns, make, most):
 
 def network_of(words):
     """The network of two files."""
-    servers = read_table(words.ports, ["name", "rate", "latency", "link", "discipline"], lambda row, taken: port(row, taken, words.grid), 64)
+    servers = read_table(
+        words.ports,
+        ["name", "rate", "latency", "link", "discipline"],
+        lambda row, taken: port(row, taken, words.grid),
+        64,
+    )
     flows = read_table(
         words.links,
         ["name", "bag", "largest_frame", "jitter", "priority", "path"],
@@ -213,7 +225,9 @@ def main():
     parser = argparse.ArgumentParser(description=__doc__, formatter_class=argparse.RawDescriptionHelpFormatter)
     parser.add_argument("links")
     parser.add_argument("ports")
-    parser.add_argument("--overhead", type=int, default=20, metavar="BYTES", help="bytes on the wire beside a frame's own (20)")
+    parser.add_argument(
+        "--overhead", type=int, default=20, metavar="BYTES", help="bytes on the wire beside a frame's own (20)"
+    )
     parser.add_argument("--buckets", action="store_true", help="describe each link by a token bucket")
     parser.add_argument("--grid", type=int, metavar="N", help="numbers become multiples of 1/N, in the safe direction")
     words = parser.parse_args()

@@ -1,4 +1,5 @@
-"""Network files as Python values, their text, and the program's answers: what the tools beside it share. Needs Python 3.11."""
+"""Network files as Python values, their text, and the program's answers: what the tools beside it share. Needs Python
+3.11."""
 
 import datetime
 import hashlib
@@ -31,7 +32,7 @@ def number(value):
     if isinstance(value, int) and not isinstance(value, bool):
         return Fraction(value)
     if not isinstance(value, str) or not NUMBER.fullmatch(value):
-        raise Fault(f"{value!r} is no number: write an integer, or a text \"p\" or \"p/q\"")
+        raise Fault(f'{value!r} is no number: write an integer, or a text "p" or "p/q"')
     parts = [part.lstrip("-0") or "0" for part in value.split("/")]
     if any(len(part) > 39 or int(part) > LARGEST for part in parts):
         raise Fault(f"{shortened(value)} is above 2^127 - 1")
@@ -46,7 +47,8 @@ def shortened(text):
 
 
 def written(value):
-    """A Fraction as a network file writes it: an integer of 64 bits where it is one, else a text; a Fault where it does not fit."""
+    """A Fraction as a network file writes it: an integer of 64 bits where it is one, else a text; a Fault where it does
+    not fit."""
     value = Fraction(value)
     if max(abs(value.numerator), value.denominator) > LARGEST:
         raise Fault("a number would be above 2^127 - 1")
@@ -66,7 +68,8 @@ def text_in(path):
 
 
 def load(path):
-    """The tables of a network file, with a name for each server and flow; a Fault where it is no TOML or no network at all."""
+    """The tables of a network file, with a name for each server and flow; a Fault where it is no TOML or no network at
+    all."""
     try:
         network = tomllib.loads(text_in(path))
     except (tomllib.TOMLDecodeError, RecursionError) as fault:
@@ -98,7 +101,8 @@ def hold_values(value, place):
 
 
 def member(table, place, key, kind, without=None):
-    """The value of a table's key, which has to be of a kind; a Fault where it is not, or is missing with nothing to stand for it."""
+    """The value of a table's key, which has to be of a kind; a Fault where it is not, or is missing with nothing to
+    stand for it."""
     value = table.get(key, without)
     if value is None:
         raise Fault(f"{place}{key} is missing")
@@ -110,7 +114,9 @@ def member(table, place, key, kind, without=None):
 def quoted(text):
     """A text as TOML writes it in a line."""
     escapes = {'"': '\\"', "\\": "\\\\"}
-    return '"' + "".join(escapes.get(sign, sign if sign.isprintable() else f"\\U{ord(sign):08X}") for sign in text) + '"'
+    return (
+        '"' + "".join(escapes.get(sign, sign if sign.isprintable() else f"\\U{ord(sign):08X}") for sign in text) + '"'
+    )
 
 
 def text_of(value):
@@ -145,7 +151,7 @@ def dump(network, head=""):
 
 
 class Answer:
-    """What a run of the program says: its status, its text, and the numbers of a report (None stands for `unbounded`)."""
+    """What a run of the program says: its status, its text, and the numbers of a report, None for `unbounded`."""
 
     def __init__(self, status, text):
         self.status = status
@@ -155,7 +161,9 @@ class Answer:
         for line in text.splitlines() if status == 0 else []:
             words = line.split()
             if words[0] == "flow":
-                self.flows[words[1]] = {key: bound(words[place]) for key, place in (("tfa", 3), ("sfa", 5), ("bound", 7))}
+                self.flows[words[1]] = {
+                    key: bound(words[place]) for key, place in (("tfa", 3), ("sfa", 5), ("bound", 7))
+                }
             if words[0] == "queue":
                 self.queues[words[1], int(words[2])] = {"delay": bound(words[4]), "backlog": bound(words[6])}
 
@@ -167,23 +175,30 @@ def bound(word):
 
 def analyse(path, program=PROGRAM, seconds=None):
     """The answer of `netcalc analyse PATH`; subprocess.TimeoutExpired where it takes longer than `seconds`."""
-    run = subprocess.run([str(program), "analyse", str(path)], capture_output=True, text=True, timeout=seconds, check=False)
+    run = subprocess.run(
+        [str(program), "analyse", str(path)], capture_output=True, text=True, timeout=seconds, check=False
+    )
     return Answer(run.returncode, run.stdout)
 
 
 def mark_of(program):
-    """What stands for a program in a journal: a hash of its file, and, where it is the launcher, of the sources that it runs."""
+    """What stands for a program in a journal: a hash of its file, and, where it is the launcher, of the sources that it
+    runs."""
     mark = hashlib.sha256(pathlib.Path(program).read_bytes())
     if pathlib.Path(program).resolve() == PROGRAM.resolve():
-        # Called once by itself first, so that a program that has to be built is built once. Without words it ends with 2.
-        if subprocess.run([str(program)], stdout=subprocess.DEVNULL, stdin=subprocess.DEVNULL, check=False).returncode != 2:
+        # Called once by itself first, so that a program that has to be built is built once. Without words it ends with
+        # 2.
+        if (
+            subprocess.run([str(program)], stdout=subprocess.DEVNULL, stdin=subprocess.DEVNULL, check=False).returncode
+            != 2
+        ):
             raise Fault(f"{program} has no program to run")
         mark.update(subprocess.run([str(TOP / "bin/sources")], capture_output=True, check=True).stdout)
     return mark.hexdigest()
 
 
 def ended(tool, main):
-    """Ends a tool with the status of its `main`, or with 1 and a line on the standard error that says what was wrong."""
+    """Ends a tool with the status of its `main`, or with 1 and a line on the standard error that says why."""
     try:
         status = main()
         sys.stdout.flush()

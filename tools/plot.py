@@ -1,23 +1,25 @@
 #!/usr/bin/env python3
 """Draws what netcalc printed. Needs matplotlib (Debian: python3-matplotlib).
 
-    tools/plot.py bounds ANSWER.txt -o OUT.svg     bars of an answer of `netcalc analyse`: each flow's bounds by total-flow and by separate-flow
-                                                   analysis, each queue's delay and backlog; or of `netcalc simulate`: the worst of the run
-                                                   beside the bound
-    tools/plot.py curves ANSWER.txt -o OUT.svg     two curves, an arrival curve and a service curve, with their horizontal and vertical deviation:
-                                                   of an answer of `netcalc curve` that has `show A`, `show B`, `delay A, B` and `backlog A, B`
-    tools/plot.py run RUN.csv --net NET -o OUT.svg a time line of a recorded run, as `netcalc check NET RUN.csv` reads it: at each server the works
-                                                   with the numbers of their packets, and the bits that each queue holds
+    tools/plot.py bounds ANSWER.txt -o OUT.svg
+        bars of an answer of `netcalc analyse` or `edit`: a flow's bounds by total-flow and by separate-flow analysis,
+        each queue's delay and backlog; or of `netcalc simulate` or `check`: the worst of the run beside the bound
+    tools/plot.py curves ANSWER.txt -o OUT.svg
+        two curves, an arrival curve and a service curve, with their horizontal and vertical deviation: of an answer of
+        `netcalc curve` that has `show A`, `show B`, `delay A, B` and `backlog A, B`
+    tools/plot.py run RUN.csv --net NET -o OUT.svg
+        a time line of a recorded run, as `netcalc check NET RUN.csv` reads it: at each server the works with the
+        numbers of their packets, and the bits that each queue holds
 
-ANSWER.txt and RUN.csv may be `-`, for the standard input. OUT ends with .svg or .png. An `unbounded` number is drawn as a bar to the edge, with the
-word. Of an answer only the printed numbers are read, so a picture shows what was proved of it and nothing else. A time line shows the rows that
-stand in the file: whether they are a run of the network `check` alone says. Drawing rounds numbers to the screen.
+ANSWER.txt and RUN.csv may be `-`, for the standard input. OUT ends with .svg or .png. An `unbounded` number is drawn as
+a bar to the edge, with the word. Of an answer only the printed numbers are read, so a picture shows what was proved of
+it and nothing else. A time line shows the rows that stand in the file: whether they are a run of the network `check`
+alone says. Drawing rounds numbers to the screen.
 """
 
 import argparse
 import csv
 import re
-import sys
 from fractions import Fraction
 
 from networks import Fault, ended, load, member, shortened, text_in
@@ -51,7 +53,7 @@ def read_lines(text, read):
 
 
 def drawing():
-    """matplotlib's figures, drawn without a screen; letters stay letters in an SVG, so it is small and can be searched."""
+    """matplotlib's figures, drawn without a screen; letters stay letters in an SVG, so it can be searched."""
     try:
         import matplotlib
     except ImportError:
@@ -74,7 +76,8 @@ def save(figure, path):
 
 
 def read_run(text):
-    """The flows and queues of an answer of `simulate` or `check`, as lists of names with the worst of the run and the bound."""
+    """The flows and queues of an answer of `simulate` or `check`, as lists of names with the worst of the run and the
+    bound."""
     flows, queues = [], []
 
     def read(words):
@@ -121,8 +124,17 @@ def bars(axes, names, columns, label):
         axes.barh(ys, [edge if value is None else value for value in values], height=height, color=colour, label=what)
         for y, value in zip(ys, values):
             word = "unbounded" if value is None else f"{value:.6g}"
-            axes.text(edge if value is None else value, y, f" {word}", va="center", ha="right" if value is None else "left", fontsize=7)
-    axes.set_yticks([row + height * (len(columns) - 1) / 2 for row in range(len(names))], names, fontsize=8, family="monospace")
+            axes.text(
+                edge if value is None else value,
+                y,
+                f" {word}",
+                va="center",
+                ha="right" if value is None else "left",
+                fontsize=7,
+            )
+    axes.set_yticks(
+        [row + height * (len(columns) - 1) / 2 for row in range(len(names))], names, fontsize=8, family="monospace"
+    )
     axes.set_xlim(0, edge * 1.1)
     axes.invert_yaxis()
     axes.set_xlabel(label)
@@ -148,7 +160,8 @@ class Curve:
             turns = 1
             while rank + turns * period <= end:
                 found += [
-                    (time + turns * period, at + turns * rise, None if after is None else after + turns * rise, slope) for time, at, after, slope in own
+                    (time + turns * period, at + turns * rise, None if after is None else after + turns * rise, slope)
+                    for time, at, after, slope in own
                 ]
                 turns += 1
         return [piece for piece in found if piece[0] <= end]
@@ -188,7 +201,8 @@ class Curve:
         return None
 
     def first_above(self, level, end):
-        """The first time up to `end` from which on the curve is above a level: the right end of a stretch at that level."""
+        """The first time up to `end` from which on the curve is above a level: the right end of a stretch at that
+        level."""
         times, values = self.line(end)
         for place, (time, value) in enumerate(zip(times, values)):
             if value > level:
@@ -268,15 +282,47 @@ def draw_curves(text, path):
         axes.plot([float(time) for time in times], [float(value) for value in values], color=colour, label=name)
     if delay != "unbounded" and (found := widest(arrival, service, end)):
         level, start, reached = found
-        axes.annotate("", (float(start), float(level)), (float(reached), float(level)), arrowprops={"arrowstyle": "<->", "color": GREEN})
-        axes.text(float((start + reached) / 2), float(level), f"delay {delay}", ha="center", va="bottom", color=GREEN, fontsize=9)
+        axes.annotate(
+            "",
+            (float(start), float(level)),
+            (float(reached), float(level)),
+            arrowprops={"arrowstyle": "<->", "color": GREEN},
+        )
+        axes.text(
+            float((start + reached) / 2),
+            float(level),
+            f"delay {delay}",
+            ha="center",
+            va="bottom",
+            color=GREEN,
+            fontsize=9,
+        )
     if backlog != "unbounded":
-        marks = sorted({time for curve in (arrival, service) for time in curve.line(end)[0] if arrival.near(time) and service.near(time)})
+        marks = sorted(
+            {
+                time
+                for curve in (arrival, service)
+                for time in curve.line(end)[0]
+                if arrival.near(time) and service.near(time)
+            }
+        )
         top = {time: max(arrival.near(time)) for time in marks}
         low = {time: min(service.near(time)) for time in marks}
         time = max(marks, key=lambda mark: top[mark] - low[mark])
-        axes.annotate("", (float(time), float(low[time])), (float(time), float(top[time])), arrowprops={"arrowstyle": "<->", "color": GREY})
-        axes.text(float(time), float((low[time] + top[time]) / 2), f" backlog {backlog}", va="center", color="black", fontsize=9)
+        axes.annotate(
+            "",
+            (float(time), float(low[time])),
+            (float(time), float(top[time])),
+            arrowprops={"arrowstyle": "<->", "color": GREY},
+        )
+        axes.text(
+            float(time),
+            float((low[time] + top[time]) / 2),
+            f" backlog {backlog}",
+            va="center",
+            color="black",
+            fontsize=9,
+        )
     axes.set_xlabel("time")
     axes.set_ylabel("bits")
     axes.set_xlim(0, float(end))
@@ -295,14 +341,25 @@ def draw_run(text, path):
 
     rows = [max(1, len(flows)), max(1, len(queues))]
     figure, (left, right) = plot.subplots(1, 2, figsize=(11, 1.2 + 0.32 * max(rows)), layout="constrained")
-    for axes, found, label in ((left, flows, "delay of a flow, end to end"), (right, queues, "backlog of a queue, in bits")):
+    for axes, found, label in (
+        (left, flows, "delay of a flow, end to end"),
+        (right, queues, "backlog of a queue, in bits"),
+    ):
         names = [name for name, _, _ in found]
-        bars(axes, names, [("worst of the run", [seen for _, seen, _ in found], GREY), ("bound", [bound for _, _, bound in found], BLUE)], label)
+        bars(
+            axes,
+            names,
+            [
+                ("worst of the run", [seen for _, seen, _ in found], GREY),
+                ("bound", [bound for _, _, bound in found], BLUE),
+            ],
+            label,
+        )
     save(figure, path)
 
 
 class Server:
-    """What a recorded run did at one server: its works, its visits, and when how many bits came to a queue or left it."""
+    """What a recorded run did at one server: its works, its visits, and when bits came to a queue or left it."""
 
     def __init__(self):
         self.works, self.visits, self.moves = [], [], {}
@@ -366,7 +423,9 @@ class Recorded:
                 self.packets.append((known("flow", flow, self.paths), float(exact(bits))))
                 self.move(next(iter(self.paths[flow])), len(self.packets) - 1, time, 1)
             case ["reach" | "leave" as what, time, server, packet]:
-                self.move(known("server", server, self.servers), self.packet(packet), time, 1 if what == "reach" else -1)
+                self.move(
+                    known("server", server, self.servers), self.packet(packet), time, 1 if what == "reach" else -1
+                )
             case ["work", server, packet, start, stop, _]:
                 work = self.packet(packet), exact(start), exact(stop)
                 self.servers[known("server", server, self.servers)].works.append(work)
@@ -392,7 +451,8 @@ def read_recorded(text, names, paths):
 
 
 def draw_works(axes, server, flows, colours, end):
-    """The strip of a server's works, with the numbers of their packets where there is room, and its visits: `v1` of queue 1."""
+    """The strip of a server's works, with the numbers of their packets where there is room, and its visits: `v1` of
+    queue 1."""
     for packet, start, stop in server.works:
         axes.broken_barh([(float(start), float(stop - start))], (0, 1), color=colours[flows[packet]], edgecolor="white")
         if stop - start > end / 60:
@@ -433,7 +493,14 @@ def draw_recorded(text, net, path):
     colours = {flow: FLOWS[place % len(FLOWS)] for place, flow in enumerate(paths)}
     rows = 2 * len(used)
     figure, all_axes = plot.subplots(
-        rows, 1, figsize=(10, 0.6 + 1.3 * len(used)), sharex=True, height_ratios=[1, 2.6] * len(used), squeeze=False, layout="constrained")
+        rows,
+        1,
+        figsize=(10, 0.6 + 1.3 * len(used)),
+        sharex=True,
+        height_ratios=[1, 2.6] * len(used),
+        squeeze=False,
+        layout="constrained",
+    )
     for place, (name, server) in enumerate(used.items()):
         works, queues = all_axes[2 * place][0], all_axes[2 * place + 1][0]
         draw_works(works, server, flows, colours, end)
@@ -441,8 +508,12 @@ def draw_recorded(text, net, path):
         draw_queues(queues, server, end)
     all_axes[-1][0].set_xlim(0, float(end) or 1)
     all_axes[-1][0].set_xlabel("time", fontsize=8)
-    handles = [plot.Rectangle((0, 0), 1, 1, color=colours[flow], label=f"works of {flow}") for flow in paths if flow in flows]
-    all_axes[0][0].legend(handles=handles, fontsize=8, ncol=6, loc="lower right", bbox_to_anchor=(1.0, 1.0), frameon=False)
+    handles = [
+        plot.Rectangle((0, 0), 1, 1, color=colours[flow], label=f"works of {flow}") for flow in paths if flow in flows
+    ]
+    all_axes[0][0].legend(
+        handles=handles, fontsize=8, ncol=6, loc="lower right", bbox_to_anchor=(1.0, 1.0), frameon=False
+    )
     save(figure, path)
 
 
@@ -459,7 +530,10 @@ def draw_bounds(text, path):
     rows = [max(1, len(flows)), max(1, len(queues))]
     figure, (left, middle, right) = plot.subplots(1, 3, figsize=(13, 1.2 + 0.32 * max(rows)), layout="constrained")
     names = [name for name, _, _ in flows]
-    columns = [("total-flow", [tfa for _, tfa, _ in flows], BLUE), ("separate-flow", [sfa for _, _, sfa in flows], GREY)]
+    columns = [
+        ("total-flow", [tfa for _, tfa, _ in flows], BLUE),
+        ("separate-flow", [sfa for _, _, sfa in flows], GREY),
+    ]
     bars(left, names, columns, "delay bound of a flow, end to end")
     names = [name for name, _, _ in queues]
     bars(middle, names, [("delay", [delay for _, delay, _ in queues], BLUE)], "delay bound of a queue")

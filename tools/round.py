@@ -3,19 +3,23 @@
 
     tools/round.py NET.toml --grid N > rounded.toml
 
-Every number becomes a multiple of 1/N, in the direction that is safe: bursts, arrival rates, jitters, latencies, cycles and links up; rates of
-servers, periods of stairs and slots of gates down. So who keeps the curves of the file keeps those of the rounded one (a run of the one is a run of
-the other but for the times of its links), every bound of the rounded file bounds the runs of the file, and sums of its numbers have small
-denominators. Listed curves stay as they are, and a line on the standard error names them. A file of version 2 says that no server works faster than its rate; where a rate is rounded down, that
-is no longer so, and the rounded file is of version 1, whose bounds hold for the runs of both: a line on the standard error tells it.
+Every number becomes a multiple of 1/N, in the direction that is safe: bursts, arrival rates, jitters, latencies, cycles
+and links up; rates of servers, periods of stairs and slots of gates down. So who keeps the curves of the file keeps
+those of the rounded one (a run of the one is a run of the other but for the times of its links), every bound of the
+rounded file bounds the runs of the file, and sums of its numbers have small denominators. Listed curves stay as they
+are, and a line on the standard error names them. A file of version 2 says that no server works faster than its rate;
+where a rate is rounded down, that is no longer so, and the rounded file is of version 1, whose bounds hold for the runs
+of both: a line on the standard error tells it.
 
-With `--compare` it runs the program on the file and on the rounded one, and prints for each flow both bounds and how much the rounded one is
-greater; where the file itself is refused, as too wide or too many, it is told so and only the new bounds stand there.
+With `--compare` it runs the program on the file and on the rounded one, and prints for each flow both bounds and how
+much the rounded one is greater; where the file itself is refused, as too wide or too many, it is told so and only the
+new bounds stand there.
 
-A file that is no network at all (no TOML, a float for a number, a key that rounding needs and that is missing) is refused with status 1 and a line.
+A file that is no network at all (no TOML, a float for a number, a key that rounding needs and that is missing) is
+refused with status 1 and a line.
 
-A coarse grid gives looser bounds and fewer refusals. Try a grid of 1 first, in the file's own units, and refine it by factors (10, 100) while
-the bounds still fall.
+A coarse grid gives looser bounds and fewer refusals. Try a grid of 1 first, in the file's own units, and refine it by
+factors (10, 100) while the bounds still fall.
 """
 
 import argparse
@@ -70,7 +74,7 @@ def kind_of(table, what, known):
 
 
 def round_server(server, grid):
-    """Rounds the numbers of a server in place: it gets slower. Says whether its service is a listed curve, which stays."""
+    """Rounds the numbers of a server in place: it gets slower. Says whether its service is a list, which stays."""
     name = server["name"]
     lower = lambda value: down(value, grid)
     higher = lambda value: up(from_zero_on(value), grid)
@@ -88,7 +92,7 @@ def round_server(server, grid):
 
 
 def round_flow(flow, grid):
-    """Rounds the numbers of a flow in place: it may send more. Says whether its arrival is a listed curve, which stays."""
+    """Rounds the numbers of a flow in place: it may send more. Says whether its arrival is a list, which stays."""
     name = flow["name"]
     arrival = member(flow, f"{name}: ", "arrival", dict)
     kind = kind_of(arrival, f"the arrival of {name}", ("bucket", "stair", "list"))

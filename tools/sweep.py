@@ -1,31 +1,37 @@
 #!/usr/bin/env python3
 """Runs the analysis on many variants of a network, and gathers their bounds in one table.
 
-    tools/sweep.py TEMPLATE.toml PARAMETERS.csv --table OUT.csv      a line of PARAMETERS.csv is a variant: each $NAME or ${NAME} of the
-                                                                     template becomes the text of the column NAME
-    tools/sweep.py FOLDER --table OUT.csv                            each *.toml of the folder is a variant
+    tools/sweep.py TEMPLATE.toml PARAMETERS.csv --table OUT.csv
+        a line of PARAMETERS.csv is a variant: each $NAME or ${NAME} of the template becomes the text of the column NAME
+    tools/sweep.py FOLDER --table OUT.csv
+        each *.toml of the folder is a variant
 
-Each variant is one run of the program, on all processors of this machine, or with `--scheduler ADDRESS` on the workers of a Dask scheduler
-(Debian: python3-distributed), which need the program at the same path. A variant that takes longer than `--seconds` is ended, and the table
-says `time`. Every answer is written down at once in OUT.csv.journal: started again, the study goes on with the variants that are missing there. An
-answer of another text of the variant or of another program does not count, nor one that a signal ended, and one that ran out of time only where
-there is no more time now. Two studies do not write one journal: the second is refused.
+Each variant is one run of the program, on all processors of this machine, or with `--scheduler ADDRESS` on the workers
+of a Dask scheduler (Debian: python3-distributed), which need the program at the same path. A variant that takes longer
+than `--seconds` is ended, and the table says `time`. Every answer is written down at once in OUT.csv.journal: started
+again, the study goes on with the variants that are missing there. An answer of another text of the variant or of
+another program does not count, nor one that a signal ended, and one that ran out of time only where there is no more
+time now. Two studies do not write one journal: the second is refused.
 
-The table has a line a variant, in their order: its name, the parameters, `status` (a status of the program, `time`, or `signal N`),
-`refusal` (its line), `seconds`, `largest` (the largest bound), and a column `bound FLOW` for each flow. Bounds are exact fractions.
+The table has a line a variant, in their order: its name, the parameters, `status` (a status of the program, `time`, or
+`signal N`), `refusal` (its line), `seconds`, `largest` (the largest bound), and a column `bound FLOW` for each flow.
+Bounds are exact fractions.
 
-`--plot COLUMN OUT.svg` draws the largest bound of each variant over a parameter, with the front of those that no other variant beats in both
-(needs matplotlib).
+`--plot COLUMN OUT.svg` draws the largest bound of each variant over a parameter, with the front of those that no other
+variant beats in both (needs matplotlib).
 
-Tried on 28 November 2026 with 10,000 variants of the network of examples/tutorial/study.template (100 rates, 100 latencies), on four processors that
-other work kept busy too (a load of 20 to 30):
+Tried on 28 November 2026 with 10,000 variants of the network of examples/tutorial/study.template (100 rates, 100
+latencies), on four processors that other work kept busy too (a load of 20 to 30):
 
-- Here, four programs at a time: 569.8 s, 17.6 variants a second. Each run took 0.2 s there, of which the program itself worked some 5 ms.
-- On a scheduler of Dask 2022.12 with two workers: stopped by Ctrl-C after 1,056, and started again; then 8,944 in 740.1 s, 12.1 a second, though one
-  worker was ended by SIGKILL after 5,004. Table and journal had each variant once, and but for the seconds the table was the same as here. One variant,
-  whose answer went with the worker, was run again.
+- Here, four programs at a time: 569.8 s, 17.6 variants a second. Each run took 0.2 s there, of which the program itself
+  worked some 5 ms.
+- On a scheduler of Dask 2022.12 with two workers on that machine: with one thread each, stopped by Ctrl-C after 1,056;
+  started again with four threads each, 8,944 in 740.1 s, 12.1 a second, though one worker was ended by SIGKILL after
+  5,004. Table and journal had each variant once, and but for the seconds the table was the same as here. What the
+  worker had under way, and one variant whose answer went with it, was run again.
 
-So 10,000 variants of such a size take minutes. Plan longer ones by a trial of a hundred: the bar shows how many a second there are.
+So 10,000 variants of such a size take minutes. Plan longer ones by a trial of a hundred: the bar shows how many a
+second there are.
 """
 
 import argparse
@@ -61,7 +67,9 @@ def answer_of(program, text, seconds):
     try:
         with open(path, "w", encoding="utf-8") as file:
             file.write(text)
-        run = subprocess.run([program, "analyse", "n.toml"], cwd=folder, capture_output=True, text=True, timeout=seconds, check=False)
+        run = subprocess.run(
+            [program, "analyse", "n.toml"], cwd=folder, capture_output=True, text=True, timeout=seconds, check=False
+        )
         status = str(run.returncode) if run.returncode >= 0 else f"signal {-run.returncode}"
         lines = [line.split() for line in run.stdout.splitlines()]
         refusal = run.stdout.strip() if run.returncode else ""
@@ -112,7 +120,8 @@ def variants_of(source, parameters):
 
 
 def still_holds(entry, mark, seconds):
-    """Whether an entry of the journal is of the same file and program, and of a program that ended by itself or had no less time."""
+    """Whether an entry of the journal is of the same file and program, and of a program that ended by itself or had no
+    less time."""
     ended_by_itself = entry["status"] != "time" and not entry["status"].startswith("signal")
     return entry["asked"] == mark and (ended_by_itself or entry["status"] == "time" and entry["limit"] >= seconds)
 
@@ -125,7 +134,10 @@ def journal_of(text):
             entry = json.loads(line)
         except json.JSONDecodeError:
             continue
-        if isinstance(entry, dict) and {"variant", "asked", "limit", "status", "refusal", "seconds", "bounds"} <= entry.keys():
+        if (
+            isinstance(entry, dict)
+            and {"variant", "asked", "limit", "status", "refusal", "seconds", "bounds"} <= entry.keys()
+        ):
             answers[entry["variant"]] = entry
     return answers
 
@@ -166,7 +178,8 @@ def local(tasks, words):
 
 
 def distributed(tasks, words):
-    """The answers of tasks as they come, from the workers of a Dask scheduler; a task whose worker is gone is given to another."""
+    """The answers of tasks as they come, from the workers of a Dask scheduler; a task whose worker is gone is given to
+    another."""
     try:
         from distributed import Client, as_completed
     except ImportError:
@@ -182,7 +195,8 @@ def distributed(tasks, words):
             try:
                 return name, future.result()
             except Exception as fault:
-                # As where each worker that had it is gone, or has no program at that path. What other variants gave is kept.
+                # As where each worker that had it is gone, or has no program at that path. What other variants gave is
+                # kept.
                 raise Fault(f"variant {name}: {type(fault).__name__}: {fault}") from None
 
         for name, text in tasks:
@@ -208,7 +222,9 @@ def study(words):
         file.seek(0)
         text = file.read()
         kept = journal_of(text).items()
-        answers = {name: entry for name, entry in kept if name in marks and still_holds(entry, marks[name], words.seconds)}
+        answers = {
+            name: entry for name, entry in kept if name in marks and still_holds(entry, marks[name], words.seconds)
+        }
         if text and not text.endswith("\n"):
             file.write("\n")
         tasks = [(name, text_of(name)) for name in variants if name not in answers]
@@ -246,7 +262,14 @@ def write_table(path, variants, answers):
             answer = answers[name]
             bounds = answer["bounds"]
             known = [answer["status"], answer["refusal"], answer["seconds"], largest(bounds)]
-            table.writerow([name, *(row.get(column, "") for column in parameters), *known, *(bounds.get(flow, "") for flow in flows)])
+            table.writerow(
+                [
+                    name,
+                    *(row.get(column, "") for column in parameters),
+                    *known,
+                    *(bounds.get(flow, "") for flow in flows),
+                ]
+            )
 
 
 def front_of(points):
@@ -315,7 +338,9 @@ def main():
     parser.add_argument("--table", required=True, metavar="OUT.csv")
     parser.add_argument("--program", default=str(PROGRAM), help="the program to run")
     parser.add_argument("--seconds", type=float, default=60, help="the time limit of a variant (60)")
-    parser.add_argument("--workers", type=int, default=os.cpu_count(), help="programs at a time on this machine (its processors)")
+    parser.add_argument(
+        "--workers", type=int, default=os.cpu_count(), help="programs at a time on this machine (its processors)"
+    )
     parser.add_argument("--scheduler", metavar="ADDRESS", help="a Dask scheduler, as tcp://host:8786")
     parser.add_argument("--plot", nargs=2, metavar=("COLUMN", "OUT.svg"))
     words = parser.parse_args()

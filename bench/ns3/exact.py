@@ -6,15 +6,17 @@
 
 No command of netcalc prints when a packet leaves, so two commands are asked of each run that ns-3 made.
 
-- `check` reads ns-3's run row by row: each packet's entry, its work from the first bit to the last at each server, its leave, its arrival behind
-  the link. The file is of version 2 and no server has a latency, so a server with work does exactly its rate: a run with a leave one nanosecond
-  sooner or later is unlawful or breaks a service. `admissible` says that each leave of ns-3 is the one that netcalc's definitions ask for. In one
-  run of each network the last packet is then moved by 1 ns, and `check` must refuse that.
-- `simulate` runs the same packets itself (first in first out alone): each flow's worst delay, each queue's greatest backlog and the end of the run
-  must be ns-3's.
+- `check` reads ns-3's run row by row: each packet's entry, its work from the first bit to the last at each server, its
+  leave, its arrival behind the link. The file is of version 2 and no server has a latency, so a server with work does
+  exactly its rate: a run with a leave one nanosecond sooner or later is unlawful or breaks a service. `admissible` says
+  that each leave of ns-3 is the one that netcalc's definitions ask for. In one run of each network the last packet is
+  then moved by 1 ns, and `check` must refuse that.
+- `simulate` runs the same packets itself (first in first out alone): each flow's worst delay, each queue's greatest
+  backlog and the end of the run must be ns-3's.
 
-Packets that come to a server at one time join in the order that docs/FORMATS.md gives: over links first, then by the trace. `rank listed` asks
-that of the harness. At priority servers ns-3 starts the first that joins, and `simulate` looks at all of them first; so there `check` alone is asked.
+Packets that come to a server at one time join in the order that docs/FORMATS.md gives: over links first, then by the
+trace. `rank listed` asks that of the harness. At priority servers ns-3 starts the first that joins, and `simulate`
+looks at all of them first; so there `check` alone is asked.
 """
 import argparse
 import json
@@ -60,8 +62,8 @@ def scenario(flows, name, order):
 
 
 def steps_of(flows, order, seen):
-    """What ns-3 saw, as rows of a recorded run in an order of steps that its servers took: at one time a server's leave, the start of a packet that
-    waited, then each packet that comes, and its start where it starts at once."""
+    """What ns-3 saw, as rows of a recorded run in an order of steps that its servers took: at one time a server's
+    leave, the start of a packet that waited, then each packet that comes, and its start where it starts at once."""
     counts = Counter()
     steps = []
     for number, (_, i, bits) in enumerate(order):
@@ -73,7 +75,9 @@ def steps_of(flows, order, seen):
             server, (arrive, start, leave, _) = record["server"], record["times"]
             assert record["bits"] == bits
             comes = (arrive, 2, hop == 0, number)
-            steps.append((comes, 0, f"enter,{arrive},{name},{bits}" if hop == 0 else f"reach,{arrive},{server},{number}"))
+            steps.append(
+                (comes, 0, f"enter,{arrive},{name},{bits}" if hop == 0 else f"reach,{arrive},{server},{number}")
+            )
             starts = comes if start == arrive else (start, 1, False, number)
             steps.append((starts, 1, f"work,{server},{number},{start},{leave},{bits}"))
             steps.append(((leave, 0, False, number), 0, f"leave,{leave},{server},{number}"))
@@ -82,7 +86,11 @@ def steps_of(flows, order, seen):
 
 def ends_of(flows, seen):
     """The last leave of a last server, and the end of the last link."""
-    last = [record["times"] for (name, _, hop), record in seen["hops"].items() if hop == len(flows_by_name(flows)[name]["path"]) - 1]
+    last = [
+        record["times"]
+        for (name, _, hop), record in seen["hops"].items()
+        if hop == len(flows_by_name(flows)[name]["path"]) - 1
+    ]
     return max(times[2] for times in last), max(times[3] for times in last)
 
 
@@ -93,7 +101,9 @@ def flows_by_name(flows):
 def moved(rows, end):
     """The rows with the last work of the run one nanosecond later, and its leave."""
     rows = list(rows)
-    place = max((k for k, row in enumerate(rows) if row.startswith("leave,")), key=lambda k: (int(rows[k].split(",")[1]), k))
+    place = max(
+        (k for k, row in enumerate(rows) if row.startswith("leave,")), key=lambda k: (int(rows[k].split(",")[1]), k)
+    )
     _, time, server, number = rows[place].split(",")
     work = next(k for k, row in enumerate(rows) if row.startswith(f"work,{server},{number},"))
     start, stop, bits = rows[work].split(",")[3:]
@@ -122,8 +132,14 @@ def differences(lines, seen, end):
     worst, peak, ends = numbers_of(lines)
     wanted = {name: flow["delay"] for name, flow in seen["flows"].items()}
     held = {place: queue["backlog"] for place, queue in seen["queues"].items()}
-    bad = [f"worst {name} {worst.get(name)} in place of {wanted[name]}" for name in wanted if worst.get(name) != wanted[name]]
-    bad += [f"peak {place} {peak.get(place)} in place of {held[place]}" for place in held if peak.get(place) != held[place]]
+    bad = [
+        f"worst {name} {worst.get(name)} in place of {wanted[name]}"
+        for name in wanted
+        if worst.get(name) != wanted[name]
+    ]
+    bad += [
+        f"peak {place} {peak.get(place)} in place of {held[place]}" for place in held if peak.get(place) != held[place]
+    ]
     return bad + ([] if ends == [end] else [f"end {ends} in place of {end}"]), len(wanted) + len(held) + 1
 
 
@@ -186,12 +202,29 @@ def one(seed, args):
     rng = random.Random(f"exact-{args.kind}-{seed}")
     until = campaign.horizon(net)
     orders = [fitting(flows, lambda end: [sources.greedy(flow, 0, end) for flow in flows], until)]
-    orders += [fitting(flows, lambda end: [sources.random_sends(flow, rng, end) for flow in flows], until) for _ in range(args.random)]
+    orders += [
+        fitting(flows, lambda end: [sources.random_sends(flow, rng, end) for flow in flows], until)
+        for _ in range(args.random)
+    ]
     orders = [order for order in orders if order]
     sim = convert.to_sim_head(net) + "".join(scenario(flows, f"r{k}", order) for k, order in enumerate(orders))
     result = Counter(packets=sum(map(len, orders))) | {"differences": []}
-    result = {**dict.fromkeys(("runs checked", "leaves", "numbers of check", "moved runs", "runs simulated", "numbers of simulate",
-                               "left out by check", "left out by simulate"), 0), **result}
+    result = {
+        **dict.fromkeys(
+            (
+                "runs checked",
+                "leaves",
+                "numbers of check",
+                "moved runs",
+                "runs simulated",
+                "numbers of simulate",
+                "left out by check",
+                "left out by simulate",
+            ),
+            0,
+        ),
+        **result,
+    }
     for k, seen in enumerate(campaign.simulate(folder, "exact", sim, trace=True)):
         one_run(args, folder, flows, orders[k], seen, result, spoil=k == 0)
     os.remove(os.path.join(folder, "exact.out"))
@@ -247,7 +280,11 @@ def main():
         if "skipped" not in result:
             done += 1
             bad += len(result["differences"])
-        print(seed, result.get("skipped") or f"leaves {result['leaves']} differences {result['differences'][:3]}", flush=True)
+        print(
+            seed,
+            result.get("skipped") or f"leaves {result['leaves']} differences {result['differences'][:3]}",
+            flush=True,
+        )
     print(f"networks {done} differences {bad}")
     return 1 if bad else 0
 
