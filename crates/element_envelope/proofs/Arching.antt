@@ -20,7 +20,7 @@ use Rattle.element_envelope.specs.ElementRoom.{SumEnd, SumElement, SumPart, SumJ
 use Rattle.element_envelope.specs.Arches.{IsBare, IsAround, Arches}
 
 -- ---- functions
-around_low : (T : ℕ) (end low high y h : ℚ) → IsAround T end low high y h → (low <ℚ y) × (y <ℚ high)
+pub around_low : (T : ℕ) (end low high y h : ℚ) → IsAround T end low high y h → (low <ℚ y) × (y <ℚ high)
 around_low T end low high y h A =
     let a = A.before in
     let b = A.after in
@@ -60,7 +60,7 @@ pub nothing_arches : (T : ℕ) (end : ℚ) → Arches T end (λ t. Inf)
 nothing_arches T end low high y h A = tt
 
 -- ---- elements
-infinite_middle : (x v : Ext) → v ≡ Inf → x ≤ₑ v +ₑ v
+pub infinite_middle : (x v : Ext) → v ≡ Inf → x ≤ₑ v +ₑ v
 infinite_middle x v e = subst (λ w. x ≤ₑ w +ₑ w) (sym e) (le_inf x)
 
 line_middle : (l : Line) (y h : ℚ) → line_at l (y -ℚ h) +ℚ line_at l (y +ℚ h) ≡ line_at l y +ℚ line_at l y
@@ -88,7 +88,7 @@ before_end : (z : Sizes) (end low high y t : ℚ) (to : Ext) → IsBare z.dt low
 before_end z end low high y t Inf bare b l E h = tt
 before_end z end low high y t (Fin e) bare b l E h = lt_le_trans l (inside_high z.dt low high y e bare b E.whole h)
 
-element_arches : (z : Sizes) (end last : ℚ) (e : Element) → SumElement z end e → Arches z.dt last (element_value e)
+pub element_arches : (z : Sizes) (end last : ℚ) (e : Element) → SumElement z end e → Arches z.dt last (element_value e)
 element_arches z end last (Point x v) E low high y h A = elim (value_cases (Point x v) y) [
   | inl k ↦ infinite_middle _ (element_value (Point x v) y) k
   | inr k ↦ let b = around_low z.dt last low high y h A in absurd (A.bare y b.0 b.1 (subst (Whole z.dt) (sym k) E.time.whole))

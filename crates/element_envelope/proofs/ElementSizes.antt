@@ -43,10 +43,10 @@ one_largest : (z : Sizes) → int (pos z.largest) ≡ times_largest 1 z
 one_largest z = sym (mul_comm (int (pos 1)) (int (pos z.largest)) ∙ mul_one (int (pos z.largest)))
 
 -- the rise of a slope up to a time of the window
-rise_whole : (z : Sizes) (end s x : ℚ) → IsSlope z s → WindowTime z end x → Whole (grid_of z) (s *ℚ x)
+pub rise_whole : (z : Sizes) (end s x : ℚ) → IsSlope z s → WindowTime z end x → Whole (grid_of z) (s *ℚ x)
 rise_whole z end s x h t = run_whole z s x h t.whole
 
-rise_within : (z : Sizes) (end s x : ℚ) → AreLimited z end → IsSlope z s → WindowTime z end x → Within (times_largest 1 z) (s *ℚ x)
+pub rise_within : (z : Sizes) (end s x : ℚ) → AreLimited z end → IsSlope z s → WindowTime z end x → Within (times_largest 1 z) (s *ℚ x)
 rise_within z end s x A h t = subst (λ m. Within m (s *ℚ x)) (one_largest z) (run_within z end s x A.sizes h t.nonneg t.early)
 
 -- ---- values of operands' lines
@@ -65,26 +65,40 @@ value_not_wide z end l x w A L t (inr h) =
 sum_not_wide : (z : Sizes) (end v u : ℚ) (w : Wide) → AreLimited z end → IsGridValue z v → IsGridValue z u → ¬ (IsWideSum v u w)
 sum_not_wide z end v u w A V U h = h.1 (values_fit z end v u A V U).0
 
-sum_stands : (z : Sizes) (v u : ℚ) → IsGridValue z v → IsGridValue z u → SumValue z (v +ℚ u)
+pub sum_stands : (z : Sizes) (v u : ℚ) → IsGridValue z v → IsGridValue z u → SumValue z (v +ℚ u)
 sum_stands z v u V U = let s = value_sum_stands z v u V U in record { whole = s.whole; within = s.within }
 
 -- ---- times
 -- the window's end is at most the largest value
 
-time_sum_fits : (z : Sizes) (end x y : ℚ) → AreLimited z end → WindowTime z end x → WindowTime z end y → SumFits x y
-time_sum_fits z end x y A X Y =
+-- the sum of two times of the window, and their difference
+time_ends : (z : Sizes) (end : ℚ) → AreLimited z end → ((z.dt ≤ 170141183460469231731687303715884105727)
+    × ((int (pos z.largest) +ℚ int (pos z.largest)) *ℚ int (pos z.dt) ≤ℚ int (pos 170141183460469231731687303715884105727)))
+time_ends z end A =
     let V = int (pos z.largest) in
     let n = (wide_narrow z end A).times in
     let v = A.sizes.largest in
     let one : 1 * z.dt ≤ z.largest * z.dt = mul-le-mul_right z.dt v in
     let e : (V +ℚ V) *ℚ int (pos z.dt) ≡ int (pos ((z.largest + z.largest) * z.dt)) =
-    ap (λ q. q *ℚ int (pos z.dt)) (int_add (pos z.largest) (pos z.largest)) ∙ int_mul (pos (z.largest + z.largest)) (pos z.dt) in
-    sum_on_grid z.dt V V x y A.sizes.dt (omega (arith, n, one))
-    (subst (λ q. q ≤ℚ int (pos 170141183460469231731687303715884105727)) (sym e) (nat_le ((z.largest + z.largest) * z.dt) 170141183460469231731687303715884105727 (omega (arith, n))))
-    X.whole Y.whole (in_window x X) (in_window y Y)
-  where
-    in_window : (t : ℚ) → WindowTime z end t → Within (int (pos z.largest)) t
-    in_window t T = within_nonneg (int (pos z.largest)) t T.nonneg (le_trans T.early (end_at_most z end A))
+    ap (λ q. q *ℚ int (pos z.dt)) (int_add (pos z.largest) (pos z.largest)) ∙ int_mul (pos (z.largest + z.largest)) (pos z.dt) in (
+      omega (arith, n, one),
+      subst (λ q. q ≤ℚ int (pos 170141183460469231731687303715884105727)) (sym e) (nat_le ((z.largest + z.largest) * z.dt) 170141183460469231731687303715884105727 (omega (arith, n))),
+    )
+
+in_window : (z : Sizes) (end t : ℚ) → AreLimited z end → WindowTime z end t → Within (int (pos z.largest)) t
+in_window z end t A T = within_nonneg (int (pos z.largest)) t T.nonneg (le_trans T.early (end_at_most z end A))
+
+time_sum_fits : (z : Sizes) (end x y : ℚ) → AreLimited z end → WindowTime z end x → WindowTime z end y → SumFits x y
+time_sum_fits z end x y A X Y =
+    let V = int (pos z.largest) in
+    let e = time_ends z end A in
+    sum_on_grid z.dt V V x y A.sizes.dt e.0 e.1 X.whole Y.whole (in_window z end x A X) (in_window z end y A Y)
+
+pub time_gap_fits : (z : Sizes) (end x y : ℚ) → AreLimited z end → WindowTime z end x → WindowTime z end y → SumFits x (neg_ℚ y)
+time_gap_fits z end x y A X Y =
+    let V = int (pos z.largest) in
+    let e = time_ends z end A in
+    sum_on_grid z.dt V V x (neg_ℚ y) A.sizes.dt e.0 e.1 X.whole (whole_neg z.dt y Y.whole) (in_window z end x A X) (within_neg V y (in_window z end y A Y))
 
 time_not_wide : (z : Sizes) (end x y : ℚ) (w : Wide) → AreLimited z end → WindowTime z end x → WindowTime z end y → ¬ (IsWideSum x y w)
 time_not_wide z end x y w A X Y h = h.1 (time_sum_fits z end x y A X Y)
@@ -97,7 +111,7 @@ ends_not_wide : (z : Sizes) (end : ℚ) (a b : Ext) (w : Wide) → AreLimited z 
 ends_not_wide z end Inf b w A X T h = h
 ends_not_wide z end (Fin x) b w A X T h = end_not_wide z end x b w A X T h
 
-time_sum : (z : Sizes) (end x y : ℚ) → WindowTime z end x → WindowTime z end y → SumTime z end (x +ℚ y)
+pub time_sum : (z : Sizes) (end x y : ℚ) → WindowTime z end x → WindowTime z end y → SumTime z end (x +ℚ y)
 time_sum z end x y X Y =
     let p = X.nonneg in
     let q = Y.nonneg in

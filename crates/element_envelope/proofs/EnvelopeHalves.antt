@@ -127,7 +127,7 @@ pub record LowerReady (end : ℚ) (f g : List Piece) : Type 0 where
   pub fits : LowerFits end f g
   pub joins : LowerJoins end f g
 
-lower_ready : (z : Sizes) (end : ℚ) (f g : List Piece) → AreLimited z end → SumWindow z end f → SumWindow z end g → LowerReady end f g
+pub lower_ready : (z : Sizes) (end : ℚ) (f g : List Piece) → AreLimited z end → SumWindow z end f → SumWindow z end g → LowerReady end f g
 lower_ready z end f g A F G = record {
   cuts = sum_cuts_fit z end f g A F G;
   fits = sum_lower_fits z end f g A F G;

@@ -131,12 +131,12 @@ early_reads (Open from to line) (Some (Point x v)) (Some (Open y end next)) t h 
     (λ w. not_le_of_lt (subst (λ z. t <ℚ z) (sym h.1) before) (le_of_lt w.past))
 
 -- ---- the starts
-record ListStarts (start : ℚ) (ps : List Piece) : Type 0 where
-  head : Piece
-  rest : List Piece
-  is : ps ≡ head ∷ rest
-  at : head.x ≡ start
-  rises : RisesFrom head.x rest
+pub record ListStarts (start : ℚ) (ps : List Piece) : Type 0 where
+  pub head : Piece
+  pub rest : List Piece
+  pub is : ps ≡ head ∷ rest
+  pub at : head.x ≡ start
+  pub rises : RisesFrom head.x rest
 
 end_rises : (x : ℚ) (end : Ext) → Fin x <ₑ end → RisesFrom x (after_end end)
 end_rises x Inf h = tt
@@ -178,13 +178,13 @@ lead_none start ps h = ap (λ z. z ++ ps) (lead_empty start h)
 lead_some : (start : ℚ) (ps : List Piece) → int (pos 0) <ℚ start → lead_of start ++ ps ≡ nothing_at (int (pos 0)) ∷ ps
 lead_some start ps h = ap (λ z. z ++ ps) (lead_one start h)
 
-lead_starts : (start : ℚ) (ps : List Piece) → int (pos 0) ≤ℚ start → ListStarts start ps → StartsAtZero (lead_of start ++ ps)
+pub lead_starts : (start : ℚ) (ps : List Piece) → int (pos 0) ≤ℚ start → ListStarts start ps → StartsAtZero (lead_of start ++ ps)
 lead_starts start ps low s = elim (le_or_lt start (int (pos 0))) [
   | inl h ↦ subst StartsAtZero (sym (lead_none start ps h ∙ s.is)) (s.at ∙ antisym (h, low), s.rises)
   | inr h ↦ subst StartsAtZero (sym (lead_some start ps h ∙ ap (λ z. nothing_at (int (pos 0)) ∷ z) s.is)) (refl, (subst (λ z. int (pos 0) <ℚ z) (sym s.at) h, s.rises))
 ]
 
-lead_reads : (start : ℚ) (ps : List Piece) (t : ℚ) (v : Ext) → int (pos 0) ≤ℚ t → ListStarts start ps → (t <ℚ start → v ≡ Inf) → (start ≤ℚ t → read ps t ≡ v)
+pub lead_reads : (start : ℚ) (ps : List Piece) (t : ℚ) (v : Ext) → int (pos 0) ≤ℚ t → ListStarts start ps → (t <ℚ start → v ≡ Inf) → (start ≤ℚ t → read ps t ≡ v)
     → read (lead_of start ++ ps) t ≡ v
 lead_reads start ps t v some s early late = elim (le_or_lt start (int (pos 0))) [
   | inl h ↦ ap (λ z. read z t) (lead_none start ps h) ∙ late (le_trans h some)

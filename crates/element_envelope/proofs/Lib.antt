@@ -13,3 +13,9 @@ pub mod EnvelopeHalves
 pub mod WindowConvolution
 pub mod ArchBends
 pub mod SumRoom
+pub mod StartSplits
+pub mod LeastCopies
+pub mod CopyReads
+pub mod CopyArches
+pub mod CopyWindows
+pub mod StartTests

@@ -37,11 +37,11 @@ use Rattle.affine_segment.proofs.PieceOrder.{each_append}
 use Rattle.upp_limits.proofs.PieceCounts.{upto_early}
 
 -- ---- pieces that may start past the end
-record LatePiece (z : Sizes) (p : Piece) : Type 0 where
-  whole : Whole z.dt p.x
-  nonneg : int (pos 0) ≤ℚ p.x
-  at : SumValueAt z p.x p.at
-  line : SumLineAt z p.line
+pub record LatePiece (z : Sizes) (p : Piece) : Type 0 where
+  pub whole : Whole z.dt p.x
+  pub nonneg : int (pos 0) ≤ℚ p.x
+  pub at : SumValueAt z p.x p.at
+  pub line : SumLineAt z p.line
 
 pub sum_value_on : (z : Sizes) (x v : ℚ) → SumValue z v → SumValueOn z x v
 sum_value_on z x v V = record {
@@ -77,7 +77,7 @@ list_stands z end j J = go j.first j.join j.second J.first J.join J.second
     go first (Some join) None F N S = part_stands z end first F
     go first (Some join) (Some second) F N S = each_append (LatePiece z) (first_pieces first) (turn_pieces join second) (first_stands z end first F) (turn_stands z end join second N S)
 
-lead_stands : (z : Sizes) (start : ℚ) → Each (LatePiece z) (lead_of start)
+pub lead_stands : (z : Sizes) (start : ℚ) → Each (LatePiece z) (lead_of start)
 lead_stands z start = by (le_q start (int (pos 0)))
   where
     by : (b : Bool) → Each (LatePiece z) (cond b [] (nothing_at (int (pos 0)) ∷ []))
@@ -88,7 +88,7 @@ window_stands : (z : Sizes) (end : ℚ) (j : Joined) → SumJoined z end j → E
 window_stands z end j J = each_append (LatePiece z) (lead_of (start_of j.first)) (joined_list j.first j.join j.second) (lead_stands z (start_of j.first)) (list_stands z end j J)
 
 -- ---- before the end
-early_piece : (z : Sizes) (end : ℚ) (p : Piece) → LatePiece z p → p.x <ℚ end → SumPiece z end p
+pub early_piece : (z : Sizes) (end : ℚ) (p : Piece) → LatePiece z p → p.x <ℚ end → SumPiece z end p
 early_piece z end p P early = record { start = record { place = inl P.whole; nonneg = P.nonneg; before = early }; at = P.at; line = P.line }
 
 pub pair_is : (end : ℚ) (a b : Element) (j : Joined) (ps : List Piece) → int (pos 0) <ℚ end → IsConvolved a b j → AreParts a b j → IsWindowOf j ps

@@ -9,3 +9,5 @@ pub mod WindowLaws
 pub mod Arches
 pub mod EnvelopeWindows
 pub mod ConvolutionWindows
+pub mod Copies
+pub mod CopyWindows

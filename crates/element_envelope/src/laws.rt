@@ -3,6 +3,7 @@
 ghost use Rattle.element_envelope.specs.ConvolutionLaws.{PiecesAreCovered, EnvelopeRules};
 ghost use Rattle.element_envelope.specs.ConvolutionLaws.{PairsConvolveWindows, PairsConvolveCurves};
 ghost use Rattle.element_envelope.specs.WindowLaws.{SumCutsFit, SumLowerFits, SumLowerIsOne};
+ghost use Rattle.element_envelope.specs.Copies.{StartsSuffice, CopyRules};
 ghost use Rattle.element_envelope.specs.RoomLaws.{ElementsStand, JoinedStand};
 
 /// The elements of pieces: each reads as the pieces at its times, and a time with a finite value is a time of exactly
@@ -35,4 +36,15 @@ pub fn sum_windows_have_a_lower()
     ensures cuts { SumCutsFit }
     ensures steps { SumLowerFits }
     ensures lower { SumLowerIsOne }
+{}
+
+/// Of two windows whose values at starts are at most the limits beside them, the convolution is among the sums of which
+/// one of both times is a start: the lesser of the copies of each at the starts of the other.
+pub fn starts_suffice()
+    ensures { StartsSuffice }
+{}
+
+/// How the least of copies comes from that of parts of the starts, and of one start.
+pub fn copies_join()
+    ensures { CopyRules }
 {}

@@ -19,8 +19,8 @@ use rational::Extended;
 use std::alloc::{AllocError, Global};
 use upp_normal::{count_before, merged};
 
-// The window that is infinite throughout.
-fn nothing(alloc: Global) -> Result<Vec<Piece>, AllocError>
+/// The window that is infinite throughout.
+pub(crate) fn nothing(alloc: Global) -> Result<Vec<Piece>, AllocError>
     ensures { IfOk result (λ v. v.items ≡ nothing_at (int (pos 0)) ∷ []) }
 {
     let mut pieces = Vec::new(alloc);
@@ -51,8 +51,8 @@ fn pair_window(alloc: Global, a: &Element, b: &Element, end: Frac) -> Result<Vec
     Ok(early(pieces, end))
 }
 
-// The lower of two windows, with neighbours joined that are one piece.
-fn lower_joined(
+/// The lower of two windows, with neighbours joined that are one piece.
+pub(crate) fn lower_joined(
     alloc: Global,
     f: &[Piece],
     g: &[Piece],

@@ -2,10 +2,12 @@
 #![tactic(auto)]
 
 mod convolved;
+mod copies;
 mod cutting;
 pub mod laws;
 mod least;
 mod pair;
+mod starts;
 mod window;
 
 pub use convolved::window_convolution;

@@ -113,8 +113,8 @@ fn start(e: &Element) -> Frac
     }
 }
 
-// Infinity from 0 on, up to a later start.
-fn lead(alloc: Global, start: Frac) -> Result<Vec<Piece>, AllocError>
+/// Infinity from 0 on, up to a later start.
+pub(crate) fn lead(alloc: Global, start: Frac) -> Result<Vec<Piece>, AllocError>
     ensures { IfOk result (λ v. v.items ≡ lead_of start) }
 {
     let mut pieces = Vec::new(alloc);

@@ -8,4 +8,5 @@ pub mod Tests
 pub mod Stars
 pub mod PartStars
 pub mod FoldWork
+pub mod FoldMemory
 pub mod SegmentLimits

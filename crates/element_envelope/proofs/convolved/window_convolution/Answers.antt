@@ -1,11 +1,8 @@
-use Rattle.std.proofs.Common.{◌∙◌}
-use Rattle.element_envelope.proofs.WindowConvolution.{elements_room, ok_convolves}
+use Rattle.element_envelope.proofs.CopyWindows.{first_operand, second_operand}
 use Rattle.element_envelope.proofs.convolved.window_convolution.Goals as goal
 
-pub envelope-requires : goal.envelope-requires
-envelope-requires c =
-    elements_room c.args.end c.args.f.now c.args.g.now c.deref.result.now c.deref-2.result.now (c.deref.ensures.value ∙ c.in_ok-xs.ensures) (c.deref-2.ensures.value ∙ c.in_ok-ys.ensures) c.requires
+pub are_low_at_starts-requires : goal.are_low_at_starts-requires
+are_low_at_starts-requires c = (c.args.end, first_operand c.args.end c.args.f.now c.args.g.now c.requires)
 
-pub returns : goal.returns
-returns c =
-    ok_convolves c.envelope.result c.args.end c.args.f.now c.args.g.now c.deref.result.now c.deref-2.result.now (c.deref.ensures.value ∙ c.in_ok-xs.ensures) (c.deref-2.ensures.value ∙ c.in_ok-ys.ensures) c.requires c.envelope.ensures
+pub are_low_at_starts-requires-2 : goal.are_low_at_starts-requires-2
+are_low_at_starts-requires-2 c = (c.args.end, second_operand c.args.end c.args.f.now c.args.g.now c.requires)
