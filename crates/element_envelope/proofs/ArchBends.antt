@@ -181,7 +181,7 @@ sides_cases (Some l) (Some m) (Fin v) x h S = elim (both_lines l m v x h S) [ in
 
 -- ---- neighbours
 -- a positive number that is at most both
-smaller : (a b : ℚ) → int (pos 0) <ℚ a → int (pos 0) <ℚ b → (m : ℚ) × (int (pos 0) <ℚ m) × (m ≤ℚ a) × (m ≤ℚ b)
+pub smaller : (a b : ℚ) → int (pos 0) <ℚ a → int (pos 0) <ℚ b → (m : ℚ) × (int (pos 0) <ℚ m) × (m ≤ℚ a) × (m ≤ℚ b)
 smaller a b h k = elim (le_or_lt a b) [
   | inl l ↦ (a, h, le_refl a, l)
   | inr l ↦ (b, k, le_of_lt l, le_refl b)

@@ -1,5 +1,5 @@
 -- A copy of an operand's window bends nowhere between the times of the grid.
-use Rattle.std.specs.Prelude.{◌≡◌, ℕ, ◌+◌, ◌*◌, ◌≤◌, pos, List}
+use Rattle.std.specs.Prelude.{◌≡◌, ◌+◌, ◌≤◌, pos, List}
 use Rattle.std.proofs.Common.{arith, sym, ap, ap₂, ◌∙◌, refl, subst, inl, inr}
 use Rattle.rational.specs.Rational.{ℚ, ◌+ℚ◌, ◌-ℚ◌, ◌≤ℚ◌, ◌<ℚ◌, int}
 use Rattle.rational.specs.Extended.{Ext, ◌≤ₑ◌, ◌+ₑ◌}
@@ -7,19 +7,19 @@ use Rattle.rational.specs.declared.Extended.TheVariants.{Fin, Inf}
 use Rattle.rational.specs.Grid.{Whole}
 use Rattle.rational.proofs.Grid.{whole_add, within_weaken}
 use Rattle.rational.proofs.Linear.{with2, with3, with4}
-use Rattle.rational.proofs.Laws.{le_or_lt, le_of_lt, le_refl, le_trans, le_lt_trans, lt_le_trans}
+use Rattle.rational.proofs.Laws.{le_or_lt, le_of_lt, le_trans, le_lt_trans}
 use Rattle.rational.proofs.ExtendedOrder.{same_le_ext, le_inf, le_ext_trans, le_ext_refl, add_le_ext}
 use Rattle.affine_segment.specs.declared.line.Piece.{Piece}
 use Rattle.affine_segment.specs.declared.element.Element.{Element}
 use Rattle.affine_segment.specs.declared.element.Element.TheVariants.{Point, Open}
-use Rattle.affine_segment.specs.Elements.{Covers, element_value}
+use Rattle.affine_segment.specs.Elements.{element_value}
 use Rattle.affine_segment.specs.Reading.{read}
 use Rattle.affine_segment.proofs.ElementValues.{value_in, value_cases}
 use Rattle.upp_limits.specs.Limits.{Sizes}
 use Rattle.upp_limits.specs.Sized.{times_largest}
-use Rattle.upp_normal.specs.Operand.{AreLimited, OperandPieces}
+use Rattle.upp_normal.specs.Operand.{OperandPieces}
 use Rattle.upp_normal.proofs.AnswerRoom.{more_largest}
-use Rattle.element_envelope.specs.Arches.{IsBare, IsAround, Arches}
+use Rattle.element_envelope.specs.Arches.{IsAround, Arches}
 use Rattle.element_envelope.specs.PieceElements.{elements_of, Among}
 use Rattle.element_envelope.specs.ElementRoom.{WindowTime, WindowEnd, OperandElement, SumTime, SumEnd, SumElement}
 use Rattle.element_envelope.proofs.Arching.{around_low, infinite_middle, element_arches}

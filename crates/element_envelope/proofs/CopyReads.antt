@@ -1,31 +1,30 @@
 -- A copy of an operand's window as pieces: what is read of it, where its pieces stand, and that its steps fit.
 use Rattle.std.specs.Prelude.{◌≡◌, ◌+◌, ◌*◌, ◌≤◌, pos, List, [], ◌∷◌, ◌++◌, Option, Some, None}
 use Rattle.std.proofs.Common.{arith, sym, ap, ◌∙◌, refl, subst, inl, inr}
-use Rattle.rational.specs.Rational.{ℚ, ◌+ℚ◌, ◌-ℚ◌, ◌*ℚ◌, ◌≤ℚ◌, ◌<ℚ◌, int, neg_ℚ}
-use Rattle.rational.specs.Extended.{Ext, ◌≤ₑ◌, ◌+ₑ◌}
+use Rattle.rational.specs.Rational.{ℚ, ◌+ℚ◌, ◌-ℚ◌, ◌*ℚ◌, ◌≤ℚ◌, ◌<ℚ◌, int}
+use Rattle.rational.specs.Extended.{Ext, ◌+ₑ◌}
 use Rattle.rational.specs.declared.Extended.TheVariants.{Fin, Inf}
-use Rattle.rational.specs.Grid.{Whole, Within}
 use Rattle.rational.proofs.Grid.{whole_add, whole_sub}
 use Rattle.rational.proofs.Linear.{with2, with3}
-use Rattle.rational.proofs.Laws.{le_or_lt, le_of_lt, le_refl, le_trans, add_comm}
+use Rattle.rational.proofs.Laws.{le_or_lt, lt_irrefl, lt_le_trans}
 use Rattle.affine_segment.specs.declared.line.Line.{Line}
 use Rattle.affine_segment.specs.declared.line.Piece.{Piece}
-use Rattle.affine_segment.specs.Pieces.{Each, RisesFrom, StartsAtZero}
+use Rattle.affine_segment.specs.Pieces.{Each, StartsAtZero}
 use Rattle.affine_segment.specs.Reading.{read, nothing_at}
 use Rattle.affine_segment.proofs.PieceOrder.{each_append}
 use Rattle.upp_curve.specs.Fitting.{LaterFits}
 use Rattle.upp_curve.specs.Unrolled.{line_later, later, each_later, upto}
 use Rattle.upp_curve.proofs.Unique.{upto_some}
 use Rattle.upp_limits.specs.Limits.{Sizes}
-use Rattle.upp_limits.specs.Sized.{grid_of, times_largest}
+use Rattle.upp_limits.specs.Sized.{grid_of}
 use Rattle.upp_normal.specs.Ahead.{GridValue, IsGridValue}
-use Rattle.upp_normal.specs.Operand.{AreLimited, OperandLine, OperandLineAt, OperandPiece, OperandPieces, answer_room}
+use Rattle.upp_normal.specs.Operand.{AreLimited, OperandLineAt, OperandPiece, OperandPieces, answer_room}
 use Rattle.upp_normal.proofs.AnswerRoom.{answer_is_room, operand_has_room, stands_operand_value, value_in_room}
 use Rattle.upp_normal.proofs.NormaliseLists.{rises_moved}
 use Rattle.upp_normal.proofs.NormaliseLoops.{later_none, later_some}
 use Rattle.upp_normal.proofs.NormaliseRoom.{later_fits}
 use Rattle.upp_normal.proofs.UnrolledValues.{read_later}
-use Rattle.element_envelope.specs.ElementRoom.{WindowTime, SumLine}
+use Rattle.element_envelope.specs.ElementRoom.{WindowTime}
 use Rattle.element_envelope.specs.JoinedWindows.{lead_of}
 use Rattle.element_envelope.specs.SumWindows.{SumValueAt, SumLineAt}
 use Rattle.element_envelope.proofs.ElementSizes.{sum_within, gap_within, rise_whole, rise_within, sum_stands}
@@ -56,17 +55,11 @@ copy_starts x v g low h = lead_starts x (each_later x v g) low (moved_starts x v
 -- infinity before the start, and from there on what the pieces are so much earlier, as much higher
 pub copy_before : (x v : ℚ) (g : List Piece) (t : ℚ) → StartsAtZero g → int (pos 0) ≤ℚ t → t <ℚ x → read (copy_pieces x v g) t ≡ Inf
 copy_before x v g t h low early =
-    lead_reads x (each_later x v g) t Inf low (moved_starts x v g h) (λ l. refl) (λ k. absurd (not_both x t early k))
-  where
-    not_both : (x t : ℚ) → t <ℚ x → x ≤ℚ t → ⊥
-    not_both x t a b = with2 x t (λ c. omega (arith, c.le, c.lt, c.same))
+    lead_reads x (each_later x v g) t Inf low (moved_starts x v g h) (λ l. refl) (λ k. absurd (lt_irrefl t (lt_le_trans early k)))
 
 pub copy_after : (x v : ℚ) (g : List Piece) (t : ℚ) → StartsAtZero g → int (pos 0) ≤ℚ t → x ≤ℚ t → read (copy_pieces x v g) t ≡ read g (t -ℚ x) +ₑ Fin v
 copy_after x v g t h low late =
-    lead_reads x (each_later x v g) t (read g (t -ℚ x) +ₑ Fin v) low (moved_starts x v g h) (λ l. absurd (not_both x t l late)) (λ k. read_later g x v t)
-  where
-    not_both : (x t : ℚ) → t <ℚ x → x ≤ℚ t → ⊥
-    not_both x t a b = with2 x t (λ c. omega (arith, c.le, c.lt, c.same))
+    lead_reads x (each_later x v g) t (read g (t -ℚ x) +ₑ Fin v) low (moved_starts x v g h) (λ l. absurd (lt_irrefl t (lt_le_trans l late))) (λ k. read_later g x v t)
 
 -- the copies that start before the end are the pieces of the copy that do
 pub lead_upto : (end x : ℚ) (ps : List Piece) → int (pos 0) <ℚ end → lead_of x ++ upto end ps ≡ upto end (lead_of x ++ ps)

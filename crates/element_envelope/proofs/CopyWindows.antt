@@ -1,14 +1,12 @@
 -- The window of the least of copies: of one start, and from those of two halves of the starts; and the convolution of it.
 use Rattle.std.specs.Prelude.{◌≡◌, ◌+◌, ◌≤◌, pos, List, [], ◌∷◌, ◌++◌, Option, None, Result, Ok, Err, IfOk, Vec}
-use Rattle.std.proofs.Common.{arith, sym, ap, ap₂, ◌∙◌, refl, subst, inl, inr, length, get_or, ◌<◌, Global}
-use Rattle.rational.specs.Rational.{ℚ, ◌+ℚ◌, ◌-ℚ◌, ◌≤ℚ◌, ◌<ℚ◌, int, neg_ℚ}
+use Rattle.std.proofs.Common.{arith, sym, ap, ◌∙◌, refl, subst, inl, inr, length, get_or, ◌<◌, Global}
+use Rattle.rational.specs.Rational.{ℚ, ◌-ℚ◌, ◌≤ℚ◌, ◌<ℚ◌, int, neg_ℚ}
 use Rattle.rational.specs.Ratio.{SumFits}
-use Rattle.rational.specs.Extended.{Ext, ◌+ₑ◌, min_ext}
+use Rattle.rational.specs.Extended.{◌+ₑ◌, min_ext}
 use Rattle.rational.specs.declared.Extended.TheVariants.{Fin, Inf}
-use Rattle.rational.specs.Grid.{Whole}
 use Rattle.rational.proofs.Grid.{whole_int}
 use Rattle.rational.proofs.Laws.{le_or_lt, le_of_lt, le_refl}
-use Rattle.rational.proofs.Bounds.{all_infinite}
 use Rattle.rational.proofs.ExtendedOrder.{add_ext_comm}
 use Rattle.affine_segment.specs.declared.line.Line.{Line}
 use Rattle.affine_segment.specs.declared.line.Piece.{Piece}
@@ -19,23 +17,21 @@ use Rattle.affine_segment.proofs.PieceOrder.{each_left}
 use Rattle.min_plus.specs.Convolution.{IsConvolution}
 use Rattle.upp_curve.specs.Fitting.{LaterFits}
 use Rattle.upp_curve.specs.Unrolled.{each_later, upto}
-use Rattle.upp_limits.specs.Limits.{Sizes}
 use Rattle.upp_limits.proofs.PieceCounts.{upto_early}
 use Rattle.upp_normal.specs.Ahead.{GridValue, IsGridValue}
-use Rattle.upp_normal.specs.Operand.{AreLimited, OperandPiece, OperandPieces}
+use Rattle.upp_normal.specs.Operand.{OperandPiece}
 use Rattle.upp_normal.proofs.AnswerRoom.{stands_operand_value}
 use Rattle.upp_normal.proofs.Below.{plain_upto}
 use Rattle.upp_normal.proofs.NormaliseCuts.{zero_upto, each_right}
 use Rattle.upp_normal.proofs.NormaliseLists.{each_upto}
 use Rattle.upp_normal.proofs.UnrolledPieces.{each_with}
 use Rattle.curve_window.specs.Lower.{IsLowerOf}
-use Rattle.element_envelope.specs.Arches.{Arches}
 use Rattle.element_envelope.specs.ConvolutionWindows.{OperandWindows, IsConvolutionWindow}
-use Rattle.element_envelope.specs.Copies.{StartSplit, start_sum, IsLeastCopy, LowAtStarts}
+use Rattle.element_envelope.specs.Copies.{IsLeastCopy, LowAtStarts}
 use Rattle.element_envelope.specs.CopyWindows.{CopyRoom, IsCopyWindow, HaveOperandRoom}
 use Rattle.element_envelope.specs.ElementRoom.{WindowTime}
 use Rattle.element_envelope.specs.JoinedWindows.{lead_of}
-use Rattle.element_envelope.specs.SumWindows.{SumPiece, SumWindow}
+use Rattle.element_envelope.specs.SumWindows.{SumPiece}
 use Rattle.element_envelope.specs.Turnings.{IsThinned}
 use Rattle.element_envelope.proofs.Arching.{same_arches, lesser_arches, nothing_arches}
 use Rattle.element_envelope.proofs.LeastCopies.{copy_rules}

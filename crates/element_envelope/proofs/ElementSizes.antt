@@ -1,5 +1,5 @@
 -- No step of the convolution of two elements of operands is too wide, and what they make stands on the call's grids.
-use Rattle.std.specs.Prelude.{◌≡◌, ℕ, ◌+◌, ◌*◌, ◌≤◌, ◌^◌, pos, [], ◌∷◌, Some}
+use Rattle.std.specs.Prelude.{◌≡◌, ℕ, ◌+◌, ◌*◌, ◌≤◌, pos, [], ◌∷◌, Some}
 use Rattle.std.proofs.Common.{arith, mul-le-mul_right, sym, ap, ◌∙◌, subst, inl, inr}
 use Rattle.rational.specs.Rational.{ℚ, ◌+ℚ◌, ◌-ℚ◌, ◌*ℚ◌, neg_ℚ, ◌≤ℚ◌, int}
 use Rattle.rational.specs.Ratio.{SumFits}
@@ -9,7 +9,7 @@ use Rattle.rational.specs.Grid.{Whole, Within}
 use Rattle.rational.proofs.Grid.{whole_add, whole_sub, whole_neg, within_add, within_sub, within_neg, within_weaken, within_nonneg, within_mul}
 use Rattle.rational.proofs.Sizes.{sum_on_grid}
 use Rattle.rational.proofs.Integers.{nat_nonneg, nat_le, int_mul, int_add}
-use Rattle.rational.proofs.Laws.{le_refl, le_trans, mul_le_mul, mul_le_mul_right, add_comm, add_mul, mul_add, mul_assoc, mul_one, mul_comm}
+use Rattle.rational.proofs.Laws.{le_refl, le_trans, mul_le_mul, add_comm, mul_add, mul_assoc, mul_one, mul_comm}
 use Rattle.rational.proofs.Linear.{with1, with2, with3, with_atoms}
 use Rattle.fraction128.specs.declared.fault.Wide.{Wide}
 use Rattle.affine_segment.specs.declared.line.Line.{Line}
@@ -26,7 +26,7 @@ use Rattle.upp_limits.specs.Sized.{IsSlope, grid_of, times_largest}
 use Rattle.upp_normal.specs.Ahead.{IsGridValue}
 use Rattle.upp_normal.specs.Operand.{AreLimited, OperandLine}
 use Rattle.upp_normal.proofs.AnswerRoom.{operand_line_value, values_fit, value_sum_stands, more_largest, many_more, wide_narrow}
-use Rattle.upp_limits.proofs.NarrowSizes.{IsNarrow, narrow_gauge, small_number, small_sum, run_whole, run_within}
+use Rattle.upp_limits.proofs.NarrowSizes.{small_number, small_sum, run_whole, run_within}
 use Rattle.element_envelope.specs.ElementRoom.{WindowTime, WindowEnd, OperandPoint, OperandSegment, OperandElement, SumTime, SumEnd, SumValue, SumLine, SumElement, SumJoined}
 use Rattle.upp_normal.proofs.StretchSizes.{end_at_most}
 

@@ -1,7 +1,7 @@
 -- Of a convolution of pieces whose values at starts are at most the limits beside them, the sums count of which one time is a start.
 use Rattle.std.specs.Prelude.{◌≡◌, ◌⊎◌, pos, List, [], ◌∷◌, Option, Some, None}
 use Rattle.std.proofs.Common.{arith, sym, ap, ap₂, ◌∙◌, refl, subst, inl, inr}
-use Rattle.rational.specs.Rational.{ℚ, ◌+ℚ◌, ◌-ℚ◌, ◌*ℚ◌, ◌≤ℚ◌, ◌<ℚ◌, int}
+use Rattle.rational.specs.Rational.{ℚ, ◌+ℚ◌, ◌-ℚ◌, ◌≤ℚ◌, ◌<ℚ◌, int}
 use Rattle.rational.specs.Extended.{Ext, ◌≤ₑ◌, ◌<ₑ◌, ◌+ₑ◌, min_ext}
 use Rattle.rational.specs.Families.{either}
 use Rattle.rational.specs.declared.Extended.TheVariants.{Fin, Inf}
@@ -14,11 +14,12 @@ use Rattle.affine_segment.specs.declared.line.Piece.{Piece}
 use Rattle.affine_segment.specs.Values.{line_at, line_value}
 use Rattle.affine_segment.specs.Pieces.{RisesFrom, StartsAtZero}
 use Rattle.affine_segment.specs.Reading.{read}
+use Rattle.affine_segment.proofs.Convolved.{back}
 use Rattle.affine_segment.proofs.PieceIn.{value_past, value_by, value_at_start, read_first, read_stop, read_go, read_one}
 use Rattle.affine_segment.proofs.LineValues.{line_found}
-use Rattle.min_plus.specs.Convolution.{Split, IsConvolution}
+use Rattle.min_plus.specs.Convolution.{Split}
 use Rattle.best_splits.proofs.LineSplits.{least_at_ends}
-use Rattle.element_envelope.specs.Copies.{IsPieceOf, StartSplit, start_sum, IsLeastCopy, LowAfter, LowAtStarts, StartsSuffice}
+use Rattle.element_envelope.specs.Copies.{IsPieceOf, StartSplit, start_sum, LowAfter, LowAtStarts, StartsSuffice}
 use Rattle.element_envelope.proofs.Members.{Matched, matched_out}
 
 -- ---- what is read of pieces
@@ -132,9 +133,6 @@ found_in (p ∷ ps) s a h L low is =
 abbrev sum_at : Line → Line → ℚ → ℚ → ℚ
 sum_at l m t x = line_at l x +ℚ line_at m (t -ℚ x)
 
-back : (t x : ℚ) → t -ℚ (t -ℚ x) ≡ x
-back t x = with2 t x (λ c. omega (arith, c.le, c.lt, c.same))
-
 turned : (l m : Line) (t x : ℚ) → sum_at m l t x ≡ sum_at l m t (t -ℚ x)
 turned l m t x = ap (λ y. line_at m y +ℚ line_at l (t -ℚ x)) (sym (back t x)) ∙ add_comm (line_at m (t -ℚ (t -ℚ x))) (line_at l (t -ℚ x))
 
@@ -176,6 +174,9 @@ first_early s u t y e h = subst (λ z. z -ℚ y ≤ℚ s) e (with3 s u y (λ c. 
 
 flipped : (t x y : ℚ) → t -ℚ y ≤ℚ x → t -ℚ x ≤ℚ y
 flipped t x y h = with3 t x y (λ c. omega (arith, c.le, c.lt, c.same))
+
+rest : (s u t : ℚ) → s +ℚ u ≡ t → t -ℚ s ≡ u
+rest s u t e = subst (λ z. z -ℚ s ≡ u) e (with2 s u (λ c. omega (arith, c.le, c.lt, c.same)))
 
 low_end : (f g : List Piece) (t s u : ℚ) (F : Inside f (int (pos 0)) s) (G : Inside g (int (pos 0)) u) → StartsAtZero f → StartsAtZero g → s +ℚ u ≡ t
     → IsLowEnd f g F.line G.line t s
@@ -229,23 +230,16 @@ on_lines f g t s u F G hf hg whole =
       | inl k ↦ lower f g t (sum_at l m t low.0) (sum_at l m t s) k low.2
       | inr k ↦ lower f g t (sum_at l m t (t -ℚ high.0)) (sum_at l m t s) k other
     ])
-  where
-    rest : (s u t : ℚ) → s +ℚ u ≡ t → t -ℚ s ≡ u
-    rest s u t e = subst (λ z. z -ℚ s ≡ u) e (with2 s u (λ c. omega (arith, c.le, c.lt, c.same)))
 
 -- ---- any split
 first_at : (f g : List Piece) (t a b : ℚ) (s : Split t) → StartsAtZero f → IsStart f s.first → read f s.first ≡ Fin a → read g s.second ≡ Fin b → IsStartBelow f g t (a +ℚ b)
 first_at f g t a b s hf (q, among, at) x y =
-    let e : s.first +ℚ s.second ≡ t = s.whole in
     let left : t -ℚ q.x ≡ s.second = ap (λ z. t -ℚ z) at ∙ rest s.first s.second t s.whole in
     let value : q.at ≡ Fin a = sym (start_is f q hf among).1 ∙ ap (read f) at ∙ x in (
       inl record { piece = q; among = among; late = subst (λ z. z ≤ℚ t) (sym at) (part_at_most s.first s.second t s.whole s.second_nonneg) },
       same_le_ext (ap₂ (λ (v w : Ext). v +ₑ w) value (ap (read g) left ∙ y)),
     )
   where
-    rest : (s u t : ℚ) → s +ℚ u ≡ t → t -ℚ s ≡ u
-    rest s u t e = subst (λ z. z -ℚ s ≡ u) e (with2 s u (λ c. omega (arith, c.le, c.lt, c.same)))
-
     part_at_most : (s u t : ℚ) → s +ℚ u ≡ t → int (pos 0) ≤ℚ u → s ≤ℚ t
     part_at_most s u t e h = subst (λ z. s ≤ℚ z) e (with2 s u (λ c. omega (arith, c.le, c.lt, c.same)))
 

@@ -6,20 +6,44 @@ use Rattle.rational.specs.Extended.{Ext, ◌≤ₑ◌, ◌<ₑ◌, ◌+ₑ◌, m
 use Rattle.rational.specs.Families.{either}
 use Rattle.rational.specs.declared.Extended.TheVariants.{Fin, Inf}
 use Rattle.rational.proofs.Linear.{with2, with3, with4}
-use Rattle.rational.proofs.Laws.{le_or_lt, le_of_lt, le_refl, le_trans, lt_le_trans, le_lt_trans, lt_irrefl, antisym, add_comm, half, half_is, half_pos, mul_add, mul_sub, mul_zero, mul_lt_mul_right}
-use Rattle.rational.proofs.ExtendedOrder.{same_le_ext, le_inf, le_ext_trans, le_ext_total, le_ext_refl, le_of_lt_ext, fin_same, finite_sum, finite_below, add_le_ext, add_ext_comm}
+use Rattle.rational.proofs.Laws.{le_or_lt, le_of_lt, le_refl, le_trans, lt_le_trans, le_lt_trans, lt_irrefl, add_comm, half, half_is, half_pos, mul_add, mul_sub, mul_lt_mul_right}
+use Rattle.rational.proofs.ExtendedOrder.{same_le_ext, le_ext_trans, le_ext_total, le_ext_refl, le_of_lt_ext, fin_same, finite_sum, finite_below, add_le_ext, add_ext_comm}
 use Rattle.rational.proofs.Bounds.{infimum_union}
 use Rattle.affine_segment.specs.declared.line.Line.{Line}
 use Rattle.affine_segment.specs.declared.line.Piece.{Piece}
 use Rattle.affine_segment.specs.Values.{line_at, line_value}
 use Rattle.affine_segment.specs.Pieces.{RisesFrom, StartsAtZero}
 use Rattle.affine_segment.specs.Reading.{read}
-use Rattle.affine_segment.proofs.PieceIn.{value_past, value_by, read_first, read_stop, read_go, read_one}
-use Rattle.min_plus.specs.Convolution.{Split, IsConvolution}
-use Rattle.element_envelope.specs.Copies.{IsPieceOf, StartSplit, start_sum, IsLeastCopy, LowAtStarts}
+use Rattle.affine_segment.proofs.Convolved.{back}
+use Rattle.affine_segment.proofs.PieceIn.{value_past, read_stop, read_go, read_one}
+use Rattle.min_plus.specs.Convolution.{Split}
+use Rattle.element_envelope.specs.Copies.{IsPieceOf, StartSplit, start_sum, LowAtStarts}
 use Rattle.element_envelope.specs.Turnings.{BendsDown, IsThinned, TurnsSuffice}
+use Rattle.element_envelope.proofs.ArchBends.{smaller}
 use Rattle.element_envelope.proofs.Members.{Matched, matched_out}
-use Rattle.element_envelope.proofs.StartSplits.{start_is, IsStart, Inside, found_in, IsStartBelow, any_split, turned_split, start_split}
+use Rattle.element_envelope.proofs.StartSplits.{start_is, Inside, found_in, any_split, turned_split, start_split}
+
+-- ---- lines
+apart : (a b : ℚ) → a <ℚ b → int (pos 0) <ℚ b -ℚ a
+apart a b h = with2 a b (λ c. omega (arith, c.le, c.lt, c.same))
+
+line_down : (l : Line) (x d v : ℚ) → v ≡ line_at l x → line_at l (x -ℚ d) ≡ v -ℚ l.slope *ℚ d
+line_down l x d v e = ap (λ z. l.icept +ℚ z) (mul_sub l.slope x d) ∙ regroup l.icept (l.slope *ℚ x) (l.slope *ℚ d) ∙ ap (λ z. z -ℚ l.slope *ℚ d) (sym e)
+  where
+    regroup : (a b c : ℚ) → a +ℚ (b -ℚ c) ≡ (a +ℚ b) -ℚ c
+    regroup a b c = with3 a b c (λ k. omega (arith, k.le, k.lt, k.same))
+
+line_up : (l : Line) (x d v : ℚ) → v ≡ line_at l x → line_at l (x +ℚ d) ≡ v +ℚ l.slope *ℚ d
+line_up l x d v e = ap (λ z. l.icept +ℚ z) (mul_add l.slope x d) ∙ regroup l.icept (l.slope *ℚ x) (l.slope *ℚ d) ∙ ap (λ z. z +ℚ l.slope *ℚ d) (sym e)
+  where
+    regroup : (a b c : ℚ) → a +ℚ (b +ℚ c) ≡ (a +ℚ b) +ℚ c
+    regroup a b c = with3 a b c (λ k. omega (arith, k.le, k.lt, k.same))
+
+past : (x d : ℚ) → int (pos 0) <ℚ d → x <ℚ x +ℚ d
+past x d h = with2 x d (λ c. omega (arith, c.le, c.lt, c.same))
+
+one_pos : int (pos 0) <ℚ int (pos 1)
+one_pos = with2 (int (pos 0)) (int (pos 1)) (λ c. omega (arith, c.le, c.lt, c.same))
 
 -- ---- a function at most two lines beside a time
 -- d before s, up to h, it is at most v less d times the slope; it is looked at from `first` on
@@ -52,25 +76,18 @@ record Bent (F : ℚ → Ext) (first s v : ℚ) : Type 0 where
 even_of : (F : ℚ → Ext) (first s v : ℚ) → Bent F first s v → Even F first s v
 even_of F first s v B = record { left = B.left; right = B.right; falls = le_of_lt B.down; before = B.before; after = B.after }
 
--- a time within both rooms
-small_time : (a b : ℚ) → int (pos 0) <ℚ a → int (pos 0) <ℚ b → (d : ℚ) × (int (pos 0) <ℚ d) × (d ≤ℚ a) × (d ≤ℚ b)
-small_time a b p q = elim (le_or_lt a b) [ inl h ↦ (a, p, le_refl a, h) | inr h ↦ (b, q, le_of_lt h, le_refl b) ]
-
 -- a split whose sum is less
 abbrev IsBetter : (F G : ℚ → Ext) (t m : ℚ) → Type 0
 IsBetter F G t m = (s : Split t) × (x : ℚ) × (F s.first +ₑ G s.second ≤ₑ Fin x) × (x <ℚ m)
 
-steeper : (a b d : ℚ) → int (pos 0) <ℚ d → a <ℚ b → a *ℚ d <ℚ b *ℚ d
-steeper a b d some l = mul_lt_mul_right d some l
-
-later_better : (F G : ℚ → Ext) (first t s u v w a b : ℚ) → s +ℚ u ≡ t → int (pos 0) ≤ℚ s → After F s v a → Before G (int (pos 0)) u w b → a <ℚ b → IsBetter F G t (v +ℚ w)
-later_better F G first t s u v w a b whole nonneg A B l =
-    let k = small_time A.h B.h A.some B.some in
+later_better : (F G : ℚ → Ext) (t s u v w a b : ℚ) → s +ℚ u ≡ t → int (pos 0) ≤ℚ s → After F s v a → Before G (int (pos 0)) u w b → a <ℚ b → IsBetter F G t (v +ℚ w)
+later_better F G t s u v w a b whole nonneg A B l =
+    let k = smaller A.h B.h A.some B.some in
     let d = k.0 in (
       record { first = s +ℚ d; second = u -ℚ d; first_nonneg = up s d nonneg k.1; second_nonneg = down u d B.h B.room k.3; whole = same s u d ∙ whole },
       (v +ℚ a *ℚ d) +ℚ (w -ℚ b *ℚ d),
       add_le_ext (F (s +ℚ d)) (Fin (v +ℚ a *ℚ d)) (G (u -ℚ d)) (Fin (w -ℚ b *ℚ d)) (A.below d k.1 k.2) (B.below d k.1 k.3),
-      less v w (a *ℚ d) (b *ℚ d) (steeper a b d k.1 l),
+      less v w (a *ℚ d) (b *ℚ d) (mul_lt_mul_right d k.1 l),
     )
   where
     up : (s d : ℚ) → int (pos 0) ≤ℚ s → int (pos 0) <ℚ d → int (pos 0) ≤ℚ s +ℚ d
@@ -92,10 +109,10 @@ turn_better F G t m n e (s, x, h, l) = (turned_split t s, x, subst (λ v. v ≤�
 -- where the one bends down and the other's slope does not rise
 bent_better : (F G : ℚ → Ext) (t s u v w : ℚ) → s +ℚ u ≡ t → int (pos 0) ≤ℚ s → int (pos 0) ≤ℚ u → Bent F (int (pos 0)) s v → Even G (int (pos 0)) u w → IsBetter F G t (v +ℚ w)
 bent_better F G t s u v w whole low high B E = elim (le_or_lt E.left B.right) [
-  | inr l ↦ later_better F G (int (pos 0)) t s u v w B.right E.left whole low B.after E.before l
+  | inr l ↦ later_better F G t s u v w B.right E.left whole low B.after E.before l
   | inl l ↦
       turn_better F G t (w +ℚ v) (v +ℚ w) (add_comm w v)
-      (later_better G F (int (pos 0)) t u s w v E.right B.left (add_comm u s ∙ whole) high E.after B.before (le_lt_trans E.falls (le_lt_trans l B.down)))
+      (later_better G F t u s w v E.right B.left (add_comm u s ∙ whole) high E.after B.before (le_lt_trans E.falls (le_lt_trans l B.down)))
 ]
 
 -- ---- on a line
@@ -108,35 +125,17 @@ inside_even ps s v I e = record {
     h = s -ℚ I.low.x;
     some = apart I.low.x s I.early;
     room = subst (λ z. int (pos 0) ≤ℚ z) (sym (back s I.low.x)) I.from;
-    below = λ d p q. subst (λ z. read ps (s -ℚ d) ≤ₑ Fin z) (line_before I.line s d v e)
+    below = λ d p q. subst (λ z. read ps (s -ℚ d) ≤ₑ Fin z) (line_down I.line s d v (sym e))
         (I.below (s -ℚ d) (flipped s d I.low.x q) (le_ext_trans (Fin (s -ℚ d)) (Fin s) I.high (down s d p) (le_of_lt_ext (Fin s) I.high I.late)));
   };
   after = by I.high refl;
 }
   where
-    apart : (a b : ℚ) → a <ℚ b → int (pos 0) <ℚ b -ℚ a
-    apart a b h = with2 a b (λ c. omega (arith, c.le, c.lt, c.same))
-
-    back : (t x : ℚ) → t -ℚ (t -ℚ x) ≡ x
-    back t x = with2 t x (λ c. omega (arith, c.le, c.lt, c.same))
-
     flipped : (s d x : ℚ) → d ≤ℚ s -ℚ x → x ≤ℚ s -ℚ d
     flipped s d x h = with3 s d x (λ c. omega (arith, c.le, c.lt, c.same))
 
     down : (s d : ℚ) → int (pos 0) <ℚ d → s -ℚ d ≤ℚ s
     down s d h = with2 s d (λ c. omega (arith, c.le, c.lt, c.same))
-
-    line_before : (l : Line) (s d v : ℚ) → line_at l s ≡ v → line_at l (s -ℚ d) ≡ v -ℚ l.slope *ℚ d
-    line_before l s d v e = ap (λ z. l.icept +ℚ z) (mul_sub l.slope s d) ∙ regroup l.icept (l.slope *ℚ s) (l.slope *ℚ d) ∙ ap (λ z. z -ℚ l.slope *ℚ d) e
-      where
-        regroup : (a b c : ℚ) → a +ℚ (b -ℚ c) ≡ (a +ℚ b) -ℚ c
-        regroup a b c = with3 a b c (λ k. omega (arith, k.le, k.lt, k.same))
-
-    line_after : (l : Line) (s d v : ℚ) → line_at l s ≡ v → line_at l (s +ℚ d) ≡ v +ℚ l.slope *ℚ d
-    line_after l s d v e = ap (λ z. l.icept +ℚ z) (mul_add l.slope s d) ∙ regroup l.icept (l.slope *ℚ s) (l.slope *ℚ d) ∙ ap (λ z. z +ℚ l.slope *ℚ d) e
-      where
-        regroup : (a b c : ℚ) → a +ℚ (b +ℚ c) ≡ (a +ℚ b) +ℚ c
-        regroup a b c = with3 a b c (λ k. omega (arith, k.le, k.lt, k.same))
 
     up : (x s d : ℚ) → x <ℚ s → int (pos 0) <ℚ d → x ≤ℚ s +ℚ d
     up x s d h k = with3 x s d (λ c. omega (arith, c.le, c.lt, c.same))
@@ -145,14 +144,11 @@ inside_even ps s v I e = record {
     after_to h some room = record {
       h = h;
       some = some;
-      below = λ d p q. subst (λ z. read ps (s +ℚ d) ≤ₑ Fin z) (line_after I.line s d v e) (I.below (s +ℚ d) (up I.low.x s d I.early p) (room d q));
+      below = λ d p q. subst (λ z. read ps (s +ℚ d) ≤ₑ Fin z) (line_up I.line s d v (sym e)) (I.below (s +ℚ d) (up I.low.x s d I.early p) (room d q));
     }
 
     reached : (s d x : ℚ) → d ≤ℚ x -ℚ s → s +ℚ d ≤ℚ x
     reached s d x h = with3 s d x (λ c. omega (arith, c.le, c.lt, c.same))
-
-    one_pos : int (pos 0) <ℚ int (pos 1)
-    one_pos = with2 (int (pos 0)) (int (pos 1)) (λ c. omega (arith, c.le, c.lt, c.same))
 
     by : (b : Ext) → I.high ≡ b → After (read ps) s v I.line.slope
     by Inf k = after_to (int (pos 1)) one_pos (λ d q. subst (λ z. Fin (s +ℚ d) ≤ₑ z) (sym k) tt)
@@ -164,18 +160,9 @@ inside_even ps s v I e = record {
 after_start : (r : Piece) (rs : List Piece) (l : Line) (v : ℚ) → RisesFrom r.x rs → r.line ≡ Some l → v ≡ line_at l r.x → After (read (r ∷ rs)) r.x v l.slope
 after_start r [] l v h line is = record {
   h = int (pos 1);
-  some = with2 (int (pos 0)) (int (pos 1)) (λ c. omega (arith, c.le, c.lt, c.same));
-  below = λ d p q. same_le_ext (read_one r (r.x +ℚ d) ∙ value_past r (r.x +ℚ d) (up r.x d p) ∙ ap (λ o. line_value o (r.x +ℚ d)) line ∙ ap Fin (line_on l r.x d v is));
+  some = one_pos;
+  below = λ d p q. same_le_ext (read_one r (r.x +ℚ d) ∙ value_past r (r.x +ℚ d) (past r.x d p) ∙ ap (λ o. line_value o (r.x +ℚ d)) line ∙ ap Fin (line_up l r.x d v is));
 }
-  where
-    up : (x d : ℚ) → int (pos 0) <ℚ d → x <ℚ x +ℚ d
-    up x d h = with2 x d (λ c. omega (arith, c.le, c.lt, c.same))
-
-    line_on : (l : Line) (x d v : ℚ) → v ≡ line_at l x → line_at l (x +ℚ d) ≡ v +ℚ l.slope *ℚ d
-    line_on l x d v e = ap (λ z. l.icept +ℚ z) (mul_add l.slope x d) ∙ regroup l.icept (l.slope *ℚ x) (l.slope *ℚ d) ∙ ap (λ z. z +ℚ l.slope *ℚ d) (sym e)
-      where
-        regroup : (a b c : ℚ) → a +ℚ (b +ℚ c) ≡ (a +ℚ b) +ℚ c
-        regroup a b c = with3 a b c (λ k. omega (arith, k.le, k.lt, k.same))
 after_start r (n ∷ rs) l v h line is =
     let room = half (n.x -ℚ r.x) in
     let some = half_pos (apart r.x n.x h.0) in
@@ -184,24 +171,12 @@ after_start r (n ∷ rs) l v h line is =
       some = some;
       below = λ d p q.
           same_le_ext
-          (read_stop r n rs (r.x +ℚ d) (before r.x n.x d room (half_is (n.x -ℚ r.x)) some q) ∙ value_past r (r.x +ℚ d) (up r.x d p)
-          ∙ ap (λ o. line_value o (r.x +ℚ d)) line ∙ ap Fin (line_on l r.x d v is));
+          (read_stop r n rs (r.x +ℚ d) (before r.x n.x d room (half_is (n.x -ℚ r.x)) some q) ∙ value_past r (r.x +ℚ d) (past r.x d p)
+          ∙ ap (λ o. line_value o (r.x +ℚ d)) line ∙ ap Fin (line_up l r.x d v is));
     }
   where
-    apart : (a b : ℚ) → a <ℚ b → int (pos 0) <ℚ b -ℚ a
-    apart a b h = with2 a b (λ c. omega (arith, c.le, c.lt, c.same))
-
     before : (x n d room : ℚ) → room +ℚ room ≡ n -ℚ x → int (pos 0) <ℚ room → d ≤ℚ room → x +ℚ d <ℚ n
     before x n d room e p q = with4 x n d room (λ c. omega (arith, c.le, c.lt, c.same))
-
-    up : (x d : ℚ) → int (pos 0) <ℚ d → x <ℚ x +ℚ d
-    up x d h = with2 x d (λ c. omega (arith, c.le, c.lt, c.same))
-
-    line_on : (l : Line) (x d v : ℚ) → v ≡ line_at l x → line_at l (x +ℚ d) ≡ v +ℚ l.slope *ℚ d
-    line_on l x d v e = ap (λ z. l.icept +ℚ z) (mul_add l.slope x d) ∙ regroup l.icept (l.slope *ℚ x) (l.slope *ℚ d) ∙ ap (λ z. z +ℚ l.slope *ℚ d) (sym e)
-      where
-        regroup : (a b c : ℚ) → a +ℚ (b +ℚ c) ≡ (a +ℚ b) +ℚ c
-        regroup a b c = with3 a b c (λ k. omega (arith, k.le, k.lt, k.same))
 
 -- a piece more in front is not looked at past the second start
 after_more : (p r : Piece) (rs : List Piece) (s v slope : ℚ) → r.x ≤ℚ s → After (read (r ∷ rs)) s v slope → After (read (p ∷ r ∷ rs)) s v slope
@@ -237,23 +212,14 @@ before_start p r rs l v h line is =
       below = λ d a b.
           same_le_ext
           (read_stop p r rs (r.x -ℚ d) (down r.x d a) ∙ value_past p (r.x -ℚ d) (within p.x r.x d room (half_is (r.x -ℚ p.x)) some b)
-          ∙ ap (λ o. line_value o (r.x -ℚ d)) line ∙ ap Fin (line_on l r.x d v is));
+          ∙ ap (λ o. line_value o (r.x -ℚ d)) line ∙ ap Fin (line_down l r.x d v is));
     }
   where
-    apart : (a b : ℚ) → a <ℚ b → int (pos 0) <ℚ b -ℚ a
-    apart a b h = with2 a b (λ c. omega (arith, c.le, c.lt, c.same))
-
     within : (p r d room : ℚ) → room +ℚ room ≡ r -ℚ p → int (pos 0) <ℚ room → d ≤ℚ room → p <ℚ r -ℚ d
     within p r d room e a b = with4 p r d room (λ c. omega (arith, c.le, c.lt, c.same))
 
     down : (x d : ℚ) → int (pos 0) <ℚ d → x -ℚ d <ℚ x
     down x d h = with2 x d (λ c. omega (arith, c.le, c.lt, c.same))
-
-    line_on : (l : Line) (x d v : ℚ) → v ≡ line_at l x → line_at l (x -ℚ d) ≡ v -ℚ l.slope *ℚ d
-    line_on l x d v e = ap (λ z. l.icept +ℚ z) (mul_sub l.slope x d) ∙ regroup l.icept (l.slope *ℚ x) (l.slope *ℚ d) ∙ ap (λ z. z -ℚ l.slope *ℚ d) (sym e)
-      where
-        regroup : (a b c : ℚ) → a +ℚ (b -ℚ c) ≡ (a +ℚ b) -ℚ c
-        regroup a b c = with3 a b c (λ k. omega (arith, k.le, k.lt, k.same))
 
 -- a start with a piece before it is kept, or bends down
 abbrev IsBentAt : List Piece → ℚ → Piece → Type 0
@@ -377,9 +343,6 @@ settled f g left right t v w p hf hg lg tf tg among late at rest least = by (sta
 
     whole : (x t : ℚ) → x +ℚ (t -ℚ x) ≡ t
     whole x t = with2 x t (λ c. omega (arith, c.le, c.lt, c.same))
-
-    back : (t x : ℚ) → t -ℚ (t -ℚ x) ≡ x
-    back t x = with2 t x (λ c. omega (arith, c.le, c.lt, c.same))
 
     less : (x t : ℚ) → int (pos 0) ≤ℚ x → t -ℚ x ≤ℚ t
     less x t h = with2 x t (λ c. omega (arith, c.le, c.lt, c.same))

@@ -2,7 +2,7 @@ use Rattle.std.proofs.Common.{sym, subst}
 use Rattle.std.specs.Prelude.{None}
 use Rattle.element_envelope.specs.CopyWindows.{IsCopyWindow}
 use Rattle.element_envelope.specs.Turnings.{IsThinned}
-use Rattle.element_envelope.proofs.CopyWindows.{left_room, right_room, first_operand, second_operand, BothCopies, both_ready, both_convolve, ok_both}
+use Rattle.element_envelope.proofs.CopyWindows.{left_room, right_room, first_operand, second_operand, both_ready, both_convolve, ok_both}
 use Rattle.element_envelope.proofs.convolved.by_starts.Goals as goal
 
 pub turning_starts-requires : goal.turning_starts-requires

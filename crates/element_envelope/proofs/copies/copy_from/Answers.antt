@@ -1,6 +1,5 @@
-use Rattle.std.proofs.Common.{arith, ◌≡◌, ◌+◌, ◌++◌, ◌∙◌, ap, drop, drop_of_length-le, subst, sym}
-use Rattle.rational.specs.Rational.{◌-ℚ◌, ◌≤ℚ◌, ◌<ℚ◌}
-use Rattle.affine_segment.specs.declared.line.Piece.{Piece}
+use Rattle.std.proofs.Common.{◌+◌, ◌++◌, ◌∙◌, ap, drop, drop_of_length-le, subst, sym}
+use Rattle.rational.specs.Rational.{◌≤ℚ◌, ◌<ℚ◌}
 use Rattle.upp_curve.specs.Fitting.{LaterFits}
 use Rattle.upp_curve.specs.Unrolled.{each_later, upto}
 use Rattle.rational.proofs.Compared.{not_less_out}

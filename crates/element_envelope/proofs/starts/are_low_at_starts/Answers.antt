@@ -1,5 +1,4 @@
 use Rattle.std.proofs.Common.{sym, subst}
-use Rattle.affine_segment.specs.declared.line.Piece.{Piece}
 use Rattle.rational.proofs.Laws.{le_of_lt}
 use Rattle.upp_normal.specs.Operand.{OperandPiece}
 use Rattle.upp_normal.proofs.AnswerRoom.{operand_line_fits}

@@ -1,6 +1,3 @@
-use Rattle.std.proofs.Common.{subst}
-use Rattle.std.specs.Prelude.{◌≡◌, IfOk}
-use Rattle.affine_segment.specs.Values.{line_at}
 use Rattle.element_envelope.proofs.StartTests.{below_is}
 use Rattle.element_envelope.proofs.starts.is_below.Goals as goal
 
